@@ -1,0 +1,15 @@
+//! The plain types that every other crate speaks of: values, places, numbers of things, limits.
+#![tactic(auto)]
+
+pub mod ids;
+pub mod limits;
+pub mod name;
+pub mod place;
+pub mod sequence;
+pub mod value;
+
+pub use ids::{FieldId, ProcId, ResId, Slot, Thing, Var};
+pub use name::Name;
+pub use place::Place;
+pub use sequence::Sequence;
+pub use value::Value;
