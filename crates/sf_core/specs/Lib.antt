@@ -1,0 +1,5 @@
+pub mod Syntax
+pub mod View
+pub mod Whole
+pub mod HeapStore
+pub mod Sat

@@ -1,0 +1,57 @@
+use crate::command::Expr;
+use sf_base::{FieldId, Name, Place};
+
+/// What stands in an assertion for a value: something that has one, or an existential.
+#[derive(Clone, Copy, Debug, PartialEq, Eq)]
+pub enum Operand<E> {
+    Known(E),
+    /// The existential of that number. Each existential of an assertion has a number of its own.
+    Exists(u32),
+}
+
+/// A test of two values.
+#[derive(Clone, Copy, Debug, PartialEq, Eq)]
+pub enum Test<E> {
+    True,
+    Equal(E, E),
+    Differ(E, E),
+}
+
+/// The existentials that one level makes: `count` of them, numbered from `first`.
+#[derive(Clone, Copy, Debug, PartialEq, Eq)]
+pub struct Scope {
+    pub first: u32,
+    pub count: u32,
+}
+
+/// One conjunct and the place of its first token.
+#[cycle(assertion)]
+#[derive(Debug, Drop)]
+pub enum Conjunct<E> {
+    /// The heap is empty and the test is true.
+    Holds(Place, Test<Operand<E>>),
+    /// Exactly one cell, at the root, with these values in these fields.
+    Points(Place, Operand<E>, Vec<(FieldId, Operand<E>)>),
+    /// A list segment along the field: from the first up to the second.
+    Segment(Place, FieldId, Operand<E>, Operand<E>),
+    /// A tree with its left and its right field.
+    Tree(Place, FieldId, FieldId, Operand<E>),
+    /// One of two levels.
+    If(Place, Test<Operand<E>>, Level<E>, Level<E>),
+}
+
+/// The conjuncts of an assertion, or of a branch of one, and the existentials that are made there.
+#[cycle(assertion)]
+#[derive(Debug, Drop)]
+pub struct Level<E> {
+    pub made: Scope,
+    pub conjuncts: Vec<Conjunct<E>>,
+}
+
+/// An assertion as it is written.
+#[derive(Debug, Drop)]
+pub struct Assertion {
+    /// The names of its existentials, by number.
+    pub names: Vec<Name>,
+    pub level: Level<Expr>,
+}

@@ -1,0 +1,58 @@
+use crate::assertion::{Level, Test};
+use sf_base::{FieldId, Place, ProcId, ResId, Var};
+
+/// A variable where it stands in the text.
+#[derive(Clone, Copy, Debug, PartialEq, Eq)]
+pub struct Occurrence {
+    /// Which variable it is.
+    pub var: Var,
+    /// Where it stands.
+    pub place: Place,
+}
+
+/// An expression. Evaluating it reads the variable, if it is one, and nothing else.
+#[derive(Clone, Copy, Debug, PartialEq, Eq)]
+pub enum Expr {
+    Var(Occurrence),
+    Nil,
+    Int(i64),
+}
+
+/// One call: by itself, or as one of two parallel ones.
+#[derive(Debug, Drop)]
+pub struct Call {
+    /// The procedure that is called.
+    pub callee: ProcId,
+    /// Where its name stands.
+    pub place: Place,
+    /// The caller's variables that the callee's references name, in order.
+    pub references: Vec<Occurrence>,
+    /// The values of the callee's value parameters, in order.
+    pub values: Vec<Expr>,
+}
+
+/// A command and the place of its first token. Blocks are no commands: their commands stand in
+/// their place.
+#[derive(Debug, Drop)]
+pub enum Command {
+    /// `x = E;`
+    Assign(Place, Occurrence, Expr),
+    /// `x = E->f;`
+    LookUp(Place, Occurrence, Expr, FieldId),
+    /// `E->f = F;`
+    Mutate(Place, Expr, FieldId, Expr),
+    /// `x = new();`
+    New(Place, Occurrence),
+    /// `dispose(E);`
+    Dispose(Place, Expr),
+    /// `if (B) C else D`
+    If(Place, Test<Expr>, Vec<Command>, Vec<Command>),
+    /// `while (B) [I] C`
+    While(Place, Test<Expr>, Level<Expr>, Vec<Command>),
+    /// `f(x; E);`
+    Call(Place, Call),
+    /// `f(x; E) || g(y; F);`
+    Fork(Place, Call, Call),
+    /// `with r when (B) C`
+    With(Place, ResId, Test<Expr>, Vec<Command>),
+}
