@@ -1,2 +1,4 @@
+pub mod FailedNames
+pub mod Grown
 pub mod Roses
 pub mod Written

@@ -1,3 +1,6 @@
+pub mod Calls
+pub mod MemShelf
+pub mod MemSink
 pub mod Rose
 pub mod Shelf
 pub mod Sink

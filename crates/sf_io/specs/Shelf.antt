@@ -13,5 +13,5 @@ abbrev pub GrewAtMost : ℕ → List ℕ → List ℕ → Type 0
 GrewAtMost most before after = (piece : List ℕ) × (length piece ≤ most) × (after ≡ before ++ piece)
 
 -- how often a name stands in a list of failed names
-abbrev pub failures_of : List (List ℕ) → List ℕ → ℕ
+unfoldable pub failures_of : List (List ℕ) → List ℕ → ℕ
 failures_of failed name = count_by (λ n. bytes_eq n name) failed

@@ -1,10 +1,16 @@
 //! The outside: where files come from, where the answer goes, and where threads may be held up.
 #![tactic(auto)]
 
+mod calls;
+mod failures;
 pub mod gate;
+pub mod mem_shelf;
+pub mod mem_sink;
 pub mod shelf;
 pub mod sink;
 
 pub use gate::{Gate, OpenGate, Point};
+pub use mem_shelf::MemShelf;
+pub use mem_sink::MemSink;
 pub use shelf::{FetchFault, Shelf};
 pub use sink::{Sink, SinkFault, put_all};

@@ -1,0 +1,30 @@
+-- What a shelf in memory keeps.
+-- A stand-in whose content is given: Meszaros, xUnit test patterns, 2007.
+use Rattle.std.specs.Prelude.{◌≡◌, ℕ, List, Option, if◌then◌else◌, Some, None}
+use Rattle.std.specs.BTreeMap.{get_by_text}
+use Rattle.std.specs.Option.{option_map}
+use Rattle.std.specs.Str.{bytes_eq}
+use Rattle.sf_io.specs.Calls.{Plan}
+use Rattle.sf_io.specs.Shelf.{Files}
+use Rattle.sf_io.specs.declared.mem_shelf.MemShelf.{MemShelf}
+
+-- the bytes under each name
+abbrev pub files_of : MemShelf → Files
+files_of shelf name = option_map (λ bytes. bytes.items) (get_by_text shelf.files name)
+
+-- the names whose fetches failed, once for each time
+abbrev pub failed_of : MemShelf → List (List ℕ)
+failed_of shelf = shelf.failed.items
+
+-- the calls
+abbrev pub calls_of : MemShelf → Plan
+calls_of shelf = shelf.calls
+
+-- these files, with these bytes under that name
+abbrev pub with_file : Files → List ℕ → List ℕ → Files
+with_file files name bytes other = if bytes_eq name other then Some bytes else files other
+
+-- the same names have failed, and the same calls are to fail
+pub record SameFailures (old new : MemShelf) : Type 0 where
+  pub failed : failed_of new ≡ failed_of old
+  pub calls : calls_of new ≡ calls_of old

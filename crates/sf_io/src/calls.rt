@@ -1,0 +1,50 @@
+ghost use Rattle.std.specs.Prelude.{◌≡◌, [], ◌∷◌, ◌++◌, ◌↔◌, IsTrue, Contains, OnOk, OnErr};
+ghost use Rattle.sf_io.specs.Calls.{Plan, one_more};
+
+use std::alloc::{AllocError, Global};
+use std::marker::Model;
+
+/// The calls that a stand-in for the outside was given, and which of them are to fail.
+#[derive(Debug, Drop)]
+pub(crate) struct Calls {
+    made: u64,
+    failing: Vec<u64>,
+}
+
+impl Model for Calls {
+    ghost Value = { Plan };
+
+    ghost view = { λ c. record { made = c.made; failing = c.failing.items } };
+}
+
+impl Calls {
+    /// No call was made, and none is to fail.
+    pub(crate) fn new(alloc: Global) -> Calls
+        ensures { result ≡ record { made = 0; failing = [] } }
+    {
+        Calls {
+            made: 0,
+            failing: Vec::new(alloc),
+        }
+    }
+
+    /// From now on the call with that number, counted from 1, is to fail. An `Err` is want of
+    /// memory and changes nothing.
+    pub(crate) fn fail_at(&mut self, call: u64) -> Result<(), AllocError>
+        ensures ok { OnOk result
+            (self.new ≡ record self.old { failing = self.old.failing ++ call ∷ [] }) }
+        ensures err { OnErr result (self.new ≡ self.old) }
+    {
+        self.failing.push(call)?;
+        Ok(())
+    }
+
+    /// Counts one more call, and says whether it is to fail.
+    pub(crate) fn next_fails(&mut self) -> bool
+        ensures counted { self.new ≡ record self.old { made = one_more self.old.made } }
+        ensures answer { IsTrue result ↔ Contains self.old.failing self.new.made }
+    {
+        self.made = self.made.saturating_add(1);
+        self.failing.contains(&self.made)
+    }
+}
