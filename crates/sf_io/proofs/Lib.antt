@@ -1,4 +1,3 @@
 pub mod FailedNames
-pub mod Grown
 pub mod Roses
 pub mod Written

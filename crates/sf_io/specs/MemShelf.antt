@@ -1,6 +1,6 @@
 -- What a shelf in memory keeps.
 -- A stand-in whose content is given: Meszaros, xUnit test patterns, 2007.
-use Rattle.std.specs.Prelude.{◌≡◌, ℕ, List, Option, if◌then◌else◌, Some, None}
+use Rattle.std.specs.Prelude.{◌≡◌, ℕ, List, if◌then◌else◌, Some}
 use Rattle.std.specs.BTreeMap.{get_by_text}
 use Rattle.std.specs.Option.{option_map}
 use Rattle.std.specs.Str.{bytes_eq}

@@ -90,7 +90,11 @@ fn append_first(bytes: &[u8], most: usize, out: &mut Vec<u8>) -> Result<(), Fetc
     ensures err { OnErr result (out.new.items ≡ out.old.items) }
     ensures cause { OnErr result (result ≡ Err FetchFault.OutOfMemory) }
 {
-    let first = if most < bytes.len() { &bytes[..most] } else { bytes };
+    let first = if most < bytes.len() {
+        &bytes[..most]
+    } else {
+        bytes
+    };
     match out.extend_from_slice(first) {
         Ok(()) => Ok(()),
         Err(AllocError) => Err(FetchFault::OutOfMemory),

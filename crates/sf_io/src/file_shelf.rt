@@ -1,0 +1,102 @@
+ghost use Rattle.std.specs.Prelude.{◌≡◌, [], OnOk, OnErr};
+ghost use Rattle.sf_io.specs.Shelf.{GrewAtMost};
+
+use crate::failures::{failed_at, room_for};
+use crate::shelf::{FetchFault, Shelf};
+use sf_base::Name;
+use std::alloc::{AllocError, Global};
+use std::fs;
+use std::io::Read;
+use std::marker::Model;
+use std::rt::Files;
+
+// How many bytes are read at once.
+const CHUNK: usize = 16_384;
+
+/// The real files. It tells nothing of what they hold. Contracts see the names whose fetches
+/// failed, once for each time.
+#[derive(Drop)]
+pub struct FileShelf<'a, R: Files> {
+    rt: &'a R,
+    alloc: Global,
+    failed: Vec<Name>,
+}
+
+impl<'a, R: Files> Model for FileShelf<'a, R> {
+    ghost use Rattle.std.specs.Prelude.{List, ℕ};
+
+    ghost Value = { List (List ℕ) };
+
+    ghost view = { λ shelf. shelf.failed.items };
+}
+
+impl<'a, R: Files> FileShelf<'a, R> {
+    /// The files that the runtime reaches. No fetch has failed.
+    pub fn new(rt: &'a R, alloc: Global) -> FileShelf<'a, R>
+        ensures { result ≡ [] }
+    {
+        FileShelf {
+            rt,
+            alloc,
+            failed: Vec::new(alloc),
+        }
+    }
+}
+
+impl<'a, R: Files> Shelf for FileShelf<'a, R> {
+    ghost use Rattle.std.specs.Prelude.{None};
+    ghost use Rattle.sf_io.specs.Shelf.{failures_of};
+
+    ghost files = { λ _. None };
+
+    ghost faults = { failures_of };
+
+    fn fetch(&mut self, name: &str, most: usize, out: &mut Vec<u8>) -> Result<(), FetchFault> {
+        let copy = room_for(self.alloc, &mut self.failed, name)?;
+        match read_file(self.rt, name, most, out) {
+            Ok(()) => Ok(()),
+            Err(FetchFault::OutOfMemory) => Err(FetchFault::OutOfMemory),
+            Err(FetchFault::Failed) => failed_at(&mut self.failed, copy),
+        }
+    }
+}
+
+// Appends the first `most` bytes of a file, or all where there are fewer. `Failed` stands for an
+// `Err` of the outside.
+fn read_file<R: Files>(rt: &R, name: &str, most: usize, out: &mut Vec<u8>) -> Result<(), FetchFault>
+    ensures ok { OnOk result (GrewAtMost most out.old.items out.new.items) }
+    ensures err { OnErr result (out.new.items ≡ out.old.items) }
+{
+    let start = out.len();
+    let read = match fs::open(rt, name) {
+        Ok(mut file) => read_at_most(&mut file, most, out),
+        Err(_) => Err(FetchFault::Failed),
+    };
+    if read.is_err() {
+        out.truncate(start);
+    }
+    read
+}
+
+// Appends what the file gives, until it ends or `most` bytes were read.
+fn read_at_most<F: Read>(file: &mut F, most: usize, out: &mut Vec<u8>) -> Result<(), FetchFault>
+    ensures { GrewAtMost most out.old.items out.new.items }
+{
+    let mut chunk = [0u8; CHUNK];
+    let mut left = most;
+    while left > 0 {
+        let wanted = left.min(CHUNK);
+        let n = match file.read(&mut chunk[..wanted]) {
+            Ok(n) => n,
+            Err(_) => return Err(FetchFault::Failed),
+        };
+        if n == 0 {
+            break;
+        }
+        match out.extend_from_slice(&chunk[..n]) {
+            Ok(()) => left -= n,
+            Err(AllocError) => return Err(FetchFault::OutOfMemory),
+        }
+    }
+    Ok(())
+}
