@@ -3,3 +3,11 @@ pub mod View
 pub mod Whole
 pub mod HeapStore
 pub mod Sat
+pub mod Config
+pub mod Step
+pub mod Reach
+pub mod Enabled
+pub mod Bad
+pub mod HeldBy
+pub mod Start
+pub mod Good

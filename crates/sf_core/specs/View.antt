@@ -1,7 +1,6 @@
 -- How the code's programs are read as the programs of the definitions: each vector as its list.
 -- Nothing is lost and nothing is computed here.
 use Rattle.std.specs.Prelude.{ℕ, List, [], ◌∷◌, map}
-use Rattle.sf_base.specs.declared.name.Name.{Name}
 use Rattle.sf_core.specs.declared.assertion.Assertion.{Assertion as CodeAssertion}
 use Rattle.sf_core.specs.declared.assertion.Conjunct.{Conjunct as CodeConjunct}
 use Rattle.sf_core.specs.declared.assertion.Conjunct.TheFolds.{fold-Conjunct, fold-Level}
