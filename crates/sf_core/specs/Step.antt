@@ -9,6 +9,7 @@ use Rattle.sf_base.specs.declared.ids.Var.{Var}
 use Rattle.sf_base.specs.declared.ids.Var.TheVariants.{Own, Shared}
 use Rattle.sf_base.specs.declared.value.Value.{Value}
 use Rattle.sf_base.specs.declared.value.Value.TheVariants.{Nil as nil, Loc as loc}
+use Rattle.sf_core.specs.declared.assertion.Test.{Test}
 use Rattle.sf_core.specs.declared.command.Expr.{Expr}
 use Rattle.sf_core.specs.declared.command.Occurrence.{Occurrence}
 use Rattle.sf_core.specs.Config.{Item, command, leave, items, Room, in_room, Fixed, Frame, Task, runs, waits, Path, Common, Config, seen, task_at, replaced, IsUsed, IsCalled, IsOver}
@@ -79,6 +80,11 @@ called caller c g room = record { fixed = record { procedure = c.callee; slots =
 abbrev pub going : Fixed → List Item → List Frame → Task
 going f todo below = runs (record { fixed = f; todo = todo } ∷ below)
 
+-- the two children of a fork begin below the task's frames; the right one's slots come behind the left one's
+abbrev pub forked : (caller : Var → Slot) → Call → Procedure → Call → Procedure → (event : ℕ) → List Frame → Task
+forked caller c g d h event frames =
+    waits frames (runs (called caller c g (room_for g event 0) ∷ [])) (runs (called caller d h (room_for h event (room_count g)) ∷ []))
+
 -- the procedure of that number, if the program has one
 abbrev pub procedure_at : Program → ProcId → Option Procedure
 procedure_at p f = slice_get p.procedures f.0
@@ -87,6 +93,10 @@ procedure_at p f = slice_get p.procedures f.0
 pub record Finds (see : Expr → Value) (heap : Heap) (root : Expr) (location : ℕ) (cell : Cell) : Type 0 where
   pub is : see root ≡ loc location
   pub there : heap location ≡ Some cell
+
+-- the task goes on in the one way where the test is true, and in the other where it isn't
+abbrev pub Chooses : (see : Expr → Value) → Test Expr → (this that : Task) → Task → Type 0
+Chooses see test this that u = (IsTrueOf see test × (u ≡ this)) ⊎ ((IsTrueOf see test → ⊥) × (u ≡ that))
 
 -- one command of frame f above others, with the rest still to do: what is shared goes from s to t, and the task becomes u
 abbrev pub Does : Program → Event → Common → Fixed → (below : List Frame) → Command → (rest : List Item) → Common → Task → Type 0
@@ -105,13 +115,9 @@ Does p ev s f below (dispose place e) rest t u =
     (location : ℕ) × (cell : Cell) × Finds (seen f.slots s.store) s.heap e location cell
     × (t ≡ set_cell location None s) × (u ≡ going f rest below)
 Does p ev s f below (if place test this that) rest t u =
-    (t ≡ s)
-    × ((IsTrueOf (seen f.slots s.store) test × (u ≡ going f (items this ++ rest) below))
-    ⊎ ((IsTrueOf (seen f.slots s.store) test → ⊥) × (u ≡ going f (items that ++ rest) below)))
+    (t ≡ s) × Chooses (seen f.slots s.store) test (going f (items this ++ rest) below) (going f (items that ++ rest) below) u
 Does p ev s f below (while place test kept body) rest t u =
-    (t ≡ s)
-    × ((IsTrueOf (seen f.slots s.store) test × (u ≡ going f (items body ++ (command (while place test kept body) ∷ rest)) below))
-    ⊎ ((IsTrueOf (seen f.slots s.store) test → ⊥) × (u ≡ going f rest below)))
+    (t ≡ s) × Chooses (seen f.slots s.store) test (going f (items body ++ (command (while place test kept body) ∷ rest)) below) (going f rest below) u
 Does p ev s f below (call place c) rest t u =
     (g : Procedure) × (procedure_at p c.callee ≡ Some g)
     × (t ≡ open_room (room_for g ev.number 0) (arguments f.slots s.store c) s)
@@ -120,9 +126,7 @@ Does p ev s f below (fork place c d) rest t u =
     (length ev.task < TURNS)
     × (g : Procedure) × (h : Procedure) × (procedure_at p c.callee ≡ Some g) × (procedure_at p d.callee ≡ Some h)
     × (t ≡ open_room (room_for h ev.number (room_count g)) (arguments f.slots s.store d) (open_room (room_for g ev.number 0) (arguments f.slots s.store c) s))
-    × (u ≡ waits (record { fixed = f; todo = rest } ∷ below)
-    (runs (called f.slots c g (room_for g ev.number 0) ∷ []))
-    (runs (called f.slots d h (room_for h ev.number (room_count g)) ∷ [])))
+    × (u ≡ forked f.slots c g d h ev.number (record { fixed = f; todo = rest } ∷ below))
 Does p ev s f below (with place r test body) rest t u =
     (s.held r ≡ None) × IsTrueOf (seen f.slots s.store) test
     × (t ≡ set_holder r (Some ev.task) s) × (u ≡ going f (items body ++ (leave r ∷ rest)) below)
