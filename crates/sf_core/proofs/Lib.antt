@@ -1,0 +1,3 @@
+pub mod MapSplits
+pub mod HeapSplits
+pub mod HeapSums
