@@ -1,0 +1,37 @@
+use crate::given::{Given, Want};
+use crate::state::State;
+use crate::term::Term;
+use sf_base::{Name, Place, ResId, Sequence, Var};
+use sf_core::{Assertion, Command, Expr, Level, Test};
+
+/// Something to do. Each has a place, for messages. Commands and assertions are the program's own.
+#[derive(Debug, Drop)]
+pub enum Item<'a> {
+    /// These commands, in order. Each is a thing to do of its own, and has its own place.
+    Run(&'a [Command]),
+    /// Assume these conjuncts.
+    Add(Place, Given),
+    /// Show these conjuncts and hand their parts of the heap over. The names are those of their
+    /// existentials, by number.
+    Take(Place, Want, &'a [Name]),
+    /// What was taken is gone for good: these variables have these terms, and these ones are removed.
+    Gave(Place, Sequence<(Var, Term)>, Sequence<Var>),
+    /// A loop whose invariant was handed over: its test, its invariant and its body.
+    Head(Place, &'a Test<Expr>, &'a Level<Expr>, &'a [Command]),
+    /// The end of a loop's body: its invariant is due.
+    Again(Place, &'a Level<Expr>),
+    /// The end of a region: the resource's invariant is due.
+    Exit(Place, ResId),
+    /// The end of the procedure: its postcondition is due.
+    Return(Place, &'a Assertion),
+    /// Nothing of the heap may be left.
+    End(Place),
+}
+
+/// A state and what is still to do from there.
+#[derive(Debug, Drop)]
+pub struct Goal<'a> {
+    pub state: State,
+    /// What is still to do, the next item last.
+    pub todo: Vec<Item<'a>>,
+}
