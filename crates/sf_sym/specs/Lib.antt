@@ -1,0 +1,5 @@
+pub mod Each
+pub mod Goal
+pub mod Tests
+pub mod Holds
+pub mod Kept

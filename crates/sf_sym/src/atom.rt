@@ -1,3 +1,6 @@
+ghost use Rattle.std.specs.Prelude.{◌≡◌};
+ghost use Rattle.sf_sym.specs.Tests.{root};
+
 use crate::term::Term;
 use sf_base::{FieldId, Sequence};
 
@@ -18,4 +21,15 @@ pub enum Atom {
 pub struct Numbered {
     pub number: u32,
     pub atom: Atom,
+}
+
+impl Atom {
+    /// The term at which it begins.
+    pub fn root(&self) -> Term
+        ensures { result ≡ root self.now }
+    {
+        match self {
+            Atom::Points(t, _) | Atom::Ls(t, _) | Atom::Tree(t) => *t,
+        }
+    }
 }

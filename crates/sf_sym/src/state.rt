@@ -1,4 +1,8 @@
-use crate::atom::Numbered;
+ghost use Rattle.std.specs.Prelude.{◌≡◌, ◌&&◌, not};
+ghost use Rattle.std.specs.List.{list_any};
+ghost use Rattle.sf_sym.specs.Tests.{allocated, allocates, both_allocated, differs, direct, has_cell, has_repeat, is_absurd, is_constant, is_left_out, is_pair, same_term};
+
+use crate::atom::{Atom, Numbered};
 use crate::term::Term;
 use sf_base::{FieldId, Sequence, Var};
 
@@ -30,4 +34,92 @@ pub struct State {
     pub next_sym: u32,
     /// The number of the next atom, from 1.
     pub next_atom: u32,
+}
+
+impl State {
+    /// Whether two terms differ at once: different constants, or one of the pairs that differ.
+    pub fn direct(&self, t: Term, u: Term) -> bool
+        ensures { result ≡ direct self.now.apart t u }
+    {
+        is_direct(self.apart.as_slice(), t, u)
+    }
+
+    /// Whether an atom or a taken atom other than number `except` has a cell at the term.
+    pub fn allocated(&self, t: Term, except: Option<u32>) -> bool
+        ensures { result ≡ allocated self.now t except }
+    {
+        let apart = self.apart.as_slice();
+        is_allocated(apart, self.atoms.as_slice(), t, except)
+            || is_allocated(apart, self.taken.as_slice(), t, except)
+    }
+}
+
+/// Whether two terms differ at once, by those pairs.
+fn is_direct(apart: &[(Term, Term)], t: Term, u: Term) -> bool
+    ensures { result ≡ direct apart.now t u }
+{
+    are_different_constants(t, u) || is_listed(apart, t, u)
+}
+
+/// Whether the terms are different constants.
+fn are_different_constants(t: Term, u: Term) -> bool
+    ensures { result ≡ (is_constant t && is_constant u && not (same_term t u)) }
+{
+    t.is_constant() && u.is_constant() && !t.is(u)
+}
+
+/// Whether one of the pairs is of these terms.
+fn is_listed(apart: &[(Term, Term)], t: Term, u: Term) -> bool
+    ensures { result ≡ list_any (is_pair t u) apart.now }
+{
+    apart.iter().any(|p| is_pair(*p, t, u))
+}
+
+/// Whether the pair is of these terms, in either order.
+fn is_pair(p: (Term, Term), t: Term, u: Term) -> bool
+    ensures { result ≡ is_pair t u p }
+{
+    p.0.is(t) && p.1.is(u) || p.0.is(u) && p.1.is(t)
+}
+
+/// Whether the atom has a cell at its root.
+fn has_cell(apart: &[(Term, Term)], atom: &Atom) -> bool
+    ensures { result ≡ has_cell apart.now atom.now }
+{
+    match atom {
+        Atom::Points(..) => true,
+        Atom::Ls(t, u) => is_direct(apart, *t, *u),
+        Atom::Tree(t) => is_direct(apart, *t, Term::Nil),
+    }
+}
+
+/// Whether the atom has a cell at the term.
+fn allocates(apart: &[(Term, Term)], t: Term, atom: &Atom) -> bool
+    ensures { result ≡ allocates apart.now t atom.now }
+{
+    atom.root().is(t) && has_cell(apart, atom)
+}
+
+/// Whether an atom of the list other than number `except` has a cell at the term.
+fn is_allocated(apart: &[(Term, Term)], atoms: &[Numbered], t: Term, except: Option<u32>) -> bool
+    ensures { result ≡ list_any (λ a. not (is_left_out except a.number) && allocates apart.now t a.atom) atoms.now }
+{
+    atoms.iter().any(|a| allocates_beside(apart, a, t, except))
+}
+
+/// Whether the atom isn't number `except` and has a cell at the term.
+fn allocates_beside(apart: &[(Term, Term)], a: &Numbered, t: Term, except: Option<u32>) -> bool
+    ensures { result ≡ (not (is_left_out except a.now.number) && allocates apart.now t a.now.atom) }
+{
+    !is_left_out(except, a.number) && allocates(apart, t, &a.atom)
+}
+
+/// Whether that number is the one left out.
+fn is_left_out(except: Option<u32>, number: u32) -> bool
+    ensures { result ≡ is_left_out except number }
+{
+    match except {
+        Some(other) => number == other,
+        None => false,
+    }
 }

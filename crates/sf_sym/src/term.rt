@@ -1,3 +1,6 @@
+ghost use Rattle.std.specs.Prelude.{◌≡◌};
+ghost use Rattle.sf_sym.specs.Tests.{is_constant, same_term};
+
 /// A value as a state knows it. Terms are ordered: nil, the integers by value, the symbols by number.
 #[derive(Clone, Copy, Debug, PartialEq, Eq, PartialOrd, Ord, Hash)]
 pub enum Term {
@@ -7,4 +10,20 @@ pub enum Term {
     Int(i64),
     /// The symbol of that number: some value, of which only what the state says is known.
     Sym(u32),
+}
+
+impl Term {
+    /// Whether it is nil or an integer.
+    pub fn is_constant(self) -> bool
+        ensures { result ≡ is_constant self }
+    {
+        !matches!(self, Term::Sym(_))
+    }
+
+    /// Whether it is that term.
+    pub fn is(self, other: Term) -> bool
+        ensures { result ≡ same_term self other }
+    {
+        self == other
+    }
 }

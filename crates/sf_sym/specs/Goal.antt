@@ -1,0 +1,60 @@
+-- Goals as the definitions see them: lists in place of the code's vectors, and one item for each command.
+-- Berdine, Calcagno, O'Hearn, "Symbolic Execution with Separation Logic" (2005).
+use Rattle.std.specs.Prelude.{ℕ, List, [], ◌∷◌, map, reverse, Option}
+use Rattle.std.specs.List.{flat_map}
+use Rattle.sf_base.specs.declared.ids.ResId.{ResId}
+use Rattle.sf_base.specs.declared.ids.Var.{Var}
+use Rattle.sf_base.specs.declared.place.Place.{Place}
+use Rattle.sf_core.specs.declared.assertion.Test.{Test}
+use Rattle.sf_core.specs.declared.command.Expr.{Expr}
+use Rattle.sf_core.specs.Syntax.{Conjuncts, Level, Command, Block, Assertion}
+use Rattle.sf_core.specs.View.{conjuncts, conjunct_of, level_of, command_of, block_of, assertion_of}
+use Rattle.sf_sym.specs.declared.given.Pending.{Pending as CodePending}
+use Rattle.sf_sym.specs.declared.goal.Goal.{Goal as CodeGoal}
+use Rattle.sf_sym.specs.declared.goal.Item.{Item as CodeItem}
+use Rattle.sf_sym.specs.declared.goal.Item.TheVariants.{Run, Add, Take, Gave, Head, Again, Exit, Return, End}
+use Rattle.sf_sym.specs.declared.state.State.{State}
+use Rattle.sf_sym.specs.declared.term.Term.{Term}
+
+-- conjuncts that are still to be worked, and the term that each existential has so far, by its number
+pub record Pending : Type 0 where
+  pub conjuncts : Conjuncts Term
+  pub bindings : List (Option Term)
+
+-- what there is to do: a command; conjuncts to assume; conjuncts to show and hand over, with the names of their existentials;
+-- variables to set and to remove; a loop; the ends of a loop's body, of a region, of the procedure, and of all
+pub data Item : Type 0 where
+  run : Command → Item
+  add : Place → Pending → Item
+  take : Place → Pending → (names : List (List ℕ)) → Item
+  gave : Place → (set : List (Var × Term)) → (removed : List Var) → Item
+  head : Place → Test Expr → Level Expr → Block → Item
+  again : Place → Level Expr → Item
+  exit : Place → ResId → Item
+  return : Place → Assertion → Item
+  end : Place → Item
+
+-- a state, and what is to do from there
+pub record Goal : Type 0 where
+  pub state : State
+  pub todo : List Item
+
+-- the conjuncts of the code, which has the next one last
+abbrev pub pending_of : CodePending → Pending
+pending_of p = record { conjuncts = conjuncts (map conjunct_of (reverse p.conjuncts.items)); bindings = p.bindings }
+
+-- an item of the code: commands are an item each
+abbrev pub items_of : CodeItem → List Item
+items_of (Run commands) = map (λ c. run (command_of c)) commands.now
+items_of (Add p given) = add p (pending_of given) ∷ []
+items_of (Take p want names) = take p (pending_of want) names.now ∷ []
+items_of (Gave p set removed) = gave p set removed ∷ []
+items_of (Head p test invariant body) = head p test.now (level_of invariant.now) (block_of body.now) ∷ []
+items_of (Again p invariant) = again p (level_of invariant.now) ∷ []
+items_of (Exit p r) = exit p r ∷ []
+items_of (Return p post) = return p (assertion_of post.now) ∷ []
+items_of (End p) = end p ∷ []
+
+-- a goal of the code, which has the next item last
+abbrev pub goal_of : CodeGoal → Goal
+goal_of g = record { state = g.state; todo = flat_map items_of (reverse g.todo.items) }
