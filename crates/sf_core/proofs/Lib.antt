@@ -1,3 +1,4 @@
 pub mod MapSplits
 pub mod HeapSplits
 pub mod HeapSums
+pub mod Lookup

@@ -11,3 +11,7 @@ pub mod Bad
 pub mod HeldBy
 pub mod Start
 pub mod Good
+pub mod Named
+pub mod Formed
+pub mod FormedOnce
+pub mod Places

@@ -1,3 +1,7 @@
+ghost use Rattle.std.specs.Prelude.{◌≡◌};
+ghost use Rattle.sf_core.specs.Places.{place_of};
+ghost use Rattle.sf_core.specs.View.{command_of};
+
 use crate::assertion::{Level, Test};
 use sf_base::{FieldId, Place, ProcId, ResId, Var};
 
@@ -55,4 +59,24 @@ pub enum Command {
     Fork(Place, Call, Call),
     /// `with r when (B) C`
     With(Place, ResId, Test<Expr>, Vec<Command>),
+}
+
+impl Command {
+    /// Where its first token stands.
+    pub fn place(&self) -> Place
+        ensures { result ≡ place_of (command_of self.now) }
+    {
+        match self {
+            Command::Assign(place, _, _) => *place,
+            Command::LookUp(place, _, _, _) => *place,
+            Command::Mutate(place, _, _, _) => *place,
+            Command::New(place, _) => *place,
+            Command::Dispose(place, _) => *place,
+            Command::If(place, _, _, _) => *place,
+            Command::While(place, _, _, _) => *place,
+            Command::Call(place, _) => *place,
+            Command::Fork(place, _, _) => *place,
+            Command::With(place, _, _, _) => *place,
+        }
+    }
 }

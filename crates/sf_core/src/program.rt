@@ -1,6 +1,13 @@
+ghost use Rattle.std.specs.Prelude.{◌≡◌, ◌<◌, length, map, slice_get, Some, IfSome};
+ghost use Rattle.std.specs.Option.{option_map};
+ghost use Rattle.sf_core.specs.Formed.{IsFormed};
+ghost use Rattle.sf_core.specs.FormedOnce.{IsFormed-prop};
+ghost use Rattle.sf_core.specs.Named.{IsFirstNamed};
+ghost use Rattle.sf_core.specs.View.{procedure_of, program_with};
+
 use crate::assertion::Assertion;
 use crate::command::Command;
-use sf_base::{Name, Place};
+use sf_base::{FieldId, Name, Place, ProcId};
 
 /// A procedure.
 #[derive(Debug, Drop)]
@@ -30,11 +37,50 @@ pub struct Resource {
     pub invariant: Assertion,
 }
 
-/// A whole file.
+/// A whole file. Its numbers stand for things that are there, each call has its procedure's counts,
+/// no body sets a value parameter, scopes number existentials in text order, and limits are met.
 #[derive(Debug, Drop)]
 pub struct Program {
     /// The names of the fields by number.
     pub fields: Vec<Name>,
     pub resources: Vec<Resource>,
     pub procedures: Vec<Proc>,
+    ghost formed: { IsFormed (program_with fields.items resources.items procedures.items) } by { IsFormed-prop _ },
+}
+
+impl Program {
+    /// The number of the first procedure of that name. `None` exactly where there is none.
+    pub fn find(&self, name: &str) -> Option<ProcId>
+        ensures first { IsFirstNamed (map (λ f. f.name) self.now.procedures.items) name.now (option_map (λ f. f.0) result) }
+        ensures within { IfSome result (λ f. f.0 < length self.now.procedures.items) }
+    {
+        for (i, procedure) in self.procedures.iter().enumerate() {
+            if procedure.name.as_str() == name {
+                return Some(ProcId(i as u32));
+            }
+        }
+        None
+    }
+
+    /// The procedure of that number.
+    pub fn proc(&self, f: ProcId) -> &Proc
+        requires { f.0 < length self.now.procedures.items }
+        ensures here { slice_get self.now.procedures.items f.0 ≡ Some result.now }
+        ensures meaning { slice_get (map procedure_of self.now.procedures.items) f.0 ≡ Some (procedure_of result.now) }
+    {
+        &self.procedures[f.0 as usize]
+    }
+
+    /// The number of the field of that name. `None` exactly where there is none.
+    pub fn field(&self, name: &str) -> Option<FieldId>
+        ensures first { IsFirstNamed self.now.fields.items name.now (option_map (λ f. f.0) result) }
+        ensures within { IfSome result (λ f. f.0 < length self.now.fields.items) }
+    {
+        for (i, field) in self.fields.iter().enumerate() {
+            if field.as_str() == name {
+                return Some(FieldId(i as u32));
+            }
+        }
+        None
+    }
 }
