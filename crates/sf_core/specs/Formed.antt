@@ -161,7 +161,7 @@ abbrev mutual
   CommandWithin p f (new q x) = IsSettable p f x.var
   CommandWithin p f (dispose q e) = ExprWithin (IsInBody p f) e
   CommandWithin p f (if q t c d) = TestWithin (ExprWithin (IsInBody p f)) t × BlockWithin p f c × BlockWithin p f d
-  CommandWithin p f (while q t a c) = TestWithin (ExprWithin (IsInBody p f)) t × NoteWithin p.fields (IsInBody p f) a × BlockWithin p f c
+  CommandWithin p f (while q t a c) = TestWithin (ExprWithin (IsInBody p f)) t × AssertionWithin p.fields (IsInBody p f) a × BlockWithin p f c
   CommandWithin p f (call q c) = CallWithin p f c
   CommandWithin p f (fork q c d) = CallWithin p f c × CallWithin p f d
   CommandWithin p f (with q r t c) = (r.0 < length p.resources) × TestWithin (ExprWithin (IsInBody p f)) t × BlockWithin p f c

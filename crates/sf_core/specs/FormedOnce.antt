@@ -127,7 +127,7 @@ mutual
   CommandWithin-prop p f (if q b c d) = λ s t i.
       (TestWithin-prop _ (ExprWithin-prop _ (IsInBody-prop p f)) b s.0 t.0 i, BlockWithin-prop p f c s.1 t.1 i, BlockWithin-prop p f d s.2 t.2 i)
   CommandWithin-prop p f (while q b a c) = λ s t i.
-      (TestWithin-prop _ (ExprWithin-prop _ (IsInBody-prop p f)) b s.0 t.0 i, NoteWithin-prop _ _ (IsInBody-prop p f) a s.1 t.1 i, BlockWithin-prop p f c s.2 t.2 i)
+      (TestWithin-prop _ (ExprWithin-prop _ (IsInBody-prop p f)) b s.0 t.0 i, AssertionWithin-prop _ _ (IsInBody-prop p f) a s.1 t.1 i, BlockWithin-prop p f c s.2 t.2 i)
   CommandWithin-prop p f (call q c) = CallWithin-prop p f c
   CommandWithin-prop p f (fork q c d) = ×_prop (CallWithin-prop p f c) (CallWithin-prop p f d)
   CommandWithin-prop p f (with q r b c) = λ s t i.

@@ -29,6 +29,11 @@ mutual
     none : Conjuncts E
     also : Conjunct E → Conjuncts E → Conjuncts E
 
+-- an assertion: the names of its existentials by number, and its outermost level
+pub record Assertion : Type 0 where
+  pub names : List (List ℕ)
+  pub level : Level Expr
+
 -- a call: whose, where its name stands, the caller's variables that the references name, and the values
 pub record Call : Type 0 where
   pub callee : ProcId
@@ -45,7 +50,7 @@ mutual
     new : Place → Occurrence → Command
     dispose : Place → Expr → Command
     if : Place → Test Expr → (then otherwise : Block) → Command
-    while : Place → Test Expr → Level Expr → Block → Command
+    while : Place → Test Expr → (invariant : Assertion) → Block → Command
     call : Place → Call → Command
     fork : Place → (left right : Call) → Command
     with : Place → ResId → Test Expr → Block → Command
@@ -54,11 +59,6 @@ mutual
   pub data Block : Type 0 where
     done : Block
     then : Command → Block → Block
-
--- an assertion: the names of its existentials by number, and its outermost level
-pub record Assertion : Type 0 where
-  pub names : List (List ℕ)
-  pub level : Level Expr
 
 -- a procedure: its own variables are its references, its values and its locals, in this order
 pub record Procedure : Type 0 where

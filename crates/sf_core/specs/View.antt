@@ -39,6 +39,10 @@ conjunct_of {E} = fold-Conjunct E (Conjunct E) (Level E) conjunct_step level_ste
 abbrev pub level_of : {E : Type 0} → CodeLevel E → Level E
 level_of {E} = fold-Level E (Conjunct E) (Level E) conjunct_step level_step
 
+-- an assertion of the code
+abbrev pub assertion_of : CodeAssertion → Assertion
+assertion_of a = record { names = a.names.items; level = level_of a.level }
+
 -- a call of the code
 abbrev pub call_of : CodeCall → Call
 call_of c = record { callee = c.callee; place = c.place; references = c.references.items; values = c.values.items }
@@ -56,7 +60,7 @@ command_step (Mutate p e f g) = mutate p e f g
 command_step (New p x) = new p x
 command_step (Dispose p e) = dispose p e
 command_step (Cond p t c d) = if p t (block c.items) (block d.items)
-command_step (While p t i c) = while p t (level_of i) (block c.items)
+command_step (While p t i c) = while p t (assertion_of i) (block c.items)
 command_step (CallOne p c) = call p (call_of c)
 command_step (Fork p c d) = fork p (call_of c) (call_of d)
 command_step (With p r t c) = with p r t (block c.items)
@@ -68,10 +72,6 @@ command_of = fold-Command Command command_step
 -- commands of the code
 abbrev pub block_of : List CodeCommand → Block
 block_of cs = block (map command_of cs)
-
--- an assertion of the code
-abbrev pub assertion_of : CodeAssertion → Assertion
-assertion_of a = record { names = a.names.items; level = level_of a.level }
 
 -- a procedure of the code
 abbrev pub procedure_of : Proc → Procedure

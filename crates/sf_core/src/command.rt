@@ -2,7 +2,7 @@ ghost use Rattle.std.specs.Prelude.{◌≡◌};
 ghost use Rattle.sf_core.specs.Places.{place_of};
 ghost use Rattle.sf_core.specs.View.{command_of};
 
-use crate::assertion::{Level, Test};
+use crate::assertion::{Assertion, Test};
 use sf_base::{FieldId, Place, ProcId, ResId, Var};
 
 /// A variable where it stands in the text.
@@ -52,7 +52,7 @@ pub enum Command {
     /// `if (B) C else D`
     If(Place, Test<Expr>, Vec<Command>, Vec<Command>),
     /// `while (B) [I] C`
-    While(Place, Test<Expr>, Level<Expr>, Vec<Command>),
+    While(Place, Test<Expr>, Assertion, Vec<Command>),
     /// `f(x; E);`
     Call(Place, Call),
     /// `f(x; E) || g(y; F);`
