@@ -7,8 +7,8 @@ use Rattle.sf_base.specs.declared.ids.Var.{Var}
 use Rattle.sf_base.specs.declared.place.Place.{Place}
 use Rattle.sf_core.specs.declared.assertion.Test.{Test}
 use Rattle.sf_core.specs.declared.command.Expr.{Expr}
-use Rattle.sf_core.specs.Syntax.{Conjuncts, Level, Command, Block, Assertion}
-use Rattle.sf_core.specs.View.{conjuncts, conjunct_of, level_of, command_of, block_of, assertion_of}
+use Rattle.sf_core.specs.Syntax.{Conjuncts, Command, Block, Assertion}
+use Rattle.sf_core.specs.View.{conjuncts, conjunct_of, command_of, block_of, assertion_of}
 use Rattle.sf_sym.specs.declared.given.Pending.{Pending as CodePending}
 use Rattle.sf_sym.specs.declared.goal.Goal.{Goal as CodeGoal}
 use Rattle.sf_sym.specs.declared.goal.Item.{Item as CodeItem}
@@ -28,8 +28,8 @@ pub data Item : Type 0 where
   add : Place → Pending → Item
   take : Place → Pending → (names : List (List ℕ)) → Item
   gave : Place → (set : List (Var × Term)) → (removed : List Var) → Item
-  head : Place → Test Expr → Level Expr → Block → Item
-  again : Place → Level Expr → Item
+  head : Place → Test Expr → (invariant : Assertion) → Block → Item
+  again : Place → (invariant : Assertion) → Item
   exit : Place → ResId → Item
   return : Place → Assertion → Item
   end : Place → Item
@@ -49,8 +49,8 @@ items_of (Run commands) = map (λ c. run (command_of c)) commands.now
 items_of (Add p given) = add p (pending_of given) ∷ []
 items_of (Take p want names) = take p (pending_of want) names.now ∷ []
 items_of (Gave p set removed) = gave p set removed ∷ []
-items_of (Head p test invariant body) = head p test.now (level_of invariant.now) (block_of body.now) ∷ []
-items_of (Again p invariant) = again p (level_of invariant.now) ∷ []
+items_of (Head p test invariant body) = head p test.now (assertion_of invariant.now) (block_of body.now) ∷ []
+items_of (Again p invariant) = again p (assertion_of invariant.now) ∷ []
 items_of (Exit p r) = exit p r ∷ []
 items_of (Return p post) = return p (assertion_of post.now) ∷ []
 items_of (End p) = end p ∷ []

@@ -2,7 +2,7 @@ use crate::given::{Given, Want};
 use crate::state::State;
 use crate::term::Term;
 use sf_base::{Name, Place, ResId, Sequence, Var};
-use sf_core::{Assertion, Command, Expr, Level, Test};
+use sf_core::{Assertion, Command, Expr, Test};
 
 /// Something to do. Each has a place, for messages. Commands and assertions are the program's own.
 #[derive(Debug, Drop)]
@@ -17,9 +17,9 @@ pub enum Item<'a> {
     /// What was taken is gone for good: these variables have these terms, and these ones are removed.
     Gave(Place, Sequence<(Var, Term)>, Sequence<Var>),
     /// A loop whose invariant was handed over: its test, its invariant and its body.
-    Head(Place, &'a Test<Expr>, &'a Level<Expr>, &'a [Command]),
+    Head(Place, &'a Test<Expr>, &'a Assertion, &'a [Command]),
     /// The end of a loop's body: its invariant is due.
-    Again(Place, &'a Level<Expr>),
+    Again(Place, &'a Assertion),
     /// The end of a region: the resource's invariant is due.
     Exit(Place, ResId),
     /// The end of the procedure: its postcondition is due.
