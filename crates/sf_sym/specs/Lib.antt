@@ -3,3 +3,4 @@ pub mod Goal
 pub mod Tests
 pub mod Holds
 pub mod Kept
+pub mod Laws

@@ -1,0 +1,5 @@
+pub mod Heaps
+pub mod Bools
+pub mod Terms
+pub mod Parts
+pub mod States
