@@ -92,7 +92,7 @@ is_impossible apart a = is_at_constant apart a || is_integer_tree a
 -- two atoms of the list allocate one term
 abbrev pub has_repeat : List (Term × Term) → List Numbered → Bool
 has_repeat apart [] = false
-has_repeat apart (a ∷ rest) = has_cell apart a.atom && list_any (λ b. allocates apart (root a.atom) b.atom) rest || has_repeat apart rest
+has_repeat apart (a ∷ rest) = list_any (λ b. allocates apart (root a.atom) b.atom) rest && has_cell apart a.atom || has_repeat apart rest
 
 -- no store and heap have the state: a term would differ from itself, or a constant would be a location, or an integer a tree,
 -- or two cells would be one

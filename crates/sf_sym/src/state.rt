@@ -1,6 +1,6 @@
-ghost use Rattle.std.specs.Prelude.{◌≡◌, ◌&&◌, not};
+ghost use Rattle.std.specs.Prelude.{◌≡◌, ◌&&◌, ◌||◌, ◌++◌, not};
 ghost use Rattle.std.specs.List.{list_any};
-ghost use Rattle.sf_sym.specs.Tests.{allocated, allocates, both_allocated, differs, direct, has_cell, has_repeat, is_absurd, is_constant, is_left_out, is_pair, same_term};
+ghost use Rattle.sf_sym.specs.Tests.{allocated, allocates, both_allocated, differs, direct, has_cell, has_repeat, is_absurd, is_constant, is_impossible, is_integer_tree, is_left_out, is_pair, parts, root, same_term};
 
 use crate::atom::{Atom, Numbered};
 use crate::term::Term;
@@ -51,6 +51,73 @@ impl State {
         let apart = self.apart.as_slice();
         is_allocated(apart, self.atoms.as_slice(), t, except)
             || is_allocated(apart, self.taken.as_slice(), t, except)
+    }
+
+    /// Whether two terms surely differ: at once, or as a constant and a location, or as the locations of
+    /// two cells. It goes over the atoms a few times, and over the pairs that differ once for each atom
+    /// whose root is one of the terms.
+    pub fn differs(&self, t: Term, u: Term) -> bool
+        ensures { result ≡ differs self.now t u }
+    {
+        self.direct(t, u)
+            || t.is_constant() && self.allocated(u, None)
+            || u.is_constant() && self.allocated(t, None)
+            || self.both_allocated(t, u)
+    }
+
+    /// Whether two different atoms or taken atoms have cells at these terms.
+    fn both_allocated(&self, t: Term, u: Term) -> bool
+        ensures { result ≡ both_allocated self.now t u }
+    {
+        self.has_first(self.atoms.as_slice(), t, u) || self.has_first(self.taken.as_slice(), t, u)
+    }
+
+    /// Whether one of these atoms has a cell at the first term, and a different one of the state has a cell
+    /// at the second.
+    fn has_first(&self, atoms: &[Numbered], t: Term, u: Term) -> bool
+        ensures { result ≡ list_any (λ a. allocates self.now.apart t a.atom && allocated self.now u (Some a.number)) atoms.now }
+    {
+        atoms.iter().any(|a| self.allocates_first(a, t, u))
+    }
+
+    /// Whether the atom has a cell at the first term, and another one has a cell at the second.
+    fn allocates_first(&self, a: &Numbered, t: Term, u: Term) -> bool
+        ensures { result ≡ (allocates self.now.apart t a.now.atom && allocated self.now u (Some a.now.number)) }
+    {
+        allocates(self.apart.as_slice(), t, &a.atom) && self.allocated(u, Some(a.number))
+    }
+
+    /// Whether no store and heap have the state: a term would differ from itself, or a constant would be
+    /// a location, or an integer a tree, or two cells would be one. The last compares the root of each
+    /// atom with those of the later ones; the rest goes over the state once.
+    pub fn is_absurd(&self) -> bool
+        ensures { result ≡ is_absurd self.now }
+    {
+        self.has_reflexive_pair() || self.has_impossible_atom() || self.has_repeat()
+    }
+
+    /// Whether a term is to differ from itself.
+    fn has_reflexive_pair(&self) -> bool
+        ensures { result ≡ list_any (λ p. same_term p.0 p.1) self.now.apart }
+    {
+        self.apart.as_slice().iter().any(|p| p.0.is(p.1))
+    }
+
+    /// Whether an atom or a taken atom is one that no heap has.
+    fn has_impossible_atom(&self) -> bool
+        ensures { result ≡ list_any (λ a. is_impossible self.now.apart a.atom) (parts self.now) }
+    {
+        let apart = self.apart.as_slice();
+        has_impossible(apart, self.atoms.as_slice()) || has_impossible(apart, self.taken.as_slice())
+    }
+
+    /// Whether two atoms or taken atoms have cells at one term.
+    fn has_repeat(&self) -> bool
+        ensures { result ≡ has_repeat self.now.apart (parts self.now) }
+    {
+        let apart = self.apart.as_slice();
+        repeats(apart, self.atoms.as_slice(), self.taken.as_slice())
+            || repeats(apart, self.taken.as_slice(), &[])
     }
 }
 
@@ -122,4 +189,55 @@ fn is_left_out(except: Option<u32>, number: u32) -> bool
         Some(other) => number == other,
         None => false,
     }
+}
+
+/// Whether an atom of the list is one that no heap has.
+fn has_impossible(apart: &[(Term, Term)], atoms: &[Numbered]) -> bool
+    ensures { result ≡ list_any (λ a. is_impossible apart.now a.atom) atoms.now }
+{
+    atoms.iter().any(|a| is_impossible(apart, &a.atom))
+}
+
+/// Whether no heap has the atom: it is a cell at a constant, or the tree of an integer.
+fn is_impossible(apart: &[(Term, Term)], atom: &Atom) -> bool
+    ensures { result ≡ is_impossible apart.now atom.now }
+{
+    atom.root().is_constant() && has_cell(apart, atom) || is_integer_tree(atom)
+}
+
+/// Whether the atom is the tree of an integer.
+fn is_integer_tree(atom: &Atom) -> bool
+    ensures { result ≡ is_integer_tree atom.now }
+{
+    matches!(atom, Atom::Tree(Term::Int(_)))
+}
+
+/// Whether an atom of the first list and a later one, there or in the second list, have cells at one term.
+fn repeats(apart: &[(Term, Term)], atoms: &[Numbered], behind: &[Numbered]) -> bool
+    ensures { (result || has_repeat apart.now behind.now) ≡ has_repeat apart.now (atoms.now ++ behind.now) }
+{
+    let mut left = atoms;
+    while let Some((first, rest)) = left.split_first() {
+        if recurs(apart, &first.atom, rest, behind) {
+            return true;
+        }
+        left = rest;
+    }
+    false
+}
+
+/// Whether the atom and one of the two lists have cells at one term.
+fn recurs(apart: &[(Term, Term)], atom: &Atom, rest: &[Numbered], behind: &[Numbered]) -> bool
+    ensures { result ≡ (list_any (λ b. allocates apart.now (root atom.now) b.atom) (rest.now ++ behind.now) && has_cell apart.now atom.now) }
+{
+    let root = atom.root();
+    (has_allocator(apart, rest, root) || has_allocator(apart, behind, root))
+        && has_cell(apart, atom)
+}
+
+/// Whether an atom of the list has a cell at the term.
+fn has_allocator(apart: &[(Term, Term)], atoms: &[Numbered], t: Term) -> bool
+    ensures { result ≡ list_any (λ b. allocates apart.now t b.atom) atoms.now }
+{
+    atoms.iter().any(|b| allocates(apart, t, &b.atom))
 }
