@@ -1,0 +1,285 @@
+-- The table of rules: for a goal and a tag the goals that are left, or no row. Here for programs that write fields.
+-- Berdine, Calcagno, O'Hearn, "Symbolic Execution with Separation Logic" (2005), in this project's own profile.
+use Rattle.std.specs.Prelude.{ℕ, zero, suc, ◌+◌, ◌-◌, ◌^◌, ◌==◌, Bool, true, false, ◌&&◌, not, cond, Option, Some, None, List, [], ◌∷◌, ◌++◌, length, map, nat_lt, nat_le, codes, replicate, is_some}
+use Rattle.std.specs.List.{slice_get, list_all}
+use Rattle.std.specs.Option.{option_map, option_and_then}
+use Rattle.std.specs.Str.{bytes_eq}
+use Rattle.sf_base.specs.declared.ids.FieldId.{FieldId}
+use Rattle.sf_base.specs.declared.ids.ProcId.{ProcId}
+use Rattle.sf_base.specs.declared.ids.Var.{Var}
+use Rattle.sf_base.specs.declared.ids.Var.TheVariants.{Own, Shared}
+use Rattle.sf_base.specs.declared.place.Place.{Place}
+use Rattle.sf_core.specs.declared.assertion.Operand.{Operand}
+use Rattle.sf_core.specs.declared.assertion.Operand.TheVariants.{Known, Exists}
+use Rattle.sf_core.specs.declared.assertion.Test.{Test}
+use Rattle.sf_core.specs.declared.assertion.Test.TheVariants.{True, Equal, Differ}
+use Rattle.sf_core.specs.declared.command.Expr.{Expr}
+use Rattle.sf_core.specs.declared.command.Expr.TheVariants.{Var as Variable, Nil as ENil, Int as EInt}
+use Rattle.sf_core.specs.Syntax.{Conjunct, holds, points, segment, tree, choose, Level, level, Conjuncts, none, also, Command, mutate, Block, done, then, Assertion, Procedure, Program}
+use Rattle.sf_sym.specs.declared.atom.Atom.{Atom}
+use Rattle.sf_sym.specs.declared.atom.Atom.TheVariants.{Points, Ls, Tree}
+use Rattle.sf_sym.specs.declared.atom.Numbered.{Numbered}
+use Rattle.sf_sym.specs.declared.state.Links.{Links}
+use Rattle.sf_sym.specs.declared.state.State.{State}
+use Rattle.sf_sym.specs.declared.tag.Tag.{Tag}
+use Rattle.sf_sym.specs.declared.tag.Tag.TheVariants as t
+use Rattle.sf_sym.specs.declared.term.Term.{Term}
+use Rattle.sf_sym.specs.declared.term.Term.TheVariants.{Nil, Int, Sym}
+use Rattle.sf_sym.specs.Goal.{Pending, Item, run, add, take, gave, head, again, exit, return, end, Goal}
+use Rattle.sf_sym.specs.Tests.{same_term, is_absurd}
+
+-- whether two variables are one
+abbrev pub same_var : Var → Var → Bool
+same_var (Own i) (Own j) = i == j
+same_var (Shared r i) (Shared s j) = (r.0 == s.0) && (i == j)
+same_var (Own i) (Shared s j) = false
+same_var (Shared r i) (Own j) = false
+
+-- the term of a variable; each variable in reach has one
+abbrev pub term_at : List (Var × Term) → Var → Term
+term_at [] x = Nil
+term_at (v ∷ vs) x = cond (same_var v.0 x) v.1 (term_at vs x)
+
+-- the term of an expression
+abbrev pub term : List (Var × Term) → Expr → Term
+term vars (Variable x) = term_at vars x.var
+term vars ENil = Nil
+term vars (EInt i) = Int i
+
+-- an operand with its term
+abbrev pub operand_with : (Expr → Term) → Operand Expr → Operand Term
+operand_with to (Known e) = Known (to e)
+operand_with to (Exists n) = Exists n
+
+-- a test with its terms
+abbrev pub test_with : (Expr → Term) → Test (Operand Expr) → Test (Operand Term)
+test_with to True = True
+test_with to (Equal x y) = Equal (operand_with to x) (operand_with to y)
+test_with to (Differ x y) = Differ (operand_with to x) (operand_with to y)
+
+-- an assertion's conjuncts with the terms that the variables have now
+abbrev mutual
+  pub level_with : (Expr → Term) → Level Expr → Level Term
+  level_with to (level made cs) = level made (conjuncts_with to cs)
+
+  pub conjuncts_with : (Expr → Term) → Conjuncts Expr → Conjuncts Term
+  conjuncts_with to none = none
+  conjuncts_with to (also c cs) = also (conjunct_with to c) (conjuncts_with to cs)
+
+  pub conjunct_with : (Expr → Term) → Conjunct Expr → Conjunct Term
+  conjunct_with to (holds p x) = holds p (test_with to x)
+  conjunct_with to (points p x fs) = points p (operand_with to x) (map (λ f. (f.0, operand_with to f.1)) fs)
+  conjunct_with to (segment p f x y) = segment p f (operand_with to x) (operand_with to y)
+  conjunct_with to (tree p l r x) = tree p l r (operand_with to x)
+  conjunct_with to (choose p x this that) = choose p (test_with to x) (level_with to this) (level_with to that)
+
+-- the conjuncts of a level
+abbrev pub conjuncts_of : {E : Type 0} → Level E → Conjuncts E
+conjuncts_of (level made cs) = cs
+
+-- an assertion's conjuncts, still to be worked, none of its existentials having a term
+abbrev pub pending : List (Var × Term) → Assertion → Pending
+pending vars a = record { conjuncts = conjuncts_with (term vars) (conjuncts_of a.level); bindings = replicate (length a.names) None }
+
+-- the item is there only where there are conjuncts
+abbrev pub unless_none : Conjuncts Term → Item → List Item
+unless_none none item = []
+unless_none (also c cs) item = item ∷ []
+
+-- to assume an assertion
+abbrev pub to_add : Place → List (Var × Term) → Assertion → List Item
+to_add place vars a = unless_none (conjuncts_with (term vars) (conjuncts_of a.level)) (add place (pending vars a))
+
+-- to show an assertion and hand over its part of the heap
+abbrev pub to_take : Place → List (Var × Term) → Assertion → List Item
+to_take place vars a = unless_none (conjuncts_with (term vars) (conjuncts_of a.level)) (take place (pending vars a) a.names)
+
+-- the commands of a block
+abbrev pub to_run : Block → List Item
+to_run done = []
+to_run (then c cs) = run c ∷ to_run cs
+
+-- a fresh symbol for each of that many variables, in order
+abbrev pub symbols : (from count : ℕ) → List (Var × Term)
+symbols from zero = []
+symbols from (suc count) = (Own from, Sym from) ∷ symbols (suc from) count
+
+-- nil for each of that many locals
+abbrev pub nils : (from count : ℕ) → List (Var × Term)
+nils from zero = []
+nils from (suc count) = (Own from, Nil) ∷ nils (suc from) count
+
+-- the place of a name in a list
+abbrev pub number_of : List (List ℕ) → List ℕ → ℕ → Option FieldId
+number_of [] name from = None
+number_of (x ∷ xs) name from = cond (bytes_eq x name) (Some (record { 0 = from })) (number_of xs name (suc from))
+
+-- the fields that segments and trees go by
+abbrev pub links_of : Program → Links
+links_of p = record { tl = number_of p.fields (codes "tl") 0; l = number_of p.fields (codes "l") 0; r = number_of p.fields (codes "r") 0 }
+
+-- the first goal of a procedure of a program without resources
+abbrev pub first_goal : Program → Procedure → Goal
+first_goal p f =
+    let parameters = f.references + f.values in
+    let vars = symbols 0 parameters ++ nils parameters (length f.names - parameters) in
+    record {
+      state = record { links = links_of p; vars = vars; apart = []; atoms = []; taken = []; next_sym = parameters; next_atom = 1 };
+      todo = to_add f.place vars f.pre ++ to_run f.body ++ (return f.end f.post ∷ []);
+    }
+
+-- rows apply only where new numbers can't run out
+abbrev pub has_numbers : State → Bool
+has_numbers s = nat_le s.next_sym (2 ^ 32 - 1024) && nat_le s.next_atom (2 ^ 32 - 1024)
+
+-- the term of an operand that has one
+abbrev pub known : Operand Term → Option Term
+known (Known t) = Some t
+known (Exists n) = None
+
+-- a field's term is put in its place, in the order of the fields
+abbrev pub put_term : FieldId → Term → List (FieldId × Term) → List (FieldId × Term)
+put_term f u [] = (f, u) ∷ []
+put_term f u (g ∷ gs) = cond (g.0.0 == f.0) ((f, u) ∷ gs) (cond (nat_lt f.0 g.0.0) ((f, u) ∷ g ∷ gs) (g ∷ put_term f u gs))
+
+-- the term of a field, where it is known
+abbrev pub field_term : List (FieldId × Term) → FieldId → Option Term
+field_term [] f = None
+field_term (g ∷ gs) f = cond (g.0.0 == f.0) (Some g.1) (field_term gs f)
+
+-- the terms of a new cell's fields, where all have one
+abbrev pub new_fields : List (FieldId × Operand Term) → List (FieldId × Term) → Option (List (FieldId × Term))
+new_fields [] made = Some made
+new_fields (f ∷ fs) made = option_and_then (λ u. new_fields fs (put_term f.0 u made)) (known f.1)
+
+-- a symbol at which a cell stands differs from nil
+abbrev pub apart_from_nil : Term → List (Term × Term)
+apart_from_nil Nil = []
+apart_from_nil (Int i) = []
+apart_from_nil (Sym n) = (Sym n, Nil) ∷ []
+
+-- the state with one more cell
+abbrev pub with_cell : State → Term → List (FieldId × Term) → State
+with_cell s root fields = record s {
+  apart = s.apart ++ apart_from_nil root;
+  atoms = s.atoms ++ (record { number = s.next_atom; atom = Points root fields } ∷ []);
+  next_atom = s.next_atom + 1;
+}
+
+-- one conjunct is assumed
+abbrev pub assumed : State → Conjunct Term → Option State
+assumed s (points p x fs) = option_and_then (λ root. option_map (with_cell s root) (new_fields fs [])) (known x)
+assumed s _ = None
+
+-- the fields of an atom that is a cell at that term
+abbrev pub fields_at : Atom → Term → Option (List (FieldId × Term))
+fields_at (Points root fields) t = cond (same_term root t) (Some fields) None
+fields_at (Ls u v) t = None
+fields_at (Tree u) t = None
+
+-- the fields of the atom of that number, where it is a cell at that term
+abbrev pub cell_at : List Numbered → ℕ → Term → Option (List (FieldId × Term))
+cell_at [] a t = None
+cell_at (x ∷ xs) a t = cond (x.number == a) (fields_at x.atom t) (cell_at xs a t)
+
+-- the atoms, that of the number being this cell
+abbrev pub with_fields : List Numbered → ℕ → Term → List (FieldId × Term) → List Numbered
+with_fields [] a root fields = []
+with_fields (x ∷ xs) a root fields = cond (x.number == a) (record { number = a; atom = Points root fields } ∷ xs) (x ∷ with_fields xs a root fields)
+
+-- no atom is left
+abbrev pub is_empty : List Numbered → Bool
+is_empty [] = true
+is_empty (x ∷ xs) = false
+
+-- the atoms without that of the number
+abbrev pub without : List Numbered → ℕ → List Numbered
+without [] a = []
+without (x ∷ xs) a = cond (x.number == a) xs (x ∷ without xs a)
+
+-- a field of a cell is written
+abbrev pub mutated : State → (root : Term) → FieldId → Term → (atom : ℕ) → Option State
+mutated s root f u a = option_map (λ fields. record s { atoms = with_fields s.atoms a root (put_term f u fields) }) (cell_at s.atoms a root)
+
+-- the term that is there is that one
+abbrev pub has_term : Option Term → Option Term → Bool
+has_term None u = false
+has_term (Some t) None = false
+has_term (Some t) (Some u) = same_term t u
+
+-- a wanted field has just that term in the cell
+abbrev pub fits : List (FieldId × Term) → FieldId × Operand Term → Bool
+fits fields f = has_term (field_term fields f.0) (known f.1)
+
+-- a cell whose fields are as wanted is handed over
+abbrev pub handed_over : State → Conjunct Term → (atom : ℕ) → Option State
+handed_over s (points p x wanted) a =
+    option_and_then (λ root.
+    option_and_then (λ fields.
+    cond (list_all (fits fields) wanted)
+    (Some (record s { atoms = without s.atoms a; taken = s.taken ++ (record { number = a; atom = Points root fields } ∷ []) }))
+    None)
+    (cell_at s.atoms a root))
+    (known x)
+handed_over s _ a = None
+
+-- the one goal that is left, with that state and those items
+abbrev pub one_goal : List Item → State → List Goal
+one_goal todo s = record { state = s; todo = todo } ∷ []
+
+-- absurd: there is no such state
+abbrev pub absurd_row : State → Option (List Goal)
+absurd_row s = cond (is_absurd s) (Some []) None
+
+-- add: the first conjunct to assume is assumed
+abbrev pub add_first : State → Place → Conjuncts Term → List (Option Term) → List Item → Option (List Goal)
+add_first s p none bindings todo = None
+add_first s p (also c cs) bindings todo =
+    option_map (one_goal (unless_none cs (add p (record { conjuncts = cs; bindings = bindings })) ++ todo)) (assumed s c)
+
+abbrev pub add_row : State → List Item → Option (List Goal)
+add_row s (add p given ∷ todo) = add_first s p given.conjuncts given.bindings todo
+add_row s _ = None
+
+-- mutate: a field of a cell that is there is written
+abbrev pub mutate_one : State → Command → List Item → (atom : ℕ) → Option (List Goal)
+mutate_one s (mutate p e f v) todo a = option_map (one_goal todo) (mutated s (term s.vars e) f (term s.vars v) a)
+mutate_one s _ todo a = None
+
+abbrev pub mutate_row : State → List Item → (atom : ℕ) → Option (List Goal)
+mutate_row s (run c ∷ todo) a = mutate_one s c todo a
+mutate_row s _ a = None
+
+-- return: the postcondition is due, and then nothing may be left
+abbrev pub return_row : State → List Item → Option (List Goal)
+return_row s (return p post ∷ todo) = Some (one_goal (to_take p s.vars post ++ (end p ∷ [])) s)
+return_row s _ = None
+
+-- cell: the first wanted conjunct is a cell that is there
+abbrev pub cell_first : State → Place → Conjuncts Term → List (Option Term) → List (List ℕ) → List Item → (atom : ℕ) → Option (List Goal)
+cell_first s p none bindings names todo a = None
+cell_first s p (also c cs) bindings names todo a =
+    option_map (one_goal (unless_none cs (take p (record { conjuncts = cs; bindings = bindings }) names) ++ todo)) (handed_over s c a)
+
+abbrev pub cell_row : State → List Item → (atom : ℕ) → Option (List Goal)
+cell_row s (take p want names ∷ todo) a = cell_first s p want.conjuncts want.bindings names todo a
+cell_row s _ a = None
+
+-- end: no atom is left
+abbrev pub end_row : State → List Item → Option (List Goal)
+end_row s (end p ∷ todo) = cond (is_empty s.atoms) (Some []) None
+end_row s _ = None
+
+-- the rows of the table
+abbrev pub row_of : State → List Item → Tag → Option (List Goal)
+row_of s todo t.Absurd = absurd_row s
+row_of s todo t.Add = add_row s todo
+row_of s todo (t.Mutate a) = mutate_row s todo a
+row_of s todo t.Return = return_row s todo
+row_of s todo (t.Cell a) = cell_row s todo a
+row_of s todo t.End = end_row s todo
+row_of s todo _ = None
+
+-- the goals that are left by a tag at a goal, or None where there is no row
+abbrev pub row : Goal → Tag → Option (List Goal)
+row g tag = cond (has_numbers g.state) (row_of g.state g.todo tag) None

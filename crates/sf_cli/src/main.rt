@@ -1,0 +1,10 @@
+//! The command `smallfoot`: it proves a program, or says what can't be shown of it.
+#![tactic(auto)]
+
+mod strategy;
+mod words;
+
+fn main(rt: HostRuntime) {
+    let _ = rt.alloc();
+    let _ = words::read_order(&[]);
+}
