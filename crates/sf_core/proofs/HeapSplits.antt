@@ -66,10 +66,10 @@ one-is {location} {cell} {heap} o = map-same heap (single location cell) (λ b. 
 pub one-same : {location : ℕ} {cell : Cell} {one two : Heap} → IsOne location cell one → IsOne location cell two → one ≡ two
 one-same o p = one-is o ∙ sym (one-is p)
 
-some-same : {X : Type 0} (x y : X) → Some x ≡ Some y → x ≡ y
+pub some-same : {X : Type 0} (x y : X) → Some x ≡ Some y → x ≡ y
 some-same x y e = cc
 
-none-not_some : {X : Type 0} (x : X) → None ≡ Some x → ⊥
+pub none-not_some : {X : Type 0} (x : X) → None ≡ Some x → ⊥
 none-not_some x e = cc
 
 -- a heap has one cell at one place

@@ -15,3 +15,5 @@ pub mod Named
 pub mod Formed
 pub mod FormedOnce
 pub mod Places
+pub mod Precise
+pub mod Shape
