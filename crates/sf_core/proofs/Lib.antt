@@ -5,3 +5,4 @@ pub mod Lookup
 pub mod Finite
 pub mod SegLaws
 pub mod TreeLaws
+pub mod SatLaws

@@ -17,3 +17,5 @@ pub mod FormedOnce
 pub mod Places
 pub mod Precise
 pub mod Shape
+pub mod Occurs
+pub mod Determined

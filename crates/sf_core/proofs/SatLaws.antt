@@ -1,0 +1,145 @@
+-- What satisfaction depends on, and how it is decided.
+-- Names: `sat-LAW` speaks of whole levels, `test-LAW`, `fields-LAW` and `value-LAW` of their parts.
+use Rattle.std.specs.Prelude.{◌≡◌, ◌≢◌, ◌⊎◌, ℕ, ◌+◌, ◌≤◌, ◌<◌, Bool, true, false, cond, not, ◌&&◌, leb, ltb, List, [], ◌∷◌}
+use Rattle.std.specs.Cmp.{signed_Decides}
+use Rattle.std.proofs.Common.{int_eq, true≢false, sym, ap, ap₂, ◌∙◌, refl, subst, subst₂, inl, inr, arith}
+use Rattle.std.proofs.lemmas.Bool.Decides.{nat_tests, leb_tells}
+use Rattle.sf_base.specs.declared.ids.FieldId.{FieldId}
+use Rattle.sf_base.specs.declared.ids.Var.{Var}
+use Rattle.sf_base.specs.declared.value.Value.{Value}
+use Rattle.sf_base.specs.declared.value.Value.TheVariants.{Nil as nil, Int as int, Loc as loc}
+use Rattle.sf_core.specs.declared.assertion.Operand.{Operand}
+use Rattle.sf_core.specs.declared.assertion.Operand.TheVariants.{Known, Exists}
+use Rattle.sf_core.specs.declared.assertion.Scope.{Scope}
+use Rattle.sf_core.specs.declared.assertion.Test.{Test}
+use Rattle.sf_core.specs.declared.assertion.Test.TheVariants.{True, Equal, Differ}
+use Rattle.sf_core.specs.declared.command.Expr.{Expr}
+use Rattle.sf_core.specs.declared.command.Expr.TheVariants.{Var as Variable, Nil, Int}
+use Rattle.sf_core.proofs.HeapSplits.{at-which, star-map}
+use Rattle.sf_core.specs.HeapStore.{Cell, Heap, ◌⋆◌}
+use Rattle.sf_core.specs.Occurs.{is_made, IsFrom, OccursIn, OccursInAll, OccursInFields, OccursInOne, OccursInTest, VarOccursIn}
+use Rattle.sf_core.specs.Sat.{HasFields, IsTrueOf, SameOutside, Sat, SatAll, SatOne, Seg, Tree, operand, value}
+use Rattle.sf_core.specs.Syntax.{Conjunct, holds, points, segment, tree, choose, Level, level, Conjuncts, none, also}
+
+-- each existential is made by a scope or is from outside
+made-which : (made : Scope) (n : ℕ) → (is_made made n ≡ true) ⊎ ((is_made made n ≡ false) × ((n < made.first) ⊎ (made.first + made.count ≤ n)))
+made-which made n = go (leb_tells made.first n) (leb_tells (made.first + made.count) n)
+  where
+    go : ((leb made.first n ≡ true) × (made.first ≤ n)) ⊎ ((leb made.first n ≡ false) × (n < made.first)) → ((leb (made.first + made.count) n ≡ true) × (made.first + made.count ≤ n)) ⊎ ((leb (made.first + made.count) n ≡ false) × (n < made.first + made.count))
+        → (is_made made n ≡ true) ⊎ ((is_made made n ≡ false) × ((n < made.first) ⊎ (made.first + made.count ≤ n)))
+    go (inr a) b = inr (ap (λ t. t && ltb n (made.first + made.count)) a.0, inl a.1)
+    go (inl a) (inl b) = let high : ltb n (made.first + made.count) ≡ false = grind (arith, nat_tests) in inr (ap₂ ◌&&◌ a.0 high, inr b.1)
+    go (inl a) (inr b) = let high : ltb n (made.first + made.count) ≡ true = grind (arith, nat_tests) in inl (ap₂ ◌&&◌ a.0 high)
+
+-- what a scope does not make is from outside
+pub made-outside : (made : Scope) (n : ℕ) → is_made made n ≡ false → (n < made.first) ⊎ (made.first + made.count ≤ n)
+made-outside made n e = go (made-which made n)
+  where
+    go : (is_made made n ≡ true) ⊎ ((is_made made n ≡ false) × ((n < made.first) ⊎ (made.first + made.count ≤ n))) → (n < made.first) ⊎ (made.first + made.count ≤ n)
+    go (inl i) = absurd (true≢false (sym i ∙ e))
+    go (inr i) = i.1
+
+-- what is from outside a scope is not made there
+pub made-from_outside : (made : Scope) (n : ℕ) → (n < made.first) ⊎ (made.first + made.count ≤ n) → is_made made n ≡ false
+made-from_outside made n (inl o) = ap (λ t. t && ltb n (made.first + made.count)) (below (leb_tells made.first n))
+  where
+    below : ((leb made.first n ≡ true) × (made.first ≤ n)) ⊎ ((leb made.first n ≡ false) × (n < made.first)) → leb made.first n ≡ false
+    below (inl a) = absurd (omega arith)
+    below (inr a) = a.0
+made-from_outside made n (inr o) =
+    let low : leb made.first n ≡ true = grind (arith, nat_tests) in
+    let high : ltb n (made.first + made.count) ≡ false = grind (arith, nat_tests) in
+    ap₂ ◌&&◌ low high
+
+-- two values are the same or differ
+pub value-which : (v w : Value) → (v ≡ w) ⊎ (v ≢ w)
+value-which nil nil = inl refl
+value-which nil (int j) = inr (λ (e : nil ≡ int j). cc)
+value-which nil (loc b) = inr (λ (e : nil ≡ loc b). cc)
+value-which (int i) nil = inr (λ (e : int i ≡ nil). cc)
+value-which (int i) (int j) = go (int_eq i j) refl
+  where
+    go : (t : Bool) → int_eq i j ≡ t → (int i ≡ int j) ⊎ (int i ≢ int j)
+    go true e = inl (ap int ((signed_Decides i j).0 e))
+    go false e = inr (λ (s : int i ≡ int j). true≢false (sym ((signed_Decides i j).1 cc) ∙ e))
+value-which (int i) (loc b) = inr (λ (e : int i ≡ loc b). cc)
+value-which (loc a) nil = inr (λ (e : loc a ≡ nil). cc)
+value-which (loc a) (int j) = inr (λ (e : loc a ≡ int j). cc)
+value-which (loc a) (loc b) = go (at-which b a)
+  where
+    go : (a ≡ b) ⊎ (a ≢ b) → (loc a ≡ loc b) ⊎ (loc a ≢ loc b)
+    go (inl e) = inl (ap loc e)
+    go (inr n) = inr (λ (s : loc a ≡ loc b). n cc)
+
+-- Tests and fields of anything that has a value
+module _ {X : Type 0} where
+  -- a test is true or false
+  pub test-which : (val : X → Value) (t : Test X) → IsTrueOf val t ⊎ (IsTrueOf val t → ⊥)
+  test-which val True = inl tt
+  test-which val (Equal x y) = value-which (val x) (val y)
+  test-which val (Differ x y) = go (value-which (val x) (val y))
+    where
+      go : (val x ≡ val y) ⊎ (val x ≢ val y) → (val x ≢ val y) ⊎ (val x ≢ val y → ⊥)
+      go (inl e) = inr (λ n. n e)
+      go (inr n) = inl n
+
+  -- a test that is true stays true where its sides have the same values
+  pub test-agree : (one two : X → Value) (t : Test X) → ((x : X) → OccursInTest t x → one x ≡ two x) → IsTrueOf one t → IsTrueOf two t
+  test-agree one two True e d = tt
+  test-agree one two (Equal x y) e d = sym (e x (inl refl)) ∙ d ∙ e y (inr refl)
+  test-agree one two (Differ x y) e d = λ i. d (e x (inl refl) ∙ i ∙ sym (e y (inr refl)))
+
+  -- a cell's fields stay right where the values are the same
+  pub fields-agree : (one two : X → Value) (fs : List (FieldId × X)) (here : Cell) → ((x : X) → OccursInFields fs x → one x ≡ two x) → HasFields one fs here → HasFields two fs here
+  fields-agree one two [] c e d = tt
+  fields-agree one two (f ∷ fs) c e d = (d.0 ∙ e f.1 (inl refl), fields-agree one two fs c (λ x i. e x (inr i)) d.1)
+
+module _ {E : Type 0} (v w : E → Value) where
+  -- the first choice for what a scope makes, and the second for what is from outside
+  abbrev chosen : Scope → (ℕ → Value) → (ℕ → Value) → ℕ → Value
+  chosen made here outside n = cond (is_made made n) (here n) (outside n)
+
+  -- what two choices have the same from outside, they have the same with the choice made here
+  chosen-agree : (made : Scope) (s t here : ℕ → Value) (x : Operand E) → SameOutside made s here → (IsFrom made x → operand v s x ≡ operand w t x) → operand v here x ≡ operand w (chosen made here t) x
+  chosen-agree made s t here (Known x) o e = e tt
+  chosen-agree made s t here (Exists n) o e = go (is_made made n) refl
+    where
+      go : (b : Bool) → is_made made n ≡ b → here n ≡ cond (is_made made n) (here n) (t n)
+      go true i = sym (ap (λ b. cond b (here n) (t n)) i)
+      go false i = o n (made-outside made n i) ∙ e i ∙ sym (ap (λ b. cond b (here n) (t n)) i)
+
+  chosen-outside : (made : Scope) (t here : ℕ → Value) → SameOutside made t (chosen made here t)
+  chosen-outside made t here n o = ap (λ b. cond b (here n) (t n)) (made-from_outside made n o)
+
+module _ {E : Type 0} where
+  mutual
+    -- a level speaks only of what occurs in it
+    pub sat-agree : (a : Level E) (v w : E → Value) (s t : ℕ → Value) (heap : Heap) → ((x : Operand E) → OccursIn a x → operand v s x ≡ operand w t x) → Sat a v s heap → Sat a w t heap
+    sat-agree (level made cs) v w s t heap e (here, o, d) =
+        (chosen v w made here t, chosen-outside v w made t here, sat-all_agree cs v w here (chosen v w made here t) heap (λ x i. chosen-agree v w made s t here x o (λ f. e x (i, f))) d)
+
+    -- so do conjuncts
+    pub sat-all_agree : (cs : Conjuncts E) (v w : E → Value) (s t : ℕ → Value) (heap : Heap) → ((x : Operand E) → OccursInAll cs x → operand v s x ≡ operand w t x) → SatAll cs v s heap → SatAll cs w t heap
+    sat-all_agree none v w s t heap e d = d
+    sat-all_agree (also c cs) v w s t heap e d = star-map (λ part f. sat-one_agree c v w s t part (λ x i. e x (inl i)) f) (λ part f. sat-all_agree cs v w s t part (λ x i. e x (inr i)) f) d
+
+    -- so does one conjunct
+    pub sat-one_agree : (c : Conjunct E) (v w : E → Value) (s t : ℕ → Value) (heap : Heap) → ((x : Operand E) → OccursInOne c x → operand v s x ≡ operand w t x) → SatOne c v s heap → SatOne c w t heap
+    sat-one_agree (holds p b) v w s t heap e d = (d.0, test-agree (operand v s) (operand w t) b e d.1)
+    sat-one_agree (points p x fs) v w s t heap e d = (d.0, d.1, sym (e x (inl refl)) ∙ d.2, d.3, fields-agree (operand v s) (operand w t) fs d.1 (λ y i. e y (inr i)) d.4)
+    sat-one_agree (segment p next x y) v w s t heap e d = subst₂ (λ a b. Seg next a b heap) (e y (inr refl)) (e x (inl refl)) d
+    sat-one_agree (tree p left right x) v w s t heap e d = subst (λ a. Tree left right a heap) (e x refl) d
+    sat-one_agree (choose p b this that) v w s t heap e d = (
+      λ i. sat-agree this v w s t heap (λ x j. e x (inr (inl j))) (d.0 (test-agree (operand w t) (operand v s) b (λ x j. sym (e x (inl j))) i)),
+      λ n. sat-agree that v w s t heap (λ x j. e x (inr (inr j))) (d.1 (λ i. n (test-agree (operand v s) (operand w t) b (λ x j. e x (inl j)) i))),
+    )
+
+-- an assertion speaks only of the variables that occur in it
+pub sat-same_variables : (a : Level Expr) (before after : Var → Value) (some : ℕ → Value) (heap : Heap) → ((x : Var) → VarOccursIn a x → before x ≡ after x) → Sat a (value before) some heap → Sat a (value after) some heap
+sat-same_variables a before after some heap e d = sat-agree a (value before) (value after) some some heap go d
+  where
+    go : (x : Operand Expr) → OccursIn a x → operand (value before) some x ≡ operand (value after) some x
+    go (Known (Variable x)) i = e x.var (x, refl, i)
+    go (Known Nil) i = refl
+    go (Known (Int n)) i = refl
+    go (Exists n) i = refl
