@@ -6,3 +6,4 @@ pub mod Finite
 pub mod SegLaws
 pub mod TreeLaws
 pub mod SatLaws
+pub mod DeterminedLaws
