@@ -1,6 +1,6 @@
 -- Heaps: one cell, and the separating conjunction.
 -- Names: `one-LAW` speaks of a heap with one cell, `star-LAW` of ⋆; `_left` and `_right` say on which side.
-use Rattle.std.specs.Prelude.{◌≡◌, ◌≢◌, ℕ, Bool, true, false, cond, Option, Some, None, ◌⊎◌, ◌==◌}
+use Rattle.std.specs.Prelude.{◌≡◌, ◌≢◌, ℕ, Bool, true, false, cond, Option, Some, None, ◌⊎◌, ◌↔◌, ◌==◌}
 use Rattle.std.proofs.Common.{sym, ap, ap₂, ◌∙◌, refl, subst, inl, inr, arith}
 use Rattle.std.proofs.lemmas.Bool.Decides.{nat_tests}
 use Rattle.sf_core.proofs.MapSplits.{union, empty_map, empty-holds, changed, only, map-same, splits-comm, splits-is, splits-assoc_right, splits-assoc_left, splits-by_test, splits-changed_left, splits-cancel_left, splits-has_left, splits-lacks_right, splits-which, splits-empty_left, splits-empty_right, splits-of_empty_left, splits-of_empty_right, splits-same_whole, IsPart, part-left}
@@ -83,6 +83,14 @@ one-same_place {location} {other} {cell} {also} {heap} o p = go (at-which other 
 -- a heap with one cell is not empty
 pub one-not_empty : {location : ℕ} {cell : Cell} {heap : Heap} → IsOne location cell heap → IsEmpty heap → ⊥
 one-not_empty {location} {cell} o e = none-not_some cell (sym (e.none location) ∙ o.here)
+
+-- a heap with one cell has something just at its location
+pub one-there : {location : ℕ} {cell : Cell} {heap : Heap} → IsOne location cell heap → (other : ℕ) → heap other ≢ None ↔ (other ≡ location)
+one-there {location} {cell} {heap} o other = (λ n. go n (at-which location other), λ e s. none-not_some cell (sym s ∙ ap heap e ∙ o.here))
+  where
+    go : heap other ≢ None → (other ≡ location) ⊎ (other ≢ location) → other ≡ location
+    go n (inl e) = e
+    go n (inr m) = absurd (n (o.elsewhere other m))
 
 -- one cell that a heap has splits off
 pub one-splits : (location : ℕ) (cell : Cell) (heap : Heap) → heap location ≡ Some cell → Splits heap (single location cell) (remove_cell location heap)

@@ -36,8 +36,8 @@ seg-same {next} {heap = heap} {one = one} {two = two} (cell n a c g r p o u d) (
     splits-same_whole (subst₂ (Splits one) cells rests u) u2
 
 -- a segment is precise
-pub seg-precise : (next : FieldId) (to from : Value) → IsPrecise (Seg next to from)
-seg-precise next to from h g k r q s t d e = seg-same d e refl s t
+pub seg-precise : (next : FieldId) (from to : Value) → IsPrecise (Seg next to from)
+seg-precise next from to h g k r q s t d e = seg-same d e refl s t
 
 -- a segment is finite
 pub seg-finite : {next : FieldId} {to from : Value} {heap : Heap} → Seg next to from heap → IsFinite heap

@@ -19,3 +19,5 @@ pub mod Precise
 pub mod Shape
 pub mod Occurs
 pub mod Determined
+pub mod Laws
+pub mod Instances

@@ -1,0 +1,128 @@
+-- Small heaps and assertions, worked out: what the definitions say of each.
+-- The assertions are in the manner of Berdine, Calcagno, O'Hearn, "Smallfoot" (2005).
+use Rattle.std.specs.Prelude.{◌≡◌, ◌≢◌, ◌↔◌, ℕ, zero, suc, cond, ◌==◌, List, [], ◌∷◌, Some, None}
+use Rattle.sf_base.specs.declared.ids.FieldId.{FieldId}
+use Rattle.sf_base.specs.declared.ids.Var.{Var}
+use Rattle.sf_base.specs.declared.ids.Var.TheVariants.{Own, Shared}
+use Rattle.sf_base.specs.declared.place.Place.{Place}
+use Rattle.sf_base.specs.declared.value.Value.{Value}
+use Rattle.sf_base.specs.declared.value.Value.TheVariants.{Nil as nil, Loc as loc}
+use Rattle.sf_core.specs.declared.assertion.Operand.{Operand}
+use Rattle.sf_core.specs.declared.assertion.Operand.TheVariants.{Known, Exists}
+use Rattle.sf_core.specs.declared.assertion.Scope.{Scope}
+use Rattle.sf_core.specs.declared.assertion.Test.TheVariants.{Equal}
+use Rattle.sf_core.specs.declared.command.Expr.{Expr}
+use Rattle.sf_core.specs.declared.command.Expr.TheVariants.{Var as Variable, Nil}
+use Rattle.sf_core.specs.Determined.{Determined}
+use Rattle.sf_core.specs.HeapStore.{Cell, Heap, IsEmpty, IsOne, Splits}
+use Rattle.sf_core.specs.Sat.{Sat, value}
+use Rattle.sf_core.specs.Syntax.{Level, level, Conjunct, Conjuncts, none, also, points, segment, tree, choose, holds}
+
+-- where all of it stands
+abbrev pub place : Place
+place = record { line = 1; column = 1 }
+
+-- the fields tl, l and r
+abbrev pub tl : FieldId
+tl = record { 0 = 0 }
+
+abbrev pub l : FieldId
+l = record { 0 = 1 }
+
+abbrev pub r : FieldId
+r = record { 0 = 2 }
+
+-- the variables x and y, nil, and the existential of number 0
+abbrev pub x : Operand Expr
+x = Known (Variable (record { var = Own 0; place = place }))
+
+abbrev pub y : Operand Expr
+y = Known (Variable (record { var = Own 1; place = place }))
+
+abbrev pub nothing : Operand Expr
+nothing = Known Nil
+
+abbrev pub unknown : Operand Expr
+unknown = Exists 0
+
+-- the values of x and y; other variables are nil
+abbrev pub where_are : Value → Value → Var → Value
+where_are v w (Own zero) = v
+where_are v w (Own (suc n)) = w
+where_are v w (Shared s n) = nil
+
+-- no existentials, and the one of number 0
+abbrev pub no_scope : Scope
+no_scope = record { first = 0; count = 0 }
+
+abbrev pub one_scope : Scope
+one_scope = record { first = 0; count = 1 }
+
+-- a heap satisfies an assertion where x and y have these values
+abbrev pub Satisfies : Heap → Level Expr → Value → Value → Type 0
+Satisfies heap a v w = Sat a (value (where_are v w)) (λ n. nil) heap
+
+-- the cell with that value in tl, and nil in every other field
+abbrev pub tail : Value → Cell
+tail v = λ field. cond (field == 0) v nil
+
+-- the heap with one cell
+abbrev pub one_cell : ℕ → Cell → Heap
+one_cell location cell = λ other. cond (other == location) (Some cell) None
+
+-- @1 with tl=@2, and @2 with tl=nil
+abbrev pub two_cells : Heap
+two_cells = λ location. cond (location == 1) (Some (tail (loc 2))) (cond (location == 2) (Some (tail nil)) None)
+
+-- x|->tl:y * ls(y,nil)
+abbrev pub cell_and_list : Level Expr
+cell_and_list = level no_scope (also (points place x ((tl, y) ∷ [])) (also (segment place tl y nothing) none))
+
+-- two cells are a cell and a list behind it
+abbrev pub TwoCellsAreACellAndAList : Type 0
+TwoCellsAreACellAndAList = Satisfies two_cells cell_and_list (loc 1) (loc 2)
+
+-- no smaller part of the two cells is
+abbrev pub NoLessIsACellAndAList : Type 0
+NoLessIsACellAndAList = (part rest : Heap) → Splits two_cells part rest → Satisfies part cell_and_list (loc 1) (loc 2) → part ≡ two_cells
+
+-- if x == y then emp else x|->
+abbrev pub choice : Level Expr
+choice = level no_scope (also (choose place (Equal x y) (level no_scope none) (level no_scope (also (points place x []) none))) none)
+
+-- the choice is the empty heap where x and y are the same, and else one cell at x
+abbrev pub ChoiceGoesByItsTest : Type 0
+ChoiceGoesByItsTest = (v w : Value) (heap : Heap)
+    → (v ≡ w → Satisfies heap choice v w ↔ IsEmpty heap) × (v ≢ w → Satisfies heap choice v w ↔ ((location : ℕ) × (cell : Cell) × (v ≡ loc location) × IsOne location cell heap))
+
+-- x|->tl:_u * _u == y
+abbrev pub field_is : Level Expr
+field_is = level one_scope (also (points place x ((tl, unknown) ∷ [])) (also (holds place (Equal unknown y)) none))
+
+-- an existential in a points-to is the value that the field has
+abbrev pub ExistentialIsTheFieldsValue : Type 0
+ExistentialIsTheFieldsValue = (location : ℕ) (cell : Cell) (w : Value) → Satisfies (one_cell location cell) field_is (loc location) w ↔ (cell 0 ≡ w)
+
+-- a node whose fields are nil is a tree
+abbrev pub OneNodeIsATree : Type 0
+OneNodeIsATree = (location : ℕ) (w : Value) → Satisfies (one_cell location (λ field. nil)) (level no_scope (also (tree place l r x) none)) (loc location) w
+
+-- ls(x,y)
+abbrev pub list : Level Expr
+list = level no_scope (also (segment place tl x y) none)
+
+-- a segment may end at a location that has no cell
+abbrev pub SegmentMayEndAtAnAbsentCell : Type 0
+SegmentMayEndAtAnAbsentCell = Satisfies (one_cell 1 (tail (loc 9))) list (loc 1) (loc 9)
+
+-- a cell that leads to itself is no segment, wherever it is to end
+abbrev pub CircleIsNoSegment : Type 0
+CircleIsNoSegment = (w : Value) → Satisfies (one_cell 1 (tail (loc 1))) list (loc 1) w → ⊥
+
+-- ls(_u,nil) * x|->tl:_u is determined: its second conjunct comes first
+abbrev pub OrderIsFound : Type 0
+OrderIsFound = Determined (level one_scope (also (segment place tl unknown nothing) (also (points place x ((tl, unknown) ∷ [])) none)))
+
+-- tree(_u) is not determined
+abbrev pub TreeOfAnUnknownIsUndetermined : Type 0
+TreeOfAnUnknownIsUndetermined = Determined (level one_scope (also (tree place l r unknown) none)) → ⊥

@@ -1,0 +1,62 @@
+-- Laws of heaps and assertions, each in words of its own: what a reader may expect of the definitions.
+-- Reynolds, "Separation Logic" (2002); O'Hearn, Yang, Reynolds, "Separation and Information Hiding" (2004) for precision.
+use Rattle.std.specs.Prelude.{◌≡◌, ◌≢◌, ◌↔◌, ℕ, List, None}
+use Rattle.sf_base.specs.declared.ids.FieldId.{FieldId}
+use Rattle.sf_base.specs.declared.ids.Var.{Var}
+use Rattle.sf_base.specs.declared.place.Place.{Place}
+use Rattle.sf_base.specs.declared.value.Value.{Value}
+use Rattle.sf_base.specs.declared.value.Value.TheVariants.{Loc as loc}
+use Rattle.sf_core.specs.declared.assertion.Operand.{Operand}
+use Rattle.sf_core.specs.declared.command.Expr.{Expr}
+use Rattle.sf_core.specs.Determined.{Determined}
+use Rattle.sf_core.specs.HeapStore.{Heap, Splits}
+use Rattle.sf_core.specs.Occurs.{VarOccursIn}
+use Rattle.sf_core.specs.Precise.{IsPrecise}
+use Rattle.sf_core.specs.Sat.{Foot, Sat, SatOne, Seg, Tree, operand, value}
+use Rattle.sf_core.specs.Shape.{IsAcyclic, IsFinite}
+use Rattle.sf_core.specs.Syntax.{Level, points, segment, tree}
+
+-- the two parts of a heap may be exchanged
+abbrev pub UnionIsCommutative : Type 0
+UnionIsCommutative = (heap one two : Heap) → Splits heap one two → Splits heap two one
+
+-- of three parts the last two may be put together first, or the first two
+abbrev pub UnionIsAssociative : Type 0
+UnionIsAssociative = (heap one two three : Heap) → ((both : Heap) × Splits both one two × Splits heap both three) ↔ ((both : Heap) × Splits both two three × Splits heap one both)
+
+-- a heap and one of its parts determine the other
+abbrev pub UnionCancels : Type 0
+UnionCancels = (heap one two three : Heap) → Splits heap one two → Splits heap one three → two ≡ three
+
+-- where a points-to holds, its root is a location, and the heap has a cell there and nowhere else
+abbrev pub PointsToHasExactlyOneCell : Type 0
+PointsToHasExactlyOneCell = (place : Place) (root : Operand Expr) (fields : List (FieldId × Operand Expr)) (vars : Var → Value) (some : ℕ → Value) (heap : Heap)
+    → SatOne (points place root fields) (value vars) some heap → (location : ℕ) × (operand (value vars) some root ≡ loc location) × ((other : ℕ) → heap other ≢ None ↔ (other ≡ location))
+
+-- where a segment holds, the heap has no cell at its end
+abbrev pub SegmentHasNoCellAtItsEnd : Type 0
+SegmentHasNoCellAtItsEnd = (place : Place) (next : FieldId) (from to : Operand Expr) (vars : Var → Value) (some : ℕ → Value) (heap : Heap) (location : ℕ)
+    → SatOne (segment place next from to) (value vars) some heap → operand (value vars) some to ≡ loc location → heap location ≡ None
+
+-- two segments one behind the other are one, where the first has no cell at the end of the second
+abbrev pub SegmentsCompose : Type 0
+SegmentsCompose = (next : FieldId) (from middle to : Value) (heap one two : Heap) → Splits heap one two → ((location : ℕ) → to ≡ loc location → one location ≡ None)
+    → Seg next middle from one → Seg next to middle two → Seg next to from heap
+
+-- where a tree holds, the heap is finite, and no location of it leads back to itself
+abbrev pub TreeIsFiniteAndAcyclic : Type 0
+TreeIsFiniteAndAcyclic = (place : Place) (left right : FieldId) (root : Operand Expr) (vars : Var → Value) (some : ℕ → Value) (heap : Heap)
+    → SatOne (tree place left right root) (value vars) some heap → IsFinite heap × IsAcyclic left right heap
+
+-- a segment between two values and a tree from a value are at most one part of each heap
+abbrev pub SegmentsAndTreesArePrecise : Type 0
+SegmentsAndTreesArePrecise = ((next : FieldId) (from to : Value) → IsPrecise (Seg next to from)) × ((left right : FieldId) (root : Value) → IsPrecise (Tree left right root))
+
+-- whether a heap satisfies an assertion rests on the values of the variables that occur in it, and on no other variable
+abbrev pub SatSpeaksOfOccurringVariables : Type 0
+SatSpeaksOfOccurringVariables = (assertion : Level Expr) (before after : Var → Value) (some : ℕ → Value) (heap : Heap)
+    → ((x : Var) → VarOccursIn assertion x → before x ≡ after x) → Sat assertion (value before) some heap ↔ Sat assertion (value after) some heap
+
+-- a determined assertion has at most one footprint in each heap
+abbrev pub DeterminedHasOneFootprint : Type 0
+DeterminedHasOneFootprint = (assertion : Level Expr) (vars : Var → Value) (heap one two : Heap) → Determined assertion → Foot assertion (value vars) heap one → Foot assertion (value vars) heap two → one ≡ two
