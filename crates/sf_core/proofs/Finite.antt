@@ -1,7 +1,7 @@
 -- Finite heaps.
 -- Names: `finite-LAW`.
-use Rattle.std.specs.Prelude.{◌≡◌, ◌≢◌, ℕ, List, [], ◌∷◌, ◌++◌, Contains, Some, None, ◌⊎◌}
-use Rattle.std.proofs.Common.{sym, ap, ◌∙◌, refl, subst, inl, inr}
+use Rattle.std.specs.Prelude.{◌≡◌, ◌≢◌, ℕ, [], ◌∷◌, ◌++◌, Contains, Some, None, ◌⊎◌}
+use Rattle.std.proofs.Common.{sym, ◌∙◌, refl, subst, inl, inr}
 use Rattle.std.proofs.lemmas.List.Elements.{Contains-append_left, Contains-append_right}
 use Rattle.sf_core.proofs.HeapSplits.{at-which, none-not_some}
 use Rattle.sf_core.proofs.MapSplits.{splits-which, IsPart, part-has}

@@ -1,10 +1,10 @@
 -- Heaps: one cell, and the separating conjunction.
 -- Names: `one-LAW` speaks of a heap with one cell, `star-LAW` of ⋆; `_left` and `_right` say on which side.
 use Rattle.std.specs.Prelude.{◌≡◌, ◌≢◌, ℕ, Bool, true, false, cond, Option, Some, None, ◌⊎◌, ◌↔◌, ◌==◌}
-use Rattle.std.proofs.Common.{sym, ap, ap₂, ◌∙◌, refl, subst, inl, inr, arith}
+use Rattle.std.proofs.Common.{sym, ap, ◌∙◌, refl, subst, inl, inr, arith}
 use Rattle.std.proofs.lemmas.Bool.Decides.{nat_tests}
-use Rattle.sf_core.proofs.MapSplits.{union, empty_map, empty-holds, changed, only, map-same, splits-comm, splits-is, splits-assoc_right, splits-assoc_left, splits-by_test, splits-changed_left, splits-cancel_left, splits-has_left, splits-lacks_right, splits-which, splits-empty_left, splits-empty_right, splits-of_empty_left, splits-of_empty_right, splits-same_whole, IsPart, part-left}
-use Rattle.sf_core.specs.HeapStore.{Apart, Cell, Heap, IsEmpty, IsOne, Splits, ◌⋆◌}
+use Rattle.sf_core.proofs.MapSplits.{empty_map, empty-holds, changed, only, map-same, splits-comm, splits-assoc_right, splits-assoc_left, splits-by_test, splits-changed_left, splits-cancel_left, splits-has_left, splits-lacks_right, splits-empty_left, splits-empty_right, splits-of_empty_left, splits-of_empty_right}
+use Rattle.sf_core.specs.HeapStore.{Cell, Heap, IsEmpty, IsOne, Splits, ◌⋆◌}
 
 -- the test for one location
 abbrev pub at_ : ℕ → ℕ → Bool

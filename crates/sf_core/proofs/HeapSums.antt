@@ -1,9 +1,9 @@
 -- A whole as the disjoint union of a list of parts, and lists of properties under ⋆: opened, reordered and grouped.
 -- Names: `sums-LAW` speaks of lists of parts, over anything that splits; `stars-LAW` of lists under ⋆.
 use Rattle.std.specs.Prelude.{◌≡◌, ℕ, zero, suc, List, [], ◌∷◌, ◌++◌}
-use Rattle.std.proofs.Common.{sym, ap, ◌∙◌, refl, subst}
-use Rattle.sf_core.proofs.HeapSplits.{star-of, star-assoc_left, star-assoc_right, star-comm, star-drop_left, star-empty_left, star-map, star-map_right, star-swap}
-use Rattle.sf_core.proofs.MapSplits.{union, empty_map, empty-holds, splits-comm, splits-assoc_right, splits-cancel_left, splits-empty_right, splits-of_empty_right}
+use Rattle.std.proofs.Common.{sym, refl, subst}
+use Rattle.sf_core.proofs.HeapSplits.{star-of, star-assoc_left, star-assoc_right, star-drop_left, star-empty_left, star-map, star-map_right, star-swap}
+use Rattle.sf_core.proofs.MapSplits.{empty_map, empty-holds, splits-comm, splits-assoc_right, splits-cancel_left, splits-empty_right, splits-of_empty_right}
 use Rattle.sf_core.specs.HeapStore.{Map, Heap, IsEmpty, Splits, ◌⋆◌}
 
 -- the first two parts of three, put together, and the whole with them

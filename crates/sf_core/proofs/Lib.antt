@@ -7,3 +7,4 @@ pub mod SegLaws
 pub mod TreeLaws
 pub mod SatLaws
 pub mod DeterminedLaws
+pub mod Worked

@@ -1,6 +1,6 @@
 -- What satisfaction depends on, and how it is decided.
 -- Names: `sat-LAW` speaks of whole levels, `test-LAW`, `fields-LAW` and `value-LAW` of their parts.
-use Rattle.std.specs.Prelude.{◌≡◌, ◌≢◌, ◌⊎◌, ℕ, ◌+◌, ◌≤◌, ◌<◌, Bool, true, false, cond, not, ◌&&◌, leb, ltb, List, [], ◌∷◌}
+use Rattle.std.specs.Prelude.{◌≡◌, ◌≢◌, ◌⊎◌, ℕ, ◌+◌, ◌≤◌, ◌<◌, Bool, true, false, cond, ◌&&◌, leb, ltb, List, [], ◌∷◌}
 use Rattle.std.specs.Cmp.{signed_Decides}
 use Rattle.std.proofs.Common.{int_eq, true≢false, sym, ap, ap₂, ◌∙◌, refl, subst, subst₂, inl, inr, arith}
 use Rattle.std.proofs.lemmas.Bool.Decides.{nat_tests, leb_tells}
@@ -16,7 +16,7 @@ use Rattle.sf_core.specs.declared.assertion.Test.TheVariants.{True, Equal, Diffe
 use Rattle.sf_core.specs.declared.command.Expr.{Expr}
 use Rattle.sf_core.specs.declared.command.Expr.TheVariants.{Var as Variable, Nil, Int}
 use Rattle.sf_core.proofs.HeapSplits.{at-which, star-map}
-use Rattle.sf_core.specs.HeapStore.{Cell, Heap, ◌⋆◌}
+use Rattle.sf_core.specs.HeapStore.{Cell, Heap}
 use Rattle.sf_core.specs.Occurs.{is_made, IsFrom, OccursIn, OccursInAll, OccursInFields, OccursInOne, OccursInTest, VarOccursIn}
 use Rattle.sf_core.specs.Sat.{HasFields, IsTrueOf, SameOutside, Sat, SatAll, SatOne, Seg, Tree, operand, value}
 use Rattle.sf_core.specs.Syntax.{Conjunct, holds, points, segment, tree, choose, Level, level, Conjuncts, none, also}

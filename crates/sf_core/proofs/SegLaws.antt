@@ -1,13 +1,13 @@
 -- List segments: precise, finite, composed, and with no cell at the end.
 -- Names: `seg-LAW` speaks of `Seg next to from heap`.
-use Rattle.std.specs.Prelude.{◌≡◌, ◌≢◌, ℕ, Option, Some, None, ◌⊎◌}
-use Rattle.std.proofs.Common.{sym, ap, ◌∙◌, refl, subst, subst₂, inl, inr}
+use Rattle.std.specs.Prelude.{◌≡◌, ◌≢◌, ℕ, Some, None}
+use Rattle.std.proofs.Common.{sym, ap, ◌∙◌, refl, subst, subst₂}
 use Rattle.sf_base.specs.declared.ids.FieldId.{FieldId}
 use Rattle.sf_base.specs.declared.value.Value.{Value}
-use Rattle.sf_base.specs.declared.value.Value.TheVariants.{Nil as nil, Int as int, Loc as loc}
+use Rattle.sf_base.specs.declared.value.Value.TheVariants.{Nil as nil, Loc as loc}
 use Rattle.sf_core.proofs.Finite.{finite-empty, finite-one, finite-splits}
-use Rattle.sf_core.proofs.HeapSplits.{at-which, none-not_some, some-same, one-in, one-same, one-splits}
-use Rattle.sf_core.proofs.MapSplits.{splits-comm, splits-assoc_right, splits-at_left, splits-empty_right, splits-lacks_both, splits-lacks_whole, splits-lacks_right, splits-of_empty_left, splits-same_whole, splits-has_left, splits-has_right, empty-same}
+use Rattle.sf_core.proofs.HeapSplits.{none-not_some, some-same, one-in, one-same}
+use Rattle.sf_core.proofs.MapSplits.{splits-comm, splits-assoc_right, splits-empty_right, splits-lacks_both, splits-lacks_whole, splits-lacks_right, splits-of_empty_left, splits-same_whole, splits-has_left, empty-same}
 use Rattle.sf_core.specs.HeapStore.{Cell, Heap, IsEmpty, IsOne, Splits}
 use Rattle.sf_core.specs.Precise.{IsPrecise}
 use Rattle.sf_core.specs.Sat.{Seg, end, cell}

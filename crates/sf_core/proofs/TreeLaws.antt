@@ -1,13 +1,13 @@
 -- Binary trees: precise, finite, without cycles.
 -- Names: `tree-LAW` speaks of `Tree left right root heap`, `leads-LAW` of the paths of a heap.
-use Rattle.std.specs.Prelude.{◌≡◌, ◌≢◌, ℕ, Option, Some, None, ◌⊎◌}
-use Rattle.std.proofs.Common.{sym, ap, ◌∙◌, refl, subst, subst₂, inl, inr}
+use Rattle.std.specs.Prelude.{◌≡◌, ◌≢◌, ℕ, Some, None, ◌⊎◌}
+use Rattle.std.proofs.Common.{sym, ap, ◌∙◌, refl, subst₂, inl, inr}
 use Rattle.sf_base.specs.declared.ids.FieldId.{FieldId}
 use Rattle.sf_base.specs.declared.value.Value.{Value}
-use Rattle.sf_base.specs.declared.value.Value.TheVariants.{Nil as nil, Int as int, Loc as loc}
+use Rattle.sf_base.specs.declared.value.Value.TheVariants.{Nil as nil, Loc as loc}
 use Rattle.sf_core.proofs.Finite.{finite-empty, finite-one, finite-splits}
 use Rattle.sf_core.proofs.HeapSplits.{at-which, none-not_some, some-same, one-in, one-same}
-use Rattle.sf_core.proofs.MapSplits.{splits-comm, splits-assoc_right, splits-assoc_left, splits-at_left, splits-lacks_both, splits-lacks_right, splits-same_whole, splits-which, splits-has_left, splits-has_right, empty-same, IsPart, part-has, part-left, part-right, part-trans}
+use Rattle.sf_core.proofs.MapSplits.{splits-comm, splits-assoc_right, splits-lacks_both, splits-lacks_right, splits-same_whole, splits-which, splits-has_left, empty-same, IsPart, part-has, part-left, part-right, part-trans}
 use Rattle.sf_core.proofs.SegLaws.{loc-same, nil-not_loc}
 use Rattle.sf_core.specs.HeapStore.{Cell, Heap, IsEmpty, IsOne, Splits}
 use Rattle.sf_core.specs.Precise.{IsPrecise}

@@ -1,6 +1,6 @@
 -- Small heaps and assertions, worked out: what the definitions say of each.
 -- The assertions are in the manner of Berdine, Calcagno, O'Hearn, "Smallfoot" (2005).
-use Rattle.std.specs.Prelude.{◌≡◌, ◌≢◌, ◌↔◌, ℕ, zero, suc, cond, ◌==◌, List, [], ◌∷◌, Some, None}
+use Rattle.std.specs.Prelude.{◌≡◌, ◌≢◌, ◌↔◌, ℕ, zero, suc, cond, ◌==◌, [], ◌∷◌, Some, None}
 use Rattle.sf_base.specs.declared.ids.FieldId.{FieldId}
 use Rattle.sf_base.specs.declared.ids.Var.{Var}
 use Rattle.sf_base.specs.declared.ids.Var.TheVariants.{Own, Shared}
@@ -16,7 +16,7 @@ use Rattle.sf_core.specs.declared.command.Expr.TheVariants.{Var as Variable, Nil
 use Rattle.sf_core.specs.Determined.{Determined}
 use Rattle.sf_core.specs.HeapStore.{Cell, Heap, IsEmpty, IsOne, Splits}
 use Rattle.sf_core.specs.Sat.{Sat, value}
-use Rattle.sf_core.specs.Syntax.{Level, level, Conjunct, Conjuncts, none, also, points, segment, tree, choose, holds}
+use Rattle.sf_core.specs.Syntax.{Level, level, none, also, points, segment, tree, choose, holds}
 
 -- where all of it stands
 abbrev pub place : Place

@@ -5,53 +5,44 @@ ghost use Rattle.sf_core.specs.Instances.{TwoCellsAreACellAndAList, NoLessIsACel
 /// `x|->tl:y * ls(y,nil)` holds of two cells in a row.
 pub fn two_cells_are_a_cell_and_a_list()
     ensures { TwoCellsAreACellAndAList }
-{
-}
+{}
 
 /// It holds of no smaller part of them.
 pub fn no_less_is_a_cell_and_a_list()
     ensures { NoLessIsACellAndAList }
-{
-}
+{}
 
 /// `if x == y then emp else x|->` chooses by its test.
 pub fn choice_goes_by_its_test()
     ensures { ChoiceGoesByItsTest }
-{
-}
+{}
 
 /// In `x|->tl:_u * _u == y` the existential takes the field's value.
 pub fn existential_is_the_fields_value()
     ensures { ExistentialIsTheFieldsValue }
-{
-}
+{}
 
 /// A node whose two fields are nil is a tree.
 pub fn one_node_is_a_tree()
     ensures { OneNodeIsATree }
-{
-}
+{}
 
 /// A segment may end at a location that has no cell.
 pub fn segment_may_end_at_an_absent_cell()
     ensures { SegmentMayEndAtAnAbsentCell }
-{
-}
+{}
 
 /// A cell that leads to itself is no segment.
 pub fn circle_is_no_segment()
     ensures { CircleIsNoSegment }
-{
-}
+{}
 
 /// `ls(_u,nil) * x|->tl:_u` is determined.
 pub fn order_is_found()
     ensures { OrderIsFound }
-{
-}
+{}
 
 /// `tree(_u)` is not determined.
 pub fn tree_of_an_unknown_is_undetermined()
     ensures { TreeOfAnUnknownIsUndetermined }
-{
-}
+{}

@@ -5,59 +5,49 @@ ghost use Rattle.sf_core.specs.Laws.{UnionIsCommutative, UnionIsAssociative, Uni
 /// The two parts of a heap may be exchanged.
 pub fn union_of_heaps_is_commutative()
     ensures { UnionIsCommutative }
-{
-}
+{}
 
 /// Of three parts of a heap the first two may be put together, or the last two.
 pub fn union_of_heaps_is_associative()
     ensures { UnionIsAssociative }
-{
-}
+{}
 
 /// A heap and one of its two parts determine the other.
 pub fn union_of_heaps_cancels()
     ensures { UnionCancels }
-{
-}
+{}
 
 /// A points-to holds of heaps with one cell, at its root.
 pub fn points_to_has_exactly_one_cell()
     ensures { PointsToHasExactlyOneCell }
-{
-}
+{}
 
 /// A list segment never has a cell at its end.
 pub fn segment_has_no_cell_at_its_end()
     ensures { SegmentHasNoCellAtItsEnd }
-{
-}
+{}
 
 /// Two segments are one, where the first has no cell at the end of the second.
 pub fn segments_compose()
     ensures { SegmentsCompose }
-{
-}
+{}
 
 /// A tree's heap is finite and has no cycle.
 pub fn tree_is_finite_and_acyclic()
     ensures { TreeIsFiniteAndAcyclic }
-{
-}
+{}
 
 /// Of each heap at most one part is a given segment, or a given tree.
 pub fn segments_and_trees_are_precise()
     ensures { SegmentsAndTreesArePrecise }
-{
-}
+{}
 
 /// Whether an assertion holds rests on the variables that occur in it alone.
 pub fn sat_speaks_of_occurring_variables()
     ensures { SatSpeaksOfOccurringVariables }
-{
-}
+{}
 
 /// A determined assertion has at most one footprint.
 pub fn determined_has_one_footprint()
     ensures { DeterminedHasOneFootprint }
-{
-}
+{}

@@ -1,0 +1,121 @@
+-- The small heaps and assertions of specs/Instances, worked out.
+use Rattle.std.specs.Prelude.{◌≡◌, ◌≢◌, ℕ, Bool, true, false, cond, Some, None, ◌==◌, [], ◌∷◌}
+use Rattle.std.proofs.Common.{true≢false, sym, ap, ◌∙◌, refl, subst, inl, inr, arith}
+use Rattle.sf_base.specs.declared.ids.FieldId.{FieldId}
+use Rattle.sf_base.specs.declared.place.Place.{Place}
+use Rattle.sf_base.specs.declared.value.Value.{Value}
+use Rattle.sf_base.specs.declared.value.Value.TheVariants.{Nil as nil, Loc as loc}
+use Rattle.sf_core.specs.declared.assertion.Operand.{Operand}
+use Rattle.sf_core.specs.declared.assertion.Test.{Test}
+use Rattle.sf_core.specs.declared.command.Expr.{Expr}
+use Rattle.sf_core.proofs.DeterminedLaws.{determined-precise}
+use Rattle.sf_core.proofs.HeapSplits.{at-other, none-not_some, some-same, one-in, one-not_empty, one-same_place, one-single, one-splits, remove_cell, star-drop_right, star-empty_right, star-map_right, star-of}
+use Rattle.sf_core.proofs.MapSplits.{empty_map, empty-holds, splits-empty_right, splits-lacks_right, splits-of_empty_right}
+use Rattle.sf_core.proofs.SegLaws.{loc-same, nil-not_loc, seg-first, seg-one}
+use Rattle.sf_core.specs.Determined.{CanBeTaken, Determined, HasOrder, IsReady, Leaves, all_taken, branches, plain, take}
+use Rattle.sf_core.specs.HeapStore.{Cell, Heap, IsOne}
+use Rattle.sf_core.specs.Instances.{ChoiceGoesByItsTest, CircleIsNoSegment, ExistentialIsTheFieldsValue, NoLessIsACellAndAList, OneNodeIsATree, OrderIsFound, SegmentMayEndAtAnAbsentCell, TreeOfAnUnknownIsUndetermined, TwoCellsAreACellAndAList, cell_and_list, l, nothing, one_cell, one_scope, place, r, tail, tl, two_cells, unknown, where_are, x, y}
+use Rattle.sf_core.specs.Sat.{SameOutside, Seg, end, cell, leaf, node, value}
+use Rattle.sf_core.specs.Syntax.{Conjunct, Conjuncts, Level, none, also, choose, points, segment, tree}
+
+loc-not_nil : (location : ℕ) → loc location ≢ nil
+loc-not_nil a e = nil-not_loc a (sym e)
+
+second-alone : (u v : Cell) (a b : Bool) → b ≡ false → cond a None (cond a (Some u) (cond b (Some v) None)) ≡ None
+second-alone u v true b e = refl
+second-alone u v false b e = ap (λ t. cond t (Some v) None) e
+
+-- without the first cell there is the second alone
+second-is_one : IsOne 2 (tail nil) (remove_cell 1 two_cells)
+second-is_one = record { here = refl; elsewhere = λ b n. second-alone (tail (loc 2)) (tail nil) (b == 1) (b == 2) (at-other 2 b n) }
+
+pub two_cells-list : TwoCellsAreACellAndAList
+two_cells-list = (
+  λ n. nil,
+  λ n o. refl,
+  star-of (one-splits 1 (tail (loc 2)) two_cells refl) (1, tail (loc 2), refl, one-single 1 (tail (loc 2)), (refl, tt))
+      (star-empty_right (seg-one 2 (tail nil) (loc-not_nil 2) refl second-is_one refl)),
+)
+
+cell_and_list-determined : Determined cell_and_list
+cell_and_list-determined = take (points place x ((tl, y) ∷ [])) (also (segment place tl y nothing) none) (inl (refl, refl)) (plain tt) (take (segment place tl y nothing) none (inl (refl, refl)) (plain (tt, tt)) (all_taken refl))
+
+pub two_cells-no_less : NoLessIsACellAndAList
+two_cells-no_less part rest s d =
+    determined-precise cell_and_list (value (where_are (loc 1) (loc 2))) (λ n. nil) cell_and_list-determined two_cells part two_cells rest empty_map s (splits-empty_right empty-holds) d two_cells-list
+
+pub choice-by_test : ChoiceGoesByItsTest
+choice-by_test v w heap = (
+  λ e. (
+    λ d. ((star-drop_right d.2).0 e).2,
+    λ m. (λ n. nil, λ n o. refl, star-empty_right (λ i. (λ n. nil, λ n o. refl, m), λ n. absurd (n e))),
+  ),
+  λ n. (
+    λ d. let f = star-drop_right ((star-drop_right d.2).1 n).2 in (f.0, f.1, f.2, f.3),
+    λ f. (λ n. nil, λ n o. refl, star-empty_right (λ i. absurd (n i), λ i. (λ n. nil, λ n o. refl, star-empty_right (f.0, f.1, f.2, f.3, tt)))),
+  ),
+)
+
+field-outside : (w : Value) → SameOutside one_scope (λ n. nil) (λ n. cond (n == 0) w nil)
+field-outside w n (inl o) = absurd (omega arith)
+field-outside w n (inr o) = ap (λ t. cond t w nil) (at-other 0 n (λ (e : n ≡ 0). omega arith))
+
+pub existential-field : ExistentialIsTheFieldsValue
+existential-field location here w = (
+  λ d.
+      let e = star-map_right (λ part f. star-drop_right f) d.2 in
+      let whole = splits-of_empty_right e.second.0 e.splits in
+      let same = one-same_place (one-single location here) (subst (IsOne e.first.0 e.first.1) (sym whole) e.first.3) in
+      ap (λ c. c 0) same.1 ∙ e.first.4.0 ∙ e.second.1,
+  λ e. (λ n. cond (n == 0) w nil, field-outside w, star-of (splits-empty_right empty-holds) (location, here, refl, one-single location here, (e, tt)) (star-empty_right (empty-holds, refl))),
+)
+
+pub one_node-tree : OneNodeIsATree
+one_node-tree location w = (
+  λ n. nil,
+  λ n o. refl,
+  star-empty_right (node location (λ field. nil) (one_cell location (λ field. nil)) empty_map empty_map empty_map refl (one-single location (λ field. nil)) (splits-empty_right empty-holds) (splits-empty_right empty-holds) (leaf refl empty-holds) (leaf refl empty-holds)),
+)
+
+one-not_nine : (n : ℕ) → n ≡ 1 → n ≡ 9 → ⊥
+one-not_nine n e f = omega arith
+
+pub segment-absent_end : SegmentMayEndAtAnAbsentCell
+segment-absent_end = (λ n. nil, λ n o. refl, star-empty_right (seg-one 1 (tail (loc 9)) (λ e. one-not_nine 1 refl (loc-same 1 9 e)) refl (one-single 1 (tail (loc 9))) refl))
+
+circle-no_seg : {to from : Value} {heap : Heap} → Seg tl to from heap → from ≡ loc 1 → IsOne 1 (tail (loc 1)) heap → ⊥
+circle-no_seg (end e m) i o = one-not_empty o m
+circle-no_seg {to} {heap = heap} (cell n a c g rest p o u d) i w =
+    let here : a ≡ 1 = loc-same a 1 (sym p ∙ i) in
+    let same : c ≡ tail (loc 1) = some-same c (tail (loc 1)) (sym (one-in o u) ∙ ap heap here ∙ w.here) in
+    let back : c 0 ≡ loc 1 = ap (λ k. k 0) same in
+    let again = seg-first (λ e. n (i ∙ sym back ∙ e)) d in
+    let there : again.0 ≡ a = loc-same again.0 a (sym again.2 ∙ back ∙ ap loc (sym here)) in
+    none-not_some again.1 (sym (splits-lacks_right a c u o.here) ∙ ap rest (sym there) ∙ again.3)
+
+pub circle-no_segment : CircleIsNoSegment
+circle-no_segment w d = circle-no_seg (star-drop_right d.2) refl (one-single 1 (tail (loc 1)))
+
+pub order-found : OrderIsFound
+order-found = take (points place x ((tl, unknown) ∷ [])) (also (segment place tl unknown nothing) none) (inr (none, inl (refl, refl), refl)) (plain tt) (take (segment place tl unknown nothing) none (inl (refl, refl)) (plain (refl, tt)) (all_taken refl))
+
+also-not_none : {E : Type 0} (c : Conjunct E) (cs : Conjuncts E) → also c cs ≡ none → ⊥
+also-not_none c cs e = cc
+
+tree-not_choose : {E : Type 0} (p q : Place) (f g : FieldId) (z : Operand E) (t : Test (Operand E)) (a b : Level E) → tree p f g z ≡ choose q t a b → ⊥
+tree-not_choose p q f g z t a b e = cc
+
+unknown-not_taken : (known : ℕ → Bool) (c : Conjunct Expr) → known 0 ≡ false → tree place l r unknown ≡ c → CanBeTaken known c → ⊥
+unknown-not_taken known c k e (plain i) = true≢false (sym (subst (IsReady known) (sym e) i) ∙ k)
+unknown-not_taken known c k e (branches p t made other this that i o a b) = tree-not_choose place p l r unknown t _ _ (e ∙ i)
+
+unknown-no_order : (known : ℕ → Bool) (cs : Conjuncts Expr) → known 0 ≡ false → also (tree place l r unknown) none ≡ cs → HasOrder known cs → ⊥
+unknown-no_order known cs k e (all_taken i) = also-not_none (tree place l r unknown) none (e ∙ i)
+unknown-no_order known cs k e (take c rest leaves f o) = go (subst (λ z. Leaves z c rest) (sym e) leaves)
+  where
+    go : Leaves (also (tree place l r unknown) none) c rest → ⊥
+    go (inl i) = unknown-not_taken known c k i.0 f
+    go (inr i) = i.1
+
+pub tree-undetermined : TreeOfAnUnknownIsUndetermined
+tree-undetermined d = unknown-no_order (λ n. false) _ refl refl d
