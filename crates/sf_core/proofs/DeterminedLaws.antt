@@ -1,42 +1,29 @@
 -- A determined level has at most one footprint.
 -- Names: `determined-LAW` speaks of levels, `order-LAW` of conjuncts in an order, `ready-LAW` of one conjunct.
-use Rattle.std.specs.Prelude.{◌≡◌, ◌⊎◌, ℕ, Bool, true, false, not, ◌&&◌, ◌||◌, List, [], ◌∷◌, Some}
+use Rattle.std.specs.Prelude.{◌≡◌, ◌⊎◌, ℕ, Bool, true, false, not, List, [], ◌∷◌, Some}
 use Rattle.std.proofs.Common.{true≢false, sym, ap, ◌∙◌, refl, subst, subst₂, inl, inr}
 use Rattle.std.specs.Cmp.{unsigned_Decides}
 use Rattle.sf_base.specs.declared.ids.FieldId.{FieldId}
+use Rattle.sf_base.specs.declared.place.Place.{Place}
 use Rattle.sf_base.specs.declared.value.Value.{Value}
+use Rattle.sf_base.specs.declared.value.Value.TheVariants.{Nil as nil}
 use Rattle.sf_core.specs.declared.assertion.Operand.{Operand}
 use Rattle.sf_core.specs.declared.assertion.Operand.TheVariants.{Known, Exists}
 use Rattle.sf_core.specs.declared.assertion.Scope.{Scope}
 use Rattle.sf_core.specs.declared.assertion.Test.{Test}
 use Rattle.sf_core.specs.declared.assertion.Test.TheVariants.{True, Equal, Differ}
-use Rattle.sf_core.proofs.HeapSplits.{one-same, some-same, star-map_right, star-swap}
-use Rattle.sf_core.proofs.MapSplits.{empty-same, splits-assoc_right, splits-comm, splits-has_left, splits-same_whole}
+use Rattle.sf_core.proofs.Cases.{and-both, either, not-true, or-which, some-same}
+use Rattle.sf_core.proofs.HeapSplits.{one-same, star-map_right, star-swap}
+use Rattle.sf_core.proofs.MapSplits.{empty-holds, splits-empty_right, empty-same, splits-assoc_right, splits-comm, splits-has_left, splits-same_whole}
 use Rattle.sf_core.proofs.SatLaws.{made-outside, test-agree, test-which}
 use Rattle.sf_core.proofs.SegLaws.{loc-same, seg-same}
 use Rattle.sf_core.proofs.TreeLaws.{tree-same}
 use Rattle.sf_core.specs.Determined.{CanBeTaken, Determined, HasOrder, IsKnown, IsReady, Leaves, all_taken, branches, is_existential, is_in_fields, is_learned, known_after, known_inside, plain, take}
-use Rattle.sf_core.specs.HeapStore.{Cell, Heap, Splits, ◌⋆◌}
+use Rattle.sf_core.specs.HeapStore.{Cell, Heap, IsOne, Splits, ◌⋆◌}
 use Rattle.sf_core.specs.Occurs.{OccursInOne, OccursInTest, is_made}
 use Rattle.sf_core.specs.Precise.{IsPrecise}
 use Rattle.sf_core.specs.Sat.{Foot, HasFields, IsTrueOf, SameOutside, Sat, SatAll, SatOne, Seg, operand}
 use Rattle.sf_core.specs.Syntax.{Conjunct, holds, points, segment, tree, choose, Level, level, Conjuncts, none, also}
-
-either : {A B C : Type 0} → A ⊎ B → (A → C) → (B → C) → C
-either (inl a) f g = f a
-either (inr b) f g = g b
-
-or-which : (a b : Bool) → a || b ≡ true → (a ≡ true) ⊎ (b ≡ true)
-or-which true b e = inl refl
-or-which false b e = inr e
-
-and-both : (a b : Bool) → a && b ≡ true → (a ≡ true) × (b ≡ true)
-and-both true b e = (refl, e)
-and-both false b e = absurd (true≢false (sym e))
-
-not-true : (a : Bool) → not a ≡ true → a ≡ false
-not-true true e = absurd (true≢false (sym e))
-not-true false e = refl
 
 -- Two choices of values for the existentials
 module _ {E : Type 0} (v : E → Value) where
@@ -44,14 +31,17 @@ module _ {E : Type 0} (v : E → Value) where
   abbrev pub Agree : (ℕ → Bool) → (ℕ → Value) → (ℕ → Value) → Type 0
   Agree known s t = (n : ℕ) → known n ≡ true → s n ≡ t n
 
-  known-same : (known : ℕ → Bool) (s t : ℕ → Value) (x : Operand E) → Agree known s t → IsKnown known x → operand v s x ≡ operand v t x
+  -- what is known has the same value
+  pub known-same : (known : ℕ → Bool) (s t : ℕ → Value) (x : Operand E) → Agree known s t → IsKnown known x → operand v s x ≡ operand v t x
   known-same known s t (Known x) a k = refl
   known-same known s t (Exists n) a k = a n k
 
+  -- an existential has the same value where the operand that it is has
   existential-same : (n : ℕ) (s t : ℕ → Value) (x : Operand E) → operand v s x ≡ operand v t x → is_existential n x ≡ true → s n ≡ t n
   existential-same n s t (Known x) e i = absurd (true≢false (sym i))
   existential-same n s t (Exists m) e i = subst (λ k. s k ≡ t k) ((unsigned_Decides m n).0 i) e
 
+  -- an existential among the values of one cell's fields has the same value
   fields-same : (n : ℕ) (s t : ℕ → Value) (fs : List (FieldId × Operand E)) (one two : Cell) → one ≡ two → HasFields (operand v s) fs one → HasFields (operand v t) fs two → is_in_fields n fs ≡ true → s n ≡ t n
   fields-same n s t [] one two e d f i = absurd (true≢false (sym i))
   fields-same n s t (g ∷ gs) one two e d f i =
@@ -65,7 +55,7 @@ module _ {E : Type 0} (v : E → Value) where
     pub learned : Agree (is_learned c) s t
 
   -- a conjunct that is ready picks out at most one heap, and fixes what is learned from it
-  ready-same : (known : ℕ → Bool) (c : Conjunct E) (s t : ℕ → Value) (heap one two other another : Heap) → IsReady known c → Agree known s t → Splits heap one other → Splits heap two another → SatOne c v s one → SatOne c v t two → Same c s t one two
+  pub ready-same : (known : ℕ → Bool) (c : Conjunct E) (s t : ℕ → Value) (heap one two other another : Heap) → IsReady known c → Agree known s t → Splits heap one other → Splits heap two another → SatOne c v s one → SatOne c v t two → Same c s t one two
   ready-same known (holds p True) s t h g k q r i a m n d e = record { heaps = empty-same d.0 e.0; learned = λ n i. absurd (true≢false (sym i)) }
   ready-same known (holds p (Equal x y)) s t h g k q r i a m n d e = record { heaps = empty-same d.0 e.0; learned = λ l j. either (or-which (is_existential l x) (is_existential l y) j) (existential-same l s t x sides.0) (existential-same l s t y sides.1) }
     where
@@ -80,7 +70,7 @@ module _ {E : Type 0} (v : E → Value) where
       let there : h e.0 ≡ Some e.1 = splits-has_left e.0 e.1 n e.3.here in
       let same : d.1 ≡ e.1 = some-same d.1 e.1 (sym here ∙ ap h place ∙ there) in
       record {
-        heaps = one-same d.3 (subst₂ (λ y z. Rattle.sf_core.specs.HeapStore.IsOne y z k) (sym place) (sym same) e.3);
+        heaps = one-same d.3 (subst₂ (λ y z. IsOne y z k) (sym place) (sym same) e.3);
         learned = λ l j. fields-same l s t fs d.1 e.1 same d.4 e.4 j;
       }
   ready-same known (segment p next x y) s t h g k q r i a m n d e = record {
@@ -91,28 +81,35 @@ module _ {E : Type 0} (v : E → Value) where
   ready-same known (choose p b this that) s t h g k q r i a m n d e = absurd i
 
   -- what one of the conjuncts says and what the others say
-  leaves-focus : (cs : Conjuncts E) (c : Conjunct E) (rest : Conjuncts E) (s : ℕ → Value) (heap : Heap) → Leaves cs c rest → SatAll cs v s heap → (SatOne c v s ⋆ SatAll rest v s) heap
+  pub leaves-focus : (cs : Conjuncts E) (c : Conjunct E) (rest : Conjuncts E) (s : ℕ → Value) (heap : Heap) → Leaves cs c rest → SatAll cs v s heap → (SatOne c v s ⋆ SatAll rest v s) heap
   leaves-focus none c rest s h l d = absurd l
   leaves-focus (also b bs) c rest s h (inl l) d = subst₂ (λ x y. (SatOne x v s ⋆ SatAll y v s) h) l.0 l.1 d
   leaves-focus (also b bs) c rest s h (inr l) d = subst (λ y. (SatOne c v s ⋆ SatAll y v s) h) (sym l.2) (star-swap (star-map_right (λ part f. leaves-focus bs c l.0 s part l.1 f) d))
 
+  -- the way back
+  pub leaves-unfocus : (cs : Conjuncts E) (c : Conjunct E) (rest : Conjuncts E) (s : ℕ → Value) (heap : Heap) → Leaves cs c rest → (SatOne c v s ⋆ SatAll rest v s) heap → SatAll cs v s heap
+  leaves-unfocus none c rest s h l d = absurd l
+  leaves-unfocus (also b bs) c rest s h (inl l) d = subst₂ (λ x y. (SatOne x v s ⋆ SatAll y v s) h) (sym l.0) (sym l.1) d
+  leaves-unfocus (also b bs) c rest s h (inr l) d = star-map_right (λ part f. leaves-unfocus bs c l.0 s part l.1 f) (star-swap (subst (λ y. (SatOne c v s ⋆ SatAll y v s) h) l.2 d))
+
   -- what is known stays so inside a level
-  inside-agree : (known : ℕ → Bool) (made : Scope) (s t here there : ℕ → Value) → SameOutside made s here → SameOutside made t there → Agree known s t → Agree (known_inside made known) here there
+  pub inside-agree : (known : ℕ → Bool) (made : Scope) (s t here there : ℕ → Value) → SameOutside made s here → SameOutside made t there → Agree known s t → Agree (known_inside made known) here there
   inside-agree known made s t here there o w a n i =
       let j = and-both (known n) (not (is_made made n)) i in
       let k = made-outside made n (not-true (is_made made n) j.1) in
       o n k ∙ a n j.0 ∙ sym (w n k)
 
-  after-agree : (known : ℕ → Bool) (c : Conjunct E) (s t : ℕ → Value) → Agree known s t → Agree (is_learned c) s t → Agree (known_after c known) s t
+  -- what is known and what is learned are known
+  pub after-agree : (known : ℕ → Bool) (c : Conjunct E) (s t : ℕ → Value) → Agree known s t → Agree (is_learned c) s t → Agree (known_after c known) s t
   after-agree known c s t a b n i = either (or-which (known n) (is_learned c n) i) (a n) (b n)
 
   -- an operand that occurs in a choice from outside has the same value
-  occurs-same : (known : ℕ → Bool) (c : Conjunct E) (s t : ℕ → Value) → Agree known s t → ((n : ℕ) → OccursInOne c (Exists n) → known n ≡ true) → (x : Operand E) → OccursInOne c x → operand v s x ≡ operand v t x
+  pub occurs-same : (known : ℕ → Bool) (c : Conjunct E) (s t : ℕ → Value) → Agree known s t → ((n : ℕ) → OccursInOne c (Exists n) → known n ≡ true) → (x : Operand E) → OccursInOne c x → operand v s x ≡ operand v t x
   occurs-same known c s t a k (Known x) i = refl
   occurs-same known c s t a k (Exists n) i = a n (k n i)
 
   -- the branch that the test chooses
-  choose-which : (p : Rattle.sf_base.specs.declared.place.Place.Place) (b : Test (Operand E)) (this that : Level E) (s t : ℕ → Value) (one two : Heap)
+  pub choose-which : (p : Place) (b : Test (Operand E)) (this that : Level E) (s t : ℕ → Value) (one two : Heap)
       → ((x : Operand E) → OccursInTest b x → operand v s x ≡ operand v t x) → SatOne (choose p b this that) v s one → SatOne (choose p b this that) v t two → (Sat this v s one × Sat this v t two) ⊎ (Sat that v s one × Sat that v t two)
   choose-which p b this that s t g k a d e = go (test-which (operand v s) b)
     where
@@ -122,7 +119,7 @@ module _ {E : Type 0} (v : E → Value) where
 
   mutual
     -- conjuncts that have an order pick out at most one heap
-    order-same : (known : ℕ → Bool) (cs : Conjuncts E) → HasOrder known cs → (s t : ℕ → Value) (heap one two other another : Heap) → Agree known s t → Splits heap one other → Splits heap two another → SatAll cs v s one → SatAll cs v t two → one ≡ two
+    pub order-same : (known : ℕ → Bool) (cs : Conjuncts E) → HasOrder known cs → (s t : ℕ → Value) (heap one two other another : Heap) → Agree known s t → Splits heap one other → Splits heap two another → SatAll cs v s one → SatAll cs v t two → one ≡ two
     order-same known cs (all_taken i) s t h g k q r a m n d e = empty-same (subst (λ z. SatAll z v s g) i d) (subst (λ z. SatAll z v t k) i e)
     order-same known cs (take c rest l f o) s t h g k q r a m n d e =
         let x = leaves-focus cs c rest s g l d in
@@ -132,7 +129,7 @@ module _ {E : Type 0} (v : E → Value) where
         splits-same_whole (subst₂ (Splits g) first.heaps second x.splits) y.splits
 
     -- so does one of them, and what is learned from it is the same
-    taken-same : (known : ℕ → Bool) (c : Conjunct E) → CanBeTaken known c → (s t : ℕ → Value) (heap one two other another : Heap) → Agree known s t → Splits heap one other → Splits heap two another → SatOne c v s one → SatOne c v t two → Same c s t one two
+    pub taken-same : (known : ℕ → Bool) (c : Conjunct E) → CanBeTaken known c → (s t : ℕ → Value) (heap one two other another : Heap) → Agree known s t → Splits heap one other → Splits heap two another → SatOne c v s one → SatOne c v t two → Same c s t one two
     taken-same known c (plain i) s t h g k q r a m n d e = ready-same known c s t h g k q r i a m n d e
     taken-same known c (branches p b made other this that i o x y) s t h g k q r a m n d e =
         let whole = choose p b (level made this) (level other that) in
@@ -151,3 +148,11 @@ determined-precise (level made cs) v some o h g k q r m n d e = order-same v (λ
 -- a determined level has at most one footprint
 pub determined-one_footprint : {E : Type 0} (a : Level E) (v : E → Value) (heap one two : Heap) → Determined a → Foot a v heap one → Foot a v heap two → one ≡ two
 determined-one_footprint a v heap one two o f g = determined-precise a v _ o heap one two f.rest g.rest f.splits g.splits f.sat g.sat
+
+-- a footprint in a part of a heap is one in the heap
+pub foot-whole : {E : Type 0} {a : Level E} {v : E → Value} {whole heap rest part : Heap} → Splits whole heap rest → Foot a v heap part → Foot a v whole part
+foot-whole s f = record { rest = _; splits = (splits-assoc_right f.splits s).1; sat = f.sat }
+
+-- a heap that satisfies a level is its own footprint
+pub foot-self : {E : Type 0} {a : Level E} {v : E → Value} {heap : Heap} → Sat a v (λ n. nil) heap → Foot a v heap heap
+foot-self d = record { rest = _; splits = splits-empty_right empty-holds; sat = d }

@@ -3,7 +3,8 @@
 use Rattle.std.specs.Prelude.{◌≡◌, ◌≢◌, ℕ, Bool, true, false, cond, Option, Some, None, ◌⊎◌, ◌↔◌, ◌==◌}
 use Rattle.std.proofs.Common.{sym, ap, ◌∙◌, refl, subst, inl, inr, arith}
 use Rattle.std.proofs.lemmas.Bool.Decides.{nat_tests}
-use Rattle.sf_core.proofs.MapSplits.{empty_map, empty-holds, changed, only, map-same, splits-comm, splits-assoc_right, splits-assoc_left, splits-by_test, splits-changed_left, splits-cancel_left, splits-has_left, splits-lacks_right, splits-empty_left, splits-empty_right, splits-of_empty_left, splits-of_empty_right}
+use Rattle.sf_core.proofs.Cases.{none-not_some, some-same}
+use Rattle.sf_core.proofs.MapSplits.{empty_map, empty-holds, changed, only, map-same, splits-comm, splits-assoc_right, splits-assoc_left, splits-by_test, splits-changed_left, splits-put_left, splits-lacks_both, splits-cancel_left, splits-has_left, splits-lacks_right, splits-empty_left, splits-empty_right, splits-of_empty_left, splits-of_empty_right}
 use Rattle.sf_core.specs.HeapStore.{Cell, Heap, IsEmpty, IsOne, Splits, ◌⋆◌}
 
 -- the test for one location
@@ -66,12 +67,6 @@ one-is {location} {cell} {heap} o = map-same heap (single location cell) (λ b. 
 pub one-same : {location : ℕ} {cell : Cell} {one two : Heap} → IsOne location cell one → IsOne location cell two → one ≡ two
 one-same o p = one-is o ∙ sym (one-is p)
 
-pub some-same : {X : Type 0} (x y : X) → Some x ≡ Some y → x ≡ y
-some-same x y e = cc
-
-pub none-not_some : {X : Type 0} (x : X) → None ≡ Some x → ⊥
-none-not_some x e = cc
-
 -- a heap has one cell at one place
 pub one-same_place : {location other : ℕ} {cell also : Cell} {heap : Heap} → IsOne location cell heap → IsOne other also heap → (location ≡ other) × (cell ≡ also)
 one-same_place {location} {other} {cell} {also} {heap} o p = go (at-which other location)
@@ -113,13 +108,33 @@ one-rest {heap} {one} {rest} {location} {cell} o s =
 pub one-put : (location : ℕ) (cell : Cell) (heap : Heap) → heap location ≡ None → Splits (put_cell location cell heap) (single location cell) heap
 one-put a c h e = splits-changed_left (at_ a) (Some c) (λ b t. subst (λ z. h z ≡ None) (sym (at-same a b t)) e) (splits-empty_left (record { none = λ b. refl }))
 
--- a cell of the left part that is changed is changed in the whole
-pub splits-put_left : {whole left right : Heap} (location : ℕ) (old : Cell) (entry : Option Cell) → Splits whole left right → left location ≡ Some old → Splits (changed (at_ location) entry whole) (changed (at_ location) entry left) right
-splits-put_left {right = right} a old v s e = splits-changed_left (at_ a) v (λ b t. subst (λ z. right z ≡ None) (sym (at-same a b t)) (splits-lacks_right a old s e)) s
+-- a cell of the left part that is changed or removed is changed or removed in the whole
+pub cell-change_left : {whole left right : Heap} (location : ℕ) (old : Cell) (entry : Option Cell) → Splits whole left right → left location ≡ Some old → Splits (changed (at_ location) entry whole) (changed (at_ location) entry left) right
+cell-change_left a old v s e = splits-put_left (at_ a) a v (at-same a) (splits-lacks_right a old s e) s
+
+-- a cell of the right part that is changed or removed is changed or removed in the whole
+pub cell-change_right : {whole left right : Heap} (location : ℕ) (old : Cell) (entry : Option Cell) → Splits whole left right → right location ≡ Some old → Splits (changed (at_ location) entry whole) left (changed (at_ location) entry right)
+cell-change_right a old v s e = splits-comm (cell-change_left a old v (splits-comm s) e)
 
 -- a cell that is put where the whole has nothing may be put in the left part
-pub splits-new_left : {whole left right : Heap} (location : ℕ) (entry : Option Cell) → Splits whole left right → right location ≡ None → Splits (changed (at_ location) entry whole) (changed (at_ location) entry left) right
-splits-new_left {right = right} a v s e = splits-changed_left (at_ a) v (λ b t. subst (λ z. right z ≡ None) (sym (at-same a b t)) e) s
+pub cell-new_left : {whole left right : Heap} (location : ℕ) (entry : Option Cell) → Splits whole left right → whole location ≡ None → Splits (changed (at_ location) entry whole) (changed (at_ location) entry left) right
+cell-new_left a v s e = splits-put_left (at_ a) a v (at-same a) (splits-lacks_both a s e).1 s
+
+-- a cell that is put where the whole has nothing may be put in the right part
+pub cell-new_right : {whole left right : Heap} (location : ℕ) (entry : Option Cell) → Splits whole left right → whole location ≡ None → Splits (changed (at_ location) entry whole) left (changed (at_ location) entry right)
+cell-new_right a v s e = splits-comm (cell-new_left a v (splits-comm s) e)
+
+-- a cell that is put in place of another is the only one
+pub one-put_cell : {location : ℕ} {old : Cell} {heap : Heap} (new : Cell) → IsOne location old heap → IsOne location new (put_cell location new heap)
+one-put_cell {location} {heap = heap} new o = record { here = put-here location (Some new) heap; elsewhere = λ b n. put-elsewhere location b (Some new) heap n ∙ o.elsewhere b n }
+
+-- without its only cell a heap is empty
+pub one-remove_cell : {location : ℕ} {cell : Cell} {heap : Heap} → IsOne location cell heap → IsEmpty (remove_cell location heap)
+one-remove_cell {location} {heap = heap} o = record { none = λ b. go b (at-which location b) }
+  where
+    go : (b : ℕ) → (b ≡ location) ⊎ (b ≢ location) → remove_cell location heap b ≡ None
+    go b (inl e) = subst (λ z. remove_cell location heap z ≡ None) (sym e) (put-here location None heap)
+    go b (inr n) = put-elsewhere location b None heap n ∙ o.elsewhere b n
 
 -- one cell in a part of a heap is in the heap
 pub one-in : {heap one rest : Heap} {location : ℕ} {cell : Cell} → IsOne location cell one → Splits heap one rest → heap location ≡ Some cell

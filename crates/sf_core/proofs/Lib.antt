@@ -1,3 +1,4 @@
+pub mod Cases
 pub mod MapSplits
 pub mod HeapSplits
 pub mod HeapSums
@@ -8,3 +9,5 @@ pub mod TreeLaws
 pub mod SatLaws
 pub mod DeterminedLaws
 pub mod Worked
+pub mod StoreSplits
+pub mod OrderLaws

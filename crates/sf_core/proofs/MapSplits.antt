@@ -264,6 +264,14 @@ module _ {K X : Type 0} where
   pub splits-changed_right : {whole left right : Map K X} (test : K → Bool) (entry : Option X) → ((key : K) → test key ≡ true → left key ≡ None) → Splits whole left right → Splits (changed test entry whole) left (changed test entry right)
   splits-changed_right test v n s = splits-comm (splits-changed_left test v n (splits-comm s))
 
+  -- a change at one key that the right part lacks is one of the left part; the test is true of that key alone
+  pub splits-put_left : {whole left right : Map K X} (test : K → Bool) (here : K) (entry : Option X) → ((key : K) → test key ≡ true → key ≡ here) → right here ≡ None → Splits whole left right → Splits (changed test entry whole) (changed test entry left) right
+  splits-put_left {right = right} test here v only_here n s = splits-changed_left test v (λ a t. subst (λ z. right z ≡ None) (sym (only_here a t)) n) s
+
+  -- a change at one key that the left part lacks is one of the right part
+  pub splits-put_right : {whole left right : Map K X} (test : K → Bool) (here : K) (entry : Option X) → ((key : K) → test key ≡ true → key ≡ here) → left here ≡ None → Splits whole left right → Splits (changed test entry whole) left (changed test entry right)
+  splits-put_right test here v only_here n s = splits-comm (splits-put_left test here v only_here n (splits-comm s))
+
   -- a map splits by any test of its keys
   pub splits-by_test : (test : K → Bool) (map : Map K X) → Splits map (only test map) (changed test None map)
   splits-by_test test map = record { apart = λ a. apart-by_test (test a) (map a); is = λ a. or-by_test (test a) (map a) }

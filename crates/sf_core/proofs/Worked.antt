@@ -9,7 +9,8 @@ use Rattle.sf_core.specs.declared.assertion.Operand.{Operand}
 use Rattle.sf_core.specs.declared.assertion.Test.{Test}
 use Rattle.sf_core.specs.declared.command.Expr.{Expr}
 use Rattle.sf_core.proofs.DeterminedLaws.{determined-precise}
-use Rattle.sf_core.proofs.HeapSplits.{at-other, none-not_some, some-same, one-in, one-not_empty, one-same_place, one-single, one-splits, remove_cell, star-drop_right, star-empty_right, star-map_right, star-of}
+use Rattle.sf_core.proofs.Cases.{none-not_some, some-same}
+use Rattle.sf_core.proofs.HeapSplits.{at-other, one-in, one-not_empty, one-same_place, one-single, one-splits, remove_cell, star-drop_right, star-empty_right, star-map_right, star-of}
 use Rattle.sf_core.proofs.MapSplits.{empty_map, empty-holds, splits-empty_right, splits-lacks_right, splits-of_empty_right}
 use Rattle.sf_core.proofs.SegLaws.{loc-same, nil-not_loc, seg-first, seg-one}
 use Rattle.sf_core.specs.Determined.{CanBeTaken, Determined, HasOrder, IsReady, Leaves, all_taken, branches, plain, take}

@@ -22,26 +22,31 @@ use Rattle.sf_core.specs.Syntax.{Level, level, none, also, points, segment, tree
 abbrev pub place : Place
 place = record { line = 1; column = 1 }
 
--- the fields tl, l and r
+-- the field tl of lists
 abbrev pub tl : FieldId
 tl = record { 0 = 0 }
 
+-- the left field of trees
 abbrev pub l : FieldId
 l = record { 0 = 1 }
 
+-- the right field of trees
 abbrev pub r : FieldId
 r = record { 0 = 2 }
 
--- the variables x and y, nil, and the existential of number 0
+-- the variable x
 abbrev pub x : Operand Expr
 x = Known (Variable (record { var = Own 0; place = place }))
 
+-- the variable y
 abbrev pub y : Operand Expr
 y = Known (Variable (record { var = Own 1; place = place }))
 
+-- nil
 abbrev pub nothing : Operand Expr
 nothing = Known Nil
 
+-- the existential of number 0
 abbrev pub unknown : Operand Expr
 unknown = Exists 0
 
@@ -51,10 +56,11 @@ where_are v w (Own zero) = v
 where_are v w (Own (suc n)) = w
 where_are v w (Shared s n) = nil
 
--- no existentials, and the one of number 0
+-- no existentials are made
 abbrev pub no_scope : Scope
 no_scope = record { first = 0; count = 0 }
 
+-- the existential of number 0 is made
 abbrev pub one_scope : Scope
 one_scope = record { first = 0; count = 1 }
 

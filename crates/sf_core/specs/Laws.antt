@@ -1,6 +1,6 @@
 -- Laws of heaps and assertions, each in words of its own: what a reader may expect of the definitions.
 -- Reynolds, "Separation Logic" (2002); O'Hearn, Yang, Reynolds, "Separation and Information Hiding" (2004) for precision.
-use Rattle.std.specs.Prelude.{◌≡◌, ◌≢◌, ◌↔◌, ℕ, List, None}
+use Rattle.std.specs.Prelude.{◌≡◌, ◌≢◌, ◌↔◌, ℕ, Bool, List, None}
 use Rattle.sf_base.specs.declared.ids.FieldId.{FieldId}
 use Rattle.sf_base.specs.declared.ids.Var.{Var}
 use Rattle.sf_base.specs.declared.place.Place.{Place}
@@ -8,13 +8,13 @@ use Rattle.sf_base.specs.declared.value.Value.{Value}
 use Rattle.sf_base.specs.declared.value.Value.TheVariants.{Loc as loc}
 use Rattle.sf_core.specs.declared.assertion.Operand.{Operand}
 use Rattle.sf_core.specs.declared.command.Expr.{Expr}
-use Rattle.sf_core.specs.Determined.{Determined}
+use Rattle.sf_core.specs.Determined.{CanBeTaken, Determined, HasOrder, Leaves, known_after}
 use Rattle.sf_core.specs.HeapStore.{Heap, Splits}
 use Rattle.sf_core.specs.Occurs.{VarOccursIn}
 use Rattle.sf_core.specs.Precise.{IsPrecise}
 use Rattle.sf_core.specs.Sat.{Foot, Sat, SatOne, Seg, Tree, operand, value}
 use Rattle.sf_core.specs.Shape.{IsAcyclic, IsFinite}
-use Rattle.sf_core.specs.Syntax.{Level, points, segment, tree}
+use Rattle.sf_core.specs.Syntax.{Conjunct, Conjuncts, Level, points, segment, tree}
 
 -- the two parts of a heap may be exchanged
 abbrev pub UnionIsCommutative : Type 0
@@ -60,3 +60,7 @@ SatSpeaksOfOccurringVariables = (assertion : Level Expr) (before after : Var →
 -- a determined assertion has at most one footprint in each heap
 abbrev pub DeterminedHasOneFootprint : Type 0
 DeterminedHasOneFootprint = (assertion : Level Expr) (vars : Var → Value) (heap one two : Heap) → Determined assertion → Foot assertion (value vars) heap one → Foot assertion (value vars) heap two → one ≡ two
+
+-- where conjuncts have an order, any one of them that can be taken may come first
+abbrev pub AnyReadyConjunctMayComeFirst : Type 0
+AnyReadyConjunctMayComeFirst = (known : ℕ → Bool) (cs rest : Conjuncts Expr) (c : Conjunct Expr) → Leaves cs c rest → CanBeTaken known c → HasOrder known cs → HasOrder (known_after c known) rest

@@ -1,6 +1,6 @@
 //! Laws of heaps and assertions. Each function does nothing; its contract is the law.
 
-ghost use Rattle.sf_core.specs.Laws.{UnionIsCommutative, UnionIsAssociative, UnionCancels, PointsToHasExactlyOneCell, SegmentHasNoCellAtItsEnd, SegmentsCompose, TreeIsFiniteAndAcyclic, SegmentsAndTreesArePrecise, SatSpeaksOfOccurringVariables, DeterminedHasOneFootprint};
+ghost use Rattle.sf_core.specs.Laws.{UnionIsCommutative, UnionIsAssociative, UnionCancels, PointsToHasExactlyOneCell, SegmentHasNoCellAtItsEnd, SegmentsCompose, TreeIsFiniteAndAcyclic, SegmentsAndTreesArePrecise, SatSpeaksOfOccurringVariables, DeterminedHasOneFootprint, AnyReadyConjunctMayComeFirst};
 
 /// The two parts of a heap may be exchanged.
 pub fn union_of_heaps_is_commutative()
@@ -50,4 +50,9 @@ pub fn sat_speaks_of_occurring_variables()
 /// A determined assertion has at most one footprint.
 pub fn determined_has_one_footprint()
     ensures { DeterminedHasOneFootprint }
+{}
+
+/// Which of the conjuncts that are ready is taken first does not matter.
+pub fn any_ready_conjunct_may_come_first()
+    ensures { AnyReadyConjunctMayComeFirst }
 {}
