@@ -50,7 +50,7 @@ nothing = Known Nil
 abbrev pub unknown : Operand Expr
 unknown = Exists 0
 
--- the values of x and y; other variables are nil
+-- the value of x, and that of y and every later variable of the procedure; variables of resources are nil
 abbrev pub where_are : Value → Value → Var → Value
 where_are v w (Own zero) = v
 where_are v w (Own (suc n)) = w
