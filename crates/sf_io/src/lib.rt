@@ -10,6 +10,8 @@ pub mod mem_sink;
 pub mod shelf;
 pub mod sink;
 pub mod std_sink;
+#[cfg(test)]
+mod tests;
 
 pub use file_shelf::FileShelf;
 pub use gate::{Gate, OpenGate, Point};
