@@ -1,3 +1,3 @@
 pub mod FailedNames
-pub mod Roses
+pub mod Reading
 pub mod Written

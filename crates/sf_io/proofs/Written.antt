@@ -1,13 +1,7 @@
 -- What is written by several pieces.
-use Rattle.std.proofs.Common.{◌≡◌, ℕ, ◌+◌, List, [], ◌++◌, take, drop, Option, Some, None, refl, ap, append_assoc}
+use Rattle.std.proofs.Common.{◌≡◌, ℕ, ◌+◌, List, ◌++◌, take, drop, Option, Some, None, refl, ap, append_assoc}
 use Rattle.std.proofs.Math.Seq.{take-add}
-use Rattle.std.proofs.lemmas.List.{append-nil}
 use Rattle.sf_io.specs.Sink.{with_bytes}
-
--- nothing more
-pub with_bytes-nil : (before : Option (List ℕ)) → with_bytes before [] ≡ before
-with_bytes-nil None = refl
-with_bytes-nil (Some bytes) = ap Some (append-nil bytes)
 
 -- one piece after another
 pub with_bytes-with_bytes : (before : Option (List ℕ)) (first second : List ℕ) →

@@ -1,4 +1,4 @@
-ghost use Rattle.std.specs.Prelude.{◌≡◌, [], OnOk, OnErr};
+ghost use Rattle.std.specs.Prelude.{◌≡◌, [], ◌++◌, take, IfSome, OnOk, OnErr};
 ghost use Rattle.sf_io.specs.Shelf.{GrewAtMost};
 
 use crate::failures::{failed_at, room_for};
@@ -78,9 +78,12 @@ fn read_file<R: Files>(rt: &R, name: &str, most: usize, out: &mut Vec<u8>) -> Re
     read
 }
 
-// Appends what the file gives, until it ends or `most` bytes were read.
+// Appends what the file gives, until it ends or `most` bytes were read. That is all that is due of a
+// file which tells its bytes.
 fn read_at_most<F: Read>(file: &mut F, most: usize, out: &mut Vec<u8>) -> Result<(), FetchFault>
-    ensures { GrewAtMost most out.old.items out.new.items }
+    ensures grew { GrewAtMost most out.old.items out.new.items }
+    ensures told { OnOk result (IfSome (F.remaining file.old)
+        (λ bytes. out.new.items ≡ out.old.items ++ take most bytes)) }
 {
     let mut chunk = [0u8; CHUNK];
     let mut left = most;

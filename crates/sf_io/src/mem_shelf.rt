@@ -90,12 +90,8 @@ fn append_first(bytes: &[u8], most: usize, out: &mut Vec<u8>) -> Result<(), Fetc
     ensures err { OnErr result (out.new.items ≡ out.old.items) }
     ensures cause { OnErr result (result ≡ Err FetchFault.OutOfMemory) }
 {
-    let first = if most < bytes.len() {
-        &bytes[..most]
-    } else {
-        bytes
-    };
-    match out.extend_from_slice(first) {
+    let most = most.min(bytes.len());
+    match out.extend_from_slice(&bytes[..most]) {
         Ok(()) => Ok(()),
         Err(AllocError) => Err(FetchFault::OutOfMemory),
     }
