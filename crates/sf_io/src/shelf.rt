@@ -18,8 +18,10 @@ pub enum FetchFault {
 /// A map from names to bytes, and for each name a count of faults. A shelf that tells its map has
 /// it as `files`; whether it tells it or not, no call changes the map, and no count ever falls.
 pub trait Shelf {
+    // The bytes under each name, where the shelf tells them.
     ghost files: { Self → Option Files };
 
+    // How many faults there were at each name.
     ghost faults: { Self → List ℕ → ℕ };
 
     /// Appends the first `most` bytes of the file with that name, or all of it where it is shorter.

@@ -18,8 +18,10 @@ pub enum SinkFault {
 /// What takes the bytes of an answer. A sink that tells the bytes that were written has them as
 /// `written`; whether it tells them or not, its count of faults never falls.
 pub trait Sink {
+    // The bytes that were written, where the sink tells them.
     ghost written: { Self → Option (List ℕ) };
 
+    // How many faults there were.
     ghost faults: { Self → ℕ };
 
     /// Takes the first bytes of the piece, at least one of a piece that has any, and answers how
