@@ -1,5 +1,5 @@
-ghost use Rattle.std.specs.Prelude.{◌≡◌, [], ◌∷◌, ◌++◌, ◌↔◌, IsTrue, Contains, OnOk, OnErr};
-ghost use Rattle.sf_io.specs.Calls.{Plan, one_more};
+ghost use Rattle.std.specs.Prelude.{◌≡◌, [], ◌∷◌, ◌++◌, ◌↔◌, IsTrue, OnOk, OnErr};
+ghost use Rattle.sf_io.specs.Calls.{Plan, after_call, IsDue};
 
 use std::alloc::{AllocError, Global};
 use std::marker::Model;
@@ -41,8 +41,8 @@ impl Calls {
 
     /// Counts one more call, and says whether it is to fail.
     pub(crate) fn next_fails(&mut self) -> bool
-        ensures counted { self.new ≡ record self.old { made = one_more self.old.made } }
-        ensures answer { IsTrue result ↔ Contains self.old.failing self.new.made }
+        ensures counted { self.new ≡ after_call self.old }
+        ensures answer { IsTrue result ↔ IsDue self.old }
     {
         self.made = self.made.saturating_add(1);
         self.failing.contains(&self.made)

@@ -1,4 +1,5 @@
-ghost use Rattle.std.specs.Prelude.{◌≡◌, [], ◌∷◌, ◌++◌, OnOk, OnErr};
+ghost use Rattle.std.specs.Prelude.{◌≡◌, ◌<◌, ◌≤◌, ◌⊎◌, ◌↔◌, [], ◌∷◌, ◌++◌, length, min, take, IsOk, IfOk, OnOk, OnErr, IsErrOf};
+ghost use Rattle.sf_io.specs.Calls.{one_more, after_call, IsDue};
 
 use crate::calls::Calls;
 use crate::sink::{Sink, SinkFault};
@@ -53,6 +54,33 @@ impl MemSink {
     {
         self.bytes.as_slice()
     }
+
+    // Counts a call, and takes what it takes of a piece that isn't empty.
+    fn take(&mut self, piece: &[u8]) -> Result<usize, SinkFault>
+        requires { 0 < length piece.now }
+        ensures calls { self.new.calls ≡ after_call self.old.calls }
+        ensures most { self.new.most ≡ self.old.most }
+        ensures count { IfOk result (λ n. n ≡ min (length piece.now) self.old.most) }
+        ensures bytes { IfOk result (λ n. self.new.bytes ≡ self.old.bytes ++ take n piece.now) }
+        ensures refused { OnErr result (self.new.bytes ≡ self.old.bytes) }
+        ensures failed { IsErrOf result SinkFault.Failed
+            ↔ (IsDue self.old.calls ⊎ self.old.most ≡ 0) }
+        ensures fault { IsErrOf result SinkFault.Failed
+            → self.new.faults ≡ one_more self.old.faults }
+        ensures no_fault { IsOk result ⊎ IsErrOf result SinkFault.OutOfMemory
+            → self.new.faults ≡ self.old.faults }
+        ensures never_fewer { self.old.faults ≤ self.new.faults }
+    {
+        if self.calls.next_fails() || self.most == 0 {
+            self.faults = self.faults.saturating_add(1);
+            return Err(SinkFault::Failed);
+        }
+        let taken = piece.len().min(self.most);
+        match self.bytes.extend_from_slice(&piece[..taken]) {
+            Ok(()) => Ok(taken),
+            Err(AllocError) => Err(SinkFault::OutOfMemory),
+        }
+    }
 }
 
 impl Sink for MemSink {
@@ -66,14 +94,6 @@ impl Sink for MemSink {
         if piece.is_empty() {
             return Ok(0);
         }
-        if self.calls.next_fails() || self.most == 0 {
-            self.faults = self.faults.saturating_add(1);
-            return Err(SinkFault::Failed);
-        }
-        let taken = piece.len().min(self.most);
-        match self.bytes.extend_from_slice(&piece[..taken]) {
-            Ok(()) => Ok(taken),
-            Err(AllocError) => Err(SinkFault::OutOfMemory),
-        }
+        self.take(piece)
     }
 }
