@@ -1,9 +1,11 @@
 -- How often a name has failed, after one more failure.
-use Rattle.std.proofs.Common.{◌≡◌, ◌≢◌, ◌≤◌, ◌+◌, ℕ, List, [], ◌∷◌, ◌++◌, true, false, refl, sym, arith}
+use Rattle.std.proofs.Common.{◌≡◌, ◌≢◌, ◌≤◌, ◌+◌, ℕ, List, [], ◌∷◌, ◌++◌, true, false, refl, sym, inl, inr, ◌⊎◌, Result, Ok, Err, IsOk, IsErrOf, arith}
 use Rattle.std.specs.Str.{bytes_eq}
 use Rattle.std.proofs.lemmas.Grind.{common_steps}
 use Rattle.std.proofs.lemmas.Slice.Eq.{bytes_eq-Decides}
 use Rattle.std.proofs.lemmas.Bool.{false_from_ne_true}
+use Rattle.sf_io.specs.declared.shelf.FetchFault.{FetchFault}
+use Rattle.sf_io.specs.declared.shelf.FetchFault.TheVariants.{Failed, OutOfMemory}
 use Rattle.sf_io.specs.Shelf.{failures_of}
 
 -- the name that failed stands there once more
@@ -27,3 +29,11 @@ pub failures_of-append_le : (failed : List (List ℕ)) (name any : List ℕ) →
     failures_of failed any ≤ failures_of (failed ++ name ∷ []) any
 unfolding failures_of
 failures_of-append_le failed name any = grind (arith, common_steps)
+
+-- whatever the answer, the list is as before, or has one name more
+pub same_or_more : (answer : Result (Unit {0}) FetchFault) (old new more : List (List ℕ)) →
+    (IsErrOf answer Failed → new ≡ more) → (IsOk answer ⊎ IsErrOf answer OutOfMemory → new ≡ old) →
+    (new ≡ old) ⊎ (new ≡ more)
+same_or_more (Ok done) old new more fault no_fault = inl (no_fault (inl refl))
+same_or_more (Err Failed) old new more fault no_fault = inr (fault refl)
+same_or_more (Err OutOfMemory) old new more fault no_fault = inl (no_fault (inr refl))

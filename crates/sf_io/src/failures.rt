@@ -1,4 +1,4 @@
-ghost use Rattle.std.specs.Prelude.{◌≡◌, ◌≢◌, ◌+◌, ◌<◌, ◌≤◌, ℕ, List, Err, IfOk, OnOk, OnErr, vec_len, vec_capacity};
+ghost use Rattle.std.specs.Prelude.{◌≡◌, ◌≢◌, ◌+◌, ◌<◌, ◌≤◌, ℕ, List, [], ◌∷◌, ◌++◌, Err, IfOk, OnOk, OnErr, vec_len, vec_capacity};
 ghost use Rattle.sf_io.specs.Shelf.{failures_of};
 
 use crate::shelf::FetchFault;
@@ -31,6 +31,7 @@ pub(crate) fn room_for(
 pub(crate) fn failed_at(failed: &mut Vec<Name>, name: Name) -> Result<(), FetchFault>
     requires { vec_len failed.old < vec_capacity failed.old }
     ensures answer { result ≡ Err FetchFault.Failed }
+    ensures list { failed.new.items ≡ failed.old.items ++ name ∷ [] }
     ensures counted { failures_of failed.new.items name ≡ failures_of failed.old.items name + 1 }
     ensures others { (other : List ℕ) → other ≢ name
         → failures_of failed.new.items other ≡ failures_of failed.old.items other }

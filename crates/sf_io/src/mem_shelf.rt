@@ -1,4 +1,5 @@
-ghost use Rattle.std.specs.Prelude.{◌≡◌, ℕ, List, [], ◌∷◌, ◌++◌, None, Err, OnOk, OnErr, take};
+ghost use Rattle.std.specs.Prelude.{◌≡◌, ℕ, List, [], ◌∷◌, ◌++◌, ◌⊎◌, None, Err, IsOk, IsErr, IsSomeAnd, IsErrOf, OnOk, OnErr, take};
+ghost use Rattle.sf_io.specs.Calls.{after_call, IsDue};
 ghost use Rattle.sf_io.specs.Shelf.{GrewAtMost};
 
 use crate::calls::Calls;
@@ -60,6 +61,32 @@ impl MemShelf {
     {
         self.calls.fail_at(call)
     }
+
+    // Counts a call where there is room for a fault, and hands out what that call does.
+    fn give(&mut self, name: &str, most: usize, out: &mut Vec<u8>) -> Result<(), FetchFault>
+        ensures files { files_of self.new ≡ files_of self.old }
+        ensures calls { OnOk result (calls_of self.new ≡ after_call (calls_of self.old)) }
+        ensures due { IsDue (calls_of self.old) → IsErr result }
+        ensures given { OnOk result (IsSomeAnd (files_of self.old name.now)
+            (λ bytes. out.new.items ≡ out.old.items ++ take most bytes)) }
+        ensures grew { OnOk result (GrewAtMost most out.old.items out.new.items) }
+        ensures refused { OnErr result (out.new.items ≡ out.old.items) }
+        ensures failed { IsErrOf result FetchFault.Failed
+            → IsDue (calls_of self.old) ⊎ files_of self.old name.now ≡ None }
+        ensures fault { IsErrOf result FetchFault.Failed
+            → failed_of self.new ≡ failed_of self.old ++ name.now ∷ [] }
+        ensures no_fault { IsOk result ⊎ IsErrOf result FetchFault.OutOfMemory
+            → failed_of self.new ≡ failed_of self.old }
+    {
+        let copy = room_for(self.alloc, &mut self.failed, name)?;
+        if self.calls.next_fails() {
+            return failed_at(&mut self.failed, copy);
+        }
+        match self.files.get(name) {
+            Some(bytes) => append_first(bytes.as_slice(), most, out),
+            None => failed_at(&mut self.failed, copy),
+        }
+    }
 }
 
 impl Shelf for MemShelf {
@@ -72,14 +99,7 @@ impl Shelf for MemShelf {
     ghost faults = { λ shelf. failures_of (failed_of shelf) };
 
     fn fetch(&mut self, name: &str, most: usize, out: &mut Vec<u8>) -> Result<(), FetchFault> {
-        let copy = room_for(self.alloc, &mut self.failed, name)?;
-        if self.calls.next_fails() {
-            return failed_at(&mut self.failed, copy);
-        }
-        match self.files.get(name) {
-            Some(bytes) => append_first(bytes.as_slice(), most, out),
-            None => failed_at(&mut self.failed, copy),
-        }
+        self.give(name, most, out)
     }
 }
 
