@@ -11,3 +11,7 @@ pub mod DeterminedLaws
 pub mod Worked
 pub mod StoreSplits
 pub mod OrderLaws
+pub mod MachineSteps
+pub mod MachineRuns
+pub mod MachineTasks
+pub mod MachineProgress

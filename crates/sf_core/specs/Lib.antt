@@ -21,3 +21,4 @@ pub mod Occurs
 pub mod Determined
 pub mod Laws
 pub mod Instances
+pub mod MachineLaws

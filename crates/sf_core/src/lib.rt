@@ -8,6 +8,7 @@ pub mod assertion;
 pub mod command;
 pub mod instances;
 pub mod laws;
+pub mod machine_laws;
 pub mod program;
 
 pub use assertion::{Assertion, Conjunct, Level, Operand, Scope, Test};

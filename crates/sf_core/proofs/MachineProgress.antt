@@ -1,0 +1,137 @@
+-- That an enabled task steps, unless something named keeps it.
+-- Names: `WHAT-or_stop` gives the step or what keeps it, `WHAT-or_not` decides.
+use Rattle.std.specs.Prelude.{◌≡◌, ◌≢◌, ℕ, List, [], ◌∷◌, Option, Some, None, ◌⊎◌, length}
+use Rattle.std.proofs.Common.{sym, ap, refl, subst, inl, inr}
+use Rattle.std.proofs.Math.Decide.{ℕ_discrete}
+use Rattle.std.proofs.Math.IntN.{ℤ_discrete}
+use Rattle.std.proofs.lemmas.Bool.{cases_lt}
+use Rattle.sf_base.specs.declared.limits.TheConstants.{TURNS}
+use Rattle.sf_base.specs.declared.value.Value.{Value}
+use Rattle.sf_base.specs.declared.value.Value.TheVariants.{Nil as nil, Int as int, Loc as loc}
+use Rattle.sf_core.specs.declared.assertion.Test.{Test}
+use Rattle.sf_core.specs.declared.assertion.Test.TheVariants.{True, Equal, Differ}
+use Rattle.sf_core.specs.declared.command.Expr.{Expr}
+use Rattle.sf_core.specs.Bad.{IsAbsent}
+use Rattle.sf_core.specs.Config.{Item, command, leave, Fixed, Frame, Task, runs, waits, left, right, Path, Common, Config, seen, replaced, IsUsed, IsCalled}
+use Rattle.sf_core.specs.Enabled.{HasEnded, IsShut, IsEnabled}
+use Rattle.sf_core.specs.HeapStore.{Cell, Heap}
+use Rattle.sf_core.specs.MachineLaws.{CommandStops, FrameStops, Stops}
+use Rattle.sf_core.specs.Sat.{IsTrueOf}
+use Rattle.sf_core.specs.Step.{Event, procedure_at, Finds, Does, Goes, TaskStep, Step}
+use Rattle.sf_core.specs.Syntax.{Command, assign, look_up, mutate, new, dispose, if, while, call, fork, with, Program}
+use Rattle.sf_core.proofs.MachineTasks.{enabled-may_go}
+
+-- whether two values are the same
+pub value-or_not : (v w : Value) → (v ≡ w) ⊎ (v ≢ w)
+value-or_not nil nil = inl refl
+value-or_not nil (int j) = inr (λ e. absurd (cc))
+value-or_not nil (loc b) = inr (λ e. absurd (cc))
+value-or_not (int i) nil = inr (λ e. absurd (cc))
+value-or_not (int i) (int j) = elim (ℤ_discrete i j) [ yes e ↦ inl (ap int e) | no n ↦ inr (λ e. n (cc)) ]
+value-or_not (int i) (loc b) = inr (λ e. absurd (cc))
+value-or_not (loc a) nil = inr (λ e. absurd (cc))
+value-or_not (loc a) (int j) = inr (λ e. absurd (cc))
+value-or_not (loc a) (loc b) = elim (ℕ_discrete a b) [ yes e ↦ inl (ap loc e) | no n ↦ inr (λ e. n (cc)) ]
+
+-- whether a test is true
+pub test-or_not : (see : Expr → Value) (test : Test Expr) → IsTrueOf see test ⊎ (IsTrueOf see test → ⊥)
+test-or_not see True = inl tt
+test-or_not see (Equal x y) = value-or_not (see x) (see y)
+test-or_not see (Differ x y) = elim (value-or_not (see x) (see y)) [ inl e ↦ inr (λ n. n e) | inr n ↦ inl n ]
+
+-- whether two paths are the same
+pub path-or_not : (path other : Path) → (path ≡ other) ⊎ (path ≢ other)
+path-or_not [] [] = inl refl
+path-or_not [] (turn ∷ other) = inr (λ e. absurd (cc))
+path-or_not (turn ∷ path) [] = inr (λ e. absurd (cc))
+path-or_not (left ∷ path) (left ∷ other) = elim (path-or_not path other) [ inl e ↦ inl (ap (λ z. left ∷ z) e) | inr n ↦ inr (λ e. n (cc)) ]
+path-or_not (left ∷ path) (right ∷ other) = inr (λ e. absurd (cc))
+path-or_not (right ∷ path) (left ∷ other) = inr (λ e. absurd (cc))
+path-or_not (right ∷ path) (right ∷ other) = elim (path-or_not path other) [ inl e ↦ inl (ap (λ z. right ∷ z) e) | inr n ↦ inr (λ e. n (cc)) ]
+
+-- whether a resource is held by the task at that path
+holder-or_not : (holder : Option Path) (path : Path) → (holder ≡ Some path) ⊎ (holder ≢ Some path)
+holder-or_not None path = inr (λ e. absurd (cc))
+holder-or_not (Some other) path = elim (path-or_not other path) [ inl e ↦ inl (ap Some e) | inr n ↦ inr (λ e. n (cc)) ]
+
+-- a free resource, from one that isn't shut
+free-of_open : (holder : Option Path) → (holder ≢ None → ⊥) → holder ≡ None
+free-of_open None n = refl
+free-of_open (Some path) n = absurd (n (λ e. absurd (cc)))
+
+-- whether there is something
+there-or_not : {X : Type 0} (o : Option X) → ((x : X) × (o ≡ Some x)) ⊎ (o ≡ None)
+there-or_not None = inr refl
+there-or_not (Some x) = inl (x, refl)
+
+-- the cell at an expression, or it is absent
+finds-or_not : (see : Expr → Value) (heap : Heap) (root : Expr) → ((location : ℕ) × (here : Cell) × Finds see heap root location here) ⊎ IsAbsent heap (see root)
+finds-or_not see heap root = go (see root) refl
+  where
+    at : (a : ℕ) (o : Option Cell) → see root ≡ loc a → heap a ≡ o → ((location : ℕ) × (here : Cell) × Finds see heap root location here) ⊎ IsAbsent heap (see root)
+    at a None e f = inr (subst (IsAbsent heap) (sym e) f)
+    at a (Some k) e f = inl (a, k, record { is = e; there = f })
+
+    go : (v : Value) → see root ≡ v → ((location : ℕ) × (here : Cell) × Finds see heap root location here) ⊎ IsAbsent heap (see root)
+    go nil e = inr (subst (IsAbsent heap) (sym e) tt)
+    go (int i) e = inr (subst (IsAbsent heap) (sym e) tt)
+    go (loc a) e = at a (heap a) e refl
+
+module _ (p : Program) (ev : Event) (c : Config) where
+  command-or_stop : (f : Fixed) (below : List Frame) (one : Command) (rest : List Item) → (IsShut c.common.held (command one ∷ rest) → ⊥) → ev.at ≢ 0 → c.common.heap ev.at ≡ None
+      → ((t : Common) × (u : Task) × Does p ev c.common f below one rest t u) ⊎ CommandStops p ev.task c f one
+  command-or_stop f below (assign place x e) rest s z n = inl (_, _, (refl, refl))
+  command-or_stop f below (look_up place x e g) rest s z n =
+      elim (finds-or_not (seen f.slots c.common.store) c.common.heap e) [ inl k ↦ inl (_, _, (k.0, k.1, k.2, refl, refl)) | inr a ↦ inr a ]
+  command-or_stop f below (mutate place e g v) rest s z n =
+      elim (finds-or_not (seen f.slots c.common.store) c.common.heap e) [ inl k ↦ inl (_, _, (k.0, k.1, k.2, refl, refl)) | inr a ↦ inr a ]
+  command-or_stop f below (new place x) rest s z n = inl (_, _, (z, n, refl, refl))
+  command-or_stop f below (dispose place e) rest s z n =
+      elim (finds-or_not (seen f.slots c.common.store) c.common.heap e) [ inl k ↦ inl (_, _, (k.0, k.1, k.2, refl, refl)) | inr a ↦ inr a ]
+  command-or_stop f below (if place test this that) rest s z n =
+      elim (test-or_not (seen f.slots c.common.store) test) [ inl h ↦ inl (_, _, (refl, inl (h, refl))) | inr h ↦ inl (_, _, (refl, inr (h, refl))) ]
+  command-or_stop f below (while place test kept body) rest s z n =
+      elim (test-or_not (seen f.slots c.common.store) test) [ inl h ↦ inl (_, _, (refl, inl (h, refl))) | inr h ↦ inl (_, _, (refl, inr (h, refl))) ]
+  command-or_stop f below (call place one) rest s z n =
+      elim (there-or_not (procedure_at p one.callee)) [ inl g ↦ inl (_, _, (g.0, g.1, refl, refl)) | inr h ↦ inr h ]
+  command-or_stop f below (fork place one two) rest s z n =
+      elim (cases_lt (length ev.task) TURNS) [
+        | inr m ↦ inr (inl m)
+        | inl l ↦ elim (there-or_not (procedure_at p one.callee)) [
+          | inr h ↦ inr (inr (inl h))
+          | inl g ↦ elim (there-or_not (procedure_at p two.callee)) [ inr h ↦ inr (inr (inr h)) | inl k ↦ inl (_, _, (l, g.0, k.0, g.1, k.1, refl, refl)) ]
+        ]
+      ]
+  command-or_stop f below (with place r test body) rest s z n =
+      elim (test-or_not (seen f.slots c.common.store) test) [ inl h ↦ inl (_, _, (free-of_open (c.common.held r) s, h, refl, refl)) | inr h ↦ inr h ]
+
+  frame-or_stop : (f : Fixed) (below : List Frame) (todo : List Item) → (IsShut c.common.held todo → ⊥) → (todo ≡ [] → IsCalled ev.task below) → ev.at ≢ 0 → c.common.heap ev.at ≡ None
+      → ((t : Common) × (u : Task) × Goes p ev c.common f below todo t u) ⊎ FrameStops p ev.task c f todo
+  frame-or_stop f below [] s k z n = inl (_, _, (k refl, refl, refl))
+  frame-or_stop f below (command one ∷ rest) s k z n = command-or_stop f below one rest s z n
+  frame-or_stop f below (leave r ∷ rest) s k z n =
+      elim (holder-or_not (c.common.held r) ev.task) [ inl h ↦ inl (_, _, (h, refl, refl)) | inr h ↦ inr h ]
+
+  -- a frame that is used up is returned from, unless the task has ended
+  called-or_ended : (path : Path) (f : Frame) (below : List Frame) → (HasEnded path (runs (f ∷ below)) → ⊥) → f.todo ≡ [] → IsCalled path below
+  called-or_ended [] f [] n e = absurd (n e)
+  called-or_ended [] f (g ∷ below) n e = tt
+  called-or_ended (turn ∷ path) f below n e = tt
+
+  task-or_stop : (task : Task) → IsEnabled c ev.task task → ev.at ≢ 0 → c.common.heap ev.at ≡ None
+      → ((t : Common) × (u : Task) × TaskStep p ev c.common task t u) ⊎ Stops p ev.task c task
+  task-or_stop (runs []) e z n = absurd (e.going tt)
+  task-or_stop (runs (f ∷ below)) e z n = frame-or_stop f.fixed below f.todo e.free (called-or_ended ev.task f below e.going) z n
+  task-or_stop (waits frames one two) e z n = let m = enabled-may_go c ev.task (waits frames one two) e in inl (_, _, (m.0, m.1, refl, refl))
+
+  -- an enabled task steps, unless something named keeps it
+  pub enabled-or_stop : (task : Task) → IsEnabled c ev.task task → (IsUsed c.used ev.number → ⊥) → ev.at ≢ 0 → c.common.heap ev.at ≡ None
+      → ((d : Config) × Step p ev c d) ⊎ Stops p ev.task c task
+  enabled-or_stop task e fresh z n =
+      elim (task-or_stop task e z n) [
+        | inl k ↦ inl (
+          record { common = k.0; used = ev.number ∷ c.used; tasks = replaced ev.task k.1 c.tasks },
+          record { fresh = fresh; used = refl; from = task; to = k.1; there = e.there; steps = k.2; tasks = refl },
+        )
+        | inr h ↦ inr h
+      ]

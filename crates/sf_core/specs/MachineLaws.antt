@@ -1,0 +1,161 @@
+-- Laws of the machine: what a step changes and what it leaves alone, which tasks step, and how runs compose.
+-- After Brookes, "A Semantics for Concurrent Separation Logic" (2007), where the footprints of actions say what they share.
+use Rattle.std.specs.Prelude.{◌≡◌, ◌≢◌, ℕ, List, [], ◌∷◌, ◌++◌, Option, Some, None, ◌⊎◌, ◌↔◌, length, ◌≤◌}
+use Rattle.sf_base.specs.declared.ids.ResId.{ResId}
+use Rattle.sf_base.specs.declared.limits.TheConstants.{TURNS}
+use Rattle.sf_core.specs.Bad.{IsAbsent}
+use Rattle.sf_core.specs.Config.{Item, command, leave, Fixed, Frame, Task, runs, waits, left, right, Path, Config, seen, task_at, IsUsed}
+use Rattle.sf_core.specs.Enabled.{Thing, variable, cell, Writes, IsEnabled}
+use Rattle.sf_core.specs.HeapStore.{Slot, shared, own, Store}
+use Rattle.sf_core.specs.Reach.{Reach}
+use Rattle.sf_core.specs.Sat.{IsTrueOf}
+use Rattle.sf_core.specs.Step.{Event, Step, procedure_at}
+use Rattle.sf_core.specs.Syntax.{Command, assign, look_up, mutate, new, dispose, if, while, call, fork, with, Program}
+
+-- the thing is a slot of that number
+abbrev pub IsSlotOf : ℕ → Thing → Type 0
+IsSlotOf number (variable (own e i)) = e ≡ number
+IsSlotOf number (variable (shared r i)) = ⊥
+IsSlotOf number (cell location) = ⊥
+
+-- what the event of a command makes: the cell of a `new`, or slots of a call or fork, which have its number
+abbrev pub CommandMakes : Event → Command → Thing → Type 0
+CommandMakes event (assign place x e) thing = ⊥
+CommandMakes event (look_up place x e g) thing = ⊥
+CommandMakes event (mutate place e g v) thing = ⊥
+CommandMakes event (new place x) thing = thing ≡ cell event.at
+CommandMakes event (dispose place e) thing = ⊥
+CommandMakes event (if place test this that) thing = ⊥
+CommandMakes event (while place test kept body) thing = ⊥
+CommandMakes event (call place c) thing = IsSlotOf event.number thing
+CommandMakes event (fork place c d) thing = IsSlotOf event.number thing
+CommandMakes event (with place r test body) thing = ⊥
+
+-- what the next event of a frame makes
+abbrev pub FrameMakes : Event → List Item → Thing → Type 0
+FrameMakes event [] thing = ⊥
+FrameMakes event (command c ∷ rest) thing = CommandMakes event c thing
+FrameMakes event (leave r ∷ rest) thing = ⊥
+
+-- what the next event of a task makes
+abbrev pub Makes : Event → Task → Thing → Type 0
+Makes event (runs []) thing = ⊥
+Makes event (runs (f ∷ below)) thing = FrameMakes event f.todo thing
+Makes event (waits frames one two) thing = ⊥
+
+-- the thing is neither written nor made by the task's next event
+pub record IsLeft (event : Event) (store : Store) (task : Task) (thing : Thing) : Type 0 where
+  pub unwritten : Writes store task thing → ⊥
+  pub not_made : Makes event task thing → ⊥
+
+-- the holder of a resource: the same as before, or the task took it when it was free, or the task gave it back
+abbrev pub HolderGoes : Path → (before after : Option Path) → Type 0
+HolderGoes path before after = (after ≡ before) ⊎ (((before ≡ None) × (after ≡ Some path)) ⊎ ((before ≡ Some path) × (after ≡ None)))
+
+-- all that the event of a task can change
+pub record Touches (event : Event) (task : Task) (before after : Config) : Type 0 where
+  pub variables : (slot : Slot) → IsLeft event before.common.store task (variable slot) → after.common.store slot ≡ before.common.store slot
+  pub cells : (location : ℕ) → IsLeft event before.common.store task (cell location) → after.common.heap location ≡ before.common.heap location
+  pub absent : (location : ℕ) → Makes event task (cell location) → before.common.heap location ≡ None
+  pub holders : (r : ResId) → HolderGoes event.task (before.common.held r) (after.common.held r)
+
+-- a step changes what it writes and what it makes, and nothing else
+abbrev pub StepsTouchOnlyWhatTheySay : Type 0
+StepsTouchOnlyWhatTheySay =
+    (p : Program) (event : Event) (c d : Config) (task : Task) → Step p event c d → task_at event.task c.tasks ≡ Some task → Touches event task c d
+
+-- the number is that of one of the events
+abbrev pub HasNumber : List Event → ℕ → Type 0
+HasNumber [] number = ⊥
+HasNumber (event ∷ events) number = (number ≡ event.number) ⊎ HasNumber events number
+
+-- no two of the events have one number
+abbrev pub AreDistinct : List Event → Type 0
+AreDistinct [] = Unit {0}
+AreDistinct (event ∷ events) = (HasNumber events event.number → ⊥) × AreDistinct events
+
+-- how a run uses numbers: each of its events has a new one, and just these are added
+pub record Numbers (events : List Event) (before after : Config) : Type 0 where
+  pub fresh : (number : ℕ) → HasNumber events number → IsUsed before.used number → ⊥
+  pub distinct : AreDistinct events
+  pub added : (number : ℕ) → IsUsed after.used number ↔ (HasNumber events number ⊎ IsUsed before.used number)
+
+-- used numbers only grow, by the numbers of the events, which are new and different
+abbrev pub UsedNumbersGrow : Type 0
+UsedNumbersGrow = (p : Program) (events : List Event) (c d : Config) → Reach p c events d → Numbers events c d
+
+-- two runs, one after the other, are one run, and each run may be cut in two anywhere
+abbrev pub RunsCompose : Type 0
+RunsCompose = (p : Program) (events more : List Event) (c d : Config)
+    → Reach p c (events ++ more) d ↔ ((between : Config) × Reach p c events between × Reach p between more d)
+
+-- the paths part: up to some turn they are the same, and there the one goes left and the other right
+abbrev pub Part : Path → Path → Type 0
+Part [] path = ⊥
+Part (turn ∷ path) [] = ⊥
+Part (left ∷ path) (left ∷ other) = Part path other
+Part (left ∷ path) (right ∷ other) = Unit {0}
+Part (right ∷ path) (left ∷ other) = Unit {0}
+Part (right ∷ path) (right ∷ other) = Part path other
+
+-- the first path is that of an ancestor of the second one's task
+abbrev pub IsAbove : Path → Path → Type 0
+IsAbove path [] = ⊥
+IsAbove [] (turn ∷ other) = Unit {0}
+IsAbove (left ∷ path) (left ∷ other) = IsAbove path other
+IsAbove (left ∷ path) (right ∷ other) = ⊥
+IsAbove (right ∷ path) (left ∷ other) = ⊥
+IsAbove (right ∷ path) (right ∷ other) = IsAbove path other
+
+-- the task waits with these frames, for whatever children
+abbrev pub WaitsWith : List Frame → Option Task → Type 0
+WaitsWith frames task = (one : Task) × (two : Task) × (task ≡ Some (waits frames one two))
+
+-- what a step of the task at one path leaves of the others: all of a task whose path parts from it, and the frames of its ancestors
+pub record Leaves (path : Path) (before after : Task) : Type 0 where
+  pub others : (other : Path) → Part other path → task_at other after ≡ task_at other before
+  pub ancestors : (other : Path) → IsAbove other path
+      → (frames : List Frame) × WaitsWith frames (task_at other before) × WaitsWith frames (task_at other after)
+
+-- a step of one task leaves the tasks alone that are neither its ancestors nor its descendants, and its ancestors go on waiting
+abbrev pub OtherTasksStay : Type 0
+OtherTasksStay = (p : Program) (event : Event) (c d : Config) → Step p event c d → Leaves event.task c.tasks d.tasks
+
+-- only enabled tasks step
+abbrev pub OnlyEnabledTasksStep : Type 0
+OnlyEnabledTasksStep = (p : Program) (event : Event) (c d : Config) → Step p event c d → (task : Task) × IsEnabled c event.task task
+
+-- of two different enabled tasks neither is an ancestor of the other
+abbrev pub EnabledTasksPart : Type 0
+EnabledTasksPart = (c : Config) (path other : Path) (task another : Task) → IsEnabled c path task → IsEnabled c other another → path ≢ other → Part path other
+
+-- what keeps the event of a command from being: an absent cell, a condition that is false, a callee that the program lacks, a path of 63 turns
+abbrev pub CommandStops : Program → Path → Config → Fixed → Command → Type 0
+CommandStops p path c f (assign place x e) = ⊥
+CommandStops p path c f (look_up place x e g) = IsAbsent c.common.heap (seen f.slots c.common.store e)
+CommandStops p path c f (mutate place e g v) = IsAbsent c.common.heap (seen f.slots c.common.store e)
+CommandStops p path c f (new place x) = ⊥
+CommandStops p path c f (dispose place e) = IsAbsent c.common.heap (seen f.slots c.common.store e)
+CommandStops p path c f (if place test this that) = ⊥
+CommandStops p path c f (while place test kept body) = ⊥
+CommandStops p path c f (call place one) = procedure_at p one.callee ≡ None
+CommandStops p path c f (fork place one two) = (TURNS ≤ length path) ⊎ ((procedure_at p one.callee ≡ None) ⊎ (procedure_at p two.callee ≡ None))
+CommandStops p path c f (with place r test body) = IsTrueOf (seen f.slots c.common.store) test → ⊥
+
+-- what keeps the next event of a frame from being: the above, or that it leaves a region whose resource its task doesn't hold
+abbrev pub FrameStops : Program → Path → Config → Fixed → List Item → Type 0
+FrameStops p path c f [] = ⊥
+FrameStops p path c f (command one ∷ rest) = CommandStops p path c f one
+FrameStops p path c f (leave r ∷ rest) = c.common.held r ≢ Some path
+
+-- what keeps the next event of a task from being
+abbrev pub Stops : Program → Path → Config → Task → Type 0
+Stops p path c (runs []) = ⊥
+Stops p path c (runs (f ∷ below)) = FrameStops p path c f.fixed f.todo
+Stops p path c (waits frames one two) = ⊥
+
+-- an enabled task steps, by any event of it with a new number and an absent location, unless one of these keeps it
+abbrev pub EnabledTasksStep : Type 0
+EnabledTasksStep = (p : Program) (event : Event) (c : Config) (task : Task) → IsEnabled c event.task task
+    → (IsUsed c.used event.number → ⊥) → event.at ≢ 0 → c.common.heap event.at ≡ None
+    → ((d : Config) × Step p event c d) ⊎ Stops p event.task c task

@@ -1,0 +1,50 @@
+//! Laws of the machine's definitions, each the contract of a function that does nothing.
+ghost use Rattle.sf_core.specs.MachineLaws.{
+  EnabledTasksPart,
+  EnabledTasksStep,
+  OnlyEnabledTasksStep,
+  OtherTasksStay,
+  RunsCompose,
+  StepsTouchOnlyWhatTheySay,
+  UsedNumbersGrow,
+};
+
+/// A step changes the slots and cells that it writes, the slots that a call or fork makes and the
+/// cell that a `new` makes, and nothing else; and a resource changes hands only by its task.
+pub fn steps_touch_only_what_they_say()
+    ensures { StepsTouchOnlyWhatTheySay }
+{}
+
+/// A run's events have new and different numbers, and just these are used after it besides those
+/// used before.
+pub fn used_numbers_grow()
+    ensures { UsedNumbersGrow }
+{}
+
+/// Two runs, one after the other, are one run, and each run may be cut in two anywhere.
+pub fn runs_compose()
+    ensures { RunsCompose }
+{}
+
+/// A step of one task leaves all tasks as they are that are neither its ancestors nor its
+/// descendants, and its ancestors go on waiting with the same frames.
+pub fn other_tasks_stay()
+    ensures { OtherTasksStay }
+{}
+
+/// Only enabled tasks step.
+pub fn only_enabled_tasks_step()
+    ensures { OnlyEnabledTasksStep }
+{}
+
+/// Of two different enabled tasks neither is an ancestor of the other.
+pub fn enabled_tasks_part()
+    ensures { EnabledTasksPart }
+{}
+
+/// An enabled task steps by any of its events that has a new number and an absent location,
+/// unless it is at an absent cell, at a region whose condition is false, at a call of a procedure
+/// that isn't there, at a fork too deep in the tree, or leaves a region that it isn't in.
+pub fn enabled_tasks_step()
+    ensures { EnabledTasksStep }
+{}
