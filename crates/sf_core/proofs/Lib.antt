@@ -15,3 +15,4 @@ pub mod MachineSteps
 pub mod MachineRuns
 pub mod MachineTasks
 pub mod MachineProgress
+pub mod MachineInstances

@@ -76,6 +76,21 @@ step-enabled p event c d s = (
   },
 )
 
+-- where the entry has ended there is no other task
+pub task_at-ended : (path : Path) (t task : Task) → HasEnded [] t → task_at path t ≡ Some task → path ≡ []
+task_at-ended [] t task h e = refl
+task_at-ended (left ∷ path) (runs frames) task h e = absurd (cc)
+task_at-ended (right ∷ path) (runs frames) task h e = absurd (cc)
+task_at-ended (turn ∷ path) (waits frames one two) task h e = absurd h
+
+-- once the entry has ended no event comes
+pub ended-no_event : (p : Program) (event : Event) (c d : Config) → HasEnded [] c.tasks → Step p event c d → ⊥
+ended-no_event p event c d h s =
+    let top : event.task ≡ [] = task_at-ended event.task c.tasks s.from h s.there in
+    let there : task_at [] c.tasks ≡ Some s.from = subst (λ z. task_at z c.tasks ≡ Some s.from) top s.there in
+    let same : c.tasks ≡ s.from = cc in
+    ended-no_step p event c.common d.common [] top s.from s.to s.steps (subst (HasEnded []) same h)
+
 -- whether a child is over
 over-or_not : (t : Task) → IsOver t ⊎ (IsOver t → ⊥)
 over-or_not (runs []) = inl tt

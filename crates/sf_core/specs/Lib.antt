@@ -22,3 +22,4 @@ pub mod Determined
 pub mod Laws
 pub mod Instances
 pub mod MachineLaws
+pub mod MachineInstances

@@ -5,7 +5,7 @@ use Rattle.sf_base.specs.declared.ids.ResId.{ResId}
 use Rattle.sf_base.specs.declared.limits.TheConstants.{TURNS}
 use Rattle.sf_core.specs.Bad.{IsAbsent}
 use Rattle.sf_core.specs.Config.{Item, command, leave, Fixed, Frame, Task, runs, waits, left, right, Path, Config, seen, task_at, IsUsed}
-use Rattle.sf_core.specs.Enabled.{Thing, variable, cell, Writes, IsEnabled}
+use Rattle.sf_core.specs.Enabled.{Thing, variable, cell, Writes, HasEnded, IsEnabled}
 use Rattle.sf_core.specs.HeapStore.{Slot, shared, own, Store}
 use Rattle.sf_core.specs.Reach.{Reach}
 use Rattle.sf_core.specs.Sat.{IsTrueOf}
@@ -124,6 +124,10 @@ OtherTasksStay = (p : Program) (event : Event) (c d : Config) → Step p event c
 -- only enabled tasks step
 abbrev pub OnlyEnabledTasksStep : Type 0
 OnlyEnabledTasksStep = (p : Program) (event : Event) (c d : Config) → Step p event c d → (task : Task) × IsEnabled c event.task task
+
+-- once the entry has ended no event comes
+abbrev pub EndedRunsStop : Type 0
+EndedRunsStop = (p : Program) (event : Event) (c d : Config) → HasEnded [] c.tasks → Step p event c d → ⊥
 
 -- of two different enabled tasks neither is an ancestor of the other
 abbrev pub EnabledTasksPart : Type 0

@@ -8,6 +8,7 @@ pub mod assertion;
 pub mod command;
 pub mod instances;
 pub mod laws;
+pub mod machine_instances;
 pub mod machine_laws;
 pub mod program;
 

@@ -1,5 +1,6 @@
 //! Laws of the machine's definitions, each the contract of a function that does nothing.
 ghost use Rattle.sf_core.specs.MachineLaws.{
+  EndedRunsStop,
   EnabledTasksPart,
   EnabledTasksStep,
   OnlyEnabledTasksStep,
@@ -35,6 +36,11 @@ pub fn other_tasks_stay()
 /// Only enabled tasks step.
 pub fn only_enabled_tasks_step()
     ensures { OnlyEnabledTasksStep }
+{}
+
+/// Once the entry has ended no event comes.
+pub fn ended_runs_stop()
+    ensures { EndedRunsStop }
 {}
 
 /// Of two different enabled tasks neither is an ancestor of the other.

@@ -1,0 +1,454 @@
+-- The worked instances of the machine: their runs, starts and what is bad in them or not.
+-- Names: `WHAT-holds` proves the statement of that name, `side-WHAT` speaks of two tasks side by side, `ended-WHAT` of an ended entry.
+use Rattle.std.specs.Prelude.{◌≡◌, ◌≢◌, ℕ, ◌==◌, ◌&&◌, pos, Bool, true, false, cond, List, [], ◌∷◌, Option, Some, None, ◌⊎◌, ◌<◌}
+use Rattle.std.specs.List.{slice_get}
+use Rattle.std.specs.Option.{option_or, unwrap_or}
+use Rattle.std.proofs.Common.{sym, ap, ap₂, ◌∙◌, refl, subst, inl, inr, arith}
+use Rattle.sf_base.specs.declared.ids.ResId.{ResId}
+use Rattle.sf_base.specs.declared.ids.Var.{Var}
+use Rattle.sf_base.specs.declared.ids.Var.TheVariants.{Own, Shared}
+use Rattle.sf_base.specs.declared.value.Value.{Value}
+use Rattle.sf_base.specs.declared.value.Value.TheVariants.{Nil as nil, Int as int, Loc as loc}
+use Rattle.sf_core.specs.declared.command.Expr.{Expr}
+use Rattle.sf_core.specs.declared.command.Expr.TheVariants.{Nil}
+use Rattle.sf_core.specs.Bad.{Bad, IsAbsent, next_root}
+use Rattle.sf_core.specs.Config.{Item, Frame, Task, runs, left, right, Path, Common, Config, seen, task_at, replaced, IsUsed, IsCalled}
+use Rattle.sf_core.specs.Enabled.{HasEnded, IsShut, IsBlocked, IsEnabled, Thing, variable, cell, FrameReads, FrameWrites, Reads, Writes}
+use Rattle.sf_core.specs.Good.{Owner, resource, task, Returns, Good}
+use Rattle.sf_core.specs.HeapStore.{Apart, Splits, Cell, put_field, Heap, IsOne, Slot, shared, own}
+use Rattle.sf_core.specs.HeldBy.{HeldBy, OccursIn}
+use Rattle.sf_core.specs.MachineInstances.{own_one, one_cell, main, set, setting, one_at, one_in, event, setting_start, SettingStarts, CallMutateReturn, child_slots, child, side_by_side, at_one_cell, mutates, looks_up, enters, TwoMutationsRace, MutationAndLookUpRace, TwoLookUpsDoNotRace, TwoEntriesDoNotRace, HeldRegionsWait, alone, DisposeAtNilIsBad, makes, makes_twice, FreedLocationsComeAgain, skip, forking, forking_start, ChildrenEndInAnyOrder}
+use Rattle.sf_core.specs.Sat.{Sat}
+use Rattle.sf_core.specs.Start.{IsKept, entry_slot, entry_frame}
+use Rattle.sf_core.specs.Step.{Event, procedure_at, TaskStep, Step}
+use Rattle.sf_core.specs.Syntax.{Procedure, Program, Resource}
+use Rattle.sf_core.proofs.MachineSteps.{cond-else, number-same}
+use Rattle.sf_core.proofs.MachineTasks.{MayGo, enabled-may_go, task_at-ended}
+
+-- Steps of known configurations
+-- a number above all used ones is new
+number-new : (n m : ℕ) (used : List ℕ) → m < n → (IsUsed used n → ⊥) → IsUsed (m ∷ used) n → ⊥
+number-new n m used l f (inl e) = absurd (omega arith)
+number-new n m used l f (inr u) = f u
+
+-- the step that an event of a task makes, with the configuration that it leads to
+to : (p : Program) (ev : Event) (c : Config) (t : Common) (from u : Task) → (IsUsed c.used ev.number → ⊥) → task_at ev.task c.tasks ≡ Some from → TaskStep p ev c.common from t u
+    → Step p ev c (record { common = t; used = ev.number ∷ c.used; tasks = replaced ev.task u c.tasks })
+to p ev c t from u f e s = record { fresh = f; used = refl; from = from; to = u; there = e; steps = s; tasks = refl }
+
+one-new : IsUsed (0 ∷ []) 1 → ⊥
+one-new = number-new 1 0 [] (omega arith) (λ u. u)
+
+two-new : IsUsed (1 ∷ 0 ∷ []) 2 → ⊥
+two-new = number-new 2 1 (0 ∷ []) (omega arith) (number-new 2 0 [] (omega arith) (λ u. u))
+
+three-new : IsUsed (2 ∷ 1 ∷ 0 ∷ []) 3 → ⊥
+three-new = number-new 3 2 (1 ∷ 0 ∷ []) (omega arith) (number-new 3 1 (0 ∷ []) (omega arith) (number-new 3 0 [] (omega arith) (λ u. u)))
+
+four-new : IsUsed (3 ∷ 2 ∷ 1 ∷ 0 ∷ []) 4 → ⊥
+four-new = number-new 4 3 (2 ∷ 1 ∷ 0 ∷ []) (omega arith) (number-new 4 2 (1 ∷ 0 ∷ []) (omega arith) (number-new 4 1 (0 ∷ []) (omega arith) (number-new 4 0 [] (omega arith) (λ u. u))))
+
+-- Two tasks side by side
+-- the tasks of such a configuration that may go on
+side-tasks : (this that : List Item) (s : Common) (path : Path) (one : Task) → task_at path (side_by_side this that s).tasks ≡ Some one → MayGo one
+    → ((path ≡ left ∷ []) × (runs (record { fixed = child 0; todo = this } ∷ []) ≡ one)) ⊎ ((path ≡ right ∷ []) × (runs (record { fixed = child 2; todo = that } ∷ []) ≡ one))
+side-tasks this that s [] one e m =
+    let same : (side_by_side this that s).tasks ≡ one = cc in
+    let both : ⊥ × ⊥ = subst MayGo (sym same) m in
+    absurd both.0
+side-tasks this that s (left ∷ []) one e m = inl (refl, cc)
+side-tasks this that s (left ∷ left ∷ path) one e m = absurd (cc)
+side-tasks this that s (left ∷ right ∷ path) one e m = absurd (cc)
+side-tasks this that s (right ∷ []) one e m = inr (refl, cc)
+side-tasks this that s (right ∷ left ∷ path) one e m = absurd (cc)
+side-tasks this that s (right ∷ right ∷ path) one e m = absurd (cc)
+
+-- the enabled ones
+side-enabled : (this that : List Item) (s : Common) (path : Path) (one : Task) → IsEnabled (side_by_side this that s) path one
+    → ((path ≡ left ∷ []) × (runs (record { fixed = child 0; todo = this } ∷ []) ≡ one)) ⊎ ((path ≡ right ∷ []) × (runs (record { fixed = child 2; todo = that } ∷ []) ≡ one))
+side-enabled this that s path one e = side-tasks this that s path one e.there (enabled-may_go (side_by_side this that s) path one e)
+
+-- a frame with that to do, its slots from that index on, doesn't touch an absent cell
+abbrev Finds : ℕ → List Item → Common → Type 0
+Finds first todo s = (root : Expr) → next_root todo ≡ Some root → IsAbsent s.heap (seen (child_slots first) s.store root) → ⊥
+
+-- what the one writes the other neither reads nor writes
+abbrev Minds : (first : ℕ) (todo : List Item) (other : ℕ) (others : List Item) → Common → Type 0
+Minds first todo other others s = (thing : Thing) → FrameWrites (child first) s.store todo thing → FrameReads (child_slots other) s.store others thing ⊎ FrameWrites (child other) s.store others thing → ⊥
+
+-- two tasks side by side aren't bad where both find their cells and neither minds the other
+side-good : (this that : List Item) (s : Common) → Finds 0 this s → Finds 2 that s → Minds 0 this 2 that s → Minds 2 that 0 this s → Bad (side_by_side this that s) → ⊥
+side-good this that s f g m n (inl b) = elim (side-enabled this that s b.path (runs (b.frame ∷ b.below)) b.enabled) [
+  | inl k ↦ f b.root (one k.1) (two k.1)
+  | inr k ↦ g b.root (three k.1) (four k.1)
+]
+  where
+    one : runs (record { fixed = child 0; todo = this } ∷ []) ≡ runs (b.frame ∷ b.below) → next_root this ≡ Some b.root
+    one e = let same : record { fixed = child 0; todo = this } ≡ b.frame = cc in ap (λ (z : Frame). next_root z.todo) same ∙ b.touches
+
+    two : runs (record { fixed = child 0; todo = this } ∷ []) ≡ runs (b.frame ∷ b.below) → IsAbsent s.heap (seen (child_slots 0) s.store b.root)
+    two e = let same : record { fixed = child 0; todo = this } ≡ b.frame = cc in subst (λ (z : Frame). IsAbsent s.heap (seen z.fixed.slots s.store b.root)) (sym same) b.absent
+
+    three : runs (record { fixed = child 2; todo = that } ∷ []) ≡ runs (b.frame ∷ b.below) → next_root that ≡ Some b.root
+    three e = let same : record { fixed = child 2; todo = that } ≡ b.frame = cc in ap (λ (z : Frame). next_root z.todo) same ∙ b.touches
+
+    four : runs (record { fixed = child 2; todo = that } ∷ []) ≡ runs (b.frame ∷ b.below) → IsAbsent s.heap (seen (child_slots 2) s.store b.root)
+    four e = let same : record { fixed = child 2; todo = that } ≡ b.frame = cc in subst (λ (z : Frame). IsAbsent s.heap (seen z.fixed.slots s.store b.root)) (sym same) b.absent
+side-good this that s f g m n (inr r) = elim (side-enabled this that s r.path r.task r.enabled) [
+  | inl a ↦ elim (side-enabled this that s r.other_path r.other r.other_enabled) [
+    | inl b ↦ r.different (a.0 ∙ sym b.0)
+    | inr b ↦ m r.thing (subst (λ z. Writes s.store z r.thing) (sym a.1) r.writes) (subst (λ z. Reads s.store z r.thing ⊎ Writes s.store z r.thing) (sym b.1) r.meets)
+  ]
+  | inr a ↦ elim (side-enabled this that s r.other_path r.other r.other_enabled) [
+    | inl b ↦ n r.thing (subst (λ z. Writes s.store z r.thing) (sym a.1) r.writes) (subst (λ z. Reads s.store z r.thing ⊎ Writes s.store z r.thing) (sym b.1) r.meets)
+    | inr b ↦ r.different (a.0 ∙ sym b.0)
+  ]
+]
+
+-- the one at the left is enabled where it has something to do, and that is no region whose resource is held
+left-enabled : (i : Item) (rest that : List Item) (s : Common) → (IsShut s.held (i ∷ rest) → ⊥)
+    → IsEnabled (side_by_side (i ∷ rest) that s) (left ∷ []) (runs (record { fixed = child 0; todo = i ∷ rest } ∷ []))
+left-enabled i rest that s n = record { there = refl; going = λ h. h; free = n }
+
+right-enabled : (this : List Item) (i : Item) (rest : List Item) (s : Common) → (IsShut s.held (i ∷ rest) → ⊥)
+    → IsEnabled (side_by_side this (i ∷ rest) s) (right ∷ []) (runs (record { fixed = child 2; todo = i ∷ rest } ∷ []))
+right-enabled this i rest s n = record { there = refl; going = λ h. h; free = n }
+
+turns-differ : left ∷ [] ≡ right ∷ [] → ⊥
+turns-differ e = absurd (cc)
+
+pub two_mutations-holds : TwoMutationsRace
+two_mutations-holds k = inr (record {
+  path = left ∷ [];
+  task = _;
+  enabled = left-enabled _ [] mutates (at_one_cell k None) (λ h. h);
+  other_path = right ∷ [];
+  other = _;
+  other_enabled = right-enabled mutates _ [] (at_one_cell k None) (λ h. h);
+  different = turns-differ;
+  thing = cell 1;
+  writes = refl;
+  meets = inr refl;
+})
+
+pub mutation_and_look_up-holds : MutationAndLookUpRace
+mutation_and_look_up-holds k = (
+  inr (record {
+    path = left ∷ [];
+    task = _;
+    enabled = left-enabled _ [] looks_up (at_one_cell k None) (λ h. h);
+    other_path = right ∷ [];
+    other = _;
+    other_enabled = right-enabled mutates _ [] (at_one_cell k None) (λ h. h);
+    different = turns-differ;
+    thing = cell 1;
+    writes = refl;
+    meets = inl (inr refl);
+  }),
+  inr (record {
+    path = right ∷ [];
+    task = _;
+    enabled = right-enabled looks_up _ [] (at_one_cell k None) (λ h. h);
+    other_path = left ∷ [];
+    other = _;
+    other_enabled = left-enabled _ [] mutates (at_one_cell k None) (λ h. h);
+    different = λ e. turns-differ (sym e);
+    thing = cell 1;
+    writes = refl;
+    meets = inl (inr refl);
+  }),
+)
+
+some-none : {X : Type 0} (x : X) → Some x ≡ None → ⊥
+some-none x e = absurd (cc)
+
+-- the first variable of each child is the location of the cell, which is there
+finds-cell : (k : Cell) (holder : Option Path) (root : Expr) → Some (own_one 0) ≡ Some root → IsAbsent (one_at k) (seen (child_slots 0) (at_one_cell k holder).store root) → ⊥
+finds-cell k holder root e a =
+    let same : own_one 0 ≡ root = cc in
+    let here : IsAbsent (one_at k) (seen (child_slots 0) (at_one_cell k holder).store (own_one 0)) = subst (λ z. IsAbsent (one_at k) (seen (child_slots 0) (at_one_cell k holder).store z)) (sym same) a in
+    some-none k here
+
+finds-cell_too : (k : Cell) (holder : Option Path) (root : Expr) → Some (own_one 0) ≡ Some root → IsAbsent (one_at k) (seen (child_slots 2) (at_one_cell k holder).store root) → ⊥
+finds-cell_too k holder root e a =
+    let same : own_one 0 ≡ root = cc in
+    let here : IsAbsent (one_at k) (seen (child_slots 2) (at_one_cell k holder).store (own_one 0)) = subst (λ z. IsAbsent (one_at k) (seen (child_slots 2) (at_one_cell k holder).store z)) (sym same) a in
+    some-none k here
+
+-- things of different kinds, or slots of different indices, differ
+things-differ : (thing : Thing) (i j : ℕ) → thing ≡ variable (own 1 i) → (thing ≡ variable (own 1 j)) ⊎ (thing ≡ cell 1) → i ≢ j → ⊥
+things-differ thing i j e (inl f) n = n (cc)
+things-differ thing i j e (inr f) n = absurd (cc)
+
+either : {A B C : Type 0} → (A ⊎ B) ⊎ C → (A ⊎ C) ⊎ B
+either (inl (inl a)) = inl (inl a)
+either (inl (inr b)) = inr b
+either (inr c) = inl (inr c)
+
+look_ups-mind : (thing : Thing) (i j k : ℕ) → thing ≡ variable (own 1 i) → ((thing ≡ variable (own 1 j)) ⊎ (thing ≡ cell 1)) ⊎ (thing ≡ variable (own 1 k)) → i ≢ j → i ≢ k → ⊥
+look_ups-mind thing i j k e (inl f) n m = things-differ thing i j e f n
+look_ups-mind thing i j k e (inr f) n m = things-differ thing i k e (inl f) m
+
+pub two_look_ups-holds : TwoLookUpsDoNotRace
+two_look_ups-holds k =
+    side-good looks_up looks_up (at_one_cell k None) (finds-cell k None) (finds-cell_too k None)
+    (λ thing w m. look_ups-mind thing 1 2 3 w m (omega arith) (omega arith))
+    (λ thing w m. look_ups-mind thing 3 0 1 w m (omega arith) (omega arith))
+
+none-some : {X : Type 0} (x : X) → None ≡ Some x → ⊥
+none-some x e = absurd (cc)
+
+pub two_entries-holds : TwoEntriesDoNotRace
+two_entries-holds k =
+    side-good enters enters (at_one_cell k None) (λ root e a. none-some root e) (λ root e a. none-some root e) (λ thing w m. w) (λ thing w m. w)
+
+nothing-met : ⊥ ⊎ ⊥ → ⊥
+nothing-met (inl x) = x
+nothing-met (inr x) = x
+
+pub held_regions-holds : HeldRegionsWait
+held_regions-holds k = (
+  λ one e. waiting one e.there e.free,
+  side-good mutates enters (at_one_cell k (Some (left ∷ []))) (finds-cell k (Some (left ∷ []))) (λ root e a. none-some root e) (λ thing w m. nothing-met m) (λ thing w m. w),
+)
+  where
+    shut : IsBlocked (at_one_cell k (Some (left ∷ []))).held (runs (record { fixed = child 2; todo = enters } ∷ []))
+    shut e = some-none (left ∷ []) e
+
+    waiting : (one : Task) → Some (runs (record { fixed = child 2; todo = enters } ∷ [])) ≡ Some one → (IsBlocked (at_one_cell k (Some (left ∷ []))).held one → ⊥) → ⊥
+    waiting one e f =
+        let same : runs (record { fixed = child 2; todo = enters } ∷ []) ≡ one = cc in
+        f (subst (IsBlocked (at_one_cell k (Some (left ∷ []))).held) same shut)
+
+pub dispose_at_nil-holds : DisposeAtNilIsBad
+dispose_at_nil-holds s rest = inl (record {
+  path = [];
+  frame = _;
+  below = [];
+  enabled = record { there = refl; going = λ h. absurd (cc); free = λ h. h };
+  root = Nil;
+  touches = refl;
+  absent = tt;
+})
+
+pub freed_locations-holds : FreedLocationsComeAgain
+freed_locations-holds p s n = (
+  _,
+  (
+    _,
+    to p (makes 1) (alone makes_twice s) _ _ _ one-new refl (fives, n, refl, refl),
+    (
+      _,
+      to p (event [] 2) _ _ _ _ two-new refl (5, λ f. nil, record { is = refl; there = refl }, refl, refl),
+      (_, to p (makes 3) _ _ _ _ three-new refl (fives, refl, refl, refl), refl),
+    ),
+  ),
+  refl,
+  refl,
+  refl,
+)
+  where
+    fives : (makes 1).at ≡ 0 → ⊥
+    fives e = absurd (omega (arith, e))
+
+forks-deep : 0 < 63
+forks-deep = omega arith
+
+pub children_end-holds : ChildrenEndInAnyOrder
+children_end-holds = (
+  (
+    _,
+    (
+      _,
+      to forking (event [] 1) forking_start _ _ _ one-new refl (forks-deep, skip, skip, refl, refl, refl, refl),
+      (
+        _,
+        to forking (event (left ∷ []) 2) _ _ _ _ two-new refl (tt, refl, refl),
+        (
+          _,
+          to forking (event (right ∷ []) 3) _ _ _ _ three-new refl (tt, refl, refl),
+          (_, to forking (event [] 4) _ _ _ _ four-new refl (tt, tt, refl, refl), refl),
+        ),
+      ),
+    ),
+    refl,
+  ),
+  (
+    _,
+    (
+      _,
+      to forking (event [] 1) forking_start _ _ _ one-new refl (forks-deep, skip, skip, refl, refl, refl, refl),
+      (
+        _,
+        to forking (event (right ∷ []) 2) _ _ _ _ two-new refl (tt, refl, refl),
+        (
+          _,
+          to forking (event (left ∷ []) 3) _ _ _ _ three-new refl (tt, refl, refl),
+          (_, to forking (event [] 4) _ _ _ _ four-new refl (tt, tt, refl, refl), refl),
+        ),
+      ),
+    ),
+    refl,
+  ),
+)
+
+-- One cell
+apart-none : {X : Type 0} (x : Option X) → Apart x None
+apart-none None = tt
+apart-none (Some x) = tt
+
+or-none : {X : Type 0} (x : Option X) → x ≡ option_or x None
+or-none None = refl
+or-none (Some x) = refl
+
+-- the whole, and nothing
+all-nothing : {K X : Type 0} (whole : K → Option X) → Splits whole whole (λ a. None)
+all-nothing whole = record { apart = λ a. apart-none (whole a); is = λ a. or-none (whole a) }
+
+-- a heap of one cell at the first variable satisfies the contract of one cell
+one-sat : (see : Expr → Value) (heap : Heap) (k : Cell) → see (own_one 0) ≡ loc 1 → IsOne 1 k heap → Sat one_cell.level see (λ n. nil) heap
+one-sat see heap k e o = (
+  λ n. nil,
+  λ n h. refl,
+  record { left = heap; right = λ a. None; splits = all-nothing heap; first = (1, k, e, o, tt); second = record { none = λ a. refl } },
+)
+
+one-is : (k : Cell) → IsOne 1 k (one_at k)
+one-is k = record { here = refl; elsewhere = λ a n. cond-else (a == 1) (Some k) None (λ e. n (number-same a 1 e)) }
+
+both-true : (a b : Bool) → a && b ≡ true → (a ≡ true) × (b ≡ true)
+both-true true b e = (refl, e)
+both-true false b e = absurd (cc)
+
+cond-some : {X : Type 0} (b : Bool) (x y : X) → cond b (Some x) None ≡ Some y → b ≡ true
+cond-some true x y e = refl
+cond-some false x y e = absurd (cc)
+
+var-differs : (r : ResId) (i : ℕ) → Own 0 ≡ Shared r i → ⊥
+var-differs r i e = absurd (cc)
+
+pub setting_starts-holds : SettingStarts
+setting_starts-holds k = record {
+  procedure = main;
+  there = refl;
+  is = refl;
+  holds_none = λ r h. held r h;
+  kept = kept;
+  no_more = no_more;
+  locals = λ i l m. absurd (omega (arith, l, m));
+  pre = record { left = one_at k; right = λ a. None; splits = all-nothing (one_at k); first = one-sat (seen entry_slot (one_in (loc 1))) (one_at k) k refl (one-is k); second = record { none = λ a. refl } };
+}
+  where
+    in_contract : (x : Var) → OccursIn x one_cell.level → Own 0 ≡ x
+    in_contract x (inl (inl e)) = e
+    in_contract x (inl (inr z)) = absurd z
+    in_contract x (inr z) = absurd z
+
+    held : (r : ResId) → HeldBy setting (record { 0 = 0 }) r → ⊥
+    held r h =
+        let same : main ≡ h.procedure = cc (h.there) in
+        elim h.occurs [
+          | inl o ↦ var-differs r h.variable (in_contract (Shared r h.variable) (subst (λ (z : Procedure). OccursIn (Shared r h.variable) z.pre.level) (sym same) o))
+          | inr o ↦ var-differs r h.variable (in_contract (Shared r h.variable) (subst (λ (z : Procedure). OccursIn (Shared r h.variable) z.post.level) (sym same) o))
+        ]
+
+    kept : (slot : Slot) → IsKept setting main slot → (v : Value) × (one_in (loc 1) slot ≡ Some v)
+    kept (shared r i) q = absurd (none-some q.0 q.1)
+    kept (own e i) q =
+        let first : i ≡ 0 = omega (arith, q.1) in
+        (loc 1, ap₂ (λ a b. one_in (loc 1) (own a b)) q.0 first)
+
+    no_more : (slot : Slot) (v : Value) → one_in (loc 1) slot ≡ Some v → IsKept setting main slot
+    no_more (shared r i) v e = absurd (none-some v e)
+    no_more (own f i) v e =
+        let b = both-true (f == 0) (i == 0) (cond-some ((f == 0) && (i == 0)) (loc 1) v e) in
+        let first : i ≡ 0 = number-same i 0 b.1 in
+        let below : i < 1 = omega arith in
+        (number-same f 0 b.0, below)
+
+-- An ended entry
+-- the whole heap is the entry's
+abbrev entry_part : Heap → Owner → Heap
+entry_part h (resource r) = λ a. None
+entry_part h (task []) = h
+entry_part h (task (turn ∷ path)) = λ a. None
+
+entry_part-apart : (h : Heap) (owner other : Owner) → owner ≢ other → (a : ℕ) → Apart (entry_part h owner a) (entry_part h other a)
+entry_part-apart h (resource r) other n a = tt
+entry_part-apart h (task []) (resource r) n a = apart-none (h a)
+entry_part-apart h (task []) (task []) n a = absurd (n refl)
+entry_part-apart h (task []) (task (turn ∷ path)) n a = apart-none (h a)
+entry_part-apart h (task (turn ∷ path)) other n a = tt
+
+-- nothing bad comes after the end
+ended-not_bad : (c : Config) → HasEnded [] c.tasks → Bad c → ⊥
+ended-not_bad c h (inl b) =
+    let top : b.path ≡ [] = task_at-ended b.path c.tasks (runs (b.frame ∷ b.below)) h b.enabled.there in
+    let there : task_at [] c.tasks ≡ Some (runs (b.frame ∷ b.below)) = subst (λ z. task_at z c.tasks ≡ Some (runs (b.frame ∷ b.below))) top b.enabled.there in
+    let same : c.tasks ≡ runs (b.frame ∷ b.below) = cc in
+    b.enabled.going (subst (λ z. HasEnded z (runs (b.frame ∷ b.below))) (sym top) (subst (HasEnded []) same h))
+ended-not_bad c h (inr r) =
+    r.different (task_at-ended r.path c.tasks r.task h r.enabled.there ∙ sym (task_at-ended r.other_path c.tasks r.other h r.other_enabled.there))
+
+-- an ended entry of a program without resources is good where the heap satisfies its postcondition
+ended-good : (p : Program) (c : Config) (frame : Frame) (g : Procedure) → p.resources ≡ [] → c.tasks ≡ runs (frame ∷ []) → frame.todo ≡ [] → procedure_at p frame.fixed.procedure ≡ Some g
+    → Sat g.post.level (seen frame.fixed.slots c.common.store) (λ n. nil) c.common.heap → Good p c
+ended-good p c frame g none_there only done is sat = record {
+  never_bad = ended-not_bad c ended;
+  part = entry_part c.common.heap;
+  apart = entry_part-apart c.common.heap;
+  invariants = λ r of e f. absurd (no_resource r of e);
+  posts = λ path other h r e. absurd (no_return path other r);
+  finished = λ h. record {
+    frame = frame;
+    alone = only;
+    procedure = g;
+    there = is;
+    free = λ r of e. absurd (no_resource r of e);
+    post = record { rest = λ a. None; splits = all-nothing c.common.heap; sat = sat };
+    all = λ a k e. inl e;
+  };
+}
+  where
+    ended : HasEnded [] c.tasks
+    ended = subst (HasEnded []) (sym only) done
+
+    no_resource : (r : ResId) (of : Resource) → slice_get p.resources r.0 ≡ Some of → ⊥
+    no_resource r of e = none-some of (subst (λ z. slice_get z r.0 ≡ Some of) none_there e)
+
+    no_return : (path : Path) (other : Frame) → Returns c path other → ⊥
+    no_return path other r =
+        let top : path ≡ [] = task_at-ended path c.tasks (runs (other ∷ r.below)) ended r.there in
+        let there : task_at [] c.tasks ≡ Some (runs (other ∷ r.below)) = subst (λ z. task_at z c.tasks ≡ Some (runs (other ∷ r.below))) top r.there in
+        let same : [] ≡ r.below = cc in
+        subst (λ z. IsCalled [] z) (sym same) (subst (λ z. IsCalled z r.below) top r.called)
+
+-- the entry's frame with nothing more to do
+abbrev main_done : Frame
+main_done = record { fixed = (entry_frame (record { 0 = 0 }) main).fixed; todo = [] }
+
+-- `main` at its end with its one cell is good
+set-good : (c : Config) (k : Cell) → c.tasks ≡ runs (main_done ∷ []) → c.common.store (own 0 0) ≡ Some (loc 1) → IsOne 1 k c.common.heap → Good setting c
+set-good c k only e o = ended-good setting c main_done main refl only refl refl (one-sat (seen entry_slot c.common.store) c.common.heap k (ap (λ z. unwrap_or z nil) e) o)
+
+pub call_mutate_return-holds : CallMutateReturn
+call_mutate_return-holds k = (
+  _,
+  (
+    _,
+    to setting (event [] 1) (setting_start k) _ _ _ one-new refl (set, refl, refl, refl),
+    (
+      _,
+      to setting (event [] 2) _ _ _ _ two-new refl (1, k, record { is = refl; there = refl }, refl, refl),
+      (_, to setting (event [] 3) _ _ _ _ three-new refl (tt, refl, refl), refl),
+    ),
+  ),
+  record { cell = refl; gone = refl; stays = refl; ended = refl },
+  set-good _ (put_field k 0 (int (pos 7))) refl refl now_one,
+)
+  where
+    now_one : IsOne 1 (put_field k 0 (int (pos 7))) (λ a. cond (a == 1) (Some (put_field k 0 (int (pos 7)))) (one_at k a))
+    now_one = record {
+      here = refl;
+      elsewhere = λ a n. cond-else (a == 1) (Some (put_field k 0 (int (pos 7)))) (one_at k a) (λ e. n (number-same a 1 e)) ∙ (one-is k).elsewhere a n;
+    }

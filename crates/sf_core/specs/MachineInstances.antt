@@ -1,0 +1,220 @@
+-- Worked instances of the machine's definitions: small programs, their runs, and configurations that are bad or not.
+-- The commands are those of Berdine, Calcagno, O'Hearn, "Smallfoot" (2005); races as in O'Hearn (2007).
+use Rattle.std.specs.Prelude.{◌≡◌, ℕ, ◌+◌, ◌==◌, pos, cond, List, [], ◌∷◌, codes, Option, Some, None}
+use Rattle.sf_base.specs.declared.ids.FieldId.{FieldId}
+use Rattle.sf_base.specs.declared.ids.ResId.{ResId}
+use Rattle.sf_base.specs.declared.ids.Var.{Var}
+use Rattle.sf_base.specs.declared.ids.Var.TheVariants.{Own, Shared}
+use Rattle.sf_base.specs.declared.place.Place.{Place}
+use Rattle.sf_base.specs.declared.value.Value.{Value}
+use Rattle.sf_base.specs.declared.value.Value.TheVariants.{Nil as nil, Int as int, Loc as loc}
+use Rattle.sf_core.specs.declared.assertion.Operand.TheVariants.{Known}
+use Rattle.sf_core.specs.declared.assertion.Test.TheVariants.{True}
+use Rattle.sf_core.specs.declared.command.Expr.{Expr}
+use Rattle.sf_core.specs.declared.command.Expr.TheVariants.{Var as Variable, Nil, Int}
+use Rattle.sf_core.specs.declared.command.Occurrence.{Occurrence}
+use Rattle.sf_core.specs.Bad.{Bad}
+use Rattle.sf_core.specs.Config.{Item, command, Fixed, Frame, Task, runs, waits, left, right, Path, Common, Config}
+use Rattle.sf_core.specs.Enabled.{HasEnded, IsEnabled}
+use Rattle.sf_core.specs.Good.{Good}
+use Rattle.sf_core.specs.HeapStore.{Cell, put_field, Heap, Slot, shared, own, same_slot, Store}
+use Rattle.sf_core.specs.Reach.{Reach}
+use Rattle.sf_core.specs.Start.{Start, beginning}
+use Rattle.sf_core.specs.Step.{Event}
+use Rattle.sf_core.specs.Syntax.{points, level, none, also, Call, look_up, mutate, new, dispose, call, fork, with, Block, done, then, Assertion, Procedure, Program}
+
+-- a place in the text, which no definition looks at
+abbrev pub here : Place
+here = record { line = 1; column = 1 }
+
+-- the first field
+abbrev pub hd : FieldId
+hd = record { 0 = 0 }
+
+-- the only resource
+abbrev pub lock : ResId
+lock = record { 0 = 0 }
+
+-- the procedure's own variable of that number, where it stands in the text
+abbrev pub at_own : ℕ → Occurrence
+at_own i = record { var = Own i; place = here }
+
+-- the procedure's own variable of that number, as an expression
+abbrev pub own_one : ℕ → Expr
+own_one i = Variable (at_own i)
+
+-- nothing: the empty heap
+abbrev pub emp : Assertion
+emp = record { names = []; level = level (record { first = 0; count = 0 }) none }
+
+-- one cell at the procedure's first variable
+abbrev pub one_cell : Assertion
+one_cell = record { names = []; level = level (record { first = 0; count = 0 }) (also (points here (Known (own_one 0)) []) none) }
+
+-- a procedure with that contract and body, of these variables
+abbrev pub procedure : (names : List (List ℕ)) (references values : ℕ) → Assertion → Block → Procedure
+procedure names references values contract body = record {
+  name = codes "f";
+  place = here;
+  names = names;
+  references = references;
+  values = values;
+  pre = contract;
+  post = contract;
+  body = body;
+  end = here;
+}
+
+-- a call of that procedure with these values and no references
+abbrev pub calls : ℕ → List Expr → Call
+calls f values = record { callee = record { 0 = f }; place = here; references = []; values = values }
+
+-- main(c;) [c |->] { set(; c); } [c |->]
+abbrev pub main : Procedure
+main = procedure (codes "c" ∷ []) 1 0 one_cell (then (call here (calls 1 (own_one 0 ∷ []))) done)
+
+-- set(; x) [x |->] { x->hd = 7; } [x |->]
+abbrev pub set : Procedure
+set = procedure (codes "x" ∷ []) 0 1 one_cell (then (mutate here (own_one 0) hd (Int (pos 7))) done)
+
+-- both, with no resource
+abbrev pub setting : Program
+setting = record { fields = codes "hd" ∷ []; resources = []; procedures = main ∷ set ∷ [] }
+
+-- one cell, at location 1
+abbrev pub one_at : Cell → Heap
+one_at k = λ a. cond (a == 1) (Some k) None
+
+-- the entry's first variable has that value, and there are no others
+abbrev pub one_in : Value → Store
+one_in v = λ slot. cond (same_slot slot (own 0 0)) (Some v) None
+
+-- an event of the task at that path with that number, which makes no cell
+abbrev pub event : Path → ℕ → Event
+event path number = record { task = path; number = number; at = 0; fields = λ f. nil }
+
+-- `main` starts at the one cell
+abbrev pub setting_start : Cell → Config
+setting_start k = beginning (record { 0 = 0 }) main (one_in (loc 1)) (one_at k)
+
+-- that is a start
+abbrev pub SettingStarts : Type 0
+SettingStarts = (k : Cell) → Start setting (record { 0 = 0 }) (one_in (loc 1)) (one_at k) (setting_start k)
+
+-- what three events of it lead to: the field is set, the callee's slot is gone, the entry's is there, and the entry has ended
+pub record IsSet (k : Cell) (d : Config) : Type 0 where
+  pub cell : d.common.heap 1 ≡ Some (put_field k 0 (int (pos 7)))
+  pub gone : d.common.store (own 1 0) ≡ None
+  pub stays : d.common.store (own 0 0) ≡ Some (loc 1)
+  pub ended : HasEnded [] d.tasks
+
+-- a call, a mutation in the callee's frame and the callee's return lead there, to a good configuration
+abbrev pub CallMutateReturn : Type 0
+CallMutateReturn = (k : Cell) → (d : Config) × Reach setting (setting_start k) (event [] 1 ∷ event [] 2 ∷ event [] 3 ∷ []) d × IsSet k d × Good setting d
+
+-- the slots of the variables of a child whose slots begin at that index of event 1
+abbrev pub child_slots : ℕ → Var → Slot
+child_slots first (Own i) = own 1 (first + i)
+child_slots first (Shared r i) = shared r i
+
+-- a child of a fork with two variables, from that index on
+abbrev pub child : ℕ → Fixed
+child first = record { procedure = record { 0 = 1 }; slots = child_slots first; room = record { event = 1; first = first; count = 2 } }
+
+-- the entry's frame with nothing more to do
+abbrev pub parent : Frame
+parent = record { fixed = record { procedure = record { 0 = 0 }; slots = child_slots 4; room = record { event = 0; first = 0; count = 0 } }; todo = [] }
+
+-- two children with that still to do, the slots of the one from index 0 and those of the other from index 2
+abbrev pub side_by_side : (this that : List Item) → Common → Config
+side_by_side this that s = record {
+  common = s;
+  used = 1 ∷ 0 ∷ [];
+  tasks = waits (parent ∷ []) (runs (record { fixed = child 0; todo = this } ∷ [])) (runs (record { fixed = child 2; todo = that } ∷ []));
+}
+
+-- each child's first variable is the location of the one cell, and the resource has that holder
+abbrev pub at_one_cell : Cell → Option Path → Common
+at_one_cell k holder = record {
+  heap = one_at k;
+  store = λ slot. cond (same_slot slot (own 1 0)) (Some (loc 1)) (cond (same_slot slot (own 1 2)) (Some (loc 1)) None);
+  held = λ r. holder;
+}
+
+-- x->hd = 7;
+abbrev pub mutates : List Item
+mutates = command (mutate here (own_one 0) hd (Int (pos 7))) ∷ []
+
+-- y = x->hd;
+abbrev pub looks_up : List Item
+looks_up = command (look_up here (at_own 1) (own_one 0) hd) ∷ []
+
+-- with lock when (true) { x->hd = 7; }
+abbrev pub enters : List Item
+enters = command (with here lock True (then (mutate here (own_one 0) hd (Int (pos 7))) done)) ∷ []
+
+-- two mutations of one cell race
+abbrev pub TwoMutationsRace : Type 0
+TwoMutationsRace = (k : Cell) → Bad (side_by_side mutates mutates (at_one_cell k None))
+
+-- a mutation races with a look-up of the same cell, whoever comes first in the tree
+abbrev pub MutationAndLookUpRace : Type 0
+MutationAndLookUpRace = (k : Cell) → Bad (side_by_side mutates looks_up (at_one_cell k None)) × Bad (side_by_side looks_up mutates (at_one_cell k None))
+
+-- two look-ups of one cell don't
+abbrev pub TwoLookUpsDoNotRace : Type 0
+TwoLookUpsDoNotRace = (k : Cell) → Bad (side_by_side looks_up looks_up (at_one_cell k None)) → ⊥
+
+-- nor do two entries of a free resource, though what stands in the regions would
+abbrev pub TwoEntriesDoNotRace : Type 0
+TwoEntriesDoNotRace = (k : Cell) → Bad (side_by_side enters enters (at_one_cell k None)) → ⊥
+
+-- while one task holds the resource, the other at its region isn't enabled, and the mutation of the holder is no race
+abbrev pub HeldRegionsWait : Type 0
+HeldRegionsWait = (k : Cell)
+    → ((task : Task) → IsEnabled (side_by_side mutates enters (at_one_cell k (Some (left ∷ [])))) (right ∷ []) task → ⊥)
+    × (Bad (side_by_side mutates enters (at_one_cell k (Some (left ∷ [])))) → ⊥)
+
+-- one task, of one frame, with that still to do
+abbrev pub alone : List Item → Common → Config
+alone todo s = record { common = s; used = 0 ∷ []; tasks = runs (record { fixed = child 0; todo = todo } ∷ []) }
+
+-- a dispose at nil is bad in every heap and store
+abbrev pub DisposeAtNilIsBad : Type 0
+DisposeAtNilIsBad = (s : Common) (rest : List Item) → Bad (alone (command (dispose here Nil) ∷ rest) s)
+
+-- a `new` of that number at location 5
+abbrev pub makes : ℕ → Event
+makes number = record { task = []; number = number; at = 5; fields = λ f. nil }
+
+-- x = new(); dispose(x); y = new();
+abbrev pub makes_twice : List Item
+makes_twice = command (new here (at_own 0)) ∷ command (dispose here (own_one 0)) ∷ command (new here (at_own 1)) ∷ []
+
+-- a location that was freed may come again: both variables end with the same location
+abbrev pub FreedLocationsComeAgain : Type 0
+FreedLocationsComeAgain = (p : Program) (s : Common) → s.heap 5 ≡ None
+    → (d : Config) × Reach p (alone makes_twice s) (makes 1 ∷ event [] 2 ∷ makes 3 ∷ []) d
+    × (d.common.heap 5 ≡ Some (λ f. nil)) × (d.common.store (own 1 0) ≡ Some (loc 5)) × (d.common.store (own 1 1) ≡ Some (loc 5))
+
+-- forks() [] { skip() || skip(); } []
+abbrev pub forks : Procedure
+forks = procedure [] 0 0 emp (then (fork here (calls 1 []) (calls 1 [])) done)
+
+-- skip() [] { } []
+abbrev pub skip : Procedure
+skip = procedure [] 0 0 emp done
+
+-- both, with no resource
+abbrev pub forking : Program
+forking = record { fields = codes "hd" ∷ []; resources = []; procedures = forks ∷ skip ∷ [] }
+
+-- `forks` starts with no variables and no cells
+abbrev pub forking_start : Config
+forking_start = beginning (record { 0 = 0 }) forks (λ slot. None) (λ a. None)
+
+-- the children of a fork may end in either order, and then the parent joins them and the entry has ended
+abbrev pub ChildrenEndInAnyOrder : Type 0
+ChildrenEndInAnyOrder =
+    ((d : Config) × Reach forking forking_start (event [] 1 ∷ event (left ∷ []) 2 ∷ event (right ∷ []) 3 ∷ event [] 4 ∷ []) d × HasEnded [] d.tasks)
+    × ((d : Config) × Reach forking forking_start (event [] 1 ∷ event (right ∷ []) 2 ∷ event (left ∷ []) 3 ∷ event [] 4 ∷ []) d × HasEnded [] d.tasks)
