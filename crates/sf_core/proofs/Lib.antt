@@ -16,3 +16,5 @@ pub mod MachineRuns
 pub mod MachineTasks
 pub mod MachineProgress
 pub mod MachineInstances
+pub mod MachineOnce
+pub mod GoodParts

@@ -23,3 +23,4 @@ pub mod Laws
 pub mod Instances
 pub mod MachineLaws
 pub mod MachineInstances
+pub mod GoodParts

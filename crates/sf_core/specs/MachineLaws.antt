@@ -64,6 +64,10 @@ abbrev pub StepsTouchOnlyWhatTheySay : Type 0
 StepsTouchOnlyWhatTheySay =
     (p : Program) (event : Event) (c d : Config) (task : Task) → Step p event c d → task_at event.task c.tasks ≡ Some task → Touches event task c d
 
+-- an event leads to at most one configuration
+abbrev pub EventsDetermine : Type 0
+EventsDetermine = (p : Program) (event : Event) (c d e : Config) → Step p event c d → Step p event c e → d ≡ e
+
 -- the number is that of one of the events
 abbrev pub HasNumber : List Event → ℕ → Type 0
 HasNumber [] number = ⊥

@@ -1,6 +1,8 @@
 //! Laws of the machine's definitions, each the contract of a function that does nothing.
+ghost use Rattle.sf_core.specs.GoodParts.{PartsMakeGood};
 ghost use Rattle.sf_core.specs.MachineLaws.{
   EndedRunsStop,
+  EventsDetermine,
   EnabledTasksPart,
   EnabledTasksStep,
   OnlyEnabledTasksStep,
@@ -14,6 +16,11 @@ ghost use Rattle.sf_core.specs.MachineLaws.{
 /// cell that a `new` makes, and nothing else; and a resource changes hands only by its task.
 pub fn steps_touch_only_what_they_say()
     ensures { StepsTouchOnlyWhatTheySay }
+{}
+
+/// An event leads to at most one configuration.
+pub fn events_determine()
+    ensures { EventsDetermine }
 {}
 
 /// A run's events have new and different numbers, and just these are used after it besides those
@@ -41,6 +48,12 @@ pub fn only_enabled_tasks_step()
 /// Once the entry has ended no event comes.
 pub fn ended_runs_stop()
     ensures { EndedRunsStop }
+{}
+
+/// A configuration is good that isn't bad, whose heap splits into parts along its resources and
+/// the tree of its tasks, and that ends well where it has ended.
+pub fn parts_make_good()
+    ensures { PartsMakeGood }
 {}
 
 /// Of two different enabled tasks neither is an ancestor of the other.
