@@ -10,14 +10,17 @@ use Rattle.sf_base.specs.declared.ids.Var.TheVariants.{Own, Shared}
 use Rattle.sf_base.specs.declared.value.Value.{Value}
 use Rattle.sf_base.specs.declared.value.Value.TheVariants.{Nil as nil, Int as int, Loc as loc}
 use Rattle.sf_core.specs.declared.command.Expr.{Expr}
-use Rattle.sf_core.specs.declared.command.Expr.TheVariants.{Nil}
+use Rattle.sf_core.specs.declared.command.Expr.TheVariants.{Var as Variable, Nil}
+use Rattle.sf_core.specs.declared.command.Occurrence.{Occurrence}
+use Rattle.sf_core.specs.declared.assertion.Operand.TheVariants.{Known}
 use Rattle.sf_core.specs.Bad.{Bad, IsAbsent, next_root}
 use Rattle.sf_core.specs.Config.{Item, Frame, Task, runs, left, right, Path, Common, Config, seen, task_at, replaced, IsUsed, IsCalled}
 use Rattle.sf_core.specs.Enabled.{HasEnded, IsShut, IsBlocked, IsEnabled, Thing, variable, cell, FrameReads, FrameWrites, Reads, Writes}
 use Rattle.sf_core.specs.Good.{Owner, resource, task, Returns, Good}
 use Rattle.sf_core.specs.HeapStore.{Apart, Splits, Cell, put_field, Heap, IsOne, Slot, shared, own}
-use Rattle.sf_core.specs.HeldBy.{HeldBy, OccursIn}
-use Rattle.sf_core.specs.MachineInstances.{own_one, one_cell, main, set, setting, one_at, one_in, event, setting_start, SettingStarts, CallMutateReturn, child_slots, child, side_by_side, at_one_cell, mutates, looks_up, enters, TwoMutationsRace, MutationAndLookUpRace, TwoLookUpsDoNotRace, TwoEntriesDoNotRace, HeldRegionsWait, alone, DisposeAtNilIsBad, makes, makes_twice, FreedLocationsComeAgain, skip, forking, forking_start, ChildrenEndInAnyOrder}
+use Rattle.sf_core.specs.HeldBy.{HeldBy}
+use Rattle.sf_core.specs.MachineInstances.{at_own, own_one, one_cell, main, set, setting, one_at, one_in, event, setting_start, SettingStarts, CallMutateReturn, child_slots, child, side_by_side, at_one_cell, mutates, looks_up, enters, TwoMutationsRace, MutationAndLookUpRace, TwoLookUpsDoNotRace, TwoEntriesDoNotRace, HeldRegionsWait, alone, DisposeAtNilIsBad, makes, makes_twice, FreedLocationsComeAgain, skip, forking, forking_start, ChildrenEndInAnyOrder}
+use Rattle.sf_core.specs.Occurs.{VarOccursIn}
 use Rattle.sf_core.specs.Sat.{Sat}
 use Rattle.sf_core.specs.Start.{IsKept, entry_slot, entry_frame}
 use Rattle.sf_core.specs.Step.{Event, procedure_at, TaskStep, Step}
@@ -339,17 +342,19 @@ setting_starts-holds k = record {
   pre = record { left = one_at k; right = λ a. None; splits = all-nothing (one_at k); first = one-sat (seen entry_slot (one_in (loc 1))) (one_at k) k refl (one-is k); second = record { none = λ a. refl } };
 }
   where
-    in_contract : (x : Var) → OccursIn x one_cell.level → Own 0 ≡ x
-    in_contract x (inl (inl e)) = e
-    in_contract x (inl (inr z)) = absurd z
-    in_contract x (inr z) = absurd z
+    is_first : (x : Var) (at : Occurrence) → at.var ≡ x → (Known (Variable at) ≡ Known (own_one 0)) ⊎ ⊥ → Own 0 ≡ x
+    is_first x at e (inl f) = let same : at ≡ at_own 0 = cc in ap (λ (z : Occurrence). z.var) (sym same) ∙ e
+    is_first x at e (inr z) = absurd z
+
+    in_contract : (x : Var) → VarOccursIn one_cell.level x → Own 0 ≡ x
+    in_contract x o = elim (o.2).0 [ inl f ↦ is_first x o.0 o.1 f | inr z ↦ absurd z ]
 
     held : (r : ResId) → HeldBy setting (record { 0 = 0 }) r → ⊥
     held r h =
         let same : main ≡ h.procedure = cc (h.there) in
         elim h.occurs [
-          | inl o ↦ var-differs r h.variable (in_contract (Shared r h.variable) (subst (λ (z : Procedure). OccursIn (Shared r h.variable) z.pre.level) (sym same) o))
-          | inr o ↦ var-differs r h.variable (in_contract (Shared r h.variable) (subst (λ (z : Procedure). OccursIn (Shared r h.variable) z.post.level) (sym same) o))
+          | inl o ↦ var-differs r h.variable (in_contract (Shared r h.variable) (subst (λ (z : Procedure). VarOccursIn z.pre.level (Shared r h.variable)) (sym same) o))
+          | inr o ↦ var-differs r h.variable (in_contract (Shared r h.variable) (subst (λ (z : Procedure). VarOccursIn z.post.level (Shared r h.variable)) (sym same) o))
         ]
 
     kept : (slot : Slot) → IsKept setting main slot → (v : Value) × (one_in (loc 1) slot ≡ Some v)
