@@ -1,11 +1,12 @@
 -- From a heap that splits along the resources and the tasks to the family of parts that Good speaks of.
 -- Names: `apart-WHAT` at one location, `WHAT-family` makes the family.
-use Rattle.std.specs.Prelude.{◌≡◌, ◌≢◌, ℕ, zero, suc, ◌+◌, List, [], ◌∷◌, Option, Some, None, ◌⊎◌}
+use Rattle.std.specs.Prelude.{◌≡◌, ◌≢◌, ℕ, zero, suc, ◌+◌, List, [], ◌∷◌, Option, Some, None}
 use Rattle.std.specs.List.{slice_get}
-use Rattle.std.specs.Option.{option_or}
 use Rattle.std.proofs.Common.{sym, ap, ◌∙◌, refl, subst, inl, inr, arith}
 use Rattle.sf_base.specs.declared.ids.ResId.{ResId}
 use Rattle.sf_base.specs.declared.value.Value.TheVariants.{Nil as nil}
+use Rattle.sf_core.proofs.Cases.{none-not_some}
+use Rattle.sf_core.proofs.MapSplits.{rest_of, splits-has_left, splits-has_right, splits-which, splits-rest}
 use Rattle.sf_core.specs.Bad.{Bad}
 use Rattle.sf_core.specs.Config.{Frame, Task, runs, waits, left, right, Path, Config, seen, task_at}
 use Rattle.sf_core.specs.Enabled.{HasEnded}
@@ -40,53 +41,10 @@ apart-within None y v w f g e = tt
 apart-within (Some x) None v w f g e = tt
 apart-within (Some x) (Some y) v w f g e = subst (λ z. Apart (Some x) z) (g y refl) (subst (λ z. Apart z w) (f x refl) e)
 
-none-some : {X : Type 0} (x : X) → None ≡ Some x → ⊥
-none-some x e = absurd (cc)
-
--- what the left part has, the whole has
-left-within : (x y v : Option Cell) (k : Cell) → v ≡ option_or x y → x ≡ Some k → v ≡ Some k
-left-within None y v k e f = absurd (cc)
-left-within (Some x) y v k e f = e ∙ f
-
--- what the right part has, the whole has
-right-within : (x y v : Option Cell) (k : Cell) → Apart x y → v ≡ option_or x y → y ≡ Some k → v ≡ Some k
-right-within None y v k d e f = e ∙ f
-right-within (Some x) None v k d e f = absurd (cc)
-right-within (Some x) (Some y) v k d e f = absurd d
-
--- what the whole has, one of the parts has
-either-has : (x y v : Option Cell) (k : Cell) → v ≡ option_or x y → v ≡ Some k → (x ≡ Some k) ⊎ (y ≡ Some k)
-either-has None y v k e f = inr (sym e ∙ f)
-either-has (Some x) y v k e f = inl (sym e ∙ f)
-
--- what is left of the one without the other
-abbrev without : Option Cell → Option Cell → Option Cell
-without None y = y
-without (Some x) y = None
-
--- The whole split in a part and what is left
-left-of : {h g k : Heap} → Splits h g k → (a : ℕ) (c : Cell) → g a ≡ Some c → h a ≡ Some c
-left-of {h} {g} {k} s a c e = left-within (g a) (k a) (h a) c (s.is a) e
-
-right-of : {h g k : Heap} → Splits h g k → (a : ℕ) (c : Cell) → k a ≡ Some c → h a ≡ Some c
-right-of {h} {g} {k} s a c e = right-within (g a) (k a) (h a) c (s.apart a) (s.is a) e
-
-without-apart : (x y : Option Cell) → Apart x (without x y)
-without-apart None y = tt
-without-apart (Some x) y = tt
-
-without-is : (x y : Option Cell) → ((k : Cell) → x ≡ Some k → y ≡ Some k) → y ≡ option_or x (without x y)
-without-is None y f = refl
-without-is (Some x) y f = f x refl
-
 -- a part of a heap that satisfies an assertion is a footprint
 foot-of : {E : Type 0} (a : Rattle.sf_core.specs.Syntax.Level E) (val : E → Rattle.sf_base.specs.declared.value.Value.Value) (heap part : Heap)
     → ((l : ℕ) (k : Cell) → part l ≡ Some k → heap l ≡ Some k) → Sat a val (λ n. nil) part → Foot a val heap part
-foot-of a val heap part f s = record {
-  rest = λ l. without (part l) (heap l);
-  splits = record { apart = λ l. without-apart (part l) (heap l); is = λ l. without-is (part l) (heap l) (f l) };
-  sat = s;
-}
+foot-of a val heap part f s = record { rest = rest_of part heap; splits = splits-rest f; sat = s }
 
 -- The resources
 record InvariantFamily (store : Store) (held : ResId → Option Path) (number : ℕ) (rs : List Resource) (h : Heap) : Type 0 where
@@ -103,8 +61,8 @@ abbrev pick-family : {h g k : Heap} → Splits h g k → Family ℕ k → Family
 pick-family {h} {g} {k} s f = record { part = pick g f.part; within = within; apart = apart }
   where
     within : (i a : ℕ) (c : Cell) → pick g f.part i a ≡ Some c → h a ≡ Some c
-    within zero a c e = left-of s a c e
-    within (suc i) a c e = right-of s a c (f.within i a c e)
+    within zero a c e = splits-has_left a c s e
+    within (suc i) a c e = splits-has_right a c s (f.within i a c e)
 
     apart : (i j : ℕ) → i ≢ j → (a : ℕ) → Apart (pick g f.part i a) (pick g f.part j a)
     apart zero zero n a = absurd (n refl)
@@ -131,16 +89,16 @@ pick-invariants store held number r rs h s rest = record { family = pick-family 
     holds (suc i) of e = subst (λ z. InvariantPart store (held (record { 0 = z })) of (rest.family.part i)) (plus-suc number i) (rest.holds i of e)
 
     covers : (a : ℕ) (k : Cell) → h a ≡ Some k → (i : ℕ) × (of : Resource) × (slice_get (r ∷ rs) i ≡ Some of) × (pick s.left rest.family.part i a ≡ Some k)
-    covers a k e = elim (either-has (s.left a) (s.right a) (h a) k (s.splits.is a) e) [
-      | inl f ↦ (0, r, refl, f)
-      | inr f ↦ let c = rest.covers a k f in (suc c.0, c.1, c.2, c.3)
+    covers a k e = elim (splits-which a k s.splits e) [
+      | inl f ↦ (0, r, refl, f.0)
+      | inr f ↦ let c = rest.covers a k f.0 in (suc c.0, c.1, c.2, c.3)
     ]
 
 invariant-family : (store : Store) (held : ResId → Option Path) (number : ℕ) (rs : List Resource) (h : Heap) → InvariantParts store held number rs h → InvariantFamily store held number rs h
 invariant-family store held number [] h e = record {
-  family = record { part = λ i a. None; within = λ i a k f. absurd (none-some k f); apart = λ i j n a. tt };
-  holds = λ i of f. absurd (none-some of f);
-  covers = λ a k f. absurd (none-some k (sym (e.none a) ∙ f));
+  family = record { part = λ i a. None; within = λ i a k f. absurd (none-not_some k f); apart = λ i j n a. tt };
+  holds = λ i of f. absurd (none-not_some of f);
+  covers = λ a k f. absurd (none-not_some k (sym (e.none a) ∙ f));
 }
 invariant-family store held number (r ∷ rs) h s = pick-invariants store held number r rs h s (invariant-family store held (suc number) rs s.right s.second)
 
@@ -161,7 +119,7 @@ root-family h = record { part = at_root h; within = within; apart = apart }
   where
     within : (path : Path) (a : ℕ) (k : Cell) → at_root h path a ≡ Some k → h a ≡ Some k
     within [] a k e = e
-    within (turn ∷ path) a k e = absurd (none-some k e)
+    within (turn ∷ path) a k e = absurd (none-not_some k e)
 
     apart : (path other : Path) → path ≢ other → (a : ℕ) → Apart (at_root h path a) (at_root h other a)
     apart [] [] n a = absurd (n refl)
@@ -178,9 +136,9 @@ abbrev fork-family : {h g k : Heap} → Splits h g k → Family Path g → Famil
 fork-family {h} {g} {k} s x y = record { part = below_root x.part y.part; within = within; apart = apart }
   where
     within : (path : Path) (a : ℕ) (c : Cell) → below_root x.part y.part path a ≡ Some c → h a ≡ Some c
-    within [] a c e = absurd (none-some c e)
-    within (left ∷ path) a c e = left-of s a c (x.within path a c e)
-    within (right ∷ path) a c e = right-of s a c (y.within path a c e)
+    within [] a c e = absurd (none-not_some c e)
+    within (left ∷ path) a c e = splits-has_left a c s (x.within path a c e)
+    within (right ∷ path) a c e = splits-has_right a c s (y.within path a c e)
 
     across : (path other : Path) (a : ℕ) → Apart (x.part path a) (y.part other a)
     across path other a = apart-within (x.part path a) (y.part other a) (g a) (k a) (λ c e. x.within path a c e) (λ c e. y.within other a c e) (s.apart a)
@@ -237,8 +195,8 @@ abbrev owner-family : {h g k : Heap} → Splits h g k → Family ℕ g → Famil
 owner-family {h} {g} {k} s x y = record { part = owner_part x.part y.part; within = within; apart = apart }
   where
     within : (owner : Owner) (a : ℕ) (c : Cell) → owner_part x.part y.part owner a ≡ Some c → h a ≡ Some c
-    within (resource r) a c e = left-of s a c (x.within r.0 a c e)
-    within (task path) a c e = right-of s a c (y.within path a c e)
+    within (resource r) a c e = splits-has_left a c s (x.within r.0 a c e)
+    within (task path) a c e = splits-has_right a c s (y.within path a c e)
 
     across : (i : ℕ) (path : Path) (a : ℕ) → Apart (x.part i a) (y.part path a)
     across i path a = apart-within (x.part i a) (y.part path a) (g a) (k a) (λ c e. x.within i a c e) (λ c e. y.within path a c e) (s.apart a)
@@ -251,7 +209,7 @@ owner-family {h} {g} {k} s x y = record { part = owner_part x.part y.part; withi
 
 -- a smaller heap's family is one of the whole
 abbrev wider : {I : Type 0} {h g k : Heap} → Splits h g k → Family I g → Family I h
-wider s f = record { part = f.part; within = λ i a c e. left-of s a c (f.within i a c e); apart = f.apart }
+wider s f = record { part = f.part; within = λ i a c e. splits-has_left a c s (f.within i a c e); apart = f.apart }
 
 zero-plus : (n : ℕ) → 0 + n ≡ n
 zero-plus n = omega arith
@@ -299,10 +257,10 @@ good-by_parts p c nothing_bad s ends = record {
         w = ends h
 
         all : (a : ℕ) (k : Cell) → c.common.heap a ≡ Some k → IsOwned p owners.part a k
-        all a k e = elim (either-has (s.left a) (s.right a) (c.common.heap a) k (s.splits.is a) e) [
-          | inl f ↦ let r = resources.covers a k f in inr (record { 0 = r.0 }, r.1, r.2, r.3)
-          | inr f ↦ elim (either-has (s.second.left a) (s.second.right a) (s.right a) k (s.second.splits.is a) f) [
-            | inl g ↦ inl (tasks.root (w.frame ∷ []) w.alone a ∙ g)
-            | inr g ↦ absurd (none-some k (sym ((s.second.second h).none a) ∙ g))
+        all a k e = elim (splits-which a k s.splits e) [
+          | inl f ↦ let r = resources.covers a k f.0 in inr (record { 0 = r.0 }, r.1, r.2, r.3)
+          | inr f ↦ elim (splits-which a k s.second.splits f.0) [
+            | inl g ↦ inl (tasks.root (w.frame ∷ []) w.alone a ∙ g.0)
+            | inr g ↦ absurd (none-not_some k (sym ((s.second.second h).none a) ∙ g.0))
           ]
         ]

@@ -2,7 +2,7 @@
 -- Names: `WHAT-holds` proves the statement of that name, `side-WHAT` speaks of two tasks side by side, `ended-WHAT` of an ended entry.
 use Rattle.std.specs.Prelude.{◌≡◌, ◌≢◌, ℕ, ◌==◌, ◌&&◌, pos, Bool, true, false, cond, List, [], ◌∷◌, Option, Some, None, ◌⊎◌, ◌<◌}
 use Rattle.std.specs.List.{slice_get}
-use Rattle.std.specs.Option.{option_or, unwrap_or}
+use Rattle.std.specs.Option.{unwrap_or}
 use Rattle.std.proofs.Common.{sym, ap, ap₂, ◌∙◌, refl, subst, inl, inr, arith}
 use Rattle.sf_base.specs.declared.ids.ResId.{ResId}
 use Rattle.sf_base.specs.declared.ids.Var.{Var}
@@ -13,6 +13,9 @@ use Rattle.sf_core.specs.declared.command.Expr.{Expr}
 use Rattle.sf_core.specs.declared.command.Expr.TheVariants.{Var as Variable, Nil}
 use Rattle.sf_core.specs.declared.command.Occurrence.{Occurrence}
 use Rattle.sf_core.specs.declared.assertion.Operand.TheVariants.{Known}
+use Rattle.sf_core.proofs.Cases.{and-both, none-not_some}
+use Rattle.sf_core.proofs.HeapSplits.{at-same, one-single, put-elsewhere}
+use Rattle.sf_core.proofs.MapSplits.{splits-empty_right}
 use Rattle.sf_core.specs.Bad.{Bad, IsAbsent, next_root}
 use Rattle.sf_core.specs.Config.{Item, Frame, Task, runs, left, right, Path, Common, Config, seen, task_at, replaced, IsUsed, IsCalled}
 use Rattle.sf_core.specs.Enabled.{HasEnded, IsShut, IsBlocked, IsEnabled, Thing, variable, cell, FrameReads, FrameWrites, Reads, Writes}
@@ -25,7 +28,6 @@ use Rattle.sf_core.specs.Sat.{Sat}
 use Rattle.sf_core.specs.Start.{IsKept, entry_slot, entry_frame}
 use Rattle.sf_core.specs.Step.{Event, procedure_at, TaskStep, Step}
 use Rattle.sf_core.specs.Syntax.{Procedure, Program, Resource}
-use Rattle.sf_core.proofs.MachineSteps.{cond-else, number-same}
 use Rattle.sf_core.proofs.MachineTasks.{MayGo, enabled-may_go, task_at-ended}
 
 -- Steps of known configurations
@@ -183,11 +185,6 @@ things-differ : (thing : Thing) (i j : ℕ) → thing ≡ variable (own 1 i) →
 things-differ thing i j e (inl f) n = n (cc)
 things-differ thing i j e (inr f) n = absurd (cc)
 
-either : {A B C : Type 0} → (A ⊎ B) ⊎ C → (A ⊎ C) ⊎ B
-either (inl (inl a)) = inl (inl a)
-either (inl (inr b)) = inr b
-either (inr c) = inl (inr c)
-
 look_ups-mind : (thing : Thing) (i j k : ℕ) → thing ≡ variable (own 1 i) → ((thing ≡ variable (own 1 j)) ⊎ (thing ≡ cell 1)) ⊎ (thing ≡ variable (own 1 k)) → i ≢ j → i ≢ k → ⊥
 look_ups-mind thing i j k e (inl f) n m = things-differ thing i j e f n
 look_ups-mind thing i j k e (inr f) n m = things-differ thing i k e (inl f) m
@@ -198,12 +195,9 @@ two_look_ups-holds k =
     (λ thing w m. look_ups-mind thing 1 2 3 w m (omega arith) (omega arith))
     (λ thing w m. look_ups-mind thing 3 0 1 w m (omega arith) (omega arith))
 
-none-some : {X : Type 0} (x : X) → None ≡ Some x → ⊥
-none-some x e = absurd (cc)
-
 pub two_entries-holds : TwoEntriesDoNotRace
 two_entries-holds k =
-    side-good enters enters (at_one_cell k None) (λ root e a. none-some root e) (λ root e a. none-some root e) (λ thing w m. w) (λ thing w m. w)
+    side-good enters enters (at_one_cell k None) (λ root e a. none-not_some root e) (λ root e a. none-not_some root e) (λ thing w m. w) (λ thing w m. w)
 
 nothing-met : ⊥ ⊎ ⊥ → ⊥
 nothing-met (inl x) = x
@@ -212,7 +206,7 @@ nothing-met (inr x) = x
 pub held_regions-holds : HeldRegionsWait
 held_regions-holds k = (
   λ one e. waiting one e.there e.free,
-  side-good mutates enters (at_one_cell k (Some (left ∷ []))) (finds-cell k (Some (left ∷ []))) (λ root e a. none-some root e) (λ thing w m. nothing-met m) (λ thing w m. w),
+  side-good mutates enters (at_one_cell k (Some (left ∷ []))) (finds-cell k (Some (left ∷ []))) (λ root e a. none-not_some root e) (λ thing w m. nothing-met m) (λ thing w m. w),
 )
   where
     shut : IsBlocked (at_one_cell k (Some (left ∷ []))).held (runs (record { fixed = child 2; todo = enters } ∷ []))
@@ -300,13 +294,9 @@ apart-none : {X : Type 0} (x : Option X) → Apart x None
 apart-none None = tt
 apart-none (Some x) = tt
 
-or-none : {X : Type 0} (x : Option X) → x ≡ option_or x None
-or-none None = refl
-or-none (Some x) = refl
-
 -- the whole, and nothing
-all-nothing : {K X : Type 0} (whole : K → Option X) → Splits whole whole (λ a. None)
-all-nothing whole = record { apart = λ a. apart-none (whole a); is = λ a. or-none (whole a) }
+all-nothing : (whole : Heap) → Splits whole whole (λ a. None)
+all-nothing whole = splits-empty_right (record { none = λ a. refl })
 
 -- a heap of one cell at the first variable satisfies the contract of one cell
 one-sat : (see : Expr → Value) (heap : Heap) (k : Cell) → see (own_one 0) ≡ loc 1 → IsOne 1 k heap → Sat one_cell.level see (λ n. nil) heap
@@ -315,13 +305,6 @@ one-sat see heap k e o = (
   λ n h. refl,
   record { left = heap; right = λ a. None; splits = all-nothing heap; first = (1, k, e, o, tt); second = record { none = λ a. refl } },
 )
-
-one-is : (k : Cell) → IsOne 1 k (one_at k)
-one-is k = record { here = refl; elsewhere = λ a n. cond-else (a == 1) (Some k) None (λ e. n (number-same a 1 e)) }
-
-both-true : (a b : Bool) → a && b ≡ true → (a ≡ true) × (b ≡ true)
-both-true true b e = (refl, e)
-both-true false b e = absurd (cc)
 
 cond-some : {X : Type 0} (b : Bool) (x y : X) → cond b (Some x) None ≡ Some y → b ≡ true
 cond-some true x y e = refl
@@ -339,7 +322,7 @@ setting_starts-holds k = record {
   kept = kept;
   no_more = no_more;
   locals = λ i l m. absurd (omega (arith, l, m));
-  pre = record { left = one_at k; right = λ a. None; splits = all-nothing (one_at k); first = one-sat (seen entry_slot (one_in (loc 1))) (one_at k) k refl (one-is k); second = record { none = λ a. refl } };
+  pre = record { left = one_at k; right = λ a. None; splits = all-nothing (one_at k); first = one-sat (seen entry_slot (one_in (loc 1))) (one_at k) k refl (one-single 1 k); second = record { none = λ a. refl } };
 }
   where
     is_first : (x : Var) (at : Occurrence) → at.var ≡ x → (Known (Variable at) ≡ Known (own_one 0)) ⊎ ⊥ → Own 0 ≡ x
@@ -358,18 +341,18 @@ setting_starts-holds k = record {
         ]
 
     kept : (slot : Slot) → IsKept setting main slot → (v : Value) × (one_in (loc 1) slot ≡ Some v)
-    kept (shared r i) q = absurd (none-some q.0 q.1)
+    kept (shared r i) q = absurd (none-not_some q.0 q.1)
     kept (own e i) q =
         let first : i ≡ 0 = omega (arith, q.1) in
         (loc 1, ap₂ (λ a b. one_in (loc 1) (own a b)) q.0 first)
 
     no_more : (slot : Slot) (v : Value) → one_in (loc 1) slot ≡ Some v → IsKept setting main slot
-    no_more (shared r i) v e = absurd (none-some v e)
+    no_more (shared r i) v e = absurd (none-not_some v e)
     no_more (own f i) v e =
-        let b = both-true (f == 0) (i == 0) (cond-some ((f == 0) && (i == 0)) (loc 1) v e) in
-        let first : i ≡ 0 = number-same i 0 b.1 in
+        let b = and-both (f == 0) (i == 0) (cond-some ((f == 0) && (i == 0)) (loc 1) v e) in
+        let first : i ≡ 0 = at-same 0 i b.1 in
         let below : i < 1 = omega arith in
-        (number-same f 0 b.0, below)
+        (at-same 0 f b.0, below)
 
 -- An ended entry
 -- the whole heap is the entry's
@@ -419,7 +402,7 @@ ended-good p c frame g none_there only done is sat = record {
     ended = subst (HasEnded []) (sym only) done
 
     no_resource : (r : ResId) (of : Resource) → slice_get p.resources r.0 ≡ Some of → ⊥
-    no_resource r of e = none-some of (subst (λ z. slice_get z r.0 ≡ Some of) none_there e)
+    no_resource r of e = none-not_some of (subst (λ z. slice_get z r.0 ≡ Some of) none_there e)
 
     no_return : (path : Path) (other : Frame) → Returns c path other → ⊥
     no_return path other r =
@@ -455,5 +438,5 @@ call_mutate_return-holds k = (
     now_one : IsOne 1 (put_field k 0 (int (pos 7))) (λ a. cond (a == 1) (Some (put_field k 0 (int (pos 7)))) (one_at k a))
     now_one = record {
       here = refl;
-      elsewhere = λ a n. cond-else (a == 1) (Some (put_field k 0 (int (pos 7)))) (one_at k a) (λ e. n (number-same a 1 e)) ∙ (one-is k).elsewhere a n;
+      elsewhere = λ a n. put-elsewhere 1 a (Some (put_field k 0 (int (pos 7)))) (one_at k) n ∙ (one-single 1 k).elsewhere a n;
     }

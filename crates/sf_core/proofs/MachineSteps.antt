@@ -1,14 +1,16 @@
 -- What one step of the machine changes, and what it leaves alone.
 -- Names: WHAT-RELATION, as `store-kept`: the part of the configuration, and what is said of it.
-use Rattle.std.specs.Prelude.{◌≡◌, ℕ, Bool, true, false, cond, List, [], ◌∷◌, Option, Some, None, ◌⊎◌, ◌==◌, ◌&&◌}
-use Rattle.std.proofs.Common.{sym, ap, ◌∙◌, refl, subst, inl, inr, arith}
-use Rattle.std.proofs.lemmas.Bool.Decides.{nat_tests}
+use Rattle.std.specs.Prelude.{◌≡◌, ℕ, Bool, true, false, cond, List, [], ◌∷◌, Option, Some, None, ◌⊎◌, ◌==◌}
+use Rattle.std.proofs.Common.{sym, ap, ◌∙◌, refl, subst, inl, inr}
 use Rattle.sf_base.specs.declared.ids.ResId.{ResId}
 use Rattle.sf_base.specs.declared.value.Value.{Value}
 use Rattle.sf_base.specs.declared.value.Value.TheVariants.{Loc as loc}
+use Rattle.sf_core.proofs.Cases.{and-both}
+use Rattle.sf_core.proofs.HeapSplits.{at-same, put-elsewhere}
+use Rattle.sf_core.proofs.StoreSplits.{slot-elsewhere, resource-same}
 use Rattle.sf_core.specs.Config.{Item, command, leave, Room, in_room, Fixed, Frame, Task, runs, waits, Path, Common, Config, task_at}
 use Rattle.sf_core.specs.Enabled.{variable, cell, IsCellAt, CommandWrites, FrameWrites}
-use Rattle.sf_core.specs.HeapStore.{Cell, Slot, shared, own, same_slot}
+use Rattle.sf_core.specs.HeapStore.{Cell, Slot, shared, own}
 use Rattle.sf_core.specs.MachineLaws.{IsSlotOf, CommandMakes, FrameMakes, Makes, IsLeft, HolderGoes, Touches}
 use Rattle.sf_core.specs.Step.{Event, set_slot, set_cell, set_holder, open_room, close_room, room_count, room_for, arguments, Does, Goes, TaskStep, Step}
 use Rattle.sf_core.specs.Syntax.{Command, assign, look_up, mutate, new, dispose, if, while, call, fork, with, Program}
@@ -18,35 +20,16 @@ pub cond-else : {X : Type 0} (b : Bool) (x y : X) → (b ≡ true → ⊥) → c
 cond-else true x y n = absurd (n refl)
 cond-else false x y n = refl
 
--- numbers that pass the test are the same
-pub number-same : (a b : ℕ) → a == b ≡ true → a ≡ b
-number-same a b e = grind (arith, nat_tests)
-
-both : (a b : Bool) → a && b ≡ true → (a ≡ true) × (b ≡ true)
-both true b e = (refl, e)
-both false b e = absurd (cc)
-
--- slots that pass the test are the same
-pub slot-same : (x y : Slot) → same_slot x y ≡ true → x ≡ y
-slot-same (shared r i) (shared s j) e =
-    let b = both (r.0 == s.0) (i == j) e in
-    λ k. shared (record { 0 = number-same r.0 s.0 b.0 k }) (number-same i j b.1 k)
-slot-same (own e i) (own f j) h =
-    let b = both (e == f) (i == j) h in
-    λ k. own (number-same e f b.0 k) (number-same i j b.1 k)
-slot-same (shared r i) (own f j) h = absurd (cc)
-slot-same (own e i) (shared s j) h = absurd (cc)
-
 -- a slot of a room has its number
 pub room-slots : (room : Room) (x : Slot) → in_room room x ≡ true → IsSlotOf room.event (variable x)
 room-slots room (shared r i) h = absurd (cc)
-room-slots room (own e i) h = number-same e room.event (both (e == room.event) _ h).0
+room-slots room (own e i) h = at-same room.event e (and-both (e == room.event) _ h).0
 
 set_slot-other : (x y : Slot) (v : Value) (s : Common) → (variable y ≡ variable x → ⊥) → (set_slot x v s).store y ≡ s.store y
-set_slot-other x y v s n = cond-else (same_slot y x) (Some v) (s.store y) (λ e. n (ap variable (slot-same y x e)))
+set_slot-other x y v s n = slot-elsewhere x y (Some v) s.store (λ e. n (ap variable e))
 
 set_cell-other : (a b : ℕ) (k : Option Cell) (s : Common) → (cell b ≡ cell a → ⊥) → (set_cell a k s).heap b ≡ s.heap b
-set_cell-other a b k s n = cond-else (b == a) k (s.heap b) (λ e. n (ap cell (number-same b a e)))
+set_cell-other a b k s n = put-elsewhere a b k s.heap (λ e. n (ap cell e))
 
 open_room-other : (room : Room) (y : Slot) (v : ℕ → Value) (s : Common) → (IsSlotOf room.event (variable y) → ⊥) → (open_room room v s).store y ≡ s.store y
 open_room-other room y v s n = cond-else (in_room room y) (Some (v _)) (s.store y) (λ e. n (room-slots room y e))
@@ -163,7 +146,7 @@ holder-set : (path : Path) (s t : Common) (q r : ResId) (next : Option Path) →
     → ((s.held r ≡ None) × (next ≡ Some path)) ⊎ ((s.held r ≡ Some path) × (next ≡ None)) → HolderGoes path (s.held q) (t.held q)
 holder-set path s t q r next e w =
     subst (λ (z : Common). HolderGoes path (s.held q) (z.held q)) (sym e)
-    (holder-by_test path (q.0 == r.0) (s.held q) (s.held r) next (λ h. ap s.held (λ k. record { 0 = number-same q.0 r.0 h k })) w)
+    (holder-by_test path (q.0 == r.0) (s.held q) (s.held r) next (λ h. ap s.held (resource-same q r h)) w)
 
 held-by_command : (p : Program) (ev : Event) (s t : Common) (f : Fixed) (below : List Frame) (c : Command) (rest : List Item) (u : Task)
     → Does p ev s f below c rest t u → (r : ResId) → HolderGoes ev.task (s.held r) (t.held r)
