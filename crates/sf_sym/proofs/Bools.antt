@@ -33,6 +33,6 @@ or_right false b e = e
 pub some_of : {X : Type 0} (f : X → Bool) (xs : List X) → list_any f xs ≡ true → (x : X) × (f x ≡ true) × ((p : X → Bool) → p x ≡ true → list_any p xs ≡ true)
 some_of f [] e = absurd (cc)
 some_of f (x ∷ xs) e = elim (or_either (f x) (list_any f xs) e) [
-    inl y ↦ (x, y, λ p q. or_left (p x) (list_any p xs) q)
+  | inl y ↦ (x, y, λ p q. or_left (p x) (list_any p xs) q)
   | inr y ↦ let r = some_of f xs y in (r.0, r.1, λ p q. or_right (p x) (list_any p xs) (r.2 p q))
-  ]
+]

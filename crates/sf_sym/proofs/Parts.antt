@@ -67,9 +67,9 @@ module _ (w : ℕ → Value) (links : Links) (apart : List (Term × Term)) (diff
       → (xs : List Numbered) (h : Heap) → list_any p xs ≡ true → AtomsHold w links xs h → IsLocationIn h (term_value w t)
   some_is_located t p tells [] h e s = absurd (cc)
   some_is_located t p tells (a ∷ xs) h e s = elim (or_either (p a) (list_any p xs) e) [
-      inl y ↦ located_left s.splits (allocated_is_located t a.atom s.left (tells a y) s.first)
+    | inl y ↦ located_left s.splits (allocated_is_located t a.atom s.left (tells a y) s.first)
     | inr y ↦ located_right s.splits (some_is_located t p tells xs s.right y s.second)
-    ]
+  ]
 
   -- two terms that different atoms allocate have different values
   pub two_differ : (t u : Term) (p q : Numbered → Bool)
@@ -77,15 +77,15 @@ module _ (w : ℕ → Value) (links : Links) (apart : List (Term × Term)) (diff
       → (xs : List Numbered) (h : Heap) → list_any p xs ≡ true → list_any q xs ≡ true → AtomsHold w links xs h → term_value w t ≢ term_value w u
   two_differ t u p q tp tq never [] h e f s = absurd (cc)
   two_differ t u p q tp tq never (a ∷ xs) h e f s = elim (or_either (p a) (list_any p xs) e) [
-      inl y ↦ elim (or_either (q a) (list_any q xs) f) [
-          inl z ↦ absurd (never a y z)
-        | inr z ↦ located_apart s.splits (allocated_is_located t a.atom s.left (tp a y) s.first) (some_is_located u q tq xs s.right z s.second)
-        ]
-    | inr y ↦ elim (or_either (q a) (list_any q xs) f) [
-          inl z ↦ λ i. located_apart s.splits (allocated_is_located u a.atom s.left (tq a z) s.first) (some_is_located t p tp xs s.right y s.second) (sym i)
-        | inr z ↦ two_differ t u p q tp tq never xs s.right y z s.second
-        ]
+    | inl y ↦ elim (or_either (q a) (list_any q xs) f) [
+      | inl z ↦ absurd (never a y z)
+      | inr z ↦ located_apart s.splits (allocated_is_located t a.atom s.left (tp a y) s.first) (some_is_located u q tq xs s.right z s.second)
     ]
+    | inr y ↦ elim (or_either (q a) (list_any q xs) f) [
+      | inl z ↦ λ i. located_apart s.splits (allocated_is_located u a.atom s.left (tq a z) s.first) (some_is_located t p tp xs s.right y s.second) (sym i)
+      | inr z ↦ two_differ t u p q tp tq never xs s.right y z s.second
+    ]
+  ]
 
   pub not_integer_tree : (a : Atom) (h : Heap) → is_integer_tree a ≡ true → AtomHolds w links a h → ⊥
   not_integer_tree (Points t fields) h e s = absurd (cc)
@@ -98,24 +98,24 @@ module _ (w : ℕ → Value) (links : Links) (apart : List (Term × Term)) (diff
 
   pub not_impossible : (a : Atom) (h : Heap) → is_impossible apart a ≡ true → AtomHolds w links a h → ⊥
   not_impossible a h e s = elim (or_either (is_constant (root a) && has_cell apart a) (is_integer_tree a) e) [
-      inl y ↦ let l = root_is_located a h (and_right _ _ y) s in constant_is_no_location w (root a) l.location (and_left _ _ y) l.is
+    | inl y ↦ let l = root_is_located a h (and_right _ _ y) s in constant_is_no_location w (root a) l.location (and_left _ _ y) l.is
     | inr y ↦ not_integer_tree a h y s
-    ]
+  ]
 
   pub none_impossible : (xs : List Numbered) (h : Heap) → list_any (λ a. is_impossible apart a.atom) xs ≡ true → AtomsHold w links xs h → ⊥
   none_impossible [] h e s = absurd (cc)
   none_impossible (a ∷ xs) h e s = elim (or_either (is_impossible apart a.atom) (list_any (λ a. is_impossible apart a.atom) xs) e) [
-      inl y ↦ not_impossible a.atom s.left y s.first
+    | inl y ↦ not_impossible a.atom s.left y s.first
     | inr y ↦ none_impossible xs s.right y s.second
-    ]
+  ]
 
   pub none_repeated : (xs : List Numbered) (h : Heap) → has_repeat apart xs ≡ true → AtomsHold w links xs h → ⊥
   none_repeated [] h e s = absurd (cc)
   none_repeated (a ∷ xs) h e s = elim (or_either (list_any (λ b. allocates apart (root a.atom) b.atom) xs && has_cell apart a.atom) (has_repeat apart xs) e) [
-      inl y ↦ located_apart s.splits (root_is_located a.atom s.left (and_right _ _ y) s.first)
-          (some_is_located (root a.atom) (λ b. allocates apart (root a.atom) b.atom) (λ b z. z) xs s.right (and_left _ _ y) s.second) refl
+    | inl y ↦ located_apart s.splits (root_is_located a.atom s.left (and_right _ _ y) s.first)
+        (some_is_located (root a.atom) (λ b. allocates apart (root a.atom) b.atom) (λ b z. z) xs s.right (and_left _ _ y) s.second) refl
     | inr y ↦ none_repeated xs s.right y s.second
-    ]
+  ]
 
 -- two lists of atoms on disjoint heaps are one list on both
 pub AtomsHold-append : (w : ℕ → Value) (links : Links) (xs ys : List Numbered) (h g k : Heap) → Splits h g k → AtomsHold w links xs g → AtomsHold w links ys k → AtomsHold w links (xs ++ ys) h

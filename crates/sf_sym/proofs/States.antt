@@ -32,9 +32,9 @@ pub allocated_terms_are_locations : AllocatedTermsAreLocations
 allocated_terms_are_locations w goal e heap h t except a =
     let p = parts_hold w goal e heap h in
     located_left p.splits (some_is_located w goal.state.links goal.state.apart h.apart t
-        (λ b. not (is_left_out except b.number) && allocates goal.state.apart t b.atom)
-        (λ b y. and_right (not (is_left_out except b.number)) (allocates goal.state.apart t b.atom) y)
-        (parts goal.state) p.left a p.first)
+    (λ b. not (is_left_out except b.number) && allocates goal.state.apart t b.atom)
+    (λ b y. and_right (not (is_left_out except b.number)) (allocates goal.state.apart t b.atom) y)
+    (parts goal.state) p.left a p.first)
 
 -- two terms that different atoms allocate have different values
 both_allocated_differ : (w : ℕ → Value) (goal : Goal) (e : Var → Option Value) (heap : Heap) → HoldsAt w goal e heap
@@ -46,14 +46,14 @@ both_allocated_differ w goal e heap h t u b =
     let one = and_left (allocates s.apart t a.0.atom) (allocated s u (Some a.0.number)) a.1 in
     let other = and_right (allocates s.apart t a.0.atom) (allocated s u (Some a.0.number)) a.1 in
     two_differ w s.links s.apart h.apart t u
-        (λ x. (x.number == a.0.number) && allocates s.apart t x.atom)
-        (λ x. not (x.number == a.0.number) && allocates s.apart u x.atom)
-        (λ x y. and_right (x.number == a.0.number) (allocates s.apart t x.atom) y)
-        (λ x y. and_right (not (x.number == a.0.number)) (allocates s.apart u x.atom) y)
-        (λ x y z. not_both (x.number == a.0.number) (and_left (x.number == a.0.number) (allocates s.apart t x.atom) y) (and_left (not (x.number == a.0.number)) (allocates s.apart u x.atom) z))
-        (parts s) p.left
-        (a.2 (λ x. (x.number == a.0.number) && allocates s.apart t x.atom) (both_true (a.0.number == a.0.number) (allocates s.apart t a.0.atom) ((Decides-eqb a.0.number a.0.number).1 refl) one))
-        other p.first
+    (λ x. (x.number == a.0.number) && allocates s.apart t x.atom)
+    (λ x. not (x.number == a.0.number) && allocates s.apart u x.atom)
+    (λ x y. and_right (x.number == a.0.number) (allocates s.apart t x.atom) y)
+    (λ x y. and_right (not (x.number == a.0.number)) (allocates s.apart u x.atom) y)
+    (λ x y z. not_both (x.number == a.0.number) (and_left (x.number == a.0.number) (allocates s.apart t x.atom) y) (and_left (not (x.number == a.0.number)) (allocates s.apart u x.atom) z))
+    (parts s) p.left
+    (a.2 (λ x. (x.number == a.0.number) && allocates s.apart t x.atom) (both_true (a.0.number == a.0.number) (allocates s.apart t a.0.atom) ((Decides-eqb a.0.number a.0.number).1 refl) one))
+    other p.first
 
 -- a constant and an allocated term have different values
 constant_differs : (w : ℕ → Value) (goal : Goal) (e : Var → Option Value) (heap : Heap) → HoldsAt w goal e heap
@@ -66,24 +66,24 @@ pub differing_terms_differ : DifferingTermsDiffer
 differing_terms_differ w goal e heap h t u d =
     let s = goal.state in
     elim (or_either (direct s.apart t u || is_constant t && allocated s u None || is_constant u && allocated s t None) (both_allocated s t u) d) [
-        inl y ↦ elim (or_either (direct s.apart t u || is_constant t && allocated s u None) (is_constant u && allocated s t None) y) [
-            inl z ↦ elim (or_either (direct s.apart t u) (is_constant t && allocated s u None) z) [
-                inl x ↦ direct_differs w s.apart t u h.apart x
-              | inr x ↦ constant_differs w goal e heap h t u x
-              ]
-          | inr z ↦ λ i. constant_differs w goal e heap h u t z (sym i)
-          ]
-      | inr y ↦ both_allocated_differ w goal e heap h t u y
+      | inl y ↦ elim (or_either (direct s.apart t u || is_constant t && allocated s u None) (is_constant u && allocated s t None) y) [
+        | inl z ↦ elim (or_either (direct s.apart t u) (is_constant t && allocated s u None) z) [
+          | inl x ↦ direct_differs w s.apart t u h.apart x
+          | inr x ↦ constant_differs w goal e heap h t u x
+        ]
+        | inr z ↦ λ i. constant_differs w goal e heap h u t z (sym i)
       ]
+      | inr y ↦ both_allocated_differ w goal e heap h t u y
+    ]
 
 pub held_states_are_not_absurd : HeldStatesAreNotAbsurd
 held_states_are_not_absurd w goal e heap h a =
     let s = goal.state in
     let p = parts_hold w goal e heap h in
     elim (or_either (list_any (λ p. same_term p.0 p.1) s.apart || list_any (λ a. is_impossible s.apart a.atom) (parts s)) (has_repeat s.apart (parts s)) a) [
-        inl y ↦ elim (or_either (list_any (λ p. same_term p.0 p.1) s.apart) (list_any (λ a. is_impossible s.apart a.atom) (parts s)) y) [
-            inl z ↦ no_reflexive_pair w s.apart h.apart z
-          | inr z ↦ none_impossible w s.links s.apart h.apart (parts s) p.left z p.first
-          ]
-      | inr y ↦ none_repeated w s.links s.apart h.apart (parts s) p.left y p.first
+      | inl y ↦ elim (or_either (list_any (λ p. same_term p.0 p.1) s.apart) (list_any (λ a. is_impossible s.apart a.atom) (parts s)) y) [
+        | inl z ↦ no_reflexive_pair w s.apart h.apart z
+        | inr z ↦ none_impossible w s.links s.apart h.apart (parts s) p.left z p.first
       ]
+      | inr y ↦ none_repeated w s.links s.apart h.apart (parts s) p.left y p.first
+    ]

@@ -47,16 +47,16 @@ same_values w a b t u e = (
 
 pub pair_differs : (w : ℕ → Value) (t u : Term) (p : Term × Term) → Differ w p → is_pair t u p ≡ true → term_value w t ≢ term_value w u
 pair_differs w t u p d e q = elim (or_either (same_term p.0 t && same_term p.1 u) (same_term p.0 u && same_term p.1 t) e) [
-    inl y ↦ let s = same_values w p.0 p.1 t u y in d (s.0 ∙ q ∙ sym s.1)
+  | inl y ↦ let s = same_values w p.0 p.1 t u y in d (s.0 ∙ q ∙ sym s.1)
   | inr y ↦ let s = same_values w p.0 p.1 u t y in d (s.0 ∙ sym q ∙ sym s.1)
-  ]
+]
 
 pub listed_differs : (w : ℕ → Value) (apart : List (Term × Term)) (t u : Term) → Each (Differ w) apart → list_any (is_pair t u) apart ≡ true → term_value w t ≢ term_value w u
 listed_differs w [] t u d e = absurd (cc)
 listed_differs w (p ∷ ps) t u d e = elim (or_either (is_pair t u p) (list_any (is_pair t u) ps) e) [
-    inl y ↦ pair_differs w t u p d.0 y
+  | inl y ↦ pair_differs w t u p d.0 y
   | inr y ↦ listed_differs w ps t u d.1 y
-  ]
+]
 
 pub direct_differs : (w : ℕ → Value) (apart : List (Term × Term)) (t u : Term) → Each (Differ w) apart → direct apart t u ≡ true → term_value w t ≢ term_value w u
 direct_differs w apart t u d e = elim (or_either (is_constant t && is_constant u && not (same_term t u)) (list_any (is_pair t u) apart) e) [ inl y ↦ constants_differ w t u y | inr y ↦ listed_differs w apart t u d y ]
@@ -64,6 +64,6 @@ direct_differs w apart t u d e = elim (or_either (is_constant t && is_constant u
 pub no_reflexive_pair : (w : ℕ → Value) (apart : List (Term × Term)) → Each (Differ w) apart → list_any (λ p. same_term p.0 p.1) apart ≡ true → ⊥
 no_reflexive_pair w [] d e = absurd (cc)
 no_reflexive_pair w (p ∷ ps) d e = elim (or_either (same_term p.0 p.1) (list_any (λ p. same_term p.0 p.1) ps) e) [
-    inl y ↦ d.0 (ap (term_value w) (same_term_is p.0 p.1 y))
+  | inl y ↦ d.0 (ap (term_value w) (same_term_is p.0 p.1 y))
   | inr y ↦ no_reflexive_pair w ps d.1 y
-  ]
+]

@@ -6,17 +6,14 @@ ghost use Rattle.sf_sym.specs.Laws.{AllocatedTermsAreLocations, DifferingTermsDi
 /// Terms for which `State::differs` is true have different values.
 pub fn differing_terms_differ()
     ensures { DifferingTermsDiffer }
-{
-}
+{}
 
 /// A term for which `State::allocated` is true is the location of a cell of the heap.
 pub fn allocated_terms_are_locations()
     ensures { AllocatedTermsAreLocations }
-{
-}
+{}
 
 /// `State::is_absurd` is false.
 pub fn held_states_are_not_absurd()
     ensures { HeldStatesAreNotAbsurd }
-{
-}
+{}
