@@ -1,38 +1,30 @@
--- What a test of two tests, or of a list, tells.
+-- What a test of two tests, or of a list, tells, beyond what sf_core's Cases has.
+-- Names: `not-LAW` speaks of a negation, `and-LAW` of a conjunction, `any-LAW` of a test of some element.
 use Rattle.std.specs.List.{list_any}
-use Rattle.std.proofs.Common.{◌≡◌, Bool, true, false, ◌&&◌, ◌||◌, not, List, [], ◌∷◌, ◌⊎◌, refl, inl, inr}
+use Rattle.std.proofs.Common.{◌≡◌, Bool, true, false, ◌&&◌, not, List, [], ◌∷◌, inl, inr}
+use Rattle.sf_core.proofs.Cases.{or-which, or-first, or-second, and-both}
 
-pub or_either : (a b : Bool) → a || b ≡ true → (a ≡ true) ⊎ (b ≡ true)
-or_either true b e = inl refl
-or_either false b e = inr e
+-- a test and its negation aren't both true
+pub not-both : (a : Bool) → a ≡ true → not a ≡ true → ⊥
+not-both true p q = absurd (cc)
+not-both false p q = absurd (cc)
 
+-- of a true conjunction the left side is true
 pub and_left : (a b : Bool) → a && b ≡ true → a ≡ true
-and_left true b e = refl
-and_left false b e = absurd (cc)
+and_left a b e = (and-both a b e).0
 
+-- and so is the right side
 pub and_right : (a b : Bool) → a && b ≡ true → b ≡ true
-and_right true b e = e
-and_right false b e = absurd (cc)
+and_right a b e = (and-both a b e).1
 
-pub both_true : (a b : Bool) → a ≡ true → b ≡ true → a && b ≡ true
-both_true a b p q = cc
+-- a conjunction is true where both sides are
+pub and-of : (a b : Bool) → a ≡ true → b ≡ true → a && b ≡ true
+and-of a b p q = cc
 
-pub not_both : (a : Bool) → a ≡ true → not a ≡ true → ⊥
-not_both true p q = absurd (cc)
-not_both false p q = absurd (cc)
-
-pub or_left : (a b : Bool) → a ≡ true → a || b ≡ true
-or_left true b e = refl
-or_left false b e = absurd (cc)
-
-pub or_right : (a b : Bool) → b ≡ true → a || b ≡ true
-or_right true b e = refl
-or_right false b e = e
-
--- an element that passes, with the fact that a test which passes it passes in the list
-pub some_of : {X : Type 0} (f : X → Bool) (xs : List X) → list_any f xs ≡ true → (x : X) × (f x ≡ true) × ((p : X → Bool) → p x ≡ true → list_any p xs ≡ true)
-some_of f [] e = absurd (cc)
-some_of f (x ∷ xs) e = elim (or_either (f x) (list_any f xs) e) [
-  | inl y ↦ (x, y, λ p q. or_left (p x) (list_any p xs) q)
-  | inr y ↦ let r = some_of f xs y in (r.0, r.1, λ p q. or_right (p x) (list_any p xs) (r.2 p q))
+-- an element that passes, such that each test which passes it passes some element of the list
+pub any-some : {X : Type 0} (f : X → Bool) (xs : List X) → list_any f xs ≡ true → (x : X) × (f x ≡ true) × ((p : X → Bool) → p x ≡ true → list_any p xs ≡ true)
+any-some f [] e = absurd (cc)
+any-some f (x ∷ xs) e = elim (or-which (f x) (list_any f xs) e) [
+  | inl y ↦ (x, y, λ p q. or-first (p x) (list_any p xs) q)
+  | inr y ↦ let r = any-some f xs y in (r.0, r.1, λ p q. or-second (p x) (list_any p xs) (r.2 p q))
 ]

@@ -1,4 +1,3 @@
-pub mod Heaps
 pub mod Bools
 pub mod Terms
 pub mod Parts
