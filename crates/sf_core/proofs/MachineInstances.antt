@@ -22,7 +22,7 @@ use Rattle.sf_core.specs.Enabled.{HasEnded, IsShut, IsBlocked, IsEnabled, Thing,
 use Rattle.sf_core.specs.Good.{Owner, resource, task, Returns, Good}
 use Rattle.sf_core.specs.HeapStore.{Apart, Splits, Cell, put_field, Heap, IsOne, Slot, shared, own}
 use Rattle.sf_core.specs.HeldBy.{HeldBy}
-use Rattle.sf_core.specs.MachineInstances.{at_own, own_one, one_cell, main, set, setting, one_at, one_in, event, setting_start, SettingStarts, CallMutateReturn, child_slots, child, side_by_side, at_one_cell, mutates, looks_up, enters, TwoMutationsRace, MutationAndLookUpRace, TwoLookUpsDoNotRace, TwoEntriesDoNotRace, HeldRegionsWait, alone, DisposeAtNilIsBad, makes, makes_twice, FreedLocationsComeAgain, skip, forking, forking_start, ChildrenEndInAnyOrder}
+use Rattle.sf_core.specs.MachineInstances.{at_own, own_one, one_cell, main, set, setting, one_at, one_in, event, setting_start, SettingStarts, CallMutateReturn, child_slots, child, side_by_side, at_one_cell, mutates, looks_up, enters, TwoMutationsRace, MutationAndLookUpRace, TwoLookUpsDoNotRace, TwoEntriesDoNotRace, HeldRegionsWait, alone, DisposeAtNilIsBad, makes, makes_twice, FreedLocationsComeAgain, skip, forking, forking_start, ChildrenEndInAnyOrder, fill, filling, filling_start, ChildrenFillReferences, locks_and_loops, RegionThenLoop}
 use Rattle.sf_core.specs.Occurs.{VarOccursIn}
 use Rattle.sf_core.specs.Sat.{Sat}
 use Rattle.sf_core.specs.Start.{IsKept, entry_slot, entry_frame}
@@ -440,3 +440,69 @@ call_mutate_return-holds k = (
       here = refl;
       elsewhere = λ a n. put-elsewhere 1 a (Some (put_field k 0 (int (pos 7)))) (one_at k) n ∙ (one-single 1 k).elsewhere a n;
     }
+
+five-new : IsUsed (4 ∷ 3 ∷ 2 ∷ 1 ∷ 0 ∷ []) 5 → ⊥
+five-new = number-new 5 4 (3 ∷ 2 ∷ 1 ∷ 0 ∷ []) (omega arith) (number-new 5 3 (2 ∷ 1 ∷ 0 ∷ []) (omega arith) (number-new 5 2 (1 ∷ 0 ∷ []) (omega arith) (number-new 5 1 (0 ∷ []) (omega arith) (number-new 5 0 [] (omega arith) (λ u. u)))))
+
+six-new : IsUsed (5 ∷ 4 ∷ 3 ∷ 2 ∷ 1 ∷ 0 ∷ []) 6 → ⊥
+six-new =
+    number-new 6 5 (4 ∷ 3 ∷ 2 ∷ 1 ∷ 0 ∷ []) (omega arith)
+    (number-new 6 4 (3 ∷ 2 ∷ 1 ∷ 0 ∷ []) (omega arith)
+    (number-new 6 3 (2 ∷ 1 ∷ 0 ∷ []) (omega arith) (number-new 6 2 (1 ∷ 0 ∷ []) (omega arith) (number-new 6 1 (0 ∷ []) (omega arith) (number-new 6 0 [] (omega arith) (λ u. u))))))
+
+pub children_fill-holds : ChildrenFillReferences
+children_fill-holds = (
+  _,
+  _,
+  (_, to filling (event [] 1) filling_start _ _ _ one-new refl (forks-deep, fill, fill, refl, refl, refl, refl), refl),
+  record { left_value = refl; left_local = refl; right_value = refl; right_local = refl; no_more = refl },
+  (
+    _,
+    to filling (event (left ∷ []) 2) _ _ _ _ two-new refl (refl, refl),
+    (
+      _,
+      to filling (event (right ∷ []) 3) _ _ _ _ three-new refl (refl, refl),
+      (
+        _,
+        to filling (event (right ∷ []) 4) _ _ _ _ four-new refl (tt, refl, refl),
+        (
+          _,
+          to filling (event (left ∷ []) 5) _ _ _ _ five-new refl (tt, refl, refl),
+          (_, to filling (event [] 6) _ _ _ _ six-new refl (tt, tt, refl, refl), refl),
+        ),
+      ),
+    ),
+  ),
+  record { first = refl; second = refl; left_gone = (refl, refl); right_gone = (refl, refl); ended = refl },
+)
+
+pub region_then_loop-holds : RegionThenLoop
+region_then_loop-holds p s free = (
+  _,
+  _,
+  (_, to p (event [] 1) (alone locks_and_loops s) _ _ _ one-new refl (free, tt, refl, refl), refl),
+  refl,
+  (
+    _,
+    to p (event [] 2) _ _ _ _ two-new refl (refl, refl),
+    (
+      _,
+      to p (event [] 3) _ _ _ _ three-new refl (refl, refl, refl),
+      (
+        _,
+        to p (event [] 4) _ _ _ _ four-new refl (refl, inl (refl, refl)),
+        (
+          _,
+          to p (event [] 5) _ _ _ _ five-new refl (refl, refl),
+          (_, to p (event [] 6) _ _ _ _ six-new refl (refl, inr (seven-not_nil, refl)), refl),
+        ),
+      ),
+    ),
+  ),
+  refl,
+  refl,
+  refl,
+)
+  where
+    seven-not_nil : int (pos 7) ≡ nil → ⊥
+    seven-not_nil e = absurd (cc)

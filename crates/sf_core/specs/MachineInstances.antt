@@ -9,7 +9,7 @@ use Rattle.sf_base.specs.declared.place.Place.{Place}
 use Rattle.sf_base.specs.declared.value.Value.{Value}
 use Rattle.sf_base.specs.declared.value.Value.TheVariants.{Nil as nil, Int as int, Loc as loc}
 use Rattle.sf_core.specs.declared.assertion.Operand.TheVariants.{Known}
-use Rattle.sf_core.specs.declared.assertion.Test.TheVariants.{True}
+use Rattle.sf_core.specs.declared.assertion.Test.TheVariants.{True, Equal}
 use Rattle.sf_core.specs.declared.command.Expr.{Expr}
 use Rattle.sf_core.specs.declared.command.Expr.TheVariants.{Var as Variable, Nil, Int}
 use Rattle.sf_core.specs.declared.command.Occurrence.{Occurrence}
@@ -21,7 +21,7 @@ use Rattle.sf_core.specs.HeapStore.{Cell, put_field, Heap, Slot, shared, own, sa
 use Rattle.sf_core.specs.Reach.{Reach}
 use Rattle.sf_core.specs.Start.{Start, beginning}
 use Rattle.sf_core.specs.Step.{Event}
-use Rattle.sf_core.specs.Syntax.{points, level, none, also, Call, look_up, mutate, new, dispose, call, fork, with, Block, done, then, Assertion, Procedure, Program}
+use Rattle.sf_core.specs.Syntax.{points, level, none, also, Call, assign, look_up, mutate, new, dispose, while, call, fork, with, Block, done, then, Assertion, Procedure, Program}
 
 -- a place in the text, which no definition looks at
 abbrev pub here : Place
@@ -218,3 +218,56 @@ abbrev pub ChildrenEndInAnyOrder : Type 0
 ChildrenEndInAnyOrder =
     ((d : Config) × Reach forking forking_start (event [] 1 ∷ event (left ∷ []) 2 ∷ event (right ∷ []) 3 ∷ event [] 4 ∷ []) d × HasEnded [] d.tasks)
     × ((d : Config) × Reach forking forking_start (event [] 1 ∷ event (right ∷ []) 2 ∷ event (left ∷ []) 3 ∷ event [] 4 ∷ []) d × HasEnded [] d.tasks)
+
+-- fill(x; v) [] { local w; x = v; } []
+abbrev pub fill : Procedure
+fill = procedure (codes "x" ∷ codes "v" ∷ codes "w" ∷ []) 1 1 emp (then (assign here (at_own 0) (own_one 1)) done)
+
+-- a call of `fill` that passes that variable and that number
+abbrev pub fills : (variable : ℕ) → ℕ → Call
+fills variable number = record { callee = record { 0 = 1 }; place = here; references = at_own variable ∷ []; values = Int (pos number) ∷ [] }
+
+-- pair(a, b;) [] { fill(a; 1) || fill(b; 2); } []
+abbrev pub pair : Procedure
+pair = procedure (codes "a" ∷ codes "b" ∷ []) 2 0 emp (then (fork here (fills 0 1) (fills 1 2)) done)
+
+-- both, with no resource
+abbrev pub filling : Program
+filling = record { fields = codes "hd" ∷ []; resources = []; procedures = pair ∷ fill ∷ [] }
+
+-- `pair` starts with its two variables at nil
+abbrev pub filling_start : Config
+filling_start = beginning (record { 0 = 0 }) pair (λ slot. cond (same_slot slot (own 0 0)) (Some nil) (cond (same_slot slot (own 0 1)) (Some nil) None)) (λ a. None)
+
+-- the slots that the fork makes: value and local of the left child, then value and local of the right one
+pub record IsForked (d : Config) : Type 0 where
+  pub left_value : d.common.store (own 1 0) ≡ Some (int (pos 1))
+  pub left_local : d.common.store (own 1 1) ≡ Some nil
+  pub right_value : d.common.store (own 1 2) ≡ Some (int (pos 2))
+  pub right_local : d.common.store (own 1 3) ≡ Some nil
+  pub no_more : d.common.store (own 1 4) ≡ None
+
+-- what is left of them at the end: nothing; and each child has set the caller's variable that its reference names
+pub record IsFilled (d : Config) : Type 0 where
+  pub first : d.common.store (own 0 0) ≡ Some (int (pos 1))
+  pub second : d.common.store (own 0 1) ≡ Some (int (pos 2))
+  pub left_gone : (d.common.store (own 1 0) ≡ None) × (d.common.store (own 1 1) ≡ None)
+  pub right_gone : (d.common.store (own 1 2) ≡ None) × (d.common.store (own 1 3) ≡ None)
+  pub ended : HasEnded [] d.tasks
+
+-- a fork binds values, locals and references of both children; they run side by side, return and are joined
+abbrev pub ChildrenFillReferences : Type 0
+ChildrenFillReferences =
+    (c : Config) × (d : Config) × Reach filling filling_start (event [] 1 ∷ []) c × IsForked c
+    × Reach filling c (event (left ∷ []) 2 ∷ event (right ∷ []) 3 ∷ event (right ∷ []) 4 ∷ event (left ∷ []) 5 ∷ event [] 6 ∷ []) d × IsFilled d
+
+-- with lock when (true) { x = nil; } while (x == nil) [] { x = 7; }
+abbrev pub locks_and_loops : List Item
+locks_and_loops = command (with here lock True (then (assign here (at_own 0) Nil) done)) ∷ command (while here (Equal (own_one 0) Nil) emp (then (assign here (at_own 0) (Int (pos 7))) done)) ∷ []
+
+-- the task takes the free resource and gives it back; then it goes once round the loop, and out of it
+abbrev pub RegionThenLoop : Type 0
+RegionThenLoop = (p : Program) (s : Common) → s.held lock ≡ None
+    → (c : Config) × (d : Config) × Reach p (alone locks_and_loops s) (event [] 1 ∷ []) c × (c.common.held lock ≡ Some [])
+    × Reach p c (event [] 2 ∷ event [] 3 ∷ event [] 4 ∷ event [] 5 ∷ event [] 6 ∷ []) d
+    × (d.common.held lock ≡ None) × (d.common.store (own 1 0) ≡ Some (int (pos 7))) × HasEnded [] d.tasks

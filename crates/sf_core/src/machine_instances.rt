@@ -1,5 +1,18 @@
 //! Worked instances of the machine's definitions, each the contract of a function that does nothing.
-ghost use Rattle.sf_core.specs.MachineInstances.{CallMutateReturn, ChildrenEndInAnyOrder, DisposeAtNilIsBad, FreedLocationsComeAgain, HeldRegionsWait, MutationAndLookUpRace, SettingStarts, TwoEntriesDoNotRace, TwoLookUpsDoNotRace, TwoMutationsRace};
+ghost use Rattle.sf_core.specs.MachineInstances.{
+  CallMutateReturn,
+  ChildrenEndInAnyOrder,
+  ChildrenFillReferences,
+  DisposeAtNilIsBad,
+  FreedLocationsComeAgain,
+  HeldRegionsWait,
+  MutationAndLookUpRace,
+  RegionThenLoop,
+  SettingStarts,
+  TwoEntriesDoNotRace,
+  TwoLookUpsDoNotRace,
+  TwoMutationsRace,
+};
 
 /// A procedure of one cell has a start: the definition of a start can be met.
 pub fn setting_starts()
@@ -50,4 +63,15 @@ pub fn freed_locations_come_again()
 /// The children of a fork may end in either order; then the parent goes on.
 pub fn children_end_in_any_order()
     ensures { ChildrenEndInAnyOrder }
+{}
+
+/// A fork makes the slots of values and locals for both children, the left one's first; what they
+/// assign to their references are the caller's variables, and their slots vanish with them.
+pub fn children_fill_references()
+    ensures { ChildrenFillReferences }
+{}
+
+/// A task enters a region and leaves it, goes once round a loop, and out of it.
+pub fn region_then_loop()
+    ensures { RegionThenLoop }
 {}
