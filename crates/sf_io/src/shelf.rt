@@ -25,8 +25,8 @@ pub trait Shelf {
     ghost faults: { Self → List ℕ → ℕ };
 
     /// Appends the first `most` bytes of the file with that name, or all of it where it is shorter.
-    /// `Failed` comes only where the count of that name rose, and for each name that isn't in the
-    /// map. After an `Err` the list is as before.
+    /// A name that isn't in the map is a fault. `Failed` comes only where the count of that name rose.
+    /// After an `Err` the list is as before.
     fn fetch(&mut self, name: &str, most: usize, out: &mut Vec<u8>) -> Result<(), FetchFault>
         ensures files_stay { files self.new ≡ files self.old }
         ensures told { OnOk result (IfSome (files self.old) (λ all. IsSomeAnd (all name.now)
