@@ -2,3 +2,4 @@ pub mod Bools
 pub mod Terms
 pub mod Parts
 pub mod States
+pub mod Worked

@@ -4,3 +4,4 @@ pub mod Tests
 pub mod Holds
 pub mod Kept
 pub mod Laws
+pub mod Instances

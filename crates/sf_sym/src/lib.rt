@@ -7,6 +7,7 @@
 pub mod atom;
 pub mod given;
 pub mod goal;
+pub mod instances;
 pub mod laws;
 pub mod state;
 pub mod tag;
