@@ -5,3 +5,4 @@ pub mod Proves
 pub mod Judge
 pub mod ProofText
 pub mod Sound
+pub mod VerdictLaws

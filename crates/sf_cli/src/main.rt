@@ -2,6 +2,7 @@
 #![tactic(auto)]
 
 mod strategy;
+mod verdicts;
 mod words;
 
 fn main(rt: HostRuntime) {
