@@ -6,3 +6,4 @@ pub mod Judge
 pub mod ProofText
 pub mod Sound
 pub mod VerdictLaws
+pub mod RowLaws
