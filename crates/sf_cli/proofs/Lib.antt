@@ -1,3 +1,5 @@
 pub mod Chosen
 pub mod SatTerms
 pub mod SatNames
+pub mod CellFields
+pub mod CellAtoms

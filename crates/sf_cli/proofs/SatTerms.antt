@@ -1,7 +1,7 @@
 -- An assertion with terms in place of its expressions means what the expressions' values make it mean.
 -- Names: `KIND-with` speaks of what `KIND_with` makes.
 use Rattle.std.specs.Prelude.{◌≡◌, ◌≢◌, ℕ, List, [], ◌∷◌, map}
-use Rattle.std.proofs.Common.{refl, ap₂}
+use Rattle.std.proofs.Common.{refl}
 use Rattle.sf_base.specs.declared.ids.FieldId.{FieldId}
 use Rattle.sf_base.specs.declared.value.Value.{Value}
 use Rattle.sf_base.specs.declared.value.Value.TheVariants.{Loc as loc}

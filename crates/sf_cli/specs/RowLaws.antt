@@ -12,7 +12,7 @@ use Rattle.sf_core.specs.Formed.{IsParameter, AssertionWithin}
 use Rattle.sf_core.specs.HeapStore.{Cell, put_field, Heap, IsEmpty, Splits, ◌⋆◌}
 use Rattle.sf_core.specs.Sat.{value, Sat}
 use Rattle.sf_core.specs.Step.{Finds}
-use Rattle.sf_core.specs.Syntax.{Command, mutate, Assertion, Procedure, Program}
+use Rattle.sf_core.specs.Syntax.{mutate, Assertion, Procedure, Program}
 use Rattle.sf_sym.specs.declared.atom.Atom.{Atom}
 use Rattle.sf_sym.specs.declared.atom.Atom.TheVariants.{Points, Ls, Tree}
 use Rattle.sf_sym.specs.declared.atom.Numbered.{Numbered}
@@ -20,7 +20,7 @@ use Rattle.sf_sym.specs.declared.tag.Tag.{Tag}
 use Rattle.sf_sym.specs.declared.tag.Tag.TheVariants as t
 use Rattle.sf_sym.specs.declared.term.Term.{Term}
 use Rattle.sf_sym.specs.Each.{Each}
-use Rattle.sf_sym.specs.Goal.{Item, run, add, take, gave, head, again, exit, return, end, Goal}
+use Rattle.sf_sym.specs.Goal.{Item, run, add, take, return, Goal}
 use Rattle.sf_sym.specs.Holds.{AtomsHold, PendingHolds, HoldsAt}
 use Rattle.sf_cli.specs.Table.{same_var, row}
 
