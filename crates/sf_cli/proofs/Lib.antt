@@ -3,3 +3,6 @@ pub mod SatTerms
 pub mod SatNames
 pub mod CellFields
 pub mod CellAtoms
+pub mod Regrouped
+pub mod TermValues
+pub mod RowLaws
