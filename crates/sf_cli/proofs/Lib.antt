@@ -6,3 +6,6 @@ pub mod CellAtoms
 pub mod Regrouped
 pub mod TermValues
 pub mod RowLaws
+pub mod ByRows
+pub mod Owns
+pub mod Reached

@@ -1,0 +1,243 @@
+-- What a frame owns: a share of the heap of which a provable goal holds that has the frame's commands to do.
+-- Names: `owns-CASE` says what follows of a frame that owns its share, by what it has to do next; `front-ITEM` which rows a goal has by its front.
+use Rattle.std.specs.Prelude.{◌≡◌, ℕ, Option, Some, List, [], ◌∷◌, ◌⊎◌}
+use Rattle.std.proofs.Common.{refl, sym, ap, ◌∙◌, subst, inl, inr}
+use Rattle.sf_base.specs.declared.ids.FieldId.{FieldId}
+use Rattle.sf_base.specs.declared.ids.ResId.{ResId}
+use Rattle.sf_base.specs.declared.ids.Var.{Var}
+use Rattle.sf_base.specs.declared.place.Place.{Place}
+use Rattle.sf_base.specs.declared.value.Value.{Value}
+use Rattle.sf_base.specs.declared.value.Value.TheVariants.{Nil as nil}
+use Rattle.sf_core.specs.declared.command.Expr.{Expr}
+use Rattle.sf_core.specs.Config.{command, leave}
+use Rattle.sf_core.specs.Config as machine
+use Rattle.sf_core.specs.Formed.{IsParameter, AssertionWithin}
+use Rattle.sf_core.specs.HeapStore.{Cell, put_field, Heap}
+use Rattle.sf_core.specs.Sat.{Sat}
+use Rattle.sf_core.specs.Step.{Finds}
+use Rattle.sf_core.specs.Syntax.{Command, mutate, Procedure, Program}
+use Rattle.sf_core.proofs.HeapSplits.{star-drop_left, star-drop_right, star-map, star-map_right}
+use Rattle.sf_sym.specs.declared.atom.Numbered.{Numbered}
+use Rattle.sf_sym.specs.declared.tag.Tag.{Tag}
+use Rattle.sf_sym.specs.declared.tag.Tag.TheVariants as t
+use Rattle.sf_sym.specs.Each.{Each}
+use Rattle.sf_sym.specs.Goal.{Pending, Item, run, add, take, exit, return, end, Goal}
+use Rattle.sf_sym.specs.Holds.{AtomsHold, AddsHold, HoldsAt}
+use Rattle.sf_cli.specs.Proves.{Proof}
+use Rattle.sf_cli.specs.RowLaws.{Covers, value_at, IsNoAdd, AddsInFront, HasOrder, IsInOrder, written, WantsHold}
+use Rattle.sf_cli.specs.Table.{row_of, row}
+use Rattle.sf_cli.proofs.ByRows.{LastRow, last-row, by-rows}
+use Rattle.sf_cli.proofs.RowLaws.{past_adds, row-is, absurd-never, add-child, mutate-child, IsClosing, cell-child, row-end, return-child}
+
+-- what a frame has still to do is what the goal has to do before the procedure's return
+abbrev pub IsToDo : Procedure → List machine.Item → List Item → Type 0
+IsToDo f [] items = items ≡ return f.end f.post ∷ []
+IsToDo f (command c ∷ todo) items = (others : List Item) × (items ≡ run c ∷ others) × IsToDo f todo others
+IsToDo f (leave r ∷ todo) items = (place : Place) × (others : List Item) × (items ≡ exit place r ∷ others) × IsToDo f todo others
+
+-- a frame of procedure f, with that still to do and these values of its variables, owns that part of the heap
+pub record Owns (f : Procedure) (todo : List machine.Item) (e : Var → Option Value) (share : Heap) : Type 0 where
+  pub goal : Goal
+  pub proof : Proof goal
+  pub symbols : ℕ → Value
+  pub kept : HoldsAt symbols goal e share
+  pub covers : Covers goal.state.vars e
+  pub fields : Each (λ (a : Numbered). HasOrder a.atom) goal.state.atoms
+  pub none_taken : goal.state.taken ≡ []
+  pub to_do : IsToDo f todo goal.todo
+
+-- the row of a goal, with what there is to do spelled out
+row-at : (goal : Goal) (items : List Item) (tag : Tag) (left : List Goal) → goal.todo ≡ items → row goal tag ≡ Some left → row_of goal.state items tag ≡ Some left
+row-at goal items tag left i r = subst (λ z. row_of goal.state z tag ≡ Some left) i (row-is goal tag left r)
+
+-- WHICH ROWS A GOAL HAS
+
+front-add : (goal : Goal) (tag : Tag) (left : List Goal) (p : Place) (given : Pending) (items : List Item) → row_of goal.state (add p given ∷ items) tag ≡ Some left → (tag ≡ t.Absurd) ⊎ (tag ≡ t.Add)
+front-add goal t.Absurd left p given items r = inl refl
+front-add goal t.Add left p given items r = inr refl
+front-add goal tag left p given items r = absurd (cc)
+
+front-take : (goal : Goal) (tag : Tag) (left : List Goal) (p : Place) (want : Pending) (names : List (List ℕ)) (items : List Item) → row_of goal.state (take p want names ∷ items) tag ≡ Some left
+    → (tag ≡ t.Absurd) ⊎ ((atom : ℕ) × (tag ≡ t.Cell atom))
+front-take goal t.Absurd left p want names items r = inl refl
+front-take goal (t.Cell atom) left p want names items r = inr (atom, refl)
+front-take goal tag left p want names items r = absurd (cc)
+
+front-end : (goal : Goal) (tag : Tag) (left : List Goal) (p : Place) (items : List Item) → row_of goal.state (end p ∷ items) tag ≡ Some left → (tag ≡ t.Absurd) ⊎ (tag ≡ t.End)
+front-end goal t.Absurd left p items r = inl refl
+front-end goal t.End left p items r = inr refl
+front-end goal tag left p items r = absurd (cc)
+
+front-return : (goal : Goal) (tag : Tag) (left : List Goal) (p : Place) (post : _) (items : List Item) → row_of goal.state (return p post ∷ items) tag ≡ Some left → (tag ≡ t.Absurd) ⊎ (tag ≡ t.Return)
+front-return goal t.Absurd left p post items r = inl refl
+front-return goal t.Return left p post items r = inr refl
+front-return goal tag left p post items r = absurd (cc)
+
+front-exit : (goal : Goal) (tag : Tag) (left : List Goal) (p : Place) (r : ResId) (items : List Item) → row_of goal.state (exit p r ∷ items) tag ≡ Some left → tag ≡ t.Absurd
+front-exit goal t.Absurd left p r items i = refl
+front-exit goal tag left p r items i = absurd (cc)
+
+front-run : (goal : Goal) (tag : Tag) (left : List Goal) (c : Command) (items : List Item) → row_of goal.state (run c ∷ items) tag ≡ Some left → (tag ≡ t.Absurd) ⊎ ((atom : ℕ) × (tag ≡ t.Mutate atom))
+front-run goal t.Absurd left c items r = inl refl
+front-run goal (t.Mutate atom) left c items r = inr (atom, refl)
+front-run goal tag left c items r = absurd (cc)
+
+-- a goal that holds isn't closed by absurd
+never : {A : Type 0} (w : ℕ → Value) (goal : Goal) (tag : Tag) (left : List Goal) (e : Var → Option Value) (heap : Heap) → tag ≡ t.Absurd → row goal tag ≡ Some left → HoldsAt w goal e heap → A
+never w goal tag left e heap i r h = absurd (absurd-never w goal left e heap (subst (λ z. row goal z ≡ Some left) i r) h)
+
+-- PAST THE ADDS
+
+-- a provable goal that holds and has these commands to do behind its adds: past them a provable goal holds
+abbrev Settles : Procedure → List machine.Item → Goal → Type 0
+Settles f todo goal = (w : ℕ → Value) (e : Var → Option Value) (share : Heap) → HoldsAt w goal e share → Covers goal.state.vars e
+    → Each (λ (a : Numbered). HasOrder a.atom) goal.state.atoms → goal.state.taken ≡ [] → IsToDo f todo (past_adds goal.todo) → Owns f todo e share
+
+settle-add : (f : Procedure) (todo : List machine.Item) (goal : Goal) (last : LastRow goal) → Each (Settles f todo) last.left → (p : Place) (given : Pending) (items : List Item) → goal.todo ≡ add p given ∷ items → Settles f todo goal
+settle-add f todo goal last ih p given items i w e share h c o n d =
+    elim (front-add goal last.tag last.left p given items (row-at goal (add p given ∷ items) last.tag last.left i last.is)) [
+      inl x ↦ never w goal last.tag last.left e share x last.is h
+    | inr x ↦
+        let m = add-child w goal last.left e share (subst (λ z. row goal z ≡ Some last.left) x last.is) h in
+        let child : Each (Settles f todo) (m.child ∷ []) = subst (Each (Settles f todo)) m.is ih in
+        child.0 w e share m.kept (subst (λ z. Covers z e) (sym m.vars) c) (m.order o) (m.taken ∙ n) (subst (IsToDo f todo) (sym m.past) d)
+    ]
+
+settle-step : (f : Procedure) (todo : List machine.Item) (goal : Goal) → Proof goal → (last : LastRow goal) → Each (Settles f todo) last.left → Settles f todo goal
+settle-step f todo goal proof last ih w e share h c o n d = go goal.todo refl
+  where
+    owned : past_adds goal.todo ≡ goal.todo → Owns f todo e share
+    owned i = record { goal = goal; proof = proof; symbols = w; kept = h; covers = c; fields = o; none_taken = n; to_do = subst (IsToDo f todo) i d }
+
+    go : (items : List Item) → goal.todo ≡ items → Owns f todo e share
+    go [] i = owned (ap past_adds i ∙ sym i)
+    go (add p given ∷ items) i = settle-add f todo goal last ih p given items i w e share h c o n d
+    go (item ∷ items) i = owned (ap past_adds i ∙ sym i)
+
+pub settle : (f : Procedure) (todo : List machine.Item) (goal : Goal) → Proof goal → Settles f todo goal
+settle f todo goal proof = by-rows (Settles f todo) (settle-step f todo) goal proof
+
+-- THE NEXT COMMAND
+
+no-add_to_do : (f : Procedure) (todo : List machine.Item) (items : List Item) → IsToDo f todo items → Each IsNoAdd items
+no-add_to_do f [] items d = subst (Each IsNoAdd) (sym d) (tt, tt)
+no-add_to_do f (command c ∷ todo) items d = subst (Each IsNoAdd) (sym d.1) (tt, no-add_to_do f todo d.0 d.2)
+no-add_to_do f (leave r ∷ todo) items d = subst (Each IsNoAdd) (sym d.2) (tt, no-add_to_do f todo d.1 d.3)
+
+in-front : (items : List Item) → Each IsNoAdd items → AddsInFront items
+in-front [] n = tt
+in-front (add p given ∷ items) n = absurd n.0
+in-front (item ∷ items) n = n.1
+
+-- commands to do stand alone: no conjuncts are to be assumed first
+past-none : (items : List Item) → Each IsNoAdd items → past_adds items ≡ items
+past-none [] n = refl
+past-none (add p given ∷ items) n = absurd n.0
+past-none (item ∷ items) n = refl
+
+-- what a frame's next command finds, and what the frame owns after the event: only a mutation has a row
+abbrev pub Next : Procedure → Command → List machine.Item → (Var → Option Value) → Heap → Type 0
+Next f (mutate p root field value) todo e share = (location : ℕ) × (here : Cell) × Finds (value_at e) share root location here
+    × Owns f todo e (written location (put_field here field.0 (value_at e value)) share)
+Next f _ todo e share = ⊥
+
+-- a mutation's next
+next-mutate : (f : Procedure) (todo : List machine.Item) (e : Var → Option Value) (share : Heap) (p : Place) (root : Expr) (field : FieldId) (value : Expr) (o : Owns f (command (mutate p root field value) ∷ todo) e share)
+    → (last : LastRow o.goal) (atom : ℕ) → last.tag ≡ t.Mutate atom → Next f (mutate p root field value) todo e share
+next-mutate f todo e share p root field value o last atom x =
+    let order : IsInOrder o.goal e = record { covers = o.covers; adds = in-front o.goal.todo (no-add_to_do f (command (mutate p root field value) ∷ todo) o.goal.todo o.to_do); fields = o.fields } in
+    let others = o.to_do.0 in
+    let m = mutate-child o.symbols o.goal last.left e share atom p root field value others order o.to_do.1 (subst (λ z. row o.goal z ≡ Some last.left) x last.is) o.kept in
+    let proofs : Each Proof (record { state = m.state; todo = others } ∷ []) = subst (Each Proof) m.is last.proofs in
+    let rest = past-none others (no-add_to_do f todo others o.to_do.2) in
+    (
+      m.mutates.location,
+      m.mutates.cell,
+      m.mutates.finds,
+      settle f todo (record { state = m.state; todo = others }) proofs.0 o.symbols e
+          (written m.mutates.location (put_field m.mutates.cell field.0 (value_at e value)) share) m.mutates.after (subst (λ z. Covers z e) (sym m.vars) o.covers) m.order (m.taken ∙ o.none_taken)
+          (subst (IsToDo f todo) (sym rest) o.to_do.2),
+    )
+
+-- a goal in front of a command is left by a mutation's row, if at all
+run-left : (f : Procedure) (c : Command) (todo : List machine.Item) (e : Var → Option Value) (share : Heap) (o : Owns f (command c ∷ todo) e share) {A : Type 0}
+    → ((last : LastRow o.goal) (atom : ℕ) → last.tag ≡ t.Mutate atom → row_of o.goal.state (run c ∷ o.to_do.0) (t.Mutate atom) ≡ Some last.left → A) → A
+run-left f c todo e share o k =
+    let last = last-row o.goal o.proof in
+    let r = row-at o.goal (run c ∷ o.to_do.0) last.tag last.left o.to_do.1 last.is in
+    elim (front-run o.goal last.tag last.left c o.to_do.0 r) [
+      inl x ↦ never o.symbols o.goal last.tag last.left e share x last.is o.kept
+    | inr x ↦ k last x.0 x.1 (subst (λ z. row_of o.goal.state (run c ∷ o.to_do.0) z ≡ Some last.left) x.1 r)
+    ]
+
+pub owns-command : (f : Procedure) (c : Command) (todo : List machine.Item) (e : Var → Option Value) (share : Heap) → Owns f (command c ∷ todo) e share → Next f c todo e share
+owns-command f (mutate p root field value) todo e share o = run-left f (mutate p root field value) todo e share o (λ last atom x r. next-mutate f todo e share p root field value o last atom x)
+owns-command f c todo e share o = run-left f c todo e share o (λ last atom x r. absurd (cc))
+
+-- a region is never left: no row has an exit in front
+pub owns-leave : (f : Procedure) (r : ResId) (todo : List machine.Item) (e : Var → Option Value) (share : Heap) → Owns f (leave r ∷ todo) e share → ⊥
+owns-leave f r todo e share o =
+    let last = last-row o.goal o.proof in
+    never o.symbols o.goal last.tag last.left e share
+    (front-exit o.goal last.tag last.left o.to_do.0 r o.to_do.1 (row-at o.goal (exit o.to_do.0 r ∷ o.to_do.1) last.tag last.left o.to_do.2 last.is)) last.is o.kept
+
+-- THE END
+
+-- a provable goal that holds and has only conjuncts to show: the atoms' part of the heap satisfies them
+abbrev pub Closes : Goal → Type 0
+Closes goal = IsClosing goal.todo → (w : ℕ → Value) (e : Var → Option Value) (heap : Heap) → HoldsAt w goal e heap
+    → (part : Heap) → AtomsHold w goal.state.links goal.state.atoms part → WantsHold w goal.todo part
+
+closing-adds : (items : List Item) → IsClosing items → Each IsNoAdd items
+closing-adds [] c = absurd c
+closing-adds (take p want names ∷ items) c = (tt, closing-adds items c)
+closing-adds (end p ∷ items) c = (tt, subst (Each IsNoAdd) (sym c) tt)
+closing-adds (item ∷ items) c = absurd c
+
+close-take : (goal : Goal) (last : LastRow goal) → Each Closes last.left → (p : Place) (want : Pending) (names : List (List ℕ)) (items : List Item) → goal.todo ≡ take p want names ∷ items → Closes goal
+close-take goal last ih p want names items i c w e heap h part a =
+    elim (front-take goal last.tag last.left p want names items (row-at goal (take p want names ∷ items) last.tag last.left i last.is)) [
+      inl x ↦ never w goal last.tag last.left e heap x last.is h
+    | inr x ↦
+        let m = cell-child w goal last.left x.0 (subst (λ z. row goal z ≡ Some last.left) x.1 last.is) in
+        let child : Each Closes (m.child ∷ []) = subst (Each Closes) m.is ih in
+        let d = m.hands part a in
+        d.wants d.rest part d.splits (child.0 (m.closing c) w e heap (m.kept e heap (in-front goal.todo (closing-adds goal.todo c)) h) d.rest d.atoms)
+    ]
+
+close-end : (goal : Goal) (last : LastRow goal) (p : Place) (items : List Item) → goal.todo ≡ end p ∷ items → Closes goal
+close-end goal last p items i c w e heap h part a =
+    elim (front-end goal last.tag last.left p items (row-at goal (end p ∷ items) last.tag last.left i last.is)) [
+      inl x ↦ never w goal last.tag last.left e heap x last.is h
+    | inr x ↦ subst (λ z. WantsHold w z part) (sym i) (row-end w goal last.left part (subst (λ z. row goal z ≡ Some last.left) x last.is) a)
+    ]
+
+close-step : (goal : Goal) → Proof goal → (last : LastRow goal) → Each Closes last.left → Closes goal
+close-step goal proof last ih = go goal.todo refl
+  where
+    go : (items : List Item) → goal.todo ≡ items → Closes goal
+    go [] i = λ c. absurd (subst IsClosing i c)
+    go (take p want names ∷ items) i = close-take goal last ih p want names items i
+    go (end p ∷ items) i = close-end goal last p items i
+    go (item ∷ items) i = λ c. absurd (subst IsClosing i c)
+
+pub closes : (goal : Goal) → Proof goal → Closes goal
+closes goal proof = by-rows Closes close-step goal proof
+
+-- at a return the atoms hold of the whole share
+all-atoms : (f : Procedure) (e : Var → Option Value) (share : Heap) (o : Owns f [] e share) → AtomsHold o.symbols o.goal.state.links o.goal.state.atoms share
+all-atoms f e share o =
+    star-drop_right (star-map_right (λ part x. star-drop_left (star-map
+    (λ g y. subst (λ z. AtomsHold o.symbols o.goal.state.links z g) o.none_taken y) (λ g y. subst (λ z. AddsHold o.symbols z g) o.to_do y) x)) o.kept.heaps)
+
+-- a frame with nothing more to do owns exactly what its postcondition says
+pub owns-end : (p : Program) (f : Procedure) (e : Var → Option Value) (share : Heap) → AssertionWithin p.fields (IsParameter p f) f.post → Owns f [] e share → Sat f.post.level (value_at e) (λ n. nil) share
+owns-end p f e share i o =
+    let last = last-row o.goal o.proof in
+    elim (front-return o.goal last.tag last.left f.end f.post [] (row-at o.goal (return f.end f.post ∷ []) last.tag last.left o.to_do last.is)) [
+      inl x ↦ never o.symbols o.goal last.tag last.left e share x last.is o.kept
+    | inr x ↦
+        let m = return-child o.symbols o.goal last.left e share f.end f.post [] p f o.covers i o.to_do (subst (λ z. row o.goal z ≡ Some last.left) x last.is) o.kept in
+        let proofs : Each Proof (record { state = o.goal.state; todo = m.todo } ∷ []) = subst (Each Proof) m.is last.proofs in
+        m.owes.wants share (closes (record { state = o.goal.state; todo = m.todo }) proofs.0 m.closing o.symbols e share m.owes.kept share (all-atoms f e share o))
+    ]
