@@ -9,3 +9,5 @@ pub mod RowLaws
 pub mod ByRows
 pub mod Owns
 pub mod Reached
+pub mod Starts
+pub mod Sound

@@ -1,19 +1,25 @@
 -- What every configuration that is reached keeps: the entry's frame owns the whole heap.
 -- Names: `step-LAW` speaks of one event, `good-LAW` of what follows for Good.
-use Rattle.std.specs.Prelude.{◌≡◌, ℕ, Option, Some, List, [], ◌∷◌}
-use Rattle.std.proofs.Common.{refl, sym, ap, ◌∙◌, subst}
+use Rattle.std.specs.Prelude.{◌≡◌, ◌≢◌, ℕ, Option, Some, None, List, [], ◌∷◌, slice_get}
+use Rattle.std.proofs.Common.{refl, sym, ap, ◌∙◌, subst, inl, inr}
 use Rattle.sf_base.specs.declared.ids.FieldId.{FieldId}
 use Rattle.sf_base.specs.declared.ids.Var.{Var}
 use Rattle.sf_base.specs.declared.place.Place.{Place}
 use Rattle.sf_base.specs.declared.value.Value.{Value}
 use Rattle.sf_base.specs.declared.value.Value.TheVariants.{Loc as loc}
 use Rattle.sf_core.specs.declared.command.Expr.{Expr}
-use Rattle.sf_core.specs.Config.{Item, command, leave, Fixed, Frame, Task, runs, left, right, Path, Common, Config, seen, task_at, IsCalled}
-use Rattle.sf_core.specs.HeapStore.{Cell, put_field, Heap}
-use Rattle.sf_core.specs.Step.{Event, going, procedure_at, Does, Goes}
-use Rattle.sf_core.specs.Syntax.{Command, mutate, Procedure, Program}
-use Rattle.sf_cli.specs.RowLaws.{written}
-use Rattle.sf_cli.proofs.Owns.{Owns, Next, owns-command, owns-leave}
+use Rattle.sf_core.specs.Bad.{command_root, next_root, IsAbsent, TouchesAbsent, Races}
+use Rattle.sf_core.specs.Config.{Item, command, leave, Fixed, Frame, Task, runs, left, right, Path, Common, Config, seen, task_at, replaced, IsCalled}
+use Rattle.sf_core.specs.Enabled.{HasEnded}
+use Rattle.sf_core.specs.Formed.{IsFormed}
+use Rattle.sf_core.specs.Good.{Owner, resource, task, Returns, Finished, Good}
+use Rattle.sf_core.specs.HeapStore.{Apart, Cell, put_field, Heap}
+use Rattle.sf_core.specs.Reach.{Reach}
+use Rattle.sf_core.specs.Step.{Event, going, procedure_at, Does, Goes, TaskStep, Step}
+use Rattle.sf_core.specs.Syntax.{Command, mutate, Procedure, Program, Resource}
+use Rattle.sf_core.proofs.MapSplits.{empty_map, empty-holds, splits-empty_right}
+use Rattle.sf_cli.specs.RowLaws.{value_at, written}
+use Rattle.sf_cli.proofs.Owns.{Owns, Next, owns-command, owns-leave, owns-end}
 
 -- the values of a frame's variables
 abbrev pub values_in : Fixed → Common → Var → Option Value
@@ -73,3 +79,128 @@ step-goes : (p : Program) (ev : Event) (s : Common) (fixed : Fixed) (todo : List
 step-goes p ev s fixed [] t u f top o g = absurd (subst (λ z. IsCalled z []) top g.0)
 step-goes p ev s fixed (command c ∷ rest) t u f top o g = step-command p ev s fixed c rest t u f (owns-command f c rest (values_in fixed s) s.heap o) g
 step-goes p ev s fixed (leave r ∷ rest) t u f top o g = absurd (owns-leave f r rest (values_in fixed s) s.heap o)
+
+-- one event keeps it
+pub step-owned : (p : Program) (ev : Event) (c d : Config) → IsOwned p c → Step p ev c d → IsOwned p d
+step-owned p ev c d o s =
+    let mine : List Frame = record { fixed = o.fixed; todo = o.todo } ∷ [] in
+    let a = alone-at ev.task mine s.from (subst (λ z. task_at ev.task z ≡ Some s.from) o.alone s.there) in
+    let g = step-goes p ev c.common o.fixed o.todo d.common s.to o.procedure a.top o.owns (subst (λ z. TaskStep p ev c.common z d.common s.to) a.same s.steps) in
+    record {
+      fixed = o.fixed;
+      todo = g.rest;
+      alone = s.tasks ∙ ap (λ z. replaced z s.to c.tasks) a.top ∙ g.is;
+      procedure = o.procedure;
+      there = o.there;
+      owns = g.owns;
+    }
+
+-- every list of events keeps it
+pub reach-owned : (p : Program) (events : List Event) (c d : Config) → IsOwned p c → Reach p c events d → IsOwned p d
+reach-owned p [] c d o r = subst (IsOwned p) (sym r) o
+reach-owned p (ev ∷ events) c d o r = reach-owned p events r.0 d (step-owned p ev c r.0 o r.1) r.2
+
+-- GOOD
+
+pub no-resource : (p : Program) (k : ℕ) (of : Resource) → p.resources ≡ [] → slice_get p.resources k ≡ Some of → ⊥
+no-resource p k of n i = go k (subst (λ z. slice_get z k ≡ Some of) n i)
+  where
+    go : (k : ℕ) → slice_get [] k ≡ Some of → ⊥
+    go k i = absurd (cc)
+
+-- the whole heap is the entry's
+abbrev pub part_of : Heap → Owner → Heap
+part_of heap (resource r) = empty_map
+part_of heap (task []) = heap
+part_of heap (task (turn ∷ path)) = empty_map
+
+none-right : (x : Option Cell) → Apart x None
+none-right None = tt
+none-right (Some x) = tt
+
+parts-apart : (heap : Heap) (owner other : Owner) → owner ≢ other → (location : ℕ) → Apart (part_of heap owner location) (part_of heap other location)
+parts-apart heap (resource r) other n location = tt
+parts-apart heap (task (turn ∷ path)) other n location = tt
+parts-apart heap (task []) (resource r) n location = none-right (heap location)
+parts-apart heap (task []) (task (turn ∷ path)) n location = none-right (heap location)
+parts-apart heap (task []) (task []) n location = absurd (n refl)
+
+-- the next command of a frame that owns the heap finds its cell
+present : (heap : Heap) (v : Value) (location : ℕ) (here : Cell) → v ≡ loc location → heap location ≡ Some here → IsAbsent heap v → ⊥
+present heap v location here i j a = let k : heap location ≡ None = subst (IsAbsent heap) i a in absurd (cc)
+
+touch-command : (f : Procedure) (c : Command) (todo : List Item) (e : Var → Option Value) (heap : Heap) (root : Expr) → Next f c todo e heap → command_root c ≡ Some root → IsAbsent heap (value_at e root) → ⊥
+touch-command f (mutate p x field value) todo e heap root n r a =
+    let i : x ≡ root = cc in
+    present heap (value_at e x) n.0 n.1 n.2.is n.2.there (subst (λ z. IsAbsent heap (value_at e z)) (sym i) a)
+touch-command f c todo e heap root n r a = n
+
+touch-next : (f : Procedure) (todo : List Item) (e : Var → Option Value) (heap : Heap) (root : Expr) → Owns f todo e heap → next_root todo ≡ Some root → IsAbsent heap (value_at e root) → ⊥
+touch-next f [] e heap root o r a = absurd (cc)
+touch-next f (command c ∷ todo) e heap root o r a = touch-command f c todo e heap root (owns-command f c todo e heap o) r a
+touch-next f (leave r ∷ todo) e heap root o i a = absurd (cc)
+
+-- a task that is there is the entry's frame
+record IsEntry (o : Frame) (frame : Frame) (below : List Frame) (path : Path) : Type 0 where
+  top : path ≡ []
+  frame_is : frame ≡ o
+  nothing_below : below ≡ []
+
+first-is : {X : Type 0} (x y : X) (xs ys : List X) → x ∷ xs ≡ y ∷ ys → (x ≡ y) × (xs ≡ ys)
+first-is x y xs ys e = let i : x ≡ y = cc in let j : xs ≡ ys = cc in (i, j)
+
+frames-are : (fs gs : List Frame) → runs fs ≡ runs gs → fs ≡ gs
+frames-are fs gs e = cc
+
+entry-is : (mine frame : Frame) (below : List Frame) (path : Path) (t : Task) → t ≡ runs (mine ∷ []) → task_at path t ≡ Some (runs (frame ∷ below)) → IsEntry mine frame below path
+entry-is mine frame below path t alone there =
+    let a = alone-at path (mine ∷ []) (runs (frame ∷ below)) (subst (λ z. task_at path z ≡ Some (runs (frame ∷ below))) alone there) in
+    let e = first-is frame mine below [] (frames-are (frame ∷ below) (mine ∷ []) a.same) in
+    record { top = a.top; frame_is = e.0; nothing_below = e.1 }
+
+good-touches : (p : Program) (c : Config) → IsOwned p c → TouchesAbsent c → ⊥
+good-touches p c o b =
+    let mine : Frame = record { fixed = o.fixed; todo = o.todo } in
+    let e = entry-is mine b.frame b.below b.path c.tasks o.alone b.enabled.there in
+    touch-next o.procedure o.todo (values_in o.fixed c.common) c.common.heap b.root o.owns (subst (λ (z : Frame). next_root z.todo ≡ Some b.root) e.frame_is b.touches)
+    (subst (λ (z : Frame). IsAbsent c.common.heap (seen z.fixed.slots c.common.store b.root)) e.frame_is b.absent)
+
+good-races : (p : Program) (c : Config) → IsOwned p c → Races c → ⊥
+good-races p c o b =
+    let mine : List Frame = record { fixed = o.fixed; todo = o.todo } ∷ [] in
+    let x = alone-at b.path mine b.task (subst (λ z. task_at b.path z ≡ Some b.task) o.alone b.enabled.there) in
+    let y = alone-at b.other_path mine b.other (subst (λ z. task_at b.other_path z ≡ Some b.other) o.alone b.other_enabled.there) in
+    b.different (x.top ∙ sym y.top)
+
+good-finished : (p : Program) (c : Config) → IsFormed p → p.resources ≡ [] → (o : IsOwned p c) → o.todo ≡ [] → Finished p c (part_of c.common.heap)
+good-finished p c formed none o d = record {
+  frame = record { fixed = o.fixed; todo = o.todo };
+  alone = o.alone;
+  procedure = o.procedure;
+  there = o.there;
+  free = λ r of i. absurd (no-resource p r.0 of none i);
+  post = record {
+    rest = empty_map;
+    splits = splits-empty_right empty-holds;
+    sat = owns-end p o.procedure (values_in o.fixed c.common) c.common.heap (formed.procedures o.fixed.procedure.0 o.procedure o.there).post
+        (subst (λ z. Owns o.procedure z (values_in o.fixed c.common) c.common.heap) d o.owns);
+  };
+  all = λ location cell i. inl i;
+}
+
+good-posts : (p : Program) (c : Config) → IsOwned p c → (path : Path) (frame : Frame) → Returns c path frame → ⊥
+good-posts p c o path frame r =
+    let mine : Frame = record { fixed = o.fixed; todo = o.todo } in
+    let e = entry-is mine frame r.below path c.tasks o.alone r.there in
+    subst (λ z. IsCalled [] z) e.nothing_below (subst (λ z. IsCalled z r.below) e.top r.called)
+
+-- a configuration whose entry owns the whole heap is good
+pub good-owned : (p : Program) (c : Config) → IsFormed p → p.resources ≡ [] → IsOwned p c → Good p c
+good-owned p c formed none o = record {
+  never_bad = λ b. elim b [ inl x ↦ good-touches p c o x | inr x ↦ good-races p c o x ];
+  part = part_of c.common.heap;
+  apart = parts-apart c.common.heap;
+  invariants = λ r of i h. absurd (no-resource p r.0 of none i);
+  posts = λ path frame g r i. absurd (good-posts p c o path frame r);
+  finished = λ h. good-finished p c formed none o (subst (HasEnded []) o.alone h);
+}

@@ -64,7 +64,7 @@ absurd-never w goal left e heap r h = go (is_absurd goal.state) refl (row-is goa
 pub row-absurd : AbsurdKeepsMeaning
 row-absurd w goal left e heap o r h = absurd (absurd-never w goal left e heap r h)
 
-each-append : {X : Type 0} (P : X → Type 0) (xs ys : List X) → Each P xs → Each P ys → Each P (xs ++ ys)
+pub each-append : {X : Type 0} (P : X → Type 0) (xs ys : List X) → Each P xs → Each P ys → Each P (xs ++ ys)
 each-append P [] ys a b = b
 each-append P (x ∷ xs) ys a b = (a.0, each-append P xs ys a.1 b)
 
@@ -100,7 +100,7 @@ apart-nil w (Int i) location e = tt
 apart-nil w (Sym n) location e = (λ (d : w n ≡ nil). absurd (cc), tt)
 
 -- what is left to assume, and what is assumed behind it
-rest-adds : (w some : ℕ → Value) (p : Place) (cs : Conjuncts Term) (bindings : List (Option Term)) (todo : List Item) (part : Heap) → IsBound w bindings some
+pub rest-adds : (w some : ℕ → Value) (p : Place) (cs : Conjuncts Term) (bindings : List (Option Term)) (todo : List Item) (part : Heap) → IsBound w bindings some
     → (SatAll cs (term_value w) some ⋆ AddsHold w todo) part → AddsHold w (unless_none cs (add p (record { conjuncts = cs; bindings = bindings })) ++ todo) part
 rest-adds w some p none bindings todo part b s = star-drop_left s
 rest-adds w some p (also c cs) bindings todo part b s = star-map_left (λ g x. (some, b, x)) s
@@ -141,7 +141,7 @@ pub record Assumed (w : ℕ → Value) (goal : Goal) (left : List Goal) (e : Var
   pub past : past_adds child.todo ≡ past_adds goal.todo
   pub kept : HoldsAt w child e heap
 
-past-add : (p : Place) (cs : Conjuncts Term) (given : Pending) (todo : List Item) → past_adds (unless_none cs (add p given) ++ todo) ≡ past_adds todo
+pub past-add : (p : Place) (cs : Conjuncts Term) (given : Pending) (todo : List Item) → past_adds (unless_none cs (add p given) ++ todo) ≡ past_adds todo
 past-add p none given todo = refl
 past-add p (also c cs) given todo = refl
 
