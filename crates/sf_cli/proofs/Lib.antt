@@ -11,3 +11,8 @@ pub mod Owns
 pub mod Reached
 pub mod Starts
 pub mod Sound
+pub mod Fronts
+pub mod Ascii
+pub mod Numerals
+pub mod TokenSteps
+pub mod Cuts

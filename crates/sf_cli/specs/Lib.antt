@@ -7,3 +7,7 @@ pub mod ProofText
 pub mod Sound
 pub mod VerdictLaws
 pub mod RowLaws
+pub mod Reads
+pub mod Tokens
+pub mod Separated
+pub mod FirstForm

@@ -1,6 +1,7 @@
 //! The command `smallfoot`: it proves a program, or says what can't be shown of it.
 #![tactic(auto)]
 
+mod reading;
 mod soundness;
 mod strategy;
 mod verdicts;

@@ -1,0 +1,320 @@
+//! The first form of a file: one procedure with value parameters, cells in its annotations, and
+//! mutations. Every other file is refused.
+
+ghost use Rattle.std.specs.Prelude.{◌≡◌, ◌≤◌, ◌<◌, IfOk, map, length};
+ghost use Rattle.std.specs.List.{list_any};
+ghost use Rattle.std.specs.Option.{option_map};
+ghost use Rattle.std.specs.Str.{bytes_eq};
+ghost use Rattle.sf_base.specs.declared.limits.TheConstants.{FILE_BYTES, OWN_VARIABLES};
+ghost use Rattle.sf_core.specs.View.{command_of as command_view, conjunct_of, procedure_of};
+ghost use Rattle.sf_core.specs.Whole.{program_of};
+ghost use Rattle.sf_cli.specs.Separated.{cut_at};
+ghost use Rattle.sf_cli.specs.Reads.{Reads};
+ghost use Rattle.sf_cli.specs.FirstForm.{field_names, number_of, name_alone, expr_of, field_of, parameter, names_of, three_of, five_of, two_first, has_field, value_at, values_of, cell_of, cells_of, begins_with, note_of, command_of, commands_of, procedure_in, first_form, place_in};
+
+use crate::reading::fault::ReadFault;
+use crate::reading::token::{Kind, Symbol, Token};
+use crate::reading::tokens::tokens;
+use sf_base::limits::OWN_VARIABLES;
+use sf_base::{FieldId, Name, Place, Var};
+use sf_core::{Assertion, Command, Conjunct, Expr, Level, Occurrence, Operand, Proc, Program, Scope};
+use std::alloc::{AllocError, Global};
+
+/// The tokens before the first such symbol, its place, and the tokens behind it.
+fn cut(tokens: &[Token], symbol: Symbol) -> Option<(&[Token], Place, &[Token])>
+    ensures { option_map (λ c. (c.0.now, c.1, c.2.now)) result ≡ cut_at symbol tokens.now }
+{
+    for (i, token) in tokens.iter().enumerate() {
+        if token.is(symbol) {
+            return Some((&tokens[..i], token.place, &tokens[i + 1..]));
+        }
+    }
+    None
+}
+
+/// The one name that the tokens are.
+fn name_alone(tokens: &[Token]) -> Option<&Name>
+    ensures { option_map (λ n. n.now) result ≡ name_alone tokens.now }
+{
+    match tokens {
+        [Token {
+            kind: Kind::Name(name), ..
+        }] => Some(name),
+        _ => None,
+    }
+}
+
+/// The number of a name among names.
+fn number_of(names: &[Name], name: &str) -> Option<usize>
+    ensures { result ≡ number_of names.now name.now }
+{
+    names.iter().position(|other| name == other.as_str())
+}
+
+/// An expression over those parameters.
+fn expression(names: &[Name], token: &Token) -> Option<Expr>
+    requires { length names.now ≤ OWN_VARIABLES }
+    ensures { result ≡ expr_of names.now token.now }
+{
+    match &token.kind {
+        Kind::Name(name) => match number_of(names, name.as_str()) {
+            Some(number) => Some(Expr::Var(Occurrence {
+                var: Var::Own(number as u32),
+                place: token.place,
+            })),
+            None => None,
+        },
+        Kind::Nil => Some(Expr::Nil),
+        Kind::Number(number) => Some(Expr::Int(*number)),
+        Kind::Symbol(_) => None,
+    }
+}
+
+/// The number of a field's name.
+fn field_number(name: &str) -> Option<u32>
+    ensures { result ≡ number_of field_names name.now }
+{
+    if name == "hd" {
+        Some(0)
+    } else if name == "tl" {
+        Some(1)
+    } else if name == "l" {
+        Some(2)
+    } else if name == "r" {
+        Some(3)
+    } else {
+        None
+    }
+}
+
+/// One of the fields.
+fn field(token: &Token) -> Option<FieldId>
+    ensures { result ≡ field_of token.now }
+{
+    match &token.kind {
+        Kind::Name(name) => match field_number(name.as_str()) {
+            Some(number) => Some(FieldId(number)),
+            None => None,
+        },
+        _ => None,
+    }
+}
+
+/// A parameter behind those: the one name that the tokens are, where it is new and not one too many.
+fn parameter(alloc: Global, done: &[Name], tokens: &[Token]) -> Result<Name, ReadFault>
+    ensures { Reads (λ n. n) result (parameter done.now tokens.now) }
+{
+    let Some(name) = name_alone(tokens) else {
+        return Err(ReadFault::NotBuilt);
+    };
+    if number_of(done, name.as_str()).is_some() {
+        return Err(ReadFault::NotBuilt);
+    }
+    if done.len() >= OWN_VARIABLES {
+        return Err(ReadFault::NotBuilt);
+    }
+    Ok(Name::new(alloc, name.as_str())?)
+}
+
+/// The parameters.
+fn parameters(alloc: Global, tokens: &[Token]) -> Result<Vec<Name>, ReadFault>
+    ensures read { Reads (λ v. v.items) result (names_of tokens.now) }
+    ensures few { IfOk result (λ v. length v.items ≤ OWN_VARIABLES) }
+{
+    let mut done = Vec::new(alloc);
+    if tokens.is_empty() {
+        return Ok(done);
+    }
+    let mut rest = tokens;
+    while let Some((part, _, behind)) = cut(rest, Symbol::Comma) {
+        let name = parameter(alloc, done.as_slice(), part)?;
+        done.push(name)?;
+        rest = behind;
+    }
+    let name = parameter(alloc, done.as_slice(), rest)?;
+    done.push(name)?;
+    Ok(done)
+}
+
+/// The tokens, where there are three.
+fn three(tokens: &[Token]) -> Option<(&Token, &Token, &Token)>
+    ensures { option_map (λ p. (p.0.now, p.1.now, p.2.now)) result ≡ three_of tokens.now }
+{
+    match tokens {
+        [a, b, c] => Some((a, b, c)),
+        _ => None,
+    }
+}
+
+/// The tokens, where there are five.
+fn five(tokens: &[Token]) -> Option<(&Token, &Token, &Token, &Token, &Token)>
+    ensures { option_map (λ p. (p.0.now, p.1.now, p.2.now, p.3.now, p.4.now)) result ≡ five_of tokens.now }
+{
+    match tokens {
+        [a, b, c, d, e] => Some((a, b, c, d, e)),
+        _ => None,
+    }
+}
+
+/// Two tokens, and those behind them.
+fn two(tokens: &[Token]) -> Option<(&Token, &Token, &[Token])>
+    ensures { option_map (λ p. (p.0.now, p.1.now, p.2.now)) result ≡ two_first tokens.now }
+{
+    match tokens {
+        [a, b, rest @ ..] => Some((a, b, rest)),
+        _ => None,
+    }
+}
+
+/// Whether the field is one of those.
+fn has_field(done: &[(FieldId, Operand<Expr>)], field: FieldId) -> bool
+    ensures { result ≡ has_field done.now field }
+{
+    done.iter().any(|other| other.0.0 == field.0)
+}
+
+/// A field with its value, behind those.
+fn value(names: &[Name], done: &[(FieldId, Operand<Expr>)], tokens: &[Token]) -> Option<(FieldId, Operand<Expr>)>
+    requires { length names.now ≤ OWN_VARIABLES }
+    ensures { result ≡ value_at names.now done.now tokens.now }
+{
+    let (name, colon, value) = three(tokens)?;
+    if !colon.is(Symbol::Colon) {
+        return None;
+    }
+    let field = field(name)?;
+    let value = expression(names, value)?;
+    if has_field(done, field) {
+        return None;
+    }
+    Some((field, Operand::Known(value)))
+}
+
+/// The fields of a cell with their values.
+fn values(alloc: Global, names: &[Name], tokens: &[Token]) -> Result<Vec<(FieldId, Operand<Expr>)>, ReadFault>
+    requires { length names.now ≤ OWN_VARIABLES }
+    ensures { Reads (λ v. v.items) result (values_of names.now tokens.now) }
+{
+    let mut done = Vec::new(alloc);
+    if tokens.is_empty() {
+        return Ok(done);
+    }
+    let mut rest = tokens;
+    while let Some((part, _, behind)) = cut(rest, Symbol::Comma) {
+        let Some(one) = value(names, done.as_slice(), part) else {
+            return Err(ReadFault::NotBuilt);
+        };
+        done.push(one)?;
+        rest = behind;
+    }
+    let Some(one) = value(names, done.as_slice(), rest) else {
+        return Err(ReadFault::NotBuilt);
+    };
+    done.push(one)?;
+    Ok(done)
+}
+
+/// A cell.
+fn cell(alloc: Global, names: &[Name], tokens: &[Token]) -> Result<Conjunct<Expr>, ReadFault>
+    requires { length names.now ≤ OWN_VARIABLES }
+    ensures { Reads conjunct_of result (cell_of names.now tokens.now) }
+{
+    let Some((root, arrow, rest)) = two(tokens) else {
+        return Err(ReadFault::NotBuilt);
+    };
+    if !arrow.is(Symbol::PointsTo) {
+        return Err(ReadFault::NotBuilt);
+    }
+    let place = root.place;
+    let Some(root) = expression(names, root) else {
+        return Err(ReadFault::NotBuilt);
+    };
+    let values = values(alloc, names, rest)?;
+    Ok(Conjunct::Points(place, Operand::Known(root), values))
+}
+
+/// Cells that are separated by stars.
+fn cells(alloc: Global, names: &[Name], tokens: &[Token]) -> Result<Vec<Conjunct<Expr>>, ReadFault>
+    requires { length names.now ≤ OWN_VARIABLES }
+    ensures { Reads (λ v. map conjunct_of v.items) result (cells_of names.now tokens.now) }
+{
+    let mut done = Vec::new(alloc);
+    if tokens.is_empty() {
+        return Ok(done);
+    }
+    let mut rest = tokens;
+    while let Some((part, _, behind)) = cut(rest, Symbol::Star) {
+        let one = cell(alloc, names, part)?;
+        done.push(one)?;
+        rest = behind;
+    }
+    let one = cell(alloc, names, rest)?;
+    done.push(one)?;
+    Ok(done)
+}
+
+/// Whether the first token is that symbol.
+fn begins_with(tokens: &[Token], symbol: Symbol) -> bool
+    ensures { result ≡ begins_with symbol tokens.now }
+{
+    match tokens {
+        [first, ..] => first.is(symbol),
+        _ => false,
+    }
+}
+
+/// An annotation's cells; none where there is no annotation.
+fn note(alloc: Global, names: &[Name], tokens: &[Token]) -> Result<Vec<Conjunct<Expr>>, ReadFault>
+    requires { length names.now ≤ OWN_VARIABLES }
+    ensures { Reads (λ v. map conjunct_of v.items) result (note_of names.now tokens.now) }
+{
+    if tokens.is_empty() {
+        return Ok(Vec::new(alloc));
+    }
+    if !begins_with(tokens, Symbol::OpenSquare) {
+        return Err(ReadFault::NotBuilt);
+    }
+    let Some((inside, _, behind)) = cut(&tokens[1..], Symbol::CloseSquare) else {
+        return Err(ReadFault::NotBuilt);
+    };
+    if !behind.is_empty() {
+        return Err(ReadFault::NotBuilt);
+    }
+    cells(alloc, names, inside)
+}
+
+/// A mutation, without its semicolon.
+fn command(names: &[Name], tokens: &[Token]) -> Option<Command>
+    requires { length names.now ≤ OWN_VARIABLES }
+    ensures { option_map command_view result ≡ command_of names.now tokens.now }
+{
+    let (root, arrow, name, equals, value) = five(tokens)?;
+    if !arrow.is(Symbol::Arrow) || !equals.is(Symbol::Equals) {
+        return None;
+    }
+    let place = root.place;
+    let root = expression(names, root)?;
+    let field = field(name)?;
+    let value = expression(names, value)?;
+    Some(Command::Mutate(place, root, field, value))
+}
+
+/// Mutations that each end with a semicolon.
+fn commands(alloc: Global, names: &[Name], tokens: &[Token]) -> Result<Vec<Command>, ReadFault>
+    requires { length names.now ≤ OWN_VARIABLES }
+    ensures { Reads (λ v. map command_view v.items) result (commands_of names.now tokens.now) }
+{
+    let mut done = Vec::new(alloc);
+    let mut rest = tokens;
+    while let Some((part, _, behind)) = cut(rest, Symbol::Semicolon) {
+        let Some(one) = command(names, part) else {
+            return Err(ReadFault::NotBuilt);
+        };
+        done.push(one)?;
+        rest = behind;
+    }
+    if !rest.is_empty() {
+        return Err(ReadFault::NotBuilt);
+    }
+    Ok(done)
+}
