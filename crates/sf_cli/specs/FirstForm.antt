@@ -19,7 +19,7 @@ use Rattle.sf_cli.specs.declared.reading.token.Kind.TheVariants as kind
 use Rattle.sf_cli.specs.declared.reading.token.Symbol.{Symbol}
 use Rattle.sf_cli.specs.declared.reading.token.Symbol.TheVariants.{OpenRound, CloseRound, OpenSquare, CloseSquare, OpenBrace, CloseBrace, Comma, Semicolon, Colon, Star, Equals, Arrow, PointsTo}
 use Rattle.sf_cli.specs.declared.reading.token.Token.{Token}
-use Rattle.sf_cli.specs.Separated.{cut_at, ended, separated, collect}
+use Rattle.sf_cli.specs.Separated.{cut_at, is_empty, ends, separated, collect}
 use Rattle.sf_cli.specs.Tokens.{◌>>=◌, is_symbol, tokens_of}
 
 -- the fields that every program of this form has
@@ -112,11 +112,6 @@ cell_of names ts = two_first ts >>= λ p.
 abbrev pub cells_of : List (List ℕ) → List Token → Option (List (Conjunct Expr))
 cells_of names ts = collect (λ done part. cell_of names part) [] (separated Star ts)
 
--- nothing
-abbrev pub is_empty : List Token → Bool
-is_empty [] = true
-is_empty (t ∷ ts) = false
-
 -- the first token is that symbol
 abbrev pub begins_with : Symbol → List Token → Bool
 begins_with s [] = false
@@ -136,7 +131,7 @@ command_of names ts = five_of ts >>= λ p.
 
 -- { expr "->" name "=" expr ";" }
 abbrev pub commands_of : List (List ℕ) → List Token → Option (List Command)
-commands_of names ts = if is_empty (ended Semicolon ts).1 then collect (λ done part. command_of names part) [] (ended Semicolon ts).0 else None
+commands_of names ts = ends (command_of names) [] Semicolon ts
 
 -- an annotation of those conjuncts, without existentials
 abbrev pub note : List (Conjunct Expr) → Assertion

@@ -1,6 +1,6 @@
 -- Lists in a text: what stands before a symbol, what is separated by it, what each ends with it.
 -- Ordinary: the repetitions of a grammar in Wirth's notation (1977), for parts that don't have the symbol inside.
-use Rattle.std.specs.Prelude.{◌≡◌, ℕ, Bool, if◌then◌else◌, Option, Some, None, List, [], ◌∷◌, ◌++◌}
+use Rattle.std.specs.Prelude.{◌≡◌, ℕ, Bool, true, false, if◌then◌else◌, Option, Some, None, List, [], ◌∷◌, ◌++◌}
 use Rattle.std.specs.Option.{option_map}
 use Rattle.sf_base.specs.declared.place.Place.{Place}
 use Rattle.sf_cli.specs.declared.reading.token.Symbol.{Symbol}
@@ -31,3 +31,15 @@ separated s (t ∷ ts) = (ended s (t ∷ ts)).0 ++ (ended s (t ∷ ts)).1 ∷ []
 abbrev pub collect : {A B : Type 0} → (List B → A → Option B) → List B → List A → Option (List B)
 collect one done [] = Some done
 collect one done (a ∷ more) = one done a >>= λ b. collect one (done ++ b ∷ []) more
+
+-- nothing
+abbrev pub is_empty : List Token → Bool
+is_empty [] = true
+is_empty (t ∷ ts) = false
+
+-- a value for each part that ends with the symbol, behind those that are there, where nothing is left
+abbrev pub ends_of : {B : Type 0} → (List Token → Option B) → List B → List (List Token) × List Token → Option (List B)
+ends_of one done parts = if is_empty parts.1 then collect (λ before part. one part) done parts.0 else None
+
+abbrev pub ends : {B : Type 0} → (List Token → Option B) → List B → Symbol → List Token → Option (List B)
+ends one done s ts = ends_of one done (ended s ts)

@@ -1,16 +1,16 @@
 //! The first form of a file: one procedure with value parameters, cells in its annotations, and
 //! mutations. Every other file is refused.
 
-ghost use Rattle.std.specs.Prelude.{◌≡◌, ◌≤◌, ◌<◌, IfOk, map, length};
+ghost use Rattle.std.specs.Prelude.{◌≡◌, ◌≤◌, ◌<◌, ◌+◌, IfOk, IfSome, drop, map, length};
 ghost use Rattle.std.specs.List.{list_any};
 ghost use Rattle.std.specs.Option.{option_map};
 ghost use Rattle.std.specs.Str.{bytes_eq};
 ghost use Rattle.sf_base.specs.declared.limits.TheConstants.{FILE_BYTES, OWN_VARIABLES};
-ghost use Rattle.sf_core.specs.View.{command_of as command_view, conjunct_of, procedure_of};
+ghost use Rattle.sf_core.specs.View.{assertion_of, command_of as command_view, conjunct_of, procedure_of};
 ghost use Rattle.sf_core.specs.Whole.{program_of};
 ghost use Rattle.sf_cli.specs.Separated.{cut_at};
 ghost use Rattle.sf_cli.specs.Reads.{Reads};
-ghost use Rattle.sf_cli.specs.FirstForm.{field_names, number_of, name_alone, expr_of, field_of, parameter, names_of, three_of, five_of, two_first, has_field, value_at, values_of, cell_of, cells_of, begins_with, note_of, command_of, commands_of, procedure_in, first_form, place_in};
+ghost use Rattle.sf_cli.specs.FirstForm.{field_names, number_of, name_alone, expr_of, field_of, parameter, names_of, three_of, five_of, two_first, has_field, value_at, values_of, cell_of, cells_of, begins_with, note_of, note, command_of, commands_of, procedure_in, first_form, place_in};
 
 use crate::reading::fault::ReadFault;
 use crate::reading::token::{Kind, Symbol, Token};
@@ -20,13 +20,22 @@ use sf_base::{FieldId, Name, Place, Var};
 use sf_core::{Assertion, Command, Conjunct, Expr, Level, Occurrence, Operand, Proc, Program, Scope};
 use std::alloc::{AllocError, Global};
 
+/// The tokens behind that one.
+fn behind(tokens: &[Token], index: usize) -> &[Token]
+    requires { index < length tokens.now }
+    ensures { result.now ≡ drop (index + 1) tokens.now }
+{
+    &tokens[index + 1..]
+}
+
 /// The tokens before the first such symbol, its place, and the tokens behind it.
 fn cut(tokens: &[Token], symbol: Symbol) -> Option<(&[Token], Place, &[Token])>
-    ensures { option_map (λ c. (c.0.now, c.1, c.2.now)) result ≡ cut_at symbol tokens.now }
+    ensures cut { option_map (λ c. (c.0.now, c.1, c.2.now)) result ≡ cut_at symbol tokens.now }
+    ensures shorter { IfSome result (λ c. length c.2.now < length tokens.now) }
 {
     for (i, token) in tokens.iter().enumerate() {
         if token.is(symbol) {
-            return Some((&tokens[..i], token.place, &tokens[i + 1..]));
+            return Some((&tokens[..i], token.place, behind(tokens, i)));
         }
     }
     None
@@ -102,7 +111,8 @@ fn field(token: &Token) -> Option<FieldId>
 
 /// A parameter behind those: the one name that the tokens are, where it is new and not one too many.
 fn parameter(alloc: Global, done: &[Name], tokens: &[Token]) -> Result<Name, ReadFault>
-    ensures { Reads (λ n. n) result (parameter done.now tokens.now) }
+    ensures read { Reads (λ n. n) result (parameter done.now tokens.now) }
+    ensures room { IfOk result (λ _. length done.now < OWN_VARIABLES) }
 {
     let Some(name) = name_alone(tokens) else {
         return Err(ReadFault::NotBuilt);
@@ -274,7 +284,7 @@ fn note(alloc: Global, names: &[Name], tokens: &[Token]) -> Result<Vec<Conjunct<
     if !begins_with(tokens, Symbol::OpenSquare) {
         return Err(ReadFault::NotBuilt);
     }
-    let Some((inside, _, behind)) = cut(&tokens[1..], Symbol::CloseSquare) else {
+    let Some((inside, _, behind)) = cut(behind(tokens, 0), Symbol::CloseSquare) else {
         return Err(ReadFault::NotBuilt);
     };
     if !behind.is_empty() {
@@ -317,4 +327,64 @@ fn commands(alloc: Global, names: &[Name], tokens: &[Token]) -> Result<Vec<Comma
         return Err(ReadFault::NotBuilt);
     }
     Ok(done)
+}
+
+/// An assertion of those conjuncts, without existentials.
+fn assertion(alloc: Global, conjuncts: Vec<Conjunct<Expr>>) -> Assertion
+    ensures { assertion_of result ≡ note (map conjunct_of conjuncts.items) }
+{
+    Assertion {
+        names: Vec::new(alloc),
+        level: Level {
+            made: Scope { first: 0, count: 0 },
+            conjuncts,
+        },
+    }
+}
+
+/// Where the first token stands.
+fn place_in(tokens: &[Token]) -> Place
+    ensures { result ≡ place_in tokens.now }
+{
+    match tokens {
+        [first, ..] => first.place,
+        _ => Place { line: 1, column: 1 },
+    }
+}
+
+/// The procedure that the tokens are.
+fn procedure(alloc: Global, tokens: &[Token]) -> Result<Proc, ReadFault>
+    ensures { Reads procedure_of result (procedure_in tokens.now) }
+{
+    let Some((head, _, rest)) = cut(tokens, Symbol::OpenRound) else {
+        return Err(ReadFault::NotBuilt);
+    };
+    let Some(name) = name_alone(head) else {
+        return Err(ReadFault::NotBuilt);
+    };
+    let Some((inside, _, rest)) = cut(rest, Symbol::CloseRound) else {
+        return Err(ReadFault::NotBuilt);
+    };
+    let names = parameters(alloc, inside)?;
+    let Some((before, _, rest)) = cut(rest, Symbol::OpenBrace) else {
+        return Err(ReadFault::NotBuilt);
+    };
+    let pre = note(alloc, names.as_slice(), before)?;
+    let Some((inside, end, behind)) = cut(rest, Symbol::CloseBrace) else {
+        return Err(ReadFault::NotBuilt);
+    };
+    let body = commands(alloc, names.as_slice(), inside)?;
+    let post = note(alloc, names.as_slice(), behind)?;
+    let values = names.len() as u32;
+    Ok(Proc {
+        name: Name::new(alloc, name.as_str())?,
+        place: place_in(head),
+        names,
+        references: 0,
+        values,
+        pre: assertion(alloc, pre),
+        post: assertion(alloc, post),
+        body,
+        end,
+    })
 }
