@@ -16,3 +16,4 @@ pub mod Ascii
 pub mod Numerals
 pub mod TokenSteps
 pub mod Cuts
+pub mod FormedForm

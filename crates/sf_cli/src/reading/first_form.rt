@@ -1,16 +1,18 @@
 //! The first form of a file: one procedure with value parameters, cells in its annotations, and
 //! mutations. Every other file is refused.
 
-ghost use Rattle.std.specs.Prelude.{◌≡◌, ◌≤◌, ◌<◌, ◌+◌, IfOk, IfSome, drop, map, length};
+ghost use Rattle.std.specs.Prelude.{◌≡◌, ◌≤◌, ◌<◌, ◌+◌, IfErr, IfOk, IfSome, Some, drop, map, length};
 ghost use Rattle.std.specs.List.{list_any};
 ghost use Rattle.std.specs.Option.{option_map};
 ghost use Rattle.std.specs.Str.{bytes_eq};
 ghost use Rattle.sf_base.specs.declared.limits.TheConstants.{FILE_BYTES, OWN_VARIABLES};
+ghost use Rattle.sf_core.specs.Formed.{IsFormed};
 ghost use Rattle.sf_core.specs.View.{assertion_of, command_of as command_view, conjunct_of, procedure_of};
+ghost use Rattle.sf_core.specs.Syntax.{Program as ProgramTree};
 ghost use Rattle.sf_core.specs.Whole.{program_of};
 ghost use Rattle.sf_cli.specs.Separated.{cut_at};
 ghost use Rattle.sf_cli.specs.Reads.{Reads};
-ghost use Rattle.sf_cli.specs.FirstForm.{field_names, number_of, name_alone, expr_of, field_of, parameter, names_of, three_of, five_of, two_first, has_field, value_at, values_of, cell_of, cells_of, begins_with, note_of, note, command_of, commands_of, procedure_in, first_form, place_in};
+ghost use Rattle.sf_cli.specs.FirstForm.{field_names, number_of, name_alone, expr_of, field_of, parameter, names_of, three_of, five_of, two_first, has_field, value_at, values_of, cell_of, cells_of, begins_with, note_of, note, command_of, commands_of, procedure_in, program_of_one, FirstForm, first_form, place_in};
 
 use crate::reading::fault::ReadFault;
 use crate::reading::token::{Kind, Symbol, Token};
@@ -354,7 +356,8 @@ fn place_in(tokens: &[Token]) -> Place
 
 /// The procedure that the tokens are.
 fn procedure(alloc: Global, tokens: &[Token]) -> Result<Proc, ReadFault>
-    ensures { Reads procedure_of result (procedure_in tokens.now) }
+    ensures read { Reads procedure_of result (procedure_in tokens.now) }
+    ensures formed { IfOk result (λ f. IsFormed (program_of_one (procedure_of f))) }
 {
     let Some((head, _, rest)) = cut(tokens, Symbol::OpenRound) else {
         return Err(ReadFault::NotBuilt);
@@ -387,4 +390,45 @@ fn procedure(alloc: Global, tokens: &[Token]) -> Result<Proc, ReadFault>
         body,
         end,
     })
+}
+
+/// The names of the fields.
+fn fields(alloc: Global) -> Result<Vec<Name>, AllocError>
+    ensures { IfOk result (λ v. v.items ≡ field_names) }
+{
+    let mut names = Vec::new(alloc);
+    names.push(Name::new(alloc, "hd")?)?;
+    names.push(Name::new(alloc, "tl")?)?;
+    names.push(Name::new(alloc, "l")?)?;
+    names.push(Name::new(alloc, "r")?)?;
+    Ok(names)
+}
+
+/// The program of one procedure.
+fn program(alloc: Global, procedure: Proc) -> Result<Program, AllocError>
+    requires { IsFormed (program_of_one (procedure_of procedure)) }
+    ensures { IfOk result (λ p. program_of p ≡ program_of_one (procedure_of procedure)) }
+{
+    let fields = fields(alloc)?;
+    let mut procedures = Vec::new(alloc);
+    procedures.push(procedure)?;
+    Ok(Program {
+        fields,
+        resources: Vec::new(alloc),
+        procedures,
+    })
+}
+
+/// The program that a file of the first form is.
+///
+/// `NotBuilt` comes exactly where the bytes are no program in this form, and `OutOfMemory` only
+/// where memory was refused.
+pub fn read(alloc: Global, bytes: &[u8]) -> Result<Program, ReadFault>
+    requires { length bytes.now ≤ FILE_BYTES }
+    ensures found { IfOk result (λ p. FirstForm bytes.now (program_of p)) }
+    ensures refused { IfErr result (λ e. e ≡ ReadFault.NotBuilt → (p : ProgramTree) → FirstForm bytes.now p → ⊥) }
+{
+    let tokens = tokens(alloc, bytes)?;
+    let procedure = procedure(alloc, tokens.as_slice())?;
+    Ok(program(alloc, procedure)?)
 }
