@@ -49,7 +49,8 @@ append_nothing : (ts us : List Tag) → us ≡ [] → ts ++ us ≡ ts
 append_nothing [] us e = e
 append_nothing (t ∷ ts) us e = ap (λ vs. t ∷ vs) (append_nothing ts us e)
 
-one_proof : (g : Goal) (gs : List Goal) → gs ≡ g ∷ [] → (ps : Proofs gs) → (p : Proof g) × (preorder p ≡ preorders ps)
+-- a proof of the one goal of a list
+pub one_proof : (g : Goal) (gs : List Goal) → gs ≡ g ∷ [] → (ps : Proofs gs) → (p : Proof g) × (preorder p ≡ preorders ps)
 one_proof g gs e (no_more n) = absurd (cc)
 one_proof g gs e (and goal others k p ps) =
     let same : goal ≡ g = cc in

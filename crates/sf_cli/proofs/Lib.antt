@@ -17,3 +17,4 @@ pub mod Numerals
 pub mod TokenSteps
 pub mod Cuts
 pub mod FormedForm
+pub mod Stacks

@@ -11,3 +11,4 @@ pub mod Reads
 pub mod Tokens
 pub mod Separated
 pub mod FirstForm
+pub mod Checks
