@@ -18,3 +18,4 @@ pub mod TokenSteps
 pub mod Cuts
 pub mod FormedForm
 pub mod Stacks
+pub mod Worded

@@ -1,9 +1,14 @@
 //! The command `smallfoot`: it proves a program, or says what can't be shown of it.
 #![tactic(auto)]
 
+mod cells;
 mod reading;
+mod rules;
 mod soundness;
 mod strategy;
+mod terms;
+mod text;
+mod todo;
 mod verdicts;
 mod words;
 
