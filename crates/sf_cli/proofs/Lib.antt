@@ -19,3 +19,7 @@ pub mod Cuts
 pub mod FormedForm
 pub mod Stacks
 pub mod Worded
+pub mod Items
+pub mod Numbers
+pub mod Firsts
+pub mod Assumable

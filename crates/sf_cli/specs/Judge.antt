@@ -69,13 +69,17 @@ abbrev pub choose_take : State → Conjuncts Term → Choice
 choose_take s none = stays NotBuilt
 choose_take s (also c cs) = choose_wanted s c
 
+-- at the end: nothing may be left
+abbrev pub choose_end : State → Choice
+choose_end s = cond (is_empty s.atoms) (takes t.End) (stays Leak)
+
 -- by the item in front
 abbrev pub choose_item : State → List Item → Choice
 choose_item s (run c ∷ todo) = choose_command s c
 choose_item s (add p given ∷ todo) = choose_add s given.conjuncts
 choose_item s (take p want names ∷ todo) = choose_take s want.conjuncts
 choose_item s (return p post ∷ todo) = takes t.Return
-choose_item s (end p ∷ todo) = cond (is_empty s.atoms) (takes t.End) (stays Leak)
+choose_item s (end p ∷ todo) = choose_end s
 choose_item s _ = stays NotBuilt
 
 -- Choose: a goal whose state can't be is closed, and else the item in front decides

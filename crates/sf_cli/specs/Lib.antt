@@ -12,3 +12,6 @@ pub mod Tokens
 pub mod Separated
 pub mod FirstForm
 pub mod Checks
+pub mod Left
+pub mod Cells
+pub mod Choices

@@ -29,13 +29,21 @@ term_text (Sym n) = codes "s" ++ decimal n
 abbrev pub atom_text : Text → ℕ → Text
 atom_text tag a = tag ++ codes " " ++ decimal a
 
+-- the tag that begins a procedure
+abbrev pub procedure_text : Program → ProcId → Text
+procedure_text p f = codes "procedure " ++ name_of p f
+
+-- the tag that splits by two terms
+abbrev pub split_text : Term → Term → Text
+split_text x y = codes "split " ++ term_text x ++ codes " " ++ term_text y
+
 -- a tag
 abbrev pub tag_text : Program → Tag → Text
-tag_text p (t.Procedure f) = codes "procedure " ++ name_of p f
+tag_text p (t.Procedure f) = procedure_text p f
 tag_text p t.Absurd = codes "absurd"
 tag_text p (t.Drop a) = atom_text (codes "drop") a
 tag_text p (t.Force a) = atom_text (codes "force") a
-tag_text p (t.Split x y) = codes "split " ++ term_text x ++ codes " " ++ term_text y
+tag_text p (t.Split x y) = split_text x y
 tag_text p (t.Unroll a) = atom_text (codes "unroll") a
 tag_text p t.Assign = codes "assign"
 tag_text p (t.Look a) = atom_text (codes "look") a

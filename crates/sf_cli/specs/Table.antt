@@ -211,16 +211,18 @@ has_term (Some t) (Some u) = same_term t u
 abbrev pub fits : List (FieldId × Term) → FieldId × Operand Term → Bool
 fits fields f = has_term (field_term fields f.0) (known f.1)
 
--- a cell whose fields are as wanted is handed over
-abbrev pub handed_over : State → Conjunct Term → (atom : ℕ) → Option State
-handed_over s (points p x wanted) a =
-    option_and_then (λ root.
+-- the cell of that number goes from the atoms to the taken ones, where it is at the root and its fields are as wanted
+abbrev pub hand_over : State → (root : Term) → List (FieldId × Operand Term) → (atom : ℕ) → Option State
+hand_over s root wanted a =
     option_and_then (λ fields.
     cond (list_all (fits fields) wanted)
     (Some (record s { atoms = without s.atoms a; taken = s.taken ++ (record { number = a; atom = Points root fields } ∷ []) }))
     None)
-    (cell_at s.atoms a root))
-    (known x)
+    (cell_at s.atoms a root)
+
+-- a wanted cell is handed over
+abbrev pub handed_over : State → Conjunct Term → (atom : ℕ) → Option State
+handed_over s (points p x wanted) a = option_and_then (λ root. hand_over s root wanted a) (known x)
 handed_over s _ a = None
 
 -- the one goal that is left, with that state and those items

@@ -5,6 +5,7 @@ mod cells;
 mod reading;
 mod rules;
 mod soundness;
+mod rules;
 mod strategy;
 mod terms;
 mod text;

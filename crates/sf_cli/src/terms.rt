@@ -43,7 +43,11 @@ fn is_same(x: Var, y: Var) -> bool
 
 /// Conjuncts with terms in place of expressions, in the same order. An `Err` is want of memory.
 #[cycle(terms)]
-pub fn with_terms(alloc: Global, vars: &[(Var, Term)], from: &[Conjunct<Expr>]) -> Result<Vec<Conjunct<Term>>, AllocError>
+pub fn with_terms(
+    alloc: Global,
+    vars: &[(Var, Term)],
+    from: &[Conjunct<Expr>],
+) -> Result<Vec<Conjunct<Term>>, AllocError>
     ensures { IfOk result (λ cs. conjuncts (map conjunct_of cs.items) ≡ conjuncts_with (term vars.now) (conjuncts (map conjunct_of from.now))) }
 {
     let mut made = Vec::with_capacity(alloc, from.len())?;
@@ -55,7 +59,11 @@ pub fn with_terms(alloc: Global, vars: &[(Var, Term)], from: &[Conjunct<Expr>]) 
 
 /// One conjunct with terms.
 #[cycle(terms)]
-fn conjunct_with(alloc: Global, vars: &[(Var, Term)], c: &Conjunct<Expr>) -> Result<Conjunct<Term>, AllocError>
+fn conjunct_with(
+    alloc: Global,
+    vars: &[(Var, Term)],
+    c: &Conjunct<Expr>,
+) -> Result<Conjunct<Term>, AllocError>
     ensures { IfOk result (λ d. conjunct_of d ≡ conjunct_with (term vars.now) (conjunct_of c.now)) }
 {
     match c {
@@ -65,7 +73,12 @@ fn conjunct_with(alloc: Global, vars: &[(Var, Term)], c: &Conjunct<Expr>) -> Res
             Ok(Conjunct::Points(*place, operand_with(vars, root), fields))
         }
         Conjunct::Segment(place, next, from, to) => {
-            Ok(Conjunct::Segment(*place, *next, operand_with(vars, from), operand_with(vars, to)))
+            Ok(Conjunct::Segment(
+                *place,
+                *next,
+                operand_with(vars, from),
+                operand_with(vars, to),
+            ))
         }
         Conjunct::Tree(place, left, right, root) => {
             Ok(Conjunct::Tree(*place, *left, *right, operand_with(vars, root)))
@@ -80,7 +93,11 @@ fn conjunct_with(alloc: Global, vars: &[(Var, Term)], c: &Conjunct<Expr>) -> Res
 
 /// A level with terms.
 #[cycle(terms)]
-fn level_with(alloc: Global, vars: &[(Var, Term)], level: &Level<Expr>) -> Result<Level<Term>, AllocError>
+fn level_with(
+    alloc: Global,
+    vars: &[(Var, Term)],
+    level: &Level<Expr>,
+) -> Result<Level<Term>, AllocError>
     ensures { IfOk result (λ d. level_of d ≡ level_with (term vars.now) (level_of level.now)) }
 {
     Ok(Level {
@@ -111,7 +128,11 @@ fn operand_with(vars: &[(Var, Term)], x: &Operand<Expr>) -> Operand<Term>
 }
 
 /// Fields with their terms.
-fn fields_with(alloc: Global, vars: &[(Var, Term)], fields: &[(FieldId, Operand<Expr>)]) -> Result<Vec<(FieldId, Operand<Term>)>, AllocError>
+fn fields_with(
+    alloc: Global,
+    vars: &[(Var, Term)],
+    fields: &[(FieldId, Operand<Expr>)],
+) -> Result<Vec<(FieldId, Operand<Term>)>, AllocError>
     ensures { IfOk result (λ fs. fs.items ≡ map (λ f. (f.0, operand_with (term vars.now) f.1)) fields.now) }
 {
     let mut made = Vec::with_capacity(alloc, fields.len())?;
