@@ -5,7 +5,6 @@ mod cells;
 mod reading;
 mod rules;
 mod soundness;
-mod rules;
 mod strategy;
 mod terms;
 mod text;
