@@ -1,8 +1,8 @@
 -- Words and numbers are ASCII.
-use Rattle.std.proofs.Common.{◌≡◌, ◌<◌, ◌+◌, ◌==◌, ℕ, zero, suc, List, [], ◌∷◌, take, drop, true, false, Bool, cond, refl, arith, subst}
+use Rattle.std.proofs.Common.{◌≡◌, ◌<◌, ◌+◌, ◌==◌, ℕ, zero, suc, List, [], ◌∷◌, take, true, false, Bool, cond, refl, arith}
 use Rattle.std.proofs.lemmas.Bool.Decides.{nat_tests}
 use Rattle.std.specs.Str.{IsAscii}
-use Rattle.std.specs.List.{prefix_len, slice_index}
+use Rattle.std.specs.List.{prefix_len}
 use Rattle.sf_cli.specs.Tokens.{is_word_byte, is_digit, word_length, number_length}
 
 none_ascii : IsAscii []

@@ -1,5 +1,5 @@
 -- Where a list of tokens is cut, and what that says of its parts.
-use Rattle.std.proofs.Common.{◌≡◌, ◌<◌, ◌+◌, ◌≤◌, ℕ, zero, suc, List, [], ◌∷◌, ◌++◌, length, get_or, take, drop, slice_index_or, Bool, true, false, cond, Option, Some, None, refl, ap, sym, ◌∙◌, arith, add-one, ◌==◌}
+use Rattle.std.proofs.Common.{◌≡◌, ◌<◌, ◌+◌, ℕ, zero, suc, List, [], ◌∷◌, ◌++◌, length, take, drop, slice_index_or, Bool, true, false, cond, Option, Some, None, refl, ap, sym, ◌∙◌, arith, add-one, ◌==◌}
 use Rattle.std.proofs.lemmas.Bool.Decides.{nat_tests}
 use Rattle.std.specs.Option.{option_map}
 use Rattle.sf_base.specs.declared.place.Place.{Place}

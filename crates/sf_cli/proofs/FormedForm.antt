@@ -1,28 +1,28 @@
 -- A program of the first form is formed.
-use Rattle.std.proofs.Common.{◌≡◌, ◌≢◌, ◌<◌, ◌≤◌, ◌+◌, ◌==◌, ◌&&◌, ◌||◌, ℕ, zero, suc, List, [], ◌∷◌, ◌++◌, length, drop, slice_get, slice_index_or, Bool, true, false, cond, max, Option, Some, None, refl, ap, sym, subst, ◌∙◌, arith, nat_lt}
+use Rattle.std.proofs.Common.{◌≡◌, ◌≢◌, ◌<◌, ◌≤◌, ◌==◌, ◌&&◌, ◌||◌, ℕ, zero, suc, List, [], ◌∷◌, ◌++◌, length, drop, slice_get, Bool, true, false, cond, Option, Some, None, refl, sym, subst, arith, nat_lt}
 use Rattle.std.proofs.lemmas.Bool.{eqb-false, ltb-true}
 use Rattle.std.proofs.lemmas.List.Elements.{All-push}
-use Rattle.std.specs.List.{All, AllByRecursion, position, position_or_len, list_any, sum_by}
+use Rattle.std.specs.List.{AllByRecursion, position_or_len}
 use Rattle.std.specs.Option.{option_map}
 use Rattle.std.specs.Str.{bytes_eq}
 use Rattle.sf_base.specs.declared.ids.FieldId.{FieldId}
 use Rattle.sf_base.specs.declared.ids.Var.{Var}
-use Rattle.sf_base.specs.declared.ids.Var.TheVariants.{Own, Shared}
+use Rattle.sf_base.specs.declared.ids.Var.TheVariants.{Own}
 use Rattle.sf_base.specs.declared.place.Place.{Place}
 use Rattle.sf_core.specs.declared.assertion.Operand.{Operand}
-use Rattle.sf_core.specs.declared.assertion.Operand.TheVariants.{Known, Exists}
+use Rattle.sf_core.specs.declared.assertion.Operand.TheVariants.{Known}
 use Rattle.sf_core.specs.declared.assertion.Scope.{Scope}
 use Rattle.sf_core.specs.declared.command.Expr.{Expr}
 use Rattle.sf_core.specs.declared.command.Expr.TheVariants.{Var as Variable, Nil, Int}
-use Rattle.sf_core.specs.Formed.{ExprWithin, OperandWithin, FieldsWithin, ConjunctWithin, ConjunctsWithin, NoteWithin, AssertionWithin, CommandWithin, BlockWithin, ProcedureWithin, IsFormed, conjuncts_scopes, conjuncts_depth, block_depth, IsInBody, IsParameter}
-use Rattle.sf_core.specs.Syntax.{Conjunct, holds, points, segment, tree, choose, Level, level, Conjuncts, none, also, Command, assign, look_up, mutate, new, dispose, if, while, call, fork, with, Block, done, then, Assertion, Procedure, Resource, Program}
+use Rattle.sf_core.specs.Formed.{ExprWithin, OperandWithin, FieldsWithin, ConjunctsWithin, AssertionWithin, BlockWithin, ProcedureWithin, IsFormed, conjuncts_scopes, conjuncts_depth, block_depth, IsInBody, IsParameter}
+use Rattle.sf_core.specs.Syntax.{Conjunct, holds, points, segment, tree, choose, Command, assign, look_up, mutate, new, dispose, if, while, call, fork, with, Assertion, Procedure, Resource, Program}
 use Rattle.sf_core.specs.View.{conjuncts, block}
 use Rattle.sf_cli.specs.declared.reading.token.Kind.{Kind}
 use Rattle.sf_cli.specs.declared.reading.token.Kind.TheVariants as kind
 use Rattle.sf_cli.specs.declared.reading.token.Symbol.TheVariants.{OpenSquare, CloseSquare, Comma, Semicolon, Colon, Star, Equals, Arrow, PointsTo}
 use Rattle.sf_cli.specs.declared.reading.token.Token.{Token}
 use Rattle.sf_cli.specs.FirstForm.{field_names, number_of, name_in, expr_in, expr_of, field_of, three_of, five_of, two_first, has_field, value_at, values_of, cell_of, cells_of, begins_with, note_of, command_of, commands_of, note, program_of_one}
-use Rattle.sf_cli.specs.Separated.{cut_at, collect, separated, is_empty, ended, ends}
+use Rattle.sf_cli.specs.Separated.{cut_at, collect, separated, is_empty, ended}
 use Rattle.sf_cli.specs.Tokens.{◌>>=◌, is_symbol}
 
 -- what a value that came of another says of it
@@ -146,6 +146,7 @@ note_within V names own made ts cs e = go (is_empty ts) refl
   where
     inner : Option (List (Conjunct Expr))
     inner = cut_at CloseSquare (drop 1 ts) >>= λ c. cond (is_empty c.2) (cells_of names c.0) None
+
     go : (t : Bool) → is_empty ts ≡ t → AllByRecursion (CellWithin V made) cs
     go true h = let same : [] ≡ cs = from_some _ _ (rw h at e) in subst (AllByRecursion (CellWithin V made)) same tt
     go false h =
@@ -234,14 +235,19 @@ one_formed name place end names pre post body before inside behind few a b c = r
   where
     one : Procedure
     one = record { name = name; place = place; names = names; references = 0; values = length names; pre = note pre; post = note post; body = block body; end = end }
+
     nothing : (k : ℕ) (r : Resource) → slice_get [] k ≡ Some r → ⊥
     nothing k r e = cc
+
     in_body : (n : ℕ) → n < length names → IsInBody (program_of_one one) one (Own n)
     in_body n h = h
+
     in_note : (n : ℕ) → n < length names → IsParameter (program_of_one one) one (Own n)
     in_note n h = omega arith
+
     inside_of : BlockWithin (program_of_one one) one (block body) × (block_depth (block body) ≤ 1)
     inside_of = block_within (program_of_one one) one body refl (commands_within (IsInBody (program_of_one one) one) names in_body inside body b)
+
     formed : ProcedureWithin (program_of_one one) one
     formed = record {
       parameters = omega arith;
@@ -252,6 +258,7 @@ one_formed name place end names pre post body before inside behind few a b c = r
       body = inside_of.0;
       depth = let k : block_depth (block body) ≤ 1 = inside_of.1 in omega arith;
     }
+
     procedures : (k : ℕ) (g : Procedure) → slice_get (one ∷ []) k ≡ Some g → ProcedureWithin (program_of_one one) g
     procedures zero g e = let same : one ≡ g = from_some one g e in subst (ProcedureWithin (program_of_one one)) same formed
     procedures (suc k) g e = absurd cc

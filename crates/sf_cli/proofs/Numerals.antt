@@ -1,5 +1,5 @@
 -- A sign and digits are a numeral, and which number they write.
-use Rattle.std.proofs.Common.{◌≡◌, ◌<◌, ◌+◌, ◌==◌, ◌^◌, ℕ, ℤ, pos, negsuc, zero, suc, List, [], ◌∷◌, length, take, drop, true, false, Bool, cond, ◌&&◌, ◌||◌, Option, Some, None, refl, ap, sym, ◌∙◌, arith, subst}
+use Rattle.std.proofs.Common.{◌≡◌, ◌<◌, ◌+◌, ◌==◌, ℕ, ℤ, pos, negsuc, suc, List, [], ◌∷◌, length, take, true, false, Bool, cond, ◌&&◌, ◌||◌, Option, None, refl, ap, sym, ◌∙◌, arith, subst}
 use Rattle.std.proofs.lemmas.Bool.Decides.{nat_tests}
 use Rattle.std.specs.Prelude.{FitsSigned}
 use Rattle.std.specs.List.{prefix_len, slice_index}
@@ -91,6 +91,7 @@ number_numeral (b ∷ bs) e = go (b == 45) refl
         let n : prefix_len is_digit (b ∷ bs) ≡ suc (prefix_len is_digit bs) = ap (λ t. cond t (1 + prefix_len is_digit bs) 0) d ∙ one_more (prefix_len is_digit bs) in
         let whole : IsNumeral 10 (b ∷ take (prefix_len is_digit bs) bs) = (omega arith, (digit_below_ten b d, run_digits bs)) in
         rw n (subst (λ xs. IsNumeral 10 xs) (sym (no_sign b (take (prefix_len is_digit bs) bs) h d)) whole)
+
     go : (t : Bool) → (b == 45) ≡ t → IsNumeral 10 (without_leading_sign (take (cond t (1 + prefix_len is_digit bs) (prefix_len is_digit (b ∷ bs))) (b ∷ bs)))
     go true h =
         let d : is_digit (slice_index bs 0) ≡ true = and_right (b == 45) _ (or_right (is_digit b) _ (no_minus b h) e) in

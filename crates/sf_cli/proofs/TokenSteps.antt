@@ -47,7 +47,7 @@ pub token_step : (found : List Token) (t : Token) (kind : Kind) (k n new : ℕ) 
 token_step found t kind k n new at next bs i all h z w b f is m e =
     let front : front_of (get_or bs i 0 ∷ drop (i + 1) bs) ≡ Some (kind, n) = ap front_of (sym (split_here bs i h)) ∙ f in
     let step : tokens_from k at (drop i bs) ≡ with_front (record { kind = kind; place = at } ∷ []) (tokens_from (n - 1) (next_place at (get_or bs i 0)) (drop (i + 1) bs)) =
-        ap (tokens_from k at) (split_here bs i h) ∙ goes k at (get_or bs i 0) (drop (i + 1) bs) kind n z b front in
+    ap (tokens_from k at) (split_here bs i h) ∙ goes k at (get_or bs i 0) (drop (i + 1) bs) kind n z b front in
     rw (is, w, m) (front_more found (record { kind = kind; place = at }) (tokens_from (n - 1) (next_place at (get_or bs i 0)) (drop (i + 1) bs)) ∙ ap (with_front found) (sym step) ∙ e)
 
 pub stop_step : (fault : ReadFault) (found : List Token) (k : ℕ) (at : Place) (bs : List ℕ) (i : ℕ) (all : Option (List Token)) → i < length bs → k ≡ 0

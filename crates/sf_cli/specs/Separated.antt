@@ -1,6 +1,6 @@
 -- Lists in a text: what stands before a symbol, what is separated by it, what each ends with it.
 -- Ordinary: the repetitions of a grammar in Wirth's notation (1977), for parts that don't have the symbol inside.
-use Rattle.std.specs.Prelude.{◌≡◌, ℕ, Bool, true, false, if◌then◌else◌, Option, Some, None, List, [], ◌∷◌, ◌++◌}
+use Rattle.std.specs.Prelude.{Bool, true, false, if◌then◌else◌, Option, Some, None, List, [], ◌∷◌, ◌++◌}
 use Rattle.std.specs.Option.{option_map}
 use Rattle.sf_base.specs.declared.place.Place.{Place}
 use Rattle.sf_cli.specs.declared.reading.token.Symbol.{Symbol}

@@ -3,6 +3,8 @@
 pub mod fault;
 pub mod first_form;
 pub mod front;
+#[cfg(test)]
+mod tests;
 pub mod token;
 pub mod tokens;
 

@@ -19,7 +19,9 @@ use crate::reading::token::{Kind, Symbol, Token};
 use crate::reading::tokens::tokens;
 use sf_base::limits::OWN_VARIABLES;
 use sf_base::{FieldId, Name, Place, Var};
-use sf_core::{Assertion, Command, Conjunct, Expr, Level, Occurrence, Operand, Proc, Program, Scope};
+use sf_core::{
+    Assertion, Command, Conjunct, Expr, Level, Occurrence, Operand, Proc, Program, Scope,
+};
 use std::alloc::{AllocError, Global};
 
 /// The tokens behind that one.
@@ -48,9 +50,12 @@ fn name_alone(tokens: &[Token]) -> Option<&Name>
     ensures { option_map (λ n. n.now) result ≡ name_alone tokens.now }
 {
     match tokens {
-        [Token {
-            kind: Kind::Name(name), ..
-        }] => Some(name),
+        [
+            Token {
+                kind: Kind::Name(name),
+                ..
+            },
+        ] => Some(name),
         _ => None,
     }
 }
@@ -186,7 +191,11 @@ fn has_field(done: &[(FieldId, Operand<Expr>)], field: FieldId) -> bool
 }
 
 /// A field with its value, behind those.
-fn value(names: &[Name], done: &[(FieldId, Operand<Expr>)], tokens: &[Token]) -> Option<(FieldId, Operand<Expr>)>
+fn value(
+    names: &[Name],
+    done: &[(FieldId, Operand<Expr>)],
+    tokens: &[Token],
+) -> Option<(FieldId, Operand<Expr>)>
     requires { length names.now ≤ OWN_VARIABLES }
     ensures { result ≡ value_at names.now done.now tokens.now }
 {
@@ -203,7 +212,11 @@ fn value(names: &[Name], done: &[(FieldId, Operand<Expr>)], tokens: &[Token]) ->
 }
 
 /// The fields of a cell with their values.
-fn values(alloc: Global, names: &[Name], tokens: &[Token]) -> Result<Vec<(FieldId, Operand<Expr>)>, ReadFault>
+fn values(
+    alloc: Global,
+    names: &[Name],
+    tokens: &[Token],
+) -> Result<Vec<(FieldId, Operand<Expr>)>, ReadFault>
     requires { length names.now ≤ OWN_VARIABLES }
     ensures { Reads (λ v. v.items) result (values_of names.now tokens.now) }
 {

@@ -7,8 +7,8 @@ ghost use Rattle.sf_cli.specs.Tokens.{is_blank, is_digit, is_word_byte, word_len
 
 use crate::reading::fault::ReadFault;
 use crate::reading::token::{Kind, Symbol};
-use sf_base::limits::NAME_BYTES;
 use sf_base::Name;
+use sf_base::limits::NAME_BYTES;
 use std::alloc::Global;
 use std::str;
 
@@ -39,7 +39,10 @@ fn digits(bytes: &[u8]) -> usize
     ensures length { result ≡ prefix_len is_digit bytes.now }
     ensures within { result ≤ length bytes.now }
 {
-    bytes.iter().take_while(|byte| byte.is_ascii_digit()).count()
+    bytes
+        .iter()
+        .take_while(|byte| byte.is_ascii_digit())
+        .count()
 }
 
 /// Whether the word begins or joins commands.

@@ -1,11 +1,8 @@
-use Rattle.std.proofs.Common.{◌≡◌, ◌==◌, List, [], ◌∷◌, ◌++◌, map, true, false, cond, Some, None, sym, ◌∙◌, ap}
-use Rattle.std.specs.Option.{option_map}
+use Rattle.std.proofs.Common.{◌≡◌, [], ◌∷◌, ◌++◌, map, cond, Some, None, sym, ◌∙◌, ap}
 use Rattle.std.proofs.lemmas.List.{map_push}
-use Rattle.sf_core.specs.Syntax.{Command}
 use Rattle.sf_core.specs.View.{command_of as command_view}
 use Rattle.sf_cli.specs.declared.reading.token.Symbol.TheVariants.{Semicolon}
-use Rattle.sf_cli.specs.Separated.{is_empty}
-use Rattle.sf_cli.specs.FirstForm.{command_of, commands_of}
+use Rattle.sf_cli.specs.FirstForm.{command_of}
 use Rattle.sf_cli.proofs.Cuts.{ends_next, ends_stop, ends_last, some_left, none_left}
 use Rattle.sf_cli.proofs.reading.first_form.commands.Goals as goal
 

@@ -1,4 +1,4 @@
-use Rattle.std.proofs.Common.{◌≡◌, ◌<◌, ℕ, Some, false, length, take, drop, slice_index_or, sym, ◌∙◌, ap, arith, add-one, below_more}
+use Rattle.std.proofs.Common.{◌≡◌, false, slice_index_or, sym, ◌∙◌, ap, arith, below_more}
 use Rattle.std.proofs.lemmas.List.{get_or_read}
 use Rattle.sf_cli.specs.declared.reading.token.Token.{Token}
 use Rattle.sf_cli.specs.Tokens.{is_symbol}

@@ -1,4 +1,4 @@
-use Rattle.std.proofs.Common.{◌≡◌, length, map, sym, ◌∙◌, ap}
+use Rattle.std.proofs.Common.{length, map, sym, ◌∙◌, ap}
 use Rattle.sf_core.specs.View.{assertion_of, command_of as command_view, conjunct_of}
 use Rattle.sf_cli.specs.FirstForm.{note_of, commands_of}
 use Rattle.sf_cli.proofs.FormedForm.{one_formed_as}

@@ -1,4 +1,4 @@
-use Rattle.std.proofs.Common.{◌≡◌, take, sym, subst, ◌∙◌, true}
+use Rattle.std.proofs.Common.{take, sym, subst, ◌∙◌}
 use Rattle.std.specs.Str.{IsAscii}
 use Rattle.std.specs.Str.Parse.{IsNumeral, without_leading_sign}
 use Rattle.sf_cli.proofs.Ascii.{word_ascii, number_ascii}

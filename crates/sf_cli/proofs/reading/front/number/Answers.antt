@@ -1,6 +1,3 @@
-use Rattle.std.proofs.Common.{◌≡◌, sym, subst}
-use Rattle.std.specs.Str.Parse.{IsNumeral, without_leading_sign}
-use Rattle.sf_cli.specs.Tokens.{number}
 use Rattle.sf_cli.proofs.Numerals.{number_too_large}
 use Rattle.sf_cli.proofs.reading.front.number.Goals as goal
 
