@@ -23,3 +23,4 @@ pub mod Items
 pub mod Numbers
 pub mod Firsts
 pub mod Assumable
+pub mod Answered

@@ -1,13 +1,17 @@
 -- Tags that a stack of goals accepts are those of proofs, and the other way round.
 -- Names: checks-proves, proves-checks, and what leads there.
-use Rattle.std.proofs.Common.{◌≡◌, ℕ, suc, Option, Some, None, List, [], ◌∷◌, ◌++◌, refl, sym, ap, ap₂, ◌∙◌, subst, append_assoc}
+use Rattle.std.proofs.Common.{◌≡◌, ◌≢◌, ℕ, suc, ◌+◌, add-one, ◌<◌, ◌≤◌, ◌↔◌, ◌⊎◌, inl, inr, Option, Some, None, List, [], ◌∷◌, ◌++◌, length, drop, get_or, refl, sym, ap, ap₂, ◌∙◌, subst, append_assoc}
+use Rattle.std.proofs.Math.Seq.{drop-cons}
+use Rattle.std.proofs.lemmas.List.{drop_all}
+use Rattle.std.proofs.lemmas.Option.{get_or_from_slice_get, slice_get_cases, slice_get_within}
+use Rattle.std.specs.List.{slice_get}
 use Rattle.sf_base.specs.declared.ids.ProcId.{ProcId}
 use Rattle.sf_core.specs.Syntax.{Procedure, Program}
 use Rattle.sf_sym.specs.declared.tag.Tag.{Tag}
 use Rattle.sf_sym.specs.declared.tag.Tag.TheVariants.{Procedure as Begin}
 use Rattle.sf_sym.specs.Goal.{Goal}
 use Rattle.sf_cli.proofs.Chosen.{proofs-split, proof-same, one_proof}
-use Rattle.sf_cli.specs.Checks.{Checks}
+use Rattle.sf_cli.specs.Checks.{Checks, ChecksFrom}
 use Rattle.sf_cli.specs.Proves.{Proof, by, Proofs, no_more, and, preorder, preorders, ProvesFrom, Proves}
 use Rattle.sf_cli.specs.Table.{row, first_goal}
 
@@ -63,8 +67,8 @@ mutual
   proofs-checks p f xs gs (no_more e) hs us c = subst (λ zs. Checks p f xs (zs ++ hs) us) (sym e) c
   proofs-checks p f xs gs (and g others e q qs) hs us c =
       subst (λ zs. Checks p f xs (zs ++ hs) ((preorder q ++ preorders qs) ++ us)) (sym e)
-        (subst (λ ts. Checks p f xs (g ∷ (others ++ hs)) ts) (sym (append_assoc (preorder q) (preorders qs) us))
-          (proof-checks p f xs g q (others ++ hs) (preorders qs ++ us) (proofs-checks p f xs others qs hs us c)))
+      (subst (λ ts. Checks p f xs (g ∷ (others ++ hs)) ts) (sym (append_assoc (preorder q) (preorders qs) us))
+      (proof-checks p f xs g q (others ++ hs) (preorders qs ++ us) (proofs-checks p f xs others qs hs us c)))
 
 -- tags that prove procedures are accepted
 pub from-checks : (p : Program) (f : ℕ) (xs : List Procedure) (tags : List Tag) → ProvesFrom p f xs tags → Checks p f xs [] tags
@@ -75,3 +79,60 @@ from-checks p f (x ∷ xs) tags d =
 -- tags that prove the program are accepted
 pub proves-checks : (p : Program) (tags : List Tag) → Proves p tags → Checks p 0 p.procedures [] tags
 proves-checks p tags d = from-checks p 0 p.procedures tags d
+
+dropped_some : (xs : List Procedure) (f : ℕ) (x : Procedure) → slice_get xs f ≡ Some x → drop f xs ≡ x ∷ drop (suc f) xs
+dropped_some xs f x e = drop-cons xs f x (slice_get_within xs f x e) ∙ ap (λ z. z ∷ drop (suc f) xs) (get_or_from_slice_get xs f x x e)
+
+dropped_none : (xs : List Procedure) (f : ℕ) → length xs ≤ f → drop f xs ≡ []
+dropped_none xs f h = drop_all f xs h
+
+-- the tag of the next procedure begins it
+pub begin-checks : (p : Program) (f : ℕ) (x : Procedure) (tags : List Tag) → slice_get p.procedures f ≡ Some x
+    → ChecksFrom p f [] (Begin (record { 0 = f }) ∷ tags) ↔ ChecksFrom p (suc f) (first_goal p x ∷ []) tags
+begin-checks p f x tags e =
+    let d = dropped_some p.procedures f x e in (
+      λ c. (subst (λ xs. Checks p f xs [] (Begin (record { 0 = f }) ∷ tags)) d c).1,
+      λ c. subst (λ xs. Checks p f xs [] (Begin (record { 0 = f }) ∷ tags)) (sym d) (refl, c),
+    )
+
+-- no other tag does, and none where no procedure is left
+pub begin-other : (p : Program) (f : ℕ) (tag : Tag) (tags : List Tag) → (f < length p.procedures → tag ≢ Begin (record { 0 = f })) → ChecksFrom p f [] (tag ∷ tags) → ⊥
+begin-other p f tag tags n c = go (slice_get_cases p.procedures f).1
+  where
+    go : ((x : Procedure) × (f < length p.procedures) × (slice_get p.procedures f ≡ Some x) × (get_or p.procedures f x ≡ x)) ⊎ ((length p.procedures ≤ f) × (slice_get p.procedures f ≡ None)) → ⊥
+    go (inl k) = n k.1 (subst (λ xs. Checks p f xs [] (tag ∷ tags)) (dropped_some p.procedures f k.0 k.2) c).0
+    go (inr k) = subst (λ xs. Checks p f xs [] (tag ∷ tags)) (dropped_none p.procedures f k.0) c
+
+-- with nothing to come, nothing may be open and no procedure left
+pub end-checks : (p : Program) (f : ℕ) → ChecksFrom p f [] [] ↔ (length p.procedures ≤ f)
+end-checks p f = (λ c. to c (slice_get_cases p.procedures f).1, λ h. subst (λ xs. Checks p f xs [] []) (sym (dropped_none p.procedures f h)) tt)
+  where
+    to : ChecksFrom p f [] [] → ((x : Procedure) × (f < length p.procedures) × (slice_get p.procedures f ≡ Some x) × (get_or p.procedures f x ≡ x)) ⊎ ((length p.procedures ≤ f) × (slice_get p.procedures f ≡ None)) → length p.procedures ≤ f
+    to c (inl k) = absurd (subst (λ xs. Checks p f xs [] []) (dropped_some p.procedures f k.0 k.2) c)
+    to c (inr k) = k.0
+
+pub end-open : (p : Program) (f : ℕ) (g : Goal) (gs : List Goal) → ChecksFrom p f (g ∷ gs) [] → ⊥
+end-open p f g gs c = go (drop f p.procedures) c
+  where
+    go : (xs : List Procedure) → Checks p f xs (g ∷ gs) [] → ⊥
+    go xs d = d
+
+-- at an open goal a tag of the table leaves its goals
+pub row-checks : (p : Program) (f : ℕ) (g : Goal) (tag : Tag) (tags : List Tag) (left : List Goal) → row g tag ≡ Some left
+    → ChecksFrom p f (g ∷ []) (tag ∷ tags) ↔ ChecksFrom p f (left ++ []) tags
+row-checks p f g tag tags left e = (λ c. to c.0 c.1 c.2, λ c. (left, e, c))
+  where
+    to : (other : List Goal) → row g tag ≡ Some other → ChecksFrom p f (other ++ []) tags → ChecksFrom p f (left ++ []) tags
+    to other k c = let o : Some other ≡ Some left = sym k ∙ e in let same : other ≡ left = cc in subst (λ z. ChecksFrom p f (z ++ []) tags) same c
+
+-- and no other is accepted there
+pub row-refused : (p : Program) (f : ℕ) (g : Goal) (tag : Tag) (tags : List Tag) → row g tag ≡ None → ChecksFrom p f (g ∷ []) (tag ∷ tags) → ⊥
+row-refused p f g tag tags e c = let o : Some c.0 ≡ None = sym c.1 ∙ e in cc
+
+-- the same of a goal and a tag that are just those
+pub begin-accepted : (p : Program) (f : ℕ) (x : Procedure) (g : Goal) (tag : Tag) (tags : List Tag) → slice_get p.procedures f ≡ Some x → g ≡ first_goal p x → tag ≡ Begin (record { 0 = f })
+    → ChecksFrom p f [] (tag ∷ tags) ↔ ChecksFrom p (f + 1) (g ∷ []) tags
+begin-accepted p f x g tag tags e same begins =
+    subst (λ (t : Tag). ChecksFrom p f [] (t ∷ tags) ↔ ChecksFrom p (f + 1) (g ∷ []) tags) (sym begins)
+    (subst (λ (z : Goal). ChecksFrom p f [] (Begin (record { 0 = f }) ∷ tags) ↔ ChecksFrom p (f + 1) (z ∷ []) tags) (sym same)
+    (subst (λ (n : ℕ). ChecksFrom p f [] (Begin (record { 0 = f }) ∷ tags) ↔ ChecksFrom p n (first_goal p x ∷ []) tags) (sym (add-one f)) (begin-checks p f x tags e)))

@@ -1,6 +1,6 @@
 -- Checks: tags accepted one after the other with a stack of open goals, the first of which is worked first.
 -- Ordinary: a tree in preorder is read with a stack; Knuth, "The Art of Computer Programming", volume 1 (1968), section 2.3.
-use Rattle.std.specs.Prelude.{◌≡◌, ℕ, suc, Option, Some, None, List, [], ◌∷◌, ◌++◌}
+use Rattle.std.specs.Prelude.{◌≡◌, ℕ, suc, Option, Some, None, List, [], ◌∷◌, ◌++◌, drop}
 use Rattle.sf_base.specs.declared.ids.ProcId.{ProcId}
 use Rattle.sf_core.specs.Syntax.{Procedure, Program}
 use Rattle.sf_sym.specs.declared.tag.Tag.{Tag}
@@ -16,3 +16,7 @@ Checks p f (x ∷ xs) [] (tag ∷ tags) = (tag ≡ Begin (record { 0 = f })) × 
 Checks p f (x ∷ xs) [] [] = ⊥
 Checks p f [] [] (tag ∷ tags) = ⊥
 Checks p f [] [] [] = Unit {0}
+
+-- the same from the procedure of that number on
+abbrev pub ChecksFrom : Program → (f : ℕ) → (open_ : List Goal) → List Tag → Type 0
+ChecksFrom p f open_ tags = Checks p f (drop f p.procedures) open_ tags

@@ -15,3 +15,4 @@ pub mod Checks
 pub mod Left
 pub mod Cells
 pub mod Choices
+pub mod Checking

@@ -2,6 +2,7 @@
 #![tactic(auto)]
 
 mod cells;
+mod check;
 mod reading;
 mod rules;
 mod soundness;
