@@ -75,6 +75,14 @@ with-order (x ∷ xs) number root new o n = go (x.number == number) (with-order 
     go true r = (n, o.1)
     go false r = (o.0, r)
 
+pub without-order : (atoms : List Numbered) (number : ℕ) → Each (λ (a : Numbered). HasOrder a.atom) atoms → Each (λ (a : Numbered). HasOrder a.atom) (without atoms number)
+without-order [] number o = tt
+without-order (x ∷ xs) number o = go (x.number == number) (without-order xs number o.1)
+  where
+    go : (b : Bool) → Each (λ (a : Numbered). HasOrder a.atom) (without xs number) → Each (λ (a : Numbered). HasOrder a.atom) (cond b xs (x ∷ without xs number))
+    go true r = o.1
+    go false r = (o.0, r)
+
 -- the fields of a cell that is there are in order
 pub found-order : (atoms : List Numbered) (number : ℕ) (root : Term) (fields : List (FieldId × Term)) → cell_at atoms number root ≡ Some fields → Each (λ (a : Numbered). HasOrder a.atom) atoms → AreOrdered fields
 found-order [] number root fields e o = absurd (cc)

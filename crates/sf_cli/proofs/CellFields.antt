@@ -1,6 +1,6 @@
 -- The known fields of a cell: what is put among them is true of it, and they stay in order.
 -- Names: `put-LAW` speaks of `put_term`, `new-LAW` of `new_fields`.
-use Rattle.std.specs.Prelude.{◌≡◌, ◌≢◌, ℕ, ◌<◌, ◌==◌, Bool, true, false, cond, nat_lt, Option, Some, None, List, [], ◌∷◌}
+use Rattle.std.specs.Prelude.{◌≡◌, ℕ, ◌<◌, ◌==◌, Bool, true, false, cond, nat_lt, Option, Some, None, List, [], ◌∷◌}
 use Rattle.std.specs.List.{list_all}
 use Rattle.std.proofs.Common.{refl, sym, ap, ◌∙◌, subst, arith}
 use Rattle.std.proofs.lemmas.Bool.Decides.{nat_tests}
@@ -10,6 +10,7 @@ use Rattle.sf_core.specs.declared.assertion.Operand.{Operand}
 use Rattle.sf_core.specs.declared.assertion.Operand.TheVariants.{Known, Exists}
 use Rattle.sf_core.specs.HeapStore.{Cell, put_field}
 use Rattle.sf_core.specs.Sat.{operand, HasFields}
+use Rattle.sf_core.proofs.HeapSplits.{at-same, at-self}
 use Rattle.sf_sym.specs.declared.term.Term.{Term}
 use Rattle.sf_sym.specs.Each.{Each}
 use Rattle.sf_sym.proofs.Terms.{same_term_is}
@@ -24,12 +25,6 @@ AreBehind n fs = Each (λ (g : FieldId × Term). n < g.0.0) fs
 behind-mono : (m n : ℕ) (fs : List (FieldId × Term)) → m < n → AreBehind n fs → AreBehind m fs
 behind-mono m n [] d b = tt
 behind-mono m n (f ∷ fs) d b = let e : n < f.0.0 = b.0 in let r : m < f.0.0 = grind arith in (r, behind-mono m n fs d b.1)
-
-same-number : (m n : ℕ) → m == n ≡ true → m ≡ n
-same-number m n e = grind (arith, nat_tests)
-
-other-number : (m n : ℕ) → m == n ≡ false → m ≢ n
-other-number m n e = λ (d : m ≡ n). grind (arith, nat_tests)
 
 behind-differs : (m n : ℕ) → m < n → n == m ≡ false
 behind-differs m n d = grind (arith, nat_tests)
@@ -56,7 +51,7 @@ put-order f u [] o = (tt, tt)
 put-order f u (g ∷ gs) o = go (g.0.0 == f.0) (nat_lt f.0 g.0.0) refl refl (put-order f u gs o.1)
   where
     go : (s t : Bool) → g.0.0 == f.0 ≡ s → nat_lt f.0 g.0.0 ≡ t → AreOrdered (put_term f u gs) → AreOrdered (cond s ((f, u) ∷ gs) (cond t ((f, u) ∷ g ∷ gs) (g ∷ put_term f u gs)))
-    go true t c d r = (subst (λ n. AreBehind n gs) (same-number g.0.0 f.0 c) o.0, o.1)
+    go true t c d r = (subst (λ n. AreBehind n gs) (at-same f.0 g.0.0 c) o.0, o.1)
     go false true c d r = ((is-less f.0 g.0.0 d, behind-mono f.0 g.0.0 gs (is-less f.0 g.0.0 d) o.0), o)
     go false false c d r = (put-behind g.0.0 f u gs (is-more g.0.0 f.0 c d) o.0, r)
 
@@ -76,10 +71,7 @@ module _ (v : Term → Value) where
   put-others n x (g ∷ gs) here b h = (ap (λ t. cond t x (here g.0.0)) (behind-differs n g.0.0 b.0) ∙ h.0, put-others n x gs here b.1 h.1)
 
   put-self : (n : ℕ) (x : Value) (here : Cell) → put_field here n x n ≡ x
-  put-self n x here = ap (λ t. cond t x (here n)) (self n)
-    where
-      self : (n : ℕ) → n == n ≡ true
-      self n = grind (arith, nat_tests)
+  put-self n x here = ap (λ t. cond t x (here n)) (at-self n)
 
   -- a field that is written in the cell is put among them
   pub put-written : (f : FieldId) (u : Term) (fs : List (FieldId × Term)) (here : Cell) → AreOrdered fs → HasFields v fs here → HasFields v (put_term f u fs) (put_field here f.0 (v u))
@@ -88,7 +80,7 @@ module _ (v : Term → Value) where
     where
       go : (s t : Bool) → g.0.0 == f.0 ≡ s → nat_lt f.0 g.0.0 ≡ t → HasFields v (put_term f u gs) (put_field here f.0 (v u))
           → HasFields v (cond s ((f, u) ∷ gs) (cond t ((f, u) ∷ g ∷ gs) (g ∷ put_term f u gs))) (put_field here f.0 (v u))
-      go true t c d r = (put-self f.0 (v u) here, put-others f.0 (v u) gs here (subst (λ n. AreBehind n gs) (same-number g.0.0 f.0 c) o.0) h.1)
+      go true t c d r = (put-self f.0 (v u) here, put-others f.0 (v u) gs here (subst (λ n. AreBehind n gs) (at-same f.0 g.0.0 c) o.0) h.1)
       go false true c d r =
           (put-self f.0 (v u) here, put-others f.0 (v u) (g ∷ gs) here (is-less f.0 g.0.0 d, behind-mono f.0 g.0.0 gs (is-less f.0 g.0.0 d) o.0) h)
       go false false c d r = (ap (λ t. cond t (v u) (here g.0.0)) c ∙ h.0, r)
@@ -111,7 +103,7 @@ module _ (v : Term → Value) where
       found (x ∷ gs) g t d k = go (x.0.0 == g.0) refl d (λ i. found gs g t i k.1)
         where
           go : (b : Bool) → x.0.0 == g.0 ≡ b → cond b (Some x.1) (field_term gs g) ≡ Some t → (field_term gs g ≡ Some t → here g.0 ≡ v t) → here g.0 ≡ v t
-          go true c i r = let j : x.1 ≡ t = cc in ap here (sym (same-number x.0.0 g.0 c)) ∙ k.0 ∙ ap v j
+          go true c i r = let j : x.1 ≡ t = cc in ap here (sym (at-same g.0 x.0.0 c)) ∙ k.0 ∙ ap v j
           go false c i r = r i
 
       one : (g : FieldId) (o : Operand Term) → has_term (field_term fields g) (known o) ≡ true → here g.0 ≡ operand v some o

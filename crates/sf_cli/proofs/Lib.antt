@@ -1,6 +1,6 @@
 pub mod Chosen
 pub mod SatTerms
-pub mod SatNames
+pub mod SatClosed
 pub mod CellFields
 pub mod CellAtoms
 pub mod Regrouped

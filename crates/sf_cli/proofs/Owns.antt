@@ -17,17 +17,16 @@ use Rattle.sf_core.specs.Sat.{Sat}
 use Rattle.sf_core.specs.Step.{Finds}
 use Rattle.sf_core.specs.Syntax.{Command, mutate, Procedure, Program}
 use Rattle.sf_core.proofs.HeapSplits.{star-drop_left, star-drop_right, star-map, star-map_right}
-use Rattle.sf_sym.specs.declared.atom.Numbered.{Numbered}
 use Rattle.sf_sym.specs.declared.tag.Tag.{Tag}
 use Rattle.sf_sym.specs.declared.tag.Tag.TheVariants as t
 use Rattle.sf_sym.specs.Each.{Each}
 use Rattle.sf_sym.specs.Goal.{Pending, Item, run, add, take, exit, return, end, Goal}
 use Rattle.sf_sym.specs.Holds.{AtomsHold, AddsHold, HoldsAt}
 use Rattle.sf_cli.specs.Proves.{Proof}
-use Rattle.sf_cli.specs.RowLaws.{Covers, value_at, IsNoAdd, AddsInFront, HasOrder, IsInOrder, written, WantsHold}
+use Rattle.sf_cli.specs.RowLaws.{value_at, IsNoAdd, IsInOrder, written, WantsHold}
 use Rattle.sf_cli.specs.Table.{row_of, row}
 use Rattle.sf_cli.proofs.ByRows.{LastRow, last-row, by-rows}
-use Rattle.sf_cli.proofs.RowLaws.{past_adds, row-is, absurd-never, add-child, mutate-child, IsClosing, cell-child, row-end, return-child}
+use Rattle.sf_cli.proofs.RowLaws.{past_adds, row-is, absurd-never, add-child, spelled, mutate-child, IsClosing, cell-child, row-end, returning, return-left, return-closing, return-order, return-owes, rows-keep_order}
 
 -- what a frame has still to do is what the goal has to do before the procedure's return
 abbrev pub IsToDo : Procedure → List machine.Item → List Item → Type 0
@@ -41,8 +40,7 @@ pub record Owns (f : Procedure) (todo : List machine.Item) (e : Var → Option V
   pub proof : Proof goal
   pub symbols : ℕ → Value
   pub kept : HoldsAt symbols goal e share
-  pub covers : Covers goal.state.vars e
-  pub fields : Each (λ (a : Numbered). HasOrder a.atom) goal.state.atoms
+  pub order : IsInOrder goal e
   pub none_taken : goal.state.taken ≡ []
   pub to_do : IsToDo f todo goal.todo
 
@@ -86,50 +84,43 @@ front-run goal tag left c items r = absurd (cc)
 never : {A : Type 0} (w : ℕ → Value) (goal : Goal) (tag : Tag) (left : List Goal) (e : Var → Option Value) (heap : Heap) → tag ≡ t.Absurd → row goal tag ≡ Some left → HoldsAt w goal e heap → A
 never w goal tag left e heap i r h = absurd (absurd-never w goal left e heap (subst (λ z. row goal z ≡ Some left) i r) h)
 
+-- each goal that is left is in order
+in-order : (goal child : Goal) (left : List Goal) (e : Var → Option Value) (tag : Tag) → IsInOrder goal e → row goal tag ≡ Some left → left ≡ child ∷ [] → IsInOrder child e
+in-order goal child left e tag o r i = let d : Each (λ g. IsInOrder g e) (child ∷ []) = subst (Each (λ g. IsInOrder g e)) i (rows-keep_order goal left e tag o r) in d.0
+
 -- PAST THE ADDS
 
--- a provable goal that holds and has these commands to do behind its adds: past them a provable goal holds
-abbrev Settles : Procedure → List machine.Item → Goal → Type 0
-Settles f todo goal = (w : ℕ → Value) (e : Var → Option Value) (share : Heap) → HoldsAt w goal e share → Covers goal.state.vars e
-    → Each (λ (a : Numbered). HasOrder a.atom) goal.state.atoms → goal.state.taken ≡ [] → IsToDo f todo (past_adds goal.todo) → Owns f todo e share
+-- where a goal holds and has these commands to do behind its adds, the frame owns the heap
+abbrev pub Settles : Procedure → List machine.Item → Goal → Type 0
+Settles f todo goal = (w : ℕ → Value) (e : Var → Option Value) (share : Heap) → HoldsAt w goal e share → IsInOrder goal e → goal.state.taken ≡ [] → IsToDo f todo (past_adds goal.todo) → Owns f todo e share
 
 settle-add : (f : Procedure) (todo : List machine.Item) (goal : Goal) (last : LastRow goal) → Each (Settles f todo) last.left → (p : Place) (given : Pending) (items : List Item) → goal.todo ≡ add p given ∷ items → Settles f todo goal
-settle-add f todo goal last ih p given items i w e share h c o n d =
+settle-add f todo goal last ih p given items i w e share h o n d =
     elim (front-add goal last.tag last.left p given items (row-at goal (add p given ∷ items) last.tag last.left i last.is)) [
-      inl x ↦ never w goal last.tag last.left e share x last.is h
-    | inr x ↦
-        let m = add-child w goal last.left e share (subst (λ z. row goal z ≡ Some last.left) x last.is) h in
-        let child : Each (Settles f todo) (m.child ∷ []) = subst (Each (Settles f todo)) m.is ih in
-        child.0 w e share m.kept (subst (λ z. Covers z e) (sym m.vars) c) (m.order o) (m.taken ∙ n) (subst (IsToDo f todo) (sym m.past) d)
+      | inl x ↦ never w goal last.tag last.left e share x last.is h
+      | inr x ↦
+          let m = add-child goal last.left (subst (λ z. row goal z ≡ Some last.left) x last.is) in
+          let child : Each (Settles f todo) (m.child ∷ []) = subst (Each (Settles f todo)) m.is ih in
+          child.0 w e share (m.kept w e share h) (in-order goal m.child last.left e last.tag o last.is m.is) (m.taken ∙ n) (subst (IsToDo f todo) (sym m.past) d)
     ]
 
 settle-step : (f : Procedure) (todo : List machine.Item) (goal : Goal) → Proof goal → (last : LastRow goal) → Each (Settles f todo) last.left → Settles f todo goal
-settle-step f todo goal proof last ih w e share h c o n d = go goal.todo refl
+settle-step f todo goal proof last ih w e share h o n d = go goal.todo refl
   where
     owned : past_adds goal.todo ≡ goal.todo → Owns f todo e share
-    owned i = record { goal = goal; proof = proof; symbols = w; kept = h; covers = c; fields = o; none_taken = n; to_do = subst (IsToDo f todo) i d }
+    owned i = record { goal = goal; proof = proof; symbols = w; kept = h; order = o; none_taken = n; to_do = subst (IsToDo f todo) i d }
 
     go : (items : List Item) → goal.todo ≡ items → Owns f todo e share
     go [] i = owned (ap past_adds i ∙ sym i)
-    go (add p given ∷ items) i = settle-add f todo goal last ih p given items i w e share h c o n d
+    go (add p given ∷ items) i = settle-add f todo goal last ih p given items i w e share h o n d
     go (item ∷ items) i = owned (ap past_adds i ∙ sym i)
 
+-- a provable goal that holds has, past its adds, a provable goal that holds
 pub settle : (f : Procedure) (todo : List machine.Item) (goal : Goal) → Proof goal → Settles f todo goal
 settle f todo goal proof = by-rows (Settles f todo) (settle-step f todo) goal proof
 
 -- THE NEXT COMMAND
 
-no-add_to_do : (f : Procedure) (todo : List machine.Item) (items : List Item) → IsToDo f todo items → Each IsNoAdd items
-no-add_to_do f [] items d = subst (Each IsNoAdd) (sym d) (tt, tt)
-no-add_to_do f (command c ∷ todo) items d = subst (Each IsNoAdd) (sym d.1) (tt, no-add_to_do f todo d.0 d.2)
-no-add_to_do f (leave r ∷ todo) items d = subst (Each IsNoAdd) (sym d.2) (tt, no-add_to_do f todo d.1 d.3)
-
-in-front : (items : List Item) → Each IsNoAdd items → AddsInFront items
-in-front [] n = tt
-in-front (add p given ∷ items) n = absurd n.0
-in-front (item ∷ items) n = n.1
-
--- commands to do stand alone: no conjuncts are to be assumed first
 past-none : (items : List Item) → Each IsNoAdd items → past_adds items ≡ items
 past-none [] n = refl
 past-none (add p given ∷ items) n = absurd n.0
@@ -141,22 +132,20 @@ Next f (mutate p root field value) todo e share = (location : ℕ) × (here : Ce
     × Owns f todo e (written location (put_field here field.0 (value_at e value)) share)
 Next f _ todo e share = ⊥
 
--- a mutation's next
 next-mutate : (f : Procedure) (todo : List machine.Item) (e : Var → Option Value) (share : Heap) (p : Place) (root : Expr) (field : FieldId) (value : Expr) (o : Owns f (command (mutate p root field value) ∷ todo) e share)
     → (last : LastRow o.goal) (atom : ℕ) → last.tag ≡ t.Mutate atom → Next f (mutate p root field value) todo e share
 next-mutate f todo e share p root field value o last atom x =
-    let order : IsInOrder o.goal e = record { covers = o.covers; adds = in-front o.goal.todo (no-add_to_do f (command (mutate p root field value) ∷ todo) o.goal.todo o.to_do); fields = o.fields } in
     let others = o.to_do.0 in
-    let m = mutate-child o.symbols o.goal last.left e share atom p root field value others order o.to_do.1 (subst (λ z. row o.goal z ≡ Some last.left) x last.is) o.kept in
+    let front = run (mutate p root field value) ∷ others in
+    let order = spelled (λ g. IsInOrder g e) o.goal front o.to_do.1 o.order in
+    let m = mutate-child o.goal last.left atom p root field value others o.to_do.1 (subst (λ z. row o.goal z ≡ Some last.left) x last.is) in
     let proofs : Each Proof (record { state = m.state; todo = others } ∷ []) = subst (Each Proof) m.is last.proofs in
-    let rest = past-none others (no-add_to_do f todo others o.to_do.2) in
-    (
-      m.mutates.location,
-      m.mutates.cell,
-      m.mutates.finds,
-      settle f todo (record { state = m.state; todo = others }) proofs.0 o.symbols e
-          (written m.mutates.location (put_field m.mutates.cell field.0 (value_at e value)) share) m.mutates.after (subst (λ z. Covers z e) (sym m.vars) o.covers) m.order (m.taken ∙ o.none_taken)
-          (subst (IsToDo f todo) (sym rest) o.to_do.2),
+    let n = m.follows o.symbols e share order (spelled (λ g. HoldsAt o.symbols g e share) o.goal front o.to_do.1 o.kept) in (
+      n.location,
+      n.cell,
+      n.finds,
+      settle f todo (record { state = m.state; todo = others }) proofs.0 o.symbols e (written n.location (put_field n.cell field.0 (value_at e value)) share) n.after (m.order e order) (m.taken ∙ o.none_taken)
+          (subst (IsToDo f todo) (sym (past-none others order.adds)) o.to_do.2),
     )
 
 -- a goal in front of a command is left by a mutation's row, if at all
@@ -166,8 +155,8 @@ run-left f c todo e share o k =
     let last = last-row o.goal o.proof in
     let r = row-at o.goal (run c ∷ o.to_do.0) last.tag last.left o.to_do.1 last.is in
     elim (front-run o.goal last.tag last.left c o.to_do.0 r) [
-      inl x ↦ never o.symbols o.goal last.tag last.left e share x last.is o.kept
-    | inr x ↦ k last x.0 x.1 (subst (λ z. row_of o.goal.state (run c ∷ o.to_do.0) z ≡ Some last.left) x.1 r)
+      | inl x ↦ never o.symbols o.goal last.tag last.left e share x last.is o.kept
+      | inr x ↦ k last x.0 x.1 (subst (λ z. row_of o.goal.state (run c ∷ o.to_do.0) z ≡ Some last.left) x.1 r)
     ]
 
 pub owns-command : (f : Procedure) (c : Command) (todo : List machine.Item) (e : Var → Option Value) (share : Heap) → Owns f (command c ∷ todo) e share → Next f c todo e share
@@ -183,33 +172,27 @@ owns-leave f r todo e share o =
 
 -- THE END
 
--- a provable goal that holds and has only conjuncts to show: the atoms' part of the heap satisfies them
+-- where a goal holds and has only conjuncts to show, the atoms' part of the heap satisfies them
 abbrev pub Closes : Goal → Type 0
-Closes goal = IsClosing goal.todo → (w : ℕ → Value) (e : Var → Option Value) (heap : Heap) → HoldsAt w goal e heap
+Closes goal = IsClosing goal.todo → (w : ℕ → Value) (e : Var → Option Value) (heap : Heap) → HoldsAt w goal e heap → IsInOrder goal e
     → (part : Heap) → AtomsHold w goal.state.links goal.state.atoms part → WantsHold w goal.todo part
 
-closing-adds : (items : List Item) → IsClosing items → Each IsNoAdd items
-closing-adds [] c = absurd c
-closing-adds (take p want names ∷ items) c = (tt, closing-adds items c)
-closing-adds (end p ∷ items) c = (tt, subst (Each IsNoAdd) (sym c) tt)
-closing-adds (item ∷ items) c = absurd c
-
 close-take : (goal : Goal) (last : LastRow goal) → Each Closes last.left → (p : Place) (want : Pending) (names : List (List ℕ)) (items : List Item) → goal.todo ≡ take p want names ∷ items → Closes goal
-close-take goal last ih p want names items i c w e heap h part a =
+close-take goal last ih p want names items i c w e heap h o part a =
     elim (front-take goal last.tag last.left p want names items (row-at goal (take p want names ∷ items) last.tag last.left i last.is)) [
-      inl x ↦ never w goal last.tag last.left e heap x last.is h
-    | inr x ↦
-        let m = cell-child w goal last.left x.0 (subst (λ z. row goal z ≡ Some last.left) x.1 last.is) in
-        let child : Each Closes (m.child ∷ []) = subst (Each Closes) m.is ih in
-        let d = m.hands part a in
-        d.wants d.rest part d.splits (child.0 (m.closing c) w e heap (m.kept e heap (in-front goal.todo (closing-adds goal.todo c)) h) d.rest d.atoms)
+      | inl x ↦ never w goal last.tag last.left e heap x last.is h
+      | inr x ↦
+          let m = cell-child goal last.left x.0 (subst (λ z. row goal z ≡ Some last.left) x.1 last.is) in
+          let child : Each Closes (m.child ∷ []) = subst (Each Closes) m.is ih in
+          let d = m.hands w part a in
+          d.wants d.rest part d.splits (child.0 (m.closing c) w e heap (m.kept w e heap o h) (m.order e o) d.rest d.atoms)
     ]
 
 close-end : (goal : Goal) (last : LastRow goal) (p : Place) (items : List Item) → goal.todo ≡ end p ∷ items → Closes goal
-close-end goal last p items i c w e heap h part a =
+close-end goal last p items i c w e heap h o part a =
     elim (front-end goal last.tag last.left p items (row-at goal (end p ∷ items) last.tag last.left i last.is)) [
-      inl x ↦ never w goal last.tag last.left e heap x last.is h
-    | inr x ↦ subst (λ z. WantsHold w z part) (sym i) (row-end w goal last.left part (subst (λ z. row goal z ≡ Some last.left) x last.is) a)
+      | inl x ↦ never w goal last.tag last.left e heap x last.is h
+      | inr x ↦ subst (λ z. WantsHold w z part) (sym i) (row-end w goal last.left part (subst (λ z. row goal z ≡ Some last.left) x last.is) a)
     ]
 
 close-step : (goal : Goal) → Proof goal → (last : LastRow goal) → Each Closes last.left → Closes goal
@@ -235,9 +218,12 @@ pub owns-end : (p : Program) (f : Procedure) (e : Var → Option Value) (share :
 owns-end p f e share i o =
     let last = last-row o.goal o.proof in
     elim (front-return o.goal last.tag last.left f.end f.post [] (row-at o.goal (return f.end f.post ∷ []) last.tag last.left o.to_do last.is)) [
-      inl x ↦ never o.symbols o.goal last.tag last.left e share x last.is o.kept
-    | inr x ↦
-        let m = return-child o.symbols o.goal last.left e share f.end f.post [] p f o.covers i o.to_do (subst (λ z. row o.goal z ≡ Some last.left) x last.is) o.kept in
-        let proofs : Each Proof (record { state = o.goal.state; todo = m.todo } ∷ []) = subst (Each Proof) m.is last.proofs in
-        m.owes.wants share (closes (record { state = o.goal.state; todo = m.todo }) proofs.0 m.closing o.symbols e share m.owes.kept share (all-atoms f e share o))
+      | inl x ↦ never o.symbols o.goal last.tag last.left e share x last.is o.kept
+      | inr x ↦
+          let left = return-left o.goal last.left f.end f.post [] o.to_do (subst (λ z. row o.goal z ≡ Some last.left) x last.is) in
+          let child : Goal = record { state = o.goal.state; todo = returning f.end o.goal.state f.post } in
+          let proofs : Each Proof (child ∷ []) = subst (Each Proof) left last.proofs in
+          let owes = return-owes o.symbols o.goal e share f.end f.post [] p f o.order.covers i o.to_do o.kept in
+          owes.wants share
+          (closes child proofs.0 (return-closing f.end o.goal.state f.post) o.symbols e share owes.kept (return-order f.end o.goal f.post e o.order) share (all-atoms f e share o))
     ]

@@ -1,23 +1,27 @@
 -- What every configuration that is reached keeps: the entry's frame owns the whole heap.
 -- Names: `step-LAW` speaks of one event, `good-LAW` of what follows for Good.
-use Rattle.std.specs.Prelude.{◌≡◌, ◌≢◌, ℕ, Option, Some, None, List, [], ◌∷◌, slice_get}
-use Rattle.std.proofs.Common.{refl, sym, ap, ◌∙◌, subst, inl, inr}
+use Rattle.std.specs.Prelude.{◌≡◌, ℕ, Option, Some, None, List, [], ◌∷◌, slice_get}
+use Rattle.std.proofs.Common.{refl, sym, ap, ◌∙◌, subst}
 use Rattle.sf_base.specs.declared.ids.FieldId.{FieldId}
 use Rattle.sf_base.specs.declared.ids.Var.{Var}
 use Rattle.sf_base.specs.declared.place.Place.{Place}
 use Rattle.sf_base.specs.declared.value.Value.{Value}
-use Rattle.sf_base.specs.declared.value.Value.TheVariants.{Loc as loc}
+use Rattle.sf_base.specs.declared.value.Value.TheVariants.{Nil as nil, Loc as loc}
 use Rattle.sf_core.specs.declared.command.Expr.{Expr}
 use Rattle.sf_core.specs.Bad.{command_root, next_root, IsAbsent, TouchesAbsent, Races}
 use Rattle.sf_core.specs.Config.{Item, command, leave, Fixed, Frame, Task, runs, left, right, Path, Common, Config, seen, task_at, replaced, IsCalled}
 use Rattle.sf_core.specs.Enabled.{HasEnded}
 use Rattle.sf_core.specs.Formed.{IsFormed}
-use Rattle.sf_core.specs.Good.{Owner, resource, task, Returns, Finished, Good}
-use Rattle.sf_core.specs.HeapStore.{Apart, Cell, put_field, Heap}
+use Rattle.sf_core.specs.Good.{Good}
+use Rattle.sf_core.specs.GoodParts.{InvariantParts, FramePart, TaskParts, RestPart}
+use Rattle.sf_core.specs.HeapStore.{Cell, put_field, Heap, ◌⋆◌}
 use Rattle.sf_core.specs.Reach.{Reach}
 use Rattle.sf_core.specs.Step.{Event, going, procedure_at, Does, Goes, TaskStep, Step}
 use Rattle.sf_core.specs.Syntax.{Command, mutate, Procedure, Program, Resource}
-use Rattle.sf_core.proofs.MapSplits.{empty_map, empty-holds, splits-empty_right}
+use Rattle.sf_core.specs.Sat.{Sat}
+use Rattle.sf_core.proofs.Cases.{either, some-same}
+use Rattle.sf_core.proofs.GoodParts.{good-by_parts}
+use Rattle.sf_core.proofs.HeapSplits.{star-empty_left, star-empty_right, star-map_right}
 use Rattle.sf_cli.specs.RowLaws.{value_at, written}
 use Rattle.sf_cli.proofs.Owns.{Owns, Next, owns-command, owns-leave, owns-end}
 
@@ -39,11 +43,8 @@ pub record IsAlone (path : Path) (frames : List Frame) (u : Task) : Type 0 where
   pub top : path ≡ []
   pub same : u ≡ runs frames
 
-some-is : {X : Type 0} (x y : X) → Some x ≡ Some y → x ≡ y
-some-is x y e = cc
-
 pub alone-at : (path : Path) (frames : List Frame) (u : Task) → task_at path (runs frames) ≡ Some u → IsAlone path frames u
-alone-at [] frames u e = record { top = refl; same = sym (some-is (runs frames) u e) }
+alone-at [] frames u e = record { top = refl; same = sym (some-same (runs frames) u e) }
 alone-at (left ∷ path) frames u e = absurd (cc)
 alone-at (right ∷ path) frames u e = absurd (cc)
 
@@ -57,7 +58,7 @@ same-location : (a b : ℕ) (v : Value) → v ≡ loc a → v ≡ loc b → a �
 same-location a b v i j = cc
 
 same-cell : (heap : Heap) (a b : ℕ) (x y : Cell) → a ≡ b → heap a ≡ Some x → heap b ≡ Some y → x ≡ y
-same-cell heap a b x y e i j = some-is x y (sym i ∙ ap heap e ∙ j)
+same-cell heap a b x y e i j = some-same x y (sym i ∙ ap heap e ∙ j)
 
 step-mutate : (p : Program) (ev : Event) (s : Common) (fixed : Fixed) (place : Place) (root : Expr) (field : FieldId) (value : Expr) (rest : List Item) (t : Common) (u : Task) (f : Procedure)
     → Next f (mutate place root field value) rest (values_in fixed s) s.heap → Does p ev s fixed [] (mutate place root field value) rest t u → GoesOn f fixed t u
@@ -65,8 +66,8 @@ step-mutate p ev s fixed place root field value rest t u f n d =
     let a = same-location n.0 d.0 (seen fixed.slots s.store root) n.2.is d.2.is in
     let b = same-cell s.heap n.0 d.0 n.1 d.1 a n.2.there d.2.there in
     let o : Owns f rest (values_in fixed s) (written d.0 (put_field d.1 field.0 (seen fixed.slots s.store value)) s.heap) =
-        subst (λ l. Owns f rest (values_in fixed s) (written l (put_field d.1 field.0 (seen fixed.slots s.store value)) s.heap)) a
-        (subst (λ x. Owns f rest (values_in fixed s) (written n.0 (put_field x field.0 (seen fixed.slots s.store value)) s.heap)) b n.3) in
+    subst (λ l. Owns f rest (values_in fixed s) (written l (put_field d.1 field.0 (seen fixed.slots s.store value)) s.heap)) a
+    (subst (λ x. Owns f rest (values_in fixed s) (written n.0 (put_field x field.0 (seen fixed.slots s.store value)) s.heap)) b n.3) in
     record { rest = rest; is = d.4; owns = subst (λ (z : Common). Owns f rest (values_in fixed z) z.heap) (sym d.3) o }
 
 step-command : (p : Program) (ev : Event) (s : Common) (fixed : Fixed) (c : Command) (rest : List Item) (t : Common) (u : Task) (f : Procedure)
@@ -107,23 +108,6 @@ no-resource p k of n i = go k (subst (λ z. slice_get z k ≡ Some of) n i)
   where
     go : (k : ℕ) → slice_get [] k ≡ Some of → ⊥
     go k i = absurd (cc)
-
--- the whole heap is the entry's
-abbrev pub part_of : Heap → Owner → Heap
-part_of heap (resource r) = empty_map
-part_of heap (task []) = heap
-part_of heap (task (turn ∷ path)) = empty_map
-
-none-right : (x : Option Cell) → Apart x None
-none-right None = tt
-none-right (Some x) = tt
-
-parts-apart : (heap : Heap) (owner other : Owner) → owner ≢ other → (location : ℕ) → Apart (part_of heap owner location) (part_of heap other location)
-parts-apart heap (resource r) other n location = tt
-parts-apart heap (task (turn ∷ path)) other n location = tt
-parts-apart heap (task []) (resource r) n location = none-right (heap location)
-parts-apart heap (task []) (task (turn ∷ path)) n location = none-right (heap location)
-parts-apart heap (task []) (task []) n location = absurd (n refl)
 
 -- the next command of a frame that owns the heap finds its cell
 present : (heap : Heap) (v : Value) (location : ℕ) (here : Cell) → v ≡ loc location → heap location ≡ Some here → IsAbsent heap v → ⊥
@@ -172,35 +156,19 @@ good-races p c o b =
     let y = alone-at b.other_path mine b.other (subst (λ z. task_at b.other_path z ≡ Some b.other) o.alone b.other_enabled.there) in
     b.different (x.top ∙ sym y.top)
 
-good-finished : (p : Program) (c : Config) → IsFormed p → p.resources ≡ [] → (o : IsOwned p c) → o.todo ≡ [] → Finished p c (part_of c.common.heap)
-good-finished p c formed none o d = record {
-  frame = record { fixed = o.fixed; todo = o.todo };
-  alone = o.alone;
-  procedure = o.procedure;
-  there = o.there;
-  free = λ r of i. absurd (no-resource p r.0 of none i);
-  post = record {
-    rest = empty_map;
-    splits = splits-empty_right empty-holds;
-    sat = owns-end p o.procedure (values_in o.fixed c.common) c.common.heap (formed.procedures o.fixed.procedure.0 o.procedure o.there).post
-        (subst (λ z. Owns o.procedure z (values_in o.fixed c.common) c.common.heap) d o.owns);
-  };
-  all = λ location cell i. inl i;
-}
-
-good-posts : (p : Program) (c : Config) → IsOwned p c → (path : Path) (frame : Frame) → Returns c path frame → ⊥
-good-posts p c o path frame r =
-    let mine : Frame = record { fixed = o.fixed; todo = o.todo } in
-    let e = entry-is mine frame r.below path c.tasks o.alone r.there in
-    subst (λ z. IsCalled [] z) e.nothing_below (subst (λ z. IsCalled z r.below) e.top r.called)
+-- the whole heap is the entry's, and satisfies its postcondition where it has ended
+good-tasks : (p : Program) (c : Config) → IsFormed p → (fixed : Fixed) (todo : List Item) (f : Procedure) → procedure_at p fixed.procedure ≡ Some f → Owns f todo (values_in fixed c.common) c.common.heap
+    → c.tasks ≡ runs (record { fixed = fixed; todo = todo } ∷ []) → (FramePart p c.common.store fixed todo ⋆ RestPart c) c.common.heap
+good-tasks p c formed fixed [] f there owns alone = star-map_right (λ part i h. i) (star-empty_right (λ g i.
+    let same : f ≡ g = some-same f g (sym there ∙ i) in
+    subst (λ z. Sat z.post.level (seen fixed.slots c.common.store) (λ n. nil) c.common.heap) same (owns-end p f (values_in fixed c.common) c.common.heap (formed.procedures fixed.procedure.0 f there).post owns)))
+good-tasks p c formed fixed (item ∷ todo) f there owns alone =
+    star-empty_left (λ h. let d : item ∷ todo ≡ [] = subst (HasEnded []) alone h in absurd (cc))
 
 -- a configuration whose entry owns the whole heap is good
 pub good-owned : (p : Program) (c : Config) → IsFormed p → p.resources ≡ [] → IsOwned p c → Good p c
-good-owned p c formed none o = record {
-  never_bad = λ b. elim b [ inl x ↦ good-touches p c o x | inr x ↦ good-races p c o x ];
-  part = part_of c.common.heap;
-  apart = parts-apart c.common.heap;
-  invariants = λ r of i h. absurd (no-resource p r.0 of none i);
-  posts = λ path frame g r i. absurd (good-posts p c o path frame r);
-  finished = λ h. good-finished p c formed none o (subst (HasEnded []) o.alone h);
-}
+good-owned p c formed no_resources o =
+    good-by_parts p c (λ b. either b (good-touches p c o) (good-races p c o))
+    (subst (λ z. (InvariantParts c.common.store c.common.held 0 z ⋆ (TaskParts p c.common.store c.tasks ⋆ RestPart c)) c.common.heap) (sym no_resources)
+    (star-empty_left (subst (λ z. (TaskParts p c.common.store z ⋆ RestPart c) c.common.heap) (sym o.alone) (good-tasks p c formed o.fixed o.todo o.procedure o.there o.owns o.alone))))
+    (λ h. record { frame = record { fixed = o.fixed; todo = o.todo }; alone = o.alone; procedure = o.procedure; there = o.there; free = λ r of i. absurd (no-resource p r.0 of no_resources i) })

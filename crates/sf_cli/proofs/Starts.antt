@@ -21,6 +21,7 @@ use Rattle.sf_core.specs.Sat.{Sat, SatAll}
 use Rattle.sf_core.specs.Start.{entry_slot, entry_frame, Invariants, Start}
 use Rattle.sf_core.specs.Step.{procedure_at}
 use Rattle.sf_core.specs.Syntax.{Level, level, Block, done, then, Assertion, Procedure, Program}
+use Rattle.sf_core.proofs.Cases.{or-which, or-first, or-second, some-same}
 use Rattle.sf_core.proofs.HeapSplits.{star-drop_right, star-empty_left, star-empty_right, star-map_right}
 use Rattle.sf_sym.specs.declared.tag.Tag.{Tag}
 use Rattle.sf_sym.specs.declared.term.Term.{Term}
@@ -29,11 +30,11 @@ use Rattle.sf_sym.specs.Each.{Each}
 use Rattle.sf_sym.specs.Goal.{Item, return}
 use Rattle.sf_sym.specs.Holds.{term_value, Agrees, IsBound, AddsHold, HoldsAt}
 use Rattle.sf_cli.specs.Proves.{Proof, ProvesFrom, Proves}
-use Rattle.sf_cli.specs.RowLaws.{is_listed, Covers, value_at}
+use Rattle.sf_cli.specs.RowLaws.{FirstGoalsHold, is_listed, Covers, value_at, IsNoAdd, AddsInFront, IsInOrder}
 use Rattle.sf_cli.specs.Table.{same_var, term, conjuncts_with, conjuncts_of, pending, to_add, to_run, symbols, nils, first_goal}
 use Rattle.sf_cli.proofs.Owns.{IsToDo, Owns, settle}
 use Rattle.sf_cli.proofs.Reached.{IsOwned, no-resource}
-use Rattle.sf_cli.proofs.RowLaws.{past_adds, past-add, rest-adds, each-append}
+use Rattle.sf_cli.proofs.RowLaws.{past_adds, past-add, rest-adds, each-append, adds-order}
 use Rattle.sf_cli.proofs.SatTerms.{conjuncts-with}
 use Rattle.sf_cli.proofs.TermValues.{values-are}
 
@@ -75,17 +76,6 @@ listed-append (v ∷ xs) ys x = go (same_var v.0 x) (listed-append xs ys x)
     go true e = refl
     go false e = e
 
-equal-self : (n : ℕ) → n == n ≡ true
-equal-self n = grind (arith, nat_tests)
-
-or-right : (a b : Bool) → b ≡ true → a || b ≡ true
-or-right true b e = refl
-or-right false b e = e
-
-or-left : (a b : Bool) → a ≡ true → a || b ≡ true
-or-left true b e = refl
-or-left false b e = absurd (cc)
-
 symbols-listed : (from count i : ℕ) → from ≤ i → i < from + count → is_listed (symbols from count) (Own i) ≡ true
 symbols-listed from zero i l m = let x : ⊥ = grind arith in absurd x
 symbols-listed from (suc count) i l m = go (from == i) refl (λ a b. symbols-listed (suc from) count i a b)
@@ -113,23 +103,19 @@ symbols-own from (suc count) r i = symbols-own (suc from) count r i
 nils-listed : (from count i : ℕ) → from ≤ i → i < from + count → is_listed (nils from count) (Own i) ≡ true
 nils-listed from count i l m = nils-symbols from count (Own i) ∙ symbols-listed from count i l m
 
-either : (m n : ℕ) → (m < n) ⊎ (n ≤ m)
-either m n = grind arith
+below-or_not : (m n : ℕ) → (m < n) ⊎ (n ≤ m)
+below-or_not m n = grind arith
 
 -- the variables of the first goal are the procedure's own
 first-listed : (parameters names i : ℕ) → i < names → is_listed (symbols 0 parameters ++ nils parameters (names - parameters)) (Own i) ≡ true
-first-listed parameters names i l = listed-append (symbols 0 parameters) (nils parameters (names - parameters)) (Own i) ∙ go (either i parameters)
+first-listed parameters names i l = listed-append (symbols 0 parameters) (nils parameters (names - parameters)) (Own i) ∙ go (below-or_not i parameters)
   where
     go : (i < parameters) ⊎ (parameters ≤ i) → is_listed (symbols 0 parameters) (Own i) || is_listed (nils parameters (names - parameters)) (Own i) ≡ true
-    go (inl m) = let a : 0 ≤ i = grind arith in let b : i < 0 + parameters = grind arith in or-left _ _ (symbols-listed 0 parameters i a b)
-    go (inr m) = let b : i < parameters + (names - parameters) = omega arith in or-right (is_listed (symbols 0 parameters) (Own i)) _ (nils-listed parameters (names - parameters) i m b)
-
-or-either : (a b : Bool) → a || b ≡ true → (a ≡ true) ⊎ (b ≡ true)
-or-either true b e = inl refl
-or-either false b e = inr e
+    go (inl m) = let a : 0 ≤ i = grind arith in let b : i < 0 + parameters = grind arith in or-first _ _ (symbols-listed 0 parameters i a b)
+    go (inr m) = let b : i < parameters + (names - parameters) = omega arith in or-second (is_listed (symbols 0 parameters) (Own i)) _ (nils-listed parameters (names - parameters) i m b)
 
 first-within : (parameters names i : ℕ) → parameters ≤ names → is_listed (symbols 0 parameters ++ nils parameters (names - parameters)) (Own i) ≡ true → i < names
-first-within parameters names i l e = go (or-either _ _ (sym (listed-append (symbols 0 parameters) (nils parameters (names - parameters)) (Own i)) ∙ e))
+first-within parameters names i l e = go (or-which _ _ (sym (listed-append (symbols 0 parameters) (nils parameters (names - parameters)) (Own i)) ∙ e))
   where
     go : (is_listed (symbols 0 parameters) (Own i) ≡ true) ⊎ (is_listed (nils parameters (names - parameters)) (Own i) ≡ true) → i < names
     go (inl x) = let z = symbols-within 0 parameters i x in let a : i < 0 + parameters = z.1 in omega arith
@@ -142,7 +128,7 @@ bool-same false false f g = refl
 
 -- no shared variable is listed
 first-not_shared : (parameters names : ℕ) (r : ResId) (i : ℕ) → is_listed (symbols 0 parameters ++ nils parameters (names - parameters)) (Shared r i) ≡ true → ⊥
-first-not_shared parameters names r i e = go (or-either _ _ (sym (listed-append (symbols 0 parameters) (nils parameters (names - parameters)) (Shared r i)) ∙ e))
+first-not_shared parameters names r i e = go (or-which _ _ (sym (listed-append (symbols 0 parameters) (nils parameters (names - parameters)) (Shared r i)) ∙ e))
   where
     go : (is_listed (symbols 0 parameters) (Shared r i) ≡ true) ⊎ (is_listed (nils parameters (names - parameters)) (Shared r i) ≡ true) → ⊥
     go (inl x) = let y = symbols-own 0 parameters r i in absurd (cc)
@@ -150,9 +136,6 @@ first-not_shared parameters names r i e = go (or-either _ _ (sym (listed-append 
 
 behind-within : (parameters names i : ℕ) → parameters ≤ i → i < parameters + (names - parameters) → i < names
 behind-within parameters names i l m = omega arith
-
-some-is : {X : Type 0} (x y : X) → Some x ≡ Some y → x ≡ y
-some-is x y e = cc
 
 -- THE ITEMS OF THE FIRST GOAL
 
@@ -166,6 +149,14 @@ first-todo p f = append_assoc (to_add f.place (first_vars f) f.pre) (to_run f.bo
 run-empty : (w : ℕ → Value) (b : Block) (p : Place) (post : Assertion) (heap : Heap) → IsEmpty heap → AddsHold w (to_run b ++ (return p post ∷ [])) heap
 run-empty w done p post heap i = i
 run-empty w (then c b) p post heap i = i
+
+run-no_adds : (b : Block) (p : Place) (post : Assertion) → Each IsNoAdd (to_run b ++ (return p post ∷ []))
+run-no_adds done p post = (tt, tt)
+run-no_adds (then c b) p post = (tt, run-no_adds b p post)
+
+run-order : (b : Block) (p : Place) (post : Assertion) → AddsInFront (to_run b ++ (return p post ∷ []))
+run-order done p post = tt
+run-order (then c b) p post = run-no_adds b p post
 
 run-past : (b : Block) (p : Place) (post : Assertion) → past_adds (to_run b ++ (return p post ∷ [])) ≡ to_run b ++ (return p post ∷ [])
 run-past done p post = refl
@@ -217,16 +208,18 @@ module _ (p : Program) (f : ProcId) (store : Store) (heap : Heap) (c : Config) (
   first-agrees = each-append (Agrees first_symbols entry_values) (symbols 0 (s.procedure.references + s.procedure.values)) (nils (s.procedure.references + s.procedure.values) (length s.procedure.names - (s.procedure.references + s.procedure.values)))
       (vars-symbols (Agrees first_symbols entry_values) 0 (s.procedure.references + s.procedure.values) (λ i l m v e. sym (ap (λ o. unwrap_or o nil) e)))
       (vars-nils (Agrees first_symbols entry_values) (s.procedure.references + s.procedure.values) (length s.procedure.names - (s.procedure.references + s.procedure.values))
-      (λ i l m v e. let n : i < length s.procedure.names = behind-within (s.procedure.references + s.procedure.values) (length s.procedure.names) i l m in some-is v nil (sym e ∙ s.locals i l n)))
+      (λ i l m v e. let n : i < length s.procedure.names = behind-within (s.procedure.references + s.procedure.values) (length s.procedure.names) i l m in some-same v nil (sym e ∙ s.locals i l n)))
 
   entry-values : value_at entry_values ≡ seen entry_slot store
   entry-values = refl
 
   -- the precondition with the terms of the variables
   first-pre : (a : Level Expr) → Sat a (seen entry_slot store) (λ n. nil) heap → (some : ℕ → Value) × SatAll (conjuncts_with (term (first_vars s.procedure)) (conjuncts_of a)) (term_value first_symbols) some heap
-  first-pre (level made cs) (here, o, d) =
-      (here, subst (λ z. z) (sym (conjuncts-with (term (first_vars s.procedure)) (term_value first_symbols) cs here heap))
-      (subst (λ z. SatAll cs z here heap) (sym (values-are first_symbols entry_values (first_vars s.procedure) first-covers first-agrees)) d))
+  first-pre (level made cs) (here, o, d) = (
+    here,
+    subst (λ z. z) (sym (conjuncts-with (term (first_vars s.procedure)) (term_value first_symbols) cs here heap))
+        (subst (λ z. SatAll cs z here heap) (sym (values-are first_symbols entry_values (first_vars s.procedure) first-covers first-agrees)) d),
+  )
 
   first-sat : Sat s.procedure.pre.level (seen entry_slot store) (λ n. nil) heap
   first-sat = star-drop_right (subst (λ z. (Sat s.procedure.pre.level (seen entry_slot store) (λ n. nil) ⋆ Invariants z store) heap) no_resources s.pre)
@@ -244,9 +237,19 @@ module _ (p : Program) (f : ProcId) (store : Store) (heap : Heap) (c : Config) (
   pub first-holds : HoldsAt first_symbols (first_goal p s.procedure) entry_values heap
   first-holds = record { vars = first-agrees; apart = tt; heaps = star-empty_left (star-empty_left first-adds) }
 
+  -- the first goal is in order
+  pub first-order : IsInOrder (first_goal p s.procedure) entry_values
+  first-order = record {
+    covers = first-covers;
+    adds = subst AddsInFront (sym (first-todo p s.procedure))
+        (adds-order s.procedure.place (pending (first_vars s.procedure) s.procedure.pre).conjuncts (pending (first_vars s.procedure) s.procedure.pre) (behind_pre s.procedure)
+        (run-order s.procedure.body s.procedure.end s.procedure.post));
+    fields = tt;
+  }
+
   -- so the entry's frame owns the whole heap
   pub first-owns : Proof (first_goal p s.procedure) → Owns s.procedure (machine.items s.procedure.body) entry_values heap
-  first-owns proof = settle s.procedure (machine.items s.procedure.body) (first_goal p s.procedure) proof first_symbols entry_values heap first-holds first-covers tt refl
+  first-owns proof = settle s.procedure (machine.items s.procedure.body) (first_goal p s.procedure) proof first_symbols entry_values heap first-holds first-order refl
       (subst (IsToDo s.procedure (machine.items s.procedure.body)) (sym (first-past p s.procedure)) (run-to_do s.procedure s.procedure.body))
 
   pub start-owned : Proof (first_goal p s.procedure) → IsOwned p c
@@ -258,3 +261,6 @@ module _ (p : Program) (f : ProcId) (store : Store) (heap : Heap) (c : Config) (
     there = s.there;
     owns = first-owns proof;
   })
+
+pub first-goals_hold : FirstGoalsHold
+first-goals_hold p f store heap c formed no_resources s = (first-order p f store heap c formed no_resources s, (first_symbols p f store heap c formed no_resources s, first-holds p f store heap c formed no_resources s))

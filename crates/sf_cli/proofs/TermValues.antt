@@ -2,8 +2,7 @@
 -- Names: `same_var-LAW` speaks of the test of two variables.
 use Rattle.std.specs.Prelude.{◌≡◌, ℕ, ◌==◌, Bool, true, false, ◌||◌, cond, Option, Some, None, List, [], ◌∷◌, is_some}
 use Rattle.std.specs.Option.{unwrap_or}
-use Rattle.std.proofs.Common.{refl, sym, ap, ◌∙◌, arith}
-use Rattle.std.proofs.lemmas.Bool.Decides.{nat_tests}
+use Rattle.std.proofs.Common.{refl, sym, ap, ◌∙◌}
 use Rattle.sf_base.specs.declared.ids.ResId.{ResId}
 use Rattle.sf_base.specs.declared.ids.Var.{Var}
 use Rattle.sf_base.specs.declared.ids.Var.TheVariants.{Own, Shared}
@@ -11,6 +10,7 @@ use Rattle.sf_base.specs.declared.value.Value.{Value}
 use Rattle.sf_base.specs.declared.value.Value.TheVariants.{Nil as nil}
 use Rattle.sf_core.specs.declared.command.Expr.{Expr}
 use Rattle.sf_core.specs.declared.command.Expr.TheVariants.{Var as Variable, Nil as ENil, Int as EInt}
+use Rattle.sf_core.proofs.HeapSplits.{at-same}
 use Rattle.sf_sym.specs.declared.term.Term.{Term}
 use Rattle.sf_sym.specs.Each.{Each}
 use Rattle.sf_sym.specs.Holds.{term_value, Agrees}
@@ -18,17 +18,14 @@ use Rattle.sf_sym.proofs.Bools.{and_left, and_right}
 use Rattle.sf_cli.specs.RowLaws.{is_listed, Covers, value_at}
 use Rattle.sf_cli.specs.Table.{same_var, term_at, term}
 
-number-is : (m n : ℕ) → m == n ≡ true → m ≡ n
-number-is m n e = grind (arith, nat_tests)
-
 res-is : (r s : ResId) → r.0 ≡ s.0 → r ≡ s
 res-is r s e = λ j. record { 0 = e j }
 
 pub same_var-is : (x y : Var) → same_var x y ≡ true → x ≡ y
-same_var-is (Own i) (Own j) e = ap Own (number-is i j e)
+same_var-is (Own i) (Own j) e = ap Own (at-same j i e)
 same_var-is (Shared r i) (Shared s j) e =
-    let p : r ≡ s = res-is r s (number-is r.0 s.0 (and_left (r.0 == s.0) (i == j) e)) in
-    let q : i ≡ j = number-is i j (and_right (r.0 == s.0) (i == j) e) in
+    let p : r ≡ s = res-is r s (at-same s.0 r.0 (and_left (r.0 == s.0) (i == j) e)) in
+    let q : i ≡ j = at-same j i (and_right (r.0 == s.0) (i == j) e) in
     λ k. Shared (p k) (q k)
 same_var-is (Own i) (Shared s j) e = absurd (cc)
 same_var-is (Shared r i) (Own j) e = absurd (cc)

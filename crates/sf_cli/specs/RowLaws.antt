@@ -3,14 +3,17 @@
 use Rattle.std.specs.Prelude.{◌≡◌, ℕ, ◌<◌, ◌==◌, Bool, false, ◌||◌, cond, Option, Some, List, [], ◌∷◌, is_some, ◌⊎◌}
 use Rattle.std.specs.Option.{unwrap_or}
 use Rattle.sf_base.specs.declared.ids.FieldId.{FieldId}
+use Rattle.sf_base.specs.declared.ids.ProcId.{ProcId}
 use Rattle.sf_base.specs.declared.ids.Var.{Var}
 use Rattle.sf_base.specs.declared.place.Place.{Place}
 use Rattle.sf_base.specs.declared.value.Value.{Value}
 use Rattle.sf_base.specs.declared.value.Value.TheVariants.{Nil as nil}
 use Rattle.sf_core.specs.declared.command.Expr.{Expr}
-use Rattle.sf_core.specs.Formed.{IsParameter, AssertionWithin}
-use Rattle.sf_core.specs.HeapStore.{Cell, put_field, Heap, IsEmpty, Splits, ◌⋆◌}
+use Rattle.sf_core.specs.Formed.{IsParameter, AssertionWithin, IsFormed}
+use Rattle.sf_core.specs.HeapStore.{Cell, put_field, Heap, Store, IsEmpty, Splits, ◌⋆◌}
 use Rattle.sf_core.specs.Sat.{value, Sat}
+use Rattle.sf_core.specs.Config.{Config}
+use Rattle.sf_core.specs.Start.{entry_slot, Start}
 use Rattle.sf_core.specs.Step.{Finds}
 use Rattle.sf_core.specs.Syntax.{mutate, Assertion, Procedure, Program}
 use Rattle.sf_sym.specs.declared.atom.Atom.{Atom}
@@ -21,8 +24,8 @@ use Rattle.sf_sym.specs.declared.tag.Tag.TheVariants as t
 use Rattle.sf_sym.specs.declared.term.Term.{Term}
 use Rattle.sf_sym.specs.Each.{Each}
 use Rattle.sf_sym.specs.Goal.{Item, run, add, take, return, Goal}
-use Rattle.sf_sym.specs.Holds.{AtomsHold, PendingHolds, HoldsAt}
-use Rattle.sf_cli.specs.Table.{same_var, row}
+use Rattle.sf_sym.specs.Holds.{AtomsHold, PendingHolds, HoldsAt, Holds}
+use Rattle.sf_cli.specs.Table.{same_var, first_goal, row}
 
 -- one of the goals has the property
 abbrev pub SomeOf : (Goal → Type 0) → List Goal → Type 0
@@ -69,6 +72,10 @@ pub record IsInOrder (goal : Goal) (e : Var → Option Value) : Type 0 where
   pub covers : Covers goal.state.vars e
   pub adds : AddsInFront goal.todo
   pub fields : Each (λ (a : Numbered). HasOrder a.atom) goal.state.atoms
+
+-- each row keeps the order
+abbrev pub RowsKeepOrder : Type 0
+RowsKeepOrder = (goal : Goal) (left : List Goal) (e : Var → Option Value) (tag : Tag) → IsInOrder goal e → row goal tag ≡ Some left → Each (λ child. IsInOrder child e) left
 
 -- the law of a row that works out what is known: where the goal holds, one of the goals that are left does
 abbrev pub KeepsMeaning : Tag → Type 0
@@ -139,3 +146,8 @@ CellHandsOver = (w : ℕ → Value) (goal : Goal) (left : List Goal) (heap : Hea
 abbrev pub EndLeavesNothing : Type 0
 EndLeavesNothing = (w : ℕ → Value) (goal : Goal) (left : List Goal) (heap : Heap)
     → row goal t.End ≡ Some left → AtomsHold w goal.state.links goal.state.atoms heap → IsEmpty heap
+
+-- the first goal of a procedure of a program without resources is in order, and holds wherever the procedure starts
+abbrev pub FirstGoalsHold : Type 0
+FirstGoalsHold = (p : Program) (f : ProcId) (store : Store) (heap : Heap) (c : Config) → IsFormed p → p.resources ≡ [] → (start : Start p f store heap c)
+    → IsInOrder (first_goal p start.procedure) (λ x. store (entry_slot x)) × Holds (first_goal p start.procedure) (λ x. store (entry_slot x)) heap
