@@ -1,10 +1,12 @@
 -- Induction on proofs: what each row carries from the goals that it leaves to its goal, every provable goal has.
-use Rattle.std.specs.Prelude.{◌≡◌, Some, List}
+use Rattle.std.specs.Prelude.{◌≡◌, Some, List, [], ◌∷◌}
 use Rattle.std.proofs.Common.{sym, subst}
+use Rattle.sf_core.proofs.Cases.{either}
 use Rattle.sf_sym.specs.declared.tag.Tag.{Tag}
 use Rattle.sf_sym.specs.Each.{Each}
 use Rattle.sf_sym.specs.Goal.{Goal}
 use Rattle.sf_cli.specs.Proves.{Proof, by, Proofs, no_more, and}
+use Rattle.sf_cli.specs.RowLaws.{SomeOf}
 use Rattle.sf_cli.specs.Table.{row}
 
 -- the last row of a proof: a tag that has one there, and proofs of the goals that are left
@@ -29,3 +31,8 @@ mutual
   pub all-by_rows : (Q : Goal → Type 0) → ((goal : Goal) → Proof goal → (last : LastRow goal) → Each Q last.left → Q goal) → (goals : List Goal) → Proofs goals → Each Q goals
   all-by_rows Q f goals (no_more e) = subst (Each Q) (sym e) tt
   all-by_rows Q f goals (and goal others e proof proofs) = subst (Each Q) (sym e) (by-rows Q f goal proof, all-by_rows Q f others proofs)
+
+-- what holds of one of the goals, and what holds of all of them, hold of one together
+pub some-each : (P Q : Goal → Type 0) (goals : List Goal) → SomeOf P goals → Each Q goals → (goal : Goal) × P goal × Q goal
+some-each P Q [] s e = absurd s
+some-each P Q (g ∷ goals) s e = either s (λ x. (g, x, e.0)) (λ x. some-each P Q goals x e.1)

@@ -1,7 +1,7 @@
 -- What a frame owns: a share of the heap of which a provable goal holds that has the frame's commands to do.
 -- Names: `owns-CASE` says what follows of a frame that owns its share, by what it has to do next; `front-ITEM` which rows a goal has by its front.
-use Rattle.std.specs.Prelude.{◌≡◌, ℕ, Option, Some, List, [], ◌∷◌, ◌⊎◌}
-use Rattle.std.proofs.Common.{refl, sym, ap, ◌∙◌, subst, inl, inr}
+use Rattle.std.specs.Prelude.{◌≡◌, ℕ, Bool, true, false, Option, Some, List, [], ◌∷◌, ◌⊎◌}
+use Rattle.std.proofs.Common.{refl, sym, ap, ◌∙◌, subst, inl, inr, true≢false}
 use Rattle.sf_base.specs.declared.ids.FieldId.{FieldId}
 use Rattle.sf_base.specs.declared.ids.ResId.{ResId}
 use Rattle.sf_base.specs.declared.ids.Var.{Var}
@@ -16,6 +16,7 @@ use Rattle.sf_core.specs.HeapStore.{Cell, put_field, Heap}
 use Rattle.sf_core.specs.Sat.{Sat}
 use Rattle.sf_core.specs.Step.{Finds}
 use Rattle.sf_core.specs.Syntax.{Command, mutate, Procedure, Program}
+use Rattle.sf_core.proofs.Cases.{either}
 use Rattle.sf_core.proofs.HeapSplits.{star-drop_left, star-drop_right, star-map, star-map_right}
 use Rattle.sf_sym.specs.declared.tag.Tag.{Tag}
 use Rattle.sf_sym.specs.declared.tag.Tag.TheVariants as t
@@ -23,10 +24,10 @@ use Rattle.sf_sym.specs.Each.{Each}
 use Rattle.sf_sym.specs.Goal.{Pending, Item, run, add, take, exit, return, end, Goal}
 use Rattle.sf_sym.specs.Holds.{AtomsHold, AddsHold, HoldsAt}
 use Rattle.sf_cli.specs.Proves.{Proof}
-use Rattle.sf_cli.specs.RowLaws.{value_at, IsNoAdd, IsInOrder, written, WantsHold}
+use Rattle.sf_cli.specs.RowLaws.{SomeOf, value_at, IsNoAdd, IsInOrder, works_out, written, WantsHold}
 use Rattle.sf_cli.specs.Table.{row_of, row}
-use Rattle.sf_cli.proofs.ByRows.{LastRow, last-row, by-rows}
-use Rattle.sf_cli.proofs.RowLaws.{past_adds, row-is, absurd-never, add-child, spelled, mutate-child, IsClosing, cell-child, row-end, returning, return-left, return-closing, return-order, return-owes, rows-keep_order}
+use Rattle.sf_cli.proofs.ByRows.{LastRow, by-rows, some-each}
+use Rattle.sf_cli.proofs.RowLaws.{past_adds, row-is, absurd-never, add-child, spelled, mutate-child, IsClosing, cell-child, row-end, returning, return-left, return-closing, return-order, return-owes}
 
 -- what a frame has still to do is what the goal has to do before the procedure's return
 abbrev pub IsToDo : Procedure → List machine.Item → List Item → Type 0
@@ -34,10 +35,12 @@ IsToDo f [] items = items ≡ return f.end f.post ∷ []
 IsToDo f (command c ∷ todo) items = (others : List Item) × (items ≡ run c ∷ others) × IsToDo f todo others
 IsToDo f (leave r ∷ todo) items = (place : Place) × (others : List Item) × (items ≡ exit place r ∷ others) × IsToDo f todo others
 
--- a frame of procedure f, with that still to do and these values of its variables, owns that part of the heap
+-- a frame of procedure f, with that still to do and these values of its variables, owns that part of the heap: a goal that has
+-- these commands to do holds of it, and is proved by a row that goes by what is to be done next
 pub record Owns (f : Procedure) (todo : List machine.Item) (e : Var → Option Value) (share : Heap) : Type 0 where
   pub goal : Goal
-  pub proof : Proof goal
+  pub last : LastRow goal
+  pub goes : works_out last.tag ≡ false
   pub symbols : ℕ → Value
   pub kept : HoldsAt symbols goal e share
   pub order : IsInOrder goal e
@@ -80,51 +83,58 @@ front-run goal t.Absurd left c items r = inl refl
 front-run goal (t.Mutate atom) left c items r = inr (atom, refl)
 front-run goal tag left c items r = absurd (cc)
 
--- a goal that holds isn't closed by absurd
-never : {A : Type 0} (w : ℕ → Value) (goal : Goal) (tag : Tag) (left : List Goal) (e : Var → Option Value) (heap : Heap) → tag ≡ t.Absurd → row goal tag ≡ Some left → HoldsAt w goal e heap → A
-never w goal tag left e heap i r h = absurd (absurd-never w goal left e heap (subst (λ z. row goal z ≡ Some left) i r) h)
+-- WHAT IS WORKED OUT FIRST
 
--- each goal that is left is in order
-in-order : (goal child : Goal) (left : List Goal) (e : Var → Option Value) (tag : Tag) → IsInOrder goal e → row goal tag ≡ Some left → left ≡ child ∷ [] → IsInOrder child e
-in-order goal child left e tag o r i = let d : Each (λ g. IsInOrder g e) (child ∷ []) = subst (Each (λ g. IsInOrder g e)) i (rows-keep_order goal left e tag o r) in d.0
+-- a goal that is left by a row that works out what is known: it holds, and has the same commands to do
+record WorkedOut (w : ℕ → Value) (e : Var → Option Value) (heap : Heap) (goal child : Goal) : Type 0 where
+  kept : HoldsAt w child e heap
+  order : IsInOrder child e
+  none_taken : goal.state.taken ≡ [] → child.state.taken ≡ []
+  to_do : (f : Procedure) (todo : List machine.Item) → IsToDo f todo (past_adds goal.todo) → IsToDo f todo (past_adds child.todo)
 
--- PAST THE ADDS
+work-out : (w : ℕ → Value) (e : Var → Option Value) (heap : Heap) (goal : Goal) (tag : Tag) (left : List Goal) → works_out tag ≡ true → row goal tag ≡ Some left → HoldsAt w goal e heap → IsInOrder goal e → SomeOf (WorkedOut w e heap goal) left
+work-out w e heap goal t.Absurd left c r h o = absurd (absurd-never w goal left e heap r h)
+work-out w e heap goal t.Add left c r h o =
+    let m = add-child goal left r in
+    subst (SomeOf (WorkedOut w e heap goal)) (sym m.is) (inl (record { kept = m.kept w e heap h; order = m.order e o; none_taken = λ n. m.taken ∙ n; to_do = λ f todo d. subst (IsToDo f todo) (sym m.past) d }))
+work-out w e heap goal tag left c r h o = absurd (cc)
 
--- where a goal holds and has these commands to do behind its adds, the frame owns the heap
+-- only such rows apply where conjuncts are to be assumed
+past-none : (goal : Goal) (last : LastRow goal) → works_out last.tag ≡ false → past_adds goal.todo ≡ goal.todo
+past-none goal last c = go goal.todo refl
+  where
+    go : (items : List Item) → goal.todo ≡ items → past_adds goal.todo ≡ goal.todo
+    go [] i = ap past_adds i ∙ sym i
+    go (add p given ∷ items) i = absurd (either (front-add goal last.tag last.left p given items (row-at goal (add p given ∷ items) last.tag last.left i last.is))
+        (λ x. true≢false (sym (ap works_out x) ∙ c)) (λ x. true≢false (sym (ap works_out x) ∙ c)))
+    go (item ∷ items) i = ap past_adds i ∙ sym i
+
+-- where a goal holds and has these commands to do, the frame owns the heap
 abbrev pub Settles : Procedure → List machine.Item → Goal → Type 0
 Settles f todo goal = (w : ℕ → Value) (e : Var → Option Value) (share : Heap) → HoldsAt w goal e share → IsInOrder goal e → goal.state.taken ≡ [] → IsToDo f todo (past_adds goal.todo) → Owns f todo e share
 
-settle-add : (f : Procedure) (todo : List machine.Item) (goal : Goal) (last : LastRow goal) → Each (Settles f todo) last.left → (p : Place) (given : Pending) (items : List Item) → goal.todo ≡ add p given ∷ items → Settles f todo goal
-settle-add f todo goal last ih p given items i w e share h o n d =
-    elim (front-add goal last.tag last.left p given items (row-at goal (add p given ∷ items) last.tag last.left i last.is)) [
-      | inl x ↦ never w goal last.tag last.left e share x last.is h
-      | inr x ↦
-          let m = add-child goal last.left (subst (λ z. row goal z ≡ Some last.left) x last.is) in
-          let child : Each (Settles f todo) (m.child ∷ []) = subst (Each (Settles f todo)) m.is ih in
-          child.0 w e share (m.kept w e share h) (in-order goal m.child last.left e last.tag o last.is m.is) (m.taken ∙ n) (subst (IsToDo f todo) (sym m.past) d)
-    ]
-
 settle-step : (f : Procedure) (todo : List machine.Item) (goal : Goal) → Proof goal → (last : LastRow goal) → Each (Settles f todo) last.left → Settles f todo goal
-settle-step f todo goal proof last ih w e share h o n d = go goal.todo refl
+settle-step f todo goal proof last ih w e share h o n d = go (works_out last.tag) refl
   where
-    owned : past_adds goal.todo ≡ goal.todo → Owns f todo e share
-    owned i = record { goal = goal; proof = proof; symbols = w; kept = h; order = o; none_taken = n; to_do = subst (IsToDo f todo) i d }
+    go : (b : Bool) → works_out last.tag ≡ b → Owns f todo e share
+    go true c =
+        let m = some-each (WorkedOut w e share goal) (Settles f todo) last.left (work-out w e share goal last.tag last.left c last.is h o) ih in
+        m.2 w e share m.1.kept m.1.order (m.1.none_taken n) (m.1.to_do f todo d)
+    go false c = record { goal = goal; last = last; goes = c; symbols = w; kept = h; order = o; none_taken = n; to_do = subst (IsToDo f todo) (past-none goal last c) d }
 
-    go : (items : List Item) → goal.todo ≡ items → Owns f todo e share
-    go [] i = owned (ap past_adds i ∙ sym i)
-    go (add p given ∷ items) i = settle-add f todo goal last ih p given items i w e share h o n d
-    go (item ∷ items) i = owned (ap past_adds i ∙ sym i)
-
--- a provable goal that holds has, past its adds, a provable goal that holds
+-- a provable goal that holds has, past what is worked out first, a provable goal that holds
 pub settle : (f : Procedure) (todo : List machine.Item) (goal : Goal) → Proof goal → Settles f todo goal
 settle f todo goal proof = by-rows (Settles f todo) (settle-step f todo) goal proof
 
 -- THE NEXT COMMAND
 
-past-none : (items : List Item) → Each IsNoAdd items → past_adds items ≡ items
-past-none [] n = refl
-past-none (add p given ∷ items) n = absurd n.0
-past-none (item ∷ items) n = refl
+past-no_adds : (items : List Item) → Each IsNoAdd items → past_adds items ≡ items
+past-no_adds [] n = refl
+past-no_adds (add p given ∷ items) n = absurd n.0
+past-no_adds (item ∷ items) n = refl
+
+not-absurd : {A : Type 0} (goal : Goal) (last : LastRow goal) → last.tag ≡ t.Absurd → works_out last.tag ≡ false → A
+not-absurd goal last x c = absurd (true≢false (sym (ap works_out x) ∙ c))
 
 -- what a frame's next command finds, and what the frame owns after the event: only a mutation has a row
 abbrev pub Next : Procedure → Command → List machine.Item → (Var → Option Value) → Heap → Type 0
@@ -133,44 +143,43 @@ Next f (mutate p root field value) todo e share = (location : ℕ) × (here : Ce
 Next f _ todo e share = ⊥
 
 next-mutate : (f : Procedure) (todo : List machine.Item) (e : Var → Option Value) (share : Heap) (p : Place) (root : Expr) (field : FieldId) (value : Expr) (o : Owns f (command (mutate p root field value) ∷ todo) e share)
-    → (last : LastRow o.goal) (atom : ℕ) → last.tag ≡ t.Mutate atom → Next f (mutate p root field value) todo e share
-next-mutate f todo e share p root field value o last atom x =
+    → (atom : ℕ) → o.last.tag ≡ t.Mutate atom → Next f (mutate p root field value) todo e share
+next-mutate f todo e share p root field value o atom x =
     let others = o.to_do.0 in
     let front = run (mutate p root field value) ∷ others in
     let order = spelled (λ g. IsInOrder g e) o.goal front o.to_do.1 o.order in
-    let m = mutate-child o.goal last.left atom p root field value others o.to_do.1 (subst (λ z. row o.goal z ≡ Some last.left) x last.is) in
-    let proofs : Each Proof (record { state = m.state; todo = others } ∷ []) = subst (Each Proof) m.is last.proofs in
+    let m = mutate-child o.goal o.last.left atom p root field value others o.to_do.1 (subst (λ z. row o.goal z ≡ Some o.last.left) x o.last.is) in
+    let proofs : Each Proof (record { state = m.state; todo = others } ∷ []) = subst (Each Proof) m.is o.last.proofs in
     let n = m.follows o.symbols e share order (spelled (λ g. HoldsAt o.symbols g e share) o.goal front o.to_do.1 o.kept) in (
       n.location,
       n.cell,
       n.finds,
       settle f todo (record { state = m.state; todo = others }) proofs.0 o.symbols e (written n.location (put_field n.cell field.0 (value_at e value)) share) n.after (m.order e order) (m.taken ∙ o.none_taken)
-          (subst (IsToDo f todo) (sym (past-none others order.adds)) o.to_do.2),
+          (subst (IsToDo f todo) (sym (past-no_adds others order.adds)) o.to_do.2),
     )
 
 -- a goal in front of a command is left by a mutation's row, if at all
 run-left : (f : Procedure) (c : Command) (todo : List machine.Item) (e : Var → Option Value) (share : Heap) (o : Owns f (command c ∷ todo) e share) {A : Type 0}
-    → ((last : LastRow o.goal) (atom : ℕ) → last.tag ≡ t.Mutate atom → row_of o.goal.state (run c ∷ o.to_do.0) (t.Mutate atom) ≡ Some last.left → A) → A
+    → ((atom : ℕ) → o.last.tag ≡ t.Mutate atom → row_of o.goal.state (run c ∷ o.to_do.0) (t.Mutate atom) ≡ Some o.last.left → A) → A
 run-left f c todo e share o k =
-    let last = last-row o.goal o.proof in
-    let r = row-at o.goal (run c ∷ o.to_do.0) last.tag last.left o.to_do.1 last.is in
-    elim (front-run o.goal last.tag last.left c o.to_do.0 r) [
-      | inl x ↦ never o.symbols o.goal last.tag last.left e share x last.is o.kept
-      | inr x ↦ k last x.0 x.1 (subst (λ z. row_of o.goal.state (run c ∷ o.to_do.0) z ≡ Some last.left) x.1 r)
-    ]
+    let r = row-at o.goal (run c ∷ o.to_do.0) o.last.tag o.last.left o.to_do.1 o.last.is in
+    either (front-run o.goal o.last.tag o.last.left c o.to_do.0 r) (λ x. not-absurd o.goal o.last x o.goes)
+        (λ x. k x.0 x.1 (subst (λ z. row_of o.goal.state (run c ∷ o.to_do.0) z ≡ Some o.last.left) x.1 r))
 
 pub owns-command : (f : Procedure) (c : Command) (todo : List machine.Item) (e : Var → Option Value) (share : Heap) → Owns f (command c ∷ todo) e share → Next f c todo e share
-owns-command f (mutate p root field value) todo e share o = run-left f (mutate p root field value) todo e share o (λ last atom x r. next-mutate f todo e share p root field value o last atom x)
-owns-command f c todo e share o = run-left f c todo e share o (λ last atom x r. absurd (cc))
+owns-command f (mutate p root field value) todo e share o = run-left f (mutate p root field value) todo e share o (λ atom x r. next-mutate f todo e share p root field value o atom x)
+owns-command f c todo e share o = run-left f c todo e share o (λ atom x r. absurd (cc))
 
 -- a region is never left: no row has an exit in front
 pub owns-leave : (f : Procedure) (r : ResId) (todo : List machine.Item) (e : Var → Option Value) (share : Heap) → Owns f (leave r ∷ todo) e share → ⊥
 owns-leave f r todo e share o =
-    let last = last-row o.goal o.proof in
-    never o.symbols o.goal last.tag last.left e share
-    (front-exit o.goal last.tag last.left o.to_do.0 r o.to_do.1 (row-at o.goal (exit o.to_do.0 r ∷ o.to_do.1) last.tag last.left o.to_do.2 last.is)) last.is o.kept
+    not-absurd o.goal o.last (front-exit o.goal o.last.tag o.last.left o.to_do.0 r o.to_do.1 (row-at o.goal (exit o.to_do.0 r ∷ o.to_do.1) o.last.tag o.last.left o.to_do.2 o.last.is)) o.goes
 
 -- THE END
+
+-- a goal that holds isn't closed by absurd
+never : {A : Type 0} (w : ℕ → Value) (goal : Goal) (tag : Tag) (left : List Goal) (e : Var → Option Value) (heap : Heap) → tag ≡ t.Absurd → row goal tag ≡ Some left → HoldsAt w goal e heap → A
+never w goal tag left e heap i r h = absurd (absurd-never w goal left e heap (subst (λ z. row goal z ≡ Some left) i r) h)
 
 -- where a goal holds and has only conjuncts to show, the atoms' part of the heap satisfies them
 abbrev pub Closes : Goal → Type 0
@@ -216,14 +225,11 @@ all-atoms f e share o =
 -- a frame with nothing more to do owns exactly what its postcondition says
 pub owns-end : (p : Program) (f : Procedure) (e : Var → Option Value) (share : Heap) → AssertionWithin p.fields (IsParameter p f) f.post → Owns f [] e share → Sat f.post.level (value_at e) (λ n. nil) share
 owns-end p f e share i o =
-    let last = last-row o.goal o.proof in
-    elim (front-return o.goal last.tag last.left f.end f.post [] (row-at o.goal (return f.end f.post ∷ []) last.tag last.left o.to_do last.is)) [
-      | inl x ↦ never o.symbols o.goal last.tag last.left e share x last.is o.kept
-      | inr x ↦
-          let left = return-left o.goal last.left f.end f.post [] o.to_do (subst (λ z. row o.goal z ≡ Some last.left) x last.is) in
-          let child : Goal = record { state = o.goal.state; todo = returning f.end o.goal.state f.post } in
-          let proofs : Each Proof (child ∷ []) = subst (Each Proof) left last.proofs in
-          let owes = return-owes o.symbols o.goal e share f.end f.post [] p f o.order.covers i o.to_do o.kept in
-          owes.wants share
-          (closes child proofs.0 (return-closing f.end o.goal.state f.post) o.symbols e share owes.kept (return-order f.end o.goal f.post e o.order) share (all-atoms f e share o))
-    ]
+    let r = row-at o.goal (return f.end f.post ∷ []) o.last.tag o.last.left o.to_do o.last.is in
+    either (front-return o.goal o.last.tag o.last.left f.end f.post [] r) (λ x. not-absurd o.goal o.last x o.goes) (λ x.
+    let left = return-left o.goal o.last.left f.end f.post [] o.to_do (subst (λ z. row o.goal z ≡ Some o.last.left) x o.last.is) in
+    let child : Goal = record { state = o.goal.state; todo = returning f.end o.goal.state f.post } in
+    let proofs : Each Proof (child ∷ []) = subst (Each Proof) left o.last.proofs in
+    let owes = return-owes o.symbols o.goal e share f.end f.post [] p f o.order.covers i o.to_do o.kept in
+    owes.wants share
+    (closes child proofs.0 (return-closing f.end o.goal.state f.post) o.symbols e share owes.kept (return-order f.end o.goal f.post e o.order) share (all-atoms f e share o)))

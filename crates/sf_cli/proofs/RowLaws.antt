@@ -30,7 +30,7 @@ use Rattle.sf_sym.specs.Holds.{term_value, Agrees, Differ, AtomHolds, AtomsHold,
 use Rattle.sf_sym.specs.Tests.{is_absurd}
 use Rattle.sf_sym.proofs.Parts.{atoms-append}
 use Rattle.sf_sym.proofs.States.{held_states_are_not_absurd}
-use Rattle.sf_cli.specs.RowLaws.{SomeOf, Covers, value_at, IsNoAdd, AddsInFront, AreOrdered, HasOrder, IsInOrder, AbsurdKeepsMeaning, AddKeepsMeaning, written, Mutates, MutateFollowsEvent, WantsHold, Owes, ReturnOwesPostcondition, CellKeepsMeaning, HandsOver, CellHandsOver, EndLeavesNothing, RowsKeepOrder}
+use Rattle.sf_cli.specs.RowLaws.{SomeOf, Covers, value_at, IsNoAdd, AddsInFront, AreOrdered, HasOrder, IsInOrder, RowsKeepMeaning, AbsurdKeepsMeaning, AddKeepsMeaning, written, Mutates, MutateFollowsEvent, WantsHold, Owes, ReturnOwesPostcondition, CellKeepsMeaning, HandsOver, CellHandsOver, EndLeavesNothing, RowsKeepOrder}
 use Rattle.sf_cli.specs.Table.{term, pending, unless_none, to_take, conjuncts_of, conjuncts_with, has_numbers, new_fields, apart_from_nil, with_cell, assumed, cell_at, with_fields, is_empty, without, put_term, fits, handed_over, one_goal, add_first, add_row, mutate_one, mutate_row, return_row, cell_first, cell_row, end_row, row_of, row}
 use Rattle.sf_cli.proofs.CellAtoms.{find-cell, with-order, without-order, found-order, order-append}
 use Rattle.sf_cli.proofs.CellFields.{put-order, put-written, new-fields, new-order, fits-fields}
@@ -182,6 +182,11 @@ add-child goal left r = add-front goal.state goal.todo left (row-is goal t.Add l
 
 pub row-add : AddKeepsMeaning
 row-add w goal left e heap o r h = let m = add-child goal left r in subst (SomeOf (λ child. HoldsAt w child e heap)) (sym m.is) (inl (m.kept w e heap h))
+
+pub rows-keep_meaning : RowsKeepMeaning
+rows-keep_meaning t.Absurd c = row-absurd
+rows-keep_meaning t.Add c = row-add
+rows-keep_meaning tag c = absurd (cc)
 
 -- MUTATE
 

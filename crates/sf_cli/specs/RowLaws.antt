@@ -1,6 +1,6 @@
 -- The laws of the rows: what a row says of the values and heaps of which its goal holds, with the same values of the symbols.
 -- Berdine, Calcagno, O'Hearn, "Symbolic Execution with Separation Logic" (2005): the soundness of each rule.
-use Rattle.std.specs.Prelude.{◌≡◌, ℕ, ◌<◌, ◌==◌, Bool, false, ◌||◌, cond, Option, Some, List, [], ◌∷◌, is_some, ◌⊎◌}
+use Rattle.std.specs.Prelude.{◌≡◌, ℕ, ◌<◌, ◌==◌, Bool, true, false, ◌||◌, cond, Option, Some, List, [], ◌∷◌, is_some, ◌⊎◌}
 use Rattle.std.specs.Option.{unwrap_or}
 use Rattle.sf_base.specs.declared.ids.FieldId.{FieldId}
 use Rattle.sf_base.specs.declared.ids.ProcId.{ProcId}
@@ -77,10 +77,20 @@ pub record IsInOrder (goal : Goal) (e : Var → Option Value) : Type 0 where
 abbrev pub RowsKeepOrder : Type 0
 RowsKeepOrder = (goal : Goal) (left : List Goal) (e : Var → Option Value) (tag : Tag) → IsInOrder goal e → row goal tag ≡ Some left → Each (λ child. IsInOrder child e) left
 
--- the law of a row that works out what is known: where the goal holds, one of the goals that are left does
+-- the rows that only work out what is known, whatever is to be done next
+abbrev pub works_out : Tag → Bool
+works_out t.Absurd = true
+works_out t.Add = true
+works_out _ = false
+
+-- the law of such a row: where the goal holds, one of the goals that are left does
 abbrev pub KeepsMeaning : Tag → Type 0
 KeepsMeaning tag = (w : ℕ → Value) (goal : Goal) (left : List Goal) (e : Var → Option Value) (heap : Heap)
     → IsInOrder goal e → row goal tag ≡ Some left → HoldsAt w goal e heap → SomeOf (λ child. HoldsAt w child e heap) left
+
+-- all of them have it
+abbrev pub RowsKeepMeaning : Type 0
+RowsKeepMeaning = (tag : Tag) → works_out tag ≡ true → KeepsMeaning tag
 
 -- absurd: the goal doesn't hold
 abbrev pub AbsurdKeepsMeaning : Type 0

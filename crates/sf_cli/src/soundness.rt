@@ -1,7 +1,7 @@
 //! What a proof promises, and the laws of the rows of the table on which it rests. Each function is a
 //! law: calling it gives its fact to the caller's proof, and does nothing.
 
-ghost use Rattle.sf_cli.specs.RowLaws.{AbsurdKeepsMeaning, AddKeepsMeaning, CellHandsOver, CellKeepsMeaning, EndLeavesNothing, FirstGoalsHold, MutateFollowsEvent, ReturnOwesPostcondition, RowsKeepOrder};
+ghost use Rattle.sf_cli.specs.RowLaws.{AbsurdKeepsMeaning, AddKeepsMeaning, CellHandsOver, CellKeepsMeaning, EndLeavesNothing, FirstGoalsHold, MutateFollowsEvent, ReturnOwesPostcondition, RowsKeepMeaning, RowsKeepOrder};
 ghost use Rattle.sf_cli.specs.Sound.{ProvedProgramsAreSound};
 
 /// A program without resources of which the tags are a proof is sound: whatever procedure it starts
@@ -22,6 +22,13 @@ pub fn first_goals_hold()
 pub fn rows_keep_order()
     ensures { RowsKeepOrder }
 {}
+
+/// Where a goal holds and a row that works out what is known applies, one of the goals that are left
+/// holds, with the same values of the symbols.
+pub fn rows_keep_meaning()
+    ensures { RowsKeepMeaning }
+{
+}
 
 /// A goal that `absurd` closes doesn't hold of any values and heap.
 pub fn absurd_keeps_meaning()
