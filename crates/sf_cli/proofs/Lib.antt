@@ -24,3 +24,4 @@ pub mod Numbers
 pub mod Firsts
 pub mod Assumable
 pub mod Answered
+pub mod SoundInstance

@@ -164,7 +164,7 @@ run-left : (f : Procedure) (c : Command) (todo : List machine.Item) (e : Var →
 run-left f c todo e share o k =
     let r = row-at o.goal (run c ∷ o.to_do.0) o.last.tag o.last.left o.to_do.1 o.last.is in
     either (front-run o.goal o.last.tag o.last.left c o.to_do.0 r) (λ x. not-absurd o.goal o.last x o.goes)
-        (λ x. k x.0 x.1 (subst (λ z. row_of o.goal.state (run c ∷ o.to_do.0) z ≡ Some o.last.left) x.1 r))
+    (λ x. k x.0 x.1 (subst (λ z. row_of o.goal.state (run c ∷ o.to_do.0) z ≡ Some o.last.left) x.1 r))
 
 pub owns-command : (f : Procedure) (c : Command) (todo : List machine.Item) (e : Var → Option Value) (share : Heap) → Owns f (command c ∷ todo) e share → Next f c todo e share
 owns-command f (mutate p root field value) todo e share o = run-left f (mutate p root field value) todo e share o (λ atom x r. next-mutate f todo e share p root field value o atom x)

@@ -16,3 +16,4 @@ pub mod Left
 pub mod Cells
 pub mod Choices
 pub mod Checking
+pub mod SoundInstance

@@ -3,6 +3,7 @@
 
 ghost use Rattle.sf_cli.specs.RowLaws.{AbsurdKeepsMeaning, AddKeepsMeaning, CellHandsOver, CellKeepsMeaning, EndLeavesNothing, FirstGoalsHold, MutateFollowsEvent, ReturnOwesPostcondition, RowsKeepMeaning, RowsKeepOrder};
 ghost use Rattle.sf_cli.specs.Sound.{ProvedProgramsAreSound};
+ghost use Rattle.sf_cli.specs.SoundInstance.{ClearingIsSound};
 
 /// A program without resources of which the tags are a proof is sound: whatever procedure it starts
 /// with, from whatever store and heap that procedure's precondition allows, and whatever events come in
@@ -27,8 +28,7 @@ pub fn rows_keep_order()
 /// holds, with the same values of the symbols.
 pub fn rows_keep_meaning()
     ensures { RowsKeepMeaning }
-{
-}
+{}
 
 /// A goal that `absurd` closes doesn't hold of any values and heap.
 pub fn absurd_keeps_meaning()
@@ -65,4 +65,10 @@ pub fn cell_hands_over()
 /// At a goal that `end` closes no part of the heap is left.
 pub fn end_leaves_nothing()
     ensures { EndLeavesNothing }
+{}
+
+/// A small program that is in order, and that tags prove: so programs that are proved are there, and
+/// this one is sound.
+pub fn clearing_is_sound()
+    ensures { ClearingIsSound }
 {}
