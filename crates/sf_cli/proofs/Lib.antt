@@ -25,3 +25,7 @@ pub mod Firsts
 pub mod Assumable
 pub mod Answered
 pub mod SoundInstance
+pub mod Counts
+pub mod Trees
+pub mod Choosing
+pub mod Verdicts

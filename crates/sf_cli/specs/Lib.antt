@@ -17,3 +17,4 @@ pub mod Cells
 pub mod Choices
 pub mod Checking
 pub mod SoundInstance
+pub mod Ends

@@ -6,6 +6,7 @@ mod check;
 mod reading;
 mod rules;
 mod soundness;
+mod search;
 mod strategy;
 mod terms;
 mod text;

@@ -1,12 +1,12 @@
 //! The table of rules: the first goal of a procedure, and what a tag leaves of a goal.
 
-ghost use Rattle.std.specs.Prelude.{◌≡◌, ◌++◌, ◌-◌, ◌≤◌, ◌^◌, [], ◌∷◌, None, Some, length, replicate, IfOk, IsTrue};
+ghost use Rattle.std.specs.Prelude.{◌≡◌, ◌++◌, ◌-◌, ◌≤◌, ◌^◌, [], ◌∷◌, None, Some, length, replicate, IfOk, IsTrue, OnOk};
 ghost use Rattle.std.specs.Option.{option_map};
 ghost use Rattle.sf_core.specs.Formed.{ProcedureWithin};
 ghost use Rattle.sf_core.specs.View.{assertion_of, block_of, command_of, conjunct_of, procedure_of};
 ghost use Rattle.sf_core.specs.Whole.{program_of};
 ghost use Rattle.sf_sym.specs.Goal.{add, end, goal_of, pending_of, return};
-ghost use Rattle.sf_cli.specs.Left.{cell_of, goals_of, mutation, todo_of};
+ghost use Rattle.sf_cli.specs.Left.{cell_of, goals_of, mutation, stack_of, todo_of};
 ghost use Rattle.sf_cli.specs.Table.{absurd_row, add_row, assumed, cell_row, end_row, first_goal, handed_over, has_numbers, links_of, mutate_row, nils, pending, return_row, row, row_of, symbols, to_add, to_run, to_take};
 
 use crate::cells::{handed_over, known, mutated, new_fields, with_cell};
@@ -365,5 +365,18 @@ fn cell<'a>(goal: Goal<'a>, a: u32) -> Result<Option<Left<'a>>, AllocError>
             Ok(Some(Left::One(Goal { state, todo })))
         }
         _ => Ok(None),
+    }
+}
+
+/// Puts what is left on a stack of goals, which has the next one last. An `Err` is want of memory.
+pub fn open_goals<'a>(stack: &mut Vec<Goal<'a>>, left: Left<'a>) -> Result<(), AllocError>
+    ensures { OnOk result (stack_of stack.new.items ≡ goals_of left.entry ++ stack_of stack.old.items) }
+{
+    match left {
+        Left::Nothing => Ok(()),
+        Left::One(goal) => {
+            stack.push(goal)?;
+            Ok(())
+        }
     }
 }
