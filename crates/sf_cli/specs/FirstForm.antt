@@ -50,6 +50,7 @@ expr_in names at kind.Nil = Some Nil
 expr_in names at (kind.Number z) = Some (Int z)
 expr_in names at (kind.Symbol s) = None
 
+-- the same of a token
 abbrev pub expr_of : List (List ℕ) → Token → Option Expr
 expr_of names t = expr_in names t.place t.kind
 
@@ -177,3 +178,7 @@ first_form bytes = tokens_of bytes >>= λ ts. option_map program_of_one (procedu
 -- the bytes are that program, in the first form
 abbrev pub FirstForm : List ℕ → Program → Type 0
 FirstForm bytes p = first_form bytes ≡ Some p
+
+-- no file is two programs
+abbrev pub OneReading : Type 0
+OneReading = (bytes : List ℕ) (p q : Program) → FirstForm bytes p → FirstForm bytes q → p ≡ q

@@ -41,5 +41,6 @@ is_empty (t ∷ ts) = false
 abbrev pub ends_of : {B : Type 0} → (List Token → Option B) → List B → List (List Token) × List Token → Option (List B)
 ends_of one done parts = if is_empty parts.1 then collect (λ before part. one part) done parts.0 else None
 
+-- the same for the parts of a list of tokens
 abbrev pub ends : {B : Type 0} → (List Token → Option B) → List B → Symbol → List Token → Option (List B)
 ends one done s ts = ends_of one done (ended s ts)

@@ -16,13 +16,15 @@ use Rattle.sf_core.specs.declared.command.Expr.TheVariants.{Var as Variable, Nil
 use Rattle.sf_core.specs.Named.{IsFirstNamed}
 use Rattle.sf_core.specs.Syntax.{Conjunct, holds, points, segment, tree, choose, Level, level, Conjuncts, none, also, Call, Command, assign, look_up, mutate, new, dispose, if, while, call, fork, with, Block, done, then, Assertion, Procedure, Resource, Program}
 
--- the fields that segments and trees follow
+-- the field that segments follow
 abbrev pub next_name : List ℕ
 next_name = codes "tl"
 
+-- the left field of a tree
 abbrev pub left_name : List ℕ
 left_name = codes "l"
 
+-- the right field of a tree
 abbrev pub right_name : List ℕ
 right_name = codes "r"
 

@@ -12,7 +12,7 @@ ghost use Rattle.sf_core.specs.Syntax.{Program as ProgramTree};
 ghost use Rattle.sf_core.specs.Whole.{program_of};
 ghost use Rattle.sf_cli.specs.Separated.{cut_at};
 ghost use Rattle.sf_cli.specs.Reads.{Reads};
-ghost use Rattle.sf_cli.specs.FirstForm.{field_names, number_of, name_alone, expr_of, field_of, parameter, names_of, three_of, five_of, two_first, has_field, value_at, values_of, cell_of, cells_of, begins_with, note_of, note, command_of, commands_of, procedure_in, program_of_one, FirstForm, first_form, place_in};
+ghost use Rattle.sf_cli.specs.FirstForm.{OneReading, field_names, number_of, name_alone, expr_of, field_of, parameter, names_of, three_of, five_of, two_first, has_field, value_at, values_of, cell_of, cells_of, begins_with, note_of, note, command_of, commands_of, procedure_in, program_of_one, FirstForm, first_form, place_in};
 
 use crate::reading::fault::ReadFault;
 use crate::reading::token::{Kind, Symbol, Token};
@@ -445,3 +445,8 @@ pub fn read(alloc: Global, bytes: &[u8]) -> Result<Program, ReadFault>
     let procedure = procedure(alloc, tokens.as_slice())?;
     Ok(program(alloc, procedure)?)
 }
+
+/// No file is two programs.
+pub fn one_reading()
+    ensures { OneReading }
+{}
