@@ -29,3 +29,5 @@ pub mod Counts
 pub mod Trees
 pub mod Choosing
 pub mod Verdicts
+pub mod Spelled
+pub mod ReadWhole

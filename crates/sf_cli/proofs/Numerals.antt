@@ -48,7 +48,7 @@ run_some b bs e = rw (e, one_more (prefix_len is_digit bs)) (omega arith)
 digit_at_end : is_digit 0 ≡ true → ⊥
 digit_at_end e = cc
 
-no_minus : (b : ℕ) → (b == 45) ≡ true → is_digit b ≡ false
+pub no_minus : (b : ℕ) → (b == 45) ≡ true → is_digit b ≡ false
 no_minus b e = grind (arith, nat_tests)
 
 no_plus : (b : ℕ) → is_digit b ≡ true → (b == 43) ≡ false
@@ -70,7 +70,7 @@ or_right : (s t : Bool) → s ≡ false → (s || t) ≡ true → t ≡ true
 or_right true t h e = absurd cc
 or_right false t h e = e
 
-or_left : (s t : Bool) → t ≡ false → (s || t) ≡ true → s ≡ true
+pub or_left : (s t : Bool) → t ≡ false → (s || t) ≡ true → s ≡ true
 or_left true t h e = refl
 or_left false t h e = absurd cc
 
@@ -78,7 +78,7 @@ and_right : (s t : Bool) → (s && t) ≡ true → t ≡ true
 and_right true t e = e
 and_right false t e = absurd cc
 
-and_false : (s t : Bool) → s ≡ false → (s && t) ≡ false
+pub and_false : (s t : Bool) → s ≡ false → (s && t) ≡ false
 and_false true t h = absurd cc
 and_false false t h = refl
 

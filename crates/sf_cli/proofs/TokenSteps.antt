@@ -3,7 +3,8 @@ use Rattle.std.proofs.Common.{◌≡◌, ◌<◌, ◌-◌, ℕ, zero, suc, List,
 use Rattle.sf_base.specs.declared.place.Place.{Place}
 use Rattle.sf_cli.specs.declared.reading.token.Kind.{Kind}
 use Rattle.sf_cli.specs.declared.reading.token.Token.{Token}
-use Rattle.sf_cli.specs.Tokens.{◌>>=◌, is_blank, next_place, front_of, tokens_from}
+use Rattle.sf_cli.specs.Scan.{tokens_from}
+use Rattle.sf_cli.specs.Tokens.{◌>>=◌, is_blank, next_place, front_of}
 use Rattle.sf_cli.specs.Reads.{Refuses}
 use Rattle.sf_cli.specs.declared.reading.fault.ReadFault.{ReadFault}
 use Rattle.sf_cli.specs.declared.reading.fault.ReadFault.TheVariants.{NotBuilt, OutOfMemory}

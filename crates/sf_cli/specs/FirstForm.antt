@@ -20,7 +20,7 @@ use Rattle.sf_cli.specs.declared.reading.token.Symbol.{Symbol}
 use Rattle.sf_cli.specs.declared.reading.token.Symbol.TheVariants.{OpenRound, CloseRound, OpenSquare, CloseSquare, OpenBrace, CloseBrace, Comma, Semicolon, Colon, Star, Equals, Arrow, PointsTo}
 use Rattle.sf_cli.specs.declared.reading.token.Token.{Token}
 use Rattle.sf_cli.specs.Separated.{cut_at, is_empty, ends, separated, collect}
-use Rattle.sf_cli.specs.Tokens.{◌>>=◌, is_symbol, tokens_of}
+use Rattle.sf_cli.specs.Tokens.{◌>>=◌, is_symbol, AreTokens}
 
 -- the fields that every program of this form has
 abbrev pub field_names : List (List ℕ)
@@ -171,13 +171,11 @@ procedure_in ts = do
     end = end.1;
   })
 
--- the program that a file of this form is
-abbrev pub first_form : List ℕ → Option Program
-first_form bytes = tokens_of bytes >>= λ ts. option_map program_of_one (procedure_in ts)
-
 -- the bytes are that program, in the first form
-abbrev pub FirstForm : List ℕ → Program → Type 0
-FirstForm bytes p = first_form bytes ≡ Some p
+pub record FirstForm (bytes : List ℕ) (p : Program) : Type 0 where
+  pub tokens : List Token
+  pub spelled : AreTokens (record { line = 1; column = 1 }) bytes tokens
+  pub is : option_map program_of_one (procedure_in tokens) ≡ Some p
 
 -- no file is two programs
 abbrev pub OneReading : Type 0

@@ -11,6 +11,7 @@ pub mod Reads
 pub mod Tokens
 pub mod Separated
 pub mod FirstForm
+pub mod Scan
 pub mod Checks
 pub mod Left
 pub mod Cells

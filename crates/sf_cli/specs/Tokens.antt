@@ -1,8 +1,8 @@
 -- The tokens of a file: words, numbers and symbols, each the longest that fits, between blanks.
 -- Ordinary: the lexical rules of this language, as in Aho, Sethi, Ullman, "Compilers" (1986), chapter 3.
-use Rattle.std.specs.Prelude.{ℕ, zero, suc, ◌+◌, ◌-◌, ◌^◌, Bool, false, ◌&&◌, ◌||◌, ◌==◌, nat_lt, if◌then◌else◌, Option, Some, None, List, [], ◌∷◌, length, take, drop, codes, pos, negsuc, ℤ, slice_index}
+use Rattle.std.specs.Prelude.{◌≡◌, true, false, ℕ, zero, suc, ◌+◌, ◌-◌, ◌^◌, Bool, ◌&&◌, ◌||◌, ◌==◌, nat_lt, if◌then◌else◌, Option, Some, None, List, [], ◌∷◌, ◌++◌, length, take, drop, codes, pos, negsuc, ℤ, slice_index}
 use Rattle.std.specs.Char.{is_ascii_alphabetic, is_ascii_alphanumeric, is_ascii_digit}
-use Rattle.std.specs.List.{prefix_len}
+use Rattle.std.specs.List.{prefix_len, AllByRecursion}
 use Rattle.std.specs.Option.{option_map}
 use Rattle.std.specs.Str.{bytes_eq}
 use Rattle.std.specs.Str.Parse.{signed_digits_value}
@@ -111,24 +111,34 @@ number text behind =
     else if fits (signed_digits_value 10 text) then Some (Number (signed_digits_value 10 text))
     else None
 
--- a symbol, and how long it is; `==` is another symbol, which is not of the form
-abbrev pub symbol : List ℕ → Option (Symbol × ℕ)
-symbol bs =
+-- how many bytes a symbol has
+abbrev pub symbol_length : Symbol → ℕ
+symbol_length Arrow = 2
+symbol_length PointsTo = 3
+symbol_length _ = 1
+
+-- the symbol at the front; `==` is another symbol, which is not of the form
+abbrev pub symbol_at : List ℕ → Option Symbol
+symbol_at bs =
     let b = slice_index bs 0 in
-    if b == 40 then Some (OpenRound, 1)
-    else if b == 41 then Some (CloseRound, 1)
-    else if b == 91 then Some (OpenSquare, 1)
-    else if b == 93 then Some (CloseSquare, 1)
-    else if b == 123 then Some (OpenBrace, 1)
-    else if b == 125 then Some (CloseBrace, 1)
-    else if b == 44 then Some (Comma, 1)
-    else if b == 59 then Some (Semicolon, 1)
-    else if b == 58 then Some (Colon, 1)
-    else if b == 42 then Some (Star, 1)
-    else if b == 61 then (if slice_index bs 1 == 61 then None else Some (Equals, 1))
-    else if b == 45 then (if slice_index bs 1 == 62 then Some (Arrow, 2) else None)
-    else if b == 124 then (if (slice_index bs 1 == 45) && (slice_index bs 2 == 62) then Some (PointsTo, 3) else None)
+    if b == 40 then Some OpenRound
+    else if b == 41 then Some CloseRound
+    else if b == 91 then Some OpenSquare
+    else if b == 93 then Some CloseSquare
+    else if b == 123 then Some OpenBrace
+    else if b == 125 then Some CloseBrace
+    else if b == 44 then Some Comma
+    else if b == 59 then Some Semicolon
+    else if b == 58 then Some Colon
+    else if b == 42 then Some Star
+    else if b == 61 then (if slice_index bs 1 == 61 then None else Some Equals)
+    else if b == 45 then (if slice_index bs 1 == 62 then Some Arrow else None)
+    else if b == 124 then (if (slice_index bs 1 == 45) && (slice_index bs 2 == 62) then Some PointsTo else None)
     else None
+
+-- the same with its length
+abbrev pub symbol : List ℕ → Option (Symbol × ℕ)
+symbol bs = option_map (λ s. (s, symbol_length s)) (symbol_at bs)
 
 -- the token at the front, and how long it is
 abbrev pub front_of : List ℕ → Option (Kind × ℕ)
@@ -137,14 +147,18 @@ front_of bs =
     else if begins_number bs then option_map (λ k. (k, number_length bs)) (number (take (number_length bs) bs) (slice_index bs (number_length bs)))
     else option_map (λ s. (Mark s.0, s.1)) (symbol bs)
 
--- the tokens of bytes that begin at a place, where so many bytes of an earlier token are still to come
-abbrev pub tokens_from : (skip : ℕ) → Place → List ℕ → Option (List Token)
-tokens_from skip at [] = Some []
-tokens_from (suc skip) at (b ∷ bs) = tokens_from skip (next_place at b) bs
-tokens_from zero at (b ∷ bs) =
-    if is_blank b then tokens_from 0 (next_place at b) bs
-    else front_of (b ∷ bs) >>= λ t. tokens_from (t.1 - 1) (next_place at b) bs >>= λ ts. Some (record { kind = t.0; place = at } ∷ ts)
+-- the place behind bytes that begin at a place
+abbrev pub place_behind : Place → List ℕ → Place
+place_behind at [] = at
+place_behind at (b ∷ bs) = place_behind (next_place at b) bs
 
--- the tokens of a file
-abbrev pub tokens_of : List ℕ → Option (List Token)
-tokens_of bytes = tokens_from 0 (record { line = 1; column = 1 }) bytes
+-- nothing but blanks
+abbrev pub AreBlank : List ℕ → Type 0
+AreBlank bytes = AllByRecursion (λ b. is_blank b ≡ true) bytes
+
+-- the tokens of bytes that begin at a place: each behind blanks, at the place of its first byte, and the longest at the front of what follows them
+abbrev pub AreTokens : Place → List ℕ → List Token → Type 0
+AreTokens at bytes [] = AreBlank bytes
+AreTokens at bytes (t ∷ ts) =
+    (gap : List ℕ) × (b : ℕ) × (bs : List ℕ) × (n : ℕ) × (bytes ≡ gap ++ b ∷ bs) × AreBlank gap × (is_blank b ≡ false)
+    × (front_of (b ∷ bs) ≡ Some (t.kind, n)) × (t.place ≡ place_behind at gap) × AreTokens (place_behind (place_behind at gap) (take n (b ∷ bs))) (drop n (b ∷ bs)) ts

@@ -10,9 +10,10 @@ ghost use Rattle.sf_core.specs.Formed.{IsFormed};
 ghost use Rattle.sf_core.specs.View.{assertion_of, command_of as command_view, conjunct_of, procedure_of};
 ghost use Rattle.sf_core.specs.Syntax.{Program as ProgramTree};
 ghost use Rattle.sf_core.specs.Whole.{program_of};
+ghost use Rattle.sf_cli.specs.Scan.{first_form};
 ghost use Rattle.sf_cli.specs.Separated.{cut_at};
 ghost use Rattle.sf_cli.specs.Reads.{Reads};
-ghost use Rattle.sf_cli.specs.FirstForm.{OneReading, field_names, number_of, name_alone, expr_of, field_of, parameter, names_of, three_of, five_of, two_first, has_field, value_at, values_of, cell_of, cells_of, begins_with, note_of, note, command_of, commands_of, procedure_in, program_of_one, FirstForm, first_form, place_in};
+ghost use Rattle.sf_cli.specs.FirstForm.{OneReading, field_names, number_of, name_alone, expr_of, field_of, parameter, names_of, three_of, five_of, two_first, has_field, value_at, values_of, cell_of, cells_of, begins_with, note_of, note, command_of, commands_of, procedure_in, program_of_one, FirstForm, place_in};
 
 use crate::reading::fault::ReadFault;
 use crate::reading::token::{Kind, Symbol, Token};
@@ -432,6 +433,16 @@ fn program(alloc: Global, procedure: Proc) -> Result<Program, AllocError>
     })
 }
 
+/// The program that the file is.
+fn form(alloc: Global, bytes: &[u8]) -> Result<Program, ReadFault>
+    requires { length bytes.now ≤ FILE_BYTES }
+    ensures { Reads program_of result (first_form bytes.now) }
+{
+    let tokens = tokens(alloc, bytes)?;
+    let procedure = procedure(alloc, tokens.as_slice())?;
+    Ok(program(alloc, procedure)?)
+}
+
 /// The program that a file of the first form is.
 ///
 /// `NotBuilt` comes exactly where the bytes are no program in this form, and `OutOfMemory` only
@@ -441,9 +452,7 @@ pub fn read(alloc: Global, bytes: &[u8]) -> Result<Program, ReadFault>
     ensures found { IfOk result (λ p. FirstForm bytes.now (program_of p)) }
     ensures refused { IfErr result (λ e. e ≡ ReadFault.NotBuilt → (p : ProgramTree) → FirstForm bytes.now p → ⊥) }
 {
-    let tokens = tokens(alloc, bytes)?;
-    let procedure = procedure(alloc, tokens.as_slice())?;
-    Ok(program(alloc, procedure)?)
+    form(alloc, bytes)
 }
 
 /// No file is two programs.

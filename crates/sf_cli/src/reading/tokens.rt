@@ -1,7 +1,8 @@
 ghost use Rattle.std.specs.Prelude.{◌≡◌, ◌≤◌, ◌<◌, ◌-◌, ◌^◌, drop, length};
 ghost use Rattle.sf_base.specs.declared.limits.TheConstants.{FILE_BYTES};
 ghost use Rattle.sf_cli.specs.Reads.{Reads};
-ghost use Rattle.sf_cli.specs.Tokens.{next_place, tokens_of};
+ghost use Rattle.sf_cli.specs.Scan.{tokens_of};
+ghost use Rattle.sf_cli.specs.Tokens.{next_place};
 
 use crate::reading::fault::ReadFault;
 use crate::reading::front::{front, is_blank};

@@ -1,7 +1,8 @@
 use Rattle.std.proofs.Common.{sym, ◌∙◌, ap, arith, subst, refl, get_or, ◌+◌}
 use Rattle.std.proofs.lemmas.Result.{err_from_is_err_and}
 use Rattle.sf_cli.specs.Reads.{Refuses}
-use Rattle.sf_cli.specs.Tokens.{tokens_of, front_of}
+use Rattle.sf_cli.specs.Scan.{tokens_of}
+use Rattle.sf_cli.specs.Tokens.{front_of}
 use Rattle.sf_cli.proofs.TokenSteps.{skip_step, token_step, stop_step, line_bound, column_bound}
 use Rattle.sf_cli.proofs.reading.tokens.tokens.Goals as goal
 

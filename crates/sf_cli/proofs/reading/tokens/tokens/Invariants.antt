@@ -1,5 +1,5 @@
 use Rattle.std.proofs.Common.{◌≡◌, ◌+◌, ◌≤◌, drop}
-use Rattle.sf_cli.specs.Tokens.{tokens_from, tokens_of}
+use Rattle.sf_cli.specs.Scan.{tokens_from, tokens_of}
 use Rattle.sf_cli.proofs.Fronts.{with_front}
 use Rattle.sf_cli.proofs.reading.tokens.tokens.Given as goal
 
