@@ -28,6 +28,6 @@ pub mod SoundInstance
 pub mod Counts
 pub mod Trees
 pub mod Choosing
-pub mod Verdicts
+pub mod Judging
 pub mod Spelled
 pub mod ReadWhole

@@ -4,7 +4,7 @@ use Rattle.sf_cli.specs.Ends.{EndsAs}
 use Rattle.sf_cli.specs.Table.{first_goal}
 use Rattle.sf_core.specs.View.{procedure_of}
 use Rattle.sf_core.proofs.Lookup.{read_mapped}
-use Rattle.sf_cli.proofs.Verdicts.{judged_next, judged_over, drop_past, judged_stuck, judged_large, judged_all, drop_map}
+use Rattle.sf_cli.proofs.Judging.{judged_next, judged_over, drop_past, judged_stuck, judged_large, judged_all, drop_map}
 use Rattle.sf_cli.proofs.search.verify.Goals as goal
 
 pub search-requires : goal.search-requires

@@ -1,7 +1,7 @@
 use Rattle.std.proofs.Common.{◌≤◌}
 use Rattle.sf_base.specs.declared.limits.TheConstants.{FILE_TAGS}
 use Rattle.sf_core.specs.Whole.{program_of}
-use Rattle.sf_cli.proofs.Verdicts.{Judged}
+use Rattle.sf_cli.proofs.Judging.{Judged}
 use Rattle.sf_cli.proofs.search.verify.Given as goal
 
 abbrev pub invariant-loop-i : goal.invariant-loop-i
