@@ -31,3 +31,5 @@ pub mod Choosing
 pub mod Judging
 pub mod Spelled
 pub mod ReadWhole
+pub mod FormPrograms
+pub mod Replies

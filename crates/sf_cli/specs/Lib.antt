@@ -19,3 +19,4 @@ pub mod Choices
 pub mod Checking
 pub mod SoundInstance
 pub mod Ends
+pub mod Answer

@@ -4,6 +4,7 @@
 mod cells;
 mod check;
 mod reading;
+mod reply;
 mod rules;
 mod soundness;
 mod search;

@@ -65,7 +65,7 @@ fn put_split(text: &mut Vec<u8>, t: Term, u: Term) -> Result<(), AllocError>
 }
 
 /// The name of the procedure of that number, empty where there is none.
-fn name_of(p: &Program, f: ProcId) -> &str
+pub fn name_of(p: &Program, f: ProcId) -> &str
     ensures { result.now ≡ name_of (program_of p.now) f }
 {
     if (f.0 as usize) < p.procedures.len() {

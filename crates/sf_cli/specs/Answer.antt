@@ -1,0 +1,94 @@
+-- Answer: the text and the status that the command gives to its words, over a map of files.
+-- The form of a command's answer is that of The Open Group, "Utility Conventions" (2018); the statuses are this project's own.
+use Rattle.std.specs.Prelude.{◌≡◌, ◌≢◌, ℕ, ◌<◌, ◌≤◌, ◌⊎◌, Option, Some, None, List, ◌++◌, length, codes}
+use Rattle.sf_base.specs.declared.limits.TheConstants.{FILE_BYTES}
+use Rattle.sf_core.specs.Syntax.{Program}
+use Rattle.sf_io.specs.Rose.{Rose}
+use Rattle.sf_io.specs.Shelf.{Files}
+use Rattle.sf_io.specs.Sink.{with_bytes, WrotePart}
+use Rattle.sf_cli.specs.FirstForm.{FirstForm}
+use Rattle.sf_cli.specs.Judge.{Verdict, proof, fails, Judge}
+use Rattle.sf_cli.specs.ProofText.{name_of, proof_text}
+use Rattle.sf_cli.specs.Sound.{IsSound}
+use Rattle.sf_cli.specs.Words.{Text, Order, verify, order_of, usage_text}
+
+-- the verdict on a program, printed
+abbrev pub VerdictAnswer : Program → Verdict → Text → (status : ℕ) → Type 0
+VerdictAnswer p (proof tags) text status = (text ≡ proof_text p tags) × (status ≡ 0)
+VerdictAnswer p (fails f) text status = (text ≡ codes "failed " ++ name_of p f ++ codes "\n") × (status ≡ 1)
+
+-- the answer to a file's bytes: it is too long, or of no form that is built, or there is a verdict on the program that it reads as
+pub data FileAnswer (bytes text : Text) (status : ℕ) : Type 0 where
+  too_long : FILE_BYTES < length bytes → text ≡ codes "file refused: 5 LongFile at 1:1\n" → status ≡ 3 → FileAnswer bytes text status
+  not_built : length bytes ≤ FILE_BYTES → ((p : Program) → FirstForm bytes p → ⊥) → text ≡ codes "file refused: 27 NotBuilt at 1:1\n" → status ≡ 3
+      → FileAnswer bytes text status
+  judged : length bytes ≤ FILE_BYTES → (p : Program) (v : Verdict) → FirstForm bytes p → Judge p v → VerdictAnswer p v text status
+      → FileAnswer bytes text status
+
+-- the answer to a command, where the file that it names is there
+abbrev pub OrderAnswer : Files → Option Order → Text → (status : ℕ) → Type 0
+OrderAnswer files None text status = (text ≡ usage_text) × (status ≡ 2)
+OrderAnswer files (Some (verify name)) text status = (bytes : Text) × (files name ≡ Some bytes) × FileAnswer bytes text status
+
+-- Answer: that text and that status are the answer to those words over those files
+abbrev pub Answer : Files → (words : List Text) → Text → (status : ℕ) → Type 0
+Answer files words text status = OrderAnswer files (order_of words) text status
+
+-- the words name that file
+abbrev pub NamesFile : List Text → Text → Type 0
+NamesFile words name = order_of words ≡ Some (verify name)
+
+-- what is said of a file that can't be read
+abbrev pub read_fault_text : Text → Text
+read_fault_text name = codes "read fault: " ++ name ++ codes "\n"
+
+-- the files may be these: where the shelf tells its files they are just those, and else any
+abbrev pub MayBe : Option Files → Files → Type 0
+MayBe None files = Unit {0}
+MayBe (Some told) files = files ≡ told
+
+-- the answer over the files of a shelf
+abbrev pub Answers : Option Files → (words : List Text) → Text → (status : ℕ) → Type 0
+Answers told words text status = (files : Files) × MayBe told files × Answer files words text status
+
+-- the answer to that file's bytes, over the files of a shelf
+abbrev pub AnswersFile : Option Files → (name : Text) → Text → (status : ℕ) → Type 0
+AnswersFile told name text status = (files : Files) × MayBe told files × (bytes : Text) × (files name ≡ Some bytes) × FileAnswer bytes text status
+
+-- the words name a file of that name, its count of faults rose, and the text says so
+pub record Unread (before after : Text → ℕ) (words : List Text) (text : Text) : Type 0 where
+  pub name : Text
+  pub named : NamesFile words name
+  pub rose : Rose (before name) (after name)
+  pub text_is : text ≡ read_fault_text name
+
+-- what the command may say: an answer with its status, or that its file can't be read
+pub data Reply (told : Option Files) (before after : Text → ℕ) (words : List Text) (text : Text) (status : ℕ) : Type 0 where
+  answer : status < 7 → Answers told words text status → Reply told before after words text status
+  unread : status ≡ 7 → Unread before after words text → Reply told before after words text status
+
+-- nothing was written, or a first part of something that the command may say
+abbrev pub WroteSome : Option Files → (before after : Text → ℕ) → List Text → (old new : Option Text) → Type 0
+WroteSome told before after words old new =
+    (new ≡ old) ⊎ ((text : Text) × (status : ℕ) × Reply told before after words text status × WrotePart old new text)
+
+-- these bytes are those of a program that is sound
+pub record AcceptedBytes (bytes : Text) : Type 0 where
+  pub within : length bytes ≤ FILE_BYTES
+  pub program : Program
+  pub reads : FirstForm bytes program
+  pub sound : IsSound program
+
+-- a file of that name is there, and what it reads as is sound
+pub record AcceptsFile (told : Option Files) (name : Text) : Type 0 where
+  pub files : Files
+  pub may_be : MayBe told files
+  pub bytes : Text
+  pub there : files name ≡ Some bytes
+  pub accepted : AcceptedBytes bytes
+
+-- the command accepted: the words name a file, and it is so with that
+pub record Accepted (told : Option Files) (words : List Text) : Type 0 where
+  pub name : Text
+  pub named : NamesFile words name
+  pub file : AcceptsFile told name

@@ -1,0 +1,129 @@
+//! What the command says, and with which status.
+
+ghost use Rattle.std.specs.Prelude.{◌≡◌, ◌<◌, ◌≤◌, ◌++◌, List, IfOk, codes};
+ghost use Rattle.sf_core.specs.Whole.{program_of};
+ghost use Rattle.sf_sym.specs.declared.tag.Tag.{Tag as TagOf};
+ghost use Rattle.sf_io.specs.Rose.{Rose};
+ghost use Rattle.sf_cli.specs.Answer.{Accepted, AcceptedBytes, AcceptsFile, AnswersFile, FileAnswer, Reply, VerdictAnswer, read_fault_text};
+ghost use Rattle.sf_cli.specs.Judge.{Verdict, Judge};
+ghost use Rattle.sf_cli.specs.Proves.{Proves};
+ghost use Rattle.sf_cli.specs.Words.{Text};
+ghost use Rattle.sf_cli.specs.WordsOf.{words_of};
+
+use crate::check::check;
+use crate::reading::ReadFault;
+use crate::reading::first_form::read;
+use crate::search::{VerifyFault, verify};
+use crate::soundness::proved_programs_are_sound;
+use crate::text::{name_of, proof_text};
+use crate::verdicts::verdicts_prove;
+use crate::words::{Order, USAGE, read_order};
+use sf_base::limits::FILE_BYTES;
+use sf_core::Program;
+use sf_io::{FetchFault, Shelf};
+use std::alloc::{AllocError, Global};
+
+/// What is said, and the status that goes with it.
+#[derive(Debug, Drop)]
+pub struct Said {
+    /// The whole text, with its last line feed.
+    pub text: Vec<u8>,
+    /// The status.
+    pub status: u8,
+}
+
+/// That text, with that status.
+fn say(alloc: Global, text: &str, status: u8) -> Result<Said, AllocError>
+    ensures { IfOk result (λ said. (said.text.items ≡ text.now) × (said.status ≡ status)) }
+{
+    Ok(Said {
+        text: Vec::from_slice(alloc, text.as_bytes())?,
+        status,
+    })
+}
+
+/// That text, a name behind it and a line feed, with that status.
+fn say_of(alloc: Global, text: &str, name: &str, status: u8) -> Result<Said, AllocError>
+    ensures { IfOk result (λ said. (said.text.items ≡ text.now ++ name.now ++ codes "\n") × (said.status ≡ status)) }
+{
+    let mut line = Vec::from_slice(alloc, text.as_bytes())?;
+    line.extend_from_slice(name.as_bytes())?;
+    line.extend_from_slice(b"\n")?;
+    Ok(Said { text: line, status })
+}
+
+/// The verdict on a program, printed. The tags that the search found are accepted by the checker
+/// before they are printed.
+fn judged(alloc: Global, p: &Program) -> Result<Said, AllocError>
+    ensures answered { IfOk result (λ said. (v : Verdict) × Judge (program_of p.now) v × VerdictAnswer (program_of p.now) v said.text.items said.status) }
+    ensures accepted { IfOk result (λ said. said.status ≡ 0 → (tags : List TagOf) × Proves (program_of p.now) tags) }
+{
+    match verify(alloc, p) {
+        Ok(tags) => {
+            verdicts_prove();
+            if !check(alloc, p, tags.as_slice())? {
+                unreachable!();
+            }
+            Ok(Said {
+                text: proof_text(alloc, p, tags.as_slice())?,
+                status: 0,
+            })
+        }
+        Err(VerifyFault::Failed(f)) => say_of(alloc, "failed ", name_of(p, f), 1),
+        Err(VerifyFault::OutOfMemory) => Err(AllocError),
+    }
+}
+
+/// The answer to a file's bytes, of which those past the limit don't matter.
+fn answer_to_bytes(alloc: Global, bytes: &[u8]) -> Result<Said, AllocError>
+    ensures answered { IfOk result (λ said. FileAnswer bytes.now said.text.items said.status) }
+    ensures accepted { IfOk result (λ said. said.status ≡ 0 → AcceptedBytes bytes.now) }
+{
+    if bytes.len() > FILE_BYTES {
+        return say(alloc, "file refused: 5 LongFile at 1:1\n", 3);
+    }
+    match read(alloc, bytes) {
+        Ok(program) => {
+            proved_programs_are_sound();
+            judged(alloc, &program)
+        }
+        Err(ReadFault::NotBuilt) => say(alloc, "file refused: 27 NotBuilt at 1:1\n", 3),
+        Err(ReadFault::OutOfMemory) => Err(AllocError),
+    }
+}
+
+/// The answer to a file's name. The fetch asks for one byte more than a file may have, so that one
+/// that is too long is seen to be.
+fn answer_to_file<S: Shelf>(alloc: Global, name: &str, shelf: &mut S) -> Result<Said, AllocError>
+    ensures status { IfOk result (λ said. said.status < 8) }
+    ensures answered { IfOk result (λ said. said.status < 7 → AnswersFile (S.files shelf.old) name.now said.text.items said.status) }
+    ensures unread { IfOk result (λ said. said.status ≡ 7 → Rose (S.faults shelf.old name.now) (S.faults shelf.new name.now) × (said.text.items ≡ read_fault_text name.now)) }
+    ensures accepted { IfOk result (λ said. said.status ≡ 0 → AcceptsFile (S.files shelf.old) name.now) }
+    ensures files { S.files shelf.new ≡ S.files shelf.old }
+    ensures counts { (any : Text) → S.faults shelf.old any ≤ S.faults shelf.new any }
+{
+    let mut bytes = Vec::new(alloc);
+    match shelf.fetch(name, FILE_BYTES + 1, &mut bytes) {
+        Ok(()) => answer_to_bytes(alloc, bytes.as_slice()),
+        Err(FetchFault::Failed) => say_of(alloc, "read fault: ", name, 7),
+        Err(FetchFault::OutOfMemory) => Err(AllocError),
+    }
+}
+
+/// What the command says to its words. An `Err` is want of memory.
+pub fn respond<S: Shelf>(
+    alloc: Global,
+    words: &[&str],
+    shelf: &mut S,
+) -> Result<Said, AllocError>
+    ensures status { IfOk result (λ said. said.status < 8) }
+    ensures said { IfOk result (λ said. Reply (S.files shelf.old) (S.faults shelf.old) (S.faults shelf.new) (words_of words.now) said.text.items said.status) }
+    ensures accepted { IfOk result (λ said. said.status ≡ 0 → Accepted (S.files shelf.old) (words_of words.now)) }
+    ensures files { S.files shelf.new ≡ S.files shelf.old }
+    ensures counts { (any : Text) → S.faults shelf.old any ≤ S.faults shelf.new any }
+{
+    match read_order(words) {
+        None => say(alloc, USAGE, 2),
+        Some(Order::Verify(name)) => answer_to_file(alloc, name, shelf),
+    }
+}
