@@ -6,16 +6,63 @@ mod check;
 mod reading;
 mod reply;
 mod rules;
-mod soundness;
 mod search;
+mod soundness;
 mod strategy;
 mod terms;
+#[cfg(test)]
+mod tests;
 mod text;
 mod todo;
+mod top;
 mod verdicts;
 mod words;
 
-fn main(rt: HostRuntime) {
-    let _ = rt.alloc();
-    let _ = words::read_order(&[]);
+use sf_io::{FileShelf, OpenGate, StdSink};
+use std::alloc::{AllocError, Global};
+use std::process::ExitCode;
+use std::{env, io};
+
+/// The status where memory ran out.
+const OUT_OF_MEMORY: u8 = 9;
+
+/// The words behind the program's name.
+fn words_of(rt: &HostRuntime) -> io::Result<Vec<String>> {
+    let mut words = Vec::new(rt.alloc());
+    for word in env::args(rt)?.skip(1) {
+        words.push(word)?;
+    }
+    Ok(words)
+}
+
+/// The words as texts that others own.
+fn borrowed<'a>(alloc: Global, words: &'a [String]) -> Result<Vec<&'a str>, AllocError> {
+    let mut texts = Vec::with_capacity(alloc, words.len())?;
+    for word in words {
+        texts.push(word.as_str())?;
+    }
+    Ok(texts)
+}
+
+fn main(rt: HostRuntime) -> ExitCode {
+    let alloc = rt.alloc();
+    let words = match words_of(&rt) {
+        Ok(words) => words,
+        Err(e) if e.kind() == io::ErrorKind::OutOfMemory => return ExitCode::from(OUT_OF_MEMORY),
+        // Words that aren't text are no command, as no words at all are.
+        Err(_) => Vec::new(alloc),
+    };
+    let Ok(texts) = borrowed(alloc, words.as_slice()) else {
+        return ExitCode::from(OUT_OF_MEMORY);
+    };
+    let mut shelf = FileShelf::new(&rt, alloc);
+    let mut sink = StdSink::new(&rt);
+    ExitCode::from(top::smallfoot(
+        &rt,
+        alloc,
+        texts.as_slice(),
+        &mut shelf,
+        &mut sink,
+        &OpenGate,
+    ))
 }

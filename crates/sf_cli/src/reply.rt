@@ -111,11 +111,7 @@ fn answer_to_file<S: Shelf>(alloc: Global, name: &str, shelf: &mut S) -> Result<
 }
 
 /// What the command says to its words. An `Err` is want of memory.
-pub fn respond<S: Shelf>(
-    alloc: Global,
-    words: &[&str],
-    shelf: &mut S,
-) -> Result<Said, AllocError>
+pub fn respond<S: Shelf>(alloc: Global, words: &[&str], shelf: &mut S) -> Result<Said, AllocError>
     ensures status { IfOk result (λ said. said.status < 8) }
     ensures said { IfOk result (λ said. Reply (S.files shelf.old) (S.faults shelf.old) (S.faults shelf.new) (words_of words.now) said.text.items said.status) }
     ensures accepted { IfOk result (λ said. said.status ≡ 0 → Accepted (S.files shelf.old) (words_of words.now)) }

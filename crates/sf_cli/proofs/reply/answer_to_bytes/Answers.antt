@@ -17,14 +17,14 @@ returns-in-Ok-clause-accepted c =
     let reads = c.in-Ok.ensures.found in
     let short : length c.args.bytes.now ≤ FILE_BYTES = omega arith in
     answered-ok c.judged.result _ _
-      (λ said k zero. let t = k zero in
-        record {
-          within = short;
-          program = p;
-          reads = reads;
-          sound = c.proved_programs_are_sound.ensures p t.0 c.in-Ok.program.formed (form-no_resources c.args.bytes.now p reads) t.1;
-        })
-      c.judged.ensures.accepted
+    (λ said k zero. let t = k zero in
+    record {
+      within = short;
+      program = p;
+      reads = reads;
+      sound = c.proved_programs_are_sound.ensures p t.0 c.in-Ok.program.formed (form-no_resources c.args.bytes.now p reads) t.1;
+    })
+    c.judged.ensures.accepted
 
 pub returns-in-Err-NotBuilt-clause-answered : goal.returns-in-Err-NotBuilt-clause-answered
 returns-in-Err-NotBuilt-clause-answered c =

@@ -13,8 +13,8 @@ returns-in-Ok-clause-answered g c =
     let name = c.args.name.now in
     let out = c.fetch.new.out.items in
     let got : Fetched told name out = fetched-ok told name out
-      (subst (λ (z : Text). IfSome told (λ all. IsSomeAnd (all name) (λ bytes. out ≡ z ++ take (FILE_BYTES + 1) bytes))) c.new-bytes.ensures.items c.in-Ok.ensures.told)
-      (subst (λ (z : Text). GrewAtMost (FILE_BYTES + 1) z out) c.new-bytes.ensures.items c.in-Ok.ensures.appended) in
+    (subst (λ (z : Text). IfSome told (λ all. IsSomeAnd (all name) (λ bytes. out ≡ z ++ take (FILE_BYTES + 1) bytes))) c.new-bytes.ensures.items c.in-Ok.ensures.told)
+    (subst (λ (z : Text). GrewAtMost (FILE_BYTES + 1) z out) c.new-bytes.ensures.items c.in-Ok.ensures.appended) in
     let same : Fetched told name c.as_slice.result.now = subst (λ (z : Text). Fetched told name z) (sym c.as_slice.ensures.value) got in
     answered-ok c.answer_to_bytes.result _ _ (λ said k less. fetched-answers told name c.as_slice.result.now said.text.items said.status same k) c.answer_to_bytes.ensures.answered
 
@@ -24,7 +24,7 @@ returns-in-Ok-clause-accepted g c =
     let name = c.args.name.now in
     let out = c.fetch.new.out.items in
     let got : Fetched told name out = fetched-ok told name out
-      (subst (λ (z : Text). IfSome told (λ all. IsSomeAnd (all name) (λ bytes. out ≡ z ++ take (FILE_BYTES + 1) bytes))) c.new-bytes.ensures.items c.in-Ok.ensures.told)
-      (subst (λ (z : Text). GrewAtMost (FILE_BYTES + 1) z out) c.new-bytes.ensures.items c.in-Ok.ensures.appended) in
+    (subst (λ (z : Text). IfSome told (λ all. IsSomeAnd (all name) (λ bytes. out ≡ z ++ take (FILE_BYTES + 1) bytes))) c.new-bytes.ensures.items c.in-Ok.ensures.told)
+    (subst (λ (z : Text). GrewAtMost (FILE_BYTES + 1) z out) c.new-bytes.ensures.items c.in-Ok.ensures.appended) in
     let same : Fetched told name c.as_slice.result.now = subst (λ (z : Text). Fetched told name z) (sym c.as_slice.ensures.value) got in
     answered-ok c.answer_to_bytes.result _ _ (λ said k zero. fetched-accepted told name c.as_slice.result.now same (k zero)) c.answer_to_bytes.ensures.accepted

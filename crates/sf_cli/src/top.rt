@@ -1,0 +1,77 @@
+//! The top call.
+
+ghost use Rattle.std.specs.Prelude.{◌≡◌, ◌≢◌, ◌≤◌, ◌<◌, ◌⊎◌, List};
+ghost use Rattle.sf_io.specs.Rose.{Rose};
+ghost use Rattle.sf_io.specs.Sink.{with_bytes, WrotePart};
+ghost use Rattle.sf_cli.specs.Answer.{Accepted, Answers, Unread, WroteSome};
+ghost use Rattle.sf_cli.specs.Words.{Text};
+ghost use Rattle.sf_cli.specs.WordsOf.{words_of};
+
+use crate::reply::{Said, respond};
+use sf_io::{Gate, Shelf, Sink, SinkFault, put_all};
+use std::alloc::Global;
+use std::sync::Wait;
+use std::thread::Threads;
+
+/// The status where the sink can't be written to.
+const WRITE_FAULT: u8 = 8;
+/// The status where memory ran out.
+const OUT_OF_MEMORY: u8 = 9;
+
+/// Puts what is said, whole, and gives its status; or the status of what kept it from that.
+fn tell<K: Sink>(sink: &mut K, said: &Said) -> u8
+    requires { said.now.status < 8 }
+    ensures whole { result < 8 → (result ≡ said.now.status) × (K.written sink.new ≡ with_bytes (K.written sink.old) said.now.text.items) }
+    ensures part { 8 ≤ result → WrotePart (K.written sink.old) (K.written sink.new) said.now.text.items }
+    ensures failed { result ≡ 8 → Rose (K.faults sink.old) (K.faults sink.new) }
+    ensures last { result ≤ 9 }
+    ensures counts { K.faults sink.old ≤ K.faults sink.new }
+{
+    match put_all(sink, said.text.as_slice()) {
+        Ok(()) => said.status,
+        Err(SinkFault::Failed) => WRITE_FAULT,
+        Err(SinkFault::OutOfMemory) => OUT_OF_MEMORY,
+    }
+}
+
+/// Does all that the program does, and gives the status with which it ends.
+///
+/// The words are those behind the program's name. Files come from the shelf, the answer goes to the
+/// sink, whole or, at status 8 or 9, no further than some first part of it. The statuses are 0 where
+/// the program is proved, 1 where a procedure fails, 2 where the words are no command, 3 where the
+/// file is refused, 7 where the shelf failed, 8 where the sink did, and 9 where memory ran out. Where
+/// no count of faults rises, the answer is the one that is due, whole, or memory ran out.
+///
+/// The runtime and the gate are for commands that run programs in threads, which aren't here yet: no
+/// thread is started and nothing waits.
+pub fn smallfoot<'a, R: Threads + Wait + Sync, S: Shelf, K: Sink, G: Gate>(
+    rt: &R,
+    alloc: Global,
+    words: &'a [&'a str],
+    shelf: &mut S,
+    sink: &mut K,
+    gate: &G,
+) -> u8
+    // The answer that is due, whole, over files that the shelf's may be.
+    ensures answers { result < 7 → (text : Text) × (K.written sink.new ≡ with_bytes (K.written sink.old) text) × Answers (S.files shelf.old) (words_of words.now) text result }
+    // The file that the words name couldn't be read: its count of faults rose.
+    ensures unread { result ≡ 7 → (text : Text) × (K.written sink.new ≡ with_bytes (K.written sink.old) text) × Unread (S.faults shelf.old) (S.faults shelf.new) (words_of words.now) text }
+    // The sink's count of faults rose.
+    ensures unwritten { result ≡ 8 → Rose (K.faults sink.old) (K.faults sink.new) }
+    // The bytes put are none, or a first part of what may be said.
+    ensures part { 8 ≤ result → WroteSome (S.files shelf.old) (S.faults shelf.old) (S.faults shelf.new) (words_of words.now) (K.written sink.old) (K.written sink.new) }
+    ensures statuses { (result ≤ 3) ⊎ ((7 ≤ result) × (result ≤ 9)) }
+    // Over a shelf or a sink that never counts a fault there is none.
+    ensures no_read_fault { ((name : Text) → S.faults shelf.new name ≡ 0) → result ≢ 7 }
+    ensures no_write_fault { K.faults sink.new ≡ 0 → result ≢ 8 }
+    // What is accepted is sound: whatever runs of it there are, each configuration is good.
+    ensures accepted { result ≡ 0 → Accepted (S.files shelf.old) (words_of words.now) }
+    ensures files { S.files shelf.new ≡ S.files shelf.old }
+{
+    let _ = rt;
+    let _ = gate;
+    match respond(alloc, words, shelf) {
+        Ok(said) => tell(sink, &said),
+        Err(_) => OUT_OF_MEMORY,
+    }
+}
