@@ -1,5 +1,5 @@
 -- What an answer of the pass says of the form.
-use Rattle.std.proofs.Common.{◌≡◌, List, ℕ, IfOk, IfErr, sym, subst}
+use Rattle.std.proofs.Common.{◌≡◌, List, ℕ, IfOk, IfErr}
 use Rattle.std.specs.declared.result.Result.{Result}
 use Rattle.std.specs.declared.result.Result.TheVariants.{Ok, Err}
 use Rattle.sf_core.specs.declared.program.Program.{Program as CodeProgram}
@@ -8,7 +8,7 @@ use Rattle.sf_core.specs.Whole.{program_of}
 use Rattle.sf_cli.specs.declared.reading.fault.ReadFault.{ReadFault}
 use Rattle.sf_cli.specs.declared.reading.fault.ReadFault.TheVariants.{NotBuilt, OutOfMemory}
 use Rattle.sf_cli.specs.FirstForm.{FirstForm}
-use Rattle.sf_cli.specs.Reads.{Reads, Refuses}
+use Rattle.sf_cli.specs.Reads.{Reads}
 use Rattle.sf_cli.specs.Scan.{first_form}
 use Rattle.sf_cli.proofs.Spelled.{form_is, none_found}
 

@@ -1,7 +1,7 @@
 -- The one pass over the bytes finds just the tokens that they are.
-use Rattle.std.proofs.Common.{◌≡◌, ◌<◌, ◌+◌, ◌-◌, ◌==◌, ◌&&◌, ◌||◌, ℕ, zero, suc, List, [], ◌∷◌, ◌++◌, length, take, drop, Bool, true, false, cond, Option, Some, None, refl, ap, sym, subst, ◌∙◌, arith}
+use Rattle.std.proofs.Common.{◌≡◌, ◌<◌, ◌+◌, ◌-◌, ◌==◌, ℕ, zero, suc, List, [], ◌∷◌, ◌++◌, take, drop, Bool, true, false, cond, Some, None, refl, ap, sym, subst, ◌∙◌, arith}
 use Rattle.std.proofs.lemmas.Bool.Decides.{nat_tests}
-use Rattle.std.specs.List.{AllByRecursion, prefix_len, slice_index}
+use Rattle.std.specs.List.{prefix_len, slice_index}
 use Rattle.std.specs.Option.{option_map}
 use Rattle.sf_base.specs.declared.place.Place.{Place}
 use Rattle.sf_core.specs.Syntax.{Program}
@@ -15,8 +15,8 @@ use Rattle.sf_cli.specs.Scan.{tokens_from, tokens_of, first_form}
 use Rattle.sf_cli.specs.Tokens.{◌>>=◌, is_blank, is_letter, is_digit, is_word_byte, begins_number, number, number_length, word, word_length, symbol, symbol_at, symbol_length, front_of, next_place, place_behind, AreBlank, AreTokens}
 use Rattle.sf_cli.proofs.FormedForm.{bind_some, map_some, from_some}
 use Rattle.sf_cli.proofs.Fronts.{with_front}
-use Rattle.sf_cli.proofs.Numerals.{no_minus, or_left, and_false}
-use Rattle.sf_cli.proofs.TokenSteps.{blank, stops, goes}
+use Rattle.sf_cli.proofs.Numerals.{or_left, and_false}
+use Rattle.sf_cli.proofs.TokenSteps.{blank, goes}
 
 -- a token has at least one byte
 some_symbol : (s : Symbol) → 0 < symbol_length s

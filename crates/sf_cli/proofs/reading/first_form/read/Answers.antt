@@ -1,4 +1,3 @@
-use Rattle.std.proofs.Common.{◌≡◌}
 use Rattle.sf_cli.proofs.ReadWhole.{found, refused}
 use Rattle.sf_cli.proofs.reading.first_form.read.Goals as goal
 
