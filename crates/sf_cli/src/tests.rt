@@ -29,10 +29,7 @@ fn said<R: Threads + Wait + Sync>(
 ) -> Result<(String, u8), Fail> {
     let mut sink = MemSink::new(alloc, usize::MAX);
     let status = smallfoot(rt, alloc, words, shelf, &mut sink, &OpenGate);
-    Ok((
-        String::from_utf8_lossy(alloc, sink.bytes())?,
-        status,
-    ))
+    Ok((String::from_utf8_lossy(alloc, sink.bytes())?, status))
 }
 
 /// What `verify` says to a file of those bytes.
