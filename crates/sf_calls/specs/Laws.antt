@@ -1,0 +1,29 @@
+-- The sets are least: closed under their rules, and contained in every family that is.
+-- What an inductive definition states, after Tarski, "A lattice-theoretical fixpoint theorem" (1955). Families are given by tests.
+use Rattle.std.specs.Prelude.{Bool, IsTrue, None}
+use Rattle.sf_base.specs.declared.ids.ProcId.{ProcId}
+use Rattle.sf_base.specs.declared.ids.ResId.{ResId}
+use Rattle.sf_base.specs.declared.ids.Var.{Var}
+use Rattle.sf_core.specs.Syntax.{Program}
+use Rattle.sf_calls.specs.Conditions.{Calls, Enters, Mentions, Takes, Free, IsShared}
+use Rattle.sf_calls.specs.Outside.{owner}
+
+-- the rules of Takes, for a family of sets
+pub record IsTakesClosed (p : Program) (T : ProcId → ResId → Type 0) : Type 0 where
+  pub enters : (f : ProcId) (r : ResId) → Enters p r f → T f r
+  pub calls : (f g : ProcId) (r : ResId) → Calls p None f g → T g r → T f r
+
+-- the rules of Free, for a family of sets
+pub record IsFreeClosed (p : Program) (T : ProcId → Var → Type 0) : Type 0 where
+  pub mentions : (f : ProcId) (x : Var) → IsShared x → Mentions p x f → T f x
+  pub calls : (f g : ProcId) (x : Var) → IsShared x → Calls p (owner x) f g → T g x → T f x
+
+-- Takes is closed, and contained in every closed family
+pub record TakesIsLeast : Type 0 where
+  pub closed : (p : Program) → IsTakesClosed p (Takes p)
+  pub least : (p : Program) (T : ProcId → ResId → Bool) → IsTakesClosed p (λ f r. IsTrue (T f r)) → (f : ProcId) (r : ResId) → Takes p f r → IsTrue (T f r)
+
+-- Free is closed, and contained in every closed family
+pub record FreeIsLeast : Type 0 where
+  pub closed : (p : Program) → IsFreeClosed p (Free p)
+  pub least : (p : Program) (T : ProcId → Var → Bool) → IsFreeClosed p (λ f x. IsTrue (T f x)) → (f : ProcId) (x : Var) → Free p f x → IsTrue (T f x)

@@ -1,0 +1,5 @@
+//! What a call of a procedure may enter, hold and use: the least sets on which the conditions on
+//! variables stand.
+#![tactic(auto)]
+
+mod occurs;
