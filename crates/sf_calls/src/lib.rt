@@ -2,4 +2,9 @@
 //! variables stand.
 #![tactic(auto)]
 
+pub mod set;
+
 mod occurs;
+mod outside;
+
+pub use set::{ResSet, Set, VarSet};

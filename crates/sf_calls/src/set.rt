@@ -1,0 +1,48 @@
+ghost use Rattle.std.specs.Prelude.{◌≡◌, length};
+
+use sf_base::{ResId, Var};
+use std::marker::Model;
+
+/// A list in order of number and without repeats. Contracts see the list.
+#[derive(Debug, Drop)]
+pub struct Set<T> {
+    items: Vec<T>,
+}
+
+/// Resources, in order of number.
+pub type ResSet = Set<ResId>;
+
+/// Variables: own ones in order of number, and behind them those of resources, by the resource and
+/// then by their number there.
+pub type VarSet = Set<Var>;
+
+impl<T> Model for Set<T> {
+    ghost use Rattle.std.specs.Prelude.{List};
+
+    ghost Value = { List T };
+
+    ghost view = { λ s. s.items.items };
+}
+
+impl<T> Set<T> {
+    /// The set of those elements, which are in order and differ.
+    pub(crate) fn from_ordered(items: Vec<T>) -> Set<T>
+        ensures { result ≡ items.items }
+    {
+        Set { items }
+    }
+
+    /// The elements, in order.
+    pub fn as_slice(&self) -> &[T]
+        ensures { result.now ≡ self.now }
+    {
+        self.items.as_slice()
+    }
+
+    /// How many there are.
+    pub fn len(&self) -> usize
+        ensures { result ≡ length self.now }
+    {
+        self.items.len()
+    }
+}
