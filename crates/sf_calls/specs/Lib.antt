@@ -5,3 +5,4 @@ pub mod Sets
 pub mod Assigned
 pub mod Tests
 pub mod Laws
+pub mod Marks
