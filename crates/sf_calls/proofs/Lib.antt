@@ -1,1 +1,4 @@
 pub mod Searches
+pub mod Decided
+pub mod Within
+pub mod CallGraph

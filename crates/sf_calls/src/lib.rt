@@ -4,6 +4,7 @@
 
 pub mod set;
 
+mod callers;
 mod leading;
 mod occurs;
 mod outside;

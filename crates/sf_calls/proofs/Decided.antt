@@ -1,0 +1,174 @@
+-- Each test decides its relation.
+use Rattle.std.proofs.Common.{◌≡◌, ◌≢◌, ◌⊎◌, ◌↔◌, ◌<◌, arith, ℕ, ◌==◌, Bool, true, false, cond, ◌&&◌, ◌||◌, not, List, [], ◌∷◌, ◌++◌, Option, Some, None, Contains, refl, sym, ap, ◌∙◌, inl, inr, subst}
+use Rattle.std.specs.Bool.{Decides}
+use Rattle.std.proofs.lemmas.Bool.Decides.{Decides-eqb, Decides-or, Decides-and, Decides-not}
+use Rattle.std.proofs.lemmas.List.Elements.{Contains-append_cases, Contains-append_left, Contains-append_right}
+use Rattle.sf_base.specs.declared.ids.FieldId.{FieldId}
+use Rattle.sf_base.specs.declared.ids.ProcId.{ProcId}
+use Rattle.sf_base.specs.declared.ids.ResId.{ResId}
+use Rattle.sf_base.specs.declared.ids.Var.{Var}
+use Rattle.sf_base.specs.declared.ids.Var.TheVariants.{Own, Shared}
+use Rattle.sf_core.specs.declared.assertion.Operand.{Operand}
+use Rattle.sf_core.specs.declared.assertion.Operand.TheVariants.{Known, Exists}
+use Rattle.sf_core.specs.declared.assertion.Test.{Test}
+use Rattle.sf_core.specs.declared.assertion.Test.TheVariants.{True, Equal, Differ}
+use Rattle.sf_core.specs.declared.command.Expr.{Expr}
+use Rattle.sf_core.specs.declared.command.Expr.TheVariants.{Var as Variable, Nil, Int}
+use Rattle.sf_core.specs.declared.command.Occurrence.{Occurrence}
+use Rattle.sf_core.specs.HeldBy.{OccursInExpr, OccursInOperand, OccursInTest as OccursInCondition, OccursInFields, OccursIn, OccursInAny, OccursInOne}
+use Rattle.sf_core.specs.Syntax.{Conjunct, holds, points, segment, tree, choose, Level, level, Conjuncts, none, also, Call, Command, assign, look_up, mutate, new, dispose, if, while, call, fork, with, Block, done, then}
+use Rattle.sf_calls.specs.Outside.{owner, IsOther, OccursInTest, IsAmong, OccursInValues, OccursInCall, OccursOutside, OccursInCommand, CallsIn, CallsInCommand, EntersIn, EntersInCommand}
+use Rattle.sf_calls.specs.Tests.{same_var, is_other, in_expr, in_operand, in_condition, in_fields, in_level, in_conjuncts, in_conjunct, in_test, in_references, in_values, in_call, in_block, in_command, callees_in, callees_of, enters_in, enters_of}
+use Rattle.sf_calls.proofs.Searches.{one_of, only_one}
+
+-- what never holds
+never : Decides false ⊥
+never = (λ e. absurd (cc), λ h. absurd h)
+
+abbrev resource : ℕ → ResId
+resource n = record { 0 = n }
+
+pub same_resource : (r q : ResId) → Decides (r.0 == q.0) (r ≡ q)
+same_resource r q = (λ e. ap resource ((Decides-eqb r.0 q.0).0 e), λ e. (Decides-eqb r.0 q.0).1 (ap (λ (k : ResId). k.0) e))
+
+pub var_is : (x y : Var) → Decides (same_var x y) (x ≡ y)
+var_is (Own i) (Own j) = (λ e. ap Own ((Decides-eqb i j).0 e), λ e. (Decides-eqb i j).1 (let s : i ≡ j = cc in s))
+var_is (Own i) (Shared s j) = (λ e. absurd (cc), λ e. absurd (cc))
+var_is (Shared r i) (Own j) = (λ e. absurd (cc), λ e. absurd (cc))
+var_is (Shared r i) (Shared s j) = (λ e. to ((Decides-and (r.0 == s.0) (i == j) (same_resource r s) (Decides-eqb i j)).0 e), λ e. (Decides-and (r.0 == s.0) (i == j) (same_resource r s) (Decides-eqb i j)).1 (from e))
+  where
+    to : (r ≡ s) × (i ≡ j) → Shared r i ≡ Shared s j
+    to h = let a : r ≡ s = h.0 in let b : i ≡ j = h.1 in cc
+
+    from : Shared r i ≡ Shared s j → (r ≡ s) × (i ≡ j)
+    from e = (let a : r ≡ s = cc in a, let b : i ≡ j = cc in b)
+
+pub other_is : (but : Option ResId) (q : ResId) → Decides (is_other but q) (IsOther but q)
+other_is None q = (λ e. tt, λ h. refl)
+other_is (Some r) q = Decides-not (q.0 == r.0) (same_resource q r)
+
+pub in_expr_is : (x : Var) (e : Expr) → Decides (in_expr x e) (OccursInExpr x e)
+in_expr_is x (Variable y) = var_is y.var x
+in_expr_is x Nil = never
+in_expr_is x (Int i) = never
+
+pub in_operand_is : (x : Var) (o : Operand Expr) → Decides (in_operand x o) (OccursInOperand x o)
+in_operand_is x (Known e) = in_expr_is x e
+in_operand_is x (Exists n) = never
+
+pub in_condition_is : (x : Var) (t : Test (Operand Expr)) → Decides (in_condition x t) (OccursInCondition x t)
+in_condition_is x True = never
+in_condition_is x (Equal a b) = Decides-or _ _ (in_operand_is x a) (in_operand_is x b)
+in_condition_is x (Differ a b) = Decides-or _ _ (in_operand_is x a) (in_operand_is x b)
+
+pub in_fields_is : (x : Var) (fs : List (FieldId × Operand Expr)) → Decides (in_fields x fs) (OccursInFields x fs)
+in_fields_is x [] = never
+in_fields_is x (f ∷ fs) = Decides-or _ _ (in_operand_is x f.1) (in_fields_is x fs)
+
+mutual
+  pub in_level_is : (x : Var) (a : Level Expr) → Decides (in_level x a) (OccursIn x a)
+  in_level_is x (level made cs) = in_conjuncts_is x cs
+
+  pub in_conjuncts_is : (x : Var) (cs : Conjuncts Expr) → Decides (in_conjuncts x cs) (OccursInAny x cs)
+  in_conjuncts_is x none = never
+  in_conjuncts_is x (also c cs) = Decides-or _ _ (in_conjunct_is x c) (in_conjuncts_is x cs)
+
+  pub in_conjunct_is : (x : Var) (c : Conjunct Expr) → Decides (in_conjunct x c) (OccursInOne x c)
+  in_conjunct_is x (holds place t) = in_condition_is x t
+  in_conjunct_is x (points place root fs) = Decides-or _ _ (in_operand_is x root) (in_fields_is x fs)
+  in_conjunct_is x (segment place f from to) = Decides-or _ _ (in_operand_is x from) (in_operand_is x to)
+  in_conjunct_is x (tree place l r root) = in_operand_is x root
+  in_conjunct_is x (choose place t this that) = Decides-or _ _ (in_condition_is x t) (Decides-or _ _ (in_level_is x this) (in_level_is x that))
+
+pub in_test_is : (x : Var) (t : Test Expr) → Decides (in_test x t) (OccursInTest x t)
+in_test_is x True = never
+in_test_is x (Equal a b) = Decides-or _ _ (in_expr_is x a) (in_expr_is x b)
+in_test_is x (Differ a b) = Decides-or _ _ (in_expr_is x a) (in_expr_is x b)
+
+pub in_references_is : (x : Var) (ys : List Occurrence) → Decides (in_references x ys) (IsAmong x ys)
+in_references_is x [] = never
+in_references_is x (y ∷ ys) = Decides-or _ _ (var_is y.var x) (in_references_is x ys)
+
+pub in_values_is : (x : Var) (es : List Expr) → Decides (in_values x es) (OccursInValues x es)
+in_values_is x [] = never
+in_values_is x (e ∷ es) = Decides-or _ _ (in_expr_is x e) (in_values_is x es)
+
+pub in_call_is : (x : Var) (c : Call) → Decides (in_call x c) (OccursInCall x c)
+in_call_is x c = Decides-or _ _ (in_references_is x c.references) (in_values_is x c.values)
+
+mutual
+  pub in_block_is : (x : Var) (b : Block) → Decides (in_block x b) (OccursOutside x b)
+  in_block_is x done = never
+  in_block_is x (then c b) = Decides-or _ _ (in_command_is x c) (in_block_is x b)
+
+  pub in_command_is : (x : Var) (c : Command) → Decides (in_command x c) (OccursInCommand x c)
+  in_command_is x (assign p y e) = Decides-or _ _ (var_is y.var x) (in_expr_is x e)
+  in_command_is x (look_up p y e field) = Decides-or _ _ (var_is y.var x) (in_expr_is x e)
+  in_command_is x (mutate p e field d) = Decides-or _ _ (in_expr_is x e) (in_expr_is x d)
+  in_command_is x (new p y) = var_is y.var x
+  in_command_is x (dispose p e) = in_expr_is x e
+  in_command_is x (if p t c d) = Decides-or _ _ (in_test_is x t) (Decides-or _ _ (in_block_is x c) (in_block_is x d))
+  in_command_is x (while p t a c) = Decides-or _ _ (in_test_is x t) (Decides-or _ _ (in_level_is x a.level) (in_block_is x c))
+  in_command_is x (call p c) = in_call_is x c
+  in_command_is x (fork p c d) = Decides-or _ _ (in_call_is x c) (in_call_is x d)
+  in_command_is x (with p r t c) = Decides-and _ _ (other_is (owner x) r) (Decides-or _ _ (in_test_is x t) (in_block_is x c))
+
+mutual
+  pub enters_in_is : (r : ResId) (b : Block) → Decides (enters_in r b) (EntersIn r b)
+  enters_in_is r done = never
+  enters_in_is r (then c b) = Decides-or _ _ (enters_of_is r c) (enters_in_is r b)
+
+  pub enters_of_is : (r : ResId) (c : Command) → Decides (enters_of r c) (EntersInCommand r c)
+  enters_of_is r (assign p y e) = never
+  enters_of_is r (look_up p y e field) = never
+  enters_of_is r (mutate p e field d) = never
+  enters_of_is r (new p y) = never
+  enters_of_is r (dispose p e) = never
+  enters_of_is r (if p t c d) = Decides-or _ _ (enters_in_is r c) (enters_in_is r d)
+  enters_of_is r (while p t a c) = enters_in_is r c
+  enters_of_is r (call p c) = never
+  enters_of_is r (fork p c d) = never
+  enters_of_is r (with p q t c) = Decides-or _ _ (same_resource q r) (enters_in_is r c)
+
+-- nothing is among none
+pub none_in : {A : Type 0} (x : A) → Contains [] x → ⊥
+none_in x c = let none : c.0 < 0 = c.1 in omega arith
+
+-- a list of two parts has what one of them has
+pub of_both : {A : Type 0} (xs ys : List A) (x : A) (P Q : Type 0) → (Contains xs x ↔ P) → (Contains ys x ↔ Q) → Contains (xs ++ ys) x ↔ (P ⊎ Q)
+of_both xs ys x P Q p q = (to, from)
+  where
+    to : Contains (xs ++ ys) x → P ⊎ Q
+    to c = elim (Contains-append_cases xs ys x c) [ inl a ↦ inl (p.0 a) | inr b ↦ inr (q.0 b) ]
+
+    from : P ⊎ Q → Contains (xs ++ ys) x
+    from (inl a) = Contains-append_left xs ys x (p.1 a)
+    from (inr b) = Contains-append_right xs ys x (q.1 b)
+
+-- one procedure
+pub of_one : (f g : ProcId) → Contains (f ∷ []) g ↔ (f ≡ g)
+of_one f g = (only_one f g, λ e. one_of f g (ap (λ (k : ProcId). k.0) e))
+
+of_cond : {A : Type 0} (b : Bool) (xs : List A) (x : A) (P Q : Type 0) → Decides b P → (Contains xs x ↔ Q) → Contains (cond b xs []) x ↔ (P × Q)
+of_cond true xs x P Q d q = (λ c. (d.0 refl, q.0 c), λ h. q.1 h.1)
+of_cond false xs x P Q d q = (λ c. absurd (none_in x c), λ h. absurd (let e : false ≡ true = d.1 h.0 in cc))
+
+of_none : {A : Type 0} (x : A) → Contains [] x ↔ ⊥
+of_none x = (none_in x, λ h. absurd h)
+
+mutual
+  pub callees_in_are : (but : Option ResId) (g : ProcId) (b : Block) → Contains (callees_in but b) g ↔ CallsIn but g b
+  callees_in_are but g done = of_none g
+  callees_in_are but g (then c b) = of_both _ _ g _ _ (callees_of_are but g c) (callees_in_are but g b)
+
+  pub callees_of_are : (but : Option ResId) (g : ProcId) (c : Command) → Contains (callees_of but c) g ↔ CallsInCommand but g c
+  callees_of_are but g (assign p y e) = of_none g
+  callees_of_are but g (look_up p y e field) = of_none g
+  callees_of_are but g (mutate p e field d) = of_none g
+  callees_of_are but g (new p y) = of_none g
+  callees_of_are but g (dispose p e) = of_none g
+  callees_of_are but g (if p t c d) = of_both _ _ g _ _ (callees_in_are but g c) (callees_in_are but g d)
+  callees_of_are but g (while p t a c) = callees_in_are but g c
+  callees_of_are but g (call p c) = of_one c.callee g
+  callees_of_are but g (fork p c d) = of_both (c.callee ∷ []) (d.callee ∷ []) g _ _ (of_one c.callee g) (of_one d.callee g)
+  callees_of_are but g (with p r t c) = of_cond _ _ g _ _ (other_is but r) (callees_in_are but g c)

@@ -1,0 +1,62 @@
+//! Who calls whom.
+
+ghost use Rattle.std.specs.Prelude.{◌≡◌, ◌↔◌, ◌⊎◌, ◌<◌, length, All, Contains, IfOk, OnOk, Some, slice_get};
+ghost use Rattle.sf_base.specs.declared.ids.ProcId.{ProcId};
+ghost use Rattle.sf_core.specs.Whole.{program_of};
+ghost use Rattle.sf_calls.specs.Conditions.{Calls};
+ghost use Rattle.sf_calls.specs.Marks.{IsCaller};
+
+use crate::outside::add_callees;
+use sf_base::{ProcId, ResId};
+use sf_core::Program;
+use std::alloc::{AllocError, Global};
+
+/// For each procedure those that call it outside the regions of the resource that is left out. An
+/// `Err` is want of memory.
+pub fn callers_of(alloc: Global, but: Option<ResId>, p: &Program) -> Result<Vec<Vec<ProcId>>, AllocError>
+    ensures size { IfOk result (λ callers. length callers.items ≡ length p.now.procedures.items) }
+    ensures callers { IfOk result (λ callers. (f g : ProcId) → IsCaller callers.items f g ↔ Calls (program_of p.now) but f g) }
+{
+    let mut callers = no_callers(alloc, p.procedures.len())?;
+    for (i, procedure) in p.procedures.iter().enumerate() {
+        let mut callees = Vec::new(alloc);
+        add_callees(but, &procedure.body, &mut callees)?;
+        add_caller(ProcId(i as u32), &callees, &mut callers)?;
+    }
+    Ok(callers)
+}
+
+/// For so many procedures no caller.
+fn no_callers(alloc: Global, count: usize) -> Result<Vec<Vec<ProcId>>, AllocError>
+    ensures size { IfOk result (λ callers. length callers.items ≡ count) }
+    ensures none { IfOk result (λ callers. (f g : ProcId) → ¬ (IsCaller callers.items f g)) }
+{
+    let mut callers = Vec::with_capacity(alloc, count)?;
+    for _ in 0..count {
+        callers.push(Vec::new(alloc))?;
+    }
+    Ok(callers)
+}
+
+/// Notes that the procedure calls those.
+fn add_caller(f: ProcId, callees: &[ProcId], callers: &mut Vec<Vec<ProcId>>) -> Result<(), AllocError>
+    requires { All (λ g. g.0 < length callers.old.items) callees.now }
+    ensures size { OnOk result (length callers.new.items ≡ length callers.old.items) }
+    ensures more { OnOk result ((h g : ProcId) → IsCaller callers.new.items h g ↔ (IsCaller callers.old.items h g ⊎ ((h ≡ f) × Contains callees.now g))) }
+{
+    for g in callees {
+        add_one_caller(f, *g, callers)?;
+    }
+    Ok(())
+}
+
+/// Notes that the procedure `f` calls the procedure `g`.
+fn add_one_caller(f: ProcId, g: ProcId, callers: &mut Vec<Vec<ProcId>>) -> Result<(), AllocError>
+    requires { g.0 < length callers.old.items }
+    ensures size { OnOk result (length callers.new.items ≡ length callers.old.items) }
+    ensures more { OnOk result ((h k : ProcId) → IsCaller callers.new.items h k ↔ (IsCaller callers.old.items h k ⊎ ((h ≡ f) × (k ≡ g)))) }
+{
+    let row = &mut callers[g.0 as usize];
+    row.push(f)?;
+    Ok(())
+}
