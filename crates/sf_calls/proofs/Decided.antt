@@ -2,7 +2,7 @@
 use Rattle.std.proofs.Common.{◌≡◌, ◌≢◌, ◌⊎◌, ◌↔◌, ◌<◌, arith, ℕ, ◌==◌, Bool, true, false, cond, ◌&&◌, ◌||◌, not, List, [], ◌∷◌, ◌++◌, Option, Some, None, Contains, refl, sym, ap, ◌∙◌, inl, inr, subst}
 use Rattle.std.specs.Bool.{Decides}
 use Rattle.std.proofs.lemmas.Bool.Decides.{Decides-eqb, Decides-or, Decides-and, Decides-not}
-use Rattle.std.proofs.lemmas.List.Elements.{Contains-append_cases, Contains-append_left, Contains-append_right}
+use Rattle.std.proofs.lemmas.List.Elements.{Contains-append_cases, Contains-append_left, Contains-append_right, Contains-push_cases}
 use Rattle.sf_base.specs.declared.ids.FieldId.{FieldId}
 use Rattle.sf_base.specs.declared.ids.ProcId.{ProcId}
 use Rattle.sf_base.specs.declared.ids.ResId.{ResId}
@@ -25,7 +25,7 @@ use Rattle.sf_calls.proofs.Searches.{one_of, only_one}
 never : Decides false ⊥
 never = (λ e. absurd (cc), λ h. absurd h)
 
-abbrev resource : ℕ → ResId
+abbrev pub resource : ℕ → ResId
 resource n = record { 0 = n }
 
 pub same_resource : (r q : ResId) → Decides (r.0 == q.0) (r ≡ q)
@@ -172,3 +172,10 @@ mutual
   callees_of_are but g (call p c) = of_one c.callee g
   callees_of_are but g (fork p c d) = of_both (c.callee ∷ []) (d.callee ∷ []) g _ _ (of_one c.callee g) (of_one d.callee g)
   callees_of_are but g (with p r t c) = of_cond _ _ g _ _ (other_is but r) (callees_in_are but g c)
+
+-- one element
+pub single_is : {A : Type 0} (x y : A) → Contains (x ∷ []) y → x ≡ y
+single_is x y c = elim (Contains-push_cases [] x y c) [ inl h ↦ absurd (none_in y h) | inr h ↦ h ]
+
+pub is_single : {A : Type 0} (x y : A) → x ≡ y → Contains (x ∷ []) y
+is_single {A} x y e = subst (λ (z : A). Contains (x ∷ []) z) e (0, omega arith, refl)

@@ -2,3 +2,5 @@ pub mod Searches
 pub mod Decided
 pub mod Within
 pub mod CallGraph
+pub mod InOrder
+pub mod Rows

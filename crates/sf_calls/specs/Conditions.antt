@@ -35,6 +35,10 @@ abbrev pub IsShared : Var → Type 0
 IsShared (Own n) = ⊥
 IsShared (Shared r i) = Unit {0}
 
+-- f mentions x, or calls a procedure outside the regions of x's resource that has x free
+abbrev pub FreeIn : Program → ProcId → Var → Type 0
+FreeIn p f x = Leads (Mentions p x) (Calls p (owner x)) f
+
 -- Free: a resource's variable that f mentions, or that is free in a procedure which f calls outside the regions of its resource
 abbrev pub Free : Program → ProcId → Var → Type 0
-Free p f x = IsShared x × Leads (Mentions p x) (Calls p (owner x)) f
+Free p f x = IsShared x × FreeIn p f x

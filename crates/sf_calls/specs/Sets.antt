@@ -20,6 +20,11 @@ IsEarlier (Own m) (Shared q j) = Unit {0}
 IsEarlier (Shared r i) (Own n) = ⊥
 IsEarlier (Shared r i) (Shared q j) = (r.0 < q.0) ⊎ ((r ≡ q) × (i < j))
 
+-- it is a variable of the first k resources, or one of the first i of the next one, where the resource of each number has so many
+abbrev pub IsUpTo : (ℕ → ℕ) → ℕ → ℕ → Var → Type 0
+IsUpTo count k i (Own n) = ⊥
+IsUpTo count k i (Shared q j) = ((q.0 < k) × (j < count q.0)) ⊎ ((q.0 ≡ k) × (j < i))
+
 -- the list has exactly those, each before the later ones
 pub record IsSetOf {A : Type 0} (Before : A → A → Type 0) (P : A → Type 0) (xs : List A) : Type 0 where
   pub ordered : AllPairs Before xs

@@ -1,6 +1,6 @@
 -- The relations on what stands in commands and assertions, as tests and lists that compute.
 -- Ordinary: each relation by cases has the test by the same cases.
-use Rattle.std.specs.Prelude.{ℕ, ◌==◌, Bool, true, false, cond, ◌&&◌, ◌||◌, not, List, [], ◌∷◌, ◌++◌, Option, Some, None}
+use Rattle.std.specs.Prelude.{ℕ, zero, suc, ◌==◌, Bool, true, false, cond, ◌&&◌, ◌||◌, not, List, [], ◌∷◌, ◌++◌, Option, Some, None}
 use Rattle.sf_base.specs.declared.ids.FieldId.{FieldId}
 use Rattle.sf_base.specs.declared.ids.ProcId.{ProcId}
 use Rattle.sf_base.specs.declared.ids.ResId.{ResId}
@@ -13,7 +13,7 @@ use Rattle.sf_core.specs.declared.assertion.Test.TheVariants.{True, Equal, Diffe
 use Rattle.sf_core.specs.declared.command.Expr.{Expr}
 use Rattle.sf_core.specs.declared.command.Expr.TheVariants.{Var as Variable, Nil, Int}
 use Rattle.sf_core.specs.declared.command.Occurrence.{Occurrence}
-use Rattle.sf_core.specs.Syntax.{Conjunct, holds, points, segment, tree, choose, Level, level, Conjuncts, none, also, Call, Command, assign, look_up, mutate, new, dispose, if, while, call, fork, with, Block, done, then}
+use Rattle.sf_core.specs.Syntax.{Conjunct, holds, points, segment, tree, choose, Level, level, Conjuncts, none, also, Call, Command, assign, look_up, mutate, new, dispose, if, while, call, fork, with, Block, done, then, Procedure}
 use Rattle.sf_calls.specs.Outside.{owner}
 
 -- one variable
@@ -154,3 +154,12 @@ abbrev mutual
   set_of (call p c) = named_by c.references
   set_of (fork p c d) = named_by c.references ++ named_by d.references
   set_of (with p r t c) = set_in c
+
+-- the procedure mentions the variable
+abbrev pub mentions : Var → Procedure → Bool
+mentions x h = in_level x h.pre.level || (in_level x h.post.level || in_block x h.body)
+
+-- the procedure's pre or post speaks of one of the first n variables of the resource
+abbrev pub speaks_of : ResId → ℕ → Procedure → Bool
+speaks_of r zero h = false
+speaks_of r (suc n) h = speaks_of r n h || (in_level (Shared r n) h.pre.level || in_level (Shared r n) h.post.level)

@@ -1,10 +1,9 @@
 //! Who calls whom.
 
-ghost use Rattle.std.specs.Prelude.{◌≡◌, ◌↔◌, ◌⊎◌, ◌<◌, length, All, Contains, IfOk, OnOk, Some, slice_get};
+ghost use Rattle.std.specs.Prelude.{◌≡◌, ◌↔◌, ◌⊎◌, ◌<◌, length, All, Contains, IfOk, OnOk, true};
 ghost use Rattle.sf_base.specs.declared.ids.ProcId.{ProcId};
 ghost use Rattle.sf_core.specs.Whole.{program_of};
-ghost use Rattle.sf_calls.specs.Conditions.{Calls};
-ghost use Rattle.sf_calls.specs.Marks.{IsCaller};
+ghost use Rattle.sf_calls.specs.Marks.{IsCaller, AreCallers};
 
 use crate::outside::add_callees;
 use sf_base::{ProcId, ResId};
@@ -14,8 +13,7 @@ use std::alloc::{AllocError, Global};
 /// For each procedure those that call it outside the regions of the resource that is left out. An
 /// `Err` is want of memory.
 pub fn callers_of(alloc: Global, but: Option<ResId>, p: &Program) -> Result<Vec<Vec<ProcId>>, AllocError>
-    ensures size { IfOk result (λ callers. length callers.items ≡ length p.now.procedures.items) }
-    ensures callers { IfOk result (λ callers. (f g : ProcId) → IsCaller callers.items f g ↔ Calls (program_of p.now) but f g) }
+    ensures { IfOk result (λ callers. AreCallers (program_of p.now) but callers.items) }
 {
     let mut callers = no_callers(alloc, p.procedures.len())?;
     for (i, procedure) in p.procedures.iter().enumerate() {
@@ -24,6 +22,35 @@ pub fn callers_of(alloc: Global, but: Option<ResId>, p: &Program) -> Result<Vec<
         add_caller(ProcId(i as u32), &callees, &mut callers)?;
     }
     Ok(callers)
+}
+
+/// The same, where the callers are at hand that leave out `last`.
+pub fn callers_after(
+    alloc: Global,
+    but: Option<ResId>,
+    p: &Program,
+    last: Option<ResId>,
+    callers: Vec<Vec<ProcId>>,
+) -> Result<Vec<Vec<ProcId>>, AllocError>
+    requires { AreCallers (program_of p.now) last callers.items }
+    ensures { IfOk result (λ callers. AreCallers (program_of p.now) but callers.items) }
+{
+    if is_same_owner(but, last) {
+        Ok(callers)
+    } else {
+        callers_of(alloc, but, p)
+    }
+}
+
+/// Whether both are one resource, or none.
+fn is_same_owner(r: Option<ResId>, q: Option<ResId>) -> bool
+    ensures { result ≡ true → r ≡ q }
+{
+    match (r, q) {
+        (None, None) => true,
+        (Some(r), Some(q)) => r.0 == q.0,
+        _ => false,
+    }
 }
 
 /// For so many procedures no caller.

@@ -5,8 +5,10 @@
 pub mod set;
 
 mod callers;
+mod keys;
 mod leading;
 mod occurs;
 mod outside;
+mod tables;
 
 pub use set::{ResSet, Set, VarSet};

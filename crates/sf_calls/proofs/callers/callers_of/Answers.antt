@@ -30,7 +30,10 @@ loop-i-preserved c =
       callers = calls_more (program_of c.args.p.now) c.args.but c.loop-i.i (procedure_of c.procedure-item.result) c.deref-in-loop-i.result.now c.loop-i.callers.items c.add_caller.new.callers.items at are c.loop-i.invariant.callers c.in_ok-add_caller.ensures.more;
     }
 
-pub returns-clause-callers : goal.returns-clause-callers
-returns-clause-callers c =
+pub returns : goal.returns
+returns c =
     let all : length c.args.p.now.procedures.items ≤ c.loop-i.i = omega (arith, c.loop-i-test.false, ap length c.deref-procedure-items.ensures.value) in
-    calls_all (program_of c.args.p.now) c.args.but c.loop-i.i c.loop-i.callers.items (rw (length-map c.args.p.now.procedures.items procedure_of) all) c.loop-i.invariant.callers
+    record {
+      size = c.loop-i.invariant.size ∙ sym (length-map c.args.p.now.procedures.items procedure_of);
+      are = calls_all (program_of c.args.p.now) c.args.but c.loop-i.i c.loop-i.callers.items (rw (length-map c.args.p.now.procedures.items procedure_of) all) c.loop-i.invariant.callers;
+    }

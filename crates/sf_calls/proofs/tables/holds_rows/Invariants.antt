@@ -1,0 +1,9 @@
+use Rattle.std.proofs.Common.{length, take}
+use Rattle.sf_core.specs.HeldBy.{HeldBy}
+use Rattle.sf_core.specs.Whole.{program_of}
+use Rattle.sf_calls.specs.Marks.{AreRows}
+use Rattle.sf_calls.proofs.tables.holds_rows.Given as goal
+
+-- the rows so far
+abbrev pub invariant-loop-r : goal.invariant-loop-r
+invariant-loop-r l = AreRows (length l.p.procedures.items) (HeldBy (program_of l.p)) (take l.r-index l.resources) l.rows.items
