@@ -4,3 +4,4 @@ pub mod Within
 pub mod CallGraph
 pub mod InOrder
 pub mod Rows
+pub mod Least

@@ -22,7 +22,7 @@ use Rattle.sf_calls.specs.Conditions.{Has, Calls, Mentions, Enters}
 use Rattle.sf_calls.specs.Leads.{Leads, directly, through}
 use Rattle.sf_calls.specs.Marks.{IsMarked, IsCaller, AreCallers, IsRow, AreRows, chosen}
 use Rattle.sf_calls.specs.Outside.{OccursOutside}
-use Rattle.sf_calls.specs.Sets.{IsSetOf}
+use Rattle.sf_calls.specs.Sets.{IsSetOf, IsFamily}
 use Rattle.sf_calls.specs.Tests.{mentions, speaks_of, in_level}
 use Rattle.sf_calls.proofs.Decided.{in_level_is, in_block_is, none_in, single_is, is_single}
 use Rattle.sf_calls.proofs.Searches.{proc}
@@ -209,11 +209,23 @@ chosen_ordered B f (k ∷ ks) [] h = λ i j d less below. absurd (omega (arith, 
 chosen_ordered B f (k ∷ ks) (row ∷ rows) h = pairs_cond (get_or row.items f false) B k (chosen f ks rows) (chosen_all (B k) f ks rows (pairs_head B k ks h)) (chosen_ordered B f ks rows (pairs_tail B k ks h))
 
 -- so they are the set
-pub chosen_set : {A : Type 0} (B : A → A → Type 0) (n : ℕ) (P : ProcId → A → Type 0) (Q : A → Type 0) (keys : List A) (rows : List (Vec Bool Global)) (f : ProcId)
-    → IsSetOf B Q keys → ((x : A) → P f x → Q x) → AreRows n P keys rows → IsSetOf B (P f) (chosen f.0 keys rows)
-chosen_set B n P Q keys rows f s q z = record {
+pub chosen_set : {A : Type 0} (B : A → A → Type 0) (n : ℕ) (P : ProcId → A → Type 0) (Q S : A → Type 0) (keys : List A) (rows : List (Vec Bool Global)) (f : ProcId)
+    → IsSetOf B Q keys → AreRows n P keys rows → ((x : A) → S x → Q x × P f x) → ((x : A) → Q x → P f x → S x) → IsSetOf B S (chosen f.0 keys rows)
+chosen_set B n P Q S keys rows f s z apart both = record {
   ordered = chosen_ordered B f.0 keys rows s.ordered;
-  members = λ x. (λ c. ((chosen_members n P keys rows f z x).0 c).1, λ h. (chosen_members n P keys rows f z x).1 ((s.members x).1 (q x h), h));
+  members = λ x. (
+      λ c. let h = (chosen_members n P keys rows f z x).0 c in both x ((s.members x).0 h.0) h.1,
+      λ h. (chosen_members n P keys rows f z x).1 ((s.members x).1 (apart x h).0, (apart x h).1)
+    );
+}
+
+-- the sets of all procedures
+pub family_of : {A : Type 0} (B : A → A → Type 0) (n m : ℕ) (P S : ProcId → A → Type 0) (Q : A → Type 0) (keys : List A) (rows : List (Vec Bool Global)) (sets : List (List A))
+    → IsSetOf B Q keys → AreRows n P keys rows → ((f : ProcId) (x : A) → S f x → Q x × P f x) → ((f : ProcId) (x : A) → Q x → P f x → S f x)
+    → length sets ≡ m → ((f : ℕ) (xs : List A) → slice_get sets f ≡ Some xs → xs ≡ chosen f keys rows) → IsFamily (IsSetOf B) S m sets
+family_of {A} B n m P S Q keys rows sets s z apart both e each = record {
+  each = e;
+  is = λ f xs at. subst (IsSetOf B (S f)) (sym (each f.0 xs at)) (chosen_set B n P Q (S f) keys rows f s z (apart f) (both f));
 }
 
 -- rows are as many as their keys, and as long as there are procedures

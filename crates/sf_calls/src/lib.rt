@@ -2,6 +2,8 @@
 //! variables stand.
 #![tactic(auto)]
 
+pub mod calls;
+pub mod laws;
 pub mod set;
 
 mod callers;
@@ -9,6 +11,9 @@ mod keys;
 mod leading;
 mod occurs;
 mod outside;
+mod reaching;
 mod tables;
 
+pub use calls::Calls;
+pub use reaching::reach;
 pub use set::{ResSet, Set, VarSet};
