@@ -54,3 +54,12 @@ pub record AreSetsOf (p : Program) (sets : Sets) : Type 0 where
   pub takes : IsFamily IsResSet (Takes p) (length p.procedures) sets.takes
   pub holds : IsFamily IsResSet (HeldBy p) (length p.procedures) sets.holds
   pub free : IsFamily IsVarSet (Free p) (length p.procedures) sets.free
+
+-- the set of what is free in the procedure has the variable
+abbrev pub IsFreeIn : Sets → ProcId → Var → Type 0
+IsFreeIn sets g x = (xs : List Var) × (slice_get sets.free g.0 ≡ Some xs) × Contains xs x
+
+-- the variables xs are there beside those that were, in order
+pub record Gathers (xs before after : List Var) : Type 0 where
+  pub ordered : AllPairs IsEarlier after
+  pub members : (x : Var) → Contains after x ↔ (Contains before x ⊎ Contains xs x)

@@ -1,6 +1,6 @@
 -- The relations on what stands in commands and assertions, as tests and lists that compute.
 -- Ordinary: each relation by cases has the test by the same cases.
-use Rattle.std.specs.Prelude.{ℕ, zero, suc, ◌==◌, Bool, true, false, cond, ◌&&◌, ◌||◌, not, List, [], ◌∷◌, ◌++◌, Option, Some, None}
+use Rattle.std.specs.Prelude.{ℕ, zero, suc, ◌==◌, nat_lt, Bool, true, false, cond, ◌&&◌, ◌||◌, not, List, [], ◌∷◌, ◌++◌, Option, Some, None}
 use Rattle.sf_base.specs.declared.ids.FieldId.{FieldId}
 use Rattle.sf_base.specs.declared.ids.ProcId.{ProcId}
 use Rattle.sf_base.specs.declared.ids.ResId.{ResId}
@@ -163,3 +163,10 @@ mentions x h = in_level x h.pre.level || (in_level x h.post.level || in_block x 
 abbrev pub speaks_of : ResId → ℕ → Procedure → Bool
 speaks_of r zero h = false
 speaks_of r (suc n) h = speaks_of r n h || (in_level (Shared r n) h.pre.level || in_level (Shared r n) h.post.level)
+
+-- the variable comes before the other
+abbrev pub is_earlier : Var → Var → Bool
+is_earlier (Own m) (Own n) = nat_lt m n
+is_earlier (Own m) (Shared q j) = true
+is_earlier (Shared r i) (Own n) = false
+is_earlier (Shared r i) (Shared q j) = nat_lt r.0 q.0 || ((r.0 == q.0) && nat_lt i j)

@@ -1,6 +1,6 @@
 //! The least set of procedures that has some directly, and each caller of one that it has.
 
-ghost use Rattle.std.specs.Prelude.{◌≡◌, ◌↔◌, ◌<◌, ◌≤◌, ◌^◌, [], ◌∷◌, length, All, Contains, IfOk, OnOk};
+ghost use Rattle.std.specs.Prelude.{◌≡◌, ◌↔◌, ◌<◌, ◌≤◌, ◌^◌, [], ◌∷◌, length, All, Contains, IfOk, OnOk, false, replicate};
 ghost use Rattle.sf_base.specs.declared.ids.ProcId.{ProcId};
 ghost use Rattle.sf_calls.specs.Leads.{Leads};
 ghost use Rattle.sf_calls.specs.Marks.{IsMarked, IsCaller, MarksMore};
@@ -60,4 +60,26 @@ fn mark(f: ProcId, marks: &mut Vec<bool>, queue: &mut Vec<ProcId>) -> Result<(),
         queue.push(f)?;
     }
     Ok(())
+}
+
+/// Those procedures, each once. An `Err` is want of memory.
+pub fn distinct(alloc: Global, count: usize, fs: &[ProcId]) -> Result<Vec<ProcId>, AllocError>
+    requires { All (λ f. f.0 < count) fs.now }
+    ensures { IfOk result (λ gs. (f : ProcId) → Contains gs.items f ↔ Contains fs.now f) }
+{
+    let mut marks = no_marks(alloc, count)?;
+    let mut found = Vec::new(alloc);
+    mark_all(fs, &mut marks, &mut found)?;
+    Ok(found)
+}
+
+/// For so many procedures no mark.
+fn no_marks(alloc: Global, count: usize) -> Result<Vec<bool>, AllocError>
+    ensures { IfOk result (λ marks. marks.items ≡ replicate count false) }
+{
+    let mut marks = Vec::with_capacity(alloc, count)?;
+    for _ in 0..count {
+        marks.push(false)?;
+    }
+    Ok(marks)
 }

@@ -2,6 +2,7 @@
 //! variables stand.
 #![tactic(auto)]
 
+pub mod assigned;
 pub mod calls;
 pub mod laws;
 pub mod set;

@@ -118,9 +118,9 @@ pub fn add_callees(but: Option<ResId>, body: &[Command], callees: &mut Vec<ProcI
     Ok(())
 }
 
-/// Appends those that one command calls.
+/// Appends those that one command calls. An `Err` is want of memory.
 #[cycle(callees)]
-fn add_callees_of(but: Option<ResId>, c: &Command, callees: &mut Vec<ProcId>) -> Result<(), AllocError>
+pub fn add_callees_of(but: Option<ResId>, c: &Command, callees: &mut Vec<ProcId>) -> Result<(), AllocError>
     ensures { OnOk result (callees.new.items ≡ callees.old.items ++ callees_of but (command_of c.now)) }
 {
     match c {
