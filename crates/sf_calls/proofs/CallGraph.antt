@@ -34,24 +34,24 @@ caller_pushed callers f g row v below is pushed h k = (to, from)
 
     to : IsCaller (set callers g.0 v) h k → IsCaller callers h k ⊎ ((h ≡ f) × (k ≡ g))
     to (fs, at, c) = elim (eqb_tells k.0 g.0) [
-        inl e ↦
+      | inl e ↦
           let same : v ≡ fs = same_Some v fs (sym (get-set_same callers g.0 v below) ∙ ap (slice_get (set callers g.0 v)) (sym e.1) ∙ at) in
           let in_v : Contains v.items h = subst (λ (w : Vec ProcId Global). Contains w.items h) (sym same) c in
           elim (Contains-push_cases row.items f h (subst (λ (xs : List ProcId). Contains xs h) pushed in_v)) [
-            inl x ↦ inl (row, ap (slice_get callers) e.1 ∙ here, x)
-          | inr x ↦ inr (sym x, ap proc e.1)
+            | inl x ↦ inl (row, ap (slice_get callers) e.1 ∙ here, x)
+            | inr x ↦ inr (sym x, ap proc e.1)
           ]
       | inr e ↦ inl (fs, sym (get-set_other callers g.0 k.0 v e.1) ∙ at, c)
-      ]
+    ]
 
     from : IsCaller callers h k ⊎ ((h ≡ f) × (k ≡ g)) → IsCaller (set callers g.0 v) h k
     from (inl (fs, at, c)) = elim (eqb_tells k.0 g.0) [
-        inl e ↦
+      | inl e ↦
           let same : fs ≡ row = same_Some fs row (sym at ∙ ap (slice_get callers) e.1 ∙ here) in
           let in_row : Contains row.items h = subst (λ (w : Vec ProcId Global). Contains w.items h) same c in
           (v, ap (slice_get (set callers g.0 v)) e.1 ∙ get-set_same callers g.0 v below, rw pushed (Contains-append_left row.items (f ∷ []) h in_row))
       | inr e ↦ (fs, get-set_other callers g.0 k.0 v e.1 ∙ at, c)
-      ]
+    ]
     from (inr (e, e')) =
         (v, ap (λ (j : ProcId). slice_get (set callers g.0 v) j.0) e' ∙ get-set_same callers g.0 v below, rw pushed (subst (λ (j : ProcId). Contains (row.items ++ f ∷ []) j) (sym e) (Contains-push row.items f)))
 
@@ -64,16 +64,16 @@ callers_more f gs g before now after first next h k = (to, from)
   where
     to : IsCaller after h k → IsCaller before h k ⊎ ((h ≡ f) × Contains (gs ++ g ∷ []) k)
     to c = elim ((next h k).0 c) [
-        inl x ↦ elim ((first h k).0 x) [ inl y ↦ inl y | inr y ↦ inr (y.0, Contains-append_left gs (g ∷ []) k y.1) ]
+      | inl x ↦ elim ((first h k).0 x) [ inl y ↦ inl y | inr y ↦ inr (y.0, Contains-append_left gs (g ∷ []) k y.1) ]
       | inr x ↦ inr (x.0, subst (λ (j : ProcId). Contains (gs ++ g ∷ []) j) (sym x.1) (Contains-push gs g))
-      ]
+    ]
 
     from : IsCaller before h k ⊎ ((h ≡ f) × Contains (gs ++ g ∷ []) k) → IsCaller after h k
     from (inl x) = (next h k).1 (inl ((first h k).1 (inl x)))
     from (inr (e, c)) = elim (Contains-push_cases gs g k c) [
-        inl y ↦ (next h k).1 (inl ((first h k).1 (inr (e, y))))
+      | inl y ↦ (next h k).1 (inl ((first h k).1 (inr (e, y))))
       | inr y ↦ (next h k).1 (inr (e, sym y))
-      ]
+    ]
 
 -- no procedure was looked at
 pub calls_none : (p : Program) (but : Option ResId) (rows : List (Vec ProcId Global)) → ((f g : ProcId) → IsCaller rows f g → ⊥) → (f g : ProcId) → IsCaller rows f g ↔ ((f.0 < 0) × Calls p but f g)
@@ -89,19 +89,19 @@ calls_more p but i h callees before after at are first next f g = (to, from)
   where
     to : IsCaller after f g → (f.0 < i + 1) × Calls p but f g
     to c = elim ((next f g).0 c) [
-        inl x ↦ (let below : f.0 < i = ((first f g).0 x).0 in omega arith, ((first f g).0 x).1)
+      | inl x ↦ (let below : f.0 < i = ((first f g).0 x).0 in omega arith, ((first f g).0 x).1)
       | inr x ↦
           let here : f.0 ≡ i = ap (λ (k : ProcId). k.0) x.0 in
           (omega arith, (h, ap (slice_get p.procedures) here ∙ at, (callees_in_are but g h.body).0 (subst (λ (xs : List ProcId). Contains xs g) are x.1)))
-      ]
+    ]
 
     from : (f.0 < i + 1) × Calls p but f g → IsCaller after f g
     from (below, (k, there, calls)) = elim (eqb_tells f.0 i) [
-        inl e ↦
+      | inl e ↦
           let same : k ≡ h = same_Some k h (sym there ∙ ap (slice_get p.procedures) e.1 ∙ at) in
           (next f g).1 (inr (ap proc e.1, subst (λ (xs : List ProcId). Contains xs g) (sym are) ((callees_in_are but g h.body).1 (subst (λ (j : Procedure). CallsIn but g j.body) same calls))))
       | inr e ↦ (next f g).1 (inl ((first f g).1 (let other : f.0 ≢ i = e.1 in omega arith, (k, there, calls))))
-      ]
+    ]
 
 -- all procedures were looked at
 pub calls_all : (p : Program) (but : Option ResId) (i : ℕ) (rows : List (Vec ProcId Global)) → length p.procedures ≤ i

@@ -25,9 +25,9 @@ set_push {A} B P Q xs y s before from_q to_q here = record {
 
     from : (x : A) → Q x → Contains (xs ++ y ∷ []) x
     from x q = elim (from_q x q) [
-        inl h ↦ Contains-append_left xs (y ∷ []) x ((s.members x).1 h)
+      | inl h ↦ Contains-append_left xs (y ∷ []) x ((s.members x).1 h)
       | inr h ↦ subst (λ (z : A). Contains (xs ++ y ∷ []) z) (sym h) (Contains-push xs y)
-      ]
+    ]
 
 -- the same set by another description
 pub set_same : {A : Type 0} (B : A → A → Type 0) (P Q : A → Type 0) (xs : List A) → IsSetOf B P xs → ((x : A) → P x → Q x) → ((x : A) → Q x → P x) → IsSetOf B Q xs
@@ -56,9 +56,9 @@ next_variable counts r i found s = set_push IsEarlier (IsUpTo counts r.0 i) (IsU
     from (Own n) h = absurd h
     from (Shared q j) (inl h) = inl (inl h)
     from (Shared q j) (inr (e, h)) = elim (eqb_tells j i) [
-        inl same ↦ inr (let a : q ≡ r = ap resource e in let b : j ≡ i = same.1 in cc)
+      | inl same ↦ inr (let a : q ≡ r = ap resource e in let b : j ≡ i = same.1 in cc)
       | inr other ↦ inl (inr (e, (let o : j ≢ i = other.1 in omega (arith, h))))
-      ]
+    ]
 
     to : (x : Var) → IsUpTo counts r.0 i x → IsUpTo counts r.0 (i + 1) x
     to (Own n) h = h
@@ -77,9 +77,9 @@ next_variables counts k n found e s = set_same IsEarlier (IsUpTo counts k n) (Is
     from : (x : Var) → IsUpTo counts (k + 1) 0 x → IsUpTo counts k n x
     from (Own m) h = h
     from (Shared q j) (inl h) = elim (eqb_tells q.0 k) [
-        inl same ↦ inr (same.1, let below : j < counts q.0 = h.1 in rw (← e, ← same.1) below)
+      | inl same ↦ inr (same.1, let below : j < counts q.0 = h.1 in rw (← e, ← same.1) below)
       | inr other ↦ inl (let o : q.0 ≢ k = other.1 in omega (arith, h.0), h.1)
-      ]
+    ]
     from (Shared q j) (inr h) = absurd (omega (arith, h.1))
 
 -- at first there is none

@@ -35,9 +35,9 @@ pub holds_within : (p : Program) → IsFormed p → (f : ProcId) (r : ResId) →
 holds_within p formed f r b =
     let w = formed.procedures f.0 b.procedure b.there in
     there p.resources r.0 b.variable (elim b.occurs [
-        inl x ↦ level_within p.fields (IsParameter p b.procedure) [] (Shared r b.variable) b.procedure.pre.level w.pre.note.within x
+      | inl x ↦ level_within p.fields (IsParameter p b.procedure) [] (Shared r b.variable) b.procedure.pre.level w.pre.note.within x
       | inr x ↦ level_within p.fields (IsParameter p b.procedure) [] (Shared r b.variable) b.procedure.post.level w.post.note.within x
-      ])
+    ])
 
 -- a mentioned variable is the resource's
 mentioned : (p : Program) → IsFormed p → (r : ResId) (i : ℕ) (g : ProcId) → Mentions p (Shared r i) g → i < variable_count (slice_get p.resources r.0)

@@ -5,3 +5,4 @@ pub mod CallGraph
 pub mod InOrder
 pub mod Rows
 pub mod Least
+pub mod Gathered

@@ -35,19 +35,19 @@ marked_map t P decides hs f = (to, from)
   where
     to : IsMarked (map (λ h. t (procedure_of h)) hs) f → (h : Procedure) × (slice_get (map procedure_of hs) f.0 ≡ Some h) × P h
     to m = elim (slice_get_cases hs f.0).1 [
-        inl x ↦
+      | inl x ↦
           let is : Some (t (procedure_of x.0)) ≡ Some true = sym (slice_get-map (λ (h : Proc). t (procedure_of h)) hs f.0 ∙ ap (option_map (λ (h : Proc). t (procedure_of h))) x.2) ∙ m in
           (procedure_of x.0, slice_get-map procedure_of hs f.0 ∙ ap (option_map procedure_of) x.2, (decides (procedure_of x.0)).0 (same_Some _ _ is))
       | inr x ↦ absurd (none-some true (sym (slice_get-map (λ (h : Proc). t (procedure_of h)) hs f.0 ∙ ap (option_map (λ (h : Proc). t (procedure_of h))) x.1) ∙ m))
-      ]
+    ]
 
     from : (h : Procedure) × (slice_get (map procedure_of hs) f.0 ≡ Some h) × P h → IsMarked (map (λ h. t (procedure_of h)) hs) f
     from (h, at, has) = elim (slice_get_cases hs f.0).1 [
-        inl x ↦
+      | inl x ↦
           let same : procedure_of x.0 ≡ h = same_Some _ _ (sym (slice_get-map procedure_of hs f.0 ∙ ap (option_map procedure_of) x.2) ∙ at) in
           slice_get-map (λ (k : Proc). t (procedure_of k)) hs f.0 ∙ ap (option_map (λ (k : Proc). t (procedure_of k))) x.2 ∙ ap (λ (k : Procedure). Some (t k)) same ∙ ap Some ((decides h).1 has)
       | inr x ↦ absurd (none-some h (sym (slice_get-map procedure_of hs f.0 ∙ ap (option_map procedure_of) x.1) ∙ at))
-      ]
+    ]
 
 -- all procedures were looked at
 pub row_of : (t : Procedure → Bool) (P : Procedure → Type 0) → ((h : Procedure) → Decides (t h) (P h)) → (hs : List Proc) (i : ℕ) (marks : List Bool) → length hs ≤ i
@@ -80,9 +80,9 @@ speaks_is r (suc n) h =
 
     from : SpeaksBelow r (suc n) h → SpeaksBelow r n h ⊎ (OccursIn (Shared r n) h.pre.level ⊎ OccursIn (Shared r n) h.post.level)
     from s = elim (eqb_tells s.0 n) [
-        inl e ↦ inr (subst (λ (k : ℕ). OccursIn (Shared r k) h.pre.level ⊎ OccursIn (Shared r k) h.post.level) e.1 s.2)
+      | inl e ↦ inr (subst (λ (k : ℕ). OccursIn (Shared r k) h.pre.level ⊎ OccursIn (Shared r k) h.post.level) e.1 s.2)
       | inr e ↦ inl (s.0, (let other : s.0 ≢ n = e.1 in omega (arith, s.1)), s.2)
-      ]
+    ]
 
 -- who holds a resource
 pub held_row : (p : Program) (r : ResId) (n : ℕ) (marks : List Bool) → IsFormed p → variable_count (slice_get p.resources r.0) ≡ n
@@ -97,9 +97,9 @@ held_row p r n marks formed count hs same i past e =
     below : (f : ProcId) (b : HeldBy p f r) → b.variable < n
     below f b = let w = formed.procedures f.0 b.procedure b.there in
         subst (λ (k : ℕ). b.variable < k) count (elim b.occurs [
-            inl x ↦ level_within p.fields (IsParameter p b.procedure) [] (Shared r b.variable) b.procedure.pre.level w.pre.note.within x
+          | inl x ↦ level_within p.fields (IsParameter p b.procedure) [] (Shared r b.variable) b.procedure.pre.level w.pre.note.within x
           | inr x ↦ level_within p.fields (IsParameter p b.procedure) [] (Shared r b.variable) b.procedure.post.level w.post.note.within x
-          ])
+        ])
 
     from : (f : ProcId) → HeldBy p f r → (h : Procedure) × (slice_get (map procedure_of hs) f.0 ≡ Some h) × SpeaksBelow r n h
     from f b = (b.procedure, ap (λ (k : List Procedure). slice_get k f.0) same ∙ b.there, (b.variable, below f b, b.occurs))
@@ -121,9 +121,9 @@ pub leading_row : (p : Program) (but : Option ResId) (n : ℕ) (D : ProcId → T
 leading_row p but n D direct marks callers calls row size length_is is = record {
   size = length_is ∙ size;
   marks = λ f. (
-      λ m. leads_along (IsMarked direct) D (IsCaller callers) (Calls p but) (λ g h. (row.marks g).0 h) (λ g h c. (calls.are g h).0 c) f ((is f).0 m),
-      λ l. (is f).1 (leads_along D (IsMarked direct) (Calls p but) (IsCaller callers) (λ g h. (row.marks g).1 h) (λ g h c. (calls.are g h).1 c) f l)
-    );
+    λ m. leads_along (IsMarked direct) D (IsCaller callers) (Calls p but) (λ g h. (row.marks g).0 h) (λ g h c. (calls.are g h).0 c) f ((is f).0 m),
+    λ l. (is f).1 (leads_along D (IsMarked direct) (Calls p but) (IsCaller callers) (λ g h. (row.marks g).1 h) (λ g h c. (calls.are g h).1 c) f l),
+  );
 }
 
 -- each caller is there
@@ -165,16 +165,16 @@ chosen_step n P k ks row rows f here x rest = (to, from)
   where
     to : Contains (chosen f.0 (k ∷ ks) (row ∷ rows)) x → Contains (k ∷ ks) x × P f x
     to c = elim (cond_cases (get_or row.items f.0 false) k x (chosen f.0 ks rows) c) [
-        inl h ↦ (Contains-append_left (k ∷ []) ks x (is_single k x h.1), subst (P f) h.1 ((here.marks f).0 (true_get row.items f.0 h.0)))
+      | inl h ↦ (Contains-append_left (k ∷ []) ks x (is_single k x h.1), subst (P f) h.1 ((here.marks f).0 (true_get row.items f.0 h.0)))
       | inr h ↦ let more = rest.0 h in (Contains-append_right (k ∷ []) ks x more.0, more.1)
-      ]
+    ]
 
     from : Contains (k ∷ ks) x × P f x → Contains (chosen f.0 (k ∷ ks) (row ∷ rows)) x
     from (c, h) = elim (Contains-append_cases (k ∷ []) ks x c) [
-        inl y ↦ let same = single_is k x y in
-            cond_head (get_or row.items f.0 false) k x (chosen f.0 ks rows) (get_true row.items f.0 ((here.marks f).1 (subst (P f) (sym same) h))) same
+      | inl y ↦ let same = single_is k x y in
+          cond_head (get_or row.items f.0 false) k x (chosen f.0 ks rows) (get_true row.items f.0 ((here.marks f).1 (subst (P f) (sym same) h))) same
       | inr y ↦ cond_tail (get_or row.items f.0 false) k x (chosen f.0 ks rows) (rest.1 (y, h))
-      ]
+    ]
 
 all_cond : {A : Type 0} (b : Bool) (Q : A → Type 0) (x : A) (rest : List A) → Q x → All Q rest → All Q (cond b (x ∷ rest) rest)
 all_cond true Q x rest q h = All-cons Q x rest q h
@@ -214,9 +214,9 @@ pub chosen_set : {A : Type 0} (B : A → A → Type 0) (n : ℕ) (P : ProcId →
 chosen_set B n P Q S keys rows f s z apart both = record {
   ordered = chosen_ordered B f.0 keys rows s.ordered;
   members = λ x. (
-      λ c. let h = (chosen_members n P keys rows f z x).0 c in both x ((s.members x).0 h.0) h.1,
-      λ h. (chosen_members n P keys rows f z x).1 ((s.members x).1 (apart x h).0, (apart x h).1)
-    );
+    λ c. let h = (chosen_members n P keys rows f z x).0 c in both x ((s.members x).0 h.0) h.1,
+    λ h. (chosen_members n P keys rows f z x).1 ((s.members x).1 (apart x h).0, (apart x h).1),
+  );
 }
 
 -- the sets of all procedures

@@ -34,14 +34,14 @@ marks_both fs gs a q b r c s m n = record {
   kept = λ f h. n.kept f (m.kept f h);
   all = λ f h. elim (Contains-append_cases fs gs f h) [ inl x ↦ n.kept f (m.all f x) | inr y ↦ n.all f y ];
   only = λ f h. elim (n.only f h) [
-      inl x ↦ elim (m.only f x) [ inl y ↦ inl y | inr y ↦ inr (Contains-append_left fs gs f y.0, n.queued f y.1) ]
+    | inl x ↦ elim (m.only f x) [ inl y ↦ inl y | inr y ↦ inr (Contains-append_left fs gs f y.0, n.queued f y.1) ]
     | inr x ↦ inr (Contains-append_right fs gs f x.0, x.1)
-    ];
+  ];
   queued = λ f h. n.queued f (m.queued f h);
   known = λ f h. elim (n.known f h) [
-      inl x ↦ elim (m.known f x) [ inl y ↦ inl y | inr y ↦ inr (n.kept f y) ]
+    | inl x ↦ elim (m.known f x) [ inl y ↦ inl y | inr y ↦ inr (n.kept f y) ]
     | inr x ↦ inr x
-    ];
+  ];
   spent = n.spent ∙ m.spent;
 }
 
@@ -70,21 +70,21 @@ pub search_goes_on : (direct : List Bool) (callers : List (Vec ProcId Global)) (
 search_goes_on direct callers marks queue g fs after longer here more s = record {
   size = more.size ∙ s.size;
   sound = λ f m. elim (more.only f m) [
-      inl x ↦ s.sound f x
+    | inl x ↦ s.sound f x
     | inr x ↦ through g (fs, here, x.0) (s.sound g (s.known g (Contains-push queue g)))
-    ];
+  ];
   first = λ f m. more.kept f (s.first f m);
   known = λ f c. elim (more.known f c) [ inl x ↦ more.kept f (s.known f (Contains-append_left queue (g ∷ []) f x)) | inr x ↦ x ];
   closed = λ f h c m. elim (more.only h m) [
-      inl x ↦ elim (s.closed f h c x) [
-          inl y ↦ inl (more.kept f y)
-        | inr y ↦ elim (Contains-push_cases queue g h y) [
-            inl z ↦ inr (more.queued h z)
-          | inr z ↦ inl (more.all f (same_callers f h z c))
-          ]
-        ]
+    | inl x ↦ elim (s.closed f h c x) [
+      | inl y ↦ inl (more.kept f y)
+      | inr y ↦ elim (Contains-push_cases queue g h y) [
+        | inl z ↦ inr (more.queued h z)
+        | inr z ↦ inl (more.all f (same_callers f h z c))
+      ]
+    ]
     | inr x ↦ inr x.1
-    ];
+  ];
 }
   where
     same_callers : (f h : ProcId) → g ≡ h → IsCaller callers f h → Contains fs.items f
@@ -98,9 +98,9 @@ pub search_ends : (direct : List Bool) (callers : List (Vec ProcId Global)) (mar
     → (f : ProcId) → Leads (IsMarked direct) (IsCaller callers) f → IsMarked marks f
 search_ends direct callers marks queue empty s f (directly d) = s.first f d
 search_ends direct callers marks queue empty s f (through g c rest) = elim (s.closed f g c (search_ends direct callers marks queue empty s g rest)) [
-    inl x ↦ x
+  | inl x ↦ x
   | inr x ↦ absurd (let none : x.0 < length queue = x.1 in omega arith)
-  ]
+]
 
 -- what is queued is a procedure
 pub queued_within : (direct : List Bool) (callers : List (Vec ProcId Global)) (marks : List Bool) (queue rest : List ProcId) (g : ProcId)
@@ -132,9 +132,9 @@ get-set_same xs i v h = slice_get-get_or (set xs i v) i v (rw length-set h) ∙ 
 
 pub get-set_other : {A : Type 0} (xs : List A) (i k : ℕ) (v : A) → k ≢ i → slice_get (set xs i v) k ≡ slice_get xs k
 get-set_other {A} xs i k v other = elim (slice_get_cases xs k).1 [
-    inl x ↦ slice_get-get_or (set xs i v) k x.0 (rw length-set x.1) ∙ ap Some (get_or-set_other xs i k v x.0 other ∙ x.3) ∙ sym x.2
+  | inl x ↦ slice_get-get_or (set xs i v) k x.0 (rw length-set x.1) ∙ ap Some (get_or-set_other xs i k v x.0 other ∙ x.3) ∙ sym x.2
   | inr x ↦ slice_get_past (set xs i v) k (rw length-set x.0) ∙ sym x.1
-  ]
+]
 
 pub unmarked-set : (marks : List Bool) (i : ℕ) (b : Bool) → i < length marks → b ≡ get_or marks i b → b ≡ false → unmarked (set marks i true) + 1 ≡ unmarked marks
 unmarked-set marks i b h e not_yet =
@@ -150,9 +150,9 @@ mark_new marks queue f b h e not_yet = record {
   kept = kept;
   all = λ g c. now g (only_one f g c);
   only = λ g m. elim (eqb_tells g.0 f.0) [
-      inl x ↦ inr (one_of f g (sym x.1), Contains-append_right queue (f ∷ []) g (one_of f g (sym x.1)))
+    | inl x ↦ inr (one_of f g (sym x.1), Contains-append_right queue (f ∷ []) g (one_of f g (sym x.1)))
     | inr x ↦ inl (sym (get-set_other marks f.0 g.0 true x.1) ∙ m)
-    ];
+  ];
   queued = λ g c. Contains-append_left queue (f ∷ []) g c;
   known = λ g c. elim (Contains-push_cases queue f g c) [ inl x ↦ inl x | inr x ↦ inr (now g x) ];
   spent = let less : unmarked (set marks f.0 true) + 1 ≡ unmarked marks = unmarked-set marks f.0 b h e not_yet in omega (arith, less, length-append queue (f ∷ []));
@@ -163,9 +163,9 @@ mark_new marks queue f b h e not_yet = record {
 
     kept : (g : ProcId) → IsMarked marks g → IsMarked (set marks f.0 true) g
     kept g m = elim (eqb_tells g.0 f.0) [
-        inl x ↦ now g (ap proc (sym x.1))
+      | inl x ↦ now g (ap proc (sym x.1))
       | inr x ↦ get-set_other marks f.0 g.0 true x.1 ∙ m
-      ]
+    ]
 
 -- a procedure that was marked stays so
 pub mark_old : (marks : List Bool) (queue : List ProcId) (f : ProcId) (b : Bool) → f.0 < length marks → b ≡ get_or marks f.0 b → b ≡ true
@@ -195,15 +195,15 @@ found_one marks found i h e is f = (to, from)
 
     to : Contains (found ++ proc i ∷ []) f → (f.0 < i + 1) × IsMarked marks f
     to c = elim (Contains-push_cases found (proc i) f c) [
-        inl x ↦ (let old : f.0 < i = ((is f).0 x).0 in omega arith, ((is f).0 x).1)
+      | inl x ↦ (let old : f.0 < i = ((is f).0 x).0 in omega arith, ((is f).0 x).1)
       | inr x ↦ (let eq : i ≡ f.0 = ap (λ (k : ProcId). k.0) x in omega arith, subst (λ (k : ProcId). IsMarked marks k) x here)
-      ]
+    ]
 
     from : (f.0 < i + 1) × IsMarked marks f → Contains (found ++ proc i ∷ []) f
     from m = elim (eqb_tells f.0 i) [
-        inl x ↦ Contains-append_right found (proc i ∷ []) f (one_of (proc i) f (sym x.1))
+      | inl x ↦ Contains-append_right found (proc i ∷ []) f (one_of (proc i) f (sym x.1))
       | inr x ↦ Contains-append_left found (proc i ∷ []) f ((is f).1 (let below : f.0 < i + 1 = m.0 in let other : f.0 ≢ i = x.1 in omega arith, m.1))
-      ]
+    ]
 
 pub found_none : (marks : List Bool) (found : List ProcId) (i : ℕ) → i < length marks → get_or marks i false ≡ false → IsFound marks found i → IsFound marks found (i + 1)
 found_none marks found i h e is f = (λ c. (let old : f.0 < i = ((is f).0 c).0 in omega arith, ((is f).0 c).1), from)
@@ -216,9 +216,9 @@ found_none marks found i h e is f = (λ c. (let old : f.0 < i = ((is f).0 c).0 i
 
     from : (f.0 < i + 1) × IsMarked marks f → Contains found f
     from m = elim (eqb_tells f.0 i) [
-        inl x ↦ absurd (not_here x.1 m.1)
+      | inl x ↦ absurd (not_here x.1 m.1)
       | inr x ↦ (is f).1 (let below : f.0 < i + 1 = m.0 in let other : f.0 ≢ i = x.1 in omega arith, m.1)
-      ]
+    ]
 
 -- all were looked at
 pub found_all : (marks : List Bool) (found : List ProcId) (i : ℕ) → length marks ≤ i → IsFound marks found i → (f : ProcId) → Contains found f ↔ IsMarked marks f

@@ -12,7 +12,11 @@ use std::alloc::{AllocError, Global};
 
 /// For each procedure those that call it outside the regions of the resource that is left out. An
 /// `Err` is want of memory.
-pub fn callers_of(alloc: Global, but: Option<ResId>, p: &Program) -> Result<Vec<Vec<ProcId>>, AllocError>
+pub fn callers_of(
+    alloc: Global,
+    but: Option<ResId>,
+    p: &Program,
+) -> Result<Vec<Vec<ProcId>>, AllocError>
     ensures { IfOk result (λ callers. AreCallers (program_of p.now) but callers.items) }
 {
     let mut callers = no_callers(alloc, p.procedures.len())?;
@@ -66,7 +70,11 @@ fn no_callers(alloc: Global, count: usize) -> Result<Vec<Vec<ProcId>>, AllocErro
 }
 
 /// Notes that the procedure calls those.
-fn add_caller(f: ProcId, callees: &[ProcId], callers: &mut Vec<Vec<ProcId>>) -> Result<(), AllocError>
+fn add_caller(
+    f: ProcId,
+    callees: &[ProcId],
+    callers: &mut Vec<Vec<ProcId>>,
+) -> Result<(), AllocError>
     requires { All (λ g. g.0 < length callers.old.items) callees.now }
     ensures size { OnOk result (length callers.new.items ≡ length callers.old.items) }
     ensures more { OnOk result ((h g : ProcId) → IsCaller callers.new.items h g ↔ (IsCaller callers.old.items h g ⊎ ((h ≡ f) × Contains callees.now g))) }

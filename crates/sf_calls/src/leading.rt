@@ -10,7 +10,11 @@ use std::alloc::{AllocError, Global};
 
 /// Marks what leads to a marked procedure by calls, by a search backwards along the calls: each
 /// procedure is queued once, and each call is looked at once. An `Err` is want of memory.
-pub fn leading(alloc: Global, direct: Vec<bool>, callers: &[Vec<ProcId>]) -> Result<Vec<bool>, AllocError>
+pub fn leading(
+    alloc: Global,
+    direct: Vec<bool>,
+    callers: &[Vec<ProcId>],
+) -> Result<Vec<bool>, AllocError>
     requires few { length direct.items < 2 ^ 32 }
     requires size { length direct.items ≡ length callers.now }
     requires within { (f g : ProcId) → IsCaller callers.now f g → f.0 < length callers.now }

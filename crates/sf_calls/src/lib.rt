@@ -3,16 +3,15 @@
 #![tactic(auto)]
 
 pub mod assigned;
-pub mod calls;
-pub mod laws;
-pub mod set;
-
 mod callers;
+pub mod calls;
 mod keys;
+pub mod laws;
 mod leading;
 mod occurs;
 mod outside;
 mod reaching;
+pub mod set;
 mod tables;
 
 pub use calls::Calls;

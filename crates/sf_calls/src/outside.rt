@@ -109,7 +109,11 @@ fn enters_of(r: ResId, c: &Command) -> bool
 /// Appends the procedures that the commands call outside the regions of the resource that is left
 /// out, in text order. An `Err` is want of memory.
 #[cycle(callees)]
-pub fn add_callees(but: Option<ResId>, body: &[Command], callees: &mut Vec<ProcId>) -> Result<(), AllocError>
+pub fn add_callees(
+    but: Option<ResId>,
+    body: &[Command],
+    callees: &mut Vec<ProcId>,
+) -> Result<(), AllocError>
     ensures { OnOk result (callees.new.items ≡ callees.old.items ++ callees_in but (block_of body.now)) }
 {
     for c in body {
@@ -120,7 +124,11 @@ pub fn add_callees(but: Option<ResId>, body: &[Command], callees: &mut Vec<ProcI
 
 /// Appends those that one command calls. An `Err` is want of memory.
 #[cycle(callees)]
-pub fn add_callees_of(but: Option<ResId>, c: &Command, callees: &mut Vec<ProcId>) -> Result<(), AllocError>
+pub fn add_callees_of(
+    but: Option<ResId>,
+    c: &Command,
+    callees: &mut Vec<ProcId>,
+) -> Result<(), AllocError>
     ensures { OnOk result (callees.new.items ≡ callees.old.items ++ callees_of but (command_of c.now)) }
 {
     match c {

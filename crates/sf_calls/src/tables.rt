@@ -18,7 +18,11 @@ use sf_core::{Proc, Program};
 use std::alloc::{AllocError, Global};
 
 /// For each of those resources, which procedures take it. An `Err` is want of memory.
-pub fn takes_rows(alloc: Global, p: &Program, resources: &[ResId]) -> Result<Vec<Vec<bool>>, AllocError>
+pub fn takes_rows(
+    alloc: Global,
+    p: &Program,
+    resources: &[ResId],
+) -> Result<Vec<Vec<bool>>, AllocError>
     ensures { IfOk result (λ rows. AreRows (length p.now.procedures.items) (Takes (program_of p.now)) resources.now rows.items) }
 {
     let callers = callers_of(alloc, None, p)?;
@@ -31,7 +35,11 @@ pub fn takes_rows(alloc: Global, p: &Program, resources: &[ResId]) -> Result<Vec
 }
 
 /// For each of those resources, which procedures hold it. An `Err` is want of memory.
-pub fn holds_rows(alloc: Global, p: &Program, resources: &[ResId]) -> Result<Vec<Vec<bool>>, AllocError>
+pub fn holds_rows(
+    alloc: Global,
+    p: &Program,
+    resources: &[ResId],
+) -> Result<Vec<Vec<bool>>, AllocError>
     requires { All (λ r. r.0 < length p.now.resources.items) resources.now }
     ensures { IfOk result (λ rows. AreRows (length p.now.procedures.items) (HeldBy (program_of p.now)) resources.now rows.items) }
 {
@@ -43,7 +51,11 @@ pub fn holds_rows(alloc: Global, p: &Program, resources: &[ResId]) -> Result<Vec
 }
 
 /// For each of those variables, which procedures have it free. An `Err` is want of memory.
-pub fn free_rows(alloc: Global, p: &Program, variables: &[Var]) -> Result<Vec<Vec<bool>>, AllocError>
+pub fn free_rows(
+    alloc: Global,
+    p: &Program,
+    variables: &[Var],
+) -> Result<Vec<Vec<bool>>, AllocError>
     ensures { IfOk result (λ rows. AreRows (length p.now.procedures.items) (FreeIn (program_of p.now)) variables.now rows.items) }
 {
     let mut last = None;
@@ -115,7 +127,12 @@ fn speaks_of(r: ResId, count: usize, h: &Proc) -> bool
 }
 
 /// For each procedure the set of those keys in whose rows it is marked.
-pub fn sets<T: Copy>(alloc: Global, keys: &[T], rows: &[Vec<bool>], count: usize) -> Result<Vec<Set<T>>, AllocError>
+pub fn sets<T: Copy>(
+    alloc: Global,
+    keys: &[T],
+    rows: &[Vec<bool>],
+    count: usize,
+) -> Result<Vec<Set<T>>, AllocError>
     requires same { length rows.now ≡ length keys.now }
     requires long { All (λ row. count ≤ length row.items) rows.now }
     ensures size { IfOk result (λ sets. length sets.items ≡ count) }
@@ -129,7 +146,12 @@ pub fn sets<T: Copy>(alloc: Global, keys: &[T], rows: &[Vec<bool>], count: usize
 }
 
 /// Those keys in whose rows the procedure of that number is marked.
-fn chosen<T: Copy>(alloc: Global, keys: &[T], rows: &[Vec<bool>], f: usize) -> Result<Vec<T>, AllocError>
+fn chosen<T: Copy>(
+    alloc: Global,
+    keys: &[T],
+    rows: &[Vec<bool>],
+    f: usize,
+) -> Result<Vec<T>, AllocError>
     requires same { length rows.now ≡ length keys.now }
     requires long { All (λ row. f < length row.items) rows.now }
     ensures { IfOk result (λ xs. xs.items ≡ chosen f keys.now rows.now) }

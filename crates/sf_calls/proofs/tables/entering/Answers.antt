@@ -10,7 +10,7 @@ pub loop-h-preserved : goal.loop-h-preserved
 loop-h-preserved c =
     c.in_ok-push.ensures.items
     ∙ mapped_more (λ h. enters_in c.args.r (procedure_of h).body) c.args.p.now.procedures.items c.deref-h-items.result.now c.loop-h.h-index c.h-item.result c.loop-h.marks.items c.enters_in.result
-        c.deref-h-items.ensures.value c.loop-h-test.true c.h-item.is (c.enters_in.ensures ∙ ap (λ xs. enters_in c.args.r (block_of xs)) c.deref.ensures.value) c.loop-h.invariant
+    c.deref-h-items.ensures.value c.loop-h-test.true c.h-item.is (c.enters_in.ensures ∙ ap (λ xs. enters_in c.args.r (block_of xs)) c.deref.ensures.value) c.loop-h.invariant
 
 pub returns : goal.returns
 returns c =

@@ -10,7 +10,7 @@ pub loop-h-preserved : goal.loop-h-preserved
 loop-h-preserved c =
     c.in_ok-push.ensures.items
     ∙ mapped_more (λ h. mentions c.args.x (procedure_of h)) c.args.p.now.procedures.items c.deref-h-items.result.now c.loop-h.h-index c.h-item.result c.loop-h.marks.items c.mentions.result
-        c.deref-h-items.ensures.value c.loop-h-test.true c.h-item.is c.mentions.ensures c.loop-h.invariant
+    c.deref-h-items.ensures.value c.loop-h-test.true c.h-item.is c.mentions.ensures c.loop-h.invariant
 
 pub returns : goal.returns
 returns c =
