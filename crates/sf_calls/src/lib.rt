@@ -17,3 +17,6 @@ mod tables;
 pub use calls::Calls;
 pub use reaching::reach;
 pub use set::{ResSet, Set, VarSet};
+
+#[cfg(test)]
+mod tests;
