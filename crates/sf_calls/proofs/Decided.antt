@@ -1,7 +1,7 @@
 -- Each test decides its relation.
 use Rattle.std.proofs.Common.{◌≡◌, ◌≢◌, ◌⊎◌, ◌↔◌, ◌<◌, arith, ℕ, ◌==◌, Bool, true, false, cond, ◌&&◌, ◌||◌, not, List, [], ◌∷◌, ◌++◌, Option, Some, None, Contains, refl, sym, ap, ◌∙◌, inl, inr, subst}
 use Rattle.std.specs.Bool.{Decides}
-use Rattle.std.proofs.lemmas.Bool.Decides.{Decides-eqb, Decides-or, Decides-and, Decides-not}
+use Rattle.std.proofs.lemmas.Bool.Decides.{Decides-eqb, Decides-or, Decides-and, Decides-not, Decides-like}
 use Rattle.std.proofs.lemmas.List.Elements.{Contains-append_cases, Contains-append_left, Contains-append_right, Contains-push_cases}
 use Rattle.sf_base.specs.declared.ids.FieldId.{FieldId}
 use Rattle.sf_base.specs.declared.ids.ProcId.{ProcId}
@@ -15,11 +15,12 @@ use Rattle.sf_core.specs.declared.assertion.Test.TheVariants.{True, Equal, Diffe
 use Rattle.sf_core.specs.declared.command.Expr.{Expr}
 use Rattle.sf_core.specs.declared.command.Expr.TheVariants.{Var as Variable, Nil, Int}
 use Rattle.sf_core.specs.declared.command.Occurrence.{Occurrence}
-use Rattle.sf_core.specs.HeldBy.{OccursInExpr, OccursInOperand, OccursInTest as OccursInCondition, OccursInFields, OccursIn, OccursInAny, OccursInOne}
+use Rattle.sf_core.specs.Occurs.{VarOccursIn}
 use Rattle.sf_core.specs.Syntax.{Conjunct, holds, points, segment, tree, choose, Level, level, Conjuncts, none, also, Call, Command, assign, look_up, mutate, new, dispose, if, while, call, fork, with, Block, done, then}
-use Rattle.sf_calls.specs.Outside.{owner, IsOther, OccursInTest, IsAmong, OccursInValues, OccursInCall, OccursOutside, OccursInCommand, CallsIn, CallsInCommand, EntersIn, EntersInCommand}
+use Rattle.sf_calls.specs.Outside.{owner, IsOther, OccursInExpr, OccursInTest, IsAmong, OccursInValues, OccursInCall, OccursOutside, OccursInCommand, CallsIn, CallsInCommand, EntersIn, EntersInCommand}
 use Rattle.sf_calls.specs.Tests.{same_var, is_other, in_expr, in_operand, in_condition, in_fields, in_level, in_conjuncts, in_conjunct, in_test, in_references, in_values, in_call, in_block, in_command, callees_in, callees_of, enters_in, enters_of}
 use Rattle.sf_calls.proofs.Searches.{one_of, only_one}
+use Rattle.sf_calls.proofs.Occurring.{OccursInOperand, OccursInCondition, OccursInFields, OccursIn, OccursInAny, OccursInOne, occurs_is}
 
 -- what never holds
 never : Decides false ⊥
@@ -66,19 +67,22 @@ in_fields_is x [] = never
 in_fields_is x (f ∷ fs) = Decides-or _ _ (in_operand_is x f.1) (in_fields_is x fs)
 
 mutual
-  pub in_level_is : (x : Var) (a : Level Expr) → Decides (in_level x a) (OccursIn x a)
-  in_level_is x (level made cs) = in_conjuncts_is x cs
+  level_decides : (x : Var) (a : Level Expr) → Decides (in_level x a) (OccursIn x a)
+  level_decides x (level made cs) = in_conjuncts_is x cs
 
-  pub in_conjuncts_is : (x : Var) (cs : Conjuncts Expr) → Decides (in_conjuncts x cs) (OccursInAny x cs)
+  in_conjuncts_is : (x : Var) (cs : Conjuncts Expr) → Decides (in_conjuncts x cs) (OccursInAny x cs)
   in_conjuncts_is x none = never
   in_conjuncts_is x (also c cs) = Decides-or _ _ (in_conjunct_is x c) (in_conjuncts_is x cs)
 
-  pub in_conjunct_is : (x : Var) (c : Conjunct Expr) → Decides (in_conjunct x c) (OccursInOne x c)
+  in_conjunct_is : (x : Var) (c : Conjunct Expr) → Decides (in_conjunct x c) (OccursInOne x c)
   in_conjunct_is x (holds place t) = in_condition_is x t
   in_conjunct_is x (points place root fs) = Decides-or _ _ (in_operand_is x root) (in_fields_is x fs)
   in_conjunct_is x (segment place f from to) = Decides-or _ _ (in_operand_is x from) (in_operand_is x to)
   in_conjunct_is x (tree place l r root) = in_operand_is x root
-  in_conjunct_is x (choose place t this that) = Decides-or _ _ (in_condition_is x t) (Decides-or _ _ (in_level_is x this) (in_level_is x that))
+  in_conjunct_is x (choose place t this that) = Decides-or _ _ (in_condition_is x t) (Decides-or _ _ (level_decides x this) (level_decides x that))
+
+pub in_level_is : (x : Var) (a : Level Expr) → Decides (in_level x a) (VarOccursIn a x)
+in_level_is x a = Decides-like (in_level x a) (occurs_is x a).1 (occurs_is x a).0 (level_decides x a)
 
 pub in_test_is : (x : Var) (t : Test Expr) → Decides (in_test x t) (OccursInTest x t)
 in_test_is x True = never

@@ -6,7 +6,7 @@ use Rattle.sf_base.specs.declared.ids.ResId.{ResId}
 use Rattle.sf_base.specs.declared.ids.Var.{Var}
 use Rattle.sf_base.specs.declared.ids.Var.TheVariants.{Own, Shared}
 use Rattle.sf_core.specs.Formed.{IsFormed, IsParameter, IsInBody, variable_count}
-use Rattle.sf_core.specs.HeldBy.{HeldBy, OccursIn}
+use Rattle.sf_core.specs.HeldBy.{HeldBy}
 use Rattle.sf_core.specs.Syntax.{Procedure, Program, Resource}
 use Rattle.sf_calls.specs.Conditions.{Has, Calls, Mentions, Enters, Takes, FreeIn, Free, IsShared}
 use Rattle.sf_calls.specs.Laws.{IsTakesClosed, IsFreeClosed, TakesIsLeast, FreeIsLeast}

@@ -1,3 +1,4 @@
+pub mod Occurring
 pub mod Searches
 pub mod Decided
 pub mod Within

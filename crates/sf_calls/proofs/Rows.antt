@@ -15,7 +15,8 @@ use Rattle.sf_base.specs.declared.ids.Var.{Var}
 use Rattle.sf_base.specs.declared.ids.Var.TheVariants.{Own, Shared}
 use Rattle.sf_core.specs.declared.program.Proc.{Proc}
 use Rattle.sf_core.specs.Formed.{IsFormed, IsParameter, variable_count}
-use Rattle.sf_core.specs.HeldBy.{HeldBy, OccursIn}
+use Rattle.sf_core.specs.HeldBy.{HeldBy}
+use Rattle.sf_core.specs.Occurs.{VarOccursIn}
 use Rattle.sf_core.specs.Syntax.{Procedure, Program}
 use Rattle.sf_core.specs.View.{procedure_of}
 use Rattle.sf_calls.specs.Conditions.{Has, Calls, Mentions, Enters}
@@ -60,12 +61,12 @@ row_of t P decides hs i marks past e =
 pub row_same : (n : ℕ) (P Q : ProcId → Type 0) (row : List Bool) → ((f : ProcId) → P f → Q f) → ((f : ProcId) → Q f → P f) → IsRow n P row → IsRow n Q row
 row_same n P Q row to from r = record { size = r.size; marks = λ f. (λ m. to f ((r.marks f).0 m), λ q. (r.marks f).1 (from f q)) }
 
-pub mentions_is : (x : Var) (h : Procedure) → Decides (mentions x h) (OccursIn x h.pre.level ⊎ (OccursIn x h.post.level ⊎ OccursOutside x h.body))
+pub mentions_is : (x : Var) (h : Procedure) → Decides (mentions x h) (VarOccursIn h.pre.level x ⊎ (VarOccursIn h.post.level x ⊎ OccursOutside x h.body))
 mentions_is x h = Decides-or _ _ (in_level_is x h.pre.level) (Decides-or _ _ (in_level_is x h.post.level) (in_block_is x h.body))
 
 -- a variable of the resource, below n, stands in the pre or in the post
 SpeaksBelow : ResId → ℕ → Procedure → Type 0
-SpeaksBelow r n h = (i : ℕ) × (i < n) × (OccursIn (Shared r i) h.pre.level ⊎ OccursIn (Shared r i) h.post.level)
+SpeaksBelow r n h = (i : ℕ) × (i < n) × (VarOccursIn h.pre.level (Shared r i) ⊎ VarOccursIn h.post.level (Shared r i))
 
 speaks_is : (r : ResId) (n : ℕ) (h : Procedure) → Decides (speaks_of r n h) (SpeaksBelow r n h)
 unfolding SpeaksBelow
@@ -74,13 +75,13 @@ speaks_is r (suc n) h =
     let here = Decides-or _ _ (in_level_is (Shared r n) h.pre.level) (in_level_is (Shared r n) h.post.level) in
     Decides-like (speaks_of r (suc n) h) to from (Decides-or (speaks_of r n h) _ (speaks_is r n h) here)
   where
-    to : SpeaksBelow r n h ⊎ (OccursIn (Shared r n) h.pre.level ⊎ OccursIn (Shared r n) h.post.level) → SpeaksBelow r (suc n) h
+    to : SpeaksBelow r n h ⊎ (VarOccursIn h.pre.level (Shared r n) ⊎ VarOccursIn h.post.level (Shared r n)) → SpeaksBelow r (suc n) h
     to (inl s) = (s.0, omega (arith, s.1), s.2)
     to (inr s) = (n, omega arith, s)
 
-    from : SpeaksBelow r (suc n) h → SpeaksBelow r n h ⊎ (OccursIn (Shared r n) h.pre.level ⊎ OccursIn (Shared r n) h.post.level)
+    from : SpeaksBelow r (suc n) h → SpeaksBelow r n h ⊎ (VarOccursIn h.pre.level (Shared r n) ⊎ VarOccursIn h.post.level (Shared r n))
     from s = elim (eqb_tells s.0 n) [
-      | inl e ↦ inr (subst (λ (k : ℕ). OccursIn (Shared r k) h.pre.level ⊎ OccursIn (Shared r k) h.post.level) e.1 s.2)
+      | inl e ↦ inr (subst (λ (k : ℕ). VarOccursIn h.pre.level (Shared r k) ⊎ VarOccursIn h.post.level (Shared r k)) e.1 s.2)
       | inr e ↦ inl (s.0, (let other : s.0 ≢ n = e.1 in omega (arith, s.1)), s.2)
     ]
 

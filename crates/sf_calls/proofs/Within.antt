@@ -16,9 +16,10 @@ use Rattle.sf_core.specs.declared.command.Expr.{Expr}
 use Rattle.sf_core.specs.declared.command.Expr.TheVariants.{Var as Variable, Nil, Int}
 use Rattle.sf_core.specs.declared.command.Occurrence.{Occurrence}
 use Rattle.sf_core.specs.Formed.{IsInBody, IsSettable, ExprWithin, TestWithin, OperandWithin, FieldsWithin, LevelWithin, ConjunctsWithin, ConjunctWithin, HasCounts, CallWithin, CommandWithin, BlockWithin, variable_count}
-use Rattle.sf_core.specs.HeldBy.{OccursInExpr, OccursInOperand, OccursInTest as OccursInCondition, OccursInFields, OccursIn, OccursInAny, OccursInOne}
+use Rattle.sf_core.specs.Occurs.{VarOccursIn}
 use Rattle.sf_core.specs.Syntax.{Conjunct, holds, points, segment, tree, choose, Level, level, Conjuncts, none, also, Call, Command, assign, look_up, mutate, new, dispose, if, while, call, fork, with, Block, done, then, Procedure, Program}
-use Rattle.sf_calls.specs.Outside.{owner, IsOther, OccursInTest, IsAmong, OccursInValues, OccursInCall, OccursOutside, OccursInCommand, CallsIn, CallsInCommand, EntersIn, EntersInCommand}
+use Rattle.sf_calls.specs.Outside.{owner, IsOther, OccursInExpr, OccursInTest, IsAmong, OccursInValues, OccursInCall, OccursOutside, OccursInCommand, CallsIn, CallsInCommand, EntersIn, EntersInCommand}
+use Rattle.sf_calls.proofs.Occurring.{OccursInOperand, OccursInCondition, OccursInFields, OccursIn, OccursInAny, OccursInOne, occurs_is}
 
 there : (o : Option Procedure) (c : Call) → HasCounts o c → (h : Procedure) × (o ≡ Some h)
 there None c h = absurd h
@@ -95,8 +96,8 @@ fields_within fields V made x (f ∷ fs) w (inl h) = operand_within V made x f.1
 fields_within fields V made x (f ∷ fs) w (inr h) = fields_within fields V made x fs w.3 h
 
 mutual
-  pub level_within : (fields : List (List ℕ)) (V : Var → Type 0) (made : List Scope) (x : Var) (a : Level Expr) → LevelWithin fields V made a → OccursIn x a → V x
-  level_within fields V made x (level here cs) w h = conjuncts_within fields V (here ∷ made) x cs w h
+  within_level : (fields : List (List ℕ)) (V : Var → Type 0) (made : List Scope) (x : Var) (a : Level Expr) → LevelWithin fields V made a → OccursIn x a → V x
+  within_level fields V made x (level here cs) w h = conjuncts_within fields V (here ∷ made) x cs w h
 
   conjuncts_within : (fields : List (List ℕ)) (V : Var → Type 0) (made : List Scope) (x : Var) (cs : Conjuncts Expr) → ConjunctsWithin fields V made cs → OccursInAny x cs → V x
   conjuncts_within fields V made x none w h = absurd h
@@ -111,8 +112,11 @@ mutual
   conjunct_within fields V made x (segment q next y z) w (inr h) = operand_within V made x z w.2 h
   conjunct_within fields V made x (tree q left right y) w h = operand_within V made x y w.2 h
   conjunct_within fields V made x (choose q t this that) w (inl h) = condition_within V made x t w.0 h
-  conjunct_within fields V made x (choose q t this that) w (inr (inl h)) = level_within fields V made x this w.1 h
-  conjunct_within fields V made x (choose q t this that) w (inr (inr h)) = level_within fields V made x that w.2 h
+  conjunct_within fields V made x (choose q t this that) w (inr (inl h)) = within_level fields V made x this w.1 h
+  conjunct_within fields V made x (choose q t this that) w (inr (inr h)) = within_level fields V made x that w.2 h
+
+pub level_within : (fields : List (List ℕ)) (V : Var → Type 0) (made : List Scope) (x : Var) (a : Level Expr) → LevelWithin fields V made a → VarOccursIn a x → V x
+level_within fields V made x a w h = within_level fields V made x a w ((occurs_is x a).0 h)
 
 test_within : (V : Var → Type 0) (x : Var) (t : Test Expr) → TestWithin (ExprWithin V) t → OccursInTest x t → V x
 test_within V x True w h = absurd h

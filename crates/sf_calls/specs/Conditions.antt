@@ -5,7 +5,7 @@ use Rattle.sf_base.specs.declared.ids.ProcId.{ProcId}
 use Rattle.sf_base.specs.declared.ids.ResId.{ResId}
 use Rattle.sf_base.specs.declared.ids.Var.{Var}
 use Rattle.sf_base.specs.declared.ids.Var.TheVariants.{Own, Shared}
-use Rattle.sf_core.specs.HeldBy.{OccursIn}
+use Rattle.sf_core.specs.Occurs.{VarOccursIn}
 use Rattle.sf_core.specs.Syntax.{Procedure, Program}
 use Rattle.sf_calls.specs.Leads.{Leads}
 use Rattle.sf_calls.specs.Outside.{owner, OccursOutside, CallsIn, EntersIn}
@@ -24,7 +24,7 @@ Enters p r f = Has p (λ h. EntersIn r h.body) f
 
 -- x stands in f's pre or post, or in its body outside the regions of its resource
 abbrev pub Mentions : Program → Var → ProcId → Type 0
-Mentions p x f = Has p (λ h. OccursIn x h.pre.level ⊎ (OccursIn x h.post.level ⊎ OccursOutside x h.body)) f
+Mentions p x f = Has p (λ h. VarOccursIn h.pre.level x ⊎ (VarOccursIn h.post.level x ⊎ OccursOutside x h.body)) f
 
 -- Takes: f's body has a region of r, or f calls a procedure that takes r
 abbrev pub Takes : Program → ProcId → ResId → Type 0

@@ -3,6 +3,8 @@ pub mod Outside
 pub mod Conditions
 pub mod Sets
 pub mod Assigned
+pub mod First
+pub mod FirstBreach
 pub mod Tests
 pub mod Laws
 pub mod Marks

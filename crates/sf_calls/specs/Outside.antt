@@ -9,7 +9,8 @@ use Rattle.sf_core.specs.declared.assertion.Test.{Test}
 use Rattle.sf_core.specs.declared.assertion.Test.TheVariants.{True, Equal, Differ}
 use Rattle.sf_core.specs.declared.command.Expr.{Expr}
 use Rattle.sf_core.specs.declared.command.Occurrence.{Occurrence}
-use Rattle.sf_core.specs.HeldBy.{OccursInExpr, OccursIn}
+use Rattle.sf_core.specs.declared.command.Expr.TheVariants.{Var as Variable, Nil, Int}
+use Rattle.sf_core.specs.Occurs.{VarOccursIn}
 use Rattle.sf_core.specs.Syntax.{Call, Command, assign, look_up, mutate, new, dispose, if, while, call, fork, with, Block, done, then}
 
 -- the resource whose variable it is
@@ -21,6 +22,12 @@ owner (Shared r i) = Some r
 abbrev pub IsOther : Option ResId → ResId → Type 0
 IsOther None q = Unit {0}
 IsOther (Some r) q = q ≢ r
+
+-- the variable stands in an expression
+abbrev pub OccursInExpr : Var → Expr → Type 0
+OccursInExpr x (Variable y) = y.var ≡ x
+OccursInExpr x Nil = ⊥
+OccursInExpr x (Int i) = ⊥
 
 -- the variable stands in a test of commands
 abbrev pub OccursInTest : Var → Test Expr → Type 0
@@ -55,7 +62,7 @@ abbrev mutual
   OccursInCommand x (new p y) = y.var ≡ x
   OccursInCommand x (dispose p e) = OccursInExpr x e
   OccursInCommand x (if p t c d) = OccursInTest x t ⊎ (OccursOutside x c ⊎ OccursOutside x d)
-  OccursInCommand x (while p t a c) = OccursInTest x t ⊎ (OccursIn x a.level ⊎ OccursOutside x c)
+  OccursInCommand x (while p t a c) = OccursInTest x t ⊎ (VarOccursIn a.level x ⊎ OccursOutside x c)
   OccursInCommand x (call p c) = OccursInCall x c
   OccursInCommand x (fork p c d) = OccursInCall x c ⊎ OccursInCall x d
   OccursInCommand x (with p r t c) = IsOther (owner x) r × (OccursInTest x t ⊎ OccursOutside x c)

@@ -3,6 +3,7 @@
 #![tactic(auto)]
 
 pub mod assigned;
+pub mod breach;
 mod callers;
 pub mod calls;
 mod keys;
@@ -14,6 +15,7 @@ mod reaching;
 pub mod set;
 mod tables;
 
+pub use breach::Breach;
 pub use calls::Calls;
 pub use reaching::reach;
 pub use set::{ResSet, Set, VarSet};

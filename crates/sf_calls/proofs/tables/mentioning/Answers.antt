@@ -1,5 +1,5 @@
 use Rattle.std.proofs.Common.{◌≡◌, ◌≤◌, ◌⊎◌, ◌∙◌, length, ap, arith}
-use Rattle.sf_core.specs.HeldBy.{OccursIn}
+use Rattle.sf_core.specs.Occurs.{VarOccursIn}
 use Rattle.sf_core.specs.View.{procedure_of}
 use Rattle.sf_calls.specs.Outside.{OccursOutside}
 use Rattle.sf_calls.specs.Tests.{mentions}
@@ -15,4 +15,4 @@ loop-h-preserved c =
 pub returns : goal.returns
 returns c =
     let all : length c.args.p.now.procedures.items ≤ c.loop-h.h-index = omega (arith, c.loop-h-test.false, ap length c.deref-h-items.ensures.value) in
-    row_of (mentions c.args.x) (λ h. OccursIn c.args.x h.pre.level ⊎ (OccursIn c.args.x h.post.level ⊎ OccursOutside c.args.x h.body)) (mentions_is c.args.x) c.args.p.now.procedures.items c.loop-h.h-index c.loop-h.marks.items all c.loop-h.invariant
+    row_of (mentions c.args.x) (λ h. VarOccursIn h.pre.level c.args.x ⊎ (VarOccursIn h.post.level c.args.x ⊎ OccursOutside c.args.x h.body)) (mentions_is c.args.x) c.args.p.now.procedures.items c.loop-h.h-index c.loop-h.marks.items all c.loop-h.invariant
