@@ -1,17 +1,17 @@
 -- What the least sets contain: only what is there, and no more than any closed family.
-use Rattle.std.proofs.Common.{◌≡◌, ◌⊎◌, ◌<◌, ℕ, Bool, IsTrue, Result, Ok, Err, IfOk, List, [], length, Option, Some, None, slice_get, inl, inr, sym, ap, subst, refl, arith}
+use Rattle.std.proofs.Common.{◌≡◌, ◌<◌, ℕ, IsTrue, Result, Ok, Err, IfOk, List, [], length, Option, Some, None, slice_get, inl, inr, refl, arith}
 use Rattle.std.proofs.lemmas.Option.{slice_get_within}
 use Rattle.sf_base.specs.declared.ids.ProcId.{ProcId}
 use Rattle.sf_base.specs.declared.ids.ResId.{ResId}
 use Rattle.sf_base.specs.declared.ids.Var.{Var}
 use Rattle.sf_base.specs.declared.ids.Var.TheVariants.{Own, Shared}
-use Rattle.sf_core.specs.Formed.{IsFormed, IsParameter, IsInBody, variable_count}
+use Rattle.sf_core.specs.Formed.{IsFormed, IsParameter, variable_count}
 use Rattle.sf_core.specs.HeldBy.{HeldBy}
-use Rattle.sf_core.specs.Syntax.{Procedure, Program, Resource}
-use Rattle.sf_calls.specs.Conditions.{Has, Calls, Mentions, Enters, Takes, FreeIn, Free, IsShared}
-use Rattle.sf_calls.specs.Laws.{IsTakesClosed, IsFreeClosed, TakesIsLeast, FreeIsLeast}
+use Rattle.sf_core.specs.Syntax.{Program, Resource}
+use Rattle.sf_calls.specs.Conditions.{Calls, Mentions, Enters, Takes, FreeIn, Free}
+use Rattle.sf_calls.specs.Laws.{TakesIsLeast, FreeIsLeast}
 use Rattle.sf_calls.specs.Leads.{Leads, directly, through}
-use Rattle.sf_calls.specs.Outside.{owner, OccursOutside}
+use Rattle.sf_calls.specs.Outside.{owner}
 use Rattle.sf_calls.specs.Sets.{IsUpTo}
 use Rattle.sf_calls.proofs.Rows.{leads_within}
 use Rattle.sf_calls.proofs.Within.{entered_within, level_within, block_within}

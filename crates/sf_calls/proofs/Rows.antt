@@ -1,5 +1,5 @@
 -- Rows of marks: what a procedure's own text tells, and what its calls add.
-use Rattle.std.proofs.Common.{◌≡◌, ◌≢◌, ◌⊎◌, ◌↔◌, ◌<◌, ◌≤◌, ◌+◌, ℕ, zero, suc, Bool, true, false, cond, ◌||◌, List, [], ◌∷◌, ◌++◌, length, get_or, map, take, drop, Option, Some, None, slice_get, Vec, Contains, All, AllPairs, refl, sym, ap, inl, inr, ◌∙◌, subst, arith}
+use Rattle.std.proofs.Common.{◌≡◌, ◌≢◌, ◌⊎◌, ◌↔◌, ◌<◌, ◌≤◌, ◌+◌, ℕ, zero, suc, Bool, true, false, cond, List, [], ◌∷◌, ◌++◌, length, get_or, map, take, Option, Some, slice_get, Vec, Contains, All, AllPairs, refl, sym, ap, inl, inr, ◌∙◌, subst, arith}
 use Rattle.std.specs.Bool.{Decides}
 use Rattle.std.specs.List.{AllZip}
 use Rattle.std.specs.Option.{option_map}
@@ -7,26 +7,25 @@ use Rattle.std.proofs.lemmas.Bool.Decides.{eqb_tells, Decides-or, Decides-like}
 use Rattle.std.proofs.lemmas.List.{length-map, take_all, take_more, map-append}
 use Rattle.std.proofs.lemmas.List.Elements.{Contains-append_left, Contains-append_right, Contains-append_cases, All-nil, All-cons, All-head, All-tail}
 use Rattle.std.proofs.lemmas.List.Kept.{AllPairs-cons}
-use Rattle.std.proofs.lemmas.Option.{slice_get-map, slice_get_within, slice_get_cases, slice_get-get_or, get_or_from_slice_get, same_Some, none-some}
+use Rattle.std.proofs.lemmas.Option.{slice_get-map, slice_get_within, slice_get_cases, get_or_from_slice_get, same_Some, none-some}
 use Rattle.std.specs.declared.alloc.Global.{Global}
 use Rattle.sf_base.specs.declared.ids.ProcId.{ProcId}
 use Rattle.sf_base.specs.declared.ids.ResId.{ResId}
 use Rattle.sf_base.specs.declared.ids.Var.{Var}
-use Rattle.sf_base.specs.declared.ids.Var.TheVariants.{Own, Shared}
+use Rattle.sf_base.specs.declared.ids.Var.TheVariants.{Shared}
 use Rattle.sf_core.specs.declared.program.Proc.{Proc}
 use Rattle.sf_core.specs.Formed.{IsFormed, IsParameter, variable_count}
 use Rattle.sf_core.specs.HeldBy.{HeldBy}
 use Rattle.sf_core.specs.Occurs.{VarOccursIn}
 use Rattle.sf_core.specs.Syntax.{Procedure, Program}
 use Rattle.sf_core.specs.View.{procedure_of}
-use Rattle.sf_calls.specs.Conditions.{Has, Calls, Mentions, Enters}
+use Rattle.sf_calls.specs.Conditions.{Calls}
 use Rattle.sf_calls.specs.Leads.{Leads, directly, through}
 use Rattle.sf_calls.specs.Marks.{IsMarked, IsCaller, AreCallers, IsRow, AreRows, chosen}
 use Rattle.sf_calls.specs.Outside.{OccursOutside}
 use Rattle.sf_calls.specs.Sets.{IsSetOf, IsFamily}
-use Rattle.sf_calls.specs.Tests.{mentions, speaks_of, in_level}
+use Rattle.sf_calls.specs.Tests.{mentions, speaks_of}
 use Rattle.sf_calls.proofs.Decided.{in_level_is, in_block_is, none_in, single_is, is_single}
-use Rattle.sf_calls.proofs.Searches.{proc}
 use Rattle.sf_calls.proofs.Within.{level_within}
 
 -- a test of each procedure marks those that have what it decides

@@ -1,5 +1,5 @@
 -- What a program's numbers stand for is there: the procedures that are called, the resources that are entered and the variables that occur.
-use Rattle.std.proofs.Common.{◌≡◌, ◌⊎◌, ◌<◌, ◌≤◌, ℕ, List, [], ◌∷◌, length, Option, Some, None, slice_get, All, inl, inr, refl, sym, ap, ◌∙◌, subst, arith}
+use Rattle.std.proofs.Common.{◌≡◌, ◌<◌, ℕ, List, [], ◌∷◌, length, Option, Some, None, slice_get, All, inl, inr, refl, subst}
 use Rattle.std.proofs.lemmas.Option.{slice_get_within}
 use Rattle.std.proofs.lemmas.List.Elements.{All-head, All-tail}
 use Rattle.sf_base.specs.declared.ids.FieldId.{FieldId}
@@ -15,10 +15,10 @@ use Rattle.sf_core.specs.declared.assertion.Test.TheVariants.{True, Equal, Diffe
 use Rattle.sf_core.specs.declared.command.Expr.{Expr}
 use Rattle.sf_core.specs.declared.command.Expr.TheVariants.{Var as Variable, Nil, Int}
 use Rattle.sf_core.specs.declared.command.Occurrence.{Occurrence}
-use Rattle.sf_core.specs.Formed.{IsInBody, IsSettable, ExprWithin, TestWithin, OperandWithin, FieldsWithin, LevelWithin, ConjunctsWithin, ConjunctWithin, HasCounts, CallWithin, CommandWithin, BlockWithin, variable_count}
+use Rattle.sf_core.specs.Formed.{IsInBody, IsSettable, ExprWithin, TestWithin, OperandWithin, FieldsWithin, LevelWithin, ConjunctsWithin, ConjunctWithin, HasCounts, CallWithin, CommandWithin, BlockWithin}
 use Rattle.sf_core.specs.Occurs.{VarOccursIn}
 use Rattle.sf_core.specs.Syntax.{Conjunct, holds, points, segment, tree, choose, Level, level, Conjuncts, none, also, Call, Command, assign, look_up, mutate, new, dispose, if, while, call, fork, with, Block, done, then, Procedure, Program}
-use Rattle.sf_calls.specs.Outside.{owner, IsOther, OccursInExpr, OccursInTest, IsAmong, OccursInValues, OccursInCall, OccursOutside, OccursInCommand, CallsIn, CallsInCommand, EntersIn, EntersInCommand}
+use Rattle.sf_calls.specs.Outside.{OccursInExpr, OccursInTest, IsAmong, OccursInValues, OccursInCall, OccursOutside, OccursInCommand, CallsIn, CallsInCommand, EntersIn, EntersInCommand}
 use Rattle.sf_calls.proofs.Occurring.{OccursInOperand, OccursInCondition, OccursInFields, OccursIn, OccursInAny, OccursInOne, occurs_is}
 
 there : (o : Option Procedure) (c : Call) → HasCounts o c → (h : Procedure) × (o ≡ Some h)

@@ -1,12 +1,10 @@
 -- FirstBreach: the first place where a program breaks the conditions on variables, in file order, and in text order within a body.
 -- After the variable conditions of Berdine, Calcagno and O'Hearn, "Smallfoot" (2005). At one command, without those inside it, the kinds come in the order in which Breach lists them.
-use Rattle.std.specs.Prelude.{◌≡◌, ◌⊎◌, ℕ, ◌+◌, zero, suc, List, [], ◌∷◌, ◌++◌, length, Option, Some, None, Contains}
-use Rattle.sf_base.specs.declared.ids.FieldId.{FieldId}
+use Rattle.std.specs.Prelude.{◌≡◌, ◌⊎◌, ℕ, suc, List, [], ◌∷◌, ◌++◌, Option, Some, None, Contains}
 use Rattle.sf_base.specs.declared.ids.ProcId.{ProcId}
 use Rattle.sf_base.specs.declared.ids.ResId.{ResId}
 use Rattle.sf_base.specs.declared.ids.Var.{Var}
 use Rattle.sf_base.specs.declared.ids.Var.TheVariants.{Own, Shared}
-use Rattle.sf_base.specs.declared.place.Place.{Place}
 use Rattle.sf_core.specs.declared.assertion.Operand.{Operand}
 use Rattle.sf_core.specs.declared.assertion.Operand.TheVariants.{Known, Exists}
 use Rattle.sf_core.specs.declared.assertion.Test.{Test}
@@ -94,7 +92,7 @@ abbrev mutual
 abbrev pub UnheldInCall : Around → Call → Option Breach → Type 0
 UnheldInCall a c r =
     first (first_of (λ x. where_ (Free a.program c.callee x × IsUnheld a x) (NotHeld c.place x)) (variables_from 0 a.program.resources))
-        (first (first_of (UnheldAt a) c.references) (first_of (UnheldInExpr a) c.values)) r
+    (first (first_of (UnheldAt a) c.references) (first_of (UnheldInExpr a) c.values)) r
 
 -- a call whose procedure takes a resource that is held
 abbrev pub ReentersByCall : Around → Call → Option Breach → Type 0

@@ -1,6 +1,6 @@
 -- Marks: a test for each procedure, by its number, and the callers of each procedure, as lists.
 -- Ordinary: a set of numbers as its characteristic list, a graph as its lists of predecessors.
-use Rattle.std.specs.Prelude.{◌≡◌, ◌⊎◌, ℕ, ◌+◌, Bool, true, false, not, List, [], ◌∷◌, length, count_by, cond, ◌↔◌, Option, Some, None, slice_get, slice_index_or, Contains, Vec}
+use Rattle.std.specs.Prelude.{◌≡◌, ◌⊎◌, ℕ, ◌+◌, Bool, true, false, not, List, [], ◌∷◌, length, count_by, cond, ◌↔◌, Option, Some, slice_get, slice_index_or, Contains, Vec}
 use Rattle.std.specs.List.{AllZip}
 use Rattle.std.specs.declared.alloc.Global.{Global}
 use Rattle.sf_base.specs.declared.ids.ProcId.{ProcId}

@@ -1,6 +1,6 @@
 -- What stands in commands: the regions that they enter, and, outside the regions of a resource, the variables and the calls.
 -- After the variable conditions of Berdine, Calcagno and O'Hearn, "Smallfoot" (2005). The condition of a region counts as inside it.
-use Rattle.std.specs.Prelude.{◌≡◌, ◌≢◌, ◌⊎◌, ℕ, List, [], ◌∷◌, Option, Some, None}
+use Rattle.std.specs.Prelude.{◌≡◌, ◌≢◌, ◌⊎◌, List, [], ◌∷◌, Option, Some, None}
 use Rattle.sf_base.specs.declared.ids.ProcId.{ProcId}
 use Rattle.sf_base.specs.declared.ids.ResId.{ResId}
 use Rattle.sf_base.specs.declared.ids.Var.{Var}

@@ -1,4 +1,4 @@
-use Rattle.std.proofs.Common.{take, get_or, inl, refl, ◌∙◌}
+use Rattle.std.proofs.Common.{take, refl, ◌∙◌}
 use Rattle.std.proofs.lemmas.List.{take_more, take_all}
 use Rattle.sf_calls.proofs.CallGraph.{callers_more, callers_first}
 use Rattle.sf_calls.proofs.Searches.{proc}

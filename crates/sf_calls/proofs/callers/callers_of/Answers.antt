@@ -1,4 +1,4 @@
-use Rattle.std.proofs.Common.{◌≡◌, ◌≤◌, ◌∙◌, sym, ap, length, map, slice_get, Some, ◌++◌, ◌+◌, rules, refl, arith}
+use Rattle.std.proofs.Common.{◌≡◌, ◌≤◌, ◌∙◌, sym, ap, length, map, slice_get, Some, ◌++◌, rules, arith}
 use Rattle.std.proofs.lemmas.List.{length-map}
 use Rattle.sf_core.proofs.Lookup.{read_mapped}
 use Rattle.sf_core.specs.View.{procedure_of, block_of}

@@ -1,4 +1,4 @@
-use Rattle.std.proofs.Common.{◌<◌, ℕ}
+use Rattle.std.proofs.Common.{ℕ}
 use Rattle.sf_calls.specs.Sets.{IsSetOf, IsEarlier, IsUpTo}
 use Rattle.sf_calls.proofs.keys.add_variables.Given as goal
 

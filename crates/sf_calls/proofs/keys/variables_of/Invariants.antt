@@ -1,4 +1,4 @@
-use Rattle.std.proofs.Common.{◌<◌, slice_get}
+use Rattle.std.proofs.Common.{slice_get}
 use Rattle.sf_core.specs.Formed.{variable_count}
 use Rattle.sf_core.specs.Whole.{program_of}
 use Rattle.sf_calls.specs.Sets.{IsSetOf, IsEarlier, IsUpTo}

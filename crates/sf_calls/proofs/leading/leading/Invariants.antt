@@ -1,4 +1,4 @@
-use Rattle.std.proofs.Common.{◌≡◌, ◌+◌, length}
+use Rattle.std.proofs.Common.{◌+◌, length}
 use Rattle.sf_calls.specs.Marks.{unmarked}
 use Rattle.sf_calls.proofs.Searches.{IsSearch}
 use Rattle.sf_calls.proofs.leading.leading.Given as goal

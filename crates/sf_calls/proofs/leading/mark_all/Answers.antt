@@ -1,6 +1,5 @@
-use Rattle.std.proofs.Common.{get_or, take}
+use Rattle.std.proofs.Common.{take}
 use Rattle.std.proofs.lemmas.List.{take_more}
-use Rattle.sf_base.specs.declared.ids.ProcId.{ProcId}
 use Rattle.sf_calls.proofs.Searches.{marks_both, proc}
 use Rattle.sf_calls.proofs.leading.mark_all.Goals as goal
 

@@ -1,4 +1,3 @@
-use Rattle.std.proofs.Common.{refl}
 use Rattle.sf_calls.proofs.Searches.{found_one, found_none, found_all}
 use Rattle.sf_calls.proofs.leading.marked.Goals as goal
 use Rattle.sf_calls.proofs.leading.marked.Goals.{then-mark+in_ok-push, else-mark}

@@ -1,4 +1,4 @@
-use Rattle.std.proofs.Common.{◌≡◌, ◌↔◌, ◌<◌, Contains}
+use Rattle.std.proofs.Common.{◌↔◌, ◌<◌, Contains}
 use Rattle.sf_base.specs.declared.ids.ProcId.{ProcId}
 use Rattle.sf_calls.specs.Marks.{IsMarked}
 use Rattle.sf_calls.proofs.leading.marked.Given as goal

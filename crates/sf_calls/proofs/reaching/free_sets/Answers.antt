@@ -1,16 +1,12 @@
-use Rattle.std.proofs.Common.{◌≡◌, ◌≤◌, ◌<◌, ◌∙◌, ℕ, List, Vec, Some, slice_get, length, map, All, sym, ap, rules, arith}
+use Rattle.std.proofs.Common.{◌≡◌, ◌∙◌, slice_get, length, sym, ap, rules}
 use Rattle.std.proofs.lemmas.List.{length-map}
-use Rattle.std.specs.declared.alloc.Global.{Global}
-use Rattle.sf_base.specs.declared.ids.ResId.{ResId}
-use Rattle.sf_base.specs.declared.ids.Var.{Var}
 use Rattle.sf_core.specs.Formed.{variable_count}
-use Rattle.sf_core.specs.HeldBy.{HeldBy}
 use Rattle.sf_core.specs.View.{procedure_of, resource_of}
 use Rattle.sf_core.specs.Whole.{program_of}
-use Rattle.sf_calls.specs.Conditions.{Takes, Free, FreeIn}
-use Rattle.sf_calls.specs.Marks.{AreRows, chosen}
-use Rattle.sf_calls.specs.Sets.{IsEarlier, IsEarlierResource, IsFamily, IsSetOf, IsUpTo}
-use Rattle.sf_calls.proofs.Least.{if_both, takes_within, holds_within, free_apart, free_both}
+use Rattle.sf_calls.specs.Conditions.{Free, FreeIn}
+use Rattle.sf_calls.specs.Marks.{AreRows}
+use Rattle.sf_calls.specs.Sets.{IsEarlier, IsUpTo}
+use Rattle.sf_calls.proofs.Least.{if_both, free_apart, free_both}
 use Rattle.sf_calls.proofs.Rows.{family_of, rows_fit}
 use Rattle.sf_calls.proofs.reaching.free_sets.Goals as goal
 

@@ -1,4 +1,4 @@
-use Rattle.std.proofs.Common.{◌≡◌, ◌≤◌, ◌∙◌, length, ap, arith}
+use Rattle.std.proofs.Common.{◌≤◌, ◌∙◌, length, ap, arith}
 use Rattle.sf_core.specs.View.{procedure_of, block_of}
 use Rattle.sf_calls.specs.Outside.{EntersIn}
 use Rattle.sf_calls.specs.Tests.{enters_in}

@@ -1,4 +1,4 @@
-use Rattle.std.proofs.Common.{◌≡◌, ◌∙◌, None, length, get_or, ap}
+use Rattle.std.proofs.Common.{◌∙◌, None, length, get_or, ap}
 use Rattle.std.proofs.lemmas.List.{length-map}
 use Rattle.sf_core.specs.View.{procedure_of}
 use Rattle.sf_core.specs.Whole.{program_of}

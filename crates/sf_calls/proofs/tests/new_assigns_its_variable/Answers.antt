@@ -1,12 +1,10 @@
 use Rattle.std.proofs.Common.{◌≡◌, sym, ap, ◌∙◌, [], ◌∷◌, subst, arith}
-use Rattle.sf_base.specs.declared.ids.Var.{Var}
-use Rattle.sf_base.specs.declared.ids.Var.TheVariants.{Own}
 use Rattle.sf_base.specs.declared.place.Place.{Place}
 use Rattle.sf_core.specs.declared.command.Occurrence.{Occurrence}
 use Rattle.sf_core.specs.declared.command.Command.{New}
 use Rattle.sf_core.specs.declared.command.Command.TheVariants.{rolls-New}
 use Rattle.sf_core.specs.declared.command.Command.TheFolds.{fold-roll-Command}
-use Rattle.sf_core.specs.Formed.{CommandWithin, IsSettable}
+use Rattle.sf_core.specs.Formed.{IsSettable}
 use Rattle.sf_core.specs.Syntax.{Command, Procedure, Assertion, new, done, level, none}
 use Rattle.sf_core.specs.View.{command_of, command_step}
 use Rattle.sf_core.specs.Whole.{program_of}
