@@ -7,3 +7,4 @@ pub mod InOrder
 pub mod Rows
 pub mod Least
 pub mod Gathered
+pub mod OneBreach

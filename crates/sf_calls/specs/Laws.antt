@@ -1,11 +1,13 @@
 -- The sets are least: closed under their rules, and contained in every family that is.
 -- What an inductive definition states, after Tarski, "A lattice-theoretical fixpoint theorem" (1955). Families are given by tests.
-use Rattle.std.specs.Prelude.{Bool, IsTrue, None}
+use Rattle.std.specs.Prelude.{◌≡◌, Bool, IsTrue, Option, None}
 use Rattle.sf_base.specs.declared.ids.ProcId.{ProcId}
 use Rattle.sf_base.specs.declared.ids.ResId.{ResId}
 use Rattle.sf_base.specs.declared.ids.Var.{Var}
 use Rattle.sf_core.specs.Syntax.{Program}
 use Rattle.sf_calls.specs.Conditions.{Calls, Enters, Mentions, Takes, Free, IsShared}
+use Rattle.sf_calls.specs.declared.breach.Breach.{Breach}
+use Rattle.sf_calls.specs.FirstBreach.{FirstBreach}
 use Rattle.sf_calls.specs.Outside.{owner}
 
 -- the rules of Takes, for a family of sets
@@ -27,3 +29,7 @@ pub record TakesIsLeast : Type 0 where
 pub record FreeIsLeast : Type 0 where
   pub closed : (p : Program) → IsFreeClosed p (Free p)
   pub least : (p : Program) (T : ProcId → Var → Bool) → IsFreeClosed p (λ f x. IsTrue (T f x)) → (f : ProcId) (x : Var) → Free p f x → IsTrue (T f x)
+
+-- a program has one first breach, or none
+abbrev pub FirstBreachIsDetermined : Type 0
+FirstBreachIsDetermined = (p : Program) (r q : Option (ProcId × Breach)) → FirstBreach p r → FirstBreach p q → r ≡ q
