@@ -1,5 +1,5 @@
 -- The row of the tag that the strategy takes exists.
-use Rattle.std.proofs.Common.{◌≡◌, ℕ, zero, suc, ◌+◌, ◌*◌, ◌-◌, ◌^◌, ◌<◌, ◌≤◌, ◌==◌, nat_le, Bool, true, false, ◌&&◌, cond, Option, Some, None, List, [], ◌∷◌, ◌++◌, is_some, refl, sym, ap, ◌∙◌, subst, arith}
+use Rattle.std.proofs.Common.{◌≡◌, ℕ, suc, ◌-◌, ◌^◌, ◌<◌, ◌≤◌, ◌==◌, nat_le, Bool, true, false, ◌&&◌, cond, Option, Some, None, List, [], ◌∷◌, ◌++◌, is_some, refl, sym, ap, ◌∙◌, arith}
 use Rattle.std.specs.List.{list_all}
 use Rattle.std.specs.Option.{option_map, option_and_then}
 use Rattle.std.proofs.lemmas.Bool.Decides.{Decides-eqb}
@@ -18,10 +18,10 @@ use Rattle.sf_sym.specs.declared.term.Term.{Term}
 use Rattle.sf_sym.specs.Goal.{Item, run, add, take, gave, head, again, exit, return, end, Goal}
 use Rattle.sf_sym.specs.Tests.{is_absurd}
 use Rattle.sf_cli.specs.declared.strategy.Stuck.{Stuck}
-use Rattle.sf_cli.specs.declared.strategy.Stuck.TheVariants.{NotBuilt, NoCell, NoAtom, NotEqual, Leak}
+use Rattle.sf_cli.specs.declared.strategy.Stuck.TheVariants.{NotBuilt, NotEqual, Leak}
 use Rattle.sf_cli.specs.Ends.{AreRising, HasNumbersAfter}
-use Rattle.sf_cli.specs.Judge.{Choice, takes, stays, choice, choose_item, choose_command, choose_mutate, choose_add, choose_take, choose_wanted, choose_cell, choose_found, choose_end, lowest_cell, this_or}
-use Rattle.sf_cli.specs.Table.{row, row_of, has_numbers, absurd_row, add_row, mutate_row, return_row, cell_row, end_row, assumed, hand_over, with_fields, without, cell_at, fields_at, fits, put_term, one_goal, is_empty, term}
+use Rattle.sf_cli.specs.Judge.{takes, stays, choice, choose_item, choose_command, choose_mutate, choose_add, choose_take, choose_wanted, choose_found, lowest_cell, this_or}
+use Rattle.sf_cli.specs.Table.{row, row_of, has_numbers, assumed, hand_over, with_fields, without, cell_at, fields_at, fits, put_term, one_goal, is_empty, term}
 
 takes_same : (a b : Tag) → takes a ≡ takes b → a ≡ b
 takes_same a b e = cc

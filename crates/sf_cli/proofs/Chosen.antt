@@ -1,15 +1,14 @@
 -- Laws of verdicts: chosen tags are proofs, and a search has one end.
 -- Names: chosen-*, judge-*.
-use Rattle.std.proofs.Common.{◌≡◌, ◌≢◌, ℕ, zero, suc, ◌+◌, ◌≤◌, ◌<◌, ◌⊎◌, inl, inr, Option, Some, None, List, [], ◌∷◌, ◌++◌, length, refl, sym, ap, ap₂, ◌∙◌, subst, arith, append_assoc}
-use Rattle.sf_base.specs.declared.ids.ProcId.{ProcId}
-use Rattle.sf_base.specs.declared.limits.TheConstants.{PROCEDURE_TAGS, FILE_TAGS}
+use Rattle.std.proofs.Common.{◌≡◌, ℕ, suc, ◌+◌, ◌≤◌, ◌⊎◌, inl, inr, Some, List, [], ◌∷◌, ◌++◌, length, refl, sym, ap, ap₂, ◌∙◌, subst, arith, append_assoc}
+use Rattle.sf_base.specs.declared.limits.TheConstants.{PROCEDURE_TAGS}
 use Rattle.sf_core.specs.Syntax.{Procedure, Program}
 use Rattle.sf_sym.specs.declared.tag.Tag.{Tag}
 use Rattle.sf_sym.specs.declared.tag.Tag.TheVariants.{Procedure as Begin}
 use Rattle.sf_sym.specs.Goal.{Goal}
 use Rattle.sf_cli.specs.declared.strategy.Stuck.{Stuck}
-use Rattle.sf_cli.specs.Judge.{Choice, takes, stays, choice, Outcome, proved, stuck, large, Chosen, WithinLimit, Search, Verdict, proof, fails, behind, Continues, JudgeFrom, Judge}
-use Rattle.sf_cli.specs.Proves.{Proof, by, Proofs, no_more, and, preorder, preorders, ProvesFrom, Proves}
+use Rattle.sf_cli.specs.Judge.{takes, stays, choice, Outcome, proved, stuck, large, Chosen, WithinLimit, Search, Verdict, proof, fails, behind, Continues, JudgeFrom}
+use Rattle.sf_cli.specs.Proves.{Proof, by, Proofs, no_more, and, preorder, preorders, ProvesFrom}
 use Rattle.sf_cli.specs.Table.{row, first_goal}
 
 -- proofs of equal goals have the same tags

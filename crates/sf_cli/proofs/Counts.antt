@@ -1,5 +1,5 @@
 -- The numbers of symbols and atoms: by how much a row raises them, and that the row which the strategy chooses exists.
-use Rattle.std.proofs.Common.{◌≡◌, ℕ, zero, suc, ◌+◌, ◌*◌, ◌<◌, ◌≤◌, ◌==◌, Bool, true, false, ◌&&◌, cond, Option, Some, None, List, [], ◌∷◌, ◌++◌, length, is_some, refl, sym, ap, ◌∙◌, subst, arith}
+use Rattle.std.proofs.Common.{◌≡◌, ℕ, suc, ◌+◌, ◌≤◌, ◌==◌, Bool, true, false, cond, Option, Some, None, List, [], ◌∷◌, ◌++◌, refl, sym, ◌∙◌, subst, arith}
 use Rattle.std.specs.List.{list_all}
 use Rattle.std.specs.Option.{option_map, option_and_then}
 use Rattle.std.proofs.lemmas.Bool.Decides.{Decides-eqb}
@@ -17,11 +17,8 @@ use Rattle.sf_sym.specs.declared.term.Term.{Term}
 use Rattle.sf_sym.specs.Each.{Each}
 use Rattle.sf_sym.specs.Goal.{Item, run, add, take, gave, head, again, exit, return, end, Goal}
 use Rattle.sf_sym.specs.Tests.{is_absurd}
-use Rattle.sf_cli.specs.declared.strategy.Stuck.{Stuck}
-use Rattle.sf_cli.specs.declared.strategy.Stuck.TheVariants.{NotBuilt, NoCell, NoAtom, NotEqual, Leak}
 use Rattle.sf_cli.specs.Ends.{AreRising, HasNumbersAfter}
-use Rattle.sf_cli.specs.Judge.{Choice, takes, stays, choice, choose_item, choose_command, choose_mutate, choose_add, choose_take, choose_wanted, choose_cell, choose_found, choose_end, lowest_cell, this_or}
-use Rattle.sf_cli.specs.Table.{row, row_of, has_numbers, absurd_row, add_row, add_first, mutate_row, return_row, cell_row, cell_first, end_row, assumed, handed_over, hand_over, mutated, with_cell, with_fields, without, cell_at, fields_at, fits, known, new_fields, put_term, one_goal, is_empty, term, apart_from_nil}
+use Rattle.sf_cli.specs.Table.{row, row_of, has_numbers, add_row, add_first, mutate_row, return_row, cell_row, cell_first, end_row, assumed, handed_over, mutated, with_cell, with_fields, without, cell_at, fits, new_fields, put_term, one_goal, is_empty, term}
 
 -- what f makes of an option
 record Made {X Y : Type 0} (f : X → Y) (o : Option X) (y : Y) : Type 0 where

@@ -1,8 +1,8 @@
 -- What the programs of the first form are.
 -- Names: form-*.
-use Rattle.std.proofs.Common.{◌≡◌, ℕ, Option, Some, None, List, [], sym, ap, ◌∙◌, refl}
+use Rattle.std.proofs.Common.{◌≡◌, ℕ, Option, Some, None, List, [], sym, ap}
 use Rattle.std.specs.Option.{option_map}
-use Rattle.sf_core.specs.Syntax.{Procedure, Resource, Program}
+use Rattle.sf_core.specs.Syntax.{Procedure, Program}
 use Rattle.sf_cli.specs.FirstForm.{FirstForm, program_of_one, procedure_in}
 
 alone : (o : Option Procedure) (p : Program) → option_map program_of_one o ≡ Some p → p.resources ≡ []

@@ -1,5 +1,5 @@
 -- Lists of the code's items, with the next one last.
-use Rattle.std.proofs.Common.{Option, None, Vec, Global, Some, append_assoc, ◌≡◌, ◌≢◌, ℕ, ◌==◌, ◌<◌, Bool, true, false, List, [], ◌∷◌, ◌++◌, length, get_or, map, reverse, refl, sym, ap, ◌∙◌, arith}
+use Rattle.std.proofs.Common.{Option, None, Vec, Global, Some, append_assoc, ◌≡◌, ℕ, ◌==◌, true, false, List, [], ◌∷◌, ◌++◌, length, map, reverse, refl, sym, ap, ◌∙◌, arith}
 use Rattle.std.specs.List.{flat_map}
 use Rattle.std.proofs.lemmas.List.{reverse-append, length-reverse}
 use Rattle.sf_core.specs.declared.command.Command.{Command as CodeCommand}

@@ -1,12 +1,11 @@
 -- Verdicts, procedure by procedure.
-use Rattle.std.proofs.Common.{◌≡◌, ℕ, zero, suc, ◌+◌, ◌<◌, ◌≤◌, Some, List, [], ◌∷◌, ◌++◌, length, map, drop, get_or, slice_get, inl, inr, refl, sym, ap, ◌∙◌, subst, append_assoc, arith}
+use Rattle.std.proofs.Common.{◌≡◌, ℕ, zero, suc, ◌+◌, ◌<◌, ◌≤◌, List, [], ◌∷◌, ◌++◌, length, map, drop, get_or, inl, inr, refl, sym, ap, subst, append_assoc, arith}
 use Rattle.std.proofs.lemmas.List.{append-nil}
-use Rattle.sf_base.specs.declared.ids.ProcId.{ProcId}
 use Rattle.sf_base.specs.declared.limits.TheConstants.{FILE_TAGS}
 use Rattle.sf_core.specs.Syntax.{Procedure, Program}
 use Rattle.sf_sym.specs.declared.tag.Tag.{Tag}
 use Rattle.sf_sym.specs.declared.tag.Tag.TheVariants as t
-use Rattle.sf_cli.specs.Judge.{Outcome, proved, stuck, large, Search, Verdict, proof, fails, behind, Continues, JudgeFrom, Judge}
+use Rattle.sf_cli.specs.Judge.{proved, stuck, large, Search, Verdict, proof, fails, behind, JudgeFrom, Judge}
 use Rattle.sf_cli.specs.declared.strategy.Stuck.{Stuck}
 use Rattle.sf_sym.specs.Goal.{Goal}
 use Rattle.sf_cli.specs.Table.{first_goal}

@@ -1,11 +1,11 @@
 -- From the bytes that were fetched to the answer over the files of a shelf.
 -- Names: fetched-*, reply-*.
-use Rattle.std.proofs.Common.{◌≡◌, ◌≤◌, ◌<◌, ◌+◌, ◌⊎◌, inl, inr, ℕ, List, [], ◌++◌, length, take, Option, Some, None, refl, sym, ap, ◌∙◌, subst, arith, length-take}
+use Rattle.std.proofs.Common.{◌≡◌, ◌≤◌, ◌<◌, ◌+◌, ℕ, List, [], ◌++◌, length, take, Option, Some, None, refl, sym, ap, ◌∙◌, subst, arith, length-take}
 use Rattle.std.proofs.lemmas.List.{take_all}
 use Rattle.std.specs.Prelude.{IfSome, IsSomeAnd}
 use Rattle.sf_base.specs.declared.limits.TheConstants.{FILE_BYTES}
 use Rattle.sf_io.specs.Shelf.{Files, GrewAtMost}
-use Rattle.sf_cli.specs.Answer.{MayBe, OrderAnswer, FileAnswer, too_long, not_built, judged, AcceptedBytes, AcceptsFile, AnswersFile, Answers, Reply, answer, unread}
+use Rattle.sf_cli.specs.Answer.{MayBe, OrderAnswer, FileAnswer, too_long, not_built, judged, AcceptedBytes, AcceptsFile, AnswersFile, Reply, answer}
 use Rattle.sf_cli.specs.Words.{Text, Order, order_of, usage_text}
 
 -- what a fetch tells of the files: they may be these, the named one has these bytes, and the first of them were handed out

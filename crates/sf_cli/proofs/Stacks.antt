@@ -1,16 +1,15 @@
 -- Tags that a stack of goals accepts are those of proofs, and the other way round.
 -- Names: checks-proves, proves-checks, and what leads there.
-use Rattle.std.proofs.Common.{◌≡◌, ◌≢◌, ℕ, suc, ◌+◌, add-one, ◌<◌, ◌≤◌, ◌↔◌, ◌⊎◌, inl, inr, Option, Some, None, List, [], ◌∷◌, ◌++◌, length, drop, get_or, refl, sym, ap, ap₂, ◌∙◌, subst, append_assoc}
+use Rattle.std.proofs.Common.{◌≡◌, ◌≢◌, ℕ, suc, ◌+◌, add-one, ◌<◌, ◌≤◌, ◌↔◌, ◌⊎◌, inl, inr, Some, None, List, [], ◌∷◌, ◌++◌, length, drop, get_or, refl, sym, ap, ap₂, ◌∙◌, subst, append_assoc}
 use Rattle.std.proofs.Math.Seq.{drop-cons}
 use Rattle.std.proofs.lemmas.List.{drop_all}
 use Rattle.std.proofs.lemmas.Option.{get_or_from_slice_get, slice_get_cases, slice_get_within}
 use Rattle.std.specs.List.{slice_get}
-use Rattle.sf_base.specs.declared.ids.ProcId.{ProcId}
 use Rattle.sf_core.specs.Syntax.{Procedure, Program}
 use Rattle.sf_sym.specs.declared.tag.Tag.{Tag}
 use Rattle.sf_sym.specs.declared.tag.Tag.TheVariants.{Procedure as Begin}
 use Rattle.sf_sym.specs.Goal.{Goal}
-use Rattle.sf_cli.proofs.Chosen.{proofs-split, proof-same, one_proof}
+use Rattle.sf_cli.proofs.Chosen.{proofs-split, one_proof}
 use Rattle.sf_cli.specs.Checks.{Checks, ChecksFrom}
 use Rattle.sf_cli.specs.Proves.{Proof, by, Proofs, no_more, and, preorder, preorders, ProvesFrom, Proves}
 use Rattle.sf_cli.specs.Table.{row, first_goal}

@@ -1,10 +1,10 @@
 -- Searches and stacks of goals.
-use Rattle.std.proofs.Common.{◌≡◌, ℕ, suc, ◌+◌, ◌≤◌, Option, Some, None, List, [], ◌∷◌, ◌++◌, length, map, reverse, refl, sym, ap, ◌∙◌, subst, append_assoc, arith}
-use Rattle.std.proofs.lemmas.List.{reverse-append, map-append, append-nil}
+use Rattle.std.proofs.Common.{◌≡◌, Some, List, [], ◌∷◌, ◌++◌, length, map, refl, sym, ap, subst, append_assoc, arith}
+use Rattle.std.proofs.lemmas.List.{reverse-append, append-nil}
 use Rattle.sf_sym.specs.declared.goal.Goal.{Goal as CodeGoal}
 use Rattle.sf_sym.specs.declared.tag.Tag.{Tag}
 use Rattle.sf_sym.specs.Goal.{Goal, goal_of}
-use Rattle.sf_cli.specs.Judge.{Choice, takes, stays, choice, Outcome, proved, stuck, large, Chosen}
+use Rattle.sf_cli.specs.Judge.{takes, choice, Outcome, Chosen}
 use Rattle.sf_cli.specs.Left.{stack_of}
 use Rattle.sf_cli.specs.Table.{row}
 

@@ -1,11 +1,11 @@
 -- Answer: the text and the status that the command gives to its words, over a map of files.
 -- The form of a command's answer is that of The Open Group, "Utility Conventions" (2018); the statuses are this project's own.
-use Rattle.std.specs.Prelude.{◌≡◌, ◌≢◌, ℕ, ◌<◌, ◌≤◌, ◌⊎◌, Option, Some, None, List, ◌++◌, length, codes}
+use Rattle.std.specs.Prelude.{◌≡◌, ℕ, ◌<◌, ◌≤◌, ◌⊎◌, Option, Some, None, List, ◌++◌, length, codes}
 use Rattle.sf_base.specs.declared.limits.TheConstants.{FILE_BYTES}
 use Rattle.sf_core.specs.Syntax.{Program}
 use Rattle.sf_io.specs.Rose.{Rose}
 use Rattle.sf_io.specs.Shelf.{Files}
-use Rattle.sf_io.specs.Sink.{with_bytes, WrotePart}
+use Rattle.sf_io.specs.Sink.{WrotePart}
 use Rattle.sf_cli.specs.FirstForm.{FirstForm}
 use Rattle.sf_cli.specs.Judge.{Verdict, proof, fails, Judge}
 use Rattle.sf_cli.specs.ProofText.{name_of, proof_text}

@@ -1,6 +1,6 @@
 -- Where a check of tags stands: the goal that is open, if one is, and how many procedures have begun.
 -- In this form of programs no tag leaves two goals, so no more than one is ever open.
-use Rattle.std.specs.Prelude.{ℕ, Option, Some, None, List, [], ◌∷◌}
+use Rattle.std.specs.Prelude.{Option, Some, None, List, [], ◌∷◌}
 use Rattle.sf_core.specs.Syntax.{Program}
 use Rattle.sf_sym.specs.declared.goal.Goal.{Goal as CodeGoal}
 use Rattle.sf_sym.specs.declared.tag.Tag.{Tag}

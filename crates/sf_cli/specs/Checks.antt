@@ -1,7 +1,6 @@
 -- Checks: tags accepted one after the other with a stack of open goals, the first of which is worked first.
 -- Ordinary: a tree in preorder is read with a stack; Knuth, "The Art of Computer Programming", volume 1 (1968), section 2.3.
-use Rattle.std.specs.Prelude.{◌≡◌, ℕ, suc, Option, Some, None, List, [], ◌∷◌, ◌++◌, drop}
-use Rattle.sf_base.specs.declared.ids.ProcId.{ProcId}
+use Rattle.std.specs.Prelude.{◌≡◌, ℕ, suc, Some, List, [], ◌∷◌, ◌++◌, drop}
 use Rattle.sf_core.specs.Syntax.{Procedure, Program}
 use Rattle.sf_sym.specs.declared.tag.Tag.{Tag}
 use Rattle.sf_sym.specs.declared.tag.Tag.TheVariants.{Procedure as Begin}

@@ -1,20 +1,19 @@
 -- Judge: the strategy, which chooses the tag at each goal, and what it comes to for a whole program.
 -- Berdine, Calcagno, O'Hearn, "Smallfoot" (2005): proof search by symbolic execution, in this project's own profile.
-use Rattle.std.specs.Prelude.{◌≡◌, ℕ, zero, suc, ◌+◌, ◌≤◌, ◌<◌, Bool, true, false, cond, Option, Some, None, List, [], ◌∷◌, ◌++◌, length, is_some, ◌⊎◌}
+use Rattle.std.specs.Prelude.{◌≡◌, ℕ, suc, ◌+◌, ◌≤◌, ◌<◌, cond, Option, Some, None, List, [], ◌∷◌, ◌++◌, length, is_some, ◌⊎◌}
 use Rattle.std.specs.List.{list_all}
 use Rattle.sf_base.specs.declared.ids.FieldId.{FieldId}
 use Rattle.sf_base.specs.declared.ids.ProcId.{ProcId}
 use Rattle.sf_base.specs.declared.limits.TheConstants.{PROCEDURE_TAGS, FILE_TAGS}
 use Rattle.sf_core.specs.declared.assertion.Operand.{Operand}
-use Rattle.sf_core.specs.Syntax.{Conjunct, holds, points, segment, tree, choose, Conjuncts, none, also, Command, assign, look_up, mutate, new, dispose, if, while, call, fork, with, Procedure, Program}
-use Rattle.sf_sym.specs.declared.atom.Atom.{Atom}
+use Rattle.sf_core.specs.Syntax.{Conjunct, points, Conjuncts, none, also, Command, mutate, Procedure, Program}
 use Rattle.sf_sym.specs.declared.atom.Numbered.{Numbered}
 use Rattle.sf_sym.specs.declared.state.State.{State}
 use Rattle.sf_sym.specs.declared.tag.Tag.{Tag}
 use Rattle.sf_sym.specs.declared.tag.Tag.TheVariants as t
 use Rattle.sf_sym.specs.declared.term.Term.{Term}
-use Rattle.sf_sym.specs.Goal.{Item, run, add, take, gave, head, again, exit, return, end, Goal}
-use Rattle.sf_sym.specs.Tests.{same_term, is_absurd}
+use Rattle.sf_sym.specs.Goal.{Item, run, add, take, return, end, Goal}
+use Rattle.sf_sym.specs.Tests.{is_absurd}
 use Rattle.sf_cli.specs.Table.{term, known, fields_at, fits, assumed, is_empty, row, first_goal}
 use Rattle.sf_cli.specs.declared.strategy.Stuck.{Stuck}
 use Rattle.sf_cli.specs.declared.strategy.Stuck.TheVariants.{NoCell, NotEqual, NoAtom, Leak, NotBuilt}

@@ -1,8 +1,7 @@
 -- How the goals that the code keeps and leaves are read: lists of items with the next one last, and the goals that a rule leaves.
 -- Nothing is computed here.
-use Rattle.std.specs.Prelude.{ℕ, Bool, false, ◌==◌, length, Option, Some, None, List, [], ◌∷◌, reverse, map}
+use Rattle.std.specs.Prelude.{Bool, false, ◌==◌, length, Option, Some, None, List, [], ◌∷◌, reverse, map}
 use Rattle.std.specs.List.{flat_map}
-use Rattle.std.specs.Option.{option_map}
 use Rattle.sf_base.specs.declared.ids.FieldId.{FieldId}
 use Rattle.sf_core.specs.declared.assertion.Operand.{Operand}
 use Rattle.sf_core.specs.declared.command.Expr.{Expr}

@@ -1,11 +1,10 @@
 -- The table of rules: for a goal and a tag the goals that are left, or no row. Here for programs that write fields.
 -- Berdine, Calcagno, O'Hearn, "Symbolic Execution with Separation Logic" (2005), in this project's own profile.
-use Rattle.std.specs.Prelude.{ℕ, zero, suc, ◌+◌, ◌-◌, ◌^◌, ◌==◌, Bool, true, false, ◌&&◌, not, cond, Option, Some, None, List, [], ◌∷◌, ◌++◌, length, map, nat_lt, nat_le, codes, replicate, is_some}
-use Rattle.std.specs.List.{slice_get, list_all}
+use Rattle.std.specs.Prelude.{ℕ, zero, suc, ◌+◌, ◌-◌, ◌^◌, ◌==◌, Bool, true, false, ◌&&◌, cond, Option, Some, None, List, [], ◌∷◌, ◌++◌, length, map, nat_lt, nat_le, codes, replicate}
+use Rattle.std.specs.List.{list_all}
 use Rattle.std.specs.Option.{option_map, option_and_then}
 use Rattle.std.specs.Str.{bytes_eq}
 use Rattle.sf_base.specs.declared.ids.FieldId.{FieldId}
-use Rattle.sf_base.specs.declared.ids.ProcId.{ProcId}
 use Rattle.sf_base.specs.declared.ids.Var.{Var}
 use Rattle.sf_base.specs.declared.ids.Var.TheVariants.{Own, Shared}
 use Rattle.sf_base.specs.declared.place.Place.{Place}
@@ -25,7 +24,7 @@ use Rattle.sf_sym.specs.declared.tag.Tag.{Tag}
 use Rattle.sf_sym.specs.declared.tag.Tag.TheVariants as t
 use Rattle.sf_sym.specs.declared.term.Term.{Term}
 use Rattle.sf_sym.specs.declared.term.Term.TheVariants.{Nil, Int, Sym}
-use Rattle.sf_sym.specs.Goal.{Pending, Item, run, add, take, gave, head, again, exit, return, end, Goal}
+use Rattle.sf_sym.specs.Goal.{Pending, Item, run, add, take, return, end, Goal}
 use Rattle.sf_sym.specs.Tests.{same_term, is_absurd}
 
 -- whether two variables are one

@@ -1,6 +1,6 @@
 -- The grammar of the command's words: which lists of words name a command, and what the usage text is.
 -- The form of such a text is that of The Open Group, "Utility Conventions" (2018).
-use Rattle.std.specs.Prelude.{ℕ, Bool, true, false, not, ◌&&◌, cond, Option, Some, None, List, [], ◌∷◌, ◌==◌, ◌++◌, codes}
+use Rattle.std.specs.Prelude.{ℕ, Bool, false, not, ◌&&◌, cond, Option, Some, None, List, [], ◌∷◌, ◌==◌, ◌++◌, codes}
 use Rattle.std.specs.Str.{bytes_eq}
 
 -- a text as its bytes

@@ -1,4 +1,3 @@
-use Rattle.sf_base.specs.declared.ids.ProcId.{ProcId}
 use Rattle.std.proofs.Common.{◌≡◌, rules}
 use Rattle.sf_core.specs.View.{procedure_of}
 use Rattle.sf_core.specs.Whole.{program_of}

@@ -1,15 +1,12 @@
-use Rattle.std.proofs.Common.{rules, ◌≡◌, ◌≤◌, ◌↔◌, [], ◌∷◌, List, length, ℕ, suc, ◌+◌, add-one, ◌<◌, Option, Some, None, get_or, drop, sym, ap, ◌∙◌, subst, arith}
+use Rattle.std.proofs.Common.{◌≡◌, [], ◌∷◌, List, length, ℕ, ◌+◌, add-one, ◌<◌, Option, Some, None, get_or, drop, sym, ap, ◌∙◌, subst}
 use Rattle.std.proofs.Math.Seq.{drop-cons}
 use Rattle.std.proofs.lemmas.List.{drop_all}
 use Rattle.std.specs.Prelude.{IfSome, IfNone}
-use Rattle.sf_base.specs.declared.ids.ProcId.{ProcId}
 use Rattle.sf_core.specs.Whole.{program_of}
 use Rattle.sf_sym.specs.declared.tag.Tag.{Tag as TagOf}
 use Rattle.sf_sym.specs.declared.tag.Tag.TheVariants.{Procedure}
 use Rattle.sf_cli.proofs.Stacks.{checks-proves, proves-checks}
 use Rattle.sf_cli.specs.Checking.{AcceptsFrom}
-use Rattle.sf_cli.specs.Proves.{Proves}
-use Rattle.sf_cli.specs.declared.check.Checking.{Checking}
 use Rattle.sf_cli.proofs.check.check.Goals as goal
 
 -- the tag at an index and those behind it

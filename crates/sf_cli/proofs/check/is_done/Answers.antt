@@ -1,4 +1,4 @@
-use Rattle.std.proofs.Common.{◌≡◌, ◌≤◌, [], List, length, map, ℕ, Bool, true, Option, sym, subst, ◌∙◌, arith, leb}
+use Rattle.std.proofs.Common.{◌≡◌, ◌≤◌, [], length, ℕ, true, Option, sym, subst, ◌∙◌, arith, leb}
 use Rattle.std.proofs.lemmas.List.{length-map}
 use Rattle.std.proofs.lemmas.Bool.Decides.{nat_tests}
 use Rattle.sf_core.specs.View.{procedure_of}

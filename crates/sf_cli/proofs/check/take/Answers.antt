@@ -1,10 +1,8 @@
 use Rattle.std.proofs.Common.{◌↔◌, ◌∷◌, List, Option, sym, subst}
 use Rattle.std.specs.Prelude.{IfOk, IfSome, IfNone}
-use Rattle.sf_core.specs.Syntax.{Program as ProgramOf}
 use Rattle.sf_core.specs.Whole.{program_of}
 use Rattle.sf_sym.specs.declared.goal.Goal.{Goal as CodeGoal}
 use Rattle.sf_sym.specs.declared.tag.Tag.{Tag as TagOf}
-use Rattle.sf_sym.specs.Goal.{goal_of}
 use Rattle.sf_cli.proofs.Answered.{answered-some, answered-none}
 use Rattle.sf_cli.specs.Checking.{open_goals, AcceptsFrom}
 use Rattle.sf_cli.specs.Checks.{ChecksFrom}

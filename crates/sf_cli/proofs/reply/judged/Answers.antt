@@ -1,4 +1,4 @@
-use Rattle.std.proofs.Common.{◌≡◌, List, sym, subst}
+use Rattle.std.proofs.Common.{List, sym, subst}
 use Rattle.sf_core.specs.Whole.{program_of}
 use Rattle.sf_sym.specs.declared.tag.Tag.{Tag as TagOf}
 use Rattle.sf_cli.specs.Proves.{Proves}

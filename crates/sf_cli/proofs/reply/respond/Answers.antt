@@ -1,7 +1,6 @@
-use Rattle.std.proofs.Common.{◌≡◌, sym, ap, ◌∙◌}
+use Rattle.std.proofs.Common.{sym}
 use Rattle.sf_cli.proofs.Answered.{answered-ok}
 use Rattle.sf_cli.proofs.Replies.{reply-usage}
-use Rattle.sf_cli.specs.WordsOf.{words_of, order_in}
 use Rattle.sf_cli.proofs.reply.respond.Goals as goal
 
 pub returns-in-None-clause-said : goal.returns-in-None-clause-said

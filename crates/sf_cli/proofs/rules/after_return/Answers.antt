@@ -1,7 +1,6 @@
-use Rattle.std.proofs.Common.{rules, ap, ◌∙◌, ◌++◌, ◌∷◌, []}
+use Rattle.std.proofs.Common.{rules}
 use Rattle.sf_core.specs.View.{assertion_of}
-use Rattle.sf_sym.specs.Goal.{pending_of, end, take}
-use Rattle.sf_cli.specs.Table.{pending, unless_none}
+use Rattle.sf_sym.specs.Goal.{pending_of}
 use Rattle.sf_cli.specs.Left.{todo_of}
 use Rattle.sf_cli.proofs.Items.{after_is}
 use Rattle.sf_cli.proofs.rules.after_return.Goals as goal

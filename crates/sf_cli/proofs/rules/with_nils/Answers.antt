@@ -1,4 +1,4 @@
-use Rattle.std.proofs.Common.{rules, arith, ◌≡◌, ◌+◌, ◌-◌, ℕ, suc}
+use Rattle.std.proofs.Common.{rules}
 use Rattle.sf_cli.proofs.Firsts.{nils_after}
 use Rattle.sf_cli.proofs.rules.with_nils.Goals as goal
 

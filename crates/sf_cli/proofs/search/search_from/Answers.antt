@@ -1,9 +1,9 @@
-use Rattle.std.proofs.Common.{◌≡◌, ◌+◌, ◌<◌, ◌∙◌, ap, sym, subst, List, [], ◌∷◌, ◌++◌, length, arith, refl, rules, length-append}
+use Rattle.std.proofs.Common.{◌≡◌, ◌+◌, ◌<◌, ◌∙◌, ap, sym, subst, [], ◌∷◌, ◌++◌, length, arith, refl, rules, length-append}
 use Rattle.sf_base.specs.declared.limits.TheConstants.{PROCEDURE_TAGS}
 use Rattle.sf_sym.specs.Each.{Each}
 use Rattle.sf_sym.specs.Goal.{goal_of}
 use Rattle.sf_cli.specs.Ends.{HasNumbersAfter}
-use Rattle.sf_cli.specs.Judge.{Chosen, stuck, large, proved}
+use Rattle.sf_cli.specs.Judge.{stuck, large, proved}
 use Rattle.sf_cli.specs.Left.{stack_of}
 use Rattle.sf_cli.proofs.Choosing.{chosen_row}
 use Rattle.sf_cli.proofs.Counts.{numbers_after}

@@ -4,7 +4,6 @@ use Rattle.sf_sym.specs.Each.{Each}
 use Rattle.sf_sym.specs.Goal.{goal_of}
 use Rattle.sf_cli.specs.Ends.{HasNumbersAfter}
 use Rattle.sf_cli.specs.Left.{stack_of}
-use Rattle.sf_cli.proofs.Counts.{row_raises}
 use Rattle.sf_cli.proofs.Trees.{Leads}
 use Rattle.sf_cli.proofs.search.search_from.Given as goal
 

@@ -1,4 +1,4 @@
-use Rattle.std.proofs.Common.{rules, ap, sym, ◌∙◌, map, reverse}
+use Rattle.std.proofs.Common.{ap, sym, ◌∙◌, map, reverse}
 use Rattle.sf_core.specs.View.{conjunct_of, conjuncts}
 use Rattle.sf_sym.specs.Goal.{pending_of}
 use Rattle.sf_cli.proofs.Assumable.{add_taken, add_refused}

@@ -1,4 +1,4 @@
-use Rattle.std.proofs.Common.{take, sym, ap, ◌∙◌, map}
+use Rattle.std.proofs.Common.{sym, ap, ◌∙◌, map}
 use Rattle.std.proofs.lemmas.List.{take_all}
 use Rattle.sf_core.specs.Syntax.{level}
 use Rattle.sf_core.specs.View.{conjunct_of, conjuncts}

@@ -1,4 +1,4 @@
-use Rattle.std.proofs.Common.{◌≡◌, ◌++◌, drop, codes}
+use Rattle.std.proofs.Common.{◌≡◌, ◌++◌, drop}
 use Rattle.sf_core.specs.Whole.{program_of}
 use Rattle.sf_cli.specs.ProofText.{proof_text, lines_of}
 use Rattle.sf_cli.proofs.text.proof_text.Given as goal

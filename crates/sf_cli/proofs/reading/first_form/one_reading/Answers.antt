@@ -1,4 +1,4 @@
-use Rattle.std.proofs.Common.{◌≡◌, sym, ◌∙◌}
+use Rattle.std.proofs.Common.{sym, ◌∙◌}
 use Rattle.sf_cli.proofs.FormedForm.{from_some}
 use Rattle.sf_cli.proofs.Spelled.{form_found}
 use Rattle.sf_cli.proofs.reading.first_form.one_reading.Goals as goal
