@@ -1,0 +1,9 @@
+pub mod Ascii
+pub mod Numerals
+pub mod Bytes
+pub mod WordFronts
+pub mod CommentFronts
+pub mod SymbolFronts
+pub mod Once
+pub mod Steps
+pub mod Answered

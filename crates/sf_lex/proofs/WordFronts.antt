@@ -1,0 +1,210 @@
+-- Words, existentials and numbers at the front: the run that the scanner takes is the longest token.
+use Rattle.std.proofs.Common.{◌≡◌, ◌<◌, ◌≤◌, ◌+◌, ◌==◌, ◌^◌, ℕ, zero, suc, List, [], ◌∷◌, ◌++◌, length, take, drop, true, false, Bool, cond, ◌&&◌, ◌||◌, Option, Some, None, refl, ap, sym, ◌∙◌, arith, subst, take-append-drop}
+use Rattle.std.proofs.lemmas.List.{length-take-le, get_or-drop}
+use Rattle.std.specs.List.{prefix_len, list_all, slice_index}
+use Rattle.std.specs.Str.Parse.{signed_digits_value}
+use Rattle.sf_base.specs.declared.place.Place.{Place}
+use Rattle.sf_lex.specs.declared.front.Front.{Front}
+use Rattle.sf_lex.specs.declared.front.Front.TheVariants as f
+use Rattle.sf_lex.specs.declared.token.Kind.{Kind}
+use Rattle.sf_lex.specs.declared.token.Kind.TheVariants as k
+use Rattle.sf_lex.specs.Front.{Stands, begins_number, number_length, word_length}
+use Rattle.sf_lex.specs.Lexeme.{is_blank, is_letter, is_digit, is_word_byte, is_some_of, is_number, word_kind, symbol_kind, kind_of}
+use Rattle.sf_lex.specs.Piece.{Piece, token, IsFront, is_long_word, is_bad_number, fits}
+use Rattle.sf_lex.specs.Reading.{IsBadByte, IsLongWord, IsBadNumber}
+use Rattle.sf_lex.proofs.Bytes.{prefix_cons, prefix_none, run_all, run_stops, some_of_all, some_of_none, letter_is_word, digit_no_letter, digit_no_underscore, digit_no_minus, digit_no_equals, digit_no_bang, digit_no_bar, is_minus, and_false}
+
+kind_letter : (b : ℕ) (bs : List ℕ) → is_letter b ≡ true → list_all is_word_byte bs ≡ true → kind_of (b ∷ bs) ≡ Some (word_kind (b ∷ bs))
+kind_letter b bs l a = rw (l, a) refl
+
+kind_no_letter : (b : ℕ) (bs : List ℕ) → is_letter b ≡ true → list_all is_word_byte bs ≡ false → kind_of (b ∷ bs) ≡ None
+kind_no_letter b bs l a = rw (l, a) refl
+
+-- the run of word bytes behind a letter is the longest word
+pub word_front : (bs : List ℕ) → 0 < length bs → is_letter (slice_index bs 0) ≡ true → IsFront (word_kind (take (word_length bs) bs)) (take (word_length bs) bs) (drop (word_length bs) bs)
+word_front [] h l = absurd (omega arith)
+word_front (b ∷ bs) h l =
+    rw (prefix_cons is_word_byte b bs (letter_is_word b l)) (record {
+      is = kind_letter b (take (word_length bs) bs) l (run_all is_word_byte bs);
+      longest = λ c more after e. kind_no_letter b (take (word_length bs) bs ++ c ∷ more) l (run_stops is_word_byte bs c more after e);
+    })
+
+kind_underscore : (bs : List ℕ) → is_some_of is_word_byte bs ≡ true → kind_of (95 ∷ bs) ≡ Some k.Existential
+kind_underscore bs e = rw e refl
+
+kind_no_underscore : (bs : List ℕ) → is_some_of is_word_byte bs ≡ false → kind_of (95 ∷ bs) ≡ None
+kind_no_underscore bs e = rw e refl
+
+-- so is the run of word bytes that begins with `_`, where it is longer than that
+pub underscore_front : (bs : List ℕ) → 0 < length (take (word_length bs) bs) → IsFront k.Existential (95 ∷ take (word_length bs) bs) (drop (word_length bs) bs)
+underscore_front bs h = record {
+  is = kind_underscore (take (word_length bs) bs) (some_of_all is_word_byte (take (word_length bs) bs) h (run_all is_word_byte bs));
+  longest = λ c more after e. kind_no_underscore (take (word_length bs) bs ++ c ∷ more) (some_of_none is_word_byte (take (word_length bs) bs ++ c ∷ more) (run_stops is_word_byte bs c more after e));
+}
+
+some_taken : (bs : List ℕ) → 0 < word_length bs → 0 < length (take (word_length bs) bs)
+some_taken [] h = h
+some_taken (b ∷ bs) h = go (is_word_byte b) refl
+  where
+    go : (t : Bool) → is_word_byte b ≡ t → 0 < length (take (word_length (b ∷ bs)) (b ∷ bs))
+    go true e = rw (prefix_cons is_word_byte b bs e) (omega arith)
+    go false e =
+        let none : word_length (b ∷ bs) ≡ 0 = prefix_none is_word_byte b bs e in
+        absurd (omega arith)
+
+pub existential_front : (bs : List ℕ) → 0 < length bs → slice_index bs 0 ≡ 95 → 2 ≤ word_length bs → IsFront k.Existential (take (word_length bs) bs) (drop (word_length bs) bs)
+existential_front [] h u l = absurd (omega arith)
+existential_front (b ∷ bs) h u l =
+    subst (λ a. 2 ≤ word_length (a ∷ bs) → IsFront k.Existential (take (word_length (a ∷ bs)) (a ∷ bs)) (drop (word_length (a ∷ bs)) (a ∷ bs))) (sym u) (at_underscore bs) l
+  where
+    at_underscore : (bs : List ℕ) → 2 ≤ word_length (95 ∷ bs) → IsFront k.Existential (take (word_length (95 ∷ bs)) (95 ∷ bs)) (drop (word_length (95 ∷ bs)) (95 ∷ bs))
+    at_underscore bs l =
+        let n : word_length (95 ∷ bs) ≡ suc (word_length bs) = prefix_cons is_word_byte 95 bs refl in
+        rw n (underscore_front bs (some_taken bs (omega arith)))
+
+no_text_at_underscore : (bs text after : List ℕ) → word_length (95 ∷ bs) < 2 → 95 ∷ bs ≡ text ++ after → kind_of text ≡ None
+no_text_at_underscore bs [] after l e = refl
+no_text_at_underscore bs (a ∷ []) after l e =
+    let same : 95 ≡ a = cc in
+    subst (λ x. kind_of (x ∷ []) ≡ None) same refl
+no_text_at_underscore bs (a ∷ b ∷ text) after l e =
+    let same : 95 ≡ a = cc in
+    let rest : bs ≡ b ∷ (text ++ after) = cc in
+    go (is_word_byte b) refl same rest
+  where
+    go : (t : Bool) → is_word_byte b ≡ t → 95 ≡ a → bs ≡ b ∷ (text ++ after) → kind_of (a ∷ b ∷ text) ≡ None
+    go true w same rest =
+        let n : word_length (95 ∷ bs) ≡ suc (word_length bs) = prefix_cons is_word_byte 95 bs refl in
+        let m : word_length bs ≡ suc (word_length (text ++ after)) = ap word_length rest ∙ prefix_cons is_word_byte b (text ++ after) w in
+        absurd (omega arith)
+    go false w same rest = subst (λ x. kind_of (x ∷ b ∷ text) ≡ None) same (rw w refl)
+
+-- a lone `_` begins no token
+pub lone_underscore : (bs : List ℕ) → 0 < length bs → slice_index bs 0 ≡ 95 → word_length bs < 2 → IsBadByte bs
+lone_underscore [] h u l = absurd (omega arith)
+lone_underscore (b ∷ bs) h u l =
+    subst (λ a. word_length (a ∷ bs) < 2 → IsBadByte (a ∷ bs)) (sym u) (λ s. record {
+      some = omega arith;
+      no_blank = refl;
+      no_comment = λ inside e. let wrong : false ≡ true = ap (λ xs. slice_index xs 0 == 47) e in cc;
+      no_token = λ text after e. no_text_at_underscore bs text after s e;
+    }) l
+
+kind_digits : (b : ℕ) (bs : List ℕ) → is_digit b ≡ true → list_all is_digit bs ≡ true → kind_of (b ∷ bs) ≡ Some k.Number
+kind_digits b bs d a = rw (digit_no_letter b d, digit_no_underscore b d, digit_no_minus b d, d, a) refl
+
+no_symbol : (b c : ℕ) (bs : List ℕ) → is_digit b ≡ true → symbol_kind (b ∷ c ∷ bs) ≡ None
+no_symbol b c [] d = rw (digit_no_equals b d, digit_no_bang b d, digit_no_minus b d, digit_no_bar b d) refl
+no_symbol b c (e ∷ []) d = rw (digit_no_bar b d) refl
+no_symbol b c (e ∷ g ∷ bs) d = refl
+
+kind_no_digits : (b c : ℕ) (bs : List ℕ) → is_digit b ≡ true → list_all is_digit (c ∷ bs) ≡ false → kind_of (b ∷ c ∷ bs) ≡ None
+kind_no_digits b c bs d a = rw (digit_no_letter b d, digit_no_underscore b d, digit_no_minus b d, d, a) (no_symbol b c bs d)
+
+kind_minus : (bs : List ℕ) → is_some_of is_digit bs ≡ true → kind_of (45 ∷ bs) ≡ Some k.Number
+kind_minus bs e = rw e refl
+
+kind_no_minus : (b c : ℕ) (bs : List ℕ) → list_all is_digit (b ∷ c ∷ bs) ≡ false → kind_of (45 ∷ b ∷ c ∷ bs) ≡ None
+kind_no_minus b c [] e = rw e refl
+kind_no_minus b c (d ∷ bs) e = rw e refl
+
+or_left : (s t : Bool) → t ≡ false → (s || t) ≡ true → s ≡ true
+or_left true t h e = refl
+or_left false t h e = absurd cc
+
+or_right : (s t : Bool) → s ≡ false → (s || t) ≡ true → t ≡ true
+or_right true t h e = absurd cc
+or_right false t h e = e
+
+and_right : (s t : Bool) → (s && t) ≡ true → t ≡ true
+and_right true t e = e
+and_right false t e = absurd cc
+
+minus_longer : (b : ℕ) (xs : List ℕ) (c : ℕ) (more : List ℕ) → is_digit b ≡ true → list_all is_digit (xs ++ c ∷ more) ≡ false → kind_of (45 ∷ b ∷ (xs ++ c ∷ more)) ≡ None
+minus_longer b [] c more d h = kind_no_minus b c more (rw d h)
+minus_longer b (x ∷ xs) c more d h = kind_no_minus b x (xs ++ c ∷ more) (rw d h)
+
+digits_longer : (b : ℕ) (xs : List ℕ) (c : ℕ) (more : List ℕ) → is_digit b ≡ true → list_all is_digit (xs ++ c ∷ more) ≡ false → kind_of (b ∷ (xs ++ c ∷ more)) ≡ None
+digits_longer b [] c more d h = kind_no_digits b c more d h
+digits_longer b (x ∷ xs) c more d h = kind_no_digits b x (xs ++ c ∷ more) d h
+
+minus_front : (b : ℕ) (bs : List ℕ) → is_digit b ≡ true → IsFront k.Number (45 ∷ take (prefix_len is_digit (b ∷ bs)) (b ∷ bs)) (drop (prefix_len is_digit (b ∷ bs)) (b ∷ bs))
+minus_front b bs d =
+    rw (prefix_cons is_digit b bs d) (record {
+      is = kind_minus (b ∷ take (prefix_len is_digit bs) bs) (rw d (run_all is_digit bs));
+      longest = λ c more after e. minus_longer b (take (prefix_len is_digit bs) bs) c more d (run_stops is_digit bs c more after e);
+    })
+
+digits_front : (b : ℕ) (bs : List ℕ) → is_digit b ≡ true → IsFront k.Number (take (prefix_len is_digit (b ∷ bs)) (b ∷ bs)) (drop (prefix_len is_digit (b ∷ bs)) (b ∷ bs))
+digits_front b bs d =
+    rw (prefix_cons is_digit b bs d) (record {
+      is = kind_digits b (take (prefix_len is_digit bs) bs) d (run_all is_digit bs);
+      longest = λ c more after e. digits_longer b (take (prefix_len is_digit bs) bs) c more d (run_stops is_digit bs c more after e);
+    })
+
+one_more : (n : ℕ) → 1 + n ≡ suc n
+one_more n = omega arith
+
+-- digits with their sign are the longest number
+pub number_front : (bs : List ℕ) → begins_number bs ≡ true → IsFront k.Number (take (number_length bs) bs) (drop (number_length bs) bs)
+number_front [] e = absurd cc
+number_front (b ∷ bs) e = go (b == 45) refl
+  where
+    no_digit : (b == 45) ≡ true → is_digit b ≡ false
+    no_digit m = let same : 45 ≡ b = sym (is_minus b m) in subst (λ x. is_digit x ≡ false) same refl
+
+    behind_minus : (bs : List ℕ) → is_digit (slice_index bs 0) ≡ true → IsFront k.Number (45 ∷ take (prefix_len is_digit bs) bs) (drop (prefix_len is_digit bs) bs)
+    behind_minus [] d = absurd cc
+    behind_minus (c ∷ bs) d = minus_front c bs d
+
+    go : (t : Bool) → (b == 45) ≡ t → IsFront k.Number (take (cond t (1 + prefix_len is_digit bs) (prefix_len is_digit (b ∷ bs))) (b ∷ bs)) (drop (cond t (1 + prefix_len is_digit bs) (prefix_len is_digit (b ∷ bs))) (b ∷ bs))
+    go true m =
+        let d : is_digit (slice_index bs 0) ≡ true = and_right (b == 45) _ (or_right (is_digit b) _ (no_digit m) e) in
+        rw (one_more (prefix_len is_digit bs), is_minus b m) (behind_minus bs d)
+    go false m =
+        let off : ((b == 45) && is_digit (slice_index bs 0)) ≡ false = rw m refl in
+        digits_front b bs (or_left (is_digit b) _ off e)
+
+-- the longest token of so many bytes, neither too long nor a bad number, is what stands in front
+pub token_stands : (kind : Kind) (bs : List ℕ) (n : ℕ) → n ≤ length bs → IsFront kind (take n bs) (drop n bs) → is_long_word kind n ≡ false → is_bad_number kind (take n bs) (drop n bs) ≡ false → Stands (f.Token kind n) bs
+token_stands kind bs n h front long bad =
+    let counts : length (take n bs) ≡ n = length-take-le n bs h in
+    record {
+      piece = token kind (take n bs);
+      rest = drop n bs;
+      spells = sym (take-append-drop n bs);
+      each = (front, rw counts long, bad);
+      is = ap (f.Token kind) (sym counts);
+    }
+
+pub long_word : (kind : Kind) (bs : List ℕ) (n : ℕ) → n ≤ length bs → IsFront kind (take n bs) (drop n bs) → is_long_word kind n ≡ true → IsLongWord bs
+long_word kind bs n h front long =
+    let counts : length (take n bs) ≡ n = length-take-le n bs h in
+    record { kind = kind; text = take n bs; after = drop n bs; spells = sym (take-append-drop n bs); front = front; long = rw counts long }
+
+pub bad_number : (kind : Kind) (bs : List ℕ) (n : ℕ) → IsFront kind (take n bs) (drop n bs) → is_bad_number kind (take n bs) (drop n bs) ≡ true → IsBadNumber bs
+bad_number kind bs n front bad = record { kind = kind; text = take n bs; after = drop n bs; spells = sym (take-append-drop n bs); front = front; bad = bad }
+
+pub word_front_at : (bs : List ℕ) (n : ℕ) (kind : Kind) → 0 < length bs → is_letter (slice_index bs 0) ≡ true → n ≡ word_length bs → kind ≡ word_kind (take n bs) → IsFront kind (take n bs) (drop n bs)
+word_front_at bs n kind some letter e h =
+    let front : IsFront (word_kind (take n bs)) (take n bs) (drop n bs) = subst (λ m. IsFront (word_kind (take m bs)) (take m bs) (drop m bs)) (sym e) (word_front bs some letter) in
+    subst (λ x. IsFront x (take n bs) (drop n bs)) (sym h) front
+
+pub existential_front_at : (bs : List ℕ) (n : ℕ) → 0 < length bs → slice_index bs 0 ≡ 95 → n ≡ word_length bs → 2 ≤ n → IsFront k.Existential (take n bs) (drop n bs)
+existential_front_at bs n some u e h =
+    subst (λ m. 2 ≤ m → IsFront k.Existential (take m bs) (drop m bs)) (sym e) (existential_front bs some u) h
+
+pub number_front_at : (bs : List ℕ) (n : ℕ) → begins_number bs ≡ true → n ≡ number_length bs → IsFront k.Number (take n bs) (drop n bs)
+number_front_at bs n h e = subst (λ m. IsFront k.Number (take m bs) (drop m bs)) (sym e) (number_front bs h)
+
+-- what is no number is no bad one
+pub no_number_no_bad : (kind : Kind) (text rest : List ℕ) → (kind ≡ k.Number → ⊥) → is_bad_number kind text rest ≡ false
+no_number_no_bad k.Number text rest h = absurd (h refl)
+no_number_no_bad _ text rest h = refl
+
+zero_more : (n : ℕ) → n + 0 ≡ n
+zero_more n = omega arith
+
+-- the byte behind so many is the first of those behind them
+pub bad_number_at : (bs : List ℕ) (n : ℕ) → is_bad_number k.Number (take n bs) (drop n bs) ≡ cond (fits (signed_digits_value 10 (take n bs))) (is_word_byte (slice_index bs n)) true
+bad_number_at bs n = ap (λ b. cond (fits (signed_digits_value 10 (take n bs))) (is_word_byte b) true) (get_or-drop n bs 0 0 ∙ ap (slice_index bs) (zero_more n))

@@ -1,0 +1,14 @@
+use Rattle.std.proofs.Common.{◌≡◌, sym, ◌∙◌, refl, take, drop}
+use Rattle.sf_lex.proofs.WordFronts.{word_front_at, token_stands, long_word, no_number_no_bad}
+use Rattle.sf_lex.proofs.front.word.Goals as goal
+
+pub returns-then-is_long_word : goal.returns-then-is_long_word
+returns-then-is_long_word c =
+    let front = word_front_at c.args.bytes.now c.word_length-length.result c.word_kind-kind.result c.requires.some c.requires.letter c.word_length-length.ensures.length c.word_kind-kind.ensures.kind in
+    (refl, long_word c.word_kind-kind.result c.args.bytes.now c.word_length-length.result c.word_length-length.ensures.within front (sym c.is_long_word.ensures ∙ c.if-is_long_word.true))
+
+pub returns : goal.returns
+returns c =
+    let front = word_front_at c.args.bytes.now c.word_length-length.result c.word_kind-kind.result c.requires.some c.requires.letter c.word_length-length.ensures.length c.word_kind-kind.ensures.kind in
+    token_stands c.word_kind-kind.result c.args.bytes.now c.word_length-length.result c.word_length-length.ensures.within front (sym c.is_long_word.ensures ∙ c.if-is_long_word.false)
+    (no_number_no_bad c.word_kind-kind.result (take c.word_length-length.result c.args.bytes.now) (drop c.word_length-length.result c.args.bytes.now) c.word_kind-kind.ensures.no_number)

@@ -1,0 +1,5 @@
+pub mod Lexeme
+pub mod Piece
+pub mod Reading
+pub mod Laws
+pub mod Front

@@ -1,0 +1,115 @@
+ghost use Rattle.std.specs.Prelude.{◌≡◌, ◌≤◌, ◌<◌, ◌+◌, ◌-◌, ◌^◌, ◌⊎◌, length, List, IfOk, IfErr, MatchResult};
+ghost use Rattle.sf_base.specs.declared.limits.TheConstants.{FILE_BYTES};
+ghost use Rattle.sf_lex.specs.Front.{bytes_of, with_front};
+ghost use Rattle.sf_lex.specs.Reading.{AreTokens, IsFault, next_place, place_behind};
+
+use crate::fault::LexFault;
+use crate::front::{Front, look};
+use crate::symbols::from_index;
+use crate::token::Token;
+use sf_base::Place;
+use sf_base::limits::FILE_BYTES;
+use std::alloc::Global;
+
+/// The place behind one byte.
+fn next_place(place: Place, byte: u8) -> Place
+    requires line { place.line < 2 ^ 32 - 1 }
+    requires column { place.column < 2 ^ 32 - 1 }
+    ensures { result ≡ next_place place byte }
+{
+    if byte == b'\n' {
+        Place {
+            line: place.line + 1,
+            column: 1,
+        }
+    } else {
+        Place {
+            line: place.line,
+            column: place.column + 1,
+        }
+    }
+}
+
+/// The place behind bytes.
+fn place_behind(place: Place, bytes: &[u8]) -> Place
+    requires line { place.line + length bytes.now < 2 ^ 32 }
+    requires column { place.column + length bytes.now < 2 ^ 32 }
+    ensures { result ≡ place_behind place bytes.now }
+{
+    let mut at = place;
+    for byte in bytes {
+        at = next_place(at, *byte);
+    }
+    at
+}
+
+/// The tokens so far and the one in front, if a token is there.
+fn keep(
+    found: &mut Vec<Token>,
+    front: Front,
+    start: usize,
+    end: usize,
+    place: Place,
+) -> Result<(), LexFault>
+    requires { end ≡ start + bytes_of front }
+    ensures kept { IfOk result (λ _. found.new.items ≡ with_front found.old.items front start place) }
+    ensures refused { IfErr result (λ fault. fault ≡ LexFault.OutOfMemory) }
+{
+    match front {
+        Front::Space(_) => Ok(()),
+        Front::Token(kind, _) => {
+            found.push(Token {
+                kind,
+                start,
+                end,
+                place,
+            })?;
+            Ok(())
+        }
+    }
+}
+
+/// How many bytes the front takes.
+fn bytes_of(front: Front) -> usize
+    ensures { result ≡ bytes_of front }
+{
+    match front {
+        Front::Space(bytes) => bytes,
+        Front::Token(_, bytes) => bytes,
+    }
+}
+
+/// The tokens of a file, piece by piece.
+fn scan(alloc: Global, bytes: &[u8]) -> Result<Vec<Token>, LexFault>
+    requires { length bytes.now ≤ FILE_BYTES }
+    ensures found { IfOk result (λ found. AreTokens bytes.now found.items) }
+    ensures refused { IfErr result (λ fault. (fault ≡ LexFault.OutOfMemory) ⊎ IsFault bytes.now fault) }
+{
+    let mut found = Vec::new(alloc);
+    let mut start: usize = 0;
+    let mut place = Place { line: 1, column: 1 };
+    while start < bytes.len() {
+        let front = look(place, from_index(bytes, start))?;
+        let end = start + bytes_of(front);
+        keep(&mut found, front, start, end, place)?;
+        place = place_behind(place, &bytes[start..end]);
+        start = end;
+    }
+    Ok(found)
+}
+
+/// The tokens of a file, in order: the longest that fit, between blanks and comments.
+///
+/// Refused with `LongFile` where the file has more than 1,048,576 bytes, else with the first fault
+/// of another kind and its place, exactly where there is one, or where memory runs out.
+pub fn tokens(alloc: Global, bytes: &[u8]) -> Result<Vec<Token>, LexFault>
+    ensures found { IfOk result (λ found. AreTokens bytes.now found.items) }
+    ensures refused { IfErr result (λ fault. (fault ≡ LexFault.OutOfMemory) ⊎ IsFault bytes.now fault) }
+    ensures only_found { (tokens : List Token) → AreTokens bytes.now tokens → MatchResult result (λ found. found.items ≡ tokens) (λ fault. fault ≡ LexFault.OutOfMemory) }
+    ensures only_refused { (fault : LexFault) → IsFault bytes.now fault → MatchResult result (λ _. ⊥) (λ own. (own ≡ fault) ⊎ (own ≡ LexFault.OutOfMemory)) }
+{
+    if bytes.len() > FILE_BYTES {
+        return Err(LexFault::LongFile);
+    }
+    scan(alloc, bytes)
+}

@@ -1,0 +1,92 @@
+use sf_base::Place;
+
+/// What a token is: a word, a number or a symbol.
+#[derive(Clone, Copy, Debug, PartialEq, Eq)]
+pub enum Kind {
+    /// A letter, then letters, digits and `_`, which is no reserved word.
+    Name,
+    /// `_`, then one or more letters, digits and `_`.
+    Existential,
+    /// Digits, with a `-` in front or without, of a number that fits `i64`.
+    Number,
+    /// `NULL`
+    Null,
+    /// `dispose`
+    Dispose,
+    /// `else`
+    Else,
+    /// `emp`
+    Emp,
+    /// `if`
+    If,
+    /// `list`
+    List,
+    /// `local`
+    Local,
+    /// `ls`
+    Ls,
+    /// `lseg`
+    Lseg,
+    /// `new`
+    New,
+    /// `nil`
+    Nil,
+    /// `resource`
+    Resource,
+    /// `then`
+    Then,
+    /// `tree`
+    Tree,
+    /// `true`
+    True,
+    /// `when`
+    When,
+    /// `while`
+    While,
+    /// `with`
+    With,
+    /// `(`
+    OpenRound,
+    /// `)`
+    CloseRound,
+    /// `[`
+    OpenSquare,
+    /// `]`
+    CloseSquare,
+    /// `{`
+    OpenBrace,
+    /// `}`
+    CloseBrace,
+    /// `,`
+    Comma,
+    /// `;`
+    Semicolon,
+    /// `:`
+    Colon,
+    /// `*`
+    Star,
+    /// `=`
+    Equals,
+    /// `==`
+    EqualEqual,
+    /// `!=`
+    NotEqual,
+    /// `->`
+    Arrow,
+    /// `|->`
+    PointsTo,
+    /// `||`
+    Bars,
+}
+
+/// A token: its kind, and where its text stands in the file.
+#[derive(Clone, Copy, Debug, PartialEq, Eq)]
+pub struct Token {
+    pub kind: Kind,
+    /// How many bytes stand before its text.
+    pub start: usize,
+    /// How many bytes stand before what follows its text.
+    pub end: usize,
+    /// The place of its first byte.
+    pub place: Place,
+}
