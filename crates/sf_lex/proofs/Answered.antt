@@ -1,12 +1,11 @@
 -- What an answer that is in order says of all others.
-use Rattle.std.proofs.Common.{◌≡◌, ◌⊎◌, inl, inr, ℕ, List, refl, sym}
+use Rattle.std.proofs.Common.{◌≡◌, ◌⊎◌, inl, inr, ℕ, List}
 use Rattle.std.specs.declared.result.Result.{Result}
 use Rattle.std.specs.declared.result.Result.TheVariants.{Ok, Err}
 use Rattle.std.specs.Prelude.{IfOk, IfErr, MatchResult}
 use Rattle.sf_lex.specs.declared.fault.LexFault.{LexFault}
 use Rattle.sf_lex.specs.declared.fault.LexFault.TheVariants.{OutOfMemory}
 use Rattle.sf_lex.specs.declared.token.Token.{Token}
-use Rattle.sf_lex.specs.Laws.{ReadsAtMostOnce}
 use Rattle.sf_lex.specs.Reading.{AreTokens, IsFault}
 use Rattle.sf_lex.proofs.Once.{once}
 

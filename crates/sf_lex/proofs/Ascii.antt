@@ -1,8 +1,8 @@
 -- Numbers are ASCII.
-use Rattle.std.proofs.Common.{◌≡◌, ◌<◌, ◌+◌, ◌==◌, ℕ, zero, suc, List, [], ◌∷◌, take, drop, true, false, Bool, cond, refl, arith, subst}
+use Rattle.std.proofs.Common.{◌≡◌, ◌<◌, ◌+◌, ◌==◌, ℕ, zero, suc, List, [], ◌∷◌, take, true, false, Bool, cond, refl, arith}
 use Rattle.std.proofs.lemmas.Bool.Decides.{nat_tests}
 use Rattle.std.specs.Str.{IsAscii}
-use Rattle.std.specs.List.{prefix_len, slice_index}
+use Rattle.std.specs.List.{prefix_len}
 use Rattle.sf_lex.specs.Lexeme.{is_digit}
 use Rattle.sf_lex.specs.Front.{number_length}
 

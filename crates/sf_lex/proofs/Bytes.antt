@@ -1,8 +1,8 @@
 -- Runs of bytes that pass a test, and single tests on bytes.
-use Rattle.std.proofs.Common.{◌≡◌, ◌<◌, ◌+◌, ◌==◌, ℕ, zero, suc, List, [], ◌∷◌, ◌++◌, length, take, drop, true, false, Bool, cond, ◌&&◌, ◌||◌, Option, Some, None, refl, ap, sym, ◌∙◌, arith, subst}
+use Rattle.std.proofs.Common.{◌≡◌, ◌<◌, ◌+◌, ◌==◌, ℕ, suc, List, [], ◌∷◌, ◌++◌, length, take, drop, true, false, Bool, ◌&&◌, ◌||◌, refl, arith, subst}
 use Rattle.std.proofs.lemmas.Bool.Decides.{nat_tests}
-use Rattle.std.specs.List.{prefix_len, list_all, slice_index}
-use Rattle.sf_lex.specs.Lexeme.{is_blank, is_letter, is_digit, is_word_byte, is_some_of}
+use Rattle.std.specs.List.{prefix_len, list_all}
+use Rattle.sf_lex.specs.Lexeme.{is_letter, is_digit, is_word_byte, is_some_of}
 
 one_more : (n : ℕ) → 1 + n ≡ suc n
 one_more n = omega arith

@@ -1,11 +1,11 @@
 -- Comments: where the first `*/` stands.
-use Rattle.std.proofs.Common.{◌≡◌, ◌<◌, ◌≤◌, ◌+◌, ◌==◌, ℕ, zero, suc, List, [], ◌∷◌, ◌++◌, length, take, drop, true, false, Bool, cond, ◌&&◌, ◌||◌, Option, Some, None, refl, ap, sym, ◌∙◌, arith, subst, append_assoc, length-append}
+use Rattle.std.proofs.Common.{◌≡◌, ◌≤◌, ◌+◌, ◌==◌, ℕ, suc, List, [], ◌∷◌, ◌++◌, length, drop, true, false, Bool, ◌&&◌, ◌||◌, Option, Some, None, refl, ap, sym, ◌∙◌, arith, subst, append_assoc, length-append}
 use Rattle.std.proofs.lemmas.Bool.Decides.{nat_tests}
 use Rattle.std.specs.List.{slice_index}
 use Rattle.std.specs.Option.{option_map}
 use Rattle.sf_lex.specs.declared.front.Front.TheVariants as f
 use Rattle.sf_lex.specs.Front.{Stands, begins_comment, close_length}
-use Rattle.sf_lex.specs.Piece.{Piece, comment, has_close}
+use Rattle.sf_lex.specs.Piece.{comment, has_close}
 use Rattle.sf_lex.specs.Reading.{IsOpenComment}
 use Rattle.sf_lex.proofs.Bytes.{and_false}
 

@@ -1,9 +1,8 @@
 -- A sign and digits are a numeral.
-use Rattle.std.proofs.Common.{◌≡◌, ◌<◌, ◌+◌, ◌==◌, ◌^◌, ℕ, ℤ, pos, negsuc, zero, suc, List, [], ◌∷◌, length, take, drop, true, false, Bool, cond, ◌&&◌, ◌||◌, Option, Some, None, refl, ap, sym, ◌∙◌, arith, subst}
+use Rattle.std.proofs.Common.{◌≡◌, ◌<◌, ◌+◌, ◌==◌, ℕ, suc, List, [], ◌∷◌, length, take, true, false, Bool, cond, ◌&&◌, ◌||◌, refl, ap, sym, ◌∙◌, arith, subst}
 use Rattle.std.proofs.lemmas.Bool.Decides.{nat_tests}
-use Rattle.std.specs.Prelude.{FitsSigned}
 use Rattle.std.specs.List.{prefix_len, slice_index}
-use Rattle.std.specs.Str.Parse.{AllDigits, IsNumeral, without_leading_sign, signed_digits_value}
+use Rattle.std.specs.Str.Parse.{AllDigits, IsNumeral, without_leading_sign}
 use Rattle.std.specs.Char.{digit_value}
 use Rattle.sf_lex.specs.Lexeme.{is_digit}
 use Rattle.sf_lex.specs.Front.{begins_number, number_length}

@@ -1,5 +1,5 @@
 -- Each byte string reads in at most one way.
-use Rattle.std.proofs.Common.{◌≡◌, ◌<◌, ◌≤◌, ◌+◌, ◌==◌, ◌⊎◌, inl, inr, ℕ, zero, suc, List, [], ◌∷◌, ◌++◌, length, take, drop, true, false, Bool, cond, ◌&&◌, ◌||◌, Option, Some, None, refl, ap, sym, ◌∙◌, arith, subst, append_assoc}
+use Rattle.std.proofs.Common.{◌≡◌, ◌<◌, ◌≤◌, ◌==◌, ℕ, List, [], ◌∷◌, ◌++◌, length, true, false, Bool, ◌&&◌, Some, None, refl, ap, sym, ◌∙◌, arith, subst, append_assoc}
 use Rattle.std.proofs.lemmas.Bool.Decides.{nat_tests}
 use Rattle.std.specs.List.{slice_index}
 use Rattle.sf_base.specs.declared.limits.TheConstants.{FILE_BYTES}
@@ -10,9 +10,9 @@ use Rattle.sf_lex.specs.declared.token.Kind.{Kind}
 use Rattle.sf_lex.specs.declared.token.Kind.TheVariants as k
 use Rattle.sf_lex.specs.declared.token.Token.{Token}
 use Rattle.sf_lex.specs.Lexeme.{is_blank, kind_of}
-use Rattle.sf_lex.specs.Piece.{Piece, blank, comment, token, text_of, spelled, has_close, is_long_word, is_bad_number, IsFront, IsLongest, IsPiece, ArePieces}
-use Rattle.sf_lex.specs.Reading.{AreTokens, IsFault, IsFaultAt, IsBadByte, IsLongWord, IsOpenComment, IsBadNumber, StopsAt, tokens_of, first_place, place_behind}
-use Rattle.sf_lex.specs.Laws.{ReadsAtMostOnce, EachReadsAtMostOnce}
+use Rattle.sf_lex.specs.Piece.{Piece, blank, comment, token, text_of, spelled, has_close, is_long_word, is_bad_number, IsFront, IsPiece, ArePieces}
+use Rattle.sf_lex.specs.Reading.{AreTokens, IsFault, IsFaultAt, IsBadByte, IsLongWord, IsBadNumber, StopsAt, tokens_of, first_place, place_behind}
+use Rattle.sf_lex.specs.Laws.{EachReadsAtMostOnce}
 use Rattle.sf_lex.proofs.Bytes.{or_false_right}
 use Rattle.sf_lex.proofs.CommentFronts.{close_there}
 

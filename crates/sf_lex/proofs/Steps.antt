@@ -1,5 +1,5 @@
 -- One piece further: what was read so far, and the places and tokens of it.
-use Rattle.std.proofs.Common.{◌≡◌, ◌<◌, ◌≤◌, ◌+◌, ◌-◌, ◌==◌, ◌⊎◌, inl, inr, ℕ, zero, suc, List, [], ◌∷◌, ◌++◌, length, take, drop, true, false, Bool, cond, None, Some, refl, ap, sym, ◌∙◌, arith, subst, append_assoc, append-nil, length-append, length-drop, length-take}
+use Rattle.std.proofs.Common.{◌≡◌, ◌<◌, ◌≤◌, ◌+◌, ◌-◌, ◌==◌, ℕ, List, [], ◌∷◌, ◌++◌, length, take, drop, true, false, Bool, cond, None, Some, refl, ap, sym, ◌∙◌, arith, subst, append_assoc, append-nil, length-append, length-drop, length-take}
 use Rattle.std.proofs.Math.Seq.{drop-append_seam, take-append_seam}
 use Rattle.std.proofs.lemmas.List.{drop-drop, drop_all}
 use Rattle.sf_base.specs.declared.limits.TheConstants.{FILE_BYTES}
@@ -7,8 +7,6 @@ use Rattle.sf_base.specs.declared.place.Place.{Place}
 use Rattle.sf_lex.specs.declared.fault.LexFault.{LexFault}
 use Rattle.sf_lex.specs.declared.fault.LexFault.TheVariants.{BadByte, LongWord, OpenComment, BadNumber, LongFile, OutOfMemory}
 use Rattle.sf_lex.specs.declared.front.Front.{Front}
-use Rattle.sf_lex.specs.declared.front.Front.TheVariants as f
-use Rattle.sf_lex.specs.declared.token.Kind.{Kind}
 use Rattle.sf_lex.specs.declared.token.Token.{Token}
 use Rattle.sf_lex.specs.Front.{Stands, front_of, bytes_of, with_front}
 use Rattle.sf_lex.specs.Piece.{Piece, blank, comment, token, text_of, spelled, IsPiece, ArePieces}
@@ -216,11 +214,11 @@ pub step_so : (bytes rest : List ℕ) (start n : ℕ) (at next : Place) (found k
     → next ≡ place_behind at (take ((start + n) - start) (drop start bytes)) → kept ≡ with_front found front start at → ReadSo bytes (start + n) next kept
 step_so bytes rest start n at next found kept front r e s count place tokens =
     let one : ReadSo bytes (start + bytes_of front) (place_behind at (take (bytes_of front) (drop start bytes))) (with_front found front start at) =
-        step bytes start at found front r (subst (λ xs. Stands front xs) e s) in
+    step bytes start at found front r (subst (λ xs. Stands front xs) e s) in
     let two : ReadSo bytes (start + n) (place_behind at (take n (drop start bytes))) (with_front found front start at) =
-        subst (λ m. ReadSo bytes (start + m) (place_behind at (take m (drop start bytes))) (with_front found front start at)) (sym count) one in
+    subst (λ m. ReadSo bytes (start + m) (place_behind at (take m (drop start bytes))) (with_front found front start at)) (sym count) one in
     let three : ReadSo bytes (start + n) next (with_front found front start at) =
-        subst (λ q. ReadSo bytes (start + n) q (with_front found front start at)) (ap (λ m. place_behind at (take m (drop start bytes))) (sym (same_count start n)) ∙ sym place) two in
+    subst (λ q. ReadSo bytes (start + n) q (with_front found front start at)) (ap (λ m. place_behind at (take m (drop start bytes))) (sym (same_count start n)) ∙ sym place) two in
     subst (λ ts. ReadSo bytes (start + n) next ts) (sym tokens) three
 
 -- the scanner stays within the bytes

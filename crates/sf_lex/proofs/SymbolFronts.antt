@@ -1,15 +1,14 @@
 -- Symbols at the front: the longest one that fits, or none.
-use Rattle.std.proofs.Common.{◌≡◌, ◌<◌, ◌≤◌, ◌+◌, ◌==◌, ℕ, zero, suc, List, [], ◌∷◌, ◌++◌, length, take, drop, true, false, Bool, cond, ◌&&◌, ◌||◌, Option, Some, None, refl, ap, sym, ◌∙◌, arith, subst}
+use Rattle.std.proofs.Common.{◌≡◌, ◌<◌, ◌==◌, ℕ, List, [], ◌∷◌, ◌++◌, length, true, false, Bool, cond, ◌&&◌, Option, Some, None, refl, ap, sym, ◌∙◌, arith, subst}
 use Rattle.std.proofs.lemmas.Bool.Decides.{nat_tests}
-use Rattle.std.specs.List.{list_all, slice_index}
+use Rattle.std.specs.List.{slice_index}
 use Rattle.std.specs.Option.{option_map, option_or}
-use Rattle.sf_lex.specs.declared.front.Front.{Front}
 use Rattle.sf_lex.specs.declared.front.Front.TheVariants as f
 use Rattle.sf_lex.specs.declared.token.Kind.{Kind}
 use Rattle.sf_lex.specs.declared.token.Kind.TheVariants as k
 use Rattle.sf_lex.specs.Front.{Stands, begins_comment, begins_number, symbol_front}
-use Rattle.sf_lex.specs.Lexeme.{is_blank, is_letter, is_digit, is_word_byte, is_some_of, is_number, symbol_of_one, symbol_of_two, symbol_of_three, symbol_kind, kind_of}
-use Rattle.sf_lex.specs.Piece.{Piece, blank, token, text_of, IsFront, IsLongest, IsPiece, is_long_word, is_bad_number, fits}
+use Rattle.sf_lex.specs.Lexeme.{is_blank, is_letter, is_digit, is_number, symbol_of_one, symbol_of_two, symbol_of_three, symbol_kind, kind_of}
+use Rattle.sf_lex.specs.Piece.{blank, token, IsFront, is_long_word, is_bad_number}
 use Rattle.sf_lex.specs.Reading.{IsBadByte}
 use Rattle.sf_lex.proofs.Bytes.{and_false, or_false_left, or_false_right}
 

@@ -1,18 +1,16 @@
 -- Words, existentials and numbers at the front: the run that the scanner takes is the longest token.
-use Rattle.std.proofs.Common.{◌≡◌, ◌<◌, ◌≤◌, ◌+◌, ◌==◌, ◌^◌, ℕ, zero, suc, List, [], ◌∷◌, ◌++◌, length, take, drop, true, false, Bool, cond, ◌&&◌, ◌||◌, Option, Some, None, refl, ap, sym, ◌∙◌, arith, subst, take-append-drop}
+use Rattle.std.proofs.Common.{◌≡◌, ◌<◌, ◌≤◌, ◌+◌, ◌==◌, ℕ, suc, List, [], ◌∷◌, ◌++◌, length, take, drop, true, false, Bool, cond, ◌&&◌, ◌||◌, Some, None, refl, ap, sym, ◌∙◌, arith, subst, take-append-drop}
 use Rattle.std.proofs.lemmas.List.{length-take-le, get_or-drop}
 use Rattle.std.specs.List.{prefix_len, list_all, slice_index}
 use Rattle.std.specs.Str.Parse.{signed_digits_value}
-use Rattle.sf_base.specs.declared.place.Place.{Place}
-use Rattle.sf_lex.specs.declared.front.Front.{Front}
 use Rattle.sf_lex.specs.declared.front.Front.TheVariants as f
 use Rattle.sf_lex.specs.declared.token.Kind.{Kind}
 use Rattle.sf_lex.specs.declared.token.Kind.TheVariants as k
 use Rattle.sf_lex.specs.Front.{Stands, begins_number, number_length, word_length}
-use Rattle.sf_lex.specs.Lexeme.{is_blank, is_letter, is_digit, is_word_byte, is_some_of, is_number, word_kind, symbol_kind, kind_of}
-use Rattle.sf_lex.specs.Piece.{Piece, token, IsFront, is_long_word, is_bad_number, fits}
+use Rattle.sf_lex.specs.Lexeme.{is_letter, is_digit, is_word_byte, is_some_of, word_kind, symbol_kind, kind_of}
+use Rattle.sf_lex.specs.Piece.{token, IsFront, is_long_word, is_bad_number, fits}
 use Rattle.sf_lex.specs.Reading.{IsBadByte, IsLongWord, IsBadNumber}
-use Rattle.sf_lex.proofs.Bytes.{prefix_cons, prefix_none, run_all, run_stops, some_of_all, some_of_none, letter_is_word, digit_no_letter, digit_no_underscore, digit_no_minus, digit_no_equals, digit_no_bang, digit_no_bar, is_minus, and_false}
+use Rattle.sf_lex.proofs.Bytes.{prefix_cons, prefix_none, run_all, run_stops, some_of_all, some_of_none, letter_is_word, digit_no_letter, digit_no_underscore, digit_no_minus, digit_no_equals, digit_no_bang, digit_no_bar, is_minus}
 
 kind_letter : (b : ℕ) (bs : List ℕ) → is_letter b ≡ true → list_all is_word_byte bs ≡ true → kind_of (b ∷ bs) ≡ Some (word_kind (b ∷ bs))
 kind_letter b bs l a = rw (l, a) refl

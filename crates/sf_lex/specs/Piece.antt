@@ -1,6 +1,6 @@
 -- What a file is made of: blanks, comments and tokens, each token the longest that fits.
 -- Ordinary: the rule of the longest match, as in Aho, Sethi, Ullman, "Compilers" (1986), chapter 3.
-use Rattle.std.specs.Prelude.{◌≡◌, ℕ, ◌==◌, ◌&&◌, ◌||◌, ◌^◌, ◌≤◌, ◌<◌, Bool, true, false, nat_lt, if◌then◌else◌, ◌++◌, Option, Some, None, List, [], ◌∷◌, length, pos, negsuc, ℤ, slice_index}
+use Rattle.std.specs.Prelude.{◌≡◌, ℕ, ◌==◌, ◌&&◌, ◌||◌, ◌^◌, Bool, true, false, nat_lt, if◌then◌else◌, ◌++◌, Some, None, List, [], ◌∷◌, length, pos, negsuc, ℤ, slice_index}
 use Rattle.std.specs.Str.Parse.{signed_digits_value}
 use Rattle.sf_base.specs.declared.limits.TheConstants.{NAME_BYTES}
 use Rattle.sf_lex.specs.declared.token.Kind.{Kind}

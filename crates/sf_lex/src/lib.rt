@@ -12,3 +12,6 @@ mod words;
 pub use fault::LexFault;
 pub use scan::tokens;
 pub use token::{Kind, Token};
+
+#[cfg(test)]
+mod tests;

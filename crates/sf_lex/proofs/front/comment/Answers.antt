@@ -1,4 +1,4 @@
-use Rattle.std.proofs.Common.{◌≡◌, ◌≤◌, ◌-◌, drop, length, Some, None, sym, ap, ◌∙◌, refl, arith, length-drop, rules}
+use Rattle.std.proofs.Common.{◌≡◌, ◌≤◌, ◌-◌, drop, length, sym, ap, ◌∙◌, refl, length-drop, rules}
 use Rattle.sf_lex.specs.Front.{close_length}
 use Rattle.sf_lex.proofs.CommentFronts.{comment_stands, comment_open, close_within}
 use Rattle.sf_lex.proofs.front.comment.Goals as goal
@@ -6,7 +6,7 @@ use Rattle.sf_lex.proofs.front.comment.Goals as goal
 pub overflow_add-result : goal.overflow_add-result
 overflow_add-result c =
     let within : c.in-Some.length ≤ length (drop 2 c.args.bytes.now) =
-        close_within (drop 2 c.args.bytes.now) c.in-Some.length (ap close_length (sym c.from_index.ensures) ∙ sym c.close_length.ensures ∙ c.in-Some.is) in
+    close_within (drop 2 c.args.bytes.now) c.in-Some.length (ap close_length (sym c.from_index.ensures) ∙ sym c.close_length.ensures ∙ c.in-Some.is) in
     let left : length (drop 2 c.args.bytes.now) ≡ length c.args.bytes.now - 2 = length-drop 2 c.args.bytes.now in
     search rules
 

@@ -1,4 +1,4 @@
-use Rattle.std.proofs.Common.{◌≡◌, ◌<◌, sym, ◌∙◌, refl, subst}
+use Rattle.std.proofs.Common.{◌<◌, sym, ◌∙◌, refl, subst}
 use Rattle.sf_lex.specs.declared.token.Kind.TheVariants.{Existential}
 use Rattle.sf_lex.proofs.WordFronts.{existential_front_at, token_stands, long_word, lone_underscore}
 use Rattle.sf_lex.proofs.front.existential.Goals as goal

@@ -1,4 +1,4 @@
-use Rattle.std.proofs.Common.{◌≡◌, sym, ◌∙◌, refl}
+use Rattle.std.proofs.Common.{sym, ◌∙◌, refl}
 use Rattle.std.specs.List.{slice_index}
 use Rattle.sf_lex.proofs.SymbolFronts.{blank_stands, no_underscore, symbol_some, symbol_none}
 use Rattle.sf_lex.proofs.front.look.Goals as goal

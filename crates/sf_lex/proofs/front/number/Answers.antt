@@ -1,4 +1,4 @@
-use Rattle.std.proofs.Common.{◌≡◌, take, sym, subst, ◌∙◌, refl}
+use Rattle.std.proofs.Common.{take, sym, subst, ◌∙◌, refl}
 use Rattle.std.specs.Str.{IsAscii}
 use Rattle.std.specs.Str.Parse.{IsNumeral, without_leading_sign}
 use Rattle.sf_lex.specs.declared.token.Kind.TheVariants.{Number}

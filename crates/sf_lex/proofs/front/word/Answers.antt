@@ -1,4 +1,4 @@
-use Rattle.std.proofs.Common.{◌≡◌, sym, ◌∙◌, refl, take, drop}
+use Rattle.std.proofs.Common.{sym, ◌∙◌, refl, take, drop}
 use Rattle.sf_lex.proofs.WordFronts.{word_front_at, token_stands, long_word, no_number_no_bad}
 use Rattle.sf_lex.proofs.front.word.Goals as goal
 

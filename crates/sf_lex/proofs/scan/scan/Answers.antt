@@ -1,4 +1,3 @@
-use Rattle.std.proofs.Common.{◌≡◌, ◌≤◌, ◌+◌, length}
 use Rattle.sf_lex.proofs.Steps.{step_so, within_so, bound_so, line_bound, column_bound}
 use Rattle.sf_lex.proofs.scan.scan.Goals as goal
 

@@ -1,0 +1,67 @@
+-- How deep the commands and assertions of a file are nested.
+-- Ordinary: the height of a syntax tree, as in Aho, Sethi, Ullman, "Compilers" (1986), chapter 2.
+use Rattle.std.specs.Prelude.{ℕ, ◌+◌, max, List, [], ◌∷◌, Option, Some, None}
+use Rattle.sf_ast.specs.Surface.{Conjunct, emp, group, choose, choose_round, equal, differ, points, ls, lseg, list, tree, Assertion, only, star, Note, blank, filled, Command, assign, look_up, new, mutate, dispose, dispose_round, when, if, while, with, call, fork, block, Commands, done, then, Item, fields, resource, procedure}
+
+abbrev mutual
+  -- the levels below the assertion that a conjunct stands in
+  pub conjunct_depth : Conjunct → ℕ
+  conjunct_depth (emp p) = 0
+  conjunct_depth (group p a) = assertion_depth a
+  conjunct_depth (choose p t a b) = max (assertion_depth a) (assertion_depth b)
+  conjunct_depth (choose_round p t a b) = max (assertion_depth a) (assertion_depth b)
+  conjunct_depth (equal x y) = 0
+  conjunct_depth (differ x y) = 0
+  conjunct_depth (points x fs) = 0
+  conjunct_depth (ls p x y) = 0
+  conjunct_depth (lseg p x y) = 0
+  conjunct_depth (list p x) = 0
+  conjunct_depth (tree p x) = 0
+
+  -- the levels of an assertion: its own, and those below it
+  pub assertion_depth : Assertion → ℕ
+  assertion_depth (only c) = 1 + conjunct_depth c
+  assertion_depth (star c a) = max (1 + conjunct_depth c) (assertion_depth a)
+
+-- those of what stands in square brackets
+abbrev pub note_depth : Note → ℕ
+note_depth blank = 0
+note_depth (filled a) = assertion_depth a
+
+-- those of a note that may be left out
+abbrev pub maybe_depth : Option Note → ℕ
+maybe_depth None = 0
+maybe_depth (Some n) = note_depth n
+
+abbrev mutual
+  -- the levels of a command, its own the first; an invariant's assertions are counted for themselves
+  pub command_depth : Command → ℕ
+  command_depth (assign x e) = 1
+  command_depth (look_up x e f) = 1
+  command_depth (new x) = 1
+  command_depth (mutate e f g) = 1
+  command_depth (dispose p e) = 1
+  command_depth (dispose_round p e) = 1
+  command_depth (when p t c) = 1 + command_depth c
+  command_depth (if p t c d) = 1 + max (command_depth c) (command_depth d)
+  command_depth (while p t n c) = max (maybe_depth n) (1 + command_depth c)
+  command_depth (with p r t c) = 1 + command_depth c
+  command_depth (call c) = 1
+  command_depth (fork c d) = 1
+  command_depth (block p cs) = 1 + commands_depth cs
+
+  -- those of the deepest command
+  pub commands_depth : Commands → ℕ
+  commands_depth done = 0
+  commands_depth (then c cs) = max (command_depth c) (commands_depth cs)
+
+-- those of the deepest command or assertion of an item
+abbrev pub item_depth : Item → ℕ
+item_depth (fields ns) = 0
+item_depth (resource r) = note_depth r.invariant
+item_depth (procedure f) = max (commands_depth f.body) (max (maybe_depth f.pre) (maybe_depth f.post))
+
+-- those of the deepest command or assertion of a file
+abbrev pub items_depth : List Item → ℕ
+items_depth [] = 0
+items_depth (i ∷ is) = max (item_depth i) (items_depth is)

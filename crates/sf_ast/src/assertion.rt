@@ -1,0 +1,51 @@
+use crate::word::{SurfaceOperand, SurfaceTest, Word};
+use sf_base::Place;
+
+/// A field of a points-to and what stands for its value.
+#[derive(Clone, Copy, Debug, PartialEq, Eq)]
+pub struct SurfaceField {
+    pub name: Word,
+    pub value: SurfaceOperand,
+}
+
+/// One conjunct. A place is that of its first token.
+#[cycle(assertion)]
+#[derive(Debug, Drop)]
+pub enum SurfaceConjunct {
+    /// `emp`
+    Emp(Place),
+    /// `( A )`
+    Group(Place, SurfaceAssertion),
+    /// `if B then A else A`
+    If(Place, SurfaceTest<SurfaceOperand>, SurfaceAssertion, SurfaceAssertion),
+    /// `if ( B ) then A else A`
+    IfRound(Place, SurfaceTest<SurfaceOperand>, SurfaceAssertion, SurfaceAssertion),
+    /// `E == F`
+    Equal(SurfaceOperand, SurfaceOperand),
+    /// `E != F`
+    Differ(SurfaceOperand, SurfaceOperand),
+    /// `E |-> f:F, g:G`
+    Points(SurfaceOperand, Vec<SurfaceField>),
+    /// `ls(E, F)`
+    Ls(Place, SurfaceOperand, SurfaceOperand),
+    /// `lseg(E, F)`
+    Lseg(Place, SurfaceOperand, SurfaceOperand),
+    /// `list(E)`
+    List(Place, SurfaceOperand),
+    /// `tree(E)`
+    Tree(Place, SurfaceOperand),
+}
+
+/// An assertion: one conjunct or more, with `*` between them.
+#[cycle(assertion)]
+#[derive(Debug, Drop)]
+pub struct SurfaceAssertion {
+    pub first: Box<SurfaceConjunct>,
+    pub more: Vec<SurfaceConjunct>,
+}
+
+/// `[ A ]`, or `[ ]`.
+#[derive(Debug, Drop)]
+pub struct SurfaceNote {
+    pub assertion: Option<SurfaceAssertion>,
+}

@@ -1,0 +1,60 @@
+ghost use Rattle.std.specs.Prelude.{◌≤◌, map};
+ghost use Rattle.sf_ast.specs.Depth.{items_depth};
+ghost use Rattle.sf_ast.specs.View.{item_of};
+ghost use Rattle.sf_base.specs.declared.limits.TheConstants.{NESTING};
+
+use crate::assertion::SurfaceNote;
+use crate::command::SurfaceCommand;
+use crate::word::{SurfaceNames, Word};
+use sf_base::Place;
+
+/// The parameters of a procedure.
+#[derive(Debug, Drop)]
+pub enum SurfaceParameters {
+    /// Value parameters alone, without a `;`.
+    Values(Vec<Word>),
+    /// References, a `;` and value parameters.
+    Both(Vec<Word>, Vec<Word>),
+}
+
+/// `resource r (x, y) [ A ]`
+#[derive(Debug, Drop)]
+pub struct SurfaceResource {
+    /// Where `resource` stands.
+    pub place: Place,
+    pub name: Word,
+    pub variables: Vec<Word>,
+    pub invariant: SurfaceNote,
+}
+
+/// `f(x; y) [ A ] { local z; C } [ A ]`
+#[derive(Debug, Drop)]
+pub struct SurfaceProcedure {
+    pub name: Word,
+    pub parameters: SurfaceParameters,
+    pub pre: Option<SurfaceNote>,
+    /// Where the body's opening brace stands.
+    pub open: Place,
+    /// The names of each `local`.
+    pub locals: Vec<SurfaceNames>,
+    pub body: Vec<SurfaceCommand>,
+    /// Where the body's closing brace stands.
+    pub close: Place,
+    pub post: Option<SurfaceNote>,
+}
+
+/// One item of a file.
+#[derive(Debug, Drop)]
+pub enum Item {
+    /// `a, b;`
+    Fields(SurfaceNames),
+    Resource(SurfaceResource),
+    Procedure(SurfaceProcedure),
+}
+
+/// A file as it is written. No command and no assertion in it is deeper than 64.
+#[derive(Debug, Drop)]
+pub struct File {
+    pub items: Vec<Item>,
+    ghost shallow: { items_depth (map item_of items.items) ≤ NESTING },
+}

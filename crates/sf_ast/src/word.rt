@@ -1,0 +1,48 @@
+use sf_base::Place;
+
+/// A name, an existential or a number where it stands in the file.
+#[derive(Clone, Copy, Debug, PartialEq, Eq)]
+pub struct Word {
+    /// How many bytes stand before its text.
+    pub start: usize,
+    /// How many bytes stand before what follows its text.
+    pub end: usize,
+    /// The place of its first byte.
+    pub place: Place,
+}
+
+/// One name or more, with commas between them.
+#[derive(Debug, Drop)]
+pub struct SurfaceNames {
+    pub first: Word,
+    pub more: Vec<Word>,
+}
+
+/// An expression.
+#[derive(Clone, Copy, Debug, PartialEq, Eq)]
+pub enum SurfaceExpr {
+    Name(Word),
+    /// `nil`
+    Nil(Place),
+    /// `NULL`
+    Null(Place),
+    Number(Word),
+}
+
+/// What stands in an assertion for a value.
+#[derive(Clone, Copy, Debug, PartialEq, Eq)]
+pub enum SurfaceOperand {
+    Known(SurfaceExpr),
+    Existential(Word),
+}
+
+/// A test of two values.
+#[derive(Clone, Copy, Debug, PartialEq, Eq)]
+pub enum SurfaceTest<E> {
+    /// `true`
+    True(Place),
+    /// `E == F`
+    Equal(E, E),
+    /// `E != F`
+    Differ(E, E),
+}

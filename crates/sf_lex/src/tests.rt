@@ -1,0 +1,165 @@
+use crate::{Kind, LexFault, tokens};
+use sf_base::Place;
+use std::alloc::Global;
+
+/// The place in that line and column.
+fn at(line: u32, column: u32) -> Place {
+    Place { line, column }
+}
+
+/// Why those bytes are refused, if they are.
+fn refusal(alloc: Global, bytes: &[u8]) -> Option<LexFault> {
+    match tokens(alloc, bytes) {
+        Ok(_) => None,
+        Err(fault) => Some(fault),
+    }
+}
+
+/// The first kinds of the tokens of those bytes, and how many tokens there are.
+fn kinds(alloc: Global, bytes: &[u8]) -> ([Kind; 4], usize) {
+    let mut first = [Kind::Null; 4];
+    match tokens(alloc, bytes) {
+        Ok(found) => {
+            for (i, token) in found.iter().enumerate() {
+                if i < 4 {
+                    first[i] = token.kind;
+                }
+            }
+            (first, found.len())
+        }
+        Err(_) => (first, usize::MAX),
+    }
+}
+
+#[test]
+fn files_without_tokens_are_refused_at_the_first_fault(rt: HostRuntime) {
+    let cases: [(&[u8], LexFault); 23] = [
+        (b"f() { @ }", LexFault::BadByte(at(1, 7))),
+        (b"/* x", LexFault::OpenComment(at(1, 1))),
+        (
+            b"f() { x->tl = 9223372036854775808; }",
+            LexFault::BadNumber(at(1, 15)),
+        ),
+        (
+            b"f() { x->tl = -9223372036854775809; }",
+            LexFault::BadNumber(at(1, 15)),
+        ),
+        (b"f() { -x; }", LexFault::BadByte(at(1, 7))),
+        (b"f() { x-->tl = 1; }", LexFault::BadByte(at(1, 8))),
+        (b"f() { if (x ! y) { } }", LexFault::BadByte(at(1, 13))),
+        (b"f(x) [x |-tl:x] { }", LexFault::BadByte(at(1, 9))),
+        (b"f() { } \x0c", LexFault::BadByte(at(1, 9))),
+        (b"/*/", LexFault::OpenComment(at(1, 1))),
+        (b"/* /* */ * /", LexFault::BadByte(at(1, 12))),
+        (b"/* /* */ */", LexFault::BadByte(at(1, 11))),
+        (b"/* a\nb */ @", LexFault::BadByte(at(2, 6))),
+        (b"f() { 3x->tl = 1; }", LexFault::BadNumber(at(1, 7))),
+        (b"3_", LexFault::BadNumber(at(1, 1))),
+        (b"f( ) ) @", LexFault::BadByte(at(1, 8))),
+        (b"_ @", LexFault::BadByte(at(1, 1))),
+        (b"x _", LexFault::BadByte(at(1, 3))),
+        (b"@ /* x", LexFault::BadByte(at(1, 1))),
+        (b"\xc3\xa4", LexFault::BadByte(at(1, 1))),
+        (b"a\r\n\t|", LexFault::BadByte(at(2, 2))),
+        (b"x /*", LexFault::OpenComment(at(1, 3))),
+        (
+            b"99999999999999999999999999 @",
+            LexFault::BadNumber(at(1, 1)),
+        ),
+    ];
+    for (bytes, fault) in cases {
+        assert!(rt; refusal(rt.alloc(), bytes) == Some(fault));
+    }
+}
+
+#[test]
+fn files_with_tokens_are_read(rt: HostRuntime) {
+    let cases: [(&[u8], [Kind; 4], usize); 11] = [
+        (b"", [Kind::Null, Kind::Null, Kind::Null, Kind::Null], 0),
+        (
+            b"f() { } /* \xc3\xa4 @ */",
+            [
+                Kind::Name,
+                Kind::OpenRound,
+                Kind::CloseRound,
+                Kind::OpenBrace,
+            ],
+            5,
+        ),
+        (
+            b"x->tl = -9223372036854775808;",
+            [Kind::Name, Kind::Arrow, Kind::Name, Kind::Equals],
+            6,
+        ),
+        (
+            b"9223372036854775807",
+            [Kind::Number, Kind::Null, Kind::Null, Kind::Null],
+            1,
+        ),
+        (
+            b"000000000000000000000000007",
+            [Kind::Number, Kind::Null, Kind::Null, Kind::Null],
+            1,
+        ),
+        (
+            b"3/**/4",
+            [Kind::Number, Kind::Number, Kind::Null, Kind::Null],
+            2,
+        ),
+        (
+            b"x|->tl:x",
+            [Kind::Name, Kind::PointsTo, Kind::Name, Kind::Colon],
+            5,
+        ),
+        (
+            b"a||b==c",
+            [Kind::Name, Kind::Bars, Kind::Name, Kind::EqualEqual],
+            5,
+        ),
+        (
+            b"===",
+            [Kind::EqualEqual, Kind::Equals, Kind::Null, Kind::Null],
+            2,
+        ),
+        (
+            b"__ _1 lists list",
+            [Kind::Existential, Kind::Existential, Kind::Name, Kind::List],
+            4,
+        ),
+        (
+            b"x!=-1*",
+            [Kind::Name, Kind::NotEqual, Kind::Number, Kind::Star],
+            4,
+        ),
+    ];
+    for (bytes, first, count) in cases {
+        let (found, length) = kinds(rt.alloc(), bytes);
+        assert!(rt; found == first && length == count);
+    }
+}
+
+#[test]
+fn words_and_files_have_limits(rt: HostRuntime) {
+    let mut word = Vec::new(rt.alloc());
+    for _ in 0..64 {
+        if word.push(b'a').is_err() {
+            return;
+        }
+    }
+    assert!(rt; refusal(rt.alloc(), word.as_slice()).is_none());
+    if word.push(b'_').is_err() {
+        return;
+    }
+    assert!(rt; refusal(rt.alloc(), word.as_slice()) == Some(LexFault::LongWord(at(1, 1))));
+    let mut spaces = Vec::new(rt.alloc());
+    for _ in 0..1_048_576 {
+        if spaces.push(b' ').is_err() {
+            return;
+        }
+    }
+    assert!(rt; refusal(rt.alloc(), spaces.as_slice()).is_none());
+    if spaces.push(b' ').is_err() {
+        return;
+    }
+    assert!(rt; refusal(rt.alloc(), spaces.as_slice()) == Some(LexFault::LongFile));
+}
