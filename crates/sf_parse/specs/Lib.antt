@@ -1,0 +1,4 @@
+pub mod Grammar
+pub mod Nesting
+pub mod Placed
+pub mod Parsing

@@ -1,0 +1,6 @@
+//! From the tokens of a file to its surface tree.
+#![tactic(auto)]
+
+pub mod fault;
+
+pub use fault::ParseFault;
