@@ -2,3 +2,4 @@ pub mod Grammar
 pub mod Nesting
 pub mod Placed
 pub mod Parsing
+pub mod Machine

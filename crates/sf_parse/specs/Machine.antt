@@ -1,0 +1,387 @@
+-- What may still come, as a stack of what is owed: the meaning of the tokens read so far, between the grammar and the parser's code.
+-- Ordinary: predictive parsing with a stack, as in Aho, Sethi, Ullman, "Compilers" (1986), section 4.4.
+use Rattle.std.specs.Prelude.{◌≡◌, ℕ, zero, suc, ◌-◌, ◌++◌, List, [], ◌∷◌, length, Bool, true, false}
+use Rattle.sf_base.specs.declared.limits.TheConstants.{NESTING}
+use Rattle.sf_lex.specs.declared.token.Kind.{Kind}
+use Rattle.sf_lex.specs.declared.token.Kind.TheVariants as k
+use Rattle.sf_parse.specs.Nesting.{has_level}
+
+-- a token that is owed as it stands
+pub data Mark : Type 0 where
+  a_name : Mark
+  an_arrow : Mark
+  equals : Mark
+  semicolon : Mark
+  open_round : Mark
+  close_round : Mark
+  open_square : Mark
+  close_square : Mark
+  open_brace : Mark
+  close_brace : Mark
+  a_colon : Mark
+  a_comma : Mark
+  then_word : Mark
+  else_word : Mark
+  when_word : Mark
+
+-- what may be owed
+pub data Owed : Type 0 where
+  exact : Mark → Owed
+  -- an expression, an operand, `==` or `!=`; a test over expressions, over operands, and one that may stand in `( )`
+  expression : Owed
+  operand : Owed
+  equality : Owed
+  test : Owed
+  operand_test : Owed
+  if_test : Owed
+  -- names behind a first one; names or none; a `;` and names, or none
+  more_names : Owed
+  maybe_names : Owed
+  maybe_values : Owed
+  -- what stands behind the `(` of a call; behind an expression there, where all so far are names or not; behind a comma there
+  maybe_arguments : Owed
+  rest : Bool → Owed
+  next : Bool → Owed
+  maybe_expressions : Owed
+  more_expressions : Owed
+  -- what stands behind a conjunct's first operand; fields or none; fields behind a first one
+  relation : Owed
+  maybe_fields : Owed
+  more_fields : Owed
+  -- a conjunct; more of them behind a `*`; an assertion of at most d levels; one or none in square brackets; a note or none
+  conjunct : ℕ → Owed
+  more_conjuncts : ℕ → Owed
+  assertion : ℕ → Owed
+  maybe_assertion : Owed
+  maybe_note : Owed
+  -- what stands behind the name that begins a command; behind its `=`; behind the expression there; behind a call; behind `dispose`
+  named : Owed
+  assigned : Owed
+  look_up_or_end : Owed
+  after_call : Owed
+  disposed : Owed
+  -- a command of at most d levels; as many as come; the `else` of an `if`
+  command : ℕ → Owed
+  commands : ℕ → Owed
+  branch : ℕ → Owed
+  -- the `local`s; what stands behind the name that begins an item; as many items as come
+  locals : Owed
+  item_named : Owed
+  items : Owed
+
+-- at one token: take it and owe that instead, do without, or neither
+pub data Choice : Type 0 where
+  take : List Owed → Choice
+  skip : Choice
+  refuse : Choice
+
+-- then that is owed too
+abbrev pub and_then : Choice → List Owed → Choice
+and_then (take ss) more = take (ss ++ more)
+and_then skip more = skip
+and_then refuse more = refuse
+
+-- what need not come is done without
+abbrev pub or_skip : Choice → Choice
+or_skip (take ss) = take ss
+or_skip skip = skip
+or_skip refuse = skip
+
+-- the kind of an exact token
+abbrev pub mark_kind : Mark → Kind
+mark_kind a_name = k.Name
+mark_kind an_arrow = k.Arrow
+mark_kind equals = k.Equals
+mark_kind semicolon = k.Semicolon
+mark_kind open_round = k.OpenRound
+mark_kind close_round = k.CloseRound
+mark_kind open_square = k.OpenSquare
+mark_kind close_square = k.CloseSquare
+mark_kind open_brace = k.OpenBrace
+mark_kind close_brace = k.CloseBrace
+mark_kind a_colon = k.Colon
+mark_kind a_comma = k.Comma
+mark_kind then_word = k.Then
+mark_kind else_word = k.Else
+mark_kind when_word = k.When
+
+-- that token alone
+abbrev pub on_exact : Mark → Kind → Choice
+on_exact a_name k.Name = take []
+on_exact an_arrow k.Arrow = take []
+on_exact equals k.Equals = take []
+on_exact semicolon k.Semicolon = take []
+on_exact open_round k.OpenRound = take []
+on_exact close_round k.CloseRound = take []
+on_exact open_square k.OpenSquare = take []
+on_exact close_square k.CloseSquare = take []
+on_exact open_brace k.OpenBrace = take []
+on_exact close_brace k.CloseBrace = take []
+on_exact a_colon k.Colon = take []
+on_exact a_comma k.Comma = take []
+on_exact then_word k.Then = take []
+on_exact else_word k.Else = take []
+on_exact when_word k.When = take []
+on_exact u t = refuse
+
+-- a token that is an expression, and what is owed behind it
+abbrev pub on_expression : Kind → List Owed → Choice
+on_expression k.Name ss = take ss
+on_expression k.Nil ss = take ss
+on_expression k.Null ss = take ss
+on_expression k.Number ss = take ss
+on_expression t ss = refuse
+
+-- a token that is an operand, and what is owed behind it
+abbrev pub on_operand : Kind → List Owed → Choice
+on_operand k.Existential ss = take ss
+on_operand t ss = on_expression t ss
+
+abbrev pub on_equality : Kind → Choice
+on_equality k.EqualEqual = take []
+on_equality k.NotEqual = take []
+on_equality t = refuse
+
+abbrev pub on_test : Kind → Choice
+on_test k.True = take []
+on_test t = on_expression t (equality ∷ expression ∷ [])
+
+abbrev pub on_operand_test : Kind → Choice
+on_operand_test k.True = take []
+on_operand_test t = on_operand t (equality ∷ operand ∷ [])
+
+abbrev pub on_if_test : Kind → Choice
+on_if_test k.OpenRound = take (operand_test ∷ exact close_round ∷ [])
+on_if_test t = on_operand_test t
+
+abbrev pub on_more_names : Kind → Choice
+on_more_names k.Comma = take (exact a_name ∷ more_names ∷ [])
+on_more_names t = skip
+
+abbrev pub on_maybe_names : Kind → Choice
+on_maybe_names k.Name = take (more_names ∷ [])
+on_maybe_names t = skip
+
+abbrev pub on_maybe_values : Kind → Choice
+on_maybe_values k.Semicolon = take (maybe_names ∷ [])
+on_maybe_values t = skip
+
+abbrev pub on_next : Bool → Kind → Choice
+on_next b k.Name = take (rest b ∷ [])
+on_next b t = on_expression t (rest false ∷ [])
+
+abbrev pub on_maybe_arguments : Kind → Choice
+on_maybe_arguments k.Semicolon = take (maybe_expressions ∷ [])
+on_maybe_arguments t = or_skip (on_next true t)
+
+abbrev pub on_rest : Bool → Kind → Choice
+on_rest b k.Comma = take (next b ∷ [])
+on_rest true k.Semicolon = take (maybe_expressions ∷ [])
+on_rest b t = skip
+
+abbrev pub on_maybe_expressions : Kind → Choice
+on_maybe_expressions t = or_skip (on_expression t (more_expressions ∷ []))
+
+abbrev pub on_more_expressions : Kind → Choice
+on_more_expressions k.Comma = take (expression ∷ more_expressions ∷ [])
+on_more_expressions t = skip
+
+abbrev pub on_relation : Kind → Choice
+on_relation k.EqualEqual = take (operand ∷ [])
+on_relation k.NotEqual = take (operand ∷ [])
+on_relation k.PointsTo = take (maybe_fields ∷ [])
+on_relation t = refuse
+
+abbrev pub on_maybe_fields : Kind → Choice
+on_maybe_fields k.Name = take (exact a_colon ∷ operand ∷ more_fields ∷ [])
+on_maybe_fields t = skip
+
+abbrev pub on_more_fields : Kind → Choice
+on_more_fields k.Comma = take (exact a_name ∷ exact a_colon ∷ operand ∷ more_fields ∷ [])
+on_more_fields t = skip
+
+-- a conjunct, and what is owed behind it
+abbrev pub on_conjunct : ℕ → Kind → List Owed → Choice
+on_conjunct d k.Emp ss = take ss
+on_conjunct d k.OpenRound ss = take (assertion (d - 1) ∷ exact close_round ∷ ss)
+on_conjunct d k.If ss = take (if_test ∷ exact then_word ∷ assertion (d - 1) ∷ exact else_word ∷ assertion (d - 1) ∷ ss)
+on_conjunct d k.Ls ss = take (exact open_round ∷ operand ∷ exact a_comma ∷ operand ∷ exact close_round ∷ ss)
+on_conjunct d k.Lseg ss = take (exact open_round ∷ operand ∷ exact a_comma ∷ operand ∷ exact close_round ∷ ss)
+on_conjunct d k.List ss = take (exact open_round ∷ operand ∷ exact close_round ∷ ss)
+on_conjunct d k.Tree ss = take (exact open_round ∷ operand ∷ exact close_round ∷ ss)
+on_conjunct d t ss = on_operand t (relation ∷ ss)
+
+abbrev pub on_more_conjuncts : ℕ → Kind → Choice
+on_more_conjuncts d k.Star = take (conjunct d ∷ more_conjuncts d ∷ [])
+on_more_conjuncts d t = skip
+
+abbrev pub on_maybe_note : Kind → Choice
+on_maybe_note k.OpenSquare = take (maybe_assertion ∷ exact close_square ∷ [])
+on_maybe_note t = skip
+
+abbrev pub on_named : Kind → Choice
+on_named k.Equals = take (assigned ∷ [])
+on_named k.Arrow = take (exact a_name ∷ exact equals ∷ expression ∷ exact semicolon ∷ [])
+on_named k.OpenRound = take (maybe_arguments ∷ exact close_round ∷ after_call ∷ [])
+on_named t = refuse
+
+abbrev pub on_assigned : Kind → Choice
+on_assigned k.New = take (exact open_round ∷ exact close_round ∷ exact semicolon ∷ [])
+on_assigned t = on_expression t (look_up_or_end ∷ [])
+
+abbrev pub on_look_up_or_end : Kind → Choice
+on_look_up_or_end k.Semicolon = take []
+on_look_up_or_end k.Arrow = take (exact a_name ∷ exact semicolon ∷ [])
+on_look_up_or_end t = refuse
+
+abbrev pub on_after_call : Kind → Choice
+on_after_call k.Semicolon = take []
+on_after_call k.Bars = take (exact a_name ∷ exact open_round ∷ maybe_arguments ∷ exact close_round ∷ exact semicolon ∷ [])
+on_after_call t = refuse
+
+abbrev pub on_disposed : Kind → Choice
+on_disposed k.OpenRound = take (expression ∷ exact close_round ∷ exact semicolon ∷ [])
+on_disposed t = on_expression t (exact semicolon ∷ [])
+
+-- a command, and what is owed behind it
+abbrev pub on_command : ℕ → Kind → List Owed → Choice
+on_command d k.Name ss = take (named ∷ ss)
+on_command d k.Dispose ss = take (disposed ∷ ss)
+on_command d k.If ss = take (exact open_round ∷ test ∷ exact close_round ∷ command (d - 1) ∷ branch (d - 1) ∷ ss)
+on_command d k.While ss = take (exact open_round ∷ test ∷ exact close_round ∷ maybe_note ∷ command (d - 1) ∷ ss)
+on_command d k.With ss = take (exact a_name ∷ exact when_word ∷ exact open_round ∷ test ∷ exact close_round ∷ command (d - 1) ∷ ss)
+on_command d k.OpenBrace ss = take (commands (d - 1) ∷ exact close_brace ∷ ss)
+on_command d t ss = on_expression t (exact an_arrow ∷ exact a_name ∷ exact equals ∷ expression ∷ exact semicolon ∷ ss)
+
+abbrev pub on_branch : ℕ → Kind → Choice
+on_branch d k.Else = take (command d ∷ [])
+on_branch d t = skip
+
+abbrev pub on_locals : Kind → Choice
+on_locals k.Local = take (exact a_name ∷ more_names ∷ exact semicolon ∷ locals ∷ [])
+on_locals t = skip
+
+abbrev pub on_item_named : Kind → Choice
+on_item_named k.Comma = take (exact a_name ∷ more_names ∷ exact semicolon ∷ [])
+on_item_named k.Semicolon = take []
+on_item_named k.OpenRound =
+    take (maybe_names ∷ maybe_values ∷ exact close_round ∷ maybe_note ∷ exact open_brace ∷ locals ∷ commands NESTING ∷ exact close_brace ∷ maybe_note ∷ [])
+on_item_named t = refuse
+
+abbrev pub on_items : Kind → Choice
+on_items k.Name = take (item_named ∷ items ∷ [])
+on_items k.Resource = take (exact a_name ∷ exact open_round ∷ maybe_names ∷ exact close_round ∷ exact open_square ∷ maybe_assertion ∷ exact close_square ∷ items ∷ [])
+on_items t = refuse
+
+-- what comes of one thing that is owed at one token
+abbrev pub choice : Owed → Kind → Choice
+choice (exact u) t = on_exact u t
+choice expression t = on_expression t []
+choice operand t = on_operand t []
+choice equality t = on_equality t
+choice test t = on_test t
+choice operand_test t = on_operand_test t
+choice if_test t = on_if_test t
+choice more_names t = on_more_names t
+choice maybe_names t = on_maybe_names t
+choice maybe_values t = on_maybe_values t
+choice maybe_arguments t = on_maybe_arguments t
+choice (rest b) t = on_rest b t
+choice (next b) t = on_next b t
+choice maybe_expressions t = on_maybe_expressions t
+choice more_expressions t = on_more_expressions t
+choice relation t = on_relation t
+choice maybe_fields t = on_maybe_fields t
+choice more_fields t = on_more_fields t
+choice (conjunct d) t = on_conjunct d t []
+choice (more_conjuncts d) t = on_more_conjuncts d t
+choice (assertion d) t = on_conjunct d t (more_conjuncts d ∷ [])
+choice maybe_assertion t = or_skip (on_conjunct NESTING t (more_conjuncts NESTING ∷ []))
+choice maybe_note t = on_maybe_note t
+choice named t = on_named t
+choice assigned t = on_assigned t
+choice look_up_or_end t = on_look_up_or_end t
+choice after_call t = on_after_call t
+choice disposed t = on_disposed t
+choice (command d) t = on_command d t []
+choice (commands d) t = or_skip (on_command d t (commands d ∷ []))
+choice (branch d) t = on_branch d t
+choice locals t = on_locals t
+choice item_named t = on_item_named t
+choice items t = on_items t
+
+-- a command or an assertion takes a level, unless it begins with at most n tokens left
+abbrev pub is_free : Owed → (n left : ℕ) → Bool
+is_free (command d) n left = has_level n left d
+is_free (commands d) n left = has_level n left d
+is_free (assertion d) n left = has_level n left d
+is_free _ n left = true
+
+-- what comes of a stack at one token
+pub data Next : Type 0 where
+  goes : List Owed → Next
+  bad : Next
+  deep : Next
+
+abbrev pub leveled : Bool → List Owed → Next
+leveled true st = goes st
+leveled false st = deep
+
+abbrev pub chosen : Choice → (free : Bool) → List Owed → Next → Next
+chosen (take ss) free st without = leveled free (ss ++ st)
+chosen skip free st without = without
+chosen refuse free st without = bad
+
+-- the topmost that takes the token takes it
+abbrev pub step : (n left : ℕ) → List Owed → Kind → Next
+step n left [] t = bad
+step n left (s ∷ st) t = chosen (choice s t) (is_free s n left) st (step n left st t)
+
+-- whether it need not come at the end of the file
+abbrev pub is_optional : Owed → Bool
+is_optional more_names = true
+is_optional maybe_names = true
+is_optional maybe_values = true
+is_optional maybe_arguments = true
+is_optional (rest b) = true
+is_optional maybe_expressions = true
+is_optional more_expressions = true
+is_optional maybe_fields = true
+is_optional more_fields = true
+is_optional (more_conjuncts d) = true
+is_optional maybe_assertion = true
+is_optional maybe_note = true
+is_optional (commands d) = true
+is_optional (branch d) = true
+is_optional locals = true
+is_optional items = true
+is_optional _ = false
+
+abbrev pub both : Bool → Bool → Bool
+both true b = b
+both false b = false
+
+-- whether the file may end
+abbrev pub may_end : List Owed → Bool
+may_end [] = true
+may_end (s ∷ st) = both (is_optional s) (may_end st)
+
+-- the verdict, with how many tokens are left at the fault
+pub data Verdict : Type 0 where
+  accepted : Verdict
+  unexpected : ℕ → Verdict
+  too_deep : ℕ → Verdict
+
+abbrev pub at_end : Bool → Verdict
+at_end true = accepted
+at_end false = unexpected 0
+
+abbrev pub after : (List Owed → Verdict) → ℕ → Next → Verdict
+after f left (goes st) = f st
+after f left bad = unexpected left
+after f left deep = too_deep left
+
+-- the verdict over tokens where that is owed
+abbrev pub verdict : ℕ → List Kind → List Owed → Verdict
+verdict n [] st = at_end (may_end st)
+verdict n (t ∷ ts) st = after (λ s. verdict n ts s) (suc (length ts)) (step n (suc (length ts)) st t)
