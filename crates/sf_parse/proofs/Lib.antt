@@ -1,2 +1,4 @@
 pub mod Means
 pub mod Free
+pub mod Back
+pub mod OwedBack
