@@ -167,3 +167,247 @@ one_more_field n st ts (r, a, more) = let o = a_field n st r more in (o.0, (o.1 
 more_fields_back : (n : ℕ) (st : List Owed) (u : Kind) (w : Next) (ts : List Kind) → Without n st u w ts → MeansNext n (chosen (m.on_more_fields u) true st w) ts → Means n (m.more_fields ∷ st) (u ∷ ts)
 more_fields_back n st k.Comma w ts f q = one_more_field n st ts q
 more_fields_back n st u w ts f q = (u ∷ ts, ([], refl), f q)
+
+ends_star : (c : s.Conjunct) (r : List Kind) → Ends c (k.Star ∷ r) → IsClosed c
+ends_star (s.choose p b x y) r h = absurd h
+ends_star (s.choose_round p b x y) r h = absurd h
+ends_star _ r h = tt
+
+-- a conjunct and those behind it
+with_more : (n d : ℕ) (c : s.Conjunct) (r q : List Kind) → ConjunctWithin c n d r → Ends c r → Spells n (m.more_conjuncts d) r q → (a : s.Assertion) × (g.conjunct c r ≡ g.assertion a q) × RestWithin a n d q × NotStar q
+with_more n d c r q w e (inl h) = (s.only c, ap (λ z. g.conjunct c z) h.1, subst (λ z. ConjunctWithin c n d z) h.1 w, subst (λ z. NotStar z) h.1 h.0)
+with_more n d c r q w e (inr h) =
+    (s.star c h.0, ap (λ z. g.conjunct c z) h.1, (subst (λ z. ConjunctWithin c n d z) h.1 w, ends_star c (g.assertion h.0 q) (subst (λ z. Ends c z) h.1 e), h.2), h.3)
+
+-- an assertion has the level of its first token
+leveled_assertion : (n d : ℕ) (a : s.Assertion) (q : List Kind) → has_level n (length (g.assertion a q)) d ≡ true → RestWithin a n d q → AssertionWithin a n d q
+leveled_assertion n d (s.only c) q lv w = (lv, w)
+leveled_assertion n d (s.star c a) q lv w = (lv, w.0, w.1, w.2)
+
+assertion_of : (n d : ℕ) (st : List Owed) (u : Kind) (ts : List Kind) → has_level n (suc (length ts)) d ≡ true → (c : s.Conjunct) (r : List Kind) → u ∷ ts ≡ g.conjunct c r → ConjunctWithin c n d r → Ends c r
+    → Means n (m.more_conjuncts d ∷ st) r → Means n (m.assertion d ∷ st) (u ∷ ts)
+assertion_of n d st u ts lv c r is w e (q, mc, more) =
+    let o = with_more n d c r q w e mc in
+    let whole : u ∷ ts ≡ g.assertion o.0 q = is ∙ o.1 in
+    (q, (o.0, whole, leveled_assertion n d o.0 q (subst (λ z. has_level n (length z) d ≡ true) whole lv) o.2, o.3), more)
+
+conjunct_owed : (n d : ℕ) (st : List Owed) (u : Kind) (w : Next) (ts : List Kind) → MeansNext n (chosen (on_conjunct d u []) true st w) ts → Means n (m.conjunct d ∷ st) (u ∷ ts)
+conjunct_owed n d st u w ts q = let o = conjunct_back n d u [] st w ts q in (o.rest, (o.conjunct, o.spells, o.within, o.ends), o.more)
+
+more_conjuncts_star : (n d : ℕ) (st : List Owed) (ts : List Kind) → Means n (m.conjunct d ∷ m.more_conjuncts d ∷ st) ts → Means n (m.more_conjuncts d ∷ st) (k.Star ∷ ts)
+more_conjuncts_star n d st ts (r1, c, (r2, mc, more)) =
+    let o = with_more n d c.0 r1 r2 c.2 c.3 mc in
+    (r2, inr (o.0, ap (λ z. k.Star ∷ z) (c.1 ∙ o.1), o.2, o.3), more)
+
+more_conjuncts_back : (n d : ℕ) (st : List Owed) (u : Kind) (w : Next) (ts : List Kind) → Without n st u w ts → MeansNext n (chosen (m.on_more_conjuncts d u) true st w) ts → Means n (m.more_conjuncts d ∷ st) (u ∷ ts)
+more_conjuncts_back n d st k.Star w ts f q = more_conjuncts_star n d st ts q
+more_conjuncts_back n d st u w ts f q = (u ∷ ts, inl (tt, refl), f q)
+
+assertion_back : (n d : ℕ) (st : List Owed) (u : Kind) (w : Next) (ts : List Kind) → (has_level n (suc (length ts)) d ≡ true) × MeansNext n (chosen (on_conjunct d u (m.more_conjuncts d ∷ [])) true st w) ts → Means n (m.assertion d ∷ st) (u ∷ ts)
+assertion_back n d st u w ts q =
+    let o = conjunct_back n d u (m.more_conjuncts d ∷ []) st w ts q.1 in
+    assertion_of n d st u ts q.0 o.conjunct o.rest o.spells o.within o.ends o.more
+
+an_assertion : (n : ℕ) (st : List Owed) (ts : List Kind) → Means n (m.assertion NESTING ∷ st) ts → Means n (m.maybe_assertion ∷ st) ts
+an_assertion n st ts (r, a, more) = (r, inr a, more)
+
+maybe_assertion_back : (n : ℕ) (st : List Owed) (u : Kind) (w : Next) (ts : List Kind) → Without n st u w ts → ((true ≡ true) × MeansNext n (chosen (on_conjunct NESTING u (m.more_conjuncts NESTING ∷ [])) true st w) ts) ⊎ MeansNext n w ts → Means n (m.maybe_assertion ∷ st) (u ∷ ts)
+maybe_assertion_back n st u w ts f (inl q) = an_assertion n st (u ∷ ts) (assertion_back n NESTING st u w ts (refl, q.1))
+maybe_assertion_back n st u w ts f (inr q) = (u ∷ ts, inl refl, f q)
+
+-- what stands in square brackets
+bracketed : (n : ℕ) (ts r q : List Kind) → Spells n m.maybe_assertion ts r → r ≡ k.CloseSquare ∷ q → (x : s.Note) × (k.OpenSquare ∷ ts ≡ g.note x q) × NoteWithin x n q
+bracketed n ts r q (inl h) c = (s.blank, ap (λ z. k.OpenSquare ∷ z) (h ∙ c), tt)
+bracketed n ts r q (inr h) c = (s.filled h.0, ap (λ z. k.OpenSquare ∷ z) (h.1 ∙ ap (λ z. g.assertion h.0 z) c), subst (λ z. AssertionWithin h.0 n NESTING z) c h.2)
+
+a_note : (n : ℕ) (st : List Owed) (ts : List Kind) → Means n (m.maybe_assertion ∷ m.exact m.close_square ∷ st) ts → (r : List Kind) × (x : s.Note) × (k.OpenSquare ∷ ts ≡ g.note x r) × NoteWithin x n r × Means n st r
+a_note n st ts (r1, a, (r2, c, more)) = let o = bracketed n ts r1 r2 a c in (r2, o.0, o.1, o.2, more)
+
+maybe_note_back : (n : ℕ) (st : List Owed) (u : Kind) (w : Next) (ts : List Kind) → Without n st u w ts → MeansNext n (chosen (m.on_maybe_note u) true st w) ts → Means n (m.maybe_note ∷ st) (u ∷ ts)
+maybe_note_back n st k.OpenSquare w ts f q = let o = a_note n st ts q in (o.0, (Some o.1, o.2, o.3), o.4)
+maybe_note_back n st u w ts f q = (u ∷ ts, (None, refl, tt), f q)
+
+assigned_there : (n : ℕ) (st : List Owed) (ts : List Kind) → Means n (m.assigned ∷ st) ts → Means n (m.named ∷ st) (k.Equals ∷ ts)
+assigned_there n st ts (r, c, more) = (r, c, more)
+
+arrow_there : (n : ℕ) (st : List Owed) (ts : List Kind) → Means n (m.exact m.a_name ∷ m.exact m.equals ∷ m.expression ∷ m.exact m.semicolon ∷ st) ts → Means n (m.named ∷ st) (k.Arrow ∷ ts)
+arrow_there n st ts (r1, a, (r2, b, (r3, y, (r4, c, more)))) = (r4, (s.mutate (e.Name a_word) a_word y.0, tt, cc), more)
+
+called : (n : ℕ) (ts r1 r2 r3 : List Kind) (a : s.Arguments) → ts ≡ g.arguments a r1 → r1 ≡ k.CloseRound ∷ r2 → Spells n m.after_call r2 r3 → Spells n m.named (k.OpenRound ∷ ts) r3
+called n ts r1 r2 r3 a h c (inl q) =
+    (s.call (record { name = a_word; arguments = a }), tt, ap (λ z. k.Name ∷ k.OpenRound ∷ z) (h ∙ ap (λ z. g.arguments a z) (c ∙ ap (λ z. k.CloseRound ∷ z) q)))
+called n ts r1 r2 r3 a h c (inr q) =
+    (s.fork (record { name = a_word; arguments = a }) (record { name = a_word; arguments = q.0 }), tt, ap (λ z. k.Name ∷ k.OpenRound ∷ z) (h ∙ ap (λ z. g.arguments a z) (c ∙ ap (λ z. k.CloseRound ∷ z) q.1)))
+
+call_there : (n : ℕ) (st : List Owed) (ts : List Kind) → Means n (m.maybe_arguments ∷ m.exact m.close_round ∷ m.after_call ∷ st) ts → Means n (m.named ∷ st) (k.OpenRound ∷ ts)
+call_there n st ts (r1, a, (r2, b, (r3, c, more))) = (r3, called n ts r1 r2 r3 a.0 a.1 b c, more)
+
+named_back : (n : ℕ) (st : List Owed) (u : Kind) (w : Next) (ts : List Kind) → MeansNext n (chosen (m.on_named u) true st w) ts → Means n (m.named ∷ st) (u ∷ ts)
+named_back n st k.Equals w ts q = assigned_there n st ts q
+named_back n st k.Arrow w ts q = arrow_there n st ts q
+named_back n st k.OpenRound w ts q = call_there n st ts q
+named_back n st _ w ts q = absurd q
+
+looked_up : (n : ℕ) (u : Kind) (x : SurfaceExpr) (ts r : List Kind) → u ≡ g.expr x → Spells n m.look_up_or_end ts r → Spells n m.assigned (u ∷ ts) r
+looked_up n u x ts r h (inl q) = (s.assign a_word x, tt, cc)
+looked_up n u x ts r h (inr q) = (s.look_up a_word x a_word, tt, cc)
+
+new_there : (n : ℕ) (st : List Owed) (ts : List Kind) → Means n (m.exact m.open_round ∷ m.exact m.close_round ∷ m.exact m.semicolon ∷ st) ts → Means n (m.assigned ∷ st) (k.New ∷ ts)
+new_there n st ts (r1, a, (r2, b, (r3, c, more))) = (r3, (s.new a_word, tt, cc), more)
+
+assigned_back : (n : ℕ) (st : List Owed) (u : Kind) (w : Next) (ts : List Kind) → MeansNext n (chosen (m.on_assigned u) true st w) ts → Means n (m.assigned ∷ st) (u ∷ ts)
+assigned_back n st k.New w ts q = new_there n st ts q
+assigned_back n st u w ts q =
+    let o = expr_back n u (m.look_up_or_end ∷ []) st w ts q in
+    (o.more.0, looked_up n u o.expr ts o.more.0 o.is o.more.1, o.more.2)
+
+arrow_end : (n : ℕ) (st : List Owed) (ts : List Kind) → Means n (m.exact m.a_name ∷ m.exact m.semicolon ∷ st) ts → Means n (m.look_up_or_end ∷ st) (k.Arrow ∷ ts)
+arrow_end n st ts (r1, a, (r2, b, more)) = (r2, inr cc, more)
+
+look_up_or_end_back : (n : ℕ) (st : List Owed) (u : Kind) (w : Next) (ts : List Kind) → MeansNext n (chosen (m.on_look_up_or_end u) true st w) ts → Means n (m.look_up_or_end ∷ st) (u ∷ ts)
+look_up_or_end_back n st k.Semicolon w ts q = (ts, inl refl, q)
+look_up_or_end_back n st k.Arrow w ts q = arrow_end n st ts q
+look_up_or_end_back n st _ w ts q = absurd q
+
+second_call : (n : ℕ) (st : List Owed) (ts : List Kind) → Means n (m.exact m.a_name ∷ m.exact m.open_round ∷ m.maybe_arguments ∷ m.exact m.close_round ∷ m.exact m.semicolon ∷ st) ts → Means n (m.after_call ∷ st) (k.Bars ∷ ts)
+second_call n st ts (r1, a, (r2, b, (r3, x, (r4, c, (r5, d, more))))) =
+    let whole : k.Bars ∷ ts ≡ k.Bars ∷ k.Name ∷ k.OpenRound ∷ g.arguments x.0 (k.CloseRound ∷ k.Semicolon ∷ r5) =
+        ap (λ z. k.Bars ∷ z) (a ∙ ap (λ z. k.Name ∷ z) (b ∙ ap (λ z. k.OpenRound ∷ z) (x.1 ∙ ap (λ z. g.arguments x.0 z) (c ∙ ap (λ z. k.CloseRound ∷ z) d)))) in
+    (r5, inr (x.0, whole), more)
+
+after_call_back : (n : ℕ) (st : List Owed) (u : Kind) (w : Next) (ts : List Kind) → MeansNext n (chosen (m.on_after_call u) true st w) ts → Means n (m.after_call ∷ st) (u ∷ ts)
+after_call_back n st k.Semicolon w ts q = (ts, inl refl, q)
+after_call_back n st k.Bars w ts q = second_call n st ts q
+after_call_back n st _ w ts q = absurd q
+
+round_disposed : (n : ℕ) (st : List Owed) (ts : List Kind) → Means n (m.expression ∷ m.exact m.close_round ∷ m.exact m.semicolon ∷ st) ts → Means n (m.disposed ∷ st) (k.OpenRound ∷ ts)
+round_disposed n st ts (r1, x, (r2, b, (r3, c, more))) = (r3, inl (x.0, cc), more)
+
+disposed_back : (n : ℕ) (st : List Owed) (u : Kind) (w : Next) (ts : List Kind) → MeansNext n (chosen (m.on_disposed u) true st w) ts → Means n (m.disposed ∷ st) (u ∷ ts)
+disposed_back n st k.OpenRound w ts q = round_disposed n st ts q
+disposed_back n st u w ts q =
+    let o = expr_back n u (m.exact m.semicolon ∷ []) st w ts q in
+    let first : u ≡ g.expr o.expr = o.is in
+    let last : ts ≡ k.Semicolon ∷ o.more.0 = o.more.1 in
+    let whole : u ∷ ts ≡ g.expr o.expr ∷ k.Semicolon ∷ o.more.0 = cc in
+    (o.more.0, inr (o.expr, whole), o.more.2)
+
+command_owed : (n d : ℕ) (st : List Owed) (u : Kind) (w : Next) (ts : List Kind) → (has_level n (suc (length ts)) d ≡ true) × MeansNext n (chosen (on_command d u []) true st w) ts → Means n (m.command d ∷ st) (u ∷ ts)
+command_owed n d st u w ts q = let o = command_back n d u [] st w ts q.1 in (o.rest, (o.command, o.spells, o.within q.0, o.follows), o.more)
+
+then_commands : (n d : ℕ) (st : List Owed) (u : Kind) (ts : List Kind) (c : s.Command) (r : List Kind) → u ∷ ts ≡ g.command c r → CommandWithin c n d r → Means n (m.commands d ∷ st) r → Means n (m.commands d ∷ st) (u ∷ ts)
+then_commands n d st u ts c r is w (q, cs, more) = (q, (s.then c cs.0, is ∙ ap (λ z. g.command c z) cs.1, (subst (λ z. CommandWithin c n d z) cs.1 w, cs.2)), more)
+
+commands_back : (n d : ℕ) (st : List Owed) (u : Kind) (w : Next) (ts : List Kind) → Without n st u w ts → ((has_level n (suc (length ts)) d ≡ true) × MeansNext n (chosen (on_command d u (m.commands d ∷ [])) true st w) ts) ⊎ MeansNext n w ts → Means n (m.commands d ∷ st) (u ∷ ts)
+commands_back n d st u w ts f (inl q) = let o = command_back n d u (m.commands d ∷ []) st w ts q.1 in then_commands n d st u ts o.command o.rest o.spells (o.within q.0) o.more
+commands_back n d st u w ts f (inr q) = (u ∷ ts, (s.done, refl, tt), f q)
+
+else_there : (n d : ℕ) (st : List Owed) (ts : List Kind) → Means n (m.command d ∷ st) ts → Means n (m.branch d ∷ st) (k.Else ∷ ts)
+else_there n d st ts (r, c, more) = (r, inl (c.0, ap (λ z. k.Else ∷ z) c.1, c.2, c.3), more)
+
+branch_back : (n d : ℕ) (st : List Owed) (u : Kind) (w : Next) (ts : List Kind) → Without n st u w ts → MeansNext n (chosen (m.on_branch d u) true st w) ts → Means n (m.branch d ∷ st) (u ∷ ts)
+branch_back n d st k.Else w ts f q = else_there n d st ts q
+branch_back n d st u w ts f q = (u ∷ ts, inr (tt, refl), f q)
+
+a_local : (n : ℕ) (st : List Owed) (ts : List Kind) → Means n (m.exact m.a_name ∷ m.more_names ∷ m.exact m.semicolon ∷ m.locals ∷ st) ts → Means n (m.locals ∷ st) (k.Local ∷ ts)
+a_local n st ts (r1, a, (r2, xs, (r3, b, (r4, ls, more)))) =
+    let whole : k.Local ∷ ts ≡ k.Local ∷ k.Name ∷ g.more_names xs.0 (k.Semicolon ∷ g.locals ls.0 r4) =
+        ap (λ z. k.Local ∷ z) (a ∙ ap (λ z. k.Name ∷ z) (xs.1 ∙ ap (λ z. g.more_names xs.0 z) (b ∙ ap (λ z. k.Semicolon ∷ z) ls.1))) in
+    let one : s.Names = record { first = a_word; more = xs.0 } in
+    (r4, (one ∷ ls.0, whole), more)
+
+locals_back : (n : ℕ) (st : List Owed) (u : Kind) (w : Next) (ts : List Kind) → Without n st u w ts → MeansNext n (chosen (m.on_locals u) true st w) ts → Means n (m.locals ∷ st) (u ∷ ts)
+locals_back n st k.Local w ts f q = a_local n st ts q
+locals_back n st u w ts f q = (u ∷ ts, ([], refl), f q)
+
+-- parameters with a `;` and without
+parameters_of : (n : ℕ) (ts r1 r2 : List Kind) (xs : List Word) → ts ≡ g.maybe_names xs r1 → Spells n m.maybe_values r1 r2 → (ps : s.Parameters) × (ts ≡ g.parameters ps r2)
+parameters_of n ts r1 r2 xs h (inl q) = (s.only_values xs, h ∙ ap (λ z. g.maybe_names xs z) q)
+parameters_of n ts r1 r2 xs h (inr q) = (s.references_and_values xs q.0, h ∙ ap (λ z. g.maybe_names xs z) q.1)
+
+some_fields : (n : ℕ) (st : List Owed) (ts : List Kind) → Means n (m.exact m.a_name ∷ m.more_names ∷ m.exact m.semicolon ∷ st) ts → Means n (m.item_named ∷ st) (k.Comma ∷ ts)
+some_fields n st ts (r1, a, (r2, xs, (r3, b, more))) =
+    let whole : k.Name ∷ k.Comma ∷ ts ≡ k.Name ∷ k.Comma ∷ k.Name ∷ g.more_names xs.0 (k.Semicolon ∷ r3) =
+        ap (λ z. k.Name ∷ k.Comma ∷ z) (a ∙ ap (λ z. k.Name ∷ z) (xs.1 ∙ ap (λ z. g.more_names xs.0 z) b)) in
+    (r3, (s.fields (record { first = a_word; more = a_word ∷ xs.0 }), whole, tt), more)
+
+a_procedure : (n : ℕ) (st : List Owed) (ts : List Kind)
+    → Means n (m.maybe_names ∷ m.maybe_values ∷ m.exact m.close_round ∷ m.maybe_note ∷ m.exact m.open_brace ∷ m.locals ∷ m.commands NESTING ∷ m.exact m.close_brace ∷ m.maybe_note ∷ st) ts
+    → Means n (m.item_named ∷ st) (k.OpenRound ∷ ts)
+a_procedure n st ts (r1, xs, (r2, ys, (r3, a, (r4, pre, (r5, b, (r6, ls, (r7, body, (r8, c, (r9, post, more))))))))) =
+    let ps = parameters_of n ts r1 r2 xs.0 xs.1 ys in
+    let last : r7 ≡ k.CloseBrace ∷ g.maybe_note post.0 r9 = c ∙ ap (λ z. k.CloseBrace ∷ z) post.1 in
+    let inside : r4 ≡ k.OpenBrace ∷ g.locals ls.0 (g.commands body.0 (k.CloseBrace ∷ g.maybe_note post.0 r9)) =
+        b ∙ ap (λ z. k.OpenBrace ∷ z) (ls.1 ∙ ap (λ z. g.locals ls.0 z) (body.1 ∙ ap (λ z. g.commands body.0 z) last)) in
+    let f : s.Procedure = record { name = a_word; parameters = ps.0; pre = pre.0; opens = a_place; locals = ls.0; body = body.0; closes = a_place; post = post.0 } in
+    let whole : k.Name ∷ k.OpenRound ∷ ts ≡ g.procedure f r9 =
+        ap (λ z. k.Name ∷ k.OpenRound ∷ z) (ps.1 ∙ ap (λ z. g.parameters ps.0 z) (a ∙ ap (λ z. k.CloseRound ∷ z) (pre.1 ∙ ap (λ z. g.maybe_note pre.0 z) inside))) in
+    (r9, (s.procedure f, whole, (subst (λ z. MaybeWithin pre.0 n z) inside pre.2, subst (λ z. CommandsWithin body.0 n NESTING z) last body.2, post.2)), more)
+
+item_named_back : (n : ℕ) (st : List Owed) (u : Kind) (w : Next) (ts : List Kind) → MeansNext n (chosen (m.on_item_named u) true st w) ts → Means n (m.item_named ∷ st) (u ∷ ts)
+item_named_back n st k.Comma w ts q = some_fields n st ts q
+item_named_back n st k.Semicolon w ts q = (ts, (s.fields (record { first = a_word; more = [] }), refl, tt), q)
+item_named_back n st k.OpenRound w ts q = a_procedure n st ts q
+item_named_back n st _ w ts q = absurd q
+
+an_item : (n : ℕ) (st : List Owed) (ts : List Kind) → Means n (m.item_named ∷ m.items ∷ st) ts → Means n (m.items ∷ st) (k.Name ∷ ts)
+an_item n st ts (r1, i, (r2, is, more)) = (r2, (i.0 ∷ is.0, i.1 ∙ ap (λ z. g.item i.0 z) is.1, (subst (λ z. ItemWithin i.0 n z) is.1 i.2, is.2)), more)
+
+a_resource : (n : ℕ) (st : List Owed) (ts : List Kind)
+    → Means n (m.exact m.a_name ∷ m.exact m.open_round ∷ m.maybe_names ∷ m.exact m.close_round ∷ m.exact m.open_square ∷ m.maybe_assertion ∷ m.exact m.close_square ∷ m.items ∷ st) ts
+    → Means n (m.items ∷ st) (k.Resource ∷ ts)
+a_resource n st ts (r0, a, (r1, b, (r2, xs, (r3, c, (r4, o, q))))) =
+    let x = a_note n (m.items ∷ st) r4 q in
+    let is = x.4.1 in
+    let last : k.OpenSquare ∷ r4 ≡ g.note x.1 (g.items is.0 x.4.0) = x.2 ∙ ap (λ z. g.note x.1 z) is.1 in
+    let i : s.Resource = record { place = a_place; name = a_word; variables = xs.0; invariant = x.1 } in
+    let whole : k.Resource ∷ ts ≡ g.resource i (g.items is.0 x.4.0) =
+        ap (λ z. k.Resource ∷ z) (a ∙ ap (λ z. k.Name ∷ z) (b ∙ ap (λ z. k.OpenRound ∷ z) (xs.1 ∙ ap (λ z. g.maybe_names xs.0 z) (c ∙ ap (λ z. k.CloseRound ∷ z) (o ∙ last))))) in
+    (x.4.0, (s.resource i ∷ is.0, whole, (subst (λ z. NoteWithin x.1 n z) is.1 x.3, is.2)), x.4.2)
+
+items_back : (n : ℕ) (st : List Owed) (u : Kind) (w : Next) (ts : List Kind) → MeansNext n (chosen (m.on_items u) true st w) ts → Means n (m.items ∷ st) (u ∷ ts)
+items_back n st k.Name w ts q = an_item n st ts q
+items_back n st k.Resource w ts q = a_resource n st ts q
+items_back n st _ w ts q = absurd q
+
+owed_back : (n : ℕ) (o : Owed) (st : List Owed) (u : Kind) (w : Next) (ts : List Kind) → Without n st u w ts → MeansNext n (chosen (choice o u) (is_free o n (suc (length ts))) st w) ts → Means n (o ∷ st) (u ∷ ts)
+owed_back n (m.exact x) st u w ts f q = let o = exact_back n x u st w ts q in (ts, ap (λ z. z ∷ ts) o.is, o.more)
+owed_back n m.expression st u w ts f q = let o = expr_back n u [] st w ts q in (ts, (o.expr, ap (λ z. z ∷ ts) o.is), o.more)
+owed_back n m.operand st u w ts f q = let o = operand_back n u [] st w ts q in (ts, (o.expr, ap (λ z. z ∷ ts) o.is), o.more)
+owed_back n m.equality st u w ts f q = equality_back n st u w ts q
+owed_back n m.test st u w ts f q = test_back n st u w ts q
+owed_back n m.operand_test st u w ts f q = operand_test_back n st u w ts q
+owed_back n m.if_test st u w ts f q = if_test_back n st u w ts q
+owed_back n m.more_names st u w ts f q = more_names_back n st u w ts f q
+owed_back n m.maybe_names st u w ts f q = maybe_names_back n st u w ts f q
+owed_back n m.maybe_values st u w ts f q = maybe_values_back n st u w ts f q
+owed_back n m.maybe_arguments st u w ts f q = maybe_arguments_back n st u w ts f q
+owed_back n (m.rest b) st u w ts f q = rest_back n b st u w ts f q
+owed_back n (m.next b) st u w ts f q = next_back n b st u w ts q
+owed_back n m.maybe_expressions st u w ts f q = maybe_expressions_back n st u w ts f (or_skip_back n (on_expression u (m.more_expressions ∷ [])) true st w ts q)
+owed_back n m.more_expressions st u w ts f q = more_expressions_back n st u w ts f q
+owed_back n m.relation st u w ts f q = relation_back n st u w ts q
+owed_back n m.maybe_fields st u w ts f q = maybe_fields_back n st u w ts f q
+owed_back n m.more_fields st u w ts f q = more_fields_back n st u w ts f q
+owed_back n (m.conjunct d) st u w ts f q = conjunct_owed n d st u w ts q
+owed_back n (m.more_conjuncts d) st u w ts f q = more_conjuncts_back n d st u w ts f q
+owed_back n (m.assertion d) st u w ts f q =
+    assertion_back n d st u w ts (takes_back n (on_conjunct d u (m.more_conjuncts d ∷ [])) (has_level n (suc (length ts)) d) st w ts (conjunct_takes d u (m.more_conjuncts d ∷ [])) q)
+owed_back n m.maybe_assertion st u w ts f q = maybe_assertion_back n st u w ts f (or_skip_back n (on_conjunct NESTING u (m.more_conjuncts NESTING ∷ [])) true st w ts q)
+owed_back n m.maybe_note st u w ts f q = maybe_note_back n st u w ts f q
+owed_back n m.named st u w ts f q = named_back n st u w ts q
+owed_back n m.assigned st u w ts f q = assigned_back n st u w ts q
+owed_back n m.look_up_or_end st u w ts f q = look_up_or_end_back n st u w ts q
+owed_back n m.after_call st u w ts f q = after_call_back n st u w ts q
+owed_back n m.disposed st u w ts f q = disposed_back n st u w ts q
+owed_back n (m.command d) st u w ts f q = command_owed n d st u w ts (takes_back n (on_command d u []) (has_level n (suc (length ts)) d) st w ts (command_takes d u []) q)
+owed_back n (m.commands d) st u w ts f q = commands_back n d st u w ts f (or_skip_back n (on_command d u (m.commands d ∷ [])) (has_level n (suc (length ts)) d) st w ts q)
+owed_back n (m.branch d) st u w ts f q = branch_back n d st u w ts f q
+owed_back n m.locals st u w ts f q = locals_back n st u w ts f q
+owed_back n m.item_named st u w ts f q = item_named_back n st u w ts q
+owed_back n m.items st u w ts f q = items_back n st u w ts q
+
+-- where what is owed behind a token spells the rest, the stack spells all
+pub step_back : (n : ℕ) (st : List Owed) (u : Kind) (ts : List Kind) → MeansNext n (step n (suc (length ts)) st u) ts → Means n st (u ∷ ts)
+step_back n [] u ts q = absurd q
+step_back n (o ∷ st) u ts q = owed_back n o st u (step n (suc (length ts)) st u) ts (step_back n st u ts) q
