@@ -2,3 +2,5 @@ pub mod Means
 pub mod Free
 pub mod Back
 pub mod OwedBack
+pub mod Complete
+pub mod Exactly
