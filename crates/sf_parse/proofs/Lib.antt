@@ -4,3 +4,4 @@ pub mod Back
 pub mod OwedBack
 pub mod Complete
 pub mod Exactly
+pub mod Forth
