@@ -20,7 +20,7 @@ use Rattle.sf_parse.proofs.Back.{follows_else}
 use Rattle.sf_parse.proofs.Means.{NotStar, Ends}
 
 -- what holds of the four first tokens of an expression holds of each
-by_expr : (x : SurfaceExpr) (P : Kind → Type 0) → P k.Name → P k.Nil → P k.Null → P k.Number → P (g.expr x)
+pub by_expr : (x : SurfaceExpr) (P : Kind → Type 0) → P k.Name → P k.Nil → P k.Null → P k.Number → P (g.expr x)
 by_expr (e.Name x) P a b c d = a
 by_expr (e.Nil p) P a b c d = b
 by_expr (e.Null p) P a b c d = c
@@ -31,13 +31,13 @@ by_operand : (x : SurfaceOperand) (P : Kind → Type 0) → P k.Name → P k.Nil
 by_operand (v.Known x) P a b c d f = by_expr x P a b c d
 by_operand (v.Existential x) P a b c d f = f
 
-expr_goes : (n : ℕ) (x : SurfaceExpr) (r : List Kind) (st : List Owed) → verdict n (g.expr x ∷ r) (m.expression ∷ st) ≡ verdict n r st
+pub expr_goes : (n : ℕ) (x : SurfaceExpr) (r : List Kind) (st : List Owed) → verdict n (g.expr x ∷ r) (m.expression ∷ st) ≡ verdict n r st
 expr_goes n x r st = by_expr x (λ u. verdict n (u ∷ r) (m.expression ∷ st) ≡ verdict n r st) refl refl refl refl
 
 operand_goes : (n : ℕ) (x : SurfaceOperand) (r : List Kind) (st : List Owed) → verdict n (g.operand x ∷ r) (m.operand ∷ st) ≡ verdict n r st
 operand_goes n x r st = by_operand x (λ u. verdict n (u ∷ r) (m.operand ∷ st) ≡ verdict n r st) refl refl refl refl refl
 
-test_goes : (n : ℕ) (b : SurfaceTest SurfaceExpr) (r : List Kind) (st : List Owed) → verdict n (g.test g.expr b r) (m.test ∷ st) ≡ verdict n r st
+pub test_goes : (n : ℕ) (b : SurfaceTest SurfaceExpr) (r : List Kind) (st : List Owed) → verdict n (g.test g.expr b r) (m.test ∷ st) ≡ verdict n r st
 test_goes n (t.True p) r st = refl
 test_goes n (t.Equal x y) r st =
     let h = expr_goes n y r st in by_expr x (λ u. verdict n (u ∷ k.EqualEqual ∷ g.expr y ∷ r) (m.test ∷ st) ≡ verdict n r st) h h h h
@@ -59,15 +59,15 @@ bare_test_goes n (t.Differ x y) r st =
     let h = operand_goes n y r st in by_operand x (λ u. verdict n (u ∷ k.NotEqual ∷ g.operand y ∷ r) (m.if_test ∷ st) ≡ verdict n r st) h h h h h
 
 -- names, where what follows does without more of them
-more_names_go : (n : ℕ) (xs : List Word) (r : List Kind) (st : List Owed) → verdict n r (m.more_names ∷ st) ≡ verdict n r st → verdict n (g.more_names xs r) (m.more_names ∷ st) ≡ verdict n r st
+pub more_names_go : (n : ℕ) (xs : List Word) (r : List Kind) (st : List Owed) → verdict n r (m.more_names ∷ st) ≡ verdict n r st → verdict n (g.more_names xs r) (m.more_names ∷ st) ≡ verdict n r st
 more_names_go n [] r st h = h
 more_names_go n (x ∷ xs) r st h = more_names_go n xs r st h
 
-maybe_names_go : (n : ℕ) (xs : List Word) (r : List Kind) (st : List Owed) → verdict n r (m.maybe_names ∷ st) ≡ verdict n r st → verdict n r (m.more_names ∷ st) ≡ verdict n r st → verdict n (g.maybe_names xs r) (m.maybe_names ∷ st) ≡ verdict n r st
+pub maybe_names_go : (n : ℕ) (xs : List Word) (r : List Kind) (st : List Owed) → verdict n r (m.maybe_names ∷ st) ≡ verdict n r st → verdict n r (m.more_names ∷ st) ≡ verdict n r st → verdict n (g.maybe_names xs r) (m.maybe_names ∷ st) ≡ verdict n r st
 maybe_names_go n [] r st h i = h
 maybe_names_go n (x ∷ xs) r st h i = more_names_go n xs r st i
 
-parameters_go : (n : ℕ) (ps : s.Parameters) (r : List Kind) (st : List Owed) → verdict n (g.parameters ps (k.CloseRound ∷ r)) (m.maybe_names ∷ m.maybe_values ∷ m.exact m.close_round ∷ st) ≡ verdict n r st
+pub parameters_go : (n : ℕ) (ps : s.Parameters) (r : List Kind) (st : List Owed) → verdict n (g.parameters ps (k.CloseRound ∷ r)) (m.maybe_names ∷ m.maybe_values ∷ m.exact m.close_round ∷ st) ≡ verdict n r st
 parameters_go n (s.only_values xs) r st = maybe_names_go n xs (k.CloseRound ∷ r) (m.maybe_values ∷ m.exact m.close_round ∷ st) refl refl
 parameters_go n (s.references_and_values xs ys) r st =
     maybe_names_go n xs (k.Semicolon ∷ g.maybe_names ys (k.CloseRound ∷ r)) (m.maybe_values ∷ m.exact m.close_round ∷ st) refl refl
@@ -99,7 +99,7 @@ references_go : (n : ℕ) (ns : List Word) (xs : List SurfaceExpr) (r : List Kin
 references_go n [] xs r st = maybe_exprs_go n xs r st
 references_go n (x ∷ ns) xs r st = references_go n ns xs r st
 
-arguments_go : (n : ℕ) (a : s.Arguments) (r : List Kind) (st : List Owed) → verdict n (g.arguments a (k.CloseRound ∷ r)) (m.maybe_arguments ∷ m.exact m.close_round ∷ st) ≡ verdict n r st
+pub arguments_go : (n : ℕ) (a : s.Arguments) (r : List Kind) (st : List Owed) → verdict n (g.arguments a (k.CloseRound ∷ r)) (m.maybe_arguments ∷ m.exact m.close_round ∷ st) ≡ verdict n r st
 arguments_go n (s.values []) r st = refl
 arguments_go n (s.values (x ∷ xs)) r st =
     let h = rest_goes n false xs r (m.exact m.close_round ∷ st) in
@@ -238,11 +238,11 @@ in_note n (s.star c x) r st w =
     ∙ rest_of_assertion n x NESTING (k.CloseSquare ∷ r) (m.exact m.close_square ∷ st) w.3 tt tt
 
 -- a note behind its opening bracket
-note_goes : (n : ℕ) (x : s.Note) (r : List Kind) (st : List Owed) → NoteWithin x n r → verdict n (g.note x r) (m.exact m.open_square ∷ m.maybe_assertion ∷ m.exact m.close_square ∷ st) ≡ verdict n r st
+pub note_goes : (n : ℕ) (x : s.Note) (r : List Kind) (st : List Owed) → NoteWithin x n r → verdict n (g.note x r) (m.exact m.open_square ∷ m.maybe_assertion ∷ m.exact m.close_square ∷ st) ≡ verdict n r st
 note_goes n s.blank r st w = refl
 note_goes n (s.filled a) r st w = in_note n a r st w
 
-maybe_note_goes : (n : ℕ) (x : Option s.Note) (r : List Kind) (st : List Owed) → MaybeWithin x n r → verdict n r (m.maybe_note ∷ st) ≡ verdict n r st → verdict n (g.maybe_note x r) (m.maybe_note ∷ st) ≡ verdict n r st
+pub maybe_note_goes : (n : ℕ) (x : Option s.Note) (r : List Kind) (st : List Owed) → MaybeWithin x n r → verdict n r (m.maybe_note ∷ st) ≡ verdict n r st → verdict n (g.maybe_note x r) (m.maybe_note ∷ st) ≡ verdict n r st
 maybe_note_goes n None r st w h = h
 maybe_note_goes n (Some s.blank) r st w h = refl
 maybe_note_goes n (Some (s.filled a)) r st w h = in_note n a r st w

@@ -5,3 +5,5 @@ pub mod OwedBack
 pub mod Complete
 pub mod Exactly
 pub mod Forth
+pub mod ForthFiles
+pub mod Law

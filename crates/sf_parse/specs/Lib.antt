@@ -3,3 +3,4 @@ pub mod Nesting
 pub mod Placed
 pub mod Parsing
 pub mod Machine
+pub mod Laws

@@ -1,0 +1,31 @@
+-- Laws of reading a file, in words of their own: the machine's verdict is that of the grammar.
+-- Ordinary: the viable prefix property, as in Aho, Sethi, Ullman, "Compilers" (1986), section 4.1.
+use Rattle.std.specs.Prelude.{◌≡◌, ℕ, suc, List, [], ◌∷◌, ◌++◌, length}
+use Rattle.sf_ast.specs.Surface.{Item}
+use Rattle.sf_lex.specs.declared.token.Kind.{Kind}
+use Rattle.sf_parse.specs.Grammar.{items}
+use Rattle.sf_parse.specs.Machine.{Verdict, accepted, unexpected, too_deep, verdict, items as some_items}
+use Rattle.sf_parse.specs.Nesting.{ItemsWithin}
+use Rattle.sf_parse.specs.Parsing.{CanBegin, CanBeginAny}
+
+-- the verdict over a whole file, with nothing free of the limit on nesting
+abbrev pub verdict_of : List Kind → Verdict
+verdict_of ts = verdict 0 ts (some_items ∷ [])
+
+-- the tokens of a file within the limit
+pub record Spelled (ts : List Kind) : Type 0 where
+  pub tree : List Item
+  pub spells : ts ≡ items tree []
+  pub within : ItemsWithin tree 0 []
+
+-- accepted are exactly the files; else the fault stands at the first token that does not go on
+pub record IsExact (ts : List Kind) : Type 0 where
+  pub file : Spelled ts → verdict_of ts ≡ accepted
+  pub accepts : verdict_of ts ≡ accepted → Spelled ts
+  pub wrong : (front : List Kind) (t : Kind) (back : List Kind) → ts ≡ front ++ t ∷ back → verdict_of ts ≡ unexpected (suc (length back)) → CanBegin front × (CanBeginAny (front ++ t ∷ []) → ⊥)
+  pub ends : verdict_of ts ≡ unexpected 0 → CanBegin ts × (Spelled ts → ⊥)
+  pub deeper : (front : List Kind) (t : Kind) (back : List Kind) → ts ≡ front ++ t ∷ back → verdict_of ts ≡ too_deep (suc (length back)) → CanBegin front × CanBeginAny (front ++ t ∷ []) × (CanBegin (front ++ t ∷ []) → ⊥)
+
+-- the machine's verdict is exact over all tokens
+abbrev pub TheVerdictIsExact : Type 0
+TheVerdictIsExact = (ts : List Kind) → IsExact ts
