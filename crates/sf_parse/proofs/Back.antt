@@ -1,14 +1,10 @@
 -- One token back: where the machine takes a token and what is then owed spells the rest, what was owed spells all.
-use Rattle.std.proofs.Common.{◌≡◌, ◌≤◌, ℕ, zero, suc, List, [], ◌∷◌, ◌++◌, ◌-◌, length, Bool, true, false, Option, Some, None, ◌⊎◌, inl, inr, refl, sym, ap, subst, ◌∙◌, arith}
-use Rattle.sf_base.specs.declared.limits.TheConstants.{NESTING}
+use Rattle.std.proofs.Common.{◌≡◌, ℕ, suc, List, [], ◌∷◌, ◌++◌, ◌-◌, length, Bool, true, false, ◌⊎◌, inl, inr, refl, ap, subst, ◌∙◌}
 use Rattle.sf_base.specs.declared.place.Place.{Place}
-use Rattle.sf_ast.specs.declared.assertion.SurfaceField.{SurfaceField}
 use Rattle.sf_ast.specs.declared.word.SurfaceExpr.{SurfaceExpr}
 use Rattle.sf_ast.specs.declared.word.SurfaceExpr.TheVariants as e
 use Rattle.sf_ast.specs.declared.word.SurfaceOperand.{SurfaceOperand}
 use Rattle.sf_ast.specs.declared.word.SurfaceOperand.TheVariants as v
-use Rattle.sf_ast.specs.declared.word.SurfaceTest.{SurfaceTest}
-use Rattle.sf_ast.specs.declared.word.SurfaceTest.TheVariants as t
 use Rattle.sf_ast.specs.declared.word.Word.{Word}
 use Rattle.sf_ast.specs.Surface as s
 use Rattle.sf_lex.specs.declared.token.Kind.{Kind}
@@ -16,8 +12,8 @@ use Rattle.sf_lex.specs.declared.token.Kind.TheVariants as k
 use Rattle.sf_parse.specs.Grammar as g
 use Rattle.sf_parse.specs.Machine as m
 use Rattle.sf_parse.specs.Machine.{Owed, Choice, take, skip, refuse, Next, goes, bad, deep, leveled, chosen, choice, is_free, step, or_skip, mark_kind, on_exact, on_expression, on_operand, on_conjunct, on_command}
-use Rattle.sf_parse.specs.Nesting.{has_level, NotElse, Follows, IsClosed, ConjunctWithin, AssertionWithin, RestWithin, NoteWithin, MaybeWithin, CommandWithin, CommandsWithin, ItemWithin, ItemsWithin}
-use Rattle.sf_parse.proofs.Means.{NotStar, Ends, IsFlat, Spells, Means, MeansNext}
+use Rattle.sf_parse.specs.Nesting.{has_level, NotElse, Follows, ConjunctWithin, AssertionWithin, MaybeWithin, CommandWithin, CommandsWithin}
+use Rattle.sf_parse.proofs.Means.{Ends, IsFlat, Spells, Means, MeansNext}
 
 pub a_place : Place
 a_place = record { line = 1; column = 1 }
@@ -104,10 +100,13 @@ choose_back n d ss st ts (r1, b, (r2, c, (r3, x, (r4, q, (r5, y, more))))) = tes
   where
     tail : r2 ≡ g.assertion x.0 (k.Else ∷ g.assertion y.0 r5)
     tail = x.1 ∙ ap (λ z. g.assertion x.0 z) (q ∙ ap (λ z. k.Else ∷ z) y.1)
+
     whole : r1 ≡ k.Then ∷ g.assertion x.0 (k.Else ∷ g.assertion y.0 r5)
     whole = c ∙ ap (λ z. k.Then ∷ z) tail
+
     first : AssertionWithin x.0 n (d - 1) (k.Else ∷ g.assertion y.0 r5)
     first = subst (λ z. AssertionWithin x.0 n (d - 1) z) (q ∙ ap (λ z. k.Else ∷ z) y.1) x.2
+
     test_cases : Spells n m.if_test ts r1 → ConjunctBack n d k.If ss st ts
     test_cases (inl h) = record {
       conjunct = s.choose a_place h.0 x.0 y.0;
@@ -204,6 +203,7 @@ if_back n d ss st ts (r1, a, (r2, b, (r3, q, (r4, c, (r5, x, more))))) = branch_
   where
     whole : (z : List Kind) → r4 ≡ z → k.If ∷ ts ≡ k.If ∷ k.OpenRound ∷ g.test g.expr b.0 (k.CloseRound ∷ g.command c.0 z)
     whole z h = ap (λ y. k.If ∷ y) (a ∙ ap (λ y. k.OpenRound ∷ y) (b.1 ∙ ap (λ y. g.test g.expr b.0 y) (q ∙ ap (λ y. k.CloseRound ∷ y) (c.1 ∙ ap (λ y. g.command c.0 y) h))))
+
     branch_cases : Spells n (m.branch (d - 1)) r4 r5 → Means n (ss ++ st) r5 → CommandBack n d k.If ss st ts
     branch_cases (inl (y, h, w, f)) more = record {
       command = s.if a_place b.0 c.0 y;
@@ -213,7 +213,8 @@ if_back n d ss st ts (r1, a, (r2, b, (r3, q, (r4, c, (r5, x, more))))) = branch_
         level_of n d k.If ts (g.command (s.if a_place b.0 c.0 y) r5) (whole (k.Else ∷ g.command y r5) h) lv,
         subst (λ z. CommandWithin c.0 n (d - 1) z) h c.2,
         w,
-        follows_else c.0 (g.command y r5) [] (subst (λ z. Follows c.0 z) h c.3));
+        follows_else c.0 (g.command y r5) [] (subst (λ z. Follows c.0 z) h c.3),
+      );
       follows = f;
       more = more;
     }
@@ -229,7 +230,7 @@ if_back n d ss st ts (r1, a, (r2, b, (r3, q, (r4, c, (r5, x, more))))) = branch_
 while_back : (n d : ℕ) (ss st : List Owed) (ts : List Kind) → Means n (m.exact m.open_round ∷ m.test ∷ m.exact m.close_round ∷ m.maybe_note ∷ m.command (d - 1) ∷ (ss ++ st)) ts → CommandBack n d k.While ss st ts
 while_back n d ss st ts (r1, a, (r2, b, (r3, q, (r4, x, (r5, c, more))))) =
     let whole : k.While ∷ ts ≡ g.command (s.while a_place b.0 x.0 c.0) r5 =
-        ap (λ y. k.While ∷ y) (a ∙ ap (λ y. k.OpenRound ∷ y) (b.1 ∙ ap (λ y. g.test g.expr b.0 y) (q ∙ ap (λ y. k.CloseRound ∷ y) (x.1 ∙ ap (λ y. g.maybe_note x.0 y) c.1)))) in
+    ap (λ y. k.While ∷ y) (a ∙ ap (λ y. k.OpenRound ∷ y) (b.1 ∙ ap (λ y. g.test g.expr b.0 y) (q ∙ ap (λ y. k.CloseRound ∷ y) (x.1 ∙ ap (λ y. g.maybe_note x.0 y) c.1)))) in
     record {
       command = s.while a_place b.0 x.0 c.0;
       rest = r5;
@@ -242,7 +243,7 @@ while_back n d ss st ts (r1, a, (r2, b, (r3, q, (r4, x, (r5, c, more))))) =
 with_back : (n d : ℕ) (ss st : List Owed) (ts : List Kind) → Means n (m.exact m.a_name ∷ m.exact m.when_word ∷ m.exact m.open_round ∷ m.test ∷ m.exact m.close_round ∷ m.command (d - 1) ∷ (ss ++ st)) ts → CommandBack n d k.With ss st ts
 with_back n d ss st ts (r0, o, (r1, a, (r2, b, (r3, t, (r4, q, (r5, c, more)))))) =
     let whole : k.With ∷ ts ≡ g.command (s.with a_place a_word t.0 c.0) r5 =
-        ap (λ y. k.With ∷ y) (o ∙ ap (λ y. k.Name ∷ y) (a ∙ ap (λ y. k.When ∷ y) (b ∙ ap (λ y. k.OpenRound ∷ y) (t.1 ∙ ap (λ y. g.test g.expr t.0 y) (q ∙ ap (λ y. k.CloseRound ∷ y) c.1))))) in
+    ap (λ y. k.With ∷ y) (o ∙ ap (λ y. k.Name ∷ y) (a ∙ ap (λ y. k.When ∷ y) (b ∙ ap (λ y. k.OpenRound ∷ y) (t.1 ∙ ap (λ y. g.test g.expr t.0 y) (q ∙ ap (λ y. k.CloseRound ∷ y) c.1))))) in
     record {
       command = s.with a_place a_word t.0 c.0;
       rest = r5;

@@ -1,14 +1,12 @@
 -- Each stack can be completed, by the shortest tokens that it spells.
-use Rattle.std.proofs.Common.{◌≡◌, ◌≤◌, ℕ, zero, suc, List, [], ◌∷◌, ◌++◌, ◌-◌, length, Bool, true, false, Option, Some, None, ◌⊎◌, inl, inr, refl, sym, ap, subst, ◌∙◌, arith}
+use Rattle.std.proofs.Common.{◌≡◌, ◌≤◌, ℕ, zero, suc, List, [], ◌∷◌, length, true, None, inl, inr, refl, arith}
 use Rattle.std.proofs.lemmas.Bool.Decides.{nat_tests}
-use Rattle.std.specs.Prelude.{nat_le}
 use Rattle.sf_ast.specs.declared.word.SurfaceExpr.TheVariants as e
 use Rattle.sf_ast.specs.declared.word.SurfaceOperand.TheVariants as v
 use Rattle.sf_ast.specs.declared.word.SurfaceTest.TheVariants as t
 use Rattle.sf_ast.specs.Surface as s
 use Rattle.sf_lex.specs.declared.token.Kind.{Kind}
 use Rattle.sf_lex.specs.declared.token.Kind.TheVariants as k
-use Rattle.sf_parse.specs.Grammar as g
 use Rattle.sf_parse.specs.Machine as m
 use Rattle.sf_parse.specs.Machine.{Owed, mark_kind}
 use Rattle.sf_parse.specs.Nesting.{has_level}

@@ -1,6 +1,5 @@
 -- Where the machine stops, the tokens before can go on, and with the next one they can't.
-use Rattle.std.proofs.Common.{◌≡◌, ◌≤◌, ◌<◌, ℕ, zero, suc, List, [], ◌∷◌, ◌++◌, length, Bool, true, false, ◌⊎◌, inl, inr, refl, sym, ap, subst, ◌∙◌, arith, append_assoc, length-append}
-use Rattle.std.proofs.lemmas.List.{append-nil}
+use Rattle.std.proofs.Common.{◌≡◌, ◌≤◌, ◌<◌, ℕ, suc, List, [], ◌∷◌, ◌++◌, length, Bool, true, false, ◌⊎◌, inl, inr, refl, sym, subst, ◌∙◌, arith, length-append}
 use Rattle.sf_lex.specs.declared.token.Kind.{Kind}
 use Rattle.sf_parse.specs.Machine.{Owed, Next, goes, bad, deep, step, Verdict, accepted, unexpected, too_deep, at_end, may_end, after, verdict}
 use Rattle.sf_parse.proofs.Complete.{complete, completes}
@@ -49,10 +48,12 @@ viable_step : (front back : List Kind) (t : Kind) (st : List Owed) (b : Bool) (x
     → ((st2 : List Owed) → verdict 0 (front ++ back) st2 ≡ fault_of b (length back) → GoesOn st2 front)
     → after (λ s. verdict 0 (front ++ back) s) (suc (length (front ++ back))) x ≡ fault_of b (length back) → GoesOn st (t ∷ front)
 viable_step front back t st b (goes st2) is f e =
-    let q = f st2 e in
-    (q.0, λ n h. step_back n st t (front ++ q.0) (
-      let a : step n (suc (length (front ++ q.0))) st t ≡ goes st2 = step_goes n (length (front ++ back)) (suc (length (front ++ q.0))) st st2 t is in
-      subst (λ (x : Next). MeansNext n x (front ++ q.0)) (sym a) (q.1 n h)))
+    let q = f st2 e in (
+      q.0,
+      λ n h. step_back n st t (front ++ q.0) (
+          let a : step n (suc (length (front ++ q.0))) st t ≡ goes st2 = step_goes n (length (front ++ back)) (suc (length (front ++ q.0))) st st2 t is in
+          subst (λ (x : Next). MeansNext n x (front ++ q.0)) (sym a) (q.1 n h)),
+    )
 viable_step front back t st b bad is f e = absurd (not_fault true b (length back) (suc (length (front ++ back))) (long front back) e)
 viable_step front back t st b deep is f e = absurd (not_fault false b (length back) (suc (length (front ++ back))) (long front back) e)
 
@@ -96,19 +97,23 @@ deep_here : (t : Kind) (back : List Kind) (st : List Owed) (x : Next) → step 0
 deep_here t back st (goes st2) is e = let q = fault_le back st2 false (suc (length back)) e in absurd (omega arith)
 deep_here t back st bad is e = absurd cc
 deep_here t back st deep is e =
-    let q = step_deep_in (length back) st t is in
-    (complete q.0, λ n h. step_back n st t (complete q.0) (
-      let a : step n (suc (length (complete q.0))) st t ≡ goes q.0 = step_free n (suc (length (complete q.0))) st t h ∙ q.1 in
-      subst (λ (x : Next). MeansNext n x (complete q.0)) (sym a) (completes n q.0 (omega arith))))
+    let q = step_deep_in (length back) st t is in (
+      complete q.0,
+      λ n h. step_back n st t (complete q.0) (
+          let a : step n (suc (length (complete q.0))) st t ≡ goes q.0 = step_free n (suc (length (complete q.0))) st t h ∙ q.1 in
+          subst (λ (x : Next). MeansNext n x (complete q.0)) (sym a) (completes n q.0 (omega arith))),
+    )
 
 deep_step : (front : List Kind) (t0 t : Kind) (back : List Kind) (st : List Owed) (x : Next) → step 0 (suc (length (front ++ t ∷ back))) st t0 ≡ x
     → ((st2 : List Owed) → verdict 0 (front ++ t ∷ back) st2 ≡ too_deep (suc (length back)) → (other : List Kind) × ((n : ℕ) → suc (length other) ≤ n → Means n st2 (front ++ t ∷ other)))
     → after (λ s. verdict 0 (front ++ t ∷ back) s) (suc (length (front ++ t ∷ back))) x ≡ too_deep (suc (length back)) → (other : List Kind) × ((n : ℕ) → suc (length other) ≤ n → Means n st (t0 ∷ (front ++ t ∷ other)))
 deep_step front t0 t back st (goes st2) is f e =
-    let q = f st2 e in
-    (q.0, λ n h. step_back n st t0 (front ++ t ∷ q.0) (
-      let a : step n (suc (length (front ++ t ∷ q.0))) st t0 ≡ goes st2 = step_goes n (length (front ++ t ∷ back)) (suc (length (front ++ t ∷ q.0))) st st2 t0 is in
-      subst (λ (x : Next). MeansNext n x (front ++ t ∷ q.0)) (sym a) (q.1 n h)))
+    let q = f st2 e in (
+      q.0,
+      λ n h. step_back n st t0 (front ++ t ∷ q.0) (
+          let a : step n (suc (length (front ++ t ∷ q.0))) st t0 ≡ goes st2 = step_goes n (length (front ++ t ∷ back)) (suc (length (front ++ t ∷ q.0))) st st2 t0 is in
+          subst (λ (x : Next). MeansNext n x (front ++ t ∷ q.0)) (sym a) (q.1 n h)),
+    )
 deep_step front t0 t back st bad is f e = absurd (not_fault true false (suc (length back)) (suc (length (front ++ t ∷ back))) (long front (t ∷ back)) e)
 deep_step front t0 t back st deep is f e = absurd (not_fault false false (suc (length back)) (suc (length (front ++ t ∷ back))) (long front (t ∷ back)) e)
 

@@ -1,5 +1,5 @@
 -- What the grammar has, the machine accepts.
-use Rattle.std.proofs.Common.{◌≡◌, ℕ, zero, suc, List, [], ◌∷◌, ◌-◌, length, Bool, true, false, Option, Some, None, refl, ap, sym, ◌∙◌}
+use Rattle.std.proofs.Common.{◌≡◌, ℕ, List, [], ◌∷◌, ◌-◌, length, Bool, true, false, Option, Some, None, refl, ◌∙◌}
 use Rattle.sf_base.specs.declared.limits.TheConstants.{NESTING}
 use Rattle.sf_ast.specs.declared.assertion.SurfaceField.{SurfaceField}
 use Rattle.sf_ast.specs.declared.word.SurfaceExpr.{SurfaceExpr}
@@ -15,8 +15,7 @@ use Rattle.sf_lex.specs.declared.token.Kind.TheVariants as k
 use Rattle.sf_parse.specs.Grammar as g
 use Rattle.sf_parse.specs.Machine as m
 use Rattle.sf_parse.specs.Machine.{Owed, verdict}
-use Rattle.sf_parse.specs.Nesting.{has_level, NotElse, Follows, IsClosed, HasLevel, ConjunctWithin, AssertionWithin, RestWithin, NoteWithin, MaybeWithin, CommandWithin, CommandsWithin, ItemWithin, ItemsWithin}
-use Rattle.sf_parse.proofs.Back.{follows_else}
+use Rattle.sf_parse.specs.Nesting.{IsClosed, HasLevel, ConjunctWithin, AssertionWithin, RestWithin, NoteWithin, MaybeWithin}
 use Rattle.sf_parse.proofs.Means.{NotStar, Ends}
 
 -- what holds of the four first tokens of an expression holds of each

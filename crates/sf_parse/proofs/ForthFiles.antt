@@ -1,13 +1,8 @@
 -- What the grammar has, the machine accepts: commands, items and files.
-use Rattle.std.proofs.Common.{◌≡◌, ℕ, zero, suc, List, [], ◌∷◌, ◌-◌, length, Bool, true, false, Option, Some, None, refl, ap, sym, ◌∙◌}
+use Rattle.std.proofs.Common.{◌≡◌, ℕ, suc, List, [], ◌∷◌, ◌-◌, length, refl, ◌∙◌}
 use Rattle.sf_base.specs.declared.limits.TheConstants.{NESTING}
-use Rattle.sf_ast.specs.declared.assertion.SurfaceField.{SurfaceField}
 use Rattle.sf_ast.specs.declared.word.SurfaceExpr.{SurfaceExpr}
 use Rattle.sf_ast.specs.declared.word.SurfaceExpr.TheVariants as e
-use Rattle.sf_ast.specs.declared.word.SurfaceOperand.{SurfaceOperand}
-use Rattle.sf_ast.specs.declared.word.SurfaceOperand.TheVariants as v
-use Rattle.sf_ast.specs.declared.word.SurfaceTest.{SurfaceTest}
-use Rattle.sf_ast.specs.declared.word.SurfaceTest.TheVariants as t
 use Rattle.sf_ast.specs.declared.word.Word.{Word}
 use Rattle.sf_ast.specs.Surface as s
 use Rattle.sf_lex.specs.declared.token.Kind.{Kind}
@@ -15,9 +10,8 @@ use Rattle.sf_lex.specs.declared.token.Kind.TheVariants as k
 use Rattle.sf_parse.specs.Grammar as g
 use Rattle.sf_parse.specs.Machine as m
 use Rattle.sf_parse.specs.Machine.{Owed, verdict}
-use Rattle.sf_parse.specs.Nesting.{has_level, NotElse, Follows, IsClosed, HasLevel, ConjunctWithin, AssertionWithin, RestWithin, NoteWithin, MaybeWithin, CommandWithin, CommandsWithin, ItemWithin, ItemsWithin}
+use Rattle.sf_parse.specs.Nesting.{NotElse, Follows, HasLevel, NoteWithin, CommandWithin, CommandsWithin, ItemWithin, ItemsWithin}
 use Rattle.sf_parse.proofs.Back.{follows_else}
-use Rattle.sf_parse.proofs.Means.{NotStar, Ends}
 use Rattle.sf_parse.proofs.Forth.{by_expr, expr_goes, test_goes, more_names_go, maybe_names_go, parameters_go, arguments_go, note_goes, maybe_note_goes}
 
 follows_any : (c : s.Command) (r : List Kind) → NotElse r → Follows c r
@@ -118,13 +112,13 @@ mutual
   command_goes n (s.dispose_round p a) d r st w f = rw w (expr_goes n a (k.CloseRound ∷ k.Semicolon ∷ r) (m.exact m.close_round ∷ m.exact m.semicolon ∷ st))
   command_goes n (s.when p b c) d r st w f =
       rw w.0 (test_goes n b (k.CloseRound ∷ g.command c r) (m.exact m.close_round ∷ m.command (d - 1) ∷ m.branch (d - 1) ∷ st)
-        ∙ command_goes n c (d - 1) r (m.branch (d - 1) ∷ st) w.1 (follows_any c r f) ∙ no_branch n (d - 1) r st f)
+      ∙ command_goes n c (d - 1) r (m.branch (d - 1) ∷ st) w.1 (follows_any c r f) ∙ no_branch n (d - 1) r st f)
   command_goes n (s.if p b c x) d r st w f =
       rw w.0 (test_goes n b (k.CloseRound ∷ g.command c (k.Else ∷ g.command x r)) (m.exact m.close_round ∷ m.command (d - 1) ∷ m.branch (d - 1) ∷ st)
-        ∙ command_goes n c (d - 1) (k.Else ∷ g.command x r) (m.branch (d - 1) ∷ st) w.1 (follows_else c [] (g.command x r) w.3) ∙ command_goes n x (d - 1) r st w.2 f)
+      ∙ command_goes n c (d - 1) (k.Else ∷ g.command x r) (m.branch (d - 1) ∷ st) w.1 (follows_else c [] (g.command x r) w.3) ∙ command_goes n x (d - 1) r st w.2 f)
   command_goes n (s.while p b x c) d r st w f =
       rw w.0 (test_goes n b (k.CloseRound ∷ g.maybe_note x (g.command c r)) (m.exact m.close_round ∷ m.maybe_note ∷ m.command (d - 1) ∷ st)
-        ∙ maybe_note_goes n x (g.command c r) (m.command (d - 1) ∷ st) w.1 (no_note n c r (m.command (d - 1) ∷ st)) ∙ command_goes n c (d - 1) r st w.2 f)
+      ∙ maybe_note_goes n x (g.command c r) (m.command (d - 1) ∷ st) w.1 (no_note n c r (m.command (d - 1) ∷ st)) ∙ command_goes n c (d - 1) r st w.2 f)
   command_goes n (s.with p x b c) d r st w f =
       rw w.0 (test_goes n b (k.CloseRound ∷ g.command c r) (m.exact m.close_round ∷ m.command (d - 1) ∷ st) ∙ command_goes n c (d - 1) r st w.1 f)
   command_goes n (s.call c) d r st w f = rw w (arguments_go n c.arguments (k.Semicolon ∷ r) (m.after_call ∷ st))
@@ -184,7 +178,7 @@ procedure_goes n f r st w h =
     parameters_go n f.parameters (g.maybe_note f.pre (k.OpenBrace ∷ g.locals f.locals (g.commands f.body (k.CloseBrace ∷ g.maybe_note f.post r))))
     (m.maybe_note ∷ m.exact m.open_brace ∷ m.locals ∷ m.commands NESTING ∷ m.exact m.close_brace ∷ m.maybe_note ∷ m.items ∷ st)
     ∙ maybe_note_goes n f.pre (k.OpenBrace ∷ g.locals f.locals (g.commands f.body (k.CloseBrace ∷ g.maybe_note f.post r)))
-      (m.exact m.open_brace ∷ m.locals ∷ m.commands NESTING ∷ m.exact m.close_brace ∷ m.maybe_note ∷ m.items ∷ st) w.0 refl
+    (m.exact m.open_brace ∷ m.locals ∷ m.commands NESTING ∷ m.exact m.close_brace ∷ m.maybe_note ∷ m.items ∷ st) w.0 refl
     ∙ locals_go n f.locals f.body (g.maybe_note f.post r) (m.commands NESTING ∷ m.exact m.close_brace ∷ m.maybe_note ∷ m.items ∷ st)
     ∙ commands_go n f.body NESTING (k.CloseBrace ∷ g.maybe_note f.post r) (m.exact m.close_brace ∷ m.maybe_note ∷ m.items ∷ st) w.1 tt
     ∙ maybe_note_goes n f.post r (m.items ∷ st) w.2 h

@@ -1,15 +1,15 @@
 -- The machine's verdict is exactly that of the grammar.
-use Rattle.std.proofs.Common.{◌≡◌, ◌≤◌, ◌<◌, ℕ, zero, suc, List, [], ◌∷◌, ◌++◌, length, Bool, true, false, Option, None, ◌⊎◌, inl, inr, refl, sym, ap, subst, ◌∙◌, arith, append_assoc, length-append}
+use Rattle.std.proofs.Common.{◌≡◌, ◌<◌, ℕ, suc, List, [], ◌∷◌, ◌++◌, length, Bool, true, false, None, ◌⊎◌, inl, inr, refl, sym, ap, subst, ◌∙◌, arith, append_assoc, length-append}
 use Rattle.std.proofs.lemmas.List.{append-nil}
 use Rattle.sf_ast.specs.Surface as s
 use Rattle.sf_ast.specs.Surface.{Item}
 use Rattle.sf_lex.specs.declared.token.Kind.{Kind}
 use Rattle.sf_parse.specs.Grammar.{items}
-use Rattle.sf_parse.specs.Laws.{verdict_of, Spelled, IsExact, TheVerdictIsExact}
+use Rattle.sf_parse.specs.Laws.{TheVerdictIsExact}
 use Rattle.sf_parse.specs.Machine as m
 use Rattle.sf_parse.specs.Machine.{Owed, Next, goes, bad, deep, step, accepted, unexpected, too_deep, at_end, may_end, both, is_optional, after, verdict}
 use Rattle.sf_parse.specs.Nesting.{ItemsWithin}
-use Rattle.sf_parse.specs.Parsing.{CanBegin, CanBeginAny}
+use Rattle.sf_parse.specs.Parsing.{CanBegin}
 use Rattle.sf_parse.proofs.Exactly.{GoesOn, fault_of, viable, stuck, deep_any}
 use Rattle.sf_parse.proofs.ForthFiles.{items_go}
 use Rattle.sf_parse.proofs.Means.{Spells, Means, MeansNext}
@@ -84,17 +84,18 @@ exact ts = record {
   file = λ f. file_accepted 0 ts f.tree f.spells f.within;
   accepts = λ e. let f = file_of 0 ts (accepted_means 0 ts (m.items ∷ []) e) in record { tree = f.0; spells = f.1; within = f.2 };
   wrong = λ front t back is e.
-    let v : verdict 0 (front ++ t ∷ back) (m.items ∷ []) ≡ unexpected (suc (length back)) = subst (λ z. verdict 0 z (m.items ∷ []) ≡ unexpected (suc (length back))) is e in
-    (can_begin front (viable front (t ∷ back) (m.items ∷ []) true v), λ q. refuses (length ((front ++ t ∷ []) ++ q.back)) front t back q.back true (inl refl) v q.tree q.spells q.within);
+      let v : verdict 0 (front ++ t ∷ back) (m.items ∷ []) ≡ unexpected (suc (length back)) = subst (λ z. verdict 0 z (m.items ∷ []) ≡ unexpected (suc (length back))) is e in
+      (can_begin front (viable front (t ∷ back) (m.items ∷ []) true v), λ q. refuses (length ((front ++ t ∷ []) ++ q.back)) front t back q.back true (inl refl) v q.tree q.spells q.within);
   ends = λ e.
-    let v : verdict 0 (ts ++ []) (m.items ∷ []) ≡ unexpected 0 = subst (λ z. verdict 0 z (m.items ∷ []) ≡ unexpected 0) (sym (append-nil ts)) e in
-    (can_begin ts (viable ts [] (m.items ∷ []) true v), λ f. let g : verdict 0 ts (m.items ∷ []) ≡ accepted = file_accepted 0 ts f.tree f.spells f.within in let h : unexpected 0 ≡ accepted = sym e ∙ g in cc);
+      let v : verdict 0 (ts ++ []) (m.items ∷ []) ≡ unexpected 0 = subst (λ z. verdict 0 z (m.items ∷ []) ≡ unexpected 0) (sym (append-nil ts)) e in
+      (can_begin ts (viable ts [] (m.items ∷ []) true v), λ f. let g : verdict 0 ts (m.items ∷ []) ≡ accepted = file_accepted 0 ts f.tree f.spells f.within in let h : unexpected 0 ≡ accepted = sym e ∙ g in cc);
   deeper = λ front t back is e.
-    let v : verdict 0 (front ++ t ∷ back) (m.items ∷ []) ≡ too_deep (suc (length back)) = subst (λ z. verdict 0 z (m.items ∷ []) ≡ too_deep (suc (length back))) is e in
-    let d = deep_any front t back (m.items ∷ []) v in
-    let n : ℕ = length ((front ++ t ∷ []) ++ d.0) in
-    let f = file_of n (front ++ t ∷ d.0) (d.1 n (omega (arith, length-append front (t ∷ []), length-append (front ++ t ∷ []) d.0))) in
-    (can_begin front (viable front (t ∷ back) (m.items ∷ []) false v),
-     record { back = d.0; tree = f.0; spells = append_assoc front (t ∷ []) d.0 ∙ f.1; within = f.2 },
-     λ q. refuses (length q.back) front t back q.back false (inr (omega arith)) v q.tree q.spells q.within);
+      let v : verdict 0 (front ++ t ∷ back) (m.items ∷ []) ≡ too_deep (suc (length back)) = subst (λ z. verdict 0 z (m.items ∷ []) ≡ too_deep (suc (length back))) is e in
+      let d = deep_any front t back (m.items ∷ []) v in
+      let n : ℕ = length ((front ++ t ∷ []) ++ d.0) in
+      let f = file_of n (front ++ t ∷ d.0) (d.1 n (omega (arith, length-append front (t ∷ []), length-append (front ++ t ∷ []) d.0))) in (
+        can_begin front (viable front (t ∷ back) (m.items ∷ []) false v),
+        record { back = d.0; tree = f.0; spells = append_assoc front (t ∷ []) d.0 ∙ f.1; within = f.2 },
+        λ q. refuses (length q.back) front t back q.back false (inr (omega arith)) v q.tree q.spells q.within,
+      );
 }

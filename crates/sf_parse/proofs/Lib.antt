@@ -7,3 +7,4 @@ pub mod Exactly
 pub mod Forth
 pub mod ForthFiles
 pub mod Law
+pub mod Once

@@ -1,5 +1,5 @@
 -- What a stack stands for: the tokens that each thing owed spells, one behind the other.
-use Rattle.std.proofs.Common.{◌≡◌, ◌≤◌, ℕ, zero, suc, List, [], ◌∷◌, ◌++◌, ◌-◌, length, Bool, true, false, Option, Some, None, ◌⊎◌, inl, inr, refl, sym, ap, subst, ◌∙◌, arith}
+use Rattle.std.proofs.Common.{◌≡◌, ℕ, List, [], ◌∷◌, true, Option, ◌⊎◌}
 use Rattle.sf_base.specs.declared.limits.TheConstants.{NESTING}
 use Rattle.sf_ast.specs.declared.assertion.SurfaceField.{SurfaceField}
 use Rattle.sf_ast.specs.declared.word.SurfaceExpr.{SurfaceExpr}
@@ -12,7 +12,7 @@ use Rattle.sf_lex.specs.declared.token.Kind.TheVariants as k
 use Rattle.sf_parse.specs.Grammar as g
 use Rattle.sf_parse.specs.Machine as m
 use Rattle.sf_parse.specs.Machine.{Owed, mark_kind}
-use Rattle.sf_parse.specs.Nesting.{has_level, NotElse, Follows, IsClosed, ConjunctWithin, AssertionWithin, RestWithin, NoteWithin, MaybeWithin, CommandWithin, CommandsWithin, ItemWithin, ItemsWithin}
+use Rattle.sf_parse.specs.Nesting.{NotElse, Follows, ConjunctWithin, AssertionWithin, RestWithin, MaybeWithin, CommandWithin, CommandsWithin, ItemWithin, ItemsWithin}
 
 -- no `*` comes next
 abbrev pub NotStar : List Kind → Type 0

@@ -1,13 +1,10 @@
 -- One token back, for each thing that may be owed, and for a whole stack.
-use Rattle.std.proofs.Common.{◌≡◌, ◌≤◌, ℕ, zero, suc, List, [], ◌∷◌, ◌++◌, ◌-◌, length, Bool, true, false, Option, Some, None, ◌⊎◌, inl, inr, refl, sym, ap, subst, ◌∙◌, arith}
+use Rattle.std.proofs.Common.{◌≡◌, ℕ, suc, List, [], ◌∷◌, length, Bool, true, false, Some, None, ◌⊎◌, inl, inr, refl, ap, subst, ◌∙◌}
 use Rattle.sf_base.specs.declared.limits.TheConstants.{NESTING}
-use Rattle.sf_base.specs.declared.place.Place.{Place}
 use Rattle.sf_ast.specs.declared.assertion.SurfaceField.{SurfaceField}
 use Rattle.sf_ast.specs.declared.word.SurfaceExpr.{SurfaceExpr}
 use Rattle.sf_ast.specs.declared.word.SurfaceExpr.TheVariants as e
 use Rattle.sf_ast.specs.declared.word.SurfaceOperand.{SurfaceOperand}
-use Rattle.sf_ast.specs.declared.word.SurfaceOperand.TheVariants as v
-use Rattle.sf_ast.specs.declared.word.SurfaceTest.{SurfaceTest}
 use Rattle.sf_ast.specs.declared.word.SurfaceTest.TheVariants as t
 use Rattle.sf_ast.specs.declared.word.Word.{Word}
 use Rattle.sf_ast.specs.Surface as s
@@ -16,9 +13,9 @@ use Rattle.sf_lex.specs.declared.token.Kind.TheVariants as k
 use Rattle.sf_parse.specs.Grammar as g
 use Rattle.sf_parse.specs.Machine as m
 use Rattle.sf_parse.specs.Machine.{Owed, Choice, take, skip, refuse, Next, goes, bad, deep, leveled, chosen, choice, is_free, step, or_skip, mark_kind, on_exact, on_expression, on_operand, on_conjunct, on_command}
-use Rattle.sf_parse.specs.Nesting.{has_level, NotElse, Follows, IsClosed, ConjunctWithin, AssertionWithin, RestWithin, NoteWithin, MaybeWithin, CommandWithin, CommandsWithin, ItemWithin, ItemsWithin}
-use Rattle.sf_parse.proofs.Means.{NotStar, Ends, IsFlat, Spells, Means, MeansNext}
-use Rattle.sf_parse.proofs.Back.{a_place, a_word, ExprBack, expr_back, operand_back, or_skip_back, takes_back, command_takes, conjunct_takes, conjunct_back, command_back}
+use Rattle.sf_parse.specs.Nesting.{has_level, IsClosed, ConjunctWithin, AssertionWithin, RestWithin, NoteWithin, MaybeWithin, CommandWithin, CommandsWithin, ItemWithin}
+use Rattle.sf_parse.proofs.Means.{NotStar, Ends, Spells, Means, MeansNext}
+use Rattle.sf_parse.proofs.Back.{a_place, a_word, expr_back, operand_back, or_skip_back, takes_back, command_takes, conjunct_takes, conjunct_back, command_back}
 
 record ExactBack (n : ℕ) (mark : m.Mark) (u : Kind) (st : List Owed) (ts : List Kind) : Type 0 where
   is : u ≡ mark_kind mark
@@ -272,7 +269,7 @@ look_up_or_end_back n st _ w ts q = absurd q
 second_call : (n : ℕ) (st : List Owed) (ts : List Kind) → Means n (m.exact m.a_name ∷ m.exact m.open_round ∷ m.maybe_arguments ∷ m.exact m.close_round ∷ m.exact m.semicolon ∷ st) ts → Means n (m.after_call ∷ st) (k.Bars ∷ ts)
 second_call n st ts (r1, a, (r2, b, (r3, x, (r4, c, (r5, d, more))))) =
     let whole : k.Bars ∷ ts ≡ k.Bars ∷ k.Name ∷ k.OpenRound ∷ g.arguments x.0 (k.CloseRound ∷ k.Semicolon ∷ r5) =
-        ap (λ z. k.Bars ∷ z) (a ∙ ap (λ z. k.Name ∷ z) (b ∙ ap (λ z. k.OpenRound ∷ z) (x.1 ∙ ap (λ z. g.arguments x.0 z) (c ∙ ap (λ z. k.CloseRound ∷ z) d)))) in
+    ap (λ z. k.Bars ∷ z) (a ∙ ap (λ z. k.Name ∷ z) (b ∙ ap (λ z. k.OpenRound ∷ z) (x.1 ∙ ap (λ z. g.arguments x.0 z) (c ∙ ap (λ z. k.CloseRound ∷ z) d)))) in
     (r5, inr (x.0, whole), more)
 
 after_call_back : (n : ℕ) (st : List Owed) (u : Kind) (w : Next) (ts : List Kind) → MeansNext n (chosen (m.on_after_call u) true st w) ts → Means n (m.after_call ∷ st) (u ∷ ts)
@@ -312,7 +309,7 @@ branch_back n d st u w ts f q = (u ∷ ts, inr (tt, refl), f q)
 a_local : (n : ℕ) (st : List Owed) (ts : List Kind) → Means n (m.exact m.a_name ∷ m.more_names ∷ m.exact m.semicolon ∷ m.locals ∷ st) ts → Means n (m.locals ∷ st) (k.Local ∷ ts)
 a_local n st ts (r1, a, (r2, xs, (r3, b, (r4, ls, more)))) =
     let whole : k.Local ∷ ts ≡ k.Local ∷ k.Name ∷ g.more_names xs.0 (k.Semicolon ∷ g.locals ls.0 r4) =
-        ap (λ z. k.Local ∷ z) (a ∙ ap (λ z. k.Name ∷ z) (xs.1 ∙ ap (λ z. g.more_names xs.0 z) (b ∙ ap (λ z. k.Semicolon ∷ z) ls.1))) in
+    ap (λ z. k.Local ∷ z) (a ∙ ap (λ z. k.Name ∷ z) (xs.1 ∙ ap (λ z. g.more_names xs.0 z) (b ∙ ap (λ z. k.Semicolon ∷ z) ls.1))) in
     let one : s.Names = record { first = a_word; more = xs.0 } in
     (r4, (one ∷ ls.0, whole), more)
 
@@ -328,7 +325,7 @@ parameters_of n ts r1 r2 xs h (inr q) = (s.references_and_values xs q.0, h ∙ a
 some_fields : (n : ℕ) (st : List Owed) (ts : List Kind) → Means n (m.exact m.a_name ∷ m.more_names ∷ m.exact m.semicolon ∷ st) ts → Means n (m.item_named ∷ st) (k.Comma ∷ ts)
 some_fields n st ts (r1, a, (r2, xs, (r3, b, more))) =
     let whole : k.Name ∷ k.Comma ∷ ts ≡ k.Name ∷ k.Comma ∷ k.Name ∷ g.more_names xs.0 (k.Semicolon ∷ r3) =
-        ap (λ z. k.Name ∷ k.Comma ∷ z) (a ∙ ap (λ z. k.Name ∷ z) (xs.1 ∙ ap (λ z. g.more_names xs.0 z) b)) in
+    ap (λ z. k.Name ∷ k.Comma ∷ z) (a ∙ ap (λ z. k.Name ∷ z) (xs.1 ∙ ap (λ z. g.more_names xs.0 z) b)) in
     (r3, (s.fields (record { first = a_word; more = a_word ∷ xs.0 }), whole, tt), more)
 
 a_procedure : (n : ℕ) (st : List Owed) (ts : List Kind)
@@ -338,10 +335,10 @@ a_procedure n st ts (r1, xs, (r2, ys, (r3, a, (r4, pre, (r5, b, (r6, ls, (r7, bo
     let ps = parameters_of n ts r1 r2 xs.0 xs.1 ys in
     let last : r7 ≡ k.CloseBrace ∷ g.maybe_note post.0 r9 = c ∙ ap (λ z. k.CloseBrace ∷ z) post.1 in
     let inside : r4 ≡ k.OpenBrace ∷ g.locals ls.0 (g.commands body.0 (k.CloseBrace ∷ g.maybe_note post.0 r9)) =
-        b ∙ ap (λ z. k.OpenBrace ∷ z) (ls.1 ∙ ap (λ z. g.locals ls.0 z) (body.1 ∙ ap (λ z. g.commands body.0 z) last)) in
+    b ∙ ap (λ z. k.OpenBrace ∷ z) (ls.1 ∙ ap (λ z. g.locals ls.0 z) (body.1 ∙ ap (λ z. g.commands body.0 z) last)) in
     let f : s.Procedure = record { name = a_word; parameters = ps.0; pre = pre.0; opens = a_place; locals = ls.0; body = body.0; closes = a_place; post = post.0 } in
     let whole : k.Name ∷ k.OpenRound ∷ ts ≡ g.procedure f r9 =
-        ap (λ z. k.Name ∷ k.OpenRound ∷ z) (ps.1 ∙ ap (λ z. g.parameters ps.0 z) (a ∙ ap (λ z. k.CloseRound ∷ z) (pre.1 ∙ ap (λ z. g.maybe_note pre.0 z) inside))) in
+    ap (λ z. k.Name ∷ k.OpenRound ∷ z) (ps.1 ∙ ap (λ z. g.parameters ps.0 z) (a ∙ ap (λ z. k.CloseRound ∷ z) (pre.1 ∙ ap (λ z. g.maybe_note pre.0 z) inside))) in
     (r9, (s.procedure f, whole, (subst (λ z. MaybeWithin pre.0 n z) inside pre.2, subst (λ z. CommandsWithin body.0 n NESTING z) last body.2, post.2)), more)
 
 item_named_back : (n : ℕ) (st : List Owed) (u : Kind) (w : Next) (ts : List Kind) → MeansNext n (chosen (m.on_item_named u) true st w) ts → Means n (m.item_named ∷ st) (u ∷ ts)
@@ -362,7 +359,7 @@ a_resource n st ts (r0, a, (r1, b, (r2, xs, (r3, c, (r4, o, q))))) =
     let last : k.OpenSquare ∷ r4 ≡ g.note x.1 (g.items is.0 x.4.0) = x.2 ∙ ap (λ z. g.note x.1 z) is.1 in
     let i : s.Resource = record { place = a_place; name = a_word; variables = xs.0; invariant = x.1 } in
     let whole : k.Resource ∷ ts ≡ g.resource i (g.items is.0 x.4.0) =
-        ap (λ z. k.Resource ∷ z) (a ∙ ap (λ z. k.Name ∷ z) (b ∙ ap (λ z. k.OpenRound ∷ z) (xs.1 ∙ ap (λ z. g.maybe_names xs.0 z) (c ∙ ap (λ z. k.CloseRound ∷ z) (o ∙ last))))) in
+    ap (λ z. k.Resource ∷ z) (a ∙ ap (λ z. k.Name ∷ z) (b ∙ ap (λ z. k.OpenRound ∷ z) (xs.1 ∙ ap (λ z. g.maybe_names xs.0 z) (c ∙ ap (λ z. k.CloseRound ∷ z) (o ∙ last))))) in
     (x.4.0, (s.resource i ∷ is.0, whole, (subst (λ z. NoteWithin x.1 n z) is.1 x.3, is.2)), x.4.2)
 
 items_back : (n : ℕ) (st : List Owed) (u : Kind) (w : Next) (ts : List Kind) → MeansNext n (chosen (m.on_items u) true st w) ts → Means n (m.items ∷ st) (u ∷ ts)

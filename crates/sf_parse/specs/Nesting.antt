@@ -5,7 +5,7 @@ use Rattle.sf_base.specs.declared.limits.TheConstants.{NESTING}
 use Rattle.sf_ast.specs.Surface as s
 use Rattle.sf_lex.specs.declared.token.Kind.{Kind}
 use Rattle.sf_lex.specs.declared.token.Kind.TheVariants as k
-use Rattle.sf_parse.specs.Grammar.{conjunct, assertion, note, maybe_note, command, commands, item, items, locals}
+use Rattle.sf_parse.specs.Grammar.{conjunct, assertion, maybe_note, command, commands, items, locals}
 
 -- no `else` comes next
 abbrev pub NotElse : List Kind → Type 0

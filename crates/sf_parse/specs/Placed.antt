@@ -14,7 +14,7 @@ use Rattle.sf_ast.specs.Surface as s
 use Rattle.sf_lex.specs.declared.token.Kind.{Kind}
 use Rattle.sf_lex.specs.declared.token.Kind.TheVariants as k
 use Rattle.sf_lex.specs.declared.token.Token.{Token}
-use Rattle.sf_parse.specs.Grammar.{more_names, names, maybe_names, parameters, expr, more_exprs, maybe_exprs, arguments, call, operand, test, field, more_fields, maybe_fields, conjunct, assertion, note, maybe_note, command, commands, locals, resource, procedure, item, items}
+use Rattle.sf_parse.specs.Grammar.{more_names, names, maybe_names, expr, more_exprs, maybe_exprs, call, operand, test, field, more_fields, maybe_fields, conjunct, assertion, note, maybe_note, command, commands, locals, resource, procedure, items}
 
 -- the word is the first token of those
 abbrev pub WordAt : (ℕ → Token) → Word → List Kind → Type 0
