@@ -26,7 +26,7 @@ by_expr (e.Null p) P a b c d = c
 by_expr (e.Number x) P a b c d = d
 
 -- and of an operand
-by_operand : (x : SurfaceOperand) (P : Kind → Type 0) → P k.Name → P k.Nil → P k.Null → P k.Number → P k.Existential → P (g.operand x)
+pub by_operand : (x : SurfaceOperand) (P : Kind → Type 0) → P k.Name → P k.Nil → P k.Null → P k.Number → P k.Existential → P (g.operand x)
 by_operand (v.Known x) P a b c d f = by_expr x P a b c d
 by_operand (v.Existential x) P a b c d f = f
 
@@ -177,12 +177,12 @@ first_in_note n (s.lseg p x y) r st = refl
 first_in_note n (s.list p x) r st = refl
 first_in_note n (s.tree p x) r st = refl
 
-closed_ends : (c : s.Conjunct) (r : List Kind) → IsClosed c → Ends c r
+pub closed_ends : (c : s.Conjunct) (r : List Kind) → IsClosed c → Ends c r
 closed_ends (s.choose p b x y) r h = absurd h
 closed_ends (s.choose_round p b x y) r h = absurd h
 closed_ends _ r h = tt
 
-ends_before : (c : s.Conjunct) (r : List Kind) → NotStar r → Ends c r
+pub ends_before : (c : s.Conjunct) (r : List Kind) → NotStar r → Ends c r
 ends_before (s.choose p b x y) r h = h
 ends_before (s.choose_round p b x y) r h = h
 ends_before _ r h = tt

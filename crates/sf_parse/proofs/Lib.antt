@@ -8,3 +8,4 @@ pub mod Forth
 pub mod ForthFiles
 pub mod Law
 pub mod Once
+pub mod OnceAssertions

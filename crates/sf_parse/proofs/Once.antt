@@ -51,10 +51,10 @@ abbrev pub NotComma : List Kind → Type 0
 NotComma (k.Comma ∷ r) = ⊥
 NotComma _ = Unit {0}
 
-comma_wrong : (r q : List Kind) → NotComma r → r ≡ k.Comma ∷ q → ⊥
+pub comma_wrong : (r q : List Kind) → NotComma r → r ≡ k.Comma ∷ q → ⊥
 comma_wrong r q h e = subst (λ z. NotComma z) e h
 
-cons_once : {A : Type 0} (x y : A) (xs ys : List A) → x ≡ y → xs ≡ ys → x ∷ xs ≡ y ∷ ys
+pub cons_once : {A : Type 0} (x y : A) (xs ys : List A) → x ≡ y → xs ≡ ys → x ∷ xs ≡ y ∷ ys
 cons_once x y xs ys h i = cc
 
 pub more_names_once : (at : ℕ → Token) (xs ys : List Word) (r q : List Kind) → MoreNamesAt at xs r → MoreNamesAt at ys q → NotComma r → NotComma q → g.more_names xs r ≡ g.more_names ys q → Same xs ys r q
@@ -71,7 +71,7 @@ abbrev pub NotName : List Kind → Type 0
 NotName (k.Name ∷ r) = ⊥
 NotName _ = Unit {0}
 
-name_wrong : (r q : List Kind) → NotName r → r ≡ k.Name ∷ q → ⊥
+pub name_wrong : (r q : List Kind) → NotName r → r ≡ k.Name ∷ q → ⊥
 name_wrong r q h e = subst (λ z. NotName z) e h
 
 pub maybe_names_once : (at : ℕ → Token) (xs ys : List Word) (r q : List Kind) → MaybeNamesAt at xs r → MaybeNamesAt at ys q → NotComma r → NotComma q → NotName r → NotName q → g.maybe_names xs r ≡ g.maybe_names ys q → Same xs ys r q
@@ -117,13 +117,13 @@ more_exprs_once at (x ∷ xs) (y ∷ ys) r q h i f =
     let rest = more_exprs_once at xs ys r q h.1 i.1 tail in
     (cons_once x y xs ys (expr_once at x y _ _ h.0 i.0 head tail) rest.0, rest.1)
 
-expr_no_close : (x : SurfaceExpr) → g.expr x ≡ k.CloseRound → ⊥
+pub expr_no_close : (x : SurfaceExpr) → g.expr x ≡ k.CloseRound → ⊥
 expr_no_close (e.Name x) u = cc
 expr_no_close (e.Nil x) u = cc
 expr_no_close (e.Null x) u = cc
 expr_no_close (e.Number x) u = cc
 
-expr_no_semicolon : (x : SurfaceExpr) → g.expr x ≡ k.Semicolon → ⊥
+pub expr_no_semicolon : (x : SurfaceExpr) → g.expr x ≡ k.Semicolon → ⊥
 expr_no_semicolon (e.Name x) u = cc
 expr_no_semicolon (e.Nil x) u = cc
 expr_no_semicolon (e.Null x) u = cc
