@@ -14,7 +14,7 @@ use Rattle.sf_parse.specs.Nesting.{NotElse, Follows, HasLevel, NoteWithin, Comma
 use Rattle.sf_parse.proofs.Back.{follows_else}
 use Rattle.sf_parse.proofs.Forth.{by_expr, expr_goes, test_goes, more_names_go, maybe_names_go, parameters_go, arguments_go, note_goes, maybe_note_goes}
 
-follows_any : (c : s.Command) (r : List Kind) → NotElse r → Follows c r
+pub follows_any : (c : s.Command) (r : List Kind) → NotElse r → Follows c r
 follows_any (s.when p b c) r h = h
 follows_any (s.if p b c d) r h = follows_any d r h
 follows_any (s.while p b x c) r h = follows_any c r h
@@ -47,7 +47,7 @@ no_else_front (s.call c) r = tt
 no_else_front (s.fork c d) r = tt
 no_else_front (s.block p cs) r = tt
 
-no_else_fronts : (cs : s.Commands) (r : List Kind) → NotElse r → NotElse (g.commands cs r)
+pub no_else_fronts : (cs : s.Commands) (r : List Kind) → NotElse r → NotElse (g.commands cs r)
 no_else_fronts s.done r h = h
 no_else_fronts (s.then c cs) r h = no_else_front c (g.commands cs r)
 

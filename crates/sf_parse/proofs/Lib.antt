@@ -9,3 +9,4 @@ pub mod ForthFiles
 pub mod Law
 pub mod Once
 pub mod OnceAssertions
+pub mod OnceFiles

@@ -30,7 +30,7 @@ operand_no_true : (x : SurfaceOperand) → g.operand x ≡ k.True → ⊥
 operand_no_true (v.Known x) u = expr_no_true x u
 operand_no_true (v.Existential x) u = cc
 
-two_once : {A B : Type 0} (f : A → A → B) (x y z w : A) → x ≡ z → y ≡ w → f x y ≡ f z w
+pub two_once : {A B : Type 0} (f : A → A → B) (x y z w : A) → x ≡ z → y ≡ w → f x y ≡ f z w
 two_once f x y z w h i = ap (λ a. f a y) h ∙ ap (λ b. f z b) i
 
 pub test_once : (at : ℕ → Token) (b c : SurfaceTest SurfaceExpr) (r q : List Kind) → TestAt at g.expr (ExprAt at) b r → TestAt at g.expr (ExprAt at) c q → g.test g.expr b r ≡ g.test g.expr c q → Same b c r q
@@ -180,7 +180,7 @@ after_no_name (_ ∷ r) h = tt
 star_wrong : (r q : List Kind) → NotStar r → r ≡ k.Star ∷ q → ⊥
 star_wrong r q h e = subst (λ z. NotStar z) e h
 
-rest_within : (a : s.Assertion) (n d : ℕ) (r : List Kind) → AssertionWithin a n d r → RestWithin a n d r
+pub rest_within : (a : s.Assertion) (n d : ℕ) (r : List Kind) → AssertionWithin a n d r → RestWithin a n d r
 rest_within (s.only c) n d r w = w.1
 rest_within (s.star c a) n d r w = (w.1, w.2, w.3)
 
@@ -251,7 +251,7 @@ mutual
       (ap (λ g. s.tree g x) (place_once at p o _ _ h.0 i.0 f) ∙ ap (s.tree o) (operand_once at x z _ _ h.1 i.1 first (ap (λ l. k.CloseRound ∷ l) tail)), tail)
   conjunct_once at c x n d r q h i v w a b y z f = let wrong : class c ≡ class x = one_class c x r q f in absurd cc
 
-  assertion_once : (at : ℕ → Token) (a b : s.Assertion) (n d : ℕ) (r q : List Kind) → AssertionAt at a r → AssertionAt at b q → RestWithin a n d r → RestWithin b n d q → AfterConjunct r → AfterConjunct q → NotStar r → NotStar q → g.assertion a r ≡ g.assertion b q → Same a b r q
+  pub assertion_once : (at : ℕ → Token) (a b : s.Assertion) (n d : ℕ) (r q : List Kind) → AssertionAt at a r → AssertionAt at b q → RestWithin a n d r → RestWithin b n d q → AfterConjunct r → AfterConjunct q → NotStar r → NotStar q → g.assertion a r ≡ g.assertion b q → Same a b r q
   assertion_once at (s.only c) (s.only x) n d r q h i v w a b y z f = let o = conjunct_once at c x n d r q h i v w a b (ends_before c r y) (ends_before x q z) f in (ap s.only o.0, o.1)
   assertion_once at (s.only c) (s.star x u) n d r q h i v w a b y z f =
       let o = conjunct_once at c x n d r (k.Star ∷ g.assertion u q) h i.0 v w.0 a tt (ends_before c r y) (closed_ends x (k.Star ∷ g.assertion u q) w.1) f in
