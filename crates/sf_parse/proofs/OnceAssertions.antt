@@ -231,16 +231,20 @@ mutual
       let first : g.operand x ≡ g.operand z = cc in
       let second : g.operand y ≡ g.operand w = cc in
       let tail : r ≡ q = cc in
-      let close : k.CloseRound ∷ r ≡ k.CloseRound ∷ q = ap (λ l. k.CloseRound ∷ l) tail in
-      (ap (λ g. s.ls g x y) (place_once at p o _ _ h.0 i.0 f)
-        ∙ two_once (s.ls o) x y z w (operand_once at x z _ _ h.1 i.1 first (ap (λ l. k.Comma ∷ l) (cons_once (g.operand y) (g.operand w) (k.CloseRound ∷ r) (k.CloseRound ∷ q) second close))) (operand_once at y w _ _ h.2 i.2 second close), tail)
+      let close : k.CloseRound ∷ r ≡ k.CloseRound ∷ q = ap (λ l. k.CloseRound ∷ l) tail in (
+        ap (λ g. s.ls g x y) (place_once at p o _ _ h.0 i.0 f)
+            ∙ two_once (s.ls o) x y z w (operand_once at x z _ _ h.1 i.1 first (ap (λ l. k.Comma ∷ l) (cons_once (g.operand y) (g.operand w) (k.CloseRound ∷ r) (k.CloseRound ∷ q) second close))) (operand_once at y w _ _ h.2 i.2 second close),
+        tail,
+      )
   conjunct_once at (s.lseg p x y) (s.lseg o z w) n d r q h i a1 a2 a b y1 z1 f =
       let first : g.operand x ≡ g.operand z = cc in
       let second : g.operand y ≡ g.operand w = cc in
       let tail : r ≡ q = cc in
-      let close : k.CloseRound ∷ r ≡ k.CloseRound ∷ q = ap (λ l. k.CloseRound ∷ l) tail in
-      (ap (λ g. s.lseg g x y) (place_once at p o _ _ h.0 i.0 f)
-        ∙ two_once (s.lseg o) x y z w (operand_once at x z _ _ h.1 i.1 first (ap (λ l. k.Comma ∷ l) (cons_once (g.operand y) (g.operand w) (k.CloseRound ∷ r) (k.CloseRound ∷ q) second close))) (operand_once at y w _ _ h.2 i.2 second close), tail)
+      let close : k.CloseRound ∷ r ≡ k.CloseRound ∷ q = ap (λ l. k.CloseRound ∷ l) tail in (
+        ap (λ g. s.lseg g x y) (place_once at p o _ _ h.0 i.0 f)
+            ∙ two_once (s.lseg o) x y z w (operand_once at x z _ _ h.1 i.1 first (ap (λ l. k.Comma ∷ l) (cons_once (g.operand y) (g.operand w) (k.CloseRound ∷ r) (k.CloseRound ∷ q) second close))) (operand_once at y w _ _ h.2 i.2 second close),
+        tail,
+      )
   conjunct_once at (s.list p x) (s.list o z) n d r q h i a1 a2 a b y1 z1 f =
       let first : g.operand x ≡ g.operand z = cc in
       let tail : r ≡ q = cc in

@@ -179,10 +179,12 @@ mutual
       let first : g.expr a ≡ g.expr e = cc in
       let value : g.expr b ≡ g.expr u = cc in
       let tail : r ≡ q = cc in
-      let last : g.expr b ∷ k.Semicolon ∷ r ≡ g.expr u ∷ k.Semicolon ∷ q = cons_once (g.expr b) (g.expr u) (k.Semicolon ∷ r) (k.Semicolon ∷ q) value (ap (λ m. k.Semicolon ∷ m) tail) in
-      (ap (λ m. s.mutate m x b) (expr_once at a e _ _ h.0 i.0 first (ap (λ m. k.Arrow ∷ k.Name ∷ k.Equals ∷ m) last))
-        ∙ ap (λ m. s.mutate e m b) (word_once at x y _ _ h.1 i.1 (ap (λ m. k.Name ∷ k.Equals ∷ m) last))
-        ∙ ap (s.mutate e y) (expr_once at b u _ _ h.2 i.2 value (ap (λ m. k.Semicolon ∷ m) tail)), tail)
+      let last : g.expr b ∷ k.Semicolon ∷ r ≡ g.expr u ∷ k.Semicolon ∷ q = cons_once (g.expr b) (g.expr u) (k.Semicolon ∷ r) (k.Semicolon ∷ q) value (ap (λ m. k.Semicolon ∷ m) tail) in (
+        ap (λ m. s.mutate m x b) (expr_once at a e _ _ h.0 i.0 first (ap (λ m. k.Arrow ∷ k.Name ∷ k.Equals ∷ m) last))
+            ∙ ap (λ m. s.mutate e m b) (word_once at x y _ _ h.1 i.1 (ap (λ m. k.Name ∷ k.Equals ∷ m) last))
+            ∙ ap (s.mutate e y) (expr_once at b u _ _ h.2 i.2 value (ap (λ m. k.Semicolon ∷ m) tail)),
+        tail,
+      )
   command_once at (s.dispose p a) (s.dispose o b) n d r q h i v w j l f =
       let value : g.expr a ≡ g.expr b = cc in
       let tail : r ≡ q = cc in
@@ -269,6 +271,106 @@ mutual
   commands_once at (s.then c cs) s.done n d r q h i v w f = absurd (begins_command c (g.commands cs (k.CloseBrace ∷ r)) (k.CloseBrace ∷ q) f refl)
   commands_once at (s.then c cs) (s.then x xs) n d r q h i v w f =
       let u = command_once at c x n d (g.commands cs (k.CloseBrace ∷ r)) (g.commands xs (k.CloseBrace ∷ q)) h.0 i.0 v.0 w.0
-                (follows_any c _ (no_else_fronts cs (k.CloseBrace ∷ r) tt)) (follows_any x _ (no_else_fronts xs (k.CloseBrace ∷ q) tt)) f in
+      (follows_any c _ (no_else_fronts cs (k.CloseBrace ∷ r) tt)) (follows_any x _ (no_else_fronts xs (k.CloseBrace ∷ q) tt)) f in
       let z = commands_once at cs xs n d r q h.1 i.1 v.1 w.1 u.1 in
       (ap (λ t. s.then t cs) u.0 ∙ ap (s.then x) z.0, z.1)
+
+names_once : (at : ℕ → Token) (x y : s.Names) (r q : List Kind) → NamesAt at x (k.Semicolon ∷ r) → NamesAt at y (k.Semicolon ∷ q) → g.names x (k.Semicolon ∷ r) ≡ g.names y (k.Semicolon ∷ q) → Same x y r q
+names_once at x y r q h i f =
+    let tail : g.more_names x.more (k.Semicolon ∷ r) ≡ g.more_names y.more (k.Semicolon ∷ q) = cc in
+    let o = more_names_once at x.more y.more (k.Semicolon ∷ r) (k.Semicolon ∷ q) h.1 i.1 tt tt tail in
+    let last : k.Semicolon ∷ r ≡ k.Semicolon ∷ q = o.1 in
+    (two_of (λ a b. record { first = a; more = b }) x.first y.first x.more y.more (word_once at x.first y.first _ _ h.0 i.0 f) o.0, (let t : r ≡ q = cc in t))
+
+commands_not_local : (cs : s.Commands) (r u : List Kind) → g.commands cs (k.CloseBrace ∷ r) ≡ k.Local ∷ u → ⊥
+commands_not_local s.done r u f = cc
+commands_not_local (s.then c cs) r u f = begins_command c (g.commands cs (k.CloseBrace ∷ r)) (k.Local ∷ u) f refl
+
+locals_once : (at : ℕ → Token) (ls ms : List s.Names) (cs xs : s.Commands) (r q : List Kind) → LocalsAt at ls (g.commands cs (k.CloseBrace ∷ r)) → LocalsAt at ms (g.commands xs (k.CloseBrace ∷ q))
+    → g.locals ls (g.commands cs (k.CloseBrace ∷ r)) ≡ g.locals ms (g.commands xs (k.CloseBrace ∷ q)) → Same ls ms (g.commands cs (k.CloseBrace ∷ r)) (g.commands xs (k.CloseBrace ∷ q))
+locals_once at [] [] cs xs r q h i f = (refl, f)
+locals_once at [] (y ∷ ms) cs xs r q h i f = absurd (commands_not_local cs r (g.names y (k.Semicolon ∷ g.locals ms (g.commands xs (k.CloseBrace ∷ q)))) f)
+locals_once at (x ∷ ls) [] cs xs r q h i f = absurd (commands_not_local xs q (g.names x (k.Semicolon ∷ g.locals ls (g.commands cs (k.CloseBrace ∷ r)))) (sym f))
+locals_once at (x ∷ ls) (y ∷ ms) cs xs r q h i f =
+    let tail : g.names x (k.Semicolon ∷ g.locals ls (g.commands cs (k.CloseBrace ∷ r))) ≡ g.names y (k.Semicolon ∷ g.locals ms (g.commands xs (k.CloseBrace ∷ q))) = cc in
+    let o = names_once at x y _ _ h.0 i.0 tail in
+    let m = locals_once at ls ms cs xs r q h.1 i.1 o.1 in
+    (cons_once x y ls ms o.0 m.0, m.1)
+
+names_no_call : (xs : List Word) (r u : List Kind) → g.more_names xs (k.Semicolon ∷ r) ≡ k.OpenRound ∷ u → ⊥
+names_no_call [] r u f = cc
+names_no_call (x ∷ xs) r u f = cc
+
+-- no note comes next
+abbrev NoNote : List Kind → Type 0
+NoNote r = (u : List Kind) → r ≡ k.OpenSquare ∷ u → ⊥
+
+resource_once : (at : ℕ → Token) (n : ℕ) (x y : s.Resource) (r q : List Kind) → ResourceAt at x r → ResourceAt at y q → NoteWithin x.invariant n r → NoteWithin y.invariant n q → g.resource x r ≡ g.resource y q → Same x y r q
+resource_once at n x y r q h i v w f =
+    let names : g.maybe_names x.variables (k.CloseRound ∷ g.note x.invariant r) ≡ g.maybe_names y.variables (k.CloseRound ∷ g.note y.invariant q) = cc in
+    let o = maybe_names_once at x.variables y.variables (k.CloseRound ∷ g.note x.invariant r) (k.CloseRound ∷ g.note y.invariant q) h.2 i.2 tt tt tt tt names in
+    let behind : k.CloseRound ∷ g.note x.invariant r ≡ k.CloseRound ∷ g.note y.invariant q = o.1 in
+    let notes : g.note x.invariant r ≡ g.note y.invariant q = cc in
+    let m = note_once at n x.invariant y.invariant r q h.3 i.3 v w notes in
+    let make : Place → Word → List Word → s.Note → s.Resource = λ a b c d. record { place = a; name = b; variables = c; invariant = d } in
+    let place : x.place ≡ y.place = place_once at x.place y.place _ _ h.0 i.0 f in
+    let name : x.name ≡ y.name = word_once at x.name y.name _ _ h.1 i.1 (ap (λ z. k.Name ∷ k.OpenRound ∷ z) names) in
+    (ap (λ a. make a x.name x.variables x.invariant) place ∙ ap (λ b. make y.place b x.variables x.invariant) name ∙ ap (λ c. make y.place y.name c x.invariant) o.0 ∙ ap (make y.place y.name y.variables) m.0, m.1)
+
+procedure_once : (at : ℕ → Token) (n : ℕ) (x y : s.Procedure) (r q : List Kind) → ProcedureAt at x r → ProcedureAt at y q → ItemWithin (s.procedure x) n r → ItemWithin (s.procedure y) n q → NoNote r → NoNote q → g.procedure x r ≡ g.procedure y q → Same x y r q
+procedure_once at n x y r q h i v w a b f =
+    let start : g.parameters x.parameters (k.CloseRound ∷ g.maybe_note x.pre (from_open x r)) ≡ g.parameters y.parameters (k.CloseRound ∷ g.maybe_note y.pre (from_open y q)) = cc in
+    let ps = parameters_once at x.parameters y.parameters (g.maybe_note x.pre (from_open x r)) (g.maybe_note y.pre (from_open y q)) h.1 i.1 start in
+    let pre = maybe_note_once at n x.pre y.pre (from_open x r) (from_open y q) h.2 i.2 v.0 w.0 (λ u e. let t : k.OpenBrace ∷ g.locals x.locals (g.commands x.body (from_close x r)) ≡ k.OpenSquare ∷ u = e in cc) (λ u e. let t : k.OpenBrace ∷ g.locals y.locals (g.commands y.body (from_close y q)) ≡ k.OpenSquare ∷ u = e in cc) ps.1 in
+    let opened : k.OpenBrace ∷ g.locals x.locals (g.commands x.body (from_close x r)) ≡ k.OpenBrace ∷ g.locals y.locals (g.commands y.body (from_close y q)) = pre.1 in
+    let inner : g.locals x.locals (g.commands x.body (from_close x r)) ≡ g.locals y.locals (g.commands y.body (from_close y q)) = cc in
+    let ls = locals_once at x.locals y.locals x.body y.body (g.maybe_note x.post r) (g.maybe_note y.post q) h.4 i.4 inner in
+    let body = commands_once at x.body y.body n NESTING (g.maybe_note x.post r) (g.maybe_note y.post q) h.5 i.5 v.1 w.1 ls.1 in
+    let post = maybe_note_once at n x.post y.post r q h.7 i.7 v.2 w.2 a b body.1 in
+    let name : x.name ≡ y.name = word_once at x.name y.name _ _ h.0 i.0 f in
+    let opens : x.opens ≡ y.opens = place_once at x.opens y.opens _ _ h.3 i.3 pre.1 in
+    let closes : x.closes ≡ y.closes = place_once at x.closes y.closes _ _ h.6 i.6 (ap (λ z. k.CloseBrace ∷ z) body.1) in
+    let make : Word → s.Parameters → Option s.Note → Place → List s.Names → s.Commands → Place → Option s.Note → s.Procedure =
+    λ c d e o l m z p. record { name = c; parameters = d; pre = e; opens = o; locals = l; body = m; closes = z; post = p } in (
+      ap (λ c. make c x.parameters x.pre x.opens x.locals x.body x.closes x.post) name
+          ∙ ap (λ c. make y.name c x.pre x.opens x.locals x.body x.closes x.post) ps.0
+          ∙ ap (λ c. make y.name y.parameters c x.opens x.locals x.body x.closes x.post) pre.0
+          ∙ ap (λ c. make y.name y.parameters y.pre c x.locals x.body x.closes x.post) opens
+          ∙ ap (λ c. make y.name y.parameters y.pre y.opens c x.body x.closes x.post) ls.0
+          ∙ ap (λ c. make y.name y.parameters y.pre y.opens y.locals c x.closes x.post) body.0
+          ∙ ap (λ c. make y.name y.parameters y.pre y.opens y.locals y.body c x.post) closes
+          ∙ ap (make y.name y.parameters y.pre y.opens y.locals y.body y.closes) post.0,
+      post.1,
+    )
+
+item_once : (at : ℕ → Token) (n : ℕ) (x y : s.Item) (r q : List Kind) → ItemAt at x r → ItemAt at y q → ItemWithin x n r → ItemWithin y n q → NoNote r → NoNote q → g.item x r ≡ g.item y q → Same x y r q
+item_once at n (s.fields x) (s.fields y) r q h i v w a b f = let o = names_once at x y r q h i f in (ap s.fields o.0, o.1)
+item_once at n (s.resource x) (s.resource y) r q h i v w a b f = let o = resource_once at n x y r q h i v w f in (ap s.resource o.0, o.1)
+item_once at n (s.procedure x) (s.procedure y) r q h i v w a b f = let o = procedure_once at n x y r q h i v w a b f in (ap s.procedure o.0, o.1)
+item_once at n (s.fields x) (s.procedure y) r q h i v w a b f =
+    let wrong : g.more_names x.more (k.Semicolon ∷ r) ≡ k.OpenRound ∷ g.parameters y.parameters (k.CloseRound ∷ g.maybe_note y.pre (from_open y q)) = cc in absurd (names_no_call x.more r _ wrong)
+item_once at n (s.procedure y) (s.fields x) r q h i v w a b f =
+    let wrong : g.more_names x.more (k.Semicolon ∷ q) ≡ k.OpenRound ∷ g.parameters y.parameters (k.CloseRound ∷ g.maybe_note y.pre (from_open y r)) = cc in absurd (names_no_call x.more q _ wrong)
+item_once at n (s.fields x) (s.resource y) r q h i v w a b f = absurd cc
+item_once at n (s.resource y) (s.fields x) r q h i v w a b f = absurd cc
+item_once at n (s.procedure x) (s.resource y) r q h i v w a b f = absurd cc
+item_once at n (s.resource y) (s.procedure x) r q h i v w a b f = absurd cc
+
+items_no_note : (is : List s.Item) → NoNote (g.items is [])
+items_no_note [] u f = cc
+items_no_note (s.fields x ∷ is) u f = cc
+items_no_note (s.resource x ∷ is) u f = cc
+items_no_note (s.procedure x ∷ is) u f = cc
+
+item_some : (i : s.Item) (r : List Kind) → g.item i r ≡ [] → ⊥
+item_some (s.fields x) r f = cc
+item_some (s.resource x) r f = cc
+item_some (s.procedure x) r f = cc
+
+pub items_once : (at : ℕ → Token) (n : ℕ) (is js : List s.Item) → ItemsAt at is [] → ItemsAt at js [] → ItemsWithin is n [] → ItemsWithin js n [] → g.items is [] ≡ g.items js [] → is ≡ js
+items_once at n [] [] h i v w f = refl
+items_once at n [] (y ∷ js) h i v w f = absurd (item_some y (g.items js []) (sym f))
+items_once at n (x ∷ is) [] h i v w f = absurd (item_some x (g.items is []) f)
+items_once at n (x ∷ is) (y ∷ js) h i v w f =
+    let o = item_once at n x y (g.items is []) (g.items js []) h.0 i.0 v.0 w.0 (items_no_note is) (items_no_note js) f in
+    cons_once x y is js o.0 (items_once at n is js h.1 i.1 v.1 w.1 o.1)

@@ -3,10 +3,11 @@
 use Rattle.std.specs.Prelude.{◌≡◌, suc, List, [], ◌∷◌, ◌++◌, length}
 use Rattle.sf_ast.specs.Surface.{Item}
 use Rattle.sf_lex.specs.declared.token.Kind.{Kind}
+use Rattle.sf_lex.specs.declared.token.Token.{Token}
 use Rattle.sf_parse.specs.Grammar.{items}
 use Rattle.sf_parse.specs.Machine.{Verdict, accepted, unexpected, too_deep, verdict, items as some_items}
 use Rattle.sf_parse.specs.Nesting.{ItemsWithin}
-use Rattle.sf_parse.specs.Parsing.{CanBegin, CanBeginAny}
+use Rattle.sf_parse.specs.Parsing.{CanBegin, CanBeginAny, IsFile}
 
 -- the verdict over a whole file, with nothing free of the limit on nesting
 abbrev pub verdict_of : List Kind → Verdict
@@ -29,3 +30,7 @@ pub record IsExact (ts : List Kind) : Type 0 where
 -- the machine's verdict is exact over all tokens
 abbrev pub TheVerdictIsExact : Type 0
 TheVerdictIsExact = (ts : List Kind) → IsExact ts
+
+-- tokens are at most one file: its tree, with the places of its nodes
+abbrev pub EachFileIsOne : Type 0
+EachFileIsOne = (ts : List Token) (one two : List Item) → IsFile ts one → IsFile ts two → one ≡ two

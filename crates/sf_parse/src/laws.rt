@@ -1,8 +1,13 @@
 //! Laws of reading a file. Each function does nothing; its contract is the law.
 
-ghost use Rattle.sf_parse.specs.Laws.{TheVerdictIsExact};
+ghost use Rattle.sf_parse.specs.Laws.{EachFileIsOne, TheVerdictIsExact};
 
 /// What is owed decides exactly as the grammar does: which tokens are a file, and where the others go wrong.
 pub fn the_verdict_is_exact()
     ensures { TheVerdictIsExact }
+{}
+
+/// Tokens are at most one file: each `else` and each branch of an assertion has its place.
+pub fn each_file_is_one()
+    ensures { EachFileIsOne }
 {}
