@@ -34,7 +34,7 @@ maybe_depth None = 0
 maybe_depth (Some n) = note_depth n
 
 abbrev mutual
-  -- the levels of a command, its own the first; an invariant's assertions are counted for themselves
+  -- the levels of a command, its own the first
   pub command_depth : Command → ℕ
   command_depth (assign x e) = 1
   command_depth (look_up x e f) = 1
@@ -44,7 +44,7 @@ abbrev mutual
   command_depth (dispose_round p e) = 1
   command_depth (when p t c) = 1 + command_depth c
   command_depth (if p t c d) = 1 + max (command_depth c) (command_depth d)
-  command_depth (while p t n c) = max (maybe_depth n) (1 + command_depth c)
+  command_depth (while p t n c) = 1 + command_depth c
   command_depth (with p r t c) = 1 + command_depth c
   command_depth (call c) = 1
   command_depth (fork c d) = 1
@@ -55,11 +55,33 @@ abbrev mutual
   commands_depth done = 0
   commands_depth (then c cs) = max (command_depth c) (commands_depth cs)
 
+abbrev mutual
+  -- the levels of the deepest invariant in a command
+  pub invariant_depth : Command → ℕ
+  invariant_depth (when p t c) = invariant_depth c
+  invariant_depth (if p t c d) = max (invariant_depth c) (invariant_depth d)
+  invariant_depth (while p t n c) = max (maybe_depth n) (invariant_depth c)
+  invariant_depth (with p r t c) = invariant_depth c
+  invariant_depth (block p cs) = invariants_depth cs
+  invariant_depth (assign x e) = 0
+  invariant_depth (look_up x e f) = 0
+  invariant_depth (new x) = 0
+  invariant_depth (mutate e f g) = 0
+  invariant_depth (dispose p e) = 0
+  invariant_depth (dispose_round p e) = 0
+  invariant_depth (call c) = 0
+  invariant_depth (fork c d) = 0
+
+  -- those of the deepest invariant in commands
+  pub invariants_depth : Commands → ℕ
+  invariants_depth done = 0
+  invariants_depth (then c cs) = max (invariant_depth c) (invariants_depth cs)
+
 -- those of the deepest command or assertion of an item
 abbrev pub item_depth : Item → ℕ
 item_depth (fields ns) = 0
 item_depth (resource r) = note_depth r.invariant
-item_depth (procedure f) = max (commands_depth f.body) (max (maybe_depth f.pre) (maybe_depth f.post))
+item_depth (procedure f) = max (max (commands_depth f.body) (invariants_depth f.body)) (max (maybe_depth f.pre) (maybe_depth f.post))
 
 -- those of the deepest command or assertion of a file
 abbrev pub items_depth : List Item → ℕ

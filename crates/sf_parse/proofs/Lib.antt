@@ -10,3 +10,4 @@ pub mod Law
 pub mod Once
 pub mod OnceAssertions
 pub mod OnceFiles
+pub mod Depths

@@ -1,20 +1,17 @@
 -- Tokens spell one tree alone: names, expressions, tests, what calls are given, and fields.
-use Rattle.std.proofs.Common.{◌≡◌, ℕ, zero, suc, List, [], ◌∷◌, length, Bool, true, false, Option, Some, None, refl, ap, sym, ◌∙◌, subst}
+use Rattle.std.proofs.Common.{◌≡◌, ℕ, List, [], ◌∷◌, length, refl, ap, sym, ◌∙◌, subst}
 use Rattle.sf_base.specs.declared.place.Place.{Place}
-use Rattle.sf_ast.specs.declared.assertion.SurfaceField.{SurfaceField}
 use Rattle.sf_ast.specs.declared.word.SurfaceExpr.{SurfaceExpr}
 use Rattle.sf_ast.specs.declared.word.SurfaceExpr.TheVariants as e
 use Rattle.sf_ast.specs.declared.word.SurfaceOperand.{SurfaceOperand}
 use Rattle.sf_ast.specs.declared.word.SurfaceOperand.TheVariants as v
-use Rattle.sf_ast.specs.declared.word.SurfaceTest.{SurfaceTest}
-use Rattle.sf_ast.specs.declared.word.SurfaceTest.TheVariants as t
 use Rattle.sf_ast.specs.declared.word.Word.{Word}
 use Rattle.sf_ast.specs.Surface as s
 use Rattle.sf_lex.specs.declared.token.Kind.{Kind}
 use Rattle.sf_lex.specs.declared.token.Kind.TheVariants as k
 use Rattle.sf_lex.specs.declared.token.Token.{Token}
 use Rattle.sf_parse.specs.Grammar as g
-use Rattle.sf_parse.specs.Placed.{WordAt, PlaceAt, MoreNamesAt, NamesAt, MaybeNamesAt, ParametersAt, ExprAt, MoreExprsAt, MaybeExprsAt, ArgumentsAt, CallAt, OperandAt, TestAt, FieldAt, MoreFieldsAt, MaybeFieldsAt}
+use Rattle.sf_parse.specs.Placed.{WordAt, PlaceAt, MoreNamesAt, MaybeNamesAt, ParametersAt, ExprAt, MoreExprsAt, MaybeExprsAt, ArgumentsAt, CallAt, OperandAt}
 
 -- one tree, and one rest
 abbrev pub Same : {A : Type 0} → A → A → List Kind → List Kind → Type 0

@@ -1,6 +1,5 @@
 -- Tokens spell one assertion alone.
-use Rattle.std.proofs.Common.{◌≡◌, ◌-◌, ℕ, zero, suc, List, [], ◌∷◌, length, Bool, true, false, Option, Some, None, refl, ap, sym, ◌∙◌, subst}
-use Rattle.sf_base.specs.declared.place.Place.{Place}
+use Rattle.std.proofs.Common.{◌≡◌, ◌-◌, ℕ, List, [], ◌∷◌, refl, ap, sym, ◌∙◌, subst}
 use Rattle.sf_ast.specs.declared.assertion.SurfaceField.{SurfaceField}
 use Rattle.sf_ast.specs.declared.word.SurfaceExpr.{SurfaceExpr}
 use Rattle.sf_ast.specs.declared.word.SurfaceExpr.TheVariants as e
@@ -8,15 +7,14 @@ use Rattle.sf_ast.specs.declared.word.SurfaceOperand.{SurfaceOperand}
 use Rattle.sf_ast.specs.declared.word.SurfaceOperand.TheVariants as v
 use Rattle.sf_ast.specs.declared.word.SurfaceTest.{SurfaceTest}
 use Rattle.sf_ast.specs.declared.word.SurfaceTest.TheVariants as t
-use Rattle.sf_ast.specs.declared.word.Word.{Word}
 use Rattle.sf_ast.specs.Surface as s
 use Rattle.sf_lex.specs.declared.token.Kind.{Kind}
 use Rattle.sf_lex.specs.declared.token.Kind.TheVariants as k
 use Rattle.sf_lex.specs.declared.token.Token.{Token}
 use Rattle.sf_parse.specs.Grammar as g
-use Rattle.sf_parse.specs.Placed.{WordAt, PlaceAt, MoreNamesAt, NamesAt, MaybeNamesAt, ParametersAt, ExprAt, MoreExprsAt, MaybeExprsAt, ArgumentsAt, CallAt, OperandAt, TestAt, FieldAt, MoreFieldsAt, MaybeFieldsAt, ConjunctAt, AssertionAt, NoteAt, MaybeNoteAt, CommandAt, CommandsAt, LocalsAt, ResourceAt, ProcedureAt, ItemAt, ItemsAt, from_close, from_open}
-use Rattle.sf_parse.specs.Nesting.{NotElse, Follows, IsClosed, ConjunctWithin, AssertionWithin, RestWithin, NoteWithin, MaybeWithin}
-use Rattle.sf_parse.proofs.Forth.{by_expr, by_operand, closed_ends, ends_before, AfterConjunct}
+use Rattle.sf_parse.specs.Placed.{ExprAt, OperandAt, TestAt, FieldAt, MoreFieldsAt, MaybeFieldsAt, ConjunctAt, AssertionAt}
+use Rattle.sf_parse.specs.Nesting.{ConjunctWithin, AssertionWithin, RestWithin}
+use Rattle.sf_parse.proofs.Forth.{by_operand, closed_ends, ends_before, AfterConjunct}
 use Rattle.sf_parse.proofs.Means.{NotStar, Ends}
 use Rattle.sf_parse.proofs.Once.{Same, word_once, place_once, expr_once, operand_once, NotComma, comma_wrong, NotName, name_wrong, cons_once}
 

@@ -1,27 +1,20 @@
 -- Tokens spell one file alone.
-use Rattle.std.proofs.Common.{◌≡◌, ◌-◌, ℕ, zero, suc, List, [], ◌∷◌, length, Bool, true, false, Option, Some, None, refl, ap, sym, ◌∙◌, subst}
+use Rattle.std.proofs.Common.{◌≡◌, ◌-◌, ℕ, List, [], ◌∷◌, Option, Some, None, refl, ap, sym, ◌∙◌, subst}
 use Rattle.sf_base.specs.declared.place.Place.{Place}
-use Rattle.sf_ast.specs.declared.assertion.SurfaceField.{SurfaceField}
-use Rattle.sf_ast.specs.declared.word.SurfaceExpr.{SurfaceExpr}
-use Rattle.sf_ast.specs.declared.word.SurfaceExpr.TheVariants as e
-use Rattle.sf_ast.specs.declared.word.SurfaceOperand.{SurfaceOperand}
-use Rattle.sf_ast.specs.declared.word.SurfaceOperand.TheVariants as v
-use Rattle.sf_ast.specs.declared.word.SurfaceTest.{SurfaceTest}
-use Rattle.sf_ast.specs.declared.word.SurfaceTest.TheVariants as t
 use Rattle.sf_ast.specs.declared.word.Word.{Word}
 use Rattle.sf_ast.specs.Surface as s
 use Rattle.sf_lex.specs.declared.token.Kind.{Kind}
 use Rattle.sf_lex.specs.declared.token.Kind.TheVariants as k
 use Rattle.sf_lex.specs.declared.token.Token.{Token}
 use Rattle.sf_parse.specs.Grammar as g
-use Rattle.sf_parse.specs.Placed.{WordAt, PlaceAt, MoreNamesAt, NamesAt, MaybeNamesAt, ParametersAt, ExprAt, MoreExprsAt, MaybeExprsAt, ArgumentsAt, CallAt, OperandAt, TestAt, FieldAt, MoreFieldsAt, MaybeFieldsAt, ConjunctAt, AssertionAt, NoteAt, MaybeNoteAt, CommandAt, CommandsAt, LocalsAt, ResourceAt, ProcedureAt, ItemAt, ItemsAt, from_close, from_open}
+use Rattle.sf_parse.specs.Placed.{NamesAt, NoteAt, MaybeNoteAt, CommandAt, CommandsAt, LocalsAt, ResourceAt, ProcedureAt, ItemAt, ItemsAt, from_close, from_open}
 use Rattle.sf_base.specs.declared.limits.TheConstants.{NESTING}
 use Rattle.sf_parse.specs.Nesting.{NotElse, Follows, CommandWithin, CommandsWithin, NoteWithin, MaybeWithin, ItemWithin, ItemsWithin}
 use Rattle.sf_parse.proofs.Back.{follows_else}
 use Rattle.sf_parse.proofs.Forth.{by_expr, by_operand}
 use Rattle.sf_parse.proofs.ForthFiles.{follows_any, no_else_fronts}
 use Rattle.sf_parse.proofs.Once.{Same, word_once, place_once, expr_once, more_names_once, maybe_names_once, parameters_once, call_once, cons_once}
-use Rattle.sf_parse.proofs.OnceAssertions.{test_once, two_once, rest_within, assertion_once}
+use Rattle.sf_parse.proofs.OnceAssertions.{test_once, rest_within, assertion_once}
 
 -- which command the first tokens begin
 data Shape : Type 0 where

@@ -1,6 +1,8 @@
 -- Laws of reading a file, in words of their own: the machine's verdict is that of the grammar.
 -- Ordinary: the viable prefix property, as in Aho, Sethi, Ullman, "Compilers" (1986), section 4.1.
-use Rattle.std.specs.Prelude.{◌≡◌, suc, List, [], ◌∷◌, ◌++◌, length}
+use Rattle.std.specs.Prelude.{◌≡◌, ◌≤◌, suc, List, [], ◌∷◌, ◌++◌, length}
+use Rattle.sf_base.specs.declared.limits.TheConstants.{NESTING}
+use Rattle.sf_ast.specs.Depth.{items_depth}
 use Rattle.sf_ast.specs.Surface.{Item}
 use Rattle.sf_lex.specs.declared.token.Kind.{Kind}
 use Rattle.sf_lex.specs.declared.token.Token.{Token}
@@ -34,3 +36,7 @@ TheVerdictIsExact = (ts : List Kind) → IsExact ts
 -- tokens are at most one file: its tree, with the places of its nodes
 abbrev pub EachFileIsOne : Type 0
 EachFileIsOne = (ts : List Token) (one two : List Item) → IsFile ts one → IsFile ts two → one ≡ two
+
+-- nothing in a file is deeper than the limit
+abbrev pub EachFileIsShallow : Type 0
+EachFileIsShallow = (ts : List Token) (tree : List Item) → IsFile ts tree → items_depth tree ≤ NESTING

@@ -137,65 +137,80 @@ abbrev pub on_operand : Kind → List Owed → Choice
 on_operand k.Existential ss = take ss
 on_operand t ss = on_expression t ss
 
+-- `==` or `!=`
 abbrev pub on_equality : Kind → Choice
 on_equality k.EqualEqual = take []
 on_equality k.NotEqual = take []
 on_equality t = refuse
 
+-- a test over expressions
 abbrev pub on_test : Kind → Choice
 on_test k.True = take []
 on_test t = on_expression t (equality ∷ expression ∷ [])
 
+-- a test over operands
 abbrev pub on_operand_test : Kind → Choice
 on_operand_test k.True = take []
 on_operand_test t = on_operand t (equality ∷ operand ∷ [])
 
+-- a test behind the `if` of an assertion
 abbrev pub on_if_test : Kind → Choice
 on_if_test k.OpenRound = take (operand_test ∷ exact close_round ∷ [])
 on_if_test t = on_operand_test t
 
+-- names behind a first one
 abbrev pub on_more_names : Kind → Choice
 on_more_names k.Comma = take (exact a_name ∷ more_names ∷ [])
 on_more_names t = skip
 
+-- names, or none
 abbrev pub on_maybe_names : Kind → Choice
 on_maybe_names k.Name = take (more_names ∷ [])
 on_maybe_names t = skip
 
+-- value parameters behind a `;`, or none
 abbrev pub on_maybe_values : Kind → Choice
 on_maybe_values k.Semicolon = take (maybe_names ∷ [])
 on_maybe_values t = skip
 
+-- an expression behind a comma in a call
 abbrev pub on_next : Bool → Kind → Choice
 on_next b k.Name = take (rest b ∷ [])
 on_next b t = on_expression t (rest false ∷ [])
 
+-- what stands behind the `(` of a call
 abbrev pub on_maybe_arguments : Kind → Choice
 on_maybe_arguments k.Semicolon = take (maybe_expressions ∷ [])
 on_maybe_arguments t = or_skip (on_next true t)
 
+-- what stands behind an expression in a call
 abbrev pub on_rest : Bool → Kind → Choice
 on_rest b k.Comma = take (next b ∷ [])
 on_rest true k.Semicolon = take (maybe_expressions ∷ [])
 on_rest b t = skip
 
+-- expressions, or none
 abbrev pub on_maybe_expressions : Kind → Choice
 on_maybe_expressions t = or_skip (on_expression t (more_expressions ∷ []))
 
+-- expressions behind a first one
 abbrev pub on_more_expressions : Kind → Choice
 on_more_expressions k.Comma = take (expression ∷ more_expressions ∷ [])
 on_more_expressions t = skip
 
+-- what stands behind the first operand of a conjunct
 abbrev pub on_relation : Kind → Choice
 on_relation k.EqualEqual = take (operand ∷ [])
 on_relation k.NotEqual = take (operand ∷ [])
 on_relation k.PointsTo = take (maybe_fields ∷ [])
 on_relation t = refuse
 
+-- fields, or none
 abbrev pub on_maybe_fields : Kind → Choice
 on_maybe_fields k.Name = take (exact a_colon ∷ operand ∷ more_fields ∷ [])
 on_maybe_fields t = skip
 
+-- fields behind a first one
 abbrev pub on_more_fields : Kind → Choice
 on_more_fields k.Comma = take (exact a_name ∷ exact a_colon ∷ operand ∷ more_fields ∷ [])
 on_more_fields t = skip
@@ -211,34 +226,41 @@ on_conjunct d k.List ss = take (exact open_round ∷ operand ∷ exact close_rou
 on_conjunct d k.Tree ss = take (exact open_round ∷ operand ∷ exact close_round ∷ ss)
 on_conjunct d t ss = on_operand t (relation ∷ ss)
 
+-- conjuncts behind a first one
 abbrev pub on_more_conjuncts : ℕ → Kind → Choice
 on_more_conjuncts d k.Star = take (conjunct d ∷ more_conjuncts d ∷ [])
 on_more_conjuncts d t = skip
 
+-- a note, or none
 abbrev pub on_maybe_note : Kind → Choice
 on_maybe_note k.OpenSquare = take (maybe_assertion ∷ exact close_square ∷ [])
 on_maybe_note t = skip
 
+-- what stands behind the name that begins a command
 abbrev pub on_named : Kind → Choice
 on_named k.Equals = take (assigned ∷ [])
 on_named k.Arrow = take (exact a_name ∷ exact equals ∷ expression ∷ exact semicolon ∷ [])
 on_named k.OpenRound = take (maybe_arguments ∷ exact close_round ∷ after_call ∷ [])
 on_named t = refuse
 
+-- what stands behind the `=` there
 abbrev pub on_assigned : Kind → Choice
 on_assigned k.New = take (exact open_round ∷ exact close_round ∷ exact semicolon ∷ [])
 on_assigned t = on_expression t (look_up_or_end ∷ [])
 
+-- what stands behind the expression there
 abbrev pub on_look_up_or_end : Kind → Choice
 on_look_up_or_end k.Semicolon = take []
 on_look_up_or_end k.Arrow = take (exact a_name ∷ exact semicolon ∷ [])
 on_look_up_or_end t = refuse
 
+-- what stands behind a call
 abbrev pub on_after_call : Kind → Choice
 on_after_call k.Semicolon = take []
 on_after_call k.Bars = take (exact a_name ∷ exact open_round ∷ maybe_arguments ∷ exact close_round ∷ exact semicolon ∷ [])
 on_after_call t = refuse
 
+-- what stands behind `dispose`
 abbrev pub on_disposed : Kind → Choice
 on_disposed k.OpenRound = take (expression ∷ exact close_round ∷ exact semicolon ∷ [])
 on_disposed t = on_expression t (exact semicolon ∷ [])
@@ -253,14 +275,17 @@ on_command d k.With ss = take (exact a_name ∷ exact when_word ∷ exact open_r
 on_command d k.OpenBrace ss = take (commands (d - 1) ∷ exact close_brace ∷ ss)
 on_command d t ss = on_expression t (exact an_arrow ∷ exact a_name ∷ exact equals ∷ expression ∷ exact semicolon ∷ ss)
 
+-- the `else` of an `if`, or none
 abbrev pub on_branch : ℕ → Kind → Choice
 on_branch d k.Else = take (command d ∷ [])
 on_branch d t = skip
 
+-- the `local`s of a body
 abbrev pub on_locals : Kind → Choice
 on_locals k.Local = take (exact a_name ∷ more_names ∷ exact semicolon ∷ locals ∷ [])
 on_locals t = skip
 
+-- what stands behind the name that begins an item
 abbrev pub on_item_named : Kind → Choice
 on_item_named k.Comma = take (exact a_name ∷ more_names ∷ exact semicolon ∷ [])
 on_item_named k.Semicolon = take []
@@ -268,6 +293,7 @@ on_item_named k.OpenRound =
     take (maybe_names ∷ maybe_values ∷ exact close_round ∷ maybe_note ∷ exact open_brace ∷ locals ∷ commands NESTING ∷ exact close_brace ∷ maybe_note ∷ [])
 on_item_named t = refuse
 
+-- items
 abbrev pub on_items : Kind → Choice
 on_items k.Name = take (item_named ∷ items ∷ [])
 on_items k.Resource = take (exact a_name ∷ exact open_round ∷ maybe_names ∷ exact close_round ∷ exact open_square ∷ maybe_assertion ∷ exact close_square ∷ items ∷ [])
@@ -323,10 +349,12 @@ pub data Next : Type 0 where
   bad : Next
   deep : Next
 
+-- a stack, if there is a level for it
 abbrev pub leveled : Bool → List Owed → Next
 leveled true st = goes st
 leveled false st = deep
 
+-- what comes of a choice
 abbrev pub chosen : Choice → (free : Bool) → List Owed → Next → Next
 chosen (take ss) free st without = leveled free (ss ++ st)
 chosen skip free st without = without
@@ -357,6 +385,7 @@ is_optional locals = true
 is_optional items = true
 is_optional _ = false
 
+-- both are true
 abbrev pub both : Bool → Bool → Bool
 both true b = b
 both false b = false
@@ -372,10 +401,12 @@ pub data Verdict : Type 0 where
   unexpected : ℕ → Verdict
   too_deep : ℕ → Verdict
 
+-- the verdict at the end of the file
 abbrev pub at_end : Bool → Verdict
 at_end true = accepted
 at_end false = unexpected 0
 
+-- the verdict behind one token
 abbrev pub after : (List Owed → Verdict) → ℕ → Next → Verdict
 after f left (goes st) = f st
 after f left bad = unexpected left

@@ -1,6 +1,6 @@
 //! Laws of reading a file. Each function does nothing; its contract is the law.
 
-ghost use Rattle.sf_parse.specs.Laws.{EachFileIsOne, TheVerdictIsExact};
+ghost use Rattle.sf_parse.specs.Laws.{EachFileIsOne, EachFileIsShallow, TheVerdictIsExact};
 
 /// What is owed decides exactly as the grammar does: which tokens are a file, and where the others go wrong.
 pub fn the_verdict_is_exact()
@@ -10,4 +10,9 @@ pub fn the_verdict_is_exact()
 /// Tokens are at most one file: each `else` and each branch of an assertion has its place.
 pub fn each_file_is_one()
     ensures { EachFileIsOne }
+{}
+
+/// Nothing in a file is nested deeper than the limit.
+pub fn each_file_is_shallow()
+    ensures { EachFileIsShallow }
 {}
