@@ -11,7 +11,7 @@ use Rattle.sf_sym.specs.declared.atom.Atom.TheVariants.{Points, Ls, Tree}
 use Rattle.sf_sym.specs.declared.atom.Numbered.{Numbered}
 use Rattle.sf_sym.specs.declared.state.Links.{Links}
 use Rattle.sf_sym.specs.declared.term.Term.{Term}
-use Rattle.sf_sym.specs.Each.{Each}
+use Rattle.std.specs.List.{AllByRecursion}
 use Rattle.sf_sym.specs.Holds.{AtomHolds, AtomsHold}
 use Rattle.sf_sym.specs.Tests.{same_term}
 use Rattle.sf_sym.proofs.Terms.{same_term_is}
@@ -66,25 +66,25 @@ find-cell w links (x ∷ xs) number root fields heap e s = go (x.number == numbe
         }
 
 -- the cells stay in order
-pub with-order : (atoms : List Numbered) (number : ℕ) (root : Term) (new : List (FieldId × Term)) → Each (λ (a : Numbered). HasOrder a.atom) atoms → AreOrdered new → Each (λ (a : Numbered). HasOrder a.atom) (with_fields atoms number root new)
+pub with-order : (atoms : List Numbered) (number : ℕ) (root : Term) (new : List (FieldId × Term)) → AllByRecursion (λ (a : Numbered). HasOrder a.atom) atoms → AreOrdered new → AllByRecursion (λ (a : Numbered). HasOrder a.atom) (with_fields atoms number root new)
 with-order [] number root new o n = tt
 with-order (x ∷ xs) number root new o n = go (x.number == number) (with-order xs number root new o.1 n)
   where
-    go : (b : Bool) → Each (λ (a : Numbered). HasOrder a.atom) (with_fields xs number root new)
-        → Each (λ (a : Numbered). HasOrder a.atom) (cond b (record { number = number; atom = Points root new } ∷ xs) (x ∷ with_fields xs number root new))
+    go : (b : Bool) → AllByRecursion (λ (a : Numbered). HasOrder a.atom) (with_fields xs number root new)
+        → AllByRecursion (λ (a : Numbered). HasOrder a.atom) (cond b (record { number = number; atom = Points root new } ∷ xs) (x ∷ with_fields xs number root new))
     go true r = (n, o.1)
     go false r = (o.0, r)
 
-pub without-order : (atoms : List Numbered) (number : ℕ) → Each (λ (a : Numbered). HasOrder a.atom) atoms → Each (λ (a : Numbered). HasOrder a.atom) (without atoms number)
+pub without-order : (atoms : List Numbered) (number : ℕ) → AllByRecursion (λ (a : Numbered). HasOrder a.atom) atoms → AllByRecursion (λ (a : Numbered). HasOrder a.atom) (without atoms number)
 without-order [] number o = tt
 without-order (x ∷ xs) number o = go (x.number == number) (without-order xs number o.1)
   where
-    go : (b : Bool) → Each (λ (a : Numbered). HasOrder a.atom) (without xs number) → Each (λ (a : Numbered). HasOrder a.atom) (cond b xs (x ∷ without xs number))
+    go : (b : Bool) → AllByRecursion (λ (a : Numbered). HasOrder a.atom) (without xs number) → AllByRecursion (λ (a : Numbered). HasOrder a.atom) (cond b xs (x ∷ without xs number))
     go true r = o.1
     go false r = (o.0, r)
 
 -- the fields of a cell that is there are in order
-pub found-order : (atoms : List Numbered) (number : ℕ) (root : Term) (fields : List (FieldId × Term)) → cell_at atoms number root ≡ Some fields → Each (λ (a : Numbered). HasOrder a.atom) atoms → AreOrdered fields
+pub found-order : (atoms : List Numbered) (number : ℕ) (root : Term) (fields : List (FieldId × Term)) → cell_at atoms number root ≡ Some fields → AllByRecursion (λ (a : Numbered). HasOrder a.atom) atoms → AreOrdered fields
 found-order [] number root fields e o = absurd (cc)
 found-order (x ∷ xs) number root fields e o = go (x.number == number) e (λ f. found-order xs number root fields f o.1)
   where
@@ -93,6 +93,6 @@ found-order (x ∷ xs) number root fields e o = go (x.number == number) e (λ f.
     go false f r = r f
 
 -- one more atom behind the others
-pub order-append : (xs : List Numbered) (y : Numbered) → Each (λ (a : Numbered). HasOrder a.atom) xs → HasOrder y.atom → Each (λ (a : Numbered). HasOrder a.atom) (xs ++ y ∷ [])
+pub order-append : (xs : List Numbered) (y : Numbered) → AllByRecursion (λ (a : Numbered). HasOrder a.atom) xs → HasOrder y.atom → AllByRecursion (λ (a : Numbered). HasOrder a.atom) (xs ++ y ∷ [])
 order-append [] y o n = (n, tt)
 order-append (x ∷ xs) y o n = (o.0, order-append xs y o.1 n)

@@ -1,7 +1,7 @@
 -- The known fields of a cell: what is put among them is true of it, and they stay in order.
 -- Names: `put-LAW` speaks of `put_term`, `new-LAW` of `new_fields`.
 use Rattle.std.specs.Prelude.{◌≡◌, ℕ, ◌<◌, ◌==◌, Bool, true, false, cond, nat_lt, Option, Some, None, List, [], ◌∷◌}
-use Rattle.std.specs.List.{list_all}
+use Rattle.std.specs.List.{list_all, AllByRecursion}
 use Rattle.std.proofs.Common.{refl, sym, ap, ◌∙◌, subst, arith}
 use Rattle.std.proofs.lemmas.Bool.Decides.{nat_tests}
 use Rattle.sf_base.specs.declared.ids.FieldId.{FieldId}
@@ -12,7 +12,6 @@ use Rattle.sf_core.specs.HeapStore.{Cell, put_field}
 use Rattle.sf_core.specs.Sat.{operand, HasFields}
 use Rattle.sf_core.proofs.HeapSplits.{at-same, at-self}
 use Rattle.sf_sym.specs.declared.term.Term.{Term}
-use Rattle.sf_sym.specs.Each.{Each}
 use Rattle.sf_sym.proofs.Terms.{same_term_is}
 use Rattle.sf_sym.proofs.Bools.{and_left, and_right}
 use Rattle.sf_cli.specs.RowLaws.{AreOrdered}
@@ -20,7 +19,7 @@ use Rattle.sf_cli.specs.Table.{known, put_term, field_term, new_fields, has_term
 
 -- every field of the list comes behind that number
 abbrev pub AreBehind : ℕ → List (FieldId × Term) → Type 0
-AreBehind n fs = Each (λ (g : FieldId × Term). n < g.0.0) fs
+AreBehind n fs = AllByRecursion (λ (g : FieldId × Term). n < g.0.0) fs
 
 behind-mono : (m n : ℕ) (fs : List (FieldId × Term)) → m < n → AreBehind n fs → AreBehind m fs
 behind-mono m n [] d b = tt

@@ -1,6 +1,6 @@
 -- The numbers of symbols and atoms: by how much a row raises them, and that the row which the strategy chooses exists.
 use Rattle.std.proofs.Common.{◌≡◌, ℕ, suc, ◌+◌, ◌≤◌, ◌==◌, Bool, true, false, cond, Option, Some, None, List, [], ◌∷◌, ◌++◌, refl, sym, ◌∙◌, subst, arith}
-use Rattle.std.specs.List.{list_all}
+use Rattle.std.specs.List.{list_all, AllByRecursion}
 use Rattle.std.specs.Option.{option_map, option_and_then}
 use Rattle.std.proofs.lemmas.Bool.Decides.{Decides-eqb}
 use Rattle.sf_base.specs.declared.ids.FieldId.{FieldId}
@@ -14,7 +14,6 @@ use Rattle.sf_sym.specs.declared.state.State.{State}
 use Rattle.sf_sym.specs.declared.tag.Tag.{Tag}
 use Rattle.sf_sym.specs.declared.tag.Tag.TheVariants as t
 use Rattle.sf_sym.specs.declared.term.Term.{Term}
-use Rattle.sf_sym.specs.Each.{Each}
 use Rattle.sf_sym.specs.Goal.{Item, run, add, take, gave, head, again, exit, return, end, Goal}
 use Rattle.sf_sym.specs.Tests.{is_absurd}
 use Rattle.sf_cli.specs.Ends.{AreRising, HasNumbersAfter}
@@ -103,7 +102,7 @@ mutated_raises s u f v a s2 e = made_raises s (λ fields. record s { atoms = wit
 
 -- each goal that is left has numbers that were raised so
 abbrev RaisesAll : State → List Goal → Type 0
-RaisesAll s left = Each (λ h. Raises s h.state) left
+RaisesAll s left = AllByRecursion (λ h. Raises s h.state) left
 
 one_raises : (s : State) (todo : List Item) (o : Option State) (left : List Goal) → ((s2 : State) → o ≡ Some s2 → Raises s s2) → option_map (one_goal todo) o ≡ Some left → RaisesAll s left
 one_raises s todo o left each e = let m = made (one_goal todo) o left e in subst (RaisesAll s) (sym m.is) (each m.of m.there, tt)
@@ -237,18 +236,18 @@ row_raises g tag left e = with_numbers (has_numbers g.state) g.state g.todo tag 
 raised : (n : ℕ) (g h : Goal) → HasNumbersAfter n g → Raises g.state h.state → HasNumbersAfter (n + 1) h
 raised n g h k r = record { symbols = omega (arith, k.symbols, r.symbols); atoms = omega (arith, k.atoms, r.atoms); rising = r.rising k.rising }
 
-raised_all : (n : ℕ) (g : Goal) (left : List Goal) → HasNumbersAfter n g → RaisesAll g.state left → Each (HasNumbersAfter (n + 1)) left
+raised_all : (n : ℕ) (g : Goal) (left : List Goal) → HasNumbersAfter n g → RaisesAll g.state left → AllByRecursion (HasNumbersAfter (n + 1)) left
 raised_all n g [] k r = tt
 raised_all n g (h ∷ hs) k r = (raised n g h k r.0, raised_all n g hs k r.1)
 
-later_all : (n : ℕ) (gs : List Goal) → Each (HasNumbersAfter n) gs → Each (HasNumbersAfter (n + 1)) gs
+later_all : (n : ℕ) (gs : List Goal) → AllByRecursion (HasNumbersAfter n) gs → AllByRecursion (HasNumbersAfter (n + 1)) gs
 later_all n [] k = tt
 later_all n (g ∷ gs) k = (record { symbols = omega (arith, k.0.symbols); atoms = omega (arith, k.0.atoms); rising = k.0.rising }, later_all n gs k.1)
 
-each_append : (P : Goal → Type 0) (xs ys : List Goal) → Each P xs → Each P ys → Each P (xs ++ ys)
+each_append : (P : Goal → Type 0) (xs ys : List Goal) → AllByRecursion P xs → AllByRecursion P ys → AllByRecursion P (xs ++ ys)
 each_append P [] ys p q = q
 each_append P (x ∷ xs) ys p q = (p.0, each_append P xs ys p.1 q)
 
 -- the numbers of the goals that are open after one more tag
-pub numbers_after : (n : ℕ) (g : Goal) (gs : List Goal) (tag : Tag) (left : List Goal) → Each (HasNumbersAfter n) (g ∷ gs) → row g tag ≡ Some left → Each (HasNumbersAfter (n + 1)) (left ++ gs)
+pub numbers_after : (n : ℕ) (g : Goal) (gs : List Goal) (tag : Tag) (left : List Goal) → AllByRecursion (HasNumbersAfter n) (g ∷ gs) → row g tag ≡ Some left → AllByRecursion (HasNumbersAfter (n + 1)) (left ++ gs)
 numbers_after n g gs tag left k e = each_append (HasNumbersAfter (n + 1)) left gs (raised_all n g left k.0 (row_raises g tag left e)) (later_all n gs k.1)

@@ -20,7 +20,7 @@ use Rattle.sf_core.proofs.Cases.{either}
 use Rattle.sf_core.proofs.HeapSplits.{star-drop_left, star-drop_right, star-map, star-map_right}
 use Rattle.sf_sym.specs.declared.tag.Tag.{Tag}
 use Rattle.sf_sym.specs.declared.tag.Tag.TheVariants as t
-use Rattle.sf_sym.specs.Each.{Each}
+use Rattle.std.specs.List.{AllByRecursion}
 use Rattle.sf_sym.specs.Goal.{Pending, Item, run, add, take, exit, return, end, Goal}
 use Rattle.sf_sym.specs.Holds.{AtomsHold, AddsHold, HoldsAt}
 use Rattle.sf_cli.specs.Proves.{Proof}
@@ -113,7 +113,7 @@ past-none goal last c = go goal.todo refl
 abbrev pub Settles : Procedure → List machine.Item → Goal → Type 0
 Settles f todo goal = (w : ℕ → Value) (e : Var → Option Value) (share : Heap) → HoldsAt w goal e share → IsInOrder goal e → goal.state.taken ≡ [] → IsToDo f todo (past_adds goal.todo) → Owns f todo e share
 
-settle-step : (f : Procedure) (todo : List machine.Item) (goal : Goal) → Proof goal → (last : LastRow goal) → Each (Settles f todo) last.left → Settles f todo goal
+settle-step : (f : Procedure) (todo : List machine.Item) (goal : Goal) → Proof goal → (last : LastRow goal) → AllByRecursion (Settles f todo) last.left → Settles f todo goal
 settle-step f todo goal proof last ih w e share h o n d = go (works_out last.tag) refl
   where
     go : (b : Bool) → works_out last.tag ≡ b → Owns f todo e share
@@ -128,7 +128,7 @@ settle f todo goal proof = by-rows (Settles f todo) (settle-step f todo) goal pr
 
 -- THE NEXT COMMAND
 
-past-no_adds : (items : List Item) → Each IsNoAdd items → past_adds items ≡ items
+past-no_adds : (items : List Item) → AllByRecursion IsNoAdd items → past_adds items ≡ items
 past-no_adds [] n = refl
 past-no_adds (add p given ∷ items) n = absurd n.0
 past-no_adds (item ∷ items) n = refl
@@ -149,7 +149,7 @@ next-mutate f todo e share p root field value o atom x =
     let front = run (mutate p root field value) ∷ others in
     let order = spelled (λ g. IsInOrder g e) o.goal front o.to_do.1 o.order in
     let m = mutate-child o.goal o.last.left atom p root field value others o.to_do.1 (subst (λ z. row o.goal z ≡ Some o.last.left) x o.last.is) in
-    let proofs : Each Proof (record { state = m.state; todo = others } ∷ []) = subst (Each Proof) m.is o.last.proofs in
+    let proofs : AllByRecursion Proof (record { state = m.state; todo = others } ∷ []) = subst (AllByRecursion Proof) m.is o.last.proofs in
     let n = m.follows o.symbols e share order (spelled (λ g. HoldsAt o.symbols g e share) o.goal front o.to_do.1 o.kept) in (
       n.location,
       n.cell,
@@ -186,13 +186,13 @@ abbrev pub Closes : Goal → Type 0
 Closes goal = IsClosing goal.todo → (w : ℕ → Value) (e : Var → Option Value) (heap : Heap) → HoldsAt w goal e heap → IsInOrder goal e
     → (part : Heap) → AtomsHold w goal.state.links goal.state.atoms part → WantsHold w goal.todo part
 
-close-take : (goal : Goal) (last : LastRow goal) → Each Closes last.left → (p : Place) (want : Pending) (names : List (List ℕ)) (items : List Item) → goal.todo ≡ take p want names ∷ items → Closes goal
+close-take : (goal : Goal) (last : LastRow goal) → AllByRecursion Closes last.left → (p : Place) (want : Pending) (names : List (List ℕ)) (items : List Item) → goal.todo ≡ take p want names ∷ items → Closes goal
 close-take goal last ih p want names items i c w e heap h o part a =
     elim (front-take goal last.tag last.left p want names items (row-at goal (take p want names ∷ items) last.tag last.left i last.is)) [
       | inl x ↦ never w goal last.tag last.left e heap x last.is h
       | inr x ↦
           let m = cell-child goal last.left x.0 (subst (λ z. row goal z ≡ Some last.left) x.1 last.is) in
-          let child : Each Closes (m.child ∷ []) = subst (Each Closes) m.is ih in
+          let child : AllByRecursion Closes (m.child ∷ []) = subst (AllByRecursion Closes) m.is ih in
           let d = m.hands w part a in
           d.wants d.rest part d.splits (child.0 (m.closing c) w e heap (m.kept w e heap o h) (m.order e o) d.rest d.atoms)
     ]
@@ -204,7 +204,7 @@ close-end goal last p items i c w e heap h o part a =
       | inr x ↦ subst (λ z. WantsHold w z part) (sym i) (row-end w goal last.left part (subst (λ z. row goal z ≡ Some last.left) x last.is) a)
     ]
 
-close-step : (goal : Goal) → Proof goal → (last : LastRow goal) → Each Closes last.left → Closes goal
+close-step : (goal : Goal) → Proof goal → (last : LastRow goal) → AllByRecursion Closes last.left → Closes goal
 close-step goal proof last ih = go goal.todo refl
   where
     go : (items : List Item) → goal.todo ≡ items → Closes goal
@@ -229,7 +229,7 @@ owns-end p f e share i o =
     either (front-return o.goal o.last.tag o.last.left f.end f.post [] r) (λ x. not-absurd o.goal o.last x o.goes) (λ x.
     let left = return-left o.goal o.last.left f.end f.post [] o.to_do (subst (λ z. row o.goal z ≡ Some o.last.left) x o.last.is) in
     let child : Goal = record { state = o.goal.state; todo = returning f.end o.goal.state f.post } in
-    let proofs : Each Proof (child ∷ []) = subst (Each Proof) left o.last.proofs in
+    let proofs : AllByRecursion Proof (child ∷ []) = subst (AllByRecursion Proof) left o.last.proofs in
     let owes = return-owes o.symbols o.goal e share f.end f.post [] p f o.order.covers i o.to_do o.kept in
     owes.wants share
     (closes child proofs.0 (return-closing f.end o.goal.state f.post) o.symbols e share owes.kept (return-order f.end o.goal f.post e o.order) share (all-atoms f e share o)))

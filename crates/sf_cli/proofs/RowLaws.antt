@@ -1,7 +1,7 @@
 -- The laws of the rows of the table, each its own lemma.
 -- Names: `row-TAG` is the law of the row of that tag; `TAG-child` says besides which goal is left.
 use Rattle.std.specs.Prelude.{◌≡◌, ℕ, Bool, true, false, cond, Option, Some, None, List, [], ◌∷◌, ◌++◌, get_or}
-use Rattle.std.specs.List.{list_all}
+use Rattle.std.specs.List.{list_all, AllByRecursion}
 use Rattle.std.specs.Option.{option_map, option_and_then}
 use Rattle.std.proofs.Common.{refl, sym, ap, ◌∙◌, subst, inl}
 use Rattle.sf_base.specs.declared.ids.FieldId.{FieldId}
@@ -24,7 +24,6 @@ use Rattle.sf_sym.specs.declared.tag.Tag.{Tag}
 use Rattle.sf_sym.specs.declared.tag.Tag.TheVariants as t
 use Rattle.sf_sym.specs.declared.term.Term.{Term}
 use Rattle.sf_sym.specs.declared.term.Term.TheVariants.{Nil, Int, Sym}
-use Rattle.sf_sym.specs.Each.{Each}
 use Rattle.sf_sym.specs.Goal.{Pending, Item, run, add, take, return, end, Goal}
 use Rattle.sf_sym.specs.Holds.{term_value, Agrees, Differ, AtomHolds, AtomsHold, IsBound, PendingHolds, AddsHold, HoldsAt}
 use Rattle.sf_sym.specs.Tests.{is_absurd}
@@ -64,7 +63,7 @@ absurd-never w goal left e heap r h = go (is_absurd goal.state) refl (row-is goa
 pub row-absurd : AbsurdKeepsMeaning
 row-absurd w goal left e heap o r h = absurd (absurd-never w goal left e heap r h)
 
-pub each-append : {X : Type 0} (P : X → Type 0) (xs ys : List X) → Each P xs → Each P ys → Each P (xs ++ ys)
+pub each-append : {X : Type 0} (P : X → Type 0) (xs ys : List X) → AllByRecursion P xs → AllByRecursion P ys → AllByRecursion P (xs ++ ys)
 each-append P [] ys a b = b
 each-append P (x ∷ xs) ys a b = (a.0, each-append P xs ys a.1 b)
 
@@ -94,7 +93,7 @@ new-cell w some s after (points p (Exists n) fs) e = absurd (cc)
 new-cell w some s after c e = absurd (cc)
 
 -- a term whose value is a location differs from nil
-apart-nil : (w : ℕ → Value) (root : Term) (location : ℕ) → term_value w root ≡ loc location → Each (Differ w) (apart_from_nil root)
+apart-nil : (w : ℕ → Value) (root : Term) (location : ℕ) → term_value w root ≡ loc location → AllByRecursion (Differ w) (apart_from_nil root)
 apart-nil w Nil location e = tt
 apart-nil w (Int i) location e = tt
 apart-nil w (Sym n) location e = (λ (d : w n ≡ nil). absurd (cc), tt)
@@ -107,7 +106,7 @@ rest-adds w some p (also c cs) bindings todo part b s = star-map_left (λ g x. (
 
 -- what holds with the first conjunct still to be assumed, holds with it assumed
 assume-one : (w some : ℕ → Value) (s after : State) (p : Place) (c : Conjunct Term) (cs : Conjuncts Term) (bindings : List (Option Term)) (todo : List Item) (e : Var → Option Value) (heap : Heap)
-    → assumed s c ≡ Some after → IsBound w bindings some → Each (Agrees w e) s.vars → Each (Differ w) s.apart
+    → assumed s c ≡ Some after → IsBound w bindings some → AllByRecursion (Agrees w e) s.vars → AllByRecursion (Differ w) s.apart
     → (AtomsHold w s.links s.atoms ⋆ (AtomsHold w s.links s.taken ⋆ (SatAll (also c cs) (term_value w) some ⋆ AddsHold w todo))) heap
     → HoldsAt w (record { state = after; todo = unless_none cs (add p (record { conjuncts = cs; bindings = bindings })) ++ todo }) e heap
 assume-one w some s after p c cs bindings todo e heap i b vars apart h =
@@ -167,7 +166,7 @@ add-kept s p (also c cs) bindings todo left r = go (assumed s c) refl r
           order = λ e o. record {
             covers = subst (λ (z : State). Covers z.vars e) (sym m.is) o.covers;
             adds = adds-order p cs (record { conjuncts = cs; bindings = bindings }) todo o.adds;
-            fields = subst (λ (z : State). Each (λ (a : Numbered). HasOrder a.atom) z.atoms) (sym m.is) (order-append s.atoms one o.fields m.order);
+            fields = subst (λ (z : State). AllByRecursion (λ (a : Numbered). HasOrder a.atom) z.atoms) (sym m.is) (order-append s.atoms one o.fields m.order);
           };
           kept = λ w e heap h. add-holds w s after p c cs bindings todo e heap d h;
         }
@@ -190,12 +189,12 @@ rows-keep_meaning tag c = absurd (cc)
 
 -- MUTATE
 
-no-adds : (w : ℕ → Value) (todo : List Item) (heap : Heap) → Each IsNoAdd todo → IsEmpty heap → AddsHold w todo heap
+no-adds : (w : ℕ → Value) (todo : List Item) (heap : Heap) → AllByRecursion IsNoAdd todo → IsEmpty heap → AddsHold w todo heap
 no-adds w [] heap n i = i
 no-adds w (add p given ∷ todo) heap n i = absurd n.0
 no-adds w (item ∷ todo) heap n i = i
 
-in-front : (todo : List Item) → Each IsNoAdd todo → AddsInFront todo
+in-front : (todo : List Item) → AllByRecursion IsNoAdd todo → AddsInFront todo
 in-front [] n = tt
 in-front (add p given ∷ todo) n = absurd n.0
 in-front (item ∷ todo) n = n.1
@@ -337,7 +336,7 @@ shown-cell s after c atom e = absurd (cc)
 abbrev pub taking : Place → Conjuncts Term → List (Option Term) → List (List ℕ) → List Item → List Item
 taking p cs bindings names todo = unless_none cs (take p (record { conjuncts = cs; bindings = bindings }) names) ++ todo
 
-taking-no_adds : (w : ℕ → Value) (p : Place) (cs : Conjuncts Term) (bindings : List (Option Term)) (names : List (List ℕ)) (todo : List Item) (heap : Heap) → Each IsNoAdd todo → IsEmpty heap → AddsHold w (taking p cs bindings names todo) heap
+taking-no_adds : (w : ℕ → Value) (p : Place) (cs : Conjuncts Term) (bindings : List (Option Term)) (names : List (List ℕ)) (todo : List Item) (heap : Heap) → AllByRecursion IsNoAdd todo → IsEmpty heap → AddsHold w (taking p cs bindings names todo) heap
 taking-no_adds w p none bindings names todo heap n i = no-adds w todo heap n i
 taking-no_adds w p (also c cs) bindings names todo heap n i = i
 
@@ -379,7 +378,7 @@ pub record Shown (goal : Goal) (left : List Goal) : Type 0 where
   pub closing : IsClosing goal.todo → IsClosing child.todo
 
 cell-kept : (w : ℕ → Value) (s after : State) (p : Place) (c : Conjunct Term) (cs : Conjuncts Term) (bindings : List (Option Term)) (names : List (List ℕ)) (todo : List Item) (atom : ℕ) (e : Var → Option Value) (heap : Heap)
-    → ShownCell s after c atom → Each IsNoAdd todo → HoldsAt w (record { state = s; todo = take p (record { conjuncts = also c cs; bindings = bindings }) names ∷ todo }) e heap
+    → ShownCell s after c atom → AllByRecursion IsNoAdd todo → HoldsAt w (record { state = s; todo = take p (record { conjuncts = also c cs; bindings = bindings }) names ∷ todo }) e heap
     → HoldsAt w (record { state = after; todo = taking p cs bindings names todo }) e heap
 cell-kept w s after p c cs bindings names todo atom e heap m n h =
     let f = find-cell w s.links s.atoms atom m.root m.fields h.heaps.left m.found h.heaps.first in
@@ -405,7 +404,7 @@ cell-hands w s after p c cs bindings names todo atom heap m h =
       wants = λ more both s x. taking-wants w p c cs bindings names todo f.part more both (λ some. m.means w some f.part f.here) s x;
     }
 
-taking-order : (p : Place) (cs : Conjuncts Term) (bindings : List (Option Term)) (names : List (List ℕ)) (todo : List Item) → Each IsNoAdd todo → AddsInFront (taking p cs bindings names todo)
+taking-order : (p : Place) (cs : Conjuncts Term) (bindings : List (Option Term)) (names : List (List ℕ)) (todo : List Item) → AllByRecursion IsNoAdd todo → AddsInFront (taking p cs bindings names todo)
 taking-order p none bindings names todo n = in-front todo n
 taking-order p (also c cs) bindings names todo n = n
 
@@ -425,7 +424,7 @@ cell-front s p (also c cs) bindings names todo atom left r = go (handed_over s c
           order = λ e o. record {
             covers = subst (λ (z : State). Covers z.vars e) (sym m.is) o.covers;
             adds = taking-order p cs bindings names todo o.adds;
-            fields = subst (λ (z : State). Each (λ (a : Numbered). HasOrder a.atom) z.atoms) (sym m.is) (without-order s.atoms atom o.fields);
+            fields = subst (λ (z : State). AllByRecursion (λ (a : Numbered). HasOrder a.atom) z.atoms) (sym m.is) (without-order s.atoms atom o.fields);
           };
           kept = λ w e heap o h. cell-kept w s after p c cs bindings names todo atom e heap m o.adds h;
           hands = λ w heap h. cell-hands w s after p c cs bindings names todo atom heap m h;
@@ -460,7 +459,7 @@ wanted-all w p q (also c cs) bindings names heap h = let d : PendingHolds w (rec
 
 -- the conjuncts of an assertion, which hold of the terms, make the assertion
 level-holds : (w : ℕ → Value) (vars : List (Var × Term)) (e : Var → Option Value) (p : Program) (f : Procedure) (a : Level Expr) (some : ℕ → Value) (heap : Heap)
-    → Covers vars e → Each (Agrees w e) vars → LevelWithin p.fields (IsParameter p f) [] a → SatAll (conjuncts_with (term vars) (conjuncts_of a)) (term_value w) some heap → Sat a (value_at e) (λ n. nil) heap
+    → Covers vars e → AllByRecursion (Agrees w e) vars → LevelWithin p.fields (IsParameter p f) [] a → SatAll (conjuncts_with (term vars) (conjuncts_of a)) (term_value w) some heap → Sat a (value_at e) (λ n. nil) heap
 level-holds w vars e p f (level made cs) some heap c a i s =
     sat-outermost p.fields (IsParameter p f) (value_at e) made cs some (λ n. nil) heap i
     (subst (λ z. SatAll cs z some heap) (values-are w e vars c a) (subst (λ z. z) (conjuncts-with (term vars) (term_value w) cs some heap) s))
@@ -516,33 +515,33 @@ row-return w goal left e heap place post todo p f o i j r h = subst (SomeOf (Owe
 -- ALL ROWS
 
 -- a goal that is left by no other row than these
-none-left : (e : Var → Option Value) (left : List Goal) (b : Bool) → cond b (Some []) None ≡ Some left → Each (λ child. IsInOrder child e) left
-none-left e left true r = let i : [] ≡ left = cc in subst (Each (λ child. IsInOrder child e)) i tt
+none-left : (e : Var → Option Value) (left : List Goal) (b : Bool) → cond b (Some []) None ≡ Some left → AllByRecursion (λ child. IsInOrder child e) left
+none-left e left true r = let i : [] ≡ left = cc in subst (AllByRecursion (λ child. IsInOrder child e)) i tt
 none-left e left false r = absurd (cc)
 
-end-order : (s : State) (todo : List Item) (e : Var → Option Value) (left : List Goal) → end_row s todo ≡ Some left → Each (λ child. IsInOrder child e) left
+end-order : (s : State) (todo : List Item) (e : Var → Option Value) (left : List Goal) → end_row s todo ≡ Some left → AllByRecursion (λ child. IsInOrder child e) left
 end-order s [] e left r = absurd (cc)
 end-order s (end p ∷ todo) e left r = none-left e left (is_empty s.atoms) r
 end-order s (item ∷ todo) e left r = absurd (cc)
 
-one-left : (e : Var → Option Value) (child : Goal) (left : List Goal) → left ≡ child ∷ [] → IsInOrder child e → Each (λ child. IsInOrder child e) left
-one-left e child left i o = subst (Each (λ child. IsInOrder child e)) (sym i) (o, tt)
+one-left : (e : Var → Option Value) (child : Goal) (left : List Goal) → left ≡ child ∷ [] → IsInOrder child e → AllByRecursion (λ child. IsInOrder child e) left
+one-left e child left i o = subst (AllByRecursion (λ child. IsInOrder child e)) (sym i) (o, tt)
 
-mutate-order : (goal : Goal) (atom : ℕ) (left : List Goal) (e : Var → Option Value) → IsInOrder goal e → mutate_row goal.state goal.todo atom ≡ Some left → Each (λ child. IsInOrder child e) left
+mutate-order : (goal : Goal) (atom : ℕ) (left : List Goal) (e : Var → Option Value) → IsInOrder goal e → mutate_row goal.state goal.todo atom ≡ Some left → AllByRecursion (λ child. IsInOrder child e) left
 mutate-order goal atom left e o r = go goal.todo (spelled (λ g. IsInOrder g e) goal goal.todo refl o) r
   where
-    one : (c : Command) (todo : List Item) → IsInOrder (record { state = goal.state; todo = run c ∷ todo }) e → mutate_one goal.state c todo atom ≡ Some left → Each (λ child. IsInOrder child e) left
+    one : (c : Command) (todo : List Item) → IsInOrder (record { state = goal.state; todo = run c ∷ todo }) e → mutate_one goal.state c todo atom ≡ Some left → AllByRecursion (λ child. IsInOrder child e) left
     one (mutate p root field value) todo o r =
         let m = mutate-front goal.state atom left p root field value todo r in
         one-left e (record { state = m.state; todo = todo }) left m.is (m.order e o)
     one c todo o r = absurd (cc)
 
-    go : (todo : List Item) → IsInOrder (record { state = goal.state; todo = todo }) e → mutate_row goal.state todo atom ≡ Some left → Each (λ child. IsInOrder child e) left
+    go : (todo : List Item) → IsInOrder (record { state = goal.state; todo = todo }) e → mutate_row goal.state todo atom ≡ Some left → AllByRecursion (λ child. IsInOrder child e) left
     go [] o r = absurd (cc)
     go (run c ∷ todo) o r = one c todo o r
     go (item ∷ todo) o r = absurd (cc)
 
-return-kept : (goal : Goal) (left : List Goal) (e : Var → Option Value) → IsInOrder goal e → (todo : List Item) → return_row goal.state todo ≡ Some left → Each (λ child. IsInOrder child e) left
+return-kept : (goal : Goal) (left : List Goal) (e : Var → Option Value) → IsInOrder goal e → (todo : List Item) → return_row goal.state todo ≡ Some left → AllByRecursion (λ child. IsInOrder child e) left
 return-kept goal left e o [] r = absurd (cc)
 return-kept goal left e o (return p post ∷ todo) r =
     let i : one_goal (returning p goal.state post) goal.state ≡ left = cc in

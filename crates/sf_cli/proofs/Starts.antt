@@ -26,7 +26,7 @@ use Rattle.sf_core.proofs.HeapSplits.{star-drop_right, star-empty_left, star-emp
 use Rattle.sf_sym.specs.declared.tag.Tag.{Tag}
 use Rattle.sf_sym.specs.declared.term.Term.{Term}
 use Rattle.sf_sym.specs.declared.term.Term.TheVariants.{Nil, Sym}
-use Rattle.sf_sym.specs.Each.{Each}
+use Rattle.std.specs.List.{AllByRecursion}
 use Rattle.sf_sym.specs.Goal.{Item, return}
 use Rattle.sf_sym.specs.Holds.{term_value, Agrees, IsBound, AddsHold, HoldsAt}
 use Rattle.sf_cli.specs.Proves.{Proof, ProvesFrom, Proves}
@@ -55,13 +55,13 @@ abbrev pub first_vars : Procedure → List (Var × Term)
 first_vars f = symbols 0 (f.references + f.values) ++ nils (f.references + f.values) (length f.names - (f.references + f.values))
 
 -- P holds of each of that many numbers
-vars-symbols : (P : Var × Term → Type 0) (from count : ℕ) → ((i : ℕ) → from ≤ i → i < from + count → P (Own i, Sym i)) → Each P (symbols from count)
+vars-symbols : (P : Var × Term → Type 0) (from count : ℕ) → ((i : ℕ) → from ≤ i → i < from + count → P (Own i, Sym i)) → AllByRecursion P (symbols from count)
 vars-symbols P from zero f = tt
 vars-symbols P from (suc count) f =
     let r : from ≤ from = grind arith in let s : from < from + suc count = grind arith in
     (f from r s, vars-symbols P (suc from) count (λ i l m. let x : from ≤ i = grind arith in let y : i < from + suc count = grind arith in f i x y))
 
-vars-nils : (P : Var × Term → Type 0) (from count : ℕ) → ((i : ℕ) → from ≤ i → i < from + count → P (Own i, Nil)) → Each P (nils from count)
+vars-nils : (P : Var × Term → Type 0) (from count : ℕ) → ((i : ℕ) → from ≤ i → i < from + count → P (Own i, Nil)) → AllByRecursion P (nils from count)
 vars-nils P from zero f = tt
 vars-nils P from (suc count) f =
     let r : from ≤ from = grind arith in let s : from < from + suc count = grind arith in
@@ -150,7 +150,7 @@ run-empty : (w : ℕ → Value) (b : Block) (p : Place) (post : Assertion) (heap
 run-empty w done p post heap i = i
 run-empty w (then c b) p post heap i = i
 
-run-no_adds : (b : Block) (p : Place) (post : Assertion) → Each IsNoAdd (to_run b ++ (return p post ∷ []))
+run-no_adds : (b : Block) (p : Place) (post : Assertion) → AllByRecursion IsNoAdd (to_run b ++ (return p post ∷ []))
 run-no_adds done p post = (tt, tt)
 run-no_adds (then c b) p post = (tt, run-no_adds b p post)
 
@@ -204,7 +204,7 @@ module _ (p : Program) (f : ProcId) (store : Store) (heap : Heap) (c : Config) (
       missing : is_some (store (shared r i)) ≡ true → ⊥
       missing e = let m = there (store (shared r i)) e in let k = s.no_more (shared r i) m.0 m.1 in no-resource p r.0 k.0 no_resources k.1
 
-  first-agrees : Each (Agrees first_symbols entry_values) (first_vars s.procedure)
+  first-agrees : AllByRecursion (Agrees first_symbols entry_values) (first_vars s.procedure)
   first-agrees = each-append (Agrees first_symbols entry_values) (symbols 0 (s.procedure.references + s.procedure.values)) (nils (s.procedure.references + s.procedure.values) (length s.procedure.names - (s.procedure.references + s.procedure.values)))
       (vars-symbols (Agrees first_symbols entry_values) 0 (s.procedure.references + s.procedure.values) (λ i l m v e. sym (ap (λ o. unwrap_or o nil) e)))
       (vars-nils (Agrees first_symbols entry_values) (s.procedure.references + s.procedure.values) (length s.procedure.names - (s.procedure.references + s.procedure.values))

@@ -12,7 +12,7 @@ use Rattle.sf_core.specs.declared.command.Expr.{Expr}
 use Rattle.sf_core.specs.declared.command.Expr.TheVariants.{Var as Variable, Nil as ENil, Int as EInt}
 use Rattle.sf_core.proofs.HeapSplits.{at-same}
 use Rattle.sf_sym.specs.declared.term.Term.{Term}
-use Rattle.sf_sym.specs.Each.{Each}
+use Rattle.std.specs.List.{AllByRecursion}
 use Rattle.sf_sym.specs.Holds.{term_value, Agrees}
 use Rattle.sf_sym.proofs.Bools.{and_left, and_right}
 use Rattle.sf_cli.specs.RowLaws.{is_listed, Covers, value_at}
@@ -32,7 +32,7 @@ same_var-is (Shared r i) (Own j) e = absurd (cc)
 
 module _ (w : ℕ → Value) (e : Var → Option Value) where
   -- a variable with a value and a term has the term's value
-  listed-value : (vars : List (Var × Term)) (x : Var) (v : Value) → Each (Agrees w e) vars → e x ≡ Some v → is_listed vars x ≡ true → term_value w (term_at vars x) ≡ v
+  listed-value : (vars : List (Var × Term)) (x : Var) (v : Value) → AllByRecursion (Agrees w e) vars → e x ≡ Some v → is_listed vars x ≡ true → term_value w (term_at vars x) ≡ v
   listed-value [] x v a i l = absurd (cc)
   listed-value (y ∷ ys) x v a i l = go (same_var y.0 x) refl l (λ k. listed-value ys x v a.1 i k)
     where
@@ -49,18 +49,18 @@ module _ (w : ℕ → Value) (e : Var → Option Value) where
       go true k r = absurd (cc)
       go false k r = r k
 
-  pub variable-value : (vars : List (Var × Term)) → Covers vars e → Each (Agrees w e) vars → (x : Var) → term_value w (term_at vars x) ≡ unwrap_or (e x) nil
+  pub variable-value : (vars : List (Var × Term)) → Covers vars e → AllByRecursion (Agrees w e) vars → (x : Var) → term_value w (term_at vars x) ≡ unwrap_or (e x) nil
   variable-value vars c a x = go (e x) refl
     where
       go : (o : Option Value) → e x ≡ o → term_value w (term_at vars x) ≡ unwrap_or (e x) nil
       go None i = unlisted-value vars x (c x ∙ ap is_some i) ∙ ap (λ o. unwrap_or o nil) (sym i)
       go (Some v) i = listed-value vars x v a i (c x ∙ ap is_some i) ∙ ap (λ o. unwrap_or o nil) (sym i)
 
-  pub expression-value : (vars : List (Var × Term)) → Covers vars e → Each (Agrees w e) vars → (x : Expr) → term_value w (term vars x) ≡ value_at e x
+  pub expression-value : (vars : List (Var × Term)) → Covers vars e → AllByRecursion (Agrees w e) vars → (x : Expr) → term_value w (term vars x) ≡ value_at e x
   expression-value vars c a (Variable x) = variable-value vars c a x.var
   expression-value vars c a ENil = refl
   expression-value vars c a (EInt i) = refl
 
   -- the terms of all expressions have their values
-  pub values-are : (vars : List (Var × Term)) → Covers vars e → Each (Agrees w e) vars → (λ x. term_value w (term vars x)) ≡ value_at e
+  pub values-are : (vars : List (Var × Term)) → Covers vars e → AllByRecursion (Agrees w e) vars → (λ x. term_value w (term vars x)) ≡ value_at e
   values-are vars c a = λ j x. expression-value vars c a x j

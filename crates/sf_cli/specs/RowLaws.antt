@@ -22,7 +22,7 @@ use Rattle.sf_sym.specs.declared.atom.Numbered.{Numbered}
 use Rattle.sf_sym.specs.declared.tag.Tag.{Tag}
 use Rattle.sf_sym.specs.declared.tag.Tag.TheVariants as t
 use Rattle.sf_sym.specs.declared.term.Term.{Term}
-use Rattle.sf_sym.specs.Each.{Each}
+use Rattle.std.specs.List.{AllByRecursion}
 use Rattle.sf_sym.specs.Goal.{Item, run, add, take, return, Goal}
 use Rattle.sf_sym.specs.Holds.{AtomsHold, PendingHolds, HoldsAt, Holds}
 use Rattle.sf_cli.specs.Table.{same_var, first_goal, row}
@@ -54,12 +54,12 @@ IsNoAdd _ = Unit {0}
 abbrev pub AddsInFront : List Item → Type 0
 AddsInFront [] = Unit {0}
 AddsInFront (add p given ∷ todo) = AddsInFront todo
-AddsInFront (item ∷ todo) = Each IsNoAdd todo
+AddsInFront (item ∷ todo) = AllByRecursion IsNoAdd todo
 
 -- the fields stand in their order, each once
 abbrev pub AreOrdered : List (FieldId × Term) → Type 0
 AreOrdered [] = Unit {0}
-AreOrdered (f ∷ fs) = Each (λ (g : FieldId × Term). f.0.0 < g.0.0) fs × AreOrdered fs
+AreOrdered (f ∷ fs) = AllByRecursion (λ (g : FieldId × Term). f.0.0 < g.0.0) fs × AreOrdered fs
 
 -- a cell's fields are in order
 abbrev pub HasOrder : Atom → Type 0
@@ -71,11 +71,11 @@ HasOrder (Tree u) = Unit {0}
 pub record IsInOrder (goal : Goal) (e : Var → Option Value) : Type 0 where
   pub covers : Covers goal.state.vars e
   pub adds : AddsInFront goal.todo
-  pub fields : Each (λ (a : Numbered). HasOrder a.atom) goal.state.atoms
+  pub fields : AllByRecursion (λ (a : Numbered). HasOrder a.atom) goal.state.atoms
 
 -- each row keeps the order
 abbrev pub RowsKeepOrder : Type 0
-RowsKeepOrder = (goal : Goal) (left : List Goal) (e : Var → Option Value) (tag : Tag) → IsInOrder goal e → row goal tag ≡ Some left → Each (λ child. IsInOrder child e) left
+RowsKeepOrder = (goal : Goal) (left : List Goal) (e : Var → Option Value) (tag : Tag) → IsInOrder goal e → row goal tag ≡ Some left → AllByRecursion (λ child. IsInOrder child e) left
 
 -- the rows that only work out what is known, whatever is to be done next
 abbrev pub works_out : Tag → Bool

@@ -1,6 +1,6 @@
 -- What the atoms of a state tell of the heap: where they have cells, and that no two have one.
 -- Names: `located-LAW` speaks of a value that is the location of a cell, `atom-LAW` of one atom, `atoms-LAW` of a list of atoms.
-use Rattle.std.specs.List.{list_any}
+use Rattle.std.specs.List.{list_any, AllByRecursion}
 use Rattle.std.proofs.Common.{◌≡◌, ◌≢◌, ℕ, Bool, true, ◌&&◌, List, [], ◌∷◌, ◌++◌, Option, Some, None, refl, sym, ap, ◌∙◌, subst, inl, inr}
 use Rattle.sf_base.specs.declared.ids.FieldId.{FieldId}
 use Rattle.sf_base.specs.declared.value.Value.{Value}
@@ -12,7 +12,6 @@ use Rattle.sf_sym.specs.declared.atom.Numbered.{Numbered}
 use Rattle.sf_sym.specs.declared.state.Links.{Links}
 use Rattle.sf_sym.specs.declared.term.Term.{Term}
 use Rattle.sf_sym.specs.declared.term.Term.TheVariants.{Nil, Int, Sym}
-use Rattle.sf_sym.specs.Each.{Each}
 use Rattle.sf_sym.specs.Holds.{term_value, Differ, SegAlong, TreeAlong, AtomHolds, AtomsHold}
 use Rattle.sf_sym.specs.Laws.{IsLocationIn}
 use Rattle.sf_sym.specs.Tests.{same_term, is_constant, root, has_cell, allocates, is_integer_tree, is_impossible, has_repeat}
@@ -49,7 +48,7 @@ tree_along-located None right v h n s = absurd s
 tree_along-located (Some left) None v h n s = absurd s
 tree_along-located (Some left) (Some right) v h n s = let r = tree-root n s in record { location = r.location; here = r.here; is = r.is; there = one-in r.cell r.splits }
 
-module _ (w : ℕ → Value) (links : Links) (apart : List (Term × Term)) (differ : Each (Differ w) apart) where
+module _ (w : ℕ → Value) (links : Links) (apart : List (Term × Term)) (differ : AllByRecursion (Differ w) apart) where
   -- an atom with a cell has it at its root's value
   pub atom-located : (a : Atom) (h : Heap) → has_cell apart a ≡ true → AtomHolds w links a h → IsLocationIn h (term_value w (root a))
   atom-located (Points t fields) h e (location, here, is, one, f) = record { location = location; here = here; is = is; there = one.here }

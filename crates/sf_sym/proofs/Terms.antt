@@ -1,6 +1,6 @@
 -- What the tests of terms and of pairs tell of the terms' values.
 -- Names: `term-LAW` and `same_term_is` speak of a term, `pair-LAW` of one pair that differs, `pairs-LAW` of all, `direct-LAW` of terms that differ at once.
-use Rattle.std.specs.List.{list_any}
+use Rattle.std.specs.List.{list_any, AllByRecursion}
 use Rattle.std.specs.Ordering.{int_eq}
 use Rattle.std.proofs.Common.{◌≡◌, ◌≢◌, ℕ, true, ◌&&◌, not, List, [], ◌∷◌, refl, sym, ap, ◌∙◌, inl, inr}
 use Rattle.std.proofs.lemmas.Bool.Decides.{Decides-int_eq, Decides-eqb}
@@ -8,7 +8,6 @@ use Rattle.sf_base.specs.declared.value.Value.{Value}
 use Rattle.sf_base.specs.declared.value.Value.TheVariants.{Loc as loc}
 use Rattle.sf_sym.specs.declared.term.Term.{Term}
 use Rattle.sf_sym.specs.declared.term.Term.TheVariants.{Nil, Int, Sym}
-use Rattle.sf_sym.specs.Each.{Each}
 use Rattle.sf_sym.specs.Holds.{term_value, Differ}
 use Rattle.sf_sym.specs.Tests.{same_term, is_constant, is_pair, direct}
 use Rattle.sf_core.proofs.Cases.{or-which}
@@ -57,7 +56,7 @@ pair-differs w t u p d e q = elim (or-which (same_term p.0 t && same_term p.1 u)
 ]
 
 -- so have those of any pair of a list
-pub pairs-differ : (w : ℕ → Value) (apart : List (Term × Term)) (t u : Term) → Each (Differ w) apart → list_any (is_pair t u) apart ≡ true → term_value w t ≢ term_value w u
+pub pairs-differ : (w : ℕ → Value) (apart : List (Term × Term)) (t u : Term) → AllByRecursion (Differ w) apart → list_any (is_pair t u) apart ≡ true → term_value w t ≢ term_value w u
 pairs-differ w [] t u d e = absurd (cc)
 pairs-differ w (p ∷ ps) t u d e = elim (or-which (is_pair t u p) (list_any (is_pair t u) ps) e) [
   | inl y ↦ pair-differs w t u p d.0 y
@@ -65,11 +64,11 @@ pairs-differ w (p ∷ ps) t u d e = elim (or-which (is_pair t u p) (list_any (is
 ]
 
 -- terms that differ at once have different values
-pub direct-differs : (w : ℕ → Value) (apart : List (Term × Term)) (t u : Term) → Each (Differ w) apart → direct apart t u ≡ true → term_value w t ≢ term_value w u
+pub direct-differs : (w : ℕ → Value) (apart : List (Term × Term)) (t u : Term) → AllByRecursion (Differ w) apart → direct apart t u ≡ true → term_value w t ≢ term_value w u
 direct-differs w apart t u d e = elim (or-which (is_constant t && is_constant u && not (same_term t u)) (list_any (is_pair t u) apart) e) [ inl y ↦ term-constants w t u y | inr y ↦ pairs-differ w apart t u d y ]
 
 -- no pair that differs is of one term
-pub pairs-irreflexive : (w : ℕ → Value) (apart : List (Term × Term)) → Each (Differ w) apart → list_any (λ p. same_term p.0 p.1) apart ≡ true → ⊥
+pub pairs-irreflexive : (w : ℕ → Value) (apart : List (Term × Term)) → AllByRecursion (Differ w) apart → list_any (λ p. same_term p.0 p.1) apart ≡ true → ⊥
 pairs-irreflexive w [] d e = absurd (cc)
 pairs-irreflexive w (p ∷ ps) d e = elim (or-which (same_term p.0 p.1) (list_any (λ p. same_term p.0 p.1) ps) e) [
   | inl y ↦ d.0 (ap (term_value w) (same_term_is p.0 p.1 y))

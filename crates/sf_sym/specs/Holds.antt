@@ -13,7 +13,7 @@ use Rattle.sf_sym.specs.declared.atom.Numbered.{Numbered}
 use Rattle.sf_sym.specs.declared.state.Links.{Links}
 use Rattle.sf_sym.specs.declared.term.Term.{Term}
 use Rattle.sf_sym.specs.declared.term.Term.TheVariants.{Nil, Int, Sym}
-use Rattle.sf_sym.specs.Each.{Each}
+use Rattle.std.specs.List.{AllByRecursion}
 use Rattle.sf_sym.specs.Goal.{Pending, Item, run, add, take, gave, head, again, exit, return, end, Goal}
 
 -- the value of a term, for given values of the symbols
@@ -75,8 +75,8 @@ AddsHold w (end p ∷ items) heap = IsEmpty heap
 
 -- a goal holds of these values of the variables and of that heap, with these values of the symbols
 pub record HoldsAt (w : ℕ → Value) (goal : Goal) (e : Var → Option Value) (heap : Heap) : Type 0 where
-  pub vars : Each (Agrees w e) goal.state.vars
-  pub apart : Each (Differ w) goal.state.apart
+  pub vars : AllByRecursion (Agrees w e) goal.state.vars
+  pub apart : AllByRecursion (Differ w) goal.state.apart
   pub heaps : (AtomsHold w goal.state.links goal.state.atoms ⋆ (AtomsHold w goal.state.links goal.state.taken ⋆ AddsHold w goal.todo)) heap
 
 -- Holds: it does so with some values of the symbols

@@ -1,7 +1,7 @@
 -- What every state keeps: its symbols and its atoms' numbers are in use, and its predicates have their fields.
 -- The bookkeeping of this project's own; no source.
 use Rattle.std.specs.Prelude.{◌≡◌, ℕ, ◌<◌, ◌==◌, List, map, Option, Some, None, IsSome}
-use Rattle.std.specs.List.{IsDistinct}
+use Rattle.std.specs.List.{IsDistinct, AllByRecursion}
 use Rattle.sf_core.specs.declared.assertion.Operand.{Operand}
 use Rattle.sf_core.specs.declared.assertion.Operand.TheVariants.{Known, Exists}
 use Rattle.sf_core.specs.declared.assertion.Test.{Test}
@@ -14,7 +14,6 @@ use Rattle.sf_sym.specs.declared.state.Links.{Links}
 use Rattle.sf_sym.specs.declared.state.State.{State}
 use Rattle.sf_sym.specs.declared.term.Term.{Term}
 use Rattle.sf_sym.specs.declared.term.Term.TheVariants.{Nil, Int, Sym}
-use Rattle.sf_sym.specs.Each.{Each}
 use Rattle.sf_sym.specs.Goal.{Pending}
 use Rattle.sf_sym.specs.Tests.{parts}
 
@@ -30,7 +29,7 @@ ArePairBelow next p = IsBelow next p.0 × IsBelow next p.1
 
 -- the terms of an atom are below
 abbrev pub IsAtomBelow : ℕ → Atom → Type 0
-IsAtomBelow next (Points t fields) = IsBelow next t × Each (λ f. IsBelow next f.1) fields
+IsAtomBelow next (Points t fields) = IsBelow next t × AllByRecursion (λ f. IsBelow next f.1) fields
 IsAtomBelow next (Ls t u) = IsBelow next t × IsBelow next u
 IsAtomBelow next (Tree t) = IsBelow next t
 
@@ -47,12 +46,12 @@ numbers atoms = map (λ a. a.number) atoms
 -- a state keeps: each symbol in it is below `next_sym`; its atoms and taken atoms have different numbers, below `next_atom`;
 -- the program has the fields that its segments and trees go by
 pub record IsKept (s : State) : Type 0 where
-  pub vars : Each (λ x. IsBelow s.next_sym x.1) s.vars
-  pub apart : Each (ArePairBelow s.next_sym) s.apart
-  pub atoms : Each (λ a. IsAtomBelow s.next_sym a.atom) (parts s)
+  pub vars : AllByRecursion (λ x. IsBelow s.next_sym x.1) s.vars
+  pub apart : AllByRecursion (ArePairBelow s.next_sym) s.apart
+  pub atoms : AllByRecursion (λ a. IsAtomBelow s.next_sym a.atom) (parts s)
   pub distinct : IsDistinct ◌==◌ (numbers (parts s))
-  pub below : Each (λ n. n < s.next_atom) (numbers (parts s))
-  pub linked : Each (λ a. IsLinked s.links a.atom) (parts s)
+  pub below : AllByRecursion (λ n. n < s.next_atom) (numbers (parts s))
+  pub linked : AllByRecursion (λ a. IsLinked s.links a.atom) (parts s)
 
 -- the term of an operand, if it is one, is below
 abbrev pub IsOperandBelow : ℕ → Operand Term → Type 0
@@ -76,7 +75,7 @@ abbrev mutual
 
   pub Fits : Links → ℕ → Conjunct Term → Type 0
   Fits links next (holds p t) = IsTestBelow next t
-  Fits links next (points p x fields) = IsOperandBelow next x × Each (λ f. IsOperandBelow next f.1) fields
+  Fits links next (points p x fields) = IsOperandBelow next x × AllByRecursion (λ f. IsOperandBelow next f.1) fields
   Fits links next (segment p f x y) = (links.tl ≡ Some f) × IsOperandBelow next x × IsOperandBelow next y
   Fits links next (tree p l r x) = (links.l ≡ Some l) × (links.r ≡ Some r) × IsOperandBelow next x
   Fits links next (choose p t this that) = IsTestBelow next t × FitsLevel links next this × FitsLevel links next that
@@ -89,4 +88,4 @@ IsBindingBelow next (Some t) = IsBelow next t
 -- pending conjuncts fit a state
 pub record IsFitting (s : State) (p : Pending) : Type 0 where
   pub conjuncts : FitsAll s.links s.next_sym p.conjuncts
-  pub bindings : Each (IsBindingBelow s.next_sym) p.bindings
+  pub bindings : AllByRecursion (IsBindingBelow s.next_sym) p.bindings

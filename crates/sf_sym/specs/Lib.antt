@@ -1,4 +1,3 @@
-pub mod Each
 pub mod Goal
 pub mod Tests
 pub mod Holds

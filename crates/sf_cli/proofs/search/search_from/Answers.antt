@@ -1,6 +1,6 @@
 use Rattle.std.proofs.Common.{◌≡◌, ◌+◌, ◌<◌, ◌∙◌, ap, sym, subst, [], ◌∷◌, ◌++◌, length, arith, refl, rules, length-append}
 use Rattle.sf_base.specs.declared.limits.TheConstants.{PROCEDURE_TAGS}
-use Rattle.sf_sym.specs.Each.{Each}
+use Rattle.std.specs.List.{AllByRecursion}
 use Rattle.sf_sym.specs.Goal.{goal_of}
 use Rattle.sf_cli.specs.Ends.{HasNumbersAfter}
 use Rattle.sf_cli.specs.Judge.{stuck, large, proved}
@@ -13,14 +13,14 @@ use Rattle.sf_cli.proofs.search.search_from.Goals as goal
 pub follow-requires : goal.follow-requires
 follow-requires c =
     let stack = ap stack_of c.in-Some.ensures.items ∙ stack_push c.pop.new.self.items c.in-Some.goal in
-    let numbers = subst (Each (HasNumbersAfter (length c.loop-goal.tags.items))) stack c.loop-goal.invariant.numbers in
+    let numbers = subst (AllByRecursion (HasNumbersAfter (length c.loop-goal.tags.items))) stack c.loop-goal.invariant.numbers in
     let below : length c.loop-goal.tags.items < PROCEDURE_TAGS = search (rules, arith) in
     chosen_row (length c.loop-goal.tags.items) (goal_of c.in-Some.goal) c.in-Takes.tag numbers.0 below c.in-Takes.ensures
 
 pub loop-goal-preserved : goal.loop-goal-preserved
 loop-goal-preserved c =
     let stack = ap stack_of c.in-Some.ensures.items ∙ stack_push c.pop.new.self.items c.in-Some.goal in
-    let numbers = subst (Each (HasNumbersAfter (length c.loop-goal.tags.items))) stack c.loop-goal.invariant.numbers in
+    let numbers = subst (AllByRecursion (HasNumbersAfter (length c.loop-goal.tags.items))) stack c.loop-goal.invariant.numbers in
     let leads = subst (λ gs. Leads (goal_of c.args.first ∷ []) gs c.loop-goal.tags.items) stack c.loop-goal.invariant.leads in
     let left = c.in-Ok.ensures.left in
     let longer : length c.follow.new.tags.items ≡ length c.loop-goal.tags.items + 1 = ap length c.in-Ok.ensures.tags ∙ length-append c.loop-goal.tags.items (c.in-Takes.tag ∷ []) in
@@ -29,8 +29,8 @@ loop-goal-preserved c =
       leads = subst (Leads (goal_of c.args.first ∷ []) (stack_of c.follow.new.stack.items)) (sym c.in-Ok.ensures.tags)
           (subst (λ gs. Leads (goal_of c.args.first ∷ []) gs (c.loop-goal.tags.items ++ c.in-Takes.tag ∷ [])) (sym left.2)
           (leads_on (goal_of c.args.first ∷ []) (stack_of c.pop.new.self.items) (goal_of c.in-Some.goal) c.loop-goal.tags.items c.in-Takes.tag left.0 leads (sym c.in-Takes.ensures) left.1));
-      numbers = subst (λ n. Each (HasNumbersAfter n) (stack_of c.follow.new.stack.items)) (sym longer)
-          (subst (Each (HasNumbersAfter (length c.loop-goal.tags.items + 1))) (sym left.2) (numbers_after (length c.loop-goal.tags.items) (goal_of c.in-Some.goal) (stack_of c.pop.new.self.items) c.in-Takes.tag left.0 numbers left.1));
+      numbers = subst (λ n. AllByRecursion (HasNumbersAfter n) (stack_of c.follow.new.stack.items)) (sym longer)
+          (subst (AllByRecursion (HasNumbersAfter (length c.loop-goal.tags.items + 1))) (sym left.2) (numbers_after (length c.loop-goal.tags.items) (goal_of c.in-Some.goal) (stack_of c.pop.new.self.items) c.in-Takes.tag left.0 numbers left.1));
       count = omega (arith, longer, below);
     }
 

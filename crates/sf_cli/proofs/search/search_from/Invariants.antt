@@ -1,6 +1,6 @@
 use Rattle.std.proofs.Common.{◌≤◌, ◌-◌, [], ◌∷◌, length}
 use Rattle.sf_base.specs.declared.limits.TheConstants.{PROCEDURE_TAGS}
-use Rattle.sf_sym.specs.Each.{Each}
+use Rattle.std.specs.List.{AllByRecursion}
 use Rattle.sf_sym.specs.Goal.{goal_of}
 use Rattle.sf_cli.specs.Ends.{HasNumbersAfter}
 use Rattle.sf_cli.specs.Left.{stack_of}
@@ -10,7 +10,7 @@ use Rattle.sf_cli.proofs.search.search_from.Given as goal
 abbrev pub invariant-loop-goal : goal.invariant-loop-goal
 invariant-loop-goal l = record {
   leads : Leads (goal_of l.fn.first ∷ []) (stack_of l.stack.items) l.tags.items;
-  numbers : Each (HasNumbersAfter (length l.tags.items)) (stack_of l.stack.items);
+  numbers : AllByRecursion (HasNumbersAfter (length l.tags.items)) (stack_of l.stack.items);
   count : length l.tags.items ≤ PROCEDURE_TAGS;
 }
 
