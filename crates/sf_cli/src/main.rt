@@ -1,6 +1,10 @@
 //! The command `smallfoot`: it proves a program, or says what can't be shown of it.
 #![tactic(auto)]
 
+ghost use Rattle.std.specs.Prelude.{◌≡◌, map, IfOk};
+ghost use Rattle.std.specs.String.{string_bytes};
+ghost use Rattle.sf_cli.specs.WordsOf.{words_of};
+
 mod cells;
 mod check;
 mod reading;
@@ -27,7 +31,7 @@ use std::{env, io};
 const OUT_OF_MEMORY: u8 = 9;
 
 /// The words behind the program's name.
-fn words_of(rt: &HostRuntime) -> io::Result<Vec<String>> {
+fn given_words(rt: &HostRuntime) -> io::Result<Vec<String>> {
     let mut words = Vec::new(rt.alloc());
     for word in env::args(rt)?.skip(1) {
         words.push(word)?;
@@ -36,7 +40,9 @@ fn words_of(rt: &HostRuntime) -> io::Result<Vec<String>> {
 }
 
 /// The words as texts that others own.
-fn borrowed<'a>(alloc: Global, words: &'a [String]) -> Result<Vec<&'a str>, AllocError> {
+fn borrowed<'a>(alloc: Global, words: &'a [String]) -> Result<Vec<&'a str>, AllocError>
+    ensures { IfOk result (λ texts. words_of texts.items ≡ map string_bytes words.now) }
+{
     let mut texts = Vec::with_capacity(alloc, words.len())?;
     for word in words {
         texts.push(word.as_str())?;
@@ -46,7 +52,7 @@ fn borrowed<'a>(alloc: Global, words: &'a [String]) -> Result<Vec<&'a str>, Allo
 
 fn main(rt: HostRuntime) -> ExitCode {
     let alloc = rt.alloc();
-    let words = match words_of(&rt) {
+    let words = match given_words(&rt) {
         Ok(words) => words,
         Err(e) if e.kind() == io::ErrorKind::OutOfMemory => return ExitCode::from(OUT_OF_MEMORY),
         // Words that aren't text are no command, as no words at all are.
