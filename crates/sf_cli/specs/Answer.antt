@@ -7,9 +7,9 @@ use Rattle.sf_io.specs.Rose.{Rose}
 use Rattle.sf_io.specs.Shelf.{Files}
 use Rattle.sf_io.specs.Sink.{WrotePart}
 use Rattle.sf_cli.specs.FirstForm.{FirstForm}
-use Rattle.sf_cli.specs.Judge.{Verdict, proof, fails, Judge}
-use Rattle.sf_cli.specs.ProofText.{name_of, proof_text}
-use Rattle.sf_cli.specs.Sound.{IsSound}
+use Rattle.sf_search.specs.Judge.{Verdict, proof, fails, Judge}
+use Rattle.sf_proof.specs.ProofText.{name_of, proof_text}
+use Rattle.sf_sound.specs.Sound.{IsSound}
 use Rattle.sf_cli.specs.Words.{Text, Order, verify, order_of, usage_text}
 
 -- the verdict on a program, printed

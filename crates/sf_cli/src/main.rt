@@ -5,21 +5,11 @@ ghost use Rattle.std.specs.Prelude.{◌≡◌, map, IfOk};
 ghost use Rattle.std.specs.String.{string_bytes};
 ghost use Rattle.sf_cli.specs.WordsOf.{words_of};
 
-mod cells;
-mod check;
 mod reading;
 mod reply;
-mod rules;
-mod search;
-mod soundness;
-mod strategy;
-mod terms;
 #[cfg(test)]
 mod tests;
-mod text;
-mod todo;
 mod top;
-mod verdicts;
 mod words;
 
 use sf_io::{FileShelf, OpenGate, StdSink};

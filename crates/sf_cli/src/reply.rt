@@ -1,26 +1,26 @@
 //! What the command says, and with which status.
 
-ghost use Rattle.std.specs.Prelude.{◌≡◌, ◌<◌, ◌≤◌, ◌++◌, List, IfOk, codes};
+ghost use Rattle.std.specs.Prelude.{◌≡◌, ◌<◌, ◌≤◌, ◌-◌, ◌^◌, ◌++◌, List, IfOk, IsErrOf, codes};
 ghost use Rattle.sf_core.specs.Whole.{program_of};
 ghost use Rattle.sf_sym.specs.declared.tag.Tag.{Tag as TagOf};
 ghost use Rattle.sf_io.specs.Rose.{Rose};
 ghost use Rattle.sf_cli.specs.Answer.{Accepted, AcceptedBytes, AcceptsFile, AnswersFile, FileAnswer, Reply, VerdictAnswer, read_fault_text};
-ghost use Rattle.sf_cli.specs.Judge.{Verdict, Judge};
-ghost use Rattle.sf_cli.specs.Proves.{Proves};
+ghost use Rattle.sf_cli.specs.Fetched.{Fetched};
+ghost use Rattle.sf_search.specs.Judge.{Verdict, Judge};
+ghost use Rattle.sf_rules.specs.Proves.{Proves};
 ghost use Rattle.sf_cli.specs.Words.{Text};
 ghost use Rattle.sf_cli.specs.WordsOf.{words_of};
 
-use crate::check::check;
 use crate::reading::ReadFault;
 use crate::reading::first_form::read;
-use crate::search::{VerifyFault, verify};
-use crate::soundness::proved_programs_are_sound;
-use crate::text::{name_of, proof_text};
-use crate::verdicts::verdicts_prove;
 use crate::words::{Order, USAGE, read_order};
 use sf_base::limits::FILE_BYTES;
+use sf_check::check::check;
 use sf_core::Program;
 use sf_io::{FetchFault, Shelf};
+use sf_proof::{name_of, proof_text};
+use sf_search::{VerifyFault, verdicts_prove, verify};
+use sf_sound::proved_programs_are_sound;
 use std::alloc::{AllocError, Global};
 
 /// What is said, and the status that goes with it.
@@ -92,8 +92,25 @@ fn answer_to_bytes(alloc: Global, bytes: &[u8]) -> Result<Said, AllocError>
     }
 }
 
-/// The answer to a file's name. The fetch asks for one byte more than a file may have, so that one
-/// that is too long is seen to be.
+/// All of a file's bytes; of a file of more bytes than the limit, one more than that.
+fn fetch_up_to<S: Shelf>(
+    alloc: Global,
+    name: &str,
+    limit: usize,
+    shelf: &mut S,
+) -> Result<Vec<u8>, FetchFault>
+    requires { limit < 2 ^ 64 - 1 }
+    ensures fetched { IfOk result (λ bytes. Fetched limit (S.files shelf.old) name.now bytes.items) }
+    ensures failed { IsErrOf result FetchFault.Failed → Rose (S.faults shelf.old name.now) (S.faults shelf.new name.now) }
+    ensures files { S.files shelf.new ≡ S.files shelf.old }
+    ensures counts { (any : Text) → S.faults shelf.old any ≤ S.faults shelf.new any }
+{
+    let mut bytes = Vec::new(alloc);
+    shelf.fetch(name, limit + 1, &mut bytes)?;
+    Ok(bytes)
+}
+
+/// The answer to a file's name.
 fn answer_to_file<S: Shelf>(alloc: Global, name: &str, shelf: &mut S) -> Result<Said, AllocError>
     ensures status { IfOk result (λ said. said.status < 8) }
     ensures answered { IfOk result (λ said. said.status < 7 → AnswersFile (S.files shelf.old) name.now said.text.items said.status) }
@@ -102,9 +119,8 @@ fn answer_to_file<S: Shelf>(alloc: Global, name: &str, shelf: &mut S) -> Result<
     ensures files { S.files shelf.new ≡ S.files shelf.old }
     ensures counts { (any : Text) → S.faults shelf.old any ≤ S.faults shelf.new any }
 {
-    let mut bytes = Vec::new(alloc);
-    match shelf.fetch(name, FILE_BYTES + 1, &mut bytes) {
-        Ok(()) => answer_to_bytes(alloc, bytes.as_slice()),
+    match fetch_up_to(alloc, name, FILE_BYTES, shelf) {
+        Ok(bytes) => answer_to_bytes(alloc, bytes.as_slice()),
         Err(FetchFault::Failed) => say_of(alloc, "read fault: ", name, 7),
         Err(FetchFault::OutOfMemory) => Err(AllocError),
     }

@@ -1,7 +1,7 @@
 use Rattle.std.proofs.Common.{◌≤◌, length, arith}
 use Rattle.sf_base.specs.declared.limits.TheConstants.{FILE_BYTES}
 use Rattle.sf_core.specs.Whole.{program_of}
-use Rattle.sf_cli.proofs.Answered.{answered-ok}
+use Rattle.sf_rules.proofs.Answered.{answered-ok}
 use Rattle.sf_cli.proofs.FormPrograms.{form-no_resources}
 use Rattle.sf_cli.specs.Answer.{not_built, judged}
 use Rattle.sf_cli.proofs.reply.answer_to_bytes.Goals as goal

@@ -1,7 +1,7 @@
 use Rattle.std.proofs.Common.{List, sym, subst}
 use Rattle.sf_core.specs.Whole.{program_of}
 use Rattle.sf_sym.specs.declared.tag.Tag.{Tag as TagOf}
-use Rattle.sf_cli.specs.Proves.{Proves}
+use Rattle.sf_rules.specs.Proves.{Proves}
 use Rattle.sf_cli.proofs.reply.judged.Goals as goal
 
 -- the tags of a verdict prove the program, so the checker accepts them

@@ -1,5 +1,5 @@
 use Rattle.std.proofs.Common.{sym}
-use Rattle.sf_cli.proofs.Answered.{answered-ok}
+use Rattle.sf_rules.proofs.Answered.{answered-ok}
 use Rattle.sf_cli.proofs.Replies.{reply-usage}
 use Rattle.sf_cli.proofs.reply.respond.Goals as goal
 

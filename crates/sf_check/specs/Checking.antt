@@ -1,0 +1,18 @@
+-- Where a check of tags stands: the goal that is open, if one is, and how many procedures have begun.
+-- In this form of programs no tag leaves two goals, so no more than one is ever open.
+use Rattle.std.specs.Prelude.{Option, Some, None, List, [], ◌∷◌}
+use Rattle.sf_core.specs.Syntax.{Program}
+use Rattle.sf_sym.specs.declared.goal.Goal.{Goal as CodeGoal}
+use Rattle.sf_sym.specs.declared.tag.Tag.{Tag}
+use Rattle.sf_sym.specs.Goal.{Goal, goal_of}
+use Rattle.sf_check.specs.declared.check.Checking.{Checking}
+use Rattle.sf_check.specs.Checks.{ChecksFrom}
+
+-- the open goals
+abbrev pub open_goals : Option CodeGoal → List Goal
+open_goals None = []
+open_goals (Some g) = goal_of g ∷ []
+
+-- the tags to come are accepted from there
+abbrev pub AcceptsFrom : Program → Checking → List Tag → Type 0
+AcceptsFrom p at tags = ChecksFrom p at.begun (open_goals at.goal) tags

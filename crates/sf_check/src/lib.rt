@@ -1,0 +1,4 @@
+//! The checker: whether tags prove a program.
+#![tactic(auto)]
+
+pub mod check;

@@ -1,6 +1,0 @@
-use Rattle.std.proofs.Common.{◌≡◌}
-use Rattle.sf_cli.specs.Table.{symbols}
-use Rattle.sf_cli.proofs.rules.first_vars.Given as goal
-
-abbrev pub invariant-loop-i : goal.invariant-loop-i
-invariant-loop-i l = l.vars.items ≡ symbols 0 l.i

@@ -1,6 +1,0 @@
-use Rattle.std.proofs.Common.{◌≡◌, map, take}
-use Rattle.sf_cli.specs.Table.{operand_with, term}
-use Rattle.sf_cli.proofs.terms.fields_with.Given as goal
-
-abbrev pub invariant-loop-f : goal.invariant-loop-f
-invariant-loop-f l = l.made.items ≡ map (λ f. (f.0, operand_with (term l.vars) f.1)) (take l.f-index l.fields)

@@ -1,0 +1,42 @@
+-- Proofs as finite trees: those of a list of goals are those of its parts.
+-- Names: proof-*, proofs-*, one_proof.
+use Rattle.std.proofs.Common.{◌≡◌, List, [], ◌∷◌, ◌++◌, refl, sym, ap, ◌∙◌, subst, append_assoc}
+use Rattle.sf_sym.specs.declared.tag.Tag.{Tag}
+use Rattle.sf_sym.specs.Goal.{Goal}
+use Rattle.sf_rules.specs.Proves.{Proof, Proofs, no_more, and, preorder, preorders}
+
+-- proofs of equal goals have the same tags
+pub proofs-same : (gs hs : List Goal) → gs ≡ hs → (ps : Proofs gs) → (qs : Proofs hs) × (preorders qs ≡ preorders ps)
+proofs-same gs hs e ps = subst (λ zs. (qs : Proofs zs) × (preorders qs ≡ preorders ps)) e (ps, refl)
+
+-- the same of one goal
+pub proof-same : (g h : Goal) → g ≡ h → (p : Proof g) → (q : Proof h) × (preorder q ≡ preorder p)
+proof-same g h e p = subst (λ z. (q : Proof z) × (preorder q ≡ preorder p)) e (p, refl)
+
+-- proofs of two lists of goals one after the other are proofs of each
+pub proofs-split : (gs hs : List Goal) (ps : Proofs (gs ++ hs)) → (qs : Proofs gs) × (rs : Proofs hs) × (preorders qs ++ preorders rs ≡ preorders ps)
+proofs-split [] hs ps = (no_more refl, ps, refl)
+proofs-split (g ∷ gs) hs (no_more e) = absurd (cc)
+proofs-split (g ∷ gs) hs (and goal others e p ps) =
+    let same : others ≡ gs ++ hs = cc in
+    let head : g ∷ gs ≡ goal ∷ gs = cc in
+    let moved = proofs-same others (gs ++ hs) same ps in
+    let parts = proofs-split gs hs moved.0 in
+    (and goal gs head p parts.0, parts.1, append_assoc (preorder p) (preorders parts.0) (preorders parts.1) ∙ ap (λ ts. preorder p ++ ts) (parts.2 ∙ moved.1))
+
+no_tags : (gs : List Goal) (ps : Proofs gs) → gs ≡ [] → preorders ps ≡ []
+no_tags gs (no_more e) n = refl
+no_tags gs (and goal others e p ps) n = absurd (cc)
+
+append_nothing : (ts us : List Tag) → us ≡ [] → ts ++ us ≡ ts
+append_nothing [] us e = e
+append_nothing (t ∷ ts) us e = ap (λ vs. t ∷ vs) (append_nothing ts us e)
+
+-- a proof of the one goal of a list
+pub one_proof : (g : Goal) (gs : List Goal) → gs ≡ g ∷ [] → (ps : Proofs gs) → (p : Proof g) × (preorder p ≡ preorders ps)
+one_proof g gs e (no_more n) = absurd (cc)
+one_proof g gs e (and goal others k p ps) =
+    let same : goal ≡ g = cc in
+    let none : others ≡ [] = cc in
+    let moved = proof-same goal g same p in
+    (moved.0, moved.1 ∙ sym (append_nothing (preorder p) (preorders ps) (no_tags others ps none)))

@@ -1,0 +1,7 @@
+use Rattle.std.proofs.Common.{◌≡◌, map, take}
+use Rattle.sf_core.specs.View.{conjunct_of}
+use Rattle.sf_rules.specs.Table.{conjunct_with, term}
+use Rattle.sf_rules.proofs.terms.+terms.Given as goal
+
+abbrev pub invariant-with_terms-loop-c : goal.invariant-with_terms-loop-c
+invariant-with_terms-loop-c l = map conjunct_of l.made.items ≡ map (λ c. conjunct_with (term l.vars) (conjunct_of c)) (take l.c-index l.from)

@@ -1,0 +1,12 @@
+use Rattle.std.proofs.Common.{◌≡◌, ◌≤◌, length, take}
+use Rattle.sf_rules.specs.Left.{todo_of}
+use Rattle.sf_rules.proofs.todo.front.Given as goal
+
+abbrev pub invariant-loop-end : goal.invariant-loop-end
+invariant-loop-end l = record {
+  same : todo_of l.todo ≡ todo_of (take l.end l.todo);
+  within : l.end ≤ length l.todo;
+}
+
+abbrev pub decreases-loop-end : goal.decreases-loop-end
+decreases-loop-end l = l.end

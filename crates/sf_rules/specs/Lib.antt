@@ -1,0 +1,4 @@
+pub mod Table
+pub mod Proves
+pub mod Left
+pub mod Cells

@@ -1,0 +1,143 @@
+//! Expressions and assertions with the terms that the variables have now.
+
+ghost use Rattle.std.specs.Prelude.{◌≡◌, IfOk, map};
+ghost use Rattle.sf_core.specs.View.{conjunct_of, conjuncts, level_of};
+ghost use Rattle.sf_rules.specs.Table.{conjunct_with, conjuncts_with, level_with, operand_with, same_var, term, term_at, test_with};
+
+use sf_base::{FieldId, Var};
+use sf_core::{Conjunct, Expr, Level, Operand, Test};
+use sf_sym::Term;
+use std::alloc::{AllocError, Global};
+
+/// The term of an expression.
+pub fn term_of(vars: &[(Var, Term)], e: &Expr) -> Term
+    ensures { result ≡ term vars.now e.now }
+{
+    match e {
+        Expr::Var(x) => term_at(vars, x.var),
+        Expr::Nil => Term::Nil,
+        Expr::Int(i) => Term::Int(*i),
+    }
+}
+
+/// The term of a variable, `Nil` where it has none.
+pub fn term_at(vars: &[(Var, Term)], x: Var) -> Term
+    ensures { result ≡ term_at vars.now x }
+{
+    let mut left = vars;
+    while let Some((first, rest)) = left.split_first() {
+        if is_same(first.0, x) {
+            return first.1;
+        }
+        left = rest;
+    }
+    Term::Nil
+}
+
+/// Whether two variables are one.
+fn is_same(x: Var, y: Var) -> bool
+    ensures { result ≡ same_var x y }
+{
+    x == y
+}
+
+/// Conjuncts with terms in place of expressions, in the same order. An `Err` is want of memory.
+#[cycle(terms)]
+pub fn with_terms(
+    alloc: Global,
+    vars: &[(Var, Term)],
+    from: &[Conjunct<Expr>],
+) -> Result<Vec<Conjunct<Term>>, AllocError>
+    ensures { IfOk result (λ cs. conjuncts (map conjunct_of cs.items) ≡ conjuncts_with (term vars.now) (conjuncts (map conjunct_of from.now))) }
+{
+    let mut made = Vec::with_capacity(alloc, from.len())?;
+    for c in from {
+        made.push(conjunct_with(alloc, vars, c)?)?;
+    }
+    Ok(made)
+}
+
+/// One conjunct with terms.
+#[cycle(terms)]
+fn conjunct_with(
+    alloc: Global,
+    vars: &[(Var, Term)],
+    c: &Conjunct<Expr>,
+) -> Result<Conjunct<Term>, AllocError>
+    ensures { IfOk result (λ d. conjunct_of d ≡ conjunct_with (term vars.now) (conjunct_of c.now)) }
+{
+    match c {
+        Conjunct::Holds(place, test) => Ok(Conjunct::Holds(*place, test_with(vars, test))),
+        Conjunct::Points(place, root, fields) => {
+            let fields = fields_with(alloc, vars, fields)?;
+            Ok(Conjunct::Points(*place, operand_with(vars, root), fields))
+        }
+        Conjunct::Segment(place, next, from, to) => {
+            Ok(Conjunct::Segment(
+                *place,
+                *next,
+                operand_with(vars, from),
+                operand_with(vars, to),
+            ))
+        }
+        Conjunct::Tree(place, left, right, root) => {
+            Ok(Conjunct::Tree(*place, *left, *right, operand_with(vars, root)))
+        }
+        Conjunct::If(place, test, this, that) => {
+            let this = level_with(alloc, vars, this)?;
+            let that = level_with(alloc, vars, that)?;
+            Ok(Conjunct::If(*place, test_with(vars, test), this, that))
+        }
+    }
+}
+
+/// A level with terms.
+#[cycle(terms)]
+fn level_with(
+    alloc: Global,
+    vars: &[(Var, Term)],
+    level: &Level<Expr>,
+) -> Result<Level<Term>, AllocError>
+    ensures { IfOk result (λ d. level_of d ≡ level_with (term vars.now) (level_of level.now)) }
+{
+    Ok(Level {
+        made: level.made,
+        conjuncts: with_terms(alloc, vars, &level.conjuncts)?,
+    })
+}
+
+/// A test with terms.
+fn test_with(vars: &[(Var, Term)], test: &Test<Operand<Expr>>) -> Test<Operand<Term>>
+    ensures { result ≡ test_with (term vars.now) test.now }
+{
+    match test {
+        Test::True => Test::True,
+        Test::Equal(x, y) => Test::Equal(operand_with(vars, x), operand_with(vars, y)),
+        Test::Differ(x, y) => Test::Differ(operand_with(vars, x), operand_with(vars, y)),
+    }
+}
+
+/// An operand with its term.
+fn operand_with(vars: &[(Var, Term)], x: &Operand<Expr>) -> Operand<Term>
+    ensures { result ≡ operand_with (term vars.now) x.now }
+{
+    match x {
+        Operand::Known(e) => Operand::Known(term_of(vars, e)),
+        Operand::Exists(n) => Operand::Exists(*n),
+    }
+}
+
+/// Fields with their terms.
+fn fields_with(
+    alloc: Global,
+    vars: &[(Var, Term)],
+    fields: &[(FieldId, Operand<Expr>)],
+) -> Result<Vec<(FieldId, Operand<Term>)>, AllocError>
+    ensures { IfOk result (λ fs. fs.items ≡ map (λ f. (f.0, operand_with (term vars.now) f.1)) fields.now) }
+{
+    let mut made = Vec::with_capacity(alloc, fields.len())?;
+    for f in fields {
+        made.push((f.0, operand_with(vars, &f.1)))?;
+    }
+    Ok(made)
+}

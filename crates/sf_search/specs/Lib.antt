@@ -1,0 +1,4 @@
+pub mod Judge
+pub mod VerdictLaws
+pub mod Choices
+pub mod Ends

@@ -1,0 +1,10 @@
+//! The search: the tags that the strategy takes, or the first procedure at which it is stuck.
+#![tactic(auto)]
+
+pub mod search;
+pub mod strategy;
+pub mod verdicts;
+
+pub use search::{SearchFault, VerifyFault, verify};
+pub use strategy::{Choice, Stuck, choose};
+pub use verdicts::{one_verdict, verdicts_prove};

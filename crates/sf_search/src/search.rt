@@ -1,0 +1,139 @@
+//! The search for a proof, procedure by procedure.
+
+ghost use Rattle.std.specs.Prelude.{◌≡◌, ◌++◌, [], ◌∷◌, List, true, is_some, IfOk, IfErr, OnOk};
+ghost use Rattle.sf_core.specs.Formed.{ProcedureWithin};
+ghost use Rattle.sf_core.specs.View.{procedure_of};
+ghost use Rattle.sf_core.specs.Whole.{program_of};
+ghost use Rattle.sf_sym.specs.Goal.{Goal as AnyGoal, goal_of};
+ghost use Rattle.sf_sym.specs.declared.tag.Tag.TheVariants.{Procedure};
+ghost use Rattle.sf_search.specs.Ends.{EndsAs, FailsAs, HasNumbersAfter};
+ghost use Rattle.sf_search.specs.Judge.{Judge, Search, proof, proved};
+ghost use Rattle.sf_rules.specs.Left.{stack_of};
+ghost use Rattle.sf_rules.specs.Table.{first_goal, row};
+
+use crate::strategy::{Choice, Stuck, choose};
+use sf_base::ProcId;
+use sf_base::limits::{FILE_TAGS, PROCEDURE_TAGS};
+use sf_core::{Proc, Program};
+use sf_rules::{apply, open_goals, start_goal};
+use sf_sym::{Goal, Tag};
+use std::alloc::{AllocError, Global};
+
+/// Why a search found no proof.
+#[derive(Drop)]
+pub enum SearchFault<'a> {
+    /// The strategy goes no further at this goal.
+    Stuck(Goal<'a>, Stuck),
+    /// The proof would have more tags than a procedure's may have.
+    TooLarge,
+    /// Memory is wanting.
+    OutOfMemory,
+}
+
+/// Why a program isn't proved.
+#[derive(Debug, Drop)]
+pub enum VerifyFault {
+    /// No proof of this procedure was found, the first such one.
+    Failed(ProcId),
+    /// Memory is wanting.
+    OutOfMemory,
+}
+
+/// The tags of a proof of the procedure, without its `procedure` tag. An `Err` says how the search ended.
+pub fn search<'a>(alloc: Global, p: &'a Program, f: &'a Proc) -> Result<Vec<Tag>, SearchFault<'a>>
+    requires { ProcedureWithin (program_of p.now) (procedure_of f.now) }
+    ensures ok { IfOk result (λ tags. Search (first_goal (program_of p.now) (procedure_of f.now)) tags.items proved) }
+    ensures err { IfErr result (λ e. EndsAs (first_goal (program_of p.now) (procedure_of f.now)) e) }
+{
+    match start_goal(alloc, p, f) {
+        Ok(first) => search_from(alloc, first),
+        Err(_) => Err(SearchFault::OutOfMemory),
+    }
+}
+
+/// The tags of a proof of the goal.
+fn search_from<'a>(alloc: Global, first: Goal<'a>) -> Result<Vec<Tag>, SearchFault<'a>>
+    requires { HasNumbersAfter 0 (goal_of first) }
+    ensures ok { IfOk result (λ tags. Search (goal_of first.entry) tags.items proved) }
+    ensures err { IfErr result (λ e. EndsAs (goal_of first.entry) e) }
+{
+    let mut tags = Vec::new(alloc);
+    let mut stack = Vec::new(alloc);
+    if stack.push(first).is_err() {
+        return Err(SearchFault::OutOfMemory);
+    }
+    while let Some(goal) = stack.pop() {
+        let tag = match choose(&goal) {
+            Choice::Takes(tag) => tag,
+            Choice::Stays(kind) => return Err(SearchFault::Stuck(goal, kind)),
+        };
+        if tags.len() == PROCEDURE_TAGS {
+            return Err(SearchFault::TooLarge);
+        }
+        match follow(alloc, &mut stack, &mut tags, goal, tag) {
+            Ok(()) => {}
+            Err(_) => return Err(SearchFault::OutOfMemory),
+        }
+    }
+    Ok(tags)
+}
+
+/// Takes the tag at a goal: what it leaves goes on the stack, and the tag behind the tags. An `Err` is want
+/// of memory.
+fn follow<'a>(
+    alloc: Global,
+    stack: &mut Vec<Goal<'a>>,
+    tags: &mut Vec<Tag>,
+    goal: Goal<'a>,
+    tag: Tag,
+) -> Result<(), AllocError>
+    requires { is_some (row (goal_of goal) tag) ≡ true }
+    ensures left { OnOk result ((left : List AnyGoal) × (row (goal_of goal.entry) tag ≡ Some left) × (stack_of stack.new.items ≡ left ++ stack_of stack.old.items)) }
+    ensures tags { OnOk result (tags.new.items ≡ tags.old.items ++ tag ∷ []) }
+{
+    match apply(alloc, goal, tag)? {
+        Some(left) => {
+            open_goals(stack, left)?;
+            tags.push(tag)?;
+            Ok(())
+        }
+        None => unreachable!(),
+    }
+}
+
+/// The tags of a proof of the whole program, each procedure's behind its `procedure` tag. An `Err` says
+/// which procedure fails, or that memory is wanting.
+pub fn verify(alloc: Global, p: &Program) -> Result<Vec<Tag>, VerifyFault>
+    ensures ok { IfOk result (λ tags. Judge (program_of p.now) (proof tags.items)) }
+    ensures err { IfErr result (λ e. FailsAs (program_of p.now) e) }
+{
+    let mut tags = Vec::new(alloc);
+    let mut spent = 0;
+    for (i, f) in p.procedures.iter().enumerate() {
+        let number = ProcId(i as u32);
+        let found = match search(alloc, p, f) {
+            Ok(found) => found,
+            Err(SearchFault::Stuck(..)) => return Err(VerifyFault::Failed(number)),
+            Err(SearchFault::TooLarge) => return Err(VerifyFault::Failed(number)),
+            Err(SearchFault::OutOfMemory) => return Err(VerifyFault::OutOfMemory),
+        };
+        spent += found.len();
+        if spent > FILE_TAGS {
+            return Err(VerifyFault::Failed(number));
+        }
+        match append(&mut tags, number, &found) {
+            Ok(()) => {}
+            Err(_) => return Err(VerifyFault::OutOfMemory),
+        }
+    }
+    Ok(tags)
+}
+
+/// Puts a procedure's tags behind those of the procedures before it. An `Err` is want of memory.
+fn append(tags: &mut Vec<Tag>, f: ProcId, found: &[Tag]) -> Result<(), AllocError>
+    ensures { OnOk result (tags.new.items ≡ tags.old.items ++ (Procedure f ∷ found.now)) }
+{
+    tags.push(Tag::Procedure(f))?;
+    tags.extend_from_slice(found)?;
+    Ok(())
+}

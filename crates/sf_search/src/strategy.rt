@@ -1,0 +1,219 @@
+//! The strategy: the tag that a search takes at a goal.
+
+ghost use Rattle.std.specs.Prelude.{◌≡◌, ◌++◌, false, List, is_some};
+ghost use Rattle.std.specs.Option.{option_map};
+ghost use Rattle.sf_core.specs.View.{command_of, conjunct_of};
+ghost use Rattle.sf_sym.specs.declared.state.State.{State as AnyState};
+ghost use Rattle.sf_sym.specs.Goal.{Item as Thing, goal_of, items_of, pending_of};
+ghost use Rattle.sf_search.specs.Choices.{choice_of, choose_first};
+ghost use Rattle.sf_search.specs.Judge.{choice, choose_add, choose_command, choose_end, choose_found, choose_item, choose_mutate, choose_take, choose_wanted, lowest_cell};
+ghost use Rattle.sf_rules.specs.Left.{cell_of, is_nothing};
+ghost use Rattle.sf_rules.specs.Table.{assumed, fields_at};
+
+use sf_base::FieldId;
+use sf_core::{Command, Conjunct, Operand};
+use sf_rules::cells::{are_fitting, are_known, known};
+use sf_rules::rules::as_mutation;
+use sf_rules::terms::term_of;
+use sf_rules::todo::front;
+use sf_sym::{Atom, Goal, Item, Numbered, Pending, State, Tag, Term};
+
+/// Why the strategy goes no further at a goal.
+#[derive(Clone, Copy, Debug, PartialEq, Eq)]
+pub enum Stuck {
+    /// The command's cell isn't known to be there.
+    NoCell,
+    /// A field isn't known to have the value that is wanted.
+    NotEqual,
+    /// A wanted cell isn't known to be there.
+    NoAtom,
+    /// Cells are left at the end.
+    Leak,
+    /// What is in front has no rule yet.
+    NotBuilt,
+}
+
+/// What the strategy does at a goal.
+#[derive(Clone, Copy, Debug, PartialEq, Eq)]
+pub enum Choice {
+    /// It takes this tag.
+    Takes(Tag),
+    /// It goes no further.
+    Stays(Stuck),
+}
+
+/// What the strategy does at the goal: one whose state can't be is closed, and else the item in front
+/// decides.
+pub fn choose(goal: &Goal) -> Choice
+    ensures { choice_of result ≡ choice (goal_of goal.now) }
+{
+    if goal.state.is_absurd() {
+        return Choice::Takes(Tag::Absurd);
+    }
+    match front(&goal.todo) {
+        Some(item) => choose_item(&goal.state, item),
+        None => Choice::Stays(Stuck::NotBuilt),
+    }
+}
+
+/// What it does at an item that stands for something.
+fn choose_item(state: &State, item: &Item) -> Choice
+    ensures { (rest : List Thing) → is_nothing item.now ≡ false → choice_of result ≡ choose_item state.now (items_of item.now ++ rest) }
+{
+    match item {
+        Item::Run(commands) => choose_run(state, commands),
+        Item::Add(_, given) => choose_add(given),
+        Item::Take(_, want, _) => choose_take(state, want),
+        Item::Return(..) => Choice::Takes(Tag::Return),
+        Item::End(_) => choose_end(state),
+        Item::Gave(..) => Choice::Stays(Stuck::NotBuilt),
+        Item::Head(..) => Choice::Stays(Stuck::NotBuilt),
+        Item::Again(..) => Choice::Stays(Stuck::NotBuilt),
+        Item::Exit(..) => Choice::Stays(Stuck::NotBuilt),
+    }
+}
+
+/// What it does at commands.
+fn choose_run(state: &State, commands: &[Command]) -> Choice
+    ensures { choice_of result ≡ choose_first state.now commands.now }
+{
+    match commands.split_first() {
+        Some((command, _)) => choose_command(state, command),
+        None => Choice::Stays(Stuck::NotBuilt),
+    }
+}
+
+/// What it does at a command.
+fn choose_command(state: &State, command: &Command) -> Choice
+    ensures { choice_of result ≡ choose_command state.now (command_of command.now) }
+{
+    match as_mutation(command) {
+        Some((e, _, _)) => {
+            let root = term_of(state.vars.as_slice(), &e);
+            choose_mutate(lowest_cell(state.atoms.as_slice(), root))
+        }
+        None => Choice::Stays(Stuck::NotBuilt),
+    }
+}
+
+/// What it does at a mutation, by the lowest cell there.
+fn choose_mutate(found: Option<(u32, &[(FieldId, Term)])>) -> Choice
+    ensures { choice_of result ≡ choose_mutate (option_map (λ x. (x.0, x.1.now)) found.entry) }
+{
+    match found {
+        Some((number, _)) => Choice::Takes(Tag::Mutate(number)),
+        None => Choice::Stays(Stuck::NoCell),
+    }
+}
+
+/// The fields of an atom that is a cell at that term.
+fn fields_at(atom: &Atom, t: Term) -> Option<&[(FieldId, Term)]>
+    ensures { option_map (λ x. x.now) result ≡ fields_at atom.now t }
+{
+    match atom {
+        Atom::Points(root, fields) if root.is(t) => Some(fields.as_slice()),
+        Atom::Points(..) | Atom::Ls(..) | Atom::Tree(_) => None,
+    }
+}
+
+/// The lowest atom that is a cell at that term: its number and its fields.
+fn lowest_cell(atoms: &[Numbered], t: Term) -> Option<(u32, &[(FieldId, Term)])>
+    ensures { option_map (λ x. (x.0, x.1.now)) result ≡ lowest_cell atoms.now t }
+{
+    for x in atoms {
+        if let Some(fields) = fields_at(&x.atom, t) {
+            return Some((x.number, fields));
+        }
+    }
+    None
+}
+
+/// The root and the fields of a points-to.
+fn as_cell(c: &Conjunct<Term>) -> Option<(Operand<Term>, &[(FieldId, Operand<Term>)])>
+    ensures { option_map (λ x. (x.0, x.1.now)) result ≡ cell_of (conjunct_of c.now) }
+{
+    match c {
+        Conjunct::Points(_, root, fields) => Some((*root, fields.as_slice())),
+        Conjunct::Holds(..) => None,
+        Conjunct::Segment(..) => None,
+        Conjunct::Tree(..) => None,
+        Conjunct::If(..) => None,
+    }
+}
+
+/// Whether the conjunct can be assumed.
+fn is_assumable(c: &Conjunct<Term>) -> bool
+    ensures { (s : AnyState) → result ≡ is_some (assumed s (conjunct_of c.now)) }
+{
+    match as_cell(c) {
+        Some((root, fields)) => known(&root).is_some() && are_known(fields),
+        None => false,
+    }
+}
+
+/// What it does at conjuncts to assume.
+fn choose_add(given: &Pending) -> Choice
+    ensures { (s : AnyState) → choice_of result ≡ choose_add s (pending_of given.now).conjuncts }
+{
+    let Some((c, _)) = given.conjuncts.split_last() else {
+        return Choice::Stays(Stuck::NotBuilt);
+    };
+    if is_assumable(c) {
+        Choice::Takes(Tag::Add)
+    } else {
+        Choice::Stays(Stuck::NotBuilt)
+    }
+}
+
+/// What it does at conjuncts to show.
+fn choose_take(state: &State, want: &Pending) -> Choice
+    ensures { choice_of result ≡ choose_take state.now (pending_of want.now).conjuncts }
+{
+    match want.conjuncts.split_last() {
+        Some((c, _)) => choose_wanted(state, c),
+        None => Choice::Stays(Stuck::NotBuilt),
+    }
+}
+
+/// What it does at a wanted conjunct.
+fn choose_wanted(state: &State, c: &Conjunct<Term>) -> Choice
+    ensures { choice_of result ≡ choose_wanted state.now (conjunct_of c.now) }
+{
+    let Some((x, wanted)) = as_cell(c) else {
+        return Choice::Stays(Stuck::NotBuilt);
+    };
+    match known(&x) {
+        Some(root) => choose_found(wanted, lowest_cell(state.atoms.as_slice(), root)),
+        None => Choice::Stays(Stuck::NotBuilt),
+    }
+}
+
+/// What it does at a wanted cell, by the lowest cell there.
+fn choose_found(
+    wanted: &[(FieldId, Operand<Term>)],
+    found: Option<(u32, &[(FieldId, Term)])>,
+) -> Choice
+    ensures { choice_of result ≡ choose_found wanted.now (option_map (λ x. (x.0, x.1.now)) found.entry) }
+{
+    match found {
+        Some((number, fields)) => {
+            if are_fitting(fields, wanted) {
+                Choice::Takes(Tag::Cell(number))
+            } else {
+                Choice::Stays(Stuck::NotEqual)
+            }
+        }
+        None => Choice::Stays(Stuck::NoAtom),
+    }
+}
+
+/// What it does at the end.
+fn choose_end(state: &State) -> Choice
+    ensures { choice_of result ≡ choose_end state.now }
+{
+    if state.atoms.len() == 0 {
+        Choice::Takes(Tag::End)
+    } else {
+        Choice::Stays(Stuck::Leak)
+    }
+}

@@ -1,0 +1,13 @@
+pub mod SatTerms
+pub mod SatClosed
+pub mod CellFields
+pub mod CellAtoms
+pub mod Regrouped
+pub mod TermValues
+pub mod RowLaws
+pub mod ByRows
+pub mod Owns
+pub mod Reached
+pub mod Starts
+pub mod Sound
+pub mod SoundInstance

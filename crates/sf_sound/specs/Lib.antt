@@ -1,0 +1,3 @@
+pub mod Sound
+pub mod RowLaws
+pub mod SoundInstance
