@@ -9,7 +9,7 @@ pub mod calls;
 mod keys;
 pub mod laws;
 mod leading;
-mod occurs;
+pub mod occurs;
 mod outside;
 mod reaching;
 pub mod set;

@@ -1,5 +1,8 @@
-ghost use Rattle.std.specs.Prelude.{◌≡◌, length};
+ghost use Rattle.std.specs.Prelude.{◌≡◌, ◌↔◌, length, AllPairs, Contains, IsTrue};
+ghost use Rattle.sf_calls.specs.Sets.{IsEarlier};
 
+use crate::assigned::is_earlier;
+use crate::occurs::is_same;
 use sf_base::{ResId, Var};
 use std::marker::Model;
 
@@ -44,5 +47,16 @@ impl<T> Set<T> {
         ensures { result ≡ length self.now }
     {
         self.items.len()
+    }
+}
+
+impl VarSet {
+    /// Whether the variable is one of them, by a binary search. They are in order.
+    pub fn has(&self, x: Var) -> bool
+        requires { AllPairs IsEarlier self.now }
+        ensures { IsTrue result ↔ Contains self.now x }
+    {
+        let at = self.items.partition_point(|y| is_earlier(*y, x));
+        at < self.items.len() && is_same(self.items[at], x)
     }
 }
