@@ -1,0 +1,7 @@
+use Rattle.std.proofs.Common.{◌≡◌, [], drop, take}
+use Rattle.sf_vars.specs.Search.{repeats}
+use Rattle.sf_vars.proofs.at_calls.repeats.Given as goal
+
+-- what was passed repeats nothing, and is what stands before the rest
+abbrev pub invariant-loop-i : goal.invariant-loop-i
+invariant-loop-i l = repeats [] l.references ≡ repeats (take l.i l.references) (drop l.i l.references)

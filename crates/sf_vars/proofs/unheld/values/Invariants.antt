@@ -1,0 +1,7 @@
+use Rattle.std.proofs.Common.{◌≡◌, drop}
+use Rattle.sf_vars.specs.Search.{in_expr, search_in}
+use Rattle.sf_vars.proofs.unheld.values.Given as goal
+
+-- what was passed breaks nothing
+abbrev pub invariant-loop-e : goal.invariant-loop-e
+invariant-loop-e l = search_in (in_expr l.held) l.values ≡ search_in (in_expr l.held) (drop l.e-index l.values)

@@ -1,0 +1,18 @@
+//! The conditions on variables: that the variables of resources are used where these are held, that
+//! no held resource is entered, and that calls and parallel calls do not share what one changes.
+#![tactic(auto)]
+
+mod at_calls;
+pub mod fault;
+mod held;
+mod naming;
+mod parallel;
+mod unheld;
+mod walk;
+mod whole;
+
+pub use fault::VarFault;
+pub use whole::conditions;
+
+#[cfg(test)]
+mod tests;
