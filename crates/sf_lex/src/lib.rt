@@ -10,7 +10,7 @@ pub mod token;
 mod words;
 
 pub use fault::LexFault;
-pub use scan::tokens;
+pub use scan::{end_place, tokens};
 pub use token::{Kind, Token};
 
 #[cfg(test)]

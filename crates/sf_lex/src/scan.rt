@@ -1,7 +1,7 @@
 ghost use Rattle.std.specs.Prelude.{◌≡◌, ◌≤◌, ◌<◌, ◌+◌, ◌-◌, ◌^◌, ◌⊎◌, length, List, IfOk, IfErr, MatchResult};
 ghost use Rattle.sf_base.specs.declared.limits.TheConstants.{FILE_BYTES};
 ghost use Rattle.sf_lex.specs.Front.{bytes_of, with_front};
-ghost use Rattle.sf_lex.specs.Reading.{AreTokens, IsFault, next_place, place_behind};
+ghost use Rattle.sf_lex.specs.Reading.{AreTokens, IsFault, first_place, next_place, place_behind};
 
 use crate::fault::LexFault;
 use crate::front::{Front, look};
@@ -41,6 +41,14 @@ fn place_behind(place: Place, bytes: &[u8]) -> Place
         at = next_place(at, *byte);
     }
     at
+}
+
+/// The place behind a file's last byte.
+pub fn end_place(bytes: &[u8]) -> Place
+    requires { length bytes.now ≤ FILE_BYTES }
+    ensures { result ≡ place_behind first_place bytes.now }
+{
+    place_behind(Place { line: 1, column: 1 }, bytes)
 }
 
 /// The tokens so far and the one in front, if a token is there.

@@ -10,10 +10,11 @@ use Rattle.sf_ast.specs.Surface as s
 use Rattle.sf_lex.specs.declared.token.Kind.{Kind}
 use Rattle.sf_lex.specs.declared.token.Kind.TheVariants as k
 use Rattle.sf_parse.specs.Grammar as g
+use Rattle.sf_parse.specs.Heads.{IsFlat}
 use Rattle.sf_parse.specs.Machine as m
 use Rattle.sf_parse.specs.Machine.{Owed, Choice, take, skip, refuse, Next, goes, bad, deep, leveled, chosen, choice, is_free, step, or_skip, mark_kind, on_exact, on_expression, on_operand, on_conjunct, on_command}
-use Rattle.sf_parse.specs.Nesting.{has_level, NotElse, Follows, ConjunctWithin, AssertionWithin, MaybeWithin, CommandWithin, CommandsWithin}
-use Rattle.sf_parse.proofs.Means.{Ends, IsFlat, Spells, Means, MeansNext}
+use Rattle.sf_parse.specs.Nesting.{Ends, has_level, NotElse, Follows, ConjunctWithin, AssertionWithin, MaybeWithin, CommandWithin, CommandsWithin}
+use Rattle.sf_parse.proofs.Means.{Spells, Means, MeansNext}
 
 pub a_place : Place
 a_place = record { line = 1; column = 1 }

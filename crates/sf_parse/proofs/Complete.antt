@@ -9,9 +9,9 @@ use Rattle.sf_lex.specs.declared.token.Kind.{Kind}
 use Rattle.sf_lex.specs.declared.token.Kind.TheVariants as k
 use Rattle.sf_parse.specs.Machine as m
 use Rattle.sf_parse.specs.Machine.{Owed, mark_kind}
-use Rattle.sf_parse.specs.Nesting.{has_level}
+use Rattle.sf_parse.specs.Nesting.{NotStar, has_level}
 use Rattle.sf_parse.proofs.Back.{a_place, a_word}
-use Rattle.sf_parse.proofs.Means.{NotStar, Spells, Means}
+use Rattle.sf_parse.proofs.Means.{Spells, Means}
 
 -- the shortest tokens of one thing owed, and then these
 abbrev pub completed : Owed → List Kind → List Kind

@@ -28,7 +28,7 @@ fault_at true true i l e = cc
 fault_at false false i l e = cc
 fault_at _ _ i l e = absurd cc
 
-fault_le : (ts : List Kind) (st : List Owed) (b : Bool) (i : ℕ) → verdict 0 ts st ≡ fault_of b i → i ≤ length ts
+pub fault_le : (ts : List Kind) (st : List Owed) (b : Bool) (i : ℕ) → verdict 0 ts st ≡ fault_of b i → i ≤ length ts
 fault_le [] st b i e = let h = at_end_fault (may_end st) b i e in omega arith
 fault_le (t ∷ ts) st b i e = go (step 0 (suc (length ts)) st t) (fault_le ts) e
   where

@@ -15,8 +15,7 @@ use Rattle.sf_lex.specs.declared.token.Kind.TheVariants as k
 use Rattle.sf_parse.specs.Grammar as g
 use Rattle.sf_parse.specs.Machine as m
 use Rattle.sf_parse.specs.Machine.{Owed, verdict}
-use Rattle.sf_parse.specs.Nesting.{IsClosed, HasLevel, ConjunctWithin, AssertionWithin, RestWithin, NoteWithin, MaybeWithin}
-use Rattle.sf_parse.proofs.Means.{NotStar, Ends}
+use Rattle.sf_parse.specs.Nesting.{NotStar, Ends, IsClosed, HasLevel, ConjunctWithin, AssertionWithin, RestWithin, NoteWithin, MaybeWithin}
 
 -- what holds of the four first tokens of an expression holds of each
 pub by_expr : (x : SurfaceExpr) (P : Kind → Type 0) → P k.Name → P k.Nil → P k.Null → P k.Number → P (g.expr x)
@@ -33,7 +32,7 @@ by_operand (v.Existential x) P a b c d f = f
 pub expr_goes : (n : ℕ) (x : SurfaceExpr) (r : List Kind) (st : List Owed) → verdict n (g.expr x ∷ r) (m.expression ∷ st) ≡ verdict n r st
 expr_goes n x r st = by_expr x (λ u. verdict n (u ∷ r) (m.expression ∷ st) ≡ verdict n r st) refl refl refl refl
 
-operand_goes : (n : ℕ) (x : SurfaceOperand) (r : List Kind) (st : List Owed) → verdict n (g.operand x ∷ r) (m.operand ∷ st) ≡ verdict n r st
+pub operand_goes : (n : ℕ) (x : SurfaceOperand) (r : List Kind) (st : List Owed) → verdict n (g.operand x ∷ r) (m.operand ∷ st) ≡ verdict n r st
 operand_goes n x r st = by_operand x (λ u. verdict n (u ∷ r) (m.operand ∷ st) ≡ verdict n r st) refl refl refl refl refl
 
 pub test_goes : (n : ℕ) (b : SurfaceTest SurfaceExpr) (r : List Kind) (st : List Owed) → verdict n (g.test g.expr b r) (m.test ∷ st) ≡ verdict n r st

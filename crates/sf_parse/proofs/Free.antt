@@ -36,7 +36,7 @@ free_in (m.commands d) n m h = level_in n m d h
 free_in (m.assertion d) n m h = level_in n m d h
 free_in _ n m h = refl
 
-chosen_goes : (c : Choice) (f g : Bool) (st st2 : List Owed) (w v : Next) → (f ≡ true → g ≡ true) → (w ≡ goes st2 → v ≡ goes st2) → chosen c f st w ≡ goes st2 → chosen c g st v ≡ goes st2
+pub chosen_goes : (c : Choice) (f g : Bool) (st st2 : List Owed) (w v : Next) → (f ≡ true → g ≡ true) → (w ≡ goes st2 → v ≡ goes st2) → chosen c f st w ≡ goes st2 → chosen c g st v ≡ goes st2
 chosen_goes (take ss) true g st st2 w v free more e = rw (free refl) e
 chosen_goes (take ss) false g st st2 w v free more e = absurd cc
 chosen_goes skip f g st st2 w v free more e = more e

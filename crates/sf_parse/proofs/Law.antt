@@ -24,10 +24,10 @@ can_begin front q =
     let f = file_of (length q.0) (front ++ q.0) (q.1 (length q.0) (omega arith)) in
     record { back = q.0; tree = f.0; spells = f.1; within = f.2 }
 
-file_accepted : (n : ℕ) (ts : List Kind) (tree : List Item) → ts ≡ items tree [] → ItemsWithin tree n [] → verdict n ts (m.items ∷ []) ≡ accepted
+pub file_accepted : (n : ℕ) (ts : List Kind) (tree : List Item) → ts ≡ items tree [] → ItemsWithin tree n [] → verdict n ts (m.items ∷ []) ≡ accepted
 file_accepted n ts tree is w = ap (λ z. verdict n z (m.items ∷ [])) is ∙ items_go n tree w
 
-refuses : (n : ℕ) (front : List Kind) (t : Kind) (back other : List Kind) (b : Bool) → (b ≡ true) ⊎ (n < suc (length other)) → verdict 0 (front ++ t ∷ back) (m.items ∷ []) ≡ fault_of b (suc (length back))
+pub refuses : (n : ℕ) (front : List Kind) (t : Kind) (back other : List Kind) (b : Bool) → (b ≡ true) ⊎ (n < suc (length other)) → verdict 0 (front ++ t ∷ back) (m.items ∷ []) ≡ fault_of b (suc (length back))
     → (tree : List Item) → (front ++ t ∷ []) ++ other ≡ items tree [] → ItemsWithin tree n [] → ⊥
 refuses n front t back other b z e tree is w =
     stuck front t back other (m.items ∷ []) b n z e (file_accepted n (front ++ t ∷ other) tree (sym (append_assoc front (t ∷ []) other) ∙ is) w)
@@ -79,10 +79,14 @@ accepted_means n (t ∷ ts) st h = go (step n (suc (length ts)) st t) refl (acce
     go bad is f h = absurd cc
     go deep is f h = absurd cc
 
+-- what is accepted is a file
+pub accepted_file : (n : ℕ) (ts : List Kind) → verdict n ts (m.items ∷ []) ≡ accepted → (tree : List Item) × (ts ≡ items tree []) × ItemsWithin tree n []
+accepted_file n ts e = file_of n ts (accepted_means n ts (m.items ∷ []) e)
+
 pub exact : TheVerdictIsExact
 exact ts = record {
   file = λ f. file_accepted 0 ts f.tree f.spells f.within;
-  accepts = λ e. let f = file_of 0 ts (accepted_means 0 ts (m.items ∷ []) e) in record { tree = f.0; spells = f.1; within = f.2 };
+  accepts = λ e. let f = accepted_file 0 ts e in record { tree = f.0; spells = f.1; within = f.2 };
   wrong = λ front t back is e.
       let v : verdict 0 (front ++ t ∷ back) (m.items ∷ []) ≡ unexpected (suc (length back)) = subst (λ z. verdict 0 z (m.items ∷ []) ≡ unexpected (suc (length back))) is e in
       (can_begin front (viable front (t ∷ back) (m.items ∷ []) true v), λ q. refuses (length ((front ++ t ∷ []) ++ q.back)) front t back q.back true (inl refl) v q.tree q.spells q.within);

@@ -11,3 +11,17 @@ pub mod Once
 pub mod OnceAssertions
 pub mod OnceFiles
 pub mod Depths
+pub mod Fronts
+pub mod Faults
+pub mod Arguments
+pub mod Heads
+pub mod Levels
+pub mod Longer
+pub mod CommandsLonger
+pub mod ItemLists
+pub mod ItemHeads
+pub mod Parsed
+pub mod Choices
+pub mod Lists
+pub mod Views
+pub mod Conjuncts

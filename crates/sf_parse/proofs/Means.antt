@@ -10,32 +10,10 @@ use Rattle.sf_ast.specs.Surface as s
 use Rattle.sf_lex.specs.declared.token.Kind.{Kind}
 use Rattle.sf_lex.specs.declared.token.Kind.TheVariants as k
 use Rattle.sf_parse.specs.Grammar as g
+use Rattle.sf_parse.specs.Heads.{IsFlat}
 use Rattle.sf_parse.specs.Machine as m
 use Rattle.sf_parse.specs.Machine.{Owed, mark_kind}
-use Rattle.sf_parse.specs.Nesting.{NotElse, Follows, ConjunctWithin, AssertionWithin, RestWithin, MaybeWithin, CommandWithin, CommandsWithin, ItemWithin, ItemsWithin}
-
--- no `*` comes next
-abbrev pub NotStar : List Kind → Type 0
-NotStar (k.Star ∷ r) = ⊥
-NotStar _ = Unit {0}
-
--- a conjunct that is not closed has no `*` behind it
-abbrev pub Ends : s.Conjunct → List Kind → Type 0
-Ends (s.choose p b x y) r = NotStar r
-Ends (s.choose_round p b x y) r = NotStar r
-Ends _ r = Unit {0}
-
--- a command with no command in it
-abbrev pub IsFlat : s.Command → Type 0
-IsFlat (s.assign x a) = Unit {0}
-IsFlat (s.look_up x a f) = Unit {0}
-IsFlat (s.new x) = Unit {0}
-IsFlat (s.mutate a f b) = Unit {0}
-IsFlat (s.dispose p a) = Unit {0}
-IsFlat (s.dispose_round p a) = Unit {0}
-IsFlat (s.call c) = Unit {0}
-IsFlat (s.fork c e) = Unit {0}
-IsFlat _ = ⊥
+use Rattle.sf_parse.specs.Nesting.{NotElse, NotStar, Follows, Ends, ConjunctWithin, AssertionWithin, RestWithin, MaybeWithin, CommandWithin, CommandsWithin, ItemWithin, ItemsWithin}
 
 -- what one thing owed spells, with the tokens behind it
 abbrev pub Spells : ℕ → Owed → List Kind → List Kind → Type 0

@@ -13,8 +13,8 @@ use Rattle.sf_lex.specs.declared.token.Kind.TheVariants as k
 use Rattle.sf_parse.specs.Grammar as g
 use Rattle.sf_parse.specs.Machine as m
 use Rattle.sf_parse.specs.Machine.{Owed, Choice, take, skip, refuse, Next, goes, bad, deep, leveled, chosen, choice, is_free, step, or_skip, mark_kind, on_exact, on_expression, on_operand, on_conjunct, on_command}
-use Rattle.sf_parse.specs.Nesting.{has_level, IsClosed, ConjunctWithin, AssertionWithin, RestWithin, NoteWithin, MaybeWithin, CommandWithin, CommandsWithin, ItemWithin}
-use Rattle.sf_parse.proofs.Means.{NotStar, Ends, Spells, Means, MeansNext}
+use Rattle.sf_parse.specs.Nesting.{NotStar, Ends, has_level, IsClosed, ConjunctWithin, AssertionWithin, RestWithin, NoteWithin, MaybeWithin, CommandWithin, CommandsWithin, ItemWithin}
+use Rattle.sf_parse.proofs.Means.{Spells, Means, MeansNext}
 use Rattle.sf_parse.proofs.Back.{a_place, a_word, expr_back, operand_back, or_skip_back, takes_back, command_takes, conjunct_takes, conjunct_back, command_back}
 
 record ExactBack (n : ℕ) (mark : m.Mark) (u : Kind) (st : List Owed) (ts : List Kind) : Type 0 where

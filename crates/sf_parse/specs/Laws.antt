@@ -1,15 +1,16 @@
 -- Laws of reading a file, in words of their own: the machine's verdict is that of the grammar.
 -- Ordinary: the viable prefix property, as in Aho, Sethi, Ullman, "Compilers" (1986), section 4.1.
-use Rattle.std.specs.Prelude.{◌≡◌, ◌≤◌, suc, List, [], ◌∷◌, ◌++◌, length}
+use Rattle.std.specs.Prelude.{◌≡◌, ◌≤◌, ℕ, suc, List, [], ◌∷◌, ◌++◌, length}
 use Rattle.sf_base.specs.declared.limits.TheConstants.{NESTING}
 use Rattle.sf_ast.specs.Depth.{items_depth}
 use Rattle.sf_ast.specs.Surface.{Item}
 use Rattle.sf_lex.specs.declared.token.Kind.{Kind}
 use Rattle.sf_lex.specs.declared.token.Token.{Token}
+use Rattle.sf_parse.specs.declared.fault.ParseFault.{ParseFault}
 use Rattle.sf_parse.specs.Grammar.{items}
 use Rattle.sf_parse.specs.Machine.{Verdict, accepted, unexpected, too_deep, verdict, items as some_items}
 use Rattle.sf_parse.specs.Nesting.{ItemsWithin}
-use Rattle.sf_parse.specs.Parsing.{CanBegin, CanBeginAny, IsFile}
+use Rattle.sf_parse.specs.Parsing.{CanBegin, CanBeginAny, IsFile, IsFault}
 
 -- the verdict over a whole file, with nothing free of the limit on nesting
 abbrev pub verdict_of : List Kind → Verdict
@@ -40,3 +41,11 @@ EachFileIsOne = (ts : List Token) (one two : List Item) → IsFile ts one → Is
 -- nothing in a file is deeper than the limit
 abbrev pub EachFileIsShallow : Type 0
 EachFileIsShallow = (ts : List Token) (tree : List Item) → IsFile ts tree → items_depth tree ≤ NESTING
+
+-- tokens have at most one answer: a file's have no fault, and others one alone
+pub record HasOneAnswer (bytes : List ℕ) (ts : List Token) : Type 0 where
+  pub faults : (e f : ParseFault) → IsFault bytes ts e → IsFault bytes ts f → e ≡ f
+  pub apart : (tree : List Item) (f : ParseFault) → IsFile ts tree → IsFault bytes ts f → ⊥
+
+abbrev pub EachHasOneAnswer : Type 0
+EachHasOneAnswer = (bytes : List ℕ) (ts : List Token) → HasOneAnswer bytes ts

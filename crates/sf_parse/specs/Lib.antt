@@ -3,4 +3,9 @@ pub mod Nesting
 pub mod Placed
 pub mod Parsing
 pub mod Machine
+pub mod Faults
 pub mod Laws
+pub mod Steps
+pub mod Given
+pub mod Heads
+pub mod Bodies

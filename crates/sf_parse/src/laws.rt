@@ -1,6 +1,6 @@
 //! Laws of reading a file. Each function does nothing; its contract is the law.
 
-ghost use Rattle.sf_parse.specs.Laws.{EachFileIsOne, EachFileIsShallow, TheVerdictIsExact};
+ghost use Rattle.sf_parse.specs.Laws.{EachFileIsOne, EachFileIsShallow, EachHasOneAnswer, TheVerdictIsExact};
 
 /// What is owed decides exactly as the grammar does: which tokens are a file, and where the others go wrong.
 pub fn the_verdict_is_exact()
@@ -15,4 +15,9 @@ pub fn each_file_is_one()
 /// Nothing in a file is nested deeper than the limit.
 pub fn each_file_is_shallow()
     ensures { EachFileIsShallow }
+{}
+
+/// Tokens have at most one answer: those of a file have no fault, and others have one alone.
+pub fn each_has_one_answer()
+    ensures { EachHasOneAnswer }
 {}

@@ -1,7 +1,22 @@
 //! From the tokens of a file to its surface tree.
 #![tactic(auto)]
 
+mod assertion;
+mod call;
+mod command;
+mod condition;
+mod conjunct;
 pub mod fault;
+mod fields;
+mod file;
+mod front;
+mod item;
 pub mod laws;
+mod leaf;
+mod names;
+mod note;
+mod plain;
+mod stop;
 
 pub use fault::ParseFault;
+pub use file::parse;

@@ -1,0 +1,161 @@
+-- Which way the machine goes at a conjunct and behind one, and one more conjunct at the end of an assertion.
+use Rattle.std.proofs.Common.{◌≡◌, ◌<◌, ℕ, zero, suc, List, [], ◌∷◌, ◌++◌, length, true, false, refl, ap, subst, sym, arith, ◌∙◌}
+use Rattle.std.proofs.lemmas.Bool.Decides.{nat_tests}
+use Rattle.std.proofs.lemmas.List.{length-map}
+use Rattle.sf_base.specs.declared.limits.TheConstants.{NESTING}
+use Rattle.sf_ast.specs.Surface as s
+use Rattle.sf_ast.specs.View.{conjuncts}
+use Rattle.sf_ast.specs.declared.word.SurfaceOperand.{SurfaceOperand}
+use Rattle.sf_lex.specs.declared.token.Kind.{Kind}
+use Rattle.sf_lex.specs.declared.token.Kind.TheVariants as k
+use Rattle.sf_lex.specs.declared.token.Token.{Token}
+use Rattle.sf_parse.specs.Grammar as g
+use Rattle.sf_parse.specs.Machine as m
+use Rattle.sf_parse.specs.Machine.{Owed, verdict, unexpected, too_deep}
+use Rattle.sf_parse.specs.Nesting.{NotStar, Ends, IsClosed, HasLevel, has_level, ConjunctWithin, AssertionWithin, RestWithin}
+use Rattle.sf_parse.specs.Parsing.{kinds}
+use Rattle.sf_parse.specs.Placed.{ConjunctAt, AssertionAt}
+use Rattle.sf_parse.specs.Steps.{NotNext, IsFlat, conjunct_next, last_of}
+use Rattle.sf_parse.proofs.Forth.{by_operand}
+use Rattle.sf_parse.proofs.Fronts.{left_of}
+
+-- without a level
+pub no_level : (left : ℕ) → has_level 0 (suc left) 0 ≡ false
+no_level left = grind (arith, nat_tests)
+
+deep : (ts : List Kind) (st : List Owed) → conjunct_next ts ≡ true → verdict 0 ts (m.assertion 0 ∷ st) ≡ too_deep (length ts)
+deep [] st h = absurd cc
+deep (k.Emp ∷ r) st h = rw (no_level (length r)) refl
+deep (k.OpenRound ∷ r) st h = rw (no_level (length r)) refl
+deep (k.If ∷ r) st h = rw (no_level (length r)) refl
+deep (k.Ls ∷ r) st h = rw (no_level (length r)) refl
+deep (k.Lseg ∷ r) st h = rw (no_level (length r)) refl
+deep (k.List ∷ r) st h = rw (no_level (length r)) refl
+deep (k.Tree ∷ r) st h = rw (no_level (length r)) refl
+deep (k.Name ∷ r) st h = rw (no_level (length r)) refl
+deep (k.Nil ∷ r) st h = rw (no_level (length r)) refl
+deep (k.Null ∷ r) st h = rw (no_level (length r)) refl
+deep (k.Number ∷ r) st h = rw (no_level (length r)) refl
+deep (k.Existential ∷ r) st h = rw (no_level (length r)) refl
+deep (t ∷ r) st h = absurd cc
+
+pub too_deep_here : (ts : List Token) (st : List Owed) → conjunct_next (kinds ts) ≡ true → verdict 0 (kinds ts) (m.assertion 0 ∷ st) ≡ too_deep (length ts)
+too_deep_here ts st h = deep (kinds ts) st h ∙ ap too_deep (length-map ts (λ t. t.kind))
+
+no_assertion : (d : ℕ) (ts : List Kind) (st : List Owed) → conjunct_next ts ≡ false → verdict 0 ts (m.assertion d ∷ st) ≡ unexpected (length ts)
+no_assertion d [] st h = refl
+no_assertion d (k.Emp ∷ r) st h = absurd cc
+no_assertion d (k.OpenRound ∷ r) st h = absurd cc
+no_assertion d (k.If ∷ r) st h = absurd cc
+no_assertion d (k.Ls ∷ r) st h = absurd cc
+no_assertion d (k.Lseg ∷ r) st h = absurd cc
+no_assertion d (k.List ∷ r) st h = absurd cc
+no_assertion d (k.Tree ∷ r) st h = absurd cc
+no_assertion d (k.Name ∷ r) st h = absurd cc
+no_assertion d (k.Nil ∷ r) st h = absurd cc
+no_assertion d (k.Null ∷ r) st h = absurd cc
+no_assertion d (k.Number ∷ r) st h = absurd cc
+no_assertion d (k.Existential ∷ r) st h = absurd cc
+no_assertion d (t ∷ r) st h = refl
+
+pub unexpected_here : (ts : List Token) (st : List Owed) → conjunct_next (kinds ts) ≡ false → verdict 0 (kinds ts) (m.assertion 0 ∷ st) ≡ unexpected (length ts)
+unexpected_here ts st h = left_of ts (m.assertion 0 ∷ st) (no_assertion 0 (kinds ts) st h)
+
+-- with a level
+pub first_conjunct : (d : ℕ) (ts : List Kind) (st : List Owed) → 0 < d → verdict 0 ts (m.assertion d ∷ st) ≡ verdict 0 ts (m.conjunct d ∷ m.more_conjuncts d ∷ st)
+first_conjunct zero ts st h = absurd (omega arith)
+first_conjunct (suc d) [] st h = refl
+first_conjunct (suc d) (k.Emp ∷ r) st h = refl
+first_conjunct (suc d) (k.OpenRound ∷ r) st h = refl
+first_conjunct (suc d) (k.If ∷ r) st h = refl
+first_conjunct (suc d) (k.Ls ∷ r) st h = refl
+first_conjunct (suc d) (k.Lseg ∷ r) st h = refl
+first_conjunct (suc d) (k.List ∷ r) st h = refl
+first_conjunct (suc d) (k.Tree ∷ r) st h = refl
+first_conjunct (suc d) (k.Name ∷ r) st h = refl
+first_conjunct (suc d) (k.Nil ∷ r) st h = refl
+first_conjunct (suc d) (k.Null ∷ r) st h = refl
+first_conjunct (suc d) (k.Number ∷ r) st h = refl
+first_conjunct (suc d) (k.Existential ∷ r) st h = refl
+first_conjunct (suc d) (t ∷ r) st h = refl
+
+-- behind a conjunct
+pub no_more_conjuncts : (d : ℕ) (ts : List Kind) (st : List Owed) → NotNext k.Star ts → verdict 0 ts (m.more_conjuncts d ∷ st) ≡ verdict 0 ts st
+no_more_conjuncts d [] st h = refl
+no_more_conjuncts d (k.Star ∷ r) st h = absurd (h r refl)
+no_more_conjuncts d (t ∷ r) st h = refl
+
+pub not_star : (ts : List Kind) → NotNext k.Star ts → NotStar ts
+not_star [] h = tt
+not_star (k.Star ∷ r) h = absurd (h r refl)
+not_star (t ∷ r) h = tt
+
+-- in square brackets that are not empty
+pub some_assertion : (ts : List Kind) (st : List Owed) → NotNext k.CloseSquare ts → verdict 0 ts (m.maybe_assertion ∷ m.exact m.close_square ∷ st) ≡ verdict 0 ts (m.assertion NESTING ∷ m.exact m.close_square ∷ st)
+some_assertion [] st h = refl
+some_assertion (k.CloseSquare ∷ r) st h = absurd (h r refl)
+some_assertion (t ∷ r) st h = refl
+
+-- a conjunct that begins with an operand
+pub operand_first : (d : ℕ) (x : SurfaceOperand) (ts r : List Token) (st : List Owed) → kinds ts ≡ g.operand x ∷ kinds r → verdict 0 (kinds ts) (m.conjunct d ∷ st) ≡ verdict 0 (kinds r) (m.relation ∷ st)
+operand_first d x ts r st h = rw h (by_operand x (λ u. verdict 0 (u ∷ kinds r) (m.conjunct d ∷ st) ≡ verdict 0 (kinds r) (m.relation ∷ st)) refl refl refl refl refl)
+
+-- a test with no round brackets
+pub bare_test : (ts : List Kind) (st : List Owed) → NotNext k.OpenRound ts → verdict 0 ts (m.if_test ∷ st) ≡ verdict 0 ts (m.operand_test ∷ st)
+bare_test [] st h = refl
+bare_test (k.OpenRound ∷ r) st h = absurd (h r refl)
+bare_test (t ∷ r) st h = refl
+
+-- what is flat is within any level, and nothing in it reaches on
+pub flat_within : (c : s.Conjunct) (d : ℕ) (r : List Kind) → IsFlat c → ConjunctWithin c 0 d r
+flat_within (s.group p a) d r h = absurd h
+flat_within (s.choose p b x y) d r h = absurd h
+flat_within (s.choose_round p b x y) d r h = absurd h
+flat_within (s.emp p) d r h = tt
+flat_within (s.equal x y) d r h = tt
+flat_within (s.differ x y) d r h = tt
+flat_within (s.points x fs) d r h = tt
+flat_within (s.ls p x y) d r h = tt
+flat_within (s.lseg p x y) d r h = tt
+flat_within (s.list p x) d r h = tt
+flat_within (s.tree p x) d r h = tt
+
+pub flat_ends : (c : s.Conjunct) (r : List Kind) → IsFlat c → Ends c r
+flat_ends (s.choose p b x y) r h = absurd h
+flat_ends (s.choose_round p b x y) r h = absurd h
+flat_ends _ r h = tt
+
+pub closed_before_star : (c : s.Conjunct) (r : List Kind) → Ends c (k.Star ∷ r) → IsClosed c
+closed_before_star (s.choose p b x y) r h = absurd h
+closed_before_star (s.choose_round p b x y) r h = absurd h
+closed_before_star _ r h = tt
+
+pub some_level : (d left : ℕ) → 0 < d → HasLevel 0 left d
+some_level zero left h = absurd (omega arith)
+some_level (suc d) left h = refl
+
+-- one more conjunct
+pub assertion_push : (c : s.Conjunct) (xs : List s.Conjunct) (y : s.Conjunct) (r : List Kind) → g.assertion (conjuncts c (xs ++ y ∷ [])) r ≡ g.assertion (conjuncts c xs) (k.Star ∷ g.conjunct y r)
+assertion_push c [] y r = refl
+assertion_push c (x ∷ xs) y r = ap (λ (z : List Kind). g.conjunct c (k.Star ∷ z)) (assertion_push x xs y r)
+
+pub rest_push : (c : s.Conjunct) (xs : List s.Conjunct) (y : s.Conjunct) (d : ℕ) (r : List Kind) → RestWithin (conjuncts c xs) 0 d (k.Star ∷ g.conjunct y r) → IsClosed (last_of (conjuncts c xs)) → ConjunctWithin y 0 d r → RestWithin (conjuncts c (xs ++ y ∷ [])) 0 d r
+rest_push c [] y d r all closed one = (all, closed, one)
+rest_push c (x ∷ xs) y d r all closed one =
+    (subst (λ (z : List Kind). ConjunctWithin c 0 d (k.Star ∷ z)) (sym (assertion_push x xs y r)) all.0, all.1, rest_push x xs y d r all.2 closed one)
+
+pub within_push : (c : s.Conjunct) (xs : List s.Conjunct) (y : s.Conjunct) (d : ℕ) (r : List Kind) → 0 < d → AssertionWithin (conjuncts c xs) 0 d (k.Star ∷ g.conjunct y r) → IsClosed (last_of (conjuncts c xs)) → ConjunctWithin y 0 d r → AssertionWithin (conjuncts c (xs ++ y ∷ [])) 0 d r
+within_push c [] y d r lv all closed one = (all.0, all.1, closed, one)
+within_push c (x ∷ xs) y d r lv all closed one =
+    (some_level d (length (g.conjunct c (k.Star ∷ g.assertion (conjuncts x (xs ++ y ∷ [])) r))) lv, subst (λ (z : List Kind). ConjunctWithin c 0 d (k.Star ∷ z)) (sym (assertion_push x xs y r)) all.1, all.2, rest_push x xs y d r all.3 closed one)
+
+pub at_push : (at : ℕ → Token) (c : s.Conjunct) (xs : List s.Conjunct) (y : s.Conjunct) (r : List Kind) → AssertionAt at (conjuncts c xs) (k.Star ∷ g.conjunct y r) → ConjunctAt at y r → AssertionAt at (conjuncts c (xs ++ y ∷ [])) r
+at_push at c [] y r all one = (all, one)
+at_push at c (x ∷ xs) y r all one =
+    (subst (λ (z : List Kind). ConjunctAt at c (k.Star ∷ z)) (sym (assertion_push x xs y r)) all.0, at_push at x xs y r all.1 one)
+
+pub last_push : (c : s.Conjunct) (xs : List s.Conjunct) (y : s.Conjunct) → last_of (conjuncts c (xs ++ y ∷ [])) ≡ y
+last_push c [] y = refl
+last_push c (x ∷ xs) y = last_push x xs y
+
+pub ruleset behind = (too_deep_here, unexpected_here, first_conjunct, no_more_conjuncts, not_star, operand_first, bare_test, some_assertion, flat_within, flat_ends)

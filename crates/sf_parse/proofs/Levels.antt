@@ -1,0 +1,236 @@
+-- Which way the machine goes at a command, and what levels commands have.
+use Rattle.std.proofs.Common.{◌≡◌, ◌<◌, ◌-◌, ℕ, zero, suc, List, [], ◌∷◌, ◌++◌, length, true, false, Option, refl, ap, sym, subst, ◌∙◌, arith}
+use Rattle.std.proofs.lemmas.Bool.Decides.{nat_tests}
+use Rattle.std.proofs.lemmas.List.{length-map}
+use Rattle.sf_ast.specs.declared.word.SurfaceExpr.{SurfaceExpr}
+use Rattle.sf_ast.specs.declared.word.SurfaceExpr.TheVariants as e
+use Rattle.sf_ast.specs.declared.word.SurfaceTest.{SurfaceTest}
+use Rattle.sf_ast.specs.declared.word.Word.{Word}
+use Rattle.sf_ast.specs.Surface as s
+use Rattle.sf_ast.specs.View.{commands}
+use Rattle.sf_base.specs.declared.place.Place.{Place}
+use Rattle.sf_lex.specs.declared.token.Kind.{Kind}
+use Rattle.sf_lex.specs.declared.token.Kind.TheVariants as k
+use Rattle.sf_lex.specs.declared.token.Token.{Token}
+use Rattle.sf_parse.specs.Grammar as g
+use Rattle.sf_parse.specs.Heads.{IsFlat, command_next}
+use Rattle.sf_parse.specs.Machine as m
+use Rattle.sf_parse.specs.Machine.{Owed, verdict, unexpected, too_deep}
+use Rattle.sf_parse.specs.Nesting.{NotElse, Follows, has_level, HasLevel, MaybeWithin, CommandWithin, CommandsWithin}
+use Rattle.sf_parse.specs.Parsing.{kinds}
+use Rattle.sf_parse.specs.Placed.{CommandAt, CommandsAt}
+use Rattle.sf_parse.specs.Steps.{NotNext, expression_next}
+use Rattle.sf_parse.proofs.Back.{follows_else}
+use Rattle.sf_parse.proofs.Fronts.{left_of}
+
+-- where no level is left
+no_level_left : (l : ℕ) → has_level 0 (suc l) 0 ≡ false
+no_level_left l = grind (arith, nat_tests)
+
+level_stops : (ts : List Kind) (st : List Owed) → command_next ts ≡ true → verdict 0 ts (m.command 0 ∷ st) ≡ too_deep (length ts)
+level_stops [] st h = absurd cc
+level_stops (k.Name ∷ r) st h = rw (no_level_left (length r)) refl
+level_stops (k.Nil ∷ r) st h = rw (no_level_left (length r)) refl
+level_stops (k.Null ∷ r) st h = rw (no_level_left (length r)) refl
+level_stops (k.Number ∷ r) st h = rw (no_level_left (length r)) refl
+level_stops (k.Dispose ∷ r) st h = rw (no_level_left (length r)) refl
+level_stops (k.If ∷ r) st h = rw (no_level_left (length r)) refl
+level_stops (k.While ∷ r) st h = rw (no_level_left (length r)) refl
+level_stops (k.With ∷ r) st h = rw (no_level_left (length r)) refl
+level_stops (k.OpenBrace ∷ r) st h = rw (no_level_left (length r)) refl
+level_stops (t ∷ r) st h = absurd cc
+
+pub stops_at_level : (ts : List Token) (st : List Owed) → command_next (kinds ts) ≡ true → verdict 0 (kinds ts) (m.command 0 ∷ st) ≡ too_deep (length ts)
+stops_at_level ts st h = level_stops (kinds ts) st h ∙ ap too_deep (length-map ts (λ (t : Token). t.kind))
+
+command_stops : (d : ℕ) (ts : List Kind) (st : List Owed) → command_next ts ≡ false → verdict 0 ts (m.command d ∷ st) ≡ unexpected (length ts)
+command_stops d [] st h = refl
+command_stops d (k.Name ∷ r) st h = absurd cc
+command_stops d (k.Nil ∷ r) st h = absurd cc
+command_stops d (k.Null ∷ r) st h = absurd cc
+command_stops d (k.Number ∷ r) st h = absurd cc
+command_stops d (k.Dispose ∷ r) st h = absurd cc
+command_stops d (k.If ∷ r) st h = absurd cc
+command_stops d (k.While ∷ r) st h = absurd cc
+command_stops d (k.With ∷ r) st h = absurd cc
+command_stops d (k.OpenBrace ∷ r) st h = absurd cc
+command_stops d (t ∷ r) st h = refl
+
+-- where no command begins
+pub stops_at_command : (d : ℕ) (ts : List Token) (st : List Owed) → command_next (kinds ts) ≡ false → verdict 0 (kinds ts) (m.command d ∷ st) ≡ unexpected (length ts)
+stops_at_command d ts st h = left_of ts (m.command d ∷ st) (command_stops d (kinds ts) st h)
+
+none_next : (ts : List Kind) → NotNext k.Name ts → NotNext k.Dispose ts → NotNext k.If ts → NotNext k.While ts → NotNext k.With ts → NotNext k.OpenBrace ts → expression_next ts ≡ false → command_next ts ≡ false
+none_next [] a b c d f i j = refl
+none_next (k.Name ∷ r) a b c d f i j = absurd (a r refl)
+none_next (k.Dispose ∷ r) a b c d f i j = absurd (b r refl)
+none_next (k.If ∷ r) a b c d f i j = absurd (c r refl)
+none_next (k.While ∷ r) a b c d f i j = absurd (d r refl)
+none_next (k.With ∷ r) a b c d f i j = absurd (f r refl)
+none_next (k.OpenBrace ∷ r) a b c d f i j = absurd (i r refl)
+none_next (t ∷ r) a b c d f i j = j
+
+pub no_command : (ts : List Token) → NotNext k.Name (kinds ts) → NotNext k.Dispose (kinds ts) → NotNext k.If (kinds ts) → NotNext k.While (kinds ts) → NotNext k.With (kinds ts) → NotNext k.OpenBrace (kinds ts)
+    → expression_next (kinds ts) ≡ false → command_next (kinds ts) ≡ false
+no_command ts a b c d f i j = none_next (kinds ts) a b c d f i j
+
+-- with a level left
+pub takes_named : (d : ℕ) (ts r : List Token) (st : List Owed) → 0 < d → kinds ts ≡ k.Name ∷ kinds r → verdict 0 (kinds ts) (m.command d ∷ st) ≡ verdict 0 (kinds r) (m.named ∷ st)
+takes_named zero ts r st lv h = absurd (omega arith)
+takes_named (suc d) ts r st lv h = rw h refl
+
+pub takes_disposed : (d : ℕ) (ts r : List Token) (st : List Owed) → 0 < d → kinds ts ≡ k.Dispose ∷ kinds r → verdict 0 (kinds ts) (m.command d ∷ st) ≡ verdict 0 (kinds r) (m.disposed ∷ st)
+takes_disposed zero ts r st lv h = absurd (omega arith)
+takes_disposed (suc d) ts r st lv h = rw h refl
+
+pub takes_if : (d : ℕ) (ts r : List Token) (st : List Owed) → 0 < d → kinds ts ≡ k.If ∷ kinds r
+    → verdict 0 (kinds ts) (m.command d ∷ st) ≡ verdict 0 (kinds r) (m.exact m.open_round ∷ m.test ∷ m.exact m.close_round ∷ m.command (d - 1) ∷ m.branch (d - 1) ∷ st)
+takes_if zero ts r st lv h = absurd (omega arith)
+takes_if (suc d) ts r st lv h = rw h refl
+
+pub takes_while : (d : ℕ) (ts r : List Token) (st : List Owed) → 0 < d → kinds ts ≡ k.While ∷ kinds r
+    → verdict 0 (kinds ts) (m.command d ∷ st) ≡ verdict 0 (kinds r) (m.exact m.open_round ∷ m.test ∷ m.exact m.close_round ∷ m.maybe_note ∷ m.command (d - 1) ∷ st)
+takes_while zero ts r st lv h = absurd (omega arith)
+takes_while (suc d) ts r st lv h = rw h refl
+
+pub takes_with : (d : ℕ) (ts r : List Token) (st : List Owed) → 0 < d → kinds ts ≡ k.With ∷ kinds r
+    → verdict 0 (kinds ts) (m.command d ∷ st) ≡ verdict 0 (kinds r) (m.exact m.a_name ∷ m.exact m.when_word ∷ m.exact m.open_round ∷ m.test ∷ m.exact m.close_round ∷ m.command (d - 1) ∷ st)
+takes_with zero ts r st lv h = absurd (omega arith)
+takes_with (suc d) ts r st lv h = rw h refl
+
+pub takes_block : (d : ℕ) (ts r : List Token) (st : List Owed) → 0 < d → kinds ts ≡ k.OpenBrace ∷ kinds r → verdict 0 (kinds ts) (m.command d ∷ st) ≡ verdict 0 (kinds r) (m.commands (d - 1) ∷ m.exact m.close_brace ∷ st)
+takes_block zero ts r st lv h = absurd (omega arith)
+takes_block (suc d) ts r st lv h = rw h refl
+
+pub takes_value : (d : ℕ) (x : SurfaceExpr) (ts r : List Token) (st : List Owed) → 0 < d → NotNext k.Name (kinds ts) → kinds ts ≡ g.expr x ∷ kinds r
+    → verdict 0 (kinds ts) (m.command d ∷ st) ≡ verdict 0 (kinds r) (m.exact m.an_arrow ∷ m.exact m.a_name ∷ m.exact m.equals ∷ m.expression ∷ m.exact m.semicolon ∷ st)
+takes_value zero x ts r st lv no_name h = absurd (omega arith)
+takes_value (suc d) (e.Name x) ts r st lv no_name h = absurd (no_name (kinds r) h)
+takes_value (suc d) (e.Nil p) ts r st lv no_name h = rw h refl
+takes_value (suc d) (e.Null p) ts r st lv no_name h = rw h refl
+takes_value (suc d) (e.Number x) ts r st lv no_name h = rw h refl
+
+-- what need not come
+commands_over : (d : ℕ) (ts : List Kind) (st : List Owed) → command_next ts ≡ false → verdict 0 ts (m.commands d ∷ st) ≡ verdict 0 ts st
+commands_over d [] st h = refl
+commands_over d (k.Name ∷ r) st h = absurd cc
+commands_over d (k.Nil ∷ r) st h = absurd cc
+commands_over d (k.Null ∷ r) st h = absurd cc
+commands_over d (k.Number ∷ r) st h = absurd cc
+commands_over d (k.Dispose ∷ r) st h = absurd cc
+commands_over d (k.If ∷ r) st h = absurd cc
+commands_over d (k.While ∷ r) st h = absurd cc
+commands_over d (k.With ∷ r) st h = absurd cc
+commands_over d (k.OpenBrace ∷ r) st h = absurd cc
+commands_over d (t ∷ r) st h = refl
+
+pub no_commands : (d : ℕ) (ts : List Token) (st : List Owed) → command_next (kinds ts) ≡ false → verdict 0 (kinds ts) (m.commands d ∷ st) ≡ verdict 0 (kinds ts) st
+no_commands d ts st h = commands_over d (kinds ts) st h
+
+commands_go_on : (d : ℕ) (ts : List Kind) (st : List Owed) → command_next ts ≡ true → verdict 0 ts (m.commands d ∷ st) ≡ verdict 0 ts (m.command d ∷ m.commands d ∷ st)
+commands_go_on d [] st h = absurd cc
+commands_go_on d (k.Name ∷ r) st h = refl
+commands_go_on d (k.Nil ∷ r) st h = refl
+commands_go_on d (k.Null ∷ r) st h = refl
+commands_go_on d (k.Number ∷ r) st h = refl
+commands_go_on d (k.Dispose ∷ r) st h = refl
+commands_go_on d (k.If ∷ r) st h = refl
+commands_go_on d (k.While ∷ r) st h = refl
+commands_go_on d (k.With ∷ r) st h = refl
+commands_go_on d (k.OpenBrace ∷ r) st h = refl
+commands_go_on d (t ∷ r) st h = absurd cc
+
+pub another_command : (d : ℕ) (ts : List Token) (st : List Owed) → command_next (kinds ts) ≡ true → verdict 0 (kinds ts) (m.commands d ∷ st) ≡ verdict 0 (kinds ts) (m.command d ∷ m.commands d ∷ st)
+another_command d ts st h = commands_go_on d (kinds ts) st h
+
+branch_over : (d : ℕ) (ts : List Kind) (st : List Owed) → NotNext k.Else ts → verdict 0 ts (m.branch d ∷ st) ≡ verdict 0 ts st
+branch_over d [] st h = refl
+branch_over d (k.Else ∷ r) st h = absurd (h r refl)
+branch_over d (t ∷ r) st h = refl
+
+pub no_branch : (d : ℕ) (ts : List Token) (st : List Owed) → NotNext k.Else (kinds ts) → verdict 0 (kinds ts) (m.branch d ∷ st) ≡ verdict 0 (kinds ts) st
+no_branch d ts st h = branch_over d (kinds ts) st h
+
+not_else : (ts : List Kind) → NotNext k.Else ts → NotElse ts
+not_else [] h = tt
+not_else (k.Else ∷ r) h = absurd (h r refl)
+not_else (t ∷ r) h = tt
+
+pub ruleset levels = (
+  stops_at_level,
+  stops_at_command,
+  no_command,
+  takes_named,
+  takes_disposed,
+  takes_if,
+  takes_while,
+  takes_with,
+  takes_block,
+  takes_value,
+  no_commands,
+  another_command,
+  no_branch,
+)
+
+-- there is a level
+has_level_left : (n l d : ℕ) → 0 < d → HasLevel n l d
+has_level_left n l zero h = absurd (omega arith)
+has_level_left n l (suc d) h = refl
+
+-- a command with no command in it
+pub flat_within : (c : s.Command) (d : ℕ) (r : List Kind) → IsFlat c → 0 < d → CommandWithin c 0 d r
+flat_within (s.assign x a) d r f h = has_level_left 0 _ d h
+flat_within (s.look_up x a f0) d r f h = has_level_left 0 _ d h
+flat_within (s.new x) d r f h = has_level_left 0 _ d h
+flat_within (s.mutate a f0 b) d r f h = has_level_left 0 _ d h
+flat_within (s.dispose p a) d r f h = has_level_left 0 _ d h
+flat_within (s.dispose_round p a) d r f h = has_level_left 0 _ d h
+flat_within (s.call c) d r f h = has_level_left 0 _ d h
+flat_within (s.fork c e) d r f h = has_level_left 0 _ d h
+flat_within _ d r f h = absurd f
+
+pub flat_follows : (c : s.Command) (r : List Kind) → IsFlat c → Follows c r
+flat_follows (s.assign x a) r f = tt
+flat_follows (s.look_up x a f0) r f = tt
+flat_follows (s.new x) r f = tt
+flat_follows (s.mutate a f0 b) r f = tt
+flat_follows (s.dispose p a) r f = tt
+flat_follows (s.dispose_round p a) r f = tt
+flat_follows (s.call c) r f = tt
+flat_follows (s.fork c e) r f = tt
+flat_follows _ r f = absurd f
+
+-- commands with a command in them
+pub when_within : (p : Place) (b : SurfaceTest SurfaceExpr) (c : s.Command) (d : ℕ) (r : List Kind) → 0 < d → CommandWithin c 0 (d - 1) r → CommandWithin (s.when p b c) 0 d r
+when_within p b c d r lv h = (has_level_left 0 _ d lv, h)
+
+pub if_within : (p : Place) (b : SurfaceTest SurfaceExpr) (c x : s.Command) (d : ℕ) (us vs r : List Kind) → 0 < d → us ≡ k.Else ∷ vs → vs ≡ g.command x r → CommandWithin c 0 (d - 1) us → Follows c us → CommandWithin x 0 (d - 1) r
+    → CommandWithin (s.if p b c x) 0 d r
+if_within p b c x d us vs r lv h i w f v =
+    let whole : us ≡ k.Else ∷ g.command x r = h ∙ ap (λ (z : List Kind). k.Else ∷ z) i in
+    (has_level_left 0 _ d lv, subst (λ (z : List Kind). CommandWithin c 0 (d - 1) z) whole w, v, follows_else c vs [] (subst (λ (z : List Kind). Follows c z) h f))
+
+pub while_within : (p : Place) (b : SurfaceTest SurfaceExpr) (x : Option s.Note) (c : s.Command) (d : ℕ) (us r : List Kind) → 0 < d → us ≡ g.command c r → MaybeWithin x 0 us → CommandWithin c 0 (d - 1) r → CommandWithin (s.while p b x c) 0 d r
+while_within p b x c d us r lv h n w = (has_level_left 0 _ d lv, subst (λ (z : List Kind). MaybeWithin x 0 z) h n, w)
+
+pub with_within : (p : Place) (y : Word) (b : SurfaceTest SurfaceExpr) (c : s.Command) (d : ℕ) (r : List Kind) → 0 < d → CommandWithin c 0 (d - 1) r → CommandWithin (s.with p y b c) 0 d r
+with_within p y b c d r lv h = (has_level_left 0 _ d lv, h)
+
+pub block_within : (p : Place) (cs : s.Commands) (d : ℕ) (us r : List Kind) → 0 < d → us ≡ k.CloseBrace ∷ r → CommandsWithin cs 0 (d - 1) us → CommandWithin (s.block p cs) 0 d r
+block_within p cs d us r lv h w = (has_level_left 0 _ d lv, subst (λ (z : List Kind). CommandsWithin cs 0 (d - 1) z) h w)
+
+pub when_follows : (p : Place) (b : SurfaceTest SurfaceExpr) (c : s.Command) (r : List Kind) → NotNext k.Else r → Follows (s.when p b c) r
+when_follows p b c r h = not_else r h
+
+-- one more at the end
+pub commands_push : (cs : List s.Command) (c : s.Command) (r : List Kind) → g.commands (commands (cs ++ c ∷ [])) r ≡ g.commands (commands cs) (g.command c r)
+commands_push [] c r = refl
+commands_push (x ∷ xs) c r = ap (g.command x) (commands_push xs c r)
+
+pub within_push : (cs : List s.Command) (c : s.Command) (d : ℕ) (r : List Kind) → CommandsWithin (commands cs) 0 d (g.command c r) → CommandWithin c 0 d r → CommandsWithin (commands (cs ++ c ∷ [])) 0 d r
+within_push [] c d r all one = (one, tt)
+within_push (x ∷ xs) c d r all one = (subst (λ (z : List Kind). CommandWithin x 0 d z) (sym (commands_push xs c r)) all.0, within_push xs c d r all.1 one)
+
+pub commands_at_push : (at : ℕ → Token) (cs : List s.Command) (c : s.Command) (r : List Kind) → CommandsAt at (commands cs) (g.command c r) → CommandAt at c r → CommandsAt at (commands (cs ++ c ∷ [])) r
+commands_at_push at [] c r all one = (one, tt)
+commands_at_push at (x ∷ xs) c r all one = (subst (λ (z : List Kind). CommandAt at x z) (sym (commands_push xs c r)) all.0, commands_at_push at xs c r all.1 one)

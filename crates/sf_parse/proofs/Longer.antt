@@ -1,0 +1,49 @@
+-- What spells something is longer than what stands behind it.
+use Rattle.std.proofs.Common.{◌≤◌, ◌<◌, List, [], ◌∷◌, length, arith}
+use Rattle.std.proofs.lemmas.List.{length-map}
+use Rattle.sf_ast.specs.declared.assertion.SurfaceField.{SurfaceField}
+use Rattle.sf_ast.specs.declared.word.SurfaceTest.{SurfaceTest}
+use Rattle.sf_ast.specs.declared.word.SurfaceTest.TheVariants as t
+use Rattle.sf_ast.specs.Surface as s
+use Rattle.sf_lex.specs.declared.token.Kind.{Kind}
+use Rattle.sf_lex.specs.declared.token.Kind.TheVariants as k
+use Rattle.sf_lex.specs.declared.token.Token.{Token}
+use Rattle.sf_parse.specs.Grammar as g
+use Rattle.sf_parse.specs.Parsing.{kinds}
+
+pub test_longer : {E : Type 0} (kind : E → Kind) (b : SurfaceTest E) (r : List Kind) → length r < length (g.test kind b r)
+test_longer kind (t.True p) r = omega arith
+test_longer kind (t.Equal x y) r = omega arith
+test_longer kind (t.Differ x y) r = omega arith
+
+pub more_fields_longer : (fs : List SurfaceField) (r : List Kind) → length r ≤ length (g.more_fields fs r)
+more_fields_longer [] r = omega arith
+more_fields_longer (f ∷ fs) r = omega (arith, more_fields_longer fs r)
+
+pub maybe_fields_longer : (fs : List SurfaceField) (r : List Kind) → length r ≤ length (g.maybe_fields fs r)
+maybe_fields_longer [] r = omega arith
+maybe_fields_longer (f ∷ fs) r = omega (arith, more_fields_longer fs r)
+
+mutual
+  pub conjunct_longer : (c : s.Conjunct) (r : List Kind) → length r < length (g.conjunct c r)
+  conjunct_longer (s.emp p) r = omega arith
+  conjunct_longer (s.group p a) r = omega (arith, assertion_longer a (k.CloseRound ∷ r))
+  conjunct_longer (s.choose p b x y) r =
+      omega (arith, test_longer g.operand b (k.Then ∷ g.assertion x (k.Else ∷ g.assertion y r)), assertion_longer x (k.Else ∷ g.assertion y r), assertion_longer y r)
+  conjunct_longer (s.choose_round p b x y) r =
+      omega (arith, test_longer g.operand b (k.CloseRound ∷ k.Then ∷ g.assertion x (k.Else ∷ g.assertion y r)), assertion_longer x (k.Else ∷ g.assertion y r), assertion_longer y r)
+  conjunct_longer (s.equal x y) r = omega arith
+  conjunct_longer (s.differ x y) r = omega arith
+  conjunct_longer (s.points x fs) r = omega (arith, maybe_fields_longer fs r)
+  conjunct_longer (s.ls p x y) r = omega arith
+  conjunct_longer (s.lseg p x y) r = omega arith
+  conjunct_longer (s.list p x) r = omega arith
+  conjunct_longer (s.tree p x) r = omega arith
+
+  pub assertion_longer : (a : s.Assertion) (r : List Kind) → length r < length (g.assertion a r)
+  assertion_longer (s.only c) r = conjunct_longer c r
+  assertion_longer (s.star c a) r = omega (arith, conjunct_longer c (k.Star ∷ g.assertion a r), assertion_longer a r)
+
+-- fewer kinds are fewer tokens
+pub fewer : (ts us : List Token) → length (kinds ts) < length (kinds us) → length ts < length us
+fewer ts us h = omega (arith, length-map ts (λ (t : Token). t.kind), length-map us (λ (t : Token). t.kind))

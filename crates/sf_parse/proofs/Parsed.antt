@@ -1,0 +1,76 @@
+-- What the answer of a whole file is, from what its items give.
+use Rattle.std.proofs.Common.{◌≡◌, ◌≤◌, ◌<◌, ◌-◌, ℕ, zero, suc, ◌⊎◌, inl, inr, List, [], ◌∷◌, ◌++◌, length, get_or, true, false, refl, ap, sym, subst, ◌∙◌, arith, append_assoc}
+use Rattle.std.proofs.lemmas.List.{get_or_default, length-map}
+use Rattle.std.specs.Prelude.{IfOk, IfErr, MatchResult}
+use Rattle.std.specs.declared.result.Result.{Result}
+use Rattle.std.specs.declared.result.Result.TheVariants.{Ok, Err}
+use Rattle.sf_base.specs.declared.limits.TheConstants.{FILE_BYTES}
+use Rattle.sf_base.specs.declared.place.Place.{Place}
+use Rattle.sf_ast.specs.Surface.{Item}
+use Rattle.sf_lex.specs.declared.token.Token.{Token}
+use Rattle.sf_lex.specs.Reading.{AreTokens}
+use Rattle.sf_parse.specs.declared.fault.ParseFault.{ParseFault}
+use Rattle.sf_parse.specs.declared.fault.ParseFault.TheVariants as p
+use Rattle.sf_parse.specs.declared.stop.Stop.{Stop}
+use Rattle.sf_parse.specs.declared.stop.Stop.TheVariants as t
+use Rattle.sf_parse.specs.Faults.{place_left}
+use Rattle.sf_parse.specs.Grammar.{items}
+use Rattle.sf_parse.specs.Machine as m
+use Rattle.sf_parse.specs.Nesting.{ItemsWithin}
+use Rattle.sf_parse.specs.Parsing.{kinds, no_token, token_left, IsFile, IsFault}
+use Rattle.sf_parse.specs.Placed.{ItemsAt}
+use Rattle.sf_parse.specs.Steps.{Agree, Placed, Stops}
+use Rattle.sf_parse.proofs.Exactly.{fault_le}
+use Rattle.sf_parse.proofs.Faults.{token_there, says_fault, faults_once, files_without_fault}
+use Rattle.sf_parse.proofs.OnceFiles.{items_once}
+
+-- each token is the one with which so many are left
+agree_behind : (front ts : List Token) → Agree (token_left (front ++ ts)) ts
+agree_behind front [] = tt
+agree_behind front (t ∷ ts) = (
+  ap (λ (n : ℕ). token_left (front ++ t ∷ ts) (suc n)) (length-map ts (λ (x : Token). x.kind)) ∙ token_there front t ts,
+  subst (λ (z : List Token). Agree (token_left z) ts) (append_assoc front (t ∷ []) ts) (agree_behind (front ++ t ∷ []) ts),
+)
+
+pub agree_all : (ts : List Token) → Agree (token_left ts) ts
+agree_all ts = agree_behind [] ts
+
+-- a file is found
+pub file_found : (ts : List Token) (tree : List Item) → kinds ts ≡ items tree [] → ItemsWithin tree 0 [] → Placed (λ at b. ItemsAt at tree b) ts [] → IsFile ts tree
+file_found ts tree is w stand = record { spells = is; within = w; places = (stand (token_left ts) (agree_all ts)).0 }
+
+-- no more tokens are left than there are
+pub left_within : (ts : List Token) (n : ℕ) → Stops (t.Unexpected n) (m.items ∷ []) ts → n ≤ length ts
+left_within ts n h = let le : n ≤ length (kinds ts) = fault_le (kinds ts) (m.items ∷ []) true n (h []) in omega (arith, length-map ts (λ (x : Token). x.kind))
+
+pub deep_within : (ts : List Token) (n : ℕ) → Stops (t.TooDeep n) (m.items ∷ []) ts → n ≤ length ts
+deep_within ts n h = let le : n ≤ length (kinds ts) = fault_le (kinds ts) (m.items ∷ []) false n (h []) in omega (arith, length-map ts (λ (x : Token). x.kind))
+
+-- the fault where reading stops
+pub unexpected_there : (bytes : List ℕ) (ts : List Token) (n : ℕ) (place : Place) → Stops (t.Unexpected n) (m.items ∷ []) ts → place ≡ place_left bytes ts n → IsFault bytes ts (p.Unexpected place)
+unexpected_there bytes ts n place h at = says_fault bytes ts (p.Unexpected place) (n, h [], at)
+
+pub too_deep_there : (bytes : List ℕ) (ts : List Token) (n : ℕ) (place : Place) → Stops (t.TooDeep n) (m.items ∷ []) ts → place ≡ place_left bytes ts n → IsFault bytes ts (p.TooDeep place)
+too_deep_there bytes ts n place h at = says_fault bytes ts (p.TooDeep place) (n, h [], at)
+
+-- where tokens are left
+place_of_token : (bytes : List ℕ) (ts : List Token) (n : ℕ) → 0 < n → (token_left ts n).place ≡ place_left bytes ts n
+place_of_token bytes ts zero h = absurd (omega arith)
+place_of_token bytes ts (suc n) h = refl
+
+pub place_at : (bytes : List ℕ) (ts : List Token) (n : ℕ) (d : Token) → 0 < n → n ≤ length ts → (get_or ts (length ts - n) d).place ≡ place_left bytes ts n
+place_at bytes ts n d some le = ap (λ (x : Token). x.place) (get_or_default ts (length ts - n) d no_token (omega arith)) ∙ place_of_token bytes ts n some
+
+file_once : (ts : List Token) (one two : List Item) → IsFile ts one → IsFile ts two → one ≡ two
+file_once ts one two f g = items_once (token_left ts) 0 one two f.places g.places f.within g.within (sym f.spells ∙ g.spells)
+
+-- an answer that is in order says of all others that they are none
+pub only_found : {X : Type 0} (tree_of : X → List Item) (bytes : List ℕ) (ts : List Token) (r : Result X ParseFault) → IfOk r (λ x. IsFile ts (tree_of x)) → IfErr r (λ e. (e ≡ p.OutOfMemory) ⊎ IsFault bytes ts e)
+    → (tree : List Item) → IsFile ts tree → MatchResult r (λ x. tree_of x ≡ tree) (λ e. e ≡ p.OutOfMemory)
+only_found tree_of bytes ts (Ok x) found refused tree h = file_once ts (tree_of x) tree found h
+only_found tree_of bytes ts (Err e) found refused tree h = elim refused [ inl memory ↦ memory | inr fault ↦ absurd (files_without_fault bytes ts tree e h fault) ]
+
+pub only_refused : {X : Type 0} (tree_of : X → List Item) (bytes : List ℕ) (ts : List Token) (r : Result X ParseFault) → IfOk r (λ x. IsFile ts (tree_of x)) → IfErr r (λ e. (e ≡ p.OutOfMemory) ⊎ IsFault bytes ts e)
+    → (fault : ParseFault) → IsFault bytes ts fault → MatchResult r (λ _. ⊥) (λ own. (own ≡ fault) ⊎ (own ≡ p.OutOfMemory))
+only_refused tree_of bytes ts (Ok x) found refused fault h = files_without_fault bytes ts (tree_of x) fault found h
+only_refused tree_of bytes ts (Err e) found refused fault h = elim refused [ inl memory ↦ inr memory | inr own ↦ inl (faults_once bytes ts e fault own h) ]

@@ -1,0 +1,99 @@
+-- What the parser's functions give: the tokens that they read, where these stand, and what becomes of what is owed.
+-- Ordinary: predictive parsing by recursive descent, as in Aho, Sethi, Ullman, "Compilers" (1986), section 4.4.
+use Rattle.std.specs.Prelude.{◌≡◌, ◌≢◌, ℕ, List, [], ◌∷◌, ◌++◌, length, Bool, true, false}
+use Rattle.sf_ast.specs.Surface as s
+use Rattle.sf_lex.specs.declared.token.Kind.{Kind}
+use Rattle.sf_lex.specs.declared.token.Kind.TheVariants as k
+use Rattle.sf_lex.specs.declared.token.Token.{Token}
+use Rattle.sf_parse.specs.declared.stop.Stop.{Stop}
+use Rattle.sf_parse.specs.declared.stop.Stop.TheVariants.{Unexpected, TooDeep, OutOfMemory}
+use Rattle.sf_parse.specs.Machine as m
+use Rattle.sf_parse.specs.Machine.{Owed, Mark, verdict, unexpected, too_deep}
+use Rattle.sf_parse.specs.Parsing.{kinds}
+
+-- what is owed takes the tokens up to the rest, whatever is owed below
+abbrev pub Takes : List Owed → List Token → List Token → Type 0
+Takes ss ts r = (st : List Owed) → verdict 0 (kinds ts) (ss ++ st) ≡ verdict 0 (kinds r) st
+
+-- the fault stands where the tokens stop to fit what is owed, whatever is owed below
+abbrev pub Stops : Stop → List Owed → List Token → Type 0
+Stops (Unexpected n) ss ts = (st : List Owed) → verdict 0 (kinds ts) (ss ++ st) ≡ unexpected n
+Stops (TooDeep n) ss ts = (st : List Owed) → verdict 0 (kinds ts) (ss ++ st) ≡ too_deep n
+Stops OutOfMemory ss ts = Unit {0}
+
+-- each of the tokens is the one with which so many are left
+abbrev pub Agree : (ℕ → Token) → List Token → Type 0
+Agree at [] = Unit {0}
+Agree at (t ∷ ts) = (at (length (kinds (t ∷ ts))) ≡ t) × Agree at ts
+
+-- what was read stands where its tokens do, and the rest is what stands behind it
+abbrev pub Placed : ((ℕ → Token) → List Kind → Type 0) → List Token → List Token → Type 0
+Placed Stands ts r = (at : ℕ → Token) → Agree at ts → Stands at (kinds r) × Agree at r
+
+-- no such token comes next
+abbrev pub NotNext : Kind → List Kind → Type 0
+NotNext u ts = (r : List Kind) → ts ≢ u ∷ r
+
+-- an expression comes next
+abbrev pub expression_next : List Kind → Bool
+expression_next (k.Name ∷ r) = true
+expression_next (k.Nil ∷ r) = true
+expression_next (k.Null ∷ r) = true
+expression_next (k.Number ∷ r) = true
+expression_next _ = false
+
+-- an operand comes next
+abbrev pub operand_next : List Kind → Bool
+operand_next (k.Existential ∷ r) = true
+operand_next r = expression_next r
+
+-- the mark that a kind is, where it is one
+abbrev pub mark_of : Kind → Mark
+mark_of k.Arrow = m.an_arrow
+mark_of k.Equals = m.equals
+mark_of k.Semicolon = m.semicolon
+mark_of k.OpenRound = m.open_round
+mark_of k.CloseRound = m.close_round
+mark_of k.OpenSquare = m.open_square
+mark_of k.CloseSquare = m.close_square
+mark_of k.OpenBrace = m.open_brace
+mark_of k.CloseBrace = m.close_brace
+mark_of k.Colon = m.a_colon
+mark_of k.Comma = m.a_comma
+mark_of k.Then = m.then_word
+mark_of k.Else = m.else_word
+mark_of k.When = m.when_word
+mark_of _ = m.a_name
+
+-- what is owed is a conjunct of any level, and so on
+abbrev pub TakesConjunct : List Token → List Token → Type 0
+TakesConjunct ts r = (d : ℕ) (st : List Owed) → verdict 0 (kinds ts) (m.conjunct d ∷ st) ≡ verdict 0 (kinds r) st
+
+-- the same of its fault
+abbrev pub StopsConjunct : Stop → List Token → Type 0
+StopsConjunct (Unexpected n) ts = (d : ℕ) (st : List Owed) → verdict 0 (kinds ts) (m.conjunct d ∷ st) ≡ unexpected n
+StopsConjunct (TooDeep n) ts = (d : ℕ) (st : List Owed) → verdict 0 (kinds ts) (m.conjunct d ∷ st) ≡ too_deep n
+StopsConjunct OutOfMemory ts = Unit {0}
+
+-- no assertion is in it
+abbrev pub IsFlat : s.Conjunct → Type 0
+IsFlat (s.group p a) = ⊥
+IsFlat (s.choose p b x y) = ⊥
+IsFlat (s.choose_round p b x y) = ⊥
+IsFlat _ = Unit {0}
+
+-- a conjunct comes next
+abbrev pub conjunct_next : List Kind → Bool
+conjunct_next (k.Emp ∷ r) = true
+conjunct_next (k.OpenRound ∷ r) = true
+conjunct_next (k.If ∷ r) = true
+conjunct_next (k.Ls ∷ r) = true
+conjunct_next (k.Lseg ∷ r) = true
+conjunct_next (k.List ∷ r) = true
+conjunct_next (k.Tree ∷ r) = true
+conjunct_next r = operand_next r
+
+-- the last conjunct of an assertion
+abbrev pub last_of : s.Assertion → s.Conjunct
+last_of (s.only c) = c
+last_of (s.star c a) = last_of a

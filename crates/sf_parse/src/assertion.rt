@@ -1,0 +1,163 @@
+//! Assertions, nested no deeper than their levels allow.
+
+ghost use Rattle.std.specs.Prelude.{◌≡◌, ◌<◌, ◌-◌, ◌∷◌, ℕ, [], IfErr, IfOk, map};
+ghost use Rattle.sf_ast.specs.Surface.{Conjunct};
+ghost use Rattle.sf_ast.specs.View.{assertion_of, conjunct_of, conjuncts};
+ghost use Rattle.sf_lex.specs.declared.token.Token.{Token};
+ghost use Rattle.sf_parse.specs.Grammar.{assertion, conjunct};
+ghost use Rattle.sf_parse.specs.Machine as m;
+ghost use Rattle.sf_parse.specs.Nesting.{AssertionWithin, ConjunctWithin, Ends, NotStar};
+ghost use Rattle.sf_parse.specs.Parsing.{kinds};
+ghost use Rattle.sf_parse.specs.Placed.{AssertionAt, ConjunctAt, PlaceAt};
+ghost use Rattle.sf_parse.specs.Steps.{Agree, Placed, Stops, Takes};
+
+use crate::condition::operand_test;
+use crate::conjunct::{predicate, relation};
+use crate::front::{begins_conjunct, eat, eat_operand};
+use crate::leaf::expect;
+use crate::stop::Stop;
+use sf_ast::{SurfaceAssertion, SurfaceConjunct};
+use sf_base::Place;
+use sf_lex::{Kind, Token};
+use std::alloc::Global;
+
+/// The fault of an assertion for which there is no level.
+#[tactic(auto, using(crate::proofs::Conjuncts::behind))]
+fn no_level(tokens: &[Token]) -> Stop
+    ensures { Stops result (m.assertion 0 ∷ []) tokens.now }
+{
+    if begins_conjunct(tokens) {
+        Stop::TooDeep(tokens.len())
+    } else {
+        Stop::Unexpected(tokens.len())
+    }
+}
+
+/// An assertion of at most that many levels.
+#[cycle(assertion)]
+#[tactic(auto, using(crate::proofs::Conjuncts::behind))]
+pub fn assertion(
+    alloc: Global,
+    depth: usize,
+    tokens: &[Token],
+) -> Result<(SurfaceAssertion, &[Token]), Stop>
+    ensures spelled { IfOk result (λ r. kinds tokens.now ≡ assertion (assertion_of r.0) (kinds r.1.now)) }
+    ensures within { IfOk result (λ r. AssertionWithin (assertion_of r.0) 0 depth (kinds r.1.now)) }
+    ensures ended { IfOk result (λ r. NotStar (kinds r.1.now)) }
+    ensures places { IfOk result (λ r. Placed (λ at b. AssertionAt at (assertion_of r.0) b) tokens.now r.1.now) }
+    ensures taken { IfOk result (λ r. Takes (m.assertion depth ∷ []) tokens.now r.1.now) }
+    ensures fault { IfErr result (λ e. Stops e (m.assertion depth ∷ []) tokens.now) }
+{
+    if depth == 0 {
+        return Err(no_level(tokens));
+    }
+    let (first, rest) = conjunct(alloc, depth, tokens)?;
+    let (more, rest) = more_conjuncts(alloc, depth, rest)?;
+    let first = Box::new(alloc, first)?;
+    Ok((SurfaceAssertion { first, more }, rest))
+}
+
+/// The conjuncts behind a first one, whichever that is, each behind its `*`.
+#[cycle(assertion)]
+#[tactic(auto, using(crate::proofs::Conjuncts::behind))]
+fn more_conjuncts(
+    alloc: Global,
+    depth: usize,
+    tokens: &[Token],
+) -> Result<(Vec<SurfaceConjunct>, &[Token]), Stop>
+    requires { 0 < depth }
+    ensures spelled { IfOk result (λ r. (c : Conjunct) → conjunct c (kinds tokens.now) ≡ assertion (conjuncts c (map conjunct_of r.0.items)) (kinds r.1.now)) }
+    ensures within { IfOk result (λ r. (c : Conjunct) → ConjunctWithin c 0 depth (kinds tokens.now) → Ends c (kinds tokens.now) → AssertionWithin (conjuncts c (map conjunct_of r.0.items)) 0 depth (kinds r.1.now)) }
+    ensures ended { IfOk result (λ r. NotStar (kinds r.1.now)) }
+    ensures places { IfOk result (λ r. (at : ℕ → Token) → Agree at tokens.now → (c : Conjunct) → ConjunctAt at c (kinds tokens.now) → AssertionAt at (conjuncts c (map conjunct_of r.0.items)) (kinds r.1.now) × Agree at r.1.now) }
+    ensures taken { IfOk result (λ r. Takes (m.more_conjuncts depth ∷ []) tokens.now r.1.now) }
+    ensures fault { IfErr result (λ e. Stops e (m.more_conjuncts depth ∷ []) tokens.now) }
+{
+    let mut found = Vec::new(alloc);
+    let mut rest = tokens;
+    while let Some((_, after)) = eat(rest, Kind::Star) {
+        let (one, after) = conjunct(alloc, depth, after)?;
+        found.push(one)?;
+        rest = after;
+    }
+    Ok((found, rest))
+}
+
+/// A conjunct of an assertion that has that many levels.
+#[cycle(assertion)]
+#[tactic(auto, using(crate::proofs::Conjuncts::behind))]
+fn conjunct(
+    alloc: Global,
+    depth: usize,
+    tokens: &[Token],
+) -> Result<(SurfaceConjunct, &[Token]), Stop>
+    requires { 0 < depth }
+    ensures spelled { IfOk result (λ r. kinds tokens.now ≡ conjunct (conjunct_of r.0) (kinds r.1.now)) }
+    ensures within { IfOk result (λ r. ConjunctWithin (conjunct_of r.0) 0 depth (kinds r.1.now)) }
+    ensures ended { IfOk result (λ r. Ends (conjunct_of r.0) (kinds r.1.now)) }
+    ensures places { IfOk result (λ r. Placed (λ at b. ConjunctAt at (conjunct_of r.0) b) tokens.now r.1.now) }
+    ensures taken { IfOk result (λ r. Takes (m.conjunct depth ∷ []) tokens.now r.1.now) }
+    ensures fault { IfErr result (λ e. Stops e (m.conjunct depth ∷ []) tokens.now) }
+{
+    if let Some((left, rest)) = eat_operand(tokens) {
+        return relation(alloc, left, rest);
+    }
+    if let Some((place, rest)) = eat(tokens, Kind::OpenRound) {
+        let (inner, rest) = assertion(alloc, depth - 1, rest)?;
+        let (_, rest) = expect(rest, Kind::CloseRound)?;
+        return Ok((SurfaceConjunct::Group(place, inner), rest));
+    }
+    if let Some((place, rest)) = eat(tokens, Kind::If) {
+        return choice(alloc, depth - 1, place, rest);
+    }
+    predicate(tokens)
+}
+
+/// What stands behind the `if` of a conjunct, each branch of at most that many levels.
+#[cycle(assertion)]
+#[tactic(auto, using(crate::proofs::Conjuncts::behind))]
+fn choice(
+    alloc: Global,
+    depth: usize,
+    place: Place,
+    tokens: &[Token],
+) -> Result<(SurfaceConjunct, &[Token]), Stop>
+    ensures spelled { IfOk result (λ r. Kind.If ∷ kinds tokens.now ≡ conjunct (conjunct_of r.0) (kinds r.1.now)) }
+    ensures within { IfOk result (λ r. (d : ℕ) → d - 1 ≡ depth → ConjunctWithin (conjunct_of r.0) 0 d (kinds r.1.now)) }
+    ensures ended { IfOk result (λ r. NotStar (kinds r.1.now)) }
+    ensures places { IfOk result (λ r. (at : ℕ → Token) → Agree at tokens.now → PlaceAt at place (Kind.If ∷ kinds tokens.now) → ConjunctAt at (conjunct_of r.0) (kinds r.1.now) × Agree at r.1.now) }
+    ensures taken { IfOk result (λ r. Takes (m.if_test ∷ m.exact m.then_word ∷ m.assertion depth ∷ m.exact m.else_word ∷ m.assertion depth ∷ []) tokens.now r.1.now) }
+    ensures fault { IfErr result (λ e. Stops e (m.if_test ∷ m.exact m.then_word ∷ m.assertion depth ∷ m.exact m.else_word ∷ m.assertion depth ∷ []) tokens.now) }
+{
+    if let Some((_, rest)) = eat(tokens, Kind::OpenRound) {
+        let (test, rest) = operand_test(rest)?;
+        let (_, rest) = expect(rest, Kind::CloseRound)?;
+        let (then, otherwise, rest) = branches(alloc, depth, rest)?;
+        return Ok((SurfaceConjunct::IfRound(place, test, then, otherwise), rest));
+    }
+    let (test, rest) = operand_test(tokens)?;
+    let (then, otherwise, rest) = branches(alloc, depth, rest)?;
+    Ok((SurfaceConjunct::If(place, test, then, otherwise), rest))
+}
+
+/// The two branches behind a test, each of at most that many levels.
+#[cycle(assertion)]
+fn branches(
+    alloc: Global,
+    depth: usize,
+    tokens: &[Token],
+) -> Result<(SurfaceAssertion, SurfaceAssertion, &[Token]), Stop>
+    ensures spelled { IfOk result (λ r. kinds tokens.now ≡ Kind.Then ∷ assertion (assertion_of r.0) (Kind.Else ∷ assertion (assertion_of r.1) (kinds r.2.now))) }
+    ensures first_within { IfOk result (λ r. AssertionWithin (assertion_of r.0) 0 depth (Kind.Else ∷ assertion (assertion_of r.1) (kinds r.2.now))) }
+    ensures second_within { IfOk result (λ r. AssertionWithin (assertion_of r.1) 0 depth (kinds r.2.now)) }
+    ensures ended { IfOk result (λ r. NotStar (kinds r.2.now)) }
+    ensures places { IfOk result (λ r. Placed (λ at b. AssertionAt at (assertion_of r.0) (Kind.Else ∷ assertion (assertion_of r.1) b) × AssertionAt at (assertion_of r.1) b) tokens.now r.2.now) }
+    ensures taken { IfOk result (λ r. Takes (m.exact m.then_word ∷ m.assertion depth ∷ m.exact m.else_word ∷ m.assertion depth ∷ []) tokens.now r.2.now) }
+    ensures fault { IfErr result (λ e. Stops e (m.exact m.then_word ∷ m.assertion depth ∷ m.exact m.else_word ∷ m.assertion depth ∷ []) tokens.now) }
+{
+    let (_, rest) = expect(tokens, Kind::Then)?;
+    let (then, rest) = assertion(alloc, depth, rest)?;
+    let (_, rest) = expect(rest, Kind::Else)?;
+    let (otherwise, rest) = assertion(alloc, depth, rest)?;
+    Ok((then, otherwise, rest))
+}

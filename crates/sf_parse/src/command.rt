@@ -1,0 +1,302 @@
+//! Commands, of which each may have others in it.
+
+ghost use Rattle.std.specs.Prelude.{◌≡◌, ◌<◌, ◌-◌, ◌∷◌, [], false, map, IfErr, IfOk};
+ghost use Rattle.sf_ast.specs.Surface as s;
+ghost use Rattle.sf_ast.specs.View.{command_of, commands, note_of};
+ghost use Rattle.sf_lex.specs.declared.token.Kind.TheVariants as k;
+ghost use Rattle.sf_parse.specs.Grammar as g;
+ghost use Rattle.sf_parse.specs.Grammar.{command, expr};
+ghost use Rattle.sf_parse.specs.Heads.{IsFlat, PlacedBehind, command_next};
+ghost use Rattle.sf_parse.specs.Machine as m;
+ghost use Rattle.sf_parse.specs.Nesting.{CommandWithin, CommandsWithin, Follows};
+ghost use Rattle.sf_parse.specs.Parsing.{kinds};
+ghost use Rattle.sf_parse.specs.Placed.{CommandAt, CommandsAt, ExprAt, PlaceAt, TestAt};
+ghost use Rattle.sf_parse.specs.Steps.{Placed, Stops, Takes};
+ghost use Rattle.std.specs.Option.{option_map};
+
+use crate::condition::test;
+use crate::front::{eat, eat_expression, eat_word};
+use crate::leaf::{expect, name};
+use crate::note::maybe_note;
+use crate::plain::{disposed, mutated, named};
+use crate::stop::Stop;
+use sf_ast::{SurfaceCommand, SurfaceExpr, SurfaceNote, SurfaceTest, Word};
+use sf_base::Place;
+use sf_lex::{Kind, Token};
+use std::alloc::{AllocError, Global};
+
+/// Whether a command begins.
+fn begins_command(tokens: &[Token]) -> bool
+    ensures { result ≡ command_next (kinds tokens.now) }
+{
+    match tokens {
+        [token, ..] => matches!(
+            token.kind,
+            Kind::Name
+                | Kind::Nil
+                | Kind::Null
+                | Kind::Number
+                | Kind::Dispose
+                | Kind::If
+                | Kind::While
+                | Kind::With
+                | Kind::OpenBrace
+        ),
+        _ => false,
+    }
+}
+
+/// Why there is no command where no level is left.
+#[tactic(auto, using(crate::proofs::Levels::levels))]
+fn no_level(tokens: &[Token]) -> Stop
+    ensures { Stops result (m.command 0 ∷ []) tokens.now }
+{
+    if begins_command(tokens) {
+        Stop::TooDeep(tokens.len())
+    } else {
+        Stop::Unexpected(tokens.len())
+    }
+}
+
+/// `( B )`
+fn round_test(tokens: &[Token]) -> Result<(SurfaceTest<SurfaceExpr>, &[Token]), Stop>
+    ensures spelled { IfOk result (λ r. kinds tokens.now ≡ k.OpenRound ∷ g.test expr r.0 (k.CloseRound ∷ kinds r.1.now)) }
+    ensures places { IfOk result (λ r. Placed (λ at b. TestAt at expr (ExprAt at) r.0 (k.CloseRound ∷ b)) tokens.now r.1.now) }
+    ensures taken { IfOk result (λ r. Takes (m.exact m.open_round ∷ m.test ∷ m.exact m.close_round ∷ []) tokens.now r.1.now) }
+    ensures fault { IfErr result (λ e. Stops e (m.exact m.open_round ∷ m.test ∷ m.exact m.close_round ∷ []) tokens.now) }
+{
+    let (_, rest) = expect(tokens, Kind::OpenRound)?;
+    let (condition, rest) = test(rest)?;
+    let (_, rest) = expect(rest, Kind::CloseRound)?;
+    Ok((condition, rest))
+}
+
+/// `E -> f = F ;` behind its first expression.
+fn value_first(object: SurfaceExpr, tokens: &[Token]) -> Result<(SurfaceCommand, &[Token]), Stop>
+    ensures spelled { IfOk result (λ r. expr object ∷ kinds tokens.now ≡ command (command_of r.0) (kinds r.1.now)) }
+    ensures flat { IfOk result (λ r. IsFlat (command_of r.0)) }
+    ensures places { IfOk result (λ r. PlacedBehind (λ at b. ExprAt at object b) (λ at b. CommandAt at (command_of r.0) b) tokens.now r.1.now) }
+    ensures taken { IfOk result (λ r. Takes (m.exact m.an_arrow ∷ m.exact m.a_name ∷ m.exact m.equals ∷ m.expression ∷ m.exact m.semicolon ∷ []) tokens.now r.1.now) }
+    ensures fault { IfErr result (λ e. Stops e (m.exact m.an_arrow ∷ m.exact m.a_name ∷ m.exact m.equals ∷ m.expression ∷ m.exact m.semicolon ∷ []) tokens.now) }
+{
+    let (_, rest) = expect(tokens, Kind::Arrow)?;
+    mutated(object, rest)
+}
+
+/// An `if` without an `else`.
+fn when_node(
+    alloc: Global,
+    place: Place,
+    condition: SurfaceTest<SurfaceExpr>,
+    then: SurfaceCommand,
+) -> Result<SurfaceCommand, AllocError>
+    ensures { IfOk result (λ c. command_of c ≡ s.when place condition (command_of then)) }
+{
+    let then = Box::new(alloc, then)?;
+    Ok(SurfaceCommand::When(place, condition, then))
+}
+
+/// An `if` with an `else`.
+fn if_node(
+    alloc: Global,
+    place: Place,
+    condition: SurfaceTest<SurfaceExpr>,
+    then: SurfaceCommand,
+    otherwise: SurfaceCommand,
+) -> Result<SurfaceCommand, AllocError>
+    ensures { IfOk result (λ c. command_of c ≡ s.if place condition (command_of then) (command_of otherwise)) }
+{
+    let then = Box::new(alloc, then)?;
+    let otherwise = Box::new(alloc, otherwise)?;
+    Ok(SurfaceCommand::If(place, condition, then, otherwise))
+}
+
+/// A `while`.
+fn while_node(
+    alloc: Global,
+    place: Place,
+    condition: SurfaceTest<SurfaceExpr>,
+    invariant: Option<SurfaceNote>,
+    body: SurfaceCommand,
+) -> Result<SurfaceCommand, AllocError>
+    ensures { IfOk result (λ c. command_of c ≡ s.while place condition (option_map note_of invariant) (command_of body)) }
+{
+    let body = Box::new(alloc, body)?;
+    Ok(SurfaceCommand::While(place, condition, invariant, body))
+}
+
+/// A `with`.
+fn with_node(
+    alloc: Global,
+    place: Place,
+    resource: Word,
+    condition: SurfaceTest<SurfaceExpr>,
+    body: SurfaceCommand,
+) -> Result<SurfaceCommand, AllocError>
+    ensures { IfOk result (λ c. command_of c ≡ s.with place resource condition (command_of body)) }
+{
+    let body = Box::new(alloc, body)?;
+    Ok(SurfaceCommand::With(place, resource, condition, body))
+}
+
+/// An `if` behind its own word. An `else` belongs to the nearest one.
+#[cycle(nest)]
+#[tactic(auto, using(crate::proofs::Levels::levels))]
+fn if_command(
+    alloc: Global,
+    place: Place,
+    depth: usize,
+    tokens: &[Token],
+) -> Result<(SurfaceCommand, &[Token]), Stop>
+    requires { 0 < depth }
+    ensures spelled { IfOk result (λ r. k.If ∷ kinds tokens.now ≡ command (command_of r.0) (kinds r.1.now)) }
+    ensures within { IfOk result (λ r. CommandWithin (command_of r.0) 0 depth (kinds r.1.now)) }
+    ensures follows { IfOk result (λ r. Follows (command_of r.0) (kinds r.1.now)) }
+    ensures places { IfOk result (λ r. PlacedBehind (λ at b. PlaceAt at place (k.If ∷ b)) (λ at b. CommandAt at (command_of r.0) b) tokens.now r.1.now) }
+    ensures taken { IfOk result (λ r. Takes (m.exact m.open_round ∷ m.test ∷ m.exact m.close_round ∷ m.command (depth - 1) ∷ m.branch (depth - 1) ∷ []) tokens.now r.1.now) }
+    ensures fault { IfErr result (λ e. Stops e (m.exact m.open_round ∷ m.test ∷ m.exact m.close_round ∷ m.command (depth - 1) ∷ m.branch (depth - 1) ∷ []) tokens.now) }
+{
+    let (condition, rest) = round_test(tokens)?;
+    let (then, rest) = command(alloc, depth - 1, rest)?;
+    let Some((_, after)) = eat(rest, Kind::Else) else {
+        return Ok((when_node(alloc, place, condition, then)?, rest));
+    };
+    let (otherwise, after) = command(alloc, depth - 1, after)?;
+    Ok((if_node(alloc, place, condition, then, otherwise)?, after))
+}
+
+/// A `while` behind its own word.
+#[cycle(nest)]
+#[tactic(auto, using(crate::proofs::Levels::levels))]
+fn while_command(
+    alloc: Global,
+    place: Place,
+    depth: usize,
+    tokens: &[Token],
+) -> Result<(SurfaceCommand, &[Token]), Stop>
+    requires { 0 < depth }
+    ensures spelled { IfOk result (λ r. k.While ∷ kinds tokens.now ≡ command (command_of r.0) (kinds r.1.now)) }
+    ensures within { IfOk result (λ r. CommandWithin (command_of r.0) 0 depth (kinds r.1.now)) }
+    ensures follows { IfOk result (λ r. Follows (command_of r.0) (kinds r.1.now)) }
+    ensures places { IfOk result (λ r. PlacedBehind (λ at b. PlaceAt at place (k.While ∷ b)) (λ at b. CommandAt at (command_of r.0) b) tokens.now r.1.now) }
+    ensures taken { IfOk result (λ r. Takes (m.exact m.open_round ∷ m.test ∷ m.exact m.close_round ∷ m.maybe_note ∷ m.command (depth - 1) ∷ []) tokens.now r.1.now) }
+    ensures fault { IfErr result (λ e. Stops e (m.exact m.open_round ∷ m.test ∷ m.exact m.close_round ∷ m.maybe_note ∷ m.command (depth - 1) ∷ []) tokens.now) }
+{
+    let (condition, rest) = round_test(tokens)?;
+    let (invariant, rest) = maybe_note(alloc, rest)?;
+    let (body, rest) = command(alloc, depth - 1, rest)?;
+    Ok((while_node(alloc, place, condition, invariant, body)?, rest))
+}
+
+/// A `with` behind its own word.
+#[cycle(nest)]
+#[tactic(auto, using(crate::proofs::Levels::levels))]
+fn with_command(
+    alloc: Global,
+    place: Place,
+    depth: usize,
+    tokens: &[Token],
+) -> Result<(SurfaceCommand, &[Token]), Stop>
+    requires { 0 < depth }
+    ensures spelled { IfOk result (λ r. k.With ∷ kinds tokens.now ≡ command (command_of r.0) (kinds r.1.now)) }
+    ensures within { IfOk result (λ r. CommandWithin (command_of r.0) 0 depth (kinds r.1.now)) }
+    ensures follows { IfOk result (λ r. Follows (command_of r.0) (kinds r.1.now)) }
+    ensures places { IfOk result (λ r. PlacedBehind (λ at b. PlaceAt at place (k.With ∷ b)) (λ at b. CommandAt at (command_of r.0) b) tokens.now r.1.now) }
+    ensures taken { IfOk result (λ r. Takes (m.exact m.a_name ∷ m.exact m.when_word ∷ m.exact m.open_round ∷ m.test ∷ m.exact m.close_round ∷ m.command (depth - 1) ∷ []) tokens.now r.1.now) }
+    ensures fault { IfErr result (λ e. Stops e (m.exact m.a_name ∷ m.exact m.when_word ∷ m.exact m.open_round ∷ m.test ∷ m.exact m.close_round ∷ m.command (depth - 1) ∷ []) tokens.now) }
+{
+    let (resource, rest) = name(tokens)?;
+    let (_, rest) = expect(rest, Kind::When)?;
+    let (condition, rest) = round_test(rest)?;
+    let (body, rest) = command(alloc, depth - 1, rest)?;
+    Ok((with_node(alloc, place, resource, condition, body)?, rest))
+}
+
+/// A block behind its `{`.
+#[cycle(nest)]
+#[tactic(auto, using(crate::proofs::Levels::levels))]
+fn block(
+    alloc: Global,
+    place: Place,
+    depth: usize,
+    tokens: &[Token],
+) -> Result<(SurfaceCommand, &[Token]), Stop>
+    requires { 0 < depth }
+    ensures spelled { IfOk result (λ r. k.OpenBrace ∷ kinds tokens.now ≡ command (command_of r.0) (kinds r.1.now)) }
+    ensures within { IfOk result (λ r. CommandWithin (command_of r.0) 0 depth (kinds r.1.now)) }
+    ensures follows { IfOk result (λ r. Follows (command_of r.0) (kinds r.1.now)) }
+    ensures places { IfOk result (λ r. PlacedBehind (λ at b. PlaceAt at place (k.OpenBrace ∷ b)) (λ at b. CommandAt at (command_of r.0) b) tokens.now r.1.now) }
+    ensures taken { IfOk result (λ r. Takes (m.commands (depth - 1) ∷ m.exact m.close_brace ∷ []) tokens.now r.1.now) }
+    ensures fault { IfErr result (λ e. Stops e (m.commands (depth - 1) ∷ m.exact m.close_brace ∷ []) tokens.now) }
+{
+    let (inner, rest) = commands(alloc, depth - 1, tokens)?;
+    let (_, rest) = expect(rest, Kind::CloseBrace)?;
+    Ok((SurfaceCommand::Block(place, inner), rest))
+}
+
+/// One command of at most that many levels.
+#[cycle(nest)]
+#[tactic(auto, using(crate::proofs::Levels::levels))]
+fn command(
+    alloc: Global,
+    depth: usize,
+    tokens: &[Token],
+) -> Result<(SurfaceCommand, &[Token]), Stop>
+    ensures spelled { IfOk result (λ r. kinds tokens.now ≡ command (command_of r.0) (kinds r.1.now)) }
+    ensures within { IfOk result (λ r. CommandWithin (command_of r.0) 0 depth (kinds r.1.now)) }
+    ensures follows { IfOk result (λ r. Follows (command_of r.0) (kinds r.1.now)) }
+    ensures places { IfOk result (λ r. Placed (λ at b. CommandAt at (command_of r.0) b) tokens.now r.1.now) }
+    ensures taken { IfOk result (λ r. Takes (m.command depth ∷ []) tokens.now r.1.now) }
+    ensures fault { IfErr result (λ e. Stops e (m.command depth ∷ []) tokens.now) }
+{
+    if depth == 0 {
+        return Err(no_level(tokens));
+    }
+    if let Some((first, rest)) = eat_word(tokens, Kind::Name) {
+        return named(alloc, first, rest);
+    }
+    if let Some((place, rest)) = eat(tokens, Kind::Dispose) {
+        return disposed(place, rest);
+    }
+    if let Some((place, rest)) = eat(tokens, Kind::If) {
+        return if_command(alloc, place, depth, rest);
+    }
+    if let Some((place, rest)) = eat(tokens, Kind::While) {
+        return while_command(alloc, place, depth, rest);
+    }
+    if let Some((place, rest)) = eat(tokens, Kind::With) {
+        return with_command(alloc, place, depth, rest);
+    }
+    if let Some((place, rest)) = eat(tokens, Kind::OpenBrace) {
+        return block(alloc, place, depth, rest);
+    }
+    if let Some((object, rest)) = eat_expression(tokens) {
+        return value_first(object, rest);
+    }
+    Err(Stop::Unexpected(tokens.len()))
+}
+
+/// As many commands as come.
+#[cycle(nest)]
+#[tactic(auto, using(crate::proofs::Levels::levels))]
+pub fn commands(
+    alloc: Global,
+    depth: usize,
+    tokens: &[Token],
+) -> Result<(Vec<SurfaceCommand>, &[Token]), Stop>
+    ensures spelled { IfOk result (λ r. kinds tokens.now ≡ g.commands (commands (map command_of r.0.items)) (kinds r.1.now)) }
+    ensures within { IfOk result (λ r. CommandsWithin (commands (map command_of r.0.items)) 0 depth (kinds r.1.now)) }
+    ensures ended { IfOk result (λ r. command_next (kinds r.1.now) ≡ false) }
+    ensures places { IfOk result (λ r. Placed (λ at b. CommandsAt at (commands (map command_of r.0.items)) b) tokens.now r.1.now) }
+    ensures taken { IfOk result (λ r. Takes (m.commands depth ∷ []) tokens.now r.1.now) }
+    ensures fault { IfErr result (λ e. Stops e (m.commands depth ∷ []) tokens.now) }
+{
+    let mut found = Vec::new(alloc);
+    let mut rest = tokens;
+    while begins_command(rest) {
+        let (one, after) = command(alloc, depth, rest)?;
+        found.push(one)?;
+        rest = after;
+    }
+    Ok((found, rest))
+}

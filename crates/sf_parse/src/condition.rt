@@ -1,0 +1,60 @@
+//! Tests of two values, over expressions and over operands.
+
+ghost use Rattle.std.specs.Prelude.{◌≡◌, ◌∷◌, [], IfErr, IfOk};
+ghost use Rattle.sf_parse.specs.Grammar.{expr, operand, test};
+ghost use Rattle.sf_parse.specs.Machine as m;
+ghost use Rattle.sf_parse.specs.Parsing.{kinds};
+ghost use Rattle.sf_parse.specs.Placed.{ExprAt, OperandAt, TestAt};
+ghost use Rattle.sf_parse.specs.Steps.{Placed, Stops, Takes};
+
+use crate::front::eat;
+use crate::leaf::{expression, operand};
+use crate::stop::Stop;
+use sf_ast::{SurfaceExpr, SurfaceOperand, SurfaceTest};
+use sf_lex::{Kind, Token};
+
+/// A test over expressions.
+#[tactic(auto, using(crate::proofs::Choices::choices))]
+pub fn test(tokens: &[Token]) -> Result<(SurfaceTest<SurfaceExpr>, &[Token]), Stop>
+    ensures spelled { IfOk result (λ r. kinds tokens.now ≡ test expr r.0 (kinds r.1.now)) }
+    ensures places { IfOk result (λ r. Placed (λ at b. TestAt at expr (ExprAt at) r.0 b) tokens.now r.1.now) }
+    ensures taken { IfOk result (λ r. Takes (m.test ∷ []) tokens.now r.1.now) }
+    ensures fault { IfErr result (λ e. Stops e (m.test ∷ []) tokens.now) }
+{
+    if let Some((place, rest)) = eat(tokens, Kind::True) {
+        return Ok((SurfaceTest::True(place), rest));
+    }
+    let (left, rest) = expression(tokens)?;
+    if let Some((_, rest)) = eat(rest, Kind::EqualEqual) {
+        let (right, rest) = expression(rest)?;
+        return Ok((SurfaceTest::Equal(left, right), rest));
+    }
+    if let Some((_, rest)) = eat(rest, Kind::NotEqual) {
+        let (right, rest) = expression(rest)?;
+        return Ok((SurfaceTest::Differ(left, right), rest));
+    }
+    Err(Stop::Unexpected(rest.len()))
+}
+
+/// A test over operands.
+#[tactic(auto, using(crate::proofs::Choices::choices))]
+pub fn operand_test(tokens: &[Token]) -> Result<(SurfaceTest<SurfaceOperand>, &[Token]), Stop>
+    ensures spelled { IfOk result (λ r. kinds tokens.now ≡ test operand r.0 (kinds r.1.now)) }
+    ensures places { IfOk result (λ r. Placed (λ at b. TestAt at operand (OperandAt at) r.0 b) tokens.now r.1.now) }
+    ensures taken { IfOk result (λ r. Takes (m.operand_test ∷ []) tokens.now r.1.now) }
+    ensures fault { IfErr result (λ e. Stops e (m.operand_test ∷ []) tokens.now) }
+{
+    if let Some((place, rest)) = eat(tokens, Kind::True) {
+        return Ok((SurfaceTest::True(place), rest));
+    }
+    let (left, rest) = operand(tokens)?;
+    if let Some((_, rest)) = eat(rest, Kind::EqualEqual) {
+        let (right, rest) = operand(rest)?;
+        return Ok((SurfaceTest::Equal(left, right), rest));
+    }
+    if let Some((_, rest)) = eat(rest, Kind::NotEqual) {
+        let (right, rest) = operand(rest)?;
+        return Ok((SurfaceTest::Differ(left, right), rest));
+    }
+    Err(Stop::Unexpected(rest.len()))
+}

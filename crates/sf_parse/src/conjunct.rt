@@ -1,0 +1,108 @@
+//! Conjuncts with no assertion in them.
+
+ghost use Rattle.std.specs.Prelude.{◌≡◌, ◌∷◌, ℕ, [], false, IfErr, IfOk};
+ghost use Rattle.sf_ast.specs.View.{conjunct_of};
+ghost use Rattle.sf_lex.specs.declared.token.Token.{Token};
+ghost use Rattle.sf_parse.specs.Grammar.{conjunct, operand};
+ghost use Rattle.sf_parse.specs.Machine as m;
+ghost use Rattle.sf_parse.specs.Parsing.{kinds};
+ghost use Rattle.sf_parse.specs.Placed.{ConjunctAt, OperandAt};
+ghost use Rattle.sf_parse.specs.Steps.{Agree, IsFlat, NotNext, Placed, Stops, StopsConjunct, Takes, TakesConjunct, operand_next};
+
+use crate::fields::maybe_fields;
+use crate::front::eat;
+use crate::leaf::{expect, operand};
+use crate::stop::Stop;
+use sf_ast::{SurfaceConjunct, SurfaceOperand};
+use sf_lex::{Kind, Token};
+use std::alloc::Global;
+
+/// `( E )`
+fn one_operand(tokens: &[Token]) -> Result<(SurfaceOperand, &[Token]), Stop>
+    ensures spelled { IfOk result (λ r. kinds tokens.now ≡ Kind.OpenRound ∷ operand r.0 ∷ Kind.CloseRound ∷ kinds r.1.now) }
+    ensures places { IfOk result (λ r. Placed (λ at b. OperandAt at r.0 (Kind.CloseRound ∷ b)) tokens.now r.1.now) }
+    ensures taken { IfOk result (λ r. Takes (m.exact m.open_round ∷ m.operand ∷ m.exact m.close_round ∷ []) tokens.now r.1.now) }
+    ensures fault { IfErr result (λ e. Stops e (m.exact m.open_round ∷ m.operand ∷ m.exact m.close_round ∷ []) tokens.now) }
+{
+    let (_, rest) = expect(tokens, Kind::OpenRound)?;
+    let (value, rest) = operand(rest)?;
+    let (_, rest) = expect(rest, Kind::CloseRound)?;
+    Ok((value, rest))
+}
+
+/// `( E , F )`
+fn two_operands(tokens: &[Token]) -> Result<(SurfaceOperand, SurfaceOperand, &[Token]), Stop>
+    ensures spelled { IfOk result (λ r. kinds tokens.now ≡ Kind.OpenRound ∷ operand r.0 ∷ Kind.Comma ∷ operand r.1 ∷ Kind.CloseRound ∷ kinds r.2.now) }
+    ensures places { IfOk result (λ r. Placed (λ at b. OperandAt at r.0 (Kind.Comma ∷ operand r.1 ∷ Kind.CloseRound ∷ b) × OperandAt at r.1 (Kind.CloseRound ∷ b)) tokens.now r.2.now) }
+    ensures taken { IfOk result (λ r. Takes (m.exact m.open_round ∷ m.operand ∷ m.exact m.a_comma ∷ m.operand ∷ m.exact m.close_round ∷ []) tokens.now r.2.now) }
+    ensures fault { IfErr result (λ e. Stops e (m.exact m.open_round ∷ m.operand ∷ m.exact m.a_comma ∷ m.operand ∷ m.exact m.close_round ∷ []) tokens.now) }
+{
+    let (_, rest) = expect(tokens, Kind::OpenRound)?;
+    let (from, rest) = operand(rest)?;
+    let (_, rest) = expect(rest, Kind::Comma)?;
+    let (to, rest) = operand(rest)?;
+    let (_, rest) = expect(rest, Kind::CloseRound)?;
+    Ok((from, to, rest))
+}
+
+/// What stands behind the operand that begins a conjunct.
+#[tactic(auto, using(crate::proofs::Choices::choices))]
+pub fn relation(
+    alloc: Global,
+    left: SurfaceOperand,
+    tokens: &[Token],
+) -> Result<(SurfaceConjunct, &[Token]), Stop>
+    ensures spelled { IfOk result (λ r. operand left ∷ kinds tokens.now ≡ conjunct (conjunct_of r.0) (kinds r.1.now)) }
+    ensures flat { IfOk result (λ r. IsFlat (conjunct_of r.0)) }
+    ensures places { IfOk result (λ r. (at : ℕ → Token) → Agree at tokens.now → OperandAt at left (kinds tokens.now) → ConjunctAt at (conjunct_of r.0) (kinds r.1.now) × Agree at r.1.now) }
+    ensures taken { IfOk result (λ r. Takes (m.relation ∷ []) tokens.now r.1.now) }
+    ensures fault { IfErr result (λ e. Stops e (m.relation ∷ []) tokens.now) }
+{
+    if let Some((_, rest)) = eat(tokens, Kind::EqualEqual) {
+        let (right, rest) = operand(rest)?;
+        return Ok((SurfaceConjunct::Equal(left, right), rest));
+    }
+    if let Some((_, rest)) = eat(tokens, Kind::NotEqual) {
+        let (right, rest) = operand(rest)?;
+        return Ok((SurfaceConjunct::Differ(left, right), rest));
+    }
+    if let Some((_, rest)) = eat(tokens, Kind::PointsTo) {
+        let (fields, rest) = maybe_fields(alloc, rest)?;
+        return Ok((SurfaceConjunct::Points(left, fields), rest));
+    }
+    Err(Stop::Unexpected(tokens.len()))
+}
+
+/// `emp`, a segment, a list or a tree.
+#[tactic(auto, using(crate::proofs::Choices::choices))]
+pub fn predicate(tokens: &[Token]) -> Result<(SurfaceConjunct, &[Token]), Stop>
+    requires no_operand { operand_next (kinds tokens.now) ≡ false }
+    requires no_group { NotNext Kind.OpenRound (kinds tokens.now) }
+    requires no_choice { NotNext Kind.If (kinds tokens.now) }
+    ensures spelled { IfOk result (λ r. kinds tokens.now ≡ conjunct (conjunct_of r.0) (kinds r.1.now)) }
+    ensures flat { IfOk result (λ r. IsFlat (conjunct_of r.0)) }
+    ensures places { IfOk result (λ r. Placed (λ at b. ConjunctAt at (conjunct_of r.0) b) tokens.now r.1.now) }
+    ensures taken { IfOk result (λ r. TakesConjunct tokens.now r.1.now) }
+    ensures fault { IfErr result (λ e. StopsConjunct e tokens.now) }
+{
+    if let Some((place, rest)) = eat(tokens, Kind::Emp) {
+        return Ok((SurfaceConjunct::Emp(place), rest));
+    }
+    if let Some((place, rest)) = eat(tokens, Kind::Ls) {
+        let (from, to, rest) = two_operands(rest)?;
+        return Ok((SurfaceConjunct::Ls(place, from, to), rest));
+    }
+    if let Some((place, rest)) = eat(tokens, Kind::Lseg) {
+        let (from, to, rest) = two_operands(rest)?;
+        return Ok((SurfaceConjunct::Lseg(place, from, to), rest));
+    }
+    if let Some((place, rest)) = eat(tokens, Kind::List) {
+        let (value, rest) = one_operand(rest)?;
+        return Ok((SurfaceConjunct::List(place, value), rest));
+    }
+    if let Some((place, rest)) = eat(tokens, Kind::Tree) {
+        let (value, rest) = one_operand(rest)?;
+        return Ok((SurfaceConjunct::Tree(place, value), rest));
+    }
+    Err(Stop::Unexpected(tokens.len()))
+}

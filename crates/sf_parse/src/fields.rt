@@ -1,0 +1,63 @@
+//! The fields of a points-to.
+
+ghost use Rattle.std.specs.Prelude.{◌≡◌, ◌∷◌, [], IfErr, IfOk};
+ghost use Rattle.sf_parse.specs.Grammar.{field, maybe_fields, more_fields};
+ghost use Rattle.sf_parse.specs.Machine as m;
+ghost use Rattle.sf_parse.specs.Parsing.{kinds};
+ghost use Rattle.sf_parse.specs.Placed.{FieldAt, MaybeFieldsAt, MoreFieldsAt};
+ghost use Rattle.sf_parse.specs.Steps.{Placed, Stops, Takes};
+
+use crate::front::{eat, eat_word};
+use crate::leaf::{expect, name, operand};
+use crate::stop::Stop;
+use sf_ast::SurfaceField;
+use sf_lex::{Kind, Token};
+use std::alloc::Global;
+
+/// A field, its colon and its value.
+fn field(tokens: &[Token]) -> Result<(SurfaceField, &[Token]), Stop>
+    ensures spelled { IfOk result (λ r. kinds tokens.now ≡ field r.0 (kinds r.1.now)) }
+    ensures places { IfOk result (λ r. Placed (λ at b. FieldAt at r.0 b) tokens.now r.1.now) }
+    ensures taken { IfOk result (λ r. Takes (m.exact m.a_name ∷ m.exact m.a_colon ∷ m.operand ∷ []) tokens.now r.1.now) }
+    ensures fault { IfErr result (λ e. Stops e (m.exact m.a_name ∷ m.exact m.a_colon ∷ m.operand ∷ []) tokens.now) }
+{
+    let (name, rest) = name(tokens)?;
+    let (_, rest) = expect(rest, Kind::Colon)?;
+    let (value, rest) = operand(rest)?;
+    Ok((SurfaceField { name, value }, rest))
+}
+
+/// Fields behind a first one, each behind its comma.
+#[tactic(auto, using(crate::proofs::Choices::choices, crate::proofs::Lists::pushes))]
+fn more_fields(alloc: Global, tokens: &[Token]) -> Result<(Vec<SurfaceField>, &[Token]), Stop>
+    ensures spelled { IfOk result (λ r. kinds tokens.now ≡ more_fields r.0.items (kinds r.1.now)) }
+    ensures places { IfOk result (λ r. Placed (λ at b. MoreFieldsAt at r.0.items b) tokens.now r.1.now) }
+    ensures taken { IfOk result (λ r. Takes (m.more_fields ∷ []) tokens.now r.1.now) }
+    ensures fault { IfErr result (λ e. Stops e (m.more_fields ∷ []) tokens.now) }
+{
+    let mut found = Vec::new(alloc);
+    let mut rest = tokens;
+    while let Some((_, after)) = eat(rest, Kind::Comma) {
+        let (one, after) = field(after)?;
+        found.push(one)?;
+        rest = after;
+    }
+    Ok((found, rest))
+}
+
+/// Fields, or none.
+#[tactic(auto, using(crate::proofs::Choices::choices))]
+pub fn maybe_fields(alloc: Global, tokens: &[Token]) -> Result<(Vec<SurfaceField>, &[Token]), Stop>
+    ensures spelled { IfOk result (λ r. kinds tokens.now ≡ maybe_fields r.0.items (kinds r.1.now)) }
+    ensures places { IfOk result (λ r. Placed (λ at b. MaybeFieldsAt at r.0.items b) tokens.now r.1.now) }
+    ensures taken { IfOk result (λ r. Takes (m.maybe_fields ∷ []) tokens.now r.1.now) }
+    ensures fault { IfErr result (λ e. Stops e (m.maybe_fields ∷ []) tokens.now) }
+{
+    let Some(_) = eat_word(tokens, Kind::Name) else {
+        return Ok((Vec::new(alloc), tokens));
+    };
+    let (first, rest) = field(tokens)?;
+    let (mut found, rest) = more_fields(alloc, rest)?;
+    found.insert(0, first)?;
+    Ok((found, rest))
+}

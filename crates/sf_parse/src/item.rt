@@ -1,0 +1,209 @@
+//! The items of a file: fields, resources and procedures.
+
+ghost use Rattle.std.specs.Prelude.{◌≡◌, ◌<◌, ◌∷◌, [], List, length, map, IfErr, IfOk};
+ghost use Rattle.std.specs.Option.{option_map};
+ghost use Rattle.sf_ast.specs.Surface as s;
+ghost use Rattle.sf_ast.specs.View.{item_of, names_of, note_of, parameters_of};
+ghost use Rattle.sf_base.specs.declared.limits.TheConstants.{NESTING};
+ghost use Rattle.sf_lex.specs.declared.token.Kind.TheVariants as k;
+ghost use Rattle.sf_parse.specs.Bodies.{BodyAt, BodyWithin, body, procedure_with};
+ghost use Rattle.sf_parse.specs.Grammar as g;
+ghost use Rattle.sf_parse.specs.Grammar.{item};
+ghost use Rattle.sf_parse.specs.Heads.{PlacedBehind};
+ghost use Rattle.sf_parse.specs.Machine as m;
+ghost use Rattle.sf_parse.specs.Machine.{Owed, verdict};
+ghost use Rattle.sf_parse.specs.Nesting.{ItemWithin, ItemsWithin};
+ghost use Rattle.sf_parse.specs.Parsing.{kinds};
+ghost use Rattle.sf_parse.specs.Placed.{ItemAt, ItemsAt, LocalsAt, PlaceAt, WordAt};
+ghost use Rattle.sf_parse.specs.Steps.{Placed, Stops, Takes};
+
+use crate::command::commands;
+use crate::front::{eat, eat_word};
+use crate::leaf::{expect, name};
+use crate::names::{maybe_names, more_names, names, parameters};
+use crate::note::{maybe_note, note};
+use crate::stop::Stop;
+use sf_ast::{
+    Item, SurfaceCommand, SurfaceNames, SurfaceNote, SurfaceParameters, SurfaceProcedure, SurfaceResource, Word,
+};
+use sf_base::Place;
+use sf_base::limits::NESTING;
+use sf_lex::{Kind, Token};
+use std::alloc::Global;
+
+/// A procedure's body, between its braces.
+#[derive(Debug, Drop)]
+pub struct Body {
+    pub open: Place,
+    pub locals: Vec<SurfaceNames>,
+    pub commands: Vec<SurfaceCommand>,
+    pub close: Place,
+}
+
+/// The `local`s of a body.
+#[tactic(auto, using(crate::proofs::ItemHeads::item_heads))]
+fn locals(alloc: Global, tokens: &[Token]) -> Result<(Vec<SurfaceNames>, &[Token]), Stop>
+    ensures spelled { IfOk result (λ r. kinds tokens.now ≡ g.locals (map names_of r.0.items) (kinds r.1.now)) }
+    ensures places { IfOk result (λ r. Placed (λ at b. LocalsAt at (map names_of r.0.items) b) tokens.now r.1.now) }
+    ensures taken { IfOk result (λ r. Takes (m.locals ∷ []) tokens.now r.1.now) }
+    ensures fault { IfErr result (λ e. Stops e (m.locals ∷ []) tokens.now) }
+{
+    let mut found = Vec::new(alloc);
+    let mut rest = tokens;
+    while let Some((_, after)) = eat(rest, Kind::Local) {
+        let (one, after) = names(alloc, after)?;
+        let (_, after) = expect(after, Kind::Semicolon)?;
+        found.push(one)?;
+        rest = after;
+    }
+    Ok((found, rest))
+}
+
+/// A procedure's body.
+fn procedure_body(alloc: Global, tokens: &[Token]) -> Result<(Body, &[Token]), Stop>
+    ensures spelled { IfOk result (λ r. kinds tokens.now ≡ body r.0 (kinds r.1.now)) }
+    ensures within { IfOk result (λ r. BodyWithin r.0 (kinds r.1.now)) }
+    ensures places { IfOk result (λ r. Placed (λ at b. BodyAt at r.0 b) tokens.now r.1.now) }
+    ensures taken { IfOk result (λ r. Takes (m.exact m.open_brace ∷ m.locals ∷ m.commands NESTING ∷ m.exact m.close_brace ∷ []) tokens.now r.1.now) }
+    ensures fault { IfErr result (λ e. Stops e (m.exact m.open_brace ∷ m.locals ∷ m.commands NESTING ∷ m.exact m.close_brace ∷ []) tokens.now) }
+{
+    let (open, rest) = expect(tokens, Kind::OpenBrace)?;
+    let (locals, rest) = locals(alloc, rest)?;
+    let (commands, rest) = commands(alloc, NESTING, rest)?;
+    let (close, rest) = expect(rest, Kind::CloseBrace)?;
+    Ok((
+        Body {
+            open,
+            locals,
+            commands,
+            close,
+        },
+        rest,
+    ))
+}
+
+/// A procedure of those parts.
+fn procedure_of(
+    name: Word,
+    parameters: SurfaceParameters,
+    pre: Option<SurfaceNote>,
+    body: Body,
+    post: Option<SurfaceNote>,
+) -> Item
+    ensures { item_of result ≡ s.procedure (procedure_with name (parameters_of parameters) (option_map note_of pre) body (option_map note_of post)) }
+{
+    Item::Procedure(SurfaceProcedure {
+        name,
+        parameters,
+        pre,
+        open: body.open,
+        locals: body.locals,
+        body: body.commands,
+        close: body.close,
+        post,
+    })
+}
+
+/// A procedure behind its `(`.
+fn procedure(alloc: Global, first: Word, tokens: &[Token]) -> Result<(Item, &[Token]), Stop>
+    ensures spelled { IfOk result (λ r. k.Name ∷ k.OpenRound ∷ kinds tokens.now ≡ item (item_of r.0) (kinds r.1.now)) }
+    ensures within { IfOk result (λ r. ItemWithin (item_of r.0) 0 (kinds r.1.now)) }
+    ensures places { IfOk result (λ r. PlacedBehind (λ at b. WordAt at first (k.Name ∷ k.OpenRound ∷ b)) (λ at b. ItemAt at (item_of r.0) b) tokens.now r.1.now) }
+    ensures taken { IfOk result (λ r. Takes (m.maybe_names ∷ m.maybe_values ∷ m.exact m.close_round ∷ m.maybe_note ∷ m.exact m.open_brace ∷ m.locals ∷ m.commands NESTING ∷ m.exact m.close_brace ∷ m.maybe_note ∷ []) tokens.now r.1.now) }
+    ensures fault { IfErr result (λ e. Stops e (m.maybe_names ∷ m.maybe_values ∷ m.exact m.close_round ∷ m.maybe_note ∷ m.exact m.open_brace ∷ m.locals ∷ m.commands NESTING ∷ m.exact m.close_brace ∷ m.maybe_note ∷ []) tokens.now) }
+{
+    let (parameters, rest) = parameters(alloc, tokens)?;
+    let (_, rest) = expect(rest, Kind::CloseRound)?;
+    let (pre, rest) = maybe_note(alloc, rest)?;
+    let (body, rest) = procedure_body(alloc, rest)?;
+    let (post, rest) = maybe_note(alloc, rest)?;
+    Ok((procedure_of(first, parameters, pre, body, post), rest))
+}
+
+/// Fields behind the first one's name.
+fn fields(alloc: Global, first: Word, tokens: &[Token]) -> Result<(Item, &[Token]), Stop>
+    ensures spelled { IfOk result (λ r. k.Name ∷ kinds tokens.now ≡ item (item_of r.0) (kinds r.1.now)) }
+    ensures within { IfOk result (λ r. ItemWithin (item_of r.0) 0 (kinds r.1.now)) }
+    ensures places { IfOk result (λ r. PlacedBehind (λ at b. WordAt at first (k.Name ∷ b)) (λ at b. ItemAt at (item_of r.0) b) tokens.now r.1.now) }
+    ensures taken { IfOk result (λ r. Takes (m.more_names ∷ m.exact m.semicolon ∷ []) tokens.now r.1.now) }
+    ensures fault { IfErr result (λ e. Stops e (m.more_names ∷ m.exact m.semicolon ∷ []) tokens.now) }
+{
+    let (more, rest) = more_names(alloc, tokens)?;
+    let (_, rest) = expect(rest, Kind::Semicolon)?;
+    Ok((Item::Fields(SurfaceNames { first, more }), rest))
+}
+
+/// A resource behind its own word.
+fn resource(alloc: Global, place: Place, tokens: &[Token]) -> Result<(Item, &[Token]), Stop>
+    ensures spelled { IfOk result (λ r. k.Resource ∷ kinds tokens.now ≡ item (item_of r.0) (kinds r.1.now)) }
+    ensures within { IfOk result (λ r. ItemWithin (item_of r.0) 0 (kinds r.1.now)) }
+    ensures places { IfOk result (λ r. PlacedBehind (λ at b. PlaceAt at place (k.Resource ∷ b)) (λ at b. ItemAt at (item_of r.0) b) tokens.now r.1.now) }
+    ensures taken { IfOk result (λ r. Takes (m.exact m.a_name ∷ m.exact m.open_round ∷ m.maybe_names ∷ m.exact m.close_round ∷ m.exact m.open_square ∷ m.maybe_assertion ∷ m.exact m.close_square ∷ []) tokens.now r.1.now) }
+    ensures fault { IfErr result (λ e. Stops e (m.exact m.a_name ∷ m.exact m.open_round ∷ m.maybe_names ∷ m.exact m.close_round ∷ m.exact m.open_square ∷ m.maybe_assertion ∷ m.exact m.close_square ∷ []) tokens.now) }
+{
+    let (own, rest) = name(tokens)?;
+    let (_, rest) = expect(rest, Kind::OpenRound)?;
+    let (variables, rest) = maybe_names(alloc, rest)?;
+    let (_, rest) = expect(rest, Kind::CloseRound)?;
+    let (invariant, rest) = note(alloc, rest)?;
+    Ok((
+        Item::Resource(SurfaceResource {
+            place,
+            name: own,
+            variables,
+            invariant,
+        }),
+        rest,
+    ))
+}
+
+/// Fields or a procedure behind the name that begins it.
+#[tactic(auto, using(crate::proofs::ItemHeads::item_heads))]
+fn named_item(alloc: Global, first: Word, tokens: &[Token]) -> Result<(Item, &[Token]), Stop>
+    ensures spelled { IfOk result (λ r. k.Name ∷ kinds tokens.now ≡ item (item_of r.0) (kinds r.1.now)) }
+    ensures within { IfOk result (λ r. ItemWithin (item_of r.0) 0 (kinds r.1.now)) }
+    ensures places { IfOk result (λ r. PlacedBehind (λ at b. WordAt at first (k.Name ∷ b)) (λ at b. ItemAt at (item_of r.0) b) tokens.now r.1.now) }
+    ensures taken { IfOk result (λ r. Takes (m.item_named ∷ []) tokens.now r.1.now) }
+    ensures fault { IfErr result (λ e. Stops e (m.item_named ∷ []) tokens.now) }
+{
+    if let Some((_, rest)) = eat(tokens, Kind::OpenRound) {
+        return procedure(alloc, first, rest);
+    }
+    fields(alloc, first, tokens)
+}
+
+/// One item.
+#[tactic(auto, using(crate::proofs::ItemHeads::item_heads))]
+fn item(alloc: Global, tokens: &[Token]) -> Result<(Item, &[Token]), Stop>
+    requires { 0 < length tokens.now }
+    ensures spelled { IfOk result (λ r. kinds tokens.now ≡ item (item_of r.0) (kinds r.1.now)) }
+    ensures within { IfOk result (λ r. ItemWithin (item_of r.0) 0 (kinds r.1.now)) }
+    ensures places { IfOk result (λ r. Placed (λ at b. ItemAt at (item_of r.0) b) tokens.now r.1.now) }
+    ensures taken { IfOk result (λ r. (st : List Owed) → verdict 0 (kinds tokens.now) (m.items ∷ st) ≡ verdict 0 (kinds r.1.now) (m.items ∷ st)) }
+    ensures fault { IfErr result (λ e. Stops e (m.items ∷ []) tokens.now) }
+{
+    if let Some((first, rest)) = eat_word(tokens, Kind::Name) {
+        return named_item(alloc, first, rest);
+    }
+    let Some((place, rest)) = eat(tokens, Kind::Resource) else {
+        return Err(Stop::Unexpected(tokens.len()));
+    };
+    resource(alloc, place, rest)
+}
+
+/// The items of a file.
+pub fn items(alloc: Global, tokens: &[Token]) -> Result<Vec<Item>, Stop>
+    ensures spelled { IfOk result (λ found. kinds tokens.now ≡ g.items (map item_of found.items) []) }
+    ensures within { IfOk result (λ found. ItemsWithin (map item_of found.items) 0 []) }
+    ensures places { IfOk result (λ found. Placed (λ at b. ItemsAt at (map item_of found.items) b) tokens.now []) }
+    ensures fault { IfErr result (λ e. Stops e (m.items ∷ []) tokens.now) }
+{
+    let mut found = Vec::new(alloc);
+    let mut rest = tokens;
+    while !rest.is_empty() {
+        let (one, after) = item(alloc, rest)?;
+        found.push(one)?;
+        rest = after;
+    }
+    Ok(found)
+}

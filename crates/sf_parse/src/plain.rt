@@ -1,0 +1,173 @@
+//! Commands with no command in them.
+
+ghost use Rattle.std.specs.Prelude.{◌≡◌, ◌∷◌, [], IfErr, IfOk};
+ghost use Rattle.sf_ast.specs.View.{call_of, command_of};
+ghost use Rattle.sf_lex.specs.declared.token.Kind.TheVariants as k;
+ghost use Rattle.sf_parse.specs.Grammar as g;
+ghost use Rattle.sf_parse.specs.Grammar.{command, expr};
+ghost use Rattle.sf_parse.specs.Heads.{IsFlat, PlacedBehind};
+ghost use Rattle.sf_parse.specs.Machine as m;
+ghost use Rattle.sf_parse.specs.Parsing.{kinds};
+ghost use Rattle.sf_parse.specs.Placed.{CallAt, CommandAt, ExprAt, PlaceAt, WordAt};
+ghost use Rattle.sf_parse.specs.Steps.{Placed, Stops, Takes};
+
+use crate::call::call;
+use crate::front::eat;
+use crate::leaf::{expect, expression, name};
+use crate::stop::Stop;
+use sf_ast::{SurfaceCall, SurfaceCommand, SurfaceExpr, Word};
+use sf_base::Place;
+use sf_lex::{Kind, Token};
+use std::alloc::Global;
+
+/// `E -> f = F ;` behind its arrow.
+pub fn mutated(object: SurfaceExpr, tokens: &[Token]) -> Result<(SurfaceCommand, &[Token]), Stop>
+    ensures spelled { IfOk result (λ r. expr object ∷ k.Arrow ∷ kinds tokens.now ≡ command (command_of r.0) (kinds r.1.now)) }
+    ensures flat { IfOk result (λ r. IsFlat (command_of r.0)) }
+    ensures places { IfOk result (λ r. PlacedBehind (λ at b. ExprAt at object (k.Arrow ∷ b)) (λ at b. CommandAt at (command_of r.0) b) tokens.now r.1.now) }
+    ensures taken { IfOk result (λ r. Takes (m.exact m.a_name ∷ m.exact m.equals ∷ m.expression ∷ m.exact m.semicolon ∷ []) tokens.now r.1.now) }
+    ensures fault { IfErr result (λ e. Stops e (m.exact m.a_name ∷ m.exact m.equals ∷ m.expression ∷ m.exact m.semicolon ∷ []) tokens.now) }
+{
+    let (field, rest) = name(tokens)?;
+    let (_, rest) = expect(rest, Kind::Equals)?;
+    let (value, rest) = expression(rest)?;
+    let (_, rest) = expect(rest, Kind::Semicolon)?;
+    Ok((SurfaceCommand::Mutate(object, field, value), rest))
+}
+
+/// `x = E ;` or `x = E -> f ;` behind its expression.
+#[tactic(auto, using(crate::proofs::Heads::heads))]
+fn looked_up(
+    target: Word,
+    value: SurfaceExpr,
+    tokens: &[Token],
+) -> Result<(SurfaceCommand, &[Token]), Stop>
+    ensures spelled { IfOk result (λ r. k.Name ∷ k.Equals ∷ expr value ∷ kinds tokens.now ≡ command (command_of r.0) (kinds r.1.now)) }
+    ensures flat { IfOk result (λ r. IsFlat (command_of r.0)) }
+    ensures places { IfOk result (λ r. PlacedBehind (λ at b. WordAt at target (k.Name ∷ k.Equals ∷ expr value ∷ b) × ExprAt at value b) (λ at b. CommandAt at (command_of r.0) b) tokens.now r.1.now) }
+    ensures taken { IfOk result (λ r. Takes (m.look_up_or_end ∷ []) tokens.now r.1.now) }
+    ensures fault { IfErr result (λ e. Stops e (m.look_up_or_end ∷ []) tokens.now) }
+{
+    if let Some((_, rest)) = eat(tokens, Kind::Semicolon) {
+        return Ok((SurfaceCommand::Assign(target, value), rest));
+    }
+    let Some((_, rest)) = eat(tokens, Kind::Arrow) else {
+        return Err(Stop::Unexpected(tokens.len()));
+    };
+    let (field, rest) = name(rest)?;
+    let (_, rest) = expect(rest, Kind::Semicolon)?;
+    Ok((SurfaceCommand::LookUp(target, value, field), rest))
+}
+
+/// `x = new ( ) ;` behind its `new`.
+fn made(target: Word, tokens: &[Token]) -> Result<(SurfaceCommand, &[Token]), Stop>
+    ensures spelled { IfOk result (λ r. k.Name ∷ k.Equals ∷ k.New ∷ kinds tokens.now ≡ command (command_of r.0) (kinds r.1.now)) }
+    ensures flat { IfOk result (λ r. IsFlat (command_of r.0)) }
+    ensures places { IfOk result (λ r. PlacedBehind (λ at b. WordAt at target (k.Name ∷ k.Equals ∷ k.New ∷ b)) (λ at b. CommandAt at (command_of r.0) b) tokens.now r.1.now) }
+    ensures taken { IfOk result (λ r. Takes (m.exact m.open_round ∷ m.exact m.close_round ∷ m.exact m.semicolon ∷ []) tokens.now r.1.now) }
+    ensures fault { IfErr result (λ e. Stops e (m.exact m.open_round ∷ m.exact m.close_round ∷ m.exact m.semicolon ∷ []) tokens.now) }
+{
+    let (_, rest) = expect(tokens, Kind::OpenRound)?;
+    let (_, rest) = expect(rest, Kind::CloseRound)?;
+    let (_, rest) = expect(rest, Kind::Semicolon)?;
+    Ok((SurfaceCommand::New(target), rest))
+}
+
+/// A command behind its `x =`.
+#[tactic(auto, using(crate::proofs::Heads::heads))]
+fn assigned(target: Word, tokens: &[Token]) -> Result<(SurfaceCommand, &[Token]), Stop>
+    ensures spelled { IfOk result (λ r. k.Name ∷ k.Equals ∷ kinds tokens.now ≡ command (command_of r.0) (kinds r.1.now)) }
+    ensures flat { IfOk result (λ r. IsFlat (command_of r.0)) }
+    ensures places { IfOk result (λ r. PlacedBehind (λ at b. WordAt at target (k.Name ∷ k.Equals ∷ b)) (λ at b. CommandAt at (command_of r.0) b) tokens.now r.1.now) }
+    ensures taken { IfOk result (λ r. Takes (m.assigned ∷ []) tokens.now r.1.now) }
+    ensures fault { IfErr result (λ e. Stops e (m.assigned ∷ []) tokens.now) }
+{
+    if let Some((_, rest)) = eat(tokens, Kind::New) {
+        return made(target, rest);
+    }
+    let (value, rest) = expression(tokens)?;
+    looked_up(target, value, rest)
+}
+
+/// The second call of a fork, behind the `||`.
+fn forked(alloc: Global, tokens: &[Token]) -> Result<(SurfaceCall, &[Token]), Stop>
+    ensures spelled { IfOk result (λ r. kinds tokens.now ≡ g.call (call_of r.0) (k.Semicolon ∷ kinds r.1.now)) }
+    ensures places { IfOk result (λ r. Placed (λ at b. CallAt at (call_of r.0) (k.Semicolon ∷ b)) tokens.now r.1.now) }
+    ensures taken { IfOk result (λ r. Takes (m.exact m.a_name ∷ m.exact m.open_round ∷ m.maybe_arguments ∷ m.exact m.close_round ∷ m.exact m.semicolon ∷ []) tokens.now r.1.now) }
+    ensures fault { IfErr result (λ e. Stops e (m.exact m.a_name ∷ m.exact m.open_round ∷ m.maybe_arguments ∷ m.exact m.close_round ∷ m.exact m.semicolon ∷ []) tokens.now) }
+{
+    let (procedure, rest) = name(tokens)?;
+    let (_, rest) = expect(rest, Kind::OpenRound)?;
+    let (right, rest) = call(alloc, procedure, rest)?;
+    let (_, rest) = expect(rest, Kind::Semicolon)?;
+    Ok((right, rest))
+}
+
+/// A call or two, behind the first one's `(`.
+#[tactic(auto, using(crate::proofs::Heads::heads))]
+fn called(
+    alloc: Global,
+    procedure: Word,
+    tokens: &[Token],
+) -> Result<(SurfaceCommand, &[Token]), Stop>
+    ensures spelled { IfOk result (λ r. k.Name ∷ k.OpenRound ∷ kinds tokens.now ≡ command (command_of r.0) (kinds r.1.now)) }
+    ensures flat { IfOk result (λ r. IsFlat (command_of r.0)) }
+    ensures places { IfOk result (λ r. PlacedBehind (λ at b. WordAt at procedure (k.Name ∷ k.OpenRound ∷ b)) (λ at b. CommandAt at (command_of r.0) b) tokens.now r.1.now) }
+    ensures taken { IfOk result (λ r. Takes (m.maybe_arguments ∷ m.exact m.close_round ∷ m.after_call ∷ []) tokens.now r.1.now) }
+    ensures fault { IfErr result (λ e. Stops e (m.maybe_arguments ∷ m.exact m.close_round ∷ m.after_call ∷ []) tokens.now) }
+{
+    let (left, rest) = call(alloc, procedure, tokens)?;
+    if let Some((_, rest)) = eat(rest, Kind::Semicolon) {
+        return Ok((SurfaceCommand::Call(left), rest));
+    }
+    let Some((_, after)) = eat(rest, Kind::Bars) else {
+        return Err(Stop::Unexpected(rest.len()));
+    };
+    let (right, after) = forked(alloc, after)?;
+    Ok((SurfaceCommand::Fork(left, right), after))
+}
+
+/// A command behind the name that begins it.
+#[tactic(auto, using(crate::proofs::Heads::heads))]
+pub fn named(
+    alloc: Global,
+    first: Word,
+    tokens: &[Token],
+) -> Result<(SurfaceCommand, &[Token]), Stop>
+    ensures spelled { IfOk result (λ r. k.Name ∷ kinds tokens.now ≡ command (command_of r.0) (kinds r.1.now)) }
+    ensures flat { IfOk result (λ r. IsFlat (command_of r.0)) }
+    ensures places { IfOk result (λ r. PlacedBehind (λ at b. WordAt at first (k.Name ∷ b)) (λ at b. CommandAt at (command_of r.0) b) tokens.now r.1.now) }
+    ensures taken { IfOk result (λ r. Takes (m.named ∷ []) tokens.now r.1.now) }
+    ensures fault { IfErr result (λ e. Stops e (m.named ∷ []) tokens.now) }
+{
+    if let Some((_, rest)) = eat(tokens, Kind::Equals) {
+        return assigned(first, rest);
+    }
+    if let Some((_, rest)) = eat(tokens, Kind::Arrow) {
+        return mutated(SurfaceExpr::Name(first), rest);
+    }
+    if let Some((_, rest)) = eat(tokens, Kind::OpenRound) {
+        return called(alloc, first, rest);
+    }
+    Err(Stop::Unexpected(tokens.len()))
+}
+
+/// A command behind its `dispose`.
+#[tactic(auto, using(crate::proofs::Heads::heads))]
+pub fn disposed(place: Place, tokens: &[Token]) -> Result<(SurfaceCommand, &[Token]), Stop>
+    ensures spelled { IfOk result (λ r. k.Dispose ∷ kinds tokens.now ≡ command (command_of r.0) (kinds r.1.now)) }
+    ensures flat { IfOk result (λ r. IsFlat (command_of r.0)) }
+    ensures places { IfOk result (λ r. PlacedBehind (λ at b. PlaceAt at place (k.Dispose ∷ b)) (λ at b. CommandAt at (command_of r.0) b) tokens.now r.1.now) }
+    ensures taken { IfOk result (λ r. Takes (m.disposed ∷ []) tokens.now r.1.now) }
+    ensures fault { IfErr result (λ e. Stops e (m.disposed ∷ []) tokens.now) }
+{
+    if let Some((_, rest)) = eat(tokens, Kind::OpenRound) {
+        let (value, rest) = expression(rest)?;
+        let (_, rest) = expect(rest, Kind::CloseRound)?;
+        let (_, rest) = expect(rest, Kind::Semicolon)?;
+        return Ok((SurfaceCommand::DisposeRound(place, value), rest));
+    }
+    let (value, rest) = expression(tokens)?;
+    let (_, rest) = expect(rest, Kind::Semicolon)?;
+    Ok((SurfaceCommand::Dispose(place, value), rest))
+}
