@@ -19,6 +19,7 @@ pub mod Precise
 pub mod Shape
 pub mod Occurs
 pub mod Determined
+pub mod InOrder
 pub mod Laws
 pub mod Instances
 pub mod MachineLaws

@@ -10,8 +10,10 @@ pub mod instances;
 pub mod laws;
 pub mod machine_instances;
 pub mod machine_laws;
+pub mod ordered;
 pub mod program;
 
 pub use assertion::{Assertion, Conjunct, Level, Operand, Scope, Test};
 pub use command::{Call, Command, Expr, Occurrence};
+pub use ordered::Ordered;
 pub use program::{Proc, Program, Resource};

@@ -1,0 +1,11 @@
+pub mod Views
+pub mod Learning
+pub mod Agree
+pub mod Greedy
+pub mod NeverTaken
+pub mod Ready
+pub mod Adding
+pub mod Sequences
+pub mod Branches
+pub mod OrderMeaning
+pub mod Noted

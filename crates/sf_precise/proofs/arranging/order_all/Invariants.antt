@@ -1,0 +1,9 @@
+use Rattle.std.proofs.Common.{◌≡◌, None, map, take}
+use Rattle.sf_core.specs.View.{assertion_of}
+use Rattle.sf_precise.specs.Notes.{AreOrdersOf, IsFirstPlace, NeverTakenIn}
+use Rattle.sf_precise.proofs.Noted.{IsNoted}
+use Rattle.sf_precise.proofs.arranging.order_all.Given as goal
+
+-- the first place so far, and the orders so far where there is none
+abbrev pub invariant-loop-a : goal.invariant-loop-a
+invariant-loop-a l = IsNoted (map (λ a. assertion_of a.now) (take l.a-index l.notes)) l.first (map (λ o. assertion_of o.assertion) l.orders.items)

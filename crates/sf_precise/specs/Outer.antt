@@ -1,0 +1,42 @@
+-- Outer: the existentials that an assertion takes from the scopes around it, as a list of their occurrences in text order.
+-- The usual free names of a formula with quantifiers, listed.
+use Rattle.std.specs.Prelude.{ℕ, Bool, not, List, [], ◌∷◌, ◌++◌, filter}
+use Rattle.sf_base.specs.declared.ids.FieldId.{FieldId}
+use Rattle.sf_core.specs.declared.assertion.Operand.{Operand}
+use Rattle.sf_core.specs.declared.assertion.Operand.TheVariants.{Known, Exists}
+use Rattle.sf_core.specs.declared.assertion.Test.{Test}
+use Rattle.sf_core.specs.declared.assertion.Test.TheVariants.{True, Equal, Differ}
+use Rattle.sf_core.specs.Occurs.{is_made}
+use Rattle.sf_core.specs.Syntax.{Conjunct, holds, points, segment, tree, choose, Level, level, Conjuncts, none, also}
+
+-- the existential that the operand is, if it is one
+abbrev pub existential : {E : Type 0} → Operand E → List ℕ
+existential (Known x) = []
+existential (Exists n) = n ∷ []
+
+-- those of a test's two sides
+abbrev pub test_existentials : {E : Type 0} → Test (Operand E) → List ℕ
+test_existentials True = []
+test_existentials (Equal x y) = existential x ++ existential y
+test_existentials (Differ x y) = existential x ++ existential y
+
+-- those among the values of fields
+abbrev pub field_existentials : {E : Type 0} → List (FieldId × Operand E) → List ℕ
+field_existentials [] = []
+field_existentials (f ∷ fs) = existential f.1 ++ field_existentials fs
+
+-- those of a level that are not made there, or further in where they stand
+abbrev mutual
+  pub outer_of_level : {E : Type 0} → Level E → List ℕ
+  outer_of_level (level made cs) = filter (λ n. not (is_made made n)) (outer_of_all cs)
+
+  pub outer_of_all : {E : Type 0} → Conjuncts E → List ℕ
+  outer_of_all none = []
+  outer_of_all (also c cs) = outer_of c ++ outer_of_all cs
+
+  pub outer_of : {E : Type 0} → Conjunct E → List ℕ
+  outer_of (holds p t) = test_existentials t
+  outer_of (points p x fs) = existential x ++ field_existentials fs
+  outer_of (segment p next x y) = existential x ++ existential y
+  outer_of (tree p left right x) = existential x
+  outer_of (choose p t this that) = test_existentials t ++ (outer_of_level this ++ outer_of_level that)

@@ -1,0 +1,89 @@
+//! A program with all its annotations in order.
+
+ghost use Rattle.std.specs.Prelude.{◌≡◌, map, IfErr, IfOk};
+ghost use Rattle.sf_core.specs.View.{assertion_of};
+ghost use Rattle.sf_core.specs.Whole.{program_of};
+ghost use Rattle.sf_calls.specs.FirstBreach.{Conditions};
+ghost use Rattle.sf_calls.specs.Sets.{AreSetsOf};
+ghost use Rattle.sf_precise.specs.Notes.{AreOrdersOf, IsFirstPlace, NeverTakenIn, earlier_of, is_before, notes_in};
+ghost use Rattle.sf_precise.specs.Taken.{IfUndetermined};
+
+use crate::arranged::Arranged;
+use crate::fault::OrderFault;
+use crate::notes::notes_in;
+use crate::ordering::order;
+use sf_base::Place;
+use sf_calls::Calls;
+use sf_core::{Assertion, Ordered, Program};
+use std::alloc::Global;
+
+/// The program with each of its annotations in order. The calls are those that `reach` finds for
+/// it, and no condition on its variables is broken. `Undetermined` comes exactly where an
+/// annotation has no order, with the place of the first conjunct in the file that is never taken.
+pub fn arrange(alloc: Global, p: Program, c: Calls) -> Result<Arranged, OrderFault>
+    requires sets { AreSetsOf (program_of p) c }
+    requires conditions { Conditions (program_of p) }
+    ensures program { IfOk result (λ a. a.program ≡ p) }
+    ensures calls { IfOk result (λ a. a.calls ≡ c) }
+    ensures orders { IfOk result (λ a. AreOrdersOf (notes_in (program_of p)) (map (λ o. assertion_of o.assertion) a.orders.items)) }
+    ensures undetermined { IfErr result (λ e. IfUndetermined e (λ q. IsFirstPlace (NeverTakenIn (notes_in (program_of p))) (Some q))) }
+{
+    let orders = order_annotations(alloc, &p)?;
+    Ok(Arranged {
+        program: p,
+        calls: c,
+        orders,
+    })
+}
+
+/// The program's annotations in order, or the first place at which a conjunct is never taken.
+fn order_annotations(alloc: Global, p: &Program) -> Result<Vec<Ordered>, OrderFault>
+    ensures orders { IfOk result (λ orders. AreOrdersOf (notes_in (program_of p.now)) (map (λ o. assertion_of o.assertion) orders.items)) }
+    ensures undetermined { IfErr result (λ e. IfUndetermined e (λ q. IsFirstPlace (NeverTakenIn (notes_in (program_of p.now))) (Some q))) }
+{
+    let notes = notes_in(alloc, p)?;
+    order_all(alloc, &notes)
+}
+
+/// The annotations in order, or the first place at which a conjunct of one is never taken.
+fn order_all(alloc: Global, notes: &[&Assertion]) -> Result<Vec<Ordered>, OrderFault>
+    ensures orders { IfOk result (λ orders. AreOrdersOf (map (λ a. assertion_of a.now) notes.now) (map (λ o. assertion_of o.assertion) orders.items)) }
+    ensures undetermined { IfErr result (λ e. IfUndetermined e (λ q. IsFirstPlace (NeverTakenIn (map (λ a. assertion_of a.now) notes.now)) (Some q))) }
+{
+    let mut orders = Vec::with_capacity(alloc, notes.len())?;
+    let mut first = None;
+    for a in notes {
+        match order(alloc, a) {
+            Ok(ordered) => orders.push(ordered)?,
+            Err(OrderFault::Undetermined(place)) => first = Some(earlier(first, place)),
+            Err(OrderFault::OutOfMemory) => return Err(OrderFault::OutOfMemory),
+        }
+    }
+    match first {
+        None => Ok(orders),
+        Some(place) => Err(OrderFault::Undetermined(place)),
+    }
+}
+
+/// The earlier of two places, where there may be no first one.
+fn earlier(first: Option<Place>, place: Place) -> Place
+    ensures { result ≡ earlier_of first place }
+{
+    match first {
+        None => place,
+        Some(other) => {
+            if is_before(place, other) {
+                place
+            } else {
+                other
+            }
+        }
+    }
+}
+
+/// Whether the one place comes before the other in the text.
+fn is_before(p: Place, q: Place) -> bool
+    ensures { result ≡ is_before p q }
+{
+    p.line < q.line || (p.line == q.line && p.column < q.column)
+}

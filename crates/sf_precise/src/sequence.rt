@@ -1,0 +1,83 @@
+//! The order of the conjuncts of one level, their branches being in order already.
+
+ghost use Rattle.std.specs.Prelude.{◌≡◌, length, map, option_map, is_some, IfErr, IfOk};
+ghost use Rattle.std.specs.List.{AllZip};
+ghost use Rattle.sf_core.specs.View.{conjunct_of, conjuncts};
+ghost use Rattle.sf_precise.specs.Order.{IsOrder};
+ghost use Rattle.sf_precise.specs.Prepared.{IsPrepared};
+ghost use Rattle.sf_precise.specs.Taken.{IfUndetermined, IsFirstNeverTaken, place_at};
+ghost use Rattle.sf_precise.specs.Waits.{jobs_of, known_outside};
+ghost use Rattle.sf_precise.specs.Work.{IsFirstLacking, IsWork, none_taken};
+
+use crate::fault::OrderFault;
+use crate::waits::demand_of;
+use crate::work::Work;
+use sf_base::Place;
+use sf_core::{Conjunct, Expr, Scope};
+use std::alloc::{AllocError, Global};
+
+/// Takes the conjuncts one after the other, the first ready one each time, from nothing that is
+/// known, or from all but what that scope makes. The parts are the conjuncts with their branches
+/// in order.
+pub fn sequence(
+    alloc: Global,
+    start: Option<Scope>,
+    cs: &[Conjunct<Expr>],
+    parts: Vec<Option<Conjunct<Expr>>>,
+) -> Result<Vec<Conjunct<Expr>>, OrderFault>
+    requires { AllZip (λ c o. IsPrepared (conjunct_of c) (option_map conjunct_of o)) cs.now parts.items }
+    ensures ordered { IfOk result (λ os. IsOrder (known_outside start) (conjuncts (map conjunct_of cs.now)) (conjuncts (map conjunct_of os.items))) }
+    ensures undetermined { IfErr result (λ e. IfUndetermined e (IsFirstNeverTaken (known_outside start) (conjuncts (map conjunct_of cs.now)) (conjuncts (map conjunct_of cs.now)))) }
+{
+    let mut parts = parts;
+    let mut work = begin(alloc, start, cs, &parts)?;
+    let mut taken = Vec::new(alloc);
+    while let Some(i) = work.ready.pop_first() {
+        if let Some(c) = parts[i].take() {
+            work.learn_from(&c)?;
+            taken.push(c)?;
+        }
+    }
+    match first_lacking(&work.lacking) {
+        Some(i) => Err(OrderFault::Undetermined(place_of(&cs[i]))),
+        None => Ok(taken),
+    }
+}
+
+/// The work before any conjunct is taken.
+fn begin(
+    alloc: Global,
+    start: Option<Scope>,
+    cs: &[Conjunct<Expr>],
+    parts: &[Option<Conjunct<Expr>>],
+) -> Result<Work, AllocError>
+    requires { length parts.now ≡ length cs.now }
+    ensures { IfOk result (λ w. let jobs = jobs_of (known_outside start) (map conjunct_of cs.now) (map is_some parts.now) in IsWork jobs (known_outside start) (none_taken jobs) w) }
+{
+    let mut work = Work::new(alloc);
+    for (i, c) in cs.iter().enumerate() {
+        let demand = demand_of(alloc, start, c, parts[i].is_some())?;
+        work.add(&demand)?;
+    }
+    Ok(work)
+}
+
+/// The first number at which something is lacking.
+fn first_lacking(lacking: &[usize]) -> Option<usize>
+    ensures { IsFirstLacking lacking.now result }
+{
+    lacking.iter().position(|n| *n > 0)
+}
+
+/// Where the conjunct's first token stands.
+fn place_of(c: &Conjunct<Expr>) -> Place
+    ensures { result ≡ place_at (conjunct_of c.now) }
+{
+    match c {
+        Conjunct::Holds(place, _) => *place,
+        Conjunct::Points(place, _, _) => *place,
+        Conjunct::Segment(place, _, _, _) => *place,
+        Conjunct::Tree(place, _, _, _) => *place,
+        Conjunct::If(place, _, _, _) => *place,
+    }
+}
