@@ -1,0 +1,32 @@
+-- Laws of elaboration, stated.
+-- What a definition that computes owes its reader: that its answers are what its words say.
+use Rattle.std.specs.Prelude.{◌≡◌, ◌≢◌, ◌≤◌, ◌⊎◌, ℕ, false, List, [], Contains, Some, None}
+use Rattle.sf_base.specs.declared.limits.TheConstants.{NESTING}
+use Rattle.sf_ast.specs.Depth.{items_depth}
+use Rattle.sf_ast.specs.Surface.{Item}
+use Rattle.sf_core.specs.Formed.{IsFormed}
+use Rattle.sf_core.specs.Syntax.{Program}
+use Rattle.sf_elab.specs.declared.fault.Fault.{Fault}
+use Rattle.sf_elab.specs.declared.fault.NameFault.{NameFault}
+use Rattle.sf_elab.specs.Elaborated.{elaborated, faults, Elaborates, FirstFault}
+use Rattle.sf_elab.specs.Faults.{first_of, is_earlier}
+
+-- what a file without faults elaborates to is a program in order
+abbrev pub ElaboratedIsFormed : Type 0
+ElaboratedIsFormed = (bytes : List ℕ) (is : List Item) → items_depth is ≤ NESTING → faults bytes is ≡ [] → IsFormed (elaborated bytes is)
+
+-- a fault that is one of those, and none of them is earlier
+pub record IsFirstAmong (all : List Fault) (fault : Fault) : Type 0 where
+  pub among : Contains all fault
+  pub first : (other : Fault) → Contains all other → is_earlier other fault ≡ false
+
+-- the first of faults is one of them, and none of them is earlier
+abbrev pub FirstIsFirst : Type 0
+FirstIsFirst = (all : List Fault) (fault : Fault) → first_of None all ≡ Some fault → IsFirstAmong all fault
+
+-- a file is one program or has one first fault, and not both
+pub record EachFileIsOne : Type 0 where
+  pub some : (bytes : List ℕ) (is : List Item) → ((p : Program) × Elaborates bytes is p) ⊎ ((e : NameFault) × FirstFault bytes is e)
+  pub not_both : (bytes : List ℕ) (is : List Item) (p : Program) (e : NameFault) → Elaborates bytes is p → FirstFault bytes is e → ⊥
+  pub one_program : (bytes : List ℕ) (is : List Item) (p q : Program) → Elaborates bytes is p → Elaborates bytes is q → p ≡ q
+  pub one_fault : (bytes : List ℕ) (is : List Item) (e g : NameFault) → FirstFault bytes is e → FirstFault bytes is g → e ≡ g

@@ -1,0 +1,11 @@
+pub mod Table
+pub mod Texts
+pub mod Faults
+pub mod InSight
+pub mod Existentials
+pub mod Assertions
+pub mod Commands
+pub mod Declarations
+pub mod Procedures
+pub mod Elaborated
+pub mod Laws

@@ -1,0 +1,360 @@
+//! The assertions of a file, numbered.
+
+ghost use Rattle.std.specs.Prelude.{◌≡◌, ◌∷◌, ◌++◌, ◌-◌, [], map, IfOk, OnOk};
+ghost use Rattle.sf_ast.specs.View.{assertion_of as surface_assertion, conjunct_of as surface_conjunct, note_of as surface_note};
+ghost use Rattle.sf_core.specs.View as core;
+ghost use Rattle.sf_elab.specs.Assertions.{operand_of, operand_faults, operand_place, values_of, values_faults, link_of, segment_faults, tree_faults, conjunct_of, conjuncts_of, level_of, conjunct_faults, assertion_faults, note_of, note_faults, maybe_of, maybe_faults};
+ghost use Rattle.sf_elab.specs.Existentials.{after, after_conjunct, after_level};
+ghost use Rattle.sf_core.specs.Syntax.{level, none};
+ghost use Rattle.sf_elab.specs.declared.fault.Fault.TheVariants.{Twice};
+ghost use Rattle.sf_elab.specs.declared.fault.Link.TheVariants.{Next, Left, Right};
+ghost use Rattle.sf_elab.specs.Faults.{link_name, where_};
+ghost use Rattle.sf_elab.specs.Table.{declare, find, has};
+ghost use Rattle.sf_elab.specs.Texts.{text as word_text};
+ghost use Rattle.std.specs.Option.{option_map};
+ghost use Rattle.sf_elab.specs.InSight.{sight_of, test_of, test_faults, field_of, field_faults};
+
+use crate::fault::{Fault, Link};
+use crate::levels::Levels;
+use crate::sight::{Sight, expr_place, note_where};
+use crate::table::Table;
+use crate::texts::{kept, text};
+use sf_ast::{
+    SurfaceAssertion, SurfaceConjunct, SurfaceField, SurfaceNote, SurfaceOperand, SurfaceTest,
+};
+use sf_base::{FieldId, Place, Sequence};
+use sf_core::{Assertion, Conjunct, Expr, Level, Operand, Scope, Test};
+use std::alloc::{AllocError, Global};
+
+/// The text of a field's name.
+pub fn link_name(link: Link) -> &'static str
+    ensures { result.now ≡ link_name link }
+{
+    match link {
+        Link::Next => "tl",
+        Link::Left => "l",
+        Link::Right => "r",
+    }
+}
+
+/// Where the first token of an operand stands.
+fn operand_place(x: &SurfaceOperand) -> Place
+    ensures { result ≡ operand_place x.now }
+{
+    match x {
+        SurfaceOperand::Known(e) => expr_place(*e),
+        SurfaceOperand::Existential(word) => word.place,
+    }
+}
+
+/// An operand.
+fn operand(
+    sight: &Sight<'_>,
+    levels: &Levels,
+    x: &SurfaceOperand,
+    found: &mut Vec<Fault>,
+) -> Result<Operand<Expr>, AllocError>
+    ensures same { IfOk result (λ y. y ≡ operand_of (sight_of sight.now) levels.now x.now) }
+    ensures faults { OnOk result (found.new.items ≡ found.old.items ++ operand_faults (sight_of sight.now) x.now) }
+{
+    match x {
+        SurfaceOperand::Known(e) => {
+            let e = sight.expr(*e, found)?;
+            Ok(Operand::Known(e))
+        }
+        SurfaceOperand::Existential(word) => {
+            let number = levels.reach.find(text(sight.bytes, *word)?);
+            Ok(Operand::Exists(number.unwrap_or(0)))
+        }
+    }
+}
+
+/// A test of operands.
+fn test(
+    sight: &Sight<'_>,
+    levels: &Levels,
+    test: &SurfaceTest<SurfaceOperand>,
+    found: &mut Vec<Fault>,
+) -> Result<Test<Operand<Expr>>, AllocError>
+    ensures same { IfOk result (λ y. y ≡ test_of (operand_of (sight_of sight.now) levels.now) test.now) }
+    ensures faults { OnOk result (found.new.items ≡ found.old.items ++ test_faults (operand_faults (sight_of sight.now)) test.now) }
+{
+    match test {
+        SurfaceTest::True(_) => Ok(Test::True),
+        SurfaceTest::Equal(x, y) => {
+            let x = operand(sight, levels, x, found)?;
+            let y = operand(sight, levels, y, found)?;
+            Ok(Test::Equal(x, y))
+        }
+        SurfaceTest::Differ(x, y) => {
+            let x = operand(sight, levels, x, found)?;
+            let y = operand(sight, levels, y, found)?;
+            Ok(Test::Differ(x, y))
+        }
+    }
+}
+
+/// The field of that name, with what is wrong where those are given already.
+fn field(
+    alloc: Global,
+    sight: &Sight<'_>,
+    field: &SurfaceField,
+    given: &mut Table<FieldId>,
+    found: &mut Vec<Fault>,
+) -> Result<FieldId, AllocError>
+    ensures same { IfOk result (λ y. y ≡ field_of (sight_of sight.now) field.now.name) }
+    ensures given { OnOk result (given.new ≡ declare (word_text sight.now.bytes.now field.now.name) (field_of (sight_of sight.now) field.now.name) given.old) }
+    ensures faults { OnOk result (found.new.items ≡ found.old.items ++ (field_faults (sight_of sight.now) field.now.name ++ where_ (has (word_text sight.now.bytes.now field.now.name) given.old) (Twice field.now.name))) }
+{
+    let number = sight.field(field.name, found)?;
+    let name = text(sight.bytes, field.name)?;
+    note_where(given.find(name).is_some(), Fault::Twice(field.name), found)?;
+    given.declare(alloc, name, number)?;
+    Ok(number)
+}
+
+/// The fields of a cell with their values.
+fn values(
+    alloc: Global,
+    sight: &Sight<'_>,
+    levels: &Levels,
+    fields: &[SurfaceField],
+    found: &mut Vec<Fault>,
+) -> Result<Vec<(FieldId, Operand<Expr>)>, AllocError>
+    ensures same { IfOk result (λ v. v.items ≡ values_of (sight_of sight.now) levels.now fields.now) }
+    ensures faults { OnOk result (found.new.items ≡ found.old.items ++ values_faults (sight_of sight.now) [] fields.now) }
+{
+    let mut given = Table::new(alloc);
+    let mut done = Vec::new(alloc);
+    for one in fields {
+        let number = field(alloc, sight, one, &mut given, found)?;
+        let value = operand(sight, levels, &one.value, found)?;
+        done.push((number, value))?;
+    }
+    Ok(done)
+}
+
+/// The field that predicates follow.
+fn link(sight: &Sight<'_>, link: Link) -> Option<FieldId>
+    ensures { result ≡ find (link_name link) sight.now.declared.now.fields }
+{
+    sight.declared.fields.find(link_name(link))
+}
+
+/// The field of a segment.
+fn segment(sight: &Sight<'_>, place: Place, found: &mut Vec<Fault>) -> Result<FieldId, AllocError>
+    ensures same { IfOk result (λ y. y ≡ link_of (sight_of sight.now) Next) }
+    ensures faults { OnOk result (found.new.items ≡ found.old.items ++ segment_faults (sight_of sight.now) place) }
+{
+    let next = link(sight, Link::Next);
+    note_where(!next.is_some(), Fault::Missing(place, Link::Next), found)?;
+    Ok(next.unwrap_or(FieldId(0)))
+}
+
+/// The fields of a tree.
+fn tree(
+    sight: &Sight<'_>,
+    place: Place,
+    found: &mut Vec<Fault>,
+) -> Result<(FieldId, FieldId), AllocError>
+    ensures same { IfOk result (λ y. y ≡ (link_of (sight_of sight.now) Left, link_of (sight_of sight.now) Right)) }
+    ensures faults { OnOk result (found.new.items ≡ found.old.items ++ tree_faults (sight_of sight.now) place) }
+{
+    let left = link(sight, Link::Left);
+    let right = link(sight, Link::Right);
+    note_where(!left.is_some(), Fault::Missing(place, Link::Left), found)?;
+    note_where(!right.is_some(), Fault::Missing(place, Link::Right), found)?;
+    Ok((left.unwrap_or(FieldId(0)), right.unwrap_or(FieldId(0))))
+}
+
+/// The numbers from the one on, up to the other.
+fn scope(first: usize, end: usize) -> Result<Scope, AllocError>
+    ensures { IfOk result (λ s. s ≡ record { first = first; count = end - first }) }
+{
+    let first_kept = kept(first)?;
+    let count = kept(end.saturating_sub(first))?;
+    Ok(Scope {
+        first: first_kept,
+        count,
+    })
+}
+
+/// Appends a conjunct, or those in its parentheses.
+#[cycle(levels)]
+fn add_conjunct(
+    alloc: Global,
+    sight: &Sight<'_>,
+    levels: &mut Levels,
+    c: &SurfaceConjunct,
+    done: &mut Vec<Conjunct<Expr>>,
+    found: &mut Vec<Fault>,
+) -> Result<(), AllocError>
+    ensures conjuncts { OnOk result (map core.conjunct_of done.new.items ≡ map core.conjunct_of done.old.items ++ conjunct_of (sight_of sight.now) levels.old (surface_conjunct c.now)) }
+    ensures levels { OnOk result (levels.new ≡ after_conjunct sight.now.bytes.now levels.old (surface_conjunct c.now)) }
+    ensures faults { OnOk result (found.new.items ≡ found.old.items ++ conjunct_faults (sight_of sight.now) (surface_conjunct c.now)) }
+{
+    match c {
+        SurfaceConjunct::Emp(_) => Ok(()),
+        SurfaceConjunct::Group(_, inside) => {
+            add_conjuncts(alloc, sight, levels, inside, done, found)?;
+            Ok(())
+        }
+        SurfaceConjunct::If(place, condition, this, that) => {
+            let condition = test(sight, levels, condition, found)?;
+            let this = branch(alloc, sight, levels, this, found)?;
+            let that = branch(alloc, sight, levels, that, found)?;
+            done.push(Conjunct::If(*place, condition, this, that))?;
+            Ok(())
+        }
+        SurfaceConjunct::IfRound(place, condition, this, that) => {
+            let condition = test(sight, levels, condition, found)?;
+            let this = branch(alloc, sight, levels, this, found)?;
+            let that = branch(alloc, sight, levels, that, found)?;
+            done.push(Conjunct::If(*place, condition, this, that))?;
+            Ok(())
+        }
+        SurfaceConjunct::Equal(x, y) => {
+            let place = operand_place(x);
+            let x = operand(sight, levels, x, found)?;
+            let y = operand(sight, levels, y, found)?;
+            done.push(Conjunct::Holds(place, Test::Equal(x, y)))?;
+            Ok(())
+        }
+        SurfaceConjunct::Differ(x, y) => {
+            let place = operand_place(x);
+            let x = operand(sight, levels, x, found)?;
+            let y = operand(sight, levels, y, found)?;
+            done.push(Conjunct::Holds(place, Test::Differ(x, y)))?;
+            Ok(())
+        }
+        SurfaceConjunct::Points(x, fields) => {
+            let place = operand_place(x);
+            let x = operand(sight, levels, x, found)?;
+            let values = values(alloc, sight, levels, fields, found)?;
+            done.push(Conjunct::Points(place, x, values))?;
+            Ok(())
+        }
+        SurfaceConjunct::Ls(place, x, y) => {
+            let next = segment(sight, *place, found)?;
+            let x = operand(sight, levels, x, found)?;
+            let y = operand(sight, levels, y, found)?;
+            done.push(Conjunct::Segment(*place, next, x, y))?;
+            Ok(())
+        }
+        SurfaceConjunct::Lseg(place, x, y) => {
+            let next = segment(sight, *place, found)?;
+            let x = operand(sight, levels, x, found)?;
+            let y = operand(sight, levels, y, found)?;
+            done.push(Conjunct::Segment(*place, next, x, y))?;
+            Ok(())
+        }
+        SurfaceConjunct::List(place, x) => {
+            let next = segment(sight, *place, found)?;
+            let x = operand(sight, levels, x, found)?;
+            done.push(Conjunct::Segment(*place, next, x, Operand::Known(Expr::Nil)))?;
+            Ok(())
+        }
+        SurfaceConjunct::Tree(place, x) => {
+            let (left, right) = tree(sight, *place, found)?;
+            let x = operand(sight, levels, x, found)?;
+            done.push(Conjunct::Tree(*place, left, right, x))?;
+            Ok(())
+        }
+    }
+}
+
+/// Appends the conjuncts of a level that was entered.
+#[cycle(levels)]
+fn add_conjuncts(
+    alloc: Global,
+    sight: &Sight<'_>,
+    levels: &mut Levels,
+    level: &SurfaceAssertion,
+    done: &mut Vec<Conjunct<Expr>>,
+    found: &mut Vec<Fault>,
+) -> Result<(), AllocError>
+    ensures conjuncts { OnOk result (map core.conjunct_of done.new.items ≡ map core.conjunct_of done.old.items ++ conjuncts_of (sight_of sight.now) levels.old (surface_assertion level.now)) }
+    ensures levels { OnOk result (levels.new ≡ after sight.now.bytes.now levels.old (surface_assertion level.now)) }
+    ensures faults { OnOk result (found.new.items ≡ found.old.items ++ assertion_faults (sight_of sight.now) (surface_assertion level.now)) }
+{
+    add_conjunct(alloc, sight, levels, &level.first, done, found)?;
+    for c in &level.more {
+        add_conjunct(alloc, sight, levels, c, done, found)?;
+    }
+    Ok(())
+}
+
+/// A level, with the existentials that it makes.
+#[cycle(levels)]
+fn branch(
+    alloc: Global,
+    sight: &Sight<'_>,
+    levels: &mut Levels,
+    level: &SurfaceAssertion,
+    found: &mut Vec<Fault>,
+) -> Result<Level<Expr>, AllocError>
+    ensures same { IfOk result (λ x. core.level_of x ≡ level_of (sight_of sight.now) levels.old (surface_assertion level.now)) }
+    ensures levels { OnOk result (levels.new ≡ after_level sight.now.bytes.now levels.old (surface_assertion level.now)) }
+    ensures faults { OnOk result (found.new.items ≡ found.old.items ++ assertion_faults (sight_of sight.now) (surface_assertion level.now)) }
+{
+    let outside = levels.reach.len();
+    let first = levels.names.len();
+    levels.enter(alloc, sight.bytes, level)?;
+    let made = scope(first, levels.names.len())?;
+    let mut conjuncts = Vec::new(alloc);
+    add_conjuncts(alloc, sight, levels, level, &mut conjuncts, found)?;
+    levels.reach.cut(outside);
+    Ok(Level { made, conjuncts })
+}
+
+/// What stands in square brackets, as a whole assertion.
+pub fn note(
+    alloc: Global,
+    sight: &Sight<'_>,
+    note: &SurfaceNote,
+    found: &mut Vec<Fault>,
+) -> Result<Assertion, AllocError>
+    ensures same { IfOk result (λ x. core.assertion_of x ≡ note_of (sight_of sight.now) (surface_note note.now)) }
+    ensures faults { OnOk result (found.new.items ≡ found.old.items ++ note_faults (sight_of sight.now) (surface_note note.now)) }
+{
+    match &note.assertion {
+        None => Ok(empty(alloc)),
+        Some(assertion) => {
+            let mut levels = Levels::new(alloc);
+            let level = branch(alloc, sight, &mut levels, assertion, found)?;
+            Ok(Assertion {
+                names: levels.names.into_vec(),
+                level,
+            })
+        }
+    }
+}
+
+/// The assertion that says nothing.
+fn empty(alloc: Global) -> Assertion
+    ensures { core.assertion_of result ≡ record { names = []; level = level (record { first = 0; count = 0 }) none } }
+{
+    Assertion {
+        names: Vec::new(alloc),
+        level: Level {
+            made: Scope { first: 0, count: 0 },
+            conjuncts: Vec::new(alloc),
+        },
+    }
+}
+
+/// A note that may be left out.
+pub fn maybe(
+    alloc: Global,
+    sight: &Sight<'_>,
+    maybe: &Option<SurfaceNote>,
+    found: &mut Vec<Fault>,
+) -> Result<Assertion, AllocError>
+    ensures same { IfOk result (λ x. core.assertion_of x ≡ maybe_of (sight_of sight.now) (option_map surface_note maybe.now)) }
+    ensures faults { OnOk result (found.new.items ≡ found.old.items ++ maybe_faults (sight_of sight.now) (option_map surface_note maybe.now)) }
+{
+    match maybe {
+        None => Ok(empty(alloc)),
+        Some(one) => note(alloc, sight, one, found),
+    }
+}

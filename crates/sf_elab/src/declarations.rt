@@ -1,0 +1,398 @@
+//! What the items of a file declare.
+
+ghost use Rattle.std.specs.Prelude.{◌≡◌, ◌++◌, ◌+◌, [], length, map, IfOk, OnOk};
+ghost use Rattle.sf_ast.specs.View.{item_of, names_of, parameters_of, procedure_of, resource_of};
+ghost use Rattle.sf_base.specs.declared.ids.Var.TheVariants.{Own};
+ghost use Rattle.sf_base.specs.declared.limits.TheConstants.{FIELDS, OWN_VARIABLES};
+ghost use Rattle.sf_elab.specs.declared.fault.Fault.TheVariants.{Twice};
+ghost use Rattle.sf_elab.specs.Declarations.{words_of, field_words, resources_in, procedures_in, references_of, values_of, numbered, numbered_faults, beyond, nth_field, field_table, field_names, usual_fields, resource_table, resource_name_faults, shared_by, shared_table, shared_faults, all_shared_faults, owner_faults, header_of, procedure_table, procedure_name_faults, declared_by, declared_faults};
+ghost use Rattle.sf_elab.specs.Faults.{where_};
+ghost use Rattle.sf_elab.specs.Table.{declare, has};
+ghost use Rattle.sf_elab.specs.Texts.{text as word_text};
+
+use crate::commands::add_all;
+use crate::declared::{Declared, Header};
+use crate::fault::Fault;
+use crate::sight::note_where;
+use crate::table::Table;
+use crate::texts::{kept, text};
+use sf_ast::{Item, SurfaceNames, SurfaceParameters, SurfaceProcedure, SurfaceResource, Word};
+use sf_base::limits::{FIELDS, OWN_VARIABLES, PROCEDURES, RESOURCE_VARIABLES, RESOURCES};
+use sf_base::{FieldId, Name, Place, ProcId, ResId, Var};
+use std::alloc::{AllocError, Global};
+
+/// Appends the names.
+pub fn add_names(names: &SurfaceNames, words: &mut Vec<Word>) -> Result<(), AllocError>
+    ensures { OnOk result (words.new.items ≡ words.old.items ++ words_of (names_of names.now)) }
+{
+    words.push(names.first)?;
+    add_all(&names.more, words)
+}
+
+/// Appends the names of all fields that the items declare.
+fn add_field_words(items: &[Item], words: &mut Vec<Word>) -> Result<(), AllocError>
+    ensures { OnOk result (words.new.items ≡ words.old.items ++ field_words (map item_of items.now)) }
+{
+    for item in items {
+        if let Item::Fields(names) = item {
+            add_names(names, words)?;
+        }
+    }
+    Ok(())
+}
+
+/// The references of a procedure.
+pub fn references_of(parameters: &SurfaceParameters) -> &[Word]
+    ensures { result.now ≡ references_of (parameters_of parameters.now) }
+{
+    match parameters {
+        SurfaceParameters::Values(_) => &[],
+        SurfaceParameters::Both(references, _) => references.as_slice(),
+    }
+}
+
+/// The value parameters of a procedure.
+pub fn values_of(parameters: &SurfaceParameters) -> &[Word]
+    ensures { result.now ≡ values_of (parameters_of parameters.now) }
+{
+    match parameters {
+        SurfaceParameters::Values(values) => values.as_slice(),
+        SurfaceParameters::Both(_, values) => values.as_slice(),
+    }
+}
+
+/// Declares a name that stands for that, and notes where there is one already.
+fn declare_name<V: Copy>(
+    alloc: Global,
+    bytes: &[u8],
+    word: Word,
+    value: V,
+    table: &mut Table<V>,
+    found: &mut Vec<Fault>,
+) -> Result<(), AllocError>
+    ensures table { OnOk result (table.new ≡ declare (word_text bytes.now word) value table.old) }
+    ensures faults { OnOk result (found.new.items ≡ found.old.items ++ where_ (has (word_text bytes.now word) table.old) (Twice word)) }
+{
+    let name = text(bytes, word)?;
+    note_where(table.find(name).is_some(), Fault::Twice(word), found)?;
+    table.declare(alloc, name, value)
+}
+
+/// Notes what is beyond a limit: the one of that number, at that place.
+fn note_beyond(
+    limit: usize,
+    number: usize,
+    place: Place,
+    found: &mut Vec<Fault>,
+) -> Result<(), AllocError>
+    ensures { OnOk result (found.new.items ≡ found.old.items ++ beyond limit number place) }
+{
+    note_where(number >= limit, Fault::TooMany(place), found)
+}
+
+/// Declares own variables, numbered from there on.
+pub fn declare_own(
+    alloc: Global,
+    bytes: &[u8],
+    first: usize,
+    words: &[Word],
+    own: &mut Table<Var>,
+    found: &mut Vec<Fault>,
+) -> Result<(), AllocError>
+    ensures table { OnOk result (own.new ≡ numbered bytes.now Own first words.now own.old) }
+    ensures faults { OnOk result (found.new.items ≡ found.old.items ++ numbered_faults bytes.now OWN_VARIABLES Own first words.now own.old) }
+{
+    let mut number = first;
+    for word in words {
+        let var = Var::Own(kept(number)?);
+        declare_name(alloc, bytes, *word, var, own, found)?;
+        note_beyond(OWN_VARIABLES, number, word.place, found)?;
+        number += 1;
+    }
+    Ok(())
+}
+
+/// Declares fields, numbered from 0 on.
+fn declare_fields(
+    alloc: Global,
+    bytes: &[u8],
+    words: &[Word],
+    fields: &mut Table<FieldId>,
+    found: &mut Vec<Fault>,
+) -> Result<(), AllocError>
+    ensures table { OnOk result (fields.new ≡ numbered bytes.now nth_field 0 words.now fields.old) }
+    ensures faults { OnOk result (found.new.items ≡ found.old.items ++ numbered_faults bytes.now FIELDS nth_field 0 words.now fields.old) }
+{
+    let mut number = 0;
+    for word in words {
+        let field = FieldId(kept(number)?);
+        declare_name(alloc, bytes, *word, field, fields, found)?;
+        note_beyond(FIELDS, number, word.place, found)?;
+        number += 1;
+    }
+    Ok(())
+}
+
+/// The fields that a file has where it declares none.
+fn usual_fields(alloc: Global) -> Result<Table<FieldId>, AllocError>
+    ensures { IfOk result (λ t. t ≡ usual_fields) }
+{
+    let mut fields = Table::new(alloc);
+    fields.declare(alloc, "hd", FieldId(0))?;
+    fields.declare(alloc, "tl", FieldId(1))?;
+    fields.declare(alloc, "l", FieldId(2))?;
+    fields.declare(alloc, "r", FieldId(3))?;
+    Ok(fields)
+}
+
+/// The fields of a file that declares those.
+fn fields(
+    alloc: Global,
+    bytes: &[u8],
+    words: &[Word],
+    found: &mut Vec<Fault>,
+) -> Result<Table<FieldId>, AllocError>
+    ensures table { IfOk result (λ t. t ≡ field_table bytes.now words.now) }
+    ensures faults { OnOk result (found.new.items ≡ found.old.items ++ numbered_faults bytes.now FIELDS nth_field 0 words.now []) }
+{
+    if words.is_empty() {
+        return usual_fields(alloc);
+    }
+    let mut fields = Table::new(alloc);
+    declare_fields(alloc, bytes, words, &mut fields, found)?;
+    Ok(fields)
+}
+
+/// The texts of words.
+pub fn names(alloc: Global, bytes: &[u8], words: &[Word]) -> Result<Vec<Name>, AllocError>
+    ensures { IfOk result (λ v. v.items ≡ map (word_text bytes.now) words.now) }
+{
+    let mut done = Vec::new(alloc);
+    add_texts(alloc, bytes, words, &mut done)?;
+    Ok(done)
+}
+
+/// Appends the texts of words.
+pub fn add_texts(
+    alloc: Global,
+    bytes: &[u8],
+    words: &[Word],
+    done: &mut Vec<Name>,
+) -> Result<(), AllocError>
+    ensures { OnOk result (done.new.items ≡ done.old.items ++ map (word_text bytes.now) words.now) }
+{
+    for word in words {
+        done.push(Name::new(alloc, text(bytes, *word)?)?)?;
+    }
+    Ok(())
+}
+
+/// The names of the fields that a file has where it declares none.
+fn usual_names(alloc: Global) -> Result<Vec<Name>, AllocError>
+    ensures { IfOk result (λ v. v.items ≡ field_names [] []) }
+{
+    let mut done = Vec::new(alloc);
+    done.push(Name::new(alloc, "hd")?)?;
+    done.push(Name::new(alloc, "tl")?)?;
+    done.push(Name::new(alloc, "l")?)?;
+    done.push(Name::new(alloc, "r")?)?;
+    Ok(done)
+}
+
+/// The names of the fields of a file that declares those.
+fn field_names(alloc: Global, bytes: &[u8], words: &[Word]) -> Result<Vec<Name>, AllocError>
+    ensures { IfOk result (λ v. v.items ≡ field_names bytes.now words.now) }
+{
+    if words.is_empty() {
+        return usual_names(alloc);
+    }
+    names(alloc, bytes, words)
+}
+
+/// The names of the fields of a file.
+pub fn field_names_of(alloc: Global, bytes: &[u8], items: &[Item]) -> Result<Vec<Name>, AllocError>
+    ensures { IfOk result (λ v. v.items ≡ field_names bytes.now (field_words (map item_of items.now))) }
+{
+    let mut words = Vec::new(alloc);
+    add_field_words(items, &mut words)?;
+    field_names(alloc, bytes, &words)
+}
+
+/// Declares the resources.
+fn declare_resources(
+    alloc: Global,
+    bytes: &[u8],
+    items: &[Item],
+    resources: &mut Table<ResId>,
+    found: &mut Vec<Fault>,
+) -> Result<(), AllocError>
+    ensures table { OnOk result (resources.new ≡ resource_table bytes.now 0 (resources_in (map item_of items.now)) resources.old) }
+    ensures faults { OnOk result (found.new.items ≡ found.old.items ++ resource_name_faults bytes.now 0 (resources_in (map item_of items.now)) resources.old) }
+{
+    let mut number = 0;
+    for item in items {
+        if let Item::Resource(resource) = item {
+            let id = ResId(kept(number)?);
+            declare_name(alloc, bytes, resource.name, id, resources, found)?;
+            note_beyond(RESOURCES, number, resource.place, found)?;
+            number += 1;
+        }
+    }
+    Ok(())
+}
+
+/// Notes what is wrong with a variable of a resource: the resource has it already, or another one
+/// has.
+fn note_owner(
+    bytes: &[u8],
+    word: Word,
+    own: &Table<Var>,
+    all: &Table<Var>,
+    found: &mut Vec<Fault>,
+) -> Result<(), AllocError>
+    ensures { OnOk result (found.new.items ≡ found.old.items ++ owner_faults bytes.now own.now all.now word) }
+{
+    let name = text(bytes, word)?;
+    if own.find(name).is_some() {
+        found.push(Fault::Twice(word))?;
+        return Ok(());
+    }
+    note_where(all.find(name).is_some(), Fault::OwnedTwice(word), found)
+}
+
+/// Declares the variables of one resource, so many of others being declared, and answers how many
+/// are then.
+fn declare_shared(
+    alloc: Global,
+    bytes: &[u8],
+    k: u32,
+    before: usize,
+    words: &[Word],
+    all: &mut Table<Var>,
+    found: &mut Vec<Fault>,
+) -> Result<usize, AllocError>
+    ensures count { IfOk result (λ n. n ≡ before + length words.now) }
+    ensures table { OnOk result (all.new ≡ numbered bytes.now (shared_by k) 0 words.now all.old) }
+    ensures faults { OnOk result (found.new.items ≡ found.old.items ++ shared_faults bytes.now k before 0 words.now [] all.old) }
+{
+    let mut own = Table::new(alloc);
+    let mut number = 0;
+    let mut count = before;
+    for word in words {
+        let var = Var::Shared(ResId(k), kept(number)?);
+        note_owner(bytes, *word, &own, all, found)?;
+        note_beyond(RESOURCE_VARIABLES, count, word.place, found)?;
+        declare_quietly(alloc, bytes, *word, var, &mut own)?;
+        declare_quietly(alloc, bytes, *word, var, all)?;
+        number += 1;
+        count = next(count)?;
+    }
+    Ok(count)
+}
+
+/// The next number. Where there is none, memory is at its end too.
+fn next(number: usize) -> Result<usize, AllocError>
+    ensures { IfOk result (λ n. n ≡ number + 1) }
+{
+    match number.checked_add(1) {
+        Some(next) => Ok(next),
+        None => Err(AllocError),
+    }
+}
+
+/// Declares a name that stands for that.
+pub fn declare_quietly<V: Copy>(
+    alloc: Global,
+    bytes: &[u8],
+    word: Word,
+    value: V,
+    table: &mut Table<V>,
+) -> Result<(), AllocError>
+    ensures { OnOk result (table.new ≡ declare (word_text bytes.now word) value table.old) }
+{
+    table.declare(alloc, text(bytes, word)?, value)
+}
+
+/// Declares the variables of all resources.
+fn declare_all_shared(
+    alloc: Global,
+    bytes: &[u8],
+    items: &[Item],
+    all: &mut Table<Var>,
+    found: &mut Vec<Fault>,
+) -> Result<(), AllocError>
+    ensures table { OnOk result (all.new ≡ shared_table bytes.now 0 (resources_in (map item_of items.now)) all.old) }
+    ensures faults { OnOk result (found.new.items ≡ found.old.items ++ all_shared_faults bytes.now 0 0 (resources_in (map item_of items.now)) all.old) }
+{
+    let mut number = 0;
+    let mut count = 0;
+    for item in items {
+        if let Item::Resource(resource) = item {
+            let k = kept(number)?;
+            count = declare_shared(alloc, bytes, k, count, &resource.variables, all, found)?;
+            number += 1;
+        }
+    }
+    Ok(())
+}
+
+/// What calls see of the procedure of that number.
+fn header(number: usize, procedure: &SurfaceProcedure) -> Result<Header, AllocError>
+    ensures { IfOk result (λ h. h ≡ header_of number (procedure_of procedure.now)) }
+{
+    Ok(Header {
+        id: ProcId(kept(number)?),
+        references: references_of(&procedure.parameters).len(),
+        values: values_of(&procedure.parameters).len(),
+    })
+}
+
+/// Declares the procedures.
+fn declare_procedures(
+    alloc: Global,
+    bytes: &[u8],
+    items: &[Item],
+    procedures: &mut Table<Header>,
+    found: &mut Vec<Fault>,
+) -> Result<(), AllocError>
+    ensures table { OnOk result (procedures.new ≡ procedure_table bytes.now 0 (procedures_in (map item_of items.now)) procedures.old) }
+    ensures faults { OnOk result (found.new.items ≡ found.old.items ++ procedure_name_faults bytes.now 0 (procedures_in (map item_of items.now)) procedures.old) }
+{
+    let mut number = 0;
+    for item in items {
+        if let Item::Procedure(procedure) = item {
+            let header = header(number, procedure)?;
+            declare_name(alloc, bytes, procedure.name, header, procedures, found)?;
+            note_beyond(PROCEDURES, number, procedure.name.place, found)?;
+            number = next(number)?;
+        }
+    }
+    Ok(())
+}
+
+/// All that a file declares.
+pub fn declared(
+    alloc: Global,
+    bytes: &[u8],
+    items: &[Item],
+    found: &mut Vec<Fault>,
+) -> Result<Declared, AllocError>
+    ensures same { IfOk result (λ d. d ≡ declared_by bytes.now (map item_of items.now)) }
+    ensures faults { OnOk result (found.new.items ≡ found.old.items ++ declared_faults bytes.now (map item_of items.now)) }
+{
+    let mut words = Vec::new(alloc);
+    add_field_words(items, &mut words)?;
+    let fields = fields(alloc, bytes, &words, found)?;
+    let mut resources = Table::new(alloc);
+    declare_resources(alloc, bytes, items, &mut resources, found)?;
+    let mut shared = Table::new(alloc);
+    declare_all_shared(alloc, bytes, items, &mut shared, found)?;
+    let mut procedures = Table::new(alloc);
+    declare_procedures(alloc, bytes, items, &mut procedures, found)?;
+    Ok(Declared {
+        fields,
+        resources,
+        shared,
+        procedures,
+    })
+}

@@ -1,0 +1,22 @@
+use crate::table::Table;
+use sf_base::{FieldId, ProcId, ResId, Var};
+
+/// What calls see of a procedure.
+#[derive(Clone, Copy, Debug, PartialEq, Eq)]
+pub struct Header {
+    pub id: ProcId,
+    /// How many references it has.
+    pub references: usize,
+    /// How many values.
+    pub values: usize,
+}
+
+/// What the names of a whole file stand for. Of two things of one name the first counts.
+#[derive(Drop)]
+pub struct Declared {
+    pub fields: Table<FieldId>,
+    pub resources: Table<ResId>,
+    /// The variables of all resources.
+    pub shared: Table<Var>,
+    pub procedures: Table<Header>,
+}

@@ -1,0 +1,18 @@
+//! Laws of elaboration. Each function does nothing; its contract is the law.
+
+ghost use Rattle.sf_elab.specs.Laws.{EachFileIsOne, ElaboratedIsFormed, FirstIsFirst};
+
+/// What a file without faults elaborates to is a program in order.
+pub fn elaborated_is_formed()
+    ensures { ElaboratedIsFormed }
+{}
+
+/// The first of faults is one of them, and none of them is earlier.
+pub fn first_fault_is_first()
+    ensures { FirstIsFirst }
+{}
+
+/// A file is one program or has one first fault, and not both.
+pub fn each_file_is_one()
+    ensures { EachFileIsOne }
+{}

@@ -1,0 +1,147 @@
+//! What names stand for at some place of a file, and the expressions there.
+
+ghost use Rattle.std.specs.Prelude.{◌≡◌, ◌++◌, is_some, not, IfOk, OnOk};
+ghost use Rattle.sf_elab.specs.Faults.{where_};
+ghost use Rattle.sf_elab.specs.InSight.{sight_of, variable, occurrence, variable_faults, expr_of, expr_faults, expr_place, test_of, test_faults, field_of, field_faults, resource_named, resource_faults};
+ghost use Rattle.sf_elab.specs.Texts.{text};
+
+use crate::declared::Declared;
+use crate::fault::Fault;
+use crate::table::Table;
+use crate::texts::{number, text};
+use sf_ast::{SurfaceExpr, SurfaceTest, Word};
+use sf_base::{FieldId, Place, ResId, Var};
+use sf_core::{Expr, Occurrence, Test};
+use std::alloc::AllocError;
+
+/// What names stand for where one reads: the file's names, and before them own variables.
+pub struct Sight<'a> {
+    pub bytes: &'a [u8],
+    pub declared: &'a Declared,
+    /// In a procedure its parameters and locals; in an invariant its resource's variables.
+    pub own: &'a Table<Var>,
+    /// Whether one reads an invariant, which mentions own variables alone.
+    pub foreign: bool,
+}
+
+/// Notes the fault where the test is true.
+pub fn note_where(test: bool, fault: Fault, found: &mut Vec<Fault>) -> Result<(), AllocError>
+    ensures { OnOk result (found.new.items ≡ found.old.items ++ where_ test fault) }
+{
+    if test {
+        found.push(fault)?;
+    }
+    Ok(())
+}
+
+/// Where the first token of an expression stands.
+pub fn expr_place(e: SurfaceExpr) -> Place
+    ensures { result ≡ expr_place e }
+{
+    match e {
+        SurfaceExpr::Name(word) => word.place,
+        SurfaceExpr::Nil(place) => place,
+        SurfaceExpr::Null(place) => place,
+        SurfaceExpr::Number(word) => word.place,
+    }
+}
+
+impl Sight<'_> {
+    /// The variable of that name.
+    fn variable(&self, word: Word) -> Result<Option<Var>, AllocError>
+        ensures { IfOk result (λ x. x ≡ variable (sight_of self.now) word) }
+    {
+        let name = text(self.bytes, word)?;
+        match self.own.find(name) {
+            Some(found) => Ok(Some(found)),
+            None => {
+                if self.foreign {
+                    Ok(None)
+                } else {
+                    Ok(self.declared.shared.find(name))
+                }
+            }
+        }
+    }
+
+    /// The variable of that name, where it stands. What is wrong with the name is noted.
+    pub fn occurrence(&self, word: Word, found: &mut Vec<Fault>) -> Result<Occurrence, AllocError>
+        ensures same { IfOk result (λ x. x ≡ occurrence (sight_of self.now) word) }
+        ensures faults { OnOk result (found.new.items ≡ found.old.items ++ variable_faults (sight_of self.now) word) }
+    {
+        let var = self.variable(word)?;
+        let fault = if self.foreign {
+            Fault::Foreign(word)
+        } else {
+            Fault::Unknown(word)
+        };
+        note_where(!var.is_some(), fault, found)?;
+        Ok(Occurrence {
+            var: var.unwrap_or(Var::Own(0)),
+            place: word.place,
+        })
+    }
+
+    /// An expression.
+    pub fn expr(&self, e: SurfaceExpr, found: &mut Vec<Fault>) -> Result<Expr, AllocError>
+        ensures same { IfOk result (λ x. x ≡ expr_of (sight_of self.now) e) }
+        ensures faults { OnOk result (found.new.items ≡ found.old.items ++ expr_faults (sight_of self.now) e) }
+    {
+        match e {
+            SurfaceExpr::Name(word) => {
+                let occurrence = self.occurrence(word, found)?;
+                Ok(Expr::Var(occurrence))
+            }
+            SurfaceExpr::Nil(_) => Ok(Expr::Nil),
+            SurfaceExpr::Null(_) => Ok(Expr::Nil),
+            SurfaceExpr::Number(word) => {
+                let number = number(self.bytes, word)?;
+                Ok(Expr::Int(number))
+            }
+        }
+    }
+
+    /// A test of expressions.
+    pub fn test(
+        &self,
+        test: &SurfaceTest<SurfaceExpr>,
+        found: &mut Vec<Fault>,
+    ) -> Result<Test<Expr>, AllocError>
+        ensures same { IfOk result (λ x. x ≡ test_of (expr_of (sight_of self.now)) test.now) }
+        ensures faults { OnOk result (found.new.items ≡ found.old.items ++ test_faults (expr_faults (sight_of self.now)) test.now) }
+    {
+        match test {
+            SurfaceTest::True(_) => Ok(Test::True),
+            SurfaceTest::Equal(x, y) => {
+                let x = self.expr(*x, found)?;
+                let y = self.expr(*y, found)?;
+                Ok(Test::Equal(x, y))
+            }
+            SurfaceTest::Differ(x, y) => {
+                let x = self.expr(*x, found)?;
+                let y = self.expr(*y, found)?;
+                Ok(Test::Differ(x, y))
+            }
+        }
+    }
+
+    /// The field of that name.
+    pub fn field(&self, word: Word, found: &mut Vec<Fault>) -> Result<FieldId, AllocError>
+        ensures same { IfOk result (λ x. x ≡ field_of (sight_of self.now) word) }
+        ensures faults { OnOk result (found.new.items ≡ found.old.items ++ field_faults (sight_of self.now) word) }
+    {
+        let field = self.declared.fields.find(text(self.bytes, word)?);
+        note_where(!field.is_some(), Fault::Unknown(word), found)?;
+        Ok(field.unwrap_or(FieldId(0)))
+    }
+
+    /// The resource of that name.
+    pub fn resource(&self, word: Word, found: &mut Vec<Fault>) -> Result<ResId, AllocError>
+        ensures same { IfOk result (λ x. x ≡ resource_named (sight_of self.now) word) }
+        ensures faults { OnOk result (found.new.items ≡ found.old.items ++ resource_faults (sight_of self.now) word) }
+    {
+        let resource = self.declared.resources.find(text(self.bytes, word)?);
+        note_where(!resource.is_some(), Fault::Unknown(word), found)?;
+        Ok(resource.unwrap_or(ResId(0)))
+    }
+}
