@@ -1,5 +1,5 @@
 -- A branch's order rests on nothing around it, once all that it takes from there is known.
-use Rattle.std.proofs.Common.{◌≡◌, ◌⊎◌, ℕ, Bool, true, false, not, ◌&&◌, List, [], ◌∷◌, ◌++◌, length, take, get_or, Option, Some, None, Result, Ok, Err, IfErr, refl, sym, ap, ap₂, ◌∙◌, subst, inl, inr, arith}
+use Rattle.std.proofs.Common.{◌≡◌, ℕ, Bool, true, false, not, ◌&&◌, Some, None, Result, Ok, Err, IfErr, refl, sym, ap, ap₂, ◌∙◌, subst, inl, inr}
 use Rattle.sf_base.specs.declared.place.Place.{Place}
 use Rattle.sf_core.specs.declared.assertion.Operand.{Operand}
 use Rattle.sf_core.specs.declared.assertion.Operand.TheVariants.{Exists}
@@ -8,15 +8,15 @@ use Rattle.sf_core.specs.declared.assertion.Test.{Test}
 use Rattle.sf_core.proofs.Cases.{and-both, not-true}
 use Rattle.sf_core.specs.Determined.{CanBeTaken, Determined, HasOrder, IsReady, branches, known_inside, plain}
 use Rattle.sf_core.specs.InOrder.{StandsInOrder}
-use Rattle.sf_core.specs.Occurs.{OccursIn, OccursInAll, OccursInOne, is_made}
+use Rattle.sf_core.specs.Occurs.{OccursInAll, OccursInOne, is_made}
 use Rattle.sf_core.specs.Syntax.{Conjunct, choose, Conjuncts, Level, level}
 use Rattle.sf_precise.specs.declared.fault.OrderFault.{OrderFault}
 use Rattle.sf_precise.specs.declared.fault.OrderFault.TheVariants.{Undetermined, OutOfMemory}
-use Rattle.sf_precise.specs.Order.{IsOrder, IsOrderFrom, IsOrderInside}
+use Rattle.sf_precise.specs.Order.{IsOrder, IsOrderFrom}
 use Rattle.sf_precise.specs.Prepared.{HasOrderInside, IsBranch, IsSuppliedLevel}
 use Rattle.sf_precise.specs.Taken.{IfUndetermined, NeverTakenFrom}
 use Rattle.sf_precise.specs.Waits.{known_outside}
-use Rattle.sf_precise.proofs.Agree.{SameOfAll, agree-is_order, agree-order}
+use Rattle.sf_precise.proofs.Agree.{agree-is_order, agree-order}
 use Rattle.sf_precise.proofs.Greedy.{order-has, order-stands}
 use Rattle.sf_precise.proofs.NeverTaken.{never-no_order}
 

@@ -1,7 +1,7 @@
 -- What the order that takes the first ready conjunct is: an order, which stands as it is written.
 -- Names: `order-LAW` speaks of conjuncts in order, `within-LAW` of one conjunct with its branches in order.
-use Rattle.std.specs.Prelude.{◌≡◌, ◌⊎◌, ℕ, Bool, true, false, ◌||◌}
-use Rattle.std.proofs.Common.{sym, ap, ◌∙◌, refl, subst, inl, inr}
+use Rattle.std.specs.Prelude.{◌≡◌, ℕ, Bool, true, ◌||◌}
+use Rattle.std.proofs.Common.{sym, ap, refl, subst, inl, inr}
 use Rattle.sf_core.specs.declared.assertion.Operand.{Operand}
 use Rattle.sf_core.specs.declared.assertion.Operand.TheVariants.{Known, Exists}
 use Rattle.sf_core.specs.declared.assertion.Test.TheVariants.{True, Equal, Differ}
@@ -10,7 +10,7 @@ use Rattle.sf_core.specs.Determined.{CanBeTaken, HasOrder, IsKnown, IsReady, all
 use Rattle.sf_core.specs.InOrder.{InOrder, InOrderInside, IsNext, IsSupplied, is_known}
 use Rattle.sf_core.specs.Occurs.{OccursIn, OccursInAll, OccursInOne}
 use Rattle.sf_core.specs.Syntax.{Conjunct, holds, points, segment, tree, choose, Level, level, Conjuncts, none, also}
-use Rattle.sf_precise.specs.Order.{IsFirstReady, IsOrder, IsOrderInside, IsOrderWithin}
+use Rattle.sf_precise.specs.Order.{IsOrder, IsOrderInside, IsOrderWithin}
 use Rattle.sf_precise.proofs.Agree.{first-leaves, leaves-occurs_one, leaves-occurs_rest}
 
 module _ {E : Type 0} where

@@ -1,13 +1,13 @@
 -- Where a sequence of takings stops, what is left is never taken, and all else is.
 -- Names: `takes-LAW` speaks of sequences of takings, `stuck-LAW` of one that stops.
-use Rattle.std.specs.Prelude.{◌≡◌, ◌⊎◌, ℕ, Bool, true, false, ◌||◌}
-use Rattle.std.proofs.Common.{sym, ap, ◌∙◌, refl, subst, subst₂, inl, inr}
+use Rattle.std.specs.Prelude.{◌≡◌, ◌⊎◌, ℕ, Bool, true}
+use Rattle.std.proofs.Common.{sym, ap, ◌∙◌, refl, subst, inl, inr}
 use Rattle.sf_base.specs.declared.place.Place.{Place}
-use Rattle.sf_core.proofs.Cases.{either, or-first, or-second, or-which}
-use Rattle.sf_core.proofs.OrderLaws.{KnowsMore, more-after, more-taken, taken-more}
+use Rattle.sf_core.proofs.Cases.{either, or-second, or-which}
+use Rattle.sf_core.proofs.OrderLaws.{KnowsMore, more-taken, taken-more}
 use Rattle.sf_core.specs.Determined.{CanBeTaken, HasOrder, Leaves, all_taken, is_learned, known_after, take}
-use Rattle.sf_core.specs.Syntax.{Conjunct, Level, level, Conjuncts, none, also}
-use Rattle.sf_precise.specs.Taken.{IsAmong, IsFirstNeverTaken, IsNeverTaken, NeverTakenAt, Takes, place_at}
+use Rattle.sf_core.specs.Syntax.{Conjunct, Conjuncts, none, also}
+use Rattle.sf_precise.specs.Taken.{IsAmong, IsFirstNeverTaken, IsNeverTaken, Takes, place_at}
 
 module _ {E : Type 0} where
   -- what is known once these are taken

@@ -11,7 +11,7 @@ use Rattle.sf_core.proofs.DeterminedLaws.{leaves-focus, leaves-unfocus}
 use Rattle.sf_core.proofs.HeapSplits.{star-map}
 use Rattle.sf_core.specs.Determined.{CanBeTaken, Determined, HasOrder, IsKnown, all_taken, branches, known_after, known_inside, plain, take}
 use Rattle.sf_core.specs.HeapStore.{Heap}
-use Rattle.sf_core.specs.InOrder.{InOrder, InOrderInside, IsNext, StandsInOrder, is_known}
+use Rattle.sf_core.specs.InOrder.{InOrder, IsNext, StandsInOrder, is_known}
 use Rattle.sf_core.specs.Sat.{Sat, SatAll, SatOne}
 use Rattle.sf_core.specs.Syntax.{Conjunct, holds, points, segment, tree, choose, Level, level, Conjuncts, none, also}
 use Rattle.sf_precise.specs.Order.{IsFirstReady, IsOrder, IsOrderFrom, IsOrderInside, IsOrderWithin}

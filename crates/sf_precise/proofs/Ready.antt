@@ -1,6 +1,6 @@
 -- What a job lacks is nothing exactly where its conjunct can be taken.
 -- Names: `in-LAW` speaks of numbers in a list, `job-LAW` of what a conjunct waits for.
-use Rattle.std.proofs.Common.{◌≡◌, ◌⊎◌, ℕ, suc, ◌+◌, ◌<◌, ◌≤◌, ◌==◌, Bool, true, false, not, ◌&&◌, ◌||◌, cond, List, [], ◌∷◌, ◌++◌, length, filter, count_by, Option, Some, None, is_some, refl, sym, ap, ◌∙◌, subst, inl, inr, arith}
+use Rattle.std.proofs.Common.{◌≡◌, ◌⊎◌, ℕ, suc, ◌+◌, ◌≤◌, Bool, true, false, not, ◌&&◌, cond, List, [], ◌∷◌, ◌++◌, length, filter, count_by, Option, Some, None, is_some, refl, sym, ap, ◌∙◌, subst, inl, inr, arith}
 use Rattle.std.proofs.lemmas.List.Sums.{sum_by-cons, count_by-le-length}
 use Rattle.sf_base.specs.declared.ids.FieldId.{FieldId}
 use Rattle.sf_core.specs.declared.assertion.Operand.{Operand}
@@ -8,7 +8,7 @@ use Rattle.sf_core.specs.declared.assertion.Operand.TheVariants.{Known, Exists}
 use Rattle.sf_core.specs.declared.assertion.Scope.{Scope}
 use Rattle.sf_core.specs.declared.assertion.Test.{Test}
 use Rattle.sf_core.specs.declared.assertion.Test.TheVariants.{True, Equal, Differ}
-use Rattle.sf_core.proofs.Cases.{and-both, either, not-true}
+use Rattle.sf_core.proofs.Cases.{either, not-true}
 use Rattle.sf_core.proofs.OrderLaws.{KnowsMore}
 use Rattle.sf_core.specs.Determined.{CanBeTaken, HasOrder, IsKnown, IsReady, branches, known_inside, plain}
 use Rattle.sf_core.specs.InOrder.{IsSupplied}
@@ -17,7 +17,7 @@ use Rattle.sf_core.specs.Syntax.{Conjunct, holds, points, segment, tree, choose,
 use Rattle.sf_precise.specs.Order.{IsOrderInside, IsOrderWithin}
 use Rattle.sf_precise.specs.Outer.{existential, field_existentials, outer_of, outer_of_all, outer_of_level, test_existentials}
 use Rattle.sf_precise.specs.Prepared.{IsPrepared}
-use Rattle.sf_precise.specs.Waits.{is_unknown, need_of, rests_on, unknown_among, waits_for}
+use Rattle.sf_precise.specs.Waits.{need_of, unknown_among, waits_for}
 use Rattle.sf_precise.proofs.Greedy.{order-has, ready-plain, taken-supplied}
 
 -- the number stands in the list

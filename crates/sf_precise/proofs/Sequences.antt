@@ -1,6 +1,6 @@
 -- Taking conjuncts one after the other: what holds on the way, and what the end says.
 -- Names: `left-LAW` speaks of those that are not marked, `step-LAW` of one that is taken, `end-LAW` of the end.
-use Rattle.std.proofs.Common.{◌≡◌, ◌≢◌, ◌⊎◌, ℕ, zero, suc, ◌+◌, ◌-◌, ◌<◌, ◌≤◌, ◌==◌, Bool, true, false, not, ◌&&◌, ◌||◌, cond, List, [], ◌∷◌, ◌++◌, length, map, take, set, count_by, slice_get, slice_index_or, Option, Some, None, is_some, Contains, Vec, Global, append_assoc, refl, sym, ap, ap₂, ◌∙◌, subst, inl, inr, arith}
+use Rattle.std.proofs.Common.{◌≡◌, ◌≢◌, ◌⊎◌, ℕ, zero, suc, ◌+◌, ◌<◌, ◌≤◌, ◌==◌, Bool, true, false, not, ◌&&◌, ◌||◌, cond, List, [], ◌∷◌, ◌++◌, length, map, take, set, slice_get, slice_index_or, Option, Some, None, is_some, append_assoc, refl, sym, ap, ap₂, ◌∙◌, subst, inl, inr, arith}
 use Rattle.std.specs.List.{AllZip, list_any}
 use Rattle.std.specs.Option.{IsSome, option_map}
 use Rattle.std.specs.Ordering.{nat_cmp, is_gt}
@@ -8,26 +8,24 @@ use Rattle.std.specs.BTreeMap.{is_at}
 use Rattle.std.specs.BTreeSet.{BTreeSet, Updates, IsLowerBound, contains}
 use Rattle.std.proofs.lemmas.Bool.{cases_lt}
 use Rattle.std.proofs.lemmas.Bool.Decides.{eqb_tells, nat_tests}
-use Rattle.std.proofs.lemmas.List.{append-nil, get_or-map, get_or-set_other, get_or-set_same, get_or_past, length-map, length-set, map-append, take_more}
-use Rattle.std.proofs.lemmas.Option.{slice_get_cases, slice_get_within, slice_get-map, slice_get-get_or, slice_get_past, slice_get_read}
+use Rattle.std.proofs.lemmas.List.{append-nil, get_or-set_other, get_or-set_same, get_or_past, length-map, length-set, map-append, take_more}
+use Rattle.std.proofs.lemmas.Option.{slice_get_cases, slice_get_within, slice_get-map, slice_get_read}
 use Rattle.sf_core.specs.declared.command.Expr.{Expr}
 use Rattle.sf_core.proofs.Cases.{either, some-same}
-use Rattle.sf_core.proofs.OrderLaws.{KnowsMore}
 use Rattle.sf_core.specs.declared.assertion.Operand.{Operand}
 use Rattle.sf_core.specs.declared.assertion.Operand.TheVariants.{Known, Exists}
-use Rattle.sf_core.specs.declared.assertion.Test.{Test}
 use Rattle.sf_core.specs.declared.assertion.Test.TheVariants.{True, Equal, Differ}
 use Rattle.sf_base.specs.declared.ids.FieldId.{FieldId}
-use Rattle.sf_core.specs.Determined.{CanBeTaken, is_existential, is_in_fields, is_learned, known_after}
-use Rattle.sf_core.specs.Syntax.{Conjunct, holds, points, segment, tree, choose, Conjuncts, none, also}
+use Rattle.sf_core.specs.Determined.{CanBeTaken, is_existential, is_in_fields, is_learned}
+use Rattle.sf_core.specs.Syntax.{Conjunct, holds, points, segment, tree, choose, Conjuncts, none}
 use Rattle.sf_core.specs.View.{conjuncts}
 use Rattle.sf_precise.specs.declared.work.Work.{Work}
 use Rattle.sf_precise.specs.Order.{IsFirstReady, IsOrder, IsOrderWithin}
 use Rattle.sf_precise.specs.Outer.{existential, field_existentials}
 use Rattle.sf_precise.specs.Prepared.{IsPrepared}
 use Rattle.sf_precise.specs.Taken.{IsAmong, IsFirstNeverTaken, Takes, place_at}
-use Rattle.sf_precise.specs.Waits.{Job, equated, job_of, jobs_of, learned_from}
-use Rattle.sf_precise.specs.Work.{IsFirstLacking, IsWork, Learns, is_ready, is_served, known_with, none_taken, row}
+use Rattle.sf_precise.specs.Waits.{Job, job_of, jobs_of, learned_from}
+use Rattle.sf_precise.specs.Work.{IsFirstLacking, IsWork, Learns, is_ready, is_served, known_with, none_taken}
 use Rattle.sf_precise.proofs.Adding.{past-one}
 use Rattle.sf_precise.proofs.Agree.{first-leaves}
 use Rattle.sf_precise.proofs.Greedy.{within-learned}

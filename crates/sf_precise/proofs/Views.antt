@@ -1,5 +1,5 @@
 -- How the code's conjuncts and levels are read, form by form.
-use Rattle.std.proofs.Common.{◌≡◌, List, map, Vec, Global, sym, ap, ◌∙◌}
+use Rattle.std.proofs.Common.{◌≡◌, map, Vec, Global, sym, ap, ◌∙◌}
 use Rattle.sf_base.specs.declared.ids.FieldId.{FieldId}
 use Rattle.sf_base.specs.declared.place.Place.{Place}
 use Rattle.sf_core.specs.declared.assertion.Operand.{Operand}

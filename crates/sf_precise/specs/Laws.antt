@@ -1,6 +1,6 @@
 -- Laws of orders: an assertion has one order at most, has one where it is determined, and means the same in order.
 -- This project's own notions; the last law is that of commutativity and associativity of the separating conjunction, as in Reynolds, "Separation Logic" (2002).
-use Rattle.std.specs.Prelude.{◌≡◌, ◌↔◌, ◌⊎◌, ℕ}
+use Rattle.std.specs.Prelude.{◌≡◌, ◌↔◌, ℕ}
 use Rattle.sf_base.specs.declared.ids.Var.{Var}
 use Rattle.sf_base.specs.declared.place.Place.{Place}
 use Rattle.sf_base.specs.declared.value.Value.{Value}

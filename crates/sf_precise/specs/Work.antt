@@ -1,10 +1,10 @@
 -- Work: what is kept while conjuncts are taken, each as soon as nothing is lacking and none before it is ready.
 -- The worklist of a topological sort (Kahn, 1962): counts of what is lacking, who waits for what, and who is ready, by number.
-use Rattle.std.specs.Prelude.{◌≡◌, ◌≢◌, ℕ, ◌+◌, ◌-◌, ◌<◌, ◌≤◌, ◌==◌, Bool, true, false, not, ◌&&◌, ◌||◌, cond, List, [], ◌∷◌, ◌++◌, length, map, sum, replicate, count_by, slice_get, slice_index_or, Some, None, Option, Vec, Contains}
+use Rattle.std.specs.Prelude.{◌≡◌, ◌≢◌, ℕ, ◌+◌, ◌-◌, ◌<◌, ◌≤◌, ◌==◌, Bool, true, false, not, ◌&&◌, ◌||◌, List, [], ◌∷◌, ◌++◌, length, map, sum, replicate, count_by, slice_get, slice_index_or, Some, None, Option, Vec, Contains}
 use Rattle.std.specs.List.{list_any}
 use Rattle.std.specs.Ordering.{nat_cmp}
 use Rattle.std.specs.BTreeMap.{BTreeMap, get}
-use Rattle.std.specs.BTreeSet.{BTreeSet, contains, btree_set_len}
+use Rattle.std.specs.BTreeSet.{contains, btree_set_len}
 use Rattle.std.specs.declared.alloc.Global.{Global}
 use Rattle.sf_precise.specs.declared.work.Work.{Work}
 use Rattle.sf_precise.specs.Waits.{Job}

@@ -3,6 +3,7 @@
 ghost use Rattle.std.specs.Prelude.{◌≡◌, ◌<◌, length, All};
 ghost use Rattle.std.specs.Result.{result_err};
 ghost use Rattle.sf_base.specs.declared.limits.TheConstants.{RESOURCES};
+ghost use Rattle.sf_core.specs.Syntax.{with};
 ghost use Rattle.sf_core.specs.View.{block_of, call_of, command_of, procedure_of};
 ghost use Rattle.sf_vars.specs.Search.{BlockFits, CommandFits, HasSets, holds_of, in_block, in_command, in_fork, in_procedure, in_single};
 
@@ -10,9 +11,9 @@ use crate::at_calls::{passes_free, reenters_by_call, repeats, unheld_in_call};
 use crate::held::Held;
 use crate::parallel::shares_in_fork;
 use crate::unheld::{expr, level, occurrence, test};
-use sf_base::ProcId;
+use sf_base::{Place, ProcId, ResId};
 use sf_calls::{Breach, Calls};
-use sf_core::{Call, Command, Proc};
+use sf_core::{Call, Command, Expr, Proc, Test};
 
 /// Looks through the procedure of that number, which holds its own resources throughout.
 pub fn in_procedure(calls: &Calls, f: ProcId, procedure: &Proc) -> Result<(), Breach>
@@ -70,15 +71,30 @@ fn in_command(calls: &Calls, held: &Held, c: &Command) -> Result<(), Breach>
         }
         Command::Call(_, call) => in_single(calls, held, call),
         Command::Fork(_, left, right) => in_fork(calls, held, left, right),
-        Command::With(place, r, condition, c) => {
-            let inside = held.and(*r);
-            test(&inside, condition)?;
-            if held.has(*r) {
-                return Err(Breach::Reentered(*place, *r));
-            }
-            in_block(calls, &inside, c)
-        }
+        Command::With(place, r, condition, c) => in_region(calls, held, *place, *r, condition, c),
     }
+}
+
+/// Looks at a region: at its condition and its body with the resource held, and whether it was held
+/// before.
+#[cycle(commands)]
+fn in_region(
+    calls: &Calls,
+    held: &Held,
+    place: Place,
+    r: ResId,
+    condition: &Test<Expr>,
+    body: &[Command],
+) -> Result<(), Breach>
+    requires { CommandFits calls.now (with place r condition.now (block_of body.now)) }
+    ensures { result_err result ≡ in_command calls.now held.now (with place r condition.now (block_of body.now)) }
+{
+    let inside = held.and(r);
+    test(&inside, condition)?;
+    if held.has(r) {
+        return Err(Breach::Reentered(place, r));
+    }
+    in_block(calls, &inside, body)
 }
 
 /// Looks at a call by itself.

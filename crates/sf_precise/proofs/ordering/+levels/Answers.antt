@@ -1,6 +1,5 @@
-use Rattle.std.proofs.Common.{ap, option_map}
+use Rattle.std.proofs.Common.{ap}
 use Rattle.sf_core.specs.View.{level_of}
-use Rattle.sf_precise.specs.Prepared.{IsBranch}
 use Rattle.sf_precise.proofs.Branches.{branch-ordered, branch-stuck, choice-never_that, choice-never_this, made_of}
 use Rattle.sf_precise.proofs.Sequences.{zip-more}
 use Rattle.sf_precise.proofs.Views.{view-if, view-level}

@@ -1,4 +1,3 @@
-use Rattle.std.proofs.Common.{[]}
 use Rattle.sf_core.specs.View.{conjunct_of}
 use Rattle.sf_precise.specs.Waits.{known_outside}
 use Rattle.sf_precise.proofs.Adding.{begin-more_read}

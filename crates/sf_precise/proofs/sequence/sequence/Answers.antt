@@ -1,4 +1,4 @@
-use Rattle.std.proofs.Common.{◌≡◌, ◌∙◌, ℕ, Option, Some, None, List, length, ap, sym, refl, arith}
+use Rattle.std.proofs.Common.{◌∙◌, length, sym, refl, arith}
 use Rattle.std.proofs.lemmas.Option.{slice_get_read}
 use Rattle.sf_core.specs.View.{conjunct_of}
 use Rattle.sf_precise.specs.Waits.{known_outside}
