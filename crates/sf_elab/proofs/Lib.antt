@@ -1,3 +1,4 @@
+pub mod Among
 pub mod AssertionsWithin
 pub mod CommandsWithin
 pub mod Conjuncts
@@ -16,3 +17,4 @@ pub mod TableLaws
 pub mod Tables
 pub mod VariablesWithin
 pub mod Views
+pub mod Wholes

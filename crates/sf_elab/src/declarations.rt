@@ -15,7 +15,7 @@ use crate::declared::{Declared, Header};
 use crate::fault::Fault;
 use crate::sight::note_where;
 use crate::table::Table;
-use crate::texts::{kept, text};
+use crate::texts::{kept, plus, text};
 use sf_ast::{Item, SurfaceNames, SurfaceParameters, SurfaceProcedure, SurfaceResource, Word};
 use sf_base::limits::{FIELDS, OWN_VARIABLES, PROCEDURES, RESOURCE_VARIABLES, RESOURCES};
 use sf_base::{FieldId, Name, Place, ProcId, ResId, Var};
@@ -262,7 +262,7 @@ fn note_owner(
 
 /// Declares the variables of one resource, so many of others being declared, and answers how many
 /// are then.
-fn declare_shared(
+pub fn declare_shared(
     alloc: Global,
     bytes: &[u8],
     k: u32,
@@ -285,19 +285,9 @@ fn declare_shared(
         declare_quietly(alloc, bytes, *word, var, &mut own)?;
         declare_quietly(alloc, bytes, *word, var, all)?;
         number += 1;
-        count = next(count)?;
+        count = plus(count, 1)?;
     }
     Ok(count)
-}
-
-/// The next number. Where there is none, memory is at its end too.
-fn next(number: usize) -> Result<usize, AllocError>
-    ensures { IfOk result (λ n. n ≡ number + 1) }
-{
-    match number.checked_add(1) {
-        Some(next) => Ok(next),
-        None => Err(AllocError),
-    }
 }
 
 /// Declares a name that stands for that.
@@ -364,7 +354,7 @@ fn declare_procedures(
             let header = header(number, procedure)?;
             declare_name(alloc, bytes, procedure.name, header, procedures, found)?;
             note_beyond(PROCEDURES, number, procedure.name.place, found)?;
-            number = next(number)?;
+            number = plus(number, 1)?;
         }
     }
     Ok(())

@@ -15,6 +15,7 @@ use sf_core::{Expr, Occurrence, Test};
 use std::alloc::AllocError;
 
 /// What names stand for where one reads: the file's names, and before them own variables.
+#[derive(Drop)]
 pub struct Sight<'a> {
     pub bytes: &'a [u8],
     pub declared: &'a Declared,

@@ -1,6 +1,6 @@
 //! What words say, and numbers of things.
 
-ghost use Rattle.std.specs.Prelude.{◌≡◌, IfOk};
+ghost use Rattle.std.specs.Prelude.{◌≡◌, ◌+◌, IfOk};
 ghost use Rattle.sf_elab.specs.Texts.{number, text};
 
 use sf_ast::Word;
@@ -36,5 +36,15 @@ pub fn kept(number: usize) -> Result<u32, AllocError>
     match u32::try_from(number) {
         Ok(number) => Ok(number),
         Err(_) => Err(AllocError),
+    }
+}
+
+/// The sum. Where it is no number, memory is at its end too.
+pub fn plus(number: usize, more: usize) -> Result<usize, AllocError>
+    ensures { IfOk result (λ n. n ≡ number + more) }
+{
+    match number.checked_add(more) {
+        Some(sum) => Ok(sum),
+        None => Err(AllocError),
     }
 }

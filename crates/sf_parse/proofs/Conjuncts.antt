@@ -15,7 +15,7 @@ use Rattle.sf_parse.specs.Machine.{Owed, verdict, unexpected, too_deep}
 use Rattle.sf_parse.specs.Nesting.{NotStar, Ends, IsClosed, HasLevel, has_level, ConjunctWithin, AssertionWithin, RestWithin}
 use Rattle.sf_parse.specs.Parsing.{kinds}
 use Rattle.sf_parse.specs.Placed.{ConjunctAt, AssertionAt}
-use Rattle.sf_parse.specs.Steps.{NotNext, IsFlat, conjunct_next, last_of}
+use Rattle.sf_parse.specs.Steps.{NotNext, IsFlatConjunct, conjunct_next, last_of}
 use Rattle.sf_parse.proofs.Forth.{by_operand}
 use Rattle.sf_parse.proofs.Fronts.{left_of}
 
@@ -107,7 +107,7 @@ bare_test (k.OpenRound ∷ r) st h = absurd (h r refl)
 bare_test (t ∷ r) st h = refl
 
 -- what is flat is within any level, and nothing in it reaches on
-pub flat_within : (c : s.Conjunct) (d : ℕ) (r : List Kind) → IsFlat c → ConjunctWithin c 0 d r
+pub flat_within : (c : s.Conjunct) (d : ℕ) (r : List Kind) → IsFlatConjunct c → ConjunctWithin c 0 d r
 flat_within (s.group p a) d r h = absurd h
 flat_within (s.choose p b x y) d r h = absurd h
 flat_within (s.choose_round p b x y) d r h = absurd h
@@ -120,7 +120,7 @@ flat_within (s.lseg p x y) d r h = tt
 flat_within (s.list p x) d r h = tt
 flat_within (s.tree p x) d r h = tt
 
-pub flat_ends : (c : s.Conjunct) (r : List Kind) → IsFlat c → Ends c r
+pub flat_ends : (c : s.Conjunct) (r : List Kind) → IsFlatConjunct c → Ends c r
 flat_ends (s.choose p b x y) r h = absurd h
 flat_ends (s.choose_round p b x y) r h = absurd h
 flat_ends _ r h = tt

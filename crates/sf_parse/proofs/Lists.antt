@@ -23,5 +23,3 @@ more_fields_push (x ∷ xs) f r = ap (λ (ts : List Kind). k.Comma ∷ g.field x
 pub more_fields_at_push : (at : ℕ → Token) (fs : List SurfaceField) (f : SurfaceField) (r : List Kind) → MoreFieldsAt at fs (k.Comma ∷ g.field f r) → FieldAt at f r → MoreFieldsAt at (fs ++ f ∷ []) r
 more_fields_at_push at [] f r all one = (one, tt)
 more_fields_at_push at (x ∷ xs) f r all one = (subst (λ (z : List Kind). FieldAt at x z) (sym (more_fields_push xs f r)) all.0, more_fields_at_push at xs f r all.1 one)
-
-pub ruleset pushes = (more_names_push, more_fields_push)

@@ -4,14 +4,11 @@ use Rattle.std.proofs.lemmas.List.{get_or_default, length-map}
 use Rattle.std.specs.Prelude.{IfOk, IfErr, MatchResult}
 use Rattle.std.specs.declared.result.Result.{Result}
 use Rattle.std.specs.declared.result.Result.TheVariants.{Ok, Err}
-use Rattle.sf_base.specs.declared.limits.TheConstants.{FILE_BYTES}
 use Rattle.sf_base.specs.declared.place.Place.{Place}
 use Rattle.sf_ast.specs.Surface.{Item}
 use Rattle.sf_lex.specs.declared.token.Token.{Token}
-use Rattle.sf_lex.specs.Reading.{AreTokens}
 use Rattle.sf_parse.specs.declared.fault.ParseFault.{ParseFault}
 use Rattle.sf_parse.specs.declared.fault.ParseFault.TheVariants as p
-use Rattle.sf_parse.specs.declared.stop.Stop.{Stop}
 use Rattle.sf_parse.specs.declared.stop.Stop.TheVariants as t
 use Rattle.sf_parse.specs.Faults.{place_left}
 use Rattle.sf_parse.specs.Grammar.{items}

@@ -47,7 +47,7 @@ abbrev pub operand_next : List Kind → Bool
 operand_next (k.Existential ∷ r) = true
 operand_next r = expression_next r
 
--- the mark that a kind is, where it is one
+-- which mark it is, where it is one
 abbrev pub mark_of : Kind → Mark
 mark_of k.Arrow = m.an_arrow
 mark_of k.Equals = m.equals
@@ -65,22 +65,22 @@ mark_of k.Else = m.else_word
 mark_of k.When = m.when_word
 mark_of _ = m.a_name
 
--- what is owed is a conjunct of any level, and so on
+-- a conjunct that is owed takes the tokens up to the rest, however many levels are left
 abbrev pub TakesConjunct : List Token → List Token → Type 0
 TakesConjunct ts r = (d : ℕ) (st : List Owed) → verdict 0 (kinds ts) (m.conjunct d ∷ st) ≡ verdict 0 (kinds r) st
 
--- the same of its fault
+-- the fault stands where the tokens stop to fit a conjunct, however many levels are left
 abbrev pub StopsConjunct : Stop → List Token → Type 0
 StopsConjunct (Unexpected n) ts = (d : ℕ) (st : List Owed) → verdict 0 (kinds ts) (m.conjunct d ∷ st) ≡ unexpected n
 StopsConjunct (TooDeep n) ts = (d : ℕ) (st : List Owed) → verdict 0 (kinds ts) (m.conjunct d ∷ st) ≡ too_deep n
 StopsConjunct OutOfMemory ts = Unit {0}
 
--- no assertion is in it
-abbrev pub IsFlat : s.Conjunct → Type 0
-IsFlat (s.group p a) = ⊥
-IsFlat (s.choose p b x y) = ⊥
-IsFlat (s.choose_round p b x y) = ⊥
-IsFlat _ = Unit {0}
+-- a conjunct with no assertion in it
+abbrev pub IsFlatConjunct : s.Conjunct → Type 0
+IsFlatConjunct (s.group p a) = ⊥
+IsFlatConjunct (s.choose p b x y) = ⊥
+IsFlatConjunct (s.choose_round p b x y) = ⊥
+IsFlatConjunct _ = Unit {0}
 
 -- a conjunct comes next
 abbrev pub conjunct_next : List Kind → Bool

@@ -7,7 +7,7 @@ ghost use Rattle.sf_parse.specs.Grammar.{conjunct, operand};
 ghost use Rattle.sf_parse.specs.Machine as m;
 ghost use Rattle.sf_parse.specs.Parsing.{kinds};
 ghost use Rattle.sf_parse.specs.Placed.{ConjunctAt, OperandAt};
-ghost use Rattle.sf_parse.specs.Steps.{Agree, IsFlat, NotNext, Placed, Stops, StopsConjunct, Takes, TakesConjunct, operand_next};
+ghost use Rattle.sf_parse.specs.Steps.{Agree, IsFlatConjunct, NotNext, Placed, Stops, StopsConjunct, Takes, TakesConjunct, operand_next};
 
 use crate::fields::maybe_fields;
 use crate::front::eat;
@@ -53,7 +53,7 @@ pub fn relation(
     tokens: &[Token],
 ) -> Result<(SurfaceConjunct, &[Token]), Stop>
     ensures spelled { IfOk result (λ r. operand left ∷ kinds tokens.now ≡ conjunct (conjunct_of r.0) (kinds r.1.now)) }
-    ensures flat { IfOk result (λ r. IsFlat (conjunct_of r.0)) }
+    ensures flat { IfOk result (λ r. IsFlatConjunct (conjunct_of r.0)) }
     ensures places { IfOk result (λ r. (at : ℕ → Token) → Agree at tokens.now → OperandAt at left (kinds tokens.now) → ConjunctAt at (conjunct_of r.0) (kinds r.1.now) × Agree at r.1.now) }
     ensures taken { IfOk result (λ r. Takes (m.relation ∷ []) tokens.now r.1.now) }
     ensures fault { IfErr result (λ e. Stops e (m.relation ∷ []) tokens.now) }
@@ -80,7 +80,7 @@ pub fn predicate(tokens: &[Token]) -> Result<(SurfaceConjunct, &[Token]), Stop>
     requires no_group { NotNext Kind.OpenRound (kinds tokens.now) }
     requires no_choice { NotNext Kind.If (kinds tokens.now) }
     ensures spelled { IfOk result (λ r. kinds tokens.now ≡ conjunct (conjunct_of r.0) (kinds r.1.now)) }
-    ensures flat { IfOk result (λ r. IsFlat (conjunct_of r.0)) }
+    ensures flat { IfOk result (λ r. IsFlatConjunct (conjunct_of r.0)) }
     ensures places { IfOk result (λ r. Placed (λ at b. ConjunctAt at (conjunct_of r.0) b) tokens.now r.1.now) }
     ensures taken { IfOk result (λ r. TakesConjunct tokens.now r.1.now) }
     ensures fault { IfErr result (λ e. StopsConjunct e tokens.now) }

@@ -28,7 +28,7 @@ fn field(tokens: &[Token]) -> Result<(SurfaceField, &[Token]), Stop>
 }
 
 /// Fields behind a first one, each behind its comma.
-#[tactic(auto, using(crate::proofs::Choices::choices, crate::proofs::Lists::pushes))]
+#[tactic(auto, using(crate::proofs::Choices::choices))]
 fn more_fields(alloc: Global, tokens: &[Token]) -> Result<(Vec<SurfaceField>, &[Token]), Stop>
     ensures spelled { IfOk result (λ r. kinds tokens.now ≡ more_fields r.0.items (kinds r.1.now)) }
     ensures places { IfOk result (λ r. Placed (λ at b. MoreFieldsAt at r.0.items b) tokens.now r.1.now) }

@@ -24,7 +24,8 @@ use crate::names::{maybe_names, more_names, names, parameters};
 use crate::note::{maybe_note, note};
 use crate::stop::Stop;
 use sf_ast::{
-    Item, SurfaceCommand, SurfaceNames, SurfaceNote, SurfaceParameters, SurfaceProcedure, SurfaceResource, Word,
+    Item, SurfaceCommand, SurfaceNames, SurfaceNote, SurfaceParameters, SurfaceProcedure,
+    SurfaceResource, Word,
 };
 use sf_base::Place;
 use sf_base::limits::NESTING;

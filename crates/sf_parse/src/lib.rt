@@ -20,3 +20,6 @@ mod stop;
 
 pub use fault::ParseFault;
 pub use file::parse;
+
+#[cfg(test)]
+mod tests;

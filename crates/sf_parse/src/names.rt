@@ -16,7 +16,7 @@ use sf_lex::{Kind, Token};
 use std::alloc::Global;
 
 /// Names behind a first one, each behind its comma.
-#[tactic(auto, using(crate::proofs::Choices::choices, crate::proofs::Lists::pushes))]
+#[tactic(auto, using(crate::proofs::Choices::choices))]
 pub fn more_names(alloc: Global, tokens: &[Token]) -> Result<(Vec<Word>, &[Token]), Stop>
     ensures spelled { IfOk result (λ r. kinds tokens.now ≡ more_names r.0.items (kinds r.1.now)) }
     ensures places { IfOk result (λ r. Placed (λ at b. MoreNamesAt at r.0.items b) tokens.now r.1.now) }
@@ -34,7 +34,6 @@ pub fn more_names(alloc: Global, tokens: &[Token]) -> Result<(Vec<Word>, &[Token
 }
 
 /// One name or more.
-#[tactic(auto, using(crate::proofs::Choices::choices))]
 pub fn names(alloc: Global, tokens: &[Token]) -> Result<(SurfaceNames, &[Token]), Stop>
     ensures spelled { IfOk result (λ r. kinds tokens.now ≡ names (names_of r.0) (kinds r.1.now)) }
     ensures places { IfOk result (λ r. Placed (λ at b. NamesAt at (names_of r.0) b) tokens.now r.1.now) }

@@ -1,5 +1,5 @@
 -- A program of one resource and four procedures, each of which is in order.
-use Rattle.std.proofs.Common.{◌≡◌, ℕ, zero, suc, List, [], ◌∷◌, length, Option, Some, None, slice_get, sym, subst, arith}
+use Rattle.std.proofs.Common.{◌≡◌, ℕ, zero, suc, List, [], ◌∷◌, length, Some, slice_get, sym, subst, arith}
 use Rattle.std.proofs.lemmas.Option.{none-some, same_Some}
 use Rattle.sf_core.specs.Formed.{AssertionWithin, IsFormed, IsOfResource, ProcedureWithin}
 use Rattle.sf_core.specs.Syntax.{Procedure, Program, Resource}

@@ -8,7 +8,7 @@ ghost use Rattle.sf_core.specs.declared.assertion.Operand.TheVariants.{Known};
 ghost use Rattle.sf_core.specs.declared.assertion.Test.TheVariants.{Equal};
 ghost use Rattle.sf_core.specs.declared.command.Expr.TheVariants.{Var as Variable, Nil};
 
-use crate::{conditions, VarFault};
+use crate::{VarFault, conditions};
 use sf_base::{Name, Place, ProcId, ResId, Var};
 use sf_calls::reach;
 use sf_core::{
@@ -45,7 +45,12 @@ fn told(alloc: Global, p: &Program) -> Result<String, AllocError> {
         Err(VarFault::ParallelShares(place, name)) => ("34 ParallelShares", place, name),
         Err(VarFault::OutOfMemory) => return Err(AllocError),
     };
-    format!(in alloc; "{kind} at {}:{} {}", place.line, place.column, name.as_str())
+    format!(in alloc;
+        "{kind} at {}:{} {}",
+        place.line,
+        place.column,
+        name.as_str()
+    )
 }
 
 /// `emp`
@@ -266,7 +271,10 @@ fn free_variable_passed(rt: HostRuntime) -> Result<(), Fail> {
     let p = procedure(alloc, "p", Vec::new(alloc), 0, emp(alloc), body)?;
     let a = resource(alloc, "a", "v")?;
     let program = file(alloc, vec![in alloc; a]?, vec![in alloc; f, p]?);
-    assert_eq!(rt; told(alloc, &program)?.as_str(), "33 ReferenceIsFree at 2:30 v");
+    assert_eq!(rt;
+        told(alloc, &program)?.as_str(),
+        "33 ReferenceIsFree at 2:30 v"
+    );
     Ok(())
 }
 
@@ -277,26 +285,56 @@ fn parallel_calls_write_one_variable(rt: HostRuntime) -> Result<(), Fail> {
     let f = procedure(alloc, "f", x, 1, emp(alloc), Vec::new(alloc))?;
     let x = vec![in alloc; Name::new(alloc, "x")?]?;
     let g = procedure(alloc, "g", x, 1, emp(alloc), Vec::new(alloc))?;
-    let left = to(alloc, 0, at(3, 9), vec![in alloc; seen(Var::Own(0), 3, 11)]?);
-    let right = to(alloc, 1, at(3, 18), vec![in alloc; seen(Var::Own(0), 3, 20)]?);
+    let left = to(
+        alloc,
+        0,
+        at(3, 9),
+        vec![in alloc; seen(Var::Own(0), 3, 11)]?,
+    );
+    let right = to(
+        alloc,
+        1,
+        at(3, 18),
+        vec![in alloc; seen(Var::Own(0), 3, 20)]?,
+    );
     let x = vec![in alloc; Name::new(alloc, "x")?]?;
-    let p = procedure(alloc, "p", x, 1, emp(alloc), vec![in alloc; beside(left, right)]?)?;
+    let p = procedure(
+        alloc,
+        "p",
+        x,
+        1,
+        emp(alloc),
+        vec![in alloc; beside(left, right)]?,
+    )?;
     let q = procedure(alloc, "q", Vec::new(alloc), 0, emp(alloc), Vec::new(alloc))?;
     let program = file_of_four(alloc, resource(alloc, "a", "v")?, f, g, p, q)?;
-    assert_eq!(rt; told(alloc, &program)?.as_str(), "34 ParallelShares at 3:9 x");
+    assert_eq!(rt;
+        told(alloc, &program)?.as_str(),
+        "34 ParallelShares at 3:9 x"
+    );
     Ok(())
 }
 
 #[test]
 fn parallel_calls_have_one_variable_free(rt: HostRuntime) -> Result<(), Fail> {
     let alloc = rt.alloc();
-    let f = procedure(alloc, "f", Vec::new(alloc), 0, is_nil(alloc, V)?, Vec::new(alloc))?;
+    let f = procedure(
+        alloc,
+        "f",
+        Vec::new(alloc),
+        0,
+        is_nil(alloc, V)?,
+        Vec::new(alloc),
+    )?;
     let left = to(alloc, 0, at(3, 18), Vec::new(alloc));
     let right = to(alloc, 0, at(3, 25), Vec::new(alloc));
     let both = vec![in alloc; beside(left, right)]?;
     let p = procedure(alloc, "p", Vec::new(alloc), 0, is_nil(alloc, V)?, both)?;
     let a = resource(alloc, "a", "v")?;
     let program = file(alloc, vec![in alloc; a]?, vec![in alloc; f, p]?);
-    assert_eq!(rt; told(alloc, &program)?.as_str(), "34 ParallelShares at 3:18 v");
+    assert_eq!(rt;
+        told(alloc, &program)?.as_str(),
+        "34 ParallelShares at 3:18 v"
+    );
     Ok(())
 }

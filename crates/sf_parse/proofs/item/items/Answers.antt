@@ -26,5 +26,5 @@ loop-rest-preserved c =
           let a = c.loop-rest.invariant.places at agree in
           let b = c.in_ok-one.ensures.places at a.1 in
           rw e ((items_at_push at is i r (subst (λ (z : List Kind). ItemsAt at is z) c.in_ok-one.ensures.spelled a.0) b.0, b.1));
-      taken = λ st. c.loop-rest.invariant.taken st ∙ c.in_ok-one.ensures.taken st
+      taken = λ st. c.loop-rest.invariant.taken st ∙ c.in_ok-one.ensures.taken st;
     }

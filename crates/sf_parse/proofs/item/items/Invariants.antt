@@ -14,7 +14,7 @@ invariant-loop-rest l = record {
   spelled : kinds l.tokens ≡ g.items (map item_of l.found.items) (kinds l.rest);
   within : ItemsWithin (map item_of l.found.items) 0 (kinds l.rest);
   places : Placed (λ at b. ItemsAt at (map item_of l.found.items) b) l.tokens l.rest;
-  taken : (st : List Owed) → verdict 0 (kinds l.tokens) (m.items ∷ st) ≡ verdict 0 (kinds l.rest) (m.items ∷ st)
+  taken : (st : List Owed) → verdict 0 (kinds l.tokens) (m.items ∷ st) ≡ verdict 0 (kinds l.rest) (m.items ∷ st);
 }
 
 abbrev pub decreases-loop-rest : goal.decreases-loop-rest

@@ -14,7 +14,7 @@ use Rattle.sf_parse.proofs.item.locals.Goals as goal
 pub loop-after-smaller : goal.loop-after-smaller
 loop-after-smaller c =
     fewer_behind_local (names_of c.in_ok-one.one) c.loop-after.rest.now c.in_ok-after.after.now (
-      c.in-Some.ensures.spelled ∙ ap (λ (z : List Kind). k.Local ∷ z) (c.in_ok-one.ensures.spelled ∙ ap (λ (z : List Kind). g.names (names_of c.in_ok-one.one) z) c.in_ok-after.ensures.spelled))
+    c.in-Some.ensures.spelled ∙ ap (λ (z : List Kind). k.Local ∷ z) (c.in_ok-one.ensures.spelled ∙ ap (λ (z : List Kind). g.names (names_of c.in_ok-one.one) z) c.in_ok-after.ensures.spelled))
 
 pub loop-after-preserved : goal.loop-after-preserved
 loop-after-preserved c =
@@ -23,7 +23,7 @@ loop-after-preserved c =
     let r = kinds c.in_ok-after.after.now in
     let e : map names_of c.push.new.self.items ≡ ls ++ x ∷ [] = rw c.in_ok-push.ensures.items (map_push _ c.loop-after.found.items c.in_ok-one.one) in
     let here : kinds c.loop-after.rest.now ≡ k.Local ∷ g.names x (k.Semicolon ∷ r) =
-        c.in-Some.ensures.spelled ∙ ap (λ (z : List Kind). k.Local ∷ z) (c.in_ok-one.ensures.spelled ∙ ap (λ (z : List Kind). g.names x z) c.in_ok-after.ensures.spelled) in
+    c.in-Some.ensures.spelled ∙ ap (λ (z : List Kind). k.Local ∷ z) (c.in_ok-one.ensures.spelled ∙ ap (λ (z : List Kind). g.names x z) c.in_ok-after.ensures.spelled) in
     record {
       spelled = rw e (c.loop-after.invariant.spelled ∙ ap (λ (z : List Kind). g.locals ls z) here ∙ sym (locals_push ls x r));
       places = λ at agree.
@@ -33,5 +33,5 @@ loop-after-preserved c =
           rw e ((locals_at_push at ls x r (subst (λ (z : List Kind). LocalsAt at ls z) here a.0) (subst (λ (z : List Kind). NamesAt at x z) c.in_ok-after.ensures.spelled b.0), d.1));
       taken = λ st.
           c.loop-after.invariant.taken st ∙ ap (λ (z : List Kind). verdict 0 z (m.locals ∷ st)) c.in-Some.ensures.spelled ∙ c.in_ok-one.ensures.taken (m.exact m.semicolon ∷ m.locals ∷ st)
-          ∙ c.in_ok-after.ensures.taken (m.locals ∷ st)
+          ∙ c.in_ok-after.ensures.taken (m.locals ∷ st);
     }

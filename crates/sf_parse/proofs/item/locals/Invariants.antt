@@ -12,7 +12,7 @@ abbrev pub invariant-loop-after : goal.invariant-loop-after
 invariant-loop-after l = record {
   spelled : kinds l.tokens ≡ g.locals (map names_of l.found.items) (kinds l.rest);
   places : Placed (λ at b. LocalsAt at (map names_of l.found.items) b) l.tokens l.rest;
-  taken : (st : List Owed) → verdict 0 (kinds l.tokens) (m.locals ∷ st) ≡ verdict 0 (kinds l.rest) (m.locals ∷ st)
+  taken : (st : List Owed) → verdict 0 (kinds l.tokens) (m.locals ∷ st) ≡ verdict 0 (kinds l.rest) (m.locals ∷ st);
 }
 
 abbrev pub decreases-loop-after : goal.decreases-loop-after

@@ -1,14 +1,12 @@
-use Rattle.std.proofs.Common.{◌≡◌, List, ◌∷◌, ◌∙◌, ap, sym, subst}
-use Rattle.std.proofs.lemmas.Result.{IfOk-weaker}
+use Rattle.std.proofs.Common.{◌≡◌, List, ◌∷◌, ◌∙◌, ap, subst}
 use Rattle.std.specs.Option.{option_map}
 use Rattle.sf_ast.specs.View.{note_of, parameters_of}
 use Rattle.sf_lex.specs.declared.token.Kind.{Kind}
 use Rattle.sf_lex.specs.declared.token.Kind.TheVariants as k
-use Rattle.sf_parse.specs.Bodies.{body, locals_of, commands_of, BodyAt, BodyWithin}
+use Rattle.sf_parse.specs.Bodies.{body, BodyAt}
 use Rattle.sf_parse.specs.Grammar as g
-use Rattle.sf_parse.specs.Nesting.{MaybeWithin, NoteWithin, CommandsWithin}
 use Rattle.sf_parse.specs.Parsing.{kinds}
-use Rattle.sf_parse.specs.Placed.{WordAt, PlaceAt, MoreNamesAt, MaybeNamesAt, ParametersAt, MaybeNoteAt, NoteAt, LocalsAt, CommandsAt, ItemAt}
+use Rattle.sf_parse.specs.Placed.{WordAt, ParametersAt, MaybeNoteAt}
 use Rattle.sf_parse.proofs.item.procedure.Goals as goal
 
 pub returns-clause-places : goal.returns-clause-places
@@ -25,9 +23,9 @@ returns-clause-places c = λ at first agree.
     let from_post : kinds c.in_ok-body.rest.now ≡ g.maybe_note post r = c.in_ok-post.ensures.spelled in
     let from_open : kinds c.in_ok-pre.rest.now ≡ body b (g.maybe_note post r) = c.in_ok-body.ensures.spelled ∙ ap (λ (z : List Kind). body b z) from_post in
     let from_close : kinds c.in_ok-parameters.rest.now ≡ k.CloseRound ∷ g.maybe_note pre (body b (g.maybe_note post r)) =
-        c.in_ok-rest.ensures.spelled ∙ ap (λ (z : List Kind). k.CloseRound ∷ z) (c.in_ok-pre.ensures.spelled ∙ ap (λ (z : List Kind). g.maybe_note pre z) from_open) in
+    c.in_ok-rest.ensures.spelled ∙ ap (λ (z : List Kind). k.CloseRound ∷ z) (c.in_ok-pre.ensures.spelled ∙ ap (λ (z : List Kind). g.maybe_note pre z) from_open) in
     let whole : kinds c.args.tokens.now ≡ g.parameters ps (k.CloseRound ∷ g.maybe_note pre (body b (g.maybe_note post r))) =
-        c.in_ok-parameters.ensures.spelled ∙ ap (λ (z : List Kind). g.parameters ps z) from_close in
+    c.in_ok-parameters.ensures.spelled ∙ ap (λ (z : List Kind). g.parameters ps z) from_close in
     let inner = subst (λ (z : List Kind). BodyAt at b z) from_post ba.0 in
     rw c.procedure_of.ensures (
       (

@@ -1,14 +1,9 @@
-use Rattle.std.proofs.Common.{◌≡◌, List, ◌∷◌, ◌∙◌, ap, sym, subst}
-use Rattle.std.proofs.lemmas.Result.{IfOk-weaker}
-use Rattle.std.specs.Option.{option_map}
-use Rattle.sf_ast.specs.View.{note_of, parameters_of}
+use Rattle.std.proofs.Common.{◌≡◌, List, ◌∷◌, ◌∙◌, ap, subst}
 use Rattle.sf_lex.specs.declared.token.Kind.{Kind}
 use Rattle.sf_lex.specs.declared.token.Kind.TheVariants as k
-use Rattle.sf_parse.specs.Bodies.{body, locals_of, commands_of, BodyAt, BodyWithin}
 use Rattle.sf_parse.specs.Grammar as g
-use Rattle.sf_parse.specs.Nesting.{MaybeWithin, NoteWithin, CommandsWithin}
 use Rattle.sf_parse.specs.Parsing.{kinds}
-use Rattle.sf_parse.specs.Placed.{WordAt, PlaceAt, MoreNamesAt, MaybeNamesAt, ParametersAt, MaybeNoteAt, NoteAt, LocalsAt, CommandsAt, ItemAt}
+use Rattle.sf_parse.specs.Placed.{PlaceAt, LocalsAt, CommandsAt}
 use Rattle.std.proofs.Common.{map}
 use Rattle.sf_ast.specs.View.{names_of, command_of, commands}
 use Rattle.sf_parse.proofs.item.procedure_body.Goals as goal
@@ -23,8 +18,7 @@ returns-clause-places c = λ at agree.
     let d = c.in_ok-commands.ensures.places at b.1 in
     let f = c.in_ok-close.ensures.places at d.1 in
     let behind : kinds c.in_ok-locals.rest.now ≡ g.commands cs (k.CloseBrace ∷ r) = c.in_ok-commands.ensures.spelled ∙ ap (λ (z : List Kind). g.commands cs z) c.in_ok-close.ensures.spelled in
-    let inner : kinds c.in_ok-open.rest.now ≡ g.locals ls (g.commands cs (k.CloseBrace ∷ r)) = c.in_ok-locals.ensures.spelled ∙ ap (λ (z : List Kind). g.locals ls z) behind in
-    (
+    let inner : kinds c.in_ok-open.rest.now ≡ g.locals ls (g.commands cs (k.CloseBrace ∷ r)) = c.in_ok-locals.ensures.spelled ∙ ap (λ (z : List Kind). g.locals ls z) behind in (
       (
         subst (λ (z : List Kind). PlaceAt at c.in_ok-open.open (k.OpenBrace ∷ z)) inner a.0,
         subst (λ (z : List Kind). LocalsAt at ls z) behind b.0,

@@ -1,14 +1,10 @@
-use Rattle.std.proofs.Common.{◌≡◌, List, ◌∷◌, ◌∙◌, ap, sym, subst}
-use Rattle.std.proofs.lemmas.Result.{IfOk-weaker}
-use Rattle.std.specs.Option.{option_map}
-use Rattle.sf_ast.specs.View.{note_of, parameters_of}
+use Rattle.std.proofs.Common.{◌≡◌, List, ◌∷◌, ◌∙◌, ap, subst}
+use Rattle.sf_ast.specs.View.{note_of}
 use Rattle.sf_lex.specs.declared.token.Kind.{Kind}
 use Rattle.sf_lex.specs.declared.token.Kind.TheVariants as k
-use Rattle.sf_parse.specs.Bodies.{body, locals_of, commands_of, BodyAt, BodyWithin}
 use Rattle.sf_parse.specs.Grammar as g
-use Rattle.sf_parse.specs.Nesting.{MaybeWithin, NoteWithin, CommandsWithin}
 use Rattle.sf_parse.specs.Parsing.{kinds}
-use Rattle.sf_parse.specs.Placed.{WordAt, PlaceAt, MoreNamesAt, MaybeNamesAt, ParametersAt, MaybeNoteAt, NoteAt, LocalsAt, CommandsAt, ItemAt}
+use Rattle.sf_parse.specs.Placed.{WordAt, PlaceAt, MaybeNamesAt}
 use Rattle.sf_parse.proofs.item.resource.Goals as goal
 
 pub returns-clause-places : goal.returns-clause-places
@@ -21,9 +17,8 @@ returns-clause-places c = λ at first agree.
     let d = c.in_ok-invariant.ensures.places at (c.in_ok-rest-2.ensures.places at b.1).1 in
     let behind : kinds c.in_ok-variables.rest.now ≡ k.CloseRound ∷ g.note n r = c.in_ok-rest-2.ensures.spelled ∙ ap (λ (z : List Kind). k.CloseRound ∷ z) c.in_ok-invariant.ensures.spelled in
     let named : kinds c.in_ok-own.rest.now ≡ k.OpenRound ∷ g.maybe_names xs (k.CloseRound ∷ g.note n r) =
-        c.in_ok-rest.ensures.spelled ∙ ap (λ (z : List Kind). k.OpenRound ∷ z) (c.in_ok-variables.ensures.spelled ∙ ap (λ (z : List Kind). g.maybe_names xs z) behind) in
-    let whole : kinds c.args.tokens.now ≡ k.Name ∷ k.OpenRound ∷ g.maybe_names xs (k.CloseRound ∷ g.note n r) = c.in_ok-own.ensures.spelled ∙ ap (λ (z : List Kind). k.Name ∷ z) named in
-    (
+    c.in_ok-rest.ensures.spelled ∙ ap (λ (z : List Kind). k.OpenRound ∷ z) (c.in_ok-variables.ensures.spelled ∙ ap (λ (z : List Kind). g.maybe_names xs z) behind) in
+    let whole : kinds c.args.tokens.now ≡ k.Name ∷ k.OpenRound ∷ g.maybe_names xs (k.CloseRound ∷ g.note n r) = c.in_ok-own.ensures.spelled ∙ ap (λ (z : List Kind). k.Name ∷ z) named in (
       (
         subst (λ (z : List Kind). PlaceAt at c.args.place (k.Resource ∷ z)) whole first,
         subst (λ (z : List Kind). WordAt at c.in_ok-own.own (k.Name ∷ z)) named a.0,

@@ -1,4 +1,3 @@
-use Rattle.std.proofs.Common.{◌≡◌}
 use Rattle.sf_core.specs.View.{procedure_of, resource_of}
 use Rattle.sf_vars.proofs.Plain.{four_formed}
 use Rattle.sf_vars.proofs.tests.file_of_four.Goals as goal

@@ -1,0 +1,691 @@
+use crate::{ParseFault, parse};
+use sf_ast::{File, Item, SurfaceCommand};
+use sf_base::Place;
+use sf_lex::{LexFault, Token, tokens};
+use std::alloc::{AllocError, Global};
+
+/// What becomes of a file's bytes.
+#[derive(Clone, Copy, Debug, PartialEq, Eq)]
+enum Answer {
+    Read,
+    Lexed(LexFault),
+    Refused(ParseFault),
+}
+
+/// The place in that line and column.
+fn at(line: u32, column: u32) -> Place {
+    Place { line, column }
+}
+
+/// Refused at that place of the first line, whose token fits nothing.
+fn unexpected(column: u32) -> Answer {
+    Answer::Refused(ParseFault::Unexpected(at(1, column)))
+}
+
+/// Refused at that place of the first line, whose token begins what is too deep.
+fn too_deep(column: u32) -> Answer {
+    Answer::Refused(ParseFault::TooDeep(at(1, column)))
+}
+
+/// Refused at that place of the first line, where a byte begins no token.
+fn bad_byte(column: u32) -> Answer {
+    Answer::Lexed(LexFault::BadByte(at(1, column)))
+}
+
+/// What becomes of those bytes.
+fn outcome(alloc: Global, bytes: &[u8]) -> Answer {
+    match tokens(alloc, bytes) {
+        Err(fault) => Answer::Lexed(fault),
+        Ok(found) => match parse(alloc, bytes, found.as_slice()) {
+            Ok(_) => Answer::Read,
+            Err(fault) => Answer::Refused(fault),
+        },
+    }
+}
+
+/// The file that those bytes are, if they are one.
+fn file(alloc: Global, bytes: &[u8]) -> Option<File> {
+    match tokens(alloc, bytes) {
+        Err(_) => None,
+        Ok(found) => parse(alloc, bytes, found.as_slice()).ok(),
+    }
+}
+
+#[test]
+fn files_are_read_or_refused_at_the_first_bad_token(rt: HostRuntime) {
+    let cases: [(&[u8], Answer); 88] = [
+        (b"f() { -x; }", bad_byte(7)),
+        (b"f() { x-->tl = 1; }", bad_byte(8)),
+        (b"f() [__ == nil] { }", Answer::Read),
+        (b"f() { if (x ! y) { } }", bad_byte(13)),
+        (b"f(x) [x |-tl:x] { }", bad_byte(9)),
+        (b"f() { } /* \xc3\xa4 @ */", Answer::Read),
+        (b"f() { } \x0c", bad_byte(9)),
+        (b"/*/", Answer::Lexed(LexFault::OpenComment(at(1, 1)))),
+        (b"/* /* */ */", bad_byte(11)),
+        (b"/* a\nb */ @", Answer::Lexed(LexFault::BadByte(at(2, 6)))),
+        (
+            b"f() { 3x->tl = 1; }",
+            Answer::Lexed(LexFault::BadNumber(at(1, 7))),
+        ),
+        (b"f(x) { x->tl = -9223372036854775808; }", Answer::Read),
+        (b"f(x) { x->tl = 9223372036854775807; }", Answer::Read),
+        (b"f(x) { x->tl = 3/**/4; }", unexpected(21)),
+        (b"f( ) ) @", bad_byte(8)),
+        (b"f(;) { }", Answer::Read),
+        (b"f(x;) { }", Answer::Read),
+        (b"f(x,) { }", unexpected(5)),
+        (b"f() { f(3;); }", unexpected(10)),
+        (b"f() { if (true) { } else { } else { } }", unexpected(30)),
+        (b"f() { local ; }", unexpected(13)),
+        (b"f() {", unexpected(6)),
+        (b"f", unexpected(2)),
+        (b"resource r () []", Answer::Read),
+        (b"f() [true] { }", unexpected(6)),
+        (b"f(x) [x] { }", unexpected(8)),
+        (b"f(x) [x|->tl] { }", unexpected(13)),
+        (b"f(x) [x|->tl:x,] { }", unexpected(16)),
+        (b"f(x;) { f(x;) || x = nil; }", unexpected(20)),
+        (b"f(x) { dispose x; dispose(x); }", Answer::Read),
+        (b"f(x) { x = new; }", unexpected(15)),
+        (b"f(x) { x == nil; }", unexpected(10)),
+        (b"f(x) { nil->tl = 3; 3->hd = nil; }", Answer::Read),
+        (b"f(x) { x = x->tl->tl; }", unexpected(17)),
+        (b"f(x) { if x == nil { } }", unexpected(11)),
+        (
+            b"f(x) [if x == nil then emp else if (x != nil) then emp else emp * x == nil] { }",
+            Answer::Read,
+        ),
+        (b"f(x) [lseg(x)] { }", unexpected(13)),
+        (b"f(list) { }", unexpected(3)),
+        (b"a b;", unexpected(3)),
+        (b"f() { with r when (x == nil) { } }", Answer::Read),
+        (b"q; f(x) { x->tl = 1; }", Answer::Read),
+        (b"f(x) [x|->q:1] { }", Answer::Read),
+        (b"f() { local x; } [x == nil]", Answer::Read),
+        (b"f() { } f() { }", Answer::Read),
+        (b"f(x; x) { }", Answer::Read),
+        (b"a; b; a;", Answer::Read),
+        (b"resource a (v, v) []", Answer::Read),
+        (b"f(x) [x|->tl:1,hd:2,tl:3] { }", Answer::Read),
+        (b"resource a (v) [] resource b (w, v) []", Answer::Read),
+        (b"resource a (v) [w == nil] resource b (w) []", Answer::Read),
+        (b"q, tl; f(x) [list(x) * tree(x)] { }", Answer::Read),
+        (b"q; f(x) [tree(y)] { }", Answer::Read),
+        (b"f(x) { f(y,y); }", Answer::Read),
+        (b"f(x;) { f(x); }", Answer::Read),
+        (
+            b"f(x) [if x == nil then x == _y else x|->tl:_y] { }",
+            Answer::Read,
+        ),
+        (
+            b"f(x) [(if x == nil then _y == nil else emp) * ls(x,_y)] { }",
+            Answer::Read,
+        ),
+        (
+            b"f(x) [if _y == nil then emp else emp * list(x)] { }",
+            Answer::Read,
+        ),
+        (
+            b"f(x) [ls(_a,_b) * _b|->tl:_a * x|->tl:_b] { }",
+            Answer::Read,
+        ),
+        (b"f(x) [_a == _b * _b == x] { }", Answer::Read),
+        (b"f(x) [_a|->tl:x] { }", Answer::Read),
+        (
+            b"f(x) { } [list(_q)] resource r (v) [list(_w)]",
+            Answer::Read,
+        ),
+        (
+            b"f(x) [if x == nil then (if x == nil then _z == x * list(_z) else _z == nil) else emp] { }",
+            Answer::Read,
+        ),
+        (
+            b"resource r (v) [] f() { with r when (v == nil) { v = nil; } }",
+            Answer::Read,
+        ),
+        (
+            b"resource r (v) [] f() { local v; v = nil; } [v == nil]",
+            Answer::Read,
+        ),
+        (
+            b"h(x,y,z;) { } q(x;y) { local z; h(x,z,x;); }",
+            Answer::Read,
+        ),
+        (
+            b"f(x;y) { } g(x;) { } p(a;) { f(a;nil) || g(a;); }",
+            Answer::Read,
+        ),
+        (b"f(y) { } p(a;) { f(a) || f(a); }", Answer::Read),
+        (
+            b"f() [v == nil] { v = nil; g(); } g() { } h() { with r when (true) { f(); } }",
+            Answer::Read,
+        ),
+        (b"", Answer::Read),
+        (b" /* */ ", Answer::Read),
+        (b"f() { x = ; }", unexpected(11)),
+        (b"f() { f(x, 3; x); }", unexpected(13)),
+        (b"f() { f(x, y; x, 3); }", Answer::Read),
+        (b"f() { f(; 3); }", Answer::Read),
+        (b"f() { f(x;); }", Answer::Read),
+        (b"f() { f(x, ; 3); }", unexpected(12)),
+        (b"f() { dispose(x; }", unexpected(16)),
+        (b"f() { local x, y z; }", unexpected(18)),
+        (b"f() { while (true) [emp] { } }", Answer::Read),
+        (b"f() { while (true) [emp } }", unexpected(25)),
+        (b"f() { with r (true) { } }", unexpected(14)),
+        (b"f() { ; }", unexpected(7)),
+        (b"f() { } }", unexpected(9)),
+        (b"f() { } [emp] [emp]", unexpected(15)),
+        (b"f() { /* */ ", unexpected(13)),
+        (
+            b"f() {\n",
+            Answer::Refused(ParseFault::Unexpected(at(2, 1))),
+        ),
+        (
+            b"f() {\n  x = y\n}",
+            Answer::Refused(ParseFault::Unexpected(at(3, 1))),
+        ),
+        (b"resource r (x) ", unexpected(16)),
+    ];
+    for (bytes, expected) in cases {
+        assert!(rt; outcome(rt.alloc(), bytes) == expected);
+    }
+}
+
+/// Parts of a text, each as often as it says, one behind the other.
+fn repeated(alloc: Global, parts: &[(&[u8], usize)]) -> Result<Vec<u8>, AllocError> {
+    let mut text = Vec::new(alloc);
+    for (part, count) in parts {
+        for _ in 0..*count {
+            text.extend_from_slice(*part)?;
+        }
+    }
+    Ok(text)
+}
+
+#[test]
+fn nesting_has_sixty_four_levels(rt: HostRuntime) -> Result<(), AllocError> {
+    let cases: [([(&[u8], usize); 4], Answer); 13] = [
+        (
+            [(b"f() { ", 1), (b"{", 64), (b"}", 64), (b" }", 1)],
+            Answer::Read,
+        ),
+        (
+            [(b"f() { ", 1), (b"{", 65), (b"}", 65), (b" }", 1)],
+            too_deep(71),
+        ),
+        (
+            [(b"f() { ", 1), (b"{", 64), (b"x = nil;", 1), (b"", 0)],
+            too_deep(71),
+        ),
+        (
+            [(b"f() { ", 1), (b"{", 64), (b";", 1), (b"", 0)],
+            unexpected(71),
+        ),
+        (
+            [
+                (b"f() { ", 1),
+                (b"{", 63),
+                (b"if (true) x = nil;", 1),
+                (b"", 0),
+            ],
+            too_deep(80),
+        ),
+        (
+            [(b"f() { ", 1), (b"{", 63), (b"if (true) ;", 1), (b"", 0)],
+            unexpected(80),
+        ),
+        (
+            [(b"f() { ", 1), (b"{", 63), (b"if (true) ", 1), (b"", 0)],
+            unexpected(80),
+        ),
+        (
+            [
+                (b"f() { ", 1),
+                (b"if (true) ", 63),
+                (b"x = nil; }", 1),
+                (b"", 0),
+            ],
+            Answer::Read,
+        ),
+        (
+            [(b"f() [", 1), (b"(", 63), (b"emp", 1), (b")", 63)],
+            unexpected(135),
+        ),
+        (
+            [(b"f() [", 1), (b"(", 64), (b"emp", 1), (b")", 64)],
+            too_deep(70),
+        ),
+        (
+            [(b"f() [", 1), (b"(", 65), (b"", 0), (b"", 0)],
+            too_deep(70),
+        ),
+        (
+            [
+                (b"f() [", 1),
+                (b"if true then emp else ", 64),
+                (b"emp", 1),
+                (b"", 0),
+            ],
+            too_deep(1405),
+        ),
+        (
+            [
+                (b"f() [", 1),
+                (b"(", 62),
+                (b"if true then emp else emp * (emp)", 1),
+                (b"", 0),
+            ],
+            too_deep(97),
+        ),
+    ];
+    for (parts, expected) in cases {
+        let text = repeated(rt.alloc(), parts.as_slice())?;
+        assert!(rt; outcome(rt.alloc(), text.as_slice()) == expected);
+    }
+    Ok(())
+}
+
+/// How many commands the first procedure has, and whether the first is an `if` without `else`.
+fn first_body(file: &File) -> (usize, bool) {
+    for item in file.items.iter() {
+        if let Item::Procedure(procedure) = item {
+            for command in procedure.body.iter() {
+                return (
+                    procedure.body.len(),
+                    matches!(command, SurfaceCommand::When(_, _, _)),
+                );
+            }
+        }
+    }
+    (0, false)
+}
+
+/// How many conjuncts the first procedure's precondition has.
+fn first_conjuncts(file: &File) -> usize {
+    for item in file.items.iter() {
+        if let Item::Procedure(procedure) = item {
+            if let Some(note) = &procedure.pre {
+                if let Some(assertion) = &note.assertion {
+                    return 1 + assertion.more.len().min(1_000);
+                }
+            }
+        }
+    }
+    0
+}
+
+#[test]
+fn an_else_belongs_to_the_nearest_if(rt: HostRuntime) {
+    let dangling = file(
+        rt.alloc(),
+        b"f(x;) { if (true) if (true) x = nil; else x = 1; }",
+    );
+    let own = file(
+        rt.alloc(),
+        b"f(x;) { if (true) { if (true) x = nil; } else x = 1; }",
+    );
+    assert!(rt;
+        dangling
+            .as_ref()
+            .is_some_and(|file| first_body(file) == (1, true))
+    );
+    assert!(rt;
+        own.as_ref()
+            .is_some_and(|file| first_body(file) == (1, false))
+    );
+}
+
+#[test]
+fn a_branch_reaches_to_the_right(rt: HostRuntime) {
+    let reaching = file(
+        rt.alloc(),
+        b"f() [if true then emp else emp * emp * emp] { }",
+    );
+    let closed = file(
+        rt.alloc(),
+        b"f() [(if true then emp else emp) * emp * emp] { }",
+    );
+    assert!(rt;
+        reaching
+            .as_ref()
+            .is_some_and(|file| first_conjuncts(file) == 1)
+    );
+    assert!(rt;
+        closed
+            .as_ref()
+            .is_some_and(|file| first_conjuncts(file) == 3)
+    );
+}
+
+/// The printed grammar, in letters: a capital for a rule, any other for a token.
+const GRAMMAR: [(u8, &[u8]); 68] = [
+    (b'F', b""),
+    (b'F', b"IF"),
+    (b'I', b"xW;"),
+    (b'I', b"rx(V)[B]"),
+    (b'I', b"x(P)N{LD}N"),
+    (b'N', b""),
+    (b'N', b"[B]"),
+    (b'V', b""),
+    (b'V', b"xW"),
+    (b'W', b""),
+    (b'W', b",xW"),
+    (b'P', b"V"),
+    (b'P', b"V;V"),
+    (b'L', b""),
+    (b'L', b"oxW;L"),
+    (b'D', b""),
+    (b'D', b"CD"),
+    (b'C', b"x=E;"),
+    (b'C', b"x=E>x;"),
+    (b'C', b"x=n();"),
+    (b'C', b"E>x=E;"),
+    (b'C', b"d(E);"),
+    (b'C', b"dE;"),
+    (b'C', b"i(T)C"),
+    (b'C', b"i(T)CeC"),
+    (b'C', b"h(T)NC"),
+    (b'C', b"vxw(T)C"),
+    (b'C', b"G;"),
+    (b'C', b"G&G;"),
+    (b'C', b"{D}"),
+    (b'G', b"x(X)"),
+    (b'G', b"x(V;X)"),
+    (b'X', b""),
+    (b'X', b"EY"),
+    (b'Y', b""),
+    (b'Y', b",EY"),
+    (b'E', b"x"),
+    (b'E', b"."),
+    (b'E', b"u"),
+    (b'E', b"0"),
+    (b'T', b"b"),
+    (b'T', b"E~E"),
+    (b'T', b"E!E"),
+    (b'B', b""),
+    (b'B', b"A"),
+    (b'A', b"SR"),
+    (b'R', b""),
+    (b'R', b"*SR"),
+    (b'S', b"m"),
+    (b'S', b"(A)"),
+    (b'S', b"i(U)tAeA"),
+    (b'S', b"iUtAeA"),
+    (b'S', b"O~O"),
+    (b'S', b"O!O"),
+    (b'S', b"O|H"),
+    (b'S', b"s(O,O)"),
+    (b'S', b"g(O,O)"),
+    (b'S', b"l(O)"),
+    (b'S', b"y(O)"),
+    (b'H', b""),
+    (b'H', b"x:OJ"),
+    (b'J', b""),
+    (b'J', b",x:OJ"),
+    (b'O', b"E"),
+    (b'O', b"_"),
+    (b'U', b"b"),
+    (b'U', b"O~O"),
+    (b'U', b"O!O"),
+];
+
+/// The letters of all tokens.
+const LETTERS: &[u8] = b"x_0udemilosgn.rtybwhv()[]{},;:*=~!>|&";
+
+/// How the token of that letter is written.
+fn spelling(letter: u8) -> &'static [u8] {
+    match letter {
+        b'x' => b"x",
+        b'_' => b"_a",
+        b'0' => b"-7",
+        b'u' => b"NULL",
+        b'd' => b"dispose",
+        b'e' => b"else",
+        b'm' => b"emp",
+        b'i' => b"if",
+        b'l' => b"list",
+        b'o' => b"local",
+        b's' => b"ls",
+        b'g' => b"lseg",
+        b'n' => b"new",
+        b'.' => b"nil",
+        b'r' => b"resource",
+        b't' => b"then",
+        b'y' => b"tree",
+        b'b' => b"true",
+        b'w' => b"when",
+        b'h' => b"while",
+        b'v' => b"with",
+        b'(' => b"(",
+        b')' => b")",
+        b'[' => b"[",
+        b']' => b"]",
+        b'{' => b"{",
+        b'}' => b"}",
+        b',' => b",",
+        b';' => b";",
+        b':' => b":",
+        b'*' => b"*",
+        b'=' => b"=",
+        b'~' => b"==",
+        b'!' => b"!=",
+        b'>' => b"->",
+        b'|' => b"|->",
+        _ => b"||",
+    }
+}
+
+/// What was seen while the places where a rule may end were gathered.
+#[derive(Clone, Copy, Debug)]
+struct Seen {
+    /// A token was wanted behind the last letter.
+    cut: bool,
+    /// The rules went too deep to be followed.
+    lost: bool,
+}
+
+/// Behind which letters a token may end that begins behind one of those, each a bit of a number.
+fn ends_of_token(letters: &[u8], wanted: u8, from: u64, seen: &mut Seen) -> u64 {
+    let mut here: u64 = 1;
+    let mut found = 0;
+    for letter in letters {
+        let next = here.wrapping_mul(2);
+        if from & here != 0 && *letter == wanted {
+            found |= next;
+        }
+        here = next;
+    }
+    if from & here != 0 {
+        seen.cut = true;
+    }
+    found
+}
+
+/// Behind which letters a rule may end that begins behind one of those.
+#[cycle(rules)]
+fn ends_of_rule(letters: &[u8], rule: u8, from: u64, fuel: u32, seen: &mut Seen) -> u64 {
+    if from == 0 {
+        return 0;
+    }
+    if fuel == 0 {
+        seen.lost = true;
+        return 0;
+    }
+    let mut found = 0;
+    for (name, parts) in GRAMMAR {
+        if name == rule {
+            found |= ends_of_parts(letters, parts, from, fuel - 1, seen);
+        }
+    }
+    found
+}
+
+/// Behind which letters parts may end, one behind the other.
+#[cycle(rules)]
+fn ends_of_parts(letters: &[u8], parts: &[u8], from: u64, fuel: u32, seen: &mut Seen) -> u64 {
+    let mut at = from;
+    for part in parts {
+        at = if part.is_ascii_uppercase() {
+            ends_of_rule(letters, *part, at, fuel, seen)
+        } else {
+            ends_of_token(letters, *part, at, seen)
+        };
+    }
+    at
+}
+
+/// Whether some file begins with those letters, and whether they are one.
+fn begins(letters: &[u8]) -> (bool, bool) {
+    let mut seen = Seen {
+        cut: false,
+        lost: false,
+    };
+    let ends = ends_of_rule(letters, b'F', 1, 400, &mut seen);
+    let mut last: u64 = 1;
+    for _ in letters {
+        last = last.wrapping_mul(2);
+    }
+    let whole = ends & last != 0;
+    (seen.cut || whole || seen.lost, whole)
+}
+
+/// How many letters stand before the first one with which no file begins, if there is a fault.
+fn first_fault(letters: &[u8]) -> Option<usize> {
+    for count in 0..letters.len() {
+        let (can_begin, _) = begins(&letters[..count + 1]);
+        if !can_begin {
+            return Some(count);
+        }
+    }
+    let (_, whole) = begins(letters);
+    if whole { None } else { Some(letters.len()) }
+}
+
+/// The place of that token, or the one behind the bytes.
+fn place_of(bytes: &[u8], found: &[Token], index: usize) -> Place {
+    match found.get(index) {
+        Some(token) => token.place,
+        None => at(
+            1,
+            1u32.wrapping_add(u32::try_from(bytes.len()).unwrap_or(0)),
+        ),
+    }
+}
+
+/// Whether the parser says of those tokens what the printed grammar does.
+fn agrees(alloc: Global, letters: &[u8]) -> Result<bool, AllocError> {
+    let mut text = Vec::new(alloc);
+    for letter in letters {
+        text.extend_from_slice(spelling(*letter))?;
+        text.push(b' ')?;
+    }
+    let Ok(found) = tokens(alloc, text.as_slice()) else {
+        return Ok(false);
+    };
+    let expected = match first_fault(letters) {
+        None => Answer::Read,
+        Some(index) => Answer::Refused(ParseFault::Unexpected(place_of(
+            text.as_slice(),
+            found.as_slice(),
+            index,
+        ))),
+    };
+    Ok(found.len() == letters.len() && outcome(alloc, text.as_slice()) == expected)
+}
+
+/// Numbers that look random, always the same ones.
+#[derive(Clone, Copy, Debug)]
+struct Numbers {
+    state: u32,
+}
+
+/// The next of them, below that many.
+fn next_number(numbers: &mut Numbers, below: usize) -> usize {
+    numbers.state = numbers
+        .state
+        .wrapping_mul(1_664_525)
+        .wrapping_add(1_013_904_223);
+    let number = (numbers.state >> 16) as usize;
+    if below == 0 { 0 } else { number % below }
+}
+
+/// One of all letters.
+fn next_letter(numbers: &mut Numbers) -> u8 {
+    match LETTERS.get(next_number(numbers, LETTERS.len())) {
+        Some(letter) => *letter,
+        None => b'x',
+    }
+}
+
+/// Those letters with one change: another letter, one less, one more, or no more from there on.
+fn changed(alloc: Global, letters: &[u8], numbers: &mut Numbers) -> Result<Vec<u8>, AllocError> {
+    let place = next_number(numbers, letters.len());
+    let change = next_number(numbers, 4);
+    let other = next_letter(numbers);
+    let mut out = Vec::new(alloc);
+    for (index, letter) in letters.iter().enumerate() {
+        if index != place || change == 2 {
+            out.push(*letter)?;
+        }
+        if index == place && change == 3 {
+            return Ok(out);
+        }
+        if index == place && change != 1 {
+            out.push(other)?;
+        }
+    }
+    Ok(out)
+}
+
+/// Letters that go on as a file may, but for one in eight.
+fn grown(alloc: Global, numbers: &mut Numbers) -> Result<Vec<u8>, AllocError> {
+    let mut out = Vec::new(alloc);
+    for _ in 0..20 {
+        let mut letter = next_letter(numbers);
+        for _ in 0..12 {
+            let mut tried = Vec::new(alloc);
+            tried.extend_from_slice(out.as_slice())?;
+            tried.push(letter)?;
+            let (can_begin, _) = begins(tried.as_slice());
+            if can_begin {
+                break;
+            }
+            letter = next_letter(numbers);
+        }
+        out.push(letter)?;
+    }
+    Ok(out)
+}
+
+/// Files in letters.
+const FILES: [&[u8]; 8] = [
+    b"x(x;x)[x~.]{ox;ox,x;x=x;}[m]",
+    b"x(x){i(x~.){}ex=x>x;h(x!0)[l(x)]x>x=.;}",
+    b"x(){x(x;x,.)&x(;0);vxw(b){d(x);dx;}x=n();}",
+    b"x(x)[ix~.tmei(x!u)tmem*x~.*(x|x:_,x:0)]{}",
+    b"rx(x,x)[s(x,_)*g(_,u)*y(x)*_|]x,x;x;",
+    b"x(;){i(b)i(b)x=.;ex=u;0>x=x;u>x=0;}",
+    b"x(){x(x,x,x);x(x,x;0,x);x(0,x)&x();}x;",
+    b"x(){h(b)[]vxw(x~x)i(0!u){{}}e{}}[(m)*m]",
+];
+
+#[test]
+fn the_first_bad_token_is_that_of_the_printed_grammar(rt: HostRuntime) -> Result<(), AllocError> {
+    let mut numbers = Numbers { state: 20_051_101 };
+    for letters in FILES {
+        assert!(rt; agrees(rt.alloc(), letters)?);
+        for _ in 0..30 {
+            let one = changed(rt.alloc(), letters, &mut numbers)?;
+            assert!(rt; agrees(rt.alloc(), one.as_slice())?);
+            let two = changed(rt.alloc(), one.as_slice(), &mut numbers)?;
+            assert!(rt; agrees(rt.alloc(), two.as_slice())?);
+        }
+    }
+    for _ in 0..60 {
+        let letters = grown(rt.alloc(), &mut numbers)?;
+        assert!(rt; agrees(rt.alloc(), letters.as_slice())?);
+    }
+    Ok(())
+}
