@@ -1,10 +1,4 @@
-pub mod Fronts
-pub mod Ascii
-pub mod Numerals
-pub mod TokenSteps
-pub mod Cuts
-pub mod FormedForm
-pub mod Spelled
-pub mod ReadWhole
-pub mod FormPrograms
+pub mod BuiltForms
 pub mod Replies
+pub mod OneAnswer
+pub mod Refused

@@ -1,15 +1,20 @@
 -- Answer: the text and the status that the command gives to its words, over a map of files.
 -- The form of a command's answer is that of The Open Group, "Utility Conventions" (2018); the statuses are this project's own.
-use Rattle.std.specs.Prelude.{◌≡◌, ℕ, ◌<◌, ◌≤◌, ◌⊎◌, Option, Some, None, List, ◌++◌, length, codes}
-use Rattle.sf_base.specs.declared.limits.TheConstants.{FILE_BYTES}
+use Rattle.std.specs.Prelude.{◌≡◌, ℕ, ◌<◌, ◌⊎◌, true, false, Option, Some, None, List, ◌++◌, codes}
+use Rattle.sf_lex.specs.Reading.{first_place}
 use Rattle.sf_core.specs.Syntax.{Program}
 use Rattle.sf_io.specs.Rose.{Rose}
 use Rattle.sf_io.specs.Shelf.{Files}
 use Rattle.sf_io.specs.Sink.{WrotePart}
-use Rattle.sf_cli.specs.FirstForm.{FirstForm}
+use Rattle.sf_cli.specs.Built.{is_built}
+use Rattle.sf_cli.specs.FileFault.{FileFault, Admits}
+use Rattle.sf_cli.specs.Refusals.{refusal_text}
 use Rattle.sf_search.specs.Judge.{Verdict, proof, fails, Judge}
 use Rattle.sf_proof.specs.ProofText.{name_of, proof_text}
 use Rattle.sf_sound.specs.Sound.{IsSound}
+use Rattle.sf_cli.specs.declared.refusal.Refusal.{Refusal}
+use Rattle.sf_cli.specs.declared.refusal.Refusal.TheVariants.{At}
+use Rattle.sf_cli.specs.declared.refusal.RefusalKind.TheVariants.{NotBuilt}
 use Rattle.sf_cli.specs.Words.{Text, Order, verify, order_of, usage_text}
 
 -- the verdict on a program, printed
@@ -17,13 +22,19 @@ abbrev pub VerdictAnswer : Program → Verdict → Text → (status : ℕ) → T
 VerdictAnswer p (proof tags) text status = (text ≡ proof_text p tags) × (status ≡ 0)
 VerdictAnswer p (fails f) text status = (text ≡ codes "failed " ++ name_of p f ++ codes "\n") × (status ≡ 1)
 
--- the answer to a file's bytes: it is too long, or of no form that is built, or there is a verdict on the program that it reads as
+-- what is said of a program for which there are no rules yet
+abbrev pub not_built_text : Text
+not_built_text = refusal_text (At NotBuilt first_place)
+
+-- the answer to a program with which nothing is wrong: there are no rules for it yet, or there is a verdict
+pub data ProgramAnswer (p : Program) (text : Text) (status : ℕ) : Type 0 where
+  not_built : is_built p ≡ false → text ≡ not_built_text → status ≡ 3 → ProgramAnswer p text status
+  judged : is_built p ≡ true → (v : Verdict) → Judge p v → VerdictAnswer p v text status → ProgramAnswer p text status
+
+-- the answer to a file's bytes: it is refused, or it is the answer to the program that it reads as
 pub data FileAnswer (bytes text : Text) (status : ℕ) : Type 0 where
-  too_long : FILE_BYTES < length bytes → text ≡ codes "file refused: 5 LongFile at 1:1\n" → status ≡ 3 → FileAnswer bytes text status
-  not_built : length bytes ≤ FILE_BYTES → ((p : Program) → FirstForm bytes p → ⊥) → text ≡ codes "file refused: 27 NotBuilt at 1:1\n" → status ≡ 3
-      → FileAnswer bytes text status
-  judged : length bytes ≤ FILE_BYTES → (p : Program) (v : Verdict) → FirstForm bytes p → Judge p v → VerdictAnswer p v text status
-      → FileAnswer bytes text status
+  refused : (r : Refusal) → FileFault bytes r → text ≡ refusal_text r → status ≡ 3 → FileAnswer bytes text status
+  admitted : (p : Program) → Admits bytes p → ProgramAnswer p text status → FileAnswer bytes text status
 
 -- the answer to a command, where the file that it names is there
 abbrev pub OrderAnswer : Files → Option Order → Text → (status : ℕ) → Type 0
@@ -74,9 +85,8 @@ WroteSome told before after words old new =
 
 -- these bytes are those of a program that is sound
 pub record AcceptedBytes (bytes : Text) : Type 0 where
-  pub within : length bytes ≤ FILE_BYTES
   pub program : Program
-  pub reads : FirstForm bytes program
+  pub admits : Admits bytes program
   pub sound : IsSound program
 
 -- a file of that name is there, and what it reads as is sound

@@ -1,9 +1,9 @@
 pub mod Words
 pub mod WordsOf
+pub mod Refusals
 pub mod Reads
-pub mod Tokens
-pub mod Separated
-pub mod FirstForm
-pub mod Scan
+pub mod FileFault
+pub mod Built
 pub mod Answer
 pub mod Fetched
+pub mod Laws

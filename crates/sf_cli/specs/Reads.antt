@@ -1,17 +1,18 @@
--- How an answer of the code is held to a definition: the value, seen by a view, or a refusal exactly where there is none.
--- Ordinary: want of memory alone is free.
-use Rattle.std.specs.Prelude.{◌≡◌, Option, Some, None}
-use Rattle.std.specs.declared.result.Result.{Result}
-use Rattle.std.specs.declared.result.Result.TheVariants.{Ok, Err}
-use Rattle.sf_cli.specs.declared.reading.fault.ReadFault.{ReadFault}
-use Rattle.sf_cli.specs.declared.reading.fault.ReadFault.TheVariants.{NotBuilt, OutOfMemory}
+-- Reads: the program that a file's bytes are: its tokens, their tree, and the tree's names as numbers.
+-- The language is that of Berdine, Calcagno and O'Hearn, "Smallfoot" (2005), in this project's own profile.
+use Rattle.std.specs.Prelude.{List}
+use Rattle.sf_ast.specs.Surface.{Item}
+use Rattle.sf_core.specs.Syntax.{Program}
+use Rattle.sf_elab.specs.Elaborated.{Elaborates}
+use Rattle.sf_lex.specs.declared.token.Token.{Token}
+use Rattle.sf_lex.specs.Reading.{AreTokens}
+use Rattle.sf_parse.specs.Parsing.{IsFile}
+use Rattle.sf_cli.specs.Words.{Text}
 
--- nothing is read, unless memory ran out
-abbrev pub Refuses : {Y : Type 0} → ReadFault → Option Y → Type 0
-Refuses NotBuilt read = read ≡ None
-Refuses OutOfMemory read = Unit {0}
-
--- what was answered, seen by view, is what reading gives, unless memory ran out
-abbrev pub Reads : {X Y : Type 0} → (X → Y) → Result X ReadFault → Option Y → Type 0
-Reads view (Ok x) read = read ≡ Some (view x)
-Reads view (Err e) read = Refuses e read
+-- Reads: the bytes are tokens, the tokens are a file, and the file is that program
+pub record Reads (bytes : Text) (p : Program) : Type 0 where
+  pub tokens : List Token
+  pub tree : List Item
+  pub spelled : AreTokens bytes tokens
+  pub parsed : IsFile tokens tree
+  pub elaborated : Elaborates bytes tree p

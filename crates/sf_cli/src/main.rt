@@ -5,7 +5,10 @@ ghost use Rattle.std.specs.Prelude.{◌≡◌, map, IfOk};
 ghost use Rattle.std.specs.String.{string_bytes};
 ghost use Rattle.sf_cli.specs.WordsOf.{words_of};
 
+mod built;
+mod laws;
 mod reading;
+mod refusal;
 mod reply;
 #[cfg(test)]
 mod tests;

@@ -1,18 +1,22 @@
 //! What the command says, and with which status.
 
-ghost use Rattle.std.specs.Prelude.{◌≡◌, ◌<◌, ◌≤◌, ◌-◌, ◌^◌, ◌++◌, List, IfOk, IsErrOf, codes};
+ghost use Rattle.std.specs.Prelude.{◌≡◌, ◌≢◌, ◌<◌, ◌≤◌, ◌-◌, ◌^◌, ◌++◌, List, Some, IfOk, IsErrOf, codes};
 ghost use Rattle.sf_core.specs.Whole.{program_of};
 ghost use Rattle.sf_sym.specs.declared.tag.Tag.{Tag as TagOf};
 ghost use Rattle.sf_io.specs.Rose.{Rose};
-ghost use Rattle.sf_cli.specs.Answer.{Accepted, AcceptedBytes, AcceptsFile, AnswersFile, FileAnswer, Reply, VerdictAnswer, read_fault_text};
+ghost use Rattle.sf_cli.specs.Answer.{Accepted, AcceptedBytes, AcceptsFile, AnswersFile, FileAnswer, ProgramAnswer, Reply, VerdictAnswer, read_fault_text};
 ghost use Rattle.sf_cli.specs.Fetched.{Fetched};
+ghost use Rattle.sf_cli.specs.Refusals.{refusal_text};
+ghost use Rattle.sf_cli.specs.declared.refusal.Refusal.TheVariants.{OutOfMemory};
+ghost use Rattle.sf_sound.specs.Sound.{IsSound};
 ghost use Rattle.sf_search.specs.Judge.{Verdict, Judge};
 ghost use Rattle.sf_rules.specs.Proves.{Proves};
-ghost use Rattle.sf_cli.specs.Words.{Text};
-ghost use Rattle.sf_cli.specs.WordsOf.{words_of};
+ghost use Rattle.sf_cli.specs.Words.{Text, order_of};
+ghost use Rattle.sf_cli.specs.WordsOf.{order_in, words_of};
 
-use crate::reading::ReadFault;
-use crate::reading::first_form::read;
+use crate::built::is_built;
+use crate::reading::admit;
+use crate::refusal::{FIRST_PLACE, Refusal, RefusalKind, refusal_text};
 use crate::words::{Order, USAGE, read_order};
 use sf_base::limits::FILE_BYTES;
 use sf_check::check::check;
@@ -74,21 +78,37 @@ fn judged(alloc: Global, p: &Program) -> Result<Said, AllocError>
     }
 }
 
+/// That a file is refused, and why. An `Err` is want of memory, and is the answer where that was the cause.
+fn say_refusal(alloc: Global, refusal: &Refusal) -> Result<Said, AllocError>
+    ensures said { IfOk result (λ said. (said.text.items ≡ refusal_text refusal.now) × (said.status ≡ 3)) }
+    ensures cause { IfOk result (λ said. refusal.now ≢ OutOfMemory) }
+{
+    Ok(Said {
+        text: refusal_text(alloc, refusal)?,
+        status: 3,
+    })
+}
+
+/// The answer to a program with which nothing is wrong.
+fn answer_to_program(alloc: Global, p: &Program) -> Result<Said, AllocError>
+    ensures answered { IfOk result (λ said. ProgramAnswer (program_of p.now) said.text.items said.status) }
+    ensures accepted { IfOk result (λ said. said.status ≡ 0 → IsSound (program_of p.now)) }
+{
+    if !is_built(p) {
+        return say_refusal(alloc, &Refusal::At(RefusalKind::NotBuilt, FIRST_PLACE));
+    }
+    proved_programs_are_sound();
+    judged(alloc, p)
+}
+
 /// The answer to a file's bytes, of which those past the limit don't matter.
 fn answer_to_bytes(alloc: Global, bytes: &[u8]) -> Result<Said, AllocError>
     ensures answered { IfOk result (λ said. FileAnswer bytes.now said.text.items said.status) }
     ensures accepted { IfOk result (λ said. said.status ≡ 0 → AcceptedBytes bytes.now) }
 {
-    if bytes.len() > FILE_BYTES {
-        return say(alloc, "file refused: 5 LongFile at 1:1\n", 3);
-    }
-    match read(alloc, bytes) {
-        Ok(program) => {
-            proved_programs_are_sound();
-            judged(alloc, &program)
-        }
-        Err(ReadFault::NotBuilt) => say(alloc, "file refused: 27 NotBuilt at 1:1\n", 3),
-        Err(ReadFault::OutOfMemory) => Err(AllocError),
+    match admit(alloc, bytes) {
+        Ok(arranged) => answer_to_program(alloc, &arranged.program),
+        Err(refusal) => say_refusal(alloc, &refusal),
     }
 }
 
@@ -126,6 +146,19 @@ fn answer_to_file<S: Shelf>(alloc: Global, name: &str, shelf: &mut S) -> Result<
     }
 }
 
+/// What the command says to words that are that command.
+fn follow<S: Shelf>(alloc: Global, order: Order, shelf: &mut S) -> Result<Said, AllocError>
+    ensures status { IfOk result (λ said. said.status < 8) }
+    ensures said { IfOk result (λ said. (words : List Text) → order_of words ≡ order_in (Some order.entry) → Reply (S.files shelf.old) (S.faults shelf.old) (S.faults shelf.new) words said.text.items said.status) }
+    ensures accepted { IfOk result (λ said. said.status ≡ 0 → (words : List Text) → order_of words ≡ order_in (Some order.entry) → Accepted (S.files shelf.old) words) }
+    ensures files { S.files shelf.new ≡ S.files shelf.old }
+    ensures counts { (any : Text) → S.faults shelf.old any ≤ S.faults shelf.new any }
+{
+    match order {
+        Order::Verify(name) => answer_to_file(alloc, name, shelf),
+    }
+}
+
 /// What the command says to its words. An `Err` is want of memory.
 pub fn respond<S: Shelf>(alloc: Global, words: &[&str], shelf: &mut S) -> Result<Said, AllocError>
     ensures status { IfOk result (λ said. said.status < 8) }
@@ -136,6 +169,6 @@ pub fn respond<S: Shelf>(alloc: Global, words: &[&str], shelf: &mut S) -> Result
 {
     match read_order(words) {
         None => say(alloc, USAGE, 2),
-        Some(Order::Verify(name)) => answer_to_file(alloc, name, shelf),
+        Some(order) => follow(alloc, order, shelf),
     }
 }

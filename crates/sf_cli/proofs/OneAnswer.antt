@@ -1,0 +1,202 @@
+-- A file has at most one answer: its reading, its faults and the verdict are each determined, and no two of them meet.
+-- Names: reads-*, fault-*, named-*, answer-*.
+use Rattle.std.proofs.Common.{◌≡◌, ℕ, true, List, Option, Some, None, sym, ap, ◌∙◌, subst, arith}
+use Rattle.std.proofs.lemmas.Bool.Decides.{nat_tests}
+use Rattle.std.proofs.lemmas.List.Elements.{All-contains}
+use Rattle.std.specs.List.{All}
+use Rattle.std.specs.Prelude.{slice_get}
+use Rattle.sf_ast.specs.Surface.{Item}
+use Rattle.sf_base.specs.declared.ids.ProcId.{ProcId}
+use Rattle.sf_base.specs.declared.ids.Var.{Var}
+use Rattle.sf_base.specs.declared.ids.Var.TheVariants.{Own, Shared}
+use Rattle.sf_base.specs.declared.place.Place.{Place}
+use Rattle.sf_calls.specs.declared.breach.Breach.{Breach}
+use Rattle.sf_calls.specs.declared.breach.Breach.TheVariants.{NotHeld, Reentered, SameReference, ReferenceIsFree, ParallelShares}
+use Rattle.sf_calls.specs.FirstBreach.{Conditions}
+use Rattle.sf_calls.specs.Laws.{FirstBreachIsDetermined}
+use Rattle.sf_core.proofs.Cases.{none-not_some}
+use Rattle.sf_core.specs.Determined.{Determined}
+use Rattle.sf_core.specs.Syntax.{Procedure, Resource, Program}
+use Rattle.sf_elab.specs.Elaborated.{Elaborates, FirstFault}
+use Rattle.sf_elab.specs.Laws.{EachFileIsOne as EachTreeIsOne}
+use Rattle.sf_lex.specs.declared.token.Token.{Token}
+use Rattle.sf_lex.specs.Laws.{EachReadsAtMostOnce}
+use Rattle.sf_parse.specs.Laws.{EachFileIsOne, EachHasOneAnswer}
+use Rattle.sf_parse.specs.Parsing.{IsFile, IsFault as IsGrammarFault}
+use Rattle.sf_precise.specs.Laws.{NeverTakenIsUndetermined}
+use Rattle.sf_precise.specs.Notes.{notes_in, is_before, IsFirstPlace, NeverTakenIn}
+use Rattle.sf_search.specs.Judge.{Verdict, proof, fails}
+use Rattle.sf_search.specs.VerdictLaws.{OneVerdict}
+use Rattle.sf_vars.specs.declared.fault.VarFault.{VarFault}
+use Rattle.sf_vars.specs.Faults.{IsVariableName, IsBreachName, told_by, IsFirstFault}
+use Rattle.sf_cli.specs.Answer.{VerdictAnswer, ProgramAnswer, not_built, judged, refused, admitted}
+use Rattle.sf_cli.specs.declared.refusal.Refusal.{Refusal}
+use Rattle.sf_cli.specs.declared.refusal.Refusal.TheVariants.{At}
+use Rattle.sf_cli.specs.declared.refusal.RefusalKind.TheVariants.{Undetermined}
+use Rattle.sf_cli.specs.FileFault.{ReadFault, in_tokens, in_grammar, in_names, ProgramFault, in_variables, in_order, FileFault, unread, unfit, Admits}
+use Rattle.sf_cli.specs.Laws.{EachFileHasOneAnswer}
+use Rattle.sf_cli.specs.Reads.{Reads}
+use Rattle.sf_cli.specs.Refusals.{of_tokens, of_grammar, of_names, of_variables, refusal_text}
+use Rattle.sf_cli.specs.Words.{Text}
+
+-- what the layers below say of their own answers
+pub record Layers : Type 0 where
+  pub tokens : EachReadsAtMostOnce
+  pub trees : EachFileIsOne
+  pub grammar : EachHasOneAnswer
+  pub names : EachTreeIsOne
+  pub breaches : FirstBreachIsDetermined
+  pub orders : NeverTakenIsUndetermined
+  pub verdicts : OneVerdict
+
+-- the same tokens are the same tree
+reads-tree : Layers → (bytes : Text) (ts us : List Token) (one two : List Item) → ts ≡ us → IsFile ts one → IsFile us two → one ≡ two
+reads-tree l bytes ts us one two e f g = l.trees ts one two f (subst (λ (z : List Token). IsFile z two) (sym e) g)
+
+-- bytes read as one program at most
+pub reads-once : Layers → (bytes : Text) (p q : Program) → Reads bytes p → Reads bytes q → p ≡ q
+reads-once l bytes p q r s =
+    let same : r.tree ≡ s.tree = reads-tree l bytes r.tokens s.tokens r.tree s.tree ((l.tokens bytes).tokens r.tokens s.tokens r.spelled s.spelled) r.parsed s.parsed in
+    l.names.one_program bytes r.tree p q r.elaborated (subst (λ (z : List Item). Elaborates bytes z q) (sym same) s.elaborated)
+
+-- a fault of the grammar is that of the file's own tokens
+fault-moved : Layers → (bytes : Text) (ts us : List Token) (e : _) → ts ≡ us → IsGrammarFault bytes us e → IsGrammarFault bytes ts e
+fault-moved l bytes ts us e same h = subst (λ (z : List Token). IsGrammarFault bytes z e) (sym same) h
+
+-- bytes that read as a program have no fault of reading
+pub reads-apart : Layers → (bytes : Text) (p : Program) (r : Refusal) → Reads bytes p → ReadFault bytes r → ⊥
+reads-apart l bytes p r s (in_tokens e h k) = (l.tokens bytes).apart s.tokens e s.spelled h
+reads-apart l bytes p r s (in_grammar ts e t h k) =
+    (l.grammar bytes s.tokens).apart s.tree e s.parsed (fault-moved l bytes s.tokens ts e ((l.tokens bytes).tokens s.tokens ts s.spelled t) h)
+reads-apart l bytes p r s (in_names ts tree e t f h k) =
+    let same : s.tree ≡ tree = reads-tree l bytes s.tokens ts s.tree tree ((l.tokens bytes).tokens s.tokens ts s.spelled t) s.parsed f in
+    l.names.not_both bytes tree p e (subst (λ (z : List Item). Elaborates bytes z p) same s.elaborated) h
+
+-- bytes have one fault of reading at most
+pub fault-once : Layers → (bytes : Text) (r s : Refusal) → ReadFault bytes r → ReadFault bytes s → r ≡ s
+fault-once l bytes r s (in_tokens e h k) (in_tokens f i m) = k ∙ ap of_tokens ((l.tokens bytes).faults e f h i) ∙ sym m
+fault-once l bytes r s (in_tokens e h k) (in_grammar ts f t i m) = absurd ((l.tokens bytes).apart ts e t h)
+fault-once l bytes r s (in_tokens e h k) (in_names ts tree f t g i m) = absurd ((l.tokens bytes).apart ts e t h)
+fault-once l bytes r s (in_grammar ts e t h k) (in_tokens f i m) = absurd ((l.tokens bytes).apart ts f t i)
+fault-once l bytes r s (in_grammar ts e t h k) (in_grammar us f u i m) =
+    k ∙ ap of_grammar ((l.grammar bytes ts).faults e f h (fault-moved l bytes ts us f ((l.tokens bytes).tokens ts us t u) i)) ∙ sym m
+fault-once l bytes r s (in_grammar ts e t h k) (in_names us tree f u g i m) =
+    absurd ((l.grammar bytes us).apart tree e g (fault-moved l bytes us ts e ((l.tokens bytes).tokens us ts u t) h))
+fault-once l bytes r s (in_names ts tree e t g h k) (in_tokens f i m) = absurd ((l.tokens bytes).apart ts f t i)
+fault-once l bytes r s (in_names ts tree e t g h k) (in_grammar us f u i m) =
+    absurd ((l.grammar bytes ts).apart tree f g (fault-moved l bytes ts us f ((l.tokens bytes).tokens ts us t u) i))
+fault-once l bytes r s (in_names ts tree e t g h k) (in_names us other f u j i m) =
+    let same : other ≡ tree = reads-tree l bytes us ts other tree ((l.tokens bytes).tokens us ts u t) j g in
+    k ∙ ap of_names (l.names.one_fault bytes tree e f h (subst (λ (z : List Item). FirstFault bytes z f) same i)) ∙ sym m
+
+-- what is found at one place of a list is one thing
+found-once : {A : Type 0} (o : Option A) (a b : A) → o ≡ Some a → o ≡ Some b → a ≡ b
+found-once o a b e f = cc
+
+-- a variable has one name
+named-variable : (p : Program) (f : ProcId) (x : Var) (n m : List ℕ) → IsVariableName p f x n → IsVariableName p f x m → n ≡ m
+named-variable p f (Own k) n m a b =
+    let same : a.0 ≡ b.0 = found-once (slice_get p.procedures f.0) a.0 b.0 a.1 b.1 in
+    found-once (slice_get b.0.names k) n m (subst (λ (h : Procedure). slice_get h.names k ≡ Some n) same a.2) b.2
+named-variable p f (Shared r i) n m a b =
+    let same : a.0 ≡ b.0 = found-once (slice_get p.resources r.0) a.0 b.0 a.1 b.1 in
+    found-once (slice_get b.0.variables i) n m (subst (λ (h : Resource). slice_get h.variables i ≡ Some n) same a.2) b.2
+
+-- so what a breach is told by is one name
+named-breach : (p : Program) (f : ProcId) (b : Breach) (n m : List ℕ) → IsBreachName p f b n → IsBreachName p f b m → n ≡ m
+named-breach p f (NotHeld q x) n m a c = named-variable p f x n m a c
+named-breach p f (Reentered q r) n m a c =
+    let same : a.0 ≡ c.0 = found-once (slice_get p.resources r.0) a.0 c.0 a.1 c.1 in
+    sym a.2 ∙ ap (λ (h : Resource). h.name) same ∙ c.2
+named-breach p f (SameReference q x) n m a c = named-variable p f x n m a c
+named-breach p f (ReferenceIsFree q x) n m a c = named-variable p f x n m a c
+named-breach p f (ParallelShares q x) n m a c = named-variable p f x n m a c
+
+-- two faults that tell the same breach are one
+fault-told : (p : Program) (f g : ProcId) (b c : Breach) (n m : List ℕ) → f ≡ g → b ≡ c → IsBreachName p f b n → IsBreachName p g c m → told_by b n ≡ told_by c m
+fault-told p f g b c n m e h i j =
+    let there : IsBreachName p f b m = subst (λ (z : ProcId). IsBreachName p z b m) (sym e) (subst (λ (z : Breach). IsBreachName p g z m) (sym h) j) in
+    ap (λ (z : List ℕ). told_by b z) (named-breach p f b n m i there) ∙ ap (λ (z : Breach). told_by z m) h
+
+-- equal pairs have equal parts
+from-some : {A : Type 0} (a b : A) → Some a ≡ Some b → a ≡ b
+from-some a b h = cc
+
+same-parts : (a b : ProcId × Breach) → a ≡ b → (a.0 ≡ b.0) × (a.1 ≡ b.1)
+same-parts a b e = (ap (λ (x : ProcId × Breach). x.0) e, ap (λ (x : ProcId × Breach). x.1) e)
+
+-- a program's first fault of variables is one
+fault-variables : Layers → (p : Program) (e f : VarFault) → IsFirstFault p e → IsFirstFault p f → e ≡ f
+fault-variables l p e f h i =
+    let same = same-parts (h.procedure, h.breach) (i.procedure, i.breach) (from-some (h.procedure, h.breach) (i.procedure, i.breach) (l.breaches p (Some (h.procedure, h.breach)) (Some (i.procedure, i.breach)) h.first i.first)) in
+    h.told ∙ fault-told p h.procedure i.procedure h.breach i.breach h.name i.name same.0 same.1 h.named i.named ∙ sym i.told
+
+-- conditions that hold have no first breach
+fault-none : Layers → (p : Program) (e : VarFault) → Conditions p → IsFirstFault p e → ⊥
+fault-none l p e c h = none-not_some (h.procedure, h.breach) (l.breaches p None (Some (h.procedure, h.breach)) c h.first)
+
+place-of : (p q : Place) → p.line ≡ q.line → p.column ≡ q.column → p ≡ q
+place-of p q e f = λ i. record { line = e i; column = f i }
+
+-- neither place is before the other
+place-once : (p q : Place) → (is_before p q ≡ true → ⊥) → (is_before q p ≡ true → ⊥) → p ≡ q
+place-once p q h i =
+    let lines : p.line ≡ q.line = grind (arith, nat_tests) in
+    let columns : p.column ≡ q.column = grind (arith, nat_tests) in
+    place-of p q lines columns
+
+-- the first place at which an annotation is stuck is one
+fault-place : (P : Place → Type 0) (p q : Place) → IsFirstPlace P (Some p) → IsFirstPlace P (Some q) → p ≡ q
+fault-place P p q h i = place-once p q (i.1 p h.0) (h.1 q i.0)
+
+-- a program has one fault at most
+pub fault-program : Layers → (p : Program) (r s : Refusal) → ProgramFault p r → ProgramFault p s → r ≡ s
+fault-program l p r s (in_variables e h k) (in_variables f i m) = k ∙ ap of_variables (fault-variables l p e f h i) ∙ sym m
+fault-program l p r s (in_variables e h k) (in_order at c i m) = absurd (fault-none l p e c h)
+fault-program l p r s (in_order at c h k) (in_variables f i m) = absurd (fault-none l p f c i)
+fault-program l p r s (in_order at c h k) (in_order on d i m) =
+    let same : at ≡ on = fault-place (NeverTakenIn (notes_in p)) at on h i in
+    k ∙ ap (λ (z : Place). At Undetermined z) same ∙ sym m
+
+-- a program with which nothing is wrong has no fault
+fault-apart : Layers → (p : Program) (r : Refusal) → Conditions p → All (λ a. Determined a.level) (notes_in p) → ProgramFault p r → ⊥
+fault-apart l p r c d (in_variables e h k) = fault-none l p e c h
+fault-apart l p r c d (in_order at e h k) = l.orders h.0.0.level at h.0.2 (All-contains (λ a. Determined a.level) (notes_in p) h.0.0 d h.0.1)
+
+-- a file that is admitted isn't refused
+answer-apart : Layers → (bytes : Text) (p : Program) (r : Refusal) → Admits bytes p → FileFault bytes r → ⊥
+answer-apart l bytes p r a (unread h) = reads-apart l bytes p r a.reads h
+answer-apart l bytes p r a (unfit q s h) =
+    let same : p ≡ q = reads-once l bytes p q a.reads s in
+    fault-apart l p r a.conditions a.determined (subst (λ (z : Program). ProgramFault z r) (sym same) h)
+
+-- a file is refused for one cause
+answer-fault : Layers → (bytes : Text) (r s : Refusal) → FileFault bytes r → FileFault bytes s → r ≡ s
+answer-fault l bytes r s (unread h) (unread i) = fault-once l bytes r s h i
+answer-fault l bytes r s (unread h) (unfit q u i) = absurd (reads-apart l bytes q r u h)
+answer-fault l bytes r s (unfit p t h) (unread i) = absurd (reads-apart l bytes p s t i)
+answer-fault l bytes r s (unfit p t h) (unfit q u i) =
+    fault-program l p r s h (subst (λ (z : Program). ProgramFault z s) (sym (reads-once l bytes p q t u)) i)
+
+-- one verdict is printed in one way
+answer-printed : (p : Program) (v w : Verdict) (text other : Text) (status code : ℕ) → v ≡ w → VerdictAnswer p v text status → VerdictAnswer p w other code → (text ≡ other) × (status ≡ code)
+answer-printed p v w text other status code e a b = go v (subst (λ (z : Verdict). VerdictAnswer p z other code) (sym e) b) a
+  where
+    go : (u : Verdict) → VerdictAnswer p u other code → VerdictAnswer p u text status → (text ≡ other) × (status ≡ code)
+    go (proof tags) y x = (x.0 ∙ sym y.0, x.1 ∙ sym y.1)
+    go (fails f) y x = (x.0 ∙ sym y.0, x.1 ∙ sym y.1)
+
+-- a program has one answer
+answer-program : Layers → (p : Program) (text other : Text) (status code : ℕ) → ProgramAnswer p text status → ProgramAnswer p other code → (text ≡ other) × (status ≡ code)
+answer-program l p text other status code (not_built b t s) (not_built c u r) = (t ∙ sym u, s ∙ sym r)
+answer-program l p text other status code (not_built b t s) (judged c w j u) = absurd cc
+answer-program l p text other status code (judged b v j t) (not_built c u r) = absurd cc
+answer-program l p text other status code (judged b v j t) (judged c w k u) = answer-printed p v w text other status code (l.verdicts p v w j k) t u
+
+-- a file has one answer
+pub answer-once : Layers → EachFileHasOneAnswer
+answer-once l bytes text other status code (refused r f t s) (refused q g u v) = (t ∙ ap refusal_text (answer-fault l bytes r q f g) ∙ sym u, s ∙ sym v)
+answer-once l bytes text other status code (refused r f t s) (admitted p a k) = absurd (answer-apart l bytes p r a f)
+answer-once l bytes text other status code (admitted p a k) (refused r f t s) = absurd (answer-apart l bytes p r a f)
+answer-once l bytes text other status code (admitted p a k) (admitted q b m) =
+    answer-program l p text other status code k (subst (λ (z : Program). ProgramAnswer z other code) (sym (reads-once l bytes p q a.reads b.reads)) m)

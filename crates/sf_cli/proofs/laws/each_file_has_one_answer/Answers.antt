@@ -1,0 +1,13 @@
+use Rattle.sf_cli.proofs.OneAnswer.{answer-once}
+use Rattle.sf_cli.proofs.laws.each_file_has_one_answer.Goals as goal
+
+pub returns : goal.returns
+returns c = answer-once (record {
+  tokens = c.each_file_reads_at_most_once.ensures;
+  trees = c.each_file_is_one.ensures;
+  grammar = c.each_has_one_answer.ensures;
+  names = c.each_file_is_one-2.ensures;
+  breaches = c.first_breach_is_determined.ensures;
+  orders = c.never_taken_is_undetermined.ensures;
+  verdicts = c.one_verdict.ensures;
+})

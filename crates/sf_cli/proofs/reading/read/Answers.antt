@@ -1,0 +1,24 @@
+use Rattle.std.proofs.Common.{List, sym, subst}
+use Rattle.sf_lex.specs.declared.token.Token.{Token}
+use Rattle.sf_lex.specs.Reading.{AreTokens}
+use Rattle.sf_cli.proofs.Refused.{refused-by, refused-tokens, refused-grammar, refused-names}
+use Rattle.sf_cli.specs.FileFault.{ReadFault}
+use Rattle.sf_cli.proofs.reading.read.Goals as goal
+
+pub returns-in_err-tokens-clause-refused : goal.returns-in_err-tokens-clause-refused
+returns-in_err-tokens-clause-refused c =
+    refused-by c.from_residual.result (ReadFault c.args.bytes.now) _ c.from_residual.ensures.1 (refused-tokens c.args.bytes.now c.in_err-tokens.field-0.0 c.in_err-tokens.ensures.refused)
+
+pub returns-in_err-file-clause-refused : goal.returns-in_err-file-clause-refused
+returns-in_err-file-clause-refused c =
+    let bytes = c.args.bytes.now in
+    let are : AreTokens bytes c.deref.result.now = subst (λ (z : List Token). AreTokens bytes z) (sym c.deref.ensures.value) c.in_ok-tokens.ensures.found in
+    refused-by c.from_residual-in_err-file.result (ReadFault bytes) _ c.from_residual-in_err-file.ensures.1
+    (refused-grammar bytes c.deref.result.now c.in_err-file.field-0.0 are c.in_err-file.ensures.refused)
+
+pub returns-in_err-elaborate-clause-refused : goal.returns-in_err-elaborate-clause-refused
+returns-in_err-elaborate-clause-refused c =
+    let bytes = c.args.bytes.now in
+    let are : AreTokens bytes c.deref.result.now = subst (λ (z : List Token). AreTokens bytes z) (sym c.deref.ensures.value) c.in_ok-tokens.ensures.found in
+    refused-by c.from_residual-in_err-elaborate.result (ReadFault bytes) _ c.from_residual-in_err-elaborate.ensures.1
+    (refused-names bytes c.deref.result.now _ c.in_err-elaborate.field-0.0 are c.in_ok-file.ensures.found c.in_err-elaborate.ensures.refused)
