@@ -274,7 +274,7 @@ fn files_are_refused_at_their_first_fault(rt: HostRuntime) -> Result<(), Fail> {
         (b"f(x) [x | -> ] { }", "1 BadByte at 1:9"),
         (b"a; f(x) [x|->hd:1] { }", "20 UnknownName at 1:14 hd"),
         (
-            b"a_12345678901234567890123456789012345678901234567890123456789012345;",
+            b"a1234567890123456789012345678901234567890123456789012345678901234;",
             "2 LongWord at 1:1",
         ),
     ];
@@ -422,6 +422,44 @@ fn limits_of_counts(rt: HostRuntime) -> Result<(), Fail> {
         let line = format!(in alloc; "file refused: {fault}\n")?;
         assert_eq!(rt; out.as_str(), line.as_str());
         assert_eq!(rt; status, 3);
+    }
+    Ok(())
+}
+
+/// A front, so many openings and as many closings, and an end.
+fn nested(alloc: Global, parts: (&str, &str, &str, &str), count: u32) -> Result<String, Fail> {
+    let (front, open, close, end) = parts;
+    let mut file = String::from_str(alloc, front)?;
+    for _ in 0..count {
+        file.push_str(open)?;
+    }
+    for _ in 0..count {
+        file.push_str(close)?;
+    }
+    file.push_str(end)?;
+    Ok(file)
+}
+
+#[test]
+fn limits_of_nesting(rt: HostRuntime) -> Result<(), Fail> {
+    let alloc = rt.alloc();
+    let cases = [
+        (("f() {", "{", "}", "}"), 64, EMPTY, "11 TooDeep at 1:70"),
+        (
+            ("f(x) {", "if (x==x) ", "", "{ } }"),
+            63,
+            NOT_BUILT,
+            "11 TooDeep at 1:647",
+        ),
+    ];
+    for (parts, limit, answer, fault) in cases {
+        let within = nested(alloc, parts, limit)?;
+        let (out, _) = verified(&rt, alloc, within.as_bytes())?;
+        assert_eq!(rt; out.as_str(), answer);
+        let beyond = nested(alloc, parts, limit + 1)?;
+        let (out, _) = verified(&rt, alloc, beyond.as_bytes())?;
+        let line = format!(in alloc; "file refused: {fault}\n")?;
+        assert_eq!(rt; out.as_str(), line.as_str());
     }
     Ok(())
 }
