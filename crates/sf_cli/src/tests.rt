@@ -390,26 +390,34 @@ fn numbered(alloc: Global, parts: (&str, &str, &str, &str), count: u32) -> Resul
 fn limits_of_counts(rt: HostRuntime) -> Result<(), Fail> {
     let alloc = rt.alloc();
     let cases = [
-        (("f(", "p", ",", ") { }"), 256, "26 TooMany at 1:1173"),
+        (
+            ("f(", "p", ",", ") { }"),
+            (256, 257),
+            "26 TooMany at 1:1173",
+        ),
         (
             ("f() { local ", "p", ",", "; }"),
-            256,
+            (256, 257),
             "26 TooMany at 1:1183",
         ),
-        (("", "p", "(){}\n", "(){}"), 1000, "26 TooMany at 1001:1"),
+        (
+            ("", "p", "(){}\n", "(){}"),
+            (1000, 1001),
+            "26 TooMany at 1001:1",
+        ),
         (
             ("", "resource r", "()[]\n", "()[]"),
-            64,
+            (64, 65),
             "26 TooMany at 65:1",
         ),
-        (("", "a", ",", ";"), 16, "26 TooMany at 1:55"),
+        (("", "a", ",", ";"), (16, 17), "26 TooMany at 1:55"),
         (
             ("resource r (", "p", ",", ") []"),
-            256,
+            (256, 257),
             "26 TooMany at 1:1183",
         ),
     ];
-    for (parts, limit, fault) in cases {
+    for (parts, (limit, more), fault) in cases {
         let within = numbered(alloc, parts, limit)?;
         let (out, status) = verified(&rt, alloc, within.as_bytes())?;
         assert!(rt;
@@ -417,7 +425,7 @@ fn limits_of_counts(rt: HostRuntime) -> Result<(), Fail> {
             "{}",
             out.as_str()
         );
-        let beyond = numbered(alloc, parts, limit + 1)?;
+        let beyond = numbered(alloc, parts, more)?;
         let (out, status) = verified(&rt, alloc, beyond.as_bytes())?;
         let line = format!(in alloc; "file refused: {fault}\n")?;
         assert_eq!(rt; out.as_str(), line.as_str());
@@ -444,19 +452,24 @@ fn nested(alloc: Global, parts: (&str, &str, &str, &str), count: u32) -> Result<
 fn limits_of_nesting(rt: HostRuntime) -> Result<(), Fail> {
     let alloc = rt.alloc();
     let cases = [
-        (("f() {", "{", "}", "}"), 64, EMPTY, "11 TooDeep at 1:70"),
+        (
+            ("f() {", "{", "}", "}"),
+            (64, 65),
+            EMPTY,
+            "11 TooDeep at 1:70",
+        ),
         (
             ("f(x) {", "if (x==x) ", "", "{ } }"),
-            63,
+            (63, 64),
             NOT_BUILT,
             "11 TooDeep at 1:647",
         ),
     ];
-    for (parts, limit, answer, fault) in cases {
+    for (parts, (limit, more), answer, fault) in cases {
         let within = nested(alloc, parts, limit)?;
         let (out, _) = verified(&rt, alloc, within.as_bytes())?;
         assert_eq!(rt; out.as_str(), answer);
-        let beyond = nested(alloc, parts, limit + 1)?;
+        let beyond = nested(alloc, parts, more)?;
         let (out, _) = verified(&rt, alloc, beyond.as_bytes())?;
         let line = format!(in alloc; "file refused: {fault}\n")?;
         assert_eq!(rt; out.as_str(), line.as_str());
