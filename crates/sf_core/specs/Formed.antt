@@ -190,11 +190,11 @@ abbrev mutual
   block_depth done = 0
   block_depth (then c b) = max (command_depth c) (block_depth b)
 
--- a procedure is in order. Its own names beyond the limit on parameters and declared locals are at most one primed local for each value
+-- a procedure is in order: the limit is on its parameters and declared locals, and the names behind theirs are those of primed locals, at most one for each value
 pub record ProcedureWithin (p : Program) (f : Procedure) : Type 0 where
-  pub parameters : f.references + f.values ≤ length f.names
-  pub parameter_count : f.references + f.values ≤ OWN_VARIABLES
-  pub own_count : length f.names ≤ OWN_VARIABLES + f.values
+  pub declared_count : f.references + f.values + f.locals ≤ OWN_VARIABLES
+  pub declared : f.references + f.values + f.locals ≤ length f.names
+  pub primed : length f.names ≤ f.references + f.values + f.locals + f.values
   pub pre : AssertionWithin p.fields (IsParameter p f) f.pre
   pub post : AssertionWithin p.fields (IsParameter p f) f.post
   pub body : BlockWithin p f f.body

@@ -139,9 +139,9 @@ mutual
 
 ProcedureWithin-prop : (p : Program) (f : Procedure) → IsProp (ProcedureWithin p f)
 ProcedureWithin-prop p f s t = λ i. record {
-  parameters = le_prop s.parameters t.parameters i;
-  parameter_count = le_prop s.parameter_count t.parameter_count i;
-  own_count = le_prop s.own_count t.own_count i;
+  declared_count = le_prop s.declared_count t.declared_count i;
+  declared = le_prop s.declared t.declared i;
+  primed = le_prop s.primed t.primed i;
   pre = AssertionWithin-prop _ _ (IsParameter-prop p f) f.pre s.pre t.pre i;
   post = AssertionWithin-prop _ _ (IsParameter-prop p f) f.post s.post t.post i;
   body = BlockWithin-prop p f f.body s.body t.body i;

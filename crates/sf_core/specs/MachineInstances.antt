@@ -1,6 +1,6 @@
 -- Worked instances of the machine's definitions: small programs, their runs, and configurations that are bad or not.
 -- The commands are those of Berdine, Calcagno, O'Hearn, "Smallfoot" (2005); races as in O'Hearn (2007).
-use Rattle.std.specs.Prelude.{◌≡◌, ℕ, ◌+◌, ◌==◌, pos, cond, List, [], ◌∷◌, codes, Option, Some, None}
+use Rattle.std.specs.Prelude.{◌≡◌, ℕ, ◌+◌, ◌-◌, ◌==◌, pos, cond, List, [], ◌∷◌, length, codes, Option, Some, None}
 use Rattle.sf_base.specs.declared.ids.FieldId.{FieldId}
 use Rattle.sf_base.specs.declared.ids.ResId.{ResId}
 use Rattle.sf_base.specs.declared.ids.Var.{Var}
@@ -59,6 +59,7 @@ procedure names references values contract body = record {
   names = names;
   references = references;
   values = values;
+  locals = length names - (references + values);
   pre = contract;
   post = contract;
   body = body;

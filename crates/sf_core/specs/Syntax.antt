@@ -60,13 +60,14 @@ mutual
     done : Block
     then : Command → Block → Block
 
--- a procedure: its own variables are its references, its values and its locals, in this order
+-- a procedure: its own variables are its references, its values, its declared locals and its primed locals, in this order
 pub record Procedure : Type 0 where
   pub name : List ℕ
   pub place : Place
   pub names : List (List ℕ)
   pub references : ℕ
   pub values : ℕ
+  pub locals : ℕ
   pub pre : Assertion
   pub post : Assertion
   pub body : Block

@@ -81,6 +81,7 @@ procedure_of f = record {
   names = f.names.items;
   references = f.references;
   values = f.values;
+  locals = f.locals;
   pre = assertion_of f.pre;
   post = assertion_of f.post;
   body = block_of f.body.items;

@@ -15,12 +15,14 @@ pub struct Proc {
     pub name: Name,
     /// Where its name stands.
     pub place: Place,
-    /// The names of its own variables by number: references, values, locals.
+    /// The names of its own variables by number: references, values, declared locals, primed locals.
     pub names: Vec<Name>,
     /// How many of them are references.
     pub references: u32,
     /// How many are values.
     pub values: u32,
+    /// How many are declared locals.
+    pub locals: u32,
     pub pre: Assertion,
     pub post: Assertion,
     pub body: Vec<Command>,

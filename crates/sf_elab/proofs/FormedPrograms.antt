@@ -138,9 +138,9 @@ module _ (bytes : List ℕ) (is : List s.Item) where
         let all = none_five (parameter_faults bytes f) (maybe_faults (outside_of bytes declared f) f.pre) (maybe_faults (outside_of bytes declared f) f.post) (local_faults bytes f) (commands_faults (inside_of bytes declared f) f.body) h in
         let few : declared_count f ≤ OWN_VARIABLES = own_few bytes f all.0 all.3 in
         record {
-          parameters = omega (arith, names_many bytes f);
-          parameter_count = omega (arith, few);
-          own_count = omega (arith, names_many bytes f, few, filter_few (is_primed bytes f) (values_of f.parameters));
+          declared_count = few;
+          declared = omega (arith, names_many bytes f);
+          primed = omega (arith, names_many bytes f, filter_few (is_primed bytes f) (values_of f.parameters));
           pre = maybe_within outside_sees f.pre all.1 (omega arith);
           post = maybe_within outside_sees f.post all.2 (omega arith);
           body = blocks_joined whole one (first_assignments (is_primed bytes f) f.opens (length (references_of f.parameters)) (declared_count f) (values_of f.parameters)) (commands_of (inside_of bytes declared f) f.body)

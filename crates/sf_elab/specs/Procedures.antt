@@ -92,6 +92,7 @@ procedure_of bytes d f = record {
   names = own_names bytes f;
   references = length (references_of f.parameters);
   values = length (values_of f.parameters);
+  locals = length (local_words f.locals);
   pre = maybe_of (outside_of bytes d f) f.pre;
   post = maybe_of (outside_of bytes d f) f.post;
   body = v.block (

@@ -304,19 +304,20 @@ fn inside(
     bytes: &[u8],
     declared: &Declared,
     f: &SurfaceProcedure,
+    locals: &[Word],
     own: &mut Table<Var>,
     found: &mut Vec<Fault>,
 ) -> Result<(Vec<Command>, Vec<Name>), AllocError>
-    requires { own.old ≡ parameters_of bytes.now (surface_procedure f.now) }
+    requires locals { locals.now ≡ local_words (surface_procedure f.now).locals }
+    requires own { own.old ≡ parameters_of bytes.now (surface_procedure f.now) }
     ensures body { IfOk result (λ x. core.block_of x.0.items ≡ (procedure_of bytes.now declared.now (surface_procedure f.now)).body) }
     ensures names { IfOk result (λ x. x.1.items ≡ own_names bytes.now (surface_procedure f.now)) }
     ensures faults { OnOk result (found.new.items ≡ found.old.items ++ local_faults bytes.now (surface_procedure f.now) ++ commands_faults (inside_of bytes.now declared.now (surface_procedure f.now)) (surface_procedure f.now).body) }
 {
-    let locals = local_words(alloc, &f.locals)?;
-    declare_own(alloc, bytes, parameter_count(f)?, &locals, own, found)?;
+    declare_own(alloc, bytes, parameter_count(f)?, locals, own, found)?;
     let set = set_names(alloc, bytes, &f.body)?;
-    let body = body(alloc, bytes, declared, &set, f, &locals, found)?;
-    let names = own_names(alloc, bytes, &set, f, &locals)?;
+    let body = body(alloc, bytes, declared, &set, f, locals, found)?;
+    let names = own_names(alloc, bytes, &set, f, locals)?;
     Ok((body, names))
 }
 
@@ -333,16 +334,18 @@ fn procedure(
 {
     let references = kept(references_of(&f.parameters).len())?;
     let values = kept(values_of(&f.parameters).len())?;
+    let locals = local_words(alloc, &f.locals)?;
     let name = Name::new(alloc, text(bytes, f.name)?)?;
     let mut own = parameters(alloc, bytes, f, found)?;
     let (pre, post) = notes(alloc, bytes, declared, &own, f, found)?;
-    let (body, names) = inside(alloc, bytes, declared, f, &mut own, found)?;
+    let (body, names) = inside(alloc, bytes, declared, f, &locals, &mut own, found)?;
     Ok(Proc {
         name,
         place: f.name.place,
         names,
         references,
         values,
+        locals: kept(locals.len())?,
         pre,
         post,
         body,

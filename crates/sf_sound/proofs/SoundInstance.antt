@@ -38,11 +38,12 @@ procedure-within : ProcedureWithin clearing clears
 procedure-within =
     let first : 0 < 1 = omega arith in
     let nesting : 1 ≤ 64 = omega arith in
-    let names : 1 ≤ 256 = omega arith in
-    let own : 1 ≤ 257 = omega arith in record {
-      parameters = let e : 1 ≤ 1 = omega arith in e;
-      parameter_count = names;
-      own_count = own;
+    let few : 1 ≤ 256 = omega arith in
+    let named : 1 ≤ 1 = omega arith in
+    let no_primed : 1 ≤ 2 = omega arith in record {
+      declared_count = few;
+      declared = named;
+      primed = no_primed;
       pre = within [] tt;
       post = within ((hd, Known Nil) ∷ []) (first, tt, none-behind, tt);
       body = ((first, first, tt), tt);

@@ -192,9 +192,12 @@ module _ (p : Program) (f : ProcId) (store : Store) (heap : Heap) (c : Config) (
   abbrev first_symbols : ℕ → Value
   first_symbols n = unwrap_or (store (own 0 n)) nil
 
+  parameters-named : s.procedure.references + s.procedure.values ≤ length s.procedure.names
+  parameters-named = omega (arith, (formed.procedures f.0 s.procedure s.there).declared)
+
   first-covers : Covers (first_vars s.procedure) entry_values
   first-covers (Own i) = bool-same (is_listed (first_vars s.procedure) (Own i)) (is_some (store (own 0 i)))
-      (λ e. let m = s.kept (own 0 i) (refl, first-within (s.procedure.references + s.procedure.values) (length s.procedure.names) i (formed.procedures f.0 s.procedure s.there).parameters e) in ap is_some m.1)
+      (λ e. let m = s.kept (own 0 i) (refl, first-within (s.procedure.references + s.procedure.values) (length s.procedure.names) i parameters-named e) in ap is_some m.1)
       (λ e. let m = there (store (own 0 i)) e in first-listed (s.procedure.references + s.procedure.values) (length s.procedure.names) i (s.no_more (own 0 i) m.0 m.1).1)
   first-covers (Shared r i) = bool-same (is_listed (first_vars s.procedure) (Shared r i)) (is_some (store (shared r i))) (λ e. absurd (unlisted e)) (λ e. absurd (missing e))
     where

@@ -39,6 +39,7 @@ clears = record {
   names = codes "x" ∷ [];
   references = 0;
   values = 1;
+  locals = 0;
   pre = at_x [];
   post = at_x ((hd, Known Nil) ∷ []);
   body = then (mutate place x hd Nil) done;
