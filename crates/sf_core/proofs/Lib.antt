@@ -12,6 +12,7 @@ pub mod Worked
 pub mod StoreSplits
 pub mod OrderLaws
 pub mod MachineSteps
+pub mod MachineReads
 pub mod MachineRuns
 pub mod MachineTasks
 pub mod MachineProgress

@@ -4,65 +4,83 @@ use Rattle.std.specs.Prelude.{◌≡◌, ◌≢◌, ℕ, List, [], ◌∷◌, �
 use Rattle.sf_base.specs.declared.ids.ResId.{ResId}
 use Rattle.sf_base.specs.declared.limits.TheConstants.{TURNS}
 use Rattle.sf_core.specs.Bad.{IsAbsent}
-use Rattle.sf_core.specs.Config.{Item, command, leave, Fixed, Frame, Task, runs, waits, left, right, Path, Config, seen, task_at, IsUsed}
-use Rattle.sf_core.specs.Enabled.{Thing, variable, cell, Writes, HasEnded, IsEnabled}
-use Rattle.sf_core.specs.HeapStore.{Slot, shared, own, Store}
+use Rattle.sf_core.specs.Config.{Item, command, leave, Fixed, Frame, Task, runs, waits, left, right, Path, Common, Config, seen, task_at, IsUsed}
+use Rattle.sf_core.specs.Enabled.{Thing, variable, cell, IsInRoom, Reads, Writes, HasEnded, IsEnabled}
+use Rattle.sf_core.specs.HeapStore.{Slot, Store}
 use Rattle.sf_core.specs.Reach.{Reach}
 use Rattle.sf_core.specs.Sat.{IsTrueOf}
-use Rattle.sf_core.specs.Step.{Event, Step, procedure_at}
-use Rattle.sf_core.specs.Syntax.{Command, assign, look_up, mutate, new, dispose, if, while, call, fork, with, Program}
+use Rattle.sf_core.specs.Step.{Event, Step, procedure_at, room_count, room_for}
+use Rattle.sf_core.specs.Syntax.{Command, assign, look_up, mutate, new, dispose, if, while, call, fork, with, Procedure, Program}
 
--- the thing is a slot of that number
-abbrev pub IsSlotOf : ℕ → Thing → Type 0
-IsSlotOf number (variable (own e i)) = e ≡ number
-IsSlotOf number (variable (shared r i)) = ⊥
-IsSlotOf number (cell location) = ⊥
-
--- what the event of a command makes: the cell of a `new`, or slots of a call or fork, which have its number
-abbrev pub CommandMakes : Event → Command → Thing → Type 0
-CommandMakes event (assign place x e) thing = ⊥
-CommandMakes event (look_up place x e g) thing = ⊥
-CommandMakes event (mutate place e g v) thing = ⊥
-CommandMakes event (new place x) thing = thing ≡ cell event.at
-CommandMakes event (dispose place e) thing = ⊥
-CommandMakes event (if place test this that) thing = ⊥
-CommandMakes event (while place test kept body) thing = ⊥
-CommandMakes event (call place c) thing = IsSlotOf event.number thing
-CommandMakes event (fork place c d) thing = IsSlotOf event.number thing
-CommandMakes event (with place r test body) thing = ⊥
+-- what the event of a command makes: the cell of a `new`, or the rooms of the callee of a call or of those of a fork
+abbrev pub CommandMakes : Program → Event → Command → Thing → Type 0
+CommandMakes p event (assign place x e) thing = ⊥
+CommandMakes p event (look_up place x e g) thing = ⊥
+CommandMakes p event (mutate place e g v) thing = ⊥
+CommandMakes p event (new place x) thing = thing ≡ cell event.at
+CommandMakes p event (dispose place e) thing = ⊥
+CommandMakes p event (if place test this that) thing = ⊥
+CommandMakes p event (while place test kept body) thing = ⊥
+CommandMakes p event (call place c) thing = (g : Procedure) × (procedure_at p c.callee ≡ Some g) × IsInRoom (room_for g event.number 0) thing
+CommandMakes p event (fork place c d) thing =
+    (g : Procedure) × (h : Procedure) × (procedure_at p c.callee ≡ Some g) × (procedure_at p d.callee ≡ Some h)
+    × (IsInRoom (room_for g event.number 0) thing ⊎ IsInRoom (room_for h event.number (room_count g)) thing)
+CommandMakes p event (with place r test body) thing = ⊥
 
 -- what the next event of a frame makes
-abbrev pub FrameMakes : Event → List Item → Thing → Type 0
-FrameMakes event [] thing = ⊥
-FrameMakes event (command c ∷ rest) thing = CommandMakes event c thing
-FrameMakes event (leave r ∷ rest) thing = ⊥
+abbrev pub FrameMakes : Program → Event → List Item → Thing → Type 0
+FrameMakes p event [] thing = ⊥
+FrameMakes p event (command c ∷ rest) thing = CommandMakes p event c thing
+FrameMakes p event (leave r ∷ rest) thing = ⊥
 
 -- what the next event of a task makes
-abbrev pub Makes : Event → Task → Thing → Type 0
-Makes event (runs []) thing = ⊥
-Makes event (runs (f ∷ below)) thing = FrameMakes event f.todo thing
-Makes event (waits frames one two) thing = ⊥
+abbrev pub Makes : Program → Event → Task → Thing → Type 0
+Makes p event (runs []) thing = ⊥
+Makes p event (runs (f ∷ below)) thing = FrameMakes p event f.todo thing
+Makes p event (waits frames one two) thing = ⊥
 
 -- the thing is neither written nor made by the task's next event
-pub record IsLeft (event : Event) (store : Store) (task : Task) (thing : Thing) : Type 0 where
+pub record IsLeft (p : Program) (event : Event) (store : Store) (task : Task) (thing : Thing) : Type 0 where
   pub unwritten : Writes store task thing → ⊥
-  pub not_made : Makes event task thing → ⊥
+  pub not_made : Makes p event task thing → ⊥
 
 -- the holder of a resource: the same as before, or the task took it when it was free, or the task gave it back
 abbrev pub HolderGoes : Path → (before after : Option Path) → Type 0
 HolderGoes path before after = (after ≡ before) ⊎ (((before ≡ None) × (after ≡ Some path)) ⊎ ((before ≡ Some path) × (after ≡ None)))
 
 -- all that the event of a task can change
-pub record Touches (event : Event) (task : Task) (before after : Config) : Type 0 where
-  pub variables : (slot : Slot) → IsLeft event before.common.store task (variable slot) → after.common.store slot ≡ before.common.store slot
-  pub cells : (location : ℕ) → IsLeft event before.common.store task (cell location) → after.common.heap location ≡ before.common.heap location
-  pub absent : (location : ℕ) → Makes event task (cell location) → before.common.heap location ≡ None
+pub record Touches (p : Program) (event : Event) (task : Task) (before after : Config) : Type 0 where
+  pub variables : (slot : Slot) → IsLeft p event before.common.store task (variable slot) → after.common.store slot ≡ before.common.store slot
+  pub cells : (location : ℕ) → IsLeft p event before.common.store task (cell location) → after.common.heap location ≡ before.common.heap location
+  pub absent : (location : ℕ) → Makes p event task (cell location) → before.common.heap location ≡ None
   pub holders : (r : ResId) → HolderGoes event.task (before.common.held r) (after.common.held r)
 
 -- a step changes what it writes and what it makes, and nothing else
 abbrev pub StepsTouchOnlyWhatTheySay : Type 0
 StepsTouchOnlyWhatTheySay =
-    (p : Program) (event : Event) (c d : Config) (task : Task) → Step p event c d → task_at event.task c.tasks ≡ Some task → Touches event task c d
+    (p : Program) (event : Event) (c d : Config) (task : Task) → Step p event c d → task_at event.task c.tasks ≡ Some task → Touches p event task c d
+
+-- two states agree on a thing: the slot has the same value in both, or the location the same cell, or both have nothing there
+abbrev pub AgreeOn : Common → Common → Thing → Type 0
+AgreeOn one two (variable slot) = one.store slot ≡ two.store slot
+AgreeOn one two (cell location) = one.heap location ≡ two.heap location
+
+-- the other state agrees on all that the event of a task rests on: what it reads, the cells that it writes or makes, and the holders
+pub record FindsTheSame (p : Program) (event : Event) (task : Task) (here other : Common) : Type 0 where
+  pub read : (thing : Thing) → Reads here.store task thing → AgreeOn here other thing
+  pub cells : (location : ℕ) → Writes here.store task (cell location) ⊎ Makes p event task (cell location) → AgreeOn here other (cell location)
+  pub holders : (r : ResId) → here.held r ≡ other.held r
+
+-- what the event writes and makes is the same in both states after it, and so is what was the same before
+pub record LeavesTheSame (p : Program) (event : Event) (task : Task) (here other after also : Common) : Type 0 where
+  pub things : (thing : Thing) → (Writes here.store task thing ⊎ Makes p event task thing) ⊎ AgreeOn here other thing → AgreeOn after also thing
+  pub holders : (r : ResId) → after.held r ≡ also.held r
+
+-- a step rests on what it reads, on the cells that it writes or makes, and on the holders: where another state agrees on these, there is the same step, to the same tasks
+abbrev pub StepsRestOnWhatTheyRead : Type 0
+StepsRestOnWhatTheyRead = (p : Program) (event : Event) (c d : Config) (task : Task) (other : Common)
+    → Step p event c d → task_at event.task c.tasks ≡ Some task → FindsTheSame p event task c.common other
+    → (e : Config) × Step p event (record c { common = other }) e × (e.tasks ≡ d.tasks) × LeavesTheSame p event task c.common other d.common e.common
 
 -- an event leads to at most one configuration
 abbrev pub EventsDetermine : Type 0
@@ -162,8 +180,12 @@ Stops p path c (runs []) = ⊥
 Stops p path c (runs (f ∷ below)) = FrameStops p path c f.fixed f.todo
 Stops p path c (waits frames one two) = ⊥
 
--- an enabled task steps, by any event of it with a new number and an absent location, unless one of these keeps it
+-- an enabled task steps, by any event of it with a new number, unless one of these keeps it; where it makes a cell its location has to be absent, and not 0
 abbrev pub EnabledTasksStep : Type 0
 EnabledTasksStep = (p : Program) (event : Event) (c : Config) (task : Task) → IsEnabled c event.task task
-    → (IsUsed c.used event.number → ⊥) → event.at ≢ 0 → c.common.heap event.at ≡ None
+    → (IsUsed c.used event.number → ⊥) → ((location : ℕ) → Makes p event task (cell location) → (location ≢ 0) × (c.common.heap location ≡ None))
     → ((d : Config) × Step p event c d) ⊎ Stops p event.task c task
+
+-- a task that one of these keeps from it has no event
+abbrev pub StoppedTasksDoNotStep : Type 0
+StoppedTasksDoNotStep = (p : Program) (event : Event) (c d : Config) (task : Task) → task_at event.task c.tasks ≡ Some task → Stops p event.task c task → Step p event c d → ⊥

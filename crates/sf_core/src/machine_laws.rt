@@ -8,14 +8,23 @@ ghost use Rattle.sf_core.specs.MachineLaws.{
   OnlyEnabledTasksStep,
   OtherTasksStay,
   RunsCompose,
+  StepsRestOnWhatTheyRead,
   StepsTouchOnlyWhatTheySay,
+  StoppedTasksDoNotStep,
   UsedNumbersGrow,
 };
 
-/// A step changes the slots and cells that it writes, the slots that a call or fork makes and the
+/// A step changes the slots and cells that it writes, the rooms that a call or fork makes and the
 /// cell that a `new` makes, and nothing else; and a resource changes hands only by its task.
 pub fn steps_touch_only_what_they_say()
     ensures { StepsTouchOnlyWhatTheySay }
+{}
+
+/// A step rests on what it reads, on the cells that it writes or makes, and on the holders of the
+/// resources: where another state agrees on these there is the same step, and what it writes and
+/// makes is the same after it.
+pub fn steps_rest_on_what_they_read()
+    ensures { StepsRestOnWhatTheyRead }
 {}
 
 /// An event leads to at most one configuration.
@@ -61,9 +70,15 @@ pub fn enabled_tasks_part()
     ensures { EnabledTasksPart }
 {}
 
-/// An enabled task steps by any of its events that has a new number and an absent location,
-/// unless it is at an absent cell, at a region whose condition is false, at a call of a procedure
-/// that isn't there, at a fork too deep in the tree, or leaves a region that it isn't in.
+/// An enabled task steps by any of its events that has a new number, and where it makes a cell an
+/// absent location, unless it is at an absent cell, at a region whose condition is false, at a call
+/// of a procedure that isn't there, at a fork too deep in the tree, or leaves a region that it
+/// isn't in.
 pub fn enabled_tasks_step()
     ensures { EnabledTasksStep }
+{}
+
+/// A task that one of these keeps from it has no event.
+pub fn stopped_tasks_do_not_step()
+    ensures { StoppedTasksDoNotStep }
 {}

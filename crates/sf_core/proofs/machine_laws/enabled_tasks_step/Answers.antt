@@ -2,4 +2,4 @@ use Rattle.sf_core.proofs.MachineProgress.{enabled-or_stop}
 use Rattle.sf_core.proofs.machine_laws.enabled_tasks_step.Goals as goal
 
 pub returns : goal.returns
-returns c p event now task e fresh z n = enabled-or_stop p event now task e fresh z n
+returns c = enabled-or_stop
