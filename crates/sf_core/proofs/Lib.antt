@@ -17,5 +17,8 @@ pub mod MachineRuns
 pub mod MachineTasks
 pub mod MachineProgress
 pub mod MachineInstances
+pub mod RaceInstances
+pub mod GoodInstances
+pub mod StartInstances
 pub mod MachineOnce
 pub mod GoodParts

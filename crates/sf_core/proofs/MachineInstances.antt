@@ -14,21 +14,21 @@ use Rattle.sf_core.specs.declared.command.Expr.TheVariants.{Var as Variable, Nil
 use Rattle.sf_core.specs.declared.command.Occurrence.{Occurrence}
 use Rattle.sf_core.specs.declared.assertion.Operand.TheVariants.{Known}
 use Rattle.sf_core.proofs.Cases.{and-both, none-not_some}
-use Rattle.sf_core.proofs.HeapSplits.{at-same, one-single, put-elsewhere}
+use Rattle.sf_core.proofs.HeapSplits.{at-same, one-single, put-elsewhere, star-drop_right}
 use Rattle.sf_core.proofs.MapSplits.{splits-empty_right}
-use Rattle.sf_core.specs.Bad.{Bad, IsAbsent, next_root}
-use Rattle.sf_core.specs.Config.{Item, Frame, Task, runs, left, right, Path, Common, Config, seen, task_at, replaced, IsUsed, IsCalled}
-use Rattle.sf_core.specs.Enabled.{HasEnded, IsShut, IsBlocked, IsEnabled, Thing, variable, cell, FrameReads, FrameWrites, Reads, Writes}
+use Rattle.sf_core.specs.Bad.{Bad}
+use Rattle.sf_core.specs.Config.{Frame, Task, runs, left, right, Path, Common, Config, seen, task_at, replaced, IsUsed, IsCalled}
+use Rattle.sf_core.specs.Enabled.{HasEnded}
 use Rattle.sf_core.specs.Good.{Owner, resource, task, Returns, Good}
 use Rattle.sf_core.specs.HeapStore.{Apart, Splits, Cell, put_field, Heap, IsOne, Slot, shared, own}
 use Rattle.sf_core.specs.HeldBy.{HeldBy}
-use Rattle.sf_core.specs.MachineInstances.{at_own, own_one, one_cell, main, set, setting, one_at, one_in, event, setting_start, SettingStarts, CallMutateReturn, child_slots, child, side_by_side, at_one_cell, mutates, looks_up, enters, TwoMutationsRace, MutationAndLookUpRace, TwoLookUpsDoNotRace, TwoEntriesDoNotRace, HeldRegionsWait, alone, DisposeAtNilIsBad, makes, makes_twice, FreedLocationsComeAgain, skip, forking, forking_start, ChildrenEndInAnyOrder, fill, filling, filling_start, ChildrenFillReferences, locks_and_loops, RegionThenLoop}
+use Rattle.sf_core.specs.MachineInstances.{at_own, own_one, one_cell, one_cell_at, main, main_done, set, setting, one_at, one_in, event, setting_start, SettingStarts, CallMutateReturn, alone, DisposeAtNilIsBad, makes, makes_twice, FreedLocationsComeAgain, skip, forking, forking_start, ChildrenEndInAnyOrder, fill, filling, filling_start, ChildrenFillReferences, locks_and_loops, RegionThenLoop}
 use Rattle.sf_core.specs.Occurs.{VarOccursIn}
 use Rattle.sf_core.specs.Sat.{Sat}
-use Rattle.sf_core.specs.Start.{IsKept, entry_slot, entry_frame}
+use Rattle.sf_core.specs.Start.{IsKept, entry_slot}
 use Rattle.sf_core.specs.Step.{Event, procedure_at, TaskStep, Step}
 use Rattle.sf_core.specs.Syntax.{Procedure, Program, Resource}
-use Rattle.sf_core.proofs.MachineTasks.{MayGo, enabled-may_go, task_at-ended}
+use Rattle.sf_core.proofs.MachineTasks.{task_at-ended}
 
 -- Steps of known configurations
 -- a number above all used ones is new
@@ -52,170 +52,6 @@ three-new = number-new 3 2 (1 ∷ 0 ∷ []) (omega arith) (number-new 3 1 (0 ∷
 
 four-new : IsUsed (3 ∷ 2 ∷ 1 ∷ 0 ∷ []) 4 → ⊥
 four-new = number-new 4 3 (2 ∷ 1 ∷ 0 ∷ []) (omega arith) (number-new 4 2 (1 ∷ 0 ∷ []) (omega arith) (number-new 4 1 (0 ∷ []) (omega arith) (number-new 4 0 [] (omega arith) (λ u. u))))
-
--- Two tasks side by side
--- the tasks of such a configuration that may go on
-side-tasks : (this that : List Item) (s : Common) (path : Path) (one : Task) → task_at path (side_by_side this that s).tasks ≡ Some one → MayGo one
-    → ((path ≡ left ∷ []) × (runs (record { fixed = child 0; todo = this } ∷ []) ≡ one)) ⊎ ((path ≡ right ∷ []) × (runs (record { fixed = child 2; todo = that } ∷ []) ≡ one))
-side-tasks this that s [] one e m =
-    let same : (side_by_side this that s).tasks ≡ one = cc in
-    let both : ⊥ × ⊥ = subst MayGo (sym same) m in
-    absurd both.0
-side-tasks this that s (left ∷ []) one e m = inl (refl, cc)
-side-tasks this that s (left ∷ left ∷ path) one e m = absurd (cc)
-side-tasks this that s (left ∷ right ∷ path) one e m = absurd (cc)
-side-tasks this that s (right ∷ []) one e m = inr (refl, cc)
-side-tasks this that s (right ∷ left ∷ path) one e m = absurd (cc)
-side-tasks this that s (right ∷ right ∷ path) one e m = absurd (cc)
-
--- the enabled ones
-side-enabled : (this that : List Item) (s : Common) (path : Path) (one : Task) → IsEnabled (side_by_side this that s) path one
-    → ((path ≡ left ∷ []) × (runs (record { fixed = child 0; todo = this } ∷ []) ≡ one)) ⊎ ((path ≡ right ∷ []) × (runs (record { fixed = child 2; todo = that } ∷ []) ≡ one))
-side-enabled this that s path one e = side-tasks this that s path one e.there (enabled-may_go (side_by_side this that s) path one e)
-
--- a frame with that to do, its slots from that index on, doesn't touch an absent cell
-abbrev Finds : ℕ → List Item → Common → Type 0
-Finds first todo s = (root : Expr) → next_root todo ≡ Some root → IsAbsent s.heap (seen (child_slots first) s.store root) → ⊥
-
--- what the one writes the other neither reads nor writes
-abbrev Minds : (first : ℕ) (todo : List Item) (other : ℕ) (others : List Item) → Common → Type 0
-Minds first todo other others s = (thing : Thing) → FrameWrites (child first) s.store todo thing → FrameReads (child_slots other) s.store others thing ⊎ FrameWrites (child other) s.store others thing → ⊥
-
--- two tasks side by side aren't bad where both find their cells and neither minds the other
-side-good : (this that : List Item) (s : Common) → Finds 0 this s → Finds 2 that s → Minds 0 this 2 that s → Minds 2 that 0 this s → Bad (side_by_side this that s) → ⊥
-side-good this that s f g m n (inl b) = elim (side-enabled this that s b.path (runs (b.frame ∷ b.below)) b.enabled) [
-  | inl k ↦ f b.root (one k.1) (two k.1)
-  | inr k ↦ g b.root (three k.1) (four k.1)
-]
-  where
-    one : runs (record { fixed = child 0; todo = this } ∷ []) ≡ runs (b.frame ∷ b.below) → next_root this ≡ Some b.root
-    one e = let same : record { fixed = child 0; todo = this } ≡ b.frame = cc in ap (λ (z : Frame). next_root z.todo) same ∙ b.touches
-
-    two : runs (record { fixed = child 0; todo = this } ∷ []) ≡ runs (b.frame ∷ b.below) → IsAbsent s.heap (seen (child_slots 0) s.store b.root)
-    two e = let same : record { fixed = child 0; todo = this } ≡ b.frame = cc in subst (λ (z : Frame). IsAbsent s.heap (seen z.fixed.slots s.store b.root)) (sym same) b.absent
-
-    three : runs (record { fixed = child 2; todo = that } ∷ []) ≡ runs (b.frame ∷ b.below) → next_root that ≡ Some b.root
-    three e = let same : record { fixed = child 2; todo = that } ≡ b.frame = cc in ap (λ (z : Frame). next_root z.todo) same ∙ b.touches
-
-    four : runs (record { fixed = child 2; todo = that } ∷ []) ≡ runs (b.frame ∷ b.below) → IsAbsent s.heap (seen (child_slots 2) s.store b.root)
-    four e = let same : record { fixed = child 2; todo = that } ≡ b.frame = cc in subst (λ (z : Frame). IsAbsent s.heap (seen z.fixed.slots s.store b.root)) (sym same) b.absent
-side-good this that s f g m n (inr r) = elim (side-enabled this that s r.path r.task r.enabled) [
-  | inl a ↦ elim (side-enabled this that s r.other_path r.other r.other_enabled) [
-    | inl b ↦ r.different (a.0 ∙ sym b.0)
-    | inr b ↦ m r.thing (subst (λ z. Writes s.store z r.thing) (sym a.1) r.writes) (subst (λ z. Reads s.store z r.thing ⊎ Writes s.store z r.thing) (sym b.1) r.meets)
-  ]
-  | inr a ↦ elim (side-enabled this that s r.other_path r.other r.other_enabled) [
-    | inl b ↦ n r.thing (subst (λ z. Writes s.store z r.thing) (sym a.1) r.writes) (subst (λ z. Reads s.store z r.thing ⊎ Writes s.store z r.thing) (sym b.1) r.meets)
-    | inr b ↦ r.different (a.0 ∙ sym b.0)
-  ]
-]
-
--- the one at the left is enabled where it has something to do, and that is no region whose resource is held
-left-enabled : (i : Item) (rest that : List Item) (s : Common) → (IsShut s.held (i ∷ rest) → ⊥)
-    → IsEnabled (side_by_side (i ∷ rest) that s) (left ∷ []) (runs (record { fixed = child 0; todo = i ∷ rest } ∷ []))
-left-enabled i rest that s n = record { there = refl; going = λ h. h; free = n }
-
-right-enabled : (this : List Item) (i : Item) (rest : List Item) (s : Common) → (IsShut s.held (i ∷ rest) → ⊥)
-    → IsEnabled (side_by_side this (i ∷ rest) s) (right ∷ []) (runs (record { fixed = child 2; todo = i ∷ rest } ∷ []))
-right-enabled this i rest s n = record { there = refl; going = λ h. h; free = n }
-
-turns-differ : left ∷ [] ≡ right ∷ [] → ⊥
-turns-differ e = absurd (cc)
-
-pub two_mutations-holds : TwoMutationsRace
-two_mutations-holds k = inr (record {
-  path = left ∷ [];
-  task = _;
-  enabled = left-enabled _ [] mutates (at_one_cell k None) (λ h. h);
-  other_path = right ∷ [];
-  other = _;
-  other_enabled = right-enabled mutates _ [] (at_one_cell k None) (λ h. h);
-  different = turns-differ;
-  thing = cell 1;
-  writes = refl;
-  meets = inr refl;
-})
-
-pub mutation_and_look_up-holds : MutationAndLookUpRace
-mutation_and_look_up-holds k = (
-  inr (record {
-    path = left ∷ [];
-    task = _;
-    enabled = left-enabled _ [] looks_up (at_one_cell k None) (λ h. h);
-    other_path = right ∷ [];
-    other = _;
-    other_enabled = right-enabled mutates _ [] (at_one_cell k None) (λ h. h);
-    different = turns-differ;
-    thing = cell 1;
-    writes = refl;
-    meets = inl (inr refl);
-  }),
-  inr (record {
-    path = right ∷ [];
-    task = _;
-    enabled = right-enabled looks_up _ [] (at_one_cell k None) (λ h. h);
-    other_path = left ∷ [];
-    other = _;
-    other_enabled = left-enabled _ [] mutates (at_one_cell k None) (λ h. h);
-    different = λ e. turns-differ (sym e);
-    thing = cell 1;
-    writes = refl;
-    meets = inl (inr refl);
-  }),
-)
-
-some-none : {X : Type 0} (x : X) → Some x ≡ None → ⊥
-some-none x e = absurd (cc)
-
--- the first variable of each child is the location of the cell, which is there
-finds-cell : (k : Cell) (holder : Option Path) (root : Expr) → Some (own_one 0) ≡ Some root → IsAbsent (one_at k) (seen (child_slots 0) (at_one_cell k holder).store root) → ⊥
-finds-cell k holder root e a =
-    let same : own_one 0 ≡ root = cc in
-    let here : IsAbsent (one_at k) (seen (child_slots 0) (at_one_cell k holder).store (own_one 0)) = subst (λ z. IsAbsent (one_at k) (seen (child_slots 0) (at_one_cell k holder).store z)) (sym same) a in
-    some-none k here
-
-finds-cell_too : (k : Cell) (holder : Option Path) (root : Expr) → Some (own_one 0) ≡ Some root → IsAbsent (one_at k) (seen (child_slots 2) (at_one_cell k holder).store root) → ⊥
-finds-cell_too k holder root e a =
-    let same : own_one 0 ≡ root = cc in
-    let here : IsAbsent (one_at k) (seen (child_slots 2) (at_one_cell k holder).store (own_one 0)) = subst (λ z. IsAbsent (one_at k) (seen (child_slots 2) (at_one_cell k holder).store z)) (sym same) a in
-    some-none k here
-
--- things of different kinds, or slots of different indices, differ
-things-differ : (thing : Thing) (i j : ℕ) → thing ≡ variable (own 1 i) → (thing ≡ variable (own 1 j)) ⊎ (thing ≡ cell 1) → i ≢ j → ⊥
-things-differ thing i j e (inl f) n = n (cc)
-things-differ thing i j e (inr f) n = absurd (cc)
-
-look_ups-mind : (thing : Thing) (i j k : ℕ) → thing ≡ variable (own 1 i) → ((thing ≡ variable (own 1 j)) ⊎ (thing ≡ cell 1)) ⊎ (thing ≡ variable (own 1 k)) → i ≢ j → i ≢ k → ⊥
-look_ups-mind thing i j k e (inl f) n m = things-differ thing i j e f n
-look_ups-mind thing i j k e (inr f) n m = things-differ thing i k e (inl f) m
-
-pub two_look_ups-holds : TwoLookUpsDoNotRace
-two_look_ups-holds k =
-    side-good looks_up looks_up (at_one_cell k None) (finds-cell k None) (finds-cell_too k None)
-    (λ thing w m. look_ups-mind thing 1 2 3 w m (omega arith) (omega arith))
-    (λ thing w m. look_ups-mind thing 3 0 1 w m (omega arith) (omega arith))
-
-pub two_entries-holds : TwoEntriesDoNotRace
-two_entries-holds k =
-    side-good enters enters (at_one_cell k None) (λ root e a. none-not_some root e) (λ root e a. none-not_some root e) (λ thing w m. w) (λ thing w m. w)
-
-nothing-met : ⊥ ⊎ ⊥ → ⊥
-nothing-met (inl x) = x
-nothing-met (inr x) = x
-
-pub held_regions-holds : HeldRegionsWait
-held_regions-holds k = (
-  λ one e. waiting one e.there e.free,
-  side-good mutates enters (at_one_cell k (Some (left ∷ []))) (finds-cell k (Some (left ∷ []))) (λ root e a. none-not_some root e) (λ thing w m. nothing-met m) (λ thing w m. w),
-)
-  where
-    shut : IsBlocked (at_one_cell k (Some (left ∷ []))).held (runs (record { fixed = child 2; todo = enters } ∷ []))
-    shut e = some-none (left ∷ []) e
-
-    waiting : (one : Task) → Some (runs (record { fixed = child 2; todo = enters } ∷ [])) ≡ Some one → (IsBlocked (at_one_cell k (Some (left ∷ []))).held one → ⊥) → ⊥
-    waiting one e f =
-        let same : runs (record { fixed = child 2; todo = enters } ∷ []) ≡ one = cc in
-        f (subst (IsBlocked (at_one_cell k (Some (left ∷ []))).held) same shut)
 
 pub dispose_at_nil-holds : DisposeAtNilIsBad
 dispose_at_nil-holds s rest = inl (record {
@@ -295,18 +131,22 @@ apart-none None = tt
 apart-none (Some x) = tt
 
 -- the whole, and nothing
-all-nothing : (whole : Heap) → Splits whole whole (λ a. None)
+pub all-nothing : (whole : Heap) → Splits whole whole (λ a. None)
 all-nothing whole = splits-empty_right (record { none = λ a. refl })
 
--- a heap of one cell at the first variable satisfies the contract of one cell
-one-sat : (see : Expr → Value) (heap : Heap) (k : Cell) → see (own_one 0) ≡ loc 1 → IsOne 1 k heap → Sat one_cell.level see (λ n. nil) heap
-one-sat see heap k e o = (
+-- a heap of one cell where the expression says satisfies the assertion of that cell
+pub one-sat : (x : Expr) (see : Expr → Value) (heap : Heap) (location : ℕ) (k : Cell) → see x ≡ loc location → IsOne location k heap → Sat (one_cell_at x).level see (λ n. nil) heap
+one-sat x see heap location k e o = (
   λ n. nil,
   λ n h. refl,
-  record { left = heap; right = λ a. None; splits = all-nothing heap; first = (1, k, e, o, tt); second = record { none = λ a. refl } },
+  record { left = heap; right = λ a. None; splits = all-nothing heap; first = (location, k, e, o, tt); second = record { none = λ a. refl } },
 )
 
-cond-some : {X : Type 0} (b : Bool) (x y : X) → cond b (Some x) None ≡ Some y → b ≡ true
+-- and no other heap does
+pub sat-one : (x : Expr) (see : Expr → Value) (heap : Heap) → Sat (one_cell_at x).level see (λ n. nil) heap → (location : ℕ) × (k : Cell) × (see x ≡ loc location) × IsOne location k heap
+sat-one x see heap d = let e = star-drop_right d.2 in (e.0, e.1, e.2, e.3)
+
+pub cond-some : {X : Type 0} (b : Bool) (x y : X) → cond b (Some x) None ≡ Some y → b ≡ true
 cond-some true x y e = refl
 cond-some false x y e = absurd (cc)
 
@@ -322,7 +162,7 @@ setting_starts-holds k = record {
   kept = kept;
   no_more = no_more;
   locals = λ i l m. absurd (omega (arith, l, m));
-  pre = record { left = one_at k; right = λ a. None; splits = all-nothing (one_at k); first = one-sat (seen entry_slot (one_in (loc 1))) (one_at k) k refl (one-single 1 k); second = record { none = λ a. refl } };
+  pre = record { left = one_at k; right = λ a. None; splits = all-nothing (one_at k); first = one-sat (own_one 0) (seen entry_slot (one_in (loc 1))) (one_at k) 1 k refl (one-single 1 k); second = record { none = λ a. refl } };
 }
   where
     is_first : (x : Var) (at : Occurrence) → at.var ≡ x → (Known (Variable at) ≡ Known (own_one 0)) ⊎ ⊥ → Own 0 ≡ x
@@ -356,12 +196,12 @@ setting_starts-holds k = record {
 
 -- An ended entry
 -- the whole heap is the entry's
-abbrev entry_part : Heap → Owner → Heap
+abbrev pub entry_part : Heap → Owner → Heap
 entry_part h (resource r) = λ a. None
 entry_part h (task []) = h
 entry_part h (task (turn ∷ path)) = λ a. None
 
-entry_part-apart : (h : Heap) (owner other : Owner) → owner ≢ other → (a : ℕ) → Apart (entry_part h owner a) (entry_part h other a)
+pub entry_part-apart : (h : Heap) (owner other : Owner) → owner ≢ other → (a : ℕ) → Apart (entry_part h owner a) (entry_part h other a)
 entry_part-apart h (resource r) other n a = tt
 entry_part-apart h (task []) (resource r) n a = apart-none (h a)
 entry_part-apart h (task []) (task []) n a = absurd (n refl)
@@ -411,13 +251,9 @@ ended-good p c frame g none_there only done is sat = record {
         let same : [] ≡ r.below = cc in
         subst (λ z. IsCalled [] z) (sym same) (subst (λ z. IsCalled z r.below) top r.called)
 
--- the entry's frame with nothing more to do
-abbrev main_done : Frame
-main_done = record { fixed = (entry_frame (record { 0 = 0 }) main).fixed; todo = [] }
-
 -- `main` at its end with its one cell is good
-set-good : (c : Config) (k : Cell) → c.tasks ≡ runs (main_done ∷ []) → c.common.store (own 0 0) ≡ Some (loc 1) → IsOne 1 k c.common.heap → Good setting c
-set-good c k only e o = ended-good setting c main_done main refl only refl refl (one-sat (seen entry_slot c.common.store) c.common.heap k (ap (λ z. unwrap_or z nil) e) o)
+pub set-good : (c : Config) (k : Cell) → c.tasks ≡ runs (main_done ∷ []) → c.common.store (own 0 0) ≡ Some (loc 1) → IsOne 1 k c.common.heap → Good setting c
+set-good c k only e o = ended-good setting c main_done main refl only refl refl (one-sat (own_one 0) (seen entry_slot c.common.store) c.common.heap 1 k (ap (λ z. unwrap_or z nil) e) o)
 
 pub call_mutate_return-holds : CallMutateReturn
 call_mutate_return-holds k = (

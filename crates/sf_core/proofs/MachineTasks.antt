@@ -76,11 +76,16 @@ step-enabled p event c d s = (
   },
 )
 
+-- below a task that runs there is no other
+pub task_at-running : (path : Path) (frames : List Frame) (task : Task) → task_at path (runs frames) ≡ Some task → path ≡ []
+task_at-running [] frames task e = refl
+task_at-running (left ∷ path) frames task e = absurd (cc)
+task_at-running (right ∷ path) frames task e = absurd (cc)
+
 -- where the entry has ended there is no other task
 pub task_at-ended : (path : Path) (t task : Task) → HasEnded [] t → task_at path t ≡ Some task → path ≡ []
-task_at-ended [] t task h e = refl
-task_at-ended (left ∷ path) (runs frames) task h e = absurd (cc)
-task_at-ended (right ∷ path) (runs frames) task h e = absurd (cc)
+task_at-ended path (runs frames) task h e = task_at-running path frames task e
+task_at-ended [] (waits frames one two) task h e = refl
 task_at-ended (turn ∷ path) (waits frames one two) task h e = absurd h
 
 -- once the entry has ended no event comes

@@ -1,6 +1,6 @@
 -- Worked instances of the machine's definitions: small programs, their runs, and configurations that are bad or not.
 -- The commands are those of Berdine, Calcagno, O'Hearn, "Smallfoot" (2005); races as in O'Hearn (2007).
-use Rattle.std.specs.Prelude.{◌≡◌, ℕ, ◌+◌, ◌-◌, ◌==◌, pos, cond, List, [], ◌∷◌, length, codes, Option, Some, None}
+use Rattle.std.specs.Prelude.{◌≡◌, ◌↔◌, ℕ, ◌+◌, ◌-◌, ◌==◌, pos, cond, List, [], ◌∷◌, length, codes, Option, Some, None}
 use Rattle.sf_base.specs.declared.ids.FieldId.{FieldId}
 use Rattle.sf_base.specs.declared.ids.ResId.{ResId}
 use Rattle.sf_base.specs.declared.ids.Var.{Var}
@@ -17,11 +17,11 @@ use Rattle.sf_core.specs.Bad.{Bad}
 use Rattle.sf_core.specs.Config.{Item, command, Fixed, Frame, Task, runs, waits, left, right, Path, Common, Config}
 use Rattle.sf_core.specs.Enabled.{HasEnded, IsEnabled}
 use Rattle.sf_core.specs.Good.{Good}
-use Rattle.sf_core.specs.HeapStore.{Cell, put_field, Heap, Slot, shared, own, same_slot, Store}
+use Rattle.sf_core.specs.HeapStore.{Cell, put_field, Heap, IsEmpty, IsOne, Slot, shared, own, same_slot, Store}
 use Rattle.sf_core.specs.Reach.{Reach}
-use Rattle.sf_core.specs.Start.{Start, beginning}
-use Rattle.sf_core.specs.Step.{Event}
-use Rattle.sf_core.specs.Syntax.{points, level, none, also, Call, assign, look_up, mutate, new, dispose, while, call, fork, with, Block, done, then, Assertion, Procedure, Program}
+use Rattle.sf_core.specs.Start.{Start, beginning, entry_frame, entry_slot}
+use Rattle.sf_core.specs.Step.{Event, room_for, slots_of}
+use Rattle.sf_core.specs.Syntax.{points, level, none, also, Call, assign, look_up, mutate, new, dispose, if, while, call, fork, with, Block, done, then, Assertion, Procedure, Program, Resource}
 
 -- a place in the text, which no definition looks at
 abbrev pub here : Place
@@ -47,9 +47,13 @@ own_one i = Variable (at_own i)
 abbrev pub emp : Assertion
 emp = record { names = []; level = level (record { first = 0; count = 0 }) none }
 
+-- one cell, where that expression says
+abbrev pub one_cell_at : Expr → Assertion
+one_cell_at x = record { names = []; level = level (record { first = 0; count = 0 }) (also (points here (Known x) []) none) }
+
 -- one cell at the procedure's first variable
 abbrev pub one_cell : Assertion
-one_cell = record { names = []; level = level (record { first = 0; count = 0 }) (also (points here (Known (own_one 0)) []) none) }
+one_cell = one_cell_at (own_one 0)
 
 -- a procedure with that contract and body, of these variables
 abbrev pub procedure : (names : List (List ℕ)) (references values : ℕ) → Assertion → Block → Procedure
@@ -272,3 +276,125 @@ RegionThenLoop = (p : Program) (s : Common) → s.held lock ≡ None
     → (c : Config) × (d : Config) × Reach p (alone locks_and_loops s) (event [] 1 ∷ []) c × (c.common.held lock ≡ Some [])
     × Reach p c (event [] 2 ∷ event [] 3 ∷ event [] 4 ∷ event [] 5 ∷ event [] 6 ∷ []) d
     × (d.common.held lock ≡ None) × (d.common.store (own 1 0) ≡ Some (int (pos 7))) × HasEnded [] d.tasks
+
+-- the entry's frame of `main` with nothing more to do
+abbrev pub main_done : Frame
+main_done = record { fixed = (entry_frame (record { 0 = 0 }) main).fixed; todo = [] }
+
+-- `main` has ended with that heap, its variable at location 1
+abbrev pub ended_with : Heap → Config
+ended_with heap = record { common = record { heap = heap; store = one_in (loc 1); held = λ r. None }; used = 0 ∷ []; tasks = runs (main_done ∷ []) }
+
+-- that is good exactly where the heap is the one cell of the postcondition: it isn't missing, and no other is left
+abbrev pub EndedIsGoodWithItsCellAlone : Type 0
+EndedIsGoodWithItsCellAlone = (heap : Heap) → Good setting (ended_with heap) ↔ ((k : Cell) × IsOne 1 k heap)
+
+-- the frame of the call of `set` in `main`, whose event has number 1, with nothing more to do
+abbrev pub set_done : Frame
+set_done = record { fixed = record { procedure = record { 0 = 1 }; slots = slots_of entry_slot (calls 1 (own_one 0 ∷ [])) (room_for set 1 0); room = room_for set 1 0 }; todo = [] }
+
+-- `set` is at its return with that heap, its value and `main`'s variable at location 1
+abbrev pub returning_with : Heap → Config
+returning_with heap = record {
+  common = record { heap = heap; store = λ slot. cond (same_slot slot (own 1 0)) (Some (loc 1)) (one_in (loc 1) slot); held = λ r. None };
+  used = 1 ∷ 0 ∷ [];
+  tasks = runs (set_done ∷ main_done ∷ []);
+}
+
+-- that is good exactly where the heap has the cell of the callee's postcondition; it may have others, which are the caller's
+abbrev pub ReturningIsGoodWithItsCell : Type 0
+ReturningIsGoodWithItsCell = (heap : Heap) → Good setting (returning_with heap) ↔ ((k : Cell) × (heap 1 ≡ Some k))
+
+-- the only variable of the only resource, where it stands in the text
+abbrev pub at_shared : Occurrence
+at_shared = record { var = Shared lock 0; place = here }
+
+-- that variable, as an expression
+abbrev pub shared_one : Expr
+shared_one = Variable at_shared
+
+-- resource lock (v) [v |->]
+abbrev pub guarding : Resource
+guarding = record { name = codes "lock"; variables = codes "v" ∷ []; invariant = one_cell_at shared_one }
+
+-- takes() [v |->] { } [v |->]
+abbrev pub takes : Procedure
+takes = procedure [] 0 0 (one_cell_at shared_one) done
+
+-- `skip` and `takes`, with that resource
+abbrev pub guarded : Program
+guarded = record { fields = codes "hd" ∷ []; resources = guarding ∷ []; procedures = skip ∷ takes ∷ [] }
+
+-- the heap has a cell where the variable of the resource says
+pub record HasSharedCell (store : Store) (heap : Heap) : Type 0 where
+  pub location : ℕ
+  pub at : store (shared lock 0) ≡ Some (loc location)
+  pub cell : Cell
+  pub there : heap location ≡ Some cell
+
+-- while the resource is free a good configuration has the cell of its invariant: at any moment of a run one in which it is absent isn't good
+abbrev pub FreeResourcesHaveTheirCell : Type 0
+FreeResourcesHaveTheirCell = (c : Config) → Good guarded c → c.common.held lock ≡ None → HasSharedCell c.common.store c.common.heap
+
+-- where the entry has ended while some task holds the resource, the configuration isn't good
+abbrev pub EndedWhileHeldIsNotGood : Type 0
+EndedWhileHeldIsNotGood = (c : Config) (path : Path) → HasEnded [] c.tasks → c.common.held lock ≡ Some path → Good guarded c → ⊥
+
+-- the variable of the resource has that value, and there are no others
+abbrev pub shared_in : Value → Store
+shared_in v = λ slot. cond (same_slot slot (shared lock 0)) (Some v) None
+
+-- `skip` starts at the one cell of the invariant
+abbrev pub SkipStartsWithTheInvariant : Type 0
+SkipStartsWithTheInvariant = (k : Cell) → Start guarded (record { 0 = 0 }) (shared_in (loc 1)) (one_at k) (beginning (record { 0 = 0 }) skip (shared_in (loc 1)) (one_at k))
+
+-- it starts with no other heap than one cell where the variable of the resource says
+abbrev pub SkipStartsWithNothingElse : Type 0
+SkipStartsWithNothingElse = (store : Store) (heap : Heap) (c : Config) → Start guarded (record { 0 = 0 }) store heap c
+    → (location : ℕ) × (k : Cell) × (store (shared lock 0) ≡ Some (loc location)) × IsOne location k heap
+
+-- so it doesn't start on the empty heap
+abbrev pub SkipDoesNotStartWithNothing : Type 0
+SkipDoesNotStartWithNothing = (store : Store) (heap : Heap) (c : Config) → IsEmpty heap → Start guarded (record { 0 = 0 }) store heap c → ⊥
+
+-- a procedure whose precondition mentions a variable of a resource doesn't start at all, since it counts as holding the resource
+abbrev pub HoldersDoNotStart : Type 0
+HoldersDoNotStart = (store : Store) (heap : Heap) (c : Config) → Start guarded (record { 0 = 1 }) store heap c → ⊥
+
+-- v = nil;
+abbrev pub sets_shared : List Item
+sets_shared = command (assign here at_shared Nil) ∷ []
+
+-- if (v == nil) { } else { }
+abbrev pub tests_shared : List Item
+tests_shared = command (if here (Equal shared_one Nil) done done) ∷ []
+
+-- with lock when (v == nil) { }
+abbrev pub enters_by_shared : List Item
+enters_by_shared = command (with here lock (Equal shared_one Nil) done) ∷ []
+
+-- f(v;);
+abbrev pub passes_shared : List Item
+passes_shared = command (call here (record { callee = record { 0 = 1 }; place = here; references = at_shared ∷ []; values = [] })) ∷ []
+
+-- x = new();
+abbrev pub makes_one : List Item
+makes_one = command (new here (at_own 0)) ∷ []
+
+-- an assignment and a test of one variable race
+abbrev pub AssignmentAndTestRace : Type 0
+AssignmentAndTestRace = (s : Common) → Bad (side_by_side sets_shared tests_shared s)
+
+-- an assignment and the entry of a free resource's region whose condition reads the variable race; while the resource is held they don't
+abbrev pub AssignmentAndConditionRace : Type 0
+AssignmentAndConditionRace = (s : Common)
+    → (s.held lock ≡ None → Bad (side_by_side sets_shared enters_by_shared s))
+    × ((path : Path) → s.held lock ≡ Some path → Bad (side_by_side sets_shared enters_by_shared s) → ⊥)
+
+-- an assignment and a call that passes the variable as a reference don't
+abbrev pub AssignmentAndReferenceDoNotRace : Type 0
+AssignmentAndReferenceDoNotRace = (s : Common) → Bad (side_by_side sets_shared passes_shared s) → ⊥
+
+-- nor do a `new` and a look-up of a cell that is there
+abbrev pub NewAndLookUpDoNotRace : Type 0
+NewAndLookUpDoNotRace = (k : Cell) → Bad (side_by_side makes_one looks_up (at_one_cell k None)) → ⊥

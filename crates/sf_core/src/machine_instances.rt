@@ -1,14 +1,26 @@
 //! Worked instances of the machine's definitions, each the contract of a function that does nothing.
 ghost use Rattle.sf_core.specs.MachineInstances.{
+  AssignmentAndConditionRace,
+  AssignmentAndReferenceDoNotRace,
+  AssignmentAndTestRace,
   CallMutateReturn,
   ChildrenEndInAnyOrder,
   ChildrenFillReferences,
   DisposeAtNilIsBad,
+  EndedIsGoodWithItsCellAlone,
+  EndedWhileHeldIsNotGood,
+  FreeResourcesHaveTheirCell,
   FreedLocationsComeAgain,
   HeldRegionsWait,
+  HoldersDoNotStart,
   MutationAndLookUpRace,
+  NewAndLookUpDoNotRace,
   RegionThenLoop,
+  ReturningIsGoodWithItsCell,
   SettingStarts,
+  SkipDoesNotStartWithNothing,
+  SkipStartsWithNothingElse,
+  SkipStartsWithTheInvariant,
   TwoEntriesDoNotRace,
   TwoLookUpsDoNotRace,
   TwoMutationsRace,
@@ -74,4 +86,66 @@ pub fn children_fill_references()
 /// A task enters a region and leaves it, goes once round a loop, and out of it.
 pub fn region_then_loop()
     ensures { RegionThenLoop }
+{}
+
+/// An ended entry is good exactly where its heap is the one cell of its postcondition: a cell that
+/// is missing or left over isn't good.
+pub fn ended_is_good_with_its_cell_alone()
+    ensures { EndedIsGoodWithItsCellAlone }
+{}
+
+/// A callee at its return is good exactly where the heap has the cell of its postcondition.
+pub fn returning_is_good_with_its_cell()
+    ensures { ReturningIsGoodWithItsCell }
+{}
+
+/// Whenever a resource is free, a good configuration has the cell of its invariant.
+pub fn free_resources_have_their_cell()
+    ensures { FreeResourcesHaveTheirCell }
+{}
+
+/// An entry that has ended while a resource is held isn't good.
+pub fn ended_while_held_is_not_good()
+    ensures { EndedWhileHeldIsNotGood }
+{}
+
+/// With a resource a procedure has a start: at the cell of the invariant.
+pub fn skip_starts_with_the_invariant()
+    ensures { SkipStartsWithTheInvariant }
+{}
+
+/// It starts at no other heap.
+pub fn skip_starts_with_nothing_else()
+    ensures { SkipStartsWithNothingElse }
+{}
+
+/// So it doesn't start at the empty heap.
+pub fn skip_does_not_start_with_nothing()
+    ensures { SkipDoesNotStartWithNothing }
+{}
+
+/// A procedure whose precondition mentions a variable of a resource has no start.
+pub fn holders_do_not_start()
+    ensures { HoldersDoNotStart }
+{}
+
+/// An assignment and a test of one variable are bad.
+pub fn assignment_and_test_race()
+    ensures { AssignmentAndTestRace }
+{}
+
+/// An assignment beside a region whose condition reads the variable is bad while the resource is
+/// free, and not while it is held.
+pub fn assignment_and_condition_race()
+    ensures { AssignmentAndConditionRace }
+{}
+
+/// An assignment beside a call that passes the variable as a reference isn't bad.
+pub fn assignment_and_reference_do_not_race()
+    ensures { AssignmentAndReferenceDoNotRace }
+{}
+
+/// A `new` beside a look-up of a cell that is there isn't bad.
+pub fn new_and_look_up_do_not_race()
+    ensures { NewAndLookUpDoNotRace }
 {}

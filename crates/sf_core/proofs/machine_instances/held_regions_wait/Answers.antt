@@ -1,4 +1,4 @@
-use Rattle.sf_core.proofs.MachineInstances.{held_regions-holds}
+use Rattle.sf_core.proofs.RaceInstances.{held_regions-holds}
 use Rattle.sf_core.proofs.machine_instances.held_regions_wait.Goals as goal
 
 pub returns : goal.returns

@@ -1,0 +1,84 @@
+-- The worked instances of starts with a resource.
+-- Names: `WHAT-holds` proves the statement of that name.
+use Rattle.std.specs.Prelude.{◌≡◌, ℕ, zero, suc, cond, ◌==◌, ◌&&◌, [], ◌∷◌, length, Some, None, ◌<◌}
+use Rattle.std.specs.List.{slice_get}
+use Rattle.std.proofs.Common.{sym, ap, ap₂, refl, subst, inl, inr, arith}
+use Rattle.sf_base.specs.declared.ids.ResId.{ResId}
+use Rattle.sf_base.specs.declared.ids.Var.{Var}
+use Rattle.sf_base.specs.declared.ids.Var.TheVariants.{Shared}
+use Rattle.sf_base.specs.declared.value.Value.{Value}
+use Rattle.sf_base.specs.declared.value.Value.TheVariants.{Nil as nil, Loc as loc}
+use Rattle.sf_core.proofs.Cases.{and-both, none-not_some}
+use Rattle.sf_core.proofs.GoodInstances.{at-location}
+use Rattle.sf_core.proofs.HeapSplits.{one-not_empty, one-single, at-same, star-drop_left, star-drop_right, star-empty_left, star-empty_right, star-map_left}
+use Rattle.sf_core.proofs.MachineInstances.{cond-some, one-sat, sat-one}
+use Rattle.sf_core.specs.Config.{seen}
+use Rattle.sf_core.specs.HeapStore.{Slot, shared, own, ◌⋆◌}
+use Rattle.sf_core.specs.HeldBy.{HeldBy}
+use Rattle.sf_core.specs.MachineInstances.{lock, at_shared, shared_one, emp, guarding, skip, takes, guarded, one_at, one_cell_at, shared_in, SkipStartsWithTheInvariant, SkipStartsWithNothingElse, SkipDoesNotStartWithNothing, HoldersDoNotStart}
+use Rattle.sf_core.specs.Occurs.{VarOccursIn}
+use Rattle.sf_core.specs.Sat.{Sat}
+use Rattle.sf_core.specs.Start.{IsKept, Invariants, entry_slot}
+use Rattle.sf_core.specs.Syntax.{Procedure, Resource}
+
+-- what stands in a list of one
+only-there : {X : Type 0} (x y : X) (n : ℕ) → slice_get (x ∷ []) n ≡ Some y → (n ≡ 0) × (x ≡ y)
+only-there x y zero e = (refl, cc)
+only-there x y (suc n) e = absurd (none-not_some y e)
+
+-- the variable of the resource stands in its invariant
+shared-occurs : VarOccursIn (one_cell_at shared_one).level (Shared lock 0)
+shared-occurs = (at_shared, refl, (inl (inl refl), tt))
+
+pub skip_starts-holds : SkipStartsWithTheInvariant
+skip_starts-holds k = record {
+  procedure = skip;
+  there = refl;
+  is = refl;
+  holds_none = held;
+  kept = kept;
+  no_more = no_more;
+  locals = λ i l m. absurd (omega (arith, l, m));
+  pre = star-map_left (λ part e. (λ n. nil, λ n h. refl, e)) (star-empty_left (star-empty_right (one-sat shared_one (seen entry_slot (shared_in (loc 1))) (one_at k) 1 k refl (one-single 1 k))));
+}
+  where
+    nothing-occurs : (x : Var) → VarOccursIn emp.level x → ⊥
+    nothing-occurs x o = o.2.0
+
+    held : (r : ResId) → HeldBy guarded (record { 0 = 0 }) r → ⊥
+    held r h =
+        let same : skip ≡ h.procedure = cc (h.there) in
+        elim h.occurs [
+          | inl o ↦ nothing-occurs (Shared r h.variable) (subst (λ (z : Procedure). VarOccursIn z.pre.level (Shared r h.variable)) (sym same) o)
+          | inr o ↦ nothing-occurs (Shared r h.variable) (subst (λ (z : Procedure). VarOccursIn z.post.level (Shared r h.variable)) (sym same) o)
+        ]
+
+    kept : (slot : Slot) → IsKept guarded skip slot → (v : Value) × (shared_in (loc 1) slot ≡ Some v)
+    kept (shared r i) q =
+        let one = only-there guarding q.0 r.0 q.1 in
+        let below : i < 1 = subst (λ (z : Resource). i < length z.variables) (sym one.1) q.2 in
+        let first : i ≡ 0 = omega arith in
+        (loc 1, ap₂ (λ a b. cond ((a == 0) && (b == 0)) (Some (loc 1)) None) one.0 first)
+    kept (own e i) q = absurd (omega (arith, q.1))
+
+    no_more : (slot : Slot) (v : Value) → shared_in (loc 1) slot ≡ Some v → IsKept guarded skip slot
+    no_more (shared r i) v e =
+        let b = and-both (r.0 == 0) (i == 0) (cond-some ((r.0 == 0) && (i == 0)) (loc 1) v e) in
+        let first : i ≡ 0 = at-same 0 i b.1 in
+        let below : i < 1 = omega arith in
+        (guarding, ap (slice_get (guarding ∷ [])) (at-same 0 r.0 b.0), below)
+    no_more (own f i) v e = absurd (none-not_some v e)
+
+pub skip_starts_with-holds : SkipStartsWithNothingElse
+skip_starts_with-holds store heap c s =
+    let same : skip ≡ s.procedure = cc (s.there) in
+    let pre : (Sat emp.level (seen entry_slot store) (λ n. nil) ⋆ Invariants guarded.resources store) heap =
+    subst (λ (z : Procedure). (Sat z.pre.level (seen entry_slot store) (λ n. nil) ⋆ Invariants guarded.resources store) heap) (sym same) s.pre in
+    let d = sat-one shared_one (seen entry_slot store) heap (star-drop_right (star-drop_left (star-map_left (λ part e. e.2) pre))) in
+    (d.0, d.1, at-location (store (shared lock 0)) d.0 d.2, d.3)
+
+pub skip_does_not_start-holds : SkipDoesNotStartWithNothing
+skip_does_not_start-holds store heap c none s = let d = skip_starts_with-holds store heap c s in one-not_empty d.3 none
+
+pub holders_do_not_start-holds : HoldersDoNotStart
+holders_do_not_start-holds store heap c s = s.holds_none lock (record { procedure = takes; there = refl; variable = 0; occurs = inl shared-occurs })
