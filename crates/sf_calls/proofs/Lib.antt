@@ -8,3 +8,5 @@ pub mod Rows
 pub mod Least
 pub mod Gathered
 pub mod OneBreach
+pub mod Had
+pub mod SetsHad

@@ -1,6 +1,7 @@
--- A program has one first breach, or none.
+-- A program has one first breach, or none; and there is one proof at most that it has none.
 use Rattle.std.proofs.Common.{◌≡◌, ℕ, suc, List, [], ◌∷◌, ◌++◌, Option, Some, None, Contains, refl, sym, ap, inl, inr, ◌∙◌}
 use Rattle.std.proofs.lemmas.Option.{same_Some, none-some}
+use Rattle.sf_base.specs.declared.ids.ProcId.{ProcId}
 use Rattle.sf_base.specs.declared.ids.Var.{Var}
 use Rattle.sf_core.specs.declared.assertion.Operand.{Operand}
 use Rattle.sf_core.specs.declared.assertion.Operand.TheVariants.{Known, Exists}
@@ -15,34 +16,45 @@ use Rattle.sf_calls.specs.declared.breach.Breach.TheVariants.{NotHeld, Reentered
 use Rattle.sf_calls.specs.Conditions.{Takes, Free}
 use Rattle.sf_calls.specs.First.{nothing, where_, first, first_of}
 use Rattle.sf_calls.specs.FirstBreach.{Around, inside, IsHeld, IsUnheld, resources_from, variables_from, UnheldAt, UnheldInExpr, UnheldInOperand, UnheldInTest, UnheldInLevel, UnheldInConjuncts, UnheldInConjunct, UnheldInCall, ReentersByCall, Repeats, PassesFree, Shares, named_in, SharesInFork, InBlock, InCommand, InProcedures}
-use Rattle.sf_calls.specs.Laws.{FirstBreachIsDetermined}
+use Rattle.sf_calls.specs.Laws.{ConditionsAreHad, FirstBreachIsDetermined}
+use Rattle.sf_calls.proofs.Had.{had_once}
 use Rattle.sf_calls.proofs.Searches.{proc}
 
--- at most one answer
-abbrev pub IsOne : {A : Type 0} → (Option A → Type 0) → Type 0
-IsOne {A} P = (r q : Option A) → P r → P q → r ≡ q
+-- at most one answer, and one proof at most that nothing is found
+pub record IsOne {A : Type 0} (P : Option A → Type 0) : Type 0 where
+  pub same : (r q : Option A) → P r → P q → r ≡ q
+  pub once : IsProp (P None)
 
 one_nothing : {A : Type 0} → IsOne (nothing {A = A})
-one_nothing None None h k = refl
-one_nothing None (Some b) h k = absurd k
-one_nothing (Some a) q h k = absurd h
+one_nothing {A} = record { same = same; once = hlevel }
+  where
+    same : (r q : Option A) → nothing r → nothing q → r ≡ q
+    same None None h k = refl
+    same None (Some b) h k = absurd k
+    same (Some a) q h k = absurd h
 
 one_where : {A : Type 0} (C : Type 0) (b : A) → IsOne (where_ C b)
-one_where C b None None h k = refl
-one_where C b None (Some c) h k = absurd (h k.0)
-one_where C b (Some a) None h k = absurd (k h.0)
-one_where C b (Some a) (Some c) h k = ap Some (h.1 ∙ sym k.1)
+one_where {A} C b = record { same = same; once = hlevel }
+  where
+    same : (r q : Option A) → where_ C b r → where_ C b q → r ≡ q
+    same None None h k = refl
+    same None (Some c) h k = absurd (h k.0)
+    same (Some a) None h k = absurd (k h.0)
+    same (Some a) (Some c) h k = ap Some (h.1 ∙ sym k.1)
 
 one_first : {A : Type 0} (P Q : Option A → Type 0) → IsOne P → IsOne Q → IsOne (first P Q)
-one_first P Q p q None None h k = refl
-one_first P Q p q None (Some b) h (inl k) = p None (Some b) h.0 k
-one_first P Q p q None (Some b) h (inr k) = q None (Some b) h.1 k.1
-one_first P Q p q (Some a) None (inl h) k = p (Some a) None h k.0
-one_first P Q p q (Some a) None (inr h) k = q (Some a) None h.1 k.1
-one_first P Q p q (Some a) (Some b) (inl h) (inl k) = p (Some a) (Some b) h k
-one_first P Q p q (Some a) (Some b) (inl h) (inr k) = absurd (none-some a (p None (Some a) k.0 h))
-one_first P Q p q (Some a) (Some b) (inr h) (inl k) = absurd (none-some b (p None (Some b) h.0 k))
-one_first P Q p q (Some a) (Some b) (inr h) (inr k) = q (Some a) (Some b) h.1 k.1
+one_first {A} P Q p q = record { same = same; once = hlevel (p.once, q.once) }
+  where
+    same : (r s : Option A) → first P Q r → first P Q s → r ≡ s
+    same None None h k = refl
+    same None (Some b) h (inl k) = p.same None (Some b) h.0 k
+    same None (Some b) h (inr k) = q.same None (Some b) h.1 k.1
+    same (Some a) None (inl h) k = p.same (Some a) None h k.0
+    same (Some a) None (inr h) k = q.same (Some a) None h.1 k.1
+    same (Some a) (Some b) (inl h) (inl k) = p.same (Some a) (Some b) h k
+    same (Some a) (Some b) (inl h) (inr k) = absurd (none-some a (p.same None (Some a) k.0 h))
+    same (Some a) (Some b) (inr h) (inl k) = absurd (none-some b (p.same None (Some b) h.0 k))
+    same (Some a) (Some b) (inr h) (inr k) = q.same (Some a) (Some b) h.1 k.1
 
 one_first_of : {A X : Type 0} (P : X → Option A → Type 0) → ((x : X) → IsOne (P x)) → (xs : List X) → IsOne (first_of P xs)
 one_first_of P p [] = one_nothing
@@ -129,20 +141,30 @@ mutual
 abbrev start : Program → ℕ → Around
 start p k = record { program = p; procedure = record { 0 = k }; entered = [] }
 
+one_procedure : (p : Program) (k : ℕ) (h : Procedure) (hs : List Procedure) → IsOne (InBlock (start p k) h.body) → IsOne (InProcedures p (suc k) hs) → IsOne (InProcedures p k (h ∷ hs))
+one_procedure p k h hs here more = record { same = same; once = hlevel (here.once, more.once) }
+  where
+    same : (r q : Option (ProcId × Breach)) → InProcedures p k (h ∷ hs) r → InProcedures p k (h ∷ hs) q → r ≡ q
+    same None None x y = refl
+    same None (Some (g, c)) x (inl y) = absurd (none-some c (here.same None (Some c) x.0 y.1))
+    same None (Some (g, c)) x (inr y) = more.same None (Some (g, c)) x.1 y.1
+    same (Some (f, b)) None (inl x) y = absurd (none-some b (here.same None (Some b) y.0 x.1))
+    same (Some (f, b)) None (inr x) y = more.same (Some (f, b)) None x.1 y.1
+    same (Some (f, b)) (Some (g, c)) (inl x) (inl y) =
+        let one_breach : b ≡ c = same_Some b c (here.same (Some b) (Some c) x.1 y.1) in
+        let one : f ≡ g = ap proc (x.0 ∙ sym y.0) in
+        cc
+    same (Some (f, b)) (Some (g, c)) (inl x) (inr y) = absurd (none-some b (here.same None (Some b) y.0 x.1))
+    same (Some (f, b)) (Some (g, c)) (inr x) (inl y) = absurd (none-some c (here.same None (Some c) x.0 y.1))
+    same (Some (f, b)) (Some (g, c)) (inr x) (inr y) = more.same (Some (f, b)) (Some (g, c)) x.1 y.1
+
 one_procedures : (p : Program) (k : ℕ) (hs : List Procedure) → IsOne (InProcedures p k hs)
-one_procedures p k [] r q x y = one_nothing r q x y
-one_procedures p k (h ∷ hs) None None x y = refl
-one_procedures p k (h ∷ hs) None (Some (g, c)) x (inl y) = absurd (none-some c (one_block (start p k) h.body None (Some c) x.0 y.1))
-one_procedures p k (h ∷ hs) None (Some (g, c)) x (inr y) = one_procedures p (suc k) hs None (Some (g, c)) x.1 y.1
-one_procedures p k (h ∷ hs) (Some (f, b)) None (inl x) y = absurd (none-some b (one_block (start p k) h.body None (Some b) y.0 x.1))
-one_procedures p k (h ∷ hs) (Some (f, b)) None (inr x) y = one_procedures p (suc k) hs (Some (f, b)) None x.1 y.1
-one_procedures p k (h ∷ hs) (Some (f, b)) (Some (g, c)) (inl x) (inl y) =
-    let same : b ≡ c = same_Some b c (one_block (start p k) h.body (Some b) (Some c) x.1 y.1) in
-    let one : f ≡ g = ap proc (x.0 ∙ sym y.0) in
-    cc
-one_procedures p k (h ∷ hs) (Some (f, b)) (Some (g, c)) (inl x) (inr y) = absurd (none-some b (one_block (start p k) h.body None (Some b) y.0 x.1))
-one_procedures p k (h ∷ hs) (Some (f, b)) (Some (g, c)) (inr x) (inl y) = absurd (none-some c (one_block (start p k) h.body None (Some c) x.0 y.1))
-one_procedures p k (h ∷ hs) (Some (f, b)) (Some (g, c)) (inr x) (inr y) = one_procedures p (suc k) hs (Some (f, b)) (Some (g, c)) x.1 y.1
+one_procedures p k [] = let none : IsOne (nothing {A = ProcId × Breach}) = one_nothing in record { same = none.same; once = none.once }
+one_procedures p k (h ∷ hs) = one_procedure p k h hs (one_block (start p k) h.body) (one_procedures p (suc k) hs)
 
 pub one_breach : FirstBreachIsDetermined
-one_breach p = one_procedures p 0 p.procedures
+one_breach p = (one_procedures p 0 p.procedures).same
+
+-- there is one proof at most that no condition is broken
+pub conditions_had : ConditionsAreHad
+conditions_had p = had_once (one_procedures p 0 p.procedures).once

@@ -1,4 +1,4 @@
--- The sets are least: closed under their rules, and contained in every family that is.
+-- The sets are least: closed under their rules, and contained in every family that is. And what a type keeps truncated is had.
 -- What an inductive definition states, after Tarski, "A lattice-theoretical fixpoint theorem" (1955). Families are given by tests.
 use Rattle.std.specs.Prelude.{◌≡◌, Bool, IsTrue, Option, None}
 use Rattle.sf_base.specs.declared.ids.ProcId.{ProcId}
@@ -7,8 +7,9 @@ use Rattle.sf_base.specs.declared.ids.Var.{Var}
 use Rattle.sf_core.specs.Syntax.{Program}
 use Rattle.sf_calls.specs.Conditions.{Calls, Enters, Mentions, Takes, Free, IsShared}
 use Rattle.sf_calls.specs.declared.breach.Breach.{Breach}
-use Rattle.sf_calls.specs.FirstBreach.{FirstBreach}
+use Rattle.sf_calls.specs.FirstBreach.{FirstBreach, Conditions}
 use Rattle.sf_calls.specs.Outside.{owner}
+use Rattle.sf_calls.specs.Sets.{Sets, AreSetsOf}
 
 -- the rules of Takes, for a family of sets
 pub record IsTakesClosed (p : Program) (T : ProcId → ResId → Type 0) : Type 0 where
@@ -33,3 +34,11 @@ pub record FreeIsLeast : Type 0 where
 -- a program has one first breach, or none
 abbrev pub FirstBreachIsDetermined : Type 0
 FirstBreachIsDetermined = (p : Program) (r q : Option (ProcId × Breach)) → FirstBreach p r → FirstBreach p q → r ≡ q
+
+-- whoever holds that the sets are the program's, and not how that was found, has that they are
+abbrev pub SetsAreHad : Type 0
+SetsAreHad = (p : Program) (sets : Sets) → ∥ AreSetsOf p sets ∥₁ → AreSetsOf p sets
+
+-- whoever holds that no condition is broken has it
+abbrev pub ConditionsAreHad : Type 0
+ConditionsAreHad = (p : Program) → ∥ Conditions p ∥₁ → Conditions p

@@ -1,6 +1,8 @@
-//! That the sets are the least ones, and that what first breaks a condition is one. Each function does nothing; its contract is the law.
+//! That the sets are the least ones, that what first breaks a condition is one, and that whoever
+//! holds no more than that such a fact is, has it. Each function does nothing; its contract is the
+//! law.
 
-ghost use Rattle.sf_calls.specs.Laws.{TakesIsLeast, FreeIsLeast, FirstBreachIsDetermined};
+ghost use Rattle.sf_calls.specs.Laws.{ConditionsAreHad, FirstBreachIsDetermined, FreeIsLeast, SetsAreHad, TakesIsLeast};
 
 /// What procedures take is closed under its rules, and contained in whatever is.
 pub fn takes_is_least()
@@ -15,4 +17,14 @@ pub fn free_is_least()
 /// A program has one first breach of the conditions on variables, or none.
 pub fn first_breach_is_determined()
     ensures { FirstBreachIsDetermined }
+{}
+
+/// Whoever holds that sets are the program's, and not how that was found, has that they are.
+pub fn sets_are_had()
+    ensures { SetsAreHad }
+{}
+
+/// Whoever holds that no condition on variables is broken has it.
+pub fn conditions_are_had()
+    ensures { ConditionsAreHad }
 {}

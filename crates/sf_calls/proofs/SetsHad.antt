@@ -1,0 +1,98 @@
+-- What a program's procedures take, hold and have free is had, and so are the sets of it.
+use Rattle.std.proofs.Common.{◌≡◌, ◌⊎◌, ◌↔◌, ℕ, ◌==◌, Bool, true, ◌||◌, List, Option, None, slice_get, Contains}
+use Rattle.std.proofs.Math.Logic.{∥∥₁_map}
+use Rattle.std.proofs.Math.Nat.{ℕ_set}
+use Rattle.std.specs.Bool.{Decides}
+use Rattle.std.proofs.lemmas.Bool.Decides.{Decides-ltb, Decides-or}
+use Rattle.sf_base.specs.declared.ids.ProcId.{ProcId}
+use Rattle.sf_base.specs.declared.ids.ResId.{ResId}
+use Rattle.sf_base.specs.declared.ids.Var.{Var}
+use Rattle.sf_base.specs.declared.ids.Var.TheVariants.{Own, Shared}
+use Rattle.sf_core.specs.HeldBy.{HeldBy}
+use Rattle.sf_core.specs.Occurs.{VarOccursIn}
+use Rattle.sf_core.specs.Syntax.{Procedure, Program}
+use Rattle.sf_calls.specs.Conditions.{Calls, Enters, Free, Has, IsShared, Mentions, Takes}
+use Rattle.sf_calls.specs.Laws.{SetsAreHad}
+use Rattle.sf_calls.specs.Outside.{CallsIn, EntersIn, OccursOutside, owner}
+use Rattle.sf_calls.specs.Sets.{IsEarlier, IsEarlierResource, IsFamily, IsSetOf}
+use Rattle.sf_calls.specs.Tests.{callees_in, enters_in, in_level, mentions, same_var}
+use Rattle.sf_calls.proofs.Decided.{callees_in_are, enters_in_is, in_block_is, in_level_is, same_resource, var_is}
+use Rattle.sf_calls.proofs.Gathered.{earlier_is}
+use Rattle.sf_calls.proofs.Had.{IsHad, had_both, had_contains, had_decided, had_exactly, had_leads, had_like, had_number, had_once, had_pairs, listed, listed_is, passes, passes_is}
+
+-- the procedures that the procedure calls outside the regions of the resource that is left out
+abbrev called : Program → Option ResId → ProcId → List ProcId
+called p but f = listed (λ (h : Procedure). callees_in but h.body) (slice_get p.procedures f.0)
+
+-- they are those
+called_are : (p : Program) (but : Option ResId) (f g : ProcId) → Contains (called p but f) g ↔ Calls p but f g
+called_are p but f g = listed_is (λ (h : Procedure). callees_in but h.body) (λ h k. CallsIn but k h.body) (λ h k. callees_in_are but k h.body) (slice_get p.procedures f.0) g
+
+-- a test of the procedure of that number decides whether it is one of those
+has_is : (p : Program) (t : Procedure → Bool) (P : Procedure → Type 0) → ((h : Procedure) → Decides (t h) (P h)) → (f : ProcId) → Decides (passes t (slice_get p.procedures f.0)) (Has p P f)
+has_is p t P is f = passes_is t P is (slice_get p.procedures f.0)
+
+-- that a procedure takes a resource
+takes_had : (p : Program) (f : ProcId) (r : ResId) → IsHad (Takes p f r)
+takes_had p f r = had_leads (Enters p r) (Calls p None) _ (called p None) (has_is p (λ h. enters_in r h.body) (λ h. EntersIn r h.body) (λ h. enters_in_is r h.body)) (called_are p None) f
+
+-- the test decides whether a procedure mentions a variable
+mentions_is : (x : Var) (h : Procedure) → Decides (mentions x h) (VarOccursIn h.pre.level x ⊎ (VarOccursIn h.post.level x ⊎ OccursOutside x h.body))
+mentions_is x h = Decides-or _ _ (in_level_is x h.pre.level) (Decides-or _ _ (in_level_is x h.post.level) (in_block_is x h.body))
+
+-- that a variable is a resource's
+shared_had : (x : Var) → IsHad (IsShared x)
+shared_had (Own n) = had_once hlevel
+shared_had (Shared r i) = had_once hlevel
+
+-- that a variable is free in a procedure
+free_had : (p : Program) (f : ProcId) (x : Var) → IsHad (Free p f x)
+free_had p f x = had_both (shared_had x) (had_leads (Mentions p x) (Calls p (owner x)) _ (called p (owner x)) (has_is p (mentions x) _ (mentions_is x)) (called_are p (owner x)) f)
+
+-- that variable of the resource stands in the procedure's pre or post
+abbrev speaks_at : Program → ProcId → ResId → ℕ → Bool
+speaks_at p f r n = passes (λ (h : Procedure). in_level (Shared r n) h.pre.level || in_level (Shared r n) h.post.level) (slice_get p.procedures f.0)
+
+-- it decides that
+speaks_is : (p : Program) (f : ProcId) (r : ResId) (n : ℕ) → Decides (speaks_at p f r n) (Has p (λ h. VarOccursIn h.pre.level (Shared r n) ⊎ VarOccursIn h.post.level (Shared r n)) f)
+speaks_is p f r n = has_is p _ _ (λ h. Decides-or _ _ (in_level_is (Shared r n) h.pre.level) (in_level_is (Shared r n) h.post.level)) f
+
+-- that a procedure holds a resource
+holds_had : (p : Program) (f : ProcId) (r : ResId) → IsHad (HeldBy p f r)
+holds_had p f r = had_like to from (had_number (speaks_at p f r))
+  where
+    to : (n : ℕ) × (speaks_at p f r n ≡ true) → HeldBy p f r
+    to x = let h = (speaks_is p f r x.0).0 x.1 in record { procedure = h.0; there = h.1; variable = x.0; occurs = h.2 }
+
+    from : HeldBy p f r → (n : ℕ) × (speaks_at p f r n ≡ true)
+    from h = (h.variable, (speaks_is p f r h.variable).1 (h.procedure, h.there, h.occurs))
+
+-- that a list is such a set
+set_had : {A : Type 0} (same : A → A → Bool) → ((x y : A) → Decides (same x y) (x ≡ y)) → (B : A → A → Type 0) → ((x y : A) → IsHad (B x y)) → (P : A → Type 0) → ((x : A) → IsHad (P x)) → (xs : List A) → IsHad (IsSetOf B P xs)
+set_had same is B order P had xs h = record {
+  ordered = had_pairs B order xs (∥∥₁_map h (λ s. s.ordered));
+  members = λ x. had_exactly (had_contains same is xs x) (had x) (∥∥₁_map h (λ s. s.members x));
+}
+
+-- that lists are such sets, each for its procedure
+family_had : {A : Type 0} (Is : (A → Type 0) → List A → Type 0) (P : ProcId → A → Type 0) → ((f : ProcId) (xs : List A) → IsHad (Is (P f) xs)) → (count : ℕ) (sets : List (List A)) → IsHad (IsFamily Is P count sets)
+family_had Is P had count sets h = record {
+  each = had_once (ℕ_set _ _) (∥∥₁_map h (λ s. s.each));
+  is = λ f xs here. had f xs (∥∥₁_map h (λ s. s.is f xs here));
+}
+
+-- that a variable comes before another
+earlier_had : (x y : Var) → IsHad (IsEarlier x y)
+earlier_had x y = had_decided _ (earlier_is x y)
+
+-- that a resource comes before another
+earlier_resource_had : (r q : ResId) → IsHad (IsEarlierResource r q)
+earlier_resource_had r q = had_decided _ (Decides-ltb r.0 q.0)
+
+-- that sets are the program's
+pub sets_had : SetsAreHad
+sets_had p sets h = record {
+  takes = family_had _ (Takes p) (λ f. set_had (λ r q. r.0 == q.0) same_resource IsEarlierResource earlier_resource_had (Takes p f) (takes_had p f)) _ sets.takes (∥∥₁_map h (λ s. s.takes));
+  holds = family_had _ (HeldBy p) (λ f. set_had (λ r q. r.0 == q.0) same_resource IsEarlierResource earlier_resource_had (HeldBy p f) (holds_had p f)) _ sets.holds (∥∥₁_map h (λ s. s.holds));
+  free = family_had _ (Free p) (λ f. set_had same_var var_is IsEarlier earlier_had (Free p f) (free_had p f)) _ sets.free (∥∥₁_map h (λ s. s.free));
+}
