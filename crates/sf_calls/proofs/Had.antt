@@ -21,6 +21,10 @@ IsHad P = ∥ P ∥₁ → P
 pub had_once : {P : Type 0} → IsProp P → IsHad P
 had_once once h = ∥∥₁_elim h once (λ x. x)
 
+-- what never is
+pub had_never : {P : Type 0} → (P → ⊥) → IsHad P
+had_never never h = absurd (∥∥₁_elim h (hlevel) never)
+
 -- what a test decides
 pub had_decided : {P : Type 0} (b : Bool) → Decides b P → IsHad P
 had_decided b d h = d.0 (∥∥₁_elim h (Bool-set b true) d.1)

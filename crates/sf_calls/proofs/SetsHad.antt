@@ -18,7 +18,7 @@ use Rattle.sf_calls.specs.Sets.{IsEarlier, IsEarlierResource, IsFamily, IsSetOf}
 use Rattle.sf_calls.specs.Tests.{callees_in, enters_in, in_level, mentions, same_var}
 use Rattle.sf_calls.proofs.Decided.{callees_in_are, enters_in_is, in_block_is, in_level_is, same_resource, var_is}
 use Rattle.sf_calls.proofs.Gathered.{earlier_is}
-use Rattle.sf_calls.proofs.Had.{IsHad, had_both, had_contains, had_decided, had_exactly, had_leads, had_like, had_number, had_once, had_pairs, listed, listed_is, passes, passes_is}
+use Rattle.sf_calls.proofs.Had.{IsHad, had_both, had_contains, had_decided, had_exactly, had_leads, had_like, had_never, had_number, had_once, had_pairs, listed, listed_is, passes, passes_is}
 
 -- the procedures that the procedure calls outside the regions of the resource that is left out
 abbrev called : Program → Option ResId → ProcId → List ProcId
@@ -42,7 +42,7 @@ mentions_is x h = Decides-or _ _ (in_level_is x h.pre.level) (Decides-or _ _ (in
 
 -- that a variable is a resource's
 shared_had : (x : Var) → IsHad (IsShared x)
-shared_had (Own n) = had_once hlevel
+shared_had (Own n) = had_never (λ h. h)
 shared_had (Shared r i) = had_once hlevel
 
 -- that a variable is free in a procedure

@@ -6,18 +6,18 @@ use Rattle.sf_core.specs.declared.assertion.Operand.TheVariants.{Exists}
 use Rattle.sf_core.specs.declared.assertion.Scope.{Scope}
 use Rattle.sf_core.specs.declared.assertion.Test.{Test}
 use Rattle.sf_core.proofs.Cases.{and-both, not-true}
-use Rattle.sf_core.specs.Determined.{CanBeTaken, Determined, HasOrder, IsReady, branches, known_inside, plain}
+use Rattle.sf_core.specs.Determined.{CanBeTaken, Determined, HasOrder, known_inside}
 use Rattle.sf_core.specs.InOrder.{StandsInOrder}
-use Rattle.sf_core.specs.Occurs.{OccursInAll, OccursInOne, is_made}
-use Rattle.sf_core.specs.Syntax.{Conjunct, choose, Conjuncts, Level, level}
+use Rattle.sf_core.specs.Occurs.{OccursInAll, is_made}
+use Rattle.sf_core.specs.Syntax.{choose, Conjuncts, Level, level}
 use Rattle.sf_precise.specs.declared.fault.OrderFault.{OrderFault}
 use Rattle.sf_precise.specs.declared.fault.OrderFault.TheVariants.{Undetermined, OutOfMemory}
 use Rattle.sf_precise.specs.Order.{IsOrder, IsOrderFrom}
-use Rattle.sf_precise.specs.Prepared.{HasOrderInside, IsBranch, IsSuppliedLevel}
+use Rattle.sf_precise.specs.Prepared.{IsBranch, IsSuppliedLevel}
 use Rattle.sf_precise.specs.Taken.{IfUndetermined, NeverTakenFrom}
 use Rattle.sf_precise.specs.Waits.{known_outside}
 use Rattle.sf_precise.proofs.Agree.{agree-is_order, agree-order}
-use Rattle.sf_precise.proofs.Greedy.{order-has, order-stands}
+use Rattle.sf_precise.proofs.Greedy.{order-has, order-stands, taken-branches, taken-supplied}
 use Rattle.sf_precise.proofs.NeverTaken.{never-no_order}
 
 inside-outside : (made : Scope) (known : ℕ → Bool) (n : ℕ) → known_inside made known n ≡ true → known_outside (Some made) n ≡ true
@@ -46,24 +46,10 @@ module _ {E : Type 0} where
 
   -- a choice of which a branch has no order is never taken
   pub choice-never_this : (known : ℕ → Bool) (p : Place) (t : Test (Operand E)) (this that : Level E) → IsBranch this None → CanBeTaken known (choose p t this that) → ⊥
-  choice-never_this known p t this that n f = go (choose p t this that) refl f
-    where
-      go : (c : Conjunct E) → c ≡ choose p t this that → CanBeTaken known c → ⊥
-      go c e (plain i) = subst (IsReady known) e i
-      go c e (branches q u made other cs ds i s a b) =
-          let both : choose p t this that ≡ choose q u (level made cs) (level other ds) = sym e ∙ i in
-          let same : this ≡ level made cs = cc in
-          n known (λ k o. s k (subst (λ z. OccursInOne z (Exists k)) (sym e) (inr (inl o)))) (subst (HasOrderInside known) (sym same) a)
+  choice-never_this known p t this that n f = n known (λ k o. taken-supplied known (choose p t this that) p t this that refl f k (inr (inl o))) (taken-branches known p t this that f).0
 
   pub choice-never_that : (known : ℕ → Bool) (p : Place) (t : Test (Operand E)) (this that : Level E) → IsBranch that None → CanBeTaken known (choose p t this that) → ⊥
-  choice-never_that known p t this that n f = go (choose p t this that) refl f
-    where
-      go : (c : Conjunct E) → c ≡ choose p t this that → CanBeTaken known c → ⊥
-      go c e (plain i) = subst (IsReady known) e i
-      go c e (branches q u made other cs ds i s a b) =
-          let both : choose p t this that ≡ choose q u (level made cs) (level other ds) = sym e ∙ i in
-          let same : that ≡ level other ds = cc in
-          n known (λ k o. s k (subst (λ z. OccursInOne z (Exists k)) (sym e) (inr (inr o)))) (subst (HasOrderInside known) (sym same) b)
+  choice-never_that known p t this that n f = n known (λ k o. taken-supplied known (choose p t this that) p t this that refl f k (inr (inr o))) (taken-branches known p t this that f).1
 
   -- a level in order is determined, and one with a conjunct that is never taken is not
   pub ordered-determined : (a o : Level E) → IsOrderFrom (λ n. false) a o → Determined a

@@ -1,7 +1,7 @@
 -- What the order that takes the first ready conjunct is: an order, which stands as it is written.
 -- Names: `order-LAW` speaks of conjuncts in order, `within-LAW` of one conjunct with its branches in order.
 use Rattle.std.specs.Prelude.{◌≡◌, ℕ, Bool, true, ◌||◌}
-use Rattle.std.proofs.Common.{sym, ap, refl, subst, inl, inr}
+use Rattle.std.proofs.Common.{sym, ap, refl, ◌∙◌, subst, inl, inr}
 use Rattle.sf_core.specs.declared.assertion.Operand.{Operand}
 use Rattle.sf_core.specs.declared.assertion.Operand.TheVariants.{Known, Exists}
 use Rattle.sf_core.specs.declared.assertion.Test.TheVariants.{True, Equal, Differ}
@@ -11,6 +11,7 @@ use Rattle.sf_core.specs.InOrder.{InOrder, InOrderInside, IsNext, IsSupplied, is
 use Rattle.sf_core.specs.Occurs.{OccursIn, OccursInAll, OccursInOne}
 use Rattle.sf_core.specs.Syntax.{Conjunct, holds, points, segment, tree, choose, Level, level, Conjuncts, none, also}
 use Rattle.sf_precise.specs.Order.{IsOrder, IsOrderInside, IsOrderWithin}
+use Rattle.sf_precise.specs.Prepared.{HasOrderInside}
 use Rattle.sf_precise.proofs.Agree.{first-leaves, leaves-occurs_one, leaves-occurs_rest}
 
 module _ {E : Type 0} where
@@ -58,6 +59,19 @@ module _ {E : Type 0} where
   taken-supplied known c p t this that e (plain i) = absurd (subst (IsReady known) e i)
   taken-supplied known c p t this that e (branches q u made other these those i o a b) = o
 
+  -- the branches of a choice that can be taken have an order
+  pub taken-branches : (known : ℕ → Bool) (p : _) (t : _) (this that : Level E) → CanBeTaken known (choose p t this that) → HasOrderInside known this × HasOrderInside known that
+  taken-branches known p t this that f = go (choose p t this that) refl f
+    where
+      go : (c : Conjunct E) → c ≡ choose p t this that → CanBeTaken known c → HasOrderInside known this × HasOrderInside known that
+      go c e (plain i) = absurd (subst (IsReady known) e i)
+      go c e (branches q u made other these those i o a b) =
+          let both : choose p t this that ≡ choose q u (level made these) (level other those) = sym e ∙ i in
+          let one : this ≡ level made these = cc in
+          let two : that ≡ level other those = cc in
+          (subst (HasOrderInside known) (sym one) a, subst (HasOrderInside known) (sym two) b)
+
+  -- what can be taken and has no branches is ready
   pub ready-plain : (known : ℕ → Bool) (c : Conjunct E) → CanBeTaken known c → ((p : _) (t : _) (this that : Level E) → c ≡ choose p t this that → ⊥) → IsReady known c
   ready-plain known c (plain i) n = i
   ready-plain known c (branches p t made other this that i o a b) n = absurd (n p t (level made this) (level other that) i)

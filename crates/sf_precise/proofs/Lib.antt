@@ -9,3 +9,5 @@ pub mod Sequences
 pub mod Branches
 pub mod OrderMeaning
 pub mod Noted
+pub mod TakenDecided
+pub mod OrdersHad

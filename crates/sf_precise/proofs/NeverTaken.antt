@@ -45,7 +45,7 @@ module _ {E : Type 0} where
   leaves-is (also b bs) c rest (inl l) = inl l.0
   leaves-is (also b bs) c rest (inr l) = inr (leaves-is bs c l.0 l.1)
 
-  leaves-within : (cs : Conjuncts E) (c : Conjunct E) (rest : Conjuncts E) (d : Conjunct E) → Leaves cs c rest → IsAmong rest d → IsAmong cs d
+  pub leaves-within : (cs : Conjuncts E) (c : Conjunct E) (rest : Conjuncts E) (d : Conjunct E) → Leaves cs c rest → IsAmong rest d → IsAmong cs d
   leaves-within none c rest d l i = absurd l
   leaves-within (also b bs) c rest d (inl l) i = inr (subst (λ z. IsAmong z d) (sym l.1) i)
   leaves-within (also b bs) c rest d (inr l) i = either (subst (λ z. IsAmong z d) l.2 i) (λ e. inl e) (λ j. inr (leaves-within bs c l.0 d l.1 j))

@@ -67,7 +67,7 @@ module _ {E : Type 0} (v : E → Value) where
 
 module _ {E : Type 0} where
   -- the first that is ready is one
-  first-one : (known : ℕ → Bool) (cs : Conjuncts E) (c d : Conjunct E) (rest others : Conjuncts E) → IsFirstReady known cs c rest → IsFirstReady known cs d others → (c ≡ d) × (rest ≡ others)
+  pub first-one : (known : ℕ → Bool) (cs : Conjuncts E) (c d : Conjunct E) (rest others : Conjuncts E) → IsFirstReady known cs c rest → IsFirstReady known cs d others → (c ≡ d) × (rest ≡ others)
   first-one known none c d rest others i j = absurd i
   first-one known (also b bs) c d rest others (inl i) (inl j) = (sym i.1 ∙ j.1, sym i.2 ∙ j.2)
   first-one known (also b bs) c d rest others (inl i) (inr j) = absurd (j.0 i.0)

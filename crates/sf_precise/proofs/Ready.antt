@@ -98,7 +98,7 @@ module _ {E : Type 0} where
 
   mutual
     -- the existentials that occur are listed
-    in-outer : (c : Conjunct E) (n : ℕ) → OccursInOne c (Exists n) → In (outer_of c) n
+    pub in-outer : (c : Conjunct E) (n : ℕ) → OccursInOne c (Exists n) → In (outer_of c) n
     in-outer (holds p t) n o = in-test t n o
     in-outer (points p x fs) n (inl e) = in-left (existential x) (field_existentials fs) n (in-operand x n e)
     in-outer (points p x fs) n (inr o) = in-right (existential x) (field_existentials fs) n (in-fields fs n o)
@@ -118,7 +118,7 @@ module _ {E : Type 0} where
     in-outer_all (also c cs) n (inr o) = in-right (outer_of c) (outer_of_all cs) n (in-outer_all cs n o)
 
   mutual
-    outer-in : (c : Conjunct E) (n : ℕ) → In (outer_of c) n → OccursInOne c (Exists n)
+    pub outer-in : (c : Conjunct E) (n : ℕ) → In (outer_of c) n → OccursInOne c (Exists n)
     outer-in (holds p t) n i = test-in t n i
     outer-in (points p x fs) n i = either (in-which (existential x) (field_existentials fs) n i) (λ j. inl (operand-in x n j)) (λ j. inr (fields-in fs n j))
     outer-in (segment p next x y) n i = either (in-which (existential x) (existential y) n i) (λ j. inl (operand-in x n j)) (λ j. inr (operand-in y n j))

@@ -1,6 +1,6 @@
 //! Laws of orders. Each function does nothing; its contract is the law.
 
-ghost use Rattle.sf_precise.specs.Laws.{OrderIsOne, OrderStands, StandingIsDetermined, NeverTakenIsUndetermined, OrderKeepsMeaning};
+ghost use Rattle.sf_precise.specs.Laws.{NeverTakenIsUndetermined, OrderIsOne, OrderKeepsMeaning, OrderStands, OrdersAreHad, StandingIsDetermined};
 
 /// An assertion has one order at most.
 pub fn order_is_one()
@@ -26,4 +26,9 @@ pub fn never_taken_is_undetermined()
 /// An assertion in order means the same.
 pub fn order_keeps_meaning()
     ensures { OrderKeepsMeaning }
+{}
+
+/// Whoever holds no more than that assertions are others in order has that they are.
+pub fn orders_are_had()
+    ensures { OrdersAreHad }
 {}
