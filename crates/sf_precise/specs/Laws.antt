@@ -1,5 +1,5 @@
 -- Laws of orders: an assertion has one order at most, has one where it is determined, and means the same in order; and what a type keeps truncated is had.
--- This project's own notions; the last law is that of commutativity and associativity of the separating conjunction, as in Reynolds, "Separation Logic" (2002).
+-- This project's own notions; that an order keeps the meaning is commutativity and associativity of the separating conjunction, as in Reynolds, "Separation Logic" (2002).
 use Rattle.std.specs.Prelude.{◌≡◌, ◌↔◌, ℕ, List}
 use Rattle.sf_base.specs.declared.ids.Var.{Var}
 use Rattle.sf_base.specs.declared.place.Place.{Place}

@@ -1,16 +1,21 @@
-ghost use Rattle.std.specs.Prelude.{map};
-ghost use Rattle.sf_core.specs.View.{assertion_of};
+ghost use Rattle.std.specs.Prelude.{IfOk, map};
+ghost use Rattle.sf_core.specs.View.{assertion_of, command_of};
 ghost use Rattle.sf_core.specs.Whole.{program_of};
+ghost use Rattle.sf_calls.specs.Assigned.{Assigned, IsCommandOf};
 ghost use Rattle.sf_calls.specs.FirstBreach.{Conditions};
-ghost use Rattle.sf_calls.specs.Sets.{AreSetsOf};
+ghost use Rattle.sf_calls.specs.Sets.{AreSetsOf, IsVarSet};
 ghost use Rattle.sf_precise.specs.Notes.{AreOrdersOf, notes_in};
 
-use sf_calls::Calls;
-use sf_core::{Ordered, Program};
+use sf_calls::laws::sets_are_had;
+use sf_calls::{Calls, VarSet};
+use sf_core::{Command, Ordered, Program};
+use std::alloc::{AllocError, Global};
 
 /// A program, what its calls reach, and its annotations in order. It keeps that the calls are the
 /// program's, that no condition on its variables is broken, and that each order is that of its
-/// annotation. `arrange` makes it.
+/// annotation. It keeps each without telling how it was found, and a law gives it back:
+/// `sets_are_had` and `conditions_are_had` of sf_calls, and `orders_are_had` here. `arrange` makes
+/// it.
 #[derive(Debug, Drop)]
 pub struct Arranged {
     pub program: Program,
@@ -21,4 +26,16 @@ pub struct Arranged {
     ghost sets: { ∥ AreSetsOf (program_of program) calls ∥₁ },
     ghost conditions: { ∥ Conditions (program_of program) ∥₁ },
     ghost ordered: { ∥ AreOrdersOf (notes_in (program_of program)) (map (λ o. assertion_of o.assertion) orders.items) ∥₁ },
+}
+
+impl Arranged {
+    /// The variables that the command may change. The command is one of the program. An `Err` is
+    /// want of memory, and comes for nothing else.
+    pub fn assigned(&self, alloc: Global, c: &Command) -> Result<VarSet, AllocError>
+        requires { IsCommandOf (program_of self.now.program) (command_of c.now) }
+        ensures { IfOk result (λ xs. IsVarSet (λ x. Assigned (program_of self.now.program) x (command_of c.now)) xs) }
+    {
+        sets_are_had();
+        self.calls.assigned(alloc, &self.program, c)
+    }
 }

@@ -2,11 +2,14 @@
 //! column of its place.
 
 ghost use Rattle.std.specs.Prelude.{◌≡◌, []};
+ghost use Rattle.sf_base.specs.declared.ids.Var.TheVariants.{Own};
 
 use crate::{OrderFault, arrange, order};
-use sf_base::{FieldId, Place};
+use sf_base::{FieldId, Place, Var};
 use sf_calls::reach;
-use sf_core::{Assertion, Conjunct, Expr, Level, Operand, Program, Scope, Test};
+use sf_core::{
+    Assertion, Command, Conjunct, Expr, Level, Occurrence, Operand, Program, Scope, Test,
+};
 use std::alloc::{AllocError, Global};
 use std::test::Fail;
 
@@ -208,6 +211,30 @@ fn an_empty_program_is_arranged(rt: HostRuntime) -> Result<(), Fail> {
     let calls = reach(rt.alloc(), &p)?;
     match arrange(rt.alloc(), p, calls) {
         Ok(arranged) => assert_eq!(rt; arranged.orders.len(), 0),
+        Err(_) => assert!(rt; false),
+    }
+    Ok(())
+}
+
+fn own(n: u32) -> Occurrence
+    ensures { result.var ≡ Own n }
+{
+    Occurrence {
+        var: Var::Own(n),
+        place: at(1),
+    }
+}
+
+#[test]
+fn what_a_command_may_change_is_told(rt: HostRuntime) -> Result<(), Fail> {
+    let p = empty(rt.alloc());
+    let calls = reach(rt.alloc(), &p)?;
+    let c = Command::New(at(1), own(0));
+    match arrange(rt.alloc(), p, calls) {
+        Ok(arranged) => {
+            let found = arranged.assigned(rt.alloc(), &c)?;
+            assert_eq!(rt; found.as_slice(), [Var::Own(0)].as_slice());
+        }
         Err(_) => assert!(rt; false),
     }
     Ok(())
