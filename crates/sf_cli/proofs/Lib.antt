@@ -2,3 +2,4 @@ pub mod BuiltForms
 pub mod Replies
 pub mod OneAnswer
 pub mod Refused
+pub mod Accepted

@@ -17,6 +17,7 @@ use Rattle.sf_calls.specs.Laws.{FirstBreachIsDetermined}
 use Rattle.sf_core.proofs.Cases.{none-not_some}
 use Rattle.sf_core.specs.Determined.{Determined}
 use Rattle.sf_core.specs.Syntax.{Procedure, Resource, Program}
+use Rattle.sf_io.specs.Shelf.{Files}
 use Rattle.sf_elab.specs.Elaborated.{Elaborates, FirstFault}
 use Rattle.sf_elab.specs.Laws.{EachFileIsOne as EachTreeIsOne}
 use Rattle.sf_lex.specs.declared.token.Token.{Token}
@@ -29,15 +30,15 @@ use Rattle.sf_search.specs.Judge.{Verdict, proof, fails}
 use Rattle.sf_search.specs.VerdictLaws.{OneVerdict}
 use Rattle.sf_vars.specs.declared.fault.VarFault.{VarFault}
 use Rattle.sf_vars.specs.Faults.{IsVariableName, IsBreachName, told_by, IsFirstFault}
-use Rattle.sf_cli.specs.Answer.{VerdictAnswer, ProgramAnswer, not_built, judged, refused, admitted}
+use Rattle.sf_cli.specs.Answer.{VerdictAnswer, ProgramAnswer, OrderAnswer, FileAnswer, not_built, judged, refused, admitted}
 use Rattle.sf_cli.specs.declared.refusal.Refusal.{Refusal}
 use Rattle.sf_cli.specs.declared.refusal.Refusal.TheVariants.{At}
 use Rattle.sf_cli.specs.declared.refusal.RefusalKind.TheVariants.{Undetermined}
 use Rattle.sf_cli.specs.FileFault.{ReadFault, in_tokens, in_grammar, in_names, ProgramFault, in_variables, in_order, FileFault, unread, unfit, Admits}
-use Rattle.sf_cli.specs.Laws.{EachFileHasOneAnswer}
+use Rattle.sf_cli.specs.Laws.{EachCommandHasOneAnswer, EachFileHasOneAnswer, EachFileIsOneProgram}
 use Rattle.sf_cli.specs.Reads.{Reads}
 use Rattle.sf_cli.specs.Refusals.{of_tokens, of_grammar, of_names, of_variables, refusal_text}
-use Rattle.sf_cli.specs.Words.{Text}
+use Rattle.sf_cli.specs.Words.{Text, Order, verify, order_of}
 
 -- what the layers below say of their own answers
 pub record Layers : Type 0 where
@@ -50,14 +51,17 @@ pub record Layers : Type 0 where
   pub verdicts : OneVerdict
 
 -- the same tokens are the same tree
-reads-tree : Layers → (bytes : Text) (ts us : List Token) (one two : List Item) → ts ≡ us → IsFile ts one → IsFile us two → one ≡ two
-reads-tree l bytes ts us one two e f g = l.trees ts one two f (subst (λ (z : List Token). IsFile z two) (sym e) g)
+reads-tree : EachFileIsOne → (bytes : Text) (ts us : List Token) (one two : List Item) → ts ≡ us → IsFile ts one → IsFile us two → one ≡ two
+reads-tree l bytes ts us one two e f g = l ts one two f (subst (λ (z : List Token). IsFile z two) (sym e) g)
 
 -- bytes read as one program at most
-pub reads-once : Layers → (bytes : Text) (p q : Program) → Reads bytes p → Reads bytes q → p ≡ q
-reads-once l bytes p q r s =
-    let same : r.tree ≡ s.tree = reads-tree l bytes r.tokens s.tokens r.tree s.tree ((l.tokens bytes).tokens r.tokens s.tokens r.spelled s.spelled) r.parsed s.parsed in
-    l.names.one_program bytes r.tree p q r.elaborated (subst (λ (z : List Item). Elaborates bytes z q) (sym same) s.elaborated)
+pub reads-program : EachReadsAtMostOnce → EachFileIsOne → EachTreeIsOne → EachFileIsOneProgram
+reads-program tokens trees names bytes p q r s =
+    let same : r.tree ≡ s.tree = reads-tree trees bytes r.tokens s.tokens r.tree s.tree ((tokens bytes).tokens r.tokens s.tokens r.spelled s.spelled) r.parsed s.parsed in
+    names.one_program bytes r.tree p q r.elaborated (subst (λ (z : List Item). Elaborates bytes z q) (sym same) s.elaborated)
+
+pub reads-once : Layers → EachFileIsOneProgram
+reads-once l = reads-program l.tokens l.trees l.names
 
 -- a fault of the grammar is that of the file's own tokens
 fault-moved : Layers → (bytes : Text) (ts us : List Token) (e : _) → ts ≡ us → IsGrammarFault bytes us e → IsGrammarFault bytes ts e
@@ -69,7 +73,7 @@ reads-apart l bytes p r s (in_tokens e h k) = (l.tokens bytes).apart s.tokens e 
 reads-apart l bytes p r s (in_grammar ts e t h k) =
     (l.grammar bytes s.tokens).apart s.tree e s.parsed (fault-moved l bytes s.tokens ts e ((l.tokens bytes).tokens s.tokens ts s.spelled t) h)
 reads-apart l bytes p r s (in_names ts tree e t f h k) =
-    let same : s.tree ≡ tree = reads-tree l bytes s.tokens ts s.tree tree ((l.tokens bytes).tokens s.tokens ts s.spelled t) s.parsed f in
+    let same : s.tree ≡ tree = reads-tree l.trees bytes s.tokens ts s.tree tree ((l.tokens bytes).tokens s.tokens ts s.spelled t) s.parsed f in
     l.names.not_both bytes tree p e (subst (λ (z : List Item). Elaborates bytes z p) same s.elaborated) h
 
 -- bytes have one fault of reading at most
@@ -86,7 +90,7 @@ fault-once l bytes r s (in_names ts tree e t g h k) (in_tokens f i m) = absurd (
 fault-once l bytes r s (in_names ts tree e t g h k) (in_grammar us f u i m) =
     absurd ((l.grammar bytes ts).apart tree f g (fault-moved l bytes ts us f ((l.tokens bytes).tokens ts us t u) i))
 fault-once l bytes r s (in_names ts tree e t g h k) (in_names us other f u j i m) =
-    let same : other ≡ tree = reads-tree l bytes us ts other tree ((l.tokens bytes).tokens us ts u t) j g in
+    let same : other ≡ tree = reads-tree l.trees bytes us ts other tree ((l.tokens bytes).tokens us ts u t) j g in
     k ∙ ap of_names (l.names.one_fault bytes tree e f h (subst (λ (z : List Item). FirstFault bytes z f) same i)) ∙ sym m
 
 -- what is found at one place of a list is one thing
@@ -200,3 +204,13 @@ answer-once l bytes text other status code (refused r f t s) (admitted p a k) = 
 answer-once l bytes text other status code (admitted p a k) (refused r f t s) = absurd (answer-apart l bytes p r a f)
 answer-once l bytes text other status code (admitted p a k) (admitted q b m) =
     answer-program l p text other status code k (subst (λ (z : Program). ProgramAnswer z other code) (sym (reads-once l bytes p q a.reads b.reads)) m)
+
+-- a command has one answer over the same files
+pub answer-command : EachFileHasOneAnswer → EachCommandHasOneAnswer
+answer-command one files words text other status code a b = go (order_of words) a b
+  where
+    go : (o : Option Order) → OrderAnswer files o text status → OrderAnswer files o other code → (text ≡ other) × (status ≡ code)
+    go None x y = (x.0 ∙ sym y.0, x.1 ∙ sym y.1)
+    go (Some (verify name)) x y =
+        let same : x.0 ≡ y.0 = found-once (files name) x.0 y.0 x.1 y.1 in
+        one x.0 text other status code x.2 (subst (λ (z : Text). FileAnswer z other code) (sym same) y.2)

@@ -15,7 +15,7 @@ use Rattle.sf_lex.specs.declared.fault.LexFault.{LexFault}
 use Rattle.sf_lex.specs.declared.fault.LexFault.TheVariants as l
 use Rattle.sf_lex.specs.declared.token.Token.{Token}
 use Rattle.sf_lex.specs.Reading.{AreTokens, IsFault as IsTokenFault}
-use Rattle.sf_cli.specs.Answer.{MayBe, OrderAnswer, FileAnswer, refused, admitted, AcceptedBytes, AcceptsFile, AnswersFile, Answers, Reply, answer, read_fault_text}
+use Rattle.sf_cli.specs.Answer.{MayBe, OrderAnswer, FileAnswer, refused, admitted, AnswersFile, Answers, Reply, answer, read_fault_text}
 use Rattle.sf_cli.specs.Answer.{unread as unread_file}
 use Rattle.sf_cli.specs.declared.refusal.Refusal.{Refusal}
 use Rattle.sf_cli.specs.FileFault.{FileFault, unread, unfit, in_tokens, in_grammar, in_names}
@@ -79,16 +79,6 @@ fetched-answer out bytes text status (inr m) (admitted p a k) = absurd (long-rea
 -- the answer to a file that was fetched
 pub fetched-answers : (told : Option Files) (name out text : Text) (status : ℕ) → Fetched FILE_BYTES told name out → FileAnswer out text status → AnswersFile told name text status
 fetched-answers told name out text status f a = (f.files, f.may_be, f.bytes, f.there, fetched-answer out f.bytes text status f.is a)
-
--- what was accepted is the whole file
-fetched-whole : (out bytes : Text) → IsUpTo FILE_BYTES bytes out → AcceptedBytes out → AcceptedBytes bytes
-fetched-whole out bytes (inl e) a = subst AcceptedBytes e a
-fetched-whole out bytes (inr m) a = absurd (long-reads out a.program a.admits.reads m.0)
-
--- what was accepted of a file that was fetched
-pub fetched-accepted : (told : Option Files) (name out : Text) → Fetched FILE_BYTES told name out → AcceptedBytes out → AcceptsFile told name
-fetched-accepted told name out f a =
-    record { files = f.files; may_be = f.may_be; bytes = f.bytes; there = f.there; accepted = fetched-whole out f.bytes f.is a }
 
 -- there are files that the shelf's may be
 pub some_files : (told : Option Files) → (files : Files) × MayBe told files

@@ -78,10 +78,14 @@ pub data Reply (told : Option Files) (before after : Text → ℕ) (words : List
   answer : status < 7 → Answers told words text status → Reply told before after words text status
   unread : status ≡ 7 → Unread before after words text → Reply told before after words text status
 
+-- a first part of something that the command may say was written
+abbrev pub WroteFront : Option Files → (before after : Text → ℕ) → List Text → (old new : Option Text) → Type 0
+WroteFront told before after words old new =
+    (text : Text) × (status : ℕ) × Reply told before after words text status × WrotePart old new text
+
 -- nothing was written, or a first part of something that the command may say
 abbrev pub WroteSome : Option Files → (before after : Text → ℕ) → List Text → (old new : Option Text) → Type 0
-WroteSome told before after words old new =
-    (new ≡ old) ⊎ ((text : Text) × (status : ℕ) × Reply told before after words text status × WrotePart old new text)
+WroteSome told before after words old new = (new ≡ old) ⊎ WroteFront told before after words old new
 
 -- these bytes are those of a program that is sound
 pub record AcceptedBytes (bytes : Text) : Type 0 where
@@ -89,16 +93,13 @@ pub record AcceptedBytes (bytes : Text) : Type 0 where
   pub admits : Admits bytes program
   pub sound : IsSound program
 
--- a file of that name is there, and what it reads as is sound
-pub record AcceptsFile (told : Option Files) (name : Text) : Type 0 where
+-- the words name a file that is there, its answer has status 0 and is that text, and the program that it reads as is sound
+pub record Accepted (told : Option Files) (words : List Text) (text : Text) : Type 0 where
   pub files : Files
   pub may_be : MayBe told files
-  pub bytes : Text
-  pub there : files name ≡ Some bytes
-  pub accepted : AcceptedBytes bytes
-
--- the command accepted: the words name a file, and it is so with that
-pub record Accepted (told : Option Files) (words : List Text) : Type 0 where
   pub name : Text
   pub named : NamesFile words name
-  pub file : AcceptsFile told name
+  pub bytes : Text
+  pub there : files name ≡ Some bytes
+  pub answer : FileAnswer bytes text 0
+  pub accepted : AcceptedBytes bytes

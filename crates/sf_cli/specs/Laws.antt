@@ -1,9 +1,24 @@
 -- Laws of answers, stated.
--- What a definition by cases owes its reader: that no two cases meet.
-use Rattle.std.specs.Prelude.{◌≡◌, ℕ}
-use Rattle.sf_cli.specs.Answer.{FileAnswer}
+-- What a definition by cases owes its reader, that no two cases meet; and what an answer of status 0 promises.
+use Rattle.std.specs.Prelude.{◌≡◌, ℕ, List}
+use Rattle.sf_core.specs.Syntax.{Program}
+use Rattle.sf_io.specs.Shelf.{Files}
+use Rattle.sf_cli.specs.Answer.{AcceptedBytes, Answer, FileAnswer}
+use Rattle.sf_cli.specs.Reads.{Reads}
 use Rattle.sf_cli.specs.Words.{Text}
+
+-- bytes read as at most one program
+abbrev pub EachFileIsOneProgram : Type 0
+EachFileIsOneProgram = (bytes : Text) (p q : Program) → Reads bytes p → Reads bytes q → p ≡ q
 
 -- a file has at most one answer
 abbrev pub EachFileHasOneAnswer : Type 0
 EachFileHasOneAnswer = (bytes text other : Text) (status code : ℕ) → FileAnswer bytes text status → FileAnswer bytes other code → (text ≡ other) × (status ≡ code)
+
+-- words have at most one answer over the same files
+abbrev pub EachCommandHasOneAnswer : Type 0
+EachCommandHasOneAnswer = (files : Files) (words : List Text) (text other : Text) (status code : ℕ) → Answer files words text status → Answer files words other code → (text ≡ other) × (status ≡ code)
+
+-- bytes whose answer has status 0, whichever they are, read as a program that is sound
+abbrev pub AcceptedFilesAreSound : Type 0
+AcceptedFilesAreSound = (bytes text : Text) → FileAnswer bytes text 0 → AcceptedBytes bytes

@@ -1,13 +1,25 @@
 //! Laws of answers. Each function is a law: calling it gives its fact to the caller's proof, and does nothing.
 
-ghost use Rattle.sf_cli.specs.Laws.{EachFileHasOneAnswer};
+ghost use Rattle.sf_cli.specs.Laws.{AcceptedFilesAreSound, EachCommandHasOneAnswer, EachFileHasOneAnswer, EachFileIsOneProgram};
 
 use sf_calls::laws::first_breach_is_determined;
+use sf_elab::laws::elaborated_is_formed;
 use sf_lex::laws::each_file_reads_at_most_once;
+use sf_parse::laws::each_file_is_shallow;
 use sf_precise::laws::never_taken_is_undetermined;
-use sf_search::one_verdict;
+use sf_search::{one_verdict, verdicts_prove};
+use sf_sound::proved_programs_are_sound;
 
-/// Each file has at most one answer: the layers below have one each, and no two of them meet.
+/// Bytes read as at most one program.
+pub fn each_file_is_one_program()
+    ensures { EachFileIsOneProgram }
+{
+    each_file_reads_at_most_once();
+    sf_parse::laws::each_file_is_one();
+    sf_elab::laws::each_file_is_one();
+}
+
+/// Each file has at most one answer: the layers below have one each at most, and no two of them meet.
 pub fn each_file_has_one_answer()
     ensures { EachFileHasOneAnswer }
 {
@@ -18,4 +30,21 @@ pub fn each_file_has_one_answer()
     first_breach_is_determined();
     never_taken_is_undetermined();
     one_verdict();
+}
+
+/// Words have at most one answer over the same files.
+pub fn each_command_has_one_answer()
+    ensures { EachCommandHasOneAnswer }
+{
+    each_file_has_one_answer();
+}
+
+/// Whatever bytes are answered with status 0 are those of a sound program.
+pub fn accepted_files_are_sound()
+    ensures { AcceptedFilesAreSound }
+{
+    each_file_is_shallow();
+    elaborated_is_formed();
+    verdicts_prove();
+    proved_programs_are_sound();
 }

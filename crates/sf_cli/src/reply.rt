@@ -2,15 +2,12 @@
 
 ghost use Rattle.std.specs.Prelude.{◌≡◌, ◌≢◌, ◌<◌, ◌≤◌, ◌-◌, ◌^◌, ◌++◌, List, Some, IfOk, IsErrOf, codes};
 ghost use Rattle.sf_core.specs.Whole.{program_of};
-ghost use Rattle.sf_sym.specs.declared.tag.Tag.{Tag as TagOf};
 ghost use Rattle.sf_io.specs.Rose.{Rose};
-ghost use Rattle.sf_cli.specs.Answer.{Accepted, AcceptedBytes, AcceptsFile, AnswersFile, FileAnswer, ProgramAnswer, Reply, VerdictAnswer, read_fault_text};
+ghost use Rattle.sf_cli.specs.Answer.{AnswersFile, FileAnswer, NamesFile, ProgramAnswer, Reply, VerdictAnswer, read_fault_text};
 ghost use Rattle.sf_cli.specs.Fetched.{Fetched};
 ghost use Rattle.sf_cli.specs.Refusals.{refusal_text};
 ghost use Rattle.sf_cli.specs.declared.refusal.Refusal.TheVariants.{OutOfMemory};
-ghost use Rattle.sf_sound.specs.Sound.{IsSound};
 ghost use Rattle.sf_search.specs.Judge.{Verdict, Judge};
-ghost use Rattle.sf_rules.specs.Proves.{Proves};
 ghost use Rattle.sf_cli.specs.Words.{Text, order_of};
 ghost use Rattle.sf_cli.specs.WordsOf.{order_in, words_of};
 
@@ -24,7 +21,6 @@ use sf_core::Program;
 use sf_io::{FetchFault, Shelf};
 use sf_proof::{name_of, proof_text};
 use sf_search::{VerifyFault, verdicts_prove, verify};
-use sf_sound::proved_programs_are_sound;
 use std::alloc::{AllocError, Global};
 
 /// What is said, and the status that goes with it.
@@ -59,8 +55,7 @@ fn say_of(alloc: Global, text: &str, name: &str, status: u8) -> Result<Said, All
 /// The verdict on a program, printed. The tags that the search found are accepted by the checker
 /// before they are printed.
 fn judged(alloc: Global, p: &Program) -> Result<Said, AllocError>
-    ensures answered { IfOk result (λ said. (v : Verdict) × Judge (program_of p.now) v × VerdictAnswer (program_of p.now) v said.text.items said.status) }
-    ensures accepted { IfOk result (λ said. said.status ≡ 0 → (tags : List TagOf) × Proves (program_of p.now) tags) }
+    ensures { IfOk result (λ said. (v : Verdict) × Judge (program_of p.now) v × VerdictAnswer (program_of p.now) v said.text.items said.status) }
 {
     match verify(alloc, p) {
         Ok(tags) => {
@@ -91,20 +86,17 @@ fn say_refusal(alloc: Global, refusal: &Refusal) -> Result<Said, AllocError>
 
 /// The answer to a program with which nothing is wrong.
 fn answer_to_program(alloc: Global, p: &Program) -> Result<Said, AllocError>
-    ensures answered { IfOk result (λ said. ProgramAnswer (program_of p.now) said.text.items said.status) }
-    ensures accepted { IfOk result (λ said. said.status ≡ 0 → IsSound (program_of p.now)) }
+    ensures { IfOk result (λ said. ProgramAnswer (program_of p.now) said.text.items said.status) }
 {
     if !is_built(p) {
         return say_refusal(alloc, &Refusal::At(RefusalKind::NotBuilt, FIRST_PLACE));
     }
-    proved_programs_are_sound();
     judged(alloc, p)
 }
 
 /// The answer to a file's bytes, of which those past the limit don't matter.
 fn answer_to_bytes(alloc: Global, bytes: &[u8]) -> Result<Said, AllocError>
-    ensures answered { IfOk result (λ said. FileAnswer bytes.now said.text.items said.status) }
-    ensures accepted { IfOk result (λ said. said.status ≡ 0 → AcceptedBytes bytes.now) }
+    ensures { IfOk result (λ said. FileAnswer bytes.now said.text.items said.status) }
 {
     match admit(alloc, bytes) {
         Ok(arranged) => answer_to_program(alloc, &arranged.program),
@@ -123,6 +115,7 @@ fn fetch_up_to<S: Shelf>(
     ensures fetched { IfOk result (λ bytes. Fetched limit (S.files shelf.old) name.now bytes.items) }
     ensures failed { IsErrOf result FetchFault.Failed → Rose (S.faults shelf.old name.now) (S.faults shelf.new name.now) }
     ensures files { S.files shelf.new ≡ S.files shelf.old }
+    ensures others { (other : Text) → other ≢ name.now → S.faults shelf.new other ≡ S.faults shelf.old other }
     ensures counts { (any : Text) → S.faults shelf.old any ≤ S.faults shelf.new any }
 {
     let mut bytes = Vec::new(alloc);
@@ -135,8 +128,8 @@ fn answer_to_file<S: Shelf>(alloc: Global, name: &str, shelf: &mut S) -> Result<
     ensures status { IfOk result (λ said. said.status < 8) }
     ensures answered { IfOk result (λ said. said.status < 7 → AnswersFile (S.files shelf.old) name.now said.text.items said.status) }
     ensures unread { IfOk result (λ said. said.status ≡ 7 → Rose (S.faults shelf.old name.now) (S.faults shelf.new name.now) × (said.text.items ≡ read_fault_text name.now)) }
-    ensures accepted { IfOk result (λ said. said.status ≡ 0 → AcceptsFile (S.files shelf.old) name.now) }
     ensures files { S.files shelf.new ≡ S.files shelf.old }
+    ensures others { (other : Text) → other ≢ name.now → S.faults shelf.new other ≡ S.faults shelf.old other }
     ensures counts { (any : Text) → S.faults shelf.old any ≤ S.faults shelf.new any }
 {
     match fetch_up_to(alloc, name, FILE_BYTES, shelf) {
@@ -150,8 +143,8 @@ fn answer_to_file<S: Shelf>(alloc: Global, name: &str, shelf: &mut S) -> Result<
 fn follow<S: Shelf>(alloc: Global, order: Order, shelf: &mut S) -> Result<Said, AllocError>
     ensures status { IfOk result (λ said. said.status < 8) }
     ensures said { IfOk result (λ said. (words : List Text) → order_of words ≡ order_in (Some order.entry) → Reply (S.files shelf.old) (S.faults shelf.old) (S.faults shelf.new) words said.text.items said.status) }
-    ensures accepted { IfOk result (λ said. said.status ≡ 0 → (words : List Text) → order_of words ≡ order_in (Some order.entry) → Accepted (S.files shelf.old) words) }
     ensures files { S.files shelf.new ≡ S.files shelf.old }
+    ensures others { (words : List Text) (other : Text) → order_of words ≡ order_in (Some order.entry) → (NamesFile words other → ⊥) → S.faults shelf.new other ≡ S.faults shelf.old other }
     ensures counts { (any : Text) → S.faults shelf.old any ≤ S.faults shelf.new any }
 {
     match order {
@@ -163,8 +156,8 @@ fn follow<S: Shelf>(alloc: Global, order: Order, shelf: &mut S) -> Result<Said, 
 pub fn respond<S: Shelf>(alloc: Global, words: &[&str], shelf: &mut S) -> Result<Said, AllocError>
     ensures status { IfOk result (λ said. said.status < 8) }
     ensures said { IfOk result (λ said. Reply (S.files shelf.old) (S.faults shelf.old) (S.faults shelf.new) (words_of words.now) said.text.items said.status) }
-    ensures accepted { IfOk result (λ said. said.status ≡ 0 → Accepted (S.files shelf.old) (words_of words.now)) }
     ensures files { S.files shelf.new ≡ S.files shelf.old }
+    ensures others { (other : Text) → (NamesFile (words_of words.now) other → ⊥) → S.faults shelf.new other ≡ S.faults shelf.old other }
     ensures counts { (any : Text) → S.faults shelf.old any ≤ S.faults shelf.new any }
 {
     match read_order(words) {

@@ -3,10 +3,11 @@
 ghost use Rattle.std.specs.Prelude.{◌≡◌, ◌≢◌, ◌≤◌, ◌<◌, ◌⊎◌, List};
 ghost use Rattle.sf_io.specs.Rose.{Rose};
 ghost use Rattle.sf_io.specs.Sink.{with_bytes, WrotePart};
-ghost use Rattle.sf_cli.specs.Answer.{Accepted, Answers, Unread, WroteSome};
+ghost use Rattle.sf_cli.specs.Answer.{Accepted, Answers, NamesFile, Unread, WroteFront, WroteSome};
 ghost use Rattle.sf_cli.specs.Words.{Text};
 ghost use Rattle.sf_cli.specs.WordsOf.{words_of};
 
+use crate::laws::accepted_files_are_sound;
 use crate::reply::{Said, respond};
 use sf_io::{Gate, Shelf, Sink, SinkFault, put_all};
 use std::alloc::Global;
@@ -56,20 +57,26 @@ pub fn smallfoot<'a, R: Threads + Wait + Sync, S: Shelf, K: Sink, G: Gate>(
     ensures answers { result < 7 → (text : Text) × (K.written sink.new ≡ with_bytes (K.written sink.old) text) × Answers (S.files shelf.old) (words_of words.now) text result }
     // The file that the words name couldn't be read: its count of faults rose.
     ensures unread { result ≡ 7 → (text : Text) × (K.written sink.new ≡ with_bytes (K.written sink.old) text) × Unread (S.faults shelf.old) (S.faults shelf.new) (words_of words.now) text }
-    // The sink's count of faults rose.
+    // The sink's count of faults rose, and the bytes put are a first part of what may be said.
     ensures unwritten { result ≡ 8 → Rose (K.faults sink.old) (K.faults sink.new) }
-    // The bytes put are none, or a first part of what may be said.
-    ensures part { 8 ≤ result → WroteSome (S.files shelf.old) (S.faults shelf.old) (S.faults shelf.new) (words_of words.now) (K.written sink.old) (K.written sink.new) }
+    ensures cut { result ≡ 8 → WroteFront (S.files shelf.old) (S.faults shelf.old) (S.faults shelf.new) (words_of words.now) (K.written sink.old) (K.written sink.new) }
+    // Memory ran out: the bytes put are none, or a first part of what may be said.
+    ensures part { result ≡ 9 → WroteSome (S.files shelf.old) (S.faults shelf.old) (S.faults shelf.new) (words_of words.now) (K.written sink.old) (K.written sink.new) }
     ensures statuses { (result ≤ 3) ⊎ ((7 ≤ result) × (result ≤ 9)) }
     // Over a shelf or a sink that never counts a fault there is none.
     ensures no_read_fault { ((name : Text) → S.faults shelf.new name ≡ 0) → result ≢ 7 }
     ensures no_write_fault { K.faults sink.new ≡ 0 → result ≢ 8 }
     // What is accepted is sound: whatever runs of it there are, each configuration is good.
-    ensures accepted { result ≡ 0 → Accepted (S.files shelf.old) (words_of words.now) }
+    ensures accepted { result ≡ 0 → (text : Text) × (K.written sink.new ≡ with_bytes (K.written sink.old) text) × Accepted (S.files shelf.old) (words_of words.now) text }
+    // No file changes, and no count falls; that of a name rises only where the words name it.
+    ensures counts { (any : Text) → S.faults shelf.old any ≤ S.faults shelf.new any }
+    ensures others { (other : Text) → (NamesFile (words_of words.now) other → ⊥) → S.faults shelf.new other ≡ S.faults shelf.old other }
+    ensures sink_counts { K.faults sink.old ≤ K.faults sink.new }
     ensures files { S.files shelf.new ≡ S.files shelf.old }
 {
     let _ = rt;
     let _ = gate;
+    accepted_files_are_sound();
     match respond(alloc, words, shelf) {
         Ok(said) => tell(sink, &said),
         Err(_) => OUT_OF_MEMORY,

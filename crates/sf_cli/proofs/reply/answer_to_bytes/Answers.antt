@@ -4,16 +4,10 @@ use Rattle.sf_cli.proofs.Refused.{refused-both}
 use Rattle.sf_cli.specs.Answer.{refused, admitted}
 use Rattle.sf_cli.proofs.reply.answer_to_bytes.Goals as goal
 
-pub returns-in-Ok-clause-answered : goal.returns-in-Ok-clause-answered
-returns-in-Ok-clause-answered c =
-    answered-ok c.answer_to_program.result _ _ (λ said k. admitted (program_of c.in-Ok.arranged.program) c.in-Ok.ensures.admitted k) c.answer_to_program.ensures.answered
+pub returns-in-Ok : goal.returns-in-Ok
+returns-in-Ok c =
+    answered-ok c.answer_to_program.result _ _ (λ said k. admitted (program_of c.in-Ok.arranged.program) c.in-Ok.ensures.admitted k) c.answer_to_program.ensures
 
-pub returns-in-Ok-clause-accepted : goal.returns-in-Ok-clause-accepted
-returns-in-Ok-clause-accepted c =
-    answered-ok c.answer_to_program.result _ _
-    (λ said k zero. record { program = program_of c.in-Ok.arranged.program; admits = c.in-Ok.ensures.admitted; sound = k zero })
-    c.answer_to_program.ensures.accepted
-
-pub returns-in-Err-clause-answered : goal.returns-in-Err-clause-answered
-returns-in-Err-clause-answered c =
+pub returns-in-Err : goal.returns-in-Err
+returns-in-Err c =
     refused-both c.say_refusal.result _ _ _ (λ said s n. refused c.in-Err.refusal (c.in-Err.ensures.refused n) s.0 s.1) c.say_refusal.ensures.said c.say_refusal.ensures.cause

@@ -1,24 +1,13 @@
 use Rattle.std.proofs.Common.{◌≡◌, true}
 use Rattle.sf_core.specs.Whole.{program_of}
 use Rattle.sf_rules.proofs.Answered.{answered-ok}
-use Rattle.sf_cli.proofs.BuiltForms.{built-no_resources}
 use Rattle.sf_cli.specs.Answer.{judged}
 use Rattle.sf_cli.specs.Built.{is_built}
 use Rattle.sf_cli.proofs.reply.answer_to_program.Goals as goal
 
-pub returns-clause-answered : goal.returns-clause-answered
-returns-clause-answered c =
+pub returns : goal.returns
+returns c =
     let told = c.is_built.ensures in
     let tested = c.if-not-is_built.false in
     let built : is_built (program_of c.args.p.now) ≡ true = cc in
-    answered-ok c.judged.result _ _ (λ said k. judged built k.0 k.1 k.2) c.judged.ensures.answered
-
-pub returns-clause-accepted : goal.returns-clause-accepted
-returns-clause-accepted c =
-    let p = program_of c.args.p.now in
-    let told = c.is_built.ensures in
-    let tested = c.if-not-is_built.false in
-    let built : is_built (program_of c.args.p.now) ≡ true = cc in
-    answered-ok c.judged.result _ _
-    (λ said k zero. let t = k zero in c.proved_programs_are_sound.ensures p t.0 c.args.p.now.formed (built-no_resources p built) t.1)
-    c.judged.ensures.accepted
+    answered-ok c.judged.result _ _ (λ said k. judged built k.0 k.1 k.2) c.judged.ensures
