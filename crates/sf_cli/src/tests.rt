@@ -5,12 +5,13 @@ mod tables;
 use crate::top::smallfoot;
 use sf_io::{MemShelf, MemSink, OpenGate};
 use std::alloc::Global;
+use std::process::Abort;
 use std::sync::Wait;
 use std::test::Fail;
 use std::thread::Threads;
 use tables::{
-    ANSWERS, COUNTS, EXAMPLES, IN_ORDER, LANGUAGE, NESTS, NO_COMMANDS, REFUSED, SET, SET_PROOF,
-    USAGE,
+    ANSWERS, BAD_GRAMMAR, BAD_NAMES, BAD_WORDS, BROKEN_CONDITIONS, COUNTS, EXAMPLES, IN_ORDER,
+    LANGUAGE, NESTS, NO_COMMANDS, SET, SET_PROOF, UNDETERMINED, USAGE,
 };
 
 /// What the command says to the words over that shelf, and its status.
@@ -51,15 +52,44 @@ fn answers_to_files(rt: HostRuntime) -> Result<(), Fail> {
     Ok(())
 }
 
-#[test]
-fn files_are_refused_at_their_first_fault(rt: HostRuntime) -> Result<(), Fail> {
-    for (file, fault) in REFUSED {
-        let (out, status) = verified(&rt, rt.alloc(), file)?;
-        let line = refusal(rt.alloc(), fault)?;
+/// Each of the files is refused for what stands beside it.
+fn refused<R: Threads + Wait + Sync + Abort>(
+    rt: &R,
+    alloc: Global,
+    cases: &[(&[u8], &str)],
+) -> Result<(), Fail> {
+    for (file, fault) in cases {
+        let (out, status) = verified(rt, alloc, file)?;
+        let line = refusal(alloc, fault)?;
         assert_eq!(rt; out.as_str(), line.as_str());
-        assert_eq!(rt; status, 3, "{fault}");
+        assert_eq!(rt; status, 3);
     }
     Ok(())
+}
+
+#[test]
+fn files_are_refused_at_their_first_bad_word(rt: HostRuntime) -> Result<(), Fail> {
+    refused(&rt, rt.alloc(), &BAD_WORDS)
+}
+
+#[test]
+fn files_are_refused_at_their_first_unexpected_word(rt: HostRuntime) -> Result<(), Fail> {
+    refused(&rt, rt.alloc(), &BAD_GRAMMAR)
+}
+
+#[test]
+fn files_are_refused_at_their_first_fault_of_names(rt: HostRuntime) -> Result<(), Fail> {
+    refused(&rt, rt.alloc(), &BAD_NAMES)
+}
+
+#[test]
+fn files_are_refused_at_their_first_broken_condition(rt: HostRuntime) -> Result<(), Fail> {
+    refused(&rt, rt.alloc(), &BROKEN_CONDITIONS)
+}
+
+#[test]
+fn files_are_refused_where_they_are_not_determined(rt: HostRuntime) -> Result<(), Fail> {
+    refused(&rt, rt.alloc(), &UNDETERMINED)
 }
 
 #[test]

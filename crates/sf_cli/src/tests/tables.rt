@@ -89,44 +89,13 @@ pub const ANSWERS: [(&str, &str, u8); 36] = [
     ("resource r () []", NOT_BUILT, 3),
 ];
 
-/// Files that are refused, with the kind, the place and the name.
-pub const REFUSED: [(&[u8], &str); 107] = [
+/// Files that are refused for their words, with the kind and the place.
+pub const BAD_WORDS: [(&[u8], &str); 20] = [
     (b"f() { @ }", "1 BadByte at 1:7"),
     (b"/* x", "3 OpenComment at 1:1"),
     (
         b"f() { x->tl = 9223372036854775808; }",
         "4 BadNumber at 1:15",
-    ),
-    (b"f() { x = ; }", "10 Unexpected at 1:11"),
-    (b"f(x) { g(x); }", "20 UnknownName at 1:8 g"),
-    (b"f(x,x) { }", "21 Twice at 1:5 x"),
-    (b"f(x) { f(x;); }", "22 Arity at 1:8 f"),
-    (
-        b"resource a (v) [] resource b (v) []",
-        "23 OwnedTwice at 1:31 v",
-    ),
-    (b"resource a (v) [w == nil]", "24 ForeignVariable at 1:17 w"),
-    (b"q; f(x) [list(x)] { }", "25 MissingField at 1:10 tl"),
-    (b"resource r (v) [tree(_x)]", "40 Undetermined at 1:17"),
-    (
-        b"resource mm (f) [list(f)]\npeek(x;) {\n  x = f;\n}",
-        "30 NotHeld at 3:7 f",
-    ),
-    (
-        b"resource r (v) []\na() { with r when (true) { } }\nb() { a(); }\nc() { b(); }\nd() { with r when (true) { c(); } }",
-        "31 Reentered at 5:28 r",
-    ),
-    (
-        b"h(x,y;) { }\nq(x;) { h(x,x;); }",
-        "32 SameReference at 2:13 x",
-    ),
-    (
-        b"resource a (v) [] f(x;) [v == nil] { }\np() { with a when (true) { f(v;); } }",
-        "33 ReferenceIsFree at 2:30 v",
-    ),
-    (
-        b"f(x;) { }\ng(x;) { }\np(x;) { f(x;) || g(x;); }",
-        "34 ParallelShares at 3:9 x",
     ),
     (b"f() { -x; }", "1 BadByte at 1:7"),
     (b"f() { x-->tl = 1; }", "1 BadByte at 1:8"),
@@ -137,8 +106,29 @@ pub const REFUSED: [(&[u8], &str); 107] = [
     (b"/* /* */ */", "1 BadByte at 1:11"),
     (b"/* a\nb */ @", "1 BadByte at 2:6"),
     (b"f() { 3x->tl = 1; }", "4 BadNumber at 1:7"),
-    (b"f(x) { x->tl = 3/**/4; }", "10 Unexpected at 1:21"),
     (b"f( ) ) @", "1 BadByte at 1:8"),
+    (
+        b"f(x) [x|->hd:9223372036854775808] { }",
+        "4 BadNumber at 1:14",
+    ),
+    (
+        b"f(x) [x|->hd:-9223372036854775809] { }",
+        "4 BadNumber at 1:14",
+    ),
+    (b"f(x) [x|->hd:1a] { }", "4 BadNumber at 1:14"),
+    (b"f(x) [x | -> ] { }", "1 BadByte at 1:9"),
+    (
+        b"a1234567890123456789012345678901234567890123456789012345678901234;",
+        "2 LongWord at 1:1",
+    ),
+    (b"\xff", "1 BadByte at 1:1"),
+    (b"\0", "1 BadByte at 1:1"),
+];
+
+/// Files that are refused by the grammar.
+pub const BAD_GRAMMAR: [(&[u8], &str); 24] = [
+    (b"f() { x = ; }", "10 Unexpected at 1:11"),
+    (b"f(x) { x->tl = 3/**/4; }", "10 Unexpected at 1:21"),
     (b"f(x,) { }", "10 Unexpected at 1:5"),
     (b"f() { f(3;); }", "10 Unexpected at 1:10"),
     (
@@ -160,6 +150,23 @@ pub const REFUSED: [(&[u8], &str); 107] = [
     (b"f(x) [lseg(x)] { }", "10 Unexpected at 1:13"),
     (b"f(list) { }", "10 Unexpected at 1:3"),
     (b"a b;", "10 Unexpected at 1:3"),
+    (b"f() { } ]", "10 Unexpected at 1:9"),
+    (b"f(x)", "10 Unexpected at 1:5"),
+    (b"f(nil) { }", "10 Unexpected at 1:3"),
+    (b"f(x) { x->hd = x }", "10 Unexpected at 1:18"),
+];
+
+/// Files that are refused for names, with the name.
+pub const BAD_NAMES: [(&[u8], &str); 33] = [
+    (b"f(x) { g(x); }", "20 UnknownName at 1:8 g"),
+    (b"f(x,x) { }", "21 Twice at 1:5 x"),
+    (b"f(x) { f(x;); }", "22 Arity at 1:8 f"),
+    (
+        b"resource a (v) [] resource b (v) []",
+        "23 OwnedTwice at 1:31 v",
+    ),
+    (b"resource a (v) [w == nil]", "24 ForeignVariable at 1:17 w"),
+    (b"q; f(x) [list(x)] { }", "25 MissingField at 1:10 tl"),
     (
         b"f() { with r when (x == nil) { } }",
         "20 UnknownName at 1:12 r",
@@ -187,18 +194,44 @@ pub const REFUSED: [(&[u8], &str); 107] = [
     (b"q; f(x) [tree(y)] { }", "25 MissingField at 1:10 l"),
     (b"f(x) { f(y,y); }", "22 Arity at 1:8 f"),
     (b"f(x;) { f(x); }", "22 Arity at 1:9 f"),
+    (b"f(x) [x|->hd:1,hd:2] { }", "21 Twice at 1:16 hd"),
+    (b"f(x) [x|->next:1] { }", "20 UnknownName at 1:11 next"),
+    (b"f(x) [y|->] { }", "20 UnknownName at 1:7 y"),
+    (b"a; f(x) [x|->hd:1] { }", "20 UnknownName at 1:14 hd"),
+    (b"l; f(x) [tree(x)] { }", "25 MissingField at 1:10 r"),
+    (b"g() { f(nil); } f() { } f(x) { }", "22 Arity at 1:7 f"),
+    (b"g() { f(); } f() { } f(x) { }", "21 Twice at 1:22 f"),
+    (b"f(x) { local x; }", "21 Twice at 1:14 x"),
+    (b"f() { local a, b; local a; }", "21 Twice at 1:25 a"),
+    (b"f(x) [list(x)] { } q;", "25 MissingField at 1:7 tl"),
     (
-        b"f(x) [(if x == nil then _y == nil else emp) * ls(x,_y)] { }",
-        "40 Undetermined at 1:8",
+        b"resource a (v) [] resource b (v, v) []",
+        "23 OwnedTwice at 1:31 v",
+    ),
+    (b"a,b,c,d,e,f,g,h,i,j,k,l,m,n,o,p,a;", "21 Twice at 1:33 a"),
+];
+
+/// Files that break conditions on variables.
+pub const BROKEN_CONDITIONS: [(&[u8], &str); 22] = [
+    (
+        b"resource mm (f) [list(f)]\npeek(x;) {\n  x = f;\n}",
+        "30 NotHeld at 3:7 f",
     ),
     (
-        b"f(x) [if _y == nil then emp else emp * list(x)] { }",
-        "40 Undetermined at 1:7",
+        b"resource r (v) []\na() { with r when (true) { } }\nb() { a(); }\nc() { b(); }\nd() { with r when (true) { c(); } }",
+        "31 Reentered at 5:28 r",
     ),
-    (b"f(x) [_a|->tl:x] { }", "40 Undetermined at 1:7"),
     (
-        b"f(x) { } [list(_q)] resource r (v) [list(_w)]",
-        "40 Undetermined at 1:11",
+        b"h(x,y;) { }\nq(x;) { h(x,x;); }",
+        "32 SameReference at 2:13 x",
+    ),
+    (
+        b"resource a (v) [] f(x;) [v == nil] { }\np() { with a when (true) { f(v;); } }",
+        "33 ReferenceIsFree at 2:30 v",
+    ),
+    (
+        b"f(x;) { }\ng(x;) { }\np(x;) { f(x;) || g(x;); }",
+        "34 ParallelShares at 3:9 x",
     ),
     (
         b"resource r (v) [] f() { with r when (true) { with r when (true) { } } }",
@@ -215,28 +248,6 @@ pub const REFUSED: [(&[u8], &str); 107] = [
     (
         b"resource r (v) [] f() { v = nil; }",
         "30 NotHeld at 1:25 v",
-    ),
-    (b"f(x) [x|->hd:1,hd:2] { }", "21 Twice at 1:16 hd"),
-    (b"f(x) [x|->next:1] { }", "20 UnknownName at 1:11 next"),
-    (b"f(x) [y|->] { }", "20 UnknownName at 1:7 y"),
-    (
-        b"f(x) [x|->hd:9223372036854775808] { }",
-        "4 BadNumber at 1:14",
-    ),
-    (
-        b"f(x) [x|->hd:-9223372036854775809] { }",
-        "4 BadNumber at 1:14",
-    ),
-    (b"f(x) [x|->hd:1a] { }", "4 BadNumber at 1:14"),
-    (b"f() { } ]", "10 Unexpected at 1:9"),
-    (b"f(x)", "10 Unexpected at 1:5"),
-    (b"f(nil) { }", "10 Unexpected at 1:3"),
-    (b"f(x) { x->hd = x }", "10 Unexpected at 1:18"),
-    (b"f(x) [x | -> ] { }", "1 BadByte at 1:9"),
-    (b"a; f(x) [x|->hd:1] { }", "20 UnknownName at 1:14 hd"),
-    (
-        b"a1234567890123456789012345678901234567890123456789012345678901234;",
-        "2 LongWord at 1:1",
     ),
     (
         b"resource r (v) [] f() { v = nil; } g() { v = nil; }",
@@ -282,6 +293,32 @@ pub const REFUSED: [(&[u8], &str); 107] = [
         b"resource r (v) [] f(x;) [v == nil] { } k(z;) { } p(z;) { with r when (true) { k(z;) || f(v;); } }",
         "33 ReferenceIsFree at 1:90 v",
     ),
+    (
+        b"resource r (v) [] f() { local v; } [v == nil] g() { f(); }",
+        "30 NotHeld at 1:53 v",
+    ),
+    (
+        b"resource r (v) [] resource s (w) [] f() { with r when (true) { with r when (w == nil) { } } }",
+        "30 NotHeld at 1:77 w",
+    ),
+];
+
+/// Files with annotations that aren't determined.
+pub const UNDETERMINED: [(&[u8], &str); 8] = [
+    (b"resource r (v) [tree(_x)]", "40 Undetermined at 1:17"),
+    (
+        b"f(x) [(if x == nil then _y == nil else emp) * ls(x,_y)] { }",
+        "40 Undetermined at 1:8",
+    ),
+    (
+        b"f(x) [if _y == nil then emp else emp * list(x)] { }",
+        "40 Undetermined at 1:7",
+    ),
+    (b"f(x) [_a|->tl:x] { }", "40 Undetermined at 1:7"),
+    (
+        b"f(x) { } [list(_q)] resource r (v) [list(_w)]",
+        "40 Undetermined at 1:11",
+    ),
     (b"f(x) [_a == _a] { }", "40 Undetermined at 1:7"),
     (
         b"f(x) [if x == nil then list(_z) else emp] { }",
@@ -291,27 +328,6 @@ pub const REFUSED: [(&[u8], &str); 107] = [
         b"f(x) { while (true) [list(_l)] { } }",
         "40 Undetermined at 1:22",
     ),
-    (
-        b"resource r (v) [] f() { local v; } [v == nil] g() { f(); }",
-        "30 NotHeld at 1:53 v",
-    ),
-    (b"l; f(x) [tree(x)] { }", "25 MissingField at 1:10 r"),
-    (b"g() { f(nil); } f() { } f(x) { }", "22 Arity at 1:7 f"),
-    (b"g() { f(); } f() { } f(x) { }", "21 Twice at 1:22 f"),
-    (b"f(x) { local x; }", "21 Twice at 1:14 x"),
-    (b"f() { local a, b; local a; }", "21 Twice at 1:25 a"),
-    (b"f(x) [list(x)] { } q;", "25 MissingField at 1:7 tl"),
-    (
-        b"resource a (v) [] resource b (v, v) []",
-        "23 OwnedTwice at 1:31 v",
-    ),
-    (b"a,b,c,d,e,f,g,h,i,j,k,l,m,n,o,p,a;", "21 Twice at 1:33 a"),
-    (
-        b"resource r (v) [] resource s (w) [] f() { with r when (true) { with r when (w == nil) { } } }",
-        "30 NotHeld at 1:77 w",
-    ),
-    (b"\xff", "1 BadByte at 1:1"),
-    (b"\0", "1 BadByte at 1:1"),
 ];
 
 /// Files with which nothing is wrong, and what is said of them.
