@@ -8,15 +8,15 @@ use Rattle.sf_base.specs.declared.value.Value.TheVariants.{Nil as nil, Loc as lo
 use Rattle.sf_core.specs.declared.assertion.Operand.{Operand}
 use Rattle.sf_core.specs.declared.assertion.Test.{Test}
 use Rattle.sf_core.specs.declared.command.Expr.{Expr}
-use Rattle.sf_core.proofs.DeterminedLaws.{determined-precise}
+use Rattle.sf_core.proofs.DeterminedLaws.{determined-fixes, determined-precise}
 use Rattle.sf_core.proofs.Cases.{none-not_some, some-same}
 use Rattle.sf_core.proofs.HeapSplits.{at-other, one-in, one-not_empty, one-same_place, one-single, one-splits, remove_cell, star-drop_right, star-empty_right, star-map_right, star-of}
 use Rattle.sf_core.proofs.MapSplits.{empty_map, empty-holds, splits-empty_right, splits-lacks_right, splits-of_empty_right}
 use Rattle.sf_core.proofs.SegLaws.{loc-same, nil-not_loc, seg-first, seg-one}
 use Rattle.sf_core.specs.Determined.{CanBeTaken, Determined, HasOrder, IsReady, Leaves, all_taken, branches, plain, take}
 use Rattle.sf_core.specs.HeapStore.{Cell, Heap, IsOne}
-use Rattle.sf_core.specs.Instances.{ChoiceGoesByItsTest, CircleIsNoSegment, ExistentialIsTheFieldsValue, NoLessIsACellAndAList, OneNodeIsATree, OrderIsFound, SegmentMayEndAtAnAbsentCell, TreeOfAnUnknownIsUndetermined, TwoCellsAreACellAndAList, cell_and_list, l, nothing, one_cell, one_scope, place, r, tail, tl, two_cells, unknown, where_are, x, y}
-use Rattle.sf_core.specs.Sat.{SameOutside, Seg, end, cell, leaf, node, value}
+use Rattle.sf_core.specs.Instances.{ChoiceGoesByItsTest, CircleIsNoSegment, ExistentialIsFixed, ExistentialIsTheFieldsValue, NoLessIsACellAndAList, OneNodeIsATree, OrderIsFound, SegmentMayEndAtAnAbsentCell, TreeOfAnUnknownIsUndetermined, TwoCellsAreACellAndAList, cell_and_list, cell_of_unknown, l, nothing, one_cell, one_scope, place, r, tail, tl, two_cells, unknown, where_are, x, y}
+use Rattle.sf_core.specs.Sat.{SameOutside, SatAll, Seg, end, cell, leaf, node, value}
 use Rattle.sf_core.specs.Syntax.{Conjunct, Conjuncts, Level, none, also, choose, points, segment, tree}
 
 loc-not_nil : (location : ℕ) → loc location ≢ nil
@@ -120,3 +120,21 @@ unknown-no_order known cs k e (take c rest leaves f o) = go (subst (λ z. Leaves
 
 pub tree-undetermined : TreeOfAnUnknownIsUndetermined
 tree-undetermined d = unknown-no_order (λ n. false) _ refl refl d
+
+cell_of_unknown-determined : HasOrder (λ n. false) cell_of_unknown
+cell_of_unknown-determined = take (points place x ((tl, unknown) ∷ [])) none (inl (refl, refl)) (plain tt) (all_taken refl)
+
+cell_of_unknown-holds : (location : ℕ) (here : Cell) (w : Value) (some : ℕ → Value) → some 0 ≡ here 0 → SatAll cell_of_unknown (value (where_are (loc location) w)) some (one_cell location here)
+cell_of_unknown-holds location here w some e = star-empty_right (location, here, refl, one-single location here, (sym e, tt))
+
+pub existential-fixed : ExistentialIsFixed
+existential-fixed = (
+  cell_of_unknown-determined,
+  inl (inr (inl refl)),
+  λ location here w some. (
+    λ d.
+        determined-fixes cell_of_unknown (value (where_are (loc location) w)) some (λ n. here 0) (one_cell location here) (one_cell location here) (one_cell location here) empty_map empty_map cell_of_unknown-determined
+        (splits-empty_right empty-holds) (splits-empty_right empty-holds) d (cell_of_unknown-holds location here w (λ n. here 0) refl) 0 (inl (inr (inl refl))),
+    cell_of_unknown-holds location here w some,
+  ),
+)

@@ -32,6 +32,11 @@ is_learned (holds p (Equal x y)) n = is_existential n x || is_existential n y
 is_learned (points p x fs) n = is_in_fields n fs
 is_learned _ n = false
 
+-- the existential becomes known where one of these conjuncts is taken
+abbrev pub is_learned_in : {E : Type 0} → Conjuncts E → ℕ → Bool
+is_learned_in none n = false
+is_learned_in (also c cs) n = is_learned c n || is_learned_in cs n
+
 -- what is known once the conjunct is taken
 abbrev pub known_after : {E : Type 0} → Conjunct E → (ℕ → Bool) → ℕ → Bool
 known_after c known n = known n || is_learned c n

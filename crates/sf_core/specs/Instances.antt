@@ -15,8 +15,9 @@ use Rattle.sf_core.specs.declared.command.Expr.{Expr}
 use Rattle.sf_core.specs.declared.command.Expr.TheVariants.{Var as Variable, Nil}
 use Rattle.sf_core.specs.Determined.{Determined}
 use Rattle.sf_core.specs.HeapStore.{Cell, Heap, IsEmpty, IsOne, Splits}
-use Rattle.sf_core.specs.Sat.{Sat, value}
-use Rattle.sf_core.specs.Syntax.{Level, level, none, also, points, segment, tree, choose, holds}
+use Rattle.sf_core.specs.Occurs.{OccursInAll}
+use Rattle.sf_core.specs.Sat.{Sat, SatAll, value}
+use Rattle.sf_core.specs.Syntax.{Conjuncts, Level, level, none, also, points, segment, tree, choose, holds}
 
 -- where all of it stands
 abbrev pub place : Place
@@ -132,3 +133,12 @@ OrderIsFound = Determined (level one_scope (also (segment place tl unknown nothi
 -- tree(_u) is not determined
 abbrev pub TreeOfAnUnknownIsUndetermined : Type 0
 TreeOfAnUnknownIsUndetermined = Determined (level one_scope (also (tree place l r unknown) none)) → ⊥
+
+-- x|->tl:_u
+abbrev pub cell_of_unknown : Conjuncts Expr
+cell_of_unknown = also (points place x ((tl, unknown) ∷ [])) none
+
+-- x|->tl:_u is determined, and so fixes _u: on the heap of one cell it holds with the field's value, and with no other
+abbrev pub ExistentialIsFixed : Type 0
+ExistentialIsFixed = Determined (level one_scope cell_of_unknown) × OccursInAll cell_of_unknown unknown
+    × ((location : ℕ) (cell : Cell) (w : Value) (some : ℕ → Value) → SatAll cell_of_unknown (value (where_are (loc location) w)) some (one_cell location cell) ↔ (some 0 ≡ cell 0))

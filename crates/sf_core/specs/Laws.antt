@@ -7,14 +7,16 @@ use Rattle.sf_base.specs.declared.place.Place.{Place}
 use Rattle.sf_base.specs.declared.value.Value.{Value}
 use Rattle.sf_base.specs.declared.value.Value.TheVariants.{Loc as loc}
 use Rattle.sf_core.specs.declared.assertion.Operand.{Operand}
+use Rattle.sf_core.specs.declared.assertion.Operand.TheVariants.{Exists}
+use Rattle.sf_core.specs.declared.assertion.Scope.{Scope}
 use Rattle.sf_core.specs.declared.command.Expr.{Expr}
 use Rattle.sf_core.specs.Determined.{CanBeTaken, Determined, HasOrder, Leaves, known_after}
 use Rattle.sf_core.specs.HeapStore.{Heap, Splits}
-use Rattle.sf_core.specs.Occurs.{VarOccursIn}
+use Rattle.sf_core.specs.Occurs.{OccursInAll, VarOccursIn}
 use Rattle.sf_core.specs.Precise.{IsPrecise}
-use Rattle.sf_core.specs.Sat.{Foot, Sat, SatOne, Seg, Tree, operand, value}
+use Rattle.sf_core.specs.Sat.{Foot, Sat, SatAll, SatOne, Seg, Tree, operand, value}
 use Rattle.sf_core.specs.Shape.{IsAcyclic, IsFinite}
-use Rattle.sf_core.specs.Syntax.{Conjunct, Conjuncts, Level, points, segment, tree}
+use Rattle.sf_core.specs.Syntax.{Conjunct, Conjuncts, Level, level, points, segment, tree}
 
 -- the two parts of a heap may be exchanged
 abbrev pub UnionIsCommutative : Type 0
@@ -60,6 +62,11 @@ SatSpeaksOfOccurringVariables = (assertion : Level Expr) (before after : Var →
 -- a determined assertion has at most one footprint in each heap
 abbrev pub DeterminedHasOneFootprint : Type 0
 DeterminedHasOneFootprint = (assertion : Level Expr) (vars : Var → Value) (heap one two : Heap) → Determined assertion → Foot assertion (value vars) heap one → Foot assertion (value vars) heap two → one ≡ two
+
+-- the existentials of a determined assertion have the same values wherever its conjuncts hold on parts of one heap
+abbrev pub DeterminedFixesExistentials : Type 0
+DeterminedFixesExistentials = (made : Scope) (cs : Conjuncts Expr) (vars : Var → Value) (here there : ℕ → Value) (heap one two other another : Heap) → Determined (level made cs)
+    → Splits heap one other → Splits heap two another → SatAll cs (value vars) here one → SatAll cs (value vars) there two → (n : ℕ) → OccursInAll cs (Exists n) → here n ≡ there n
 
 -- where conjuncts have an order, any one of them that can be taken may come first
 abbrev pub AnyReadyConjunctMayComeFirst : Type 0

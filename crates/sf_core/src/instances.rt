@@ -1,6 +1,6 @@
 //! Small heaps and assertions, worked out. Each function does nothing; its contract is the result.
 
-ghost use Rattle.sf_core.specs.Instances.{TwoCellsAreACellAndAList, NoLessIsACellAndAList, ChoiceGoesByItsTest, ExistentialIsTheFieldsValue, OneNodeIsATree, SegmentMayEndAtAnAbsentCell, CircleIsNoSegment, OrderIsFound, TreeOfAnUnknownIsUndetermined};
+ghost use Rattle.sf_core.specs.Instances.{TwoCellsAreACellAndAList, NoLessIsACellAndAList, ChoiceGoesByItsTest, ExistentialIsTheFieldsValue, OneNodeIsATree, SegmentMayEndAtAnAbsentCell, CircleIsNoSegment, OrderIsFound, TreeOfAnUnknownIsUndetermined, ExistentialIsFixed};
 
 /// `x|->tl:y * ls(y,nil)` holds of two cells in a row.
 pub fn two_cells_are_a_cell_and_a_list()
@@ -45,4 +45,9 @@ pub fn order_is_found()
 /// `tree(_u)` is not determined.
 pub fn tree_of_an_unknown_is_undetermined()
     ensures { TreeOfAnUnknownIsUndetermined }
+{}
+
+/// `x|->tl:_u` holds on a cell with the field's value for `_u`, and with no other.
+pub fn existential_is_fixed()
+    ensures { ExistentialIsFixed }
 {}

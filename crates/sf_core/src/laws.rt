@@ -1,6 +1,6 @@
 //! Laws of heaps and assertions. Each function does nothing; its contract is the law.
 
-ghost use Rattle.sf_core.specs.Laws.{UnionIsCommutative, UnionIsAssociative, UnionCancels, PointsToHasExactlyOneCell, SegmentHasNoCellAtItsEnd, SegmentsCompose, TreeIsFiniteAndAcyclic, SegmentsAndTreesArePrecise, SatSpeaksOfOccurringVariables, DeterminedHasOneFootprint, AnyReadyConjunctMayComeFirst};
+ghost use Rattle.sf_core.specs.Laws.{UnionIsCommutative, UnionIsAssociative, UnionCancels, PointsToHasExactlyOneCell, SegmentHasNoCellAtItsEnd, SegmentsCompose, TreeIsFiniteAndAcyclic, SegmentsAndTreesArePrecise, SatSpeaksOfOccurringVariables, DeterminedHasOneFootprint, DeterminedFixesExistentials, AnyReadyConjunctMayComeFirst};
 
 /// The two parts of a heap may be exchanged.
 pub fn union_of_heaps_is_commutative()
@@ -50,6 +50,11 @@ pub fn sat_speaks_of_occurring_variables()
 /// A determined assertion has at most one footprint.
 pub fn determined_has_one_footprint()
     ensures { DeterminedHasOneFootprint }
+{}
+
+/// The existentials of a determined assertion have one value each in a heap: those of a footprint.
+pub fn determined_fixes_existentials()
+    ensures { DeterminedFixesExistentials }
 {}
 
 /// Which of the conjuncts that are ready is taken first does not matter.
