@@ -216,12 +216,14 @@ module _ {E : Type 0} (v : E → Value) where
 pub determined-precise : {E : Type 0} (a : Level E) (v : E → Value) (some : ℕ → Value) → Determined a → IsPrecise (Sat a v some)
 determined-precise (level made cs) v some o h g k q r m n d e = (order-same v (λ n. false) cs o d.0 e.0 h g k q r (λ n i. absurd (true≢false (sym i))) m n d.2 e.2).heaps
 
+-- the existentials of a determined level are learned
+pub determined-learns : {E : Type 0} (v : E → Value) (cs : Conjuncts E) → HasOrder (λ n. false) cs → (n : ℕ) → OccursInAll cs (Exists n) → is_learned_in cs n ≡ true
+determined-learns v cs o n i = either (order-occurs v (λ m. false) cs n o i) (λ f. absurd (true≢false (sym f))) (λ f. f)
+
 -- the existentials of a determined level have one value each
 pub determined-fixes : {E : Type 0} (cs : Conjuncts E) (v : E → Value) (s t : ℕ → Value) (heap one two other another : Heap) → HasOrder (λ n. false) cs → Splits heap one other → Splits heap two another → SatAll cs v s one → SatAll cs v t two
     → (n : ℕ) → OccursInAll cs (Exists n) → s n ≡ t n
-determined-fixes cs v s t h g k q r o m n d e l i =
-    let same = order-same v (λ n. false) cs o s t h g k q r (λ j f. absurd (true≢false (sym f))) m n d e in
-    either (order-occurs v (λ n. false) cs l o i) (λ f. absurd (true≢false (sym f))) (same.learned l)
+determined-fixes cs v s t h g k q r o m n d e l i = (order-same v (λ n. false) cs o s t h g k q r (λ j f. absurd (true≢false (sym f))) m n d e).learned l (determined-learns v cs o l i)
 
 -- a determined level has at most one footprint
 pub determined-one_footprint : {E : Type 0} (a : Level E) (v : E → Value) (heap one two : Heap) → Determined a → Foot a v heap one → Foot a v heap two → one ≡ two

@@ -1,6 +1,6 @@
 -- Laws of heaps and assertions, each in words of its own: what a reader may expect of the definitions.
 -- Reynolds, "Separation Logic" (2002); O'Hearn, Yang, Reynolds, "Separation and Information Hiding" (2004) for precision.
-use Rattle.std.specs.Prelude.{◌≡◌, ◌≢◌, ◌↔◌, ℕ, Bool, List, None}
+use Rattle.std.specs.Prelude.{◌≡◌, ◌≢◌, ◌↔◌, ℕ, Bool, true, List, None}
 use Rattle.sf_base.specs.declared.ids.FieldId.{FieldId}
 use Rattle.sf_base.specs.declared.ids.Var.{Var}
 use Rattle.sf_base.specs.declared.place.Place.{Place}
@@ -10,7 +10,7 @@ use Rattle.sf_core.specs.declared.assertion.Operand.{Operand}
 use Rattle.sf_core.specs.declared.assertion.Operand.TheVariants.{Exists}
 use Rattle.sf_core.specs.declared.assertion.Scope.{Scope}
 use Rattle.sf_core.specs.declared.command.Expr.{Expr}
-use Rattle.sf_core.specs.Determined.{CanBeTaken, Determined, HasOrder, Leaves, known_after}
+use Rattle.sf_core.specs.Determined.{CanBeTaken, Determined, HasOrder, Leaves, is_learned_in, known_after}
 use Rattle.sf_core.specs.HeapStore.{Heap, Splits}
 use Rattle.sf_core.specs.Occurs.{OccursInAll, VarOccursIn}
 use Rattle.sf_core.specs.Precise.{IsPrecise}
@@ -67,6 +67,10 @@ DeterminedHasOneFootprint = (assertion : Level Expr) (vars : Var → Value) (hea
 abbrev pub DeterminedFixesExistentials : Type 0
 DeterminedFixesExistentials = (made : Scope) (cs : Conjuncts Expr) (vars : Var → Value) (here there : ℕ → Value) (heap one two other another : Heap) → Determined (level made cs)
     → Splits heap one other → Splits heap two another → SatAll cs (value vars) here one → SatAll cs (value vars) there two → (n : ℕ) → OccursInAll cs (Exists n) → here n ≡ there n
+
+-- each existential that stands in a determined assertion becomes known where one of its conjuncts is taken
+abbrev pub EachExistentialBecomesKnown : Type 0
+EachExistentialBecomesKnown = (made : Scope) (cs : Conjuncts Expr) → Determined (level made cs) → (n : ℕ) → OccursInAll cs (Exists n) → is_learned_in cs n ≡ true
 
 -- where conjuncts have an order, any one of them that can be taken may come first
 abbrev pub AnyReadyConjunctMayComeFirst : Type 0

@@ -1,6 +1,6 @@
 //! Laws of heaps and assertions. Each function does nothing; its contract is the law.
 
-ghost use Rattle.sf_core.specs.Laws.{UnionIsCommutative, UnionIsAssociative, UnionCancels, PointsToHasExactlyOneCell, SegmentHasNoCellAtItsEnd, SegmentsCompose, TreeIsFiniteAndAcyclic, SegmentsAndTreesArePrecise, SatSpeaksOfOccurringVariables, DeterminedHasOneFootprint, DeterminedFixesExistentials, AnyReadyConjunctMayComeFirst};
+ghost use Rattle.sf_core.specs.Laws.{UnionIsCommutative, UnionIsAssociative, UnionCancels, PointsToHasExactlyOneCell, SegmentHasNoCellAtItsEnd, SegmentsCompose, TreeIsFiniteAndAcyclic, SegmentsAndTreesArePrecise, SatSpeaksOfOccurringVariables, DeterminedHasOneFootprint, DeterminedFixesExistentials, EachExistentialBecomesKnown, AnyReadyConjunctMayComeFirst};
 
 /// The two parts of a heap may be exchanged.
 pub fn union_of_heaps_is_commutative()
@@ -55,6 +55,11 @@ pub fn determined_has_one_footprint()
 /// The existentials of a determined assertion have one value each in a heap: those of a footprint.
 pub fn determined_fixes_existentials()
     ensures { DeterminedFixesExistentials }
+{}
+
+/// Each existential of a determined assertion becomes known.
+pub fn each_existential_becomes_known()
+    ensures { EachExistentialBecomesKnown }
 {}
 
 /// Which of the conjuncts that are ready is taken first does not matter.
