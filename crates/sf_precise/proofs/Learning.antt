@@ -6,6 +6,7 @@ use Rattle.std.specs.Ordering.{nat_cmp}
 use Rattle.std.specs.BTreeMap.{BTreeMap, get, is_at, Updates}
 use Rattle.std.specs.declared.alloc.Global.{Global}
 use Rattle.std.proofs.lemmas.Bool.Decides.{nat_tests}
+use Rattle.std.proofs.Math.Bool.{or_assoc}
 use Rattle.std.proofs.lemmas.List.Folds.{list_any-append}
 use Rattle.std.proofs.lemmas.List.Sums.{sum_by-cons}
 use Rattle.std.proofs.lemmas.Bool.{cases_lt}
@@ -24,10 +25,6 @@ pub or-false : (a : Bool) → (a || false) ≡ a
 or-false true = refl
 or-false false = refl
 
-pub or-assoc : (a b c : Bool) → (a || (b || c)) ≡ ((a || b) || c)
-or-assoc true b c = refl
-or-assoc false b c = refl
-
 -- work is the same where the same is known
 pub work-same : (jobs : List Job) (known more : ℕ → Bool) (taken : List Bool) (w : Work) → ((n : ℕ) → known n ≡ more n) → IsWork jobs known taken w → IsWork jobs more taken w
 work-same jobs known more taken w same is = subst (λ (k : ℕ → Bool). IsWork jobs k taken w) (λ i n. same n i) is
@@ -36,7 +33,7 @@ with-none : (known : ℕ → Bool) (n : ℕ) → known n ≡ known_with [] known
 with-none known n = sym (or-false (known n))
 
 with-both : (ns ms : List ℕ) (known : ℕ → Bool) (n : ℕ) → known_with ms (known_with ns known) n ≡ known_with (ns ++ ms) known n
-with-both ns ms known n = sym (or-assoc (known n) (list_any (λ m. m == n) ns) (list_any (λ m. m == n) ms)) ∙ ap (λ (b : Bool). known n || b) (sym (list_any-append (λ m. m == n) ns ms))
+with-both ns ms known n = or_assoc (known n) (list_any (λ m. m == n) ns) (list_any (λ m. m == n) ms) ∙ ap (λ (b : Bool). known n || b) (sym (list_any-append (λ m. m == n) ns ms))
 
 -- nothing becomes known
 pub learns-none : (w : Work) → Learns [] w w

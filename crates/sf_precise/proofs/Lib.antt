@@ -1,4 +1,5 @@
 pub mod Views
+pub mod Outers
 pub mod Learning
 pub mod Agree
 pub mod Greedy

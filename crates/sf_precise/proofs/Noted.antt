@@ -3,6 +3,7 @@ use Rattle.std.proofs.Common.{◌≡◌, ◌⊎◌, Bool, true, false, cond, ℕ
 use Rattle.std.proofs.lemmas.Bool.Decides.{nat_tests}
 use Rattle.std.proofs.lemmas.List.{map-append, map_more, take_all}
 use Rattle.std.proofs.lemmas.List.Elements.{Contains-append_left, Contains-push, Contains-push_cases}
+use Rattle.std.proofs.lemmas.Slice.Zip.{all_zipped_more}
 use Rattle.sf_base.specs.declared.place.Place.{Place}
 use Rattle.sf_core.proofs.Cases.{either}
 use Rattle.sf_core.specs.Determined.{Determined}
@@ -11,7 +12,6 @@ use Rattle.sf_precise.specs.Notes.{AreOrdersOf, IsFirstPlace, NeverTakenIn, earl
 use Rattle.sf_precise.specs.Order.{IsOrderOf}
 use Rattle.sf_precise.specs.Taken.{IsFirstNeverTaken, NeverTakenAt}
 use Rattle.sf_precise.proofs.Branches.{never-undetermined}
-use Rattle.sf_precise.proofs.Sequences.{zip-push}
 
 never-one : {E : Type 0} (known : _) (all cs : Conjuncts E) (p q : Place) → IsFirstNeverTaken known all cs p → IsFirstNeverTaken known all cs q → p ≡ q
 never-one known all none p q i j = absurd i
@@ -43,7 +43,7 @@ noted-none = record { place = λ q n. (let h = n.1.1 in absurd (omega arith)); a
 
 -- one more annotation that is determined
 pub noted-ordered : (notes : List Assertion) (first : Option Place) (orders : List Assertion) (a o : Assertion) → Determined a.level → IsOrderOf a o → IsNoted notes first orders → IsNoted (notes ++ a ∷ []) first (orders ++ o ∷ [])
-noted-ordered notes first orders a o d i n = record { place = place first n.place; all = λ e. zip-push IsOrderOf notes orders a o (n.all e) i }
+noted-ordered notes first orders a o d i n = record { place = place first n.place; all = λ e. all_zipped_more IsOrderOf notes orders a o (n.all e) i }
   where
     old : (q : Place) → NeverTakenIn (notes ++ a ∷ []) q → NeverTakenIn notes q
     old q (b, c, m) = either (Contains-push_cases notes a b c) (λ h. (b, h, m)) (λ h. absurd (never-undetermined b.level q m (subst (λ (z : Assertion). Determined z.level) h d)))

@@ -9,7 +9,9 @@ use Rattle.std.specs.BTreeSet.{BTreeSet, Updates, IsLowerBound, contains}
 use Rattle.std.proofs.lemmas.Bool.{cases_lt}
 use Rattle.std.proofs.lemmas.Bool.Decides.{eqb_tells, nat_tests}
 use Rattle.std.proofs.lemmas.List.{append-nil, get_or-set_other, get_or-set_same, get_or_past, length-map, length-set, map-append, take_more}
+use Rattle.std.proofs.lemmas.List.Folds.{list_any-append}
 use Rattle.std.proofs.lemmas.Option.{slice_get_cases, slice_get_within, slice_get-map, slice_get_read}
+use Rattle.std.proofs.lemmas.Slice.Zip.{AllZip-long, all_zipped_more}
 use Rattle.sf_core.specs.declared.command.Expr.{Expr}
 use Rattle.sf_core.proofs.Cases.{either, some-same}
 use Rattle.sf_core.specs.declared.assertion.Operand.{Operand}
@@ -29,7 +31,7 @@ use Rattle.sf_precise.specs.Work.{IsFirstLacking, IsWork, Learns, is_ready, is_s
 use Rattle.sf_precise.proofs.Adding.{past-one}
 use Rattle.sf_precise.proofs.Agree.{first-leaves}
 use Rattle.sf_precise.proofs.Greedy.{within-learned}
-use Rattle.sf_precise.proofs.Learning.{or-assoc, or-false, work-same}
+use Rattle.sf_precise.proofs.Learning.{or-false, work-same}
 use Rattle.sf_precise.proofs.NeverTaken.{known_by, known-then_one, stuck-first, takes-more, takes-one, then_one}
 use Rattle.sf_precise.proofs.Ready.{job-ready, prepared-within, ready-job}
 
@@ -88,22 +90,10 @@ zip-at R (z ∷ zs) [] i x y a e f = absurd a
 zip-at R (z ∷ zs) (w ∷ ws) zero x y a e f = let p : z ≡ x = some-same z x e in let q : w ≡ y = some-same w y f in subst (λ b. R b y) p (subst (R z) q a.0)
 zip-at R (z ∷ zs) (w ∷ ws) (suc i) x y a e f = zip-at R zs ws i x y a.1 e f
 
-pub zip-length : {A B : Type 0} (R : A → B → Type 0) (xs : List A) (ys : List B) → AllZip R xs ys → length ys ≡ length xs
-zip-length R [] [] a = refl
-zip-length R [] (y ∷ ys) a = absurd a
-zip-length R (x ∷ xs) [] a = absurd a
-zip-length R (x ∷ xs) (y ∷ ys) a = ap suc (zip-length R xs ys a.1)
-
-pub zip-push : {A B : Type 0} (R : A → B → Type 0) (xs : List A) (ys : List B) (x : A) (y : B) → AllZip R xs ys → R x y → AllZip R (xs ++ x ∷ []) (ys ++ y ∷ [])
-zip-push R [] [] x y a r = (r, tt)
-zip-push R [] (w ∷ ws) x y a r = absurd a
-zip-push R (z ∷ zs) [] x y a r = absurd a
-zip-push R (z ∷ zs) (w ∷ ws) x y a r = (a.0, zip-push R zs ws x y a.1 r)
-
 -- one more of a list and the one that belongs to it
 pub zip-more : {A B : Type 0} (R : A → B → Type 0) (xs : List A) (ys : List B) (i : ℕ) (x : A) (y : B) → i < length xs → x ≡ slice_index_or xs i x → AllZip R (take i xs) ys → R x y → AllZip R (take (i + 1) xs) (ys ++ y ∷ [])
 zip-more {A} R xs ys i x y h e a r =
-    subst (λ (zs : List A). AllZip R zs (ys ++ y ∷ [])) (sym (take_more xs i x h ∙ ap (λ (z : A). take i xs ++ z ∷ []) (sym e))) (zip-push R (take i xs) ys x y a r)
+    subst (λ (zs : List A). AllZip R zs (ys ++ y ∷ [])) (sym (take_more xs i x h ∙ ap (λ (z : A). take i xs ++ z ∷ []) (sym e))) (all_zipped_more R (take i xs) ys x y a r)
 
 jobs-length : (start : ℕ → Bool) (xs : List (Conjunct Expr)) (os : List Bool) → length os ≡ length xs → length (jobs_of start xs os) ≡ length xs
 jobs-length start [] os e = refl
@@ -121,17 +111,13 @@ existential-is : (x : Operand Expr) (n : ℕ) → list_any (λ m. m == n) (exist
 existential-is (Known e) n = refl
 existential-is (Exists m) n = or-false (m == n)
 
-any-append : (n : ℕ) (xs ys : List ℕ) → list_any (λ m. m == n) (xs ++ ys) ≡ (list_any (λ m. m == n) xs || list_any (λ m. m == n) ys)
-any-append n [] ys = refl
-any-append n (x ∷ xs) ys = ap (λ b. (x == n) || b) (any-append n xs ys) ∙ or-assoc (x == n) (list_any (λ m. m == n) xs) (list_any (λ m. m == n) ys)
-
 fields-is : (fs : List (FieldId × Operand Expr)) (n : ℕ) → list_any (λ m. m == n) (field_existentials fs) ≡ is_in_fields n fs
 fields-is [] n = refl
-fields-is (f ∷ fs) n = any-append n (existential f.1) (field_existentials fs) ∙ ap₂ ◌||◌ (existential-is f.1 n) (fields-is fs n)
+fields-is (f ∷ fs) n = list_any-append (λ m. m == n) (existential f.1) (field_existentials fs) ∙ ap₂ ◌||◌ (existential-is f.1 n) (fields-is fs n)
 
 learned-is : (c : Conjunct Expr) (n : ℕ) → list_any (λ m. m == n) (learned_from c) ≡ is_learned c n
 learned-is (holds p True) n = refl
-learned-is (holds p (Equal x y)) n = any-append n (existential x) (existential y) ∙ ap₂ ◌||◌ (existential-is x n) (existential-is y n)
+learned-is (holds p (Equal x y)) n = list_any-append (λ m. m == n) (existential x) (existential y) ∙ ap₂ ◌||◌ (existential-is x n) (existential-is y n)
 learned-is (holds p (Differ x y)) n = refl
 learned-is (points p x fs) n = fields-is fs n
 learned-is (segment p next x y) n = refl
@@ -193,7 +179,7 @@ module _ {A : Type 0} (f : A → Conjunct Expr) (start : ℕ → Bool) (cs : Lis
     pub size : length parts ≡ length cs
 
   sizes : ArePrepared → length jobs ≡ length cs
-  sizes p = jobs-length start (map f cs) (map is_some given) (length-map given is_some ∙ zip-length (λ c o. IsPrepared (f c) (option_map f o)) cs given p ∙ sym (length-map cs f)) ∙ length-map cs f
+  sizes p = jobs-length start (map f cs) (map is_some given) (length-map given is_some ∙ AllZip-long (λ c o. IsPrepared (f c) (option_map f o)) cs given p ∙ sym (length-map cs f)) ∙ length-map cs f
 
   -- at first nothing is taken
   pub progress-starts : (w : Work) → ArePrepared → IsWork jobs start (none_taken jobs) w → Progress w given []
@@ -204,7 +190,7 @@ module _ {A : Type 0} (f : A → Conjunct Expr) (start : ℕ → Bool) (cs : Lis
     takes = ap conjuncts (sym all);
     goes_on = λ os o. subst (λ (xs : List (Conjunct Expr)). IsOrder start (conjuncts xs) (conjuncts os)) all o;
     rest = λ i e. refl;
-    size = zip-length (λ c o. IsPrepared (f c) (option_map f o)) cs given p;
+    size = AllZip-long (λ c o. IsPrepared (f c) (option_map f o)) cs given p;
   }
     where
       all : left (none_taken jobs) (map f cs) ≡ map f cs
@@ -224,7 +210,7 @@ module _ {A : Type 0} (f : A → Conjunct Expr) (start : ℕ → Bool) (cs : Lis
           → ((x : Option A) × (i < length given) × (slice_get given i ≡ Some x) × (slice_index_or given i x ≡ x)) ⊎ ((length given ≤ i) × (slice_get given i ≡ None)) → At i
       go (inl a) (inl b) = record { conjunct = a.0; part = b.0; here = a.2; there = b.2 }
       go (inr a) b = absurd (let c = a.0 in omega arith)
-      go (inl a) (inr b) = absurd (let c = b.0 in let s = zip-length (λ c o. IsPrepared (f c) (option_map f o)) cs given p in omega arith)
+      go (inl a) (inr b) = absurd (let c = b.0 in let s = AllZip-long (λ c o. IsPrepared (f c) (option_map f o)) cs given p in omega arith)
 
   job-at : (i : ℕ) (a : At i) → slice_get jobs i ≡ Some (job_of start (f a.conjunct) (is_some (option_map f a.part)))
   job-at i a = jobs-at start (map f cs) (map is_some given) i (f a.conjunct) (is_some (option_map f a.part)) (slice_get-map f cs i ∙ ap (option_map f) a.here) (slice_get-map is_some given i ∙ ap (option_map is_some) a.there ∙ ap Some (sym (same a.part)))

@@ -1,16 +1,18 @@
 //! The order of an assertion, branches first: what is known around a branch decides nothing about
 //! its order, once all that it takes from there is known.
 
-ghost use Rattle.std.specs.Prelude.{◌≡◌, [], map, option_map, IfErr, IfOk, Some, None};
+ghost use Rattle.std.specs.Prelude.{◌≡◌, ◌++◌, [], map, option_map, IfErr, IfOk, OnOk, Some, None};
 ghost use Rattle.std.specs.List.{AllZip};
 ghost use Rattle.sf_core.specs.Determined.{Determined, HasOrder};
 ghost use Rattle.sf_core.specs.View.{assertion_of, conjunct_of, level_of};
 ghost use Rattle.sf_precise.specs.Order.{IsOrderFrom, IsOrderOf};
+ghost use Rattle.sf_precise.specs.Outer.{outer_of, outer_of_level};
 ghost use Rattle.sf_precise.specs.Prepared.{IsBranch, IsPrepared};
 ghost use Rattle.sf_precise.specs.Taken.{IfUndetermined, NeverTakenAt, NeverTakenFrom};
 ghost use Rattle.sf_precise.specs.Waits.{known_outside};
 
 use crate::fault::OrderFault;
+use crate::outer::{add_all_not_made, add_existential, add_of_fields, add_of_test};
 use crate::sequence::sequence;
 use sf_base::Name;
 use sf_core::{Assertion, Conjunct, Expr, Level, Ordered, Scope};
@@ -25,7 +27,8 @@ pub fn order(alloc: Global, a: &Assertion) -> Result<Ordered, OrderFault>
     ensures undetermined { IfErr result (λ e. IfUndetermined e (λ p. ¬ Determined (assertion_of a.now).level)) }
     ensures place { IfErr result (λ e. IfUndetermined e (NeverTakenAt (assertion_of a.now).level)) }
 {
-    let level = order_level(alloc, None, &a.level)?;
+    let parts = prepare_all(alloc, &a.level.conjuncts)?;
+    let level = order_level(alloc, None, &a.level, parts)?;
     let names = copy_names(alloc, &a.names)?;
     Ok(Ordered {
         assertion: Assertion { names, level },
@@ -43,73 +46,110 @@ fn copy_names(alloc: Global, names: &[Name]) -> Result<Vec<Name>, AllocError>
     Ok(copy)
 }
 
-/// The level in order, where nothing is known at first, or all but what that scope makes.
-#[cycle(levels)]
+/// The conjuncts of a level, looked at before any is taken.
+#[derive(Debug, Drop)]
+struct Parts {
+    /// Each with its branches in order, if they have one.
+    orders: Vec<Option<Conjunct<Expr>>>,
+    /// The existentials that each takes from the scopes around it.
+    outers: Vec<Vec<u32>>,
+}
+
+/// The level in order, where nothing is known at first, or all but what that scope makes. The parts
+/// are those of its conjuncts.
 fn order_level(
     alloc: Global,
     start: Option<Scope>,
     level: &Level<Expr>,
+    parts: Parts,
 ) -> Result<Level<Expr>, OrderFault>
+    requires prepared { AllZip (λ c o. IsPrepared (conjunct_of c) (option_map conjunct_of o)) level.now.conjuncts.items parts.orders.items }
+    requires outer { AllZip (λ c ns. ns.items ≡ outer_of (conjunct_of c)) level.now.conjuncts.items parts.outers.items }
     ensures ordered { IfOk result (λ o. IsOrderFrom (known_outside start) (level_of level.now) (level_of o)) }
     ensures undetermined { IfErr result (λ e. IfUndetermined e (NeverTakenFrom (known_outside start) (level_of level.now))) }
 {
-    let parts = prepare_all(alloc, &level.conjuncts)?;
-    let conjuncts = sequence(alloc, start, &level.conjuncts, parts)?;
+    let conjuncts = sequence(alloc, start, &level.conjuncts, parts.orders, &parts.outers)?;
     Ok(Level {
         made: level.made,
         conjuncts,
     })
 }
 
-/// The branch in order, if it has one.
+/// The branch in order, if it has one. Appends the existentials that it takes from the scopes
+/// around it.
 #[cycle(levels)]
-fn order_branch(alloc: Global, branch: &Level<Expr>) -> Result<Option<Level<Expr>>, AllocError>
-    ensures { IfOk result (λ o. IsBranch (level_of branch.now) (option_map level_of o)) }
+fn order_branch(
+    alloc: Global,
+    branch: &Level<Expr>,
+    outer: &mut Vec<u32>,
+) -> Result<Option<Level<Expr>>, AllocError>
+    ensures order { IfOk result (λ o. IsBranch (level_of branch.now) (option_map level_of o)) }
+    ensures outer { OnOk result (outer.new.items ≡ outer.old.items ++ outer_of_level (level_of branch.now)) }
 {
-    match order_level(alloc, Some(branch.made), branch) {
+    let parts = prepare_all(alloc, &branch.conjuncts)?;
+    add_all_not_made(branch.made, &parts.outers, outer)?;
+    match order_level(alloc, Some(branch.made), branch, parts) {
         Ok(level) => Ok(Some(level)),
         Err(OrderFault::Undetermined(_)) => Ok(None),
         Err(OrderFault::OutOfMemory) => Err(AllocError),
     }
 }
 
-/// Each of the conjuncts with its branches in order, if they have one.
+/// Each of the conjuncts before any is taken.
 #[cycle(levels)]
-fn prepare_all(
-    alloc: Global,
-    cs: &[Conjunct<Expr>],
-) -> Result<Vec<Option<Conjunct<Expr>>>, AllocError>
-    ensures { IfOk result (λ parts. AllZip (λ c o. IsPrepared (conjunct_of c) (option_map conjunct_of o)) cs.now parts.items) }
+fn prepare_all(alloc: Global, cs: &[Conjunct<Expr>]) -> Result<Parts, AllocError>
+    ensures prepared { IfOk result (λ parts. AllZip (λ c o. IsPrepared (conjunct_of c) (option_map conjunct_of o)) cs.now parts.orders.items) }
+    ensures outer { IfOk result (λ parts. AllZip (λ c ns. ns.items ≡ outer_of (conjunct_of c)) cs.now parts.outers.items) }
 {
-    let mut parts = Vec::with_capacity(alloc, cs.len())?;
+    let mut orders = Vec::with_capacity(alloc, cs.len())?;
+    let mut outers = Vec::with_capacity(alloc, cs.len())?;
     for c in cs {
-        parts.push(prepare(alloc, c)?)?;
+        let mut outer = Vec::new(alloc);
+        orders.push(prepare(alloc, c, &mut outer)?)?;
+        outers.push(outer)?;
     }
-    Ok(parts)
+    Ok(Parts { orders, outers })
 }
 
-/// The conjunct with its branches in order, if they have one.
+/// The conjunct with its branches in order, if they have one. Appends the existentials that it
+/// takes from the scopes around it.
 #[cycle(levels)]
-fn prepare(alloc: Global, c: &Conjunct<Expr>) -> Result<Option<Conjunct<Expr>>, AllocError>
-    ensures { IfOk result (λ o. IsPrepared (conjunct_of c.now) (option_map conjunct_of o)) }
+fn prepare(
+    alloc: Global,
+    c: &Conjunct<Expr>,
+    outer: &mut Vec<u32>,
+) -> Result<Option<Conjunct<Expr>>, AllocError>
+    ensures prepared { IfOk result (λ o. IsPrepared (conjunct_of c.now) (option_map conjunct_of o)) }
+    ensures outer { OnOk result (outer.new.items ≡ outer.old.items ++ outer_of (conjunct_of c.now)) }
 {
     match c {
-        Conjunct::Holds(place, test) => Ok(Some(Conjunct::Holds(*place, *test))),
+        Conjunct::Holds(place, test) => {
+            add_of_test(test, outer)?;
+            Ok(Some(Conjunct::Holds(*place, *test)))
+        }
         Conjunct::Points(place, root, fields) => {
+            add_existential(root, outer)?;
+            add_of_fields(fields, outer)?;
             let fields = Vec::from_slice(alloc, fields)?;
             Ok(Some(Conjunct::Points(*place, *root, fields)))
         }
         Conjunct::Segment(place, next, from, to) => {
+            add_existential(from, outer)?;
+            add_existential(to, outer)?;
             Ok(Some(Conjunct::Segment(*place, *next, *from, *to)))
         }
         Conjunct::Tree(place, left, right, root) => {
+            add_existential(root, outer)?;
             Ok(Some(Conjunct::Tree(*place, *left, *right, *root)))
         }
         Conjunct::If(place, test, this, that) => {
-            let Some(this) = order_branch(alloc, this)? else {
+            add_of_test(test, outer)?;
+            let this = order_branch(alloc, this, outer)?;
+            let that = order_branch(alloc, that, outer)?;
+            let Some(this) = this else {
                 return Ok(None);
             };
-            let Some(that) = order_branch(alloc, that)? else {
+            let Some(that) = that else {
                 return Ok(None);
             };
             Ok(Some(Conjunct::If(*place, *test, this, that)))

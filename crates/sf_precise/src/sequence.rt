@@ -4,6 +4,7 @@ ghost use Rattle.std.specs.Prelude.{◌≡◌, length, map, option_map, is_some,
 ghost use Rattle.std.specs.List.{AllZip};
 ghost use Rattle.sf_core.specs.View.{conjunct_of, conjuncts};
 ghost use Rattle.sf_precise.specs.Order.{IsOrder};
+ghost use Rattle.sf_precise.specs.Outer.{outer_of};
 ghost use Rattle.sf_precise.specs.Prepared.{IsPrepared};
 ghost use Rattle.sf_precise.specs.Taken.{IfUndetermined, IsFirstNeverTaken, place_at};
 ghost use Rattle.sf_precise.specs.Waits.{jobs_of, known_outside};
@@ -18,19 +19,21 @@ use std::alloc::{AllocError, Global};
 
 /// Takes the conjuncts one after the other, the first ready one each time, from nothing that is
 /// known, or from all but what that scope makes. The parts are the conjuncts with their branches
-/// in order.
+/// in order, and the outer existentials those that each takes from the scopes around it.
 pub fn sequence(
     alloc: Global,
     start: Option<Scope>,
     cs: &[Conjunct<Expr>],
     parts: Vec<Option<Conjunct<Expr>>>,
+    outers: &[Vec<u32>],
 ) -> Result<Vec<Conjunct<Expr>>, OrderFault>
-    requires { AllZip (λ c o. IsPrepared (conjunct_of c) (option_map conjunct_of o)) cs.now parts.items }
+    requires outer { AllZip (λ c ns. ns.items ≡ outer_of (conjunct_of c)) cs.now outers.now }
+    requires prepared { AllZip (λ c o. IsPrepared (conjunct_of c) (option_map conjunct_of o)) cs.now parts.items }
     ensures ordered { IfOk result (λ os. IsOrder (known_outside start) (conjuncts (map conjunct_of cs.now)) (conjuncts (map conjunct_of os.items))) }
     ensures undetermined { IfErr result (λ e. IfUndetermined e (IsFirstNeverTaken (known_outside start) (conjuncts (map conjunct_of cs.now)) (conjuncts (map conjunct_of cs.now)))) }
 {
     let mut parts = parts;
-    let mut work = begin(alloc, start, cs, &parts)?;
+    let mut work = begin(alloc, start, cs, &parts, outers)?;
     let mut taken = Vec::new(alloc);
     while let Some(i) = work.ready.pop_first() {
         if let Some(c) = parts[i].take() {
@@ -50,13 +53,15 @@ fn begin(
     start: Option<Scope>,
     cs: &[Conjunct<Expr>],
     parts: &[Option<Conjunct<Expr>>],
+    outers: &[Vec<u32>],
 ) -> Result<Work, AllocError>
-    requires { length parts.now ≡ length cs.now }
+    requires parts { length parts.now ≡ length cs.now }
+    requires outer { AllZip (λ c ns. ns.items ≡ outer_of (conjunct_of c)) cs.now outers.now }
     ensures { IfOk result (λ w. let jobs = jobs_of (known_outside start) (map conjunct_of cs.now) (map is_some parts.now) in IsWork jobs (known_outside start) (none_taken jobs) w) }
 {
     let mut work = Work::new(alloc);
     for (i, c) in cs.iter().enumerate() {
-        let demand = demand_of(alloc, start, c, parts[i].is_some())?;
+        let demand = demand_of(alloc, start, c, &outers[i], parts[i].is_some())?;
         work.add(&demand)?;
     }
     Ok(work)

@@ -5,7 +5,7 @@ ghost use Rattle.sf_core.specs.View.{conjunct_of};
 ghost use Rattle.sf_precise.specs.Outer.{outer_of};
 ghost use Rattle.sf_precise.specs.Waits.{is_unknown, known_outside, need_of, rests_on, unknown_among, waits_for};
 
-use crate::outer::{add_existential, add_of_test, add_outer_of, is_made};
+use crate::outer::{add_existential, add_of_test, is_made};
 use sf_core::{Conjunct, Expr, Operand, Scope, Test};
 use std::alloc::{AllocError, Global};
 
@@ -17,18 +17,21 @@ pub struct Demand {
 }
 
 /// What the conjunct waits for, where nothing is known at first, or all but what that scope makes.
-/// A conjunct of which a branch has no order waits for more than there is.
+/// A conjunct of which a branch has no order waits for more than there is. The outer ones are those
+/// that it takes from the scopes around it.
 pub fn demand_of(
     alloc: Global,
     start: Option<Scope>,
     c: &Conjunct<Expr>,
+    outer: &[u32],
     ordered: bool,
 ) -> Result<Demand, AllocError>
+    requires { outer.now ≡ outer_of (conjunct_of c.now) }
     ensures need { IfOk result (λ d. d.need ≡ need_of (known_outside start) (conjunct_of c.now) ordered) }
     ensures waits { IfOk result (λ d. d.waits.items ≡ waits_for (known_outside start) (conjunct_of c.now)) }
 {
     let mut all = Vec::new(alloc);
-    add_supplies(alloc, c, &mut all)?;
+    add_supplies(c, outer, &mut all)?;
     let waits = unknown_among(alloc, start, &all)?;
     let need = match c {
         Conjunct::Holds(_, Test::Equal(x, y)) => {
@@ -73,7 +76,8 @@ fn unknown_among(alloc: Global, start: Option<Scope>, ns: &[u32]) -> Result<Vec<
 }
 
 /// Appends the existentials on which readiness of the conjunct rests.
-fn add_supplies(alloc: Global, c: &Conjunct<Expr>, found: &mut Vec<u32>) -> Result<(), AllocError>
+fn add_supplies(c: &Conjunct<Expr>, outer: &[u32], found: &mut Vec<u32>) -> Result<(), AllocError>
+    requires { outer.now ≡ outer_of (conjunct_of c.now) }
     ensures { OnOk result (found.new.items ≡ found.old.items ++ rests_on (conjunct_of c.now)) }
 {
     match c {
@@ -95,7 +99,7 @@ fn add_supplies(alloc: Global, c: &Conjunct<Expr>, found: &mut Vec<u32>) -> Resu
             Ok(())
         }
         Conjunct::If(_, _, _, _) => {
-            add_outer_of(alloc, c, found)?;
+            found.extend_from_slice(outer)?;
             Ok(())
         }
     }
