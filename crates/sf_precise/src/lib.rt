@@ -3,11 +3,11 @@
 #![tactic(auto)]
 
 pub mod arranged;
-pub mod arranging;
+mod arranging;
 pub mod fault;
 pub mod laws;
 mod notes;
-pub mod ordering;
+mod ordering;
 mod outer;
 mod sequence;
 mod waits;
