@@ -5,7 +5,10 @@ ghost use Rattle.sf_ast.specs.View.{assertion_of as surface_assertion, conjunct_
 ghost use Rattle.sf_core.specs.View as core;
 ghost use Rattle.sf_elab.specs.Assertions.{operand_of, operand_faults, operand_place, values_of, values_faults, link_of, segment_faults, tree_faults, conjunct_of, conjuncts_of, level_of, conjunct_faults, assertion_faults, note_of, note_faults, maybe_of, maybe_faults};
 ghost use Rattle.sf_elab.specs.Existentials.{after, after_conjunct, after_level};
-ghost use Rattle.sf_core.specs.Syntax.{level, none};
+ghost use Rattle.sf_core.specs.declared.assertion.Operand.TheVariants.{Known};
+ghost use Rattle.sf_core.specs.declared.assertion.Test.TheVariants.{Equal, Differ};
+ghost use Rattle.sf_core.specs.declared.command.Expr.TheVariants.{Nil};
+ghost use Rattle.sf_core.specs.Syntax.{level, none, holds, points as cell, segment, tree};
 ghost use Rattle.sf_elab.specs.declared.fault.Fault.TheVariants.{Twice};
 ghost use Rattle.sf_elab.specs.declared.fault.Link.TheVariants.{Next, Left, Right};
 ghost use Rattle.sf_elab.specs.Faults.{link_name, where_};
@@ -142,7 +145,7 @@ fn link(sight: &Sight<'_>, link: Link) -> Option<FieldId>
 }
 
 /// The field of a segment.
-fn segment(sight: &Sight<'_>, place: Place, found: &mut Vec<Fault>) -> Result<FieldId, AllocError>
+fn next(sight: &Sight<'_>, place: Place, found: &mut Vec<Fault>) -> Result<FieldId, AllocError>
     ensures same { IfOk result (λ y. y ≡ link_of (sight_of sight.now) Next) }
     ensures faults { OnOk result (found.new.items ≡ found.old.items ++ segment_faults (sight_of sight.now) place) }
 {
@@ -152,7 +155,7 @@ fn segment(sight: &Sight<'_>, place: Place, found: &mut Vec<Fault>) -> Result<Fi
 }
 
 /// The fields of a tree.
-fn tree(
+fn both_links(
     sight: &Sight<'_>,
     place: Place,
     found: &mut Vec<Fault>,
@@ -167,7 +170,7 @@ fn tree(
     Ok((left.unwrap_or(FieldId(0)), right.unwrap_or(FieldId(0))))
 }
 
-/// The numbers from the one on, up to the other.
+/// The numbers from `first` on, below `end`.
 fn scope(first: usize, end: usize) -> Result<Scope, AllocError>
     ensures { IfOk result (λ s. s ≡ record { first = first; count = end - first }) }
 {
@@ -177,6 +180,127 @@ fn scope(first: usize, end: usize) -> Result<Scope, AllocError>
         first: first_kept,
         count,
     })
+}
+
+/// Two operands.
+fn sides(
+    sight: &Sight<'_>,
+    levels: &Levels,
+    x: &SurfaceOperand,
+    y: &SurfaceOperand,
+    found: &mut Vec<Fault>,
+) -> Result<(Operand<Expr>, Operand<Expr>), AllocError>
+    ensures left { IfOk result (λ z. z.0 ≡ operand_of (sight_of sight.now) levels.now x.now) }
+    ensures right { IfOk result (λ z. z.1 ≡ operand_of (sight_of sight.now) levels.now y.now) }
+    ensures faults { OnOk result (found.new.items ≡ found.old.items ++ (operand_faults (sight_of sight.now) x.now ++ operand_faults (sight_of sight.now) y.now)) }
+{
+    let left = operand(sight, levels, x, found)?;
+    let right = operand(sight, levels, y, found)?;
+    Ok((left, right))
+}
+
+/// An equation.
+fn equal(
+    sight: &Sight<'_>,
+    levels: &Levels,
+    x: &SurfaceOperand,
+    y: &SurfaceOperand,
+    found: &mut Vec<Fault>,
+) -> Result<Conjunct<Expr>, AllocError>
+    ensures same { IfOk result (λ c. core.conjunct_of c ≡ holds (operand_place x.now) (Equal (operand_of (sight_of sight.now) levels.now x.now) (operand_of (sight_of sight.now) levels.now y.now))) }
+    ensures faults { OnOk result (found.new.items ≡ found.old.items ++ (operand_faults (sight_of sight.now) x.now ++ operand_faults (sight_of sight.now) y.now)) }
+{
+    let (left, right) = sides(sight, levels, x, y, found)?;
+    Ok(Conjunct::Holds(operand_place(x), Test::Equal(left, right)))
+}
+
+/// An inequation.
+fn differ(
+    sight: &Sight<'_>,
+    levels: &Levels,
+    x: &SurfaceOperand,
+    y: &SurfaceOperand,
+    found: &mut Vec<Fault>,
+) -> Result<Conjunct<Expr>, AllocError>
+    ensures same { IfOk result (λ c. core.conjunct_of c ≡ holds (operand_place x.now) (Differ (operand_of (sight_of sight.now) levels.now x.now) (operand_of (sight_of sight.now) levels.now y.now))) }
+    ensures faults { OnOk result (found.new.items ≡ found.old.items ++ (operand_faults (sight_of sight.now) x.now ++ operand_faults (sight_of sight.now) y.now)) }
+{
+    let (left, right) = sides(sight, levels, x, y, found)?;
+    Ok(Conjunct::Holds(operand_place(x), Test::Differ(left, right)))
+}
+
+/// A cell.
+fn points(
+    alloc: Global,
+    sight: &Sight<'_>,
+    levels: &Levels,
+    x: &SurfaceOperand,
+    fields: &[SurfaceField],
+    found: &mut Vec<Fault>,
+) -> Result<Conjunct<Expr>, AllocError>
+    ensures same { IfOk result (λ c. core.conjunct_of c ≡ cell (operand_place x.now) (operand_of (sight_of sight.now) levels.now x.now) (values_of (sight_of sight.now) levels.now fields.now)) }
+    ensures faults { OnOk result (found.new.items ≡ found.old.items ++ (operand_faults (sight_of sight.now) x.now ++ values_faults (sight_of sight.now) [] fields.now)) }
+{
+    let at = operand(sight, levels, x, found)?;
+    let values = values(alloc, sight, levels, fields, found)?;
+    Ok(Conjunct::Points(operand_place(x), at, values))
+}
+
+/// A segment between two operands.
+fn between(
+    sight: &Sight<'_>,
+    levels: &Levels,
+    place: Place,
+    x: &SurfaceOperand,
+    y: &SurfaceOperand,
+    found: &mut Vec<Fault>,
+) -> Result<Conjunct<Expr>, AllocError>
+    ensures same { IfOk result (λ c. core.conjunct_of c ≡ segment place (link_of (sight_of sight.now) Next) (operand_of (sight_of sight.now) levels.now x.now) (operand_of (sight_of sight.now) levels.now y.now)) }
+    ensures faults { OnOk result (found.new.items ≡ found.old.items ++ (segment_faults (sight_of sight.now) place ++ operand_faults (sight_of sight.now) x.now ++ operand_faults (sight_of sight.now) y.now)) }
+{
+    let next = next(sight, place, found)?;
+    let (left, right) = sides(sight, levels, x, y, found)?;
+    Ok(Conjunct::Segment(place, next, left, right))
+}
+
+/// A whole list.
+fn list(
+    sight: &Sight<'_>,
+    levels: &Levels,
+    place: Place,
+    x: &SurfaceOperand,
+    found: &mut Vec<Fault>,
+) -> Result<Conjunct<Expr>, AllocError>
+    ensures same { IfOk result (λ c. core.conjunct_of c ≡ segment place (link_of (sight_of sight.now) Next) (operand_of (sight_of sight.now) levels.now x.now) (Known Nil)) }
+    ensures faults { OnOk result (found.new.items ≡ found.old.items ++ (segment_faults (sight_of sight.now) place ++ operand_faults (sight_of sight.now) x.now)) }
+{
+    let next = next(sight, place, found)?;
+    let first = operand(sight, levels, x, found)?;
+    Ok(Conjunct::Segment(place, next, first, Operand::Known(Expr::Nil)))
+}
+
+/// A tree.
+fn tree(
+    sight: &Sight<'_>,
+    levels: &Levels,
+    place: Place,
+    x: &SurfaceOperand,
+    found: &mut Vec<Fault>,
+) -> Result<Conjunct<Expr>, AllocError>
+    ensures same { IfOk result (λ c. core.conjunct_of c ≡ tree place (link_of (sight_of sight.now) Left) (link_of (sight_of sight.now) Right) (operand_of (sight_of sight.now) levels.now x.now)) }
+    ensures faults { OnOk result (found.new.items ≡ found.old.items ++ (tree_faults (sight_of sight.now) place ++ operand_faults (sight_of sight.now) x.now)) }
+{
+    let (left, right) = both_links(sight, place, found)?;
+    let root = operand(sight, levels, x, found)?;
+    Ok(Conjunct::Tree(place, left, right, root))
+}
+
+/// Appends a conjunct that was made.
+fn push(one: Conjunct<Expr>, done: &mut Vec<Conjunct<Expr>>) -> Result<(), AllocError>
+    ensures { OnOk result (map core.conjunct_of done.new.items ≡ map core.conjunct_of done.old.items ++ core.conjunct_of one ∷ []) }
+{
+    done.push(one)?;
+    Ok(())
 }
 
 /// Appends a conjunct, or those in its parentheses.
@@ -195,71 +319,21 @@ fn add_conjunct(
 {
     match c {
         SurfaceConjunct::Emp(_) => Ok(()),
-        SurfaceConjunct::Group(_, inside) => {
-            add_conjuncts(alloc, sight, levels, inside, done, found)?;
-            Ok(())
-        }
-        SurfaceConjunct::If(place, condition, this, that) => {
-            let condition = test(sight, levels, condition, found)?;
+        SurfaceConjunct::Group(_, all) => add_conjuncts(alloc, sight, levels, all, done, found),
+        SurfaceConjunct::If(p, b, this, that) | SurfaceConjunct::IfRound(p, b, this, that) => {
+            let test = test(sight, levels, b, found)?;
             let this = branch(alloc, sight, levels, this, found)?;
             let that = branch(alloc, sight, levels, that, found)?;
-            done.push(Conjunct::If(*place, condition, this, that))?;
-            Ok(())
+            push(Conjunct::If(*p, test, this, that), done)
         }
-        SurfaceConjunct::IfRound(place, condition, this, that) => {
-            let condition = test(sight, levels, condition, found)?;
-            let this = branch(alloc, sight, levels, this, found)?;
-            let that = branch(alloc, sight, levels, that, found)?;
-            done.push(Conjunct::If(*place, condition, this, that))?;
-            Ok(())
+        SurfaceConjunct::Equal(x, y) => push(equal(sight, levels, x, y, found)?, done),
+        SurfaceConjunct::Differ(x, y) => push(differ(sight, levels, x, y, found)?, done),
+        SurfaceConjunct::Points(x, fs) => push(points(alloc, sight, levels, x, fs, found)?, done),
+        SurfaceConjunct::Ls(p, x, y) | SurfaceConjunct::Lseg(p, x, y) => {
+            push(between(sight, levels, *p, x, y, found)?, done)
         }
-        SurfaceConjunct::Equal(x, y) => {
-            let place = operand_place(x);
-            let x = operand(sight, levels, x, found)?;
-            let y = operand(sight, levels, y, found)?;
-            done.push(Conjunct::Holds(place, Test::Equal(x, y)))?;
-            Ok(())
-        }
-        SurfaceConjunct::Differ(x, y) => {
-            let place = operand_place(x);
-            let x = operand(sight, levels, x, found)?;
-            let y = operand(sight, levels, y, found)?;
-            done.push(Conjunct::Holds(place, Test::Differ(x, y)))?;
-            Ok(())
-        }
-        SurfaceConjunct::Points(x, fields) => {
-            let place = operand_place(x);
-            let x = operand(sight, levels, x, found)?;
-            let values = values(alloc, sight, levels, fields, found)?;
-            done.push(Conjunct::Points(place, x, values))?;
-            Ok(())
-        }
-        SurfaceConjunct::Ls(place, x, y) => {
-            let next = segment(sight, *place, found)?;
-            let x = operand(sight, levels, x, found)?;
-            let y = operand(sight, levels, y, found)?;
-            done.push(Conjunct::Segment(*place, next, x, y))?;
-            Ok(())
-        }
-        SurfaceConjunct::Lseg(place, x, y) => {
-            let next = segment(sight, *place, found)?;
-            let x = operand(sight, levels, x, found)?;
-            let y = operand(sight, levels, y, found)?;
-            done.push(Conjunct::Segment(*place, next, x, y))?;
-            Ok(())
-        }
-        SurfaceConjunct::List(place, x) => {
-            let next = segment(sight, *place, found)?;
-            let x = operand(sight, levels, x, found)?;
-            done.push(Conjunct::Segment(*place, next, x, Operand::Known(Expr::Nil)))?;
-            Ok(())
-        }
-        SurfaceConjunct::Tree(place, x) => {
-            let (left, right) = tree(sight, *place, found)?;
-            let x = operand(sight, levels, x, found)?;
-            done.push(Conjunct::Tree(*place, left, right, x))?;
-            Ok(())
-        }
+        SurfaceConjunct::List(p, x) => push(list(sight, levels, *p, x, found)?, done),
+        SurfaceConjunct::Tree(p, x) => push(tree(sight, levels, *p, x, found)?, done),
     }
 }
 

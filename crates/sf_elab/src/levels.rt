@@ -32,20 +32,21 @@ fn add_operand(x: &SurfaceOperand, words: &mut Vec<Word>) -> Result<(), AllocErr
     }
 }
 
+/// Appends the existentials that the two operands are.
+fn add_both(x: &SurfaceOperand, y: &SurfaceOperand, words: &mut Vec<Word>) -> Result<(), AllocError>
+    ensures { OnOk result (words.new.items ≡ words.old.items ++ (words_in_operand x.now ++ words_in_operand y.now)) }
+{
+    add_operand(x, words)?;
+    add_operand(y, words)
+}
+
 /// Appends the existentials of the test.
 fn add_test(test: &SurfaceTest<SurfaceOperand>, words: &mut Vec<Word>) -> Result<(), AllocError>
     ensures { OnOk result (words.new.items ≡ words.old.items ++ words_in_test test.now) }
 {
     match test {
         SurfaceTest::True(_) => Ok(()),
-        SurfaceTest::Equal(x, y) => {
-            add_operand(x, words)?;
-            add_operand(y, words)
-        }
-        SurfaceTest::Differ(x, y) => {
-            add_operand(x, words)?;
-            add_operand(y, words)
-        }
+        SurfaceTest::Equal(x, y) | SurfaceTest::Differ(x, y) => add_both(x, y, words),
     }
 }
 
@@ -66,51 +67,19 @@ fn add_conjunct(c: &SurfaceConjunct, words: &mut Vec<Word>) -> Result<(), AllocE
 {
     match c {
         SurfaceConjunct::Emp(_) => Ok(()),
-        SurfaceConjunct::Group(_, inside) => {
-            add_words(inside, words)?;
-            Ok(())
+        SurfaceConjunct::Group(_, inside) => add_words(inside, words),
+        SurfaceConjunct::If(_, test, _, _) | SurfaceConjunct::IfRound(_, test, _, _) => {
+            add_test(test, words)
         }
-        SurfaceConjunct::If(_, test, _, _) => {
-            add_test(test, words)?;
-            Ok(())
-        }
-        SurfaceConjunct::IfRound(_, test, _, _) => {
-            add_test(test, words)?;
-            Ok(())
-        }
-        SurfaceConjunct::Equal(x, y) => {
-            add_operand(x, words)?;
-            add_operand(y, words)?;
-            Ok(())
-        }
-        SurfaceConjunct::Differ(x, y) => {
-            add_operand(x, words)?;
-            add_operand(y, words)?;
-            Ok(())
-        }
+        SurfaceConjunct::Equal(x, y)
+        | SurfaceConjunct::Differ(x, y)
+        | SurfaceConjunct::Ls(_, x, y)
+        | SurfaceConjunct::Lseg(_, x, y) => add_both(x, y, words),
         SurfaceConjunct::Points(x, fields) => {
             add_operand(x, words)?;
-            add_fields(fields, words)?;
-            Ok(())
+            add_fields(fields, words)
         }
-        SurfaceConjunct::Ls(_, x, y) => {
-            add_operand(x, words)?;
-            add_operand(y, words)?;
-            Ok(())
-        }
-        SurfaceConjunct::Lseg(_, x, y) => {
-            add_operand(x, words)?;
-            add_operand(y, words)?;
-            Ok(())
-        }
-        SurfaceConjunct::List(_, x) => {
-            add_operand(x, words)?;
-            Ok(())
-        }
-        SurfaceConjunct::Tree(_, x) => {
-            add_operand(x, words)?;
-            Ok(())
-        }
+        SurfaceConjunct::List(_, x) | SurfaceConjunct::Tree(_, x) => add_operand(x, words),
     }
 }
 
