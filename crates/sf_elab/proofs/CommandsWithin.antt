@@ -57,7 +57,7 @@ set_both p f i (x ∷ xs) ys h = let rest = set_both p f i xs ys h.1 in ((h.0, r
 
 set_within : (p : c.Program) (f : c.Procedure) (i : Sight) (w : Word) → MayBeSet p f i w → variable_faults i w ≡ [] → IsSettable p f (occurrence i w).var
 set_within p f i w m h =
-    let found = there (variable i w) (cond i.foreign (Foreign w) (Unknown w)) h in
+    let found = there (variable i w) (cond i.in_invariant (Foreign w) (Unknown w)) h in
     let is : unwrap_or (variable i w) (Own 0) ≡ found.0 = unwrapped (variable i w) found.0 (Own 0) found.1 in
     subst (IsSettable p f) (sym is) (m found.0 found.1)
 

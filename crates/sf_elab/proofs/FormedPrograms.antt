@@ -1,6 +1,7 @@
 -- A file without faults elaborates to a program in order.
 use Rattle.std.proofs.Common.{◌≡◌, ◌≤◌, ◌+◌, ℕ, zero, suc, true, max, List, [], ◌∷◌, length, slice_get, Some, None, refl, sym, subst, arith}
 use Rattle.std.proofs.lemmas.List.{length-map}
+use Rattle.std.proofs.lemmas.List.Sums.{length-filter, count_by-le-length}
 use Rattle.std.specs.List.{AllByRecursion}
 use Rattle.sf_ast.specs.declared.word.Word.{Word}
 use Rattle.sf_ast.specs.Depth as d
@@ -25,7 +26,7 @@ use Rattle.sf_elab.proofs.Depths.{body_no_deeper}
 use Rattle.sf_elab.proofs.Limits.{resources_few, procedures_few, fields_few, all_shared_few, own_few}
 use Rattle.sf_elab.proofs.NamedFields.{fields_named}
 use Rattle.sf_elab.proofs.NoFaults.{none_both, none_three, none_four, none_five, none_at}
-use Rattle.sf_elab.proofs.OwnVariables.{names_many, filter_few, finds_parameters, finds_body, each_among, first_within}
+use Rattle.sf_elab.proofs.OwnVariables.{names_many, finds_parameters, finds_body, each_among, first_within}
 use Rattle.sf_elab.proofs.TableLaws.{Finds, finds_none, finds_numbered}
 use Rattle.sf_elab.proofs.VariablesWithin.{Sees, seen_otherwise}
 
@@ -140,7 +141,7 @@ module _ (bytes : List ℕ) (is : List s.Item) where
         record {
           declared_count = few;
           declared = omega (arith, names_many bytes f);
-          primed = omega (arith, names_many bytes f, filter_few (is_primed bytes f) (values_of f.parameters));
+          primed = omega (arith, names_many bytes f, length-filter (is_primed bytes f) (values_of f.parameters), count_by-le-length (is_primed bytes f) (values_of f.parameters));
           pre = maybe_within outside_sees f.pre all.1 (omega arith);
           post = maybe_within outside_sees f.post all.2 (omega arith);
           body = blocks_joined whole one (first_assignments (is_primed bytes f) f.opens (length (references_of f.parameters)) (declared_count f) (values_of f.parameters)) (commands_of (inside_of bytes declared f) f.body)

@@ -1,4 +1,5 @@
 pub mod Among
+pub mod Answered
 pub mod AssertionsWithin
 pub mod CommandsWithin
 pub mod Conjuncts

@@ -40,14 +40,6 @@ names_many bytes f =
       length-map (filter (is_primed bytes f) (values_of f.parameters)) (λ w. text bytes w ++ 39 ∷ []),
     )
 
-pub filter_few : (test : Word → Bool) (ws : List Word) → length (filter test ws) ≤ length ws
-filter_few test [] = omega arith
-filter_few test (w ∷ ws) = go (test w) (filter_few test ws)
-  where
-    go : (t : Bool) → length (filter test ws) ≤ length ws → length (cond t (w ∷ filter test ws) (filter test ws)) ≤ suc (length ws)
-    go true h = omega arith
-    go false h = omega arith
-
 -- what pre and post see
 pub finds_parameters : (P : List ℕ → Var → Type 0) (bytes : List ℕ) (f : Procedure) → ((name : List ℕ) (i : ℕ) → i < parameter_count f → P name (Own i)) → Finds P (parameters_of bytes f)
 finds_parameters P bytes f p =

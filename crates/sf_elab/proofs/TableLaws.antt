@@ -17,9 +17,6 @@ name_itself n = (bytes_eq-Decides n n).1 refl
 pub other_name : (m n : List ℕ) → bytes_eq m n ≡ false → m ≢ n
 other_name m n h e = let t : bytes_eq m n ≡ true = (bytes_eq-Decides m n).1 e in absurd cc
 
-some_same : {A : Type 0} (a b : A) → Some a ≡ Some b → a ≡ b
-some_same a b h = cc
-
 -- what stands for a name once one more was declared
 found_pushed : {A : Type 0} (name n : List ℕ) (a : A) (t : Table A) (v : A) → find name (t ++ (n, a) ∷ []) ≡ Some v → (find name t ≡ Some v) ⊎ ((name ≡ n) × (a ≡ v))
 found_pushed name n a [] v h = let both = cond_some (bytes_eq name n) a v h in inr (same_name name n both.0, both.1)

@@ -43,7 +43,7 @@ seen_otherwise V (Some a) b v p q h = p v h
 
 pub occurrence_within : {fields : List (List ℕ)} {V : Var → Type 0} {i : Sight} → Sees fields V i → (w : Word) → variable_faults i w ≡ [] → V (occurrence i w).var
 occurrence_within {fields} {V} {i} see w h =
-    let found = there (variable i w) (cond i.foreign (Foreign w) (Unknown w)) h in
+    let found = there (variable i w) (cond i.in_invariant (Foreign w) (Unknown w)) h in
     let is : unwrap_or (variable i w) (Own 0) ≡ found.0 = unwrapped (variable i w) found.0 (Own 0) found.1 in
     subst V (sym is) (see.variables w found.0 found.1)
 

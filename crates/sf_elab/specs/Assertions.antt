@@ -1,5 +1,6 @@
 -- The assertions of a file, numbered, and what is wrong with names in them.
 -- `emp` and parentheses vanish, so the conjuncts of a level are one list. `NULL` is `nil`, `list(E)` is `ls(E,nil)`, and `lseg` is `ls`.
+-- The assertions of Berdine, Calcagno and O'Hearn, "Smallfoot" (2005), with this project's own numbering.
 use Rattle.std.specs.Prelude.{ℕ, Bool, not, is_some, List, [], ◌∷◌, ◌++◌, Option, Some, None, unwrap_or, if◌then◌else◌}
 use Rattle.sf_base.specs.declared.ids.FieldId.{FieldId}
 use Rattle.sf_base.specs.declared.place.Place.{Place}

@@ -1,5 +1,6 @@
 -- The commands of a file, numbered, and what is wrong with names in them.
 -- Blocks vanish: their commands stand in their place. A command stands where its first token does.
+-- The commands of Berdine, Calcagno and O'Hearn, "Smallfoot" (2005), with this project's own numbering.
 use Rattle.std.specs.Prelude.{ℕ, ◌==◌, ◌&&◌, Bool, not, is_some, cond, List, [], ◌∷◌, ◌++◌, map, length}
 use Rattle.sf_ast.specs.declared.word.SurfaceExpr.{SurfaceExpr}
 use Rattle.sf_ast.specs.declared.word.Word.{Word}

@@ -1,5 +1,6 @@
 -- What the items of a file declare, and what is wrong with their names and counts.
 -- Fields, resources, variables and procedures have separate names. Of two things of one name the first counts.
+-- This project's own kinds of names, usual fields and limits.
 use Rattle.std.specs.Prelude.{ℕ, ◌+◌, nat_le, if◌then◌else◌, List, [], ◌∷◌, ◌++◌, map, length, codes}
 use Rattle.sf_base.specs.declared.ids.FieldId.{FieldId}
 use Rattle.sf_base.specs.declared.ids.ProcId.{ProcId}
@@ -10,6 +11,7 @@ use Rattle.sf_base.specs.declared.limits.TheConstants.{PROCEDURES, RESOURCES, FI
 use Rattle.sf_base.specs.declared.place.Place.{Place}
 use Rattle.sf_ast.specs.declared.word.Word.{Word}
 use Rattle.sf_ast.specs.Surface.{Names, Parameters, only_values, references_and_values, Resource, Procedure, Item, fields, resource, procedure}
+use Rattle.sf_core.specs.Formed.{next_name, left_name, right_name}
 use Rattle.sf_elab.specs.declared.declared.Declared.{Declared}
 use Rattle.sf_elab.specs.declared.declared.Header.{Header}
 use Rattle.sf_elab.specs.declared.fault.Fault.{Fault}
@@ -68,13 +70,22 @@ numbered_faults bytes limit stands k [] t = []
 numbered_faults bytes limit stands k (w ∷ ws) t =
     where_ (has (text bytes w) t) (Twice w) ++ beyond limit k w.place ++ numbered_faults bytes limit stands (k + 1) ws (declare (text bytes w) (stands k) t)
 
--- the fields that a file has where it declares none
-abbrev pub usual_fields : Table FieldId
-usual_fields = (codes "hd", record { 0 = 0 }) ∷ (codes "tl", record { 0 = 1 }) ∷ (codes "l", record { 0 = 2 }) ∷ (codes "r", record { 0 = 3 }) ∷ []
-
 -- a field by its number
 abbrev pub nth_field : ℕ → FieldId
 nth_field k = record { 0 = k }
+
+-- names with the numbers from there on
+abbrev pub fields_from : ℕ → List (List ℕ) → Table FieldId
+fields_from k [] = []
+fields_from k (n ∷ ns) = (n, nth_field k) ∷ fields_from (k + 1) ns
+
+-- the names of the fields that a file has where it declares none
+abbrev pub usual_names : List (List ℕ)
+usual_names = codes "hd" ∷ next_name ∷ left_name ∷ right_name ∷ []
+
+-- those fields
+abbrev pub usual_fields : Table FieldId
+usual_fields = fields_from 0 usual_names
 
 -- the fields of a file that declares those
 abbrev pub field_table : List ℕ → List Word → Table FieldId
@@ -83,7 +94,7 @@ field_table bytes (w ∷ ws) = numbered bytes nth_field 0 (w ∷ ws) []
 
 -- their names by number
 abbrev pub field_names : List ℕ → List Word → List (List ℕ)
-field_names bytes [] = codes "hd" ∷ codes "tl" ∷ codes "l" ∷ codes "r" ∷ []
+field_names bytes [] = usual_names
 field_names bytes (w ∷ ws) = map (text bytes) (w ∷ ws)
 
 -- the resources from that number on

@@ -1,7 +1,8 @@
 -- What can be wrong with names, and which fault is the first: by line, by column, and at one place by its kind.
 -- This project's own kinds of faults.
-use Rattle.std.specs.Prelude.{◌≡◌, ℕ, Bool, ◌&&◌, ◌||◌, ◌==◌, nat_lt, if◌then◌else◌, List, [], ◌∷◌, Option, Some, None, codes}
+use Rattle.std.specs.Prelude.{◌≡◌, ℕ, Bool, ◌&&◌, ◌||◌, ◌==◌, nat_lt, if◌then◌else◌, List, [], ◌∷◌, Option, Some, None}
 use Rattle.sf_base.specs.declared.place.Place.{Place}
+use Rattle.sf_core.specs.Formed.{next_name, left_name, right_name}
 use Rattle.sf_elab.specs.declared.fault.Fault.{Fault}
 use Rattle.sf_elab.specs.declared.fault.Fault.TheVariants as f
 use Rattle.sf_elab.specs.declared.fault.Link.{Link}
@@ -12,9 +13,9 @@ use Rattle.sf_elab.specs.Texts.{text}
 
 -- the name of a field that predicates follow
 abbrev pub link_name : Link → List ℕ
-link_name Next = codes "tl"
-link_name Left = codes "l"
-link_name Right = codes "r"
+link_name Next = next_name
+link_name Left = left_name
+link_name Right = right_name
 
 -- where a fault stands
 abbrev pub place_of : Fault → Place

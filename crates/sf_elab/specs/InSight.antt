@@ -32,11 +32,11 @@ pub record Sight : Type 0 where
   pub declared : Declared
   pub own : Table Var
   -- whether one reads an invariant, which mentions own variables alone
-  pub foreign : Bool
+  pub in_invariant : Bool
 
 -- that of the code
 abbrev pub sight_of : CodeSight → Sight
-sight_of s = record { bytes = s.bytes.now; declared = s.declared.now; own = s.own.now; foreign = s.foreign }
+sight_of s = record { bytes = s.bytes.now; declared = s.declared.now; own = s.own.now; in_invariant = s.in_invariant }
 
 -- the first that is there
 abbrev pub otherwise : {A : Type 0} → Option A → Option A → Option A
@@ -45,7 +45,7 @@ otherwise None b = b
 
 -- the variable of that name
 abbrev pub variable : Sight → Word → Option Var
-variable s w = otherwise (find (text s.bytes w) s.own) (if s.foreign then None else find (text s.bytes w) s.declared.shared)
+variable s w = otherwise (find (text s.bytes w) s.own) (if s.in_invariant then None else find (text s.bytes w) s.declared.shared)
 
 -- the variable where it stands; some variable where there is none of that name
 abbrev pub occurrence : Sight → Word → Occurrence
@@ -53,7 +53,7 @@ occurrence s w = record { var = unwrap_or (variable s w) (Own 0); place = w.plac
 
 -- what is wrong with the name
 abbrev pub variable_faults : Sight → Word → List Fault
-variable_faults s w = where_ (not (is_some (variable s w))) (if s.foreign then Foreign w else Unknown w)
+variable_faults s w = where_ (not (is_some (variable s w))) (if s.in_invariant then Foreign w else Unknown w)
 
 -- an expression
 abbrev pub expr_of : Sight → SurfaceExpr → Expr

@@ -1,5 +1,6 @@
 -- The procedures and resources of a file, numbered, and what is wrong with names in them.
 -- A value parameter that the body sets or passes as a reference is a fresh local in the body, its name with a prime; the body begins with an assignment to it.
+-- The procedures of Berdine, Calcagno and O'Hearn, "Smallfoot" (2005); the primed locals are this project's own.
 use Rattle.std.specs.Prelude.{ℕ, ◌+◌, Bool, true, false, if◌then◌else◌, List, [], ◌∷◌, ◌++◌, map, length}
 use Rattle.std.specs.List.{filter, list_any}
 use Rattle.std.specs.Str.{bytes_eq}
@@ -39,10 +40,11 @@ is_primed bytes f w = is_among bytes (set_in_all f.body) (text bytes w)
 abbrev pub parameters_of : List ℕ → Procedure → Table Var
 parameters_of bytes f = numbered bytes Own (length (references_of f.parameters)) (values_of f.parameters) (numbered bytes Own 0 (references_of f.parameters) [])
 
--- how many references and values there are, and how many locals are declared
+-- how many references and values there are
 abbrev pub parameter_count : Procedure → ℕ
 parameter_count f = length (references_of f.parameters) + length (values_of f.parameters)
 
+-- how many references, values and declared locals there are
 abbrev pub declared_count : Procedure → ℕ
 declared_count f = parameter_count f + length (local_words f.locals)
 
@@ -78,11 +80,11 @@ first_assignments primed at k p (w ∷ ws) =
 
 -- what a procedure's pre and post see
 abbrev pub outside_of : List ℕ → Declared → Procedure → Sight
-outside_of bytes d f = record { bytes = bytes; declared = d; own = parameters_of bytes f; foreign = false }
+outside_of bytes d f = record { bytes = bytes; declared = d; own = parameters_of bytes f; in_invariant = false }
 
 -- what its body sees
 abbrev pub inside_of : List ℕ → Declared → Procedure → Sight
-inside_of bytes d f = record { bytes = bytes; declared = d; own = body_variables bytes f; foreign = false }
+inside_of bytes d f = record { bytes = bytes; declared = d; own = body_variables bytes f; in_invariant = false }
 
 -- a procedure
 abbrev pub procedure_of : List ℕ → Declared → Procedure → c.Procedure
@@ -119,7 +121,7 @@ procedure_faults bytes d f =
 
 -- what the invariant of the resource of that number sees: its own variables
 abbrev pub invariant_of : List ℕ → Declared → ℕ → Resource → Sight
-invariant_of bytes d k r = record { bytes = bytes; declared = d; own = numbered bytes (shared_by k) 0 r.variables []; foreign = true }
+invariant_of bytes d k r = record { bytes = bytes; declared = d; own = numbered bytes (shared_by k) 0 r.variables []; in_invariant = true }
 
 -- the resource of that number
 abbrev pub resource_of : List ℕ → Declared → ℕ → Resource → c.Resource

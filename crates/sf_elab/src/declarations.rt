@@ -3,19 +3,20 @@
 ghost use Rattle.std.specs.Prelude.{◌≡◌, ◌++◌, ◌+◌, [], length, map, IfOk, OnOk};
 ghost use Rattle.sf_ast.specs.View.{item_of, names_of, parameters_of, procedure_of, resource_of};
 ghost use Rattle.sf_base.specs.declared.ids.Var.TheVariants.{Own};
-ghost use Rattle.sf_base.specs.declared.limits.TheConstants.{FIELDS, OWN_VARIABLES};
+ghost use Rattle.sf_base.specs.declared.limits.TheConstants.{FIELDS, OWN_VARIABLES, RESOURCE_VARIABLES};
 ghost use Rattle.sf_elab.specs.declared.fault.Fault.TheVariants.{Twice};
-ghost use Rattle.sf_elab.specs.Declarations.{words_of, field_words, resources_in, procedures_in, references_of, values_of, numbered, numbered_faults, beyond, nth_field, field_table, field_names, usual_fields, resource_table, resource_name_faults, shared_by, shared_table, shared_faults, all_shared_faults, owner_faults, header_of, procedure_table, procedure_name_faults, declared_by, declared_faults};
+ghost use Rattle.sf_elab.specs.Declarations.{words_of, field_words, resources_in, procedures_in, references_of, values_of, numbered, numbered_faults, beyond, nth_field, field_table, field_names, usual_fields, usual_names, resource_table, resource_name_faults, shared_by, shared_table, shared_faults, all_shared_faults, owner_faults, header_of, procedure_table, procedure_name_faults, declared_by, declared_faults};
 ghost use Rattle.sf_elab.specs.Faults.{where_};
 ghost use Rattle.sf_elab.specs.Table.{declare, has};
 ghost use Rattle.sf_elab.specs.Texts.{text as word_text};
 
+use crate::assertions::link_name;
 use crate::commands::add_all;
 use crate::declared::{Declared, Header};
-use crate::fault::Fault;
+use crate::fault::{Fault, Link};
 use crate::sight::note_where;
 use crate::table::Table;
-use crate::texts::{kept, plus, text};
+use crate::texts::{kept, name, plus, text};
 use sf_ast::{Item, SurfaceNames, SurfaceParameters, SurfaceProcedure, SurfaceResource, Word};
 use sf_base::limits::{FIELDS, OWN_VARIABLES, PROCEDURES, RESOURCE_VARIABLES, RESOURCES};
 use sf_base::{FieldId, Name, Place, ProcId, ResId, Var};
@@ -139,9 +140,9 @@ fn usual_fields(alloc: Global) -> Result<Table<FieldId>, AllocError>
 {
     let mut fields = Table::new(alloc);
     fields.declare(alloc, "hd", FieldId(0))?;
-    fields.declare(alloc, "tl", FieldId(1))?;
-    fields.declare(alloc, "l", FieldId(2))?;
-    fields.declare(alloc, "r", FieldId(3))?;
+    fields.declare(alloc, link_name(Link::Next), FieldId(1))?;
+    fields.declare(alloc, link_name(Link::Left), FieldId(2))?;
+    fields.declare(alloc, link_name(Link::Right), FieldId(3))?;
     Ok(fields)
 }
 
@@ -163,6 +164,21 @@ fn fields(
     Ok(fields)
 }
 
+/// The fields that the items declare.
+fn declared_fields(
+    alloc: Global,
+    bytes: &[u8],
+    items: &[Item],
+    found: &mut Vec<Fault>,
+) -> Result<Table<FieldId>, AllocError>
+    ensures table { IfOk result (λ t. t ≡ field_table bytes.now (field_words (map item_of items.now))) }
+    ensures faults { OnOk result (found.new.items ≡ found.old.items ++ numbered_faults bytes.now FIELDS nth_field 0 (field_words (map item_of items.now)) []) }
+{
+    let mut words = Vec::new(alloc);
+    add_field_words(items, &mut words)?;
+    fields(alloc, bytes, &words, found)
+}
+
 /// The texts of words.
 pub fn names(alloc: Global, bytes: &[u8], words: &[Word]) -> Result<Vec<Name>, AllocError>
     ensures { IfOk result (λ v. v.items ≡ map (word_text bytes.now) words.now) }
@@ -182,20 +198,20 @@ pub fn add_texts(
     ensures { OnOk result (done.new.items ≡ done.old.items ++ map (word_text bytes.now) words.now) }
 {
     for word in words {
-        done.push(Name::new(alloc, text(bytes, *word)?)?)?;
+        done.push(name(alloc, bytes, *word)?)?;
     }
     Ok(())
 }
 
 /// The names of the fields that a file has where it declares none.
 fn usual_names(alloc: Global) -> Result<Vec<Name>, AllocError>
-    ensures { IfOk result (λ v. v.items ≡ field_names [] []) }
+    ensures { IfOk result (λ v. v.items ≡ usual_names) }
 {
     let mut done = Vec::new(alloc);
     done.push(Name::new(alloc, "hd")?)?;
-    done.push(Name::new(alloc, "tl")?)?;
-    done.push(Name::new(alloc, "l")?)?;
-    done.push(Name::new(alloc, "r")?)?;
+    done.push(Name::new(alloc, link_name(Link::Next))?)?;
+    done.push(Name::new(alloc, link_name(Link::Left))?)?;
+    done.push(Name::new(alloc, link_name(Link::Right))?)?;
     Ok(done)
 }
 
@@ -218,27 +234,27 @@ pub fn field_names_of(alloc: Global, bytes: &[u8], items: &[Item]) -> Result<Vec
     field_names(alloc, bytes, &words)
 }
 
-/// Declares the resources.
-fn declare_resources(
+/// The resources that the items declare.
+fn declared_resources(
     alloc: Global,
     bytes: &[u8],
     items: &[Item],
-    resources: &mut Table<ResId>,
     found: &mut Vec<Fault>,
-) -> Result<(), AllocError>
-    ensures table { OnOk result (resources.new ≡ resource_table bytes.now 0 (resources_in (map item_of items.now)) resources.old) }
-    ensures faults { OnOk result (found.new.items ≡ found.old.items ++ resource_name_faults bytes.now 0 (resources_in (map item_of items.now)) resources.old) }
+) -> Result<Table<ResId>, AllocError>
+    ensures table { IfOk result (λ t. t ≡ resource_table bytes.now 0 (resources_in (map item_of items.now)) []) }
+    ensures faults { OnOk result (found.new.items ≡ found.old.items ++ resource_name_faults bytes.now 0 (resources_in (map item_of items.now)) []) }
 {
+    let mut resources = Table::new(alloc);
     let mut number = 0;
     for item in items {
         if let Item::Resource(resource) = item {
             let id = ResId(kept(number)?);
-            declare_name(alloc, bytes, resource.name, id, resources, found)?;
+            declare_name(alloc, bytes, resource.name, id, &mut resources, found)?;
             note_beyond(RESOURCES, number, resource.place, found)?;
             number += 1;
         }
     }
-    Ok(())
+    Ok(resources)
 }
 
 /// Notes what is wrong with a variable of a resource: the resource has it already, or another one
@@ -258,6 +274,27 @@ fn note_owner(
         return Ok(());
     }
     note_where(all.find(name).is_some(), Fault::OwnedTwice(word), found)
+}
+
+/// Declares a variable of a resource, among its own and among all, so many being declared.
+fn declare_owned(
+    alloc: Global,
+    bytes: &[u8],
+    word: Word,
+    var: Var,
+    count: usize,
+    own: &mut Table<Var>,
+    all: &mut Table<Var>,
+    found: &mut Vec<Fault>,
+) -> Result<(), AllocError>
+    ensures own { OnOk result (own.new ≡ declare (word_text bytes.now word) var own.old) }
+    ensures all { OnOk result (all.new ≡ declare (word_text bytes.now word) var all.old) }
+    ensures faults { OnOk result (found.new.items ≡ found.old.items ++ (owner_faults bytes.now own.old all.old word ++ beyond RESOURCE_VARIABLES count word.place)) }
+{
+    note_owner(bytes, word, own, all, found)?;
+    note_beyond(RESOURCE_VARIABLES, count, word.place, found)?;
+    declare_quietly(alloc, bytes, word, var, own)?;
+    declare_quietly(alloc, bytes, word, var, all)
 }
 
 /// Declares the variables of one resource, so many of others being declared, and answers how many
@@ -280,10 +317,7 @@ pub fn declare_shared(
     let mut count = before;
     for word in words {
         let var = Var::Shared(ResId(k), kept(number)?);
-        note_owner(bytes, *word, &own, all, found)?;
-        note_beyond(RESOURCE_VARIABLES, count, word.place, found)?;
-        declare_quietly(alloc, bytes, *word, var, &mut own)?;
-        declare_quietly(alloc, bytes, *word, var, all)?;
+        declare_owned(alloc, bytes, *word, var, count, &mut own, all, found)?;
         number += 1;
         count = plus(count, 1)?;
     }
@@ -303,27 +337,27 @@ pub fn declare_quietly<V: Copy>(
     table.declare(alloc, text(bytes, word)?, value)
 }
 
-/// Declares the variables of all resources.
-fn declare_all_shared(
+/// The variables of all resources.
+fn declared_variables(
     alloc: Global,
     bytes: &[u8],
     items: &[Item],
-    all: &mut Table<Var>,
     found: &mut Vec<Fault>,
-) -> Result<(), AllocError>
-    ensures table { OnOk result (all.new ≡ shared_table bytes.now 0 (resources_in (map item_of items.now)) all.old) }
-    ensures faults { OnOk result (found.new.items ≡ found.old.items ++ all_shared_faults bytes.now 0 0 (resources_in (map item_of items.now)) all.old) }
+) -> Result<Table<Var>, AllocError>
+    ensures table { IfOk result (λ t. t ≡ shared_table bytes.now 0 (resources_in (map item_of items.now)) []) }
+    ensures faults { OnOk result (found.new.items ≡ found.old.items ++ all_shared_faults bytes.now 0 0 (resources_in (map item_of items.now)) []) }
 {
+    let mut all = Table::new(alloc);
     let mut number = 0;
     let mut count = 0;
     for item in items {
         if let Item::Resource(resource) = item {
             let k = kept(number)?;
-            count = declare_shared(alloc, bytes, k, count, &resource.variables, all, found)?;
+            count = declare_shared(alloc, bytes, k, count, &resource.variables, &mut all, found)?;
             number += 1;
         }
     }
-    Ok(())
+    Ok(all)
 }
 
 /// What calls see of the procedure of that number.
@@ -337,27 +371,27 @@ fn header(number: usize, procedure: &SurfaceProcedure) -> Result<Header, AllocEr
     })
 }
 
-/// Declares the procedures.
-fn declare_procedures(
+/// The procedures that the items declare.
+fn declared_procedures(
     alloc: Global,
     bytes: &[u8],
     items: &[Item],
-    procedures: &mut Table<Header>,
     found: &mut Vec<Fault>,
-) -> Result<(), AllocError>
-    ensures table { OnOk result (procedures.new ≡ procedure_table bytes.now 0 (procedures_in (map item_of items.now)) procedures.old) }
-    ensures faults { OnOk result (found.new.items ≡ found.old.items ++ procedure_name_faults bytes.now 0 (procedures_in (map item_of items.now)) procedures.old) }
+) -> Result<Table<Header>, AllocError>
+    ensures table { IfOk result (λ t. t ≡ procedure_table bytes.now 0 (procedures_in (map item_of items.now)) []) }
+    ensures faults { OnOk result (found.new.items ≡ found.old.items ++ procedure_name_faults bytes.now 0 (procedures_in (map item_of items.now)) []) }
 {
+    let mut procedures = Table::new(alloc);
     let mut number = 0;
     for item in items {
         if let Item::Procedure(procedure) = item {
             let header = header(number, procedure)?;
-            declare_name(alloc, bytes, procedure.name, header, procedures, found)?;
+            declare_name(alloc, bytes, procedure.name, header, &mut procedures, found)?;
             note_beyond(PROCEDURES, number, procedure.name.place, found)?;
             number = plus(number, 1)?;
         }
     }
-    Ok(())
+    Ok(procedures)
 }
 
 /// All that a file declares.
@@ -370,15 +404,10 @@ pub fn declared(
     ensures same { IfOk result (λ d. d ≡ declared_by bytes.now (map item_of items.now)) }
     ensures faults { OnOk result (found.new.items ≡ found.old.items ++ declared_faults bytes.now (map item_of items.now)) }
 {
-    let mut words = Vec::new(alloc);
-    add_field_words(items, &mut words)?;
-    let fields = fields(alloc, bytes, &words, found)?;
-    let mut resources = Table::new(alloc);
-    declare_resources(alloc, bytes, items, &mut resources, found)?;
-    let mut shared = Table::new(alloc);
-    declare_all_shared(alloc, bytes, items, &mut shared, found)?;
-    let mut procedures = Table::new(alloc);
-    declare_procedures(alloc, bytes, items, &mut procedures, found)?;
+    let fields = declared_fields(alloc, bytes, items, found)?;
+    let resources = declared_resources(alloc, bytes, items, found)?;
+    let shared = declared_variables(alloc, bytes, items, found)?;
+    let procedures = declared_procedures(alloc, bytes, items, found)?;
     Ok(Declared {
         fields,
         resources,

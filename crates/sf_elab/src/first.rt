@@ -5,7 +5,7 @@ ghost use Rattle.sf_elab.specs.Faults.{link_name, place_of, kind_of, is_before, 
 
 use crate::assertions::link_name;
 use crate::fault::{Fault, NameFault};
-use crate::texts::text;
+use crate::texts::name;
 use sf_base::{Name, Place};
 use std::alloc::{AllocError, Global};
 
@@ -93,25 +93,13 @@ pub fn told(alloc: Global, bytes: &[u8], fault: Fault) -> Result<NameFault, Allo
     ensures { IfOk result (λ e. e ≡ told bytes.now fault) }
 {
     match fault {
-        Fault::Unknown(word) => Ok(NameFault::UnknownName(
-            word.place,
-            Name::new(alloc, text(bytes, word)?)?,
-        )),
-        Fault::Twice(word) => Ok(NameFault::Twice(
-            word.place,
-            Name::new(alloc, text(bytes, word)?)?,
-        )),
-        Fault::Arity(word) => Ok(NameFault::Arity(
-            word.place,
-            Name::new(alloc, text(bytes, word)?)?,
-        )),
-        Fault::OwnedTwice(word) => Ok(NameFault::OwnedTwice(
-            word.place,
-            Name::new(alloc, text(bytes, word)?)?,
-        )),
+        Fault::Unknown(word) => Ok(NameFault::UnknownName(word.place, name(alloc, bytes, word)?)),
+        Fault::Twice(word) => Ok(NameFault::Twice(word.place, name(alloc, bytes, word)?)),
+        Fault::Arity(word) => Ok(NameFault::Arity(word.place, name(alloc, bytes, word)?)),
+        Fault::OwnedTwice(word) => Ok(NameFault::OwnedTwice(word.place, name(alloc, bytes, word)?)),
         Fault::Foreign(word) => Ok(NameFault::ForeignVariable(
             word.place,
-            Name::new(alloc, text(bytes, word)?)?,
+            name(alloc, bytes, word)?,
         )),
         Fault::Missing(place, link) => Ok(NameFault::MissingField(
             place,

@@ -1,22 +1,22 @@
-//! From the surface tree to the numbered program: what each name stands for, and the first fault
-//! where one stands for nothing.
+//! From the surface tree to the numbered program: what each name stands for, or the first fault of
+//! its names and counts.
 #![tactic(auto)]
 
-pub mod assertions;
-pub mod commands;
-pub mod declarations;
-pub mod declared;
-pub mod fault;
-pub mod first;
+mod assertions;
+mod commands;
+mod declarations;
+mod declared;
+mod fault;
+mod first;
 pub mod laws;
-pub mod levels;
-pub mod procedures;
-pub mod sight;
-pub mod table;
-pub mod texts;
-pub mod whole;
+mod levels;
+mod procedures;
+mod sight;
+mod table;
+mod texts;
+mod whole;
 
-pub use fault::{Fault, Link, NameFault};
+pub use fault::NameFault;
 pub use whole::elaborate;
 
 #[cfg(test)]

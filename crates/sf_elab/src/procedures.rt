@@ -5,8 +5,8 @@ ghost use Rattle.sf_ast.specs.View.{command_of as surface_command, commands as s
 ghost use Rattle.sf_base.specs.declared.ids.Var.TheVariants.{Own};
 ghost use Rattle.sf_core.specs.View as core;
 ghost use Rattle.sf_elab.specs.Commands.{all_faults, commands_faults, commands_of, set_in_all};
-ghost use Rattle.sf_elab.specs.Assertions.{maybe_faults, maybe_of, note_faults};
-ghost use Rattle.sf_elab.specs.Declarations.{procedures_in, resources_in, numbered, references_of, values_of};
+ghost use Rattle.sf_elab.specs.Assertions.{maybe_faults, maybe_of, note_faults, note_of};
+ghost use Rattle.sf_elab.specs.Declarations.{procedures_in, resources_in, numbered, references_of, shared_by, values_of};
 ghost use Rattle.sf_elab.specs.Elaborated.{invariants_faults, resources_from};
 ghost use Rattle.sf_elab.specs.Procedures.{local_words, is_among, is_primed, parameters_of, parameter_count, declared_count, body_values, body_variables, own_names, first_assignments, outside_of, inside_of, procedure_of, parameter_faults, local_faults, procedure_faults, invariant_of, resource_of};
 ghost use Rattle.sf_elab.specs.Table.{has};
@@ -22,7 +22,7 @@ use crate::declared::Declared;
 use crate::fault::Fault;
 use crate::sight::Sight;
 use crate::table::Table;
-use crate::texts::{kept, plus, text};
+use crate::texts::{kept, name, plus, text};
 use sf_ast::{Item, SurfaceCommand, SurfaceNames, SurfaceProcedure, SurfaceResource, Word};
 use sf_base::{Name, Place, Var};
 use sf_core::{Assertion, Command, Expr, Occurrence, Proc, Resource};
@@ -235,6 +235,26 @@ fn own_names(
     Ok(done)
 }
 
+/// The assignments with which a procedure's body begins.
+fn first_commands(
+    alloc: Global,
+    bytes: &[u8],
+    set: &Table<u32>,
+    f: &SurfaceProcedure,
+    locals: &[Word],
+) -> Result<Vec<Command>, AllocError>
+    requires locals { locals.now ≡ local_words (surface_procedure f.now).locals }
+    requires set { (name : List ℕ) → has name set.now ≡ is_among bytes.now (set_in_all (surface_procedure f.now).body) name }
+    ensures { IfOk result (λ v. map core.command_of v.items ≡ first_assignments (is_primed bytes.now (surface_procedure f.now)) f.now.open (length (references_of (surface_procedure f.now).parameters)) (declared_count (surface_procedure f.now)) (values_of (surface_procedure f.now).parameters)) }
+{
+    let references = references_of(&f.parameters).len();
+    let values = values_of(&f.parameters);
+    let count = plus(parameter_count(f)?, locals.len())?;
+    let mut done = Vec::new(alloc);
+    add_first(bytes, set, f.open, references, count, values, &mut done)?;
+    Ok(done)
+}
+
 /// A procedure's body.
 fn body(
     alloc: Global,
@@ -255,20 +275,9 @@ fn body(
         bytes,
         declared,
         own: &own,
-        foreign: false,
+        in_invariant: false,
     };
-    let references = references_of(&f.parameters).len();
-    let count = plus(parameter_count(f)?, locals.len())?;
-    let mut done = Vec::new(alloc);
-    add_first(
-        bytes,
-        set,
-        f.open,
-        references,
-        count,
-        values_of(&f.parameters),
-        &mut done,
-    )?;
+    let mut done = first_commands(alloc, bytes, set, f, locals)?;
     add_commands(alloc, &sight, &f.body, &mut done, found)?;
     Ok(done)
 }
@@ -291,7 +300,7 @@ fn notes(
         bytes,
         declared,
         own,
-        foreign: false,
+        in_invariant: false,
     };
     let pre = maybe(alloc, &sight, &f.pre, found)?;
     let post = maybe(alloc, &sight, &f.post, found)?;
@@ -335,7 +344,7 @@ fn procedure(
     let references = kept(references_of(&f.parameters).len())?;
     let values = kept(values_of(&f.parameters).len())?;
     let locals = local_words(alloc, &f.locals)?;
-    let name = Name::new(alloc, text(bytes, f.name)?)?;
+    let name = name(alloc, bytes, f.name)?;
     let mut own = parameters(alloc, bytes, f, found)?;
     let (pre, post) = notes(alloc, bytes, declared, &own, f, found)?;
     let (body, names) = inside(alloc, bytes, declared, f, &locals, &mut own, found)?;
@@ -353,6 +362,43 @@ fn procedure(
     })
 }
 
+/// The variables of the resource of that number. What is wrong with them was noted before.
+fn variables(
+    alloc: Global,
+    bytes: &[u8],
+    number: usize,
+    words: &[Word],
+) -> Result<Table<Var>, AllocError>
+    ensures { IfOk result (λ t. t ≡ numbered bytes.now (shared_by number) 0 words.now []) }
+{
+    let mut noted = Vec::new(alloc);
+    let mut own = Table::new(alloc);
+    declare_shared(alloc, bytes, kept(number)?, 0, words, &mut own, &mut noted)?;
+    Ok(own)
+}
+
+/// The invariant of the resource of that number.
+fn invariant(
+    alloc: Global,
+    bytes: &[u8],
+    declared: &Declared,
+    number: usize,
+    r: &SurfaceResource,
+    found: &mut Vec<Fault>,
+) -> Result<Assertion, AllocError>
+    ensures same { IfOk result (λ x. core.assertion_of x ≡ note_of (invariant_of bytes.now declared.now number (surface_resource r.now)) (surface_resource r.now).invariant) }
+    ensures faults { OnOk result (found.new.items ≡ found.old.items ++ note_faults (invariant_of bytes.now declared.now number (surface_resource r.now)) (surface_resource r.now).invariant) }
+{
+    let own = variables(alloc, bytes, number, &r.variables)?;
+    let sight = Sight {
+        bytes,
+        declared,
+        own: &own,
+        in_invariant: true,
+    };
+    note(alloc, &sight, &r.invariant, found)
+}
+
 /// The resource of that number.
 fn resource(
     alloc: Global,
@@ -365,20 +411,12 @@ fn resource(
     ensures same { IfOk result (λ x. core.resource_of x ≡ resource_of bytes.now declared.now number (surface_resource r.now)) }
     ensures faults { OnOk result (found.new.items ≡ found.old.items ++ note_faults (invariant_of bytes.now declared.now number (surface_resource r.now)) (surface_resource r.now).invariant) }
 {
-    let mut noted = Vec::new(alloc);
-    let mut own = Table::new(alloc);
-    let k = kept(number)?;
-    declare_shared(alloc, bytes, k, 0, &r.variables, &mut own, &mut noted)?;
-    let sight = Sight {
-        bytes,
-        declared,
-        own: &own,
-        foreign: true,
-    };
-    let invariant = note(alloc, &sight, &r.invariant, found)?;
+    let invariant = invariant(alloc, bytes, declared, number, r, found)?;
+    let name = name(alloc, bytes, r.name)?;
+    let variables = names(alloc, bytes, &r.variables)?;
     Ok(Resource {
-        name: Name::new(alloc, text(bytes, r.name)?)?,
-        variables: names(alloc, bytes, &r.variables)?,
+        name,
+        variables,
         invariant,
     })
 }

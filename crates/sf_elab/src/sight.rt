@@ -17,12 +17,14 @@ use std::alloc::AllocError;
 /// What names stand for where one reads: the file's names, and before them own variables.
 #[derive(Drop)]
 pub struct Sight<'a> {
+    /// The file.
     pub bytes: &'a [u8],
+    /// What the names of the whole file stand for.
     pub declared: &'a Declared,
     /// In a procedure its parameters and locals; in an invariant its resource's variables.
     pub own: &'a Table<Var>,
     /// Whether one reads an invariant, which mentions own variables alone.
-    pub foreign: bool,
+    pub in_invariant: bool,
 }
 
 /// Notes the fault where the test is true.
@@ -56,7 +58,7 @@ impl Sight<'_> {
         match self.own.find(name) {
             Some(found) => Ok(Some(found)),
             None => {
-                if self.foreign {
+                if self.in_invariant {
                     Ok(None)
                 } else {
                     Ok(self.declared.shared.find(name))
@@ -71,7 +73,7 @@ impl Sight<'_> {
         ensures faults { OnOk result (found.new.items ≡ found.old.items ++ variable_faults (sight_of self.now) word) }
     {
         let var = self.variable(word)?;
-        let fault = if self.foreign {
+        let fault = if self.in_invariant {
             Fault::Foreign(word)
         } else {
             Fault::Unknown(word)

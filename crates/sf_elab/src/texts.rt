@@ -4,7 +4,8 @@ ghost use Rattle.std.specs.Prelude.{◌≡◌, ◌+◌, IfOk};
 ghost use Rattle.sf_elab.specs.Texts.{number, text};
 
 use sf_ast::Word;
-use std::alloc::AllocError;
+use sf_base::Name;
+use std::alloc::{AllocError, Global};
 
 /// The text of a word. A span that is no text of the bytes, which no file's tree has, is refused.
 pub fn text(bytes: &[u8], word: Word) -> Result<&str, AllocError>
@@ -19,6 +20,13 @@ pub fn text(bytes: &[u8], word: Word) -> Result<&str, AllocError>
     }
 }
 
+/// The text of a word, as a name of its own.
+pub fn name(alloc: Global, bytes: &[u8], word: Word) -> Result<Name, AllocError>
+    ensures { IfOk result (λ n. n ≡ text bytes.now word) }
+{
+    Name::new(alloc, text(bytes, word)?)
+}
+
 /// The number that a word writes. One that is none, which no file's tree has, is refused.
 pub fn number(bytes: &[u8], word: Word) -> Result<i64, AllocError>
     ensures { IfOk result (λ n. n ≡ number bytes.now word) }
@@ -29,7 +37,8 @@ pub fn number(bytes: &[u8], word: Word) -> Result<i64, AllocError>
     }
 }
 
-/// The number as it is kept. Where there are more things than numbers, memory is at its end too.
+/// The number in 32 bits. One that doesn't fit is answered as want of memory; no file has so many
+/// things.
 pub fn kept(number: usize) -> Result<u32, AllocError>
     ensures { IfOk result (λ n. n ≡ number) }
 {
@@ -39,7 +48,7 @@ pub fn kept(number: usize) -> Result<u32, AllocError>
     }
 }
 
-/// The sum. Where it is no number, memory is at its end too.
+/// The sum. One that doesn't fit is answered as want of memory; no file has so many things.
 pub fn plus(number: usize, more: usize) -> Result<usize, AllocError>
     ensures { IfOk result (λ n. n ≡ number + more) }
 {

@@ -1,13 +1,18 @@
 //! A whole file.
 
-ghost use Rattle.std.specs.Prelude.{◌≡◌, ◌⊎◌, map, IfErr, IfOk};
+ghost use Rattle.std.specs.Prelude.{◌≡◌, ◌⊎◌, ◌++◌, map, IfErr, IfOk, MatchResult, OnOk};
 ghost use Rattle.sf_ast.specs.View.{item_of};
 ghost use Rattle.sf_core.specs.Formed.{IsFormed};
-ghost use Rattle.sf_core.specs.View.{program_with};
+ghost use Rattle.sf_core.specs.Syntax as c;
+ghost use Rattle.sf_core.specs.View.{procedure_of as core_procedure, program_with, resource_of};
 ghost use Rattle.sf_core.specs.Whole.{program_of};
-ghost use Rattle.sf_elab.specs.Elaborated.{Elaborates, FirstFault, elaborated, faults};
+ghost use Rattle.sf_elab.specs.Commands.{all_faults};
+ghost use Rattle.sf_elab.specs.Declarations.{procedures_in, resources_in};
+ghost use Rattle.sf_elab.specs.Elaborated.{Elaborates, FirstFault, elaborated, faults, invariants_faults, resources_from};
+ghost use Rattle.sf_elab.specs.Procedures.{procedure_faults, procedure_of};
 
 use crate::declarations::{declared, field_names_of};
+use crate::declared::Declared;
 use crate::fault::{Fault, NameFault};
 use crate::first::{first_of, told};
 use crate::procedures::{procedures, resources};
@@ -22,57 +27,81 @@ struct Gathered {
     fields: Vec<Name>,
     resources: Vec<Resource>,
     procedures: Vec<Proc>,
-    /// All that is wrong.
-    found: Vec<Fault>,
 }
 
-/// What those items have.
-fn parts(alloc: Global, bytes: &[u8], items: &[Item]) -> Result<Gathered, AllocError>
-    ensures program { IfOk result (λ x. program_with x.fields.items x.resources.items x.procedures.items ≡ elaborated bytes.now (map item_of items.now)) }
-    ensures faults { IfOk result (λ x. x.found.items ≡ faults bytes.now (map item_of items.now)) }
+/// The resources and the procedures of a file whose names stand for that.
+fn things(
+    alloc: Global,
+    bytes: &[u8],
+    names: &Declared,
+    items: &[Item],
+    found: &mut Vec<Fault>,
+) -> Result<(Vec<Resource>, Vec<Proc>), AllocError>
+    ensures resources { IfOk result (λ x. map resource_of x.0.items ≡ resources_from bytes.now names.now 0 (resources_in (map item_of items.now))) }
+    ensures procedures { IfOk result (λ x. map core_procedure x.1.items ≡ map (procedure_of bytes.now names.now) (procedures_in (map item_of items.now))) }
+    ensures faults { OnOk result (found.new.items ≡ found.old.items ++ (invariants_faults bytes.now names.now 0 (resources_in (map item_of items.now)) ++ all_faults (procedure_faults bytes.now names.now) (procedures_in (map item_of items.now)))) }
 {
-    let mut found = Vec::new(alloc);
-    let names = declared(alloc, bytes, items, &mut found)?;
+    let resources = resources(alloc, bytes, names, items, found)?;
+    let procedures = procedures(alloc, bytes, names, items, found)?;
+    Ok((resources, procedures))
+}
+
+/// What those items have, and all that is wrong.
+fn parts(
+    alloc: Global,
+    bytes: &[u8],
+    items: &[Item],
+    found: &mut Vec<Fault>,
+) -> Result<Gathered, AllocError>
+    ensures program { IfOk result (λ x. program_with x.fields.items x.resources.items x.procedures.items ≡ elaborated bytes.now (map item_of items.now)) }
+    ensures faults { OnOk result (found.new.items ≡ found.old.items ++ faults bytes.now (map item_of items.now)) }
+{
+    let names = declared(alloc, bytes, items, found)?;
+    let (resources, procedures) = things(alloc, bytes, &names, items, found)?;
     let fields = field_names_of(alloc, bytes, items)?;
-    let resources = resources(alloc, bytes, &names, items, &mut found)?;
-    let procedures = procedures(alloc, bytes, &names, items, &mut found)?;
     Ok(Gathered {
         fields,
         resources,
         procedures,
-        found,
     })
 }
 
 /// The program of those parts, which are in order.
-fn program(fields: Vec<Name>, resources: Vec<Resource>, procedures: Vec<Proc>) -> Program
-    requires { IsFormed (program_with fields.items resources.items procedures.items) }
-    ensures { program_of result ≡ program_with fields.items resources.items procedures.items }
+fn program(parts: Gathered) -> Program
+    requires { IsFormed (program_with parts.fields.items parts.resources.items parts.procedures.items) }
+    ensures { program_of result ≡ program_with parts.fields.items parts.resources.items parts.procedures.items }
 {
     Program {
-        fields,
-        resources,
-        procedures,
+        fields: parts.fields,
+        resources: parts.resources,
+        procedures: parts.procedures,
     }
 }
 
-/// The program that a file's tree is, over the file's bytes.
-///
-/// A fault is the first one by place, and at one place the one of the lowest kind. `OutOfMemory`
-/// comes where memory was refused, and for a tree that no file has: one with a word that is no
-/// text or no number, or with more things than numbers.
-pub fn elaborate(alloc: Global, bytes: &[u8], file: File) -> Result<Program, NameFault>
+/// The program of a file's tree, or its first fault.
+fn resolve(alloc: Global, bytes: &[u8], file: File) -> Result<Program, NameFault>
     ensures found { IfOk result (λ p. Elaborates bytes.now (map item_of file.items.items) (program_of p)) }
     ensures refused { IfErr result (λ fault. (fault ≡ NameFault.OutOfMemory) ⊎ FirstFault bytes.now (map item_of file.items.items) fault) }
 {
-    let Gathered {
-        fields,
-        resources,
-        procedures,
-        found,
-    } = parts(alloc, bytes, &file.items)?;
+    let mut found = Vec::new(alloc);
+    let parts = parts(alloc, bytes, &file.items, &mut found)?;
     match first_of(&found) {
         Some(fault) => Err(told(alloc, bytes, fault)?),
-        None => Ok(program(fields, resources, procedures)),
+        None => Ok(program(parts)),
     }
+}
+
+/// The program that a file's tree is, over the file's bytes: exactly where no name is at fault.
+///
+/// A fault is the first one by place, and at one place the one of the lowest kind. `OutOfMemory`
+/// comes where memory was refused. It also comes for a tree that is not of these bytes (a word that
+/// is no UTF-8 span of them, a number that doesn't fit 64 bits) and for 2^32 or more things of one
+/// kind; no file within its limit has either.
+pub fn elaborate(alloc: Global, bytes: &[u8], file: File) -> Result<Program, NameFault>
+    ensures found { IfOk result (λ p. Elaborates bytes.now (map item_of file.items.items) (program_of p)) }
+    ensures refused { IfErr result (λ fault. (fault ≡ NameFault.OutOfMemory) ⊎ FirstFault bytes.now (map item_of file.items.items) fault) }
+    ensures only_found { (p : c.Program) → Elaborates bytes.now (map item_of file.items.items) p → MatchResult result (λ q. program_of q ≡ p) (λ fault. fault ≡ NameFault.OutOfMemory) }
+    ensures only_refused { (fault : NameFault) → FirstFault bytes.now (map item_of file.items.items) fault → MatchResult result (λ _. ⊥) (λ own. (own ≡ fault) ⊎ (own ≡ NameFault.OutOfMemory)) }
+{
+    resolve(alloc, bytes, file)
 }
