@@ -18,7 +18,7 @@ use Rattle.sf_core.specs.declared.command.Occurrence.{Occurrence}
 use Rattle.sf_core.specs.Occurs.{VarOccursIn}
 use Rattle.sf_core.specs.Syntax.{Conjunct, holds, points, segment, tree, choose, Level, level, Conjuncts, none, also, Call, Command, assign, look_up, mutate, new, dispose, if, while, call, fork, with, Block, done, then}
 use Rattle.sf_calls.specs.Outside.{owner, IsOther, OccursInExpr, OccursInTest, IsAmong, OccursInValues, OccursInCall, OccursOutside, OccursInCommand, CallsIn, CallsInCommand, EntersIn, EntersInCommand}
-use Rattle.sf_calls.specs.Tests.{same_var, is_other, in_expr, in_operand, in_condition, in_fields, in_level, in_conjuncts, in_conjunct, in_test, in_references, in_values, in_call, in_block, in_command, callees_in, callees_of, enters_in, enters_of}
+use Rattle.sf_calls.specs.Tests.{same_var, is_other, in_expr, in_references, in_values, callees_in, callees_of}
 use Rattle.sf_calls.proofs.Searches.{one_of, only_one}
 use Rattle.sf_calls.proofs.Occurring.{OccursInOperand, OccursInCondition, OccursInFields, OccursIn, OccursInAny, OccursInOne, occurs_is}
 
@@ -53,42 +53,6 @@ in_expr_is x (Variable y) = var_is y.var x
 in_expr_is x Nil = never
 in_expr_is x (Int i) = never
 
-pub in_operand_is : (x : Var) (o : Operand Expr) → Decides (in_operand x o) (OccursInOperand x o)
-in_operand_is x (Known e) = in_expr_is x e
-in_operand_is x (Exists n) = never
-
-pub in_condition_is : (x : Var) (t : Test (Operand Expr)) → Decides (in_condition x t) (OccursInCondition x t)
-in_condition_is x True = never
-in_condition_is x (Equal a b) = Decides-or _ _ (in_operand_is x a) (in_operand_is x b)
-in_condition_is x (Differ a b) = Decides-or _ _ (in_operand_is x a) (in_operand_is x b)
-
-pub in_fields_is : (x : Var) (fs : List (FieldId × Operand Expr)) → Decides (in_fields x fs) (OccursInFields x fs)
-in_fields_is x [] = never
-in_fields_is x (f ∷ fs) = Decides-or _ _ (in_operand_is x f.1) (in_fields_is x fs)
-
-mutual
-  level_decides : (x : Var) (a : Level Expr) → Decides (in_level x a) (OccursIn x a)
-  level_decides x (level made cs) = in_conjuncts_is x cs
-
-  in_conjuncts_is : (x : Var) (cs : Conjuncts Expr) → Decides (in_conjuncts x cs) (OccursInAny x cs)
-  in_conjuncts_is x none = never
-  in_conjuncts_is x (also c cs) = Decides-or _ _ (in_conjunct_is x c) (in_conjuncts_is x cs)
-
-  in_conjunct_is : (x : Var) (c : Conjunct Expr) → Decides (in_conjunct x c) (OccursInOne x c)
-  in_conjunct_is x (holds place t) = in_condition_is x t
-  in_conjunct_is x (points place root fs) = Decides-or _ _ (in_operand_is x root) (in_fields_is x fs)
-  in_conjunct_is x (segment place f from to) = Decides-or _ _ (in_operand_is x from) (in_operand_is x to)
-  in_conjunct_is x (tree place l r root) = in_operand_is x root
-  in_conjunct_is x (choose place t this that) = Decides-or _ _ (in_condition_is x t) (Decides-or _ _ (level_decides x this) (level_decides x that))
-
-pub in_level_is : (x : Var) (a : Level Expr) → Decides (in_level x a) (VarOccursIn a x)
-in_level_is x a = Decides-like (in_level x a) (occurs_is x a).1 (occurs_is x a).0 (level_decides x a)
-
-pub in_test_is : (x : Var) (t : Test Expr) → Decides (in_test x t) (OccursInTest x t)
-in_test_is x True = never
-in_test_is x (Equal a b) = Decides-or _ _ (in_expr_is x a) (in_expr_is x b)
-in_test_is x (Differ a b) = Decides-or _ _ (in_expr_is x a) (in_expr_is x b)
-
 pub in_references_is : (x : Var) (ys : List Occurrence) → Decides (in_references x ys) (IsAmong x ys)
 in_references_is x [] = never
 in_references_is x (y ∷ ys) = Decides-or _ _ (var_is y.var x) (in_references_is x ys)
@@ -96,43 +60,6 @@ in_references_is x (y ∷ ys) = Decides-or _ _ (var_is y.var x) (in_references_i
 pub in_values_is : (x : Var) (es : List Expr) → Decides (in_values x es) (OccursInValues x es)
 in_values_is x [] = never
 in_values_is x (e ∷ es) = Decides-or _ _ (in_expr_is x e) (in_values_is x es)
-
-pub in_call_is : (x : Var) (c : Call) → Decides (in_call x c) (OccursInCall x c)
-in_call_is x c = Decides-or _ _ (in_references_is x c.references) (in_values_is x c.values)
-
-mutual
-  pub in_block_is : (x : Var) (b : Block) → Decides (in_block x b) (OccursOutside x b)
-  in_block_is x done = never
-  in_block_is x (then c b) = Decides-or _ _ (in_command_is x c) (in_block_is x b)
-
-  pub in_command_is : (x : Var) (c : Command) → Decides (in_command x c) (OccursInCommand x c)
-  in_command_is x (assign p y e) = Decides-or _ _ (var_is y.var x) (in_expr_is x e)
-  in_command_is x (look_up p y e field) = Decides-or _ _ (var_is y.var x) (in_expr_is x e)
-  in_command_is x (mutate p e field d) = Decides-or _ _ (in_expr_is x e) (in_expr_is x d)
-  in_command_is x (new p y) = var_is y.var x
-  in_command_is x (dispose p e) = in_expr_is x e
-  in_command_is x (if p t c d) = Decides-or _ _ (in_test_is x t) (Decides-or _ _ (in_block_is x c) (in_block_is x d))
-  in_command_is x (while p t a c) = Decides-or _ _ (in_test_is x t) (Decides-or _ _ (in_level_is x a.level) (in_block_is x c))
-  in_command_is x (call p c) = in_call_is x c
-  in_command_is x (fork p c d) = Decides-or _ _ (in_call_is x c) (in_call_is x d)
-  in_command_is x (with p r t c) = Decides-and _ _ (other_is (owner x) r) (Decides-or _ _ (in_test_is x t) (in_block_is x c))
-
-mutual
-  pub enters_in_is : (r : ResId) (b : Block) → Decides (enters_in r b) (EntersIn r b)
-  enters_in_is r done = never
-  enters_in_is r (then c b) = Decides-or _ _ (enters_of_is r c) (enters_in_is r b)
-
-  pub enters_of_is : (r : ResId) (c : Command) → Decides (enters_of r c) (EntersInCommand r c)
-  enters_of_is r (assign p y e) = never
-  enters_of_is r (look_up p y e field) = never
-  enters_of_is r (mutate p e field d) = never
-  enters_of_is r (new p y) = never
-  enters_of_is r (dispose p e) = never
-  enters_of_is r (if p t c d) = Decides-or _ _ (enters_in_is r c) (enters_in_is r d)
-  enters_of_is r (while p t a c) = enters_in_is r c
-  enters_of_is r (call p c) = never
-  enters_of_is r (fork p c d) = never
-  enters_of_is r (with p q t c) = Decides-or _ _ (same_resource q r) (enters_in_is r c)
 
 -- nothing is among none
 pub none_in : {A : Type 0} (x : A) → Contains [] x → ⊥
@@ -157,7 +84,7 @@ of_cond : {A : Type 0} (b : Bool) (xs : List A) (x : A) (P Q : Type 0) → Decid
 of_cond true xs x P Q d q = (λ c. (d.0 refl, q.0 c), λ h. q.1 h.1)
 of_cond false xs x P Q d q = (λ c. absurd (none_in x c), λ h. absurd (let e : false ≡ true = d.1 h.0 in cc))
 
-of_none : {A : Type 0} (x : A) → Contains [] x ↔ ⊥
+pub of_none : {A : Type 0} (x : A) → Contains [] x ↔ ⊥
 of_none x = (none_in x, λ h. absurd h)
 
 mutual

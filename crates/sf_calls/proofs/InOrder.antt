@@ -1,5 +1,5 @@
 -- The resources and their variables in order.
-use Rattle.std.proofs.Common.{◌≡◌, ◌≢◌, ◌⊎◌, ◌<◌, ◌+◌, ◌^◌, ℕ, List, [], ◌∷◌, ◌++◌, length, get_or, Some, slice_get, Contains, refl, sym, ap, inl, inr, subst, arith}
+use Rattle.std.proofs.Common.{◌≡◌, ◌≢◌, ◌⊎◌, ◌<◌, ◌+◌, ◌^◌, ℕ, List, [], ◌∷◌, ◌++◌, length, get_or, Some, slice_get, Contains, All, refl, sym, ap, inl, inr, subst, arith}
 use Rattle.std.proofs.lemmas.Bool.Decides.{eqb_tells}
 use Rattle.std.proofs.lemmas.List.Elements.{Contains-append_left, Contains-push, Contains-push_cases, Contains-get_or}
 use Rattle.std.proofs.lemmas.List.Quantifiers.{all_pairs_push}
@@ -10,6 +10,7 @@ use Rattle.sf_base.specs.declared.ids.Var.{Var}
 use Rattle.sf_base.specs.declared.ids.Var.TheVariants.{Own, Shared}
 use Rattle.sf_core.specs.Formed.{IsFormed}
 use Rattle.sf_core.specs.Syntax.{Program, Resource}
+use Rattle.sf_calls.specs.Conditions.{IsShared}
 use Rattle.sf_calls.specs.Sets.{IsSetOf, IsEarlier, IsEarlierResource, IsUpTo}
 use Rattle.sf_calls.proofs.Decided.{resource, none_in}
 
@@ -98,3 +99,11 @@ variables_bound p k r formed at =
     let here : get_or p.resources k r ≡ r = get_or_from_slice_get p.resources k r r at in
     let all = formed.variables in
     omega (arith, rw here at le, all)
+
+-- each of them is one of a resource
+pub all_shared : (counts : ℕ → ℕ) (k : ℕ) (xs : List Var) → IsSetOf IsEarlier (IsUpTo counts k 0) xs → All IsShared xs
+all_shared counts k xs s = λ j d below. shared (get_or xs j d) ((s.members (get_or xs j d)).0 (Contains-get_or xs j d below))
+  where
+    shared : (x : Var) → IsUpTo counts k 0 x → IsShared x
+    shared (Own n) h = h
+    shared (Shared q i) h = tt

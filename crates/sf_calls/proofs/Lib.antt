@@ -1,9 +1,10 @@
 pub mod Occurring
 pub mod Searches
 pub mod Decided
+pub mod InOrder
+pub mod Listing
 pub mod Within
 pub mod CallGraph
-pub mod InOrder
 pub mod Rows
 pub mod Least
 pub mod Gathered

@@ -1,5 +1,5 @@
 -- Rows of marks: what a procedure's own text tells, and what its calls add.
-use Rattle.std.proofs.Common.{◌≡◌, ◌≢◌, ◌⊎◌, ◌↔◌, ◌<◌, ◌≤◌, ◌+◌, ℕ, zero, suc, Bool, true, false, cond, List, [], ◌∷◌, ◌++◌, length, get_or, map, take, Option, Some, slice_get, Vec, Contains, All, AllPairs, refl, sym, ap, inl, inr, ◌∙◌, subst, arith}
+use Rattle.std.proofs.Common.{◌≡◌, ◌≢◌, ◌⊎◌, ◌↔◌, ◌==◌, ◌||◌, ◌<◌, ◌≤◌, ◌+◌, ℕ, zero, suc, Bool, true, false, cond, List, [], ◌∷◌, ◌++◌, length, get_or, map, take, Option, Some, slice_get, Vec, Contains, All, AllPairs, refl, sym, ap, inl, inr, ◌∙◌, subst, arith}
 use Rattle.std.specs.Bool.{Decides}
 use Rattle.std.specs.List.{AllZip}
 use Rattle.std.specs.Option.{option_map}
@@ -7,102 +7,111 @@ use Rattle.std.proofs.lemmas.Bool.Decides.{eqb_tells, Decides-or, Decides-like}
 use Rattle.std.proofs.lemmas.List.{length-map, take_all, take_more, map-append}
 use Rattle.std.proofs.lemmas.List.Elements.{Contains-append_left, Contains-append_right, Contains-append_cases, All-nil, All-cons, All-head, All-tail}
 use Rattle.std.proofs.lemmas.List.Kept.{AllPairs-cons}
-use Rattle.std.proofs.lemmas.Option.{slice_get-map, slice_get_within, slice_get_cases, get_or_from_slice_get, same_Some, none-some}
+use Rattle.std.proofs.lemmas.Option.{slice_get-map, slice_get_within, slice_get_read, get_or_from_slice_get, same_Some, none-some}
 use Rattle.std.specs.declared.alloc.Global.{Global}
 use Rattle.sf_base.specs.declared.ids.ProcId.{ProcId}
 use Rattle.sf_base.specs.declared.ids.ResId.{ResId}
 use Rattle.sf_base.specs.declared.ids.Var.{Var}
-use Rattle.sf_base.specs.declared.ids.Var.TheVariants.{Shared}
+use Rattle.sf_base.specs.declared.ids.Var.TheVariants.{Own, Shared}
 use Rattle.sf_core.specs.declared.program.Proc.{Proc}
-use Rattle.sf_core.specs.Formed.{IsFormed, IsParameter, variable_count}
 use Rattle.sf_core.specs.HeldBy.{HeldBy}
 use Rattle.sf_core.specs.Occurs.{VarOccursIn}
 use Rattle.sf_core.specs.Syntax.{Procedure, Program}
 use Rattle.sf_core.specs.View.{procedure_of}
-use Rattle.sf_calls.specs.Conditions.{Calls}
+use Rattle.sf_calls.specs.declared.text.Text.{Text}
+use Rattle.sf_calls.specs.Conditions.{Calls, Enters, Mentions, IsShared}
 use Rattle.sf_calls.specs.Leads.{Leads, directly, through}
-use Rattle.sf_calls.specs.Marks.{IsMarked, IsCaller, AreCallers, IsRow, AreRows, chosen}
-use Rattle.sf_calls.specs.Outside.{OccursOutside}
-use Rattle.sf_calls.specs.Sets.{IsSetOf, IsFamily}
-use Rattle.sf_calls.specs.Tests.{mentions, speaks_of}
-use Rattle.sf_calls.proofs.Decided.{in_level_is, in_block_is, none_in, single_is, is_single}
-use Rattle.sf_calls.proofs.Within.{level_within}
+use Rattle.sf_calls.specs.Marks.{IsMarked, IsCaller, AreCallers, IsRow, AreRows, IsTextOf, AreTexts, speaks_of, has, chosen}
+use Rattle.sf_calls.specs.Listed.{is_entered}
+use Rattle.sf_calls.specs.Outside.{EntersIn, OccursOutside}
+use Rattle.sf_calls.specs.Sets.{IsEarlier, IsSetOf, IsFamily}
+use Rattle.sf_calls.specs.Tests.{same_var}
+use Rattle.sf_calls.proofs.Decided.{same_resource, var_is, none_in, single_is, is_single}
+use Rattle.sf_calls.proofs.Listing.{cons_is, entered_is}
 
--- a test of each procedure marks those that have what it decides
-pub marked_map : (t : Procedure → Bool) (P : Procedure → Type 0) → ((h : Procedure) → Decides (t h) (P h)) → (hs : List Proc) (f : ProcId)
-    → IsMarked (map (λ h. t (procedure_of h)) hs) f ↔ ((h : Procedure) × (slice_get (map procedure_of hs) f.0 ≡ Some h) × P h)
-marked_map t P decides hs f = (to, from)
-  where
-    to : IsMarked (map (λ h. t (procedure_of h)) hs) f → (h : Procedure) × (slice_get (map procedure_of hs) f.0 ≡ Some h) × P h
-    to m = elim (slice_get_cases hs f.0).1 [
-      | inl x ↦
-          let is : Some (t (procedure_of x.0)) ≡ Some true = sym (slice_get-map (λ (h : Proc). t (procedure_of h)) hs f.0 ∙ ap (option_map (λ (h : Proc). t (procedure_of h))) x.2) ∙ m in
-          (procedure_of x.0, slice_get-map procedure_of hs f.0 ∙ ap (option_map procedure_of) x.2, (decides (procedure_of x.0)).0 (same_Some _ _ is))
-      | inr x ↦ absurd (none-some true (sym (slice_get-map (λ (h : Proc). t (procedure_of h)) hs f.0 ∙ ap (option_map (λ (h : Proc). t (procedure_of h))) x.1) ∙ m))
-    ]
+-- a test of each entry marks the procedures that have what it decides
+zip_marked : {B : Type 0} (R : Procedure → B → Type 0) (t : B → Bool) (P : Procedure → Type 0) → ((h : Procedure) (y : B) → R h y → Decides (t y) (P h)) → (hs : List Procedure) (ys : List B) → AllZip R hs ys → (k : ℕ)
+    → (slice_get (map t ys) k ≡ Some true) ↔ ((h : Procedure) × (slice_get hs k ≡ Some h) × P h)
+zip_marked R t P d [] [] z k = (λ e. absurd (none-some true e), λ h. absurd (none-some h.0 h.1))
+zip_marked R t P d [] (y ∷ ys) z k = absurd z
+zip_marked R t P d (h ∷ hs) [] z k = absurd z
+zip_marked R t P d (h ∷ hs) (y ∷ ys) z zero = (
+  λ e. (h, refl, (d h y z.0).0 (same_Some (t y) true e)),
+  λ s. ap Some ((d h y z.0).1 (subst P (sym (same_Some h s.0 s.1)) s.2)),
+)
+zip_marked R t P d (h ∷ hs) (y ∷ ys) z (suc k) = zip_marked R t P d hs ys z.1 k
 
-    from : (h : Procedure) × (slice_get (map procedure_of hs) f.0 ≡ Some h) × P h → IsMarked (map (λ h. t (procedure_of h)) hs) f
-    from (h, at, has) = elim (slice_get_cases hs f.0).1 [
-      | inl x ↦
-          let same : procedure_of x.0 ≡ h = same_Some _ _ (sym (slice_get-map procedure_of hs f.0 ∙ ap (option_map procedure_of) x.2) ∙ at) in
-          slice_get-map (λ (k : Proc). t (procedure_of k)) hs f.0 ∙ ap (option_map (λ (k : Proc). t (procedure_of k))) x.2 ∙ ap (λ (k : Procedure). Some (t k)) same ∙ ap Some ((decides h).1 has)
-      | inr x ↦ absurd (none-some h (sym (slice_get-map procedure_of hs f.0 ∙ ap (option_map procedure_of) x.1) ∙ at))
-    ]
+pub zip_length : {A B : Type 0} (R : A → B → Type 0) (xs : List A) (ys : List B) → AllZip R xs ys → length ys ≡ length xs
+zip_length R [] [] z = refl
+zip_length R [] (y ∷ ys) z = absurd z
+zip_length R (x ∷ xs) [] z = absurd z
+zip_length R (x ∷ xs) (y ∷ ys) z = ap suc (zip_length R xs ys z.1)
 
--- all procedures were looked at
-pub row_of : (t : Procedure → Bool) (P : Procedure → Type 0) → ((h : Procedure) → Decides (t h) (P h)) → (hs : List Proc) (i : ℕ) (marks : List Bool) → length hs ≤ i
-    → marks ≡ map (λ h. t (procedure_of h)) (take i hs) → IsRow (length hs) (λ f. (h : Procedure) × (slice_get (map procedure_of hs) f.0 ≡ Some h) × P h) marks
-row_of t P decides hs i marks past e =
-    let all : marks ≡ map (λ h. t (procedure_of h)) hs = e ∙ ap (map (λ (h : Proc). t (procedure_of h))) (take_all i hs past) in
-    rw all (record { size = length-map hs (λ (h : Proc). t (procedure_of h)); marks = marked_map t P decides hs })
+-- all entries were looked at
+zip_row : {B : Type 0} (R : Procedure → B → Type 0) (t : B → Bool) (P : Procedure → Type 0) → ((h : Procedure) (y : B) → R h y → Decides (t y) (P h)) → (hs : List Proc) (ys : List B) → AllZip R (map procedure_of hs) ys
+    → (i : ℕ) (marks : List Bool) → length ys ≤ i → marks ≡ map t (take i ys) → IsRow (length hs) (λ f. (h : Procedure) × (slice_get (map procedure_of hs) f.0 ≡ Some h) × P h) marks
+zip_row R t P d hs ys z i marks past e =
+    let all : marks ≡ map t ys = e ∙ ap (map t) (take_all i ys past) in
+    rw all (record { size = length-map ys t ∙ zip_length R (map procedure_of hs) ys z ∙ length-map hs procedure_of; marks = λ f. zip_marked R t P d (map procedure_of hs) ys z f.0 })
 
 -- the same row by another description
 pub row_same : (n : ℕ) (P Q : ProcId → Type 0) (row : List Bool) → ((f : ProcId) → P f → Q f) → ((f : ProcId) → Q f → P f) → IsRow n P row → IsRow n Q row
 row_same n P Q row to from r = record { size = r.size; marks = λ f. (λ m. to f ((r.marks f).0 m), λ q. (r.marks f).1 (from f q)) }
 
-pub mentions_is : (x : Var) (h : Procedure) → Decides (mentions x h) (VarOccursIn h.pre.level x ⊎ (VarOccursIn h.post.level x ⊎ OccursOutside x h.body))
-mentions_is x h = Decides-or _ _ (in_level_is x h.pre.level) (Decides-or _ _ (in_level_is x h.post.level) (in_block_is x h.body))
+pub has_is : (x : Var) (xs : List Var) → Decides (has x xs) (Contains xs x)
+has_is x [] = (λ e. absurd (cc), λ c. absurd (none_in x c))
+has_is x (y ∷ ys) =
+    let both = Decides-or (same_var y x) (has x ys) (var_is y x) (has_is x ys) in
+    (λ e. (cons_is y ys x).1 (both.0 e), λ c. both.1 ((cons_is y ys x).0 c))
 
--- a variable of the resource, below n, stands in the pre or in the post
-SpeaksBelow : ResId → ℕ → Procedure → Type 0
-SpeaksBelow r n h = (i : ℕ) × (i < n) × (VarOccursIn h.pre.level (Shared r i) ⊎ VarOccursIn h.post.level (Shared r i))
+-- a variable of the resource is there
+Speaks : ResId → List Var → Type 0
+Speaks r xs = (i : ℕ) × Contains xs (Shared r i)
 
-speaks_is : (r : ResId) (n : ℕ) (h : Procedure) → Decides (speaks_of r n h) (SpeaksBelow r n h)
-unfolding SpeaksBelow
-speaks_is r zero h = (λ e. absurd (cc), λ s. absurd (let none : s.0 < 0 = s.1 in omega arith))
-speaks_is r (suc n) h =
-    let here = Decides-or _ _ (in_level_is (Shared r n) h.pre.level) (in_level_is (Shared r n) h.post.level) in
-    Decides-like (speaks_of r (suc n) h) to from (Decides-or (speaks_of r n h) _ (speaks_is r n h) here)
+speaks_is : (r : ResId) (xs : List Var) → Decides (speaks_of r xs) (Speaks r xs)
+unfolding Speaks
+speaks_is r [] = (λ e. absurd (cc), λ s. absurd (none_in (Shared r s.0) s.1))
+speaks_is r (Own n ∷ xs) = Decides-like (speaks_of r xs) to from (speaks_is r xs)
   where
-    to : SpeaksBelow r n h ⊎ (VarOccursIn h.pre.level (Shared r n) ⊎ VarOccursIn h.post.level (Shared r n)) → SpeaksBelow r (suc n) h
-    to (inl s) = (s.0, omega (arith, s.1), s.2)
-    to (inr s) = (n, omega arith, s)
+    to : Speaks r xs → Speaks r (Own n ∷ xs)
+    to s = (s.0, (cons_is (Own n) xs (Shared r s.0)).1 (inr s.1))
 
-    from : SpeaksBelow r (suc n) h → SpeaksBelow r n h ⊎ (VarOccursIn h.pre.level (Shared r n) ⊎ VarOccursIn h.post.level (Shared r n))
-    from s = elim (eqb_tells s.0 n) [
-      | inl e ↦ inr (subst (λ (k : ℕ). VarOccursIn h.pre.level (Shared r k) ⊎ VarOccursIn h.post.level (Shared r k)) e.1 s.2)
-      | inr e ↦ inl (s.0, (let other : s.0 ≢ n = e.1 in omega (arith, s.1)), s.2)
-    ]
-
--- who holds a resource
-pub held_row : (p : Program) (r : ResId) (n : ℕ) (marks : List Bool) → IsFormed p → variable_count (slice_get p.resources r.0) ≡ n
-    → (hs : List Proc) → map procedure_of hs ≡ p.procedures → (i : ℕ) → length hs ≤ i → marks ≡ map (λ h. speaks_of r n (procedure_of h)) (take i hs) → IsRow (length hs) (λ f. HeldBy p f r) marks
-unfolding SpeaksBelow
-held_row p r n marks formed count hs same i past e =
-    row_same (length hs) _ (λ f. HeldBy p f r) marks to from (row_of (speaks_of r n) (SpeaksBelow r n) (speaks_is r n) hs i marks past e)
+    from : Speaks r (Own n ∷ xs) → Speaks r xs
+    from s = elim ((cons_is (Own n) xs (Shared r s.0)).0 s.1) [ inl e ↦ absurd (cc) | inr c ↦ (s.0, c) ]
+speaks_is r (Shared q j ∷ xs) = Decides-like ((q.0 == r.0) || speaks_of r xs) to from (Decides-or (q.0 == r.0) (speaks_of r xs) (same_resource q r) (speaks_is r xs))
   where
-    to : (f : ProcId) → (h : Procedure) × (slice_get (map procedure_of hs) f.0 ≡ Some h) × SpeaksBelow r n h → HeldBy p f r
-    to f (h, at, s) = record { procedure = h; there = ap (λ (k : List Procedure). slice_get k f.0) (sym same) ∙ at; variable = s.0; occurs = s.2 }
+    to : (q ≡ r) ⊎ Speaks r xs → Speaks r (Shared q j ∷ xs)
+    to (inl e) = (j, (cons_is (Shared q j) xs (Shared r j)).1 (inl (ap (λ (k : ResId). Shared k j) e)))
+    to (inr s) = (s.0, (cons_is (Shared q j) xs (Shared r s.0)).1 (inr s.1))
 
-    below : (f : ProcId) (b : HeldBy p f r) → b.variable < n
-    below f b = let w = formed.procedures f.0 b.procedure b.there in
-        subst (λ (k : ℕ). b.variable < k) count (elim b.occurs [
-          | inl x ↦ level_within p.fields (IsParameter p b.procedure) [] (Shared r b.variable) b.procedure.pre.level w.pre.note.within x
-          | inr x ↦ level_within p.fields (IsParameter p b.procedure) [] (Shared r b.variable) b.procedure.post.level w.post.note.within x
-        ])
+    from : Speaks r (Shared q j ∷ xs) → (q ≡ r) ⊎ Speaks r xs
+    from s = elim ((cons_is (Shared q j) xs (Shared r s.0)).0 s.1) [ inl e ↦ inl (let same : q ≡ r = cc in same) | inr c ↦ inr (s.0, c) ]
 
-    from : (f : ProcId) → HeldBy p f r → (h : Procedure) × (slice_get (map procedure_of hs) f.0 ≡ Some h) × SpeaksBelow r n h
-    from f b = (b.procedure, ap (λ (k : List Procedure). slice_get k f.0) same ∙ b.there, (b.variable, below f b, b.occurs))
+-- who enters a resource, who mentions a variable, and who holds a resource
+pub entering_row : (p : Program) (r : ResId) (hs : List Proc) (texts : List Text) (i : ℕ) (marks : List Bool) → map procedure_of hs ≡ p.procedures → AreTexts p texts
+    → length texts ≤ i → marks ≡ map (λ t. is_entered r t.entered.items) (take i texts) → IsRow (length hs) (Enters p r) marks
+entering_row p r hs texts i marks same z past e =
+    row_same (length hs) _ (Enters p r) marks
+    (λ f s. (s.0, ap (λ (k : List Procedure). slice_get k f.0) (sym same) ∙ s.1, s.2)) (λ f s. (s.0, ap (λ (k : List Procedure). slice_get k f.0) same ∙ s.1, s.2))
+    (zip_row IsTextOf (λ t. is_entered r t.entered.items) (λ h. EntersIn r h.body) (λ h t w. Decides-like (is_entered r t.entered.items) (w.entered r).0 (w.entered r).1 (entered_is r t.entered.items)) hs texts (rw same z) i marks past e)
+
+pub mentioning_row : (p : Program) (x : Var) (hs : List Proc) (texts : List Text) (i : ℕ) (marks : List Bool) → map procedure_of hs ≡ p.procedures → AreTexts p texts → IsShared x
+    → length texts ≤ i → marks ≡ map (λ t. has x t.mentioned) (take i texts) → IsRow (length hs) (Mentions p x) marks
+mentioning_row p x hs texts i marks same z shared past e =
+    row_same (length hs) _ (Mentions p x) marks
+    (λ f s. (s.0, ap (λ (k : List Procedure). slice_get k f.0) (sym same) ∙ s.1, s.2)) (λ f s. (s.0, ap (λ (k : List Procedure). slice_get k f.0) same ∙ s.1, s.2))
+    (zip_row IsTextOf (λ t. has x t.mentioned) (λ h. VarOccursIn h.pre.level x ⊎ (VarOccursIn h.post.level x ⊎ OccursOutside x h.body))
+    (λ h t w. Decides-like (has x t.mentioned) (λ c. ((w.mentioned.members x).0 c).1) (λ m. (w.mentioned.members x).1 (shared, m)) (has_is x t.mentioned)) hs texts (rw same z) i marks past e)
+
+pub holding_row : (p : Program) (r : ResId) (hs : List Proc) (texts : List Text) (i : ℕ) (marks : List Bool) → map procedure_of hs ≡ p.procedures → AreTexts p texts
+    → length texts ≤ i → marks ≡ map (λ t. speaks_of r t.spoken) (take i texts) → IsRow (length hs) (λ f. HeldBy p f r) marks
+unfolding Speaks
+holding_row p r hs texts i marks same z past e =
+    row_same (length hs) _ (λ f. HeldBy p f r) marks
+    (λ f s. record { procedure = s.0; there = ap (λ (k : List Procedure). slice_get k f.0) (sym same) ∙ s.1; variable = s.2.0; occurs = s.2.1 })
+    (λ f b. (b.procedure, ap (λ (k : List Procedure). slice_get k f.0) same ∙ b.there, (b.variable, b.occurs)))
+    (zip_row IsTextOf (λ t. speaks_of r t.spoken) (λ h. (i : ℕ) × (VarOccursIn h.pre.level (Shared r i) ⊎ VarOccursIn h.post.level (Shared r i)))
+    (λ h t w. Decides-like (speaks_of r t.spoken) (λ s. (s.0, ((w.spoken.members (Shared r s.0)).0 s.1).1)) (λ m. (m.0, (w.spoken.members (Shared r m.0)).1 (tt, m.1))) (speaks_is r t.spoken)) hs texts (rw same z) i marks past e)
 
 -- the least set rests on its two rules alone
 pub leads_along : {A : Type 0} (D D' : A → Type 0) (E E' : A → A → Type 0) → ((a : A) → D a → D' a) → ((a b : A) → E a b → E' a b) → (a : A) → Leads D E a → Leads D' E' a
@@ -250,3 +259,29 @@ pub rows_more : {A : Type 0} (n : ℕ) (P : ProcId → A → Type 0) (keys : Lis
     → i < length keys → AreRows n P (take i keys) rows → IsRow n (λ f. P f (get_or keys i d)) row.items → more ≡ rows ++ row ∷ [] → AreRows n P (take (i + 1) keys) more
 rows_more n P keys i d rows more row below so_far next e =
     rw (e, take_more keys i d below) (zip_push (λ x (r : Vec Bool Global). IsRow n (λ f. P f x) r.items) (take i keys) rows (get_or keys i d) row so_far next)
+
+-- the text of one more procedure
+pub texts_more : (xs ys : List Proc) (i : ℕ) (h : Proc) (texts more : List Text) (t : Text) → ys ≡ xs → i < length ys → h ≡ get_or ys i h → AllZip IsTextOf (map procedure_of (take i xs)) texts → IsTextOf (procedure_of h) t → more ≡ texts ++ t ∷ []
+    → AllZip IsTextOf (map procedure_of (take (i + 1) xs)) more
+texts_more xs ys i h texts more t e below is so_far next longer =
+    rw (longer, ← mapped_more procedure_of xs ys i h (map procedure_of (take i xs)) (procedure_of h) e below is refl refl) (zip_push IsTextOf (map procedure_of (take i xs)) texts (procedure_of h) t so_far next)
+
+-- what belongs to an entry
+zip_entry : {A B : Type 0} (R : A → B → Type 0) (xs : List A) (ys : List B) → AllZip R xs ys → (k : ℕ) (y : B) → slice_get ys k ≡ Some y → (x : A) × R x y
+zip_entry R xs [] z k y at = absurd (none-some y at)
+zip_entry R [] (b ∷ ys) z k y at = absurd z
+zip_entry R (a ∷ xs) (b ∷ ys) z zero y at = (a, subst (R a) (same_Some b y at) z.0)
+zip_entry R (a ∷ xs) (b ∷ ys) z (suc k) y at = zip_entry R xs ys z.1 k y at
+
+-- the variables of a text are in order
+pub text_ordered : (p : Program) (texts : List Text) (i : ℕ) (t : Text) → AreTexts p texts → i < length texts → t ≡ get_or texts i t → AllPairs IsEarlier t.mentioned
+text_ordered p texts i t z below is = (zip_entry IsTextOf p.procedures texts z i t (slice_get_read texts (length texts) i t refl below is)).1.mentioned.ordered
+
+same_bool : (b c : Bool) → (b ≡ true → c ≡ true) → (c ≡ true → b ≡ true) → b ≡ c
+same_bool true c to from = sym (to refl)
+same_bool false true to from = from refl
+same_bool false false to from = refl
+
+-- a test for a member is that one
+pub has_same : (b : Bool) (x : Var) (xs : List Var) → ((b ≡ true) ↔ Contains xs x) → b ≡ has x xs
+has_same b x xs h = same_bool b (has x xs) (λ e. (has_is x xs).1 (h.0 e)) (λ e. h.1 ((has_is x xs).0 e))

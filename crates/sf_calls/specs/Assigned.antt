@@ -8,8 +8,8 @@ use Rattle.sf_calls.specs.Conditions.{Free}
 use Rattle.sf_calls.specs.Outside.{IsAmong}
 
 -- the call may change it: one of its references names it, or it is free in its procedure
-abbrev pub ChangedByCall : Program → Var → Call → Type 0
-ChangedByCall p x c = IsAmong x c.references ⊎ Free p c.callee x
+abbrev pub MayChange : Program → Call → Var → Type 0
+MayChange p c x = IsAmong x c.references ⊎ Free p c.callee x
 
 -- an assignment, a look-up or a `new` sets it, or a call may change it
 abbrev mutual
@@ -21,14 +21,14 @@ abbrev mutual
   Assigned p x (dispose q e) = ⊥
   Assigned p x (if q t c d) = AssignedIn p x c ⊎ AssignedIn p x d
   Assigned p x (while q t a c) = AssignedIn p x c
-  Assigned p x (call q c) = ChangedByCall p x c
-  Assigned p x (fork q c d) = ChangedByCall p x c ⊎ ChangedByCall p x d
+  Assigned p x (call q c) = MayChange p c x
+  Assigned p x (fork q c d) = MayChange p c x ⊎ MayChange p d x
   Assigned p x (with q r t c) = AssignedIn p x c
 
   pub AssignedIn : Program → Var → Block → Type 0
   AssignedIn p x done = ⊥
   AssignedIn p x (then c b) = Assigned p x c ⊎ AssignedIn p x b
 
--- a command is in order in one of the bodies of the program, as each command of a body is
-abbrev pub IsCommandOf : Program → Command → Type 0
-IsCommandOf p c = (f : Procedure) × CommandWithin p f c
+-- the command is in order in the program, as each command of its bodies is
+abbrev pub IsInOrderIn : Program → Command → Type 0
+IsInOrderIn p c = (f : Procedure) × CommandWithin p f c

@@ -16,9 +16,10 @@ use Rattle.sf_core.specs.HeldBy.{HeldBy}
 use Rattle.sf_core.specs.Syntax.{Conjunct, holds, points, segment, tree, choose, Level, level, Conjuncts, none, also, Call, Command, assign, look_up, mutate, new, dispose, if, while, call, fork, with, Block, done, then, Procedure, Resource, Program}
 use Rattle.sf_calls.specs.declared.breach.Breach.{Breach}
 use Rattle.sf_calls.specs.declared.breach.Breach.TheVariants.{NotHeld, Reentered, SameReference, ReferenceIsFree, ParallelShares}
+use Rattle.sf_calls.specs.Assigned.{MayChange}
 use Rattle.sf_calls.specs.Conditions.{Takes, Free}
 use Rattle.sf_calls.specs.First.{nothing, where_, first, first_of}
-use Rattle.sf_calls.specs.Outside.{IsAmong, OccursInValues}
+use Rattle.sf_calls.specs.Outside.{OccursInValues}
 
 -- where one stands: in the body of f, inside regions of those resources
 pub record Around : Type 0 where
@@ -107,10 +108,7 @@ Repeats before (x ∷ xs) r = first (where_ (Contains before x.var) (SameReferen
 abbrev pub PassesFree : Program → Call → Option Breach → Type 0
 PassesFree p c r = first_of (λ x. where_ (Free p c.callee x.var) (ReferenceIsFree x.place x.var)) c.references r
 
--- what a call may change, and what it uses
-abbrev pub MayChange : Program → Call → Var → Type 0
-MayChange p c x = IsAmong x c.references ⊎ Free p c.callee x
-
+-- what a call uses
 abbrev pub Uses : Program → Call → Var → Type 0
 Uses p c x = MayChange p c x ⊎ OccursInValues x c.values
 

@@ -6,5 +6,6 @@ pub mod Assigned
 pub mod First
 pub mod FirstBreach
 pub mod Tests
+pub mod Listed
 pub mod Laws
 pub mod Marks

@@ -56,8 +56,8 @@ pub record AreSetsOf (p : Program) (sets : Sets) : Type 0 where
   pub free : IsFamily IsVarSet (Free p) (length p.procedures) sets.free
 
 -- the set of what is free in the procedure has the variable
-abbrev pub IsFreeIn : Sets → ProcId → Var → Type 0
-IsFreeIn sets g x = (xs : List Var) × (slice_get sets.free g.0 ≡ Some xs) × Contains xs x
+abbrev pub HasFree : Sets → ProcId → Var → Type 0
+HasFree sets g x = (xs : List Var) × (slice_get sets.free g.0 ≡ Some xs) × Contains xs x
 
 -- the variables xs are there beside those that were, in order
 pub record Gathers (xs before after : List Var) : Type 0 where

@@ -3,9 +3,11 @@
 ghost use Rattle.std.specs.Prelude.{◌≡◌, ◌↔◌, ◌⊎◌, ◌<◌, length, All, Contains, IfOk, OnOk, true};
 ghost use Rattle.sf_base.specs.declared.ids.ProcId.{ProcId};
 ghost use Rattle.sf_core.specs.Whole.{program_of};
-ghost use Rattle.sf_calls.specs.Marks.{IsCaller, AreCallers};
+ghost use Rattle.sf_calls.specs.Marks.{IsCaller, AreCallers, AreTexts, guards, guards_any};
 
 use crate::outside::add_callees;
+use crate::shared::is_entered;
+use crate::text::Text;
 use sf_base::{ProcId, ResId};
 use sf_core::Program;
 use std::alloc::{AllocError, Global};
@@ -33,17 +35,43 @@ pub fn callers_after(
     alloc: Global,
     but: Option<ResId>,
     p: &Program,
+    texts: &[Text],
     last: Option<ResId>,
     callers: Vec<Vec<ProcId>>,
 ) -> Result<Vec<Vec<ProcId>>, AllocError>
-    requires { AreCallers (program_of p.now) last callers.items }
+    requires texts { AreTexts (program_of p.now) texts.now }
+    requires callers { AreCallers (program_of p.now) last callers.items }
     ensures { IfOk result (λ callers. AreCallers (program_of p.now) but callers.items) }
 {
     if is_same_owner(but, last) {
-        Ok(callers)
-    } else {
-        callers_of(alloc, but, p)
+        return Ok(callers);
     }
+    if guards(but, texts) || guards(last, texts) {
+        return callers_of(alloc, but, p);
+    }
+    Ok(callers)
+}
+
+/// Whether a call stands inside a region of the resource that is left out.
+fn guards(but: Option<ResId>, texts: &[Text]) -> bool
+    ensures { result ≡ guards_any but texts.now }
+{
+    match but {
+        None => false,
+        Some(r) => guards_in(r, texts),
+    }
+}
+
+/// Whether a call stands inside a region of the resource.
+fn guards_in(r: ResId, texts: &[Text]) -> bool
+    ensures { result ≡ guards r texts.now }
+{
+    for t in texts {
+        if is_entered(r, &t.guarded) {
+            return true;
+        }
+    }
+    false
 }
 
 /// Whether both are one resource, or none.
@@ -85,13 +113,26 @@ fn add_caller(
     Ok(())
 }
 
-/// Notes that the procedure `f` calls the procedure `g`.
+/// Notes that the procedure `f` calls the procedure `g`, once where it is noted right after.
 fn add_one_caller(f: ProcId, g: ProcId, callers: &mut Vec<Vec<ProcId>>) -> Result<(), AllocError>
     requires { g.0 < length callers.old.items }
     ensures size { OnOk result (length callers.new.items ≡ length callers.old.items) }
     ensures more { OnOk result ((h k : ProcId) → IsCaller callers.new.items h k ↔ (IsCaller callers.old.items h k ⊎ ((h ≡ f) × (k ≡ g)))) }
 {
+    if ends_in(&callers[g.0 as usize], f) {
+        return Ok(());
+    }
     let row = &mut callers[g.0 as usize];
     row.push(f)?;
     Ok(())
+}
+
+/// Whether the procedure is the last of those.
+fn ends_in(fs: &[ProcId], f: ProcId) -> bool
+    ensures { result ≡ true → Contains fs.now f }
+{
+    match fs.last() {
+        None => false,
+        Some(last) => last.0 == f.0,
+    }
 }

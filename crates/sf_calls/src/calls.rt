@@ -46,8 +46,8 @@ impl Calls {
         &self.holds[f.0 as usize]
     }
 
-    /// The variables of resources that the procedure uses outside the regions of their resources,
-    /// itself or by its calls. There is such a procedure.
+    /// The variables of resources that stand in the procedure's pre or post, or that it uses outside
+    /// the regions of their resources, itself or by its calls there. There is such a procedure.
     pub fn free(&self, f: ProcId) -> &VarSet
         requires { f.0 < length self.now.free }
         ensures { slice_get self.now.free f.0 ≡ Some result.now }

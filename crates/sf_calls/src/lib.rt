@@ -2,7 +2,7 @@
 //! variables stand.
 #![tactic(auto)]
 
-pub mod assigned;
+mod assigned;
 pub mod breach;
 mod callers;
 pub mod calls;
@@ -12,8 +12,11 @@ mod leading;
 pub mod occurs;
 mod outside;
 mod reaching;
+mod regions;
 pub mod set;
+mod shared;
 mod tables;
+mod text;
 
 pub use breach::Breach;
 pub use calls::Calls;

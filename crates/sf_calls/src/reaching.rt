@@ -5,12 +5,14 @@ ghost use Rattle.sf_core.specs.Formed.{variable_count};
 ghost use Rattle.sf_core.specs.HeldBy.{HeldBy};
 ghost use Rattle.sf_core.specs.Whole.{program_of};
 ghost use Rattle.sf_calls.specs.Conditions.{Takes, Free};
+ghost use Rattle.sf_calls.specs.Marks.{AreTexts};
 ghost use Rattle.sf_calls.specs.Sets.{AreSetsOf, IsFamily, IsResSet, IsVarSet, IsSetOf, IsEarlier, IsEarlierResource, IsUpTo};
 
 use crate::calls::Calls;
 use crate::keys::{resources_of, variables_of};
 use crate::set::{ResSet, VarSet};
 use crate::tables::{free_rows, holds_rows, sets, takes_rows};
+use crate::text::{Text, texts_of};
 use sf_base::{ResId, Var};
 use sf_core::Program;
 use std::alloc::{AllocError, Global};
@@ -22,35 +24,54 @@ pub fn reach(alloc: Global, p: &Program) -> Result<Calls, AllocError>
 {
     let resources = resources_of(alloc, p)?;
     let variables = variables_of(alloc, p)?;
-    let takes = takes_sets(alloc, p, &resources)?;
-    let holds = holds_sets(alloc, p, &resources)?;
-    let free = free_sets(alloc, p, &variables)?;
+    let texts = texts_of(alloc, p)?;
+    let takes = takes_sets(alloc, p, &texts, &resources)?;
+    let holds = holds_sets(alloc, p, &texts, &resources)?;
+    let free = free_sets(alloc, p, &texts, &variables)?;
     Ok(Calls::new(takes, holds, free))
 }
 
 /// What each procedure takes, of those resources.
-fn takes_sets(alloc: Global, p: &Program, resources: &[ResId]) -> Result<Vec<ResSet>, AllocError>
-    requires { IsSetOf IsEarlierResource (λ r. r.0 < length p.now.resources.items) resources.now }
+fn takes_sets(
+    alloc: Global,
+    p: &Program,
+    texts: &[Text],
+    resources: &[ResId],
+) -> Result<Vec<ResSet>, AllocError>
+    requires texts { AreTexts (program_of p.now) texts.now }
+    requires keys { IsSetOf IsEarlierResource (λ r. r.0 < length p.now.resources.items) resources.now }
     ensures { IfOk result (λ sets. IsFamily IsResSet (Takes (program_of p.now)) (length (program_of p.now).procedures) sets.items) }
 {
-    let rows = takes_rows(alloc, p, resources)?;
+    let rows = takes_rows(alloc, p, texts, resources)?;
     sets(alloc, resources, &rows, p.procedures.len())
 }
 
 /// What each procedure holds, of those resources.
-fn holds_sets(alloc: Global, p: &Program, resources: &[ResId]) -> Result<Vec<ResSet>, AllocError>
-    requires { IsSetOf IsEarlierResource (λ r. r.0 < length p.now.resources.items) resources.now }
+fn holds_sets(
+    alloc: Global,
+    p: &Program,
+    texts: &[Text],
+    resources: &[ResId],
+) -> Result<Vec<ResSet>, AllocError>
+    requires texts { AreTexts (program_of p.now) texts.now }
+    requires keys { IsSetOf IsEarlierResource (λ r. r.0 < length p.now.resources.items) resources.now }
     ensures { IfOk result (λ sets. IsFamily IsResSet (HeldBy (program_of p.now)) (length (program_of p.now).procedures) sets.items) }
 {
-    let rows = holds_rows(alloc, p, resources)?;
+    let rows = holds_rows(alloc, p, texts, resources)?;
     sets(alloc, resources, &rows, p.procedures.len())
 }
 
 /// What is free in each procedure, of those variables.
-fn free_sets(alloc: Global, p: &Program, variables: &[Var]) -> Result<Vec<VarSet>, AllocError>
-    requires { IsSetOf IsEarlier (IsUpTo (λ k. variable_count (slice_get (program_of p.now).resources k)) (length p.now.resources.items) 0) variables.now }
+fn free_sets(
+    alloc: Global,
+    p: &Program,
+    texts: &[Text],
+    variables: &[Var],
+) -> Result<Vec<VarSet>, AllocError>
+    requires texts { AreTexts (program_of p.now) texts.now }
+    requires keys { IsSetOf IsEarlier (IsUpTo (λ k. variable_count (slice_get (program_of p.now).resources k)) (length p.now.resources.items) 0) variables.now }
     ensures { IfOk result (λ sets. IsFamily IsVarSet (Free (program_of p.now)) (length (program_of p.now).procedures) sets.items) }
 {
-    let rows = free_rows(alloc, p, variables)?;
+    let rows = free_rows(alloc, p, texts, variables)?;
     sets(alloc, variables, &rows, p.procedures.len())
 }

@@ -1,4 +1,4 @@
-ghost use Rattle.std.specs.Prelude.{◌≡◌, ◌↔◌, length, AllPairs, Contains, IsTrue};
+ghost use Rattle.std.specs.Prelude.{◌≡◌, ◌↔◌, AllPairs, Contains, IsTrue};
 ghost use Rattle.sf_calls.specs.Sets.{IsEarlier};
 
 use crate::assigned::is_earlier;
@@ -41,18 +41,11 @@ impl<T> Set<T> {
     {
         self.items.as_slice()
     }
-
-    /// How many there are.
-    pub fn len(&self) -> usize
-        ensures { result ≡ length self.now }
-    {
-        self.items.len()
-    }
 }
 
 impl VarSet {
     /// Whether the variable is one of them, by a binary search. They are in order.
-    pub fn has(&self, x: Var) -> bool
+    pub fn contains(&self, x: Var) -> bool
         requires { AllPairs IsEarlier self.now }
         ensures { IsTrue result ↔ Contains self.now x }
     {

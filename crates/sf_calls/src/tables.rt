@@ -1,34 +1,35 @@
 //! For each resource, and for each variable of one, which procedures have it.
 
-ghost use Rattle.std.specs.Prelude.{◌≡◌, ◌<◌, ◌≤◌, ◌^◌, ℕ, List, length, All, IfOk, Some, slice_get};
+ghost use Rattle.std.specs.Prelude.{◌≡◌, ◌<◌, ◌≤◌, ℕ, List, length, All, IfOk, Some, slice_get};
 ghost use Rattle.sf_core.specs.HeldBy.{HeldBy};
-ghost use Rattle.sf_core.specs.View.{procedure_of};
 ghost use Rattle.sf_core.specs.Whole.{program_of};
-ghost use Rattle.sf_calls.specs.Conditions.{Enters, Mentions, Takes, FreeIn};
-ghost use Rattle.sf_calls.specs.Marks.{AreRows, IsRow, chosen};
-ghost use Rattle.sf_calls.specs.Tests.{mentions, speaks_of};
+ghost use Rattle.sf_calls.specs.Conditions.{Enters, Mentions, Takes, FreeIn, IsShared};
+ghost use Rattle.sf_calls.specs.Marks.{AreRows, AreTexts, IsRow, chosen, speaks_of};
 
 use crate::callers::{callers_after, callers_of};
 use crate::leading::leading;
-use crate::occurs::in_level;
-use crate::outside::{enters_in, in_block, owner};
+use crate::outside::owner;
 use crate::set::Set;
+use crate::shared::is_entered;
+use crate::text::Text;
 use sf_base::{ResId, Var};
-use sf_core::{Proc, Program};
+use sf_core::Program;
 use std::alloc::{AllocError, Global};
 
 /// For each of those resources, which procedures take it. An `Err` is want of memory.
 pub fn takes_rows(
     alloc: Global,
     p: &Program,
+    texts: &[Text],
     resources: &[ResId],
 ) -> Result<Vec<Vec<bool>>, AllocError>
+    requires { AreTexts (program_of p.now) texts.now }
     ensures { IfOk result (λ rows. AreRows (length p.now.procedures.items) (Takes (program_of p.now)) resources.now rows.items) }
 {
     let callers = callers_of(alloc, None, p)?;
     let mut rows = Vec::with_capacity(alloc, resources.len())?;
     for r in resources {
-        let direct = entering(alloc, p, *r)?;
+        let direct = entering(alloc, p, texts, *r)?;
         rows.push(leading(alloc, direct, &callers)?)?;
     }
     Ok(rows)
@@ -38,14 +39,15 @@ pub fn takes_rows(
 pub fn holds_rows(
     alloc: Global,
     p: &Program,
+    texts: &[Text],
     resources: &[ResId],
 ) -> Result<Vec<Vec<bool>>, AllocError>
-    requires { All (λ r. r.0 < length p.now.resources.items) resources.now }
+    requires { AreTexts (program_of p.now) texts.now }
     ensures { IfOk result (λ rows. AreRows (length p.now.procedures.items) (HeldBy (program_of p.now)) resources.now rows.items) }
 {
     let mut rows = Vec::with_capacity(alloc, resources.len())?;
     for r in resources {
-        rows.push(holding(alloc, p, *r)?)?;
+        rows.push(holding(alloc, p, texts, *r)?)?;
     }
     Ok(rows)
 }
@@ -54,76 +56,74 @@ pub fn holds_rows(
 pub fn free_rows(
     alloc: Global,
     p: &Program,
+    texts: &[Text],
     variables: &[Var],
 ) -> Result<Vec<Vec<bool>>, AllocError>
+    requires texts { AreTexts (program_of p.now) texts.now }
+    requires shared { All IsShared variables.now }
     ensures { IfOk result (λ rows. AreRows (length p.now.procedures.items) (FreeIn (program_of p.now)) variables.now rows.items) }
 {
     let mut last = None;
     let mut callers = callers_of(alloc, None, p)?;
     let mut rows = Vec::with_capacity(alloc, variables.len())?;
     for x in variables {
-        callers = callers_after(alloc, owner(*x), p, last, callers)?;
+        callers = callers_after(alloc, owner(*x), p, texts, last, callers)?;
         last = owner(*x);
-        let direct = mentioning(alloc, p, *x)?;
+        let direct = mentioning(alloc, p, texts, *x)?;
         rows.push(leading(alloc, direct, &callers)?)?;
     }
     Ok(rows)
 }
 
 /// The procedures whose bodies have a region of the resource.
-fn entering(alloc: Global, p: &Program, r: ResId) -> Result<Vec<bool>, AllocError>
+fn entering(alloc: Global, p: &Program, texts: &[Text], r: ResId) -> Result<Vec<bool>, AllocError>
+    requires { AreTexts (program_of p.now) texts.now }
     ensures { IfOk result (λ row. IsRow (length p.now.procedures.items) (Enters (program_of p.now) r) row.items) }
 {
     let mut marks = Vec::with_capacity(alloc, p.procedures.len())?;
-    for h in &p.procedures {
-        marks.push(enters_in(r, &h.body))?;
+    for t in texts {
+        marks.push(is_entered(r, &t.entered))?;
     }
     Ok(marks)
 }
 
-/// The procedures that mention the variable.
-fn mentioning(alloc: Global, p: &Program, x: Var) -> Result<Vec<bool>, AllocError>
+/// The procedures that mention the variable, which is one of a resource.
+fn mentioning(alloc: Global, p: &Program, texts: &[Text], x: Var) -> Result<Vec<bool>, AllocError>
+    requires texts { AreTexts (program_of p.now) texts.now }
+    requires shared { IsShared x }
     ensures { IfOk result (λ row. IsRow (length p.now.procedures.items) (Mentions (program_of p.now) x) row.items) }
 {
     let mut marks = Vec::with_capacity(alloc, p.procedures.len())?;
-    for h in &p.procedures {
-        marks.push(mentions(x, h))?;
+    for t in texts {
+        marks.push(t.mentioned.contains(x))?;
     }
     Ok(marks)
 }
 
 /// The procedures that hold the resource.
-fn holding(alloc: Global, p: &Program, r: ResId) -> Result<Vec<bool>, AllocError>
-    requires { r.0 < length p.now.resources.items }
+fn holding(alloc: Global, p: &Program, texts: &[Text], r: ResId) -> Result<Vec<bool>, AllocError>
+    requires { AreTexts (program_of p.now) texts.now }
     ensures { IfOk result (λ row. IsRow (length p.now.procedures.items) (λ f. HeldBy (program_of p.now) f r) row.items) }
 {
-    let count = p.resources[r.0 as usize].variables.len();
     let mut marks = Vec::with_capacity(alloc, p.procedures.len())?;
-    for h in &p.procedures {
-        marks.push(speaks_of(r, count, h))?;
+    for t in texts {
+        marks.push(speaks_of(r, t.spoken.as_slice()))?;
     }
     Ok(marks)
 }
 
-/// Whether the procedure mentions the variable.
-fn mentions(x: Var, h: &Proc) -> bool
-    ensures { result ≡ mentions x (procedure_of h.now) }
+/// Whether one of the variables is of the resource.
+fn speaks_of(r: ResId, xs: &[Var]) -> bool
+    ensures { result ≡ speaks_of r xs.now }
 {
-    in_level(x, &h.pre.level) || in_level(x, &h.post.level) || in_block(x, &h.body)
-}
-
-/// Whether the procedure's pre or post speaks of one of the first so many variables of the
-/// resource.
-fn speaks_of(r: ResId, count: usize, h: &Proc) -> bool
-    requires { count < 2 ^ 32 }
-    ensures { result ≡ speaks_of r count (procedure_of h.now) }
-{
-    let mut found = false;
-    for i in 0..count {
-        let x = Var::Shared(r, i as u32);
-        found = found || in_level(x, &h.pre.level) || in_level(x, &h.post.level);
+    for x in xs {
+        if let Var::Shared(q, _) = x {
+            if q.0 == r.0 {
+                return true;
+            }
+        }
     }
-    found
+    false
 }
 
 /// For each procedure the set of those keys in whose rows it is marked.

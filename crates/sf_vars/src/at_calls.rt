@@ -86,5 +86,5 @@ pub fn is_free(calls: &Calls, g: ProcId, x: Var) -> bool
     requires { HasSets calls.now g }
     ensures { result ≡ is_in (free_of calls.now g) x }
 {
-    calls.free(g).has(x)
+    calls.free(g).contains(x)
 }

@@ -8,6 +8,7 @@ use Rattle.sf_calls.specs.Marks.{AreRows}
 use Rattle.sf_calls.specs.Sets.{IsEarlier, IsUpTo}
 use Rattle.sf_calls.proofs.Least.{if_both, free_apart, free_both}
 use Rattle.sf_calls.proofs.Rows.{family_of, rows_fit}
+use Rattle.sf_calls.proofs.InOrder.{all_shared}
 use Rattle.sf_calls.proofs.reaching.free_sets.Goals as goal
 
 pub sets-requires : goal.sets-requires
@@ -22,5 +23,8 @@ returns c =
     let rows : AreRows (length c.args.p.now.procedures.items) (FreeIn (program_of c.args.p.now)) c.args.variables.now c.deref.result.now = rw c.deref.ensures.value c.in_ok-rows.ensures in
     if_both c.sets.result _ _ _
     (λ sets size each. family_of IsEarlier (length c.args.p.now.procedures.items) (length (program_of c.args.p.now).procedures) (FreeIn (program_of c.args.p.now)) (Free (program_of c.args.p.now)) (IsUpTo (λ k. variable_count (slice_get (program_of c.args.p.now).resources k)) (length c.args.p.now.resources.items) 0) c.args.variables.now c.deref.result.now sets.items
-    c.requires rows (λ f x t. rw (← length-map c.args.p.now.resources.items resource_of) (free_apart (program_of c.args.p.now) c.args.p.now.formed f x t)) (λ f x q t. free_both (program_of c.args.p.now) f x (rw (length-map c.args.p.now.resources.items resource_of) q) t) (size ∙ count ∙ sym (length-map c.args.p.now.procedures.items procedure_of)) each)
+    c.requires.keys rows (λ f x t. rw (← length-map c.args.p.now.resources.items resource_of) (free_apart (program_of c.args.p.now) c.args.p.now.formed f x t)) (λ f x q t. free_both (program_of c.args.p.now) f x (rw (length-map c.args.p.now.resources.items resource_of) q) t) (size ∙ count ∙ sym (length-map c.args.p.now.procedures.items procedure_of)) each)
     c.sets.ensures.size c.sets.ensures.each
+
+pub free_rows-requires-clause-shared : goal.free_rows-requires-clause-shared
+free_rows-requires-clause-shared c = all_shared _ _ c.args.variables.now c.requires.keys

@@ -1,6 +1,5 @@
-use Rattle.std.proofs.Common.{get_or, ◌≡◌, ◌<◌, ◌∙◌, length, sym, ap, rules}
+use Rattle.std.proofs.Common.{◌≡◌, ◌<◌, ◌∙◌, length, sym, ap, rules}
 use Rattle.std.proofs.lemmas.List.{length-map}
-use Rattle.std.proofs.lemmas.List.Elements.{Contains-get_or}
 use Rattle.sf_base.specs.declared.ids.ResId.{ResId}
 use Rattle.sf_core.specs.HeldBy.{HeldBy}
 use Rattle.sf_core.specs.View.{procedure_of, resource_of}
@@ -23,8 +22,5 @@ returns c =
     let rows : AreRows (length c.args.p.now.procedures.items) (HeldBy (program_of c.args.p.now)) c.args.resources.now c.deref.result.now = rw c.deref.ensures.value c.in_ok-rows.ensures in
     if_both c.sets.result _ _ _
     (λ sets size each. family_of IsEarlierResource (length c.args.p.now.procedures.items) (length (program_of c.args.p.now).procedures) (HeldBy (program_of c.args.p.now)) (HeldBy (program_of c.args.p.now)) (λ (r : ResId). r.0 < length c.args.p.now.resources.items) c.args.resources.now c.deref.result.now sets.items
-    c.requires rows (λ f r t. (rw (← length-map c.args.p.now.resources.items resource_of) (holds_within (program_of c.args.p.now) c.args.p.now.formed f r t), t)) (λ f r q t. t) (size ∙ count ∙ sym (length-map c.args.p.now.procedures.items procedure_of)) each)
+    c.requires.keys rows (λ f r t. (rw (← length-map c.args.p.now.resources.items resource_of) (holds_within (program_of c.args.p.now) c.args.p.now.formed f r t), t)) (λ f r q t. t) (size ∙ count ∙ sym (length-map c.args.p.now.procedures.items procedure_of)) each)
     c.sets.ensures.size c.sets.ensures.each
-
-pub holds_rows-requires : goal.holds_rows-requires
-holds_rows-requires c = λ k d below. (c.requires.members (get_or c.args.resources.now k d)).0 (Contains-get_or c.args.resources.now k d below)

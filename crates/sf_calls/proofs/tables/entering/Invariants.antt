@@ -1,8 +1,7 @@
 use Rattle.std.proofs.Common.{◌≡◌, map, take}
-use Rattle.sf_core.specs.View.{procedure_of}
-use Rattle.sf_calls.specs.Tests.{enters_in}
+use Rattle.sf_calls.specs.Listed.{is_entered}
 use Rattle.sf_calls.proofs.tables.entering.Given as goal
 
 -- the marks so far
-abbrev pub invariant-loop-h : goal.invariant-loop-h
-invariant-loop-h l = l.marks.items ≡ map (λ h. enters_in l.r (procedure_of h).body) (take l.h-index l.p.procedures.items)
+abbrev pub invariant-loop-t : goal.invariant-loop-t
+invariant-loop-t l = l.marks.items ≡ map (λ t. is_entered l.r t.entered.items) (take l.t-index l.texts)

@@ -1,8 +1,7 @@
-use Rattle.std.proofs.Common.{◌≡◌}
-use Rattle.sf_core.specs.View.{procedure_of}
-use Rattle.sf_calls.specs.Tests.{speaks_of}
+use Rattle.std.proofs.Common.{◌≡◌, drop}
+use Rattle.sf_calls.specs.Marks.{speaks_of}
 use Rattle.sf_calls.proofs.tables.speaks_of.Given as goal
 
--- of those so far
-abbrev pub invariant-loop-i : goal.invariant-loop-i
-invariant-loop-i l = l.found ≡ speaks_of l.r l.i (procedure_of l.h)
+-- what was passed is of others
+abbrev pub invariant-loop-x : goal.invariant-loop-x
+invariant-loop-x l = speaks_of l.r l.xs ≡ speaks_of l.r (drop l.x-index l.xs)

@@ -6,7 +6,7 @@ use Rattle.sf_base.specs.declared.ids.Var.{Var}
 use Rattle.sf_calls.specs.Tests.{is_earlier}
 use Rattle.sf_calls.proofs.Decided.{var_is}
 use Rattle.sf_calls.proofs.Gathered.{earlier_first, at_point}
-use Rattle.sf_calls.proofs.set.VarSet.has.Goals as goal
+use Rattle.sf_calls.proofs.set.VarSet.contains.Goals as goal
 
 pub returns-then-at-len : goal.returns-then-at-len
 returns-then-at-len c =

@@ -1,0 +1,67 @@
+//! The regions that commands have, and whether calls stand inside them.
+
+ghost use Rattle.std.specs.Prelude.{◌≡◌, ◌++◌, IfOk, OnOk};
+ghost use Rattle.sf_core.specs.View.{block_of, command_of};
+ghost use Rattle.sf_calls.specs.Listed.{entered_in, entered_of, guarded_in, guarded_of, has_calls, has_calls_of};
+
+use sf_base::ResId;
+use sf_core::Command;
+use std::alloc::AllocError;
+
+/// Appends the resources of the commands' regions, and to the others those of regions with a call
+/// inside; answers whether there is a call at all. An `Err` is want of memory.
+#[cycle(regions)]
+pub fn add_regions(
+    body: &[Command],
+    entered: &mut Vec<ResId>,
+    guarded: &mut Vec<ResId>,
+) -> Result<bool, AllocError>
+    ensures calls { IfOk result (λ calls. calls ≡ has_calls (block_of body.now)) }
+    ensures entered { OnOk result (entered.new.items ≡ entered.old.items ++ entered_in (block_of body.now)) }
+    ensures guarded { OnOk result (guarded.new.items ≡ guarded.old.items ++ guarded_in (block_of body.now)) }
+{
+    let mut calls = false;
+    for c in body {
+        let here = add_regions_of(c, entered, guarded)?;
+        calls = calls || here;
+    }
+    Ok(calls)
+}
+
+/// The same of one command.
+#[cycle(regions)]
+fn add_regions_of(
+    c: &Command,
+    entered: &mut Vec<ResId>,
+    guarded: &mut Vec<ResId>,
+) -> Result<bool, AllocError>
+    ensures calls { IfOk result (λ calls. calls ≡ has_calls_of (command_of c.now)) }
+    ensures entered { OnOk result (entered.new.items ≡ entered.old.items ++ entered_of (command_of c.now)) }
+    ensures guarded { OnOk result (guarded.new.items ≡ guarded.old.items ++ guarded_of (command_of c.now)) }
+{
+    match c {
+        Command::Assign(_, _, _)
+        | Command::LookUp(_, _, _, _)
+        | Command::Mutate(_, _, _, _)
+        | Command::New(_, _)
+        | Command::Dispose(_, _) => Ok(false),
+        Command::If(_, _, c, d) => {
+            let first = add_regions(c, entered, guarded)?;
+            let second = add_regions(d, entered, guarded)?;
+            Ok(first || second)
+        }
+        Command::While(_, _, _, c) => {
+            let calls = add_regions(c, entered, guarded)?;
+            Ok(calls)
+        }
+        Command::Call(_, _) | Command::Fork(_, _, _) => Ok(true),
+        Command::With(_, r, _, c) => {
+            entered.push(*r)?;
+            let calls = add_regions(c, entered, guarded)?;
+            if calls {
+                guarded.push(*r)?;
+            }
+            Ok(calls)
+        }
+    }
+}
