@@ -7,3 +7,4 @@ pub mod SymbolFronts
 pub mod Once
 pub mod Steps
 pub mod Answered
+pub mod Spelled
