@@ -1,6 +1,6 @@
-use crate::{Kind, LexFault, tokens};
+use crate::{Kind, LexFault, Token, tokens};
 use sf_base::Place;
-use std::alloc::Global;
+use std::alloc::{AllocError, Global};
 
 /// The place in that line and column.
 fn at(line: u32, column: u32) -> Place {
@@ -138,28 +138,109 @@ fn files_with_tokens_are_read(rt: HostRuntime) {
     }
 }
 
+/// A token of that kind, there.
+fn token(kind: Kind, start: usize, end: usize, place: Place) -> Token {
+    Token {
+        kind,
+        start,
+        end,
+        place,
+    }
+}
+
 #[test]
-fn words_and_files_have_limits(rt: HostRuntime) {
-    let mut word = Vec::new(rt.alloc());
-    for _ in 0..64 {
-        if word.push(b'a').is_err() {
-            return;
-        }
+fn tokens_have_their_ends_and_places(rt: HostRuntime) {
+    let two = tokens(rt.alloc(), b"a\n _b");
+    let expected = [
+        token(Kind::Name, 0, 1, at(1, 1)),
+        token(Kind::Existential, 3, 5, at(2, 2)),
+    ];
+    assert!(rt; two.is_ok_and(|found| found.as_slice() == expected.as_slice()));
+    let three = tokens(rt.alloc(), b"/*\n*/-12 |->\r\n\ttree");
+    let expected = [
+        token(Kind::Number, 5, 8, at(2, 3)),
+        token(Kind::PointsTo, 9, 12, at(2, 7)),
+        token(Kind::Tree, 15, 19, at(3, 2)),
+    ];
+    assert!(rt; three.is_ok_and(|found| found.as_slice() == expected.as_slice()));
+}
+
+#[test]
+fn each_kind_is_read(rt: HostRuntime) {
+    let text =
+        b"a _b 1 NULL dispose else emp if list local ls lseg new nil resource then tree true when while with()[]{},;:*= == != -> |-> ||";
+    let kinds = [
+        Kind::Name,
+        Kind::Existential,
+        Kind::Number,
+        Kind::Null,
+        Kind::Dispose,
+        Kind::Else,
+        Kind::Emp,
+        Kind::If,
+        Kind::List,
+        Kind::Local,
+        Kind::Ls,
+        Kind::Lseg,
+        Kind::New,
+        Kind::Nil,
+        Kind::Resource,
+        Kind::Then,
+        Kind::Tree,
+        Kind::True,
+        Kind::When,
+        Kind::While,
+        Kind::With,
+        Kind::OpenRound,
+        Kind::CloseRound,
+        Kind::OpenSquare,
+        Kind::CloseSquare,
+        Kind::OpenBrace,
+        Kind::CloseBrace,
+        Kind::Comma,
+        Kind::Semicolon,
+        Kind::Colon,
+        Kind::Star,
+        Kind::Equals,
+        Kind::EqualEqual,
+        Kind::NotEqual,
+        Kind::Arrow,
+        Kind::PointsTo,
+        Kind::Bars,
+    ];
+    let found = tokens(rt.alloc(), text);
+    assert!(rt;
+        found.is_ok_and(|found| {
+            found
+                .iter()
+                .map(|token| token.kind)
+                .eq(kinds.iter().copied())
+        })
+    );
+}
+
+#[test]
+fn words_and_files_have_limits(rt: HostRuntime) -> Result<(), AllocError> {
+    let mut name = Vec::new(rt.alloc());
+    let mut existential = Vec::new(rt.alloc());
+    existential.push(b'_')?;
+    for _ in 0..63 {
+        name.push(b'a')?;
+        existential.push(b'a')?;
     }
-    assert!(rt; refusal(rt.alloc(), word.as_slice()).is_none());
-    if word.push(b'_').is_err() {
-        return;
-    }
-    assert!(rt; refusal(rt.alloc(), word.as_slice()) == Some(LexFault::LongWord(at(1, 1))));
+    name.push(b'a')?;
+    assert!(rt; refusal(rt.alloc(), name.as_slice()).is_none());
+    assert!(rt; refusal(rt.alloc(), existential.as_slice()).is_none());
+    name.push(b'_')?;
+    existential.push(b'_')?;
+    assert!(rt; refusal(rt.alloc(), name.as_slice()) == Some(LexFault::LongWord(at(1, 1))));
+    assert!(rt; refusal(rt.alloc(), existential.as_slice()) == Some(LexFault::LongWord(at(1, 1))));
     let mut spaces = Vec::new(rt.alloc());
     for _ in 0..1_048_576 {
-        if spaces.push(b' ').is_err() {
-            return;
-        }
+        spaces.push(b' ')?;
     }
     assert!(rt; refusal(rt.alloc(), spaces.as_slice()).is_none());
-    if spaces.push(b' ').is_err() {
-        return;
-    }
+    spaces.push(b' ')?;
     assert!(rt; refusal(rt.alloc(), spaces.as_slice()) == Some(LexFault::LongFile));
+    Ok(())
 }
