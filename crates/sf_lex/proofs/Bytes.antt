@@ -1,26 +1,21 @@
 -- Runs of bytes that pass a test, and single tests on bytes.
-use Rattle.std.proofs.Common.{◌≡◌, ◌<◌, ◌+◌, ◌==◌, ℕ, suc, List, [], ◌∷◌, ◌++◌, length, take, drop, true, false, Bool, ◌&&◌, ◌||◌, refl, arith, subst}
+use Rattle.std.proofs.Common.{◌≡◌, ◌<◌, ◌==◌, ℕ, suc, List, [], ◌∷◌, ◌++◌, length, take, drop, true, false, Bool, ◌||◌, refl, arith, subst}
+use Rattle.std.proofs.Math.Numerals.{one-add}
 use Rattle.std.proofs.lemmas.Bool.Decides.{nat_tests}
 use Rattle.std.specs.List.{prefix_len, list_all}
 use Rattle.sf_lex.specs.Lexeme.{is_letter, is_digit, is_word_byte, is_some_of}
 
-one_more : (n : ℕ) → 1 + n ≡ suc n
-one_more n = omega arith
+-- where one part of a choice fails, the other holds
+pub or_but_left : (s t : Bool) → s ≡ false → (s || t) ≡ true → t ≡ true
+or_but_left true t h e = absurd cc
+or_but_left false t h e = e
 
-pub and_false : (s : Bool) → (s && false) ≡ false
-and_false true = refl
-and_false false = refl
-
-pub or_false_left : (s t : Bool) → (s || t) ≡ false → s ≡ false
-or_false_left true t e = absurd cc
-or_false_left false t e = refl
-
-pub or_false_right : (s t : Bool) → (s || t) ≡ false → t ≡ false
-or_false_right true t e = absurd cc
-or_false_right false t e = e
+pub or_but_right : (s t : Bool) → t ≡ false → (s || t) ≡ true → s ≡ true
+or_but_right true t h e = refl
+or_but_right false t h e = absurd cc
 
 pub prefix_cons : (p : ℕ → Bool) (b : ℕ) (bs : List ℕ) → p b ≡ true → prefix_len p (b ∷ bs) ≡ suc (prefix_len p bs)
-prefix_cons p b bs e = rw e (one_more (prefix_len p bs))
+prefix_cons p b bs e = rw e (one-add (prefix_len p bs))
 
 pub prefix_none : (p : ℕ → Bool) (b : ℕ) (bs : List ℕ) → p b ≡ false → prefix_len p (b ∷ bs) ≡ 0
 prefix_none p b bs e = rw e refl

@@ -1,5 +1,7 @@
 -- Comments: where the first `*/` stands.
-use Rattle.std.proofs.Common.{◌≡◌, ◌≤◌, ◌+◌, ◌==◌, ℕ, suc, List, [], ◌∷◌, ◌++◌, length, drop, true, false, Bool, ◌&&◌, ◌||◌, Option, Some, None, refl, ap, sym, ◌∙◌, arith, subst, append_assoc, length-append}
+use Rattle.std.proofs.Common.{◌≡◌, ◌≤◌, ◌+◌, ◌==◌, ℕ, suc, List, [], ◌∷◌, ◌++◌, length, drop, true, false, Bool, ◌&&◌, Option, Some, None, refl, ap, sym, ◌∙◌, arith, subst, append_assoc, length-append}
+use Rattle.std.proofs.Math.Bool.{and-false}
+use Rattle.std.proofs.lemmas.Bool.{or_right}
 use Rattle.std.proofs.lemmas.Bool.Decides.{nat_tests}
 use Rattle.std.specs.List.{slice_index}
 use Rattle.std.specs.Option.{option_map}
@@ -7,7 +9,6 @@ use Rattle.sf_lex.specs.declared.front.Front.TheVariants as f
 use Rattle.sf_lex.specs.Front.{Stands, begins_comment, close_length}
 use Rattle.sf_lex.specs.Piece.{comment, has_close}
 use Rattle.sf_lex.specs.Reading.{IsOpenComment}
-use Rattle.sf_lex.proofs.Bytes.{and_false}
 
 -- the first `*/` of the bytes ends so many of them
 pub record Closes (bytes : List ℕ) (n : ℕ) : Type 0 where
@@ -26,11 +27,7 @@ closes_here b (c ∷ bs) e h = record { inner = []; rest = bs; spells = cc; firs
 
 -- a byte in front of `*` does not close by what was not there
 has_more : (b : ℕ) (bs rest inner : List ℕ) → bs ≡ inner ++ 42 ∷ 47 ∷ rest → ((b == 42) && (slice_index bs 0 == 47)) ≡ false → ((b == 42) && (slice_index (inner ++ 42 ∷ []) 0 == 47)) ≡ false
-has_more b bs rest [] e h = and_off (b == 42)
-  where
-    and_off : (t : Bool) → (t && false) ≡ false
-    and_off true = refl
-    and_off false = refl
+has_more b bs rest [] e h = and-false (b == 42)
 has_more b bs rest (c ∷ inner) e h = subst (λ xs. ((b == 42) && (slice_index xs 0 == 47)) ≡ false) e h
 
 closes_later : (b : ℕ) (bs : List ℕ) (n : ℕ) → ((b == 42) && (slice_index bs 0 == 47)) ≡ false → Closes bs n → Closes (b ∷ bs) (suc n)
@@ -78,16 +75,12 @@ close_none (b ∷ bs) e = go ((b == 42) && (slice_index bs 0 == 47)) refl (close
 -- where `*/` stands, something closes
 pub close_there : (inner rest : List ℕ) → has_close (inner ++ 42 ∷ 47 ∷ rest) ≡ true
 close_there [] rest = refl
-close_there (b ∷ inner) rest = or_right ((b == 42) && (slice_index (inner ++ 42 ∷ 47 ∷ rest) 0 == 47)) (close_there inner rest)
-  where
-    or_right : (s : Bool) {t : Bool} → t ≡ true → (s || t) ≡ true
-    or_right true e = refl
-    or_right false e = e
+close_there (b ∷ inner) rest = or_right ((b == 42) && (slice_index (inner ++ 42 ∷ 47 ∷ rest) 0 == 47)) _ (close_there inner rest)
 
 -- the bytes begin with `/*`
 opens_so : (bs : List ℕ) → begins_comment bs ≡ true → bs ≡ 47 ∷ 42 ∷ drop 2 bs
 opens_so [] e = absurd cc
-opens_so (b ∷ []) e = let wrong : false ≡ true = sym (and_false (b == 47)) ∙ e in absurd cc
+opens_so (b ∷ []) e = let wrong : false ≡ true = sym (and-false (b == 47)) ∙ e in absurd cc
 opens_so (b ∷ c ∷ bs) e =
     let first : b ≡ 47 = grind (arith, nat_tests) in
     let second : c ≡ 42 = grind (arith, nat_tests) in

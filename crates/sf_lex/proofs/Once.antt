@@ -1,5 +1,6 @@
 -- Each byte string reads in at most one way.
 use Rattle.std.proofs.Common.{◌≡◌, ◌<◌, ◌≤◌, ◌==◌, ℕ, List, [], ◌∷◌, ◌++◌, length, true, false, Bool, ◌&&◌, Some, None, refl, ap, sym, ◌∙◌, arith, subst, append_assoc}
+use Rattle.std.proofs.lemmas.Bool.{or_parts}
 use Rattle.std.proofs.lemmas.Bool.Decides.{nat_tests}
 use Rattle.std.specs.List.{slice_index}
 use Rattle.sf_base.specs.declared.limits.TheConstants.{FILE_BYTES}
@@ -13,7 +14,6 @@ use Rattle.sf_lex.specs.Lexeme.{is_blank, kind_of}
 use Rattle.sf_lex.specs.Piece.{Piece, blank, comment, token, text_of, spelled, has_close, is_long_word, is_bad_number, IsFront, IsPiece, ArePieces}
 use Rattle.sf_lex.specs.Reading.{AreTokens, IsFault, IsFaultAt, IsBadByte, IsLongWord, IsBadNumber, StopsAt, tokens_of, first_place, place_behind}
 use Rattle.sf_lex.specs.Laws.{EachReadsAtMostOnce}
-use Rattle.sf_lex.proofs.Bytes.{or_false_right}
 use Rattle.sf_lex.proofs.CommentFronts.{close_there}
 
 -- of two fronts of one byte string the first goes on to the second, or the other way round
@@ -133,7 +133,7 @@ same_comment (x ∷ y ∷ a) [] r s p q e =
 same_comment (x ∷ a) (y ∷ b) r s p q e =
     let head : x ≡ y = cc in
     let tail : a ++ 42 ∷ 47 ∷ r ≡ b ++ 42 ∷ 47 ∷ s = cc in
-    let rest = same_comment a b r s (or_false_right _ _ p) (or_false_right _ _ q) tail in
+    let rest = same_comment a b r s (or_parts _ _ p).1 (or_parts _ _ q).1 tail in
     let text : a ≡ b = rest.0 in
     let both : x ∷ a ≡ y ∷ b = cc in
     (both, rest.1)
@@ -144,10 +144,6 @@ opens bs = (slice_index bs 0 == 47) && (slice_index bs 1 == 42)
 
 no_blank_comment : (b : ℕ) (bs : List ℕ) → is_blank b ≡ true → opens (b ∷ bs) ≡ false
 no_blank_comment b bs e = grind (arith, nat_tests)
-
-token_some : (kind : Kind) (text : List ℕ) → kind_of text ≡ Some kind → (b : ℕ) × (more : List ℕ) × (text ≡ b ∷ more)
-token_some kind [] e = absurd cc
-token_some kind (b ∷ more) e = (b, more, refl)
 
 no_blank_token : (b : ℕ) (bs : List ℕ) (kind : Kind) (text rest : List ℕ) → is_blank b ≡ true → kind_of text ≡ Some kind → b ∷ bs ≡ text ++ rest → ⊥
 no_blank_token b bs kind [] rest l e h = cc

@@ -1,5 +1,7 @@
 -- Symbols at the front: the longest one that fits, or none.
 use Rattle.std.proofs.Common.{◌≡◌, ◌<◌, ◌==◌, ℕ, List, [], ◌∷◌, ◌++◌, length, true, false, Bool, cond, ◌&&◌, Option, Some, None, refl, ap, sym, ◌∙◌, arith, subst}
+use Rattle.std.proofs.Math.Bool.{and-false}
+use Rattle.std.proofs.lemmas.Bool.{or_parts}
 use Rattle.std.proofs.lemmas.Bool.Decides.{nat_tests}
 use Rattle.std.specs.List.{slice_index}
 use Rattle.std.specs.Option.{option_map, option_or}
@@ -10,7 +12,6 @@ use Rattle.sf_lex.specs.Front.{Stands, begins_comment, begins_number, symbol_fro
 use Rattle.sf_lex.specs.Lexeme.{is_blank, is_letter, is_digit, is_number, symbol_of_one, symbol_of_two, symbol_of_three, symbol_kind, kind_of}
 use Rattle.sf_lex.specs.Piece.{blank, token, IsFront, is_long_word, is_bad_number}
 use Rattle.sf_lex.specs.Reading.{IsBadByte}
-use Rattle.sf_lex.proofs.Bytes.{and_false, or_false_left, or_false_right}
 
 -- the byte begins no word, no existential and no number
 pub record Apart (b : ℕ) (bs : List ℕ) : Type 0 where
@@ -19,7 +20,7 @@ pub record Apart (b : ℕ) (bs : List ℕ) : Type 0 where
   pub number : begins_number (b ∷ bs) ≡ false
 
 no_number : (b : ℕ) (text after : List ℕ) → begins_number (b ∷ (text ++ after)) ≡ false → is_number (b ∷ text) ≡ false
-no_number b text after e = go (b == 45) text refl (or_false_left (is_digit b) _ e) (or_false_right (is_digit b) _ e)
+no_number b text after e = go (b == 45) text refl (or_parts (is_digit b) _ e).0 (or_parts (is_digit b) _ e).1
   where
     go : (t : Bool) (text : List ℕ) → (b == 45) ≡ t → is_digit b ≡ false → (t && is_digit (slice_index (text ++ after) 0)) ≡ false → is_number (b ∷ text) ≡ false
     go true [] m d h = rw m refl
@@ -69,13 +70,13 @@ stands : (kind : Kind) (text after : List ℕ) → is_mark (Some kind) ≡ true 
 stands kind text after m front = record { piece = token kind text; rest = after; spells = refl; each = (front, (in_order kind text after m).0, (in_order kind text after m).1); is = refl }
 
 one_short : (b c : ℕ) → symbol_of_three b c 0 ≡ None
-one_short b c = rw (and_false ((b == 124) && (c == 45))) refl
+one_short b c = rw (and-false ((b == 124) && (c == 45))) refl
 
 two_short : (b d : ℕ) → symbol_of_three b 0 d ≡ None
-two_short b d = rw (and_false (b == 124)) refl
+two_short b d = rw (and-false (b == 124)) refl
 
 pair_short : (b : ℕ) → symbol_of_two b 0 ≡ None
-pair_short b = rw (and_false (b == 61), and_false (b == 33), and_false (b == 45), and_false (b == 124)) refl
+pair_short b = rw (and-false (b == 61), and-false (b == 33), and-false (b == 45), and-false (b == 124)) refl
 
 three_stands : (b c d : ℕ) (bs : List ℕ) (kind : Kind) → Apart b (c ∷ d ∷ bs) → symbol_of_three b c d ≡ Some kind → Stands (f.Token kind 3) (b ∷ c ∷ d ∷ bs)
 three_stands b c d bs kind a e =

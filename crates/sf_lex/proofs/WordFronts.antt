@@ -1,5 +1,8 @@
 -- Words, existentials and numbers at the front: the run that the scanner takes is the longest token.
-use Rattle.std.proofs.Common.{◌≡◌, ◌<◌, ◌≤◌, ◌+◌, ◌==◌, ℕ, suc, List, [], ◌∷◌, ◌++◌, length, take, drop, true, false, Bool, cond, ◌&&◌, ◌||◌, Some, None, refl, ap, sym, ◌∙◌, arith, subst, take-append-drop}
+use Rattle.std.proofs.Common.{◌≡◌, ◌<◌, ◌≤◌, ◌+◌, ◌==◌, ℕ, suc, List, [], ◌∷◌, ◌++◌, length, take, drop, true, false, Bool, cond, ◌&&◌, Some, None, refl, ap, sym, ◌∙◌, arith, subst, take-append-drop}
+use Rattle.std.proofs.Math.Nat.{add-zero}
+use Rattle.std.proofs.Math.Numerals.{one-add}
+use Rattle.std.proofs.lemmas.Bool.{and_parts}
 use Rattle.std.proofs.lemmas.List.{length-take-le, get_or-drop}
 use Rattle.std.specs.List.{prefix_len, list_all, slice_index}
 use Rattle.std.specs.Str.Parse.{signed_digits_value}
@@ -10,7 +13,7 @@ use Rattle.sf_lex.specs.Front.{Stands, begins_number, number_length, word_length
 use Rattle.sf_lex.specs.Lexeme.{is_letter, is_digit, is_word_byte, is_some_of, word_kind, symbol_kind, kind_of}
 use Rattle.sf_lex.specs.Piece.{token, IsFront, is_long_word, is_bad_number, fits}
 use Rattle.sf_lex.specs.Reading.{IsBadByte, IsLongWord, IsBadNumber}
-use Rattle.sf_lex.proofs.Bytes.{prefix_cons, prefix_none, run_all, run_stops, some_of_all, some_of_none, letter_is_word, digit_no_letter, digit_no_underscore, digit_no_minus, digit_no_equals, digit_no_bang, digit_no_bar, is_minus}
+use Rattle.sf_lex.proofs.Bytes.{or_but_left, or_but_right, prefix_cons, prefix_none, run_all, run_stops, some_of_all, some_of_none, letter_is_word, digit_no_letter, digit_no_underscore, digit_no_minus, digit_no_equals, digit_no_bang, digit_no_bar, is_minus}
 
 kind_letter : (b : ℕ) (bs : List ℕ) → is_letter b ≡ true → list_all is_word_byte bs ≡ true → kind_of (b ∷ bs) ≡ Some (word_kind (b ∷ bs))
 kind_letter b bs l a = rw (l, a) refl
@@ -106,18 +109,6 @@ kind_no_minus : (b c : ℕ) (bs : List ℕ) → list_all is_digit (b ∷ c ∷ b
 kind_no_minus b c [] e = rw e refl
 kind_no_minus b c (d ∷ bs) e = rw e refl
 
-or_left : (s t : Bool) → t ≡ false → (s || t) ≡ true → s ≡ true
-or_left true t h e = refl
-or_left false t h e = absurd cc
-
-or_right : (s t : Bool) → s ≡ false → (s || t) ≡ true → t ≡ true
-or_right true t h e = absurd cc
-or_right false t h e = e
-
-and_right : (s t : Bool) → (s && t) ≡ true → t ≡ true
-and_right true t e = e
-and_right false t e = absurd cc
-
 minus_longer : (b : ℕ) (xs : List ℕ) (c : ℕ) (more : List ℕ) → is_digit b ≡ true → list_all is_digit (xs ++ c ∷ more) ≡ false → kind_of (45 ∷ b ∷ (xs ++ c ∷ more)) ≡ None
 minus_longer b [] c more d h = kind_no_minus b c more (rw d h)
 minus_longer b (x ∷ xs) c more d h = kind_no_minus b x (xs ++ c ∷ more) (rw d h)
@@ -140,9 +131,6 @@ digits_front b bs d =
       longest = λ c more after e. digits_longer b (take (prefix_len is_digit bs) bs) c more d (run_stops is_digit bs c more after e);
     })
 
-one_more : (n : ℕ) → 1 + n ≡ suc n
-one_more n = omega arith
-
 -- digits with their sign are the longest number
 pub number_front : (bs : List ℕ) → begins_number bs ≡ true → IsFront k.Number (take (number_length bs) bs) (drop (number_length bs) bs)
 number_front [] e = absurd cc
@@ -157,11 +145,11 @@ number_front (b ∷ bs) e = go (b == 45) refl
 
     go : (t : Bool) → (b == 45) ≡ t → IsFront k.Number (take (cond t (1 + prefix_len is_digit bs) (prefix_len is_digit (b ∷ bs))) (b ∷ bs)) (drop (cond t (1 + prefix_len is_digit bs) (prefix_len is_digit (b ∷ bs))) (b ∷ bs))
     go true m =
-        let d : is_digit (slice_index bs 0) ≡ true = and_right (b == 45) _ (or_right (is_digit b) _ (no_digit m) e) in
-        rw (one_more (prefix_len is_digit bs), is_minus b m) (behind_minus bs d)
+        let d : is_digit (slice_index bs 0) ≡ true = (and_parts (b == 45) _ (or_but_left (is_digit b) _ (no_digit m) e)).1 in
+        rw (one-add (prefix_len is_digit bs), is_minus b m) (behind_minus bs d)
     go false m =
         let off : ((b == 45) && is_digit (slice_index bs 0)) ≡ false = rw m refl in
-        digits_front b bs (or_left (is_digit b) _ off e)
+        digits_front b bs (or_but_right (is_digit b) _ off e)
 
 -- the longest token of so many bytes, neither too long nor a bad number, is what stands in front
 pub token_stands : (kind : Kind) (bs : List ℕ) (n : ℕ) → n ≤ length bs → IsFront kind (take n bs) (drop n bs) → is_long_word kind n ≡ false → is_bad_number kind (take n bs) (drop n bs) ≡ false → Stands (f.Token kind n) bs
@@ -200,9 +188,6 @@ pub no_number_no_bad : (kind : Kind) (text rest : List ℕ) → (kind ≡ k.Numb
 no_number_no_bad k.Number text rest h = absurd (h refl)
 no_number_no_bad _ text rest h = refl
 
-zero_more : (n : ℕ) → n + 0 ≡ n
-zero_more n = omega arith
-
 -- the byte behind so many is the first of those behind them
 pub bad_number_at : (bs : List ℕ) (n : ℕ) → is_bad_number k.Number (take n bs) (drop n bs) ≡ cond (fits (signed_digits_value 10 (take n bs))) (is_word_byte (slice_index bs n)) true
-bad_number_at bs n = ap (λ b. cond (fits (signed_digits_value 10 (take n bs))) (is_word_byte b) true) (get_or-drop n bs 0 0 ∙ ap (slice_index bs) (zero_more n))
+bad_number_at bs n = ap (λ b. cond (fits (signed_digits_value 10 (take n bs))) (is_word_byte b) true) (get_or-drop n bs 0 0 ∙ ap (slice_index bs) (add-zero n))

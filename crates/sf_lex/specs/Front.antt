@@ -1,4 +1,5 @@
--- What the scanner sees at the front of the bytes that are left: steps between its code and the pieces of a file.
+-- What the scanner sees at the front of the bytes that are left. These definitions stand between its code and the pieces
+-- of a file, in Piece and Reading, and needn't be believed: no public contract names them.
 -- Ordinary: a scanner's look at the bytes ahead, as in Aho, Sethi, Ullman, "Compilers" (1986), chapter 3.
 use Rattle.std.specs.Prelude.{◌≡◌, ℕ, suc, ◌+◌, ◌==◌, ◌&&◌, ◌||◌, Bool, if◌then◌else◌, Option, Some, None, List, [], ◌∷◌, ◌++◌, length, drop, slice_index}
 use Rattle.std.specs.List.{prefix_len}

@@ -9,7 +9,7 @@ pub enum LexFault {
     #[error("a byte that begins no token")]
     BadByte(Place),
     /// Kind 2: a name or existential longer than 64 bytes, at its first byte.
-    #[error("a name longer than 64 bytes")]
+    #[error("a name or existential longer than 64 bytes")]
     LongWord(Place),
     /// Kind 3: a comment without an end, at its first byte.
     #[error("a comment without an end")]

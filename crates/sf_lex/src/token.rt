@@ -82,6 +82,7 @@ pub enum Kind {
 /// A token: its kind, and where its text stands in the file.
 #[derive(Clone, Copy, Debug, PartialEq, Eq)]
 pub struct Token {
+    /// What it is.
     pub kind: Kind,
     /// How many bytes stand before its text.
     pub start: usize,
