@@ -13,7 +13,8 @@ use Rattle.sf_parse.specs.Grammar as g
 use Rattle.sf_parse.specs.Heads.{IsFlat}
 use Rattle.sf_parse.specs.Machine as m
 use Rattle.sf_parse.specs.Machine.{Owed, Choice, take, skip, refuse, Next, goes, bad, deep, leveled, chosen, choice, is_free, step, or_skip, mark_kind, on_exact, on_expression, on_operand, on_conjunct, on_command}
-use Rattle.sf_parse.specs.Nesting.{Ends, has_level, NotElse, Follows, ConjunctWithin, AssertionWithin, MaybeWithin, CommandWithin, CommandsWithin}
+use Rattle.sf_parse.specs.Nesting.{has_level, NotElse, Follows, ConjunctWithin, AssertionWithin, MaybeWithin, CommandWithin, CommandsWithin}
+use Rattle.sf_parse.specs.Steps.{Ends}
 use Rattle.sf_parse.proofs.Means.{Spells, Means, MeansNext}
 
 pub a_place : Place
@@ -151,15 +152,15 @@ pub record CommandBack (n d : ℕ) (u : Kind) (ss st : List Owed) (ts : List Kin
 level_of : (n d : ℕ) (u : Kind) (ts : List Kind) (whole : List Kind) → u ∷ ts ≡ whole → has_level n (suc (length ts)) d ≡ true → has_level n (length whole) d ≡ true
 level_of n d u ts whole e h = subst (λ z. has_level n (length z) d ≡ true) e h
 
-flat_within : (c : s.Command) (n d : ℕ) (r : List Kind) → IsFlat c → has_level n (length (g.command c r)) d ≡ true → CommandWithin c n d r × Follows c r
-flat_within (s.assign x a) n d r f h = (h, tt)
-flat_within (s.look_up x a y) n d r f h = (h, tt)
-flat_within (s.new x) n d r f h = (h, tt)
-flat_within (s.mutate a x b) n d r f h = (h, tt)
-flat_within (s.dispose p a) n d r f h = (h, tt)
-flat_within (s.dispose_round p a) n d r f h = (h, tt)
-flat_within (s.call c) n d r f h = (h, tt)
-flat_within (s.fork c b) n d r f h = (h, tt)
+flat_within : (c : s.Command) (n d : ℕ) (r : List Kind) → IsFlat c → has_level n (length (g.command c r)) d ≡ true → CommandWithin c n d r
+flat_within (s.assign x a) n d r f h = h
+flat_within (s.look_up x a y) n d r f h = h
+flat_within (s.new x) n d r f h = h
+flat_within (s.mutate a x b) n d r f h = h
+flat_within (s.dispose p a) n d r f h = h
+flat_within (s.dispose_round p a) n d r f h = h
+flat_within (s.call c) n d r f h = h
+flat_within (s.fork c b) n d r f h = h
 flat_within _ n d r f h = absurd f
 
 flat_follows : (c : s.Command) (r : List Kind) → IsFlat c → Follows c r
@@ -178,7 +179,7 @@ flat_back n d u ss st ts c r f is more = record {
   command = c;
   rest = r;
   spells = is;
-  within = λ h. (flat_within c n d r f (level_of n d u ts (g.command c r) is h)).0;
+  within = λ h. flat_within c n d r f (level_of n d u ts (g.command c r) is h);
   follows = flat_follows c r f;
   more = more;
 }

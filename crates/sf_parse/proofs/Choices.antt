@@ -3,12 +3,13 @@ use Rattle.std.proofs.Common.{◌≡◌, ℕ, List, [], ◌∷◌, ◌++◌, len
 use Rattle.sf_lex.specs.declared.token.Kind.{Kind}
 use Rattle.sf_lex.specs.declared.token.Kind.TheVariants as k
 use Rattle.sf_lex.specs.declared.token.Token.{Token}
+use Rattle.sf_parse.specs.Heads.{conjunct_next}
 use Rattle.sf_parse.specs.declared.stop.Stop.{Stop}
 use Rattle.sf_parse.specs.declared.stop.Stop.TheVariants.{Unexpected, TooDeep, OutOfMemory}
 use Rattle.sf_parse.specs.Machine as m
 use Rattle.sf_parse.specs.Machine.{Owed, verdict, unexpected}
 use Rattle.sf_parse.specs.Parsing.{kinds}
-use Rattle.sf_parse.specs.Steps.{NotNext, Stops, conjunct_next, operand_next}
+use Rattle.sf_parse.specs.Steps.{NotNext, Stops, operand_next}
 use Rattle.sf_parse.proofs.Fronts.{left_of}
 
 pub no_more_names : (ts : List Kind) (st : List Owed) → NotNext k.Comma ts → verdict 0 ts (m.more_names ∷ st) ≡ verdict 0 ts st

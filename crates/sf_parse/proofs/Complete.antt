@@ -1,6 +1,5 @@
 -- Each stack can be completed, by the shortest tokens that it spells.
-use Rattle.std.proofs.Common.{◌≡◌, ◌≤◌, ℕ, zero, suc, List, [], ◌∷◌, length, true, None, inl, inr, refl, arith}
-use Rattle.std.proofs.lemmas.Bool.Decides.{nat_tests}
+use Rattle.std.proofs.Common.{◌≤◌, ℕ, suc, List, [], ◌∷◌, length, None, inl, inr, refl, arith}
 use Rattle.sf_ast.specs.declared.word.SurfaceExpr.TheVariants as e
 use Rattle.sf_ast.specs.declared.word.SurfaceOperand.TheVariants as v
 use Rattle.sf_ast.specs.declared.word.SurfaceTest.TheVariants as t
@@ -9,8 +8,9 @@ use Rattle.sf_lex.specs.declared.token.Kind.{Kind}
 use Rattle.sf_lex.specs.declared.token.Kind.TheVariants as k
 use Rattle.sf_parse.specs.Machine as m
 use Rattle.sf_parse.specs.Machine.{Owed, mark_kind}
-use Rattle.sf_parse.specs.Nesting.{NotStar, has_level}
+use Rattle.sf_parse.specs.Steps.{NotStar}
 use Rattle.sf_parse.proofs.Back.{a_place, a_word}
+use Rattle.sf_parse.proofs.HasLevel.{level_in}
 use Rattle.sf_parse.proofs.Means.{Spells, Means}
 
 -- the shortest tokens of one thing owed, and then these
@@ -95,10 +95,6 @@ not_star : (st : List Owed) → NotStar (complete st)
 not_star [] = tt
 not_star (o ∷ st) = completed_not_star o (complete st) (not_star st)
 
-free : (n left d : ℕ) → left ≤ n → has_level n left d ≡ true
-free n left zero h = grind (arith, nat_tests)
-free n left (suc d) h = refl
-
 spells : (n : ℕ) (o : Owed) (r : List Kind) → NotStar r → length (completed o r) ≤ n → Spells n o (completed o r) r
 spells n (m.exact u) r star h = refl
 spells n m.expression r star h = (e.Nil a_place, refl)
@@ -120,7 +116,7 @@ spells n m.maybe_fields r star h = ([], refl)
 spells n m.more_fields r star h = ([], refl)
 spells n (m.conjunct d) r star h = (s.emp a_place, refl, tt, tt)
 spells n (m.more_conjuncts d) r star h = inl (star, refl)
-spells n (m.assertion d) r star h = (s.only (s.emp a_place), refl, (free n (suc (length r)) d h, tt), star)
+spells n (m.assertion d) r star h = (s.only (s.emp a_place), refl, (level_in n (suc (length r)) d h, tt), star)
 spells n m.maybe_assertion r star h = inl refl
 spells n m.maybe_note r star h = (None, refl, tt)
 spells n m.named r star h = (s.assign a_word (e.Nil a_place), tt, refl)
@@ -128,9 +124,9 @@ spells n m.assigned r star h = (s.assign a_word (e.Nil a_place), tt, refl)
 spells n m.look_up_or_end r star h = inl refl
 spells n m.after_call r star h = inl refl
 spells n m.disposed r star h = inr (e.Nil a_place, refl)
-spells n (m.command d) r star h = (s.assign a_word (e.Nil a_place), refl, free n (suc (suc (suc (suc (length r))))) d h, tt)
+spells n (m.command d) r star h = (s.assign a_word (e.Nil a_place), refl, level_in n (suc (suc (suc (suc (length r))))) d h, tt)
 spells n (m.commands d) r star h = (s.done, refl, tt)
-spells n (m.branch d) r star h = inl (s.assign a_word (e.Nil a_place), refl, free n (suc (suc (suc (suc (length r))))) d (omega arith), tt)
+spells n (m.branch d) r star h = inl (s.assign a_word (e.Nil a_place), refl, level_in n (suc (suc (suc (suc (length r))))) d (omega arith), tt)
 spells n m.locals r star h = ([], refl)
 spells n m.item_named r star h = (s.fields (record { first = a_word; more = [] }), refl, tt)
 spells n m.items r star h = ([], refl, tt)

@@ -1,6 +1,5 @@
 -- Which way the machine goes at a conjunct and behind one, and one more conjunct at the end of an assertion.
 use Rattle.std.proofs.Common.{◌≡◌, ◌<◌, ℕ, zero, suc, List, [], ◌∷◌, ◌++◌, length, true, false, refl, ap, subst, sym, arith, ◌∙◌}
-use Rattle.std.proofs.lemmas.Bool.Decides.{nat_tests}
 use Rattle.std.proofs.lemmas.List.{length-map}
 use Rattle.sf_base.specs.declared.limits.TheConstants.{NESTING}
 use Rattle.sf_ast.specs.Surface as s
@@ -10,19 +9,18 @@ use Rattle.sf_lex.specs.declared.token.Kind.{Kind}
 use Rattle.sf_lex.specs.declared.token.Kind.TheVariants as k
 use Rattle.sf_lex.specs.declared.token.Token.{Token}
 use Rattle.sf_parse.specs.Grammar as g
+use Rattle.sf_parse.specs.Heads.{IsFlatConjunct, conjunct_next}
 use Rattle.sf_parse.specs.Machine as m
 use Rattle.sf_parse.specs.Machine.{Owed, verdict, unexpected, too_deep}
-use Rattle.sf_parse.specs.Nesting.{NotStar, Ends, IsClosed, HasLevel, has_level, ConjunctWithin, AssertionWithin, RestWithin}
+use Rattle.sf_parse.specs.Nesting.{IsClosed, ConjunctWithin, AssertionWithin, RestWithin}
 use Rattle.sf_parse.specs.Parsing.{kinds}
 use Rattle.sf_parse.specs.Placed.{ConjunctAt, AssertionAt}
-use Rattle.sf_parse.specs.Steps.{NotNext, IsFlatConjunct, conjunct_next, last_of}
+use Rattle.sf_parse.specs.Steps.{NotNext, last_of, NotStar, Ends}
 use Rattle.sf_parse.proofs.Forth.{by_operand}
 use Rattle.sf_parse.proofs.Fronts.{left_of}
+use Rattle.sf_parse.proofs.HasLevel.{no_level, some_level}
 
 -- without a level
-pub no_level : (left : ℕ) → has_level 0 (suc left) 0 ≡ false
-no_level left = grind (arith, nat_tests)
-
 deep : (ts : List Kind) (st : List Owed) → conjunct_next ts ≡ true → verdict 0 ts (m.assertion 0 ∷ st) ≡ too_deep (length ts)
 deep [] st h = absurd cc
 deep (k.Emp ∷ r) st h = rw (no_level (length r)) refl
@@ -125,15 +123,6 @@ flat_ends (s.choose p b x y) r h = absurd h
 flat_ends (s.choose_round p b x y) r h = absurd h
 flat_ends _ r h = tt
 
-pub closed_before_star : (c : s.Conjunct) (r : List Kind) → Ends c (k.Star ∷ r) → IsClosed c
-closed_before_star (s.choose p b x y) r h = absurd h
-closed_before_star (s.choose_round p b x y) r h = absurd h
-closed_before_star _ r h = tt
-
-pub some_level : (d left : ℕ) → 0 < d → HasLevel 0 left d
-some_level zero left h = absurd (omega arith)
-some_level (suc d) left h = refl
-
 -- one more conjunct
 pub assertion_push : (c : s.Conjunct) (xs : List s.Conjunct) (y : s.Conjunct) (r : List Kind) → g.assertion (conjuncts c (xs ++ y ∷ [])) r ≡ g.assertion (conjuncts c xs) (k.Star ∷ g.conjunct y r)
 assertion_push c [] y r = refl
@@ -147,7 +136,7 @@ rest_push c (x ∷ xs) y d r all closed one =
 pub within_push : (c : s.Conjunct) (xs : List s.Conjunct) (y : s.Conjunct) (d : ℕ) (r : List Kind) → 0 < d → AssertionWithin (conjuncts c xs) 0 d (k.Star ∷ g.conjunct y r) → IsClosed (last_of (conjuncts c xs)) → ConjunctWithin y 0 d r → AssertionWithin (conjuncts c (xs ++ y ∷ [])) 0 d r
 within_push c [] y d r lv all closed one = (all.0, all.1, closed, one)
 within_push c (x ∷ xs) y d r lv all closed one =
-    (some_level d (length (g.conjunct c (k.Star ∷ g.assertion (conjuncts x (xs ++ y ∷ [])) r))) lv, subst (λ (z : List Kind). ConjunctWithin c 0 d (k.Star ∷ z)) (sym (assertion_push x xs y r)) all.1, all.2, rest_push x xs y d r all.3 closed one)
+    (some_level 0 (length (g.conjunct c (k.Star ∷ g.assertion (conjuncts x (xs ++ y ∷ [])) r))) d lv, subst (λ (z : List Kind). ConjunctWithin c 0 d (k.Star ∷ z)) (sym (assertion_push x xs y r)) all.1, all.2, rest_push x xs y d r all.3 closed one)
 
 pub at_push : (at : ℕ → Token) (c : s.Conjunct) (xs : List s.Conjunct) (y : s.Conjunct) (r : List Kind) → AssertionAt at (conjuncts c xs) (k.Star ∷ g.conjunct y r) → ConjunctAt at y r → AssertionAt at (conjuncts c (xs ++ y ∷ [])) r
 at_push at c [] y r all one = (all, one)

@@ -2,7 +2,6 @@
 use Rattle.std.proofs.Common.{◌≡◌, ◌≤◌, ◌<◌, ◌-◌, ℕ, zero, suc, List, [], ◌∷◌, ◌++◌, length, Bool, true, false, ◌⊎◌, inl, inr, refl, sym, ap, subst, ◌∙◌, arith, append_assoc, length-append}
 use Rattle.std.proofs.Math.Nat.{eq-or-lt_of_le}
 use Rattle.std.proofs.Math.Seq.{get_or-append_seam}
-use Rattle.std.proofs.lemmas.Bool.Decides.{nat_tests}
 use Rattle.std.proofs.lemmas.List.{append-nil, map-append, length-map}
 use Rattle.sf_base.specs.declared.place.Place.{Place}
 use Rattle.sf_ast.specs.Surface.{Item}
@@ -15,18 +14,15 @@ use Rattle.sf_parse.specs.Grammar.{items}
 use Rattle.sf_parse.specs.Laws.{verdict_of, Spelled}
 use Rattle.sf_parse.specs.Machine as m
 use Rattle.sf_parse.specs.Machine.{Owed, Choice, take, skip, refuse, Next, goes, bad, deep, chosen, choice, is_free, step, Verdict, accepted, unexpected, too_deep, at_end, may_end, after, verdict}
-use Rattle.sf_parse.specs.Nesting.{has_level, ItemsWithin}
+use Rattle.sf_parse.specs.Nesting.{ItemsWithin}
 use Rattle.sf_parse.specs.Parsing.{kinds, no_token, token_left, IsFile, CanBegin, CanBeginAny, IsUnexpected, IsTooDeep, IsFault}
 use Rattle.sf_parse.proofs.Exactly.{fault_of, fault_le}
 use Rattle.sf_parse.proofs.Free.{chosen_goes}
+use Rattle.sf_parse.proofs.HasLevel.{level_more}
 use Rattle.sf_parse.proofs.Once.{cons_once}
 use Rattle.sf_parse.proofs.Law.{exact, file_accepted, accepted_file, refuses}
 
 -- the more tokens are free of the limit, the more goes on
-level_more : (n p l d : ℕ) → n ≤ p → has_level n l d ≡ true → has_level p l d ≡ true
-level_more n p l zero h e = grind (arith, nat_tests)
-level_more n p l (suc d) h e = refl
-
 free_more : (s : Owed) (n p l : ℕ) → n ≤ p → is_free s n l ≡ true → is_free s p l ≡ true
 free_more (m.command d) n p l h e = level_more n p l d h e
 free_more (m.commands d) n p l h e = level_more n p l d h e
@@ -264,3 +260,12 @@ accepted_says_none bytes ts v OutOfMemory e h = h
 pub files_without_fault : (bytes : List ℕ) (ts : List Token) (tree : List Item) (f : ParseFault) → IsFile ts tree → IsFault bytes ts f → ⊥
 files_without_fault bytes ts tree f file h =
     accepted_says_none bytes ts (verdict_of (kinds ts)) f ((exact (kinds ts)).file (record { tree = tree; spells = file.spells; within = file.within })) (fault_says bytes ts f h)
+
+-- tokens are those of a file, or have a fault
+pub file_or_fault : (bytes : List ℕ) (ts : List Token) → Spelled (kinds ts) ⊎ ((f : ParseFault) × IsFault bytes ts f)
+file_or_fault bytes ts = go (verdict_of (kinds ts)) refl
+  where
+    go : (v : Verdict) → verdict_of (kinds ts) ≡ v → Spelled (kinds ts) ⊎ ((f : ParseFault) × IsFault bytes ts f)
+    go accepted e = inl ((exact (kinds ts)).accepts e)
+    go (unexpected n) e = inr (Unexpected (place_left bytes ts n), says_fault bytes ts (Unexpected (place_left bytes ts n)) (n, e, refl))
+    go (too_deep n) e = inr (TooDeep (place_left bytes ts n), says_fault bytes ts (TooDeep (place_left bytes ts n)) (n, e, refl))

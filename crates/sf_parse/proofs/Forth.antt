@@ -15,7 +15,8 @@ use Rattle.sf_lex.specs.declared.token.Kind.TheVariants as k
 use Rattle.sf_parse.specs.Grammar as g
 use Rattle.sf_parse.specs.Machine as m
 use Rattle.sf_parse.specs.Machine.{Owed, verdict}
-use Rattle.sf_parse.specs.Nesting.{NotStar, Ends, IsClosed, HasLevel, ConjunctWithin, AssertionWithin, RestWithin, NoteWithin, MaybeWithin}
+use Rattle.sf_parse.specs.Nesting.{IsClosed, HasLevel, ConjunctWithin, AssertionWithin, RestWithin, NoteWithin, MaybeWithin}
+use Rattle.sf_parse.specs.Steps.{NotStar, Ends}
 
 -- what holds of the four first tokens of an expression holds of each
 pub by_expr : (x : SurfaceExpr) (P : Kind → Type 0) → P k.Name → P k.Nil → P k.Null → P k.Number → P (g.expr x)
@@ -180,6 +181,11 @@ pub closed_ends : (c : s.Conjunct) (r : List Kind) → IsClosed c → Ends c r
 closed_ends (s.choose p b x y) r h = absurd h
 closed_ends (s.choose_round p b x y) r h = absurd h
 closed_ends _ r h = tt
+
+pub closed_before_star : (c : s.Conjunct) (r : List Kind) → Ends c (k.Star ∷ r) → IsClosed c
+closed_before_star (s.choose p b x y) r h = absurd h
+closed_before_star (s.choose_round p b x y) r h = absurd h
+closed_before_star _ r h = tt
 
 pub ends_before : (c : s.Conjunct) (r : List Kind) → NotStar r → Ends c r
 ends_before (s.choose p b x y) r h = h

@@ -1,22 +1,9 @@
 -- What the machine does at one token where some tokens are free of the limit on nesting, and where none is.
-use Rattle.std.proofs.Common.{◌≡◌, ◌≤◌, ◌<◌, ℕ, zero, suc, List, [], ◌∷◌, ◌++◌, Bool, true, false, refl, sym, ap, subst, ◌∙◌, arith}
-use Rattle.std.proofs.lemmas.Bool.Decides.{nat_tests}
+use Rattle.std.proofs.Common.{◌≡◌, ◌≤◌, ◌<◌, ℕ, suc, List, [], ◌∷◌, ◌++◌, Bool, true, false, refl, sym, ap, subst, ◌∙◌, arith}
 use Rattle.sf_lex.specs.declared.token.Kind.{Kind}
 use Rattle.sf_parse.specs.Machine as m
 use Rattle.sf_parse.specs.Machine.{Owed, Choice, take, skip, refuse, Next, goes, bad, deep, leveled, chosen, choice, is_free, step}
-use Rattle.sf_parse.specs.Nesting.{has_level}
-
-level_frees : (n l m d : ℕ) → has_level 0 (suc l) d ≡ true → has_level n m d ≡ true
-level_frees n l m zero e = absurd (grind (arith, nat_tests))
-level_frees n l m (suc d) e = refl
-
-level_over : (n l m d : ℕ) → has_level 0 (suc l) d ≡ false → n < m → has_level n m d ≡ false
-level_over n l m zero e h = grind (arith, nat_tests)
-level_over n l m (suc d) e h = absurd cc
-
-level_in : (n m d : ℕ) → m ≤ n → has_level n m d ≡ true
-level_in n m zero h = grind (arith, nat_tests)
-level_in n m (suc d) h = refl
+use Rattle.sf_parse.proofs.HasLevel.{level_in, level_over, level_frees}
 
 free_frees : (s : Owed) (n l m : ℕ) → is_free s 0 (suc l) ≡ true → is_free s n m ≡ true
 free_frees (m.command d) n l m e = level_frees n l m d e

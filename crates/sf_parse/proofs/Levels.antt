@@ -1,11 +1,9 @@
 -- Which way the machine goes at a command, and what levels commands have.
-use Rattle.std.proofs.Common.{◌≡◌, ◌<◌, ◌-◌, ℕ, zero, suc, List, [], ◌∷◌, ◌++◌, length, true, false, Option, refl, ap, sym, subst, ◌∙◌, arith}
-use Rattle.std.proofs.lemmas.Bool.Decides.{nat_tests}
+use Rattle.std.proofs.Common.{◌≡◌, ◌<◌, ◌-◌, ℕ, zero, suc, List, [], ◌∷◌, ◌++◌, length, true, false, refl, ap, sym, subst, ◌∙◌, arith}
 use Rattle.std.proofs.lemmas.List.{length-map}
 use Rattle.sf_ast.specs.declared.word.SurfaceExpr.{SurfaceExpr}
 use Rattle.sf_ast.specs.declared.word.SurfaceExpr.TheVariants as e
 use Rattle.sf_ast.specs.declared.word.SurfaceTest.{SurfaceTest}
-use Rattle.sf_ast.specs.declared.word.Word.{Word}
 use Rattle.sf_ast.specs.Surface as s
 use Rattle.sf_ast.specs.View.{commands}
 use Rattle.sf_base.specs.declared.place.Place.{Place}
@@ -13,31 +11,29 @@ use Rattle.sf_lex.specs.declared.token.Kind.{Kind}
 use Rattle.sf_lex.specs.declared.token.Kind.TheVariants as k
 use Rattle.sf_lex.specs.declared.token.Token.{Token}
 use Rattle.sf_parse.specs.Grammar as g
-use Rattle.sf_parse.specs.Heads.{IsFlat, command_next}
+use Rattle.sf_parse.specs.Heads.{command_next}
 use Rattle.sf_parse.specs.Machine as m
 use Rattle.sf_parse.specs.Machine.{Owed, verdict, unexpected, too_deep}
-use Rattle.sf_parse.specs.Nesting.{NotElse, Follows, has_level, HasLevel, MaybeWithin, CommandWithin, CommandsWithin}
+use Rattle.sf_parse.specs.Nesting.{Follows, CommandWithin, CommandsWithin}
 use Rattle.sf_parse.specs.Parsing.{kinds}
 use Rattle.sf_parse.specs.Placed.{CommandAt, CommandsAt}
 use Rattle.sf_parse.specs.Steps.{NotNext, expression_next}
 use Rattle.sf_parse.proofs.Back.{follows_else}
 use Rattle.sf_parse.proofs.Fronts.{left_of}
+use Rattle.sf_parse.proofs.HasLevel.{no_level, some_level}
 
 -- where no level is left
-no_level_left : (l : ℕ) → has_level 0 (suc l) 0 ≡ false
-no_level_left l = grind (arith, nat_tests)
-
 level_stops : (ts : List Kind) (st : List Owed) → command_next ts ≡ true → verdict 0 ts (m.command 0 ∷ st) ≡ too_deep (length ts)
 level_stops [] st h = absurd cc
-level_stops (k.Name ∷ r) st h = rw (no_level_left (length r)) refl
-level_stops (k.Nil ∷ r) st h = rw (no_level_left (length r)) refl
-level_stops (k.Null ∷ r) st h = rw (no_level_left (length r)) refl
-level_stops (k.Number ∷ r) st h = rw (no_level_left (length r)) refl
-level_stops (k.Dispose ∷ r) st h = rw (no_level_left (length r)) refl
-level_stops (k.If ∷ r) st h = rw (no_level_left (length r)) refl
-level_stops (k.While ∷ r) st h = rw (no_level_left (length r)) refl
-level_stops (k.With ∷ r) st h = rw (no_level_left (length r)) refl
-level_stops (k.OpenBrace ∷ r) st h = rw (no_level_left (length r)) refl
+level_stops (k.Name ∷ r) st h = rw (no_level (length r)) refl
+level_stops (k.Nil ∷ r) st h = rw (no_level (length r)) refl
+level_stops (k.Null ∷ r) st h = rw (no_level (length r)) refl
+level_stops (k.Number ∷ r) st h = rw (no_level (length r)) refl
+level_stops (k.Dispose ∷ r) st h = rw (no_level (length r)) refl
+level_stops (k.If ∷ r) st h = rw (no_level (length r)) refl
+level_stops (k.While ∷ r) st h = rw (no_level (length r)) refl
+level_stops (k.With ∷ r) st h = rw (no_level (length r)) refl
+level_stops (k.OpenBrace ∷ r) st h = rw (no_level (length r)) refl
 level_stops (t ∷ r) st h = absurd cc
 
 pub stops_at_level : (ts : List Token) (st : List Owed) → command_next (kinds ts) ≡ true → verdict 0 (kinds ts) (m.command 0 ∷ st) ≡ too_deep (length ts)
@@ -151,11 +147,6 @@ branch_over d (t ∷ r) st h = refl
 pub no_branch : (d : ℕ) (ts : List Token) (st : List Owed) → NotNext k.Else (kinds ts) → verdict 0 (kinds ts) (m.branch d ∷ st) ≡ verdict 0 (kinds ts) st
 no_branch d ts st h = branch_over d (kinds ts) st h
 
-not_else : (ts : List Kind) → NotNext k.Else ts → NotElse ts
-not_else [] h = tt
-not_else (k.Else ∷ r) h = absurd (h r refl)
-not_else (t ∷ r) h = tt
-
 pub ruleset levels = (
   stops_at_level,
   stops_at_command,
@@ -172,55 +163,12 @@ pub ruleset levels = (
   no_branch,
 )
 
--- there is a level
-has_level_left : (n l d : ℕ) → 0 < d → HasLevel n l d
-has_level_left n l zero h = absurd (omega arith)
-has_level_left n l (suc d) h = refl
-
--- a command with no command in it
-pub flat_within : (c : s.Command) (d : ℕ) (r : List Kind) → IsFlat c → 0 < d → CommandWithin c 0 d r
-flat_within (s.assign x a) d r f h = has_level_left 0 _ d h
-flat_within (s.look_up x a f0) d r f h = has_level_left 0 _ d h
-flat_within (s.new x) d r f h = has_level_left 0 _ d h
-flat_within (s.mutate a f0 b) d r f h = has_level_left 0 _ d h
-flat_within (s.dispose p a) d r f h = has_level_left 0 _ d h
-flat_within (s.dispose_round p a) d r f h = has_level_left 0 _ d h
-flat_within (s.call c) d r f h = has_level_left 0 _ d h
-flat_within (s.fork c e) d r f h = has_level_left 0 _ d h
-flat_within _ d r f h = absurd f
-
-pub flat_follows : (c : s.Command) (r : List Kind) → IsFlat c → Follows c r
-flat_follows (s.assign x a) r f = tt
-flat_follows (s.look_up x a f0) r f = tt
-flat_follows (s.new x) r f = tt
-flat_follows (s.mutate a f0 b) r f = tt
-flat_follows (s.dispose p a) r f = tt
-flat_follows (s.dispose_round p a) r f = tt
-flat_follows (s.call c) r f = tt
-flat_follows (s.fork c e) r f = tt
-flat_follows _ r f = absurd f
-
--- commands with a command in them
-pub when_within : (p : Place) (b : SurfaceTest SurfaceExpr) (c : s.Command) (d : ℕ) (r : List Kind) → 0 < d → CommandWithin c 0 (d - 1) r → CommandWithin (s.when p b c) 0 d r
-when_within p b c d r lv h = (has_level_left 0 _ d lv, h)
-
+-- an `if` with an `else`
 pub if_within : (p : Place) (b : SurfaceTest SurfaceExpr) (c x : s.Command) (d : ℕ) (us vs r : List Kind) → 0 < d → us ≡ k.Else ∷ vs → vs ≡ g.command x r → CommandWithin c 0 (d - 1) us → Follows c us → CommandWithin x 0 (d - 1) r
     → CommandWithin (s.if p b c x) 0 d r
 if_within p b c x d us vs r lv h i w f v =
     let whole : us ≡ k.Else ∷ g.command x r = h ∙ ap (λ (z : List Kind). k.Else ∷ z) i in
-    (has_level_left 0 _ d lv, subst (λ (z : List Kind). CommandWithin c 0 (d - 1) z) whole w, v, follows_else c vs [] (subst (λ (z : List Kind). Follows c z) h f))
-
-pub while_within : (p : Place) (b : SurfaceTest SurfaceExpr) (x : Option s.Note) (c : s.Command) (d : ℕ) (us r : List Kind) → 0 < d → us ≡ g.command c r → MaybeWithin x 0 us → CommandWithin c 0 (d - 1) r → CommandWithin (s.while p b x c) 0 d r
-while_within p b x c d us r lv h n w = (has_level_left 0 _ d lv, subst (λ (z : List Kind). MaybeWithin x 0 z) h n, w)
-
-pub with_within : (p : Place) (y : Word) (b : SurfaceTest SurfaceExpr) (c : s.Command) (d : ℕ) (r : List Kind) → 0 < d → CommandWithin c 0 (d - 1) r → CommandWithin (s.with p y b c) 0 d r
-with_within p y b c d r lv h = (has_level_left 0 _ d lv, h)
-
-pub block_within : (p : Place) (cs : s.Commands) (d : ℕ) (us r : List Kind) → 0 < d → us ≡ k.CloseBrace ∷ r → CommandsWithin cs 0 (d - 1) us → CommandWithin (s.block p cs) 0 d r
-block_within p cs d us r lv h w = (has_level_left 0 _ d lv, subst (λ (z : List Kind). CommandsWithin cs 0 (d - 1) z) h w)
-
-pub when_follows : (p : Place) (b : SurfaceTest SurfaceExpr) (c : s.Command) (r : List Kind) → NotNext k.Else r → Follows (s.when p b c) r
-when_follows p b c r h = not_else r h
+    (some_level 0 _ d lv, subst (λ (z : List Kind). CommandWithin c 0 (d - 1) z) whole w, v, follows_else c vs [] (subst (λ (z : List Kind). Follows c z) h f))
 
 -- one more at the end
 pub commands_push : (cs : List s.Command) (c : s.Command) (r : List Kind) → g.commands (commands (cs ++ c ∷ [])) r ≡ g.commands (commands cs) (g.command c r)

@@ -1,4 +1,5 @@
 pub mod Means
+pub mod HasLevel
 pub mod Free
 pub mod Back
 pub mod OwedBack

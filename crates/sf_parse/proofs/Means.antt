@@ -13,7 +13,8 @@ use Rattle.sf_parse.specs.Grammar as g
 use Rattle.sf_parse.specs.Heads.{IsFlat}
 use Rattle.sf_parse.specs.Machine as m
 use Rattle.sf_parse.specs.Machine.{Owed, mark_kind}
-use Rattle.sf_parse.specs.Nesting.{NotElse, NotStar, Follows, Ends, ConjunctWithin, AssertionWithin, RestWithin, MaybeWithin, CommandWithin, CommandsWithin, ItemWithin, ItemsWithin}
+use Rattle.sf_parse.specs.Nesting.{NotElse, Follows, ConjunctWithin, AssertionWithin, RestWithin, MaybeWithin, CommandWithin, CommandsWithin, ItemWithin, ItemsWithin}
+use Rattle.sf_parse.specs.Steps.{NotStar, Ends}
 
 -- what one thing owed spells, with the tokens behind it
 abbrev pub Spells : ℕ → Owed → List Kind → List Kind → Type 0

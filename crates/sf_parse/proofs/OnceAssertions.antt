@@ -13,7 +13,8 @@ use Rattle.sf_lex.specs.declared.token.Kind.TheVariants as k
 use Rattle.sf_lex.specs.declared.token.Token.{Token}
 use Rattle.sf_parse.specs.Grammar as g
 use Rattle.sf_parse.specs.Placed.{ExprAt, OperandAt, TestAt, FieldAt, MoreFieldsAt, MaybeFieldsAt, ConjunctAt, AssertionAt}
-use Rattle.sf_parse.specs.Nesting.{NotStar, Ends, ConjunctWithin, AssertionWithin, RestWithin}
+use Rattle.sf_parse.specs.Nesting.{ConjunctWithin, AssertionWithin, RestWithin}
+use Rattle.sf_parse.specs.Steps.{NotStar, Ends}
 use Rattle.sf_parse.proofs.Forth.{by_operand, closed_ends, ends_before, AfterConjunct}
 use Rattle.sf_parse.proofs.Once.{Same, word_once, place_once, expr_once, operand_once, NotComma, comma_wrong, NotName, name_wrong, cons_once}
 

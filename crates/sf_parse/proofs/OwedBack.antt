@@ -13,7 +13,9 @@ use Rattle.sf_lex.specs.declared.token.Kind.TheVariants as k
 use Rattle.sf_parse.specs.Grammar as g
 use Rattle.sf_parse.specs.Machine as m
 use Rattle.sf_parse.specs.Machine.{Owed, Choice, take, skip, refuse, Next, goes, bad, deep, leveled, chosen, choice, is_free, step, or_skip, mark_kind, on_exact, on_expression, on_operand, on_conjunct, on_command}
-use Rattle.sf_parse.specs.Nesting.{NotStar, Ends, has_level, IsClosed, ConjunctWithin, AssertionWithin, RestWithin, NoteWithin, MaybeWithin, CommandWithin, CommandsWithin, ItemWithin}
+use Rattle.sf_parse.specs.Nesting.{has_level, ConjunctWithin, AssertionWithin, RestWithin, NoteWithin, MaybeWithin, CommandWithin, CommandsWithin, ItemWithin}
+use Rattle.sf_parse.specs.Steps.{NotStar, Ends}
+use Rattle.sf_parse.proofs.Forth.{closed_before_star}
 use Rattle.sf_parse.proofs.Means.{Spells, Means, MeansNext}
 use Rattle.sf_parse.proofs.Back.{a_place, a_word, expr_back, operand_back, or_skip_back, takes_back, command_takes, conjunct_takes, conjunct_back, command_back}
 
@@ -165,16 +167,11 @@ more_fields_back : (n : ℕ) (st : List Owed) (u : Kind) (w : Next) (ts : List K
 more_fields_back n st k.Comma w ts f q = one_more_field n st ts q
 more_fields_back n st u w ts f q = (u ∷ ts, ([], refl), f q)
 
-ends_star : (c : s.Conjunct) (r : List Kind) → Ends c (k.Star ∷ r) → IsClosed c
-ends_star (s.choose p b x y) r h = absurd h
-ends_star (s.choose_round p b x y) r h = absurd h
-ends_star _ r h = tt
-
 -- a conjunct and those behind it
 with_more : (n d : ℕ) (c : s.Conjunct) (r q : List Kind) → ConjunctWithin c n d r → Ends c r → Spells n (m.more_conjuncts d) r q → (a : s.Assertion) × (g.conjunct c r ≡ g.assertion a q) × RestWithin a n d q × NotStar q
 with_more n d c r q w e (inl h) = (s.only c, ap (λ z. g.conjunct c z) h.1, subst (λ z. ConjunctWithin c n d z) h.1 w, subst (λ z. NotStar z) h.1 h.0)
 with_more n d c r q w e (inr h) =
-    (s.star c h.0, ap (λ z. g.conjunct c z) h.1, (subst (λ z. ConjunctWithin c n d z) h.1 w, ends_star c (g.assertion h.0 q) (subst (λ z. Ends c z) h.1 e), h.2), h.3)
+    (s.star c h.0, ap (λ z. g.conjunct c z) h.1, (subst (λ z. ConjunctWithin c n d z) h.1 w, closed_before_star c (g.assertion h.0 q) (subst (λ z. Ends c z) h.1 e), h.2), h.3)
 
 -- an assertion has the level of its first token
 leveled_assertion : (n d : ℕ) (a : s.Assertion) (q : List Kind) → has_level n (length (g.assertion a q)) d ≡ true → RestWithin a n d q → AssertionWithin a n d q

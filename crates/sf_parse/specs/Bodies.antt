@@ -1,4 +1,5 @@
--- A procedure's body, as the code has it: what it spells, where it stands, how deep it is nested.
+-- A procedure's body, as the code has it: what it spells, where it stands, how deep it is nested. It stands between the code
+-- and the definitions of Parsing, and needn't be believed: no public contract names it.
 -- The language is that of Berdine, Calcagno and O'Hearn, "Smallfoot" (2005), in this project's own profile.
 use Rattle.std.specs.Prelude.{ℕ, List, ◌∷◌, map, Option}
 use Rattle.sf_base.specs.declared.limits.TheConstants.{NESTING}

@@ -1,4 +1,5 @@
--- What the machine's verdict says of a file: its fault, at the place of the token there, or behind the last byte.
+-- What the machine's verdict says of a file: its fault, at the place of the token there, or behind the last byte. It stands
+-- between the code and the definitions of Parsing, and needn't be believed: no public contract names it.
 -- Ordinary: predictive parsing with a stack, as in Aho, Sethi, Ullman, "Compilers" (1986), section 4.4.
 use Rattle.std.specs.Prelude.{◌≡◌, ℕ, zero, suc, List}
 use Rattle.sf_base.specs.declared.place.Place.{Place}

@@ -1,4 +1,5 @@
--- What the parser knows of a call's arguments before it has seen whether a `;` stands behind them.
+-- What the parser knows of a call's arguments before it has seen whether a `;` stands behind them. It stands between the code
+-- and the definitions of Parsing, and needn't be believed: no public contract names it.
 -- Ordinary: one token of look-ahead, as in Aho, Sethi, Ullman, "Compilers" (1986), section 4.4.
 use Rattle.std.specs.Prelude.{◌≡◌, List, [], ◌∷◌, Bool, true, false, ◌&&◌}
 use Rattle.sf_ast.specs.declared.word.SurfaceExpr.{SurfaceExpr}

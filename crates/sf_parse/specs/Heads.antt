@@ -1,4 +1,5 @@
--- A command or an item whose first tokens are read: what these are decides what may follow.
+-- What comes next, and what was begun where its first tokens are read. It stands between the code and the definitions of
+-- Parsing, and needn't be believed: no public contract names it.
 -- Ordinary: left factoring, as in Aho, Sethi, Ullman, "Compilers" (1986), section 4.3.
 use Rattle.std.specs.Prelude.{ℕ, List, ◌∷◌, Bool, true, false}
 use Rattle.sf_ast.specs.Surface as s
@@ -6,7 +7,7 @@ use Rattle.sf_lex.specs.declared.token.Kind.{Kind}
 use Rattle.sf_lex.specs.declared.token.Kind.TheVariants as k
 use Rattle.sf_lex.specs.declared.token.Token.{Token}
 use Rattle.sf_parse.specs.Parsing.{kinds}
-use Rattle.sf_parse.specs.Steps.{Agree}
+use Rattle.sf_parse.specs.Steps.{Agree, operand_next}
 
 -- a command with no command in it
 abbrev pub IsFlat : s.Command → Type 0
@@ -36,3 +37,21 @@ command_next (k.While ∷ r) = true
 command_next (k.With ∷ r) = true
 command_next (k.OpenBrace ∷ r) = true
 command_next _ = false
+
+-- a conjunct with no assertion in it
+abbrev pub IsFlatConjunct : s.Conjunct → Type 0
+IsFlatConjunct (s.group p a) = ⊥
+IsFlatConjunct (s.choose p b x y) = ⊥
+IsFlatConjunct (s.choose_round p b x y) = ⊥
+IsFlatConjunct _ = Unit {0}
+
+-- a conjunct comes next
+abbrev pub conjunct_next : List Kind → Bool
+conjunct_next (k.Emp ∷ r) = true
+conjunct_next (k.OpenRound ∷ r) = true
+conjunct_next (k.If ∷ r) = true
+conjunct_next (k.Ls ∷ r) = true
+conjunct_next (k.Lseg ∷ r) = true
+conjunct_next (k.List ∷ r) = true
+conjunct_next (k.Tree ∷ r) = true
+conjunct_next r = operand_next r

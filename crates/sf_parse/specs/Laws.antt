@@ -1,6 +1,7 @@
--- Laws of reading a file, in words of their own: the machine's verdict is that of the grammar.
+-- Laws of reading a file: the machine's verdict is the grammar's, tokens are one file at most and no deeper than the limit, and
+-- they have one answer, that they are a file or a fault.
 -- Ordinary: the viable prefix property, as in Aho, Sethi, Ullman, "Compilers" (1986), section 4.1.
-use Rattle.std.specs.Prelude.{◌≡◌, ◌≤◌, ℕ, suc, List, [], ◌∷◌, ◌++◌, length}
+use Rattle.std.specs.Prelude.{◌≡◌, ◌≤◌, ◌⊎◌, ℕ, suc, List, [], ◌∷◌, ◌++◌, length}
 use Rattle.sf_base.specs.declared.limits.TheConstants.{NESTING}
 use Rattle.sf_ast.specs.Depth.{items_depth}
 use Rattle.sf_ast.specs.Surface.{Item}
@@ -10,7 +11,7 @@ use Rattle.sf_parse.specs.declared.fault.ParseFault.{ParseFault}
 use Rattle.sf_parse.specs.Grammar.{items}
 use Rattle.sf_parse.specs.Machine.{Verdict, accepted, unexpected, too_deep, verdict, items as some_items}
 use Rattle.sf_parse.specs.Nesting.{ItemsWithin}
-use Rattle.sf_parse.specs.Parsing.{CanBegin, CanBeginAny, IsFile, IsFault}
+use Rattle.sf_parse.specs.Parsing.{kinds, CanBegin, CanBeginAny, IsFile, IsFault}
 
 -- the verdict over a whole file, with nothing free of the limit on nesting
 abbrev pub verdict_of : List Kind → Verdict
@@ -42,8 +43,9 @@ EachFileIsOne = (ts : List Token) (one two : List Item) → IsFile ts one → Is
 abbrev pub EachFileIsShallow : Type 0
 EachFileIsShallow = (ts : List Token) (tree : List Item) → IsFile ts tree → items_depth tree ≤ NESTING
 
--- tokens have at most one answer: a file's have no fault, and others one alone
+-- tokens have one answer: they are those of a file, or have a fault, which is one alone, and never both
 pub record HasOneAnswer (bytes : List ℕ) (ts : List Token) : Type 0 where
+  pub some : Spelled (kinds ts) ⊎ ((f : ParseFault) × IsFault bytes ts f)
   pub faults : (e f : ParseFault) → IsFault bytes ts e → IsFault bytes ts f → e ≡ f
   pub apart : (tree : List Item) (f : ParseFault) → IsFile ts tree → IsFault bytes ts f → ⊥
 

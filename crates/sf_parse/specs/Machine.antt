@@ -1,4 +1,5 @@
--- What may still come, as a stack of what is owed: the meaning of the tokens read so far, between the grammar and the parser's code.
+-- What may still come, as a stack of what is owed. It stands between the parser's code and the definitions of Parsing, and
+-- needn't be believed: a law, `the_verdict_is_exact`, says that its verdict is the grammar's.
 -- Ordinary: predictive parsing with a stack, as in Aho, Sethi, Ullman, "Compilers" (1986), section 4.4.
 use Rattle.std.specs.Prelude.{ℕ, suc, ◌-◌, ◌++◌, List, [], ◌∷◌, length, Bool, true, false}
 use Rattle.sf_base.specs.declared.limits.TheConstants.{NESTING}
@@ -74,12 +75,6 @@ pub data Choice : Type 0 where
   take : List Owed → Choice
   skip : Choice
   refuse : Choice
-
--- then that is owed too
-abbrev pub and_then : Choice → List Owed → Choice
-and_then (take ss) more = take (ss ++ more)
-and_then skip more = skip
-and_then refuse more = refuse
 
 -- what need not come is done without
 abbrev pub or_skip : Choice → Choice

@@ -26,17 +26,6 @@ IsClosed (s.choose p b x y) = ⊥
 IsClosed (s.choose_round p b x y) = ⊥
 IsClosed _ = Unit {0}
 
--- no `*` comes next
-abbrev pub NotStar : List Kind → Type 0
-NotStar (k.Star ∷ r) = ⊥
-NotStar _ = Unit {0}
-
--- a conjunct that is not closed has no `*` behind it
-abbrev pub Ends : s.Conjunct → List Kind → Type 0
-Ends (s.choose p b x y) r = NotStar r
-Ends (s.choose_round p b x y) r = NotStar r
-Ends _ r = Unit {0}
-
 -- one of d levels is left for what begins with so many tokens left; what begins with at most n tokens left needs none
 abbrev pub has_level : (n left d : ℕ) → Bool
 has_level n left zero = nat_le left n

@@ -1,4 +1,5 @@
--- What the parser's functions give: the tokens that they read, where these stand, and what becomes of what is owed.
+-- What the parser's functions give: the tokens that they read, where these stand, and what becomes of what is owed. It stands
+-- between the code and the definitions of Parsing, and needn't be believed: no public contract names it.
 -- Ordinary: predictive parsing by recursive descent, as in Aho, Sethi, Ullman, "Compilers" (1986), section 4.4.
 use Rattle.std.specs.Prelude.{◌≡◌, ◌≢◌, ℕ, List, [], ◌∷◌, ◌++◌, length, Bool, true, false}
 use Rattle.sf_ast.specs.Surface as s
@@ -65,33 +66,16 @@ mark_of k.Else = m.else_word
 mark_of k.When = m.when_word
 mark_of _ = m.a_name
 
--- a conjunct that is owed takes the tokens up to the rest, however many levels are left
-abbrev pub TakesConjunct : List Token → List Token → Type 0
-TakesConjunct ts r = (d : ℕ) (st : List Owed) → verdict 0 (kinds ts) (m.conjunct d ∷ st) ≡ verdict 0 (kinds r) st
+-- no `*` comes next
+abbrev pub NotStar : List Kind → Type 0
+NotStar (k.Star ∷ r) = ⊥
+NotStar _ = Unit {0}
 
--- the fault stands where the tokens stop to fit a conjunct, however many levels are left
-abbrev pub StopsConjunct : Stop → List Token → Type 0
-StopsConjunct (Unexpected n) ts = (d : ℕ) (st : List Owed) → verdict 0 (kinds ts) (m.conjunct d ∷ st) ≡ unexpected n
-StopsConjunct (TooDeep n) ts = (d : ℕ) (st : List Owed) → verdict 0 (kinds ts) (m.conjunct d ∷ st) ≡ too_deep n
-StopsConjunct OutOfMemory ts = Unit {0}
-
--- a conjunct with no assertion in it
-abbrev pub IsFlatConjunct : s.Conjunct → Type 0
-IsFlatConjunct (s.group p a) = ⊥
-IsFlatConjunct (s.choose p b x y) = ⊥
-IsFlatConjunct (s.choose_round p b x y) = ⊥
-IsFlatConjunct _ = Unit {0}
-
--- a conjunct comes next
-abbrev pub conjunct_next : List Kind → Bool
-conjunct_next (k.Emp ∷ r) = true
-conjunct_next (k.OpenRound ∷ r) = true
-conjunct_next (k.If ∷ r) = true
-conjunct_next (k.Ls ∷ r) = true
-conjunct_next (k.Lseg ∷ r) = true
-conjunct_next (k.List ∷ r) = true
-conjunct_next (k.Tree ∷ r) = true
-conjunct_next r = operand_next r
+-- a conjunct that is not closed has no `*` behind it
+abbrev pub Ends : s.Conjunct → List Kind → Type 0
+Ends (s.choose p b x y) r = NotStar r
+Ends (s.choose_round p b x y) r = NotStar r
+Ends _ r = Unit {0}
 
 -- the last conjunct of an assertion
 abbrev pub last_of : s.Assertion → s.Conjunct

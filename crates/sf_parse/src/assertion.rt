@@ -6,10 +6,10 @@ ghost use Rattle.sf_ast.specs.View.{assertion_of, conjunct_of, conjuncts};
 ghost use Rattle.sf_lex.specs.declared.token.Token.{Token};
 ghost use Rattle.sf_parse.specs.Grammar.{assertion, conjunct};
 ghost use Rattle.sf_parse.specs.Machine as m;
-ghost use Rattle.sf_parse.specs.Nesting.{AssertionWithin, ConjunctWithin, Ends, NotStar};
+ghost use Rattle.sf_parse.specs.Nesting.{AssertionWithin, ConjunctWithin};
 ghost use Rattle.sf_parse.specs.Parsing.{kinds};
 ghost use Rattle.sf_parse.specs.Placed.{AssertionAt, ConjunctAt, PlaceAt};
-ghost use Rattle.sf_parse.specs.Steps.{Agree, Placed, Stops, Takes};
+ghost use Rattle.sf_parse.specs.Steps.{Agree, Ends, NotStar, Placed, Stops, Takes};
 
 use crate::condition::operand_test;
 use crate::conjunct::{predicate, relation};

@@ -4,10 +4,11 @@ ghost use Rattle.std.specs.Prelude.{◌≡◌, ◌∷◌, ℕ, [], false, IfErr,
 ghost use Rattle.sf_ast.specs.View.{conjunct_of};
 ghost use Rattle.sf_lex.specs.declared.token.Token.{Token};
 ghost use Rattle.sf_parse.specs.Grammar.{conjunct, operand};
+ghost use Rattle.sf_parse.specs.Heads.{IsFlatConjunct};
 ghost use Rattle.sf_parse.specs.Machine as m;
 ghost use Rattle.sf_parse.specs.Parsing.{kinds};
 ghost use Rattle.sf_parse.specs.Placed.{ConjunctAt, OperandAt};
-ghost use Rattle.sf_parse.specs.Steps.{Agree, IsFlatConjunct, NotNext, Placed, Stops, StopsConjunct, Takes, TakesConjunct, operand_next};
+ghost use Rattle.sf_parse.specs.Steps.{Agree, NotNext, Placed, Stops, Takes, operand_next};
 
 use crate::fields::maybe_fields;
 use crate::front::eat;
@@ -82,8 +83,8 @@ pub fn predicate(tokens: &[Token]) -> Result<(SurfaceConjunct, &[Token]), Stop>
     ensures spelled { IfOk result (λ r. kinds tokens.now ≡ conjunct (conjunct_of r.0) (kinds r.1.now)) }
     ensures flat { IfOk result (λ r. IsFlatConjunct (conjunct_of r.0)) }
     ensures places { IfOk result (λ r. Placed (λ at b. ConjunctAt at (conjunct_of r.0) b) tokens.now r.1.now) }
-    ensures taken { IfOk result (λ r. TakesConjunct tokens.now r.1.now) }
-    ensures fault { IfErr result (λ e. StopsConjunct e tokens.now) }
+    ensures taken { IfOk result (λ r. (d : ℕ) → Takes (m.conjunct d ∷ []) tokens.now r.1.now) }
+    ensures fault { IfErr result (λ e. (d : ℕ) → Stops e (m.conjunct d ∷ []) tokens.now) }
 {
     if let Some((place, rest)) = eat(tokens, Kind::Emp) {
         return Ok((SurfaceConjunct::Emp(place), rest));

@@ -2,9 +2,10 @@
 
 ghost use Rattle.std.specs.Prelude.{◌≡◌, ◌∷◌, false, IfSome, MatchOption};
 ghost use Rattle.sf_parse.specs.Grammar.{expr, operand};
+ghost use Rattle.sf_parse.specs.Heads.{conjunct_next};
 ghost use Rattle.sf_parse.specs.Parsing.{kinds};
 ghost use Rattle.sf_parse.specs.Placed.{ExprAt, OperandAt, PlaceAt, WordAt};
-ghost use Rattle.sf_parse.specs.Steps.{NotNext, Placed, conjunct_next, expression_next, operand_next};
+ghost use Rattle.sf_parse.specs.Steps.{NotNext, Placed, expression_next, operand_next};
 
 use sf_ast::{SurfaceExpr, SurfaceOperand, Word};
 use sf_base::Place;

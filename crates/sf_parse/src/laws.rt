@@ -17,7 +17,7 @@ pub fn each_file_is_shallow()
     ensures { EachFileIsShallow }
 {}
 
-/// Tokens have at most one answer: those of a file have no fault, and others have one alone.
+/// Tokens have one answer: they are those of a file, or they have a fault, and one alone.
 pub fn each_has_one_answer()
     ensures { EachHasOneAnswer }
 {}

@@ -7,11 +7,13 @@ use Rattle.sf_lex.specs.declared.token.Kind.TheVariants as k
 use Rattle.sf_parse.specs.Grammar.{assertion, conjunct, operand, test}
 use Rattle.sf_parse.specs.Machine as m
 use Rattle.sf_parse.specs.Machine.{verdict}
-use Rattle.sf_parse.specs.Nesting.{AssertionWithin, Ends}
+use Rattle.sf_parse.specs.Nesting.{AssertionWithin}
 use Rattle.sf_parse.specs.Parsing.{kinds}
 use Rattle.sf_parse.specs.Placed.{AssertionAt, PlaceAt, TestAt, OperandAt}
-use Rattle.sf_parse.specs.Steps.{last_of}
-use Rattle.sf_parse.proofs.Conjuncts.{some_level, assertion_push, within_push, at_push, last_push, closed_before_star}
+use Rattle.sf_parse.specs.Steps.{last_of, Ends}
+use Rattle.sf_parse.proofs.Conjuncts.{assertion_push, within_push, at_push, last_push}
+use Rattle.sf_parse.proofs.Forth.{closed_before_star}
+use Rattle.sf_parse.proofs.HasLevel.{some_level}
 use Rattle.sf_parse.proofs.Longer.{conjunct_longer, fewer}
 use Rattle.sf_parse.proofs.Views.{view_assertion, view_group, view_choose, view_choose_round}
 use Rattle.sf_parse.proofs.assertion.+assertion.Goals as goal
@@ -21,7 +23,7 @@ more_conjuncts-loop-after-init t c =
     let some : 0 < c.args.depth = omega (arith, c.requires) in
     rw c.new-found.ensures.items record {
       spelled = λ x. refl;
-      within = λ x within ends. (some_level c.args.depth _ some, within);
+      within = λ x within ends. (some_level 0 _ c.args.depth some, within);
       ended = λ x ends. ends;
       places = λ at agree x here. (here, agree);
       taken = λ st. refl;

@@ -5,10 +5,10 @@ use Rattle.sf_lex.specs.declared.token.Token.{Token}
 use Rattle.sf_parse.specs.Grammar.{conjunct, assertion}
 use Rattle.sf_parse.specs.Machine as m
 use Rattle.sf_parse.specs.Machine.{Owed, verdict}
-use Rattle.sf_parse.specs.Nesting.{ConjunctWithin, AssertionWithin, Ends}
+use Rattle.sf_parse.specs.Nesting.{ConjunctWithin, AssertionWithin}
 use Rattle.sf_parse.specs.Parsing.{kinds}
 use Rattle.sf_parse.specs.Placed.{ConjunctAt, AssertionAt}
-use Rattle.sf_parse.specs.Steps.{Agree, last_of}
+use Rattle.sf_parse.specs.Steps.{Agree, last_of, Ends}
 use Rattle.sf_parse.proofs.assertion.+assertion.Given as goal
 
 abbrev pub decreases-assertion : goal.decreases-assertion
