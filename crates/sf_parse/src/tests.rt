@@ -27,11 +27,6 @@ fn too_deep(column: u32) -> Answer {
     Answer::Refused(ParseFault::TooDeep(at(1, column)))
 }
 
-/// Refused at that place of the first line, where a byte begins no token.
-fn bad_byte(column: u32) -> Answer {
-    Answer::Lexed(LexFault::BadByte(at(1, column)))
-}
-
 /// What becomes of those bytes.
 fn outcome(alloc: Global, bytes: &[u8]) -> Answer {
     match tokens(alloc, bytes) {
@@ -53,25 +48,12 @@ fn file(alloc: Global, bytes: &[u8]) -> Option<File> {
 
 #[test]
 fn files_are_read_or_refused_at_the_first_bad_token(rt: HostRuntime) {
-    let cases: [(&[u8], Answer); 88] = [
-        (b"f() { -x; }", bad_byte(7)),
-        (b"f() { x-->tl = 1; }", bad_byte(8)),
+    let cases: [(&[u8], Answer); 78] = [
         (b"f() [__ == nil] { }", Answer::Read),
-        (b"f() { if (x ! y) { } }", bad_byte(13)),
-        (b"f(x) [x |-tl:x] { }", bad_byte(9)),
         (b"f() { } /* \xc3\xa4 @ */", Answer::Read),
-        (b"f() { } \x0c", bad_byte(9)),
-        (b"/*/", Answer::Lexed(LexFault::OpenComment(at(1, 1)))),
-        (b"/* /* */ */", bad_byte(11)),
-        (b"/* a\nb */ @", Answer::Lexed(LexFault::BadByte(at(2, 6)))),
-        (
-            b"f() { 3x->tl = 1; }",
-            Answer::Lexed(LexFault::BadNumber(at(1, 7))),
-        ),
         (b"f(x) { x->tl = -9223372036854775808; }", Answer::Read),
         (b"f(x) { x->tl = 9223372036854775807; }", Answer::Read),
         (b"f(x) { x->tl = 3/**/4; }", unexpected(21)),
-        (b"f( ) ) @", bad_byte(8)),
         (b"f(;) { }", Answer::Read),
         (b"f(x;) { }", Answer::Read),
         (b"f(x,) { }", unexpected(5)),
@@ -283,6 +265,58 @@ fn nesting_has_sixty_four_levels(rt: HostRuntime) -> Result<(), AllocError> {
     for (parts, expected) in cases {
         let text = repeated(rt.alloc(), parts.as_slice())?;
         assert!(rt; outcome(rt.alloc(), text.as_slice()) == expected);
+    }
+    Ok(())
+}
+
+#[test]
+fn a_million_tokens_at_one_level_are_read(rt: HostRuntime) -> Result<(), AllocError> {
+    let cases: [[(&[u8], usize); 3]; 2] = [
+        [(b"f(){", 1), (b"x=x;", 262_000), (b"}", 1)],
+        [(b"f(){{", 1), (b"x=x;", 262_000), (b"}}", 1)],
+    ];
+    for parts in cases {
+        let text = repeated(rt.alloc(), parts.as_slice())?;
+        assert!(rt; outcome(rt.alloc(), text.as_slice()) == Answer::Read);
+    }
+    Ok(())
+}
+
+#[test]
+fn a_million_bytes_of_declarations_are_read(rt: HostRuntime) -> Result<(), AllocError> {
+    let cases: [[(&[u8], usize); 3]; 2] = [
+        [(b"f(){", 1), (b"local x;", 131_000), (b"}", 1)],
+        [(b"", 0), (b"a;", 524_000), (b"", 0)],
+    ];
+    for parts in cases {
+        let text = repeated(rt.alloc(), parts.as_slice())?;
+        assert!(rt; outcome(rt.alloc(), text.as_slice()) == Answer::Read);
+    }
+    Ok(())
+}
+
+#[test]
+fn a_million_tokens_in_round_brackets_are_read(rt: HostRuntime) -> Result<(), AllocError> {
+    let cases: [[(&[u8], usize); 3]; 2] = [
+        [(b"f(x", 1), (b",x", 524_000), (b"){}", 1)],
+        [(b"f(){f(x", 1), (b",x", 524_000), (b");}", 1)],
+    ];
+    for parts in cases {
+        let text = repeated(rt.alloc(), parts.as_slice())?;
+        assert!(rt; outcome(rt.alloc(), text.as_slice()) == Answer::Read);
+    }
+    Ok(())
+}
+
+#[test]
+fn a_million_bytes_of_one_annotation_are_read(rt: HostRuntime) -> Result<(), AllocError> {
+    let cases: [[(&[u8], usize); 3]; 2] = [
+        [(b"f()[x==x", 1), (b"*x==x", 209_600), (b"]{}", 1)],
+        [(b"f()[x|->x:x", 1), (b",x:x", 262_000), (b"]{}", 1)],
+    ];
+    for parts in cases {
+        let text = repeated(rt.alloc(), parts.as_slice())?;
+        assert!(rt; outcome(rt.alloc(), text.as_slice()) == Answer::Read);
     }
     Ok(())
 }
@@ -537,7 +571,7 @@ fn ends_of_parts(letters: &[u8], parts: &[u8], from: u64, fuel: u32, seen: &mut 
 }
 
 /// Whether some file begins with those letters, and whether they are one.
-fn begins(letters: &[u8]) -> (bool, bool) {
+fn begins(letters: &[u8], lost: &mut bool) -> (bool, bool) {
     let mut seen = Seen {
         cut: false,
         lost: false,
@@ -548,18 +582,19 @@ fn begins(letters: &[u8]) -> (bool, bool) {
         last = last.wrapping_mul(2);
     }
     let whole = ends & last != 0;
-    (seen.cut || whole || seen.lost, whole)
+    *lost |= seen.lost;
+    (seen.cut || whole, whole)
 }
 
 /// How many letters stand before the first one with which no file begins, if there is a fault.
-fn first_fault(letters: &[u8]) -> Option<usize> {
+fn first_fault(letters: &[u8], lost: &mut bool) -> Option<usize> {
     for count in 0..letters.len() {
-        let (can_begin, _) = begins(&letters[..count + 1]);
+        let (can_begin, _) = begins(&letters[..count + 1], lost);
         if !can_begin {
             return Some(count);
         }
     }
-    let (_, whole) = begins(letters);
+    let (_, whole) = begins(letters, lost);
     if whole { None } else { Some(letters.len()) }
 }
 
@@ -575,7 +610,7 @@ fn place_of(bytes: &[u8], found: &[Token], index: usize) -> Place {
 }
 
 /// Whether the parser says of those tokens what the printed grammar does.
-fn agrees(alloc: Global, letters: &[u8]) -> Result<bool, AllocError> {
+fn agrees(alloc: Global, letters: &[u8], lost: &mut bool) -> Result<bool, AllocError> {
     let mut text = Vec::new(alloc);
     for letter in letters {
         text.extend_from_slice(spelling(*letter))?;
@@ -584,7 +619,7 @@ fn agrees(alloc: Global, letters: &[u8]) -> Result<bool, AllocError> {
     let Ok(found) = tokens(alloc, text.as_slice()) else {
         return Ok(false);
     };
-    let expected = match first_fault(letters) {
+    let expected = match first_fault(letters, lost) {
         None => Answer::Read,
         Some(index) => Answer::Refused(ParseFault::Unexpected(place_of(
             text.as_slice(),
@@ -640,7 +675,7 @@ fn changed(alloc: Global, letters: &[u8], numbers: &mut Numbers) -> Result<Vec<u
 }
 
 /// Letters that go on as a file may, but for one in eight.
-fn grown(alloc: Global, numbers: &mut Numbers) -> Result<Vec<u8>, AllocError> {
+fn grown(alloc: Global, numbers: &mut Numbers, lost: &mut bool) -> Result<Vec<u8>, AllocError> {
     let mut out = Vec::new(alloc);
     for _ in 0..20 {
         let mut letter = next_letter(numbers);
@@ -648,7 +683,7 @@ fn grown(alloc: Global, numbers: &mut Numbers) -> Result<Vec<u8>, AllocError> {
             let mut tried = Vec::new(alloc);
             tried.extend_from_slice(out.as_slice())?;
             tried.push(letter)?;
-            let (can_begin, _) = begins(tried.as_slice());
+            let (can_begin, _) = begins(tried.as_slice(), lost);
             if can_begin {
                 break;
             }
@@ -674,18 +709,20 @@ const FILES: [&[u8]; 8] = [
 #[test]
 fn the_first_bad_token_is_that_of_the_printed_grammar(rt: HostRuntime) -> Result<(), AllocError> {
     let mut numbers = Numbers { state: 20_051_101 };
+    let mut lost = false;
     for letters in FILES {
-        assert!(rt; agrees(rt.alloc(), letters)?);
+        assert!(rt; agrees(rt.alloc(), letters, &mut lost)?);
         for _ in 0..30 {
             let one = changed(rt.alloc(), letters, &mut numbers)?;
-            assert!(rt; agrees(rt.alloc(), one.as_slice())?);
+            assert!(rt; agrees(rt.alloc(), one.as_slice(), &mut lost)?);
             let two = changed(rt.alloc(), one.as_slice(), &mut numbers)?;
-            assert!(rt; agrees(rt.alloc(), two.as_slice())?);
+            assert!(rt; agrees(rt.alloc(), two.as_slice(), &mut lost)?);
         }
     }
     for _ in 0..60 {
-        let letters = grown(rt.alloc(), &mut numbers)?;
-        assert!(rt; agrees(rt.alloc(), letters.as_slice())?);
+        let letters = grown(rt.alloc(), &mut numbers, &mut lost)?;
+        assert!(rt; agrees(rt.alloc(), letters.as_slice(), &mut lost)?);
     }
+    assert!(rt; !lost);
     Ok(())
 }
