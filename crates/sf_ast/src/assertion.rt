@@ -4,11 +4,13 @@ use sf_base::Place;
 /// A field of a points-to and what stands for its value.
 #[derive(Clone, Copy, Debug, PartialEq, Eq)]
 pub struct SurfaceField {
+    /// The field.
     pub name: Word,
+    /// What stands for its value.
     pub value: SurfaceOperand,
 }
 
-/// One conjunct. A place is that of its first token.
+/// One conjunct. A place is that of its first token; where there is none, its first part has it.
 #[cycle(assertion)]
 #[derive(Debug, Drop)]
 pub enum SurfaceConjunct {
@@ -40,12 +42,15 @@ pub enum SurfaceConjunct {
 #[cycle(assertion)]
 #[derive(Debug, Drop)]
 pub struct SurfaceAssertion {
+    /// The one in front.
     pub first: Box<SurfaceConjunct>,
+    /// Those behind it, each behind its `*`.
     pub more: Vec<SurfaceConjunct>,
 }
 
 /// `[ A ]`, or `[ ]`.
 #[derive(Debug, Drop)]
 pub struct SurfaceNote {
+    /// What stands between the brackets.
     pub assertion: Option<SurfaceAssertion>,
 }

@@ -14,11 +14,13 @@ pub enum SurfaceArguments {
 /// One call.
 #[derive(Debug, Drop)]
 pub struct SurfaceCall {
+    /// The procedure.
     pub name: Word,
+    /// What stands between its round brackets.
     pub arguments: SurfaceArguments,
 }
 
-/// A command. A place is that of its first token; where there is none, it is that of the first word.
+/// A command. A place is that of its first token; where there is none, its first part has it.
 #[derive(Debug, Drop)]
 pub enum SurfaceCommand {
     /// `x = E ;`

@@ -22,24 +22,32 @@ pub enum SurfaceParameters {
 pub struct SurfaceResource {
     /// Where `resource` stands.
     pub place: Place,
+    /// Its name.
     pub name: Word,
+    /// The variables that it protects.
     pub variables: Vec<Word>,
+    /// What holds of it while it is free.
     pub invariant: SurfaceNote,
 }
 
 /// `f(x; y) [ A ] { local z; C } [ A ]`
 #[derive(Debug, Drop)]
 pub struct SurfaceProcedure {
+    /// Its name.
     pub name: Word,
+    /// What stands between its round brackets.
     pub parameters: SurfaceParameters,
+    /// Its precondition.
     pub pre: Option<SurfaceNote>,
     /// Where the body's opening brace stands.
     pub open: Place,
     /// The names of each `local`.
     pub locals: Vec<SurfaceNames>,
+    /// The commands behind them.
     pub body: Vec<SurfaceCommand>,
     /// Where the body's closing brace stands.
     pub close: Place,
+    /// Its postcondition.
     pub post: Option<SurfaceNote>,
 }
 
@@ -48,13 +56,16 @@ pub struct SurfaceProcedure {
 pub enum Item {
     /// `a, b;`
     Fields(SurfaceNames),
+    /// `resource r (x, y) [ A ]`
     Resource(SurfaceResource),
+    /// `f(x; y) [ A ] { local z; C } [ A ]`
     Procedure(SurfaceProcedure),
 }
 
 /// A file as it is written. No command and no assertion in it is deeper than 64.
 #[derive(Debug, Drop)]
 pub struct File {
+    /// What stands in it, in order.
     pub items: Vec<Item>,
     ghost shallow: { items_depth (map item_of items.items) ≤ NESTING },
 }

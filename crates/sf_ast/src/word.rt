@@ -14,25 +14,31 @@ pub struct Word {
 /// One name or more, with commas between them.
 #[derive(Debug, Drop)]
 pub struct SurfaceNames {
+    /// The one in front.
     pub first: Word,
+    /// Those behind it, each behind its comma.
     pub more: Vec<Word>,
 }
 
 /// An expression.
 #[derive(Clone, Copy, Debug, PartialEq, Eq)]
 pub enum SurfaceExpr {
+    /// A variable.
     Name(Word),
     /// `nil`
     Nil(Place),
     /// `NULL`
     Null(Place),
+    /// Digits, with a `-` in front or without.
     Number(Word),
 }
 
 /// What stands in an assertion for a value.
 #[derive(Clone, Copy, Debug, PartialEq, Eq)]
 pub enum SurfaceOperand {
+    /// An expression.
     Known(SurfaceExpr),
+    /// `_x`
     Existential(Word),
 }
 

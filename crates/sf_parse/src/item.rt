@@ -35,9 +35,13 @@ use std::alloc::Global;
 /// A procedure's body, between its braces.
 #[derive(Debug, Drop)]
 pub struct Body {
+    /// Where its opening brace stands.
     pub open: Place,
+    /// The names of each `local`.
     pub locals: Vec<SurfaceNames>,
+    /// The commands behind them.
     pub commands: Vec<SurfaceCommand>,
+    /// Where its closing brace stands.
     pub close: Place,
 }
 
