@@ -13,7 +13,8 @@ use Rattle.sf_core.specs.Syntax.{Procedure, Program}
 use Rattle.sf_calls.specs.Conditions.{Calls}
 use Rattle.sf_calls.specs.declared.text.Text.{Text}
 use Rattle.sf_calls.specs.Listed.{is_entered}
-use Rattle.sf_calls.specs.Marks.{IsCaller, AreCallers, IsTextOf, AreTexts, guards, guards_any}
+use Rattle.sf_calls.specs.Marks.{IsCaller, AreCallers}
+use Rattle.sf_calls.specs.Texts.{IsTextOf, AreTexts, guards, guards_any}
 use Rattle.sf_calls.specs.Outside.{CallsIn}
 use Rattle.sf_calls.specs.Tests.{callees_in}
 use Rattle.sf_calls.proofs.Decided.{none_in, callees_in_are}

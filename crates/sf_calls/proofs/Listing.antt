@@ -21,7 +21,7 @@ use Rattle.sf_calls.specs.Listed.{is_entered, kept, shared_in_expr, shared_in_te
 use Rattle.sf_calls.specs.Conditions.{IsShared}
 use Rattle.sf_calls.specs.Outside.{owner, IsOther, OccursInExpr, OccursInTest, IsAmong, OccursInValues, OccursInCall, OccursOutside, OccursInCommand, CallsIn, CallsInCommand, EntersIn, EntersInCommand}
 use Rattle.sf_calls.specs.declared.text.Text.{Text}
-use Rattle.sf_calls.specs.Marks.{IsTextOf}
+use Rattle.sf_calls.specs.Texts.{IsTextOf}
 use Rattle.sf_calls.specs.Sets.{IsEarlier, IsVarSet}
 use Rattle.sf_calls.proofs.InOrder.{set_same}
 use Rattle.sf_calls.proofs.Decided.{same_resource, none_in, of_both, of_none, single_is, is_single}

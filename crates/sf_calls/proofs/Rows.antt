@@ -21,7 +21,8 @@ use Rattle.sf_core.specs.View.{procedure_of}
 use Rattle.sf_calls.specs.declared.text.Text.{Text}
 use Rattle.sf_calls.specs.Conditions.{Calls, Enters, Mentions, IsShared}
 use Rattle.sf_calls.specs.Leads.{Leads, directly, through}
-use Rattle.sf_calls.specs.Marks.{IsMarked, IsCaller, AreCallers, IsRow, AreRows, IsTextOf, AreTexts, speaks_of, has, chosen}
+use Rattle.sf_calls.specs.Marks.{IsMarked, IsCaller, AreCallers, IsRow, AreRows, chosen}
+use Rattle.sf_calls.specs.Texts.{IsTextOf, AreTexts, speaks_of, has}
 use Rattle.sf_calls.specs.Listed.{is_entered}
 use Rattle.sf_calls.specs.Outside.{EntersIn, OccursOutside}
 use Rattle.sf_calls.specs.Sets.{IsEarlier, IsSetOf, IsFamily}

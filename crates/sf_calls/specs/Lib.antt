@@ -9,3 +9,4 @@ pub mod Tests
 pub mod Listed
 pub mod Laws
 pub mod Marks
+pub mod Texts

@@ -3,7 +3,8 @@
 ghost use Rattle.std.specs.Prelude.{◌≡◌, ◌↔◌, ◌⊎◌, ◌<◌, length, All, Contains, IfOk, OnOk, true};
 ghost use Rattle.sf_base.specs.declared.ids.ProcId.{ProcId};
 ghost use Rattle.sf_core.specs.Whole.{program_of};
-ghost use Rattle.sf_calls.specs.Marks.{IsCaller, AreCallers, AreTexts, guards, guards_any};
+ghost use Rattle.sf_calls.specs.Marks.{IsCaller, AreCallers};
+ghost use Rattle.sf_calls.specs.Texts.{AreTexts, guards, guards_any};
 
 use crate::outside::add_callees;
 use crate::shared::is_entered;

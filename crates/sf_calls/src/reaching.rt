@@ -5,7 +5,7 @@ ghost use Rattle.sf_core.specs.Formed.{variable_count};
 ghost use Rattle.sf_core.specs.HeldBy.{HeldBy};
 ghost use Rattle.sf_core.specs.Whole.{program_of};
 ghost use Rattle.sf_calls.specs.Conditions.{Takes, Free};
-ghost use Rattle.sf_calls.specs.Marks.{AreTexts};
+ghost use Rattle.sf_calls.specs.Texts.{AreTexts};
 ghost use Rattle.sf_calls.specs.Sets.{AreSetsOf, IsFamily, IsResSet, IsVarSet, IsSetOf, IsEarlier, IsEarlierResource, IsUpTo};
 
 use crate::calls::Calls;

@@ -4,7 +4,8 @@ ghost use Rattle.std.specs.Prelude.{◌≡◌, ◌<◌, ◌≤◌, ℕ, List, le
 ghost use Rattle.sf_core.specs.HeldBy.{HeldBy};
 ghost use Rattle.sf_core.specs.Whole.{program_of};
 ghost use Rattle.sf_calls.specs.Conditions.{Enters, Mentions, Takes, FreeIn, IsShared};
-ghost use Rattle.sf_calls.specs.Marks.{AreRows, AreTexts, IsRow, chosen, speaks_of};
+ghost use Rattle.sf_calls.specs.Marks.{AreRows, IsRow, chosen};
+ghost use Rattle.sf_calls.specs.Texts.{AreTexts, speaks_of};
 
 use crate::callers::{callers_after, callers_of};
 use crate::leading::leading;

@@ -1,5 +1,5 @@
 use Rattle.std.proofs.Common.{◌≡◌, drop}
-use Rattle.sf_calls.specs.Marks.{guards}
+use Rattle.sf_calls.specs.Texts.{guards}
 use Rattle.sf_calls.proofs.callers.guards_in.Given as goal
 
 -- what was passed has none

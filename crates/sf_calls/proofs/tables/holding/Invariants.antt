@@ -1,5 +1,5 @@
 use Rattle.std.proofs.Common.{◌≡◌, map, take}
-use Rattle.sf_calls.specs.Marks.{speaks_of}
+use Rattle.sf_calls.specs.Texts.{speaks_of}
 use Rattle.sf_calls.proofs.tables.holding.Given as goal
 
 -- the marks so far

@@ -1,5 +1,5 @@
 use Rattle.std.proofs.Common.{◌≡◌, map, take}
-use Rattle.sf_calls.specs.Marks.{has}
+use Rattle.sf_calls.specs.Texts.{has}
 use Rattle.sf_calls.proofs.tables.mentioning.Given as goal
 
 -- the marks so far
