@@ -165,15 +165,16 @@ lists_all : (x : Var) (xs : List Var) (P : Type 0) → Lists [] x xs P → Conta
 lists_all x xs P l = (λ c. ((kept_all x).0 (l.0 c).0, (l.0 c).1), λ h. l.1 ((kept_all x).1 h.0, h.1))
 
 -- the variables of a pre and a post
-spoken_are : (a b : Level Expr) (x : Var) → Contains (shared_in_level [] a ++ shared_in_level [] b) x ↔ (IsShared x × (VarOccursIn a x ⊎ VarOccursIn b x))
+pub spoken_are : (a b : Level Expr) (x : Var) → Contains (shared_in_level [] a ++ shared_in_level [] b) x ↔ (IsShared x × (VarOccursIn a x ⊎ VarOccursIn b x))
 spoken_are a b x = lists_all x _ _ (lists_both [] x _ _ _ _ (lists_level [] x a) (lists_level [] x b))
 
 -- and of a body
-mentioned_are : (a b : Level Expr) (c : Block) (x : Var) → Contains (shared_in_level [] a ++ (shared_in_level [] b ++ shared_in [] c)) x ↔ (IsShared x × (VarOccursIn a x ⊎ (VarOccursIn b x ⊎ OccursOutside x c)))
+pub mentioned_are : (a b : Level Expr) (c : Block) (x : Var) → Contains (shared_in_level [] a ++ (shared_in_level [] b ++ shared_in [] c)) x ↔ (IsShared x × (VarOccursIn a x ⊎ (VarOccursIn b x ⊎ OccursOutside x c)))
 mentioned_are a b c x = lists_all x _ _ (lists_both [] x _ _ _ _ (lists_level [] x a) (lists_both [] x _ _ _ _ (lists_level [] x b) (lists_block [] x c)))
 
+-- the regions of commands
 mutual
-  entered_are : (r : ResId) (b : Block) → Contains (entered_in b) r ↔ EntersIn r b
+  pub entered_are : (r : ResId) (b : Block) → Contains (entered_in b) r ↔ EntersIn r b
   entered_are r done = of_none r
   entered_are r (then c b) = of_both _ _ r _ _ (entered_by r c) (entered_are r b)
 

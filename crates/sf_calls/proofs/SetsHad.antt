@@ -1,9 +1,9 @@
 -- What a program's procedures take, hold and have free is had, and so are the sets of it.
-use Rattle.std.proofs.Common.{◌≡◌, ◌⊎◌, ◌↔◌, ℕ, ◌==◌, Bool, true, ◌||◌, List, Option, None, slice_get, Contains}
+use Rattle.std.proofs.Common.{◌≡◌, ◌⊎◌, ◌↔◌, ℕ, ◌==◌, Bool, true, List, [], ◌++◌, Option, None, slice_get, Contains}
 use Rattle.std.proofs.Math.Logic.{∥∥₁_map}
 use Rattle.std.proofs.Math.Nat.{ℕ_set}
 use Rattle.std.specs.Bool.{Decides}
-use Rattle.std.proofs.lemmas.Bool.Decides.{Decides-ltb, Decides-or}
+use Rattle.std.proofs.lemmas.Bool.Decides.{Decides-like, Decides-ltb}
 use Rattle.sf_base.specs.declared.ids.ProcId.{ProcId}
 use Rattle.sf_base.specs.declared.ids.ResId.{ResId}
 use Rattle.sf_base.specs.declared.ids.Var.{Var}
@@ -11,14 +11,18 @@ use Rattle.sf_base.specs.declared.ids.Var.TheVariants.{Own, Shared}
 use Rattle.sf_core.specs.HeldBy.{HeldBy}
 use Rattle.sf_core.specs.Occurs.{VarOccursIn}
 use Rattle.sf_core.specs.Syntax.{Procedure, Program}
-use Rattle.sf_calls.specs.Conditions.{Calls, Enters, Free, Has, IsShared, Mentions, Takes}
+use Rattle.sf_calls.specs.Conditions.{Calls, Enters, Free, Has, Mentions, Takes}
 use Rattle.sf_calls.specs.Laws.{SetsAreHad}
 use Rattle.sf_calls.specs.Outside.{CallsIn, EntersIn, OccursOutside, owner}
 use Rattle.sf_calls.specs.Sets.{IsEarlier, IsEarlierResource, IsFamily, IsSetOf}
-use Rattle.sf_calls.specs.Tests.{callees_in, enters_in, in_level, mentions, same_var}
-use Rattle.sf_calls.proofs.Decided.{callees_in_are, enters_in_is, in_block_is, in_level_is, same_resource, var_is}
+use Rattle.sf_calls.specs.Listed.{entered_in, is_entered, shared_in, shared_in_level}
+use Rattle.sf_calls.specs.Tests.{callees_in, same_var}
+use Rattle.sf_calls.specs.Texts.{has}
+use Rattle.sf_calls.proofs.Decided.{callees_in_are, same_resource, var_is}
 use Rattle.sf_calls.proofs.Gathered.{earlier_is}
 use Rattle.sf_calls.proofs.Had.{IsHad, had_both, had_contains, had_decided, had_exactly, had_leads, had_like, had_never, had_number, had_once, had_pairs, listed, listed_is, passes, passes_is}
+use Rattle.sf_calls.proofs.Listing.{entered_are, entered_is, mentioned_are, spoken_are}
+use Rattle.sf_calls.proofs.Rows.{has_is as list_has_is}
 
 -- the procedures that the procedure calls outside the regions of the resource that is left out
 abbrev called : Program → Option ResId → ProcId → List ProcId
@@ -32,30 +36,47 @@ called_are p but f g = listed_is (λ (h : Procedure). callees_in but h.body) (λ
 has_is : (p : Program) (t : Procedure → Bool) (P : Procedure → Type 0) → ((h : Procedure) → Decides (t h) (P h)) → (f : ProcId) → Decides (passes t (slice_get p.procedures f.0)) (Has p P f)
 has_is p t P is f = passes_is t P is (slice_get p.procedures f.0)
 
+-- the list of its regions decides whether a procedure enters a resource
+enters_is : (r : ResId) (h : Procedure) → Decides (is_entered r (entered_in h.body)) (EntersIn r h.body)
+enters_is r h = let are = entered_are r h.body in Decides-like _ are.0 are.1 (entered_is r (entered_in h.body))
+
 -- that a procedure takes a resource
 takes_had : (p : Program) (f : ProcId) (r : ResId) → IsHad (Takes p f r)
-takes_had p f r = had_leads (Enters p r) (Calls p None) _ (called p None) (has_is p (λ h. enters_in r h.body) (λ h. EntersIn r h.body) (λ h. enters_in_is r h.body)) (called_are p None) f
+takes_had p f r = had_leads (Enters p r) (Calls p None) _ (called p None) (has_is p (λ h. is_entered r (entered_in h.body)) (λ h. EntersIn r h.body) (enters_is r)) (called_are p None) f
 
--- the test decides whether a procedure mentions a variable
-mentions_is : (x : Var) (h : Procedure) → Decides (mentions x h) (VarOccursIn h.pre.level x ⊎ (VarOccursIn h.post.level x ⊎ OccursOutside x h.body))
-mentions_is x h = Decides-or _ _ (in_level_is x h.pre.level) (Decides-or _ _ (in_level_is x h.post.level) (in_block_is x h.body))
+-- the variables of resources that a procedure mentions, and those of its pre and post
+abbrev mentioned : Procedure → List Var
+mentioned h = shared_in_level [] h.pre.level ++ (shared_in_level [] h.post.level ++ shared_in [] h.body)
 
--- that a variable is a resource's
-shared_had : (x : Var) → IsHad (IsShared x)
-shared_had (Own n) = had_never (λ h. h)
-shared_had (Shared r i) = had_once hlevel
+abbrev spoken : Procedure → List Var
+spoken h = shared_in_level [] h.pre.level ++ shared_in_level [] h.post.level
+
+-- they decide whether it mentions a resource's variable
+mentions_is : (r : ResId) (i : ℕ) (h : Procedure)
+    → Decides (has (Shared r i) (mentioned h)) (VarOccursIn h.pre.level (Shared r i) ⊎ (VarOccursIn h.post.level (Shared r i) ⊎ OccursOutside (Shared r i) h.body))
+mentions_is r i h =
+    let are = mentioned_are h.pre.level h.post.level h.body (Shared r i) in
+    Decides-like _ (λ c. (are.0 c).1) (λ m. are.1 (tt, m)) (list_has_is (Shared r i) (mentioned h))
 
 -- that a variable is free in a procedure
 free_had : (p : Program) (f : ProcId) (x : Var) → IsHad (Free p f x)
-free_had p f x = had_both (shared_had x) (had_leads (Mentions p x) (Calls p (owner x)) _ (called p (owner x)) (has_is p (mentions x) _ (mentions_is x)) (called_are p (owner x)) f)
+free_had p f (Own n) = had_never (λ h. h.0)
+free_had p f (Shared r i) = had_both (had_once hlevel) (had_leads (Mentions p (Shared r i)) (Calls p (owner (Shared r i))) _ (called p (owner (Shared r i)))
+    (has_is p (λ h. has (Shared r i) (mentioned h)) _ (mentions_is r i)) (called_are p (owner (Shared r i))) f)
+
+-- whether its pre or its post speaks of one
+speaks_of_is : (r : ResId) (n : ℕ) (h : Procedure) → Decides (has (Shared r n) (spoken h)) (VarOccursIn h.pre.level (Shared r n) ⊎ VarOccursIn h.post.level (Shared r n))
+speaks_of_is r n h =
+    let are = spoken_are h.pre.level h.post.level (Shared r n) in
+    Decides-like _ (λ c. (are.0 c).1) (λ m. are.1 (tt, m)) (list_has_is (Shared r n) (spoken h))
 
 -- that variable of the resource stands in the procedure's pre or post
 abbrev speaks_at : Program → ProcId → ResId → ℕ → Bool
-speaks_at p f r n = passes (λ (h : Procedure). in_level (Shared r n) h.pre.level || in_level (Shared r n) h.post.level) (slice_get p.procedures f.0)
+speaks_at p f r n = passes (λ (h : Procedure). has (Shared r n) (spoken h)) (slice_get p.procedures f.0)
 
 -- it decides that
 speaks_is : (p : Program) (f : ProcId) (r : ResId) (n : ℕ) → Decides (speaks_at p f r n) (Has p (λ h. VarOccursIn h.pre.level (Shared r n) ⊎ VarOccursIn h.post.level (Shared r n)) f)
-speaks_is p f r n = has_is p _ _ (λ h. Decides-or _ _ (in_level_is (Shared r n) h.pre.level) (in_level_is (Shared r n) h.post.level)) f
+speaks_is p f r n = has_is p _ _ (speaks_of_is r n) f
 
 -- that a procedure holds a resource
 holds_had : (p : Program) (f : ProcId) (r : ResId) → IsHad (HeldBy p f r)
