@@ -1,25 +1,30 @@
 -- The worked instances of good configurations: ended entries, callees at their return, and resources.
 -- Names: `WHAT-holds` proves the statement of that name, `WHAT-one` gives the cell that is there, `WHAT-good` that a configuration is good.
-use Rattle.std.specs.Prelude.{◌≡◌, ◌≢◌, ℕ, List, [], ◌∷◌, Option, Some, None}
+use Rattle.std.specs.Prelude.{◌≡◌, ◌≢◌, ℕ, ◌==◌, Bool, true, false, cond, List, [], ◌∷◌, Option, Some, None}
+use Rattle.std.specs.List.{slice_get}
 use Rattle.std.specs.Option.{unwrap_or}
 use Rattle.std.proofs.Common.{sym, ap, ◌∙◌, refl, subst, inl, inr}
+use Rattle.sf_base.specs.declared.ids.ResId.{ResId}
 use Rattle.sf_base.specs.declared.value.Value.{Value}
 use Rattle.sf_base.specs.declared.value.Value.TheVariants.{Nil as nil, Loc as loc}
 use Rattle.sf_core.specs.declared.command.Expr.{Expr}
 use Rattle.sf_core.proofs.Cases.{none-not_some, some-none}
 use Rattle.sf_core.proofs.HeapSplits.{one-in, one-single, one-splits, single}
-use Rattle.sf_core.proofs.MachineInstances.{one-sat, sat-one, entry_part, entry_part-apart, set-good}
+use Rattle.sf_core.proofs.Lookup.{only-there}
+use Rattle.sf_core.proofs.MachineInstances.{one-sat, sat-one, entry_part, entry_part-apart, ended-not_bad, set-good}
 use Rattle.sf_core.proofs.MachineTasks.{task_at-running}
+use Rattle.sf_core.proofs.MapSplits.{empty_map, empty-holds, splits-empty_left, splits-empty_right, apart-none}
 use Rattle.sf_core.proofs.SegLaws.{loc-same, nil-not_loc}
+use Rattle.sf_core.proofs.StoreSplits.{resource-is, resource-same}
 use Rattle.sf_core.specs.Bad.{Bad, next_root}
-use Rattle.sf_core.specs.Config.{Frame, runs, Path, Config, seen, task_at}
+use Rattle.sf_core.specs.Config.{Frame, runs, Path, Config, seen, task_at, IsCalled}
 use Rattle.sf_core.specs.Good.{Owner, resource, task, IsOwned, Returns, Good}
-use Rattle.sf_core.specs.HeapStore.{Cell, Heap, IsOne, shared}
-use Rattle.sf_core.specs.MachineInstances.{lock, own_one, one_cell, one_cell_at, main, main_done, set, set_done, setting, one_in, ended_with, EndedIsGoodWithItsCellAlone, returning_with, ReturningIsGoodWithItsCell, shared_one, guarding, FreeResourcesHaveTheirCell, EndedWhileHeldIsNotGood}
+use Rattle.sf_core.specs.HeapStore.{Apart, Cell, Heap, IsEmpty, IsOne, shared}
+use Rattle.sf_core.specs.MachineInstances.{lock, own_one, emp, one_cell, one_cell_at, main, main_done, set, set_done, setting, one_in, ended_with, EndedIsGoodWithItsCellAlone, returning_with, ReturningIsGoodWithItsCell, shared_one, skip, skip_done, guarding, guarded, shared_in, skip_ended_with, EndedIsGoodWithTheInvariantAlone, FreeResourcesHaveTheirCell, EndedWhileHeldIsNotGood}
 use Rattle.sf_core.specs.Sat.{Foot}
 use Rattle.sf_core.specs.Start.{entry_slot}
 use Rattle.sf_core.specs.Step.{procedure_at}
-use Rattle.sf_core.specs.Syntax.{Procedure}
+use Rattle.sf_core.specs.Syntax.{Procedure, Resource}
 
 -- a footprint of one cell has it where the expression says, and so the heap has it there
 foot-one : (x : Expr) (see : Expr → Value) (heap part : Heap) (a : ℕ) → see x ≡ loc a → Foot (one_cell_at x).level see heap part → (k : Cell) × IsOne a k part × (heap a ≡ Some k)
@@ -121,3 +126,69 @@ free_resources-holds c g free =
 
 pub ended_while_held-holds : EndedWhileHeldIsNotGood
 ended_while_held-holds c path end held g = some-none path (sym held ∙ (g.finished end).free lock guarding refl)
+
+-- the whole heap is the resource's
+abbrev shared_part : Heap → Owner → Heap
+shared_part h (resource r) = λ a. cond (r.0 == 0) (h a) None
+shared_part h (task path) = λ a. None
+
+shared_part-apart : (h : Heap) (owner other : Owner) → owner ≢ other → (a : ℕ) → Apart (shared_part h owner a) (shared_part h other a)
+shared_part-apart h (resource r) (resource s) n a = go (r.0 == 0) (s.0 == 0) refl refl
+  where
+    go : (b c : Bool) → r.0 == 0 ≡ b → s.0 == 0 ≡ c → Apart (cond b (h a) None) (cond c (h a) None)
+    go true true e f = absurd (n (ap resource (resource-same r lock e ∙ sym (resource-same s lock f))))
+    go true false e f = apart-none (h a)
+    go false c e f = tt
+shared_part-apart h (resource r) (task path) n a = apart-none (cond (r.0 == 0) (h a) None)
+shared_part-apart h (task path) other n a = tt
+
+skip_ended-good : (heap : Heap) (k : Cell) → IsOne 1 k heap → Good guarded (skip_ended_with heap)
+skip_ended-good heap k o = record {
+  never_bad = ended-not_bad (skip_ended_with heap) refl;
+  part = shared_part heap;
+  apart = shared_part-apart heap;
+  invariants = invariant;
+  posts = λ path frame g r e. absurd (no_return path frame r);
+  finished = λ h. record {
+    frame = skip_done;
+    alone = refl;
+    procedure = skip;
+    there = refl;
+    free = λ r of e. refl;
+    post = record { rest = heap; splits = splits-empty_left empty-holds; sat = (λ n. nil, λ n i. refl, empty-holds) };
+    all = λ a l e. inr (lock, guarding, refl, e);
+  };
+}
+  where
+    invariant : (r : ResId) (of : Resource) → slice_get guarded.resources r.0 ≡ Some of → (skip_ended_with heap).common.held r ≡ None → Foot of.invariant.level (seen entry_slot (shared_in (loc 1))) heap (shared_part heap (resource r))
+    invariant r of e free =
+        let one = only-there guarding of r.0 e in
+        let whole : Foot guarding.invariant.level (seen entry_slot (shared_in (loc 1))) heap heap =
+        record { rest = empty_map; splits = splits-empty_right empty-holds; sat = one-sat shared_one (seen entry_slot (shared_in (loc 1))) heap 1 k refl o } in
+        subst (λ (z : Resource). Foot z.invariant.level (seen entry_slot (shared_in (loc 1))) heap (shared_part heap (resource r))) one.1
+        (subst (λ (n : ℕ). Foot guarding.invariant.level (seen entry_slot (shared_in (loc 1))) heap (λ a. cond (n == 0) (heap a) None)) (sym one.0) whole)
+
+    no_return : (path : Path) (frame : Frame) → Returns (skip_ended_with heap) path frame → ⊥
+    no_return path frame r =
+        let top : path ≡ [] = task_at-running path (skip_done ∷ []) (runs (frame ∷ r.below)) r.there in
+        let here : Some (runs (skip_done ∷ [])) ≡ Some (runs (frame ∷ r.below)) = subst (λ z. task_at z (skip_ended_with heap).tasks ≡ Some (runs (frame ∷ r.below))) top r.there in
+        let same : [] ≡ r.below = cc in
+        subst (λ z. IsCalled [] z) (sym same) (subst (λ z. IsCalled z r.below) top r.called)
+
+skip_ended-one : (heap : Heap) → Good guarded (skip_ended_with heap) → (k : Cell) × IsOne 1 k heap
+skip_ended-one heap g =
+    let end = g.finished refl in
+    let frame : skip_done ≡ end.frame = cc (end.alone) in
+    let there : Some skip ≡ Some end.procedure = subst (λ (z : Frame). procedure_at guarded z.fixed.procedure ≡ Some end.procedure) (sym frame) end.there in
+    let procedure : end.procedure ≡ skip = cc in
+    let post : Foot emp.level (seen end.frame.fixed.slots (shared_in (loc 1))) heap (g.part (task [])) =
+    subst (λ (z : Procedure). Foot z.post.level (seen end.frame.fixed.slots (shared_in (loc 1))) heap (g.part (task []))) procedure end.post in
+    let one = foot-one shared_one (seen entry_slot (shared_in (loc 1))) heap (g.part (resource lock)) 1 refl (g.invariants lock guarding refl refl) in
+    (one.0, one-whole heap (g.part (resource lock)) 1 one.0 one.1 one.2 (λ b l e. owned b l post.sat.2 (end.all b l e)))
+  where
+    owned : (b : ℕ) (l : Cell) → IsEmpty (g.part (task [])) → IsOwned guarded g.part b l → g.part (resource lock) b ≡ Some l
+    owned b l n (inl e) = absurd (none-not_some l (sym (n.none b) ∙ e))
+    owned b l n (inr e) = let at : e.0 ≡ lock = resource-is e.0 lock (only-there guarding e.1 e.0.0 e.2).0 in subst (λ z. g.part (resource z) b ≡ Some l) at e.3
+
+pub skip_ended-holds : EndedIsGoodWithTheInvariantAlone
+skip_ended-holds heap = (skip_ended-one heap, λ o. skip_ended-good heap o.0 o.1)

@@ -6,7 +6,7 @@ use Rattle.std.proofs.Common.{sym, ap, ◌∙◌, refl, subst, inl, inr, arith}
 use Rattle.sf_base.specs.declared.ids.ResId.{ResId}
 use Rattle.sf_base.specs.declared.value.Value.TheVariants.{Nil as nil}
 use Rattle.sf_core.proofs.Cases.{none-not_some}
-use Rattle.sf_core.proofs.MapSplits.{rest_of, splits-has_left, splits-has_right, splits-which, splits-rest}
+use Rattle.sf_core.proofs.MapSplits.{apart-none, rest_of, splits-has_left, splits-has_right, splits-which, splits-rest}
 use Rattle.sf_core.specs.Bad.{Bad}
 use Rattle.sf_core.specs.Config.{Frame, Task, runs, waits, left, right, Path, Config, seen, task_at}
 use Rattle.sf_core.specs.Enabled.{HasEnded}
@@ -25,10 +25,6 @@ record Family (I : Type 0) (h : Heap) : Type 0 where
   apart : (i j : I) → i ≢ j → (a : ℕ) → Apart (part i a) (part j a)
 
 -- One location
-apart-none : (x : Option Cell) → Apart x None
-apart-none None = tt
-apart-none (Some x) = tt
-
 apart-swap : (x y : Option Cell) → Apart x y → Apart y x
 apart-swap None None e = tt
 apart-swap None (Some y) e = tt

@@ -1,6 +1,6 @@
 -- The worked instances of the machine: their runs, starts and what is bad in them or not.
 -- Names: `WHAT-holds` proves the statement of that name, `side-WHAT` speaks of two tasks side by side, `ended-WHAT` of an ended entry.
-use Rattle.std.specs.Prelude.{◌≡◌, ◌≢◌, ℕ, ◌==◌, ◌&&◌, pos, Bool, true, false, cond, List, [], ◌∷◌, Option, Some, None, ◌⊎◌, ◌<◌}
+use Rattle.std.specs.Prelude.{◌≡◌, ◌≢◌, ℕ, ◌==◌, ◌&&◌, pos, Bool, true, false, cond, List, [], ◌∷◌, Some, None, ◌⊎◌, ◌<◌}
 use Rattle.std.specs.List.{slice_get}
 use Rattle.std.specs.Option.{unwrap_or}
 use Rattle.std.proofs.Common.{sym, ap, ap₂, ◌∙◌, refl, subst, inl, inr, arith}
@@ -15,14 +15,14 @@ use Rattle.sf_core.specs.declared.command.Occurrence.{Occurrence}
 use Rattle.sf_core.specs.declared.assertion.Operand.TheVariants.{Known}
 use Rattle.sf_core.proofs.Cases.{and-both, none-not_some}
 use Rattle.sf_core.proofs.HeapSplits.{at-same, one-single, put-elsewhere, star-drop_right}
-use Rattle.sf_core.proofs.MapSplits.{splits-empty_right}
+use Rattle.sf_core.proofs.MapSplits.{apart-none, splits-empty_right}
 use Rattle.sf_core.specs.Bad.{Bad}
 use Rattle.sf_core.specs.Config.{Frame, Task, runs, left, right, Path, Common, Config, seen, task_at, replaced, IsUsed, IsCalled}
 use Rattle.sf_core.specs.Enabled.{HasEnded}
 use Rattle.sf_core.specs.Good.{Owner, resource, task, Returns, Good}
 use Rattle.sf_core.specs.HeapStore.{Apart, Splits, Cell, put_field, Heap, IsOne, Slot, shared, own}
 use Rattle.sf_core.specs.HeldBy.{HeldBy}
-use Rattle.sf_core.specs.MachineInstances.{at_own, own_one, one_cell, one_cell_at, main, main_done, set, setting, one_at, one_in, event, setting_start, SettingStarts, CallMutateReturn, alone, DisposeAtNilIsBad, makes, makes_twice, FreedLocationsComeAgain, skip, forking, forking_start, ChildrenEndInAnyOrder, fill, filling, filling_start, ChildrenFillReferences, locks_and_loops, RegionThenLoop}
+use Rattle.sf_core.specs.MachineInstances.{at_own, own_one, one_cell, one_cell_at, main, main_done, set, setting, one_at, one_in, event, setting_start, SettingStarts, CallMutateReturn, alone, DisposeAtNilIsBad, makes, makes_twice, FreedLocationsComeAgain, skip, forking, forking_start, ChildrenEndInAnyOrder, fill, filling, filling_start, ChildrenFillReferences, hands_on, passing, passing_start, ReferencesArePassedOn, locks_and_loops, RegionThenLoop}
 use Rattle.sf_core.specs.Occurs.{VarOccursIn}
 use Rattle.sf_core.specs.Sat.{Sat}
 use Rattle.sf_core.specs.Start.{IsKept, entry_slot}
@@ -126,10 +126,6 @@ children_end-holds = (
 )
 
 -- One cell
-apart-none : {X : Type 0} (x : Option X) → Apart x None
-apart-none None = tt
-apart-none (Some x) = tt
-
 -- the whole, and nothing
 pub all-nothing : (whole : Heap) → Splits whole whole (λ a. None)
 all-nothing whole = splits-empty_right (record { none = λ a. refl })
@@ -209,7 +205,7 @@ entry_part-apart h (task []) (task (turn ∷ path)) n a = apart-none (h a)
 entry_part-apart h (task (turn ∷ path)) other n a = tt
 
 -- nothing bad comes after the end
-ended-not_bad : (c : Config) → HasEnded [] c.tasks → Bad c → ⊥
+pub ended-not_bad : (c : Config) → HasEnded [] c.tasks → Bad c → ⊥
 ended-not_bad c h (inl b) =
     let top : b.path ≡ [] = task_at-ended b.path c.tasks (runs (b.frame ∷ b.below)) h b.enabled.there in
     let there : task_at [] c.tasks ≡ Some (runs (b.frame ∷ b.below)) = subst (λ z. task_at z c.tasks ≡ Some (runs (b.frame ∷ b.below))) top b.enabled.there in
@@ -310,6 +306,30 @@ children_fill-holds = (
     ),
   ),
   record { first = refl; second = refl; left_gone = (refl, refl); right_gone = (refl, refl); ended = refl },
+)
+
+pub references-holds : ReferencesArePassedOn
+references-holds = (
+  _,
+  (
+    _,
+    to passing (event [] 1) passing_start _ _ _ one-new refl (hands_on, refl, refl, refl),
+    (
+      _,
+      to passing (event [] 2) _ _ _ _ two-new refl (fill, refl, refl, refl),
+      (
+        _,
+        to passing (event [] 3) _ _ _ _ three-new refl (refl, refl),
+        (
+          _,
+          to passing (event [] 4) _ _ _ _ four-new refl (tt, refl, refl),
+          (_, to passing (event [] 5) _ _ _ _ five-new refl (tt, refl, refl), refl),
+        ),
+      ),
+    ),
+  ),
+  refl,
+  refl,
 )
 
 pub region_then_loop-holds : RegionThenLoop

@@ -2,43 +2,21 @@
 -- Names: `WHAT-or_stop` gives the step or what keeps it, `WHAT-stopped` that what keeps it leaves none, `WHAT-or_not` decides.
 use Rattle.std.specs.Prelude.{◌≡◌, ◌≢◌, ℕ, List, [], ◌∷◌, Option, Some, None, ◌⊎◌, length}
 use Rattle.std.proofs.Common.{sym, ap, ◌∙◌, refl, subst, inl, inr, arith}
-use Rattle.std.proofs.Math.Decide.{ℕ_discrete}
-use Rattle.std.proofs.Math.IntN.{ℤ_discrete}
 use Rattle.std.proofs.lemmas.Bool.{cases_lt}
 use Rattle.sf_base.specs.declared.limits.TheConstants.{TURNS}
 use Rattle.sf_base.specs.declared.value.Value.{Value}
 use Rattle.sf_base.specs.declared.value.Value.TheVariants.{Nil as nil, Int as int, Loc as loc}
-use Rattle.sf_core.specs.declared.assertion.Test.{Test}
-use Rattle.sf_core.specs.declared.assertion.Test.TheVariants.{True, Equal, Differ}
 use Rattle.sf_core.specs.declared.command.Expr.{Expr}
 use Rattle.sf_core.specs.Bad.{IsAbsent}
 use Rattle.sf_core.specs.Config.{Item, command, leave, Fixed, Frame, Task, runs, waits, left, right, Path, Common, Config, seen, task_at, replaced, IsUsed, IsCalled}
 use Rattle.sf_core.specs.Enabled.{HasEnded, IsShut, IsEnabled, Thing, cell}
 use Rattle.sf_core.specs.HeapStore.{Cell, Heap}
 use Rattle.sf_core.specs.MachineLaws.{CommandMakes, FrameMakes, Makes, CommandStops, FrameStops, Stops}
-use Rattle.sf_core.specs.Sat.{IsTrueOf}
 use Rattle.sf_core.specs.Step.{Event, procedure_at, Finds, Does, Goes, TaskStep, Step}
 use Rattle.sf_core.specs.Syntax.{Command, assign, look_up, mutate, new, dispose, if, while, call, fork, with, Program}
 use Rattle.sf_core.proofs.Cases.{some-none}
+use Rattle.sf_core.proofs.SatLaws.{test-which}
 use Rattle.sf_core.proofs.MachineTasks.{enabled-may_go}
-
--- whether two values are the same
-pub value-or_not : (v w : Value) → (v ≡ w) ⊎ (v ≢ w)
-value-or_not nil nil = inl refl
-value-or_not nil (int j) = inr (λ e. absurd (cc))
-value-or_not nil (loc b) = inr (λ e. absurd (cc))
-value-or_not (int i) nil = inr (λ e. absurd (cc))
-value-or_not (int i) (int j) = elim (ℤ_discrete i j) [ yes e ↦ inl (ap int e) | no n ↦ inr (λ e. n (cc)) ]
-value-or_not (int i) (loc b) = inr (λ e. absurd (cc))
-value-or_not (loc a) nil = inr (λ e. absurd (cc))
-value-or_not (loc a) (int j) = inr (λ e. absurd (cc))
-value-or_not (loc a) (loc b) = elim (ℕ_discrete a b) [ yes e ↦ inl (ap loc e) | no n ↦ inr (λ e. n (cc)) ]
-
--- whether a test is true
-pub test-or_not : (see : Expr → Value) (test : Test Expr) → IsTrueOf see test ⊎ (IsTrueOf see test → ⊥)
-test-or_not see True = inl tt
-test-or_not see (Equal x y) = value-or_not (see x) (see y)
-test-or_not see (Differ x y) = elim (value-or_not (see x) (see y)) [ inl e ↦ inr (λ n. n e) | inr n ↦ inl n ]
 
 -- whether two paths are the same
 pub path-or_not : (path other : Path) → (path ≡ other) ⊎ (path ≢ other)
@@ -98,9 +76,9 @@ module _ (p : Program) (ev : Event) (c : Config) where
   command-or_stop f below (dispose place e) rest s z =
       elim (finds-or_not (seen f.slots c.common.store) c.common.heap e) [ inl k ↦ inl (_, _, (k.0, k.1, k.2, refl, refl)) | inr a ↦ inr a ]
   command-or_stop f below (if place test this that) rest s z =
-      elim (test-or_not (seen f.slots c.common.store) test) [ inl h ↦ inl (_, _, (refl, inl (h, refl))) | inr h ↦ inl (_, _, (refl, inr (h, refl))) ]
+      elim (test-which (seen f.slots c.common.store) test) [ inl h ↦ inl (_, _, (refl, inl (h, refl))) | inr h ↦ inl (_, _, (refl, inr (h, refl))) ]
   command-or_stop f below (while place test kept body) rest s z =
-      elim (test-or_not (seen f.slots c.common.store) test) [ inl h ↦ inl (_, _, (refl, inl (h, refl))) | inr h ↦ inl (_, _, (refl, inr (h, refl))) ]
+      elim (test-which (seen f.slots c.common.store) test) [ inl h ↦ inl (_, _, (refl, inl (h, refl))) | inr h ↦ inl (_, _, (refl, inr (h, refl))) ]
   command-or_stop f below (call place one) rest s z =
       elim (there-or_not (procedure_at p one.callee)) [ inl g ↦ inl (_, _, (g.0, g.1, refl, refl)) | inr h ↦ inr h ]
   command-or_stop f below (fork place one two) rest s z =
@@ -112,7 +90,7 @@ module _ (p : Program) (ev : Event) (c : Config) where
         ]
       ]
   command-or_stop f below (with place r test body) rest s z =
-      elim (test-or_not (seen f.slots c.common.store) test) [ inl h ↦ inl (_, _, (free-of_open (c.common.held r) s, h, refl, refl)) | inr h ↦ inr h ]
+      elim (test-which (seen f.slots c.common.store) test) [ inl h ↦ inl (_, _, (free-of_open (c.common.held r) s, h, refl, refl)) | inr h ↦ inr h ]
 
   frame-or_stop : (f : Fixed) (below : List Frame) (todo : List Item) → (IsShut c.common.held todo → ⊥) → (todo ≡ [] → IsCalled ev.task below) → MayMake (FrameMakes p ev todo)
       → ((t : Common) × (u : Task) × Goes p ev c.common f below todo t u) ⊎ FrameStops p ev.task c f todo

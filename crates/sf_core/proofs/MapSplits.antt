@@ -38,7 +38,8 @@ module _ {X : Type 0} where
   or-none None = refl
   or-none (Some x) = refl
 
-  apart-none : (x : Option X) → Apart x None
+  -- nothing is apart from anything
+  pub apart-none : (x : Option X) → Apart x None
   apart-none None = tt
   apart-none (Some x) = tt
 

@@ -1,4 +1,4 @@
--- What satisfaction depends on, and how it is decided.
+-- What satisfaction depends on, how it is decided, and that what satisfies is finite.
 -- Names: `sat-LAW` speaks of whole levels, `test-LAW`, `fields-LAW` and `value-LAW` of their parts.
 use Rattle.std.specs.Prelude.{◌≡◌, ◌≢◌, ◌⊎◌, ℕ, ◌+◌, ◌≤◌, ◌<◌, Bool, true, false, cond, ◌&&◌, leb, ltb, List, [], ◌∷◌}
 use Rattle.std.specs.Cmp.{signed_Decides}
@@ -15,10 +15,14 @@ use Rattle.sf_core.specs.declared.assertion.Test.{Test}
 use Rattle.sf_core.specs.declared.assertion.Test.TheVariants.{True, Equal, Differ}
 use Rattle.sf_core.specs.declared.command.Expr.{Expr}
 use Rattle.sf_core.specs.declared.command.Expr.TheVariants.{Var as Variable, Nil, Int}
+use Rattle.sf_core.proofs.Finite.{finite-empty, finite-one, finite-splits}
 use Rattle.sf_core.proofs.HeapSplits.{at-which, star-map}
+use Rattle.sf_core.proofs.SegLaws.{seg-finite}
+use Rattle.sf_core.proofs.TreeLaws.{tree-finite}
 use Rattle.sf_core.specs.HeapStore.{Cell, Heap}
 use Rattle.sf_core.specs.Occurs.{is_made, IsFrom, OccursIn, OccursInAll, OccursInFields, OccursInOne, OccursInTest, VarOccursIn}
 use Rattle.sf_core.specs.Sat.{HasFields, IsTrueOf, SameOutside, Sat, SatAll, SatOne, Seg, Tree, operand, value}
+use Rattle.sf_core.specs.Shape.{IsFinite}
 use Rattle.sf_core.specs.Syntax.{Conjunct, holds, points, segment, tree, choose, Level, level, Conjuncts, none, also}
 
 -- each existential is made by a scope or is from outside
@@ -143,3 +147,22 @@ sat-same_variables a before after some heap e d = sat-agree a (value before) (va
     go (Known Nil) i = refl
     go (Known (Int n)) i = refl
     go (Exists n) i = refl
+
+module _ {E : Type 0} (val : E → Value) where
+  mutual
+    -- a heap that satisfies a level is finite
+    pub sat-finite : (a : Level E) (some : ℕ → Value) (heap : Heap) → Sat a val some heap → IsFinite heap
+    sat-finite (level made cs) some heap d = sat-all_finite cs d.0 heap d.2
+
+    -- so is one that satisfies conjuncts
+    pub sat-all_finite : (cs : Conjuncts E) (some : ℕ → Value) (heap : Heap) → SatAll cs val some heap → IsFinite heap
+    sat-all_finite none some heap d = finite-empty d
+    sat-all_finite (also c cs) some heap d = finite-splits d.splits (sat-one_finite c some d.left d.first) (sat-all_finite cs some d.right d.second)
+
+    -- and one that satisfies one conjunct
+    pub sat-one_finite : (c : Conjunct E) (some : ℕ → Value) (heap : Heap) → SatOne c val some heap → IsFinite heap
+    sat-one_finite (holds p t) some heap d = finite-empty d.0
+    sat-one_finite (points p x fs) some heap d = finite-one d.3
+    sat-one_finite (segment p next x y) some heap d = seg-finite d
+    sat-one_finite (tree p left right x) some heap d = tree-finite d
+    sat-one_finite (choose p t this that) some heap d = elim (test-which (operand val some) t) [ inl i ↦ sat-finite this some heap (d.0 i) | inr n ↦ sat-finite that some heap (d.1 n) ]

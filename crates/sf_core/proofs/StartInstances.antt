@@ -1,6 +1,6 @@
 -- The worked instances of starts with a resource.
 -- Names: `WHAT-holds` proves the statement of that name.
-use Rattle.std.specs.Prelude.{◌≡◌, ℕ, zero, suc, cond, ◌==◌, ◌&&◌, [], ◌∷◌, length, Some, None, ◌<◌}
+use Rattle.std.specs.Prelude.{◌≡◌, cond, ◌==◌, ◌&&◌, [], ◌∷◌, length, Some, None, ◌<◌}
 use Rattle.std.specs.List.{slice_get}
 use Rattle.std.proofs.Common.{sym, ap, ap₂, refl, subst, inl, inr, arith}
 use Rattle.sf_base.specs.declared.ids.ResId.{ResId}
@@ -11,6 +11,7 @@ use Rattle.sf_base.specs.declared.value.Value.TheVariants.{Nil as nil, Loc as lo
 use Rattle.sf_core.proofs.Cases.{and-both, none-not_some}
 use Rattle.sf_core.proofs.GoodInstances.{at-location}
 use Rattle.sf_core.proofs.HeapSplits.{one-not_empty, one-single, at-same, star-drop_left, star-drop_right, star-empty_left, star-empty_right, star-map_left}
+use Rattle.sf_core.proofs.Lookup.{only-there}
 use Rattle.sf_core.proofs.MachineInstances.{cond-some, one-sat, sat-one}
 use Rattle.sf_core.specs.Config.{seen}
 use Rattle.sf_core.specs.HeapStore.{Slot, shared, own, ◌⋆◌}
@@ -20,11 +21,6 @@ use Rattle.sf_core.specs.Occurs.{VarOccursIn}
 use Rattle.sf_core.specs.Sat.{Sat}
 use Rattle.sf_core.specs.Start.{IsKept, Invariants, entry_slot}
 use Rattle.sf_core.specs.Syntax.{Procedure, Resource}
-
--- what stands in a list of one
-only-there : {X : Type 0} (x y : X) (n : ℕ) → slice_get (x ∷ []) n ≡ Some y → (n ≡ 0) × (x ≡ y)
-only-there x y zero e = (refl, cc)
-only-there x y (suc n) e = absurd (none-not_some y e)
 
 -- the variable of the resource stands in its invariant
 shared-occurs : VarOccursIn (one_cell_at shared_one).level (Shared lock 0)

@@ -57,5 +57,9 @@ pub slot-change_right : {whole left right : Store} (slot : Slot) (old : Value) (
 slot-change_right a old v s e = splits-comm (slot-change_left a old v (splits-comm s) e)
 
 -- resources of one number are one
+pub resource-is : (one two : ResId) → one.0 ≡ two.0 → one ≡ two
+resource-is r s e = λ i. record { 0 = e i }
+
+-- and so are those whose numbers a test finds to be the same
 pub resource-same : (one two : ResId) → one.0 == two.0 ≡ true → one ≡ two
 resource-same r s e = grind (arith, nat_tests)

@@ -1,7 +1,7 @@
--- Binary trees: precise, finite, without cycles.
+-- Binary trees: precise, finite, without cycles, without sharing.
 -- Names: `tree-LAW` speaks of `Tree left right root heap`, `leads-LAW` of the paths of a heap.
 use Rattle.std.specs.Prelude.{◌≡◌, ◌≢◌, ℕ, Some, None, ◌⊎◌}
-use Rattle.std.proofs.Common.{sym, ap, ◌∙◌, refl, subst₂, inl, inr}
+use Rattle.std.proofs.Common.{sym, ap, ◌∙◌, refl, subst, subst₂, inl, inr}
 use Rattle.sf_base.specs.declared.ids.FieldId.{FieldId}
 use Rattle.sf_base.specs.declared.value.Value.{Value}
 use Rattle.sf_base.specs.declared.value.Value.TheVariants.{Nil as nil, Loc as loc}
@@ -13,7 +13,7 @@ use Rattle.sf_core.proofs.SegLaws.{loc-same, nil-not_loc}
 use Rattle.sf_core.specs.HeapStore.{Cell, Heap, IsEmpty, IsOne, Splits}
 use Rattle.sf_core.specs.Precise.{IsPrecise}
 use Rattle.sf_core.specs.Sat.{Tree, leaf, node}
-use Rattle.sf_core.specs.Shape.{IsAcyclic, IsFinite, Leads, step, further, Points}
+use Rattle.sf_core.specs.Shape.{IsAcyclic, IsFinite, IsUnshared, Leads, step, further, Points}
 
 -- trees from one value in one heap are the same
 pub tree-same : {left right : FieldId} {root also : Value} {heap one two other another : Heap} → Tree left right root one → Tree left right also two → root ≡ also → Splits heap one other → Splits heap two another → one ≡ two
@@ -172,6 +172,55 @@ module _ {left right : FieldId} {a : ℕ} {c : Cell} {h g r x y : Heap} (o : IsO
       go (inr (inl i)) = m b (leads-within first_closed first_part ((leads-has l).0, i) l).0
       go (inr (inr i)) = n b (leads-within second_closed second_part ((leads-has l).0, i) l).0
 
+  -- no cell points to the root
+  root_not_pointed : (from : ℕ) → Points left right h from a → ⊥
+  root_not_pointed from q = go (where_is from q.cell q.here)
+    where
+      below : Has r a → ⊥
+      below k = none-not_some k.0 (sym (splits-lacks_right a c u o.here) ∙ k.1)
+
+      go : ((from ≡ a) × (q.cell ≡ c)) ⊎ ((x from ≡ Some q.cell) ⊎ (y from ≡ Some q.cell)) → ⊥
+      go (inl i) = below (below_is a (root_points a q.cell i.1 q.by))
+      go (inr (inl i)) = below (below_is a (inl (first_closed from a (points-part first_part (q.cell, i) q))))
+      go (inr (inr i)) = below (below_is a (inr (second_closed from a (points-part second_part (q.cell, i) q))))
+
+  -- the two parts below the root have nothing in common
+  parts_differ : (b : ℕ) → Has x b → Has y b → ⊥
+  parts_differ b i j = none-not_some j.0 (sym (splits-lacks_right b i.0 v i.1) ∙ j.1)
+
+  module _ (first_root : (b from : ℕ) → c left.0 ≡ loc b → Points left right x from b → ⊥) (second_root : (b from : ℕ) → c right.0 ≡ loc b → Points left right y from b → ⊥) where
+    -- what the root points to isn't pointed to from below it
+    root_apart : (from to : ℕ) (d : Cell) → d ≡ c → (d left.0 ≡ loc to) ⊎ (d right.0 ≡ loc to) → Points left right x from to ⊎ Points left right y from to → ⊥
+    root_apart from to d s (inl e) (inl q) = first_root to from (ap (λ z. z left.0) (sym s) ∙ e) q
+    root_apart from to d s (inl e) (inr q) = parts_differ to (to_first to (ap (λ z. z left.0) (sym s) ∙ e)) (second_closed from to q)
+    root_apart from to d s (inr e) (inl q) = parts_differ to (first_closed from to q) (to_second to (ap (λ z. z right.0) (sym s) ∙ e))
+    root_apart from to d s (inr e) (inr q) = second_root to from (ap (λ z. z right.0) (sym s) ∙ e) q
+
+    node-one_cell : IsUnshared left right x → IsUnshared left right y → (from other to : ℕ) → Points left right h from to → Points left right h other to → from ≡ other
+    node-one_cell m n from other to q s = go (where_is from q.cell q.here) (where_is other s.cell s.here)
+      where
+        go : ((from ≡ a) × (q.cell ≡ c)) ⊎ ((x from ≡ Some q.cell) ⊎ (y from ≡ Some q.cell)) → ((other ≡ a) × (s.cell ≡ c)) ⊎ ((x other ≡ Some s.cell) ⊎ (y other ≡ Some s.cell)) → from ≡ other
+        go (inl i) (inl j) = i.0 ∙ sym j.0
+        go (inl i) (inr (inl j)) = absurd (root_apart other to q.cell i.1 q.by (inl (points-part first_part (s.cell, j) s)))
+        go (inl i) (inr (inr j)) = absurd (root_apart other to q.cell i.1 q.by (inr (points-part second_part (s.cell, j) s)))
+        go (inr (inl i)) (inl j) = absurd (root_apart from to s.cell j.1 s.by (inl (points-part first_part (q.cell, i) q)))
+        go (inr (inr i)) (inl j) = absurd (root_apart from to s.cell j.1 s.by (inr (points-part second_part (q.cell, i) q)))
+        go (inr (inl i)) (inr (inl j)) = m.one_cell from other to (points-part first_part (q.cell, i) q) (points-part first_part (s.cell, j) s)
+        go (inr (inl i)) (inr (inr j)) = absurd (parts_differ to (first_closed from to (points-part first_part (q.cell, i) q)) (second_closed other to (points-part second_part (s.cell, j) s)))
+        go (inr (inr i)) (inr (inl j)) = absurd (parts_differ to (first_closed other to (points-part first_part (s.cell, j) s)) (second_closed from to (points-part second_part (q.cell, i) q)))
+        go (inr (inr i)) (inr (inr j)) = n.one_cell from other to (points-part second_part (q.cell, i) q) (points-part second_part (s.cell, j) s)
+
+    node-one_field : IsUnshared left right x → IsUnshared left right y → (from to : ℕ) (d : Cell) → h from ≡ Some d → d left.0 ≡ loc to → d right.0 ≡ loc to → ⊥
+    node-one_field m n from to d there l r = go (where_is from d there)
+      where
+        go : ((from ≡ a) × (d ≡ c)) ⊎ ((x from ≡ Some d) ⊎ (y from ≡ Some d)) → ⊥
+        go (inl i) = parts_differ to (to_first to (ap (λ z. z left.0) (sym i.1) ∙ l)) (to_second to (ap (λ z. z right.0) (sym i.1) ∙ r))
+        go (inr (inl i)) = m.one_field from to d i l r
+        go (inr (inr i)) = n.one_field from to d i l r
+
+    node-unshared : IsUnshared left right x → IsUnshared left right y → IsUnshared left right h
+    node-unshared m n = record { one_cell = node-one_cell m n; one_field = node-one_field m n }
+
 -- no cell of a tree points out of it
 pub tree-closed : {left right : FieldId} {root : Value} {heap : Heap} → Tree left right root heap → IsClosed left right heap
 tree-closed (leaf e m) = λ from to q. absurd (none-not_some q.cell (sym (m.none from) ∙ q.here))
@@ -185,3 +234,18 @@ tree-acyclic (node a c g r x y p o u v d f) = node-acyclic o u v (λ b i. tree-h
 -- the root of a tree is in neither of the trees below it
 pub tree-root_apart : {left right : FieldId} {root : Value} {heap : Heap} (r : Root left right root heap) → (r.first r.location ≡ None) × (r.second r.location ≡ None)
 tree-root_apart r = splits-lacks_both r.location r.apart (splits-lacks_right r.location r.here r.splits r.cell.here)
+
+-- no cell of a tree points to its root
+pub tree-root_not_pointed : {left right : FieldId} {root : Value} {heap : Heap} (location from : ℕ) → root ≡ loc location → Tree left right root heap → Points left right heap from location → ⊥
+tree-root_not_pointed b from i (leaf e m) q = nil-not_loc b (sym e ∙ i)
+tree-root_not_pointed {left} {right} {heap = heap} b from i (node a c g r x y p o u v d f) q =
+    root_not_pointed o u v (λ l j. tree-has_root l j d) (λ l j. tree-has_root l j f) (tree-closed d) (tree-closed f) from (subst (Points left right heap from) (loc-same b a (sym i ∙ p)) q)
+
+-- a tree shares nothing
+pub tree-unshared : {left right : FieldId} {root : Value} {heap : Heap} → Tree left right root heap → IsUnshared left right heap
+tree-unshared (leaf e m) = record {
+  one_cell = λ from other to q s. absurd (none-not_some q.cell (sym (m.none from) ∙ q.here));
+  one_field = λ from to d there l r. none-not_some d (sym (m.none from) ∙ there);
+}
+tree-unshared (node a c g r x y p o u v d f) =
+    node-unshared o u v (λ b i. tree-has_root b i d) (λ b i. tree-has_root b i f) (tree-closed d) (tree-closed f) (λ b from i q. tree-root_not_pointed b from i d q) (λ b from i q. tree-root_not_pointed b from i f q) (tree-unshared d) (tree-unshared f)

@@ -7,17 +7,19 @@ use Rattle.sf_base.specs.declared.value.Value.{Value}
 use Rattle.sf_base.specs.declared.value.Value.TheVariants.{Nil as nil, Loc as loc}
 use Rattle.sf_core.specs.declared.assertion.Operand.{Operand}
 use Rattle.sf_core.specs.declared.assertion.Test.{Test}
+use Rattle.sf_core.specs.declared.assertion.Test.TheVariants.{Equal}
 use Rattle.sf_core.specs.declared.command.Expr.{Expr}
 use Rattle.sf_core.proofs.DeterminedLaws.{determined-fixes, determined-precise}
 use Rattle.sf_core.proofs.Cases.{none-not_some, some-same}
-use Rattle.sf_core.proofs.HeapSplits.{at-other, one-in, one-not_empty, one-same_place, one-single, one-splits, remove_cell, star-drop_right, star-empty_right, star-map_right, star-of}
-use Rattle.sf_core.proofs.MapSplits.{empty_map, empty-holds, splits-empty_right, splits-lacks_right, splits-of_empty_right}
+use Rattle.sf_core.proofs.HeapSplits.{at-other, at-which, one-in, one-not_empty, one-same_place, one-single, one-splits, remove_cell, star-drop_right, star-empty_right, star-map_right, star-of}
+use Rattle.sf_core.proofs.MapSplits.{empty_map, empty-holds, splits-empty_right, splits-has_right, splits-lacks_right, splits-of_empty_right}
+use Rattle.sf_core.proofs.SatLaws.{value-which}
 use Rattle.sf_core.proofs.SegLaws.{loc-same, nil-not_loc, seg-first, seg-one}
 use Rattle.sf_core.specs.Determined.{CanBeTaken, Determined, HasOrder, IsReady, Leaves, all_taken, branches, plain, take}
-use Rattle.sf_core.specs.HeapStore.{Cell, Heap, IsOne}
-use Rattle.sf_core.specs.Instances.{ChoiceGoesByItsTest, CircleIsNoSegment, ExistentialIsFixed, ExistentialIsTheFieldsValue, NoLessIsACellAndAList, OneNodeIsATree, OrderIsFound, SegmentMayEndAtAnAbsentCell, TreeOfAnUnknownIsUndetermined, TwoCellsAreACellAndAList, cell_and_list, cell_of_unknown, l, nothing, one_cell, one_scope, place, r, tail, tl, two_cells, unknown, where_are, x, y}
-use Rattle.sf_core.specs.Sat.{SameOutside, SatAll, Seg, end, cell, leaf, node, value}
-use Rattle.sf_core.specs.Syntax.{Conjunct, Conjuncts, Level, none, also, choose, points, segment, tree}
+use Rattle.sf_core.specs.HeapStore.{Cell, Heap, IsOne, Splits, ◌⋆◌}
+use Rattle.sf_core.specs.Instances.{ChoiceGoesByItsTest, CircleIsNoSegment, ExistentialIsFixed, ExistentialIsTheFieldsValue, NoLessIsACellAndAList, OneNodeIsATree, OrderIsFound, SegmentMayEndAtAnAbsentCell, TreeOfAnUnknownIsUndetermined, TwoCellsAreACellAndAList, cell_and_list, cell_of_unknown, l, nothing, one_cell, one_scope, place, r, tail, tl, two_cells, unknown, where_are, x, y, ExistentialDecidesAChoice, ExistentialOfABranchIsMadeThere, no_scope}
+use Rattle.sf_core.specs.Sat.{SameOutside, SatAll, Seg, end, cell, leaf, node, value, SatOne}
+use Rattle.sf_core.specs.Syntax.{Conjunct, Conjuncts, Level, none, also, choose, points, segment, tree, level}
 
 loc-not_nil : (location : ℕ) → loc location ≢ nil
 loc-not_nil a e = nil-not_loc a (sym e)
@@ -69,6 +71,55 @@ existential-field location here w = (
       let same = one-same_place (one-single location here) (subst (IsOne e.first.0 e.first.1) (sym whole) e.first.3) in
       ap (λ c. c 0) same.1 ∙ e.first.4.0 ∙ e.second.1,
   λ e. (λ n. cond (n == 0) w nil, field-outside w, star-of (splits-empty_right empty-holds) (location, here, refl, one-single location here, (e, tt)) (star-empty_right (empty-holds, refl))),
+)
+
+-- beside the only cell of a heap there is none
+beside_none : (location other : ℕ) (here more : Cell) (left right : Heap) → Splits (one_cell location here) left right → left location ≡ Some here → IsOne other more right → ⊥
+beside_none location other here more left right s e o =
+    let there : one_cell location here other ≡ Some more = splits-has_right other more s o.here in
+    let same : other ≡ location = elim (at-which location other) [ inl i ↦ i | inr n ↦ absurd (none-not_some more (sym ((one-single location here).elsewhere other n) ∙ there)) ] in
+    none-not_some more (sym (splits-lacks_right location here s e) ∙ ap right (sym same) ∙ o.here)
+
+pub existential-choice : ExistentialDecidesAChoice
+existential-choice location here w = (
+  λ d. forth (star-map_right (λ part f. star-drop_right f) d.2),
+  λ e. (
+    λ n. nil,
+    λ n o. refl,
+    star-of (splits-empty_right empty-holds) (location, here, refl, one-single location here, (e, tt)) (star-empty_right ((λ i. (λ n. nil, λ n o. refl, empty-holds)), (λ n. absurd (n refl)))),
+  ),
+)
+  where
+    forth : {some : ℕ → Value}
+        → (SatOne (points place x ((tl, unknown) ∷ [])) (value (where_are (loc location) w)) some
+        ⋆ SatOne (choose place (Equal unknown nothing) (level no_scope none) (level no_scope (also (points place y []) none))) (value (where_are (loc location) w)) some) (one_cell location here) → here 0 ≡ nil
+    forth {some} d =
+        let at : location ≡ d.first.0 = loc-same location d.first.0 d.first.2 in
+        let same : here ≡ d.first.1 = some-same here d.first.1 (sym (one-single location here).here ∙ ap (one_cell location here) at ∙ one-in d.first.3 d.splits) in
+        let is : here 0 ≡ some 0 = ap (λ (k : Cell). k 0) same ∙ d.first.4.0 in
+        elim (value-which (some 0) nil) [
+          | inl e ↦ is ∙ e
+          | inr n ↦ let f = star-drop_right (d.second.1 n).2 in absurd (beside_none location f.0 here f.1 d.left d.right d.splits (ap d.left at ∙ d.first.3.here ∙ ap Some (sym same)) f.3)
+        ]
+
+pub existential-branch : ExistentialOfABranchIsMadeThere
+existential-branch w = (
+  (
+    λ n. nil,
+    λ n o. refl,
+    star-empty_right (
+      (λ i. absurd (loc-not_nil 1 i)),
+      (λ n. (
+        λ n. cond (n == 0) (loc 2) nil,
+        field-outside (loc 2),
+        star-of (one-splits 1 (tail (loc 2)) two_cells refl) (1, tail (loc 2), refl, one-single 1 (tail (loc 2)), (refl, tt)) (star-empty_right (2, tail nil, refl, second-is_one, tt)),
+      )),
+    ),
+  ),
+  λ heap. (
+    λ d. ((star-drop_right d.2).0 refl).2,
+    λ m. (λ n. nil, λ n o. refl, star-empty_right ((λ i. (λ n. nil, λ n o. refl, m)), (λ n. absurd (n refl)))),
+  ),
 )
 
 pub one_node-tree : OneNodeIsATree

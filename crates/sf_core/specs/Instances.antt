@@ -110,6 +110,25 @@ field_is = level one_scope (also (points place x ((tl, unknown) ∷ [])) (also (
 abbrev pub ExistentialIsTheFieldsValue : Type 0
 ExistentialIsTheFieldsValue = (location : ℕ) (cell : Cell) (w : Value) → Satisfies (one_cell location cell) field_is (loc location) w ↔ (cell 0 ≡ w)
 
+-- x|->tl:_u * if _u == nil then emp else y|->
+abbrev pub field_decides : Level Expr
+field_decides = level one_scope (
+    also (points place x ((tl, unknown) ∷ []))
+    (also (choose place (Equal unknown nothing) (level no_scope none) (level no_scope (also (points place y []) none))) none))
+
+-- an existential in the test of a choice decides it: of one cell this holds exactly where its field is nil
+abbrev pub ExistentialDecidesAChoice : Type 0
+ExistentialDecidesAChoice = (location : ℕ) (cell : Cell) (w : Value) → Satisfies (one_cell location cell) field_decides (loc location) w ↔ (cell 0 ≡ nil)
+
+-- if x == nil then emp else (x|->tl:_u * _u|->)
+abbrev pub branch_makes : Level Expr
+branch_makes = level no_scope (
+    also (choose place (Equal x nothing) (level no_scope none) (level one_scope (also (points place x ((tl, unknown) ∷ [])) (also (points place unknown []) none)))) none)
+
+-- an existential of a branch has a value where that branch is chosen, and is no matter where the other is
+abbrev pub ExistentialOfABranchIsMadeThere : Type 0
+ExistentialOfABranchIsMadeThere = (w : Value) → Satisfies two_cells branch_makes (loc 1) w × ((heap : Heap) → Satisfies heap branch_makes nil w ↔ IsEmpty heap)
+
 -- a node whose fields are nil is a tree
 abbrev pub OneNodeIsATree : Type 0
 OneNodeIsATree = (location : ℕ) (w : Value) → Satisfies (one_cell location (λ field. nil)) (level no_scope (also (tree place l r x) none)) (loc location) w

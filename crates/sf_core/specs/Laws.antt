@@ -15,7 +15,7 @@ use Rattle.sf_core.specs.HeapStore.{Heap, Splits}
 use Rattle.sf_core.specs.Occurs.{OccursInAll, VarOccursIn}
 use Rattle.sf_core.specs.Precise.{IsPrecise}
 use Rattle.sf_core.specs.Sat.{Foot, Sat, SatAll, SatOne, Seg, Tree, operand, value}
-use Rattle.sf_core.specs.Shape.{IsAcyclic, IsFinite}
+use Rattle.sf_core.specs.Shape.{IsAcyclic, IsFinite, IsUnshared}
 use Rattle.sf_core.specs.Syntax.{Conjunct, Conjuncts, Level, level, points, segment, tree}
 
 -- the two parts of a heap may be exchanged
@@ -49,6 +49,15 @@ SegmentsCompose = (next : FieldId) (from middle to : Value) (heap one two : Heap
 abbrev pub TreeIsFiniteAndAcyclic : Type 0
 TreeIsFiniteAndAcyclic = (place : Place) (left right : FieldId) (root : Operand Expr) (vars : Var → Value) (some : ℕ → Value) (heap : Heap)
     → SatOne (tree place left right root) (value vars) some heap → IsFinite heap × IsAcyclic left right heap
+
+-- where a tree holds, no location is shared: none is pointed to from two cells, nor by both fields of one
+abbrev pub TreeSharesNothing : Type 0
+TreeSharesNothing = (place : Place) (left right : FieldId) (root : Operand Expr) (vars : Var → Value) (some : ℕ → Value) (heap : Heap)
+    → SatOne (tree place left right root) (value vars) some heap → IsUnshared left right heap
+
+-- a heap that satisfies an assertion is finite
+abbrev pub SatisfyingHeapsAreFinite : Type 0
+SatisfyingHeapsAreFinite = (assertion : Level Expr) (vars : Var → Value) (some : ℕ → Value) (heap : Heap) → Sat assertion (value vars) some heap → IsFinite heap
 
 -- a segment between two values and a tree from a value are at most one part of each heap
 abbrev pub SegmentsAndTreesArePrecise : Type 0

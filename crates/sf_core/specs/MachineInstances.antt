@@ -266,6 +266,27 @@ ChildrenFillReferences =
     (c : Config) × (d : Config) × Reach filling filling_start (event [] 1 ∷ []) c × IsForked c
     × Reach filling c (event (left ∷ []) 2 ∷ event (right ∷ []) 3 ∷ event (right ∷ []) 4 ∷ event (left ∷ []) 5 ∷ event [] 6 ∷ []) d × IsFilled d
 
+-- hands_on(x;) [] { fill(x; 3); } []
+abbrev pub hands_on : Procedure
+hands_on = procedure (codes "x" ∷ []) 1 0 emp (then (call here (fills 0 3)) done)
+
+-- passes(a;) [] { hands_on(a;); } []
+abbrev pub passes : Procedure
+passes = procedure (codes "a" ∷ []) 1 0 emp (then (call here (record { callee = record { 0 = 2 }; place = here; references = at_own 0 ∷ []; values = [] })) done)
+
+-- the three, with no resource
+abbrev pub passing : Program
+passing = record { fields = codes "hd" ∷ []; resources = []; procedures = passes ∷ fill ∷ hands_on ∷ [] }
+
+-- `passes` starts with its variable at nil
+abbrev pub passing_start : Config
+passing_start = beginning (record { 0 = 0 }) passes (one_in nil) (λ a. None)
+
+-- a reference that is passed on as a reference is still the first caller's variable: two calls, an assignment and two returns set it
+abbrev pub ReferencesArePassedOn : Type 0
+ReferencesArePassedOn = (d : Config) × Reach passing passing_start (event [] 1 ∷ event [] 2 ∷ event [] 3 ∷ event [] 4 ∷ event [] 5 ∷ []) d
+    × (d.common.store (own 0 0) ≡ Some (int (pos 3))) × HasEnded [] d.tasks
+
 -- with lock when (true) { x = nil; } while (x == nil) [] { x = 7; }
 abbrev pub locks_and_loops : List Item
 locks_and_loops = command (with here lock True (then (assign here (at_own 0) Nil) done)) ∷ command (while here (Equal (own_one 0) Nil) emp (then (assign here (at_own 0) (Int (pos 7))) done)) ∷ []
@@ -325,6 +346,26 @@ takes = procedure [] 0 0 (one_cell_at shared_one) done
 abbrev pub guarded : Program
 guarded = record { fields = codes "hd" ∷ []; resources = guarding ∷ []; procedures = skip ∷ takes ∷ [] }
 
+-- the variable of the resource has that value, and there are no others
+abbrev pub shared_in : Value → Store
+shared_in v = λ slot. cond (same_slot slot (shared lock 0)) (Some v) None
+
+-- the entry's frame of `skip` with nothing more to do
+abbrev pub skip_done : Frame
+skip_done = record { fixed = (entry_frame (record { 0 = 0 }) skip).fixed; todo = [] }
+
+-- `skip` has ended with that heap, the resource free and its variable at location 1
+abbrev pub skip_ended_with : Heap → Config
+skip_ended_with heap = record {
+  common = record { heap = heap; store = shared_in (loc 1); held = λ r. None };
+  used = 0 ∷ [];
+  tasks = runs (skip_done ∷ []);
+}
+
+-- that is good exactly where the heap is the one cell of the invariant, which is the resource's and so isn't left over
+abbrev pub EndedIsGoodWithTheInvariantAlone : Type 0
+EndedIsGoodWithTheInvariantAlone = (heap : Heap) → Good guarded (skip_ended_with heap) ↔ ((k : Cell) × IsOne 1 k heap)
+
 -- the heap has a cell where the variable of the resource says
 pub record HasSharedCell (store : Store) (heap : Heap) : Type 0 where
   pub location : ℕ
@@ -339,10 +380,6 @@ FreeResourcesHaveTheirCell = (c : Config) → Good guarded c → c.common.held l
 -- where the entry has ended while some task holds the resource, the configuration isn't good
 abbrev pub EndedWhileHeldIsNotGood : Type 0
 EndedWhileHeldIsNotGood = (c : Config) (path : Path) → HasEnded [] c.tasks → c.common.held lock ≡ Some path → Good guarded c → ⊥
-
--- the variable of the resource has that value, and there are no others
-abbrev pub shared_in : Value → Store
-shared_in v = λ slot. cond (same_slot slot (shared lock 0)) (Some v) None
 
 -- `skip` starts at the one cell of the invariant
 abbrev pub SkipStartsWithTheInvariant : Type 0

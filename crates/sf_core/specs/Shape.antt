@@ -21,6 +21,11 @@ pub data Leads (left right : FieldId) (heap : Heap) : ℕ → ℕ → Type 0 whe
   step : {from to : ℕ} → Points left right heap from to → Leads left right heap from to
   further : {from to : ℕ} (via : ℕ) → Points left right heap from via → Leads left right heap via to → Leads left right heap from to
 
+-- each location is pointed to from one cell at most, and from there by one of the two fields
+pub record IsUnshared (left right : FieldId) (heap : Heap) : Type 0 where
+  pub one_cell : (from other to : ℕ) → Points left right heap from to → Points left right heap other to → from ≡ other
+  pub one_field : (from to : ℕ) (cell : Cell) → heap from ≡ Some cell → cell left.0 ≡ loc to → cell right.0 ≡ loc to → ⊥
+
 -- no location leads back to itself
 abbrev pub IsAcyclic : (left right : FieldId) → Heap → Type 0
 IsAcyclic left right heap = (location : ℕ) → Leads left right heap location location → ⊥

@@ -1,6 +1,6 @@
 //! Small heaps and assertions, worked out. Each function does nothing; its contract is the result.
 
-ghost use Rattle.sf_core.specs.Instances.{TwoCellsAreACellAndAList, NoLessIsACellAndAList, ChoiceGoesByItsTest, ExistentialIsTheFieldsValue, OneNodeIsATree, SegmentMayEndAtAnAbsentCell, CircleIsNoSegment, OrderIsFound, TreeOfAnUnknownIsUndetermined, ExistentialIsFixed};
+ghost use Rattle.sf_core.specs.Instances.{TwoCellsAreACellAndAList, NoLessIsACellAndAList, ChoiceGoesByItsTest, ExistentialIsTheFieldsValue, OneNodeIsATree, SegmentMayEndAtAnAbsentCell, CircleIsNoSegment, OrderIsFound, TreeOfAnUnknownIsUndetermined, ExistentialIsFixed, ExistentialDecidesAChoice, ExistentialOfABranchIsMadeThere};
 
 /// `x|->tl:y * ls(y,nil)` holds of two cells in a row.
 pub fn two_cells_are_a_cell_and_a_list()
@@ -20,6 +20,17 @@ pub fn choice_goes_by_its_test()
 /// In `x|->tl:_u * _u == y` the existential takes the field's value.
 pub fn existential_is_the_fields_value()
     ensures { ExistentialIsTheFieldsValue }
+{}
+
+/// In `x|->tl:_u * if _u == nil then emp else y|->` the existential decides the choice.
+pub fn existential_decides_a_choice()
+    ensures { ExistentialDecidesAChoice }
+{}
+
+/// In `if x == nil then emp else (x|->tl:_u * _u|->)` the existential has a value in its branch
+/// alone.
+pub fn existential_of_a_branch_is_made_there()
+    ensures { ExistentialOfABranchIsMadeThere }
 {}
 
 /// A node whose two fields are nil is a tree.

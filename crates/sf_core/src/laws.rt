@@ -1,6 +1,6 @@
 //! Laws of heaps and assertions. Each function does nothing; its contract is the law.
 
-ghost use Rattle.sf_core.specs.Laws.{UnionIsCommutative, UnionIsAssociative, UnionCancels, PointsToHasExactlyOneCell, SegmentHasNoCellAtItsEnd, SegmentsCompose, TreeIsFiniteAndAcyclic, SegmentsAndTreesArePrecise, SatSpeaksOfOccurringVariables, DeterminedHasOneFootprint, DeterminedFixesExistentials, EachExistentialBecomesKnown, AnyReadyConjunctMayComeFirst};
+ghost use Rattle.sf_core.specs.Laws.{UnionIsCommutative, UnionIsAssociative, UnionCancels, PointsToHasExactlyOneCell, SegmentHasNoCellAtItsEnd, SegmentsCompose, TreeIsFiniteAndAcyclic, SegmentsAndTreesArePrecise, SatSpeaksOfOccurringVariables, DeterminedHasOneFootprint, DeterminedFixesExistentials, EachExistentialBecomesKnown, AnyReadyConjunctMayComeFirst, TreeSharesNothing, SatisfyingHeapsAreFinite};
 
 /// The two parts of a heap may be exchanged.
 pub fn union_of_heaps_is_commutative()
@@ -35,6 +35,16 @@ pub fn segments_compose()
 /// A tree's heap is finite and has no cycle.
 pub fn tree_is_finite_and_acyclic()
     ensures { TreeIsFiniteAndAcyclic }
+{}
+
+/// In a tree's heap no location is pointed to twice.
+pub fn tree_shares_nothing()
+    ensures { TreeSharesNothing }
+{}
+
+/// A heap that satisfies an assertion is finite.
+pub fn satisfying_heaps_are_finite()
+    ensures { SatisfyingHeapsAreFinite }
 {}
 
 /// Of each heap at most one part is a given segment, or a given tree.

@@ -8,6 +8,7 @@ ghost use Rattle.sf_core.specs.MachineInstances.{
   ChildrenFillReferences,
   DisposeAtNilIsBad,
   EndedIsGoodWithItsCellAlone,
+  EndedIsGoodWithTheInvariantAlone,
   EndedWhileHeldIsNotGood,
   FreeResourcesHaveTheirCell,
   FreedLocationsComeAgain,
@@ -15,6 +16,7 @@ ghost use Rattle.sf_core.specs.MachineInstances.{
   HoldersDoNotStart,
   MutationAndLookUpRace,
   NewAndLookUpDoNotRace,
+  ReferencesArePassedOn,
   RegionThenLoop,
   ReturningIsGoodWithItsCell,
   SettingStarts,
@@ -83,6 +85,11 @@ pub fn children_fill_references()
     ensures { ChildrenFillReferences }
 {}
 
+/// A reference that is passed on as a reference names the first caller's variable.
+pub fn references_are_passed_on()
+    ensures { ReferencesArePassedOn }
+{}
+
 /// A task enters a region and leaves it, goes once round a loop, and out of it.
 pub fn region_then_loop()
     ensures { RegionThenLoop }
@@ -97,6 +104,12 @@ pub fn ended_is_good_with_its_cell_alone()
 /// A callee at its return is good exactly where the heap has the cell of its postcondition.
 pub fn returning_is_good_with_its_cell()
     ensures { ReturningIsGoodWithItsCell }
+{}
+
+/// An ended entry of a program with a resource is good exactly where its heap is the one cell of
+/// the invariant, which is the resource's.
+pub fn ended_is_good_with_the_invariant_alone()
+    ensures { EndedIsGoodWithTheInvariantAlone }
 {}
 
 /// Whenever a resource is free, a good configuration has the cell of its invariant.
