@@ -1,5 +1,5 @@
 -- The existentials of levels, conjunct by conjunct.
-use Rattle.std.proofs.Common.{◌≡◌, ℕ, List, [], ◌∷◌, ◌++◌, map, refl, sym, ◌∙◌, ap, append-nil, append_assoc}
+use Rattle.std.proofs.Common.{◌≡◌, List, [], ◌∷◌, ◌++◌, map, sym, ◌∙◌, ap, append-nil, append_assoc}
 use Rattle.sf_ast.specs.declared.word.Word.{Word}
 use Rattle.sf_ast.specs.Surface as s
 use Rattle.sf_ast.specs.View.{conjuncts, conjunct_of, assertion_of}

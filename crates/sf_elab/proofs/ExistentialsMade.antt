@@ -29,7 +29,7 @@ reached_both bytes reach [] ys h = (tt, h)
 reached_both bytes reach (x ∷ xs) ys h = let rest = reached_both bytes reach xs ys h.1 in ((h.0, rest.0), rest.1)
 
 -- what is in reach once one more is met
-met_reach : (bytes : List ℕ) (l : Levels) (w : Word) → Levels.reach (meet bytes l w) ≡ declare (text bytes w) (length l.names) l.reach
+pub met_reach : (bytes : List ℕ) (l : Levels) (w : Word) → Levels.reach (meet bytes l w) ≡ declare (text bytes w) (length l.names) l.reach
 met_reach bytes l w = go (has (text bytes w) l.reach)
   where
     go : (t : Bool) → Levels.reach (cond t l (record { reach = l.reach ++ (text bytes w, length l.names) ∷ []; names = l.names ++ text bytes w ∷ [] })) ≡ cond t l.reach (l.reach ++ (text bytes w, length l.names) ∷ [])

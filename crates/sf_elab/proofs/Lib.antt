@@ -13,6 +13,7 @@ pub mod Limits
 pub mod NamedFields
 pub mod NoFaults
 pub mod OwnVariables
+pub mod Scopes
 pub mod ScopesNumbered
 pub mod TableLaws
 pub mod Tables

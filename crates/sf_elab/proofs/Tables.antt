@@ -6,7 +6,7 @@ use Rattle.std.specs.declared.string.String.{String}
 use Rattle.std.specs.String.{string_bytes, string_eq}
 use Rattle.std.proofs.lemmas.List.{map-append}
 use Rattle.indexmap.specs.IndexMap.{insert_entry}
-use Rattle.sf_elab.specs.Table.{Table, find, has, declare}
+use Rattle.sf_elab.specs.Table.{Table, find, declare}
 
 -- the names of a map's keys, with their values
 abbrev pub named : {Z X : Type 0} → List (String Z × X) → Table X

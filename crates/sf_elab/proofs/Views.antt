@@ -1,5 +1,5 @@
 -- The surface tree of the code, one layer at a time.
-use Rattle.std.proofs.Common.{◌≡◌, map, rules, refl}
+use Rattle.std.proofs.Common.{◌≡◌, map}
 use Rattle.sf_ast.specs.declared.assertion.SurfaceAssertion.{SurfaceAssertion}
 use Rattle.sf_ast.specs.declared.assertion.SurfaceConjunct.TheFolds as folds
 use Rattle.sf_ast.specs.View.{assertion_of, conjunct_of, conjuncts, conjunct_step, assertion_step}

@@ -1,13 +1,12 @@
 -- The assertions of a file, numbered, and what is wrong with names in them.
 -- `emp` and parentheses vanish, so the conjuncts of a level are one list. `NULL` is `nil`, `list(E)` is `ls(E,nil)`, and `lseg` is `ls`.
 -- The assertions of Berdine, Calcagno and O'Hearn, "Smallfoot" (2005), with this project's own numbering.
-use Rattle.std.specs.Prelude.{ℕ, Bool, not, is_some, List, [], ◌∷◌, ◌++◌, Option, Some, None, unwrap_or, if◌then◌else◌}
+use Rattle.std.specs.Prelude.{Bool, not, List, [], ◌∷◌, ◌++◌, Option, Some, None, unwrap_or}
 use Rattle.sf_base.specs.declared.ids.FieldId.{FieldId}
 use Rattle.sf_base.specs.declared.place.Place.{Place}
 use Rattle.sf_ast.specs.declared.assertion.SurfaceField.{SurfaceField}
 use Rattle.sf_ast.specs.declared.word.SurfaceOperand.{SurfaceOperand}
 use Rattle.sf_ast.specs.declared.word.SurfaceOperand.TheVariants as o
-use Rattle.sf_ast.specs.declared.word.Word.{Word}
 use Rattle.sf_ast.specs.Surface.{Conjunct, emp, group, choose, choose_round, equal, differ, points, ls, lseg, list, tree, Assertion, only, star, Note, blank, filled}
 use Rattle.sf_core.specs.declared.assertion.Operand.{Operand}
 use Rattle.sf_core.specs.declared.assertion.Operand.TheVariants.{Known, Exists}
@@ -21,7 +20,7 @@ use Rattle.sf_elab.specs.declared.fault.Fault.TheVariants.{Twice, Missing}
 use Rattle.sf_elab.specs.declared.fault.Link.{Link}
 use Rattle.sf_elab.specs.declared.fault.Link.TheVariants.{Next, Left, Right}
 use Rattle.sf_elab.specs.declared.levels.Levels.{Levels}
-use Rattle.sf_elab.specs.Existentials.{no_levels, opened, closed, made_by, after_conjunct, after, after_level}
+use Rattle.sf_elab.specs.Existentials.{no_levels, opened, made_by, after_conjunct, after_level}
 use Rattle.sf_elab.specs.Faults.{where_, link_name}
 use Rattle.sf_elab.specs.InSight.{Sight, expr_of, expr_faults, expr_place, test_of, test_faults, field_of, field_faults}
 use Rattle.sf_elab.specs.Table.{Table, find, has, declare}

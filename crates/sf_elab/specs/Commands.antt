@@ -1,11 +1,10 @@
 -- The commands of a file, numbered, and what is wrong with names in them.
 -- Blocks vanish: their commands stand in their place. A command stands where its first token does.
 -- The commands of Berdine, Calcagno and O'Hearn, "Smallfoot" (2005), with this project's own numbering.
-use Rattle.std.specs.Prelude.{ℕ, ◌==◌, ◌&&◌, Bool, not, is_some, cond, List, [], ◌∷◌, ◌++◌, map, length}
+use Rattle.std.specs.Prelude.{◌==◌, ◌&&◌, Bool, not, cond, List, [], ◌∷◌, ◌++◌, map, length}
 use Rattle.sf_ast.specs.declared.word.SurfaceExpr.{SurfaceExpr}
 use Rattle.sf_ast.specs.declared.word.Word.{Word}
 use Rattle.sf_ast.specs.Surface.{Arguments, values, both, Call, Command, assign, look_up, new, mutate, dispose, dispose_round, when, if, while, with, call, fork, block, Commands, done, then}
-use Rattle.sf_core.specs.declared.command.Occurrence.{Occurrence}
 use Rattle.sf_core.specs.Syntax as c
 use Rattle.sf_core.specs.View as v
 use Rattle.sf_elab.specs.declared.fault.Fault.{Fault}

@@ -1,8 +1,8 @@
 -- Elaborates: the program that a file's tree is, and its first fault where it is none.
 -- The numbering of names is the usual resolution of identifiers; the scopes are this language's own.
-use Rattle.std.specs.Prelude.{◌≡◌, ℕ, ◌+◌, List, [], ◌∷◌, ◌++◌, map, Option, Some, None}
+use Rattle.std.specs.Prelude.{◌≡◌, ℕ, ◌+◌, List, [], ◌∷◌, ◌++◌, map, Some, None}
 use Rattle.std.specs.Option.{option_map}
-use Rattle.sf_ast.specs.Surface.{Resource, Procedure, Item}
+use Rattle.sf_ast.specs.Surface.{Resource, Item}
 use Rattle.sf_core.specs.Syntax as c
 use Rattle.sf_elab.specs.declared.declared.Declared.{Declared}
 use Rattle.sf_elab.specs.declared.fault.Fault.{Fault}

@@ -1,7 +1,7 @@
 -- Which existentials a level makes, and their numbers.
 -- A level is an assertion without the insides of its branches, or a branch without the insides of its own. It makes the existentials that occur in it, anywhere, and are in reach from no level around it.
 -- This project's own scopes of existentials.
-use Rattle.std.specs.Prelude.{ℕ, ◌-◌, if◌then◌else◌, List, [], ◌∷◌, ◌++◌, length, unwrap_or}
+use Rattle.std.specs.Prelude.{ℕ, ◌-◌, if◌then◌else◌, List, [], ◌∷◌, ◌++◌, length}
 use Rattle.sf_ast.specs.declared.assertion.SurfaceField.{SurfaceField}
 use Rattle.sf_ast.specs.declared.word.SurfaceOperand.{SurfaceOperand}
 use Rattle.sf_ast.specs.declared.word.SurfaceOperand.TheVariants as o

@@ -1,6 +1,6 @@
 -- What can be wrong with names, and which fault is the first: by line, by column, and at one place by its kind.
 -- This project's own kinds of faults.
-use Rattle.std.specs.Prelude.{◌≡◌, ℕ, Bool, ◌&&◌, ◌||◌, ◌==◌, nat_lt, if◌then◌else◌, List, [], ◌∷◌, Option, Some, None}
+use Rattle.std.specs.Prelude.{ℕ, Bool, ◌&&◌, ◌||◌, ◌==◌, nat_lt, if◌then◌else◌, List, [], ◌∷◌, Option, Some, None}
 use Rattle.sf_base.specs.declared.place.Place.{Place}
 use Rattle.sf_core.specs.Formed.{next_name, left_name, right_name}
 use Rattle.sf_elab.specs.declared.fault.Fault.{Fault}

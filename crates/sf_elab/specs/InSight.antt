@@ -1,8 +1,7 @@
 -- What names stand for at a place of a file, and expressions there.
 -- The scopes of this language: own variables hide those of resources.
-use Rattle.std.specs.Prelude.{ℕ, Bool, not, if◌then◌else◌, List, [], ◌∷◌, ◌++◌, Option, Some, None, is_some, unwrap_or}
+use Rattle.std.specs.Prelude.{ℕ, Bool, not, if◌then◌else◌, List, [], ◌++◌, Option, Some, None, is_some, unwrap_or}
 use Rattle.sf_base.specs.declared.ids.FieldId.{FieldId}
-use Rattle.sf_base.specs.declared.ids.ProcId.{ProcId}
 use Rattle.sf_base.specs.declared.ids.ResId.{ResId}
 use Rattle.sf_base.specs.declared.ids.Var.{Var}
 use Rattle.sf_base.specs.declared.ids.Var.TheVariants.{Own}

@@ -1,15 +1,19 @@
 -- Laws of elaboration, stated.
 -- What a definition that computes owes its reader: that its answers are what its words say.
-use Rattle.std.specs.Prelude.{◌≡◌, ◌≢◌, ◌≤◌, ◌⊎◌, ℕ, false, List, [], Contains, Some, None}
+use Rattle.std.specs.Prelude.{◌≡◌, ◌≤◌, ◌⊎◌, ◌||◌, ℕ, false, List, [], ◌++◌, length, slice_get, Contains, Some, None}
 use Rattle.sf_base.specs.declared.limits.TheConstants.{NESTING}
 use Rattle.sf_ast.specs.Depth.{items_depth}
-use Rattle.sf_ast.specs.Surface.{Item}
+use Rattle.sf_ast.specs.Surface.{Assertion, Item}
 use Rattle.sf_core.specs.Formed.{IsFormed}
 use Rattle.sf_core.specs.Syntax.{Program}
 use Rattle.sf_elab.specs.declared.fault.Fault.{Fault}
 use Rattle.sf_elab.specs.declared.fault.NameFault.{NameFault}
 use Rattle.sf_elab.specs.Elaborated.{elaborated, faults, Elaborates, FirstFault}
+use Rattle.sf_elab.specs.declared.levels.Levels.{Levels}
+use Rattle.sf_elab.specs.Existentials.{words_in, opened, after_level}
 use Rattle.sf_elab.specs.Faults.{first_of, is_earlier}
+use Rattle.sf_elab.specs.Procedures.{is_among}
+use Rattle.sf_elab.specs.Table.{find, has}
 
 -- what a file without faults elaborates to is a program in order
 abbrev pub ElaboratedIsFormed : Type 0
@@ -30,3 +34,17 @@ pub record EachFileIsOne : Type 0 where
   pub not_both : (bytes : List ℕ) (is : List Item) (p : Program) (e : NameFault) → Elaborates bytes is p → FirstFault bytes is e → ⊥
   pub one_program : (bytes : List ℕ) (is : List Item) (p q : Program) → Elaborates bytes is p → Elaborates bytes is q → p ≡ q
   pub one_fault : (bytes : List ℕ) (is : List Item) (e g : NameFault) → FirstFault bytes is e → FirstFault bytes is g → e ≡ g
+
+-- levels are scopes of existentials
+pub record LevelsAreScopes : Type 0 where
+  -- in reach inside a level is what was in reach before it or occurs in that level itself
+  pub in_reach : (bytes : List ℕ) (l : Levels) (a : Assertion) (name : List ℕ) → has name (opened bytes l a).reach ≡ (has name l.reach || is_among bytes (words_in a) name)
+  -- what was in reach keeps its number
+  pub kept : (bytes : List ℕ) (l : Levels) (a : Assertion) (name : List ℕ) (n : ℕ) → find name l.reach ≡ Some n → find name (opened bytes l a).reach ≡ Some n
+  -- what is new has a number that was not taken, and its name stands at that place of all names, so no two have one number
+  pub new : (bytes : List ℕ) (l : Levels) (a : Assertion) (name : List ℕ) (n : ℕ) → has name l.reach ≡ false → find name (opened bytes l a).reach ≡ Some n
+      → (length l.names ≤ n) × (slice_get (opened bytes l a).names n ≡ Some name)
+  -- once the level was read, what was in reach before it is in reach again, and nothing else
+  pub left : (bytes : List ℕ) (l : Levels) (a : Assertion) → (after_level bytes l a).reach ≡ l.reach
+  -- and the numbers of the level stay taken, each by its name
+  pub taken : (bytes : List ℕ) (l : Levels) (a : Assertion) → (more : List (List ℕ)) × ((after_level bytes l a).names ≡ (opened bytes l a).names ++ more)

@@ -16,7 +16,7 @@ use Rattle.sf_core.specs.Syntax as c
 use Rattle.sf_core.specs.View as v
 use Rattle.sf_elab.specs.declared.declared.Declared.{Declared}
 use Rattle.sf_elab.specs.declared.fault.Fault.{Fault}
-use Rattle.sf_elab.specs.Assertions.{note_of, note_faults, maybe_of, maybe_faults}
+use Rattle.sf_elab.specs.Assertions.{note_of, maybe_of, maybe_faults}
 use Rattle.sf_elab.specs.Commands.{commands_of, commands_faults, set_in_all}
 use Rattle.sf_elab.specs.Declarations.{words_of, references_of, values_of, numbered, numbered_faults, shared_by}
 use Rattle.sf_elab.specs.InSight.{Sight}

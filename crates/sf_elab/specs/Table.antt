@@ -1,6 +1,6 @@
 -- Names and what they stand for, in the order in which they were declared.
 -- Ordinary: a symbol table, as in Aho, Sethi, Ullman, "Compilers" (1986), chapter 7.
-use Rattle.std.specs.Prelude.{ℕ, List, [], ◌∷◌, ◌++◌, Option, Some, None, is_some, Bool, if◌then◌else◌}
+use Rattle.std.specs.Prelude.{ℕ, List, [], ◌∷◌, ◌++◌, Option, is_some, Bool, if◌then◌else◌}
 use Rattle.std.specs.Map.{lookup}
 use Rattle.std.specs.Str.{bytes_eq}
 

@@ -290,9 +290,7 @@ fn add_command(
         }
         SurfaceCommand::Call(one) => push(single(alloc, sight, one, found)?, done),
         SurfaceCommand::Fork(a, b) => push(fork(alloc, sight, a, b, found)?, done),
-        SurfaceCommand::When(p, test, this) => {
-            push(when(alloc, sight, *p, test, this, found)?, done)
-        }
+        SurfaceCommand::When(p, test, one) => push(when(alloc, sight, *p, test, one, found)?, done),
         SurfaceCommand::If(p, test, this, that) => {
             let test = sight.test(test, found)?;
             let this = inside(alloc, sight, this, found)?;

@@ -1,6 +1,6 @@
 //! Laws of elaboration. Each function does nothing; its contract is the law.
 
-ghost use Rattle.sf_elab.specs.Laws.{EachFileIsOne, ElaboratedIsFormed, FirstIsFirst};
+ghost use Rattle.sf_elab.specs.Laws.{EachFileIsOne, ElaboratedIsFormed, FirstIsFirst, LevelsAreScopes};
 
 /// What a file without faults elaborates to is a program in order.
 pub fn elaborated_is_formed()
@@ -15,4 +15,10 @@ pub fn first_fault_is_first()
 /// A file is one program or has one first fault, and not both.
 pub fn each_file_is_one()
     ensures { EachFileIsOne }
+{}
+
+/// A level has in reach what is around it and what occurs in it, under new numbers; behind it only
+/// what was there before is in reach.
+pub fn levels_are_scopes()
+    ensures { LevelsAreScopes }
 {}

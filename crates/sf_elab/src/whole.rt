@@ -56,9 +56,9 @@ fn parts(
     ensures program { IfOk result (λ x. program_with x.fields.items x.resources.items x.procedures.items ≡ elaborated bytes.now (map item_of items.now)) }
     ensures faults { OnOk result (found.new.items ≡ found.old.items ++ faults bytes.now (map item_of items.now)) }
 {
+    let fields = field_names_of(alloc, bytes, items)?;
     let names = declared(alloc, bytes, items, found)?;
     let (resources, procedures) = things(alloc, bytes, &names, items, found)?;
-    let fields = field_names_of(alloc, bytes, items)?;
     Ok(Gathered {
         fields,
         resources,

@@ -1,4 +1,3 @@
-use Rattle.std.proofs.Common.{rules}
 use Rattle.sf_elab.proofs.Among.{among_more}
 use Rattle.sf_elab.proofs.procedures.names_among.Goals as goal
 

@@ -1,4 +1,4 @@
-use Rattle.std.proofs.Common.{◌≡◌, ◌∙◌, List, None, map, ap, rules}
+use Rattle.std.proofs.Common.{◌≡◌, List, None, map, rules}
 use Rattle.sf_ast.specs.View.{item_of}
 use Rattle.sf_core.specs.View.{program_with}
 use Rattle.sf_core.specs.Whole.{program_of}

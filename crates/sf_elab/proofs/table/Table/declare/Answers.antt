@@ -1,5 +1,5 @@
-use Rattle.std.proofs.Common.{◌≡◌, ◌∙◌, ap, sym, subst, is_some, false}
-use Rattle.sf_elab.specs.Table.{Table, find, declare}
+use Rattle.std.proofs.Common.{◌≡◌, ◌∙◌, ap, sym, is_some, false}
+use Rattle.sf_elab.specs.Table.{find, declare}
 use Rattle.sf_elab.proofs.Tables.{named, declared_in}
 use Rattle.sf_elab.proofs.table.Table.declare.Goals as goal
 
