@@ -1,26 +1,19 @@
 -- Each test decides its relation.
 use Rattle.std.proofs.Common.{◌≡◌, ◌⊎◌, ◌↔◌, ◌<◌, arith, ℕ, ◌==◌, Bool, true, false, cond, List, [], ◌∷◌, ◌++◌, Option, Some, None, Contains, refl, ap, inl, inr, subst}
 use Rattle.std.specs.Bool.{Decides}
-use Rattle.std.proofs.lemmas.Bool.Decides.{Decides-eqb, Decides-or, Decides-and, Decides-not, Decides-like}
+use Rattle.std.proofs.lemmas.Bool.Decides.{Decides-eqb, Decides-or, Decides-and, Decides-not}
 use Rattle.std.proofs.lemmas.List.Elements.{Contains-append_cases, Contains-append_left, Contains-append_right, Contains-push_cases}
-use Rattle.sf_base.specs.declared.ids.FieldId.{FieldId}
 use Rattle.sf_base.specs.declared.ids.ProcId.{ProcId}
 use Rattle.sf_base.specs.declared.ids.ResId.{ResId}
 use Rattle.sf_base.specs.declared.ids.Var.{Var}
 use Rattle.sf_base.specs.declared.ids.Var.TheVariants.{Own, Shared}
-use Rattle.sf_core.specs.declared.assertion.Operand.{Operand}
-use Rattle.sf_core.specs.declared.assertion.Operand.TheVariants.{Known, Exists}
-use Rattle.sf_core.specs.declared.assertion.Test.{Test}
-use Rattle.sf_core.specs.declared.assertion.Test.TheVariants.{True, Equal, Differ}
 use Rattle.sf_core.specs.declared.command.Expr.{Expr}
 use Rattle.sf_core.specs.declared.command.Expr.TheVariants.{Var as Variable, Nil, Int}
 use Rattle.sf_core.specs.declared.command.Occurrence.{Occurrence}
-use Rattle.sf_core.specs.Occurs.{VarOccursIn}
-use Rattle.sf_core.specs.Syntax.{Conjunct, holds, points, segment, tree, choose, Level, level, Conjuncts, none, also, Call, Command, assign, look_up, mutate, new, dispose, if, while, call, fork, with, Block, done, then}
-use Rattle.sf_calls.specs.Outside.{owner, IsOther, OccursInExpr, OccursInTest, IsAmong, OccursInValues, OccursInCall, OccursOutside, OccursInCommand, CallsIn, CallsInCommand, EntersIn, EntersInCommand}
+use Rattle.sf_core.specs.Syntax.{Command, assign, look_up, mutate, new, dispose, if, while, call, fork, with, Block, done, then}
+use Rattle.sf_calls.specs.Outside.{IsOther, OccursInExpr, IsAmong, OccursInValues, CallsIn, CallsInCommand}
 use Rattle.sf_calls.specs.Tests.{same_var, is_other, in_expr, in_references, in_values, callees_in, callees_of}
 use Rattle.sf_calls.proofs.Searches.{one_of, only_one}
-use Rattle.sf_calls.proofs.Occurring.{OccursInOperand, OccursInCondition, OccursInFields, OccursIn, OccursInAny, OccursInOne, occurs_is}
 
 -- what never holds
 never : Decides false ⊥

@@ -1,20 +1,14 @@
 -- The relations on what stands in commands and assertions, as tests and lists that compute.
 -- Ordinary: each relation by cases has the test by the same cases.
-use Rattle.std.specs.Prelude.{ℕ, zero, suc, ◌==◌, nat_lt, Bool, true, false, cond, ◌&&◌, ◌||◌, not, List, [], ◌∷◌, ◌++◌, Option, Some, None}
-use Rattle.sf_base.specs.declared.ids.FieldId.{FieldId}
+use Rattle.std.specs.Prelude.{◌==◌, nat_lt, Bool, true, false, cond, ◌&&◌, ◌||◌, not, List, [], ◌∷◌, ◌++◌, Option, Some, None}
 use Rattle.sf_base.specs.declared.ids.ProcId.{ProcId}
 use Rattle.sf_base.specs.declared.ids.ResId.{ResId}
 use Rattle.sf_base.specs.declared.ids.Var.{Var}
 use Rattle.sf_base.specs.declared.ids.Var.TheVariants.{Own, Shared}
-use Rattle.sf_core.specs.declared.assertion.Operand.{Operand}
-use Rattle.sf_core.specs.declared.assertion.Operand.TheVariants.{Known, Exists}
-use Rattle.sf_core.specs.declared.assertion.Test.{Test}
-use Rattle.sf_core.specs.declared.assertion.Test.TheVariants.{True, Equal, Differ}
 use Rattle.sf_core.specs.declared.command.Expr.{Expr}
 use Rattle.sf_core.specs.declared.command.Expr.TheVariants.{Var as Variable, Nil, Int}
 use Rattle.sf_core.specs.declared.command.Occurrence.{Occurrence}
-use Rattle.sf_core.specs.Syntax.{Conjunct, holds, points, segment, tree, choose, Level, level, Conjuncts, none, also, Call, Command, assign, look_up, mutate, new, dispose, if, while, call, fork, with, Block, done, then, Procedure}
-use Rattle.sf_calls.specs.Outside.{owner}
+use Rattle.sf_core.specs.Syntax.{Command, assign, look_up, mutate, new, dispose, if, while, call, fork, with, Block, done, then}
 
 -- one variable
 abbrev pub same_var : Var → Var → Bool

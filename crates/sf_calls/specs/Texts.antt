@@ -1,6 +1,6 @@
 -- Texts: what stands in each procedure's text, and what is read off it.
 -- Ordinary: a set as the list of its members; a test of a list by cases on it.
-use Rattle.std.specs.Prelude.{◌≡◌, ◌⊎◌, ◌↔◌, ◌==◌, Bool, false, ◌||◌, List, [], ◌∷◌, Option, Some, None, Contains}
+use Rattle.std.specs.Prelude.{◌⊎◌, ◌↔◌, ◌==◌, Bool, false, ◌||◌, List, [], ◌∷◌, Option, Some, None, Contains}
 use Rattle.std.specs.List.{AllZip}
 use Rattle.sf_base.specs.declared.ids.ProcId.{ProcId}
 use Rattle.sf_base.specs.declared.ids.ResId.{ResId}

@@ -1,4 +1,4 @@
-use Rattle.std.proofs.Common.{rules, ap, sym, ◌∙◌, subst, Contains, List}
+use Rattle.std.proofs.Common.{subst, Contains, List}
 use Rattle.sf_base.specs.declared.ids.ProcId.{ProcId}
 use Rattle.sf_calls.proofs.CallGraph.{caller_pushed, caller_there}
 use Rattle.sf_calls.proofs.callers.add_one_caller.Goals as goal
