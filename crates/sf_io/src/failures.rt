@@ -3,7 +3,7 @@ ghost use Rattle.sf_io.specs.Shelf.{failures_of};
 
 use crate::shelf::FetchFault;
 use sf_base::Name;
-use std::alloc::{AllocError, Global};
+use std::alloc::Global;
 
 /// A copy of that name, and room for it in the list of failed names, which stays as it is. An `Err`
 /// is want of memory.
@@ -17,14 +17,8 @@ pub(crate) fn room_for(
     ensures list { failed.new.items ≡ failed.old.items }
     ensures err { OnErr result (result ≡ Err FetchFault.OutOfMemory) }
 {
-    match failed.reserve(1) {
-        Ok(()) => {}
-        Err(AllocError) => return Err(FetchFault::OutOfMemory),
-    }
-    match Name::new(alloc, name) {
-        Ok(copy) => Ok(copy),
-        Err(AllocError) => Err(FetchFault::OutOfMemory),
-    }
+    failed.reserve(1)?;
+    Ok(Name::new(alloc, name)?)
 }
 
 /// Adds the name of a file whose fetch failed to the list, which has room for it, and answers so.

@@ -4,7 +4,7 @@ ghost use Rattle.sf_io.specs.Shelf.{GrewAtMost};
 use crate::failures::{failed_at, room_for};
 use crate::shelf::{FetchFault, Shelf};
 use sf_base::Name;
-use std::alloc::{AllocError, Global};
+use std::alloc::Global;
 use std::fs;
 use std::io::Read;
 use std::marker::Model;
@@ -96,10 +96,8 @@ fn read_at_most<F: Read>(file: &mut F, most: usize, out: &mut Vec<u8>) -> Result
         if n == 0 {
             break;
         }
-        match out.extend_from_slice(&chunk[..n]) {
-            Ok(()) => left -= n,
-            Err(AllocError) => return Err(FetchFault::OutOfMemory),
-        }
+        out.extend_from_slice(&chunk[..n])?;
+        left -= n;
     }
     Ok(())
 }

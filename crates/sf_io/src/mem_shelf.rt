@@ -1,5 +1,6 @@
-ghost use Rattle.std.specs.Prelude.{◌≡◌, ℕ, List, [], ◌∷◌, ◌++◌, ◌⊎◌, None, Err, IsOk, IsErr, IsSomeAnd, IsErrOf, OnOk, OnErr, take};
+ghost use Rattle.std.specs.Prelude.{◌≡◌, ◌≢◌, ◌≤◌, ℕ, List, [], ◌∷◌, ◌++◌, ◌⊎◌, None, Err, IsOk, IsErr, IsSomeAnd, IsErrOf, OnOk, OnErr, take};
 ghost use Rattle.sf_io.specs.Calls.{after_call, IsDue};
+ghost use Rattle.sf_io.specs.Rose.{Rose};
 ghost use Rattle.sf_io.specs.Shelf.{GrewAtMost};
 
 use crate::calls::Calls;
@@ -65,7 +66,8 @@ impl MemShelf {
     // Counts a call where there is room for a fault, and hands out what that call does.
     fn give(&mut self, name: &str, most: usize, out: &mut Vec<u8>) -> Result<(), FetchFault>
         ensures files { files_of self.new ≡ files_of self.old }
-        ensures calls { OnOk result (calls_of self.new ≡ after_call (calls_of self.old)) }
+        ensures counted { IsOk result ⊎ IsErrOf result FetchFault.Failed
+            → calls_of self.new ≡ after_call (calls_of self.old) }
         ensures due { IsDue (calls_of self.old) → IsErr result }
         ensures given { OnOk result (IsSomeAnd (files_of self.old name.now)
             (λ bytes. out.new.items ≡ out.old.items ++ take most bytes)) }
@@ -92,13 +94,36 @@ impl MemShelf {
 impl Shelf for MemShelf {
     ghost use Rattle.std.specs.Prelude.{Some};
     ghost use Rattle.sf_io.specs.Shelf.{failures_of};
-    ghost use Rattle.sf_io.specs.MemShelf.{files_of, failed_of};
+    ghost use Rattle.sf_io.specs.MemShelf.{files_of, failed_of, calls_of};
 
     ghost files = { λ shelf. Some (files_of shelf) };
 
     ghost faults = { λ shelf. failures_of (failed_of shelf) };
 
-    fn fetch(&mut self, name: &str, most: usize, out: &mut Vec<u8>) -> Result<(), FetchFault> {
+    /// Hands out what stands under the name. `Failed` comes where the call is to fail or nothing stands
+    /// there, and then the name is one more that failed. Each call counts but one that wants memory.
+    fn fetch(&mut self, name: &str, most: usize, out: &mut Vec<u8>) -> Result<(), FetchFault>
+        ensures files_stay { files_of self.new ≡ files_of self.old }
+        ensures told { OnOk result (IsSomeAnd (files_of self.old name.now)
+            (λ bytes. out.new.items ≡ out.old.items ++ take most bytes)) }
+        ensures appended { OnOk result (GrewAtMost most out.old.items out.new.items) }
+        ensures refused { OnErr result (out.new.items ≡ out.old.items) }
+        ensures failed { IsErrOf result FetchFault.Failed
+            → Rose (failures_of (failed_of self.old) name.now) (failures_of (failed_of self.new) name.now) }
+        ensures others { (other : List ℕ) → other ≢ name.now
+            → failures_of (failed_of self.new) other ≡ failures_of (failed_of self.old) other }
+        ensures counts { (any : List ℕ)
+            → failures_of (failed_of self.old) any ≤ failures_of (failed_of self.new) any }
+        ensures ok { OnOk result ((any : List ℕ)
+            → failures_of (failed_of self.new) any ≡ failures_of (failed_of self.old) any) }
+        ensures out_of_memory { IsErrOf result FetchFault.OutOfMemory → ((any : List ℕ)
+            → failures_of (failed_of self.new) any ≡ failures_of (failed_of self.old) any) }
+        ensures due { IsDue (calls_of self.old) → IsErr result }
+        ensures cause { IsErrOf result FetchFault.Failed
+            → IsDue (calls_of self.old) ⊎ files_of self.old name.now ≡ None }
+        ensures counted { IsOk result ⊎ IsErrOf result FetchFault.Failed
+            → calls_of self.new ≡ after_call (calls_of self.old) }
+    {
         self.give(name, most, out)
     }
 }
@@ -111,8 +136,6 @@ fn append_first(bytes: &[u8], most: usize, out: &mut Vec<u8>) -> Result<(), Fetc
     ensures cause { OnErr result (result ≡ Err FetchFault.OutOfMemory) }
 {
     let most = most.min(bytes.len());
-    match out.extend_from_slice(&bytes[..most]) {
-        Ok(()) => Ok(()),
-        Err(AllocError) => Err(FetchFault::OutOfMemory),
-    }
+    out.extend_from_slice(&bytes[..most])?;
+    Ok(())
 }

@@ -1,5 +1,6 @@
-ghost use Rattle.std.specs.Prelude.{◌≡◌, ◌<◌, ◌≤◌, ◌⊎◌, ◌↔◌, [], ◌∷◌, ◌++◌, length, min, take, IsOk, IfOk, OnOk, OnErr, IsErrOf};
+ghost use Rattle.std.specs.Prelude.{◌≡◌, ◌<◌, ◌≤◌, ◌⊎◌, ◌↔◌, [], ◌∷◌, ◌++◌, length, min, take, Ok, IsOk, IfOk, OnOk, OnErr, IsErrOf};
 ghost use Rattle.sf_io.specs.Calls.{one_more, after_call, IsDue};
+ghost use Rattle.sf_io.specs.Rose.{Rose};
 
 use crate::calls::Calls;
 use crate::sink::{Sink, SinkFault};
@@ -90,7 +91,25 @@ impl Sink for MemSink {
 
     ghost faults = { λ sink. sink.faults };
 
-    fn put(&mut self, piece: &[u8]) -> Result<usize, SinkFault> {
+    /// Takes as much of the piece as one call takes. Of a piece that isn't empty `Failed` comes exactly
+    /// where the call is to fail or nothing is taken at all, and each such call counts.
+    fn put(&mut self, piece: &[u8]) -> Result<usize, SinkFault>
+        ensures bound { IfOk result (λ n. n ≤ length piece.now) }
+        ensures progress { IfOk result (λ n. 0 < length piece.now → 0 < n) }
+        ensures appended { IfOk result (λ n. self.new.bytes ≡ self.old.bytes ++ take n piece.now) }
+        ensures empty { piece.now ≡ [] → result ≡ Ok 0 }
+        ensures nothing { piece.now ≡ [] → self.new ≡ self.old }
+        ensures refused { OnErr result (self.new.bytes ≡ self.old.bytes) }
+        ensures failed { IsErrOf result SinkFault.Failed → Rose self.old.faults self.new.faults }
+        ensures out_of_memory { IsErrOf result SinkFault.OutOfMemory
+            → self.new.faults ≡ self.old.faults }
+        ensures counts { self.old.faults ≤ self.new.faults }
+        ensures most { self.new.most ≡ self.old.most }
+        ensures taken { IfOk result (λ n. n ≡ min (length piece.now) self.old.most) }
+        ensures due { 0 < length piece.now
+            → IsErrOf result SinkFault.Failed ↔ (IsDue self.old.calls ⊎ self.old.most ≡ 0) }
+        ensures counted { 0 < length piece.now → self.new.calls ≡ after_call self.old.calls }
+    {
         if piece.is_empty() {
             return Ok(0);
         }

@@ -2,6 +2,7 @@ ghost use Rattle.std.specs.Prelude.{◌≡◌, ◌≢◌, ◌≤◌, ℕ, List, 
 ghost use Rattle.sf_io.specs.Rose.{Rose};
 ghost use Rattle.sf_io.specs.Shelf.{Files, GrewAtMost};
 
+use std::alloc::AllocError;
 use thiserror::Error;
 
 /// Why a file's bytes weren't handed out.
@@ -13,6 +14,17 @@ pub enum FetchFault {
     /// There is no memory for its bytes.
     #[error("out of memory")]
     OutOfMemory,
+}
+
+impl From<AllocError> for FetchFault {
+    ghost use Rattle.std.specs.Prelude.{◌≡◌};
+    ghost use Rattle.sf_io.specs.declared.shelf.FetchFault.TheVariants.{OutOfMemory};
+
+    ghost from_gives = { λ _ e. e ≡ OutOfMemory };
+
+    fn from(_error: AllocError) -> FetchFault {
+        FetchFault::OutOfMemory
+    }
 }
 
 /// A map from names to bytes, and for each name a count of faults. A shelf that tells its map has

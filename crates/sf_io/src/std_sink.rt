@@ -35,7 +35,7 @@ impl<'a, R: Print> Sink for StdSink<'a, R> {
     ghost faults = { λ count. count };
 
     // Writes until all is taken, a write fails, or one takes nothing. What a piece's first writes
-    // took before a fault is answered, and the next call meets the fault again.
+    // took before a fault is answered; a fault that lasts is met again by the next call.
     fn put(&mut self, piece: &[u8]) -> Result<usize, SinkFault> {
         let mut taken = 0;
         while taken < piece.len() {
