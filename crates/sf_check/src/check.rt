@@ -17,7 +17,7 @@ use std::alloc::{AllocError, Global};
 
 /// Where a check stands.
 #[derive(Drop)]
-pub struct Checking<'a> {
+struct Checking<'a> {
     /// The goal that is open, if one is.
     goal: Option<Goal<'a>>,
     /// How many procedures have begun.

@@ -1,4 +1,5 @@
--- What every state keeps: its symbols and its atoms' numbers are in use, and its predicates have their fields.
+-- What every state is meant to keep: its symbols and its atoms' numbers are in use, and its predicates have their fields.
+-- No type keeps it yet, and no rule's contract speaks of it: it is stated here, and shown of one worked state (`state_is_kept`).
 -- The bookkeeping of this project's own; no source.
 use Rattle.std.specs.Prelude.{◌≡◌, ℕ, ◌<◌, ◌==◌, List, map, Option, Some, None, IsSome}
 use Rattle.std.specs.List.{IsDistinct, AllByRecursion}

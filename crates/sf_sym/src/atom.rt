@@ -19,7 +19,9 @@ pub enum Atom {
 /// An atom and the number by which tags name it.
 #[derive(Debug, Drop)]
 pub struct Numbered {
+    /// Its number, from 1.
     pub number: u32,
+    /// The part of the heap.
     pub atom: Atom,
 }
 

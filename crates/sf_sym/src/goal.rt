@@ -31,6 +31,7 @@ pub enum Item<'a> {
 /// A state and what is still to do from there.
 #[derive(Debug, Drop)]
 pub struct Goal<'a> {
+    /// What is known there.
     pub state: State,
     /// What is still to do, the next item last.
     pub todo: Vec<Item<'a>>,

@@ -38,7 +38,7 @@ pub struct State {
 
 impl State {
     /// Whether two terms differ at once: different constants, or one of the pairs that differ.
-    pub fn direct(&self, t: Term, u: Term) -> bool
+    fn direct(&self, t: Term, u: Term) -> bool
         ensures { result ≡ direct self.now.apart t u }
     {
         is_direct(self.apart.as_slice(), t, u)
