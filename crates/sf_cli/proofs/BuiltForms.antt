@@ -7,7 +7,7 @@ use Rattle.std.specs.List.{list_all}
 use Rattle.sf_core.specs.declared.command.Expr.{Expr}
 use Rattle.sf_core.specs.Syntax.{Conjunct, Command, Resource, Program}
 use Rattle.sf_core.specs.View.{conjuncts, block}
-use Rattle.sf_cli.specs.Built.{is_cell, are_cells, is_mutation, are_mutations, is_built_procedure, is_built}
+use Rattle.sf_rules.specs.Built.{is_cell, are_cells, is_mutation, are_mutations, is_built_procedure, is_built}
 
 -- of conjuncts
 pub built-cells : {A : Type 0} (view : A → Conjunct Expr) (xs : List A) → are_cells (conjuncts (map view xs)) ≡ list_all (λ x. is_cell (view x)) xs

@@ -6,7 +6,7 @@ use Rattle.sf_core.specs.Syntax.{Program}
 use Rattle.sf_io.specs.Rose.{Rose}
 use Rattle.sf_io.specs.Shelf.{Files}
 use Rattle.sf_io.specs.Sink.{WrotePart}
-use Rattle.sf_cli.specs.Built.{is_built}
+use Rattle.sf_rules.specs.Built.{is_built}
 use Rattle.sf_cli.specs.FileFault.{FileFault, Admits}
 use Rattle.sf_cli.specs.Refusals.{refusal_text}
 use Rattle.sf_search.specs.Judge.{Verdict, proof, fails, Judge}

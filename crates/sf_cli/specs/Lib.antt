@@ -3,7 +3,6 @@ pub mod WordsOf
 pub mod Refusals
 pub mod Reads
 pub mod FileFault
-pub mod Built
 pub mod Answer
 pub mod Fetched
 pub mod Laws

@@ -16,8 +16,3 @@ pub answered-none : {X E : Type 0} (r : Result (Option X) E) (A B : Type 0) → 
 answered-none (Ok (Some x)) A B f h = tt
 answered-none (Ok None) A B f h = f h
 answered-none (Err e) A B f h = tt
-
--- of an answer that is there
-pub answered-ok : {X E : Type 0} (r : Result X E) (P Q : X → Type 0) → ((x : X) → P x → Q x) → IfOk r P → IfOk r Q
-answered-ok (Ok x) P Q f h = f x h
-answered-ok (Err e) P Q f h = tt

@@ -1,8 +1,9 @@
 -- Atoms by their numbers, and fields in their order.
 use Rattle.std.proofs.Common.{◌≡◌, ℕ, zero, suc, ◌==◌, ◌<◌, ◌+◌, Bool, true, false, cond, Option, Some, None, List, [], ◌∷◌, ◌++◌, length, take, drop, get_or, slice_set, refl, sym, ap, ◌∙◌, subst, arith}
-use Rattle.std.specs.List.{list_all, remove, insert}
+use Rattle.std.specs.List.{list_all, remove}
 use Rattle.std.specs.Option.{option_map, option_and_then}
 use Rattle.std.proofs.lemmas.Bool.Decides.{Decides-eqb}
+use Rattle.std.proofs.lemmas.List.{get_or-set_same}
 use Rattle.sf_base.specs.declared.ids.FieldId.{FieldId}
 use Rattle.sf_core.specs.declared.assertion.Operand.{Operand}
 use Rattle.sf_sym.specs.declared.atom.Atom.{Atom}
@@ -77,10 +78,10 @@ pub is_at : (a k : ℕ) (xs : List Numbered) → index_from 0 xs a ≡ Some k �
 is_at a k xs e = let s = stands a 0 k xs e in let same : s.at ≡ k = omega (arith, s.place) in
     subst (λ n. At a n xs) same (record { within = s.within; cell = s.cell; number = s.number; written = s.written; removed = s.removed })
 
-pub insert_removed : {X : Type 0} (xs : List X) (k : ℕ) (y : X) → k < length xs → insert (remove xs k) k y ≡ slice_set xs k y
-insert_removed [] k y l = absurd (omega (arith, l))
-insert_removed (z ∷ xs) zero y l = refl
-insert_removed (z ∷ xs) (suc k) y l = let below : k < length xs = omega (arith, l) in ap (λ ys. z ∷ ys) (insert_removed xs k y below)
+set_twice : {X : Type 0} (xs : List X) (k : ℕ) (y z : X) → slice_set (slice_set xs k y) k z ≡ slice_set xs k z
+set_twice [] k y z = refl
+set_twice (x ∷ xs) zero y z = refl
+set_twice (x ∷ xs) (suc k) y z = ap (λ ys. x ∷ ys) (set_twice xs k y z)
 
 get_or_any : {X : Type 0} (xs : List X) (k : ℕ) (d e : X) → k < length xs → get_or xs k d ≡ get_or xs k e
 get_or_any [] k d e l = absurd (omega (arith, l))
@@ -91,7 +92,8 @@ points_step : (root t : Term) (gs fields : List (FieldId × Term)) (b : Bool) �
 points_step root t gs fields true same e = let r : root ≡ t = same refl in let g : gs ≡ fields = cc in cc
 points_step root t gs fields false same e = absurd (cc)
 
-points_at : (x : Atom) (t : Term) (fields : List (FieldId × Term)) → fields_at x t ≡ Some fields → x ≡ Points t fields
+-- an atom with fields at a term is the cell there
+pub points_at : (x : Atom) (t : Term) (fields : List (FieldId × Term)) → fields_at x t ≡ Some fields → x ≡ Points t fields
 points_at (Points root gs) t fields e = points_step root t gs fields (same_term root t) (same_term_is root t) e
 points_at (Ls u v) t fields e = absurd (cc)
 points_at (Tree u) t fields e = absurd (cc)
@@ -117,11 +119,14 @@ module _ (s : State) (t : Term) (a : ℕ) where
   pub mutated_other : (f : FieldId) (u : Term) (k : ℕ) (x : Numbered) → index_from 0 s.atoms a ≡ Some k → x ≡ get_or s.atoms k x → fields_at x.atom t ≡ None → None ≡ mutated s t f u a
   mutated_other f u k x e is n = sym (ap (option_map (λ fields. record s { atoms = with_fields s.atoms a t (put_term f u fields) })) ((is_at a k s.atoms e).cell x t ∙ sym (ap (λ y. fields_at y.atom t) is) ∙ n))
 
-  pub mutated_is : (f : FieldId) (u : Term) (k : ℕ) (x : Numbered) (fields : List (FieldId × Term)) (atoms : List Numbered) → index_from 0 s.atoms a ≡ Some k → x ≡ get_or s.atoms k x → fields_at x.atom t ≡ Some fields
-      → atoms ≡ insert (remove s.atoms k) k (record { number = a; atom = Points t (put_term f u fields) }) → Some (record s { atoms = atoms }) ≡ mutated s t f u a
-  mutated_is f u k x fields atoms e is n p =
+  -- the atom is taken out of x, which is y meanwhile, and then z
+  pub mutated_is : (f : FieldId) (u : Term) (k : ℕ) (x y z : Numbered) (fields : List (FieldId × Term)) (atoms : List Numbered) → index_from 0 s.atoms a ≡ Some k → x ≡ get_or s.atoms k x → fields_at x.atom t ≡ Some fields
+      → y.number ≡ x.number → z ≡ get_or (slice_set s.atoms k y) k z → atoms ≡ slice_set (slice_set s.atoms k y) k (record { number = z.number; atom = Points t (put_term f u fields) }) → Some (record s { atoms = atoms }) ≡ mutated s t f u a
+  mutated_is f u k x y z fields atoms e is n same there p =
       let at = is_at a k s.atoms e in
-      ap (λ xs. Some (record s { atoms = xs })) (p ∙ insert_removed s.atoms k _ at.within ∙ sym (at.written t (put_term f u fields)))
+      let number : z.number ≡ a = ap (λ w. w.number) (there ∙ get_or-set_same s.atoms k y z at.within) ∙ same ∙ ap (λ w. w.number) is ∙ at.number x in
+      ap (λ xs. Some (record s { atoms = xs }))
+      (p ∙ set_twice s.atoms k y _ ∙ ap (λ m. slice_set s.atoms k (record { number = m; atom = Points t (put_term f u fields) })) number ∙ sym (at.written t (put_term f u fields)))
       ∙ sym (ap (option_map (λ fields. record s { atoms = with_fields s.atoms a t (put_term f u fields) })) (at.cell x t ∙ sym (ap (λ y. fields_at y.atom t) is) ∙ n))
 
   pub hand_over_none : (wanted : List (FieldId × Operand Term)) → index_from 0 s.atoms a ≡ None → None ≡ hand_over s t wanted a

@@ -2,3 +2,4 @@ pub mod Table
 pub mod Proves
 pub mod Left
 pub mod Cells
+pub mod Built

@@ -3,13 +3,16 @@
 ghost use Rattle.std.specs.Prelude.{◌≡◌, ◌-◌, ◌<◌, ◌≤◌, ◌^◌, length, IfOk, IfSome, [], Some, is_some};
 ghost use Rattle.std.specs.List.{list_all};
 ghost use Rattle.std.specs.Option.{option_map};
+ghost use Rattle.sf_core.specs.View.{conjunct_of};
 ghost use Rattle.sf_rules.specs.Cells.{all_fit, all_known, index_from};
+ghost use Rattle.sf_rules.specs.Left.{cell_of};
 ghost use Rattle.sf_rules.specs.Table.{field_term, fields_at, fits, hand_over, known, mutated, new_fields, put_term, with_cell};
 
 use sf_base::{FieldId, Sequence};
-use sf_core::Operand;
+use sf_core::{Conjunct, Operand};
 use sf_sym::{Atom, Numbered, State, Term};
 use std::alloc::{AllocError, Global};
+use std::mem;
 
 /// The term of an operand that has one.
 pub fn known(x: &Operand<Term>) -> Option<Term>
@@ -21,8 +24,21 @@ pub fn known(x: &Operand<Term>) -> Option<Term>
     }
 }
 
+/// The root and the fields of a points-to.
+pub fn as_cell(c: &Conjunct<Term>) -> Option<(Operand<Term>, &[(FieldId, Operand<Term>)])>
+    ensures { option_map (λ x. (x.0, x.1.now)) result ≡ cell_of (conjunct_of c.now) }
+{
+    match c {
+        Conjunct::Points(_, root, fields) => Some((*root, fields.as_slice())),
+        Conjunct::Holds(..) => None,
+        Conjunct::Segment(..) => None,
+        Conjunct::Tree(..) => None,
+        Conjunct::If(..) => None,
+    }
+}
+
 /// The term of a field, where it is known.
-pub fn field_term(fields: &[(FieldId, Term)], f: FieldId) -> Option<Term>
+pub(crate) fn field_term(fields: &[(FieldId, Term)], f: FieldId) -> Option<Term>
     ensures { result ≡ field_term fields.now f }
 {
     let mut left = fields;
@@ -74,7 +90,7 @@ fn index_of(atoms: &[Numbered], a: u32) -> Option<usize>
     None
 }
 
-/// The fields of an atom that is a cell at that term.
+/// The same fields of an atom that is given up.
 fn into_fields(atom: Atom, t: Term) -> Option<Sequence<(FieldId, Term)>>
     ensures { result ≡ fields_at atom t }
 {
@@ -86,7 +102,7 @@ fn into_fields(atom: Atom, t: Term) -> Option<Sequence<(FieldId, Term)>>
 
 /// Writes a field of the cell at the root that has that number. `None` exactly where there is none; an
 /// `Err` is want of memory.
-pub fn mutated(
+pub(crate) fn mutated(
     state: State,
     root: Term,
     f: FieldId,
@@ -99,15 +115,12 @@ pub fn mutated(
         return Ok(None);
     };
     let mut atoms = state.atoms.into_vec();
-    let Some(fields) = into_fields(atoms.remove(i).atom, root) else {
+    let found = mem::replace(&mut atoms[i].atom, Atom::Tree(Term::Nil));
+    let Some(fields) = into_fields(found, root) else {
         return Ok(None);
     };
     let fields = put_term(fields.into_vec(), f, u)?;
-    let cell = Numbered {
-        number: a,
-        atom: Atom::Points(root, Sequence::from_vec(fields)),
-    };
-    atoms.insert(i, cell)?;
+    atoms[i].atom = Atom::Points(root, Sequence::from_vec(fields));
     Ok(Some(State {
         links: state.links,
         vars: state.vars,
@@ -136,19 +149,29 @@ pub fn are_fitting(fields: &[(FieldId, Term)], wanted: &[(FieldId, Operand<Term>
     wanted.iter().all(|f| is_fitting(fields, f))
 }
 
+/// The fields of an atom that is a cell at that term.
+pub fn fields_at(atom: &Atom, t: Term) -> Option<&[(FieldId, Term)]>
+    ensures { option_map (λ x. x.now) result ≡ fields_at atom.now t }
+{
+    match atom {
+        Atom::Points(root, fields) if root.is(t) => Some(fields.as_slice()),
+        Atom::Points(..) | Atom::Ls(..) | Atom::Tree(_) => None,
+    }
+}
+
 /// Whether the atom is a cell at that term whose fields are as wanted.
 fn is_as_wanted(atom: &Atom, t: Term, wanted: &[(FieldId, Operand<Term>)]) -> bool
     ensures { result ≡ all_fit (fields_at atom.now t) wanted.now }
 {
-    match atom {
-        Atom::Points(root, fields) => root.is(t) && are_fitting(fields.as_slice(), wanted),
-        Atom::Ls(..) | Atom::Tree(_) => false,
+    match fields_at(atom, t) {
+        Some(fields) => are_fitting(fields, wanted),
+        None => false,
     }
 }
 
 /// Hands the cell of that number over, if it is at the root and its fields are as wanted. `None` exactly
 /// where it isn't; an `Err` is want of memory.
-pub fn handed_over(
+pub(crate) fn hand_over(
     state: State,
     root: Term,
     wanted: &[(FieldId, Operand<Term>)],
@@ -184,7 +207,7 @@ pub fn are_known(fields: &[(FieldId, Operand<Term>)]) -> bool
 }
 
 /// The terms of a new cell's fields. `None` exactly where a field has no term.
-pub fn new_fields(
+pub(crate) fn new_fields(
     alloc: Global,
     fields: &[(FieldId, Operand<Term>)],
 ) -> Result<Option<Vec<(FieldId, Term)>>, AllocError>
@@ -203,7 +226,7 @@ pub fn new_fields(
 }
 
 /// One more cell. An `Err` is want of memory.
-pub fn with_cell(
+pub(crate) fn with_cell(
     state: State,
     root: Term,
     fields: Vec<(FieldId, Term)>,

@@ -1,15 +1,15 @@
 //! The table of rules: the first goal of a procedure, and what a tag leaves of a goal.
 
-ghost use Rattle.std.specs.Prelude.{◌≡◌, ◌++◌, ◌-◌, ◌≤◌, ◌^◌, [], ◌∷◌, None, Some, length, replicate, IfOk, IsTrue, OnOk};
+ghost use Rattle.std.specs.Prelude.{◌≡◌, ◌++◌, ◌-◌, ◌≤◌, ◌^◌, [], ◌∷◌, None, Some, length, replicate, IfOk, IsTrue, OnErr, OnOk};
 ghost use Rattle.std.specs.Option.{option_map};
 ghost use Rattle.sf_core.specs.Formed.{ProcedureWithin};
 ghost use Rattle.sf_core.specs.View.{assertion_of, block_of, command_of, conjunct_of, procedure_of};
 ghost use Rattle.sf_core.specs.Whole.{program_of};
 ghost use Rattle.sf_sym.specs.Goal.{add, end, goal_of, pending_of, return};
-ghost use Rattle.sf_rules.specs.Left.{cell_of, goals_of, mutation, stack_of, todo_of};
+ghost use Rattle.sf_rules.specs.Left.{goals_of, mutation, stack_of, todo_of};
 ghost use Rattle.sf_rules.specs.Table.{absurd_row, add_row, assumed, cell_row, end_row, first_goal, handed_over, has_numbers, links_of, mutate_row, nils, pending, return_row, row, row_of, symbols, to_add, to_run, to_take};
 
-use crate::cells::{handed_over, known, mutated, new_fields, with_cell};
+use crate::cells::{as_cell, hand_over, known, mutated, new_fields, with_cell};
 use crate::terms::{term_of, with_terms};
 use crate::todo::{next_item, with_add, with_take};
 use sf_base::{FieldId, Place, Sequence, Var};
@@ -127,7 +127,7 @@ pub fn apply<'a>(alloc: Global, goal: Goal<'a>, tag: Tag) -> Result<Option<Left<
 }
 
 /// Whether new numbers can't run out.
-pub fn has_numbers(state: &State) -> bool
+fn has_numbers(state: &State) -> bool
     ensures { result ≡ has_numbers state.now }
 {
     state.next_sym <= u32::MAX - 1023 && state.next_atom <= u32::MAX - 1023
@@ -255,31 +255,18 @@ fn mutate<'a>(goal: Goal<'a>, a: u32) -> Result<Option<Left<'a>>, AllocError>
     }
 }
 
-/// The root and the fields of a points-to.
-fn into_cell(c: Conjunct<Term>) -> Option<(Operand<Term>, Vec<(FieldId, Operand<Term>)>)>
-    ensures { option_map (λ x. (x.0, x.1.items)) result ≡ cell_of (conjunct_of c) }
-{
-    match c {
-        Conjunct::Points(_, root, fields) => Some((root, fields)),
-        Conjunct::Holds(..) => None,
-        Conjunct::Segment(..) => None,
-        Conjunct::Tree(..) => None,
-        Conjunct::If(..) => None,
-    }
-}
-
 /// A conjunct is assumed. `None` exactly where it isn't one that can be; an `Err` is want of memory.
 fn assumed(alloc: Global, state: State, c: Conjunct<Term>) -> Result<Option<State>, AllocError>
     requires { IsTrue (has_numbers state) }
     ensures { IfOk result (λ after. after ≡ assumed state (conjunct_of c)) }
 {
-    let Some((x, fields)) = into_cell(c) else {
+    let Some((x, fields)) = as_cell(&c) else {
         return Ok(None);
     };
     let Some(root) = known(&x) else {
         return Ok(None);
     };
-    let Some(fields) = new_fields(alloc, &fields)? else {
+    let Some(fields) = new_fields(alloc, fields)? else {
         return Ok(None);
     };
     Ok(Some(with_cell(state, root, fields)?))
@@ -321,16 +308,16 @@ fn add<'a>(alloc: Global, goal: Goal<'a>) -> Result<Option<Left<'a>>, AllocError
 }
 
 /// A wanted conjunct is handed over. `None` exactly where it isn't that cell; an `Err` is want of memory.
-fn given_up(state: State, c: Conjunct<Term>, a: u32) -> Result<Option<State>, AllocError>
+fn handed_over(state: State, c: Conjunct<Term>, a: u32) -> Result<Option<State>, AllocError>
     ensures { IfOk result (λ after. after ≡ handed_over state (conjunct_of c) a) }
 {
-    let Some((x, wanted)) = into_cell(c) else {
+    let Some((x, wanted)) = as_cell(&c) else {
         return Ok(None);
     };
     let Some(root) = known(&x) else {
         return Ok(None);
     };
-    handed_over(state, root, &wanted, a)
+    hand_over(state, root, wanted, a)
 }
 
 /// cell: the first wanted conjunct is a cell that is there.
@@ -350,7 +337,7 @@ fn cell<'a>(goal: Goal<'a>, a: u32) -> Result<Option<Left<'a>>, AllocError>
             let Some(c) = conjuncts.pop() else {
                 return Ok(None);
             };
-            let Some(state) = given_up(state, c, a)? else {
+            let Some(state) = handed_over(state, c, a)? else {
                 return Ok(None);
             };
             let todo = with_take(
@@ -368,9 +355,11 @@ fn cell<'a>(goal: Goal<'a>, a: u32) -> Result<Option<Left<'a>>, AllocError>
     }
 }
 
-/// Puts what is left on a stack of goals, which has the next one last. An `Err` is want of memory.
+/// Puts what is left on a stack of goals, which has the next one last. An `Err` is want of memory and
+/// leaves the stack as it was.
 pub fn open_goals<'a>(stack: &mut Vec<Goal<'a>>, left: Left<'a>) -> Result<(), AllocError>
-    ensures { OnOk result (stack_of stack.new.items ≡ goals_of left.entry ++ stack_of stack.old.items) }
+    ensures ok { OnOk result (stack_of stack.new.items ≡ goals_of left.entry ++ stack_of stack.old.items) }
+    ensures err { OnErr result (stack_of stack.new.items ≡ stack_of stack.old.items) }
 {
     match left {
         Left::Nothing => Ok(()),

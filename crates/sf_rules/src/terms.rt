@@ -21,7 +21,7 @@ pub fn term_of(vars: &[(Var, Term)], e: &Expr) -> Term
 }
 
 /// The term of a variable, `Nil` where it has none.
-pub fn term_at(vars: &[(Var, Term)], x: Var) -> Term
+fn term_at(vars: &[(Var, Term)], x: Var) -> Term
     ensures { result ≡ term_at vars.now x }
 {
     let mut left = vars;
@@ -43,7 +43,7 @@ fn is_same(x: Var, y: Var) -> bool
 
 /// Conjuncts with terms in place of expressions, in the same order. An `Err` is want of memory.
 #[cycle(terms)]
-pub fn with_terms(
+pub(crate) fn with_terms(
     alloc: Global,
     vars: &[(Var, Term)],
     from: &[Conjunct<Expr>],

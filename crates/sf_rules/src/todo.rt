@@ -10,7 +10,7 @@ use sf_sym::{Given, Item, Want};
 use std::alloc::AllocError;
 
 /// Whether the item stands for nothing.
-pub fn is_nothing(item: &Item) -> bool
+fn is_nothing(item: &Item) -> bool
     ensures { result ≡ is_nothing item.now }
 {
     match item {
@@ -20,7 +20,7 @@ pub fn is_nothing(item: &Item) -> bool
 }
 
 /// Takes the next thing to do, with what stands for nothing before it. `None` exactly where nothing is left.
-pub fn next_item<'a>(todo: &mut Vec<Item<'a>>) -> Option<Item<'a>>
+pub(crate) fn next_item<'a>(todo: &mut Vec<Item<'a>>) -> Option<Item<'a>>
     ensures item { IfSome result (λ i. todo_of todo.old.items ≡ items_of i ++ todo_of todo.new.items) }
     ensures something { IfSome result (λ i. is_nothing i ≡ false) }
     ensures none { IfNone result (todo_of todo.old.items ≡ []) }
@@ -51,7 +51,7 @@ pub fn front<'b, 'a>(todo: &'b [Item<'a>]) -> Option<&'b Item<'a>>
 }
 
 /// Puts conjuncts to assume in front, if there are any. An `Err` is want of memory.
-pub fn with_add<'a>(
+pub(crate) fn with_add<'a>(
     mut todo: Vec<Item<'a>>,
     place: Place,
     given: Given,
@@ -66,7 +66,7 @@ pub fn with_add<'a>(
 }
 
 /// Puts conjuncts to show in front, if there are any. An `Err` is want of memory.
-pub fn with_take<'a>(
+pub(crate) fn with_take<'a>(
     mut todo: Vec<Item<'a>>,
     place: Place,
     want: Want,

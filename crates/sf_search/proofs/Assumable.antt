@@ -1,6 +1,7 @@
 -- Which conjuncts can be assumed.
 use Rattle.std.proofs.Common.{◌≡◌, Bool, true, false, Option, Some, None, List, [], ◌∷◌, is_some, cond, refl, sym, ap, ◌∙◌}
 use Rattle.std.specs.Option.{option_map}
+use Rattle.std.proofs.lemmas.Option.{same_Some}
 use Rattle.sf_base.specs.declared.ids.FieldId.{FieldId}
 use Rattle.sf_base.specs.declared.place.Place.{Place}
 use Rattle.sf_core.specs.declared.assertion.Operand.{Operand}
@@ -20,20 +21,19 @@ new_fields_known [] made = refl
 new_fields_known ((f, Known u) ∷ fs) made = new_fields_known fs (put_term f u made)
 new_fields_known ((f, Exists n) ∷ fs) made = refl
 
-mapped_some : {X Y : Type 0} (f : X → Y) (o : Option X) → is_some (option_map f o) ≡ is_some o
+-- what f makes of an option is there where it is
+pub mapped_some : {X Y : Type 0} (f : X → Y) (o : Option X) → is_some (option_map f o) ≡ is_some o
 mapped_some f None = refl
 mapped_some f (Some x) = refl
 
-points_known : (s : State) (p : Place) (x : Operand Term) (fs : List (FieldId × Operand Term)) → is_some (known x) ≡ true → is_some (assumed s (points p x fs)) ≡ all_known fs
+-- a points-to can be assumed where its root and its fields have terms
+pub points_known : (s : State) (p : Place) (x : Operand Term) (fs : List (FieldId × Operand Term)) → is_some (known x) ≡ true → is_some (assumed s (points p x fs)) ≡ all_known fs
 points_known s p (Known t) fs e = mapped_some (with_cell s t) (new_fields fs []) ∙ new_fields_known fs []
 points_known s p (Exists n) fs e = absurd (cc)
 
-some_is : (a b : Operand Term × List (FieldId × Operand Term)) → Some a ≡ Some b → a ≡ b
-some_is a b e = cc
-
 pub assumed_known : (s : State) (c : Conjunct Term) (x : Operand Term) (fs : List (FieldId × Operand Term)) (b : Bool) → cell_of c ≡ Some (x, fs) → is_some (known x) ≡ true → b ≡ all_known fs → b ≡ is_some (assumed s c)
 assumed_known s (points p y gs) x fs b e k is =
-    let both = some_is (y, gs) (x, fs) e in
+    let both = same_Some (y, gs) (x, fs) e in
     let first : y ≡ x = ap (λ z. z.0) both in
     let second : gs ≡ fs = ap (λ z. z.1) both in
     is ∙ ap all_known (sym second) ∙ sym (points_known s p y gs (ap (λ z. is_some (known z)) first ∙ k))

@@ -3,6 +3,7 @@ use Rattle.std.proofs.Common.{◌≡◌, ℕ, suc, ◌-◌, ◌^◌, ◌<◌, �
 use Rattle.std.specs.List.{list_all}
 use Rattle.std.specs.Option.{option_map, option_and_then}
 use Rattle.std.proofs.lemmas.Bool.Decides.{Decides-eqb}
+use Rattle.std.proofs.lemmas.Option.{same_Some}
 use Rattle.sf_base.specs.declared.ids.FieldId.{FieldId}
 use Rattle.sf_base.specs.declared.limits.TheConstants.{PROCEDURE_TAGS}
 use Rattle.sf_base.specs.declared.place.Place.{Place}
@@ -21,17 +22,11 @@ use Rattle.sf_search.specs.declared.strategy.Stuck.{Stuck}
 use Rattle.sf_search.specs.declared.strategy.Stuck.TheVariants.{NotBuilt, NotEqual, Leak}
 use Rattle.sf_search.specs.Ends.{AreRising, HasNumbersAfter}
 use Rattle.sf_search.specs.Judge.{takes, stays, choice, choose_item, choose_command, choose_mutate, choose_add, choose_take, choose_wanted, choose_found, lowest_cell, this_or}
+use Rattle.sf_search.proofs.Assumable.{mapped_some}
 use Rattle.sf_rules.specs.Table.{row, row_of, has_numbers, assumed, hand_over, with_fields, without, cell_at, fields_at, fits, put_term, one_goal, is_empty, term}
 
 takes_same : (a b : Tag) → takes a ≡ takes b → a ≡ b
 takes_same a b e = cc
-
-pair_is : (a b : ℕ × List (FieldId × Term)) → Some a ≡ Some b → a ≡ b
-pair_is a b e = cc
-
-is_some_map : {X Y : Type 0} (f : X → Y) (o : Option X) → is_some (option_map f o) ≡ is_some o
-is_some_map f None = refl
-is_some_map f (Some x) = refl
 
 -- the lowest cell is the one of its number
 record Found (from n : ℕ) (xs : List Numbered) (u : Term) (fields : List (FieldId × Term)) : Type 0 where
@@ -49,7 +44,7 @@ past_step n x xs u false e l = refl
 found_step : (from n : ℕ) (x : Numbered) (xs : List Numbered) (u : Term) (fields : List (FieldId × Term)) (o : Option (List (FieldId × Term))) → fields_at x.atom u ≡ o → from ≤ x.number
     → (lowest_cell xs u ≡ Some (n, fields) → Found (suc x.number) n xs u fields) → this_or x.number o (lowest_cell xs u) ≡ Some (n, fields) → Found from n (x ∷ xs) u fields
 found_step from n x xs u fields (Some fs) is l others e =
-    let p = pair_is (x.number, fs) (n, fields) e in
+    let p = same_Some (x.number, fs) (n, fields) e in
     let same : x.number ≡ n = ap (λ z. z.0) p in
     record { above = omega (arith, l, same); cell = here_step n x xs u (x.number == n) refl same ∙ is ∙ ap (λ z. Some z.1) p }
 found_step from n x xs u fields None is l others e =
@@ -90,7 +85,7 @@ cell_found : (s : State) (u : Term) (wanted : List (FieldId × Operand Term)) (a
 cell_found s u wanted after tag None is r e R m = absurd (cc)
 cell_found s u wanted after tag (Some x) is r e R m =
     let w = found 0 x.0 s.atoms s.next_atom u x.1 r is in
-    tested (list_all (fits x.1) wanted) (t.Cell x.0) tag NotEqual R e (λ b. ap is_some (m x.0) ∙ is_some_map after (hand_over s u wanted x.0)
+    tested (list_all (fits x.1) wanted) (t.Cell x.0) tag NotEqual R e (λ b. ap is_some (m x.0) ∙ mapped_some after (hand_over s u wanted x.0)
     ∙ ap (λ o. is_some (option_and_then (λ fields. cond (list_all (fits fields) wanted) (Some (record s { atoms = without s.atoms x.0; taken = s.taken ++ (record { number = x.0; atom = Points u fields } ∷ []) })) None) o)) w.cell
     ∙ ap (λ b. is_some (cond b (Some (record s { atoms = without s.atoms x.0; taken = s.taken ++ (record { number = x.0; atom = Points u x.1 } ∷ []) })) None)) b)
 
@@ -111,7 +106,7 @@ take_rows s p (also c cs) bindings names todo tag r e = take_row s p c cs bindin
 
 add_rows : (s : State) (p : Place) (cs : Conjuncts Term) (bindings : List (Option Term)) (todo : List Item) (tag : Tag) → choose_add s cs ≡ takes tag → is_some (row_of s (add p (record { conjuncts = cs; bindings = bindings }) ∷ todo) tag) ≡ true
 add_rows s p none bindings todo tag e = absurd (cc)
-add_rows s p (also c cs) bindings todo tag e = tested (is_some (assumed s c)) t.Add tag NotBuilt (row_of s (add p (record { conjuncts = also c cs; bindings = bindings }) ∷ todo)) e (λ b. is_some_map _ (assumed s c) ∙ b)
+add_rows s p (also c cs) bindings todo tag e = tested (is_some (assumed s c)) t.Add tag NotBuilt (row_of s (add p (record { conjuncts = also c cs; bindings = bindings }) ∷ todo)) e (λ b. mapped_some _ (assumed s c) ∙ b)
 
 item_row : (s : State) (todo : List Item) (tag : Tag) → AreRising 0 s.atoms s.next_atom → choose_item s todo ≡ takes tag → is_some (row_of s todo tag) ≡ true
 item_row s [] tag r e = absurd (cc)

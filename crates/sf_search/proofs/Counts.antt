@@ -3,34 +3,19 @@ use Rattle.std.proofs.Common.{◌≡◌, ℕ, suc, ◌+◌, ◌≤◌, ◌==◌,
 use Rattle.std.specs.List.{list_all, AllByRecursion}
 use Rattle.std.specs.Option.{option_map, option_and_then}
 use Rattle.std.proofs.lemmas.Bool.Decides.{Decides-eqb}
+use Rattle.std.proofs.lemmas.Option.{same_Some}
 use Rattle.sf_base.specs.declared.ids.FieldId.{FieldId}
-use Rattle.sf_base.specs.declared.place.Place.{Place}
 use Rattle.sf_core.specs.declared.assertion.Operand.{Operand}
-use Rattle.sf_core.specs.declared.assertion.Operand.TheVariants.{Known, Exists}
-use Rattle.sf_core.specs.Syntax.{Conjunct, Conjuncts, none, also, holds, points, segment, tree, choose, Command, assign, look_up, mutate, new, dispose, if, while, call, fork, with}
 use Rattle.sf_sym.specs.declared.atom.Numbered.{Numbered}
 use Rattle.sf_sym.specs.declared.atom.Atom.TheVariants.{Points}
 use Rattle.sf_sym.specs.declared.state.State.{State}
 use Rattle.sf_sym.specs.declared.tag.Tag.{Tag}
 use Rattle.sf_sym.specs.declared.tag.Tag.TheVariants as t
 use Rattle.sf_sym.specs.declared.term.Term.{Term}
-use Rattle.sf_sym.specs.Goal.{Item, run, add, take, gave, head, again, exit, return, end, Goal}
-use Rattle.sf_sym.specs.Tests.{is_absurd}
+use Rattle.sf_sym.specs.Goal.{Goal}
 use Rattle.sf_search.specs.Ends.{AreRising, HasNumbersAfter}
-use Rattle.sf_rules.specs.Table.{row, row_of, has_numbers, add_row, add_first, mutate_row, return_row, cell_row, cell_first, end_row, assumed, handed_over, mutated, with_cell, with_fields, without, cell_at, fits, new_fields, put_term, one_goal, is_empty, term}
-
--- what f makes of an option
-record Made {X Y : Type 0} (f : X → Y) (o : Option X) (y : Y) : Type 0 where
-  of : X
-  there : o ≡ Some of
-  is : y ≡ f of
-
-some_same : {X : Type 0} (x y : X) → Some x ≡ Some y → x ≡ y
-some_same x y e = cc
-
-made : {X Y : Type 0} (f : X → Y) (o : Option X) (y : Y) → option_map f o ≡ Some y → Made f o y
-made f None y e = absurd (cc)
-made f (Some x) y e = record { of = x; there = refl; is = sym (some_same (f x) y e) }
+use Rattle.sf_search.proofs.Leaves.{One, Grown, Written, Handed, Leaves, row_leaves}
+use Rattle.sf_rules.specs.Table.{row, with_fields, without, cell_at, fits, put_term}
 
 -- numbers go up by one atom at most, and atoms' numbers go on rising
 pub record Raises (s s2 : State) : Type 0 where
@@ -65,173 +50,76 @@ rising_with_fields : (a from : ℕ) (u : Term) (fs : List (FieldId × Term)) (xs
 rising_with_fields a from u fs [] to r = r
 rising_with_fields a from u fs (x ∷ xs) to r = fields_step (x.number == a) a from x (record { number = a; atom = Points u fs }) xs (with_fields xs a u fs) to (λ e. (Decides-eqb x.number a).0 e) refl r.0 r.1 (rising_with_fields a (suc x.number) u fs xs to r.1)
 
-with_cell_raises : (s : State) (u : Term) (fs : List (FieldId × Term)) → Raises s (with_cell s u fs)
-with_cell_raises s u fs = record { symbols = refl; atoms = omega arith; rising = λ r. rising_push 0 s.atoms s.next_atom _ refl r }
-
-made_raises : {X : Type 0} (s : State) (f : X → State) (o : Option X) (s2 : State) → ((x : X) → Raises s (f x)) → option_map f o ≡ Some s2 → Raises s s2
-made_raises s f o s2 each e = let m = made f o s2 e in subst (Raises s) (sym m.is) (each m.of)
-
-assumed_raises : (s : State) (c : Conjunct Term) (s2 : State) → assumed s c ≡ Some s2 → Raises s s2
-assumed_raises s (points p (Known u) fs) s2 e = made_raises s (with_cell s u) (new_fields fs []) s2 (with_cell_raises s u) e
-assumed_raises s (points p (Exists n) fs) s2 e = absurd (cc)
-assumed_raises s (holds p x) s2 e = absurd (cc)
-assumed_raises s (segment p f x y) s2 e = absurd (cc)
-assumed_raises s (tree p l r x) s2 e = absurd (cc)
-assumed_raises s (choose p x y z) s2 e = absurd (cc)
+written_fields : (s : State) (a : ℕ) (u : Term) (f : FieldId) (v : Term) (s2 : State) (o : Option (List (FieldId × Term)))
+    → option_map (λ fields. record s { atoms = with_fields s.atoms a u (put_term f v fields) }) o ≡ Some s2 → Raises s s2
+written_fields s a u f v s2 None e = absurd (cc)
+written_fields s a u f v s2 (Some fields) e = subst (Raises s) (same_Some _ s2 e) (record { symbols = refl; atoms = omega arith; rising = rising_with_fields a 0 u (put_term f v fields) s.atoms s.next_atom })
 
 hand_step : (s s2 : State) (b : Bool) (x : State) → Raises s x → cond b (Some x) None ≡ Some s2 → Raises s s2
-hand_step s s2 true x r e = subst (Raises s) (some_same x s2 e) r
+hand_step s s2 true x r e = subst (Raises s) (same_Some x s2 e) r
 hand_step s s2 false x r e = absurd (cc)
 
-hand_raises : (s : State) (u : Term) (wanted : List (FieldId × Operand Term)) (a : ℕ) (s2 : State) (o : Option (List (FieldId × Term)))
+handed_fields : (s : State) (a : ℕ) (u : Term) (wanted : List (FieldId × Operand Term)) (s2 : State) (o : Option (List (FieldId × Term)))
     → option_and_then (λ fields. cond (list_all (fits fields) wanted) (Some (record s { atoms = without s.atoms a; taken = s.taken ++ (record { number = a; atom = Points u fields } ∷ []) })) None) o ≡ Some s2 → Raises s s2
-hand_raises s u wanted a s2 None e = absurd (cc)
-hand_raises s u wanted a s2 (Some fields) e = hand_step s s2 (list_all (fits fields) wanted) _ (record { symbols = refl; atoms = omega arith; rising = rising_without a 0 s.atoms s.next_atom }) e
+handed_fields s a u wanted s2 None e = absurd (cc)
+handed_fields s a u wanted s2 (Some fields) e = hand_step s s2 (list_all (fits fields) wanted) _ (record { symbols = refl; atoms = omega arith; rising = rising_without a 0 s.atoms s.next_atom }) e
 
-handed_raises : (s : State) (c : Conjunct Term) (a : ℕ) (s2 : State) → handed_over s c a ≡ Some s2 → Raises s s2
-handed_raises s (points p (Known u) wanted) a s2 e = hand_raises s u wanted a s2 (cell_at s.atoms a u) e
-handed_raises s (points p (Exists n) wanted) a s2 e = absurd (cc)
-handed_raises s (holds p x) a s2 e = absurd (cc)
-handed_raises s (segment p f x y) a s2 e = absurd (cc)
-handed_raises s (tree p l r x) a s2 e = absurd (cc)
-handed_raises s (choose p x y z) a s2 e = absurd (cc)
+grown_raises : (s s2 : State) → Grown s s2 → Raises s s2
+grown_raises s s2 w = subst (Raises s) (sym w.is) (record { symbols = refl; atoms = omega arith; rising = λ r. rising_push 0 s.atoms s.next_atom _ refl r })
 
-mutated_raises : (s : State) (u : Term) (f : FieldId) (v : Term) (a : ℕ) (s2 : State) → mutated s u f v a ≡ Some s2 → Raises s s2
-mutated_raises s u f v a s2 e = made_raises s (λ fields. record s { atoms = with_fields s.atoms a u (put_term f v fields) }) (cell_at s.atoms a u) s2
-    (λ fields. record { symbols = refl; atoms = omega arith; rising = rising_with_fields a 0 u (put_term f v fields) s.atoms s.next_atom }) e
+written_raises : (s : State) (a : ℕ) (s2 : State) → Written s a s2 → Raises s s2
+written_raises s a s2 w = written_fields s a w.root w.field w.value s2 (cell_at s.atoms a w.root) w.is
+
+handed_raises : (s : State) (a : ℕ) (s2 : State) → Handed s a s2 → Raises s s2
+handed_raises s a s2 w = handed_fields s a w.root w.wanted s2 (cell_at s.atoms a w.root) w.is
 
 -- each goal that is left has numbers that were raised so
 abbrev RaisesAll : State → List Goal → Type 0
 RaisesAll s left = AllByRecursion (λ h. Raises s h.state) left
 
-one_raises : (s : State) (todo : List Item) (o : Option State) (left : List Goal) → ((s2 : State) → o ≡ Some s2 → Raises s s2) → option_map (one_goal todo) o ≡ Some left → RaisesAll s left
-one_raises s todo o left each e = let m = made (one_goal todo) o left e in subst (RaisesAll s) (sym m.is) (each m.of m.there, tt)
+one_raises : (s : State) (P : State → Type 0) (left : List Goal) → ((s2 : State) → P s2 → Raises s s2) → One P left → RaisesAll s left
+one_raises s P left each w = subst (RaisesAll s) (sym w.is) (each w.goal.state w.like, tt)
 
-no_raises : (s : State) (left : List Goal) (b : Bool) → cond b (Some []) None ≡ Some left → RaisesAll s left
-no_raises s left true e = subst (RaisesAll s) (some_same [] left e) tt
-no_raises s left false e = absurd (cc)
+no_raises : (s : State) (left : List Goal) → left ≡ [] → RaisesAll s left
+no_raises s left e = subst (RaisesAll s) (sym e) tt
 
-add_raises : (s : State) (p : Place) (cs : Conjuncts Term) (bindings : List (Option Term)) (todo : List Item) (left : List Goal) → add_first s p cs bindings todo ≡ Some left → RaisesAll s left
-add_raises s p none bindings todo left e = absurd (cc)
-add_raises s p (also c cs) bindings todo left e = one_raises s _ (assumed s c) left (assumed_raises s c) e
-
-cell_raises : (s : State) (p : Place) (cs : Conjuncts Term) (bindings : List (Option Term)) (names : List (List ℕ)) (todo : List Item) (a : ℕ) (left : List Goal) → cell_first s p cs bindings names todo a ≡ Some left → RaisesAll s left
-cell_raises s p none bindings names todo a left e = absurd (cc)
-cell_raises s p (also c cs) bindings names todo a left e = one_raises s _ (handed_over s c a) left (handed_raises s c a) e
-
-mutate_raises : (s : State) (c : Command) (todo : List Item) (a : ℕ) (left : List Goal) → mutate_row s (run c ∷ todo) a ≡ Some left → RaisesAll s left
-mutate_raises s (mutate p e f v) todo a left h = one_raises s todo (mutated s (term s.vars e) f (term s.vars v) a) left (mutated_raises s (term s.vars e) f (term s.vars v) a) h
-mutate_raises s (assign p x e) todo a left h = absurd (cc)
-mutate_raises s (look_up p x e f) todo a left h = absurd (cc)
-mutate_raises s (new p x) todo a left h = absurd (cc)
-mutate_raises s (dispose p e) todo a left h = absurd (cc)
-mutate_raises s (if p x c d) todo a left h = absurd (cc)
-mutate_raises s (while p x c d) todo a left h = absurd (cc)
-mutate_raises s (call p c) todo a left h = absurd (cc)
-mutate_raises s (fork p c d) todo a left h = absurd (cc)
-mutate_raises s (with p r x c) todo a left h = absurd (cc)
-
-add_row_raises : (s : State) (todo : List Item) (left : List Goal) → add_row s todo ≡ Some left → RaisesAll s left
-add_row_raises s [] left e = absurd (cc)
-add_row_raises s (run c ∷ todo) left e = absurd (cc)
-add_row_raises s (add p given ∷ todo) left e = add_raises s p given.conjuncts given.bindings todo left e
-add_row_raises s (take p want names ∷ todo) left e = absurd (cc)
-add_row_raises s (gave p set removed ∷ todo) left e = absurd (cc)
-add_row_raises s (head p test invariant body ∷ todo) left e = absurd (cc)
-add_row_raises s (again p invariant ∷ todo) left e = absurd (cc)
-add_row_raises s (exit p r ∷ todo) left e = absurd (cc)
-add_row_raises s (return p post ∷ todo) left e = absurd (cc)
-add_row_raises s (end p ∷ todo) left e = absurd (cc)
-
-cell_row_raises : (s : State) (todo : List Item) (a : ℕ) (left : List Goal) → cell_row s todo a ≡ Some left → RaisesAll s left
-cell_row_raises s [] a left e = absurd (cc)
-cell_row_raises s (run c ∷ todo) a left e = absurd (cc)
-cell_row_raises s (add p given ∷ todo) a left e = absurd (cc)
-cell_row_raises s (take p want names ∷ todo) a left e = cell_raises s p want.conjuncts want.bindings names todo a left e
-cell_row_raises s (gave p set removed ∷ todo) a left e = absurd (cc)
-cell_row_raises s (head p test invariant body ∷ todo) a left e = absurd (cc)
-cell_row_raises s (again p invariant ∷ todo) a left e = absurd (cc)
-cell_row_raises s (exit p r ∷ todo) a left e = absurd (cc)
-cell_row_raises s (return p post ∷ todo) a left e = absurd (cc)
-cell_row_raises s (end p ∷ todo) a left e = absurd (cc)
-
-mutate_row_raises : (s : State) (todo : List Item) (a : ℕ) (left : List Goal) → mutate_row s todo a ≡ Some left → RaisesAll s left
-mutate_row_raises s [] a left e = absurd (cc)
-mutate_row_raises s (run c ∷ todo) a left e = mutate_raises s c todo a left e
-mutate_row_raises s (add p given ∷ todo) a left e = absurd (cc)
-mutate_row_raises s (take p want names ∷ todo) a left e = absurd (cc)
-mutate_row_raises s (gave p set removed ∷ todo) a left e = absurd (cc)
-mutate_row_raises s (head p test invariant body ∷ todo) a left e = absurd (cc)
-mutate_row_raises s (again p invariant ∷ todo) a left e = absurd (cc)
-mutate_row_raises s (exit p r ∷ todo) a left e = absurd (cc)
-mutate_row_raises s (return p post ∷ todo) a left e = absurd (cc)
-mutate_row_raises s (end p ∷ todo) a left e = absurd (cc)
-
-return_row_raises : (s : State) (todo : List Item) (left : List Goal) → return_row s todo ≡ Some left → RaisesAll s left
-return_row_raises s [] left e = absurd (cc)
-return_row_raises s (run c ∷ todo) left e = absurd (cc)
-return_row_raises s (add p given ∷ todo) left e = absurd (cc)
-return_row_raises s (take p want names ∷ todo) left e = absurd (cc)
-return_row_raises s (gave p set removed ∷ todo) left e = absurd (cc)
-return_row_raises s (head p test invariant body ∷ todo) left e = absurd (cc)
-return_row_raises s (again p invariant ∷ todo) left e = absurd (cc)
-return_row_raises s (exit p r ∷ todo) left e = absurd (cc)
-return_row_raises s (return p post ∷ todo) left e = subst (RaisesAll s) (some_same _ left e) (same_raises s, tt)
-return_row_raises s (end p ∷ todo) left e = absurd (cc)
-
-end_row_raises : (s : State) (todo : List Item) (left : List Goal) → end_row s todo ≡ Some left → RaisesAll s left
-end_row_raises s [] left e = absurd (cc)
-end_row_raises s (run c ∷ todo) left e = absurd (cc)
-end_row_raises s (add p given ∷ todo) left e = absurd (cc)
-end_row_raises s (take p want names ∷ todo) left e = absurd (cc)
-end_row_raises s (gave p set removed ∷ todo) left e = absurd (cc)
-end_row_raises s (head p test invariant body ∷ todo) left e = absurd (cc)
-end_row_raises s (again p invariant ∷ todo) left e = absurd (cc)
-end_row_raises s (exit p r ∷ todo) left e = absurd (cc)
-end_row_raises s (return p post ∷ todo) left e = absurd (cc)
-end_row_raises s (end p ∷ todo) left e = no_raises s left (is_empty s.atoms) e
-
-row_of_raises : (s : State) (todo : List Item) (tag : Tag) (left : List Goal) → row_of s todo tag ≡ Some left → RaisesAll s left
-row_of_raises s todo (t.Procedure f) left e = absurd (cc)
-row_of_raises s todo (t.Split x y) left e = absurd (cc)
-row_of_raises s todo t.Absurd left e = no_raises s left (is_absurd s) e
-row_of_raises s todo t.Assign left e = absurd (cc)
-row_of_raises s todo t.New left e = absurd (cc)
-row_of_raises s todo t.Then left e = absurd (cc)
-row_of_raises s todo t.Else left e = absurd (cc)
-row_of_raises s todo t.Loop left e = absurd (cc)
-row_of_raises s todo t.Around left e = absurd (cc)
-row_of_raises s todo t.Again left e = absurd (cc)
-row_of_raises s todo t.Call left e = absurd (cc)
-row_of_raises s todo t.Fork left e = absurd (cc)
-row_of_raises s todo t.Enter left e = absurd (cc)
-row_of_raises s todo t.Exit left e = absurd (cc)
-row_of_raises s todo t.Return left e = return_row_raises s todo left e
-row_of_raises s todo t.Give left e = absurd (cc)
-row_of_raises s todo t.End left e = end_row_raises s todo left e
-row_of_raises s todo t.Add left e = add_row_raises s todo left e
-row_of_raises s todo t.Bind left e = absurd (cc)
-row_of_raises s todo t.Same left e = absurd (cc)
-row_of_raises s todo t.Apart left e = absurd (cc)
-row_of_raises s todo t.Empty left e = absurd (cc)
-row_of_raises s todo (t.Drop a) left e = absurd (cc)
-row_of_raises s todo (t.Force a) left e = absurd (cc)
-row_of_raises s todo (t.Unroll a) left e = absurd (cc)
-row_of_raises s todo (t.Look a) left e = absurd (cc)
-row_of_raises s todo (t.Mutate a) left e = mutate_row_raises s todo a left e
-row_of_raises s todo (t.Dispose a) left e = absurd (cc)
-row_of_raises s todo (t.Cell a) left e = cell_row_raises s todo a left e
-row_of_raises s todo (t.Exact a) left e = absurd (cc)
-row_of_raises s todo (t.Head a) left e = absurd (cc)
-row_of_raises s todo (t.Join a) left e = absurd (cc)
-row_of_raises s todo (t.Node a) left e = absurd (cc)
-
-with_numbers : (b : Bool) (s : State) (todo : List Item) (tag : Tag) (left : List Goal) → cond b (row_of s todo tag) None ≡ Some left → RaisesAll s left
-with_numbers true s todo tag left e = row_of_raises s todo tag left e
-with_numbers false s todo tag left e = absurd (cc)
+leaves_raises : (s : State) (tag : Tag) (left : List Goal) → Leaves tag s left → RaisesAll s left
+leaves_raises s (t.Procedure f) left w = absurd w
+leaves_raises s (t.Split x y) left w = absurd w
+leaves_raises s t.Absurd left w = no_raises s left w
+leaves_raises s t.Assign left w = absurd w
+leaves_raises s t.New left w = absurd w
+leaves_raises s t.Then left w = absurd w
+leaves_raises s t.Else left w = absurd w
+leaves_raises s t.Loop left w = absurd w
+leaves_raises s t.Around left w = absurd w
+leaves_raises s t.Again left w = absurd w
+leaves_raises s t.Call left w = absurd w
+leaves_raises s t.Fork left w = absurd w
+leaves_raises s t.Enter left w = absurd w
+leaves_raises s t.Exit left w = absurd w
+leaves_raises s t.Return left w = one_raises s (λ s2. s2 ≡ s) left (λ s2 e. subst (Raises s) (sym e) (same_raises s)) w
+leaves_raises s t.Give left w = absurd w
+leaves_raises s t.End left w = no_raises s left w
+leaves_raises s t.Add left w = one_raises s (Grown s) left (grown_raises s) w
+leaves_raises s t.Bind left w = absurd w
+leaves_raises s t.Same left w = absurd w
+leaves_raises s t.Apart left w = absurd w
+leaves_raises s t.Empty left w = absurd w
+leaves_raises s (t.Drop a) left w = absurd w
+leaves_raises s (t.Force a) left w = absurd w
+leaves_raises s (t.Unroll a) left w = absurd w
+leaves_raises s (t.Look a) left w = absurd w
+leaves_raises s (t.Mutate a) left w = one_raises s (Written s a) left (written_raises s a) w
+leaves_raises s (t.Dispose a) left w = absurd w
+leaves_raises s (t.Cell a) left w = one_raises s (Handed s a) left (handed_raises s a) w
+leaves_raises s (t.Exact a) left w = absurd w
+leaves_raises s (t.Head a) left w = absurd w
+leaves_raises s (t.Join a) left w = absurd w
+leaves_raises s (t.Node a) left w = absurd w
 
 pub row_raises : (g : Goal) (tag : Tag) (left : List Goal) → row g tag ≡ Some left → RaisesAll g.state left
-row_raises g tag left e = with_numbers (has_numbers g.state) g.state g.todo tag left e
+row_raises g tag left e = leaves_raises g.state tag left (row_leaves g tag left e)
 
 raised : (n : ℕ) (g h : Goal) → HasNumbersAfter n g → Raises g.state h.state → HasNumbersAfter (n + 1) h
 raised n g h k r = record { symbols = omega (arith, k.symbols, r.symbols); atoms = omega (arith, k.atoms, r.atoms); rising = r.rising k.rising }

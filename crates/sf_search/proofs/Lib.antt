@@ -1,6 +1,9 @@
 pub mod Chosen
 pub mod Assumable
+pub mod Leaves
 pub mod Counts
+pub mod Possible
 pub mod Trees
 pub mod Choosing
 pub mod Judging
+pub mod BuiltGoals

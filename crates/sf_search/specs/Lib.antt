@@ -2,3 +2,4 @@ pub mod Judge
 pub mod VerdictLaws
 pub mod Choices
 pub mod Ends
+pub mod BuiltLaws

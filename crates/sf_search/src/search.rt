@@ -1,23 +1,25 @@
 //! The search for a proof, procedure by procedure.
 
-ghost use Rattle.std.specs.Prelude.{◌≡◌, ◌++◌, [], ◌∷◌, List, true, is_some, IfOk, IfErr, OnOk};
+ghost use Rattle.std.specs.Prelude.{◌≡◌, ◌++◌, [], ◌∷◌, List, false, true, is_some, IfOk, IfErr, OnOk};
 ghost use Rattle.sf_core.specs.Formed.{ProcedureWithin};
 ghost use Rattle.sf_core.specs.View.{procedure_of};
 ghost use Rattle.sf_core.specs.Whole.{program_of};
 ghost use Rattle.sf_sym.specs.Goal.{Goal as AnyGoal, goal_of};
+ghost use Rattle.sf_sym.specs.Tests.{is_absurd};
 ghost use Rattle.sf_sym.specs.declared.tag.Tag.TheVariants.{Procedure};
 ghost use Rattle.sf_search.specs.Ends.{EndsAs, FailsAs, HasNumbersAfter};
-ghost use Rattle.sf_search.specs.Judge.{Judge, Search, proof, proved};
+ghost use Rattle.sf_search.specs.Choices.{choice_of};
+ghost use Rattle.sf_search.specs.Judge.{Judge, Search, choice, proof, proved};
 ghost use Rattle.sf_rules.specs.Left.{stack_of};
 ghost use Rattle.sf_rules.specs.Table.{first_goal, row};
 
-use crate::strategy::{Choice, Stuck, choose};
+use crate::strategy::{Choice, Stuck, choose, choose_next, keeps_cells};
 use sf_base::ProcId;
 use sf_base::limits::{FILE_TAGS, PROCEDURE_TAGS};
 use sf_core::{Proc, Program};
 use sf_rules::{apply, open_goals, start_goal};
 use sf_sym::{Goal, Tag};
-use std::alloc::{AllocError, Global};
+use std::alloc::{AllocError, AllocFailed, Global};
 
 /// Why a search found no proof.
 #[derive(Drop)]
@@ -30,6 +32,17 @@ pub enum SearchFault<'a> {
     OutOfMemory,
 }
 
+impl<'a> From<AllocError> for SearchFault<'a> {
+    ghost use Rattle.std.specs.Prelude.{◌≡◌};
+    ghost use Rattle.sf_search.specs.declared.search.SearchFault.TheVariants.{OutOfMemory};
+
+    ghost from_gives = { λ _ e. e ≡ OutOfMemory };
+
+    fn from(_error: AllocError) -> SearchFault<'a> {
+        SearchFault::OutOfMemory
+    }
+}
+
 /// Why a program isn't proved.
 #[derive(Debug, Drop)]
 pub enum VerifyFault {
@@ -39,16 +52,36 @@ pub enum VerifyFault {
     OutOfMemory,
 }
 
+impl<'a, T: Drop> From<AllocFailed<T>> for SearchFault<'a> {
+    ghost use Rattle.std.specs.Prelude.{◌≡◌};
+    ghost use Rattle.sf_search.specs.declared.search.SearchFault.TheVariants.{OutOfMemory};
+
+    ghost from_gives = { λ _ e. e ≡ OutOfMemory };
+
+    fn from(_error: AllocFailed<T>) -> SearchFault<'a> {
+        SearchFault::OutOfMemory
+    }
+}
+
+impl From<AllocError> for VerifyFault {
+    ghost use Rattle.std.specs.Prelude.{◌≡◌};
+    ghost use Rattle.sf_search.specs.declared.search.VerifyFault.TheVariants.{OutOfMemory};
+
+    ghost from_gives = { λ _ e. e ≡ OutOfMemory };
+
+    fn from(_error: AllocError) -> VerifyFault {
+        VerifyFault::OutOfMemory
+    }
+}
+
 /// The tags of a proof of the procedure, without its `procedure` tag. An `Err` says how the search ended.
 pub fn search<'a>(alloc: Global, p: &'a Program, f: &'a Proc) -> Result<Vec<Tag>, SearchFault<'a>>
     requires { ProcedureWithin (program_of p.now) (procedure_of f.now) }
     ensures ok { IfOk result (λ tags. Search (first_goal (program_of p.now) (procedure_of f.now)) tags.items proved) }
     ensures err { IfErr result (λ e. EndsAs (first_goal (program_of p.now) (procedure_of f.now)) e) }
 {
-    match start_goal(alloc, p, f) {
-        Ok(first) => search_from(alloc, first),
-        Err(_) => Err(SearchFault::OutOfMemory),
-    }
+    let first = start_goal(alloc, p, f)?;
+    search_from(alloc, first)
 }
 
 /// The tags of a proof of the goal.
@@ -59,23 +92,33 @@ fn search_from<'a>(alloc: Global, first: Goal<'a>) -> Result<Vec<Tag>, SearchFau
 {
     let mut tags = Vec::new(alloc);
     let mut stack = Vec::new(alloc);
-    if stack.push(first).is_err() {
-        return Err(SearchFault::OutOfMemory);
-    }
+    stack.push(first)?;
+    // Whether the next goal's state is known to be one that can be.
+    let mut is_known = false;
     while let Some(goal) = stack.pop() {
-        let tag = match choose(&goal) {
+        let tag = match choose_knowing(&goal, is_known) {
             Choice::Takes(tag) => tag,
             Choice::Stays(kind) => return Err(SearchFault::Stuck(goal, kind)),
         };
         if tags.len() == PROCEDURE_TAGS {
             return Err(SearchFault::TooLarge);
         }
-        match follow(alloc, &mut stack, &mut tags, goal, tag) {
-            Ok(()) => {}
-            Err(_) => return Err(SearchFault::OutOfMemory),
-        }
+        follow(alloc, &mut stack, &mut tags, goal, tag)?;
+        is_known = keeps_cells(tag);
     }
     Ok(tags)
+}
+
+/// What the strategy does at the goal, whose state may be known to be one that can be.
+fn choose_knowing(goal: &Goal, is_known: bool) -> Choice
+    requires { is_known ≡ true → is_absurd goal.now.state ≡ false }
+    ensures { choice_of result ≡ choice (goal_of goal.now) }
+{
+    if is_known {
+        choose_next(goal)
+    } else {
+        choose(goal)
+    }
 }
 
 /// Takes the tag at a goal: what it leaves goes on the stack, and the tag behind the tags. An `Err` is want
@@ -121,10 +164,7 @@ pub fn verify(alloc: Global, p: &Program) -> Result<Vec<Tag>, VerifyFault>
         if spent > FILE_TAGS {
             return Err(VerifyFault::Failed(number));
         }
-        match append(&mut tags, number, &found) {
-            Ok(()) => {}
-            Err(_) => return Err(VerifyFault::OutOfMemory),
-        }
+        append(&mut tags, number, &found)?;
     }
     Ok(tags)
 }

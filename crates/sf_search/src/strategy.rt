@@ -4,19 +4,17 @@ ghost use Rattle.std.specs.Prelude.{◌≡◌, ◌++◌, false, List, is_some};
 ghost use Rattle.std.specs.Option.{option_map};
 ghost use Rattle.sf_core.specs.View.{command_of, conjunct_of};
 ghost use Rattle.sf_sym.specs.declared.state.State.{State as AnyState};
+ghost use Rattle.sf_sym.specs.Tests.{is_absurd};
 ghost use Rattle.sf_sym.specs.Goal.{Item as Thing, goal_of, items_of, pending_of};
-ghost use Rattle.sf_search.specs.Choices.{choice_of, choose_first};
+ghost use Rattle.sf_search.specs.Choices.{choice_of, choose_first, keeps_cells};
 ghost use Rattle.sf_search.specs.Judge.{choice, choose_add, choose_command, choose_end, choose_found, choose_item, choose_mutate, choose_take, choose_wanted, lowest_cell};
-ghost use Rattle.sf_rules.specs.Left.{cell_of, is_nothing};
-ghost use Rattle.sf_rules.specs.Table.{assumed, fields_at};
+ghost use Rattle.sf_rules.specs.Left.{is_nothing};
+ghost use Rattle.sf_rules.specs.Table.{assumed};
 
 use sf_base::FieldId;
 use sf_core::{Command, Conjunct, Operand};
-use sf_rules::cells::{are_fitting, are_known, known};
-use sf_rules::rules::as_mutation;
-use sf_rules::terms::term_of;
-use sf_rules::todo::front;
-use sf_sym::{Atom, Goal, Item, Numbered, Pending, State, Tag, Term};
+use sf_rules::{are_fitting, are_known, as_cell, as_mutation, fields_at, front, known, term_of};
+use sf_sym::{Goal, Item, Numbered, Pending, State, Tag, Term};
 
 /// Why the strategy goes no further at a goal.
 #[derive(Clone, Copy, Debug, PartialEq, Eq)]
@@ -50,10 +48,27 @@ pub fn choose(goal: &Goal) -> Choice
     if goal.state.is_absurd() {
         return Choice::Takes(Tag::Absurd);
     }
+    choose_next(goal)
+}
+
+/// What it does at a goal whose state can be: the item in front decides. It compares no cells with one
+/// another.
+pub fn choose_next(goal: &Goal) -> Choice
+    requires { is_absurd goal.now.state ≡ false }
+    ensures { choice_of result ≡ choice (goal_of goal.now) }
+{
     match front(&goal.todo) {
         Some(item) => choose_item(&goal.state, item),
         None => Choice::Stays(Stuck::NotBuilt),
     }
+}
+
+/// Whether the tag leaves the cells where they are, at least among those that were handed over. A state
+/// that can be still can after such a tag.
+pub fn keeps_cells(tag: Tag) -> bool
+    ensures { result ≡ keeps_cells tag }
+{
+    matches!(tag, Tag::Mutate(_) | Tag::Cell(_) | Tag::Return)
 }
 
 /// What it does at an item that stands for something.
@@ -106,16 +121,6 @@ fn choose_mutate(found: Option<(u32, &[(FieldId, Term)])>) -> Choice
     }
 }
 
-/// The fields of an atom that is a cell at that term.
-fn fields_at(atom: &Atom, t: Term) -> Option<&[(FieldId, Term)]>
-    ensures { option_map (λ x. x.now) result ≡ fields_at atom.now t }
-{
-    match atom {
-        Atom::Points(root, fields) if root.is(t) => Some(fields.as_slice()),
-        Atom::Points(..) | Atom::Ls(..) | Atom::Tree(_) => None,
-    }
-}
-
 /// The lowest atom that is a cell at that term: its number and its fields.
 fn lowest_cell(atoms: &[Numbered], t: Term) -> Option<(u32, &[(FieldId, Term)])>
     ensures { option_map (λ x. (x.0, x.1.now)) result ≡ lowest_cell atoms.now t }
@@ -126,19 +131,6 @@ fn lowest_cell(atoms: &[Numbered], t: Term) -> Option<(u32, &[(FieldId, Term)])>
         }
     }
     None
-}
-
-/// The root and the fields of a points-to.
-fn as_cell(c: &Conjunct<Term>) -> Option<(Operand<Term>, &[(FieldId, Operand<Term>)])>
-    ensures { option_map (λ x. (x.0, x.1.now)) result ≡ cell_of (conjunct_of c.now) }
-{
-    match c {
-        Conjunct::Points(_, root, fields) => Some((*root, fields.as_slice())),
-        Conjunct::Holds(..) => None,
-        Conjunct::Segment(..) => None,
-        Conjunct::Tree(..) => None,
-        Conjunct::If(..) => None,
-    }
 }
 
 /// Whether the conjunct can be assumed.

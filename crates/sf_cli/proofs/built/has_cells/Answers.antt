@@ -3,7 +3,7 @@ use Rattle.std.specs.List.{list_all}
 use Rattle.sf_core.specs.View.{conjunct_of}
 use Rattle.sf_precise.proofs.Views.{view-level}
 use Rattle.sf_cli.proofs.BuiltForms.{built-cells}
-use Rattle.sf_cli.specs.Built.{is_cell, has_cells}
+use Rattle.sf_rules.specs.Built.{is_cell, has_cells}
 use Rattle.sf_cli.proofs.built.has_cells.Goals as goal
 
 pub returns : goal.returns

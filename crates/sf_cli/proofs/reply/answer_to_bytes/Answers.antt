@@ -1,12 +1,12 @@
 use Rattle.sf_core.specs.Whole.{program_of}
-use Rattle.sf_rules.proofs.Answered.{answered-ok}
+use Rattle.std.proofs.lemmas.Result.{IfOk-weaker}
 use Rattle.sf_cli.proofs.Refused.{refused-both}
 use Rattle.sf_cli.specs.Answer.{refused, admitted}
 use Rattle.sf_cli.proofs.reply.answer_to_bytes.Goals as goal
 
 pub returns-in-Ok : goal.returns-in-Ok
 returns-in-Ok c =
-    answered-ok c.answer_to_program.result _ _ (λ said k. admitted (program_of c.in-Ok.arranged.program) c.in-Ok.ensures.admitted k) c.answer_to_program.ensures
+    IfOk-weaker c.answer_to_program.result _ _ (λ said k. admitted (program_of c.in-Ok.arranged.program) c.in-Ok.ensures.admitted k) c.answer_to_program.ensures
 
 pub returns-in-Err : goal.returns-in-Err
 returns-in-Err c =

@@ -1,8 +1,8 @@
 use Rattle.std.proofs.Common.{◌≡◌, true}
 use Rattle.sf_core.specs.Whole.{program_of}
-use Rattle.sf_rules.proofs.Answered.{answered-ok}
+use Rattle.std.proofs.lemmas.Result.{IfOk-weaker}
 use Rattle.sf_cli.specs.Answer.{judged}
-use Rattle.sf_cli.specs.Built.{is_built}
+use Rattle.sf_rules.specs.Built.{is_built}
 use Rattle.sf_cli.proofs.reply.answer_to_program.Goals as goal
 
 pub returns : goal.returns
@@ -10,4 +10,4 @@ returns c =
     let told = c.is_built.ensures in
     let tested = c.if-not-is_built.false in
     let built : is_built (program_of c.args.p.now) ≡ true = cc in
-    answered-ok c.judged.result _ _ (λ said k. judged built k.0 k.1 k.2) c.judged.ensures
+    IfOk-weaker c.judged.result _ _ (λ said k. judged built k.0 k.1 k.2) c.judged.ensures

@@ -7,8 +7,14 @@ use Rattle.sf_search.specs.Judge.{stuck, large, proved}
 use Rattle.sf_rules.specs.Left.{stack_of}
 use Rattle.sf_search.proofs.Choosing.{chosen_row}
 use Rattle.sf_search.proofs.Counts.{numbers_after}
+use Rattle.sf_search.proofs.Possible.{FirstIsPossible, first_possible}
 use Rattle.sf_search.proofs.Trees.{Leads, leads_on, leads_end, stack_push, no_goals}
 use Rattle.sf_search.proofs.search.search_from.Goals as goal
+
+pub choose_knowing-requires : goal.choose_knowing-requires
+choose_knowing-requires c =
+    let stack = ap stack_of c.in-Some.ensures.items ∙ stack_push c.pop.new.self.items c.in-Some.goal in
+    λ e. subst FirstIsPossible stack (c.loop-goal.invariant.known e)
 
 pub follow-requires : goal.follow-requires
 follow-requires c =
@@ -22,20 +28,22 @@ loop-goal-preserved c =
     let stack = ap stack_of c.in-Some.ensures.items ∙ stack_push c.pop.new.self.items c.in-Some.goal in
     let numbers = subst (AllByRecursion (HasNumbersAfter (length c.loop-goal.tags.items))) stack c.loop-goal.invariant.numbers in
     let leads = subst (λ gs. Leads (goal_of c.args.first ∷ []) gs c.loop-goal.tags.items) stack c.loop-goal.invariant.leads in
-    let left = c.in-Ok.ensures.left in
-    let longer : length c.follow.new.tags.items ≡ length c.loop-goal.tags.items + 1 = ap length c.in-Ok.ensures.tags ∙ length-append c.loop-goal.tags.items (c.in-Takes.tag ∷ []) in
+    let left = c.in_ok-follow.ensures.left in
+    let longer : length c.follow.new.tags.items ≡ length c.loop-goal.tags.items + 1 = ap length c.in_ok-follow.ensures.tags ∙ length-append c.loop-goal.tags.items (c.in-Takes.tag ∷ []) in
     let below : length c.loop-goal.tags.items < PROCEDURE_TAGS = search (rules, arith) in
     record {
-      leads = subst (Leads (goal_of c.args.first ∷ []) (stack_of c.follow.new.stack.items)) (sym c.in-Ok.ensures.tags)
+      leads = subst (Leads (goal_of c.args.first ∷ []) (stack_of c.follow.new.stack.items)) (sym c.in_ok-follow.ensures.tags)
           (subst (λ gs. Leads (goal_of c.args.first ∷ []) gs (c.loop-goal.tags.items ++ c.in-Takes.tag ∷ [])) (sym left.2)
           (leads_on (goal_of c.args.first ∷ []) (stack_of c.pop.new.self.items) (goal_of c.in-Some.goal) c.loop-goal.tags.items c.in-Takes.tag left.0 leads (sym c.in-Takes.ensures) left.1));
       numbers = subst (λ n. AllByRecursion (HasNumbersAfter n) (stack_of c.follow.new.stack.items)) (sym longer)
           (subst (AllByRecursion (HasNumbersAfter (length c.loop-goal.tags.items + 1))) (sym left.2) (numbers_after (length c.loop-goal.tags.items) (goal_of c.in-Some.goal) (stack_of c.pop.new.self.items) c.in-Takes.tag left.0 numbers left.1));
+      known = λ e. subst FirstIsPossible (sym left.2)
+          (first_possible (goal_of c.in-Some.goal) (stack_of c.pop.new.self.items) c.in-Takes.tag left.0 (sym c.in-Takes.ensures) left.1 (sym c.keeps_cells-is_known.ensures ∙ e));
       count = omega (arith, longer, below);
     }
 
 pub loop-goal-smaller : goal.loop-goal-smaller
-loop-goal-smaller c = let longer : length c.follow.new.tags.items ≡ length c.loop-goal.tags.items + 1 = ap length c.in-Ok.ensures.tags ∙ length-append c.loop-goal.tags.items (c.in-Takes.tag ∷ []) in let below : length c.loop-goal.tags.items < PROCEDURE_TAGS = search (rules, arith) in omega (arith, longer, below)
+loop-goal-smaller c = let longer : length c.follow.new.tags.items ≡ length c.loop-goal.tags.items + 1 = ap length c.in_ok-follow.ensures.tags ∙ length-append c.loop-goal.tags.items (c.in-Takes.tag ∷ []) in let below : length c.loop-goal.tags.items < PROCEDURE_TAGS = search (rules, arith) in omega (arith, longer, below)
 
 pub returns-in-Stays-clause-err : goal.returns-in-Stays-clause-err
 returns-in-Stays-clause-err c =

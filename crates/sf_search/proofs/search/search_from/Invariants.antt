@@ -1,9 +1,10 @@
-use Rattle.std.proofs.Common.{◌≤◌, ◌-◌, [], ◌∷◌, length}
+use Rattle.std.proofs.Common.{◌≡◌, ◌≤◌, ◌-◌, true, [], ◌∷◌, length}
 use Rattle.sf_base.specs.declared.limits.TheConstants.{PROCEDURE_TAGS}
 use Rattle.std.specs.List.{AllByRecursion}
 use Rattle.sf_sym.specs.Goal.{goal_of}
 use Rattle.sf_search.specs.Ends.{HasNumbersAfter}
 use Rattle.sf_rules.specs.Left.{stack_of}
+use Rattle.sf_search.proofs.Possible.{FirstIsPossible}
 use Rattle.sf_search.proofs.Trees.{Leads}
 use Rattle.sf_search.proofs.search.search_from.Given as goal
 
@@ -11,6 +12,7 @@ abbrev pub invariant-loop-goal : goal.invariant-loop-goal
 invariant-loop-goal l = record {
   leads : Leads (goal_of l.fn.first ∷ []) (stack_of l.stack.items) l.tags.items;
   numbers : AllByRecursion (HasNumbersAfter (length l.tags.items)) (stack_of l.stack.items);
+  known : l.is_known ≡ true → FirstIsPossible (stack_of l.stack.items);
   count : length l.tags.items ≤ PROCEDURE_TAGS;
 }
 

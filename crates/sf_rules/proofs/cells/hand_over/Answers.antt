@@ -1,6 +1,6 @@
 use Rattle.std.proofs.Common.{rules}
 use Rattle.sf_rules.proofs.Numbers.{hand_over_none, hand_over_other, hand_over_is}
-use Rattle.sf_rules.proofs.cells.handed_over.Goals as goal
+use Rattle.sf_rules.proofs.cells.hand_over.Goals as goal
 
 pub returns-in_default : goal.returns-in_default
 returns-in_default c = hand_over_none c.args.state c.args.root c.args.a c.args.wanted.now (search rules)
