@@ -2,6 +2,7 @@
 -- Tasks as the nodes of the binary tree that forks span: O'Hearn, Resources, concurrency and local reasoning, 2007.
 use Rattle.std.specs.Prelude.{◌≡◌, ◌≤◌, ◌-◌, List, length, take, drop, replicate, ◌++◌}
 use Rattle.std.proofs.lemmas.List.{length-take-le, take-append-drop}
+use Rattle.sf_base.specs.declared.limits.TheConstants.{TURNS}
 use Rattle.sf_base.specs.declared.path.Turn.{Turn}
 use Rattle.sf_base.specs.declared.path.Turn.TheVariants.{Left}
 use Rattle.sf_base.specs.declared.path.TaskPath.TheInside.{Inside}
@@ -10,20 +11,20 @@ use Rattle.sf_base.specs.declared.path.TaskPath.TheInside.{Inside}
 abbrev pub turns_of : Inside → List Turn
 turns_of p = take p.len p.turns
 
--- at most 63 turns are kept, and each place behind them is `Left`
+-- at most TURNS turns are kept, and each place behind them is `Left`
 pub record IsPadded (p : Inside) : Type 0 where
-  pub fits : p.len ≤ 63
-  pub full : length p.turns ≡ 63
-  pub rest : drop p.len p.turns ≡ replicate (63 - p.len) Left
+  pub fits : p.len ≤ TURNS
+  pub full : length p.turns ≡ TURNS
+  pub rest : drop p.len p.turns ≡ replicate (TURNS - p.len) Left
 
 -- the path of a list of turns
 abbrev pub path_of : List Turn → Inside
-path_of ts = record { turns = ts ++ replicate (63 - length ts) Left; len = length ts }
+path_of ts = record { turns = ts ++ replicate (TURNS - length ts) Left; len = length ts }
 
 -- a padded path is the path of its turns
 pub path_of-turns_of : (p : Inside) → IsPadded p → path_of (turns_of p) ≡ p
 path_of-turns_of p k =
     let fits : p.len ≤ length p.turns = rw k.full k.fits in
     let len : length (take p.len p.turns) ≡ p.len = length-take-le p.len p.turns fits in
-    let whole : take p.len p.turns ++ replicate (63 - p.len) Left ≡ p.turns = rw (← k.rest) (take-append-drop p.len p.turns) in
+    let whole : take p.len p.turns ++ replicate (TURNS - p.len) Left ≡ p.turns = rw (← k.rest) (take-append-drop p.len p.turns) in
     rw (len, whole)

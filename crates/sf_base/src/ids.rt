@@ -1,3 +1,5 @@
+//! Numbers in place of names: resources, procedures, fields, variables, slots.
+
 /// The number of a resource, in file order from 0.
 #[derive(Clone, Copy, Debug, PartialEq, Eq, PartialOrd, Ord, Hash)]
 pub struct ResId(pub u32);
@@ -13,7 +15,8 @@ pub struct FieldId(pub u32);
 /// A variable, as the text of one procedure or of one invariant names it.
 #[derive(Clone, Copy, Debug, PartialEq, Eq, PartialOrd, Ord, Hash)]
 pub enum Var {
-    /// A variable of the procedure itself: its references, then its values, then its locals.
+    /// A variable of the procedure itself: its references, its values, its declared locals, and its
+    /// primed locals, in this order.
     Own(u32),
     /// A variable of a resource, with its number there.
     Shared(ResId, u32),

@@ -15,3 +15,6 @@ pub use path::{TaskPath, Turn};
 pub use place::Place;
 pub use sequence::Sequence;
 pub use value::Value;
+
+#[cfg(test)]
+mod tests;

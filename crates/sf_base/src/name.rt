@@ -1,3 +1,5 @@
+//! The names of a file.
+
 ghost use Rattle.std.specs.Prelude.{◌≡◌, IfOk};
 
 use std::alloc::{AllocError, Global};

@@ -1,3 +1,5 @@
+//! Where a task stands in the tree of tasks.
+
 ghost use Rattle.std.specs.Prelude.{◌≡◌, ◌<◌, ◌≤◌, [], ◌∷◌, ◌++◌, length};
 
 use crate::limits::TURNS;

@@ -1,3 +1,5 @@
+//! Places in a text.
+
 /// A place in a text, as messages print it.
 #[derive(Clone, Copy, Debug, PartialEq, Eq, PartialOrd, Ord, Hash)]
 pub struct Place {

@@ -1,3 +1,5 @@
+//! Lists that contracts compare as lists.
+
 ghost use Rattle.std.specs.Prelude.{◌≡◌, [], ◌∷◌, ◌++◌, length, OnOk, OnErr, IfErr};
 
 use std::alloc::{AllocFailed, Global};

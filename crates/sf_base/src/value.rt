@@ -1,3 +1,5 @@
+//! The values of variables and fields.
+
 /// What a variable or a field holds. The three kinds never equal one another.
 #[derive(Clone, Copy, Debug, PartialEq, Eq, PartialOrd, Ord, Hash)]
 pub enum Value {

@@ -1,0 +1,22 @@
+//! Each call that asks for memory succeeds where there is ample memory.
+
+use crate::{Name, Sequence};
+use std::test::Fail;
+
+#[test]
+fn a_name_keeps_its_text(rt: HostRuntime) -> Result<(), Fail> {
+    let name = Name::new(rt.alloc(), "list_head'")?;
+    assert_eq!(rt; name.as_str(), "list_head'");
+    Ok(())
+}
+
+#[test]
+fn a_sequence_grows(rt: HostRuntime) -> Result<(), Fail> {
+    let mut numbers = Sequence::new(rt.alloc());
+    numbers.push(7u32)?;
+    numbers.push(3)?;
+    numbers.push(7)?;
+    assert_eq!(rt; numbers.len(), 3);
+    assert_eq!(rt; numbers.as_slice(), [7, 3, 7].as_slice());
+    Ok(())
+}
