@@ -35,9 +35,10 @@ or-second false b e = e
 pub some-same : {X : Type 0} (x y : X) → Some x ≡ Some y → x ≡ y
 some-same x y e = cc
 
--- what is there is not absent, and the other way round
+-- what is there is not absent
 pub some-none : {X : Type 0} (x : X) → Some x ≡ None → ⊥
 some-none x e = cc
 
+-- what is absent is not there
 pub none-not_some : {X : Type 0} (x : X) → None ≡ Some x → ⊥
 none-not_some x e = cc

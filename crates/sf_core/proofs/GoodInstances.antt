@@ -60,6 +60,7 @@ ended-one heap g =
     let one = foot-one (own_one 0) (seen entry_slot (one_in (loc 1))) heap (g.part (task [])) 1 refl mine in
     (one.0, one-whole heap (g.part (task [])) 1 one.0 one.1 one.2 (λ b l e. owned-entry g.part b l (end.all b l e)))
 
+-- an ended entry is good exactly with its cell alone
 pub ended-holds : EndedIsGoodWithItsCellAlone
 ended-holds heap = (ended-one heap, λ o. set-good (ended_with heap) o.0 refl refl o.1)
 
@@ -109,6 +110,7 @@ returning-one heap g =
     let one = foot-one (own_one 0) (seen set_done.fixed.slots (returning_with heap).common.store) heap (g.part (task [])) 1 refl foot in
     (one.0, one.2)
 
+-- a callee at its return is good exactly with its cell
 pub returning-holds : ReturningIsGoodWithItsCell
 returning-holds heap = (returning-one heap, λ o. returning-good heap o.0 o.1)
 
@@ -118,12 +120,14 @@ pub at-location : (o : Option Value) (a : ℕ) → unwrap_or o nil ≡ loc a →
 at-location None a e = absurd (nil-not_loc a e)
 at-location (Some v) a e = ap Some e
 
+-- a free resource has its cell
 pub free_resources-holds : FreeResourcesHaveTheirCell
 free_resources-holds c g free =
     let foot = g.invariants lock guarding refl free in
     let d = sat-one shared_one (seen entry_slot c.common.store) (g.part (resource lock)) foot.sat in
     record { location = d.0; at = at-location (c.common.store (shared lock 0)) d.0 d.2; cell = d.1; there = one-in d.3 foot.splits }
 
+-- an ended entry isn't good while the resource is held
 pub ended_while_held-holds : EndedWhileHeldIsNotGood
 ended_while_held-holds c path end held g = some-none path (sym held ∙ (g.finished end).free lock guarding refl)
 
@@ -190,5 +194,6 @@ skip_ended-one heap g =
     owned b l n (inl e) = absurd (none-not_some l (sym (n.none b) ∙ e))
     owned b l n (inr e) = let at : e.0 ≡ lock = resource-is e.0 lock (only-there guarding e.1 e.0.0 e.2).0 in subst (λ z. g.part (resource z) b ≡ Some l) at e.3
 
+-- an ended entry beside a resource is good exactly with the invariant's cell alone
 pub skip_ended-holds : EndedIsGoodWithTheInvariantAlone
 skip_ended-holds heap = (skip_ended-one heap, λ o. skip_ended-good heap o.0 o.1)

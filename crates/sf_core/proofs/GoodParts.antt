@@ -4,11 +4,12 @@ use Rattle.std.specs.Prelude.{◌≡◌, ◌≢◌, ℕ, zero, suc, ◌+◌, Lis
 use Rattle.std.specs.List.{slice_get}
 use Rattle.std.proofs.Common.{sym, ap, ◌∙◌, refl, subst, inl, inr, arith}
 use Rattle.sf_base.specs.declared.ids.ResId.{ResId}
+use Rattle.sf_base.specs.declared.path.Turn.TheVariants.{Left as left, Right as right}
 use Rattle.sf_base.specs.declared.value.Value.TheVariants.{Nil as nil}
 use Rattle.sf_core.proofs.Cases.{none-not_some}
 use Rattle.sf_core.proofs.MapSplits.{apart-none, rest_of, splits-has_left, splits-has_right, splits-which, splits-rest}
 use Rattle.sf_core.specs.Bad.{Bad}
-use Rattle.sf_core.specs.Config.{Frame, Task, runs, waits, left, right, Path, Config, seen, task_at}
+use Rattle.sf_core.specs.Config.{Frame, Task, runs, waits, Path, Config, seen, task_at}
 use Rattle.sf_core.specs.Enabled.{HasEnded}
 use Rattle.sf_core.specs.Good.{Owner, resource, task, IsOwned, Finished, Good}
 use Rattle.sf_core.specs.GoodParts.{InvariantPart, InvariantParts, FramePart, TaskParts, RestPart, EndsWell}

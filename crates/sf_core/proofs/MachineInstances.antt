@@ -7,6 +7,7 @@ use Rattle.std.proofs.Common.{sym, ap, ap₂, ◌∙◌, refl, subst, inl, inr, 
 use Rattle.sf_base.specs.declared.ids.ResId.{ResId}
 use Rattle.sf_base.specs.declared.ids.Var.{Var}
 use Rattle.sf_base.specs.declared.ids.Var.TheVariants.{Own, Shared}
+use Rattle.sf_base.specs.declared.path.Turn.TheVariants.{Left as left, Right as right}
 use Rattle.sf_base.specs.declared.value.Value.{Value}
 use Rattle.sf_base.specs.declared.value.Value.TheVariants.{Nil as nil, Int as int, Loc as loc}
 use Rattle.sf_core.specs.declared.command.Expr.{Expr}
@@ -17,7 +18,7 @@ use Rattle.sf_core.proofs.Cases.{and-both, none-not_some}
 use Rattle.sf_core.proofs.HeapSplits.{at-same, one-single, put-elsewhere, star-drop_right}
 use Rattle.sf_core.proofs.MapSplits.{apart-none, splits-empty_right}
 use Rattle.sf_core.specs.Bad.{Bad}
-use Rattle.sf_core.specs.Config.{Frame, Task, runs, left, right, Path, Common, Config, seen, task_at, replaced, IsUsed, IsCalled}
+use Rattle.sf_core.specs.Config.{Frame, Task, runs, Path, Common, Config, seen, task_at, replaced, IsUsed, IsCalled}
 use Rattle.sf_core.specs.Enabled.{HasEnded}
 use Rattle.sf_core.specs.Good.{Owner, resource, task, Returns, Good}
 use Rattle.sf_core.specs.HeapStore.{Apart, Splits, Cell, put_field, Heap, IsOne, Slot, shared, own}
@@ -53,6 +54,7 @@ three-new = number-new 3 2 (1 ∷ 0 ∷ []) (omega arith) (number-new 3 1 (0 ∷
 four-new : IsUsed (3 ∷ 2 ∷ 1 ∷ 0 ∷ []) 4 → ⊥
 four-new = number-new 4 3 (2 ∷ 1 ∷ 0 ∷ []) (omega arith) (number-new 4 2 (1 ∷ 0 ∷ []) (omega arith) (number-new 4 1 (0 ∷ []) (omega arith) (number-new 4 0 [] (omega arith) (λ u. u))))
 
+-- a dispose at nil is bad
 pub dispose_at_nil-holds : DisposeAtNilIsBad
 dispose_at_nil-holds s rest = inl (record {
   path = [];
@@ -64,6 +66,7 @@ dispose_at_nil-holds s rest = inl (record {
   absent = tt;
 })
 
+-- three events make, free and make again
 pub freed_locations-holds : FreedLocationsComeAgain
 freed_locations-holds p s n = (
   _,
@@ -87,6 +90,7 @@ freed_locations-holds p s n = (
 forks-deep : 0 < 63
 forks-deep = omega arith
 
+-- both orders, event by event
 pub children_end-holds : ChildrenEndInAnyOrder
 children_end-holds = (
   (
@@ -142,6 +146,7 @@ one-sat x see heap location k e o = (
 pub sat-one : (x : Expr) (see : Expr → Value) (heap : Heap) → Sat (one_cell_at x).level see (λ n. nil) heap → (location : ℕ) × (k : Cell) × (see x ≡ loc location) × IsOne location k heap
 sat-one x see heap d = let e = star-drop_right d.2 in (e.0, e.1, e.2, e.3)
 
+-- what a choice between something and nothing gives, it gives where the test is true
 pub cond-some : {X : Type 0} (b : Bool) (x y : X) → cond b (Some x) None ≡ Some y → b ≡ true
 cond-some true x y e = refl
 cond-some false x y e = absurd (cc)
@@ -149,6 +154,7 @@ cond-some false x y e = absurd (cc)
 var-differs : (r : ResId) (i : ℕ) → Own 0 ≡ Shared r i → ⊥
 var-differs r i e = absurd (cc)
 
+-- the start of `main`
 pub setting_starts-holds : SettingStarts
 setting_starts-holds k = record {
   procedure = main;
@@ -197,6 +203,7 @@ entry_part h (resource r) = λ a. None
 entry_part h (task []) = h
 entry_part h (task (turn ∷ path)) = λ a. None
 
+-- these parts are disjoint
 pub entry_part-apart : (h : Heap) (owner other : Owner) → owner ≢ other → (a : ℕ) → Apart (entry_part h owner a) (entry_part h other a)
 entry_part-apart h (resource r) other n a = tt
 entry_part-apart h (task []) (resource r) n a = apart-none (h a)
@@ -251,6 +258,7 @@ ended-good p c frame g none_there only done is sat = record {
 pub set-good : (c : Config) (k : Cell) → c.tasks ≡ runs (main_done ∷ []) → c.common.store (own 0 0) ≡ Some (loc 1) → IsOne 1 k c.common.heap → Good setting c
 set-good c k only e o = ended-good setting c main_done main refl only refl refl (one-sat (own_one 0) (seen entry_slot c.common.store) c.common.heap 1 k (ap (λ z. unwrap_or z nil) e) o)
 
+-- the three events, and that their end is good
 pub call_mutate_return-holds : CallMutateReturn
 call_mutate_return-holds k = (
   _,
@@ -282,6 +290,7 @@ six-new =
     (number-new 6 4 (3 ∷ 2 ∷ 1 ∷ 0 ∷ []) (omega arith)
     (number-new 6 3 (2 ∷ 1 ∷ 0 ∷ []) (omega arith) (number-new 6 2 (1 ∷ 0 ∷ []) (omega arith) (number-new 6 1 (0 ∷ []) (omega arith) (number-new 6 0 [] (omega arith) (λ u. u))))))
 
+-- the events of the fork and of both children
 pub children_fill-holds : ChildrenFillReferences
 children_fill-holds = (
   _,
@@ -308,6 +317,7 @@ children_fill-holds = (
   record { first = refl; second = refl; left_gone = (refl, refl); right_gone = (refl, refl); ended = refl },
 )
 
+-- the events of the two calls, the assignment and the two returns
 pub references-holds : ReferencesArePassedOn
 references-holds = (
   _,
@@ -332,6 +342,7 @@ references-holds = (
   refl,
 )
 
+-- the events of the region and of the loop
 pub region_then_loop-holds : RegionThenLoop
 region_then_loop-holds p s free = (
   _,

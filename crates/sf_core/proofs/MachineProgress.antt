@@ -4,11 +4,12 @@ use Rattle.std.specs.Prelude.{◌≡◌, ◌≢◌, ℕ, List, [], ◌∷◌, Op
 use Rattle.std.proofs.Common.{sym, ap, ◌∙◌, refl, subst, inl, inr, arith}
 use Rattle.std.proofs.lemmas.Bool.{cases_lt}
 use Rattle.sf_base.specs.declared.limits.TheConstants.{TURNS}
+use Rattle.sf_base.specs.declared.path.Turn.TheVariants.{Left as left, Right as right}
 use Rattle.sf_base.specs.declared.value.Value.{Value}
 use Rattle.sf_base.specs.declared.value.Value.TheVariants.{Nil as nil, Int as int, Loc as loc}
 use Rattle.sf_core.specs.declared.command.Expr.{Expr}
 use Rattle.sf_core.specs.Bad.{IsAbsent}
-use Rattle.sf_core.specs.Config.{Item, command, leave, Fixed, Frame, Task, runs, waits, left, right, Path, Common, Config, seen, task_at, replaced, IsUsed, IsCalled}
+use Rattle.sf_core.specs.Config.{Item, command, leave, Fixed, Frame, Task, runs, waits, Path, Common, Config, seen, task_at, replaced, IsUsed, IsCalled}
 use Rattle.sf_core.specs.Enabled.{HasEnded, IsShut, IsEnabled, Thing, cell}
 use Rattle.sf_core.specs.HeapStore.{Cell, Heap}
 use Rattle.sf_core.specs.MachineLaws.{CommandMakes, FrameMakes, Makes, CommandStops, FrameStops, Stops}

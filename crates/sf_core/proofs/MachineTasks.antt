@@ -2,7 +2,9 @@
 -- Names: `task_at-WHAT` speaks of the tree, `enabled-WHAT` of enabled tasks, `WHAT-or_stop` of the step that there is or what keeps it.
 use Rattle.std.specs.Prelude.{◌≡◌, ◌≢◌, List, [], ◌∷◌, Some, ◌⊎◌}
 use Rattle.std.proofs.Common.{sym, ap, ◌∙◌, refl, subst, inl, inr}
-use Rattle.sf_core.specs.Config.{Item, command, Fixed, Frame, Task, runs, waits, Turn, left, right, Path, Common, Config, task_at, replaced, IsCalled, IsOver}
+use Rattle.sf_base.specs.declared.path.Turn.{Turn}
+use Rattle.sf_base.specs.declared.path.Turn.TheVariants.{Left as left, Right as right}
+use Rattle.sf_core.specs.Config.{Item, command, Fixed, Frame, Task, runs, waits, Path, Common, Config, task_at, replaced, IsCalled, IsOver}
 use Rattle.sf_core.specs.Enabled.{HasEnded, IsShut, IsBlocked, IsEnabled}
 use Rattle.sf_core.specs.MachineLaws.{Part, IsAbove, WaitsWith, Leaves}
 use Rattle.sf_core.specs.Step.{Event, Goes, TaskStep, Step}

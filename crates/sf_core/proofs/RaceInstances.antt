@@ -2,10 +2,11 @@
 -- Names: `WHAT-holds` proves the statement of that name, `side-WHAT` speaks of two tasks side by side.
 use Rattle.std.specs.Prelude.{◌≡◌, ◌≢◌, ℕ, List, [], ◌∷◌, Option, Some, None, ◌⊎◌}
 use Rattle.std.proofs.Common.{sym, ap, ◌∙◌, refl, subst, inl, inr, arith}
+use Rattle.sf_base.specs.declared.path.Turn.TheVariants.{Left as left, Right as right}
 use Rattle.sf_core.specs.declared.command.Expr.{Expr}
 use Rattle.sf_core.proofs.Cases.{none-not_some, some-none}
 use Rattle.sf_core.specs.Bad.{Bad, IsAbsent, next_root}
-use Rattle.sf_core.specs.Config.{Item, Frame, Task, runs, left, right, Path, Common, seen, task_at}
+use Rattle.sf_core.specs.Config.{Item, Frame, Task, runs, Path, Common, seen, task_at}
 use Rattle.sf_core.specs.Enabled.{IsShut, IsBlocked, IsEnabled, Thing, variable, cell, FrameReads, FrameWrites, Reads, Writes}
 use Rattle.sf_core.specs.HeapStore.{Cell, shared, own}
 use Rattle.sf_core.specs.MachineInstances.{lock, own_one, one_at, child_slots, child, side_by_side, at_one_cell, mutates, looks_up, enters, TwoMutationsRace, MutationAndLookUpRace, TwoLookUpsDoNotRace, TwoEntriesDoNotRace, HeldRegionsWait, sets_shared, tests_shared, enters_by_shared, passes_shared, makes_one, AssignmentAndTestRace, AssignmentAndConditionRace, AssignmentAndReferenceDoNotRace, NewAndLookUpDoNotRace}
@@ -94,6 +95,7 @@ right-enabled this i rest s n = record { there = refl; going = λ h. h; free = n
 turns-differ : left ∷ [] ≡ right ∷ [] → ⊥
 turns-differ e = absurd (cc)
 
+-- both write the cell
 pub two_mutations-holds : TwoMutationsRace
 two_mutations-holds k = inr (record {
   path = left ∷ [];
@@ -108,6 +110,7 @@ two_mutations-holds k = inr (record {
   meets = inr refl;
 })
 
+-- the one writes the cell that the other reads
 pub mutation_and_look_up-holds : MutationAndLookUpRace
 mutation_and_look_up-holds k = (
   inr (record {
@@ -158,12 +161,14 @@ look_ups-mind : (thing : Thing) (i j k : ℕ) → thing ≡ variable (own 1 i) �
 look_ups-mind thing i j k e (inl f) n m = things-differ thing i j e f n
 look_ups-mind thing i j k e (inr f) n m = things-differ thing i k e (inl f) m
 
+-- they read one cell and write different slots
 pub two_look_ups-holds : TwoLookUpsDoNotRace
 two_look_ups-holds k =
     side-good looks_up looks_up (at_one_cell k None) (finds-cell k None) (finds-cell_too k None)
     (λ thing w m. look_ups-mind thing 1 2 3 w m (omega arith) (omega arith))
     (λ thing w m. look_ups-mind thing 3 0 1 w m (omega arith) (omega arith))
 
+-- they write nothing
 pub two_entries-holds : TwoEntriesDoNotRace
 two_entries-holds k =
     side-good enters enters (at_one_cell k None) (λ root e a. none-not_some root e) (λ root e a. none-not_some root e) (λ thing w m. w) (λ thing w m. w)
@@ -172,11 +177,13 @@ nothing-met : ⊥ ⊎ ⊥ → ⊥
 nothing-met (inl x) = x
 nothing-met (inr x) = x
 
+-- the task at the held region isn't enabled, and the other finds its cell
 pub held_regions-holds : HeldRegionsWait
 held_regions-holds k =
     let waiting = right-waits mutates _ [] (at_one_cell k (Some (left ∷ []))) (some-none (left ∷ [])) in
     (waiting, side-waits mutates enters (at_one_cell k (Some (left ∷ []))) (finds-cell k (Some (left ∷ []))) waiting)
 
+-- the one writes the variable that the other reads
 pub assignment_and_test-holds : AssignmentAndTestRace
 assignment_and_test-holds s = inr (record {
   path = left ∷ [];
@@ -191,6 +198,7 @@ assignment_and_test-holds s = inr (record {
   meets = inl (inl refl);
 })
 
+-- the one writes what the condition reads, but a region of a held resource waits
 pub assignment_and_condition-holds : AssignmentAndConditionRace
 assignment_and_condition-holds s = (
   λ free. inr (record {
@@ -208,10 +216,12 @@ assignment_and_condition-holds s = (
   λ path held. side-waits sets_shared enters_by_shared s (λ root e a. none-not_some root e) (right-waits sets_shared _ [] s (λ free. some-none path (sym held ∙ free))),
 )
 
+-- a call doesn't read a reference
 pub assignment_and_reference-holds : AssignmentAndReferenceDoNotRace
 assignment_and_reference-holds s =
     side-good sets_shared passes_shared s (λ root e a. none-not_some root e) (λ root e a. none-not_some root e) (λ thing w m. nothing-met m) (λ thing w m. w)
 
+-- the cell of a `new` isn't one that is there
 pub new_and_look_up-holds : NewAndLookUpDoNotRace
 new_and_look_up-holds k =
     side-good makes_one looks_up (at_one_cell k None) (λ root e a. none-not_some root e) (finds-cell_too k None)

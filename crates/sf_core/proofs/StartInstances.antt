@@ -26,6 +26,7 @@ use Rattle.sf_core.specs.Syntax.{Procedure, Resource}
 shared-occurs : VarOccursIn (one_cell_at shared_one).level (Shared lock 0)
 shared-occurs = (at_shared, refl, (inl (inl refl), tt))
 
+-- the start of `skip` at the invariant's cell
 pub skip_starts-holds : SkipStartsWithTheInvariant
 skip_starts-holds k = record {
   procedure = skip;
@@ -65,6 +66,7 @@ skip_starts-holds k = record {
         (guarding, ap (slice_get (guarding ∷ [])) (at-same 0 r.0 b.0), below)
     no_more (own f i) v e = absurd (none-not_some v e)
 
+-- whatever heap it starts with is that cell
 pub skip_starts_with-holds : SkipStartsWithNothingElse
 skip_starts_with-holds store heap c s =
     let same : skip ≡ s.procedure = cc (s.there) in
@@ -73,8 +75,10 @@ skip_starts_with-holds store heap c s =
     let d = sat-one shared_one (seen entry_slot store) heap (star-drop_right (star-drop_left (star-map_left (λ part e. e.2) pre))) in
     (d.0, d.1, at-location (store (shared lock 0)) d.0 d.2, d.3)
 
+-- which the empty heap isn't
 pub skip_does_not_start-holds : SkipDoesNotStartWithNothing
 skip_does_not_start-holds store heap c none s = let d = skip_starts_with-holds store heap c s in one-not_empty d.3 none
 
+-- it holds the resource through its precondition
 pub holders_do_not_start-holds : HoldersDoNotStart
 holders_do_not_start-holds store heap c s = s.holds_none lock (record { procedure = takes; there = refl; variable = 0; occurs = inl shared-occurs })

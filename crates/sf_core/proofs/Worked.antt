@@ -32,6 +32,7 @@ second-alone u v false b e = ap (λ t. cond t (Some v) None) e
 second-is_one : IsOne 2 (tail nil) (remove_cell 1 two_cells)
 second-is_one = record { here = refl; elsewhere = λ b n. second-alone (tail (loc 2)) (tail nil) (b == 1) (b == 2) (at-other 2 b n) }
 
+-- the first cell, and the second as a list
 pub two_cells-list : TwoCellsAreACellAndAList
 two_cells-list = (
   λ n. nil,
@@ -43,10 +44,12 @@ two_cells-list = (
 cell_and_list-determined : Determined cell_and_list
 cell_and_list-determined = take (points place x ((tl, y) ∷ [])) (also (segment place tl y nothing) none) (inl (refl, refl)) (plain tt) (take (segment place tl y nothing) none (inl (refl, refl)) (plain (tt, tt)) (all_taken refl))
 
+-- it is determined, so no other part satisfies it
 pub two_cells-no_less : NoLessIsACellAndAList
 two_cells-no_less part rest s d =
     determined-precise cell_and_list (value (where_are (loc 1) (loc 2))) (λ n. nil) cell_and_list-determined two_cells part two_cells rest empty_map s (splits-empty_right empty-holds) d two_cells-list
 
+-- each branch by its test
 pub choice-by_test : ChoiceGoesByItsTest
 choice-by_test v w heap = (
   λ e. (
@@ -63,6 +66,7 @@ field-outside : (w : Value) → SameOutside one_scope (λ n. nil) (λ n. cond (n
 field-outside w n (inl o) = absurd (omega arith)
 field-outside w n (inr o) = ap (λ t. cond t w nil) (at-other 0 n (λ (e : n ≡ 0). omega arith))
 
+-- the existential has the field's value
 pub existential-field : ExistentialIsTheFieldsValue
 existential-field location here w = (
   λ d.
@@ -80,6 +84,7 @@ beside_none location other here more left right s e o =
     let same : other ≡ location = elim (at-which location other) [ inl i ↦ i | inr n ↦ absurd (none-not_some more (sym ((one-single location here).elsewhere other n) ∙ there)) ] in
     none-not_some more (sym (splits-lacks_right location here s e) ∙ ap right (sym same) ∙ o.here)
 
+-- the field's value decides; the other branch would want a second cell
 pub existential-choice : ExistentialDecidesAChoice
 existential-choice location here w = (
   λ d. forth (star-map_right (λ part f. star-drop_right f) d.2),
@@ -102,6 +107,7 @@ existential-choice location here w = (
           | inr n ↦ let f = star-drop_right (d.second.1 n).2 in absurd (beside_none location f.0 here f.1 d.left d.right d.splits (ap d.left at ∙ d.first.3.here ∙ ap Some (sym same)) f.3)
         ]
 
+-- the existential has the second cell's location
 pub existential-branch : ExistentialOfABranchIsMadeThere
 existential-branch w = (
   (
@@ -122,6 +128,7 @@ existential-branch w = (
   ),
 )
 
+-- a node with two empty trees
 pub one_node-tree : OneNodeIsATree
 one_node-tree location w = (
   λ n. nil,
@@ -132,6 +139,7 @@ one_node-tree location w = (
 one-not_nine : (n : ℕ) → n ≡ 1 → n ≡ 9 → ⊥
 one-not_nine n e f = omega arith
 
+-- one cell, and the end behind it
 pub segment-absent_end : SegmentMayEndAtAnAbsentCell
 segment-absent_end = (λ n. nil, λ n o. refl, star-empty_right (seg-one 1 (tail (loc 9)) (λ e. one-not_nine 1 refl (loc-same 1 9 e)) refl (one-single 1 (tail (loc 9))) refl))
 
@@ -145,9 +153,11 @@ circle-no_seg {to} {heap = heap} (cell n a c g rest p o u d) i w =
     let there : again.0 ≡ a = loc-same again.0 a (sym again.2 ∙ back ∙ ap loc (sym here)) in
     none-not_some again.1 (sym (splits-lacks_right a c u o.here) ∙ ap rest (sym there) ∙ again.3)
 
+-- the cell would have to stand again in the rest
 pub circle-no_segment : CircleIsNoSegment
 circle-no_segment w d = circle-no_seg (star-drop_right d.2) refl (one-single 1 (tail (loc 1)))
 
+-- the second conjunct, then the first
 pub order-found : OrderIsFound
 order-found = take (points place x ((tl, unknown) ∷ [])) (also (segment place tl unknown nothing) none) (inr (none, inl (refl, refl), refl)) (plain tt) (take (segment place tl unknown nothing) none (inl (refl, refl)) (plain (refl, tt)) (all_taken refl))
 
@@ -169,6 +179,7 @@ unknown-no_order known cs k e (take c rest leaves f o) = go (subst (λ z. Leaves
     go (inl i) = unknown-not_taken known c k i.0 f
     go (inr i) = i.1
 
+-- its only conjunct is never ready
 pub tree-undetermined : TreeOfAnUnknownIsUndetermined
 tree-undetermined d = unknown-no_order (λ n. false) _ refl refl d
 

@@ -5,6 +5,8 @@ use Rattle.std.specs.Option.{unwrap_or}
 use Rattle.sf_base.specs.declared.ids.ProcId.{ProcId}
 use Rattle.sf_base.specs.declared.ids.ResId.{ResId}
 use Rattle.sf_base.specs.declared.ids.Var.{Var}
+use Rattle.sf_base.specs.declared.path.Turn.{Turn}
+use Rattle.sf_base.specs.declared.path.Turn.TheVariants.{Left as left, Right as right}
 use Rattle.sf_base.specs.declared.value.Value.{Value}
 use Rattle.sf_base.specs.declared.value.Value.TheVariants.{Nil as nil}
 use Rattle.sf_core.specs.declared.command.Expr.{Expr}
@@ -49,11 +51,7 @@ pub data Task : Type 0 where
   runs : List Frame → Task
   waits : List Frame → (left right : Task) → Task
 
--- which of the two children of a fork
-pub data Turn : Type 0 where
-  left right : Turn
-
--- where a task stands in the tree: the turns from the entry's task down to it
+-- where a task stands in the tree: the turns from the entry's task down to it, each to one of the two children of a fork
 abbrev pub Path : Type 0
 Path = List Turn
 

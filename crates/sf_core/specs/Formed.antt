@@ -79,15 +79,18 @@ abbrev pub FieldsWithin : List (List ℕ) → (Operand Expr → Type 0) → List
 FieldsWithin fields P [] = Unit {0}
 FieldsWithin fields P (f ∷ fs) = (f.0.0 < length fields) × P f.1 × All (λ g. g.0.0 ≢ f.0.0) fs × FieldsWithin fields P fs
 
--- levels mention only those variables, existentials of the levels around them, and fields that are there; predicates have their own fields
+-- what an annotation may mention: only those variables, existentials of the levels around it, and fields that are there
 abbrev mutual
+  -- a level may mention the existentials that it makes, besides those of the levels around it
   pub LevelWithin : List (List ℕ) → (Var → Type 0) → List Scope → Level Expr → Type 0
   LevelWithin fields V made (level here cs) = ConjunctsWithin fields V (here ∷ made) cs
 
+  -- each of the conjuncts is in order
   pub ConjunctsWithin : List (List ℕ) → (Var → Type 0) → List Scope → Conjuncts Expr → Type 0
   ConjunctsWithin fields V made none = Unit {0}
   ConjunctsWithin fields V made (also c cs) = ConjunctWithin fields V made c × ConjunctsWithin fields V made cs
 
+  -- a conjunct's operands are in order, its fields are there, and a segment or a tree has the fields of that name
   pub ConjunctWithin : List (List ℕ) → (Var → Type 0) → List Scope → Conjunct Expr → Type 0
   ConjunctWithin fields V made (holds q t) = TestWithin (OperandWithin V made) t
   ConjunctWithin fields V made (points q x fs) = OperandWithin V made x × FieldsWithin fields (OperandWithin V made) fs
@@ -97,13 +100,16 @@ abbrev mutual
 
 -- the scopes of an annotation in text order, outer ones first, and behind them those
 abbrev mutual
+  -- of a level: its own, and those of its conjuncts
   pub level_scopes : {E : Type 0} → Level E → List Scope → List Scope
   level_scopes (level here cs) rest = here ∷ conjuncts_scopes cs rest
 
+  -- of conjuncts: those of each
   pub conjuncts_scopes : {E : Type 0} → Conjuncts E → List Scope → List Scope
   conjuncts_scopes none rest = rest
   conjuncts_scopes (also c cs) rest = conjunct_scopes c (conjuncts_scopes cs rest)
 
+  -- of a conjunct: a choice has those of its branches, the others have none
   pub conjunct_scopes : {E : Type 0} → Conjunct E → List Scope → List Scope
   conjunct_scopes (holds q t) rest = rest
   conjunct_scopes (points q x fs) rest = rest
@@ -118,13 +124,16 @@ AreNumbered from (s ∷ ss) = (s.first ≡ from) × AreNumbered (from + s.count)
 
 -- how deep levels are nested, the outermost counted
 abbrev mutual
+  -- a level is one deeper than its conjuncts
   pub level_depth : {E : Type 0} → Level E → ℕ
   level_depth (level here cs) = suc (conjuncts_depth cs)
 
+  -- conjuncts are as deep as the deepest of them
   pub conjuncts_depth : {E : Type 0} → Conjuncts E → ℕ
   conjuncts_depth none = 0
   conjuncts_depth (also c cs) = max (conjunct_depth c) (conjuncts_depth cs)
 
+  -- a choice is as deep as its deeper branch, and the others have no depth
   pub conjunct_depth : {E : Type 0} → Conjunct E → ℕ
   conjunct_depth (holds q t) = 0
   conjunct_depth (points q x fs) = 0
@@ -154,8 +163,9 @@ pub record CallWithin (p : Program) (f : Procedure) (c : Call) : Type 0 where
   pub references : All (λ x. IsSettable p f x.var) c.references
   pub values : All (ExprWithin (IsInBody p f)) c.values
 
--- commands of f's body are in order
+-- what commands of f's body may do
 abbrev mutual
+  -- a command sets and reads variables that it may, its fields, resources and callees are there, and what is inside it is in order
   pub CommandWithin : Program → Procedure → Command → Type 0
   CommandWithin p f (assign q x e) = IsSettable p f x.var × ExprWithin (IsInBody p f) e
   CommandWithin p f (look_up q x e field) = IsSettable p f x.var × ExprWithin (IsInBody p f) e × (field.0 < length p.fields)
@@ -168,12 +178,14 @@ abbrev mutual
   CommandWithin p f (fork q c d) = CallWithin p f c × CallWithin p f d
   CommandWithin p f (with q r t c) = (r.0 < length p.resources) × TestWithin (ExprWithin (IsInBody p f)) t × BlockWithin p f c
 
+  -- each command of a block is in order
   pub BlockWithin : Program → Procedure → Block → Type 0
   BlockWithin p f done = Unit {0}
   BlockWithin p f (then c b) = CommandWithin p f c × BlockWithin p f b
 
 -- how deep commands are nested
 abbrev mutual
+  -- a command is one deeper than what is inside it
   pub command_depth : Command → ℕ
   command_depth (assign q x e) = 1
   command_depth (look_up q x e field) = 1
@@ -186,6 +198,7 @@ abbrev mutual
   command_depth (fork q c d) = 1
   command_depth (with q r t c) = suc (block_depth c)
 
+  -- a block is as deep as the deepest of its commands
   pub block_depth : Block → ℕ
   block_depth done = 0
   block_depth (then c b) = max (command_depth c) (block_depth b)

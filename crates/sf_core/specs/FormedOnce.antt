@@ -30,6 +30,7 @@ different-prop x y = →_prop ⊥-prop
 All-prop : {A : Type 0} (P : A → Type 0) → ((x : A) → IsProp (P x)) → (xs : List A) → IsProp (All P xs)
 All-prop P one xs = Π_prop (λ k. Π_prop (λ d. →_prop (one _)))
 
+-- that a name is found at a number, or nowhere, holds in one way
 pub IsFirstNamed-prop : (names : List (List ℕ)) (name : List ℕ) (answer : Option ℕ) → IsProp (IsFirstNamed names name answer)
 IsFirstNamed-prop names name None = Π_prop (λ k. different-prop _ _)
 IsFirstNamed-prop names name (Some k) = ×_prop (Coded-set (coded_option (coded_list coded_ℕ)) _ _) (Π_prop (λ j. →_prop (different-prop _ _)))
@@ -148,6 +149,7 @@ ProcedureWithin-prop p f s t = λ i. record {
   depth = le_prop s.depth t.depth i;
 }
 
+-- that a program is in order holds in one way
 pub IsFormed-prop : (p : Program) → IsProp (IsFormed p)
 IsFormed-prop p s t = λ i. record {
   procedures = Π_prop (λ k. Π_prop (λ f. →_prop (ProcedureWithin-prop p f))) s.procedures t.procedures i;

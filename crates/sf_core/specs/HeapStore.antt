@@ -24,7 +24,7 @@ pub record Splits {K X : Type 0} (whole left right : Map K X) : Type 0 where
 pub record IsEmpty {K X : Type 0} (map : Map K X) : Type 0 where
   pub none : (key : K) → map key ≡ None
 
--- a cell: a value for each field, by the field's number
+-- a cell: a value for each field, by the field's number; at a number that the file has no field of, nothing looks
 abbrev pub Cell : Type 0
 Cell = ℕ → Value
 
@@ -32,7 +32,7 @@ Cell = ℕ → Value
 abbrev pub put_field : Cell → ℕ → Value → Cell
 put_field cell field value = λ other. cond (other == field) value (cell other)
 
--- a heap: the cells by their locations, which are counted from 1
+-- a heap: the cells by their locations. A `new` never gives 0; what is said of all heaps is said of those without 0 too
 abbrev pub Heap : Type 0
 Heap = Map ℕ Cell
 

@@ -5,6 +5,7 @@ use Rattle.sf_base.specs.declared.ids.FieldId.{FieldId}
 use Rattle.sf_base.specs.declared.ids.ResId.{ResId}
 use Rattle.sf_base.specs.declared.ids.Var.{Var}
 use Rattle.sf_base.specs.declared.ids.Var.TheVariants.{Own, Shared}
+use Rattle.sf_base.specs.declared.path.Turn.TheVariants.{Left as left, Right as right}
 use Rattle.sf_base.specs.declared.place.Place.{Place}
 use Rattle.sf_base.specs.declared.value.Value.{Value}
 use Rattle.sf_base.specs.declared.value.Value.TheVariants.{Nil as nil, Int as int, Loc as loc}
@@ -14,7 +15,7 @@ use Rattle.sf_core.specs.declared.command.Expr.{Expr}
 use Rattle.sf_core.specs.declared.command.Expr.TheVariants.{Var as Variable, Nil, Int}
 use Rattle.sf_core.specs.declared.command.Occurrence.{Occurrence}
 use Rattle.sf_core.specs.Bad.{Bad}
-use Rattle.sf_core.specs.Config.{Item, command, Fixed, Frame, Task, runs, waits, left, right, Path, Common, Config}
+use Rattle.sf_core.specs.Config.{Item, command, Fixed, Frame, Task, runs, waits, Path, Common, Config}
 use Rattle.sf_core.specs.Enabled.{HasEnded, IsEnabled}
 use Rattle.sf_core.specs.Good.{Good}
 use Rattle.sf_core.specs.HeapStore.{Cell, put_field, Heap, IsEmpty, IsOne, Slot, shared, own, same_slot, Store}

@@ -3,8 +3,9 @@
 use Rattle.std.specs.Prelude.{◌≡◌, ◌≢◌, ℕ, List, [], ◌∷◌, ◌++◌, Option, Some, None, ◌⊎◌, ◌↔◌, length, ◌≤◌}
 use Rattle.sf_base.specs.declared.ids.ResId.{ResId}
 use Rattle.sf_base.specs.declared.limits.TheConstants.{TURNS}
+use Rattle.sf_base.specs.declared.path.Turn.TheVariants.{Left as left, Right as right}
 use Rattle.sf_core.specs.Bad.{IsAbsent}
-use Rattle.sf_core.specs.Config.{Item, command, leave, Fixed, Frame, Task, runs, waits, left, right, Path, Common, Config, seen, task_at, IsUsed}
+use Rattle.sf_core.specs.Config.{Item, command, leave, Fixed, Frame, Task, runs, waits, Path, Common, Config, seen, task_at, IsUsed}
 use Rattle.sf_core.specs.Enabled.{Thing, variable, cell, IsInRoom, Reads, Writes, HasEnded, IsEnabled}
 use Rattle.sf_core.specs.HeapStore.{Slot, Store}
 use Rattle.sf_core.specs.Reach.{Reach}

@@ -33,15 +33,18 @@ abbrev pub OccursInFields : {E : Type 0} → List (FieldId × E) → E → Type 
 OccursInFields [] x = ⊥
 OccursInFields (f ∷ fs) x = (x ≡ f.1) ⊎ OccursInFields fs x
 
--- an operand occurs in a level, and is no existential that is made there or, further in, where it stands
+-- where an operand occurs as one from outside
 abbrev mutual
+  -- an operand occurs in a level, and is no existential that is made there or, further in, where it stands
   pub OccursIn : {E : Type 0} → Level E → Operand E → Type 0
   OccursIn (level made cs) x = OccursInAll cs x × IsFrom made x
 
+  -- it occurs in one of the conjuncts
   pub OccursInAll : {E : Type 0} → Conjuncts E → Operand E → Type 0
   OccursInAll none x = ⊥
   OccursInAll (also c cs) x = OccursInOne c x ⊎ OccursInAll cs x
 
+  -- it occurs in a conjunct: beside its root, fields, sides or test, in the branches of a choice
   pub OccursInOne : {E : Type 0} → Conjunct E → Operand E → Type 0
   OccursInOne (holds p t) x = OccursInTest t x
   OccursInOne (points p y fs) x = (x ≡ y) ⊎ OccursInFields fs x

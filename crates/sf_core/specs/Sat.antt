@@ -54,15 +54,18 @@ pub data Tree (left right : FieldId) : Value → Heap → Type 0 where
 abbrev pub SameOutside : Scope → (ℕ → Value) → (ℕ → Value) → Type 0
 SameOutside made before after = (n : ℕ) → (n < made.first) ⊎ (made.first + made.count ≤ n) → after n ≡ before n
 
--- Sat: with some values of the existentials made here, the conjuncts hold on pairwise disjoint heaps that make up the heap
+-- what it is for a heap to satisfy a level, conjuncts, and one conjunct
 abbrev mutual
+  -- Sat: with some values of the existentials made here, the conjuncts hold on pairwise disjoint heaps that make up the heap
   pub Sat : {E : Type 0} → Level E → (E → Value) → (ℕ → Value) → Heap → Type 0
   Sat (level made cs) val some heap = (here : ℕ → Value) × SameOutside made some here × SatAll cs val here heap
 
+  -- the conjuncts hold on pairwise disjoint heaps that make up the heap: none on the empty heap
   pub SatAll : {E : Type 0} → Conjuncts E → (E → Value) → (ℕ → Value) → Heap → Type 0
   SatAll none val some heap = IsEmpty heap
   SatAll (also c cs) val some heap = (SatOne c val some ⋆ SatAll cs val some) heap
 
+  -- one conjunct holds on the heap: a test on the empty heap, a points-to on one cell, a segment, a tree, or the branch that the test chooses
   pub SatOne : {E : Type 0} → Conjunct E → (E → Value) → (ℕ → Value) → Heap → Type 0
   SatOne (holds p t) val some heap = IsEmpty heap × IsTrueOf (operand val some) t
   SatOne (points p x fs) val some heap = (location : ℕ) × (here : Cell) × (operand val some x ≡ loc location) × IsOne location here heap × HasFields (operand val some) fs here

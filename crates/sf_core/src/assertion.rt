@@ -1,9 +1,12 @@
+//! Assertions as numbered trees: operands, tests, conjuncts, levels.
+
 use crate::command::Expr;
 use sf_base::{FieldId, Name, Place};
 
 /// What stands in an assertion for a value: something that has one, or an existential.
 #[derive(Clone, Copy, Debug, PartialEq, Eq)]
 pub enum Operand<E> {
+    /// It has a value by itself.
     Known(E),
     /// The existential of that number. Each existential of an assertion has a number of its own.
     Exists(u32),
@@ -12,15 +15,20 @@ pub enum Operand<E> {
 /// A test of two values.
 #[derive(Clone, Copy, Debug, PartialEq, Eq)]
 pub enum Test<E> {
+    /// Always true.
     True,
+    /// The two values are the same.
     Equal(E, E),
+    /// The two values differ.
     Differ(E, E),
 }
 
 /// The existentials that one level makes: `count` of them, numbered from `first`.
 #[derive(Clone, Copy, Debug, PartialEq, Eq)]
 pub struct Scope {
+    /// The number of its first existential.
     pub first: u32,
+    /// How many it makes.
     pub count: u32,
 }
 
@@ -44,7 +52,9 @@ pub enum Conjunct<E> {
 #[cycle(assertion)]
 #[derive(Debug, Drop)]
 pub struct Level<E> {
+    /// The existentials that are made here.
     pub made: Scope,
+    /// The conjuncts, in text order.
     pub conjuncts: Vec<Conjunct<E>>,
 }
 
@@ -53,5 +63,6 @@ pub struct Level<E> {
 pub struct Assertion {
     /// The names of its existentials, by number.
     pub names: Vec<Name>,
+    /// Its outermost level.
     pub level: Level<Expr>,
 }

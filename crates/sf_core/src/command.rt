@@ -1,3 +1,5 @@
+//! Expressions, calls and commands, numbered.
+
 ghost use Rattle.std.specs.Prelude.{◌≡◌};
 ghost use Rattle.sf_core.specs.Places.{place_of};
 ghost use Rattle.sf_core.specs.View.{command_of};
@@ -17,8 +19,11 @@ pub struct Occurrence {
 /// An expression. Evaluating it reads the variable, if it is one, and nothing else.
 #[derive(Clone, Copy, Debug, PartialEq, Eq)]
 pub enum Expr {
+    /// The variable's value.
     Var(Occurrence),
+    /// `nil`, which is no location.
     Nil,
+    /// That number.
     Int(i64),
 }
 

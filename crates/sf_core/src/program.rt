@@ -1,3 +1,5 @@
+//! A whole file as numbered things: procedures, resources, and the program with all that it keeps.
+
 ghost use Rattle.std.specs.Prelude.{◌≡◌, ◌<◌, length, map, slice_get, Some, IfSome};
 ghost use Rattle.std.specs.Option.{option_map};
 ghost use Rattle.sf_core.specs.Formed.{IsFormed};
@@ -12,6 +14,7 @@ use sf_base::{FieldId, Name, Place, ProcId};
 /// A procedure.
 #[derive(Debug, Drop)]
 pub struct Proc {
+    /// Its name.
     pub name: Name,
     /// Where its name stands.
     pub place: Place,
@@ -23,8 +26,11 @@ pub struct Proc {
     pub values: u32,
     /// How many are declared locals.
     pub locals: u32,
+    /// What its callers have to bring.
     pub pre: Assertion,
+    /// What they get back.
     pub post: Assertion,
+    /// Its commands.
     pub body: Vec<Command>,
     /// Where the body's closing brace stands.
     pub end: Place,
@@ -33,9 +39,11 @@ pub struct Proc {
 /// A resource with its variables, which have this invariant while nobody holds it.
 #[derive(Debug, Drop)]
 pub struct Resource {
+    /// Its name.
     pub name: Name,
     /// The names of its variables by number.
     pub variables: Vec<Name>,
+    /// What holds of its cells while nobody holds it.
     pub invariant: Assertion,
 }
 
@@ -45,7 +53,9 @@ pub struct Resource {
 pub struct Program {
     /// The names of the fields by number.
     pub fields: Vec<Name>,
+    /// The resources by number.
     pub resources: Vec<Resource>,
+    /// The procedures by number.
     pub procedures: Vec<Proc>,
     ghost formed: { IsFormed (program_with fields.items resources.items procedures.items) } by { IsFormed-prop _ },
 }

@@ -4,12 +4,13 @@ use Rattle.std.specs.Prelude.{◌≡◌, ℕ, Option, Some, None, List, [], ◌�
 use Rattle.std.proofs.Common.{refl, sym, ap, ◌∙◌, subst}
 use Rattle.sf_base.specs.declared.ids.FieldId.{FieldId}
 use Rattle.sf_base.specs.declared.ids.Var.{Var}
+use Rattle.sf_base.specs.declared.path.Turn.TheVariants.{Left as left, Right as right}
 use Rattle.sf_base.specs.declared.place.Place.{Place}
 use Rattle.sf_base.specs.declared.value.Value.{Value}
 use Rattle.sf_base.specs.declared.value.Value.TheVariants.{Nil as nil, Loc as loc}
 use Rattle.sf_core.specs.declared.command.Expr.{Expr}
 use Rattle.sf_core.specs.Bad.{command_root, next_root, IsAbsent, TouchesAbsent, Races}
-use Rattle.sf_core.specs.Config.{Item, command, leave, Fixed, Frame, Task, runs, left, right, Path, Common, Config, seen, task_at, replaced, IsCalled}
+use Rattle.sf_core.specs.Config.{Item, command, leave, Fixed, Frame, Task, runs, Path, Common, Config, seen, task_at, replaced, IsCalled}
 use Rattle.sf_core.specs.Enabled.{HasEnded}
 use Rattle.sf_core.specs.Formed.{IsFormed}
 use Rattle.sf_core.specs.Good.{Good}
