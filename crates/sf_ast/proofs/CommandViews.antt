@@ -38,8 +38,8 @@ of_call c = ap command_of (sym (v.rolls-Call c)) ∙ fold-roll-SurfaceCommand s.
 pub of_fork : (c d : SurfaceCall) → command_of (v.Fork c d) ≡ s.fork (call_of c) (call_of d)
 of_fork c d = ap command_of (sym (v.rolls-Fork c d)) ∙ fold-roll-SurfaceCommand s.Command command_step _
 
-pub of_when : (p : Place) (t : SurfaceTest SurfaceExpr) (c : Box SurfaceCommand) → command_of (v.When p t c) ≡ s.when p t (command_of c.value)
-of_when p t c = ap command_of (sym (v.rolls-When p t c)) ∙ fold-roll-SurfaceCommand s.Command command_step _
+pub of_if_alone : (p : Place) (t : SurfaceTest SurfaceExpr) (c : Box SurfaceCommand) → command_of (v.IfAlone p t c) ≡ s.if_alone p t (command_of c.value)
+of_if_alone p t c = ap command_of (sym (v.rolls-IfAlone p t c)) ∙ fold-roll-SurfaceCommand s.Command command_step _
 
 pub of_if : (p : Place) (t : SurfaceTest SurfaceExpr) (c d : Box SurfaceCommand) → command_of (v.If p t c d) ≡ s.if p t (command_of c.value) (command_of d.value)
 of_if p t c d = ap command_of (sym (v.rolls-If p t c d)) ∙ fold-roll-SurfaceCommand s.Command command_step _

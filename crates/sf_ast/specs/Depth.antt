@@ -1,7 +1,7 @@
 -- How deep the commands and assertions of a file are nested.
 -- Ordinary: the height of a syntax tree, as in Aho, Sethi, Ullman, "Compilers" (1986), chapter 2.
 use Rattle.std.specs.Prelude.{ℕ, ◌+◌, max, List, [], ◌∷◌, Option, Some, None}
-use Rattle.sf_ast.specs.Surface.{Conjunct, emp, group, choose, choose_round, equal, differ, points, ls, lseg, list, tree, Assertion, only, star, Note, blank, filled, Command, assign, look_up, new, mutate, dispose, dispose_round, when, if, while, with, call, fork, block, Commands, done, then, Item, fields, resource, procedure}
+use Rattle.sf_ast.specs.Surface.{Conjunct, emp, group, choose, choose_round, equal, differ, points, ls, lseg, list, tree, Assertion, only, star, Note, blank, filled, Command, assign, look_up, new, mutate, dispose, dispose_round, if_alone, if, while, with, call, fork, block, Commands, done, then, Item, fields, resource, procedure}
 
 abbrev mutual
   -- the levels below the assertion that a conjunct stands in
@@ -42,7 +42,7 @@ abbrev mutual
   command_depth (mutate e f g) = 1
   command_depth (dispose p e) = 1
   command_depth (dispose_round p e) = 1
-  command_depth (when p t c) = 1 + command_depth c
+  command_depth (if_alone p t c) = 1 + command_depth c
   command_depth (if p t c d) = 1 + max (command_depth c) (command_depth d)
   command_depth (while p t n c) = 1 + command_depth c
   command_depth (with p r t c) = 1 + command_depth c
@@ -58,7 +58,7 @@ abbrev mutual
 abbrev mutual
   -- the levels of the deepest invariant in a command
   pub invariant_depth : Command → ℕ
-  invariant_depth (when p t c) = invariant_depth c
+  invariant_depth (if_alone p t c) = invariant_depth c
   invariant_depth (if p t c d) = max (invariant_depth c) (invariant_depth d)
   invariant_depth (while p t n c) = max (maybe_depth n) (invariant_depth c)
   invariant_depth (with p r t c) = invariant_depth c

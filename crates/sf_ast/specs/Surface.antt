@@ -57,7 +57,7 @@ mutual
     mutate : SurfaceExpr → Word → SurfaceExpr → Command
     dispose : Place → SurfaceExpr → Command
     dispose_round : Place → SurfaceExpr → Command
-    when : Place → SurfaceTest SurfaceExpr → Command → Command
+    if_alone : Place → SurfaceTest SurfaceExpr → Command → Command
     if : Place → SurfaceTest SurfaceExpr → (then otherwise : Command) → Command
     while : Place → SurfaceTest SurfaceExpr → Option Note → Command → Command
     with : Place → Word → SurfaceTest SurfaceExpr → Command → Command

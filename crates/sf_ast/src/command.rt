@@ -36,7 +36,7 @@ pub enum SurfaceCommand {
     /// `dispose ( E ) ;`
     DisposeRound(Place, SurfaceExpr),
     /// `if ( B ) C`
-    When(Place, SurfaceTest<SurfaceExpr>, Box<SurfaceCommand>),
+    IfAlone(Place, SurfaceTest<SurfaceExpr>, Box<SurfaceCommand>),
     /// `if ( B ) C else C`
     If(Place, SurfaceTest<SurfaceExpr>, Box<SurfaceCommand>, Box<SurfaceCommand>),
     /// `while ( B ) [ I ] C`, or without its invariant

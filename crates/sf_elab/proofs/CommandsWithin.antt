@@ -125,7 +125,7 @@ mutual
       ((expr_within see.names e all.0, field_within see.names g all.1, expr_within see.names x all.2), tt)
   command_within see (s.dispose q e) m h k = (expr_within see.names e h, tt)
   command_within see (s.dispose_round q e) m h k = (expr_within see.names e h, tt)
-  command_within {p} {f} {i} see (s.when q t x) m h k =
+  command_within {p} {f} {i} see (s.if_alone q t x) m h k =
       let both = none_both (test_faults (expr_faults i) t) (command_faults i x) h in
       ((condition_within see t both.0, command_within see x m both.1 k, tt), tt)
   command_within {p} {f} {i} see (s.if q t x y) m h k =

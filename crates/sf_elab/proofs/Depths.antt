@@ -56,7 +56,7 @@ mutual
   command_no_deeper i (s.mutate e f g) = omega arith
   command_no_deeper i (s.dispose p e) = omega arith
   command_no_deeper i (s.dispose_round p e) = omega arith
-  command_no_deeper i (s.when p t x) = omega (arith, command_no_deeper i x)
+  command_no_deeper i (s.if_alone p t x) = omega (arith, command_no_deeper i x)
   command_no_deeper i (s.if p t x y) = omega (arith, command_no_deeper i x, command_no_deeper i y)
   command_no_deeper i (s.while p t n x) = omega (arith, command_no_deeper i x)
   command_no_deeper i (s.with p r t x) = omega (arith, command_no_deeper i x)

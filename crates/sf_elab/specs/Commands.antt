@@ -4,7 +4,8 @@
 use Rattle.std.specs.Prelude.{◌==◌, ◌&&◌, Bool, not, cond, List, [], ◌∷◌, ◌++◌, map, length}
 use Rattle.sf_ast.specs.declared.word.SurfaceExpr.{SurfaceExpr}
 use Rattle.sf_ast.specs.declared.word.Word.{Word}
-use Rattle.sf_ast.specs.Surface.{Arguments, values, both, Call, Command, assign, look_up, new, mutate, dispose, dispose_round, when, if, while, with, call, fork, block, Commands, done, then}
+use Rattle.sf_ast.specs.Surface.{Arguments, values, both, Call, Command, assign, look_up, new, mutate, dispose, dispose_round, if_alone, if, while, with, call, fork, block, Commands, done, then}
+use Rattle.sf_core.specs.declared.command.Occurrence.{Occurrence}
 use Rattle.sf_core.specs.Syntax as c
 use Rattle.sf_core.specs.View as v
 use Rattle.sf_elab.specs.declared.fault.Fault.{Fault}
@@ -61,7 +62,7 @@ abbrev mutual
   command_of s (mutate e f d) = c.mutate (expr_place e) (expr_of s e) (field_of s f) (expr_of s d) ∷ []
   command_of s (dispose p e) = c.dispose p (expr_of s e) ∷ []
   command_of s (dispose_round p e) = c.dispose p (expr_of s e) ∷ []
-  command_of s (when p t d) = c.if p (test_of (expr_of s) t) (v.block (command_of s d)) c.done ∷ []
+  command_of s (if_alone p t d) = c.if p (test_of (expr_of s) t) (v.block (command_of s d)) c.done ∷ []
   command_of s (if p t d b) = c.if p (test_of (expr_of s) t) (v.block (command_of s d)) (v.block (command_of s b)) ∷ []
   command_of s (while p t n d) = c.while p (test_of (expr_of s) t) (maybe_of s n) (v.block (command_of s d)) ∷ []
   command_of s (with p r t d) = c.with p (resource_named s r) (test_of (expr_of s) t) (v.block (command_of s d)) ∷ []
@@ -82,7 +83,7 @@ abbrev mutual
   command_faults s (mutate e f d) = expr_faults s e ++ field_faults s f ++ expr_faults s d
   command_faults s (dispose p e) = expr_faults s e
   command_faults s (dispose_round p e) = expr_faults s e
-  command_faults s (when p t d) = test_faults (expr_faults s) t ++ command_faults s d
+  command_faults s (if_alone p t d) = test_faults (expr_faults s) t ++ command_faults s d
   command_faults s (if p t d b) = test_faults (expr_faults s) t ++ command_faults s d ++ command_faults s b
   command_faults s (while p t n d) = test_faults (expr_faults s) t ++ maybe_faults s n ++ command_faults s d
   command_faults s (with p r t d) = resource_faults s r ++ test_faults (expr_faults s) t ++ command_faults s d
@@ -103,7 +104,7 @@ abbrev mutual
   set_in (mutate e f d) = []
   set_in (dispose p e) = []
   set_in (dispose_round p e) = []
-  set_in (when p t d) = set_in d
+  set_in (if_alone p t d) = set_in d
   set_in (if p t d b) = set_in d ++ set_in b
   set_in (while p t n d) = set_in d
   set_in (with p r t d) = set_in d

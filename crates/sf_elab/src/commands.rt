@@ -290,7 +290,10 @@ fn add_command(
         }
         SurfaceCommand::Call(one) => push(single(alloc, sight, one, found)?, done),
         SurfaceCommand::Fork(a, b) => push(fork(alloc, sight, a, b, found)?, done),
-        SurfaceCommand::When(p, test, one) => push(when(alloc, sight, *p, test, one, found)?, done),
+        SurfaceCommand::IfAlone(p, test, one) => push(
+            if_alone(alloc, sight, *p, test, one, found)?,
+            done,
+        ),
         SurfaceCommand::If(p, test, this, that) => {
             let test = sight.test(test, found)?;
             let this = inside(alloc, sight, this, found)?;
@@ -312,7 +315,7 @@ fn add_command(
 
 /// An `if` without its other branch.
 #[cycle(commands)]
-fn when(
+fn if_alone(
     alloc: Global,
     sight: &Sight<'_>,
     place: Place,
@@ -419,7 +422,7 @@ fn add_set_in(c: &SurfaceCommand, words: &mut Vec<Word>) -> Result<(), AllocErro
         SurfaceCommand::Mutate(_, _, _)
         | SurfaceCommand::Dispose(_, _)
         | SurfaceCommand::DisposeRound(_, _) => Ok(()),
-        SurfaceCommand::When(_, _, body)
+        SurfaceCommand::IfAlone(_, _, body)
         | SurfaceCommand::While(_, _, _, body)
         | SurfaceCommand::With(_, _, _, body) => add_set_in(body, words),
         SurfaceCommand::If(_, _, this, that) => {

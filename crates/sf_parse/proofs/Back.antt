@@ -186,7 +186,7 @@ flat_back n d u ss st ts c r f is more = record {
 
 -- what follows the `else` of a command may follow it
 pub follows_else : (c : s.Command) (r q : List Kind) → Follows c (k.Else ∷ r) → Follows c (k.Else ∷ q)
-follows_else (s.when p b c) r q f = f
+follows_else (s.if_alone p b c) r q f = f
 follows_else (s.if p b c d) r q f = follows_else d r q f
 follows_else (s.while p b x c) r q f = follows_else c r q f
 follows_else (s.with p x b c) r q f = follows_else c r q f
@@ -221,10 +221,10 @@ if_back n d ss st ts (r1, a, (r2, b, (r3, q, (r4, c, (r5, x, more))))) = branch_
       more = more;
     }
     branch_cases (inr h) more = record {
-      command = s.when a_place b.0 c.0;
+      command = s.if_alone a_place b.0 c.0;
       rest = r5;
       spells = whole r5 h.1;
-      within = λ lv. (level_of n d k.If ts (g.command (s.when a_place b.0 c.0) r5) (whole r5 h.1) lv, subst (λ z. CommandWithin c.0 n (d - 1) z) h.1 c.2);
+      within = λ lv. (level_of n d k.If ts (g.command (s.if_alone a_place b.0 c.0) r5) (whole r5 h.1) lv, subst (λ z. CommandWithin c.0 n (d - 1) z) h.1 c.2);
       follows = subst (λ z. NotElse z) h.1 h.0;
       more = more;
     }

@@ -49,7 +49,7 @@ mutual
   command_longer (s.mutate a f b) r = omega arith
   command_longer (s.dispose p a) r = omega arith
   command_longer (s.dispose_round p a) r = omega arith
-  command_longer (s.when p b c) r = omega (arith, test_longer g.expr b (k.CloseRound ∷ g.command c r), command_longer c r)
+  command_longer (s.if_alone p b c) r = omega (arith, test_longer g.expr b (k.CloseRound ∷ g.command c r), command_longer c r)
   command_longer (s.if p b c d) r = omega (arith, test_longer g.expr b (k.CloseRound ∷ g.command c (k.Else ∷ g.command d r)), command_longer c (k.Else ∷ g.command d r), command_longer d r)
   command_longer (s.while p b n c) r = omega (arith, test_longer g.expr b (k.CloseRound ∷ g.maybe_note n (g.command c r)), maybe_note_longer n (g.command c r), command_longer c r)
   command_longer (s.with p x b c) r = omega (arith, test_longer g.expr b (k.CloseRound ∷ g.command c r), command_longer c r)

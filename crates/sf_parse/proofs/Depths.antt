@@ -71,7 +71,7 @@ command_level (s.new x) d r h = level_some _ d h
 command_level (s.mutate a f b) d r h = level_some _ d h
 command_level (s.dispose p a) d r h = level_some _ d h
 command_level (s.dispose_round p a) d r h = level_some _ d h
-command_level (s.when p b c) d r h = level_some _ d h
+command_level (s.if_alone p b c) d r h = level_some _ d h
 command_level (s.if p b c e) d r h = level_some _ d h
 command_level (s.while p b x c) d r h = level_some _ d h
 command_level (s.with p x b c) d r h = level_some _ d h
@@ -90,7 +90,7 @@ mutual
   command_within (s.dispose_round p a) d r w = command_level (s.dispose_round p a) d r w
   command_within (s.call c) d r w = command_level (s.call c) d r w
   command_within (s.fork c e) d r w = command_level (s.fork c e) d r w
-  command_within (s.when p b c) d r w = one_above _ d (command_level (s.when p b c) d r w.0) (command_within c (d - 1) r w.1)
+  command_within (s.if_alone p b c) d r w = one_above _ d (command_level (s.if_alone p b c) d r w.0) (command_within c (d - 1) r w.1)
   command_within (s.if p b c e) d r w = one_above _ d (command_level (s.if p b c e) d r w.0) (both_below _ _ (d - 1) (command_within c (d - 1) (k.Else ∷ g.command e r) w.1) (command_within e (d - 1) r w.2))
   command_within (s.while p b x c) d r w = one_above _ d (command_level (s.while p b x c) d r w.0) (command_within c (d - 1) r w.2)
   command_within (s.with p x b c) d r w = one_above _ d (command_level (s.with p x b c) d r w.0) (command_within c (d - 1) r w.1)
@@ -103,7 +103,7 @@ mutual
 mutual
   -- and the invariants in them at most those of the limit
   invariant_within : (c : s.Command) (d : ℕ) (r : List Kind) → CommandWithin c 0 d r → invariant_depth c ≤ NESTING
-  invariant_within (s.when p b c) d r w = invariant_within c (d - 1) r w.1
+  invariant_within (s.if_alone p b c) d r w = invariant_within c (d - 1) r w.1
   invariant_within (s.if p b c e) d r w = both_below _ _ NESTING (invariant_within c (d - 1) (k.Else ∷ g.command e r) w.1) (invariant_within e (d - 1) r w.2)
   invariant_within (s.while p b x c) d r w = both_below _ _ NESTING (maybe_within x (g.command c r) w.1) (invariant_within c (d - 1) r w.2)
   invariant_within (s.with p x b c) d r w = invariant_within c (d - 1) r w.1

@@ -15,7 +15,7 @@ use Rattle.sf_parse.proofs.Back.{follows_else}
 use Rattle.sf_parse.proofs.Forth.{by_expr, expr_goes, test_goes, more_names_go, maybe_names_go, parameters_go, arguments_go, note_goes, maybe_note_goes}
 
 pub follows_any : (c : s.Command) (r : List Kind) → NotElse r → Follows c r
-follows_any (s.when p b c) r h = h
+follows_any (s.if_alone p b c) r h = h
 follows_any (s.if p b c d) r h = follows_any d r h
 follows_any (s.while p b x c) r h = follows_any c r h
 follows_any (s.with p x b c) r h = follows_any c r h
@@ -39,7 +39,7 @@ no_else_front (s.look_up x a f) r = tt
 no_else_front (s.new x) r = tt
 no_else_front (s.dispose p a) r = tt
 no_else_front (s.dispose_round p a) r = tt
-no_else_front (s.when p b c) r = tt
+no_else_front (s.if_alone p b c) r = tt
 no_else_front (s.if p b c d) r = tt
 no_else_front (s.while p b x c) r = tt
 no_else_front (s.with p x b c) r = tt
@@ -60,7 +60,7 @@ no_note n (s.look_up x a f) r st = refl
 no_note n (s.new x) r st = refl
 no_note n (s.dispose p a) r st = refl
 no_note n (s.dispose_round p a) r st = refl
-no_note n (s.when p b c) r st = refl
+no_note n (s.if_alone p b c) r st = refl
 no_note n (s.if p b c d) r st = refl
 no_note n (s.while p b x c) r st = refl
 no_note n (s.with p x b c) r st = refl
@@ -77,7 +77,7 @@ one_of_many n (s.look_up x a f) d r st = refl
 one_of_many n (s.new x) d r st = refl
 one_of_many n (s.dispose p a) d r st = refl
 one_of_many n (s.dispose_round p a) d r st = refl
-one_of_many n (s.when p b c) d r st = refl
+one_of_many n (s.if_alone p b c) d r st = refl
 one_of_many n (s.if p b c e) d r st = refl
 one_of_many n (s.while p b x c) d r st = refl
 one_of_many n (s.with p x b c) d r st = refl
@@ -110,7 +110,7 @@ mutual
   command_goes n (s.mutate a y b) d r st w f = mutate_goes n a b d r st w
   command_goes n (s.dispose p a) d r st w f = rw w (disposed_goes n a (k.Semicolon ∷ r) st)
   command_goes n (s.dispose_round p a) d r st w f = rw w (expr_goes n a (k.CloseRound ∷ k.Semicolon ∷ r) (m.exact m.close_round ∷ m.exact m.semicolon ∷ st))
-  command_goes n (s.when p b c) d r st w f =
+  command_goes n (s.if_alone p b c) d r st w f =
       rw w.0 (test_goes n b (k.CloseRound ∷ g.command c r) (m.exact m.close_round ∷ m.command (d - 1) ∷ m.branch (d - 1) ∷ st)
       ∙ command_goes n c (d - 1) r (m.branch (d - 1) ∷ st) w.1 (follows_any c r f) ∙ no_branch n (d - 1) r st f)
   command_goes n (s.if p b c x) d r st w f =
@@ -140,7 +140,7 @@ no_local n (s.look_up x a f) r st = refl
 no_local n (s.new x) r st = refl
 no_local n (s.dispose p a) r st = refl
 no_local n (s.dispose_round p a) r st = refl
-no_local n (s.when p b c) r st = refl
+no_local n (s.if_alone p b c) r st = refl
 no_local n (s.if p b c d) r st = refl
 no_local n (s.while p b x c) r st = refl
 no_local n (s.with p x b c) r st = refl

@@ -71,7 +71,7 @@ class (s.new x) = a_new
 class (s.mutate a f b) = a_mutation
 class (s.dispose p a) = a_disposal
 class (s.dispose_round p a) = a_round_disposal
-class (s.when p b c) = a_choice
+class (s.if_alone p b c) = a_choice
 class (s.if p b c d) = a_choice
 class (s.while p b n c) = a_loop
 class (s.with p x b c) = a_region
@@ -86,7 +86,7 @@ command_shape (s.new x) r = refl
 command_shape (s.mutate a f b) r = by_expr a (λ u. shape (u ∷ k.Arrow ∷ k.Name ∷ k.Equals ∷ g.expr b ∷ k.Semicolon ∷ r) ≡ a_mutation) refl refl refl refl
 command_shape (s.dispose p a) r = by_expr a (λ u. shape (k.Dispose ∷ u ∷ k.Semicolon ∷ r) ≡ a_disposal) refl refl refl refl
 command_shape (s.dispose_round p a) r = refl
-command_shape (s.when p b c) r = refl
+command_shape (s.if_alone p b c) r = refl
 command_shape (s.if p b c d) r = refl
 command_shape (s.while p b n c) r = refl
 command_shape (s.with p x b c) r = refl
@@ -186,21 +186,21 @@ mutual
       let value : g.expr a ≡ g.expr b = cc in
       let tail : r ≡ q = cc in
       (ap (λ m. s.dispose_round m a) (place_once at p o _ _ h.0 i.0 f) ∙ ap (s.dispose_round o) (expr_once at a b _ _ h.1 i.1 value (ap (λ m. k.CloseRound ∷ k.Semicolon ∷ m) tail)), tail)
-  command_once at (s.when p b c) (s.when o e x) n d r q h i v w j l f =
+  command_once at (s.if_alone p b c) (s.if_alone o e x) n d r q h i v w j l f =
       let tests : g.test g.expr b (k.CloseRound ∷ g.command c r) ≡ g.test g.expr e (k.CloseRound ∷ g.command x q) = cc in
       let m = test_once at b e _ _ h.1 i.1 tests in
       let behind : k.CloseRound ∷ g.command c r ≡ k.CloseRound ∷ g.command x q = m.1 in
       let bodies : g.command c r ≡ g.command x q = cc in
       let u = command_once at c x n (d - 1) r q h.2 i.2 v.1 w.1 (follows_any c r j) (follows_any x q l) bodies in
-      (ap (λ z. s.when z b c) (place_once at p o _ _ h.0 i.0 f) ∙ ap (λ z. s.when o z c) m.0 ∙ ap (s.when o e) u.0, u.1)
-  command_once at (s.when p b c) (s.if o e x y) n d r q h i v w j l f =
+      (ap (λ z. s.if_alone z b c) (place_once at p o _ _ h.0 i.0 f) ∙ ap (λ z. s.if_alone o z c) m.0 ∙ ap (s.if_alone o e) u.0, u.1)
+  command_once at (s.if_alone p b c) (s.if o e x y) n d r q h i v w j l f =
       let tests : g.test g.expr b (k.CloseRound ∷ g.command c r) ≡ g.test g.expr e (k.CloseRound ∷ g.command x (k.Else ∷ g.command y q)) = cc in
       let m = test_once at b e _ _ h.1 i.1 tests in
       let behind : k.CloseRound ∷ g.command c r ≡ k.CloseRound ∷ g.command x (k.Else ∷ g.command y q) = m.1 in
       let bodies : g.command c r ≡ g.command x (k.Else ∷ g.command y q) = cc in
       let u = command_once at c x n (d - 1) r (k.Else ∷ g.command y q) h.2 i.2 v.1 w.1 (follows_any c r j) (follows_else x [] (g.command y q) w.3) bodies in
       absurd (else_wrong r (g.command y q) j u.1)
-  command_once at (s.if o e x y) (s.when p b c) n d r q h i v w j l f =
+  command_once at (s.if o e x y) (s.if_alone p b c) n d r q h i v w j l f =
       let tests : g.test g.expr e (k.CloseRound ∷ g.command x (k.Else ∷ g.command y r)) ≡ g.test g.expr b (k.CloseRound ∷ g.command c q) = cc in
       let m = test_once at e b _ _ h.1 i.1 tests in
       let behind : k.CloseRound ∷ g.command x (k.Else ∷ g.command y r) ≡ k.CloseRound ∷ g.command c q = m.1 in

@@ -127,7 +127,7 @@ abbrev mutual
   command (s.mutate a f b) r = expr a ∷ k.Arrow ∷ k.Name ∷ k.Equals ∷ expr b ∷ k.Semicolon ∷ r
   command (s.dispose p a) r = k.Dispose ∷ expr a ∷ k.Semicolon ∷ r
   command (s.dispose_round p a) r = k.Dispose ∷ k.OpenRound ∷ expr a ∷ k.CloseRound ∷ k.Semicolon ∷ r
-  command (s.when p b c) r = k.If ∷ k.OpenRound ∷ test expr b (k.CloseRound ∷ command c r)
+  command (s.if_alone p b c) r = k.If ∷ k.OpenRound ∷ test expr b (k.CloseRound ∷ command c r)
   command (s.if p b c d) r = k.If ∷ k.OpenRound ∷ test expr b (k.CloseRound ∷ command c (k.Else ∷ command d r))
   command (s.while p b n c) r = k.While ∷ k.OpenRound ∷ test expr b (k.CloseRound ∷ maybe_note n (command c r))
   command (s.with p x b c) r = k.With ∷ k.Name ∷ k.When ∷ k.OpenRound ∷ test expr b (k.CloseRound ∷ command c r)

@@ -14,7 +14,7 @@ NotElse _ = Unit {0}
 
 -- an `else` behind a command belongs to the nearest `if` in it that has none
 abbrev pub Follows : s.Command → List Kind → Type 0
-Follows (s.when p b c) r = NotElse r
+Follows (s.if_alone p b c) r = NotElse r
 Follows (s.if p b c d) r = Follows d r
 Follows (s.while p b n c) r = Follows c r
 Follows (s.with p x b c) r = Follows c r
@@ -81,7 +81,7 @@ abbrev mutual
   CommandWithin (s.dispose_round p a) n d r = HasLevel n (length (command (s.dispose_round p a) r)) d
   CommandWithin (s.call c) n d r = HasLevel n (length (command (s.call c) r)) d
   CommandWithin (s.fork c e) n d r = HasLevel n (length (command (s.fork c e) r)) d
-  CommandWithin (s.when p b c) n d r = HasLevel n (length (command (s.when p b c) r)) d × CommandWithin c n (d - 1) r
+  CommandWithin (s.if_alone p b c) n d r = HasLevel n (length (command (s.if_alone p b c) r)) d × CommandWithin c n (d - 1) r
   CommandWithin (s.if p b c e) n d r = HasLevel n (length (command (s.if p b c e) r)) d × CommandWithin c n (d - 1) (k.Else ∷ command e r) × CommandWithin e n (d - 1) r × Follows c (k.Else ∷ [])
   CommandWithin (s.while p b x c) n d r = HasLevel n (length (command (s.while p b x c) r)) d × MaybeWithin x n (command c r) × CommandWithin c n (d - 1) r
   CommandWithin (s.with p x b c) n d r = HasLevel n (length (command (s.with p x b c) r)) d × CommandWithin c n (d - 1) r

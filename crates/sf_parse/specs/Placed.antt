@@ -137,7 +137,7 @@ abbrev mutual
   CommandAt at (s.mutate a f b) r = ExprAt at a (k.Arrow ∷ k.Name ∷ k.Equals ∷ expr b ∷ k.Semicolon ∷ r) × WordAt at f (k.Name ∷ k.Equals ∷ expr b ∷ k.Semicolon ∷ r) × ExprAt at b (k.Semicolon ∷ r)
   CommandAt at (s.dispose p a) r = PlaceAt at p (command (s.dispose p a) r) × ExprAt at a (k.Semicolon ∷ r)
   CommandAt at (s.dispose_round p a) r = PlaceAt at p (command (s.dispose_round p a) r) × ExprAt at a (k.CloseRound ∷ k.Semicolon ∷ r)
-  CommandAt at (s.when p b c) r = PlaceAt at p (command (s.when p b c) r) × TestAt at expr (ExprAt at) b (k.CloseRound ∷ command c r) × CommandAt at c r
+  CommandAt at (s.if_alone p b c) r = PlaceAt at p (command (s.if_alone p b c) r) × TestAt at expr (ExprAt at) b (k.CloseRound ∷ command c r) × CommandAt at c r
   CommandAt at (s.if p b c d) r =
       PlaceAt at p (command (s.if p b c d) r) × TestAt at expr (ExprAt at) b (k.CloseRound ∷ command c (k.Else ∷ command d r))
       × CommandAt at c (k.Else ∷ command d r) × CommandAt at d r

@@ -84,16 +84,16 @@ fn value_first(object: SurfaceExpr, tokens: &[Token]) -> Result<(SurfaceCommand,
 }
 
 /// An `if` without an `else`.
-fn when_node(
+fn if_alone_node(
     alloc: Global,
     place: Place,
     condition: SurfaceTest<SurfaceExpr>,
     then: SurfaceCommand,
 ) -> Result<SurfaceCommand, AllocError>
-    ensures { IfOk result (λ c. command_of c ≡ s.when place condition (command_of then)) }
+    ensures { IfOk result (λ c. command_of c ≡ s.if_alone place condition (command_of then)) }
 {
     let then = Box::new(alloc, then)?;
-    Ok(SurfaceCommand::When(place, condition, then))
+    Ok(SurfaceCommand::IfAlone(place, condition, then))
 }
 
 /// An `if` with an `else`.
@@ -159,7 +159,7 @@ fn if_command(
     let (condition, rest) = round_test(tokens)?;
     let (then, rest) = command(alloc, depth - 1, rest)?;
     let Some((_, after)) = eat(rest, Kind::Else) else {
-        return Ok((when_node(alloc, place, condition, then)?, rest));
+        return Ok((if_alone_node(alloc, place, condition, then)?, rest));
     };
     let (otherwise, after) = command(alloc, depth - 1, after)?;
     Ok((if_node(alloc, place, condition, then, otherwise)?, after))

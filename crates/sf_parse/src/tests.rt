@@ -328,7 +328,7 @@ fn first_body(file: &File) -> (usize, bool) {
             for command in procedure.body.iter() {
                 return (
                     procedure.body.len(),
-                    matches!(command, SurfaceCommand::When(_, _, _)),
+                    matches!(command, SurfaceCommand::IfAlone(_, _, _)),
                 );
             }
         }

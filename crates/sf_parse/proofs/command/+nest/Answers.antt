@@ -82,7 +82,7 @@ if_command-returns-in_default-clause-places t c = λ at first agree.
     let d = c.in_ok-then.ensures.places at a.1 in
     let whole : kinds c.args.tokens.now ≡ k.OpenRound ∷ g.test expr b (k.CloseRound ∷ g.command x r) =
     c.in_ok-condition.ensures.spelled ∙ ap (λ (z : List Kind). k.OpenRound ∷ g.test expr b (k.CloseRound ∷ z)) c.in_ok-then.ensures.spelled in
-    rw c.in_ok-when_node.ensures (
+    rw c.in_ok-if_alone_node.ensures (
       (
         subst (λ (z : List Kind). PlaceAt at c.args.place (k.If ∷ z)) whole first,
         subst (λ (z : List Kind). TestAt at expr (ExprAt at) b (k.CloseRound ∷ z)) c.in_ok-then.ensures.spelled a.0,
