@@ -114,7 +114,8 @@ fn add_caller(
     Ok(())
 }
 
-/// Notes that the procedure `f` calls the procedure `g`, once where it is noted right after.
+/// Notes that the procedure `f` calls the procedure `g`, unless that was noted of `g` last: so a
+/// procedure that calls another often is noted once.
 fn add_one_caller(f: ProcId, g: ProcId, callers: &mut Vec<Vec<ProcId>>) -> Result<(), AllocError>
     requires { g.0 < length callers.old.items }
     ensures size { OnOk result (length callers.new.items ≡ length callers.old.items) }

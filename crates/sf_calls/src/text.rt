@@ -1,4 +1,4 @@
-//! What stands in each procedure's text, from one look at it.
+//! What stands in each procedure's text, for all variables and resources at once.
 
 ghost use Rattle.std.specs.Prelude.{Contains, IfOk};
 ghost use Rattle.sf_core.specs.View.{procedure_of};
