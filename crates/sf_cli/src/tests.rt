@@ -1,5 +1,6 @@
 //! The command as a whole, over a shelf and a sink in memory. The answers were worked out by hand.
 
+mod orders;
 mod tables;
 
 use crate::top::smallfoot;

@@ -1,7 +1,9 @@
 //! The order of the conjuncts of one level, their branches being in order already.
 
-ghost use Rattle.std.specs.Prelude.{◌≡◌, length, map, option_map, is_some, IfErr, IfOk};
+ghost use Rattle.std.specs.Prelude.{◌≡◌, ◌↔◌, ◌+◌, ◌<◌, true, false, cond, length, map, option_map, is_some, IfErr, IfOk, IfSome, IsSome};
+ghost use Rattle.std.specs.BTreeSet.{btree_set_len, contains, IsLowerBound, Updates};
 ghost use Rattle.std.specs.List.{AllZip};
+ghost use Rattle.std.specs.Ordering.{nat_cmp};
 ghost use Rattle.sf_core.specs.View.{conjunct_of, conjuncts};
 ghost use Rattle.sf_precise.specs.Order.{IsOrder};
 ghost use Rattle.sf_precise.specs.Outer.{outer_of};
@@ -16,6 +18,7 @@ use crate::work::Work;
 use sf_base::Place;
 use sf_core::{Conjunct, Expr, Scope};
 use std::alloc::{AllocError, Global};
+use std::collections::BTreeSet;
 
 /// Takes the conjuncts one after the other, the first ready one each time, from nothing that is
 /// known, or from all but what that scope makes. The parts are the conjuncts with their branches
@@ -35,7 +38,7 @@ pub fn sequence(
     let mut parts = parts;
     let mut work = begin(alloc, start, cs, &parts, outers)?;
     let mut taken = Vec::new(alloc);
-    while let Some(i) = work.ready.pop_first() {
+    while let Some(i) = take_first(&mut work.ready) {
         if let Some(c) = parts[i].take() {
             work.learn_from(&c)?;
             taken.push(c)?;
@@ -65,6 +68,17 @@ fn begin(
         work.add(&demand)?;
     }
     Ok(work)
+}
+
+/// The least of the numbers, which is taken out.
+fn take_first(ready: &mut BTreeSet<usize>) -> Option<usize>
+    ensures variant { IsSome result ↔ (0 < btree_set_len ready.old) }
+    ensures member { IfSome result (λ i. contains nat_cmp ready.old i ≡ true) }
+    ensures least { IfSome result (IsLowerBound nat_cmp ready.old) }
+    ensures updates { IfSome result (λ i. Updates nat_cmp ready.old ready.new i false) }
+    ensures len { btree_set_len ready.new + cond (is_some result) 1 0 ≡ btree_set_len ready.old }
+{
+    ready.pop_first()
 }
 
 /// The first number at which something is lacking.

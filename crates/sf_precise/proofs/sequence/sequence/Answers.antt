@@ -17,20 +17,20 @@ loop-i-init c = rw c.new-taken.ensures.items (progress-starts conjunct_of (known
 
 pub index_mut-requires : goal.index_mut-requires
 index_mut-requires c =
-    let h = popped-within conjunct_of (known_outside c.args.start) c.args.cs.now c.args.parts.items c.in-Some.i c.loop-i.work c.pop_first.new.self c.loop-i.parts.items c.loop-i.taken.items c.requires.prepared c.loop-i.invariant
+    let h = popped-within conjunct_of (known_outside c.args.start) c.args.cs.now c.args.parts.items c.in-Some.i c.loop-i.work c.take_first.new.ready c.loop-i.parts.items c.loop-i.taken.items c.requires.prepared c.loop-i.invariant
     (record { was = c.in-Some.ensures.member; gone = c.in-Some.ensures.updates; least = c.in-Some.ensures.least }) in
     let s = c.loop-i.invariant.size in
     omega (arith, c.loop-i.parts.ok.0)
 
 pub loop-i-preserved-in-Continue-branch-3 : goal.loop-i-preserved-in-Continue-branch-3
 loop-i-preserved-in-Continue-branch-3 c =
-    step-read conjunct_of (known_outside c.args.start) c.args.cs.now c.args.parts.items c.in-Some.i c.loop-i.work c.pop_first.new.self c.loop-i.parts.items c.loop-i.taken.items c.requires.prepared c.loop-i.invariant
+    step-read conjunct_of (known_outside c.args.start) c.args.cs.now c.args.parts.items c.in-Some.i c.loop-i.work c.take_first.new.ready c.loop-i.parts.items c.loop-i.taken.items c.requires.prepared c.loop-i.invariant
     (record { was = c.in-Some.ensures.member; gone = c.in-Some.ensures.updates; least = c.in-Some.ensures.least })
     c.index_mut.result.now c.index_mut.ensures.value c.in-Some-take.c (sym c.take.ensures.value ∙ c.in-Some-take.is) c.learn_from.new.self c.in_ok-learn_from.ensures c.take.new.self c.push.new.self.items c.in_ok-push.ensures.items
 
 pub loop-i-preserved : goal.loop-i-preserved
 loop-i-preserved c =
-    absurd (none-read conjunct_of (known_outside c.args.start) c.args.cs.now c.args.parts.items c.in-Some.i c.loop-i.work c.pop_first.new.self c.loop-i.parts.items c.loop-i.taken.items c.requires.prepared c.loop-i.invariant
+    absurd (none-read conjunct_of (known_outside c.args.start) c.args.cs.now c.args.parts.items c.in-Some.i c.loop-i.work c.take_first.new.ready c.loop-i.parts.items c.loop-i.taken.items c.requires.prepared c.loop-i.invariant
     (record { was = c.in-Some.ensures.member; gone = c.in-Some.ensures.updates; least = c.in-Some.ensures.least })
     c.index_mut.result.now c.index_mut.ensures.value (sym c.take.ensures.value ∙ c.in_default-take.is))
 
@@ -51,10 +51,10 @@ returns-in-Some-first_lacking-clause-undetermined c =
     let h = lacking-within conjunct_of (known_outside c.args.start) c.args.cs.now c.args.parts.items c.loop-i.work c.loop-i.parts.items c.loop-i.taken.items c.requires.prepared c.loop-i.invariant c.in-Some-first_lacking.i first.0 in
     rw c.place_of.ensures
     (end-stuck conjunct_of (known_outside c.args.start) c.args.cs.now c.args.parts.items c.loop-i.work c.loop-i.parts.items c.loop-i.taken.items c.requires.prepared c.loop-i.invariant
-    (empty-has_none c.loop-i.work.ready c.pop_first.result c.in_default.is c.pop_first.ensures.variant.1) c.in-Some-first_lacking.i c.index-cs-i.result
+    (empty-has_none c.loop-i.work.ready c.take_first.result c.in_default.is c.take_first.ensures.variant.1) c.in-Some-first_lacking.i c.index-cs-i.result
     (slice_get_read c.args.cs.now (length c.args.cs.now) c.in-Some-first_lacking.i c.index-cs-i.result refl h c.index-cs-i.is) first)
 
 pub returns-clause-ordered : goal.returns-clause-ordered
 returns-clause-ordered c =
     end-order conjunct_of (known_outside c.args.start) c.args.cs.now c.args.parts.items c.loop-i.work c.loop-i.parts.items c.loop-i.taken.items c.requires.prepared c.loop-i.invariant
-    (empty-has_none c.loop-i.work.ready c.pop_first.result c.in_default.is c.pop_first.ensures.variant.1) (rw c.deref-2.ensures.value at c.in-None.ensures)
+    (empty-has_none c.loop-i.work.ready c.take_first.result c.in_default.is c.take_first.ensures.variant.1) (rw c.deref-2.ensures.value at c.in-None.ensures)
