@@ -1,7 +1,7 @@
 ghost use Rattle.std.specs.Prelude.{IfOk, map};
 ghost use Rattle.sf_core.specs.View.{assertion_of, command_of};
 ghost use Rattle.sf_core.specs.Whole.{program_of};
-ghost use Rattle.sf_calls.specs.Assigned.{Assigned, IsCommandOf};
+ghost use Rattle.sf_calls.specs.Assigned.{Assigned, IsInOrderIn};
 ghost use Rattle.sf_calls.specs.FirstBreach.{Conditions};
 ghost use Rattle.sf_calls.specs.Sets.{AreSetsOf, IsVarSet};
 ghost use Rattle.sf_precise.specs.Notes.{AreOrdersOf, notes_in};
@@ -18,7 +18,9 @@ use std::alloc::{AllocError, Global};
 /// it.
 #[derive(Debug, Drop)]
 pub struct Arranged {
+    /// The program.
     pub program: Program,
+    /// What its calls enter, hold and use.
     pub calls: Calls,
     /// The annotations in order: the resources' invariants, and then, for each procedure in file
     /// order, its pre, the invariants of its loops in text order, and its post.
@@ -32,7 +34,7 @@ impl Arranged {
     /// The variables that the command may change. The command is one of the program. An `Err` is
     /// want of memory, and comes for nothing else.
     pub fn assigned(&self, alloc: Global, c: &Command) -> Result<VarSet, AllocError>
-        requires { IsCommandOf (program_of self.now.program) (command_of c.now) }
+        requires { IsInOrderIn (program_of self.now.program) (command_of c.now) }
         ensures { IfOk result (λ xs. IsVarSet (λ x. Assigned (program_of self.now.program) x (command_of c.now)) xs) }
     {
         sets_are_had();
