@@ -21,7 +21,7 @@ abbrev pub choose_first : State → List CodeCommand → Choice
 choose_first s [] = stays NotBuilt
 choose_first s (c ∷ cs) = choose_command s (command_of c)
 
--- a tag that leaves the cells where they are, at least among those that were handed over
+-- a tag by which no cell comes or goes: one may be written or handed over
 abbrev pub keeps_cells : Tag → Bool
 keeps_cells (Mutate a) = true
 keeps_cells (Cell a) = true

@@ -63,8 +63,8 @@ pub fn choose_next(goal: &Goal) -> Choice
     }
 }
 
-/// Whether the tag leaves the cells where they are, at least among those that were handed over. A state
-/// that can be still can after such a tag.
+/// Whether by the tag no cell comes or goes: one may be written or handed over. A state that can be
+/// still can after such a tag.
 pub fn keeps_cells(tag: Tag) -> bool
     ensures { result ≡ keeps_cells tag }
 {
