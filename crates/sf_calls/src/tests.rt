@@ -95,7 +95,7 @@ fn procedure(
     pre: Assertion,
     body: Vec<Command>,
 ) -> Result<Proc, AllocError>
-    ensures { IfOk result (λ f. procedure_of f ≡ record { name = name.now; place = record { line = 1; column = 1 }; names = []; references = 0; values = 0; pre = assertion_of pre; post = record { names = []; level = level (record { first = 0; count = 0 }) none }; body = block_of body.items; end = record { line = 1; column = 1 } }) }
+    ensures { IfOk result (λ f. procedure_of f ≡ record { name = name.now; place = record { line = 1; column = 1 }; names = []; references = 0; values = 0; locals = 0; pre = assertion_of pre; post = record { names = []; level = level (record { first = 0; count = 0 }) none }; body = block_of body.items; end = record { line = 1; column = 1 } }) }
 {
     Ok(Proc {
         name: Name::new(alloc, name)?,
@@ -103,6 +103,7 @@ fn procedure(
         names: Vec::new(alloc),
         references: 0,
         values: 0,
+        locals: 0,
         pre,
         post: emp(alloc),
         body,
