@@ -21,7 +21,7 @@ nothing = record { names = []; level = level (record { first = 0; count = 0 }) n
 
 -- a procedure with one local
 abbrev one_local : Procedure
-one_local = record { name = []; place = place; names = [] ∷ []; references = 0; values = 0; pre = nothing; post = nothing; body = done; end = place }
+one_local = record { name = []; place = place; names = [] ∷ []; references = 0; values = 0; locals = 1; pre = nothing; post = nothing; body = done; end = place }
 
 pub assigned-requires : goal.assigned-requires
 assigned-requires g c =
