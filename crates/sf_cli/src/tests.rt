@@ -1,6 +1,8 @@
 //! The command as a whole, over a shelf and a sink in memory. The answers were worked out by hand.
 
+mod numbers;
 mod orders;
+mod proofs;
 mod tables;
 
 use crate::top::smallfoot;
@@ -38,6 +40,32 @@ fn verified<R: Threads + Wait + Sync>(
     said(rt, alloc, &["verify", "p.sf"], &mut shelf)
 }
 
+/// The status that goes with such an answer.
+fn status_of(answer: &str) -> u8 {
+    if answer.starts_with("accepted") {
+        0
+    } else if answer.starts_with("failed") {
+        1
+    } else {
+        3
+    }
+}
+
+/// Each of the files has the answer that stands beside it, with its status.
+fn answered<R: Threads + Wait + Sync + Abort>(
+    rt: &R,
+    alloc: Global,
+    cases: &[(&[u8], &str)],
+) -> Result<(), Fail> {
+    for (file, text) in cases {
+        let (out, status) = verified(rt, alloc, file)?;
+        let name = String::from_utf8_lossy(alloc, file)?;
+        assert_eq!(rt; out.as_str(), *text, "{name}");
+        assert_eq!(rt; status, status_of(text), "{name}");
+    }
+    Ok(())
+}
+
 /// The line that says that a file is refused for that.
 fn refusal(alloc: Global, fault: &str) -> Result<String, Fail> {
     Ok(format!(in alloc; "file refused: {fault}\n")?)
@@ -62,8 +90,9 @@ fn refused<R: Threads + Wait + Sync + Abort>(
     for (file, fault) in cases {
         let (out, status) = verified(rt, alloc, file)?;
         let line = refusal(alloc, fault)?;
-        assert_eq!(rt; out.as_str(), line.as_str());
-        assert_eq!(rt; status, 3);
+        let name = String::from_utf8_lossy(alloc, file)?;
+        assert_eq!(rt; out.as_str(), line.as_str(), "{name}");
+        assert_eq!(rt; status, 3, "{name}");
     }
     Ok(())
 }
@@ -94,22 +123,13 @@ fn files_are_refused_where_they_are_not_determined(rt: HostRuntime) -> Result<()
 }
 
 #[test]
-fn files_in_order_are_not_refused(rt: HostRuntime) -> Result<(), Fail> {
-    for (file, text) in IN_ORDER {
-        let (out, _) = verified(&rt, rt.alloc(), file)?;
-        let name = String::from_utf8_lossy(rt.alloc(), file)?;
-        assert_eq!(rt; out.as_str(), text, "{name}");
-    }
-    Ok(())
+fn files_in_order_have_no_fault(rt: HostRuntime) -> Result<(), Fail> {
+    answered(&rt, rt.alloc(), &IN_ORDER)
 }
 
 #[test]
 fn examples_of_the_language(rt: HostRuntime) -> Result<(), Fail> {
-    for (file, text) in LANGUAGE {
-        let (out, _) = verified(&rt, rt.alloc(), file.as_bytes())?;
-        assert_eq!(rt; out.as_str(), text, "{file}");
-    }
-    Ok(())
+    answered(&rt, rt.alloc(), &LANGUAGE)
 }
 
 #[test]
@@ -154,8 +174,9 @@ fn limits_of_counts(rt: HostRuntime) -> Result<(), Fail> {
     let alloc = rt.alloc();
     for (parts, (limit, more), answer, fault) in COUNTS {
         let within = numbered(alloc, parts, limit)?;
-        let (out, _) = verified(&rt, alloc, within.as_bytes())?;
+        let (out, status) = verified(&rt, alloc, within.as_bytes())?;
         assert_eq!(rt; out.as_str(), answer, "{fault}");
+        assert_eq!(rt; status, status_of(answer), "{fault}");
         let beyond = numbered(alloc, parts, more)?;
         let (out, status) = verified(&rt, alloc, beyond.as_bytes())?;
         let line = refusal(alloc, fault)?;
@@ -206,12 +227,14 @@ fn limits_of_nesting(rt: HostRuntime) -> Result<(), Fail> {
     let alloc = rt.alloc();
     for (parts, (limit, more), answer, fault) in NESTS {
         let within = nested(alloc, parts, limit)?;
-        let (out, _) = verified(&rt, alloc, within.as_bytes())?;
-        assert_eq!(rt; out.as_str(), answer);
+        let (out, status) = verified(&rt, alloc, within.as_bytes())?;
+        assert_eq!(rt; out.as_str(), answer, "{fault}");
+        assert_eq!(rt; status, status_of(answer), "{fault}");
         let beyond = nested(alloc, parts, more)?;
-        let (out, _) = verified(&rt, alloc, beyond.as_bytes())?;
+        let (out, status) = verified(&rt, alloc, beyond.as_bytes())?;
         let line = refusal(alloc, fault)?;
         assert_eq!(rt; out.as_str(), line.as_str());
+        assert_eq!(rt; status, 3, "{fault}");
     }
     Ok(())
 }

@@ -90,7 +90,11 @@ pub const ANSWERS: [(&str, &str, u8); 36] = [
 ];
 
 /// Files that are refused for their words, with the kind and the place.
-pub const BAD_WORDS: [(&[u8], &str); 20] = [
+pub const BAD_WORDS: [(&[u8], &str); 21] = [
+    (
+        b"x\n _a123456789012345678901234567890123456789012345678901234567890123;",
+        "2 LongWord at 2:2",
+    ),
     (b"f() { @ }", "1 BadByte at 1:7"),
     (b"/* x", "3 OpenComment at 1:1"),
     (
@@ -212,7 +216,15 @@ pub const BAD_NAMES: [(&[u8], &str); 33] = [
 ];
 
 /// Files that break conditions on variables.
-pub const BROKEN_CONDITIONS: [(&[u8], &str); 22] = [
+pub const BROKEN_CONDITIONS: [(&[u8], &str); 24] = [
+    (
+        b"resource r (v) [] f() [tree(_x)] { v = nil; }",
+        "30 NotHeld at 1:36 v",
+    ),
+    (
+        b"h(x,y;) { } p(a;) { h(a,a;) || h(a,a;); }",
+        "32 SameReference at 1:25 a",
+    ),
     (
         b"resource mm (f) [list(f)]\npeek(x;) {\n  x = f;\n}",
         "30 NotHeld at 3:7 f",
@@ -399,32 +411,32 @@ pub const IN_ORDER: [(&[u8], &str); 29] = [
     ),
 ];
 
-/// The examples of docs/LANGUAGE.md.
-pub const LANGUAGE: [(&str, &str); 8] = [
-    (SET, SET_PROOF),
+/// The examples of docs/LANGUAGE.md, copied.
+pub const LANGUAGE: [(&[u8], &str); 8] = [
+    (b"set(x) [x|->] { x->tl = 3; } [x|->tl:3]", SET_PROOF),
     (
-        "key, next;\nmark(x) [x|->] { x->key = 1; x->next = nil; } [x|->next:nil,key:1]",
+        b"key, next;\nmark(x) [x|->] { x->key = 1; x->next = nil; } [x|->next:nil,key:1]",
         "accepted\nprocedure mark\nadd\nmutate 1\nmutate 1\nreturn\ncell 1\nend\n",
     ),
     (
-        "second(x) [ls(_y,nil) * x|->tl:_y] { } [ls(x,nil)]",
+        b"second(x) [ls(_y,nil) * x|->tl:_y] { } [ls(x,nil)]",
         NOT_BUILT,
     ),
     (
-        "resource r (v) [tree(_x)]",
+        b"resource r (v) [tree(_x)]",
         "file refused: 40 Undetermined at 1:17\n",
     ),
-    ("resource r (v) [v|->tl:_x * tree(_x)]", NOT_BUILT),
+    (b"resource r (v) [v|->tl:_x * tree(_x)]", NOT_BUILT),
     (
-        "resource buf (c, full) [if full == 0 then emp else c|->]\nput(x) [x|->] { with buf when (full == 0) { c = x; full = 1; } } [emp]\nget(y;) [emp] { with buf when (full != 0) { y = c; full = 0; } } [y|->]\nmain() { local x, y; x = new(); put(x) || get(y;); dispose(y); }",
+        b"resource buf (c, full) [if full == 0 then emp else c|->]\nput(x) [x|->] { with buf when (full == 0) { c = x; full = 1; } } [emp]\nget(y;) [emp] { with buf when (full != 0) { y = c; full = 0; } } [y|->]\nmain() { local x, y; x = new(); put(x) || get(y;); dispose(y); }",
         NOT_BUILT,
     ),
     (
-        "f(x) [if x == nil then x == _y else x|->tl:_y] { }",
+        b"f(x) [if x == nil then x == _y else x|->tl:_y] { }",
         NOT_BUILT,
     ),
     (
-        "rev(o; i) [list(i)] {\n  local t;\n  o = nil;\n  while (i != nil) [list(o) * list(i)] {\n    t = i->tl;\n    i->tl = o;\n    o = i;\n    i = t;\n  }\n} [list(o)]\n",
+        b"rev(o; i) [list(i)] {\n  local t;\n  o = nil;\n  while (i != nil) [list(o) * list(i)] {\n    t = i->tl;\n    i->tl = o;\n    o = i;\n    i = t;\n  }\n} [list(o)]\n",
         NOT_BUILT,
     ),
 ];
@@ -504,7 +516,13 @@ pub const COUNTS: [((&str, &str, &str, &str), (u32, u32), &str, &str); 8] = [
 
 /// Files of things that are nested: a front, an opening, a closing, and an end; how many openings are within the limit
 /// and how many are not, the answer within it, and the refusal beyond it.
-pub const NESTS: [((&str, &str, &str, &str), (u32, u32), &str, &str); 2] = [
+pub const NESTS: [((&str, &str, &str, &str), (u32, u32), &str, &str); 3] = [
+    (
+        ("f() [", "if nil == nil then emp else ", "", "emp] { }"),
+        (63, 64),
+        NOT_BUILT,
+        "11 TooDeep at 1:1789",
+    ),
     (
         ("f() {", "{", "}", "}"),
         (64, 65),
