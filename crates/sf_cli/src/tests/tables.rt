@@ -412,7 +412,7 @@ pub const IN_ORDER: [(&[u8], &str); 29] = [
 ];
 
 /// The examples of docs/LANGUAGE.md, copied.
-pub const LANGUAGE: [(&[u8], &str); 8] = [
+pub const LANGUAGE: [(&[u8], &str); 13] = [
     (b"set(x) [x|->] { x->tl = 3; } [x|->tl:3]", SET_PROOF),
     (
         b"key, next;\nmark(x) [x|->] { x->key = 1; x->next = nil; } [x|->next:nil,key:1]",
@@ -437,6 +437,26 @@ pub const LANGUAGE: [(&[u8], &str); 8] = [
     ),
     (
         b"rev(o; i) [list(i)] {\n  local t;\n  o = nil;\n  while (i != nil) [list(o) * list(i)] {\n    t = i->tl;\n    i->tl = o;\n    o = i;\n    i = t;\n  }\n} [list(o)]\n",
+        NOT_BUILT,
+    ),
+    (
+        b"resource mm (f) [list(f)]\npeek(x;) { x = f; }",
+        "file refused: 30 NotHeld at 2:16 f\n",
+    ),
+    (
+        b"resource mm (f) [list(f)]\npeek(x;) { with mm when (true) { x = f; } }\nlook(x;) [f == nil] { x = f; }",
+        NOT_BUILT,
+    ),
+    (
+        b"resource r (v) []\na() { with r when (true) { v = nil; } }\nb() { with r when (true) { a(); } }",
+        "file refused: 31 Reentered at 3:28 r\n",
+    ),
+    (
+        b"f(x; y) { x = y; }\np(a;) { f(a; nil) || f(a; nil); }",
+        "file refused: 34 ParallelShares at 2:9 a\n",
+    ),
+    (
+        b"f(x; y) { x = y; }\np(a, b;) { f(a; nil) || f(b; nil); }",
         NOT_BUILT,
     ),
 ];
