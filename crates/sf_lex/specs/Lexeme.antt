@@ -11,9 +11,11 @@ use Rattle.sf_lex.specs.declared.token.Kind.TheVariants as k
 abbrev pub is_blank : ℕ → Bool
 is_blank b = (b == 32) || (b == 9) || (b == 13) || (b == 10)
 
+-- A to Z, a to z
 abbrev pub is_letter : ℕ → Bool
 is_letter = is_ascii_alphabetic
 
+-- 0 to 9
 abbrev pub is_digit : ℕ → Bool
 is_digit = is_ascii_digit
 

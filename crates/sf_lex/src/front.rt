@@ -105,7 +105,7 @@ fn ascii(bytes: &[u8]) -> &str
 {
     match str::from_utf8(bytes) {
         Ok(text) => text,
-        Err(_) => "",
+        Err(_) => unreachable!(),
     }
 }
 

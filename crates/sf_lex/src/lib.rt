@@ -1,12 +1,12 @@
 //! The tokens of a file: which bytes make one, where it stands, and the first fault where there is one.
 #![tactic(auto)]
 
-pub mod fault;
+mod fault;
 mod front;
 pub mod laws;
 mod scan;
 mod symbols;
-pub mod token;
+mod token;
 mod words;
 
 pub use fault::LexFault;

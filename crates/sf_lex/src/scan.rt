@@ -43,33 +43,34 @@ fn place_behind(place: Place, bytes: &[u8]) -> Place
     at
 }
 
+/// The place of a file's first byte.
+fn first_place() -> Place
+    ensures { result ≡ first_place }
+{
+    Place { line: 1, column: 1 }
+}
+
 /// The place behind a file's last byte.
 pub fn end_place(bytes: &[u8]) -> Place
     requires { length bytes.now ≤ FILE_BYTES }
     ensures { result ≡ place_behind first_place bytes.now }
 {
-    place_behind(Place { line: 1, column: 1 }, bytes)
+    place_behind(first_place(), bytes)
 }
 
 /// The tokens so far and the one in front, if a token is there.
-fn keep(
-    found: &mut Vec<Token>,
-    front: Front,
-    start: usize,
-    end: usize,
-    place: Place,
-) -> Result<(), LexFault>
-    requires { end ≡ start + bytes_of front }
+fn keep(found: &mut Vec<Token>, front: Front, start: usize, place: Place) -> Result<(), LexFault>
+    requires within { start + bytes_of front ≤ FILE_BYTES }
     ensures kept { IfOk result (λ _. found.new.items ≡ with_front found.old.items front start place) }
     ensures refused { IfErr result (λ fault. fault ≡ LexFault.OutOfMemory) }
 {
     match front {
         Front::Space(_) => Ok(()),
-        Front::Token(kind, _) => {
+        Front::Token(kind, bytes) => {
             found.push(Token {
                 kind,
                 start,
-                end,
+                end: start + bytes,
                 place,
             })?;
             Ok(())
@@ -95,11 +96,11 @@ fn scan(alloc: Global, bytes: &[u8]) -> Result<Vec<Token>, LexFault>
 {
     let mut found = Vec::new(alloc);
     let mut start: usize = 0;
-    let mut place = Place { line: 1, column: 1 };
+    let mut place = first_place();
     while start < bytes.len() {
         let front = look(place, from_index(bytes, start))?;
         let end = start + bytes_of(front);
-        keep(&mut found, front, start, end, place)?;
+        keep(&mut found, front, start, place)?;
         place = place_behind(place, &bytes[start..end]);
         start = end;
     }
