@@ -15,25 +15,20 @@ fn refusal(alloc: Global, bytes: &[u8]) -> Option<LexFault> {
     }
 }
 
-/// The first kinds of the tokens of those bytes, and how many tokens there are.
-fn kinds(alloc: Global, bytes: &[u8]) -> ([Kind; 4], usize) {
-    let mut first = [Kind::Null; 4];
+/// Whether those bytes have tokens of just those kinds.
+fn reads_as(alloc: Global, bytes: &[u8], kinds: &[Kind]) -> bool {
     match tokens(alloc, bytes) {
-        Ok(found) => {
-            for (i, token) in found.iter().enumerate() {
-                if i < 4 {
-                    first[i] = token.kind;
-                }
-            }
-            (first, found.len())
-        }
-        Err(_) => (first, usize::MAX),
+        Ok(found) => found
+            .iter()
+            .map(|token| token.kind)
+            .eq(kinds.iter().copied()),
+        Err(_) => false,
     }
 }
 
 #[test]
 fn files_without_tokens_are_refused_at_the_first_fault(rt: HostRuntime) {
-    let cases: [(&[u8], LexFault); 23] = [
+    let cases: [(&[u8], LexFault); 25] = [
         (b"f() { @ }", LexFault::BadByte(at(1, 7))),
         (b"/* x", LexFault::OpenComment(at(1, 1))),
         (
@@ -66,6 +61,14 @@ fn files_without_tokens_are_refused_at_the_first_fault(rt: HostRuntime) {
             b"99999999999999999999999999 @",
             LexFault::BadNumber(at(1, 1)),
         ),
+        (
+            b"x _aaaaaaaaaaaaaaaaaaaaaaaaaaaaaaaaaaaaaaaaaaaaaaaaaaaaaaaaaaaaaaaa",
+            LexFault::LongWord(at(1, 3)),
+        ),
+        (
+            b"x\n aaaaaaaaaaaaaaaaaaaaaaaaaaaaaaaaaaaaaaaaaaaaaaaaaaaaaaaaaaaaaaaaa @",
+            LexFault::LongWord(at(2, 2)),
+        ),
     ];
     for (bytes, fault) in cases {
         assert!(rt; refusal(rt.alloc(), bytes) == Some(fault));
@@ -74,67 +77,64 @@ fn files_without_tokens_are_refused_at_the_first_fault(rt: HostRuntime) {
 
 #[test]
 fn files_with_tokens_are_read(rt: HostRuntime) {
-    let cases: [(&[u8], [Kind; 4], usize); 11] = [
-        (b"", [Kind::Null, Kind::Null, Kind::Null, Kind::Null], 0),
+    let cases: [(&[u8], &[Kind]); 11] = [
+        (b"", &[]),
         (
             b"f() { } /* \xc3\xa4 @ */",
-            [
+            &[
                 Kind::Name,
                 Kind::OpenRound,
                 Kind::CloseRound,
                 Kind::OpenBrace,
+                Kind::CloseBrace,
             ],
-            5,
         ),
         (
             b"x->tl = -9223372036854775808;",
-            [Kind::Name, Kind::Arrow, Kind::Name, Kind::Equals],
-            6,
+            &[
+                Kind::Name,
+                Kind::Arrow,
+                Kind::Name,
+                Kind::Equals,
+                Kind::Number,
+                Kind::Semicolon,
+            ],
         ),
-        (
-            b"9223372036854775807",
-            [Kind::Number, Kind::Null, Kind::Null, Kind::Null],
-            1,
-        ),
-        (
-            b"000000000000000000000000007",
-            [Kind::Number, Kind::Null, Kind::Null, Kind::Null],
-            1,
-        ),
-        (
-            b"3/**/4",
-            [Kind::Number, Kind::Number, Kind::Null, Kind::Null],
-            2,
-        ),
+        (b"9223372036854775807", &[Kind::Number]),
+        (b"000000000000000000000000007", &[Kind::Number]),
+        (b"3/**/4", &[Kind::Number, Kind::Number]),
         (
             b"x|->tl:x",
-            [Kind::Name, Kind::PointsTo, Kind::Name, Kind::Colon],
-            5,
+            &[
+                Kind::Name,
+                Kind::PointsTo,
+                Kind::Name,
+                Kind::Colon,
+                Kind::Name,
+            ],
         ),
         (
             b"a||b==c",
-            [Kind::Name, Kind::Bars, Kind::Name, Kind::EqualEqual],
-            5,
+            &[
+                Kind::Name,
+                Kind::Bars,
+                Kind::Name,
+                Kind::EqualEqual,
+                Kind::Name,
+            ],
         ),
-        (
-            b"===",
-            [Kind::EqualEqual, Kind::Equals, Kind::Null, Kind::Null],
-            2,
-        ),
+        (b"===", &[Kind::EqualEqual, Kind::Equals]),
         (
             b"__ _1 lists list",
-            [Kind::Existential, Kind::Existential, Kind::Name, Kind::List],
-            4,
+            &[Kind::Existential, Kind::Existential, Kind::Name, Kind::List],
         ),
         (
             b"x!=-1*",
-            [Kind::Name, Kind::NotEqual, Kind::Number, Kind::Star],
-            4,
+            &[Kind::Name, Kind::NotEqual, Kind::Number, Kind::Star],
         ),
     ];
-    for (bytes, first, count) in cases {
-        let (found, length) = kinds(rt.alloc(), bytes);
-        assert!(rt; found == first && length == count);
+    for (bytes, kinds) in cases {
+        assert!(rt; reads_as(rt.alloc(), bytes, kinds));
     }
 }
 
@@ -208,15 +208,7 @@ fn each_kind_is_read(rt: HostRuntime) {
         Kind::PointsTo,
         Kind::Bars,
     ];
-    let found = tokens(rt.alloc(), text);
-    assert!(rt;
-        found.is_ok_and(|found| {
-            found
-                .iter()
-                .map(|token| token.kind)
-                .eq(kinds.iter().copied())
-        })
-    );
+    assert!(rt; reads_as(rt.alloc(), text, &kinds));
 }
 
 #[test]
