@@ -21,7 +21,7 @@ use Rattle.sf_io.specs.Shelf.{Files}
 use Rattle.sf_elab.specs.Elaborated.{Elaborates, FirstFault}
 use Rattle.sf_elab.specs.Laws.{EachFileIsOne as EachTreeIsOne}
 use Rattle.sf_lex.specs.declared.token.Token.{Token}
-use Rattle.sf_lex.specs.Laws.{EachReadsAtMostOnce}
+use Rattle.sf_lex.specs.Laws.{EachFileReadsOnce}
 use Rattle.sf_parse.specs.Laws.{EachFileIsOne, EachHasOneAnswer}
 use Rattle.sf_parse.specs.Parsing.{IsFile, IsFault as IsGrammarFault}
 use Rattle.sf_precise.specs.Laws.{NeverTakenIsUndetermined}
@@ -42,7 +42,7 @@ use Rattle.sf_cli.specs.Words.{Text, Order, verify, order_of}
 
 -- what the layers below say of their own answers
 pub record Layers : Type 0 where
-  pub tokens : EachReadsAtMostOnce
+  pub tokens : EachFileReadsOnce
   pub trees : EachFileIsOne
   pub grammar : EachHasOneAnswer
   pub names : EachTreeIsOne
@@ -55,7 +55,7 @@ reads-tree : EachFileIsOne → (bytes : Text) (ts us : List Token) (one two : Li
 reads-tree l bytes ts us one two e f g = l ts one two f (subst (λ (z : List Token). IsFile z two) (sym e) g)
 
 -- bytes read as one program at most
-pub reads-program : EachReadsAtMostOnce → EachFileIsOne → EachTreeIsOne → EachFileIsOneProgram
+pub reads-program : EachFileReadsOnce → EachFileIsOne → EachTreeIsOne → EachFileIsOneProgram
 reads-program tokens trees names bytes p q r s =
     let same : r.tree ≡ s.tree = reads-tree trees bytes r.tokens s.tokens r.tree s.tree ((tokens bytes).tokens r.tokens s.tokens r.spelled s.spelled) r.parsed s.parsed in
     names.one_program bytes r.tree p q r.elaborated (subst (λ (z : List Item). Elaborates bytes z q) (sym same) s.elaborated)

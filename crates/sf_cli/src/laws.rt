@@ -4,7 +4,7 @@ ghost use Rattle.sf_cli.specs.Laws.{AcceptedFilesAreSound, EachCommandHasOneAnsw
 
 use sf_calls::laws::first_breach_is_determined;
 use sf_elab::laws::elaborated_is_formed;
-use sf_lex::laws::each_file_reads_at_most_once;
+use sf_lex::laws::each_file_reads_once;
 use sf_parse::laws::each_file_is_shallow;
 use sf_precise::laws::never_taken_is_undetermined;
 use sf_search::{one_verdict, verdicts_prove};
@@ -14,7 +14,7 @@ use sf_sound::proved_programs_are_sound;
 pub fn each_file_is_one_program()
     ensures { EachFileIsOneProgram }
 {
-    each_file_reads_at_most_once();
+    each_file_reads_once();
     sf_parse::laws::each_file_is_one();
     sf_elab::laws::each_file_is_one();
 }
@@ -23,7 +23,7 @@ pub fn each_file_is_one_program()
 pub fn each_file_has_one_answer()
     ensures { EachFileHasOneAnswer }
 {
-    each_file_reads_at_most_once();
+    each_file_reads_once();
     sf_parse::laws::each_file_is_one();
     sf_parse::laws::each_has_one_answer();
     sf_elab::laws::each_file_is_one();

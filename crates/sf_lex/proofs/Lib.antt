@@ -4,7 +4,9 @@ pub mod Bytes
 pub mod WordFronts
 pub mod CommentFronts
 pub mod SymbolFronts
-pub mod Once
 pub mod Steps
+pub mod EachReads
+pub mod Once
+pub mod Texts
 pub mod Answered
 pub mod Spelled

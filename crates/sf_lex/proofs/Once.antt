@@ -1,4 +1,4 @@
--- Each byte string reads in at most one way.
+-- Each byte string reads in one way: two readings have the same pieces.
 use Rattle.std.proofs.Common.{◌≡◌, ◌<◌, ◌≤◌, ◌==◌, ℕ, List, [], ◌∷◌, ◌++◌, length, true, false, Bool, ◌&&◌, Some, None, refl, ap, sym, ◌∙◌, arith, subst, append_assoc}
 use Rattle.std.proofs.lemmas.Bool.{or_parts}
 use Rattle.std.proofs.lemmas.Bool.Decides.{nat_tests}
@@ -13,8 +13,9 @@ use Rattle.sf_lex.specs.declared.token.Token.{Token}
 use Rattle.sf_lex.specs.Lexeme.{is_blank, kind_of}
 use Rattle.sf_lex.specs.Piece.{Piece, blank, comment, token, text_of, spelled, has_close, is_long_word, is_bad_number, IsFront, IsPiece, ArePieces}
 use Rattle.sf_lex.specs.Reading.{AreTokens, IsFault, IsFaultAt, IsBadByte, IsLongWord, IsBadNumber, StopsAt, tokens_of, first_place, place_behind}
-use Rattle.sf_lex.specs.Laws.{EachReadsAtMostOnce}
+use Rattle.sf_lex.specs.Laws.{EachFileReadsOnce}
 use Rattle.sf_lex.proofs.CommentFronts.{close_there}
+use Rattle.sf_lex.proofs.EachReads.{reads-some}
 
 -- of two fronts of one byte string the first goes on to the second, or the other way round
 data Compared (a b r s : List ℕ) : Type 0 where
@@ -357,9 +358,10 @@ faults_once bytes LongFile LongFile s t = refl
 faults_once bytes LongFile OutOfMemory s t = absurd t
 faults_once bytes OutOfMemory f s t = absurd s
 
--- each byte string reads as one list of tokens at most, or with one fault at most, and never both ways
-pub once : EachReadsAtMostOnce
+-- each byte string reads as one list of tokens, or with one fault, and never both ways
+pub once : EachFileReadsOnce
 once bytes = record {
+  some = reads-some bytes;
   tokens = tokens_once bytes;
   faults = faults_once bytes;
   apart = λ ts e t f. apart_once bytes ts e t (stops_of bytes e t.short f);

@@ -36,7 +36,7 @@ pieces_more : (ps : List Piece) (p : Piece) (rest : List ℕ) → ArePieces ps (
 pieces_more [] p rest each one = (one, tt)
 pieces_more (q ∷ ps) p rest each one = (subst (λ xs. IsPiece q xs) (sym (spelled_more ps p rest)) each.0, pieces_more ps p rest each.1 one)
 
-behind_append : (at : Place) (xs ys : List ℕ) → place_behind at (xs ++ ys) ≡ place_behind (place_behind at xs) ys
+pub behind_append : (at : Place) (xs ys : List ℕ) → place_behind at (xs ++ ys) ≡ place_behind (place_behind at xs) ys
 behind_append at [] ys = refl
 behind_append at (x ∷ xs) ys = behind_append (next_place at x) xs ys
 
@@ -121,7 +121,7 @@ step bytes start at found front r s =
     whole : (ps : List Piece) (p : Piece) → spelled (ps ++ p ∷ []) [] ≡ spelled ps [] ++ text_of p
     whole ps p = spelled_more ps p [] ∙ ap (spelled ps) (append-nil (text_of p)) ∙ spelled_tail ps (text_of p)
 
-text_some : (p : Piece) (rest : List ℕ) → IsPiece p rest → 0 < length (text_of p)
+pub text_some : (p : Piece) (rest : List ℕ) → IsPiece p rest → 0 < length (text_of p)
 text_some (blank b) rest h = omega arith
 text_some (comment inner) rest h = omega arith
 text_some (token kind []) rest h = let none : None ≡ Some kind = h.0.is in absurd cc

@@ -59,6 +59,17 @@ mark_two b c = choice ((b == 61) && (c == 61)) _ _ (a_mark refl) (choice ((b == 
 mark_one : (b : ℕ) → IsMark (symbol_of_one b)
 mark_one b = choice (b == 40) _ _ (a_mark refl) (choice (b == 41) _ _ (a_mark refl) (choice (b == 91) _ _ (a_mark refl) (choice (b == 93) _ _ (a_mark refl) (choice (b == 123) _ _ (a_mark refl) (choice (b == 125) _ _ (a_mark refl) (choice (b == 44) _ _ (a_mark refl) (choice (b == 59) _ _ (a_mark refl) (choice (b == 58) _ _ (a_mark refl) (choice (b == 42) _ _ (a_mark refl) (choice (b == 61) _ _ (a_mark refl) (none_mark)))))))))))
 
+mark_kind : (text : List ℕ) → IsMark (symbol_kind text)
+mark_kind [] = none_mark
+mark_kind (b ∷ []) = mark_one b
+mark_kind (b ∷ c ∷ []) = mark_two b c
+mark_kind (b ∷ c ∷ d ∷ []) = mark_three b c d
+mark_kind (b ∷ c ∷ d ∷ e ∷ text) = none_mark
+
+-- no symbol is a number
+pub symbol_no_number : (text : List ℕ) → symbol_kind text ≡ Some k.Number → ⊥
+symbol_no_number text e = let wrong : false ≡ true = (subst IsMark e (mark_kind text)).mark in cc
+
 -- neither too long nor a number
 in_order : (kind : Kind) (text after : List ℕ) → is_mark (Some kind) ≡ true → (is_long_word kind (length text) ≡ false) × (is_bad_number kind text after ≡ false)
 in_order k.Name text after e = absurd cc

@@ -3,7 +3,7 @@ use Rattle.sf_cli.proofs.laws.each_file_has_one_answer.Goals as goal
 
 pub returns : goal.returns
 returns c = answer-once (record {
-  tokens = c.each_file_reads_at_most_once.ensures;
+  tokens = c.each_file_reads_once.ensures;
   trees = c.each_file_is_one.ensures;
   grammar = c.each_has_one_answer.ensures;
   names = c.each_file_is_one-2.ensures;
