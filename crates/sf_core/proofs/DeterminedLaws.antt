@@ -220,14 +220,17 @@ determined-precise (level made cs) v some o h g k q r m n d e = (order-same v (�
 pub determined-learns : {E : Type 0} (v : E → Value) (cs : Conjuncts E) → HasOrder (λ n. false) cs → (n : ℕ) → OccursInAll cs (Exists n) → is_learned_in cs n ≡ true
 determined-learns v cs o n i = either (order-occurs v (λ m. false) cs n o i) (λ f. absurd (true≢false (sym f))) (λ f. f)
 
+-- each existential that occurs in conjuncts that have an order has one value
+pub order-fixes : {E : Type 0} (v : E → Value) (known : ℕ → Bool) (cs : Conjuncts E) (s t : ℕ → Value) (heap one two other another : Heap) → HasOrder known cs → Agree v known s t → Splits heap one other → Splits heap two another
+    → SatAll cs v s one → SatAll cs v t two → (one ≡ two) × ((n : ℕ) → OccursInAll cs (Exists n) → s n ≡ t n)
+order-fixes v known cs s t h g k q r o a m n d e =
+    let same = order-same v known cs o s t h g k q r a m n d e in
+    (same.heaps, λ l i. either (order-occurs v known cs l o i) (a l) (same.learned l))
+
 -- the existentials of a determined level have one value each
 pub determined-fixes : {E : Type 0} (cs : Conjuncts E) (v : E → Value) (s t : ℕ → Value) (heap one two other another : Heap) → HasOrder (λ n. false) cs → Splits heap one other → Splits heap two another → SatAll cs v s one → SatAll cs v t two
     → (n : ℕ) → OccursInAll cs (Exists n) → s n ≡ t n
-determined-fixes cs v s t h g k q r o m n d e l i = (order-same v (λ n. false) cs o s t h g k q r (λ j f. absurd (true≢false (sym f))) m n d e).learned l (determined-learns v cs o l i)
-
--- a determined level has at most one footprint
-pub determined-one_footprint : {E : Type 0} (a : Level E) (v : E → Value) (heap one two : Heap) → Determined a → Foot a v heap one → Foot a v heap two → one ≡ two
-determined-one_footprint a v heap one two o f g = determined-precise a v _ o heap one two f.rest g.rest f.splits g.splits f.sat g.sat
+determined-fixes cs v s t h g k q r o m n d e = (order-fixes v (λ n. false) cs s t h g k q r o (λ j f. absurd (true≢false (sym f))) m n d e).1
 
 -- a footprint in a part of a heap is one in the heap
 pub foot-whole : {E : Type 0} {a : Level E} {v : E → Value} {whole heap rest part : Heap} → Splits whole heap rest → Foot a v heap part → Foot a v whole part

@@ -6,6 +6,7 @@ use Rattle.sf_base.specs.declared.place.Place.{Place}
 use Rattle.sf_base.specs.declared.value.Value.{Value}
 use Rattle.sf_base.specs.declared.value.Value.TheVariants.{Nil as nil, Loc as loc}
 use Rattle.sf_core.specs.declared.assertion.Operand.{Operand}
+use Rattle.sf_core.specs.declared.assertion.Operand.TheVariants.{Known, Exists}
 use Rattle.sf_core.specs.declared.assertion.Test.{Test}
 use Rattle.sf_core.specs.declared.assertion.Test.TheVariants.{Equal}
 use Rattle.sf_core.specs.declared.command.Expr.{Expr}
@@ -15,9 +16,10 @@ use Rattle.sf_core.proofs.HeapSplits.{at-other, at-which, one-in, one-not_empty,
 use Rattle.sf_core.proofs.MapSplits.{empty_map, empty-holds, splits-empty_right, splits-has_right, splits-lacks_right, splits-of_empty_right}
 use Rattle.sf_core.proofs.SatLaws.{value-which}
 use Rattle.sf_core.proofs.SegLaws.{loc-same, nil-not_loc, seg-first, seg-one}
-use Rattle.sf_core.specs.Determined.{CanBeTaken, Determined, HasOrder, IsReady, Leaves, all_taken, branches, plain, take}
+use Rattle.sf_core.specs.Determined.{CanBeTaken, Determined, HasOrder, IsReady, Leaves, all_taken, branches, known_after, plain, take}
 use Rattle.sf_core.specs.HeapStore.{Cell, Heap, IsOne, Splits, ◌⋆◌}
-use Rattle.sf_core.specs.Instances.{ChoiceGoesByItsTest, CircleIsNoSegment, ExistentialIsFixed, ExistentialIsTheFieldsValue, NoLessIsACellAndAList, OneNodeIsATree, OrderIsFound, SegmentMayEndAtAnAbsentCell, TreeOfAnUnknownIsUndetermined, TwoCellsAreACellAndAList, cell_and_list, cell_of_unknown, l, nothing, one_cell, one_scope, place, r, tail, tl, two_cells, unknown, where_are, x, y, ExistentialDecidesAChoice, ExistentialOfABranchIsMadeThere, no_scope}
+use Rattle.sf_core.specs.Instances.{ChoiceGoesByItsTest, CircleIsNoSegment, ExistentialIsFixed, ExistentialIsTheFieldsValue, NoLessIsACellAndAList, OneNodeIsATree, OrderIsFound, SegmentMayEndAtAnAbsentCell, TreeOfAnUnknownIsUndetermined, TwoCellsAreACellAndAList, cell_and_list, cell_of_unknown, l, nothing, one_cell, one_scope, place, r, tail, tl, two_cells, unknown, where_are, x, y, ExistentialDecidesAChoice, ExistentialOfABranchIsMadeThere, no_scope, BranchMakesItsExistentialKnown, ChoiceWaitsForAnExistential, late_choice}
+use Rattle.sf_core.specs.Occurs.{OccursInAll, OccursInOne, is_made}
 use Rattle.sf_core.specs.Sat.{SameOutside, SatAll, Seg, end, cell, leaf, node, value, SatOne}
 use Rattle.sf_core.specs.Syntax.{Conjunct, Conjuncts, Level, none, also, choose, points, segment, tree, level}
 
@@ -200,3 +202,66 @@ existential-fixed = (
     cell_of_unknown-holds location here w some,
   ),
 )
+
+exists-not_known : (n : ℕ) (a : Expr) → Exists n ≡ Known a → ⊥
+exists-not_known n a e = cc
+
+exists-unknown : (n : ℕ) → Exists n ≡ unknown → n ≡ 0
+exists-unknown n e = cc
+
+-- only the existential of number 0 occurs in the choice from outside
+late-occurs : (known : ℕ → Bool) → known 0 ≡ true → (n : ℕ) → OccursInOne late_choice (Exists n) → known n ≡ true
+late-occurs known k n (inl (inl e)) = absurd (exists-not_known n _ e)
+late-occurs known k n (inl (inr e)) = absurd (exists-not_known n _ e)
+late-occurs known k n (inr (inl i)) = absurd i.0
+late-occurs known k n (inr (inr (inl (inl e), f))) = ap known (exists-unknown n e) ∙ k
+late-occurs known k n (inr (inr (inl (inr e), f))) = absurd (exists-not_known n _ e)
+late-occurs known k n (inr (inr (inr i, f))) = absurd i
+
+-- where it is not known, the choice can't be taken
+late-waits : (known : ℕ → Bool) (c : Conjunct Expr) → known 0 ≡ false → c ≡ late_choice → CanBeTaken known c → ⊥
+late-waits known c k e (plain i) = subst (IsReady known) e i
+late-waits known c k e (branches p t made other this that i o a b) = true≢false (sym (o 0 (subst (λ z. OccursInOne z unknown) (sym e) (inr (inr (inl (inl refl), refl))))) ∙ k)
+
+-- the cell, and then the choice
+pub choice-waits : ChoiceWaitsForAnExistential
+choice-waits = (
+  take (points place x ((tl, unknown) ∷ [])) (also late_choice none) (inr (none, inl (refl, refl), refl)) (plain tt) (take late_choice none (inl (refl, refl)) then_choice (all_taken refl)),
+  λ f. late-waits (λ n. false) late_choice refl refl f,
+)
+  where
+    then_choice : CanBeTaken (known_after (points place x ((tl, unknown) ∷ [])) (λ n. false)) late_choice
+    then_choice =
+        branches place (Equal y nothing) no_scope no_scope none (also (segment place tl unknown nothing) none) refl (late-occurs (known_after (points place x ((tl, unknown) ∷ [])) (λ n. false)) refl) (all_taken refl)
+        (take (segment place tl unknown nothing) none (inl (refl, refl)) (plain (refl, tt)) (all_taken refl))
+
+-- the choice of the unrolled list
+abbrev unrolled_choice : Conjunct Expr
+unrolled_choice = choose place (Equal x nothing) (level no_scope none) (level one_scope (also (segment place tl unknown nothing) cell_of_unknown))
+
+-- no existential occurs in it from outside
+unrolled-occurs : (n : ℕ) → OccursInOne unrolled_choice (Exists n) → ⊥
+unrolled-occurs n (inl (inl e)) = exists-not_known n _ e
+unrolled-occurs n (inl (inr e)) = exists-not_known n _ e
+unrolled-occurs n (inr (inl i)) = absurd i.0
+unrolled-occurs n (inr (inr (i, f))) = go i
+  where
+    made : Exists n ≡ unknown → ⊥
+    made e = true≢false (sym (ap (is_made one_scope) (exists-unknown n e)) ∙ f)
+
+    go : OccursInAll (also (segment place tl unknown nothing) cell_of_unknown) (Exists n) → ⊥
+    go (inl (inl e)) = made e
+    go (inl (inr e)) = exists-not_known n _ e
+    go (inr (inl (inl e))) = exists-not_known n _ e
+    go (inr (inl (inr (inl e)))) = made e
+    go (inr (inl (inr (inr j)))) = absurd j
+    go (inr (inr j)) = absurd j
+
+-- inside the branch the cell, and then the segment
+pub branch-makes_known : BranchMakesItsExistentialKnown
+branch-makes_known =
+    take unrolled_choice none (inl (refl, refl))
+    (branches place (Equal x nothing) no_scope one_scope none (also (segment place tl unknown nothing) cell_of_unknown) refl (λ n i. absurd (unrolled-occurs n i)) (all_taken refl)
+    (take (points place x ((tl, unknown) ∷ [])) (also (segment place tl unknown nothing) none) (inr (none, inl (refl, refl), refl)) (plain tt)
+    (take (segment place tl unknown nothing) none (inl (refl, refl)) (plain (refl, tt)) (all_taken refl))))
+    (all_taken refl)

@@ -24,7 +24,8 @@ abbrev mutual
   InOrder known none = Unit {0}
   InOrder known (also c cs) = IsNext known c × InOrder (known_after c known) cs
 
-  -- a conjunct can be taken as it stands: of a choice the branches stand in order too
+  -- a conjunct can be taken as it stands: of a choice the branches stand in order too. That one side of an equality is known is said by a test,
+  -- so that it holds in one way where both are
   pub IsNext : {E : Type 0} → (ℕ → Bool) → Conjunct E → Type 0
   IsNext known (holds p True) = Unit {0}
   IsNext known (holds p (Equal x y)) = is_known known x || is_known known y ≡ true
@@ -42,18 +43,22 @@ abbrev mutual
 abbrev pub StandsInOrder : {E : Type 0} → Level E → Type 0
 StandsInOrder (level made cs) = InOrder (λ n. false) cs
 
+-- that an operand is known holds in one way
 IsKnown-prop : {E : Type 0} (known : ℕ → Bool) (x : Operand E) → IsProp (IsKnown known x)
 IsKnown-prop known (Known x) = Unit-prop
 IsKnown-prop known (Exists n) = Coded-set coded_bool _ _
 
+-- so does that whatever a conjunct takes from outside is known
 IsSupplied-prop : {E : Type 0} (known : ℕ → Bool) (c : Conjunct E) → IsProp (IsSupplied known c)
 IsSupplied-prop known c = Π_prop (λ n. →_prop (Coded-set coded_bool _ _))
 
 mutual
+  -- conjuncts stand in order in one way
   InOrder-prop : {E : Type 0} (known : ℕ → Bool) (cs : Conjuncts E) → IsProp (InOrder known cs)
   InOrder-prop known none = Unit-prop
   InOrder-prop known (also c cs) = ×_prop (IsNext-prop known c) (InOrder-prop (known_after c known) cs)
 
+  -- a conjunct can be taken as it stands in one way
   IsNext-prop : {E : Type 0} (known : ℕ → Bool) (c : Conjunct E) → IsProp (IsNext known c)
   IsNext-prop known (holds p True) = Unit-prop
   IsNext-prop known (holds p (Equal x y)) = Coded-set coded_bool _ _
@@ -64,6 +69,7 @@ mutual
   IsNext-prop known (choose p t this that) = λ u v i.
       (IsSupplied-prop known (choose p t this that) u.0 v.0 i, InOrderInside-prop known this u.1 v.1 i, InOrderInside-prop known that u.2 v.2 i)
 
+  -- a branch stands in order in one way
   InOrderInside-prop : {E : Type 0} (known : ℕ → Bool) (a : Level E) → IsProp (InOrderInside known a)
   InOrderInside-prop known (level made cs) = InOrder-prop (known_inside made known) cs
 

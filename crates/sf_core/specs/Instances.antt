@@ -1,6 +1,6 @@
 -- Small heaps and assertions, worked out: what the definitions say of each.
 -- The assertions are in the manner of Berdine, Calcagno, O'Hearn, "Smallfoot" (2005).
-use Rattle.std.specs.Prelude.{◌≡◌, ◌≢◌, ◌↔◌, ℕ, zero, suc, cond, ◌==◌, [], ◌∷◌, Some, None}
+use Rattle.std.specs.Prelude.{◌≡◌, ◌≢◌, ◌↔◌, ℕ, zero, suc, false, cond, ◌==◌, [], ◌∷◌, Some, None}
 use Rattle.sf_base.specs.declared.ids.FieldId.{FieldId}
 use Rattle.sf_base.specs.declared.ids.Var.{Var}
 use Rattle.sf_base.specs.declared.ids.Var.TheVariants.{Own, Shared}
@@ -13,11 +13,11 @@ use Rattle.sf_core.specs.declared.assertion.Scope.{Scope}
 use Rattle.sf_core.specs.declared.assertion.Test.TheVariants.{Equal}
 use Rattle.sf_core.specs.declared.command.Expr.{Expr}
 use Rattle.sf_core.specs.declared.command.Expr.TheVariants.{Var as Variable, Nil}
-use Rattle.sf_core.specs.Determined.{Determined}
+use Rattle.sf_core.specs.Determined.{CanBeTaken, Determined}
 use Rattle.sf_core.specs.HeapStore.{Cell, Heap, IsEmpty, IsOne, Splits}
 use Rattle.sf_core.specs.Occurs.{OccursInAll}
 use Rattle.sf_core.specs.Sat.{Sat, SatAll, value}
-use Rattle.sf_core.specs.Syntax.{Conjuncts, Level, level, none, also, points, segment, tree, choose, holds}
+use Rattle.sf_core.specs.Syntax.{Conjunct, Conjuncts, Level, level, none, also, points, segment, tree, choose, holds}
 
 -- where all of it stands
 abbrev pub place : Place
@@ -161,3 +161,19 @@ cell_of_unknown = also (points place x ((tl, unknown) ∷ [])) none
 abbrev pub ExistentialIsFixed : Type 0
 ExistentialIsFixed = Determined (level one_scope cell_of_unknown) × OccursInAll cell_of_unknown unknown
     × ((location : ℕ) (cell : Cell) (w : Value) (some : ℕ → Value) → SatAll cell_of_unknown (value (where_are (loc location) w)) some (one_cell location cell) ↔ (some 0 ≡ cell 0))
+
+-- if y == nil then emp else ls(_u,nil)
+abbrev pub late_choice : Conjunct Expr
+late_choice = choose place (Equal y nothing) (level no_scope none) (level no_scope (also (segment place tl unknown nothing) none))
+
+-- a choice waits for what its branches take from outside: (if y == nil then emp else ls(_u,nil)) * x|->tl:_u is determined, and the choice can't come first
+abbrev pub ChoiceWaitsForAnExistential : Type 0
+ChoiceWaitsForAnExistential = Determined (level one_scope (also late_choice cell_of_unknown)) × (CanBeTaken (λ n. false) late_choice → ⊥)
+
+-- if x == nil then emp else (ls(_u,nil) * x|->tl:_u)
+abbrev pub unrolled_list : Level Expr
+unrolled_list = level no_scope (also (choose place (Equal x nothing) (level no_scope none) (level one_scope (also (segment place tl unknown nothing) cell_of_unknown))) none)
+
+-- an existential that a branch makes becomes known inside it, and its choice doesn't wait for it
+abbrev pub BranchMakesItsExistentialKnown : Type 0
+BranchMakesItsExistentialKnown = Determined unrolled_list

@@ -14,7 +14,7 @@ use Rattle.sf_core.specs.Determined.{CanBeTaken, Determined, HasOrder, Leaves, i
 use Rattle.sf_core.specs.HeapStore.{Heap, Splits}
 use Rattle.sf_core.specs.Occurs.{OccursInAll, VarOccursIn}
 use Rattle.sf_core.specs.Precise.{IsPrecise}
-use Rattle.sf_core.specs.Sat.{Foot, Sat, SatAll, SatOne, Seg, Tree, operand, value}
+use Rattle.sf_core.specs.Sat.{Sat, SatAll, SatOne, Seg, Tree, operand, value}
 use Rattle.sf_core.specs.Shape.{IsAcyclic, IsFinite, IsUnshared}
 use Rattle.sf_core.specs.Syntax.{Conjunct, Conjuncts, Level, level, points, segment, tree}
 
@@ -68,14 +68,17 @@ abbrev pub SatSpeaksOfOccurringVariables : Type 0
 SatSpeaksOfOccurringVariables = (assertion : Level Expr) (before after : Var → Value) (some : ℕ → Value) (heap : Heap)
     → ((x : Var) → VarOccursIn assertion x → before x ≡ after x) → Sat assertion (value before) some heap ↔ Sat assertion (value after) some heap
 
--- a determined assertion has at most one footprint in each heap
+-- a determined assertion has at most one footprint in each heap, whatever values the existentials from outside have
 abbrev pub DeterminedHasOneFootprint : Type 0
-DeterminedHasOneFootprint = (assertion : Level Expr) (vars : Var → Value) (heap one two : Heap) → Determined assertion → Foot assertion (value vars) heap one → Foot assertion (value vars) heap two → one ≡ two
+DeterminedHasOneFootprint = (assertion : Level Expr) (vars : Var → Value) (some : ℕ → Value) → Determined assertion → IsPrecise (Sat assertion (value vars) some)
 
--- the existentials of a determined assertion have the same values wherever its conjuncts hold on parts of one heap
-abbrev pub DeterminedFixesExistentials : Type 0
-DeterminedFixesExistentials = (made : Scope) (cs : Conjuncts Expr) (vars : Var → Value) (here there : ℕ → Value) (heap one two other another : Heap) → Determined (level made cs)
-    → Splits heap one other → Splits heap two another → SatAll cs (value vars) here one → SatAll cs (value vars) there two → (n : ℕ) → OccursInAll cs (Exists n) → here n ≡ there n
+-- conjuncts that have an order from what is known are precise and fix their existentials: where they hold on two parts of one heap, with values that
+-- are the same for what is known, the two parts are one, and each existential that occurs in them has the same value in both. A determined
+-- level's conjuncts have an order from nothing; those of a branch, once the choice can be taken, from what is known inside it
+abbrev pub OrderedConjunctsArePrecise : Type 0
+OrderedConjunctsArePrecise = (known : ℕ → Bool) (cs : Conjuncts Expr) (vars : Var → Value) (here there : ℕ → Value) (heap one two other another : Heap) → HasOrder known cs
+    → ((n : ℕ) → known n ≡ true → here n ≡ there n) → Splits heap one other → Splits heap two another → SatAll cs (value vars) here one → SatAll cs (value vars) there two
+    → (one ≡ two) × ((n : ℕ) → OccursInAll cs (Exists n) → here n ≡ there n)
 
 -- each existential that stands in a determined assertion becomes known where one of its conjuncts is taken
 abbrev pub EachExistentialBecomesKnown : Type 0

@@ -1,6 +1,6 @@
 //! Small heaps and assertions, worked out. Each function does nothing; its contract is the result.
 
-ghost use Rattle.sf_core.specs.Instances.{TwoCellsAreACellAndAList, NoLessIsACellAndAList, ChoiceGoesByItsTest, ExistentialIsTheFieldsValue, OneNodeIsATree, SegmentMayEndAtAnAbsentCell, CircleIsNoSegment, OrderIsFound, TreeOfAnUnknownIsUndetermined, ExistentialIsFixed, ExistentialDecidesAChoice, ExistentialOfABranchIsMadeThere};
+ghost use Rattle.sf_core.specs.Instances.{TwoCellsAreACellAndAList, NoLessIsACellAndAList, ChoiceGoesByItsTest, ExistentialIsTheFieldsValue, OneNodeIsATree, SegmentMayEndAtAnAbsentCell, CircleIsNoSegment, OrderIsFound, TreeOfAnUnknownIsUndetermined, ExistentialIsFixed, ExistentialDecidesAChoice, ExistentialOfABranchIsMadeThere, ChoiceWaitsForAnExistential, BranchMakesItsExistentialKnown};
 
 /// `x|->tl:y * ls(y,nil)` holds of two cells in a row.
 pub fn two_cells_are_a_cell_and_a_list()
@@ -56,6 +56,16 @@ pub fn order_is_found()
 /// `tree(_u)` is not determined.
 pub fn tree_of_an_unknown_is_undetermined()
     ensures { TreeOfAnUnknownIsUndetermined }
+{}
+
+/// `(if y == nil then emp else ls(_u,nil)) * x|->tl:_u` is determined: the choice comes second.
+pub fn choice_waits_for_an_existential()
+    ensures { ChoiceWaitsForAnExistential }
+{}
+
+/// `if x == nil then emp else (ls(_u,nil) * x|->tl:_u)` is determined.
+pub fn branch_makes_its_existential_known()
+    ensures { BranchMakesItsExistentialKnown }
 {}
 
 /// `x|->tl:_u` holds on a cell with the field's value for `_u`, and with no other.

@@ -1,6 +1,6 @@
 //! Laws of heaps and assertions. Each function does nothing; its contract is the law.
 
-ghost use Rattle.sf_core.specs.Laws.{UnionIsCommutative, UnionIsAssociative, UnionCancels, PointsToHasExactlyOneCell, SegmentHasNoCellAtItsEnd, SegmentsCompose, TreeIsFiniteAndAcyclic, SegmentsAndTreesArePrecise, SatSpeaksOfOccurringVariables, DeterminedHasOneFootprint, DeterminedFixesExistentials, EachExistentialBecomesKnown, AnyReadyConjunctMayComeFirst, TreeSharesNothing, SatisfyingHeapsAreFinite};
+ghost use Rattle.sf_core.specs.Laws.{UnionIsCommutative, UnionIsAssociative, UnionCancels, PointsToHasExactlyOneCell, SegmentHasNoCellAtItsEnd, SegmentsCompose, TreeIsFiniteAndAcyclic, SegmentsAndTreesArePrecise, SatSpeaksOfOccurringVariables, DeterminedHasOneFootprint, OrderedConjunctsArePrecise, EachExistentialBecomesKnown, AnyReadyConjunctMayComeFirst, TreeSharesNothing, SatisfyingHeapsAreFinite};
 
 /// The two parts of a heap may be exchanged.
 pub fn union_of_heaps_is_commutative()
@@ -62,9 +62,10 @@ pub fn determined_has_one_footprint()
     ensures { DeterminedHasOneFootprint }
 {}
 
-/// The existentials of a determined assertion have one value each in a heap: those of a footprint.
-pub fn determined_fixes_existentials()
-    ensures { DeterminedFixesExistentials }
+/// Conjuncts that have an order hold on at most one part of a heap, and each existential that
+/// occurs in them has one value there; inside branches too.
+pub fn ordered_conjuncts_are_precise()
+    ensures { OrderedConjunctsArePrecise }
 {}
 
 /// Each existential of a determined assertion becomes known.
