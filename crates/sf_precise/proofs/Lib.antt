@@ -12,3 +12,5 @@ pub mod OrderMeaning
 pub mod Noted
 pub mod TakenDecided
 pub mod OrdersHad
+pub mod OrdersExist
+pub mod TakenFixes

@@ -7,14 +7,9 @@ use Rattle.sf_core.proofs.Cases.{either, or-second, or-which}
 use Rattle.sf_core.proofs.OrderLaws.{KnowsMore, more-taken, taken-more}
 use Rattle.sf_core.specs.Determined.{CanBeTaken, HasOrder, Leaves, all_taken, is_learned, known_after, take}
 use Rattle.sf_core.specs.Syntax.{Conjunct, Conjuncts, none, also}
-use Rattle.sf_precise.specs.Taken.{IsAmong, IsFirstNeverTaken, IsNeverTaken, Takes, place_at}
+use Rattle.sf_precise.specs.Taken.{IsAmong, IsFirstNeverTaken, IsNeverTaken, Takes, known_by, place_at}
 
 module _ {E : Type 0} where
-  -- what is known once these are taken
-  abbrev pub known_by : Conjuncts E → (ℕ → Bool) → ℕ → Bool
-  known_by none known = known
-  known_by (also c cs) known = known_by cs (known_after c known)
-
   -- one more at the end
   abbrev pub then_one : Conjuncts E → Conjunct E → Conjuncts E
   then_one none c = also c none
@@ -40,10 +35,17 @@ module _ {E : Type 0} where
   leaves-among (also b bs) c rest d (inr l) (inl i) = inr (subst (λ z. IsAmong z d) (sym l.2) (inl i))
   leaves-among (also b bs) c rest d (inr l) (inr i) = either (leaves-among bs c l.0 d l.1 i) (λ e. inl e) (λ j. inr (subst (λ z. IsAmong z d) (sym l.2) (inr j)))
 
-  leaves-is : (cs : Conjuncts E) (c : Conjunct E) (rest : Conjuncts E) → Leaves cs c rest → IsAmong cs c
+  -- what is taken is one of them
+  pub leaves-is : (cs : Conjuncts E) (c : Conjunct E) (rest : Conjuncts E) → Leaves cs c rest → IsAmong cs c
   leaves-is none c rest l = absurd l
   leaves-is (also b bs) c rest (inl l) = inl l.0
   leaves-is (also b bs) c rest (inr l) = inr (leaves-is bs c l.0 l.1)
+
+  -- each of them may be the one that is taken
+  pub among-leaves : (cs : Conjuncts E) (c : Conjunct E) → IsAmong cs c → (rest : Conjuncts E) × Leaves cs c rest
+  among-leaves none c i = absurd i
+  among-leaves (also b bs) c (inl i) = (bs, inl (i, refl))
+  among-leaves (also b bs) c (inr i) = let l = among-leaves bs c i in (also b l.0, inr (l.0, l.1, refl))
 
   pub leaves-within : (cs : Conjuncts E) (c : Conjunct E) (rest : Conjuncts E) (d : Conjunct E) → Leaves cs c rest → IsAmong rest d → IsAmong cs d
   leaves-within none c rest d l i = absurd l

@@ -1,4 +1,5 @@
 -- Going through annotations: the first place at which a conjunct is never taken, and the orders where there is none.
+-- Names: `place-LAW` speaks of the first place, `noted-LAW` of the place and the orders, `read-LAW` of the code's vectors.
 use Rattle.std.proofs.Common.{◌≡◌, ◌⊎◌, Bool, true, false, cond, ℕ, ◌+◌, ◌<◌, ◌≤◌, length, get_or, map, take, List, [], ◌∷◌, ◌++◌, Option, Some, None, refl, sym, ap, ◌∙◌, subst, inl, inr, arith}
 use Rattle.std.proofs.lemmas.Bool.Decides.{nat_tests}
 use Rattle.std.proofs.lemmas.List.{map-append, map_more, take_all}
@@ -33,28 +34,24 @@ before-not_itself p e = absurd (let c : true ≡ false = sym e ∙ not_less in c
 before-further : (p q r : Place) → is_before p q ≡ true → is_before q r ≡ true → is_before p r ≡ true
 before-further p q r e f = grind (arith, nat_tests)
 
--- what holds on the way
-pub record IsNoted (notes : List Assertion) (first : Option Place) (orders : List Assertion) : Type 0 where
-  pub place : IsFirstPlace (NeverTakenIn notes) first
-  pub all : first ≡ None → AreOrdersOf notes orders
+-- there is no place in no annotations
+pub place-none : IsFirstPlace (NeverTakenIn []) None
+place-none q n = let h = n.1.1 in absurd (omega arith)
 
-pub noted-none : IsNoted [] None []
-noted-none = record { place = λ q n. (let h = n.1.1 in absurd (omega arith)); all = λ e. tt }
-
--- one more annotation that is determined
-pub noted-ordered : (notes : List Assertion) (first : Option Place) (orders : List Assertion) (a o : Assertion) → Determined a.level → IsOrderOf a o → IsNoted notes first orders → IsNoted (notes ++ a ∷ []) first (orders ++ o ∷ [])
-noted-ordered notes first orders a o d i n = record { place = place first n.place; all = λ e. all_zipped_more IsOrderOf notes orders a o (n.all e) i }
+-- one more annotation that is determined adds no place
+pub place-determined : (notes : List Assertion) (first : Option Place) (a : Assertion) → Determined a.level → IsFirstPlace (NeverTakenIn notes) first → IsFirstPlace (NeverTakenIn (notes ++ a ∷ [])) first
+place-determined notes first a d = go first
   where
     old : (q : Place) → NeverTakenIn (notes ++ a ∷ []) q → NeverTakenIn notes q
     old q (b, c, m) = either (Contains-push_cases notes a b c) (λ h. (b, h, m)) (λ h. absurd (never-undetermined b.level q m (subst (λ (z : Assertion). Determined z.level) h d)))
 
-    place : (f : Option Place) → IsFirstPlace (NeverTakenIn notes) f → IsFirstPlace (NeverTakenIn (notes ++ a ∷ [])) f
-    place None k = λ q m. k q (old q m)
-    place (Some p) k = ((k.0.0, Contains-append_left notes (a ∷ []) k.0.0 k.0.1, k.0.2), λ r m b. k.1 r (old r m) b)
+    go : (f : Option Place) → IsFirstPlace (NeverTakenIn notes) f → IsFirstPlace (NeverTakenIn (notes ++ a ∷ [])) f
+    go None k = λ q m. k q (old q m)
+    go (Some p) k = ((k.0.0, Contains-append_left notes (a ∷ []) k.0.0 k.0.1, k.0.2), λ r m b. k.1 r (old r m) b)
 
--- one more annotation with a conjunct that is never taken
-pub noted-fault : (notes : List Assertion) (first : Option Place) (orders : List Assertion) (a : Assertion) (q : Place) → NeverTakenAt a.level q → IsNoted notes first orders → IsNoted (notes ++ a ∷ []) (Some (earlier_of first q)) orders
-noted-fault notes first orders a q m n = record { place = place first n.place; all = λ e. absurd (let c : Some (earlier_of first q) ≡ None = e in cc) }
+-- one more annotation with a conjunct that is never taken: the first place is the earlier of the two
+pub place-fault : (notes : List Assertion) (first : Option Place) (a : Assertion) (q : Place) → NeverTakenAt a.level q → IsFirstPlace (NeverTakenIn notes) first → IsFirstPlace (NeverTakenIn (notes ++ a ∷ [])) (Some (earlier_of first q))
+place-fault notes first a q m = place first
   where
     new : NeverTakenIn (notes ++ a ∷ []) q
     new = (a, Contains-push notes a, m)
@@ -72,6 +69,22 @@ noted-fault notes first orders a q m n = record { place = place first n.place; a
         go : (b : Bool) → is_before q p ≡ b → IsFirstPlace (NeverTakenIn (notes ++ a ∷ [])) (Some (cond b q p))
         go true e = (new, λ r h c. either (which r h) (λ i. k.1 r i (before-further r q p c e)) (λ s. before-not_itself q (subst (λ (z : Place). is_before z q ≡ true) (sym s) c)))
         go false e = (kept p k.0, λ r h c. either (which r h) (λ i. k.1 r i c) (λ s. let t : true ≡ false = sym (subst (λ (z : Place). is_before z p ≡ true) (sym s) c) ∙ e in absurd (cc)))
+
+-- what holds on the way
+pub record IsNoted (notes : List Assertion) (first : Option Place) (orders : List Assertion) : Type 0 where
+  pub place : IsFirstPlace (NeverTakenIn notes) first
+  pub all : first ≡ None → AreOrdersOf notes orders
+
+pub noted-none : IsNoted [] None []
+noted-none = record { place = place-none; all = λ e. tt }
+
+-- one more annotation that is determined
+pub noted-ordered : (notes : List Assertion) (first : Option Place) (orders : List Assertion) (a o : Assertion) → Determined a.level → IsOrderOf a o → IsNoted notes first orders → IsNoted (notes ++ a ∷ []) first (orders ++ o ∷ [])
+noted-ordered notes first orders a o d i n = record { place = place-determined notes first a d n.place; all = λ e. all_zipped_more IsOrderOf notes orders a o (n.all e) i }
+
+-- one more annotation with a conjunct that is never taken
+pub noted-fault : (notes : List Assertion) (first : Option Place) (orders : List Assertion) (a : Assertion) (q : Place) → NeverTakenAt a.level q → IsNoted notes first orders → IsNoted (notes ++ a ∷ []) (Some (earlier_of first q)) orders
+noted-fault notes first orders a q m n = record { place = place-fault notes first a q m n.place; all = λ e. absurd (let c : Some (earlier_of first q) ≡ None = e in cc) }
 
 module _ {A O : Type 0} (f : A → Assertion) (g : O → Assertion) (notes : List A) (i : ℕ) (x : A) (h : i < length notes) (e : x ≡ get_or notes i x) where
   one-more : map f (take (i + 1) notes) ≡ map f (take i notes) ++ f x ∷ []

@@ -25,14 +25,14 @@ use Rattle.sf_precise.specs.declared.work.Work.{Work}
 use Rattle.sf_precise.specs.Order.{IsFirstReady, IsOrder, IsOrderWithin}
 use Rattle.sf_precise.specs.Outer.{existential, field_existentials}
 use Rattle.sf_precise.specs.Prepared.{IsPrepared}
-use Rattle.sf_precise.specs.Taken.{IsAmong, IsFirstNeverTaken, Takes, place_at}
+use Rattle.sf_precise.specs.Taken.{IsAmong, IsFirstNeverTaken, Takes, known_by, place_at}
 use Rattle.sf_precise.specs.Waits.{Job, job_of, jobs_of, learned_from}
 use Rattle.sf_precise.specs.Work.{IsFirstLacking, IsWork, Learns, is_ready, is_served, known_with, none_taken}
 use Rattle.sf_precise.proofs.Adding.{past-one}
 use Rattle.sf_precise.proofs.Agree.{first-leaves}
 use Rattle.sf_precise.proofs.Greedy.{within-learned}
 use Rattle.sf_precise.proofs.Learning.{or-false, work-same}
-use Rattle.sf_precise.proofs.NeverTaken.{known_by, known-then_one, stuck-first, takes-more, takes-one, then_one}
+use Rattle.sf_precise.proofs.NeverTaken.{known-then_one, stuck-first, takes-more, takes-one, then_one}
 use Rattle.sf_precise.proofs.Ready.{job-ready, prepared-within, ready-job}
 
 -- those that are not marked

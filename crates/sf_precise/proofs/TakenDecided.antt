@@ -93,12 +93,12 @@ module _ {E : Type 0} where
       go (inr k) (inr stuck) = inr (λ c rest l t. either l (λ i. k (subst (CanBeTaken known) (sym i.0) t)) (λ i. stuck c i.0 i.1 t))
 
   -- how many conjuncts there are
-  abbrev count : Conjuncts E → ℕ
+  abbrev pub count : Conjuncts E → ℕ
   count none = 0
   count (also c cs) = suc (count cs)
 
   -- one of them is taken
-  leaves-fewer : (cs : Conjuncts E) (c : Conjunct E) (rest : Conjuncts E) → Leaves cs c rest → count cs ≡ suc (count rest)
+  pub leaves-fewer : (cs : Conjuncts E) (c : Conjunct E) (rest : Conjuncts E) → Leaves cs c rest → count cs ≡ suc (count rest)
   leaves-fewer none c rest l = absurd l
   leaves-fewer (also d ds) c rest (inl l) = ap (λ z. suc (count z)) l.1
   leaves-fewer (also d ds) c rest (inr l) = ap suc (leaves-fewer ds c l.0 l.1) ∙ ap (λ z. suc (count z)) (sym l.2)

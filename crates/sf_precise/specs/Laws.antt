@@ -1,18 +1,20 @@
--- Laws of orders: an assertion has one order at most, has one where it is determined, and means the same in order; and what a type keeps truncated is had.
+-- Laws of orders: an assertion has one order at most, has one where it is determined, and means the same in order; where it is not, a conjunct is never
+-- taken; what was taken fixes existentials; and what a type keeps truncated is had.
 -- This project's own notions; that an order keeps the meaning is commutativity and associativity of the separating conjunction, as in Reynolds, "Separation Logic" (2002).
-use Rattle.std.specs.Prelude.{◌≡◌, ◌↔◌, ℕ, List}
+use Rattle.std.specs.Prelude.{◌≡◌, ◌↔◌, ◌⊎◌, ℕ, Bool, true, List, Some}
+use Rattle.std.specs.List.{All}
 use Rattle.sf_base.specs.declared.ids.Var.{Var}
 use Rattle.sf_base.specs.declared.place.Place.{Place}
 use Rattle.sf_base.specs.declared.value.Value.{Value}
 use Rattle.sf_core.specs.declared.command.Expr.{Expr}
 use Rattle.sf_core.specs.Determined.{Determined}
-use Rattle.sf_core.specs.HeapStore.{Heap}
+use Rattle.sf_core.specs.HeapStore.{Heap, Splits}
 use Rattle.sf_core.specs.InOrder.{StandsInOrder}
-use Rattle.sf_core.specs.Sat.{Sat, value}
-use Rattle.sf_core.specs.Syntax.{Assertion, Level}
-use Rattle.sf_precise.specs.Notes.{AreOrdersOf}
+use Rattle.sf_core.specs.Sat.{Sat, SatAll, value}
+use Rattle.sf_core.specs.Syntax.{Assertion, Conjuncts, Level}
+use Rattle.sf_precise.specs.Notes.{AreOrdersOf, IsFirstPlace, NeverTakenIn}
 use Rattle.sf_precise.specs.Order.{IsOrderOfLevel}
-use Rattle.sf_precise.specs.Taken.{NeverTakenAt}
+use Rattle.sf_precise.specs.Taken.{NeverTakenAt, Takes, known_by}
 
 -- a level has one order at most
 abbrev pub OrderIsOne : Type 0
@@ -29,6 +31,25 @@ StandingIsDetermined = (o : Level Expr) → StandsInOrder o → Determined o
 -- a level of which a conjunct is never taken is not determined
 abbrev pub NeverTakenIsUndetermined : Type 0
 NeverTakenIsUndetermined = (a : Level Expr) (p : Place) → NeverTakenAt a p → ¬ Determined a
+
+-- a determined level has its order
+abbrev pub DeterminedHasOrder : Type 0
+DeterminedHasOrder = (a : Level Expr) → Determined a → (o : Level Expr) × IsOrderOfLevel a o
+
+-- each level is determined, or has a first conjunct that is never taken
+abbrev pub UndeterminedHasPlace : Type 0
+UndeterminedHasPlace = (a : Level Expr) → Determined a ⊎ ((q : Place) × NeverTakenAt a q)
+
+-- annotations are all determined, or there is a first place among them at which a conjunct is never taken
+abbrev pub UndeterminedNotesHavePlace : Type 0
+UndeterminedNotesHavePlace = (notes : List Assertion) → All (λ a. Determined a.level) notes ⊎ ((q : Place) × IsFirstPlace (NeverTakenIn notes) (Some q))
+
+-- conjuncts that were taken fix what became known by them: where all the conjuncts hold on two parts of one heap, with values that are the same for
+-- what is known, the values of what is known once those are taken are the same
+abbrev pub TakenFixExistentials : Type 0
+TakenFixExistentials = (known : ℕ → Bool) (cs taken rest : Conjuncts Expr) (vars : Var → Value) (here there : ℕ → Value) (heap one two other another : Heap) → Takes known cs taken rest
+    → ((n : ℕ) → known n ≡ true → here n ≡ there n) → Splits heap one other → Splits heap two another → SatAll cs (value vars) here one → SatAll cs (value vars) there two
+    → (n : ℕ) → known_by taken known n ≡ true → here n ≡ there n
 
 -- a level in order means the same
 abbrev pub OrderKeepsMeaning : Type 0

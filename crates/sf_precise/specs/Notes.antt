@@ -7,12 +7,14 @@ use Rattle.sf_core.specs.Syntax.{Assertion, Command, assign, look_up, mutate, ne
 use Rattle.sf_precise.specs.Order.{IsOrderOf}
 use Rattle.sf_precise.specs.Taken.{NeverTakenAt}
 
--- the invariants of the loops in commands, in text order
+-- the invariants of loops, in text order
 abbrev mutual
+  -- those in commands, one command after the other
   pub loops_in : Block → List Assertion
   loops_in done = []
   loops_in (then c b) = loops_of c ++ loops_in b
 
+  -- those in one command: of a loop its own, and those in its body
   pub loops_of : Command → List Assertion
   loops_of (assign p x e) = []
   loops_of (look_up p x e field) = []

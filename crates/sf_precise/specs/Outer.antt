@@ -1,4 +1,5 @@
--- Outer: the existentials that an assertion takes from the scopes around it, as a list of their occurrences in text order.
+-- Outer: the existentials that an assertion takes from the scopes around it, as a list of their occurrences in text order. These
+-- definitions stand between the code and those of Determined and Order, and needn't be believed: no public contract names them.
 -- The usual free names of a formula with quantifiers, listed.
 use Rattle.std.specs.Prelude.{ℕ, not, List, [], ◌∷◌, ◌++◌, filter}
 use Rattle.sf_base.specs.declared.ids.FieldId.{FieldId}
@@ -25,15 +26,18 @@ abbrev pub field_existentials : {E : Type 0} → List (FieldId × Operand E) →
 field_existentials [] = []
 field_existentials (f ∷ fs) = existential f.1 ++ field_existentials fs
 
--- those of a level that are not made there, or further in where they stand
+-- those that an assertion takes from outside
 abbrev mutual
+  -- those of a level that are not made there, or further in where they stand
   pub outer_of_level : {E : Type 0} → Level E → List ℕ
   outer_of_level (level made cs) = filter (λ n. not (is_made made n)) (outer_of_all cs)
 
+  -- those of conjuncts, one conjunct after the other
   pub outer_of_all : {E : Type 0} → Conjuncts E → List ℕ
   outer_of_all none = []
   outer_of_all (also c cs) = outer_of c ++ outer_of_all cs
 
+  -- those of one conjunct: of a choice those of its test, and those of its branches
   pub outer_of : {E : Type 0} → Conjunct E → List ℕ
   outer_of (holds p t) = test_existentials t
   outer_of (points p x fs) = existential x ++ field_existentials fs

@@ -1,4 +1,5 @@
--- Prepared: a conjunct that was looked at before any is taken: it can never be taken, or its branches are in order.
+-- Prepared: a conjunct that was looked at before any is taken: it can never be taken, or its branches are in order. These definitions
+-- stand between the code and those of Determined and Order, and needn't be believed: no public contract names them.
 -- What is known around a branch decides nothing about its order but that all that it takes from there is known.
 use Rattle.std.specs.Prelude.{◌≡◌, ℕ, Bool, true, Option, Some, None}
 use Rattle.sf_core.specs.declared.assertion.Operand.TheVariants.{Exists}

@@ -25,6 +25,11 @@ abbrev pub Takes : {E : Type 0} → (ℕ → Bool) → (cs taken rest : Conjunct
 Takes known cs none rest = cs ≡ rest
 Takes known cs (also c taken) rest = (others : Conjuncts _) × Leaves cs c others × CanBeTaken known c × Takes (known_after c known) others taken rest
 
+-- what is known once these are taken
+abbrev pub known_by : {E : Type 0} → (taken : Conjuncts E) → (ℕ → Bool) → ℕ → Bool
+known_by none known = known
+known_by (also c taken) known = known_by taken (known_after c known)
+
 -- no sequence of takings ever takes the conjunct: whatever is taken, it is left
 abbrev pub IsNeverTaken : {E : Type 0} → (ℕ → Bool) → Conjuncts E → Conjunct E → Type 0
 IsNeverTaken {E} known cs c = (taken rest : Conjuncts E) → Takes known cs taken rest → IsAmong rest c

@@ -1,4 +1,5 @@
--- Waits: how many of which existentials have to become known before a conjunct is ready, and which ones become known by it.
+-- Waits: how many of which existentials have to become known before a conjunct is ready, and which ones become known by it. These
+-- definitions stand between the code and those of Determined and Order, and needn't be believed: no public contract names them.
 -- The usual in-degrees of a topological sort (Kahn, 1962).
 use Rattle.std.specs.Prelude.{ℕ, ◌+◌, Bool, false, not, ◌&&◌, cond, List, [], ◌∷◌, ◌++◌, length, filter, Option, Some, None}
 use Rattle.sf_core.specs.declared.assertion.Operand.{Operand}

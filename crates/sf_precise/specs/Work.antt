@@ -1,4 +1,5 @@
--- Work: what is kept while conjuncts are taken, each as soon as nothing is lacking and none before it is ready.
+-- Work: what is kept while conjuncts are taken, each as soon as nothing is lacking and none before it is ready. These definitions
+-- stand between the code and those of Determined and Order, and needn't be believed: no public contract names them.
 -- The worklist of a topological sort (Kahn, 1962): counts of what is lacking, who waits for what, and who is ready, by number.
 use Rattle.std.specs.Prelude.{◌≡◌, ◌≢◌, ℕ, ◌+◌, ◌-◌, ◌<◌, ◌≤◌, ◌==◌, Bool, true, false, not, ◌&&◌, ◌||◌, List, [], ◌∷◌, ◌++◌, length, map, sum, replicate, count_by, slice_get, slice_index_or, Some, None, Option, Vec, Contains}
 use Rattle.std.specs.List.{list_any}
