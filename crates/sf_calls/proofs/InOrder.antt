@@ -1,7 +1,8 @@
 -- The resources and their variables in order.
-use Rattle.std.proofs.Common.{◌≡◌, ◌≢◌, ◌⊎◌, ◌<◌, ◌+◌, ◌^◌, ℕ, List, [], ◌∷◌, ◌++◌, length, get_or, Some, slice_get, Contains, All, refl, sym, ap, inl, inr, subst, arith}
+use Rattle.std.proofs.Common.{◌≡◌, ◌≢◌, ◌⊎◌, ◌<◌, ◌+◌, ◌^◌, ℕ, suc, List, [], ◌∷◌, ◌++◌, length, get_or, Some, slice_get, Contains, All, AllPairs, refl, sym, ap, inl, inr, subst, arith}
 use Rattle.std.proofs.lemmas.Bool.Decides.{eqb_tells}
-use Rattle.std.proofs.lemmas.List.Elements.{Contains-append_left, Contains-push, Contains-push_cases, Contains-get_or}
+use Rattle.std.proofs.lemmas.List.Elements.{Contains-append_cases, Contains-append_left, Contains-append_right, Contains-push, Contains-push_cases, Contains-get_or}
+use Rattle.std.proofs.lemmas.List.Kept.{AllPairs-cons}
 use Rattle.std.proofs.lemmas.List.Quantifiers.{all_pairs_push}
 use Rattle.std.proofs.lemmas.List.Sums.{get_or-le-sum_by}
 use Rattle.std.proofs.lemmas.Option.{slice_get_within, get_or_from_slice_get}
@@ -12,7 +13,7 @@ use Rattle.sf_core.specs.Formed.{IsFormed}
 use Rattle.sf_core.specs.Syntax.{Program, Resource}
 use Rattle.sf_calls.specs.Conditions.{IsShared}
 use Rattle.sf_calls.specs.Sets.{IsSetOf, IsEarlier, IsEarlierResource, IsUpTo}
-use Rattle.sf_calls.proofs.Decided.{resource, none_in}
+use Rattle.sf_calls.proofs.Decided.{resource, none_in, single_is, is_single}
 
 -- one more element, behind the others
 pub set_push : {A : Type 0} (B : A → A → Type 0) (P Q : A → Type 0) (xs : List A) (y : A) → IsSetOf B P xs → ((x : A) → P x → B x y) → ((x : A) → Q x → P x ⊎ (x ≡ y)) → ((x : A) → P x → Q x) → Q y → IsSetOf B Q (xs ++ y ∷ [])
@@ -37,6 +38,31 @@ set_same B P Q xs s to from = record { ordered = s.ordered; members = λ x. (λ 
 -- the empty set
 pub set_none : {A : Type 0} (B : A → A → Type 0) (P : A → Type 0) → ((x : A) → P x → ⊥) → IsSetOf B P []
 set_none B P none = record { ordered = λ i j d h k. absurd (omega (arith, k)); members = λ x. (λ c. absurd (none_in x c), λ p. absurd (none x p)) }
+
+-- each element comes before those that stand behind it
+abbrev pub Ordered : {X : Type 0} → (X → X → Type 0) → List X → Type 0
+Ordered B [] = Unit {0}
+Ordered {X} B (x ∷ xs) = ((y : X) → Contains xs y → B x y) × Ordered B xs
+
+-- of two such lists one
+pub ordered_append : {X : Type 0} (B : X → X → Type 0) (xs ys : List X) → Ordered B xs → Ordered B ys → ((x y : X) → Contains xs x → Contains ys y → B x y) → Ordered B (xs ++ ys)
+ordered_append B [] ys a b across = b
+ordered_append B (x ∷ xs) ys a b across = (
+  λ y c. elim (Contains-append_cases xs ys y c) [ inl k ↦ a.0 y k | inr k ↦ across x y (Contains-append_left (x ∷ []) xs x (is_single x x refl)) k ],
+  ordered_append B xs ys a.1 b (λ z y c k. across z y (Contains-append_right (x ∷ []) xs z c) k),
+)
+
+-- both forms of the order say the same
+pub ordered_pairs : {X : Type 0} (B : X → X → Type 0) (xs : List X) → AllPairs B xs → Ordered B xs
+ordered_pairs B [] pairs = tt
+ordered_pairs {X} B (x ∷ xs) pairs = (head, ordered_pairs B xs (λ i j d less below. pairs (suc i) (suc j) d (omega (arith, less)) (omega (arith, below))))
+  where
+    head : (y : X) → Contains xs y → B x y
+    head y (k, below, e) = subst (B x) e (pairs 0 (suc k) y (omega arith) (omega (arith, below)))
+
+pub pairs_ordered : {X : Type 0} (B : X → X → Type 0) (xs : List X) → Ordered B xs → AllPairs B xs
+pairs_ordered B [] o = λ i j d h k. absurd (omega (arith, k))
+pairs_ordered B (x ∷ xs) o = AllPairs-cons B x xs (λ k d below. o.0 (get_or xs k d) (Contains-get_or xs k d below)) (pairs_ordered B xs o.1)
 
 pub next_resource : (i : ℕ) (found : List ResId) → IsSetOf IsEarlierResource (λ r. r.0 < i) found → IsSetOf IsEarlierResource (λ r. r.0 < i + 1) (found ++ resource i ∷ [])
 next_resource i found s = set_push IsEarlierResource (λ r. r.0 < i) (λ r. r.0 < i + 1) found (resource i) s (λ x h. h) from (λ x h. omega (arith, h)) (omega arith)

@@ -7,7 +7,12 @@ pub mod Within
 pub mod CallGraph
 pub mod Rows
 pub mod Least
+pub mod InFile
 pub mod Gathered
 pub mod OneBreach
+pub mod Decidable
+pub mod Paths
 pub mod Had
+pub mod SetsDecidable
 pub mod SetsHad
+pub mod SetsThere

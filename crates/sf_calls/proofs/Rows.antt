@@ -65,10 +65,10 @@ has_is x (y ∷ ys) =
     (λ e. (cons_is y ys x).1 (both.0 e), λ c. both.1 ((cons_is y ys x).0 c))
 
 -- a variable of the resource is there
-Speaks : ResId → List Var → Type 0
+unfoldable pub Speaks : ResId → List Var → Type 0
 Speaks r xs = (i : ℕ) × Contains xs (Shared r i)
 
-speaks_is : (r : ResId) (xs : List Var) → Decides (speaks_of r xs) (Speaks r xs)
+pub speaks_is : (r : ResId) (xs : List Var) → Decides (speaks_of r xs) (Speaks r xs)
 unfolding Speaks
 speaks_is r [] = (λ e. absurd (cc), λ s. absurd (none_in (Shared r s.0) s.1))
 speaks_is r (Own n ∷ xs) = Decides-like (speaks_of r xs) to from (speaks_is r xs)

@@ -1,9 +1,10 @@
--- The sets are least: closed under their rules, and contained in every family that is. And what a type keeps truncated is had.
+-- The sets are least: closed under their rules, and contained in every family that is; and they are there. And what a type keeps truncated is had.
 -- What an inductive definition states, after Tarski, "A lattice-theoretical fixpoint theorem" (1955). Families are given by tests.
 use Rattle.std.specs.Prelude.{◌≡◌, Bool, IsTrue, Option, None}
 use Rattle.sf_base.specs.declared.ids.ProcId.{ProcId}
 use Rattle.sf_base.specs.declared.ids.ResId.{ResId}
 use Rattle.sf_base.specs.declared.ids.Var.{Var}
+use Rattle.sf_core.specs.Formed.{IsFormed}
 use Rattle.sf_core.specs.Syntax.{Program}
 use Rattle.sf_calls.specs.Conditions.{Calls, Enters, Mentions, Takes, Free, IsShared}
 use Rattle.sf_calls.specs.declared.breach.Breach.{Breach}
@@ -30,6 +31,10 @@ pub record TakesIsLeast : Type 0 where
 pub record FreeIsLeast : Type 0 where
   pub closed : (p : Program) → IsFreeClosed p (Free p)
   pub least : (p : Program) (T : ProcId → Var → Bool) → IsFreeClosed p (λ f x. IsTrue (T f x)) → (f : ProcId) (x : Var) → Free p f x → IsTrue (T f x)
+
+-- a program that is in order has its sets
+abbrev pub SetsAreThere : Type 0
+SetsAreThere = (p : Program) → IsFormed p → (sets : Sets) × AreSetsOf p sets
 
 -- a program has one first breach, or none
 abbrev pub FirstBreachIsDetermined : Type 0

@@ -1,8 +1,8 @@
-//! That the sets are the least ones, that what first breaks a condition is one, and that whoever
-//! holds no more than that such a fact is, has it. Each function does nothing; its contract is the
-//! law.
+//! That the sets are the least ones, that each program has them, that what first breaks a condition
+//! is one, and that whoever holds no more than that such a fact is, has it. Each function does
+//! nothing; its contract is the law.
 
-ghost use Rattle.sf_calls.specs.Laws.{ConditionsAreHad, FirstBreachIsDetermined, FreeIsLeast, SetsAreHad, TakesIsLeast};
+ghost use Rattle.sf_calls.specs.Laws.{ConditionsAreHad, FirstBreachIsDetermined, FreeIsLeast, SetsAreHad, SetsAreThere, TakesIsLeast};
 
 /// What procedures take is closed under its rules, and contained in whatever is.
 pub fn takes_is_least()
@@ -12,6 +12,11 @@ pub fn takes_is_least()
 /// What is free in procedures is closed under its rules, and contained in whatever is.
 pub fn free_is_least()
     ensures { FreeIsLeast }
+{}
+
+/// Each program that is in order has its sets.
+pub fn sets_are_there()
+    ensures { SetsAreThere }
 {}
 
 /// A program has one first breach of the conditions on variables, or none.

@@ -5,6 +5,7 @@ use Rattle.std.specs.Option.{option_or}
 use Rattle.std.proofs.lemmas.List.Elements.{Contains-append_cases, Contains-append_left, Contains-append_right, All-head, All-tail}
 use Rattle.sf_calls.specs.First.{nothing, where_, first, first_of}
 use Rattle.sf_calls.proofs.Decided.{none_in, single_is, is_single}
+use Rattle.sf_calls.proofs.InOrder.{Ordered}
 use Rattle.sf_vars.specs.Search.{found, search_in}
 
 -- it is what the relation finds, and W holds of it
@@ -59,25 +60,6 @@ same_first C D f to from [] o h = h
 same_first C D f to from (x ∷ xs) None h = (λ d. h.0 (from x d), same_first C D f to from xs None h.1)
 same_first C D f to from (x ∷ xs) (Some a) (inl h) = inl (to x h.0, h.1)
 same_first C D f to from (x ∷ xs) (Some a) (inr h) = inr ((λ d. h.0 (from x d)), same_first C D f to from xs (Some a) h.1)
-
--- each element comes before those that stand behind it
-abbrev pub Ordered : {X : Type 0} → (X → X → Type 0) → List X → Type 0
-Ordered B [] = Unit {0}
-Ordered {X} B (x ∷ xs) = ((y : X) → Contains xs y → B x y) × Ordered B xs
-
-pub ordered_append : {X : Type 0} (B : X → X → Type 0) (xs ys : List X) → Ordered B xs → Ordered B ys → ((x y : X) → Contains xs x → Contains ys y → B x y) → Ordered B (xs ++ ys)
-ordered_append B [] ys a b across = b
-ordered_append B (x ∷ xs) ys a b across = (
-  λ y c. elim (Contains-append_cases xs ys y c) [ inl k ↦ a.0 y k | inr k ↦ across x y (Contains-append_left (x ∷ []) xs x (is_single x x refl)) k ],
-  ordered_append B xs ys a.1 b (λ z y c k. across z y (Contains-append_right (x ∷ []) xs z c) k),
-)
-
-pub ordered_pairs : {X : Type 0} (B : X → X → Type 0) (xs : List X) → AllPairs B xs → Ordered B xs
-ordered_pairs B [] pairs = tt
-ordered_pairs {X} B (x ∷ xs) pairs = (head, ordered_pairs B xs (λ i j d less below. pairs (suc i) (suc j) d (omega (arith, less)) (omega (arith, below))))
-  where
-    head : (y : X) → Contains xs y → B x y
-    head y (k, below, e) = subst (B x) e (pairs 0 (suc k) y (omega arith) (omega (arith, below)))
 
 -- the first of those in order of which it holds, as b tells; or there is none
 abbrev pub IsLeast : {A X : Type 0} → (X → X → Type 0) → (X → Type 0) → (X → A) → List X → Option A → Type 0

@@ -12,7 +12,8 @@ use Rattle.sf_core.specs.HeldBy.{HeldBy}
 use Rattle.sf_core.specs.Syntax.{Call, Command, assign, look_up, mutate, new, dispose, if, while, call, fork, with, Block, done, then, Procedure, Program}
 use Rattle.sf_calls.specs.Conditions.{Takes, Free}
 use Rattle.sf_calls.specs.Sets.{Sets, AreSetsOf, IsResSet, IsVarSet}
-use Rattle.sf_calls.proofs.Least.{free_apart, holds_within}
+use Rattle.sf_calls.proofs.InFile.{free_within}
+use Rattle.sf_calls.proofs.Least.{holds_within}
 use Rattle.sf_calls.proofs.Within.{callees_of_within}
 use Rattle.sf_vars.specs.Search.{HasSets, BlockFits, CommandFits, free_of, takes_of, holds_of}
 use Rattle.sf_core.specs.Formed.{variable_count}
@@ -67,11 +68,7 @@ pub settable_in : (p : Program) (h : Procedure) (x : Var) → IsSettable p h x �
 settable_in p h (Own n) w = w.0
 settable_in p h (Shared r i) w = w
 
--- a variable that is free is one of its resource
-pub shared_there : (p : Program) (g : ProcId) (r : ResId) (i : _) → IsFormed p → Free p g (Shared r i) → i < variable_count (slice_get p.resources r.0)
-shared_there p g r i formed f = elim (free_apart p formed g (Shared r i) f).0 [ inl b ↦ b.1 | inr b ↦ absurd (let none : i < 0 = b.1 in omega arith) ]
-
 -- what is free anywhere may be named everywhere
 pub free_in_body : (p : Program) (h : Procedure) (g : ProcId) (x : Var) → IsFormed p → Free p g x → IsInBody p h x
 free_in_body p h g (Own n) formed f = absurd f.0
-free_in_body p h g (Shared r i) formed f = shared_there p g r i formed f
+free_in_body p h g (Shared r i) formed f = free_within p g r i formed f

@@ -1,6 +1,5 @@
 pub mod Firsts
-pub mod InFile
 pub mod Fits
 pub mod Meets
-mod Plain
+pub mod Answered
 mod Views

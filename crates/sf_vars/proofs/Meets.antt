@@ -34,11 +34,12 @@ use Rattle.sf_calls.specs.Sets.{Sets, AreSetsOf, IsResSet, IsEarlier, IsEarlierR
 use Rattle.sf_calls.specs.Tests.{same_var, in_references, in_values}
 use Rattle.sf_calls.proofs.Decided.{resource, var_is, none_in, single_is, is_single, in_references_is, in_values_is}
 use Rattle.sf_calls.proofs.Gathered.{earlier_trans, not_earlier}
+use Rattle.sf_calls.proofs.InFile.{resource_apart, resources_ordered, resources_there, variables_ordered, free_there}
+use Rattle.sf_calls.proofs.InOrder.{ordered_pairs}
 use Rattle.sf_calls.proofs.Least.{takes_within}
 use Rattle.sf_vars.specs.Search.{found, search_in, has, with_one, with_all, none_held, lacks, is_in, takes_of, holds_of, free_of, at_occurrence, in_expr, in_operand, in_test, in_level, in_conjuncts, in_conjunct, free_unheld, unheld_in_call, reenters_by_call, repeats, passes_free, may_change, uses, shares, shared_at, shared_by_value, shared_by_name, free_in_both, shares_in_fork, in_single, in_fork, in_block, in_command, in_procedure, in_procedures, IsBreachIn}
-use Rattle.sf_vars.proofs.Firsts.{Meets, meets_nothing, meets_both, meets_found, meets_list, meets_append, meets_set, or_assoc, none_of, same_first, ordered_pairs}
-use Rattle.sf_vars.proofs.Fits.{callee_there, free_set, takes_set, holds_set, held_fit, settable_in, shared_there, free_in_body}
-use Rattle.sf_vars.proofs.InFile.{resource_apart, resources_ordered, resources_there, variables_ordered, variables_there}
+use Rattle.sf_vars.proofs.Firsts.{Meets, meets_nothing, meets_both, meets_found, meets_list, meets_append, meets_set, or_assoc, none_of, same_first}
+use Rattle.sf_vars.proofs.Fits.{callee_there, free_set, takes_set, holds_set, held_fit, settable_in, free_in_body}
 
 -- where one stands in a program, and the marks tell what is held there
 record Stands (a : Around) (h : Procedure) (sets : Sets) (held : List Bool) : Type 0 where
@@ -118,13 +119,6 @@ mutual
 -- earlier variables are not later ones
 earlier_apart : (x y : Var) → IsEarlier x y → IsEarlier y x → ⊥
 earlier_apart x y h k = not_earlier x (earlier_trans x y x h k)
-
--- a variable that is free is there
-free_there : (p : Program) (g : ProcId) (x : Var) → IsFormed p → Free p g x → Contains (variables_from 0 p.resources) x
-free_there p g (Own n) formed f = absurd f.0
-free_there p g (Shared r i) formed f =
-    let same : r.0 ≡ r.0 - 0 = omega arith in
-    variables_there 0 p.resources r i (omega arith) (subst (λ (n : ℕ). i < variable_count (slice_get p.resources n)) same (shared_there p g r i formed f))
 
 meets_free : (a : Around) (h : Procedure) (sets : Sets) (held : List Bool) → Stands a h sets held → (c : Call) → CallWithin a.program h c
     → Meets (first_of (λ x. where_ (Free a.program c.callee x × IsUnheld a x) (NotHeld c.place x)) (variables_from 0 a.program.resources)) (In a) (free_unheld held c.place (free_of sets c.callee))

@@ -1,4 +1,5 @@
 -- Search: the first breach of the conditions on variables as a search that computes, over the sets of each procedure and a mark for each resource that is held.
+-- It stands between the code and FirstBreach, and needn't be believed: no public contract names it.
 -- Ordinary: each relation of FirstBreach has the search by the same cases. What is free in a procedure, or taken by it, is looked at as its set.
 use Rattle.std.specs.Prelude.{ℕ, suc, Bool, true, false, cond, not, ◌&&◌, ◌||◌, ◌<◌, List, [], ◌∷◌, ◌++◌, Option, Some, None, slice_index_or, slice_set, length, replicate, AllPairs, ◌≡◌, slice_get}
 use Rattle.std.specs.List.{list_any}

@@ -5,6 +5,7 @@
 mod at_calls;
 pub mod fault;
 mod held;
+pub mod laws;
 mod naming;
 mod parallel;
 mod unheld;

@@ -1,4 +1,5 @@
-//! Worked programs, built by hand: what they break is told as a refusal prints it.
+//! Two worked programs, built by hand: what they break is told as a refusal prints it. What else
+//! programs break is tested in sf_cli, where they are read from texts.
 
 ghost use Rattle.std.specs.Prelude.{◌≡◌, [], ◌∷◌, length, IfOk};
 ghost use Rattle.sf_core.specs.Formed.{AssertionWithin, IsFormed, IsOfResource, ProcedureWithin};
@@ -83,10 +84,9 @@ fn procedure(
     name: &str,
     names: Vec<Name>,
     references: u32,
-    pre: Assertion,
     body: Vec<Command>,
 ) -> Result<Proc, AllocError>
-    ensures { IfOk result (λ f. procedure_of f ≡ record { name = name.now; place = record { line = 1; column = 1 }; names = names.items; references = references; values = 0; locals = 0; pre = assertion_of pre; post = record { names = []; level = level (record { first = 0; count = 0 }) none }; body = block_of body.items; end = record { line = 9; column = 1 } }) }
+    ensures { IfOk result (λ f. procedure_of f ≡ record { name = name.now; place = record { line = 1; column = 1 }; names = names.items; references = references; values = 0; locals = 0; pre = record { names = []; level = level (record { first = 0; count = 0 }) none }; post = record { names = []; level = level (record { first = 0; count = 0 }) none }; body = block_of body.items; end = record { line = 9; column = 1 } }) }
 {
     Ok(Proc {
         name: Name::new(alloc, name)?,
@@ -95,7 +95,7 @@ fn procedure(
         references,
         values: 0,
         locals: 0,
-        pre,
+        pre: emp(alloc),
         post: emp(alloc),
         body,
         end: at(9, 1),
@@ -113,75 +113,11 @@ fn file(alloc: Global, resources: Vec<Resource>, procedures: Vec<Proc>) -> Progr
     }
 }
 
-/// A file with one resource and four procedures.
-fn file_of_four(
-    alloc: Global,
-    r: Resource,
-    a: Proc,
-    b: Proc,
-    c: Proc,
-    d: Proc,
-) -> Result<Program, AllocError>
-    requires resource { AssertionWithin [] (IsOfResource 0 1) (resource_of r).invariant }
-    requires variable { length r.variables.items ≡ 1 }
-    requires a { ProcedureWithin (program_with [] (r ∷ []) (a ∷ b ∷ c ∷ d ∷ [])) (procedure_of a) }
-    requires b { ProcedureWithin (program_with [] (r ∷ []) (a ∷ b ∷ c ∷ d ∷ [])) (procedure_of b) }
-    requires c { ProcedureWithin (program_with [] (r ∷ []) (a ∷ b ∷ c ∷ d ∷ [])) (procedure_of c) }
-    requires d { ProcedureWithin (program_with [] (r ∷ []) (a ∷ b ∷ c ∷ d ∷ [])) (procedure_of d) }
-{
-    let resources = vec![in alloc; r]?;
-    let procedures = vec![in alloc; a, b, c, d]?;
-    Ok(file(alloc, resources, procedures))
-}
-
 /// `x = y;`
 fn set(x: Occurrence, y: Occurrence) -> Command
     ensures { command_of result ≡ assign x.place x (Variable y) }
 {
     Command::Assign(x.place, x, Expr::Var(y))
-}
-
-/// `[x == nil]`
-fn is_nil(alloc: Global, x: Var) -> Result<Assertion, AllocError>
-    ensures { IfOk result (λ a. assertion_of a ≡ record { names = []; level = level (record { first = 0; count = 0 }) (also (holds (record { line = 1; column = 1 }) (Equal (Known (Variable (record { var = x; place = record { line = 1; column = 1 } }))) (Known Nil))) none) }) }
-{
-    let test = Test::Equal(
-        Operand::Known(Expr::Var(seen(x, 1, 1))),
-        Operand::Known(Expr::Nil),
-    );
-    Ok(Assertion {
-        names: Vec::new(alloc),
-        level: Level {
-            made: Scope { first: 0, count: 0 },
-            conjuncts: vec![in alloc; Conjunct::Holds(at(1, 1), test)]?,
-        },
-    })
-}
-
-/// A call without values.
-fn to(alloc: Global, callee: u32, place: Place, references: Vec<Occurrence>) -> Call
-    ensures { call_of result ≡ record { callee = record { 0 = callee }; place = place; references = references.items; values = [] } }
-{
-    Call {
-        callee: ProcId(callee),
-        place,
-        references,
-        values: Vec::new(alloc),
-    }
-}
-
-/// A command that is a call.
-fn calling(c: Call) -> Command
-    ensures { command_of result ≡ call c.place (call_of c) }
-{
-    Command::Call(c.place, c)
-}
-
-/// Two parallel calls.
-fn beside(left: Call, right: Call) -> Command
-    ensures { command_of result ≡ fork left.place (call_of left) (call_of right) }
-{
-    Command::Fork(left.place, left, right)
 }
 
 /// A region of the first resource.
@@ -199,7 +135,7 @@ fn variable_outside_its_region(rt: HostRuntime) -> Result<(), Fail> {
     let alloc = rt.alloc();
     let body = vec![in alloc; set(seen(Var::Own(0), 3, 3), seen(V, 3, 7))]?;
     let x = vec![in alloc; Name::new(alloc, "x")?]?;
-    let peek = procedure(alloc, "peek", x, 1, emp(alloc), body)?;
+    let peek = procedure(alloc, "peek", x, 1, body)?;
     let mm = resource(alloc, "mm", "f")?;
     let p = file(alloc, vec![in alloc; mm]?, vec![in alloc; peek]?);
     assert_eq!(rt; told(alloc, &p)?.as_str(), "30 NotHeld at 3:7 f");
@@ -212,130 +148,9 @@ fn variable_in_its_region(rt: HostRuntime) -> Result<(), Fail> {
     let test = Test::Equal(Expr::Var(seen(V, 2, 19)), Expr::Nil);
     let inside = vec![in alloc; set(seen(V, 2, 31), seen(V, 2, 35))]?;
     let body = vec![in alloc; region(at(2, 7), test, inside)]?;
-    let a = procedure(alloc, "a", Vec::new(alloc), 0, emp(alloc), body)?;
+    let a = procedure(alloc, "a", Vec::new(alloc), 0, body)?;
     let r = resource(alloc, "r", "v")?;
     let p = file(alloc, vec![in alloc; r]?, vec![in alloc; a]?);
     assert_eq!(rt; told(alloc, &p)?.as_str(), "nothing");
-    Ok(())
-}
-
-#[test]
-fn resource_entered_again_through_calls(rt: HostRuntime) -> Result<(), Fail> {
-    let alloc = rt.alloc();
-    let enter = vec![in alloc; region(at(2, 7), Test::True, Vec::new(alloc))]?;
-    let a = procedure(alloc, "a", Vec::new(alloc), 0, emp(alloc), enter)?;
-    let call_a = vec![in alloc; calling(to(alloc, 0, at(3, 7), Vec::new(alloc)))]?;
-    let b = procedure(alloc, "b", Vec::new(alloc), 0, emp(alloc), call_a)?;
-    let call_b = vec![in alloc; calling(to(alloc, 1, at(4, 7), Vec::new(alloc)))]?;
-    let c = procedure(alloc, "c", Vec::new(alloc), 0, emp(alloc), call_b)?;
-    let call_c = vec![in alloc; calling(to(alloc, 2, at(5, 28), Vec::new(alloc)))]?;
-    let again = vec![in alloc; region(at(5, 7), Test::True, call_c)]?;
-    let d = procedure(alloc, "d", Vec::new(alloc), 0, emp(alloc), again)?;
-    let r = resource(alloc, "r", "v")?;
-    let p = file_of_four(alloc, r, a, b, c, d)?;
-    assert_eq!(rt; told(alloc, &p)?.as_str(), "31 Reentered at 5:28 r");
-    Ok(())
-}
-
-#[test]
-fn held_resource_entered(rt: HostRuntime) -> Result<(), Fail> {
-    let alloc = rt.alloc();
-    let enter = vec![in alloc; region(at(2, 18), Test::True, Vec::new(alloc))]?;
-    let a = procedure(alloc, "a", Vec::new(alloc), 0, is_nil(alloc, V)?, enter)?;
-    let r = resource(alloc, "r", "v")?;
-    let p = file(alloc, vec![in alloc; r]?, vec![in alloc; a]?);
-    assert_eq!(rt; told(alloc, &p)?.as_str(), "31 Reentered at 2:18 r");
-    Ok(())
-}
-
-#[test]
-fn variable_passed_twice(rt: HostRuntime) -> Result<(), Fail> {
-    let alloc = rt.alloc();
-    let xy = vec![in alloc; Name::new(alloc, "x")?, Name::new(alloc, "y")?]?;
-    let h = procedure(alloc, "h", xy, 2, emp(alloc), Vec::new(alloc))?;
-    let twice = vec![in alloc; seen(Var::Own(0), 2, 11), seen(Var::Own(0), 2, 13)]?;
-    let body = vec![in alloc; calling(to(alloc, 0, at(2, 9), twice))]?;
-    let x = vec![in alloc; Name::new(alloc, "x")?]?;
-    let q = procedure(alloc, "q", x, 1, emp(alloc), body)?;
-    let p = file(alloc, Vec::new(alloc), vec![in alloc; h, q]?);
-    assert_eq!(rt; told(alloc, &p)?.as_str(), "32 SameReference at 2:13 x");
-    Ok(())
-}
-
-#[test]
-fn free_variable_passed(rt: HostRuntime) -> Result<(), Fail> {
-    let alloc = rt.alloc();
-    let x = vec![in alloc; Name::new(alloc, "x")?]?;
-    let f = procedure(alloc, "f", x, 1, is_nil(alloc, V)?, Vec::new(alloc))?;
-    let call_f = vec![in alloc; calling(to(alloc, 0, at(2, 28), vec![in alloc; seen(V, 2, 30)]?))]?;
-    let body = vec![in alloc; region(at(2, 7), Test::True, call_f)]?;
-    let p = procedure(alloc, "p", Vec::new(alloc), 0, emp(alloc), body)?;
-    let a = resource(alloc, "a", "v")?;
-    let program = file(alloc, vec![in alloc; a]?, vec![in alloc; f, p]?);
-    assert_eq!(rt;
-        told(alloc, &program)?.as_str(),
-        "33 ReferenceIsFree at 2:30 v"
-    );
-    Ok(())
-}
-
-#[test]
-fn parallel_calls_write_one_variable(rt: HostRuntime) -> Result<(), Fail> {
-    let alloc = rt.alloc();
-    let x = vec![in alloc; Name::new(alloc, "x")?]?;
-    let f = procedure(alloc, "f", x, 1, emp(alloc), Vec::new(alloc))?;
-    let x = vec![in alloc; Name::new(alloc, "x")?]?;
-    let g = procedure(alloc, "g", x, 1, emp(alloc), Vec::new(alloc))?;
-    let left = to(
-        alloc,
-        0,
-        at(3, 9),
-        vec![in alloc; seen(Var::Own(0), 3, 11)]?,
-    );
-    let right = to(
-        alloc,
-        1,
-        at(3, 18),
-        vec![in alloc; seen(Var::Own(0), 3, 20)]?,
-    );
-    let x = vec![in alloc; Name::new(alloc, "x")?]?;
-    let p = procedure(
-        alloc,
-        "p",
-        x,
-        1,
-        emp(alloc),
-        vec![in alloc; beside(left, right)]?,
-    )?;
-    let q = procedure(alloc, "q", Vec::new(alloc), 0, emp(alloc), Vec::new(alloc))?;
-    let program = file_of_four(alloc, resource(alloc, "a", "v")?, f, g, p, q)?;
-    assert_eq!(rt;
-        told(alloc, &program)?.as_str(),
-        "34 ParallelShares at 3:9 x"
-    );
-    Ok(())
-}
-
-#[test]
-fn parallel_calls_have_one_variable_free(rt: HostRuntime) -> Result<(), Fail> {
-    let alloc = rt.alloc();
-    let f = procedure(
-        alloc,
-        "f",
-        Vec::new(alloc),
-        0,
-        is_nil(alloc, V)?,
-        Vec::new(alloc),
-    )?;
-    let left = to(alloc, 0, at(3, 18), Vec::new(alloc));
-    let right = to(alloc, 0, at(3, 25), Vec::new(alloc));
-    let both = vec![in alloc; beside(left, right)]?;
-    let p = procedure(alloc, "p", Vec::new(alloc), 0, is_nil(alloc, V)?, both)?;
-    let a = resource(alloc, "a", "v")?;
-    let program = file(alloc, vec![in alloc; a]?, vec![in alloc; f, p]?);
-    assert_eq!(rt;
-        told(alloc, &program)?.as_str(),
-        "34 ParallelShares at 3:18 v"
-    );
     Ok(())
 }

@@ -32,10 +32,10 @@ pub fn expr(held: &Held, e: &Expr) -> Result<(), Breach>
 }
 
 /// Looks at a test of commands.
-pub fn test(held: &Held, test: &Test<Expr>) -> Result<(), Breach>
-    ensures { result_err result ≡ in_test (in_expr held.now) test.now }
+pub fn test(held: &Held, t: &Test<Expr>) -> Result<(), Breach>
+    ensures { result_err result ≡ in_test (in_expr held.now) t.now }
 {
-    match test {
+    match t {
         Test::True => Ok(()),
         Test::Equal(a, b) => {
             expr(held, a)?;
@@ -49,40 +49,40 @@ pub fn test(held: &Held, test: &Test<Expr>) -> Result<(), Breach>
 }
 
 /// Looks at references, in order.
-pub fn references(held: &Held, references: &[Occurrence]) -> Result<(), Breach>
-    ensures { result_err result ≡ search_in (at_occurrence held.now) references.now }
+pub fn references(held: &Held, xs: &[Occurrence]) -> Result<(), Breach>
+    ensures { result_err result ≡ search_in (at_occurrence held.now) xs.now }
 {
-    for x in references {
+    for x in xs {
         occurrence(held, x)?;
     }
     Ok(())
 }
 
 /// Looks at values, in order.
-pub fn values(held: &Held, values: &[Expr]) -> Result<(), Breach>
-    ensures { result_err result ≡ search_in (in_expr held.now) values.now }
+pub fn values(held: &Held, es: &[Expr]) -> Result<(), Breach>
+    ensures { result_err result ≡ search_in (in_expr held.now) es.now }
 {
-    for e in values {
+    for e in es {
         expr(held, e)?;
     }
     Ok(())
 }
 
 /// Looks at an operand.
-fn operand(held: &Held, operand: &Operand<Expr>) -> Result<(), Breach>
-    ensures { result_err result ≡ in_operand held.now operand.now }
+fn operand(held: &Held, o: &Operand<Expr>) -> Result<(), Breach>
+    ensures { result_err result ≡ in_operand held.now o.now }
 {
-    match operand {
+    match o {
         Operand::Known(e) => expr(held, e),
         Operand::Exists(_) => Ok(()),
     }
 }
 
 /// Looks at a test of assertions.
-fn condition(held: &Held, test: &Test<Operand<Expr>>) -> Result<(), Breach>
-    ensures { result_err result ≡ in_test (in_operand held.now) test.now }
+fn condition(held: &Held, t: &Test<Operand<Expr>>) -> Result<(), Breach>
+    ensures { result_err result ≡ in_test (in_operand held.now) t.now }
 {
-    match test {
+    match t {
         Test::True => Ok(()),
         Test::Equal(a, b) => {
             operand(held, a)?;
@@ -96,10 +96,10 @@ fn condition(held: &Held, test: &Test<Operand<Expr>>) -> Result<(), Breach>
 }
 
 /// Looks at the operands of fields, in order.
-fn fields(held: &Held, fields: &[(FieldId, Operand<Expr>)]) -> Result<(), Breach>
-    ensures { result_err result ≡ search_in (λ f. in_operand held.now f.1) fields.now }
+fn fields(held: &Held, fs: &[(FieldId, Operand<Expr>)]) -> Result<(), Breach>
+    ensures { result_err result ≡ search_in (λ f. in_operand held.now f.1) fs.now }
 {
-    for f in fields {
+    for f in fs {
         operand(held, &f.1)?;
     }
     Ok(())
@@ -107,10 +107,10 @@ fn fields(held: &Held, fields: &[(FieldId, Operand<Expr>)]) -> Result<(), Breach
 
 /// Looks at a level.
 #[cycle(levels)]
-pub fn level(held: &Held, level: &Level<Expr>) -> Result<(), Breach>
-    ensures { result_err result ≡ in_level held.now (level_of level.now) }
+pub fn level(held: &Held, a: &Level<Expr>) -> Result<(), Breach>
+    ensures { result_err result ≡ in_level held.now (level_of a.now) }
 {
-    conjuncts(held, &level.conjuncts)
+    conjuncts(held, &a.conjuncts)
 }
 
 /// Looks at conjuncts, in order.
@@ -130,18 +130,18 @@ fn conjunct(held: &Held, c: &Conjunct<Expr>) -> Result<(), Breach>
     ensures { result_err result ≡ in_conjunct held.now (conjunct_of c.now) }
 {
     match c {
-        Conjunct::Holds(_, test) => condition(held, test),
-        Conjunct::Points(_, root, of_fields) => {
+        Conjunct::Holds(_, t) => condition(held, t),
+        Conjunct::Points(_, root, fs) => {
             operand(held, root)?;
-            fields(held, of_fields)
+            fields(held, fs)
         }
         Conjunct::Segment(_, _, from, to) => {
             operand(held, from)?;
             operand(held, to)
         }
         Conjunct::Tree(_, _, _, root) => operand(held, root),
-        Conjunct::If(_, test, this, that) => {
-            condition(held, test)?;
+        Conjunct::If(_, t, this, that) => {
+            condition(held, t)?;
             level(held, this)?;
             level(held, that)
         }

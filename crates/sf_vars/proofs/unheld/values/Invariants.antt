@@ -4,4 +4,4 @@ use Rattle.sf_vars.proofs.unheld.values.Given as goal
 
 -- what was passed breaks nothing
 abbrev pub invariant-loop-e : goal.invariant-loop-e
-invariant-loop-e l = search_in (in_expr l.held) l.values ≡ search_in (in_expr l.held) (drop l.e-index l.values)
+invariant-loop-e l = search_in (in_expr l.held) l.es ≡ search_in (in_expr l.held) (drop l.e-index l.es)

@@ -2,15 +2,18 @@
 use Rattle.std.proofs.Common.{◌≡◌, ◌≢◌, ◌<◌, ◌≤◌, ◌+◌, ◌-◌, ℕ, suc, List, [], ◌∷◌, length, slice_get, Contains, refl, sym, ap, inl, inr, subst, arith}
 use Rattle.std.proofs.lemmas.Bool.Decides.{eqb_tells}
 use Rattle.std.proofs.lemmas.List.Elements.{Contains-append_cases, Contains-append_left, Contains-append_right}
+use Rattle.sf_base.specs.declared.ids.ProcId.{ProcId}
 use Rattle.sf_base.specs.declared.ids.ResId.{ResId}
 use Rattle.sf_base.specs.declared.ids.Var.{Var}
 use Rattle.sf_base.specs.declared.ids.Var.TheVariants.{Own, Shared}
-use Rattle.sf_core.specs.Formed.{variable_count}
-use Rattle.sf_core.specs.Syntax.{Resource}
+use Rattle.sf_core.specs.Formed.{variable_count, IsFormed}
+use Rattle.sf_core.specs.Syntax.{Program, Resource}
+use Rattle.sf_calls.specs.Conditions.{Free}
 use Rattle.sf_calls.specs.FirstBreach.{resources_from, shared_from, variables_from}
 use Rattle.sf_calls.specs.Sets.{IsEarlier, IsEarlierResource}
 use Rattle.sf_calls.proofs.Decided.{resource, none_in, single_is, is_single}
-use Rattle.sf_vars.proofs.Firsts.{Ordered, ordered_append}
+use Rattle.sf_calls.proofs.InOrder.{Ordered, ordered_append}
+use Rattle.sf_calls.proofs.Least.{free_apart}
 
 pub resource_apart : (r q : ResId) → IsEarlierResource r q → IsEarlierResource q r → ⊥
 resource_apart r q h k = absurd (omega (arith, h, k))
@@ -113,3 +116,14 @@ variables_there k (r ∷ rs) q j from below = elim (eqb_tells k q.0) [
         let zero : q.0 - k ≡ 0 = omega (arith, e) in
         let less : j < length r.variables = subst (λ (n : ℕ). j < variable_count (slice_get (r ∷ rs) n)) zero below in
         subst (λ (t : ResId). Contains (shared_from (resource k) 0 r.variables) (Shared t j)) (ap resource e) (shared_there (resource k) 0 r.variables j (omega arith) (omega (arith, less)))
+
+-- a variable that is free is one of its resource
+pub free_within : (p : Program) (g : ProcId) (r : ResId) (i : _) → IsFormed p → Free p g (Shared r i) → i < variable_count (slice_get p.resources r.0)
+free_within p g r i formed f = elim (free_apart p formed g (Shared r i) f).0 [ inl b ↦ b.1 | inr b ↦ absurd (let none : i < 0 = b.1 in omega arith) ]
+
+-- a variable that is free is there
+pub free_there : (p : Program) (g : ProcId) (x : Var) → IsFormed p → Free p g x → Contains (variables_from 0 p.resources) x
+free_there p g (Own n) formed f = absurd f.0
+free_there p g (Shared r i) formed f =
+    let same : r.0 ≡ r.0 - 0 = omega arith in
+    variables_there 0 p.resources r i (omega arith) (subst (λ (n : ℕ). i < variable_count (slice_get p.resources n)) same (free_within p g r i formed f))
