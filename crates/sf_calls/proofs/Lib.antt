@@ -10,6 +10,7 @@ pub mod Least
 pub mod InFile
 pub mod Gathered
 pub mod OneBreach
+pub mod Broken
 pub mod Decidable
 pub mod Paths
 pub mod Had

@@ -1,6 +1,6 @@
 -- The sets are least: closed under their rules, and contained in every family that is; and they are there. And what a type keeps truncated is had.
 -- What an inductive definition states, after Tarski, "A lattice-theoretical fixpoint theorem" (1955). Families are given by tests.
-use Rattle.std.specs.Prelude.{◌≡◌, Bool, IsTrue, Option, None}
+use Rattle.std.specs.Prelude.{◌≡◌, Bool, IsTrue, Option, Some, None}
 use Rattle.sf_base.specs.declared.ids.ProcId.{ProcId}
 use Rattle.sf_base.specs.declared.ids.ResId.{ResId}
 use Rattle.sf_base.specs.declared.ids.Var.{Var}
@@ -8,6 +8,7 @@ use Rattle.sf_core.specs.Formed.{IsFormed}
 use Rattle.sf_core.specs.Syntax.{Program}
 use Rattle.sf_calls.specs.Conditions.{Calls, Enters, Mentions, Takes, Free, IsShared}
 use Rattle.sf_calls.specs.declared.breach.Breach.{Breach}
+use Rattle.sf_calls.specs.Breaks.{Breaks}
 use Rattle.sf_calls.specs.FirstBreach.{FirstBreach, Conditions}
 use Rattle.sf_calls.specs.Outside.{owner}
 use Rattle.sf_calls.specs.Sets.{Sets, AreSetsOf}
@@ -39,6 +40,15 @@ SetsAreThere = (p : Program) → IsFormed p → (sets : Sets) × AreSetsOf p set
 -- a program has one first breach, or none
 abbrev pub FirstBreachIsDetermined : Type 0
 FirstBreachIsDetermined = (p : Program) (r q : Option (ProcId × Breach)) → FirstBreach p r → FirstBreach p q → r ≡ q
+
+-- of a program that is in order: what comes first is broken, and no condition is broken exactly where none comes first
+pub record BreachesAreFound (p : Program) : Type 0 where
+  pub found : (f : ProcId) (b : Breach) → FirstBreach p (Some (f, b)) → Breaks p f b
+  pub kept : Conditions p → (f : ProcId) (b : Breach) → Breaks p f b → ⊥
+  pub unbroken : ((f : ProcId) (b : Breach) → Breaks p f b → ⊥) → Conditions p
+
+abbrev pub FirstBreachIsBroken : Type 0
+FirstBreachIsBroken = (p : Program) → IsFormed p → BreachesAreFound p
 
 -- whoever holds that the sets are the program's, and not how that was found, has that they are
 abbrev pub SetsAreHad : Type 0

@@ -5,6 +5,7 @@ pub mod Sets
 pub mod Assigned
 pub mod First
 pub mod FirstBreach
+pub mod Breaks
 pub mod Tests
 pub mod Listed
 pub mod Laws

@@ -2,7 +2,7 @@
 //! is one, and that whoever holds no more than that such a fact is, has it. Each function does
 //! nothing; its contract is the law.
 
-ghost use Rattle.sf_calls.specs.Laws.{ConditionsAreHad, FirstBreachIsDetermined, FreeIsLeast, SetsAreHad, SetsAreThere, TakesIsLeast};
+ghost use Rattle.sf_calls.specs.Laws.{ConditionsAreHad, FirstBreachIsBroken, FirstBreachIsDetermined, FreeIsLeast, SetsAreHad, SetsAreThere, TakesIsLeast};
 
 /// What procedures take is closed under its rules, and contained in whatever is.
 pub fn takes_is_least()
@@ -22,6 +22,12 @@ pub fn sets_are_there()
 /// A program has one first breach of the conditions on variables, or none.
 pub fn first_breach_is_determined()
     ensures { FirstBreachIsDetermined }
+{}
+
+/// The first breach of the conditions on variables is one, and there is none exactly where nothing
+/// in the program breaks them.
+pub fn first_breach_is_broken()
+    ensures { FirstBreachIsBroken }
 {}
 
 /// Whoever holds that sets are the program's, and not how that was found, has that they are.
