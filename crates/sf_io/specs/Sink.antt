@@ -10,3 +10,7 @@ with_bytes (Some before) bytes = Some (before ++ bytes)
 -- some of the text's first bytes were written, and nothing else
 abbrev pub WrotePart : Option (List ℕ) → Option (List ℕ) → List ℕ → Type 0
 WrotePart before after text = (n : ℕ) × (n ≤ length text) × (after ≡ with_bytes before (take n text))
+
+-- what a sink has that doesn't tell what is written
+abbrev pub untold : Option (List ℕ)
+untold = None

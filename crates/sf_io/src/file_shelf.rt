@@ -1,5 +1,6 @@
-ghost use Rattle.std.specs.Prelude.{◌≡◌, [], ◌++◌, take, IfSome, OnOk, OnErr};
-ghost use Rattle.sf_io.specs.Shelf.{GrewAtMost};
+ghost use Rattle.std.specs.Prelude.{◌≡◌, ◌≢◌, ◌≤◌, ◌⊎◌, ℕ, List, [], ◌∷◌, ◌++◌, take, IsOk, IsErrOf, IfSome, IsSomeAnd, OnOk, OnErr};
+ghost use Rattle.sf_io.specs.Rose.{Rose};
+ghost use Rattle.sf_io.specs.Shelf.{GrewAtMost, failures_of, untold};
 
 use crate::failures::{failed_at, room_for};
 use crate::shelf::{FetchFault, Shelf};
@@ -44,14 +45,29 @@ impl<'a, R: Files> FileShelf<'a, R> {
 }
 
 impl<'a, R: Files> Shelf for FileShelf<'a, R> {
-    ghost use Rattle.std.specs.Prelude.{None};
-    ghost use Rattle.sf_io.specs.Shelf.{failures_of};
+    ghost use Rattle.sf_io.specs.Shelf.{failures_of, untold};
 
-    ghost files = { λ _. None };
+    ghost files = { λ _. untold };
 
     ghost faults = { failures_of };
 
-    fn fetch(&mut self, name: &str, most: usize, out: &mut Vec<u8>) -> Result<(), FetchFault> {
+    /// Reads the file. The name is one more that failed exactly at `Failed`.
+    fn fetch(&mut self, name: &str, most: usize, out: &mut Vec<u8>) -> Result<(), FetchFault>
+        ensures told { OnOk result (IfSome untold (λ all. IsSomeAnd (all name.now)
+            (λ bytes. out.new.items ≡ out.old.items ++ take most bytes))) }
+        ensures appended { OnOk result (GrewAtMost most out.old.items out.new.items) }
+        ensures refused { OnErr result (out.new.items ≡ out.old.items) }
+        ensures failed { IsErrOf result FetchFault.Failed
+            → Rose (failures_of self.old name.now) (failures_of self.new name.now) }
+        ensures fault { IsErrOf result FetchFault.Failed → self.new ≡ self.old ++ name.now ∷ [] }
+        ensures no_fault { IsOk result ⊎ IsErrOf result FetchFault.OutOfMemory → self.new ≡ self.old }
+        ensures others { (other : List ℕ) → other ≢ name.now
+            → failures_of self.new other ≡ failures_of self.old other }
+        ensures counts { (any : List ℕ) → failures_of self.old any ≤ failures_of self.new any }
+        ensures ok { OnOk result ((any : List ℕ) → failures_of self.new any ≡ failures_of self.old any) }
+        ensures out_of_memory { IsErrOf result FetchFault.OutOfMemory
+            → ((any : List ℕ) → failures_of self.new any ≡ failures_of self.old any) }
+    {
         let copy = room_for(self.alloc, &mut self.failed, name)?;
         match read_file(self.rt, name, most, out) {
             Ok(()) => Ok(()),

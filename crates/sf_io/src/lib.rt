@@ -3,13 +3,13 @@
 
 mod calls;
 mod failures;
-pub mod file_shelf;
-pub mod gate;
-pub mod mem_shelf;
-pub mod mem_sink;
-pub mod shelf;
-pub mod sink;
-pub mod std_sink;
+mod file_shelf;
+mod gate;
+mod mem_shelf;
+mod mem_sink;
+mod shelf;
+mod sink;
+mod std_sink;
 #[cfg(test)]
 mod tests;
 

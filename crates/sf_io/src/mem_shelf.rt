@@ -101,7 +101,8 @@ impl Shelf for MemShelf {
     ghost faults = { λ shelf. failures_of (failed_of shelf) };
 
     /// Hands out what stands under the name. `Failed` comes where the call is to fail or nothing stands
-    /// there, and then the name is one more that failed. Each call counts but one that wants memory.
+    /// there, and exactly then the name is one more that failed. Each call counts, but one that wants memory
+    /// may not count.
     fn fetch(&mut self, name: &str, most: usize, out: &mut Vec<u8>) -> Result<(), FetchFault>
         ensures files_stay { files_of self.new ≡ files_of self.old }
         ensures told { OnOk result (IsSomeAnd (files_of self.old name.now)
@@ -110,6 +111,10 @@ impl Shelf for MemShelf {
         ensures refused { OnErr result (out.new.items ≡ out.old.items) }
         ensures failed { IsErrOf result FetchFault.Failed
             → Rose (failures_of (failed_of self.old) name.now) (failures_of (failed_of self.new) name.now) }
+        ensures fault { IsErrOf result FetchFault.Failed
+            → failed_of self.new ≡ failed_of self.old ++ name.now ∷ [] }
+        ensures no_fault { IsOk result ⊎ IsErrOf result FetchFault.OutOfMemory
+            → failed_of self.new ≡ failed_of self.old }
         ensures others { (other : List ℕ) → other ≢ name.now
             → failures_of (failed_of self.new) other ≡ failures_of (failed_of self.old) other }
         ensures counts { (any : List ℕ)

@@ -92,7 +92,8 @@ impl Sink for MemSink {
     ghost faults = { λ sink. sink.faults };
 
     /// Takes as much of the piece as one call takes. Of a piece that isn't empty `Failed` comes exactly
-    /// where the call is to fail or nothing is taken at all, and each such call counts.
+    /// where the call is to fail or nothing is taken at all, and each such call counts. The count of faults
+    /// goes up by one exactly there, or stands at its end.
     fn put(&mut self, piece: &[u8]) -> Result<usize, SinkFault>
         ensures bound { IfOk result (λ n. n ≤ length piece.now) }
         ensures progress { IfOk result (λ n. 0 < length piece.now → 0 < n) }
@@ -101,6 +102,8 @@ impl Sink for MemSink {
         ensures nothing { piece.now ≡ [] → self.new ≡ self.old }
         ensures refused { OnErr result (self.new.bytes ≡ self.old.bytes) }
         ensures failed { IsErrOf result SinkFault.Failed → Rose self.old.faults self.new.faults }
+        ensures fault { IsErrOf result SinkFault.Failed → self.new.faults ≡ one_more self.old.faults }
+        ensures no_fault { IsOk result → self.new.faults ≡ self.old.faults }
         ensures out_of_memory { IsErrOf result SinkFault.OutOfMemory
             → self.new.faults ≡ self.old.faults }
         ensures counts { self.old.faults ≤ self.new.faults }

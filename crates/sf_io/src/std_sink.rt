@@ -1,4 +1,7 @@
-ghost use Rattle.std.specs.Prelude.{◌≡◌, ◌≤◌, ◌<◌, length};
+ghost use Rattle.std.specs.Prelude.{◌≡◌, ◌≤◌, ◌<◌, [], take, length, Ok, IfOk, OnErr, IsErrOf};
+ghost use Rattle.sf_io.specs.Calls.{one_more};
+ghost use Rattle.sf_io.specs.Rose.{Rose};
+ghost use Rattle.sf_io.specs.Sink.{untold, with_bytes};
 
 use crate::sink::{Sink, SinkFault};
 use std::marker::Model;
@@ -28,15 +31,29 @@ impl<'a, R: Print> StdSink<'a, R> {
 }
 
 impl<'a, R: Print> Sink for StdSink<'a, R> {
-    ghost use Rattle.std.specs.Prelude.{None};
+    ghost use Rattle.sf_io.specs.Sink.{untold};
 
-    ghost written = { λ _. None };
+    ghost written = { λ _. untold };
 
     ghost faults = { λ count. count };
 
-    // Writes until all is taken, a write fails, or one takes nothing. What a piece's first writes
-    // took before a fault is answered; a fault that lasts is met again by the next call.
-    fn put(&mut self, piece: &[u8]) -> Result<usize, SinkFault> {
+    /// Writes until all is taken, a write fails, or one takes nothing. What a piece's first writes
+    /// took before a fault is answered; a fault that lasts is met again by the next call. The count goes
+    /// up by one, or stands at its end, exactly where the piece isn't taken whole.
+    fn put(&mut self, piece: &[u8]) -> Result<usize, SinkFault>
+        ensures bound { IfOk result (λ n. n ≤ length piece.now) }
+        ensures progress { IfOk result (λ n. 0 < length piece.now → 0 < n) }
+        ensures appended { IfOk result (λ n. untold ≡ with_bytes untold (take n piece.now)) }
+        ensures empty { piece.now ≡ [] → result ≡ Ok 0 }
+        ensures nothing { piece.now ≡ [] → self.new ≡ self.old }
+        ensures refused { OnErr result (untold ≡ untold) }
+        ensures failed { IsErrOf result SinkFault.Failed → Rose self.old self.new }
+        ensures fault { IsErrOf result SinkFault.Failed → self.new ≡ one_more self.old }
+        ensures short { IfOk result (λ n. n < length piece.now → self.new ≡ one_more self.old) }
+        ensures whole { IfOk result (λ n. n ≡ length piece.now → self.new ≡ self.old) }
+        ensures out_of_memory { IsErrOf result SinkFault.OutOfMemory → self.new ≡ self.old }
+        ensures counts { self.old ≤ self.new }
+    {
         let mut taken = 0;
         while taken < piece.len() {
             match self.rt.write_some(&piece[taken..]) {
