@@ -4,6 +4,7 @@
 pub mod ids;
 pub mod limits;
 pub mod name;
+pub mod numbered;
 pub mod path;
 pub mod place;
 pub mod sequence;
@@ -11,6 +12,7 @@ pub mod value;
 
 pub use ids::{FieldId, ProcId, ResId, Slot, Thing, Var};
 pub use name::Name;
+pub use numbered::Numbered;
 pub use path::{TaskPath, Turn};
 pub use place::Place;
 pub use sequence::Sequence;

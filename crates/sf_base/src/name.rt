@@ -6,34 +6,36 @@ use std::alloc::{AllocError, Global};
 use std::marker::Model;
 
 /// The name of something in a file. Contracts see its bytes.
+///
+/// It holds bytes and no text: a file is read as bytes, and its names are ASCII words of it, so that
+/// none is tested again for being text.
 #[derive(Debug, Drop)]
 pub struct Name {
-    text: String,
+    bytes: Vec<u8>,
 }
 
 impl Model for Name {
     ghost use Rattle.std.specs.Prelude.{List, ℕ};
-    ghost use Rattle.std.specs.String.{string_bytes};
 
     ghost Value = { List ℕ };
 
-    ghost view = { λ n. string_bytes n.text };
+    ghost view = { λ n. n.bytes.items };
 }
 
 impl Name {
-    /// A copy of that text.
-    pub fn new(alloc: Global, text: &str) -> Result<Name, AllocError>
-        ensures { IfOk result (λ name. name ≡ text.now) }
+    /// A copy of those bytes.
+    pub fn new(alloc: Global, bytes: &[u8]) -> Result<Name, AllocError>
+        ensures { IfOk result (λ name. name ≡ bytes.now) }
     {
         Ok(Name {
-            text: String::from_str(alloc, text)?,
+            bytes: Vec::from_slice(alloc, bytes)?,
         })
     }
 
-    /// The text.
-    pub fn as_str(&self) -> &str
+    /// The bytes.
+    pub fn as_bytes(&self) -> &[u8]
         ensures { result.now ≡ self.now }
     {
-        self.text.as_str()
+        self.bytes.as_slice()
     }
 }

@@ -1,12 +1,12 @@
 //! Each call that asks for memory succeeds where there is ample memory.
 
-use crate::{Name, Sequence};
+use crate::{Name, Numbered, Sequence};
 use std::test::Fail;
 
 #[test]
-fn a_name_keeps_its_text(rt: HostRuntime) -> Result<(), Fail> {
-    let name = Name::new(rt.alloc(), "list_head'")?;
-    assert_eq!(rt; name.as_str(), "list_head'");
+fn a_name_keeps_its_bytes(rt: HostRuntime) -> Result<(), Fail> {
+    let name = Name::new(rt.alloc(), b"list_head'")?;
+    assert_eq!(rt; name.as_bytes(), b"list_head'");
     Ok(())
 }
 
@@ -18,5 +18,15 @@ fn a_sequence_grows(rt: HostRuntime) -> Result<(), Fail> {
     numbers.push(7)?;
     assert_eq!(rt; numbers.len(), 3);
     assert_eq!(rt; numbers.as_slice(), [7, 3, 7].as_slice());
+    Ok(())
+}
+
+#[test]
+fn a_numbered_list_grows(rt: HostRuntime) -> Result<(), Fail> {
+    let mut numbers = Numbered::new(rt.alloc());
+    numbers.push(7u32)?;
+    numbers.push(3)?;
+    assert_eq!(rt; numbers.len(), 2);
+    assert_eq!(rt; numbers.into_vec().as_slice(), [7, 3].as_slice());
     Ok(())
 }

@@ -1,0 +1,60 @@
+//! Lists whose elements have numbers.
+
+ghost use Rattle.std.specs.Prelude.{◌≡◌, ◌∷◌, ◌++◌, [], length, OnOk, OnErr, IfErr};
+
+use std::alloc::{AllocFailed, Global};
+use std::marker::Model;
+
+/// A list whose elements are numbered from 0 on, in 32 bits. Contracts see the list. It has room for
+/// as many as their numbers can count: a growth past that is refused like one that finds no memory.
+#[derive(Debug, Drop)]
+pub struct Numbered<T> {
+    items: Vec<T>,
+}
+
+impl<T> Model for Numbered<T> {
+    ghost use Rattle.std.specs.Prelude.{List, ◌≤◌, length};
+
+    ghost Value = { List T };
+
+    ghost view = { λ s. s.items.items };
+
+    ghost invariant = { λ s. length s.items.items ≤ 4294967295 };
+}
+
+impl<T> Numbered<T> {
+    /// The empty list.
+    pub fn new(alloc: Global) -> Numbered<T>
+        ensures { result ≡ [] }
+    {
+        Numbered {
+            items: Vec::new(alloc),
+        }
+    }
+
+    /// The elements.
+    pub fn into_vec(self) -> Vec<T>
+        ensures { result.items ≡ self }
+    {
+        self.items
+    }
+
+    /// How many there are, which is the number of the next.
+    pub fn len(&self) -> u32
+        ensures { result ≡ length self.now }
+    {
+        self.items.len() as u32
+    }
+
+    /// Appends one. An `Err` is want of memory or of numbers, hands it back and changes nothing.
+    pub fn push(&mut self, item: T) -> Result<(), AllocFailed<T>>
+        ensures ok { OnOk result (self.new ≡ self.old ++ item ∷ []) }
+        ensures err { OnErr result (self.new ≡ self.old) }
+        ensures value_returned { IfErr result (λ e. e.value ≡ item) }
+    {
+        if self.items.len() >= u32::MAX as usize {
+            return Err(AllocFailed { value: item });
+        }
+        self.items.push(item)
+    }
+}
