@@ -1,6 +1,6 @@
 //! Each call that asks for memory succeeds where there is ample memory.
 
-use crate::{Name, Numbered, Sequence};
+use crate::{Counted, Name, Sequence};
 use std::test::Fail;
 
 #[test]
@@ -22,8 +22,8 @@ fn a_sequence_grows(rt: HostRuntime) -> Result<(), Fail> {
 }
 
 #[test]
-fn a_numbered_list_grows(rt: HostRuntime) -> Result<(), Fail> {
-    let mut numbers = Numbered::new(rt.alloc());
+fn a_counted_list_grows(rt: HostRuntime) -> Result<(), Fail> {
+    let mut numbers = Counted::new(rt.alloc());
     numbers.push(7u32)?;
     numbers.push(3)?;
     assert_eq!(rt; numbers.len(), 2);

@@ -48,7 +48,9 @@ pub struct Resource {
 }
 
 /// A whole file. Its numbers stand for things that are there, each call has its procedure's counts,
-/// no body sets a value parameter, scopes number existentials in text order, and limits are met.
+/// no body sets a value parameter, a pre and a post mention only parameters and an invariant only its
+/// resource's variables, predicates have the fields that they follow, scopes number existentials in
+/// text order, and limits are met.
 #[derive(Debug, Drop)]
 pub struct Program {
     /// The names of the fields by number.
@@ -67,7 +69,7 @@ impl Program {
         ensures within { IfSome result (λ f. f.0 < length self.now.procedures.items) }
     {
         for (i, procedure) in self.procedures.iter().enumerate() {
-            if procedure.name.as_str() == name {
+            if procedure.name.as_bytes() == name.as_bytes() {
                 return Some(ProcId(i as u32));
             }
         }
@@ -89,7 +91,7 @@ impl Program {
         ensures within { IfSome result (λ f. f.0 < length self.now.fields.items) }
     {
         for (i, field) in self.fields.iter().enumerate() {
-            if field.as_str() == name {
+            if field.as_bytes() == name.as_bytes() {
                 return Some(FieldId(i as u32));
             }
         }

@@ -6,14 +6,14 @@ use Rattle.sf_core.proofs.program.Program.field.Goals as goal
 pub returns-then-eq-clause-first : goal.returns-then-eq-clause-first
 returns-then-eq-clause-first c =
     let here = read_at c.args.self.now.fields.items c.deref-field-items.result.now c.loop-i.i c.field-item.result c.deref-field-items.ensures.value c.loop-i-test.true c.field-item.is in
-    let same = (bytes_eq-Decides c.as_str.result.now c.args.name.now).0 (sym c.eq.ensures ∙ c.if-eq.true) in
-    (here ∙ ap Some (sym c.as_str.ensures ∙ same), c.loop-i.invariant)
+    let same = (bytes_eq-Decides c.as_bytes.result.now c.as_bytes-in-loop-i.result.now).0 (sym c.eq.ensures ∙ c.if-eq.true) in
+    (here ∙ ap Some (sym c.as_bytes.ensures ∙ same ∙ c.as_bytes-in-loop-i.ensures.value), c.loop-i.invariant)
 
 pub loop-i-preserved : goal.loop-i-preserved
 loop-i-preserved c =
     none_more c.args.self.now.fields.items c.field-item.result c.args.name.now c.loop-i.i
     (read_at c.args.self.now.fields.items c.deref-field-items.result.now c.loop-i.i c.field-item.result c.deref-field-items.ensures.value c.loop-i-test.true c.field-item.is)
-    (λ e. let yes_ = (bytes_eq-Decides c.as_str.result.now c.args.name.now).1 (c.as_str.ensures ∙ e) in cc (c.eq.ensures, c.if-eq.false, yes_))
+    (λ e. let yes_ = (bytes_eq-Decides c.as_bytes.result.now c.as_bytes-in-loop-i.result.now).1 (c.as_bytes.ensures ∙ e ∙ sym c.as_bytes-in-loop-i.ensures.value) in cc (c.eq.ensures, c.if-eq.false, yes_))
     c.loop-i.invariant
 
 pub returns-clause-first : goal.returns-clause-first

@@ -1,4 +1,4 @@
-//! Lists whose elements have numbers.
+//! Lists whose elements are counted in 32 bits.
 
 ghost use Rattle.std.specs.Prelude.{◌≡◌, ◌∷◌, ◌++◌, [], length, OnOk, OnErr, IfErr};
 
@@ -6,13 +6,13 @@ use std::alloc::{AllocFailed, Global};
 use std::marker::Model;
 
 /// A list whose elements are numbered from 0 on, in 32 bits. Contracts see the list. It has room for
-/// as many as their numbers can count: a growth past that is refused like one that finds no memory.
+/// as many as their numbers can count: a growth past that is refused, as one past the memory is.
 #[derive(Debug, Drop)]
-pub struct Numbered<T> {
+pub struct Counted<T> {
     items: Vec<T>,
 }
 
-impl<T> Model for Numbered<T> {
+impl<T> Model for Counted<T> {
     ghost use Rattle.std.specs.Prelude.{List, ◌≤◌, length};
 
     ghost Value = { List T };
@@ -22,12 +22,12 @@ impl<T> Model for Numbered<T> {
     ghost invariant = { λ s. length s.items.items ≤ 4294967295 };
 }
 
-impl<T> Numbered<T> {
+impl<T> Counted<T> {
     /// The empty list.
-    pub fn new(alloc: Global) -> Numbered<T>
+    pub fn new(alloc: Global) -> Counted<T>
         ensures { result ≡ [] }
     {
-        Numbered {
+        Counted {
             items: Vec::new(alloc),
         }
     }
