@@ -82,8 +82,8 @@ fn resource(alloc: Global, name: &str, variable: &str) -> Result<Resource, Alloc
     ensures { IfOk result (λ r. resource_of r ≡ record { name = name.now; variables = variable.now ∷ []; invariant = record { names = []; level = level (record { first = 0; count = 0 }) none } }) }
 {
     Ok(Resource {
-        name: Name::new(alloc, name)?,
-        variables: vec![in alloc; Name::new(alloc, variable)?]?,
+        name: Name::new(alloc, name.as_bytes())?,
+        variables: vec![in alloc; Name::new(alloc, variable.as_bytes())?]?,
         invariant: emp(alloc),
     })
 }
@@ -98,7 +98,7 @@ fn procedure(
     ensures { IfOk result (λ f. procedure_of f ≡ record { name = name.now; place = record { line = 1; column = 1 }; names = []; references = 0; values = 0; locals = 0; pre = assertion_of pre; post = record { names = []; level = level (record { first = 0; count = 0 }) none }; body = block_of body.items; end = record { line = 1; column = 1 } }) }
 {
     Ok(Proc {
-        name: Name::new(alloc, name)?,
+        name: Name::new(alloc, name.as_bytes())?,
         place: here(),
         names: Vec::new(alloc),
         references: 0,

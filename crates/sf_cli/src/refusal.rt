@@ -292,11 +292,11 @@ fn put_front(text: &mut Vec<u8>, kind: RefusalKind, place: Place) -> Result<(), 
 }
 
 /// Appends the end of the line, with a name. An `Err` is want of memory.
-fn put_name(text: &mut Vec<u8>, name: &str) -> Result<(), AllocError>
+fn put_name(text: &mut Vec<u8>, name: &[u8]) -> Result<(), AllocError>
     ensures { OnOk result (text.new.items ≡ text.old.items ++ name_text name.now) }
 {
     put(text, " ")?;
-    put(text, name)?;
+    text.extend_from_slice(name)?;
     put(text, "\n")
 }
 
@@ -315,7 +315,7 @@ pub fn refusal_text(alloc: Global, refusal: &Refusal) -> Result<Vec<u8>, AllocEr
         }
         Refusal::Named(kind, place, name) => {
             put_front(&mut text, *kind, *place)?;
-            put_name(&mut text, name.as_str())?;
+            put_name(&mut text, name.as_bytes())?;
             Ok(text)
         }
         Refusal::OutOfMemory => Err(AllocError),

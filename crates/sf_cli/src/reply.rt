@@ -43,11 +43,11 @@ fn say(alloc: Global, text: &str, status: u8) -> Result<Said, AllocError>
 }
 
 /// That text, a name behind it and a line feed, with that status.
-fn say_of(alloc: Global, text: &str, name: &str, status: u8) -> Result<Said, AllocError>
+fn say_of(alloc: Global, text: &str, name: &[u8], status: u8) -> Result<Said, AllocError>
     ensures { IfOk result (λ said. (said.text.items ≡ text.now ++ name.now ++ codes "\n") × (said.status ≡ status)) }
 {
     let mut line = Vec::from_slice(alloc, text.as_bytes())?;
-    line.extend_from_slice(name.as_bytes())?;
+    line.extend_from_slice(name)?;
     line.extend_from_slice(b"\n")?;
     Ok(Said { text: line, status })
 }
@@ -134,7 +134,7 @@ fn answer_to_file<S: Shelf>(alloc: Global, name: &str, shelf: &mut S) -> Result<
 {
     match fetch_up_to(alloc, name, FILE_BYTES, shelf) {
         Ok(bytes) => answer_to_bytes(alloc, bytes.as_slice()),
-        Err(FetchFault::Failed) => say_of(alloc, "read fault: ", name, 7),
+        Err(FetchFault::Failed) => say_of(alloc, "read fault: ", name.as_bytes(), 7),
         Err(FetchFault::OutOfMemory) => Err(AllocError),
     }
 }

@@ -37,11 +37,11 @@ has_declared : {A : Type 0} (name other : List ℕ) (t : Table A) (a : A) → ha
 has_declared name other t a = has_by_test name other t a (has other t) refl
 
 -- one more word was declared
-pub among_more : (bytes : List ℕ) (ws : List Word) (i : ℕ) (t u : Table ℕ) (d : Word) → i < length ws → u ≡ declare (text bytes (get_or ws i d)) 0 t → (name : List ℕ) (r : Bool)
+pub among_more : (bytes : List ℕ) (ws : List Word) (i : ℕ) (t u : Table (Unit {0})) (d : Word) → i < length ws → u ≡ declare (text bytes (get_or ws i d)) tt t → (name : List ℕ) (r : Bool)
     → (has name t || is_among bytes (drop i ws) name) ≡ r → (has name u || is_among bytes (drop (i + 1) ws) name) ≡ r
 among_more bytes ws i t u d within e name r h =
     let w : Word = get_or ws i d in
     let next : drop i ws ≡ w ∷ drop (i + 1) ws = rw (add-one) (drop-cons ws i d within) in
-    let more : has name u ≡ (has name t || bytes_eq name (text bytes w)) = ap (has name) e ∙ has_declared name (text bytes w) t 0 in
+    let more : has name u ≡ (has name t || bytes_eq name (text bytes w)) = ap (has name) e ∙ has_declared name (text bytes w) t tt in
     ap (λ b. b || is_among bytes (drop (i + 1) ws) name) more ∙ or_assoc (has name t) (bytes_eq name (text bytes w)) (is_among bytes (drop (i + 1) ws) name)
     ∙ ap (λ vs. has name t || is_among bytes vs name) (sym next) ∙ h

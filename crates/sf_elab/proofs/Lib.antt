@@ -1,6 +1,7 @@
 pub mod Among
 pub mod Answered
 pub mod AssertionsWithin
+pub mod Beginnings
 pub mod CommandsWithin
 pub mod Conjuncts
 pub mod DeclaredThings
@@ -17,6 +18,7 @@ pub mod Scopes
 pub mod ScopesNumbered
 pub mod TableLaws
 pub mod Tables
+pub mod UniqueNames
 pub mod VariablesWithin
 pub mod Views
 pub mod Wholes

@@ -7,6 +7,7 @@ use Rattle.sf_base.specs.declared.place.Place.{Place}
 use Rattle.sf_ast.specs.declared.assertion.SurfaceField.{SurfaceField}
 use Rattle.sf_ast.specs.declared.word.SurfaceOperand.{SurfaceOperand}
 use Rattle.sf_ast.specs.declared.word.SurfaceOperand.TheVariants as o
+use Rattle.sf_ast.specs.declared.word.SurfaceTest.{SurfaceTest}
 use Rattle.sf_ast.specs.Surface.{Conjunct, emp, group, choose, choose_round, equal, differ, points, ls, lseg, list, tree, Assertion, only, star, Note, blank, filled}
 use Rattle.sf_core.specs.declared.assertion.Operand.{Operand}
 use Rattle.sf_core.specs.declared.assertion.Operand.TheVariants.{Known, Exists}
@@ -69,19 +70,22 @@ segment_faults s p = where_ (not (has_link s Next)) (Missing p Next)
 abbrev pub tree_faults : Sight → Place → List Fault
 tree_faults s p = where_ (not (has_link s Left)) (Missing p Left) ++ where_ (not (has_link s Right)) (Missing p Right)
 
--- the conjuncts
+-- a level that has those conjuncts, with what it makes
+abbrev pub level_with : Sight → Levels → Assertion → List (c.Conjunct Expr) → c.Level Expr
+level_with s l a cs = c.level (made_by s.bytes l a) (conjuncts cs)
+
+-- a choice whose two levels have those conjuncts; the second is read behind the first
+abbrev pub choice_of : Sight → Levels → Place → SurfaceTest SurfaceOperand → (a b : Assertion) → (cs ds : List (c.Conjunct Expr)) → c.Conjunct Expr
+choice_of s l p t a b cs ds = c.choose p (test_of (operand_of s l) t) (level_with s l a cs) (level_with s (after_level s.bytes l a) b ds)
+
+-- the conjuncts of assertions
 abbrev mutual
+  -- a conjunct: none of `emp`, and those inside parentheses
   pub conjunct_of : Sight → Levels → Conjunct → List (c.Conjunct Expr)
   conjunct_of s l (emp p) = []
   conjunct_of s l (group p a) = conjuncts_of s l a
-  conjunct_of s l (choose p t a b) =
-      c.choose p (test_of (operand_of s l) t)
-      (c.level (made_by s.bytes l a) (conjuncts (conjuncts_of s (opened s.bytes l a) a)))
-      (c.level (made_by s.bytes (after_level s.bytes l a) b) (conjuncts (conjuncts_of s (opened s.bytes (after_level s.bytes l a) b) b))) ∷ []
-  conjunct_of s l (choose_round p t a b) =
-      c.choose p (test_of (operand_of s l) t)
-      (c.level (made_by s.bytes l a) (conjuncts (conjuncts_of s (opened s.bytes l a) a)))
-      (c.level (made_by s.bytes (after_level s.bytes l a) b) (conjuncts (conjuncts_of s (opened s.bytes (after_level s.bytes l a) b) b))) ∷ []
+  conjunct_of s l (choose p t a b) = choice_of s l p t a b (conjuncts_of s (opened s.bytes l a) a) (conjuncts_of s (opened s.bytes (after_level s.bytes l a) b) b) ∷ []
+  conjunct_of s l (choose_round p t a b) = choice_of s l p t a b (conjuncts_of s (opened s.bytes l a) a) (conjuncts_of s (opened s.bytes (after_level s.bytes l a) b) b) ∷ []
   conjunct_of s l (equal x y) = c.holds (operand_place x) (Equal (operand_of s l x) (operand_of s l y)) ∷ []
   conjunct_of s l (differ x y) = c.holds (operand_place x) (Differ (operand_of s l x) (operand_of s l y)) ∷ []
   conjunct_of s l (points x fs) = c.points (operand_place x) (operand_of s l x) (values_of s l fs) ∷ []
@@ -90,16 +94,18 @@ abbrev mutual
   conjunct_of s l (list p x) = c.segment p (link_of s Next) (operand_of s l x) (Known Nil) ∷ []
   conjunct_of s l (tree p x) = c.tree p (link_of s Left) (link_of s Right) (operand_of s l x) ∷ []
 
+  -- the conjuncts of a level that was entered
   pub conjuncts_of : Sight → Levels → Assertion → List (c.Conjunct Expr)
   conjuncts_of s l (only d) = conjunct_of s l d
   conjuncts_of s l (star d a) = conjunct_of s l d ++ conjuncts_of s (after_conjunct s.bytes l d) a
 
 -- a level with what it makes
 abbrev pub level_of : Sight → Levels → Assertion → c.Level Expr
-level_of s l a = c.level (made_by s.bytes l a) (conjuncts (conjuncts_of s (opened s.bytes l a) a))
+level_of s l a = level_with s l a (conjuncts_of s (opened s.bytes l a) a)
 
 -- what is wrong with names in an assertion
 abbrev mutual
+  -- in a conjunct: in its operands and fields, in its branches, and for want of the fields that it follows
   pub conjunct_faults : Sight → Conjunct → List Fault
   conjunct_faults s (emp p) = []
   conjunct_faults s (group p a) = assertion_faults s a
@@ -113,6 +119,7 @@ abbrev mutual
   conjunct_faults s (list p x) = segment_faults s p ++ operand_faults s x
   conjunct_faults s (tree p x) = tree_faults s p ++ operand_faults s x
 
+  -- in each conjunct, in text order
   pub assertion_faults : Sight → Assertion → List Fault
   assertion_faults s (only d) = conjunct_faults s d
   assertion_faults s (star d a) = conjunct_faults s d ++ assertion_faults s a

@@ -5,7 +5,6 @@ use Rattle.std.specs.Prelude.{◌==◌, ◌&&◌, Bool, not, cond, List, [], ◌
 use Rattle.sf_ast.specs.declared.word.SurfaceExpr.{SurfaceExpr}
 use Rattle.sf_ast.specs.declared.word.Word.{Word}
 use Rattle.sf_ast.specs.Surface.{Arguments, values, both, Call, Command, assign, look_up, new, mutate, dispose, dispose_round, if_alone, if, while, with, call, fork, block, Commands, done, then}
-use Rattle.sf_core.specs.declared.command.Occurrence.{Occurrence}
 use Rattle.sf_core.specs.Syntax as c
 use Rattle.sf_core.specs.View as v
 use Rattle.sf_elab.specs.declared.fault.Fault.{Fault}
@@ -55,6 +54,7 @@ call_faults s d = callee_faults s d ++ all_faults (variable_faults s) (reference
 
 -- the commands
 abbrev mutual
+  -- a command: one, or those of a block
   pub command_of : Sight → Command → List c.Command
   command_of s (assign x e) = c.assign x.place (occurrence s x) (expr_of s e) ∷ []
   command_of s (look_up x e f) = c.look_up x.place (occurrence s x) (expr_of s e) (field_of s f) ∷ []
@@ -70,12 +70,14 @@ abbrev mutual
   command_of s (fork d b) = c.fork d.name.place (call_of s d) (call_of s b) ∷ []
   command_of s (block p ds) = commands_of s ds
 
+  -- several, one after the other
   pub commands_of : Sight → Commands → List c.Command
   commands_of s done = []
   commands_of s (then d ds) = command_of s d ++ commands_of s ds
 
 -- what is wrong with names in commands
 abbrev mutual
+  -- in a command, in text order
   pub command_faults : Sight → Command → List Fault
   command_faults s (assign x e) = variable_faults s x ++ expr_faults s e
   command_faults s (look_up x e f) = variable_faults s x ++ expr_faults s e ++ field_faults s f
@@ -91,12 +93,14 @@ abbrev mutual
   command_faults s (fork d b) = call_faults s d ++ call_faults s b
   command_faults s (block p ds) = commands_faults s ds
 
+  -- in each of several
   pub commands_faults : Sight → Commands → List Fault
   commands_faults s done = []
   commands_faults s (then d ds) = command_faults s d ++ commands_faults s ds
 
 -- the words that assignments, look-ups and `new`s set, and that calls pass as references, in text order
 abbrev mutual
+  -- in a command
   pub set_in : Command → List Word
   set_in (assign x e) = x ∷ []
   set_in (look_up x e f) = x ∷ []
@@ -112,6 +116,7 @@ abbrev mutual
   set_in (fork d b) = references_in d.arguments ++ references_in b.arguments
   set_in (block p ds) = set_in_all ds
 
+  -- in each of several
   pub set_in_all : Commands → List Word
   set_in_all done = []
   set_in_all (then d ds) = set_in d ++ set_in_all ds

@@ -32,6 +32,7 @@ words_in_fields (f ∷ fs) = words_in_operand f.value ++ words_in_fields fs
 
 -- those of a level itself, in text order: of an `if` its test belongs to the level, and its branches don't
 abbrev mutual
+  -- in a conjunct
   pub words_in_conjunct : Conjunct → List Word
   words_in_conjunct (emp p) = []
   words_in_conjunct (group p a) = words_in a
@@ -45,6 +46,7 @@ abbrev mutual
   words_in_conjunct (list p x) = words_in_operand x
   words_in_conjunct (tree p x) = words_in_operand x
 
+  -- in each conjunct
   pub words_in : Assertion → List Word
   words_in (only c) = words_in_conjunct c
   words_in (star c a) = words_in_conjunct c ++ words_in a
@@ -78,6 +80,7 @@ made_by bytes l a = record { first = length l.names; count = length (opened byte
 
 -- what is there once branches inside a level were read
 abbrev mutual
+  -- a choice leaves the numbers of its branches taken, and nothing of them in reach
   pub after_conjunct : List ℕ → Levels → Conjunct → Levels
   after_conjunct bytes l (emp p) = l
   after_conjunct bytes l (group p a) = after bytes l a
@@ -95,6 +98,7 @@ abbrev mutual
   after_conjunct bytes l (list p x) = l
   after_conjunct bytes l (tree p x) = l
 
+  -- one conjunct after the other
   pub after : List ℕ → Levels → Assertion → Levels
   after bytes l (only c) = after_conjunct bytes l c
   after bytes l (star c a) = after bytes (after_conjunct bytes l c) a

@@ -1,11 +1,12 @@
 -- Laws of elaboration, stated.
 -- What a definition that computes owes its reader: that its answers are what its words say.
-use Rattle.std.specs.Prelude.{◌≡◌, ◌≤◌, ◌⊎◌, ◌||◌, ℕ, false, List, [], ◌++◌, length, slice_get, Contains, Some, None}
+use Rattle.std.specs.Prelude.{◌≡◌, ◌≤◌, ◌⊎◌, ◌||◌, ◌+◌, ℕ, false, List, [], ◌++◌, map, take, length, slice_get, Contains, Some, None}
+use Rattle.std.specs.List.{flat_map}
 use Rattle.sf_base.specs.declared.limits.TheConstants.{NESTING}
 use Rattle.sf_ast.specs.Depth.{items_depth}
 use Rattle.sf_ast.specs.Surface.{Assertion, Item}
 use Rattle.sf_core.specs.Formed.{IsFormed}
-use Rattle.sf_core.specs.Syntax.{Program}
+use Rattle.sf_core.specs.Syntax.{Procedure, Resource, Program}
 use Rattle.sf_elab.specs.declared.fault.Fault.{Fault}
 use Rattle.sf_elab.specs.declared.fault.NameFault.{NameFault}
 use Rattle.sf_elab.specs.Elaborated.{elaborated, faults, Elaborates, FirstFault}
@@ -34,6 +35,21 @@ pub record EachFileIsOne : Type 0 where
   pub not_both : (bytes : List ℕ) (is : List Item) (p : Program) (e : NameFault) → Elaborates bytes is p → FirstFault bytes is e → ⊥
   pub one_program : (bytes : List ℕ) (is : List Item) (p q : Program) → Elaborates bytes is p → Elaborates bytes is q → p ≡ q
   pub one_fault : (bytes : List ℕ) (is : List Item) (e g : NameFault) → FirstFault bytes is e → FirstFault bytes is g → e ≡ g
+
+-- no two numbers have one name
+abbrev pub AreDistinct : List (List ℕ) → Type 0
+AreDistinct names = (i j : ℕ) (name : List ℕ) → slice_get names i ≡ Some name → slice_get names j ≡ Some name → i ≡ j
+
+-- in a program that a file is, a name stands for one thing of its kind
+pub record NamesAreUnique : Type 0 where
+  pub fields : (bytes : List ℕ) (is : List Item) (p : Program) → Elaborates bytes is p → AreDistinct p.fields
+  pub resources : (bytes : List ℕ) (is : List Item) (p : Program) → Elaborates bytes is p → AreDistinct (map (λ (r : Resource). r.name) p.resources)
+  -- of the variables of all resources together
+  pub variables : (bytes : List ℕ) (is : List Item) (p : Program) → Elaborates bytes is p → AreDistinct (flat_map (λ (r : Resource). r.variables) p.resources)
+  pub procedures : (bytes : List ℕ) (is : List Item) (p : Program) → Elaborates bytes is p → AreDistinct (map (λ (f : Procedure). f.name) p.procedures)
+  -- of a procedure's parameters and declared locals
+  pub own : (bytes : List ℕ) (is : List Item) (p : Program) (k : ℕ) (f : Procedure) → Elaborates bytes is p → slice_get p.procedures k ≡ Some f
+      → AreDistinct (take (f.references + f.values + f.locals) f.names)
 
 -- levels are scopes of existentials
 pub record LevelsAreScopes : Type 0 where

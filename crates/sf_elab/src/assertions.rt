@@ -21,22 +21,22 @@ use crate::fault::{Fault, Link};
 use crate::levels::Levels;
 use crate::sight::{Sight, expr_place, note_where};
 use crate::table::Table;
-use crate::texts::{kept, text};
+use crate::texts::text;
 use sf_ast::{
     SurfaceAssertion, SurfaceConjunct, SurfaceField, SurfaceNote, SurfaceOperand, SurfaceTest,
 };
-use sf_base::{FieldId, Place, Sequence};
+use sf_base::{FieldId, Place};
 use sf_core::{Assertion, Conjunct, Expr, Level, Operand, Scope, Test};
 use std::alloc::{AllocError, Global};
 
 /// The text of a field's name.
-pub fn link_name(link: Link) -> &'static str
+pub fn link_name(link: Link) -> &'static [u8]
     ensures { result.now ≡ link_name link }
 {
     match link {
-        Link::Next => "tl",
-        Link::Left => "l",
-        Link::Right => "r",
+        Link::Next => b"tl",
+        Link::Left => b"l",
+        Link::Right => b"r",
     }
 }
 
@@ -66,7 +66,7 @@ fn operand(
             Ok(Operand::Known(e))
         }
         SurfaceOperand::Existential(word) => {
-            let number = levels.reach.find(text(sight.bytes, *word)?);
+            let number = levels.reach.find(text(sight.bytes, *word));
             Ok(Operand::Exists(number.unwrap_or(0)))
         }
     }
@@ -110,7 +110,7 @@ fn field(
     ensures faults { OnOk result (found.new.items ≡ found.old.items ++ (field_faults (sight_of sight.now) field.now.name ++ where_ (has (word_text sight.now.bytes.now field.now.name) given.old) (Twice field.now.name))) }
 {
     let number = sight.field(field.name, found)?;
-    let name = text(sight.bytes, field.name)?;
+    let name = text(sight.bytes, field.name);
     note_where(given.find(name).is_some(), Fault::Twice(field.name), found)?;
     given.declare(alloc, name, number)?;
     Ok(number)
@@ -150,7 +150,7 @@ fn next(sight: &Sight<'_>, place: Place, found: &mut Vec<Fault>) -> Result<Field
     ensures faults { OnOk result (found.new.items ≡ found.old.items ++ segment_faults (sight_of sight.now) place) }
 {
     let next = link(sight, Link::Next);
-    note_where(!next.is_some(), Fault::Missing(place, Link::Next), found)?;
+    note_where(next.is_none(), Fault::Missing(place, Link::Next), found)?;
     Ok(next.unwrap_or(FieldId(0)))
 }
 
@@ -165,21 +165,19 @@ fn both_links(
 {
     let left = link(sight, Link::Left);
     let right = link(sight, Link::Right);
-    note_where(!left.is_some(), Fault::Missing(place, Link::Left), found)?;
-    note_where(!right.is_some(), Fault::Missing(place, Link::Right), found)?;
+    note_where(left.is_none(), Fault::Missing(place, Link::Left), found)?;
+    note_where(right.is_none(), Fault::Missing(place, Link::Right), found)?;
     Ok((left.unwrap_or(FieldId(0)), right.unwrap_or(FieldId(0))))
 }
 
 /// The numbers from `first` on, below `end`.
-fn scope(first: usize, end: usize) -> Result<Scope, AllocError>
-    ensures { IfOk result (λ s. s ≡ record { first = first; count = end - first }) }
+fn scope(first: u32, end: u32) -> Scope
+    ensures { result ≡ record { first = first; count = end - first } }
 {
-    let first_kept = kept(first)?;
-    let count = kept(end.saturating_sub(first))?;
-    Ok(Scope {
-        first: first_kept,
-        count,
-    })
+    Scope {
+        first,
+        count: end.saturating_sub(first),
+    }
 }
 
 /// Two operands.
@@ -374,7 +372,7 @@ fn branch(
     let outside = levels.reach.len();
     let first = levels.names.len();
     levels.enter(alloc, sight.bytes, level)?;
-    let made = scope(first, levels.names.len())?;
+    let made = scope(first, levels.names.len());
     let mut conjuncts = Vec::new(alloc);
     add_conjuncts(alloc, sight, levels, level, &mut conjuncts, found)?;
     levels.reach.cut(outside);

@@ -86,11 +86,7 @@ fn callee(
     ensures same { IfOk result (λ f. f ≡ (header_named (sight_of sight.now) (surface_call call.now).name).id) }
     ensures faults { OnOk result (found.new.items ≡ found.old.items ++ callee_faults (sight_of sight.now) (surface_call call.now)) }
 {
-    match sight
-        .declared
-        .procedures
-        .find(text(sight.bytes, call.name)?)
-    {
+    match sight.declared.procedures.find(text(sight.bytes, call.name)) {
         Some(header) => {
             let fits = references_in(&call.arguments).len() == header.references
                 && values_in(&call.arguments).len() == header.values;

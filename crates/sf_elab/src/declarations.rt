@@ -16,10 +16,10 @@ use crate::declared::{Declared, Header};
 use crate::fault::{Fault, Link};
 use crate::sight::note_where;
 use crate::table::Table;
-use crate::texts::{kept, name, plus, text};
+use crate::texts::{name, text};
 use sf_ast::{Item, SurfaceNames, SurfaceParameters, SurfaceProcedure, SurfaceResource, Word};
 use sf_base::limits::{FIELDS, OWN_VARIABLES, PROCEDURES, RESOURCE_VARIABLES, RESOURCES};
-use sf_base::{FieldId, Name, Place, ProcId, ResId, Var};
+use sf_base::{Counted, FieldId, Name, Place, ProcId, ResId, Var};
 use std::alloc::{AllocError, Global};
 
 /// Appends the names.
@@ -74,7 +74,7 @@ fn declare_name<V: Copy>(
     ensures table { OnOk result (table.new ≡ declare (word_text bytes.now word) value table.old) }
     ensures faults { OnOk result (found.new.items ≡ found.old.items ++ where_ (has (word_text bytes.now word) table.old) (Twice word)) }
 {
-    let name = text(bytes, word)?;
+    let name = text(bytes, word);
     note_where(table.find(name).is_some(), Fault::Twice(word), found)?;
     table.declare(alloc, name, value)
 }
@@ -82,33 +82,33 @@ fn declare_name<V: Copy>(
 /// Notes what is beyond a limit: the one of that number, at that place.
 fn note_beyond(
     limit: usize,
-    number: usize,
+    number: u32,
     place: Place,
     found: &mut Vec<Fault>,
 ) -> Result<(), AllocError>
     ensures { OnOk result (found.new.items ≡ found.old.items ++ beyond limit number place) }
 {
-    note_where(number >= limit, Fault::TooMany(place), found)
+    note_where(number as usize >= limit, Fault::TooMany(place), found)
 }
 
-/// Declares own variables, numbered from there on.
+/// Declares own variables, numbered behind those that are declared already.
 pub fn declare_own(
     alloc: Global,
     bytes: &[u8],
-    first: usize,
     words: &[Word],
+    declared: &mut Counted<Word>,
     own: &mut Table<Var>,
     found: &mut Vec<Fault>,
 ) -> Result<(), AllocError>
-    ensures table { OnOk result (own.new ≡ numbered bytes.now Own first words.now own.old) }
-    ensures faults { OnOk result (found.new.items ≡ found.old.items ++ numbered_faults bytes.now OWN_VARIABLES Own first words.now own.old) }
+    ensures declared { OnOk result (declared.new ≡ declared.old ++ words.now) }
+    ensures table { OnOk result (own.new ≡ numbered bytes.now Own (length declared.old) words.now own.old) }
+    ensures faults { OnOk result (found.new.items ≡ found.old.items ++ numbered_faults bytes.now OWN_VARIABLES Own (length declared.old) words.now own.old) }
 {
-    let mut number = first;
     for word in words {
-        let var = Var::Own(kept(number)?);
-        declare_name(alloc, bytes, *word, var, own, found)?;
+        let number = declared.len();
+        declare_name(alloc, bytes, *word, Var::Own(number), own, found)?;
         note_beyond(OWN_VARIABLES, number, word.place, found)?;
-        number += 1;
+        declared.push(*word)?;
     }
     Ok(())
 }
@@ -124,12 +124,12 @@ fn declare_fields(
     ensures table { OnOk result (fields.new ≡ numbered bytes.now nth_field 0 words.now fields.old) }
     ensures faults { OnOk result (found.new.items ≡ found.old.items ++ numbered_faults bytes.now FIELDS nth_field 0 words.now fields.old) }
 {
-    let mut number = 0;
+    let mut declared = Counted::new(alloc);
     for word in words {
-        let field = FieldId(kept(number)?);
-        declare_name(alloc, bytes, *word, field, fields, found)?;
+        let number = declared.len();
+        declare_name(alloc, bytes, *word, FieldId(number), fields, found)?;
         note_beyond(FIELDS, number, word.place, found)?;
-        number += 1;
+        declared.push(*word)?;
     }
     Ok(())
 }
@@ -139,7 +139,7 @@ fn usual_fields(alloc: Global) -> Result<Table<FieldId>, AllocError>
     ensures { IfOk result (λ t. t ≡ usual_fields) }
 {
     let mut fields = Table::new(alloc);
-    fields.declare(alloc, "hd", FieldId(0))?;
+    fields.declare(alloc, b"hd", FieldId(0))?;
     fields.declare(alloc, link_name(Link::Next), FieldId(1))?;
     fields.declare(alloc, link_name(Link::Left), FieldId(2))?;
     fields.declare(alloc, link_name(Link::Right), FieldId(3))?;
@@ -183,9 +183,9 @@ fn declared_fields(
 pub fn names(alloc: Global, bytes: &[u8], words: &[Word]) -> Result<Vec<Name>, AllocError>
     ensures { IfOk result (λ v. v.items ≡ map (word_text bytes.now) words.now) }
 {
-    let mut done = Vec::new(alloc);
+    let mut done = Counted::new(alloc);
     add_texts(alloc, bytes, words, &mut done)?;
-    Ok(done)
+    Ok(done.into_vec())
 }
 
 /// Appends the texts of words.
@@ -193,9 +193,9 @@ pub fn add_texts(
     alloc: Global,
     bytes: &[u8],
     words: &[Word],
-    done: &mut Vec<Name>,
+    done: &mut Counted<Name>,
 ) -> Result<(), AllocError>
-    ensures { OnOk result (done.new.items ≡ done.old.items ++ map (word_text bytes.now) words.now) }
+    ensures { OnOk result (done.new ≡ done.old ++ map (word_text bytes.now) words.now) }
 {
     for word in words {
         done.push(name(alloc, bytes, *word)?)?;
@@ -208,7 +208,7 @@ fn usual_names(alloc: Global) -> Result<Vec<Name>, AllocError>
     ensures { IfOk result (λ v. v.items ≡ usual_names) }
 {
     let mut done = Vec::new(alloc);
-    done.push(Name::new(alloc, "hd")?)?;
+    done.push(Name::new(alloc, b"hd")?)?;
     done.push(Name::new(alloc, link_name(Link::Next))?)?;
     done.push(Name::new(alloc, link_name(Link::Left))?)?;
     done.push(Name::new(alloc, link_name(Link::Right))?)?;
@@ -245,13 +245,20 @@ fn declared_resources(
     ensures faults { OnOk result (found.new.items ≡ found.old.items ++ resource_name_faults bytes.now 0 (resources_in (map item_of items.now)) []) }
 {
     let mut resources = Table::new(alloc);
-    let mut number = 0;
+    let mut declared = Counted::new(alloc);
     for item in items {
         if let Item::Resource(resource) = item {
-            let id = ResId(kept(number)?);
-            declare_name(alloc, bytes, resource.name, id, &mut resources, found)?;
+            let number = declared.len();
+            declare_name(
+                alloc,
+                bytes,
+                resource.name,
+                ResId(number),
+                &mut resources,
+                found,
+            )?;
             note_beyond(RESOURCES, number, resource.place, found)?;
-            number += 1;
+            declared.push(resource.name)?;
         }
     }
     Ok(resources)
@@ -268,7 +275,7 @@ fn note_owner(
 ) -> Result<(), AllocError>
     ensures { OnOk result (found.new.items ≡ found.old.items ++ owner_faults bytes.now own.now all.now word) }
 {
-    let name = text(bytes, word)?;
+    let name = text(bytes, word);
     if own.find(name).is_some() {
         found.push(Fault::Twice(word))?;
         return Ok(());
@@ -282,7 +289,7 @@ fn declare_owned(
     bytes: &[u8],
     word: Word,
     var: Var,
-    count: usize,
+    count: u32,
     own: &mut Table<Var>,
     all: &mut Table<Var>,
     found: &mut Vec<Fault>,
@@ -297,31 +304,29 @@ fn declare_owned(
     declare_quietly(alloc, bytes, word, var, all)
 }
 
-/// Declares the variables of one resource, so many of others being declared, and answers how many
-/// are then.
+/// Declares the variables of one resource, behind those of others that are declared already.
 pub fn declare_shared(
     alloc: Global,
     bytes: &[u8],
     k: u32,
-    before: usize,
     words: &[Word],
+    declared: &mut Counted<Word>,
     all: &mut Table<Var>,
     found: &mut Vec<Fault>,
-) -> Result<usize, AllocError>
-    ensures count { IfOk result (λ n. n ≡ before + length words.now) }
+) -> Result<(), AllocError>
+    ensures declared { OnOk result (declared.new ≡ declared.old ++ words.now) }
     ensures table { OnOk result (all.new ≡ numbered bytes.now (shared_by k) 0 words.now all.old) }
-    ensures faults { OnOk result (found.new.items ≡ found.old.items ++ shared_faults bytes.now k before 0 words.now [] all.old) }
+    ensures faults { OnOk result (found.new.items ≡ found.old.items ++ shared_faults bytes.now k (length declared.old) 0 words.now [] all.old) }
 {
+    let first = declared.len();
     let mut own = Table::new(alloc);
-    let mut number = 0;
-    let mut count = before;
     for word in words {
-        let var = Var::Shared(ResId(k), kept(number)?);
+        let count = declared.len();
+        let var = Var::Shared(ResId(k), count - first);
         declare_owned(alloc, bytes, *word, var, count, &mut own, all, found)?;
-        number += 1;
-        count = plus(count, 1)?;
+        declared.push(*word)?;
     }
-    Ok(count)
+    Ok(())
 }
 
 /// Declares a name that stands for that.
@@ -334,7 +339,7 @@ pub fn declare_quietly<V: Copy>(
 ) -> Result<(), AllocError>
     ensures { OnOk result (table.new ≡ declare (word_text bytes.now word) value table.old) }
 {
-    table.declare(alloc, text(bytes, word)?, value)
+    table.declare(alloc, text(bytes, word), value)
 }
 
 /// The variables of all resources.
@@ -348,27 +353,28 @@ fn declared_variables(
     ensures faults { OnOk result (found.new.items ≡ found.old.items ++ all_shared_faults bytes.now 0 0 (resources_in (map item_of items.now)) []) }
 {
     let mut all = Table::new(alloc);
-    let mut number = 0;
-    let mut count = 0;
+    let mut resources = Counted::new(alloc);
+    let mut declared = Counted::new(alloc);
     for item in items {
         if let Item::Resource(resource) = item {
-            let k = kept(number)?;
-            count = declare_shared(alloc, bytes, k, count, &resource.variables, &mut all, found)?;
-            number += 1;
+            let k = resources.len();
+            let words = &resource.variables;
+            declare_shared(alloc, bytes, k, words, &mut declared, &mut all, found)?;
+            resources.push(resource.name)?;
         }
     }
     Ok(all)
 }
 
 /// What calls see of the procedure of that number.
-fn header(number: usize, procedure: &SurfaceProcedure) -> Result<Header, AllocError>
-    ensures { IfOk result (λ h. h ≡ header_of number (procedure_of procedure.now)) }
+fn header(number: u32, procedure: &SurfaceProcedure) -> Header
+    ensures { result ≡ header_of number (procedure_of procedure.now) }
 {
-    Ok(Header {
-        id: ProcId(kept(number)?),
+    Header {
+        id: ProcId(number),
         references: references_of(&procedure.parameters).len(),
         values: values_of(&procedure.parameters).len(),
-    })
+    }
 }
 
 /// The procedures that the items declare.
@@ -382,13 +388,14 @@ fn declared_procedures(
     ensures faults { OnOk result (found.new.items ≡ found.old.items ++ procedure_name_faults bytes.now 0 (procedures_in (map item_of items.now)) []) }
 {
     let mut procedures = Table::new(alloc);
-    let mut number = 0;
+    let mut declared = Counted::new(alloc);
     for item in items {
         if let Item::Procedure(procedure) = item {
-            let header = header(number, procedure)?;
+            let number = declared.len();
+            let header = header(number, procedure);
             declare_name(alloc, bytes, procedure.name, header, &mut procedures, found)?;
             note_beyond(PROCEDURES, number, procedure.name.place, found)?;
-            number = plus(number, 1)?;
+            declared.push(procedure.name)?;
         }
     }
     Ok(procedures)

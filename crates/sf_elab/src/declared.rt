@@ -1,3 +1,5 @@
+//! What the names of a file stand for.
+
 use crate::table::Table;
 use sf_base::{FieldId, ProcId, ResId, Var};
 

@@ -1,3 +1,5 @@
+//! What can be wrong with names.
+
 use sf_ast::Word;
 use sf_base::{Name, Place};
 use std::alloc::{AllocError, AllocFailed};
@@ -57,7 +59,7 @@ pub enum NameFault {
     /// Kind 26: what begins there exceeds a limit.
     #[error("more than the limit")]
     TooMany(Place),
-    /// Memory ran out.
+    /// A growth was refused.
     #[error("out of memory")]
     OutOfMemory,
 }

@@ -1,6 +1,6 @@
 //! Laws of elaboration. Each function does nothing; its contract is the law.
 
-ghost use Rattle.sf_elab.specs.Laws.{EachFileIsOne, ElaboratedIsFormed, FirstIsFirst, LevelsAreScopes};
+ghost use Rattle.sf_elab.specs.Laws.{EachFileIsOne, ElaboratedIsFormed, FirstIsFirst, LevelsAreScopes, NamesAreUnique};
 
 /// What a file without faults elaborates to is a program in order.
 pub fn elaborated_is_formed()
@@ -21,4 +21,9 @@ pub fn each_file_is_one()
 /// what was there before is in reach.
 pub fn levels_are_scopes()
     ensures { LevelsAreScopes }
+{}
+
+/// In a program that a file is, a name stands for one thing of its kind.
+pub fn names_are_unique()
+    ensures { NamesAreUnique }
 {}

@@ -5,9 +5,9 @@ ghost use Rattle.sf_ast.specs.View.{assertion_of, conjunct_of};
 ghost use Rattle.sf_elab.specs.Existentials.{words_in_operand, words_in_test, words_in_fields, words_in_conjunct, words_in, meet, meet_all, no_levels, opened};
 
 use crate::table::Table;
-use crate::texts::{kept, text};
+use crate::texts::text;
 use sf_ast::{SurfaceAssertion, SurfaceConjunct, SurfaceField, SurfaceOperand, SurfaceTest, Word};
-use sf_base::{Name, Sequence};
+use sf_base::{Counted, Name};
 use std::alloc::{AllocError, Global};
 
 /// The existentials of one assertion, up to where it is read.
@@ -16,7 +16,7 @@ pub struct Levels {
     /// Those in reach, with their numbers.
     pub reach: Table<u32>,
     /// The names of all, by number.
-    pub names: Sequence<Name>,
+    pub names: Counted<Name>,
 }
 
 /// Appends the existential that the operand is.
@@ -102,7 +102,7 @@ impl Levels {
     {
         Levels {
             reach: Table::new(alloc),
-            names: Sequence::new(alloc),
+            names: Counted::new(alloc),
         }
     }
 
@@ -110,11 +110,11 @@ impl Levels {
     fn meet(&mut self, alloc: Global, bytes: &[u8], word: Word) -> Result<(), AllocError>
         ensures { OnOk result (self.new ≡ meet bytes.now self.old word) }
     {
-        let name = text(bytes, word)?;
+        let name = text(bytes, word);
         if self.reach.find(name).is_some() {
             return Ok(());
         }
-        let number = kept(self.names.len())?;
+        let number = self.names.len();
         self.reach.declare(alloc, name, number)?;
         self.names.push(Name::new(alloc, name)?)?;
         Ok(())

@@ -22,9 +22,9 @@ use crate::declared::Declared;
 use crate::fault::Fault;
 use crate::sight::Sight;
 use crate::table::Table;
-use crate::texts::{kept, name, plus, text};
+use crate::texts::{name, text};
 use sf_ast::{Item, SurfaceCommand, SurfaceNames, SurfaceProcedure, SurfaceResource, Word};
-use sf_base::{Name, Place, Var};
+use sf_base::{Counted, Name, Place, Var};
 use sf_core::{Assertion, Command, Expr, Occurrence, Proc, Resource};
 use std::alloc::{AllocError, Global};
 
@@ -40,7 +40,7 @@ fn local_words(alloc: Global, locals: &[SurfaceNames]) -> Result<Vec<Word>, Allo
 }
 
 /// The names that the body sets or passes as references.
-fn set_names(alloc: Global, bytes: &[u8], body: &[SurfaceCommand]) -> Result<Table<u32>, AllocError>
+fn set_names(alloc: Global, bytes: &[u8], body: &[SurfaceCommand]) -> Result<Table<()>, AllocError>
     ensures { IfOk result (λ t. (name : List ℕ) → has name t ≡ is_among bytes.now (set_in_all (surface_commands (map surface_command body.now))) name) }
 {
     let mut words = Vec::new(alloc);
@@ -49,110 +49,113 @@ fn set_names(alloc: Global, bytes: &[u8], body: &[SurfaceCommand]) -> Result<Tab
 }
 
 /// The texts of those words.
-fn names_among(alloc: Global, bytes: &[u8], words: &[Word]) -> Result<Table<u32>, AllocError>
+fn names_among(alloc: Global, bytes: &[u8], words: &[Word]) -> Result<Table<()>, AllocError>
     ensures { IfOk result (λ t. (name : List ℕ) → has name t ≡ is_among bytes.now words.now name) }
 {
     let mut found = Table::new(alloc);
     for word in words {
-        declare_quietly(alloc, bytes, *word, 0, &mut found)?;
+        declare_quietly(alloc, bytes, *word, (), &mut found)?;
     }
     Ok(found)
 }
 
 /// Whether the word's text is one of those names.
-fn is_primed(bytes: &[u8], set: &Table<u32>, word: Word) -> Result<bool, AllocError>
-    ensures { IfOk result (λ r. r ≡ has (word_text bytes.now word) set.now) }
+fn is_primed(bytes: &[u8], set: &Table<()>, word: Word) -> bool
+    ensures { result ≡ has (word_text bytes.now word) set.now }
 {
-    Ok(set.find(text(bytes, word)?).is_some())
-}
-
-/// Declares values as the body sees them: the one of number `k` stands for itself, or where its
-/// name is set for its primed local, of which the next has number `p`.
-fn declare_values(
-    alloc: Global,
-    bytes: &[u8],
-    set: &Table<u32>,
-    k: usize,
-    p: usize,
-    words: &[Word],
-    own: &mut Table<Var>,
-) -> Result<(), AllocError>
-    ensures { OnOk result (own.new ≡ body_values bytes.now (λ w. has (word_text bytes.now w) set.now) k p words.now own.old) }
-{
-    let mut number = k;
-    let mut primed = p;
-    for word in words {
-        if is_primed(bytes, set, *word)? {
-            declare_quietly(alloc, bytes, *word, Var::Own(kept(primed)?), own)?;
-            primed = plus(primed, 1)?;
-        } else {
-            declare_quietly(alloc, bytes, *word, Var::Own(kept(number)?), own)?;
-        }
-        number = plus(number, 1)?;
-    }
-    Ok(())
+    set.find(text(bytes, word)).is_some()
 }
 
 /// A name with a prime.
-fn primed_name(alloc: Global, name: &str) -> Result<Name, AllocError>
+fn primed_name(alloc: Global, name: &[u8]) -> Result<Name, AllocError>
     ensures { IfOk result (λ n. n ≡ name.now ++ 39 ∷ []) }
 {
-    let mut text = String::from_str(alloc, name)?;
-    text.push('\'')?;
-    Name::new(alloc, text.as_str())
-}
-
-/// Appends the names of the primed locals.
-fn add_primed_names(
-    alloc: Global,
-    bytes: &[u8],
-    set: &Table<u32>,
-    words: &[Word],
-    done: &mut Vec<Name>,
-) -> Result<(), AllocError>
-    ensures { OnOk result (done.new.items ≡ done.old.items ++ map (λ w. word_text bytes.now w ++ 39 ∷ []) (filter (λ w. has (word_text bytes.now w) set.now) words.now)) }
-{
-    for word in words {
-        if is_primed(bytes, set, *word)? {
-            done.push(primed_name(alloc, text(bytes, *word)?)?)?;
-        }
-    }
-    Ok(())
+    let mut bytes = Vec::from_slice(alloc, name)?;
+    bytes.push(b'\'')?;
+    Name::new(alloc, &bytes)
 }
 
 /// An own variable at that place.
-fn own_at(place: Place, number: usize) -> Result<Occurrence, AllocError>
-    ensures { IfOk result (λ x. x ≡ record { var = Own number; place = place }) }
+fn own_at(place: Place, number: u32) -> Occurrence
+    ensures { result ≡ record { var = Own number; place = place } }
 {
-    Ok(Occurrence {
-        var: Var::Own(kept(number)?),
+    Occurrence {
+        var: Var::Own(number),
         place,
-    })
+    }
 }
 
-/// Appends the assignments with which a body begins.
-fn add_first(
+/// What a body sees and begins with, as far as its variables are declared.
+#[derive(Drop)]
+struct Begun {
+    /// Those that are declared.
+    declared: Counted<Word>,
+    /// What they stand for.
+    own: Table<Var>,
+    /// The names of all own variables by number, the last being those of primed locals.
+    names: Counted<Name>,
+    /// The assignments with which the body begins.
+    first: Vec<Command>,
+}
+
+/// Declares a value as the body sees it: it stands for itself, or where its name is set for a primed
+/// local, which has the next number behind all names and the value's own value at first.
+fn declare_value(
+    alloc: Global,
     bytes: &[u8],
-    set: &Table<u32>,
+    set: &Table<()>,
     at: Place,
-    k: usize,
-    p: usize,
-    words: &[Word],
-    done: &mut Vec<Command>,
+    word: Word,
+    body: &mut Begun,
 ) -> Result<(), AllocError>
-    ensures { OnOk result (map core.command_of done.new.items ≡ map core.command_of done.old.items ++ first_assignments (λ w. has (word_text bytes.now w) set.now) at k p words.now) }
+    ensures declared { OnOk result (body.new.declared ≡ body.old.declared ++ word ∷ []) }
+    ensures own { OnOk result (body.new.own ≡ body_values bytes.now (λ w. has (word_text bytes.now w) set.now) (length body.old.declared) (length body.old.names) (word ∷ []) body.old.own) }
+    ensures names { OnOk result (body.new.names ≡ body.old.names ++ map (λ w. word_text bytes.now w ++ 39 ∷ []) (filter (λ w. has (word_text bytes.now w) set.now) (word ∷ []))) }
+    ensures first { OnOk result (map core.command_of body.new.first.items ≡ map core.command_of body.old.first.items ++ first_assignments (λ w. has (word_text bytes.now w) set.now) at (length body.old.declared) (length body.old.names) (word ∷ [])) }
 {
-    let mut number = k;
-    let mut primed = p;
+    let number = body.declared.len();
+    body.declared.push(word)?;
+    if is_primed(bytes, set, word) {
+        let primed = body.names.len();
+        let value = own_at(at, number);
+        body.names.push(primed_name(alloc, text(bytes, word))?)?;
+        body.first
+            .push(Command::Assign(at, own_at(at, primed), Expr::Var(value)))?;
+        declare_quietly(alloc, bytes, word, Var::Own(primed), &mut body.own)
+    } else {
+        declare_quietly(alloc, bytes, word, Var::Own(number), &mut body.own)
+    }
+}
+
+/// Declares values as the body sees them, one after the other.
+fn declare_values(
+    alloc: Global,
+    bytes: &[u8],
+    set: &Table<()>,
+    at: Place,
+    words: &[Word],
+    body: &mut Begun,
+) -> Result<(), AllocError>
+    ensures declared { OnOk result (body.new.declared ≡ body.old.declared ++ words.now) }
+    ensures own { OnOk result (body.new.own ≡ body_values bytes.now (λ w. has (word_text bytes.now w) set.now) (length body.old.declared) (length body.old.names) words.now body.old.own) }
+    ensures names { OnOk result (body.new.names ≡ body.old.names ++ map (λ w. word_text bytes.now w ++ 39 ∷ []) (filter (λ w. has (word_text bytes.now w) set.now) words.now)) }
+    ensures first { OnOk result (map core.command_of body.new.first.items ≡ map core.command_of body.old.first.items ++ first_assignments (λ w. has (word_text bytes.now w) set.now) at (length body.old.declared) (length body.old.names) words.now) }
+{
     for word in words {
-        if is_primed(bytes, set, *word)? {
-            let value = own_at(at, number)?;
-            done.push(Command::Assign(at, own_at(at, primed)?, Expr::Var(value)))?;
-            primed = plus(primed, 1)?;
-        }
-        number = plus(number, 1)?;
+        declare_value(alloc, bytes, set, at, *word, body)?;
     }
     Ok(())
+}
+
+/// The parameters of a procedure.
+#[derive(Drop)]
+struct Signature {
+    /// Their words by number.
+    words: Counted<Word>,
+    /// How many of them are references.
+    references: u32,
+    /// What they stand for in pre and post.
+    own: Table<Var>,
 }
 
 /// The parameters, as pre and post see them.
@@ -161,123 +164,108 @@ fn parameters(
     bytes: &[u8],
     f: &SurfaceProcedure,
     found: &mut Vec<Fault>,
-) -> Result<Table<Var>, AllocError>
-    ensures table { IfOk result (λ t. t ≡ parameters_of bytes.now (surface_procedure f.now)) }
+) -> Result<Signature, AllocError>
+    ensures words { IfOk result (λ x. x.words ≡ references_of (surface_procedure f.now).parameters ++ values_of (surface_procedure f.now).parameters) }
+    ensures references { IfOk result (λ x. x.references ≡ length (references_of (surface_procedure f.now).parameters)) }
+    ensures own { IfOk result (λ x. x.own ≡ parameters_of bytes.now (surface_procedure f.now)) }
     ensures faults { OnOk result (found.new.items ≡ found.old.items ++ parameter_faults bytes.now (surface_procedure f.now)) }
 {
-    let references = references_of(&f.parameters);
+    let mut words = Counted::new(alloc);
     let mut own = Table::new(alloc);
-    declare_own(alloc, bytes, 0, references, &mut own, found)?;
+    let references = references_of(&f.parameters);
+    declare_own(alloc, bytes, references, &mut words, &mut own, found)?;
+    let references = words.len();
     let values = values_of(&f.parameters);
-    declare_own(alloc, bytes, references.len(), values, &mut own, found)?;
-    Ok(own)
+    declare_own(alloc, bytes, values, &mut words, &mut own, found)?;
+    Ok(Signature {
+        words,
+        references,
+        own,
+    })
 }
 
-/// How many parameters there are.
-fn parameter_count(f: &SurfaceProcedure) -> Result<usize, AllocError>
-    ensures { IfOk result (λ n. n ≡ parameter_count (surface_procedure f.now)) }
-{
-    plus(
-        references_of(&f.parameters).len(),
-        values_of(&f.parameters).len(),
-    )
-}
-
-/// Parameters and locals as the body sees them. What is wrong with them was noted before.
-fn body_variables(
+/// The names of parameters and declared locals.
+fn declared_names(
     alloc: Global,
     bytes: &[u8],
-    set: &Table<u32>,
     f: &SurfaceProcedure,
     locals: &[Word],
-) -> Result<Table<Var>, AllocError>
-    requires locals { locals.now ≡ local_words (surface_procedure f.now).locals }
-    requires set { (name : List ℕ) → has name set.now ≡ is_among bytes.now (set_in_all (surface_procedure f.now).body) name }
-    ensures { IfOk result (λ t. t ≡ body_variables bytes.now (surface_procedure f.now)) }
+) -> Result<Counted<Name>, AllocError>
+    requires { locals.now ≡ local_words (surface_procedure f.now).locals }
+    ensures same { IfOk result (λ v. v ≡ map (word_text bytes.now) (references_of (surface_procedure f.now).parameters) ++ map (word_text bytes.now) (values_of (surface_procedure f.now).parameters) ++ map (word_text bytes.now) (local_words (surface_procedure f.now).locals)) }
+    ensures count { IfOk result (λ v. length v ≡ declared_count (surface_procedure f.now)) }
 {
-    let references = references_of(&f.parameters);
-    let count = parameter_count(f)?;
-    let declared = plus(count, locals.len())?;
-    let mut noted = Vec::new(alloc);
-    let mut own = Table::new(alloc);
-    declare_own(alloc, bytes, 0, references, &mut own, &mut noted)?;
-    let values = values_of(&f.parameters);
-    declare_values(
-        alloc,
-        bytes,
-        set,
-        references.len(),
-        declared,
-        values,
-        &mut own,
-    )?;
-    declare_own(alloc, bytes, count, locals, &mut own, &mut noted)?;
-    Ok(own)
-}
-
-/// The names of all own variables.
-fn own_names(
-    alloc: Global,
-    bytes: &[u8],
-    set: &Table<u32>,
-    f: &SurfaceProcedure,
-    locals: &[Word],
-) -> Result<Vec<Name>, AllocError>
-    requires locals { locals.now ≡ local_words (surface_procedure f.now).locals }
-    requires set { (name : List ℕ) → has name set.now ≡ is_among bytes.now (set_in_all (surface_procedure f.now).body) name }
-    ensures { IfOk result (λ v. v.items ≡ own_names bytes.now (surface_procedure f.now)) }
-{
-    let mut done = Vec::new(alloc);
+    let mut done = Counted::new(alloc);
     add_texts(alloc, bytes, references_of(&f.parameters), &mut done)?;
     add_texts(alloc, bytes, values_of(&f.parameters), &mut done)?;
     add_texts(alloc, bytes, locals, &mut done)?;
-    add_primed_names(alloc, bytes, set, values_of(&f.parameters), &mut done)?;
     Ok(done)
 }
 
-/// The assignments with which a procedure's body begins.
-fn first_commands(
+/// What a procedure's body sees and begins with. What is wrong with its variables was noted before.
+fn beginning(
     alloc: Global,
     bytes: &[u8],
-    set: &Table<u32>,
+    set: &Table<()>,
     f: &SurfaceProcedure,
     locals: &[Word],
-) -> Result<Vec<Command>, AllocError>
+) -> Result<Begun, AllocError>
     requires locals { locals.now ≡ local_words (surface_procedure f.now).locals }
     requires set { (name : List ℕ) → has name set.now ≡ is_among bytes.now (set_in_all (surface_procedure f.now).body) name }
-    ensures { IfOk result (λ v. map core.command_of v.items ≡ first_assignments (is_primed bytes.now (surface_procedure f.now)) f.now.open (length (references_of (surface_procedure f.now).parameters)) (declared_count (surface_procedure f.now)) (values_of (surface_procedure f.now).parameters)) }
+    ensures own { IfOk result (λ x. x.own ≡ body_variables bytes.now (surface_procedure f.now)) }
+    ensures names { IfOk result (λ x. x.names ≡ own_names bytes.now (surface_procedure f.now)) }
+    ensures first { IfOk result (λ x. map core.command_of x.first.items ≡ first_assignments (is_primed bytes.now (surface_procedure f.now)) f.now.open (length (references_of (surface_procedure f.now).parameters)) (declared_count (surface_procedure f.now)) (values_of (surface_procedure f.now).parameters)) }
 {
-    let references = references_of(&f.parameters).len();
+    let mut noted = Vec::new(alloc);
+    let mut body = Begun {
+        declared: Counted::new(alloc),
+        own: Table::new(alloc),
+        names: declared_names(alloc, bytes, f, locals)?,
+        first: Vec::new(alloc),
+    };
+    let references = references_of(&f.parameters);
+    declare_own(
+        alloc,
+        bytes,
+        references,
+        &mut body.declared,
+        &mut body.own,
+        &mut noted,
+    )?;
     let values = values_of(&f.parameters);
-    let count = plus(parameter_count(f)?, locals.len())?;
-    let mut done = Vec::new(alloc);
-    add_first(bytes, set, f.open, references, count, values, &mut done)?;
-    Ok(done)
+    declare_values(alloc, bytes, set, f.open, values, &mut body)?;
+    declare_own(
+        alloc,
+        bytes,
+        locals,
+        &mut body.declared,
+        &mut body.own,
+        &mut noted,
+    )?;
+    Ok(body)
 }
 
-/// A procedure's body.
-fn body(
+/// The commands of a procedure's body, behind those with which it begins.
+fn commands(
     alloc: Global,
     bytes: &[u8],
     declared: &Declared,
-    set: &Table<u32>,
+    own: &Table<Var>,
     f: &SurfaceProcedure,
-    locals: &[Word],
+    first: Vec<Command>,
     found: &mut Vec<Fault>,
 ) -> Result<Vec<Command>, AllocError>
-    requires locals { locals.now ≡ local_words (surface_procedure f.now).locals }
-    requires set { (name : List ℕ) → has name set.now ≡ is_among bytes.now (set_in_all (surface_procedure f.now).body) name }
-    ensures same { IfOk result (λ v. map core.command_of v.items ≡ first_assignments (is_primed bytes.now (surface_procedure f.now)) f.now.open (length (references_of (surface_procedure f.now).parameters)) (declared_count (surface_procedure f.now)) (values_of (surface_procedure f.now).parameters) ++ commands_of (inside_of bytes.now declared.now (surface_procedure f.now)) (surface_procedure f.now).body) }
+    requires { own.now ≡ body_variables bytes.now (surface_procedure f.now) }
+    ensures same { IfOk result (λ v. map core.command_of v.items ≡ map core.command_of first.items ++ commands_of (inside_of bytes.now declared.now (surface_procedure f.now)) (surface_procedure f.now).body) }
     ensures faults { OnOk result (found.new.items ≡ found.old.items ++ commands_faults (inside_of bytes.now declared.now (surface_procedure f.now)) (surface_procedure f.now).body) }
 {
-    let own = body_variables(alloc, bytes, set, f, locals)?;
     let sight = Sight {
         bytes,
         declared,
-        own: &own,
+        own,
         in_invariant: false,
     };
-    let mut done = first_commands(alloc, bytes, set, f, locals)?;
+    let mut done = first;
     add_commands(alloc, &sight, &f.body, &mut done, found)?;
     Ok(done)
 }
@@ -307,27 +295,48 @@ fn notes(
     Ok((pre, post))
 }
 
+/// A procedure's body, and its own variables.
+#[derive(Drop)]
+struct Body {
+    /// How many locals are declared.
+    locals: u32,
+    /// The names of all own variables by number.
+    names: Vec<Name>,
+    /// The commands.
+    body: Vec<Command>,
+}
+
 /// A procedure's body, and the names of all its own variables.
 fn inside(
     alloc: Global,
     bytes: &[u8],
     declared: &Declared,
     f: &SurfaceProcedure,
-    locals: &[Word],
-    own: &mut Table<Var>,
+    parameters: Signature,
     found: &mut Vec<Fault>,
-) -> Result<(Vec<Command>, Vec<Name>), AllocError>
-    requires locals { locals.now ≡ local_words (surface_procedure f.now).locals }
-    requires own { own.old ≡ parameters_of bytes.now (surface_procedure f.now) }
-    ensures body { IfOk result (λ x. core.block_of x.0.items ≡ (procedure_of bytes.now declared.now (surface_procedure f.now)).body) }
-    ensures names { IfOk result (λ x. x.1.items ≡ own_names bytes.now (surface_procedure f.now)) }
+) -> Result<Body, AllocError>
+    requires words { parameters.words ≡ references_of (surface_procedure f.now).parameters ++ values_of (surface_procedure f.now).parameters }
+    requires own { parameters.own ≡ parameters_of bytes.now (surface_procedure f.now) }
+    ensures locals { IfOk result (λ x. x.locals ≡ length (local_words (surface_procedure f.now).locals)) }
+    ensures body { IfOk result (λ x. core.block_of x.body.items ≡ (procedure_of bytes.now declared.now (surface_procedure f.now)).body) }
+    ensures names { IfOk result (λ x. x.names.items ≡ own_names bytes.now (surface_procedure f.now)) }
     ensures faults { OnOk result (found.new.items ≡ found.old.items ++ local_faults bytes.now (surface_procedure f.now) ++ commands_faults (inside_of bytes.now declared.now (surface_procedure f.now)) (surface_procedure f.now).body) }
 {
-    declare_own(alloc, bytes, parameter_count(f)?, locals, own, found)?;
+    let mut words = parameters.words;
+    let mut own = parameters.own;
+    let count = words.len();
+    let locals = local_words(alloc, &f.locals)?;
+    declare_own(alloc, bytes, &locals, &mut words, &mut own, found)?;
     let set = set_names(alloc, bytes, &f.body)?;
-    let body = body(alloc, bytes, declared, &set, f, locals, found)?;
-    let names = own_names(alloc, bytes, &set, f, locals)?;
-    Ok((body, names))
+    let begun = beginning(alloc, bytes, &set, f, &locals)?;
+    let first = begun.first;
+    let names = begun.names.into_vec();
+    let body = commands(alloc, bytes, declared, &begun.own, f, first, found)?;
+    Ok(Body {
+        locals: words.len() - count,
+        names,
+        body,
+    })
 }
 
 /// A procedure.
@@ -341,23 +350,22 @@ fn procedure(
     ensures same { IfOk result (λ x. core.procedure_of x ≡ procedure_of bytes.now declared.now (surface_procedure f.now)) }
     ensures faults { OnOk result (found.new.items ≡ found.old.items ++ procedure_faults bytes.now declared.now (surface_procedure f.now)) }
 {
-    let references = kept(references_of(&f.parameters).len())?;
-    let values = kept(values_of(&f.parameters).len())?;
-    let locals = local_words(alloc, &f.locals)?;
     let name = name(alloc, bytes, f.name)?;
-    let mut own = parameters(alloc, bytes, f, found)?;
-    let (pre, post) = notes(alloc, bytes, declared, &own, f, found)?;
-    let (body, names) = inside(alloc, bytes, declared, f, &locals, &mut own, found)?;
+    let parameters = parameters(alloc, bytes, f, found)?;
+    let references = parameters.references;
+    let values = parameters.words.len() - references;
+    let (pre, post) = notes(alloc, bytes, declared, &parameters.own, f, found)?;
+    let inside = inside(alloc, bytes, declared, f, parameters, found)?;
     Ok(Proc {
         name,
         place: f.name.place,
-        names,
+        names: inside.names,
         references,
         values,
-        locals: kept(locals.len())?,
+        locals: inside.locals,
         pre,
         post,
-        body,
+        body: inside.body,
         end: f.close,
     })
 }
@@ -366,14 +374,23 @@ fn procedure(
 fn variables(
     alloc: Global,
     bytes: &[u8],
-    number: usize,
+    number: u32,
     words: &[Word],
 ) -> Result<Table<Var>, AllocError>
     ensures { IfOk result (λ t. t ≡ numbered bytes.now (shared_by number) 0 words.now []) }
 {
     let mut noted = Vec::new(alloc);
+    let mut declared = Counted::new(alloc);
     let mut own = Table::new(alloc);
-    declare_shared(alloc, bytes, kept(number)?, 0, words, &mut own, &mut noted)?;
+    declare_shared(
+        alloc,
+        bytes,
+        number,
+        words,
+        &mut declared,
+        &mut own,
+        &mut noted,
+    )?;
     Ok(own)
 }
 
@@ -382,7 +399,7 @@ fn invariant(
     alloc: Global,
     bytes: &[u8],
     declared: &Declared,
-    number: usize,
+    number: u32,
     r: &SurfaceResource,
     found: &mut Vec<Fault>,
 ) -> Result<Assertion, AllocError>
@@ -404,7 +421,7 @@ fn resource(
     alloc: Global,
     bytes: &[u8],
     declared: &Declared,
-    number: usize,
+    number: u32,
     r: &SurfaceResource,
     found: &mut Vec<Fault>,
 ) -> Result<Resource, AllocError>
@@ -432,16 +449,14 @@ pub fn resources(
     ensures same { IfOk result (λ v. map core.resource_of v.items ≡ resources_from bytes.now declared.now 0 (resources_in (map item_of items.now))) }
     ensures faults { OnOk result (found.new.items ≡ found.old.items ++ invariants_faults bytes.now declared.now 0 (resources_in (map item_of items.now))) }
 {
-    let mut number = 0;
-    let mut done = Vec::new(alloc);
+    let mut done = Counted::new(alloc);
     for item in items {
         if let Item::Resource(one) = item {
-            let one = resource(alloc, bytes, declared, number, one, found)?;
+            let one = resource(alloc, bytes, declared, done.len(), one, found)?;
             done.push(one)?;
-            number = plus(number, 1)?;
         }
     }
-    Ok(done)
+    Ok(done.into_vec())
 }
 
 /// The procedures of a file.

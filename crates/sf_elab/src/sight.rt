@@ -51,17 +51,17 @@ pub fn expr_place(e: SurfaceExpr) -> Place
 
 impl Sight<'_> {
     /// The variable of that name.
-    fn variable(&self, word: Word) -> Result<Option<Var>, AllocError>
-        ensures { IfOk result (λ x. x ≡ variable (sight_of self.now) word) }
+    fn variable(&self, word: Word) -> Option<Var>
+        ensures { result ≡ variable (sight_of self.now) word }
     {
-        let name = text(self.bytes, word)?;
+        let name = text(self.bytes, word);
         match self.own.find(name) {
-            Some(found) => Ok(Some(found)),
+            Some(found) => Some(found),
             None => {
                 if self.in_invariant {
-                    Ok(None)
+                    None
                 } else {
-                    Ok(self.declared.shared.find(name))
+                    self.declared.shared.find(name)
                 }
             }
         }
@@ -72,13 +72,13 @@ impl Sight<'_> {
         ensures same { IfOk result (λ x. x ≡ occurrence (sight_of self.now) word) }
         ensures faults { OnOk result (found.new.items ≡ found.old.items ++ variable_faults (sight_of self.now) word) }
     {
-        let var = self.variable(word)?;
+        let var = self.variable(word);
         let fault = if self.in_invariant {
             Fault::Foreign(word)
         } else {
             Fault::Unknown(word)
         };
-        note_where(!var.is_some(), fault, found)?;
+        note_where(var.is_none(), fault, found)?;
         Ok(Occurrence {
             var: var.unwrap_or(Var::Own(0)),
             place: word.place,
@@ -133,8 +133,8 @@ impl Sight<'_> {
         ensures same { IfOk result (λ x. x ≡ field_of (sight_of self.now) word) }
         ensures faults { OnOk result (found.new.items ≡ found.old.items ++ field_faults (sight_of self.now) word) }
     {
-        let field = self.declared.fields.find(text(self.bytes, word)?);
-        note_where(!field.is_some(), Fault::Unknown(word), found)?;
+        let field = self.declared.fields.find(text(self.bytes, word));
+        note_where(field.is_none(), Fault::Unknown(word), found)?;
         Ok(field.unwrap_or(FieldId(0)))
     }
 
@@ -143,8 +143,8 @@ impl Sight<'_> {
         ensures same { IfOk result (λ x. x ≡ resource_named (sight_of self.now) word) }
         ensures faults { OnOk result (found.new.items ≡ found.old.items ++ resource_faults (sight_of self.now) word) }
     {
-        let resource = self.declared.resources.find(text(self.bytes, word)?);
-        note_where(!resource.is_some(), Fault::Unknown(word), found)?;
+        let resource = self.declared.resources.find(text(self.bytes, word));
+        note_where(resource.is_none(), Fault::Unknown(word), found)?;
         Ok(resource.unwrap_or(ResId(0)))
     }
 }

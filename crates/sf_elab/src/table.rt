@@ -11,16 +11,15 @@ use std::marker::Model;
 /// declared.
 #[derive(Drop)]
 pub struct Table<V> {
-    entries: IndexMap<String, V>,
+    entries: IndexMap<Vec<u8>, V>,
 }
 
 impl<V> Model for Table<V> {
     ghost use Rattle.std.specs.Prelude.{List, ℕ, map};
-    ghost use Rattle.std.specs.String.{string_bytes};
 
     ghost Value = { List (List ℕ × V) };
 
-    ghost view = { λ t. map (λ e. (string_bytes e.0, e.1)) t.entries.entries };
+    ghost view = { λ t. map (λ e. (e.0.items, e.1)) t.entries.entries };
 }
 
 impl<V: Copy> Table<V> {
@@ -34,20 +33,20 @@ impl<V: Copy> Table<V> {
     }
 
     /// What the name stands for.
-    pub fn find(&self, name: &str) -> Option<V>
+    pub fn find(&self, name: &[u8]) -> Option<V>
         ensures { result ≡ find name.now self.now }
     {
         self.entries.get(name).copied()
     }
 
     /// Has the name stand for that, unless it stands for something.
-    pub fn declare(&mut self, alloc: Global, name: &str, value: V) -> Result<(), AllocError>
+    pub fn declare(&mut self, alloc: Global, name: &[u8], value: V) -> Result<(), AllocError>
         ensures { OnOk result (self.new ≡ declare name.now value self.old) }
     {
         if self.find(name).is_some() {
             return Ok(());
         }
-        self.entries.insert(String::from_str(alloc, name)?, value)?;
+        self.entries.insert(Vec::from_slice(alloc, name)?, value)?;
         Ok(())
     }
 

@@ -18,7 +18,7 @@ pub(crate) fn room_for(
     ensures err { OnErr result (result ≡ Err FetchFault.OutOfMemory) }
 {
     failed.reserve(1)?;
-    Ok(Name::new(alloc, name)?)
+    Ok(Name::new(alloc, name.as_bytes())?)
 }
 
 /// Adds the name of a file whose fetch failed to the list, which has room for it, and answers so.

@@ -41,7 +41,7 @@ fn copy_names(alloc: Global, names: &[Name]) -> Result<Vec<Name>, AllocError>
 {
     let mut copy = Vec::with_capacity(alloc, names.len())?;
     for name in names {
-        copy.push(Name::new(alloc, name.as_str())?)?;
+        copy.push(Name::new(alloc, name.as_bytes())?)?;
     }
     Ok(copy)
 }

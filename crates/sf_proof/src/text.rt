@@ -65,13 +65,13 @@ fn put_split(text: &mut Vec<u8>, t: Term, u: Term) -> Result<(), AllocError>
 }
 
 /// The name of the procedure of that number, empty where there is none.
-pub fn name_of(p: &Program, f: ProcId) -> &str
+pub fn name_of(p: &Program, f: ProcId) -> &[u8]
     ensures { result.now ≡ name_of (program_of p.now) f }
 {
     if (f.0 as usize) < p.procedures.len() {
-        return p.proc(f).name.as_str();
+        return p.proc(f).name.as_bytes();
     }
-    ""
+    &[]
 }
 
 /// Appends the tag that begins a procedure. An `Err` is want of memory.
@@ -79,7 +79,8 @@ fn put_procedure(text: &mut Vec<u8>, p: &Program, f: ProcId) -> Result<(), Alloc
     ensures { OnOk result (text.new.items ≡ text.old.items ++ procedure_text (program_of p.now) f) }
 {
     put(text, "procedure ")?;
-    put(text, name_of(p, f))
+    text.extend_from_slice(name_of(p, f))?;
+    Ok(())
 }
 
 /// Appends a tag. An `Err` is want of memory.

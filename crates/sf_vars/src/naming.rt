@@ -43,11 +43,11 @@ fn variable_name(alloc: Global, p: &Program, f: ProcId, x: Var) -> Result<Name, 
     ensures { IfOk result (λ name. IsVariableName (program_of p.now) f x name) }
 {
     match x {
-        Var::Own(n) => Name::new(alloc, p.proc(f).names[n as usize].as_str()),
+        Var::Own(n) => Name::new(alloc, p.proc(f).names[n as usize].as_bytes()),
         Var::Shared(r, i) => {
             Name::new(
                 alloc,
-                p.resources[r.0 as usize].variables[i as usize].as_str(),
+                p.resources[r.0 as usize].variables[i as usize].as_bytes(),
             )
         }
     }
@@ -58,5 +58,5 @@ fn resource_name(alloc: Global, p: &Program, r: ResId) -> Result<Name, AllocErro
     requires { r.0 < length p.now.resources.items }
     ensures { IfOk result (λ name. IsResourceName (program_of p.now) r name) }
 {
-    Name::new(alloc, p.resources[r.0 as usize].name.as_str())
+    Name::new(alloc, p.resources[r.0 as usize].name.as_bytes())
 }
