@@ -1,5 +1,5 @@
 -- A branch's order rests on nothing around it, once all that it takes from there is known.
-use Rattle.std.proofs.Common.{◌≡◌, ℕ, Bool, true, false, not, ◌&&◌, Some, None, Result, Ok, Err, IfErr, refl, sym, ap, ap₂, ◌∙◌, subst, inl, inr}
+use Rattle.std.proofs.Common.{◌≡◌, ℕ, Bool, true, false, not, ◌&&◌, Option, Some, None, Result, Ok, Err, IfErr, refl, sym, ap, ap₂, ◌∙◌, subst, inl, inr}
 use Rattle.sf_base.specs.declared.place.Place.{Place}
 use Rattle.sf_core.specs.declared.assertion.Operand.{Operand}
 use Rattle.sf_core.specs.declared.assertion.Operand.TheVariants.{Exists}
@@ -13,7 +13,7 @@ use Rattle.sf_core.specs.Syntax.{choose, Conjuncts, Level, level}
 use Rattle.sf_precise.specs.declared.fault.OrderFault.{OrderFault}
 use Rattle.sf_precise.specs.declared.fault.OrderFault.TheVariants.{Undetermined, OutOfMemory}
 use Rattle.sf_precise.specs.Order.{IsOrder, IsOrderFrom}
-use Rattle.sf_precise.specs.Prepared.{IsBranch, IsSuppliedLevel}
+use Rattle.sf_precise.specs.Prepared.{IsBranch, IsPrepared, IsSuppliedLevel, joined}
 use Rattle.sf_precise.specs.Taken.{IfUndetermined, NeverTakenFrom}
 use Rattle.sf_precise.specs.Waits.{known_outside}
 use Rattle.sf_precise.proofs.Agree.{agree-is_order, agree-order}
@@ -50,6 +50,12 @@ module _ {E : Type 0} where
 
   pub choice-never_that : (known : ℕ → Bool) (p : Place) (t : Test (Operand E)) (this that : Level E) → IsBranch that None → CanBeTaken known (choose p t this that) → ⊥
   choice-never_that known p t this that n f = n known (λ k o. taken-supplied known (choose p t this that) p t this that refl f k (inr (inr o))) (taken-branches known p t this that f).1
+
+  -- a choice is prepared where its branches are in order, or have none
+  pub choice-prepared : (p : Place) (t : Test (Operand E)) (this that : Level E) (a b : Option (Level E)) → IsBranch this a → IsBranch that b → IsPrepared (choose p t this that) (joined p t a b)
+  choice-prepared p t this that None b i j = λ known f. choice-never_this known p t this that i f
+  choice-prepared p t this that (Some o) None i j = λ known f. choice-never_that known p t this that j f
+  choice-prepared p t this that (Some o) (Some u) i j = λ known s. (this, that, refl, i known (λ n k. s n (inr (inl k))), j known (λ n k. s n (inr (inr k))))
 
   -- a level in order is determined, and one with a conjunct that is never taken is not
   pub ordered-determined : (a o : Level E) → IsOrderFrom (λ n. false) a o → Determined a

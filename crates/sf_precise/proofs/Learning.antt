@@ -1,12 +1,13 @@
 -- What the work on jobs is once existentials became known.
 -- Names: `learns-LAW` speaks of existentials that become known, `with-LAW` of what is known with some more of them.
-use Rattle.std.proofs.Common.{◌≡◌, ℕ, ◌+◌, ◌-◌, ◌<◌, ◌≤◌, ◌==◌, Bool, true, false, not, ◌&&◌, ◌||◌, cond, List, [], ◌∷◌, ◌++◌, length, count_by, slice_get, slice_index_or, Option, Some, None, Vec, Contains, get_or, take, zero, suc, add-one, append_assoc, refl, sym, ap, ◌∙◌, subst, arith}
+use Rattle.std.proofs.Common.{◌≡◌, ℕ, ◌+◌, ◌-◌, ◌<◌, ◌≤◌, ◌==◌, Bool, true, false, not, ◌&&◌, ◌||◌, cond, List, [], ◌∷◌, ◌++◌, length, count_by, slice_get, slice_index_or, Option, Some, None, Vec, All, Contains, get_or, take, zero, suc, add-one, append_assoc, refl, sym, ap, ◌∙◌, subst, arith}
 use Rattle.std.specs.List.{list_any}
 use Rattle.std.specs.Ordering.{nat_cmp}
 use Rattle.std.specs.BTreeMap.{BTreeMap, get, is_at, Updates}
 use Rattle.std.specs.declared.alloc.Global.{Global}
 use Rattle.std.proofs.lemmas.Bool.Decides.{nat_tests}
 use Rattle.std.proofs.Math.Bool.{or_assoc}
+use Rattle.std.proofs.lemmas.List.Elements.{All-contains_itself}
 use Rattle.std.proofs.lemmas.List.Folds.{list_any-append}
 use Rattle.std.proofs.lemmas.List.Sums.{sum_by-cons}
 use Rattle.std.proofs.lemmas.Bool.{cases_lt}
@@ -19,7 +20,7 @@ use Rattle.sf_core.proofs.Cases.{either}
 use Rattle.sf_precise.specs.declared.work.Work.{Work}
 use Rattle.sf_precise.specs.Outer.{existential, field_existentials}
 use Rattle.sf_precise.specs.Waits.{Job}
-use Rattle.sf_precise.specs.Work.{IsWork, Learns, Serves, is_ready, is_served, items_or_none, known_with, row, work_left}
+use Rattle.sf_precise.specs.Work.{IsWork, Learns, Serves, WaitsWithin, is_ready, is_served, items_or_none, known_with, row, work_left}
 
 pub or-false : (a : Bool) → (a || false) ≡ a
 or-false true = refl
@@ -39,6 +40,7 @@ with-both ns ms known n = or_assoc (known n) (list_any (λ m. m == n) ns) (list_
 pub learns-none : (w : Work) → Learns [] w w
 learns-none w = record {
   work = λ jobs known taken is. work-same jobs known (known_with [] known) taken w (with-none known) is;
+  within = λ h. h;
   left = omega arith;
 }
 
@@ -46,6 +48,7 @@ learns-none w = record {
 pub learns-both : (ns ms : List ℕ) (u v w : Work) → Learns ns u v → Learns ms v w → Learns (ns ++ ms) u w
 learns-both ns ms u v w a b = record {
   work = λ jobs known taken is. work-same jobs (known_with ms (known_with ns known)) (known_with (ns ++ ms) known) taken w (with-both ns ms known) (b.work jobs (known_with ns known) taken (a.work jobs known taken is));
+  within = λ h. b.within (a.within h);
   left = let one : work_left v ≤ work_left u = a.left in let two : work_left w ≤ work_left v = b.left in omega arith;
 }
 
@@ -117,6 +120,21 @@ served-stays xs v w i s e = either (cases_lt i (length v.lacking.items))
     (λ h. let step : slice_index_or w.lacking.items i 1 ≡ slice_index_or v.lacking.items i 1 - count_by (λ k. k == i) xs = s.lacking i h in zero-test (slice_index_or v.lacking.items i 1) (slice_index_or w.lacking.items i 1) e (omega arith))
     (λ h. absurd (let a : true ≡ false = sym e ∙ past-test (slice_index_or v.lacking.items i 1) (get_or_past v.lacking.items i 1 h) in cc))
 
+-- what is in a row that may be taken out is in the row
+row-part : (b : Bool) (xs : List ℕ) (i : ℕ) → Contains (cond b [] xs) i → Contains xs i
+row-part true xs i c = absurd (let none : c.0 < 0 = c.1 in omega arith)
+row-part false xs i c = c
+
+-- those in a row are jobs
+pub row-within : (n : ℕ) (u : Work) (xs : List ℕ) → WaitsWithin u → row u.waiting n ≡ xs → All (λ i. i < length u.lacking.items) xs
+row-within n u xs h e = λ k d b. h n (slice_index_or xs k d) (subst (λ (ys : List ℕ). Contains ys (slice_index_or xs k d)) (sym e) (All-contains_itself xs k d b))
+
+-- whoever waits is still one of the jobs once a row was served
+served-within : (n : ℕ) (u : Work) (rest : BTreeMap ℕ (Vec ℕ Global)) (xs : List ℕ) (w : Work) → Updates nat_cmp u.waiting rest n None → Serves xs (with_rows u rest) w → WaitsWithin u → WaitsWithin w
+served-within n u rest xs w gone s h q i c =
+    let kept : row w.waiting q ≡ cond (n == q) [] (row u.waiting q) = s.waiting q ∙ row-removed u.waiting rest n gone q in
+    subst (λ (m : ℕ). i < m) (sym s.size) (h q i (row-part (n == q) (row u.waiting q) i (rw kept at c)))
+
 -- the jobs of the row of n are served, and it is taken out
 pub work-served : (jobs : List Job) (known : ℕ → Bool) (taken : List Bool) (n : ℕ) (u : Work) (rest : BTreeMap ℕ (Vec ℕ Global)) (w : Work)
     → ((q : ℕ) → row rest q ≡ cond (n == q) [] (row u.waiting q)) → Serves (row u.waiting n) (with_rows u rest) w
@@ -127,7 +145,7 @@ work-served jobs known taken n u rest w rows s is = record {
   lacking = lacking;
   rows = λ q f i j here. let k = both-false (known q) (n == q) (sym (with-one known n q) ∙ f) in rw (kept q k.1) (is.rows q k.0 i j here);
   gone = λ q t. s.waiting q ∙ rows q ∙ gone q (n == q) refl (sym (with-one known n q) ∙ t);
-  within = λ q i c. is.within q i (within q (n == q) i (rw (s.waiting q ∙ rows q) at c));
+  within = λ q i c. is.within q i (row-part (n == q) (row u.waiting q) i (rw (s.waiting q ∙ rows q) at c));
   ready = λ i. s.ready i ∙ ap (λ (b : Bool). b || (is_served w i && not (is_served u i))) (is.ready i)
       ∙ ready i;
   served = λ i t h. served-stays (row u.waiting n) (with_rows u rest) w i s (is.served i t h);
@@ -139,10 +157,6 @@ work-served jobs known taken n u rest w rows s is = record {
     gone : (q : ℕ) (b : Bool) → (n == q) ≡ b → (known q || b) ≡ true → cond b [] (row u.waiting q) ≡ []
     gone q true e t = refl
     gone q false e t = is.gone q (sym (or-false (known q)) ∙ t)
-
-    within : (q : ℕ) (b : Bool) (i : ℕ) → Contains (cond b [] (row u.waiting q)) i → Contains (row u.waiting q) i
-    within q true i c = absurd (let none : c.0 < 0 = c.1 in omega arith)
-    within q false i c = c
 
     ready : (i : ℕ) → ((is_served u i && not (slice_index_or taken i true)) || (is_served w i && not (is_served u i))) ≡ (is_served w i && not (slice_index_or taken i true))
     ready i = either (cases_lt i (length jobs))
@@ -174,6 +188,7 @@ pub learns-one : (n : ℕ) (u : Work) (rest : BTreeMap ℕ (Vec ℕ Global)) (xs
     → Serves xs (with_rows u rest) w → Learns (n ∷ []) u w
 learns-one n u rest xs w gone here s = record {
   work = λ jobs known taken is. work-served jobs known taken n u rest w (row-removed u.waiting rest n gone) (subst (λ (ys : List ℕ). Serves ys (with_rows u rest) w) (sym here) s) is;
+  within = λ h. served-within n u rest xs w gone s h;
   left = s.left;
 }
 

@@ -27,7 +27,7 @@ use Rattle.sf_precise.specs.Outer.{existential, field_existentials}
 use Rattle.sf_precise.specs.Prepared.{IsPrepared}
 use Rattle.sf_precise.specs.Taken.{IsAmong, IsFirstNeverTaken, Takes, known_by, place_at}
 use Rattle.sf_precise.specs.Waits.{Job, job_of, jobs_of, learned_from}
-use Rattle.sf_precise.specs.Work.{IsFirstLacking, IsWork, Learns, is_ready, is_served, known_with, none_taken}
+use Rattle.sf_precise.specs.Work.{IsFirstLacking, IsWork, Learns, WaitsWithin, is_ready, is_served, known_with, none_taken}
 use Rattle.sf_precise.proofs.Adding.{past-one}
 use Rattle.sf_precise.proofs.Agree.{first-leaves}
 use Rattle.sf_precise.proofs.Greedy.{within-learned}
@@ -418,6 +418,10 @@ module _ {A : Type 0} (f : A → Conjunct Expr) (start : ℕ → Bool) (cs : Lis
       → (read : Option A) → read ≡ slice_index_or parts i read → read ≡ None → ⊥
   none-read i w ready parts taken p g o read e is =
       popped-there f start cs given i w ready parts taken p g o (read-at parts i read None (let h = popped-within f start cs given i w ready parts taken p g o in let s = g.size in omega arith) e is)
+
+  -- whoever waits is one of the jobs
+  pub progress-within : (w : Work) (parts : List (Option A)) (taken : List A) → Progress f start cs given w parts taken → WaitsWithin w
+  progress-within w parts taken g n i c = subst (λ (m : ℕ). i < m) (sym g.work.size) (g.work.within n i c)
 
   -- the numbers at which something may be lacking are those of the conjuncts
   pub lacking-within : (w : Work) (parts : List (Option A)) (taken : List A) → ArePrepared f start cs given → Progress f start cs given w parts taken → (i : ℕ) → i < length w.lacking.items → i < length cs

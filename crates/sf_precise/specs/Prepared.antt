@@ -2,12 +2,21 @@
 -- stand between the code and those of Determined and Order, and needn't be believed: no public contract names them.
 -- What is known around a branch decides nothing about its order but that all that it takes from there is known.
 use Rattle.std.specs.Prelude.{◌≡◌, ℕ, Bool, true, Option, Some, None}
+use Rattle.sf_base.specs.declared.place.Place.{Place}
+use Rattle.sf_core.specs.declared.assertion.Operand.{Operand}
 use Rattle.sf_core.specs.declared.assertion.Operand.TheVariants.{Exists}
+use Rattle.sf_core.specs.declared.assertion.Test.{Test}
 use Rattle.sf_core.specs.Determined.{CanBeTaken, HasOrder, known_inside}
 use Rattle.sf_core.specs.InOrder.{IsSupplied}
 use Rattle.sf_core.specs.Occurs.{OccursIn}
-use Rattle.sf_core.specs.Syntax.{Conjunct, Level, level}
+use Rattle.sf_core.specs.Syntax.{Conjunct, choose, Level, level}
 use Rattle.sf_precise.specs.Order.{IsOrderInside, IsOrderWithin}
+
+-- the choice with its branches in order, where both have one
+abbrev pub joined : {E : Type 0} → Place → Test (Operand E) → Option (Level E) → Option (Level E) → Option (Conjunct E)
+joined p t None that = None
+joined p t (Some this) None = None
+joined p t (Some this) (Some that) = Some (choose p t this that)
 
 -- None: it can be taken from nothing that is known; else that is the conjunct, its branches in order from whatever supplies it
 abbrev pub IsPrepared : {E : Type 0} → Conjunct E → Option (Conjunct E) → Type 0

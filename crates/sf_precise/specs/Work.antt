@@ -27,6 +27,10 @@ is_served w i = slice_index_or w.lacking.items i 1 == 0
 abbrev pub is_ready : Work → ℕ → Bool
 is_ready w i = contains nat_cmp w.ready i
 
+-- whoever waits is one of the jobs
+abbrev pub WaitsWithin : Work → Type 0
+WaitsWithin w = (n i : ℕ) → Contains (row w.waiting n) i → i < length w.lacking.items
+
 -- how much work is left at most
 abbrev pub work_left : Work → ℕ
 work_left w = btree_set_len w.ready + sum w.lacking.items
@@ -61,6 +65,7 @@ pub record IsWork (jobs : List Job) (known : ℕ → Bool) (taken : List Bool) (
 -- the existentials ns become known
 pub record Learns (ns : List ℕ) (before after : Work) : Type 0 where
   pub work : (jobs : List Job) (known : ℕ → Bool) (taken : List Bool) → IsWork jobs known taken before → IsWork jobs (known_with ns known) taken after
+  pub within : WaitsWithin before → WaitsWithin after
   pub left : work_left after ≤ work_left before
 
 -- no job is taken

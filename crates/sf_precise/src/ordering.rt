@@ -7,15 +7,15 @@ ghost use Rattle.sf_core.specs.Determined.{Determined, HasOrder};
 ghost use Rattle.sf_core.specs.View.{assertion_of, conjunct_of, level_of};
 ghost use Rattle.sf_precise.specs.Order.{IsOrderFrom, IsOrderOf};
 ghost use Rattle.sf_precise.specs.Outer.{outer_of, outer_of_level};
-ghost use Rattle.sf_precise.specs.Prepared.{IsBranch, IsPrepared};
+ghost use Rattle.sf_precise.specs.Prepared.{IsBranch, IsPrepared, joined};
 ghost use Rattle.sf_precise.specs.Taken.{IfUndetermined, NeverTakenAt, NeverTakenFrom};
 ghost use Rattle.sf_precise.specs.Waits.{known_outside};
 
 use crate::fault::OrderFault;
 use crate::outer::{add_all_not_made, add_existential, add_of_fields, add_of_test};
 use crate::sequence::sequence;
-use sf_base::Name;
-use sf_core::{Assertion, Conjunct, Expr, Level, Ordered, Scope};
+use sf_base::{Name, Place};
+use sf_core::{Assertion, Conjunct, Expr, Level, Operand, Ordered, Scope, Test};
 use std::alloc::{AllocError, Global};
 
 /// The assertion with its conjuncts in order: the first ready one, in text order, and then the
@@ -146,13 +146,21 @@ fn prepare(
             add_of_test(test, outer)?;
             let this = order_branch(alloc, this, outer)?;
             let that = order_branch(alloc, that, outer)?;
-            let Some(this) = this else {
-                return Ok(None);
-            };
-            let Some(that) = that else {
-                return Ok(None);
-            };
-            Ok(Some(Conjunct::If(*place, *test, this, that)))
+            Ok(join_branches(*place, *test, this, that))
         }
     }
+}
+
+/// The choice with its branches in order, if both have one.
+fn join_branches(
+    place: Place,
+    test: Test<Operand<Expr>>,
+    this: Option<Level<Expr>>,
+    that: Option<Level<Expr>>,
+) -> Option<Conjunct<Expr>>
+    ensures { option_map conjunct_of result ≡ joined place test (option_map level_of this) (option_map level_of that) }
+{
+    let this = this?;
+    let that = that?;
+    Some(Conjunct::If(place, test, this, that))
 }

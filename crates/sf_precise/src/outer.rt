@@ -31,12 +31,7 @@ pub fn add_of_test(test: &Test<Operand<Expr>>, found: &mut Vec<u32>) -> Result<(
 {
     match test {
         Test::True => Ok(()),
-        Test::Equal(x, y) => {
-            add_existential(x, found)?;
-            add_existential(y, found)?;
-            Ok(())
-        }
-        Test::Differ(x, y) => {
+        Test::Equal(x, y) | Test::Differ(x, y) => {
             add_existential(x, found)?;
             add_existential(y, found)?;
             Ok(())

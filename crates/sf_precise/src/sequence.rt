@@ -39,10 +39,11 @@ pub fn sequence(
     let mut work = begin(alloc, start, cs, &parts, outers)?;
     let mut taken = Vec::new(alloc);
     while let Some(i) = take_first(&mut work.ready) {
-        if let Some(c) = parts[i].take() {
-            work.learn_from(&c)?;
-            taken.push(c)?;
-        }
+        let Some(c) = parts[i].take() else {
+            unreachable!();
+        };
+        work.learn_from(&c)?;
+        taken.push(c)?;
     }
     match first_lacking(&work.lacking) {
         Some(i) => Err(OrderFault::Undetermined(place_of(&cs[i]))),

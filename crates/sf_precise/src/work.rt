@@ -1,11 +1,11 @@
 //! What is kept while conjuncts are taken: how much is lacking for each, which ones wait for which
 //! existential, and which ones are ready. Each wait is looked at once.
 
-ghost use Rattle.std.specs.Prelude.{◌≡◌, ◌<◌, ◌≤◌, ℕ, Bool, [], ◌∷◌, ◌++◌, length, Contains, IfOk, OnOk, IfSome, IfNone, false, true, slice_index_or};
+ghost use Rattle.std.specs.Prelude.{◌≡◌, ◌<◌, ◌≤◌, ℕ, Bool, [], ◌∷◌, ◌++◌, length, All, Contains, IfOk, OnOk, IfSome, IfNone, false, true, slice_index_or};
 ghost use Rattle.sf_core.specs.View.{conjunct_of};
 ghost use Rattle.sf_precise.specs.Outer.{existential, field_existentials};
 ghost use Rattle.sf_precise.specs.Waits.{equated, learned_from, Job};
-ghost use Rattle.sf_precise.specs.Work.{AddsJob, AddsWaits, IsWork, Learns, Serves, row};
+ghost use Rattle.sf_precise.specs.Work.{AddsJob, AddsWaits, IsWork, Learns, Serves, WaitsWithin, row};
 
 use crate::waits::Demand;
 use sf_base::FieldId;
@@ -53,6 +53,7 @@ impl Work {
 
     /// The existentials that the conjunct gives become known.
     pub fn learn_from(&mut self, c: &Conjunct<Expr>) -> Result<(), AllocError>
+        requires { WaitsWithin self.now }
         ensures { OnOk result (Learns (learned_from (conjunct_of c.now)) self.old self.new) }
     {
         match c {
@@ -72,6 +73,7 @@ impl Work {
 
     /// The sides of an equality become known.
     fn learn_test(&mut self, test: &Test<Operand<Expr>>) -> Result<(), AllocError>
+        requires { WaitsWithin self.now }
         ensures { OnOk result (Learns (equated test.now) self.old self.new) }
     {
         match test {
@@ -87,6 +89,7 @@ impl Work {
 
     /// Those among the values of fields become known.
     fn learn_fields(&mut self, fields: &[(FieldId, Operand<Expr>)]) -> Result<(), AllocError>
+        requires { WaitsWithin self.now }
         ensures { OnOk result (Learns (field_existentials fields.now) self.old self.new) }
     {
         for f in fields {
@@ -97,6 +100,7 @@ impl Work {
 
     /// The operand becomes known, if it is an existential.
     fn learn_operand(&mut self, x: &Operand<Expr>) -> Result<(), AllocError>
+        requires { WaitsWithin self.now }
         ensures { OnOk result (Learns (existential x.now) self.old self.new) }
     {
         match x {
@@ -110,6 +114,7 @@ impl Work {
 
     /// The existential becomes known: those that wait for it lack it no more.
     fn learn(&mut self, n: u32) -> Result<(), AllocError>
+        requires { WaitsWithin self.now }
         ensures { OnOk result (Learns (n ∷ []) self.old self.new) }
     {
         if let Some(jobs) = self.waiting.remove(&n) {
@@ -120,6 +125,7 @@ impl Work {
 
     /// For each of those one thing less is lacking.
     fn serve_all(&mut self, jobs: &[usize]) -> Result<(), AllocError>
+        requires { All (λ i. i < length self.now.lacking.items) jobs.now }
         ensures { OnOk result (Serves jobs.now self.old self.new) }
     {
         for i in jobs {
@@ -130,9 +136,10 @@ impl Work {
 
     /// For the job one thing less is lacking.
     fn serve(&mut self, i: usize) -> Result<(), AllocError>
+        requires { i < length self.now.lacking.items }
         ensures { OnOk result (Serves (i ∷ []) self.old self.new) }
     {
-        if i < self.lacking.len() && self.lacking[i] > 0 {
+        if self.lacking[i] > 0 {
             self.lacking[i] -= 1;
             if self.lacking[i] == 0 {
                 self.ready.insert(i)?;

@@ -1,6 +1,6 @@
 use Rattle.std.proofs.Common.{◌∙◌, ◌++◌, ap}
 use Rattle.sf_core.specs.View.{level_of}
-use Rattle.sf_precise.proofs.Branches.{branch-ordered, branch-stuck, choice-never_that, choice-never_this, made_of}
+use Rattle.sf_precise.proofs.Branches.{branch-ordered, branch-stuck, choice-prepared, made_of}
 use Rattle.sf_precise.proofs.Outers.{joined-three, joined-two, level-outer}
 use Rattle.sf_precise.proofs.Sequences.{zip-more}
 use Rattle.sf_precise.proofs.Views.{view-if, view-level, view-points, view-segment}
@@ -12,22 +12,13 @@ order_branch-returns-in-Ok-clause-order t c = branch-ordered _ (level_of c.args.
 pub order_branch-returns-in-Err-Undetermined-clause-order : goal.order_branch-returns-in-Err-Undetermined-clause-order
 order_branch-returns-in-Err-Undetermined-clause-order t c = branch-stuck _ (level_of c.args.branch.now) c.in-Err-Undetermined.field-0-0 (ap made_of (view-level c.args.branch.now)) (rw c.in-Err-Undetermined.field-0-is at c.in-Err-Undetermined.ensures.undetermined)
 
-pub prepare-returns-in_default-clause-prepared : goal.prepare-returns-in_default-clause-prepared
-prepare-returns-in_default-clause-prepared t c =
-    rw (c.in-If.is, view-if c.in-If.place c.in-If.test c.in-If.this c.in-If.that)
-    (λ known f. choice-never_this known c.in-If.place c.in-If.test (level_of c.in-If.this) (level_of c.in-If.that) (rw c.in_default.is at c.in_ok-this-in-If.ensures.order) f)
+pub prepare-returns-in_ok-that-in-If-clause-prepared : goal.prepare-returns-in_ok-that-in-If-clause-prepared
+prepare-returns-in_ok-that-in-If-clause-prepared t c =
+    rw (c.in-If.is, view-if c.in-If.place c.in-If.test c.in-If.this c.in-If.that, c.join_branches.ensures)
+    (choice-prepared c.in-If.place c.in-If.test (level_of c.in-If.this) (level_of c.in-If.that) _ _ c.in_ok-this-in-If.ensures.order c.in_ok-that-in-If.ensures.order)
 
-pub prepare-returns-in_default-that-clause-prepared : goal.prepare-returns-in_default-that-clause-prepared
-prepare-returns-in_default-that-clause-prepared t c =
-    rw (c.in-If.is, view-if c.in-If.place c.in-If.test c.in-If.this c.in-If.that)
-    (λ known f. choice-never_that known c.in-If.place c.in-If.test (level_of c.in-If.this) (level_of c.in-If.that) (rw c.in_default-that.is at c.in_ok-that-in-If.ensures.order) f)
-
-pub prepare-returns-in_default-that-clause-outer : goal.prepare-returns-in_default-that-clause-outer
-prepare-returns-in_default-that-clause-outer t c =
-    rw (c.in-If.is, view-if c.in-If.place c.in-If.test c.in-If.this c.in-If.that) (joined-three _ _ _ _ _ _ _ c.in_ok-add_of_test-in-If.ensures c.in_ok-this-in-If.ensures.outer c.in_ok-that-in-If.ensures.outer)
-
-pub prepare-returns-in-Some-that-clause-outer : goal.prepare-returns-in-Some-that-clause-outer
-prepare-returns-in-Some-that-clause-outer t c =
+pub prepare-returns-in_ok-that-in-If-clause-outer : goal.prepare-returns-in_ok-that-in-If-clause-outer
+prepare-returns-in_ok-that-in-If-clause-outer t c =
     rw (c.in-If.is, view-if c.in-If.place c.in-If.test c.in-If.this c.in-If.that) (joined-three _ _ _ _ _ _ _ c.in_ok-add_of_test-in-If.ensures c.in_ok-this-in-If.ensures.outer c.in_ok-that-in-If.ensures.outer)
 
 pub prepare-returns-in_ok-fields-in-Points-clause-outer : goal.prepare-returns-in_ok-fields-in-Points-clause-outer

@@ -3,7 +3,7 @@ use Rattle.std.proofs.lemmas.Option.{slice_get_read}
 use Rattle.std.proofs.lemmas.Slice.Zip.{AllZip-long}
 use Rattle.sf_core.specs.View.{conjunct_of}
 use Rattle.sf_precise.specs.Waits.{known_outside}
-use Rattle.sf_precise.proofs.Sequences.{empty-has_none, end-order, end-stuck, lacking-within, none-read, popped-within, progress-starts, step-read}
+use Rattle.sf_precise.proofs.Sequences.{empty-has_none, end-order, end-stuck, lacking-within, none-read, popped-within, progress-starts, progress-within, step-read}
 use Rattle.sf_precise.proofs.sequence.sequence.Goals as goal
 
 pub begin-requires : goal.begin-requires
@@ -22,17 +22,20 @@ index_mut-requires c =
     let s = c.loop-i.invariant.size in
     omega (arith, c.loop-i.parts.ok.0)
 
-pub loop-i-preserved-in-Continue-branch-3 : goal.loop-i-preserved-in-Continue-branch-3
-loop-i-preserved-in-Continue-branch-3 c =
-    step-read conjunct_of (known_outside c.args.start) c.args.cs.now c.args.parts.items c.in-Some.i c.loop-i.work c.take_first.new.ready c.loop-i.parts.items c.loop-i.taken.items c.requires.prepared c.loop-i.invariant
+pub unreachable-requires : goal.unreachable-requires
+unreachable-requires c =
+    none-read conjunct_of (known_outside c.args.start) c.args.cs.now c.args.parts.items c.in-Some.i c.loop-i.work c.take_first.new.ready c.loop-i.parts.items c.loop-i.taken.items c.requires.prepared c.loop-i.invariant
     (record { was = c.in-Some.ensures.member; gone = c.in-Some.ensures.updates; least = c.in-Some.ensures.least })
-    c.index_mut.result.now c.index_mut.ensures.value c.in-Some-take.c (sym c.take.ensures.value ∙ c.in-Some-take.is) c.learn_from.new.self c.in_ok-learn_from.ensures c.take.new.self c.push.new.self.items c.in_ok-push.ensures.items
+    c.index_mut.result.now c.index_mut.ensures.value (sym c.take.ensures.value ∙ c.in_default-take.is)
+
+pub learn_from-requires : goal.learn_from-requires
+learn_from-requires c = progress-within conjunct_of (known_outside c.args.start) c.args.cs.now c.args.parts.items c.loop-i.work c.loop-i.parts.items c.loop-i.taken.items c.loop-i.invariant
 
 pub loop-i-preserved : goal.loop-i-preserved
 loop-i-preserved c =
-    absurd (none-read conjunct_of (known_outside c.args.start) c.args.cs.now c.args.parts.items c.in-Some.i c.loop-i.work c.take_first.new.ready c.loop-i.parts.items c.loop-i.taken.items c.requires.prepared c.loop-i.invariant
+    step-read conjunct_of (known_outside c.args.start) c.args.cs.now c.args.parts.items c.in-Some.i c.loop-i.work c.take_first.new.ready c.loop-i.parts.items c.loop-i.taken.items c.requires.prepared c.loop-i.invariant
     (record { was = c.in-Some.ensures.member; gone = c.in-Some.ensures.updates; least = c.in-Some.ensures.least })
-    c.index_mut.result.now c.index_mut.ensures.value (sym c.take.ensures.value ∙ c.in_default-take.is))
+    c.index_mut.result.now c.index_mut.ensures.value c.in-Some-take.c (sym c.take.ensures.value ∙ c.in-Some-take.is) c.learn_from.new.self c.in_ok-learn_from.ensures c.take.new.self c.push.new.self.items c.in_ok-push.ensures.items
 
 pub offset_bounds-cs-i : goal.offset_bounds-cs-i
 offset_bounds-cs-i c =

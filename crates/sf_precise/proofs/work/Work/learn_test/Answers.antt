@@ -12,3 +12,6 @@ returns-in_ok-learn_operand-in-Equal-2 c =
 
 pub returns-in-Differ : goal.returns-in-Differ
 returns-in-Differ c = rw c.in-Differ.is (learns-none c.args.self.now)
+
+pub learn_operand-requires-in-Equal : goal.learn_operand-requires-in-Equal
+learn_operand-requires-in-Equal c = c.in_ok-learn_operand-in-Equal.ensures.within c.requires
