@@ -21,11 +21,11 @@ use Rattle.sf_core.specs.Occurs.{OccursIn, OccursInAll, OccursInOne, OccursInTes
 use Rattle.sf_core.specs.Syntax.{Conjunct, holds, points, segment, tree, choose, Level, level, Assertion, Conjuncts, none, also, Call, Command, assign, look_up, mutate, new, dispose, if, while, call, fork, with, Block, done, then, Procedure, Program}
 use Rattle.sf_calls.specs.declared.breach.Breach.{Breach}
 use Rattle.sf_calls.specs.declared.breach.Breach.TheVariants.{NotHeld, Reentered, SameReference, ReferenceIsFree, ParallelShares}
-use Rattle.sf_calls.specs.Assigned.{MayChange}
 use Rattle.sf_calls.specs.Breaks.{Somewhere, FurtherIn, StandsInCall, StandsIn, at_condition, Makes, IsRegion, IsAgain, SharesAt, BreaksAt, Breaks}
 use Rattle.sf_calls.specs.Conditions.{Takes, Free}
 use Rattle.sf_calls.specs.First.{nothing, where_, first, first_of}
-use Rattle.sf_calls.specs.FirstBreach.{Around, inside, IsHeld, IsUnheld, resources_from, variables_from, UnheldAt, UnheldInExpr, UnheldInOperand, UnheldInTest, UnheldInLevel, UnheldInConjuncts, UnheldInConjunct, UnheldInCall, ReentersByCall, Repeats, PassesFree, Shares, named_in, SharesInFork, InBlock, InCommand, InProcedures}
+use Rattle.sf_calls.specs.Around.{Around, inside, IsHeld, IsUnheld, Shares}
+use Rattle.sf_calls.specs.FirstBreach.{resources_from, variables_from, UnheldAt, UnheldInExpr, UnheldInOperand, UnheldInTest, UnheldInLevel, UnheldInConjuncts, UnheldInConjunct, UnheldInCall, ReentersByCall, Repeats, PassesFree, named_in, SharesInFork, InBlock, InCommand, InProcedures}
 use Rattle.sf_calls.specs.Laws.{FirstBreachIsBroken}
 use Rattle.sf_calls.specs.Outside.{IsAmong}
 use Rattle.sf_calls.proofs.Decided.{none_in}
@@ -466,8 +466,7 @@ nothing_in p formed k (g ∷ gs) same (n, m) f b past h = elim (eqb_tells f.0 k)
 is_nothing_in : (p : Program) → IsFormed p → (k : ℕ) (hs : List Procedure) → ((i : ℕ) → slice_get hs i ≡ slice_get p.procedures (k + i)) → ((f : ProcId) (b : Breach) → Breaks p f b → ⊥) → InProcedures p k hs None
 is_nothing_in p formed k [] same n = tt
 is_nothing_in p formed k (g ∷ gs) same n =
-    let there : slice_get p.procedures k ≡ Some g = ap (slice_get p.procedures) (let z : k ≡ k + 0 = omega arith in z) ∙ sym (same 0) in
-    (
+    let there : slice_get p.procedures k ≡ Some g = ap (slice_get p.procedures) (let z : k ≡ k + 0 = omega arith in z) ∙ sym (same 0) in (
       (tells_block (head p k) formed g.body).is_nothing (λ b h. n (proc k) b (g, there, h)),
       is_nothing_in p formed (suc k) gs (λ i. same (suc i) ∙ ap (slice_get p.procedures) (let z : k + suc i ≡ suc k + i = omega arith in z)) n,
     )

@@ -1,6 +1,6 @@
 -- What is so or isn't: by a test, by its parts, or by one of a list; and the part of a list that has a decidable property.
 -- Names: `decidable_PART` says of what is built of PART that it is decidable.
-use Rattle.std.proofs.Common.{◌≡◌, ◌⊎◌, ◌↔◌, Bool, true, false, List, [], ◌∷◌, Option, Some, None, Contains, AllPairs, refl, sym, inl, inr, subst, arith}
+use Rattle.std.proofs.Common.{◌≡◌, ◌⊎◌, ◌↔◌, Bool, true, false, List, [], ◌∷◌, Option, Some, None, Contains, refl, sym, inl, inr, subst}
 use Rattle.std.specs.Bool.{Decides}
 use Rattle.std.specs.List.{list_any}
 use Rattle.std.proofs.lemmas.List.Folds.{Any-from_list_any, list_any-from_Any}

@@ -12,8 +12,9 @@ use Rattle.sf_base.specs.declared.ids.Var.TheVariants.{Own, Shared}
 use Rattle.sf_core.specs.Formed.{IsFormed}
 use Rattle.sf_core.specs.Syntax.{Program, Resource}
 use Rattle.sf_calls.specs.Conditions.{IsShared}
-use Rattle.sf_calls.specs.Sets.{IsSetOf, IsEarlier, IsEarlierResource, IsUpTo}
-use Rattle.sf_calls.proofs.Decided.{resource, none_in, single_is, is_single}
+use Rattle.sf_calls.specs.Gathers.{IsUpTo}
+use Rattle.sf_calls.specs.Sets.{IsSetOf, IsEarlier, IsEarlierResource}
+use Rattle.sf_calls.proofs.Decided.{resource, none_in, is_single}
 
 -- one more element, behind the others
 pub set_push : {A : Type 0} (B : A → A → Type 0) (P Q : A → Type 0) (xs : List A) (y : A) → IsSetOf B P xs → ((x : A) → P x → B x y) → ((x : A) → Q x → P x ⊎ (x ≡ y)) → ((x : A) → P x → Q x) → Q y → IsSetOf B Q (xs ++ y ∷ [])

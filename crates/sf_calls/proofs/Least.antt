@@ -12,7 +12,7 @@ use Rattle.sf_calls.specs.Conditions.{Calls, Mentions, Enters, Takes, FreeIn, Fr
 use Rattle.sf_calls.specs.Laws.{TakesIsLeast, FreeIsLeast}
 use Rattle.sf_calls.specs.Leads.{Leads, directly, through}
 use Rattle.sf_calls.specs.Outside.{owner}
-use Rattle.sf_calls.specs.Sets.{IsUpTo}
+use Rattle.sf_calls.specs.Gathers.{IsUpTo}
 use Rattle.sf_calls.proofs.Rows.{leads_within}
 use Rattle.sf_calls.proofs.Within.{entered_within, level_within, block_within}
 

@@ -15,7 +15,8 @@ use Rattle.sf_calls.specs.declared.breach.Breach.{Breach}
 use Rattle.sf_calls.specs.declared.breach.Breach.TheVariants.{NotHeld, Reentered, SameReference, ReferenceIsFree, ParallelShares}
 use Rattle.sf_calls.specs.Conditions.{Takes, Free}
 use Rattle.sf_calls.specs.First.{nothing, where_, first, first_of}
-use Rattle.sf_calls.specs.FirstBreach.{Around, inside, IsHeld, IsUnheld, resources_from, variables_from, UnheldAt, UnheldInExpr, UnheldInOperand, UnheldInTest, UnheldInLevel, UnheldInConjuncts, UnheldInConjunct, UnheldInCall, ReentersByCall, Repeats, PassesFree, Shares, named_in, SharesInFork, InBlock, InCommand, InProcedures}
+use Rattle.sf_calls.specs.Around.{Around, inside, IsHeld, IsUnheld, Shares}
+use Rattle.sf_calls.specs.FirstBreach.{resources_from, variables_from, UnheldAt, UnheldInExpr, UnheldInOperand, UnheldInTest, UnheldInLevel, UnheldInConjuncts, UnheldInConjunct, UnheldInCall, ReentersByCall, Repeats, PassesFree, named_in, SharesInFork, InBlock, InCommand, InProcedures}
 use Rattle.sf_calls.specs.Laws.{ConditionsAreHad, FirstBreachIsDetermined}
 use Rattle.sf_calls.proofs.Had.{had_once}
 use Rattle.sf_calls.proofs.Searches.{proc}

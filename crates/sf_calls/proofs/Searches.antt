@@ -3,6 +3,7 @@ use Rattle.std.proofs.Common.{◌≡◌, ◌≢◌, cond, get_or, length-append,
 use Rattle.std.proofs.lemmas.List.Elements.{Contains-append_cases, Contains-append_left, Contains-append_right, Contains-push, Contains-push_cases, Contains-get_or}
 use Rattle.std.proofs.Math.ListN.{set, length-set}
 use Rattle.std.proofs.lemmas.List.{get_or-set_same, get_or-set_other}
+use Rattle.std.proofs.lemmas.List.Quantifiers.{all_pairs_push}
 use Rattle.std.proofs.lemmas.List.Sums.{sum_by-set}
 use Rattle.std.proofs.lemmas.Option.{slice_get-get_or, slice_get_cases, slice_get_past, slice_get_read, slice_get_within, same_Some}
 use Rattle.std.proofs.lemmas.Bool.Decides.{eqb_tells}
@@ -20,6 +21,7 @@ marks_none marks queue = record {
   only = λ f m. inl m;
   queued = λ f c. c;
   known = λ f c. inl c;
+  once = λ m o. o;
   spent = refl;
 }
   where
@@ -42,6 +44,7 @@ marks_both fs gs a q b r c s m n = record {
     | inl x ↦ elim (m.known f x) [ inl y ↦ inl y | inr y ↦ inr (n.kept f y) ]
     | inr x ↦ inr x
   ];
+  once = λ marked o. n.once (λ f c. elim (m.known f c) [ inl x ↦ m.kept f (marked f x) | inr x ↦ x ]) (m.once marked o);
   spent = n.spent ∙ m.spent;
 }
 
@@ -155,11 +158,18 @@ mark_new marks queue f b h e not_yet = record {
   ];
   queued = λ g c. Contains-append_left queue (f ∷ []) g c;
   known = λ g c. elim (Contains-push_cases queue f g c) [ inl x ↦ inl x | inr x ↦ inr (now g x) ];
+  once = λ marked o. all_pairs_push (λ g h. g ≢ h) queue f o (λ k d below e. not_yet_marked (subst (IsMarked marks) e (marked (get_or queue k d) (Contains-get_or queue k d below))));
   spent = let less : unmarked (set marks f.0 true) + 1 ≡ unmarked marks = unmarked-set marks f.0 b h e not_yet in omega (arith, less, length-append queue (f ∷ []));
 }
   where
     now : (g : ProcId) → f ≡ g → IsMarked (set marks f.0 true) g
     now g same = subst (λ (k : ProcId). IsMarked (set marks f.0 true) k) same (get-set_same marks f.0 true h)
+
+    not_yet_marked : IsMarked marks f → ⊥
+    not_yet_marked m =
+        let here : slice_get marks f.0 ≡ Some b = slice_get_read marks (length marks) f.0 b refl h e in
+        let both : true ≡ false = same_Some true b (sym m ∙ here) ∙ not_yet in
+        cc
 
     kept : (g : ProcId) → IsMarked marks g → IsMarked (set marks f.0 true) g
     kept g m = elim (eqb_tells g.0 f.0) [
@@ -177,6 +187,7 @@ mark_old marks queue f b h e was = record {
   only = λ g m. inl m;
   queued = λ g c. c;
   known = λ g c. inl c;
+  once = λ marked o. o;
   spent = refl;
 }
   where

@@ -10,14 +10,14 @@ use Rattle.sf_base.specs.declared.ids.Var.TheVariants.{Own, Shared}
 use Rattle.sf_core.specs.HeldBy.{HeldBy}
 use Rattle.sf_core.specs.Occurs.{VarOccursIn}
 use Rattle.sf_core.specs.Syntax.{Procedure, Program}
-use Rattle.sf_calls.specs.Conditions.{Calls, Enters, Free, Has, Mentions, Takes}
+use Rattle.sf_calls.specs.Conditions.{Calls, Free, Has, Takes}
 use Rattle.sf_calls.specs.Leads.{Leads}
 use Rattle.sf_calls.specs.Outside.{CallsIn, EntersIn, OccursOutside, owner}
 use Rattle.sf_calls.specs.Listed.{entered_in, is_entered, shared_in, shared_in_level}
 use Rattle.sf_calls.specs.Tests.{callees_in}
 use Rattle.sf_calls.specs.Texts.{has, speaks_of}
 use Rattle.sf_calls.proofs.Decidable.{IsDecidable, decidable_both, decidable_by, contains_is, listed, listed_is, passes, passes_is}
-use Rattle.sf_calls.proofs.Decided.{callees_in_are, none_in}
+use Rattle.sf_calls.proofs.Decided.{callees_in_are}
 use Rattle.sf_calls.proofs.Listing.{cons_is, entered_are, entered_is, mentioned_are, spoken_are}
 use Rattle.sf_calls.proofs.Paths.{decidable_leads}
 use Rattle.sf_calls.proofs.Rows.{Speaks, speaks_is, has_is as list_has_is}

@@ -13,6 +13,7 @@ MayChange p c x = IsAmong x c.references ⊎ Free p c.callee x
 
 -- an assignment, a look-up or a `new` sets it, or a call may change it
 abbrev mutual
+  -- by a command, or one inside it
   pub Assigned : Program → Var → Command → Type 0
   Assigned p x (assign q y e) = y.var ≡ x
   Assigned p x (look_up q y e field) = y.var ≡ x
@@ -25,6 +26,7 @@ abbrev mutual
   Assigned p x (fork q c d) = MayChange p c x ⊎ MayChange p d x
   Assigned p x (with q r t c) = AssignedIn p x c
 
+  -- by one of the commands of a block
   pub AssignedIn : Program → Var → Block → Type 0
   AssignedIn p x done = ⊥
   AssignedIn p x (then c b) = Assigned p x c ⊎ AssignedIn p x b

@@ -9,19 +9,20 @@ use Rattle.sf_core.specs.declared.assertion.Operand.TheVariants.{Known}
 use Rattle.sf_core.specs.declared.command.Expr.TheVariants.{Var as Variable}
 use Rattle.sf_core.specs.declared.command.Occurrence.{Occurrence}
 use Rattle.sf_core.specs.Occurs.{OccursIn, OccursInTest}
-use Rattle.sf_core.specs.Syntax.{Call, Command, assign, look_up, mutate, new, dispose, if, while, call, fork, with, Block, done, then, Procedure, Program}
+use Rattle.sf_core.specs.Syntax.{Call, Command, assign, look_up, mutate, new, dispose, if, while, call, fork, with, Block, done, then, Program}
 use Rattle.sf_calls.specs.declared.breach.Breach.{Breach}
 use Rattle.sf_calls.specs.declared.breach.Breach.TheVariants.{NotHeld, Reentered, SameReference, ReferenceIsFree, ParallelShares}
 use Rattle.sf_calls.specs.Conditions.{Takes, Free, Has}
-use Rattle.sf_calls.specs.FirstBreach.{Around, inside, IsHeld, IsUnheld, Shares}
+use Rattle.sf_calls.specs.Around.{Around, inside, IsHeld, IsUnheld, Shares}
 
--- some command of a block has that property where it stands, itself or inside another one
+-- some command has that property where it stands
 abbrev mutual
+  -- one of the commands of a block, or one inside them
   pub Somewhere : (Around → Command → Type 0) → Around → Block → Type 0
   Somewhere P a done = ⊥
   Somewhere P a (then c b) = (P a c ⊎ FurtherIn P a c) ⊎ Somewhere P a b
 
-  -- some command inside that one has it
+  -- one of those inside a command
   pub FurtherIn : (Around → Command → Type 0) → Around → Command → Type 0
   FurtherIn P a (if q t c d) = Somewhere P a c ⊎ Somewhere P a d
   FurtherIn P a (while q t i c) = Somewhere P a c
@@ -45,7 +46,7 @@ StandsIn x (call q c) = StandsInCall x c
 StandsIn x (fork q c d) = StandsInCall x c ⊎ StandsInCall x d
 StandsIn x (with q r t c) = OccursInTest t (Variable x)
 
--- where its condition is looked at: that of a region counts as inside
+-- where what stands in the command itself counts as used: the condition of a region is inside
 abbrev pub at_condition : Around → Command → Around
 at_condition a (with q r t c) = inside r a
 at_condition a _ = a

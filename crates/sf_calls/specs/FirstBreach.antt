@@ -1,10 +1,10 @@
 -- FirstBreach: the first place where a program breaks the conditions on variables, in file order, and in text order within a body.
--- After the variable conditions of Berdine, Calcagno and O'Hearn, "Smallfoot" (2005). At one command, without those inside it, the kinds come in the order in which Breach lists them.
+-- After the variable conditions of Berdine, Calcagno and O'Hearn, "Smallfoot" (2005). At one command, without those inside it, the kinds come in the order in which Breach lists them. That it is a breach at all, Breaks says without any order.
 use Rattle.std.specs.Prelude.{◌≡◌, ◌⊎◌, ℕ, suc, List, [], ◌∷◌, ◌++◌, Option, Some, None, Contains}
 use Rattle.sf_base.specs.declared.ids.ProcId.{ProcId}
 use Rattle.sf_base.specs.declared.ids.ResId.{ResId}
 use Rattle.sf_base.specs.declared.ids.Var.{Var}
-use Rattle.sf_base.specs.declared.ids.Var.TheVariants.{Own, Shared}
+use Rattle.sf_base.specs.declared.ids.Var.TheVariants.{Shared}
 use Rattle.sf_core.specs.declared.assertion.Operand.{Operand}
 use Rattle.sf_core.specs.declared.assertion.Operand.TheVariants.{Known, Exists}
 use Rattle.sf_core.specs.declared.assertion.Test.{Test}
@@ -12,33 +12,12 @@ use Rattle.sf_core.specs.declared.assertion.Test.TheVariants.{True, Equal, Diffe
 use Rattle.sf_core.specs.declared.command.Expr.{Expr}
 use Rattle.sf_core.specs.declared.command.Expr.TheVariants.{Var as Variable, Nil, Int}
 use Rattle.sf_core.specs.declared.command.Occurrence.{Occurrence}
-use Rattle.sf_core.specs.HeldBy.{HeldBy}
 use Rattle.sf_core.specs.Syntax.{Conjunct, holds, points, segment, tree, choose, Level, level, Conjuncts, none, also, Call, Command, assign, look_up, mutate, new, dispose, if, while, call, fork, with, Block, done, then, Procedure, Resource, Program}
 use Rattle.sf_calls.specs.declared.breach.Breach.{Breach}
 use Rattle.sf_calls.specs.declared.breach.Breach.TheVariants.{NotHeld, Reentered, SameReference, ReferenceIsFree, ParallelShares}
-use Rattle.sf_calls.specs.Assigned.{MayChange}
+use Rattle.sf_calls.specs.Around.{Around, inside, IsHeld, IsUnheld, Shares}
 use Rattle.sf_calls.specs.Conditions.{Takes, Free}
 use Rattle.sf_calls.specs.First.{nothing, where_, first, first_of}
-use Rattle.sf_calls.specs.Outside.{OccursInValues}
-
--- where one stands: in the body of f, inside regions of those resources
-pub record Around : Type 0 where
-  pub program : Program
-  pub procedure : ProcId
-  pub entered : List ResId
-
--- inside one more region
-abbrev pub inside : ResId → Around → Around
-inside r a = record { program = a.program; procedure = a.procedure; entered = r ∷ a.entered }
-
--- the resource is held through the whole body, or entered around
-abbrev pub IsHeld : Around → ResId → Type 0
-IsHeld a r = HeldBy a.program a.procedure r ⊎ Contains a.entered r
-
--- it is a variable of a resource that is not held
-abbrev pub IsUnheld : Around → Var → Type 0
-IsUnheld a (Own n) = ⊥
-IsUnheld a (Shared r i) = ¬ (IsHeld a r)
 
 -- the resources, in file order, from that number on
 abbrev pub resources_from : ℕ → List Resource → List ResId
@@ -59,29 +38,35 @@ variables_from k (r ∷ rs) = shared_from (record { 0 = k }) 0 r.variables ++ va
 abbrev pub UnheldAt : Around → Occurrence → Option Breach → Type 0
 UnheldAt a x r = where_ (IsUnheld a x.var) (NotHeld x.place x.var) r
 
--- the same in an expression, an operand, tests, fields and levels, in text order
+-- the same in an expression
 abbrev pub UnheldInExpr : Around → Expr → Option Breach → Type 0
 UnheldInExpr a (Variable x) r = UnheldAt a x r
 UnheldInExpr a Nil r = nothing r
 UnheldInExpr a (Int i) r = nothing r
 
+-- in an operand
 abbrev pub UnheldInOperand : Around → Operand Expr → Option Breach → Type 0
 UnheldInOperand a (Known e) r = UnheldInExpr a e r
 UnheldInOperand a (Exists n) r = nothing r
 
+-- in a test, the left side first
 abbrev pub UnheldInTest : {E : Type 0} → (E → Option Breach → Type 0) → Test E → Option Breach → Type 0
 UnheldInTest P True r = nothing r
 UnheldInTest P (Equal x y) r = first (P x) (P y) r
 UnheldInTest P (Differ x y) r = first (P x) (P y) r
 
+-- in assertions, in text order
 abbrev mutual
+  -- in a level: in its conjuncts
   pub UnheldInLevel : Around → Level Expr → Option Breach → Type 0
   UnheldInLevel a (level made cs) r = UnheldInConjuncts a cs r
 
+  -- in conjuncts, one after the other
   pub UnheldInConjuncts : Around → Conjuncts Expr → Option Breach → Type 0
   UnheldInConjuncts a none r = nothing r
   UnheldInConjuncts a (also c cs) r = first (UnheldInConjunct a c) (UnheldInConjuncts a cs) r
 
+  -- in one conjunct: in its root and fields, its sides, or its test and then its branches
   pub UnheldInConjunct : Around → Conjunct Expr → Option Breach → Type 0
   UnheldInConjunct a (holds place t) r = UnheldInTest (UnheldInOperand a) t r
   UnheldInConjunct a (points place root fs) r = first (UnheldInOperand a root) (first_of (λ f. UnheldInOperand a f.1) fs) r
@@ -108,14 +93,6 @@ Repeats before (x ∷ xs) r = first (where_ (Contains before x.var) (SameReferen
 abbrev pub PassesFree : Program → Call → Option Breach → Type 0
 PassesFree p c r = first_of (λ x. where_ (Free p c.callee x.var) (ReferenceIsFree x.place x.var)) c.references r
 
--- what a call uses
-abbrev pub Uses : Program → Call → Var → Type 0
-Uses p c x = MayChange p c x ⊎ OccursInValues x c.values
-
--- one of two parallel calls may change what the other uses
-abbrev pub Shares : Program → (left right : Call) → Var → Type 0
-Shares p c d x = (MayChange p c x × Uses p d x) ⊎ (MayChange p d x × Uses p c x)
-
 -- the variables that references and values name, in text order
 abbrev pub named_in : List Occurrence → List Expr → List Var
 named_in [] [] = []
@@ -129,12 +106,14 @@ abbrev pub SharesInFork : Program → (left right : Call) → Option Breach → 
 SharesInFork p c d r =
     first_of (λ x. where_ (Shares p c d x) (ParallelShares c.place x)) (named_in c.references c.values ++ named_in d.references d.values ++ variables_from 0 p.resources) r
 
--- a command, and then those inside it
+-- in commands, in text order
 abbrev mutual
+  -- in a block: in a command before those behind it
   pub InBlock : Around → Block → Option Breach → Type 0
   InBlock a done r = nothing r
   InBlock a (then c b) r = first (InCommand a c) (InBlock a b) r
 
+  -- in a command, and then in those inside it
   pub InCommand : Around → Command → Option Breach → Type 0
   InCommand a (assign q x e) r = first (UnheldAt a x) (UnheldInExpr a e) r
   InCommand a (look_up q x e field) r = first (UnheldAt a x) (UnheldInExpr a e) r

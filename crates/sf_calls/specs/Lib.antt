@@ -2,7 +2,9 @@ pub mod Leads
 pub mod Outside
 pub mod Conditions
 pub mod Sets
+pub mod Gathers
 pub mod Assigned
+pub mod Around
 pub mod First
 pub mod FirstBreach
 pub mod Breaks

@@ -1,4 +1,5 @@
 -- What stands in commands and assertions, as lists in text order: the variables of resources outside the regions of their resources, the regions, and those with a call inside.
+-- They stand between the code and the relations of Outside and Conditions, and needn't be believed: no public contract names them.
 -- Ordinary: each relation by cases has the list by the same cases.
 use Rattle.std.specs.Prelude.{◌==◌, Bool, true, false, cond, ◌||◌, List, [], ◌∷◌, ◌++◌}
 use Rattle.sf_base.specs.declared.ids.FieldId.{FieldId}

@@ -1,6 +1,7 @@
 -- Marks: a test for each procedure, by its number, and the callers of each procedure, as lists.
+-- They stand between the code and the sets of Conditions, and needn't be believed: no public contract names them.
 -- Ordinary: a set of numbers as its characteristic list, a graph as its lists of predecessors.
-use Rattle.std.specs.Prelude.{◌≡◌, ◌⊎◌, ℕ, ◌+◌, Bool, true, false, not, List, [], ◌∷◌, length, count_by, cond, ◌↔◌, Option, Some, slice_get, slice_index_or, Contains, Vec}
+use Rattle.std.specs.Prelude.{◌≡◌, ◌≢◌, ◌⊎◌, ℕ, ◌+◌, Bool, true, false, not, List, [], ◌∷◌, length, count_by, cond, ◌↔◌, Option, Some, slice_get, slice_index_or, AllPairs, Contains, Vec}
 use Rattle.std.specs.List.{AllZip}
 use Rattle.std.specs.declared.alloc.Global.{Global}
 use Rattle.sf_base.specs.declared.ids.ProcId.{ProcId}
@@ -40,6 +41,10 @@ chosen f (x ∷ xs) (row ∷ rows) = cond (slice_index_or row.items f false) (x 
 abbrev pub unmarked : List Bool → ℕ
 unmarked marks = count_by not marks
 
+-- each procedure stands there once
+abbrev pub EachOnce : List ProcId → Type 0
+EachOnce fs = AllPairs (λ f g. f ≢ g) fs
+
 -- the procedures fs are marked beside those that were, and those that were not yet are queued
 pub record MarksMore (fs : List ProcId) (before : List Bool) (queue : List ProcId) (after : List Bool) (longer : List ProcId) : Type 0 where
   pub size : length after ≡ length before
@@ -48,4 +53,5 @@ pub record MarksMore (fs : List ProcId) (before : List Bool) (queue : List ProcI
   pub only : (f : ProcId) → IsMarked after f → IsMarked before f ⊎ (Contains fs f × Contains longer f)
   pub queued : (f : ProcId) → Contains queue f → Contains longer f
   pub known : (f : ProcId) → Contains longer f → Contains queue f ⊎ IsMarked after f
+  pub once : ((f : ProcId) → Contains queue f → IsMarked before f) → EachOnce queue → EachOnce longer
   pub spent : length longer + unmarked after ≡ length queue + unmarked before

@@ -51,10 +51,12 @@ OccursInCall x c = IsAmong x c.references ⊎ OccursInValues x c.values
 
 -- the variable stands in the commands outside the regions of its resource
 abbrev mutual
+  -- in one of the commands of a block
   pub OccursOutside : Var → Block → Type 0
   OccursOutside x done = ⊥
   OccursOutside x (then c b) = OccursInCommand x c ⊎ OccursOutside x b
 
+  -- in a command, or one inside it
   pub OccursInCommand : Var → Command → Type 0
   OccursInCommand x (assign p y e) = (y.var ≡ x) ⊎ OccursInExpr x e
   OccursInCommand x (look_up p y e field) = (y.var ≡ x) ⊎ OccursInExpr x e
@@ -69,10 +71,12 @@ abbrev mutual
 
 -- the commands call the procedure outside the regions of the resource that is left out
 abbrev mutual
+  -- one of the commands of a block does
   pub CallsIn : Option ResId → ProcId → Block → Type 0
   CallsIn but g done = ⊥
   CallsIn but g (then c b) = CallsInCommand but g c ⊎ CallsIn but g b
 
+  -- a command, or one inside it
   pub CallsInCommand : Option ResId → ProcId → Command → Type 0
   CallsInCommand but g (assign p y e) = ⊥
   CallsInCommand but g (look_up p y e field) = ⊥
@@ -87,10 +91,12 @@ abbrev mutual
 
 -- the commands have a region of the resource
 abbrev mutual
+  -- one of the commands of a block has
   pub EntersIn : ResId → Block → Type 0
   EntersIn r done = ⊥
   EntersIn r (then c b) = EntersInCommand r c ⊎ EntersIn r b
 
+  -- a command, or one inside it
   pub EntersInCommand : ResId → Command → Type 0
   EntersInCommand r (assign p y e) = ⊥
   EntersInCommand r (look_up p y e field) = ⊥

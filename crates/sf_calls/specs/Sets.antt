@@ -20,11 +20,6 @@ IsEarlier (Own m) (Shared q j) = Unit {0}
 IsEarlier (Shared r i) (Own n) = ⊥
 IsEarlier (Shared r i) (Shared q j) = (r.0 < q.0) ⊎ ((r ≡ q) × (i < j))
 
--- it is a variable of the first k resources, or one of the first i of the next one, where the resource of each number has so many
-abbrev pub IsUpTo : (ℕ → ℕ) → ℕ → ℕ → Var → Type 0
-IsUpTo count k i (Own n) = ⊥
-IsUpTo count k i (Shared q j) = ((q.0 < k) × (j < count q.0)) ⊎ ((q.0 ≡ k) × (j < i))
-
 -- the list has exactly those, each before the later ones
 pub record IsSetOf {A : Type 0} (Before : A → A → Type 0) (P : A → Type 0) (xs : List A) : Type 0 where
   pub ordered : AllPairs Before xs
@@ -54,12 +49,3 @@ pub record AreSetsOf (p : Program) (sets : Sets) : Type 0 where
   pub takes : IsFamily IsResSet (Takes p) (length p.procedures) sets.takes
   pub holds : IsFamily IsResSet (HeldBy p) (length p.procedures) sets.holds
   pub free : IsFamily IsVarSet (Free p) (length p.procedures) sets.free
-
--- the set of what is free in the procedure has the variable
-abbrev pub HasFree : Sets → ProcId → Var → Type 0
-HasFree sets g x = (xs : List Var) × (slice_get sets.free g.0 ≡ Some xs) × Contains xs x
-
--- the variables xs are there beside those that were, in order
-pub record Gathers (xs before after : List Var) : Type 0 where
-  pub ordered : AllPairs IsEarlier after
-  pub members : (x : Var) → Contains after x ↔ (Contains before x ⊎ Contains xs x)

@@ -1,4 +1,5 @@
 -- The relations on what stands in commands and assertions, as tests and lists that compute.
+-- They stand between the code and the relations of Outside, Assigned and Sets, and needn't be believed: no public contract names them but those of the tests in occurs.rt, which the search of sf_vars calls.
 -- Ordinary: each relation by cases has the test by the same cases.
 use Rattle.std.specs.Prelude.{◌==◌, nat_lt, Bool, true, false, cond, ◌&&◌, ◌||◌, not, List, [], ◌∷◌, ◌++◌, Option, Some, None}
 use Rattle.sf_base.specs.declared.ids.ProcId.{ProcId}

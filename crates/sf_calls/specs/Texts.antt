@@ -1,4 +1,5 @@
 -- Texts: what stands in each procedure's text, and what is read off it.
+-- It stands between the code and the sets of Conditions, and needn't be believed: no public contract names it.
 -- Ordinary: a set as the list of its members; a test of a list by cases on it.
 use Rattle.std.specs.Prelude.{◌⊎◌, ◌↔◌, ◌==◌, Bool, false, ◌||◌, List, [], ◌∷◌, Option, Some, None, Contains}
 use Rattle.std.specs.List.{AllZip}

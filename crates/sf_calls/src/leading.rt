@@ -3,7 +3,7 @@
 ghost use Rattle.std.specs.Prelude.{◌≡◌, ◌↔◌, ◌<◌, ◌≤◌, ◌^◌, [], ◌∷◌, length, All, Contains, IfOk, OnOk, false, replicate};
 ghost use Rattle.sf_base.specs.declared.ids.ProcId.{ProcId};
 ghost use Rattle.sf_calls.specs.Leads.{Leads};
-ghost use Rattle.sf_calls.specs.Marks.{IsMarked, IsCaller, MarksMore};
+ghost use Rattle.sf_calls.specs.Marks.{EachOnce, IsMarked, IsCaller, MarksMore};
 
 use sf_base::ProcId;
 use std::alloc::{AllocError, Global};
@@ -69,7 +69,8 @@ fn mark(f: ProcId, marks: &mut Vec<bool>, queue: &mut Vec<ProcId>) -> Result<(),
 /// Those procedures, each once. An `Err` is want of memory.
 pub fn distinct(alloc: Global, count: usize, fs: &[ProcId]) -> Result<Vec<ProcId>, AllocError>
     requires { All (λ f. f.0 < count) fs.now }
-    ensures { IfOk result (λ gs. (f : ProcId) → Contains gs.items f ↔ Contains fs.now f) }
+    ensures members { IfOk result (λ gs. (f : ProcId) → Contains gs.items f ↔ Contains fs.now f) }
+    ensures once { IfOk result (λ gs. EachOnce gs.items) }
 {
     let mut marks = no_marks(alloc, count)?;
     let mut found = Vec::new(alloc);

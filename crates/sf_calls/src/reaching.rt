@@ -6,7 +6,8 @@ ghost use Rattle.sf_core.specs.HeldBy.{HeldBy};
 ghost use Rattle.sf_core.specs.Whole.{program_of};
 ghost use Rattle.sf_calls.specs.Conditions.{Takes, Free};
 ghost use Rattle.sf_calls.specs.Texts.{AreTexts};
-ghost use Rattle.sf_calls.specs.Sets.{AreSetsOf, IsFamily, IsResSet, IsVarSet, IsSetOf, IsEarlier, IsEarlierResource, IsUpTo};
+ghost use Rattle.sf_calls.specs.Gathers.{IsUpTo};
+ghost use Rattle.sf_calls.specs.Sets.{AreSetsOf, IsFamily, IsResSet, IsVarSet, IsSetOf, IsEarlier, IsEarlierResource};
 
 use crate::calls::Calls;
 use crate::keys::{resources_of, variables_of};

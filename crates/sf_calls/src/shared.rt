@@ -242,49 +242,35 @@ fn add_shared_of(
         Command::Assign(_, x, e) | Command::LookUp(_, x, e, _) => {
             add_var(entered, x.var, named)?;
             add_expr(entered, e, named)?;
-            Ok(())
         }
         Command::Mutate(_, e, _, d) => {
             add_expr(entered, e, named)?;
             add_expr(entered, d, named)?;
-            Ok(())
         }
-        Command::New(_, x) => {
-            add_var(entered, x.var, named)?;
-            Ok(())
-        }
-        Command::Dispose(_, e) => {
-            add_expr(entered, e, named)?;
-            Ok(())
-        }
+        Command::New(_, x) => add_var(entered, x.var, named)?,
+        Command::Dispose(_, e) => add_expr(entered, e, named)?,
         Command::If(_, test, c, d) => {
             add_test(entered, test, named)?;
             add_shared(alloc, entered, c, named)?;
             add_shared(alloc, entered, d, named)?;
-            Ok(())
         }
         Command::While(_, test, invariant, c) => {
             add_test(entered, test, named)?;
             add_level(entered, &invariant.level, named)?;
             add_shared(alloc, entered, c, named)?;
-            Ok(())
         }
-        Command::Call(_, call) => {
-            add_call(entered, call, named)?;
-            Ok(())
-        }
+        Command::Call(_, call) => add_call(entered, call, named)?,
         Command::Fork(_, left, right) => {
             add_call(entered, left, named)?;
             add_call(entered, right, named)?;
-            Ok(())
         }
         Command::With(_, r, test, c) => {
             let inside = entering(alloc, entered, *r)?;
             add_test(&inside, test, named)?;
             add_shared(alloc, &inside, c, named)?;
-            Ok(())
         }
     }
+    Ok(())
 }
 
 /// One more resource, and those.

@@ -28,7 +28,8 @@ use Rattle.sf_calls.specs.declared.breach.Breach.TheVariants.{NotHeld, Reentered
 use Rattle.sf_calls.specs.Conditions.{Takes, Free}
 use Rattle.sf_calls.specs.First.{where_, first, first_of}
 use Rattle.sf_calls.specs.Assigned.{MayChange}
-use Rattle.sf_calls.specs.FirstBreach.{Around, inside, IsHeld, IsUnheld, resources_from, variables_from, UnheldAt, UnheldInExpr, UnheldInOperand, UnheldInTest, UnheldInLevel, UnheldInConjuncts, UnheldInConjunct, UnheldInCall, ReentersByCall, Repeats, PassesFree, Uses, Shares, named_in, SharesInFork, InBlock, InCommand, InProcedures, FirstBreach}
+use Rattle.sf_calls.specs.Around.{Around, inside, IsHeld, IsUnheld, Uses, Shares}
+use Rattle.sf_calls.specs.FirstBreach.{resources_from, variables_from, UnheldAt, UnheldInExpr, UnheldInOperand, UnheldInTest, UnheldInLevel, UnheldInConjuncts, UnheldInConjunct, UnheldInCall, ReentersByCall, Repeats, PassesFree, named_in, SharesInFork, InBlock, InCommand, InProcedures, FirstBreach}
 use Rattle.sf_calls.specs.Outside.{IsAmong, OccursInValues}
 use Rattle.sf_calls.specs.Sets.{Sets, AreSetsOf, IsResSet, IsEarlier, IsEarlierResource}
 use Rattle.sf_calls.specs.Tests.{same_var, in_references, in_values}

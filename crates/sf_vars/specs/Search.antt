@@ -55,13 +55,15 @@ lacks held (Shared r i) = not (has held r)
 abbrev pub is_in : List Var → Var → Bool
 is_in xs x = list_any (λ y. same_var y x) xs
 
--- what the procedure takes, holds, and what is free in it
+-- what the procedure takes
 abbrev pub takes_of : Sets → ProcId → List ResId
 takes_of sets g = slice_index_or sets.takes g.0 []
 
+-- what it holds
 abbrev pub holds_of : Sets → ProcId → List ResId
 holds_of sets g = slice_index_or sets.holds g.0 []
 
+-- what is free in it
 abbrev pub free_of : Sets → ProcId → List Var
 free_of sets g = slice_index_or sets.free g.0 []
 
@@ -69,29 +71,35 @@ free_of sets g = slice_index_or sets.free g.0 []
 abbrev pub at_occurrence : List Bool → Occurrence → Option Breach
 at_occurrence held x = found (lacks held x.var) (NotHeld x.place x.var)
 
--- the same in an expression, an operand, tests, fields and levels, in text order
+-- the same in an expression
 abbrev pub in_expr : List Bool → Expr → Option Breach
 in_expr held (Variable x) = at_occurrence held x
 in_expr held Nil = None
 in_expr held (Int i) = None
 
+-- in an operand
 abbrev pub in_operand : List Bool → Operand Expr → Option Breach
 in_operand held (Known e) = in_expr held e
 in_operand held (Exists n) = None
 
+-- in a test, the left side first
 abbrev pub in_test : {E : Type 0} → (E → Option Breach) → Test E → Option Breach
 in_test f True = None
 in_test f (Equal x y) = option_or (f x) (f y)
 in_test f (Differ x y) = option_or (f x) (f y)
 
+-- in assertions, in text order
 abbrev mutual
+  -- in a level: in its conjuncts
   pub in_level : List Bool → Level Expr → Option Breach
   in_level held (level made cs) = in_conjuncts held cs
 
+  -- in conjuncts, one after the other
   pub in_conjuncts : List Bool → Conjuncts Expr → Option Breach
   in_conjuncts held none = None
   in_conjuncts held (also c cs) = option_or (in_conjunct held c) (in_conjuncts held cs)
 
+  -- in one conjunct: in its root and fields, its sides, or its test and then its branches
   pub in_conjunct : List Bool → Conjunct Expr → Option Breach
   in_conjunct held (holds place t) = in_test (in_operand held) t
   in_conjunct held (points place root fs) = option_or (in_operand held root) (search_in (λ f. in_operand held f.1) fs)
@@ -126,10 +134,11 @@ repeats before (x ∷ xs) = option_or (found (in_references x.var before) (SameR
 abbrev pub passes_free : Sets → Call → Option Breach
 passes_free sets c = search_in (λ x. found (is_in (free_of sets c.callee) x.var) (ReferenceIsFree x.place x.var)) c.references
 
--- what a call may change, and what it uses
+-- what a call may change
 abbrev pub may_change : Sets → Call → Var → Bool
 may_change sets c x = in_references x c.references || is_in (free_of sets c.callee) x
 
+-- what it uses
 abbrev pub uses : Sets → Call → Var → Bool
 uses sets c x = may_change sets c x || in_values x c.values
 
@@ -178,12 +187,14 @@ in_fork sets held c d =
     option_or (option_or (repeats [] c.references) (repeats [] d.references)) (
     option_or (option_or (passes_free sets c) (passes_free sets d)) (shares_in_fork sets c d))))
 
--- a command, and then those inside it
+-- in commands, in text order
 abbrev mutual
+  -- in a block: in a command before those behind it
   pub in_block : Sets → List Bool → Block → Option Breach
   in_block sets held done = None
   in_block sets held (then c b) = option_or (in_command sets held c) (in_block sets held b)
 
+  -- in a command, and then in those inside it
   pub in_command : Sets → List Bool → Command → Option Breach
   in_command sets held (assign q x e) = option_or (at_occurrence held x) (in_expr held e)
   in_command sets held (look_up q x e field) = option_or (at_occurrence held x) (in_expr held e)
@@ -218,10 +229,12 @@ pub record HasSets (sets : Sets) (g : ProcId) : Type 0 where
 
 -- what is called has its sets, and what is entered its mark
 abbrev mutual
+  -- in a block
   pub BlockFits : Sets → Block → Type 0
   BlockFits sets done = Unit {0}
   BlockFits sets (then c b) = CommandFits sets c × BlockFits sets b
 
+  -- in a command
   pub CommandFits : Sets → Command → Type 0
   CommandFits sets (assign q x e) = Unit {0}
   CommandFits sets (look_up q x e field) = Unit {0}

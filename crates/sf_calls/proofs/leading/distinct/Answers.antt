@@ -1,5 +1,8 @@
-use Rattle.sf_calls.proofs.Gathered.{marked_once}
+use Rattle.sf_calls.proofs.Gathered.{marked_once, queued_once}
 use Rattle.sf_calls.proofs.leading.distinct.Goals as goal
 
-pub returns : goal.returns
-returns c = marked_once c.args.fs.now c.in_ok-marks.marks.items c.new-found.result.items c.args.count _ _ c.in_ok-marks.ensures c.new-found.ensures.items c.in_ok-mark_all.ensures
+pub returns-clause-members : goal.returns-clause-members
+returns-clause-members c = marked_once c.args.fs.now c.in_ok-marks.marks.items c.new-found.result.items c.args.count _ _ c.in_ok-marks.ensures c.new-found.ensures.items c.in_ok-mark_all.ensures
+
+pub returns-clause-once : goal.returns-clause-once
+returns-clause-once c = queued_once c.args.fs.now c.in_ok-marks.marks.items c.new-found.result.items _ _ c.new-found.ensures.items c.in_ok-mark_all.ensures

@@ -5,7 +5,8 @@ use Rattle.sf_core.specs.View.{procedure_of, resource_of}
 use Rattle.sf_core.specs.Whole.{program_of}
 use Rattle.sf_calls.specs.Conditions.{Free, FreeIn}
 use Rattle.sf_calls.specs.Marks.{AreRows}
-use Rattle.sf_calls.specs.Sets.{IsEarlier, IsUpTo}
+use Rattle.sf_calls.specs.Gathers.{IsUpTo}
+use Rattle.sf_calls.specs.Sets.{IsEarlier}
 use Rattle.sf_calls.proofs.Least.{if_both, free_apart, free_both}
 use Rattle.sf_calls.proofs.Rows.{family_of, rows_fit}
 use Rattle.sf_calls.proofs.InOrder.{all_shared}
