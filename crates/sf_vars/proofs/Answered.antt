@@ -1,15 +1,14 @@
 -- Each program has an answer: what its breach is by has a name, and the search over its sets finds none or the first.
-use Rattle.std.proofs.Common.{◌≡◌, ◌⊎◌, ◌<◌, ℕ, List, [], length, Option, Some, None, IfSome, slice_get, get_or, refl, inl, inr, arith}
+use Rattle.std.proofs.Common.{◌≡◌, ◌⊎◌, ◌<◌, ℕ, List, [], Option, Some, None, IfSome, slice_get, get_or, refl, inl, inr, arith}
 use Rattle.std.proofs.lemmas.Option.{slice_get-get_or, slice_get_cases}
 use Rattle.sf_base.specs.declared.ids.ProcId.{ProcId}
 use Rattle.sf_base.specs.declared.ids.Var.{Var}
 use Rattle.sf_base.specs.declared.ids.Var.TheVariants.{Own, Shared}
-use Rattle.sf_core.specs.Formed.{IsFormed, variable_count}
+use Rattle.sf_core.specs.Formed.{variable_count}
 use Rattle.sf_core.specs.Syntax.{Program, Resource}
 use Rattle.sf_calls.specs.declared.breach.Breach.{Breach}
 use Rattle.sf_calls.specs.declared.breach.Breach.TheVariants.{NotHeld, Reentered, SameReference, ReferenceIsFree, ParallelShares}
 use Rattle.sf_calls.specs.FirstBreach.{Conditions, FirstBreach}
-use Rattle.sf_calls.specs.Sets.{Sets, AreSetsOf}
 use Rattle.sf_calls.proofs.SetsThere.{sets_there}
 use Rattle.sf_vars.specs.declared.fault.VarFault.{VarFault}
 use Rattle.sf_vars.specs.Faults.{IsVariableName, IsBreachName, IsFirstFault, told_by}

@@ -1,9 +1,8 @@
 -- What a program calls and enters has its sets and its mark, and what its sets have may be named.
-use Rattle.std.proofs.Common.{◌<◌, [], length, get_or, slice_get, None, All, refl, inl, inr, arith}
+use Rattle.std.proofs.Common.{◌<◌, [], length, get_or, None, All, refl, arith}
 use Rattle.std.proofs.lemmas.List.Elements.{Contains-get_or}
 use Rattle.std.proofs.lemmas.Option.{slice_get-get_or}
 use Rattle.sf_base.specs.declared.ids.ProcId.{ProcId}
-use Rattle.sf_base.specs.declared.ids.ResId.{ResId}
 use Rattle.sf_base.specs.declared.ids.Var.{Var}
 use Rattle.sf_base.specs.declared.ids.Var.TheVariants.{Own, Shared}
 use Rattle.sf_base.specs.declared.limits.TheConstants.{RESOURCES}
@@ -16,7 +15,6 @@ use Rattle.sf_calls.proofs.InFile.{free_within}
 use Rattle.sf_calls.proofs.Least.{holds_within}
 use Rattle.sf_calls.proofs.Within.{callees_of_within}
 use Rattle.sf_vars.specs.Search.{HasSets, BlockFits, CommandFits, free_of, takes_of, holds_of}
-use Rattle.sf_core.specs.Formed.{variable_count}
 
 -- what is called is there
 pub callee_there : (p : Program) (h : Procedure) (c : Call) → CallWithin p h c → c.callee.0 < length p.procedures

@@ -1,5 +1,5 @@
 -- The search finds the first breach.
-use Rattle.std.proofs.Common.{◌≡◌, ◌≢◌, ◌⊎◌, ◌↔◌, ◌<◌, ◌+◌, ◌-◌, ℕ, suc, Bool, true, false, List, [], ◌∷◌, ◌++◌, length, get_or, replicate, slice_get, Option, Some, None, IfSome, Contains, All, refl, sym, ap, inl, inr, ◌∙◌, subst, arith}
+use Rattle.std.proofs.Common.{◌≡◌, ◌≢◌, ◌⊎◌, ◌↔◌, ◌<◌, ◌+◌, ℕ, suc, Bool, true, false, List, [], ◌∷◌, ◌++◌, length, get_or, replicate, slice_get, Option, Some, None, IfSome, Contains, All, refl, sym, ap, inl, inr, ◌∙◌, subst, arith}
 use Rattle.std.specs.Bool.{Decides}
 use Rattle.std.specs.Option.{option_or, option_map}
 use Rattle.std.proofs.lemmas.Bool.Decides.{Decides-or, Decides-and, Decides-not, Decides-like, eqb_tells, leb_tells}
@@ -20,7 +20,7 @@ use Rattle.sf_core.specs.declared.assertion.Test.TheVariants.{True, Equal, Diffe
 use Rattle.sf_core.specs.declared.command.Expr.{Expr}
 use Rattle.sf_core.specs.declared.command.Expr.TheVariants.{Var as Variable, Nil, Int}
 use Rattle.sf_core.specs.declared.command.Occurrence.{Occurrence}
-use Rattle.sf_core.specs.Formed.{variable_count, IsFormed, IsInBody, IsSettable, ExprWithin, TestWithin, OperandWithin, FieldsWithin, LevelWithin, ConjunctsWithin, ConjunctWithin, CallWithin, CommandWithin, BlockWithin}
+use Rattle.sf_core.specs.Formed.{IsFormed, IsInBody, IsSettable, ExprWithin, TestWithin, OperandWithin, FieldsWithin, LevelWithin, ConjunctsWithin, ConjunctWithin, CallWithin, CommandWithin, BlockWithin}
 use Rattle.sf_core.specs.HeldBy.{HeldBy}
 use Rattle.sf_core.specs.Syntax.{Conjunct, holds, points, segment, tree, choose, Level, level, Conjuncts, none, also, Call, Command, assign, look_up, mutate, new, dispose, if, while, call, fork, with, Block, done, then, Procedure, Program}
 use Rattle.sf_calls.specs.declared.breach.Breach.{Breach}
