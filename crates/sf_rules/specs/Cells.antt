@@ -1,4 +1,5 @@
--- Words for the cells of a list of atoms: where an atom of a number stands, and whether fields are as wanted.
+-- Words for the cells of a list of atoms: where an atom of a number stands, and whether fields are as wanted. They stand
+-- between the code and Table: the calls by which the search looks at cells name them, and what the program answers doesn't.
 -- Ordinary searches of a list; no source.
 use Rattle.std.specs.Prelude.{ℕ, suc, ◌==◌, Bool, false, cond, Option, Some, None, List, [], ◌∷◌, is_some}
 use Rattle.std.specs.List.{list_all}

@@ -1,5 +1,6 @@
--- How the goals that the code keeps and leaves are read: lists of items with the next one last, and the goals that a rule leaves.
--- Nothing is computed here.
+-- How the goals that the code keeps and leaves are read: lists of items with the next one last, the goals that a rule leaves,
+-- and what a mutation or a cell has. They stand between the code and Table: the calls of the search and the checker name them,
+-- and what the program answers doesn't.
 use Rattle.std.specs.Prelude.{Bool, false, ◌==◌, length, Option, Some, None, List, [], ◌∷◌, reverse, map}
 use Rattle.std.specs.List.{flat_map}
 use Rattle.sf_base.specs.declared.ids.FieldId.{FieldId}

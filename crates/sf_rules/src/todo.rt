@@ -58,10 +58,10 @@ pub(crate) fn with_add<'a>(
 ) -> Result<Vec<Item<'a>>, AllocError>
     ensures { IfOk result (λ r. todo_of r.items ≡ unless_none (pending_of given).conjuncts (add place (pending_of given)) ++ todo_of todo.entry.items) }
 {
-    if !given.conjuncts.is_empty() {
-        todo.push(Item::Add(place, given))?;
+    if given.conjuncts.is_empty() {
         return Ok(todo);
     }
+    todo.push(Item::Add(place, given))?;
     Ok(todo)
 }
 
@@ -74,9 +74,9 @@ pub(crate) fn with_take<'a>(
 ) -> Result<Vec<Item<'a>>, AllocError>
     ensures { IfOk result (λ r. todo_of r.items ≡ unless_none (pending_of want).conjuncts (take place (pending_of want) names.now) ++ todo_of todo.entry.items) }
 {
-    if !want.conjuncts.is_empty() {
-        todo.push(Item::Take(place, want, names))?;
+    if want.conjuncts.is_empty() {
         return Ok(todo);
     }
+    todo.push(Item::Take(place, want, names))?;
     Ok(todo)
 }

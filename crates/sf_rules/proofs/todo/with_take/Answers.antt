@@ -4,9 +4,9 @@ use Rattle.sf_rules.specs.Left.{todo_of}
 use Rattle.sf_rules.proofs.Items.{todo_of_push, unless_empty_before, unless_some_before}
 use Rattle.sf_rules.proofs.todo.with_take.Goals as goal
 
-pub returns : goal.returns
-returns c = unless_empty_before c.args.want.conjuncts.items (take c.args.place (pending_of c.args.want) c.args.names.now) (todo_of c.args.todo.items) (search rules)
+pub returns-then-is_empty : goal.returns-then-is_empty
+returns-then-is_empty c = unless_empty_before c.args.want.conjuncts.items (take c.args.place (pending_of c.args.want) c.args.names.now) (todo_of c.args.todo.items) (search rules)
 
-pub returns-then-not-is_empty : goal.returns-then-not-is_empty
-returns-then-not-is_empty c = unless_some_before c.args.want.conjuncts.items (take c.args.place (pending_of c.args.want) c.args.names.now) (todo_of c.args.todo.items) (todo_of c.push.new.self.items) (search rules)
+pub returns : goal.returns
+returns c = unless_some_before c.args.want.conjuncts.items (take c.args.place (pending_of c.args.want) c.args.names.now) (todo_of c.args.todo.items) (todo_of c.push.new.self.items) (search rules)
     (ap todo_of c.in_ok-push.ensures.items ∙ todo_of_push c.args.todo.items _)
