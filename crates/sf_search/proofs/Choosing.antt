@@ -20,7 +20,7 @@ use Rattle.sf_sym.specs.Goal.{Item, run, add, take, gave, head, again, exit, ret
 use Rattle.sf_sym.specs.Tests.{is_absurd}
 use Rattle.sf_search.specs.declared.strategy.Stuck.{Stuck}
 use Rattle.sf_search.specs.declared.strategy.Stuck.TheVariants.{NotBuilt, NotEqual, Leak}
-use Rattle.sf_search.specs.Ends.{AreRising, HasNumbersAfter}
+use Rattle.sf_search.specs.Numbers.{AreRising, HasNumbersAfter}
 use Rattle.sf_search.specs.Judge.{takes, stays, choice, choose_item, choose_command, choose_mutate, choose_add, choose_take, choose_wanted, choose_found, lowest_cell, this_or}
 use Rattle.sf_search.proofs.Assumable.{mapped_some}
 use Rattle.sf_rules.specs.Table.{row, row_of, has_numbers, assumed, hand_over, with_fields, without, cell_at, fields_at, fits, put_term, one_goal, is_empty, term}

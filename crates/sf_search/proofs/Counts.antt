@@ -6,6 +6,8 @@ use Rattle.std.proofs.lemmas.Bool.Decides.{Decides-eqb}
 use Rattle.std.proofs.lemmas.Option.{same_Some}
 use Rattle.sf_base.specs.declared.ids.FieldId.{FieldId}
 use Rattle.sf_core.specs.declared.assertion.Operand.{Operand}
+use Rattle.sf_core.specs.Formed.{ProcedureWithin}
+use Rattle.sf_core.specs.Syntax.{Procedure, Program}
 use Rattle.sf_sym.specs.declared.atom.Numbered.{Numbered}
 use Rattle.sf_sym.specs.declared.atom.Atom.TheVariants.{Points}
 use Rattle.sf_sym.specs.declared.state.State.{State}
@@ -13,9 +15,9 @@ use Rattle.sf_sym.specs.declared.tag.Tag.{Tag}
 use Rattle.sf_sym.specs.declared.tag.Tag.TheVariants as t
 use Rattle.sf_sym.specs.declared.term.Term.{Term}
 use Rattle.sf_sym.specs.Goal.{Goal}
-use Rattle.sf_search.specs.Ends.{AreRising, HasNumbersAfter}
+use Rattle.sf_search.specs.Numbers.{AreRising, HasNumbersAfter}
 use Rattle.sf_search.proofs.Leaves.{One, Grown, Written, Handed, Leaves, row_leaves}
-use Rattle.sf_rules.specs.Table.{row, with_fields, without, cell_at, fits, put_term}
+use Rattle.sf_rules.specs.Table.{row, first_goal, with_fields, without, cell_at, fits, put_term}
 
 -- numbers go up by one atom at most, and atoms' numbers go on rising
 pub record Raises (s s2 : State) : Type 0 where
@@ -139,3 +141,7 @@ each_append P (x ∷ xs) ys p q = (p.0, each_append P xs ys p.1 q)
 -- the numbers of the goals that are open after one more tag
 pub numbers_after : (n : ℕ) (g : Goal) (gs : List Goal) (tag : Tag) (left : List Goal) → AllByRecursion (HasNumbersAfter n) (g ∷ gs) → row g tag ≡ Some left → AllByRecursion (HasNumbersAfter (n + 1)) (left ++ gs)
 numbers_after n g gs tag left k e = each_append (HasNumbersAfter (n + 1)) left gs (raised_all n g left k.0 (row_raises g tag left e)) (later_all n gs k.1)
+
+-- the first goal's numbers are small, and it has no atoms
+pub numbers_first : (p : Program) (f : Procedure) → ProcedureWithin p f → HasNumbersAfter 0 (first_goal p f)
+numbers_first p f w = record { symbols = omega (arith, w.declared_count); atoms = omega arith; rising = omega arith }

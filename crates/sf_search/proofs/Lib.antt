@@ -6,4 +6,5 @@ pub mod Possible
 pub mod Trees
 pub mod Choosing
 pub mod Judging
+pub mod Judged
 pub mod BuiltGoals

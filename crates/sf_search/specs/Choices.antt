@@ -1,5 +1,6 @@
--- How the code's choices are read, what it does at commands, and after which tags it knows that a state can be.
--- Nothing else is computed here.
+-- How the code's choices are read, what it does at commands, and after which tags it knows that a state can be. The last two
+-- stand between the code and Judge, and needn't be believed: no public contract names them.
+-- Ordinary: one case a case.
 use Rattle.std.specs.Prelude.{Bool, true, false, List, [], ◌∷◌}
 use Rattle.sf_core.specs.declared.command.Command.{Command as CodeCommand}
 use Rattle.sf_core.specs.View.{command_of}

@@ -1,4 +1,5 @@
--- Judge: the strategy, which chooses the tag at each goal, and what it comes to for a whole program.
+-- Judge: the strategy, which chooses the tag at each goal, and what it comes to for a whole program. Here for programs that
+-- write fields. What it lacks so far: to drop or force an atom, to split where no atom is decided, and to look up fields.
 -- Berdine, Calcagno, O'Hearn, "Smallfoot" (2005): proof search by symbolic execution, in this project's own profile.
 use Rattle.std.specs.Prelude.{◌≡◌, ℕ, suc, ◌+◌, ◌≤◌, ◌<◌, cond, Option, Some, None, List, [], ◌∷◌, ◌++◌, length, is_some, ◌⊎◌}
 use Rattle.std.specs.List.{list_all}

@@ -2,4 +2,5 @@ pub mod Judge
 pub mod VerdictLaws
 pub mod Choices
 pub mod Ends
+pub mod Numbers
 pub mod BuiltLaws

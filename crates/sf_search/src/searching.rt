@@ -7,9 +7,10 @@ ghost use Rattle.sf_core.specs.Whole.{program_of};
 ghost use Rattle.sf_sym.specs.Goal.{Goal as AnyGoal, goal_of};
 ghost use Rattle.sf_sym.specs.Tests.{is_absurd};
 ghost use Rattle.sf_sym.specs.declared.tag.Tag.TheVariants.{Procedure};
-ghost use Rattle.sf_search.specs.Ends.{EndsAs, FailsAs, HasNumbersAfter};
+ghost use Rattle.sf_search.specs.Ends.{EndsAs, FailsAs};
 ghost use Rattle.sf_search.specs.Choices.{choice_of};
 ghost use Rattle.sf_search.specs.Judge.{Judge, Search, choice, proof, proved};
+ghost use Rattle.sf_search.specs.Numbers.{HasNumbersAfter};
 ghost use Rattle.sf_rules.specs.Left.{stack_of};
 ghost use Rattle.sf_rules.specs.Table.{first_goal, row};
 
@@ -34,7 +35,7 @@ pub enum SearchFault<'a> {
 
 impl<'a> From<AllocError> for SearchFault<'a> {
     ghost use Rattle.std.specs.Prelude.{◌≡◌};
-    ghost use Rattle.sf_search.specs.declared.search.SearchFault.TheVariants.{OutOfMemory};
+    ghost use Rattle.sf_search.specs.declared.searching.SearchFault.TheVariants.{OutOfMemory};
 
     ghost from_gives = { λ _ e. e ≡ OutOfMemory };
 
@@ -54,7 +55,7 @@ pub enum VerifyFault {
 
 impl<'a, T: Drop> From<AllocFailed<T>> for SearchFault<'a> {
     ghost use Rattle.std.specs.Prelude.{◌≡◌};
-    ghost use Rattle.sf_search.specs.declared.search.SearchFault.TheVariants.{OutOfMemory};
+    ghost use Rattle.sf_search.specs.declared.searching.SearchFault.TheVariants.{OutOfMemory};
 
     ghost from_gives = { λ _ e. e ≡ OutOfMemory };
 
@@ -65,7 +66,7 @@ impl<'a, T: Drop> From<AllocFailed<T>> for SearchFault<'a> {
 
 impl From<AllocError> for VerifyFault {
     ghost use Rattle.std.specs.Prelude.{◌≡◌};
-    ghost use Rattle.sf_search.specs.declared.search.VerifyFault.TheVariants.{OutOfMemory};
+    ghost use Rattle.sf_search.specs.declared.searching.VerifyFault.TheVariants.{OutOfMemory};
 
     ghost from_gives = { λ _ e. e ≡ OutOfMemory };
 

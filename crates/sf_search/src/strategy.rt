@@ -53,7 +53,7 @@ pub fn choose(goal: &Goal) -> Choice
 
 /// What it does at a goal whose state can be: the item in front decides. It compares no cells with one
 /// another.
-pub fn choose_next(goal: &Goal) -> Choice
+pub(crate) fn choose_next(goal: &Goal) -> Choice
     requires { is_absurd goal.now.state ≡ false }
     ensures { choice_of result ≡ choice (goal_of goal.now) }
 {
@@ -65,7 +65,7 @@ pub fn choose_next(goal: &Goal) -> Choice
 
 /// Whether by the tag no cell comes or goes: one may be written or handed over. A state that can be
 /// still can after such a tag.
-pub fn keeps_cells(tag: Tag) -> bool
+pub(crate) fn keeps_cells(tag: Tag) -> bool
     ensures { result ≡ keeps_cells tag }
 {
     matches!(tag, Tag::Mutate(_) | Tag::Cell(_) | Tag::Return)

@@ -2,14 +2,14 @@ use Rattle.std.proofs.Common.{◌≡◌, ◌+◌, ◌<◌, ◌∙◌, ap, sym, s
 use Rattle.sf_base.specs.declared.limits.TheConstants.{PROCEDURE_TAGS}
 use Rattle.std.specs.List.{AllByRecursion}
 use Rattle.sf_sym.specs.Goal.{goal_of}
-use Rattle.sf_search.specs.Ends.{HasNumbersAfter}
+use Rattle.sf_search.specs.Numbers.{HasNumbersAfter}
 use Rattle.sf_search.specs.Judge.{stuck, large, proved}
 use Rattle.sf_rules.specs.Left.{stack_of}
 use Rattle.sf_search.proofs.Choosing.{chosen_row}
 use Rattle.sf_search.proofs.Counts.{numbers_after}
 use Rattle.sf_search.proofs.Possible.{FirstIsPossible, first_possible}
 use Rattle.sf_search.proofs.Trees.{Leads, leads_on, leads_end, stack_push, no_goals}
-use Rattle.sf_search.proofs.search.search_from.Goals as goal
+use Rattle.sf_search.proofs.searching.search_from.Goals as goal
 
 pub choose_knowing-requires : goal.choose_knowing-requires
 choose_knowing-requires c =

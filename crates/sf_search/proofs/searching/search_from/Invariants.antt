@@ -2,11 +2,11 @@ use Rattle.std.proofs.Common.{◌≡◌, ◌≤◌, ◌-◌, true, [], ◌∷◌
 use Rattle.sf_base.specs.declared.limits.TheConstants.{PROCEDURE_TAGS}
 use Rattle.std.specs.List.{AllByRecursion}
 use Rattle.sf_sym.specs.Goal.{goal_of}
-use Rattle.sf_search.specs.Ends.{HasNumbersAfter}
+use Rattle.sf_search.specs.Numbers.{HasNumbersAfter}
 use Rattle.sf_rules.specs.Left.{stack_of}
 use Rattle.sf_search.proofs.Possible.{FirstIsPossible}
 use Rattle.sf_search.proofs.Trees.{Leads}
-use Rattle.sf_search.proofs.search.search_from.Given as goal
+use Rattle.sf_search.proofs.searching.search_from.Given as goal
 
 abbrev pub invariant-loop-goal : goal.invariant-loop-goal
 invariant-loop-goal l = record {

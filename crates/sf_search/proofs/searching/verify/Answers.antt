@@ -5,7 +5,7 @@ use Rattle.sf_rules.specs.Table.{first_goal}
 use Rattle.sf_core.specs.View.{procedure_of}
 use Rattle.sf_core.proofs.Lookup.{read_mapped}
 use Rattle.sf_search.proofs.Judging.{judged_next, judged_over, drop_past, judged_stuck, judged_large, judged_all, drop_map}
-use Rattle.sf_search.proofs.search.verify.Goals as goal
+use Rattle.sf_search.proofs.searching.verify.Goals as goal
 
 pub search-requires : goal.search-requires
 search-requires c = c.args.p.now.formed.procedures c.loop-i.i (procedure_of c.f-item.result)

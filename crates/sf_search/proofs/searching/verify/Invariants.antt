@@ -2,7 +2,7 @@ use Rattle.std.proofs.Common.{◌≤◌}
 use Rattle.sf_base.specs.declared.limits.TheConstants.{FILE_TAGS}
 use Rattle.sf_core.specs.Whole.{program_of}
 use Rattle.sf_search.proofs.Judging.{Judged}
-use Rattle.sf_search.proofs.search.verify.Given as goal
+use Rattle.sf_search.proofs.searching.verify.Given as goal
 
 abbrev pub invariant-loop-i : goal.invariant-loop-i
 invariant-loop-i l = record {
