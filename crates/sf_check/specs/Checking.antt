@@ -1,11 +1,12 @@
 -- Where a check of tags stands: the goal that is open, if one is, and how many procedures have begun.
--- In this form of programs no tag leaves two goals, so no more than one is ever open.
+-- In this form of programs no tag leaves two goals, so no more than one is ever open. These definitions stand between the code
+-- and Checks, and needn't be believed: no public contract names them.
 use Rattle.std.specs.Prelude.{Option, Some, None, List, [], ◌∷◌}
 use Rattle.sf_core.specs.Syntax.{Program}
 use Rattle.sf_sym.specs.declared.goal.Goal.{Goal as CodeGoal}
 use Rattle.sf_sym.specs.declared.tag.Tag.{Tag}
 use Rattle.sf_sym.specs.Goal.{Goal, goal_of}
-use Rattle.sf_check.specs.declared.check.Checking.{Checking}
+use Rattle.sf_check.specs.declared.checking.Checking.{Checking}
 use Rattle.sf_check.specs.Checks.{ChecksFrom}
 
 -- the open goals

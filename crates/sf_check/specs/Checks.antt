@@ -1,4 +1,5 @@
--- Checks: tags accepted one after the other with a stack of open goals, the first of which is worked first.
+-- Checks: tags accepted one after the other with a stack of open goals, the first of which is worked first. These definitions
+-- stand between the checker's code and Proves, and needn't be believed: no public contract names them.
 -- Ordinary: a tree in preorder is read with a stack; Knuth, "The Art of Computer Programming", volume 1 (1968), section 2.3.
 use Rattle.std.specs.Prelude.{◌≡◌, ℕ, suc, Some, List, [], ◌∷◌, ◌++◌, drop}
 use Rattle.sf_core.specs.Syntax.{Procedure, Program}

@@ -1,4 +1,6 @@
 //! The checker: whether tags prove a program.
 #![tactic(auto)]
 
-pub mod check;
+mod checking;
+
+pub use checking::check;

@@ -16,7 +16,7 @@ use crate::reading::admit;
 use crate::refusal::{FIRST_PLACE, Refusal, RefusalKind, refusal_text};
 use crate::words::{Order, USAGE, read_order};
 use sf_base::limits::FILE_BYTES;
-use sf_check::check::check;
+use sf_check::check;
 use sf_core::Program;
 use sf_io::{FetchFault, Shelf};
 use sf_proof::{name_of, proof_text};

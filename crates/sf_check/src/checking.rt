@@ -35,7 +35,7 @@ fn begin<'a>(
     ensures taken { IfOk result (λ next. IfSome next (λ at. (tags : List TagOf) → ChecksFrom (program_of p.now) begun [] (tag ∷ tags) ↔ AcceptsFrom (program_of p.now) at tags)) }
     ensures refused { IfOk result (λ next. IfNone next ((tags : List TagOf) → ChecksFrom (program_of p.now) begun [] (tag ∷ tags) → ⊥)) }
 {
-    if begun >= p.procedures.len() || begun >= u32::MAX as usize {
+    if begun >= p.procedures.len() {
         return Ok(None);
     }
     if tag != Tag::Procedure(ProcId(begun as u32)) {

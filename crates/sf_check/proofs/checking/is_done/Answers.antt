@@ -7,7 +7,7 @@ use Rattle.sf_sym.specs.declared.goal.Goal.{Goal as CodeGoal}
 use Rattle.sf_check.proofs.Stacks.{end-checks}
 use Rattle.sf_check.specs.Checking.{open_goals}
 use Rattle.sf_check.specs.Checks.{ChecksFrom}
-use Rattle.sf_check.proofs.check.is_done.Goals as goal
+use Rattle.sf_check.proofs.checking.is_done.Goals as goal
 
 at_most : (a b n : ℕ) → leb a b ≡ true → n ≡ a → n ≤ b
 at_most a b n h e = grind (arith, nat_tests)

@@ -4,7 +4,7 @@ use Rattle.sf_core.specs.Whole.{program_of}
 use Rattle.sf_sym.specs.declared.tag.Tag.TheVariants.{Procedure as Begin}
 use Rattle.sf_sym.specs.Goal.{goal_of}
 use Rattle.sf_check.proofs.Stacks.{begin-accepted}
-use Rattle.sf_check.proofs.check.begin.Goals as goal
+use Rattle.sf_check.proofs.checking.begin.Goals as goal
 
 -- the program keeps that its procedures are in order
 pub start_goal-requires : goal.start_goal-requires

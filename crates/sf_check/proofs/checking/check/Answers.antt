@@ -7,7 +7,7 @@ use Rattle.sf_sym.specs.declared.tag.Tag.{Tag as TagOf}
 use Rattle.sf_sym.specs.declared.tag.Tag.TheVariants.{Procedure}
 use Rattle.sf_check.proofs.Stacks.{checks-proves, proves-checks}
 use Rattle.sf_check.specs.Checking.{AcceptsFrom}
-use Rattle.sf_check.proofs.check.check.Goals as goal
+use Rattle.sf_check.proofs.checking.check.Goals as goal
 
 -- the tag at an index and those behind it
 cut : (tags : List TagOf) (i : ℕ) → i < length tags → drop i tags ≡ get_or tags i (Procedure (record { 0 = 0 })) ∷ drop (i + 1) tags

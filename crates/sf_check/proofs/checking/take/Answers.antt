@@ -6,7 +6,7 @@ use Rattle.sf_sym.specs.declared.tag.Tag.{Tag as TagOf}
 use Rattle.sf_rules.proofs.Answered.{answered-some, answered-none}
 use Rattle.sf_check.specs.Checking.{open_goals, AcceptsFrom}
 use Rattle.sf_check.specs.Checks.{ChecksFrom}
-use Rattle.sf_check.proofs.check.take.Goals as goal
+use Rattle.sf_check.proofs.checking.take.Goals as goal
 
 -- what holds for every program holds for this one
 pub returns-in-Some-clause-taken : goal.returns-in-Some-clause-taken

@@ -2,7 +2,7 @@ use Rattle.std.proofs.Common.{◌↔◌, drop}
 use Rattle.sf_core.specs.Whole.{program_of}
 use Rattle.sf_check.specs.Checking.{AcceptsFrom}
 use Rattle.sf_rules.specs.Proves.{Proves}
-use Rattle.sf_check.proofs.check.check.Given as goal
+use Rattle.sf_check.proofs.checking.check.Given as goal
 
 -- all tags prove the program exactly where those to come are accepted from here
 abbrev pub invariant-loop-tag : goal.invariant-loop-tag
