@@ -3,6 +3,8 @@ pub mod Assumable
 pub mod Leaves
 pub mod Counts
 pub mod Possible
+pub mod Added
+pub mod Known
 pub mod Trees
 pub mod Choosing
 pub mod Judging

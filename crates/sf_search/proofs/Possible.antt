@@ -1,6 +1,6 @@
 -- The tags that leave the cells as they are leave a state that can be one that can be.
 -- Names: `bare` speaks of atoms without their fields, `possible` of what is left by a tag.
-use Rattle.std.proofs.Common.{◌≡◌, ℕ, ◌==◌, Bool, true, false, ◌&&◌, ◌||◌, cond, Option, Some, None, List, [], ◌∷◌, ◌++◌, map, refl, sym, ap, ap₂, ◌∙◌, subst, append_assoc}
+use Rattle.std.proofs.Common.{◌≡◌, ℕ, ◌==◌, Bool, true, false, ◌&&◌, ◌||◌, cond, Option, Some, None, List, [], ◌∷◌, ◌++◌, map, refl, sym, ap, ap₂, ◌∙◌, append_assoc}
 use Rattle.std.specs.List.{list_all, list_any}
 use Rattle.std.specs.Option.{option_map, option_and_then}
 use Rattle.std.proofs.lemmas.Bool.Decides.{Decides-eqb}
@@ -17,11 +17,9 @@ use Rattle.sf_sym.specs.declared.term.Term.{Term}
 use Rattle.sf_sym.specs.Goal.{Goal}
 use Rattle.sf_sym.specs.Tests.{same_term, root, has_cell, allocates, is_impossible, has_repeat, is_absurd}
 use Rattle.sf_sym.proofs.Terms.{same_term_is}
-use Rattle.sf_search.specs.Choices.{keeps_cells}
-use Rattle.sf_search.specs.Judge.{takes, choice, choose_item}
-use Rattle.sf_search.proofs.Leaves.{One, Written, Handed, Leaves, row_leaves}
+use Rattle.sf_search.proofs.Leaves.{One, Written, Handed, Leaves}
 use Rattle.sf_rules.proofs.Numbers.{points_at}
-use Rattle.sf_rules.specs.Table.{row, fits, with_fields, without, cell_at, fields_at, put_term}
+use Rattle.sf_rules.specs.Table.{fits, with_fields, without, cell_at, fields_at, put_term}
 
 -- an atom without its fields
 abbrev bare : Atom → Atom
@@ -65,7 +63,7 @@ repeat_stripped apart (x ∷ xs) = ap₂ (λ a b. a || b)
     (repeat_stripped apart xs)
 
 -- by its pairs and its atoms without their fields it is known whether a state can be
-abbrev absurd_by : (apart : List (Term × Term)) → List Numbered → Bool
+abbrev pub absurd_by : (apart : List (Term × Term)) → List Numbered → Bool
 absurd_by apart xs = list_any (λ p. same_term p.0 p.1) apart || list_any (λ a. is_impossible apart a.atom) xs || has_repeat apart xs
 
 absurd_stripped : (apart : List (Term × Term)) (xs ys : List Numbered) → map stripped xs ≡ map stripped ys → absurd_by apart xs ≡ absurd_by apart ys
@@ -175,7 +173,8 @@ turned p q a b x z r e =
     ap (λ c. c || (b && z || r)) (and_or p a x) ∙ ap (λ c. (c || a && x) || (b && z || r)) e ∙ or_turned (q && z) (a && x) (b && z) r
     ∙ sym (ap (λ c. c || (a && x || r)) (and_or q b z))
 
-repeat_last : (apart : List (Term × Term)) (x : Numbered) (zs : List Numbered) → has_repeat apart (x ∷ zs) ≡ has_repeat apart (zs ++ x ∷ [])
+-- one atom may stand first or last
+pub repeat_last : (apart : List (Term × Term)) (x : Numbered) (zs : List Numbered) → has_repeat apart (x ∷ zs) ≡ has_repeat apart (zs ++ x ∷ [])
 repeat_last apart x [] = refl
 repeat_last apart x (z ∷ zs) =
     turned (allocates apart (root x.atom) z.atom) (allocates apart (root z.atom) x.atom) (list_any (λ b. allocates apart (root x.atom) b.atom) zs) (list_any (λ b. allocates apart (root z.atom) b.atom) zs)
@@ -216,14 +215,21 @@ handed_keeps s a u wanted s2 (Some fields) h e =
     ∙ ap (λ ys. absurd_by s.apart (ys ++ s.taken)) (sym parted.is))
     e
 
+-- a tag by which no cell comes or goes: one may be written or handed over
+abbrev keeps_cells : Tag → Bool
+keeps_cells (t.Mutate a) = true
+keeps_cells (t.Cell a) = true
+keeps_cells t.Return = true
+keeps_cells _ = false
+
 -- one goal is left, and its state can be
-abbrev OnePossible : List Goal → Type 0
+abbrev pub OnePossible : List Goal → Type 0
 OnePossible left = One (λ s. is_absurd s ≡ false) left
 
 one_possible : (P : State → Type 0) (left : List Goal) → ((s2 : State) → P s2 → is_absurd s2 ≡ false) → One P left → OnePossible left
 one_possible P left each w = record { goal = w.goal; is = w.is; like = each w.goal.state w.like }
 
-leaves_possible : (s : State) (tag : Tag) (left : List Goal) → keeps_cells tag ≡ true → is_absurd s ≡ false → Leaves tag s left → OnePossible left
+pub leaves_possible : (s : State) (tag : Tag) (left : List Goal) → keeps_cells tag ≡ true → is_absurd s ≡ false → Leaves tag s left → OnePossible left
 leaves_possible s (t.Procedure f) left k p w = absurd (cc)
 leaves_possible s (t.Split x y) left k p w = absurd (cc)
 leaves_possible s t.Absurd left k p w = absurd (cc)
@@ -257,18 +263,3 @@ leaves_possible s (t.Exact a) left k p w = absurd (cc)
 leaves_possible s (t.Head a) left k p w = absurd (cc)
 leaves_possible s (t.Join a) left k p w = absurd (cc)
 leaves_possible s (t.Node a) left k p w = absurd (cc)
-
--- the state of the first of the goals can be
-abbrev pub FirstIsPossible : List Goal → Type 0
-FirstIsPossible [] = Unit {0}
-FirstIsPossible (g ∷ gs) = is_absurd g.state ≡ false
-
-was_possible : (g : Goal) (tag : Tag) (b : Bool) → is_absurd g.state ≡ b → keeps_cells tag ≡ true → cond b (takes t.Absurd) (choose_item g.state g.todo) ≡ takes tag → is_absurd g.state ≡ false
-was_possible g tag true a k e = let same : t.Absurd ≡ tag = cc in absurd (cc)
-was_possible g tag false a k e = a
-
--- after a tag that leaves the cells as they are the first goal's state can be
-pub first_possible : (g : Goal) (gs : List Goal) (tag : Tag) (left : List Goal) → choice g ≡ takes tag → row g tag ≡ Some left → keeps_cells tag ≡ true → FirstIsPossible (left ++ gs)
-first_possible g gs tag left c r k =
-    let one = leaves_possible g.state tag left k (was_possible g tag (is_absurd g.state) refl k c) (row_leaves g tag left r) in
-    subst (λ goals. FirstIsPossible (goals ++ gs)) (sym one.is) one.like

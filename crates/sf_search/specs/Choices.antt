@@ -1,12 +1,10 @@
--- How the code's choices are read, what it does at commands, and after which tags it knows that a state can be. The last two
--- stand between the code and Judge, and needn't be believed: no public contract names them.
+-- How the code's choices are read, and what it does at commands. The last stands between the code and Judge, and needn't be
+-- believed: no public contract names it.
 -- Ordinary: one case a case.
-use Rattle.std.specs.Prelude.{Bool, true, false, List, [], ◌∷◌}
+use Rattle.std.specs.Prelude.{List, [], ◌∷◌}
 use Rattle.sf_core.specs.declared.command.Command.{Command as CodeCommand}
 use Rattle.sf_core.specs.View.{command_of}
 use Rattle.sf_sym.specs.declared.state.State.{State}
-use Rattle.sf_sym.specs.declared.tag.Tag.{Tag}
-use Rattle.sf_sym.specs.declared.tag.Tag.TheVariants.{Mutate, Cell, Return}
 use Rattle.sf_search.specs.declared.strategy.Choice.{Choice as CodeChoice}
 use Rattle.sf_search.specs.declared.strategy.Choice.TheVariants.{Takes, Stays}
 use Rattle.sf_search.specs.declared.strategy.Stuck.TheVariants.{NotBuilt}
@@ -21,10 +19,3 @@ choice_of (Stays kind) = stays kind
 abbrev pub choose_first : State → List CodeCommand → Choice
 choose_first s [] = stays NotBuilt
 choose_first s (c ∷ cs) = choose_command s (command_of c)
-
--- a tag by which no cell comes or goes: one may be written or handed over
-abbrev pub keeps_cells : Tag → Bool
-keeps_cells (Mutate a) = true
-keeps_cells (Cell a) = true
-keeps_cells Return = true
-keeps_cells _ = false

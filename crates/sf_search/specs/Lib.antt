@@ -3,4 +3,5 @@ pub mod VerdictLaws
 pub mod Choices
 pub mod Ends
 pub mod Numbers
+pub mod Known
 pub mod BuiltLaws

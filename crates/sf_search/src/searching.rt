@@ -1,20 +1,20 @@
 //! The search for a proof, procedure by procedure.
 
-ghost use Rattle.std.specs.Prelude.{◌≡◌, ◌++◌, [], ◌∷◌, List, false, true, is_some, IfOk, IfErr, OnOk};
+ghost use Rattle.std.specs.Prelude.{◌≡◌, ◌++◌, [], ◌∷◌, List, true, is_some, IfOk, IfErr, OnOk};
 ghost use Rattle.sf_core.specs.Formed.{ProcedureWithin};
 ghost use Rattle.sf_core.specs.View.{procedure_of};
 ghost use Rattle.sf_core.specs.Whole.{program_of};
 ghost use Rattle.sf_sym.specs.Goal.{Goal as AnyGoal, goal_of};
-ghost use Rattle.sf_sym.specs.Tests.{is_absurd};
 ghost use Rattle.sf_sym.specs.declared.tag.Tag.TheVariants.{Procedure};
 ghost use Rattle.sf_search.specs.Ends.{EndsAs, FailsAs};
 ghost use Rattle.sf_search.specs.Choices.{choice_of};
 ghost use Rattle.sf_search.specs.Judge.{Judge, Search, choice, proof, proved};
+ghost use Rattle.sf_search.specs.Known.{IsTrueOf};
 ghost use Rattle.sf_search.specs.Numbers.{HasNumbersAfter};
 ghost use Rattle.sf_rules.specs.Left.{stack_of};
 ghost use Rattle.sf_rules.specs.Table.{first_goal, row};
 
-use crate::strategy::{Choice, Stuck, choose, choose_next, keeps_cells};
+use crate::strategy::{Choice, Known, Stuck, choose, choose_added, choose_next, known_after};
 use sf_base::ProcId;
 use sf_base::limits::{FILE_TAGS, PROCEDURE_TAGS};
 use sf_core::{Proc, Program};
@@ -94,10 +94,10 @@ fn search_from<'a>(alloc: Global, first: Goal<'a>) -> Result<Vec<Tag>, SearchFau
     let mut tags = Vec::new(alloc);
     let mut stack = Vec::new(alloc);
     stack.push(first)?;
-    // Whether the next goal's state is known to be one that can be.
-    let mut is_known = false;
+    // What is known of the next goal's state.
+    let mut known = Known::Nothing;
     while let Some(goal) = stack.pop() {
-        let tag = match choose_knowing(&goal, is_known) {
+        let tag = match choose_knowing(&goal, known) {
             Choice::Takes(tag) => tag,
             Choice::Stays(kind) => return Err(SearchFault::Stuck(goal, kind)),
         };
@@ -105,20 +105,20 @@ fn search_from<'a>(alloc: Global, first: Goal<'a>) -> Result<Vec<Tag>, SearchFau
             return Err(SearchFault::TooLarge);
         }
         follow(alloc, &mut stack, &mut tags, goal, tag)?;
-        is_known = keeps_cells(tag);
+        known = known_after(tag);
     }
     Ok(tags)
 }
 
-/// What the strategy does at the goal, whose state may be known to be one that can be.
-fn choose_knowing(goal: &Goal, is_known: bool) -> Choice
-    requires { is_known ≡ true → is_absurd goal.now.state ≡ false }
+/// What the strategy does at the goal, of whose state so much is known.
+fn choose_knowing(goal: &Goal, known: Known) -> Choice
+    requires { IsTrueOf known goal.now.state }
     ensures { choice_of result ≡ choice (goal_of goal.now) }
 {
-    if is_known {
-        choose_next(goal)
-    } else {
-        choose(goal)
+    match known {
+        Known::Nothing => choose(goal),
+        Known::Possible => choose_next(goal),
+        Known::Added => choose_added(goal),
     }
 }
 

@@ -6,8 +6,9 @@ ghost use Rattle.sf_core.specs.View.{command_of, conjunct_of};
 ghost use Rattle.sf_sym.specs.declared.state.State.{State as AnyState};
 ghost use Rattle.sf_sym.specs.Tests.{is_absurd};
 ghost use Rattle.sf_sym.specs.Goal.{Item as Thing, goal_of, items_of, pending_of};
-ghost use Rattle.sf_search.specs.Choices.{choice_of, choose_first, keeps_cells};
+ghost use Rattle.sf_search.specs.Choices.{choice_of, choose_first};
 ghost use Rattle.sf_search.specs.Judge.{choice, choose_add, choose_command, choose_end, choose_found, choose_item, choose_mutate, choose_take, choose_wanted, lowest_cell};
+ghost use Rattle.sf_search.specs.Known.{IsAdded, is_absurd_beside, known_after};
 ghost use Rattle.sf_rules.specs.Left.{is_nothing};
 ghost use Rattle.sf_rules.specs.Table.{assumed};
 
@@ -29,6 +30,17 @@ pub enum Stuck {
     Leak,
     /// What is in front has no rule yet.
     NotBuilt,
+}
+
+/// What a search knows of the next goal's state.
+#[derive(Clone, Copy, Debug, PartialEq, Eq)]
+pub(crate) enum Known {
+    /// Nothing.
+    Nothing,
+    /// That it can be.
+    Possible,
+    /// That it can be exactly where its last cell stands at no constant, and at no other atom's term.
+    Added,
 }
 
 /// What the strategy does at a goal.
@@ -63,12 +75,49 @@ pub(crate) fn choose_next(goal: &Goal) -> Choice
     }
 }
 
-/// Whether by the tag no cell comes or goes: one may be written or handed over. A state that can be
-/// still can after such a tag.
-pub(crate) fn keeps_cells(tag: Tag) -> bool
-    ensures { result ≡ keeps_cells tag }
+/// What it does at a goal whose state got its last cell by the tag before, and could be before that: the cell
+/// is compared with the others, and no others with one another.
+pub(crate) fn choose_added(goal: &Goal) -> Choice
+    requires { IsAdded goal.now.state }
+    ensures { choice_of result ≡ choice (goal_of goal.now) }
 {
-    matches!(tag, Tag::Mutate(_) | Tag::Cell(_) | Tag::Return)
+    if is_added_absurd(&goal.state) {
+        return Choice::Takes(Tag::Absurd);
+    }
+    choose_next(goal)
+}
+
+/// Whether such a state can't be.
+fn is_added_absurd(state: &State) -> bool
+    requires { IsAdded state.now }
+    ensures { result ≡ is_absurd state.now }
+{
+    if state.taken.len() > 0 {
+        return state.is_absurd();
+    }
+    match state.atoms.as_slice().split_last() {
+        Some((last, _)) => is_absurd_beside(state, last),
+        None => state.is_absurd(),
+    }
+}
+
+/// Whether the atom stands at a constant, or some atom at nil, or another one at the same term.
+fn is_absurd_beside(state: &State, x: &Numbered) -> bool
+    ensures { result ≡ is_absurd_beside state.now x.now }
+{
+    let root = x.atom.root();
+    root.is_constant() || state.allocated(Term::Nil, None) || state.allocated(root, Some(x.number))
+}
+
+/// What is known of the state that a tag leaves.
+pub(crate) fn known_after(tag: Tag) -> Known
+    ensures { result ≡ known_after tag }
+{
+    match tag {
+        Tag::Mutate(_) | Tag::Cell(_) | Tag::Return => Known::Possible,
+        Tag::Add => Known::Added,
+        _ => Known::Nothing,
+    }
 }
 
 /// What it does at an item that stands for something.

@@ -3,18 +3,19 @@ use Rattle.sf_base.specs.declared.limits.TheConstants.{PROCEDURE_TAGS}
 use Rattle.std.specs.List.{AllByRecursion}
 use Rattle.sf_sym.specs.Goal.{goal_of}
 use Rattle.sf_search.specs.Numbers.{HasNumbersAfter}
+use Rattle.sf_search.specs.Known.{known_after}
 use Rattle.sf_search.specs.Judge.{stuck, large, proved}
 use Rattle.sf_rules.specs.Left.{stack_of}
 use Rattle.sf_search.proofs.Choosing.{chosen_row}
 use Rattle.sf_search.proofs.Counts.{numbers_after}
-use Rattle.sf_search.proofs.Possible.{FirstIsPossible, first_possible}
+use Rattle.sf_search.proofs.Known.{KnownOfFirst, known-first}
 use Rattle.sf_search.proofs.Trees.{Leads, leads_on, leads_end, stack_push, no_goals}
 use Rattle.sf_search.proofs.searching.search_from.Goals as goal
 
 pub choose_knowing-requires : goal.choose_knowing-requires
 choose_knowing-requires c =
     let stack = ap stack_of c.in-Some.ensures.items ∙ stack_push c.pop.new.self.items c.in-Some.goal in
-    λ e. subst FirstIsPossible stack (c.loop-goal.invariant.known e)
+    subst (KnownOfFirst c.loop-goal.known) stack c.loop-goal.invariant.known
 
 pub follow-requires : goal.follow-requires
 follow-requires c =
@@ -37,8 +38,8 @@ loop-goal-preserved c =
           (leads_on (goal_of c.args.first ∷ []) (stack_of c.pop.new.self.items) (goal_of c.in-Some.goal) c.loop-goal.tags.items c.in-Takes.tag left.0 leads (sym c.in-Takes.ensures) left.1));
       numbers = subst (λ n. AllByRecursion (HasNumbersAfter n) (stack_of c.follow.new.stack.items)) (sym longer)
           (subst (AllByRecursion (HasNumbersAfter (length c.loop-goal.tags.items + 1))) (sym left.2) (numbers_after (length c.loop-goal.tags.items) (goal_of c.in-Some.goal) (stack_of c.pop.new.self.items) c.in-Takes.tag left.0 numbers left.1));
-      known = λ e. subst FirstIsPossible (sym left.2)
-          (first_possible (goal_of c.in-Some.goal) (stack_of c.pop.new.self.items) c.in-Takes.tag left.0 (sym c.in-Takes.ensures) left.1 (sym c.keeps_cells-is_known.ensures ∙ e));
+      known = subst (λ k. KnownOfFirst k (stack_of c.follow.new.stack.items)) (sym c.known_after-known.ensures) (subst (KnownOfFirst (known_after c.in-Takes.tag)) (sym left.2)
+          (known-first (goal_of c.in-Some.goal) (stack_of c.pop.new.self.items) c.in-Takes.tag left.0 numbers.0.rising (sym c.in-Takes.ensures) left.1));
       count = omega (arith, longer, below);
     }
 

@@ -1,10 +1,10 @@
-use Rattle.std.proofs.Common.{◌≡◌, ◌≤◌, ◌-◌, true, [], ◌∷◌, length}
+use Rattle.std.proofs.Common.{◌≤◌, ◌-◌, [], ◌∷◌, length}
 use Rattle.sf_base.specs.declared.limits.TheConstants.{PROCEDURE_TAGS}
 use Rattle.std.specs.List.{AllByRecursion}
 use Rattle.sf_sym.specs.Goal.{goal_of}
 use Rattle.sf_search.specs.Numbers.{HasNumbersAfter}
 use Rattle.sf_rules.specs.Left.{stack_of}
-use Rattle.sf_search.proofs.Possible.{FirstIsPossible}
+use Rattle.sf_search.proofs.Known.{KnownOfFirst}
 use Rattle.sf_search.proofs.Trees.{Leads}
 use Rattle.sf_search.proofs.searching.search_from.Given as goal
 
@@ -12,7 +12,7 @@ abbrev pub invariant-loop-goal : goal.invariant-loop-goal
 invariant-loop-goal l = record {
   leads : Leads (goal_of l.fn.first ∷ []) (stack_of l.stack.items) l.tags.items;
   numbers : AllByRecursion (HasNumbersAfter (length l.tags.items)) (stack_of l.stack.items);
-  known : l.is_known ≡ true → FirstIsPossible (stack_of l.stack.items);
+  known : KnownOfFirst l.known (stack_of l.stack.items);
   count : length l.tags.items ≤ PROCEDURE_TAGS;
 }
 
