@@ -3,7 +3,7 @@
 ghost use Rattle.std.specs.Prelude.{◌≡◌, ◌<◌, length, IfOk, slice_get};
 ghost use Rattle.sf_core.specs.Formed.{variable_count};
 ghost use Rattle.sf_core.specs.HeldBy.{HeldBy};
-ghost use Rattle.sf_core.specs.Whole.{program_of};
+ghost use Rattle.sf_core.specs.ProgramView.{program_of};
 ghost use Rattle.sf_calls.specs.Conditions.{Takes, Free};
 ghost use Rattle.sf_calls.specs.Texts.{AreTexts};
 ghost use Rattle.sf_calls.specs.Gathers.{IsUpTo};

@@ -5,7 +5,7 @@ ghost use Rattle.sf_base.specs.declared.ids.Var.TheVariants.{Own};
 ghost use Rattle.sf_core.specs.Formed.{IsFormed};
 ghost use Rattle.sf_core.specs.Syntax.{also, call, holds, level, none, with};
 ghost use Rattle.sf_core.specs.View.{assertion_of, block_of, call_of, command_of, procedure_of, program_with, resource_of};
-ghost use Rattle.sf_core.specs.Whole.{program_of};
+ghost use Rattle.sf_core.specs.ProgramView.{program_of};
 ghost use Rattle.sf_core.specs.declared.assertion.Operand.TheVariants.{Known};
 ghost use Rattle.sf_core.specs.declared.assertion.Test.TheVariants.{Equal};
 ghost use Rattle.sf_core.specs.declared.command.Expr.TheVariants.{Var as Variable, Nil};

@@ -2,7 +2,7 @@
 
 ghost use Rattle.std.specs.Prelude.{Contains, IfOk};
 ghost use Rattle.sf_core.specs.View.{procedure_of};
-ghost use Rattle.sf_core.specs.Whole.{program_of};
+ghost use Rattle.sf_core.specs.ProgramView.{program_of};
 ghost use Rattle.sf_calls.specs.Texts.{AreTexts, IsTextOf};
 ghost use Rattle.sf_calls.specs.Sets.{IsVarSet};
 

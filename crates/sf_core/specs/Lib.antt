@@ -1,6 +1,6 @@
 pub mod Syntax
 pub mod View
-pub mod Whole
+pub mod ProgramView
 pub mod HeapStore
 pub mod Sat
 pub mod Config

@@ -48,9 +48,9 @@ pub struct Resource {
 }
 
 /// A whole file. Its numbers stand for things that are there, each call has its procedure's counts,
-/// no body sets a value parameter, a pre and a post mention only parameters and an invariant only its
-/// resource's variables, predicates have the fields that they follow, scopes number existentials in
-/// text order, and limits are met.
+/// no body sets a value parameter, a pre and a post mention no local and an invariant only variables of
+/// its resource, predicates have the fields that they follow, scopes number existentials in text order,
+/// and limits are met.
 #[derive(Debug, Drop)]
 pub struct Program {
     /// The names of the fields by number.

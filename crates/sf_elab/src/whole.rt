@@ -5,7 +5,7 @@ ghost use Rattle.sf_ast.specs.View.{item_of};
 ghost use Rattle.sf_core.specs.Formed.{IsFormed};
 ghost use Rattle.sf_core.specs.Syntax as c;
 ghost use Rattle.sf_core.specs.View.{procedure_of as core_procedure, program_with, resource_of};
-ghost use Rattle.sf_core.specs.Whole.{program_of};
+ghost use Rattle.sf_core.specs.ProgramView.{program_of};
 ghost use Rattle.sf_elab.specs.Commands.{all_faults};
 ghost use Rattle.sf_elab.specs.Declarations.{procedures_in, resources_in};
 ghost use Rattle.sf_elab.specs.Elaborated.{Elaborates, FirstFault, elaborated, faults, invariants_faults, resources_from};

@@ -1,7 +1,7 @@
 //! The text of a proof: a line for each tag, and in front the verdict.
 
 ghost use Rattle.std.specs.Prelude.{◌≡◌, ◌++◌, IfOk, OnOk};
-ghost use Rattle.sf_core.specs.Whole.{program_of};
+ghost use Rattle.sf_core.specs.ProgramView.{program_of};
 ghost use Rattle.sf_proof.specs.ProofText.{atom_text, name_of, procedure_text, proof_text, split_text, tag_text, term_text};
 
 use itoa::Buffer;

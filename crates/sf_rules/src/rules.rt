@@ -4,7 +4,7 @@ ghost use Rattle.std.specs.Prelude.{◌≡◌, ◌++◌, ◌-◌, ◌≤◌, ◌
 ghost use Rattle.std.specs.Option.{option_map};
 ghost use Rattle.sf_core.specs.Formed.{ProcedureWithin};
 ghost use Rattle.sf_core.specs.View.{assertion_of, block_of, command_of, conjunct_of, procedure_of};
-ghost use Rattle.sf_core.specs.Whole.{program_of};
+ghost use Rattle.sf_core.specs.ProgramView.{program_of};
 ghost use Rattle.sf_sym.specs.Goal.{add, end, goal_of, pending_of, return};
 ghost use Rattle.sf_rules.specs.Left.{goals_of, mutation, stack_of, todo_of};
 ghost use Rattle.sf_rules.specs.Table.{absurd_row, add_row, assumed, cell_row, end_row, first_goal, handed_over, has_numbers, links_of, mutate_row, nils, pending, return_row, row, row_of, symbols, to_add, to_run, to_take};

@@ -15,7 +15,7 @@ const FILE: &str =
 fn are_named<R: Abort>(rt: &R, names: &[Name], texts: &[&str]) {
     assert_eq!(rt; names.len(), texts.len());
     for (name, text) in names.iter().zip(texts) {
-        assert_eq!(rt; name.as_str(), *text);
+        assert_eq!(rt; name.as_bytes(), text.as_bytes());
     }
 }
 

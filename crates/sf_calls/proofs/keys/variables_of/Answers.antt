@@ -2,7 +2,7 @@ use Rattle.std.proofs.Common.{◌≡◌, ◌<◌, ◌^◌, ℕ, length, map, sli
 use Rattle.sf_core.proofs.Lookup.{read_mapped}
 use Rattle.sf_core.specs.Formed.{variable_count}
 use Rattle.sf_core.specs.View.{resource_of}
-use Rattle.sf_core.specs.Whole.{program_of}
+use Rattle.sf_core.specs.ProgramView.{program_of}
 use Rattle.sf_calls.specs.Gathers.{IsUpTo}
 use Rattle.sf_calls.specs.Sets.{IsSetOf, IsEarlier}
 use Rattle.sf_calls.proofs.InOrder.{next_variables, no_variables, variables_bound}

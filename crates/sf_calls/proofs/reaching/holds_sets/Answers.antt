@@ -3,7 +3,7 @@ use Rattle.std.proofs.lemmas.List.{length-map}
 use Rattle.sf_base.specs.declared.ids.ResId.{ResId}
 use Rattle.sf_core.specs.HeldBy.{HeldBy}
 use Rattle.sf_core.specs.View.{procedure_of, resource_of}
-use Rattle.sf_core.specs.Whole.{program_of}
+use Rattle.sf_core.specs.ProgramView.{program_of}
 use Rattle.sf_calls.specs.Marks.{AreRows}
 use Rattle.sf_calls.specs.Sets.{IsEarlierResource}
 use Rattle.sf_calls.proofs.Least.{if_both, holds_within}

@@ -5,7 +5,7 @@ use Rattle.sf_core.specs.declared.command.Occurrence.{Occurrence}
 use Rattle.sf_core.specs.Formed.{IsSettable, IsInBody, ExprWithin, CommandWithin}
 use Rattle.sf_core.specs.Syntax.{Procedure, Program, call}
 use Rattle.sf_core.specs.View.{procedure_of}
-use Rattle.sf_core.specs.Whole.{program_of}
+use Rattle.sf_core.specs.ProgramView.{program_of}
 use Rattle.sf_calls.proofs.Searches.{proc}
 use Rattle.sf_calls.proofs.tests.sets_of_two_procedures.Goals as goal
 

@@ -1,5 +1,5 @@
 use Rattle.std.proofs.Common.{rules, arith, subst, ◌+◌}
-use Rattle.sf_core.specs.Whole.{program_of}
+use Rattle.sf_core.specs.ProgramView.{program_of}
 use Rattle.sf_search.specs.Ends.{EndsAs}
 use Rattle.sf_rules.specs.Table.{first_goal}
 use Rattle.sf_core.specs.View.{procedure_of}
