@@ -6,7 +6,7 @@ use std::test::Fail;
 #[test]
 fn a_name_keeps_its_bytes(rt: HostRuntime) -> Result<(), Fail> {
     let name = Name::new(rt.alloc(), b"list_head'")?;
-    assert_eq!(rt; name.as_bytes(), b"list_head'");
+    assert_eq!(rt; name.as_bytes(), b"list_head'".as_slice());
     Ok(())
 }
 
