@@ -1,13 +1,13 @@
 //! The surface tree: a file as it is written, each node where it stands.
 //!
-//! Names and numbers are not copied: the tree has the ends of their texts. It keeps whatever the
-//! spelling needs, so that the kinds of a file's tokens are a function of its tree.
+//! Names are not copied: the tree has the ends of their texts. It keeps whatever the spelling needs,
+//! so that the kinds of a file's tokens are a function of its tree.
 #![tactic(auto)]
 
-pub mod assertion;
-pub mod command;
-pub mod file;
-pub mod word;
+mod assertion;
+mod command;
+mod file;
+mod word;
 
 pub use assertion::{SurfaceAssertion, SurfaceConjunct, SurfaceField, SurfaceNote};
 pub use command::{SurfaceArguments, SurfaceCall, SurfaceCommand};

@@ -1,6 +1,6 @@
 use sf_base::Place;
 
-/// A name, an existential or a number where it stands in the file.
+/// A name or an existential where it stands in the file.
 #[derive(Clone, Copy, Debug, PartialEq, Eq)]
 pub struct Word {
     /// How many bytes stand before its text.
@@ -29,8 +29,8 @@ pub enum SurfaceExpr {
     Nil(Place),
     /// `NULL`
     Null(Place),
-    /// Digits, with a `-` in front or without.
-    Number(Word),
+    /// Digits, with a `-` in front or without: what they write, and where they stand.
+    Number(i64, Place),
 }
 
 /// What stands in an assertion for a value.

@@ -51,7 +51,7 @@ pub expr_within : {fields : List (List ℕ)} {V : Var → Type 0} {i : Sight} �
 expr_within see (e.Name w) h = occurrence_within see w h
 expr_within see (e.Nil p) h = tt
 expr_within see (e.Null p) h = tt
-expr_within see (e.Number w) h = tt
+expr_within see (e.Number n p) h = tt
 
 pub test_within : {E F : Type 0} (P : F → Type 0) (side : E → F) (faults : E → List Fault) → ((x : E) → faults x ≡ [] → P (side x)) → (t : SurfaceTest E) → test_faults faults t ≡ [] → TestWithin P (test_of side t)
 test_within P side faults one (t.True p) h = tt

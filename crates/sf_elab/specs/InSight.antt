@@ -23,7 +23,7 @@ use Rattle.sf_elab.specs.declared.fault.Fault.TheVariants.{Unknown, Foreign}
 use Rattle.sf_elab.specs.declared.sight.Sight.{Sight as CodeSight}
 use Rattle.sf_elab.specs.Faults.{where_}
 use Rattle.sf_elab.specs.Table.{Table, find}
-use Rattle.sf_elab.specs.Texts.{text, number}
+use Rattle.sf_elab.specs.Texts.{text}
 
 -- what is in sight: the file's names, and before them own variables: a procedure's, or in an invariant its resource's
 pub record Sight : Type 0 where
@@ -59,21 +59,21 @@ abbrev pub expr_of : Sight → SurfaceExpr → Expr
 expr_of s (e.Name w) = Variable (occurrence s w)
 expr_of s (e.Nil p) = Nil
 expr_of s (e.Null p) = Nil
-expr_of s (e.Number w) = Int (number s.bytes w)
+expr_of s (e.Number n p) = Int n
 
 -- what is wrong with it
 abbrev pub expr_faults : Sight → SurfaceExpr → List Fault
 expr_faults s (e.Name w) = variable_faults s w
 expr_faults s (e.Nil p) = []
 expr_faults s (e.Null p) = []
-expr_faults s (e.Number w) = []
+expr_faults s (e.Number n p) = []
 
 -- where its first token stands
 abbrev pub expr_place : SurfaceExpr → Place
 expr_place (e.Name w) = w.place
 expr_place (e.Nil p) = p
 expr_place (e.Null p) = p
-expr_place (e.Number w) = w.place
+expr_place (e.Number n p) = p
 
 -- a test of what stands for its two sides
 abbrev pub test_of : {E F : Type 0} → (E → F) → SurfaceTest E → Test F

@@ -8,7 +8,7 @@ ghost use Rattle.sf_elab.specs.Texts.{text};
 use crate::declared::Declared;
 use crate::fault::Fault;
 use crate::table::Table;
-use crate::texts::{number, text};
+use crate::texts::text;
 use sf_ast::{SurfaceExpr, SurfaceTest, Word};
 use sf_base::{FieldId, Place, ResId, Var};
 use sf_core::{Expr, Occurrence, Test};
@@ -45,7 +45,7 @@ pub fn expr_place(e: SurfaceExpr) -> Place
         SurfaceExpr::Name(word) => word.place,
         SurfaceExpr::Nil(place) => place,
         SurfaceExpr::Null(place) => place,
-        SurfaceExpr::Number(word) => word.place,
+        SurfaceExpr::Number(_, place) => place,
     }
 }
 
@@ -97,10 +97,7 @@ impl Sight<'_> {
             }
             SurfaceExpr::Nil(_) => Ok(Expr::Nil),
             SurfaceExpr::Null(_) => Ok(Expr::Nil),
-            SurfaceExpr::Number(word) => {
-                let number = number(self.bytes, word)?;
-                Ok(Expr::Int(number))
-            }
+            SurfaceExpr::Number(number, _) => Ok(Expr::Int(number)),
         }
     }
 

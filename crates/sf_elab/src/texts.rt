@@ -1,7 +1,7 @@
 //! What words say.
 
-ghost use Rattle.std.specs.Prelude.{◌≡◌, IfOk};
-ghost use Rattle.sf_elab.specs.Texts.{number, text};
+ghost use Rattle.std.specs.Prelude.{◌≡◌, ◌+◌, IfOk};
+ghost use Rattle.sf_elab.specs.Texts.{text};
 
 use sf_ast::Word;
 use sf_base::Name;
@@ -25,15 +25,23 @@ pub fn name(alloc: Global, bytes: &[u8], word: Word) -> Result<Name, AllocError>
     Name::new(alloc, text(bytes, word))
 }
 
-/// The number that a word writes. One that is none, which no file's tree has, is refused.
-pub fn number(bytes: &[u8], word: Word) -> Result<i64, AllocError>
-    ensures { IfOk result (λ n. n ≡ number bytes.now word) }
+/// The number in 32 bits. One that doesn't fit is answered as want of memory; no file has so many
+/// things.
+pub fn kept(number: usize) -> Result<u32, AllocError>
+    ensures { IfOk result (λ n. n ≡ number) }
 {
-    let Ok(text) = str::from_utf8(text(bytes, word)) else {
-        return Err(AllocError);
-    };
-    match i64::from_str_radix(text, 10) {
+    match u32::try_from(number) {
         Ok(number) => Ok(number),
         Err(_) => Err(AllocError),
+    }
+}
+
+/// The sum. One that doesn't fit is answered as want of memory; no file has so many things.
+pub fn plus(number: usize, more: usize) -> Result<usize, AllocError>
+    ensures { IfOk result (λ n. n ≡ number + more) }
+{
+    match number.checked_add(more) {
+        Some(sum) => Ok(sum),
+        None => Err(AllocError),
     }
 }

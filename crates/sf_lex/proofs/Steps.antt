@@ -10,7 +10,7 @@ use Rattle.sf_lex.specs.declared.front.Front.{Front}
 use Rattle.sf_lex.specs.declared.token.Token.{Token}
 use Rattle.sf_lex.specs.Front.{Stands, front_of, bytes_of, with_front}
 use Rattle.sf_lex.specs.Piece.{Piece, blank, comment, token, text_of, spelled, IsPiece, ArePieces}
-use Rattle.sf_lex.specs.Reading.{AreTokens, IsFault, IsFaultAt, StopsAt, tokens_of, first_place, next_place, place_behind}
+use Rattle.sf_lex.specs.Reading.{AreTokens, IsFault, IsFaultAt, StopsAt, value_of, tokens_of, first_place, next_place, place_behind}
 
 -- the bytes up to a place are pieces with these tokens
 pub record ReadSo (bytes : List ℕ) (start : ℕ) (at : Place) (found : List Token) : Type 0 where
@@ -55,7 +55,7 @@ tokens_more (comment inner ∷ ps) p start at =
     ∙ ap (λ q. tokens_of ps (start + length text) (place_behind at text) ++ tokens_of (p ∷ []) (start + length (text ++ spelled ps [])) q) (sym (behind_append at text (spelled ps [])))
 tokens_more (token kind text ∷ ps) p start at =
     let count : (start + length text) + length (spelled ps []) ≡ start + length (text ++ spelled ps []) = simp length-append (omega arith) in
-    let t : Token = record { kind = kind; start = start; end = start + length text; place = at } in
+    let t : Token = record { kind = kind; value = value_of kind text; start = start; end = start + length text; place = at } in
     ap (λ us. t ∷ us)
     (tokens_more ps p (start + length text) (place_behind at text)
     ∙ ap (λ n. tokens_of ps (start + length text) (place_behind at text) ++ tokens_of (p ∷ []) n (place_behind (place_behind at text) (spelled ps []))) count

@@ -1,5 +1,5 @@
 -- Words, existentials and numbers at the front: the run that the scanner takes is the longest token.
-use Rattle.std.proofs.Common.{◌≡◌, ◌<◌, ◌≤◌, ◌+◌, ◌==◌, ℕ, suc, List, [], ◌∷◌, ◌++◌, length, take, drop, true, false, Bool, cond, ◌&&◌, Some, None, refl, ap, sym, ◌∙◌, arith, subst, take-append-drop}
+use Rattle.std.proofs.Common.{◌≡◌, ◌<◌, ◌≤◌, ◌+◌, ◌==◌, ℕ, suc, List, [], ◌∷◌, ◌++◌, length, take, drop, true, false, Bool, cond, ◌&&◌, Option, Some, None, refl, ap, sym, ◌∙◌, arith, subst, take-append-drop, ℤ, pos}
 use Rattle.std.proofs.Math.Nat.{add-zero}
 use Rattle.std.proofs.Math.Numerals.{one-add}
 use Rattle.std.proofs.lemmas.Bool.{and_parts}
@@ -12,7 +12,7 @@ use Rattle.sf_lex.specs.declared.token.Kind.TheVariants as k
 use Rattle.sf_lex.specs.Front.{Stands, begins_number, number_length, word_length}
 use Rattle.sf_lex.specs.Lexeme.{is_letter, is_digit, is_word_byte, is_some_of, word_kind, symbol_kind, kind_of}
 use Rattle.sf_lex.specs.Piece.{token, IsFront, is_long_word, is_bad_number, fits}
-use Rattle.sf_lex.specs.Reading.{IsBadByte, IsLongWord, IsBadNumber}
+use Rattle.sf_lex.specs.Reading.{value_of, IsBadByte, IsLongWord, IsBadNumber}
 use Rattle.sf_lex.proofs.Bytes.{or_but_left, or_but_right, prefix_cons, prefix_none, run_all, run_stops, some_of_all, some_of_none, letter_is_word, digit_no_letter, digit_no_underscore, digit_no_minus, digit_no_equals, digit_no_bang, digit_no_bar, is_minus}
 
 kind_letter : (b : ℕ) (bs : List ℕ) → is_letter b ≡ true → list_all is_word_byte bs ≡ true → kind_of (b ∷ bs) ≡ Some (word_kind (b ∷ bs))
@@ -151,16 +151,16 @@ number_front (b ∷ bs) e = go (b == 45) refl
         let off : ((b == 45) && is_digit (slice_index bs 0)) ≡ false = rw m refl in
         digits_front b bs (or_but_right (is_digit b) _ off e)
 
--- the longest token of so many bytes, neither too long nor a bad number, is what stands in front
-pub token_stands : (kind : Kind) (bs : List ℕ) (n : ℕ) → n ≤ length bs → IsFront kind (take n bs) (drop n bs) → is_long_word kind n ≡ false → is_bad_number kind (take n bs) (drop n bs) ≡ false → Stands (f.Token kind n) bs
-token_stands kind bs n h front long bad =
+-- the longest token of so many bytes, neither too long nor a bad number, is what stands in front, with what it writes
+pub token_stands : (kind : Kind) (bs : List ℕ) (n : ℕ) (v : ℤ) → n ≤ length bs → IsFront kind (take n bs) (drop n bs) → is_long_word kind n ≡ false → is_bad_number kind (take n bs) (drop n bs) ≡ false → v ≡ value_of kind (take n bs) → Stands (f.Token kind n v) bs
+token_stands kind bs n v h front long bad writes =
     let counts : length (take n bs) ≡ n = length-take-le n bs h in
     record {
       piece = token kind (take n bs);
       rest = drop n bs;
       spells = sym (take-append-drop n bs);
       each = (front, rw counts long, bad);
-      is = ap (f.Token kind) (sym counts);
+      is = ap (λ m. f.Token kind m v) (sym counts) ∙ ap (f.Token kind (length (take n bs))) writes;
     }
 
 pub long_word : (kind : Kind) (bs : List ℕ) (n : ℕ) → n ≤ length bs → IsFront kind (take n bs) (drop n bs) → is_long_word kind n ≡ true → IsLongWord bs
@@ -188,6 +188,22 @@ pub no_number_no_bad : (kind : Kind) (text rest : List ℕ) → (kind ≡ k.Numb
 no_number_no_bad k.Number text rest h = absurd (h refl)
 no_number_no_bad _ text rest h = refl
 
+-- and writes none
+pub no_number_no_value : (kind : Kind) (text : List ℕ) → (kind ≡ k.Number → ⊥) → pos 0 ≡ value_of kind text
+no_number_no_value k.Number text h = absurd (h refl)
+no_number_no_value _ text h = refl
+
 -- the byte behind so many is the first of those behind them
 pub bad_number_at : (bs : List ℕ) (n : ℕ) → is_bad_number k.Number (take n bs) (drop n bs) ≡ cond (fits (signed_digits_value 10 (take n bs))) (is_word_byte (slice_index bs n)) true
 bad_number_at bs n = ap (λ b. cond (fits (signed_digits_value 10 (take n bs))) (is_word_byte b) true) (get_or-drop n bs 0 0 ∙ ap (slice_index bs) (add-zero n))
+
+-- where the scanner gives no number there is a bad one, and else it gives what is written
+pub none_is_bad : (fit more : Bool) (v : ℤ) → cond {A = Option ℤ} fit (cond {A = Option ℤ} more None (Some v)) None ≡ None → cond fit more true ≡ true
+none_is_bad true true v e = refl
+none_is_bad true false v e = absurd cc
+none_is_bad false more v e = refl
+
+pub some_is_good : (fit more : Bool) (v x : ℤ) → cond {A = Option ℤ} fit (cond {A = Option ℤ} more None (Some v)) None ≡ Some x → (cond fit more true ≡ false) × (x ≡ v)
+some_is_good true true v x e = absurd cc
+some_is_good true false v x e = (refl, cc)
+some_is_good false more v x e = absurd cc

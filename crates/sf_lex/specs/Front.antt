@@ -11,12 +11,13 @@ use Rattle.sf_lex.specs.declared.token.Kind.{Kind}
 use Rattle.sf_lex.specs.declared.token.Token.{Token}
 use Rattle.sf_lex.specs.Lexeme.{is_digit, is_word_byte, symbol_of_one, symbol_of_two, symbol_of_three}
 use Rattle.sf_lex.specs.Piece.{Piece, blank, comment, token, text_of, IsPiece}
+use Rattle.sf_lex.specs.Reading.{value_of}
 
--- what is to be seen of a piece: how long it is, and the kind of a token
+-- what is to be seen of a piece: how long it is, and the kind of a token and what it writes
 abbrev pub front_of : Piece → Front
 front_of (blank b) = f.Space 1
 front_of (comment inner) = f.Space (length (text_of (comment inner)))
-front_of (token kind text) = f.Token kind (length text)
+front_of (token kind text) = f.Token kind (length text) (value_of kind text)
 
 -- a piece stands in front that looks so
 pub record Stands (front : Front) (bytes : List ℕ) : Type 0 where
@@ -29,12 +30,12 @@ pub record Stands (front : Front) (bytes : List ℕ) : Type 0 where
 -- how many bytes the front takes
 abbrev pub bytes_of : Front → ℕ
 bytes_of (f.Space n) = n
-bytes_of (f.Token kind n) = n
+bytes_of (f.Token kind n v) = n
 
 -- the tokens with that of the front
 abbrev pub with_front : List Token → Front → (start : ℕ) → Place → List Token
 with_front found (f.Space n) start at = found
-with_front found (f.Token kind n) start at = found ++ record { kind = kind; start = start; end = start + n; place = at } ∷ []
+with_front found (f.Token kind n v) start at = found ++ record { kind = kind; value = v; start = start; end = start + n; place = at } ∷ []
 
 -- how many bytes it takes to the first `*/`, with it
 abbrev pub close_length : List ℕ → Option ℕ

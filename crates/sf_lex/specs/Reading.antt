@@ -1,11 +1,13 @@
--- How a file reads: its tokens with their ends and places, or the first place where it is none.
+-- How a file reads: its tokens with their numbers, ends and places, or the first place where it is none.
 -- Ordinary: the lexical rules of this language, as in Aho, Sethi, Ullman, "Compilers" (1986), chapter 3.
-use Rattle.std.specs.Prelude.{◌≡◌, ℕ, ◌+◌, ◌==◌, ◌<◌, ◌≤◌, ◌++◌, true, false, if◌then◌else◌, None, List, [], ◌∷◌, length, slice_index}
+use Rattle.std.specs.Prelude.{◌≡◌, ℕ, ◌+◌, ◌==◌, ◌<◌, ◌≤◌, ◌++◌, true, false, if◌then◌else◌, None, List, [], ◌∷◌, length, pos, ℤ, slice_index}
+use Rattle.std.specs.Str.Parse.{signed_digits_value}
 use Rattle.sf_base.specs.declared.limits.TheConstants.{FILE_BYTES}
 use Rattle.sf_base.specs.declared.place.Place.{Place}
 use Rattle.sf_lex.specs.declared.fault.LexFault.{LexFault}
 use Rattle.sf_lex.specs.declared.fault.LexFault.TheVariants.{BadByte, LongWord, OpenComment, BadNumber, LongFile, OutOfMemory}
 use Rattle.sf_lex.specs.declared.token.Kind.{Kind}
+use Rattle.sf_lex.specs.declared.token.Kind.TheVariants.{Number}
 use Rattle.sf_lex.specs.declared.token.Token.{Token}
 use Rattle.sf_lex.specs.Lexeme.{is_blank, kind_of}
 use Rattle.sf_lex.specs.Piece.{Piece, blank, comment, token, text_of, spelled, has_close, is_long_word, is_bad_number, IsFront, ArePieces}
@@ -23,13 +25,18 @@ place_behind at (b ∷ bs) = place_behind (next_place at b) bs
 abbrev pub first_place : Place
 first_place = record { line = 1; column = 1 }
 
+-- what a number writes, and 0 for other tokens
+abbrev pub value_of : Kind → List ℕ → ℤ
+value_of Number text = signed_digits_value 10 text
+value_of _ text = pos 0
+
 -- the tokens among pieces, where so many bytes stand before the first one, at that place
 abbrev pub tokens_of : List Piece → (start : ℕ) → Place → List Token
 tokens_of [] start at = []
 tokens_of (blank b ∷ ps) start at = tokens_of ps (start + 1) (next_place at b)
 tokens_of (comment inner ∷ ps) start at = tokens_of ps (start + length (text_of (comment inner))) (place_behind at (text_of (comment inner)))
 tokens_of (token kind text ∷ ps) start at =
-    record { kind = kind; start = start; end = start + length text; place = at } ∷ tokens_of ps (start + length text) (place_behind at text)
+    record { kind = kind; value = value_of kind text; start = start; end = start + length text; place = at } ∷ tokens_of ps (start + length text) (place_behind at text)
 
 -- the bytes are pieces one after the other, and these are the tokens among them
 pub record AreTokens (bytes : List ℕ) (tokens : List Token) : Type 0 where

@@ -20,8 +20,8 @@ use std::str;
 pub enum Front {
     /// A blank or a comment of that many bytes.
     Space(usize),
-    /// A token of that many bytes.
-    Token(Kind, usize),
+    /// A token of that many bytes, and what it writes where it is a number, else 0.
+    Token(Kind, usize, i64),
 }
 
 /// Whether it separates tokens.
@@ -109,13 +109,16 @@ fn ascii(bytes: &[u8]) -> &str
     }
 }
 
-/// Whether the number fits 64 bits.
-fn fits(text: &[u8]) -> bool
+/// The number, if it fits 64 bits.
+fn value(text: &[u8]) -> Option<i64>
     requires ascii { IsAscii text.now }
     requires numeral { IsNumeral 10 (without_leading_sign text.now) }
-    ensures { result ≡ fits (signed_digits_value 10 text.now) }
+    ensures { result ≡ (if fits (signed_digits_value 10 text.now) then Some (signed_digits_value 10 text.now) else None) }
 {
-    i64::from_str_radix(ascii(text), 10).is_ok()
+    match i64::from_str_radix(ascii(text), 10) {
+        Ok(value) => Some(value),
+        Err(_) => None,
+    }
 }
 
 /// The comment at the front.
@@ -150,7 +153,7 @@ fn word(place: Place, bytes: &[u8]) -> Result<Front, LexFault>
     if is_long_word(kind, length) {
         return Err(LexFault::LongWord(place));
     }
-    Ok(Front::Token(kind, length))
+    Ok(Front::Token(kind, length, 0))
 }
 
 /// The existential at the front, or the lone `_`.
@@ -166,21 +169,22 @@ fn existential(place: Place, bytes: &[u8]) -> Result<Front, LexFault>
     if is_long_word(Kind::Existential, length) {
         return Err(LexFault::LongWord(place));
     }
-    Ok(Front::Token(Kind::Existential, length))
+    Ok(Front::Token(Kind::Existential, length, 0))
 }
 
-/// Whether the number of so many bytes is outside 64 bits, or directly in front of a letter or `_`.
-fn is_bad_number(bytes: &[u8], end: usize) -> bool
+/// The number of so many bytes, unless it is outside 64 bits or directly in front of a letter or
+/// `_`.
+fn good_number(bytes: &[u8], end: usize) -> Option<i64>
     requires within { end ≤ length bytes.now }
     requires ascii { IsAscii (take end bytes.now) }
     requires numeral { IsNumeral 10 (without_leading_sign (take end bytes.now)) }
-    ensures { result ≡ (if fits (signed_digits_value 10 (take end bytes.now)) then is_word_byte (slice_index bytes.now end) else true) }
+    ensures { result ≡ (if fits (signed_digits_value 10 (take end bytes.now)) then (if is_word_byte (slice_index bytes.now end) then None else Some (signed_digits_value 10 (take end bytes.now))) else None) }
 {
-    if fits(&bytes[..end]) {
-        is_word_byte(byte_at(bytes, end))
-    } else {
-        true
+    let value = value(&bytes[..end])?;
+    if is_word_byte(byte_at(bytes, end)) {
+        return None;
     }
+    Some(value)
 }
 
 /// The number at the front.
@@ -189,10 +193,10 @@ fn number(place: Place, bytes: &[u8]) -> Result<Front, LexFault>
     ensures { MatchResult result (λ front. Stands front bytes.now) (λ fault. IsFaultAt fault bytes.now place) }
 {
     let length = number_length(bytes);
-    if is_bad_number(bytes, length) {
-        return Err(LexFault::BadNumber(place));
+    match good_number(bytes, length) {
+        Some(value) => Ok(Front::Token(Kind::Number, length, value)),
+        None => Err(LexFault::BadNumber(place)),
     }
-    Ok(Front::Token(Kind::Number, length))
 }
 
 /// What stands at the front.
@@ -216,7 +220,7 @@ pub fn look(place: Place, bytes: &[u8]) -> Result<Front, LexFault>
         return number(place, bytes);
     }
     match symbol(bytes) {
-        Some((kind, length)) => Ok(Front::Token(kind, length)),
+        Some((kind, length)) => Ok(Front::Token(kind, length, 0)),
         None => Err(LexFault::BadByte(place)),
     }
 }

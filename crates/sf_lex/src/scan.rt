@@ -66,9 +66,10 @@ fn keep(found: &mut Vec<Token>, front: Front, start: usize, place: Place) -> Res
 {
     match front {
         Front::Space(_) => Ok(()),
-        Front::Token(kind, bytes) => {
+        Front::Token(kind, _, value) => {
             found.push(Token {
                 kind,
+                value,
                 start,
                 end: start + bytes,
                 place,
@@ -84,7 +85,7 @@ fn bytes_of(front: Front) -> usize
 {
     match front {
         Front::Space(bytes) => bytes,
-        Front::Token(_, bytes) => bytes,
+        Front::Token(_, bytes, _) => bytes,
     }
 }
 

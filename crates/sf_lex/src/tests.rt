@@ -138,10 +138,11 @@ fn files_with_tokens_are_read(rt: HostRuntime) {
     }
 }
 
-/// A token of that kind, there.
-fn token(kind: Kind, start: usize, end: usize, place: Place) -> Token {
+/// A token of that kind that writes that number, there.
+fn token(kind: Kind, value: i64, start: usize, end: usize, place: Place) -> Token {
     Token {
         kind,
+        value,
         start,
         end,
         place,
@@ -152,15 +153,15 @@ fn token(kind: Kind, start: usize, end: usize, place: Place) -> Token {
 fn tokens_have_their_ends_and_places(rt: HostRuntime) {
     let two = tokens(rt.alloc(), b"a\n _b");
     let expected = [
-        token(Kind::Name, 0, 1, at(1, 1)),
-        token(Kind::Existential, 3, 5, at(2, 2)),
+        token(Kind::Name, 0, 0, 1, at(1, 1)),
+        token(Kind::Existential, 0, 3, 5, at(2, 2)),
     ];
     assert!(rt; two.is_ok_and(|found| found.as_slice() == expected.as_slice()));
     let three = tokens(rt.alloc(), b"/*\n*/-12 |->\r\n\ttree");
     let expected = [
-        token(Kind::Number, 5, 8, at(2, 3)),
-        token(Kind::PointsTo, 9, 12, at(2, 7)),
-        token(Kind::Tree, 15, 19, at(3, 2)),
+        token(Kind::Number, -12, 5, 8, at(2, 3)),
+        token(Kind::PointsTo, 0, 9, 12, at(2, 7)),
+        token(Kind::Tree, 0, 15, 19, at(3, 2)),
     ];
     assert!(rt; three.is_ok_and(|found| found.as_slice() == expected.as_slice()));
 }

@@ -79,11 +79,13 @@ pub enum Kind {
     Bars,
 }
 
-/// A token: its kind, and where its text stands in the file.
+/// A token: its kind, what it writes where it is a number, and where its text stands in the file.
 #[derive(Clone, Copy, Debug, PartialEq, Eq)]
 pub struct Token {
     /// What it is.
     pub kind: Kind,
+    /// What a number writes; 0 for other tokens.
+    pub value: i64,
     /// How many bytes stand before its text.
     pub start: usize,
     /// How many bytes stand before what follows its text.

@@ -25,8 +25,8 @@ next_goes (e.Nil p) true r st = refl
 next_goes (e.Nil p) false r st = refl
 next_goes (e.Null p) true r st = refl
 next_goes (e.Null p) false r st = refl
-next_goes (e.Number x) true r st = refl
-next_goes (e.Number x) false r st = refl
+next_goes (e.Number x p) true r st = refl
+next_goes (e.Number x p) false r st = refl
 
 next_stops : (b : Bool) (ts : List Kind) (st : List Owed) → expression_next ts ≡ false → verdict 0 ts (m.next b ∷ st) ≡ unexpected (length ts)
 next_stops b [] st h = refl
@@ -106,14 +106,14 @@ pub takes_first : (x : SurfaceExpr) (ts r : List Token) (st : List Owed) → kin
 takes_first (e.Name x) ts r st h = rw h refl
 takes_first (e.Nil p) ts r st h = rw h refl
 takes_first (e.Null p) ts r st h = rw h refl
-takes_first (e.Number x) ts r st h = rw h refl
+takes_first (e.Number x p) ts r st h = rw h refl
 
 -- that of those behind a `;`
 pub takes_value : (x : SurfaceExpr) (ts r : List Token) (st : List Owed) → kinds ts ≡ g.expr x ∷ kinds r → verdict 0 (kinds ts) (m.maybe_expressions ∷ st) ≡ verdict 0 (kinds r) (m.more_expressions ∷ st)
 takes_value (e.Name x) ts r st h = rw h refl
 takes_value (e.Nil p) ts r st h = rw h refl
 takes_value (e.Null p) ts r st h = rw h refl
-takes_value (e.Number x) ts r st h = rw h refl
+takes_value (e.Number x p) ts r st h = rw h refl
 
 values_over : (ts : List Kind) (st : List Owed) → expression_next ts ≡ false → verdict 0 ts (m.maybe_expressions ∷ st) ≡ verdict 0 ts st
 values_over [] st h = refl

@@ -1,5 +1,5 @@
 -- One token back: where the machine takes a token and what is then owed spells the rest, what was owed spells all.
-use Rattle.std.proofs.Common.{◌≡◌, ℕ, suc, List, [], ◌∷◌, ◌++◌, ◌-◌, length, Bool, true, false, ◌⊎◌, inl, inr, refl, ap, subst, ◌∙◌}
+use Rattle.std.proofs.Common.{◌≡◌, ℕ, suc, pos, List, [], ◌∷◌, ◌++◌, ◌-◌, length, Bool, true, false, ◌⊎◌, inl, inr, refl, ap, subst, ◌∙◌}
 use Rattle.sf_base.specs.declared.place.Place.{Place}
 use Rattle.sf_ast.specs.declared.word.SurfaceExpr.{SurfaceExpr}
 use Rattle.sf_ast.specs.declared.word.SurfaceExpr.TheVariants as e
@@ -33,7 +33,7 @@ pub expr_back : (n : ℕ) (u : Kind) (ss st : List Owed) (w : Next) (ts : List K
 expr_back n k.Name ss st w ts m = record { expr = e.Name a_word; is = refl; more = m }
 expr_back n k.Nil ss st w ts m = record { expr = e.Nil a_place; is = refl; more = m }
 expr_back n k.Null ss st w ts m = record { expr = e.Null a_place; is = refl; more = m }
-expr_back n k.Number ss st w ts m = record { expr = e.Number a_word; is = refl; more = m }
+expr_back n k.Number ss st w ts m = record { expr = e.Number (pos 0) a_place; is = refl; more = m }
 expr_back n _ ss st w ts m = absurd m
 
 pub record OperandBack (n : ℕ) (u : Kind) (ss st : List Owed) (ts : List Kind) : Type 0 where

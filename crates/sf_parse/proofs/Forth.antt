@@ -23,7 +23,7 @@ pub by_expr : (x : SurfaceExpr) (P : Kind → Type 0) → P k.Name → P k.Nil �
 by_expr (e.Name x) P a b c d = a
 by_expr (e.Nil p) P a b c d = b
 by_expr (e.Null p) P a b c d = c
-by_expr (e.Number x) P a b c d = d
+by_expr (e.Number x p) P a b c d = d
 
 -- and of an operand
 pub by_operand : (x : SurfaceOperand) (P : Kind → Type 0) → P k.Name → P k.Nil → P k.Null → P k.Number → P k.Existential → P (g.operand x)

@@ -94,7 +94,7 @@ mutate_goes : (n : ℕ) (a b : SurfaceExpr) (d : ℕ) (r : List Kind) (st : List
 mutate_goes n (e.Name x) b d r st w = rw w (expr_goes n b (k.Semicolon ∷ r) (m.exact m.semicolon ∷ st))
 mutate_goes n (e.Nil p) b d r st w = rw w (expr_goes n b (k.Semicolon ∷ r) (m.exact m.semicolon ∷ st))
 mutate_goes n (e.Null p) b d r st w = rw w (expr_goes n b (k.Semicolon ∷ r) (m.exact m.semicolon ∷ st))
-mutate_goes n (e.Number x) b d r st w = rw w (expr_goes n b (k.Semicolon ∷ r) (m.exact m.semicolon ∷ st))
+mutate_goes n (e.Number x p) b d r st w = rw w (expr_goes n b (k.Semicolon ∷ r) (m.exact m.semicolon ∷ st))
 
 assigned_goes : (n : ℕ) (a : SurfaceExpr) (r : List Kind) (st : List Owed) → verdict n (g.expr a ∷ r) (m.assigned ∷ st) ≡ verdict n r (m.look_up_or_end ∷ st)
 assigned_goes n a r st = by_expr a (λ u. verdict n (u ∷ r) (m.assigned ∷ st) ≡ verdict n r (m.look_up_or_end ∷ st)) refl refl refl refl

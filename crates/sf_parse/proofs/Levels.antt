@@ -104,7 +104,7 @@ takes_value zero x ts r st lv no_name h = absurd (omega arith)
 takes_value (suc d) (e.Name x) ts r st lv no_name h = absurd (no_name (kinds r) h)
 takes_value (suc d) (e.Nil p) ts r st lv no_name h = rw h refl
 takes_value (suc d) (e.Null p) ts r st lv no_name h = rw h refl
-takes_value (suc d) (e.Number x) ts r st lv no_name h = rw h refl
+takes_value (suc d) (e.Number x p) ts r st lv no_name h = rw h refl
 
 -- what need not come
 commands_over : (d : ℕ) (ts : List Kind) (st : List Owed) → command_next ts ≡ false → verdict 0 ts (m.commands d ∷ st) ≡ verdict 0 ts st

@@ -1,5 +1,5 @@
 -- Tokens spell one tree alone: names, expressions, tests, what calls are given, and fields.
-use Rattle.std.proofs.Common.{◌≡◌, ℕ, List, [], ◌∷◌, length, refl, ap, sym, ◌∙◌, subst}
+use Rattle.std.proofs.Common.{◌≡◌, ℕ, ℤ, List, [], ◌∷◌, length, refl, ap, sym, ◌∙◌, subst}
 use Rattle.sf_base.specs.declared.place.Place.{Place}
 use Rattle.sf_ast.specs.declared.word.SurfaceExpr.{SurfaceExpr}
 use Rattle.sf_ast.specs.declared.word.SurfaceExpr.TheVariants as e
@@ -11,7 +11,7 @@ use Rattle.sf_lex.specs.declared.token.Kind.{Kind}
 use Rattle.sf_lex.specs.declared.token.Kind.TheVariants as k
 use Rattle.sf_lex.specs.declared.token.Token.{Token}
 use Rattle.sf_parse.specs.Grammar as g
-use Rattle.sf_parse.specs.Placed.{WordAt, PlaceAt, MoreNamesAt, MaybeNamesAt, ParametersAt, ExprAt, MoreExprsAt, MaybeExprsAt, ArgumentsAt, CallAt, OperandAt}
+use Rattle.sf_parse.specs.Placed.{WordAt, PlaceAt, NumberAt, MoreNamesAt, MaybeNamesAt, ParametersAt, ExprAt, MoreExprsAt, MaybeExprsAt, ArgumentsAt, CallAt, OperandAt}
 
 -- one tree, and one rest
 abbrev pub Same : {A : Type 0} → A → A → List Kind → List Kind → Type 0
@@ -24,18 +24,23 @@ word_once at x y r q h i e =
 pub place_once : (at : ℕ → Token) (x y : Place) (r q : List Kind) → PlaceAt at x r → PlaceAt at y q → r ≡ q → x ≡ y
 place_once at x y r q h i e = h ∙ ap (λ z. (at (length z)).place) e ∙ sym i
 
+number_once : (at : ℕ → Token) (x y : ℤ) (r q : List Kind) → NumberAt at x r → NumberAt at y q → r ≡ q → x ≡ y
+number_once at x y r q h i e = h ∙ ap (λ z. (at (length z)).value) e ∙ sym i
+
 pub expr_once : (at : ℕ → Token) (x y : SurfaceExpr) (r q : List Kind) → ExprAt at x r → ExprAt at y q → g.expr x ≡ g.expr y → r ≡ q → x ≡ y
 expr_once at (e.Name x) (e.Name y) r q h i u f = ap e.Name (word_once at x y (k.Name ∷ r) (k.Name ∷ q) h i (ap (λ z. k.Name ∷ z) f))
 expr_once at (e.Nil x) (e.Nil y) r q h i u f = ap e.Nil (place_once at x y (k.Nil ∷ r) (k.Nil ∷ q) h i (ap (λ z. k.Nil ∷ z) f))
 expr_once at (e.Null x) (e.Null y) r q h i u f = ap e.Null (place_once at x y (k.Null ∷ r) (k.Null ∷ q) h i (ap (λ z. k.Null ∷ z) f))
-expr_once at (e.Number x) (e.Number y) r q h i u f = ap e.Number (word_once at x y (k.Number ∷ r) (k.Number ∷ q) h i (ap (λ z. k.Number ∷ z) f))
+expr_once at (e.Number x n) (e.Number y m) r q h i u f =
+    let same = ap (λ z. k.Number ∷ z) f in
+    ap (λ z. e.Number z n) (number_once at x y (k.Number ∷ r) (k.Number ∷ q) h.0 i.0 same) ∙ ap (e.Number y) (place_once at n m (k.Number ∷ r) (k.Number ∷ q) h.1 i.1 same)
 expr_once at _ _ r q h i u f = absurd cc
 
 expr_no_existential : (x : SurfaceExpr) → g.expr x ≡ k.Existential → ⊥
 expr_no_existential (e.Name x) u = cc
 expr_no_existential (e.Nil x) u = cc
 expr_no_existential (e.Null x) u = cc
-expr_no_existential (e.Number x) u = cc
+expr_no_existential (e.Number x p) u = cc
 
 pub operand_once : (at : ℕ → Token) (x y : SurfaceOperand) (r q : List Kind) → OperandAt at x r → OperandAt at y q → g.operand x ≡ g.operand y → r ≡ q → x ≡ y
 operand_once at (v.Known x) (v.Known y) r q h i u f = ap v.Known (expr_once at x y r q h i u f)
@@ -118,13 +123,13 @@ pub expr_no_close : (x : SurfaceExpr) → g.expr x ≡ k.CloseRound → ⊥
 expr_no_close (e.Name x) u = cc
 expr_no_close (e.Nil x) u = cc
 expr_no_close (e.Null x) u = cc
-expr_no_close (e.Number x) u = cc
+expr_no_close (e.Number x p) u = cc
 
 pub expr_no_semicolon : (x : SurfaceExpr) → g.expr x ≡ k.Semicolon → ⊥
 expr_no_semicolon (e.Name x) u = cc
 expr_no_semicolon (e.Nil x) u = cc
 expr_no_semicolon (e.Null x) u = cc
-expr_no_semicolon (e.Number x) u = cc
+expr_no_semicolon (e.Number x p) u = cc
 
 pub maybe_exprs_once : (at : ℕ → Token) (xs ys : List SurfaceExpr) (r q : List Kind) → MaybeExprsAt at xs (k.CloseRound ∷ r) → MaybeExprsAt at ys (k.CloseRound ∷ q) → g.maybe_exprs xs (k.CloseRound ∷ r) ≡ g.maybe_exprs ys (k.CloseRound ∷ q) → Same xs ys r q
 maybe_exprs_once at [] [] r q h i f = (refl, (let t : r ≡ q = cc in t))

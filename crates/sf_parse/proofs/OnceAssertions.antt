@@ -22,7 +22,7 @@ expr_no_true : (x : SurfaceExpr) → g.expr x ≡ k.True → ⊥
 expr_no_true (e.Name x) u = cc
 expr_no_true (e.Nil x) u = cc
 expr_no_true (e.Null x) u = cc
-expr_no_true (e.Number x) u = cc
+expr_no_true (e.Number x p) u = cc
 
 operand_no_true : (x : SurfaceOperand) → g.operand x ≡ k.True → ⊥
 operand_no_true (v.Known x) u = expr_no_true x u

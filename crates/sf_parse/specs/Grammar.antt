@@ -37,7 +37,7 @@ abbrev pub expr : SurfaceExpr → Kind
 expr (e.Name x) = k.Name
 expr (e.Nil p) = k.Nil
 expr (e.Null p) = k.Null
-expr (e.Number n) = k.Number
+expr (e.Number n p) = k.Number
 
 -- { "," expr }
 abbrev pub more_exprs : List SurfaceExpr → List Kind → List Kind

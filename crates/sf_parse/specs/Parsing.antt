@@ -1,6 +1,6 @@
 -- The tree of a file's tokens, and the first token that goes wrong: said of the grammar alone.
 -- Ordinary: the viable prefix property, as in Aho, Sethi, Ullman, "Compilers" (1986), section 4.1.
-use Rattle.std.specs.Prelude.{◌≡◌, ℕ, ◌-◌, ◌++◌, List, [], ◌∷◌, length, map, slice_index_or, ◌⊎◌}
+use Rattle.std.specs.Prelude.{◌≡◌, ℕ, pos, ◌-◌, ◌++◌, List, [], ◌∷◌, length, map, slice_index_or, ◌⊎◌}
 use Rattle.sf_base.specs.declared.place.Place.{Place}
 use Rattle.sf_ast.specs.Surface.{Item}
 use Rattle.sf_lex.specs.declared.token.Kind.{Kind}
@@ -19,7 +19,7 @@ kinds ts = map (λ t. t.kind) ts
 
 -- no token of a file
 abbrev pub no_token : Token
-no_token = record { kind = k.Name; start = 0; end = 0; place = first_place }
+no_token = record { kind = k.Name; value = pos 0; start = 0; end = 0; place = first_place }
 
 -- the token with which so many are left
 abbrev pub token_left : List Token → ℕ → Token

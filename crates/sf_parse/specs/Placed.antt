@@ -1,6 +1,6 @@
--- Where the nodes of a tree stand: each word is the token there, and each place is that of the token there.
+-- Where the nodes of a tree stand: each word is the token there, and each place and each number is that of the token there.
 -- A token is named by how many are left with it, so `at (length r)` is the first of r.
-use Rattle.std.specs.Prelude.{◌≡◌, ℕ, List, [], ◌∷◌, length, Option, Some, None}
+use Rattle.std.specs.Prelude.{◌≡◌, ℕ, ℤ, List, [], ◌∷◌, length, Option, Some, None}
 use Rattle.sf_base.specs.declared.place.Place.{Place}
 use Rattle.sf_ast.specs.declared.assertion.SurfaceField.{SurfaceField}
 use Rattle.sf_ast.specs.declared.word.SurfaceExpr.{SurfaceExpr}
@@ -23,6 +23,10 @@ WordAt at w r = w ≡ record { start = (at (length r)).start; end = (at (length 
 -- the place is that of the first token of those
 abbrev pub PlaceAt : (ℕ → Token) → Place → List Kind → Type 0
 PlaceAt at p r = p ≡ (at (length r)).place
+
+-- the number is what the first token of those writes
+abbrev pub NumberAt : (ℕ → Token) → ℤ → List Kind → Type 0
+NumberAt at n r = n ≡ (at (length r)).value
 
 -- names, each behind its comma
 abbrev pub MoreNamesAt : (ℕ → Token) → List Word → List Kind → Type 0
@@ -48,7 +52,7 @@ abbrev pub ExprAt : (ℕ → Token) → SurfaceExpr → List Kind → Type 0
 ExprAt at (e.Name x) r = WordAt at x (k.Name ∷ r)
 ExprAt at (e.Nil p) r = PlaceAt at p (k.Nil ∷ r)
 ExprAt at (e.Null p) r = PlaceAt at p (k.Null ∷ r)
-ExprAt at (e.Number n) r = WordAt at n (k.Number ∷ r)
+ExprAt at (e.Number n p) r = NumberAt at n (k.Number ∷ r) × PlaceAt at p (k.Number ∷ r)
 
 -- expressions, each behind its comma
 abbrev pub MoreExprsAt : (ℕ → Token) → List SurfaceExpr → List Kind → Type 0

@@ -68,7 +68,7 @@ pub fn eat_expression(tokens: &[Token]) -> Option<(SurfaceExpr, &[Token])>
             Kind::Name => Some((SurfaceExpr::Name(word_of(token)), rest)),
             Kind::Nil => Some((SurfaceExpr::Nil(token.place), rest)),
             Kind::Null => Some((SurfaceExpr::Null(token.place), rest)),
-            Kind::Number => Some((SurfaceExpr::Number(word_of(token)), rest)),
+            Kind::Number => Some((SurfaceExpr::Number(token.value, token.place), rest)),
             _ => None,
         },
         _ => None,

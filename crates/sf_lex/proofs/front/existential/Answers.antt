@@ -1,4 +1,4 @@
-use Rattle.std.proofs.Common.{◌<◌, sym, ◌∙◌, refl, subst}
+use Rattle.std.proofs.Common.{◌<◌, sym, ◌∙◌, refl, subst, pos}
 use Rattle.sf_lex.specs.declared.token.Kind.TheVariants.{Existential}
 use Rattle.sf_lex.proofs.WordFronts.{existential_front_at, token_stands, long_word, lone_underscore}
 use Rattle.sf_lex.proofs.front.existential.Goals as goal
@@ -15,4 +15,4 @@ returns-then-is_long_word c =
 pub returns : goal.returns
 returns c =
     let front = existential_front_at c.args.bytes.now c.word_length-length.result c.requires.some c.requires.underscore c.word_length-length.ensures.length c.if-length-lt2.false in
-    token_stands Existential c.args.bytes.now c.word_length-length.result c.word_length-length.ensures.within front (sym c.is_long_word.ensures ∙ c.if-is_long_word.false) refl
+    token_stands Existential c.args.bytes.now c.word_length-length.result (pos 0) c.word_length-length.ensures.within front (sym c.is_long_word.ensures ∙ c.if-is_long_word.false) refl refl

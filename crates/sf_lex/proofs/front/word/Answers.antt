@@ -1,5 +1,5 @@
-use Rattle.std.proofs.Common.{sym, ◌∙◌, refl, take, drop}
-use Rattle.sf_lex.proofs.WordFronts.{word_front_at, token_stands, long_word, no_number_no_bad}
+use Rattle.std.proofs.Common.{sym, ◌∙◌, refl, take, drop, pos}
+use Rattle.sf_lex.proofs.WordFronts.{word_front_at, token_stands, long_word, no_number_no_bad, no_number_no_value}
 use Rattle.sf_lex.proofs.front.word.Goals as goal
 
 pub returns-then-is_long_word : goal.returns-then-is_long_word
@@ -10,5 +10,6 @@ returns-then-is_long_word c =
 pub returns : goal.returns
 returns c =
     let front = word_front_at c.args.bytes.now c.word_length-length.result c.word_kind-kind.result c.requires.some c.requires.letter c.word_length-length.ensures.length c.word_kind-kind.ensures.kind in
-    token_stands c.word_kind-kind.result c.args.bytes.now c.word_length-length.result c.word_length-length.ensures.within front (sym c.is_long_word.ensures ∙ c.if-is_long_word.false)
+    token_stands c.word_kind-kind.result c.args.bytes.now c.word_length-length.result (pos 0) c.word_length-length.ensures.within front (sym c.is_long_word.ensures ∙ c.if-is_long_word.false)
     (no_number_no_bad c.word_kind-kind.result (take c.word_length-length.result c.args.bytes.now) (drop c.word_length-length.result c.args.bytes.now) c.word_kind-kind.ensures.no_number)
+    (no_number_no_value c.word_kind-kind.result (take c.word_length-length.result c.args.bytes.now) c.word_kind-kind.ensures.no_number)
