@@ -9,7 +9,7 @@ use Rattle.sf_lex.specs.declared.token.Kind.TheVariants as k
 use Rattle.sf_lex.specs.declared.token.Token.{Token}
 use Rattle.sf_lex.specs.Lexeme.{is_letter, is_number, is_some_of, is_word_byte, kind_of, symbol_kind, word_kind}
 use Rattle.sf_lex.specs.Piece.{Piece, blank, comment, token, text_of, spelled, fits, is_bad_number, IsPiece, ArePieces}
-use Rattle.sf_lex.specs.Reading.{tokens_of, first_place, next_place, place_behind}
+use Rattle.sf_lex.specs.Reading.{tokens_of, first_place, next_place, place_behind, value_of}
 use Rattle.sf_lex.specs.Laws.{AreTheirTexts, EachTokenIsItsText, IsItsText, text_at}
 use Rattle.sf_lex.proofs.Steps.{behind_append, text_some}
 use Rattle.sf_lex.proofs.SymbolFronts.{symbol_no_number}
@@ -40,9 +40,9 @@ number-fits : (kind : Kind) (text rest : List ℕ) → kind ≡ k.Number → is_
 number-fits kind text rest n e = grind arith
 
 -- a token that spans a text behind others, of that kind, is that text
-text-is : (bytes before text rest : List ℕ) (t : Token) → bytes ≡ before ++ (text ++ rest) → t.start ≡ length before → t.end ≡ length before + length text → t.place ≡ place_behind first_place before → IsPiece (token t.kind text) rest
+text-is : (bytes before text rest : List ℕ) (t : Token) → bytes ≡ before ++ (text ++ rest) → t.start ≡ length before → t.end ≡ length before + length text → t.place ≡ place_behind first_place before → t.value ≡ value_of t.kind text → IsPiece (token t.kind text) rest
     → IsItsText bytes t
-text-is bytes before text rest t e s n p piece =
+text-is bytes before text rest t e s n p v piece =
     let front : drop t.start bytes ≡ text ++ rest = rw (e, s) (drop-append_seam before (text ++ rest)) in
     let ahead : take t.start bytes ≡ before = rw (e, s) (take-append_seam before (text ++ rest)) in
     let count : t.end - t.start ≡ length text = omega arith in
@@ -55,6 +55,7 @@ text-is bytes before text rest t e s n p piece =
       kind = rw same piece.0.is;
       short = rw same piece.1;
       number = λ i. rw same (record { digits = number-digits text (piece.0.is ∙ ap Some i); in_range = number-fits t.kind text rest i piece.2 });
+      value = rw same v;
       place = rw ahead p;
     }
 
@@ -76,7 +77,7 @@ texts-of (comment inner ∷ ps) bytes before from start at e each s p h =
     texts-of ps bytes (before ++ text) from (start + length text) (place_behind at text)
     (e ∙ sym (append_assoc before text (spelled ps []))) each.1 (counted before text start s) (placed before text at p) (omega arith)
 texts-of (token kind text ∷ ps) bytes before from start at e each s p h = (
-  text-is bytes before text (spelled ps []) _ e s (ap (λ m. m + length text) s) p each.0,
+  text-is bytes before text (spelled ps []) _ e s (ap (λ m. m + length text) s) p refl each.0,
   h,
   texts-of ps bytes (before ++ text) (start + length text) (start + length text) (place_behind at text)
       (e ∙ sym (append_assoc before text (spelled ps []))) each.1 (counted before text start s) (placed before text at p) (omega arith),

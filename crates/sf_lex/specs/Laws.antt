@@ -7,7 +7,7 @@ use Rattle.sf_lex.specs.declared.token.Kind.TheVariants.{Number}
 use Rattle.sf_lex.specs.declared.token.Token.{Token}
 use Rattle.sf_lex.specs.Lexeme.{is_number, kind_of}
 use Rattle.sf_lex.specs.Piece.{fits, is_long_word}
-use Rattle.sf_lex.specs.Reading.{AreTokens, IsFault, first_place, place_behind}
+use Rattle.sf_lex.specs.Reading.{AreTokens, IsFault, first_place, place_behind, value_of}
 
 -- the bytes read in exactly one way: as one list of tokens, or with one fault
 pub record ReadsOnce (bytes : List ℕ) : Type 0 where
@@ -29,13 +29,15 @@ pub record IsNumber (text : List ℕ) : Type 0 where
   pub digits : is_number text ≡ true
   pub in_range : fits (signed_digits_value 10 text) ≡ true
 
--- a token is its text: bytes of the file, one or more, of its kind and not too long; its place is behind all before them
+-- a token is its text: bytes of the file, one or more, of its kind and not too long; its value is what they write, and its place is behind all
+-- before them
 pub record IsItsText (bytes : List ℕ) (t : Token) : Type 0 where
   pub some : t.start < t.end
   pub within : t.end ≤ length bytes
   pub kind : kind_of (text_at bytes t) ≡ Some t.kind
   pub short : is_long_word t.kind (length (text_at bytes t)) ≡ false
   pub number : t.kind ≡ Number → IsNumber (text_at bytes t)
+  pub value : t.value ≡ value_of t.kind (text_at bytes t)
   pub place : t.place ≡ place_behind first_place (take t.start bytes)
 
 -- each token is its text, and begins where the one before it ends or behind that
