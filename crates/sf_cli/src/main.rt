@@ -15,13 +15,11 @@ mod tests;
 mod top;
 mod words;
 
+use crate::top::{OUT_OF_MEMORY, smallfoot};
 use sf_io::{FileShelf, OpenGate, StdSink};
 use std::alloc::{AllocError, Global};
 use std::process::ExitCode;
 use std::{env, io};
-
-/// The status where memory ran out.
-const OUT_OF_MEMORY: u8 = 9;
 
 /// The words behind the program's name.
 fn given_words(rt: &HostRuntime) -> io::Result<Vec<String>> {
@@ -56,7 +54,7 @@ fn main(rt: HostRuntime) -> ExitCode {
     };
     let mut shelf = FileShelf::new(&rt, alloc);
     let mut sink = StdSink::new(&rt);
-    ExitCode::from(top::smallfoot(
+    ExitCode::from(smallfoot(
         &rt,
         alloc,
         texts.as_slice(),

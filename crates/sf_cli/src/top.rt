@@ -17,7 +17,7 @@ use std::thread::Threads;
 /// The status where the sink can't be written to.
 const WRITE_FAULT: u8 = 8;
 /// The status where memory ran out.
-const OUT_OF_MEMORY: u8 = 9;
+pub const OUT_OF_MEMORY: u8 = 9;
 
 /// Puts what is said, whole, and gives its status; or the status of what kept it from that.
 fn tell<K: Sink>(sink: &mut K, said: &Said) -> u8
@@ -66,6 +66,8 @@ pub fn smallfoot<'a, R: Threads + Wait + Sync, S: Shelf, K: Sink, G: Gate>(
     // Over a shelf or a sink that never counts a fault there is none.
     ensures no_read_fault { ((name : Text) → S.faults shelf.new name ≡ 0) → result ≢ 7 }
     ensures no_write_fault { K.faults sink.new ≡ 0 → result ≢ 8 }
+    // Where no count rises in this call, the answer is whole, or memory ran out.
+    ensures complete { ((name : Text) → Rose (S.faults shelf.old name) (S.faults shelf.new name) → ⊥) → (Rose (K.faults sink.old) (K.faults sink.new) → ⊥) → (result < 7) ⊎ (result ≡ 9) }
     // What is accepted is sound: whatever runs of it there are, each configuration is good.
     ensures accepted { result ≡ 0 → (text : Text) × (K.written sink.new ≡ with_bytes (K.written sink.old) text) × Accepted (S.files shelf.old) (words_of words.now) text }
     // No file changes, and no count falls; that of a name rises only where the words name it.

@@ -1,5 +1,6 @@
 use Rattle.std.proofs.Common.{◌≡◌, ◌<◌, sym, ◌∙◌, arith}
 use Rattle.sf_cli.proofs.Accepted.{accepted-reply}
+use Rattle.sf_cli.proofs.Complete.{complete-reply, complete-status}
 use Rattle.sf_cli.specs.WordsOf.{words_of}
 use Rattle.sf_cli.proofs.top.smallfoot.Goals as goal
 
@@ -12,3 +13,9 @@ returns-in-Ok-clause-accepted g c = λ zero.
       accepted-reply c.accepted_files_are_sound.ensures (g.S.Shelf.files c.args.shelf.now) (g.S.Shelf.faults c.args.shelf.now) (g.S.Shelf.faults c.respond.new.shelf) (words_of c.args.words.now)
           c.in-Ok.said.text.items c.in-Ok.said.status (sym whole.0 ∙ zero) c.in-Ok.ensures.said,
     )
+
+pub returns-in-Ok-clause-complete : goal.returns-in-Ok-clause-complete
+returns-in-Ok-clause-complete g c = λ shelf sink.
+    let small : c.in-Ok.said.status < 7 = complete-reply (g.S.Shelf.files c.args.shelf.now) (g.S.Shelf.faults c.args.shelf.now) (g.S.Shelf.faults c.respond.new.shelf) (words_of c.args.words.now)
+    c.in-Ok.said.text.items c.in-Ok.said.status c.in-Ok.ensures.said shelf in
+    complete-status c.tell.result c.in-Ok.said.status (λ below. (c.tell.ensures.whole below).0) small (λ e. sink (c.tell.ensures.failed e)) c.tell.ensures.last
