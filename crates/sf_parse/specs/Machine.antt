@@ -70,6 +70,46 @@ pub data Owed : Type 0 where
   item_named : Owed
   items : Owed
 
+-- `( E , F )`
+abbrev pub pair_owed : List Owed
+pair_owed = exact open_round ∷ operand ∷ exact a_comma ∷ operand ∷ exact close_round ∷ []
+
+-- what stands behind the test of a conjunct's `if`, whose branches have at most d levels
+abbrev pub branches_owed : ℕ → List Owed
+branches_owed d = exact then_word ∷ assertion d ∷ exact else_word ∷ assertion d ∷ []
+
+-- what stands behind that `if`
+abbrev pub choice_owed : ℕ → List Owed
+choice_owed d = if_test ∷ branches_owed d
+
+-- what stands behind the arrow of a mutation
+abbrev pub mutated_owed : List Owed
+mutated_owed = exact a_name ∷ exact equals ∷ expression ∷ exact semicolon ∷ []
+
+-- what stands behind the `||` of a fork
+abbrev pub forked_owed : List Owed
+forked_owed = exact a_name ∷ exact open_round ∷ maybe_arguments ∷ exact close_round ∷ exact semicolon ∷ []
+
+-- what stands behind the `if` of a command that has d levels
+abbrev pub if_owed : ℕ → List Owed
+if_owed d = exact open_round ∷ test ∷ exact close_round ∷ command (d - 1) ∷ branch (d - 1) ∷ []
+
+-- what stands behind its `while`
+abbrev pub while_owed : ℕ → List Owed
+while_owed d = exact open_round ∷ test ∷ exact close_round ∷ maybe_note ∷ command (d - 1) ∷ []
+
+-- what stands behind its `with`
+abbrev pub with_owed : ℕ → List Owed
+with_owed d = exact a_name ∷ exact when_word ∷ exact open_round ∷ test ∷ exact close_round ∷ command (d - 1) ∷ []
+
+-- what stands behind the `(` of a procedure
+abbrev pub procedure_owed : List Owed
+procedure_owed = maybe_names ∷ maybe_values ∷ exact close_round ∷ maybe_note ∷ exact open_brace ∷ locals ∷ commands NESTING ∷ exact close_brace ∷ maybe_note ∷ []
+
+-- what stands behind the word `resource`
+abbrev pub resource_owed : List Owed
+resource_owed = exact a_name ∷ exact open_round ∷ maybe_names ∷ exact close_round ∷ exact open_square ∷ maybe_assertion ∷ exact close_square ∷ []
+
 -- at one token: take it and owe that instead, do without, or neither
 pub data Choice : Type 0 where
   take : List Owed → Choice
@@ -214,9 +254,9 @@ on_more_fields t = skip
 abbrev pub on_conjunct : ℕ → Kind → List Owed → Choice
 on_conjunct d k.Emp ss = take ss
 on_conjunct d k.OpenRound ss = take (assertion (d - 1) ∷ exact close_round ∷ ss)
-on_conjunct d k.If ss = take (if_test ∷ exact then_word ∷ assertion (d - 1) ∷ exact else_word ∷ assertion (d - 1) ∷ ss)
-on_conjunct d k.Ls ss = take (exact open_round ∷ operand ∷ exact a_comma ∷ operand ∷ exact close_round ∷ ss)
-on_conjunct d k.Lseg ss = take (exact open_round ∷ operand ∷ exact a_comma ∷ operand ∷ exact close_round ∷ ss)
+on_conjunct d k.If ss = take (choice_owed (d - 1) ++ ss)
+on_conjunct d k.Ls ss = take (pair_owed ++ ss)
+on_conjunct d k.Lseg ss = take (pair_owed ++ ss)
 on_conjunct d k.List ss = take (exact open_round ∷ operand ∷ exact close_round ∷ ss)
 on_conjunct d k.Tree ss = take (exact open_round ∷ operand ∷ exact close_round ∷ ss)
 on_conjunct d t ss = on_operand t (relation ∷ ss)
@@ -234,7 +274,7 @@ on_maybe_note t = skip
 -- what stands behind the name that begins a command
 abbrev pub on_named : Kind → Choice
 on_named k.Equals = take (assigned ∷ [])
-on_named k.Arrow = take (exact a_name ∷ exact equals ∷ expression ∷ exact semicolon ∷ [])
+on_named k.Arrow = take mutated_owed
 on_named k.OpenRound = take (maybe_arguments ∷ exact close_round ∷ after_call ∷ [])
 on_named t = refuse
 
@@ -252,7 +292,7 @@ on_look_up_or_end t = refuse
 -- what stands behind a call
 abbrev pub on_after_call : Kind → Choice
 on_after_call k.Semicolon = take []
-on_after_call k.Bars = take (exact a_name ∷ exact open_round ∷ maybe_arguments ∷ exact close_round ∷ exact semicolon ∷ [])
+on_after_call k.Bars = take forked_owed
 on_after_call t = refuse
 
 -- what stands behind `dispose`
@@ -264,11 +304,11 @@ on_disposed t = on_expression t (exact semicolon ∷ [])
 abbrev pub on_command : ℕ → Kind → List Owed → Choice
 on_command d k.Name ss = take (named ∷ ss)
 on_command d k.Dispose ss = take (disposed ∷ ss)
-on_command d k.If ss = take (exact open_round ∷ test ∷ exact close_round ∷ command (d - 1) ∷ branch (d - 1) ∷ ss)
-on_command d k.While ss = take (exact open_round ∷ test ∷ exact close_round ∷ maybe_note ∷ command (d - 1) ∷ ss)
-on_command d k.With ss = take (exact a_name ∷ exact when_word ∷ exact open_round ∷ test ∷ exact close_round ∷ command (d - 1) ∷ ss)
+on_command d k.If ss = take (if_owed d ++ ss)
+on_command d k.While ss = take (while_owed d ++ ss)
+on_command d k.With ss = take (with_owed d ++ ss)
 on_command d k.OpenBrace ss = take (commands (d - 1) ∷ exact close_brace ∷ ss)
-on_command d t ss = on_expression t (exact an_arrow ∷ exact a_name ∷ exact equals ∷ expression ∷ exact semicolon ∷ ss)
+on_command d t ss = on_expression t (exact an_arrow ∷ mutated_owed ++ ss)
 
 -- the `else` of an `if`, or none
 abbrev pub on_branch : ℕ → Kind → Choice
@@ -284,14 +324,13 @@ on_locals t = skip
 abbrev pub on_item_named : Kind → Choice
 on_item_named k.Comma = take (exact a_name ∷ more_names ∷ exact semicolon ∷ [])
 on_item_named k.Semicolon = take []
-on_item_named k.OpenRound =
-    take (maybe_names ∷ maybe_values ∷ exact close_round ∷ maybe_note ∷ exact open_brace ∷ locals ∷ commands NESTING ∷ exact close_brace ∷ maybe_note ∷ [])
+on_item_named k.OpenRound = take procedure_owed
 on_item_named t = refuse
 
 -- items
 abbrev pub on_items : Kind → Choice
 on_items k.Name = take (item_named ∷ items ∷ [])
-on_items k.Resource = take (exact a_name ∷ exact open_round ∷ maybe_names ∷ exact close_round ∷ exact open_square ∷ maybe_assertion ∷ exact close_square ∷ items ∷ [])
+on_items k.Resource = take (resource_owed ++ items ∷ [])
 on_items t = refuse
 
 -- what comes of one thing that is owed at one token

@@ -126,8 +126,8 @@ fn choice(
     ensures within { IfOk result (λ r. (d : ℕ) → d - 1 ≡ depth → ConjunctWithin (conjunct_of r.0) 0 d (kinds r.1.now)) }
     ensures ended { IfOk result (λ r. NotStar (kinds r.1.now)) }
     ensures places { IfOk result (λ r. (at : ℕ → Token) → Agree at tokens.now → PlaceAt at place (Kind.If ∷ kinds tokens.now) → ConjunctAt at (conjunct_of r.0) (kinds r.1.now) × Agree at r.1.now) }
-    ensures taken { IfOk result (λ r. Takes (m.if_test ∷ m.exact m.then_word ∷ m.assertion depth ∷ m.exact m.else_word ∷ m.assertion depth ∷ []) tokens.now r.1.now) }
-    ensures fault { IfErr result (λ e. Stops e (m.if_test ∷ m.exact m.then_word ∷ m.assertion depth ∷ m.exact m.else_word ∷ m.assertion depth ∷ []) tokens.now) }
+    ensures taken { IfOk result (λ r. Takes (m.choice_owed depth) tokens.now r.1.now) }
+    ensures fault { IfErr result (λ e. Stops e (m.choice_owed depth) tokens.now) }
 {
     if let Some((_, rest)) = eat(tokens, Kind::OpenRound) {
         let (test, rest) = operand_test(rest)?;
@@ -152,8 +152,8 @@ fn branches(
     ensures second_within { IfOk result (λ r. AssertionWithin (assertion_of r.1) 0 depth (kinds r.2.now)) }
     ensures ended { IfOk result (λ r. NotStar (kinds r.2.now)) }
     ensures places { IfOk result (λ r. Placed (λ at b. AssertionAt at (assertion_of r.0) (Kind.Else ∷ assertion (assertion_of r.1) b) × AssertionAt at (assertion_of r.1) b) tokens.now r.2.now) }
-    ensures taken { IfOk result (λ r. Takes (m.exact m.then_word ∷ m.assertion depth ∷ m.exact m.else_word ∷ m.assertion depth ∷ []) tokens.now r.2.now) }
-    ensures fault { IfErr result (λ e. Stops e (m.exact m.then_word ∷ m.assertion depth ∷ m.exact m.else_word ∷ m.assertion depth ∷ []) tokens.now) }
+    ensures taken { IfOk result (λ r. Takes (m.branches_owed depth) tokens.now r.2.now) }
+    ensures fault { IfErr result (λ e. Stops e (m.branches_owed depth) tokens.now) }
 {
     let (_, rest) = expect(tokens, Kind::Then)?;
     let (then, rest) = assertion(alloc, depth, rest)?;

@@ -76,8 +76,8 @@ fn value_first(object: SurfaceExpr, tokens: &[Token]) -> Result<(SurfaceCommand,
     ensures spelled { IfOk result (λ r. expr object ∷ kinds tokens.now ≡ command (command_of r.0) (kinds r.1.now)) }
     ensures flat { IfOk result (λ r. IsFlat (command_of r.0)) }
     ensures places { IfOk result (λ r. PlacedBehind (λ at b. ExprAt at object b) (λ at b. CommandAt at (command_of r.0) b) tokens.now r.1.now) }
-    ensures taken { IfOk result (λ r. Takes (m.exact m.an_arrow ∷ m.exact m.a_name ∷ m.exact m.equals ∷ m.expression ∷ m.exact m.semicolon ∷ []) tokens.now r.1.now) }
-    ensures fault { IfErr result (λ e. Stops e (m.exact m.an_arrow ∷ m.exact m.a_name ∷ m.exact m.equals ∷ m.expression ∷ m.exact m.semicolon ∷ []) tokens.now) }
+    ensures taken { IfOk result (λ r. Takes (m.exact m.an_arrow ∷ m.mutated_owed) tokens.now r.1.now) }
+    ensures fault { IfErr result (λ e. Stops e (m.exact m.an_arrow ∷ m.mutated_owed) tokens.now) }
 {
     let (_, rest) = expect(tokens, Kind::Arrow)?;
     mutated(object, rest)
@@ -153,8 +153,8 @@ fn if_command(
     ensures within { IfOk result (λ r. CommandWithin (command_of r.0) 0 depth (kinds r.1.now)) }
     ensures follows { IfOk result (λ r. Follows (command_of r.0) (kinds r.1.now)) }
     ensures places { IfOk result (λ r. PlacedBehind (λ at b. PlaceAt at place (k.If ∷ b)) (λ at b. CommandAt at (command_of r.0) b) tokens.now r.1.now) }
-    ensures taken { IfOk result (λ r. Takes (m.exact m.open_round ∷ m.test ∷ m.exact m.close_round ∷ m.command (depth - 1) ∷ m.branch (depth - 1) ∷ []) tokens.now r.1.now) }
-    ensures fault { IfErr result (λ e. Stops e (m.exact m.open_round ∷ m.test ∷ m.exact m.close_round ∷ m.command (depth - 1) ∷ m.branch (depth - 1) ∷ []) tokens.now) }
+    ensures taken { IfOk result (λ r. Takes (m.if_owed depth) tokens.now r.1.now) }
+    ensures fault { IfErr result (λ e. Stops e (m.if_owed depth) tokens.now) }
 {
     let (condition, rest) = round_test(tokens)?;
     let (then, rest) = command(alloc, depth - 1, rest)?;
@@ -179,8 +179,8 @@ fn while_command(
     ensures within { IfOk result (λ r. CommandWithin (command_of r.0) 0 depth (kinds r.1.now)) }
     ensures follows { IfOk result (λ r. Follows (command_of r.0) (kinds r.1.now)) }
     ensures places { IfOk result (λ r. PlacedBehind (λ at b. PlaceAt at place (k.While ∷ b)) (λ at b. CommandAt at (command_of r.0) b) tokens.now r.1.now) }
-    ensures taken { IfOk result (λ r. Takes (m.exact m.open_round ∷ m.test ∷ m.exact m.close_round ∷ m.maybe_note ∷ m.command (depth - 1) ∷ []) tokens.now r.1.now) }
-    ensures fault { IfErr result (λ e. Stops e (m.exact m.open_round ∷ m.test ∷ m.exact m.close_round ∷ m.maybe_note ∷ m.command (depth - 1) ∷ []) tokens.now) }
+    ensures taken { IfOk result (λ r. Takes (m.while_owed depth) tokens.now r.1.now) }
+    ensures fault { IfErr result (λ e. Stops e (m.while_owed depth) tokens.now) }
 {
     let (condition, rest) = round_test(tokens)?;
     let (invariant, rest) = maybe_note(alloc, rest)?;
@@ -202,8 +202,8 @@ fn with_command(
     ensures within { IfOk result (λ r. CommandWithin (command_of r.0) 0 depth (kinds r.1.now)) }
     ensures follows { IfOk result (λ r. Follows (command_of r.0) (kinds r.1.now)) }
     ensures places { IfOk result (λ r. PlacedBehind (λ at b. PlaceAt at place (k.With ∷ b)) (λ at b. CommandAt at (command_of r.0) b) tokens.now r.1.now) }
-    ensures taken { IfOk result (λ r. Takes (m.exact m.a_name ∷ m.exact m.when_word ∷ m.exact m.open_round ∷ m.test ∷ m.exact m.close_round ∷ m.command (depth - 1) ∷ []) tokens.now r.1.now) }
-    ensures fault { IfErr result (λ e. Stops e (m.exact m.a_name ∷ m.exact m.when_word ∷ m.exact m.open_round ∷ m.test ∷ m.exact m.close_round ∷ m.command (depth - 1) ∷ []) tokens.now) }
+    ensures taken { IfOk result (λ r. Takes (m.with_owed depth) tokens.now r.1.now) }
+    ensures fault { IfErr result (λ e. Stops e (m.with_owed depth) tokens.now) }
 {
     let (resource, rest) = name(tokens)?;
     let (_, rest) = expect(rest, Kind::When)?;

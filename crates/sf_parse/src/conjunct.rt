@@ -35,8 +35,8 @@ fn one_operand(tokens: &[Token]) -> Result<(SurfaceOperand, &[Token]), Stop>
 fn two_operands(tokens: &[Token]) -> Result<(SurfaceOperand, SurfaceOperand, &[Token]), Stop>
     ensures spelled { IfOk result (λ r. kinds tokens.now ≡ Kind.OpenRound ∷ operand r.0 ∷ Kind.Comma ∷ operand r.1 ∷ Kind.CloseRound ∷ kinds r.2.now) }
     ensures places { IfOk result (λ r. Placed (λ at b. OperandAt at r.0 (Kind.Comma ∷ operand r.1 ∷ Kind.CloseRound ∷ b) × OperandAt at r.1 (Kind.CloseRound ∷ b)) tokens.now r.2.now) }
-    ensures taken { IfOk result (λ r. Takes (m.exact m.open_round ∷ m.operand ∷ m.exact m.a_comma ∷ m.operand ∷ m.exact m.close_round ∷ []) tokens.now r.2.now) }
-    ensures fault { IfErr result (λ e. Stops e (m.exact m.open_round ∷ m.operand ∷ m.exact m.a_comma ∷ m.operand ∷ m.exact m.close_round ∷ []) tokens.now) }
+    ensures taken { IfOk result (λ r. Takes m.pair_owed tokens.now r.2.now) }
+    ensures fault { IfErr result (λ e. Stops e m.pair_owed tokens.now) }
 {
     let (_, rest) = expect(tokens, Kind::OpenRound)?;
     let (from, rest) = operand(rest)?;

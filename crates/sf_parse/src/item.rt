@@ -114,8 +114,8 @@ fn procedure(alloc: Global, first: Word, tokens: &[Token]) -> Result<(Item, &[To
     ensures spelled { IfOk result (λ r. k.Name ∷ k.OpenRound ∷ kinds tokens.now ≡ item (item_of r.0) (kinds r.1.now)) }
     ensures within { IfOk result (λ r. ItemWithin (item_of r.0) 0 (kinds r.1.now)) }
     ensures places { IfOk result (λ r. PlacedBehind (λ at b. WordAt at first (k.Name ∷ k.OpenRound ∷ b)) (λ at b. ItemAt at (item_of r.0) b) tokens.now r.1.now) }
-    ensures taken { IfOk result (λ r. Takes (m.maybe_names ∷ m.maybe_values ∷ m.exact m.close_round ∷ m.maybe_note ∷ m.exact m.open_brace ∷ m.locals ∷ m.commands NESTING ∷ m.exact m.close_brace ∷ m.maybe_note ∷ []) tokens.now r.1.now) }
-    ensures fault { IfErr result (λ e. Stops e (m.maybe_names ∷ m.maybe_values ∷ m.exact m.close_round ∷ m.maybe_note ∷ m.exact m.open_brace ∷ m.locals ∷ m.commands NESTING ∷ m.exact m.close_brace ∷ m.maybe_note ∷ []) tokens.now) }
+    ensures taken { IfOk result (λ r. Takes m.procedure_owed tokens.now r.1.now) }
+    ensures fault { IfErr result (λ e. Stops e m.procedure_owed tokens.now) }
 {
     let (parameters, rest) = parameters(alloc, tokens)?;
     let (_, rest) = expect(rest, Kind::CloseRound)?;
@@ -143,8 +143,8 @@ fn resource(alloc: Global, place: Place, tokens: &[Token]) -> Result<(Item, &[To
     ensures spelled { IfOk result (λ r. k.Resource ∷ kinds tokens.now ≡ item (item_of r.0) (kinds r.1.now)) }
     ensures within { IfOk result (λ r. ItemWithin (item_of r.0) 0 (kinds r.1.now)) }
     ensures places { IfOk result (λ r. PlacedBehind (λ at b. PlaceAt at place (k.Resource ∷ b)) (λ at b. ItemAt at (item_of r.0) b) tokens.now r.1.now) }
-    ensures taken { IfOk result (λ r. Takes (m.exact m.a_name ∷ m.exact m.open_round ∷ m.maybe_names ∷ m.exact m.close_round ∷ m.exact m.open_square ∷ m.maybe_assertion ∷ m.exact m.close_square ∷ []) tokens.now r.1.now) }
-    ensures fault { IfErr result (λ e. Stops e (m.exact m.a_name ∷ m.exact m.open_round ∷ m.maybe_names ∷ m.exact m.close_round ∷ m.exact m.open_square ∷ m.maybe_assertion ∷ m.exact m.close_square ∷ []) tokens.now) }
+    ensures taken { IfOk result (λ r. Takes m.resource_owed tokens.now r.1.now) }
+    ensures fault { IfErr result (λ e. Stops e m.resource_owed tokens.now) }
 {
     let (own, rest) = name(tokens)?;
     let (_, rest) = expect(rest, Kind::OpenRound)?;

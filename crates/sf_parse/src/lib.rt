@@ -6,7 +6,7 @@ mod call;
 mod command;
 mod condition;
 mod conjunct;
-pub mod fault;
+mod fault;
 mod fields;
 mod file;
 mod front;

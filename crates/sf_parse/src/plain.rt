@@ -25,8 +25,8 @@ pub fn mutated(object: SurfaceExpr, tokens: &[Token]) -> Result<(SurfaceCommand,
     ensures spelled { IfOk result (λ r. expr object ∷ k.Arrow ∷ kinds tokens.now ≡ command (command_of r.0) (kinds r.1.now)) }
     ensures flat { IfOk result (λ r. IsFlat (command_of r.0)) }
     ensures places { IfOk result (λ r. PlacedBehind (λ at b. ExprAt at object (k.Arrow ∷ b)) (λ at b. CommandAt at (command_of r.0) b) tokens.now r.1.now) }
-    ensures taken { IfOk result (λ r. Takes (m.exact m.a_name ∷ m.exact m.equals ∷ m.expression ∷ m.exact m.semicolon ∷ []) tokens.now r.1.now) }
-    ensures fault { IfErr result (λ e. Stops e (m.exact m.a_name ∷ m.exact m.equals ∷ m.expression ∷ m.exact m.semicolon ∷ []) tokens.now) }
+    ensures taken { IfOk result (λ r. Takes m.mutated_owed tokens.now r.1.now) }
+    ensures fault { IfErr result (λ e. Stops e m.mutated_owed tokens.now) }
 {
     let (field, rest) = name(tokens)?;
     let (_, rest) = expect(rest, Kind::Equals)?;
@@ -93,8 +93,8 @@ fn assigned(target: Word, tokens: &[Token]) -> Result<(SurfaceCommand, &[Token])
 fn forked(alloc: Global, tokens: &[Token]) -> Result<(SurfaceCall, &[Token]), Stop>
     ensures spelled { IfOk result (λ r. kinds tokens.now ≡ g.call (call_of r.0) (k.Semicolon ∷ kinds r.1.now)) }
     ensures places { IfOk result (λ r. Placed (λ at b. CallAt at (call_of r.0) (k.Semicolon ∷ b)) tokens.now r.1.now) }
-    ensures taken { IfOk result (λ r. Takes (m.exact m.a_name ∷ m.exact m.open_round ∷ m.maybe_arguments ∷ m.exact m.close_round ∷ m.exact m.semicolon ∷ []) tokens.now r.1.now) }
-    ensures fault { IfErr result (λ e. Stops e (m.exact m.a_name ∷ m.exact m.open_round ∷ m.maybe_arguments ∷ m.exact m.close_round ∷ m.exact m.semicolon ∷ []) tokens.now) }
+    ensures taken { IfOk result (λ r. Takes m.forked_owed tokens.now r.1.now) }
+    ensures fault { IfErr result (λ e. Stops e m.forked_owed tokens.now) }
 {
     let (procedure, rest) = name(tokens)?;
     let (_, rest) = expect(rest, Kind::OpenRound)?;
