@@ -36,7 +36,7 @@ abbrev pub HasLevel : (n left d : ℕ) → Type 0
 HasLevel n left d = has_level n left d ≡ true
 
 abbrev mutual
-  -- the assertions in a conjunct have at most d - 1 levels
+  -- the assertions in a conjunct have at most d - 1 levels, and their branches reach as far to the right as they can
   pub ConjunctWithin : s.Conjunct → (n d : ℕ) → List Kind → Type 0
   ConjunctWithin (s.group p a) n d r = AssertionWithin a n (d - 1) (k.CloseRound ∷ r)
   ConjunctWithin (s.choose p b x y) n d r = AssertionWithin x n (d - 1) (k.Else ∷ assertion y r) × AssertionWithin y n (d - 1) r
@@ -50,7 +50,8 @@ abbrev mutual
   ConjunctWithin (s.list p x) n d r = Unit {0}
   ConjunctWithin (s.tree p x) n d r = Unit {0}
 
-  -- an assertion has at most d levels, its own the first, where it begins with more than n tokens left
+  -- an assertion has at most d levels, its own the first, where it begins with more than n tokens left; its branches reach as far
+  -- to the right as they can: a conjunct with another one behind it is closed
   pub AssertionWithin : s.Assertion → (n d : ℕ) → List Kind → Type 0
   AssertionWithin (s.only c) n d r = HasLevel n (length (conjunct c r)) d × ConjunctWithin c n d r
   AssertionWithin (s.star c a) n d r = HasLevel n (length (conjunct c (k.Star ∷ assertion a r))) d × ConjunctWithin c n d (k.Star ∷ assertion a r) × IsClosed c × RestWithin a n d r
@@ -92,7 +93,8 @@ abbrev mutual
   CommandsWithin s.done n d r = Unit {0}
   CommandsWithin (s.then c cs) n d r = CommandWithin c n d (commands cs r) × CommandsWithin cs n d r
 
--- the notes and the body of an item, whose commands have the first level
+-- the notes and the body of an item, whose commands have the first level; each `else` belongs to the nearest `if`, and the
+-- branches of assertions reach as far to the right as they can
 abbrev pub ItemWithin : s.Item → (n : ℕ) → List Kind → Type 0
 ItemWithin (s.fields ns) n r = Unit {0}
 ItemWithin (s.resource x) n r = NoteWithin x.invariant n r
@@ -101,7 +103,7 @@ ItemWithin (s.procedure f) n r =
     × CommandsWithin f.body n NESTING (k.CloseBrace ∷ maybe_note f.post r)
     × MaybeWithin f.post n r
 
--- those of all items
+-- those of all items: within the limit, each `else` to the nearest `if`, branches as far to the right as they can
 abbrev pub ItemsWithin : List s.Item → (n : ℕ) → List Kind → Type 0
 ItemsWithin [] n r = Unit {0}
 ItemsWithin (i ∷ is) n r = ItemWithin i n (items is r) × ItemsWithin is n r

@@ -25,20 +25,24 @@ no_token = record { kind = k.Name; value = pos 0; start = 0; end = 0; place = fi
 abbrev pub token_left : List Token → ℕ → Token
 token_left ts n = slice_index_or ts (length ts - n) no_token
 
--- the tokens are those of the tree, within the limit on nesting, and the tree's nodes stand where their tokens do
+-- the tokens are those of the tree, and the tree's nodes stand where their tokens do; it is within the limit on nesting and, of
+-- the trees with these tokens, the one that is meant: each `else` belongs to the nearest `if`, and an assertion's branches reach
+-- as far to the right as they can
 pub record IsFile (ts : List Token) (tree : List Item) : Type 0 where
   pub spells : kinds ts ≡ items tree []
   pub within : ItemsWithin tree 0 []
   pub places : ItemsAt (token_left ts) tree []
 
--- some file begins so, and nothing that begins in this front is nested deeper than the limit
+-- some file begins so, and nothing that begins in this front is nested deeper than the limit; the file is read as IsFile says,
+-- each `else` to the nearest `if` and branches as far to the right as they can
 pub record CanBegin (front : List Kind) : Type 0 where
   pub back : List Kind
   pub tree : List Item
   pub spells : front ++ back ≡ items tree []
   pub within : ItemsWithin tree (length back) []
 
--- some file begins so, however deep
+-- some file begins so, however deep: the limit is off, since every token of the file counts as free of it; how the file is read
+-- stays the same
 pub record CanBeginAny (front : List Kind) : Type 0 where
   pub back : List Kind
   pub tree : List Item
