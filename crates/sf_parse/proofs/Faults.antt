@@ -21,6 +21,7 @@ use Rattle.sf_parse.proofs.Free.{chosen_goes}
 use Rattle.sf_parse.proofs.HasLevel.{level_more}
 use Rattle.sf_parse.proofs.Once.{cons_once}
 use Rattle.sf_parse.proofs.Law.{exact, file_accepted, accepted_file, refuses}
+use Rattle.sf_parse.proofs.PlacingFiles.{file_placed}
 
 -- the more tokens are free of the limit, the more goes on
 free_more : (s : Owed) (n p l : ℕ) → n ≤ p → is_free s n l ≡ true → is_free s p l ≡ true
@@ -261,11 +262,11 @@ pub files_without_fault : (bytes : List ℕ) (ts : List Token) (tree : List Item
 files_without_fault bytes ts tree f file h =
     accepted_says_none bytes ts (verdict_of (kinds ts)) f ((exact (kinds ts)).file (record { tree = tree; spells = file.spells; within = file.within })) (fault_says bytes ts f h)
 
--- tokens are those of a file, or have a fault
-pub file_or_fault : (bytes : List ℕ) (ts : List Token) → Spelled (kinds ts) ⊎ ((f : ParseFault) × IsFault bytes ts f)
+-- tokens are a file, or have a fault
+pub file_or_fault : (bytes : List ℕ) (ts : List Token) → ((tree : List Item) × IsFile ts tree) ⊎ ((f : ParseFault) × IsFault bytes ts f)
 file_or_fault bytes ts = go (verdict_of (kinds ts)) refl
   where
-    go : (v : Verdict) → verdict_of (kinds ts) ≡ v → Spelled (kinds ts) ⊎ ((f : ParseFault) × IsFault bytes ts f)
-    go accepted e = inl ((exact (kinds ts)).accepts e)
+    go : (v : Verdict) → verdict_of (kinds ts) ≡ v → ((tree : List Item) × IsFile ts tree) ⊎ ((f : ParseFault) × IsFault bytes ts f)
+    go accepted e = inl (file_placed ts ((exact (kinds ts)).accepts e))
     go (unexpected n) e = inr (Unexpected (place_left bytes ts n), says_fault bytes ts (Unexpected (place_left bytes ts n)) (n, e, refl))
     go (too_deep n) e = inr (TooDeep (place_left bytes ts n), says_fault bytes ts (TooDeep (place_left bytes ts n)) (n, e, refl))

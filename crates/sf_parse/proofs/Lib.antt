@@ -26,3 +26,7 @@ pub mod Choices
 pub mod Lists
 pub mod Views
 pub mod Conjuncts
+pub mod Placing
+pub mod PlacingAssertions
+pub mod PlacingFiles
+pub mod Nearest

@@ -1,7 +1,7 @@
 -- Laws of reading a file: the machine's verdict is the grammar's, tokens are one file at most and no deeper than the limit, and
--- they have one answer, that they are a file or a fault.
+-- they have one answer, that they are a file or a fault. What is within the limit is said once more without counting levels.
 -- Ordinary: the viable prefix property, as in Aho, Sethi, Ullman, "Compilers" (1986), section 4.1.
-use Rattle.std.specs.Prelude.{◌≡◌, ◌≤◌, ◌⊎◌, ℕ, suc, List, [], ◌∷◌, ◌++◌, length}
+use Rattle.std.specs.Prelude.{◌≡◌, ◌≤◌, ◌↔◌, ◌⊎◌, ℕ, suc, List, [], ◌∷◌, ◌++◌, length}
 use Rattle.sf_base.specs.declared.limits.TheConstants.{NESTING}
 use Rattle.sf_ast.specs.Depth.{items_depth}
 use Rattle.sf_ast.specs.Surface.{Item}
@@ -10,6 +10,7 @@ use Rattle.sf_lex.specs.declared.token.Token.{Token}
 use Rattle.sf_parse.specs.declared.fault.ParseFault.{ParseFault}
 use Rattle.sf_parse.specs.Grammar.{items}
 use Rattle.sf_parse.specs.Machine.{Verdict, accepted, unexpected, too_deep, verdict, items as some_items}
+use Rattle.sf_parse.specs.Nearest.{IsNearest}
 use Rattle.sf_parse.specs.Nesting.{ItemsWithin}
 use Rattle.sf_parse.specs.Parsing.{kinds, CanBegin, CanBeginAny, IsFile, IsFault}
 
@@ -43,11 +44,17 @@ EachFileIsOne = (ts : List Token) (one two : List Item) → IsFile ts one → Is
 abbrev pub EachFileIsShallow : Type 0
 EachFileIsShallow = (ts : List Token) (tree : List Item) → IsFile ts tree → items_depth tree ≤ NESTING
 
--- tokens have one answer: they are those of a file, or have a fault, which is one alone, and never both
+-- a tree is within the limit exactly where each `else` belongs to the nearest `if`, an assertion's branches reach as far to the
+-- right as they can, and nothing is deeper than the limit
+abbrev pub ShallowTreesAreWithin : Type 0
+ShallowTreesAreWithin = (tree : List Item) → ItemsWithin tree 0 [] ↔ (IsNearest tree × (items_depth tree ≤ NESTING))
+
+-- tokens have one answer: they are a file, with the places of its nodes, or have a fault, which is one alone, and never both
 pub record HasOneAnswer (bytes : List ℕ) (ts : List Token) : Type 0 where
-  pub some : Spelled (kinds ts) ⊎ ((f : ParseFault) × IsFault bytes ts f)
+  pub some : ((tree : List Item) × IsFile ts tree) ⊎ ((f : ParseFault) × IsFault bytes ts f)
   pub faults : (e f : ParseFault) → IsFault bytes ts e → IsFault bytes ts f → e ≡ f
   pub apart : (tree : List Item) (f : ParseFault) → IsFile ts tree → IsFault bytes ts f → ⊥
 
+-- so it is with all tokens of all bytes
 abbrev pub EachHasOneAnswer : Type 0
 EachHasOneAnswer = (bytes : List ℕ) (ts : List Token) → HasOneAnswer bytes ts

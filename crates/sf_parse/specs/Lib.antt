@@ -1,5 +1,6 @@
 pub mod Grammar
 pub mod Nesting
+pub mod Nearest
 pub mod Placed
 pub mod Parsing
 pub mod Machine

@@ -1,6 +1,6 @@
 //! Laws of reading a file. Each function does nothing; its contract is the law.
 
-ghost use Rattle.sf_parse.specs.Laws.{EachFileIsOne, EachFileIsShallow, EachHasOneAnswer, TheVerdictIsExact};
+ghost use Rattle.sf_parse.specs.Laws.{EachFileIsOne, EachFileIsShallow, EachHasOneAnswer, ShallowTreesAreWithin, TheVerdictIsExact};
 
 /// What is owed decides exactly as the grammar does: which tokens are a file, and where the others go wrong.
 pub fn the_verdict_is_exact()
@@ -17,7 +17,13 @@ pub fn each_file_is_shallow()
     ensures { EachFileIsShallow }
 {}
 
-/// Tokens have one answer: they are those of a file, or they have a fault, and one alone.
+/// A tree is within the limit exactly where each `else` and each branch of an assertion has its place
+/// and nothing is nested deeper.
+pub fn shallow_trees_are_within()
+    ensures { ShallowTreesAreWithin }
+{}
+
+/// Tokens have one answer: they are a file, or they have a fault, and one alone.
 pub fn each_has_one_answer()
     ensures { EachHasOneAnswer }
 {}

@@ -1,0 +1,70 @@
+-- Which of several readings is meant, said without levels: each `else` belongs to the nearest `if`, and what stands behind the
+-- `if` of an assertion reaches as far to the right as it can.
+-- Ordinary: the nearest `if` takes an `else`, as in Aho, Sethi, Ullman, "Compilers" (1986), section 4.3.
+use Rattle.std.specs.Prelude.{List, [], ◌∷◌, Option, Some, None}
+use Rattle.sf_ast.specs.Surface as s
+use Rattle.sf_lex.specs.declared.token.Kind.TheVariants as k
+use Rattle.sf_parse.specs.Nesting.{Follows, IsClosed}
+
+abbrev mutual
+  -- a conjunct whose assertions are read so
+  pub ConjunctNearest : s.Conjunct → Type 0
+  ConjunctNearest (s.group p a) = AssertionNearest a
+  ConjunctNearest (s.choose p b x y) = AssertionNearest x × AssertionNearest y
+  ConjunctNearest (s.choose_round p b x y) = AssertionNearest x × AssertionNearest y
+  ConjunctNearest (s.emp p) = Unit {0}
+  ConjunctNearest (s.equal x y) = Unit {0}
+  ConjunctNearest (s.differ x y) = Unit {0}
+  ConjunctNearest (s.points x fs) = Unit {0}
+  ConjunctNearest (s.ls p x y) = Unit {0}
+  ConjunctNearest (s.lseg p x y) = Unit {0}
+  ConjunctNearest (s.list p x) = Unit {0}
+  ConjunctNearest (s.tree p x) = Unit {0}
+
+  -- an assertion: an `if` in it is the last conjunct, since what stands behind would belong to its branch
+  pub AssertionNearest : s.Assertion → Type 0
+  AssertionNearest (s.only c) = ConjunctNearest c
+  AssertionNearest (s.star c a) = ConjunctNearest c × IsClosed c × AssertionNearest a
+
+-- what stands in square brackets
+abbrev pub NoteNearest : s.Note → Type 0
+NoteNearest s.blank = Unit {0}
+NoteNearest (s.filled a) = AssertionNearest a
+
+-- a note that may be left out
+abbrev pub MaybeNearest : Option s.Note → Type 0
+MaybeNearest None = Unit {0}
+MaybeNearest (Some x) = NoteNearest x
+
+abbrev mutual
+  -- a command: no `if` in front of an `else` ends with one that lacks its own
+  pub CommandNearest : s.Command → Type 0
+  CommandNearest (s.if_alone p b c) = CommandNearest c
+  CommandNearest (s.if p b c e) = CommandNearest c × CommandNearest e × Follows c (k.Else ∷ [])
+  CommandNearest (s.while p b x c) = MaybeNearest x × CommandNearest c
+  CommandNearest (s.with p x b c) = CommandNearest c
+  CommandNearest (s.block p cs) = CommandsNearest cs
+  CommandNearest (s.assign x a) = Unit {0}
+  CommandNearest (s.look_up x a f) = Unit {0}
+  CommandNearest (s.new x) = Unit {0}
+  CommandNearest (s.mutate a f b) = Unit {0}
+  CommandNearest (s.dispose p a) = Unit {0}
+  CommandNearest (s.dispose_round p a) = Unit {0}
+  CommandNearest (s.call c) = Unit {0}
+  CommandNearest (s.fork c e) = Unit {0}
+
+  -- each of these commands
+  pub CommandsNearest : s.Commands → Type 0
+  CommandsNearest s.done = Unit {0}
+  CommandsNearest (s.then c cs) = CommandNearest c × CommandsNearest cs
+
+-- the notes and the body of an item
+abbrev pub ItemNearest : s.Item → Type 0
+ItemNearest (s.fields ns) = Unit {0}
+ItemNearest (s.resource x) = NoteNearest x.invariant
+ItemNearest (s.procedure f) = MaybeNearest f.pre × CommandsNearest f.body × MaybeNearest f.post
+
+-- all items of a file
+abbrev pub IsNearest : List s.Item → Type 0
+IsNearest [] = Unit {0}
+IsNearest (i ∷ is) = ItemNearest i × IsNearest is
