@@ -16,7 +16,7 @@ use Rattle.sf_cli.specs.Reads.{Reads}
 use Rattle.sf_cli.specs.Words.{Text, Order, verify, order_of}
 
 -- a program that is read is in order
-accepted-formed : EachFileIsShallow → ElaboratedIsFormed → (bytes : Text) (p : Program) → Reads bytes p → IsFormed p
+pub accepted-formed : EachFileIsShallow → ElaboratedIsFormed → (bytes : Text) (p : Program) → Reads bytes p → IsFormed p
 accepted-formed shallow formed bytes p r =
     subst IsFormed (sym r.elaborated.same) (formed bytes r.tree (shallow r.tokens r.tree r.parsed) r.elaborated.sound)
 

@@ -3,4 +3,4 @@ pub mod Replies
 pub mod OneAnswer
 pub mod Refused
 pub mod Accepted
-pub mod Complete
+pub mod AnAnswer

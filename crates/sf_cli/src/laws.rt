@@ -1,14 +1,15 @@
 //! Laws of answers. Each function is a law: calling it gives its fact to the caller's proof, and does nothing.
 
-ghost use Rattle.sf_cli.specs.Laws.{AcceptedFilesAreSound, EachCommandHasOneAnswer, EachFileHasOneAnswer, EachFileIsOneProgram};
+ghost use Rattle.sf_cli.specs.Laws.{AcceptedFilesAreSound, EachCommandHasAnAnswer, EachCommandHasOneAnswer, EachFileHasAnAnswer, EachFileHasOneAnswer, EachFileIsOneProgram};
 
 use sf_calls::laws::first_breach_is_determined;
 use sf_elab::laws::elaborated_is_formed;
 use sf_lex::laws::each_file_reads_once;
 use sf_parse::laws::each_file_is_shallow;
-use sf_precise::laws::never_taken_is_undetermined;
-use sf_search::{one_verdict, verdicts_prove};
+use sf_precise::laws::{never_taken_is_undetermined, undetermined_notes_have_place};
+use sf_search::{a_verdict, one_verdict, verdicts_prove};
 use sf_sound::proved_programs_are_sound;
+use sf_vars::laws::each_program_has_an_answer;
 
 /// Bytes read as at most one program.
 pub fn each_file_is_one_program()
@@ -30,6 +31,28 @@ pub fn each_file_has_one_answer()
     first_breach_is_determined();
     never_taken_is_undetermined();
     one_verdict();
+}
+
+/// Each file has an answer: it is refused for some cause, or there are no rules for it yet, or there is a
+/// verdict on it.
+pub fn each_file_has_an_answer()
+    ensures { EachFileHasAnAnswer }
+{
+    each_file_reads_once();
+    sf_parse::laws::each_has_one_answer();
+    each_file_is_shallow();
+    sf_elab::laws::each_file_is_one();
+    elaborated_is_formed();
+    each_program_has_an_answer();
+    undetermined_notes_have_place();
+    a_verdict();
+}
+
+/// Words have an answer over files, where the file that they name is there.
+pub fn each_command_has_an_answer()
+    ensures { EachCommandHasAnAnswer }
+{
+    each_file_has_an_answer();
 }
 
 /// Words have at most one answer over the same files.

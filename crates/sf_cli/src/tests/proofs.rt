@@ -3,7 +3,7 @@
 use super::tables::SET;
 use crate::reading::admit;
 use sf_base::ProcId;
-use sf_check::check::check;
+use sf_check::check;
 use sf_sym::Tag;
 use std::test::Fail;
 

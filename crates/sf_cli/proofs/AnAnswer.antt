@@ -1,0 +1,107 @@
+-- A file has an answer: each layer has one of its own, and with them one of the cases of an answer is there.
+-- Names: some-*, what is found at each step of the way.
+use Rattle.std.proofs.Common.{◌≡◌, ◌⊎◌, ℕ, Bool, true, false, List, Option, Some, None, inl, inr, refl, sym, subst, ◌++◌, codes}
+use Rattle.std.specs.List.{All}
+use Rattle.sf_ast.specs.Surface.{Item}
+use Rattle.sf_calls.specs.FirstBreach.{Conditions}
+use Rattle.sf_core.specs.Determined.{Determined}
+use Rattle.sf_core.specs.Formed.{IsFormed}
+use Rattle.sf_core.specs.Syntax.{Program}
+use Rattle.sf_elab.specs.Laws.{ElaboratedIsFormed, EachFileIsOne as EachTreeIsOne}
+use Rattle.sf_io.specs.Shelf.{Files}
+use Rattle.sf_lex.specs.declared.token.Token.{Token}
+use Rattle.sf_lex.specs.Laws.{EachFileReadsOnce}
+use Rattle.sf_lex.specs.Reading.{AreTokens}
+use Rattle.sf_parse.specs.Laws.{EachFileIsShallow, EachHasOneAnswer}
+use Rattle.sf_parse.specs.Parsing.{IsFile}
+use Rattle.sf_precise.specs.Laws.{UndeterminedNotesHavePlace}
+use Rattle.sf_precise.specs.Notes.{notes_in}
+use Rattle.sf_proof.specs.ProofText.{name_of, proof_text}
+use Rattle.sf_rules.specs.Built.{is_built}
+use Rattle.sf_search.specs.Judge.{Verdict, proof, fails, Judge}
+use Rattle.sf_search.specs.VerdictLaws.{AVerdict}
+use Rattle.sf_vars.specs.Laws.{EachProgramHasAnAnswer}
+use Rattle.sf_cli.proofs.Accepted.{accepted-formed}
+use Rattle.sf_cli.specs.Answer.{Answer, FileAnswer, OrderAnswer, ProgramAnswer, admitted, judged, not_built, not_built_text, refused}
+use Rattle.sf_cli.specs.declared.refusal.Refusal.{Refusal}
+use Rattle.sf_cli.specs.declared.refusal.Refusal.TheVariants.{At}
+use Rattle.sf_cli.specs.declared.refusal.RefusalKind.TheVariants.{Undetermined}
+use Rattle.sf_cli.specs.FileFault.{FileFault, in_grammar, in_names, in_order, in_tokens, in_variables, unfit, unread}
+use Rattle.sf_cli.specs.Laws.{EachCommandHasAnAnswer, EachFileHasAnAnswer}
+use Rattle.sf_cli.specs.Reads.{Reads}
+use Rattle.sf_cli.specs.Refusals.{of_grammar, of_names, of_tokens, of_variables, refusal_text}
+use Rattle.sf_cli.specs.Words.{Text, Order, verify, order_of, usage_text}
+
+-- what the layers below say: that each has an answer, and that what is read is in order
+pub record Answers : Type 0 where
+  pub tokens : EachFileReadsOnce
+  pub grammar : EachHasOneAnswer
+  pub shallow : EachFileIsShallow
+  pub names : EachTreeIsOne
+  pub formed : ElaboratedIsFormed
+  pub variables : EachProgramHasAnAnswer
+  pub orders : UndeterminedNotesHavePlace
+  pub verdicts : AVerdict
+
+-- the answer to a program of which there is a verdict
+some-verdict : (p : Program) → is_built p ≡ true → (v : Verdict) → Judge p v → (text : Text) × (status : ℕ) × ProgramAnswer p text status
+some-verdict p b (proof tags) j = (proof_text p tags, 0, judged b (proof tags) j (refl, refl))
+some-verdict p b (fails f) j = (codes "failed " ++ name_of p f ++ codes "\n", 1, judged b (fails f) j (refl, refl))
+
+-- the answer to a program in order
+some-program : Answers → (p : Program) → IsFormed p → (text : Text) × (status : ℕ) × ProgramAnswer p text status
+some-program l p f = go (is_built p) refl
+  where
+    go : (b : Bool) → is_built p ≡ b → (text : Text) × (status : ℕ) × ProgramAnswer p text status
+    go true e = let v = l.verdicts p f in some-verdict p e v.0 v.1
+    go false e = (not_built_text, 3, not_built e refl refl)
+
+-- the answer to a file that is refused
+some-refusal : (bytes : Text) (r : Refusal) → FileFault bytes r → (text : Text) × (status : ℕ) × FileAnswer bytes text status
+some-refusal bytes r f = (refusal_text r, 3, refused r f refl refl)
+
+-- the answer to a file that reads as a program which keeps the conditions on variables
+some-kept : Answers → (bytes : Text) (p : Program) → Reads bytes p → Conditions p → IsFormed p → (text : Text) × (status : ℕ) × FileAnswer bytes text status
+some-kept l bytes p r c f = elim (l.orders (notes_in p)) [
+  | inl d ↦ let a = some-program l p f in (a.0, a.1, admitted p (record { reads = r; conditions = c; determined = d }) a.2)
+  | inr q ↦ some-refusal bytes (At Undetermined q.0) (unfit p r (in_order q.0 c q.1 refl))
+]
+
+-- the answer to a file that reads as a program
+some-read : Answers → (bytes : Text) (p : Program) → Reads bytes p → (text : Text) × (status : ℕ) × FileAnswer bytes text status
+some-read l bytes p r = elim (l.variables p (accepted-formed l.shallow l.formed bytes p r)) [
+  | inl c ↦ some-kept l bytes p r c (accepted-formed l.shallow l.formed bytes p r)
+  | inr e ↦ some-refusal bytes (of_variables e.0) (unfit p r (in_variables e.0 e.1 refl))
+]
+
+-- the answer to a file whose tokens are a tree
+some-tree : Answers → (bytes : Text) (ts : List Token) (tree : List Item) → AreTokens bytes ts → IsFile ts tree → (text : Text) × (status : ℕ) × FileAnswer bytes text status
+some-tree l bytes ts tree t f = elim (l.names.some bytes tree) [
+  | inl p ↦ some-read l bytes p.0 (record { tokens = ts; tree = tree; spelled = t; parsed = f; elaborated = p.1 })
+  | inr e ↦ some-refusal bytes (of_names e.0) (unread (in_names ts tree e.0 t f e.1 refl))
+]
+
+-- the answer to a file that has tokens
+some-tokens : Answers → (bytes : Text) (ts : List Token) → AreTokens bytes ts → (text : Text) × (status : ℕ) × FileAnswer bytes text status
+some-tokens l bytes ts t = elim ((l.grammar bytes ts).some) [
+  | inl f ↦ some-tree l bytes ts f.0 t f.1
+  | inr e ↦ some-refusal bytes (of_grammar e.0) (unread (in_grammar ts e.0 t e.1 refl))
+]
+
+-- a file has an answer
+pub some-answer : Answers → EachFileHasAnAnswer
+some-answer l bytes = elim ((l.tokens bytes).some) [
+  | inl t ↦ some-tokens l bytes t.0 t.1
+  | inr e ↦ some-refusal bytes (of_tokens e.0) (unread (in_tokens e.0 e.1 refl))
+]
+
+-- so has a command, where the file that it names is there
+pub some-command : EachFileHasAnAnswer → EachCommandHasAnAnswer
+some-command each files words there = go (order_of words) refl
+  where
+    go : (o : Option Order) → order_of words ≡ o → (text : Text) × (status : ℕ) × Answer files words text status
+    go None e = (usage_text, 2, subst (λ (o : Option Order). OrderAnswer files o usage_text 2) (sym e) (refl, refl))
+    go (Some (verify name)) e =
+        let found = there name e in
+        let a = each found.0 in
+        (a.0, a.1, subst (λ (o : Option Order). OrderAnswer files o a.0 a.1) (sym e) (found.0, found.1, a.2))
