@@ -194,8 +194,8 @@ fn nesting_has_sixty_four_levels(rt: HostRuntime) -> Result<(), AllocError> {
             Answer::Read,
         ),
         (
-            [(b"f() { ", 1), (b"{", 65), (b"}", 65), (b" }", 1)],
-            too_deep(71),
+            [(b"f() {", 1), (b"{", 65), (b"}", 65), (b" }", 1)],
+            too_deep(70),
         ),
         (
             [(b"f() { ", 1), (b"{", 64), (b"x = nil;", 1), (b"", 0)],
@@ -325,12 +325,13 @@ fn a_million_bytes_of_one_annotation_are_read(rt: HostRuntime) -> Result<(), All
 fn first_body(file: &File) -> (usize, bool) {
     for item in file.items.iter() {
         if let Item::Procedure(procedure) = item {
-            for command in procedure.body.iter() {
-                return (
-                    procedure.body.len(),
-                    matches!(command, SurfaceCommand::IfAlone(_, _, _)),
-                );
-            }
+            return (
+                procedure.body.len(),
+                matches!(
+                    procedure.body.first(),
+                    Some(SurfaceCommand::IfAlone(_, _, _))
+                ),
+            );
         }
     }
     (0, false)
