@@ -4,3 +4,4 @@ pub mod OneAnswer
 pub mod Refused
 pub mod Accepted
 pub mod AnAnswer
+pub mod Complete

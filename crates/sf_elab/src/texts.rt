@@ -1,6 +1,6 @@
 //! What words say.
 
-ghost use Rattle.std.specs.Prelude.{◌≡◌, ◌+◌, IfOk};
+ghost use Rattle.std.specs.Prelude.{◌≡◌, IfOk};
 ghost use Rattle.sf_elab.specs.Texts.{text};
 
 use sf_ast::Word;
@@ -23,25 +23,4 @@ pub fn name(alloc: Global, bytes: &[u8], word: Word) -> Result<Name, AllocError>
     ensures { IfOk result (λ n. n ≡ text bytes.now word) }
 {
     Name::new(alloc, text(bytes, word))
-}
-
-/// The number in 32 bits. One that doesn't fit is answered as want of memory; no file has so many
-/// things.
-pub fn kept(number: usize) -> Result<u32, AllocError>
-    ensures { IfOk result (λ n. n ≡ number) }
-{
-    match u32::try_from(number) {
-        Ok(number) => Ok(number),
-        Err(_) => Err(AllocError),
-    }
-}
-
-/// The sum. One that doesn't fit is answered as want of memory; no file has so many things.
-pub fn plus(number: usize, more: usize) -> Result<usize, AllocError>
-    ensures { IfOk result (λ n. n ≡ number + more) }
-{
-    match number.checked_add(more) {
-        Some(sum) => Ok(sum),
-        None => Err(AllocError),
-    }
 }

@@ -94,9 +94,8 @@ fn resolve(alloc: Global, bytes: &[u8], file: File) -> Result<Program, NameFault
 /// The program that a file's tree is, over the file's bytes: exactly where no name is at fault.
 ///
 /// A fault is the first one by place, and at one place the one of the lowest kind. `OutOfMemory`
-/// comes where memory was refused. It also comes for a tree that is not of these bytes (a word that
-/// is no UTF-8 span of them) and for 2^32 or more things of one kind; no file within its limit has
-/// either.
+/// comes where a growth was refused: by the allocator, or because things of one kind have numbers of
+/// 32 bits.
 pub fn elaborate(alloc: Global, bytes: &[u8], file: File) -> Result<Program, NameFault>
     ensures found { IfOk result (λ p. Elaborates bytes.now (map item_of file.items.items) (program_of p)) }
     ensures refused { IfErr result (λ fault. (fault ≡ NameFault.OutOfMemory) ⊎ FirstFault bytes.now (map item_of file.items.items) fault) }

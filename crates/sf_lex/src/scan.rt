@@ -66,7 +66,7 @@ fn keep(found: &mut Vec<Token>, front: Front, start: usize, place: Place) -> Res
 {
     match front {
         Front::Space(_) => Ok(()),
-        Front::Token(kind, _, value) => {
+        Front::Token(kind, bytes, value) => {
             found.push(Token {
                 kind,
                 value,

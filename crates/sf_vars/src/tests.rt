@@ -133,7 +133,7 @@ fn variable_outside_its_region(rt: HostRuntime) -> Result<(), Fail> {
     let alloc = rt.alloc();
     let body = vec![in alloc; set(seen(Var::Own(0), 3, 3), seen(V, 3, 7))]?;
     let x = vec![in alloc; Name::new(alloc, b"x")?]?;
-    let peek = procedure(alloc, "peek", x, 1, emp(alloc), body)?;
+    let peek = procedure(alloc, "peek", x, 1, body)?;
     let mm = resource(alloc, "mm", "f")?;
     let p = file(alloc, vec![in alloc; mm]?, vec![in alloc; peek]?);
     assert_eq!(rt; told(alloc, &p)?.as_str(), "30 NotHeld at 3:7 f");
@@ -150,126 +150,5 @@ fn variable_in_its_region(rt: HostRuntime) -> Result<(), Fail> {
     let r = resource(alloc, "r", "v")?;
     let p = file(alloc, vec![in alloc; r]?, vec![in alloc; a]?);
     assert_eq!(rt; told(alloc, &p)?.as_str(), "nothing");
-    Ok(())
-}
-
-#[test]
-fn resource_entered_again_through_calls(rt: HostRuntime) -> Result<(), Fail> {
-    let alloc = rt.alloc();
-    let enter = vec![in alloc; region(at(2, 7), Test::True, Vec::new(alloc))]?;
-    let a = procedure(alloc, "a", Vec::new(alloc), 0, emp(alloc), enter)?;
-    let call_a = vec![in alloc; calling(to(alloc, 0, at(3, 7), Vec::new(alloc)))]?;
-    let b = procedure(alloc, "b", Vec::new(alloc), 0, emp(alloc), call_a)?;
-    let call_b = vec![in alloc; calling(to(alloc, 1, at(4, 7), Vec::new(alloc)))]?;
-    let c = procedure(alloc, "c", Vec::new(alloc), 0, emp(alloc), call_b)?;
-    let call_c = vec![in alloc; calling(to(alloc, 2, at(5, 28), Vec::new(alloc)))]?;
-    let again = vec![in alloc; region(at(5, 7), Test::True, call_c)]?;
-    let d = procedure(alloc, "d", Vec::new(alloc), 0, emp(alloc), again)?;
-    let r = resource(alloc, "r", "v")?;
-    let p = file_of_four(alloc, r, a, b, c, d)?;
-    assert_eq!(rt; told(alloc, &p)?.as_str(), "31 Reentered at 5:28 r");
-    Ok(())
-}
-
-#[test]
-fn held_resource_entered(rt: HostRuntime) -> Result<(), Fail> {
-    let alloc = rt.alloc();
-    let enter = vec![in alloc; region(at(2, 18), Test::True, Vec::new(alloc))]?;
-    let a = procedure(alloc, "a", Vec::new(alloc), 0, is_nil(alloc, V)?, enter)?;
-    let r = resource(alloc, "r", "v")?;
-    let p = file(alloc, vec![in alloc; r]?, vec![in alloc; a]?);
-    assert_eq!(rt; told(alloc, &p)?.as_str(), "31 Reentered at 2:18 r");
-    Ok(())
-}
-
-#[test]
-fn variable_passed_twice(rt: HostRuntime) -> Result<(), Fail> {
-    let alloc = rt.alloc();
-    let xy = vec![in alloc; Name::new(alloc, b"x")?, Name::new(alloc, b"y")?]?;
-    let h = procedure(alloc, "h", xy, 2, emp(alloc), Vec::new(alloc))?;
-    let twice = vec![in alloc; seen(Var::Own(0), 2, 11), seen(Var::Own(0), 2, 13)]?;
-    let body = vec![in alloc; calling(to(alloc, 0, at(2, 9), twice))]?;
-    let x = vec![in alloc; Name::new(alloc, b"x")?]?;
-    let q = procedure(alloc, "q", x, 1, emp(alloc), body)?;
-    let p = file(alloc, Vec::new(alloc), vec![in alloc; h, q]?);
-    assert_eq!(rt; told(alloc, &p)?.as_str(), "32 SameReference at 2:13 x");
-    Ok(())
-}
-
-#[test]
-fn free_variable_passed(rt: HostRuntime) -> Result<(), Fail> {
-    let alloc = rt.alloc();
-    let x = vec![in alloc; Name::new(alloc, b"x")?]?;
-    let f = procedure(alloc, "f", x, 1, is_nil(alloc, V)?, Vec::new(alloc))?;
-    let call_f = vec![in alloc; calling(to(alloc, 0, at(2, 28), vec![in alloc; seen(V, 2, 30)]?))]?;
-    let body = vec![in alloc; region(at(2, 7), Test::True, call_f)]?;
-    let p = procedure(alloc, "p", Vec::new(alloc), 0, emp(alloc), body)?;
-    let a = resource(alloc, "a", "v")?;
-    let program = file(alloc, vec![in alloc; a]?, vec![in alloc; f, p]?);
-    assert_eq!(rt;
-        told(alloc, &program)?.as_str(),
-        "33 ReferenceIsFree at 2:30 v"
-    );
-    Ok(())
-}
-
-#[test]
-fn parallel_calls_write_one_variable(rt: HostRuntime) -> Result<(), Fail> {
-    let alloc = rt.alloc();
-    let x = vec![in alloc; Name::new(alloc, b"x")?]?;
-    let f = procedure(alloc, "f", x, 1, emp(alloc), Vec::new(alloc))?;
-    let x = vec![in alloc; Name::new(alloc, b"x")?]?;
-    let g = procedure(alloc, "g", x, 1, emp(alloc), Vec::new(alloc))?;
-    let left = to(
-        alloc,
-        0,
-        at(3, 9),
-        vec![in alloc; seen(Var::Own(0), 3, 11)]?,
-    );
-    let right = to(
-        alloc,
-        1,
-        at(3, 18),
-        vec![in alloc; seen(Var::Own(0), 3, 20)]?,
-    );
-    let x = vec![in alloc; Name::new(alloc, b"x")?]?;
-    let p = procedure(
-        alloc,
-        "p",
-        x,
-        1,
-        emp(alloc),
-        vec![in alloc; beside(left, right)]?,
-    )?;
-    let q = procedure(alloc, "q", Vec::new(alloc), 0, emp(alloc), Vec::new(alloc))?;
-    let program = file_of_four(alloc, resource(alloc, "a", "v")?, f, g, p, q)?;
-    assert_eq!(rt;
-        told(alloc, &program)?.as_str(),
-        "34 ParallelShares at 3:9 x"
-    );
-    Ok(())
-}
-
-#[test]
-fn parallel_calls_have_one_variable_free(rt: HostRuntime) -> Result<(), Fail> {
-    let alloc = rt.alloc();
-    let f = procedure(
-        alloc,
-        "f",
-        Vec::new(alloc),
-        0,
-        is_nil(alloc, V)?,
-        Vec::new(alloc),
-    )?;
-    let left = to(alloc, 0, at(3, 18), Vec::new(alloc));
-    let right = to(alloc, 0, at(3, 25), Vec::new(alloc));
-    let both = vec![in alloc; beside(left, right)]?;
-    let p = procedure(alloc, "p", Vec::new(alloc), 0, is_nil(alloc, V)?, both)?;
-    let a = resource(alloc, "a", "v")?;
-    let program = file(alloc, vec![in alloc; a]?, vec![in alloc; f, p]?);
-    assert_eq!(rt;
-        told(alloc, &program)?.as_str(),
-        "34 ParallelShares at 3:18 v"
-    );
     Ok(())
 }
