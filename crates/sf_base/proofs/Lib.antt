@@ -1,1 +1,7 @@
 pub mod TaskPaths
+pub mod MapSplits
+pub mod HeapSplits
+pub mod HeapSums
+pub mod StoreSplits
+pub mod Cases
+pub mod Lookup

@@ -1,1 +1,2 @@
 pub mod TaskPath
+pub mod HeapStore

@@ -14,7 +14,7 @@ use Rattle.sf_calls.specs.declared.breach.Breach.{Breach}
 use Rattle.sf_calls.specs.declared.breach.Breach.TheVariants.{NotHeld, Reentered, SameReference, ReferenceIsFree, ParallelShares}
 use Rattle.sf_calls.specs.FirstBreach.{Conditions}
 use Rattle.sf_calls.specs.Laws.{FirstBreachIsDetermined}
-use Rattle.sf_core.proofs.Cases.{none-not_some}
+use Rattle.sf_base.proofs.Cases.{none-not_some}
 use Rattle.sf_core.specs.Determined.{Determined}
 use Rattle.sf_core.specs.Syntax.{Procedure, Resource, Program}
 use Rattle.sf_io.specs.Shelf.{Files}

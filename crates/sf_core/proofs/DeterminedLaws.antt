@@ -12,14 +12,14 @@ use Rattle.sf_core.specs.declared.assertion.Operand.TheVariants.{Known, Exists}
 use Rattle.sf_core.specs.declared.assertion.Scope.{Scope}
 use Rattle.sf_core.specs.declared.assertion.Test.{Test}
 use Rattle.sf_core.specs.declared.assertion.Test.TheVariants.{True, Equal, Differ}
-use Rattle.sf_core.proofs.Cases.{and-both, either, not-true, or-first, or-second, or-which, some-same}
-use Rattle.sf_core.proofs.HeapSplits.{one-same, star-map_right, star-swap}
-use Rattle.sf_core.proofs.MapSplits.{empty-holds, splits-empty_right, empty-same, splits-assoc_right, splits-comm, splits-has_left, splits-same_whole}
+use Rattle.sf_base.proofs.Cases.{and-both, either, not-true, or-first, or-second, or-which, some-same}
+use Rattle.sf_base.proofs.HeapSplits.{one-same, star-map_right, star-swap}
+use Rattle.sf_base.proofs.MapSplits.{empty-holds, splits-empty_right, empty-same, splits-assoc_right, splits-comm, splits-has_left, splits-same_whole}
 use Rattle.sf_core.proofs.SatLaws.{made-outside, test-agree, test-which}
 use Rattle.sf_core.proofs.SegLaws.{loc-same, seg-same}
 use Rattle.sf_core.proofs.TreeLaws.{tree-same}
 use Rattle.sf_core.specs.Determined.{CanBeTaken, Determined, HasOrder, IsKnown, IsReady, Leaves, all_taken, branches, is_existential, is_in_fields, is_learned, is_learned_in, known_after, known_inside, plain, take}
-use Rattle.sf_core.specs.HeapStore.{Cell, Heap, IsOne, Splits, ◌⋆◌}
+use Rattle.sf_base.specs.HeapStore.{Cell, Heap, IsOne, Splits, ◌⋆◌}
 use Rattle.sf_core.specs.Occurs.{OccursInAll, OccursInFields, OccursInOne, OccursInTest, is_made}
 use Rattle.sf_core.specs.Precise.{IsPrecise}
 use Rattle.sf_core.specs.Sat.{Foot, HasFields, IsTrueOf, SameOutside, Sat, SatAll, SatOne, Seg, operand}

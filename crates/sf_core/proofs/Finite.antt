@@ -3,10 +3,10 @@
 use Rattle.std.specs.Prelude.{◌≡◌, ◌≢◌, ℕ, [], ◌∷◌, ◌++◌, Contains, Some, None, ◌⊎◌}
 use Rattle.std.proofs.Common.{sym, ◌∙◌, refl, subst, inl, inr}
 use Rattle.std.proofs.lemmas.List.Elements.{Contains-append_left, Contains-append_right}
-use Rattle.sf_core.proofs.Cases.{none-not_some}
-use Rattle.sf_core.proofs.HeapSplits.{at-which}
-use Rattle.sf_core.proofs.MapSplits.{splits-which, IsPart, part-has}
-use Rattle.sf_core.specs.HeapStore.{Cell, Heap, IsEmpty, IsOne, Splits}
+use Rattle.sf_base.proofs.Cases.{none-not_some}
+use Rattle.sf_base.proofs.HeapSplits.{at-which}
+use Rattle.sf_base.proofs.MapSplits.{splits-which, IsPart, part-has}
+use Rattle.sf_base.specs.HeapStore.{Cell, Heap, IsEmpty, IsOne, Splits}
 use Rattle.sf_core.specs.Shape.{IsFinite}
 
 -- an empty heap is finite

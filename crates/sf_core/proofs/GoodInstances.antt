@@ -8,18 +8,18 @@ use Rattle.sf_base.specs.declared.ids.ResId.{ResId}
 use Rattle.sf_base.specs.declared.value.Value.{Value}
 use Rattle.sf_base.specs.declared.value.Value.TheVariants.{Nil as nil, Loc as loc}
 use Rattle.sf_core.specs.declared.command.Expr.{Expr}
-use Rattle.sf_core.proofs.Cases.{none-not_some, some-none}
-use Rattle.sf_core.proofs.HeapSplits.{one-in, one-single, one-splits, single}
-use Rattle.sf_core.proofs.Lookup.{only-there}
+use Rattle.sf_base.proofs.Cases.{none-not_some, some-none}
+use Rattle.sf_base.proofs.HeapSplits.{one-in, one-single, one-splits, single}
+use Rattle.sf_base.proofs.Lookup.{only-there}
 use Rattle.sf_core.proofs.MachineInstances.{one-sat, sat-one, entry_part, entry_part-apart, ended-not_bad, set-good}
 use Rattle.sf_core.proofs.MachineTasks.{task_at-running}
-use Rattle.sf_core.proofs.MapSplits.{empty_map, empty-holds, splits-empty_left, splits-empty_right, apart-none}
+use Rattle.sf_base.proofs.MapSplits.{empty_map, empty-holds, splits-empty_left, splits-empty_right, apart-none}
 use Rattle.sf_core.proofs.SegLaws.{loc-same, nil-not_loc}
-use Rattle.sf_core.proofs.StoreSplits.{resource-is, resource-same}
+use Rattle.sf_base.proofs.StoreSplits.{resource-is, resource-same}
 use Rattle.sf_core.specs.Bad.{Bad, next_root}
 use Rattle.sf_core.specs.Config.{Frame, runs, Path, Config, seen, task_at, IsCalled}
 use Rattle.sf_core.specs.Good.{Owner, resource, task, IsOwned, Returns, Good}
-use Rattle.sf_core.specs.HeapStore.{Apart, Cell, Heap, IsEmpty, IsOne, shared}
+use Rattle.sf_base.specs.HeapStore.{Apart, Cell, Heap, IsEmpty, IsOne, shared}
 use Rattle.sf_core.specs.MachineInstances.{lock, own_one, emp, one_cell, one_cell_at, main, main_done, set, set_done, setting, one_in, ended_with, EndedIsGoodWithItsCellAlone, returning_with, ReturningIsGoodWithItsCell, shared_one, skip, skip_done, guarding, guarded, shared_in, skip_ended_with, EndedIsGoodWithTheInvariantAlone, FreeResourcesHaveTheirCell, EndedWhileHeldIsNotGood}
 use Rattle.sf_core.specs.Sat.{Foot}
 use Rattle.sf_core.specs.Start.{entry_slot}

@@ -6,14 +6,14 @@ use Rattle.std.proofs.Common.{sym, ap, ◌∙◌, refl, subst, inl, inr, arith}
 use Rattle.sf_base.specs.declared.ids.ResId.{ResId}
 use Rattle.sf_base.specs.declared.path.Turn.TheVariants.{Left as left, Right as right}
 use Rattle.sf_base.specs.declared.value.Value.TheVariants.{Nil as nil}
-use Rattle.sf_core.proofs.Cases.{none-not_some}
-use Rattle.sf_core.proofs.MapSplits.{apart-none, rest_of, splits-has_left, splits-has_right, splits-which, splits-rest}
+use Rattle.sf_base.proofs.Cases.{none-not_some}
+use Rattle.sf_base.proofs.MapSplits.{apart-none, rest_of, splits-has_left, splits-has_right, splits-which, splits-rest}
 use Rattle.sf_core.specs.Bad.{Bad}
 use Rattle.sf_core.specs.Config.{Frame, Task, runs, waits, Path, Config, seen, task_at}
 use Rattle.sf_core.specs.Enabled.{HasEnded}
 use Rattle.sf_core.specs.Good.{Owner, resource, task, IsOwned, Finished, Good}
 use Rattle.sf_core.specs.GoodParts.{InvariantPart, InvariantParts, FramePart, TaskParts, RestPart, EndsWell}
-use Rattle.sf_core.specs.HeapStore.{Apart, Splits, Cell, Heap, Store, ◌⋆◌}
+use Rattle.sf_base.specs.HeapStore.{Apart, Splits, Cell, Heap, Store, ◌⋆◌}
 use Rattle.sf_core.specs.Sat.{Sat, Foot}
 use Rattle.sf_core.specs.Start.{entry_slot}
 use Rattle.sf_core.specs.Step.{procedure_at}

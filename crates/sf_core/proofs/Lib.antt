@@ -1,15 +1,9 @@
-pub mod Cases
-pub mod MapSplits
-pub mod HeapSplits
-pub mod HeapSums
-pub mod Lookup
 pub mod Finite
 pub mod SegLaws
 pub mod TreeLaws
 pub mod SatLaws
 pub mod DeterminedLaws
 pub mod Worked
-pub mod StoreSplits
 pub mod OrderLaws
 pub mod MachineSteps
 pub mod MachineReads

@@ -14,14 +14,14 @@ use Rattle.sf_core.specs.declared.command.Expr.{Expr}
 use Rattle.sf_core.specs.declared.command.Expr.TheVariants.{Var as Variable, Nil}
 use Rattle.sf_core.specs.declared.command.Occurrence.{Occurrence}
 use Rattle.sf_core.specs.declared.assertion.Operand.TheVariants.{Known}
-use Rattle.sf_core.proofs.Cases.{and-both, none-not_some}
-use Rattle.sf_core.proofs.HeapSplits.{at-same, one-single, put-elsewhere, star-drop_right}
-use Rattle.sf_core.proofs.MapSplits.{apart-none, splits-empty_right}
+use Rattle.sf_base.proofs.Cases.{and-both, none-not_some}
+use Rattle.sf_base.proofs.HeapSplits.{at-same, one-single, put-elsewhere, star-drop_right}
+use Rattle.sf_base.proofs.MapSplits.{apart-none, splits-empty_right}
 use Rattle.sf_core.specs.Bad.{Bad}
 use Rattle.sf_core.specs.Config.{Frame, Task, runs, Path, Common, Config, seen, task_at, replaced, IsUsed, IsCalled}
 use Rattle.sf_core.specs.Enabled.{HasEnded}
 use Rattle.sf_core.specs.Good.{Owner, resource, task, Returns, Good}
-use Rattle.sf_core.specs.HeapStore.{Apart, Splits, Cell, put_field, Heap, IsOne, Slot, shared, own}
+use Rattle.sf_base.specs.HeapStore.{Apart, Splits, Cell, put_field, Heap, IsOne, Slot, shared, own}
 use Rattle.sf_core.specs.HeldBy.{HeldBy}
 use Rattle.sf_core.specs.MachineInstances.{at_own, own_one, one_cell, one_cell_at, main, main_done, set, setting, one_at, one_in, event, setting_start, SettingStarts, CallMutateReturn, alone, DisposeAtNilIsBad, makes, makes_twice, FreedLocationsComeAgain, skip, forking, forking_start, ChildrenEndInAnyOrder, fill, filling, filling_start, ChildrenFillReferences, hands_on, passing, passing_start, ReferencesArePassedOn, locks_and_loops, RegionThenLoop}
 use Rattle.sf_core.specs.Occurs.{VarOccursIn}

@@ -6,7 +6,7 @@ use Rattle.sf_base.specs.declared.value.Value.{Value}
 use Rattle.sf_core.specs.declared.assertion.Test.{Test}
 use Rattle.sf_core.specs.declared.command.Expr.{Expr}
 use Rattle.sf_core.specs.Config.{Item, command, leave, Fixed, Frame, Task, runs, waits, Common, Config, seen, replaced}
-use Rattle.sf_core.specs.HeapStore.{Cell, put_field, Heap}
+use Rattle.sf_base.specs.HeapStore.{Cell, put_field, Heap}
 use Rattle.sf_core.specs.Step.{Event, set_slot, set_cell, open_room, room_count, room_for, arguments, called, forked, Finds, Chooses, Does, Goes, TaskStep, Step}
 use Rattle.sf_core.specs.Syntax.{Command, assign, look_up, mutate, new, dispose, if, while, call, fork, with, Procedure, Program}
 

@@ -11,11 +11,11 @@ use Rattle.sf_core.specs.declared.command.Expr.{Expr}
 use Rattle.sf_core.specs.Bad.{IsAbsent}
 use Rattle.sf_core.specs.Config.{Item, command, leave, Fixed, Frame, Task, runs, waits, Path, Common, Config, seen, task_at, replaced, IsUsed, IsCalled}
 use Rattle.sf_core.specs.Enabled.{HasEnded, IsShut, IsEnabled, Thing, cell}
-use Rattle.sf_core.specs.HeapStore.{Cell, Heap}
+use Rattle.sf_base.specs.HeapStore.{Cell, Heap}
 use Rattle.sf_core.specs.MachineLaws.{CommandMakes, FrameMakes, Makes, CommandStops, FrameStops, Stops}
 use Rattle.sf_core.specs.Step.{Event, procedure_at, Finds, Does, Goes, TaskStep, Step}
 use Rattle.sf_core.specs.Syntax.{Command, assign, look_up, mutate, new, dispose, if, while, call, fork, with, Program}
-use Rattle.sf_core.proofs.Cases.{some-none}
+use Rattle.sf_base.proofs.Cases.{some-none}
 use Rattle.sf_core.proofs.SatLaws.{test-which}
 use Rattle.sf_core.proofs.MachineTasks.{enabled-may_go}
 

@@ -11,14 +11,14 @@ use Rattle.sf_core.specs.declared.assertion.Test.{Test}
 use Rattle.sf_core.specs.declared.assertion.Test.TheVariants.{True, Equal, Differ}
 use Rattle.sf_core.specs.declared.command.Expr.{Expr}
 use Rattle.sf_core.specs.declared.command.Expr.TheVariants.{Var as Variable, Nil, Int}
-use Rattle.sf_core.proofs.Cases.{some-same}
-use Rattle.sf_core.proofs.HeapSplits.{at-self}
+use Rattle.sf_base.proofs.Cases.{some-same}
+use Rattle.sf_base.proofs.HeapSplits.{at-self}
 use Rattle.sf_core.proofs.MachineSteps.{cell-at}
 use Rattle.sf_core.proofs.SatLaws.{test-agree}
-use Rattle.sf_core.proofs.StoreSplits.{slot-self}
+use Rattle.sf_base.proofs.StoreSplits.{slot-self}
 use Rattle.sf_core.specs.Config.{Item, command, leave, Room, in_room, Fixed, Frame, Task, runs, waits, Path, Common, Config, seen, task_at, replaced}
 use Rattle.sf_core.specs.Enabled.{Thing, variable, cell, IsInRoom, ReadsExpr, ReadsTest, ReadsAll, IsCellAt, CommandReads, CommandWrites, FrameReads, FrameWrites, Reads, Writes}
-use Rattle.sf_core.specs.HeapStore.{Cell, put_field, Slot, same_slot, Store}
+use Rattle.sf_base.specs.HeapStore.{Cell, put_field, Slot, same_slot, Store}
 use Rattle.sf_core.specs.MachineLaws.{CommandMakes, FrameMakes, Makes, AgreeOn, FindsTheSame, LeavesTheSame}
 use Rattle.sf_core.specs.Occurs.{OccursInTest}
 use Rattle.sf_core.specs.Sat.{IsTrueOf}

@@ -5,11 +5,11 @@ use Rattle.std.proofs.Common.{sym, ap, ◌∙◌, refl, subst, inl, inr}
 use Rattle.sf_base.specs.declared.ids.ResId.{ResId}
 use Rattle.sf_base.specs.declared.value.Value.{Value}
 use Rattle.sf_base.specs.declared.value.Value.TheVariants.{Loc as loc}
-use Rattle.sf_core.proofs.HeapSplits.{put-elsewhere}
-use Rattle.sf_core.proofs.StoreSplits.{slot-elsewhere, resource-same}
+use Rattle.sf_base.proofs.HeapSplits.{put-elsewhere}
+use Rattle.sf_base.proofs.StoreSplits.{slot-elsewhere, resource-same}
 use Rattle.sf_core.specs.Config.{Item, command, leave, Room, in_room, Fixed, Frame, Task, runs, waits, Path, Common, Config, task_at}
 use Rattle.sf_core.specs.Enabled.{variable, cell, IsCellAt, CommandWrites, FrameWrites}
-use Rattle.sf_core.specs.HeapStore.{Cell, Slot}
+use Rattle.sf_base.specs.HeapStore.{Cell, Slot}
 use Rattle.sf_core.specs.MachineLaws.{CommandMakes, FrameMakes, Makes, IsLeft, HolderGoes, Touches}
 use Rattle.sf_core.specs.Step.{Event, set_slot, set_cell, set_holder, open_room, close_room, room_count, room_for, arguments, Does, Goes, TaskStep, Step}
 use Rattle.sf_core.specs.Syntax.{Command, assign, look_up, mutate, new, dispose, if, while, call, fork, with, Program}

@@ -4,11 +4,11 @@ use Rattle.std.specs.Prelude.{◌≡◌, ◌≢◌, ℕ, List, [], ◌∷◌, Op
 use Rattle.std.proofs.Common.{sym, ap, ◌∙◌, refl, subst, inl, inr, arith}
 use Rattle.sf_base.specs.declared.path.Turn.TheVariants.{Left as left, Right as right}
 use Rattle.sf_core.specs.declared.command.Expr.{Expr}
-use Rattle.sf_core.proofs.Cases.{none-not_some, some-none}
+use Rattle.sf_base.proofs.Cases.{none-not_some, some-none}
 use Rattle.sf_core.specs.Bad.{Bad, IsAbsent, next_root}
 use Rattle.sf_core.specs.Config.{Item, Frame, Task, runs, Path, Common, seen, task_at}
 use Rattle.sf_core.specs.Enabled.{IsShut, IsBlocked, IsEnabled, Thing, variable, cell, FrameReads, FrameWrites, Reads, Writes}
-use Rattle.sf_core.specs.HeapStore.{Cell, shared, own}
+use Rattle.sf_base.specs.HeapStore.{Cell, shared, own}
 use Rattle.sf_core.specs.MachineInstances.{lock, own_one, one_at, child_slots, child, side_by_side, at_one_cell, mutates, looks_up, enters, TwoMutationsRace, MutationAndLookUpRace, TwoLookUpsDoNotRace, TwoEntriesDoNotRace, HeldRegionsWait, sets_shared, tests_shared, enters_by_shared, passes_shared, makes_one, AssignmentAndTestRace, AssignmentAndConditionRace, AssignmentAndReferenceDoNotRace, NewAndLookUpDoNotRace}
 use Rattle.sf_core.proofs.MachineTasks.{MayGo, enabled-may_go}
 

@@ -16,10 +16,10 @@ use Rattle.sf_core.specs.declared.assertion.Test.TheVariants.{True, Equal, Diffe
 use Rattle.sf_core.specs.declared.command.Expr.{Expr}
 use Rattle.sf_core.specs.declared.command.Expr.TheVariants.{Var as Variable, Nil, Int}
 use Rattle.sf_core.proofs.Finite.{finite-empty, finite-one, finite-splits}
-use Rattle.sf_core.proofs.HeapSplits.{at-which, star-map}
+use Rattle.sf_base.proofs.HeapSplits.{at-which, star-map}
 use Rattle.sf_core.proofs.SegLaws.{seg-finite}
 use Rattle.sf_core.proofs.TreeLaws.{tree-finite}
-use Rattle.sf_core.specs.HeapStore.{Cell, Heap}
+use Rattle.sf_base.specs.HeapStore.{Cell, Heap}
 use Rattle.sf_core.specs.Occurs.{is_made, IsFrom, OccursIn, OccursInAll, OccursInFields, OccursInOne, OccursInTest, VarOccursIn}
 use Rattle.sf_core.specs.Sat.{HasFields, IsTrueOf, SameOutside, Sat, SatAll, SatOne, Seg, Tree, operand, value}
 use Rattle.sf_core.specs.Shape.{IsFinite}

@@ -6,10 +6,10 @@ use Rattle.sf_base.specs.declared.ids.FieldId.{FieldId}
 use Rattle.sf_base.specs.declared.value.Value.{Value}
 use Rattle.sf_base.specs.declared.value.Value.TheVariants.{Nil as nil, Loc as loc}
 use Rattle.sf_core.proofs.Finite.{finite-empty, finite-one, finite-splits}
-use Rattle.sf_core.proofs.Cases.{none-not_some, some-same}
-use Rattle.sf_core.proofs.HeapSplits.{one-in, one-same}
-use Rattle.sf_core.proofs.MapSplits.{splits-comm, splits-assoc_right, splits-empty_right, splits-lacks_both, splits-lacks_whole, splits-lacks_right, splits-of_empty_left, splits-same_whole, splits-has_left, empty-same}
-use Rattle.sf_core.specs.HeapStore.{Cell, Heap, IsEmpty, IsOne, Splits}
+use Rattle.sf_base.proofs.Cases.{none-not_some, some-same}
+use Rattle.sf_base.proofs.HeapSplits.{one-in, one-same}
+use Rattle.sf_base.proofs.MapSplits.{splits-comm, splits-assoc_right, splits-empty_right, splits-lacks_both, splits-lacks_whole, splits-lacks_right, splits-of_empty_left, splits-same_whole, splits-has_left, empty-same}
+use Rattle.sf_base.specs.HeapStore.{Cell, Heap, IsEmpty, IsOne, Splits}
 use Rattle.sf_core.specs.Precise.{IsPrecise}
 use Rattle.sf_core.specs.Sat.{Seg, end, cell}
 use Rattle.sf_core.specs.Shape.{IsFinite}

@@ -8,13 +8,13 @@ use Rattle.sf_base.specs.declared.ids.Var.{Var}
 use Rattle.sf_base.specs.declared.ids.Var.TheVariants.{Shared}
 use Rattle.sf_base.specs.declared.value.Value.{Value}
 use Rattle.sf_base.specs.declared.value.Value.TheVariants.{Nil as nil, Loc as loc}
-use Rattle.sf_core.proofs.Cases.{and-both, none-not_some}
+use Rattle.sf_base.proofs.Cases.{and-both, none-not_some}
 use Rattle.sf_core.proofs.GoodInstances.{at-location}
-use Rattle.sf_core.proofs.HeapSplits.{one-not_empty, one-single, at-same, star-drop_left, star-drop_right, star-empty_left, star-empty_right, star-map_left}
-use Rattle.sf_core.proofs.Lookup.{only-there}
+use Rattle.sf_base.proofs.HeapSplits.{one-not_empty, one-single, at-same, star-drop_left, star-drop_right, star-empty_left, star-empty_right, star-map_left}
+use Rattle.sf_base.proofs.Lookup.{only-there}
 use Rattle.sf_core.proofs.MachineInstances.{cond-some, one-sat, sat-one}
 use Rattle.sf_core.specs.Config.{seen}
-use Rattle.sf_core.specs.HeapStore.{Slot, shared, own, ◌⋆◌}
+use Rattle.sf_base.specs.HeapStore.{Slot, shared, own, ◌⋆◌}
 use Rattle.sf_core.specs.HeldBy.{HeldBy}
 use Rattle.sf_core.specs.MachineInstances.{lock, at_shared, shared_one, emp, guarding, skip, takes, guarded, one_at, one_cell_at, shared_in, SkipStartsWithTheInvariant, SkipStartsWithNothingElse, SkipDoesNotStartWithNothing, HoldersDoNotStart}
 use Rattle.sf_core.specs.Occurs.{VarOccursIn}

@@ -6,11 +6,11 @@ use Rattle.sf_base.specs.declared.ids.FieldId.{FieldId}
 use Rattle.sf_base.specs.declared.value.Value.{Value}
 use Rattle.sf_base.specs.declared.value.Value.TheVariants.{Nil as nil, Loc as loc}
 use Rattle.sf_core.proofs.Finite.{finite-empty, finite-one, finite-splits}
-use Rattle.sf_core.proofs.Cases.{none-not_some, some-same}
-use Rattle.sf_core.proofs.HeapSplits.{at-which, one-in, one-same}
-use Rattle.sf_core.proofs.MapSplits.{splits-comm, splits-assoc_right, splits-lacks_both, splits-lacks_right, splits-same_whole, splits-which, splits-has_left, empty-same, IsPart, part-has, part-left, part-right, part-trans}
+use Rattle.sf_base.proofs.Cases.{none-not_some, some-same}
+use Rattle.sf_base.proofs.HeapSplits.{at-which, one-in, one-same}
+use Rattle.sf_base.proofs.MapSplits.{splits-comm, splits-assoc_right, splits-lacks_both, splits-lacks_right, splits-same_whole, splits-which, splits-has_left, empty-same, IsPart, part-has, part-left, part-right, part-trans}
 use Rattle.sf_core.proofs.SegLaws.{loc-same, nil-not_loc}
-use Rattle.sf_core.specs.HeapStore.{Cell, Heap, IsEmpty, IsOne, Splits}
+use Rattle.sf_base.specs.HeapStore.{Cell, Heap, IsEmpty, IsOne, Splits}
 use Rattle.sf_core.specs.Precise.{IsPrecise}
 use Rattle.sf_core.specs.Sat.{Tree, leaf, node}
 use Rattle.sf_core.specs.Shape.{IsAcyclic, IsFinite, IsUnshared, Leads, step, further, Points}

@@ -11,13 +11,13 @@ use Rattle.sf_core.specs.declared.assertion.Test.{Test}
 use Rattle.sf_core.specs.declared.assertion.Test.TheVariants.{Equal}
 use Rattle.sf_core.specs.declared.command.Expr.{Expr}
 use Rattle.sf_core.proofs.DeterminedLaws.{determined-fixes, determined-precise}
-use Rattle.sf_core.proofs.Cases.{none-not_some, some-same}
-use Rattle.sf_core.proofs.HeapSplits.{at-other, at-which, one-in, one-not_empty, one-same_place, one-single, one-splits, remove_cell, star-drop_right, star-empty_right, star-map_right, star-of}
-use Rattle.sf_core.proofs.MapSplits.{empty_map, empty-holds, splits-empty_right, splits-has_right, splits-lacks_right, splits-of_empty_right}
+use Rattle.sf_base.proofs.Cases.{none-not_some, some-same}
+use Rattle.sf_base.proofs.HeapSplits.{at-other, at-which, one-in, one-not_empty, one-same_place, one-single, one-splits, remove_cell, star-drop_right, star-empty_right, star-map_right, star-of}
+use Rattle.sf_base.proofs.MapSplits.{empty_map, empty-holds, splits-empty_right, splits-has_right, splits-lacks_right, splits-of_empty_right}
 use Rattle.sf_core.proofs.SatLaws.{value-which}
 use Rattle.sf_core.proofs.SegLaws.{loc-same, nil-not_loc, seg-first, seg-one}
 use Rattle.sf_core.specs.Determined.{CanBeTaken, Determined, HasOrder, IsReady, Leaves, all_taken, branches, known_after, plain, take}
-use Rattle.sf_core.specs.HeapStore.{Cell, Heap, IsOne, Splits, ◌⋆◌}
+use Rattle.sf_base.specs.HeapStore.{Cell, Heap, IsOne, Splits, ◌⋆◌}
 use Rattle.sf_core.specs.Instances.{ChoiceGoesByItsTest, CircleIsNoSegment, ExistentialIsFixed, ExistentialIsTheFieldsValue, NoLessIsACellAndAList, OneNodeIsATree, OrderIsFound, SegmentMayEndAtAnAbsentCell, TreeOfAnUnknownIsUndetermined, TwoCellsAreACellAndAList, cell_and_list, cell_of_unknown, l, nothing, one_cell, one_scope, place, r, tail, tl, two_cells, unknown, where_are, x, y, ExistentialDecidesAChoice, ExistentialOfABranchIsMadeThere, no_scope, BranchMakesItsExistentialKnown, ChoiceWaitsForAnExistential, late_choice}
 use Rattle.sf_core.specs.Occurs.{OccursInAll, OccursInOne, is_made}
 use Rattle.sf_core.specs.Sat.{SameOutside, SatAll, Seg, end, cell, leaf, node, value, SatOne}

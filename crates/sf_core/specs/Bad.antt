@@ -6,7 +6,7 @@ use Rattle.sf_base.specs.declared.value.Value.TheVariants.{Nil as nil, Int as in
 use Rattle.sf_core.specs.declared.command.Expr.{Expr}
 use Rattle.sf_core.specs.Config.{Item, command, leave, Frame, Task, runs, Path, Config, seen}
 use Rattle.sf_core.specs.Enabled.{IsEnabled, Thing, Reads, Writes}
-use Rattle.sf_core.specs.HeapStore.{Heap}
+use Rattle.sf_base.specs.HeapStore.{Heap}
 use Rattle.sf_core.specs.Syntax.{Command, assign, look_up, mutate, new, dispose, if, while, call, fork, with}
 
 -- the expression at whose cell a command's event is: that of a look-up, a mutation or a dispose

@@ -10,7 +10,7 @@ use Rattle.sf_base.specs.declared.path.Turn.TheVariants.{Left as left, Right as 
 use Rattle.sf_base.specs.declared.value.Value.{Value}
 use Rattle.sf_base.specs.declared.value.Value.TheVariants.{Nil as nil}
 use Rattle.sf_core.specs.declared.command.Expr.{Expr}
-use Rattle.sf_core.specs.HeapStore.{Heap, Store, Slot, shared, own}
+use Rattle.sf_base.specs.HeapStore.{Heap, Store, Slot, shared, own}
 use Rattle.sf_core.specs.Sat.{value}
 use Rattle.sf_core.specs.Syntax.{Command, Block, done, then}
 

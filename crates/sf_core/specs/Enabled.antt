@@ -10,7 +10,7 @@ use Rattle.sf_core.specs.declared.assertion.Test.TheVariants.{True, Equal, Diffe
 use Rattle.sf_core.specs.declared.command.Expr.{Expr}
 use Rattle.sf_core.specs.declared.command.Expr.TheVariants.{Var as Variable, Nil, Int}
 use Rattle.sf_core.specs.Config.{Item, command, leave, Room, in_room, Fixed, Task, runs, waits, Path, Config, seen, task_at, IsOver}
-use Rattle.sf_core.specs.HeapStore.{Slot, Store}
+use Rattle.sf_base.specs.HeapStore.{Slot, Store}
 use Rattle.sf_core.specs.Syntax.{Command, assign, look_up, mutate, new, dispose, if, while, call, fork, with}
 
 -- a task at that path has ended: it has no frame, or it is the entry's, doesn't wait, and its one frame has nothing more to do

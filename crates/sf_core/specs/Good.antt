@@ -6,7 +6,7 @@ use Rattle.sf_base.specs.declared.ids.ResId.{ResId}
 use Rattle.sf_core.specs.Bad.{Bad}
 use Rattle.sf_core.specs.Config.{Frame, runs, Path, Config, seen, task_at, IsCalled}
 use Rattle.sf_core.specs.Enabled.{HasEnded}
-use Rattle.sf_core.specs.HeapStore.{Apart, Cell, Heap}
+use Rattle.sf_base.specs.HeapStore.{Apart, Cell, Heap}
 use Rattle.sf_core.specs.Sat.{Foot}
 use Rattle.sf_core.specs.Start.{entry_slot}
 use Rattle.sf_core.specs.Step.{procedure_at}

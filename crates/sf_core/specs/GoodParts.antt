@@ -8,7 +8,7 @@ use Rattle.sf_core.specs.Bad.{Bad}
 use Rattle.sf_core.specs.Config.{Item, Fixed, Frame, Task, runs, waits, Path, Config, seen}
 use Rattle.sf_core.specs.Enabled.{HasEnded}
 use Rattle.sf_core.specs.Good.{Good}
-use Rattle.sf_core.specs.HeapStore.{Heap, IsEmpty, Store, ◌⋆◌}
+use Rattle.sf_base.specs.HeapStore.{Heap, IsEmpty, Store, ◌⋆◌}
 use Rattle.sf_core.specs.Sat.{Sat}
 use Rattle.sf_core.specs.Start.{entry_slot}
 use Rattle.sf_core.specs.Step.{procedure_at}

@@ -14,7 +14,7 @@ use Rattle.sf_core.specs.declared.assertion.Test.TheVariants.{Equal}
 use Rattle.sf_core.specs.declared.command.Expr.{Expr}
 use Rattle.sf_core.specs.declared.command.Expr.TheVariants.{Var as Variable, Nil}
 use Rattle.sf_core.specs.Determined.{CanBeTaken, Determined}
-use Rattle.sf_core.specs.HeapStore.{Cell, Heap, IsEmpty, IsOne, Splits}
+use Rattle.sf_base.specs.HeapStore.{Cell, Heap, IsEmpty, IsOne, Splits}
 use Rattle.sf_core.specs.Occurs.{OccursInAll}
 use Rattle.sf_core.specs.Sat.{Sat, SatAll, value}
 use Rattle.sf_core.specs.Syntax.{Conjunct, Conjuncts, Level, level, none, also, points, segment, tree, choose, holds}

@@ -11,7 +11,7 @@ use Rattle.sf_core.specs.declared.assertion.Operand.TheVariants.{Exists}
 use Rattle.sf_core.specs.declared.assertion.Scope.{Scope}
 use Rattle.sf_core.specs.declared.command.Expr.{Expr}
 use Rattle.sf_core.specs.Determined.{CanBeTaken, Determined, HasOrder, Leaves, is_learned_in, known_after}
-use Rattle.sf_core.specs.HeapStore.{Heap, Splits}
+use Rattle.sf_base.specs.HeapStore.{Heap, Splits}
 use Rattle.sf_core.specs.Occurs.{OccursInAll, VarOccursIn}
 use Rattle.sf_core.specs.Precise.{IsPrecise}
 use Rattle.sf_core.specs.Sat.{Sat, SatAll, SatOne, Seg, Tree, operand, value}

@@ -1,7 +1,6 @@
 pub mod Syntax
 pub mod View
 pub mod ProgramView
-pub mod HeapStore
 pub mod Sat
 pub mod Config
 pub mod Step

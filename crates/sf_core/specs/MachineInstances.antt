@@ -18,7 +18,7 @@ use Rattle.sf_core.specs.Bad.{Bad}
 use Rattle.sf_core.specs.Config.{Item, command, Fixed, Frame, Task, runs, waits, Path, Common, Config}
 use Rattle.sf_core.specs.Enabled.{HasEnded, IsEnabled}
 use Rattle.sf_core.specs.Good.{Good}
-use Rattle.sf_core.specs.HeapStore.{Cell, put_field, Heap, IsEmpty, IsOne, Slot, shared, own, same_slot, Store}
+use Rattle.sf_base.specs.HeapStore.{Cell, put_field, Heap, IsEmpty, IsOne, Slot, shared, own, same_slot, Store}
 use Rattle.sf_core.specs.Reach.{Reach}
 use Rattle.sf_core.specs.Start.{Start, beginning, entry_frame, entry_slot}
 use Rattle.sf_core.specs.Step.{Event, room_for, slots_of}

@@ -7,7 +7,7 @@ use Rattle.sf_base.specs.declared.path.Turn.TheVariants.{Left as left, Right as 
 use Rattle.sf_core.specs.Bad.{IsAbsent}
 use Rattle.sf_core.specs.Config.{Item, command, leave, Fixed, Frame, Task, runs, waits, Path, Common, Config, seen, task_at, IsUsed}
 use Rattle.sf_core.specs.Enabled.{Thing, variable, cell, IsInRoom, Reads, Writes, HasEnded, IsEnabled}
-use Rattle.sf_core.specs.HeapStore.{Slot, Store}
+use Rattle.sf_base.specs.HeapStore.{Slot, Store}
 use Rattle.sf_core.specs.Reach.{Reach}
 use Rattle.sf_core.specs.Sat.{IsTrueOf}
 use Rattle.sf_core.specs.Step.{Event, Step, procedure_at, room_count, room_for}

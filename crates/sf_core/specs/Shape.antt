@@ -3,7 +3,7 @@
 use Rattle.std.specs.Prelude.{◌≡◌, ◌⊎◌, ℕ, List, Contains, Some}
 use Rattle.sf_base.specs.declared.ids.FieldId.{FieldId}
 use Rattle.sf_base.specs.declared.value.Value.TheVariants.{Loc as loc}
-use Rattle.sf_core.specs.HeapStore.{Cell, Heap}
+use Rattle.sf_base.specs.HeapStore.{Cell, Heap}
 
 -- all its cells stand at the locations of some list
 pub record IsFinite (heap : Heap) : Type 0 where

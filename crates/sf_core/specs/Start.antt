@@ -9,7 +9,7 @@ use Rattle.sf_base.specs.declared.ids.Var.TheVariants.{Own, Shared}
 use Rattle.sf_base.specs.declared.value.Value.{Value}
 use Rattle.sf_base.specs.declared.value.Value.TheVariants.{Nil as nil}
 use Rattle.sf_core.specs.Config.{items, Frame, runs, Config, seen}
-use Rattle.sf_core.specs.HeapStore.{Heap, IsEmpty, Slot, shared, own, Store, ◌⋆◌}
+use Rattle.sf_base.specs.HeapStore.{Heap, IsEmpty, Slot, shared, own, Store, ◌⋆◌}
 use Rattle.sf_core.specs.HeldBy.{HeldBy}
 use Rattle.sf_core.specs.Sat.{Sat}
 use Rattle.sf_core.specs.Step.{procedure_at, room_for}

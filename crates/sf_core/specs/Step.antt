@@ -13,7 +13,7 @@ use Rattle.sf_core.specs.declared.assertion.Test.{Test}
 use Rattle.sf_core.specs.declared.command.Expr.{Expr}
 use Rattle.sf_core.specs.declared.command.Occurrence.{Occurrence}
 use Rattle.sf_core.specs.Config.{Item, command, leave, items, Room, in_room, Fixed, Frame, Task, runs, waits, Path, Common, Config, seen, task_at, replaced, IsUsed, IsCalled, IsOver}
-use Rattle.sf_core.specs.HeapStore.{Cell, put_field, Heap, Slot, shared, own, same_slot, Store}
+use Rattle.sf_base.specs.HeapStore.{Cell, put_field, Heap, Slot, shared, own, same_slot, Store}
 use Rattle.sf_core.specs.Sat.{IsTrueOf}
 use Rattle.sf_core.specs.Syntax.{Call, Command, assign, look_up, mutate, new, dispose, if, while, call, fork, with, Procedure, Program}
 

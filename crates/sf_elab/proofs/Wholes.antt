@@ -4,7 +4,7 @@ use Rattle.sf_ast.specs.Depth.{items_depth}
 use Rattle.sf_ast.specs.Surface as surface
 use Rattle.sf_core.specs.Formed.{IsFormed}
 use Rattle.sf_core.specs.Syntax as c
-use Rattle.sf_core.proofs.Cases.{none-not_some}
+use Rattle.sf_base.proofs.Cases.{none-not_some}
 use Rattle.sf_elab.specs.declared.fault.Fault.{Fault}
 use Rattle.sf_elab.specs.Elaborated.{elaborated, faults, Elaborates}
 use Rattle.sf_elab.specs.Faults.{earlier, first_of}

@@ -6,7 +6,7 @@ use Rattle.sf_core.specs.declared.assertion.Operand.{Operand}
 use Rattle.sf_core.specs.declared.assertion.Operand.TheVariants.{Known, Exists}
 use Rattle.sf_core.specs.declared.assertion.Scope.{Scope}
 use Rattle.sf_core.specs.declared.assertion.Test.TheVariants.{True, Equal, Differ}
-use Rattle.sf_core.proofs.Cases.{and-both, either, not-true, or-first, or-second, or-which}
+use Rattle.sf_base.proofs.Cases.{and-both, either, not-true, or-first, or-second, or-which}
 use Rattle.sf_core.specs.Determined.{CanBeTaken, HasOrder, IsKnown, IsReady, Leaves, all_taken, branches, is_learned, known_after, known_inside, plain, take}
 use Rattle.sf_core.specs.Occurs.{OccursIn, OccursInAll, OccursInOne, is_made}
 use Rattle.sf_core.specs.Syntax.{Conjunct, holds, points, segment, tree, choose, Level, level, Conjuncts, none, also}

@@ -5,7 +5,7 @@ use Rattle.sf_core.specs.declared.assertion.Operand.{Operand}
 use Rattle.sf_core.specs.declared.assertion.Operand.TheVariants.{Exists}
 use Rattle.sf_core.specs.declared.assertion.Scope.{Scope}
 use Rattle.sf_core.specs.declared.assertion.Test.{Test}
-use Rattle.sf_core.proofs.Cases.{and-both, not-true}
+use Rattle.sf_base.proofs.Cases.{and-both, not-true}
 use Rattle.sf_core.specs.Determined.{CanBeTaken, Determined, HasOrder, known_inside}
 use Rattle.sf_core.specs.InOrder.{StandsInOrder}
 use Rattle.sf_core.specs.Occurs.{OccursInAll, is_made}

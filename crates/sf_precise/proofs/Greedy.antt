@@ -5,7 +5,7 @@ use Rattle.std.proofs.Common.{sym, ap, refl, ◌∙◌, subst, inl, inr}
 use Rattle.sf_core.specs.declared.assertion.Operand.{Operand}
 use Rattle.sf_core.specs.declared.assertion.Operand.TheVariants.{Known, Exists}
 use Rattle.sf_core.specs.declared.assertion.Test.TheVariants.{True, Equal, Differ}
-use Rattle.sf_core.proofs.Cases.{either, or-first, or-second}
+use Rattle.sf_base.proofs.Cases.{either, or-first, or-second}
 use Rattle.sf_core.specs.Determined.{CanBeTaken, HasOrder, IsKnown, IsReady, all_taken, branches, is_learned, known_after, known_inside, plain, take}
 use Rattle.sf_core.specs.InOrder.{InOrder, InOrderInside, IsNext, IsSupplied, is_known}
 use Rattle.sf_core.specs.Occurs.{OccursIn, OccursInAll, OccursInOne}

@@ -16,7 +16,7 @@ use Rattle.std.proofs.lemmas.Option.{slice_get_within}
 use Rattle.sf_base.specs.declared.ids.FieldId.{FieldId}
 use Rattle.sf_core.specs.declared.assertion.Operand.{Operand}
 use Rattle.sf_core.specs.declared.command.Expr.{Expr}
-use Rattle.sf_core.proofs.Cases.{either}
+use Rattle.sf_base.proofs.Cases.{either}
 use Rattle.sf_precise.specs.declared.work.Work.{Work}
 use Rattle.sf_precise.specs.Outer.{existential, field_existentials}
 use Rattle.sf_precise.specs.Waits.{Job}

@@ -3,7 +3,7 @@
 use Rattle.std.specs.Prelude.{◌≡◌, ◌⊎◌, ℕ, Bool, true}
 use Rattle.std.proofs.Common.{sym, ap, ◌∙◌, refl, subst, inl, inr}
 use Rattle.sf_base.specs.declared.place.Place.{Place}
-use Rattle.sf_core.proofs.Cases.{either, or-second, or-which}
+use Rattle.sf_base.proofs.Cases.{either, or-second, or-which}
 use Rattle.sf_core.proofs.OrderLaws.{KnowsMore, more-taken, taken-more}
 use Rattle.sf_core.specs.Determined.{CanBeTaken, HasOrder, Leaves, all_taken, is_learned, known_after, take}
 use Rattle.sf_core.specs.Syntax.{Conjunct, Conjuncts, none, also}

@@ -6,7 +6,7 @@ use Rattle.std.proofs.lemmas.List.{map-append, map_more, take_all}
 use Rattle.std.proofs.lemmas.List.Elements.{Contains-append_left, Contains-push, Contains-push_cases}
 use Rattle.std.proofs.lemmas.Slice.Zip.{all_zipped_more}
 use Rattle.sf_base.specs.declared.place.Place.{Place}
-use Rattle.sf_core.proofs.Cases.{either}
+use Rattle.sf_base.proofs.Cases.{either}
 use Rattle.sf_core.specs.Determined.{Determined}
 use Rattle.sf_core.specs.Syntax.{Assertion, Conjuncts, Level, level, none, also}
 use Rattle.sf_precise.specs.Notes.{AreOrdersOf, IsFirstPlace, NeverTakenIn, earlier_of, is_before}

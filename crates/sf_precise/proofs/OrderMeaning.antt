@@ -6,11 +6,11 @@ use Rattle.sf_base.specs.declared.value.Value.{Value}
 use Rattle.sf_core.specs.declared.assertion.Operand.{Operand}
 use Rattle.sf_core.specs.declared.assertion.Operand.TheVariants.{Known, Exists}
 use Rattle.sf_core.specs.declared.assertion.Test.TheVariants.{True, Equal, Differ}
-use Rattle.sf_core.proofs.Cases.{either, or-which}
+use Rattle.sf_base.proofs.Cases.{either, or-which}
 use Rattle.sf_core.proofs.DeterminedLaws.{leaves-focus, leaves-unfocus}
-use Rattle.sf_core.proofs.HeapSplits.{star-map}
+use Rattle.sf_base.proofs.HeapSplits.{star-map}
 use Rattle.sf_core.specs.Determined.{CanBeTaken, Determined, HasOrder, IsKnown, all_taken, branches, known_after, known_inside, plain, take}
-use Rattle.sf_core.specs.HeapStore.{Heap}
+use Rattle.sf_base.specs.HeapStore.{Heap}
 use Rattle.sf_core.specs.InOrder.{InOrder, IsNext, StandsInOrder, is_known}
 use Rattle.sf_core.specs.Sat.{Sat, SatAll, SatOne}
 use Rattle.sf_core.specs.Syntax.{Conjunct, holds, points, segment, tree, choose, Level, level, Conjuncts, none, also}

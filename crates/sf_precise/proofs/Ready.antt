@@ -8,7 +8,7 @@ use Rattle.sf_core.specs.declared.assertion.Operand.TheVariants.{Known, Exists}
 use Rattle.sf_core.specs.declared.assertion.Scope.{Scope}
 use Rattle.sf_core.specs.declared.assertion.Test.{Test}
 use Rattle.sf_core.specs.declared.assertion.Test.TheVariants.{True, Equal, Differ}
-use Rattle.sf_core.proofs.Cases.{either, not-true}
+use Rattle.sf_base.proofs.Cases.{either, not-true}
 use Rattle.sf_core.proofs.OrderLaws.{KnowsMore}
 use Rattle.sf_core.specs.Determined.{CanBeTaken, HasOrder, IsKnown, IsReady, branches, known_inside, plain}
 use Rattle.sf_core.specs.InOrder.{IsSupplied}

@@ -3,7 +3,7 @@ use Rattle.std.proofs.Common.{◌≡◌, ◌⊎◌, ◌≤◌, ℕ, zero, suc, B
 use Rattle.sf_core.specs.declared.assertion.Operand.{Operand}
 use Rattle.sf_core.specs.declared.assertion.Operand.TheVariants.{Known, Exists}
 use Rattle.sf_core.specs.declared.assertion.Test.TheVariants.{True, Equal, Differ}
-use Rattle.sf_core.proofs.Cases.{either}
+use Rattle.sf_base.proofs.Cases.{either}
 use Rattle.sf_core.proofs.OrderLaws.{order-first, order-stuck}
 use Rattle.sf_core.specs.Determined.{CanBeTaken, HasOrder, IsKnown, IsReady, Leaves, all_taken, branches, known_after, known_inside, plain, take}
 use Rattle.sf_core.specs.InOrder.{IsSupplied}

@@ -8,7 +8,7 @@ use Rattle.sf_base.specs.declared.place.Place.{Place}
 use Rattle.sf_base.specs.declared.value.Value.{Value}
 use Rattle.sf_core.specs.declared.command.Expr.{Expr}
 use Rattle.sf_core.specs.Determined.{Determined}
-use Rattle.sf_core.specs.HeapStore.{Heap, Splits}
+use Rattle.sf_base.specs.HeapStore.{Heap, Splits}
 use Rattle.sf_core.specs.InOrder.{StandsInOrder}
 use Rattle.sf_core.specs.Sat.{Sat, SatAll, value}
 use Rattle.sf_core.specs.Syntax.{Assertion, Conjuncts, Level}

@@ -15,7 +15,7 @@ use Rattle.sf_core.specs.declared.assertion.Scope.{Scope}
 use Rattle.sf_core.specs.declared.command.Expr.{Expr}
 use Rattle.sf_core.specs.Formed.{is_made, OperandWithin, FieldsWithin, ConjunctsWithin, AssertionWithin, ProcedureWithin, conjuncts_scopes}
 use Rattle.sf_core.specs.Syntax.{Conjunct, holds, points, segment, tree, choose, Conjuncts, none, also, Level, level, Command, assign, look_up, mutate, new, dispose, if, while, call, fork, with, Block, done, then, Assertion, Procedure, Program}
-use Rattle.sf_core.proofs.Cases.{and-both, or-which}
+use Rattle.sf_base.proofs.Cases.{and-both, or-which}
 use Rattle.sf_sym.specs.declared.state.State.{State}
 use Rattle.sf_sym.specs.declared.tag.Tag.{Tag}
 use Rattle.sf_sym.specs.declared.tag.Tag.TheVariants as t

@@ -1,7 +1,7 @@
 -- Induction on proofs: what each row carries from the goals that it leaves to its goal, every provable goal has.
 use Rattle.std.specs.Prelude.{◌≡◌, Some, List, [], ◌∷◌}
 use Rattle.std.proofs.Common.{sym, subst}
-use Rattle.sf_core.proofs.Cases.{either}
+use Rattle.sf_base.proofs.Cases.{either}
 use Rattle.sf_sym.specs.declared.tag.Tag.{Tag}
 use Rattle.std.specs.List.{AllByRecursion}
 use Rattle.sf_sym.specs.Goal.{Goal}

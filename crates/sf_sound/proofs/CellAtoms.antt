@@ -3,9 +3,9 @@ use Rattle.std.specs.Prelude.{◌≡◌, ℕ, ◌==◌, Bool, true, false, cond,
 use Rattle.std.proofs.Common.{refl, subst}
 use Rattle.sf_base.specs.declared.ids.FieldId.{FieldId}
 use Rattle.sf_base.specs.declared.value.Value.{Value}
-use Rattle.sf_core.specs.HeapStore.{Heap, Splits}
-use Rattle.sf_core.proofs.HeapSplits.{star-of}
-use Rattle.sf_core.proofs.MapSplits.{union, splits-swap}
+use Rattle.sf_base.specs.HeapStore.{Heap, Splits}
+use Rattle.sf_base.proofs.HeapSplits.{star-of}
+use Rattle.sf_base.proofs.MapSplits.{union, splits-swap}
 use Rattle.sf_sym.specs.declared.atom.Atom.{Atom}
 use Rattle.sf_sym.specs.declared.atom.Atom.TheVariants.{Points, Ls, Tree}
 use Rattle.sf_sym.specs.declared.atom.Numbered.{Numbered}

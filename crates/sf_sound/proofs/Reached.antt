@@ -15,14 +15,14 @@ use Rattle.sf_core.specs.Enabled.{HasEnded}
 use Rattle.sf_core.specs.Formed.{IsFormed}
 use Rattle.sf_core.specs.Good.{Good}
 use Rattle.sf_core.specs.GoodParts.{InvariantParts, FramePart, TaskParts, RestPart}
-use Rattle.sf_core.specs.HeapStore.{Cell, put_field, Heap, ◌⋆◌}
+use Rattle.sf_base.specs.HeapStore.{Cell, put_field, Heap, ◌⋆◌}
 use Rattle.sf_core.specs.Reach.{Reach}
 use Rattle.sf_core.specs.Step.{Event, going, procedure_at, Does, Goes, TaskStep, Step}
 use Rattle.sf_core.specs.Syntax.{Command, mutate, Procedure, Program, Resource}
 use Rattle.sf_core.specs.Sat.{Sat}
-use Rattle.sf_core.proofs.Cases.{either, some-same}
+use Rattle.sf_base.proofs.Cases.{either, some-same}
 use Rattle.sf_core.proofs.GoodParts.{good-by_parts}
-use Rattle.sf_core.proofs.HeapSplits.{star-empty_left, star-empty_right, star-map_right}
+use Rattle.sf_base.proofs.HeapSplits.{star-empty_left, star-empty_right, star-map_right}
 use Rattle.sf_sound.specs.RowLaws.{value_at, written}
 use Rattle.sf_sound.proofs.Owns.{Owns, Next, owns-command, owns-leave, owns-end}
 

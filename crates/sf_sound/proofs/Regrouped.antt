@@ -1,6 +1,6 @@
 -- Parts of a heap that are grouped anew, as the rows of the table group them.
-use Rattle.sf_core.specs.HeapStore.{Heap, ◌⋆◌}
-use Rattle.sf_core.proofs.HeapSplits.{star-assoc_left, star-assoc_right, star-comm, star-map_left, star-map_right, star-swap}
+use Rattle.sf_base.specs.HeapStore.{Heap, ◌⋆◌}
+use Rattle.sf_base.proofs.HeapSplits.{star-assoc_left, star-assoc_right, star-comm, star-map_left, star-map_right, star-swap}
 
 -- the first of what is to be assumed goes to the atoms
 pub regroup-assume : {A T C S R : Heap → Type 0} {heap : Heap} → (A ⋆ (T ⋆ ((C ⋆ S) ⋆ R))) heap → ((A ⋆ C) ⋆ (T ⋆ (S ⋆ R))) heap

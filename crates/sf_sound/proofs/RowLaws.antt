@@ -12,11 +12,11 @@ use Rattle.sf_base.specs.declared.value.Value.TheVariants.{Nil as nil, Loc as lo
 use Rattle.sf_core.specs.declared.assertion.Operand.TheVariants.{Known, Exists}
 use Rattle.sf_core.specs.declared.command.Expr.{Expr}
 use Rattle.sf_core.specs.Formed.{IsParameter, LevelWithin, AssertionWithin}
-use Rattle.sf_core.specs.HeapStore.{Cell, put_field, Heap, IsEmpty, Splits, ◌⋆◌}
+use Rattle.sf_base.specs.HeapStore.{Cell, put_field, Heap, IsEmpty, Splits, ◌⋆◌}
 use Rattle.sf_core.specs.Sat.{Sat, SatAll, SatOne}
 use Rattle.sf_core.specs.Syntax.{Conjunct, points, Level, level, Conjuncts, none, also, Command, mutate, Assertion, Procedure, Program}
-use Rattle.sf_core.proofs.HeapSplits.{one-put_cell, cell-change_left, star-of, star-map, star-map_left, star-map_right, star-drop_left, star-drop_right, star-empty_right}
-use Rattle.sf_core.proofs.MapSplits.{splits-has_left, splits-assoc_left}
+use Rattle.sf_base.proofs.HeapSplits.{one-put_cell, cell-change_left, star-of, star-map, star-map_left, star-map_right, star-drop_left, star-drop_right, star-empty_right}
+use Rattle.sf_base.proofs.MapSplits.{splits-has_left, splits-assoc_left}
 use Rattle.sf_sym.specs.declared.atom.Atom.TheVariants.{Points}
 use Rattle.sf_sym.specs.declared.atom.Numbered.{Numbered}
 use Rattle.sf_sym.specs.declared.state.State.{State}

@@ -12,12 +12,12 @@ use Rattle.sf_core.specs.declared.assertion.Test.{Test}
 use Rattle.sf_core.specs.declared.assertion.Test.TheVariants.{True, Equal, Differ}
 use Rattle.sf_core.specs.declared.command.Expr.{Expr}
 use Rattle.sf_core.specs.Formed.{is_made, TestWithin, OperandWithin, FieldsWithin, LevelWithin, ConjunctsWithin, ConjunctWithin}
-use Rattle.sf_core.specs.HeapStore.{Heap}
+use Rattle.sf_base.specs.HeapStore.{Heap}
 use Rattle.sf_core.specs.Occurs.{OccursInTest, OccursInFields, OccursIn, OccursInAll, OccursInOne}
 use Rattle.sf_core.specs.Occurs as one_scope
 use Rattle.sf_core.specs.Sat.{operand, Sat, SatAll}
 use Rattle.sf_core.specs.Syntax.{Conjunct, holds, points, segment, tree, choose, Level, level, Conjuncts, none, also}
-use Rattle.sf_core.proofs.Cases.{either}
+use Rattle.sf_base.proofs.Cases.{either}
 use Rattle.sf_core.proofs.SatLaws.{sat-agree}
 
 or-other : (a b : Bool) → a || b ≡ true → a ≡ false → b ≡ true

@@ -9,7 +9,7 @@ use Rattle.sf_core.specs.declared.command.Expr.{Expr}
 use Rattle.sf_core.specs.declared.command.Expr.TheVariants.{Nil}
 use Rattle.sf_core.specs.Formed.{IsParameter, OperandWithin, FieldsWithin, AssertionWithin, ProcedureWithin, IsFormed}
 use Rattle.sf_core.specs.Syntax.{Procedure}
-use Rattle.sf_core.proofs.Cases.{none-not_some}
+use Rattle.sf_base.proofs.Cases.{none-not_some}
 use Rattle.sf_sym.specs.declared.tag.Tag.TheVariants as t
 use Rattle.sf_sym.specs.Goal.{Goal}
 use Rattle.sf_rules.specs.Proves.{Proof, by, Proofs, no_more, and, Proves}

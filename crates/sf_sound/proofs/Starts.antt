@@ -16,13 +16,13 @@ use Rattle.sf_core.specs.declared.command.Expr.{Expr}
 use Rattle.sf_core.specs.Config.{Config, seen}
 use Rattle.sf_core.specs.Config as machine
 use Rattle.sf_core.specs.Formed.{IsFormed}
-use Rattle.sf_core.specs.HeapStore.{Heap, IsEmpty, shared, own, Store, ◌⋆◌}
+use Rattle.sf_base.specs.HeapStore.{Heap, IsEmpty, shared, own, Store, ◌⋆◌}
 use Rattle.sf_core.specs.Sat.{Sat, SatAll}
 use Rattle.sf_core.specs.Start.{entry_slot, entry_frame, Invariants, Start}
 use Rattle.sf_core.specs.Step.{procedure_at}
 use Rattle.sf_core.specs.Syntax.{Level, level, Block, done, then, Assertion, Procedure, Program}
-use Rattle.sf_core.proofs.Cases.{or-which, or-first, or-second, some-same}
-use Rattle.sf_core.proofs.HeapSplits.{star-drop_right, star-empty_left, star-empty_right, star-map_right}
+use Rattle.sf_base.proofs.Cases.{or-which, or-first, or-second, some-same}
+use Rattle.sf_base.proofs.HeapSplits.{star-drop_right, star-empty_left, star-empty_right, star-map_right}
 use Rattle.sf_sym.specs.declared.tag.Tag.{Tag}
 use Rattle.sf_sym.specs.declared.term.Term.{Term}
 use Rattle.sf_sym.specs.declared.term.Term.TheVariants.{Nil, Sym}

@@ -10,7 +10,7 @@ use Rattle.sf_base.specs.declared.value.Value.{Value}
 use Rattle.sf_base.specs.declared.value.Value.TheVariants.{Nil as nil}
 use Rattle.sf_core.specs.declared.command.Expr.{Expr}
 use Rattle.sf_core.specs.Formed.{IsParameter, AssertionWithin, IsFormed}
-use Rattle.sf_core.specs.HeapStore.{Cell, put_field, Heap, Store, IsEmpty, Splits, ◌⋆◌}
+use Rattle.sf_base.specs.HeapStore.{Cell, put_field, Heap, Store, IsEmpty, Splits, ◌⋆◌}
 use Rattle.sf_core.specs.Sat.{value, Sat}
 use Rattle.sf_core.specs.Config.{Config}
 use Rattle.sf_core.specs.Start.{entry_slot, Start}

@@ -5,7 +5,7 @@ use Rattle.sf_base.specs.declared.ids.ProcId.{ProcId}
 use Rattle.sf_core.specs.Config.{Config}
 use Rattle.sf_core.specs.Formed.{IsFormed}
 use Rattle.sf_core.specs.Good.{Good}
-use Rattle.sf_core.specs.HeapStore.{Heap, Store}
+use Rattle.sf_base.specs.HeapStore.{Heap, Store}
 use Rattle.sf_core.specs.Reach.{Reach}
 use Rattle.sf_core.specs.Start.{Start}
 use Rattle.sf_core.specs.Step.{Event}

@@ -2,7 +2,7 @@
 -- Names: `not-LAW` speaks of a negation, `and-LAW` of a conjunction, `any-LAW` of a test of some element.
 use Rattle.std.specs.List.{list_any}
 use Rattle.std.proofs.Common.{◌≡◌, Bool, true, false, ◌&&◌, not, List, [], ◌∷◌, inl, inr}
-use Rattle.sf_core.proofs.Cases.{or-which, or-first, or-second, and-both}
+use Rattle.sf_base.proofs.Cases.{or-which, or-first, or-second, and-both}
 
 -- a test and its negation aren't both true
 pub not-both : (a : Bool) → a ≡ true → not a ≡ true → ⊥

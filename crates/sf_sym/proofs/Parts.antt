@@ -5,7 +5,7 @@ use Rattle.std.proofs.Common.{◌≡◌, ◌≢◌, ℕ, Bool, true, ◌&&◌, L
 use Rattle.sf_base.specs.declared.ids.FieldId.{FieldId}
 use Rattle.sf_base.specs.declared.value.Value.{Value}
 use Rattle.sf_base.specs.declared.value.Value.TheVariants.{Nil as nil, Int as int}
-use Rattle.sf_core.specs.HeapStore.{Heap, Splits, ◌⋆◌}
+use Rattle.sf_base.specs.HeapStore.{Heap, Splits, ◌⋆◌}
 use Rattle.sf_sym.specs.declared.atom.Atom.{Atom}
 use Rattle.sf_sym.specs.declared.atom.Atom.TheVariants.{Points, Ls, Tree}
 use Rattle.sf_sym.specs.declared.atom.Numbered.{Numbered}
@@ -15,9 +15,9 @@ use Rattle.sf_sym.specs.declared.term.Term.TheVariants.{Nil, Int, Sym}
 use Rattle.sf_sym.specs.Holds.{term_value, Differ, SegAlong, TreeAlong, AtomHolds, AtomsHold}
 use Rattle.sf_sym.specs.Laws.{IsLocationIn}
 use Rattle.sf_sym.specs.Tests.{same_term, is_constant, root, has_cell, allocates, is_integer_tree, is_impossible, has_repeat}
-use Rattle.sf_core.proofs.Cases.{or-which, none-not_some}
-use Rattle.sf_core.proofs.MapSplits.{splits-has_left, splits-has_right, splits-lacks_right}
-use Rattle.sf_core.proofs.HeapSplits.{one-in, star-drop_left, star-assoc_right, star-map_right}
+use Rattle.sf_base.proofs.Cases.{or-which, none-not_some}
+use Rattle.sf_base.proofs.MapSplits.{splits-has_left, splits-has_right, splits-lacks_right}
+use Rattle.sf_base.proofs.HeapSplits.{one-in, star-drop_left, star-assoc_right, star-map_right}
 use Rattle.sf_core.proofs.SegLaws.{loc-same, seg-first}
 use Rattle.sf_core.proofs.TreeLaws.{tree-root}
 use Rattle.sf_sym.proofs.Bools.{and_left, and_right}

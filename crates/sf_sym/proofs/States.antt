@@ -5,14 +5,14 @@ use Rattle.std.proofs.Common.{◌≡◌, ◌≢◌, ℕ, ◌==◌, true, ◌&&�
 use Rattle.std.proofs.lemmas.Bool.Decides.{Decides-eqb}
 use Rattle.sf_base.specs.declared.ids.Var.{Var}
 use Rattle.sf_base.specs.declared.value.Value.{Value}
-use Rattle.sf_core.specs.HeapStore.{Heap, ◌⋆◌}
+use Rattle.sf_base.specs.HeapStore.{Heap, ◌⋆◌}
 use Rattle.sf_sym.specs.declared.term.Term.{Term}
 use Rattle.sf_sym.specs.Goal.{Goal}
 use Rattle.sf_sym.specs.Holds.{term_value, AtomsHold, AddsHold, HoldsAt}
 use Rattle.sf_sym.specs.Laws.{DifferingTermsDiffer, AllocatedTermsAreLocations, HeldStatesAreNotAbsurd}
 use Rattle.sf_sym.specs.Tests.{is_constant, same_term, direct, allocates, is_left_out, parts, allocated, both_allocated, is_impossible, has_repeat}
-use Rattle.sf_core.proofs.HeapSplits.{star-assoc_left, star-map_left}
-use Rattle.sf_core.proofs.Cases.{or-which}
+use Rattle.sf_base.proofs.HeapSplits.{star-assoc_left, star-map_left}
+use Rattle.sf_base.proofs.Cases.{or-which}
 use Rattle.sf_sym.proofs.Bools.{and_left, and_right, and-of, not-both, any-some}
 use Rattle.sf_sym.proofs.Terms.{term-constant_no_location, direct-differs, pairs-irreflexive}
 use Rattle.sf_sym.proofs.Parts.{located-left, atoms-located, atoms-differ, atoms-possible, atoms-no_repeat, atoms-append}

@@ -10,7 +10,7 @@ use Rattle.sf_sym.specs.declared.term.Term.{Term}
 use Rattle.sf_sym.specs.declared.term.Term.TheVariants.{Nil, Int, Sym}
 use Rattle.sf_sym.specs.Holds.{term_value, Differ}
 use Rattle.sf_sym.specs.Tests.{same_term, is_constant, is_pair, direct}
-use Rattle.sf_core.proofs.Cases.{or-which}
+use Rattle.sf_base.proofs.Cases.{or-which}
 use Rattle.sf_sym.proofs.Bools.{and_left, and_right, not-both}
 
 -- terms that test as one are one

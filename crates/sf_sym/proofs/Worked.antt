@@ -4,10 +4,10 @@ use Rattle.std.specs.List.{IsDistinct}
 use Rattle.std.proofs.Common.{◌≡◌, ◌≢◌, ℕ, zero, suc, Bool, true, false, Some, None, [], ◌∷◌, cond, ◌==◌, lit<, refl, sym, ap, ◌∙◌}
 use Rattle.sf_base.specs.declared.value.Value.{Value}
 use Rattle.sf_base.specs.declared.value.Value.TheVariants.{Nil as nil, Loc as loc}
-use Rattle.sf_core.proofs.Cases.{some-same}
-use Rattle.sf_core.proofs.HeapSplits.{at-other, one-same_place, one-single, one-splits, remove_cell, star-drop_left, star-drop_right, star-empty_left, star-empty_right, star-of}
+use Rattle.sf_base.proofs.Cases.{some-same}
+use Rattle.sf_base.proofs.HeapSplits.{at-other, one-same_place, one-single, one-splits, remove_cell, star-drop_left, star-drop_right, star-empty_left, star-empty_right, star-of}
 use Rattle.sf_core.proofs.SegLaws.{nil-not_loc, seg-one}
-use Rattle.sf_core.specs.HeapStore.{Cell, IsOne}
+use Rattle.sf_base.specs.HeapStore.{Cell, IsOne}
 use Rattle.sf_core.specs.Instances.{tail, two_cells}
 use Rattle.sf_sym.specs.declared.term.Term.TheVariants.{Nil}
 use Rattle.sf_sym.specs.Holds.{term_value, IsBound}

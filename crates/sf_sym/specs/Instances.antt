@@ -6,7 +6,7 @@ use Rattle.sf_base.specs.declared.ids.Var.TheVariants.{Own}
 use Rattle.sf_base.specs.declared.value.Value.{Value}
 use Rattle.sf_base.specs.declared.value.Value.TheVariants.{Nil as nil, Loc as loc}
 use Rattle.sf_core.specs.declared.assertion.Operand.TheVariants.{Known, Exists}
-use Rattle.sf_core.specs.HeapStore.{Cell, Heap}
+use Rattle.sf_base.specs.HeapStore.{Cell, Heap}
 use Rattle.sf_core.specs.Instances.{place, tl, l, r, one_cell, two_cells}
 use Rattle.sf_core.specs.Syntax.{Conjuncts, none, also, points, segment}
 use Rattle.sf_sym.specs.declared.atom.Atom.TheVariants.{Points}

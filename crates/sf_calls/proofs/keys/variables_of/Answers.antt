@@ -1,5 +1,5 @@
 use Rattle.std.proofs.Common.{◌≡◌, ◌<◌, ◌^◌, ℕ, length, map, slice_get, Some, ap, sym, ◌∙◌, subst, rules, arith}
-use Rattle.sf_core.proofs.Lookup.{read_mapped}
+use Rattle.sf_base.proofs.Lookup.{read_mapped}
 use Rattle.sf_core.specs.Formed.{variable_count}
 use Rattle.sf_core.specs.View.{resource_of}
 use Rattle.sf_core.specs.ProgramView.{program_of}

@@ -1,4 +1,4 @@
-use Rattle.sf_core.proofs.HeapSplits.{one-there}
+use Rattle.sf_base.proofs.HeapSplits.{one-there}
 use Rattle.sf_core.proofs.laws.points_to_has_exactly_one_cell.Goals as goal
 
 pub returns : goal.returns

@@ -1,4 +1,4 @@
-use Rattle.sf_core.proofs.MapSplits.{splits-assoc_left, splits-assoc_right}
+use Rattle.sf_base.proofs.MapSplits.{splits-assoc_left, splits-assoc_right}
 use Rattle.sf_core.proofs.laws.union_of_heaps_is_associative.Goals as goal
 
 pub returns : goal.returns

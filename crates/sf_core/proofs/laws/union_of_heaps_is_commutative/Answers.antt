@@ -1,4 +1,4 @@
-use Rattle.sf_core.proofs.MapSplits.{splits-comm}
+use Rattle.sf_base.proofs.MapSplits.{splits-comm}
 use Rattle.sf_core.proofs.laws.union_of_heaps_is_commutative.Goals as goal
 
 pub returns : goal.returns

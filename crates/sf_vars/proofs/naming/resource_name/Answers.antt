@@ -1,6 +1,6 @@
 use Rattle.std.proofs.Common.{◌∙◌, refl, sym}
 use Rattle.std.proofs.lemmas.Result.{IfOk-weaker}
-use Rattle.sf_core.proofs.Lookup.{read_mapped}
+use Rattle.sf_base.proofs.Lookup.{read_mapped}
 use Rattle.sf_core.specs.View.{resource_of}
 use Rattle.sf_core.specs.ProgramView.{program_of}
 use Rattle.sf_vars.specs.Faults.{IsResourceName}

@@ -1,6 +1,6 @@
 use Rattle.std.proofs.Common.{length, Some, arith, sym, ◌∙◌, ap}
 use Rattle.std.proofs.lemmas.Slice.Eq.{bytes_eq-Decides}
-use Rattle.sf_core.proofs.Lookup.{none_more, none_past, read_at}
+use Rattle.sf_base.proofs.Lookup.{none_more, none_past, read_at}
 use Rattle.sf_core.proofs.program.Program.field.Goals as goal
 
 pub returns-then-eq-clause-first : goal.returns-then-eq-clause-first

@@ -1,7 +1,7 @@
 use Rattle.std.proofs.Common.{length, map, Some, arith, sym, ◌∙◌, ap}
 use Rattle.std.proofs.lemmas.List.{length-map}
 use Rattle.std.proofs.lemmas.Slice.Eq.{bytes_eq-Decides}
-use Rattle.sf_core.proofs.Lookup.{none_more, none_past, read_mapped}
+use Rattle.sf_base.proofs.Lookup.{none_more, none_past, read_mapped}
 use Rattle.sf_core.specs.declared.program.Proc.{Proc}
 use Rattle.sf_core.proofs.program.Program.find.Goals as goal
 

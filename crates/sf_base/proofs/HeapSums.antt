@@ -2,9 +2,9 @@
 -- Names: `sums-LAW` speaks of lists of parts, over anything that splits; `stars-LAW` of lists under ⋆.
 use Rattle.std.specs.Prelude.{◌≡◌, ℕ, zero, suc, List, [], ◌∷◌, ◌++◌}
 use Rattle.std.proofs.Common.{sym, refl, subst}
-use Rattle.sf_core.proofs.HeapSplits.{star-of, star-assoc_left, star-assoc_right, star-drop_left, star-empty_left, star-map, star-map_right, star-swap}
-use Rattle.sf_core.proofs.MapSplits.{empty_map, empty-holds, splits-comm, splits-assoc_right, splits-cancel_left, splits-empty_right, splits-of_empty_right}
-use Rattle.sf_core.specs.HeapStore.{Map, Heap, IsEmpty, Splits, ◌⋆◌}
+use Rattle.sf_base.proofs.HeapSplits.{star-of, star-assoc_left, star-assoc_right, star-drop_left, star-empty_left, star-map, star-map_right, star-swap}
+use Rattle.sf_base.proofs.MapSplits.{empty_map, empty-holds, splits-comm, splits-assoc_right, splits-cancel_left, splits-empty_right, splits-of_empty_right}
+use Rattle.sf_base.specs.HeapStore.{Map, Heap, IsEmpty, Splits, ◌⋆◌}
 
 -- the first two parts of three, put together, and the whole with them
 pub record Grouping {A : Type 0} (Parts : A → A → A → Type 0) (whole a b c : A) : Type 0 where

@@ -5,8 +5,8 @@ use Rattle.std.proofs.Common.{true≢false, sym, ap, ◌∙◌, refl, inl, inr, 
 use Rattle.std.proofs.lemmas.Bool.Decides.{nat_tests}
 use Rattle.sf_base.specs.declared.ids.ResId.{ResId}
 use Rattle.sf_base.specs.declared.value.Value.{Value}
-use Rattle.sf_core.proofs.MapSplits.{changed, splits-comm, splits-lacks_right, splits-put_left}
-use Rattle.sf_core.specs.HeapStore.{Slot, Splits, Store, own, same_slot, shared}
+use Rattle.sf_base.proofs.MapSplits.{changed, splits-comm, splits-lacks_right, splits-put_left}
+use Rattle.sf_base.specs.HeapStore.{Slot, Splits, Store, own, same_slot, shared}
 
 -- the test for one slot
 abbrev pub at_slot : Slot → Slot → Bool

@@ -3,9 +3,9 @@
 use Rattle.std.specs.Prelude.{◌≡◌, ◌≢◌, ℕ, Bool, true, false, cond, Option, Some, None, ◌⊎◌, ◌↔◌, ◌==◌}
 use Rattle.std.proofs.Common.{sym, ap, ◌∙◌, refl, subst, inl, inr, arith}
 use Rattle.std.proofs.lemmas.Bool.Decides.{nat_tests}
-use Rattle.sf_core.proofs.Cases.{none-not_some, some-same}
-use Rattle.sf_core.proofs.MapSplits.{empty_map, empty-holds, changed, only, map-same, splits-comm, splits-assoc_right, splits-assoc_left, splits-by_test, splits-changed_left, splits-put_left, splits-lacks_both, splits-cancel_left, splits-has_left, splits-lacks_right, splits-empty_left, splits-empty_right, splits-of_empty_left, splits-of_empty_right}
-use Rattle.sf_core.specs.HeapStore.{Cell, Heap, IsEmpty, IsOne, Splits, ◌⋆◌}
+use Rattle.sf_base.proofs.Cases.{none-not_some, some-same}
+use Rattle.sf_base.proofs.MapSplits.{empty_map, empty-holds, changed, only, map-same, splits-comm, splits-assoc_right, splits-assoc_left, splits-by_test, splits-changed_left, splits-put_left, splits-lacks_both, splits-cancel_left, splits-has_left, splits-lacks_right, splits-empty_left, splits-empty_right, splits-of_empty_left, splits-of_empty_right}
+use Rattle.sf_base.specs.HeapStore.{Cell, Heap, IsEmpty, IsOne, Splits, ◌⋆◌}
 
 -- the test for one location
 abbrev pub at_ : ℕ → ℕ → Bool

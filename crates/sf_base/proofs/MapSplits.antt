@@ -3,7 +3,7 @@
 use Rattle.std.specs.Prelude.{◌≡◌, Bool, true, false, cond, Option, Some, None, ◌⊎◌}
 use Rattle.std.specs.Option.{option_or}
 use Rattle.std.proofs.Common.{sym, ap, ap₂, ◌∙◌, refl, subst, inl, inr}
-use Rattle.sf_core.specs.HeapStore.{Map, Apart, Splits, IsEmpty}
+use Rattle.sf_base.specs.HeapStore.{Map, Apart, Splits, IsEmpty}
 
 -- Laws of what stands at one key
 module _ {X : Type 0} where
