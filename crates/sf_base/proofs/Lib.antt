@@ -5,3 +5,4 @@ pub mod HeapSums
 pub mod StoreSplits
 pub mod Cases
 pub mod Lookup
+pub mod Decisions

@@ -1,2 +1,3 @@
 pub mod TaskPath
 pub mod HeapStore
+pub mod Results
