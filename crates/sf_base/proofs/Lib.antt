@@ -6,3 +6,14 @@ pub mod StoreSplits
 pub mod Cases
 pub mod Lookup
 pub mod Decisions
+pub mod Bools
+pub mod Options
+pub mod Sums
+pub mod Equality
+pub mod Results
+pub mod Numbers
+pub mod Lists
+pub mod Prefixes
+pub mod Zips
+pub mod Elements
+pub mod Counts

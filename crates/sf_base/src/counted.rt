@@ -1,6 +1,7 @@
 //! Lists whose elements are counted in 32 bits.
 
-ghost use Rattle.std.specs.Prelude.{◌≡◌, ◌∷◌, ◌++◌, [], length, OnOk, OnErr, IfErr};
+ghost use Rattle.std.specs.Prelude.{◌≡◌, ◌∷◌, [], length, OnErr, IfErr};
+ghost use Rattle.sf_base.specs.Results.{Appends};
 
 use std::alloc::{AllocFailed, Global};
 use std::marker::Model;
@@ -48,7 +49,7 @@ impl<T> Counted<T> {
 
     /// Appends one. An `Err` is want of memory or of numbers, hands it back and changes nothing.
     pub fn push(&mut self, item: T) -> Result<(), AllocFailed<T>>
-        ensures ok { OnOk result (self.new ≡ self.old ++ item ∷ []) }
+        ensures ok { Appends result self.old self.new (item ∷ []) }
         ensures err { OnErr result (self.new ≡ self.old) }
         ensures value_returned { IfErr result (λ e. e.value ≡ item) }
     {
