@@ -1,6 +1,8 @@
 -- Truth values: what holds of the sides of `&&` and `||`, and of a choice by a test.
--- Names: `WORD-LAW`, where WORD is `and`, `or`, `or_three`, `not`, `cond`, `bool` or `decides`; `left` and `right` are the sides.
--- Std has `and_parts`, `and_from`, `or_cases`, `or_parts`, `or_from`, `or_left`, `or_right`, `not-true` in lemmas.Bool.
+-- Names: `WORD-LAW`, where WORD is `and`, `or`, `or_three`, `not`, `cond`, `bool` or `decides`; `left`
+-- and `right` are the sides.
+-- Std has `and_parts`, `and_from`, `or_cases`, `or_parts`, `or_from`, `or_left`, `or_right`, `not-true`
+-- in lemmas.Bool.
 use Rattle.std.specs.Prelude.{◌≡◌, ◌⊎◌, Bool, true, false, not, ◌&&◌, ◌||◌, cond}
 use Rattle.std.specs.Bool.{Decides}
 use Rattle.std.proofs.Common.{inl, inr, refl, sym}
@@ -95,13 +97,15 @@ or_three-third false true c e = refl
 or_three-third false false c e = e
 
 -- of a true disjunction of three one is true
-pub or_three-cases : {P : Type 0} (a b c : Bool) → a || b || c ≡ true → (a ≡ true → P) → (b ≡ true → P) → (c ≡ true → P) → P
+pub or_three-cases : {P : Type 0} (a b c : Bool) → a || b || c ≡ true → (a ≡ true → P) → (b ≡ true → P)
+    → (c ≡ true → P) → P
 or_three-cases true b c e f g h = f refl
 or_three-cases false true c e f g h = g refl
 or_three-cases false false c e f g h = h e
 
 -- two choices by one test agree where their first values do, and their second ones unless the test is true
-pub cond-agree : {X : Type 0} (b : Bool) (x y v w : X) → x ≡ y → (b ≡ true) ⊎ (v ≡ w) → cond b x v ≡ cond b y w
+pub cond-agree : {X : Type 0} (b : Bool) (x y v w : X) → x ≡ y → (b ≡ true) ⊎ (v ≡ w)
+    → cond b x v ≡ cond b y w
 cond-agree true x y v w e h = e
 cond-agree false x y v w e (inl t) = absurd (cc)
 cond-agree false x y v w e (inr h) = h

@@ -16,7 +16,8 @@ count-skip false n e = zero-add n
 -- no element counts where none passes
 pub count-none : {X : Type 0} (p : X → Bool) (xs : List X) → list_any p xs ≡ false → count_by p xs ≡ 0
 count-none p [] e = refl
-count-none {X} p (x ∷ xs) e = go (p x) refl e (λ f. count-none p xs f) (sum_by-cons (λ (y : X). cond (p y) 1 0) x xs)
+count-none {X} p (x ∷ xs) e =
+    go (p x) refl e (λ f. count-none p xs f) (sum_by-cons (λ (y : X). cond (p y) 1 0) x xs)
   where
     go : (b : Bool) → p x ≡ b → (b || list_any p xs) ≡ false → (list_any p xs ≡ false → count_by p xs ≡ 0) →
         count_by p (x ∷ xs) ≡ cond (p x) 1 0 + count_by p xs → count_by p (x ∷ xs) ≡ 0
@@ -24,11 +25,15 @@ count-none {X} p (x ∷ xs) e = go (p x) refl e (λ f. count-none p xs f) (sum_b
     go false f e more sum = sum ∙ count-skip (p x) (count_by p xs) f ∙ more e
 
 -- a number that would pass isn't among numbers of which none passes
-pub count-absent : (p : ℕ → Bool) (n : ℕ) → p n ≡ true → (xs : List ℕ) → list_any p xs ≡ false → count_by (λ m. m == n) xs ≡ 0
+pub count-absent : (p : ℕ → Bool) (n : ℕ) → p n ≡ true → (xs : List ℕ) → list_any p xs ≡ false
+    → count_by (λ m. m == n) xs ≡ 0
 count-absent p n k [] e = refl
-count-absent p n k (x ∷ xs) e = go (p x) refl e (λ f. count-absent p n k xs f) (sum_by-cons (λ (m : ℕ). cond (m == n) 1 0) x xs) (eqb_tells x n)
+count-absent p n k (x ∷ xs) e =
+    go (p x) refl e (λ f. count-absent p n k xs f) (sum_by-cons (λ (m : ℕ). cond (m == n) 1 0) x xs)
+    (eqb_tells x n)
   where
-    go : (b : Bool) → p x ≡ b → (b || list_any p xs) ≡ false → (list_any p xs ≡ false → count_by (λ m. m == n) xs ≡ 0) →
+    go : (b : Bool) → p x ≡ b → (b || list_any p xs) ≡ false
+        → (list_any p xs ≡ false → count_by (λ m. m == n) xs ≡ 0) →
         count_by (λ m. m == n) (x ∷ xs) ≡ cond (x == n) 1 0 + count_by (λ m. m == n) xs →
         (((x == n) ≡ true) × (x ≡ n)) ⊎ (((x == n) ≡ false) × (x ≢ n)) → count_by (λ m. m == n) (x ∷ xs) ≡ 0
     go true f e more sum same = absurd (let c : true ≡ false = e in cc)
@@ -49,7 +54,8 @@ count-below n (x ∷ xs) a =
     go (inr s) sum rest = sum ∙ count-skip (x == n) (count_by (λ k. k == n) xs) s.0 ∙ rest
 
 -- a number appended some times counts as often
-pub count-replicate : (xs : List ℕ) (c m n : ℕ) → count_by (λ k. k == n) (xs ++ replicate c m) ≡ count_by (λ k. k == n) xs + c * cond (m == n) 1 0
+pub count-replicate : (xs : List ℕ) (c m n : ℕ)
+    → count_by (λ k. k == n) (xs ++ replicate c m) ≡ count_by (λ k. k == n) xs + c * cond (m == n) 1 0
 count-replicate xs c m n =
     sum_by-append (λ (k : ℕ). cond (k == n) 1 0) xs (replicate c m)
     ∙ ap (λ (i : ℕ). count_by (λ k. k == n) xs + i) (sum_by-replicate (λ (k : ℕ). cond (k == n) 1 0) c m)

@@ -1,5 +1,6 @@
 -- Equality: steps between four things, and the test of two texts.
--- Names: `same-LAW` of equal things, `bytes_eq-LAW` of the test. Std has `ap₂` for a function of two arguments.
+-- Names: `same-LAW` of equal things, `bytes_eq-LAW` of the test. Std has `ap₂` for a function of two
+-- arguments.
 use Rattle.std.specs.Prelude.{◌≡◌, ◌≢◌, ℕ, true, false, List}
 use Rattle.std.specs.Str.{bytes_eq}
 use Rattle.std.proofs.Common.{refl, sym, ◌∙◌}

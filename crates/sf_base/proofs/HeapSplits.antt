@@ -44,31 +44,42 @@ at-which a b = go (at_ a b) refl
     go false e = inr (λ (s : b ≡ a). grind (arith, nat_tests))
 
 -- what is put is there
-pub put-here : (location : ℕ) (entry : Option Cell) (heap : Heap) → changed (at_ location) entry heap location ≡ entry
+pub put-here : (location : ℕ) (entry : Option Cell) (heap : Heap)
+    → changed (at_ location) entry heap location ≡ entry
 put-here a v h = ap (λ b. cond b v (h a)) (at-self a)
 
 -- what is elsewhere stays
-pub put-elsewhere : (location other : ℕ) (entry : Option Cell) (heap : Heap) → other ≢ location → changed (at_ location) entry heap other ≡ heap other
+pub put-elsewhere : (location other : ℕ) (entry : Option Cell) (heap : Heap) → other ≢ location
+    → changed (at_ location) entry heap other ≡ heap other
 put-elsewhere a b v h n = ap (λ t. cond t v (h b)) (at-other a b n)
 
 -- the heap with just that cell has just that cell
 pub one-single : (location : ℕ) (cell : Cell) → IsOne location cell (single location cell)
-one-single a c = record { here = put-here a (Some c) empty_map; elsewhere = λ b n. put-elsewhere a b (Some c) empty_map n }
+one-single a c =
+    record {
+      here = put-here a (Some c) empty_map;
+      elsewhere = λ b n. put-elsewhere a b (Some c) empty_map n;
+    }
 
 -- a heap with one cell is the one with just that cell
-pub one-is : {location : ℕ} {cell : Cell} {heap : Heap} → IsOne location cell heap → heap ≡ single location cell
+pub one-is : {location : ℕ} {cell : Cell} {heap : Heap} → IsOne location cell heap
+    → heap ≡ single location cell
 one-is {location} {cell} {heap} o = map-same heap (single location cell) (λ b. go b (at-which location b))
   where
     go : (b : ℕ) → (b ≡ location) ⊎ (b ≢ location) → heap b ≡ single location cell b
-    go b (inl e) = subst (λ z. heap z ≡ single location cell z) (sym e) (o.here ∙ sym (put-here location (Some cell) empty_map))
+    go b (inl e) =
+        subst (λ z. heap z ≡ single location cell z) (sym e)
+        (o.here ∙ sym (put-here location (Some cell) empty_map))
     go b (inr n) = o.elsewhere b n ∙ sym (put-elsewhere location b (Some cell) empty_map n)
 
 -- there is one heap with just that cell
-pub one-same : {location : ℕ} {cell : Cell} {one two : Heap} → IsOne location cell one → IsOne location cell two → one ≡ two
+pub one-same : {location : ℕ} {cell : Cell} {one two : Heap} → IsOne location cell one
+    → IsOne location cell two → one ≡ two
 one-same o p = one-is o ∙ sym (one-is p)
 
 -- a heap has one cell at one place
-pub one-same_place : {location other : ℕ} {cell also : Cell} {heap : Heap} → IsOne location cell heap → IsOne other also heap → (location ≡ other) × (cell ≡ also)
+pub one-same_place : {location other : ℕ} {cell also : Cell} {heap : Heap} → IsOne location cell heap
+    → IsOne other also heap → (location ≡ other) × (cell ≡ also)
 one-same_place {location} {other} {cell} {also} {heap} o p = go (at-which other location)
   where
     go : (location ≡ other) ⊎ (location ≢ other) → (location ≡ other) × (cell ≡ also)
@@ -80,56 +91,79 @@ pub one-not_empty : {location : ℕ} {cell : Cell} {heap : Heap} → IsOne locat
 one-not_empty {location} {cell} o e = none-not_some cell (sym (e.none location) ∙ o.here)
 
 -- a heap with one cell has something just at its location
-pub one-there : {location : ℕ} {cell : Cell} {heap : Heap} → IsOne location cell heap → (other : ℕ) → heap other ≢ None ↔ (other ≡ location)
-one-there {location} {cell} {heap} o other = (λ n. go n (at-which location other), λ e s. none-not_some cell (sym s ∙ ap heap e ∙ o.here))
+pub one-there : {location : ℕ} {cell : Cell} {heap : Heap} → IsOne location cell heap → (other : ℕ)
+    → heap other ≢ None ↔ (other ≡ location)
+one-there {location} {cell} {heap} o other =
+    (λ n. go n (at-which location other), λ e s. none-not_some cell (sym s ∙ ap heap e ∙ o.here))
   where
     go : heap other ≢ None → (other ≡ location) ⊎ (other ≢ location) → other ≡ location
     go n (inl e) = e
     go n (inr m) = absurd (n (o.elsewhere other m))
 
 -- one cell that a heap has splits off
-pub one-splits : (location : ℕ) (cell : Cell) (heap : Heap) → heap location ≡ Some cell → Splits heap (single location cell) (remove_cell location heap)
+pub one-splits : (location : ℕ) (cell : Cell) (heap : Heap) → heap location ≡ Some cell
+    → Splits heap (single location cell) (remove_cell location heap)
 one-splits a c h e = subst (λ z. Splits h z (remove_cell a h)) (go ∙ refl) (splits-by_test (at_ a) h)
   where
     at : (b : ℕ) → (b ≡ a) ⊎ (b ≢ a) → only (at_ a) h b ≡ single a c b
-    at b (inl s) = subst (λ z. only (at_ a) h z ≡ single a c z) (sym s) (ap (λ t. cond t (h a) None) (at-self a) ∙ e ∙ sym (put-here a (Some c) empty_map))
+    at b (inl s) =
+        subst (λ z. only (at_ a) h z ≡ single a c z) (sym s) (ap (λ t. cond t (h a) None) (at-self a) ∙ e
+        ∙ sym (put-here a (Some c) empty_map))
     at b (inr n) = ap (λ t. cond t (h b) None) (at-other a b n) ∙ sym (put-elsewhere a b (Some c) empty_map n)
 
     go : only (at_ a) h ≡ single a c
     go = map-same (only (at_ a) h) (single a c) (λ b. at b (at-which a b))
 
 -- what splits off beside one cell is the heap without it
-pub one-rest : {heap one rest : Heap} {location : ℕ} {cell : Cell} → IsOne location cell one → Splits heap one rest → rest ≡ remove_cell location heap
+pub one-rest : {heap one rest : Heap} {location : ℕ} {cell : Cell} → IsOne location cell one
+    → Splits heap one rest → rest ≡ remove_cell location heap
 one-rest {heap} {one} {rest} {location} {cell} o s =
     let at : heap location ≡ Some cell = splits-has_left location cell s o.here in
     splits-cancel_left (subst (λ z. Splits heap z rest) (one-is o) s) (one-splits location cell heap at)
 
 -- a cell that is put where nothing is joins what is there
-pub one-put : (location : ℕ) (cell : Cell) (heap : Heap) → heap location ≡ None → Splits (put_cell location cell heap) (single location cell) heap
-one-put a c h e = splits-changed_left (at_ a) (Some c) (λ b t. subst (λ z. h z ≡ None) (sym (at-same a b t)) e) (splits-empty_left (record { none = λ b. refl }))
+pub one-put : (location : ℕ) (cell : Cell) (heap : Heap) → heap location ≡ None
+    → Splits (put_cell location cell heap) (single location cell) heap
+one-put a c h e =
+    splits-changed_left (at_ a) (Some c) (λ b t. subst (λ z. h z ≡ None) (sym (at-same a b t)) e)
+    (splits-empty_left (record { none = λ b. refl }))
 
 -- a cell of the left part that is changed or removed is changed or removed in the whole
-pub cell-change_left : {whole left right : Heap} (location : ℕ) (old : Cell) (entry : Option Cell) → Splits whole left right → left location ≡ Some old → Splits (changed (at_ location) entry whole) (changed (at_ location) entry left) right
+pub cell-change_left : {whole left right : Heap} (location : ℕ) (old : Cell) (entry : Option Cell)
+    → Splits whole left right → left location ≡ Some old
+    → Splits (changed (at_ location) entry whole) (changed (at_ location) entry left) right
 cell-change_left a old v s e = splits-put_left (at_ a) a v (at-same a) (splits-lacks_right a old s e) s
 
 -- a cell of the right part that is changed or removed is changed or removed in the whole
-pub cell-change_right : {whole left right : Heap} (location : ℕ) (old : Cell) (entry : Option Cell) → Splits whole left right → right location ≡ Some old → Splits (changed (at_ location) entry whole) left (changed (at_ location) entry right)
+pub cell-change_right : {whole left right : Heap} (location : ℕ) (old : Cell) (entry : Option Cell)
+    → Splits whole left right → right location ≡ Some old
+    → Splits (changed (at_ location) entry whole) left (changed (at_ location) entry right)
 cell-change_right a old v s e = splits-comm (cell-change_left a old v (splits-comm s) e)
 
 -- a cell that is put where the whole has nothing may be put in the left part
-pub cell-new_left : {whole left right : Heap} (location : ℕ) (entry : Option Cell) → Splits whole left right → whole location ≡ None → Splits (changed (at_ location) entry whole) (changed (at_ location) entry left) right
+pub cell-new_left : {whole left right : Heap} (location : ℕ) (entry : Option Cell) → Splits whole left right
+    → whole location ≡ None
+    → Splits (changed (at_ location) entry whole) (changed (at_ location) entry left) right
 cell-new_left a v s e = splits-put_left (at_ a) a v (at-same a) (splits-lacks_both a s e).1 s
 
 -- a cell that is put where the whole has nothing may be put in the right part
-pub cell-new_right : {whole left right : Heap} (location : ℕ) (entry : Option Cell) → Splits whole left right → whole location ≡ None → Splits (changed (at_ location) entry whole) left (changed (at_ location) entry right)
+pub cell-new_right : {whole left right : Heap} (location : ℕ) (entry : Option Cell)
+    → Splits whole left right → whole location ≡ None
+    → Splits (changed (at_ location) entry whole) left (changed (at_ location) entry right)
 cell-new_right a v s e = splits-comm (cell-new_left a v (splits-comm s) e)
 
 -- a cell that is put in place of another is the only one
-pub one-put_cell : {location : ℕ} {old : Cell} {heap : Heap} (new : Cell) → IsOne location old heap → IsOne location new (put_cell location new heap)
-one-put_cell {location} {heap = heap} new o = record { here = put-here location (Some new) heap; elsewhere = λ b n. put-elsewhere location b (Some new) heap n ∙ o.elsewhere b n }
+pub one-put_cell : {location : ℕ} {old : Cell} {heap : Heap} (new : Cell) → IsOne location old heap
+    → IsOne location new (put_cell location new heap)
+one-put_cell {location} {heap = heap} new o =
+    record {
+      here = put-here location (Some new) heap;
+      elsewhere = λ b n. put-elsewhere location b (Some new) heap n ∙ o.elsewhere b n;
+    }
 
 -- without its only cell a heap is empty
-pub one-remove_cell : {location : ℕ} {cell : Cell} {heap : Heap} → IsOne location cell heap → IsEmpty (remove_cell location heap)
+pub one-remove_cell : {location : ℕ} {cell : Cell} {heap : Heap} → IsOne location cell heap
+    → IsEmpty (remove_cell location heap)
 one-remove_cell {location} {heap = heap} o = record { none = λ b. go b (at-which location b) }
   where
     go : (b : ℕ) → (b ≡ location) ⊎ (b ≢ location) → remove_cell location heap b ≡ None
@@ -137,7 +171,8 @@ one-remove_cell {location} {heap = heap} o = record { none = λ b. go b (at-whic
     go b (inr n) = put-elsewhere location b None heap n ∙ o.elsewhere b n
 
 -- one cell in a part of a heap is in the heap
-pub one-in : {heap one rest : Heap} {location : ℕ} {cell : Cell} → IsOne location cell one → Splits heap one rest → heap location ≡ Some cell
+pub one-in : {heap one rest : Heap} {location : ℕ} {cell : Cell} → IsOne location cell one
+    → Splits heap one rest → heap location ≡ Some cell
 one-in {location = location} {cell} o s = splits-has_left location cell s o.here
 
 module _ {P Q : Heap → Type 0} where
@@ -147,16 +182,37 @@ module _ {P Q : Heap → Type 0} where
 
   -- ⋆ is commutative
   pub star-comm : {heap : Heap} → (P ⋆ Q) heap → (Q ⋆ P) heap
-  star-comm d = record { left = d.right; right = d.left; splits = splits-comm d.splits; first = d.second; second = d.first }
+  star-comm d =
+      record {
+        left = d.right;
+        right = d.left;
+        splits = splits-comm d.splits;
+        first = d.second;
+        second = d.first;
+      }
 
 module _ {P : Heap → Type 0} where
   -- nothing more is there on the right
   pub star-empty_right : {heap : Heap} → P heap → (P ⋆ IsEmpty) heap
-  star-empty_right p = record { left = _; right = empty_map; splits = splits-empty_right empty-holds; first = p; second = empty-holds }
+  star-empty_right p =
+      record {
+        left = _;
+        right = empty_map;
+        splits = splits-empty_right empty-holds;
+        first = p;
+        second = empty-holds;
+      }
 
   -- nothing more is there on the left
   pub star-empty_left : {heap : Heap} → P heap → (IsEmpty ⋆ P) heap
-  star-empty_left p = record { left = empty_map; right = _; splits = splits-empty_left empty-holds; first = empty-holds; second = p }
+  star-empty_left p =
+      record {
+        left = empty_map;
+        right = _;
+        splits = splits-empty_left empty-holds;
+        first = empty-holds;
+        second = p;
+      }
 
   -- what is empty on the right is dropped
   pub star-drop_right : {heap : Heap} → (P ⋆ IsEmpty) heap → P heap
@@ -179,11 +235,11 @@ module _ {P Q R : Heap → Type 0} where
       let s = splits-assoc_left d.second.splits d.splits in
       star-of s.1 (star-of s.0 d.first d.second.first) d.second.second
 
-  -- what stands on the left becomes something else
+  -- what holds of the left part becomes something else
   pub star-map_left : {heap : Heap} → ((part : Heap) → P part → Q part) → (P ⋆ R) heap → (Q ⋆ R) heap
   star-map_left f d = star-of d.splits (f d.left d.first) d.second
 
-  -- what stands on the right becomes something else
+  -- what holds of the right part becomes something else
   pub star-map_right : {heap : Heap} → ((part : Heap) → P part → Q part) → (R ⋆ P) heap → (R ⋆ Q) heap
   star-map_right f d = star-of d.splits d.first (f d.right d.second)
 
@@ -192,5 +248,6 @@ pub star-swap : {P Q R : Heap → Type 0} {heap : Heap} → (P ⋆ (Q ⋆ R)) he
 star-swap d = star-assoc_right (star-map_left (λ part e. star-comm e) (star-assoc_left d))
 
 -- both sides become something else
-pub star-map : {P Q R S : Heap → Type 0} {heap : Heap} → ((part : Heap) → P part → R part) → ((part : Heap) → Q part → S part) → (P ⋆ Q) heap → (R ⋆ S) heap
+pub star-map : {P Q R S : Heap → Type 0} {heap : Heap} → ((part : Heap) → P part → R part)
+    → ((part : Heap) → Q part → S part) → (P ⋆ Q) heap → (R ⋆ S) heap
 star-map f g d = star-of d.splits (f d.left d.first) (g d.right d.second)

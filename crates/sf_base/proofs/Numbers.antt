@@ -1,6 +1,8 @@
 -- Numbers: the larger of two, and what tests and comparisons of numbers say.
--- Names: `WORD-LAW`, where WORD is `max`, `one`, `eqb`, `at` (a number that is searched for in an order) or `gt`.
--- Std has `max-le` in Math.Nat, `eqb-true`, `ne_eqb`, `ltb-true`, `le-leb`, `cases_lt`, `cases_eq` in lemmas.Bool.
+-- Names: `WORD-LAW`, where WORD is `max`, `one`, `eqb`, `at` (a number that is searched for in an order)
+-- or `gt`.
+-- Std has `max-le` in Math.Nat, `eqb-true`, `ne_eqb`, `ltb-true`, `le-leb`, `cases_lt`, `cases_eq` in
+-- lemmas.Bool.
 use Rattle.std.specs.Prelude.{◌≡◌, ◌≢◌, ℕ, ◌<◌, ◌≤◌, ◌==◌, true, false}
 use Rattle.std.specs.BTreeMap.{is_at}
 use Rattle.std.specs.Ordering.{nat_cmp, is_gt}

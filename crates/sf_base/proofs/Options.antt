@@ -51,7 +51,8 @@ pub unwrap-some : {X : Type 0} (o : Option X) (x d : X) → o ≡ Some x → unw
 unwrap-some o x d h = ap (λ p. unwrap_or p d) h
 
 -- what a function made of an option, it made of what is there
-pub option_map-some : {X Y : Type 0} (f : X → Y) (o : Option X) (y : Y) → option_map f o ≡ Some y → (x : X) × (o ≡ Some x) × (y ≡ f x)
+pub option_map-some : {X Y : Type 0} (f : X → Y) (o : Option X) (y : Y) → option_map f o ≡ Some y
+    → (x : X) × (o ≡ Some x) × (y ≡ f x)
 option_map-some f None y e = absurd cc
 option_map-some f (Some x) y e = (x, refl, cc)
 
@@ -61,6 +62,7 @@ option_map-none f None e = refl
 option_map-none f (Some x) e = absurd cc
 
 -- the first that is there of three options, either way
-pub option_or-assoc : {X : Type 0} (o q r : Option X) → option_or (option_or o q) r ≡ option_or o (option_or q r)
+pub option_or-assoc : {X : Type 0} (o q r : Option X)
+    → option_or (option_or o q) r ≡ option_or o (option_or q r)
 option_or-assoc None q r = refl
 option_or-assoc (Some x) q r = refl

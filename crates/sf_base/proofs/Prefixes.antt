@@ -6,7 +6,8 @@ use Rattle.std.proofs.Common.{refl, subst}
 use Rattle.std.proofs.Math.Numerals.{one-add}
 
 -- an element that passes is one more
-pub prefix-more : {X : Type 0} (p : X → Bool) (x : X) (xs : List X) → p x ≡ true → prefix_len p (x ∷ xs) ≡ suc (prefix_len p xs)
+pub prefix-more : {X : Type 0} (p : X → Bool) (x : X) (xs : List X) → p x ≡ true
+    → prefix_len p (x ∷ xs) ≡ suc (prefix_len p xs)
 prefix-more p x xs e = rw e (one-add (prefix_len p xs))
 
 -- before an element that fails nothing passes
@@ -18,17 +19,21 @@ pub prefix-passes : {X : Type 0} (p : X → Bool) (xs : List X) → list_all p (
 prefix-passes p [] = refl
 prefix-passes p (x ∷ xs) = go (p x) refl (prefix-passes p xs)
   where
-    go : (t : Bool) → p x ≡ t → list_all p (take (prefix_len p xs) xs) ≡ true → list_all p (take (prefix_len p (x ∷ xs)) (x ∷ xs)) ≡ true
+    go : (t : Bool) → p x ≡ t → list_all p (take (prefix_len p xs) xs) ≡ true
+        → list_all p (take (prefix_len p (x ∷ xs)) (x ∷ xs)) ≡ true
     go true e h = rw (prefix-more p x xs e, e) h
     go false e h = rw (prefix-none p x xs e) refl
 
 -- no longer one does
 pub prefix-longest : {X : Type 0} (p : X → Bool) (xs : List X) (y : X) (more after : List X) →
-    drop (prefix_len p xs) xs ≡ y ∷ (more ++ after) → list_all p (take (prefix_len p xs) xs ++ y ∷ more) ≡ false
+    drop (prefix_len p xs) xs ≡ y ∷ (more ++ after) → list_all p (take (prefix_len p xs) xs ++ y ∷ more)
+    ≡ false
 prefix-longest p [] y more after h = absurd cc
 prefix-longest p (x ∷ xs) y more after h = go (p x) refl (prefix-longest p xs y more after)
   where
-    go : (t : Bool) → p x ≡ t → (drop (prefix_len p xs) xs ≡ y ∷ (more ++ after) → list_all p (take (prefix_len p xs) xs ++ y ∷ more) ≡ false) →
+    go : (t : Bool) → p x ≡ t
+        → (drop (prefix_len p xs) xs ≡ y ∷ (more ++ after)
+        → list_all p (take (prefix_len p xs) xs ++ y ∷ more) ≡ false) →
         list_all p (take (prefix_len p (x ∷ xs)) (x ∷ xs) ++ y ∷ more) ≡ false
     go true e f =
         let k : drop (prefix_len p xs) xs ≡ y ∷ (more ++ after) = rw (prefix-more p x xs e) at h in

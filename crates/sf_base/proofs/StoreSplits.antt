@@ -1,5 +1,6 @@
 -- Stores: which slot is which, and a change of one slot on one side of a split.
--- Names: `slot-LAW` speaks of slots and of the store's entries at them, `resource-LAW` of the numbers of resources.
+-- Names: `slot-LAW` speaks of slots and of the store's entries at them, `resource-LAW` of the numbers of
+-- resources.
 use Rattle.std.specs.Prelude.{◌≡◌, ◌≢◌, ◌⊎◌, Bool, true, false, cond, Option, Some, ◌==◌}
 use Rattle.std.proofs.Common.{true≢false, sym, ap, ◌∙◌, refl, inl, inr, arith}
 use Rattle.std.proofs.lemmas.Bool.Decides.{nat_tests}
@@ -41,19 +42,25 @@ slot-other a b n = go (slot-which a b)
     go (inr e) = e.1
 
 -- what is put in a slot is there
-pub slot-here : (slot : Slot) (entry : Option Value) (store : Store) → changed (at_slot slot) entry store slot ≡ entry
+pub slot-here : (slot : Slot) (entry : Option Value) (store : Store)
+    → changed (at_slot slot) entry store slot ≡ entry
 slot-here a v s = ap (λ b. cond b v (s a)) (slot-self a)
 
 -- what is in the other slots stays
-pub slot-elsewhere : (slot other : Slot) (entry : Option Value) (store : Store) → other ≢ slot → changed (at_slot slot) entry store other ≡ store other
+pub slot-elsewhere : (slot other : Slot) (entry : Option Value) (store : Store) → other ≢ slot
+    → changed (at_slot slot) entry store other ≡ store other
 slot-elsewhere a b v s n = ap (λ t. cond t v (s b)) (slot-other a b n)
 
 -- a slot of the left part that is changed or removed is changed or removed in the whole
-pub slot-change_left : {whole left right : Store} (slot : Slot) (old : Value) (entry : Option Value) → Splits whole left right → left slot ≡ Some old → Splits (changed (at_slot slot) entry whole) (changed (at_slot slot) entry left) right
+pub slot-change_left : {whole left right : Store} (slot : Slot) (old : Value) (entry : Option Value)
+    → Splits whole left right → left slot ≡ Some old
+    → Splits (changed (at_slot slot) entry whole) (changed (at_slot slot) entry left) right
 slot-change_left a old v s e = splits-put_left (at_slot a) a v (slot-same a) (splits-lacks_right a old s e) s
 
 -- a slot of the right part that is changed or removed is changed or removed in the whole
-pub slot-change_right : {whole left right : Store} (slot : Slot) (old : Value) (entry : Option Value) → Splits whole left right → right slot ≡ Some old → Splits (changed (at_slot slot) entry whole) left (changed (at_slot slot) entry right)
+pub slot-change_right : {whole left right : Store} (slot : Slot) (old : Value) (entry : Option Value)
+    → Splits whole left right → right slot ≡ Some old
+    → Splits (changed (at_slot slot) entry whole) left (changed (at_slot slot) entry right)
 slot-change_right a old v s e = splits-comm (slot-change_left a old v (splits-comm s) e)
 
 -- resources of one number are one

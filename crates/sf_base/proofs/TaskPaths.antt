@@ -1,4 +1,5 @@
 -- What keeps a path padded as it grows.
+-- Names: `drop-LAW`, of what is dropped from the array of turns.
 use Rattle.std.proofs.Common.{◌≡◌, ◌<◌, ◌+◌, ◌-◌, ℕ, List, drop, replicate, arith}
 use Rattle.std.proofs.Math.ListN.{set}
 use Rattle.std.proofs.lemmas.List.{drop-set-lt, drop-drop, drop-replicate}
@@ -12,4 +13,11 @@ pub drop-set-replicate : (ts : List Turn) (n : ℕ) (turn : Turn) →
 drop-set-replicate ts n turn rest =
     let below : n < n + 1 = omega arith in
     let left : TURNS - n - 1 ≡ TURNS - (n + 1) = omega arith in
-    rw (drop-set-lt (n + 1) ts n turn below, ← drop-drop 1 n ts, rest, drop-replicate 1 (TURNS - n) Left, left)
+    rw (
+      drop-set-lt (n + 1) ts n turn below,
+      ← drop-drop 1 n ts,
+      rest,
+      drop-replicate 1
+          (TURNS - n) Left,
+      left,
+    )

@@ -13,7 +13,8 @@ pub zip-read : {A B : Type 0} (R : A → B → Type 0) (xs : List A) (ys : List 
 zip-read R [] ys i x y a h e f = absurd (let none : i < 0 = h in omega arith)
 zip-read R (z ∷ zs) [] i x y a h e f = absurd a
 zip-read R (z ∷ zs) (w ∷ ws) zero x y a h e f = subst₂ R (sym e) (sym f) a.0
-zip-read R (z ∷ zs) (w ∷ ws) (suc i) x y a h e f = zip-read R zs ws i x y a.1 (let below : suc i < suc (length zs) = h in omega arith) e f
+zip-read R (z ∷ zs) (w ∷ ws) (suc i) x y a h e f =
+    zip-read R zs ws i x y a.1 (let below : suc i < suc (length zs) = h in omega arith) e f
 
 -- the two elements that are at one place
 pub zip-at : {A B : Type 0} (R : A → B → Type 0) (xs : List A) (ys : List B) (i : ℕ) (x : A) (y : B) →
@@ -33,7 +34,9 @@ zip-right R (a ∷ xs) (b ∷ ys) z (suc k) y at = zip-right R xs ys z.1 k y at
 
 -- one more element of a list, and one that is related to it
 pub zip-more : {A B : Type 0} (R : A → B → Type 0) (xs : List A) (ys : List B) (i : ℕ) (x : A) (y : B) →
-    i < length xs → x ≡ slice_index_or xs i x → AllZip R (take i xs) ys → R x y → AllZip R (take (i + 1) xs) (ys ++ y ∷ [])
+    i < length xs → x ≡ slice_index_or xs i x → AllZip R (take i xs) ys → R x y
+    → AllZip R (take (i + 1) xs) (ys ++ y ∷ [])
 zip-more {A} R xs ys i x y h e a r =
-    subst (λ (zs : List A). AllZip R zs (ys ++ y ∷ [])) (sym (take_more xs i x h ∙ ap (λ (z : A). take i xs ++ z ∷ []) (sym e)))
+    subst (λ (zs : List A). AllZip R zs (ys ++ y ∷ []))
+    (sym (take_more xs i x h ∙ ap (λ (z : A). take i xs ++ z ∷ []) (sym e)))
     (all_zipped_more R (take i xs) ys x y a r)

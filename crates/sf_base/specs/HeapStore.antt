@@ -1,11 +1,11 @@
--- Heaps and stores: partial maps from locations to cells, and from slots to values, and how they split in two.
--- Reynolds, "Separation Logic" (2002); O'Hearn, Reynolds, Yang, "Local Reasoning about Programs that Alter Data Structures" (2001).
+-- Heaps and stores, as partial maps; how a map splits in two; the separating conjunction.
+-- Reynolds, "Separation Logic", 2002; O'Hearn, Reynolds, Yang, "Local Reasoning about Programs", 2001.
 use Rattle.std.specs.Prelude.{◌≡◌, ◌≢◌, ℕ, Bool, cond, Option, Some, None, ◌==◌, ◌&&◌, false}
 use Rattle.std.specs.Option.{option_or}
 use Rattle.sf_base.specs.declared.ids.ResId.{ResId}
 use Rattle.sf_base.specs.declared.value.Value.{Value}
 
--- a partial map: what stands at each key, if anything does
+-- a partial map: what is at each key, if anything is
 abbrev pub Map : Type 0 → Type 0 → Type 0
 Map K X = K → Option X
 
@@ -15,16 +15,18 @@ Apart None y = Unit {0}
 Apart (Some x) None = Unit {0}
 Apart (Some x) (Some y) = ⊥
 
--- the whole is the disjoint union of the two parts: no key is in both, and each key is there as in the one that has it
+-- the whole is the disjoint union of the two parts: no key is in both, and each key is there as in the
+-- one that has it
 pub record Splits {K X : Type 0} (whole left right : Map K X) : Type 0 where
   pub apart : (key : K) → Apart (left key) (right key)
   pub is : (key : K) → whole key ≡ option_or (left key) (right key)
 
--- nothing stands anywhere
+-- nothing is at any key
 pub record IsEmpty {K X : Type 0} (map : Map K X) : Type 0 where
   pub none : (key : K) → map key ≡ None
 
--- a cell: a value for each field, by the field's number; at a number that the file has no field of, nothing looks
+-- a cell: a value for each field, by the field's number; at a number that the file has no field of,
+-- nothing looks
 abbrev pub Cell : Type 0
 Cell = ℕ → Value
 
@@ -32,7 +34,8 @@ Cell = ℕ → Value
 abbrev pub put_field : Cell → ℕ → Value → Cell
 put_field cell field value = λ other. cond (other == field) value (cell other)
 
--- a heap: the cells by their locations. A `new` never gives 0; what is said of all heaps is said of those without 0 too
+-- a heap: the cells by their locations. A `new` never gives 0; what is said of all heaps is said of
+-- those without 0 too
 abbrev pub Heap : Type 0
 Heap = Map ℕ Cell
 

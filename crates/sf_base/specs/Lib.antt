@@ -1,3 +1,3 @@
-pub mod TaskPath
 pub mod HeapStore
+pub mod Internal
 pub mod Results

@@ -26,7 +26,7 @@ pub enum Var {
 /// index among the variables that this event made.
 #[derive(Clone, Copy, Debug, PartialEq, Eq, PartialOrd, Ord, Hash)]
 pub struct Slot {
-    /// The number of the call or fork. 0 stands for the start.
+    /// The number of the call or fork. 0 is the start.
     pub event: u64,
     /// The place among the variables made by that event, from 0.
     pub index: u32,

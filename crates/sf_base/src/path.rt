@@ -1,4 +1,4 @@
-//! Where a task stands in the tree of tasks.
+//! Where a task is in the tree of tasks.
 
 ghost use Rattle.std.specs.Prelude.{◌≡◌, ◌<◌, ◌≤◌, [], ◌∷◌, ◌++◌, length};
 
@@ -14,7 +14,7 @@ pub enum Turn {
     Right,
 }
 
-/// Where a task stands in the tree of tasks: the turns on the way from the entry's task to it, at
+/// Where a task is in the tree of tasks: the turns on the way from the entry's task to it, at
 /// most `TURNS` of them. Contracts see the list of the turns.
 #[derive(Clone, Copy, Debug, PartialEq, Eq)]
 pub struct TaskPath {
@@ -28,7 +28,7 @@ impl Model for TaskPath {
 
     ghost Value = { List Turn };
 
-    ghost use Rattle.sf_base.specs.TaskPath.{turns_of, path_of, IsPadded, path_of-turns_of};
+    ghost use Rattle.sf_base.specs.Internal.TaskPath.{turns_of, path_of, IsPadded, path_of-turns_of};
 
     ghost view = { turns_of };
 

@@ -58,7 +58,7 @@ impl<T> Sequence<T> {
         self.items.len()
     }
 
-    /// Appends one. An `Err` is want of memory, hands it back and changes nothing.
+    /// Appends one. An `Err` says that memory ran out, hands it back and changes nothing.
     pub fn push(&mut self, item: T) -> Result<(), AllocFailed<T>>
         ensures ok { Appends result self.old self.new (item ∷ []) }
         ensures err { OnErr result (self.new ≡ self.old) }

@@ -1,4 +1,4 @@
-//! Each call that asks for memory succeeds where there is ample memory.
+//! Each call that allocates succeeds where there is ample memory.
 
 use crate::{Counted, Name, Sequence};
 use std::test::Fail;

@@ -5,7 +5,8 @@ use Rattle.sf_base.proofs.path.TaskPath.child.Goals as goal
 
 pub invariant_of-result : goal.invariant_of-result
 invariant_of-result c =
-    let kept : c.self.inside.len ≤ length c.self.inside.turns = rw c.self.invariant.full c.self.invariant.fits in
+    let kept : c.self.inside.len ≤ length c.self.inside.turns = rw c.self.invariant.full
+    c.self.invariant.fits in
     let len : length c.args.self ≡ c.self.inside.len = rw (← c.self.view_is) (length-take-le _ _ kept) in
     record {
       fits = omega arith;

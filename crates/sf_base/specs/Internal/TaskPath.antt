@@ -1,5 +1,6 @@
--- A task's path: the turns from the entry's task to it, where a turn is one side of a parallel call.
--- Tasks as the nodes of the binary tree that forks span: O'Hearn, Resources, concurrency and local reasoning, 2007.
+-- How a task's path keeps its turns: in an array of fixed length, with a count.
+-- The turns lead from the entry's task down the binary tree of tasks (O'Hearn, "Resources, Concurrency and Local
+-- Reasoning", 2007).
 use Rattle.std.specs.Prelude.{◌≡◌, ◌≤◌, ◌-◌, List, length, take, drop, replicate, ◌++◌}
 use Rattle.std.proofs.lemmas.List.{length-take-le, take-append-drop}
 use Rattle.sf_base.specs.declared.limits.TheConstants.{TURNS}
@@ -11,7 +12,7 @@ use Rattle.sf_base.specs.declared.path.TaskPath.TheInside.{Inside}
 abbrev pub turns_of : Inside → List Turn
 turns_of p = take p.len p.turns
 
--- at most TURNS turns are kept, and each place behind them is `Left`
+-- at most TURNS turns are kept, and each place after them is `Left`
 pub record IsPadded (p : Inside) : Type 0 where
   pub fits : p.len ≤ TURNS
   pub full : length p.turns ≡ TURNS
@@ -26,5 +27,6 @@ pub path_of-turns_of : (p : Inside) → IsPadded p → path_of (turns_of p) ≡ 
 path_of-turns_of p k =
     let fits : p.len ≤ length p.turns = rw k.full k.fits in
     let len : length (take p.len p.turns) ≡ p.len = length-take-le p.len p.turns fits in
-    let whole : take p.len p.turns ++ replicate (TURNS - p.len) Left ≡ p.turns = rw (← k.rest) (take-append-drop p.len p.turns) in
+    let whole : take p.len p.turns ++ replicate (TURNS - p.len) Left
+    ≡ p.turns = rw (← k.rest) (take-append-drop p.len p.turns) in
     rw (len, whole)
