@@ -10,7 +10,7 @@ use Rattle.sf_base.specs.declared.ids.Var.TheVariants.{Own, Shared}
 use Rattle.sf_core.specs.declared.command.Expr.{Expr}
 use Rattle.sf_core.specs.declared.command.Expr.TheVariants.{Var as Variable, Nil, Int}
 use Rattle.sf_core.specs.declared.command.Occurrence.{Occurrence}
-use Rattle.sf_core.specs.Syntax.{Command, assign, look_up, mutate, new, dispose, if, while, call, fork, with, Block, done, then}
+use Rattle.sf_core.specs.Program.Syntax.{Command, assign, look_up, mutate, new, dispose, if, while, call, fork, with, Block, done, then}
 use Rattle.sf_calls.specs.Outside.{IsOther, OccursInExpr, IsAmong, OccursInValues, CallsIn, CallsInCommand}
 use Rattle.sf_calls.specs.Tests.{same_var, is_other, in_expr, in_references, in_values, callees_in, callees_of}
 use Rattle.sf_calls.proofs.Searches.{one_of, only_one}

@@ -6,8 +6,8 @@ use Rattle.sf_base.specs.declared.ids.ProcId.{ProcId}
 use Rattle.sf_base.specs.declared.ids.ResId.{ResId}
 use Rattle.sf_base.specs.declared.ids.Var.{Var}
 use Rattle.sf_base.specs.declared.ids.Var.TheVariants.{Own, Shared}
-use Rattle.sf_core.specs.Formed.{variable_count, IsFormed}
-use Rattle.sf_core.specs.Syntax.{Program, Resource}
+use Rattle.sf_core.specs.Program.Formed.{variable_count, IsFormed}
+use Rattle.sf_core.specs.Program.Syntax.{Program, Resource}
 use Rattle.sf_calls.specs.Conditions.{Free}
 use Rattle.sf_calls.specs.FirstBreach.{resources_from, shared_from, variables_from}
 use Rattle.sf_calls.specs.Sets.{IsEarlier, IsEarlierResource}

@@ -5,9 +5,9 @@ use Rattle.sf_base.specs.declared.ids.ProcId.{ProcId}
 use Rattle.sf_base.specs.declared.ids.ResId.{ResId}
 use Rattle.sf_base.specs.declared.ids.Var.{Var}
 use Rattle.sf_base.specs.declared.ids.Var.TheVariants.{Own, Shared}
-use Rattle.sf_core.specs.Formed.{IsFormed, IsParameter, variable_count}
-use Rattle.sf_core.specs.HeldBy.{HeldBy}
-use Rattle.sf_core.specs.Syntax.{Program, Resource}
+use Rattle.sf_core.specs.Program.Formed.{IsFormed, IsParameter, variable_count}
+use Rattle.sf_core.specs.Machine.HeldBy.{HeldBy}
+use Rattle.sf_core.specs.Program.Syntax.{Program, Resource}
 use Rattle.sf_calls.specs.Conditions.{Calls, Mentions, Enters, Takes, FreeIn, Free}
 use Rattle.sf_calls.specs.Laws.{TakesIsLeast, FreeIsLeast}
 use Rattle.sf_calls.specs.Leads.{Leads, directly, through}
@@ -35,14 +35,14 @@ pub holds_within : (p : Program) → IsFormed p → (f : ProcId) (r : ResId) →
 holds_within p formed f r b =
     let w = formed.procedures f.0 b.procedure b.there in
     there p.resources r.0 b.variable (elim b.occurs [
-      | inl x ↦ level_within p.fields (IsParameter p b.procedure) [] (Shared r b.variable) b.procedure.pre.level w.pre.note.within x
-      | inr x ↦ level_within p.fields (IsParameter p b.procedure) [] (Shared r b.variable) b.procedure.post.level w.post.note.within x
+      | inl x ↦ level_within p.fields (IsParameter p b.procedure) [] (Shared r b.variable) b.procedure.pre.level w.pre.annotation.within x
+      | inr x ↦ level_within p.fields (IsParameter p b.procedure) [] (Shared r b.variable) b.procedure.post.level w.post.annotation.within x
     ])
 
 -- a mentioned variable is the resource's
 mentioned : (p : Program) → IsFormed p → (r : ResId) (i : ℕ) (g : ProcId) → Mentions p (Shared r i) g → i < variable_count (slice_get p.resources r.0)
-mentioned p formed r i g (h, at, inl x) = level_within p.fields (IsParameter p h) [] (Shared r i) h.pre.level (formed.procedures g.0 h at).pre.note.within x
-mentioned p formed r i g (h, at, inr (inl x)) = level_within p.fields (IsParameter p h) [] (Shared r i) h.post.level (formed.procedures g.0 h at).post.note.within x
+mentioned p formed r i g (h, at, inl x) = level_within p.fields (IsParameter p h) [] (Shared r i) h.pre.level (formed.procedures g.0 h at).pre.annotation.within x
+mentioned p formed r i g (h, at, inr (inl x)) = level_within p.fields (IsParameter p h) [] (Shared r i) h.post.level (formed.procedures g.0 h at).post.annotation.within x
 mentioned p formed r i g (h, at, inr (inr x)) = block_within p h (Shared r i) h.body (formed.procedures g.0 h at).body x
 
 -- what is free is there

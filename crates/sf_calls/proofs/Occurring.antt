@@ -9,8 +9,8 @@ use Rattle.sf_core.specs.declared.assertion.Test.TheVariants.{True, Equal, Diffe
 use Rattle.sf_core.specs.declared.command.Expr.{Expr}
 use Rattle.sf_core.specs.declared.command.Expr.TheVariants.{Var as Variable, Nil, Int}
 use Rattle.sf_core.specs.declared.command.Occurrence.{Occurrence}
-use Rattle.sf_core.specs.Occurs.{VarOccursIn, OccursIn as Has, OccursInAll as HasAny, OccursInOne as HasOne, OccursInTest as HasTest, OccursInFields as HasFields}
-use Rattle.sf_core.specs.Syntax.{Conjunct, holds, points, segment, tree, choose, Level, level, Conjuncts, none, also}
+use Rattle.sf_core.specs.Assertions.Occurs.{VarOccursIn, OccursIn as Has, OccursInAll as HasAny, OccursInOne as HasOne, OccursInTest as HasTest, OccursInFields as HasFields}
+use Rattle.sf_core.specs.Program.Syntax.{Conjunct, holds, points, segment, tree, choose, Level, level, Conjuncts, none, also}
 use Rattle.sf_calls.specs.Outside.{OccursInExpr}
 
 abbrev pub OccursInOperand : Var → Operand Expr → Type 0

@@ -13,10 +13,10 @@ use Rattle.sf_base.specs.declared.ids.ResId.{ResId}
 use Rattle.sf_base.specs.declared.ids.Var.{Var}
 use Rattle.sf_base.specs.declared.ids.Var.TheVariants.{Own, Shared}
 use Rattle.sf_core.specs.declared.program.Proc.{Proc}
-use Rattle.sf_core.specs.HeldBy.{HeldBy}
-use Rattle.sf_core.specs.Occurs.{VarOccursIn}
-use Rattle.sf_core.specs.Syntax.{Procedure, Program}
-use Rattle.sf_core.specs.View.{procedure_of}
+use Rattle.sf_core.specs.Machine.HeldBy.{HeldBy}
+use Rattle.sf_core.specs.Assertions.Occurs.{VarOccursIn}
+use Rattle.sf_core.specs.Program.Syntax.{Procedure, Program}
+use Rattle.sf_core.specs.Program.View.{procedure_of}
 use Rattle.sf_calls.specs.declared.text.Text.{Text}
 use Rattle.sf_calls.specs.Conditions.{Calls, Enters, Mentions, IsShared}
 use Rattle.sf_calls.specs.Leads.{Leads, directly, through}

@@ -7,9 +7,9 @@ use Rattle.sf_base.specs.declared.ids.ProcId.{ProcId}
 use Rattle.sf_base.specs.declared.ids.ResId.{ResId}
 use Rattle.sf_base.specs.declared.ids.Var.{Var}
 use Rattle.sf_base.specs.declared.ids.Var.TheVariants.{Own, Shared}
-use Rattle.sf_core.specs.HeldBy.{HeldBy}
-use Rattle.sf_core.specs.Occurs.{VarOccursIn}
-use Rattle.sf_core.specs.Syntax.{Procedure, Program}
+use Rattle.sf_core.specs.Machine.HeldBy.{HeldBy}
+use Rattle.sf_core.specs.Assertions.Occurs.{VarOccursIn}
+use Rattle.sf_core.specs.Program.Syntax.{Procedure, Program}
 use Rattle.sf_calls.specs.Conditions.{Calls, Free, Has, Takes}
 use Rattle.sf_calls.specs.Leads.{Leads}
 use Rattle.sf_calls.specs.Outside.{CallsIn, EntersIn, OccursOutside, owner}

@@ -7,7 +7,7 @@ use Rattle.std.proofs.lemmas.Bool.Decides.{Decides-ltb}
 use Rattle.sf_base.specs.declared.ids.ProcId.{ProcId}
 use Rattle.sf_base.specs.declared.ids.ResId.{ResId}
 use Rattle.sf_base.specs.declared.ids.Var.{Var}
-use Rattle.sf_core.specs.HeldBy.{HeldBy}
+use Rattle.sf_core.specs.Machine.HeldBy.{HeldBy}
 use Rattle.sf_calls.specs.Conditions.{Free, Takes}
 use Rattle.sf_calls.specs.Laws.{SetsAreHad}
 use Rattle.sf_calls.specs.Sets.{IsEarlier, IsEarlierResource, IsFamily, IsSetOf}

@@ -3,8 +3,8 @@ use Rattle.std.proofs.Common.{◌≡◌, ◌<◌, ◌+◌, ℕ, zero, suc, List,
 use Rattle.std.proofs.lemmas.Option.{none-some, same_Some}
 use Rattle.sf_base.specs.declared.ids.ProcId.{ProcId}
 use Rattle.sf_base.specs.declared.ids.ResId.{ResId}
-use Rattle.sf_core.specs.HeldBy.{HeldBy}
-use Rattle.sf_core.specs.Syntax.{Program}
+use Rattle.sf_core.specs.Machine.HeldBy.{HeldBy}
+use Rattle.sf_core.specs.Program.Syntax.{Program}
 use Rattle.sf_calls.specs.Conditions.{Free, Takes}
 use Rattle.sf_calls.specs.Laws.{SetsAreThere}
 use Rattle.sf_calls.specs.Sets.{IsEarlier, IsEarlierResource, IsFamily, IsResSet, IsVarSet}

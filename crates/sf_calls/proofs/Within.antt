@@ -15,9 +15,9 @@ use Rattle.sf_core.specs.declared.assertion.Test.TheVariants.{True, Equal, Diffe
 use Rattle.sf_core.specs.declared.command.Expr.{Expr}
 use Rattle.sf_core.specs.declared.command.Expr.TheVariants.{Var as Variable, Nil, Int}
 use Rattle.sf_core.specs.declared.command.Occurrence.{Occurrence}
-use Rattle.sf_core.specs.Formed.{IsInBody, IsSettable, ExprWithin, TestWithin, OperandWithin, FieldsWithin, LevelWithin, ConjunctsWithin, ConjunctWithin, HasCounts, CallWithin, CommandWithin, BlockWithin}
-use Rattle.sf_core.specs.Occurs.{VarOccursIn}
-use Rattle.sf_core.specs.Syntax.{Conjunct, holds, points, segment, tree, choose, Level, level, Conjuncts, none, also, Call, Command, assign, look_up, mutate, new, dispose, if, while, call, fork, with, Block, done, then, Procedure, Program}
+use Rattle.sf_core.specs.Program.Formed.{IsInBody, IsSettable, ExprWithin, TestWithin, OperandWithin, FieldsWithin, LevelWithin, ConjunctsWithin, ConjunctWithin, HasCounts, CallWithin, CommandWithin, BlockWithin}
+use Rattle.sf_core.specs.Assertions.Occurs.{VarOccursIn}
+use Rattle.sf_core.specs.Program.Syntax.{Conjunct, holds, points, segment, tree, choose, Level, level, Conjuncts, none, also, Call, Command, assign, look_up, mutate, new, dispose, if, while, call, fork, with, Block, done, then, Procedure, Program}
 use Rattle.sf_calls.specs.Outside.{OccursInExpr, OccursInTest, IsAmong, OccursInValues, OccursInCall, OccursOutside, OccursInCommand, CallsIn, CallsInCommand, EntersIn, EntersInCommand}
 use Rattle.sf_calls.proofs.Occurring.{OccursInOperand, OccursInCondition, OccursInFields, OccursIn, OccursInAny, OccursInOne, occurs_is}
 
@@ -166,7 +166,7 @@ mutual
   command_within p f x (if q t c d) w (inr (inl h)) = block_within p f x c w.1 h
   command_within p f x (if q t c d) w (inr (inr h)) = block_within p f x d w.2 h
   command_within p f x (while q t a c) w (inl h) = test_within (IsInBody p f) x t w.0 h
-  command_within p f x (while q t a c) w (inr (inl h)) = level_within p.fields (IsInBody p f) [] x a.level w.1.note.within h
+  command_within p f x (while q t a c) w (inr (inl h)) = level_within p.fields (IsInBody p f) [] x a.level w.1.annotation.within h
   command_within p f x (while q t a c) w (inr (inr h)) = block_within p f x c w.2 h
   command_within p f x (call q c) w h = call_within p f x c w h
   command_within p f x (fork q c d) w (inl h) = call_within p f x c w.0 h

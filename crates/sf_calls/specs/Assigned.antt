@@ -2,8 +2,8 @@
 -- The modified variables of Hoare logic, where a call changes the variables that its references name and those that are free in its procedure.
 use Rattle.std.specs.Prelude.{◌≡◌, ◌⊎◌}
 use Rattle.sf_base.specs.declared.ids.Var.{Var}
-use Rattle.sf_core.specs.Formed.{CommandWithin}
-use Rattle.sf_core.specs.Syntax.{Call, Command, assign, look_up, mutate, new, dispose, if, while, call, fork, with, Block, done, then, Procedure, Program}
+use Rattle.sf_core.specs.Program.Formed.{CommandWithin}
+use Rattle.sf_core.specs.Program.Syntax.{Call, Command, assign, look_up, mutate, new, dispose, if, while, call, fork, with, Block, done, then, Procedure, Program}
 use Rattle.sf_calls.specs.Conditions.{Free}
 use Rattle.sf_calls.specs.Outside.{IsAmong}
 

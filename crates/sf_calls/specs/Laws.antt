@@ -4,8 +4,8 @@ use Rattle.std.specs.Prelude.{◌≡◌, Bool, IsTrue, Option, Some, None}
 use Rattle.sf_base.specs.declared.ids.ProcId.{ProcId}
 use Rattle.sf_base.specs.declared.ids.ResId.{ResId}
 use Rattle.sf_base.specs.declared.ids.Var.{Var}
-use Rattle.sf_core.specs.Formed.{IsFormed}
-use Rattle.sf_core.specs.Syntax.{Program}
+use Rattle.sf_core.specs.Program.Formed.{IsFormed}
+use Rattle.sf_core.specs.Program.Syntax.{Program}
 use Rattle.sf_calls.specs.Conditions.{Calls, Enters, Mentions, Takes, Free, IsShared}
 use Rattle.sf_calls.specs.declared.breach.Breach.{Breach}
 use Rattle.sf_calls.specs.Breaks.{Breaks}

@@ -10,8 +10,8 @@ use Rattle.sf_core.specs.declared.assertion.Test.TheVariants.{True, Equal, Diffe
 use Rattle.sf_core.specs.declared.command.Expr.{Expr}
 use Rattle.sf_core.specs.declared.command.Occurrence.{Occurrence}
 use Rattle.sf_core.specs.declared.command.Expr.TheVariants.{Var as Variable, Nil, Int}
-use Rattle.sf_core.specs.Occurs.{VarOccursIn}
-use Rattle.sf_core.specs.Syntax.{Call, Command, assign, look_up, mutate, new, dispose, if, while, call, fork, with, Block, done, then}
+use Rattle.sf_core.specs.Assertions.Occurs.{VarOccursIn}
+use Rattle.sf_core.specs.Program.Syntax.{Call, Command, assign, look_up, mutate, new, dispose, if, while, call, fork, with, Block, done, then}
 
 -- the resource whose variable it is
 abbrev pub owner : Var → Option ResId

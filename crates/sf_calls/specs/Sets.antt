@@ -5,8 +5,8 @@ use Rattle.sf_base.specs.declared.ids.ProcId.{ProcId}
 use Rattle.sf_base.specs.declared.ids.ResId.{ResId}
 use Rattle.sf_base.specs.declared.ids.Var.{Var}
 use Rattle.sf_base.specs.declared.ids.Var.TheVariants.{Own, Shared}
-use Rattle.sf_core.specs.HeldBy.{HeldBy}
-use Rattle.sf_core.specs.Syntax.{Program}
+use Rattle.sf_core.specs.Machine.HeldBy.{HeldBy}
+use Rattle.sf_core.specs.Program.Syntax.{Program}
 use Rattle.sf_calls.specs.Conditions.{Takes, Free}
 
 -- the resource has the smaller number

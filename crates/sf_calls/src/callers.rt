@@ -2,7 +2,7 @@
 
 ghost use Rattle.std.specs.Prelude.{◌≡◌, ◌↔◌, ◌⊎◌, ◌<◌, length, All, Contains, IfOk, OnOk, true};
 ghost use Rattle.sf_base.specs.declared.ids.ProcId.{ProcId};
-ghost use Rattle.sf_core.specs.ProgramView.{program_of};
+ghost use Rattle.sf_core.specs.Program.ProgramView.{program_of};
 ghost use Rattle.sf_calls.specs.Marks.{IsCaller, AreCallers};
 ghost use Rattle.sf_calls.specs.Texts.{AreTexts, guards, guards_any};
 

@@ -3,8 +3,8 @@
 ghost use Rattle.std.specs.Prelude.{◌≡◌, ◌↔◌, ◌<◌, ◌^◌, ℕ, length, AllPairs, Contains, IfOk, OnOk, slice_get};
 ghost use Rattle.sf_base.specs.declared.ids.ResId.{ResId};
 ghost use Rattle.sf_base.specs.declared.ids.Var.{Var};
-ghost use Rattle.sf_core.specs.Formed.{variable_count};
-ghost use Rattle.sf_core.specs.ProgramView.{program_of};
+ghost use Rattle.sf_core.specs.Program.Formed.{variable_count};
+ghost use Rattle.sf_core.specs.Program.ProgramView.{program_of};
 ghost use Rattle.sf_calls.specs.Gathers.{IsUpTo};
 ghost use Rattle.sf_calls.specs.Sets.{IsEarlier, IsEarlierResource, IsSetOf};
 

@@ -1,7 +1,7 @@
 //! The calls that stand in commands outside the regions of a resource.
 
 ghost use Rattle.std.specs.Prelude.{◌≡◌, ◌++◌, OnOk};
-ghost use Rattle.sf_core.specs.View.{block_of, command_of};
+ghost use Rattle.sf_core.specs.Program.View.{block_of, command_of};
 ghost use Rattle.sf_calls.specs.Outside.{owner};
 ghost use Rattle.sf_calls.specs.Tests.{is_other, callees_in, callees_of};
 

@@ -1,9 +1,9 @@
 //! The least sets of a whole program.
 
 ghost use Rattle.std.specs.Prelude.{◌≡◌, ◌<◌, length, IfOk, slice_get};
-ghost use Rattle.sf_core.specs.Formed.{variable_count};
-ghost use Rattle.sf_core.specs.HeldBy.{HeldBy};
-ghost use Rattle.sf_core.specs.ProgramView.{program_of};
+ghost use Rattle.sf_core.specs.Program.Formed.{variable_count};
+ghost use Rattle.sf_core.specs.Machine.HeldBy.{HeldBy};
+ghost use Rattle.sf_core.specs.Program.ProgramView.{program_of};
 ghost use Rattle.sf_calls.specs.Conditions.{Takes, Free};
 ghost use Rattle.sf_calls.specs.Texts.{AreTexts};
 ghost use Rattle.sf_calls.specs.Gathers.{IsUpTo};

@@ -1,7 +1,7 @@
 //! The regions that commands have, and whether calls stand inside them.
 
 ghost use Rattle.std.specs.Prelude.{◌≡◌, ◌++◌, IfOk, OnOk};
-ghost use Rattle.sf_core.specs.View.{block_of, command_of};
+ghost use Rattle.sf_core.specs.Program.View.{block_of, command_of};
 ghost use Rattle.sf_calls.specs.Listed.{entered_in, entered_of, guarded_in, guarded_of, has_calls, has_calls_of};
 
 use sf_base::ResId;

@@ -2,7 +2,7 @@
 //! resources, in text order.
 
 ghost use Rattle.std.specs.Prelude.{◌≡◌, ◌++◌, ◌∷◌, IfOk, OnOk, map};
-ghost use Rattle.sf_core.specs.View.{block_of, call_of, command_of, conjunct_of, conjuncts, level_of};
+ghost use Rattle.sf_core.specs.Program.View.{block_of, call_of, command_of, conjunct_of, conjuncts, level_of};
 ghost use Rattle.sf_calls.specs.Listed.{is_entered, kept, shared_in, shared_in_call, shared_in_condition, shared_in_conjunct, shared_in_conjuncts, shared_in_expr, shared_in_fields, shared_in_level, shared_in_operand, shared_in_references, shared_in_test, shared_in_values, shared_of};
 
 use sf_base::{FieldId, ResId, Var};

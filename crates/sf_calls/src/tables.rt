@@ -1,8 +1,8 @@
 //! For each resource, and for each variable of one, which procedures have it.
 
 ghost use Rattle.std.specs.Prelude.{◌≡◌, ◌<◌, ◌≤◌, ℕ, List, length, All, IfOk, Some, slice_get};
-ghost use Rattle.sf_core.specs.HeldBy.{HeldBy};
-ghost use Rattle.sf_core.specs.ProgramView.{program_of};
+ghost use Rattle.sf_core.specs.Machine.HeldBy.{HeldBy};
+ghost use Rattle.sf_core.specs.Program.ProgramView.{program_of};
 ghost use Rattle.sf_calls.specs.Conditions.{Enters, Mentions, Takes, FreeIn, IsShared};
 ghost use Rattle.sf_calls.specs.Marks.{AreRows, IsRow, chosen};
 ghost use Rattle.sf_calls.specs.Texts.{AreTexts, speaks_of};

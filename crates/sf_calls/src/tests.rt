@@ -2,10 +2,10 @@
 
 ghost use Rattle.std.specs.Prelude.{◌≡◌, [], ◌∷◌, IfOk};
 ghost use Rattle.sf_base.specs.declared.ids.Var.TheVariants.{Own};
-ghost use Rattle.sf_core.specs.Formed.{IsFormed};
-ghost use Rattle.sf_core.specs.Syntax.{also, call, holds, level, none, with};
-ghost use Rattle.sf_core.specs.View.{assertion_of, block_of, call_of, command_of, procedure_of, program_with, resource_of};
-ghost use Rattle.sf_core.specs.ProgramView.{program_of};
+ghost use Rattle.sf_core.specs.Program.Formed.{IsFormed};
+ghost use Rattle.sf_core.specs.Program.Syntax.{also, call, holds, level, none, with};
+ghost use Rattle.sf_core.specs.Program.View.{assertion_of, block_of, call_of, command_of, procedure_of, program_with, resource_of};
+ghost use Rattle.sf_core.specs.Program.ProgramView.{program_of};
 ghost use Rattle.sf_core.specs.declared.assertion.Operand.TheVariants.{Known};
 ghost use Rattle.sf_core.specs.declared.assertion.Test.TheVariants.{Equal};
 ghost use Rattle.sf_core.specs.declared.command.Expr.TheVariants.{Var as Variable, Nil};
@@ -13,8 +13,8 @@ ghost use Rattle.sf_core.specs.declared.command.Expr.TheVariants.{Var as Variabl
 use crate::reach;
 use sf_base::{Name, Place, ProcId, ResId, Var};
 use sf_core::{
-    Assertion, Call, Command, Conjunct, Expr, Level, Occurrence, Operand, Proc, Program, Resource,
-    Scope, Test,
+    Assertion, Call, Command, Conjunct, Expr, Level, Links, Occurrence, Operand, Proc, Program,
+    Resource, Scope, Test,
 };
 use std::alloc::{AllocError, Global};
 use std::test::Fail;
@@ -36,10 +36,13 @@ fn own(n: u32) -> Occurrence
 
 /// A program with nothing in it.
 fn empty(alloc: Global) -> Program {
+    let fields = Vec::new(alloc);
+    let links = Links::among(&fields);
     Program {
-        fields: Vec::new(alloc),
+        fields,
         resources: Vec::new(alloc),
         procedures: Vec::new(alloc),
+        links,
     }
 }
 
@@ -116,10 +119,13 @@ fn file(alloc: Global, resources: Vec<Resource>, procedures: Vec<Proc>) -> Progr
     requires { IsFormed (program_with [] resources.items procedures.items) }
     ensures { program_of result ≡ program_with [] resources.items procedures.items }
 {
+    let fields = Vec::new(alloc);
+    let links = Links::among(&fields);
     Program {
-        fields: Vec::new(alloc),
+        fields,
         resources,
         procedures,
+        links,
     }
 }
 

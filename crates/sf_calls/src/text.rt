@@ -1,8 +1,8 @@
 //! What stands in each procedure's text, for all variables and resources at once.
 
 ghost use Rattle.std.specs.Prelude.{Contains, IfOk};
-ghost use Rattle.sf_core.specs.View.{procedure_of};
-ghost use Rattle.sf_core.specs.ProgramView.{program_of};
+ghost use Rattle.sf_core.specs.Program.View.{procedure_of};
+ghost use Rattle.sf_core.specs.Program.ProgramView.{program_of};
 ghost use Rattle.sf_calls.specs.Texts.{AreTexts, IsTextOf};
 ghost use Rattle.sf_calls.specs.Sets.{IsVarSet};
 

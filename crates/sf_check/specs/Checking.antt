@@ -2,7 +2,7 @@
 -- In this form of programs no tag leaves two goals, so no more than one is ever open. These definitions stand between the code
 -- and Checks, and needn't be believed: no public contract names them.
 use Rattle.std.specs.Prelude.{Option, Some, None, List, [], ◌∷◌}
-use Rattle.sf_core.specs.Syntax.{Program}
+use Rattle.sf_core.specs.Program.Syntax.{Program}
 use Rattle.sf_sym.specs.declared.goal.Goal.{Goal as CodeGoal}
 use Rattle.sf_sym.specs.declared.tag.Tag.{Tag}
 use Rattle.sf_sym.specs.Goal.{Goal, goal_of}

@@ -2,7 +2,7 @@
 -- stand between the checker's code and Proves, and needn't be believed: no public contract names them.
 -- Ordinary: a tree in preorder is read with a stack; Knuth, "The Art of Computer Programming", volume 1 (1968), section 2.3.
 use Rattle.std.specs.Prelude.{◌≡◌, ℕ, suc, Some, List, [], ◌∷◌, ◌++◌, drop}
-use Rattle.sf_core.specs.Syntax.{Procedure, Program}
+use Rattle.sf_core.specs.Program.Syntax.{Procedure, Program}
 use Rattle.sf_sym.specs.declared.tag.Tag.{Tag}
 use Rattle.sf_sym.specs.declared.tag.Tag.TheVariants.{Procedure as Begin}
 use Rattle.sf_sym.specs.Goal.{Goal}

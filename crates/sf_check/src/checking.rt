@@ -1,8 +1,8 @@
 //! The checker: which tags prove a program. It knows the table of rules, and nothing of the search.
 
 ghost use Rattle.std.specs.Prelude.{◌≡◌, ◌≤◌, ◌↔◌, [], ◌∷◌, List, length, IfOk, IfSome, IfNone, IsTrue};
-ghost use Rattle.sf_core.specs.Syntax.{Program as ProgramOf};
-ghost use Rattle.sf_core.specs.ProgramView.{program_of};
+ghost use Rattle.sf_core.specs.Program.Syntax.{Program as ProgramOf};
+ghost use Rattle.sf_core.specs.Program.ProgramView.{program_of};
 ghost use Rattle.sf_sym.specs.Goal.{goal_of};
 ghost use Rattle.sf_sym.specs.declared.tag.Tag.{Tag as TagOf};
 ghost use Rattle.sf_check.specs.Checks.{ChecksFrom};

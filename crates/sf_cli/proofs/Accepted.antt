@@ -1,8 +1,8 @@
 -- What an answer of status 0 promises: the program that the bytes read as is sound.
 -- Names: accepted-*.
 use Rattle.std.proofs.Common.{◌≡◌, ℕ, List, Option, Some, None, arith, refl, subst, sym}
-use Rattle.sf_core.specs.Formed.{IsFormed}
-use Rattle.sf_core.specs.Syntax.{Program}
+use Rattle.sf_core.specs.Program.Formed.{IsFormed}
+use Rattle.sf_core.specs.Program.Syntax.{Program}
 use Rattle.sf_elab.specs.Laws.{ElaboratedIsFormed}
 use Rattle.sf_io.specs.Shelf.{Files}
 use Rattle.sf_parse.specs.Laws.{EachFileIsShallow}

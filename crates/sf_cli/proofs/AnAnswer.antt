@@ -4,9 +4,9 @@ use Rattle.std.proofs.Common.{◌≡◌, ◌⊎◌, ℕ, Bool, true, false, List
 use Rattle.std.specs.List.{All}
 use Rattle.sf_ast.specs.Surface.{Item}
 use Rattle.sf_calls.specs.FirstBreach.{Conditions}
-use Rattle.sf_core.specs.Determined.{Determined}
-use Rattle.sf_core.specs.Formed.{IsFormed}
-use Rattle.sf_core.specs.Syntax.{Program}
+use Rattle.sf_core.specs.Assertions.Determined.{Determined}
+use Rattle.sf_core.specs.Program.Formed.{IsFormed}
+use Rattle.sf_core.specs.Program.Syntax.{Program}
 use Rattle.sf_elab.specs.Laws.{ElaboratedIsFormed, EachFileIsOne as EachTreeIsOne}
 use Rattle.sf_io.specs.Shelf.{Files}
 use Rattle.sf_lex.specs.declared.token.Token.{Token}
@@ -16,7 +16,8 @@ use Rattle.sf_parse.specs.Laws.{EachFileIsShallow, EachHasOneAnswer}
 use Rattle.sf_parse.specs.Parsing.{IsFile}
 use Rattle.sf_precise.specs.Laws.{UndeterminedNotesHavePlace}
 use Rattle.sf_precise.specs.Notes.{notes_in}
-use Rattle.sf_proof.specs.ProofText.{name_of, proof_text}
+use Rattle.sf_core.specs.Program.Named.{name_of}
+use Rattle.sf_proof.specs.ProofText.{proof_text}
 use Rattle.sf_rules.specs.Built.{is_built}
 use Rattle.sf_search.specs.Judge.{Verdict, proof, fails, Judge}
 use Rattle.sf_search.specs.VerdictLaws.{AVerdict}

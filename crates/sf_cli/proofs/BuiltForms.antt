@@ -5,8 +5,8 @@ use Rattle.std.proofs.lemmas.Bool.{eqb-true}
 use Rattle.std.proofs.lemmas.List.{length-map}
 use Rattle.std.specs.List.{list_all}
 use Rattle.sf_core.specs.declared.command.Expr.{Expr}
-use Rattle.sf_core.specs.Syntax.{Conjunct, Command, Resource, Program}
-use Rattle.sf_core.specs.View.{conjuncts, block}
+use Rattle.sf_core.specs.Program.Syntax.{Conjunct, Command, Resource, Program}
+use Rattle.sf_core.specs.Program.View.{conjuncts, block}
 use Rattle.sf_rules.specs.Built.{is_cell, are_cells, is_mutation, are_mutations, is_built_procedure, is_built}
 
 -- of conjuncts

@@ -15,8 +15,8 @@ use Rattle.sf_calls.specs.declared.breach.Breach.TheVariants.{NotHeld, Reentered
 use Rattle.sf_calls.specs.FirstBreach.{Conditions}
 use Rattle.sf_calls.specs.Laws.{FirstBreachIsDetermined}
 use Rattle.sf_base.proofs.Cases.{none-not_some}
-use Rattle.sf_core.specs.Determined.{Determined}
-use Rattle.sf_core.specs.Syntax.{Procedure, Resource, Program}
+use Rattle.sf_core.specs.Assertions.Determined.{Determined}
+use Rattle.sf_core.specs.Program.Syntax.{Procedure, Resource, Program}
 use Rattle.sf_io.specs.Shelf.{Files}
 use Rattle.sf_elab.specs.Elaborated.{Elaborates, FirstFault}
 use Rattle.sf_elab.specs.Laws.{EachFileIsOne as EachTreeIsOne}

@@ -9,8 +9,8 @@ use Rattle.std.specs.Prelude.{IfOk, IfErr}
 use Rattle.std.specs.Result.{IsErrAnd}
 use Rattle.sf_ast.specs.Surface.{Item}
 use Rattle.sf_calls.specs.FirstBreach.{Conditions}
-use Rattle.sf_core.specs.Determined.{Determined}
-use Rattle.sf_core.specs.Syntax.{Program, Assertion}
+use Rattle.sf_core.specs.Assertions.Determined.{Determined}
+use Rattle.sf_core.specs.Program.Syntax.{Program, Assertion}
 use Rattle.sf_elab.specs.declared.fault.NameFault.{NameFault}
 use Rattle.sf_elab.specs.declared.fault.NameFault.TheVariants as n
 use Rattle.sf_elab.specs.Elaborated.{FirstFault}

@@ -10,7 +10,7 @@ use Rattle.sf_cli.specs.declared.reply.Said.{Said}
 use Rattle.sf_base.specs.declared.limits.TheConstants.{FILE_BYTES}
 use Rattle.sf_io.specs.Rose.{Rose}
 use Rattle.sf_io.specs.Shelf.{Files}
-use Rattle.sf_core.specs.Syntax.{Program}
+use Rattle.sf_core.specs.Program.Syntax.{Program}
 use Rattle.sf_lex.specs.declared.fault.LexFault.{LexFault}
 use Rattle.sf_lex.specs.declared.fault.LexFault.TheVariants as l
 use Rattle.sf_lex.specs.declared.token.Token.{Token}

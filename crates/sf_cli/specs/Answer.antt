@@ -2,7 +2,7 @@
 -- The form of a command's answer is that of The Open Group, "Utility Conventions" (2018); the statuses are this project's own.
 use Rattle.std.specs.Prelude.{◌≡◌, ℕ, ◌<◌, ◌⊎◌, true, false, Option, Some, None, List, ◌++◌, codes}
 use Rattle.sf_lex.specs.Reading.{first_place}
-use Rattle.sf_core.specs.Syntax.{Program}
+use Rattle.sf_core.specs.Program.Syntax.{Program}
 use Rattle.sf_io.specs.Rose.{Rose}
 use Rattle.sf_io.specs.Shelf.{Files}
 use Rattle.sf_io.specs.Sink.{WrotePart}
@@ -10,7 +10,8 @@ use Rattle.sf_rules.specs.Built.{is_built}
 use Rattle.sf_cli.specs.FileFault.{FileFault, Admits}
 use Rattle.sf_cli.specs.Refusals.{refusal_text}
 use Rattle.sf_search.specs.Judge.{Verdict, proof, fails, Judge}
-use Rattle.sf_proof.specs.ProofText.{name_of, proof_text}
+use Rattle.sf_core.specs.Program.Named.{name_of}
+use Rattle.sf_proof.specs.ProofText.{proof_text}
 use Rattle.sf_sound.specs.Sound.{IsSound}
 use Rattle.sf_cli.specs.declared.refusal.Refusal.{Refusal}
 use Rattle.sf_cli.specs.declared.refusal.Refusal.TheVariants.{At}

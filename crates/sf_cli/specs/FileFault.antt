@@ -5,8 +5,8 @@ use Rattle.std.specs.List.{All}
 use Rattle.sf_ast.specs.Surface.{Item}
 use Rattle.sf_base.specs.declared.place.Place.{Place}
 use Rattle.sf_calls.specs.FirstBreach.{Conditions}
-use Rattle.sf_core.specs.Determined.{Determined}
-use Rattle.sf_core.specs.Syntax.{Program}
+use Rattle.sf_core.specs.Assertions.Determined.{Determined}
+use Rattle.sf_core.specs.Program.Syntax.{Program}
 use Rattle.sf_elab.specs.declared.fault.NameFault.{NameFault}
 use Rattle.sf_elab.specs.Elaborated.{FirstFault}
 use Rattle.sf_lex.specs.declared.fault.LexFault.{LexFault}

@@ -1,7 +1,7 @@
 -- Laws of answers, stated.
 -- What a definition by cases owes its reader, that one case is there and no two meet; and what an answer of status 0 promises.
 use Rattle.std.specs.Prelude.{◌≡◌, ℕ, List, Some}
-use Rattle.sf_core.specs.Syntax.{Program}
+use Rattle.sf_core.specs.Program.Syntax.{Program}
 use Rattle.sf_io.specs.Shelf.{Files}
 use Rattle.sf_cli.specs.Answer.{AcceptedBytes, Answer, FileAnswer, NamesFile}
 use Rattle.sf_cli.specs.Reads.{Reads}

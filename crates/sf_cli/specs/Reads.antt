@@ -2,7 +2,7 @@
 -- The language is that of Berdine, Calcagno and O'Hearn, "Smallfoot" (2005), in this project's own profile.
 use Rattle.std.specs.Prelude.{List}
 use Rattle.sf_ast.specs.Surface.{Item}
-use Rattle.sf_core.specs.Syntax.{Program}
+use Rattle.sf_core.specs.Program.Syntax.{Program}
 use Rattle.sf_elab.specs.Elaborated.{Elaborates}
 use Rattle.sf_lex.specs.declared.token.Token.{Token}
 use Rattle.sf_lex.specs.Reading.{AreTokens}

@@ -2,8 +2,8 @@
 
 ghost use Rattle.std.specs.Prelude.{◌≡◌};
 ghost use Rattle.std.specs.List.{list_all};
-ghost use Rattle.sf_core.specs.View.{assertion_of, command_of, conjunct_of, level_of, procedure_of};
-ghost use Rattle.sf_core.specs.ProgramView.{program_of};
+ghost use Rattle.sf_core.specs.Program.View.{assertion_of, command_of, conjunct_of, level_of, procedure_of};
+ghost use Rattle.sf_core.specs.Program.ProgramView.{program_of};
 ghost use Rattle.sf_rules.specs.Built.{has_cells, is_built, is_built_procedure, is_cell, is_mutation, is_plain};
 
 use sf_core::{Assertion, Command, Conjunct, Expr, Level, Proc, Program};

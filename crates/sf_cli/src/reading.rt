@@ -3,8 +3,8 @@
 ghost use Rattle.std.specs.Prelude.{◌≡◌, ◌≢◌, IfOk, IfErr};
 ghost use Rattle.std.specs.List.{All};
 ghost use Rattle.sf_calls.specs.FirstBreach.{Conditions};
-ghost use Rattle.sf_core.specs.Determined.{Determined};
-ghost use Rattle.sf_core.specs.ProgramView.{program_of};
+ghost use Rattle.sf_core.specs.Assertions.Determined.{Determined};
+ghost use Rattle.sf_core.specs.Program.ProgramView.{program_of};
 ghost use Rattle.sf_precise.specs.Notes.{notes_in};
 ghost use Rattle.sf_cli.specs.FileFault.{Admits, FileFault, ProgramFault, ReadFault};
 ghost use Rattle.sf_cli.specs.Reads.{Reads};

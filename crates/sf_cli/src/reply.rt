@@ -1,7 +1,7 @@
 //! What the command says, and with which status.
 
 ghost use Rattle.std.specs.Prelude.{◌≡◌, ◌≢◌, ◌<◌, ◌≤◌, ◌-◌, ◌^◌, ◌++◌, List, Some, IfOk, IsErrOf, codes};
-ghost use Rattle.sf_core.specs.ProgramView.{program_of};
+ghost use Rattle.sf_core.specs.Program.ProgramView.{program_of};
 ghost use Rattle.sf_io.specs.Rose.{Rose};
 ghost use Rattle.sf_cli.specs.Answer.{AnswersFile, FileAnswer, NamesFile, ProgramAnswer, Reply, VerdictAnswer, read_fault_text};
 ghost use Rattle.sf_cli.specs.Fetched.{Fetched};
@@ -19,7 +19,7 @@ use sf_base::limits::FILE_BYTES;
 use sf_check::check;
 use sf_core::Program;
 use sf_io::{FetchFault, Shelf};
-use sf_proof::{name_of, proof_text};
+use sf_proof::proof_text;
 use sf_search::{VerifyFault, verdicts_prove, verify};
 use std::alloc::{AllocError, Global};
 
@@ -68,7 +68,7 @@ fn judged(alloc: Global, p: &Program) -> Result<Said, AllocError>
                 status: 0,
             })
         }
-        Err(VerifyFault::Failed(f)) => say_of(alloc, "failed ", name_of(p, f), 1),
+        Err(VerifyFault::Failed(f)) => say_of(alloc, "failed ", p.name_of(f), 1),
         Err(VerifyFault::OutOfMemory) => Err(AllocError),
     }
 }

@@ -3,7 +3,7 @@
 use crate::command::Expr;
 use sf_base::{FieldId, Name, Place};
 
-/// What stands in an assertion for a value: something that has one, or an existential.
+/// A value in an assertion: something that has one, or an existential.
 #[derive(Clone, Copy, Debug, PartialEq, Eq)]
 pub enum Operand<E> {
     /// It has a value by itself.

@@ -1,18 +1,18 @@
 //! Expressions, calls and commands, numbered.
 
 ghost use Rattle.std.specs.Prelude.{◌≡◌};
-ghost use Rattle.sf_core.specs.Places.{place_of};
-ghost use Rattle.sf_core.specs.View.{command_of};
+ghost use Rattle.sf_core.specs.Program.Places.{place_of};
+ghost use Rattle.sf_core.specs.Program.View.{command_of};
 
 use crate::assertion::{Assertion, Test};
 use sf_base::{FieldId, Place, ProcId, ResId, Var};
 
-/// A variable where it stands in the text.
+/// A variable and its place in the text.
 #[derive(Clone, Copy, Debug, PartialEq, Eq)]
 pub struct Occurrence {
     /// Which variable it is.
     pub var: Var,
-    /// Where it stands.
+    /// Its place.
     pub place: Place,
 }
 
@@ -32,7 +32,7 @@ pub enum Expr {
 pub struct Call {
     /// The procedure that is called.
     pub callee: ProcId,
-    /// Where its name stands.
+    /// The place of its name.
     pub place: Place,
     /// The caller's variables that the callee's references name, in order.
     pub references: Vec<Occurrence>,
@@ -40,8 +40,8 @@ pub struct Call {
     pub values: Vec<Expr>,
 }
 
-/// A command and the place of its first token. Blocks are no commands: their commands stand in
-/// their place.
+/// A command and the place of its first token. Braces alone are no command: the commands inside are
+/// among those around them.
 #[derive(Debug, Drop)]
 pub enum Command {
     /// `x = E;`
@@ -67,7 +67,7 @@ pub enum Command {
 }
 
 impl Command {
-    /// Where its first token stands.
+    /// The place of its first token.
     pub fn place(&self) -> Place
         ensures { result ≡ place_of (command_of self.now) }
     {

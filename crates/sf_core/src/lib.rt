@@ -1,19 +1,26 @@
-//! The program, numbered: what every later crate reads, checks, proves and runs.
+//! The program, numbered: what every later crate reads, checks, proves and runs. Its specs/ have the
+//! definitions that the whole project rests on: the meaning of assertions, the machine and its
+//! steps, and what a good configuration is.
 //!
-//! Its specs/ have the definitions that the whole project stands on: heaps, the meaning of
-//! assertions, the machine and its steps, and what a good configuration is.
+//! - `assertion`: assertions as trees of conjuncts.
+//! - `command`: expressions, calls and commands.
+//! - `fields`: fields by name, and the links, which segments and trees follow.
+//! - `program`: procedures, resources, and the program with all that its type keeps.
+//! - `ordered`: assertions whose conjuncts are in order.
+//! - `laws`: laws of assertions and of the machine.
+//! - `examples`: examples of assertions and of runs.
 #![tactic(auto)]
 
-pub mod assertion;
-pub mod command;
-pub mod instances;
+mod assertion;
+mod command;
+pub mod examples;
+mod fields;
 pub mod laws;
-pub mod machine_instances;
-pub mod machine_laws;
-pub mod ordered;
-pub mod program;
+mod ordered;
+mod program;
 
 pub use assertion::{Assertion, Conjunct, Level, Operand, Scope, Test};
 pub use command::{Call, Command, Expr, Occurrence};
+pub use fields::Links;
 pub use ordered::Ordered;
 pub use program::{Proc, Program, Resource};

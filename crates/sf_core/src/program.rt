@@ -2,13 +2,15 @@
 
 ghost use Rattle.std.specs.Prelude.{◌≡◌, ◌<◌, length, map, slice_get, Some, IfSome};
 ghost use Rattle.std.specs.Option.{option_map};
-ghost use Rattle.sf_core.specs.Formed.{IsFormed};
-ghost use Rattle.sf_core.specs.FormedOnce.{IsFormed-prop};
-ghost use Rattle.sf_core.specs.Named.{IsFirstNamed};
-ghost use Rattle.sf_core.specs.View.{procedure_of, program_with};
+ghost use Rattle.sf_core.specs.Program.Formed.{IsFormed};
+ghost use Rattle.sf_core.specs.Internal.FormedIsProp.{AreLinks-prop, IsFormed-prop};
+ghost use Rattle.sf_core.specs.Program.Links.{AreLinks, IsFieldNamed};
+ghost use Rattle.sf_core.specs.Program.Named.{IsFirstNamed, name_at};
+ghost use Rattle.sf_core.specs.Program.View.{procedure_of, program_with};
 
 use crate::assertion::Assertion;
 use crate::command::Command;
+use crate::fields::{Links, field_named};
 use sf_base::{FieldId, Name, Place, ProcId};
 
 /// A procedure.
@@ -16,7 +18,7 @@ use sf_base::{FieldId, Name, Place, ProcId};
 pub struct Proc {
     /// Its name.
     pub name: Name,
-    /// Where its name stands.
+    /// The place of its name.
     pub place: Place,
     /// The names of its own variables by number: references, values, declared locals, primed locals.
     pub names: Vec<Name>,
@@ -32,7 +34,7 @@ pub struct Proc {
     pub post: Assertion,
     /// Its commands.
     pub body: Vec<Command>,
-    /// Where the body's closing brace stands.
+    /// The place of the body's closing brace.
     pub end: Place,
 }
 
@@ -47,7 +49,7 @@ pub struct Resource {
     pub invariant: Assertion,
 }
 
-/// A whole file. Its numbers stand for things that are there, each call has its procedure's counts,
+/// A whole file. Its numbers are those of things that are there, each call has its procedure's counts,
 /// no body sets a value parameter, a pre and a post mention no local and an invariant only variables of
 /// its resource, predicates have the fields that they follow, scopes number existentials in text order,
 /// and limits are met.
@@ -59,13 +61,18 @@ pub struct Program {
     pub resources: Vec<Resource>,
     /// The procedures by number.
     pub procedures: Vec<Proc>,
-    ghost formed: { IsFormed (program_with fields.items resources.items procedures.items) } by { IsFormed-prop _ },
+    /// The fields that segments and trees follow.
+    pub links: Links,
+    ghost formed: { IsFormed
+        (program_with fields.items resources.items procedures.items) } by { IsFormed-prop _ },
+    ghost linked: { AreLinks fields.items links } by { AreLinks-prop _ _ },
 }
 
 impl Program {
     /// The number of the first procedure of that name. `None` exactly where there is none.
     pub fn find(&self, name: &str) -> Option<ProcId>
-        ensures first { IsFirstNamed (map (λ f. f.name) self.now.procedures.items) name.now (option_map (λ f. f.0) result) }
+        ensures first { IsFirstNamed (map (λ f. f.name) self.now.procedures.items) name.now
+            (option_map (λ f. f.0) result) }
         ensures within { IfSome result (λ f. f.0 < length self.now.procedures.items) }
     {
         for (i, procedure) in self.procedures.iter().enumerate() {
@@ -80,21 +87,27 @@ impl Program {
     pub fn proc(&self, f: ProcId) -> &Proc
         requires { f.0 < length self.now.procedures.items }
         ensures here { slice_get self.now.procedures.items f.0 ≡ Some result.now }
-        ensures meaning { slice_get (map procedure_of self.now.procedures.items) f.0 ≡ Some (procedure_of result.now) }
+        ensures meaning { slice_get (map procedure_of self.now.procedures.items) f.0
+            ≡ Some (procedure_of result.now) }
     {
         &self.procedures[f.0 as usize]
     }
 
+    /// The name of the procedure of that number, empty where there is none.
+    pub fn name_of(&self, f: ProcId) -> &[u8]
+        ensures { result.now ≡ name_at (map procedure_of self.now.procedures.items) f }
+    {
+        if (f.0 as usize) < self.procedures.len() {
+            return self.proc(f).name.as_bytes();
+        }
+        &[]
+    }
+
     /// The number of the field of that name. `None` exactly where there is none.
     pub fn field(&self, name: &str) -> Option<FieldId>
-        ensures first { IsFirstNamed self.now.fields.items name.now (option_map (λ f. f.0) result) }
+        ensures first { IsFieldNamed self.now.fields.items name.now result }
         ensures within { IfSome result (λ f. f.0 < length self.now.fields.items) }
     {
-        for (i, field) in self.fields.iter().enumerate() {
-            if field.as_bytes() == name.as_bytes() {
-                return Some(FieldId(i as u32));
-            }
-        }
-        None
+        field_named(&self.fields, name)
     }
 }

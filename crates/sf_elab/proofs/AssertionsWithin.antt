@@ -9,10 +9,10 @@ use Rattle.sf_base.specs.declared.limits.TheConstants.{NESTING}
 use Rattle.sf_base.specs.declared.place.Place.{Place}
 use Rattle.sf_core.specs.declared.assertion.Scope.{Scope}
 use Rattle.sf_core.specs.declared.command.Expr.{Expr}
-use Rattle.sf_core.specs.Formed.{ConjunctsWithin, AssertionWithin, OperandWithin}
-use Rattle.sf_core.specs.Named.{IsFirstNamed}
-use Rattle.sf_core.specs.Syntax as c
-use Rattle.sf_core.specs.View.{conjuncts}
+use Rattle.sf_core.specs.Program.Formed.{ConjunctsWithin, AssertionWithin, OperandWithin}
+use Rattle.sf_core.specs.Program.Named.{IsFirstNamed}
+use Rattle.sf_core.specs.Program.Syntax as c
+use Rattle.sf_core.specs.Program.View.{conjuncts}
 use Rattle.sf_elab.specs.declared.fault.Fault.TheVariants.{Missing}
 use Rattle.sf_elab.specs.declared.fault.Link.{Link}
 use Rattle.sf_elab.specs.declared.fault.Link.TheVariants.{Next, Left, Right}
@@ -111,11 +111,11 @@ mutual
 -- a whole assertion is in order
 pub note_within : {fields : List (List ℕ)} {V : Var → Type 0} {i : Sight} → Sees fields V i → (n : s.Note) → note_faults i n ≡ [] → d.note_depth n ≤ NESTING → AssertionWithin fields V (note_of i n)
 note_within see s.blank h k = record {
-  note = record { within = tt; numbered = (refl, tt); depth = omega arith };
+  annotation = record { within = tt; numbered = (refl, tt); depth = omega arith };
   names = refl;
 }
 note_within {fields} {V} {i} see (s.filled a) h k = record {
-  note = record {
+  annotation = record {
     within = conjuncts_within see (made_by i.bytes no_levels a ∷ []) (opened i.bytes no_levels a) (level_made i.bytes no_levels a [] (finds_none _)) a (level_reached i.bytes no_levels a) h;
     numbered = (level_numbered i a).0;
     depth = omega (arith, level_no_deeper i no_levels a);

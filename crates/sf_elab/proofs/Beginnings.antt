@@ -8,7 +8,7 @@ use Rattle.sf_base.specs.declared.ids.Var.{Var}
 use Rattle.sf_base.specs.declared.ids.Var.TheVariants.{Own}
 use Rattle.sf_base.specs.declared.place.Place.{Place}
 use Rattle.sf_core.specs.declared.command.Expr.TheVariants.{Var as Variable}
-use Rattle.sf_core.specs.Syntax as c
+use Rattle.sf_core.specs.Program.Syntax as c
 use Rattle.sf_elab.specs.Declarations.{references_of, values_of, numbered}
 use Rattle.sf_elab.specs.Procedures.{local_words, is_primed, parameter_count, declared_count, body_values, body_variables, own_at, first_assignments}
 use Rattle.sf_elab.specs.Table.{Table, declare}

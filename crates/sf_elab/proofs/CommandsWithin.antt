@@ -14,9 +14,9 @@ use Rattle.sf_base.specs.declared.ids.Var.{Var}
 use Rattle.sf_base.specs.declared.ids.Var.TheVariants.{Own}
 use Rattle.sf_base.specs.declared.limits.TheConstants.{NESTING}
 use Rattle.sf_core.specs.declared.command.Occurrence.{Occurrence}
-use Rattle.sf_core.specs.Formed.{IsInBody, IsSettable, ExprWithin, TestWithin, HasCounts, CallWithin, BlockWithin}
-use Rattle.sf_core.specs.Syntax as c
-use Rattle.sf_core.specs.View.{block}
+use Rattle.sf_core.specs.Program.Formed.{IsInBody, IsSettable, ExprWithin, TestWithin, HasCounts, CallWithin, BlockWithin}
+use Rattle.sf_core.specs.Program.Syntax as c
+use Rattle.sf_core.specs.Program.View.{block}
 use Rattle.sf_elab.specs.declared.declared.Header.{Header}
 use Rattle.sf_elab.specs.declared.fault.Fault.TheVariants.{Unknown, Foreign, Arity}
 use Rattle.sf_elab.specs.Assertions.{maybe_faults}

@@ -7,7 +7,7 @@ use Rattle.sf_ast.specs.declared.word.Word.{Word}
 use Rattle.sf_ast.specs.Surface as surface
 use Rattle.sf_ast.specs.View.{conjuncts, conjunct_of as surface_conjunct, assertion_of}
 use Rattle.sf_core.specs.declared.command.Expr.{Expr}
-use Rattle.sf_core.specs.Syntax as c
+use Rattle.sf_core.specs.Program.Syntax as c
 use Rattle.sf_elab.specs.declared.fault.Fault.{Fault}
 use Rattle.sf_elab.specs.declared.levels.Levels.{Levels}
 use Rattle.sf_elab.specs.Assertions.{conjunct_of, conjuncts_of, conjunct_faults, assertion_faults}

@@ -7,8 +7,8 @@ use Rattle.sf_ast.specs.Surface.{Resource, Procedure, Item}
 use Rattle.sf_base.specs.declared.ids.ResId.{ResId}
 use Rattle.sf_base.specs.declared.ids.Var.{Var}
 use Rattle.sf_base.specs.declared.ids.Var.TheVariants.{Own, Shared}
-use Rattle.sf_core.specs.Formed.{variable_count}
-use Rattle.sf_core.specs.Syntax as c
+use Rattle.sf_core.specs.Program.Formed.{variable_count}
+use Rattle.sf_core.specs.Program.Syntax as c
 use Rattle.sf_elab.specs.declared.declared.Declared.{Declared}
 use Rattle.sf_elab.specs.declared.declared.Header.{Header}
 use Rattle.sf_elab.specs.Declarations.{numbered, resource_table, shared_by, shared_table, header_of, procedure_table, resources_in, procedures_in, declared_by}

@@ -6,9 +6,9 @@ use Rattle.sf_ast.specs.Surface as s
 use Rattle.sf_base.specs.declared.place.Place.{Place}
 use Rattle.sf_core.specs.declared.command.Expr.{Expr}
 use Rattle.sf_core.specs.declared.command.Expr.TheVariants.{Var as Variable}
-use Rattle.sf_core.specs.Formed.{level_depth, conjuncts_depth, block_depth}
-use Rattle.sf_core.specs.Syntax as c
-use Rattle.sf_core.specs.View.{conjuncts, block}
+use Rattle.sf_core.specs.Program.Formed.{level_depth, conjuncts_depth, block_depth}
+use Rattle.sf_core.specs.Program.Syntax as c
+use Rattle.sf_core.specs.Program.View.{conjuncts, block}
 use Rattle.sf_elab.specs.declared.levels.Levels.{Levels}
 use Rattle.sf_elab.specs.Assertions.{conjunct_of, conjuncts_of, level_of}
 use Rattle.sf_elab.specs.Commands.{command_of, commands_of}

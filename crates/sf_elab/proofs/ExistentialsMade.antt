@@ -7,7 +7,7 @@ use Rattle.std.specs.List.{AllByRecursion}
 use Rattle.sf_ast.specs.declared.word.Word.{Word}
 use Rattle.sf_ast.specs.Surface as s
 use Rattle.sf_core.specs.declared.assertion.Scope.{Scope}
-use Rattle.sf_core.specs.Formed.{is_made}
+use Rattle.sf_core.specs.Program.Formed.{is_made}
 use Rattle.sf_elab.specs.declared.levels.Levels.{Levels}
 use Rattle.sf_elab.specs.Existentials.{words_in, meet, meet_all, opened, made_by, after_conjunct}
 use Rattle.sf_elab.specs.Table.{Table, has, declare}

@@ -5,7 +5,7 @@ use Rattle.std.proofs.lemmas.List.Elements.{All-nil, All-cons, All-contains}
 use Rattle.std.specs.List.{All, Contains}
 use Rattle.std.specs.Option.{option_map}
 use Rattle.sf_ast.specs.Surface.{Item}
-use Rattle.sf_core.specs.Syntax.{Program}
+use Rattle.sf_core.specs.Program.Syntax.{Program}
 use Rattle.sf_elab.specs.declared.fault.Fault.{Fault}
 use Rattle.sf_elab.specs.declared.fault.NameFault.{NameFault}
 use Rattle.sf_elab.specs.Elaborated.{elaborated, faults, Elaborates, FirstFault}

@@ -9,8 +9,8 @@ use Rattle.sf_ast.specs.Surface as s
 use Rattle.sf_base.specs.declared.ids.Var.{Var}
 use Rattle.sf_base.specs.declared.ids.Var.TheVariants.{Own, Shared}
 use Rattle.sf_base.specs.declared.limits.TheConstants.{NESTING, PROCEDURES, RESOURCES, FIELDS, OWN_VARIABLES}
-use Rattle.sf_core.specs.Formed.{IsInBody, IsSettable, IsParameter, IsOfResource, AssertionWithin, ProcedureWithin, IsFormed}
-use Rattle.sf_core.specs.Syntax as c
+use Rattle.sf_core.specs.Program.Formed.{IsInBody, IsSettable, IsParameter, IsOfResource, AssertionWithin, ProcedureWithin, IsFormed}
+use Rattle.sf_core.specs.Program.Syntax as c
 use Rattle.sf_elab.specs.declared.declared.Declared.{Declared}
 use Rattle.sf_elab.specs.Assertions.{note_faults, maybe_faults}
 use Rattle.sf_elab.specs.Commands.{all_faults, commands_of, commands_faults, set_in_all}

@@ -11,7 +11,7 @@ use Rattle.sf_base.specs.declared.ids.Var.{Var}
 use Rattle.sf_base.specs.declared.ids.Var.TheVariants.{Own}
 use Rattle.sf_base.specs.declared.limits.TheConstants.{PROCEDURES, RESOURCES, FIELDS, OWN_VARIABLES, RESOURCE_VARIABLES}
 use Rattle.sf_base.specs.declared.place.Place.{Place}
-use Rattle.sf_core.specs.Syntax as c
+use Rattle.sf_core.specs.Program.Syntax as c
 use Rattle.sf_elab.specs.declared.declared.Declared.{Declared}
 use Rattle.sf_elab.specs.declared.declared.Header.{Header}
 use Rattle.sf_elab.specs.declared.fault.Fault.TheVariants.{Twice, TooMany}

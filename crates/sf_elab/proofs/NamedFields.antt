@@ -6,7 +6,7 @@ use Rattle.std.specs.Option.{option_map}
 use Rattle.std.specs.Str.{bytes_eq}
 use Rattle.sf_ast.specs.declared.word.Word.{Word}
 use Rattle.sf_base.specs.declared.ids.FieldId.{FieldId}
-use Rattle.sf_core.specs.Named.{IsFirstNamed}
+use Rattle.sf_core.specs.Program.Named.{IsFirstNamed}
 use Rattle.sf_elab.specs.Declarations.{numbered, usual_fields, nth_field, field_table, field_names}
 use Rattle.sf_elab.specs.Table.{Table, find, has, declare}
 use Rattle.sf_elab.specs.Texts.{text}

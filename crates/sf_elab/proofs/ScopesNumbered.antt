@@ -7,9 +7,9 @@ use Rattle.sf_ast.specs.declared.word.Word.{Word}
 use Rattle.sf_ast.specs.Surface as s
 use Rattle.sf_core.specs.declared.assertion.Scope.{Scope}
 use Rattle.sf_core.specs.declared.command.Expr.{Expr}
-use Rattle.sf_core.specs.Formed.{level_scopes, conjuncts_scopes, conjunct_scopes, AreNumbered}
-use Rattle.sf_core.specs.Syntax as c
-use Rattle.sf_core.specs.View.{conjuncts}
+use Rattle.sf_core.specs.Program.Formed.{level_scopes, conjuncts_scopes, conjunct_scopes, AreNumbered}
+use Rattle.sf_core.specs.Program.Syntax as c
+use Rattle.sf_core.specs.Program.View.{conjuncts}
 use Rattle.sf_elab.specs.declared.levels.Levels.{Levels}
 use Rattle.sf_elab.specs.Assertions.{conjunct_of, conjuncts_of, level_of}
 use Rattle.sf_elab.specs.Existentials.{words_in, no_levels, meet, meet_all, opened, made_by, after_conjunct, after, after_level}

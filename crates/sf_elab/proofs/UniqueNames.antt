@@ -9,8 +9,8 @@ use Rattle.sf_base.specs.declared.ids.ResId.{ResId}
 use Rattle.sf_base.specs.declared.ids.Var.{Var}
 use Rattle.sf_base.specs.declared.ids.Var.TheVariants.{Own}
 use Rattle.sf_base.specs.declared.limits.TheConstants.{PROCEDURES, RESOURCES, FIELDS, OWN_VARIABLES, RESOURCE_VARIABLES}
-use Rattle.sf_core.specs.Formed.{next_name, left_name, right_name}
-use Rattle.sf_core.specs.Syntax as c
+use Rattle.sf_core.specs.Program.Links.{next_name, left_name, right_name}
+use Rattle.sf_core.specs.Program.Syntax as c
 use Rattle.sf_elab.specs.declared.declared.Declared.{Declared}
 use Rattle.sf_elab.specs.declared.declared.Header.{Header}
 use Rattle.sf_elab.specs.declared.fault.Fault.{Fault}

@@ -16,7 +16,7 @@ use Rattle.sf_base.specs.declared.ids.Var.TheVariants.{Own}
 use Rattle.sf_core.specs.declared.assertion.Operand.{Operand}
 use Rattle.sf_core.specs.declared.assertion.Scope.{Scope}
 use Rattle.sf_core.specs.declared.command.Expr.{Expr}
-use Rattle.sf_core.specs.Formed.{ExprWithin, TestWithin, OperandWithin, FieldsWithin, is_made}
+use Rattle.sf_core.specs.Program.Formed.{ExprWithin, TestWithin, OperandWithin, FieldsWithin, is_made}
 use Rattle.sf_elab.specs.declared.fault.Fault.{Fault}
 use Rattle.sf_elab.specs.declared.fault.Fault.TheVariants.{Unknown, Foreign, Twice}
 use Rattle.sf_elab.specs.declared.levels.Levels.{Levels}

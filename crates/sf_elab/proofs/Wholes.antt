@@ -2,8 +2,8 @@
 use Rattle.std.proofs.Common.{◌≡◌, ℕ, ◌≤◌, List, [], ◌∷◌, Some, None, refl, sym, subst, ◌∙◌}
 use Rattle.sf_ast.specs.Depth.{items_depth}
 use Rattle.sf_ast.specs.Surface as surface
-use Rattle.sf_core.specs.Formed.{IsFormed}
-use Rattle.sf_core.specs.Syntax as c
+use Rattle.sf_core.specs.Program.Formed.{IsFormed}
+use Rattle.sf_core.specs.Program.Syntax as c
 use Rattle.sf_base.proofs.Cases.{none-not_some}
 use Rattle.sf_elab.specs.declared.fault.Fault.{Fault}
 use Rattle.sf_elab.specs.Elaborated.{elaborated, faults, Elaborates}

@@ -14,8 +14,8 @@ use Rattle.sf_core.specs.declared.assertion.Operand.TheVariants.{Known, Exists}
 use Rattle.sf_core.specs.declared.assertion.Test.TheVariants.{Equal, Differ}
 use Rattle.sf_core.specs.declared.command.Expr.{Expr}
 use Rattle.sf_core.specs.declared.command.Expr.TheVariants.{Nil}
-use Rattle.sf_core.specs.Syntax as c
-use Rattle.sf_core.specs.View.{conjuncts}
+use Rattle.sf_core.specs.Program.Syntax as c
+use Rattle.sf_core.specs.Program.View.{conjuncts}
 use Rattle.sf_elab.specs.declared.fault.Fault.{Fault}
 use Rattle.sf_elab.specs.declared.fault.Fault.TheVariants.{Twice, Missing}
 use Rattle.sf_elab.specs.declared.fault.Link.{Link}

@@ -5,8 +5,8 @@ use Rattle.std.specs.Prelude.{◌==◌, ◌&&◌, Bool, not, cond, List, [], ◌
 use Rattle.sf_ast.specs.declared.word.SurfaceExpr.{SurfaceExpr}
 use Rattle.sf_ast.specs.declared.word.Word.{Word}
 use Rattle.sf_ast.specs.Surface.{Arguments, values, both, Call, Command, assign, look_up, new, mutate, dispose, dispose_round, if_alone, if, while, with, call, fork, block, Commands, done, then}
-use Rattle.sf_core.specs.Syntax as c
-use Rattle.sf_core.specs.View as v
+use Rattle.sf_core.specs.Program.Syntax as c
+use Rattle.sf_core.specs.Program.View as v
 use Rattle.sf_elab.specs.declared.fault.Fault.{Fault}
 use Rattle.sf_elab.specs.declared.fault.Fault.TheVariants.{Unknown, Arity}
 use Rattle.sf_elab.specs.Assertions.{maybe_of, maybe_faults}

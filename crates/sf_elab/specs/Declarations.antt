@@ -10,7 +10,7 @@ use Rattle.sf_base.specs.declared.limits.TheConstants.{PROCEDURES, RESOURCES, FI
 use Rattle.sf_base.specs.declared.place.Place.{Place}
 use Rattle.sf_ast.specs.declared.word.Word.{Word}
 use Rattle.sf_ast.specs.Surface.{Names, Parameters, only_values, references_and_values, Resource, Procedure, Item, fields, resource, procedure}
-use Rattle.sf_core.specs.Formed.{next_name, left_name, right_name}
+use Rattle.sf_core.specs.Program.Links.{next_name, left_name, right_name}
 use Rattle.sf_elab.specs.declared.declared.Declared.{Declared}
 use Rattle.sf_elab.specs.declared.declared.Header.{Header}
 use Rattle.sf_elab.specs.declared.fault.Fault.{Fault}

@@ -3,7 +3,7 @@
 use Rattle.std.specs.Prelude.{◌≡◌, ℕ, ◌+◌, List, [], ◌∷◌, ◌++◌, map, Some, None}
 use Rattle.std.specs.Option.{option_map}
 use Rattle.sf_ast.specs.Surface.{Resource, Item}
-use Rattle.sf_core.specs.Syntax as c
+use Rattle.sf_core.specs.Program.Syntax as c
 use Rattle.sf_elab.specs.declared.declared.Declared.{Declared}
 use Rattle.sf_elab.specs.declared.fault.Fault.{Fault}
 use Rattle.sf_elab.specs.declared.fault.NameFault.{NameFault}

@@ -2,7 +2,7 @@
 -- This project's own kinds of faults.
 use Rattle.std.specs.Prelude.{ℕ, Bool, ◌&&◌, ◌||◌, ◌==◌, nat_lt, if◌then◌else◌, List, [], ◌∷◌, Option, Some, None}
 use Rattle.sf_base.specs.declared.place.Place.{Place}
-use Rattle.sf_core.specs.Formed.{next_name, left_name, right_name}
+use Rattle.sf_core.specs.Program.Links.{next_name, left_name, right_name}
 use Rattle.sf_elab.specs.declared.fault.Fault.{Fault}
 use Rattle.sf_elab.specs.declared.fault.Fault.TheVariants as f
 use Rattle.sf_elab.specs.declared.fault.Link.{Link}

@@ -2,13 +2,13 @@
 
 ghost use Rattle.std.specs.Prelude.{◌≡◌, ◌∷◌, ◌++◌, ◌-◌, [], map, IfOk, OnOk};
 ghost use Rattle.sf_ast.specs.View.{assertion_of as surface_assertion, conjunct_of as surface_conjunct, note_of as surface_note};
-ghost use Rattle.sf_core.specs.View as core;
+ghost use Rattle.sf_core.specs.Program.View as core;
 ghost use Rattle.sf_elab.specs.Assertions.{operand_of, operand_faults, operand_place, values_of, values_faults, link_of, segment_faults, tree_faults, conjunct_of, conjuncts_of, level_of, conjunct_faults, assertion_faults, note_of, note_faults, maybe_of, maybe_faults};
 ghost use Rattle.sf_elab.specs.Existentials.{after, after_conjunct, after_level};
 ghost use Rattle.sf_core.specs.declared.assertion.Operand.TheVariants.{Known};
 ghost use Rattle.sf_core.specs.declared.assertion.Test.TheVariants.{Equal, Differ};
 ghost use Rattle.sf_core.specs.declared.command.Expr.TheVariants.{Nil};
-ghost use Rattle.sf_core.specs.Syntax.{level, none, holds, points as cell, segment, tree};
+ghost use Rattle.sf_core.specs.Program.Syntax.{level, none, holds, points as cell, segment, tree};
 ghost use Rattle.sf_elab.specs.declared.fault.Fault.TheVariants.{Twice};
 ghost use Rattle.sf_elab.specs.declared.fault.Link.TheVariants.{Next, Left, Right};
 ghost use Rattle.sf_elab.specs.Faults.{link_name, where_};

@@ -3,7 +3,7 @@
 ghost use Rattle.std.specs.Prelude.{◌≡◌, ◌∷◌, ◌++◌, ◌+◌, [], ℕ, List, length, map, filter, IfOk, OnOk};
 ghost use Rattle.sf_ast.specs.View.{command_of as surface_command, commands as surface_commands, item_of, names_of, procedure_of as surface_procedure, resource_of as surface_resource};
 ghost use Rattle.sf_base.specs.declared.ids.Var.TheVariants.{Own};
-ghost use Rattle.sf_core.specs.View as core;
+ghost use Rattle.sf_core.specs.Program.View as core;
 ghost use Rattle.sf_elab.specs.Commands.{all_faults, commands_faults, commands_of, set_in_all};
 ghost use Rattle.sf_elab.specs.Assertions.{maybe_faults, maybe_of, note_faults, note_of};
 ghost use Rattle.sf_elab.specs.Declarations.{procedures_in, resources_in, numbered, references_of, shared_by, values_of};

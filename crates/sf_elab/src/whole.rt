@@ -2,10 +2,10 @@
 
 ghost use Rattle.std.specs.Prelude.{◌≡◌, ◌⊎◌, ◌++◌, map, IfErr, IfOk, MatchResult, OnOk};
 ghost use Rattle.sf_ast.specs.View.{item_of};
-ghost use Rattle.sf_core.specs.Formed.{IsFormed};
-ghost use Rattle.sf_core.specs.Syntax as c;
-ghost use Rattle.sf_core.specs.View.{procedure_of as core_procedure, program_with, resource_of};
-ghost use Rattle.sf_core.specs.ProgramView.{program_of};
+ghost use Rattle.sf_core.specs.Program.Formed.{IsFormed};
+ghost use Rattle.sf_core.specs.Program.Syntax as c;
+ghost use Rattle.sf_core.specs.Program.View.{procedure_of as core_procedure, program_with, resource_of};
+ghost use Rattle.sf_core.specs.Program.ProgramView.{program_of};
 ghost use Rattle.sf_elab.specs.Commands.{all_faults};
 ghost use Rattle.sf_elab.specs.Declarations.{procedures_in, resources_in};
 ghost use Rattle.sf_elab.specs.Elaborated.{Elaborates, FirstFault, elaborated, faults, invariants_faults, resources_from};
@@ -18,7 +18,7 @@ use crate::first::{first_of, told};
 use crate::procedures::{procedures, resources};
 use sf_ast::{File, Item};
 use sf_base::Name;
-use sf_core::{Proc, Program, Resource};
+use sf_core::{Links, Proc, Program, Resource};
 use std::alloc::{AllocError, Global};
 
 /// What a file's tree has, whatever is wrong in it.
@@ -71,10 +71,12 @@ fn program(parts: Gathered) -> Program
     requires { IsFormed (program_with parts.fields.items parts.resources.items parts.procedures.items) }
     ensures { program_of result ≡ program_with parts.fields.items parts.resources.items parts.procedures.items }
 {
+    let links = Links::among(&parts.fields);
     Program {
         fields: parts.fields,
         resources: parts.resources,
         procedures: parts.procedures,
+        links,
     }
 }
 

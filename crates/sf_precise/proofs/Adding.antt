@@ -13,7 +13,7 @@ use Rattle.std.proofs.lemmas.Option.{slice_get_within}
 use Rattle.sf_base.proofs.Cases.{either}
 use Rattle.sf_precise.specs.declared.work.Work.{Work}
 use Rattle.sf_core.specs.declared.command.Expr.{Expr}
-use Rattle.sf_core.specs.Syntax.{Conjunct}
+use Rattle.sf_core.specs.Program.Syntax.{Conjunct}
 use Rattle.sf_precise.specs.Waits.{Job, job_of, jobs_of, need_of, rests_on, unknown_among, waits_for}
 use Rattle.sf_precise.specs.Work.{AddsJob, AddsWaits, IsWork, is_ready, is_served, none_taken, row}
 

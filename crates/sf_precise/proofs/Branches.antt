@@ -6,10 +6,11 @@ use Rattle.sf_core.specs.declared.assertion.Operand.TheVariants.{Exists}
 use Rattle.sf_core.specs.declared.assertion.Scope.{Scope}
 use Rattle.sf_core.specs.declared.assertion.Test.{Test}
 use Rattle.sf_base.proofs.Cases.{and-both, not-true}
-use Rattle.sf_core.specs.Determined.{CanBeTaken, Determined, HasOrder, known_inside}
-use Rattle.sf_core.specs.InOrder.{StandsInOrder}
-use Rattle.sf_core.specs.Occurs.{OccursInAll, is_made}
-use Rattle.sf_core.specs.Syntax.{choose, Conjuncts, Level, level}
+use Rattle.sf_core.specs.Assertions.Determined.{CanBeTaken, Determined, HasOrder, known_inside}
+use Rattle.sf_core.specs.Assertions.InOrder.{IsInOrder}
+use Rattle.sf_core.specs.Assertions.Occurs.{OccursInAll}
+use Rattle.sf_core.specs.Assertions.Scopes.{is_made_by}
+use Rattle.sf_core.specs.Program.Syntax.{choose, Conjuncts, Level, level}
 use Rattle.sf_precise.specs.declared.fault.OrderFault.{OrderFault}
 use Rattle.sf_precise.specs.declared.fault.OrderFault.TheVariants.{Undetermined, OutOfMemory}
 use Rattle.sf_precise.specs.Order.{IsOrder, IsOrderFrom}
@@ -21,7 +22,7 @@ use Rattle.sf_precise.proofs.Greedy.{order-has, order-stands, taken-branches, ta
 use Rattle.sf_precise.proofs.NeverTaken.{never-no_order}
 
 inside-outside : (made : Scope) (known : ℕ → Bool) (n : ℕ) → known_inside made known n ≡ true → known_outside (Some made) n ≡ true
-inside-outside made known n e = (and-both (known n) (not (is_made made n)) e).1
+inside-outside made known n e = (and-both (known n) (not (is_made_by made n)) e).1
 
 module _ {E : Type 0} where
   -- the existentials that a level makes
@@ -29,7 +30,7 @@ module _ {E : Type 0} where
   made_of (level made cs) = made
 
   outside-inside : (made : Scope) (cs : Conjuncts E) (known : ℕ → Bool) → IsSuppliedLevel known (level made cs) → (n : ℕ) → OccursInAll cs (Exists n) → known_outside (Some made) n ≡ true → known_inside made known n ≡ true
-  outside-inside made cs known s n o e = ap₂ ◌&&◌ (s n (o, not-true (is_made made n) e)) e
+  outside-inside made cs known s n o e = ap₂ ◌&&◌ (s n (o, not-true (is_made_by made n) e)) e
 
   -- a branch that is in order is so from whatever supplies it
   pub branch-ordered : (made : Scope) (a o : Level E) → made_of a ≡ made → IsOrderFrom (known_outside (Some made)) a o → IsBranch a (Some o)
@@ -65,7 +66,7 @@ module _ {E : Type 0} where
   never-undetermined (level made cs) p n d = never-no_order (λ n. false) cs cs p n d
 
   -- a level in order stands in order
-  pub ordered-stands : (a o : Level E) → IsOrderFrom (λ n. false) a o → StandsInOrder o
+  pub ordered-stands : (a o : Level E) → IsOrderFrom (λ n. false) a o → IsInOrder o
   ordered-stands a (level made os) i = order-stands (λ n. false) i.0 os i.2
 
   -- a fault that names a conjunct that is never taken names none of a determined level

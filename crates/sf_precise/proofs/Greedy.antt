@@ -6,10 +6,10 @@ use Rattle.sf_core.specs.declared.assertion.Operand.{Operand}
 use Rattle.sf_core.specs.declared.assertion.Operand.TheVariants.{Known, Exists}
 use Rattle.sf_core.specs.declared.assertion.Test.TheVariants.{True, Equal, Differ}
 use Rattle.sf_base.proofs.Cases.{either, or-first, or-second}
-use Rattle.sf_core.specs.Determined.{CanBeTaken, HasOrder, IsKnown, IsReady, all_taken, branches, is_learned, known_after, known_inside, plain, take}
-use Rattle.sf_core.specs.InOrder.{InOrder, InOrderInside, IsNext, IsSupplied, is_known}
-use Rattle.sf_core.specs.Occurs.{OccursIn, OccursInAll, OccursInOne}
-use Rattle.sf_core.specs.Syntax.{Conjunct, holds, points, segment, tree, choose, Level, level, Conjuncts, none, also}
+use Rattle.sf_core.specs.Assertions.Determined.{CanBeTaken, HasOrder, IsKnown, IsReady, all_taken, branches, is_learned, known_after, known_inside, plain, take}
+use Rattle.sf_core.specs.Assertions.InOrder.{InOrder, InOrderInside, IsNext, IsSupplied, is_known}
+use Rattle.sf_core.specs.Assertions.Occurs.{OccursIn, OccursInAll, OccursInOne}
+use Rattle.sf_core.specs.Program.Syntax.{Conjunct, holds, points, segment, tree, choose, Level, level, Conjuncts, none, also}
 use Rattle.sf_precise.specs.Order.{IsOrder, IsOrderInside, IsOrderWithin}
 use Rattle.sf_precise.specs.Prepared.{HasOrderInside}
 use Rattle.sf_precise.proofs.Agree.{first-leaves, leaves-occurs_one, leaves-occurs_rest}

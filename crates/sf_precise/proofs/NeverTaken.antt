@@ -4,9 +4,9 @@ use Rattle.std.specs.Prelude.{◌≡◌, ◌⊎◌, ℕ, Bool, true}
 use Rattle.std.proofs.Common.{sym, ap, ◌∙◌, refl, subst, inl, inr}
 use Rattle.sf_base.specs.declared.place.Place.{Place}
 use Rattle.sf_base.proofs.Cases.{either, or-second, or-which}
-use Rattle.sf_core.proofs.OrderLaws.{KnowsMore, more-taken, taken-more}
-use Rattle.sf_core.specs.Determined.{CanBeTaken, HasOrder, Leaves, all_taken, is_learned, known_after, take}
-use Rattle.sf_core.specs.Syntax.{Conjunct, Conjuncts, none, also}
+use Rattle.sf_core.proofs.Assertions.Orders.{KnowsMore, more-taken, taken-more}
+use Rattle.sf_core.specs.Assertions.Determined.{CanBeTaken, HasOrder, Leaves, all_taken, is_learned, known_after, take}
+use Rattle.sf_core.specs.Program.Syntax.{Conjunct, Conjuncts, none, also}
 use Rattle.sf_precise.specs.Taken.{IsAmong, IsFirstNeverTaken, IsNeverTaken, Takes, known_by, place_at}
 
 module _ {E : Type 0} where

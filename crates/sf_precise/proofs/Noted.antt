@@ -7,8 +7,8 @@ use Rattle.std.proofs.lemmas.List.Elements.{Contains-append_left, Contains-push,
 use Rattle.std.proofs.lemmas.Slice.Zip.{all_zipped_more}
 use Rattle.sf_base.specs.declared.place.Place.{Place}
 use Rattle.sf_base.proofs.Cases.{either}
-use Rattle.sf_core.specs.Determined.{Determined}
-use Rattle.sf_core.specs.Syntax.{Assertion, Conjuncts, Level, level, none, also}
+use Rattle.sf_core.specs.Assertions.Determined.{Determined}
+use Rattle.sf_core.specs.Program.Syntax.{Assertion, Conjuncts, Level, level, none, also}
 use Rattle.sf_precise.specs.Notes.{AreOrdersOf, IsFirstPlace, NeverTakenIn, earlier_of, is_before}
 use Rattle.sf_precise.specs.Order.{IsOrderOf}
 use Rattle.sf_precise.specs.Taken.{IsFirstNeverTaken, NeverTakenAt}

@@ -7,13 +7,13 @@ use Rattle.sf_core.specs.declared.assertion.Operand.{Operand}
 use Rattle.sf_core.specs.declared.assertion.Operand.TheVariants.{Known, Exists}
 use Rattle.sf_core.specs.declared.assertion.Test.TheVariants.{True, Equal, Differ}
 use Rattle.sf_base.proofs.Cases.{either, or-which}
-use Rattle.sf_core.proofs.DeterminedLaws.{leaves-focus, leaves-unfocus}
+use Rattle.sf_core.proofs.Assertions.Determined.{leaves-focus, leaves-unfocus}
 use Rattle.sf_base.proofs.HeapSplits.{star-map}
-use Rattle.sf_core.specs.Determined.{CanBeTaken, Determined, HasOrder, IsKnown, all_taken, branches, known_after, known_inside, plain, take}
+use Rattle.sf_core.specs.Assertions.Determined.{CanBeTaken, Determined, HasOrder, IsKnown, all_taken, branches, known_after, known_inside, plain, take}
 use Rattle.sf_base.specs.HeapStore.{Heap}
-use Rattle.sf_core.specs.InOrder.{InOrder, IsNext, StandsInOrder, is_known}
-use Rattle.sf_core.specs.Sat.{Sat, SatAll, SatOne}
-use Rattle.sf_core.specs.Syntax.{Conjunct, holds, points, segment, tree, choose, Level, level, Conjuncts, none, also}
+use Rattle.sf_core.specs.Assertions.InOrder.{InOrder, IsNext, IsInOrder, is_known}
+use Rattle.sf_core.specs.Assertions.Sat.{Sat, SatAll, SatOne}
+use Rattle.sf_core.specs.Program.Syntax.{Conjunct, holds, points, segment, tree, choose, Level, level, Conjuncts, none, also}
 use Rattle.sf_precise.specs.Order.{IsFirstReady, IsOrder, IsOrderFrom, IsOrderInside, IsOrderWithin}
 use Rattle.sf_precise.proofs.Agree.{first-leaves}
 
@@ -150,5 +150,5 @@ module _ {E : Type 0} where
     next-taken known (tree p left right x) i = plain i
     next-taken known (choose p t (level made this) (level other that)) i = branches p t made other this that refl i.0 (stands-has (known_inside made known) this i.1) (stands-has (known_inside other known) that i.2)
 
-  pub stands-determined : (a : Level E) → StandsInOrder a → Determined a
+  pub stands-determined : (a : Level E) → IsInOrder a → Determined a
   stands-determined (level made cs) i = stands-has (λ n. false) cs i

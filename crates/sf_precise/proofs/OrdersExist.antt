@@ -4,9 +4,9 @@ use Rattle.std.proofs.Common.{◌⊎◌, ◌≤◌, ℕ, zero, suc, Bool, false,
 use Rattle.std.specs.List.{All}
 use Rattle.std.proofs.lemmas.List.Elements.{All-contains_itself}
 use Rattle.sf_base.specs.declared.place.Place.{Place}
-use Rattle.sf_core.specs.Determined.{CanBeTaken, Determined, HasOrder, all_taken, known_after, known_inside, take}
-use Rattle.sf_core.specs.Syntax.{Assertion, Conjunct, holds, points, segment, tree, choose, Level, level, Conjuncts, none, also}
-use Rattle.sf_core.proofs.OrderLaws.{order-first, order-stuck}
+use Rattle.sf_core.specs.Assertions.Determined.{CanBeTaken, Determined, HasOrder, all_taken, known_after, known_inside, take}
+use Rattle.sf_core.specs.Program.Syntax.{Assertion, Conjunct, holds, points, segment, tree, choose, Level, level, Conjuncts, none, also}
+use Rattle.sf_core.proofs.Assertions.Orders.{order-first, order-stuck}
 use Rattle.sf_precise.specs.Notes.{IsFirstPlace, NeverTakenIn, earlier_of}
 use Rattle.sf_precise.specs.Order.{IsOrder, IsOrderOfLevel, IsOrderWithin}
 use Rattle.sf_precise.specs.Taken.{IsAmong, IsFirstNeverTaken, NeverTakenAt, Takes, known_by, place_at}

@@ -9,11 +9,12 @@ use Rattle.sf_core.specs.declared.assertion.Scope.{Scope}
 use Rattle.sf_core.specs.declared.assertion.Test.{Test}
 use Rattle.sf_core.specs.declared.assertion.Test.TheVariants.{True, Equal, Differ}
 use Rattle.sf_base.proofs.Cases.{either, not-true}
-use Rattle.sf_core.proofs.OrderLaws.{KnowsMore}
-use Rattle.sf_core.specs.Determined.{CanBeTaken, HasOrder, IsKnown, IsReady, branches, known_inside, plain}
-use Rattle.sf_core.specs.InOrder.{IsSupplied}
-use Rattle.sf_core.specs.Occurs.{OccursIn, OccursInAll, OccursInFields, OccursInOne, OccursInTest, is_made}
-use Rattle.sf_core.specs.Syntax.{Conjunct, holds, points, segment, tree, choose, Level, level, Conjuncts, none, also}
+use Rattle.sf_core.proofs.Assertions.Orders.{KnowsMore}
+use Rattle.sf_core.specs.Assertions.Determined.{CanBeTaken, HasOrder, IsKnown, IsReady, branches, known_inside, plain}
+use Rattle.sf_core.specs.Assertions.InOrder.{IsSupplied}
+use Rattle.sf_core.specs.Assertions.Occurs.{OccursIn, OccursInAll, OccursInFields, OccursInOne, OccursInTest}
+use Rattle.sf_core.specs.Assertions.Scopes.{is_made_by}
+use Rattle.sf_core.specs.Program.Syntax.{Conjunct, holds, points, segment, tree, choose, Level, level, Conjuncts, none, also}
 use Rattle.sf_precise.specs.Order.{IsOrderInside, IsOrderWithin}
 use Rattle.sf_precise.specs.Outer.{existential, field_existentials, outer_of, outer_of_all, outer_of_level, test_existentials}
 use Rattle.sf_precise.specs.Prepared.{IsPrepared}
@@ -110,7 +111,7 @@ module _ {E : Type 0} where
     in-outer (choose p t this that) n (inr (inr o)) = in-right (test_existentials t) (outer_of_level this ++ outer_of_level that) n (in-right (outer_of_level this) (outer_of_level that) n (in-outer_level that n o))
 
     in-outer_level : (a : Level E) (n : ℕ) → OccursIn a (Exists n) → In (outer_of_level a) n
-    in-outer_level (level made cs) n o = in-filter (λ m. not (is_made made m)) (outer_of_all cs) n (in-outer_all cs n o.0) (not-made (is_made made n) o.1)
+    in-outer_level (level made cs) n o = in-filter (λ m. not (is_made_by made m)) (outer_of_all cs) n (in-outer_all cs n o.0) (not-made (is_made_by made n) o.1)
 
     in-outer_all : (cs : Conjuncts E) (n : ℕ) → OccursInAll cs (Exists n) → In (outer_of_all cs) n
     in-outer_all none n o = absurd o
@@ -128,7 +129,7 @@ module _ {E : Type 0} where
         (λ j. either (in-which (outer_of_level this) (outer_of_level that) n j) (λ k. inr (inl (outer_level-in this n k))) (λ k. inr (inr (outer_level-in that n k))))
 
     outer_level-in : (a : Level E) (n : ℕ) → In (outer_of_level a) n → OccursIn a (Exists n)
-    outer_level-in (level made cs) n i = let j = in-filtered (λ m. not (is_made made m)) (outer_of_all cs) n i in (outer_all-in cs n j.0, not-true (is_made made n) j.1)
+    outer_level-in (level made cs) n i = let j = in-filtered (λ m. not (is_made_by made m)) (outer_of_all cs) n i in (outer_all-in cs n j.0, not-true (is_made_by made n) j.1)
 
     outer_all-in : (cs : Conjuncts E) (n : ℕ) → In (outer_of_all cs) n → OccursInAll cs (Exists n)
     outer_all-in none n i = absurd i

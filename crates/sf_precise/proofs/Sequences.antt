@@ -18,9 +18,9 @@ use Rattle.sf_core.specs.declared.assertion.Operand.{Operand}
 use Rattle.sf_core.specs.declared.assertion.Operand.TheVariants.{Known, Exists}
 use Rattle.sf_core.specs.declared.assertion.Test.TheVariants.{True, Equal, Differ}
 use Rattle.sf_base.specs.declared.ids.FieldId.{FieldId}
-use Rattle.sf_core.specs.Determined.{CanBeTaken, is_existential, is_in_fields, is_learned}
-use Rattle.sf_core.specs.Syntax.{Conjunct, holds, points, segment, tree, choose, Conjuncts, none}
-use Rattle.sf_core.specs.View.{conjuncts}
+use Rattle.sf_core.specs.Assertions.Determined.{CanBeTaken, is_existential, is_in_fields, is_learned}
+use Rattle.sf_core.specs.Program.Syntax.{Conjunct, holds, points, segment, tree, choose, Conjuncts, none}
+use Rattle.sf_core.specs.Program.View.{conjuncts}
 use Rattle.sf_precise.specs.declared.work.Work.{Work}
 use Rattle.sf_precise.specs.Order.{IsFirstReady, IsOrder, IsOrderWithin}
 use Rattle.sf_precise.specs.Outer.{existential, field_existentials}

@@ -4,10 +4,10 @@ use Rattle.sf_core.specs.declared.assertion.Operand.{Operand}
 use Rattle.sf_core.specs.declared.assertion.Operand.TheVariants.{Known, Exists}
 use Rattle.sf_core.specs.declared.assertion.Test.TheVariants.{True, Equal, Differ}
 use Rattle.sf_base.proofs.Cases.{either}
-use Rattle.sf_core.proofs.OrderLaws.{order-first, order-stuck}
-use Rattle.sf_core.specs.Determined.{CanBeTaken, HasOrder, IsKnown, IsReady, Leaves, all_taken, branches, known_after, known_inside, plain, take}
-use Rattle.sf_core.specs.InOrder.{IsSupplied}
-use Rattle.sf_core.specs.Syntax.{Conjunct, holds, points, segment, tree, choose, Level, level, Conjuncts, none, also}
+use Rattle.sf_core.proofs.Assertions.Orders.{order-first, order-stuck}
+use Rattle.sf_core.specs.Assertions.Determined.{CanBeTaken, HasOrder, IsKnown, IsReady, Leaves, all_taken, branches, known_after, known_inside, plain, take}
+use Rattle.sf_core.specs.Assertions.InOrder.{IsSupplied}
+use Rattle.sf_core.specs.Program.Syntax.{Conjunct, holds, points, segment, tree, choose, Level, level, Conjuncts, none, also}
 use Rattle.sf_precise.specs.Order.{IsFirstReady}
 use Rattle.sf_precise.specs.Outer.{outer_of}
 use Rattle.sf_precise.specs.Taken.{IsAmong}

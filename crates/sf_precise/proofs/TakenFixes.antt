@@ -2,11 +2,11 @@
 -- Names: `takes-LAW` speaks of sequences of takings.
 use Rattle.std.proofs.Common.{ℕ, Bool}
 use Rattle.sf_base.specs.declared.value.Value.{Value}
-use Rattle.sf_core.specs.Determined.{known_after}
+use Rattle.sf_core.specs.Assertions.Determined.{known_after}
 use Rattle.sf_base.specs.HeapStore.{Heap, Splits}
-use Rattle.sf_core.specs.Sat.{SatAll}
-use Rattle.sf_core.specs.Syntax.{Conjuncts, none, also}
-use Rattle.sf_core.proofs.DeterminedLaws.{Agree, after-agree, leaves-focus, taken-same}
+use Rattle.sf_core.specs.Assertions.Sat.{SatAll}
+use Rattle.sf_core.specs.Program.Syntax.{Conjuncts, none, also}
+use Rattle.sf_core.proofs.Assertions.Determined.{Agree, after-agree, leaves-focus, taken-same}
 use Rattle.sf_base.proofs.MapSplits.{splits-assoc_right, splits-comm}
 use Rattle.sf_precise.specs.Taken.{Takes, known_by}
 

@@ -10,8 +10,8 @@ use Rattle.sf_core.specs.declared.assertion.Conjunct.TheVariants.{rolls-Holds, r
 use Rattle.sf_core.specs.declared.assertion.Conjunct.TheFolds.{fold-roll-Conjunct, fold-roll-Level, fold_out-Level}
 use Rattle.sf_core.specs.declared.assertion.Conjunct.TheOpen.{Level-F}
 use Rattle.sf_core.specs.declared.assertion.Level.{Level as CodeLevel, roll-Level, out-Level}
-use Rattle.sf_core.specs.Syntax.{Conjunct, holds, points, segment, tree, choose, Level, level}
-use Rattle.sf_core.specs.View.{conjuncts, conjunct_of, level_of, conjunct_step, level_step}
+use Rattle.sf_core.specs.Program.Syntax.{Conjunct, holds, points, segment, tree, choose, Level, level}
+use Rattle.sf_core.specs.Program.View.{conjuncts, conjunct_of, level_of, conjunct_step, level_step}
 
 pub view-holds : (p : Place) (t : Test (Operand Expr)) → conjunct_of {E = Expr} (Holds p t) ≡ holds p t
 view-holds p t = ap (conjunct_of {E = Expr}) (sym (rolls-Holds p t)) ∙ fold-roll-Conjunct Expr (Conjunct Expr) (Level Expr) conjunct_step level_step _

@@ -7,11 +7,11 @@ use Rattle.sf_base.specs.declared.ids.Var.{Var}
 use Rattle.sf_base.specs.declared.place.Place.{Place}
 use Rattle.sf_base.specs.declared.value.Value.{Value}
 use Rattle.sf_core.specs.declared.command.Expr.{Expr}
-use Rattle.sf_core.specs.Determined.{Determined}
+use Rattle.sf_core.specs.Assertions.Determined.{Determined}
 use Rattle.sf_base.specs.HeapStore.{Heap, Splits}
-use Rattle.sf_core.specs.InOrder.{StandsInOrder}
-use Rattle.sf_core.specs.Sat.{Sat, SatAll, value}
-use Rattle.sf_core.specs.Syntax.{Assertion, Conjuncts, Level}
+use Rattle.sf_core.specs.Assertions.InOrder.{IsInOrder}
+use Rattle.sf_core.specs.Assertions.Sat.{Sat, SatAll, value}
+use Rattle.sf_core.specs.Program.Syntax.{Assertion, Conjuncts, Level}
 use Rattle.sf_precise.specs.Notes.{AreOrdersOf, IsFirstPlace, NeverTakenIn}
 use Rattle.sf_precise.specs.Order.{IsOrderOfLevel}
 use Rattle.sf_precise.specs.Taken.{NeverTakenAt, Takes, known_by}
@@ -22,11 +22,11 @@ OrderIsOne = (a o u : Level Expr) → IsOrderOfLevel a o → IsOrderOfLevel a u 
 
 -- a level in order is determined, and stands in order
 abbrev pub OrderStands : Type 0
-OrderStands = (a o : Level Expr) → IsOrderOfLevel a o → Determined a × StandsInOrder o
+OrderStands = (a o : Level Expr) → IsOrderOfLevel a o → Determined a × IsInOrder o
 
 -- a level that stands in order is determined
 abbrev pub StandingIsDetermined : Type 0
-StandingIsDetermined = (o : Level Expr) → StandsInOrder o → Determined o
+StandingIsDetermined = (o : Level Expr) → IsInOrder o → Determined o
 
 -- a level of which a conjunct is never taken is not determined
 abbrev pub NeverTakenIsUndetermined : Type 0

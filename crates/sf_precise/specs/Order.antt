@@ -1,8 +1,8 @@
 -- Order: the order of conjuncts that takes the first ready one, in text order, again and again, inside branches too.
 -- This project's own choice among the orders that Determined allows.
 use Rattle.std.specs.Prelude.{◌≡◌, ◌⊎◌, ℕ, Bool, false}
-use Rattle.sf_core.specs.Determined.{CanBeTaken, known_after, known_inside}
-use Rattle.sf_core.specs.Syntax.{Conjunct, holds, points, segment, tree, choose, Level, level, Conjuncts, none, also, Assertion}
+use Rattle.sf_core.specs.Assertions.Determined.{CanBeTaken, known_after, known_inside}
+use Rattle.sf_core.specs.Program.Syntax.{Conjunct, holds, points, segment, tree, choose, Level, level, Conjuncts, none, also, Assertion}
 
 -- the conjunct is the first of these that can be taken, and those are the others
 abbrev pub IsFirstReady : {E : Type 0} → (ℕ → Bool) → Conjuncts E → Conjunct E → Conjuncts E → Type 0

@@ -7,8 +7,8 @@ use Rattle.sf_core.specs.declared.assertion.Operand.{Operand}
 use Rattle.sf_core.specs.declared.assertion.Operand.TheVariants.{Known, Exists}
 use Rattle.sf_core.specs.declared.assertion.Test.{Test}
 use Rattle.sf_core.specs.declared.assertion.Test.TheVariants.{True, Equal, Differ}
-use Rattle.sf_core.specs.Occurs.{is_made}
-use Rattle.sf_core.specs.Syntax.{Conjunct, holds, points, segment, tree, choose, Level, level, Conjuncts, none, also}
+use Rattle.sf_core.specs.Assertions.Scopes.{is_made_by}
+use Rattle.sf_core.specs.Program.Syntax.{Conjunct, holds, points, segment, tree, choose, Level, level, Conjuncts, none, also}
 
 -- the existential that the operand is, if it is one
 abbrev pub existential : {E : Type 0} → Operand E → List ℕ
@@ -30,7 +30,7 @@ field_existentials (f ∷ fs) = existential f.1 ++ field_existentials fs
 abbrev mutual
   -- those of a level that are not made there, or further in where they stand
   pub outer_of_level : {E : Type 0} → Level E → List ℕ
-  outer_of_level (level made cs) = filter (λ n. not (is_made made n)) (outer_of_all cs)
+  outer_of_level (level made cs) = filter (λ n. not (is_made_by made n)) (outer_of_all cs)
 
   -- those of conjuncts, one conjunct after the other
   pub outer_of_all : {E : Type 0} → Conjuncts E → List ℕ

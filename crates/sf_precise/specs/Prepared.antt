@@ -6,10 +6,10 @@ use Rattle.sf_base.specs.declared.place.Place.{Place}
 use Rattle.sf_core.specs.declared.assertion.Operand.{Operand}
 use Rattle.sf_core.specs.declared.assertion.Operand.TheVariants.{Exists}
 use Rattle.sf_core.specs.declared.assertion.Test.{Test}
-use Rattle.sf_core.specs.Determined.{CanBeTaken, HasOrder, known_inside}
-use Rattle.sf_core.specs.InOrder.{IsSupplied}
-use Rattle.sf_core.specs.Occurs.{OccursIn}
-use Rattle.sf_core.specs.Syntax.{Conjunct, choose, Level, level}
+use Rattle.sf_core.specs.Assertions.Determined.{CanBeTaken, HasOrder, known_inside}
+use Rattle.sf_core.specs.Assertions.InOrder.{IsSupplied}
+use Rattle.sf_core.specs.Assertions.Occurs.{OccursIn}
+use Rattle.sf_core.specs.Program.Syntax.{Conjunct, choose, Level, level}
 use Rattle.sf_precise.specs.Order.{IsOrderInside, IsOrderWithin}
 
 -- the choice with its branches in order, where both have one

@@ -2,10 +2,10 @@
 -- This project's own notion, beside Determined.
 use Rattle.std.specs.Prelude.{◌≡◌, ◌⊎◌, ℕ, Bool, false}
 use Rattle.sf_base.specs.declared.place.Place.{Place}
-use Rattle.sf_core.specs.Determined.{CanBeTaken, Leaves, known_after}
+use Rattle.sf_core.specs.Assertions.Determined.{CanBeTaken, Leaves, known_after}
 use Rattle.sf_precise.specs.declared.fault.OrderFault.{OrderFault}
 use Rattle.sf_precise.specs.declared.fault.OrderFault.TheVariants.{Undetermined, OutOfMemory}
-use Rattle.sf_core.specs.Syntax.{Conjunct, holds, points, segment, tree, choose, Level, level, Conjuncts, none, also}
+use Rattle.sf_core.specs.Program.Syntax.{Conjunct, holds, points, segment, tree, choose, Level, level, Conjuncts, none, also}
 
 -- the place of a conjunct's first token
 abbrev pub place_at : {E : Type 0} → Conjunct E → Place

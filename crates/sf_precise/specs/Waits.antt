@@ -7,14 +7,14 @@ use Rattle.sf_core.specs.declared.assertion.Operand.TheVariants.{Known, Exists}
 use Rattle.sf_core.specs.declared.assertion.Scope.{Scope}
 use Rattle.sf_core.specs.declared.assertion.Test.{Test}
 use Rattle.sf_core.specs.declared.assertion.Test.TheVariants.{True, Equal, Differ}
-use Rattle.sf_core.specs.Occurs.{is_made}
-use Rattle.sf_core.specs.Syntax.{Conjunct, holds, points, segment, tree, choose}
+use Rattle.sf_core.specs.Assertions.Scopes.{is_made_by}
+use Rattle.sf_core.specs.Program.Syntax.{Conjunct, holds, points, segment, tree, choose}
 use Rattle.sf_precise.specs.Outer.{existential, test_existentials, field_existentials, outer_of}
 
 -- what is known at first: nothing, or what that scope does not make
 abbrev pub known_outside : Option Scope → ℕ → Bool
 known_outside None n = false
-known_outside (Some made) n = not (is_made made n)
+known_outside (Some made) n = not (is_made_by made n)
 
 -- those that are not known at first
 abbrev pub unknown_among : (ℕ → Bool) → List ℕ → List ℕ

@@ -1,6 +1,6 @@
 ghost use Rattle.std.specs.Prelude.{IfOk, map};
-ghost use Rattle.sf_core.specs.View.{assertion_of, command_of};
-ghost use Rattle.sf_core.specs.ProgramView.{program_of};
+ghost use Rattle.sf_core.specs.Program.View.{assertion_of, command_of};
+ghost use Rattle.sf_core.specs.Program.ProgramView.{program_of};
 ghost use Rattle.sf_calls.specs.Assigned.{Assigned, IsInOrderIn};
 ghost use Rattle.sf_calls.specs.FirstBreach.{Conditions};
 ghost use Rattle.sf_calls.specs.Sets.{AreSetsOf, IsVarSet};

@@ -1,8 +1,8 @@
 //! All annotations of a program.
 
 ghost use Rattle.std.specs.Prelude.{◌≡◌, ◌++◌, flat_map, map, IfOk, OnOk};
-ghost use Rattle.sf_core.specs.View.{assertion_of, block_of, command_of, procedure_of, resource_of};
-ghost use Rattle.sf_core.specs.ProgramView.{program_of};
+ghost use Rattle.sf_core.specs.Program.View.{assertion_of, block_of, command_of, procedure_of, resource_of};
+ghost use Rattle.sf_core.specs.Program.ProgramView.{program_of};
 ghost use Rattle.sf_precise.specs.Notes.{loops_in, loops_of, notes_in, notes_of};
 
 use sf_core::{Assertion, Command, Proc, Program, Resource};

@@ -3,8 +3,8 @@
 
 ghost use Rattle.std.specs.Prelude.{◌≡◌, ◌++◌, [], map, option_map, IfErr, IfOk, OnOk, Some, None};
 ghost use Rattle.std.specs.List.{AllZip};
-ghost use Rattle.sf_core.specs.Determined.{Determined, HasOrder};
-ghost use Rattle.sf_core.specs.View.{assertion_of, conjunct_of, level_of};
+ghost use Rattle.sf_core.specs.Assertions.Determined.{Determined, HasOrder};
+ghost use Rattle.sf_core.specs.Program.View.{assertion_of, conjunct_of, level_of};
 ghost use Rattle.sf_precise.specs.Order.{IsOrderFrom, IsOrderOf};
 ghost use Rattle.sf_precise.specs.Outer.{outer_of, outer_of_level};
 ghost use Rattle.sf_precise.specs.Prepared.{IsBranch, IsPrepared, joined};

@@ -1,7 +1,7 @@
 //! The existentials that stand in the parts of a conjunct, and those that a scope does not make.
 
 ghost use Rattle.std.specs.Prelude.{◌≡◌, ◌++◌, ◌&&◌, not, filter, flat_map, OnOk};
-ghost use Rattle.sf_core.specs.Occurs.{is_made};
+ghost use Rattle.sf_core.specs.Assertions.Scopes.{is_made_by};
 ghost use Rattle.sf_precise.specs.Outer.{existential, field_existentials, test_existentials};
 
 use sf_base::FieldId;
@@ -9,8 +9,8 @@ use sf_core::{Expr, Operand, Scope, Test};
 use std::alloc::AllocError;
 
 /// Whether the existential of that number is made by the scope.
-pub fn is_made(made: Scope, n: u32) -> bool
-    ensures { result ≡ is_made made n }
+pub fn is_made_by(made: Scope, n: u32) -> bool
+    ensures { result ≡ is_made_by made n }
 {
     made.first <= n && n - made.first < made.count
 }
@@ -58,7 +58,7 @@ pub fn add_all_not_made(
     lists: &[Vec<u32>],
     found: &mut Vec<u32>,
 ) -> Result<(), AllocError>
-    ensures { OnOk result (found.new.items ≡ found.old.items ++ flat_map (λ ns. filter (λ n. not (is_made made n)) ns.items) lists.now) }
+    ensures { OnOk result (found.new.items ≡ found.old.items ++ flat_map (λ ns. filter (λ n. not (is_made_by made n)) ns.items) lists.now) }
 {
     for ns in lists {
         add_not_made(made, ns, found)?;
@@ -68,10 +68,10 @@ pub fn add_all_not_made(
 
 /// Appends those that the scope does not make.
 fn add_not_made(made: Scope, ns: &[u32], found: &mut Vec<u32>) -> Result<(), AllocError>
-    ensures { OnOk result (found.new.items ≡ found.old.items ++ filter (λ n. not (is_made made n)) ns.now) }
+    ensures { OnOk result (found.new.items ≡ found.old.items ++ filter (λ n. not (is_made_by made n)) ns.now) }
 {
     for n in ns {
-        if !is_made(made, *n) {
+        if !is_made_by(made, *n) {
             found.push(*n)?;
         }
     }

@@ -4,7 +4,7 @@ ghost use Rattle.std.specs.Prelude.{◌≡◌, ◌↔◌, ◌+◌, ◌<◌, true
 ghost use Rattle.std.specs.BTreeSet.{btree_set_len, contains, IsLowerBound, Updates};
 ghost use Rattle.std.specs.List.{AllZip};
 ghost use Rattle.std.specs.Ordering.{nat_cmp};
-ghost use Rattle.sf_core.specs.View.{conjunct_of, conjuncts};
+ghost use Rattle.sf_core.specs.Program.View.{conjunct_of, conjuncts};
 ghost use Rattle.sf_precise.specs.Order.{IsOrder};
 ghost use Rattle.sf_precise.specs.Outer.{outer_of};
 ghost use Rattle.sf_precise.specs.Prepared.{IsPrepared};

@@ -8,7 +8,7 @@ use crate::{OrderFault, arrange, order};
 use sf_base::{FieldId, Place, Var};
 use sf_calls::reach;
 use sf_core::{
-    Assertion, Command, Conjunct, Expr, Level, Occurrence, Operand, Program, Scope, Test,
+    Assertion, Command, Conjunct, Expr, Level, Links, Occurrence, Operand, Program, Scope, Test,
 };
 use std::alloc::{AllocError, Global};
 use std::test::Fail;
@@ -198,10 +198,13 @@ fn a_long_chain_in_reverse_is_ordered(rt: HostRuntime) -> Result<(), Fail> {
 fn empty(alloc: Global) -> Program
     ensures { result.procedures.items ≡ [] }
 {
+    let fields = Vec::new(alloc);
+    let links = Links::among(&fields);
     Program {
-        fields: Vec::new(alloc),
+        fields,
         resources: Vec::new(alloc),
         procedures: Vec::new(alloc),
+        links,
     }
 }
 

@@ -1,11 +1,11 @@
 //! What a conjunct waits for before it is ready.
 
 ghost use Rattle.std.specs.Prelude.{◌≡◌, ◌++◌, IfOk, OnOk};
-ghost use Rattle.sf_core.specs.View.{conjunct_of};
+ghost use Rattle.sf_core.specs.Program.View.{conjunct_of};
 ghost use Rattle.sf_precise.specs.Outer.{outer_of};
 ghost use Rattle.sf_precise.specs.Waits.{is_unknown, known_outside, need_of, rests_on, unknown_among, waits_for};
 
-use crate::outer::{add_existential, add_of_test, is_made};
+use crate::outer::{add_existential, add_of_test, is_made_by};
 use sf_core::{Conjunct, Expr, Operand, Scope, Test};
 use std::alloc::{AllocError, Global};
 
@@ -48,7 +48,7 @@ fn is_known_outside(start: Option<Scope>, n: u32) -> bool
 {
     match start {
         None => false,
-        Some(made) => !is_made(made, n),
+        Some(made) => !is_made_by(made, n),
     }
 }
 

@@ -2,7 +2,7 @@
 //! existential, and which ones are ready. Each wait is looked at once.
 
 ghost use Rattle.std.specs.Prelude.{◌≡◌, ◌<◌, ◌≤◌, ℕ, Bool, [], ◌∷◌, ◌++◌, length, All, Contains, IfOk, OnOk, IfSome, IfNone, false, true, slice_index_or};
-ghost use Rattle.sf_core.specs.View.{conjunct_of};
+ghost use Rattle.sf_core.specs.Program.View.{conjunct_of};
 ghost use Rattle.sf_precise.specs.Outer.{existential, field_existentials};
 ghost use Rattle.sf_precise.specs.Waits.{equated, learned_from, Job};
 ghost use Rattle.sf_precise.specs.Work.{AddsJob, AddsWaits, IsWork, Learns, Serves, WaitsWithin, row};

@@ -4,7 +4,8 @@ use Rattle.std.specs.Prelude.{ℕ, Option, Some, None, List, [], ◌∷◌, ◌+
 use Rattle.std.specs.Fmt.{signed_decimal}
 use Rattle.std.specs.List.{slice_get}
 use Rattle.sf_base.specs.declared.ids.ProcId.{ProcId}
-use Rattle.sf_core.specs.Syntax.{Procedure, Program}
+use Rattle.sf_core.specs.Program.Named.{name_of}
+use Rattle.sf_core.specs.Program.Syntax.{Program}
 use Rattle.sf_sym.specs.declared.tag.Tag.{Tag}
 use Rattle.sf_sym.specs.declared.tag.Tag.TheVariants as t
 use Rattle.sf_sym.specs.declared.term.Term.{Term}
@@ -13,14 +14,6 @@ use Rattle.sf_sym.specs.declared.term.Term.TheVariants.{Nil, Int, Sym}
 -- a text as its bytes
 abbrev pub Text : Type 0
 Text = List ℕ
-
--- the name of a procedure
-abbrev pub name_in : Option Procedure → Text
-name_in None = []
-name_in (Some f) = f.name
-
-abbrev pub name_of : Program → ProcId → Text
-name_of p f = name_in (slice_get p.procedures f.0)
 
 -- a term
 abbrev pub term_text : Term → Text

@@ -3,4 +3,4 @@
 
 pub mod text;
 
-pub use text::{name_of, proof_text};
+pub use text::proof_text;

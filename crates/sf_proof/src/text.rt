@@ -1,8 +1,8 @@
 //! The text of a proof: a line for each tag, and in front the verdict.
 
 ghost use Rattle.std.specs.Prelude.{◌≡◌, ◌++◌, IfOk, OnOk};
-ghost use Rattle.sf_core.specs.ProgramView.{program_of};
-ghost use Rattle.sf_proof.specs.ProofText.{atom_text, name_of, procedure_text, proof_text, split_text, tag_text, term_text};
+ghost use Rattle.sf_core.specs.Program.ProgramView.{program_of};
+ghost use Rattle.sf_proof.specs.ProofText.{atom_text, procedure_text, proof_text, split_text, tag_text, term_text};
 
 use itoa::Buffer;
 use sf_base::ProcId;
@@ -64,22 +64,12 @@ fn put_split(text: &mut Vec<u8>, t: Term, u: Term) -> Result<(), AllocError>
     put_term(text, u)
 }
 
-/// The name of the procedure of that number, empty where there is none.
-pub fn name_of(p: &Program, f: ProcId) -> &[u8]
-    ensures { result.now ≡ name_of (program_of p.now) f }
-{
-    if (f.0 as usize) < p.procedures.len() {
-        return p.proc(f).name.as_bytes();
-    }
-    &[]
-}
-
 /// Appends the tag that begins a procedure. An `Err` is want of memory.
 fn put_procedure(text: &mut Vec<u8>, p: &Program, f: ProcId) -> Result<(), AllocError>
     ensures { OnOk result (text.new.items ≡ text.old.items ++ procedure_text (program_of p.now) f) }
 {
     put(text, "procedure ")?;
-    text.extend_from_slice(name_of(p, f))?;
+    text.extend_from_slice(p.name_of(f))?;
     Ok(())
 }
 

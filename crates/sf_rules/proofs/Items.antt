@@ -3,9 +3,9 @@ use Rattle.std.proofs.Common.{Option, None, Vec, Global, Some, append_assoc, ◌
 use Rattle.std.specs.List.{flat_map}
 use Rattle.std.proofs.lemmas.List.{reverse-append, length-reverse}
 use Rattle.sf_core.specs.declared.command.Command.{Command as CodeCommand}
-use Rattle.sf_core.specs.View.{assertion_of, block_of, command_of, conjunct_of, conjuncts, block}
+use Rattle.sf_core.specs.Program.View.{assertion_of, block_of, command_of, conjunct_of, conjuncts, block}
 use Rattle.sf_core.specs.declared.assertion.Conjunct.{Conjunct as CodeConjunct}
-use Rattle.sf_core.specs.Syntax.{also, Command, Assertion, Block}
+use Rattle.sf_core.specs.Program.Syntax.{also, Command, Assertion, Block}
 use Rattle.sf_sym.specs.declared.term.Term.{Term}
 use Rattle.sf_rules.specs.Table.{end_row, add_row, cell_row, pending, unless_none, to_run, to_add, to_take, return_row}
 use Rattle.sf_base.specs.declared.ids.Var.{Var}

@@ -9,8 +9,8 @@ use Rattle.sf_core.specs.declared.assertion.Conjunct.TheVariants.{rolls-Points}
 use Rattle.sf_core.specs.declared.assertion.Conjunct.TheFolds.{fold-roll-Conjunct, fold-roll-Level, fold_out-Level}
 use Rattle.sf_core.specs.declared.assertion.Conjunct.TheOpen.{Level-F}
 use Rattle.sf_core.specs.declared.assertion.Level.{Level as CodeLevel, roll-Level, out-Level}
-use Rattle.sf_core.specs.Syntax.{Conjunct, also, points, Level, level}
-use Rattle.sf_core.specs.View.{conjuncts, conjunct_of, level_of, conjunct_step, level_step}
+use Rattle.sf_core.specs.Program.Syntax.{Conjunct, also, points, Level, level}
+use Rattle.sf_core.specs.Program.View.{conjuncts, conjunct_of, level_of, conjunct_step, level_step}
 use Rattle.sf_sym.specs.declared.term.Term.{Term}
 use Rattle.sf_rules.specs.Table.{operand_with, conjunct_with, conjuncts_with}
 

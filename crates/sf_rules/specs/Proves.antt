@@ -1,7 +1,7 @@
 -- Proves: tags that prove every procedure of a program, each by a finite tree of rows below its first goal.
 -- Berdine, Calcagno, O'Hearn, "Symbolic Execution with Separation Logic" (2005): proof search as a tree of rule applications.
 use Rattle.std.specs.Prelude.{◌≡◌, ℕ, suc, Some, List, [], ◌∷◌, ◌++◌}
-use Rattle.sf_core.specs.Syntax.{Procedure, Program}
+use Rattle.sf_core.specs.Program.Syntax.{Procedure, Program}
 use Rattle.sf_sym.specs.declared.tag.Tag.{Tag}
 use Rattle.sf_sym.specs.declared.tag.Tag.TheVariants.{Procedure as Begin}
 use Rattle.sf_sym.specs.Goal.{Goal}

@@ -3,7 +3,7 @@
 ghost use Rattle.std.specs.Prelude.{◌≡◌, ◌-◌, ◌<◌, ◌≤◌, ◌^◌, length, IfOk, IfSome, [], Some, is_some};
 ghost use Rattle.std.specs.List.{list_all};
 ghost use Rattle.std.specs.Option.{option_map};
-ghost use Rattle.sf_core.specs.View.{conjunct_of};
+ghost use Rattle.sf_core.specs.Program.View.{conjunct_of};
 ghost use Rattle.sf_rules.specs.Cells.{all_fit, all_known, index_from};
 ghost use Rattle.sf_rules.specs.Left.{cell_of};
 ghost use Rattle.sf_rules.specs.Table.{field_term, fields_at, fits, hand_over, known, mutated, new_fields, put_term, with_cell};

@@ -2,9 +2,9 @@
 
 ghost use Rattle.std.specs.Prelude.{◌≡◌, ◌++◌, ◌-◌, ◌≤◌, ◌^◌, [], ◌∷◌, None, Some, length, replicate, IfOk, IsTrue, OnErr, OnOk};
 ghost use Rattle.std.specs.Option.{option_map};
-ghost use Rattle.sf_core.specs.Formed.{ProcedureWithin};
-ghost use Rattle.sf_core.specs.View.{assertion_of, block_of, command_of, conjunct_of, procedure_of};
-ghost use Rattle.sf_core.specs.ProgramView.{program_of};
+ghost use Rattle.sf_core.specs.Program.Formed.{ProcedureWithin};
+ghost use Rattle.sf_core.specs.Program.View.{assertion_of, block_of, command_of, conjunct_of, procedure_of};
+ghost use Rattle.sf_core.specs.Program.ProgramView.{program_of};
 ghost use Rattle.sf_sym.specs.Goal.{add, end, goal_of, pending_of, return};
 ghost use Rattle.sf_rules.specs.Left.{goals_of, mutation, stack_of, todo_of};
 ghost use Rattle.sf_rules.specs.Table.{absurd_row, add_row, assumed, cell_row, end_row, first_goal, handed_over, has_numbers, links_of, mutate_row, nils, pending, return_row, row, row_of, symbols, to_add, to_run, to_take};
@@ -13,8 +13,8 @@ use crate::cells::{as_cell, hand_over, known, mutated, new_fields, with_cell};
 use crate::terms::{term_of, with_terms};
 use crate::todo::{next_item, with_add, with_take};
 use sf_base::{FieldId, Place, Sequence, Var};
-use sf_core::{Assertion, Command, Conjunct, Expr, Operand, Proc, Program};
-use sf_sym::{Goal, Item, Links, Pending, State, Tag, Term};
+use sf_core::{Assertion, Command, Conjunct, Expr, Links, Operand, Proc, Program};
+use sf_sym::{Goal, Item, Pending, State, Tag, Term};
 use std::alloc::{AllocError, Global};
 
 /// What a rule leaves to be proved.
@@ -52,11 +52,7 @@ pub fn start_goal<'a>(alloc: Global, p: &'a Program, f: &'a Proc) -> Result<Goal
 fn links_of(p: &Program) -> Links
     ensures { result ≡ links_of (program_of p.now) }
 {
-    Links {
-        tl: p.field("tl"),
-        l: p.field("l"),
-        r: p.field("r"),
-    }
+    p.links
 }
 
 /// The terms of a procedure's own variables at first: fresh symbols for the parameters, nil for the locals.

@@ -1,7 +1,7 @@
 //! Expressions and assertions with the terms that the variables have now.
 
 ghost use Rattle.std.specs.Prelude.{◌≡◌, IfOk, map};
-ghost use Rattle.sf_core.specs.View.{conjunct_of, conjuncts, level_of};
+ghost use Rattle.sf_core.specs.Program.View.{conjunct_of, conjuncts, level_of};
 ghost use Rattle.sf_rules.specs.Table.{conjunct_with, conjuncts_with, level_with, operand_with, same_var, term, term_at, test_with};
 
 use sf_base::{FieldId, Var};

@@ -6,7 +6,7 @@ use Rattle.sf_base.specs.declared.ids.FieldId.{FieldId}
 use Rattle.sf_base.specs.declared.place.Place.{Place}
 use Rattle.sf_core.specs.declared.assertion.Operand.{Operand}
 use Rattle.sf_core.specs.declared.assertion.Operand.TheVariants.{Known, Exists}
-use Rattle.sf_core.specs.Syntax.{Conjunct, Conjuncts, also, holds, points, segment, tree, choose}
+use Rattle.sf_core.specs.Program.Syntax.{Conjunct, Conjuncts, also, holds, points, segment, tree, choose}
 use Rattle.sf_sym.specs.declared.tag.Tag.TheVariants as t
 use Rattle.sf_search.specs.Judge.{takes, stays, choose_add}
 use Rattle.sf_search.specs.declared.strategy.Stuck.TheVariants.{NotBuilt}

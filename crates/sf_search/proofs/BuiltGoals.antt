@@ -13,8 +13,8 @@ use Rattle.sf_core.specs.declared.assertion.Operand.{Operand}
 use Rattle.sf_core.specs.declared.assertion.Operand.TheVariants.{Known, Exists}
 use Rattle.sf_core.specs.declared.assertion.Scope.{Scope}
 use Rattle.sf_core.specs.declared.command.Expr.{Expr}
-use Rattle.sf_core.specs.Formed.{is_made, OperandWithin, FieldsWithin, ConjunctsWithin, AssertionWithin, ProcedureWithin, conjuncts_scopes}
-use Rattle.sf_core.specs.Syntax.{Conjunct, holds, points, segment, tree, choose, Conjuncts, none, also, Level, level, Command, assign, look_up, mutate, new, dispose, if, while, call, fork, with, Block, done, then, Assertion, Procedure, Program}
+use Rattle.sf_core.specs.Program.Formed.{is_made, OperandWithin, FieldsWithin, ConjunctsWithin, AssertionWithin, ProcedureWithin, conjuncts_scopes}
+use Rattle.sf_core.specs.Program.Syntax.{Conjunct, holds, points, segment, tree, choose, Conjuncts, none, also, Level, level, Command, assign, look_up, mutate, new, dispose, if, while, call, fork, with, Block, done, then, Assertion, Procedure, Program}
 use Rattle.sf_base.proofs.Cases.{and-both, or-which}
 use Rattle.sf_sym.specs.declared.state.State.{State}
 use Rattle.sf_sym.specs.declared.tag.Tag.{Tag}
@@ -104,7 +104,7 @@ level_known fields V names (level made cs) w e a vars =
     let scopes = ap (λ ss. sum_by (λ s. s.count) (made ∷ ss)) (cells_scopes cs a) in
     let counted = w.names in
     let z : made.count ≡ 0 = omega (arith, scopes, counted, e) in
-    note_known fields V made (term vars) cs z a w.note.within
+    note_known fields V made (term vars) cs z a w.annotation.within
 
 pub note_is_known : (fields : List (List ℕ)) (V : Var → Type 0) (a : Assertion) → AssertionWithin fields V a → is_plain a ≡ true → KnownNote a
 note_is_known fields V a w e =

@@ -9,7 +9,7 @@ use Rattle.sf_base.specs.declared.limits.TheConstants.{PROCEDURE_TAGS}
 use Rattle.sf_base.specs.declared.place.Place.{Place}
 use Rattle.sf_core.specs.declared.assertion.Operand.{Operand}
 use Rattle.sf_core.specs.declared.assertion.Operand.TheVariants.{Known, Exists}
-use Rattle.sf_core.specs.Syntax.{Conjunct, Conjuncts, none, also, holds, points, segment, tree, choose, Command, assign, look_up, mutate, new, dispose, if, while, call, fork, with}
+use Rattle.sf_core.specs.Program.Syntax.{Conjunct, Conjuncts, none, also, holds, points, segment, tree, choose, Command, assign, look_up, mutate, new, dispose, if, while, call, fork, with}
 use Rattle.sf_sym.specs.declared.atom.Atom.TheVariants.{Points}
 use Rattle.sf_sym.specs.declared.atom.Numbered.{Numbered}
 use Rattle.sf_sym.specs.declared.state.State.{State}

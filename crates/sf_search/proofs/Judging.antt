@@ -2,7 +2,7 @@
 use Rattle.std.proofs.Common.{◌≡◌, ℕ, zero, suc, ◌+◌, ◌<◌, ◌≤◌, List, [], ◌∷◌, ◌++◌, length, map, drop, get_or, inl, inr, refl, sym, ap, subst, append_assoc, arith}
 use Rattle.std.proofs.lemmas.List.{append-nil}
 use Rattle.sf_base.specs.declared.limits.TheConstants.{FILE_TAGS}
-use Rattle.sf_core.specs.Syntax.{Procedure, Program}
+use Rattle.sf_core.specs.Program.Syntax.{Procedure, Program}
 use Rattle.sf_sym.specs.declared.tag.Tag.{Tag}
 use Rattle.sf_sym.specs.declared.tag.Tag.TheVariants as t
 use Rattle.sf_search.specs.Judge.{proved, stuck, large, Search, Verdict, proof, fails, behind, JudgeFrom, Judge}

@@ -7,7 +7,7 @@ use Rattle.sf_base.specs.declared.ids.FieldId.{FieldId}
 use Rattle.sf_base.specs.declared.place.Place.{Place}
 use Rattle.sf_core.specs.declared.assertion.Operand.{Operand}
 use Rattle.sf_core.specs.declared.assertion.Operand.TheVariants.{Known, Exists}
-use Rattle.sf_core.specs.Syntax.{Conjunct, Conjuncts, none, also, holds, points, segment, tree, choose, Command, assign, look_up, mutate, new, dispose, if, while, call, fork, with}
+use Rattle.sf_core.specs.Program.Syntax.{Conjunct, Conjuncts, none, also, holds, points, segment, tree, choose, Command, assign, look_up, mutate, new, dispose, if, while, call, fork, with}
 use Rattle.sf_sym.specs.declared.state.State.{State}
 use Rattle.sf_sym.specs.declared.tag.Tag.{Tag}
 use Rattle.sf_sym.specs.declared.tag.Tag.TheVariants as t

@@ -1,8 +1,8 @@
 -- A law of programs of the form that is built: what the strategy finds in front always has a rule.
 -- This project's own stage of building; it goes when every form has its rules.
 use Rattle.std.specs.Prelude.{◌≡◌, true, List}
-use Rattle.sf_core.specs.Formed.{ProcedureWithin}
-use Rattle.sf_core.specs.Syntax.{Procedure, Program}
+use Rattle.sf_core.specs.Program.Formed.{ProcedureWithin}
+use Rattle.sf_core.specs.Program.Syntax.{Procedure, Program}
 use Rattle.sf_sym.specs.declared.tag.Tag.{Tag}
 use Rattle.sf_sym.specs.Goal.{Goal}
 use Rattle.sf_search.specs.declared.strategy.Stuck.TheVariants.{NotBuilt}

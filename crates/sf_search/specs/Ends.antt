@@ -1,7 +1,7 @@
 -- What the code's failures say: how a search ended that found no proof, and which procedure fails.
 -- Want of memory says nothing.
 use Rattle.std.specs.Prelude.{List}
-use Rattle.sf_core.specs.Syntax.{Program}
+use Rattle.sf_core.specs.Program.Syntax.{Program}
 use Rattle.sf_sym.specs.declared.tag.Tag.{Tag}
 use Rattle.sf_sym.specs.Goal.{Goal, goal_of}
 use Rattle.sf_search.specs.declared.searching.SearchFault.{SearchFault}

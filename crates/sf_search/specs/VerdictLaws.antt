@@ -1,8 +1,8 @@
 -- Laws of verdicts: a program has exactly one, and the tags of one that is a proof prove the program.
 -- Ordinary: the strategy is a function, and each of its tags is a row of the table.
 use Rattle.std.specs.Prelude.{◌≡◌, List}
-use Rattle.sf_core.specs.Formed.{IsFormed}
-use Rattle.sf_core.specs.Syntax.{Program}
+use Rattle.sf_core.specs.Program.Formed.{IsFormed}
+use Rattle.sf_core.specs.Program.Syntax.{Program}
 use Rattle.sf_sym.specs.declared.tag.Tag.{Tag}
 use Rattle.sf_search.specs.Judge.{Verdict, proof, Judge}
 use Rattle.sf_rules.specs.Proves.{Proves}

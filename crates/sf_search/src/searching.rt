@@ -1,9 +1,9 @@
 //! The search for a proof, procedure by procedure.
 
 ghost use Rattle.std.specs.Prelude.{◌≡◌, ◌++◌, [], ◌∷◌, List, true, is_some, IfOk, IfErr, OnOk};
-ghost use Rattle.sf_core.specs.Formed.{ProcedureWithin};
-ghost use Rattle.sf_core.specs.View.{procedure_of};
-ghost use Rattle.sf_core.specs.ProgramView.{program_of};
+ghost use Rattle.sf_core.specs.Program.Formed.{ProcedureWithin};
+ghost use Rattle.sf_core.specs.Program.View.{procedure_of};
+ghost use Rattle.sf_core.specs.Program.ProgramView.{program_of};
 ghost use Rattle.sf_sym.specs.Goal.{Goal as AnyGoal, goal_of};
 ghost use Rattle.sf_sym.specs.declared.tag.Tag.TheVariants.{Procedure};
 ghost use Rattle.sf_search.specs.Ends.{EndsAs, FailsAs};

@@ -2,7 +2,7 @@
 
 ghost use Rattle.std.specs.Prelude.{◌≡◌, ◌++◌, false, List, is_some};
 ghost use Rattle.std.specs.Option.{option_map};
-ghost use Rattle.sf_core.specs.View.{command_of, conjunct_of};
+ghost use Rattle.sf_core.specs.Program.View.{command_of, conjunct_of};
 ghost use Rattle.sf_sym.specs.declared.state.State.{State as AnyState};
 ghost use Rattle.sf_sym.specs.Tests.{is_absurd};
 ghost use Rattle.sf_sym.specs.Goal.{Item as Thing, goal_of, items_of, pending_of};

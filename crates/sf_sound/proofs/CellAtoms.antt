@@ -9,7 +9,7 @@ use Rattle.sf_base.proofs.MapSplits.{union, splits-swap}
 use Rattle.sf_sym.specs.declared.atom.Atom.{Atom}
 use Rattle.sf_sym.specs.declared.atom.Atom.TheVariants.{Points, Ls, Tree}
 use Rattle.sf_sym.specs.declared.atom.Numbered.{Numbered}
-use Rattle.sf_sym.specs.declared.state.Links.{Links}
+use Rattle.sf_core.specs.declared.fields.Links.{Links}
 use Rattle.sf_sym.specs.declared.term.Term.{Term}
 use Rattle.std.specs.List.{AllByRecursion}
 use Rattle.sf_sym.specs.Holds.{AtomHolds, AtomsHold}

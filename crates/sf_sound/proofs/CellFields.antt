@@ -9,7 +9,7 @@ use Rattle.sf_base.specs.declared.value.Value.{Value}
 use Rattle.sf_core.specs.declared.assertion.Operand.{Operand}
 use Rattle.sf_core.specs.declared.assertion.Operand.TheVariants.{Known, Exists}
 use Rattle.sf_base.specs.HeapStore.{Cell, put_field}
-use Rattle.sf_core.specs.Sat.{operand, HasFields}
+use Rattle.sf_core.specs.Assertions.Sat.{operand, HasFields}
 use Rattle.sf_base.proofs.HeapSplits.{at-same, at-self}
 use Rattle.sf_sym.specs.declared.term.Term.{Term}
 use Rattle.sf_sym.proofs.Terms.{same_term_is}

@@ -9,13 +9,13 @@ use Rattle.sf_base.specs.declared.place.Place.{Place}
 use Rattle.sf_base.specs.declared.value.Value.{Value}
 use Rattle.sf_base.specs.declared.value.Value.TheVariants.{Nil as nil}
 use Rattle.sf_core.specs.declared.command.Expr.{Expr}
-use Rattle.sf_core.specs.Config.{command, leave}
-use Rattle.sf_core.specs.Config as machine
-use Rattle.sf_core.specs.Formed.{IsParameter, AssertionWithin}
+use Rattle.sf_core.specs.Machine.Config.{command, leave}
+use Rattle.sf_core.specs.Machine.Config as machine
+use Rattle.sf_core.specs.Program.Formed.{IsParameter, AssertionWithin}
 use Rattle.sf_base.specs.HeapStore.{Cell, put_field, Heap}
-use Rattle.sf_core.specs.Sat.{Sat}
-use Rattle.sf_core.specs.Step.{Finds}
-use Rattle.sf_core.specs.Syntax.{Command, mutate, Procedure, Program}
+use Rattle.sf_core.specs.Assertions.Sat.{Sat}
+use Rattle.sf_core.specs.Machine.Step.{Finds}
+use Rattle.sf_core.specs.Program.Syntax.{Command, mutate, Procedure, Program}
 use Rattle.sf_base.proofs.Cases.{either}
 use Rattle.sf_base.proofs.HeapSplits.{star-drop_left, star-drop_right, star-map, star-map_right}
 use Rattle.sf_sym.specs.declared.tag.Tag.{Tag}

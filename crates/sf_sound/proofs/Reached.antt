@@ -9,19 +9,19 @@ use Rattle.sf_base.specs.declared.place.Place.{Place}
 use Rattle.sf_base.specs.declared.value.Value.{Value}
 use Rattle.sf_base.specs.declared.value.Value.TheVariants.{Nil as nil, Loc as loc}
 use Rattle.sf_core.specs.declared.command.Expr.{Expr}
-use Rattle.sf_core.specs.Bad.{command_root, next_root, IsAbsent, TouchesAbsent, Races}
-use Rattle.sf_core.specs.Config.{Item, command, leave, Fixed, Frame, Task, runs, Path, Common, Config, seen, task_at, replaced, IsCalled}
-use Rattle.sf_core.specs.Enabled.{HasEnded}
-use Rattle.sf_core.specs.Formed.{IsFormed}
-use Rattle.sf_core.specs.Good.{Good}
-use Rattle.sf_core.specs.GoodParts.{InvariantParts, FramePart, TaskParts, RestPart}
+use Rattle.sf_core.specs.Machine.Bad.{command_root, next_root, IsAbsent, TouchesAbsent, Races}
+use Rattle.sf_core.specs.Machine.Config.{Item, command, leave, Fixed, Frame, Task, runs, Path, Common, Config, evaluate, task_at, put_task, IsCalled}
+use Rattle.sf_core.specs.Machine.Enabled.{HasEnded}
+use Rattle.sf_core.specs.Program.Formed.{IsFormed}
+use Rattle.sf_core.specs.Machine.Good.{Good}
+use Rattle.sf_core.specs.Internal.GoodParts.{InvariantParts, FramePart, TaskParts, RestPart}
 use Rattle.sf_base.specs.HeapStore.{Cell, put_field, Heap, ◌⋆◌}
-use Rattle.sf_core.specs.Reach.{Reach}
-use Rattle.sf_core.specs.Step.{Event, going, procedure_at, Does, Goes, TaskStep, Step}
-use Rattle.sf_core.specs.Syntax.{Command, mutate, Procedure, Program, Resource}
-use Rattle.sf_core.specs.Sat.{Sat}
+use Rattle.sf_core.specs.Machine.Reach.{Reach}
+use Rattle.sf_core.specs.Machine.Step.{Event, task_with, procedure_at, Does, Goes, TaskStep, Step}
+use Rattle.sf_core.specs.Program.Syntax.{Command, mutate, Procedure, Program, Resource}
+use Rattle.sf_core.specs.Assertions.Sat.{Sat}
 use Rattle.sf_base.proofs.Cases.{either, some-same}
-use Rattle.sf_core.proofs.GoodParts.{good-by_parts}
+use Rattle.sf_core.proofs.Machine.GoodParts.{good-by_parts}
 use Rattle.sf_base.proofs.HeapSplits.{star-empty_left, star-empty_right, star-map_right}
 use Rattle.sf_sound.specs.RowLaws.{value_at, written}
 use Rattle.sf_sound.proofs.Owns.{Owns, Next, owns-command, owns-leave, owns-end}
@@ -52,7 +52,7 @@ alone-at (right ∷ path) frames u e = absurd (cc)
 -- what the frame goes on to: what it owns after the event
 record GoesOn (f : Procedure) (fixed : Fixed) (t : Common) (u : Task) : Type 0 where
   rest : List Item
-  is : u ≡ going fixed rest []
+  is : u ≡ task_with fixed rest []
   owns : Owns f rest (values_in fixed t) t.heap
 
 same-location : (a b : ℕ) (v : Value) → v ≡ loc a → v ≡ loc b → a ≡ b
@@ -64,11 +64,11 @@ same-cell heap a b x y e i j = some-same x y (sym i ∙ ap heap e ∙ j)
 step-mutate : (p : Program) (ev : Event) (s : Common) (fixed : Fixed) (place : Place) (root : Expr) (field : FieldId) (value : Expr) (rest : List Item) (t : Common) (u : Task) (f : Procedure)
     → Next f (mutate place root field value) rest (values_in fixed s) s.heap → Does p ev s fixed [] (mutate place root field value) rest t u → GoesOn f fixed t u
 step-mutate p ev s fixed place root field value rest t u f n d =
-    let a = same-location n.0 d.0 (seen fixed.slots s.store root) n.2.is d.2.is in
+    let a = same-location n.0 d.0 (evaluate fixed.slots s.store root) n.2.is d.2.is in
     let b = same-cell s.heap n.0 d.0 n.1 d.1 a n.2.there d.2.there in
-    let o : Owns f rest (values_in fixed s) (written d.0 (put_field d.1 field.0 (seen fixed.slots s.store value)) s.heap) =
-    subst (λ l. Owns f rest (values_in fixed s) (written l (put_field d.1 field.0 (seen fixed.slots s.store value)) s.heap)) a
-    (subst (λ x. Owns f rest (values_in fixed s) (written n.0 (put_field x field.0 (seen fixed.slots s.store value)) s.heap)) b n.3) in
+    let o : Owns f rest (values_in fixed s) (written d.0 (put_field d.1 field.0 (evaluate fixed.slots s.store value)) s.heap) =
+    subst (λ l. Owns f rest (values_in fixed s) (written l (put_field d.1 field.0 (evaluate fixed.slots s.store value)) s.heap)) a
+    (subst (λ x. Owns f rest (values_in fixed s) (written n.0 (put_field x field.0 (evaluate fixed.slots s.store value)) s.heap)) b n.3) in
     record { rest = rest; is = d.4; owns = subst (λ (z : Common). Owns f rest (values_in fixed z) z.heap) (sym d.3) o }
 
 step-command : (p : Program) (ev : Event) (s : Common) (fixed : Fixed) (c : Command) (rest : List Item) (t : Common) (u : Task) (f : Procedure)
@@ -91,7 +91,7 @@ step-owned p ev c d o s =
     record {
       fixed = o.fixed;
       todo = g.rest;
-      alone = s.tasks ∙ ap (λ z. replaced z s.to c.tasks) a.top ∙ g.is;
+      alone = s.tasks ∙ ap (λ z. put_task z s.to c.tasks) a.top ∙ g.is;
       procedure = o.procedure;
       there = o.there;
       owns = g.owns;
@@ -148,7 +148,7 @@ good-touches p c o b =
     let mine : Frame = record { fixed = o.fixed; todo = o.todo } in
     let e = entry-is mine b.frame b.below b.path c.tasks o.alone b.enabled.there in
     touch-next o.procedure o.todo (values_in o.fixed c.common) c.common.heap b.root o.owns (subst (λ (z : Frame). next_root z.todo ≡ Some b.root) e.frame_is b.touches)
-    (subst (λ (z : Frame). IsAbsent c.common.heap (seen z.fixed.slots c.common.store b.root)) e.frame_is b.absent)
+    (subst (λ (z : Frame). IsAbsent c.common.heap (evaluate z.fixed.slots c.common.store b.root)) e.frame_is b.absent)
 
 good-races : (p : Program) (c : Config) → IsOwned p c → Races c → ⊥
 good-races p c o b =
@@ -162,7 +162,7 @@ good-tasks : (p : Program) (c : Config) → IsFormed p → (fixed : Fixed) (todo
     → c.tasks ≡ runs (record { fixed = fixed; todo = todo } ∷ []) → (FramePart p c.common.store fixed todo ⋆ RestPart c) c.common.heap
 good-tasks p c formed fixed [] f there owns alone = star-map_right (λ part i h. i) (star-empty_right (λ g i.
     let same : f ≡ g = some-same f g (sym there ∙ i) in
-    subst (λ z. Sat z.post.level (seen fixed.slots c.common.store) (λ n. nil) c.common.heap) same (owns-end p f (values_in fixed c.common) c.common.heap (formed.procedures fixed.procedure.0 f there).post owns)))
+    subst (λ z. Sat z.post.level (evaluate fixed.slots c.common.store) (λ n. nil) c.common.heap) same (owns-end p f (values_in fixed c.common) c.common.heap (formed.procedures fixed.procedure.0 f there).post owns)))
 good-tasks p c formed fixed (item ∷ todo) f there owns alone =
     star-empty_left (λ h. let d : item ∷ todo ≡ [] = subst (HasEnded []) alone h in absurd (cc))
 

@@ -11,10 +11,10 @@ use Rattle.sf_base.specs.declared.value.Value.{Value}
 use Rattle.sf_base.specs.declared.value.Value.TheVariants.{Nil as nil, Loc as loc}
 use Rattle.sf_core.specs.declared.assertion.Operand.TheVariants.{Known, Exists}
 use Rattle.sf_core.specs.declared.command.Expr.{Expr}
-use Rattle.sf_core.specs.Formed.{IsParameter, LevelWithin, AssertionWithin}
+use Rattle.sf_core.specs.Program.Formed.{IsParameter, LevelWithin, AssertionWithin}
 use Rattle.sf_base.specs.HeapStore.{Cell, put_field, Heap, IsEmpty, Splits, ◌⋆◌}
-use Rattle.sf_core.specs.Sat.{Sat, SatAll, SatOne}
-use Rattle.sf_core.specs.Syntax.{Conjunct, points, Level, level, Conjuncts, none, also, Command, mutate, Assertion, Procedure, Program}
+use Rattle.sf_core.specs.Assertions.Sat.{Sat, SatAll, SatOne}
+use Rattle.sf_core.specs.Program.Syntax.{Conjunct, points, Level, level, Conjuncts, none, also, Command, mutate, Assertion, Procedure, Program}
 use Rattle.sf_base.proofs.HeapSplits.{one-put_cell, cell-change_left, star-of, star-map, star-map_left, star-map_right, star-drop_left, star-drop_right, star-empty_right}
 use Rattle.sf_base.proofs.MapSplits.{splits-has_left, splits-assoc_left}
 use Rattle.sf_sym.specs.declared.atom.Atom.TheVariants.{Points}
@@ -506,7 +506,7 @@ return-owes w goal e heap place post todo p f c i j d =
       kept = record { vars = h.vars; apart = h.apart; heaps = star-map_right (λ part x. star-map_right (λ g y. take-no_adds w place place cs (pending vars post) post.names g y) x) h.heaps };
       wants = λ part x.
           let d = wanted-all w place place cs (pending vars post).bindings post.names part x in
-          level-holds w vars e p f post.level d.0 part c h.vars i.note.within d.1;
+          level-holds w vars e p f post.level d.0 part c h.vars i.annotation.within d.1;
     }
 
 pub row-return : ReturnOwesPostcondition

@@ -11,14 +11,14 @@ use Rattle.sf_core.specs.declared.assertion.Scope.{Scope}
 use Rattle.sf_core.specs.declared.assertion.Test.{Test}
 use Rattle.sf_core.specs.declared.assertion.Test.TheVariants.{True, Equal, Differ}
 use Rattle.sf_core.specs.declared.command.Expr.{Expr}
-use Rattle.sf_core.specs.Formed.{is_made, TestWithin, OperandWithin, FieldsWithin, LevelWithin, ConjunctsWithin, ConjunctWithin}
+use Rattle.sf_core.specs.Program.Formed.{is_made, TestWithin, OperandWithin, FieldsWithin, LevelWithin, ConjunctsWithin, ConjunctWithin}
 use Rattle.sf_base.specs.HeapStore.{Heap}
-use Rattle.sf_core.specs.Occurs.{OccursInTest, OccursInFields, OccursIn, OccursInAll, OccursInOne}
-use Rattle.sf_core.specs.Occurs as one_scope
-use Rattle.sf_core.specs.Sat.{operand, Sat, SatAll}
-use Rattle.sf_core.specs.Syntax.{Conjunct, holds, points, segment, tree, choose, Level, level, Conjuncts, none, also}
+use Rattle.sf_core.specs.Assertions.Occurs.{OccursInTest, OccursInFields, OccursIn, OccursInAll, OccursInOne}
+use Rattle.sf_core.specs.Assertions.Scopes.{is_made_by}
+use Rattle.sf_core.specs.Assertions.Sat.{operand, Sat, SatAll}
+use Rattle.sf_core.specs.Program.Syntax.{Conjunct, holds, points, segment, tree, choose, Level, level, Conjuncts, none, also}
 use Rattle.sf_base.proofs.Cases.{either}
-use Rattle.sf_core.proofs.SatLaws.{sat-agree}
+use Rattle.sf_core.proofs.Assertions.Sat.{sat-agree}
 
 or-other : (a b : Bool) → a || b ≡ true → a ≡ false → b ≡ true
 or-other true b e f = absurd (cc)
@@ -39,7 +39,7 @@ module _ (fields : List (List ℕ)) (V : Var → Type 0) (n : ℕ) where
 
   mutual
     level-made : (a : Level Expr) (made : List Scope) → LevelWithin fields V made a → OccursIn a (Exists n) → is_made made n ≡ true
-    level-made (level scope cs) made i o = or-other (one_scope.is_made scope n) (is_made made n) (conjuncts-made cs (scope ∷ made) i o.0) o.1
+    level-made (level scope cs) made i o = or-other (is_made_by scope n) (is_made made n) (conjuncts-made cs (scope ∷ made) i o.0) o.1
 
     conjuncts-made : (cs : Conjuncts Expr) (made : List Scope) → ConjunctsWithin fields V made cs → OccursInAll cs (Exists n) → is_made made n ≡ true
     conjuncts-made none made i o = absurd o

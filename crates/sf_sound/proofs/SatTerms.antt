@@ -11,8 +11,8 @@ use Rattle.sf_core.specs.declared.assertion.Test.{Test}
 use Rattle.sf_core.specs.declared.assertion.Test.TheVariants.{True, Equal, Differ}
 use Rattle.sf_core.specs.declared.command.Expr.{Expr}
 use Rattle.sf_base.specs.HeapStore.{Cell, Heap, IsEmpty, IsOne, ◌⋆◌}
-use Rattle.sf_core.specs.Sat.{IsTrueOf, operand, HasFields, Seg, Tree, SameOutside, Sat, SatAll, SatOne}
-use Rattle.sf_core.specs.Syntax.{Conjunct, holds, points, segment, tree, choose, Level, level, Conjuncts, none, also}
+use Rattle.sf_core.specs.Assertions.Sat.{IsTrueOf, operand, HasFields, Seg, Tree, SameOutside, Sat, SatAll, SatOne}
+use Rattle.sf_core.specs.Program.Syntax.{Conjunct, holds, points, segment, tree, choose, Level, level, Conjuncts, none, also}
 use Rattle.sf_sym.specs.declared.term.Term.{Term}
 use Rattle.sf_rules.specs.Table.{operand_with, test_with, level_with, conjuncts_with, conjunct_with}
 

@@ -7,8 +7,8 @@ use Rattle.sf_core.specs.declared.assertion.Operand.{Operand}
 use Rattle.sf_core.specs.declared.assertion.Operand.TheVariants.{Known}
 use Rattle.sf_core.specs.declared.command.Expr.{Expr}
 use Rattle.sf_core.specs.declared.command.Expr.TheVariants.{Nil}
-use Rattle.sf_core.specs.Formed.{IsParameter, OperandWithin, FieldsWithin, AssertionWithin, ProcedureWithin, IsFormed}
-use Rattle.sf_core.specs.Syntax.{Procedure}
+use Rattle.sf_core.specs.Program.Formed.{IsParameter, OperandWithin, FieldsWithin, AssertionWithin, ProcedureWithin, IsFormed}
+use Rattle.sf_core.specs.Program.Syntax.{Procedure}
 use Rattle.sf_base.proofs.Cases.{none-not_some}
 use Rattle.sf_sym.specs.declared.tag.Tag.TheVariants as t
 use Rattle.sf_sym.specs.Goal.{Goal}
@@ -29,7 +29,7 @@ proves = (proof, [], refl, refl)
 
 within : (fields : List (FieldId × Operand Expr)) → FieldsWithin clearing.fields (OperandWithin (IsParameter clearing clears) ((record { first = 0; count = 0 }) ∷ [])) fields
     → AssertionWithin clearing.fields (IsParameter clearing clears) (at_x fields)
-within fields w = let first : 0 < 1 = omega arith in let nesting : 1 ≤ 64 = omega arith in record { note = record { within = ((first, w), tt); numbered = (refl, tt); depth = nesting }; names = refl }
+within fields w = let first : 0 < 1 = omega arith in let nesting : 1 ≤ 64 = omega arith in record { annotation = record { within = ((first, w), tt); numbered = (refl, tt); depth = nesting }; names = refl }
 
 none-behind : All (λ (g : FieldId × Operand Expr). g.0.0 ≢ 0) []
 none-behind k g l = let e : ⊥ = omega arith in absurd e

@@ -13,14 +13,14 @@ use Rattle.sf_base.specs.declared.place.Place.{Place}
 use Rattle.sf_base.specs.declared.value.Value.{Value}
 use Rattle.sf_base.specs.declared.value.Value.TheVariants.{Nil as nil}
 use Rattle.sf_core.specs.declared.command.Expr.{Expr}
-use Rattle.sf_core.specs.Config.{Config, seen}
-use Rattle.sf_core.specs.Config as machine
-use Rattle.sf_core.specs.Formed.{IsFormed}
+use Rattle.sf_core.specs.Machine.Config.{Config, evaluate}
+use Rattle.sf_core.specs.Machine.Config as machine
+use Rattle.sf_core.specs.Program.Formed.{IsFormed}
 use Rattle.sf_base.specs.HeapStore.{Heap, IsEmpty, shared, own, Store, ◌⋆◌}
-use Rattle.sf_core.specs.Sat.{Sat, SatAll}
-use Rattle.sf_core.specs.Start.{entry_slot, entry_frame, Invariants, Start}
-use Rattle.sf_core.specs.Step.{procedure_at}
-use Rattle.sf_core.specs.Syntax.{Level, level, Block, done, then, Assertion, Procedure, Program}
+use Rattle.sf_core.specs.Assertions.Sat.{Sat, SatAll}
+use Rattle.sf_core.specs.Machine.Start.{entry_slot, entry_frame, Invariants, Start}
+use Rattle.sf_core.specs.Machine.Step.{procedure_at}
+use Rattle.sf_core.specs.Program.Syntax.{Level, level, Block, done, then, Assertion, Procedure, Program}
 use Rattle.sf_base.proofs.Cases.{or-which, or-first, or-second, some-same}
 use Rattle.sf_base.proofs.HeapSplits.{star-drop_right, star-empty_left, star-empty_right, star-map_right}
 use Rattle.sf_sym.specs.declared.tag.Tag.{Tag}
@@ -213,19 +213,19 @@ module _ (p : Program) (f : ProcId) (store : Store) (heap : Heap) (c : Config) (
       (vars-nils (Agrees first_symbols entry_values) (s.procedure.references + s.procedure.values) (length s.procedure.names - (s.procedure.references + s.procedure.values))
       (λ i l m v e. let n : i < length s.procedure.names = behind-within (s.procedure.references + s.procedure.values) (length s.procedure.names) i l m in some-same v nil (sym e ∙ s.locals i l n)))
 
-  entry-values : value_at entry_values ≡ seen entry_slot store
+  entry-values : value_at entry_values ≡ evaluate entry_slot store
   entry-values = refl
 
   -- the precondition with the terms of the variables
-  first-pre : (a : Level Expr) → Sat a (seen entry_slot store) (λ n. nil) heap → (some : ℕ → Value) × SatAll (conjuncts_with (term (first_vars s.procedure)) (conjuncts_of a)) (term_value first_symbols) some heap
+  first-pre : (a : Level Expr) → Sat a (evaluate entry_slot store) (λ n. nil) heap → (some : ℕ → Value) × SatAll (conjuncts_with (term (first_vars s.procedure)) (conjuncts_of a)) (term_value first_symbols) some heap
   first-pre (level made cs) (here, o, d) = (
     here,
     subst (λ z. z) (sym (conjuncts-with (term (first_vars s.procedure)) (term_value first_symbols) cs here heap))
         (subst (λ z. SatAll cs z here heap) (sym (values-are first_symbols entry_values (first_vars s.procedure) first-covers first-agrees)) d),
   )
 
-  first-sat : Sat s.procedure.pre.level (seen entry_slot store) (λ n. nil) heap
-  first-sat = star-drop_right (subst (λ z. (Sat s.procedure.pre.level (seen entry_slot store) (λ n. nil) ⋆ Invariants z store) heap) no_resources s.pre)
+  first-sat : Sat s.procedure.pre.level (evaluate entry_slot store) (λ n. nil) heap
+  first-sat = star-drop_right (subst (λ z. (Sat s.procedure.pre.level (evaluate entry_slot store) (λ n. nil) ⋆ Invariants z store) heap) no_resources s.pre)
 
   first-adds : AddsHold first_symbols (first_goal p s.procedure).todo heap
   first-adds =

@@ -9,13 +9,13 @@ use Rattle.sf_base.specs.declared.place.Place.{Place}
 use Rattle.sf_base.specs.declared.value.Value.{Value}
 use Rattle.sf_base.specs.declared.value.Value.TheVariants.{Nil as nil}
 use Rattle.sf_core.specs.declared.command.Expr.{Expr}
-use Rattle.sf_core.specs.Formed.{IsParameter, AssertionWithin, IsFormed}
+use Rattle.sf_core.specs.Program.Formed.{IsParameter, AssertionWithin, IsFormed}
 use Rattle.sf_base.specs.HeapStore.{Cell, put_field, Heap, Store, IsEmpty, Splits, ◌⋆◌}
-use Rattle.sf_core.specs.Sat.{value, Sat}
-use Rattle.sf_core.specs.Config.{Config}
-use Rattle.sf_core.specs.Start.{entry_slot, Start}
-use Rattle.sf_core.specs.Step.{Finds}
-use Rattle.sf_core.specs.Syntax.{mutate, Assertion, Procedure, Program}
+use Rattle.sf_core.specs.Assertions.Sat.{value, Sat}
+use Rattle.sf_core.specs.Machine.Config.{Config}
+use Rattle.sf_core.specs.Machine.Start.{entry_slot, Start}
+use Rattle.sf_core.specs.Machine.Step.{Finds}
+use Rattle.sf_core.specs.Program.Syntax.{mutate, Assertion, Procedure, Program}
 use Rattle.sf_sym.specs.declared.atom.Atom.{Atom}
 use Rattle.sf_sym.specs.declared.atom.Atom.TheVariants.{Points, Ls, Tree}
 use Rattle.sf_sym.specs.declared.atom.Numbered.{Numbered}

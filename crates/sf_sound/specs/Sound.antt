@@ -2,14 +2,14 @@
 -- O'Hearn, "Resources, Concurrency and Local Reasoning" (2007); Brookes, "A Semantics for Concurrent Separation Logic" (2007).
 use Rattle.std.specs.Prelude.{◌≡◌, List, []}
 use Rattle.sf_base.specs.declared.ids.ProcId.{ProcId}
-use Rattle.sf_core.specs.Config.{Config}
-use Rattle.sf_core.specs.Formed.{IsFormed}
-use Rattle.sf_core.specs.Good.{Good}
+use Rattle.sf_core.specs.Machine.Config.{Config}
+use Rattle.sf_core.specs.Program.Formed.{IsFormed}
+use Rattle.sf_core.specs.Machine.Good.{Good}
 use Rattle.sf_base.specs.HeapStore.{Heap, Store}
-use Rattle.sf_core.specs.Reach.{Reach}
-use Rattle.sf_core.specs.Start.{Start}
-use Rattle.sf_core.specs.Step.{Event}
-use Rattle.sf_core.specs.Syntax.{Program}
+use Rattle.sf_core.specs.Machine.Reach.{Reach}
+use Rattle.sf_core.specs.Machine.Start.{Start}
+use Rattle.sf_core.specs.Machine.Step.{Event}
+use Rattle.sf_core.specs.Program.Syntax.{Program}
 use Rattle.sf_sym.specs.declared.tag.Tag.{Tag}
 use Rattle.sf_rules.specs.Proves.{Proves}
 

@@ -9,7 +9,7 @@ use Rattle.sf_base.specs.HeapStore.{Heap, Splits, ◌⋆◌}
 use Rattle.sf_sym.specs.declared.atom.Atom.{Atom}
 use Rattle.sf_sym.specs.declared.atom.Atom.TheVariants.{Points, Ls, Tree}
 use Rattle.sf_sym.specs.declared.atom.Numbered.{Numbered}
-use Rattle.sf_sym.specs.declared.state.Links.{Links}
+use Rattle.sf_core.specs.declared.fields.Links.{Links}
 use Rattle.sf_sym.specs.declared.term.Term.{Term}
 use Rattle.sf_sym.specs.declared.term.Term.TheVariants.{Nil, Int, Sym}
 use Rattle.sf_sym.specs.Holds.{term_value, Differ, SegAlong, TreeAlong, AtomHolds, AtomsHold}
@@ -18,8 +18,8 @@ use Rattle.sf_sym.specs.Tests.{same_term, is_constant, root, has_cell, allocates
 use Rattle.sf_base.proofs.Cases.{or-which, none-not_some}
 use Rattle.sf_base.proofs.MapSplits.{splits-has_left, splits-has_right, splits-lacks_right}
 use Rattle.sf_base.proofs.HeapSplits.{one-in, star-drop_left, star-assoc_right, star-map_right}
-use Rattle.sf_core.proofs.SegLaws.{loc-same, seg-first}
-use Rattle.sf_core.proofs.TreeLaws.{tree-root}
+use Rattle.sf_core.proofs.Assertions.Segments.{loc-same, seg-first}
+use Rattle.sf_core.proofs.Assertions.Trees.{tree-root}
 use Rattle.sf_sym.proofs.Bools.{and_left, and_right}
 use Rattle.sf_sym.proofs.Terms.{same_term_is, term-constant_no_location, direct-differs}
 

@@ -6,9 +6,9 @@ use Rattle.sf_base.specs.declared.value.Value.{Value}
 use Rattle.sf_base.specs.declared.value.Value.TheVariants.{Nil as nil, Loc as loc}
 use Rattle.sf_base.proofs.Cases.{some-same}
 use Rattle.sf_base.proofs.HeapSplits.{at-other, one-same_place, one-single, one-splits, remove_cell, star-drop_left, star-drop_right, star-empty_left, star-empty_right, star-of}
-use Rattle.sf_core.proofs.SegLaws.{nil-not_loc, seg-one}
+use Rattle.sf_core.proofs.Assertions.Segments.{nil-not_loc, seg-one}
 use Rattle.sf_base.specs.HeapStore.{Cell, IsOne}
-use Rattle.sf_core.specs.Instances.{tail, two_cells}
+use Rattle.sf_core.specs.Assertions.Examples.{tail, two_cells}
 use Rattle.sf_sym.specs.declared.term.Term.TheVariants.{Nil}
 use Rattle.sf_sym.specs.Holds.{term_value, IsBound}
 use Rattle.sf_sym.specs.Instances.{TwoCellsAreTheGoals, NilIsNotTheGoals, BoundExistentialIsItsTerm, UnboundExistentialIsAnything, StateIsKept}

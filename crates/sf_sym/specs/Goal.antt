@@ -7,8 +7,8 @@ use Rattle.sf_base.specs.declared.ids.Var.{Var}
 use Rattle.sf_base.specs.declared.place.Place.{Place}
 use Rattle.sf_core.specs.declared.assertion.Test.{Test}
 use Rattle.sf_core.specs.declared.command.Expr.{Expr}
-use Rattle.sf_core.specs.Syntax.{Conjuncts, Command, Block, Assertion}
-use Rattle.sf_core.specs.View.{conjuncts, conjunct_of, command_of, block_of, assertion_of}
+use Rattle.sf_core.specs.Program.Syntax.{Conjuncts, Command, Block, Assertion}
+use Rattle.sf_core.specs.Program.View.{conjuncts, conjunct_of, command_of, block_of, assertion_of}
 use Rattle.sf_sym.specs.declared.given.Pending.{Pending as CodePending}
 use Rattle.sf_sym.specs.declared.goal.Goal.{Goal as CodeGoal}
 use Rattle.sf_sym.specs.declared.goal.Item.{Item as CodeItem}

@@ -7,8 +7,8 @@ use Rattle.sf_base.specs.declared.value.Value.{Value}
 use Rattle.sf_base.specs.declared.value.Value.TheVariants.{Nil as nil, Loc as loc}
 use Rattle.sf_core.specs.declared.assertion.Operand.TheVariants.{Known, Exists}
 use Rattle.sf_base.specs.HeapStore.{Cell, Heap}
-use Rattle.sf_core.specs.Instances.{place, tl, l, r, one_cell, two_cells}
-use Rattle.sf_core.specs.Syntax.{Conjuncts, none, also, points, segment}
+use Rattle.sf_core.specs.Assertions.Examples.{place, tl, l, r, one_cell, two_cells}
+use Rattle.sf_core.specs.Program.Syntax.{Conjuncts, none, also, points, segment}
 use Rattle.sf_sym.specs.declared.atom.Atom.TheVariants.{Points}
 use Rattle.sf_sym.specs.declared.atom.Numbered.{Numbered}
 use Rattle.sf_sym.specs.declared.state.State.{State}

@@ -16,6 +16,6 @@ pub mod term;
 pub use atom::{Atom, Numbered};
 pub use given::{Given, Pending, Want};
 pub use goal::{Goal, Item};
-pub use state::{Links, State};
+pub use state::State;
 pub use tag::Tag;
 pub use term::Term;

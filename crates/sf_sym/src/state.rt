@@ -4,18 +4,8 @@ ghost use Rattle.sf_sym.specs.Tests.{allocated, allocates, both_allocated, diffe
 
 use crate::atom::{Atom, Numbered};
 use crate::term::Term;
-use sf_base::{FieldId, Sequence, Var};
-
-/// The numbers of the fields that segments and trees go by, where the program has them.
-#[derive(Clone, Copy, Debug, PartialEq, Eq)]
-pub struct Links {
-    /// The field of a list segment.
-    pub tl: Option<FieldId>,
-    /// The left field of a tree.
-    pub l: Option<FieldId>,
-    /// The right field of a tree.
-    pub r: Option<FieldId>,
-}
+use sf_base::{Sequence, Var};
+use sf_core::Links;
 
 /// What is known of the variables and of the heap at one point of a procedure.
 #[derive(Debug, Drop)]

@@ -20,9 +20,9 @@ use Rattle.sf_core.specs.declared.assertion.Test.TheVariants.{True, Equal, Diffe
 use Rattle.sf_core.specs.declared.command.Expr.{Expr}
 use Rattle.sf_core.specs.declared.command.Expr.TheVariants.{Var as Variable, Nil, Int}
 use Rattle.sf_core.specs.declared.command.Occurrence.{Occurrence}
-use Rattle.sf_core.specs.Formed.{IsFormed, IsInBody, IsSettable, ExprWithin, TestWithin, OperandWithin, FieldsWithin, LevelWithin, ConjunctsWithin, ConjunctWithin, CallWithin, CommandWithin, BlockWithin}
-use Rattle.sf_core.specs.HeldBy.{HeldBy}
-use Rattle.sf_core.specs.Syntax.{Conjunct, holds, points, segment, tree, choose, Level, level, Conjuncts, none, also, Call, Command, assign, look_up, mutate, new, dispose, if, while, call, fork, with, Block, done, then, Procedure, Program}
+use Rattle.sf_core.specs.Program.Formed.{IsFormed, IsInBody, IsSettable, ExprWithin, TestWithin, OperandWithin, FieldsWithin, LevelWithin, ConjunctsWithin, ConjunctWithin, CallWithin, CommandWithin, BlockWithin}
+use Rattle.sf_core.specs.Machine.HeldBy.{HeldBy}
+use Rattle.sf_core.specs.Program.Syntax.{Conjunct, holds, points, segment, tree, choose, Level, level, Conjuncts, none, also, Call, Command, assign, look_up, mutate, new, dispose, if, while, call, fork, with, Block, done, then, Procedure, Program}
 use Rattle.sf_calls.specs.declared.breach.Breach.{Breach}
 use Rattle.sf_calls.specs.declared.breach.Breach.TheVariants.{NotHeld, Reentered, SameReference, ReferenceIsFree, ParallelShares}
 use Rattle.sf_calls.specs.Conditions.{Takes, Free}
@@ -361,7 +361,7 @@ mutual
       (meets_both (InBlock a c) (InBlock a d) (In a) (in_block sets held c) (in_block sets held d) (meets_block a h sets held s c w.1) (meets_block a h sets held s d w.2))
   meets_command a h sets held s (while q t i c) w =
       meets_both (UnheldInTest (UnheldInExpr a) t) (first (UnheldInLevel a i.level) (InBlock a c)) (In a) (in_test (in_expr held) t) (option_or (in_level held i.level) (in_block sets held c)) (meets_guard a h sets held s t w.0)
-      (meets_both (UnheldInLevel a i.level) (InBlock a c) (In a) (in_level held i.level) (in_block sets held c) (meets_level a h sets held s a.program.fields [] i.level w.1.note.within) (meets_block a h sets held s c w.2))
+      (meets_both (UnheldInLevel a i.level) (InBlock a c) (In a) (in_level held i.level) (in_block sets held c) (meets_level a h sets held s a.program.fields [] i.level w.1.annotation.within) (meets_block a h sets held s c w.2))
   meets_command a h sets held s (call q c) w = meets_single a h sets held s q c w
   meets_command a h sets held s (fork q c d) w = meets_fork a h sets held s q c d w.0 w.1
   meets_command a h sets held s (with q r t c) w =

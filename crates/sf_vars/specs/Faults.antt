@@ -5,7 +5,7 @@ use Rattle.sf_base.specs.declared.ids.ProcId.{ProcId}
 use Rattle.sf_base.specs.declared.ids.ResId.{ResId}
 use Rattle.sf_base.specs.declared.ids.Var.{Var}
 use Rattle.sf_base.specs.declared.ids.Var.TheVariants.{Own, Shared}
-use Rattle.sf_core.specs.Syntax.{Procedure, Resource, Program}
+use Rattle.sf_core.specs.Program.Syntax.{Procedure, Resource, Program}
 use Rattle.sf_calls.specs.declared.breach.Breach.{Breach}
 use Rattle.sf_calls.specs.declared.breach.Breach.TheVariants.{NotHeld, Reentered, SameReference, ReferenceIsFree, ParallelShares}
 use Rattle.sf_calls.specs.FirstBreach.{FirstBreach}

@@ -1,8 +1,8 @@
 -- Each program has an answer: no condition on variables is broken, or a fault comes first.
 -- Ordinary: a relation that stands to each argument has a value for it.
 use Rattle.std.specs.Prelude.{◌⊎◌}
-use Rattle.sf_core.specs.Formed.{IsFormed}
-use Rattle.sf_core.specs.Syntax.{Program}
+use Rattle.sf_core.specs.Program.Formed.{IsFormed}
+use Rattle.sf_core.specs.Program.Syntax.{Program}
 use Rattle.sf_calls.specs.FirstBreach.{Conditions}
 use Rattle.sf_vars.specs.Faults.{IsFirstFault}
 use Rattle.sf_vars.specs.declared.fault.VarFault.{VarFault}

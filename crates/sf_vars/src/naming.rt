@@ -1,7 +1,7 @@
 //! The names that faults tell.
 
 ghost use Rattle.std.specs.Prelude.{◌≡◌, ◌<◌, ℕ, List, length, IfOk};
-ghost use Rattle.sf_core.specs.ProgramView.{program_of};
+ghost use Rattle.sf_core.specs.Program.ProgramView.{program_of};
 ghost use Rattle.sf_vars.specs.Faults.{IsBreachName, IsResourceName, IsVariableName, told_by};
 ghost use Rattle.sf_vars.specs.Search.{IsBreachIn, IsVariableIn};
 

@@ -2,9 +2,9 @@
 //! programs break is tested in sf_cli, where they are read from texts.
 
 ghost use Rattle.std.specs.Prelude.{◌≡◌, [], ◌∷◌, length, IfOk};
-ghost use Rattle.sf_core.specs.Formed.{AssertionWithin, IsFormed, IsOfResource, ProcedureWithin};
-ghost use Rattle.sf_core.specs.Syntax.{also, assign, call, fork, holds, level, none, with};
-ghost use Rattle.sf_core.specs.View.{assertion_of, block_of, call_of, command_of, procedure_of, program_with, resource_of};
+ghost use Rattle.sf_core.specs.Program.Formed.{AssertionWithin, IsFormed, IsOfResource, ProcedureWithin};
+ghost use Rattle.sf_core.specs.Program.Syntax.{also, assign, call, fork, holds, level, none, with};
+ghost use Rattle.sf_core.specs.Program.View.{assertion_of, block_of, call_of, command_of, procedure_of, program_with, resource_of};
 ghost use Rattle.sf_core.specs.declared.assertion.Operand.TheVariants.{Known};
 ghost use Rattle.sf_core.specs.declared.assertion.Test.TheVariants.{Equal};
 ghost use Rattle.sf_core.specs.declared.command.Expr.TheVariants.{Var as Variable, Nil};
@@ -13,8 +13,8 @@ use crate::{VarFault, conditions};
 use sf_base::{Name, Place, ProcId, ResId, Var};
 use sf_calls::reach;
 use sf_core::{
-    Assertion, Call, Command, Conjunct, Expr, Level, Occurrence, Operand, Proc, Program, Resource,
-    Scope, Test,
+    Assertion, Call, Command, Conjunct, Expr, Level, Links, Occurrence, Operand, Proc, Program,
+    Resource, Scope, Test,
 };
 use std::alloc::{AllocError, Global};
 use std::test::Fail;
@@ -104,10 +104,13 @@ fn procedure(
 fn file(alloc: Global, resources: Vec<Resource>, procedures: Vec<Proc>) -> Program
     requires { IsFormed (program_with [] resources.items procedures.items) }
 {
+    let fields = Vec::new(alloc);
+    let links = Links::among(&fields);
     Program {
-        fields: Vec::new(alloc),
+        fields,
         resources,
         procedures,
+        links,
     }
 }
 

@@ -1,5 +1,5 @@
 use Rattle.std.proofs.Common.{sym, ◌∙◌}
-use Rattle.sf_core.specs.ProgramView.{program_of}
+use Rattle.sf_core.specs.Program.ProgramView.{program_of}
 use Rattle.sf_calls.proofs.CallGraph.{callers_kept}
 use Rattle.sf_calls.proofs.callers.callers_after.Goals as goal
 

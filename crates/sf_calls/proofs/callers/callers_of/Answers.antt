@@ -1,8 +1,8 @@
 use Rattle.std.proofs.Common.{◌≡◌, ◌≤◌, ◌∙◌, sym, ap, length, map, slice_get, Some, ◌++◌, rules, arith}
 use Rattle.std.proofs.lemmas.List.{length-map}
 use Rattle.sf_base.proofs.Lookup.{read_mapped}
-use Rattle.sf_core.specs.View.{procedure_of, block_of}
-use Rattle.sf_core.specs.ProgramView.{program_of}
+use Rattle.sf_core.specs.Program.View.{procedure_of, block_of}
+use Rattle.sf_core.specs.Program.ProgramView.{program_of}
 use Rattle.sf_calls.specs.Tests.{callees_in}
 use Rattle.sf_calls.proofs.CallGraph.{calls_none, calls_more, calls_all, callees_there}
 use Rattle.sf_calls.proofs.callers.callers_of.Goals as goal

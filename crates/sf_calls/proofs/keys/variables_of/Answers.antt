@@ -1,8 +1,8 @@
 use Rattle.std.proofs.Common.{◌≡◌, ◌<◌, ◌^◌, ℕ, length, map, slice_get, Some, ap, sym, ◌∙◌, subst, rules, arith}
 use Rattle.sf_base.proofs.Lookup.{read_mapped}
-use Rattle.sf_core.specs.Formed.{variable_count}
-use Rattle.sf_core.specs.View.{resource_of}
-use Rattle.sf_core.specs.ProgramView.{program_of}
+use Rattle.sf_core.specs.Program.Formed.{variable_count}
+use Rattle.sf_core.specs.Program.View.{resource_of}
+use Rattle.sf_core.specs.Program.ProgramView.{program_of}
 use Rattle.sf_calls.specs.Gathers.{IsUpTo}
 use Rattle.sf_calls.specs.Sets.{IsSetOf, IsEarlier}
 use Rattle.sf_calls.proofs.InOrder.{next_variables, no_variables, variables_bound}

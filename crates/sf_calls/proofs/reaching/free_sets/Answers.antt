@@ -1,8 +1,8 @@
 use Rattle.std.proofs.Common.{◌≡◌, ◌∙◌, slice_get, length, sym, ap, rules}
 use Rattle.std.proofs.lemmas.List.{length-map}
-use Rattle.sf_core.specs.Formed.{variable_count}
-use Rattle.sf_core.specs.View.{procedure_of, resource_of}
-use Rattle.sf_core.specs.ProgramView.{program_of}
+use Rattle.sf_core.specs.Program.Formed.{variable_count}
+use Rattle.sf_core.specs.Program.View.{procedure_of, resource_of}
+use Rattle.sf_core.specs.Program.ProgramView.{program_of}
 use Rattle.sf_calls.specs.Conditions.{Free, FreeIn}
 use Rattle.sf_calls.specs.Marks.{AreRows}
 use Rattle.sf_calls.specs.Gathers.{IsUpTo}

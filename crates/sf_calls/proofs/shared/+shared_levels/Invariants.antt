@@ -1,5 +1,5 @@
 use Rattle.std.proofs.Common.{◌≡◌, drop, map, ◌++◌}
-use Rattle.sf_core.specs.View.{conjunct_of, conjuncts}
+use Rattle.sf_core.specs.Program.View.{conjunct_of, conjuncts}
 use Rattle.sf_calls.specs.Listed.{shared_in_conjuncts}
 use Rattle.sf_calls.proofs.shared.+shared_levels.Given as goal
 

@@ -1,6 +1,6 @@
 use Rattle.std.proofs.Common.{◌∙◌, refl, ap}
 use Rattle.sf_calls.specs.Listed.{is_entered}
-use Rattle.sf_core.specs.ProgramView.{program_of}
+use Rattle.sf_core.specs.Program.ProgramView.{program_of}
 use Rattle.sf_calls.proofs.Rows.{entering_row, mapped_more}
 use Rattle.sf_calls.proofs.tables.entering.Goals as goal
 

@@ -1,8 +1,8 @@
 use Rattle.std.proofs.Common.{◌∙◌, length, get_or, ap}
 use Rattle.std.proofs.lemmas.List.{length-map}
 use Rattle.sf_base.specs.declared.ids.Var.TheVariants.{Own}
-use Rattle.sf_core.specs.View.{procedure_of}
-use Rattle.sf_core.specs.ProgramView.{program_of}
+use Rattle.sf_core.specs.Program.View.{procedure_of}
+use Rattle.sf_core.specs.Program.ProgramView.{program_of}
 use Rattle.sf_calls.specs.Conditions.{FreeIn, Mentions}
 use Rattle.sf_calls.specs.Outside.{owner}
 use Rattle.sf_calls.proofs.Rows.{leading_row, callers_there, rows_more}

@@ -1,5 +1,5 @@
 use Rattle.std.proofs.Common.{length, take}
-use Rattle.sf_core.specs.ProgramView.{program_of}
+use Rattle.sf_core.specs.Program.ProgramView.{program_of}
 use Rattle.sf_calls.specs.Conditions.{FreeIn}
 use Rattle.sf_calls.specs.Marks.{AreRows, AreCallers}
 use Rattle.sf_calls.proofs.tables.free_rows.Given as goal

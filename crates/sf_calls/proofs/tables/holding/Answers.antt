@@ -1,5 +1,5 @@
 use Rattle.std.proofs.Common.{◌∙◌, refl, ap}
-use Rattle.sf_core.specs.ProgramView.{program_of}
+use Rattle.sf_core.specs.Program.ProgramView.{program_of}
 use Rattle.sf_calls.specs.Texts.{speaks_of}
 use Rattle.sf_calls.proofs.Rows.{holding_row, mapped_more}
 use Rattle.sf_calls.proofs.tables.holding.Goals as goal

@@ -1,5 +1,5 @@
 use Rattle.std.proofs.Common.{◌∙◌, refl}
-use Rattle.sf_core.specs.ProgramView.{program_of}
+use Rattle.sf_core.specs.Program.ProgramView.{program_of}
 use Rattle.sf_calls.specs.Texts.{has}
 use Rattle.sf_calls.proofs.Rows.{has_same, mentioning_row, mapped_more, text_ordered}
 use Rattle.sf_calls.proofs.tables.mentioning.Goals as goal

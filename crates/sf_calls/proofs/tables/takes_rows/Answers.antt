@@ -1,7 +1,7 @@
 use Rattle.std.proofs.Common.{◌∙◌, None, length, get_or, ap}
 use Rattle.std.proofs.lemmas.List.{length-map}
-use Rattle.sf_core.specs.View.{procedure_of}
-use Rattle.sf_core.specs.ProgramView.{program_of}
+use Rattle.sf_core.specs.Program.View.{procedure_of}
+use Rattle.sf_core.specs.Program.ProgramView.{program_of}
 use Rattle.sf_calls.specs.Conditions.{Takes, Enters}
 use Rattle.sf_calls.proofs.Decided.{resource}
 use Rattle.sf_calls.proofs.Rows.{leading_row, callers_there, rows_more}

@@ -1,5 +1,5 @@
 use Rattle.std.proofs.Common.{length, take}
-use Rattle.sf_core.specs.ProgramView.{program_of}
+use Rattle.sf_core.specs.Program.ProgramView.{program_of}
 use Rattle.sf_calls.specs.Conditions.{Takes}
 use Rattle.sf_calls.specs.Marks.{AreRows}
 use Rattle.sf_calls.proofs.tables.takes_rows.Given as goal

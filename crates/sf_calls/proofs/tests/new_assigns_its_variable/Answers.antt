@@ -4,10 +4,10 @@ use Rattle.sf_core.specs.declared.command.Occurrence.{Occurrence}
 use Rattle.sf_core.specs.declared.command.Command.{New}
 use Rattle.sf_core.specs.declared.command.Command.TheVariants.{rolls-New}
 use Rattle.sf_core.specs.declared.command.Command.TheFolds.{fold-roll-Command}
-use Rattle.sf_core.specs.Formed.{IsSettable}
-use Rattle.sf_core.specs.Syntax.{Command, Procedure, Assertion, new, done, level, none}
-use Rattle.sf_core.specs.View.{command_of, command_step}
-use Rattle.sf_core.specs.ProgramView.{program_of}
+use Rattle.sf_core.specs.Program.Formed.{IsSettable}
+use Rattle.sf_core.specs.Program.Syntax.{Command, Procedure, Assertion, new, done, level, none}
+use Rattle.sf_core.specs.Program.View.{command_of, command_step}
+use Rattle.sf_core.specs.Program.ProgramView.{program_of}
 use Rattle.sf_calls.proofs.tests.new_assigns_its_variable.Goals as goal
 
 view : (p : Place) (x : Occurrence) → command_of (New p x) ≡ new p x

@@ -2,10 +2,10 @@ use Rattle.std.proofs.Common.{◌≡◌, ◌∙◌, List, [], ◌∷◌, map, ap
 use Rattle.std.proofs.lemmas.List.Elements.{All-nil}
 use Rattle.sf_base.specs.declared.place.Place.{Place}
 use Rattle.sf_core.specs.declared.command.Occurrence.{Occurrence}
-use Rattle.sf_core.specs.Formed.{IsSettable, IsInBody, ExprWithin, CommandWithin}
-use Rattle.sf_core.specs.Syntax.{Procedure, Program, call}
-use Rattle.sf_core.specs.View.{procedure_of}
-use Rattle.sf_core.specs.ProgramView.{program_of}
+use Rattle.sf_core.specs.Program.Formed.{IsSettable, IsInBody, ExprWithin, CommandWithin}
+use Rattle.sf_core.specs.Program.Syntax.{Procedure, Program, call}
+use Rattle.sf_core.specs.Program.View.{procedure_of}
+use Rattle.sf_core.specs.Program.ProgramView.{program_of}
 use Rattle.sf_calls.proofs.Searches.{proc}
 use Rattle.sf_calls.proofs.tests.sets_of_two_procedures.Goals as goal
 

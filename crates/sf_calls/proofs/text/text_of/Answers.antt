@@ -1,6 +1,6 @@
 use Rattle.std.proofs.Common.{◌≡◌, ◌∙◌, ◌++◌, [], List, ap, sym}
 use Rattle.sf_base.specs.declared.ids.Var.{Var}
-use Rattle.sf_core.specs.View.{procedure_of, block_of, level_of}
+use Rattle.sf_core.specs.Program.View.{procedure_of, block_of, level_of}
 use Rattle.sf_calls.specs.Listed.{shared_in_level, shared_in, entered_in, guarded_in}
 use Rattle.sf_calls.proofs.Listing.{text_is}
 use Rattle.sf_calls.proofs.text.text_of.Goals as goal

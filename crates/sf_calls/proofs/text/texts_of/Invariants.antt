@@ -1,6 +1,6 @@
 use Rattle.std.proofs.Common.{map, take}
 use Rattle.std.specs.List.{AllZip}
-use Rattle.sf_core.specs.View.{procedure_of}
+use Rattle.sf_core.specs.Program.View.{procedure_of}
 use Rattle.sf_calls.specs.Texts.{IsTextOf}
 use Rattle.sf_calls.proofs.text.texts_of.Given as goal
 

@@ -1,6 +1,6 @@
 use Rattle.std.proofs.Common.{◌≡◌, rules}
-use Rattle.sf_core.specs.View.{procedure_of}
-use Rattle.sf_core.specs.ProgramView.{program_of}
+use Rattle.sf_core.specs.Program.View.{procedure_of}
+use Rattle.sf_core.specs.Program.ProgramView.{program_of}
 use Rattle.sf_sym.specs.declared.tag.Tag.TheVariants.{Procedure as Begin}
 use Rattle.sf_sym.specs.Goal.{goal_of}
 use Rattle.sf_check.proofs.Stacks.{begin-accepted}

@@ -1,5 +1,5 @@
 use Rattle.std.proofs.Common.{◌↔◌, drop}
-use Rattle.sf_core.specs.ProgramView.{program_of}
+use Rattle.sf_core.specs.Program.ProgramView.{program_of}
 use Rattle.sf_check.specs.Checking.{AcceptsFrom}
 use Rattle.sf_rules.specs.Proves.{Proves}
 use Rattle.sf_check.proofs.checking.check.Given as goal

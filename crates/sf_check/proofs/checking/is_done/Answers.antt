@@ -1,8 +1,8 @@
 use Rattle.std.proofs.Common.{◌≡◌, ◌≤◌, [], length, ℕ, true, Option, sym, subst, ◌∙◌, arith, leb}
 use Rattle.std.proofs.lemmas.List.{length-map}
 use Rattle.std.proofs.lemmas.Bool.Decides.{nat_tests}
-use Rattle.sf_core.specs.View.{procedure_of}
-use Rattle.sf_core.specs.ProgramView.{program_of}
+use Rattle.sf_core.specs.Program.View.{procedure_of}
+use Rattle.sf_core.specs.Program.ProgramView.{program_of}
 use Rattle.sf_sym.specs.declared.goal.Goal.{Goal as CodeGoal}
 use Rattle.sf_check.proofs.Stacks.{end-checks}
 use Rattle.sf_check.specs.Checking.{open_goals}

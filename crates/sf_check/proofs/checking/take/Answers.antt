@@ -1,6 +1,6 @@
 use Rattle.std.proofs.Common.{◌↔◌, ◌∷◌, List, Option, sym, subst}
 use Rattle.std.specs.Prelude.{IfOk, IfSome, IfNone}
-use Rattle.sf_core.specs.ProgramView.{program_of}
+use Rattle.sf_core.specs.Program.ProgramView.{program_of}
 use Rattle.sf_sym.specs.declared.goal.Goal.{Goal as CodeGoal}
 use Rattle.sf_sym.specs.declared.tag.Tag.{Tag as TagOf}
 use Rattle.sf_rules.proofs.Answered.{answered-some, answered-none}

@@ -1,6 +1,6 @@
 use Rattle.std.proofs.Common.{sym, ap, ◌∙◌}
 use Rattle.std.specs.List.{list_all}
-use Rattle.sf_core.specs.View.{conjunct_of}
+use Rattle.sf_core.specs.Program.View.{conjunct_of}
 use Rattle.sf_precise.proofs.Views.{view-level}
 use Rattle.sf_cli.proofs.BuiltForms.{built-cells}
 use Rattle.sf_rules.specs.Built.{is_cell, has_cells}

@@ -1,4 +1,4 @@
-use Rattle.sf_core.specs.ProgramView.{program_of}
+use Rattle.sf_core.specs.Program.ProgramView.{program_of}
 use Rattle.sf_cli.proofs.Refused.{refused-by, refused-mapped}
 use Rattle.sf_cli.specs.FileFault.{FileFault, ProgramFault, unread, unfit}
 use Rattle.sf_cli.proofs.reading.admit.Goals as goal

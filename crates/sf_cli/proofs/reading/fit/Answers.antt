@@ -1,4 +1,4 @@
-use Rattle.sf_core.specs.ProgramView.{program_of}
+use Rattle.sf_core.specs.Program.ProgramView.{program_of}
 use Rattle.sf_precise.specs.Notes.{notes_in}
 use Rattle.sf_cli.proofs.Refused.{refused-by, refused-variables, refused-order, determined-all}
 use Rattle.sf_cli.specs.FileFault.{ProgramFault}

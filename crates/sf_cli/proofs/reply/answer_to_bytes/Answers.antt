@@ -1,4 +1,4 @@
-use Rattle.sf_core.specs.ProgramView.{program_of}
+use Rattle.sf_core.specs.Program.ProgramView.{program_of}
 use Rattle.std.proofs.lemmas.Result.{IfOk-weaker}
 use Rattle.sf_cli.proofs.Refused.{refused-both}
 use Rattle.sf_cli.specs.Answer.{refused, admitted}

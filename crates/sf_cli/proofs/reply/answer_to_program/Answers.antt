@@ -1,5 +1,5 @@
 use Rattle.std.proofs.Common.{◌≡◌, true}
-use Rattle.sf_core.specs.ProgramView.{program_of}
+use Rattle.sf_core.specs.Program.ProgramView.{program_of}
 use Rattle.std.proofs.lemmas.Result.{IfOk-weaker}
 use Rattle.sf_cli.specs.Answer.{judged}
 use Rattle.sf_rules.specs.Built.{is_built}

@@ -1,6 +1,6 @@
 use Rattle.std.proofs.Common.{rules, map}
 use Rattle.sf_ast.specs.View.{assertion_of}
-use Rattle.sf_core.specs.View.{conjunct_of}
+use Rattle.sf_core.specs.Program.View.{conjunct_of}
 use Rattle.sf_elab.specs.InSight.{sight_of}
 use Rattle.sf_elab.proofs.Conjuncts.{conjuncts_pushed, after_pushed, faults_pushed, level_left}
 use Rattle.sf_elab.proofs.assertions.+levels.Goals as goal

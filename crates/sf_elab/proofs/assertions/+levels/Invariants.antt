@@ -1,6 +1,6 @@
 use Rattle.std.proofs.Common.{◌≡◌, drop, map, ◌++◌}
 use Rattle.sf_ast.specs.View.{conjunct_of as surface_conjunct, assertion_of}
-use Rattle.sf_core.specs.View.{conjunct_of}
+use Rattle.sf_core.specs.Program.View.{conjunct_of}
 use Rattle.sf_elab.specs.Assertions.{conjuncts_of, assertion_faults}
 use Rattle.sf_elab.specs.Existentials.{after}
 use Rattle.sf_elab.specs.InSight.{sight_of}

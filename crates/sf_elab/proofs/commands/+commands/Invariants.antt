@@ -1,6 +1,6 @@
 use Rattle.std.proofs.Common.{◌≡◌, drop, map, ◌++◌}
 use Rattle.sf_ast.specs.View.{commands as surface_commands, command_of as surface_command}
-use Rattle.sf_core.specs.View.{command_of}
+use Rattle.sf_core.specs.Program.View.{command_of}
 use Rattle.sf_elab.specs.Commands.{commands_of, commands_faults}
 use Rattle.sf_elab.specs.InSight.{sight_of}
 use Rattle.sf_elab.proofs.commands.+commands.Given as goal

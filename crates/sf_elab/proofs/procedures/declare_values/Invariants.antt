@@ -1,6 +1,6 @@
 use Rattle.std.proofs.Common.{◌≡◌, [], ◌∷◌, drop, length, map, ◌++◌}
 use Rattle.std.specs.List.{filter}
-use Rattle.sf_core.specs.View.{command_of}
+use Rattle.sf_core.specs.Program.View.{command_of}
 use Rattle.sf_elab.specs.Procedures.{body_values, first_assignments}
 use Rattle.sf_elab.specs.Table.{has}
 use Rattle.sf_elab.specs.Texts.{text}

@@ -1,6 +1,6 @@
 use Rattle.std.proofs.Common.{◌≡◌, drop, map, ◌++◌}
 use Rattle.sf_ast.specs.View.{item_of}
-use Rattle.sf_core.specs.View as core
+use Rattle.sf_core.specs.Program.View as core
 use Rattle.sf_elab.specs.Commands.{all_faults}
 use Rattle.sf_elab.specs.Declarations.{procedures_in}
 use Rattle.sf_elab.specs.Procedures.{procedure_of, procedure_faults}

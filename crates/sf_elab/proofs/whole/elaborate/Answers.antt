@@ -1,6 +1,6 @@
 use Rattle.std.proofs.Common.{map}
 use Rattle.sf_ast.specs.View.{item_of}
-use Rattle.sf_core.specs.ProgramView.{program_of}
+use Rattle.sf_core.specs.Program.ProgramView.{program_of}
 use Rattle.sf_elab.proofs.Answered.{only_found, only_refused}
 use Rattle.sf_elab.proofs.whole.elaborate.Goals as goal
 

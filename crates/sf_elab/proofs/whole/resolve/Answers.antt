@@ -1,7 +1,7 @@
 use Rattle.std.proofs.Common.{◌≡◌, List, None, map, rules}
 use Rattle.sf_ast.specs.View.{item_of}
-use Rattle.sf_core.specs.View.{program_with}
-use Rattle.sf_core.specs.ProgramView.{program_of}
+use Rattle.sf_core.specs.Program.View.{program_with}
+use Rattle.sf_core.specs.Program.ProgramView.{program_of}
 use Rattle.sf_elab.specs.declared.fault.Fault.{Fault}
 use Rattle.sf_elab.specs.Elaborated.{elaborated, faults}
 use Rattle.sf_elab.specs.Faults.{first_of}

@@ -1,5 +1,5 @@
 use Rattle.std.proofs.Common.{map, take}
-use Rattle.sf_core.specs.View.{assertion_of}
+use Rattle.sf_core.specs.Program.View.{assertion_of}
 use Rattle.sf_precise.proofs.Noted.{IsNoted}
 use Rattle.sf_precise.proofs.arranging.order_all.Given as goal
 

@@ -1,5 +1,5 @@
 use Rattle.std.specs.Prelude.{false}
-use Rattle.sf_core.specs.Sat.{value}
+use Rattle.sf_core.specs.Assertions.Sat.{value}
 use Rattle.sf_precise.proofs.OrderMeaning.{level-sat, sat-level}
 use Rattle.sf_precise.proofs.laws.order_keeps_meaning.Goals as goal
 

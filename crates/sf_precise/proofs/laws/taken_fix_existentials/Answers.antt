@@ -1,4 +1,4 @@
-use Rattle.sf_core.specs.Sat.{value}
+use Rattle.sf_core.specs.Assertions.Sat.{value}
 use Rattle.sf_precise.proofs.TakenFixes.{takes-agree}
 use Rattle.sf_precise.proofs.laws.taken_fix_existentials.Goals as goal
 

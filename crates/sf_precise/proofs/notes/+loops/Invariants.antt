@@ -1,5 +1,5 @@
 use Rattle.std.proofs.Common.{◌≡◌, ◌++◌, drop, map}
-use Rattle.sf_core.specs.View.{assertion_of, block_of}
+use Rattle.sf_core.specs.Program.View.{assertion_of, block_of}
 use Rattle.sf_precise.specs.Notes.{loops_in}
 use Rattle.sf_precise.proofs.notes.+loops.Given as goal
 

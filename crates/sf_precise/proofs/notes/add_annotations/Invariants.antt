@@ -1,6 +1,6 @@
 use Rattle.std.proofs.Common.{◌≡◌, ◌++◌, drop, map}
 use Rattle.std.specs.List.{flat_map}
-use Rattle.sf_core.specs.View.{assertion_of, procedure_of}
+use Rattle.sf_core.specs.Program.View.{assertion_of, procedure_of}
 use Rattle.sf_precise.specs.Notes.{notes_of}
 use Rattle.sf_precise.proofs.notes.add_annotations.Given as goal
 

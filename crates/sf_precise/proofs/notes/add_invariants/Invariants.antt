@@ -1,5 +1,5 @@
 use Rattle.std.proofs.Common.{◌≡◌, ◌++◌, drop, map}
-use Rattle.sf_core.specs.View.{assertion_of, resource_of}
+use Rattle.sf_core.specs.Program.View.{assertion_of, resource_of}
 use Rattle.sf_precise.proofs.notes.add_invariants.Given as goal
 
 -- those so far and those of what is left are all

@@ -1,5 +1,5 @@
 use Rattle.std.proofs.Common.{◌∙◌, ◌++◌, ap}
-use Rattle.sf_core.specs.View.{level_of}
+use Rattle.sf_core.specs.Program.View.{level_of}
 use Rattle.sf_precise.proofs.Branches.{branch-ordered, branch-stuck, choice-prepared, made_of}
 use Rattle.sf_precise.proofs.Outers.{joined-three, joined-two, level-outer}
 use Rattle.sf_precise.proofs.Sequences.{zip-more}

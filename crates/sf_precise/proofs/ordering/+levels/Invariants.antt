@@ -1,6 +1,6 @@
 use Rattle.std.proofs.Common.{◌≡◌, take, option_map}
 use Rattle.std.specs.List.{AllZip}
-use Rattle.sf_core.specs.View.{conjunct_of}
+use Rattle.sf_core.specs.Program.View.{conjunct_of}
 use Rattle.sf_precise.specs.Outer.{outer_of}
 use Rattle.sf_precise.specs.Prepared.{IsPrepared}
 use Rattle.sf_precise.proofs.ordering.+levels.Given as goal

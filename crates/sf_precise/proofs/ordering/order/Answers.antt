@@ -1,5 +1,5 @@
 use Rattle.std.proofs.Common.{rules}
-use Rattle.sf_core.specs.View.{level_of}
+use Rattle.sf_core.specs.Program.View.{level_of}
 use Rattle.sf_precise.proofs.Branches.{error-not, ordered-determined, ordered-stands}
 use Rattle.sf_precise.proofs.ordering.order.Goals as goal
 

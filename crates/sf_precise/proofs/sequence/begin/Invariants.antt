@@ -1,5 +1,5 @@
 use Rattle.std.proofs.Common.{is_some, map, take}
-use Rattle.sf_core.specs.View.{conjunct_of}
+use Rattle.sf_core.specs.Program.View.{conjunct_of}
 use Rattle.sf_precise.specs.Waits.{jobs_of, known_outside}
 use Rattle.sf_precise.specs.Work.{IsWork, none_taken}
 use Rattle.sf_precise.proofs.sequence.begin.Given as goal

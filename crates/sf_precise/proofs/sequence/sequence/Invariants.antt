@@ -1,4 +1,4 @@
-use Rattle.sf_core.specs.View.{conjunct_of}
+use Rattle.sf_core.specs.Program.View.{conjunct_of}
 use Rattle.sf_precise.specs.Waits.{known_outside}
 use Rattle.sf_precise.specs.Work.{work_left}
 use Rattle.sf_precise.proofs.Sequences.{Progress}

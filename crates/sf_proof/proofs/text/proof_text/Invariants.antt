@@ -1,5 +1,5 @@
 use Rattle.std.proofs.Common.{◌≡◌, ◌++◌, drop}
-use Rattle.sf_core.specs.ProgramView.{program_of}
+use Rattle.sf_core.specs.Program.ProgramView.{program_of}
 use Rattle.sf_proof.specs.ProofText.{proof_text, lines_of}
 use Rattle.sf_proof.proofs.text.proof_text.Given as goal
 

@@ -1,5 +1,5 @@
 use Rattle.std.proofs.Common.{rules}
-use Rattle.sf_core.specs.View.{assertion_of, block_of}
+use Rattle.sf_core.specs.Program.View.{assertion_of, block_of}
 use Rattle.sf_sym.specs.Goal.{pending_of}
 use Rattle.sf_rules.specs.Left.{todo_of}
 use Rattle.sf_rules.proofs.Items.{first_is, run_and_return}

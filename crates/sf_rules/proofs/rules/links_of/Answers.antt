@@ -3,7 +3,7 @@ use Rattle.sf_rules.proofs.rules.links_of.Goals as goal
 
 pub returns : goal.returns
 returns c = λ i. record {
-  tl = field_is c.args.p.now.fields.items _ c.field.result c.field.ensures.first i;
-  l = field_is c.args.p.now.fields.items _ c.field-2.result c.field-2.ensures.first i;
-  r = field_is c.args.p.now.fields.items _ c.field-3.result c.field-3.ensures.first i;
+  tl = field_is c.args.p.now.fields.items _ c.args.p.now.links.tl c.args.p.now.linked.next i;
+  l = field_is c.args.p.now.fields.items _ c.args.p.now.links.l c.args.p.now.linked.left i;
+  r = field_is c.args.p.now.fields.items _ c.args.p.now.links.r c.args.p.now.linked.right i;
 }

@@ -1,5 +1,5 @@
 use Rattle.std.proofs.Common.{rules}
-use Rattle.sf_core.specs.View.{assertion_of}
+use Rattle.sf_core.specs.Program.View.{assertion_of}
 use Rattle.sf_rules.specs.Left.{todo_of}
 use Rattle.sf_rules.proofs.Items.{return_is, return_other}
 use Rattle.sf_rules.proofs.rules.return_from.Goals as goal

@@ -1,5 +1,5 @@
 use Rattle.std.proofs.Common.{◌≡◌, map, take}
-use Rattle.sf_core.specs.View.{conjunct_of}
+use Rattle.sf_core.specs.Program.View.{conjunct_of}
 use Rattle.sf_rules.specs.Table.{conjunct_with, term}
 use Rattle.sf_rules.proofs.terms.+terms.Given as goal
 

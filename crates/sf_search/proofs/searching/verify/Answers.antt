@@ -1,8 +1,8 @@
 use Rattle.std.proofs.Common.{rules, arith, subst, ◌+◌}
-use Rattle.sf_core.specs.ProgramView.{program_of}
+use Rattle.sf_core.specs.Program.ProgramView.{program_of}
 use Rattle.sf_search.specs.Ends.{EndsAs}
 use Rattle.sf_rules.specs.Table.{first_goal}
-use Rattle.sf_core.specs.View.{procedure_of}
+use Rattle.sf_core.specs.Program.View.{procedure_of}
 use Rattle.sf_base.proofs.Lookup.{read_mapped}
 use Rattle.sf_search.proofs.Judging.{judged_next, judged_over, drop_past, judged_stuck, judged_large, judged_all, drop_map}
 use Rattle.sf_search.proofs.searching.verify.Goals as goal

@@ -1,6 +1,6 @@
 use Rattle.std.proofs.Common.{◌≤◌}
 use Rattle.sf_base.specs.declared.limits.TheConstants.{FILE_TAGS}
-use Rattle.sf_core.specs.ProgramView.{program_of}
+use Rattle.sf_core.specs.Program.ProgramView.{program_of}
 use Rattle.sf_search.proofs.Judging.{Judged}
 use Rattle.sf_search.proofs.searching.verify.Given as goal
 

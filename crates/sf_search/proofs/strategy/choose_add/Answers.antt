@@ -1,5 +1,5 @@
 use Rattle.std.proofs.Common.{ap, sym, ◌∙◌, map, reverse}
-use Rattle.sf_core.specs.View.{conjunct_of, conjuncts}
+use Rattle.sf_core.specs.Program.View.{conjunct_of, conjuncts}
 use Rattle.sf_sym.specs.Goal.{pending_of}
 use Rattle.sf_search.proofs.Assumable.{add_taken, add_refused}
 use Rattle.sf_rules.proofs.Items.{last_conjunct}

@@ -1,5 +1,5 @@
 use Rattle.std.proofs.Common.{rules}
-use Rattle.sf_core.specs.View.{conjunct_of}
+use Rattle.sf_core.specs.Program.View.{conjunct_of}
 use Rattle.sf_search.proofs.Assumable.{assumed_known}
 use Rattle.sf_search.proofs.strategy.is_assumable.Goals as goal
 

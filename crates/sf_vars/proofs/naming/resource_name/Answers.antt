@@ -1,8 +1,8 @@
 use Rattle.std.proofs.Common.{◌∙◌, refl, sym}
 use Rattle.std.proofs.lemmas.Result.{IfOk-weaker}
 use Rattle.sf_base.proofs.Lookup.{read_mapped}
-use Rattle.sf_core.specs.View.{resource_of}
-use Rattle.sf_core.specs.ProgramView.{program_of}
+use Rattle.sf_core.specs.Program.View.{resource_of}
+use Rattle.sf_core.specs.Program.ProgramView.{program_of}
 use Rattle.sf_vars.specs.Faults.{IsResourceName}
 use Rattle.sf_vars.proofs.naming.resource_name.Goals as goal
 

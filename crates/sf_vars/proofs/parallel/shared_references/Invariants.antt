@@ -1,5 +1,5 @@
 use Rattle.std.proofs.Common.{◌≡◌, drop}
-use Rattle.sf_core.specs.View.{call_of}
+use Rattle.sf_core.specs.Program.View.{call_of}
 use Rattle.sf_vars.specs.Search.{search_in, shared_at}
 use Rattle.sf_vars.proofs.parallel.shared_references.Given as goal
 

@@ -1,5 +1,5 @@
 use Rattle.std.proofs.Common.{◌≡◌, drop}
-use Rattle.sf_core.specs.View.{call_of}
+use Rattle.sf_core.specs.Program.View.{call_of}
 use Rattle.sf_vars.specs.Search.{search_in, shared_by_value}
 use Rattle.sf_vars.proofs.parallel.shared_values.Given as goal
 

@@ -1,5 +1,5 @@
 use Rattle.std.proofs.Common.{◌≡◌, drop}
-use Rattle.sf_core.specs.View.{block_of}
+use Rattle.sf_core.specs.Program.View.{block_of}
 use Rattle.sf_vars.specs.Search.{BlockFits, in_block}
 use Rattle.sf_vars.proofs.walk.+commands.Given as goal
 

@@ -1,5 +1,5 @@
 use Rattle.std.proofs.Common.{◌≡◌, drop, map}
-use Rattle.sf_core.specs.View.{procedure_of}
+use Rattle.sf_core.specs.Program.View.{procedure_of}
 use Rattle.sf_vars.specs.Search.{in_procedures}
 use Rattle.sf_vars.proofs.whole.first_breach.Given as goal
 

@@ -1,0 +1,9 @@
+pub mod Steps
+pub mod Locality
+pub mod Runs
+pub mod Tasks
+pub mod Progress
+pub mod Determinism
+pub mod GoodParts
+pub mod Laws
+pub mod Examples

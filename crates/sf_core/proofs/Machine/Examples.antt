@@ -1,0 +1,4 @@
+pub mod Runs
+pub mod Races
+pub mod Good
+pub mod Starts

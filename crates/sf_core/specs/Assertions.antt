@@ -1,0 +1,11 @@
+-- Assertions: what they mean, what occurs in them, which are determined, and the shape of the heaps that they hold of.
+-- One module for each.
+pub mod Scopes
+pub mod Sat
+pub mod Occurs
+pub mod Determined
+pub mod InOrder
+pub mod Precise
+pub mod Shape
+pub mod Laws
+pub mod Examples

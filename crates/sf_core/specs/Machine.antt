@@ -1,0 +1,12 @@
+-- The machine: its configurations and steps, what is bad, where a procedure starts, and what a good configuration is.
+-- One module for each.
+pub mod Config
+pub mod Step
+pub mod Reach
+pub mod Enabled
+pub mod Bad
+pub mod HeldBy
+pub mod Start
+pub mod Good
+pub mod Laws
+pub mod Examples

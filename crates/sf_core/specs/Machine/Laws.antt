@@ -1,0 +1,219 @@
+-- Laws of the machine: what a step changes and what it leaves alone, which tasks step, and how runs compose.
+-- After Brookes, "A Semantics for Concurrent Separation Logic" (2007), where the footprints of actions say what they share.
+use Rattle.std.specs.Prelude.{◌≡◌, ◌≢◌, ℕ, List, [], ◌∷◌, ◌++◌, Option, Some, None, ◌⊎◌, ◌↔◌, length, ◌≤◌}
+use Rattle.sf_base.specs.declared.ids.ResId.{ResId}
+use Rattle.sf_base.specs.declared.limits.TheConstants.{TURNS}
+use Rattle.sf_base.specs.declared.path.Turn.TheVariants.{Left as left, Right as right}
+use Rattle.sf_core.specs.Machine.Bad.{IsAbsent}
+use Rattle.sf_core.specs.Machine.Config.{Item, command, leave, Fixed, Frame, Task, runs, waits, Path, Common, Config, evaluate, task_at, IsUsed}
+use Rattle.sf_core.specs.Machine.Enabled.{Thing, variable, cell, IsInRoom, Reads, Writes, HasEnded, IsEnabled}
+use Rattle.sf_base.specs.HeapStore.{Slot, Store}
+use Rattle.sf_core.specs.Machine.Reach.{Reach}
+use Rattle.sf_core.specs.Assertions.Sat.{IsTrueOf}
+use Rattle.sf_core.specs.Machine.Step.{Event, Step, procedure_at, room_count, room_for}
+use Rattle.sf_core.specs.Program.Syntax.{Command, assign, look_up, mutate, new, dispose, if, while, call, fork, with, Procedure, Program}
+
+-- what the event of a command makes: the cell of a `new`, or the rooms of the callee of a call or of those of
+-- a fork
+abbrev pub CommandMakes : Program → Event → Command → Thing → Type 0
+CommandMakes p event (assign place x e) thing = ⊥
+CommandMakes p event (look_up place x e g) thing = ⊥
+CommandMakes p event (mutate place e g v) thing = ⊥
+CommandMakes p event (new place x) thing = thing ≡ cell event.at
+CommandMakes p event (dispose place e) thing = ⊥
+CommandMakes p event (if place test this that) thing = ⊥
+CommandMakes p event (while place test kept body) thing = ⊥
+CommandMakes p event (call place c) thing = (g : Procedure) × (procedure_at p c.callee ≡ Some g)
+    × IsInRoom (room_for g event.number 0) thing
+CommandMakes p event (fork place c d) thing =
+    (g : Procedure) × (h : Procedure) × (procedure_at p c.callee ≡ Some g)
+    × (procedure_at p d.callee ≡ Some h)
+    × (IsInRoom (room_for g event.number 0) thing ⊎ IsInRoom (room_for h event.number (room_count g)) thing)
+CommandMakes p event (with place r test body) thing = ⊥
+
+-- what the next event of a frame makes
+abbrev pub FrameMakes : Program → Event → List Item → Thing → Type 0
+FrameMakes p event [] thing = ⊥
+FrameMakes p event (command c ∷ rest) thing = CommandMakes p event c thing
+FrameMakes p event (leave r ∷ rest) thing = ⊥
+
+-- what the next event of a task makes
+abbrev pub Makes : Program → Event → Task → Thing → Type 0
+Makes p event (runs []) thing = ⊥
+Makes p event (runs (f ∷ below)) thing = FrameMakes p event f.todo thing
+Makes p event (waits frames one two) thing = ⊥
+
+-- the thing is neither written nor made by the task's next event
+pub record IsLeft (p : Program) (event : Event) (store : Store) (task : Task) (thing : Thing) : Type 0 where
+  pub unwritten : Writes store task thing → ⊥
+  pub not_made : Makes p event task thing → ⊥
+
+-- the holder of a resource: the same as before, or the task took it when it was free, or the task gave it
+-- back
+abbrev pub HolderChanges : Path → (before after : Option Path) → Type 0
+HolderChanges path before after = (after ≡ before)
+    ⊎ (((before ≡ None) × (after ≡ Some path)) ⊎ ((before ≡ Some path) × (after ≡ None)))
+
+-- all that the event of a task can change
+pub record ChangesOnlyFootprint (p : Program) (event : Event) (task : Task) (before after : Config) : Type 0 where
+  pub variables : (slot : Slot) → IsLeft p event before.common.store task (variable slot)
+      → after.common.store slot ≡ before.common.store slot
+  pub cells : (location : ℕ) → IsLeft p event before.common.store task (cell location)
+      → after.common.heap location ≡ before.common.heap location
+  pub absent : (location : ℕ) → Makes p event task (cell location) → before.common.heap location ≡ None
+  pub holders : (r : ResId) → HolderChanges event.task (before.common.held r) (after.common.held r)
+
+-- a step changes what it writes and what it makes, and nothing else
+unfoldable pub StepsWriteOnlyTheirFootprint : Type 0
+StepsWriteOnlyTheirFootprint =
+    (p : Program) (event : Event) (c d : Config) (task : Task) → Step p event c d
+    → task_at event.task c.tasks ≡ Some task → ChangesOnlyFootprint p event task c d
+
+-- two states agree on a thing: the slot has the same value in both, or the location the same cell, or both
+-- have nothing there
+abbrev pub AgreeOn : Common → Common → Thing → Type 0
+AgreeOn one two (variable slot) = one.store slot ≡ two.store slot
+AgreeOn one two (cell location) = one.heap location ≡ two.heap location
+
+-- the other state agrees on all that the event of a task rests on: what it reads, the cells that it writes or
+-- makes, and the holders
+pub record AgreesOnReads (p : Program) (event : Event) (task : Task) (here other : Common) : Type 0 where
+  pub read : (thing : Thing) → Reads here.store task thing → AgreeOn here other thing
+  pub cells : (location : ℕ) → Writes here.store task (cell location) ⊎ Makes p event task (cell location)
+      → AgreeOn here other (cell location)
+  pub holders : (r : ResId) → here.held r ≡ other.held r
+
+-- what the event writes and makes is the same in both states after it, and so is what was the same before
+pub record AgreesAfter (p : Program) (event : Event) (task : Task) (here other after also : Common) : Type 0 where
+  pub things : (thing : Thing) → (Writes here.store task thing ⊎ Makes p event task thing)
+      ⊎ AgreeOn here other thing → AgreeOn after also thing
+  pub holders : (r : ResId) → after.held r ≡ also.held r
+
+-- a step rests on what it reads, on the cells that it writes or makes, and on the holders: where another
+-- state agrees on these, there is the same step, to the same tasks
+unfoldable pub StepsAreLocal : Type 0
+StepsAreLocal = (p : Program) (event : Event) (c d : Config) (task : Task) (other : Common)
+    → Step p event c d → task_at event.task c.tasks ≡ Some task → AgreesOnReads p event task c.common other
+    → (e : Config) × Step p event (record c { common = other }) e × (e.tasks ≡ d.tasks)
+    × AgreesAfter p event task c.common other d.common e.common
+
+-- an event leads to at most one configuration
+unfoldable pub StepsAreDeterministic : Type 0
+StepsAreDeterministic = (p : Program) (event : Event) (c d e : Config) → Step p event c d → Step p event c e
+    → d ≡ e
+
+-- the number is that of one of the events
+abbrev pub HasNumber : List Event → ℕ → Type 0
+HasNumber [] number = ⊥
+HasNumber (event ∷ events) number = (number ≡ event.number) ⊎ HasNumber events number
+
+-- no two of the events have one number
+abbrev pub AreDistinct : List Event → Type 0
+AreDistinct [] = Unit {0}
+AreDistinct (event ∷ events) = (HasNumber events event.number → ⊥) × AreDistinct events
+
+-- how a run uses numbers: each of its events has a new one, and just these are added
+pub record Numbers (events : List Event) (before after : Config) : Type 0 where
+  pub fresh : (number : ℕ) → HasNumber events number → IsUsed before.used number → ⊥
+  pub distinct : AreDistinct events
+  pub added : (number : ℕ) → IsUsed after.used number ↔ (HasNumber events number ⊎ IsUsed before.used number)
+
+-- used numbers only grow, by the numbers of the events, which are new and different
+unfoldable pub UsedNumbersGrow : Type 0
+UsedNumbersGrow = (p : Program) (events : List Event) (c d : Config) → Reach p c events d → Numbers events c d
+
+-- two runs, one after the other, are one run, and each run may be cut in two anywhere
+unfoldable pub RunsCompose : Type 0
+RunsCompose = (p : Program) (events more : List Event) (c d : Config)
+    → Reach p c (events ++ more) d ↔ ((between : Config) × Reach p c events between × Reach p between more d)
+
+-- the paths diverge: up to some turn they are the same, and there the one goes left and the other right
+abbrev pub Diverge : Path → Path → Type 0
+Diverge [] path = ⊥
+Diverge (turn ∷ path) [] = ⊥
+Diverge (left ∷ path) (left ∷ other) = Diverge path other
+Diverge (left ∷ path) (right ∷ other) = Unit {0}
+Diverge (right ∷ path) (left ∷ other) = Unit {0}
+Diverge (right ∷ path) (right ∷ other) = Diverge path other
+
+-- the first path is that of an ancestor of the second one's task
+abbrev pub IsAbove : Path → Path → Type 0
+IsAbove path [] = ⊥
+IsAbove [] (turn ∷ other) = Unit {0}
+IsAbove (left ∷ path) (left ∷ other) = IsAbove path other
+IsAbove (left ∷ path) (right ∷ other) = ⊥
+IsAbove (right ∷ path) (left ∷ other) = ⊥
+IsAbove (right ∷ path) (right ∷ other) = IsAbove path other
+
+-- the task waits with these frames, for whatever children
+abbrev pub WaitsWith : List Frame → Option Task → Type 0
+WaitsWith frames task = (one : Task) × (two : Task) × (task ≡ Some (waits frames one two))
+
+-- what a step of the task at one path leaves of the others: all of a task whose path parts from it, and the
+-- frames of its ancestors
+pub record KeepsOthers (path : Path) (before after : Task) : Type 0 where
+  pub others : (other : Path) → Diverge other path → task_at other after ≡ task_at other before
+  pub ancestors : (other : Path) → IsAbove other path
+      → (frames : List Frame) × WaitsWith frames (task_at other before)
+      × WaitsWith frames (task_at other after)
+
+-- a step of one task leaves the tasks alone that are neither its ancestors nor its descendants, and its
+-- ancestors go on waiting
+unfoldable pub StepsFrameOtherTasks : Type 0
+StepsFrameOtherTasks = (p : Program) (event : Event) (c d : Config) → Step p event c d
+    → KeepsOthers event.task c.tasks d.tasks
+
+-- only enabled tasks step
+unfoldable pub OnlyEnabledTasksStep : Type 0
+OnlyEnabledTasksStep = (p : Program) (event : Event) (c d : Config) → Step p event c d
+    → (task : Task) × IsEnabled c event.task task
+
+-- once the entry has ended no event comes
+unfoldable pub EndedRunsStop : Type 0
+EndedRunsStop = (p : Program) (event : Event) (c d : Config) → HasEnded [] c.tasks → Step p event c d → ⊥
+
+-- of two different enabled tasks neither is an ancestor of the other
+unfoldable pub EnabledTasksDiverge : Type 0
+EnabledTasksDiverge = (c : Config) (path other : Path) (task another : Task) → IsEnabled c path task
+    → IsEnabled c other another → path ≢ other → Diverge path other
+
+-- what keeps the event of a command from being: an absent cell, a condition that is false, a callee that the
+-- program lacks, a path of 63 turns
+abbrev pub CommandStops : Program → Path → Config → Fixed → Command → Type 0
+CommandStops p path c f (assign place x e) = ⊥
+CommandStops p path c f (look_up place x e g) = IsAbsent c.common.heap (evaluate f.slots c.common.store e)
+CommandStops p path c f (mutate place e g v) = IsAbsent c.common.heap (evaluate f.slots c.common.store e)
+CommandStops p path c f (new place x) = ⊥
+CommandStops p path c f (dispose place e) = IsAbsent c.common.heap (evaluate f.slots c.common.store e)
+CommandStops p path c f (if place test this that) = ⊥
+CommandStops p path c f (while place test kept body) = ⊥
+CommandStops p path c f (call place one) = procedure_at p one.callee ≡ None
+CommandStops p path c f (fork place one two) = (TURNS ≤ length path)
+    ⊎ ((procedure_at p one.callee ≡ None) ⊎ (procedure_at p two.callee ≡ None))
+CommandStops p path c f (with place r test body) = IsTrueOf (evaluate f.slots c.common.store) test → ⊥
+
+-- what keeps the next event of a frame from being: the above, or that it leaves a region whose resource its
+-- task doesn't hold
+abbrev pub FrameStops : Program → Path → Config → Fixed → List Item → Type 0
+FrameStops p path c f [] = ⊥
+FrameStops p path c f (command one ∷ rest) = CommandStops p path c f one
+FrameStops p path c f (leave r ∷ rest) = c.common.held r ≢ Some path
+
+-- what keeps the next event of a task from being
+abbrev pub Stops : Program → Path → Config → Task → Type 0
+Stops p path c (runs []) = ⊥
+Stops p path c (runs (f ∷ below)) = FrameStops p path c f.fixed f.todo
+Stops p path c (waits frames one two) = ⊥
+
+-- an enabled task steps, by any event of it with a new number, unless one of these keeps it; where it makes a
+-- cell its location has to be absent, and not 0
+unfoldable pub EnabledTasksProgress : Type 0
+EnabledTasksProgress = (p : Program) (event : Event) (c : Config) (task : Task) → IsEnabled c event.task task
+    → (IsUsed c.used event.number → ⊥) → ((location : ℕ) → Makes p event task (cell location)
+    → (location ≢ 0) × (c.common.heap location ≡ None))
+    → ((d : Config) × Step p event c d) ⊎ Stops p event.task c task
+
+-- a task that one of these keeps from it has no event
+unfoldable pub StoppedTasksDoNotStep : Type 0
+StoppedTasksDoNotStep = (p : Program) (event : Event) (c d : Config) (task : Task)
+    → task_at event.task c.tasks ≡ Some task → Stops p event.task c task → Step p event c d → ⊥

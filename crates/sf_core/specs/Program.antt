@@ -1,0 +1,9 @@
+-- The program as the definitions see it: its syntax, the views of the code's types, and what every program keeps.
+-- One module for each.
+pub mod Syntax
+pub mod View
+pub mod ProgramView
+pub mod Places
+pub mod Named
+pub mod Links
+pub mod Formed

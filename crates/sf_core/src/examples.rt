@@ -1,0 +1,4 @@
+//! Examples of the definitions. Each function does nothing; its contract is the result.
+
+pub mod assertions;
+pub mod machine;

@@ -1,0 +1,96 @@
+//! Laws of the machine's definitions, each the contract of a function that does nothing.
+ghost use Rattle.sf_core.specs.Internal.GoodParts.{PartsMakeGood};
+ghost use Rattle.sf_core.specs.Machine.Laws.{
+  EndedRunsStop,
+  StepsAreDeterministic,
+  EnabledTasksDiverge,
+  EnabledTasksProgress,
+  OnlyEnabledTasksStep,
+  StepsFrameOtherTasks,
+  RunsCompose,
+  StepsAreLocal,
+  StepsWriteOnlyTheirFootprint,
+  StoppedTasksDoNotStep,
+  UsedNumbersGrow,
+};
+
+/// A step changes the slots and cells that it writes, the rooms that a call or fork makes and the
+/// cell that a `new` makes, and nothing else; and a resource changes hands only by its task.
+#[tactic(auto, using(crate::proofs::Machine::Laws::steps_write_only_their_footprint))]
+pub fn steps_write_only_their_footprint()
+    ensures { StepsWriteOnlyTheirFootprint }
+{}
+
+/// A step rests on what it reads, on the cells that it writes or makes, and on the holders of the
+/// resources: where another state agrees on these there is the same step, and what it writes and
+/// makes is the same after it.
+#[tactic(auto, using(crate::proofs::Machine::Laws::steps_are_local))]
+pub fn steps_are_local()
+    ensures { StepsAreLocal }
+{}
+
+/// An event leads to at most one configuration.
+#[tactic(auto, using(crate::proofs::Machine::Laws::steps_are_deterministic))]
+pub fn steps_are_deterministic()
+    ensures { StepsAreDeterministic }
+{}
+
+/// A run's events have new and different numbers, and just these are used after it besides those
+/// used before.
+#[tactic(auto, using(crate::proofs::Machine::Laws::used_numbers_grow))]
+pub fn used_numbers_grow()
+    ensures { UsedNumbersGrow }
+{}
+
+/// Two runs, one after the other, are one run, and each run may be cut in two anywhere.
+#[tactic(auto, using(crate::proofs::Machine::Laws::runs_compose))]
+pub fn runs_compose()
+    ensures { RunsCompose }
+{}
+
+/// A step of one task leaves all tasks as they are that are neither its ancestors nor its
+/// descendants, and its ancestors go on waiting with the same frames.
+#[tactic(auto, using(crate::proofs::Machine::Laws::steps_frame_other_tasks))]
+pub fn steps_frame_other_tasks()
+    ensures { StepsFrameOtherTasks }
+{}
+
+/// Only enabled tasks step.
+#[tactic(auto, using(crate::proofs::Machine::Laws::only_enabled_tasks_step))]
+pub fn only_enabled_tasks_step()
+    ensures { OnlyEnabledTasksStep }
+{}
+
+/// Once the entry has ended no event comes.
+#[tactic(auto, using(crate::proofs::Machine::Laws::ended_runs_stop))]
+pub fn ended_runs_stop()
+    ensures { EndedRunsStop }
+{}
+
+/// A configuration is good that isn't bad, whose heap splits into parts along its resources and
+/// the tree of its tasks, and that ends well where it has ended.
+#[tactic(auto, using(crate::proofs::Machine::Laws::parts_make_good))]
+pub fn parts_make_good()
+    ensures { PartsMakeGood }
+{}
+
+/// Of two different enabled tasks neither is an ancestor of the other.
+#[tactic(auto, using(crate::proofs::Machine::Laws::enabled_tasks_diverge))]
+pub fn enabled_tasks_diverge()
+    ensures { EnabledTasksDiverge }
+{}
+
+/// An enabled task steps by any of its events that has a new number, and where it makes a cell an
+/// absent location, unless it is at an absent cell, at a region whose condition is false, at a call
+/// of a procedure that isn't there, at a fork too deep in the tree, or leaves a region that it
+/// isn't in.
+#[tactic(auto, using(crate::proofs::Machine::Laws::enabled_tasks_progress))]
+pub fn enabled_tasks_progress()
+    ensures { EnabledTasksProgress }
+{}
+
+/// A task that one of these keeps from it has no event.
+#[tactic(auto, using(crate::proofs::Machine::Laws::stopped_tasks_do_not_step))]
+pub fn stopped_tasks_do_not_step()
+    ensures { StoppedTasksDoNotStep }
+{}
