@@ -1,4 +1,4 @@
--- Assertions: what they mean, what occurs in them, which are determined, and the shape of the heaps that they hold of.
+-- Assertions: their meaning, what occurs in them, which are determined, and the shape of the heaps they hold of.
 -- One module for each.
 pub mod Scopes
 pub mod Sat

@@ -1,4 +1,4 @@
--- The machine: its configurations and steps, what is bad, where a procedure starts, and what a good configuration is.
+-- The machine: its configurations and steps, what is bad, where a procedure starts, and what is good.
 -- One module for each.
 pub mod Config
 pub mod Step

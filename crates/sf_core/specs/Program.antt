@@ -1,4 +1,4 @@
--- The program as the definitions see it: its syntax, the views of the code's types, and what every program keeps.
+-- The program as the definitions see it: its syntax, the views of the code's types, and what each program keeps.
 -- One module for each.
 pub mod Syntax
 pub mod View

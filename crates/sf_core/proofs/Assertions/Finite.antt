@@ -15,17 +15,21 @@ finite-empty e = record { locations = []; all = λ a c h. absurd (none-some c (s
 
 -- one cell is finite
 pub finite-one : {location : ℕ} {cell : Cell} {heap : Heap} → IsOne location cell heap → IsFinite heap
-finite-one {location} {cell} {heap} o = record { locations = location ∷ []; all = λ a c h. go a c h (cases_eq a location) }
+finite-one {location} {cell} {heap} o =
+    record { locations = location ∷ []; all = λ a c h. go a c h (cases_eq a location) }
   where
     go : (a : ℕ) (c : Cell) → heap a ≡ Some c → (a ≡ location) ⊎ (a ≢ location) → Contains (location ∷ []) a
-    go a c h (inl e) = subst (Contains (location ∷ [])) (sym e) (0, Prim.Native.Nat.suc-le-suc Prim.Native.Nat.zero-le, refl)
+    go a c h (inl e) = subst (Contains (location ∷ [])) (sym e)
+        (0, Prim.Native.Nat.suc-le-suc Prim.Native.Nat.zero-le, refl)
     go a c h (inr n) = absurd (none-some c (sym (o.elsewhere a n) ∙ h))
 
 -- a heap whose parts are finite is finite
 pub finite-splits : {heap one two : Heap} → Splits heap one two → IsFinite one → IsFinite two → IsFinite heap
-finite-splits {heap} {one} {two} s f g = record { locations = f.locations ++ g.locations; all = λ a c h. go a c (splits-which a c s h) }
+finite-splits {heap} {one} {two} s f g =
+    record { locations = f.locations ++ g.locations; all = λ a c h. go a c (splits-which a c s h) }
   where
-    go : (a : ℕ) (c : Cell) → ((one a ≡ Some c) × (two a ≡ None)) ⊎ ((two a ≡ Some c) × (one a ≡ None)) → Contains (f.locations ++ g.locations) a
+    go : (a : ℕ) (c : Cell) → ((one a ≡ Some c) × (two a ≡ None)) ⊎ ((two a ≡ Some c) × (one a ≡ None))
+        → Contains (f.locations ++ g.locations) a
     go a c (inl e) = Contains-append_left f.locations g.locations a (f.all a c e.0)
     go a c (inr e) = Contains-append_right f.locations g.locations a (g.all a c e.0)
 

@@ -1,3 +1,4 @@
+-- The examples of the machine, by subject.
 pub mod Runs
 pub mod Races
 pub mod Good

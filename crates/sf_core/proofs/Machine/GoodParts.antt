@@ -33,21 +33,28 @@ apart-swap (Some x) None e = tt
 apart-swap (Some x) (Some y) e = absurd e
 
 -- parts of what is apart are apart
-apart-within : (x y v w : Option Cell) → ((k : Cell) → x ≡ Some k → v ≡ Some k) → ((k : Cell) → y ≡ Some k → w ≡ Some k) → Apart v w → Apart x y
+apart-within : (x y v w : Option Cell) → ((k : Cell) → x ≡ Some k → v ≡ Some k)
+    → ((k : Cell) → y ≡ Some k → w ≡ Some k) → Apart v w → Apart x y
 apart-within None y v w f g e = tt
 apart-within (Some x) None v w f g e = tt
-apart-within (Some x) (Some y) v w f g e = subst (λ z. Apart (Some x) z) (g y refl) (subst (λ z. Apart z w) (f x refl) e)
+apart-within (Some x) (Some y) v w f g e =
+    subst (λ z. Apart (Some x) z) (g y refl) (subst (λ z. Apart z w) (f x refl) e)
 
 -- a part of a heap that satisfies an assertion is a footprint
-foot-of : {E : Type 0} (a : Rattle.sf_core.specs.Program.Syntax.Level E) (val : E → Rattle.sf_base.specs.declared.value.Value.Value) (heap part : Heap)
-    → ((l : ℕ) (k : Cell) → part l ≡ Some k → heap l ≡ Some k) → Sat a val (λ n. nil) part → Foot a val heap part
+foot-of : {E : Type 0} (a : Rattle.sf_core.specs.Program.Syntax.Level E)
+    (val : E → Rattle.sf_base.specs.declared.value.Value.Value) (heap part : Heap)
+    → ((l : ℕ) (k : Cell) → part l ≡ Some k → heap l ≡ Some k) → Sat a val (λ n. nil) part
+    → Foot a val heap part
 foot-of a val heap part f s = record { rest = rest_of part heap; splits = splits-rest f; sat = s }
 
 -- The resources
-record InvariantFamily (store : Store) (held : ResId → Option Path) (number : ℕ) (rs : List Resource) (h : Heap) : Type 0 where
+record InvariantFamily (store : Store) (held : ResId → Option Path) (number : ℕ) (rs : List Resource)
+    (h : Heap) : Type 0 where
   family : Family ℕ h
-  holds : (i : ℕ) (of : Resource) → slice_get rs i ≡ Some of → InvariantPart store (held (record { 0 = number + i })) of (family.part i)
-  covers : (a : ℕ) (k : Cell) → h a ≡ Some k → (i : ℕ) × (of : Resource) × (slice_get rs i ≡ Some of) × (family.part i a ≡ Some k)
+  holds : (i : ℕ) (of : Resource) → slice_get rs i ≡ Some of
+      → InvariantPart store (held (record { 0 = number + i })) of (family.part i)
+  covers : (a : ℕ) (k : Cell) → h a ≡ Some k
+      → (i : ℕ) × (of : Resource) × (slice_get rs i ≡ Some of) × (family.part i a ≡ Some k)
 
 -- one heap, and then others
 abbrev pick : Heap → (ℕ → Heap) → ℕ → Heap
@@ -63,8 +70,10 @@ pick-family {h} {g} {k} s f = record { part = pick g f.part; within = within; ap
 
     apart : (i j : ℕ) → i ≢ j → (a : ℕ) → Apart (pick g f.part i a) (pick g f.part j a)
     apart zero zero n a = absurd (n refl)
-    apart zero (suc j) n a = apart-within (g a) (f.part j a) (g a) (k a) (λ c e. e) (λ c e. f.within j a c e) (s.apart a)
-    apart (suc i) zero n a = apart-swap (g a) (f.part i a) (apart-within (g a) (f.part i a) (g a) (k a) (λ c e. e) (λ c e. f.within i a c e) (s.apart a))
+    apart zero (suc j) n a = apart-within (g a) (f.part j a) (g a) (k a) (λ c e. e) (λ c e. f.within j a c e)
+        (s.apart a)
+    apart (suc i) zero n a = apart-swap (g a) (f.part i a)
+        (apart-within (g a) (f.part i a) (g a) (k a) (λ c e. e) (λ c e. f.within i a c e) (s.apart a))
     apart (suc i) (suc j) n a = f.apart i j (λ e. n (ap suc e)) a
 
 plus-zero : (n : ℕ) → n ≡ n + 0
@@ -74,36 +83,48 @@ plus-suc : (n i : ℕ) → suc n + i ≡ n + suc i
 plus-suc n i = omega arith
 
 -- one resource, and then others
-pick-invariants : (store : Store) (held : ResId → Option Path) (number : ℕ) (r : Resource) (rs : List Resource) (h : Heap)
-    → (s : (InvariantPart store (held (record { 0 = number })) r ⋆ InvariantParts store held (suc number) rs) h)
+pick-invariants : (store : Store) (held : ResId → Option Path) (number : ℕ) (r : Resource)
+    (rs : List Resource) (h : Heap)
+    → (s : (InvariantPart store (held (record { 0 = number })) r ⋆ InvariantParts store held (suc number) rs)
+    h)
     → InvariantFamily store held (suc number) rs s.right → InvariantFamily store held number (r ∷ rs) h
-pick-invariants store held number r rs h s rest = record { family = pick-family s.splits rest.family; holds = holds; covers = covers }
+pick-invariants store held number r rs h s rest =
+    record { family = pick-family s.splits rest.family; holds = holds; covers = covers }
   where
-    holds : (i : ℕ) (of : Resource) → slice_get (r ∷ rs) i ≡ Some of → InvariantPart store (held (record { 0 = number + i })) of (pick s.left rest.family.part i)
+    holds : (i : ℕ) (of : Resource) → slice_get (r ∷ rs) i ≡ Some of
+        → InvariantPart store (held (record { 0 = number + i })) of (pick s.left rest.family.part i)
     holds zero of e =
         let same : r ≡ of = cc in
-        subst (λ z. InvariantPart store (held (record { 0 = z })) of s.left) (plus-zero number) (subst (λ z. InvariantPart store (held (record { 0 = number })) z s.left) same s.first)
-    holds (suc i) of e = subst (λ z. InvariantPart store (held (record { 0 = z })) of (rest.family.part i)) (plus-suc number i) (rest.holds i of e)
+        subst (λ z. InvariantPart store (held (record { 0 = z })) of s.left) (plus-zero number)
+        (subst (λ z. InvariantPart store (held (record { 0 = number })) z s.left) same s.first)
+    holds (suc i) of e = subst (λ z. InvariantPart store (held (record { 0 = z })) of (rest.family.part i))
+        (plus-suc number i) (rest.holds i of e)
 
-    covers : (a : ℕ) (k : Cell) → h a ≡ Some k → (i : ℕ) × (of : Resource) × (slice_get (r ∷ rs) i ≡ Some of) × (pick s.left rest.family.part i a ≡ Some k)
+    covers : (a : ℕ) (k : Cell) → h a ≡ Some k
+        → (i : ℕ) × (of : Resource) × (slice_get (r ∷ rs) i ≡ Some of)
+        × (pick s.left rest.family.part i a ≡ Some k)
     covers a k e = elim (splits-which a k s.splits e) [
       | inl f ↦ (0, r, refl, f.0)
       | inr f ↦ let c = rest.covers a k f.0 in (suc c.0, c.1, c.2, c.3)
     ]
 
-invariant-family : (store : Store) (held : ResId → Option Path) (number : ℕ) (rs : List Resource) (h : Heap) → InvariantParts store held number rs h → InvariantFamily store held number rs h
+invariant-family : (store : Store) (held : ResId → Option Path) (number : ℕ) (rs : List Resource) (h : Heap)
+    → InvariantParts store held number rs h → InvariantFamily store held number rs h
 invariant-family store held number [] h e = record {
   family = record { part = λ i a. None; within = λ i a k f. absurd (none-some k f); apart = λ i j n a. tt };
   holds = λ i of f. absurd (none-some of f);
   covers = λ a k f. absurd (none-some k (sym (e.none a) ∙ f));
 }
-invariant-family store held number (r ∷ rs) h s = pick-invariants store held number r rs h s (invariant-family store held (suc number) rs s.right s.second)
+invariant-family store held number (r ∷ rs) h s =
+    pick-invariants store held number r rs h s (invariant-family store held (suc number) rs s.right s.second)
 
 -- The tasks
 record TaskFamily (p : Program) (store : Store) (t : Task) (h : Heap) : Type 0 where
   family : Family Path h
-  posts : (path : Path) (f : Frame) (below : List Frame) → task_at path t ≡ Some (runs (f ∷ below)) → f.todo ≡ []
-      → (g : Procedure) → procedure_at p f.fixed.procedure ≡ Some g → Sat g.post.level (evaluate f.fixed.slots store) (λ n. nil) (family.part path)
+  posts : (path : Path) (f : Frame) (below : List Frame) → task_at path t ≡ Some (runs (f ∷ below))
+      → f.todo ≡ []
+      → (g : Procedure) → procedure_at p f.fixed.procedure ≡ Some g
+      → Sat g.post.level (evaluate f.fixed.slots store) (λ n. nil) (family.part path)
   root : (frames : List Frame) → t ≡ runs frames → (a : ℕ) → family.part [] a ≡ h a
 
 -- the whole at the root, and nothing elsewhere
@@ -138,49 +159,71 @@ fork-family {h} {g} {k} s x y = record { part = below_root x.part y.part; within
     within (right ∷ path) a c e = splits-has_right a c s (y.within path a c e)
 
     across : (path other : Path) (a : ℕ) → Apart (x.part path a) (y.part other a)
-    across path other a = apart-within (x.part path a) (y.part other a) (g a) (k a) (λ c e. x.within path a c e) (λ c e. y.within other a c e) (s.apart a)
+    across path other a = apart-within (x.part path a) (y.part other a) (g a) (k a)
+        (λ c e. x.within path a c e) (λ c e. y.within other a c e) (s.apart a)
 
-    apart : (path other : Path) → path ≢ other → (a : ℕ) → Apart (below_root x.part y.part path a) (below_root x.part y.part other a)
+    apart : (path other : Path) → path ≢ other → (a : ℕ)
+        → Apart (below_root x.part y.part path a) (below_root x.part y.part other a)
     apart [] other n a = tt
     apart (left ∷ path) [] n a = apart-none (x.part path a)
     apart (left ∷ path) (left ∷ other) n a = x.apart path other (λ e. n (ap (λ z. left ∷ z) e)) a
     apart (left ∷ path) (right ∷ other) n a = across path other a
     apart (right ∷ path) [] n a = apart-none (y.part path a)
-    apart (right ∷ path) (left ∷ other) n a = apart-swap (x.part other a) (y.part path a) (across other path a)
+    apart (right ∷ path) (left ∷ other) n a =
+        apart-swap (x.part other a) (y.part path a) (across other path a)
     apart (right ∷ path) (right ∷ other) n a = y.apart path other (λ e. n (ap (λ z. right ∷ z) e)) a
 
 -- two children and the task that waits for them
-fork-tasks : (p : Program) (store : Store) (frames : List Frame) (one two : Task) (h : Heap) (s : (TaskParts p store one ⋆ TaskParts p store two) h)
-    → TaskFamily p store one s.left → TaskFamily p store two s.right → TaskFamily p store (waits frames one two) h
-fork-tasks p store frames one two h s first second = record { family = fork-family s.splits first.family second.family; posts = posts; root = λ other e a. absurd (cc) }
+fork-tasks : (p : Program) (store : Store) (frames : List Frame) (one two : Task) (h : Heap)
+    (s : (TaskParts p store one ⋆ TaskParts p store two) h)
+    → TaskFamily p store one s.left → TaskFamily p store two s.right
+    → TaskFamily p store (waits frames one two) h
+fork-tasks p store frames one two h s first second =
+    record {
+      family = fork-family s.splits first.family second.family;
+      posts = posts;
+      root = λ other e a. absurd (cc);
+    }
   where
-    posts : (path : Path) (f : Frame) (below : List Frame) → task_at path (waits frames one two) ≡ Some (runs (f ∷ below)) → f.todo ≡ []
-        → (g : Procedure) → procedure_at p f.fixed.procedure ≡ Some g → Sat g.post.level (evaluate f.fixed.slots store) (λ n. nil) (below_root first.family.part second.family.part path)
+    posts : (path : Path) (f : Frame) (below : List Frame)
+        → task_at path (waits frames one two) ≡ Some (runs (f ∷ below)) → f.todo ≡ []
+        → (g : Procedure) → procedure_at p f.fixed.procedure ≡ Some g
+        → Sat g.post.level (evaluate f.fixed.slots store) (λ n. nil)
+        (below_root first.family.part second.family.part path)
     posts [] f below e d g i = absurd (cc)
     posts (left ∷ path) f below e d g i = first.posts path f below e d g i
     posts (right ∷ path) f below e d g i = second.posts path f below e d g i
 
-task-family : (p : Program) (store : Store) (t : Task) (h : Heap) → TaskParts p store t h → TaskFamily p store t h
-task-family p store (runs []) h s = record { family = root-family h; posts = posts; root = λ frames e a. refl }
+task-family : (p : Program) (store : Store) (t : Task) (h : Heap) → TaskParts p store t h
+    → TaskFamily p store t h
+task-family p store (runs []) h s =
+    record { family = root-family h; posts = posts; root = λ frames e a. refl }
   where
-    posts : (path : Path) (f : Frame) (below : List Frame) → task_at path (runs []) ≡ Some (runs (f ∷ below)) → f.todo ≡ []
-        → (g : Procedure) → procedure_at p f.fixed.procedure ≡ Some g → Sat g.post.level (evaluate f.fixed.slots store) (λ n. nil) (at_root h path)
+    posts : (path : Path) (f : Frame) (below : List Frame) → task_at path (runs []) ≡ Some (runs (f ∷ below))
+        → f.todo ≡ []
+        → (g : Procedure) → procedure_at p f.fixed.procedure ≡ Some g
+        → Sat g.post.level (evaluate f.fixed.slots store) (λ n. nil) (at_root h path)
     posts [] f below e d g i = absurd (cc)
     posts (left ∷ path) f below e d g i = absurd (cc)
     posts (right ∷ path) f below e d g i = absurd (cc)
-task-family p store (runs (frame ∷ frames)) h s = record { family = root-family h; posts = posts; root = λ frames e a. refl }
+task-family p store (runs (frame ∷ frames)) h s =
+    record { family = root-family h; posts = posts; root = λ frames e a. refl }
   where
-    posts : (path : Path) (f : Frame) (below : List Frame) → task_at path (runs (frame ∷ frames)) ≡ Some (runs (f ∷ below)) → f.todo ≡ []
-        → (g : Procedure) → procedure_at p f.fixed.procedure ≡ Some g → Sat g.post.level (evaluate f.fixed.slots store) (λ n. nil) (at_root h path)
+    posts : (path : Path) (f : Frame) (below : List Frame)
+        → task_at path (runs (frame ∷ frames)) ≡ Some (runs (f ∷ below)) → f.todo ≡ []
+        → (g : Procedure) → procedure_at p f.fixed.procedure ≡ Some g
+        → Sat g.post.level (evaluate f.fixed.slots store) (λ n. nil) (at_root h path)
     posts [] f below e d g i =
         let same : frame ≡ f = cc in
-        let here : FramePart p store f.fixed f.todo h = subst (λ (z : Frame). FramePart p store z.fixed z.todo h) same s in
+        let here : FramePart p store f.fixed f.todo h =
+        subst (λ (z : Frame). FramePart p store z.fixed z.todo h) same s in
         let done : FramePart p store f.fixed [] h = subst (λ z. FramePart p store f.fixed z h) d here in
         done g i
     posts (left ∷ path) f below e d g i = absurd (cc)
     posts (right ∷ path) f below e d g i = absurd (cc)
 task-family p store (waits frames one two) h s =
-    fork-tasks p store frames one two h s (task-family p store one s.left s.first) (task-family p store two s.right s.second)
+    fork-tasks p store frames one two h s (task-family p store one s.left s.first)
+    (task-family p store two s.right s.second)
 
 -- Good
 -- the parts of both kinds of owners
@@ -196,9 +239,11 @@ owner-family {h} {g} {k} s x y = record { part = owner_part x.part y.part; withi
     within (task path) a c e = splits-has_right a c s (y.within path a c e)
 
     across : (i : ℕ) (path : Path) (a : ℕ) → Apart (x.part i a) (y.part path a)
-    across i path a = apart-within (x.part i a) (y.part path a) (g a) (k a) (λ c e. x.within i a c e) (λ c e. y.within path a c e) (s.apart a)
+    across i path a = apart-within (x.part i a) (y.part path a) (g a) (k a) (λ c e. x.within i a c e)
+        (λ c e. y.within path a c e) (s.apart a)
 
-    apart : (owner other : Owner) → owner ≢ other → (a : ℕ) → Apart (owner_part x.part y.part owner a) (owner_part x.part y.part other a)
+    apart : (owner other : Owner) → owner ≢ other → (a : ℕ)
+        → Apart (owner_part x.part y.part owner a) (owner_part x.part y.part other a)
     apart (resource r) (resource q) n a = x.apart r.0 q.0 (λ e. n (λ j. resource (record { 0 = e j }))) a
     apart (resource r) (task path) n a = across r.0 path a
     apart (task path) (resource r) n a = apart-swap (x.part r.0 a) (y.part path a) (across r.0 path a)
@@ -206,21 +251,29 @@ owner-family {h} {g} {k} s x y = record { part = owner_part x.part y.part; withi
 
 -- a smaller heap's family is one of the whole
 abbrev wider : {I : Type 0} {h g k : Heap} → Splits h g k → Family I g → Family I h
-wider s f = record { part = f.part; within = λ i a c e. splits-has_left a c s (f.within i a c e); apart = f.apart }
+wider s f = record {
+  part = f.part;
+  within = λ i a c e. splits-has_left a c s (f.within i a c e);
+  apart = f.apart;
+}
 
 zero-plus : (n : ℕ) → 0 + n ≡ n
 zero-plus n = omega arith
 
 -- a configuration whose heap splits along its resources and tasks is good
 pub good-by_parts : (p : Program) (c : Config) → (Bad c → ⊥)
-    → (InvariantParts c.common.store c.common.held 0 p.resources ⋆ (TaskParts p c.common.store c.tasks ⋆ RestPart c)) c.common.heap
+    → (InvariantParts c.common.store c.common.held 0 p.resources
+    ⋆ (TaskParts p c.common.store c.tasks ⋆ RestPart c)) c.common.heap
     → (HasEnded [] c.tasks → EndsWell p c) → Good p c
 good-by_parts p c nothing_bad s ends = record {
   never_bad = nothing_bad;
   part = owners.part;
   apart = owners.apart;
-  invariants = λ r of e f. foot-of of.invariant.level (evaluate entry_slot c.common.store) c.common.heap (owners.part (resource r)) (owners.within (resource r)) (invariant r of e f);
-  posts = λ path frame g r e. foot-of g.post.level (evaluate frame.fixed.slots c.common.store) c.common.heap (owners.part (task path)) (owners.within (task path)) (tasks.posts path frame r.below r.there r.done g e);
+  invariants = λ r of e f. foot-of of.invariant.level (evaluate entry_slot c.common.store) c.common.heap
+      (owners.part (resource r)) (owners.within (resource r)) (invariant r of e f);
+  posts = λ path frame g r e. foot-of g.post.level (evaluate frame.fixed.slots c.common.store) c.common.heap
+      (owners.part (task path)) (owners.within (task path))
+      (tasks.posts path frame r.below r.there r.done g e);
   finished = finished;
 }
   where
@@ -233,10 +286,12 @@ good-by_parts p c nothing_bad s ends = record {
     owners : Family Owner c.common.heap
     owners = owner-family s.splits resources.family (wider s.second.splits tasks.family)
 
-    invariant : (r : ResId) (of : Resource) → slice_get p.resources r.0 ≡ Some of → c.common.held r ≡ None → Sat of.invariant.level (evaluate entry_slot c.common.store) (λ n. nil) (resources.family.part r.0)
+    invariant : (r : ResId) (of : Resource) → slice_get p.resources r.0 ≡ Some of → c.common.held r ≡ None
+        → Sat of.invariant.level (evaluate entry_slot c.common.store) (λ n. nil) (resources.family.part r.0)
     invariant r of e f =
         subst (λ z. InvariantPart c.common.store z of (resources.family.part r.0)) f
-        (subst (λ z. InvariantPart c.common.store (c.common.held (record { 0 = z })) of (resources.family.part r.0)) (zero-plus r.0) (resources.holds r.0 of e))
+        (subst (λ z. InvariantPart c.common.store (c.common.held (record { 0 = z })) of
+        (resources.family.part r.0)) (zero-plus r.0) (resources.holds r.0 of e))
 
     finished : HasEnded [] c.tasks → Finished p c owners.part
     finished h = record {
@@ -245,7 +300,8 @@ good-by_parts p c nothing_bad s ends = record {
       procedure = w.procedure;
       there = w.there;
       free = w.free;
-      post = foot-of w.procedure.post.level (evaluate w.frame.fixed.slots c.common.store) c.common.heap (owners.part (task [])) (owners.within (task []))
+      post = foot-of w.procedure.post.level (evaluate w.frame.fixed.slots c.common.store) c.common.heap
+          (owners.part (task [])) (owners.within (task []))
           (tasks.posts [] w.frame [] (ap Some w.alone) (subst (HasEnded []) w.alone h) w.procedure w.there);
       all = all;
     }

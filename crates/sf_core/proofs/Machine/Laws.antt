@@ -1,26 +1,26 @@
 -- The laws of the machine: each from the lemmas of its subject.
 -- Names: each lemma has the name of the law's function.
-use Rattle.sf_core.proofs.Machine.Determinism.{step-once}
+use Rattle.sf_core.proofs.Machine.Determinism.{step-unique}
 use Rattle.sf_core.proofs.Machine.GoodParts.{good-by_parts}
-use Rattle.sf_core.proofs.Machine.Locality.{step-rests}
+use Rattle.sf_core.proofs.Machine.Locality.{step-local}
 use Rattle.sf_core.proofs.Machine.Progress.{enabled-or_stop, step-stopped}
 use Rattle.sf_core.proofs.Machine.Runs.{reach-cut, reach-join, reach-numbers}
-use Rattle.sf_core.proofs.Machine.Steps.{step-touches}
-use Rattle.sf_core.proofs.Machine.Tasks.{enabled-part, ended-no_event, step-enabled, step-leaves}
+use Rattle.sf_core.proofs.Machine.Steps.{step-footprint}
+use Rattle.sf_core.proofs.Machine.Tasks.{enabled-diverge, ended-no_event, step-enabled, step-frames}
 use Rattle.sf_core.specs.Internal.GoodParts.{PartsMakeGood}
 use Rattle.sf_core.specs.Machine.Laws.{EnabledTasksDiverge, EnabledTasksProgress, EndedRunsStop, OnlyEnabledTasksStep, RunsCompose, StepsAreDeterministic, StepsAreLocal, StepsFrameOtherTasks, StepsWriteOnlyTheirFootprint, StoppedTasksDoNotStep, UsedNumbersGrow}
 
 pub steps_write_only_their_footprint : StepsWriteOnlyTheirFootprint
 unfolding StepsWriteOnlyTheirFootprint
-steps_write_only_their_footprint p event before after task s e = step-touches p event before after task s e
+steps_write_only_their_footprint p event before after task s e = step-footprint p event before after task s e
 
 pub steps_are_local : StepsAreLocal
 unfolding StepsAreLocal
-steps_are_local = step-rests
+steps_are_local = step-local
 
 pub steps_are_deterministic : StepsAreDeterministic
 unfolding StepsAreDeterministic
-steps_are_deterministic p event before after other s r = step-once p event before after other s r
+steps_are_deterministic p event before after other s r = step-unique p event before after other s r
 
 pub used_numbers_grow : UsedNumbersGrow
 unfolding UsedNumbersGrow
@@ -35,7 +35,7 @@ runs_compose p events more before after = (
 
 pub steps_frame_other_tasks : StepsFrameOtherTasks
 unfolding StepsFrameOtherTasks
-steps_frame_other_tasks p event before after s = step-leaves p event before after s
+steps_frame_other_tasks p event before after s = step-frames p event before after s
 
 pub only_enabled_tasks_step : OnlyEnabledTasksStep
 unfolding OnlyEnabledTasksStep
@@ -51,7 +51,7 @@ parts_make_good p now never s ends = good-by_parts p now never s ends
 
 pub enabled_tasks_diverge : EnabledTasksDiverge
 unfolding EnabledTasksDiverge
-enabled_tasks_diverge now path other task another e f n = enabled-part now path other task another e f n
+enabled_tasks_diverge now path other task another e f n = enabled-diverge now path other task another e f n
 
 pub enabled_tasks_progress : EnabledTasksProgress
 unfolding EnabledTasksProgress

@@ -15,16 +15,20 @@ use Rattle.sf_core.specs.Machine.Laws.{CommandMakes, FrameMakes, Makes, IsLeft, 
 use Rattle.sf_core.specs.Machine.Step.{Event, set_slot, set_cell, set_holder, open_room, close_room, room_count, room_for, arguments, Does, Goes, TaskStep, Step}
 use Rattle.sf_core.specs.Program.Syntax.{Command, assign, look_up, mutate, new, dispose, if, while, call, fork, with, Program}
 
-set_slot-other : (x y : Slot) (v : Value) (s : Common) → (variable y ≡ variable x → ⊥) → (set_slot x v s).store y ≡ s.store y
+set_slot-other : (x y : Slot) (v : Value) (s : Common) → (variable y ≡ variable x → ⊥)
+    → (set_slot x v s).store y ≡ s.store y
 set_slot-other x y v s n = slot-elsewhere x y (Some v) s.store (λ e. n (ap variable e))
 
-set_cell-other : (a b : ℕ) (k : Option Cell) (s : Common) → (cell b ≡ cell a → ⊥) → (set_cell a k s).heap b ≡ s.heap b
+set_cell-other : (a b : ℕ) (k : Option Cell) (s : Common) → (cell b ≡ cell a → ⊥)
+    → (set_cell a k s).heap b ≡ s.heap b
 set_cell-other a b k s n = put-elsewhere a b k s.heap (λ e. n (ap cell e))
 
-open_room-other : (room : Room) (y : Slot) (v : ℕ → Value) (s : Common) → (in_room room y ≡ true → ⊥) → (open_room room v s).store y ≡ s.store y
+open_room-other : (room : Room) (y : Slot) (v : ℕ → Value) (s : Common) → (in_room room y ≡ true → ⊥)
+    → (open_room room v s).store y ≡ s.store y
 open_room-other room y v s n = cond-else (in_room room y) (Some (v _)) (s.store y) n
 
-close_room-other : (room : Room) (y : Slot) (s : Common) → (in_room room y ≡ true → ⊥) → (close_room room s).store y ≡ s.store y
+close_room-other : (room : Room) (y : Slot) (s : Common) → (in_room room y ≡ true → ⊥)
+    → (close_room room s).store y ≡ s.store y
 close_room-other room y s n = cond-else (in_room room y) None (s.store y) n
 
 -- the cell at a value that is a location
@@ -32,71 +36,97 @@ pub cell-at : (v : Value) (a b : ℕ) → v ≡ loc a → cell b ≡ cell a → 
 cell-at v a b e h = subst (λ z. IsCellAt z (cell b)) (sym e) h
 
 -- Variables
-store-by_command : (p : Program) (ev : Event) (s t : Common) (f : Fixed) (below : List Frame) (c : Command) (rest : List Item) (u : Task)
-    → Does p ev s f below c rest t u → (y : Slot) → (CommandWrites f.slots s.store c (variable y) → ⊥) → (CommandMakes p ev c (variable y) → ⊥)
+store-by_command : (p : Program) (ev : Event) (s t : Common) (f : Fixed) (below : List Frame) (c : Command)
+    (rest : List Item) (u : Task)
+    → Does p ev s f below c rest t u → (y : Slot) → (CommandWrites f.slots s.store c (variable y) → ⊥)
+    → (CommandMakes p ev c (variable y) → ⊥)
     → t.store y ≡ s.store y
-store-by_command p ev s t f below (assign place x e) rest u d y w m = ap (λ (z : Common). z.store y) d.0 ∙ set_slot-other (f.slots x.var) y _ s w
-store-by_command p ev s t f below (look_up place x e g) rest u d y w m = ap (λ (z : Common). z.store y) d.3 ∙ set_slot-other (f.slots x.var) y _ s w
+store-by_command p ev s t f below (assign place x e) rest u d y w m =
+    ap (λ (z : Common). z.store y) d.0 ∙ set_slot-other (f.slots x.var) y _ s w
+store-by_command p ev s t f below (look_up place x e g) rest u d y w m =
+    ap (λ (z : Common). z.store y) d.3 ∙ set_slot-other (f.slots x.var) y _ s w
 store-by_command p ev s t f below (mutate place e g v) rest u d y w m = ap (λ (z : Common). z.store y) d.3
 store-by_command p ev s t f below (new place x) rest u d y w m =
-    ap (λ (z : Common). z.store y) d.2 ∙ set_slot-other (f.slots x.var) y _ (set_cell ev.at (Some ev.fields) s) w
+    ap (λ (z : Common). z.store y) d.2
+    ∙ set_slot-other (f.slots x.var) y _ (set_cell ev.at (Some ev.fields) s) w
 store-by_command p ev s t f below (dispose place e) rest u d y w m = ap (λ (z : Common). z.store y) d.3
-store-by_command p ev s t f below (if place test this that) rest u d y w m = ap (λ (z : Common). z.store y) d.0
-store-by_command p ev s t f below (while place test kept body) rest u d y w m = ap (λ (z : Common). z.store y) d.0
-store-by_command p ev s t f below (call place c) rest u d y w m = ap (λ (z : Common). z.store y) d.2 ∙ open_room-other (room_for d.0 ev.number 0) y (arguments f.slots s.store c) s (λ i. m (d.0, d.1, i))
+store-by_command p ev s t f below (if place test this that) rest u d y w m =
+    ap (λ (z : Common). z.store y) d.0
+store-by_command p ev s t f below (while place test kept body) rest u d y w m =
+    ap (λ (z : Common). z.store y) d.0
+store-by_command p ev s t f below (call place c) rest u d y w m =
+    ap (λ (z : Common). z.store y) d.2
+    ∙ open_room-other (room_for d.0 ev.number 0) y (arguments f.slots s.store c) s (λ i. m (d.0, d.1, i))
 store-by_command p ev s t f below (fork place c e) rest u d y w m =
     ap (λ (z : Common). z.store y) d.5
-    ∙ (open_room-other (room_for d.2 ev.number (room_count d.1)) y (arguments f.slots s.store e) (open_room (room_for d.1 ev.number 0) (arguments f.slots s.store c) s) (λ i. m (d.1, d.2, d.3, d.4, inr i))
-    ∙ open_room-other (room_for d.1 ev.number 0) y (arguments f.slots s.store c) s (λ i. m (d.1, d.2, d.3, d.4, inl i)))
+    ∙ (open_room-other (room_for d.2 ev.number (room_count d.1)) y (arguments f.slots s.store e)
+    (open_room (room_for d.1 ev.number 0) (arguments f.slots s.store c) s)
+    (λ i. m (d.1, d.2, d.3, d.4, inr i))
+    ∙ open_room-other (room_for d.1 ev.number 0) y (arguments f.slots s.store c) s
+    (λ i. m (d.1, d.2, d.3, d.4, inl i)))
 store-by_command p ev s t f below (with place r test body) rest u d y w m = ap (λ (z : Common). z.store y) d.2
 
-store-by_frame : (p : Program) (ev : Event) (s t : Common) (f : Fixed) (below : List Frame) (todo : List Item) (u : Task)
-    → Goes p ev s f below todo t u → (y : Slot) → (FrameWrites f s.store todo (variable y) → ⊥) → (FrameMakes p ev todo (variable y) → ⊥)
+store-by_frame : (p : Program) (ev : Event) (s t : Common) (f : Fixed) (below : List Frame) (todo : List Item)
+    (u : Task)
+    → Goes p ev s f below todo t u → (y : Slot) → (FrameWrites f s.store todo (variable y) → ⊥)
+    → (FrameMakes p ev todo (variable y) → ⊥)
     → t.store y ≡ s.store y
-store-by_frame p ev s t f below [] u d y w m = ap (λ (z : Common). z.store y) d.1 ∙ close_room-other f.room y s w
-store-by_frame p ev s t f below (command c ∷ rest) u d y w m = store-by_command p ev s t f below c rest u d y w m
+store-by_frame p ev s t f below [] u d y w m =
+    ap (λ (z : Common). z.store y) d.1 ∙ close_room-other f.room y s w
+store-by_frame p ev s t f below (command c ∷ rest) u d y w m =
+    store-by_command p ev s t f below c rest u d y w m
 store-by_frame p ev s t f below (leave r ∷ rest) u d y w m = ap (λ (z : Common). z.store y) d.1
 
 -- what a task's event neither writes nor makes of the store stays
 pub store-by_task : (p : Program) (ev : Event) (s t : Common) (task u : Task)
     → TaskStep p ev s task t u → (y : Slot) → IsLeft p ev s.store task (variable y) → t.store y ≡ s.store y
 store-by_task p ev s t (runs []) u d y l = absurd d
-store-by_task p ev s t (runs (f ∷ below)) u d y l = store-by_frame p ev s t f.fixed below f.todo u d y l.unwritten l.not_made
+store-by_task p ev s t (runs (f ∷ below)) u d y l =
+    store-by_frame p ev s t f.fixed below f.todo u d y l.unwritten l.not_made
 store-by_task p ev s t (waits frames one two) u d y l = ap (λ (z : Common). z.store y) d.2
 
 -- Cells
-heap-by_command : (p : Program) (ev : Event) (s t : Common) (f : Fixed) (below : List Frame) (c : Command) (rest : List Item) (u : Task)
-    → Does p ev s f below c rest t u → (a : ℕ) → (CommandWrites f.slots s.store c (cell a) → ⊥) → (CommandMakes p ev c (cell a) → ⊥)
+heap-by_command : (p : Program) (ev : Event) (s t : Common) (f : Fixed) (below : List Frame) (c : Command)
+    (rest : List Item) (u : Task)
+    → Does p ev s f below c rest t u → (a : ℕ) → (CommandWrites f.slots s.store c (cell a) → ⊥)
+    → (CommandMakes p ev c (cell a) → ⊥)
     → t.heap a ≡ s.heap a
 heap-by_command p ev s t f below (assign place x e) rest u d a w m = ap (λ (z : Common). z.heap a) d.0
 heap-by_command p ev s t f below (look_up place x e g) rest u d a w m = ap (λ (z : Common). z.heap a) d.3
 heap-by_command p ev s t f below (mutate place e g v) rest u d a w m =
     ap (λ (z : Common). z.heap a) d.3 ∙ set_cell-other d.0 a _ s (λ h. w (cell-at _ d.0 a d.2.is h))
-heap-by_command p ev s t f below (new place x) rest u d a w m = ap (λ (z : Common). z.heap a) d.2 ∙ set_cell-other ev.at a _ s m
+heap-by_command p ev s t f below (new place x) rest u d a w m =
+    ap (λ (z : Common). z.heap a) d.2 ∙ set_cell-other ev.at a _ s m
 heap-by_command p ev s t f below (dispose place e) rest u d a w m =
     ap (λ (z : Common). z.heap a) d.3 ∙ set_cell-other d.0 a None s (λ h. w (cell-at _ d.0 a d.2.is h))
 heap-by_command p ev s t f below (if place test this that) rest u d a w m = ap (λ (z : Common). z.heap a) d.0
-heap-by_command p ev s t f below (while place test kept body) rest u d a w m = ap (λ (z : Common). z.heap a) d.0
+heap-by_command p ev s t f below (while place test kept body) rest u d a w m =
+    ap (λ (z : Common). z.heap a) d.0
 heap-by_command p ev s t f below (call place c) rest u d a w m = ap (λ (z : Common). z.heap a) d.2
 heap-by_command p ev s t f below (fork place c e) rest u d a w m = ap (λ (z : Common). z.heap a) d.5
 heap-by_command p ev s t f below (with place r test body) rest u d a w m = ap (λ (z : Common). z.heap a) d.2
 
-heap-by_frame : (p : Program) (ev : Event) (s t : Common) (f : Fixed) (below : List Frame) (todo : List Item) (u : Task)
-    → Goes p ev s f below todo t u → (a : ℕ) → (FrameWrites f s.store todo (cell a) → ⊥) → (FrameMakes p ev todo (cell a) → ⊥)
+heap-by_frame : (p : Program) (ev : Event) (s t : Common) (f : Fixed) (below : List Frame) (todo : List Item)
+    (u : Task)
+    → Goes p ev s f below todo t u → (a : ℕ) → (FrameWrites f s.store todo (cell a) → ⊥)
+    → (FrameMakes p ev todo (cell a) → ⊥)
     → t.heap a ≡ s.heap a
 heap-by_frame p ev s t f below [] u d a w m = ap (λ (z : Common). z.heap a) d.1
-heap-by_frame p ev s t f below (command c ∷ rest) u d a w m = heap-by_command p ev s t f below c rest u d a w m
+heap-by_frame p ev s t f below (command c ∷ rest) u d a w m =
+    heap-by_command p ev s t f below c rest u d a w m
 heap-by_frame p ev s t f below (leave r ∷ rest) u d a w m = ap (λ (z : Common). z.heap a) d.1
 
 -- what a task's event neither writes nor makes of the heap stays
 pub heap-by_task : (p : Program) (ev : Event) (s t : Common) (task u : Task)
     → TaskStep p ev s task t u → (a : ℕ) → IsLeft p ev s.store task (cell a) → t.heap a ≡ s.heap a
 heap-by_task p ev s t (runs []) u d a l = absurd d
-heap-by_task p ev s t (runs (f ∷ below)) u d a l = heap-by_frame p ev s t f.fixed below f.todo u d a l.unwritten l.not_made
+heap-by_task p ev s t (runs (f ∷ below)) u d a l =
+    heap-by_frame p ev s t f.fixed below f.todo u d a l.unwritten l.not_made
 heap-by_task p ev s t (waits frames one two) u d a l = ap (λ (z : Common). z.heap a) d.2
 
 -- The cell that a `new` makes
-absent-by_command : (p : Program) (ev : Event) (s t : Common) (f : Fixed) (below : List Frame) (c : Command) (rest : List Item) (u : Task)
+absent-by_command : (p : Program) (ev : Event) (s t : Common) (f : Fixed) (below : List Frame) (c : Command)
+    (rest : List Item) (u : Task)
     → Does p ev s f below c rest t u → (a : ℕ) → CommandMakes p ev c (cell a) → s.heap a ≡ None
 absent-by_command p ev s t f below (new place x) rest u d a m = let e : a ≡ ev.at = cc in ap s.heap e ∙ d.1
 absent-by_command p ev s t f below (assign place x e) rest u d a m = absurd m
@@ -106,13 +136,16 @@ absent-by_command p ev s t f below (dispose place e) rest u d a m = absurd m
 absent-by_command p ev s t f below (if place test this that) rest u d a m = absurd m
 absent-by_command p ev s t f below (while place test kept body) rest u d a m = absurd m
 absent-by_command p ev s t f below (call place c) rest u d a m = absurd m.2
-absent-by_command p ev s t f below (fork place c e) rest u d a m = elim m.4 [ inl i ↦ absurd i | inr i ↦ absurd i ]
+absent-by_command p ev s t f below (fork place c e) rest u d a m =
+    elim m.4 [ inl i ↦ absurd i | inr i ↦ absurd i ]
 absent-by_command p ev s t f below (with place r test body) rest u d a m = absurd m
 
-absent-by_frame : (p : Program) (ev : Event) (s t : Common) (f : Fixed) (below : List Frame) (todo : List Item) (u : Task)
+absent-by_frame : (p : Program) (ev : Event) (s t : Common) (f : Fixed) (below : List Frame)
+    (todo : List Item) (u : Task)
     → Goes p ev s f below todo t u → (a : ℕ) → FrameMakes p ev todo (cell a) → s.heap a ≡ None
 absent-by_frame p ev s t f below [] u d a m = absurd m
-absent-by_frame p ev s t f below (command c ∷ rest) u d a m = absent-by_command p ev s t f below c rest u d a m
+absent-by_frame p ev s t f below (command c ∷ rest) u d a m =
+    absent-by_command p ev s t f below c rest u d a m
 absent-by_frame p ev s t f below (leave r ∷ rest) u d a m = absurd m
 
 -- the cell that a task's event makes wasn't there before
@@ -123,35 +156,50 @@ absent-by_task p ev s t (runs (f ∷ below)) u d a m = absent-by_frame p ev s t 
 absent-by_task p ev s t (waits frames one two) u d a m = absurd m
 
 -- Holders
-holder-same : (path : Path) (s t : Common) (r : ResId) → t.held ≡ s.held → HolderChanges path (s.held r) (t.held r)
+holder-same : (path : Path) (s t : Common) (r : ResId) → t.held ≡ s.held
+    → HolderChanges path (s.held r) (t.held r)
 holder-same path s t r e = inl (ap (λ h. h r) e)
 
 holder-by_test : (path : Path) (b : Bool) (before old next : Option Path) → (b ≡ true → before ≡ old)
-    → ((old ≡ None) × (next ≡ Some path)) ⊎ ((old ≡ Some path) × (next ≡ None)) → HolderChanges path before (cond b next before)
+    → ((old ≡ None) × (next ≡ Some path)) ⊎ ((old ≡ Some path) × (next ≡ None))
+    → HolderChanges path before (cond b next before)
 holder-by_test path false before old next e w = inl refl
 holder-by_test path true before old next e (inl w) = inr (inl (e refl ∙ w.0, w.1))
 holder-by_test path true before old next e (inr w) = inr (inr (e refl ∙ w.0, w.1))
 
 holder-set : (path : Path) (s t : Common) (q r : ResId) (next : Option Path) → t ≡ set_holder r next s
-    → ((s.held r ≡ None) × (next ≡ Some path)) ⊎ ((s.held r ≡ Some path) × (next ≡ None)) → HolderChanges path (s.held q) (t.held q)
+    → ((s.held r ≡ None) × (next ≡ Some path)) ⊎ ((s.held r ≡ Some path) × (next ≡ None))
+    → HolderChanges path (s.held q) (t.held q)
 holder-set path s t q r next e w =
     subst (λ (z : Common). HolderChanges path (s.held q) (z.held q)) (sym e)
     (holder-by_test path (q.0 == r.0) (s.held q) (s.held r) next (λ h. ap s.held (resource-same q r h)) w)
 
-held-by_command : (p : Program) (ev : Event) (s t : Common) (f : Fixed) (below : List Frame) (c : Command) (rest : List Item) (u : Task)
+held-by_command : (p : Program) (ev : Event) (s t : Common) (f : Fixed) (below : List Frame) (c : Command)
+    (rest : List Item) (u : Task)
     → Does p ev s f below c rest t u → (r : ResId) → HolderChanges ev.task (s.held r) (t.held r)
-held-by_command p ev s t f below (assign place x e) rest u d r = holder-same ev.task s t r (ap (λ (z : Common). z.held) d.0)
-held-by_command p ev s t f below (look_up place x e g) rest u d r = holder-same ev.task s t r (ap (λ (z : Common). z.held) d.3)
-held-by_command p ev s t f below (mutate place e g v) rest u d r = holder-same ev.task s t r (ap (λ (z : Common). z.held) d.3)
-held-by_command p ev s t f below (new place x) rest u d r = holder-same ev.task s t r (ap (λ (z : Common). z.held) d.2)
-held-by_command p ev s t f below (dispose place e) rest u d r = holder-same ev.task s t r (ap (λ (z : Common). z.held) d.3)
-held-by_command p ev s t f below (if place test this that) rest u d r = holder-same ev.task s t r (ap (λ (z : Common). z.held) d.0)
-held-by_command p ev s t f below (while place test kept body) rest u d r = holder-same ev.task s t r (ap (λ (z : Common). z.held) d.0)
-held-by_command p ev s t f below (call place c) rest u d r = holder-same ev.task s t r (ap (λ (z : Common). z.held) d.2)
-held-by_command p ev s t f below (fork place c e) rest u d r = holder-same ev.task s t r (ap (λ (z : Common). z.held) d.5)
-held-by_command p ev s t f below (with place q test body) rest u d r = holder-set ev.task s t r q (Some ev.task) d.2 (inl (d.0, refl))
+held-by_command p ev s t f below (assign place x e) rest u d r =
+    holder-same ev.task s t r (ap (λ (z : Common). z.held) d.0)
+held-by_command p ev s t f below (look_up place x e g) rest u d r =
+    holder-same ev.task s t r (ap (λ (z : Common). z.held) d.3)
+held-by_command p ev s t f below (mutate place e g v) rest u d r =
+    holder-same ev.task s t r (ap (λ (z : Common). z.held) d.3)
+held-by_command p ev s t f below (new place x) rest u d r =
+    holder-same ev.task s t r (ap (λ (z : Common). z.held) d.2)
+held-by_command p ev s t f below (dispose place e) rest u d r =
+    holder-same ev.task s t r (ap (λ (z : Common). z.held) d.3)
+held-by_command p ev s t f below (if place test this that) rest u d r =
+    holder-same ev.task s t r (ap (λ (z : Common). z.held) d.0)
+held-by_command p ev s t f below (while place test kept body) rest u d r =
+    holder-same ev.task s t r (ap (λ (z : Common). z.held) d.0)
+held-by_command p ev s t f below (call place c) rest u d r =
+    holder-same ev.task s t r (ap (λ (z : Common). z.held) d.2)
+held-by_command p ev s t f below (fork place c e) rest u d r =
+    holder-same ev.task s t r (ap (λ (z : Common). z.held) d.5)
+held-by_command p ev s t f below (with place q test body) rest u d r =
+    holder-set ev.task s t r q (Some ev.task) d.2 (inl (d.0, refl))
 
-held-by_frame : (p : Program) (ev : Event) (s t : Common) (f : Fixed) (below : List Frame) (todo : List Item) (u : Task)
+held-by_frame : (p : Program) (ev : Event) (s t : Common) (f : Fixed) (below : List Frame) (todo : List Item)
+    (u : Task)
     → Goes p ev s f below todo t u → (r : ResId) → HolderChanges ev.task (s.held r) (t.held r)
 held-by_frame p ev s t f below [] u d r = holder-same ev.task s t r (ap (λ (z : Common). z.held) d.1)
 held-by_frame p ev s t f below (command c ∷ rest) u d r = held-by_command p ev s t f below c rest u d r
@@ -162,13 +210,16 @@ pub held-by_task : (p : Program) (ev : Event) (s t : Common) (task u : Task)
     → TaskStep p ev s task t u → (r : ResId) → HolderChanges ev.task (s.held r) (t.held r)
 held-by_task p ev s t (runs []) u d r = absurd d
 held-by_task p ev s t (runs (f ∷ below)) u d r = held-by_frame p ev s t f.fixed below f.todo u d r
-held-by_task p ev s t (waits frames one two) u d r = holder-same ev.task s t r (ap (λ (z : Common). z.held) d.2)
+held-by_task p ev s t (waits frames one two) u d r =
+    holder-same ev.task s t r (ap (λ (z : Common). z.held) d.2)
 
 -- all that a step can change
-pub step-touches : (p : Program) (event : Event) (c d : Config) (task : Task) → Step p event c d → task_at event.task c.tasks ≡ Some task → ChangesOnlyFootprint p event task c d
-step-touches p event c d task s e =
+pub step-footprint : (p : Program) (event : Event) (c d : Config) (task : Task) → Step p event c d
+    → task_at event.task c.tasks ≡ Some task → ChangesOnlyFootprint p event task c d
+step-footprint p event c d task s e =
     let same : s.from ≡ task = cc (s.there, e) in
-    let steps : TaskStep p event c.common task d.common s.to = subst (λ z. TaskStep p event c.common z d.common s.to) same s.steps in
+    let steps : TaskStep p event c.common task d.common s.to =
+    subst (λ z. TaskStep p event c.common z d.common s.to) same s.steps in
     record {
       variables = λ slot l. store-by_task p event c.common d.common task s.to steps slot l;
       cells = λ location l. heap-by_task p event c.common d.common task s.to steps location l;

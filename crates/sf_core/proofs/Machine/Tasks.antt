@@ -1,5 +1,5 @@
 -- The tree of tasks: what a step leaves of the others, which tasks step, and what keeps one from it.
--- Names: `task_at-WHAT` speaks of the tree, `enabled-WHAT` of enabled tasks, `WHAT-or_stop` of the step that there is or what keeps it.
+-- Names: `task_at-WHAT` speaks of the tree, `enabled-WHAT` of enabled tasks, `step-WHAT` of a step.
 use Rattle.std.specs.Prelude.{◌≡◌, ◌≢◌, List, [], ◌∷◌, Some, ◌⊎◌}
 use Rattle.std.proofs.Common.{sym, ap, ◌∙◌, refl, subst, inl, inr}
 use Rattle.sf_base.specs.declared.path.Turn.{Turn}
@@ -11,44 +11,52 @@ use Rattle.sf_core.specs.Machine.Step.{Event, Goes, TaskStep, Step}
 use Rattle.sf_core.specs.Program.Syntax.{with, Program}
 
 -- what is put at one path leaves the tasks whose paths part from it
-pub task_at-parted : (other path : Path) (u t : Task) → Diverge other path → task_at other (put_task path u t) ≡ task_at other t
-task_at-parted [] path u t h = absurd h
-task_at-parted (turn ∷ other) [] u t h = absurd h
-task_at-parted (left ∷ other) (left ∷ path) u (runs frames) h = refl
-task_at-parted (left ∷ other) (left ∷ path) u (waits frames one two) h = task_at-parted other path u one h
-task_at-parted (left ∷ other) (right ∷ path) u (runs frames) h = refl
-task_at-parted (left ∷ other) (right ∷ path) u (waits frames one two) h = refl
-task_at-parted (right ∷ other) (left ∷ path) u (runs frames) h = refl
-task_at-parted (right ∷ other) (left ∷ path) u (waits frames one two) h = refl
-task_at-parted (right ∷ other) (right ∷ path) u (runs frames) h = refl
-task_at-parted (right ∷ other) (right ∷ path) u (waits frames one two) h = task_at-parted other path u two h
+pub task_at-other : (other path : Path) (u t : Task) → Diverge other path
+    → task_at other (put_task path u t) ≡ task_at other t
+task_at-other [] path u t h = absurd h
+task_at-other (turn ∷ other) [] u t h = absurd h
+task_at-other (left ∷ other) (left ∷ path) u (runs frames) h = refl
+task_at-other (left ∷ other) (left ∷ path) u (waits frames one two) h = task_at-other other path u one h
+task_at-other (left ∷ other) (right ∷ path) u (runs frames) h = refl
+task_at-other (left ∷ other) (right ∷ path) u (waits frames one two) h = refl
+task_at-other (right ∷ other) (left ∷ path) u (runs frames) h = refl
+task_at-other (right ∷ other) (left ∷ path) u (waits frames one two) h = refl
+task_at-other (right ∷ other) (right ∷ path) u (runs frames) h = refl
+task_at-other (right ∷ other) (right ∷ path) u (waits frames one two) h = task_at-other other path u two h
 
 -- above a task there are tasks that wait, and what is put at its path leaves their frames
 pub task_at-above : (other path : Path) (u t from : Task) → task_at path t ≡ Some from → IsAbove other path
-    → (frames : List Frame) × WaitsWith frames (task_at other t) × WaitsWith frames (task_at other (put_task path u t))
+    → (frames : List Frame) × WaitsWith frames (task_at other t)
+    × WaitsWith frames (task_at other (put_task path u t))
 task_at-above other [] u t from e h = absurd h
 task_at-above [] (left ∷ path) u (runs frames) from e h = absurd (cc)
-task_at-above [] (left ∷ path) u (waits frames one two) from e h = (frames, (one, two, refl), (put_task path u one, two, refl))
+task_at-above [] (left ∷ path) u (waits frames one two) from e h =
+    (frames, (one, two, refl), (put_task path u one, two, refl))
 task_at-above [] (right ∷ path) u (runs frames) from e h = absurd (cc)
-task_at-above [] (right ∷ path) u (waits frames one two) from e h = (frames, (one, two, refl), (one, put_task path u two, refl))
+task_at-above [] (right ∷ path) u (waits frames one two) from e h =
+    (frames, (one, two, refl), (one, put_task path u two, refl))
 task_at-above (left ∷ other) (left ∷ path) u (runs frames) from e h = absurd (cc)
-task_at-above (left ∷ other) (left ∷ path) u (waits frames one two) from e h = task_at-above other path u one from e h
+task_at-above (left ∷ other) (left ∷ path) u (waits frames one two) from e h =
+    task_at-above other path u one from e h
 task_at-above (left ∷ other) (right ∷ path) u t from e h = absurd h
 task_at-above (right ∷ other) (left ∷ path) u t from e h = absurd h
 task_at-above (right ∷ other) (right ∷ path) u (runs frames) from e h = absurd (cc)
-task_at-above (right ∷ other) (right ∷ path) u (waits frames one two) from e h = task_at-above other path u two from e h
+task_at-above (right ∷ other) (right ∷ path) u (waits frames one two) from e h =
+    task_at-above other path u two from e h
 
 -- what a step leaves of the other tasks
-pub step-leaves : (p : Program) (event : Event) (c d : Config) → Step p event c d → KeepsOthers event.task c.tasks d.tasks
-step-leaves p event c d s = record {
-  others = λ other h. ap (task_at other) s.tasks ∙ task_at-parted other event.task s.to c.tasks h;
+pub step-frames : (p : Program) (event : Event) (c d : Config) → Step p event c d
+    → KeepsOthers event.task c.tasks d.tasks
+step-frames p event c d s = record {
+  others = λ other h. ap (task_at other) s.tasks ∙ task_at-other other event.task s.to c.tasks h;
   ancestors = λ other h.
       let k = task_at-above other event.task s.to c.tasks s.from s.there h in
       (k.0, k.1, subst (λ z. WaitsWith k.0 (task_at other z)) (sym s.tasks) k.2);
 }
 
 -- a task that has ended makes no step
-ended-no_step : (p : Program) (ev : Event) (s t : Common) (path : Path) → ev.task ≡ path → (task u : Task) → TaskStep p ev s task t u → HasEnded path task → ⊥
+ended-no_step : (p : Program) (ev : Event) (s t : Common) (path : Path) → ev.task ≡ path → (task u : Task)
+    → TaskStep p ev s task t u → HasEnded path task → ⊥
 ended-no_step p ev s t path e (runs []) u d h = absurd d
 ended-no_step p ev s t [] e (runs (f ∷ [])) u d h =
     let g : Goes p ev s f.fixed [] [] t u = subst (λ z. Goes p ev s f.fixed [] z t u) h d in
@@ -58,17 +66,20 @@ ended-no_step p ev s t (turn ∷ path) e (runs (f ∷ below)) u d h = absurd h
 ended-no_step p ev s t path e (waits frames one two) u d h = absurd h
 
 -- a step isn't at a region whose resource is held
-step-not_shut : (p : Program) (ev : Event) (s t : Common) (f : Fixed) (below : List Frame) (todo : List Item) (u : Task) → Goes p ev s f below todo t u → IsShut s.held todo → ⊥
+step-not_shut : (p : Program) (ev : Event) (s t : Common) (f : Fixed) (below : List Frame) (todo : List Item)
+    (u : Task) → Goes p ev s f below todo t u → IsShut s.held todo → ⊥
 step-not_shut p ev s t f below (command (with place r test body) ∷ rest) u d h = h d.0
 step-not_shut p ev s t f below _ u d h = absurd h
 
-step-not_blocked : (p : Program) (ev : Event) (s t : Common) (task u : Task) → TaskStep p ev s task t u → IsBlocked s.held task → ⊥
+step-not_blocked : (p : Program) (ev : Event) (s t : Common) (task u : Task) → TaskStep p ev s task t u
+    → IsBlocked s.held task → ⊥
 step-not_blocked p ev s t (runs []) u d h = absurd d
 step-not_blocked p ev s t (runs (f ∷ below)) u d h = step-not_shut p ev s t f.fixed below f.todo u d h
 step-not_blocked p ev s t (waits frames one two) u d h = h (d.0, d.1)
 
 -- only enabled tasks step
-pub step-enabled : (p : Program) (event : Event) (c d : Config) → Step p event c d → (task : Task) × IsEnabled c event.task task
+pub step-enabled : (p : Program) (event : Event) (c d : Config) → Step p event c d
+    → (task : Task) × IsEnabled c event.task task
 step-enabled p event c d s = (
   s.from,
   record {
@@ -79,7 +90,8 @@ step-enabled p event c d s = (
 )
 
 -- below a task that runs there is no other
-pub task_at-running : (path : Path) (frames : List Frame) (task : Task) → task_at path (runs frames) ≡ Some task → path ≡ []
+pub task_at-running : (path : Path) (frames : List Frame) (task : Task)
+    → task_at path (runs frames) ≡ Some task → path ≡ []
 task_at-running [] frames task e = refl
 task_at-running (left ∷ path) frames task e = absurd (cc)
 task_at-running (right ∷ path) frames task e = absurd (cc)
@@ -115,7 +127,10 @@ pub enabled-may_go : (c : Config) (path : Path) (task : Task) → IsEnabled c pa
 enabled-may_go c path (runs []) e = absurd (e.going tt)
 enabled-may_go c path (runs (f ∷ below)) e = tt
 enabled-may_go c path (waits frames one two) e =
-    elim (over-or_not one) [ inr n ↦ absurd (e.free (λ h. n h.0)) | inl a ↦ elim (over-or_not two) [ inr n ↦ absurd (e.free (λ h. n h.1)) | inl b ↦ (a, b) ] ]
+    elim (over-or_not one) [
+      | inr n ↦ absurd (e.free (λ h. n h.0))
+      | inl a ↦ elim (over-or_not two) [ inr n ↦ absurd (e.free (λ h. n h.1)) | inl b ↦ (a, b) ]
+    ]
 
 -- nothing below a child that is over may go on
 task_at-over : (path : Path) (t task : Task) → IsOver t → task_at path t ≡ Some task → MayGo task → ⊥
@@ -127,29 +142,35 @@ task_at-over (right ∷ path) (runs frames) task o e m = absurd (cc)
 task_at-over (turn ∷ path) (waits frames one two) task o e m = absurd o
 
 -- a task that may go on has no descendant that may
-task_at-below : (turn : Turn) (path : Path) (t task : Task) → MayGo t → task_at (turn ∷ path) t ≡ Some task → MayGo task → ⊥
+task_at-below : (turn : Turn) (path : Path) (t task : Task) → MayGo t → task_at (turn ∷ path) t ≡ Some task
+    → MayGo task → ⊥
 task_at-below left path (runs frames) task o e m = absurd (cc)
 task_at-below right path (runs frames) task o e m = absurd (cc)
 task_at-below left path (waits frames one two) task o e m = task_at-over path one task o.0 e m
 task_at-below right path (waits frames one two) task o e m = task_at-over path two task o.1 e m
 
--- two different tasks that may go on stand at paths that part
-task_at-part : (t : Task) (path other : Path) (task another : Task) → task_at path t ≡ Some task → MayGo task → task_at other t ≡ Some another → MayGo another → path ≢ other → Diverge path other
-task_at-part t [] [] task another a m b n d = absurd (d refl)
-task_at-part t [] (turn ∷ other) task another a m b n d =
+-- two different tasks that may go on are at paths that diverge
+task_at-diverge : (t : Task) (path other : Path) (task another : Task) → task_at path t ≡ Some task
+    → MayGo task → task_at other t ≡ Some another → MayGo another → path ≢ other → Diverge path other
+task_at-diverge t [] [] task another a m b n d = absurd (d refl)
+task_at-diverge t [] (turn ∷ other) task another a m b n d =
     let same : task ≡ t = cc in
     absurd (task_at-below turn other t another (subst MayGo same m) b n)
-task_at-part t (turn ∷ path) [] task another a m b n d =
+task_at-diverge t (turn ∷ path) [] task another a m b n d =
     let same : another ≡ t = cc in
     absurd (task_at-below turn path t task (subst MayGo same n) a m)
-task_at-part (runs frames) (left ∷ path) (left ∷ other) task another a m b n d = absurd (cc)
-task_at-part (waits frames one two) (left ∷ path) (left ∷ other) task another a m b n d = task_at-part one path other task another a m b n (λ e. d (ap (λ z. left ∷ z) e))
-task_at-part t (left ∷ path) (right ∷ other) task another a m b n d = tt
-task_at-part t (right ∷ path) (left ∷ other) task another a m b n d = tt
-task_at-part (runs frames) (right ∷ path) (right ∷ other) task another a m b n d = absurd (cc)
-task_at-part (waits frames one two) (right ∷ path) (right ∷ other) task another a m b n d = task_at-part two path other task another a m b n (λ e. d (ap (λ z. right ∷ z) e))
+task_at-diverge (runs frames) (left ∷ path) (left ∷ other) task another a m b n d = absurd (cc)
+task_at-diverge (waits frames one two) (left ∷ path) (left ∷ other) task another a m b n d =
+    task_at-diverge one path other task another a m b n (λ e. d (ap (λ z. left ∷ z) e))
+task_at-diverge t (left ∷ path) (right ∷ other) task another a m b n d = tt
+task_at-diverge t (right ∷ path) (left ∷ other) task another a m b n d = tt
+task_at-diverge (runs frames) (right ∷ path) (right ∷ other) task another a m b n d = absurd (cc)
+task_at-diverge (waits frames one two) (right ∷ path) (right ∷ other) task another a m b n d =
+    task_at-diverge two path other task another a m b n (λ e. d (ap (λ z. right ∷ z) e))
 
 -- of two different enabled tasks neither is an ancestor of the other
-pub enabled-part : (c : Config) (path other : Path) (task another : Task) → IsEnabled c path task → IsEnabled c other another → path ≢ other → Diverge path other
-enabled-part c path other task another e f d =
-    task_at-part c.tasks path other task another e.there (enabled-may_go c path task e) f.there (enabled-may_go c other another f) d
+pub enabled-diverge : (c : Config) (path other : Path) (task another : Task) → IsEnabled c path task
+    → IsEnabled c other another → path ≢ other → Diverge path other
+enabled-diverge c path other task another e f d =
+    task_at-diverge c.tasks path other task another e.there (enabled-may_go c path task e) f.there
+    (enabled-may_go c other another f) d

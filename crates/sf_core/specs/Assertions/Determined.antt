@@ -1,4 +1,4 @@
--- Determined assertions: those whose conjuncts can be taken in an order in which each is found in a heap from what is known before it.
+-- Determined assertions: the conjuncts have an order in which each is found in a heap from what is known before it.
 -- This project's own notion; a determined assertion is precise in the sense of O'Hearn, Yang, Reynolds (2004).
 use Rattle.std.specs.Prelude.{◌≡◌, ◌⊎◌, ℕ, Bool, true, false, not, ◌&&◌, ◌||◌, ◌==◌, List, [], ◌∷◌}
 use Rattle.sf_base.specs.declared.ids.FieldId.{FieldId}

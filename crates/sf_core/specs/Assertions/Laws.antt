@@ -1,5 +1,5 @@
 -- Laws of heaps and assertions, each in words of its own: what a reader may expect of the definitions.
--- Reynolds, "Separation Logic" (2002); O'Hearn, Yang, Reynolds, "Separation and Information Hiding" (2004) for precision.
+-- Reynolds, "Separation Logic" (2002); O'Hearn, Yang, Reynolds (2004) for precision.
 use Rattle.std.specs.Prelude.{◌≡◌, ◌≢◌, ◌↔◌, ℕ, Bool, true, List, None}
 use Rattle.sf_base.specs.declared.ids.FieldId.{FieldId}
 use Rattle.sf_base.specs.declared.ids.Var.{Var}

@@ -1,5 +1,5 @@
 -- What an assertion means: which heaps satisfy it, for given values of its operands.
--- Reynolds (2002) for the connectives; Berdine, Calcagno, O'Hearn, "Symbolic Execution with Separation Logic" (2005) for segments and trees.
+-- Reynolds (2002); segments and trees as in Berdine, Calcagno, O'Hearn, "Symbolic Execution" (2005).
 use Rattle.std.specs.Prelude.{◌≡◌, ◌≢◌, ℕ, false, List, [], ◌∷◌}
 use Rattle.sf_base.specs.declared.ids.FieldId.{FieldId}
 use Rattle.sf_base.specs.declared.ids.Var.{Var}

@@ -1,4 +1,4 @@
--- A program is formed in one way at most, so that its type can keep the fact: each lemma says of a part that it holds in one way.
+-- A program is formed, and has its links, in one way at most, so that its type can keep the facts.
 -- Ordinary: each part is an equation of numbers, an order, or a list of such.
 use Rattle.std.specs.Prelude.{◌≡◌, ◌≢◌, ℕ, ◌+◌, Option, Some, None, List, [], ◌∷◌, slice_get}
 use Rattle.std.specs.List.{All}

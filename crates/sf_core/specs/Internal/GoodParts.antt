@@ -1,5 +1,5 @@
 -- Good configurations by the separating conjunction: the heap splits along the resources and the tree of tasks.
--- O'Hearn (2007); Brookes (2007). Good, which speaks of a family of parts, follows from this; proofs come to Good in this form.
+-- O'Hearn (2007); Brookes (2007).
 use Rattle.std.specs.Prelude.{◌≡◌, ℕ, suc, List, [], ◌∷◌, Option, Some, None}
 use Rattle.std.specs.List.{slice_get}
 use Rattle.sf_base.specs.declared.ids.ResId.{ResId}

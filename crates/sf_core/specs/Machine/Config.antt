@@ -1,5 +1,5 @@
 -- Config: one heap, one store, the holders of the resources, and a tree of tasks, each with a stack of frames.
--- O'Hearn, "Resources, Concurrency and Local Reasoning" (2007); Brookes, "A Semantics for Concurrent Separation Logic" (2007).
+-- O'Hearn, "Resources, Concurrency and Local Reasoning" (2007); Brookes, "A Semantics for CSL" (2007).
 use Rattle.std.specs.Prelude.{◌≡◌, ℕ, Bool, false, List, [], ◌∷◌, Option, Some, None, ◌⊎◌, ◌==◌, ◌&&◌, ◌+◌, ltb, leb}
 use Rattle.std.specs.Option.{unwrap_or}
 use Rattle.sf_base.specs.declared.ids.ProcId.{ProcId}

@@ -1,4 +1,4 @@
--- Enabled: which tasks may step next so far as the others are concerned, and what their next steps read and write.
+-- Enabled: which tasks may step next as far as others allow, and what their next steps read and write.
 -- O'Hearn (2007) for races; Brookes (2007) for the footprints of actions.
 use Rattle.std.specs.Prelude.{◌≡◌, ◌≢◌, ℕ, true, List, [], ◌∷◌, Option, Some, None, ◌⊎◌}
 use Rattle.sf_base.specs.declared.ids.ResId.{ResId}

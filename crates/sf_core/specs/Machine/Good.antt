@@ -1,5 +1,5 @@
--- Good: nothing bad is next, free resources and finished calls have disjoint footprints of what they promise, and nothing is leaked.
--- O'Hearn (2007), "Resources, Concurrency and Local Reasoning"; Brookes (2007), for the separation that holds at each moment.
+-- Good: nothing bad is next, free resources and finished calls have disjoint footprints, and nothing is leaked.
+-- O'Hearn (2007) and Brookes (2007), for the separation that holds at each moment.
 use Rattle.std.specs.Prelude.{◌≡◌, ◌≢◌, ℕ, List, [], ◌∷◌, Some, None, ◌⊎◌}
 use Rattle.std.specs.List.{slice_get}
 use Rattle.sf_base.specs.declared.ids.ResId.{ResId}

@@ -1,4 +1,4 @@
--- HeldBy: the resources that a procedure's contract speaks of, which therefore count as held through its whole body.
+-- HeldBy: the resources that a procedure's contract mentions, which count as held through its whole body.
 -- After the variable conditions of Berdine, Calcagno, O'Hearn, "Smallfoot" (2005).
 use Rattle.std.specs.Prelude.{◌≡◌, ℕ, Some, ◌⊎◌}
 use Rattle.std.specs.List.{slice_get}

@@ -1,5 +1,5 @@
 -- Laws of the machine: what a step changes and what it leaves alone, which tasks step, and how runs compose.
--- After Brookes, "A Semantics for Concurrent Separation Logic" (2007), where the footprints of actions say what they share.
+-- After Brookes (2007), where the footprints of actions say what they share.
 use Rattle.std.specs.Prelude.{◌≡◌, ◌≢◌, ℕ, List, [], ◌∷◌, ◌++◌, Option, Some, None, ◌⊎◌, ◌↔◌, length, ◌≤◌}
 use Rattle.sf_base.specs.declared.ids.ResId.{ResId}
 use Rattle.sf_base.specs.declared.limits.TheConstants.{TURNS}

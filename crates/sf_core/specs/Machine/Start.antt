@@ -1,4 +1,4 @@
--- Start: the configurations that a procedure may start from, with its precondition and all invariants on disjoint cells.
+-- Start: where a procedure may start, with its precondition and all invariants on disjoint cells.
 -- O'Hearn (2007); Brookes (2007): the state at the start of a program with resources.
 use Rattle.std.specs.Prelude.{◌≡◌, ℕ, List, [], ◌∷◌, Some, None, length, ◌+◌, ◌<◌, ◌≤◌}
 use Rattle.std.specs.List.{slice_get}

@@ -1,5 +1,5 @@
 -- Step: what one event of one task does to a configuration, for each kind of event.
--- O'Hearn (2007) and Brookes (2007) for regions and parallel composition; Berdine, Calcagno, O'Hearn, "Smallfoot" (2005) for the commands.
+-- O'Hearn (2007), Brookes (2007) for regions and forks; Berdine, Calcagno, O'Hearn (2005) for the commands.
 use Rattle.std.specs.Prelude.{◌≡◌, ◌≢◌, ℕ, zero, suc, cond, List, [], ◌∷◌, ◌++◌, Option, Some, None, ◌⊎◌, get_or, length, map, ◌==◌, ◌+◌, ◌-◌, ◌<◌}
 use Rattle.std.specs.List.{slice_get}
 use Rattle.sf_base.specs.declared.limits.TheConstants.{TURNS}

@@ -1,5 +1,5 @@
--- What every program keeps by its type: its numbers are those of things that are there, its calls fit, scopes are numbered in text order, limits are met.
--- The conditions on programs of Berdine, Calcagno and O'Hearn, "Smallfoot" (2005), in this project's own profile.
+-- What every program keeps by its type: numbers of things that are there, calls that fit, limits that are met.
+-- After the conditions on programs of Berdine, Calcagno, O'Hearn, "Smallfoot" (2005), in this project's own profile.
 use Rattle.std.specs.Prelude.{◌≡◌, ◌≢◌, ℕ, suc, ◌+◌, ◌<◌, ◌≤◌, max, IsTrue, Bool, Option, Some, None, List, [], ◌∷◌, length, slice_get}
 use Rattle.std.specs.List.{All, list_any, sum_by}
 use Rattle.sf_base.specs.declared.ids.FieldId.{FieldId}

@@ -1,5 +1,5 @@
 -- The links: the fields that segments and trees follow, by their names.
--- The list and tree predicates of Berdine, Calcagno, O'Hearn, "Smallfoot" (2005), whose fields are called tl, l and r.
+-- The predicates of Berdine, Calcagno, O'Hearn, "Smallfoot" (2005), whose fields are called tl, l and r.
 use Rattle.std.specs.Prelude.{ℕ, List, Option, codes}
 use Rattle.std.specs.Option.{option_map}
 use Rattle.sf_base.specs.declared.ids.FieldId.{FieldId}

@@ -1,5 +1,5 @@
--- The worked instances of good configurations: ended entries, callees at their return, and resources.
--- Names: `WHAT-holds` proves the statement of that name, `WHAT-one` gives the cell that is there, `WHAT-good` that a configuration is good.
+-- The examples of good configurations: ended entries, callees at their return, and resources.
+-- Names: each example has the name of its function; `WHAT-one` gives the cell, `WHAT-good` says what is good.
 use Rattle.std.specs.Prelude.{◌≡◌, ◌≢◌, ℕ, ◌==◌, Bool, true, false, cond, List, [], ◌∷◌, Option, Some, None}
 use Rattle.std.specs.List.{slice_get}
 use Rattle.std.specs.Option.{unwrap_or}
@@ -28,7 +28,8 @@ use Rattle.sf_core.specs.Machine.Step.{procedure_at}
 use Rattle.sf_core.specs.Program.Syntax.{Procedure, Resource}
 
 -- a footprint of one cell has it where the expression says, and so the heap has it there
-foot-one : (x : Expr) (see : Expr → Value) (heap part : Heap) (a : ℕ) → see x ≡ loc a → Foot (one_cell_at x).level see heap part → (k : Cell) × IsOne a k part × (heap a ≡ Some k)
+foot-one : (x : Expr) (see : Expr → Value) (heap part : Heap) (a : ℕ) → see x ≡ loc a
+    → Foot (one_cell_at x).level see heap part → (k : Cell) × IsOne a k part × (heap a ≡ Some k)
 foot-one x see heap part a e f =
     let d = sat-one x see part f.sat in
     let here : d.0 ≡ a = loc-same d.0 a (sym d.2 ∙ e) in
@@ -41,7 +42,8 @@ owned-entry part a k (inl e) = e
 owned-entry part a k (inr e) = absurd (none-some e.1 e.2)
 
 -- a heap all of whose cells are in a part of one cell that it has is that cell
-one-whole : (heap part : Heap) (a : ℕ) (k : Cell) → IsOne a k part → heap a ≡ Some k → ((b : ℕ) (l : Cell) → heap b ≡ Some l → part b ≡ Some l) → IsOne a k heap
+one-whole : (heap part : Heap) (a : ℕ) (k : Cell) → IsOne a k part → heap a ≡ Some k
+    → ((b : ℕ) (l : Cell) → heap b ≡ Some l → part b ≡ Some l) → IsOne a k heap
 one-whole heap part a k o e all = record { here = e; elsewhere = λ b n. go b n (heap b) refl }
   where
     go : (b : ℕ) → b ≢ a → (o : Option Cell) → heap b ≡ o → heap b ≡ None
@@ -52,14 +54,22 @@ ended-one : (heap : Heap) → Good setting (ended_with heap) → (k : Cell) × I
 ended-one heap g =
     let end = g.finished refl in
     let frame : main_done ≡ end.frame = cc (end.alone) in
-    let there : procedure_at setting main_done.fixed.procedure ≡ Some end.procedure = subst (λ (z : Frame). procedure_at setting z.fixed.procedure ≡ Some end.procedure) (sym frame) end.there in
+    let there : procedure_at setting main_done.fixed.procedure ≡ Some end.procedure =
+    subst (λ (z : Frame). procedure_at setting z.fixed.procedure ≡ Some end.procedure) (sym frame)
+    end.there in
     let procedure : end.procedure ≡ main = cc in
     let post : Foot one_cell.level (evaluate end.frame.fixed.slots (one_in (loc 1))) heap (g.part (task [])) =
-    subst (λ (z : Procedure). Foot z.post.level (evaluate end.frame.fixed.slots (one_in (loc 1))) heap (g.part (task []))) procedure end.post in
+    subst (λ (z : Procedure). Foot z.post.level (evaluate end.frame.fixed.slots (one_in (loc 1))) heap
+    (g.part (task []))) procedure end.post in
     let mine : Foot one_cell.level (evaluate entry_slot (one_in (loc 1))) heap (g.part (task [])) =
-    subst (λ (z : Frame). Foot one_cell.level (evaluate z.fixed.slots (one_in (loc 1))) heap (g.part (task []))) (sym frame) post in
-    let one = foot-one (own_one 0) (evaluate entry_slot (one_in (loc 1))) heap (g.part (task [])) 1 refl mine in
-    (one.0, one-whole heap (g.part (task [])) 1 one.0 one.1 one.2 (λ b l e. owned-entry g.part b l (end.all b l e)))
+    subst (λ (z : Frame). Foot one_cell.level (evaluate z.fixed.slots (one_in (loc 1))) heap
+    (g.part (task []))) (sym frame) post in
+    let one = foot-one (own_one 0) (evaluate entry_slot (one_in (loc 1))) heap (g.part (task [])) 1 refl
+    mine in (
+      one.0,
+      one-whole heap (g.part (task [])) 1 one.0 one.1 one.2
+          (λ b l e. owned-entry g.part b l (end.all b l e)),
+    )
 
 -- an ended entry is good exactly with its cell alone
 pub ended_is_good_with_its_cell_alone : EndedIsGoodWithItsCellAlone
@@ -68,18 +78,23 @@ ended_is_good_with_its_cell_alone heap = (ended-one heap, λ o. set-good (ended_
 
 -- A task alone, about to return
 -- nothing bad is next
-returning-not_bad : (c : Config) (frame : Frame) (below : List Frame) → c.tasks ≡ runs (frame ∷ below) → frame.todo ≡ [] → Bad c → ⊥
+returning-not_bad : (c : Config) (frame : Frame) (below : List Frame) → c.tasks ≡ runs (frame ∷ below)
+    → frame.todo ≡ [] → Bad c → ⊥
 returning-not_bad c frame below only done (inl b) =
-    let there : task_at b.path (runs (frame ∷ below)) ≡ Some (runs (b.frame ∷ b.below)) = subst (λ z. task_at b.path z ≡ Some (runs (b.frame ∷ b.below))) only b.enabled.there in
+    let there : task_at b.path (runs (frame ∷ below)) ≡ Some (runs (b.frame ∷ b.below)) =
+    subst (λ z. task_at b.path z ≡ Some (runs (b.frame ∷ b.below))) only b.enabled.there in
     let top : b.path ≡ [] = task_at-running b.path (frame ∷ below) (runs (b.frame ∷ b.below)) there in
-    let here : Some (runs (frame ∷ below)) ≡ Some (runs (b.frame ∷ b.below)) = subst (λ z. task_at z (runs (frame ∷ below)) ≡ Some (runs (b.frame ∷ b.below))) top there in
+    let here : Some (runs (frame ∷ below)) ≡ Some (runs (b.frame ∷ b.below)) =
+    subst (λ z. task_at z (runs (frame ∷ below)) ≡ Some (runs (b.frame ∷ b.below))) top there in
     let same : frame ≡ b.frame = cc in
     let nothing : b.frame.todo ≡ [] = subst (λ (z : Frame). z.todo ≡ []) same done in
     none-some b.root (subst (λ z. next_root z ≡ Some b.root) nothing b.touches)
 returning-not_bad c frame below only done (inr r) =
     r.different (
-    task_at-running r.path (frame ∷ below) r.task (subst (λ z. task_at r.path z ≡ Some r.task) only r.enabled.there)
-    ∙ sym (task_at-running r.other_path (frame ∷ below) r.other (subst (λ z. task_at r.other_path z ≡ Some r.other) only r.other_enabled.there)))
+    task_at-running r.path (frame ∷ below) r.task
+    (subst (λ z. task_at r.path z ≡ Some r.task) only r.enabled.there)
+    ∙ sym (task_at-running r.other_path (frame ∷ below) r.other
+    (subst (λ z. task_at r.other_path z ≡ Some r.other) only r.other_enabled.there)))
 
 returning-good : (heap : Heap) (k : Cell) → heap 1 ≡ Some k → Good setting (returning_with heap)
 returning-good heap k e = record {
@@ -91,25 +106,42 @@ returning-good heap k e = record {
   finished = λ h. absurd h;
 }
   where
-    foot : Foot one_cell.level (evaluate set_done.fixed.slots (returning_with heap).common.store) heap (single 1 k)
-    foot = record { rest = _; splits = one-splits 1 k heap e; sat = one-sat (own_one 0) (evaluate set_done.fixed.slots (returning_with heap).common.store) (single 1 k) 1 k refl (one-single 1 k) }
+    foot : Foot one_cell.level (evaluate set_done.fixed.slots (returning_with heap).common.store) heap
+        (single 1 k)
+    foot = record {
+      rest = _;
+      splits = one-splits 1 k heap e;
+      sat = one-sat (own_one 0) (evaluate set_done.fixed.slots (returning_with heap).common.store)
+          (single 1 k) 1 k refl (one-single 1 k);
+    }
 
-    post : (path : Path) (frame : Frame) (g : Procedure) → Returns (returning_with heap) path frame → procedure_at setting frame.fixed.procedure ≡ Some g
-        → Foot g.post.level (evaluate frame.fixed.slots (returning_with heap).common.store) heap (entry_part (single 1 k) (task path))
+    post : (path : Path) (frame : Frame) (g : Procedure) → Returns (returning_with heap) path frame
+        → procedure_at setting frame.fixed.procedure ≡ Some g
+        → Foot g.post.level (evaluate frame.fixed.slots (returning_with heap).common.store) heap
+        (entry_part (single 1 k) (task path))
     post path frame g r h =
-        let top : path ≡ [] = task_at-running path (set_done ∷ main_done ∷ []) (runs (frame ∷ r.below)) r.there in
-        let here : Some (runs (set_done ∷ main_done ∷ [])) ≡ Some (runs (frame ∷ r.below)) = subst (λ z. task_at z (returning_with heap).tasks ≡ Some (runs (frame ∷ r.below))) top r.there in
+        let top : path ≡ [] = task_at-running path (set_done ∷ main_done ∷ []) (runs (frame ∷ r.below))
+        r.there in
+        let here : Some (runs (set_done ∷ main_done ∷ [])) ≡ Some (runs (frame ∷ r.below)) =
+        subst (λ z. task_at z (returning_with heap).tasks ≡ Some (runs (frame ∷ r.below))) top r.there in
         let same : set_done ≡ frame = cc in
-        let there : procedure_at setting set_done.fixed.procedure ≡ Some g = subst (λ (z : Frame). procedure_at setting z.fixed.procedure ≡ Some g) (sym same) h in
+        let there : procedure_at setting set_done.fixed.procedure ≡ Some g =
+        subst (λ (z : Frame). procedure_at setting z.fixed.procedure ≡ Some g) (sym same) h in
         let procedure : set ≡ g = cc in
-        subst (λ z. Foot g.post.level (evaluate frame.fixed.slots (returning_with heap).common.store) heap (entry_part (single 1 k) (task z))) (sym top)
-        (subst (λ (z : Frame). Foot g.post.level (evaluate z.fixed.slots (returning_with heap).common.store) heap (single 1 k)) same
-        (subst (λ (z : Procedure). Foot z.post.level (evaluate set_done.fixed.slots (returning_with heap).common.store) heap (single 1 k)) procedure foot))
+        subst (λ z. Foot g.post.level (evaluate frame.fixed.slots (returning_with heap).common.store) heap
+        (entry_part (single 1 k) (task z))) (sym top)
+        (subst (λ (z : Frame). Foot g.post.level (evaluate z.fixed.slots (returning_with heap).common.store)
+        heap (single 1 k)) same
+        (subst (λ (z : Procedure). Foot z.post.level
+        (evaluate set_done.fixed.slots (returning_with heap).common.store) heap (single 1 k)) procedure
+        foot))
 
 returning-one : (heap : Heap) → Good setting (returning_with heap) → (k : Cell) × (heap 1 ≡ Some k)
 returning-one heap g =
-    let foot = g.posts [] set_done set (record { below = main_done ∷ []; there = refl; done = refl; called = tt }) refl in
-    let one = foot-one (own_one 0) (evaluate set_done.fixed.slots (returning_with heap).common.store) heap (g.part (task [])) 1 refl foot in
+    let foot = g.posts [] set_done set
+    (record { below = main_done ∷ []; there = refl; done = refl; called = tt }) refl in
+    let one = foot-one (own_one 0) (evaluate set_done.fixed.slots (returning_with heap).common.store) heap
+    (g.part (task [])) 1 refl foot in
     (one.0, one.2)
 
 -- a callee at its return is good exactly with its cell
@@ -129,19 +161,26 @@ unfolding FreeResourcesHaveTheirCell
 free_resources_have_their_cell c g free =
     let foot = g.invariants lock guarding refl free in
     let d = sat-one shared_one (evaluate entry_slot c.common.store) (g.part (resource lock)) foot.sat in
-    record { location = d.0; at = at-location (c.common.store (shared lock 0)) d.0 d.2; cell = d.1; there = one-in d.3 foot.splits }
+    record {
+      location = d.0;
+      at = at-location (c.common.store (shared lock 0)) d.0 d.2;
+      cell = d.1;
+      there = one-in d.3 foot.splits;
+    }
 
 -- an ended entry isn't good while the resource is held
 pub ended_while_held_is_not_good : EndedWhileHeldIsNotGood
 unfolding EndedWhileHeldIsNotGood
-ended_while_held_is_not_good c path end held g = some-none path (sym held ∙ (g.finished end).free lock guarding refl)
+ended_while_held_is_not_good c path end held g =
+    some-none path (sym held ∙ (g.finished end).free lock guarding refl)
 
 -- the whole heap is the resource's
 abbrev shared_part : Heap → Owner → Heap
 shared_part h (resource r) = λ a. cond (r.0 == 0) (h a) None
 shared_part h (task path) = λ a. None
 
-shared_part-apart : (h : Heap) (owner other : Owner) → owner ≢ other → (a : ℕ) → Apart (shared_part h owner a) (shared_part h other a)
+shared_part-apart : (h : Heap) (owner other : Owner) → owner ≢ other → (a : ℕ)
+    → Apart (shared_part h owner a) (shared_part h other a)
 shared_part-apart h (resource r) (resource s) n a = go (r.0 == 0) (s.0 == 0) refl refl
   where
     go : (b c : Bool) → r.0 == 0 ≡ b → s.0 == 0 ≡ c → Apart (cond b (h a) None) (cond c (h a) None)
@@ -164,23 +203,37 @@ skip_ended-good heap k o = record {
     procedure = skip;
     there = refl;
     free = λ r of e. refl;
-    post = record { rest = heap; splits = splits-empty_left empty-holds; sat = (λ n. nil, λ n i. refl, empty-holds) };
+    post = record {
+      rest = heap;
+      splits = splits-empty_left empty-holds;
+      sat = (λ n. nil, λ n i. refl, empty-holds);
+    };
     all = λ a l e. inr (lock, guarding, refl, e);
   };
 }
   where
-    invariant : (r : ResId) (of : Resource) → slice_get guarded.resources r.0 ≡ Some of → (skip_ended_with heap).common.held r ≡ None → Foot of.invariant.level (evaluate entry_slot (shared_in (loc 1))) heap (shared_part heap (resource r))
+    invariant : (r : ResId) (of : Resource) → slice_get guarded.resources r.0 ≡ Some of
+        → (skip_ended_with heap).common.held r ≡ None
+        → Foot of.invariant.level (evaluate entry_slot (shared_in (loc 1))) heap
+        (shared_part heap (resource r))
     invariant r of e free =
         let one = get-single guarding of r.0 e in
         let whole : Foot guarding.invariant.level (evaluate entry_slot (shared_in (loc 1))) heap heap =
-        record { rest = empty_map; splits = splits-empty_right empty-holds; sat = one-sat shared_one (evaluate entry_slot (shared_in (loc 1))) heap 1 k refl o } in
-        subst (λ (z : Resource). Foot z.invariant.level (evaluate entry_slot (shared_in (loc 1))) heap (shared_part heap (resource r))) one.1
-        (subst (λ (n : ℕ). Foot guarding.invariant.level (evaluate entry_slot (shared_in (loc 1))) heap (λ a. cond (n == 0) (heap a) None)) (sym one.0) whole)
+        record {
+          rest = empty_map;
+          splits = splits-empty_right empty-holds;
+          sat = one-sat shared_one (evaluate entry_slot (shared_in (loc 1))) heap 1 k refl o;
+        } in
+        subst (λ (z : Resource). Foot z.invariant.level (evaluate entry_slot (shared_in (loc 1))) heap
+        (shared_part heap (resource r))) one.1
+        (subst (λ (n : ℕ). Foot guarding.invariant.level (evaluate entry_slot (shared_in (loc 1))) heap
+        (λ a. cond (n == 0) (heap a) None)) (sym one.0) whole)
 
     no_return : (path : Path) (frame : Frame) → Returns (skip_ended_with heap) path frame → ⊥
     no_return path frame r =
         let top : path ≡ [] = task_at-running path (skip_done ∷ []) (runs (frame ∷ r.below)) r.there in
-        let here : Some (runs (skip_done ∷ [])) ≡ Some (runs (frame ∷ r.below)) = subst (λ z. task_at z (skip_ended_with heap).tasks ≡ Some (runs (frame ∷ r.below))) top r.there in
+        let here : Some (runs (skip_done ∷ [])) ≡ Some (runs (frame ∷ r.below)) =
+        subst (λ z. task_at z (skip_ended_with heap).tasks ≡ Some (runs (frame ∷ r.below))) top r.there in
         let same : [] ≡ r.below = cc in
         subst (λ z. IsCalled [] z) (sym same) (subst (λ z. IsCalled z r.below) top r.called)
 
@@ -188,16 +241,26 @@ skip_ended-one : (heap : Heap) → Good guarded (skip_ended_with heap) → (k : 
 skip_ended-one heap g =
     let end = g.finished refl in
     let frame : skip_done ≡ end.frame = cc (end.alone) in
-    let there : Some skip ≡ Some end.procedure = subst (λ (z : Frame). procedure_at guarded z.fixed.procedure ≡ Some end.procedure) (sym frame) end.there in
+    let there : Some skip ≡ Some end.procedure =
+    subst (λ (z : Frame). procedure_at guarded z.fixed.procedure ≡ Some end.procedure) (sym frame)
+    end.there in
     let procedure : end.procedure ≡ skip = cc in
     let post : Foot emp.level (evaluate end.frame.fixed.slots (shared_in (loc 1))) heap (g.part (task [])) =
-    subst (λ (z : Procedure). Foot z.post.level (evaluate end.frame.fixed.slots (shared_in (loc 1))) heap (g.part (task []))) procedure end.post in
-    let one = foot-one shared_one (evaluate entry_slot (shared_in (loc 1))) heap (g.part (resource lock)) 1 refl (g.invariants lock guarding refl refl) in
-    (one.0, one-whole heap (g.part (resource lock)) 1 one.0 one.1 one.2 (λ b l e. owned b l post.sat.2 (end.all b l e)))
+    subst (λ (z : Procedure). Foot z.post.level (evaluate end.frame.fixed.slots (shared_in (loc 1))) heap
+    (g.part (task []))) procedure end.post in
+    let one = foot-one shared_one (evaluate entry_slot (shared_in (loc 1))) heap (g.part (resource lock)) 1
+    refl (g.invariants lock guarding refl refl) in (
+      one.0,
+      one-whole heap (g.part (resource lock)) 1 one.0 one.1 one.2
+          (λ b l e. owned b l post.sat.2 (end.all b l e)),
+    )
   where
-    owned : (b : ℕ) (l : Cell) → IsEmpty (g.part (task [])) → IsOwned guarded g.part b l → g.part (resource lock) b ≡ Some l
+    owned : (b : ℕ) (l : Cell) → IsEmpty (g.part (task [])) → IsOwned guarded g.part b l
+        → g.part (resource lock) b ≡ Some l
     owned b l n (inl e) = absurd (none-some l (sym (n.none b) ∙ e))
-    owned b l n (inr e) = let at : e.0 ≡ lock = resource-is e.0 lock (get-single guarding e.1 e.0.0 e.2).0 in subst (λ z. g.part (resource z) b ≡ Some l) at e.3
+    owned b l n (inr e) = let at : e.0 ≡ lock =
+        resource-is e.0 lock (get-single guarding e.1 e.0.0 e.2).0 in
+        subst (λ z. g.part (resource z) b ≡ Some l) at e.3
 
 -- an ended entry beside a resource is good exactly with the invariant's cell alone
 pub ended_is_good_with_the_invariant_alone : EndedIsGoodWithTheInvariantAlone

@@ -1,5 +1,5 @@
--- The worked instances of two tasks side by side: what races and what doesn't.
--- Names: `WHAT-holds` proves the statement of that name, `side-WHAT` speaks of two tasks side by side.
+-- The examples of two tasks side by side: what races and what doesn't.
+-- Names: each example has the name of its function; `side-WHAT` speaks of two tasks side by side.
 use Rattle.std.specs.Prelude.{◌≡◌, ◌≢◌, ℕ, List, [], ◌∷◌, Option, Some, None, ◌⊎◌}
 use Rattle.std.proofs.Common.{sym, ap, ◌∙◌, refl, subst, inl, inr, arith}
 use Rattle.std.proofs.lemmas.Option.{none-some}
@@ -14,8 +14,10 @@ use Rattle.sf_core.specs.Machine.Examples.{lock, own_one, one_at, child_slots, c
 use Rattle.sf_core.proofs.Machine.Tasks.{MayGo, enabled-may_go}
 
 -- the tasks of such a configuration that may go on
-side-tasks : (this that : List Item) (s : Common) (path : Path) (one : Task) → task_at path (side_by_side this that s).tasks ≡ Some one → MayGo one
-    → ((path ≡ left ∷ []) × (runs (record { fixed = child 0; todo = this } ∷ []) ≡ one)) ⊎ ((path ≡ right ∷ []) × (runs (record { fixed = child 2; todo = that } ∷ []) ≡ one))
+side-tasks : (this that : List Item) (s : Common) (path : Path) (one : Task)
+    → task_at path (side_by_side this that s).tasks ≡ Some one → MayGo one
+    → ((path ≡ left ∷ []) × (runs (record { fixed = child 0; todo = this } ∷ []) ≡ one))
+    ⊎ ((path ≡ right ∷ []) × (runs (record { fixed = child 2; todo = that } ∷ []) ≡ one))
 side-tasks this that s [] one e m =
     let same : (side_by_side this that s).tasks ≡ one = cc in
     let both : ⊥ × ⊥ = subst MayGo (sym same) m in
@@ -28,48 +30,64 @@ side-tasks this that s (right ∷ left ∷ path) one e m = absurd (cc)
 side-tasks this that s (right ∷ right ∷ path) one e m = absurd (cc)
 
 -- the enabled ones
-side-enabled : (this that : List Item) (s : Common) (path : Path) (one : Task) → IsEnabled (side_by_side this that s) path one
-    → ((path ≡ left ∷ []) × (runs (record { fixed = child 0; todo = this } ∷ []) ≡ one)) ⊎ ((path ≡ right ∷ []) × (runs (record { fixed = child 2; todo = that } ∷ []) ≡ one))
-side-enabled this that s path one e = side-tasks this that s path one e.there (enabled-may_go (side_by_side this that s) path one e)
+side-enabled : (this that : List Item) (s : Common) (path : Path) (one : Task)
+    → IsEnabled (side_by_side this that s) path one
+    → ((path ≡ left ∷ []) × (runs (record { fixed = child 0; todo = this } ∷ []) ≡ one))
+    ⊎ ((path ≡ right ∷ []) × (runs (record { fixed = child 2; todo = that } ∷ []) ≡ one))
+side-enabled this that s path one e =
+    side-tasks this that s path one e.there (enabled-may_go (side_by_side this that s) path one e)
 
 -- a frame with that to do, its slots from that index on, doesn't touch an absent cell
 abbrev Finds : ℕ → List Item → Common → Type 0
-Finds first todo s = (root : Expr) → next_root todo ≡ Some root → IsAbsent s.heap (evaluate (child_slots first) s.store root) → ⊥
+Finds first todo s = (root : Expr) → next_root todo ≡ Some root
+    → IsAbsent s.heap (evaluate (child_slots first) s.store root) → ⊥
 
 -- what the one writes the other neither reads nor writes
 abbrev Minds : (first : ℕ) (todo : List Item) (other : ℕ) (others : List Item) → Common → Type 0
-Minds first todo other others s = (thing : Thing) → FrameWrites (child first) s.store todo thing → FrameReads (child_slots other) s.store others thing ⊎ FrameWrites (child other) s.store others thing → ⊥
+Minds first todo other others s =
+    (thing : Thing) → FrameWrites (child first) s.store todo thing
+    → FrameReads (child_slots other) s.store others thing ⊎ FrameWrites (child other) s.store others thing → ⊥
 
 -- a frame that finds its cells touches no absent one
-finds-touches : (first : ℕ) (todo : List Item) (s : Common) (frame : Frame) (below : List Frame) (root : Expr) → Finds first todo s → runs (record { fixed = child first; todo = todo } ∷ []) ≡ runs (frame ∷ below)
+finds-touches : (first : ℕ) (todo : List Item) (s : Common) (frame : Frame) (below : List Frame) (root : Expr)
+    → Finds first todo s → runs (record { fixed = child first; todo = todo } ∷ []) ≡ runs (frame ∷ below)
     → next_root frame.todo ≡ Some root → IsAbsent s.heap (evaluate frame.fixed.slots s.store root) → ⊥
 finds-touches first todo s frame below root f e t a =
     let same : record { fixed = child first; todo = todo } ≡ frame = cc in
-    f root (ap (λ (z : Frame). next_root z.todo) same ∙ t) (subst (λ (z : Frame). IsAbsent s.heap (evaluate z.fixed.slots s.store root)) (sym same) a)
+    f root (ap (λ (z : Frame). next_root z.todo) same ∙ t)
+    (subst (λ (z : Frame). IsAbsent s.heap (evaluate z.fixed.slots s.store root)) (sym same) a)
 
 -- two tasks side by side aren't bad where both find their cells and neither minds the other
-side-good : (this that : List Item) (s : Common) → Finds 0 this s → Finds 2 that s → Minds 0 this 2 that s → Minds 2 that 0 this s → Bad (side_by_side this that s) → ⊥
-side-good this that s f g m n (inl b) = elim (side-enabled this that s b.path (runs (b.frame ∷ b.below)) b.enabled) [
-  | inl k ↦ finds-touches 0 this s b.frame b.below b.root f k.1 b.touches b.absent
-  | inr k ↦ finds-touches 2 that s b.frame b.below b.root g k.1 b.touches b.absent
-]
+side-good : (this that : List Item) (s : Common) → Finds 0 this s → Finds 2 that s → Minds 0 this 2 that s
+    → Minds 2 that 0 this s → Bad (side_by_side this that s) → ⊥
+side-good this that s f g m n (inl b) =
+    elim (side-enabled this that s b.path (runs (b.frame ∷ b.below)) b.enabled) [
+      | inl k ↦ finds-touches 0 this s b.frame b.below b.root f k.1 b.touches b.absent
+      | inr k ↦ finds-touches 2 that s b.frame b.below b.root g k.1 b.touches b.absent
+    ]
 side-good this that s f g m n (inr r) = elim (side-enabled this that s r.path r.task r.enabled) [
   | inl a ↦ elim (side-enabled this that s r.other_path r.other r.other_enabled) [
     | inl b ↦ r.different (a.0 ∙ sym b.0)
-    | inr b ↦ m r.thing (subst (λ z. Writes s.store z r.thing) (sym a.1) r.writes) (subst (λ z. Reads s.store z r.thing ⊎ Writes s.store z r.thing) (sym b.1) r.meets)
+    | inr b ↦ m r.thing (subst (λ z. Writes s.store z r.thing) (sym a.1) r.writes)
+        (subst (λ z. Reads s.store z r.thing ⊎ Writes s.store z r.thing) (sym b.1) r.meets)
   ]
   | inr a ↦ elim (side-enabled this that s r.other_path r.other r.other_enabled) [
-    | inl b ↦ n r.thing (subst (λ z. Writes s.store z r.thing) (sym a.1) r.writes) (subst (λ z. Reads s.store z r.thing ⊎ Writes s.store z r.thing) (sym b.1) r.meets)
+    | inl b ↦ n r.thing (subst (λ z. Writes s.store z r.thing) (sym a.1) r.writes)
+        (subst (λ z. Reads s.store z r.thing ⊎ Writes s.store z r.thing) (sym b.1) r.meets)
     | inr b ↦ r.different (a.0 ∙ sym b.0)
   ]
 ]
 
 -- nor where the one at the left finds its cells and the other isn't enabled
-side-waits : (this that : List Item) (s : Common) → Finds 0 this s → ((task : Task) → IsEnabled (side_by_side this that s) (right ∷ []) task → ⊥) → Bad (side_by_side this that s) → ⊥
-side-waits this that s f n (inl b) = elim (side-enabled this that s b.path (runs (b.frame ∷ b.below)) b.enabled) [
-  | inl k ↦ finds-touches 0 this s b.frame b.below b.root f k.1 b.touches b.absent
-  | inr k ↦ n (runs (b.frame ∷ b.below)) (subst (λ z. IsEnabled (side_by_side this that s) z (runs (b.frame ∷ b.below))) k.0 b.enabled)
-]
+side-waits : (this that : List Item) (s : Common) → Finds 0 this s
+    → ((task : Task) → IsEnabled (side_by_side this that s) (right ∷ []) task → ⊥)
+    → Bad (side_by_side this that s) → ⊥
+side-waits this that s f n (inl b) =
+    elim (side-enabled this that s b.path (runs (b.frame ∷ b.below)) b.enabled) [
+      | inl k ↦ finds-touches 0 this s b.frame b.below b.root f k.1 b.touches b.absent
+      | inr k ↦ n (runs (b.frame ∷ b.below))
+          (subst (λ z. IsEnabled (side_by_side this that s) z (runs (b.frame ∷ b.below))) k.0 b.enabled)
+    ]
 side-waits this that s f n (inr r) = elim (side-enabled this that s r.path r.task r.enabled) [
   | inr a ↦ n r.task (subst (λ z. IsEnabled (side_by_side this that s) z r.task) a.0 r.enabled)
   | inl a ↦ elim (side-enabled this that s r.other_path r.other r.other_enabled) [
@@ -79,88 +97,104 @@ side-waits this that s f n (inr r) = elim (side-enabled this that s r.path r.tas
 ]
 
 -- the one at the right isn't enabled where its resource is held
-right-waits : (this : List Item) (i : Item) (rest : List Item) (s : Common) → IsShut s.held (i ∷ rest) → (task : Task) → IsEnabled (side_by_side this (i ∷ rest) s) (right ∷ []) task → ⊥
+right-waits : (this : List Item) (i : Item) (rest : List Item) (s : Common) → IsShut s.held (i ∷ rest)
+    → (task : Task) → IsEnabled (side_by_side this (i ∷ rest) s) (right ∷ []) task → ⊥
 right-waits this i rest s shut one e =
     let same : runs (record { fixed = child 2; todo = i ∷ rest } ∷ []) ≡ one = cc (e.there) in
     e.free (subst (IsBlocked s.held) same shut)
 
 -- the one at the left is enabled where it has something to do, and that is no region whose resource is held
 left-enabled : (i : Item) (rest that : List Item) (s : Common) → (IsShut s.held (i ∷ rest) → ⊥)
-    → IsEnabled (side_by_side (i ∷ rest) that s) (left ∷ []) (runs (record { fixed = child 0; todo = i ∷ rest } ∷ []))
+    → IsEnabled (side_by_side (i ∷ rest) that s) (left ∷ [])
+    (runs (record { fixed = child 0; todo = i ∷ rest } ∷ []))
 left-enabled i rest that s n = record { there = refl; going = λ h. h; free = n }
 
 right-enabled : (this : List Item) (i : Item) (rest : List Item) (s : Common) → (IsShut s.held (i ∷ rest) → ⊥)
-    → IsEnabled (side_by_side this (i ∷ rest) s) (right ∷ []) (runs (record { fixed = child 2; todo = i ∷ rest } ∷ []))
+    → IsEnabled (side_by_side this (i ∷ rest) s) (right ∷ [])
+    (runs (record { fixed = child 2; todo = i ∷ rest } ∷ []))
 right-enabled this i rest s n = record { there = refl; going = λ h. h; free = n }
 
 turns-differ : left ∷ [] ≡ right ∷ [] → ⊥
 turns-differ e = absurd (cc)
 
+-- two enabled tasks race where the one at the left writes what the other reads or writes
+left-races : (i j : Item) (rest others : List Item) (s : Common)
+    → (IsShut s.held (i ∷ rest) → ⊥) → (IsShut s.held (j ∷ others) → ⊥)
+    → (thing : Thing) → FrameWrites (child 0) s.store (i ∷ rest) thing
+    → FrameReads (child_slots 2) s.store (j ∷ others) thing ⊎ FrameWrites (child 2) s.store (j ∷ others) thing
+    → Bad (side_by_side (i ∷ rest) (j ∷ others) s)
+left-races i j rest others s m n thing w r = inr (record {
+  path = left ∷ [];
+  task = _;
+  enabled = left-enabled i rest (j ∷ others) s m;
+  other_path = right ∷ [];
+  other = _;
+  other_enabled = right-enabled (i ∷ rest) j others s n;
+  different = turns-differ;
+  thing = thing;
+  writes = w;
+  meets = r;
+})
+
+-- so do they where the one at the right writes it
+right-races : (i j : Item) (rest others : List Item) (s : Common)
+    → (IsShut s.held (i ∷ rest) → ⊥) → (IsShut s.held (j ∷ others) → ⊥)
+    → (thing : Thing) → FrameWrites (child 2) s.store (j ∷ others) thing
+    → FrameReads (child_slots 0) s.store (i ∷ rest) thing ⊎ FrameWrites (child 0) s.store (i ∷ rest) thing
+    → Bad (side_by_side (i ∷ rest) (j ∷ others) s)
+right-races i j rest others s m n thing w r = inr (record {
+  path = right ∷ [];
+  task = _;
+  enabled = right-enabled (i ∷ rest) j others s n;
+  other_path = left ∷ [];
+  other = _;
+  other_enabled = left-enabled i rest (j ∷ others) s m;
+  different = λ e. turns-differ (sym e);
+  thing = thing;
+  writes = w;
+  meets = r;
+})
+
 -- both write the cell
 pub two_mutations_race : TwoMutationsRace
 unfolding TwoMutationsRace
-two_mutations_race k = inr (record {
-  path = left ∷ [];
-  task = _;
-  enabled = left-enabled _ [] mutates (at_one_cell k None) (λ h. h);
-  other_path = right ∷ [];
-  other = _;
-  other_enabled = right-enabled mutates _ [] (at_one_cell k None) (λ h. h);
-  different = turns-differ;
-  thing = cell 1;
-  writes = refl;
-  meets = inr refl;
-})
+two_mutations_race k = left-races _ _ [] [] (at_one_cell k None) (λ h. h) (λ h. h) (cell 1) refl (inr refl)
 
 -- the one writes the cell that the other reads
 pub mutation_and_look_up_race : MutationAndLookUpRace
 unfolding MutationAndLookUpRace
 mutation_and_look_up_race k = (
-  inr (record {
-    path = left ∷ [];
-    task = _;
-    enabled = left-enabled _ [] looks_up (at_one_cell k None) (λ h. h);
-    other_path = right ∷ [];
-    other = _;
-    other_enabled = right-enabled mutates _ [] (at_one_cell k None) (λ h. h);
-    different = turns-differ;
-    thing = cell 1;
-    writes = refl;
-    meets = inl (inr refl);
-  }),
-  inr (record {
-    path = right ∷ [];
-    task = _;
-    enabled = right-enabled looks_up _ [] (at_one_cell k None) (λ h. h);
-    other_path = left ∷ [];
-    other = _;
-    other_enabled = left-enabled _ [] mutates (at_one_cell k None) (λ h. h);
-    different = λ e. turns-differ (sym e);
-    thing = cell 1;
-    writes = refl;
-    meets = inl (inr refl);
-  }),
+  left-races _ _ [] [] (at_one_cell k None) (λ h. h) (λ h. h) (cell 1) refl (inl (inr refl)),
+  right-races _ _ [] [] (at_one_cell k None) (λ h. h) (λ h. h) (cell 1) refl (inl (inr refl)),
 )
 
 -- the first variable of each child is the location of the cell, which is there
-finds-cell : (k : Cell) (holder : Option Path) (root : Expr) → Some (own_one 0) ≡ Some root → IsAbsent (one_at k) (evaluate (child_slots 0) (at_one_cell k holder).store root) → ⊥
+finds-cell : (k : Cell) (holder : Option Path) (root : Expr) → Some (own_one 0) ≡ Some root
+    → IsAbsent (one_at k) (evaluate (child_slots 0) (at_one_cell k holder).store root) → ⊥
 finds-cell k holder root e a =
     let same : own_one 0 ≡ root = cc in
-    let here : IsAbsent (one_at k) (evaluate (child_slots 0) (at_one_cell k holder).store (own_one 0)) = subst (λ z. IsAbsent (one_at k) (evaluate (child_slots 0) (at_one_cell k holder).store z)) (sym same) a in
+    let here : IsAbsent (one_at k) (evaluate (child_slots 0) (at_one_cell k holder).store (own_one 0)) =
+    subst (λ z. IsAbsent (one_at k) (evaluate (child_slots 0) (at_one_cell k holder).store z)) (sym same)
+    a in
     some-none k here
 
-finds-cell_too : (k : Cell) (holder : Option Path) (root : Expr) → Some (own_one 0) ≡ Some root → IsAbsent (one_at k) (evaluate (child_slots 2) (at_one_cell k holder).store root) → ⊥
+finds-cell_too : (k : Cell) (holder : Option Path) (root : Expr) → Some (own_one 0) ≡ Some root
+    → IsAbsent (one_at k) (evaluate (child_slots 2) (at_one_cell k holder).store root) → ⊥
 finds-cell_too k holder root e a =
     let same : own_one 0 ≡ root = cc in
-    let here : IsAbsent (one_at k) (evaluate (child_slots 2) (at_one_cell k holder).store (own_one 0)) = subst (λ z. IsAbsent (one_at k) (evaluate (child_slots 2) (at_one_cell k holder).store z)) (sym same) a in
+    let here : IsAbsent (one_at k) (evaluate (child_slots 2) (at_one_cell k holder).store (own_one 0)) =
+    subst (λ z. IsAbsent (one_at k) (evaluate (child_slots 2) (at_one_cell k holder).store z)) (sym same)
+    a in
     some-none k here
 
 -- things of different kinds, or slots of different indices, differ
-things-differ : (thing : Thing) (i j : ℕ) → thing ≡ variable (own 1 i) → (thing ≡ variable (own 1 j)) ⊎ (thing ≡ cell 1) → i ≢ j → ⊥
+things-differ : (thing : Thing) (i j : ℕ) → thing ≡ variable (own 1 i)
+    → (thing ≡ variable (own 1 j)) ⊎ (thing ≡ cell 1) → i ≢ j → ⊥
 things-differ thing i j e (inl f) n = n (cc)
 things-differ thing i j e (inr f) n = absurd (cc)
 
-look_ups-mind : (thing : Thing) (i j k : ℕ) → thing ≡ variable (own 1 i) → ((thing ≡ variable (own 1 j)) ⊎ (thing ≡ cell 1)) ⊎ (thing ≡ variable (own 1 k)) → i ≢ j → i ≢ k → ⊥
+look_ups-mind : (thing : Thing) (i j k : ℕ) → thing ≡ variable (own 1 i)
+    → ((thing ≡ variable (own 1 j)) ⊎ (thing ≡ cell 1)) ⊎ (thing ≡ variable (own 1 k)) → i ≢ j → i ≢ k → ⊥
 look_ups-mind thing i j k e (inl f) n m = things-differ thing i j e f n
 look_ups-mind thing i j k e (inr f) n m = things-differ thing i k e (inl f) m
 
@@ -176,7 +210,8 @@ two_look_ups_do_not_race k =
 pub two_entries_do_not_race : TwoEntriesDoNotRace
 unfolding TwoEntriesDoNotRace
 two_entries_do_not_race k =
-    side-good enters enters (at_one_cell k None) (λ root e a. none-some root e) (λ root e a. none-some root e) (λ thing w m. w) (λ thing w m. w)
+    side-good enters enters (at_one_cell k None) (λ root e a. none-some root e) (λ root e a. none-some root e)
+    (λ thing w m. w) (λ thing w m. w)
 
 nothing-met : ⊥ ⊎ ⊥ → ⊥
 nothing-met (inl x) = x
@@ -186,49 +221,33 @@ nothing-met (inr x) = x
 pub held_regions_wait : HeldRegionsWait
 unfolding HeldRegionsWait
 held_regions_wait k =
-    let waiting = right-waits mutates _ [] (at_one_cell k (Some (left ∷ []))) (some-none (left ∷ [])) in
-    (waiting, side-waits mutates enters (at_one_cell k (Some (left ∷ []))) (finds-cell k (Some (left ∷ []))) waiting)
+    let waiting = right-waits mutates _ [] (at_one_cell k (Some (left ∷ []))) (some-none (left ∷ [])) in (
+      waiting,
+      side-waits mutates enters (at_one_cell k (Some (left ∷ []))) (finds-cell k (Some (left ∷ [])))
+          waiting,
+    )
 
 -- the one writes the variable that the other reads
 pub assignment_and_test_race : AssignmentAndTestRace
 unfolding AssignmentAndTestRace
-assignment_and_test_race s = inr (record {
-  path = left ∷ [];
-  task = _;
-  enabled = left-enabled _ [] tests_shared s (λ h. h);
-  other_path = right ∷ [];
-  other = _;
-  other_enabled = right-enabled sets_shared _ [] s (λ h. h);
-  different = turns-differ;
-  thing = variable (shared lock 0);
-  writes = refl;
-  meets = inl (inl refl);
-})
+assignment_and_test_race s =
+    left-races _ _ [] [] s (λ h. h) (λ h. h) (variable (shared lock 0)) refl (inl (inl refl))
 
 -- the one writes what the condition reads, but a region of a held resource waits
 pub assignment_and_condition_race : AssignmentAndConditionRace
 unfolding AssignmentAndConditionRace
 assignment_and_condition_race s = (
-  λ free. inr (record {
-    path = left ∷ [];
-    task = _;
-    enabled = left-enabled _ [] enters_by_shared s (λ h. h);
-    other_path = right ∷ [];
-    other = _;
-    other_enabled = right-enabled sets_shared _ [] s (λ h. h free);
-    different = turns-differ;
-    thing = variable (shared lock 0);
-    writes = refl;
-    meets = inl (inl refl);
-  }),
-  λ path held. side-waits sets_shared enters_by_shared s (λ root e a. none-some root e) (right-waits sets_shared _ [] s (λ free. some-none path (sym held ∙ free))),
+  λ free. left-races _ _ [] [] s (λ h. h) (λ h. h free) (variable (shared lock 0)) refl (inl (inl refl)),
+  λ path held. side-waits sets_shared enters_by_shared s (λ root e a. none-some root e)
+      (right-waits sets_shared _ [] s (λ free. some-none path (sym held ∙ free))),
 )
 
 -- a call doesn't read a reference
 pub assignment_and_reference_do_not_race : AssignmentAndReferenceDoNotRace
 unfolding AssignmentAndReferenceDoNotRace
 assignment_and_reference_do_not_race s =
-    side-good sets_shared passes_shared s (λ root e a. none-some root e) (λ root e a. none-some root e) (λ thing w m. nothing-met m) (λ thing w m. w)
+    side-good sets_shared passes_shared s (λ root e a. none-some root e) (λ root e a. none-some root e)
+    (λ thing w m. nothing-met m) (λ thing w m. w)
 
 -- the cell of a `new` isn't one that is there
 pub new_and_look_up_do_not_race : NewAndLookUpDoNotRace
@@ -238,6 +257,7 @@ new_and_look_up_do_not_race k =
     (λ thing w m. look_ups-mind thing 0 2 3 w m (omega arith) (omega arith))
     (λ thing w m. new-minds thing 3 0 w m (omega arith))
   where
-    new-minds : (thing : Thing) (i j : ℕ) → thing ≡ variable (own 1 i) → ⊥ ⊎ (thing ≡ variable (own 1 j)) → i ≢ j → ⊥
+    new-minds : (thing : Thing) (i j : ℕ) → thing ≡ variable (own 1 i) → ⊥ ⊎ (thing ≡ variable (own 1 j))
+        → i ≢ j → ⊥
     new-minds thing i j e (inl f) n = f
     new-minds thing i j e (inr f) n = things-differ thing i j e (inl f) n

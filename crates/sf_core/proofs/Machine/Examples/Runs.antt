@@ -1,10 +1,11 @@
--- The worked instances of the machine: their runs, starts and what is bad in them or not.
--- Names: `WHAT-holds` proves the statement of that name, `side-WHAT` speaks of two tasks side by side, `ended-WHAT` of an ended entry.
-use Rattle.std.specs.Prelude.{◌≡◌, ◌≢◌, ℕ, ◌==◌, ◌&&◌, pos, Bool, true, false, cond, List, [], ◌∷◌, Some, None, ◌⊎◌, ◌<◌}
-use Rattle.std.specs.List.{slice_get}
+-- The examples of runs, and of a start without resources.
+-- Names: each example has the name of its function; `ended-WHAT` speaks of an ended entry, `one-WHAT` of a cell.
+use Rattle.std.specs.Prelude.{◌≡◌, ◌≢◌, ℕ, ◌==◌, ◌&&◌, pos, Bool, true, false, cond, nat_lt, List, [], ◌∷◌, Some, None, ◌⊎◌, ◌<◌}
+use Rattle.std.specs.List.{list_all, slice_get}
 use Rattle.std.specs.Option.{unwrap_or}
 use Rattle.std.proofs.Common.{sym, ap, ap₂, ◌∙◌, refl, subst, inl, inr, arith}
 use Rattle.std.proofs.lemmas.Bool.{and_parts}
+use Rattle.std.proofs.lemmas.Bool.Decides.{nat_tests}
 use Rattle.std.proofs.lemmas.Option.{none-some}
 use Rattle.sf_base.proofs.Options.{cond-some}
 use Rattle.sf_base.specs.declared.ids.ResId.{ResId}
@@ -35,26 +36,28 @@ use Rattle.sf_core.proofs.Machine.Tasks.{task_at-ended}
 
 -- Steps of known configurations
 -- a number above all used ones is new
-number-new : (n m : ℕ) (used : List ℕ) → m < n → (IsUsed used n → ⊥) → IsUsed (m ∷ used) n → ⊥
-number-new n m used l f (inl e) = absurd (omega arith)
-number-new n m used l f (inr u) = f u
+number-new : (n : ℕ) (used : List ℕ) → list_all (λ m. nat_lt m n) used ≡ true → IsUsed used n → ⊥
+number-new n [] l u = u
+number-new n (m ∷ used) l (inl e) =
+    let below : nat_lt m n ≡ true = (and_parts (nat_lt m n) (list_all (λ k. nat_lt k n) used) l).0 in
+    absurd (grind (arith, nat_tests))
+number-new n (m ∷ used) l (inr u) =
+    number-new n used (and_parts (nat_lt m n) (list_all (λ k. nat_lt k n) used) l).1 u
 
 -- the step that an event of a task makes, with the configuration that it leads to
-to : (p : Program) (ev : Event) (c : Config) (t : Common) (from u : Task) → (IsUsed c.used ev.number → ⊥) → task_at ev.task c.tasks ≡ Some from → TaskStep p ev c.common from t u
+to : (p : Program) (ev : Event) (c : Config) (t : Common) (from u : Task)
+    → list_all (λ m. nat_lt m ev.number) c.used ≡ true
+    → task_at ev.task c.tasks ≡ Some from → TaskStep p ev c.common from t u
     → Step p ev c (record { common = t; used = ev.number ∷ c.used; tasks = put_task ev.task u c.tasks })
-to p ev c t from u f e s = record { fresh = f; used = refl; from = from; to = u; there = e; steps = s; tasks = refl }
-
-one-new : IsUsed (0 ∷ []) 1 → ⊥
-one-new = number-new 1 0 [] (omega arith) (λ u. u)
-
-two-new : IsUsed (1 ∷ 0 ∷ []) 2 → ⊥
-two-new = number-new 2 1 (0 ∷ []) (omega arith) (number-new 2 0 [] (omega arith) (λ u. u))
-
-three-new : IsUsed (2 ∷ 1 ∷ 0 ∷ []) 3 → ⊥
-three-new = number-new 3 2 (1 ∷ 0 ∷ []) (omega arith) (number-new 3 1 (0 ∷ []) (omega arith) (number-new 3 0 [] (omega arith) (λ u. u)))
-
-four-new : IsUsed (3 ∷ 2 ∷ 1 ∷ 0 ∷ []) 4 → ⊥
-four-new = number-new 4 3 (2 ∷ 1 ∷ 0 ∷ []) (omega arith) (number-new 4 2 (1 ∷ 0 ∷ []) (omega arith) (number-new 4 1 (0 ∷ []) (omega arith) (number-new 4 0 [] (omega arith) (λ u. u))))
+to p ev c t from u f e s = record {
+  fresh = number-new ev.number c.used f;
+  used = refl;
+  from = from;
+  to = u;
+  there = e;
+  steps = s;
+  tasks = refl;
+}
 
 -- a dispose at nil is bad
 pub dispose_at_nil_is_bad : DisposeAtNilIsBad
@@ -76,11 +79,11 @@ freed_locations_come_again p s n = (
   _,
   (
     _,
-    to p (makes 1) (alone makes_twice s) _ _ _ one-new refl (fives, n, refl, refl),
+    to p (makes 1) (alone makes_twice s) _ _ _ refl refl (fives, n, refl, refl),
     (
       _,
-      to p (event [] 2) _ _ _ _ two-new refl (5, λ f. nil, record { is = refl; there = refl }, refl, refl),
-      (_, to p (makes 3) _ _ _ _ three-new refl (fives, refl, refl, refl), refl),
+      to p (event [] 2) _ _ _ _ refl refl (5, λ f. nil, record { is = refl; there = refl }, refl, refl),
+      (_, to p (makes 3) _ _ _ _ refl refl (fives, refl, refl, refl), refl),
     ),
   ),
   refl,
@@ -102,14 +105,14 @@ children_end_in_any_order = (
     _,
     (
       _,
-      to forking (event [] 1) forking_start _ _ _ one-new refl (forks-deep, skip, skip, refl, refl, refl, refl),
+      to forking (event [] 1) forking_start _ _ _ refl refl (forks-deep, skip, skip, refl, refl, refl, refl),
       (
         _,
-        to forking (event (left ∷ []) 2) _ _ _ _ two-new refl (tt, refl, refl),
+        to forking (event (left ∷ []) 2) _ _ _ _ refl refl (tt, refl, refl),
         (
           _,
-          to forking (event (right ∷ []) 3) _ _ _ _ three-new refl (tt, refl, refl),
-          (_, to forking (event [] 4) _ _ _ _ four-new refl (tt, tt, refl, refl), refl),
+          to forking (event (right ∷ []) 3) _ _ _ _ refl refl (tt, refl, refl),
+          (_, to forking (event [] 4) _ _ _ _ refl refl (tt, tt, refl, refl), refl),
         ),
       ),
     ),
@@ -119,14 +122,14 @@ children_end_in_any_order = (
     _,
     (
       _,
-      to forking (event [] 1) forking_start _ _ _ one-new refl (forks-deep, skip, skip, refl, refl, refl, refl),
+      to forking (event [] 1) forking_start _ _ _ refl refl (forks-deep, skip, skip, refl, refl, refl, refl),
       (
         _,
-        to forking (event (right ∷ []) 2) _ _ _ _ two-new refl (tt, refl, refl),
+        to forking (event (right ∷ []) 2) _ _ _ _ refl refl (tt, refl, refl),
         (
           _,
-          to forking (event (left ∷ []) 3) _ _ _ _ three-new refl (tt, refl, refl),
-          (_, to forking (event [] 4) _ _ _ _ four-new refl (tt, tt, refl, refl), refl),
+          to forking (event (left ∷ []) 3) _ _ _ _ refl refl (tt, refl, refl),
+          (_, to forking (event [] 4) _ _ _ _ refl refl (tt, tt, refl, refl), refl),
         ),
       ),
     ),
@@ -140,15 +143,23 @@ pub all-nothing : (whole : Heap) → Splits whole whole (λ a. None)
 all-nothing whole = splits-empty_right (record { none = λ a. refl })
 
 -- a heap of one cell where the expression says satisfies the assertion of that cell
-pub one-sat : (x : Expr) (see : Expr → Value) (heap : Heap) (location : ℕ) (k : Cell) → see x ≡ loc location → IsOne location k heap → Sat (one_cell_at x).level see (λ n. nil) heap
+pub one-sat : (x : Expr) (see : Expr → Value) (heap : Heap) (location : ℕ) (k : Cell) → see x ≡ loc location
+    → IsOne location k heap → Sat (one_cell_at x).level see (λ n. nil) heap
 one-sat x see heap location k e o = (
   λ n. nil,
   λ n h. refl,
-  record { left = heap; right = λ a. None; splits = all-nothing heap; first = (location, k, e, o, tt); second = record { none = λ a. refl } },
+  record {
+    left = heap;
+    right = λ a. None;
+    splits = all-nothing heap;
+    first = (location, k, e, o, tt);
+    second = record { none = λ a. refl };
+  },
 )
 
 -- and no other heap does
-pub sat-one : (x : Expr) (see : Expr → Value) (heap : Heap) → Sat (one_cell_at x).level see (λ n. nil) heap → (location : ℕ) × (k : Cell) × (see x ≡ loc location) × IsOne location k heap
+pub sat-one : (x : Expr) (see : Expr → Value) (heap : Heap) → Sat (one_cell_at x).level see (λ n. nil) heap
+    → (location : ℕ) × (k : Cell) × (see x ≡ loc location) × IsOne location k heap
 sat-one x see heap d = let e = star-drop_right d.2 in (e.0, e.1, e.2, e.3)
 
 var-differs : (r : ResId) (i : ℕ) → Own 0 ≡ Shared r i → ⊥
@@ -165,10 +176,17 @@ setting_starts k = record {
   kept = kept;
   no_more = no_more;
   locals = λ i l m. absurd (omega (arith, l, m));
-  pre = record { left = one_at k; right = λ a. None; splits = all-nothing (one_at k); first = one-sat (own_one 0) (evaluate entry_slot (one_in (loc 1))) (one_at k) 1 k refl (one-single 1 k); second = record { none = λ a. refl } };
+  pre = record {
+    left = one_at k;
+    right = λ a. None;
+    splits = all-nothing (one_at k);
+    first = one-sat (own_one 0) (evaluate entry_slot (one_in (loc 1))) (one_at k) 1 k refl (one-single 1 k);
+    second = record { none = λ a. refl };
+  };
 }
   where
-    is_first : (x : Var) (at : Occurrence) → at.var ≡ x → (Known (Variable at) ≡ Known (own_one 0)) ⊎ ⊥ → Own 0 ≡ x
+    is_first : (x : Var) (at : Occurrence) → at.var ≡ x → (Known (Variable at) ≡ Known (own_one 0)) ⊎ ⊥
+        → Own 0 ≡ x
     is_first x at e (inl f) = let same : at ≡ at_own 0 = cc in ap (λ (z : Occurrence). z.var) (sym same) ∙ e
     is_first x at e (inr z) = absurd z
 
@@ -179,8 +197,12 @@ setting_starts k = record {
     held r h =
         let same : main ≡ h.procedure = cc (h.there) in
         elim h.occurs [
-          | inl o ↦ var-differs r h.variable (in_contract (Shared r h.variable) (subst (λ (z : Procedure). VarOccursIn z.pre.level (Shared r h.variable)) (sym same) o))
-          | inr o ↦ var-differs r h.variable (in_contract (Shared r h.variable) (subst (λ (z : Procedure). VarOccursIn z.post.level (Shared r h.variable)) (sym same) o))
+          | inl o ↦ var-differs r h.variable
+              (in_contract (Shared r h.variable)
+              (subst (λ (z : Procedure). VarOccursIn z.pre.level (Shared r h.variable)) (sym same) o))
+          | inr o ↦ var-differs r h.variable
+              (in_contract (Shared r h.variable)
+              (subst (λ (z : Procedure). VarOccursIn z.post.level (Shared r h.variable)) (sym same) o))
         ]
 
     kept : (slot : Slot) → IsKept setting main slot → (v : Value) × (one_in (loc 1) slot ≡ Some v)
@@ -205,7 +227,8 @@ entry_part h (task []) = h
 entry_part h (task (turn ∷ path)) = λ a. None
 
 -- these parts are disjoint
-pub entry_part-apart : (h : Heap) (owner other : Owner) → owner ≢ other → (a : ℕ) → Apart (entry_part h owner a) (entry_part h other a)
+pub entry_part-apart : (h : Heap) (owner other : Owner) → owner ≢ other → (a : ℕ)
+    → Apart (entry_part h owner a) (entry_part h other a)
 entry_part-apart h (resource r) other n a = tt
 entry_part-apart h (task []) (resource r) n a = apart-none (h a)
 entry_part-apart h (task []) (task []) n a = absurd (n refl)
@@ -216,14 +239,18 @@ entry_part-apart h (task (turn ∷ path)) other n a = tt
 pub ended-not_bad : (c : Config) → HasEnded [] c.tasks → Bad c → ⊥
 ended-not_bad c h (inl b) =
     let top : b.path ≡ [] = task_at-ended b.path c.tasks (runs (b.frame ∷ b.below)) h b.enabled.there in
-    let there : task_at [] c.tasks ≡ Some (runs (b.frame ∷ b.below)) = subst (λ z. task_at z c.tasks ≡ Some (runs (b.frame ∷ b.below))) top b.enabled.there in
+    let there : task_at [] c.tasks ≡ Some (runs (b.frame ∷ b.below)) =
+    subst (λ z. task_at z c.tasks ≡ Some (runs (b.frame ∷ b.below))) top b.enabled.there in
     let same : c.tasks ≡ runs (b.frame ∷ b.below) = cc in
-    b.enabled.going (subst (λ z. HasEnded z (runs (b.frame ∷ b.below))) (sym top) (subst (HasEnded []) same h))
+    b.enabled.going (subst (λ z. HasEnded z (runs (b.frame ∷ b.below))) (sym top)
+    (subst (HasEnded []) same h))
 ended-not_bad c h (inr r) =
-    r.different (task_at-ended r.path c.tasks r.task h r.enabled.there ∙ sym (task_at-ended r.other_path c.tasks r.other h r.other_enabled.there))
+    r.different (task_at-ended r.path c.tasks r.task h r.enabled.there
+    ∙ sym (task_at-ended r.other_path c.tasks r.other h r.other_enabled.there))
 
 -- an ended entry of a program without resources is good where the heap satisfies its postcondition
-ended-good : (p : Program) (c : Config) (frame : Frame) (g : Procedure) → p.resources ≡ [] → c.tasks ≡ runs (frame ∷ []) → frame.todo ≡ [] → procedure_at p frame.fixed.procedure ≡ Some g
+ended-good : (p : Program) (c : Config) (frame : Frame) (g : Procedure) → p.resources ≡ []
+    → c.tasks ≡ runs (frame ∷ []) → frame.todo ≡ [] → procedure_at p frame.fixed.procedure ≡ Some g
     → Sat g.post.level (evaluate frame.fixed.slots c.common.store) (λ n. nil) c.common.heap → Good p c
 ended-good p c frame g none_there only done is sat = record {
   never_bad = ended-not_bad c ended;
@@ -251,13 +278,17 @@ ended-good p c frame g none_there only done is sat = record {
     no_return : (path : Path) (other : Frame) → Returns c path other → ⊥
     no_return path other r =
         let top : path ≡ [] = task_at-ended path c.tasks (runs (other ∷ r.below)) ended r.there in
-        let there : task_at [] c.tasks ≡ Some (runs (other ∷ r.below)) = subst (λ z. task_at z c.tasks ≡ Some (runs (other ∷ r.below))) top r.there in
+        let there : task_at [] c.tasks ≡ Some (runs (other ∷ r.below)) =
+        subst (λ z. task_at z c.tasks ≡ Some (runs (other ∷ r.below))) top r.there in
         let same : [] ≡ r.below = cc in
         subst (λ z. IsCalled [] z) (sym same) (subst (λ z. IsCalled z r.below) top r.called)
 
 -- `main` at its end with its one cell is good
-pub set-good : (c : Config) (k : Cell) → c.tasks ≡ runs (main_done ∷ []) → c.common.store (own 0 0) ≡ Some (loc 1) → IsOne 1 k c.common.heap → Good setting c
-set-good c k only e o = ended-good setting c main_done main refl only refl refl (one-sat (own_one 0) (evaluate entry_slot c.common.store) c.common.heap 1 k (ap (λ z. unwrap_or z nil) e) o)
+pub set-good : (c : Config) (k : Cell) → c.tasks ≡ runs (main_done ∷ [])
+    → c.common.store (own 0 0) ≡ Some (loc 1) → IsOne 1 k c.common.heap → Good setting c
+set-good c k only e o = ended-good setting c main_done main refl only refl refl
+    (one-sat (own_one 0) (evaluate entry_slot c.common.store) c.common.heap 1 k (ap (λ z. unwrap_or z nil) e)
+    o)
 
 -- the three events, and that their end is good
 pub call_mutate_return : CallMutateReturn
@@ -266,31 +297,24 @@ call_mutate_return k = (
   _,
   (
     _,
-    to setting (event [] 1) (setting_start k) _ _ _ one-new refl (set, refl, refl, refl),
+    to setting (event [] 1) (setting_start k) _ _ _ refl refl (set, refl, refl, refl),
     (
       _,
-      to setting (event [] 2) _ _ _ _ two-new refl (1, k, record { is = refl; there = refl }, refl, refl),
-      (_, to setting (event [] 3) _ _ _ _ three-new refl (tt, refl, refl), refl),
+      to setting (event [] 2) _ _ _ _ refl refl (1, k, record { is = refl; there = refl }, refl, refl),
+      (_, to setting (event [] 3) _ _ _ _ refl refl (tt, refl, refl), refl),
     ),
   ),
   record { cell = refl; gone = refl; stays = refl; ended = refl },
   set-good _ (put_field k 0 (int (pos 7))) refl refl now_one,
 )
   where
-    now_one : IsOne 1 (put_field k 0 (int (pos 7))) (λ a. cond (a == 1) (Some (put_field k 0 (int (pos 7)))) (one_at k a))
+    now_one : IsOne 1 (put_field k 0 (int (pos 7)))
+        (λ a. cond (a == 1) (Some (put_field k 0 (int (pos 7)))) (one_at k a))
     now_one = record {
       here = refl;
-      elsewhere = λ a n. put-elsewhere 1 a (Some (put_field k 0 (int (pos 7)))) (one_at k) n ∙ (one-single 1 k).elsewhere a n;
+      elsewhere = λ a n. put-elsewhere 1 a (Some (put_field k 0 (int (pos 7)))) (one_at k) n
+          ∙ (one-single 1 k).elsewhere a n;
     }
-
-five-new : IsUsed (4 ∷ 3 ∷ 2 ∷ 1 ∷ 0 ∷ []) 5 → ⊥
-five-new = number-new 5 4 (3 ∷ 2 ∷ 1 ∷ 0 ∷ []) (omega arith) (number-new 5 3 (2 ∷ 1 ∷ 0 ∷ []) (omega arith) (number-new 5 2 (1 ∷ 0 ∷ []) (omega arith) (number-new 5 1 (0 ∷ []) (omega arith) (number-new 5 0 [] (omega arith) (λ u. u)))))
-
-six-new : IsUsed (5 ∷ 4 ∷ 3 ∷ 2 ∷ 1 ∷ 0 ∷ []) 6 → ⊥
-six-new =
-    number-new 6 5 (4 ∷ 3 ∷ 2 ∷ 1 ∷ 0 ∷ []) (omega arith)
-    (number-new 6 4 (3 ∷ 2 ∷ 1 ∷ 0 ∷ []) (omega arith)
-    (number-new 6 3 (2 ∷ 1 ∷ 0 ∷ []) (omega arith) (number-new 6 2 (1 ∷ 0 ∷ []) (omega arith) (number-new 6 1 (0 ∷ []) (omega arith) (number-new 6 0 [] (omega arith) (λ u. u))))))
 
 -- the events of the fork and of both children
 pub children_fill_references : ChildrenFillReferences
@@ -298,21 +322,25 @@ unfolding ChildrenFillReferences
 children_fill_references = (
   _,
   _,
-  (_, to filling (event [] 1) filling_start _ _ _ one-new refl (forks-deep, fill, fill, refl, refl, refl, refl), refl),
+  (
+    _,
+    to filling (event [] 1) filling_start _ _ _ refl refl (forks-deep, fill, fill, refl, refl, refl, refl),
+    refl,
+  ),
   record { left_value = refl; left_local = refl; right_value = refl; right_local = refl; no_more = refl },
   (
     _,
-    to filling (event (left ∷ []) 2) _ _ _ _ two-new refl (refl, refl),
+    to filling (event (left ∷ []) 2) _ _ _ _ refl refl (refl, refl),
     (
       _,
-      to filling (event (right ∷ []) 3) _ _ _ _ three-new refl (refl, refl),
+      to filling (event (right ∷ []) 3) _ _ _ _ refl refl (refl, refl),
       (
         _,
-        to filling (event (right ∷ []) 4) _ _ _ _ four-new refl (tt, refl, refl),
+        to filling (event (right ∷ []) 4) _ _ _ _ refl refl (tt, refl, refl),
         (
           _,
-          to filling (event (left ∷ []) 5) _ _ _ _ five-new refl (tt, refl, refl),
-          (_, to filling (event [] 6) _ _ _ _ six-new refl (tt, tt, refl, refl), refl),
+          to filling (event (left ∷ []) 5) _ _ _ _ refl refl (tt, refl, refl),
+          (_, to filling (event [] 6) _ _ _ _ refl refl (tt, tt, refl, refl), refl),
         ),
       ),
     ),
@@ -327,17 +355,17 @@ references_are_passed_on = (
   _,
   (
     _,
-    to passing (event [] 1) passing_start _ _ _ one-new refl (hands_on, refl, refl, refl),
+    to passing (event [] 1) passing_start _ _ _ refl refl (hands_on, refl, refl, refl),
     (
       _,
-      to passing (event [] 2) _ _ _ _ two-new refl (fill, refl, refl, refl),
+      to passing (event [] 2) _ _ _ _ refl refl (fill, refl, refl, refl),
       (
         _,
-        to passing (event [] 3) _ _ _ _ three-new refl (refl, refl),
+        to passing (event [] 3) _ _ _ _ refl refl (refl, refl),
         (
           _,
-          to passing (event [] 4) _ _ _ _ four-new refl (tt, refl, refl),
-          (_, to passing (event [] 5) _ _ _ _ five-new refl (tt, refl, refl), refl),
+          to passing (event [] 4) _ _ _ _ refl refl (tt, refl, refl),
+          (_, to passing (event [] 5) _ _ _ _ refl refl (tt, refl, refl), refl),
         ),
       ),
     ),
@@ -352,21 +380,21 @@ unfolding RegionThenLoop
 region_then_loop p s free = (
   _,
   _,
-  (_, to p (event [] 1) (alone locks_and_loops s) _ _ _ one-new refl (free, tt, refl, refl), refl),
+  (_, to p (event [] 1) (alone locks_and_loops s) _ _ _ refl refl (free, tt, refl, refl), refl),
   refl,
   (
     _,
-    to p (event [] 2) _ _ _ _ two-new refl (refl, refl),
+    to p (event [] 2) _ _ _ _ refl refl (refl, refl),
     (
       _,
-      to p (event [] 3) _ _ _ _ three-new refl (refl, refl, refl),
+      to p (event [] 3) _ _ _ _ refl refl (refl, refl, refl),
       (
         _,
-        to p (event [] 4) _ _ _ _ four-new refl (refl, inl (refl, refl)),
+        to p (event [] 4) _ _ _ _ refl refl (refl, inl (refl, refl)),
         (
           _,
-          to p (event [] 5) _ _ _ _ five-new refl (refl, refl),
-          (_, to p (event [] 6) _ _ _ _ six-new refl (refl, inr (seven-not_nil, refl)), refl),
+          to p (event [] 5) _ _ _ _ refl refl (refl, refl),
+          (_, to p (event [] 6) _ _ _ _ refl refl (refl, inr (seven-not_nil, refl)), refl),
         ),
       ),
     ),

@@ -1,5 +1,5 @@
--- The worked instances of starts with a resource.
--- Names: `WHAT-holds` proves the statement of that name.
+-- The examples of starts with a resource.
+-- Names: each example has the name of its function.
 use Rattle.std.specs.Prelude.{◌≡◌, cond, ◌==◌, ◌&&◌, [], ◌∷◌, length, Some, None, ◌<◌}
 use Rattle.std.specs.List.{slice_get}
 use Rattle.std.proofs.Common.{sym, ap, ap₂, refl, subst, inl, inr, arith}
@@ -24,7 +24,7 @@ use Rattle.sf_core.specs.Assertions.Sat.{Sat}
 use Rattle.sf_core.specs.Machine.Start.{IsKept, Invariants, entry_slot}
 use Rattle.sf_core.specs.Program.Syntax.{Procedure, Resource}
 
--- the variable of the resource stands in its invariant
+-- the variable of the resource occurs in its invariant
 shared-occurs : VarOccursIn (one_cell_at shared_one).level (Shared lock 0)
 shared-occurs = (at_shared, refl, (inl (inl refl), tt))
 
@@ -39,7 +39,9 @@ skip_starts_with_the_invariant k = record {
   kept = kept;
   no_more = no_more;
   locals = λ i l m. absurd (omega (arith, l, m));
-  pre = star-map_left (λ part e. (λ n. nil, λ n h. refl, e)) (star-empty_left (star-empty_right (one-sat shared_one (evaluate entry_slot (shared_in (loc 1))) (one_at k) 1 k refl (one-single 1 k))));
+  pre = star-map_left (λ part e. (λ n. nil, λ n h. refl, e))
+      (star-empty_left (star-empty_right
+      (one-sat shared_one (evaluate entry_slot (shared_in (loc 1))) (one_at k) 1 k refl (one-single 1 k))));
 }
   where
     nothing-occurs : (x : Var) → VarOccursIn emp.level x → ⊥
@@ -49,8 +51,10 @@ skip_starts_with_the_invariant k = record {
     held r h =
         let same : skip ≡ h.procedure = cc (h.there) in
         elim h.occurs [
-          | inl o ↦ nothing-occurs (Shared r h.variable) (subst (λ (z : Procedure). VarOccursIn z.pre.level (Shared r h.variable)) (sym same) o)
-          | inr o ↦ nothing-occurs (Shared r h.variable) (subst (λ (z : Procedure). VarOccursIn z.post.level (Shared r h.variable)) (sym same) o)
+          | inl o ↦ nothing-occurs (Shared r h.variable)
+              (subst (λ (z : Procedure). VarOccursIn z.pre.level (Shared r h.variable)) (sym same) o)
+          | inr o ↦ nothing-occurs (Shared r h.variable)
+              (subst (λ (z : Procedure). VarOccursIn z.post.level (Shared r h.variable)) (sym same) o)
         ]
 
     kept : (slot : Slot) → IsKept guarded skip slot → (v : Value) × (shared_in (loc 1) slot ≡ Some v)
@@ -74,17 +78,22 @@ pub skip_starts_with_nothing_else : SkipStartsWithNothingElse
 unfolding SkipStartsWithNothingElse
 skip_starts_with_nothing_else store heap c s =
     let same : skip ≡ s.procedure = cc (s.there) in
-    let pre : (Sat emp.level (evaluate entry_slot store) (λ n. nil) ⋆ Invariants guarded.resources store) heap =
-    subst (λ (z : Procedure). (Sat z.pre.level (evaluate entry_slot store) (λ n. nil) ⋆ Invariants guarded.resources store) heap) (sym same) s.pre in
-    let d = sat-one shared_one (evaluate entry_slot store) heap (star-drop_right (star-drop_left (star-map_left (λ part e. e.2) pre))) in
+    let pre : (Sat emp.level (evaluate entry_slot store) (λ n. nil) ⋆ Invariants guarded.resources store) heap
+    =
+    subst (λ (z : Procedure). (Sat z.pre.level (evaluate entry_slot store) (λ n. nil)
+    ⋆ Invariants guarded.resources store) heap) (sym same) s.pre in
+    let d = sat-one shared_one (evaluate entry_slot store) heap
+    (star-drop_right (star-drop_left (star-map_left (λ part e. e.2) pre))) in
     (d.0, d.1, at-location (store (shared lock 0)) d.0 d.2, d.3)
 
 -- which the empty heap isn't
 pub skip_does_not_start_with_nothing : SkipDoesNotStartWithNothing
 unfolding SkipDoesNotStartWithNothing SkipStartsWithNothingElse
-skip_does_not_start_with_nothing store heap c none s = let d = skip_starts_with_nothing_else store heap c s in one-not_empty d.3 none
+skip_does_not_start_with_nothing store heap c none s = let d =
+    skip_starts_with_nothing_else store heap c s in one-not_empty d.3 none
 
 -- it holds the resource through its precondition
 pub holders_do_not_start : HoldersDoNotStart
 unfolding HoldersDoNotStart
-holders_do_not_start store heap c s = s.holds_none lock (record { procedure = takes; there = refl; variable = 0; occurs = inl shared-occurs })
+holders_do_not_start store heap c s =
+    s.holds_none lock (record { procedure = takes; there = refl; variable = 0; occurs = inl shared-occurs })

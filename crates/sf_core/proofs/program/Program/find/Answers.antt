@@ -7,17 +7,30 @@ use Rattle.sf_core.proofs.program.Program.find.Goals as goal
 
 pub returns-then-eq-clause-first : goal.returns-then-eq-clause-first
 returns-then-eq-clause-first c =
-    let here = get-read_map (λ (f : Proc). f.name) c.args.self.now.procedures.items c.deref-procedure-items.result.now c.loop-i.i c.procedure-item.result c.deref-procedure-items.ensures.value c.loop-i-test.true c.procedure-item.is in
-    let same = (bytes_eq-Decides c.as_bytes.result.now c.as_bytes-in-loop-i.result.now).0 (sym c.eq.ensures ∙ c.if-eq.true) in
+    let here = get-read_map (λ (f : Proc). f.name) c.args.self.now.procedures.items
+    c.deref-procedure-items.result.now c.loop-i.i c.procedure-item.result
+    c.deref-procedure-items.ensures.value c.loop-i-test.true c.procedure-item.is in
+    let same = (bytes_eq-Decides c.as_bytes.result.now c.as_bytes-in-loop-i.result.now).0
+    (sym c.eq.ensures ∙ c.if-eq.true) in
     (here ∙ ap Some (sym c.as_bytes.ensures ∙ same ∙ c.as_bytes-in-loop-i.ensures.value), c.loop-i.invariant)
 
 pub loop-i-preserved : goal.loop-i-preserved
 loop-i-preserved c =
-    get-none_more (map (λ (f : Proc). f.name) c.args.self.now.procedures.items) c.procedure-item.result.name c.args.name.now c.loop-i.i
-    (get-read_map (λ (f : Proc). f.name) c.args.self.now.procedures.items c.deref-procedure-items.result.now c.loop-i.i c.procedure-item.result c.deref-procedure-items.ensures.value c.loop-i-test.true c.procedure-item.is)
-    (λ e. let yes_ = (bytes_eq-Decides c.as_bytes.result.now c.as_bytes-in-loop-i.result.now).1 (c.as_bytes.ensures ∙ e ∙ sym c.as_bytes-in-loop-i.ensures.value) in cc (c.eq.ensures, c.if-eq.false, yes_))
+    get-none_more (map (λ (f : Proc). f.name) c.args.self.now.procedures.items) c.procedure-item.result.name
+    c.args.name.now c.loop-i.i
+    (get-read_map (λ (f : Proc). f.name) c.args.self.now.procedures.items c.deref-procedure-items.result.now
+    c.loop-i.i c.procedure-item.result c.deref-procedure-items.ensures.value c.loop-i-test.true
+    c.procedure-item.is)
+    (λ e. let yes_ = (bytes_eq-Decides c.as_bytes.result.now c.as_bytes-in-loop-i.result.now).1
+    (c.as_bytes.ensures ∙ e ∙ sym c.as_bytes-in-loop-i.ensures.value) in
+    cc (c.eq.ensures, c.if-eq.false, yes_))
     c.loop-i.invariant
 
 pub returns-clause-first : goal.returns-clause-first
-returns-clause-first c = get-none_all (map (λ (f : Proc). f.name) c.args.self.now.procedures.items) c.args.name.now c.loop-i.i
-    (omega (arith, ap length c.deref-procedure-items.ensures.value, length-map c.args.self.now.procedures.items (λ (f : Proc). f.name))) c.loop-i.invariant
+returns-clause-first c = get-none_all (map (λ (f : Proc). f.name) c.args.self.now.procedures.items)
+    c.args.name.now c.loop-i.i
+    (omega (
+      arith,
+      ap length c.deref-procedure-items.ensures.value,
+      length-map c.args.self.now.procedures.items (λ (f : Proc). f.name),
+    )) c.loop-i.invariant
