@@ -3,6 +3,7 @@ pub mod MapSplits
 pub mod HeapSplits
 pub mod HeapSums
 pub mod StoreSplits
+pub mod Variables
 pub mod Cases
 pub mod Lookup
 pub mod Decisions

@@ -1,3 +1,4 @@
 pub mod HeapStore
 pub mod Internal
 pub mod Results
+pub mod Variables

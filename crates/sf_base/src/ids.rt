@@ -1,5 +1,8 @@
 //! Numbers in place of names: resources, procedures, fields, variables, slots.
 
+ghost use Rattle.std.specs.Prelude.{◌≡◌};
+ghost use Rattle.sf_base.specs.Variables.{same_var};
+
 /// The number of a resource, in file order from 0.
 #[derive(Clone, Copy, Debug, PartialEq, Eq, PartialOrd, Ord, Hash)]
 pub struct ResId(pub u32);
@@ -20,6 +23,15 @@ pub enum Var {
     Own(u32),
     /// A variable of a resource, with its number there.
     Shared(ResId, u32),
+}
+
+impl Var {
+    /// Whether the two are one variable.
+    pub fn is_same(self, other: Var) -> bool
+        ensures { result ≡ same_var self other }
+    {
+        self == other
+    }
 }
 
 /// Where a running program keeps a variable that is no resource's: the event that made it, and its

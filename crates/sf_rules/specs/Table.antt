@@ -6,8 +6,9 @@ use Rattle.std.specs.Option.{option_map, option_and_then}
 use Rattle.std.specs.Str.{bytes_eq}
 use Rattle.sf_base.specs.declared.ids.FieldId.{FieldId}
 use Rattle.sf_base.specs.declared.ids.Var.{Var}
-use Rattle.sf_base.specs.declared.ids.Var.TheVariants.{Own, Shared}
+use Rattle.sf_base.specs.declared.ids.Var.TheVariants.{Own}
 use Rattle.sf_base.specs.declared.place.Place.{Place}
+use Rattle.sf_base.specs.Variables.{same_var}
 use Rattle.sf_core.specs.declared.assertion.Operand.{Operand}
 use Rattle.sf_core.specs.declared.assertion.Operand.TheVariants.{Known, Exists}
 use Rattle.sf_core.specs.declared.assertion.Test.{Test}
@@ -26,13 +27,6 @@ use Rattle.sf_sym.specs.declared.term.Term.{Term}
 use Rattle.sf_sym.specs.declared.term.Term.TheVariants.{Nil, Int, Sym}
 use Rattle.sf_sym.specs.Goal.{Pending, Item, run, add, take, return, end, Goal}
 use Rattle.sf_sym.specs.Tests.{same_term, is_absurd}
-
--- whether two variables are one
-abbrev pub same_var : Var → Var → Bool
-same_var (Own i) (Own j) = i == j
-same_var (Shared r i) (Shared s j) = (r.0 == s.0) && (i == j)
-same_var (Own i) (Shared s j) = false
-same_var (Shared r i) (Own j) = false
 
 -- the term of a variable; each variable in reach has one
 abbrev pub term_at : List (Var × Term) → Var → Term

@@ -2,7 +2,7 @@
 
 ghost use Rattle.std.specs.Prelude.{◌≡◌, IfOk, map};
 ghost use Rattle.sf_core.specs.Program.View.{conjunct_of, conjuncts, level_of};
-ghost use Rattle.sf_rules.specs.Table.{conjunct_with, conjuncts_with, level_with, operand_with, same_var, term, term_at, test_with};
+ghost use Rattle.sf_rules.specs.Table.{conjunct_with, conjuncts_with, level_with, operand_with, term, term_at, test_with};
 
 use sf_base::{FieldId, Var};
 use sf_core::{Conjunct, Expr, Level, Operand, Test};
@@ -26,19 +26,12 @@ fn term_at(vars: &[(Var, Term)], x: Var) -> Term
 {
     let mut left = vars;
     while let Some((first, rest)) = left.split_first() {
-        if is_same(first.0, x) {
+        if first.0.is_same(x) {
             return first.1;
         }
         left = rest;
     }
     Term::Nil
-}
-
-/// Whether two variables are one.
-fn is_same(x: Var, y: Var) -> bool
-    ensures { result ≡ same_var x y }
-{
-    x == y
 }
 
 /// Conjuncts with terms in place of expressions, in the same order. An `Err` is want of memory.
