@@ -8,9 +8,10 @@
 //! - `sequence`, `counted`: lists that contracts see as lists, the second numbered in 32 bits.
 //! - `limits`: how much of each thing a file, a proof, a state and a command line may have.
 //!
-//! `specs/HeapStore.antt` defines heaps, stores and the separating conjunction, and `specs/Results.antt`
-//! what clauses say of a call's result. `proofs/` has the algebra of heaps that split (MapSplits,
-//! HeapSplits, HeapSums, StoreSplits) and, by subject, the lemmas that speak of std's types alone.
+//! `specs/` defines heaps, stores and the separating conjunction (HeapStore), the test of two
+//! variables (Variables), and what clauses say of a call's result (Results). `proofs/` has the algebra
+//! of heaps that split (MapSplits, HeapSplits, HeapSums, StoreSplits) and, by subject, the lemmas that
+//! speak of std's types alone.
 #![tactic(auto)]
 
 mod counted;
