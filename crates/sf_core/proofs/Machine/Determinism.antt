@@ -1,6 +1,6 @@
 -- That an event leads to one configuration alone.
 -- Names: `WHAT-unique`.
-use Rattle.std.specs.Prelude.{◌≡◌, ℕ, List, [], ◌∷◌, Option, Some, None}
+use Rattle.std.specs.Prelude.{◌≡◌, ℕ, List, [], ◌∷◌, Some, None}
 use Rattle.std.proofs.Common.{sym, ap, ap₂, ◌∙◌, subst, inl, inr}
 use Rattle.sf_base.proofs.Options.{some-once}
 use Rattle.sf_base.proofs.Equality.{same-by}

@@ -1,6 +1,6 @@
 -- That a step rests on what it reads: where another state agrees on that, there is the same step.
 -- Names: `WHAT-agree` for states that agree, `WHAT-same` for what is evaluated, `WHAT-local` for the same step.
-use Rattle.std.specs.Prelude.{◌≡◌, ℕ, Bool, true, false, cond, List, [], ◌∷◌, map, get_or, Option, Some, None, ◌⊎◌, ◌==◌}
+use Rattle.std.specs.Prelude.{◌≡◌, ℕ, cond, List, [], ◌∷◌, map, get_or, Option, Some, None, ◌⊎◌, ◌==◌}
 use Rattle.std.specs.Option.{unwrap_or}
 use Rattle.std.proofs.Common.{sym, ap, ap₂, ◌∙◌, refl, subst, inl, inr}
 use Rattle.std.proofs.lemmas.Option.{same_Some}

@@ -10,7 +10,7 @@ use Rattle.sf_core.specs.Machine.Bad.{Bad, IsAbsent, next_root}
 use Rattle.sf_core.specs.Machine.Config.{Item, Frame, Task, runs, Path, Common, evaluate, task_at}
 use Rattle.sf_core.specs.Machine.Enabled.{IsShut, IsBlocked, IsEnabled, Thing, variable, cell, FrameReads, FrameWrites, Reads, Writes}
 use Rattle.sf_base.specs.HeapStore.{Cell, shared, own}
-use Rattle.sf_core.specs.Machine.Examples.{lock, own_one, one_at, child_slots, child, side_by_side, at_one_cell, mutates, looks_up, enters, TwoMutationsRace, MutationAndLookUpRace, TwoLookUpsDoNotRace, TwoEntriesDoNotRace, HeldRegionsWait, sets_shared, tests_shared, enters_by_shared, passes_shared, makes_one, AssignmentAndTestRace, AssignmentAndConditionRace, AssignmentAndReferenceDoNotRace, NewAndLookUpDoNotRace}
+use Rattle.sf_core.specs.Machine.Examples.{lock, own_one, one_at, child_slots, child, side_by_side, at_one_cell, mutates, looks_up, enters, TwoMutationsRace, MutationAndLookUpRace, TwoLookUpsDoNotRace, TwoEntriesDoNotRace, HeldRegionsWait, sets_shared, enters_by_shared, passes_shared, makes_one, AssignmentAndTestRace, AssignmentAndConditionRace, AssignmentAndReferenceDoNotRace, NewAndLookUpDoNotRace}
 use Rattle.sf_core.proofs.Machine.Tasks.{MayGo, enabled-may_go}
 
 -- the tasks of such a configuration that may go on

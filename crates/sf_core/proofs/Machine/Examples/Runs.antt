@@ -1,6 +1,6 @@
 -- The examples of runs, and of a start without resources.
 -- Names: each example has the name of its function; `ended-WHAT` speaks of an ended entry, `one-WHAT` of a cell.
-use Rattle.std.specs.Prelude.{◌≡◌, ◌≢◌, ℕ, ◌==◌, ◌&&◌, pos, Bool, true, false, cond, nat_lt, List, [], ◌∷◌, Some, None, ◌⊎◌, ◌<◌}
+use Rattle.std.specs.Prelude.{◌≡◌, ◌≢◌, ℕ, ◌==◌, ◌&&◌, pos, true, cond, nat_lt, List, [], ◌∷◌, Some, None, ◌⊎◌, ◌<◌}
 use Rattle.std.specs.List.{list_all, slice_get}
 use Rattle.std.specs.Option.{unwrap_or}
 use Rattle.std.proofs.Common.{sym, ap, ap₂, ◌∙◌, refl, subst, inl, inr, arith}
