@@ -4,6 +4,7 @@ use Rattle.std.proofs.Common.{◌≡◌, ◌⊎◌, ◌<◌, ◌≤◌, ◌+◌,
 use Rattle.std.proofs.lemmas.Bool.Decides.{eqb_tells}
 use Rattle.std.proofs.lemmas.List.Elements.{Contains-append_left, Contains-append_right}
 use Rattle.std.proofs.lemmas.Option.{none-some, same_Some}
+use Rattle.sf_base.proofs.Elements.{contains-nil, contains-cons}
 use Rattle.sf_base.specs.declared.ids.FieldId.{FieldId}
 use Rattle.sf_base.specs.declared.ids.ProcId.{ProcId}
 use Rattle.sf_base.specs.declared.ids.ResId.{ResId}
@@ -28,10 +29,8 @@ use Rattle.sf_calls.specs.Around.{Around, inside, IsHeld, IsUnheld, Shares}
 use Rattle.sf_calls.specs.FirstBreach.{resources_from, variables_from, UnheldAt, UnheldInExpr, UnheldInOperand, UnheldInTest, UnheldInLevel, UnheldInConjuncts, UnheldInConjunct, UnheldInCall, ReentersByCall, Repeats, PassesFree, named_in, SharesInFork, InBlock, InCommand, InProcedures}
 use Rattle.sf_calls.specs.Laws.{FirstBreachIsBroken}
 use Rattle.sf_calls.specs.Outside.{IsAmong}
-use Rattle.sf_calls.proofs.Decided.{none_in}
 use Rattle.sf_calls.proofs.InFile.{free_there, resources_there}
 use Rattle.sf_calls.proofs.Least.{takes_within}
-use Rattle.sf_calls.proofs.Listing.{cons_is}
 use Rattle.sf_calls.proofs.Searches.{proc}
 
 -- what is found is so, and nothing is found exactly where nothing is so
@@ -62,15 +61,15 @@ tells_first {A} {P} {Q} {B} {C} t u = record {
 
 -- what is found in a list is found of one of its elements
 tells_list : {A X : Type 0} (P : X → Option A → Type 0) (B : X → A → Type 0) → ((x : X) → Tells (P x) (B x)) → (xs : List X) → Tells (first_of P xs) (λ b. (x : X) × Contains xs x × B x b)
-tells_list P B each [] = tells_nothing _ (λ b h. none_in h.0 h.1)
+tells_list P B each [] = tells_nothing _ (λ b h. contains-nil h.0 h.1)
 tells_list {A} {X} P B each (y ∷ ys) = tells_like (λ b. B y b ⊎ ((x : X) × Contains ys x × B x b)) _ to from (tells_first (each y) (tells_list P B each ys))
   where
     to : (b : A) → B y b ⊎ ((x : X) × Contains ys x × B x b) → (x : X) × Contains (y ∷ ys) x × B x b
-    to b (inl h) = (y, (cons_is y ys y).1 (inl refl), h)
-    to b (inr h) = (h.0, (cons_is y ys h.0).1 (inr h.1), h.2)
+    to b (inl h) = (y, (contains-cons y ys y).1 (inl refl), h)
+    to b (inr h) = (h.0, (contains-cons y ys h.0).1 (inr h.1), h.2)
 
     from : (b : A) → (x : X) × Contains (y ∷ ys) x × B x b → B y b ⊎ ((x : X) × Contains ys x × B x b)
-    from b h = elim ((cons_is y ys h.0).0 h.1) [ inl e ↦ inl (subst (λ (z : X). B z b) (sym e) h.2) | inr k ↦ inr (h.0, k, h.2) ]
+    from b h = elim ((contains-cons y ys h.0).0 h.1) [ inl e ↦ inl (subst (λ (z : X). B z b) (sym e) h.2) | inr k ↦ inr (h.0, k, h.2) ]
 
 -- one of the occurrences is of a variable that isn't held
 abbrev At : Around → (Occurrence → Type 0) → Breach → Type 0
@@ -145,19 +144,19 @@ mutual
       (told_both a (λ x. OccursIn this (operand x)) (λ x. OccursIn that (operand x)) (told_level a this) (told_level a that))
 
 told_references : (a : Around) (xs : List Occurrence) → Tells (first_of (UnheldAt a) xs) (At a (Contains xs))
-told_references a [] = told_nothing a (Contains []) (λ x c. none_in x c)
-told_references a (y ∷ ys) = told_like a (λ x. (y ≡ x) ⊎ Contains ys x) (Contains (y ∷ ys)) (λ x h. (cons_is y ys x).1 h) (λ x c. (cons_is y ys x).0 c) (told_both a (λ x. y ≡ x) (Contains ys) (told_at a y) (told_references a ys))
+told_references a [] = told_nothing a (Contains []) (λ x c. contains-nil x c)
+told_references a (y ∷ ys) = told_like a (λ x. (y ≡ x) ⊎ Contains ys x) (Contains (y ∷ ys)) (λ x h. (contains-cons y ys x).1 h) (λ x c. (contains-cons y ys x).0 c) (told_both a (λ x. y ≡ x) (Contains ys) (told_at a y) (told_references a ys))
 
 told_values : (a : Around) (es : List Expr) → Tells (first_of (UnheldInExpr a) es) (At a (λ x. Contains es (Variable x)))
-told_values a [] = told_nothing a (λ x. Contains [] (Variable x)) (λ x c. none_in (Variable x) c)
+told_values a [] = told_nothing a (λ x. Contains [] (Variable x)) (λ x c. contains-nil (Variable x) c)
 told_values a (e ∷ es) = told_like a (λ x. (Variable x ≡ e) ⊎ Contains es (Variable x)) (λ x. Contains (e ∷ es) (Variable x)) to from (told_both a (λ x. Variable x ≡ e) (λ x. Contains es (Variable x)) (told_expr a e) (told_values a es))
   where
     to : (x : Occurrence) → (Variable x ≡ e) ⊎ Contains es (Variable x) → Contains (e ∷ es) (Variable x)
-    to x (inl s) = (cons_is e es (Variable x)).1 (inl (sym s))
-    to x (inr c) = (cons_is e es (Variable x)).1 (inr c)
+    to x (inl s) = (contains-cons e es (Variable x)).1 (inl (sym s))
+    to x (inr c) = (contains-cons e es (Variable x)).1 (inr c)
 
     from : (x : Occurrence) → Contains (e ∷ es) (Variable x) → (Variable x ≡ e) ⊎ Contains es (Variable x)
-    from x c = elim ((cons_is e es (Variable x)).0 c) [ inl s ↦ inl (sym s) | inr k ↦ inr k ]
+    from x c = elim ((contains-cons e es (Variable x)).0 c) [ inl s ↦ inl (sym s) | inr k ↦ inr k ]
 
 -- what a call may break: what is free in its procedure isn't held, what that takes is held, a reference comes again, or is free there
 abbrev IsFreeUnheld : Around → Call → Breach → Type 0
@@ -198,32 +197,32 @@ tells_again_after : (before : List Var) (xs : List Occurrence) → Tells (Repeat
 tells_again_after before [] = tells_nothing (IsAgainAfter before []) never
   where
     never : (b : Breach) → IsAgainAfter before [] b → ⊥
-    never b (x, inl h, e) = none_in x h.1
+    never b (x, inl h, e) = contains-nil x h.1
     never b (x, inr h, e) = h
 tells_again_after before (y ∷ ys) = tells_like (λ b. (Contains before y.var × (b ≡ SameReference y.place y.var)) ⊎ IsAgainAfter (y.var ∷ before) ys b) (IsAgainAfter before (y ∷ ys)) to from
     (tells_first (tells_where (Contains before y.var) (SameReference y.place y.var)) (tells_again_after (y.var ∷ before) ys))
   where
     to : (b : Breach) → (Contains before y.var × (b ≡ SameReference y.place y.var)) ⊎ IsAgainAfter (y.var ∷ before) ys b → IsAgainAfter before (y ∷ ys) b
-    to b (inl h) = (y, inl (h.0, (cons_is y ys y).1 (inl refl)), h.1)
-    to b (inr (x, inl h, e)) = elim ((cons_is y.var before x.var).0 h.0) [
+    to b (inl h) = (y, inl (h.0, (contains-cons y ys y).1 (inl refl)), h.1)
+    to b (inr (x, inl h, e)) = elim ((contains-cons y.var before x.var).0 h.0) [
       | inl s ↦ (x, inr (inl (s, h.1)), e)
-      | inr c ↦ (x, inl (c, (cons_is y ys x).1 (inr h.1)), e)
+      | inr c ↦ (x, inl (c, (contains-cons y ys x).1 (inr h.1)), e)
     ]
     to b (inr (x, inr h, e)) = (x, inr (inr h), e)
 
     from : (b : Breach) → IsAgainAfter before (y ∷ ys) b → (Contains before y.var × (b ≡ SameReference y.place y.var)) ⊎ IsAgainAfter (y.var ∷ before) ys b
-    from b (x, inl h, e) = elim ((cons_is y ys x).0 h.1) [
+    from b (x, inl h, e) = elim ((contains-cons y ys x).0 h.1) [
       | inl s ↦ inl (subst (λ (z : Occurrence). Contains before z.var) (sym s) h.0, e ∙ ap (λ (z : Occurrence). SameReference z.place z.var) (sym s))
-      | inr c ↦ inr (x, inl ((cons_is y.var before x.var).1 (inr h.0), c), e)
+      | inr c ↦ inr (x, inl ((contains-cons y.var before x.var).1 (inr h.0), c), e)
     ]
-    from b (x, inr (inl h), e) = inr (x, inl ((cons_is y.var before x.var).1 (inl h.0), h.1), e)
+    from b (x, inr (inl h), e) = inr (x, inl ((contains-cons y.var before x.var).1 (inl h.0), h.1), e)
     from b (x, inr (inr h), e) = inr (x, inr h, e)
 
 tells_again : (c : Call) → Tells (Repeats [] c.references) (IsPassedAgain c)
 tells_again c = tells_like (IsAgainAfter [] c.references) (IsPassedAgain c) to (λ b h. (h.0, inr h.1, h.2)) (tells_again_after [] c.references)
   where
     to : (b : Breach) → IsAgainAfter [] c.references b → IsPassedAgain c b
-    to b (x, inl h, e) = absurd (none_in x.var h.0)
+    to b (x, inl h, e) = absurd (contains-nil x.var h.0)
     to b (x, inr h, e) = (x, h, e)
 
 tells_passed : (p : Program) (c : Call) → Tells (PassesFree p c) (IsPassedFree p c)
@@ -235,8 +234,8 @@ tells_passed p c =
 -- a variable that a reference names is named
 named_there : (x : Var) (xs : List Occurrence) (es : List Expr) → IsAmong x xs → Contains (named_in xs es) x
 named_there x [] es h = absurd h
-named_there x (y ∷ ys) es (inl e) = (cons_is y.var (named_in ys es) x).1 (inl e)
-named_there x (y ∷ ys) es (inr h) = (cons_is y.var (named_in ys es) x).1 (inr (named_there x ys es h))
+named_there x (y ∷ ys) es (inl e) = (contains-cons y.var (named_in ys es) x).1 (inl e)
+named_there x (y ∷ ys) es (inr h) = (contains-cons y.var (named_in ys es) x).1 (inr (named_there x ys es h))
 
 -- the two calls share a variable
 abbrev IsShared : Program → (left right : Call) → Breach → Type 0

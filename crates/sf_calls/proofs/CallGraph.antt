@@ -1,25 +1,28 @@
 -- Callers as lists against the calls of the program.
-use Rattle.std.proofs.Common.{◌≡◌, ◌≢◌, ◌⊎◌, ◌↔◌, ◌<◌, ◌≤◌, ◌+◌, ℕ, zero, suc, Bool, true, false, ◌||◌, List, [], ◌∷◌, ◌++◌, length, get_or, Option, Some, None, slice_get, Vec, Contains, All, refl, sym, ap, inl, inr, ◌∙◌, subst, arith}
+use Rattle.std.proofs.Common.{◌≡◌, ◌≢◌, ◌⊎◌, ◌↔◌, ◌<◌, ◌≤◌, ◌+◌, ℕ, zero, suc, true, false, List, [], ◌∷◌, ◌++◌, length, get_or, Option, Some, None, slice_get, Vec, Contains, All, refl, sym, ap, inl, inr, ◌∙◌, subst, arith}
 use Rattle.std.proofs.Math.ListN.{set}
 use Rattle.std.specs.List.{AllZip}
 use Rattle.std.proofs.lemmas.Bool.Decides.{eqb_tells}
 use Rattle.std.proofs.lemmas.List.Elements.{Contains-append_left, Contains-push, Contains-push_cases, Contains-get_or}
 use Rattle.std.proofs.lemmas.Option.{slice_get_read, slice_get_within, get_or_from_slice_get, same_Some, none-some}
+use Rattle.std.proofs.lemmas.Bool.{or_parts}
 use Rattle.std.specs.declared.alloc.Global.{Global}
+use Rattle.sf_base.proofs.Elements.{contains-nil}
+use Rattle.sf_base.proofs.Lookup.{get-set_same, get-set_other}
 use Rattle.sf_base.specs.declared.ids.ProcId.{ProcId}
 use Rattle.sf_base.specs.declared.ids.ResId.{ResId}
 use Rattle.sf_core.specs.Program.Formed.{IsFormed}
 use Rattle.sf_core.specs.Program.Syntax.{Procedure, Program}
 use Rattle.sf_calls.specs.Conditions.{Calls}
-use Rattle.sf_calls.specs.declared.text.Text.{Text}
-use Rattle.sf_calls.specs.Listed.{is_entered}
-use Rattle.sf_calls.specs.Marks.{IsCaller, AreCallers}
-use Rattle.sf_calls.specs.Texts.{IsTextOf, AreTexts, guards, guards_any}
+use Rattle.sf_calls.specs.declared.summary.Summary.{Summary}
+use Rattle.sf_calls.specs.Internal.Listed.{is_entered}
+use Rattle.sf_calls.specs.Internal.Visited.{IsCaller, AreCallers}
+use Rattle.sf_calls.specs.Internal.Summaries.{IsSummaryOf, AreSummaries, has_calls_inside, left_out_has_calls_inside}
 use Rattle.sf_calls.specs.Outside.{CallsIn}
-use Rattle.sf_calls.specs.Tests.{callees_in}
-use Rattle.sf_calls.proofs.Decided.{none_in, callees_in_are}
+use Rattle.sf_calls.specs.Internal.Tests.{callees_in}
+use Rattle.sf_calls.proofs.Decided.{callees_in_are}
 use Rattle.sf_calls.proofs.Listing.{calls_anyway, entered_is}
-use Rattle.sf_calls.proofs.Searches.{proc, get-set_same, get-set_other}
+use Rattle.sf_calls.proofs.Searches.{proc}
 use Rattle.sf_calls.proofs.Within.{callees_within}
 
 -- empty rows have no caller
@@ -27,7 +30,7 @@ pub no_caller : (rows : List (Vec ProcId Global)) → All (λ v. v.items ≡ [])
 no_caller rows empty f g (fs, here, c) =
     let below : g.0 < length rows = slice_get_within rows g.0 fs here in
     let none : fs.items ≡ [] = ap (λ (v : Vec ProcId Global). v.items) (sym (get_or_from_slice_get rows g.0 fs fs here)) ∙ empty g.0 fs below in
-    none_in f (subst (λ (xs : List ProcId). Contains xs f) none c)
+    contains-nil f (subst (λ (xs : List ProcId). Contains xs f) none c)
 
 -- a caller is added to one row
 pub caller_pushed : (callers : List (Vec ProcId Global)) (f g : ProcId) (row v : Vec ProcId Global) → g.0 < length callers → row ≡ get_or callers g.0 row → v.items ≡ row.items ++ f ∷ []
@@ -126,7 +129,7 @@ callers_first f rows h k = (λ c. inl c, from)
   where
     from : IsCaller rows h k ⊎ ((h ≡ f) × Contains [] k) → IsCaller rows h k
     from (inl x) = x
-    from (inr x) = absurd (none_in k x.1)
+    from (inr x) = absurd (contains-nil k x.1)
 
 -- a caller is there already
 pub caller_there : (callers : List (Vec ProcId Global)) (f g : ProcId) (row : Vec ProcId Global) → g.0 < length callers → row ≡ get_or callers g.0 row → Contains row.items f
@@ -142,27 +145,23 @@ calls_plain : (p : Program) (but : Option ResId) (f g : ProcId) → Calls p but 
 calls_plain p None f g c = c
 calls_plain p (Some r) f g c = (c.0, c.1, calls_anyway r g c.0.body c.2)
 
-or_false : (a b : Bool) → (a || b) ≡ false → (a ≡ false) × (b ≡ false)
-or_false true b e = absurd (cc)
-or_false false b e = (refl, e)
-
 -- where no call stands inside a region of r, each stands outside
-unguarded : (r : ResId) (hs : List Procedure) (ts : List Text) → AllZip IsTextOf hs ts → guards r ts ≡ false → (k : ℕ) (h : Procedure) → slice_get hs k ≡ Some h → (g : ProcId) → CallsIn None g h.body → CallsIn (Some r) g h.body
-unguarded r [] ts z e k h at g c = absurd (none-some h at)
-unguarded r (j ∷ hs) [] z e k h at g c = absurd z
-unguarded r (j ∷ hs) (t ∷ ts) z e zero h at g c =
-    let here : is_entered r t.guarded.items ≡ false = (or_false (is_entered r t.guarded.items) (guards r ts) e).0 in
-    let apart : Contains t.guarded.items r → ⊥ = λ m. let yes : is_entered r t.guarded.items ≡ true = (entered_is r t.guarded.items).1 m in let f : true ≡ false = sym yes ∙ here in cc in
+without_calls : (r : ResId) (hs : List Procedure) (ts : List Summary) → AllZip IsSummaryOf hs ts → has_calls_inside r ts ≡ false → (k : ℕ) (h : Procedure) → slice_get hs k ≡ Some h → (g : ProcId) → CallsIn None g h.body → CallsIn (Some r) g h.body
+without_calls r [] ts z e k h at g c = absurd (none-some h at)
+without_calls r (j ∷ hs) [] z e k h at g c = absurd z
+without_calls r (j ∷ hs) (t ∷ ts) z e zero h at g c =
+    let here : is_entered r t.with_calls.items ≡ false = (or_parts (is_entered r t.with_calls.items) (has_calls_inside r ts) e).0 in
+    let apart : Contains t.with_calls.items r → ⊥ = λ m. let yes : is_entered r t.with_calls.items ≡ true = (entered_is r t.with_calls.items).1 m in let f : true ≡ false = sym yes ∙ here in cc in
     let same : j ≡ h = same_Some j h at in
-    subst (λ (i : Procedure). CallsIn (Some r) g i.body) same (z.0.guarded r apart g (subst (λ (i : Procedure). CallsIn None g i.body) (sym same) c))
-unguarded r (j ∷ hs) (t ∷ ts) z e (suc k) h at g c = unguarded r hs ts z.1 (or_false (is_entered r t.guarded.items) (guards r ts) e).1 k h at g c
+    subst (λ (i : Procedure). CallsIn (Some r) g i.body) same (z.0.with_calls r apart g (subst (λ (i : Procedure). CallsIn None g i.body) (sym same) c))
+without_calls r (j ∷ hs) (t ∷ ts) z e (suc k) h at g c = without_calls r hs ts z.1 (or_parts (is_entered r t.with_calls.items) (has_calls_inside r ts) e).1 k h at g c
 
-plain_calls : (p : Program) (but : Option ResId) (ts : List Text) → AreTexts p ts → guards_any but ts ≡ false → (f g : ProcId) → Calls p None f g → Calls p but f g
+plain_calls : (p : Program) (but : Option ResId) (ts : List Summary) → AreSummaries p ts → left_out_has_calls_inside but ts ≡ false → (f g : ProcId) → Calls p None f g → Calls p but f g
 plain_calls p None ts z e f g c = c
-plain_calls p (Some r) ts z e f g c = (c.0, c.1, unguarded r p.procedures ts z e f.0 c.0 c.1 g c.2)
+plain_calls p (Some r) ts z e f g c = (c.0, c.1, without_calls r p.procedures ts z e f.0 c.0 c.1 g c.2)
 
 -- the callers are the same where no call stands inside a region
-pub callers_kept : (p : Program) (but last : Option ResId) (ts : List Text) (callers : List (Vec ProcId Global)) → AreTexts p ts → guards_any but ts ≡ false → guards_any last ts ≡ false → AreCallers p last callers → AreCallers p but callers
+pub callers_kept : (p : Program) (but last : Option ResId) (ts : List Summary) (callers : List (Vec ProcId Global)) → AreSummaries p ts → left_out_has_calls_inside but ts ≡ false → left_out_has_calls_inside last ts ≡ false → AreCallers p last callers → AreCallers p but callers
 callers_kept p but last ts callers z e e' are = record {
   size = are.size;
   are = λ f g. (

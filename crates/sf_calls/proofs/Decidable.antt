@@ -2,13 +2,10 @@
 -- Names: `decidable_PART` says of what is built of PART that it is decidable.
 use Rattle.std.proofs.Common.{◌≡◌, ◌⊎◌, ◌↔◌, Bool, true, false, List, [], ◌∷◌, Option, Some, None, Contains, refl, sym, inl, inr, subst}
 use Rattle.std.specs.Bool.{Decides}
-use Rattle.std.specs.List.{list_any}
-use Rattle.std.proofs.lemmas.List.Folds.{Any-from_list_any, list_any-from_Any}
 use Rattle.std.proofs.lemmas.Option.{same_Some, none-some}
+use Rattle.sf_base.proofs.Elements.{contains-nil, contains-cons}
 use Rattle.sf_calls.specs.Sets.{IsSetOf}
-use Rattle.sf_calls.proofs.Decided.{none_in}
 use Rattle.sf_calls.proofs.InOrder.{Ordered, pairs_ordered}
-use Rattle.sf_calls.proofs.Listing.{cons_is}
 
 -- it is so, or it isn't
 abbrev pub IsDecidable : Type 0 → Type 0
@@ -38,25 +35,15 @@ decidable_one (inr n) (inr m) = inr (λ h. elim h [ inl p ↦ n p | inr q ↦ m 
 
 -- that one of a list has a property
 pub decidable_some : {A : Type 0} (P : A → Type 0) → ((x : A) → IsDecidable (P x)) → (xs : List A) → IsDecidable ((x : A) × Contains xs x × P x)
-decidable_some P tell [] = inr (λ h. none_in h.0 h.1)
+decidable_some P tell [] = inr (λ h. contains-nil h.0 h.1)
 decidable_some {A} P tell (y ∷ ys) = decidable_like to from (decidable_one (tell y) (decidable_some P tell ys))
   where
     to : P y ⊎ ((x : A) × Contains ys x × P x) → (x : A) × Contains (y ∷ ys) x × P x
-    to (inl p) = (y, (cons_is y ys y).1 (inl refl), p)
-    to (inr h) = (h.0, (cons_is y ys h.0).1 (inr h.1), h.2)
+    to (inl p) = (y, (contains-cons y ys y).1 (inl refl), p)
+    to (inr h) = (h.0, (contains-cons y ys h.0).1 (inr h.1), h.2)
 
     from : (x : A) × Contains (y ∷ ys) x × P x → P y ⊎ ((x : A) × Contains ys x × P x)
-    from h = elim ((cons_is y ys h.0).0 h.1) [ inl e ↦ inl (subst P (sym e) h.2) | inr c ↦ inr (h.0, c, h.2) ]
-
--- a test by a list
-pub contains_is : {A : Type 0} (same : A → A → Bool) → ((x y : A) → Decides (same x y) (x ≡ y)) → (xs : List A) (x : A) → Decides (list_any (λ y. same y x) xs) (Contains xs x)
-contains_is {A} same is xs x = (to, from)
-  where
-    to : list_any (λ y. same y x) xs ≡ true → Contains xs x
-    to e = let a = Any-from_list_any (λ y. same y x) xs e in subst (λ (y : A). Contains xs y) ((is a.1 x).0 a.4) (a.0, a.2, a.3)
-
-    from : Contains xs x → list_any (λ y. same y x) xs ≡ true
-    from c = list_any-from_Any (λ y. same y x) xs (c.0, x, c.1, c.2, (is x x).1 refl)
+    from h = elim ((contains-cons y ys h.0).0 h.1) [ inl e ↦ inl (subst P (sym e) h.2) | inr c ↦ inr (h.0, c, h.2) ]
 
 -- what is there, and passes the test
 abbrev pub passes : {A : Type 0} → (A → Bool) → Option A → Bool
@@ -75,35 +62,35 @@ listed f (Some x) = f x
 
 -- it has what stands to something that is there as the list says
 pub listed_is : {A B : Type 0} (f : A → List B) (P : A → B → Type 0) → ((x : A) (y : B) → Contains (f x) y ↔ P x y) → (o : Option A) (y : B) → Contains (listed f o) y ↔ ((x : A) × (o ≡ Some x) × P x y)
-listed_is f P is None y = (λ c. absurd (none_in y c), λ h. absurd (none-some h.0 h.1))
+listed_is f P is None y = (λ c. absurd (contains-nil y c), λ h. absurd (none-some h.0 h.1))
 listed_is {A} f P is (Some x) y = (λ c. (x, refl, (is x y).0 c), λ h. (is x y).1 (subst (λ (z : A). P z y) (sym (same_Some x h.0 h.1)) h.2))
 
 -- those of a list that have a property, in its order
 kept_of : {A : Type 0} (B : A → A → Type 0) (P : A → Type 0) → ((x : A) → IsDecidable (P x)) → (all : List A) → Ordered B all → (xs : List A) × Ordered B xs × ((x : A) → Contains xs x ↔ (Contains all x × P x))
-kept_of B P tell [] o = ([], tt, λ x. (λ c. absurd (none_in x c), λ h. absurd (none_in x h.0)))
+kept_of B P tell [] o = ([], tt, λ x. (λ c. absurd (contains-nil x c), λ h. absurd (contains-nil x h.0)))
 kept_of {A} B P tell (y ∷ ys) o = go (kept_of B P tell ys o.1) (tell y)
   where
     go : (xs : List A) × Ordered B xs × ((x : A) → Contains xs x ↔ (Contains ys x × P x)) → IsDecidable (P y) → (xs : List A) × Ordered B xs × ((x : A) → Contains xs x ↔ (Contains (y ∷ ys) x × P x))
     go (xs, ordered, members) (inl p) = (y ∷ xs, (λ z c. o.0 z ((members z).0 c).0, ordered), λ x. (to x, from x))
       where
         to : (x : A) → Contains (y ∷ xs) x → Contains (y ∷ ys) x × P x
-        to x c = elim ((cons_is y xs x).0 c) [
-          | inl e ↦ ((cons_is y ys x).1 (inl e), subst P e p)
-          | inr k ↦ ((cons_is y ys x).1 (inr ((members x).0 k).0), ((members x).0 k).1)
+        to x c = elim ((contains-cons y xs x).0 c) [
+          | inl e ↦ ((contains-cons y ys x).1 (inl e), subst P e p)
+          | inr k ↦ ((contains-cons y ys x).1 (inr ((members x).0 k).0), ((members x).0 k).1)
         ]
 
         from : (x : A) → Contains (y ∷ ys) x × P x → Contains (y ∷ xs) x
-        from x h = elim ((cons_is y ys x).0 h.0) [
-          | inl e ↦ (cons_is y xs x).1 (inl e)
-          | inr k ↦ (cons_is y xs x).1 (inr ((members x).1 (k, h.1)))
+        from x h = elim ((contains-cons y ys x).0 h.0) [
+          | inl e ↦ (contains-cons y xs x).1 (inl e)
+          | inr k ↦ (contains-cons y xs x).1 (inr ((members x).1 (k, h.1)))
         ]
     go (xs, ordered, members) (inr n) = (xs, ordered, λ x. (to x, from x))
       where
         to : (x : A) → Contains xs x → Contains (y ∷ ys) x × P x
-        to x c = ((cons_is y ys x).1 (inr ((members x).0 c).0), ((members x).0 c).1)
+        to x c = ((contains-cons y ys x).1 (inr ((members x).0 c).0), ((members x).0 c).1)
 
         from : (x : A) → Contains (y ∷ ys) x × P x → Contains xs x
-        from x h = elim ((cons_is y ys x).0 h.0) [ inl e ↦ absurd (n (subst P (sym e) h.1)) | inr k ↦ (members x).1 (k, h.1) ]
+        from x h = elim ((contains-cons y ys x).0 h.0) [ inl e ↦ absurd (n (subst P (sym e) h.1)) | inr k ↦ (members x).1 (k, h.1) ]
 
 -- a decidable property that only some of an ordered list have has its set
 pub set_there : {A : Type 0} (B : A → A → Type 0) (P : A → Type 0) → ((x : A) → IsDecidable (P x)) → (all : List A) → Ordered B all → ((x : A) → P x → Contains all x) → (xs : List A) × IsSetOf B P xs

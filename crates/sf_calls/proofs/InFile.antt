@@ -2,6 +2,7 @@
 use Rattle.std.proofs.Common.{◌≡◌, ◌≢◌, ◌<◌, ◌≤◌, ◌+◌, ◌-◌, ℕ, suc, List, [], ◌∷◌, length, slice_get, Contains, refl, sym, ap, inl, inr, subst, arith}
 use Rattle.std.proofs.lemmas.Bool.Decides.{eqb_tells}
 use Rattle.std.proofs.lemmas.List.Elements.{Contains-append_cases, Contains-append_left, Contains-append_right}
+use Rattle.sf_base.proofs.Elements.{contains-nil, contains-single, contains-single_of}
 use Rattle.sf_base.specs.declared.ids.ProcId.{ProcId}
 use Rattle.sf_base.specs.declared.ids.ResId.{ResId}
 use Rattle.sf_base.specs.declared.ids.Var.{Var}
@@ -11,7 +12,7 @@ use Rattle.sf_core.specs.Program.Syntax.{Program, Resource}
 use Rattle.sf_calls.specs.Conditions.{Free}
 use Rattle.sf_calls.specs.FirstBreach.{resources_from, shared_from, variables_from}
 use Rattle.sf_calls.specs.Sets.{IsEarlier, IsEarlierResource}
-use Rattle.sf_calls.proofs.Decided.{resource, none_in, single_is, is_single}
+use Rattle.sf_calls.proofs.Decided.{resource}
 use Rattle.sf_calls.proofs.InOrder.{Ordered, ordered_append}
 use Rattle.sf_calls.proofs.Least.{free_apart}
 
@@ -19,9 +20,9 @@ pub resource_apart : (r q : ResId) → IsEarlierResource r q → IsEarlierResour
 resource_apart r q h k = absurd (omega (arith, h, k))
 
 resources_later : (k : ℕ) (rs : List Resource) (q : ResId) → Contains (resources_from k rs) q → k ≤ q.0
-resources_later k [] q c = absurd (none_in q c)
+resources_later k [] q c = absurd (contains-nil q c)
 resources_later k (r ∷ rs) q c = elim (Contains-append_cases (resource k ∷ []) (resources_from (suc k) rs) q c) [
-  | inl h ↦ let e : k ≡ q.0 = ap (λ (t : ResId). t.0) (single_is (resource k) q h) in omega arith
+  | inl h ↦ let e : k ≡ q.0 = ap (λ (t : ResId). t.0) (contains-single (resource k) q h) in omega arith
   | inr h ↦ let l : suc k ≤ q.0 = resources_later (suc k) rs q h in omega arith
 ]
 
@@ -32,7 +33,7 @@ resources_ordered k (r ∷ rs) = (λ q c. resources_later (suc k) rs q c, resour
 pub resources_there : (k : ℕ) (rs : List Resource) (q : ResId) → k ≤ q.0 → q.0 < k + length rs → Contains (resources_from k rs) q
 resources_there k [] q from below = absurd (omega (arith, from, below))
 resources_there k (r ∷ rs) q from below = elim (eqb_tells k q.0) [
-  | inl e ↦ Contains-append_left (resource k ∷ []) (resources_from (suc k) rs) q (is_single (resource k) q (ap resource e.1))
+  | inl e ↦ Contains-append_left (resource k ∷ []) (resources_from (suc k) rs) q (contains-single_of (resource k) q (ap resource e.1))
   | inr e ↦ Contains-append_right (resource k ∷ []) (resources_from (suc k) rs) q (resources_there (suc k) rs q (let other : k ≡ q.0 → ⊥ = e.1 in omega (arith, from)) (omega (arith, below)))
 ]
 
@@ -48,9 +49,9 @@ IsFromResource k (Shared q j) = k ≤ q.0
 
 shared_later : (r : ResId) (i : ℕ) (names : List (List ℕ)) (x : Var) → Contains (shared_from r i names) x → IsFrom r i x
 unfolding IsFrom
-shared_later r i [] x c = absurd (none_in x c)
+shared_later r i [] x c = absurd (contains-nil x c)
 shared_later r i (name ∷ names) x c = elim (Contains-append_cases (Shared r i ∷ []) (shared_from r (suc i) names) x c) [
-  | inl h ↦ subst (IsFrom r i) (single_is (Shared r i) x h) (refl, omega arith)
+  | inl h ↦ subst (IsFrom r i) (contains-single (Shared r i) x h) (refl, omega arith)
   | inr h ↦ weaker x (shared_later r (suc i) names x h)
 ]
   where
@@ -70,13 +71,13 @@ shared_ordered r i (name ∷ names) = (λ y c. before y (shared_later r (suc i) 
 shared_there : (r : ResId) (i : ℕ) (names : List (List ℕ)) (j : ℕ) → i ≤ j → j < i + length names → Contains (shared_from r i names) (Shared r j)
 shared_there r i [] j from below = absurd (omega (arith, from, below))
 shared_there r i (name ∷ names) j from below = elim (eqb_tells i j) [
-  | inl e ↦ Contains-append_left (Shared r i ∷ []) (shared_from r (suc i) names) (Shared r j) (is_single (Shared r i) (Shared r j) (ap (Shared r) e.1))
+  | inl e ↦ Contains-append_left (Shared r i ∷ []) (shared_from r (suc i) names) (Shared r j) (contains-single_of (Shared r i) (Shared r j) (ap (Shared r) e.1))
   | inr e ↦ Contains-append_right (Shared r i ∷ []) (shared_from r (suc i) names) (Shared r j) (shared_there r (suc i) names j (let other : i ≡ j → ⊥ = e.1 in omega (arith, from)) (omega (arith, below)))
 ]
 
 variables_later : (k : ℕ) (rs : List Resource) (x : Var) → Contains (variables_from k rs) x → IsFromResource k x
 unfolding IsFrom IsFromResource
-variables_later k [] x c = absurd (none_in x c)
+variables_later k [] x c = absurd (contains-nil x c)
 variables_later k (r ∷ rs) x c = elim (Contains-append_cases (shared_from (resource k) 0 r.variables) (variables_from (suc k) rs) x c) [
   | inl h ↦ here x (shared_later (resource k) 0 r.variables x h)
   | inr h ↦ later x (variables_later (suc k) rs x h)

@@ -6,15 +6,16 @@ use Rattle.std.proofs.lemmas.List.Kept.{AllPairs-cons}
 use Rattle.std.proofs.lemmas.List.Quantifiers.{all_pairs_push}
 use Rattle.std.proofs.lemmas.List.Sums.{get_or-le-sum_by}
 use Rattle.std.proofs.lemmas.Option.{slice_get_within, get_or_from_slice_get}
+use Rattle.sf_base.proofs.Elements.{contains-nil, contains-single_of}
 use Rattle.sf_base.specs.declared.ids.ResId.{ResId}
 use Rattle.sf_base.specs.declared.ids.Var.{Var}
 use Rattle.sf_base.specs.declared.ids.Var.TheVariants.{Own, Shared}
 use Rattle.sf_core.specs.Program.Formed.{IsFormed}
 use Rattle.sf_core.specs.Program.Syntax.{Program, Resource}
 use Rattle.sf_calls.specs.Conditions.{IsShared}
-use Rattle.sf_calls.specs.Gathers.{IsUpTo}
+use Rattle.sf_calls.specs.Internal.Gathers.{IsUpTo}
 use Rattle.sf_calls.specs.Sets.{IsSetOf, IsEarlier, IsEarlierResource}
-use Rattle.sf_calls.proofs.Decided.{resource, none_in, is_single}
+use Rattle.sf_calls.proofs.Decided.{resource}
 
 -- one more element, behind the others
 pub set_push : {A : Type 0} (B : A → A → Type 0) (P Q : A → Type 0) (xs : List A) (y : A) → IsSetOf B P xs → ((x : A) → P x → B x y) → ((x : A) → Q x → P x ⊎ (x ≡ y)) → ((x : A) → P x → Q x) → Q y → IsSetOf B Q (xs ++ y ∷ [])
@@ -38,7 +39,7 @@ set_same B P Q xs s to from = record { ordered = s.ordered; members = λ x. (λ 
 
 -- the empty set
 pub set_none : {A : Type 0} (B : A → A → Type 0) (P : A → Type 0) → ((x : A) → P x → ⊥) → IsSetOf B P []
-set_none B P none = record { ordered = λ i j d h k. absurd (omega (arith, k)); members = λ x. (λ c. absurd (none_in x c), λ p. absurd (none x p)) }
+set_none B P none = record { ordered = λ i j d h k. absurd (omega (arith, k)); members = λ x. (λ c. absurd (contains-nil x c), λ p. absurd (none x p)) }
 
 -- each element comes before those that stand behind it
 abbrev pub Ordered : {X : Type 0} → (X → X → Type 0) → List X → Type 0
@@ -49,7 +50,7 @@ Ordered {X} B (x ∷ xs) = ((y : X) → Contains xs y → B x y) × Ordered B xs
 pub ordered_append : {X : Type 0} (B : X → X → Type 0) (xs ys : List X) → Ordered B xs → Ordered B ys → ((x y : X) → Contains xs x → Contains ys y → B x y) → Ordered B (xs ++ ys)
 ordered_append B [] ys a b across = b
 ordered_append B (x ∷ xs) ys a b across = (
-  λ y c. elim (Contains-append_cases xs ys y c) [ inl k ↦ a.0 y k | inr k ↦ across x y (Contains-append_left (x ∷ []) xs x (is_single x x refl)) k ],
+  λ y c. elim (Contains-append_cases xs ys y c) [ inl k ↦ a.0 y k | inr k ↦ across x y (Contains-append_left (x ∷ []) xs x (contains-single_of x x refl)) k ],
   ordered_append B xs ys a.1 b (λ z y c k. across z y (Contains-append_right (x ∷ []) xs z c) k),
 )
 

@@ -1,5 +1,5 @@
 -- What the least sets contain: only what is there, and no more than any closed family.
-use Rattle.std.proofs.Common.{◌≡◌, ◌<◌, ℕ, IsTrue, Result, Ok, Err, IfOk, List, [], length, Option, Some, None, slice_get, inl, inr, refl, arith}
+use Rattle.std.proofs.Common.{◌≡◌, ◌<◌, ℕ, IsTrue, List, [], length, Option, Some, None, slice_get, inl, inr, refl, arith}
 use Rattle.std.proofs.lemmas.Option.{slice_get_within}
 use Rattle.sf_base.specs.declared.ids.ProcId.{ProcId}
 use Rattle.sf_base.specs.declared.ids.ResId.{ResId}
@@ -10,15 +10,15 @@ use Rattle.sf_core.specs.Machine.HeldBy.{HeldBy}
 use Rattle.sf_core.specs.Program.Syntax.{Program, Resource}
 use Rattle.sf_calls.specs.Conditions.{Calls, Mentions, Enters, Takes, FreeIn, Free}
 use Rattle.sf_calls.specs.Laws.{TakesIsLeast, FreeIsLeast}
-use Rattle.sf_calls.specs.Leads.{Leads, directly, through}
+use Rattle.sf_calls.specs.Reaches.{Reaches, directly, through}
 use Rattle.sf_calls.specs.Outside.{owner}
-use Rattle.sf_calls.specs.Gathers.{IsUpTo}
-use Rattle.sf_calls.proofs.Rows.{leads_within}
+use Rattle.sf_calls.specs.Internal.Gathers.{IsUpTo}
+use Rattle.sf_calls.proofs.Rows.{reaches_within}
 use Rattle.sf_calls.proofs.Within.{entered_within, level_within, block_within}
 
 -- what is taken is there
 pub takes_within : (p : Program) → IsFormed p → (f : ProcId) (r : ResId) → Takes p f r → r.0 < length p.resources
-takes_within p formed f r t = leads_within (Enters p r) (Calls p None) (r.0 < length p.resources) here f t
+takes_within p formed f r t = reaches_within (Enters p r) (Calls p None) (r.0 < length p.resources) here f t
   where
     here : (g : ProcId) → Enters p r g → r.0 < length p.resources
     here g e = entered_within p e.0 r e.0.body (formed.procedures g.0 e.0 e.1).body e.2
@@ -49,7 +49,7 @@ mentioned p formed r i g (h, at, inr (inr x)) = block_within p h (Shared r i) h.
 pub free_apart : (p : Program) → IsFormed p → (f : ProcId) (x : Var) → Free p f x → IsUpTo (λ k. variable_count (slice_get p.resources k)) (length p.resources) 0 x × FreeIn p f x
 free_apart p formed f (Own n) h = absurd h.0
 free_apart p formed f (Shared r i) h =
-    let below = leads_within (Mentions p (Shared r i)) (Calls p (Some r)) (i < variable_count (slice_get p.resources r.0)) (mentioned p formed r i) f h.1 in
+    let below = reaches_within (Mentions p (Shared r i)) (Calls p (Some r)) (i < variable_count (slice_get p.resources r.0)) (mentioned p formed r i) f h.1 in
     (inl (there p.resources r.0 i below, below), h.1)
 
 -- and every variable that is there is shared
@@ -58,23 +58,18 @@ free_both p f (Own n) h l = absurd h
 free_both p f (Shared r i) h l = (tt, l)
 
 -- the set of one resource, or variable, is contained in what its rules keep
-pub leads_least : {A : Type 0} (D : A → Type 0) (E : A → A → Type 0) (T : A → Type 0) → ((a : A) → D a → T a) → ((a b : A) → E a b → T b → T a) → (a : A) → Leads D E a → T a
-leads_least D E T d e a (directly h) = d a h
-leads_least D E T d e a (through b s h) = e a b s (leads_least D E T d e b h)
+pub reaches_least : {A : Type 0} (D : A → Type 0) (E : A → A → Type 0) (T : A → Type 0) → ((a : A) → D a → T a) → ((a b : A) → E a b → T b → T a) → (a : A) → Reaches D E a → T a
+reaches_least D E T d e a (directly h) = d a h
+reaches_least D E T d e a (through b s h) = e a b s (reaches_least D E T d e b h)
 
 pub takes_least : TakesIsLeast
 takes_least = record {
   closed = λ p. record { enters = λ f r h. directly h; calls = λ f g r s t. through g s t };
-  least = λ p T c f r t. leads_least (Enters p r) (Calls p None) (λ g. IsTrue (T g r)) (λ g h. c.enters g r h) (λ g h s t. c.calls g h r s t) f t;
+  least = λ p T c f r t. reaches_least (Enters p r) (Calls p None) (λ g. IsTrue (T g r)) (λ g h. c.enters g r h) (λ g h s t. c.calls g h r s t) f t;
 }
 
 pub free_least : FreeIsLeast
 free_least = record {
   closed = λ p. record { mentions = λ f x s h. (s, directly h); calls = λ f g x s c t. (s, through g c t.1) };
-  least = λ p T c f x t. leads_least (Mentions p x) (Calls p (owner x)) (λ g. IsTrue (T g x)) (λ g h. c.mentions g x t.0 h) (λ g h s r. c.calls g h x t.0 s r) f t.1;
+  least = λ p T c f x t. reaches_least (Mentions p x) (Calls p (owner x)) (λ g. IsTrue (T g x)) (λ g h. c.mentions g x t.0 h) (λ g h s r. c.calls g h x t.0 s r) f t.1;
 }
-
--- two clauses on an answer give a third
-pub if_both : {A E : Type 0} (r : Result A E) (P Q R : A → Type 0) → ((x : A) → P x → Q x → R x) → IfOk r P → IfOk r Q → IfOk r R
-if_both (Ok x) P Q R f p q = f x p q
-if_both (Err e) P Q R f p q = tt

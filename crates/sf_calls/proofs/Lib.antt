@@ -17,3 +17,4 @@ pub mod Had
 pub mod SetsDecidable
 pub mod SetsHad
 pub mod SetsThere
+pub mod Closing

@@ -1,8 +1,10 @@
 -- What the lists of a text have: variables outside the regions of their resources, regions, and regions with a call inside.
-use Rattle.std.proofs.Common.{◌≡◌, ◌⊎◌, ◌↔◌, ◌==◌, Bool, true, false, cond, ◌||◌, List, [], ◌∷◌, ◌++◌, Option, Some, None, Contains, refl, sym, ap, inl, inr, ◌∙◌, subst, append_assoc}
+use Rattle.std.proofs.Common.{◌≡◌, ◌⊎◌, ◌↔◌, ◌==◌, Bool, true, false, cond, List, [], ◌∷◌, ◌++◌, Option, Some, None, Contains, refl, sym, ap, inl, inr, ◌∙◌, subst, append_assoc}
 use Rattle.std.specs.Bool.{Decides}
 use Rattle.std.proofs.lemmas.Bool.Decides.{Decides-or}
 use Rattle.std.proofs.lemmas.List.Elements.{Contains-append_left, Contains-append_right, Contains-append_cases}
+use Rattle.std.proofs.lemmas.Bool.{or_left, or_right}
+use Rattle.sf_base.proofs.Elements.{contains-nil, contains-append, contains-none, contains-single, contains-single_of, contains-cons}
 use Rattle.sf_base.specs.declared.ids.FieldId.{FieldId}
 use Rattle.sf_base.specs.declared.ids.ProcId.{ProcId}
 use Rattle.sf_base.specs.declared.ids.ResId.{ResId}
@@ -17,25 +19,21 @@ use Rattle.sf_core.specs.declared.command.Expr.TheVariants.{Var as Variable, Nil
 use Rattle.sf_core.specs.declared.command.Occurrence.{Occurrence}
 use Rattle.sf_core.specs.Assertions.Occurs.{VarOccursIn}
 use Rattle.sf_core.specs.Program.Syntax.{Conjunct, holds, points, segment, tree, choose, Level, level, Conjuncts, none, also, Call, Command, assign, look_up, mutate, new, dispose, if, while, call, fork, with, Block, done, then, Procedure}
-use Rattle.sf_calls.specs.Listed.{is_entered, kept, shared_in_expr, shared_in_test, shared_in_operand, shared_in_condition, shared_in_fields, shared_in_level, shared_in_conjuncts, shared_in_conjunct, shared_in_references, shared_in_values, shared_in_call, shared_in, shared_of, has_calls, has_calls_of, entered_in, entered_of, guarded_in, guarded_of}
+use Rattle.sf_calls.specs.Internal.Listed.{is_entered, kept, shared_in_expr, shared_in_test, shared_in_operand, shared_in_condition, shared_in_fields, shared_in_level, shared_in_conjuncts, shared_in_conjunct, shared_in_references, shared_in_values, shared_in_call, shared_in, shared_of, has_calls, has_calls_of, entered_in, entered_of, with_calls_in, with_calls_of}
 use Rattle.sf_calls.specs.Conditions.{IsShared}
 use Rattle.sf_calls.specs.Outside.{owner, IsOther, OccursInExpr, OccursInTest, IsAmong, OccursInValues, OccursInCall, OccursOutside, OccursInCommand, CallsIn, CallsInCommand, EntersIn, EntersInCommand}
-use Rattle.sf_calls.specs.declared.text.Text.{Text}
-use Rattle.sf_calls.specs.Texts.{IsTextOf}
+use Rattle.sf_calls.specs.declared.summary.Summary.{Summary}
+use Rattle.sf_calls.specs.Internal.Summaries.{IsSummaryOf}
 use Rattle.sf_calls.specs.Sets.{IsEarlier, IsVarSet}
 use Rattle.sf_calls.proofs.InOrder.{set_same}
-use Rattle.sf_calls.proofs.Decided.{same_resource, none_in, of_both, of_none, single_is, is_single}
+use Rattle.sf_calls.proofs.Decided.{same_resource}
 use Rattle.sf_calls.proofs.Occurring.{OccursInOperand, OccursInCondition, OccursInFields, OccursIn, OccursInAny, OccursInOne, occurs_is}
 
--- an element, or one of the rest
-pub cons_is : {A : Type 0} (x : A) (xs : List A) (y : A) → Contains (x ∷ xs) y ↔ ((x ≡ y) ⊎ Contains xs y)
-cons_is x xs y = of_both (x ∷ []) xs y (x ≡ y) (Contains xs y) (single_is x y, is_single x y) (λ c. c, λ c. c)
-
 pub entered_is : (r : ResId) (es : List ResId) → Decides (is_entered r es) (Contains es r)
-entered_is r [] = (λ e. absurd (cc), λ c. absurd (none_in r c))
+entered_is r [] = (λ e. absurd (cc), λ c. absurd (contains-nil r c))
 entered_is r (q ∷ qs) =
     let both = Decides-or (q.0 == r.0) (is_entered r qs) (same_resource q r) (entered_is r qs) in
-    (λ e. (cons_is q qs r).1 (both.0 e), λ c. both.1 ((cons_is q qs r).0 c))
+    (λ e. (contains-cons q qs r).1 (both.0 e), λ c. both.1 ((contains-cons q qs r).0 c))
 
 -- a variable of a resource that is not entered
 abbrev pub IsKept : List ResId → Var → Type 0
@@ -47,7 +45,7 @@ abbrev Lists : List ResId → Var → List Var → Type 0 → Type 0
 Lists es x xs P = Contains xs x ↔ (IsKept es x × P)
 
 lists_none : (es : List ResId) (x : Var) → Lists es x [] ⊥
-lists_none es x = (λ c. absurd (none_in x c), λ h. absurd h.1)
+lists_none es x = (λ c. absurd (contains-nil x c), λ h. absurd h.1)
 
 lists_both : (es : List ResId) (x : Var) (xs ys : List Var) (P Q : Type 0) → Lists es x xs P → Lists es x ys Q → Lists es x (xs ++ ys) (P ⊎ Q)
 lists_both es x xs ys P Q p q = (to, from)
@@ -60,14 +58,14 @@ lists_both es x xs ys P Q p q = (to, from)
     from (k, inr b) = Contains-append_right xs ys x (q.1 (k, b))
 
 lists_if : (es : List ResId) (r : ResId) (x y : Var) (b : Bool) → Decides b (Contains es r) → ((Contains es r → ⊥) → IsKept es y) → (IsKept es y → Contains es r → ⊥) → Lists es x (cond b [] (y ∷ [])) (y ≡ x)
-lists_if es r x y true d to from = (λ c. absurd (none_in x c), λ h. absurd (from (subst (IsKept es) (sym h.1) h.0) (d.0 refl)))
+lists_if es r x y true d to from = (λ c. absurd (contains-nil x c), λ h. absurd (from (subst (IsKept es) (sym h.1) h.0) (d.0 refl)))
 lists_if es r x y false d to from = (
-  λ c. let e = single_is y x c in (subst (IsKept es) e (to (λ h. let f : false ≡ true = d.1 h in absurd (cc))), e),
-  λ h. is_single y x h.1,
+  λ c. let e = contains-single y x c in (subst (IsKept es) e (to (λ h. let f : false ≡ true = d.1 h in absurd (cc))), e),
+  λ h. contains-single_of y x h.1,
 )
 
 lists_one : (es : List ResId) (x y : Var) → Lists es x (kept es y) (y ≡ x)
-lists_one es x (Own n) = (λ c. absurd (none_in x c), λ h. absurd (subst (IsKept es) (sym h.1) h.0))
+lists_one es x (Own n) = (λ c. absurd (contains-nil x c), λ h. absurd (subst (IsKept es) (sym h.1) h.0))
 lists_one es x (Shared r i) = lists_if es r x (Shared r i) (is_entered r es) (entered_is r es) (λ h. h) (λ h. h)
 
 lists_expr : (es : List ResId) (x : Var) (e : Expr) → Lists es x (shared_in_expr es e) (OccursInExpr x e)
@@ -129,8 +127,8 @@ lists_call es x c = lists_both es x _ _ _ _ (lists_references es x c.references)
 kept_inside : (es : List ResId) (r : ResId) (x : Var) → IsKept (r ∷ es) x ↔ (IsKept es x × IsOther (owner x) r)
 kept_inside es r (Own n) = (λ h. absurd h, λ h. absurd h.0)
 kept_inside es r (Shared q i) = (
-  λ h. (λ c. h ((cons_is r es q).1 (inr c)), λ e. h ((cons_is r es q).1 (inl e))),
-  λ h c. elim ((cons_is r es q).0 c) [ inl e ↦ absurd (h.1 e) | inr k ↦ h.0 k ],
+  λ h. (λ c. h ((contains-cons r es q).1 (inr c)), λ e. h ((contains-cons r es q).1 (inl e))),
+  λ h c. elim ((contains-cons r es q).0 c) [ inl e ↦ absurd (h.1 e) | inr k ↦ h.0 k ],
 )
 
 lists_inside : (es : List ResId) (r : ResId) (x : Var) (xs : List Var) (P : Type 0) → Lists (r ∷ es) x xs P → Lists es x xs (IsOther (owner x) r × P)
@@ -159,14 +157,14 @@ mutual
 -- outside all regions, each variable of a resource is kept
 kept_all : (x : Var) → IsKept [] x ↔ IsShared x
 kept_all (Own n) = (λ h. h, λ h. h)
-kept_all (Shared r i) = (λ h. tt, λ h c. none_in r c)
+kept_all (Shared r i) = (λ h. tt, λ h c. contains-nil r c)
 
 lists_all : (x : Var) (xs : List Var) (P : Type 0) → Lists [] x xs P → Contains xs x ↔ (IsShared x × P)
 lists_all x xs P l = (λ c. ((kept_all x).0 (l.0 c).0, (l.0 c).1), λ h. l.1 ((kept_all x).1 h.0, h.1))
 
 -- the variables of a pre and a post
-pub spoken_are : (a b : Level Expr) (x : Var) → Contains (shared_in_level [] a ++ shared_in_level [] b) x ↔ (IsShared x × (VarOccursIn a x ⊎ VarOccursIn b x))
-spoken_are a b x = lists_all x _ _ (lists_both [] x _ _ _ _ (lists_level [] x a) (lists_level [] x b))
+pub in_contract_are : (a b : Level Expr) (x : Var) → Contains (shared_in_level [] a ++ shared_in_level [] b) x ↔ (IsShared x × (VarOccursIn a x ⊎ VarOccursIn b x))
+in_contract_are a b x = lists_all x _ _ (lists_both [] x _ _ _ _ (lists_level [] x a) (lists_level [] x b))
 
 -- and of a body
 pub mentioned_are : (a b : Level Expr) (c : Block) (x : Var) → Contains (shared_in_level [] a ++ (shared_in_level [] b ++ shared_in [] c)) x ↔ (IsShared x × (VarOccursIn a x ⊎ (VarOccursIn b x ⊎ OccursOutside x c)))
@@ -175,28 +173,20 @@ mentioned_are a b c x = lists_all x _ _ (lists_both [] x _ _ _ _ (lists_level []
 -- the regions of commands
 mutual
   pub entered_are : (r : ResId) (b : Block) → Contains (entered_in b) r ↔ EntersIn r b
-  entered_are r done = of_none r
-  entered_are r (then c b) = of_both _ _ r _ _ (entered_by r c) (entered_are r b)
+  entered_are r done = contains-none r
+  entered_are r (then c b) = contains-append _ _ r _ _ (entered_by r c) (entered_are r b)
 
   entered_by : (r : ResId) (c : Command) → Contains (entered_of c) r ↔ EntersInCommand r c
-  entered_by r (assign p y e) = of_none r
-  entered_by r (look_up p y e field) = of_none r
-  entered_by r (mutate p e field d) = of_none r
-  entered_by r (new p y) = of_none r
-  entered_by r (dispose p e) = of_none r
-  entered_by r (if p t c d) = of_both _ _ r _ _ (entered_are r c) (entered_are r d)
+  entered_by r (assign p y e) = contains-none r
+  entered_by r (look_up p y e field) = contains-none r
+  entered_by r (mutate p e field d) = contains-none r
+  entered_by r (new p y) = contains-none r
+  entered_by r (dispose p e) = contains-none r
+  entered_by r (if p t c d) = contains-append _ _ r _ _ (entered_are r c) (entered_are r d)
   entered_by r (while p t a c) = entered_are r c
-  entered_by r (call p c) = of_none r
-  entered_by r (fork p c d) = of_none r
-  entered_by r (with p q t c) = of_both (q ∷ []) (entered_in c) r _ _ (single_is q r, is_single q r) (entered_are r c)
-
-or_left : (a b : Bool) → a ≡ true → (a || b) ≡ true
-or_left true b e = refl
-or_left false b e = absurd (cc)
-
-or_right : (a b : Bool) → b ≡ true → (a || b) ≡ true
-or_right true b e = refl
-or_right false b e = e
+  entered_by r (call p c) = contains-none r
+  entered_by r (fork p c d) = contains-none r
+  entered_by r (with p q t c) = contains-append (q ∷ []) (entered_in c) r _ _ (contains-single q r, contains-single_of q r) (entered_are r c)
 
 -- who calls has a call
 mutual
@@ -218,31 +208,31 @@ mutual
   calls_some_of but g (fork p c d) h = refl
   calls_some_of but g (with p r t c) h = calls_some but g c h.1
 
-guarded_here : (b : Bool) (q r : ResId) → b ≡ true → q ≡ r → Contains (cond b (q ∷ []) []) r
-guarded_here true q r e same = is_single q r same
-guarded_here false q r e same = absurd (cc)
+with_calls_here : (b : Bool) (q r : ResId) → b ≡ true → q ≡ r → Contains (cond b (q ∷ []) []) r
+with_calls_here true q r e same = contains-single_of q r same
+with_calls_here false q r e same = absurd (cc)
 
 -- where no call stands inside a region of r, each stands outside
 mutual
-  calls_outside : (r : ResId) (g : ProcId) (b : Block) → (Contains (guarded_in b) r → ⊥) → CallsIn None g b → CallsIn (Some r) g b
+  calls_outside : (r : ResId) (g : ProcId) (b : Block) → (Contains (with_calls_in b) r → ⊥) → CallsIn None g b → CallsIn (Some r) g b
   calls_outside r g done n h = absurd h
-  calls_outside r g (then c b) n (inl h) = inl (calls_outside_of r g c (λ k. n (Contains-append_left (guarded_of c) (guarded_in b) r k)) h)
-  calls_outside r g (then c b) n (inr h) = inr (calls_outside r g b (λ k. n (Contains-append_right (guarded_of c) (guarded_in b) r k)) h)
+  calls_outside r g (then c b) n (inl h) = inl (calls_outside_of r g c (λ k. n (Contains-append_left (with_calls_of c) (with_calls_in b) r k)) h)
+  calls_outside r g (then c b) n (inr h) = inr (calls_outside r g b (λ k. n (Contains-append_right (with_calls_of c) (with_calls_in b) r k)) h)
 
-  calls_outside_of : (r : ResId) (g : ProcId) (c : Command) → (Contains (guarded_of c) r → ⊥) → CallsInCommand None g c → CallsInCommand (Some r) g c
+  calls_outside_of : (r : ResId) (g : ProcId) (c : Command) → (Contains (with_calls_of c) r → ⊥) → CallsInCommand None g c → CallsInCommand (Some r) g c
   calls_outside_of r g (assign p y e) n h = absurd h
   calls_outside_of r g (look_up p y e field) n h = absurd h
   calls_outside_of r g (mutate p e field d) n h = absurd h
   calls_outside_of r g (new p y) n h = absurd h
   calls_outside_of r g (dispose p e) n h = absurd h
-  calls_outside_of r g (if p t c d) n (inl h) = inl (calls_outside r g c (λ k. n (Contains-append_left (guarded_in c) (guarded_in d) r k)) h)
-  calls_outside_of r g (if p t c d) n (inr h) = inr (calls_outside r g d (λ k. n (Contains-append_right (guarded_in c) (guarded_in d) r k)) h)
+  calls_outside_of r g (if p t c d) n (inl h) = inl (calls_outside r g c (λ k. n (Contains-append_left (with_calls_in c) (with_calls_in d) r k)) h)
+  calls_outside_of r g (if p t c d) n (inr h) = inr (calls_outside r g d (λ k. n (Contains-append_right (with_calls_in c) (with_calls_in d) r k)) h)
   calls_outside_of r g (while p t a c) n h = calls_outside r g c n h
   calls_outside_of r g (call p c) n h = h
   calls_outside_of r g (fork p c d) n h = h
   calls_outside_of r g (with p q t c) n h = (
-    λ e. n (Contains-append_right (guarded_in c) (cond (has_calls c) (q ∷ []) []) r (guarded_here (has_calls c) q r (calls_some None g c h.1) e)),
-    calls_outside r g c (λ k. n (Contains-append_left (guarded_in c) (cond (has_calls c) (q ∷ []) []) r k)) h.1,
+    λ e. n (Contains-append_right (with_calls_in c) (cond (has_calls c) (q ∷ []) []) r (with_calls_here (has_calls c) q r (calls_some None g c h.1) e)),
+    calls_outside r g c (λ k. n (Contains-append_left (with_calls_in c) (cond (has_calls c) (q ∷ []) []) r k)) h.1,
   )
 
 -- a call outside the regions of r is a call
@@ -266,15 +256,15 @@ mutual
   calls_anyway_of r g (with p q t c) h = (tt, calls_anyway r g c h.1)
 
 -- what was listed of a text is what stands there
-pub text_is : (h : Procedure) (t : Text) (spoken mentioned : List Var) → spoken ≡ shared_in_level [] h.pre.level ++ shared_in_level [] h.post.level → mentioned ≡ spoken ++ shared_in [] h.body
-    → IsVarSet (Contains spoken) t.spoken → IsVarSet (Contains mentioned) t.mentioned → t.entered.items ≡ entered_in h.body → t.guarded.items ≡ guarded_in h.body → IsTextOf h t
-text_is h t spoken mentioned s m are all entered guarded = record {
-  spoken = set_same IsEarlier _ _ t.spoken are (λ x c. (spoken_are h.pre.level h.post.level x).0 (subst (λ (xs : List Var). Contains xs x) s c)) (λ x p. subst (λ (xs : List Var). Contains xs x) (sym s) ((spoken_are h.pre.level h.post.level x).1 p));
+pub summary_is : (h : Procedure) (t : Summary) (in_contract mentioned : List Var) → in_contract ≡ shared_in_level [] h.pre.level ++ shared_in_level [] h.post.level → mentioned ≡ in_contract ++ shared_in [] h.body
+    → IsVarSet (Contains in_contract) t.in_contract → IsVarSet (Contains mentioned) t.mentioned → t.entered.items ≡ entered_in h.body → t.with_calls.items ≡ with_calls_in h.body → IsSummaryOf h t
+summary_is h t in_contract mentioned s m are all entered with_calls = record {
+  in_contract = set_same IsEarlier _ _ t.in_contract are (λ x c. (in_contract_are h.pre.level h.post.level x).0 (subst (λ (xs : List Var). Contains xs x) s c)) (λ x p. subst (λ (xs : List Var). Contains xs x) (sym s) ((in_contract_are h.pre.level h.post.level x).1 p));
   mentioned = set_same IsEarlier _ _ t.mentioned all
       (λ x c. (mentioned_are h.pre.level h.post.level h.body x).0 (subst (λ (xs : List Var). Contains xs x) parts c))
       (λ x p. subst (λ (xs : List Var). Contains xs x) (sym parts) ((mentioned_are h.pre.level h.post.level h.body x).1 p));
   entered = λ r. (λ c. (entered_are r h.body).0 (subst (λ (xs : List ResId). Contains xs r) entered c), λ e. subst (λ (xs : List ResId). Contains xs r) (sym entered) ((entered_are r h.body).1 e));
-  guarded = λ r n g c. calls_outside r g h.body (λ k. n (subst (λ (xs : List ResId). Contains xs r) (sym guarded) k)) c;
+  with_calls = λ r n g c. calls_outside r g h.body (λ k. n (subst (λ (xs : List ResId). Contains xs r) (sym with_calls) k)) c;
 }
   where
     parts : mentioned ≡ shared_in_level [] h.pre.level ++ (shared_in_level [] h.post.level ++ shared_in [] h.body)

@@ -17,7 +17,7 @@ use Rattle.sf_calls.specs.Conditions.{Takes, Free}
 use Rattle.sf_calls.specs.First.{nothing, where_, first, first_of}
 use Rattle.sf_calls.specs.Around.{Around, inside, IsHeld, IsUnheld, Shares}
 use Rattle.sf_calls.specs.FirstBreach.{resources_from, variables_from, UnheldAt, UnheldInExpr, UnheldInOperand, UnheldInTest, UnheldInLevel, UnheldInConjuncts, UnheldInConjunct, UnheldInCall, ReentersByCall, Repeats, PassesFree, named_in, SharesInFork, InBlock, InCommand, InProcedures}
-use Rattle.sf_calls.specs.Laws.{ConditionsAreHad, FirstBreachIsDetermined}
+use Rattle.sf_calls.specs.Laws.{ConditionsFromTruncation, FirstBreachIsUnique}
 use Rattle.sf_calls.proofs.Had.{had_once}
 use Rattle.sf_calls.proofs.Searches.{proc}
 
@@ -163,9 +163,9 @@ one_procedures : (p : Program) (k : ℕ) (hs : List Procedure) → IsOne (InProc
 one_procedures p k [] = let none : IsOne (nothing {A = ProcId × Breach}) = one_nothing in record { same = none.same; once = none.once }
 one_procedures p k (h ∷ hs) = one_procedure p k h hs (one_block (start p k) h.body) (one_procedures p (suc k) hs)
 
-pub one_breach : FirstBreachIsDetermined
+pub one_breach : FirstBreachIsUnique
 one_breach p = (one_procedures p 0 p.procedures).same
 
 -- there is one proof at most that no condition is broken
-pub conditions_had : ConditionsAreHad
+pub conditions_had : ConditionsFromTruncation
 conditions_had p = had_once (one_procedures p 0 p.procedures).once

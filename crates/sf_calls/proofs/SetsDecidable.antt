@@ -3,6 +3,7 @@ use Rattle.std.proofs.Common.{◌≡◌, ◌⊎◌, ◌↔◌, ◌<◌, ◌==◌
 use Rattle.std.specs.Bool.{Decides}
 use Rattle.std.proofs.lemmas.Bool.Decides.{Decides-like, Decides-eqb, eqb_tells}
 use Rattle.std.proofs.lemmas.Option.{slice_get_within}
+use Rattle.sf_base.proofs.Elements.{contains-decides, contains-cons}
 use Rattle.sf_base.specs.declared.ids.ProcId.{ProcId}
 use Rattle.sf_base.specs.declared.ids.ResId.{ResId}
 use Rattle.sf_base.specs.declared.ids.Var.{Var}
@@ -11,15 +12,15 @@ use Rattle.sf_core.specs.Machine.HeldBy.{HeldBy}
 use Rattle.sf_core.specs.Assertions.Occurs.{VarOccursIn}
 use Rattle.sf_core.specs.Program.Syntax.{Procedure, Program}
 use Rattle.sf_calls.specs.Conditions.{Calls, Free, Has, Takes}
-use Rattle.sf_calls.specs.Leads.{Leads}
+use Rattle.sf_calls.specs.Reaches.{Reaches}
 use Rattle.sf_calls.specs.Outside.{CallsIn, EntersIn, OccursOutside, owner}
-use Rattle.sf_calls.specs.Listed.{entered_in, is_entered, shared_in, shared_in_level}
-use Rattle.sf_calls.specs.Tests.{callees_in}
-use Rattle.sf_calls.specs.Texts.{has, speaks_of}
-use Rattle.sf_calls.proofs.Decidable.{IsDecidable, decidable_both, decidable_by, contains_is, listed, listed_is, passes, passes_is}
+use Rattle.sf_calls.specs.Internal.Listed.{entered_in, is_entered, shared_in, shared_in_level}
+use Rattle.sf_calls.specs.Internal.Tests.{callees_in}
+use Rattle.sf_calls.specs.Internal.Summaries.{has, speaks_of}
+use Rattle.sf_calls.proofs.Decidable.{IsDecidable, decidable_both, decidable_by, listed, listed_is, passes, passes_is}
 use Rattle.sf_calls.proofs.Decided.{callees_in_are}
-use Rattle.sf_calls.proofs.Listing.{cons_is, entered_are, entered_is, mentioned_are, spoken_are}
-use Rattle.sf_calls.proofs.Paths.{decidable_leads}
+use Rattle.sf_calls.proofs.Listing.{entered_are, entered_is, mentioned_are, in_contract_are}
+use Rattle.sf_calls.proofs.Paths.{decidable_reaches}
 use Rattle.sf_calls.proofs.Rows.{Speaks, speaks_is, has_is as list_has_is}
 use Rattle.sf_calls.proofs.Searches.{proc}
 
@@ -35,8 +36,8 @@ procedures_below (suc n) = proc n ∷ procedures_below n
 procedure_below : (n : ℕ) (f : ProcId) → f.0 < n → Contains (procedures_below n) f
 procedure_below zero f below = absurd (omega (arith, below))
 procedure_below (suc n) f below = elim (eqb_tells f.0 n) [
-  | inl e ↦ (cons_is (proc n) (procedures_below n) f).1 (inl (ap proc (sym e.1)))
-  | inr e ↦ (cons_is (proc n) (procedures_below n) f).1 (inr (procedure_below n f (let other : f.0 ≡ n → ⊥ = e.1 in omega (arith, below))))
+  | inl e ↦ (contains-cons (proc n) (procedures_below n) f).1 (inl (ap proc (sym e.1)))
+  | inr e ↦ (contains-cons (proc n) (procedures_below n) f).1 (inr (procedure_below n f (let other : f.0 ≡ n → ⊥ = e.1 in omega (arith, below))))
 ]
 
 -- whoever has a property is one of the program's
@@ -59,13 +60,13 @@ has_is p t P is f = passes_is t P is (slice_get p.procedures f.0)
 calls_decidable : (p : Program) (but : Option ResId) (f g : ProcId) → IsDecidable (Calls p but f g)
 calls_decidable p but f g =
     let are = called_are p but f g in
-    decidable_by _ (Decides-like _ are.0 are.1 (contains_is (λ (h k : ProcId). h.0 == k.0) (λ h k. Decides-like _ (ap proc) (ap (λ (j : ProcId). j.0)) (Decides-eqb h.0 k.0)) (called p but f) g))
+    decidable_by _ (Decides-like _ are.0 are.1 (contains-decides (λ (h k : ProcId). h.0 == k.0) (λ h k. Decides-like _ (ap proc) (ap (λ (j : ProcId). j.0)) (Decides-eqb h.0 k.0)) (called p but f) g))
 
--- what leads along calls to a procedure with a property
+-- what reaches along calls to a procedure with a property
 module _ (p : Program) (t : Procedure → Bool) (P : Procedure → Type 0) (is : (h : Procedure) → Decides (t h) (P h)) where
-  along_calls : (but : Option ResId) (f : ProcId) → IsDecidable (Leads (Has p P) (Calls p but) f)
+  along_calls : (but : Option ResId) (f : ProcId) → IsDecidable (Reaches (Has p P) (Calls p but) f)
   along_calls but f =
-      decidable_leads (Has p P) (Calls p but) (procedures_below (length p.procedures)) (has_there p P) (λ g h c. has_there p (λ k. CallsIn but h k.body) g c)
+      decidable_reaches (Has p P) (Calls p but) (procedures_below (length p.procedures)) (has_there p P) (λ g h c. has_there p (λ k. CallsIn but h k.body) g c)
       same_procedure (λ g. decidable_by _ (has_is p t P is g)) (calls_decidable p but) f
 
 -- the list of its regions decides whether a procedure enters a resource
@@ -80,8 +81,8 @@ takes_decidable p f r = along_calls p (λ h. is_entered r (entered_in h.body)) (
 abbrev mentioned : Procedure → List Var
 mentioned h = shared_in_level [] h.pre.level ++ (shared_in_level [] h.post.level ++ shared_in [] h.body)
 
-abbrev spoken : Procedure → List Var
-spoken h = shared_in_level [] h.pre.level ++ shared_in_level [] h.post.level
+abbrev in_contract : Procedure → List Var
+in_contract h = shared_in_level [] h.pre.level ++ shared_in_level [] h.post.level
 
 -- they decide whether it mentions a resource's variable
 mentions_is : (r : ResId) (i : ℕ) (h : Procedure)
@@ -96,19 +97,19 @@ free_decidable p f (Own n) = inr (λ h. h.0)
 free_decidable p f (Shared r i) = decidable_both (inl tt) (along_calls p (λ h. has (Shared r i) (mentioned h)) _ (mentions_is r i) (owner (Shared r i)) f)
 
 -- they decide whether its pre or its post speaks of a resource
-speaks_of_is : (r : ResId) (h : Procedure) → Decides (speaks_of r (spoken h)) ((n : ℕ) × (VarOccursIn h.pre.level (Shared r n) ⊎ VarOccursIn h.post.level (Shared r n)))
+speaks_of_is : (r : ResId) (h : Procedure) → Decides (speaks_of r (in_contract h)) ((n : ℕ) × (VarOccursIn h.pre.level (Shared r n) ⊎ VarOccursIn h.post.level (Shared r n)))
 unfolding Speaks
-speaks_of_is r h = Decides-like _ to from (speaks_is r (spoken h))
+speaks_of_is r h = Decides-like _ to from (speaks_is r (in_contract h))
   where
-    to : Speaks r (spoken h) → (n : ℕ) × (VarOccursIn h.pre.level (Shared r n) ⊎ VarOccursIn h.post.level (Shared r n))
-    to s = (s.0, ((spoken_are h.pre.level h.post.level (Shared r s.0)).0 s.1).1)
+    to : Speaks r (in_contract h) → (n : ℕ) × (VarOccursIn h.pre.level (Shared r n) ⊎ VarOccursIn h.post.level (Shared r n))
+    to s = (s.0, ((in_contract_are h.pre.level h.post.level (Shared r s.0)).0 s.1).1)
 
-    from : (n : ℕ) × (VarOccursIn h.pre.level (Shared r n) ⊎ VarOccursIn h.post.level (Shared r n)) → Speaks r (spoken h)
-    from m = (m.0, (spoken_are h.pre.level h.post.level (Shared r m.0)).1 (tt, m.1))
+    from : (n : ℕ) × (VarOccursIn h.pre.level (Shared r n) ⊎ VarOccursIn h.post.level (Shared r n)) → Speaks r (in_contract h)
+    from m = (m.0, (in_contract_are h.pre.level h.post.level (Shared r m.0)).1 (tt, m.1))
 
 -- whether a procedure holds a resource
 pub holds_decidable : (p : Program) (f : ProcId) (r : ResId) → IsDecidable (HeldBy p f r)
-holds_decidable p f r = decidable_by _ (Decides-like _ to from (has_is p (λ h. speaks_of r (spoken h)) _ (speaks_of_is r) f))
+holds_decidable p f r = decidable_by _ (Decides-like _ to from (has_is p (λ h. speaks_of r (in_contract h)) _ (speaks_of_is r) f))
   where
     to : Has p (λ h. (n : ℕ) × (VarOccursIn h.pre.level (Shared r n) ⊎ VarOccursIn h.post.level (Shared r n))) f → HeldBy p f r
     to h = record { procedure = h.0; there = h.1; variable = h.2.0; occurs = h.2.1 }

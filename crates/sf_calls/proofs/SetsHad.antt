@@ -4,15 +4,16 @@ use Rattle.std.proofs.Math.Logic.{∥∥₁_map}
 use Rattle.std.proofs.Math.Nat.{ℕ_set}
 use Rattle.std.specs.Bool.{Decides}
 use Rattle.std.proofs.lemmas.Bool.Decides.{Decides-ltb}
+use Rattle.sf_base.proofs.Elements.{contains-decides}
 use Rattle.sf_base.specs.declared.ids.ProcId.{ProcId}
 use Rattle.sf_base.specs.declared.ids.ResId.{ResId}
 use Rattle.sf_base.specs.declared.ids.Var.{Var}
 use Rattle.sf_core.specs.Machine.HeldBy.{HeldBy}
 use Rattle.sf_calls.specs.Conditions.{Free, Takes}
-use Rattle.sf_calls.specs.Laws.{SetsAreHad}
+use Rattle.sf_calls.specs.Laws.{SetsFromTruncation}
 use Rattle.sf_calls.specs.Sets.{IsEarlier, IsEarlierResource, IsFamily, IsSetOf}
-use Rattle.sf_calls.specs.Tests.{same_var}
-use Rattle.sf_calls.proofs.Decidable.{IsDecidable, contains_is, decidable_by}
+use Rattle.sf_calls.specs.Internal.Tests.{same_var}
+use Rattle.sf_calls.proofs.Decidable.{IsDecidable, decidable_by}
 use Rattle.sf_calls.proofs.Decided.{same_resource, var_is}
 use Rattle.sf_calls.proofs.Gathered.{earlier_is}
 use Rattle.sf_calls.proofs.Had.{IsHad, had_decidable, had_exactly, had_once, had_pairs}
@@ -22,7 +23,7 @@ use Rattle.sf_calls.proofs.SetsDecidable.{takes_decidable, holds_decidable, free
 set_had : {A : Type 0} (same : A → A → Bool) → ((x y : A) → Decides (same x y) (x ≡ y)) → (B : A → A → Type 0) → ((x y : A) → IsHad (B x y)) → (P : A → Type 0) → ((x : A) → IsDecidable (P x)) → (xs : List A) → IsHad (IsSetOf B P xs)
 set_had same is B order P tell xs h = record {
   ordered = had_pairs B order xs (∥∥₁_map h (λ s. s.ordered));
-  members = λ x. had_exactly (had_decidable (decidable_by _ (contains_is same is xs x))) (had_decidable (tell x)) (∥∥₁_map h (λ s. s.members x));
+  members = λ x. had_exactly (had_decidable (decidable_by _ (contains-decides same is xs x))) (had_decidable (tell x)) (∥∥₁_map h (λ s. s.members x));
 }
 
 -- that lists are such sets, each for its procedure
@@ -41,7 +42,7 @@ earlier_resource_had : (r q : ResId) → IsHad (IsEarlierResource r q)
 earlier_resource_had r q = had_decidable (decidable_by _ (Decides-ltb r.0 q.0))
 
 -- that sets are the program's
-pub sets_had : SetsAreHad
+pub sets_had : SetsFromTruncation
 sets_had p sets h = record {
   takes = family_had _ (Takes p) (λ f. set_had (λ r q. r.0 == q.0) same_resource IsEarlierResource earlier_resource_had (Takes p f) (takes_decidable p f)) _ sets.takes (∥∥₁_map h (λ s. s.takes));
   holds = family_had _ (HeldBy p) (λ f. set_had (λ r q. r.0 == q.0) same_resource IsEarlierResource earlier_resource_had (HeldBy p f) (holds_decidable p f)) _ sets.holds (∥∥₁_map h (λ s. s.holds));

@@ -6,7 +6,7 @@ use Rattle.sf_base.specs.declared.ids.ResId.{ResId}
 use Rattle.sf_core.specs.Machine.HeldBy.{HeldBy}
 use Rattle.sf_core.specs.Program.Syntax.{Program}
 use Rattle.sf_calls.specs.Conditions.{Free, Takes}
-use Rattle.sf_calls.specs.Laws.{SetsAreThere}
+use Rattle.sf_calls.specs.Laws.{SetsExist}
 use Rattle.sf_calls.specs.Sets.{IsEarlier, IsEarlierResource, IsFamily, IsResSet, IsVarSet}
 use Rattle.sf_calls.proofs.Decidable.{IsDecidable, set_there}
 use Rattle.sf_calls.proofs.InFile.{free_there, resources_ordered, resources_there, variables_ordered}
@@ -37,7 +37,7 @@ family_there Is P has count =
 resources_set : (p : Program) (P : ResId → Type 0) → ((r : ResId) → IsDecidable (P r)) → ((r : ResId) → P r → r.0 < length p.resources) → (rs : List ResId) × IsResSet P rs
 resources_set p P tell within = set_there IsEarlierResource P tell _ (resources_ordered 0 p.resources) (λ r h. resources_there 0 p.resources r (omega arith) (let below : r.0 < length p.resources = within r h in omega arith))
 
-pub sets_there : SetsAreThere
+pub sets_there : SetsExist
 sets_there p formed = (record { takes = takes.0; holds = holds.0; free = free.0 }, record { takes = takes.1; holds = holds.1; free = free.1 })
   where
     takes : (sets : List (List ResId)) × IsFamily IsResSet (Takes p) (length p.procedures) sets

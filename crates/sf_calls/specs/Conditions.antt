@@ -7,7 +7,7 @@ use Rattle.sf_base.specs.declared.ids.Var.{Var}
 use Rattle.sf_base.specs.declared.ids.Var.TheVariants.{Own, Shared}
 use Rattle.sf_core.specs.Assertions.Occurs.{VarOccursIn}
 use Rattle.sf_core.specs.Program.Syntax.{Procedure, Program}
-use Rattle.sf_calls.specs.Leads.{Leads}
+use Rattle.sf_calls.specs.Reaches.{Reaches}
 use Rattle.sf_calls.specs.Outside.{owner, OccursOutside, CallsIn, EntersIn}
 
 -- the procedure of that number has that property
@@ -28,7 +28,7 @@ Mentions p x f = Has p (λ h. VarOccursIn h.pre.level x ⊎ (VarOccursIn h.post.
 
 -- Takes: f's body has a region of r, or f calls a procedure that takes r
 abbrev pub Takes : Program → ProcId → ResId → Type 0
-Takes p f r = Leads (Enters p r) (Calls p None) f
+Takes p f r = Reaches (Enters p r) (Calls p None) f
 
 -- it is a variable of a resource
 abbrev pub IsShared : Var → Type 0
@@ -37,7 +37,7 @@ IsShared (Shared r i) = Unit {0}
 
 -- f mentions x, or calls a procedure outside the regions of x's resource that has x free
 abbrev pub FreeIn : Program → ProcId → Var → Type 0
-FreeIn p f x = Leads (Mentions p x) (Calls p (owner x)) f
+FreeIn p f x = Reaches (Mentions p x) (Calls p (owner x)) f
 
 -- Free: a resource's variable that f mentions, or that is free in a procedure which f calls outside the regions of its resource
 abbrev pub Free : Program → ProcId → Var → Type 0

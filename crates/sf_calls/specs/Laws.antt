@@ -34,12 +34,12 @@ pub record FreeIsLeast : Type 0 where
   pub least : (p : Program) (T : ProcId → Var → Bool) → IsFreeClosed p (λ f x. IsTrue (T f x)) → (f : ProcId) (x : Var) → Free p f x → IsTrue (T f x)
 
 -- a program that is in order has its sets
-abbrev pub SetsAreThere : Type 0
-SetsAreThere = (p : Program) → IsFormed p → (sets : Sets) × AreSetsOf p sets
+abbrev pub SetsExist : Type 0
+SetsExist = (p : Program) → IsFormed p → (sets : Sets) × AreSetsOf p sets
 
 -- a program has one first breach, or none
-abbrev pub FirstBreachIsDetermined : Type 0
-FirstBreachIsDetermined = (p : Program) (r q : Option (ProcId × Breach)) → FirstBreach p r → FirstBreach p q → r ≡ q
+abbrev pub FirstBreachIsUnique : Type 0
+FirstBreachIsUnique = (p : Program) (r q : Option (ProcId × Breach)) → FirstBreach p r → FirstBreach p q → r ≡ q
 
 -- of a program that is in order: what comes first is broken, and no condition is broken exactly where none comes first
 pub record BreachesAreFound (p : Program) : Type 0 where
@@ -51,9 +51,9 @@ abbrev pub FirstBreachIsBroken : Type 0
 FirstBreachIsBroken = (p : Program) → IsFormed p → BreachesAreFound p
 
 -- whoever holds that the sets are the program's, and not how that was found, has that they are
-abbrev pub SetsAreHad : Type 0
-SetsAreHad = (p : Program) (sets : Sets) → ∥ AreSetsOf p sets ∥₁ → AreSetsOf p sets
+abbrev pub SetsFromTruncation : Type 0
+SetsFromTruncation = (p : Program) (sets : Sets) → ∥ AreSetsOf p sets ∥₁ → AreSetsOf p sets
 
 -- whoever holds that no condition is broken has it
-abbrev pub ConditionsAreHad : Type 0
-ConditionsAreHad = (p : Program) → ∥ Conditions p ∥₁ → Conditions p
+abbrev pub ConditionsFromTruncation : Type 0
+ConditionsFromTruncation = (p : Program) → ∥ Conditions p ∥₁ → Conditions p

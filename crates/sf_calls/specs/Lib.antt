@@ -1,15 +1,11 @@
-pub mod Leads
 pub mod Outside
 pub mod Conditions
 pub mod Sets
-pub mod Gathers
 pub mod Assigned
 pub mod Around
 pub mod First
 pub mod FirstBreach
 pub mod Breaks
-pub mod Tests
-pub mod Listed
 pub mod Laws
-pub mod Marks
-pub mod Texts
+pub mod Reaches
+pub mod Internal

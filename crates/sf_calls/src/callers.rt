@@ -3,12 +3,12 @@
 ghost use Rattle.std.specs.Prelude.{◌≡◌, ◌↔◌, ◌⊎◌, ◌<◌, length, All, Contains, IfOk, OnOk, true};
 ghost use Rattle.sf_base.specs.declared.ids.ProcId.{ProcId};
 ghost use Rattle.sf_core.specs.Program.ProgramView.{program_of};
-ghost use Rattle.sf_calls.specs.Marks.{IsCaller, AreCallers};
-ghost use Rattle.sf_calls.specs.Texts.{AreTexts, guards, guards_any};
+ghost use Rattle.sf_calls.specs.Internal.Visited.{IsCaller, AreCallers};
+ghost use Rattle.sf_calls.specs.Internal.Summaries.{AreSummaries, has_calls_inside, left_out_has_calls_inside};
 
 use crate::outside::add_callees;
 use crate::shared::is_entered;
-use crate::text::Text;
+use crate::summary::Summary;
 use sf_base::{ProcId, ResId};
 use sf_core::Program;
 use std::alloc::{AllocError, Global};
@@ -36,39 +36,39 @@ pub fn callers_after(
     alloc: Global,
     but: Option<ResId>,
     p: &Program,
-    texts: &[Text],
+    summaries: &[Summary],
     last: Option<ResId>,
     callers: Vec<Vec<ProcId>>,
 ) -> Result<Vec<Vec<ProcId>>, AllocError>
-    requires texts { AreTexts (program_of p.now) texts.now }
+    requires summaries { AreSummaries (program_of p.now) summaries.now }
     requires callers { AreCallers (program_of p.now) last callers.items }
     ensures { IfOk result (λ callers. AreCallers (program_of p.now) but callers.items) }
 {
     if is_same_owner(but, last) {
         return Ok(callers);
     }
-    if guards(but, texts) || guards(last, texts) {
+    if has_calls_inside(but, summaries) || has_calls_inside(last, summaries) {
         return callers_of(alloc, but, p);
     }
     Ok(callers)
 }
 
 /// Whether a call stands inside a region of the resource that is left out.
-fn guards(but: Option<ResId>, texts: &[Text]) -> bool
-    ensures { result ≡ guards_any but texts.now }
+fn has_calls_inside(but: Option<ResId>, summaries: &[Summary]) -> bool
+    ensures { result ≡ left_out_has_calls_inside but summaries.now }
 {
     match but {
         None => false,
-        Some(r) => guards_in(r, texts),
+        Some(r) => any_has_calls_inside(r, summaries),
     }
 }
 
 /// Whether a call stands inside a region of the resource.
-fn guards_in(r: ResId, texts: &[Text]) -> bool
-    ensures { result ≡ guards r texts.now }
+fn any_has_calls_inside(r: ResId, summaries: &[Summary]) -> bool
+    ensures { result ≡ has_calls_inside r summaries.now }
 {
-    for t in texts {
-        if is_entered(r, &t.guarded) {
+    for t in summaries {
+        if is_entered(r, &t.with_calls) {
             return true;
         }
     }

@@ -2,40 +2,47 @@
 //! is one, and that whoever holds no more than that such a fact is, has it. Each function does
 //! nothing; its contract is the law.
 
-ghost use Rattle.sf_calls.specs.Laws.{ConditionsAreHad, FirstBreachIsBroken, FirstBreachIsDetermined, FreeIsLeast, SetsAreHad, SetsAreThere, TakesIsLeast};
+ghost use Rattle.sf_calls.specs.Laws.{ConditionsFromTruncation, FirstBreachIsBroken, FirstBreachIsUnique, FreeIsLeast, SetsFromTruncation, SetsExist, TakesIsLeast};
 
 /// What procedures take is closed under its rules, and contained in whatever is.
+#[tactic(auto, using(crate::proofs::Closing::takes_is_least))]
 pub fn takes_is_least()
     ensures { TakesIsLeast }
 {}
 
 /// What is free in procedures is closed under its rules, and contained in whatever is.
+#[tactic(auto, using(crate::proofs::Closing::free_is_least))]
 pub fn free_is_least()
     ensures { FreeIsLeast }
 {}
 
 /// Each program that is in order has its sets.
-pub fn sets_are_there()
-    ensures { SetsAreThere }
+#[tactic(auto, using(crate::proofs::Closing::sets_exist))]
+pub fn sets_exist()
+    ensures { SetsExist }
 {}
 
 /// A program has one first breach of the conditions on variables, or none.
-pub fn first_breach_is_determined()
-    ensures { FirstBreachIsDetermined }
+#[tactic(auto, using(crate::proofs::Closing::first_breach_is_unique))]
+pub fn first_breach_is_unique()
+    ensures { FirstBreachIsUnique }
 {}
 
 /// The first breach of the conditions on variables is one, and there is none exactly where nothing
 /// in the program breaks them.
+#[tactic(auto, using(crate::proofs::Closing::first_breach_is_broken))]
 pub fn first_breach_is_broken()
     ensures { FirstBreachIsBroken }
 {}
 
 /// Whoever holds that sets are the program's, and not how that was found, has that they are.
-pub fn sets_are_had()
-    ensures { SetsAreHad }
+#[tactic(auto, using(crate::proofs::Closing::sets_from_truncation))]
+pub fn sets_from_truncation()
+    ensures { SetsFromTruncation }
 {}
 
 /// Whoever holds that no condition on variables is broken has it.
-pub fn conditions_are_had()
-    ensures { ConditionsAreHad }
+#[tactic(auto, using(crate::proofs::Closing::conditions_from_truncation))]
+pub fn conditions_from_truncation()
+    ensures { ConditionsFromTruncation }
 {}

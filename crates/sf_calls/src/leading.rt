@@ -2,13 +2,13 @@
 
 ghost use Rattle.std.specs.Prelude.{◌≡◌, ◌↔◌, ◌<◌, ◌≤◌, ◌^◌, [], ◌∷◌, length, All, Contains, IfOk, OnOk, false, replicate};
 ghost use Rattle.sf_base.specs.declared.ids.ProcId.{ProcId};
-ghost use Rattle.sf_calls.specs.Leads.{Leads};
-ghost use Rattle.sf_calls.specs.Marks.{EachOnce, IsMarked, IsCaller, MarksMore};
+ghost use Rattle.sf_calls.specs.Reaches.{Reaches};
+ghost use Rattle.sf_calls.specs.Internal.Visited.{EachOnce, IsVisited, IsCaller, VisitsMore};
 
 use sf_base::ProcId;
 use std::alloc::{AllocError, Global};
 
-/// Marks what leads to a marked procedure by calls, by a search backwards along the calls: each
+/// Visited what reaches to a visited procedure by calls, by a search backwards along the calls: each
 /// procedure is queued once, and each call is looked at once. An `Err` is want of memory.
 pub fn leading(
     alloc: Global,
@@ -18,49 +18,53 @@ pub fn leading(
     requires few { length direct.items < 2 ^ 32 }
     requires size { length direct.items ≡ length callers.now }
     requires within { (f g : ProcId) → IsCaller callers.now f g → f.0 < length callers.now }
-    ensures size { IfOk result (λ marks. length marks.items ≡ length callers.now) }
-    ensures members { IfOk result (λ marks. (f : ProcId) → IsMarked marks.items f ↔ Leads (IsMarked direct.items) (IsCaller callers.now) f) }
+    ensures size { IfOk result (λ visited. length visited.items ≡ length callers.now) }
+    ensures members { IfOk result (λ visited. (f : ProcId) → IsVisited visited.items f ↔ Reaches (IsVisited direct.items) (IsCaller callers.now) f) }
 {
-    let mut queue = marked(alloc, &direct)?;
-    let mut marks = direct;
+    let mut queue = visited_procedures(alloc, &direct)?;
+    let mut visited = direct;
     while let Some(g) = queue.pop() {
-        mark_all(&callers[g.0 as usize], &mut marks, &mut queue)?;
+        visit_all(&callers[g.0 as usize], &mut visited, &mut queue)?;
     }
-    Ok(marks)
+    Ok(visited)
 }
 
-/// The procedures that are marked.
-fn marked(alloc: Global, marks: &[bool]) -> Result<Vec<ProcId>, AllocError>
-    requires { length marks.now < 2 ^ 32 }
-    ensures { IfOk result (λ fs. (f : ProcId) → Contains fs.items f ↔ IsMarked marks.now f) }
+/// The procedures that are visited.
+fn visited_procedures(alloc: Global, visited: &[bool]) -> Result<Vec<ProcId>, AllocError>
+    requires { length visited.now < 2 ^ 32 }
+    ensures { IfOk result (λ fs. (f : ProcId) → Contains fs.items f ↔ IsVisited visited.now f) }
 {
     let mut found = Vec::new(alloc);
-    for (i, mark) in marks.iter().enumerate() {
-        if *mark {
+    for (i, visit) in visited.iter().enumerate() {
+        if *visit {
             found.push(ProcId(i as u32))?;
         }
     }
     Ok(found)
 }
 
-/// Marks those procedures, and queues those that were not marked yet.
-fn mark_all(fs: &[ProcId], marks: &mut Vec<bool>, queue: &mut Vec<ProcId>) -> Result<(), AllocError>
-    requires { All (λ f. f.0 < length marks.old.items) fs.now }
-    ensures { OnOk result (MarksMore fs.now marks.old.items queue.old.items marks.new.items queue.new.items) }
+/// Visited those procedures, and queues those that were not visited yet.
+fn visit_all(
+    fs: &[ProcId],
+    visited: &mut Vec<bool>,
+    queue: &mut Vec<ProcId>,
+) -> Result<(), AllocError>
+    requires { All (λ f. f.0 < length visited.old.items) fs.now }
+    ensures { OnOk result (VisitsMore fs.now visited.old.items queue.old.items visited.new.items queue.new.items) }
 {
     for f in fs {
-        mark(*f, marks, queue)?;
+        visit(*f, visited, queue)?;
     }
     Ok(())
 }
 
-/// Marks one procedure, and queues it if it was not marked yet.
-fn mark(f: ProcId, marks: &mut Vec<bool>, queue: &mut Vec<ProcId>) -> Result<(), AllocError>
-    requires { f.0 < length marks.old.items }
-    ensures { OnOk result (MarksMore (f ∷ []) marks.old.items queue.old.items marks.new.items queue.new.items) }
+/// Visited one procedure, and queues it if it was not visited yet.
+fn visit(f: ProcId, visited: &mut Vec<bool>, queue: &mut Vec<ProcId>) -> Result<(), AllocError>
+    requires { f.0 < length visited.old.items }
+    ensures { OnOk result (VisitsMore (f ∷ []) visited.old.items queue.old.items visited.new.items queue.new.items) }
 {
-    if !marks[f.0 as usize] {
-        marks[f.0 as usize] = true;
+    if !visited[f.0 as usize] {
+        visited[f.0 as usize] = true;
         queue.push(f)?;
     }
     Ok(())
@@ -72,19 +76,19 @@ pub fn distinct(alloc: Global, count: usize, fs: &[ProcId]) -> Result<Vec<ProcId
     ensures members { IfOk result (λ gs. (f : ProcId) → Contains gs.items f ↔ Contains fs.now f) }
     ensures once { IfOk result (λ gs. EachOnce gs.items) }
 {
-    let mut marks = no_marks(alloc, count)?;
+    let mut visited = none_visited(alloc, count)?;
     let mut found = Vec::new(alloc);
-    mark_all(fs, &mut marks, &mut found)?;
+    visit_all(fs, &mut visited, &mut found)?;
     Ok(found)
 }
 
-/// For so many procedures no mark.
-fn no_marks(alloc: Global, count: usize) -> Result<Vec<bool>, AllocError>
-    ensures { IfOk result (λ marks. marks.items ≡ replicate count false) }
+/// For so many procedures no visit.
+fn none_visited(alloc: Global, count: usize) -> Result<Vec<bool>, AllocError>
+    ensures { IfOk result (λ visited. visited.items ≡ replicate count false) }
 {
-    let mut marks = Vec::with_capacity(alloc, count)?;
+    let mut visited = Vec::with_capacity(alloc, count)?;
     for _ in 0..count {
-        marks.push(false)?;
+        visited.push(false)?;
     }
-    Ok(marks)
+    Ok(visited)
 }

@@ -3,9 +3,9 @@
 #![tactic(auto)]
 
 mod assigned;
-pub mod breach;
+mod breach;
 mod callers;
-pub mod calls;
+mod calls;
 mod keys;
 pub mod laws;
 mod leading;
@@ -13,10 +13,10 @@ pub mod occurs;
 mod outside;
 mod reaching;
 mod regions;
-pub mod set;
+mod set;
 mod shared;
+mod summary;
 mod tables;
-mod text;
 
 pub use breach::Breach;
 pub use calls::Calls;

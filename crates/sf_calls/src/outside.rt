@@ -1,9 +1,10 @@
 //! The calls that stand in commands outside the regions of a resource.
 
-ghost use Rattle.std.specs.Prelude.{◌≡◌, ◌++◌, OnOk};
+ghost use Rattle.std.specs.Prelude.{◌≡◌};
+ghost use Rattle.sf_base.specs.Results.{Appends};
 ghost use Rattle.sf_core.specs.Program.View.{block_of, command_of};
 ghost use Rattle.sf_calls.specs.Outside.{owner};
-ghost use Rattle.sf_calls.specs.Tests.{is_other, callees_in, callees_of};
+ghost use Rattle.sf_calls.specs.Internal.Tests.{is_other, callees_in, callees_of};
 
 use sf_base::{ProcId, ResId, Var};
 use sf_core::Command;
@@ -37,7 +38,7 @@ pub fn add_callees(
     body: &[Command],
     callees: &mut Vec<ProcId>,
 ) -> Result<(), AllocError>
-    ensures { OnOk result (callees.new.items ≡ callees.old.items ++ callees_in but (block_of body.now)) }
+    ensures { Appends result callees.old.items callees.new.items (callees_in but (block_of body.now)) }
 {
     for c in body {
         add_callees_of(but, c, callees)?;
@@ -52,7 +53,7 @@ pub fn add_callees_of(
     c: &Command,
     callees: &mut Vec<ProcId>,
 ) -> Result<(), AllocError>
-    ensures { OnOk result (callees.new.items ≡ callees.old.items ++ callees_of but (command_of c.now)) }
+    ensures { Appends result callees.old.items callees.new.items (callees_of but (command_of c.now)) }
 {
     match c {
         Command::Assign(_, _, _) => Ok(()),

@@ -5,15 +5,15 @@ ghost use Rattle.sf_core.specs.Program.Formed.{variable_count};
 ghost use Rattle.sf_core.specs.Machine.HeldBy.{HeldBy};
 ghost use Rattle.sf_core.specs.Program.ProgramView.{program_of};
 ghost use Rattle.sf_calls.specs.Conditions.{Takes, Free};
-ghost use Rattle.sf_calls.specs.Texts.{AreTexts};
-ghost use Rattle.sf_calls.specs.Gathers.{IsUpTo};
+ghost use Rattle.sf_calls.specs.Internal.Summaries.{AreSummaries};
+ghost use Rattle.sf_calls.specs.Internal.Gathers.{IsUpTo};
 ghost use Rattle.sf_calls.specs.Sets.{AreSetsOf, IsFamily, IsResSet, IsVarSet, IsSetOf, IsEarlier, IsEarlierResource};
 
 use crate::calls::Calls;
 use crate::keys::{resources_of, variables_of};
 use crate::set::{ResSet, VarSet};
+use crate::summary::{Summary, summaries_of};
 use crate::tables::{free_rows, holds_rows, sets, takes_rows};
-use crate::text::{Text, texts_of};
 use sf_base::{ResId, Var};
 use sf_core::Program;
 use std::alloc::{AllocError, Global};
@@ -25,10 +25,10 @@ pub fn reach(alloc: Global, p: &Program) -> Result<Calls, AllocError>
 {
     let resources = resources_of(alloc, p)?;
     let variables = variables_of(alloc, p)?;
-    let texts = texts_of(alloc, p)?;
-    let takes = takes_sets(alloc, p, &texts, &resources)?;
-    let holds = holds_sets(alloc, p, &texts, &resources)?;
-    let free = free_sets(alloc, p, &texts, &variables)?;
+    let summaries = summaries_of(alloc, p)?;
+    let takes = takes_sets(alloc, p, &summaries, &resources)?;
+    let holds = holds_sets(alloc, p, &summaries, &resources)?;
+    let free = free_sets(alloc, p, &summaries, &variables)?;
     Ok(Calls::new(takes, holds, free))
 }
 
@@ -36,14 +36,14 @@ pub fn reach(alloc: Global, p: &Program) -> Result<Calls, AllocError>
 fn takes_sets(
     alloc: Global,
     p: &Program,
-    texts: &[Text],
+    summaries: &[Summary],
     resources: &[ResId],
 ) -> Result<Vec<ResSet>, AllocError>
-    requires texts { AreTexts (program_of p.now) texts.now }
+    requires summaries { AreSummaries (program_of p.now) summaries.now }
     requires keys { IsSetOf IsEarlierResource (λ r. r.0 < length p.now.resources.items) resources.now }
     ensures { IfOk result (λ sets. IsFamily IsResSet (Takes (program_of p.now)) (length (program_of p.now).procedures) sets.items) }
 {
-    let rows = takes_rows(alloc, p, texts, resources)?;
+    let rows = takes_rows(alloc, p, summaries, resources)?;
     sets(alloc, resources, &rows, p.procedures.len())
 }
 
@@ -51,14 +51,14 @@ fn takes_sets(
 fn holds_sets(
     alloc: Global,
     p: &Program,
-    texts: &[Text],
+    summaries: &[Summary],
     resources: &[ResId],
 ) -> Result<Vec<ResSet>, AllocError>
-    requires texts { AreTexts (program_of p.now) texts.now }
+    requires summaries { AreSummaries (program_of p.now) summaries.now }
     requires keys { IsSetOf IsEarlierResource (λ r. r.0 < length p.now.resources.items) resources.now }
     ensures { IfOk result (λ sets. IsFamily IsResSet (HeldBy (program_of p.now)) (length (program_of p.now).procedures) sets.items) }
 {
-    let rows = holds_rows(alloc, p, texts, resources)?;
+    let rows = holds_rows(alloc, p, summaries, resources)?;
     sets(alloc, resources, &rows, p.procedures.len())
 }
 
@@ -66,13 +66,13 @@ fn holds_sets(
 fn free_sets(
     alloc: Global,
     p: &Program,
-    texts: &[Text],
+    summaries: &[Summary],
     variables: &[Var],
 ) -> Result<Vec<VarSet>, AllocError>
-    requires texts { AreTexts (program_of p.now) texts.now }
+    requires summaries { AreSummaries (program_of p.now) summaries.now }
     requires keys { IsSetOf IsEarlier (IsUpTo (λ k. variable_count (slice_get (program_of p.now).resources k)) (length p.now.resources.items) 0) variables.now }
     ensures { IfOk result (λ sets. IsFamily IsVarSet (Free (program_of p.now)) (length (program_of p.now).procedures) sets.items) }
 {
-    let rows = free_rows(alloc, p, texts, variables)?;
+    let rows = free_rows(alloc, p, summaries, variables)?;
     sets(alloc, variables, &rows, p.procedures.len())
 }

@@ -1,8 +1,9 @@
 //! The regions that commands have, and whether calls stand inside them.
 
-ghost use Rattle.std.specs.Prelude.{◌≡◌, ◌++◌, IfOk, OnOk};
+ghost use Rattle.std.specs.Prelude.{◌≡◌, IfOk};
+ghost use Rattle.sf_base.specs.Results.{Appends};
 ghost use Rattle.sf_core.specs.Program.View.{block_of, command_of};
-ghost use Rattle.sf_calls.specs.Listed.{entered_in, entered_of, guarded_in, guarded_of, has_calls, has_calls_of};
+ghost use Rattle.sf_calls.specs.Internal.Listed.{entered_in, entered_of, with_calls_in, with_calls_of, has_calls, has_calls_of};
 
 use sf_base::ResId;
 use sf_core::Command;
@@ -14,15 +15,15 @@ use std::alloc::AllocError;
 pub fn add_regions(
     body: &[Command],
     entered: &mut Vec<ResId>,
-    guarded: &mut Vec<ResId>,
+    with_calls: &mut Vec<ResId>,
 ) -> Result<bool, AllocError>
     ensures calls { IfOk result (λ calls. calls ≡ has_calls (block_of body.now)) }
-    ensures entered { OnOk result (entered.new.items ≡ entered.old.items ++ entered_in (block_of body.now)) }
-    ensures guarded { OnOk result (guarded.new.items ≡ guarded.old.items ++ guarded_in (block_of body.now)) }
+    ensures entered { Appends result entered.old.items entered.new.items (entered_in (block_of body.now)) }
+    ensures with_calls { Appends result with_calls.old.items with_calls.new.items (with_calls_in (block_of body.now)) }
 {
     let mut calls = false;
     for c in body {
-        let here = add_regions_of(c, entered, guarded)?;
+        let here = add_regions_of(c, entered, with_calls)?;
         calls = calls || here;
     }
     Ok(calls)
@@ -33,11 +34,11 @@ pub fn add_regions(
 fn add_regions_of(
     c: &Command,
     entered: &mut Vec<ResId>,
-    guarded: &mut Vec<ResId>,
+    with_calls: &mut Vec<ResId>,
 ) -> Result<bool, AllocError>
     ensures calls { IfOk result (λ calls. calls ≡ has_calls_of (command_of c.now)) }
-    ensures entered { OnOk result (entered.new.items ≡ entered.old.items ++ entered_of (command_of c.now)) }
-    ensures guarded { OnOk result (guarded.new.items ≡ guarded.old.items ++ guarded_of (command_of c.now)) }
+    ensures entered { Appends result entered.old.items entered.new.items (entered_of (command_of c.now)) }
+    ensures with_calls { Appends result with_calls.old.items with_calls.new.items (with_calls_of (command_of c.now)) }
 {
     match c {
         Command::Assign(_, _, _)
@@ -46,20 +47,20 @@ fn add_regions_of(
         | Command::New(_, _)
         | Command::Dispose(_, _) => Ok(false),
         Command::If(_, _, c, d) => {
-            let first = add_regions(c, entered, guarded)?;
-            let second = add_regions(d, entered, guarded)?;
+            let first = add_regions(c, entered, with_calls)?;
+            let second = add_regions(d, entered, with_calls)?;
             Ok(first || second)
         }
         Command::While(_, _, _, c) => {
-            let calls = add_regions(c, entered, guarded)?;
+            let calls = add_regions(c, entered, with_calls)?;
             Ok(calls)
         }
         Command::Call(_, _) | Command::Fork(_, _, _) => Ok(true),
         Command::With(_, r, _, c) => {
             entered.push(*r)?;
-            let calls = add_regions(c, entered, guarded)?;
+            let calls = add_regions(c, entered, with_calls)?;
             if calls {
-                guarded.push(*r)?;
+                with_calls.push(*r)?;
             }
             Ok(calls)
         }

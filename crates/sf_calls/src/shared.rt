@@ -1,9 +1,10 @@
 //! The variables of resources that stand in commands and assertions outside the regions of their
 //! resources, in text order.
 
-ghost use Rattle.std.specs.Prelude.{◌≡◌, ◌++◌, ◌∷◌, IfOk, OnOk, map};
+ghost use Rattle.std.specs.Prelude.{◌≡◌, ◌∷◌, IfOk, map};
+ghost use Rattle.sf_base.specs.Results.{Appends};
 ghost use Rattle.sf_core.specs.Program.View.{block_of, call_of, command_of, conjunct_of, conjuncts, level_of};
-ghost use Rattle.sf_calls.specs.Listed.{is_entered, kept, shared_in, shared_in_call, shared_in_condition, shared_in_conjunct, shared_in_conjuncts, shared_in_expr, shared_in_fields, shared_in_level, shared_in_operand, shared_in_references, shared_in_test, shared_in_values, shared_of};
+ghost use Rattle.sf_calls.specs.Internal.Listed.{is_entered, kept, shared_in, shared_in_call, shared_in_condition, shared_in_conjunct, shared_in_conjuncts, shared_in_expr, shared_in_fields, shared_in_level, shared_in_operand, shared_in_references, shared_in_test, shared_in_values, shared_of};
 
 use sf_base::{FieldId, ResId, Var};
 use sf_core::{Call, Command, Conjunct, Expr, Level, Occurrence, Operand, Test};
@@ -23,7 +24,7 @@ pub fn is_entered(r: ResId, entered: &[ResId]) -> bool
 
 /// Appends the variable, if it is one of a resource that is not entered.
 fn add_var(entered: &[ResId], x: Var, named: &mut Vec<Var>) -> Result<(), AllocError>
-    ensures { OnOk result (named.new.items ≡ named.old.items ++ kept entered.now x) }
+    ensures { Appends result named.old.items named.new.items (kept entered.now x) }
 {
     match x {
         Var::Own(_) => Ok(()),
@@ -38,7 +39,7 @@ fn add_var(entered: &[ResId], x: Var, named: &mut Vec<Var>) -> Result<(), AllocE
 
 /// Appends those of an expression.
 fn add_expr(entered: &[ResId], e: &Expr, named: &mut Vec<Var>) -> Result<(), AllocError>
-    ensures { OnOk result (named.new.items ≡ named.old.items ++ shared_in_expr entered.now e.now) }
+    ensures { Appends result named.old.items named.new.items (shared_in_expr entered.now e.now) }
 {
     match e {
         Expr::Var(x) => {
@@ -52,7 +53,7 @@ fn add_expr(entered: &[ResId], e: &Expr, named: &mut Vec<Var>) -> Result<(), All
 
 /// Appends those of a test of commands.
 fn add_test(entered: &[ResId], test: &Test<Expr>, named: &mut Vec<Var>) -> Result<(), AllocError>
-    ensures { OnOk result (named.new.items ≡ named.old.items ++ shared_in_test entered.now test.now) }
+    ensures { Appends result named.old.items named.new.items (shared_in_test entered.now test.now) }
 {
     match test {
         Test::True => Ok(()),
@@ -70,7 +71,7 @@ fn add_operand(
     operand: &Operand<Expr>,
     named: &mut Vec<Var>,
 ) -> Result<(), AllocError>
-    ensures { OnOk result (named.new.items ≡ named.old.items ++ shared_in_operand entered.now operand.now) }
+    ensures { Appends result named.old.items named.new.items (shared_in_operand entered.now operand.now) }
 {
     match operand {
         Operand::Known(e) => {
@@ -87,7 +88,7 @@ fn add_condition(
     test: &Test<Operand<Expr>>,
     named: &mut Vec<Var>,
 ) -> Result<(), AllocError>
-    ensures { OnOk result (named.new.items ≡ named.old.items ++ shared_in_condition entered.now test.now) }
+    ensures { Appends result named.old.items named.new.items (shared_in_condition entered.now test.now) }
 {
     match test {
         Test::True => Ok(()),
@@ -105,7 +106,7 @@ fn add_fields(
     fields: &[(FieldId, Operand<Expr>)],
     named: &mut Vec<Var>,
 ) -> Result<(), AllocError>
-    ensures { OnOk result (named.new.items ≡ named.old.items ++ shared_in_fields entered.now fields.now) }
+    ensures { Appends result named.old.items named.new.items (shared_in_fields entered.now fields.now) }
 {
     for f in fields {
         add_operand(entered, &f.1, named)?;
@@ -120,7 +121,7 @@ pub fn add_level(
     level: &Level<Expr>,
     named: &mut Vec<Var>,
 ) -> Result<(), AllocError>
-    ensures { OnOk result (named.new.items ≡ named.old.items ++ shared_in_level entered.now (level_of level.now)) }
+    ensures { Appends result named.old.items named.new.items (shared_in_level entered.now (level_of level.now)) }
 {
     add_conjuncts(entered, &level.conjuncts, named)?;
     Ok(())
@@ -133,7 +134,7 @@ fn add_conjuncts(
     cs: &[Conjunct<Expr>],
     named: &mut Vec<Var>,
 ) -> Result<(), AllocError>
-    ensures { OnOk result (named.new.items ≡ named.old.items ++ shared_in_conjuncts entered.now (conjuncts (map conjunct_of cs.now))) }
+    ensures { Appends result named.old.items named.new.items (shared_in_conjuncts entered.now (conjuncts (map conjunct_of cs.now))) }
 {
     for c in cs {
         add_conjunct(entered, c, named)?;
@@ -148,7 +149,7 @@ fn add_conjunct(
     c: &Conjunct<Expr>,
     named: &mut Vec<Var>,
 ) -> Result<(), AllocError>
-    ensures { OnOk result (named.new.items ≡ named.old.items ++ shared_in_conjunct entered.now (conjunct_of c.now)) }
+    ensures { Appends result named.old.items named.new.items (shared_in_conjunct entered.now (conjunct_of c.now)) }
 {
     match c {
         Conjunct::Holds(_, test) => {
@@ -184,7 +185,7 @@ fn add_references(
     references: &[Occurrence],
     named: &mut Vec<Var>,
 ) -> Result<(), AllocError>
-    ensures { OnOk result (named.new.items ≡ named.old.items ++ shared_in_references entered.now references.now) }
+    ensures { Appends result named.old.items named.new.items (shared_in_references entered.now references.now) }
 {
     for x in references {
         add_var(entered, x.var, named)?;
@@ -194,7 +195,7 @@ fn add_references(
 
 /// Appends those that values name.
 fn add_values(entered: &[ResId], values: &[Expr], named: &mut Vec<Var>) -> Result<(), AllocError>
-    ensures { OnOk result (named.new.items ≡ named.old.items ++ shared_in_values entered.now values.now) }
+    ensures { Appends result named.old.items named.new.items (shared_in_values entered.now values.now) }
 {
     for e in values {
         add_expr(entered, e, named)?;
@@ -204,7 +205,7 @@ fn add_values(entered: &[ResId], values: &[Expr], named: &mut Vec<Var>) -> Resul
 
 /// Appends those of a call's arguments.
 fn add_call(entered: &[ResId], call: &Call, named: &mut Vec<Var>) -> Result<(), AllocError>
-    ensures { OnOk result (named.new.items ≡ named.old.items ++ shared_in_call entered.now (call_of call.now)) }
+    ensures { Appends result named.old.items named.new.items (shared_in_call entered.now (call_of call.now)) }
 {
     add_references(entered, &call.references, named)?;
     add_values(entered, &call.values, named)?;
@@ -220,7 +221,7 @@ pub fn add_shared(
     body: &[Command],
     named: &mut Vec<Var>,
 ) -> Result<(), AllocError>
-    ensures { OnOk result (named.new.items ≡ named.old.items ++ shared_in entered.now (block_of body.now)) }
+    ensures { Appends result named.old.items named.new.items (shared_in entered.now (block_of body.now)) }
 {
     for c in body {
         add_shared_of(alloc, entered, c, named)?;
@@ -236,7 +237,7 @@ fn add_shared_of(
     c: &Command,
     named: &mut Vec<Var>,
 ) -> Result<(), AllocError>
-    ensures { OnOk result (named.new.items ≡ named.old.items ++ shared_of entered.now (command_of c.now)) }
+    ensures { Appends result named.old.items named.new.items (shared_of entered.now (command_of c.now)) }
 {
     match c {
         Command::Assign(_, x, e) | Command::LookUp(_, x, e, _) => {

@@ -4,15 +4,15 @@ ghost use Rattle.std.specs.Prelude.{◌≡◌, ◌<◌, ◌≤◌, ℕ, List, le
 ghost use Rattle.sf_core.specs.Machine.HeldBy.{HeldBy};
 ghost use Rattle.sf_core.specs.Program.ProgramView.{program_of};
 ghost use Rattle.sf_calls.specs.Conditions.{Enters, Mentions, Takes, FreeIn, IsShared};
-ghost use Rattle.sf_calls.specs.Marks.{AreRows, IsRow, chosen};
-ghost use Rattle.sf_calls.specs.Texts.{AreTexts, speaks_of};
+ghost use Rattle.sf_calls.specs.Internal.Visited.{AreRows, IsRow, chosen};
+ghost use Rattle.sf_calls.specs.Internal.Summaries.{AreSummaries, speaks_of};
 
 use crate::callers::{callers_after, callers_of};
 use crate::leading::leading;
 use crate::outside::owner;
 use crate::set::Set;
 use crate::shared::is_entered;
-use crate::text::Text;
+use crate::summary::Summary;
 use sf_base::{ResId, Var};
 use sf_core::Program;
 use std::alloc::{AllocError, Global};
@@ -21,16 +21,16 @@ use std::alloc::{AllocError, Global};
 pub fn takes_rows(
     alloc: Global,
     p: &Program,
-    texts: &[Text],
+    summaries: &[Summary],
     resources: &[ResId],
 ) -> Result<Vec<Vec<bool>>, AllocError>
-    requires { AreTexts (program_of p.now) texts.now }
+    requires { AreSummaries (program_of p.now) summaries.now }
     ensures { IfOk result (λ rows. AreRows (length p.now.procedures.items) (Takes (program_of p.now)) resources.now rows.items) }
 {
     let callers = callers_of(alloc, None, p)?;
     let mut rows = Vec::with_capacity(alloc, resources.len())?;
     for r in resources {
-        let direct = entering(alloc, p, texts, *r)?;
+        let direct = entering(alloc, p, summaries, *r)?;
         rows.push(leading(alloc, direct, &callers)?)?;
     }
     Ok(rows)
@@ -40,15 +40,15 @@ pub fn takes_rows(
 pub fn holds_rows(
     alloc: Global,
     p: &Program,
-    texts: &[Text],
+    summaries: &[Summary],
     resources: &[ResId],
 ) -> Result<Vec<Vec<bool>>, AllocError>
-    requires { AreTexts (program_of p.now) texts.now }
+    requires { AreSummaries (program_of p.now) summaries.now }
     ensures { IfOk result (λ rows. AreRows (length p.now.procedures.items) (HeldBy (program_of p.now)) resources.now rows.items) }
 {
     let mut rows = Vec::with_capacity(alloc, resources.len())?;
     for r in resources {
-        rows.push(holding(alloc, p, texts, *r)?)?;
+        rows.push(holding(alloc, p, summaries, *r)?)?;
     }
     Ok(rows)
 }
@@ -57,10 +57,10 @@ pub fn holds_rows(
 pub fn free_rows(
     alloc: Global,
     p: &Program,
-    texts: &[Text],
+    summaries: &[Summary],
     variables: &[Var],
 ) -> Result<Vec<Vec<bool>>, AllocError>
-    requires texts { AreTexts (program_of p.now) texts.now }
+    requires summaries { AreSummaries (program_of p.now) summaries.now }
     requires shared { All IsShared variables.now }
     ensures { IfOk result (λ rows. AreRows (length p.now.procedures.items) (FreeIn (program_of p.now)) variables.now rows.items) }
 {
@@ -68,49 +68,64 @@ pub fn free_rows(
     let mut callers = callers_of(alloc, None, p)?;
     let mut rows = Vec::with_capacity(alloc, variables.len())?;
     for x in variables {
-        callers = callers_after(alloc, owner(*x), p, texts, last, callers)?;
+        callers = callers_after(alloc, owner(*x), p, summaries, last, callers)?;
         last = owner(*x);
-        let direct = mentioning(alloc, p, texts, *x)?;
+        let direct = mentioning(alloc, p, summaries, *x)?;
         rows.push(leading(alloc, direct, &callers)?)?;
     }
     Ok(rows)
 }
 
 /// The procedures whose bodies have a region of the resource.
-fn entering(alloc: Global, p: &Program, texts: &[Text], r: ResId) -> Result<Vec<bool>, AllocError>
-    requires { AreTexts (program_of p.now) texts.now }
+fn entering(
+    alloc: Global,
+    p: &Program,
+    summaries: &[Summary],
+    r: ResId,
+) -> Result<Vec<bool>, AllocError>
+    requires { AreSummaries (program_of p.now) summaries.now }
     ensures { IfOk result (λ row. IsRow (length p.now.procedures.items) (Enters (program_of p.now) r) row.items) }
 {
-    let mut marks = Vec::with_capacity(alloc, p.procedures.len())?;
-    for t in texts {
-        marks.push(is_entered(r, &t.entered))?;
+    let mut visited = Vec::with_capacity(alloc, p.procedures.len())?;
+    for t in summaries {
+        visited.push(is_entered(r, &t.entered))?;
     }
-    Ok(marks)
+    Ok(visited)
 }
 
 /// The procedures that mention the variable, which is one of a resource.
-fn mentioning(alloc: Global, p: &Program, texts: &[Text], x: Var) -> Result<Vec<bool>, AllocError>
-    requires texts { AreTexts (program_of p.now) texts.now }
+fn mentioning(
+    alloc: Global,
+    p: &Program,
+    summaries: &[Summary],
+    x: Var,
+) -> Result<Vec<bool>, AllocError>
+    requires summaries { AreSummaries (program_of p.now) summaries.now }
     requires shared { IsShared x }
     ensures { IfOk result (λ row. IsRow (length p.now.procedures.items) (Mentions (program_of p.now) x) row.items) }
 {
-    let mut marks = Vec::with_capacity(alloc, p.procedures.len())?;
-    for t in texts {
-        marks.push(t.mentioned.contains(x))?;
+    let mut visited = Vec::with_capacity(alloc, p.procedures.len())?;
+    for t in summaries {
+        visited.push(t.mentioned.contains(x))?;
     }
-    Ok(marks)
+    Ok(visited)
 }
 
 /// The procedures that hold the resource.
-fn holding(alloc: Global, p: &Program, texts: &[Text], r: ResId) -> Result<Vec<bool>, AllocError>
-    requires { AreTexts (program_of p.now) texts.now }
+fn holding(
+    alloc: Global,
+    p: &Program,
+    summaries: &[Summary],
+    r: ResId,
+) -> Result<Vec<bool>, AllocError>
+    requires { AreSummaries (program_of p.now) summaries.now }
     ensures { IfOk result (λ row. IsRow (length p.now.procedures.items) (λ f. HeldBy (program_of p.now) f r) row.items) }
 {
-    let mut marks = Vec::with_capacity(alloc, p.procedures.len())?;
-    for t in texts {
-        marks.push(speaks_of(r, t.spoken.as_slice()))?;
+    let mut visited = Vec::with_capacity(alloc, p.procedures.len())?;
+    for t in summaries {
+        visited.push(speaks_of(r, t.in_contract.as_slice()))?;
     }
-    Ok(marks)
+    Ok(visited)
 }
 
 /// Whether one of the variables is of the resource.
@@ -127,7 +142,7 @@ fn speaks_of(r: ResId, xs: &[Var]) -> bool
     false
 }
 
-/// For each procedure the set of those keys in whose rows it is marked.
+/// For each procedure the set of those keys in whose rows it is visited.
 pub fn sets<T: Copy>(
     alloc: Global,
     keys: &[T],
@@ -146,7 +161,7 @@ pub fn sets<T: Copy>(
     Ok(sets)
 }
 
-/// Those keys in whose rows the procedure of that number is marked.
+/// Those keys in whose rows the procedure of that number is visited.
 fn chosen<T: Copy>(
     alloc: Global,
     keys: &[T],

@@ -14,10 +14,9 @@ use Rattle.sf_lex.specs.Laws.{EachFileReadsOnce}
 use Rattle.sf_lex.specs.Reading.{AreTokens}
 use Rattle.sf_parse.specs.Laws.{EachFileIsShallow, EachHasOneAnswer}
 use Rattle.sf_parse.specs.Parsing.{IsFile}
-use Rattle.sf_precise.specs.Laws.{UndeterminedNotesHavePlace}
-use Rattle.sf_precise.specs.Notes.{notes_in}
-use Rattle.sf_core.specs.Program.Named.{name_of}
-use Rattle.sf_proof.specs.ProofText.{proof_text}
+use Rattle.sf_precise.specs.Laws.{UndeterminedAnnotationsHavePlace}
+use Rattle.sf_precise.specs.Annotations.{annotations_in}
+use Rattle.sf_proof.specs.ProofText.{name_of, proof_text}
 use Rattle.sf_rules.specs.Built.{is_built}
 use Rattle.sf_search.specs.Judge.{Verdict, proof, fails, Judge}
 use Rattle.sf_search.specs.VerdictLaws.{AVerdict}
@@ -41,7 +40,7 @@ pub record Answers : Type 0 where
   pub names : EachTreeIsOne
   pub formed : ElaboratedIsFormed
   pub variables : EachProgramHasAnAnswer
-  pub orders : UndeterminedNotesHavePlace
+  pub orders : UndeterminedAnnotationsHavePlace
   pub verdicts : AVerdict
 
 -- the answer to a program of which there is a verdict
@@ -63,7 +62,7 @@ some-refusal bytes r f = (refusal_text r, 3, refused r f refl refl)
 
 -- the answer to a file that reads as a program which keeps the conditions on variables
 some-kept : Answers → (bytes : Text) (p : Program) → Reads bytes p → Conditions p → IsFormed p → (text : Text) × (status : ℕ) × FileAnswer bytes text status
-some-kept l bytes p r c f = elim (l.orders (notes_in p)) [
+some-kept l bytes p r c f = elim (l.orders (annotations_in p)) [
   | inl d ↦ let a = some-program l p f in (a.0, a.1, admitted p (record { reads = r; conditions = c; determined = d }) a.2)
   | inr q ↦ some-refusal bytes (At Undetermined q.0) (unfit p r (in_order q.0 c q.1 refl))
 ]

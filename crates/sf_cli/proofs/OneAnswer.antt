@@ -13,7 +13,7 @@ use Rattle.sf_base.specs.declared.place.Place.{Place}
 use Rattle.sf_calls.specs.declared.breach.Breach.{Breach}
 use Rattle.sf_calls.specs.declared.breach.Breach.TheVariants.{NotHeld, Reentered, SameReference, ReferenceIsFree, ParallelShares}
 use Rattle.sf_calls.specs.FirstBreach.{Conditions}
-use Rattle.sf_calls.specs.Laws.{FirstBreachIsDetermined}
+use Rattle.sf_calls.specs.Laws.{FirstBreachIsUnique}
 use Rattle.sf_base.proofs.Cases.{none-not_some}
 use Rattle.sf_core.specs.Assertions.Determined.{Determined}
 use Rattle.sf_core.specs.Program.Syntax.{Procedure, Resource, Program}
@@ -25,7 +25,7 @@ use Rattle.sf_lex.specs.Laws.{EachFileReadsOnce}
 use Rattle.sf_parse.specs.Laws.{EachFileIsOne, EachHasOneAnswer}
 use Rattle.sf_parse.specs.Parsing.{IsFile, IsFault as IsGrammarFault}
 use Rattle.sf_precise.specs.Laws.{NeverTakenIsUndetermined}
-use Rattle.sf_precise.specs.Notes.{notes_in, is_before, IsFirstPlace, NeverTakenIn}
+use Rattle.sf_precise.specs.Annotations.{annotations_in, is_before, IsFirstPlace, NeverTakenIn}
 use Rattle.sf_search.specs.Judge.{Verdict, proof, fails}
 use Rattle.sf_search.specs.VerdictLaws.{OneVerdict}
 use Rattle.sf_vars.specs.declared.fault.VarFault.{VarFault}
@@ -46,7 +46,7 @@ pub record Layers : Type 0 where
   pub trees : EachFileIsOne
   pub grammar : EachHasOneAnswer
   pub names : EachTreeIsOne
-  pub breaches : FirstBreachIsDetermined
+  pub breaches : FirstBreachIsUnique
   pub orders : NeverTakenIsUndetermined
   pub verdicts : OneVerdict
 
@@ -159,13 +159,13 @@ fault-program l p r s (in_variables e h k) (in_variables f i m) = k ∙ ap of_va
 fault-program l p r s (in_variables e h k) (in_order at c i m) = absurd (fault-none l p e c h)
 fault-program l p r s (in_order at c h k) (in_variables f i m) = absurd (fault-none l p f c i)
 fault-program l p r s (in_order at c h k) (in_order on d i m) =
-    let same : at ≡ on = fault-place (NeverTakenIn (notes_in p)) at on h i in
+    let same : at ≡ on = fault-place (NeverTakenIn (annotations_in p)) at on h i in
     k ∙ ap (λ (z : Place). At Undetermined z) same ∙ sym m
 
 -- a program with which nothing is wrong has no fault
-fault-apart : Layers → (p : Program) (r : Refusal) → Conditions p → All (λ a. Determined a.level) (notes_in p) → ProgramFault p r → ⊥
+fault-apart : Layers → (p : Program) (r : Refusal) → Conditions p → All (λ a. Determined a.level) (annotations_in p) → ProgramFault p r → ⊥
 fault-apart l p r c d (in_variables e h k) = fault-none l p e c h
-fault-apart l p r c d (in_order at e h k) = l.orders h.0.0.level at h.0.2 (All-contains (λ a. Determined a.level) (notes_in p) h.0.0 d h.0.1)
+fault-apart l p r c d (in_order at e h k) = l.orders h.0.0.level at h.0.2 (All-contains (λ a. Determined a.level) (annotations_in p) h.0.0 d h.0.1)
 
 -- a file that is admitted isn't refused
 answer-apart : Layers → (bytes : Text) (p : Program) (r : Refusal) → Admits bytes p → FileFault bytes r → ⊥

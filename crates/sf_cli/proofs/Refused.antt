@@ -23,8 +23,8 @@ use Rattle.sf_parse.specs.declared.fault.ParseFault.TheVariants as g
 use Rattle.sf_parse.specs.Parsing.{IsFile, IsFault as IsGrammarFault}
 use Rattle.sf_precise.specs.declared.fault.OrderFault.{OrderFault}
 use Rattle.sf_precise.specs.declared.fault.OrderFault.TheVariants as o
-use Rattle.sf_precise.specs.Laws.{OrderStands}
-use Rattle.sf_precise.specs.Notes.{notes_in, IsFirstPlace, NeverTakenIn, AreOrdersOf}
+use Rattle.sf_precise.specs.Laws.{OrderedIsDetermined}
+use Rattle.sf_precise.specs.Annotations.{annotations_in, IsFirstPlace, NeverTakenIn, AreOrdersOf}
 use Rattle.sf_precise.specs.Taken.{IfUndetermined}
 use Rattle.sf_vars.specs.declared.fault.VarFault.{VarFault}
 use Rattle.sf_vars.specs.declared.fault.VarFault.TheVariants as v
@@ -72,12 +72,12 @@ pub refused-variables : (p : Program) (e : VarFault) → (e ≢ v.OutOfMemory �
 refused-variables p e h k = in_variables e (h (λ m. k (ap of_variables m))) refl
 
 -- for an annotation that isn't determined
-pub refused-order : (p : Program) (e : OrderFault) → Conditions p → IfUndetermined e (λ q. IsFirstPlace (NeverTakenIn (notes_in p)) (Some q)) → of_order e ≢ OutOfMemory → ProgramFault p (of_order e)
+pub refused-order : (p : Program) (e : OrderFault) → Conditions p → IfUndetermined e (λ q. IsFirstPlace (NeverTakenIn (annotations_in p)) (Some q)) → of_order e ≢ OutOfMemory → ProgramFault p (of_order e)
 refused-order p (o.Undetermined q) c h k = in_order q c h refl
 refused-order p o.OutOfMemory c h k = absurd (k refl)
 
 -- annotations that have orders are determined
-pub determined-all : OrderStands → (notes orders : List Assertion) → AreOrdersOf notes orders → All (λ a. Determined a.level) notes
+pub determined-all : OrderedIsDetermined → (notes orders : List Assertion) → AreOrdersOf notes orders → All (λ a. Determined a.level) notes
 determined-all law [] [] h = All-nil (λ a. Determined a.level)
 determined-all law [] (u ∷ us) h = absurd h
 determined-all law (a ∷ rest) [] h = absurd h

@@ -14,7 +14,7 @@ use Rattle.sf_lex.specs.declared.token.Token.{Token}
 use Rattle.sf_lex.specs.Reading.{AreTokens, IsFault as IsTokenFault}
 use Rattle.sf_parse.specs.declared.fault.ParseFault.{ParseFault}
 use Rattle.sf_parse.specs.Parsing.{IsFile, IsFault as IsGrammarFault}
-use Rattle.sf_precise.specs.Notes.{notes_in, IsFirstPlace, NeverTakenIn}
+use Rattle.sf_precise.specs.Annotations.{annotations_in, IsFirstPlace, NeverTakenIn}
 use Rattle.sf_vars.specs.declared.fault.VarFault.{VarFault}
 use Rattle.sf_vars.specs.Faults.{IsFirstFault}
 use Rattle.sf_cli.specs.declared.refusal.Refusal.{Refusal}
@@ -33,7 +33,7 @@ pub data ReadFault (bytes : Text) (r : Refusal) : Type 0 where
 -- the program breaks a condition on variables, or an annotation of it is not determined
 pub data ProgramFault (p : Program) (r : Refusal) : Type 0 where
   in_variables : (e : VarFault) → IsFirstFault p e → r ≡ of_variables e → ProgramFault p r
-  in_order : (at : Place) → Conditions p → IsFirstPlace (NeverTakenIn (notes_in p)) (Some at) → r ≡ At Undetermined at → ProgramFault p r
+  in_order : (at : Place) → Conditions p → IsFirstPlace (NeverTakenIn (annotations_in p)) (Some at) → r ≡ At Undetermined at → ProgramFault p r
 
 -- FileFault: the one or the other
 pub data FileFault (bytes : Text) (r : Refusal) : Type 0 where
@@ -44,4 +44,4 @@ pub data FileFault (bytes : Text) (r : Refusal) : Type 0 where
 pub record Admits (bytes : Text) (p : Program) : Type 0 where
   pub reads : Reads bytes p
   pub conditions : Conditions p
-  pub determined : All (λ a. Determined a.level) (notes_in p)
+  pub determined : All (λ a. Determined a.level) (annotations_in p)

@@ -2,11 +2,11 @@
 
 ghost use Rattle.sf_cli.specs.Laws.{AcceptedFilesAreSound, EachCommandHasAnAnswer, EachCommandHasOneAnswer, EachFileHasAnAnswer, EachFileHasOneAnswer, EachFileIsOneProgram};
 
-use sf_calls::laws::first_breach_is_determined;
+use sf_calls::laws::first_breach_is_unique;
 use sf_elab::laws::elaborated_is_formed;
 use sf_lex::laws::each_file_reads_once;
 use sf_parse::laws::each_file_is_shallow;
-use sf_precise::laws::{never_taken_is_undetermined, undetermined_notes_have_place};
+use sf_precise::laws::{never_taken_is_undetermined, undetermined_annotations_have_place};
 use sf_search::{a_verdict, one_verdict, verdicts_prove};
 use sf_sound::proved_programs_are_sound;
 use sf_vars::laws::each_program_has_an_answer;
@@ -28,7 +28,7 @@ pub fn each_file_has_one_answer()
     sf_parse::laws::each_file_is_one();
     sf_parse::laws::each_has_one_answer();
     sf_elab::laws::each_file_is_one();
-    first_breach_is_determined();
+    first_breach_is_unique();
     never_taken_is_undetermined();
     one_verdict();
 }
@@ -44,7 +44,7 @@ pub fn each_file_has_an_answer()
     sf_elab::laws::each_file_is_one();
     elaborated_is_formed();
     each_program_has_an_answer();
-    undetermined_notes_have_place();
+    undetermined_annotations_have_place();
     a_verdict();
 }
 

@@ -5,7 +5,7 @@ ghost use Rattle.std.specs.List.{All};
 ghost use Rattle.sf_calls.specs.FirstBreach.{Conditions};
 ghost use Rattle.sf_core.specs.Assertions.Determined.{Determined};
 ghost use Rattle.sf_core.specs.Program.ProgramView.{program_of};
-ghost use Rattle.sf_precise.specs.Notes.{notes_in};
+ghost use Rattle.sf_precise.specs.Annotations.{annotations_in};
 ghost use Rattle.sf_cli.specs.FileFault.{Admits, FileFault, ProgramFault, ReadFault};
 ghost use Rattle.sf_cli.specs.Reads.{Reads};
 ghost use Rattle.sf_cli.specs.declared.refusal.Refusal.TheVariants.{OutOfMemory};
@@ -16,7 +16,7 @@ use sf_core::Program;
 use sf_elab::elaborate;
 use sf_lex::tokens;
 use sf_parse::parse;
-use sf_precise::laws::order_stands;
+use sf_precise::laws::ordered_is_determined;
 use sf_precise::{Arranged, arrange};
 use sf_vars::conditions;
 use std::alloc::Global;
@@ -35,12 +35,12 @@ fn read(alloc: Global, bytes: &[u8]) -> Result<Program, Refusal>
 fn fit(alloc: Global, program: Program) -> Result<Arranged, Refusal>
     ensures same { IfOk result (λ a. program_of a.program ≡ program_of program) }
     ensures conditions { IfOk result (λ a. Conditions (program_of program)) }
-    ensures determined { IfOk result (λ a. All (λ note. Determined note.level) (notes_in (program_of program))) }
+    ensures determined { IfOk result (λ a. All (λ note. Determined note.level) (annotations_in (program_of program))) }
     ensures refused { IfErr result (λ r. r ≢ OutOfMemory → ProgramFault (program_of program) r) }
 {
     let calls = reach(alloc, &program)?;
     conditions(alloc, &program, &calls)?;
-    order_stands();
+    ordered_is_determined();
     Ok(arrange(alloc, program, calls)?)
 }
 

@@ -22,3 +22,4 @@ pub mod UniqueNames
 pub mod VariablesWithin
 pub mod Views
 pub mod Wholes
+pub mod Closing

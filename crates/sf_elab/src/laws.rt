@@ -3,27 +3,32 @@
 ghost use Rattle.sf_elab.specs.Laws.{EachFileIsOne, ElaboratedIsFormed, FirstIsFirst, LevelsAreScopes, NamesAreUnique};
 
 /// What a file without faults elaborates to is a program in order.
+#[tactic(auto, using(crate::proofs::Closing::elaborated_is_formed))]
 pub fn elaborated_is_formed()
     ensures { ElaboratedIsFormed }
 {}
 
 /// The first of faults is one of them, and none of them is earlier.
+#[tactic(auto, using(crate::proofs::Closing::first_fault_is_first))]
 pub fn first_fault_is_first()
     ensures { FirstIsFirst }
 {}
 
 /// A file is one program or has one first fault, and not both.
+#[tactic(auto, using(crate::proofs::Closing::each_file_is_one))]
 pub fn each_file_is_one()
     ensures { EachFileIsOne }
 {}
 
 /// A level has in reach what is around it and what occurs in it, under new numbers; behind it only
 /// what was there before is in reach.
+#[tactic(auto, using(crate::proofs::Scopes::levels_are_scopes))]
 pub fn levels_are_scopes()
     ensures { LevelsAreScopes }
 {}
 
 /// In a program that a file is, a name stands for one thing of its kind.
+#[tactic(auto, using(crate::proofs::UniqueNames::names_are_unique))]
 pub fn names_are_unique()
     ensures { NamesAreUnique }
 {}

@@ -10,3 +10,4 @@ pub mod Once
 pub mod Texts
 pub mod Answered
 pub mod Spelled
+pub mod Closing

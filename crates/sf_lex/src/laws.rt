@@ -3,11 +3,13 @@
 ghost use Rattle.sf_lex.specs.Laws.{EachFileReadsOnce, EachTokenIsItsText};
 
 /// Each file reads in exactly one way: as one list of tokens, or with one fault.
+#[tactic(auto, using(crate::proofs::Closing::each_file_reads_once))]
 pub fn each_file_reads_once()
     ensures { EachFileReadsOnce }
 {}
 
 /// Each token is its text: bytes of the file of that kind, in order, words no longer than allowed, numbers that fit.
+#[tactic(auto, using(crate::proofs::Closing::each_token_is_its_text))]
 pub fn each_token_is_its_text()
     ensures { EachTokenIsItsText }
 {}

@@ -30,3 +30,4 @@ pub mod Placing
 pub mod PlacingAssertions
 pub mod PlacingFiles
 pub mod Nearest
+pub mod Closing

@@ -3,27 +3,32 @@
 ghost use Rattle.sf_parse.specs.Laws.{EachFileIsOne, EachFileIsShallow, EachHasOneAnswer, ShallowTreesAreWithin, TheVerdictIsExact};
 
 /// What is owed decides exactly as the grammar does: which tokens are a file, and where the others go wrong.
+#[tactic(auto, using(crate::proofs::Closing::the_verdict_is_exact))]
 pub fn the_verdict_is_exact()
     ensures { TheVerdictIsExact }
 {}
 
 /// Tokens are at most one file: each `else` and each branch of an assertion has its place.
+#[tactic(auto, using(crate::proofs::Closing::each_file_is_one))]
 pub fn each_file_is_one()
     ensures { EachFileIsOne }
 {}
 
 /// Nothing in a file is nested deeper than the limit.
+#[tactic(auto, using(crate::proofs::Closing::each_file_is_shallow))]
 pub fn each_file_is_shallow()
     ensures { EachFileIsShallow }
 {}
 
 /// A tree is within the limit exactly where each `else` and each branch of an assertion has its place
 /// and nothing is nested deeper.
+#[tactic(auto, using(crate::proofs::Closing::shallow_trees_are_within))]
 pub fn shallow_trees_are_within()
     ensures { ShallowTreesAreWithin }
 {}
 
 /// Tokens have one answer: they are a file, or they have a fault, and one alone.
+#[tactic(auto, using(crate::proofs::Closing::each_has_one_answer))]
 pub fn each_has_one_answer()
     ensures { EachHasOneAnswer }
 {}

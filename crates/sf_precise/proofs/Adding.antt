@@ -1,69 +1,23 @@
 -- One more job is added to the work.
-use Rattle.std.proofs.Common.{◌≡◌, ◌≢◌, ◌⊎◌, ℕ, zero, suc, ◌+◌, ◌-◌, ◌*◌, ◌<◌, ◌≤◌, ◌==◌, Bool, true, false, not, ◌&&◌, ◌||◌, cond, List, [], ◌∷◌, ◌++◌, length, map, take, get_or, replicate, count_by, Option, is_some, add-one, slice_get, slice_index_or, Some, None, Contains, length-append, zero-add, refl, sym, ap, ap₂, ◌∙◌, subst, inl, inr, arith}
+use Rattle.std.proofs.Common.{◌≡◌, ◌≢◌, ◌⊎◌, ℕ, zero, suc, ◌+◌, ◌-◌, ◌*◌, ◌<◌, ◌≤◌, ◌==◌, Bool, true, false, not, ◌&&◌, ◌||◌, cond, List, [], ◌∷◌, ◌++◌, length, map, take, get_or, replicate, count_by, Option, is_some, add-one, slice_get, slice_index_or, Some, Contains, length-append, refl, sym, ap, ap₂, ◌∙◌, subst, inl, inr, arith}
 use Rattle.std.specs.List.{list_any}
 use Rattle.std.specs.BTreeMap.{is_at}
 use Rattle.std.specs.Ordering.{nat_cmp}
 use Rattle.std.proofs.lemmas.Bool.{cases_lt}
 use Rattle.std.proofs.lemmas.Bool.Decides.{eqb_tells, nat_tests}
-use Rattle.std.proofs.lemmas.List.{append-nil, get_or-map, get_or-replicate, get_or_append_left, get_or_past, get_or_push, length-map, length-replicate}
-use Rattle.std.proofs.lemmas.List.Elements.{Contains-append_cases, Contains-append_right}
-use Rattle.std.proofs.lemmas.List.Folds.{sum_by-replicate}
-use Rattle.std.proofs.lemmas.List.Sums.{sum_by-append, sum_by-cons}
+use Rattle.std.proofs.lemmas.List.{append-nil, get_or-map, get_or_append_left, get_or_past, get_or_push, length-map}
+use Rattle.std.proofs.lemmas.List.Elements.{Contains-append_cases}
 use Rattle.std.proofs.lemmas.Option.{slice_get_within}
-use Rattle.sf_base.proofs.Cases.{either}
+use Rattle.sf_base.proofs.Sums.{either}
+use Rattle.sf_base.proofs.Lookup.{get-push_cases}
+use Rattle.sf_base.proofs.Counts.{count-skip, count-absent, count-none, count-below, count-replicate}
+use Rattle.sf_base.proofs.Elements.{contains-replicate}
+use Rattle.sf_base.proofs.Numbers.{one-not_zero}
 use Rattle.sf_precise.specs.declared.work.Work.{Work}
 use Rattle.sf_core.specs.declared.command.Expr.{Expr}
 use Rattle.sf_core.specs.Program.Syntax.{Conjunct}
-use Rattle.sf_precise.specs.Waits.{Job, job_of, jobs_of, need_of, rests_on, unknown_among, waits_for}
-use Rattle.sf_precise.specs.Work.{AddsJob, AddsWaits, IsWork, is_ready, is_served, none_taken, row}
-
--- what stands in a list with one more at its end
-pub at-push : {A : Type 0} (xs : List A) (y : A) (i : ℕ) (x : A) → slice_get (xs ++ y ∷ []) i ≡ Some x → (slice_get xs i ≡ Some x) ⊎ ((i ≡ length xs) × (y ≡ x))
-at-push [] y zero x e = inr (refl, let same : y ≡ x = cc in same)
-at-push [] y (suc i) x e = absurd (let none : None ≡ Some x = e in cc)
-at-push (z ∷ zs) y zero x e = inl e
-at-push (z ∷ zs) y (suc i) x e = either (at-push zs y i x e) (λ h. inl h) (λ h. inr (ap suc h.0, h.1))
-
--- a sum without what fails the test
-skipped : (b : Bool) (x : ℕ) → b ≡ false → cond b 1 0 + x ≡ x
-skipped true x e = absurd (let c : true ≡ false = e in cc)
-skipped false x e = zero-add x
-
-unknown-none : (known : ℕ → Bool) (n : ℕ) → known n ≡ true → (ws : List ℕ) → list_any known ws ≡ false → count_by (λ m. m == n) ws ≡ 0
-unknown-none known n k [] e = refl
-unknown-none known n k (w ∷ ws) e = go (known w) refl e (λ f. unknown-none known n k ws f) (sum_by-cons (λ (m : ℕ). cond (m == n) 1 0) w ws) (eqb_tells w n)
-  where
-    go : (b : Bool) → known w ≡ b → (b || list_any known ws) ≡ false → (list_any known ws ≡ false → count_by (λ m. m == n) ws ≡ 0) → count_by (λ m. m == n) (w ∷ ws) ≡ cond (w == n) 1 0 + count_by (λ m. m == n) ws
-        → (((w == n) ≡ true) × (w ≡ n)) ⊎ (((w == n) ≡ false) × (w ≢ n)) → count_by (λ m. m == n) (w ∷ ws) ≡ 0
-    go true f e more sum same = absurd (let c : true ≡ false = e in cc)
-    go false f e more sum (inl s) = absurd (let c : true ≡ false = sym k ∙ ap known (sym s.1) ∙ f in cc)
-    go false f e more sum (inr s) = sum ∙ skipped (w == n) (count_by (λ m. m == n) ws) s.0 ∙ more e
-
-unknown-count : (known : ℕ → Bool) (ws : List ℕ) → list_any known ws ≡ false → count_by known ws ≡ 0
-unknown-count known [] e = refl
-unknown-count known (w ∷ ws) e = go (known w) refl e (λ f. unknown-count known ws f) (sum_by-cons (λ (m : ℕ). cond (known m) 1 0) w ws)
-  where
-    go : (b : Bool) → known w ≡ b → (b || list_any known ws) ≡ false → (list_any known ws ≡ false → count_by known ws ≡ 0) → count_by known (w ∷ ws) ≡ cond (known w) 1 0 + count_by known ws → count_by known (w ∷ ws) ≡ 0
-    go true f e more sum = absurd (let c : true ≡ false = e in cc)
-    go false f e more sum = sum ∙ skipped (known w) (count_by known ws) f ∙ more e
-
-below-none : (i : ℕ) (xs : List ℕ) → ((k : ℕ) → Contains xs k → k < i) → count_by (λ k. k == i) xs ≡ 0
-below-none i [] a = refl
-below-none i (x ∷ xs) a = go (eqb_tells x i) (sum_by-cons (λ (m : ℕ). cond (m == i) 1 0) x xs) (below-none i xs (λ k c. a k (Contains-append_right (x ∷ []) xs k c)))
-  where
-    go : (((x == i) ≡ true) × (x ≡ i)) ⊎ (((x == i) ≡ false) × (x ≢ i)) → count_by (λ k. k == i) (x ∷ xs) ≡ cond (x == i) 1 0 + count_by (λ k. k == i) xs → count_by (λ k. k == i) xs ≡ 0 → count_by (λ k. k == i) (x ∷ xs) ≡ 0
-    go (inl s) sum rest = absurd (let h : x < i = a x (0, omega arith, refl) in omega arith)
-    go (inr s) sum rest = sum ∙ skipped (x == i) (count_by (λ k. k == i) xs) s.0 ∙ rest
-
-replicate-is : (c a x : ℕ) → Contains (replicate c a) x → x ≡ a
-replicate-is c a x h = sym h.2 ∙ get_or-replicate c h.0 a x (let k : h.0 < length (replicate c a) = h.1 in omega (arith, length-replicate c a))
-
--- a job that waits for ns is at the end of the row as often as n is among them
-row-count : (xs : List ℕ) (c l i : ℕ) → count_by (λ k. k == i) (xs ++ replicate c l) ≡ count_by (λ k. k == i) xs + c * cond (l == i) 1 0
-row-count xs c l i = sum_by-append (λ (k : ℕ). cond (k == i) 1 0) xs (replicate c l) ∙ ap (λ (n : ℕ). count_by (λ k. k == i) xs + n) (sum_by-replicate (λ (k : ℕ). cond (k == i) 1 0) c l)
-
-pub past-one : (x : ℕ) → x ≡ 1 → (x == 0) ≡ false
-past-one x e = rw e refl
+use Rattle.sf_precise.specs.Internal.Waits.{Job, job_of, jobs_of, need_of, rests_on, unknown_among, waits_for}
+use Rattle.sf_precise.specs.Internal.Work.{AddsJob, AddsWaits, IsWork, is_ready, is_served, none_taken, row}
 
 ready-before : (a b t s z e : Bool) → a ≡ b → t ≡ false → s ≡ false → e ≡ false → ((a && not t) || (z && e)) ≡ (b && not s)
 ready-before a b t s z e p q r f = grind (arith, nat_tests)
@@ -85,7 +39,7 @@ pub adds-job : (j : Job) (u w : Work) → w.lacking.items ≡ u.lacking.items ++
     → ((i : ℕ) → is_ready w i ≡ (is_ready u i || ((j.need == 0) && (i == length u.lacking.items)))) → AddsJob j u w
 adds-job j u w lack waits ready jobs known unknown is = record {
   size = ap length lack ∙ length-append u.lacking.items (j.need ∷ []) ∙ ap (λ (n : ℕ). n + 1) is.size ∙ sym (length-append jobs (j ∷ []));
-  marks = length-map (jobs ++ j ∷ []) (λ (k : Job). false);
+  visited = length-map (jobs ++ j ∷ []) (λ (k : Job). false);
   lacking = lacking;
   rows = rows;
   gone = gone;
@@ -107,15 +61,15 @@ adds-job j u w lack waits ready jobs known unknown is = record {
     new = ap (λ (xs : List ℕ). slice_index_or xs (length jobs) 1) lack ∙ get_or_push u.lacking.items j.need 1 (length jobs) is.size
 
     lacking : (i : ℕ) (k : Job) → slice_get (jobs ++ j ∷ []) i ≡ Some k → slice_index_or w.lacking.items i 1 ≡ k.need - count_by known k.waits
-    lacking i k here = either (at-push jobs j i k here)
+    lacking i k here = either (get-push_cases jobs j i k here)
         (λ h. old i (slice_get_within jobs i k h) ∙ is.lacking i k h)
-        (λ h. subst (λ (z : Job). slice_index_or w.lacking.items i 1 ≡ z.need - count_by known z.waits) h.1 (let none = unknown-count known j.waits unknown in let now : slice_index_or w.lacking.items i 1 ≡ j.need = ap (λ (n : ℕ). slice_index_or w.lacking.items n 1) h.0 ∙ new in omega arith))
+        (λ h. subst (λ (z : Job). slice_index_or w.lacking.items i 1 ≡ z.need - count_by known z.waits) h.1 (let none = count-none known j.waits unknown in let now : slice_index_or w.lacking.items i 1 ≡ j.need = ap (λ (n : ℕ). slice_index_or w.lacking.items n 1) h.0 ∙ new in omega arith))
 
     row_now : (n : ℕ) → row w.waiting n ≡ row u.waiting n ++ replicate (count_by (λ m. m == n) j.waits) (length jobs)
     row_now n = waits.rows n ∙ ap (λ (l : ℕ). row u.waiting n ++ replicate (count_by (λ m. m == n) j.waits) l) is.size
 
     rows : (n : ℕ) → known n ≡ false → (i : ℕ) (k : Job) → slice_get (jobs ++ j ∷ []) i ≡ Some k → count_by (λ q. q == i) (row w.waiting n) ≡ count_by (λ m. m == n) k.waits
-    rows n f i k here = ap (λ (xs : List ℕ). count_by (λ q. q == i) xs) (row_now n) ∙ row-count (row u.waiting n) (count_by (λ m. m == n) j.waits) (length jobs) i ∙ either (at-push jobs j i k here) first last
+    rows n f i k here = ap (λ (xs : List ℕ). count_by (λ q. q == i) xs) (row_now n) ∙ count-replicate (row u.waiting n) (count_by (λ m. m == n) j.waits) (length jobs) i ∙ either (get-push_cases jobs j i k here) first last
       where
         first : slice_get jobs i ≡ Some k → count_by (λ q. q == i) (row u.waiting n) + count_by (λ m. m == n) j.waits * cond (length jobs == i) 1 0 ≡ count_by (λ m. m == n) k.waits
         first h = go (eqb_tells (length jobs) i)
@@ -129,17 +83,17 @@ adds-job j u w lack waits ready jobs known unknown is = record {
           where
             go : (((length jobs == i) ≡ true) × (length jobs ≡ i)) ⊎ (((length jobs == i) ≡ false) × (length jobs ≢ i)) → count_by (λ q. q == i) (row u.waiting n) + count_by (λ m. m == n) j.waits * cond (length jobs == i) 1 0 ≡ count_by (λ m. m == n) k.waits
             go (inl s) = ap (λ (b : Bool). count_by (λ q. q == i) (row u.waiting n) + count_by (λ m. m == n) j.waits * cond b 1 0) s.0
-                ∙ (let none = below-none i (row u.waiting n) (λ q c. let b : q < length jobs = is.within n q c in let e = h.0 in omega arith) in
+                ∙ (let none = count-below i (row u.waiting n) (λ q c. let b : q < length jobs = is.within n q c in let e = h.0 in omega arith) in
                 let same : count_by (λ m. m == n) j.waits ≡ count_by (λ m. m == n) k.waits = ap (λ (z : Job). count_by (λ m. m == n) z.waits) h.1 in omega arith)
             go (inr s) = absurd (s.1 (sym h.0))
 
     gone : (n : ℕ) → known n ≡ true → row w.waiting n ≡ []
-    gone n t = row_now n ∙ ap (λ (c : ℕ). row u.waiting n ++ replicate c (length jobs)) (unknown-none known n t j.waits unknown) ∙ append-nil (row u.waiting n) ∙ is.gone n t
+    gone n t = row_now n ∙ ap (λ (c : ℕ). row u.waiting n ++ replicate c (length jobs)) (count-absent known n t j.waits unknown) ∙ append-nil (row u.waiting n) ∙ is.gone n t
 
     within : (n i : ℕ) → Contains (row w.waiting n) i → i < length (jobs ++ j ∷ [])
     within n i c = either (Contains-append_cases (row u.waiting n) (replicate (count_by (λ m. m == n) j.waits) (length jobs)) i (subst (λ (xs : List ℕ). Contains xs i) (row_now n) c))
         (λ h. let b : i < length jobs = is.within n i h in omega (arith, longer))
-        (λ h. let e = replicate-is (count_by (λ m. m == n) j.waits) (length jobs) i h in omega (arith, longer))
+        (λ h. let e = contains-replicate (count_by (λ m. m == n) j.waits) (length jobs) i h in omega (arith, longer))
 
     ready_now : (i : ℕ) → is_ready w i ≡ (is_served w i && not (slice_index_or (none_taken (jobs ++ j ∷ [])) i true))
     ready_now i = ready i ∙ ap (λ (b : Bool). b || ((j.need == 0) && (i == length u.lacking.items))) (is.ready i) ∙ go (cases_lt i (length jobs)) (eqb_tells i (length u.lacking.items))
@@ -150,12 +104,12 @@ adds-job j u w lack waits ready jobs known unknown is = record {
         go (inl h) (inr e) = ready-before (is_served u i) (is_served w i) (slice_index_or (none_taken jobs) i true) (slice_index_or (none_taken (jobs ++ j ∷ [])) i true) (j.need == 0) (i == length u.lacking.items)
             (ap (λ (n : ℕ). n == 0) (sym (old i h))) (untaken jobs i h) (untaken (jobs ++ j ∷ []) i (omega (arith, longer))) e.0
         go (inr h) (inl e) = ready-now (is_served u i) (is_served w i) (slice_index_or (none_taken jobs) i true) (slice_index_or (none_taken (jobs ++ j ∷ [])) i true) (j.need == 0) (i == length u.lacking.items)
-            (past-one (slice_index_or u.lacking.items i 1) (get_or_past u.lacking.items i 1 (let t = e.1 in omega arith)))
+            (one-not_zero (slice_index_or u.lacking.items i 1) (get_or_past u.lacking.items i 1 (let t = e.1 in omega arith)))
             (ap (λ (n : ℕ). slice_index_or w.lacking.items n 1 == 0) (e.1 ∙ is.size) ∙ ap (λ (n : ℕ). n == 0) new)
             (untaken (jobs ++ j ∷ []) i (let t = e.1 in let s = is.size in omega (arith, longer))) e.0
         go (inr h) (inr e) = ready-never (is_served u i) (is_served w i) (slice_index_or (none_taken jobs) i true) (slice_index_or (none_taken (jobs ++ j ∷ [])) i true) (j.need == 0) (i == length u.lacking.items)
-            (past-one (slice_index_or u.lacking.items i 1) (get_or_past u.lacking.items i 1 (omega (arith, is.size))))
-            (past-one (slice_index_or w.lacking.items i 1) (get_or_past w.lacking.items i 1 (let l = ap length lack ∙ length-append u.lacking.items (j.need ∷ []) in let s = is.size in let t = e.1 in omega arith)))
+            (one-not_zero (slice_index_or u.lacking.items i 1) (get_or_past u.lacking.items i 1 (omega (arith, is.size))))
+            (one-not_zero (slice_index_or w.lacking.items i 1) (get_or_past w.lacking.items i 1 (let l = ap length lack ∙ length-append u.lacking.items (j.need ∷ []) in let s = is.size in let t = e.1 in omega arith)))
             e.0
 
 -- the same, where the number of the job is told otherwise

@@ -2,14 +2,14 @@
 -- Names: `agree-LAW` takes a fact from what is known to what else is known, where both agree on what occurs.
 use Rattle.std.specs.Prelude.{◌≡◌, ℕ, Bool, true, not, ◌&&◌}
 use Rattle.std.proofs.Common.{sym, ap, ◌∙◌, refl, subst, inl, inr}
+use Rattle.std.proofs.lemmas.Bool.{or_cases, and_parts, not-true, or_left, or_right}
 use Rattle.sf_core.specs.declared.assertion.Operand.{Operand}
 use Rattle.sf_core.specs.declared.assertion.Operand.TheVariants.{Known, Exists}
 use Rattle.sf_core.specs.declared.assertion.Scope.{Scope}
 use Rattle.sf_core.specs.declared.assertion.Test.TheVariants.{True, Equal, Differ}
-use Rattle.sf_base.proofs.Cases.{and-both, either, not-true, or-first, or-second, or-which}
+use Rattle.sf_base.proofs.Sums.{either}
 use Rattle.sf_core.specs.Assertions.Determined.{CanBeTaken, HasOrder, IsKnown, IsReady, Leaves, all_taken, branches, is_learned, known_after, known_inside, plain, take}
-use Rattle.sf_core.specs.Assertions.Occurs.{OccursIn, OccursInAll, OccursInOne}
-use Rattle.sf_core.specs.Assertions.Scopes.{is_made_by}
+use Rattle.sf_core.specs.Assertions.Occurs.{OccursIn, OccursInAll, OccursInOne, is_made_by}
 use Rattle.sf_core.specs.Program.Syntax.{Conjunct, holds, points, segment, tree, choose, Level, level, Conjuncts, none, also}
 use Rattle.sf_precise.specs.Order.{IsFirstReady, IsOrder, IsOrderInside, IsOrderWithin}
 
@@ -49,15 +49,15 @@ module _ {E : Type 0} where
   -- inside a branch as much is known of what occurs in it
   agree-inside : (known more : ℕ → Bool) (made : Scope) (cs : Conjuncts E) → ((n : ℕ) → OccursIn (level made cs) (Exists n) → known n ≡ true → more n ≡ true) → KnowsOfAll cs (known_inside made known) (known_inside made more)
   agree-inside known more made cs m n o e =
-      let both = and-both (known n) (not (is_made_by made n)) e in
+      let both = and_parts (known n) (not (is_made_by made n)) e in
       let knows : more n ≡ true = m n (o, not-true (is_made_by made n) both.1) both.0 in
       ap (λ b. b && not (is_made_by made n)) knows ∙ both.1
 
   -- once a conjunct is taken too
   agree-after : (known more : ℕ → Bool) (cs : Conjuncts E) (c : Conjunct E) (rest : Conjuncts E) → Leaves cs c rest → KnowsOfAll cs known more → KnowsOfAll rest (known_after c known) (known_after c more)
-  agree-after known more cs c rest l m n o e = either (or-which (known n) (is_learned c n) e)
-      (λ i. or-first (more n) (is_learned c n) (m n (leaves-occurs_rest cs c rest (Exists n) l o) i))
-      (λ i. or-second (more n) (is_learned c n) i)
+  agree-after known more cs c rest l m n o e = either (or_cases (known n) (is_learned c n) e)
+      (λ i. or_left (more n) (is_learned c n) (m n (leaves-occurs_rest cs c rest (Exists n) l o) i))
+      (λ i. or_right (more n) (is_learned c n) i)
 
   mutual
     pub agree-order : (known more : ℕ → Bool) (cs : Conjuncts E) → KnowsOfAll cs known more → HasOrder known cs → HasOrder more cs

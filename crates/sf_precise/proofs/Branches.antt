@@ -1,28 +1,27 @@
 -- A branch's order rests on nothing around it, once all that it takes from there is known.
 use Rattle.std.proofs.Common.{◌≡◌, ℕ, Bool, true, false, not, ◌&&◌, Option, Some, None, Result, Ok, Err, IfErr, refl, sym, ap, ap₂, ◌∙◌, subst, inl, inr}
+use Rattle.std.proofs.lemmas.Bool.{and_parts, not-true}
 use Rattle.sf_base.specs.declared.place.Place.{Place}
 use Rattle.sf_core.specs.declared.assertion.Operand.{Operand}
 use Rattle.sf_core.specs.declared.assertion.Operand.TheVariants.{Exists}
 use Rattle.sf_core.specs.declared.assertion.Scope.{Scope}
 use Rattle.sf_core.specs.declared.assertion.Test.{Test}
-use Rattle.sf_base.proofs.Cases.{and-both, not-true}
 use Rattle.sf_core.specs.Assertions.Determined.{CanBeTaken, Determined, HasOrder, known_inside}
 use Rattle.sf_core.specs.Assertions.InOrder.{IsInOrder}
-use Rattle.sf_core.specs.Assertions.Occurs.{OccursInAll}
-use Rattle.sf_core.specs.Assertions.Scopes.{is_made_by}
+use Rattle.sf_core.specs.Assertions.Occurs.{OccursInAll, is_made_by}
 use Rattle.sf_core.specs.Program.Syntax.{choose, Conjuncts, Level, level}
 use Rattle.sf_precise.specs.declared.fault.OrderFault.{OrderFault}
 use Rattle.sf_precise.specs.declared.fault.OrderFault.TheVariants.{Undetermined, OutOfMemory}
 use Rattle.sf_precise.specs.Order.{IsOrder, IsOrderFrom}
-use Rattle.sf_precise.specs.Prepared.{IsBranch, IsPrepared, IsSuppliedLevel, joined}
+use Rattle.sf_precise.specs.Internal.Prepared.{IsBranch, IsPrepared, IsSuppliedLevel, joined}
 use Rattle.sf_precise.specs.Taken.{IfUndetermined, NeverTakenFrom}
-use Rattle.sf_precise.specs.Waits.{known_outside}
+use Rattle.sf_precise.specs.Internal.Waits.{known_outside}
 use Rattle.sf_precise.proofs.Agree.{agree-is_order, agree-order}
 use Rattle.sf_precise.proofs.Greedy.{order-has, order-stands, taken-branches, taken-supplied}
 use Rattle.sf_precise.proofs.NeverTaken.{never-no_order}
 
 inside-outside : (made : Scope) (known : ℕ → Bool) (n : ℕ) → known_inside made known n ≡ true → known_outside (Some made) n ≡ true
-inside-outside made known n e = (and-both (known n) (not (is_made_by made n)) e).1
+inside-outside made known n e = (and_parts (known n) (not (is_made_by made n)) e).1
 
 module _ {E : Type 0} where
   -- the existentials that a level makes

@@ -2,16 +2,17 @@
 -- Names: `order-LAW` speaks of conjuncts in order, `within-LAW` of one conjunct with its branches in order.
 use Rattle.std.specs.Prelude.{◌≡◌, ℕ, Bool, true, ◌||◌}
 use Rattle.std.proofs.Common.{sym, ap, refl, ◌∙◌, subst, inl, inr}
+use Rattle.std.proofs.lemmas.Bool.{or_left, or_right}
 use Rattle.sf_core.specs.declared.assertion.Operand.{Operand}
 use Rattle.sf_core.specs.declared.assertion.Operand.TheVariants.{Known, Exists}
 use Rattle.sf_core.specs.declared.assertion.Test.TheVariants.{True, Equal, Differ}
-use Rattle.sf_base.proofs.Cases.{either, or-first, or-second}
+use Rattle.sf_base.proofs.Sums.{either}
 use Rattle.sf_core.specs.Assertions.Determined.{CanBeTaken, HasOrder, IsKnown, IsReady, all_taken, branches, is_learned, known_after, known_inside, plain, take}
 use Rattle.sf_core.specs.Assertions.InOrder.{InOrder, InOrderInside, IsNext, IsSupplied, is_known}
 use Rattle.sf_core.specs.Assertions.Occurs.{OccursIn, OccursInAll, OccursInOne}
 use Rattle.sf_core.specs.Program.Syntax.{Conjunct, holds, points, segment, tree, choose, Level, level, Conjuncts, none, also}
 use Rattle.sf_precise.specs.Order.{IsOrder, IsOrderInside, IsOrderWithin}
-use Rattle.sf_precise.specs.Prepared.{HasOrderInside}
+use Rattle.sf_precise.specs.Internal.Prepared.{HasOrderInside}
 use Rattle.sf_precise.proofs.Agree.{first-leaves, leaves-occurs_one, leaves-occurs_rest}
 
 module _ {E : Type 0} where
@@ -87,7 +88,7 @@ module _ {E : Type 0} where
     within-next known c (holds p True) w f = tt
     within-next known c (holds p (Equal x y)) w f =
         let ready : IsReady known (holds p (Equal x y)) = ready-plain known (holds p (Equal x y)) (subst (CanBeTaken known) w f) (λ q t this that e. cc) in
-        either ready (λ i. or-first (is_known known x) (is_known known y) (known-is known x i)) (λ i. or-second (is_known known x) (is_known known y) (known-is known y i))
+        either ready (λ i. or_left (is_known known x) (is_known known y) (known-is known x i)) (λ i. or_right (is_known known x) (is_known known y) (known-is known y i))
     within-next known c (holds p (Differ x y)) w f = ready-plain known (holds p (Differ x y)) (subst (CanBeTaken known) w f) (λ q t this that e. cc)
     within-next known c (points p x fs) w f = ready-plain known (points p x fs) (subst (CanBeTaken known) w f) (λ q t this that e. cc)
     within-next known c (segment p next x y) w f = ready-plain known (segment p next x y) (subst (CanBeTaken known) w f) (λ q t this that e. cc)

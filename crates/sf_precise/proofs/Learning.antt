@@ -6,25 +6,23 @@ use Rattle.std.specs.Ordering.{nat_cmp}
 use Rattle.std.specs.BTreeMap.{BTreeMap, get, is_at, Updates}
 use Rattle.std.specs.declared.alloc.Global.{Global}
 use Rattle.std.proofs.lemmas.Bool.Decides.{nat_tests}
-use Rattle.std.proofs.Math.Bool.{or_assoc}
+use Rattle.std.proofs.Math.Bool.{or_assoc, or-false}
 use Rattle.std.proofs.lemmas.List.Elements.{All-contains_itself}
 use Rattle.std.proofs.lemmas.List.Folds.{list_any-append}
 use Rattle.std.proofs.lemmas.List.Sums.{sum_by-cons}
-use Rattle.std.proofs.lemmas.Bool.{cases_lt}
+use Rattle.std.proofs.lemmas.Bool.{cases_lt, or_parts}
 use Rattle.std.proofs.lemmas.List.{append-nil, get_or_past}
 use Rattle.std.proofs.lemmas.Option.{slice_get_within}
+use Rattle.sf_base.proofs.Sums.{either}
+use Rattle.sf_base.proofs.Numbers.{at-is, one-not_zero}
+use Rattle.sf_base.proofs.Elements.{contains-unless}
 use Rattle.sf_base.specs.declared.ids.FieldId.{FieldId}
 use Rattle.sf_core.specs.declared.assertion.Operand.{Operand}
 use Rattle.sf_core.specs.declared.command.Expr.{Expr}
-use Rattle.sf_base.proofs.Cases.{either}
 use Rattle.sf_precise.specs.declared.work.Work.{Work}
-use Rattle.sf_precise.specs.Outer.{existential, field_existentials}
-use Rattle.sf_precise.specs.Waits.{Job}
-use Rattle.sf_precise.specs.Work.{IsWork, Learns, Serves, WaitsWithin, is_ready, is_served, items_or_none, known_with, row, work_left}
-
-pub or-false : (a : Bool) → (a || false) ≡ a
-or-false true = refl
-or-false false = refl
+use Rattle.sf_precise.specs.Internal.Outer.{existential, field_existentials}
+use Rattle.sf_precise.specs.Internal.Waits.{Job}
+use Rattle.sf_precise.specs.Internal.Work.{IsWork, Learns, Serves, WaitsWithin, is_ready, is_served, items_or_none, known_with, row, work_left}
 
 -- work is the same where the same is known
 pub work-same : (jobs : List Job) (known more : ℕ → Bool) (taken : List Bool) (w : Work) → ((n : ℕ) → known n ≡ more n) → IsWork jobs known taken w → IsWork jobs more taken w
@@ -51,9 +49,6 @@ learns-both ns ms u v w a b = record {
   within = λ h. b.within (a.within h);
   left = let one : work_left v ≤ work_left u = a.left in let two : work_left w ≤ work_left v = b.left in omega arith;
 }
-
-at-is : (n q : ℕ) → is_at (nat_cmp n) q ≡ (n == q)
-at-is n q = grind (arith, nat_tests)
 
 -- the row of an existential is taken out
 pub row-removed : (before after : BTreeMap ℕ (Vec ℕ Global)) (n : ℕ) → Updates nat_cmp before after n None → (q : ℕ) → row after q ≡ cond (n == q) [] (row before q)
@@ -87,11 +82,6 @@ with-count known n e (x ∷ xs) =
 at-less : (a b c d e : ℕ) → a ≡ b - c → b ≡ d - e → a ≡ d - (e + c)
 at-less a b c d e p q = omega arith
 
--- a test of three facts, as it goes from one number of jobs served to the next
-both-false : (a b : Bool) → (a || b) ≡ false → (a ≡ false) × (b ≡ false)
-both-false true b e = absurd (let x : true ≡ false = e in cc)
-both-false false b e = (refl, e)
-
 ready-step : (was is taken : Bool) → (was ≡ true → is ≡ true) → (taken ≡ true → was ≡ true) → ((was && not taken) || (is && not was)) ≡ (is && not taken)
 ready-step true true t m h = or-false (not t)
 ready-step true false t m h = absurd (let e : false ≡ true = m refl in cc)
@@ -111,19 +101,11 @@ with_rows w rows = record w { waiting = rows }
 zero-test : (a b : ℕ) → (a == 0) ≡ true → b ≤ a → (b == 0) ≡ true
 zero-test a b e h = grind (arith, nat_tests)
 
-past-test : (x : ℕ) → x ≡ 1 → (x == 0) ≡ false
-past-test x e = rw e refl
-
 -- what was served stays so
 served-stays : (xs : List ℕ) (v w : Work) (i : ℕ) → Serves xs v w → is_served v i ≡ true → is_served w i ≡ true
 served-stays xs v w i s e = either (cases_lt i (length v.lacking.items))
     (λ h. let step : slice_index_or w.lacking.items i 1 ≡ slice_index_or v.lacking.items i 1 - count_by (λ k. k == i) xs = s.lacking i h in zero-test (slice_index_or v.lacking.items i 1) (slice_index_or w.lacking.items i 1) e (omega arith))
-    (λ h. absurd (let a : true ≡ false = sym e ∙ past-test (slice_index_or v.lacking.items i 1) (get_or_past v.lacking.items i 1 h) in cc))
-
--- what is in a row that may be taken out is in the row
-row-part : (b : Bool) (xs : List ℕ) (i : ℕ) → Contains (cond b [] xs) i → Contains xs i
-row-part true xs i c = absurd (let none : c.0 < 0 = c.1 in omega arith)
-row-part false xs i c = c
+    (λ h. absurd (let a : true ≡ false = sym e ∙ one-not_zero (slice_index_or v.lacking.items i 1) (get_or_past v.lacking.items i 1 h) in cc))
 
 -- those in a row are jobs
 pub row-within : (n : ℕ) (u : Work) (xs : List ℕ) → WaitsWithin u → row u.waiting n ≡ xs → All (λ i. i < length u.lacking.items) xs
@@ -133,7 +115,7 @@ row-within n u xs h e = λ k d b. h n (slice_index_or xs k d) (subst (λ (ys : L
 served-within : (n : ℕ) (u : Work) (rest : BTreeMap ℕ (Vec ℕ Global)) (xs : List ℕ) (w : Work) → Updates nat_cmp u.waiting rest n None → Serves xs (with_rows u rest) w → WaitsWithin u → WaitsWithin w
 served-within n u rest xs w gone s h q i c =
     let kept : row w.waiting q ≡ cond (n == q) [] (row u.waiting q) = s.waiting q ∙ row-removed u.waiting rest n gone q in
-    subst (λ (m : ℕ). i < m) (sym s.size) (h q i (row-part (n == q) (row u.waiting q) i (rw kept at c)))
+    subst (λ (m : ℕ). i < m) (sym s.size) (h q i (contains-unless (n == q) (row u.waiting q) i (rw kept at c)))
 
 -- the jobs of the row of n are served, and it is taken out
 pub work-served : (jobs : List Job) (known : ℕ → Bool) (taken : List Bool) (n : ℕ) (u : Work) (rest : BTreeMap ℕ (Vec ℕ Global)) (w : Work)
@@ -141,11 +123,11 @@ pub work-served : (jobs : List Job) (known : ℕ → Bool) (taken : List Bool) (
     → IsWork jobs known taken u → IsWork jobs (known_with (n ∷ []) known) taken w
 work-served jobs known taken n u rest w rows s is = record {
   size = s.size ∙ is.size;
-  marks = is.marks;
+  visited = is.visited;
   lacking = lacking;
-  rows = λ q f i j here. let k = both-false (known q) (n == q) (sym (with-one known n q) ∙ f) in rw (kept q k.1) (is.rows q k.0 i j here);
+  rows = λ q f i j here. let k = or_parts (known q) (n == q) (sym (with-one known n q) ∙ f) in rw (kept q k.1) (is.rows q k.0 i j here);
   gone = λ q t. s.waiting q ∙ rows q ∙ gone q (n == q) refl (sym (with-one known n q) ∙ t);
-  within = λ q i c. is.within q i (row-part (n == q) (row u.waiting q) i (rw (s.waiting q ∙ rows q) at c));
+  within = λ q i c. is.within q i (contains-unless (n == q) (row u.waiting q) i (rw (s.waiting q ∙ rows q) at c));
   ready = λ i. s.ready i ∙ ap (λ (b : Bool). b || (is_served w i && not (is_served u i))) (is.ready i)
       ∙ ready i;
   served = λ i t h. served-stays (row u.waiting n) (with_rows u rest) w i s (is.served i t h);
@@ -162,8 +144,8 @@ work-served jobs known taken n u rest w rows s is = record {
     ready i = either (cases_lt i (length jobs))
         (λ h. ready-step (is_served u i) (is_served w i) (slice_index_or taken i true) (served-stays (row u.waiting n) (with_rows u rest) w i s) (λ t. is.served i t h))
         (λ h. ready-past (is_served u i) (is_served w i) (slice_index_or taken i true)
-        (past-test (slice_index_or u.lacking.items i 1) (get_or_past u.lacking.items i 1 (omega (arith, is.size))))
-        (past-test (slice_index_or w.lacking.items i 1) (get_or_past w.lacking.items i 1 (omega (arith, is.size, s.size)))))
+        (one-not_zero (slice_index_or u.lacking.items i 1) (get_or_past u.lacking.items i 1 (omega (arith, is.size))))
+        (one-not_zero (slice_index_or w.lacking.items i 1) (get_or_past w.lacking.items i 1 (omega (arith, is.size, s.size)))))
 
     lacking : (i : ℕ) (j : Job) → slice_get jobs i ≡ Some j → slice_index_or w.lacking.items i 1 ≡ j.need - count_by (known_with (n ∷ []) known) j.waits
     lacking i j here =

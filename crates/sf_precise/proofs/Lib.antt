@@ -9,8 +9,9 @@ pub mod Adding
 pub mod Sequences
 pub mod Branches
 pub mod OrderMeaning
-pub mod Noted
 pub mod TakenDecided
 pub mod OrdersHad
 pub mod OrdersExist
 pub mod TakenFixes
+pub mod Closing
+pub mod Annotated

@@ -2,8 +2,9 @@
 -- Names: `takes-LAW` speaks of sequences of takings, `stuck-LAW` of one that stops.
 use Rattle.std.specs.Prelude.{◌≡◌, ◌⊎◌, ℕ, Bool, true}
 use Rattle.std.proofs.Common.{sym, ap, ◌∙◌, refl, subst, inl, inr}
+use Rattle.std.proofs.lemmas.Bool.{or_cases, or_right}
 use Rattle.sf_base.specs.declared.place.Place.{Place}
-use Rattle.sf_base.proofs.Cases.{either, or-second, or-which}
+use Rattle.sf_base.proofs.Sums.{either}
 use Rattle.sf_core.proofs.Assertions.Orders.{KnowsMore, more-taken, taken-more}
 use Rattle.sf_core.specs.Assertions.Determined.{CanBeTaken, HasOrder, Leaves, all_taken, is_learned, known_after, take}
 use Rattle.sf_core.specs.Program.Syntax.{Conjunct, Conjuncts, none, also}
@@ -59,7 +60,7 @@ module _ {E : Type 0} where
   taken-or_left known cs (also c taken) rest d t i = either (leaves-among cs c t.0 d t.1 i)
       (λ e. inl (
         taken-more known (known_by taken (known_after c known)) d (subst (CanBeTaken known) e t.2) (λ n k. takes-more (known_after c known) taken n (more-taken c known n k)),
-        λ n k. takes-more (known_after c known) taken n (or-second (known n) (is_learned c n) (subst (λ z. is_learned z n ≡ true) (sym e) k)),
+        λ n k. takes-more (known_after c known) taken n (or_right (known n) (is_learned c n) (subst (λ z. is_learned z n ≡ true) (sym e) k)),
       ))
       (λ j. taken-or_left (known_after c known) t.0 taken rest d t.3 j)
 
@@ -73,7 +74,7 @@ module _ {E : Type 0} where
       either (leaves-among cs d t.0 c t.1 i)
       (λ e. absurd (stuck c l (subst (CanBeTaken final) e ready)))
       (λ j. either (which d (w d (leaves-is cs d t.0 t.1)))
-      (λ k. stuck-stays known final all left which stuck (known_after d now) t.0 taken rest (λ n e. either (or-which (now n) (is_learned d n) e) (m n) (k.1 n)) (λ b h. w b (leaves-within cs d t.0 b t.1 h)) c l j t.3)
+      (λ k. stuck-stays known final all left which stuck (known_after d now) t.0 taken rest (λ n e. either (or_cases (now n) (is_learned d n) e) (m n) (k.1 n)) (λ b h. w b (leaves-within cs d t.0 b t.1 h)) c l j t.3)
       (λ k. absurd (stuck d k ready)))
 
   -- the conjuncts left are of those in text order, the others having been taken

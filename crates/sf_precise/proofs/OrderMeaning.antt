@@ -2,13 +2,14 @@
 -- Names: `order-LAW` speaks of conjuncts, `within-LAW` of one conjunct, `inside-LAW` of a branch.
 use Rattle.std.specs.Prelude.{◌≡◌, ◌⊎◌, ℕ, Bool, true, false, ◌||◌}
 use Rattle.std.proofs.Common.{sym, ap, ap₂, ◌∙◌, refl, subst, inl, inr}
+use Rattle.std.proofs.lemmas.Bool.{or_cases}
 use Rattle.sf_base.specs.declared.value.Value.{Value}
 use Rattle.sf_core.specs.declared.assertion.Operand.{Operand}
 use Rattle.sf_core.specs.declared.assertion.Operand.TheVariants.{Known, Exists}
 use Rattle.sf_core.specs.declared.assertion.Test.TheVariants.{True, Equal, Differ}
-use Rattle.sf_base.proofs.Cases.{either, or-which}
 use Rattle.sf_core.proofs.Assertions.Determined.{leaves-focus, leaves-unfocus}
 use Rattle.sf_base.proofs.HeapSplits.{star-map}
+use Rattle.sf_base.proofs.Sums.{either}
 use Rattle.sf_core.specs.Assertions.Determined.{CanBeTaken, Determined, HasOrder, IsKnown, all_taken, branches, known_after, known_inside, plain, take}
 use Rattle.sf_base.specs.HeapStore.{Heap}
 use Rattle.sf_core.specs.Assertions.InOrder.{InOrder, IsNext, IsInOrder, is_known}
@@ -133,7 +134,7 @@ module _ {E : Type 0} where
   is-known known (Exists n) k = k
 
   known-one : (known : ℕ → Bool) (x y : Operand E) → is_known known x || is_known known y ≡ true → IsKnown known x ⊎ IsKnown known y
-  known-one known x y i = either (or-which (is_known known x) (is_known known y) i) (λ j. inl (is-known known x j)) (λ j. inr (is-known known y j))
+  known-one known x y i = either (or_cases (is_known known x) (is_known known y) i) (λ j. inl (is-known known x j)) (λ j. inr (is-known known y j))
 
   mutual
     -- conjuncts that stand in order have an order

@@ -7,13 +7,13 @@ use Rattle.sf_base.specs.declared.place.Place.{Place}
 use Rattle.sf_core.specs.Assertions.Determined.{CanBeTaken, Determined, HasOrder, all_taken, known_after, known_inside, take}
 use Rattle.sf_core.specs.Program.Syntax.{Assertion, Conjunct, holds, points, segment, tree, choose, Level, level, Conjuncts, none, also}
 use Rattle.sf_core.proofs.Assertions.Orders.{order-first, order-stuck}
-use Rattle.sf_precise.specs.Notes.{IsFirstPlace, NeverTakenIn, earlier_of}
+use Rattle.sf_precise.specs.Annotations.{IsFirstPlace, NeverTakenIn, earlier_of}
 use Rattle.sf_precise.specs.Order.{IsOrder, IsOrderOfLevel, IsOrderWithin}
 use Rattle.sf_precise.specs.Taken.{IsAmong, IsFirstNeverTaken, NeverTakenAt, Takes, known_by, place_at}
 use Rattle.sf_precise.proofs.Agree.{first-leaves}
 use Rattle.sf_precise.proofs.Greedy.{taken-branches}
 use Rattle.sf_precise.proofs.NeverTaken.{among-leaves, known-then_one, leaves-is, leaves-within, stuck-first, takes-one, then_one}
-use Rattle.sf_precise.proofs.Noted.{place-determined, place-fault, place-none}
+use Rattle.sf_precise.proofs.Annotated.{place-determined, place-fault, place-none}
 use Rattle.sf_precise.proofs.TakenDecided.{count, first-decided, leaves-fewer}
 
 module _ {E : Type 0} where

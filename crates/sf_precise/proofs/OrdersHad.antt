@@ -12,7 +12,7 @@ use Rattle.sf_core.specs.declared.command.Expr.{Expr}
 use Rattle.sf_core.specs.Assertions.Determined.{known_after, known_inside}
 use Rattle.sf_core.specs.Program.Syntax.{Conjunct, holds, points, segment, tree, choose, Level, level, Conjuncts, none, also, Assertion}
 use Rattle.sf_calls.proofs.Had.{IsHad, had_never, had_once}
-use Rattle.sf_precise.specs.Laws.{OrdersAreHad}
+use Rattle.sf_precise.specs.Laws.{OrdersFromTruncation}
 use Rattle.sf_precise.specs.Order.{IsFirstReady, IsOrder, IsOrderFrom, IsOrderInside, IsOrderOf, IsOrderWithin}
 use Rattle.sf_precise.proofs.Agree.{first-leaves}
 use Rattle.sf_precise.proofs.OrderMeaning.{first-one}
@@ -125,7 +125,7 @@ assertion-had a o h = record {
 }
 
 -- that assertions are others in order
-pub orders-had : OrdersAreHad
+pub orders-had : OrdersFromTruncation
 orders-had [] [] h = tt
 orders-had [] (o ∷ os) h = had_never (λ i. i) h
 orders-had (a ∷ notes) [] h = had_never (λ i. i) h

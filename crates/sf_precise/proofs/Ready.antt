@@ -2,23 +2,23 @@
 -- Names: `in-LAW` speaks of numbers in a list, `job-LAW` of what a conjunct waits for.
 use Rattle.std.proofs.Common.{◌≡◌, ◌⊎◌, ℕ, suc, ◌+◌, ◌≤◌, Bool, true, false, not, ◌&&◌, cond, List, [], ◌∷◌, ◌++◌, length, filter, count_by, Option, Some, None, is_some, refl, sym, ap, ◌∙◌, subst, inl, inr, arith}
 use Rattle.std.proofs.lemmas.List.Sums.{sum_by-cons, count_by-le-length}
+use Rattle.std.proofs.lemmas.Bool.{not-true, not_from_false}
 use Rattle.sf_base.specs.declared.ids.FieldId.{FieldId}
 use Rattle.sf_core.specs.declared.assertion.Operand.{Operand}
 use Rattle.sf_core.specs.declared.assertion.Operand.TheVariants.{Known, Exists}
 use Rattle.sf_core.specs.declared.assertion.Scope.{Scope}
 use Rattle.sf_core.specs.declared.assertion.Test.{Test}
 use Rattle.sf_core.specs.declared.assertion.Test.TheVariants.{True, Equal, Differ}
-use Rattle.sf_base.proofs.Cases.{either, not-true}
+use Rattle.sf_base.proofs.Sums.{either}
 use Rattle.sf_core.proofs.Assertions.Orders.{KnowsMore}
 use Rattle.sf_core.specs.Assertions.Determined.{CanBeTaken, HasOrder, IsKnown, IsReady, branches, known_inside, plain}
 use Rattle.sf_core.specs.Assertions.InOrder.{IsSupplied}
-use Rattle.sf_core.specs.Assertions.Occurs.{OccursIn, OccursInAll, OccursInFields, OccursInOne, OccursInTest}
-use Rattle.sf_core.specs.Assertions.Scopes.{is_made_by}
+use Rattle.sf_core.specs.Assertions.Occurs.{OccursIn, OccursInAll, OccursInFields, OccursInOne, OccursInTest, is_made_by}
 use Rattle.sf_core.specs.Program.Syntax.{Conjunct, holds, points, segment, tree, choose, Level, level, Conjuncts, none, also}
 use Rattle.sf_precise.specs.Order.{IsOrderInside, IsOrderWithin}
-use Rattle.sf_precise.specs.Outer.{existential, field_existentials, outer_of, outer_of_all, outer_of_level, test_existentials}
-use Rattle.sf_precise.specs.Prepared.{IsPrepared}
-use Rattle.sf_precise.specs.Waits.{need_of, unknown_among, waits_for}
+use Rattle.sf_precise.specs.Internal.Outer.{existential, field_existentials, outer_of, outer_of_all, outer_of_level, test_existentials}
+use Rattle.sf_precise.specs.Internal.Prepared.{IsPrepared}
+use Rattle.sf_precise.specs.Internal.Waits.{need_of, unknown_among, waits_for}
 use Rattle.sf_precise.proofs.Greedy.{order-has, ready-plain, taken-supplied}
 
 -- the number stands in the list
@@ -61,9 +61,6 @@ in-filtered p (x ∷ xs) n i = go (p x) refl i (λ j. in-filtered p xs n j)
     go true e (inl s) more = (inl s, ap p s ∙ e)
     go true e (inr j) more = (inr (more j).0, (more j).1)
     go false e j more = (inr (more j).0, (more j).1)
-
-not-made : (b : Bool) → b ≡ false → not b ≡ true
-not-made b e = ap not e
 
 -- the existential of an operand
 in-operand : {E : Type 0} (x : Operand E) (n : ℕ) → Exists n ≡ x → In (existential x) n
@@ -111,7 +108,7 @@ module _ {E : Type 0} where
     in-outer (choose p t this that) n (inr (inr o)) = in-right (test_existentials t) (outer_of_level this ++ outer_of_level that) n (in-right (outer_of_level this) (outer_of_level that) n (in-outer_level that n o))
 
     in-outer_level : (a : Level E) (n : ℕ) → OccursIn a (Exists n) → In (outer_of_level a) n
-    in-outer_level (level made cs) n o = in-filter (λ m. not (is_made_by made m)) (outer_of_all cs) n (in-outer_all cs n o.0) (not-made (is_made_by made n) o.1)
+    in-outer_level (level made cs) n o = in-filter (λ m. not (is_made_by made m)) (outer_of_all cs) n (in-outer_all cs n o.0) (not_from_false (is_made_by made n) o.1)
 
     in-outer_all : (cs : Conjuncts E) (n : ℕ) → OccursInAll cs (Exists n) → In (outer_of_all cs) n
     in-outer_all none n o = absurd o

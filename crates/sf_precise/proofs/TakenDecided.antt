@@ -1,15 +1,15 @@
 -- Whether a conjunct can be taken, and whether conjuncts have an order, is decided.
 use Rattle.std.proofs.Common.{◌≡◌, ◌⊎◌, ◌≤◌, ℕ, zero, suc, Bool, true, false, List, [], ◌∷◌, refl, sym, ap, ◌∙◌, subst, inl, inr, arith}
+use Rattle.sf_base.proofs.Sums.{either}
 use Rattle.sf_core.specs.declared.assertion.Operand.{Operand}
 use Rattle.sf_core.specs.declared.assertion.Operand.TheVariants.{Known, Exists}
 use Rattle.sf_core.specs.declared.assertion.Test.TheVariants.{True, Equal, Differ}
-use Rattle.sf_base.proofs.Cases.{either}
 use Rattle.sf_core.proofs.Assertions.Orders.{order-first, order-stuck}
 use Rattle.sf_core.specs.Assertions.Determined.{CanBeTaken, HasOrder, IsKnown, IsReady, Leaves, all_taken, branches, known_after, known_inside, plain, take}
 use Rattle.sf_core.specs.Assertions.InOrder.{IsSupplied}
 use Rattle.sf_core.specs.Program.Syntax.{Conjunct, holds, points, segment, tree, choose, Level, level, Conjuncts, none, also}
 use Rattle.sf_precise.specs.Order.{IsFirstReady}
-use Rattle.sf_precise.specs.Outer.{outer_of}
+use Rattle.sf_precise.specs.Internal.Outer.{outer_of}
 use Rattle.sf_precise.specs.Taken.{IsAmong}
 use Rattle.sf_precise.proofs.Agree.{first-leaves}
 use Rattle.sf_precise.proofs.Greedy.{ready-plain, taken-branches, taken-supplied}

@@ -12,21 +12,21 @@ use Rattle.sf_base.specs.HeapStore.{Heap, Splits}
 use Rattle.sf_core.specs.Assertions.InOrder.{IsInOrder}
 use Rattle.sf_core.specs.Assertions.Sat.{Sat, SatAll, value}
 use Rattle.sf_core.specs.Program.Syntax.{Assertion, Conjuncts, Level}
-use Rattle.sf_precise.specs.Notes.{AreOrdersOf, IsFirstPlace, NeverTakenIn}
+use Rattle.sf_precise.specs.Annotations.{AreOrdersOf, IsFirstPlace, NeverTakenIn}
 use Rattle.sf_precise.specs.Order.{IsOrderOfLevel}
 use Rattle.sf_precise.specs.Taken.{NeverTakenAt, Takes, known_by}
 
 -- a level has one order at most
-abbrev pub OrderIsOne : Type 0
-OrderIsOne = (a o u : Level Expr) → IsOrderOfLevel a o → IsOrderOfLevel a u → o ≡ u
+abbrev pub OrderIsUnique : Type 0
+OrderIsUnique = (a o u : Level Expr) → IsOrderOfLevel a o → IsOrderOfLevel a u → o ≡ u
 
 -- a level in order is determined, and stands in order
-abbrev pub OrderStands : Type 0
-OrderStands = (a o : Level Expr) → IsOrderOfLevel a o → Determined a × IsInOrder o
+abbrev pub OrderedIsDetermined : Type 0
+OrderedIsDetermined = (a o : Level Expr) → IsOrderOfLevel a o → Determined a × IsInOrder o
 
 -- a level that stands in order is determined
-abbrev pub StandingIsDetermined : Type 0
-StandingIsDetermined = (o : Level Expr) → IsInOrder o → Determined o
+abbrev pub InOrderIsDetermined : Type 0
+InOrderIsDetermined = (o : Level Expr) → IsInOrder o → Determined o
 
 -- a level of which a conjunct is never taken is not determined
 abbrev pub NeverTakenIsUndetermined : Type 0
@@ -41,8 +41,8 @@ abbrev pub UndeterminedHasPlace : Type 0
 UndeterminedHasPlace = (a : Level Expr) → Determined a ⊎ ((q : Place) × NeverTakenAt a q)
 
 -- annotations are all determined, or there is a first place among them at which a conjunct is never taken
-abbrev pub UndeterminedNotesHavePlace : Type 0
-UndeterminedNotesHavePlace = (notes : List Assertion) → All (λ a. Determined a.level) notes ⊎ ((q : Place) × IsFirstPlace (NeverTakenIn notes) (Some q))
+abbrev pub UndeterminedAnnotationsHavePlace : Type 0
+UndeterminedAnnotationsHavePlace = (notes : List Assertion) → All (λ a. Determined a.level) notes ⊎ ((q : Place) × IsFirstPlace (NeverTakenIn notes) (Some q))
 
 -- conjuncts that were taken fix what became known by them: where all the conjuncts hold on two parts of one heap, with values that are the same for
 -- what is known, the values of what is known once those are taken are the same
@@ -56,5 +56,5 @@ abbrev pub OrderKeepsMeaning : Type 0
 OrderKeepsMeaning = (a o : Level Expr) (vars : Var → Value) (some : ℕ → Value) (heap : Heap) → IsOrderOfLevel a o → Sat a (value vars) some heap ↔ Sat o (value vars) some heap
 
 -- whoever holds no more than that assertions are others in order has that they are
-abbrev pub OrdersAreHad : Type 0
-OrdersAreHad = (notes orders : List Assertion) → ∥ AreOrdersOf notes orders ∥₁ → AreOrdersOf notes orders
+abbrev pub OrdersFromTruncation : Type 0
+OrdersFromTruncation = (notes orders : List Assertion) → ∥ AreOrdersOf notes orders ∥₁ → AreOrdersOf notes orders

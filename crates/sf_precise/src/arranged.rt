@@ -4,9 +4,9 @@ ghost use Rattle.sf_core.specs.Program.ProgramView.{program_of};
 ghost use Rattle.sf_calls.specs.Assigned.{Assigned, IsInOrderIn};
 ghost use Rattle.sf_calls.specs.FirstBreach.{Conditions};
 ghost use Rattle.sf_calls.specs.Sets.{AreSetsOf, IsVarSet};
-ghost use Rattle.sf_precise.specs.Notes.{AreOrdersOf, notes_in};
+ghost use Rattle.sf_precise.specs.Annotations.{AreOrdersOf, annotations_in};
 
-use sf_calls::laws::sets_are_had;
+use sf_calls::laws::sets_from_truncation;
 use sf_calls::{Calls, VarSet};
 use sf_core::{Command, Ordered, Program};
 use std::alloc::{AllocError, Global};
@@ -14,7 +14,7 @@ use std::alloc::{AllocError, Global};
 /// A program, what its calls reach, and its annotations in order. It keeps that the calls are the
 /// program's, that no condition on its variables is broken, and that each order is that of its
 /// annotation. It keeps each without telling how it was found, and a law gives it back:
-/// `sets_are_had` and `conditions_are_had` of sf_calls, and `orders_are_had` here. `arrange` makes
+/// `sets_from_truncation` and `conditions_from_truncation` of sf_calls, and `orders_from_truncation` here. `arrange` makes
 /// it.
 #[derive(Debug, Drop)]
 pub struct Arranged {
@@ -27,7 +27,7 @@ pub struct Arranged {
     pub orders: Vec<Ordered>,
     ghost sets: { ∥ AreSetsOf (program_of program) calls ∥₁ },
     ghost conditions: { ∥ Conditions (program_of program) ∥₁ },
-    ghost ordered: { ∥ AreOrdersOf (notes_in (program_of program)) (map (λ o. assertion_of o.assertion) orders.items) ∥₁ },
+    ghost ordered: { ∥ AreOrdersOf (annotations_in (program_of program)) (map (λ o. assertion_of o.assertion) orders.items) ∥₁ },
 }
 
 impl Arranged {
@@ -37,7 +37,7 @@ impl Arranged {
         requires { IsInOrderIn (program_of self.now.program) (command_of c.now) }
         ensures { IfOk result (λ xs. IsVarSet (λ x. Assigned (program_of self.now.program) x (command_of c.now)) xs) }
     {
-        sets_are_had();
+        sets_from_truncation();
         self.calls.assigned(alloc, &self.program, c)
     }
 }

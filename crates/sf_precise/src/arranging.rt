@@ -5,12 +5,12 @@ ghost use Rattle.sf_core.specs.Program.View.{assertion_of};
 ghost use Rattle.sf_core.specs.Program.ProgramView.{program_of};
 ghost use Rattle.sf_calls.specs.FirstBreach.{Conditions};
 ghost use Rattle.sf_calls.specs.Sets.{AreSetsOf};
-ghost use Rattle.sf_precise.specs.Notes.{AreOrdersOf, IsFirstPlace, NeverTakenIn, earlier_of, is_before, notes_in};
+ghost use Rattle.sf_precise.specs.Annotations.{AreOrdersOf, IsFirstPlace, NeverTakenIn, earlier_of, is_before, annotations_in};
 ghost use Rattle.sf_precise.specs.Taken.{IfUndetermined};
 
 use crate::arranged::Arranged;
 use crate::fault::OrderFault;
-use crate::notes::notes_in;
+use crate::annotations::annotations_in;
 use crate::ordering::order;
 use sf_base::Place;
 use sf_calls::Calls;
@@ -25,8 +25,8 @@ pub fn arrange(alloc: Global, p: Program, c: Calls) -> Result<Arranged, OrderFau
     requires conditions { Conditions (program_of p) }
     ensures program { IfOk result (λ a. a.program ≡ p) }
     ensures calls { IfOk result (λ a. a.calls ≡ c) }
-    ensures orders { IfOk result (λ a. AreOrdersOf (notes_in (program_of p)) (map (λ o. assertion_of o.assertion) a.orders.items)) }
-    ensures undetermined { IfErr result (λ e. IfUndetermined e (λ q. IsFirstPlace (NeverTakenIn (notes_in (program_of p))) (Some q))) }
+    ensures orders { IfOk result (λ a. AreOrdersOf (annotations_in (program_of p)) (map (λ o. assertion_of o.assertion) a.orders.items)) }
+    ensures undetermined { IfErr result (λ e. IfUndetermined e (λ q. IsFirstPlace (NeverTakenIn (annotations_in (program_of p))) (Some q))) }
 {
     let orders = order_annotations(alloc, &p)?;
     Ok(Arranged {
@@ -38,10 +38,10 @@ pub fn arrange(alloc: Global, p: Program, c: Calls) -> Result<Arranged, OrderFau
 
 /// The program's annotations in order, or the first place at which a conjunct is never taken.
 fn order_annotations(alloc: Global, p: &Program) -> Result<Vec<Ordered>, OrderFault>
-    ensures orders { IfOk result (λ orders. AreOrdersOf (notes_in (program_of p.now)) (map (λ o. assertion_of o.assertion) orders.items)) }
-    ensures undetermined { IfErr result (λ e. IfUndetermined e (λ q. IsFirstPlace (NeverTakenIn (notes_in (program_of p.now))) (Some q))) }
+    ensures orders { IfOk result (λ orders. AreOrdersOf (annotations_in (program_of p.now)) (map (λ o. assertion_of o.assertion) orders.items)) }
+    ensures undetermined { IfErr result (λ e. IfUndetermined e (λ q. IsFirstPlace (NeverTakenIn (annotations_in (program_of p.now))) (Some q))) }
 {
-    let notes = notes_in(alloc, p)?;
+    let notes = annotations_in(alloc, p)?;
     order_all(alloc, &notes)
 }
 

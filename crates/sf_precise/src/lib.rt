@@ -2,11 +2,11 @@
 //! annotations all have one.
 #![tactic(auto)]
 
-pub mod arranged;
+mod arranged;
 mod arranging;
-pub mod fault;
+mod fault;
 pub mod laws;
-mod notes;
+mod annotations;
 mod ordering;
 mod outer;
 mod sequence;

@@ -1,15 +1,16 @@
 //! The order of an assertion, branches first: what is known around a branch decides nothing about
 //! its order, once all that it takes from there is known.
 
-ghost use Rattle.std.specs.Prelude.{◌≡◌, ◌++◌, [], map, option_map, IfErr, IfOk, OnOk, Some, None};
+ghost use Rattle.std.specs.Prelude.{◌≡◌, [], map, option_map, IfErr, IfOk, Some, None};
+ghost use Rattle.sf_base.specs.Results.{Appends};
 ghost use Rattle.std.specs.List.{AllZip};
 ghost use Rattle.sf_core.specs.Assertions.Determined.{Determined, HasOrder};
 ghost use Rattle.sf_core.specs.Program.View.{assertion_of, conjunct_of, level_of};
 ghost use Rattle.sf_precise.specs.Order.{IsOrderFrom, IsOrderOf};
-ghost use Rattle.sf_precise.specs.Outer.{outer_of, outer_of_level};
-ghost use Rattle.sf_precise.specs.Prepared.{IsBranch, IsPrepared, joined};
+ghost use Rattle.sf_precise.specs.Internal.Outer.{outer_of, outer_of_level};
+ghost use Rattle.sf_precise.specs.Internal.Prepared.{IsBranch, IsPrepared, joined};
 ghost use Rattle.sf_precise.specs.Taken.{IfUndetermined, NeverTakenAt, NeverTakenFrom};
-ghost use Rattle.sf_precise.specs.Waits.{known_outside};
+ghost use Rattle.sf_precise.specs.Internal.Waits.{known_outside};
 
 use crate::fault::OrderFault;
 use crate::outer::{add_all_not_made, add_existential, add_of_fields, add_of_test};
@@ -84,7 +85,7 @@ fn order_branch(
     outer: &mut Vec<u32>,
 ) -> Result<Option<Level<Expr>>, AllocError>
     ensures order { IfOk result (λ o. IsBranch (level_of branch.now) (option_map level_of o)) }
-    ensures outer { OnOk result (outer.new.items ≡ outer.old.items ++ outer_of_level (level_of branch.now)) }
+    ensures outer { Appends result outer.old.items outer.new.items (outer_of_level (level_of branch.now)) }
 {
     let parts = prepare_all(alloc, &branch.conjuncts)?;
     add_all_not_made(branch.made, &parts.outers, outer)?;
@@ -120,7 +121,7 @@ fn prepare(
     outer: &mut Vec<u32>,
 ) -> Result<Option<Conjunct<Expr>>, AllocError>
     ensures prepared { IfOk result (λ o. IsPrepared (conjunct_of c.now) (option_map conjunct_of o)) }
-    ensures outer { OnOk result (outer.new.items ≡ outer.old.items ++ outer_of (conjunct_of c.now)) }
+    ensures outer { Appends result outer.old.items outer.new.items (outer_of (conjunct_of c.now)) }
 {
     match c {
         Conjunct::Holds(place, test) => {

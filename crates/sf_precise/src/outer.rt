@@ -1,8 +1,9 @@
 //! The existentials that stand in the parts of a conjunct, and those that a scope does not make.
 
-ghost use Rattle.std.specs.Prelude.{◌≡◌, ◌++◌, ◌&&◌, not, filter, flat_map, OnOk};
-ghost use Rattle.sf_core.specs.Assertions.Scopes.{is_made_by};
-ghost use Rattle.sf_precise.specs.Outer.{existential, field_existentials, test_existentials};
+ghost use Rattle.std.specs.Prelude.{◌≡◌, ◌&&◌, not, filter, flat_map};
+ghost use Rattle.sf_base.specs.Results.{Appends};
+ghost use Rattle.sf_core.specs.Assertions.Occurs.{is_made_by};
+ghost use Rattle.sf_precise.specs.Internal.Outer.{existential, field_existentials, test_existentials};
 
 use sf_base::FieldId;
 use sf_core::{Expr, Operand, Scope, Test};
@@ -17,7 +18,7 @@ pub fn is_made_by(made: Scope, n: u32) -> bool
 
 /// Appends the existential that the operand is, if it is one.
 pub fn add_existential(x: &Operand<Expr>, found: &mut Vec<u32>) -> Result<(), AllocError>
-    ensures { OnOk result (found.new.items ≡ found.old.items ++ existential x.now) }
+    ensures { Appends result found.old.items found.new.items (existential x.now) }
 {
     if let Operand::Exists(n) = x {
         found.push(*n)?;
@@ -27,7 +28,7 @@ pub fn add_existential(x: &Operand<Expr>, found: &mut Vec<u32>) -> Result<(), Al
 
 /// Appends those of a test.
 pub fn add_of_test(test: &Test<Operand<Expr>>, found: &mut Vec<u32>) -> Result<(), AllocError>
-    ensures { OnOk result (found.new.items ≡ found.old.items ++ test_existentials test.now) }
+    ensures { Appends result found.old.items found.new.items (test_existentials test.now) }
 {
     match test {
         Test::True => Ok(()),
@@ -44,7 +45,7 @@ pub fn add_of_fields(
     fields: &[(FieldId, Operand<Expr>)],
     found: &mut Vec<u32>,
 ) -> Result<(), AllocError>
-    ensures { OnOk result (found.new.items ≡ found.old.items ++ field_existentials fields.now) }
+    ensures { Appends result found.old.items found.new.items (field_existentials fields.now) }
 {
     for f in fields {
         add_existential(&f.1, found)?;
@@ -58,7 +59,7 @@ pub fn add_all_not_made(
     lists: &[Vec<u32>],
     found: &mut Vec<u32>,
 ) -> Result<(), AllocError>
-    ensures { OnOk result (found.new.items ≡ found.old.items ++ flat_map (λ ns. filter (λ n. not (is_made_by made n)) ns.items) lists.now) }
+    ensures { Appends result found.old.items found.new.items (flat_map (λ ns. filter (λ n. not (is_made_by made n)) ns.items) lists.now) }
 {
     for ns in lists {
         add_not_made(made, ns, found)?;
@@ -68,7 +69,7 @@ pub fn add_all_not_made(
 
 /// Appends those that the scope does not make.
 fn add_not_made(made: Scope, ns: &[u32], found: &mut Vec<u32>) -> Result<(), AllocError>
-    ensures { OnOk result (found.new.items ≡ found.old.items ++ filter (λ n. not (is_made_by made n)) ns.now) }
+    ensures { Appends result found.old.items found.new.items (filter (λ n. not (is_made_by made n)) ns.now) }
 {
     for n in ns {
         if !is_made_by(made, *n) {

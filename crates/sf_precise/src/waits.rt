@@ -1,9 +1,10 @@
 //! What a conjunct waits for before it is ready.
 
-ghost use Rattle.std.specs.Prelude.{◌≡◌, ◌++◌, IfOk, OnOk};
+ghost use Rattle.std.specs.Prelude.{◌≡◌, IfOk};
+ghost use Rattle.sf_base.specs.Results.{Appends};
 ghost use Rattle.sf_core.specs.Program.View.{conjunct_of};
-ghost use Rattle.sf_precise.specs.Outer.{outer_of};
-ghost use Rattle.sf_precise.specs.Waits.{is_unknown, known_outside, need_of, rests_on, unknown_among, waits_for};
+ghost use Rattle.sf_precise.specs.Internal.Outer.{outer_of};
+ghost use Rattle.sf_precise.specs.Internal.Waits.{is_unknown, known_outside, need_of, rests_on, unknown_among, waits_for};
 
 use crate::outer::{add_existential, add_of_test, is_made_by};
 use sf_core::{Conjunct, Expr, Operand, Scope, Test};
@@ -78,7 +79,7 @@ fn unknown_among(alloc: Global, start: Option<Scope>, ns: &[u32]) -> Result<Vec<
 /// Appends the existentials on which readiness of the conjunct rests.
 fn add_supplies(c: &Conjunct<Expr>, outer: &[u32], found: &mut Vec<u32>) -> Result<(), AllocError>
     requires { outer.now ≡ outer_of (conjunct_of c.now) }
-    ensures { OnOk result (found.new.items ≡ found.old.items ++ rests_on (conjunct_of c.now)) }
+    ensures { Appends result found.old.items found.new.items (rests_on (conjunct_of c.now)) }
 {
     match c {
         Conjunct::Holds(_, test) => {

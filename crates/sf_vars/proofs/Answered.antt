@@ -13,7 +13,7 @@ use Rattle.sf_calls.proofs.SetsThere.{sets_there}
 use Rattle.sf_vars.specs.declared.fault.VarFault.{VarFault}
 use Rattle.sf_vars.specs.Faults.{IsVariableName, IsBreachName, IsFirstFault, told_by}
 use Rattle.sf_vars.specs.Laws.{EachProgramHasAnAnswer}
-use Rattle.sf_vars.specs.Search.{in_procedures, IsVariableIn, IsBreachIn}
+use Rattle.sf_vars.specs.Internal.Search.{in_procedures, IsVariableIn, IsBreachIn}
 use Rattle.sf_vars.proofs.Meets.{meets_program}
 
 -- a variable that the procedure may name has a name

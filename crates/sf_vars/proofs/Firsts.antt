@@ -3,10 +3,10 @@ use Rattle.std.proofs.Common.{◌≡◌, ◌↔◌, Bool, true, false, List, [],
 use Rattle.std.specs.Bool.{Decides}
 use Rattle.std.specs.Option.{option_or}
 use Rattle.std.proofs.lemmas.List.Elements.{Contains-append_cases, Contains-append_left, Contains-append_right, All-head, All-tail}
+use Rattle.sf_base.proofs.Elements.{contains-nil, contains-single, contains-single_of}
 use Rattle.sf_calls.specs.First.{nothing, where_, first, first_of}
-use Rattle.sf_calls.proofs.Decided.{none_in, single_is, is_single}
 use Rattle.sf_calls.proofs.InOrder.{Ordered}
-use Rattle.sf_vars.specs.Search.{found, search_in}
+use Rattle.sf_vars.specs.Internal.Search.{found, search_in}
 
 -- it is what the relation finds, and W holds of it
 abbrev pub Meets : {A : Type 0} → (Option A → Type 0) → (A → Type 0) → Option A → Type 0
@@ -28,10 +28,6 @@ pub meets_list : {A X : Type 0} (P : X → Option A → Type 0) (W : A → Type 
 meets_list P W f V each [] all = (tt, tt)
 meets_list P W f V each (x ∷ xs) all = meets_both (P x) (first_of P xs) W (f x) (search_in f xs) (each x (All-head V x xs all)) (meets_list P W f V each xs (All-tail V x xs all))
 
-pub or_assoc : {A : Type 0} (o q r : Option A) → option_or (option_or o q) r ≡ option_or o (option_or q r)
-or_assoc None q r = refl
-or_assoc (Some a) q r = refl
-
 -- the first of two lists, the second of which is asked only where the first one has nothing
 pub meets_append : {A X : Type 0} (P : X → Option A → Type 0) (W : A → Type 0) (xs ys : List X) (o q : Option A)
     → Meets (first_of P xs) W o → (first_of P xs None → Meets (first_of P ys) W q) → Meets (first_of P (xs ++ ys)) W (option_or o q)
@@ -47,9 +43,9 @@ meets_append P W (x ∷ xs) ys (Some a) q (inr p, w) h = let m = meets_append P 
 
 -- where none is found there is none
 pub none_of : {A X : Type 0} (C : X → Type 0) (f : X → A) (xs : List X) → first_of (λ x. where_ (C x) (f x)) xs None → (x : X) → Contains xs x → C x → ⊥
-none_of C f [] n x c h = none_in x c
+none_of C f [] n x c h = contains-nil x c
 none_of C f (y ∷ ys) n x c h = elim (Contains-append_cases (y ∷ []) ys x c) [
-  | inl k ↦ n.0 (subst C (sym (single_is y x k)) h)
+  | inl k ↦ n.0 (subst C (sym (contains-single y x k)) h)
   | inr k ↦ none_of C f ys n.1 x k h
 ]
 
@@ -69,25 +65,25 @@ IsLeast {X = X} B D f xs (Some b) = (x : X) × Contains xs x × D x × (b ≡ f 
 -- a search of an ordered list finds the first
 pub least_found : {A X : Type 0} (B : X → X → Type 0) (D : X → Type 0) (f : X → A) (test : X → Bool) → ((x y : X) → B x y → B y x → ⊥) → ((x : X) → Decides (test x) (D x)) → (xs : List X) → Ordered B xs
     → IsLeast B D f xs (search_in (λ x. found (test x) (f x)) xs)
-least_found B D f test apart decides [] ordered = λ x c h. none_in x c
+least_found B D f test apart decides [] ordered = λ x c h. contains-nil x c
 least_found {A} {X} B D f test apart decides (z ∷ zs) ordered = go (test z) (search_in (λ x. found (test x) (f x)) zs) (decides z) (least_found B D f test apart decides zs ordered.1)
   where
     later : (x y : X) → Contains (z ∷ zs) y → (z ≡ y → ⊥) → Contains zs y
-    later x y c other = elim (Contains-append_cases (z ∷ []) zs y c) [ inl k ↦ absurd (other (single_is z y k)) | inr k ↦ k ]
+    later x y c other = elim (Contains-append_cases (z ∷ []) zs y c) [ inl k ↦ absurd (other (contains-single z y k)) | inr k ↦ k ]
 
     go : (b : Bool) (o : Option A) → Decides b (D z) → IsLeast B D f zs o → IsLeast B D f (z ∷ zs) (option_or (found b (f z)) o)
     go true o d l = (
       z,
-      Contains-append_left (z ∷ []) zs z (is_single z z refl),
+      Contains-append_left (z ∷ []) zs z (contains-single_of z z refl),
       d.0 refl,
       refl,
       λ y c before h. elim (Contains-append_cases (z ∷ []) zs y c) [
-        | inl k ↦ apart z y (subst (λ (w : X). B w y) (sym (single_is z y k)) (subst (λ (w : X). B y w) (single_is z y k) before)) before
+        | inl k ↦ apart z y (subst (λ (w : X). B w y) (sym (contains-single z y k)) (subst (λ (w : X). B y w) (contains-single z y k) before)) before
         | inr k ↦ apart z y (ordered.0 y k) before
       ],
     )
     go false None d l = λ x c h. elim (Contains-append_cases (z ∷ []) zs x c) [
-      | inl k ↦ absurd (let e : false ≡ true = d.1 (subst D (sym (single_is z x k)) h) in cc)
+      | inl k ↦ absurd (let e : false ≡ true = d.1 (subst D (sym (contains-single z x k)) h) in cc)
       | inr k ↦ l x k h
     ]
     go false (Some b) d (x, c, h, e, before) = (
@@ -96,7 +92,7 @@ least_found {A} {X} B D f test apart decides (z ∷ zs) ordered = go (test z) (s
       h,
       e,
       λ y k less g. elim (Contains-append_cases (z ∷ []) zs y k) [
-        | inl m ↦ absurd (let f : false ≡ true = d.1 (subst D (sym (single_is z y m)) g) in cc)
+        | inl m ↦ absurd (let f : false ≡ true = d.1 (subst D (sym (contains-single z y m)) g) in cc)
         | inr m ↦ before y m less g
       ],
     )
@@ -104,12 +100,12 @@ least_found {A} {X} B D f test apart decides (z ∷ zs) ordered = go (test z) (s
 -- what is first in an ordered list is found first
 pub least_first : {A X : Type 0} (B : X → X → Type 0) (D : X → Type 0) (f : X → A) (xs : List X) → Ordered B xs → (o : Option A) → IsLeast B D f xs o → first_of (λ x. where_ (D x) (f x)) xs o
 least_first B D f [] ordered None l = tt
-least_first B D f [] ordered (Some b) l = absurd (none_in l.0 l.1)
-least_first B D f (z ∷ zs) ordered None l = (l z (Contains-append_left (z ∷ []) zs z (is_single z z refl)), least_first B D f zs ordered.1 None (λ x c. l x (Contains-append_right (z ∷ []) zs x c)))
+least_first B D f [] ordered (Some b) l = absurd (contains-nil l.0 l.1)
+least_first B D f (z ∷ zs) ordered None l = (l z (Contains-append_left (z ∷ []) zs z (contains-single_of z z refl)), least_first B D f zs ordered.1 None (λ x c. l x (Contains-append_right (z ∷ []) zs x c)))
 least_first {A} {X} B D f (z ∷ zs) ordered (Some b) (x, c, h, e, before) = elim (Contains-append_cases (z ∷ []) zs x c) [
-  | inl k ↦ inl (subst D (sym (single_is z x k)) h, e ∙ ap f (sym (single_is z x k)))
+  | inl k ↦ inl (subst D (sym (contains-single z x k)) h, e ∙ ap f (sym (contains-single z x k)))
   | inr k ↦ inr (
-    before z (Contains-append_left (z ∷ []) zs z (is_single z z refl)) (ordered.0 x k),
+    before z (Contains-append_left (z ∷ []) zs z (contains-single_of z z refl)) (ordered.0 x k),
     least_first B D f zs ordered.1 (Some b) (x, k, h, e, λ y m. before y (Contains-append_right (z ∷ []) zs y m)),
   )
 ]

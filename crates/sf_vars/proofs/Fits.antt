@@ -1,4 +1,4 @@
--- What a program calls and enters has its sets and its mark, and what its sets have may be named.
+-- What a program calls and enters has its sets and its visit, and what its sets have may be named.
 use Rattle.std.proofs.Common.{◌<◌, [], length, get_or, None, All, refl, arith}
 use Rattle.std.proofs.lemmas.List.Elements.{Contains-get_or}
 use Rattle.std.proofs.lemmas.Option.{slice_get-get_or}
@@ -14,7 +14,7 @@ use Rattle.sf_calls.specs.Sets.{Sets, AreSetsOf, IsResSet, IsVarSet}
 use Rattle.sf_calls.proofs.InFile.{free_within}
 use Rattle.sf_calls.proofs.Least.{holds_within}
 use Rattle.sf_calls.proofs.Within.{callees_of_within}
-use Rattle.sf_vars.specs.Search.{HasSets, BlockFits, CommandFits, free_of, takes_of, holds_of}
+use Rattle.sf_vars.specs.Internal.Search.{HasSets, BlockFits, CommandFits, free_of, takes_of, holds_of}
 
 -- what is called is there
 pub callee_there : (p : Program) (h : Procedure) (c : Call) → CallWithin p h c → c.callee.0 < length p.procedures
@@ -54,7 +54,7 @@ mutual
   command_fits p sets h formed are (fork q c d) w = (has_sets p sets c.callee are (callee_there p h c w.0), has_sets p sets d.callee are (callee_there p h d w.1))
   command_fits p sets h formed are (with q s t c) w = (let below : s.0 < length p.resources = w.0 in omega (arith, formed.resource_count), block_fits p sets h formed are c w.2)
 
--- what a procedure holds has a mark
+-- what a procedure holds has a visit
 pub held_fit : (p : Program) (sets : Sets) (g : ProcId) → IsFormed p → AreSetsOf p sets → g.0 < length p.procedures → All (λ r. r.0 < RESOURCES) (holds_of sets g)
 held_fit p sets g formed are there k d below =
     let held : HeldBy p g (get_or (holds_of sets g) k d) = ((holds_set p sets g are there).members (get_or (holds_of sets g) k d)).0 (Contains-get_or (holds_of sets g) k d below) in

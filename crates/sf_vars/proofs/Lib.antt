@@ -3,3 +3,4 @@ pub mod Fits
 pub mod Meets
 pub mod Answered
 mod Views
+pub mod Closing

@@ -6,6 +6,8 @@ use Rattle.std.proofs.lemmas.Bool.Decides.{Decides-or, Decides-and, Decides-not,
 use Rattle.std.proofs.lemmas.List.{length-set, get_or-set_same, get_or-set_other, length-replicate, get_or-replicate, get_or_past}
 use Rattle.std.proofs.lemmas.List.Elements.{Contains-append_cases, Contains-append_left, Contains-append_right, All-head, All-tail}
 use Rattle.std.proofs.lemmas.Option.{slice_get_within}
+use Rattle.sf_base.proofs.Elements.{contains-nil, contains-single, contains-single_of}
+use Rattle.sf_base.proofs.Options.{option_or-assoc}
 use Rattle.sf_base.specs.declared.ids.FieldId.{FieldId}
 use Rattle.sf_base.specs.declared.ids.ProcId.{ProcId}
 use Rattle.sf_base.specs.declared.ids.ResId.{ResId}
@@ -32,17 +34,17 @@ use Rattle.sf_calls.specs.Around.{Around, inside, IsHeld, IsUnheld, Uses, Shares
 use Rattle.sf_calls.specs.FirstBreach.{resources_from, variables_from, UnheldAt, UnheldInExpr, UnheldInOperand, UnheldInTest, UnheldInLevel, UnheldInConjuncts, UnheldInConjunct, UnheldInCall, ReentersByCall, Repeats, PassesFree, named_in, SharesInFork, InBlock, InCommand, InProcedures, FirstBreach}
 use Rattle.sf_calls.specs.Outside.{IsAmong, OccursInValues}
 use Rattle.sf_calls.specs.Sets.{Sets, AreSetsOf, IsResSet, IsEarlier, IsEarlierResource}
-use Rattle.sf_calls.specs.Tests.{same_var, in_references, in_values}
-use Rattle.sf_calls.proofs.Decided.{resource, var_is, none_in, single_is, is_single, in_references_is, in_values_is}
+use Rattle.sf_calls.specs.Internal.Tests.{same_var, in_references, in_values}
+use Rattle.sf_calls.proofs.Decided.{resource, var_is, in_references_is, in_values_is}
 use Rattle.sf_calls.proofs.Gathered.{earlier_trans, not_earlier}
 use Rattle.sf_calls.proofs.InFile.{resource_apart, resources_ordered, resources_there, variables_ordered, free_there}
 use Rattle.sf_calls.proofs.InOrder.{ordered_pairs}
 use Rattle.sf_calls.proofs.Least.{takes_within}
-use Rattle.sf_vars.specs.Search.{found, search_in, has, with_one, with_all, none_held, lacks, is_in, takes_of, holds_of, free_of, at_occurrence, in_expr, in_operand, in_test, in_level, in_conjuncts, in_conjunct, free_unheld, unheld_in_call, reenters_by_call, repeats, passes_free, may_change, uses, shares, shared_at, shared_by_value, shared_by_name, free_in_both, shares_in_fork, in_single, in_fork, in_block, in_command, in_procedure, in_procedures, IsBreachIn}
-use Rattle.sf_vars.proofs.Firsts.{Meets, meets_nothing, meets_both, meets_found, meets_list, meets_append, meets_set, or_assoc, none_of, same_first}
+use Rattle.sf_vars.specs.Internal.Search.{found, search_in, has, with_one, with_all, none_held, lacks, is_in, takes_of, holds_of, free_of, at_occurrence, in_expr, in_operand, in_test, in_level, in_conjuncts, in_conjunct, free_unheld, unheld_in_call, reenters_by_call, repeats, passes_free, may_change, uses, shares, shared_at, shared_by_value, shared_by_name, free_in_both, shares_in_fork, in_single, in_fork, in_block, in_command, in_procedure, in_procedures, IsBreachIn}
+use Rattle.sf_vars.proofs.Firsts.{Meets, meets_nothing, meets_both, meets_found, meets_list, meets_append, meets_set, none_of, same_first}
 use Rattle.sf_vars.proofs.Fits.{callee_there, free_set, takes_set, holds_set, held_fit, settable_in, free_in_body}
 
--- where one stands in a program, and the marks tell what is held there
+-- where one stands in a program, and the visited tell what is held there
 record Stands (a : Around) (h : Procedure) (sets : Sets) (held : List Bool) : Type 0 where
   formed : IsFormed a.program
   are : AreSetsOf a.program sets
@@ -56,15 +58,15 @@ In a b = IsBreachIn a.program a.procedure b
 
 -- a test by a list
 pub is_in_is : (xs : List Var) (x : Var) → Decides (is_in xs x) (Contains xs x)
-is_in_is [] x = (λ e. absurd (cc), λ c. absurd (none_in x c))
+is_in_is [] x = (λ e. absurd (cc), λ c. absurd (contains-nil x c))
 is_in_is (y ∷ ys) x = Decides-like (is_in (y ∷ ys) x) to from (Decides-or (same_var y x) (is_in ys x) (var_is y x) (is_in_is ys x))
   where
     to : (y ≡ x) ⊎ Contains ys x → Contains (y ∷ ys) x
-    to (inl e) = Contains-append_left (y ∷ []) ys x (is_single y x e)
+    to (inl e) = Contains-append_left (y ∷ []) ys x (contains-single_of y x e)
     to (inr c) = Contains-append_right (y ∷ []) ys x c
 
     from : Contains (y ∷ ys) x → (y ≡ x) ⊎ Contains ys x
-    from c = elim (Contains-append_cases (y ∷ []) ys x c) [ inl k ↦ inl (single_is y x k) | inr k ↦ inr k ]
+    from c = elim (Contains-append_cases (y ∷ []) ys x c) [ inl k ↦ inl (contains-single y x k) | inr k ↦ inr k ]
 
 unheld_is : (a : Around) (h : Procedure) (sets : Sets) (held : List Bool) → Stands a h sets held → (x : Var) → Decides (lacks held x) (IsUnheld a x)
 unheld_is a h sets held s (Own n) = (λ e. absurd (cc), λ u. absurd u)
@@ -162,11 +164,11 @@ seen_push o seen before tells x = Decides-like (in_references x (seen ++ o ∷ [
     to : IsAmong x (seen ++ o ∷ []) → Contains (o.var ∷ before) x
     to k = elim ((among_push x o.var o seen refl).0 k) [
       | inl l ↦ Contains-append_right (o.var ∷ []) before x (old.0 l)
-      | inr l ↦ Contains-append_left (o.var ∷ []) before x (is_single o.var x l)
+      | inr l ↦ Contains-append_left (o.var ∷ []) before x (contains-single_of o.var x l)
     ]
 
     from : Contains (o.var ∷ before) x → IsAmong x (seen ++ o ∷ [])
-    from c = (among_push x o.var o seen refl).1 (elim (Contains-append_cases (o.var ∷ []) before x c) [ inl l ↦ inr (single_is o.var x l) | inr l ↦ inl (old.1 l) ])
+    from c = (among_push x o.var o seen refl).1 (elim (Contains-append_cases (o.var ∷ []) before x c) [ inl l ↦ inr (contains-single o.var x l) | inr l ↦ inl (old.1 l) ])
 
 meets_repeats : (W : Breach → Type 0) (V : Occurrence → Type 0) → ((x : Occurrence) → V x → W (SameReference x.place x.var)) → (before : List Var) (seen : List Occurrence) → ((x : Var) → Decides (in_references x seen) (Contains before x))
     → (xs : List Occurrence) → All V xs → Meets (Repeats before xs) W (repeats seen xs)
@@ -177,7 +179,7 @@ meets_repeats W V each before seen tells (x ∷ xs) all =
     (meets_repeats W V each (x.var ∷ before) (seen ++ x ∷ []) (seen_push x seen before tells) xs (All-tail V x xs all))
 
 none_seen : (x : Var) → Decides (in_references x []) (Contains [] x)
-none_seen x = (λ e. absurd (cc), λ c. absurd (none_in x c))
+none_seen x = (λ e. absurd (cc), λ c. absurd (contains-nil x c))
 
 meets_again : (a : Around) (h : Procedure) → slice_get a.program.procedures a.procedure.0 ≡ Some h → (c : Call) → CallWithin a.program h c → Meets (Repeats [] c.references) (In a) (repeats [] c.references)
 meets_again a h there c w = meets_repeats (In a) (λ x. IsSettable a.program h x.var) (λ x v. (h, there, settable_in a.program h x.var v)) [] [] none_seen c.references w.references
@@ -213,18 +215,18 @@ meets_named P W f g V each one nil int [] (Nil ∷ es) v w =
 meets_named P W f g V each one nil int [] (Int i ∷ es) v w =
     subst (λ (o : Option Breach). Meets (first_of P (named_in [] es)) W (option_or o (search_in g es))) (sym (int i)) (meets_named P W f g V each one nil int [] es v (All-tail (ExprWithin V) (Int i) es w))
 meets_named P W f g V each one nil int (x ∷ xs) es v w =
-    subst (Meets (first (P x.var) (first_of P (named_in xs es))) W) (sym (or_assoc (f x.var) (search_in (λ x. f x.var) xs) (search_in g es)))
+    subst (Meets (first (P x.var) (first_of P (named_in xs es))) W) (sym (option_or-assoc (f x.var) (search_in (λ x. f x.var) xs) (search_in g es)))
     (meets_both (P x.var) (first_of P (named_in xs es)) W (f x.var) (option_or (search_in (λ x. f x.var) xs) (search_in g es)) (each x.var (All-head (λ x. V x.var) x xs v)) (meets_named P W f g V each one nil int xs es (All-tail (λ x. V x.var) x xs v) w))
 
 -- what stands in a call is named in it
 among_named : (x : Var) (xs : List Occurrence) (es : List Expr) → IsAmong x xs → Contains (named_in xs es) x
 among_named x [] es h = absurd h
-among_named x (y ∷ ys) es (inl e) = Contains-append_left (y.var ∷ []) (named_in ys es) x (is_single y.var x e)
+among_named x (y ∷ ys) es (inl e) = Contains-append_left (y.var ∷ []) (named_in ys es) x (contains-single_of y.var x e)
 among_named x (y ∷ ys) es (inr h) = Contains-append_right (y.var ∷ []) (named_in ys es) x (among_named x ys es h)
 
 value_named : (x : Var) (xs : List Occurrence) (es : List Expr) → OccursInValues x es → Contains (named_in xs es) x
 value_named x [] [] h = absurd h
-value_named x [] (Variable y ∷ es) (inl e) = Contains-append_left (y.var ∷ []) (named_in [] es) x (is_single y.var x e)
+value_named x [] (Variable y ∷ es) (inl e) = Contains-append_left (y.var ∷ []) (named_in [] es) x (contains-single_of y.var x e)
 value_named x [] (Variable y ∷ es) (inr h) = Contains-append_right (y.var ∷ []) (named_in [] es) x (value_named x [] es h)
 value_named x [] (Nil ∷ es) (inl e) = absurd e
 value_named x [] (Nil ∷ es) (inr h) = value_named x [] es h
@@ -277,7 +279,7 @@ meets_shares a h sets held s c d w v =
         earlier_apart (free_is a.program sets d.callee s.are (callee_there a.program h d v)) (variables_ordered 0 a.program.resources) (ordered_pairs IsEarlier (free_of sets c.callee) free.ordered) free.members (λ x f. free_there a.program c.callee x s.formed f)
         (λ x f u. (h, s.there, free_in_body a.program h c.callee x s.formed f))
 
--- one more mark
+-- one more visit
 has_one : (held : List Bool) (s r : ResId) → s.0 < length held → Decides (has (with_one held s) r) ((s ≡ r) ⊎ (has held r ≡ true))
 has_one held s r below = elim (eqb_tells s.0 r.0) [ inl e ↦ here (ap resource e.1) | inr e ↦ there e.1 ]
   where
@@ -300,12 +302,12 @@ stands_inside a h sets held q there s = record {
 }
   where
     to : (r : ResId) → (q ≡ r) ⊎ (has held r ≡ true) → IsHeld (inside q a) r
-    to r (inl e) = inr (Contains-append_left (q ∷ []) a.entered r (is_single q r e))
+    to r (inl e) = inr (Contains-append_left (q ∷ []) a.entered r (contains-single_of q r e))
     to r (inr t) = elim ((s.is r).0 t) [ inl k ↦ inl k | inr k ↦ inr (Contains-append_right (q ∷ []) a.entered r k) ]
 
     from : (r : ResId) → IsHeld (inside q a) r → (q ≡ r) ⊎ (has held r ≡ true)
     from r (inl k) = inr ((s.is r).1 (inl k))
-    from r (inr c) = elim (Contains-append_cases (q ∷ []) a.entered r c) [ inl k ↦ inl (single_is q r k) | inr k ↦ inr ((s.is r).1 (inr k)) ]
+    from r (inr c) = elim (Contains-append_cases (q ∷ []) a.entered r c) [ inl k ↦ inl (contains-single q r k) | inr k ↦ inr ((s.is r).1 (inr k)) ]
 
 meets_single : (a : Around) (h : Procedure) (sets : Sets) (held : List Bool) → Stands a h sets held → (q : _) (c : Call) → CallWithin a.program h c → Meets (InCommand a (call q c)) (In a) (in_single sets held c)
 meets_single a h sets held s q c w =
@@ -378,7 +380,7 @@ length_all held [] = refl
 length_all held (r ∷ rs) = length_all (with_one held r) rs ∙ length-set held r.0 true
 
 has_all : (held : List Bool) (rs : List ResId) (r : ResId) → All (λ q. q.0 < length held) rs → Decides (has (with_all held rs) r) (Contains rs r ⊎ (has held r ≡ true))
-has_all held [] r fit = (λ e. inr e, λ h. elim h [ inl c ↦ absurd (none_in r c) | inr e ↦ e ])
+has_all held [] r fit = (λ e. inr e, λ h. elim h [ inl c ↦ absurd (contains-nil r c) | inr e ↦ e ])
 has_all held (q ∷ qs) r fit = Decides-like (has (with_all held (q ∷ qs)) r) to from (has_all (with_one held q) qs r rest)
   where
     one : Decides (has (with_one held q) r) ((q ≡ r) ⊎ (has held r ≡ true))
@@ -389,14 +391,14 @@ has_all held (q ∷ qs) r fit = Decides-like (has (with_all held (q ∷ qs)) r) 
 
     to : Contains qs r ⊎ (has (with_one held q) r ≡ true) → Contains (q ∷ qs) r ⊎ (has held r ≡ true)
     to (inl c) = inl (Contains-append_right (q ∷ []) qs r c)
-    to (inr e) = elim (one.0 e) [ inl k ↦ inl (Contains-append_left (q ∷ []) qs r (is_single q r k)) | inr k ↦ inr k ]
+    to (inr e) = elim (one.0 e) [ inl k ↦ inl (Contains-append_left (q ∷ []) qs r (contains-single_of q r k)) | inr k ↦ inr k ]
 
     from : Contains (q ∷ qs) r ⊎ (has held r ≡ true) → Contains qs r ⊎ (has (with_one held q) r ≡ true)
-    from (inl c) = elim (Contains-append_cases (q ∷ []) qs r c) [ inl k ↦ inr (one.1 (inl (single_is q r k))) | inr k ↦ inl k ]
+    from (inl c) = elim (Contains-append_cases (q ∷ []) qs r c) [ inl k ↦ inr (one.1 (inl (contains-single q r k))) | inr k ↦ inl k ]
     from (inr e) = inr (one.1 (inr e))
 
-no_mark : (n k : ℕ) → get_or (replicate n false) k false ≡ false
-no_mark n k = elim (leb_tells n k) [ inl l ↦ get_or_past (replicate n false) k false (omega (arith, l.1, length-replicate n false)) | inr l ↦ get_or-replicate n k false false l.1 ]
+no_visit : (n k : ℕ) → get_or (replicate n false) k false ≡ false
+no_visit n k = elim (leb_tells n k) [ inl l ↦ get_or_past (replicate n false) k false (omega (arith, l.1, length-replicate n false)) | inr l ↦ get_or-replicate n k false false l.1 ]
 
 abbrev start : Program → ℕ → Around
 start p k = record { program = p; procedure = record { 0 = k }; entered = [] }
@@ -421,11 +423,11 @@ stands_first p sets k h formed are there = record {
 
     to : (r : ResId) → Contains (holds_of sets (record { 0 = k })) r ⊎ (has none_held r ≡ true) → IsHeld (start p k) r
     to r (inl c) = inl ((set.members r).0 c)
-    to r (inr e) = absurd (let no : has none_held r ≡ false = no_mark RESOURCES r.0 in let f : true ≡ false = sym e ∙ no in cc)
+    to r (inr e) = absurd (let no : has none_held r ≡ false = no_visit RESOURCES r.0 in let f : true ≡ false = sym e ∙ no in cc)
 
     from : (r : ResId) → IsHeld (start p k) r → Contains (holds_of sets (record { 0 = k })) r ⊎ (has none_held r ≡ true)
     from r (inl b) = inl ((set.members r).1 b)
-    from r (inr c) = absurd (none_in r c)
+    from r (inr c) = absurd (contains-nil r c)
 
 -- what is found in a program, from a procedure on
 abbrev InFile : Program → ProcId × Breach → Type 0

@@ -1,3 +1,3 @@
-pub mod Search
 pub mod Faults
 pub mod Laws
+pub mod Internal

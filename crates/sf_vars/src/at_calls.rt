@@ -3,7 +3,7 @@
 ghost use Rattle.std.specs.Prelude.{◌≡◌, []};
 ghost use Rattle.std.specs.Result.{result_err};
 ghost use Rattle.sf_core.specs.Program.View.{call_of};
-ghost use Rattle.sf_vars.specs.Search.{HasSets, free_of, free_unheld, is_in, passes_free, reenters_by_call, repeats, taken_held, unheld_in_call};
+ghost use Rattle.sf_vars.specs.Internal.Search.{HasSets, free_of, free_unheld, is_in, passes_free, reenters_by_call, repeats, taken_held, unheld_in_call};
 
 use crate::held::Held;
 use crate::unheld::{references, values};

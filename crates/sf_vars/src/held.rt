@@ -1,16 +1,16 @@
 //! Which resources are held at a place.
 
 ghost use Rattle.std.specs.Prelude.{◌≡◌, ◌<◌, All};
-ghost use Rattle.sf_vars.specs.Search.{has, lacks, none_held, with_all, with_one};
+ghost use Rattle.sf_vars.specs.Internal.Search.{has, lacks, none_held, with_all, with_one};
 
 use sf_base::limits::RESOURCES;
 use sf_base::{ResId, Var};
 use std::marker::Model;
 
-/// The resources that are held. Contracts see a mark for each number.
+/// The resources that are held. Contracts see a visit for each number.
 #[derive(Debug, Drop)]
 pub struct Held {
-    marks: [bool; RESOURCES],
+    visited: [bool; RESOURCES],
 }
 
 impl Model for Held {
@@ -18,7 +18,7 @@ impl Model for Held {
 
     ghost Value = { List Bool };
 
-    ghost view = { λ h. h.marks };
+    ghost view = { λ h. h.visited };
 }
 
 impl Held {
@@ -28,7 +28,7 @@ impl Held {
         ensures { result ≡ with_all none_held resources.now }
     {
         let mut held = Held {
-            marks: [false; RESOURCES],
+            visited: [false; RESOURCES],
         };
         for r in resources {
             held = held.and(*r);
@@ -41,17 +41,17 @@ impl Held {
         requires { r.0 < RESOURCES }
         ensures { result ≡ with_one self.now r }
     {
-        let mut marks = self.marks;
-        marks[r.0 as usize] = true;
-        Held { marks }
+        let mut visited = self.visited;
+        visited[r.0 as usize] = true;
+        Held { visited }
     }
 
     /// Whether the resource is held.
     pub fn has(&self, r: ResId) -> bool
         ensures { result ≡ has self.now r }
     {
-        match self.marks.get(r.0 as usize) {
-            Some(mark) => *mark,
+        match self.visited.get(r.0 as usize) {
+            Some(visit) => *visit,
             None => false,
         }
     }

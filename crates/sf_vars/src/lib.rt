@@ -3,17 +3,17 @@
 #![tactic(auto)]
 
 mod at_calls;
-pub mod fault;
+mod fault;
 mod held;
 pub mod laws;
 mod naming;
 mod parallel;
 mod unheld;
 mod walk;
-mod whole;
+mod condition;
 
 pub use fault::VarFault;
-pub use whole::conditions;
+pub use condition::conditions;
 
 #[cfg(test)]
 mod tests;

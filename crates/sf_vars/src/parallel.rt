@@ -3,7 +3,7 @@
 ghost use Rattle.std.specs.Prelude.{◌≡◌};
 ghost use Rattle.std.specs.Result.{result_err};
 ghost use Rattle.sf_core.specs.Program.View.{call_of};
-ghost use Rattle.sf_vars.specs.Search.{HasSets, also_free, free_in_both, may_change, search_in, shared_at, shared_by_name, shared_by_value, shares, shares_in_fork, uses};
+ghost use Rattle.sf_vars.specs.Internal.Search.{HasSets, also_free, free_in_both, may_change, search_in, shared_at, shared_by_name, shared_by_value, shares, shares_in_fork, uses};
 
 use crate::at_calls::is_free;
 use sf_base::{Place, ProcId, Var};

@@ -1,5 +1,5 @@
 //! Two worked programs, built by hand: what they break is told as a refusal prints it. What else
-//! programs break is tested in sf_cli, where they are read from texts.
+//! programs break is tested in sf_cli, where they are read from summaries.
 
 ghost use Rattle.std.specs.Prelude.{◌≡◌, [], ◌∷◌, length, IfOk};
 ghost use Rattle.sf_core.specs.Program.Formed.{AssertionWithin, IsFormed, IsOfResource, ProcedureWithin};

@@ -3,7 +3,7 @@
 ghost use Rattle.std.specs.Prelude.{◌≡◌, map};
 ghost use Rattle.std.specs.Result.{result_err};
 ghost use Rattle.sf_core.specs.Program.View.{conjunct_of, conjuncts, level_of};
-ghost use Rattle.sf_vars.specs.Search.{at_occurrence, in_expr, in_operand, in_test, in_level, in_conjuncts, in_conjunct, search_in};
+ghost use Rattle.sf_vars.specs.Internal.Search.{at_occurrence, in_expr, in_operand, in_test, in_level, in_conjuncts, in_conjunct, search_in};
 
 use crate::held::Held;
 use sf_base::FieldId;

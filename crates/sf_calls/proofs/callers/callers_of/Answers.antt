@@ -1,9 +1,9 @@
 use Rattle.std.proofs.Common.{◌≡◌, ◌≤◌, ◌∙◌, sym, ap, length, map, slice_get, Some, ◌++◌, rules, arith}
 use Rattle.std.proofs.lemmas.List.{length-map}
-use Rattle.sf_base.proofs.Lookup.{read_mapped}
+use Rattle.sf_base.proofs.Lookup.{get-read_map}
 use Rattle.sf_core.specs.Program.View.{procedure_of, block_of}
 use Rattle.sf_core.specs.Program.ProgramView.{program_of}
-use Rattle.sf_calls.specs.Tests.{callees_in}
+use Rattle.sf_calls.specs.Internal.Tests.{callees_in}
 use Rattle.sf_calls.proofs.CallGraph.{calls_none, calls_more, calls_all, callees_there}
 use Rattle.sf_calls.proofs.callers.callers_of.Goals as goal
 
@@ -13,7 +13,7 @@ loop-i-init c = record { size = search rules; callers = calls_none (program_of c
 pub add_caller-requires : goal.add_caller-requires
 add_caller-requires c =
     let at : slice_get (map procedure_of c.args.p.now.procedures.items) c.loop-i.i ≡ Some (procedure_of c.procedure-item.result) =
-    read_mapped procedure_of c.args.p.now.procedures.items c.deref-procedure-items.result.now c.loop-i.i c.procedure-item.result c.deref-procedure-items.ensures.value c.loop-i-test.true c.procedure-item.is in
+    get-read_map procedure_of c.args.p.now.procedures.items c.deref-procedure-items.result.now c.loop-i.i c.procedure-item.result c.deref-procedure-items.ensures.value c.loop-i-test.true c.procedure-item.is in
     let are : c.deref-in-loop-i.result.now ≡ callees_in c.args.but (block_of c.procedure-item.result.body.items) =
     c.deref-in-loop-i.ensures.value ∙ c.in_ok-add_callees.ensures ∙ ap (λ xs. xs ++ callees_in c.args.but (block_of c.deref.result.now)) c.new-callees.ensures.items ∙ ap (λ xs. callees_in c.args.but (block_of xs)) c.deref.ensures.value in
     let within = callees_there (program_of c.args.p.now) c.args.but c.loop-i.i (procedure_of c.procedure-item.result) c.deref-in-loop-i.result.now c.args.p.now.formed at are in
@@ -22,7 +22,7 @@ add_caller-requires c =
 pub loop-i-preserved : goal.loop-i-preserved
 loop-i-preserved c =
     let at : slice_get (map procedure_of c.args.p.now.procedures.items) c.loop-i.i ≡ Some (procedure_of c.procedure-item.result) =
-    read_mapped procedure_of c.args.p.now.procedures.items c.deref-procedure-items.result.now c.loop-i.i c.procedure-item.result c.deref-procedure-items.ensures.value c.loop-i-test.true c.procedure-item.is in
+    get-read_map procedure_of c.args.p.now.procedures.items c.deref-procedure-items.result.now c.loop-i.i c.procedure-item.result c.deref-procedure-items.ensures.value c.loop-i-test.true c.procedure-item.is in
     let are : c.deref-in-loop-i.result.now ≡ callees_in c.args.but (block_of c.procedure-item.result.body.items) =
     c.deref-in-loop-i.ensures.value ∙ c.in_ok-add_callees.ensures ∙ ap (λ xs. xs ++ callees_in c.args.but (block_of c.deref.result.now)) c.new-callees.ensures.items ∙ ap (λ xs. callees_in c.args.but (block_of xs)) c.deref.ensures.value in
     record {

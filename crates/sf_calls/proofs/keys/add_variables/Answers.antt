@@ -1,5 +1,5 @@
 use Rattle.std.proofs.Common.{◌≡◌, ℕ, subst, arith}
-use Rattle.sf_calls.specs.Gathers.{IsUpTo}
+use Rattle.sf_calls.specs.Internal.Gathers.{IsUpTo}
 use Rattle.sf_calls.specs.Sets.{IsSetOf, IsEarlier}
 use Rattle.sf_calls.proofs.InOrder.{next_variable}
 use Rattle.sf_calls.proofs.keys.add_variables.Goals as goal

@@ -1,9 +1,9 @@
 use Rattle.std.proofs.Common.{◌≡◌, ◌<◌, ◌^◌, ℕ, length, map, slice_get, Some, ap, sym, ◌∙◌, subst, rules, arith}
-use Rattle.sf_base.proofs.Lookup.{read_mapped}
+use Rattle.sf_base.proofs.Lookup.{get-read_map}
 use Rattle.sf_core.specs.Program.Formed.{variable_count}
 use Rattle.sf_core.specs.Program.View.{resource_of}
 use Rattle.sf_core.specs.Program.ProgramView.{program_of}
-use Rattle.sf_calls.specs.Gathers.{IsUpTo}
+use Rattle.sf_calls.specs.Internal.Gathers.{IsUpTo}
 use Rattle.sf_calls.specs.Sets.{IsSetOf, IsEarlier}
 use Rattle.sf_calls.proofs.InOrder.{next_variables, no_variables, variables_bound}
 use Rattle.sf_calls.proofs.keys.variables_of.Goals as goal
@@ -14,7 +14,7 @@ loop-i-init c = rw c.new-found.ensures.items (no_variables (λ k. variable_count
 pub add_variables-requires : goal.add_variables-requires
 add_variables-requires c =
     let at : slice_get (map resource_of c.args.p.now.resources.items) c.loop-i.i ≡ Some (resource_of c.resource-item.result) =
-    read_mapped resource_of c.args.p.now.resources.items c.deref-resource-items.result.now c.loop-i.i c.resource-item.result c.deref-resource-items.ensures.value c.loop-i-test.true c.resource-item.is in
+    get-read_map resource_of c.args.p.now.resources.items c.deref-resource-items.result.now c.loop-i.i c.resource-item.result c.deref-resource-items.ensures.value c.loop-i-test.true c.resource-item.is in
     let bound : length c.resource-item.result.variables.items < 2 ^ 32 = variables_bound (program_of c.args.p.now) c.loop-i.i (resource_of c.resource-item.result) c.args.p.now.formed at in
     let same : c.len.result ≡ length c.resource-item.result.variables.items = search rules in
     omega (arith, bound, same)
@@ -22,7 +22,7 @@ add_variables-requires c =
 pub loop-i-preserved : goal.loop-i-preserved
 loop-i-preserved c =
     let at : slice_get (map resource_of c.args.p.now.resources.items) c.loop-i.i ≡ Some (resource_of c.resource-item.result) =
-    read_mapped resource_of c.args.p.now.resources.items c.deref-resource-items.result.now c.loop-i.i c.resource-item.result c.deref-resource-items.ensures.value c.loop-i-test.true c.resource-item.is in
+    get-read_map resource_of c.args.p.now.resources.items c.deref-resource-items.result.now c.loop-i.i c.resource-item.result c.deref-resource-items.ensures.value c.loop-i-test.true c.resource-item.is in
     let same : c.len.result ≡ length c.resource-item.result.variables.items = search rules in
     next_variables (λ k. variable_count (slice_get (program_of c.args.p.now).resources k)) c.loop-i.i c.len.result c.add_variables.new.found.items
     (ap variable_count at ∙ sym same)

@@ -1,6 +1,6 @@
 use Rattle.std.proofs.Common.{◌≡◌, drop, map, ◌++◌}
 use Rattle.sf_core.specs.Program.View.{conjunct_of, conjuncts}
-use Rattle.sf_calls.specs.Listed.{shared_in_conjuncts}
+use Rattle.sf_calls.specs.Internal.Listed.{shared_in_conjuncts}
 use Rattle.sf_calls.proofs.shared.+shared_levels.Given as goal
 
 -- those so far and those of what is left are all

@@ -1,5 +1,5 @@
 use Rattle.std.proofs.Common.{◌≡◌, drop, ◌++◌}
-use Rattle.sf_calls.specs.Listed.{shared_in_fields}
+use Rattle.sf_calls.specs.Internal.Listed.{shared_in_fields}
 use Rattle.sf_calls.proofs.shared.add_fields.Given as goal
 
 -- those so far and those of what is left are all

@@ -1,5 +1,5 @@
 use Rattle.std.proofs.Common.{◌≡◌, drop, ◌++◌}
-use Rattle.sf_calls.specs.Listed.{shared_in_values}
+use Rattle.sf_calls.specs.Internal.Listed.{shared_in_values}
 use Rattle.sf_calls.proofs.shared.add_values.Given as goal
 
 -- those so far and those of what is left are all

@@ -1,7 +1,7 @@
 use Rattle.std.proofs.Common.{◌≡◌, map, take}
-use Rattle.sf_calls.specs.Texts.{has}
+use Rattle.sf_calls.specs.Internal.Summaries.{has}
 use Rattle.sf_calls.proofs.tables.mentioning.Given as goal
 
--- the marks so far
+-- the visited so far
 abbrev pub invariant-loop-t : goal.invariant-loop-t
-invariant-loop-t l = l.marks.items ≡ map (λ t. has l.x t.mentioned) (take l.t-index l.texts)
+invariant-loop-t l = l.visited.items ≡ map (λ t. has l.x t.mentioned) (take l.t-index l.summaries)

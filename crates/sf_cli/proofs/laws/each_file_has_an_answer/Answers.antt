@@ -9,6 +9,6 @@ returns c = some-answer (record {
   names = c.each_file_is_one.ensures;
   formed = c.elaborated_is_formed.ensures;
   variables = c.each_program_has_an_answer.ensures;
-  orders = c.undetermined_notes_have_place.ensures;
+  orders = c.undetermined_annotations_have_place.ensures;
   verdicts = c.a_verdict.ensures;
 })

@@ -7,7 +7,7 @@ returns c = answer-once (record {
   trees = c.each_file_is_one.ensures;
   grammar = c.each_has_one_answer.ensures;
   names = c.each_file_is_one-2.ensures;
-  breaches = c.first_breach_is_determined.ensures;
+  breaches = c.first_breach_is_unique.ensures;
   orders = c.never_taken_is_undetermined.ensures;
   verdicts = c.one_verdict.ensures;
 })

@@ -1,5 +1,5 @@
 use Rattle.sf_core.specs.Program.ProgramView.{program_of}
-use Rattle.sf_precise.specs.Notes.{notes_in}
+use Rattle.sf_precise.specs.Annotations.{annotations_in}
 use Rattle.sf_cli.proofs.Refused.{refused-by, refused-variables, refused-order, determined-all}
 use Rattle.sf_cli.specs.FileFault.{ProgramFault}
 use Rattle.sf_cli.proofs.reading.fit.Goals as goal
@@ -17,4 +17,4 @@ returns-in_err-arrange-clause-refused c =
     (refused-order p c.in_err-arrange.field-0.0 c.in_ok-conditions.ensures.kept c.in_err-arrange.ensures.undetermined)
 
 pub returns-clause-determined : goal.returns-clause-determined
-returns-clause-determined c = determined-all c.order_stands.ensures (notes_in (program_of c.args.program)) _ c.in_ok-arrange.ensures.orders
+returns-clause-determined c = determined-all c.ordered_is_determined.ensures (annotations_in (program_of c.args.program)) _ c.in_ok-arrange.ensures.orders

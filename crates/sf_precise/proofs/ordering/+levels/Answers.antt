@@ -1,8 +1,9 @@
 use Rattle.std.proofs.Common.{◌∙◌, ◌++◌, ap}
+use Rattle.sf_base.proofs.Lists.{append-two, append-three}
+use Rattle.sf_base.proofs.Zips.{zip-more}
 use Rattle.sf_core.specs.Program.View.{level_of}
 use Rattle.sf_precise.proofs.Branches.{branch-ordered, branch-stuck, choice-prepared, made_of}
-use Rattle.sf_precise.proofs.Outers.{joined-three, joined-two, level-outer}
-use Rattle.sf_precise.proofs.Sequences.{zip-more}
+use Rattle.sf_precise.proofs.Outers.{level-outer}
 use Rattle.sf_precise.proofs.Views.{view-if, view-level, view-points, view-segment}
 use Rattle.sf_precise.proofs.ordering.+levels.Goals as goal
 
@@ -19,17 +20,17 @@ prepare-returns-in_ok-that-in-If-clause-prepared t c =
 
 pub prepare-returns-in_ok-that-in-If-clause-outer : goal.prepare-returns-in_ok-that-in-If-clause-outer
 prepare-returns-in_ok-that-in-If-clause-outer t c =
-    rw (c.in-If.is, view-if c.in-If.place c.in-If.test c.in-If.this c.in-If.that) (joined-three _ _ _ _ _ _ _ c.in_ok-add_of_test-in-If.ensures c.in_ok-this-in-If.ensures.outer c.in_ok-that-in-If.ensures.outer)
+    rw (c.in-If.is, view-if c.in-If.place c.in-If.test c.in-If.this c.in-If.that) (append-three _ _ _ _ _ _ _ c.in_ok-add_of_test-in-If.ensures c.in_ok-this-in-If.ensures.outer c.in_ok-that-in-If.ensures.outer)
 
 pub prepare-returns-in_ok-fields-in-Points-clause-outer : goal.prepare-returns-in_ok-fields-in-Points-clause-outer
 prepare-returns-in_ok-fields-in-Points-clause-outer t c =
     rw (c.in-Points.is, view-points c.in-Points.place c.in-Points.root c.in-Points.fields)
-    (joined-two _ _ _ _ _ c.in_ok-add_existential-in-Points.ensures (rw c.deref.ensures.value at c.in_ok-add_of_fields-in-Points.ensures))
+    (append-two _ _ _ _ _ c.in_ok-add_existential-in-Points.ensures (rw c.deref.ensures.value at c.in_ok-add_of_fields-in-Points.ensures))
 
 pub prepare-returns-in_ok-add_existential-in-Segment-2-clause-outer : goal.prepare-returns-in_ok-add_existential-in-Segment-2-clause-outer
 prepare-returns-in_ok-add_existential-in-Segment-2-clause-outer t c =
     rw (c.in-Segment.is, view-segment c.in-Segment.place c.in-Segment.next c.in-Segment.from c.in-Segment.to)
-    (joined-two _ _ _ _ _ c.in_ok-add_existential-in-Segment.ensures c.in_ok-add_existential-in-Segment-2.ensures)
+    (append-two _ _ _ _ _ c.in_ok-add_existential-in-Segment.ensures c.in_ok-add_existential-in-Segment-2.ensures)
 
 pub order_branch-returns-in-Ok-clause-outer : goal.order_branch-returns-in-Ok-clause-outer
 order_branch-returns-in-Ok-clause-outer t c =

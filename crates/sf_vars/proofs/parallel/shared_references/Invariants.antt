@@ -1,6 +1,6 @@
 use Rattle.std.proofs.Common.{◌≡◌, drop}
 use Rattle.sf_core.specs.Program.View.{call_of}
-use Rattle.sf_vars.specs.Search.{search_in, shared_at}
+use Rattle.sf_vars.specs.Internal.Search.{search_in, shared_at}
 use Rattle.sf_vars.proofs.parallel.shared_references.Given as goal
 
 -- what was passed breaks nothing

@@ -1,6 +1,6 @@
 use Rattle.std.proofs.Common.{◌≡◌, drop, map}
 use Rattle.sf_core.specs.Program.View.{conjunct_of, conjuncts}
-use Rattle.sf_vars.specs.Search.{in_conjuncts}
+use Rattle.sf_vars.specs.Internal.Search.{in_conjuncts}
 use Rattle.sf_vars.proofs.unheld.+levels.Given as goal
 
 -- what was passed breaks nothing

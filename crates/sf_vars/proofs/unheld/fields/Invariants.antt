@@ -1,5 +1,5 @@
 use Rattle.std.proofs.Common.{◌≡◌, drop}
-use Rattle.sf_vars.specs.Search.{in_operand, search_in}
+use Rattle.sf_vars.specs.Internal.Search.{in_operand, search_in}
 use Rattle.sf_vars.proofs.unheld.fields.Given as goal
 
 -- what was passed breaks nothing

@@ -1,5 +1,5 @@
 use Rattle.std.proofs.Common.{◌≡◌, drop}
-use Rattle.sf_vars.specs.Search.{at_occurrence, search_in}
+use Rattle.sf_vars.specs.Internal.Search.{at_occurrence, search_in}
 use Rattle.sf_vars.proofs.unheld.references.Given as goal
 
 -- what was passed breaks nothing

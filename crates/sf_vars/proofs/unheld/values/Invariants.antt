@@ -1,5 +1,5 @@
 use Rattle.std.proofs.Common.{◌≡◌, drop}
-use Rattle.sf_vars.specs.Search.{in_expr, search_in}
+use Rattle.sf_vars.specs.Internal.Search.{in_expr, search_in}
 use Rattle.sf_vars.proofs.unheld.values.Given as goal
 
 -- what was passed breaks nothing

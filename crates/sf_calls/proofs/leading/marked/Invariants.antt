@@ -1,8 +1,0 @@
-use Rattle.std.proofs.Common.{◌↔◌, ◌<◌, Contains}
-use Rattle.sf_base.specs.declared.ids.ProcId.{ProcId}
-use Rattle.sf_calls.specs.Marks.{IsMarked}
-use Rattle.sf_calls.proofs.leading.marked.Given as goal
-
--- the marked ones so far
-abbrev pub invariant-loop-i : goal.invariant-loop-i
-invariant-loop-i l = (f : ProcId) → Contains l.found.items f ↔ ((f.0 < l.i) × IsMarked l.marks f)

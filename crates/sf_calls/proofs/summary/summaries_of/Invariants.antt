@@ -1,0 +1,9 @@
+use Rattle.std.proofs.Common.{map, take}
+use Rattle.std.specs.List.{AllZip}
+use Rattle.sf_core.specs.Program.View.{procedure_of}
+use Rattle.sf_calls.specs.Internal.Summaries.{IsSummaryOf}
+use Rattle.sf_calls.proofs.summary.summaries_of.Given as goal
+
+-- the summaries so far
+abbrev pub invariant-loop-h : goal.invariant-loop-h
+invariant-loop-h l = AllZip IsSummaryOf (map procedure_of (take l.h-index l.p.procedures.items)) l.summaries.items

@@ -1,0 +1,69 @@
+//! What stands in each procedure's text, for all variables and resources at once.
+
+ghost use Rattle.std.specs.Prelude.{Contains, IfOk};
+ghost use Rattle.sf_core.specs.Program.View.{procedure_of};
+ghost use Rattle.sf_core.specs.Program.ProgramView.{program_of};
+ghost use Rattle.sf_calls.specs.Internal.Summaries.{AreSummaries, IsSummaryOf};
+ghost use Rattle.sf_calls.specs.Sets.{IsVarSet};
+
+use crate::assigned::insert_all;
+use crate::regions::add_regions;
+use crate::set::{Set, VarSet};
+use crate::shared::{add_level, add_shared};
+use sf_base::{ResId, Var};
+use sf_core::{Proc, Program};
+use std::alloc::{AllocError, Global};
+
+/// What stands in a procedure's text.
+#[derive(Debug, Drop)]
+pub struct Summary {
+    /// The variables of resources in its pre and post.
+    pub in_contract: VarSet,
+    /// These, and those in its body outside the regions of their resources.
+    pub mentioned: VarSet,
+    /// The resources of its regions.
+    pub entered: Vec<ResId>,
+    /// The resources of its regions with a call inside.
+    pub with_calls: Vec<ResId>,
+}
+
+/// For each procedure what stands in its text. An `Err` is want of memory.
+pub fn summaries_of(alloc: Global, p: &Program) -> Result<Vec<Summary>, AllocError>
+    ensures { IfOk result (λ summaries. AreSummaries (program_of p.now) summaries.items) }
+{
+    let mut summaries = Vec::with_capacity(alloc, p.procedures.len())?;
+    for h in &p.procedures {
+        summaries.push(summary_of(alloc, h)?)?;
+    }
+    Ok(summaries)
+}
+
+/// What stands in the procedure's text.
+fn summary_of(alloc: Global, h: &Proc) -> Result<Summary, AllocError>
+    ensures { IfOk result (IsSummaryOf (procedure_of h.now)) }
+{
+    let mut named = Vec::new(alloc);
+    add_level(&[], &h.pre.level, &mut named)?;
+    add_level(&[], &h.post.level, &mut named)?;
+    let in_contract = ordered(alloc, &named)?;
+    add_shared(alloc, &[], &h.body, &mut named)?;
+    let mentioned = ordered(alloc, &named)?;
+    let mut entered = Vec::new(alloc);
+    let mut with_calls = Vec::new(alloc);
+    add_regions(&h.body, &mut entered, &mut with_calls)?;
+    Ok(Summary {
+        in_contract,
+        mentioned,
+        entered,
+        with_calls,
+    })
+}
+
+/// The set of those variables.
+fn ordered(alloc: Global, xs: &[Var]) -> Result<VarSet, AllocError>
+    ensures { IfOk result (IsVarSet (Contains xs.now)) }
+{
+    let mut found = Vec::new(alloc);
+    insert_all(&mut found, xs)?;
+    Ok(Set::from_ordered(found))
+}

@@ -1,9 +1,0 @@
-use Rattle.std.proofs.Common.{◌≡◌, ◌++◌, drop, map}
-use Rattle.std.specs.List.{flat_map}
-use Rattle.sf_core.specs.Program.View.{assertion_of, procedure_of}
-use Rattle.sf_precise.specs.Notes.{notes_of}
-use Rattle.sf_precise.proofs.notes.add_annotations.Given as goal
-
--- those so far and those of what is left are all
-abbrev pub invariant-loop-procedure : goal.invariant-loop-procedure
-invariant-loop-procedure l = map (λ a. assertion_of a.now) l.notes.items ++ flat_map notes_of (map procedure_of (drop l.procedure-index l.procedures)) ≡ map (λ a. assertion_of a.now) l.initial.notes.items ++ flat_map notes_of (map procedure_of l.procedures)

@@ -1,0 +1,58 @@
+-- Notes: all annotations of a program, and the first conjunct among them that is never taken, by its place in the file.
+-- Ordinary: a walk through the program. Summary order across annotations is the order of places.
+use Rattle.std.specs.Prelude.{◌≡◌, ◌==◌, Bool, true, cond, ◌&&◌, ◌||◌, nat_lt, List, [], ◌∷◌, ◌++◌, Option, Some, None, Contains, flat_map, map}
+use Rattle.std.specs.List.{AllZip}
+use Rattle.sf_base.specs.declared.place.Place.{Place}
+use Rattle.sf_core.specs.Program.Syntax.{Assertion, Command, assign, look_up, mutate, new, dispose, if, while, call, fork, with, Block, done, then, Procedure, Program}
+use Rattle.sf_precise.specs.Order.{IsOrderOf}
+use Rattle.sf_precise.specs.Taken.{NeverTakenAt}
+
+-- the invariants of loops, in text order
+abbrev mutual
+  -- those in commands, one command after the other
+  pub loops_in : Block → List Assertion
+  loops_in done = []
+  loops_in (then c b) = loops_of c ++ loops_in b
+
+  -- those in one command: of a loop its own, and those in its body
+  pub loops_of : Command → List Assertion
+  loops_of (assign p x e) = []
+  loops_of (look_up p x e field) = []
+  loops_of (mutate p e field d) = []
+  loops_of (new p x) = []
+  loops_of (dispose p e) = []
+  loops_of (if p t c d) = loops_in c ++ loops_in d
+  loops_of (while p t a c) = a ∷ loops_in c
+  loops_of (call p c) = []
+  loops_of (fork p c d) = []
+  loops_of (with p r t c) = loops_in c
+
+-- a procedure's annotations in text order: its pre, the invariants of its loops, its post
+abbrev pub notes_of : Procedure → List Assertion
+notes_of f = f.pre ∷ (loops_in f.body ++ f.post ∷ [])
+
+-- the annotations of a program: the resources' invariants, and then those of the procedures, each in file order
+abbrev pub annotations_in : Program → List Assertion
+annotations_in p = map (λ r. r.invariant) p.resources ++ flat_map notes_of p.procedures
+
+-- the one place comes before the other in the text
+abbrev pub is_before : Place → Place → Bool
+is_before p q = nat_lt p.line q.line || ((p.line == q.line) && nat_lt p.column q.column)
+
+-- there stands the first conjunct that is never taken in one of these annotations
+abbrev pub NeverTakenIn : List Assertion → Place → Type 0
+NeverTakenIn notes q = (a : Assertion) × Contains notes a × NeverTakenAt a.level q
+
+-- the first of these places in the text; None where there is none
+abbrev pub IsFirstPlace : (Place → Type 0) → Option Place → Type 0
+IsFirstPlace P None = (q : Place) → ¬ P q
+IsFirstPlace P (Some q) = P q × ((r : Place) → P r → is_before r q ≡ true → ⊥)
+
+-- the earlier of two places, where there may be no first one
+abbrev pub earlier_of : Option Place → Place → Place
+earlier_of None q = q
+earlier_of (Some p) q = cond (is_before q p) q p
+
+-- these are the annotations in order
+abbrev pub AreOrdersOf : List Assertion → List Assertion → Type 0
+AreOrdersOf notes orders = AllZip IsOrderOf notes orders

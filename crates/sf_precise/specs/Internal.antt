@@ -1,0 +1,4 @@
+pub mod Outer
+pub mod Prepared
+pub mod Waits
+pub mod Work

@@ -1,0 +1,6 @@
+-- The laws of the crate, under the names of their functions in src/laws.rt.
+use Rattle.sf_vars.proofs.Answered.{program_answered}
+use Rattle.sf_vars.specs.Laws.{EachProgramHasAnAnswer}
+
+pub each_program_has_an_answer : EachProgramHasAnAnswer
+each_program_has_an_answer = program_answered
