@@ -3,7 +3,7 @@ use Rattle.std.proofs.Common.{◌≡◌, ◌↔◌, ℕ, ◌==◌, List, [], ◌
 use Rattle.std.specs.Bool.{Decides}
 use Rattle.std.proofs.lemmas.Bool.Decides.{Decides-eqb, Decides-or, Decides-and, Decides-not}
 use Rattle.sf_base.proofs.Bools.{decides-false}
-use Rattle.sf_base.proofs.Elements.{contains-nil, contains-append, contains-cond, contains-none}
+use Rattle.sf_base.proofs.Elements.{contains-append, contains-cond, contains-none}
 use Rattle.sf_base.specs.declared.ids.ProcId.{ProcId}
 use Rattle.sf_base.specs.declared.ids.ResId.{ResId}
 use Rattle.sf_base.specs.declared.ids.Var.{Var}
@@ -20,13 +20,19 @@ abbrev pub resource : ℕ → ResId
 resource n = record { 0 = n }
 
 pub same_resource : (r q : ResId) → Decides (r.0 == q.0) (r ≡ q)
-same_resource r q = (λ e. ap resource ((Decides-eqb r.0 q.0).0 e), λ e. (Decides-eqb r.0 q.0).1 (ap (λ (k : ResId). k.0) e))
+same_resource r q =
+    (λ e. ap resource ((Decides-eqb r.0 q.0).0 e), λ e. (Decides-eqb r.0 q.0).1 (ap (λ (k : ResId). k.0) e))
 
 pub var_is : (x y : Var) → Decides (same_var x y) (x ≡ y)
-var_is (Own i) (Own j) = (λ e. ap Own ((Decides-eqb i j).0 e), λ e. (Decides-eqb i j).1 (let s : i ≡ j = cc in s))
+var_is (Own i) (Own j) =
+    (λ e. ap Own ((Decides-eqb i j).0 e), λ e. (Decides-eqb i j).1 (let s : i ≡ j = cc in s))
 var_is (Own i) (Shared s j) = (λ e. absurd (cc), λ e. absurd (cc))
 var_is (Shared r i) (Own j) = (λ e. absurd (cc), λ e. absurd (cc))
-var_is (Shared r i) (Shared s j) = (λ e. to ((Decides-and (r.0 == s.0) (i == j) (same_resource r s) (Decides-eqb i j)).0 e), λ e. (Decides-and (r.0 == s.0) (i == j) (same_resource r s) (Decides-eqb i j)).1 (from e))
+var_is (Shared r i) (Shared s j) = (
+  λ e. to ((Decides-and (r.0 == s.0) (i == j) (same_resource r s) (Decides-eqb i j)).0 e),
+  λ e.
+      (Decides-and (r.0 == s.0) (i == j) (same_resource r s) (Decides-eqb i j)).1 (from e),
+)
   where
     to : (r ≡ s) × (i ≡ j) → Shared r i ≡ Shared s j
     to h = let a : r ≡ s = h.0 in let b : i ≡ j = h.1 in cc
@@ -56,18 +62,23 @@ pub of_one : (f g : ProcId) → Contains (f ∷ []) g ↔ (f ≡ g)
 of_one f g = (only_one f g, λ e. one_of f g (ap (λ (k : ProcId). k.0) e))
 
 mutual
-  pub callees_in_are : (but : Option ResId) (g : ProcId) (b : Block) → Contains (callees_in but b) g ↔ CallsIn but g b
+  pub callees_in_are : (but : Option ResId) (g : ProcId) (b : Block)
+      → Contains (callees_in but b) g ↔ CallsIn but g b
   callees_in_are but g done = contains-none g
-  callees_in_are but g (then c b) = contains-append _ _ g _ _ (callees_of_are but g c) (callees_in_are but g b)
+  callees_in_are but g (then c b) =
+      contains-append _ _ g _ _ (callees_of_are but g c) (callees_in_are but g b)
 
-  pub callees_of_are : (but : Option ResId) (g : ProcId) (c : Command) → Contains (callees_of but c) g ↔ CallsInCommand but g c
+  pub callees_of_are : (but : Option ResId) (g : ProcId) (c : Command)
+      → Contains (callees_of but c) g ↔ CallsInCommand but g c
   callees_of_are but g (assign p y e) = contains-none g
   callees_of_are but g (look_up p y e field) = contains-none g
   callees_of_are but g (mutate p e field d) = contains-none g
   callees_of_are but g (new p y) = contains-none g
   callees_of_are but g (dispose p e) = contains-none g
-  callees_of_are but g (if p t c d) = contains-append _ _ g _ _ (callees_in_are but g c) (callees_in_are but g d)
+  callees_of_are but g (if p t c d) =
+      contains-append _ _ g _ _ (callees_in_are but g c) (callees_in_are but g d)
   callees_of_are but g (while p t a c) = callees_in_are but g c
   callees_of_are but g (call p c) = of_one c.callee g
-  callees_of_are but g (fork p c d) = contains-append (c.callee ∷ []) (d.callee ∷ []) g _ _ (of_one c.callee g) (of_one d.callee g)
+  callees_of_are but g (fork p c d) =
+      contains-append (c.callee ∷ []) (d.callee ∷ []) g _ _ (of_one c.callee g) (of_one d.callee g)
   callees_of_are but g (with p r t c) = contains-cond _ _ g _ _ (other_is but r) (callees_in_are but g c)

@@ -38,5 +38,6 @@ pub had_exactly : {P Q : Type 0} → IsHad P → IsHad Q → IsHad (P ↔ Q)
 had_exactly p q = had_both (had_if q) (had_if p)
 
 -- that an order holds of all pairs of a list
-pub had_pairs : {A : Type 0} (B : A → A → Type 0) → ((x y : A) → IsHad (B x y)) → (xs : List A) → IsHad (AllPairs B xs)
+pub had_pairs : {A : Type 0} (B : A → A → Type 0) → ((x y : A) → IsHad (B x y)) → (xs : List A)
+    → IsHad (AllPairs B xs)
 had_pairs {A} B had xs h = λ i j d i_below j_below. had _ _ (∥∥₁_map h (λ a. a i j d i_below j_below))

@@ -57,7 +57,8 @@ one_first {A} P Q p q = record { same = same; once = hlevel (p.once, q.once) }
     same (Some a) (Some b) (inr h) (inl k) = absurd (none-some b (p.same None (Some b) h.0 k))
     same (Some a) (Some b) (inr h) (inr k) = q.same (Some a) (Some b) h.1 k.1
 
-one_first_of : {A X : Type 0} (P : X → Option A → Type 0) → ((x : X) → IsOne (P x)) → (xs : List X) → IsOne (first_of P xs)
+one_first_of : {A X : Type 0} (P : X → Option A → Type 0) → ((x : X) → IsOne (P x)) → (xs : List X)
+    → IsOne (first_of P xs)
 one_first_of P p [] = one_nothing
 one_first_of P p (x ∷ xs) = one_first (P x) (first_of P xs) (p x) (one_first_of P p xs)
 
@@ -73,7 +74,8 @@ one_operand : (a : Around) (o : Operand Expr) → IsOne (UnheldInOperand a o)
 one_operand a (Known e) = one_expr a e
 one_operand a (Exists n) = one_nothing
 
-one_test : {E : Type 0} (P : E → Option Breach → Type 0) → ((e : E) → IsOne (P e)) → (t : Test E) → IsOne (UnheldInTest P t)
+one_test : {E : Type 0} (P : E → Option Breach → Type 0) → ((e : E) → IsOne (P e)) → (t : Test E)
+    → IsOne (UnheldInTest P t)
 one_test P p True = one_nothing
 one_test P p (Equal x y) = one_first (P x) (P y) (p x) (p y)
 one_test P p (Differ x y) = one_first (P x) (P y) (p x) (p y)
@@ -84,34 +86,49 @@ mutual
 
   one_conjuncts : (a : Around) (cs : Conjuncts Expr) → IsOne (UnheldInConjuncts a cs)
   one_conjuncts a none = one_nothing
-  one_conjuncts a (also c cs) = one_first (UnheldInConjunct a c) (UnheldInConjuncts a cs) (one_conjunct a c) (one_conjuncts a cs)
+  one_conjuncts a (also c cs) =
+      one_first (UnheldInConjunct a c) (UnheldInConjuncts a cs) (one_conjunct a c) (one_conjuncts a cs)
 
   one_conjunct : (a : Around) (c : Conjunct Expr) → IsOne (UnheldInConjunct a c)
   one_conjunct a (holds place t) = one_test (UnheldInOperand a) (one_operand a) t
-  one_conjunct a (points place root fs) = one_first (UnheldInOperand a root) (first_of (λ f. UnheldInOperand a f.1) fs) (one_operand a root) (one_first_of (λ f. UnheldInOperand a f.1) (λ f. one_operand a f.1) fs)
-  one_conjunct a (segment place next from to) = one_first (UnheldInOperand a from) (UnheldInOperand a to) (one_operand a from) (one_operand a to)
+  one_conjunct a (points place root fs) =
+      one_first (UnheldInOperand a root) (first_of (λ f. UnheldInOperand a f.1) fs) (one_operand a root)
+      (one_first_of (λ f. UnheldInOperand a f.1) (λ f. one_operand a f.1) fs)
+  one_conjunct a (segment place next from to) =
+      one_first (UnheldInOperand a from) (UnheldInOperand a to) (one_operand a from) (one_operand a to)
   one_conjunct a (tree place left right root) = one_operand a root
   one_conjunct a (choose place t this that) =
-      one_first (UnheldInTest (UnheldInOperand a) t) (first (UnheldInLevel a this) (UnheldInLevel a that)) (one_test (UnheldInOperand a) (one_operand a) t)
+      one_first (UnheldInTest (UnheldInOperand a) t) (first (UnheldInLevel a this) (UnheldInLevel a that))
+      (one_test (UnheldInOperand a) (one_operand a) t)
       (one_first (UnheldInLevel a this) (UnheldInLevel a that) (one_level a this) (one_level a that))
 
 one_call : (a : Around) (c : Call) → IsOne (UnheldInCall a c)
 one_call a c =
-    one_first _ _ (one_first_of (λ x. where_ (Free a.program c.callee x × IsUnheld a x) (NotHeld c.place x)) (λ x. one_where _ _) (variables_from 0 a.program.resources))
-    (one_first _ _ (one_first_of (UnheldAt a) (one_at a) c.references) (one_first_of (UnheldInExpr a) (one_expr a) c.values))
+    one_first _ _ (one_first_of (λ x. where_ (Free a.program c.callee x × IsUnheld a x) (NotHeld c.place x))
+    (λ x. one_where _ _) (variables_from 0 a.program.resources))
+    (one_first _ _ (one_first_of (UnheldAt a) (one_at a) c.references)
+    (one_first_of (UnheldInExpr a) (one_expr a) c.values))
 
 one_reenters : (a : Around) (c : Call) → IsOne (ReentersByCall a c)
-one_reenters a c = one_first_of (λ q. where_ (Takes a.program c.callee q × IsHeld a q) (Reentered c.place q)) (λ q. one_where _ _) (resources_from 0 a.program.resources)
+one_reenters a c =
+    one_first_of (λ q. where_ (Takes a.program c.callee q × IsHeld a q) (Reentered c.place q))
+    (λ q. one_where _ _) (resources_from 0 a.program.resources)
 
 one_repeats : (before : List Var) (xs : List Occurrence) → IsOne (Repeats before xs)
 one_repeats before [] = one_nothing
-one_repeats before (x ∷ xs) = one_first (where_ (Contains before x.var) (SameReference x.place x.var)) (Repeats (x.var ∷ before) xs) (one_where _ _) (one_repeats (x.var ∷ before) xs)
+one_repeats before (x ∷ xs) =
+    one_first (where_ (Contains before x.var) (SameReference x.place x.var)) (Repeats (x.var ∷ before) xs)
+    (one_where _ _) (one_repeats (x.var ∷ before) xs)
 
 one_passes : (p : Program) (c : Call) → IsOne (PassesFree p c)
-one_passes p c = one_first_of (λ x. where_ (Free p c.callee x.var) (ReferenceIsFree x.place x.var)) (λ x. one_where _ _) c.references
+one_passes p c =
+    one_first_of (λ x. where_ (Free p c.callee x.var) (ReferenceIsFree x.place x.var))
+    (λ x. one_where _ _) c.references
 
 one_shares : (p : Program) (c d : Call) → IsOne (SharesInFork p c d)
-one_shares p c d = one_first_of (λ x. where_ (Shares p c d x) (ParallelShares c.place x)) (λ x. one_where _ _) (named_in c.references c.values ++ named_in d.references d.values ++ variables_from 0 p.resources)
+one_shares p c d =
+    one_first_of (λ x. where_ (Shares p c d x) (ParallelShares c.place x)) (λ x. one_where _ _)
+    (named_in c.references c.values ++ named_in d.references d.values ++ variables_from 0 p.resources)
 
 mutual
   one_block : (a : Around) (b : Block) → IsOne (InBlock a b)
@@ -120,32 +137,53 @@ mutual
 
   one_command : (a : Around) (c : Command) → IsOne (InCommand a c)
   one_command a (assign q x e) = one_first (UnheldAt a x) (UnheldInExpr a e) (one_at a x) (one_expr a e)
-  one_command a (look_up q x e field) = one_first (UnheldAt a x) (UnheldInExpr a e) (one_at a x) (one_expr a e)
-  one_command a (mutate q e field d) = one_first (UnheldInExpr a e) (UnheldInExpr a d) (one_expr a e) (one_expr a d)
+  one_command a (look_up q x e field) =
+      one_first (UnheldAt a x) (UnheldInExpr a e) (one_at a x) (one_expr a e)
+  one_command a (mutate q e field d) =
+      one_first (UnheldInExpr a e) (UnheldInExpr a d) (one_expr a e) (one_expr a d)
   one_command a (new q x) = one_at a x
   one_command a (dispose q e) = one_expr a e
   one_command a (if q t c d) =
-      one_first (UnheldInTest (UnheldInExpr a) t) (first (InBlock a c) (InBlock a d)) (one_test (UnheldInExpr a) (one_expr a) t) (one_first (InBlock a c) (InBlock a d) (one_block a c) (one_block a d))
+      one_first (UnheldInTest (UnheldInExpr a) t) (first (InBlock a c) (InBlock a d))
+      (one_test (UnheldInExpr a) (one_expr a) t)
+      (one_first (InBlock a c) (InBlock a d) (one_block a c) (one_block a d))
   one_command a (while q t i c) =
-      one_first (UnheldInTest (UnheldInExpr a) t) (first (UnheldInLevel a i.level) (InBlock a c)) (one_test (UnheldInExpr a) (one_expr a) t) (one_first (UnheldInLevel a i.level) (InBlock a c) (one_level a i.level) (one_block a c))
+      one_first (UnheldInTest (UnheldInExpr a) t) (first (UnheldInLevel a i.level) (InBlock a c))
+      (one_test (UnheldInExpr a) (one_expr a) t)
+      (one_first (UnheldInLevel a i.level) (InBlock a c) (one_level a i.level) (one_block a c))
   one_command a (call q c) =
-      one_first (UnheldInCall a c) _ (one_call a c) (one_first (ReentersByCall a c) _ (one_reenters a c) (one_first (Repeats [] c.references) (PassesFree a.program c) (one_repeats [] c.references) (one_passes a.program c)))
+      one_first (UnheldInCall a c) _ (one_call a c)
+      (one_first (ReentersByCall a c) _ (one_reenters a c)
+      (one_first (Repeats [] c.references) (PassesFree a.program c) (one_repeats [] c.references)
+      (one_passes a.program c)))
   one_command a (fork q c d) =
-      one_first (first (UnheldInCall a c) (UnheldInCall a d)) _ (one_first (UnheldInCall a c) (UnheldInCall a d) (one_call a c) (one_call a d)) (
-      one_first (first (ReentersByCall a c) (ReentersByCall a d)) _ (one_first (ReentersByCall a c) (ReentersByCall a d) (one_reenters a c) (one_reenters a d)) (
-      one_first (first (Repeats [] c.references) (Repeats [] d.references)) _ (one_first (Repeats [] c.references) (Repeats [] d.references) (one_repeats [] c.references) (one_repeats [] d.references)) (
-      one_first (first (PassesFree a.program c) (PassesFree a.program d)) (SharesInFork a.program c d) (one_first (PassesFree a.program c) (PassesFree a.program d) (one_passes a.program c) (one_passes a.program d)) (one_shares a.program c d))))
+      one_first (first (UnheldInCall a c) (UnheldInCall a d)) _
+      (one_first (UnheldInCall a c) (UnheldInCall a d) (one_call a c) (one_call a d)) (
+      one_first (first (ReentersByCall a c) (ReentersByCall a d)) _
+      (one_first (ReentersByCall a c) (ReentersByCall a d) (one_reenters a c) (one_reenters a d)) (
+      one_first (first (Repeats [] c.references) (Repeats [] d.references)) _
+      (one_first (Repeats [] c.references) (Repeats [] d.references) (one_repeats [] c.references)
+      (one_repeats [] d.references)) (
+      one_first (first (PassesFree a.program c) (PassesFree a.program d)) (SharesInFork a.program c d)
+      (one_first (PassesFree a.program c) (PassesFree a.program d) (one_passes a.program c)
+      (one_passes a.program d)) (one_shares a.program c d))))
   one_command a (with q s t c) =
-      one_first (UnheldInTest (UnheldInExpr (inside s a)) t) (first (where_ (IsHeld a s) (Reentered q s)) (InBlock (inside s a) c)) (one_test (UnheldInExpr (inside s a)) (one_expr (inside s a)) t)
-      (one_first (where_ (IsHeld a s) (Reentered q s)) (InBlock (inside s a) c) (one_where _ _) (one_block (inside s a) c))
+      one_first (UnheldInTest (UnheldInExpr (inside s a)) t)
+      (first (where_ (IsHeld a s) (Reentered q s)) (InBlock (inside s a) c))
+      (one_test (UnheldInExpr (inside s a)) (one_expr (inside s a)) t)
+      (one_first (where_ (IsHeld a s) (Reentered q s)) (InBlock (inside s a) c) (one_where _ _)
+      (one_block (inside s a) c))
 
 abbrev start : Program → ℕ → Around
 start p k = record { program = p; procedure = record { 0 = k }; entered = [] }
 
-one_procedure : (p : Program) (k : ℕ) (h : Procedure) (hs : List Procedure) → IsOne (InBlock (start p k) h.body) → IsOne (InProcedures p (suc k) hs) → IsOne (InProcedures p k (h ∷ hs))
+one_procedure : (p : Program) (k : ℕ) (h : Procedure) (hs : List Procedure)
+    → IsOne (InBlock (start p k) h.body) → IsOne (InProcedures p (suc k) hs)
+    → IsOne (InProcedures p k (h ∷ hs))
 one_procedure p k h hs here more = record { same = same; once = hlevel (here.once, more.once) }
   where
-    same : (r q : Option (ProcId × Breach)) → InProcedures p k (h ∷ hs) r → InProcedures p k (h ∷ hs) q → r ≡ q
+    same : (r q : Option (ProcId × Breach)) → InProcedures p k (h ∷ hs) r → InProcedures p k (h ∷ hs) q
+        → r ≡ q
     same None None x y = refl
     same None (Some (g, c)) x (inl y) = absurd (none-some c (here.same None (Some c) x.0 y.1))
     same None (Some (g, c)) x (inr y) = more.same None (Some (g, c)) x.1 y.1
@@ -160,8 +198,11 @@ one_procedure p k h hs here more = record { same = same; once = hlevel (here.onc
     same (Some (f, b)) (Some (g, c)) (inr x) (inr y) = more.same (Some (f, b)) (Some (g, c)) x.1 y.1
 
 one_procedures : (p : Program) (k : ℕ) (hs : List Procedure) → IsOne (InProcedures p k hs)
-one_procedures p k [] = let none : IsOne (nothing {A = ProcId × Breach}) = one_nothing in record { same = none.same; once = none.once }
-one_procedures p k (h ∷ hs) = one_procedure p k h hs (one_block (start p k) h.body) (one_procedures p (suc k) hs)
+one_procedures p k [] =
+    let none : IsOne (nothing {A = ProcId × Breach}) = one_nothing in
+    record { same = none.same; once = none.once }
+one_procedures p k (h ∷ hs) =
+    one_procedure p k h hs (one_block (start p k) h.body) (one_procedures p (suc k) hs)
 
 pub one_breach : FirstBreachIsUnique
 one_breach p = (one_procedures p 0 p.procedures).same

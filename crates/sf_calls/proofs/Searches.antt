@@ -29,14 +29,16 @@ visited_none visited queue = record {
     nothing f c = omega (arith, c.1)
 
 -- one after the other
-pub visited_both : (fs gs : List ProcId) (a : List Bool) (q : List ProcId) (b : List Bool) (r : List ProcId) (c : List Bool) (s : List ProcId)
+pub visited_both : (fs gs : List ProcId) (a : List Bool) (q : List ProcId) (b : List Bool) (r : List ProcId)
+    (c : List Bool) (s : List ProcId)
     → VisitsMore fs a q b r → VisitsMore gs b r c s → VisitsMore (fs ++ gs) a q c s
 visited_both fs gs a q b r c s m n = record {
   size = n.size ∙ m.size;
   kept = λ f h. n.kept f (m.kept f h);
   all = λ f h. elim (Contains-append_cases fs gs f h) [ inl x ↦ n.kept f (m.all f x) | inr y ↦ n.all f y ];
   only = λ f h. elim (n.only f h) [
-    | inl x ↦ elim (m.only f x) [ inl y ↦ inl y | inr y ↦ inr (Contains-append_left fs gs f y.0, n.queued f y.1) ]
+    | inl x ↦
+        elim (m.only f x) [ inl y ↦ inl y | inr y ↦ inr (Contains-append_left fs gs f y.0, n.queued f y.1) ]
     | inr x ↦ inr (Contains-append_right fs gs f x.0, x.1)
   ];
   queued = λ f h. n.queued f (m.queued f h);
@@ -44,19 +46,25 @@ visited_both fs gs a q b r c s m n = record {
     | inl x ↦ elim (m.known f x) [ inl y ↦ inl y | inr y ↦ inr (n.kept f y) ]
     | inr x ↦ inr x
   ];
-  once = λ visited o. n.once (λ f c. elim (m.known f c) [ inl x ↦ m.kept f (visited f x) | inr x ↦ x ]) (m.once visited o);
+  once =
+      λ visited o. n.once (λ f c. elim (m.known f c) [ inl x ↦ m.kept f (visited f x) | inr x ↦ x ])
+      (m.once visited o);
   spent = n.spent ∙ m.spent;
 }
 
--- what a search has done so far: it visited only what reaches there, and each caller of a visited procedure that is not queued is visited
-pub record IsSearch (direct : List Bool) (callers : List (Vec ProcId Global)) (visited : List Bool) (queue : List ProcId) : Type 0 where
+-- what a search has done so far: it visited only what reaches there, and each caller of a visited
+-- procedure that is not queued is visited
+pub record IsSearch (direct : List Bool) (callers : List (Vec ProcId Global)) (visited : List Bool)
+    (queue : List ProcId) : Type 0 where
   pub size : length visited ≡ length callers
   pub sound : (f : ProcId) → IsVisited visited f → Reaches (IsVisited direct) (IsCaller callers) f
   pub first : (f : ProcId) → IsVisited direct f → IsVisited visited f
   pub known : (f : ProcId) → Contains queue f → IsVisited visited f
-  pub closed : (f g : ProcId) → IsCaller callers f g → IsVisited visited g → IsVisited visited f ⊎ Contains queue g
+  pub closed : (f g : ProcId) → IsCaller callers f g → IsVisited visited g
+      → IsVisited visited f ⊎ Contains queue g
 
-pub search_starts : (direct : List Bool) (callers : List (Vec ProcId Global)) (queue : List ProcId) → length direct ≡ length callers
+pub search_starts : (direct : List Bool) (callers : List (Vec ProcId Global)) (queue : List ProcId)
+    → length direct ≡ length callers
     → ((f : ProcId) → Contains queue f ↔ IsVisited direct f) → IsSearch direct callers direct queue
 search_starts direct callers queue e q = record {
   size = e;
@@ -67,7 +75,8 @@ search_starts direct callers queue e q = record {
 }
 
 -- g is taken off the queue, and its callers are visited
-pub search_goes_on : (direct : List Bool) (callers : List (Vec ProcId Global)) (visited : List Bool) (queue : List ProcId) (g : ProcId) (fs : Vec ProcId Global) (after : List Bool) (longer : List ProcId)
+pub search_goes_on : (direct : List Bool) (callers : List (Vec ProcId Global)) (visited : List Bool)
+    (queue : List ProcId) (g : ProcId) (fs : Vec ProcId Global) (after : List Bool) (longer : List ProcId)
     → slice_get callers g.0 ≡ Some fs → VisitsMore fs.items visited queue after longer
     → IsSearch direct callers visited (queue ++ g ∷ []) → IsSearch direct callers after longer
 search_goes_on direct callers visited queue g fs after longer here more s = record {
@@ -77,7 +86,12 @@ search_goes_on direct callers visited queue g fs after longer here more s = reco
     | inr x ↦ through g (fs, here, x.0) (s.sound g (s.known g (Contains-push queue g)))
   ];
   first = λ f m. more.kept f (s.first f m);
-  known = λ f c. elim (more.known f c) [ inl x ↦ more.kept f (s.known f (Contains-append_left queue (g ∷ []) f x)) | inr x ↦ x ];
+  known =
+      λ f c. elim
+      (more.known f c) [
+        | inl x ↦ more.kept f (s.known f (Contains-append_left queue (g ∷ []) f x))
+        | inr x ↦ x
+      ];
   closed = λ f h c m. elim (more.only h m) [
     | inl x ↦ elim (s.closed f h c x) [
       | inl y ↦ inl (more.kept f y)
@@ -97,16 +111,20 @@ search_goes_on direct callers visited queue g fs after longer here more s = reco
         subst (λ (v : Vec ProcId Global). Contains v.items f) one c.2
 
 -- with an empty queue all that reaches there is visited
-pub search_ends : (direct : List Bool) (callers : List (Vec ProcId Global)) (visited : List Bool) (queue : List ProcId) → length queue ≡ 0 → IsSearch direct callers visited queue
+pub search_ends : (direct : List Bool) (callers : List (Vec ProcId Global)) (visited : List Bool)
+    (queue : List ProcId)
+    → length queue ≡ 0 → IsSearch direct callers visited queue
     → (f : ProcId) → Reaches (IsVisited direct) (IsCaller callers) f → IsVisited visited f
 search_ends direct callers visited queue empty s f (directly d) = s.first f d
-search_ends direct callers visited queue empty s f (through g c rest) = elim (s.closed f g c (search_ends direct callers visited queue empty s g rest)) [
-  | inl x ↦ x
-  | inr x ↦ absurd (let none : x.0 < length queue = x.1 in omega arith)
-]
+search_ends direct callers visited queue empty s f (through g c rest) =
+    elim (s.closed f g c (search_ends direct callers visited queue empty s g rest)) [
+      | inl x ↦ x
+      | inr x ↦ absurd (let none : x.0 < length queue = x.1 in omega arith)
+    ]
 
 -- what is queued is a procedure
-pub queued_within : (direct : List Bool) (callers : List (Vec ProcId Global)) (visited : List Bool) (queue rest : List ProcId) (g : ProcId)
+pub queued_within : (direct : List Bool) (callers : List (Vec ProcId Global)) (visited : List Bool)
+    (queue rest : List ProcId) (g : ProcId)
     → queue ≡ rest ++ g ∷ [] → IsSearch direct callers visited queue → g.0 < length callers
 queued_within direct callers visited queue rest g e s =
     let here : IsVisited visited g = s.known g (rw e (Contains-push rest g)) in
@@ -114,10 +132,13 @@ queued_within direct callers visited queue rest g e s =
     omega (arith, below, s.size)
 
 -- and its callers are
-pub callers_within : (direct : List Bool) (callers : List (Vec ProcId Global)) (visited : List Bool) (queue : List ProcId) (g : ProcId) (fs : Vec ProcId Global)
-    → ((f h : ProcId) → IsCaller callers f h → f.0 < length callers) → slice_get callers g.0 ≡ Some fs → IsSearch direct callers visited queue → All (λ f. f.0 < length visited) fs.items
+pub callers_within : (direct : List Bool) (callers : List (Vec ProcId Global)) (visited : List Bool)
+    (queue : List ProcId) (g : ProcId) (fs : Vec ProcId Global)
+    → ((f h : ProcId) → IsCaller callers f h → f.0 < length callers) → slice_get callers g.0 ≡ Some fs
+    → IsSearch direct callers visited queue → All (λ f. f.0 < length visited) fs.items
 callers_within direct callers visited queue g fs within here s k d below =
-    let caller : (get_or fs.items k d).0 < length callers = within (get_or fs.items k d) g (fs, here, Contains-get_or fs.items k d below) in
+    let caller : (get_or fs.items k d).0 < length callers = within (get_or fs.items k d) g
+    (fs, here, Contains-get_or fs.items k d below) in
     omega (arith, caller, s.size)
 
 -- a procedure by its number
@@ -128,16 +149,22 @@ pub one_of : (f g : ProcId) → f.0 ≡ g.0 → Contains (f ∷ []) g
 one_of f g e = let same : f ≡ g = ap proc e in (0, omega arith, same)
 
 pub only_one : (f g : ProcId) → Contains (f ∷ []) g → f ≡ g
-only_one f g c = elim (Contains-push_cases [] f g c) [ inl x ↦ absurd (let none : x.0 < 0 = x.1 in omega arith) | inr x ↦ x ]
+only_one f g c =
+    elim (Contains-push_cases [] f g c) [
+      | inl x ↦ absurd (let none : x.0 < 0 = x.1 in omega arith)
+      | inr x ↦ x
+    ]
 
-pub unvisited-set : (visited : List Bool) (i : ℕ) (b : Bool) → i < length visited → b ≡ get_or visited i b → b ≡ false → unvisited (set visited i true) + 1 ≡ unvisited visited
+pub unvisited-set : (visited : List Bool) (i : ℕ) (b : Bool) → i < length visited → b ≡ get_or visited i b
+    → b ≡ false → unvisited (set visited i true) + 1 ≡ unvisited visited
 unvisited-set visited i b h e not_yet =
     let was : get_or visited i b ≡ false = sym e ∙ not_yet in
     let all = sum_by-set (λ (m : Bool). cond (not m) 1 0) visited i true b h in
     omega (arith, rw was at all)
 
 -- a procedure that was not visited is visited and queued
-pub visit_new : (visited : List Bool) (queue : List ProcId) (f : ProcId) (b : Bool) → f.0 < length visited → b ≡ get_or visited f.0 b → b ≡ false
+pub visit_new : (visited : List Bool) (queue : List ProcId) (f : ProcId) (b : Bool) → f.0 < length visited
+    → b ≡ get_or visited f.0 b → b ≡ false
     → VisitsMore (f ∷ []) visited queue (set visited f.0 true) (queue ++ f ∷ [])
 visit_new visited queue f b h e not_yet = record {
   size = length-set _ _ _;
@@ -149,12 +176,19 @@ visit_new visited queue f b h e not_yet = record {
   ];
   queued = λ g c. Contains-append_left queue (f ∷ []) g c;
   known = λ g c. elim (Contains-push_cases queue f g c) [ inl x ↦ inl x | inr x ↦ inr (now g x) ];
-  once = λ had o. all_pairs_push (λ g h. g ≢ h) queue f o (λ k d below e. not_yet_visited (subst (IsVisited visited) e (had (get_or queue k d) (Contains-get_or queue k d below))));
-  spent = let less : unvisited (set visited f.0 true) + 1 ≡ unvisited visited = unvisited-set visited f.0 b h e not_yet in omega (arith, less, length-append queue (f ∷ []));
+  once =
+      λ had o. all_pairs_push (λ g h. g ≢ h) queue f o
+      (λ k d below e. not_yet_visited (subst (IsVisited visited) e
+      (had (get_or queue k d) (Contains-get_or queue k d below))));
+  spent =
+      let less : unvisited (set visited f.0 true) + 1 ≡ unvisited visited =
+      unvisited-set visited f.0 b h e not_yet in
+      omega (arith, less, length-append queue (f ∷ []));
 }
   where
     now : (g : ProcId) → f ≡ g → IsVisited (set visited f.0 true) g
-    now g same = subst (λ (k : ProcId). IsVisited (set visited f.0 true) k) same (get-set_same visited f.0 true h)
+    now g same =
+        subst (λ (k : ProcId). IsVisited (set visited f.0 true) k) same (get-set_same visited f.0 true h)
 
     not_yet_visited : IsVisited visited f → ⊥
     not_yet_visited m =
@@ -169,7 +203,8 @@ visit_new visited queue f b h e not_yet = record {
     ]
 
 -- a procedure that was visited stays so
-pub visit_old : (visited : List Bool) (queue : List ProcId) (f : ProcId) (b : Bool) → f.0 < length visited → b ≡ get_or visited f.0 b → b ≡ true
+pub visit_old : (visited : List Bool) (queue : List ProcId) (f : ProcId) (b : Bool) → f.0 < length visited
+    → b ≡ get_or visited f.0 b → b ≡ true
     → VisitsMore (f ∷ []) visited queue visited queue
 visit_old visited queue f b h e was = record {
   size = refl;
@@ -189,7 +224,9 @@ visit_old visited queue f b h e was = record {
 abbrev pub IsFound : List Bool → List ProcId → ℕ → Type 0
 IsFound visited found i = (f : ProcId) → Contains found f ↔ ((f.0 < i) × IsVisited visited f)
 
-pub found_one : (visited : List Bool) (found : List ProcId) (i : ℕ) → i < length visited → get_or visited i false ≡ true → IsFound visited found i → IsFound visited (found ++ proc i ∷ []) (i + 1)
+pub found_one : (visited : List Bool) (found : List ProcId) (i : ℕ) → i < length visited
+    → get_or visited i false ≡ true → IsFound visited found i
+    → IsFound visited (found ++ proc i ∷ []) (i + 1)
 found_one visited found i h e is f = (to, from)
   where
     here : IsVisited visited (proc i)
@@ -198,21 +235,33 @@ found_one visited found i h e is f = (to, from)
     to : Contains (found ++ proc i ∷ []) f → (f.0 < i + 1) × IsVisited visited f
     to c = elim (Contains-push_cases found (proc i) f c) [
       | inl x ↦ (let old : f.0 < i = ((is f).0 x).0 in omega arith, ((is f).0 x).1)
-      | inr x ↦ (let eq : i ≡ f.0 = ap (λ (k : ProcId). k.0) x in omega arith, subst (λ (k : ProcId). IsVisited visited k) x here)
+      | inr x ↦ (
+        let eq : i ≡ f.0 = ap (λ (k : ProcId). k.0) x in
+            omega arith,
+        subst (λ (k : ProcId). IsVisited visited k) x here,
+      )
     ]
 
     from : (f.0 < i + 1) × IsVisited visited f → Contains (found ++ proc i ∷ []) f
     from m = elim (eqb_tells f.0 i) [
       | inl x ↦ Contains-append_right found (proc i ∷ []) f (one_of (proc i) f (sym x.1))
-      | inr x ↦ Contains-append_left found (proc i ∷ []) f ((is f).1 (let below : f.0 < i + 1 = m.0 in let other : f.0 ≢ i = x.1 in omega arith, m.1))
+      | inr x ↦
+          Contains-append_left found (proc i ∷ []) f ((is f).1 (
+            let below : f.0 < i + 1 = m.0 in
+                let other : f.0 ≢ i = x.1 in omega arith,
+            m.1,
+          ))
     ]
 
-pub found_none : (visited : List Bool) (found : List ProcId) (i : ℕ) → i < length visited → get_or visited i false ≡ false → IsFound visited found i → IsFound visited found (i + 1)
-found_none visited found i h e is f = (λ c. (let old : f.0 < i = ((is f).0 c).0 in omega arith, ((is f).0 c).1), from)
+pub found_none : (visited : List Bool) (found : List ProcId) (i : ℕ) → i < length visited
+    → get_or visited i false ≡ false → IsFound visited found i → IsFound visited found (i + 1)
+found_none visited found i h e is f =
+    (λ c. (let old : f.0 < i = ((is f).0 c).0 in omega arith, ((is f).0 c).1), from)
   where
     not_here : f.0 ≡ i → IsVisited visited f → ⊥
     not_here same m =
-        let here : slice_get visited f.0 ≡ Some false = ap (slice_get visited) same ∙ slice_get-get_or visited i false h ∙ ap Some e in
+        let here : slice_get visited f.0 ≡ Some false = ap (slice_get visited) same
+        ∙ slice_get-get_or visited i false h ∙ ap Some e in
         let one : true ≡ false = same_Some true false (sym m ∙ here) in
         cc
 
@@ -223,5 +272,13 @@ found_none visited found i h e is f = (λ c. (let old : f.0 < i = ((is f).0 c).0
     ]
 
 -- all were looked at
-pub found_all : (visited : List Bool) (found : List ProcId) (i : ℕ) → length visited ≤ i → IsFound visited found i → (f : ProcId) → Contains found f ↔ IsVisited visited f
-found_all visited found i past is f = (λ c. ((is f).0 c).1, λ m. (is f).1 (let below : f.0 < length visited = slice_get_within visited f.0 true m in omega arith, m))
+pub found_all : (visited : List Bool) (found : List ProcId) (i : ℕ) → length visited ≤ i
+    → IsFound visited found i → (f : ProcId) → Contains found f ↔ IsVisited visited f
+found_all visited found i past is f = (
+  λ c. ((is f).0 c).1,
+  λ m. (is f).1 (
+    let below : f.0 < length visited = slice_get_within visited f.0
+        true m in omega arith,
+    m,
+  ),
+)

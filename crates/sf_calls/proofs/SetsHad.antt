@@ -20,14 +20,20 @@ use Rattle.sf_calls.proofs.Had.{IsHad, had_decidable, had_exactly, had_once, had
 use Rattle.sf_calls.proofs.SetsDecidable.{takes_decidable, holds_decidable, free_decidable}
 
 -- that a list is such a set
-set_had : {A : Type 0} (same : A → A → Bool) → ((x y : A) → Decides (same x y) (x ≡ y)) → (B : A → A → Type 0) → ((x y : A) → IsHad (B x y)) → (P : A → Type 0) → ((x : A) → IsDecidable (P x)) → (xs : List A) → IsHad (IsSetOf B P xs)
+set_had : {A : Type 0} (same : A → A → Bool) → ((x y : A) → Decides (same x y) (x ≡ y))
+    → (B : A → A → Type 0) → ((x y : A) → IsHad (B x y)) → (P : A → Type 0) → ((x : A) → IsDecidable (P x))
+    → (xs : List A) → IsHad (IsSetOf B P xs)
 set_had same is B order P tell xs h = record {
   ordered = had_pairs B order xs (∥∥₁_map h (λ s. s.ordered));
-  members = λ x. had_exactly (had_decidable (decidable_by _ (contains-decides same is xs x))) (had_decidable (tell x)) (∥∥₁_map h (λ s. s.members x));
+  members =
+      λ x. had_exactly (had_decidable (decidable_by _ (contains-decides same is xs x)))
+      (had_decidable (tell x)) (∥∥₁_map h (λ s. s.members x));
 }
 
 -- that lists are such sets, each for its procedure
-family_had : {A : Type 0} (Is : (A → Type 0) → List A → Type 0) (P : ProcId → A → Type 0) → ((f : ProcId) (xs : List A) → IsHad (Is (P f) xs)) → (count : ℕ) (sets : List (List A)) → IsHad (IsFamily Is P count sets)
+family_had : {A : Type 0} (Is : (A → Type 0) → List A → Type 0) (P : ProcId → A → Type 0)
+    → ((f : ProcId) (xs : List A) → IsHad (Is (P f) xs)) → (count : ℕ) (sets : List (List A))
+    → IsHad (IsFamily Is P count sets)
 family_had Is P had count sets h = record {
   each = had_once (ℕ_set _ _) (∥∥₁_map h (λ s. s.each));
   is = λ f xs here. had f xs (∥∥₁_map h (λ s. s.is f xs here));
@@ -44,7 +50,16 @@ earlier_resource_had r q = had_decidable (decidable_by _ (Decides-ltb r.0 q.0))
 -- that sets are the program's
 pub sets_had : SetsFromTruncation
 sets_had p sets h = record {
-  takes = family_had _ (Takes p) (λ f. set_had (λ r q. r.0 == q.0) same_resource IsEarlierResource earlier_resource_had (Takes p f) (takes_decidable p f)) _ sets.takes (∥∥₁_map h (λ s. s.takes));
-  holds = family_had _ (HeldBy p) (λ f. set_had (λ r q. r.0 == q.0) same_resource IsEarlierResource earlier_resource_had (HeldBy p f) (holds_decidable p f)) _ sets.holds (∥∥₁_map h (λ s. s.holds));
-  free = family_had _ (Free p) (λ f. set_had same_var var_is IsEarlier earlier_had (Free p f) (free_decidable p f)) _ sets.free (∥∥₁_map h (λ s. s.free));
+  takes =
+      family_had _ (Takes p)
+      (λ f. set_had (λ r q. r.0 == q.0) same_resource IsEarlierResource earlier_resource_had (Takes p f)
+      (takes_decidable p f)) _ sets.takes (∥∥₁_map h (λ s. s.takes));
+  holds =
+      family_had _ (HeldBy p)
+      (λ f. set_had (λ r q. r.0 == q.0) same_resource IsEarlierResource earlier_resource_had
+      (HeldBy p f) (holds_decidable p f)) _ sets.holds (∥∥₁_map h (λ s. s.holds));
+  free =
+      family_had _ (Free p)
+      (λ f. set_had same_var var_is IsEarlier earlier_had (Free p f) (free_decidable p f)) _ sets.free
+      (∥∥₁_map h (λ s. s.free));
 }

@@ -1,4 +1,4 @@
--- Around: where one stands in a procedure's body, what is held there, and what parallel calls share.
+-- Around: where one is in a procedure's body, what is held there, and what parallel calls share.
 -- After the variable conditions of Berdine, Calcagno and O'Hearn, "Smallfoot" (2005).
 use Rattle.std.specs.Prelude.{◌⊎◌, List, ◌∷◌, Contains}
 use Rattle.sf_base.specs.declared.ids.ProcId.{ProcId}
@@ -10,7 +10,7 @@ use Rattle.sf_core.specs.Program.Syntax.{Call, Program}
 use Rattle.sf_calls.specs.Assigned.{MayChange}
 use Rattle.sf_calls.specs.Outside.{OccursInValues}
 
--- where one stands: in the body of f, inside regions of those resources
+-- where one is: in the body of f, inside regions of those resources
 pub record Around : Type 0 where
   pub program : Program
   pub procedure : ProcId

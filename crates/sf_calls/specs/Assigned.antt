@@ -1,5 +1,6 @@
 -- Assigned: the variables that a command may change.
--- The modified variables of Hoare logic, where a call changes the variables that its references name and those that are free in its procedure.
+-- The modified variables of Hoare logic, where a call changes the variables that its references name and
+-- those that are free in its procedure.
 use Rattle.std.specs.Prelude.{◌≡◌, ◌⊎◌}
 use Rattle.sf_base.specs.declared.ids.Var.{Var}
 use Rattle.sf_core.specs.Program.Formed.{CommandWithin}

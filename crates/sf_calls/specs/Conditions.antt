@@ -1,4 +1,5 @@
--- What a call of a procedure may enter and use: the least sets on which the conditions on variables stand. The resources that it holds are HeldBy's.
+-- What a call of a procedure may enter and use: the least sets on which the conditions on variables
+-- rest. The resources that it holds are HeldBy's.
 -- After the variable conditions of Berdine, Calcagno and O'Hearn, "Smallfoot" (2005), carried along calls.
 use Rattle.std.specs.Prelude.{◌≡◌, ◌⊎◌, Option, Some, None, slice_get}
 use Rattle.sf_base.specs.declared.ids.ProcId.{ProcId}
@@ -22,9 +23,10 @@ Calls p but f g = Has p (λ h. CallsIn but g h.body) f
 abbrev pub Enters : Program → ResId → ProcId → Type 0
 Enters p r f = Has p (λ h. EntersIn r h.body) f
 
--- x stands in f's pre or post, or in its body outside the regions of its resource
+-- x occurs in f's pre or post, or in its body outside the regions of its resource
 abbrev pub Mentions : Program → Var → ProcId → Type 0
-Mentions p x f = Has p (λ h. VarOccursIn h.pre.level x ⊎ (VarOccursIn h.post.level x ⊎ OccursOutside x h.body)) f
+Mentions p x f =
+    Has p (λ h. VarOccursIn h.pre.level x ⊎ (VarOccursIn h.post.level x ⊎ OccursOutside x h.body)) f
 
 -- Takes: f's body has a region of r, or f calls a procedure that takes r
 abbrev pub Takes : Program → ProcId → ResId → Type 0
@@ -39,6 +41,7 @@ IsShared (Shared r i) = Unit {0}
 abbrev pub FreeIn : Program → ProcId → Var → Type 0
 FreeIn p f x = Reaches (Mentions p x) (Calls p (owner x)) f
 
--- Free: a resource's variable that f mentions, or that is free in a procedure which f calls outside the regions of its resource
+-- Free: a resource's variable that f mentions, or that is free in a procedure which f calls outside the
+-- regions of its resource
 abbrev pub Free : Program → ProcId → Var → Type 0
 Free p f x = IsShared x × FreeIn p f x

@@ -1,5 +1,6 @@
 -- First: of questions in order, the first that finds something.
--- Ordinary: a lexicographic choice. A question relates to None where it finds nothing, and to Some b where b is what it finds.
+-- Ordinary: a lexicographic choice. A question relates to None where it finds nothing, and to Some b
+-- where b is what it finds.
 use Rattle.std.specs.Prelude.{◌≡◌, ◌⊎◌, List, [], ◌∷◌, Option, Some, None}
 
 -- it finds nothing

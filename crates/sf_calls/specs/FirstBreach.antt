@@ -1,5 +1,8 @@
--- FirstBreach: the first place where a program breaks the conditions on variables, in file order, and in text order within a body.
--- After the variable conditions of Berdine, Calcagno and O'Hearn, "Smallfoot" (2005). At one command, without those inside it, the kinds come in the order in which Breach lists them. That it is a breach at all, Breaks says without any order.
+-- FirstBreach: the first place where a program breaks the conditions on variables, in file order, and in
+-- text order within a body.
+-- After the variable conditions of Berdine, Calcagno and O'Hearn, "Smallfoot" (2005). At one command,
+-- without those inside it, the kinds come in the order in which Breach lists them. That it is a breach
+-- at all, Breaks says without any order.
 use Rattle.std.specs.Prelude.{◌≡◌, ◌⊎◌, ℕ, suc, List, [], ◌∷◌, ◌++◌, Option, Some, None, Contains}
 use Rattle.sf_base.specs.declared.ids.ProcId.{ProcId}
 use Rattle.sf_base.specs.declared.ids.ResId.{ResId}
@@ -69,29 +72,36 @@ abbrev mutual
   -- in one conjunct: in its root and fields, its sides, or its test and then its branches
   pub UnheldInConjunct : Around → Conjunct Expr → Option Breach → Type 0
   UnheldInConjunct a (holds place t) r = UnheldInTest (UnheldInOperand a) t r
-  UnheldInConjunct a (points place root fs) r = first (UnheldInOperand a root) (first_of (λ f. UnheldInOperand a f.1) fs) r
+  UnheldInConjunct a (points place root fs) r =
+      first (UnheldInOperand a root) (first_of (λ f. UnheldInOperand a f.1) fs) r
   UnheldInConjunct a (segment place next from to) r = first (UnheldInOperand a from) (UnheldInOperand a to) r
   UnheldInConjunct a (tree place left right root) r = UnheldInOperand a root r
-  UnheldInConjunct a (choose place t this that) r = first (UnheldInTest (UnheldInOperand a) t) (first (UnheldInLevel a this) (UnheldInLevel a that)) r
+  UnheldInConjunct a (choose place t this that) r =
+      first (UnheldInTest (UnheldInOperand a) t) (first (UnheldInLevel a this) (UnheldInLevel a that)) r
 
--- a call whose procedure has a variable free that is not held, at its name; then what stands in it
+-- a call whose procedure has a variable free that is not held, at its name; then what occurs in it
 abbrev pub UnheldInCall : Around → Call → Option Breach → Type 0
 UnheldInCall a c r =
-    first (first_of (λ x. where_ (Free a.program c.callee x × IsUnheld a x) (NotHeld c.place x)) (variables_from 0 a.program.resources))
+    first (first_of (λ x. where_ (Free a.program c.callee x × IsUnheld a x) (NotHeld c.place x))
+    (variables_from 0 a.program.resources))
     (first (first_of (UnheldAt a) c.references) (first_of (UnheldInExpr a) c.values)) r
 
 -- a call whose procedure takes a resource that is held
 abbrev pub ReentersByCall : Around → Call → Option Breach → Type 0
-ReentersByCall a c r = first_of (λ q. where_ (Takes a.program c.callee q × IsHeld a q) (Reentered c.place q)) (resources_from 0 a.program.resources) r
+ReentersByCall a c r =
+    first_of (λ q. where_ (Takes a.program c.callee q × IsHeld a q) (Reentered c.place q))
+    (resources_from 0 a.program.resources) r
 
 -- a reference that names what one before it does
 abbrev pub Repeats : (before : List Var) → List Occurrence → Option Breach → Type 0
 Repeats before [] r = nothing r
-Repeats before (x ∷ xs) r = first (where_ (Contains before x.var) (SameReference x.place x.var)) (Repeats (x.var ∷ before) xs) r
+Repeats before (x ∷ xs) r =
+    first (where_ (Contains before x.var) (SameReference x.place x.var)) (Repeats (x.var ∷ before) xs) r
 
 -- a reference that is free in the procedure that is called
 abbrev pub PassesFree : Program → Call → Option Breach → Type 0
-PassesFree p c r = first_of (λ x. where_ (Free p c.callee x.var) (ReferenceIsFree x.place x.var)) c.references r
+PassesFree p c r =
+    first_of (λ x. where_ (Free p c.callee x.var) (ReferenceIsFree x.place x.var)) c.references r
 
 -- the variables that references and values name, in text order
 abbrev pub named_in : List Occurrence → List Expr → List Var
@@ -101,14 +111,15 @@ named_in [] (Nil ∷ es) = named_in [] es
 named_in [] (Int i ∷ es) = named_in [] es
 named_in (x ∷ xs) es = x.var ∷ named_in xs es
 
--- two calls that share: those that stand in their text come first, then the others in file order
+-- two calls that share: those that occur in their text come first, then the others in file order
 abbrev pub SharesInFork : Program → (left right : Call) → Option Breach → Type 0
 SharesInFork p c d r =
-    first_of (λ x. where_ (Shares p c d x) (ParallelShares c.place x)) (named_in c.references c.values ++ named_in d.references d.values ++ variables_from 0 p.resources) r
+    first_of (λ x. where_ (Shares p c d x) (ParallelShares c.place x))
+    (named_in c.references c.values ++ named_in d.references d.values ++ variables_from 0 p.resources) r
 
 -- in commands, in text order
 abbrev mutual
-  -- in a block: in a command before those behind it
+  -- in a block: in a command before those after it
   pub InBlock : Around → Block → Option Breach → Type 0
   InBlock a done r = nothing r
   InBlock a (then c b) r = first (InCommand a c) (InBlock a b) r
@@ -121,22 +132,30 @@ abbrev mutual
   InCommand a (new q x) r = UnheldAt a x r
   InCommand a (dispose q e) r = UnheldInExpr a e r
   InCommand a (if q t c d) r = first (UnheldInTest (UnheldInExpr a) t) (first (InBlock a c) (InBlock a d)) r
-  InCommand a (while q t i c) r = first (UnheldInTest (UnheldInExpr a) t) (first (UnheldInLevel a i.level) (InBlock a c)) r
-  InCommand a (call q c) r = first (UnheldInCall a c) (first (ReentersByCall a c) (first (Repeats [] c.references) (PassesFree a.program c))) r
+  InCommand a (while q t i c) r =
+      first (UnheldInTest (UnheldInExpr a) t) (first (UnheldInLevel a i.level) (InBlock a c)) r
+  InCommand a (call q c) r =
+      first (UnheldInCall a c)
+      (first (ReentersByCall a c) (first (Repeats [] c.references) (PassesFree a.program c))) r
   InCommand a (fork q c d) r =
       first (first (UnheldInCall a c) (UnheldInCall a d)) (
       first (first (ReentersByCall a c) (ReentersByCall a d)) (
       first (first (Repeats [] c.references) (Repeats [] d.references)) (
       first (first (PassesFree a.program c) (PassesFree a.program d)) (SharesInFork a.program c d)))) r
-  InCommand a (with q s t c) r = first (UnheldInTest (UnheldInExpr (inside s a)) t) (first (where_ (IsHeld a s) (Reentered q s)) (InBlock (inside s a) c)) r
+  InCommand a (with q s t c) r =
+      first (UnheldInTest (UnheldInExpr (inside s a)) t)
+      (first (where_ (IsHeld a s) (Reentered q s)) (InBlock (inside s a) c)) r
 
 -- the procedures in file order, the next one having that number; what is found is told with its procedure
 abbrev pub InProcedures : Program → ℕ → List Procedure → Option (ProcId × Breach) → Type 0
 InProcedures p k [] r = nothing r
-InProcedures p k (h ∷ hs) None = InBlock (record { program = p; procedure = record { 0 = k }; entered = [] }) h.body None × InProcedures p (suc k) hs None
+InProcedures p k (h ∷ hs) None =
+    InBlock (record { program = p; procedure = record { 0 = k }; entered = [] }) h.body None
+    × InProcedures p (suc k) hs None
 InProcedures p k (h ∷ hs) (Some (f, b)) =
     ((f.0 ≡ k) × InBlock (record { program = p; procedure = record { 0 = k }; entered = [] }) h.body (Some b))
-    ⊎ (InBlock (record { program = p; procedure = record { 0 = k }; entered = [] }) h.body None × InProcedures p (suc k) hs (Some (f, b)))
+    ⊎ (InBlock (record { program = p; procedure = record { 0 = k }; entered = [] }) h.body None
+    × InProcedures p (suc k) hs (Some (f, b)))
 
 -- FirstBreach: the procedure and its breach that come first; None where no condition is broken
 abbrev pub FirstBreach : Program → Option (ProcId × Breach) → Type 0

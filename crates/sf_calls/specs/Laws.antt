@@ -1,5 +1,7 @@
--- The sets are least: closed under their rules, and contained in every family that is; and they are there. And what a type keeps truncated is had.
--- What an inductive definition states, after Tarski, "A lattice-theoretical fixpoint theorem" (1955). Families are given by tests.
+-- The sets are least: closed under their rules, and contained in every family that is; and they are
+-- there. And what a type keeps truncated is had.
+-- What an inductive definition states, after Tarski, "A lattice-theoretical fixpoint theorem" (1955).
+-- Families are given by tests.
 use Rattle.std.specs.Prelude.{◌≡◌, Bool, IsTrue, Option, Some, None}
 use Rattle.sf_base.specs.declared.ids.ProcId.{ProcId}
 use Rattle.sf_base.specs.declared.ids.ResId.{ResId}
@@ -26,12 +28,14 @@ pub record IsFreeClosed (p : Program) (T : ProcId → Var → Type 0) : Type 0 w
 -- Takes is closed, and contained in every closed family
 pub record TakesIsLeast : Type 0 where
   pub closed : (p : Program) → IsTakesClosed p (Takes p)
-  pub least : (p : Program) (T : ProcId → ResId → Bool) → IsTakesClosed p (λ f r. IsTrue (T f r)) → (f : ProcId) (r : ResId) → Takes p f r → IsTrue (T f r)
+  pub least : (p : Program) (T : ProcId → ResId → Bool) → IsTakesClosed p (λ f r. IsTrue (T f r))
+      → (f : ProcId) (r : ResId) → Takes p f r → IsTrue (T f r)
 
 -- Free is closed, and contained in every closed family
 pub record FreeIsLeast : Type 0 where
   pub closed : (p : Program) → IsFreeClosed p (Free p)
-  pub least : (p : Program) (T : ProcId → Var → Bool) → IsFreeClosed p (λ f x. IsTrue (T f x)) → (f : ProcId) (x : Var) → Free p f x → IsTrue (T f x)
+  pub least : (p : Program) (T : ProcId → Var → Bool) → IsFreeClosed p (λ f x. IsTrue (T f x))
+      → (f : ProcId) (x : Var) → Free p f x → IsTrue (T f x)
 
 -- a program that is in order has its sets
 abbrev pub SetsExist : Type 0
@@ -39,9 +43,11 @@ SetsExist = (p : Program) → IsFormed p → (sets : Sets) × AreSetsOf p sets
 
 -- a program has one first breach, or none
 abbrev pub FirstBreachIsUnique : Type 0
-FirstBreachIsUnique = (p : Program) (r q : Option (ProcId × Breach)) → FirstBreach p r → FirstBreach p q → r ≡ q
+FirstBreachIsUnique =
+    (p : Program) (r q : Option (ProcId × Breach)) → FirstBreach p r → FirstBreach p q → r ≡ q
 
--- of a program that is in order: what comes first is broken, and no condition is broken exactly where none comes first
+-- of a program that is in order: what comes first is broken, and no condition is broken exactly where
+-- none comes first
 pub record BreachesAreFound (p : Program) : Type 0 where
   pub found : (f : ProcId) (b : Breach) → FirstBreach p (Some (f, b)) → Breaks p f b
   pub kept : Conditions p → (f : ProcId) (b : Breach) → Breaks p f b → ⊥

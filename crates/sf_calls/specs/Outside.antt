@@ -1,5 +1,7 @@
--- What stands in commands: the regions that they enter, and, outside the regions of a resource, the variables and the calls.
--- After the variable conditions of Berdine, Calcagno and O'Hearn, "Smallfoot" (2005). The condition of a region counts as inside it.
+-- What occurs in commands: the regions that they enter, and, outside the regions of a resource, the
+-- variables and the calls.
+-- After the variable conditions of Berdine, Calcagno and O'Hearn, "Smallfoot" (2005). The condition of a
+-- region counts as inside it.
 use Rattle.std.specs.Prelude.{◌≡◌, ◌≢◌, ◌⊎◌, List, [], ◌∷◌, Option, Some, None}
 use Rattle.sf_base.specs.declared.ids.ProcId.{ProcId}
 use Rattle.sf_base.specs.declared.ids.ResId.{ResId}
@@ -23,13 +25,13 @@ abbrev pub IsOther : Option ResId → ResId → Type 0
 IsOther None q = Unit {0}
 IsOther (Some r) q = q ≢ r
 
--- the variable stands in an expression
+-- the variable occurs in an expression
 abbrev pub OccursInExpr : Var → Expr → Type 0
 OccursInExpr x (Variable y) = y.var ≡ x
 OccursInExpr x Nil = ⊥
 OccursInExpr x (Int i) = ⊥
 
--- the variable stands in a test of commands
+-- the variable occurs in a test of commands
 abbrev pub OccursInTest : Var → Test Expr → Type 0
 OccursInTest x True = ⊥
 OccursInTest x (Equal a b) = OccursInExpr x a ⊎ OccursInExpr x b
@@ -40,16 +42,16 @@ abbrev pub IsAmong : Var → List Occurrence → Type 0
 IsAmong x [] = ⊥
 IsAmong x (y ∷ ys) = (y.var ≡ x) ⊎ IsAmong x ys
 
--- the variable stands in one of those values
+-- the variable occurs in one of those values
 abbrev pub OccursInValues : Var → List Expr → Type 0
 OccursInValues x [] = ⊥
 OccursInValues x (e ∷ es) = OccursInExpr x e ⊎ OccursInValues x es
 
--- the variable stands in a call
+-- the variable occurs in a call
 abbrev pub OccursInCall : Var → Call → Type 0
 OccursInCall x c = IsAmong x c.references ⊎ OccursInValues x c.values
 
--- the variable stands in the commands outside the regions of its resource
+-- the variable occurs in the commands outside the regions of its resource
 abbrev mutual
   -- in one of the commands of a block
   pub OccursOutside : Var → Block → Type 0

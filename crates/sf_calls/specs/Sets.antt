@@ -13,7 +13,8 @@ use Rattle.sf_calls.specs.Conditions.{Takes, Free}
 abbrev pub IsEarlierResource : ResId → ResId → Type 0
 IsEarlierResource r q = r.0 < q.0
 
--- own variables by their numbers, and behind them those of resources, by the resource and then by their numbers there
+-- own variables by their numbers, and after them those of resources, by the resource and then by their
+-- numbers there
 abbrev pub IsEarlier : Var → Var → Type 0
 IsEarlier (Own m) (Own n) = m < n
 IsEarlier (Own m) (Shared q j) = Unit {0}
@@ -40,7 +41,8 @@ pub record Sets : Type 0 where
   pub free : List (List Var)
 
 -- for each procedure there is one list, and it is that set
-pub record IsFamily {A : Type 0} (Is : (A → Type 0) → List A → Type 0) (P : ProcId → A → Type 0) (count : ℕ) (sets : List (List A)) : Type 0 where
+pub record IsFamily {A : Type 0} (Is : (A → Type 0) → List A → Type 0) (P : ProcId → A → Type 0) (count : ℕ)
+    (sets : List (List A)) : Type 0 where
   pub each : length sets ≡ count
   pub is : (f : ProcId) (xs : List A) → slice_get sets f.0 ≡ Some xs → Is (P f) xs
 

@@ -14,7 +14,7 @@ use sf_core::Program;
 use std::alloc::{AllocError, Global};
 
 /// For each procedure those that call it outside the regions of the resource that is left out. An
-/// `Err` is want of memory.
+/// `Err` means that memory ran out.
 pub fn callers_of(
     alloc: Global,
     but: Option<ResId>,
@@ -53,7 +53,7 @@ pub fn callers_after(
     Ok(callers)
 }
 
-/// Whether a call stands inside a region of the resource that is left out.
+/// Whether a call is inside a region of the resource that is left out.
 fn has_calls_inside(but: Option<ResId>, summaries: &[Summary]) -> bool
     ensures { result ≡ left_out_has_calls_inside but summaries.now }
 {
@@ -63,7 +63,7 @@ fn has_calls_inside(but: Option<ResId>, summaries: &[Summary]) -> bool
     }
 }
 
-/// Whether a call stands inside a region of the resource.
+/// Whether a call is inside a region of the resource.
 fn any_has_calls_inside(r: ResId, summaries: &[Summary]) -> bool
     ensures { result ≡ has_calls_inside r summaries.now }
 {
@@ -106,7 +106,8 @@ fn add_caller(
 ) -> Result<(), AllocError>
     requires { All (λ g. g.0 < length callers.old.items) callees.now }
     ensures size { OnOk result (length callers.new.items ≡ length callers.old.items) }
-    ensures more { OnOk result ((h g : ProcId) → IsCaller callers.new.items h g ↔ (IsCaller callers.old.items h g ⊎ ((h ≡ f) × Contains callees.now g))) }
+    ensures more { OnOk result ((h g : ProcId) → IsCaller callers.new.items h g
+        ↔ (IsCaller callers.old.items h g ⊎ ((h ≡ f) × Contains callees.now g))) }
 {
     for g in callees {
         add_one_caller(f, *g, callers)?;
@@ -119,7 +120,8 @@ fn add_caller(
 fn add_one_caller(f: ProcId, g: ProcId, callers: &mut Vec<Vec<ProcId>>) -> Result<(), AllocError>
     requires { g.0 < length callers.old.items }
     ensures size { OnOk result (length callers.new.items ≡ length callers.old.items) }
-    ensures more { OnOk result ((h k : ProcId) → IsCaller callers.new.items h k ↔ (IsCaller callers.old.items h k ⊎ ((h ≡ f) × (k ≡ g)))) }
+    ensures more { OnOk result ((h k : ProcId) → IsCaller callers.new.items h k
+        ↔ (IsCaller callers.old.items h k ⊎ ((h ≡ f) × (k ≡ g)))) }
 {
     if ends_in(&callers[g.0 as usize], f) {
         return Ok(());

@@ -37,7 +37,7 @@ impl Calls {
         &self.takes[f.0 as usize]
     }
 
-    /// The resources whose variables stand in the procedure's pre or post. There is such a
+    /// The resources whose variables occur in the procedure's pre or post. There is such a
     /// procedure.
     pub fn holds(&self, f: ProcId) -> &ResSet
         requires { f.0 < length self.now.holds }
@@ -46,7 +46,7 @@ impl Calls {
         &self.holds[f.0 as usize]
     }
 
-    /// The variables of resources that stand in the procedure's pre or post, or that it uses outside
+    /// The variables of resources that occur in the procedure's pre or post, or that it uses outside
     /// the regions of their resources, itself or by its calls there. There is such a procedure.
     pub fn free(&self, f: ProcId) -> &VarSet
         requires { f.0 < length self.now.free }

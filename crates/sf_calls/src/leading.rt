@@ -9,7 +9,7 @@ use sf_base::ProcId;
 use std::alloc::{AllocError, Global};
 
 /// Visited what reaches to a visited procedure by calls, by a search backwards along the calls: each
-/// procedure is queued once, and each call is looked at once. An `Err` is want of memory.
+/// procedure is queued once, and each call is looked at once. An `Err` means that memory ran out.
 pub fn leading(
     alloc: Global,
     direct: Vec<bool>,
@@ -19,7 +19,8 @@ pub fn leading(
     requires size { length direct.items ≡ length callers.now }
     requires within { (f g : ProcId) → IsCaller callers.now f g → f.0 < length callers.now }
     ensures size { IfOk result (λ visited. length visited.items ≡ length callers.now) }
-    ensures members { IfOk result (λ visited. (f : ProcId) → IsVisited visited.items f ↔ Reaches (IsVisited direct.items) (IsCaller callers.now) f) }
+    ensures members { IfOk result (λ visited. (f : ProcId) → IsVisited visited.items f
+        ↔ Reaches (IsVisited direct.items) (IsCaller callers.now) f) }
 {
     let mut queue = visited_procedures(alloc, &direct)?;
     let mut visited = direct;
@@ -61,7 +62,8 @@ fn visit_all(
 /// Visited one procedure, and queues it if it was not visited yet.
 fn visit(f: ProcId, visited: &mut Vec<bool>, queue: &mut Vec<ProcId>) -> Result<(), AllocError>
     requires { f.0 < length visited.old.items }
-    ensures { OnOk result (VisitsMore (f ∷ []) visited.old.items queue.old.items visited.new.items queue.new.items) }
+    ensures { OnOk result (VisitsMore (f
+        ∷ []) visited.old.items queue.old.items visited.new.items queue.new.items) }
 {
     if !visited[f.0 as usize] {
         visited[f.0 as usize] = true;
@@ -70,7 +72,7 @@ fn visit(f: ProcId, visited: &mut Vec<bool>, queue: &mut Vec<ProcId>) -> Result<
     Ok(())
 }
 
-/// Those procedures, each once. An `Err` is want of memory.
+/// Those procedures, each once. An `Err` means that memory ran out.
 pub fn distinct(alloc: Global, count: usize, fs: &[ProcId]) -> Result<Vec<ProcId>, AllocError>
     requires { All (λ f. f.0 < count) fs.now }
     ensures members { IfOk result (λ gs. (f : ProcId) → Contains gs.items f ↔ Contains fs.now f) }

@@ -1,5 +1,5 @@
 //! What a call of a procedure may enter, hold and use: the least sets on which the conditions on
-//! variables stand.
+//! variables rest.
 #![tactic(auto)]
 
 mod assigned;

@@ -1,4 +1,4 @@
-//! Whether a variable stands in the arguments of a call.
+//! Whether a variable occurs in the arguments of a call.
 
 ghost use Rattle.std.specs.Prelude.{◌≡◌};
 ghost use Rattle.sf_calls.specs.Internal.Tests.{same_var, in_expr, in_references, in_values};
@@ -13,7 +13,7 @@ pub fn is_same(x: Var, y: Var) -> bool
     x == y
 }
 
-/// Whether the variable stands in the expression.
+/// Whether the variable occurs in the expression.
 pub fn in_expr(x: Var, e: &Expr) -> bool
     ensures { result ≡ in_expr x e.now }
 {
@@ -36,7 +36,7 @@ pub fn in_references(x: Var, references: &[Occurrence]) -> bool
     false
 }
 
-/// Whether the variable stands in one of those values.
+/// Whether the variable occurs in one of those values.
 pub fn in_values(x: Var, values: &[Expr]) -> bool
     ensures { result ≡ in_values x values.now }
 {

@@ -1,4 +1,4 @@
-//! The calls that stand in commands outside the regions of a resource.
+//! The calls that occur in commands outside the regions of a resource.
 
 ghost use Rattle.std.specs.Prelude.{◌≡◌};
 ghost use Rattle.sf_base.specs.Results.{Appends};
@@ -31,7 +31,7 @@ fn is_other(but: Option<ResId>, q: ResId) -> bool
 }
 
 /// Appends the procedures that the commands call outside the regions of the resource that is left
-/// out, in text order. An `Err` is want of memory.
+/// out, in text order. An `Err` means that memory ran out.
 #[cycle(callees)]
 pub fn add_callees(
     but: Option<ResId>,
@@ -46,7 +46,7 @@ pub fn add_callees(
     Ok(())
 }
 
-/// Appends those that one command calls. An `Err` is want of memory.
+/// Appends those that one command calls. An `Err` means that memory ran out.
 #[cycle(callees)]
 pub fn add_callees_of(
     but: Option<ResId>,

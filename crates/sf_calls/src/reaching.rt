@@ -19,7 +19,7 @@ use sf_core::Program;
 use std::alloc::{AllocError, Global};
 
 /// For each procedure what calls of it may enter, what it holds, and what is free in it. An `Err`
-/// is want of memory, and comes for nothing else.
+/// means that memory ran out, and comes for nothing else.
 pub fn reach(alloc: Global, p: &Program) -> Result<Calls, AllocError>
     ensures { IfOk result (λ calls. AreSetsOf (program_of p.now) calls) }
 {
@@ -41,7 +41,9 @@ fn takes_sets(
 ) -> Result<Vec<ResSet>, AllocError>
     requires summaries { AreSummaries (program_of p.now) summaries.now }
     requires keys { IsSetOf IsEarlierResource (λ r. r.0 < length p.now.resources.items) resources.now }
-    ensures { IfOk result (λ sets. IsFamily IsResSet (Takes (program_of p.now)) (length (program_of p.now).procedures) sets.items) }
+    ensures { IfOk result (λ sets.
+        IsFamily IsResSet (Takes (program_of p.now))
+        (length (program_of p.now).procedures) sets.items) }
 {
     let rows = takes_rows(alloc, p, summaries, resources)?;
     sets(alloc, resources, &rows, p.procedures.len())
@@ -56,7 +58,9 @@ fn holds_sets(
 ) -> Result<Vec<ResSet>, AllocError>
     requires summaries { AreSummaries (program_of p.now) summaries.now }
     requires keys { IsSetOf IsEarlierResource (λ r. r.0 < length p.now.resources.items) resources.now }
-    ensures { IfOk result (λ sets. IsFamily IsResSet (HeldBy (program_of p.now)) (length (program_of p.now).procedures) sets.items) }
+    ensures { IfOk result (λ sets.
+        IsFamily IsResSet (HeldBy (program_of p.now))
+        (length (program_of p.now).procedures) sets.items) }
 {
     let rows = holds_rows(alloc, p, summaries, resources)?;
     sets(alloc, resources, &rows, p.procedures.len())
@@ -70,8 +74,12 @@ fn free_sets(
     variables: &[Var],
 ) -> Result<Vec<VarSet>, AllocError>
     requires summaries { AreSummaries (program_of p.now) summaries.now }
-    requires keys { IsSetOf IsEarlier (IsUpTo (λ k. variable_count (slice_get (program_of p.now).resources k)) (length p.now.resources.items) 0) variables.now }
-    ensures { IfOk result (λ sets. IsFamily IsVarSet (Free (program_of p.now)) (length (program_of p.now).procedures) sets.items) }
+    requires keys { IsSetOf IsEarlier
+        (IsUpTo (λ k. variable_count (slice_get (program_of p.now).resources k))
+        (length p.now.resources.items) 0) variables.now }
+    ensures { IfOk result (λ sets.
+        IsFamily IsVarSet (Free (program_of p.now))
+        (length (program_of p.now).procedures) sets.items) }
 {
     let rows = free_rows(alloc, p, summaries, variables)?;
     sets(alloc, variables, &rows, p.procedures.len())

@@ -1,4 +1,4 @@
-//! The regions that commands have, and whether calls stand inside them.
+//! The regions that commands have, and whether calls are inside them.
 
 ghost use Rattle.std.specs.Prelude.{◌≡◌, IfOk};
 ghost use Rattle.sf_base.specs.Results.{Appends};
@@ -10,7 +10,7 @@ use sf_core::Command;
 use std::alloc::AllocError;
 
 /// Appends the resources of the commands' regions, and to the others those of regions with a call
-/// inside; answers whether there is a call at all. An `Err` is want of memory.
+/// inside; answers whether there is a call at all. An `Err` means that memory ran out.
 #[cycle(regions)]
 pub fn add_regions(
     body: &[Command],

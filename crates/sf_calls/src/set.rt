@@ -15,7 +15,7 @@ pub struct Set<T> {
 /// Resources, in order of number.
 pub type ResSet = Set<ResId>;
 
-/// Variables: own ones in order of number, and behind them those of resources, by the resource and
+/// Variables: own ones in order of number, and after them those of resources, by the resource and
 /// then by their number there.
 pub type VarSet = Set<Var>;
 

@@ -1,4 +1,4 @@
-//! The variables of resources that stand in commands and assertions outside the regions of their
+//! The variables of resources that occur in commands and assertions outside the regions of their
 //! resources, in text order.
 
 ghost use Rattle.std.specs.Prelude.{◌≡◌, ◌∷◌, IfOk, map};
@@ -114,14 +114,15 @@ fn add_fields(
     Ok(())
 }
 
-/// Appends those of a level. An `Err` is want of memory.
+/// Appends those of a level. An `Err` means that memory ran out.
 #[cycle(shared_levels)]
 pub fn add_level(
     entered: &[ResId],
     level: &Level<Expr>,
     named: &mut Vec<Var>,
 ) -> Result<(), AllocError>
-    ensures { Appends result named.old.items named.new.items (shared_in_level entered.now (level_of level.now)) }
+    ensures { Appends result named.old.items named.new.items
+        (shared_in_level entered.now (level_of level.now)) }
 {
     add_conjuncts(entered, &level.conjuncts, named)?;
     Ok(())
@@ -134,7 +135,8 @@ fn add_conjuncts(
     cs: &[Conjunct<Expr>],
     named: &mut Vec<Var>,
 ) -> Result<(), AllocError>
-    ensures { Appends result named.old.items named.new.items (shared_in_conjuncts entered.now (conjuncts (map conjunct_of cs.now))) }
+    ensures { Appends result named.old.items named.new.items
+        (shared_in_conjuncts entered.now (conjuncts (map conjunct_of cs.now))) }
 {
     for c in cs {
         add_conjunct(entered, c, named)?;
@@ -149,7 +151,8 @@ fn add_conjunct(
     c: &Conjunct<Expr>,
     named: &mut Vec<Var>,
 ) -> Result<(), AllocError>
-    ensures { Appends result named.old.items named.new.items (shared_in_conjunct entered.now (conjunct_of c.now)) }
+    ensures { Appends result named.old.items named.new.items
+        (shared_in_conjunct entered.now (conjunct_of c.now)) }
 {
     match c {
         Conjunct::Holds(_, test) => {
@@ -185,7 +188,8 @@ fn add_references(
     references: &[Occurrence],
     named: &mut Vec<Var>,
 ) -> Result<(), AllocError>
-    ensures { Appends result named.old.items named.new.items (shared_in_references entered.now references.now) }
+    ensures { Appends result named.old.items named.new.items
+        (shared_in_references entered.now references.now) }
 {
     for x in references {
         add_var(entered, x.var, named)?;
@@ -205,7 +209,8 @@ fn add_values(entered: &[ResId], values: &[Expr], named: &mut Vec<Var>) -> Resul
 
 /// Appends those of a call's arguments.
 fn add_call(entered: &[ResId], call: &Call, named: &mut Vec<Var>) -> Result<(), AllocError>
-    ensures { Appends result named.old.items named.new.items (shared_in_call entered.now (call_of call.now)) }
+    ensures { Appends result named.old.items named.new.items
+        (shared_in_call entered.now (call_of call.now)) }
 {
     add_references(entered, &call.references, named)?;
     add_values(entered, &call.values, named)?;

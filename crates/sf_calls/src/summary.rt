@@ -1,4 +1,4 @@
-//! What stands in each procedure's text, for all variables and resources at once.
+//! What occurs in each procedure's text, for all variables and resources at once.
 
 ghost use Rattle.std.specs.Prelude.{Contains, IfOk};
 ghost use Rattle.sf_core.specs.Program.View.{procedure_of};
@@ -14,7 +14,7 @@ use sf_base::{ResId, Var};
 use sf_core::{Proc, Program};
 use std::alloc::{AllocError, Global};
 
-/// What stands in a procedure's text.
+/// What occurs in a procedure's text.
 #[derive(Debug, Drop)]
 pub struct Summary {
     /// The variables of resources in its pre and post.
@@ -27,7 +27,7 @@ pub struct Summary {
     pub with_calls: Vec<ResId>,
 }
 
-/// For each procedure what stands in its text. An `Err` is want of memory.
+/// For each procedure what occurs in its text. An `Err` means that memory ran out.
 pub fn summaries_of(alloc: Global, p: &Program) -> Result<Vec<Summary>, AllocError>
     ensures { IfOk result (λ summaries. AreSummaries (program_of p.now) summaries.items) }
 {
@@ -38,7 +38,7 @@ pub fn summaries_of(alloc: Global, p: &Program) -> Result<Vec<Summary>, AllocErr
     Ok(summaries)
 }
 
-/// What stands in the procedure's text.
+/// What occurs in the procedure's text.
 fn summary_of(alloc: Global, h: &Proc) -> Result<Summary, AllocError>
     ensures { IfOk result (IsSummaryOf (procedure_of h.now)) }
 {

@@ -17,7 +17,7 @@ use sf_base::{ResId, Var};
 use sf_core::Program;
 use std::alloc::{AllocError, Global};
 
-/// For each of those resources, which procedures take it. An `Err` is want of memory.
+/// For each of those resources, which procedures take it. An `Err` means that memory ran out.
 pub fn takes_rows(
     alloc: Global,
     p: &Program,
@@ -25,7 +25,9 @@ pub fn takes_rows(
     resources: &[ResId],
 ) -> Result<Vec<Vec<bool>>, AllocError>
     requires { AreSummaries (program_of p.now) summaries.now }
-    ensures { IfOk result (λ rows. AreRows (length p.now.procedures.items) (Takes (program_of p.now)) resources.now rows.items) }
+    ensures { IfOk result (λ rows.
+        AreRows (length p.now.procedures.items)
+        (Takes (program_of p.now)) resources.now rows.items) }
 {
     let callers = callers_of(alloc, None, p)?;
     let mut rows = Vec::with_capacity(alloc, resources.len())?;
@@ -36,7 +38,7 @@ pub fn takes_rows(
     Ok(rows)
 }
 
-/// For each of those resources, which procedures hold it. An `Err` is want of memory.
+/// For each of those resources, which procedures hold it. An `Err` means that memory ran out.
 pub fn holds_rows(
     alloc: Global,
     p: &Program,
@@ -44,7 +46,9 @@ pub fn holds_rows(
     resources: &[ResId],
 ) -> Result<Vec<Vec<bool>>, AllocError>
     requires { AreSummaries (program_of p.now) summaries.now }
-    ensures { IfOk result (λ rows. AreRows (length p.now.procedures.items) (HeldBy (program_of p.now)) resources.now rows.items) }
+    ensures { IfOk result (λ rows.
+        AreRows (length p.now.procedures.items)
+        (HeldBy (program_of p.now)) resources.now rows.items) }
 {
     let mut rows = Vec::with_capacity(alloc, resources.len())?;
     for r in resources {
@@ -53,7 +57,7 @@ pub fn holds_rows(
     Ok(rows)
 }
 
-/// For each of those variables, which procedures have it free. An `Err` is want of memory.
+/// For each of those variables, which procedures have it free. An `Err` means that memory ran out.
 pub fn free_rows(
     alloc: Global,
     p: &Program,
@@ -62,7 +66,9 @@ pub fn free_rows(
 ) -> Result<Vec<Vec<bool>>, AllocError>
     requires summaries { AreSummaries (program_of p.now) summaries.now }
     requires shared { All IsShared variables.now }
-    ensures { IfOk result (λ rows. AreRows (length p.now.procedures.items) (FreeIn (program_of p.now)) variables.now rows.items) }
+    ensures { IfOk result (λ rows.
+        AreRows (length p.now.procedures.items)
+        (FreeIn (program_of p.now)) variables.now rows.items) }
 {
     let mut last = None;
     let mut callers = callers_of(alloc, None, p)?;
@@ -84,7 +90,8 @@ fn entering(
     r: ResId,
 ) -> Result<Vec<bool>, AllocError>
     requires { AreSummaries (program_of p.now) summaries.now }
-    ensures { IfOk result (λ row. IsRow (length p.now.procedures.items) (Enters (program_of p.now) r) row.items) }
+    ensures { IfOk result (λ row.
+        IsRow (length p.now.procedures.items) (Enters (program_of p.now) r) row.items) }
 {
     let mut visited = Vec::with_capacity(alloc, p.procedures.len())?;
     for t in summaries {
@@ -102,7 +109,8 @@ fn mentioning(
 ) -> Result<Vec<bool>, AllocError>
     requires summaries { AreSummaries (program_of p.now) summaries.now }
     requires shared { IsShared x }
-    ensures { IfOk result (λ row. IsRow (length p.now.procedures.items) (Mentions (program_of p.now) x) row.items) }
+    ensures { IfOk result (λ row.
+        IsRow (length p.now.procedures.items) (Mentions (program_of p.now) x) row.items) }
 {
     let mut visited = Vec::with_capacity(alloc, p.procedures.len())?;
     for t in summaries {
@@ -119,7 +127,8 @@ fn holding(
     r: ResId,
 ) -> Result<Vec<bool>, AllocError>
     requires { AreSummaries (program_of p.now) summaries.now }
-    ensures { IfOk result (λ row. IsRow (length p.now.procedures.items) (λ f. HeldBy (program_of p.now) f r) row.items) }
+    ensures { IfOk result (λ row.
+        IsRow (length p.now.procedures.items) (λ f. HeldBy (program_of p.now) f r) row.items) }
 {
     let mut visited = Vec::with_capacity(alloc, p.procedures.len())?;
     for t in summaries {
@@ -152,7 +161,8 @@ pub fn sets<T: Copy>(
     requires same { length rows.now ≡ length keys.now }
     requires long { All (λ row. count ≤ length row.items) rows.now }
     ensures size { IfOk result (λ sets. length sets.items ≡ count) }
-    ensures each { IfOk result (λ sets. (f : ℕ) (xs : List T) → slice_get sets.items f ≡ Some xs → xs ≡ chosen f keys.now rows.now) }
+    ensures each { IfOk result (λ sets. (f : ℕ) (xs : List T) → slice_get sets.items f ≡ Some xs
+        → xs ≡ chosen f keys.now rows.now) }
 {
     let mut sets = Vec::with_capacity(alloc, count)?;
     for f in 0..count {

@@ -48,7 +48,8 @@ fn empty(alloc: Global) -> Program {
 
 /// `emp`
 fn emp(alloc: Global) -> Assertion
-    ensures { assertion_of result ≡ record { names = []; level = level (record { first = 0; count = 0 }) none } }
+    ensures { assertion_of result
+        ≡ record { names = []; level = level (record { first = 0; count = 0 }) none } }
 {
     Assertion {
         names: Vec::new(alloc),
@@ -61,7 +62,14 @@ fn emp(alloc: Global) -> Assertion
 
 /// `[x == nil]`
 fn is_nil(alloc: Global, x: Var) -> Result<Assertion, AllocError>
-    ensures { IfOk result (λ a. assertion_of a ≡ record { names = []; level = level (record { first = 0; count = 0 }) (also (holds (record { line = 1; column = 1 }) (Equal (Known (Variable (record { var = x; place = record { line = 1; column = 1 } }))) (Known Nil))) none) }) }
+    ensures { IfOk result (λ a. assertion_of a
+        ≡ record {
+          names = [];
+          level = level (record { first = 0; count = 0 })
+              (also (holds (record { line = 1; column = 1 })
+              (Equal (Known (Variable (record { var = x; place = record { line = 1; column = 1 } })))
+              (Known Nil))) none);
+        }) }
 {
     let occurrence = Occurrence {
         var: x,
@@ -82,7 +90,14 @@ fn is_nil(alloc: Global, x: Var) -> Result<Assertion, AllocError>
 
 /// A resource with one variable.
 fn resource(alloc: Global, name: &str, variable: &str) -> Result<Resource, AllocError>
-    ensures { IfOk result (λ r. resource_of r ≡ record { name = name.now; variables = variable.now ∷ []; invariant = record { names = []; level = level (record { first = 0; count = 0 }) none } }) }
+    ensures { IfOk result (λ r. resource_of r
+        ≡ record {
+          name = name.now;
+          variables = variable.now
+              ∷ [];
+          invariant = record
+              { names = []; level = level (record { first = 0; count = 0 }) none };
+        }) }
 {
     Ok(Resource {
         name: Name::new(alloc, name.as_bytes())?,
@@ -98,7 +113,25 @@ fn procedure(
     pre: Assertion,
     body: Vec<Command>,
 ) -> Result<Proc, AllocError>
-    ensures { IfOk result (λ f. procedure_of f ≡ record { name = name.now; place = record { line = 1; column = 1 }; names = []; references = 0; values = 0; locals = 0; pre = assertion_of pre; post = record { names = []; level = level (record { first = 0; count = 0 }) none }; body = block_of body.items; end = record { line = 1; column = 1 } }) }
+    ensures { IfOk result (λ f. procedure_of f
+        ≡ record {
+          name = name.now;
+          place = record { line = 1; column = 1 };
+          names =
+              [];
+          references = 0;
+          values = 0;
+          locals = 0;
+          pre = assertion_of pre;
+          post = record {
+            names = [];
+            level = level
+                (record { first = 0; count = 0 }) none;
+          };
+          body = block_of body.items;
+          end = record
+              { line = 1; column = 1 };
+        }) }
 {
     Ok(Proc {
         name: Name::new(alloc, name.as_bytes())?,
@@ -131,7 +164,15 @@ fn file(alloc: Global, resources: Vec<Resource>, procedures: Vec<Proc>) -> Progr
 
 /// A call of the first procedure, without arguments.
 fn call_first(alloc: Global) -> Command
-    ensures { command_of result ≡ call (record { line = 1; column = 1 }) (record { callee = record { 0 = 0 }; place = record { line = 1; column = 1 }; references = []; values = [] }) }
+    ensures { command_of result
+        ≡ call (record { line = 1; column = 1 })
+        (record {
+          callee = record { 0 = 0 };
+          place = record
+              { line = 1; column = 1 };
+          references = [];
+          values = [];
+        }) }
 {
     let call = Call {
         callee: ProcId(0),
@@ -144,7 +185,9 @@ fn call_first(alloc: Global) -> Command
 
 /// A region of the first resource.
 fn region(body: Vec<Command>) -> Command
-    ensures { command_of result ≡ with (record { line = 1; column = 1 }) (record { 0 = 0 }) Test.True (block_of body.items) }
+    ensures { command_of result
+        ≡ with (record { line = 1; column = 1 }) (record { 0 = 0 }) Test.True
+        (block_of body.items) }
 {
     Command::With(here(), ResId(0), Test::True, body)
 }

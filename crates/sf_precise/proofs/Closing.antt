@@ -18,7 +18,12 @@ pub order_is_unique : OrderIsUnique
 order_is_unique = λ a o u i j. level-one (λ n. false) a o u i j
 
 pub order_keeps_meaning : OrderKeepsMeaning
-order_keeps_meaning = λ a o vars some heap i. (λ d. level-sat (value vars) (λ n. false) a o some heap i d, λ d. sat-level (value vars) (λ n. false) a o some heap i d)
+order_keeps_meaning =
+    λ a o vars some heap i. (
+      λ d. level-sat (value vars) (λ n. false) a o some heap i d,
+      λ d. sat-level (value vars)
+          (λ n. false) a o some heap i d,
+    )
 
 pub ordered_is_determined : OrderedIsDetermined
 ordered_is_determined = λ a o i. (ordered-determined a o i, ordered-stands a o i)
@@ -30,7 +35,9 @@ pub in_order_is_determined : InOrderIsDetermined
 in_order_is_determined = λ o i. stands-determined o i
 
 pub taken_fix_existentials : TakenFixExistentials
-taken_fix_existentials = λ known cs taken rest vars here there heap one two other another t a m n d e. takes-agree (value vars) known cs taken rest here there heap one two other another t a m n d e
+taken_fix_existentials =
+    λ known cs taken rest vars here there heap one two other another t a m n d e. takes-agree
+    (value vars) known cs taken rest here there heap one two other another t a m n d e
 
 pub undetermined_has_place : UndeterminedHasPlace
 undetermined_has_place = λ a. determined-or_place a

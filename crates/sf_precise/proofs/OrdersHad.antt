@@ -46,7 +46,8 @@ holds-had (holds q u) p t h =
 holds-had c p t h = had_never (λ e. cc) h
 
 -- that it is that cell
-points-had : (c : Conjunct Expr) (p : Place) (x : Operand Expr) (fs : List (FieldId × Operand Expr)) → IsHad (c ≡ points p x fs)
+points-had : (c : Conjunct Expr) (p : Place) (x : Operand Expr) (fs : List (FieldId × Operand Expr))
+    → IsHad (c ≡ points p x fs)
 points-had (points q y gs) p x fs h =
     let place : q ≡ p = ∥∥₁_elim h (place-set q p) (λ e. cc) in
     let root : y ≡ x = ∥∥₁_elim h (operand-set y x) (λ e. cc) in
@@ -55,7 +56,8 @@ points-had (points q y gs) p x fs h =
 points-had c p x fs h = had_never (λ e. cc) h
 
 -- that it is that segment
-segment-had : (c : Conjunct Expr) (p : Place) (next : FieldId) (x y : Operand Expr) → IsHad (c ≡ segment p next x y)
+segment-had : (c : Conjunct Expr) (p : Place) (next : FieldId) (x y : Operand Expr)
+    → IsHad (c ≡ segment p next x y)
 segment-had (segment q other z u) p next x y h =
     let place : q ≡ p = ∥∥₁_elim h (place-set q p) (λ e. cc) in
     let field : other ≡ next = ∥∥₁_elim h (field-set other next) (λ e. cc) in
@@ -65,7 +67,8 @@ segment-had (segment q other z u) p next x y h =
 segment-had c p next x y h = had_never (λ e. cc) h
 
 -- that it is that tree
-tree-had : (c : Conjunct Expr) (p : Place) (left right : FieldId) (x : Operand Expr) → IsHad (c ≡ tree p left right x)
+tree-had : (c : Conjunct Expr) (p : Place) (left right : FieldId) (x : Operand Expr)
+    → IsHad (c ≡ tree p left right x)
 tree-had (tree q one two y) p left right x h =
     let place : q ≡ p = ∥∥₁_elim h (place-set q p) (λ e. cc) in
     let first : one ≡ left = ∥∥₁_elim h (field-set one left) (λ e. cc) in
@@ -80,11 +83,16 @@ none-had none h = refl
 none-had (also c cs) h = had_never (λ e. cc) h
 
 -- conjuncts in order begin with the one that is ready first
-order-begins : (known : ℕ → Bool) (cs : Conjuncts Expr) (c : Conjunct Expr) (rest : Conjuncts Expr) (o : Conjunct Expr) (os : Conjuncts Expr)
-    → IsFirstReady known cs c rest → IsOrder known cs (also o os) → IsOrderWithin known c o × IsOrder (known_after c known) rest os
+order-begins : (known : ℕ → Bool) (cs : Conjuncts Expr) (c : Conjunct Expr) (rest : Conjuncts Expr)
+    (o : Conjunct Expr) (os : Conjuncts Expr)
+    → IsFirstReady known cs c rest → IsOrder known cs (also o os)
+    → IsOrderWithin known c o × IsOrder (known_after c known) rest os
 order-begins known cs c rest o os f i =
-    let same = first-one known cs i.0 c i.1 rest i.2 f in
-    (subst (λ z. IsOrderWithin known z o) same.0 i.3, subst (λ z. IsOrder (known_after c known) z os) same.1 (subst (λ z. IsOrder (known_after z known) i.1 os) same.0 i.4))
+    let same = first-one known cs i.0 c i.1 rest i.2 f in (
+      subst (λ z. IsOrderWithin known z o) same.0 i.3,
+      subst (λ z. IsOrder (known_after c known) z os) same.1
+          (subst (λ z. IsOrder (known_after z known) i.1 os) same.0 i.4),
+    )
 
 mutual
   -- that conjuncts are others in order
@@ -92,8 +100,14 @@ mutual
   order-had known cs none h = none-had cs h
   order-had known cs (also o os) h = elim (first-decided known cs) [
     | inl f ↦
-        let begins = ∥∥₁_map h (order-begins known cs f.0 f.1 o os f.2) in
-        (f.0, f.1, f.2, within-had known f.0 o (∥∥₁_map begins (λ b. b.0)), order-had (known_after f.0 known) f.1 os (∥∥₁_map begins (λ b. b.1)))
+        let begins = ∥∥₁_map h (order-begins known cs f.0 f.1 o os f.2) in (
+          f.0,
+          f.1,
+          f.2,
+          within-had known f.0 o (∥∥₁_map begins (λ b. b.0)),
+          order-had
+              (known_after f.0 known) f.1 os (∥∥₁_map begins (λ b. b.1)),
+        )
     | inr stuck ↦ had_never (λ i. let l = first-leaves known cs i.0 i.1 i.2 in stuck i.0 i.1 l.0 l.1) h
   ]
 
@@ -104,18 +118,34 @@ mutual
   within-had known c (segment p next x y) h = segment-had c p next x y h
   within-had known c (tree p left right x) h = tree-had c p left right x h
   within-had known (choose q u a b) (choose p t (level made os) (level other us)) h =
-      let place : q ≡ p = ∥∥₁_elim h (place-set q p) (λ w. let e : choose q u a b ≡ choose p t w.0 w.1 = w.2 in cc) in
-      let test : u ≡ t = ∥∥₁_elim h (test-set u t) (λ w. let e : choose q u a b ≡ choose p t w.0 w.1 = w.2 in cc) in
-      let one = ∥∥₁_map h (λ w. let e : choose q u a b ≡ choose p t w.0 w.1 = w.2 in let s : w.0 ≡ a = cc in subst (λ z. IsOrderInside known z (level made os)) s w.3) in
-      let two = ∥∥₁_map h (λ w. let e : choose q u a b ≡ choose p t w.0 w.1 = w.2 in let s : w.1 ≡ b = cc in subst (λ z. IsOrderInside known z (level other us)) s w.4) in
-      (a, b, (let e : choose q u a b ≡ choose p t a b = cc in e), level-had (known_inside made known) a (level made os) one, level-had (known_inside other known) b (level other us) two)
+      let place : q
+      ≡ p = ∥∥₁_elim h (place-set q p) (λ w. let e : choose q u a b ≡ choose p t w.0 w.1 = w.2 in cc) in
+      let test : u
+      ≡ t = ∥∥₁_elim h (test-set u t) (λ w. let e : choose q u a b ≡ choose p t w.0 w.1 = w.2 in cc) in
+      let one = ∥∥₁_map h (λ w. let e : choose q u a b ≡ choose p t w.0 w.1 = w.2 in
+      let s : w.0 ≡ a = cc in subst (λ z. IsOrderInside known z (level made os)) s w.3) in
+      let two = ∥∥₁_map h (λ w. let e : choose q u a b ≡ choose p t w.0 w.1 = w.2 in
+      let s : w.1 ≡ b = cc in subst (λ z. IsOrderInside known z (level other us)) s w.4) in (
+        a,
+        b,
+        (let e : choose q u a b ≡ choose p t a b = cc in e),
+        level-had (known_inside made known) a
+            (level made os) one,
+        level-had (known_inside other known) b (level other us) two,
+      )
   within-had known c (choose p t this that) h = had_never (λ w. let e : c ≡ choose p t w.0 w.1 = w.2 in cc) h
 
   -- that a level is another in order
   level-had : (known : ℕ → Bool) (a o : Level Expr) → IsHad (IsOrderFrom known a o)
   level-had known (level m cs) (level made os) h =
-      let same : m ≡ made = ∥∥₁_elim h (scope-set m made) (λ i. let e : level m cs ≡ level made i.0 = i.1 in cc) in
-      (cs, ap (λ z. level z cs) same, order-had known cs os (∥∥₁_map h (λ i. let e : level m cs ≡ level made i.0 = i.1 in let s : i.0 ≡ cs = cc in subst (λ z. IsOrder known z os) s i.2)))
+      let same : m ≡ made = ∥∥₁_elim h (scope-set m made) (λ i. let e : level m cs ≡ level made i.0 = i.1 in
+      cc) in (
+        cs,
+        ap (λ z. level z cs) same,
+        order-had known cs os
+            (∥∥₁_map h (λ i. let e : level m cs ≡ level made i.0 = i.1 in
+            let s : i.0 ≡ cs = cc in subst (λ z. IsOrder known z os) s i.2)),
+      )
 
 -- that an assertion is another in order
 assertion-had : (a o : Assertion) → IsHad (IsOrderOf a o)
@@ -129,4 +159,5 @@ pub orders-had : OrdersFromTruncation
 orders-had [] [] h = tt
 orders-had [] (o ∷ os) h = had_never (λ i. i) h
 orders-had (a ∷ notes) [] h = had_never (λ i. i) h
-orders-had (a ∷ notes) (o ∷ os) h = (assertion-had a o (∥∥₁_map h (λ i. i.0)), orders-had notes os (∥∥₁_map h (λ i. i.1)))
+orders-had (a ∷ notes) (o ∷ os) h =
+    (assertion-had a o (∥∥₁_map h (λ i. i.0)), orders-had notes os (∥∥₁_map h (λ i. i.1)))

@@ -14,22 +14,39 @@ use Rattle.sf_core.specs.Program.Syntax.{Conjunct, holds, points, segment, tree,
 use Rattle.sf_core.specs.Program.View.{conjuncts, conjunct_of, level_of, conjunct_step, level_step}
 
 pub view-holds : (p : Place) (t : Test (Operand Expr)) → conjunct_of {E = Expr} (Holds p t) ≡ holds p t
-view-holds p t = ap (conjunct_of {E = Expr}) (sym (rolls-Holds p t)) ∙ fold-roll-Conjunct Expr (Conjunct Expr) (Level Expr) conjunct_step level_step _
+view-holds p t =
+    ap (conjunct_of {E = Expr}) (sym (rolls-Holds p t))
+    ∙ fold-roll-Conjunct Expr (Conjunct Expr) (Level Expr) conjunct_step level_step _
 
-pub view-points : (p : Place) (x : Operand Expr) (v : Vec (FieldId × Operand Expr) Global) → conjunct_of {E = Expr} (Points p x v) ≡ points p x v.items
-view-points p x v = ap (conjunct_of {E = Expr}) (sym (rolls-Points p x v)) ∙ fold-roll-Conjunct Expr (Conjunct Expr) (Level Expr) conjunct_step level_step _
+pub view-points : (p : Place) (x : Operand Expr) (v : Vec (FieldId × Operand Expr) Global)
+    → conjunct_of {E = Expr} (Points p x v) ≡ points p x v.items
+view-points p x v =
+    ap (conjunct_of {E = Expr}) (sym (rolls-Points p x v))
+    ∙ fold-roll-Conjunct Expr (Conjunct Expr) (Level Expr) conjunct_step level_step _
 
-pub view-segment : (p : Place) (f : FieldId) (x y : Operand Expr) → conjunct_of {E = Expr} (Segment p f x y) ≡ segment p f x y
-view-segment p f x y = ap (conjunct_of {E = Expr}) (sym (rolls-Segment p f x y)) ∙ fold-roll-Conjunct Expr (Conjunct Expr) (Level Expr) conjunct_step level_step _
+pub view-segment : (p : Place) (f : FieldId) (x y : Operand Expr)
+    → conjunct_of {E = Expr} (Segment p f x y) ≡ segment p f x y
+view-segment p f x y =
+    ap (conjunct_of {E = Expr}) (sym (rolls-Segment p f x y))
+    ∙ fold-roll-Conjunct Expr (Conjunct Expr) (Level Expr) conjunct_step level_step _
 
-pub view-tree : (p : Place) (l r : FieldId) (x : Operand Expr) → conjunct_of {E = Expr} (Tree p l r x) ≡ tree p l r x
-view-tree p l r x = ap (conjunct_of {E = Expr}) (sym (rolls-Tree p l r x)) ∙ fold-roll-Conjunct Expr (Conjunct Expr) (Level Expr) conjunct_step level_step _
+pub view-tree : (p : Place) (l r : FieldId) (x : Operand Expr)
+    → conjunct_of {E = Expr} (Tree p l r x) ≡ tree p l r x
+view-tree p l r x =
+    ap (conjunct_of {E = Expr}) (sym (rolls-Tree p l r x))
+    ∙ fold-roll-Conjunct Expr (Conjunct Expr) (Level Expr) conjunct_step level_step _
 
-pub view-if : (p : Place) (t : Test (Operand Expr)) (this that : CodeLevel Expr) → conjunct_of {E = Expr} (If p t this that) ≡ choose p t (level_of this) (level_of that)
-view-if p t this that = ap (conjunct_of {E = Expr}) (sym (rolls-If p t this that)) ∙ fold-roll-Conjunct Expr (Conjunct Expr) (Level Expr) conjunct_step level_step _
+pub view-if : (p : Place) (t : Test (Operand Expr)) (this that : CodeLevel Expr)
+    → conjunct_of {E = Expr} (If p t this that) ≡ choose p t (level_of this) (level_of that)
+view-if p t this that =
+    ap (conjunct_of {E = Expr}) (sym (rolls-If p t this that))
+    ∙ fold-roll-Conjunct Expr (Conjunct Expr) (Level Expr) conjunct_step level_step _
 
-pub view-roll : (x : Level-F Expr (CodeConjunct Expr) (CodeLevel Expr)) → level_of {E = Expr} (roll-Level Expr x) ≡ level x.made (conjuncts (map conjunct_of x.conjuncts.items))
+pub view-roll : (x : Level-F Expr (CodeConjunct Expr) (CodeLevel Expr))
+    → level_of {E = Expr} (roll-Level Expr x) ≡ level x.made (conjuncts (map conjunct_of x.conjuncts.items))
 view-roll x = fold-roll-Level Expr (Conjunct Expr) (Level Expr) conjunct_step level_step x
 
-pub view-level : (l : CodeLevel Expr) → level_of {E = Expr} l ≡ level (out-Level Expr l).made (conjuncts (map conjunct_of (out-Level Expr l).conjuncts.items))
+pub view-level : (l : CodeLevel Expr)
+    → level_of {E = Expr} l
+    ≡ level (out-Level Expr l).made (conjuncts (map conjunct_of (out-Level Expr l).conjuncts.items))
 view-level l = fold_out-Level Expr (Conjunct Expr) (Level Expr) conjunct_step level_step l

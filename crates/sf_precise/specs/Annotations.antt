@@ -1,4 +1,5 @@
--- Notes: all annotations of a program, and the first conjunct among them that is never taken, by its place in the file.
+-- Notes: all annotations of a program, and the first conjunct among them that is never taken, by its
+-- place in the file.
 -- Ordinary: a walk through the program. Summary order across annotations is the order of places.
 use Rattle.std.specs.Prelude.{◌≡◌, ◌==◌, Bool, true, cond, ◌&&◌, ◌||◌, nat_lt, List, [], ◌∷◌, ◌++◌, Option, Some, None, Contains, flat_map, map}
 use Rattle.std.specs.List.{AllZip}
@@ -31,7 +32,8 @@ abbrev mutual
 abbrev pub notes_of : Procedure → List Assertion
 notes_of f = f.pre ∷ (loops_in f.body ++ f.post ∷ [])
 
--- the annotations of a program: the resources' invariants, and then those of the procedures, each in file order
+-- the annotations of a program: the resources' invariants, and then those of the procedures, each in
+-- file order
 abbrev pub annotations_in : Program → List Assertion
 annotations_in p = map (λ r. r.invariant) p.resources ++ flat_map notes_of p.procedures
 
@@ -39,7 +41,7 @@ annotations_in p = map (λ r. r.invariant) p.resources ++ flat_map notes_of p.pr
 abbrev pub is_before : Place → Place → Bool
 is_before p q = nat_lt p.line q.line || ((p.line == q.line) && nat_lt p.column q.column)
 
--- there stands the first conjunct that is never taken in one of these annotations
+-- the first conjunct that is never taken in one of these annotations is there
 abbrev pub NeverTakenIn : List Assertion → Place → Type 0
 NeverTakenIn notes q = (a : Assertion) × Contains notes a × NeverTakenAt a.level q
 

@@ -1,6 +1,8 @@
--- Laws of orders: an assertion has one order at most, has one where it is determined, and means the same in order; where it is not, a conjunct is never
+-- Laws of orders: an assertion has one order at most, has one where it is determined, and means the same
+-- in order; where it is not, a conjunct is never
 -- taken; what was taken fixes existentials; and what a type keeps truncated is had.
--- This project's own notions; that an order keeps the meaning is commutativity and associativity of the separating conjunction, as in Reynolds, "Separation Logic" (2002).
+-- This project's own notions; that an order keeps the meaning is commutativity and associativity of the
+-- separating conjunction, as in Reynolds, "Separation Logic" (2002).
 use Rattle.std.specs.Prelude.{◌≡◌, ◌↔◌, ◌⊎◌, ℕ, Bool, true, List, Some}
 use Rattle.std.specs.List.{All}
 use Rattle.sf_base.specs.declared.ids.Var.{Var}
@@ -20,11 +22,11 @@ use Rattle.sf_precise.specs.Taken.{NeverTakenAt, Takes, known_by}
 abbrev pub OrderIsUnique : Type 0
 OrderIsUnique = (a o u : Level Expr) → IsOrderOfLevel a o → IsOrderOfLevel a u → o ≡ u
 
--- a level in order is determined, and stands in order
+-- a level in order is determined, and is in order
 abbrev pub OrderedIsDetermined : Type 0
 OrderedIsDetermined = (a o : Level Expr) → IsOrderOfLevel a o → Determined a × IsInOrder o
 
--- a level that stands in order is determined
+-- a level that is in order is determined
 abbrev pub InOrderIsDetermined : Type 0
 InOrderIsDetermined = (o : Level Expr) → IsInOrder o → Determined o
 
@@ -42,19 +44,28 @@ UndeterminedHasPlace = (a : Level Expr) → Determined a ⊎ ((q : Place) × Nev
 
 -- annotations are all determined, or there is a first place among them at which a conjunct is never taken
 abbrev pub UndeterminedAnnotationsHavePlace : Type 0
-UndeterminedAnnotationsHavePlace = (notes : List Assertion) → All (λ a. Determined a.level) notes ⊎ ((q : Place) × IsFirstPlace (NeverTakenIn notes) (Some q))
+UndeterminedAnnotationsHavePlace =
+    (notes : List Assertion) → All (λ a. Determined a.level) notes
+    ⊎ ((q : Place) × IsFirstPlace (NeverTakenIn notes) (Some q))
 
--- conjuncts that were taken fix what became known by them: where all the conjuncts hold on two parts of one heap, with values that are the same for
+-- conjuncts that were taken fix what became known by them: where all the conjuncts hold on two parts of
+-- one heap, with values that are the same for
 -- what is known, the values of what is known once those are taken are the same
 abbrev pub TakenFixExistentials : Type 0
-TakenFixExistentials = (known : ℕ → Bool) (cs taken rest : Conjuncts Expr) (vars : Var → Value) (here there : ℕ → Value) (heap one two other another : Heap) → Takes known cs taken rest
-    → ((n : ℕ) → known n ≡ true → here n ≡ there n) → Splits heap one other → Splits heap two another → SatAll cs (value vars) here one → SatAll cs (value vars) there two
+TakenFixExistentials =
+    (known : ℕ → Bool) (cs taken rest : Conjuncts Expr) (vars : Var → Value) (here there : ℕ → Value)
+    (heap one two other another : Heap) → Takes known cs taken rest
+    → ((n : ℕ) → known n ≡ true → here n ≡ there n) → Splits heap one other → Splits heap two another
+    → SatAll cs (value vars) here one → SatAll cs (value vars) there two
     → (n : ℕ) → known_by taken known n ≡ true → here n ≡ there n
 
 -- a level in order means the same
 abbrev pub OrderKeepsMeaning : Type 0
-OrderKeepsMeaning = (a o : Level Expr) (vars : Var → Value) (some : ℕ → Value) (heap : Heap) → IsOrderOfLevel a o → Sat a (value vars) some heap ↔ Sat o (value vars) some heap
+OrderKeepsMeaning =
+    (a o : Level Expr) (vars : Var → Value) (some : ℕ → Value) (heap : Heap) → IsOrderOfLevel a o
+    → Sat a (value vars) some heap ↔ Sat o (value vars) some heap
 
 -- whoever holds no more than that assertions are others in order has that they are
 abbrev pub OrdersFromTruncation : Type 0
-OrdersFromTruncation = (notes orders : List Assertion) → ∥ AreOrdersOf notes orders ∥₁ → AreOrdersOf notes orders
+OrdersFromTruncation =
+    (notes orders : List Assertion) → ∥ AreOrdersOf notes orders ∥₁ → AreOrdersOf notes orders

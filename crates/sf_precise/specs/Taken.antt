@@ -23,7 +23,9 @@ IsAmong (also d ds) c = (d ≡ c) ⊎ IsAmong ds c
 -- of these conjuncts those can be taken one after the other, each being ready when it comes; the rest is left
 abbrev pub Takes : {E : Type 0} → (ℕ → Bool) → (cs taken rest : Conjuncts E) → Type 0
 Takes known cs none rest = cs ≡ rest
-Takes known cs (also c taken) rest = (others : Conjuncts _) × Leaves cs c others × CanBeTaken known c × Takes (known_after c known) others taken rest
+Takes known cs (also c taken) rest =
+    (others : Conjuncts _) × Leaves cs c others × CanBeTaken known c
+    × Takes (known_after c known) others taken rest
 
 -- what is known once these are taken
 abbrev pub known_by : {E : Type 0} → (taken : Conjuncts E) → (ℕ → Bool) → ℕ → Bool
@@ -34,16 +36,18 @@ known_by (also c taken) known = known_by taken (known_after c known)
 abbrev pub IsNeverTaken : {E : Type 0} → (ℕ → Bool) → Conjuncts E → Conjunct E → Type 0
 IsNeverTaken {E} known cs c = (taken rest : Conjuncts E) → Takes known cs taken rest → IsAmong rest c
 
--- of all the conjuncts, the first of these that is never taken stands there
+-- of all the conjuncts, the first of these that is never taken is there
 abbrev pub IsFirstNeverTaken : {E : Type 0} → (ℕ → Bool) → (all cs : Conjuncts E) → Place → Type 0
 IsFirstNeverTaken known all none p = ⊥
-IsFirstNeverTaken known all (also c cs) p = (IsNeverTaken known all c × (place_at c ≡ p)) ⊎ ((IsNeverTaken known all c → ⊥) × IsFirstNeverTaken known all cs p)
+IsFirstNeverTaken known all (also c cs) p =
+    (IsNeverTaken known all c × (place_at c ≡ p))
+    ⊎ ((IsNeverTaken known all c → ⊥) × IsFirstNeverTaken known all cs p)
 
--- the first conjunct of a level, in text order, that is never taken from what is known inside it stands there
+-- the first conjunct of a level, in text order, that is never taken from what is known inside it is there
 abbrev pub NeverTakenFrom : {E : Type 0} → (ℕ → Bool) → Level E → Place → Type 0
 NeverTakenFrom known (level made cs) p = IsFirstNeverTaken known cs cs p
 
--- the first one that is never taken from the variables alone stands there
+-- the first one that is never taken from the variables alone is there
 abbrev pub NeverTakenAt : {E : Type 0} → Level E → Place → Type 0
 NeverTakenAt a p = NeverTakenFrom (λ n. false) a p
 

@@ -12,7 +12,8 @@ use std::alloc::{AllocError, Global};
 /// The annotations: the resources' invariants, and then, for each procedure in file order, its pre,
 /// the invariants of its loops in text order, and its post.
 pub fn annotations_in<'a>(alloc: Global, p: &'a Program) -> Result<Vec<&'a Assertion>, AllocError>
-    ensures { IfOk result (λ notes. map (λ a. assertion_of a.now) notes.items ≡ annotations_in (program_of p.now)) }
+    ensures { IfOk result (λ notes. map (λ a. assertion_of a.now) notes.items
+        ≡ annotations_in (program_of p.now)) }
 {
     let mut notes = Vec::new(alloc);
     add_invariants(&p.resources, &mut notes)?;
@@ -25,7 +26,9 @@ fn add_invariants<'a>(
     resources: &'a [Resource],
     notes: &mut Vec<&'a Assertion>,
 ) -> Result<(), AllocError>
-    ensures { Appends result (map (λ a. assertion_of a.now) notes.old.items) (map (λ a. assertion_of a.now) notes.new.items) (map (λ r. r.invariant) (map resource_of resources.now)) }
+    ensures { Appends result (map (λ a. assertion_of a.now) notes.old.items)
+        (map (λ a. assertion_of a.now) notes.new.items)
+        (map (λ r. r.invariant) (map resource_of resources.now)) }
 {
     for resource in resources {
         notes.push(&resource.invariant)?;
@@ -38,7 +41,9 @@ fn add_annotations<'a>(
     procedures: &'a [Proc],
     notes: &mut Vec<&'a Assertion>,
 ) -> Result<(), AllocError>
-    ensures { Appends result (map (λ a. assertion_of a.now) notes.old.items) (map (λ a. assertion_of a.now) notes.new.items) (flat_map notes_of (map procedure_of procedures.now)) }
+    ensures { Appends result (map (λ a. assertion_of a.now) notes.old.items)
+        (map (λ a. assertion_of a.now) notes.new.items)
+        (flat_map notes_of (map procedure_of procedures.now)) }
 {
     for procedure in procedures {
         add_annotations_of(procedure, notes)?;
@@ -51,7 +56,8 @@ fn add_annotations_of<'a>(
     procedure: &'a Proc,
     notes: &mut Vec<&'a Assertion>,
 ) -> Result<(), AllocError>
-    ensures { Appends result (map (λ a. assertion_of a.now) notes.old.items) (map (λ a. assertion_of a.now) notes.new.items) (notes_of (procedure_of procedure.now)) }
+    ensures { Appends result (map (λ a. assertion_of a.now) notes.old.items)
+        (map (λ a. assertion_of a.now) notes.new.items) (notes_of (procedure_of procedure.now)) }
 {
     notes.push(&procedure.pre)?;
     add_loops(&procedure.body, notes)?;
@@ -62,7 +68,8 @@ fn add_annotations_of<'a>(
 /// Appends the invariants of the loops in the commands, in text order.
 #[cycle(loops)]
 fn add_loops<'a>(body: &'a [Command], notes: &mut Vec<&'a Assertion>) -> Result<(), AllocError>
-    ensures { Appends result (map (λ a. assertion_of a.now) notes.old.items) (map (λ a. assertion_of a.now) notes.new.items) (loops_in (block_of body.now)) }
+    ensures { Appends result (map (λ a. assertion_of a.now) notes.old.items)
+        (map (λ a. assertion_of a.now) notes.new.items) (loops_in (block_of body.now)) }
 {
     for c in body {
         add_loops_of(c, notes)?;
@@ -73,7 +80,8 @@ fn add_loops<'a>(body: &'a [Command], notes: &mut Vec<&'a Assertion>) -> Result<
 /// Appends those of one command.
 #[cycle(loops)]
 fn add_loops_of<'a>(c: &'a Command, notes: &mut Vec<&'a Assertion>) -> Result<(), AllocError>
-    ensures { Appends result (map (λ a. assertion_of a.now) notes.old.items) (map (λ a. assertion_of a.now) notes.new.items) (loops_of (command_of c.now)) }
+    ensures { Appends result (map (λ a. assertion_of a.now) notes.old.items)
+        (map (λ a. assertion_of a.now) notes.new.items) (loops_of (command_of c.now)) }
 {
     match c {
         Command::Assign(_, _, _) => Ok(()),

@@ -32,10 +32,11 @@ pub struct Arranged {
 
 impl Arranged {
     /// The variables that the command may change. The command is one of the program. An `Err` is
-    /// want of memory, and comes for nothing else.
+    /// out of memory, and comes for nothing else.
     pub fn assigned(&self, alloc: Global, c: &Command) -> Result<VarSet, AllocError>
         requires { IsInOrderIn (program_of self.now.program) (command_of c.now) }
-        ensures { IfOk result (λ xs. IsVarSet (λ x. Assigned (program_of self.now.program) x (command_of c.now)) xs) }
+        ensures { IfOk result (λ xs.
+            IsVarSet (λ x. Assigned (program_of self.now.program) x (command_of c.now)) xs) }
     {
         sets_from_truncation();
         self.calls.assigned(alloc, &self.program, c)

@@ -8,9 +8,9 @@ ghost use Rattle.sf_calls.specs.Sets.{AreSetsOf};
 ghost use Rattle.sf_precise.specs.Annotations.{AreOrdersOf, IsFirstPlace, NeverTakenIn, earlier_of, is_before, annotations_in};
 ghost use Rattle.sf_precise.specs.Taken.{IfUndetermined};
 
+use crate::annotations::annotations_in;
 use crate::arranged::Arranged;
 use crate::fault::OrderFault;
-use crate::annotations::annotations_in;
 use crate::ordering::order;
 use sf_base::Place;
 use sf_calls::Calls;
@@ -25,8 +25,12 @@ pub fn arrange(alloc: Global, p: Program, c: Calls) -> Result<Arranged, OrderFau
     requires conditions { Conditions (program_of p) }
     ensures program { IfOk result (λ a. a.program ≡ p) }
     ensures calls { IfOk result (λ a. a.calls ≡ c) }
-    ensures orders { IfOk result (λ a. AreOrdersOf (annotations_in (program_of p)) (map (λ o. assertion_of o.assertion) a.orders.items)) }
-    ensures undetermined { IfErr result (λ e. IfUndetermined e (λ q. IsFirstPlace (NeverTakenIn (annotations_in (program_of p))) (Some q))) }
+    ensures orders { IfOk result (λ a.
+        AreOrdersOf (annotations_in (program_of p))
+        (map (λ o. assertion_of o.assertion) a.orders.items)) }
+    ensures undetermined { IfErr result
+        (λ e. IfUndetermined e
+        (λ q. IsFirstPlace (NeverTakenIn (annotations_in (program_of p))) (Some q))) }
 {
     let orders = order_annotations(alloc, &p)?;
     Ok(Arranged {
@@ -38,8 +42,12 @@ pub fn arrange(alloc: Global, p: Program, c: Calls) -> Result<Arranged, OrderFau
 
 /// The program's annotations in order, or the first place at which a conjunct is never taken.
 fn order_annotations(alloc: Global, p: &Program) -> Result<Vec<Ordered>, OrderFault>
-    ensures orders { IfOk result (λ orders. AreOrdersOf (annotations_in (program_of p.now)) (map (λ o. assertion_of o.assertion) orders.items)) }
-    ensures undetermined { IfErr result (λ e. IfUndetermined e (λ q. IsFirstPlace (NeverTakenIn (annotations_in (program_of p.now))) (Some q))) }
+    ensures orders { IfOk result (λ orders.
+        AreOrdersOf (annotations_in (program_of p.now))
+        (map (λ o. assertion_of o.assertion) orders.items)) }
+    ensures undetermined { IfErr result
+        (λ e. IfUndetermined e
+        (λ q. IsFirstPlace (NeverTakenIn (annotations_in (program_of p.now))) (Some q))) }
 {
     let notes = annotations_in(alloc, p)?;
     order_all(alloc, &notes)
@@ -47,8 +55,12 @@ fn order_annotations(alloc: Global, p: &Program) -> Result<Vec<Ordered>, OrderFa
 
 /// The annotations in order, or the first place at which a conjunct of one is never taken.
 fn order_all(alloc: Global, notes: &[&Assertion]) -> Result<Vec<Ordered>, OrderFault>
-    ensures orders { IfOk result (λ orders. AreOrdersOf (map (λ a. assertion_of a.now) notes.now) (map (λ o. assertion_of o.assertion) orders.items)) }
-    ensures undetermined { IfErr result (λ e. IfUndetermined e (λ q. IsFirstPlace (NeverTakenIn (map (λ a. assertion_of a.now) notes.now)) (Some q))) }
+    ensures orders { IfOk result (λ orders.
+        AreOrdersOf (map (λ a. assertion_of a.now) notes.now)
+        (map (λ o. assertion_of o.assertion) orders.items)) }
+    ensures undetermined { IfErr result
+        (λ e. IfUndetermined e
+        (λ q. IsFirstPlace (NeverTakenIn (map (λ a. assertion_of a.now) notes.now)) (Some q))) }
 {
     let mut orders = Vec::with_capacity(alloc, notes.len())?;
     let mut first = None;

@@ -8,14 +8,14 @@ pub fn order_is_unique()
     ensures { OrderIsUnique }
 {}
 
-/// An assertion in order is determined, and its conjuncts stand in an order in which each is ready
+/// An assertion in order is determined, and its conjuncts are in an order in which each is ready
 /// when it comes.
 #[tactic(auto, using(crate::proofs::Closing::ordered_is_determined))]
 pub fn ordered_is_determined()
     ensures { OrderedIsDetermined }
 {}
 
-/// An assertion whose conjuncts stand so is determined.
+/// An assertion whose conjuncts are so is determined.
 #[tactic(auto, using(crate::proofs::Closing::in_order_is_determined))]
 pub fn in_order_is_determined()
     ensures { InOrderIsDetermined }
@@ -41,7 +41,6 @@ pub fn undetermined_has_place()
 
 /// Annotations are all determined, or there is a first place among them at which a conjunct is
 /// never taken.
-#[tactic(auto, using(crate::proofs::Closing::undetermined_annotations_have_place))]
 pub fn undetermined_annotations_have_place()
     ensures { UndeterminedAnnotationsHavePlace }
 {}

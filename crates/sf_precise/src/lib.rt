@@ -2,11 +2,11 @@
 //! annotations all have one.
 #![tactic(auto)]
 
+mod annotations;
 mod arranged;
 mod arranging;
 mod fault;
 pub mod laws;
-mod annotations;
 mod ordering;
 mod outer;
 mod sequence;

@@ -64,10 +64,14 @@ fn order_level(
     level: &Level<Expr>,
     parts: Parts,
 ) -> Result<Level<Expr>, OrderFault>
-    requires prepared { AllZip (λ c o. IsPrepared (conjunct_of c) (option_map conjunct_of o)) level.now.conjuncts.items parts.orders.items }
-    requires outer { AllZip (λ c ns. ns.items ≡ outer_of (conjunct_of c)) level.now.conjuncts.items parts.outers.items }
+    requires prepared { AllZip (λ c o.
+        IsPrepared (conjunct_of c)
+        (option_map conjunct_of o)) level.now.conjuncts.items parts.orders.items }
+    requires outer { AllZip (λ c ns. ns.items
+        ≡ outer_of (conjunct_of c)) level.now.conjuncts.items parts.outers.items }
     ensures ordered { IfOk result (λ o. IsOrderFrom (known_outside start) (level_of level.now) (level_of o)) }
-    ensures undetermined { IfErr result (λ e. IfUndetermined e (NeverTakenFrom (known_outside start) (level_of level.now))) }
+    ensures undetermined { IfErr result
+        (λ e. IfUndetermined e (NeverTakenFrom (known_outside start) (level_of level.now))) }
 {
     let conjuncts = sequence(alloc, start, &level.conjuncts, parts.orders, &parts.outers)?;
     Ok(Level {
@@ -99,8 +103,11 @@ fn order_branch(
 /// Each of the conjuncts before any is taken.
 #[cycle(levels)]
 fn prepare_all(alloc: Global, cs: &[Conjunct<Expr>]) -> Result<Parts, AllocError>
-    ensures prepared { IfOk result (λ parts. AllZip (λ c o. IsPrepared (conjunct_of c) (option_map conjunct_of o)) cs.now parts.orders.items) }
-    ensures outer { IfOk result (λ parts. AllZip (λ c ns. ns.items ≡ outer_of (conjunct_of c)) cs.now parts.outers.items) }
+    ensures prepared { IfOk result (λ parts.
+        AllZip (λ c o.
+        IsPrepared (conjunct_of c) (option_map conjunct_of o)) cs.now parts.orders.items) }
+    ensures outer { IfOk result (λ parts.
+        AllZip (λ c ns. ns.items ≡ outer_of (conjunct_of c)) cs.now parts.outers.items) }
 {
     let mut orders = Vec::with_capacity(alloc, cs.len())?;
     let mut outers = Vec::with_capacity(alloc, cs.len())?;
@@ -159,7 +166,8 @@ fn join_branches(
     this: Option<Level<Expr>>,
     that: Option<Level<Expr>>,
 ) -> Option<Conjunct<Expr>>
-    ensures { option_map conjunct_of result ≡ joined place test (option_map level_of this) (option_map level_of that) }
+    ensures { option_map conjunct_of result
+        ≡ joined place test (option_map level_of this) (option_map level_of that) }
 {
     let this = this?;
     let that = that?;

@@ -1,8 +1,8 @@
-//! The existentials that stand in the parts of a conjunct, and those that a scope does not make.
+//! The existentials that occur in the parts of a conjunct, and those that a scope does not make.
 
 ghost use Rattle.std.specs.Prelude.{◌≡◌, ◌&&◌, not, filter, flat_map};
 ghost use Rattle.sf_base.specs.Results.{Appends};
-ghost use Rattle.sf_core.specs.Assertions.Occurs.{is_made_by};
+ghost use Rattle.sf_core.specs.Assertions.Scopes.{is_made_by};
 ghost use Rattle.sf_precise.specs.Internal.Outer.{existential, field_existentials, test_existentials};
 
 use sf_base::FieldId;
@@ -59,7 +59,8 @@ pub fn add_all_not_made(
     lists: &[Vec<u32>],
     found: &mut Vec<u32>,
 ) -> Result<(), AllocError>
-    ensures { Appends result found.old.items found.new.items (flat_map (λ ns. filter (λ n. not (is_made_by made n)) ns.items) lists.now) }
+    ensures { Appends result found.old.items found.new.items
+        (flat_map (λ ns. filter (λ n. not (is_made_by made n)) ns.items) lists.now) }
 {
     for ns in lists {
         add_not_made(made, ns, found)?;
@@ -69,7 +70,8 @@ pub fn add_all_not_made(
 
 /// Appends those that the scope does not make.
 fn add_not_made(made: Scope, ns: &[u32], found: &mut Vec<u32>) -> Result<(), AllocError>
-    ensures { Appends result found.old.items found.new.items (filter (λ n. not (is_made_by made n)) ns.now) }
+    ensures { Appends result found.old.items found.new.items
+        (filter (λ n. not (is_made_by made n)) ns.now) }
 {
     for n in ns {
         if !is_made_by(made, *n) {

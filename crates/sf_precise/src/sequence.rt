@@ -32,8 +32,13 @@ pub fn sequence(
 ) -> Result<Vec<Conjunct<Expr>>, OrderFault>
     requires outer { AllZip (λ c ns. ns.items ≡ outer_of (conjunct_of c)) cs.now outers.now }
     requires prepared { AllZip (λ c o. IsPrepared (conjunct_of c) (option_map conjunct_of o)) cs.now parts.items }
-    ensures ordered { IfOk result (λ os. IsOrder (known_outside start) (conjuncts (map conjunct_of cs.now)) (conjuncts (map conjunct_of os.items))) }
-    ensures undetermined { IfErr result (λ e. IfUndetermined e (IsFirstNeverTaken (known_outside start) (conjuncts (map conjunct_of cs.now)) (conjuncts (map conjunct_of cs.now)))) }
+    ensures ordered { IfOk result (λ os.
+        IsOrder (known_outside start) (conjuncts (map conjunct_of cs.now))
+        (conjuncts (map conjunct_of os.items))) }
+    ensures undetermined { IfErr result
+        (λ e. IfUndetermined e
+        (IsFirstNeverTaken (known_outside start) (conjuncts (map conjunct_of cs.now))
+        (conjuncts (map conjunct_of cs.now)))) }
 {
     let mut parts = parts;
     let mut work = begin(alloc, start, cs, &parts, outers)?;
@@ -61,7 +66,9 @@ fn begin(
 ) -> Result<Work, AllocError>
     requires parts { length parts.now ≡ length cs.now }
     requires outer { AllZip (λ c ns. ns.items ≡ outer_of (conjunct_of c)) cs.now outers.now }
-    ensures { IfOk result (λ w. let jobs = jobs_of (known_outside start) (map conjunct_of cs.now) (map is_some parts.now) in IsWork jobs (known_outside start) (none_taken jobs) w) }
+    ensures { IfOk result (λ w.
+        let jobs = jobs_of (known_outside start) (map conjunct_of cs.now)
+        (map is_some parts.now) in IsWork jobs (known_outside start) (none_taken jobs) w) }
 {
     let mut work = Work::new(alloc);
     for (i, c) in cs.iter().enumerate() {
@@ -89,7 +96,7 @@ fn first_lacking(lacking: &[usize]) -> Option<usize>
     lacking.iter().position(|n| *n > 0)
 }
 
-/// Where the conjunct's first token stands.
+/// Where the conjunct's first token is.
 fn place_of(c: &Conjunct<Expr>) -> Place
     ensures { result ≡ place_at (conjunct_of c.now) }
 {

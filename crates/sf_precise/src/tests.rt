@@ -78,7 +78,7 @@ fn add_columns(cs: &[Conjunct<Expr>], found: &mut Vec<u32>) -> Result<(), AllocE
     Ok(())
 }
 
-/// The columns in order, or that of the conjunct that is never taken and nothing behind it.
+/// The columns in order, or that of the conjunct that is never taken and nothing after it.
 fn columns(
     alloc: Global,
     count: u32,

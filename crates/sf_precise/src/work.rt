@@ -40,7 +40,8 @@ impl Work {
 
     /// Adds a job. None of what it waits for is known, and no job is taken.
     pub fn add(&mut self, demand: &Demand) -> Result<(), AllocError>
-        ensures { OnOk result (AddsJob (record { need = demand.now.need; waits = demand.now.waits.items }) self.old self.new) }
+        ensures { OnOk result (AddsJob
+            (record { need = demand.now.need; waits = demand.now.waits.items }) self.old self.new) }
     {
         let i = self.lacking.len();
         add_waits(self.alloc, i, &demand.waits, &mut self.waiting)?;

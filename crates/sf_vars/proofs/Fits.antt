@@ -17,19 +17,29 @@ use Rattle.sf_calls.proofs.Within.{callees_of_within}
 use Rattle.sf_vars.specs.Internal.Search.{HasSets, BlockFits, CommandFits, free_of, takes_of, holds_of}
 
 -- what is called is there
-pub callee_there : (p : Program) (h : Procedure) (c : Call) → CallWithin p h c → c.callee.0 < length p.procedures
+pub callee_there : (p : Program) (h : Procedure) (c : Call) → CallWithin p h c
+    → c.callee.0 < length p.procedures
 callee_there p h c w = callees_of_within p h None c.callee (call c.place c) w refl
 
-pub free_set : (p : Program) (sets : Sets) (g : ProcId) → AreSetsOf p sets → g.0 < length p.procedures → IsVarSet (Free p g) (free_of sets g)
-free_set p sets g are below = are.free.is g (free_of sets g) (slice_get-get_or sets.free g.0 [] (omega (arith, below, are.free.each)))
+pub free_set : (p : Program) (sets : Sets) (g : ProcId) → AreSetsOf p sets → g.0 < length p.procedures
+    → IsVarSet (Free p g) (free_of sets g)
+free_set p sets g are below =
+    are.free.is g (free_of sets g) (slice_get-get_or sets.free g.0 [] (omega (arith, below, are.free.each)))
 
-pub takes_set : (p : Program) (sets : Sets) (g : ProcId) → AreSetsOf p sets → g.0 < length p.procedures → IsResSet (Takes p g) (takes_of sets g)
-takes_set p sets g are below = are.takes.is g (takes_of sets g) (slice_get-get_or sets.takes g.0 [] (omega (arith, below, are.takes.each)))
+pub takes_set : (p : Program) (sets : Sets) (g : ProcId) → AreSetsOf p sets → g.0 < length p.procedures
+    → IsResSet (Takes p g) (takes_of sets g)
+takes_set p sets g are below =
+    are.takes.is g (takes_of sets g)
+    (slice_get-get_or sets.takes g.0 [] (omega (arith, below, are.takes.each)))
 
-pub holds_set : (p : Program) (sets : Sets) (g : ProcId) → AreSetsOf p sets → g.0 < length p.procedures → IsResSet (HeldBy p g) (holds_of sets g)
-holds_set p sets g are below = are.holds.is g (holds_of sets g) (slice_get-get_or sets.holds g.0 [] (omega (arith, below, are.holds.each)))
+pub holds_set : (p : Program) (sets : Sets) (g : ProcId) → AreSetsOf p sets → g.0 < length p.procedures
+    → IsResSet (HeldBy p g) (holds_of sets g)
+holds_set p sets g are below =
+    are.holds.is g (holds_of sets g)
+    (slice_get-get_or sets.holds g.0 [] (omega (arith, below, are.holds.each)))
 
-has_sets : (p : Program) (sets : Sets) (g : ProcId) → AreSetsOf p sets → g.0 < length p.procedures → HasSets sets g
+has_sets : (p : Program) (sets : Sets) (g : ProcId) → AreSetsOf p sets → g.0 < length p.procedures
+    → HasSets sets g
 has_sets p sets g are below = record {
   takes = omega (arith, below, are.takes.each);
   free = omega (arith, below, are.free.each);
@@ -38,27 +48,43 @@ has_sets p sets g are below = record {
 
 -- each body fits
 mutual
-  pub block_fits : (p : Program) (sets : Sets) (h : Procedure) → IsFormed p → AreSetsOf p sets → (b : Block) → BlockWithin p h b → BlockFits sets b
+  pub block_fits : (p : Program) (sets : Sets) (h : Procedure) → IsFormed p → AreSetsOf p sets → (b : Block)
+      → BlockWithin p h b → BlockFits sets b
   block_fits p sets h formed are done w = tt
-  block_fits p sets h formed are (then c b) w = (command_fits p sets h formed are c w.0, block_fits p sets h formed are b w.1)
+  block_fits p sets h formed are (then c b) w =
+      (command_fits p sets h formed are c w.0, block_fits p sets h formed are b w.1)
 
-  command_fits : (p : Program) (sets : Sets) (h : Procedure) → IsFormed p → AreSetsOf p sets → (c : Command) → CommandWithin p h c → CommandFits sets c
+  command_fits : (p : Program) (sets : Sets) (h : Procedure) → IsFormed p → AreSetsOf p sets → (c : Command)
+      → CommandWithin p h c → CommandFits sets c
   command_fits p sets h formed are (assign q x e) w = tt
   command_fits p sets h formed are (look_up q x e field) w = tt
   command_fits p sets h formed are (mutate q e field d) w = tt
   command_fits p sets h formed are (new q x) w = tt
   command_fits p sets h formed are (dispose q e) w = tt
-  command_fits p sets h formed are (if q t c d) w = (block_fits p sets h formed are c w.1, block_fits p sets h formed are d w.2)
+  command_fits p sets h formed are (if q t c d) w =
+      (block_fits p sets h formed are c w.1, block_fits p sets h formed are d w.2)
   command_fits p sets h formed are (while q t a c) w = block_fits p sets h formed are c w.2
   command_fits p sets h formed are (call q c) w = has_sets p sets c.callee are (callee_there p h c w)
-  command_fits p sets h formed are (fork q c d) w = (has_sets p sets c.callee are (callee_there p h c w.0), has_sets p sets d.callee are (callee_there p h d w.1))
-  command_fits p sets h formed are (with q s t c) w = (let below : s.0 < length p.resources = w.0 in omega (arith, formed.resource_count), block_fits p sets h formed are c w.2)
+  command_fits p sets h formed are (fork q c d) w = (
+    has_sets p sets c.callee are (callee_there p h c w.0),
+    has_sets p sets d.callee are
+        (callee_there p h d w.1),
+  )
+  command_fits p sets h formed are (with q s t c) w = (
+    let below : s.0 < length p.resources = w.0 in
+        omega (arith, formed.resource_count),
+    block_fits p sets h formed are c w.2,
+  )
 
 -- what a procedure holds has a visit
-pub held_fit : (p : Program) (sets : Sets) (g : ProcId) → IsFormed p → AreSetsOf p sets → g.0 < length p.procedures → All (λ r. r.0 < RESOURCES) (holds_of sets g)
+pub held_fit : (p : Program) (sets : Sets) (g : ProcId) → IsFormed p → AreSetsOf p sets
+    → g.0 < length p.procedures → All (λ r. r.0 < RESOURCES) (holds_of sets g)
 held_fit p sets g formed are there k d below =
-    let held : HeldBy p g (get_or (holds_of sets g) k d) = ((holds_set p sets g are there).members (get_or (holds_of sets g) k d)).0 (Contains-get_or (holds_of sets g) k d below) in
-    let inside : (get_or (holds_of sets g) k d).0 < length p.resources = holds_within p formed g (get_or (holds_of sets g) k d) held in
+    let held : HeldBy p g
+    (get_or (holds_of sets g) k d) = ((holds_set p sets g are there).members
+    (get_or (holds_of sets g) k d)).0 (Contains-get_or (holds_of sets g) k d below) in
+    let inside : (get_or (holds_of sets g) k d).0 < length p.resources = holds_within p formed g
+    (get_or (holds_of sets g) k d) held in
     omega (arith, inside, formed.resource_count)
 
 -- a variable that may be set may be read
@@ -67,6 +93,7 @@ settable_in p h (Own n) w = w.0
 settable_in p h (Shared r i) w = w
 
 -- what is free anywhere may be named everywhere
-pub free_in_body : (p : Program) (h : Procedure) (g : ProcId) (x : Var) → IsFormed p → Free p g x → IsInBody p h x
+pub free_in_body : (p : Program) (h : Procedure) (g : ProcId) (x : Var) → IsFormed p → Free p g x
+    → IsInBody p h x
 free_in_body p h g (Own n) formed f = absurd f.0
 free_in_body p h g (Shared r i) formed f = free_within p g r i formed f

@@ -1,4 +1,5 @@
--- Faults: what is told of a breach of the conditions on variables: its kind, its place, and the name of the variable or of the resource.
+-- Faults: what is told of a breach of the conditions on variables: its kind, its place, and the name of
+-- the variable or of the resource.
 -- Ordinary: a message is its cause together with the word that the text has for it.
 use Rattle.std.specs.Prelude.{◌≡◌, ℕ, List, Some, slice_get}
 use Rattle.sf_base.specs.declared.ids.ProcId.{ProcId}
@@ -14,8 +15,10 @@ use Rattle.sf_vars.specs.declared.fault.VarFault.TheVariants.{NotHeld as TellNot
 
 -- the name that the procedure's text has for the variable
 abbrev pub IsVariableName : Program → ProcId → Var → List ℕ → Type 0
-IsVariableName p f (Own n) name = (h : Procedure) × (slice_get p.procedures f.0 ≡ Some h) × (slice_get h.names n ≡ Some name)
-IsVariableName p f (Shared r i) name = (q : Resource) × (slice_get p.resources r.0 ≡ Some q) × (slice_get q.variables i ≡ Some name)
+IsVariableName p f (Own n) name =
+    (h : Procedure) × (slice_get p.procedures f.0 ≡ Some h) × (slice_get h.names n ≡ Some name)
+IsVariableName p f (Shared r i) name =
+    (q : Resource) × (slice_get p.resources r.0 ≡ Some q) × (slice_get q.variables i ≡ Some name)
 
 -- the name of the resource
 abbrev pub IsResourceName : Program → ResId → List ℕ → Type 0

@@ -1,5 +1,5 @@
 -- Each program has an answer: no condition on variables is broken, or a fault comes first.
--- Ordinary: a relation that stands to each argument has a value for it.
+-- Ordinary: a relation that is total has a value for each argument.
 use Rattle.std.specs.Prelude.{◌⊎◌}
 use Rattle.sf_core.specs.Program.Formed.{IsFormed}
 use Rattle.sf_core.specs.Program.Syntax.{Program}
@@ -9,4 +9,5 @@ use Rattle.sf_vars.specs.declared.fault.VarFault.{VarFault}
 
 -- a program that is in order breaks no condition, or has a first fault
 abbrev pub EachProgramHasAnAnswer : Type 0
-EachProgramHasAnAnswer = (p : Program) → IsFormed p → Conditions p ⊎ ((fault : VarFault) × IsFirstFault p fault)
+EachProgramHasAnAnswer =
+    (p : Program) → IsFormed p → Conditions p ⊎ ((fault : VarFault) × IsFirstFault p fault)

@@ -13,7 +13,7 @@ use sf_calls::{Breach, Calls};
 use sf_core::{Call, Occurrence};
 
 /// Looks for a variable of a resource that is not held: first those that are free in what is
-/// called, then those that stand in the call.
+/// called, then those that occur in the call.
 pub fn unheld_in_call(calls: &Calls, held: &Held, call: &Call) -> Result<(), Breach>
     requires { HasSets calls.now call.now.callee }
     ensures { result_err result ≡ unheld_in_call calls.now held.now (call_of call.now) }

@@ -18,7 +18,7 @@ use sf_core::Program;
 use std::alloc::Global;
 
 /// Whether no condition on variables is broken. An `Err` tells the breach that comes first, in file
-/// order, and in text order within a body, or it is want of memory. The sets are those that `reach`
+/// order, and in text order within a body, or memory ran out. The sets are those that `reach`
 /// gives for the program.
 pub fn conditions(alloc: Global, p: &Program, c: &Calls) -> Result<(), VarFault>
     requires { AreSetsOf (program_of p.now) c.now }
@@ -31,7 +31,7 @@ pub fn conditions(alloc: Global, p: &Program, c: &Calls) -> Result<(), VarFault>
     }
 }
 
-/// The breach that comes first, and the procedure in which it stands.
+/// The breach that comes first, and the procedure in which it is.
 fn first_breach(p: &Program, calls: &Calls) -> Result<(), (ProcId, Breach)>
     requires { AreSetsOf (program_of p.now) calls.now }
     ensures { result_err result ≡ in_procedures calls.now 0 (program_of p.now).procedures }

@@ -3,6 +3,7 @@
 #![tactic(auto)]
 
 mod at_calls;
+mod condition;
 mod fault;
 mod held;
 pub mod laws;
@@ -10,10 +11,9 @@ mod naming;
 mod parallel;
 mod unheld;
 mod walk;
-mod condition;
 
-pub use fault::VarFault;
 pub use condition::conditions;
+pub use fault::VarFault;
 
 #[cfg(test)]
 mod tests;

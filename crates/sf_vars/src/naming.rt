@@ -20,7 +20,8 @@ pub fn fault_of(
     breach: Breach,
 ) -> Result<VarFault, AllocError>
     requires { IsBreachIn (program_of p.now) f breach }
-    ensures { IfOk result (λ fault. (name : List ℕ) × IsBreachName (program_of p.now) f breach name × (fault ≡ told_by breach name)) }
+    ensures { IfOk result (λ fault. (name : List ℕ) × IsBreachName (program_of p.now) f breach name
+        × (fault ≡ told_by breach name)) }
 {
     match breach {
         Breach::NotHeld(place, x) => Ok(VarFault::NotHeld(place, variable_name(alloc, p, f, x)?)),

@@ -34,7 +34,9 @@ fn shared_references(
 ) -> Result<(), Breach>
     requires left { HasSets calls.now left.now.callee }
     requires right { HasSets calls.now right.now.callee }
-    ensures { result_err result ≡ search_in (λ x. shared_at calls.now (call_of left.now) (call_of right.now) x.var) references.now }
+    ensures { result_err result
+        ≡ search_in (λ x.
+        shared_at calls.now (call_of left.now) (call_of right.now) x.var) references.now }
 {
     for x in references {
         shared_at(calls, left, right, x.var)?;
@@ -46,7 +48,9 @@ fn shared_references(
 fn shared_values(calls: &Calls, left: &Call, right: &Call, values: &[Expr]) -> Result<(), Breach>
     requires left { HasSets calls.now left.now.callee }
     requires right { HasSets calls.now right.now.callee }
-    ensures { result_err result ≡ search_in (shared_by_value calls.now (call_of left.now) (call_of right.now)) values.now }
+    ensures { result_err result
+        ≡ search_in (shared_by_value calls.now (call_of left.now)
+        (call_of right.now)) values.now }
 {
     for e in values {
         if let Expr::Var(x) = e {

@@ -1,5 +1,5 @@
 //! Two worked programs, built by hand: what they break is told as a refusal prints it. What else
-//! programs break is tested in sf_cli, where they are read from summaries.
+//! programs break is tested in sf_cli, where they are read from texts.
 
 ghost use Rattle.std.specs.Prelude.{◌≡◌, [], ◌∷◌, length, IfOk};
 ghost use Rattle.sf_core.specs.Program.Formed.{AssertionWithin, IsFormed, IsOfResource, ProcedureWithin};
@@ -54,7 +54,8 @@ fn told(alloc: Global, p: &Program) -> Result<String, AllocError> {
 
 /// `emp`
 fn emp(alloc: Global) -> Assertion
-    ensures { assertion_of result ≡ record { names = []; level = level (record { first = 0; count = 0 }) none } }
+    ensures { assertion_of result
+        ≡ record { names = []; level = level (record { first = 0; count = 0 }) none } }
 {
     Assertion {
         names: Vec::new(alloc),
@@ -67,7 +68,14 @@ fn emp(alloc: Global) -> Assertion
 
 /// A resource with one variable.
 fn resource(alloc: Global, name: &str, variable: &str) -> Result<Resource, AllocError>
-    ensures { IfOk result (λ r. resource_of r ≡ record { name = name.now; variables = variable.now ∷ []; invariant = record { names = []; level = level (record { first = 0; count = 0 }) none } }) }
+    ensures { IfOk result (λ r. resource_of r
+        ≡ record {
+          name = name.now;
+          variables = variable.now
+              ∷ [];
+          invariant = record
+              { names = []; level = level (record { first = 0; count = 0 }) none };
+        }) }
 {
     Ok(Resource {
         name: Name::new(alloc, name.as_bytes())?,
@@ -84,7 +92,20 @@ fn procedure(
     references: u32,
     body: Vec<Command>,
 ) -> Result<Proc, AllocError>
-    ensures { IfOk result (λ f. procedure_of f ≡ record { name = name.now; place = record { line = 1; column = 1 }; names = names.items; references = references; values = 0; locals = 0; pre = record { names = []; level = level (record { first = 0; count = 0 }) none }; post = record { names = []; level = level (record { first = 0; count = 0 }) none }; body = block_of body.items; end = record { line = 9; column = 1 } }) }
+    ensures { IfOk result (λ f. procedure_of f
+        ≡ record {
+          name = name.now;
+          place = record
+              { line = 1; column = 1 };
+          names = names.items;
+          references = references;
+          values = 0;
+          locals = 0;
+          pre = record { names = []; level = level (record { first = 0; count = 0 }) none };
+          post = record { names = []; level = level (record { first = 0; count = 0 }) none };
+          body = block_of body.items;
+          end = record { line = 9; column = 1 };
+        }) }
 {
     Ok(Proc {
         name: Name::new(alloc, name.as_bytes())?,

@@ -87,7 +87,8 @@ fn in_region(
     body: &[Command],
 ) -> Result<(), Breach>
     requires { CommandFits calls.now (with place r condition.now (block_of body.now)) }
-    ensures { result_err result ≡ in_command calls.now held.now (with place r condition.now (block_of body.now)) }
+    ensures { result_err result
+        ≡ in_command calls.now held.now (with place r condition.now (block_of body.now)) }
 {
     let inside = held.and(r);
     test(&inside, condition)?;

@@ -1,5 +1,6 @@
--- What stands in commands and assertions, as lists in text order: the variables of resources outside the regions of their resources, the regions, and those with a call inside.
--- They stand between the code and the relations of Outside and Conditions, and needn't be believed: no public contract names them.
+-- What occurs in commands and assertions, as lists in text order: variables of resources outside the
+-- regions of their
+-- resources, regions, and those with a call inside.
 -- Ordinary: each relation by cases has the list by the same cases.
 use Rattle.std.specs.Prelude.{◌==◌, Bool, true, false, cond, ◌||◌, List, [], ◌∷◌, ◌++◌}
 use Rattle.sf_base.specs.declared.ids.FieldId.{FieldId}
@@ -25,7 +26,7 @@ abbrev pub kept : List ResId → Var → List Var
 kept es (Own n) = []
 kept es (Shared r i) = cond (is_entered r es) [] (Shared r i ∷ [])
 
--- those that stand in an expression, a test or an assertion
+-- those that occur in an expression, a test or an assertion
 abbrev pub shared_in_expr : List ResId → Expr → List Var
 shared_in_expr es (Variable y) = kept es y.var
 shared_in_expr es Nil = []
@@ -62,9 +63,10 @@ abbrev mutual
   shared_in_conjunct es (points place root fs) = shared_in_operand es root ++ shared_in_fields es fs
   shared_in_conjunct es (segment place f from to) = shared_in_operand es from ++ shared_in_operand es to
   shared_in_conjunct es (tree place l r root) = shared_in_operand es root
-  shared_in_conjunct es (choose place t this that) = shared_in_condition es t ++ (shared_in_level es this ++ shared_in_level es that)
+  shared_in_conjunct es (choose place t this that) =
+      shared_in_condition es t ++ (shared_in_level es this ++ shared_in_level es that)
 
--- those that stand in a call
+-- those that occur in a call
 abbrev pub shared_in_references : List ResId → List Occurrence → List Var
 shared_in_references es [] = []
 shared_in_references es (y ∷ ys) = kept es y.var ++ shared_in_references es ys
@@ -76,7 +78,7 @@ shared_in_values es (d ∷ ds) = shared_in_expr es d ++ shared_in_values es ds
 abbrev pub shared_in_call : List ResId → Call → List Var
 shared_in_call es c = shared_in_references es c.references ++ shared_in_values es c.values
 
--- those that stand in commands
+-- those that occur in commands
 abbrev mutual
   pub shared_in : List ResId → Block → List Var
   shared_in es done = []

@@ -1,5 +1,4 @@
--- Summaries: what stands in each procedure's text, and what is read off it.
--- It stands between the code and the sets of Conditions, and needn't be believed: no public contract names it.
+-- Summaries: what occurs in each procedure's text, and what is read off it.
 -- Ordinary: a set as the list of its members; a test of a list by cases on it.
 use Rattle.std.specs.Prelude.{◌⊎◌, ◌↔◌, ◌==◌, Bool, false, ◌||◌, List, [], ◌∷◌, Option, Some, None, Contains}
 use Rattle.std.specs.List.{AllZip}
@@ -16,14 +15,18 @@ use Rattle.sf_calls.specs.Outside.{OccursOutside, CallsIn, EntersIn}
 use Rattle.sf_calls.specs.Sets.{IsVarSet}
 use Rattle.sf_calls.specs.Internal.Tests.{same_var}
 
--- what stands in the procedure's text. Where no call stands inside a region of r, each stands outside
+-- what occurs in the procedure's text. Where no call is inside a region of r, each is outside
 pub record IsSummaryOf (h : Procedure) (t : Summary) : Type 0 where
-  pub in_contract : IsVarSet (λ x. IsShared x × (VarOccursIn h.pre.level x ⊎ VarOccursIn h.post.level x)) t.in_contract
-  pub mentioned : IsVarSet (λ x. IsShared x × (VarOccursIn h.pre.level x ⊎ (VarOccursIn h.post.level x ⊎ OccursOutside x h.body))) t.mentioned
+  pub in_contract : IsVarSet (λ x. IsShared x × (VarOccursIn h.pre.level x ⊎ VarOccursIn h.post.level x))
+      t.in_contract
+  pub mentioned : IsVarSet
+      (λ x. IsShared x × (VarOccursIn h.pre.level x
+      ⊎ (VarOccursIn h.post.level x ⊎ OccursOutside x h.body))) t.mentioned
   pub entered : (r : ResId) → Contains t.entered.items r ↔ EntersIn r h.body
-  pub with_calls : (r : ResId) → (Contains t.with_calls.items r → ⊥) → (g : ProcId) → CallsIn None g h.body → CallsIn (Some r) g h.body
+  pub with_calls : (r : ResId) → (Contains t.with_calls.items r → ⊥) → (g : ProcId) → CallsIn None g h.body
+      → CallsIn (Some r) g h.body
 
--- for each procedure what stands in its text
+-- for each procedure what occurs in its text
 abbrev pub AreSummaries : Program → List Summary → Type 0
 AreSummaries p summaries = AllZip IsSummaryOf p.procedures summaries
 

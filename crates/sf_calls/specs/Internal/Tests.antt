@@ -1,5 +1,4 @@
--- The relations on what stands in commands and assertions, as tests and lists that compute.
--- They stand between the code and the relations of Outside, Assigned and Sets, and needn't be believed: no public contract names them but those of the tests in occurs.rt, which the search of sf_vars calls.
+-- The relations on what occurs in commands and assertions, as tests and lists that compute.
 -- Ordinary: each relation by cases has the test by the same cases.
 use Rattle.std.specs.Prelude.{◌==◌, nat_lt, Bool, true, false, cond, ◌&&◌, ◌||◌, not, List, [], ◌∷◌, ◌++◌, Option, Some, None}
 use Rattle.sf_base.specs.declared.ids.ProcId.{ProcId}
@@ -23,7 +22,7 @@ abbrev pub is_other : Option ResId → ResId → Bool
 is_other None q = true
 is_other (Some r) q = not (q.0 == r.0)
 
--- the variable stands in an expression, in references, in values
+-- the variable occurs in an expression, in references, in values
 abbrev pub in_expr : Var → Expr → Bool
 in_expr x (Variable y) = same_var y.var x
 in_expr x Nil = false

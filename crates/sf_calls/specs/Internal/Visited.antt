@@ -1,5 +1,4 @@
 -- Visited: a test for each procedure, by its number, and the callers of each procedure, as lists.
--- They stand between the code and the sets of Conditions, and needn't be believed: no public contract names them.
 -- Ordinary: a set of numbers as its characteristic list, a graph as its lists of predecessors.
 use Rattle.std.specs.Prelude.{◌≡◌, ◌≢◌, ◌⊎◌, ℕ, ◌+◌, Bool, true, false, not, List, [], ◌∷◌, length, count_by, cond, ◌↔◌, Option, Some, slice_get, slice_index_or, AllPairs, Contains, Vec}
 use Rattle.std.specs.List.{AllZip}
@@ -35,18 +34,20 @@ AreRows count P keys rows = AllZip (λ x row. IsRow count (λ f. P f x) row.item
 abbrev pub chosen : {A : Type 0} → ℕ → List A → List (Vec Bool Global) → List A
 chosen f [] rows = []
 chosen f (x ∷ xs) [] = []
-chosen f (x ∷ xs) (row ∷ rows) = cond (slice_index_or row.items f false) (x ∷ chosen f xs rows) (chosen f xs rows)
+chosen f (x ∷ xs) (row ∷ rows) =
+    cond (slice_index_or row.items f false) (x ∷ chosen f xs rows) (chosen f xs rows)
 
 -- how many are not visited
 abbrev pub unvisited : List Bool → ℕ
 unvisited visited = count_by not visited
 
--- each procedure stands there once
+-- each procedure is there once
 abbrev pub EachOnce : List ProcId → Type 0
 EachOnce fs = AllPairs (λ f g. f ≢ g) fs
 
 -- the procedures fs are visited beside those that were, and those that were not yet are queued
-pub record VisitsMore (fs : List ProcId) (before : List Bool) (queue : List ProcId) (after : List Bool) (longer : List ProcId) : Type 0 where
+pub record VisitsMore (fs : List ProcId) (before : List Bool) (queue : List ProcId) (after : List Bool)
+    (longer : List ProcId) : Type 0 where
   pub size : length after ≡ length before
   pub kept : (f : ProcId) → IsVisited before f → IsVisited after f
   pub all : (f : ProcId) → Contains fs f → IsVisited after f

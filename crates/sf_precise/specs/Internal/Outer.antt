@@ -1,5 +1,5 @@
--- Outer: the existentials that an assertion takes from the scopes around it, as a list of their occurrences in text order. These
--- definitions stand between the code and those of Determined and Order, and needn't be believed: no public contract names them.
+-- Outer: the existentials that an assertion takes from the scopes around it, as a list of their
+-- occurrences in text order.
 -- The usual free names of a formula with quantifiers, listed.
 use Rattle.std.specs.Prelude.{ℕ, not, List, [], ◌∷◌, ◌++◌, filter}
 use Rattle.sf_base.specs.declared.ids.FieldId.{FieldId}
@@ -28,7 +28,7 @@ field_existentials (f ∷ fs) = existential f.1 ++ field_existentials fs
 
 -- those that an assertion takes from outside
 abbrev mutual
-  -- those of a level that are not made there, or further in where they stand
+  -- those of a level that are not made there, or further in where they are
   pub outer_of_level : {E : Type 0} → Level E → List ℕ
   outer_of_level (level made cs) = filter (λ n. not (is_made_by made n)) (outer_of_all cs)
 

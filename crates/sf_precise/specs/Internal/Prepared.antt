@@ -1,6 +1,7 @@
--- Prepared: a conjunct that was looked at before any is taken: it can never be taken, or its branches are in order. These definitions
--- stand between the code and those of Determined and Order, and needn't be believed: no public contract names them.
--- What is known around a branch decides nothing about its order but that all that it takes from there is known.
+-- Prepared: a conjunct that was looked at before any is taken: it can never be taken, or its branches
+-- are in order.
+-- What is known around a branch decides nothing about its order but that all that it takes from there is
+-- known.
 use Rattle.std.specs.Prelude.{◌≡◌, ℕ, Bool, true, Option, Some, None}
 use Rattle.sf_base.specs.declared.place.Place.{Place}
 use Rattle.sf_core.specs.declared.assertion.Operand.{Operand}
@@ -13,12 +14,14 @@ use Rattle.sf_core.specs.Program.Syntax.{Conjunct, choose, Level, level}
 use Rattle.sf_precise.specs.Order.{IsOrderInside, IsOrderWithin}
 
 -- the choice with its branches in order, where both have one
-abbrev pub joined : {E : Type 0} → Place → Test (Operand E) → Option (Level E) → Option (Level E) → Option (Conjunct E)
+abbrev pub joined : {E : Type 0} → Place → Test (Operand E) → Option (Level E) → Option (Level E)
+    → Option (Conjunct E)
 joined p t None that = None
 joined p t (Some this) None = None
 joined p t (Some this) (Some that) = Some (choose p t this that)
 
--- None: it can be taken from nothing that is known; else that is the conjunct, its branches in order from whatever supplies it
+-- None: it can be taken from nothing that is known; else that is the conjunct, its branches in order
+-- from whatever supplies it
 abbrev pub IsPrepared : {E : Type 0} → Conjunct E → Option (Conjunct E) → Type 0
 IsPrepared c None = (known : ℕ → Bool) → CanBeTaken known c → ⊥
 IsPrepared c (Some o) = (known : ℕ → Bool) → IsSupplied known c → IsOrderWithin known c o

@@ -1,5 +1,5 @@
--- Waits: how many of which existentials have to become known before a conjunct is ready, and which ones become known by it. These
--- definitions stand between the code and those of Determined and Order, and needn't be believed: no public contract names them.
+-- Waits: how many of which existentials have to become known before a conjunct is ready, and which ones
+-- become known by it.
 -- The usual in-degrees of a topological sort (Kahn, 1962).
 use Rattle.std.specs.Prelude.{ℕ, ◌+◌, Bool, false, not, ◌&&◌, cond, List, [], ◌∷◌, ◌++◌, length, filter, Option, Some, None}
 use Rattle.sf_core.specs.declared.assertion.Operand.{Operand}
@@ -7,7 +7,7 @@ use Rattle.sf_core.specs.declared.assertion.Operand.TheVariants.{Known, Exists}
 use Rattle.sf_core.specs.declared.assertion.Scope.{Scope}
 use Rattle.sf_core.specs.declared.assertion.Test.{Test}
 use Rattle.sf_core.specs.declared.assertion.Test.TheVariants.{True, Equal, Differ}
-use Rattle.sf_core.specs.Assertions.Occurs.{is_made_by}
+use Rattle.sf_core.specs.Assertions.Scopes.{is_made_by}
 use Rattle.sf_core.specs.Program.Syntax.{Conjunct, holds, points, segment, tree, choose}
 use Rattle.sf_precise.specs.Internal.Outer.{existential, test_existentials, field_existentials, outer_of}
 
@@ -37,7 +37,8 @@ rests_on (choose p t this that) = outer_of (choose p t this that)
 abbrev pub waits_for : {E : Type 0} → (ℕ → Bool) → Conjunct E → List ℕ
 waits_for start c = unknown_among start (rests_on c)
 
--- how many of those have to become known: all of them, of an equality the one or the other, and more than there are where a branch has no order
+-- how many of those have to become known: all of them, of an equality the one or the other, and more
+-- than there are where a branch has no order
 abbrev pub need_of : {E : Type 0} → (ℕ → Bool) → Conjunct E → Bool → ℕ
 need_of start (holds p (Equal x y)) ordered = cond (is_unknown start x && is_unknown start y) 1 0
 need_of start c ordered = length (waits_for start c) + cond ordered 0 1

@@ -1,6 +1,7 @@
--- Work: what is kept while conjuncts are taken, each as soon as nothing is lacking and none before it is ready. These definitions
--- stand between the code and those of Determined and Order, and needn't be believed: no public contract names them.
--- The worklist of a topological sort (Kahn, 1962): counts of what is lacking, who waits for what, and who is ready, by number.
+-- Work: what is kept while conjuncts are taken, each as soon as nothing is lacking and none before it is
+-- ready.
+-- The worklist of a topological sort (Kahn, 1962): counts of what is lacking, who waits for what, and
+-- who is ready, by number.
 use Rattle.std.specs.Prelude.{◌≡◌, ◌≢◌, ℕ, ◌+◌, ◌-◌, ◌<◌, ◌≤◌, ◌==◌, Bool, true, false, not, ◌&&◌, ◌||◌, List, [], ◌∷◌, ◌++◌, length, map, sum, replicate, count_by, slice_get, slice_index_or, Some, None, Option, Vec, Contains}
 use Rattle.std.specs.List.{list_any}
 use Rattle.std.specs.Ordering.{nat_cmp}
@@ -39,11 +40,15 @@ work_left w = btree_set_len w.ready + sum w.lacking.items
 pub record AddsWaits (i : ℕ) (ns : List ℕ) (before after : BTreeMap ℕ (Vec ℕ Global)) : Type 0 where
   pub rows : (n : ℕ) → row after n ≡ row before n ++ replicate (count_by (λ m. m == n) ns) i
 
--- one thing less is lacking for each of the jobs xs, as often as it stands there; those for which nothing is lacking any more are ready
+-- one thing less is lacking for each of the jobs xs, as often as it is there; those for which nothing is
+-- lacking any more are ready
 pub record Serves (xs : List ℕ) (before after : Work) : Type 0 where
   pub size : length after.lacking.items ≡ length before.lacking.items
-  pub lacking : (i : ℕ) → i < length before.lacking.items → slice_index_or after.lacking.items i 1 ≡ slice_index_or before.lacking.items i 1 - count_by (λ k. k == i) xs
-  pub ready : (i : ℕ) → is_ready after i ≡ (is_ready before i || (is_served after i && not (is_served before i)))
+  pub lacking : (i : ℕ) → i < length before.lacking.items
+      → slice_index_or after.lacking.items i 1 ≡ slice_index_or before.lacking.items i 1 - count_by
+      (λ k. k == i) xs
+  pub ready : (i : ℕ)
+      → is_ready after i ≡ (is_ready before i || (is_served after i && not (is_served before i)))
   pub waiting : (n : ℕ) → row after.waiting n ≡ row before.waiting n
   pub left : work_left after ≤ work_left before
 
@@ -54,9 +59,11 @@ known_with ns known n = known n || list_any (λ m. m == n) ns
 -- the work of these jobs, where that is known and those jobs are taken
 pub record IsWork (jobs : List Job) (known : ℕ → Bool) (taken : List Bool) (w : Work) : Type 0 where
   pub size : length w.lacking.items ≡ length jobs
-  pub visited : length taken ≡ length jobs
-  pub lacking : (i : ℕ) (j : Job) → slice_get jobs i ≡ Some j → slice_index_or w.lacking.items i 1 ≡ j.need - count_by known j.waits
-  pub rows : (n : ℕ) → known n ≡ false → (i : ℕ) (j : Job) → slice_get jobs i ≡ Some j → count_by (λ k. k == i) (row w.waiting n) ≡ count_by (λ m. m == n) j.waits
+  pub flags : length taken ≡ length jobs
+  pub lacking : (i : ℕ) (j : Job) → slice_get jobs i ≡ Some j
+      → slice_index_or w.lacking.items i 1 ≡ j.need - count_by known j.waits
+  pub rows : (n : ℕ) → known n ≡ false → (i : ℕ) (j : Job) → slice_get jobs i ≡ Some j
+      → count_by (λ k. k == i) (row w.waiting n) ≡ count_by (λ m. m == n) j.waits
   pub gone : (n : ℕ) → known n ≡ true → row w.waiting n ≡ []
   pub within : (n i : ℕ) → Contains (row w.waiting n) i → i < length jobs
   pub ready : (i : ℕ) → is_ready w i ≡ (is_served w i && not (slice_index_or taken i true))
@@ -64,7 +71,8 @@ pub record IsWork (jobs : List Job) (known : ℕ → Bool) (taken : List Bool) (
 
 -- the existentials ns become known
 pub record Learns (ns : List ℕ) (before after : Work) : Type 0 where
-  pub work : (jobs : List Job) (known : ℕ → Bool) (taken : List Bool) → IsWork jobs known taken before → IsWork jobs (known_with ns known) taken after
+  pub work : (jobs : List Job) (known : ℕ → Bool) (taken : List Bool) → IsWork jobs known taken before
+      → IsWork jobs (known_with ns known) taken after
   pub within : WaitsWithin before → WaitsWithin after
   pub left : work_left after ≤ work_left before
 
@@ -74,9 +82,14 @@ none_taken jobs = map (λ j. false) jobs
 
 -- one more job, none of what it waits for being known, and no job taken
 abbrev pub AddsJob : Job → (before after : Work) → Type 0
-AddsJob j before after = (jobs : List Job) (known : ℕ → Bool) → list_any known j.waits ≡ false → IsWork jobs known (none_taken jobs) before → IsWork (jobs ++ j ∷ []) known (none_taken (jobs ++ j ∷ [])) after
+AddsJob j before after =
+    (jobs : List Job) (known : ℕ → Bool) → list_any known j.waits ≡ false
+    → IsWork jobs known (none_taken jobs) before
+    → IsWork (jobs ++ j ∷ []) known (none_taken (jobs ++ j ∷ [])) after
 
 -- the first number at which something is lacking; None where nothing is
 abbrev pub IsFirstLacking : List ℕ → Option ℕ → Type 0
 IsFirstLacking lacking None = (k : ℕ) → k < length lacking → slice_index_or lacking k 1 ≡ 0
-IsFirstLacking lacking (Some i) = (i < length lacking) × (slice_index_or lacking i 1 ≢ 0) × ((k : ℕ) → k < i → slice_index_or lacking k 1 ≡ 0)
+IsFirstLacking lacking (Some i) =
+    (i < length lacking) × (slice_index_or lacking i 1 ≢ 0)
+    × ((k : ℕ) → k < i → slice_index_or lacking k 1 ≡ 0)

@@ -1,6 +1,7 @@
--- Search: the first breach of the conditions on variables as a search that computes, over the sets of each procedure and a visit for each resource that is held.
--- It stands between the code and FirstBreach, and needn't be believed: no public contract names it.
--- Ordinary: each relation of FirstBreach has the search by the same cases. What is free in a procedure, or taken by it, is looked at as its set.
+-- Search: the first breach of the conditions on variables as a search that computes, over the sets of
+-- each procedure and a flag for each resource that is held.
+-- Ordinary: each relation of FirstBreach has the search by the same cases. What is free in a procedure,
+-- or taken by it, is looked at as its set.
 use Rattle.std.specs.Prelude.{ℕ, suc, Bool, true, false, cond, not, ◌&&◌, ◌||◌, ◌<◌, List, [], ◌∷◌, ◌++◌, Option, Some, None, slice_index_or, slice_set, length, replicate, AllPairs, ◌≡◌, slice_get}
 use Rattle.std.specs.List.{list_any}
 use Rattle.std.specs.Option.{option_or, option_map}
@@ -102,16 +103,18 @@ abbrev mutual
   -- in one conjunct: in its root and fields, its sides, or its test and then its branches
   pub in_conjunct : List Bool → Conjunct Expr → Option Breach
   in_conjunct held (holds place t) = in_test (in_operand held) t
-  in_conjunct held (points place root fs) = option_or (in_operand held root) (search_in (λ f. in_operand held f.1) fs)
+  in_conjunct held (points place root fs) =
+      option_or (in_operand held root) (search_in (λ f. in_operand held f.1) fs)
   in_conjunct held (segment place next from to) = option_or (in_operand held from) (in_operand held to)
   in_conjunct held (tree place left right root) = in_operand held root
-  in_conjunct held (choose place t this that) = option_or (in_test (in_operand held) t) (option_or (in_level held this) (in_level held that))
+  in_conjunct held (choose place t this that) =
+      option_or (in_test (in_operand held) t) (option_or (in_level held this) (in_level held that))
 
 -- of those variables the first that is not held, told at that place
 abbrev pub free_unheld : List Bool → Place → List Var → Option Breach
 free_unheld held place xs = search_in (λ x. found (lacks held x) (NotHeld place x)) xs
 
--- a call whose procedure has a variable free that is not held, at its name; then what stands in it
+-- a call whose procedure has a variable free that is not held, at its name; then what occurs in it
 abbrev pub unheld_in_call : Sets → List Bool → Call → Option Breach
 unheld_in_call sets held c =
     option_or (free_unheld held c.place (free_of sets c.callee))
@@ -128,11 +131,15 @@ reenters_by_call sets held c = taken_held held c.place (takes_of sets c.callee)
 -- a reference that names what one before it does
 abbrev pub repeats : (before : List Occurrence) → List Occurrence → Option Breach
 repeats before [] = None
-repeats before (x ∷ xs) = option_or (found (in_references x.var before) (SameReference x.place x.var)) (repeats (before ++ x ∷ []) xs)
+repeats before (x ∷ xs) =
+    option_or (found (in_references x.var before) (SameReference x.place x.var))
+    (repeats (before ++ x ∷ []) xs)
 
 -- a reference that is free in the procedure that is called
 abbrev pub passes_free : Sets → Call → Option Breach
-passes_free sets c = search_in (λ x. found (is_in (free_of sets c.callee) x.var) (ReferenceIsFree x.place x.var)) c.references
+passes_free sets c =
+    search_in (λ x. found (is_in (free_of sets c.callee) x.var) (ReferenceIsFree x.place x.var))
+    c.references
 
 -- what a call may change
 abbrev pub may_change : Sets → Call → Var → Bool
@@ -156,9 +163,11 @@ shared_by_value sets c d (Variable x) = shared_at sets c d x.var
 shared_by_value sets c d Nil = None
 shared_by_value sets c d (Int i) = None
 
--- they share a variable that stands in the named one
+-- they share a variable that occurs in the named one
 abbrev pub shared_by_name : Sets → (left right named : Call) → Option Breach
-shared_by_name sets c d named = option_or (search_in (λ x. shared_at sets c d x.var) named.references) (search_in (shared_by_value sets c d) named.values)
+shared_by_name sets c d named =
+    option_or (search_in (λ x. shared_at sets c d x.var) named.references)
+    (search_in (shared_by_value sets c d) named.values)
 
 -- of those variables the first that is free in the procedure, told at that place
 abbrev pub also_free : Sets → Place → ProcId → List Var → Option Breach
@@ -170,7 +179,8 @@ free_in_both sets c d = also_free sets c.place d.callee (free_of sets c.callee)
 
 -- two calls that share
 abbrev pub shares_in_fork : Sets → (left right : Call) → Option Breach
-shares_in_fork sets c d = option_or (option_or (shared_by_name sets c d c) (shared_by_name sets c d d)) (free_in_both sets c d)
+shares_in_fork sets c d =
+    option_or (option_or (shared_by_name sets c d c) (shared_by_name sets c d d)) (free_in_both sets c d)
 
 -- a call by itself
 abbrev pub in_single : Sets → List Bool → Call → Option Breach
@@ -189,7 +199,7 @@ in_fork sets held c d =
 
 -- in commands, in text order
 abbrev mutual
-  -- in a block: in a command before those behind it
+  -- in a block: in a command before those after it
   pub in_block : Sets → List Bool → Block → Option Breach
   in_block sets held done = None
   in_block sets held (then c b) = option_or (in_command sets held c) (in_block sets held b)
@@ -201,12 +211,15 @@ abbrev mutual
   in_command sets held (mutate q e field d) = option_or (in_expr held e) (in_expr held d)
   in_command sets held (new q x) = at_occurrence held x
   in_command sets held (dispose q e) = in_expr held e
-  in_command sets held (if q t c d) = option_or (in_test (in_expr held) t) (option_or (in_block sets held c) (in_block sets held d))
-  in_command sets held (while q t i c) = option_or (in_test (in_expr held) t) (option_or (in_level held i.level) (in_block sets held c))
+  in_command sets held (if q t c d) =
+      option_or (in_test (in_expr held) t) (option_or (in_block sets held c) (in_block sets held d))
+  in_command sets held (while q t i c) =
+      option_or (in_test (in_expr held) t) (option_or (in_level held i.level) (in_block sets held c))
   in_command sets held (call q c) = in_single sets held c
   in_command sets held (fork q c d) = in_fork sets held c d
   in_command sets held (with q s t c) =
-      option_or (in_test (in_expr (with_one held s)) t) (option_or (found (has held s) (Reentered q s)) (in_block sets (with_one held s) c))
+      option_or (in_test (in_expr (with_one held s)) t)
+      (option_or (found (has held s) (Reentered q s)) (in_block sets (with_one held s) c))
 
 -- no resource is visited
 abbrev pub none_held : List Bool
@@ -219,7 +232,9 @@ in_procedure sets f h = in_block sets (with_all none_held (holds_of sets f)) h.b
 -- the procedures in file order, the next one having that number
 abbrev pub in_procedures : Sets → ℕ → List Procedure → Option (ProcId × Breach)
 in_procedures sets k [] = None
-in_procedures sets k (h ∷ hs) = option_or (option_map (λ b. (record { 0 = k }, b)) (in_procedure sets (record { 0 = k }) h)) (in_procedures sets (suc k) hs)
+in_procedures sets k (h ∷ hs) =
+    option_or (option_map (λ b. (record { 0 = k }, b)) (in_procedure sets (record { 0 = k }) h))
+    (in_procedures sets (suc k) hs)
 
 -- the procedure has its sets, that of what is free in it in order
 pub record HasSets (sets : Sets) (g : ProcId) : Type 0 where

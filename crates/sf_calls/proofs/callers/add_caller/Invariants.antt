@@ -7,5 +7,7 @@ use Rattle.sf_calls.proofs.callers.add_caller.Given as goal
 abbrev pub invariant-loop-g : goal.invariant-loop-g
 invariant-loop-g l = record {
   size : length l.callers.items ≡ length l.initial.callers.items;
-  more : (h g : ProcId) → IsCaller l.callers.items h g ↔ (IsCaller l.initial.callers.items h g ⊎ ((h ≡ l.f) × Contains (take l.g-index l.callees) g));
+  more : (h g : ProcId)
+      → IsCaller l.callers.items h g ↔
+      (IsCaller l.initial.callers.items h g ⊎ ((h ≡ l.f) × Contains (take l.g-index l.callees) g));
 }

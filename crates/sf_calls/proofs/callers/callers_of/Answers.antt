@@ -8,32 +8,58 @@ use Rattle.sf_calls.proofs.CallGraph.{calls_none, calls_more, calls_all, callees
 use Rattle.sf_calls.proofs.callers.callers_of.Goals as goal
 
 pub loop-i-init : goal.loop-i-init
-loop-i-init c = record { size = search rules; callers = calls_none (program_of c.args.p.now) c.args.but c.in_ok-callers.callers.items c.in_ok-callers.ensures.none }
+loop-i-init c =
+    record {
+      size = search rules;
+      callers =
+          calls_none (program_of c.args.p.now) c.args.but c.in_ok-callers.callers.items
+          c.in_ok-callers.ensures.none;
+    }
 
 pub add_caller-requires : goal.add_caller-requires
 add_caller-requires c =
-    let at : slice_get (map procedure_of c.args.p.now.procedures.items) c.loop-i.i ≡ Some (procedure_of c.procedure-item.result) =
-    get-read_map procedure_of c.args.p.now.procedures.items c.deref-procedure-items.result.now c.loop-i.i c.procedure-item.result c.deref-procedure-items.ensures.value c.loop-i-test.true c.procedure-item.is in
-    let are : c.deref-in-loop-i.result.now ≡ callees_in c.args.but (block_of c.procedure-item.result.body.items) =
-    c.deref-in-loop-i.ensures.value ∙ c.in_ok-add_callees.ensures ∙ ap (λ xs. xs ++ callees_in c.args.but (block_of c.deref.result.now)) c.new-callees.ensures.items ∙ ap (λ xs. callees_in c.args.but (block_of xs)) c.deref.ensures.value in
-    let within = callees_there (program_of c.args.p.now) c.args.but c.loop-i.i (procedure_of c.procedure-item.result) c.deref-in-loop-i.result.now c.args.p.now.formed at are in
+    let at : slice_get (map procedure_of c.args.p.now.procedures.items) c.loop-i.i
+    ≡ Some (procedure_of c.procedure-item.result) =
+    get-read_map procedure_of c.args.p.now.procedures.items c.deref-procedure-items.result.now c.loop-i.i
+    c.procedure-item.result c.deref-procedure-items.ensures.value c.loop-i-test.true
+    c.procedure-item.is in
+    let are : c.deref-in-loop-i.result.now
+    ≡ callees_in c.args.but (block_of c.procedure-item.result.body.items) =
+    c.deref-in-loop-i.ensures.value ∙ c.in_ok-add_callees.ensures
+    ∙ ap (λ xs. xs ++ callees_in c.args.but (block_of c.deref.result.now)) c.new-callees.ensures.items
+    ∙ ap (λ xs. callees_in c.args.but (block_of xs)) c.deref.ensures.value in
+    let within = callees_there (program_of c.args.p.now) c.args.but c.loop-i.i
+    (procedure_of c.procedure-item.result) c.deref-in-loop-i.result.now c.args.p.now.formed at are in
     rw (c.loop-i.invariant.size, ← length-map c.args.p.now.procedures.items procedure_of) within
 
 pub loop-i-preserved : goal.loop-i-preserved
 loop-i-preserved c =
-    let at : slice_get (map procedure_of c.args.p.now.procedures.items) c.loop-i.i ≡ Some (procedure_of c.procedure-item.result) =
-    get-read_map procedure_of c.args.p.now.procedures.items c.deref-procedure-items.result.now c.loop-i.i c.procedure-item.result c.deref-procedure-items.ensures.value c.loop-i-test.true c.procedure-item.is in
-    let are : c.deref-in-loop-i.result.now ≡ callees_in c.args.but (block_of c.procedure-item.result.body.items) =
-    c.deref-in-loop-i.ensures.value ∙ c.in_ok-add_callees.ensures ∙ ap (λ xs. xs ++ callees_in c.args.but (block_of c.deref.result.now)) c.new-callees.ensures.items ∙ ap (λ xs. callees_in c.args.but (block_of xs)) c.deref.ensures.value in
+    let at : slice_get (map procedure_of c.args.p.now.procedures.items) c.loop-i.i
+    ≡ Some (procedure_of c.procedure-item.result) =
+    get-read_map procedure_of c.args.p.now.procedures.items c.deref-procedure-items.result.now c.loop-i.i
+    c.procedure-item.result c.deref-procedure-items.ensures.value c.loop-i-test.true
+    c.procedure-item.is in
+    let are : c.deref-in-loop-i.result.now
+    ≡ callees_in c.args.but (block_of c.procedure-item.result.body.items) =
+    c.deref-in-loop-i.ensures.value ∙ c.in_ok-add_callees.ensures
+    ∙ ap (λ xs. xs ++ callees_in c.args.but (block_of c.deref.result.now)) c.new-callees.ensures.items
+    ∙ ap (λ xs. callees_in c.args.but (block_of xs)) c.deref.ensures.value in
     record {
       size = c.in_ok-add_caller.ensures.size ∙ c.loop-i.invariant.size;
-      callers = calls_more (program_of c.args.p.now) c.args.but c.loop-i.i (procedure_of c.procedure-item.result) c.deref-in-loop-i.result.now c.loop-i.callers.items c.add_caller.new.callers.items at are c.loop-i.invariant.callers c.in_ok-add_caller.ensures.more;
+      callers =
+          calls_more (program_of c.args.p.now) c.args.but c.loop-i.i
+          (procedure_of c.procedure-item.result) c.deref-in-loop-i.result.now c.loop-i.callers.items
+          c.add_caller.new.callers.items at are c.loop-i.invariant.callers
+          c.in_ok-add_caller.ensures.more;
     }
 
 pub returns : goal.returns
 returns c =
-    let all : length c.args.p.now.procedures.items ≤ c.loop-i.i = omega (arith, c.loop-i-test.false, ap length c.deref-procedure-items.ensures.value) in
+    let all : length c.args.p.now.procedures.items ≤ c.loop-i.i = omega
+    (arith, c.loop-i-test.false, ap length c.deref-procedure-items.ensures.value) in
     record {
       size = c.loop-i.invariant.size ∙ sym (length-map c.args.p.now.procedures.items procedure_of);
-      are = calls_all (program_of c.args.p.now) c.args.but c.loop-i.i c.loop-i.callers.items (rw (length-map c.args.p.now.procedures.items procedure_of) all) c.loop-i.invariant.callers;
+      are =
+          calls_all (program_of c.args.p.now) c.args.but c.loop-i.i c.loop-i.callers.items
+          (rw (length-map c.args.p.now.procedures.items procedure_of) all) c.loop-i.invariant.callers;
     }

@@ -5,4 +5,6 @@ use Rattle.sf_calls.proofs.keys.add_variables.Given as goal
 
 -- those so far
 abbrev pub invariant-loop-i : goal.invariant-loop-i
-invariant-loop-i l = (counts : ℕ → ℕ) → IsSetOf IsEarlier (IsUpTo counts l.r.0 0) l.initial.found.items → IsSetOf IsEarlier (IsUpTo counts l.r.0 l.i) l.found.items
+invariant-loop-i l =
+    (counts : ℕ → ℕ) → IsSetOf IsEarlier (IsUpTo counts l.r.0 0) l.initial.found.items
+    → IsSetOf IsEarlier (IsUpTo counts l.r.0 l.i) l.found.items

@@ -5,9 +5,11 @@ use Rattle.sf_calls.proofs.InOrder.{next_resource}
 use Rattle.sf_calls.proofs.keys.resources_of.Goals as goal
 
 pub loop-i-preserved : goal.loop-i-preserved
-loop-i-preserved c = rw c.in_ok-push.ensures.items (next_resource c.loop-i.i c.loop-i.found.items c.loop-i.invariant)
+loop-i-preserved c =
+    rw c.in_ok-push.ensures.items (next_resource c.loop-i.i c.loop-i.found.items c.loop-i.invariant)
 
 pub returns : goal.returns
 returns c =
     let all : c.loop-i.i ≡ length c.args.p.now.resources.items = omega arith in
-    subst (λ (n : ℕ). IsSetOf IsEarlierResource (λ (r : ResId). r.0 < n) c.loop-i.found.items) all c.loop-i.invariant
+    subst (λ (n : ℕ). IsSetOf IsEarlierResource (λ (r : ResId). r.0 < n) c.loop-i.found.items) all
+    c.loop-i.invariant

@@ -7,4 +7,6 @@ use Rattle.sf_calls.proofs.keys.variables_of.Given as goal
 
 -- those of the resources so far
 abbrev pub invariant-loop-i : goal.invariant-loop-i
-invariant-loop-i l = IsSetOf IsEarlier (IsUpTo (λ k. variable_count (slice_get (program_of l.p).resources k)) l.i 0) l.found.items
+invariant-loop-i l =
+    IsSetOf IsEarlier (IsUpTo (λ k. variable_count (slice_get (program_of l.p).resources k)) l.i 0)
+    l.found.items

@@ -7,6 +7,8 @@ use Rattle.sf_calls.proofs.regions.+regions.Given as goal
 abbrev pub invariant-add_regions-loop-c : goal.invariant-add_regions-loop-c
 invariant-add_regions-loop-c l = record {
   calls : (l.calls || has_calls (block_of (drop l.c-index l.body))) ≡ has_calls (block_of l.body);
-  entered : l.entered.items ++ entered_in (block_of (drop l.c-index l.body)) ≡ l.initial.entered.items ++ entered_in (block_of l.body);
-  with_calls : l.with_calls.items ++ with_calls_in (block_of (drop l.c-index l.body)) ≡ l.initial.with_calls.items ++ with_calls_in (block_of l.body);
+  entered : l.entered.items ++ entered_in (block_of (drop l.c-index l.body)) ≡ l.initial.entered.items
+      ++ entered_in (block_of l.body);
+  with_calls : l.with_calls.items ++ with_calls_in (block_of (drop l.c-index l.body))
+      ≡ l.initial.with_calls.items ++ with_calls_in (block_of l.body);
 }

@@ -6,4 +6,5 @@ use Rattle.sf_calls.proofs.summary.summaries_of.Given as goal
 
 -- the summaries so far
 abbrev pub invariant-loop-h : goal.invariant-loop-h
-invariant-loop-h l = AllZip IsSummaryOf (map procedure_of (take l.h-index l.p.procedures.items)) l.summaries.items
+invariant-loop-h l =
+    AllZip IsSummaryOf (map procedure_of (take l.h-index l.p.procedures.items)) l.summaries.items

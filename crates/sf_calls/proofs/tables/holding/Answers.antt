@@ -8,8 +8,12 @@ use Rattle.sf_calls.proofs.tables.holding.Goals as goal
 pub loop-t-preserved : goal.loop-t-preserved
 loop-t-preserved c =
     c.in_ok-push.ensures.items
-    ∙ map-more (λ t. speaks_of c.args.r t.in_contract) c.args.summaries.now c.args.summaries.now c.loop-t.t-index c.t-item.result c.loop-t.visited.items c.speaks_of.result
-    refl c.loop-t-test.true c.t-item.is (c.speaks_of.ensures ∙ ap (speaks_of c.args.r) c.as_slice.ensures) c.loop-t.invariant
+    ∙ map-more (λ t. speaks_of c.args.r t.in_contract) c.args.summaries.now c.args.summaries.now
+    c.loop-t.t-index c.t-item.result c.loop-t.visited.items c.speaks_of.result
+    refl c.loop-t-test.true c.t-item.is (c.speaks_of.ensures ∙ ap (speaks_of c.args.r) c.as_slice.ensures)
+    c.loop-t.invariant
 
 pub returns : goal.returns
-returns c = holding_row (program_of c.args.p.now) c.args.r c.args.p.now.procedures.items c.args.summaries.now c.loop-t.t-index c.loop-t.visited.items refl c.requires c.loop-t-test.false c.loop-t.invariant
+returns c =
+    holding_row (program_of c.args.p.now) c.args.r c.args.p.now.procedures.items c.args.summaries.now
+    c.loop-t.t-index c.loop-t.visited.items refl c.requires c.loop-t-test.false c.loop-t.invariant

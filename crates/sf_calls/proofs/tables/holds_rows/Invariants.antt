@@ -6,4 +6,6 @@ use Rattle.sf_calls.proofs.tables.holds_rows.Given as goal
 
 -- the rows so far
 abbrev pub invariant-loop-r : goal.invariant-loop-r
-invariant-loop-r l = AreRows (length l.p.procedures.items) (HeldBy (program_of l.p)) (take l.r-index l.resources) l.rows.items
+invariant-loop-r l =
+    AreRows (length l.p.procedures.items) (HeldBy (program_of l.p))
+    (take l.r-index l.resources) l.rows.items

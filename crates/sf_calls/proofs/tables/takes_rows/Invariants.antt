@@ -6,4 +6,5 @@ use Rattle.sf_calls.proofs.tables.takes_rows.Given as goal
 
 -- the rows so far
 abbrev pub invariant-loop-r : goal.invariant-loop-r
-invariant-loop-r l = AreRows (length l.p.procedures.items) (Takes (program_of l.p)) (take l.r-index l.resources) l.rows.items
+invariant-loop-r l =
+    AreRows (length l.p.procedures.items) (Takes (program_of l.p)) (take l.r-index l.resources) l.rows.items

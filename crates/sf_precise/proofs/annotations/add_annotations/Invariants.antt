@@ -6,4 +6,8 @@ use Rattle.sf_precise.proofs.annotations.add_annotations.Given as goal
 
 -- those so far and those of what is left are all
 abbrev pub invariant-loop-procedure : goal.invariant-loop-procedure
-invariant-loop-procedure l = map (λ a. assertion_of a.now) l.notes.items ++ flat_map notes_of (map procedure_of (drop l.procedure-index l.procedures)) ≡ map (λ a. assertion_of a.now) l.initial.notes.items ++ flat_map notes_of (map procedure_of l.procedures)
+invariant-loop-procedure l =
+    map (λ a. assertion_of a.now) l.notes.items
+    ++ flat_map notes_of (map procedure_of (drop l.procedure-index l.procedures))
+    ≡ map (λ a. assertion_of a.now) l.initial.notes.items
+    ++ flat_map notes_of (map procedure_of l.procedures)

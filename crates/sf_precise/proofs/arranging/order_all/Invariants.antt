@@ -5,4 +5,6 @@ use Rattle.sf_precise.proofs.arranging.order_all.Given as goal
 
 -- the first place so far, and the orders so far where there is none
 abbrev pub invariant-loop-a : goal.invariant-loop-a
-invariant-loop-a l = IsNoted (map (λ a. assertion_of a.now) (take l.a-index l.notes)) l.first (map (λ o. assertion_of o.assertion) l.orders.items)
+invariant-loop-a l =
+    IsNoted (map (λ a. assertion_of a.now) (take l.a-index l.notes)) l.first
+    (map (λ o. assertion_of o.assertion) l.orders.items)

@@ -4,4 +4,9 @@ use Rattle.sf_precise.proofs.OrderMeaning.{level-sat, sat-level}
 use Rattle.sf_precise.proofs.laws.order_keeps_meaning.Goals as goal
 
 pub returns : goal.returns
-returns c = λ a o vars some heap i. (λ d. level-sat (value vars) (λ n. false) a o some heap i d, λ d. sat-level (value vars) (λ n. false) a o some heap i d)
+returns c =
+    λ a o vars some heap i. (
+      λ d. level-sat (value vars) (λ n. false) a o some heap i d,
+      λ d. sat-level (value vars)
+          (λ n. false) a o some heap i d,
+    )

@@ -4,4 +4,6 @@ use Rattle.sf_precise.proofs.outer.add_of_fields.Given as goal
 
 -- those so far and those of what is left are all
 abbrev pub invariant-loop-f : goal.invariant-loop-f
-invariant-loop-f l = l.found.items ++ field_existentials (drop l.f-index l.fields) ≡ l.initial.found.items ++ field_existentials l.fields
+invariant-loop-f l =
+    l.found.items ++ field_existentials (drop l.f-index l.fields) ≡ l.initial.found.items
+    ++ field_existentials l.fields

@@ -7,5 +7,6 @@ use Rattle.sf_precise.proofs.sequence.begin.Given as goal
 -- the work of those so far
 abbrev pub invariant-loop-i : goal.invariant-loop-i
 invariant-loop-i l =
-    let jobs = jobs_of (known_outside l.start) (map conjunct_of (take l.i l.cs)) (map is_some (take l.i l.parts)) in
+    let jobs = jobs_of (known_outside l.start) (map conjunct_of (take l.i l.cs))
+    (map is_some (take l.i l.parts)) in
     IsWork jobs (known_outside l.start) (none_taken jobs) l.work

@@ -21,8 +21,24 @@ nothing = record { names = []; level = level (record { first = 0; count = 0 }) n
 
 -- a procedure with one local
 abbrev one_local : Procedure
-one_local = record { name = []; place = place; names = [] ∷ []; references = 0; values = 0; locals = 1; pre = nothing; post = nothing; body = done; end = place }
+one_local =
+    record {
+      name = [];
+      place = place;
+      names = [] ∷ [];
+      references = 0;
+      values = 0;
+      locals = 1;
+      pre = nothing;
+      post = nothing;
+      body = done;
+      end = place;
+    }
 
 pub assigned-requires : goal.assigned-requires
-assigned-requires g c =
-    (one_local, rw (view c.at.result c.own.result) (subst (IsSettable (program_of c.in-Ok.arranged.program) one_local) (sym c.own.ensures) (omega arith, λ h. h)))
+assigned-requires g c = (
+  one_local,
+  rw (view c.at.result c.own.result)
+      (subst (IsSettable (program_of c.in-Ok.arranged.program) one_local) (sym c.own.ensures)
+      (omega arith, λ h. h)),
+)

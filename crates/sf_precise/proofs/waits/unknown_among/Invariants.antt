@@ -4,4 +4,6 @@ use Rattle.sf_precise.proofs.waits.unknown_among.Given as goal
 
 -- those so far and those of what is left are all
 abbrev pub invariant-loop-n : goal.invariant-loop-n
-invariant-loop-n l = l.found.items ++ unknown_among (known_outside l.start) (drop l.n-index l.ns) ≡ unknown_among (known_outside l.start) l.ns
+invariant-loop-n l =
+    l.found.items ++ unknown_among (known_outside l.start) (drop l.n-index l.ns)
+    ≡ unknown_among (known_outside l.start) l.ns

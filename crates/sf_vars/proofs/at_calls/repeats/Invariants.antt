@@ -2,6 +2,6 @@ use Rattle.std.proofs.Common.{◌≡◌, [], drop, take}
 use Rattle.sf_vars.specs.Internal.Search.{repeats}
 use Rattle.sf_vars.proofs.at_calls.repeats.Given as goal
 
--- what was passed repeats nothing, and is what stands before the rest
+-- what was passed repeats nothing, and is what comes before the rest
 abbrev pub invariant-loop-i : goal.invariant-loop-i
 invariant-loop-i l = repeats [] l.references ≡ repeats (take l.i l.references) (drop l.i l.references)

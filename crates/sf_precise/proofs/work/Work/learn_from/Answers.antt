@@ -3,10 +3,19 @@ use Rattle.sf_precise.proofs.Views.{view-if, view-segment, view-tree}
 use Rattle.sf_precise.proofs.work.Work.learn_from.Goals as goal
 
 pub returns-in-Segment : goal.returns-in-Segment
-returns-in-Segment c = rw (c.in-Segment.is, view-segment c.in-Segment.field-0 c.in-Segment.field-1 c.in-Segment.field-2 c.in-Segment.field-3) (learns-none c.args.self.now)
+returns-in-Segment c =
+    rw (
+      c.in-Segment.is,
+      view-segment c.in-Segment.field-0 c.in-Segment.field-1 c.in-Segment.field-2
+          c.in-Segment.field-3,
+    ) (learns-none c.args.self.now)
 
 pub returns-in-Tree : goal.returns-in-Tree
-returns-in-Tree c = rw (c.in-Tree.is, view-tree c.in-Tree.field-0 c.in-Tree.field-1 c.in-Tree.field-2 c.in-Tree.field-3) (learns-none c.args.self.now)
+returns-in-Tree c =
+    rw (c.in-Tree.is, view-tree c.in-Tree.field-0 c.in-Tree.field-1 c.in-Tree.field-2 c.in-Tree.field-3)
+    (learns-none c.args.self.now)
 
 pub returns-in-If : goal.returns-in-If
-returns-in-If c = rw (c.in-If.is, view-if c.in-If.field-0 c.in-If.field-1 c.in-If.field-2 c.in-If.field-3) (learns-none c.args.self.now)
+returns-in-If c =
+    rw (c.in-If.is, view-if c.in-If.field-0 c.in-If.field-1 c.in-If.field-2 c.in-If.field-3)
+    (learns-none c.args.self.now)

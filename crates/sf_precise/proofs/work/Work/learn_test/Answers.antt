@@ -8,7 +8,9 @@ returns-in-True c = rw c.in-True.is (learns-none c.args.self.now)
 pub returns-in_ok-learn_operand-in-Equal-2 : goal.returns-in_ok-learn_operand-in-Equal-2
 returns-in_ok-learn_operand-in-Equal-2 c =
     rw c.in-Equal.is
-    (learns-both (existential c.in-Equal.x) (existential c.in-Equal.y) c.args.self.now c.learn_operand.new.self c.learn_operand-in-Equal.new.self c.in_ok-learn_operand-in-Equal.ensures c.in_ok-learn_operand-in-Equal-2.ensures)
+    (learns-both (existential c.in-Equal.x) (existential c.in-Equal.y) c.args.self.now
+    c.learn_operand.new.self c.learn_operand-in-Equal.new.self c.in_ok-learn_operand-in-Equal.ensures
+    c.in_ok-learn_operand-in-Equal-2.ensures)
 
 pub returns-in-Differ : goal.returns-in-Differ
 returns-in-Differ c = rw c.in-Differ.is (learns-none c.args.self.now)
