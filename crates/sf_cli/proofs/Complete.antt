@@ -2,14 +2,14 @@
 -- Names: complete-*.
 use Rattle.std.proofs.Common.{◌≡◌, ℕ, ◌<◌, ◌≤◌, ◌⊎◌, inl, inr, List, Option, arith}
 use Rattle.std.proofs.lemmas.Bool.{cases_lt}
-use Rattle.sf_io.specs.Rose.{Rose}
+use Rattle.sf_io.specs.Increased.{Increased}
 use Rattle.sf_io.specs.Shelf.{Files}
 use Rattle.sf_cli.specs.Answer.{Reply, answer, unread}
 use Rattle.sf_cli.specs.Words.{Text}
 
 -- what is said is an answer
 pub complete-reply : (told : Option Files) (before after : Text → ℕ) (words : List Text) (text : Text) (status : ℕ) → Reply told before after words text status
-    → ((name : Text) → Rose (before name) (after name) → ⊥) → status < 7
+    → ((name : Text) → Increased (before name) (after name) → ⊥) → status < 7
 complete-reply told before after words text status (answer l a) quiet = l
 complete-reply told before after words text status (unread s u) quiet = absurd (quiet u.name u.rose)
 

@@ -8,7 +8,7 @@ use Rattle.std.specs.declared.result.Result.TheVariants.{Ok, Err}
 use Rattle.std.specs.Prelude.{IfOk, IfSome, IsSomeAnd}
 use Rattle.sf_cli.specs.declared.reply.Said.{Said}
 use Rattle.sf_base.specs.declared.limits.TheConstants.{FILE_BYTES}
-use Rattle.sf_io.specs.Rose.{Rose}
+use Rattle.sf_io.specs.Increased.{Increased}
 use Rattle.sf_io.specs.Shelf.{Files}
 use Rattle.sf_core.specs.Program.Syntax.{Program}
 use Rattle.sf_lex.specs.declared.fault.LexFault.{LexFault}
@@ -102,7 +102,7 @@ answers-order told words name text status e a = (a.0, a.1, subst (λ (o : Option
 
 -- words that name a file are answered with what is due to it, or with its being unread
 pub reply-file : (told : Option Files) (before after : Text → ℕ) (words : List Text) (name text : Text) (status : ℕ) → order_of words ≡ Some (verify name) → status < 8
-    → (status < 7 → AnswersFile told name text status) → (status ≡ 7 → Rose (before name) (after name) × (text ≡ read_fault_text name)) → Reply told before after words text status
+    → (status < 7 → AnswersFile told name text status) → (status ≡ 7 → Increased (before name) (after name) × (text ≡ read_fault_text name)) → Reply told before after words text status
 reply-file told before after words name text status e l a u = go (nat_lt status 7) refl
   where
     go : (b : Bool) → nat_lt status 7 ≡ b → Reply told before after words text status
@@ -115,7 +115,7 @@ reply-file told before after words name text status e l a u = go (nat_lt status 
 -- the same of an answer that may be want of memory, whatever words are that command
 pub reply-command : {E : Type 0} (r : Result Said E) (told : Option Files) (before after : Text → ℕ) (o : Option Order) (name : Text) → o ≡ Some (verify name)
     → IfOk r (λ said. said.status < 8) → IfOk r (λ said. said.status < 7 → AnswersFile told name said.text.items said.status)
-    → IfOk r (λ said. said.status ≡ 7 → Rose (before name) (after name) × (said.text.items ≡ read_fault_text name))
+    → IfOk r (λ said. said.status ≡ 7 → Increased (before name) (after name) × (said.text.items ≡ read_fault_text name))
     → IfOk r (λ said. (words : List Text) → order_of words ≡ o → Reply told before after words said.text.items said.status)
 reply-command (Ok said) told before after o name e l a u = λ words is. reply-file told before after words name said.text.items said.status (is ∙ e) l a u
 reply-command (Err x) told before after o name e l a u = tt

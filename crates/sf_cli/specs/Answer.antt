@@ -3,9 +3,9 @@
 use Rattle.std.specs.Prelude.{◌≡◌, ℕ, ◌<◌, ◌⊎◌, true, false, Option, Some, None, List, ◌++◌, codes}
 use Rattle.sf_lex.specs.Reading.{first_place}
 use Rattle.sf_core.specs.Program.Syntax.{Program}
-use Rattle.sf_io.specs.Rose.{Rose}
+use Rattle.sf_io.specs.Increased.{Increased}
 use Rattle.sf_io.specs.Shelf.{Files}
-use Rattle.sf_io.specs.Sink.{WrotePart}
+use Rattle.sf_io.specs.Sink.{WrotePrefix}
 use Rattle.sf_rules.specs.Built.{is_built}
 use Rattle.sf_cli.specs.FileFault.{FileFault, Admits}
 use Rattle.sf_cli.specs.Refusals.{refusal_text}
@@ -71,7 +71,7 @@ AnswersFile told name text status = (files : Files) × MayBe told files × (byte
 pub record Unread (before after : Text → ℕ) (words : List Text) (text : Text) : Type 0 where
   pub name : Text
   pub named : NamesFile words name
-  pub rose : Rose (before name) (after name)
+  pub rose : Increased (before name) (after name)
   pub text_is : text ≡ read_fault_text name
 
 -- what the command may say: an answer with its status, or that its file can't be read
@@ -82,7 +82,7 @@ pub data Reply (told : Option Files) (before after : Text → ℕ) (words : List
 -- a first part of something that the command may say was written
 abbrev pub WroteFront : Option Files → (before after : Text → ℕ) → List Text → (old new : Option Text) → Type 0
 WroteFront told before after words old new =
-    (text : Text) × (status : ℕ) × Reply told before after words text status × WrotePart old new text
+    (text : Text) × (status : ℕ) × Reply told before after words text status × WrotePrefix old new text
 
 -- nothing was written, or a first part of something that the command may say
 abbrev pub WroteSome : Option Files → (before after : Text → ℕ) → List Text → (old new : Option Text) → Type 0

@@ -2,7 +2,7 @@
 
 ghost use Rattle.std.specs.Prelude.{◌≡◌, ◌≢◌, ◌<◌, ◌≤◌, ◌-◌, ◌^◌, ◌++◌, List, Some, IfOk, IsErrOf, codes};
 ghost use Rattle.sf_core.specs.Program.ProgramView.{program_of};
-ghost use Rattle.sf_io.specs.Rose.{Rose};
+ghost use Rattle.sf_io.specs.Increased.{Increased};
 ghost use Rattle.sf_cli.specs.Answer.{AnswersFile, FileAnswer, NamesFile, ProgramAnswer, Reply, VerdictAnswer, read_fault_text};
 ghost use Rattle.sf_cli.specs.Fetched.{Fetched};
 ghost use Rattle.sf_cli.specs.Refusals.{refusal_text};
@@ -113,7 +113,7 @@ fn fetch_up_to<S: Shelf>(
 ) -> Result<Vec<u8>, FetchFault>
     requires { limit < 2 ^ 64 - 1 }
     ensures fetched { IfOk result (λ bytes. Fetched limit (S.files shelf.old) name.now bytes.items) }
-    ensures failed { IsErrOf result FetchFault.Failed → Rose (S.faults shelf.old name.now) (S.faults shelf.new name.now) }
+    ensures failed { IsErrOf result FetchFault.Failed → Increased (S.faults shelf.old name.now) (S.faults shelf.new name.now) }
     ensures files { S.files shelf.new ≡ S.files shelf.old }
     ensures others { (other : Text) → other ≢ name.now → S.faults shelf.new other ≡ S.faults shelf.old other }
     ensures counts { (any : Text) → S.faults shelf.old any ≤ S.faults shelf.new any }
@@ -127,7 +127,7 @@ fn fetch_up_to<S: Shelf>(
 fn answer_to_file<S: Shelf>(alloc: Global, name: &str, shelf: &mut S) -> Result<Said, AllocError>
     ensures status { IfOk result (λ said. said.status < 8) }
     ensures answered { IfOk result (λ said. said.status < 7 → AnswersFile (S.files shelf.old) name.now said.text.items said.status) }
-    ensures unread { IfOk result (λ said. said.status ≡ 7 → Rose (S.faults shelf.old name.now) (S.faults shelf.new name.now) × (said.text.items ≡ read_fault_text name.now)) }
+    ensures unread { IfOk result (λ said. said.status ≡ 7 → Increased (S.faults shelf.old name.now) (S.faults shelf.new name.now) × (said.text.items ≡ read_fault_text name.now)) }
     ensures files { S.files shelf.new ≡ S.files shelf.old }
     ensures others { (other : Text) → other ≢ name.now → S.faults shelf.new other ≡ S.faults shelf.old other }
     ensures counts { (any : Text) → S.faults shelf.old any ≤ S.faults shelf.new any }

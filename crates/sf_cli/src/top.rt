@@ -1,8 +1,8 @@
 //! The top call.
 
 ghost use Rattle.std.specs.Prelude.{◌≡◌, ◌≢◌, ◌≤◌, ◌<◌, ◌⊎◌, List};
-ghost use Rattle.sf_io.specs.Rose.{Rose};
-ghost use Rattle.sf_io.specs.Sink.{with_bytes, WrotePart};
+ghost use Rattle.sf_io.specs.Increased.{Increased};
+ghost use Rattle.sf_io.specs.Sink.{with_bytes, WrotePrefix};
 ghost use Rattle.sf_cli.specs.Answer.{Accepted, Answers, NamesFile, Unread, WroteFront, WroteSome};
 ghost use Rattle.sf_cli.specs.Words.{Text};
 ghost use Rattle.sf_cli.specs.WordsOf.{words_of};
@@ -23,8 +23,8 @@ pub const OUT_OF_MEMORY: u8 = 9;
 fn tell<K: Sink>(sink: &mut K, said: &Said) -> u8
     requires { said.now.status < 8 }
     ensures whole { result < 8 → (result ≡ said.now.status) × (K.written sink.new ≡ with_bytes (K.written sink.old) said.now.text.items) }
-    ensures part { 8 ≤ result → WrotePart (K.written sink.old) (K.written sink.new) said.now.text.items }
-    ensures failed { result ≡ 8 → Rose (K.faults sink.old) (K.faults sink.new) }
+    ensures part { 8 ≤ result → WrotePrefix (K.written sink.old) (K.written sink.new) said.now.text.items }
+    ensures failed { result ≡ 8 → Increased (K.faults sink.old) (K.faults sink.new) }
     ensures last { result ≤ 9 }
     ensures counts { K.faults sink.old ≤ K.faults sink.new }
 {
@@ -58,7 +58,7 @@ pub fn smallfoot<'a, R: Threads + Wait + Sync, S: Shelf, K: Sink, G: Gate>(
     // The file that the words name couldn't be read: its count of faults rose.
     ensures unread { result ≡ 7 → (text : Text) × (K.written sink.new ≡ with_bytes (K.written sink.old) text) × Unread (S.faults shelf.old) (S.faults shelf.new) (words_of words.now) text }
     // The sink's count of faults rose, and the bytes put are a first part of what may be said.
-    ensures unwritten { result ≡ 8 → Rose (K.faults sink.old) (K.faults sink.new) }
+    ensures unwritten { result ≡ 8 → Increased (K.faults sink.old) (K.faults sink.new) }
     ensures cut { result ≡ 8 → WroteFront (S.files shelf.old) (S.faults shelf.old) (S.faults shelf.new) (words_of words.now) (K.written sink.old) (K.written sink.new) }
     // Memory ran out: the bytes put are none, or a first part of what may be said.
     ensures part { result ≡ 9 → WroteSome (S.files shelf.old) (S.faults shelf.old) (S.faults shelf.new) (words_of words.now) (K.written sink.old) (K.written sink.new) }
@@ -67,7 +67,7 @@ pub fn smallfoot<'a, R: Threads + Wait + Sync, S: Shelf, K: Sink, G: Gate>(
     ensures no_read_fault { ((name : Text) → S.faults shelf.new name ≡ 0) → result ≢ 7 }
     ensures no_write_fault { K.faults sink.new ≡ 0 → result ≢ 8 }
     // Where no count rises in this call, the answer is whole, or memory ran out.
-    ensures complete { ((name : Text) → Rose (S.faults shelf.old name) (S.faults shelf.new name) → ⊥) → (Rose (K.faults sink.old) (K.faults sink.new) → ⊥) → (result < 7) ⊎ (result ≡ 9) }
+    ensures complete { ((name : Text) → Increased (S.faults shelf.old name) (S.faults shelf.new name) → ⊥) → (Increased (K.faults sink.old) (K.faults sink.new) → ⊥) → (result < 7) ⊎ (result ≡ 9) }
     // What is accepted is sound: whatever runs of it there are, each configuration is good.
     ensures accepted { result ≡ 0 → (text : Text) × (K.written sink.new ≡ with_bytes (K.written sink.old) text) × Accepted (S.files shelf.old) (words_of words.now) text }
     // No file changes, and no count falls; that of a name rises only where the words name it.

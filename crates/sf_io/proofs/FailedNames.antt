@@ -8,7 +8,7 @@ use Rattle.sf_io.specs.declared.shelf.FetchFault.{FetchFault}
 use Rattle.sf_io.specs.declared.shelf.FetchFault.TheVariants.{Failed, OutOfMemory}
 use Rattle.sf_io.specs.Shelf.{failures_of}
 
--- the name that failed stands there once more
+-- the name that failed occurs once more
 pub failures_of-append_same : (failed : List (List ℕ)) (name : List ℕ) →
     failures_of (failed ++ name ∷ []) name ≡ failures_of failed name + 1
 unfolding failures_of

@@ -1,6 +1,6 @@
-pub mod Calls
+pub mod FaultPlan
 pub mod MemShelf
 pub mod MemSink
-pub mod Rose
+pub mod Increased
 pub mod Shelf
 pub mod Sink

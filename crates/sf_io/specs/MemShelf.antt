@@ -4,7 +4,7 @@ use Rattle.std.specs.Prelude.{◌≡◌, ℕ, List, if◌then◌else◌, Some}
 use Rattle.std.specs.BTreeMap.{get_by_text}
 use Rattle.std.specs.Option.{option_map}
 use Rattle.std.specs.Str.{bytes_eq}
-use Rattle.sf_io.specs.Calls.{Plan}
+use Rattle.sf_io.specs.FaultPlan.{Plan}
 use Rattle.sf_io.specs.Shelf.{Files}
 use Rattle.sf_io.specs.declared.mem_shelf.MemShelf.{MemShelf}
 
@@ -16,9 +16,9 @@ files_of shelf name = option_map (λ bytes. bytes.items) (get_by_text shelf.file
 abbrev pub failed_of : MemShelf → List (List ℕ)
 failed_of shelf = shelf.failed.items
 
--- the calls
-abbrev pub calls_of : MemShelf → Plan
-calls_of shelf = shelf.calls
+-- the calls made, and which of them are to fail
+abbrev pub plan_of : MemShelf → Plan
+plan_of shelf = shelf.plan
 
 -- these files, with these bytes under that name
 abbrev pub with_file : Files → List ℕ → List ℕ → Files
@@ -27,4 +27,4 @@ with_file files name bytes other = if bytes_eq name other then Some bytes else f
 -- the same names have failed, and the same calls are to fail
 pub record SameFailures (old new : MemShelf) : Type 0 where
   pub failed : failed_of new ≡ failed_of old
-  pub calls : calls_of new ≡ calls_of old
+  pub plan : plan_of new ≡ plan_of old

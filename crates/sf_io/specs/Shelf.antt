@@ -16,6 +16,6 @@ untold = None
 abbrev pub GrewAtMost : ℕ → List ℕ → List ℕ → Type 0
 GrewAtMost most before after = (piece : List ℕ) × (length piece ≤ most) × (after ≡ before ++ piece)
 
--- how often a name stands in a list of failed names
+-- how often a name occurs in a list of failed names
 unfoldable pub failures_of : List (List ℕ) → List ℕ → ℕ
 failures_of failed name = count_by (λ n. bytes_eq n name) failed

@@ -7,9 +7,9 @@ abbrev pub with_bytes : Option (List ℕ) → List ℕ → Option (List ℕ)
 with_bytes None bytes = None
 with_bytes (Some before) bytes = Some (before ++ bytes)
 
--- some of the text's first bytes were written, and nothing else
-abbrev pub WrotePart : Option (List ℕ) → Option (List ℕ) → List ℕ → Type 0
-WrotePart before after text = (n : ℕ) × (n ≤ length text) × (after ≡ with_bytes before (take n text))
+-- a prefix of the text was written, and nothing else
+abbrev pub WrotePrefix : Option (List ℕ) → Option (List ℕ) → List ℕ → Type 0
+WrotePrefix before after text = (n : ℕ) × (n ≤ length text) × (after ≡ with_bytes before (take n text))
 
 -- what a sink has that doesn't tell what is written
 abbrev pub untold : Option (List ℕ)

@@ -6,7 +6,7 @@ use sf_base::Name;
 use std::alloc::Global;
 
 /// A copy of that name, and room for it in the list of failed names, which stays as it is. An `Err`
-/// is want of memory.
+/// says that memory ran out.
 pub(crate) fn room_for(
     alloc: Global,
     failed: &mut Vec<Name>,
@@ -22,7 +22,7 @@ pub(crate) fn room_for(
 }
 
 /// Adds the name of a file whose fetch failed to the list, which has room for it, and answers so.
-pub(crate) fn failed_at(failed: &mut Vec<Name>, name: Name) -> Result<(), FetchFault>
+pub(crate) fn record_failure(failed: &mut Vec<Name>, name: Name) -> Result<(), FetchFault>
     requires { vec_len failed.old < vec_capacity failed.old }
     ensures answer { result ≡ Err FetchFault.Failed }
     ensures list { failed.new.items ≡ failed.old.items ++ name ∷ [] }

@@ -1,8 +1,8 @@
 ghost use Rattle.std.specs.Prelude.{◌≡◌, ◌≢◌, ◌≤◌, ◌⊎◌, ℕ, List, [], ◌∷◌, ◌++◌, take, IsOk, IsErrOf, IfSome, IsSomeAnd, OnOk, OnErr};
-ghost use Rattle.sf_io.specs.Rose.{Rose};
+ghost use Rattle.sf_io.specs.Increased.{Increased};
 ghost use Rattle.sf_io.specs.Shelf.{GrewAtMost, failures_of, untold};
 
-use crate::failures::{failed_at, room_for};
+use crate::failures::{record_failure, room_for};
 use crate::shelf::{FetchFault, Shelf};
 use sf_base::Name;
 use std::alloc::Global;
@@ -58,7 +58,7 @@ impl<'a, R: Files> Shelf for FileShelf<'a, R> {
         ensures appended { OnOk result (GrewAtMost most out.old.items out.new.items) }
         ensures refused { OnErr result (out.new.items ≡ out.old.items) }
         ensures failed { IsErrOf result FetchFault.Failed
-            → Rose (failures_of self.old name.now) (failures_of self.new name.now) }
+            → Increased (failures_of self.old name.now) (failures_of self.new name.now) }
         ensures fault { IsErrOf result FetchFault.Failed → self.new ≡ self.old ++ name.now ∷ [] }
         ensures no_fault { IsOk result ⊎ IsErrOf result FetchFault.OutOfMemory → self.new ≡ self.old }
         ensures others { (other : List ℕ) → other ≢ name.now
@@ -72,13 +72,13 @@ impl<'a, R: Files> Shelf for FileShelf<'a, R> {
         match read_file(self.rt, name, most, out) {
             Ok(()) => Ok(()),
             Err(FetchFault::OutOfMemory) => Err(FetchFault::OutOfMemory),
-            Err(FetchFault::Failed) => failed_at(&mut self.failed, copy),
+            Err(FetchFault::Failed) => record_failure(&mut self.failed, copy),
         }
     }
 }
 
-// Appends the first `most` bytes of a file, or all where there are fewer. `Failed` stands for an
-// `Err` of the outside.
+// Appends the first `most` bytes of a file, or all where there are fewer. `Failed` comes from
+// an `Err` of the outside.
 fn read_file<R: Files>(rt: &R, name: &str, most: usize, out: &mut Vec<u8>) -> Result<(), FetchFault>
     ensures ok { OnOk result (GrewAtMost most out.old.items out.new.items) }
     ensures err { OnErr result (out.new.items ≡ out.old.items) }

@@ -1,5 +1,5 @@
 ghost use Rattle.std.specs.Prelude.{◌≡◌, ◌≢◌, ◌≤◌, ℕ, List, ◌++◌, take, Option, IsOk, OnOk, OnErr, IfSome, IsSomeAnd, IsErrOf};
-ghost use Rattle.sf_io.specs.Rose.{Rose};
+ghost use Rattle.sf_io.specs.Increased.{Increased};
 ghost use Rattle.sf_io.specs.Shelf.{Files, GrewAtMost};
 
 use std::alloc::AllocError;
@@ -37,7 +37,8 @@ pub trait Shelf {
     ghost faults: { Self → List ℕ → ℕ };
 
     /// Appends the first `most` bytes of the file with that name, or all of it where it is shorter.
-    /// A name that isn't in the map is a fault. `Failed` comes only where the count of that name rose.
+    /// A name that isn't in the map is a fault. `Failed` comes only where the count of that name
+    /// increased.
     /// After an `Err` the list is as before.
     fn fetch(&mut self, name: &str, most: usize, out: &mut Vec<u8>) -> Result<(), FetchFault>
         ensures files_stay { files self.new ≡ files self.old }
@@ -46,7 +47,7 @@ pub trait Shelf {
         ensures appended { OnOk result (GrewAtMost most out.old.items out.new.items) }
         ensures refused { OnErr result (out.new.items ≡ out.old.items) }
         ensures failed { IsErrOf result FetchFault.Failed
-            → Rose (faults self.old name.now) (faults self.new name.now) }
+            → Increased (faults self.old name.now) (faults self.new name.now) }
         ensures others { (other : List ℕ) → other ≢ name.now
             → faults self.new other ≡ faults self.old other }
         ensures counts { (any : List ℕ) → faults self.old any ≤ faults self.new any }

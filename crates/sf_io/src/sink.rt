@@ -1,6 +1,6 @@
 ghost use Rattle.std.specs.Prelude.{◌≡◌, ◌<◌, ◌≤◌, ℕ, List, [], take, length, Option, Ok, IfOk, OnOk, OnErr, IsErrOf};
-ghost use Rattle.sf_io.specs.Rose.{Rose};
-ghost use Rattle.sf_io.specs.Sink.{with_bytes, WrotePart};
+ghost use Rattle.sf_io.specs.Increased.{Increased};
+ghost use Rattle.sf_io.specs.Sink.{with_bytes, WrotePrefix};
 
 use thiserror::Error;
 
@@ -25,7 +25,7 @@ pub trait Sink {
     ghost faults: { Self → ℕ };
 
     /// Takes the first bytes of the piece, at least one of a piece that has any, and answers how
-    /// many. Nothing happens where the piece is empty. `Failed` comes only where the count rose.
+    /// many. Nothing happens where the piece is empty. `Failed` comes only where the count increased.
     /// After an `Err` nothing was taken.
     fn put(&mut self, piece: &[u8]) -> Result<usize, SinkFault>
         ensures bound { IfOk result (λ n. n ≤ length piece.now) }
@@ -36,21 +36,21 @@ pub trait Sink {
         ensures nothing { piece.now ≡ [] → self.new ≡ self.old }
         ensures refused { OnErr result (written self.new ≡ written self.old) }
         ensures failed { IsErrOf result SinkFault.Failed
-            → Rose (faults self.old) (faults self.new) }
+            → Increased (faults self.old) (faults self.new) }
         ensures out_of_memory { IsErrOf result SinkFault.OutOfMemory
             → faults self.new ≡ faults self.old }
         ensures counts { faults self.old ≤ faults self.new };
 }
 
-/// Puts the whole text, piece by piece. `Failed` comes only where the sink's count rose. After an
-/// `Err` a first part of the text was taken.
+/// Puts the whole text, piece by piece. `Failed` comes only where the sink's count increased. After
+/// an `Err` a prefix of the text was taken.
 pub fn put_all<K: Sink>(sink: &mut K, text: &[u8]) -> Result<(), SinkFault>
     ensures whole { OnOk result
         (K.written sink.new ≡ with_bytes (K.written sink.old) text.now) }
-    ensures part { OnErr result
-        (WrotePart (K.written sink.old) (K.written sink.new) text.now) }
+    ensures prefix { OnErr result
+        (WrotePrefix (K.written sink.old) (K.written sink.new) text.now) }
     ensures failed { IsErrOf result SinkFault.Failed
-        → Rose (K.faults sink.old) (K.faults sink.new) }
+        → Increased (K.faults sink.old) (K.faults sink.new) }
     ensures counts { K.faults sink.old ≤ K.faults sink.new }
 {
     let mut at = 0;

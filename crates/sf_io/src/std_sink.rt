@@ -1,6 +1,6 @@
 ghost use Rattle.std.specs.Prelude.{◌≡◌, ◌≤◌, ◌<◌, [], take, length, Ok, IfOk, OnErr, IsErrOf};
-ghost use Rattle.sf_io.specs.Calls.{one_more};
-ghost use Rattle.sf_io.specs.Rose.{Rose};
+ghost use Rattle.sf_io.specs.FaultPlan.{one_more};
+ghost use Rattle.sf_io.specs.Increased.{Increased};
 ghost use Rattle.sf_io.specs.Sink.{untold, with_bytes};
 
 use crate::sink::{Sink, SinkFault};
@@ -39,7 +39,7 @@ impl<'a, R: Print> Sink for StdSink<'a, R> {
 
     /// Writes until all is taken, a write fails, or one takes nothing. What a piece's first writes
     /// took before a fault is answered; a fault that lasts is met again by the next call. The count goes
-    /// up by one, or stands at its end, exactly where the piece isn't taken whole.
+    /// up by one, or is at its end, exactly where the piece isn't taken whole.
     fn put(&mut self, piece: &[u8]) -> Result<usize, SinkFault>
         ensures bound { IfOk result (λ n. n ≤ length piece.now) }
         ensures progress { IfOk result (λ n. 0 < length piece.now → 0 < n) }
@@ -47,7 +47,7 @@ impl<'a, R: Print> Sink for StdSink<'a, R> {
         ensures empty { piece.now ≡ [] → result ≡ Ok 0 }
         ensures nothing { piece.now ≡ [] → self.new ≡ self.old }
         ensures refused { OnErr result (untold ≡ untold) }
-        ensures failed { IsErrOf result SinkFault.Failed → Rose self.old self.new }
+        ensures failed { IsErrOf result SinkFault.Failed → Increased self.old self.new }
         ensures fault { IsErrOf result SinkFault.Failed → self.new ≡ one_more self.old }
         ensures short { IfOk result (λ n. n < length piece.now → self.new ≡ one_more self.old) }
         ensures whole { IfOk result (λ n. n ≡ length piece.now → self.new ≡ self.old) }

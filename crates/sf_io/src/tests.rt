@@ -1,17 +1,17 @@
 ghost use Rattle.std.specs.Prelude.{◌≡◌, ◌≢◌, ◌⊎◌, ℕ, List, ◌++◌, take, length, Option, IfSome, IsSomeAnd, IsOk};
-ghost use Rattle.sf_io.specs.Rose.{Rose};
-ghost use Rattle.sf_io.specs.Sink.{with_bytes, WrotePart};
+ghost use Rattle.sf_io.specs.Increased.{Increased};
+ghost use Rattle.sf_io.specs.Sink.{with_bytes, WrotePrefix};
 
 use super::*;
-use sf_base::{ProcId, ResId, TaskPath, Turn};
-use std::alloc::Global;
+use sf_base::TaskPath;
+use std::alloc::{AllocError, Global};
 use std::cell::{Cell, RefCell};
 use std::fmt::Display;
 use std::test::Fail;
 use std::{fs, io, process};
 
 // Puts the first bytes of a file: 0. Where it can't be read, its name: 7. A write fault is 8, and
-// want of memory 9.
+// 9 that memory ran out.
 fn copy<S: Shelf, K: Sink>(
     alloc: Global,
     shelf: &mut S,
@@ -21,13 +21,13 @@ fn copy<S: Shelf, K: Sink>(
 ) -> u8
     ensures done { result ≡ 0 → IfSome (S.files shelf.old) (λ all. IsSomeAnd (all name.now)
         (λ bytes. K.written sink.new ≡ with_bytes (K.written sink.old) (take most bytes))) }
-    ensures read_fault { result ≡ 7 → Rose (S.faults shelf.old name.now) (S.faults shelf.new name.now) }
+    ensures read_fault { result ≡ 7 → Increased (S.faults shelf.old name.now) (S.faults shelf.new name.now) }
     ensures read_fault_text { result ≡ 7
         → K.written sink.new ≡ with_bytes (K.written sink.old) name.now }
-    ensures write_fault { result ≡ 8 → Rose (K.faults sink.old) (K.faults sink.new) }
-    ensures part { result ≡ 8 → IfSome (S.files shelf.old) (λ all.
-        WrotePart (K.written sink.old) (K.written sink.new) name.now ⊎ IsSomeAnd (all name.now)
-        (λ bytes. WrotePart (K.written sink.old) (K.written sink.new) (take most bytes))) }
+    ensures write_fault { result ≡ 8 → Increased (K.faults sink.old) (K.faults sink.new) }
+    ensures prefix { result ≡ 8 → IfSome (S.files shelf.old) (λ all.
+        WrotePrefix (K.written sink.old) (K.written sink.new) name.now ⊎ IsSomeAnd (all name.now)
+        (λ bytes. WrotePrefix (K.written sink.old) (K.written sink.new) (take most bytes))) }
     ensures quiet_shelf { ((s : S) (n : List ℕ) → S.faults s n ≡ 0) → result ≢ 7 }
     ensures quiet_sink { ((k : K) → K.faults k ≡ 0) → result ≢ 8 }
 {
@@ -44,8 +44,20 @@ fn copy<S: Shelf, K: Sink>(
     }
 }
 
+// What a fetch answers, and what is then in a list that began with `> `.
+fn fetched<S: Shelf>(
+    alloc: Global,
+    shelf: &mut S,
+    name: &str,
+    most: usize,
+) -> Result<(Result<(), FetchFault>, Vec<u8>), AllocError> {
+    let mut out = Vec::from_slice(alloc, b"> ")?;
+    let answer = shelf.fetch(name, most, &mut out);
+    Ok((answer, out))
+}
+
 #[test]
-fn a_shelf_in_memory_hands_out_first_bytes_and_fails_where_told(
+fn a_shelf_in_memory_hands_out_prefixes_and_fails_where_planned(
     rt: HostRuntime,
 ) -> Result<(), Fail> {
     let mut shelf = MemShelf::new(rt.alloc());
@@ -53,58 +65,93 @@ fn a_shelf_in_memory_hands_out_first_bytes_and_fails_where_told(
     shelf.add("a.sf", b"f() { }")?;
     shelf.add("empty", b"")?;
     shelf.fail_at(5)?;
-    let rows: [(&str, usize, Result<&[u8], FetchFault>); 7] = [
-        ("a.sf", 100, Ok(b"f() { }")),
-        ("a.sf", 3, Ok(b"f()")),
-        ("a.sf", 0, Ok(b"")),
-        ("empty", 9, Ok(b"")),
-        ("a.sf", 100, Err(FetchFault::Failed)),
-        ("none.sf", 100, Err(FetchFault::Failed)),
-        ("a.sf", 7, Ok(b"f() { }")),
+    let rows: [(&str, usize, Result<(), FetchFault>, &[u8]); 7] = [
+        ("a.sf", 100, Ok(()), b"> f() { }"),
+        ("a.sf", 3, Ok(()), b"> f()"),
+        ("a.sf", 0, Ok(()), b"> "),
+        ("empty", 9, Ok(()), b"> "),
+        ("a.sf", 100, Err(FetchFault::Failed), b"> "),
+        ("none.sf", 100, Err(FetchFault::Failed), b"> "),
+        ("a.sf", 7, Ok(()), b"> f() { }"),
     ];
-    for (name, most, wanted) in rows {
-        let mut out = Vec::from_slice(rt.alloc(), b"> ")?;
-        let answer = shelf.fetch(name, most, &mut out);
-        match wanted {
-            Ok(bytes) => {
-                assert_eq!(rt; answer, Ok(()), "{name} {most}");
-                assert!(rt; out.as_slice().starts_with(b"> "), "{name} {most}");
-                assert!(rt; out.as_slice().ends_with(bytes), "{name} {most}");
-                assert_eq!(rt;
-                    out.len().checked_sub(2),
-                    Some(bytes.len()),
-                    "{name} {most}"
-                );
-            }
-            Err(fault) => {
-                assert_eq!(rt; answer, Err(fault), "{name} {most}");
-                assert_eq!(rt; out.as_slice(), b"> ".as_slice(), "{name} {most}");
-            }
-        }
+    for (name, most, wanted, bytes) in rows {
+        let (answer, out) = fetched(rt.alloc(), &mut shelf, name, most)?;
+        assert_eq!(rt; answer, wanted);
+        assert_eq!(rt; out.as_slice(), bytes);
     }
     Ok(())
 }
 
 #[test]
-fn a_sink_in_memory_takes_pieces_and_fails_where_told(rt: HostRuntime) -> Result<(), Fail> {
-    let text = b"accepted\nprocedure set\n";
-    let rows: [(usize, u64, Result<(), SinkFault>, usize); 6] = [
-        (100, 0, Ok(()), 23),
-        (1, 0, Ok(()), 23),
-        (16, 2, Err(SinkFault::Failed), 16),
-        (16, 1, Err(SinkFault::Failed), 0),
-        (16, 3, Ok(()), 23),
-        (0, 0, Err(SinkFault::Failed), 0),
+fn a_real_file_is_read_and_a_missing_one_is_a_fault(rt: HostRuntime) -> Result<(), Fail> {
+    let path = format!(in rt.alloc(); "/tmp/sf_io_{}", process::id(rt.process()))?;
+    let text = Vec::<u8>::from_elem(rt.alloc(), b'x', 40_000)?;
+    fs::write(&rt, path.as_str(), text.as_slice())?;
+    let rows: [(&str, usize, Result<(), FetchFault>, usize); 5] = [
+        (path.as_str(), 100_000, Ok(()), 40_002),
+        (path.as_str(), 20_000, Ok(()), 20_002),
+        (path.as_str(), 0, Ok(()), 2),
+        ("/tmp", 10, Err(FetchFault::Failed), 2),
+        ("/tmp/no/such/file", 10, Err(FetchFault::Failed), 2),
     ];
-    for (most, failing, wanted, taken) in rows {
-        let mut sink = MemSink::new(rt.alloc(), most);
-        sink.fail_at(failing)?;
-        assert_eq!(rt; sink.put(b""), Ok(0), "{most} {failing}");
-        assert_eq!(rt; put_all(&mut sink, text), wanted, "{most} {failing}");
-        assert!(rt; taken <= text.len());
-        assert_eq!(rt; sink.bytes(), &text[..taken], "{most} {failing}");
+    let mut shelf = FileShelf::new(&rt, rt.alloc());
+    for (name, most, wanted, length) in rows {
+        let (answer, out) = fetched(rt.alloc(), &mut shelf, name, most)?;
+        assert_eq!(rt; answer, wanted);
+        assert_eq!(rt; out.len(), length);
+        assert_eq!(rt;
+            out.last(),
+            if length == 2 {
+                Some(&b' ')
+            } else {
+                Some(&b'x')
+            }
+        );
+    }
+    fs::remove_file(&rt, path.as_str())?;
+    Ok(())
+}
+
+// What putting that text into a sink in memory answers, and the bytes that the sink has then.
+fn put_in_memory(
+    alloc: Global,
+    most: usize,
+    failing: u64,
+    text: &[u8],
+) -> Result<(Result<(), SinkFault>, Vec<u8>), AllocError> {
+    let mut sink = MemSink::new(alloc, most);
+    sink.fail_at(failing)?;
+    let answer = put_all(&mut sink, text);
+    Ok((answer, Vec::from_slice(alloc, sink.bytes())?))
+}
+
+#[test]
+fn a_sink_in_memory_takes_pieces_and_fails_where_planned(rt: HostRuntime) -> Result<(), Fail> {
+    let rows: [(usize, u64, Result<(), SinkFault>, &[u8]); 6] = [
+        (100, 0, Ok(()), b"accepted\nproof\n"),
+        (1, 0, Ok(()), b"accepted\nproof\n"),
+        (8, 2, Err(SinkFault::Failed), b"accepted"),
+        (8, 1, Err(SinkFault::Failed), b""),
+        (8, 3, Ok(()), b"accepted\nproof\n"),
+        (0, 0, Err(SinkFault::Failed), b""),
+    ];
+    for (most, failing, wanted, bytes) in rows {
+        let (answer, taken) = put_in_memory(rt.alloc(), most, failing, b"accepted\nproof\n")?;
+        assert_eq!(rt; answer, wanted);
+        assert_eq!(rt; taken.as_slice(), bytes);
     }
     Ok(())
+}
+
+// The status of `copy` from a shelf with one file into a sink that takes four bytes at once and
+// fails at that call, and the bytes that the sink has then.
+fn copied(alloc: Global, name: &str, failing: u64) -> Result<(u8, Vec<u8>), AllocError> {
+    let mut shelf = MemShelf::new(alloc);
+    shelf.add("a.sf", b"f() { }")?;
+    let mut sink = MemSink::new(alloc, 4);
+    sink.fail_at(failing)?;
+    let status = copy(alloc, &mut shelf, &mut sink, name, 100);
+    Ok((status, Vec::from_slice(alloc, sink.bytes())?))
 }
 
 #[test]
@@ -115,46 +162,10 @@ fn a_caller_of_any_shelf_and_sink_gets_each_status(rt: HostRuntime) -> Result<()
         ("a.sf", 2, 8, b"f() "),
     ];
     for (name, failing, wanted, bytes) in rows {
-        let mut shelf = MemShelf::new(rt.alloc());
-        shelf.add("a.sf", b"f() { }")?;
-        let mut sink = MemSink::new(rt.alloc(), 4);
-        sink.fail_at(failing)?;
-        let status = copy(rt.alloc(), &mut shelf, &mut sink, name, 100);
-        assert_eq!(rt; status, wanted, "{name} {failing}");
-        assert_eq!(rt; sink.bytes(), bytes, "{name} {failing}");
+        let (status, taken) = copied(rt.alloc(), name, failing)?;
+        assert_eq!(rt; status, wanted);
+        assert_eq!(rt; taken.as_slice(), bytes);
     }
-    Ok(())
-}
-
-#[test]
-fn a_real_file_is_read_and_a_missing_one_is_a_fault(rt: HostRuntime) -> Result<(), Fail> {
-    let path = format!(in rt.alloc(); "/tmp/sf_io_{}", process::id(rt.process()))?;
-    let text = Vec::<u8>::from_elem(rt.alloc(), b'x', 40_000)?;
-    fs::write(&rt, path.as_str(), text.as_slice())?;
-    let rows: [(&str, usize, Result<usize, FetchFault>); 5] = [
-        (path.as_str(), 100_000, Ok(40_000)),
-        (path.as_str(), 20_000, Ok(20_000)),
-        (path.as_str(), 0, Ok(0)),
-        ("/tmp", 10, Err(FetchFault::Failed)),
-        ("/tmp/no/such/file", 10, Err(FetchFault::Failed)),
-    ];
-    let mut shelf = FileShelf::new(&rt, rt.alloc());
-    for (name, most, wanted) in rows {
-        let mut out = Vec::from_slice(rt.alloc(), b"> ")?;
-        let answer = shelf.fetch(name, most, &mut out);
-        match wanted {
-            Ok(taken) => {
-                assert_eq!(rt; answer, Ok(()), "{name} {most}");
-                assert_eq!(rt; out.len().checked_sub(2), Some(taken), "{name} {most}");
-                assert!(rt; out.iter().skip(2).all(|b| *b == b'x'), "{name} {most}");
-            }
-            Err(fault) => {
-                assert_eq!(rt; answer, Err(fault), "{name} {most}");
-                assert_eq!(rt; out.as_slice(), b"> ".as_slice(), "{name} {most}");
-            }
-        }
-    }
-    fs::remove_file(&rt, path.as_str())?;
     Ok(())
 }
 
@@ -199,56 +210,46 @@ impl Print for Paper {
     }
 }
 
+// What putting that text into standard output answers, where that is such a terminal, and the bytes that
+// the terminal has then.
+fn printed(
+    alloc: Global,
+    most: usize,
+    nothing_at: u32,
+    fails_at: u32,
+    text: &[u8],
+) -> (Result<(), SinkFault>, Vec<u8>) {
+    let paper = Paper {
+        bytes: RefCell::new(Vec::new(alloc)),
+        most,
+        writes: Cell::new(0),
+        nothing_at,
+        fails_at,
+    };
+    let mut sink = StdSink::new(&paper);
+    let answer = put_all(&mut sink, text);
+    drop(sink);
+    (answer, paper.bytes.into_inner())
+}
+
 #[test]
 fn standard_output_gets_each_byte_once(rt: HostRuntime) -> Result<(), Fail> {
-    let text = b"accepted\nprocedure set\n";
-    let rows: [(usize, u32, u32, Result<(), SinkFault>, usize); 5] = [
-        (100, 0, 0, Ok(()), 23),
-        (5, 0, 0, Ok(()), 23),
-        (5, 1, 0, Err(SinkFault::Failed), 0),
-        (5, 0, 1, Err(SinkFault::Failed), 0),
-        (5, 3, 4, Err(SinkFault::Failed), 10),
+    let rows: [(usize, u32, u32, Result<(), SinkFault>, &[u8]); 5] = [
+        (100, 0, 0, Ok(()), b"accepted\nproof\n"),
+        (5, 0, 0, Ok(()), b"accepted\nproof\n"),
+        (5, 1, 0, Err(SinkFault::Failed), b""),
+        (5, 0, 1, Err(SinkFault::Failed), b""),
+        (5, 3, 4, Err(SinkFault::Failed), b"accepted\np"),
     ];
-    for (most, nothing_at, fails_at, wanted, taken) in rows {
-        let paper = Paper {
-            bytes: RefCell::new(Vec::new(rt.alloc())),
-            most,
-            writes: Cell::new(0),
-            nothing_at,
-            fails_at,
-        };
-        let mut sink = StdSink::new(&paper);
-        assert_eq!(rt; sink.put(b""), Ok(0), "{most} {nothing_at} {fails_at}");
-        assert_eq!(rt;
-            put_all(&mut sink, text),
-            wanted,
-            "{most} {nothing_at} {fails_at}"
-        );
-        drop(sink);
-        let held = paper.bytes.into_inner();
-        assert!(rt; taken <= text.len());
-        assert_eq!(rt;
-            held.as_slice(),
-            &text[..taken],
-            "{most} {nothing_at} {fails_at}"
-        );
+    for (most, nothing_at, fails_at, wanted, bytes) in rows {
+        let (answer, held) = printed(rt.alloc(), most, nothing_at, fails_at, b"accepted\nproof\n");
+        assert_eq!(rt; answer, wanted);
+        assert_eq!(rt; held.as_slice(), bytes);
     }
     Ok(())
 }
 
 #[test]
-fn an_open_gate_lets_each_point_pass(rt: HostRuntime) {
-    let path = TaskPath::entry().child(Turn::Left).child(Turn::Right);
-    let points = [
-        Point::Start(path),
-        Point::Region(path, ResId(0)),
-        Point::Worker(1, ProcId(0)),
-    ];
-    let mut passed = 0usize;
-    for point in points {
-        OpenGate.pass(&point);
-        passed = passed.saturating_add(1);
-    }
-    assert_eq!(rt; passed, 3);
-    assert_eq!(rt; path.turns(), [Turn::Left, Turn::Right].as_slice());
+fn an_open_gate_lets_a_point_pass(_rt: HostRuntime) {
+    OpenGate.pass(&Point::Start(TaskPath::entry()));
 }

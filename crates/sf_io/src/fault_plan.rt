@@ -1,35 +1,35 @@
 ghost use Rattle.std.specs.Prelude.{◌≡◌, [], ◌∷◌, ◌++◌, ◌↔◌, IsTrue, OnOk, OnErr};
-ghost use Rattle.sf_io.specs.Calls.{Plan, after_call, IsDue};
+ghost use Rattle.sf_io.specs.FaultPlan.{Plan, after_call, IsDue};
 
 use std::alloc::{AllocError, Global};
 use std::marker::Model;
 
 /// The calls that a stand-in for the outside was given, and which of them are to fail.
 #[derive(Debug, Drop)]
-pub(crate) struct Calls {
+pub(crate) struct FaultPlan {
     made: u64,
     failing: Vec<u64>,
 }
 
-impl Model for Calls {
+impl Model for FaultPlan {
     ghost Value = { Plan };
 
     ghost view = { λ c. record { made = c.made; failing = c.failing.items } };
 }
 
-impl Calls {
+impl FaultPlan {
     /// No call was made, and none is to fail.
-    pub(crate) fn new(alloc: Global) -> Calls
+    pub(crate) fn new(alloc: Global) -> FaultPlan
         ensures { result ≡ record { made = 0; failing = [] } }
     {
-        Calls {
+        FaultPlan {
             made: 0,
             failing: Vec::new(alloc),
         }
     }
 
-    /// From now on the call with that number, counted from 1, is to fail. An `Err` is want of
-    /// memory and changes nothing.
+    /// From now on the call with that number, counted from 1, is to fail. An `Err` says that
+    /// memory ran out, and nothing is changed.
     pub(crate) fn fail_at(&mut self, call: u64) -> Result<(), AllocError>
         ensures ok { OnOk result
             (self.new ≡ record self.old { failing = self.old.failing ++ call ∷ [] }) }

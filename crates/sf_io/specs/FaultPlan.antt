@@ -7,7 +7,7 @@ pub record Plan : Type 0 where
   pub made : ℕ
   pub failing : List ℕ
 
--- a count that is one greater, or stands at its end
+-- a count that is one greater, or at its end
 abbrev pub one_more : ℕ → ℕ
 one_more n = min (n + 1) (2 ^ 64 - 1)
 

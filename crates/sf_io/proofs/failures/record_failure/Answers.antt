@@ -1,5 +1,5 @@
 use Rattle.sf_io.proofs.FailedNames.{failures_of-append_same, failures_of-append_other, failures_of-append_le}
-use Rattle.sf_io.proofs.failures.failed_at.Goals as goal
+use Rattle.sf_io.proofs.failures.record_failure.Goals as goal
 
 pub returns-clause-counted : goal.returns-clause-counted
 returns-clause-counted c = rw c.push_reserved.ensures.items (failures_of-append_same _ _)
