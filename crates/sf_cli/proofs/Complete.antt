@@ -11,7 +11,7 @@ use Rattle.sf_cli.specs.Words.{Text}
 pub complete-reply : (told : Option Files) (before after : Text → ℕ) (words : List Text) (text : Text) (status : ℕ) → Reply told before after words text status
     → ((name : Text) → Increased (before name) (after name) → ⊥) → status < 7
 complete-reply told before after words text status (answer l a) quiet = l
-complete-reply told before after words text status (unread s u) quiet = absurd (quiet u.name u.rose)
+complete-reply told before after words text status (unread s u) quiet = absurd (quiet u.name u.increased)
 
 -- what is put is all of it, or memory ran out
 pub complete-status : (result status : ℕ) → (result < 8 → result ≡ status) → status < 7 → (result ≡ 8 → ⊥) → result ≤ 9 → (result < 7) ⊎ (result ≡ 9)

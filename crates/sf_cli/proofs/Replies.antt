@@ -20,15 +20,15 @@ use Rattle.sf_cli.specs.Answer.{unread as unread_file}
 use Rattle.sf_cli.specs.declared.refusal.Refusal.{Refusal}
 use Rattle.sf_cli.specs.FileFault.{FileFault, unread, unfit, in_tokens, in_grammar, in_names}
 use Rattle.sf_cli.specs.Reads.{Reads}
-use Rattle.sf_cli.specs.Fetched.{IsUpTo, Fetched}
+use Rattle.sf_cli.specs.Internal.Fetched.{IsUpTo, Fetched}
 use Rattle.sf_cli.specs.Words.{Text, Order, verify, order_of, usage_text}
 
 all_of : (most : ℕ) (out : Text) → length out ≤ most → take most out ≡ out
 all_of most out h = take_all most out h
 
 -- the first bytes of a file, more of them than it may have, are all of it, or it has more than that
-pub fetched-front : (limit most : ℕ) → limit < most → (file : Text) → IsUpTo limit file (take most file)
-fetched-front limit most m file = go (nat_lt limit (length file)) refl
+pub fetched-prefix : (limit most : ℕ) → limit < most → (file : Text) → IsUpTo limit file (take most file)
+fetched-prefix limit most m file = go (nat_lt limit (length file)) refl
   where
     go : (b : Bool) → nat_lt limit (length file) ≡ b → IsUpTo limit file (take most file)
     go true e =
@@ -39,7 +39,7 @@ fetched-front limit most m file = go (nat_lt limit (length file)) refl
 told_file : (limit most : ℕ) → limit < most → (all : Files) (name out : Text) (o : Option Text) → all name ≡ o → IsSomeAnd o (λ bytes. out ≡ [] ++ take most bytes) → Fetched limit (Some all) name out
 told_file limit most m all name out None e h = absurd h
 told_file limit most m all name out (Some bytes) e h =
-    record { files = all; may_be = refl; bytes = bytes; there = e; is = subst (λ (z : Text). IsUpTo limit bytes z) (sym h) (fetched-front limit most m bytes) }
+    record { files = all; may_be = refl; bytes = bytes; there = e; is = subst (λ (z : Text). IsUpTo limit bytes z) (sym h) (fetched-prefix limit most m bytes) }
 
 -- what an Ok of a fetch of more bytes than the limit tells
 pub fetched-ok : (limit most : ℕ) → limit < most → (told : Option Files) (name old out : Text) → old ≡ []
@@ -110,9 +110,9 @@ reply-file told before after words name text status e l a u = go (nat_lt status 
     go false h =
         let more : 7 ≤ status = ltb-false status 7 h in
         let is : status ≡ 7 = omega arith in
-        unread_file is (record { name = name; named = e; rose = (u is).0; text_is = (u is).1 })
+        unread_file is (record { name = name; named = e; increased = (u is).0; text_is = (u is).1 })
 
--- the same of an answer that may be want of memory, whatever words are that command
+-- the same of an answer that may be that memory ran out, whatever words are that command
 pub reply-command : {E : Type 0} (r : Result Said E) (told : Option Files) (before after : Text → ℕ) (o : Option Order) (name : Text) → o ≡ Some (verify name)
     → IfOk r (λ said. said.status < 8) → IfOk r (λ said. said.status < 7 → AnswersFile told name said.text.items said.status)
     → IfOk r (λ said. said.status ≡ 7 → Increased (before name) (after name) × (said.text.items ≡ read_fault_text name))

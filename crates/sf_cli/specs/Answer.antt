@@ -30,17 +30,20 @@ not_built_text = refusal_text (At NotBuilt first_place)
 -- the answer to a program with which nothing is wrong: there are no rules for it yet, or there is a verdict
 pub data ProgramAnswer (p : Program) (text : Text) (status : ℕ) : Type 0 where
   not_built : is_built p ≡ false → text ≡ not_built_text → status ≡ 3 → ProgramAnswer p text status
-  judged : is_built p ≡ true → (v : Verdict) → Judge p v → VerdictAnswer p v text status → ProgramAnswer p text status
+  judged : is_built p ≡ true → (v : Verdict) → Judge p v → VerdictAnswer p v text status
+      → ProgramAnswer p text status
 
 -- the answer to a file's bytes: it is refused, or it is the answer to the program that it reads as
 pub data FileAnswer (bytes text : Text) (status : ℕ) : Type 0 where
-  refused : (r : Refusal) → FileFault bytes r → text ≡ refusal_text r → status ≡ 3 → FileAnswer bytes text status
+  refused : (r : Refusal) → FileFault bytes r → text ≡ refusal_text r → status ≡ 3
+      → FileAnswer bytes text status
   admitted : (p : Program) → Admits bytes p → ProgramAnswer p text status → FileAnswer bytes text status
 
 -- the answer to a command, where the file that it names is there
 abbrev pub OrderAnswer : Files → Option Order → Text → (status : ℕ) → Type 0
 OrderAnswer files None text status = (text ≡ usage_text) × (status ≡ 2)
-OrderAnswer files (Some (verify name)) text status = (bytes : Text) × (files name ≡ Some bytes) × FileAnswer bytes text status
+OrderAnswer files (Some (verify name)) text status =
+    (bytes : Text) × (files name ≡ Some bytes) × FileAnswer bytes text status
 
 -- Answer: that text and that status are the answer to those words over those files
 abbrev pub Answer : Files → (words : List Text) → Text → (status : ℕ) → Type 0
@@ -65,28 +68,31 @@ Answers told words text status = (files : Files) × MayBe told files × Answer f
 
 -- the answer to that file's bytes, over the files of a shelf
 abbrev pub AnswersFile : Option Files → (name : Text) → Text → (status : ℕ) → Type 0
-AnswersFile told name text status = (files : Files) × MayBe told files × (bytes : Text) × (files name ≡ Some bytes) × FileAnswer bytes text status
+AnswersFile told name text status =
+    (files : Files) × MayBe told files × (bytes : Text) × (files name ≡ Some bytes) × FileAnswer bytes text status
 
--- the words name a file of that name, its count of faults rose, and the text says so
+-- the words name a file of that name, its count of faults increased, and the text says so
 pub record Unread (before after : Text → ℕ) (words : List Text) (text : Text) : Type 0 where
   pub name : Text
   pub named : NamesFile words name
-  pub rose : Increased (before name) (after name)
+  pub increased : Increased (before name) (after name)
   pub text_is : text ≡ read_fault_text name
 
 -- what the command may say: an answer with its status, or that its file can't be read
-pub data Reply (told : Option Files) (before after : Text → ℕ) (words : List Text) (text : Text) (status : ℕ) : Type 0 where
+pub data Reply (told : Option Files) (before after : Text → ℕ) (words : List Text) (text : Text) (status : ℕ)
+    : Type 0 where
   answer : status < 7 → Answers told words text status → Reply told before after words text status
   unread : status ≡ 7 → Unread before after words text → Reply told before after words text status
 
--- a first part of something that the command may say was written
-abbrev pub WroteFront : Option Files → (before after : Text → ℕ) → List Text → (old new : Option Text) → Type 0
-WroteFront told before after words old new =
+-- a prefix of something that the command may say was written
+abbrev pub WroteReplyPrefix : Option Files → (before after : Text → ℕ) → List Text → (old new : Option Text) → Type 0
+WroteReplyPrefix told before after words old new =
     (text : Text) × (status : ℕ) × Reply told before after words text status × WrotePrefix old new text
 
--- nothing was written, or a first part of something that the command may say
-abbrev pub WroteSome : Option Files → (before after : Text → ℕ) → List Text → (old new : Option Text) → Type 0
-WroteSome told before after words old new = (new ≡ old) ⊎ WroteFront told before after words old new
+-- nothing was written, or a prefix of something that the command may say
+abbrev pub WroteNothingOrPrefix : Option Files → (before after : Text → ℕ) → List Text → (old new : Option Text) → Type 0
+WroteNothingOrPrefix told before after words old new =
+    (new ≡ old) ⊎ WroteReplyPrefix told before after words old new
 
 -- these bytes are those of a program that is sound
 pub record AcceptedBytes (bytes : Text) : Type 0 where

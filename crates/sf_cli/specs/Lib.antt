@@ -4,5 +4,5 @@ pub mod Refusals
 pub mod Reads
 pub mod FileFault
 pub mod Answer
-pub mod Fetched
+pub mod Internal
 pub mod Laws

@@ -59,53 +59,37 @@ abbrev pub of_order : OrderFault → Refusal
 of_order (o.Undetermined p) = At k.Undetermined p
 of_order o.OutOfMemory = OutOfMemory
 
--- the number of a kind
-abbrev pub number_of : RefusalKind → ℕ
-number_of k.BadByte = 1
-number_of k.LongWord = 2
-number_of k.OpenComment = 3
-number_of k.BadNumber = 4
-number_of k.LongFile = 5
-number_of k.Unexpected = 10
-number_of k.TooDeep = 11
-number_of k.UnknownName = 20
-number_of k.Twice = 21
-number_of k.Arity = 22
-number_of k.OwnedTwice = 23
-number_of k.ForeignVariable = 24
-number_of k.MissingField = 25
-number_of k.TooMany = 26
-number_of k.NotBuilt = 27
-number_of k.NotHeld = 30
-number_of k.Reentered = 31
-number_of k.SameReference = 32
-number_of k.ReferenceIsFree = 33
-number_of k.ParallelShares = 34
-number_of k.Undetermined = 40
+-- the number and the word of a kind
+abbrev pub number_and_word : RefusalKind → ℕ × Text
+number_and_word k.BadByte = (1, codes "BadByte")
+number_and_word k.LongWord = (2, codes "LongWord")
+number_and_word k.OpenComment = (3, codes "OpenComment")
+number_and_word k.BadNumber = (4, codes "BadNumber")
+number_and_word k.LongFile = (5, codes "LongFile")
+number_and_word k.Unexpected = (10, codes "Unexpected")
+number_and_word k.TooDeep = (11, codes "TooDeep")
+number_and_word k.UnknownName = (20, codes "UnknownName")
+number_and_word k.Twice = (21, codes "Twice")
+number_and_word k.Arity = (22, codes "Arity")
+number_and_word k.OwnedTwice = (23, codes "OwnedTwice")
+number_and_word k.ForeignVariable = (24, codes "ForeignVariable")
+number_and_word k.MissingField = (25, codes "MissingField")
+number_and_word k.TooMany = (26, codes "TooMany")
+number_and_word k.NotBuilt = (27, codes "NotBuilt")
+number_and_word k.NotHeld = (30, codes "NotHeld")
+number_and_word k.Reentered = (31, codes "Reentered")
+number_and_word k.SameReference = (32, codes "SameReference")
+number_and_word k.ReferenceIsFree = (33, codes "ReferenceIsFree")
+number_and_word k.ParallelShares = (34, codes "ParallelShares")
+number_and_word k.Undetermined = (40, codes "Undetermined")
 
--- the word of a kind
+-- its number
+abbrev pub number_of : RefusalKind → ℕ
+number_of kind = (number_and_word kind).0
+
+-- its word
 abbrev pub word_of : RefusalKind → Text
-word_of k.BadByte = codes "BadByte"
-word_of k.LongWord = codes "LongWord"
-word_of k.OpenComment = codes "OpenComment"
-word_of k.BadNumber = codes "BadNumber"
-word_of k.LongFile = codes "LongFile"
-word_of k.Unexpected = codes "Unexpected"
-word_of k.TooDeep = codes "TooDeep"
-word_of k.UnknownName = codes "UnknownName"
-word_of k.Twice = codes "Twice"
-word_of k.Arity = codes "Arity"
-word_of k.OwnedTwice = codes "OwnedTwice"
-word_of k.ForeignVariable = codes "ForeignVariable"
-word_of k.MissingField = codes "MissingField"
-word_of k.TooMany = codes "TooMany"
-word_of k.NotBuilt = codes "NotBuilt"
-word_of k.NotHeld = codes "NotHeld"
-word_of k.Reentered = codes "Reentered"
-word_of k.SameReference = codes "SameReference"
-word_of k.ReferenceIsFree = codes "ReferenceIsFree"
-word_of k.ParallelShares = codes "ParallelShares"
-word_of k.Undetermined = codes "Undetermined"
+word_of kind = (number_and_word kind).1
 
 -- the line up to its kind
 abbrev pub kind_text : RefusalKind → Text
@@ -119,7 +103,7 @@ place_text p = codes " at " ++ decimal p.line ++ codes ":" ++ decimal p.column
 abbrev pub name_text : Text → Text
 name_text x = codes " " ++ x ++ codes "\n"
 
--- the line; nothing is said of want of memory
+-- the line; nothing is said where memory ran out
 abbrev pub refusal_text : Refusal → Text
 refusal_text (At kind p) = kind_text kind ++ place_text p ++ codes "\n"
 refusal_text (Named kind p x) = kind_text kind ++ place_text p ++ name_text x

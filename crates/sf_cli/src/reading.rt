@@ -35,7 +35,8 @@ fn read(alloc: Global, bytes: &[u8]) -> Result<Program, Refusal>
 fn fit(alloc: Global, program: Program) -> Result<Arranged, Refusal>
     ensures same { IfOk result (λ a. program_of a.program ≡ program_of program) }
     ensures conditions { IfOk result (λ a. Conditions (program_of program)) }
-    ensures determined { IfOk result (λ a. All (λ note. Determined note.level) (annotations_in (program_of program))) }
+    ensures determined { IfOk result (λ a.
+        All (λ note. Determined note.level) (annotations_in (program_of program))) }
     ensures refused { IfErr result (λ r. r ≢ OutOfMemory → ProgramFault (program_of program) r) }
 {
     let calls = reach(alloc, &program)?;

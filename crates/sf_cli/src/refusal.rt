@@ -16,50 +16,50 @@ use std::alloc::{AllocError, AllocFailed, Global};
 /// The place that is named where a fault is one of the whole file: that of its first byte.
 pub const FIRST_PLACE: Place = Place { line: 1, column: 1 };
 
-/// The kinds of refusals. Each has a number and a word, which are printed.
+/// The kinds of refusals. `number_and_word` has what is printed of each.
 #[derive(Clone, Copy, Debug, PartialEq, Eq)]
 pub enum RefusalKind {
-    /// 1: a byte that begins no token.
+    /// A byte that begins no token.
     BadByte,
-    /// 2: a name or an existential longer than 64 bytes.
+    /// A name or an existential longer than 64 bytes.
     LongWord,
-    /// 3: a comment without an end.
+    /// A comment without an end.
     OpenComment,
-    /// 4: a number outside 64 bits, or directly in front of a letter or `_`.
+    /// A number outside 64 bits, or directly before a letter or `_`.
     BadNumber,
-    /// 5: more bytes than a file may have.
+    /// More bytes than a file may have.
     LongFile,
-    /// 10: the first token that can't continue any file.
+    /// The first token that can't continue any file.
     Unexpected,
-    /// 11: a command or an assertion that would be the 65th of its nest.
+    /// A command or an assertion that would be the 65th of its nest.
     TooDeep,
-    /// 20: nothing has that name.
+    /// Nothing has that name.
     UnknownName,
-    /// 21: something of its kind has that name already.
+    /// Something of its kind has that name already.
     Twice,
-    /// 22: a call with other counts of references or values than its procedure.
+    /// A call with other counts of references or values than its procedure.
     Arity,
-    /// 23: a variable of two resources.
+    /// A variable of two resources.
     OwnedTwice,
-    /// 24: a name in an invariant that is no variable of its resource.
+    /// A name in an invariant that is no variable of its resource.
     ForeignVariable,
-    /// 25: a predicate without a field that it needs.
+    /// A predicate without a field that it needs.
     MissingField,
-    /// 26: more than a limit.
+    /// More than a limit.
     TooMany,
-    /// 27: a form of which proofs can't be looked for yet.
+    /// A form of which proofs can't be looked for yet.
     NotBuilt,
-    /// 30: a resource's variable where the resource isn't held.
+    /// A resource's variable where the resource isn't held.
     NotHeld,
-    /// 31: a resource is entered that is held.
+    /// A resource is entered that is held.
     Reentered,
-    /// 32: a variable twice among a call's references.
+    /// A variable twice among a call's references.
     SameReference,
-    /// 33: a reference that is free in the procedure that is called.
+    /// A reference that is free in the procedure that is called.
     ReferenceIsFree,
-    /// 34: one of two parallel calls may change what the other uses.
+    /// One of two parallel calls may change what the other uses.
     ParallelShares,
-    /// 40: a conjunct that is never taken, so its assertion isn't determined.
+    /// A conjunct that is never taken, so its assertion isn't determined.
     Undetermined,
 }
 
@@ -197,65 +197,37 @@ impl From<OrderFault> for Refusal {
     }
 }
 
-/// The number of a kind.
-fn number_of(kind: RefusalKind) -> u32
-    ensures { result ≡ number_of kind }
+/// The number and the word of a kind.
+fn number_and_word(kind: RefusalKind) -> (u32, &'static str)
+    ensures number { result.0 ≡ number_of kind }
+    ensures word { result.1.now ≡ word_of kind }
 {
     match kind {
-        RefusalKind::BadByte => 1,
-        RefusalKind::LongWord => 2,
-        RefusalKind::OpenComment => 3,
-        RefusalKind::BadNumber => 4,
-        RefusalKind::LongFile => 5,
-        RefusalKind::Unexpected => 10,
-        RefusalKind::TooDeep => 11,
-        RefusalKind::UnknownName => 20,
-        RefusalKind::Twice => 21,
-        RefusalKind::Arity => 22,
-        RefusalKind::OwnedTwice => 23,
-        RefusalKind::ForeignVariable => 24,
-        RefusalKind::MissingField => 25,
-        RefusalKind::TooMany => 26,
-        RefusalKind::NotBuilt => 27,
-        RefusalKind::NotHeld => 30,
-        RefusalKind::Reentered => 31,
-        RefusalKind::SameReference => 32,
-        RefusalKind::ReferenceIsFree => 33,
-        RefusalKind::ParallelShares => 34,
-        RefusalKind::Undetermined => 40,
+        RefusalKind::BadByte => (1, "BadByte"),
+        RefusalKind::LongWord => (2, "LongWord"),
+        RefusalKind::OpenComment => (3, "OpenComment"),
+        RefusalKind::BadNumber => (4, "BadNumber"),
+        RefusalKind::LongFile => (5, "LongFile"),
+        RefusalKind::Unexpected => (10, "Unexpected"),
+        RefusalKind::TooDeep => (11, "TooDeep"),
+        RefusalKind::UnknownName => (20, "UnknownName"),
+        RefusalKind::Twice => (21, "Twice"),
+        RefusalKind::Arity => (22, "Arity"),
+        RefusalKind::OwnedTwice => (23, "OwnedTwice"),
+        RefusalKind::ForeignVariable => (24, "ForeignVariable"),
+        RefusalKind::MissingField => (25, "MissingField"),
+        RefusalKind::TooMany => (26, "TooMany"),
+        RefusalKind::NotBuilt => (27, "NotBuilt"),
+        RefusalKind::NotHeld => (30, "NotHeld"),
+        RefusalKind::Reentered => (31, "Reentered"),
+        RefusalKind::SameReference => (32, "SameReference"),
+        RefusalKind::ReferenceIsFree => (33, "ReferenceIsFree"),
+        RefusalKind::ParallelShares => (34, "ParallelShares"),
+        RefusalKind::Undetermined => (40, "Undetermined"),
     }
 }
 
-/// The word of a kind.
-fn word_of(kind: RefusalKind) -> &'static str
-    ensures { result.now ≡ word_of kind }
-{
-    match kind {
-        RefusalKind::BadByte => "BadByte",
-        RefusalKind::LongWord => "LongWord",
-        RefusalKind::OpenComment => "OpenComment",
-        RefusalKind::BadNumber => "BadNumber",
-        RefusalKind::LongFile => "LongFile",
-        RefusalKind::Unexpected => "Unexpected",
-        RefusalKind::TooDeep => "TooDeep",
-        RefusalKind::UnknownName => "UnknownName",
-        RefusalKind::Twice => "Twice",
-        RefusalKind::Arity => "Arity",
-        RefusalKind::OwnedTwice => "OwnedTwice",
-        RefusalKind::ForeignVariable => "ForeignVariable",
-        RefusalKind::MissingField => "MissingField",
-        RefusalKind::TooMany => "TooMany",
-        RefusalKind::NotBuilt => "NotBuilt",
-        RefusalKind::NotHeld => "NotHeld",
-        RefusalKind::Reentered => "Reentered",
-        RefusalKind::SameReference => "SameReference",
-        RefusalKind::ReferenceIsFree => "ReferenceIsFree",
-        RefusalKind::ParallelShares => "ParallelShares",
-        RefusalKind::Undetermined => "Undetermined",
-    }
-}
-
-/// Appends a text. An `Err` is want of memory.
+/// Appends a text. An `Err` says that memory ran out.
 fn put(text: &mut Vec<u8>, more: &str) -> Result<(), AllocError>
     ensures { OnOk result (text.new.items ≡ text.old.items ++ more.now) }
 {
@@ -263,17 +235,18 @@ fn put(text: &mut Vec<u8>, more: &str) -> Result<(), AllocError>
     Ok(())
 }
 
-/// Appends the line up to its kind. An `Err` is want of memory.
+/// Appends the line up to its kind. An `Err` says that memory ran out.
 fn put_kind(text: &mut Vec<u8>, kind: RefusalKind) -> Result<(), AllocError>
     ensures { OnOk result (text.new.items ≡ text.old.items ++ kind_text kind) }
 {
+    let (number, word) = number_and_word(kind);
     put(text, "file refused: ")?;
-    put(text, Buffer::new().format(number_of(kind)))?;
+    put(text, Buffer::new().format(number))?;
     put(text, " ")?;
-    put(text, word_of(kind))
+    put(text, word)
 }
 
-/// Appends a place. An `Err` is want of memory.
+/// Appends a place. An `Err` says that memory ran out.
 fn put_place(text: &mut Vec<u8>, place: Place) -> Result<(), AllocError>
     ensures { OnOk result (text.new.items ≡ text.old.items ++ place_text place) }
 {
@@ -283,15 +256,15 @@ fn put_place(text: &mut Vec<u8>, place: Place) -> Result<(), AllocError>
     put(text, Buffer::new().format(place.column))
 }
 
-/// Appends the line up to its place. An `Err` is want of memory.
-fn put_front(text: &mut Vec<u8>, kind: RefusalKind, place: Place) -> Result<(), AllocError>
+/// Appends the line up to its place. An `Err` says that memory ran out.
+fn put_kind_and_place(text: &mut Vec<u8>, kind: RefusalKind, place: Place) -> Result<(), AllocError>
     ensures { OnOk result (text.new.items ≡ text.old.items ++ kind_text kind ++ place_text place) }
 {
     put_kind(text, kind)?;
     put_place(text, place)
 }
 
-/// Appends the end of the line, with a name. An `Err` is want of memory.
+/// Appends the end of the line, with a name. An `Err` says that memory ran out.
 fn put_name(text: &mut Vec<u8>, name: &[u8]) -> Result<(), AllocError>
     ensures { OnOk result (text.new.items ≡ text.old.items ++ name_text name.now) }
 {
@@ -300,8 +273,8 @@ fn put_name(text: &mut Vec<u8>, name: &[u8]) -> Result<(), AllocError>
     put(text, "\n")
 }
 
-/// The line that says why a file is refused. An `Err` is want of memory, and is the answer where that was
-/// the cause.
+/// The line that says why a file is refused. An `Err` says that memory ran out, which is also the
+/// answer where that was the cause.
 pub fn refusal_text(alloc: Global, refusal: &Refusal) -> Result<Vec<u8>, AllocError>
     ensures text { IfOk result (λ text. text.items ≡ refusal_text refusal.now) }
     ensures cause { IfOk result (λ text. refusal.now ≢ OutOfMemory) }
@@ -309,12 +282,12 @@ pub fn refusal_text(alloc: Global, refusal: &Refusal) -> Result<Vec<u8>, AllocEr
     let mut text = Vec::new(alloc);
     match refusal {
         Refusal::At(kind, place) => {
-            put_front(&mut text, *kind, *place)?;
+            put_kind_and_place(&mut text, *kind, *place)?;
             put(&mut text, "\n")?;
             Ok(text)
         }
         Refusal::Named(kind, place, name) => {
-            put_front(&mut text, *kind, *place)?;
+            put_kind_and_place(&mut text, *kind, *place)?;
             put_name(&mut text, name.as_bytes())?;
             Ok(text)
         }

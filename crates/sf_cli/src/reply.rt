@@ -4,7 +4,7 @@ ghost use Rattle.std.specs.Prelude.{◌≡◌, ◌≢◌, ◌<◌, ◌≤◌, �
 ghost use Rattle.sf_core.specs.Program.ProgramView.{program_of};
 ghost use Rattle.sf_io.specs.Increased.{Increased};
 ghost use Rattle.sf_cli.specs.Answer.{AnswersFile, FileAnswer, NamesFile, ProgramAnswer, Reply, VerdictAnswer, read_fault_text};
-ghost use Rattle.sf_cli.specs.Fetched.{Fetched};
+ghost use Rattle.sf_cli.specs.Internal.Fetched.{Fetched};
 ghost use Rattle.sf_cli.specs.Refusals.{refusal_text};
 ghost use Rattle.sf_cli.specs.declared.refusal.Refusal.TheVariants.{OutOfMemory};
 ghost use Rattle.sf_search.specs.Judge.{Verdict, Judge};
@@ -42,9 +42,10 @@ fn say(alloc: Global, text: &str, status: u8) -> Result<Said, AllocError>
     })
 }
 
-/// That text, a name behind it and a line feed, with that status.
+/// That text, a name after it and a line feed, with that status.
 fn say_of(alloc: Global, text: &str, name: &[u8], status: u8) -> Result<Said, AllocError>
-    ensures { IfOk result (λ said. (said.text.items ≡ text.now ++ name.now ++ codes "\n") × (said.status ≡ status)) }
+    ensures { IfOk result (λ said. (said.text.items ≡ text.now ++ name.now ++ codes "\n")
+        × (said.status ≡ status)) }
 {
     let mut line = Vec::from_slice(alloc, text.as_bytes())?;
     line.extend_from_slice(name)?;
@@ -55,7 +56,8 @@ fn say_of(alloc: Global, text: &str, name: &[u8], status: u8) -> Result<Said, Al
 /// The verdict on a program, printed. The tags that the search found are accepted by the checker
 /// before they are printed.
 fn judged(alloc: Global, p: &Program) -> Result<Said, AllocError>
-    ensures { IfOk result (λ said. (v : Verdict) × Judge (program_of p.now) v × VerdictAnswer (program_of p.now) v said.text.items said.status) }
+    ensures { IfOk result (λ said. (v : Verdict) × Judge (program_of p.now) v
+        × VerdictAnswer (program_of p.now) v said.text.items said.status) }
 {
     match verify(alloc, p) {
         Ok(tags) => {
@@ -73,7 +75,8 @@ fn judged(alloc: Global, p: &Program) -> Result<Said, AllocError>
     }
 }
 
-/// That a file is refused, and why. An `Err` is want of memory, and is the answer where that was the cause.
+/// That a file is refused, and why. An `Err` says that memory ran out, which is also
+/// the answer where that was the cause.
 fn say_refusal(alloc: Global, refusal: &Refusal) -> Result<Said, AllocError>
     ensures said { IfOk result (λ said. (said.text.items ≡ refusal_text refusal.now) × (said.status ≡ 3)) }
     ensures cause { IfOk result (λ said. refusal.now ≢ OutOfMemory) }
@@ -113,9 +116,11 @@ fn fetch_up_to<S: Shelf>(
 ) -> Result<Vec<u8>, FetchFault>
     requires { limit < 2 ^ 64 - 1 }
     ensures fetched { IfOk result (λ bytes. Fetched limit (S.files shelf.old) name.now bytes.items) }
-    ensures failed { IsErrOf result FetchFault.Failed → Increased (S.faults shelf.old name.now) (S.faults shelf.new name.now) }
+    ensures failed { IsErrOf result FetchFault.Failed
+        → Increased (S.faults shelf.old name.now) (S.faults shelf.new name.now) }
     ensures files { S.files shelf.new ≡ S.files shelf.old }
-    ensures others { (other : Text) → other ≢ name.now → S.faults shelf.new other ≡ S.faults shelf.old other }
+    ensures others { (other : Text) → other ≢ name.now
+        → S.faults shelf.new other ≡ S.faults shelf.old other }
     ensures counts { (any : Text) → S.faults shelf.old any ≤ S.faults shelf.new any }
 {
     let mut bytes = Vec::new(alloc);
@@ -126,10 +131,14 @@ fn fetch_up_to<S: Shelf>(
 /// The answer to a file's name.
 fn answer_to_file<S: Shelf>(alloc: Global, name: &str, shelf: &mut S) -> Result<Said, AllocError>
     ensures status { IfOk result (λ said. said.status < 8) }
-    ensures answered { IfOk result (λ said. said.status < 7 → AnswersFile (S.files shelf.old) name.now said.text.items said.status) }
-    ensures unread { IfOk result (λ said. said.status ≡ 7 → Increased (S.faults shelf.old name.now) (S.faults shelf.new name.now) × (said.text.items ≡ read_fault_text name.now)) }
+    ensures answered { IfOk result (λ said. said.status < 7
+        → AnswersFile (S.files shelf.old) name.now said.text.items said.status) }
+    ensures unread { IfOk result (λ said. said.status ≡ 7
+        → Increased (S.faults shelf.old name.now) (S.faults shelf.new name.now)
+        × (said.text.items ≡ read_fault_text name.now)) }
     ensures files { S.files shelf.new ≡ S.files shelf.old }
-    ensures others { (other : Text) → other ≢ name.now → S.faults shelf.new other ≡ S.faults shelf.old other }
+    ensures others { (other : Text) → other ≢ name.now
+        → S.faults shelf.new other ≡ S.faults shelf.old other }
     ensures counts { (any : Text) → S.faults shelf.old any ≤ S.faults shelf.new any }
 {
     match fetch_up_to(alloc, name, FILE_BYTES, shelf) {
@@ -142,9 +151,14 @@ fn answer_to_file<S: Shelf>(alloc: Global, name: &str, shelf: &mut S) -> Result<
 /// What the command says to words that are that command.
 fn follow<S: Shelf>(alloc: Global, order: Order, shelf: &mut S) -> Result<Said, AllocError>
     ensures status { IfOk result (λ said. said.status < 8) }
-    ensures said { IfOk result (λ said. (words : List Text) → order_of words ≡ order_in (Some order.entry) → Reply (S.files shelf.old) (S.faults shelf.old) (S.faults shelf.new) words said.text.items said.status) }
+    ensures said { IfOk result (λ said. (words : List Text)
+        → order_of words ≡ order_in (Some order.entry)
+        → Reply (S.files shelf.old) (S.faults shelf.old) (S.faults shelf.new) words
+        said.text.items said.status) }
     ensures files { S.files shelf.new ≡ S.files shelf.old }
-    ensures others { (words : List Text) (other : Text) → order_of words ≡ order_in (Some order.entry) → (NamesFile words other → ⊥) → S.faults shelf.new other ≡ S.faults shelf.old other }
+    ensures others { (words : List Text) (other : Text)
+        → order_of words ≡ order_in (Some order.entry) → (NamesFile words other → ⊥)
+        → S.faults shelf.new other ≡ S.faults shelf.old other }
     ensures counts { (any : Text) → S.faults shelf.old any ≤ S.faults shelf.new any }
 {
     match order {
@@ -152,12 +166,15 @@ fn follow<S: Shelf>(alloc: Global, order: Order, shelf: &mut S) -> Result<Said, 
     }
 }
 
-/// What the command says to its words. An `Err` is want of memory.
+/// What the command says to its words. An `Err` says that memory ran out.
 pub fn respond<S: Shelf>(alloc: Global, words: &[&str], shelf: &mut S) -> Result<Said, AllocError>
     ensures status { IfOk result (λ said. said.status < 8) }
-    ensures said { IfOk result (λ said. Reply (S.files shelf.old) (S.faults shelf.old) (S.faults shelf.new) (words_of words.now) said.text.items said.status) }
+    ensures said { IfOk result (λ said.
+        Reply (S.files shelf.old) (S.faults shelf.old) (S.faults shelf.new) (words_of words.now)
+        said.text.items said.status) }
     ensures files { S.files shelf.new ≡ S.files shelf.old }
-    ensures others { (other : Text) → (NamesFile (words_of words.now) other → ⊥) → S.faults shelf.new other ≡ S.faults shelf.old other }
+    ensures others { (other : Text) → (NamesFile (words_of words.now) other → ⊥)
+        → S.faults shelf.new other ≡ S.faults shelf.old other }
     ensures counts { (any : Text) → S.faults shelf.old any ≤ S.faults shelf.new any }
 {
     match read_order(words) {

@@ -6,6 +6,7 @@ mod proofs;
 mod tables;
 
 use crate::top::smallfoot;
+use crate::words::USAGE;
 use sf_io::{MemShelf, MemSink, OpenGate};
 use std::alloc::Global;
 use std::process::Abort;
@@ -14,33 +15,26 @@ use std::test::Fail;
 use std::thread::Threads;
 use tables::{
     ANSWERS, BAD_GRAMMAR, BAD_NAMES, BAD_WORDS, BROKEN_CONDITIONS, COUNTS, EXAMPLES, IN_ORDER,
-    LANGUAGE, NESTS, NO_COMMANDS, SET, SET_PROOF, UNDETERMINED, USAGE,
+    LANGUAGE, NESTS, NO_COMMANDS, SET, SET_PROOF, UNDETERMINED,
 };
 
-/// What the command says to the words over that shelf, and its status.
-fn said<R: Threads + Wait + Sync>(
+/// The command says that to the words over that shelf, with that status.
+fn says<R: Threads + Wait + Sync + Abort>(
     rt: &R,
     alloc: Global,
     words: &[&str],
     shelf: &mut MemShelf,
-) -> Result<(String, u8), Fail> {
+    answer: (&str, u8),
+) -> Result<(), Fail> {
     let mut sink = MemSink::new(alloc, usize::MAX);
     let status = smallfoot(rt, alloc, words, shelf, &mut sink, &OpenGate);
-    Ok((String::from_utf8_lossy(alloc, sink.bytes())?, status))
+    let out = String::from_utf8_lossy(alloc, sink.bytes())?;
+    assert_eq!(rt; out.as_str(), answer.0);
+    assert_eq!(rt; status, answer.1);
+    Ok(())
 }
 
-/// What `verify` says to a file of those bytes.
-fn verified<R: Threads + Wait + Sync>(
-    rt: &R,
-    alloc: Global,
-    bytes: &[u8],
-) -> Result<(String, u8), Fail> {
-    let mut shelf = MemShelf::new(alloc);
-    shelf.add("p.sf", bytes)?;
-    said(rt, alloc, &["verify", "p.sf"], &mut shelf)
-}
-
-/// The status that goes with such an answer.
+/// The status that goes with such an answer to a file.
 fn status_of(answer: &str) -> u8 {
     if answer.starts_with("accepted") {
         0
@@ -51,114 +45,91 @@ fn status_of(answer: &str) -> u8 {
     }
 }
 
-/// Each of the files has the answer that stands beside it, with its status.
-fn answered<R: Threads + Wait + Sync + Abort>(
+/// `verify` gives that answer to a file of those bytes.
+fn is_answered<R: Threads + Wait + Sync + Abort>(
+    rt: &R,
+    alloc: Global,
+    bytes: &[u8],
+    answer: &str,
+) -> Result<(), Fail> {
+    let mut shelf = MemShelf::new(alloc);
+    shelf.add("p.sf", bytes)?;
+    says(
+        rt,
+        alloc,
+        &["verify", "p.sf"],
+        &mut shelf,
+        (answer, status_of(answer)),
+    )
+}
+
+/// `verify` refuses a file of those bytes for that.
+fn is_refused<R: Threads + Wait + Sync + Abort>(
+    rt: &R,
+    alloc: Global,
+    bytes: &[u8],
+    fault: &str,
+) -> Result<(), Fail> {
+    let line = format!(in alloc; "file refused: {fault}\n")?;
+    is_answered(rt, alloc, bytes, line.as_str())
+}
+
+/// Each of the files has the answer beside it.
+fn are_answered<R: Threads + Wait + Sync + Abort>(
     rt: &R,
     alloc: Global,
     cases: &[(&[u8], &str)],
 ) -> Result<(), Fail> {
-    for (file, text) in cases {
-        let (out, status) = verified(rt, alloc, file)?;
-        let name = String::from_utf8_lossy(alloc, file)?;
-        assert_eq!(rt; out.as_str(), *text, "{name}");
-        assert_eq!(rt; status, status_of(text), "{name}");
+    for (bytes, answer) in cases {
+        is_answered(rt, alloc, bytes, answer)?;
     }
     Ok(())
 }
 
-/// The line that says that a file is refused for that.
-fn refusal(alloc: Global, fault: &str) -> Result<String, Fail> {
-    Ok(format!(in alloc; "file refused: {fault}\n")?)
-}
-
-#[test]
-fn answers_to_files(rt: HostRuntime) -> Result<(), Fail> {
-    for (file, text, status) in ANSWERS {
-        let (out, code) = verified(&rt, rt.alloc(), file.as_bytes())?;
-        assert_eq!(rt; out.as_str(), text, "{file}");
-        assert_eq!(rt; code, status, "{file}");
-    }
-    Ok(())
-}
-
-/// Each of the files is refused for what stands beside it.
-fn refused<R: Threads + Wait + Sync + Abort>(
+/// Each of the files is refused for what is beside it.
+fn are_refused<R: Threads + Wait + Sync + Abort>(
     rt: &R,
     alloc: Global,
     cases: &[(&[u8], &str)],
 ) -> Result<(), Fail> {
-    for (file, fault) in cases {
-        let (out, status) = verified(rt, alloc, file)?;
-        let line = refusal(alloc, fault)?;
-        let name = String::from_utf8_lossy(alloc, file)?;
-        assert_eq!(rt; out.as_str(), line.as_str(), "{name}");
-        assert_eq!(rt; status, 3, "{name}");
+    for (bytes, fault) in cases {
+        is_refused(rt, alloc, bytes, fault)?;
     }
     Ok(())
 }
 
 #[test]
-fn files_are_refused_at_their_first_bad_word(rt: HostRuntime) -> Result<(), Fail> {
-    refused(&rt, rt.alloc(), &BAD_WORDS)
+fn files_have_their_answers(rt: HostRuntime) -> Result<(), Fail> {
+    are_answered(&rt, rt.alloc(), &ANSWERS)?;
+    are_answered(&rt, rt.alloc(), &IN_ORDER)?;
+    are_answered(&rt, rt.alloc(), &LANGUAGE)?;
+    are_answered(&rt, rt.alloc(), &EXAMPLES)
 }
 
 #[test]
-fn files_are_refused_at_their_first_unexpected_word(rt: HostRuntime) -> Result<(), Fail> {
-    refused(&rt, rt.alloc(), &BAD_GRAMMAR)
+fn files_are_refused_at_their_first_fault(rt: HostRuntime) -> Result<(), Fail> {
+    are_refused(&rt, rt.alloc(), &BAD_WORDS)?;
+    are_refused(&rt, rt.alloc(), &BAD_GRAMMAR)?;
+    are_refused(&rt, rt.alloc(), &BAD_NAMES)?;
+    are_refused(&rt, rt.alloc(), &BROKEN_CONDITIONS)?;
+    are_refused(&rt, rt.alloc(), &UNDETERMINED)
 }
 
 #[test]
-fn files_are_refused_at_their_first_fault_of_names(rt: HostRuntime) -> Result<(), Fail> {
-    refused(&rt, rt.alloc(), &BAD_NAMES)
-}
-
-#[test]
-fn files_are_refused_at_their_first_broken_condition(rt: HostRuntime) -> Result<(), Fail> {
-    refused(&rt, rt.alloc(), &BROKEN_CONDITIONS)
-}
-
-#[test]
-fn files_are_refused_where_they_are_not_determined(rt: HostRuntime) -> Result<(), Fail> {
-    refused(&rt, rt.alloc(), &UNDETERMINED)
-}
-
-#[test]
-fn files_in_order_have_no_fault(rt: HostRuntime) -> Result<(), Fail> {
-    answered(&rt, rt.alloc(), &IN_ORDER)
-}
-
-#[test]
-fn examples_of_the_language(rt: HostRuntime) -> Result<(), Fail> {
-    answered(&rt, rt.alloc(), &LANGUAGE)
-}
-
-#[test]
-fn examples_for_users(rt: HostRuntime) -> Result<(), Fail> {
-    for (file, text, status) in EXAMPLES {
-        let (out, code) = verified(&rt, rt.alloc(), file.as_bytes())?;
-        assert_eq!(rt; out.as_str(), text, "{file}");
-        assert_eq!(rt; code, status, "{file}");
-    }
-    Ok(())
-}
-
-#[test]
-fn answers_to_words(rt: HostRuntime) -> Result<(), Fail> {
+fn words_that_are_no_command_are_answered_with_the_usage(rt: HostRuntime) -> Result<(), Fail> {
     let alloc = rt.alloc();
+    let mut shelf = MemShelf::new(alloc);
+    shelf.add("p.sf", SET)?;
     for words in NO_COMMANDS {
-        let mut shelf = MemShelf::new(alloc);
-        shelf.add("p.sf", SET.as_bytes())?;
-        let (out, status) = said(&rt, alloc, words, &mut shelf)?;
-        assert_eq!(rt; out.as_str(), USAGE);
-        assert_eq!(rt; status, 2);
+        says(&rt, alloc, words, &mut shelf, (USAGE, 2))?;
     }
     Ok(())
 }
 
-/// That many numbered texts, with what stands between two of them, and a front and an end.
+/// That many numbered texts, with a text between two of them, a beginning and an end.
 fn numbered(alloc: Global, parts: (&str, &str, &str, &str), count: u32) -> Result<String, Fail> {
-    let (front, each, between, end) = parts;
-    let mut file = String::from_str(alloc, front)?;
+    let (begin, each, between, end) = parts;
+    let mut file = String::from_str(alloc, begin)?;
     for i in 0..count {
         if i > 0 {
             file.push_str(between)?;
@@ -173,15 +144,13 @@ fn numbered(alloc: Global, parts: (&str, &str, &str, &str), count: u32) -> Resul
 fn limits_of_counts(rt: HostRuntime) -> Result<(), Fail> {
     let alloc = rt.alloc();
     for (parts, (limit, more), answer, fault) in COUNTS {
-        let within = numbered(alloc, parts, limit)?;
-        let (out, status) = verified(&rt, alloc, within.as_bytes())?;
-        assert_eq!(rt; out.as_str(), answer, "{fault}");
-        assert_eq!(rt; status, status_of(answer), "{fault}");
-        let beyond = numbered(alloc, parts, more)?;
-        let (out, status) = verified(&rt, alloc, beyond.as_bytes())?;
-        let line = refusal(alloc, fault)?;
-        assert_eq!(rt; out.as_str(), line.as_str());
-        assert_eq!(rt; status, 3, "{fault}");
+        is_answered(
+            &rt,
+            alloc,
+            numbered(alloc, parts, limit)?.as_bytes(),
+            answer,
+        )?;
+        is_refused(&rt, alloc, numbered(alloc, parts, more)?.as_bytes(), fault)?;
     }
     Ok(())
 }
@@ -198,20 +167,15 @@ fn a_thousand_procedures_and_one_more(rt: HostRuntime) -> Result<(), Fail> {
     );
     let within = numbered(alloc, procedures, 1000)?;
     let proof = numbered(alloc, lines, 1000)?;
-    let (out, status) = verified(&rt, alloc, within.as_bytes())?;
-    assert_eq!(rt; out.as_str(), proof.as_str());
-    assert_eq!(rt; status, 0);
+    is_answered(&rt, alloc, within.as_bytes(), proof.as_str())?;
     let beyond = numbered(alloc, procedures, 1001)?;
-    let (out, status) = verified(&rt, alloc, beyond.as_bytes())?;
-    assert_eq!(rt; out.as_str(), "file refused: 26 TooMany at 1001:1\n");
-    assert_eq!(rt; status, 3);
-    Ok(())
+    is_refused(&rt, alloc, beyond.as_bytes(), "26 TooMany at 1001:1")
 }
 
-/// A front, so many openings and as many closings, and an end.
+/// A beginning, so many openings and as many closings, and an end.
 fn nested(alloc: Global, parts: (&str, &str, &str, &str), count: u32) -> Result<String, Fail> {
-    let (front, open, close, end) = parts;
-    let mut file = String::from_str(alloc, front)?;
+    let (begin, open, close, end) = parts;
+    let mut file = String::from_str(alloc, begin)?;
     for _ in 0..count {
         file.push_str(open)?;
     }
@@ -226,15 +190,8 @@ fn nested(alloc: Global, parts: (&str, &str, &str, &str), count: u32) -> Result<
 fn limits_of_nesting(rt: HostRuntime) -> Result<(), Fail> {
     let alloc = rt.alloc();
     for (parts, (limit, more), answer, fault) in NESTS {
-        let within = nested(alloc, parts, limit)?;
-        let (out, status) = verified(&rt, alloc, within.as_bytes())?;
-        assert_eq!(rt; out.as_str(), answer, "{fault}");
-        assert_eq!(rt; status, status_of(answer), "{fault}");
-        let beyond = nested(alloc, parts, more)?;
-        let (out, status) = verified(&rt, alloc, beyond.as_bytes())?;
-        let line = refusal(alloc, fault)?;
-        assert_eq!(rt; out.as_str(), line.as_str());
-        assert_eq!(rt; status, 3, "{fault}");
+        is_answered(&rt, alloc, nested(alloc, parts, limit)?.as_bytes(), answer)?;
+        is_refused(&rt, alloc, nested(alloc, parts, more)?.as_bytes(), fault)?;
     }
     Ok(())
 }
@@ -243,36 +200,30 @@ fn limits_of_nesting(rt: HostRuntime) -> Result<(), Fail> {
 fn limits_of_files(rt: HostRuntime) -> Result<(), Fail> {
     let alloc = rt.alloc();
     let mut bytes = vec![in alloc; b' '; 1_048_576]?;
-    let (out, status) = verified(&rt, alloc, bytes.as_slice())?;
-    assert_eq!(rt; out.as_str(), "accepted\n");
-    assert_eq!(rt; status, 0);
+    is_answered(&rt, alloc, bytes.as_slice(), "accepted\n")?;
     bytes.push(b' ')?;
-    let (out, status) = verified(&rt, alloc, bytes.as_slice())?;
-    assert_eq!(rt; out.as_str(), "file refused: 5 LongFile at 1:1\n");
-    assert_eq!(rt; status, 3);
-    Ok(())
+    is_refused(&rt, alloc, bytes.as_slice(), "5 LongFile at 1:1")
 }
 
 #[test]
 fn faults_of_the_shelf(rt: HostRuntime) -> Result<(), Fail> {
     let alloc = rt.alloc();
     let mut shelf = MemShelf::new(alloc);
-    shelf.add("set.sf", SET.as_bytes())?;
-    let (out, status) = said(&rt, alloc, &["verify", "none.sf"], &mut shelf)?;
-    assert_eq!(rt; out.as_str(), "read fault: none.sf\n");
-    assert_eq!(rt; status, 7);
+    shelf.add("set.sf", SET)?;
     shelf.fail_at(2)?;
-    let (out, status) = said(&rt, alloc, &["verify", "set.sf"], &mut shelf)?;
-    assert_eq!(rt; out.as_str(), "read fault: set.sf\n");
-    assert_eq!(rt; status, 7);
-    let (out, status) = said(&rt, alloc, &["verify", "set.sf"], &mut shelf)?;
-    assert_eq!(rt; out.as_str(), SET_PROOF);
-    assert_eq!(rt; status, 0);
+    let cases = [
+        ("none.sf", ("read fault: none.sf\n", 7)),
+        ("set.sf", ("read fault: set.sf\n", 7)),
+        ("set.sf", (SET_PROOF, 0)),
+    ];
+    for (name, answer) in cases {
+        says(&rt, alloc, &["verify", name], &mut shelf, answer)?;
+    }
     Ok(())
 }
 
 /// What comes out of a sink that takes so many bytes at a call and fails at that call, and the status.
-fn cut<R: Threads + Wait + Sync>(
+fn put_into<R: Threads + Wait + Sync>(
     rt: &R,
     alloc: Global,
     name: &str,
@@ -280,7 +231,7 @@ fn cut<R: Threads + Wait + Sync>(
     failing: u64,
 ) -> Result<(String, u8), Fail> {
     let mut shelf = MemShelf::new(alloc);
-    shelf.add("set.sf", SET.as_bytes())?;
+    shelf.add("set.sf", SET)?;
     let mut sink = MemSink::new(alloc, most);
     sink.fail_at(failing)?;
     let words = ["verify", name];
@@ -297,7 +248,7 @@ fn faults_of_the_sink(rt: HostRuntime) -> Result<(), Fail> {
         ("none.sf", 5, 3, "read fault", 8),
     ];
     for (name, most, failing, text, status) in cases {
-        let (out, code) = cut(&rt, rt.alloc(), name, most, failing)?;
+        let (out, code) = put_into(&rt, rt.alloc(), name, most, failing)?;
         assert_eq!(rt; out.as_str(), text);
         assert_eq!(rt; code, status);
     }

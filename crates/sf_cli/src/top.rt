@@ -3,7 +3,7 @@
 ghost use Rattle.std.specs.Prelude.{◌≡◌, ◌≢◌, ◌≤◌, ◌<◌, ◌⊎◌, List};
 ghost use Rattle.sf_io.specs.Increased.{Increased};
 ghost use Rattle.sf_io.specs.Sink.{with_bytes, WrotePrefix};
-ghost use Rattle.sf_cli.specs.Answer.{Accepted, Answers, NamesFile, Unread, WroteFront, WroteSome};
+ghost use Rattle.sf_cli.specs.Answer.{Accepted, Answers, NamesFile, Unread, WroteNothingOrPrefix, WroteReplyPrefix};
 ghost use Rattle.sf_cli.specs.Words.{Text};
 ghost use Rattle.sf_cli.specs.WordsOf.{words_of};
 
@@ -22,8 +22,10 @@ pub const OUT_OF_MEMORY: u8 = 9;
 /// Puts what is said, whole, and gives its status; or the status of what kept it from that.
 fn tell<K: Sink>(sink: &mut K, said: &Said) -> u8
     requires { said.now.status < 8 }
-    ensures whole { result < 8 → (result ≡ said.now.status) × (K.written sink.new ≡ with_bytes (K.written sink.old) said.now.text.items) }
-    ensures part { 8 ≤ result → WrotePrefix (K.written sink.old) (K.written sink.new) said.now.text.items }
+    ensures whole { result < 8 → (result ≡ said.now.status)
+        × (K.written sink.new ≡ with_bytes (K.written sink.old) said.now.text.items) }
+    ensures prefix { 8 ≤ result
+        → WrotePrefix (K.written sink.old) (K.written sink.new) said.now.text.items }
     ensures failed { result ≡ 8 → Increased (K.faults sink.old) (K.faults sink.new) }
     ensures last { result ≤ 9 }
     ensures counts { K.faults sink.old ≤ K.faults sink.new }
@@ -37,11 +39,11 @@ fn tell<K: Sink>(sink: &mut K, said: &Said) -> u8
 
 /// Does all that the program does, and gives the status with which it ends.
 ///
-/// The words are those behind the program's name. Files come from the shelf, the answer goes to the
-/// sink, whole or, at status 8 or 9, no further than some first part of it. The statuses are 0 where
+/// The words are those after the program's name. Files come from the shelf, the answer goes to the
+/// sink, whole or, at status 8 or 9, no further than some prefix of it. The statuses are 0 where
 /// the program is proved, 1 where a procedure fails, 2 where the words are no command, 3 where the
 /// file is refused, 7 where the shelf failed, 8 where the sink did, and 9 where memory ran out. Where
-/// no count of faults rises, the answer is the one that is due, whole, or memory ran out.
+/// no count of faults increases, the answer is the one that is due, whole, or memory ran out.
 ///
 /// The runtime and the gate are for commands that run programs in threads, which aren't here yet: no
 /// thread is started and nothing waits.
@@ -54,25 +56,38 @@ pub fn smallfoot<'a, R: Threads + Wait + Sync, S: Shelf, K: Sink, G: Gate>(
     gate: &G,
 ) -> u8
     // The answer that is due, whole, over files that the shelf's may be.
-    ensures answers { result < 7 → (text : Text) × (K.written sink.new ≡ with_bytes (K.written sink.old) text) × Answers (S.files shelf.old) (words_of words.now) text result }
-    // The file that the words name couldn't be read: its count of faults rose.
-    ensures unread { result ≡ 7 → (text : Text) × (K.written sink.new ≡ with_bytes (K.written sink.old) text) × Unread (S.faults shelf.old) (S.faults shelf.new) (words_of words.now) text }
-    // The sink's count of faults rose, and the bytes put are a first part of what may be said.
+    ensures answers { result < 7 → (text : Text)
+        × (K.written sink.new ≡ with_bytes (K.written sink.old) text)
+        × Answers (S.files shelf.old) (words_of words.now) text result }
+    // The file that the words name couldn't be read: its count of faults increased.
+    ensures unread { result ≡ 7 → (text : Text)
+        × (K.written sink.new ≡ with_bytes (K.written sink.old) text)
+        × Unread (S.faults shelf.old) (S.faults shelf.new) (words_of words.now) text }
+    // The sink's count of faults increased, and the bytes put are a prefix of what may be said.
     ensures unwritten { result ≡ 8 → Increased (K.faults sink.old) (K.faults sink.new) }
-    ensures cut { result ≡ 8 → WroteFront (S.files shelf.old) (S.faults shelf.old) (S.faults shelf.new) (words_of words.now) (K.written sink.old) (K.written sink.new) }
-    // Memory ran out: the bytes put are none, or a first part of what may be said.
-    ensures part { result ≡ 9 → WroteSome (S.files shelf.old) (S.faults shelf.old) (S.faults shelf.new) (words_of words.now) (K.written sink.old) (K.written sink.new) }
+    ensures prefix { result ≡ 8 → WroteReplyPrefix
+        (S.files shelf.old) (S.faults shelf.old) (S.faults shelf.new) (words_of words.now)
+        (K.written sink.old) (K.written sink.new) }
+    // Memory ran out: the bytes put are none, or a prefix of what may be said.
+    ensures out_of_memory { result ≡ 9 → WroteNothingOrPrefix
+        (S.files shelf.old) (S.faults shelf.old) (S.faults shelf.new) (words_of words.now)
+        (K.written sink.old) (K.written sink.new) }
     ensures statuses { (result ≤ 3) ⊎ ((7 ≤ result) × (result ≤ 9)) }
     // Over a shelf or a sink that never counts a fault there is none.
     ensures no_read_fault { ((name : Text) → S.faults shelf.new name ≡ 0) → result ≢ 7 }
     ensures no_write_fault { K.faults sink.new ≡ 0 → result ≢ 8 }
-    // Where no count rises in this call, the answer is whole, or memory ran out.
-    ensures complete { ((name : Text) → Increased (S.faults shelf.old name) (S.faults shelf.new name) → ⊥) → (Increased (K.faults sink.old) (K.faults sink.new) → ⊥) → (result < 7) ⊎ (result ≡ 9) }
+    // Where no count increases in this call, the answer is whole, or memory ran out.
+    ensures complete { ((name : Text) → Increased (S.faults shelf.old name) (S.faults shelf.new name) → ⊥)
+        → (Increased (K.faults sink.old) (K.faults sink.new) → ⊥)
+        → (result < 7) ⊎ (result ≡ 9) }
     // What is accepted is sound: whatever runs of it there are, each configuration is good.
-    ensures accepted { result ≡ 0 → (text : Text) × (K.written sink.new ≡ with_bytes (K.written sink.old) text) × Accepted (S.files shelf.old) (words_of words.now) text }
-    // No file changes, and no count falls; that of a name rises only where the words name it.
+    ensures accepted { result ≡ 0 → (text : Text)
+        × (K.written sink.new ≡ with_bytes (K.written sink.old) text)
+        × Accepted (S.files shelf.old) (words_of words.now) text }
+    // No file changes, and no count falls; that of a name increases only where the words name it.
     ensures counts { (any : Text) → S.faults shelf.old any ≤ S.faults shelf.new any }
-    ensures others { (other : Text) → (NamesFile (words_of words.now) other → ⊥) → S.faults shelf.new other ≡ S.faults shelf.old other }
+    ensures others { (other : Text) → (NamesFile (words_of words.now) other → ⊥)
+        → S.faults shelf.new other ≡ S.faults shelf.old other }
     ensures sink_counts { K.faults sink.old ≤ K.faults sink.new }
     ensures files { S.files shelf.new ≡ S.files shelf.old }
 {

@@ -9,86 +9,36 @@ use std::test::Fail;
 
 const BEGIN: Tag = Tag::Procedure(ProcId(0));
 
-/// Lists of tags, and whether they prove the program of one field that is written.
+const ADD: Tag = Tag::Add;
+
+const WRITE: Tag = Tag::Mutate(1);
+
+const RETURN: Tag = Tag::Return;
+
+const CELL: Tag = Tag::Cell(1);
+
+const END: Tag = Tag::End;
+
+/// Lists of tags, and whether they prove the program that writes one field.
 const PROOFS: [(&[Tag], bool); 10] = [
-    (
-        &[
-            BEGIN,
-            Tag::Add,
-            Tag::Mutate(1),
-            Tag::Return,
-            Tag::Cell(1),
-            Tag::End,
-        ],
-        true,
-    ),
+    (&[BEGIN, ADD, WRITE, RETURN, CELL, END], true),
     (&[], false),
     (&[BEGIN], false),
+    (&[BEGIN, ADD, WRITE, RETURN, CELL], false),
+    (&[BEGIN, ADD, WRITE, RETURN, CELL, END, END], false),
+    (&[ADD, WRITE, RETURN, CELL, END], false),
     (
-        &[BEGIN, Tag::Add, Tag::Mutate(1), Tag::Return, Tag::Cell(1)],
+        &[Tag::Procedure(ProcId(1)), ADD, WRITE, RETURN, CELL, END],
         false,
     ),
-    (
-        &[
-            BEGIN,
-            Tag::Add,
-            Tag::Mutate(1),
-            Tag::Return,
-            Tag::Cell(1),
-            Tag::End,
-            Tag::End,
-        ],
-        false,
-    ),
-    (
-        &[
-            Tag::Add,
-            Tag::Mutate(1),
-            Tag::Return,
-            Tag::Cell(1),
-            Tag::End,
-        ],
-        false,
-    ),
-    (
-        &[
-            Tag::Procedure(ProcId(1)),
-            Tag::Add,
-            Tag::Mutate(1),
-            Tag::Return,
-            Tag::Cell(1),
-            Tag::End,
-        ],
-        false,
-    ),
-    (
-        &[
-            BEGIN,
-            Tag::Add,
-            Tag::Mutate(2),
-            Tag::Return,
-            Tag::Cell(1),
-            Tag::End,
-        ],
-        false,
-    ),
-    (
-        &[
-            BEGIN,
-            Tag::Add,
-            Tag::Return,
-            Tag::Mutate(1),
-            Tag::Cell(1),
-            Tag::End,
-        ],
-        false,
-    ),
+    (&[BEGIN, ADD, Tag::Mutate(2), RETURN, CELL, END], false),
+    (&[BEGIN, ADD, RETURN, WRITE, CELL, END], false),
     (&[BEGIN, Tag::Absurd], false),
 ];
 
 #[test]
 fn tags_prove_exactly_by_the_table(rt: HostRuntime) -> Result<(), Fail> {
-    match admit(rt.alloc(), SET.as_bytes()) {
+    match admit(rt.alloc(), SET) {
         Ok(arranged) => {
             for (tags, is_proof) in PROOFS {
                 let accepted = check(rt.alloc(), &arranged.program, tags)?;

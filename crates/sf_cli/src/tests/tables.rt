@@ -1,6 +1,6 @@
 //! Files and the answers to them, worked out by hand.
 
-pub const SET: &str = "set(x) [x|->] { x->tl = 3; } [x|->tl:3]";
+pub const SET: &[u8] = b"set(x) [x|->] { x->tl = 3; } [x|->tl:3]";
 
 pub const SET_PROOF: &str = "accepted\nprocedure set\nadd\nmutate 1\nreturn\ncell 1\nend\n";
 
@@ -14,103 +14,71 @@ pub const EMPTY: &str = "accepted\nprocedure f\nreturn\nend\n";
 
 pub const WRITTEN: &str = "accepted\nprocedure f\nadd\nmutate 1\nreturn\ncell 1\nend\n";
 
-pub const USAGE: &str =
-    "usage: smallfoot verify FILE [--workers K]\n       smallfoot recheck FILE PROOF\n       smallfoot run FILE ENTRY STATE [--steps N] [--waits W]\n       smallfoot demo N\n";
-
-/// Files with what is said of them, and its status.
-pub const ANSWERS: [(&str, &str, u8); 36] = [
-    ("", "accepted\n", 0),
-    (SET, SET_PROOF, 0),
-    ("set(x) [] { x->tl = 3; }", "failed set\n", 1),
+/// Files with what is said of them.
+pub const ANSWERS: [(&[u8], &str); 36] = [
+    (b"", "accepted\n"),
+    (SET, SET_PROOF),
+    (b"set(x) [] { x->tl = 3; }", "failed set\n"),
     (
-        "v(x) [x|-> * x|->] { }",
+        b"v(x) [x|-> * x|->] { }",
         "accepted\nprocedure v\nadd\nadd\nabsurd\n",
-        0,
     ),
-    ("f(x;) { }", EMPTY, 0),
-    ("f() { }", EMPTY, 0),
-    ("/* c */ f() { }", EMPTY, 0),
-    ("f() { { } {{ }} }", EMPTY, 0),
+    (b"f(x;) { }", EMPTY),
+    (b"f() { }", EMPTY),
+    (b"/* c */ f() { }", EMPTY),
+    (b"f() { { } {{ }} }", EMPTY),
     (
-        "f() { } g() { }",
+        b"f() { } g() { }",
         "accepted\nprocedure f\nreturn\nend\nprocedure g\nreturn\nend\n",
-        0,
     ),
-    ("f() { } g(x) [x|->] { } h(x) [x|->] { }", "failed g\n", 1),
+    (b"f() { } g(x) [x|->] { } h(x) [x|->] { }", "failed g\n"),
     (
-        "f(x) [x|->hd:9223372036854775807] { } [x|->hd:9223372036854775807]",
+        b"f(x) [x|->hd:9223372036854775807] { } [x|->hd:9223372036854775807]",
         KEPT,
-        0,
     ),
     (
-        "f(x) [x|->hd:-9223372036854775808] { } [x|->hd:-9223372036854775808]",
+        b"f(x) [x|->hd:-9223372036854775808] { } [x|->hd:-9223372036854775808]",
         KEPT,
-        0,
     ),
-    ("f(x) [x|->hd:-0] { } [x|->hd:0]", KEPT, 0),
-    ("f(x) [x|->hd:NULL] { } [x|->hd:nil]", KEPT, 0),
-    ("f(x) [(x|-> * emp)] { } [((x|->))]", KEPT, 0),
-    ("f(x) [x|->hd:x,tl:x] { } [x|->tl:x]", KEPT, 0),
-    ("f\t(\r\nx )\n[ x|-> ]\n{ }\n[ x |-> ]\n", KEPT, 0),
+    (b"f(x) [x|->hd:-0] { } [x|->hd:0]", KEPT),
+    (b"f(x) [x|->hd:NULL] { } [x|->hd:nil]", KEPT),
+    (b"f(x) [(x|-> * emp)] { } [((x|->))]", KEPT),
+    (b"f(x) [x|->hd:x,tl:x] { } [x|->tl:x]", KEPT),
+    (b"f\t(\r\nx )\n[ x|-> ]\n{ }\n[ x |-> ]\n", KEPT),
+    (b"f(x) [nil|->] { }", "accepted\nprocedure f\nadd\nabsurd\n"),
+    (b"f(x) [x|->hd:1] { } [x|->hd:2]", FAILED),
+    (b"f(x) [x|->] { } [x|->hd:nil]", FAILED),
+    (b"f(x) [x|->] { }", FAILED),
+    (b"f(x) { } [x|->]", FAILED),
+    (b"f(x) [x|->] { x->hd = 007; } [x|->hd:7]", WRITTEN),
+    (b"f(x) [x|->] { {x->hd = 1;} } [x|->hd:1]", WRITTEN),
+    (b"a; f(x) [x|->a:1] { x->a = 2; } [x|->a:2]", WRITTEN),
+    (b"f(y) [y|->] { local x; y->hd = x; } [y|->hd:nil]", WRITTEN),
+    (b"f(y;) [y|->] { y->hd = y; } [y|->hd:y]", WRITTEN),
     (
-        "f(x) [nil|->] { }",
-        "accepted\nprocedure f\nadd\nabsurd\n",
-        0,
-    ),
-    ("f(x) [x|->hd:1] { } [x|->hd:2]", FAILED, 1),
-    ("f(x) [x|->] { } [x|->hd:nil]", FAILED, 1),
-    ("f(x) [x|->] { }", FAILED, 1),
-    ("f(x) { } [x|->]", FAILED, 1),
-    ("f(x) [x|->] { x->hd = 007; } [x|->hd:7]", WRITTEN, 0),
-    ("f(x) [x|->] { {x->hd = 1;} } [x|->hd:1]", WRITTEN, 0),
-    ("a; f(x) [x|->a:1] { x->a = 2; } [x|->a:2]", WRITTEN, 0),
-    (
-        "f(y) [y|->] { local x; y->hd = x; } [y|->hd:nil]",
-        WRITTEN,
-        0,
-    ),
-    ("f(y;) [y|->] { y->hd = y; } [y|->hd:y]", WRITTEN, 0),
-    (
-        "f(x, y) [x|-> * y|->] { x->hd = y; y->tl = nil; } [y|->tl:nil * x|->hd:y]",
+        b"f(x, y) [x|-> * y|->] { x->hd = y; y->tl = nil; } [y|->tl:nil * x|->hd:y]",
         "accepted\nprocedure f\nadd\nadd\nmutate 1\nmutate 2\nreturn\ncell 2\ncell 1\nend\n",
-        0,
     ),
     (
-        "f(x; y) [x|-> * y|->] { x->hd = y; } [x|->hd:y * y|->]",
+        b"f(x; y) [x|-> * y|->] { x->hd = y; } [x|->hd:y * y|->]",
         "accepted\nprocedure f\nadd\nadd\nmutate 1\nreturn\ncell 1\ncell 2\nend\n",
-        0,
     ),
-    ("f(x) [x|->hd:_y] { } [x|->]", NOT_BUILT, 3),
-    ("f(x) [x == nil] { }", NOT_BUILT, 3),
-    ("f(x) { } [list(x)]", NOT_BUILT, 3),
-    ("f(x) { x = nil; }", NOT_BUILT, 3),
-    ("f(x;) { x = new(); }", NOT_BUILT, 3),
-    ("f() { } g() { f(); }", NOT_BUILT, 3),
-    ("resource r () []", NOT_BUILT, 3),
+    (b"f(x) [x|->hd:_y] { } [x|->]", NOT_BUILT),
+    (b"f(x) [x == nil] { }", NOT_BUILT),
+    (b"f(x) { } [list(x)]", NOT_BUILT),
+    (b"f(x) { x = nil; }", NOT_BUILT),
+    (b"f(x;) { x = new(); }", NOT_BUILT),
+    (b"f() { } g() { f(); }", NOT_BUILT),
+    (b"resource r () []", NOT_BUILT),
 ];
 
 /// Files that are refused for their words, with the kind and the place.
-pub const BAD_WORDS: [(&[u8], &str); 21] = [
+pub const BAD_WORDS: [(&[u8], &str); 9] = [
     (
         b"x\n _a123456789012345678901234567890123456789012345678901234567890123;",
         "2 LongWord at 2:2",
     ),
-    (b"f() { @ }", "1 BadByte at 1:7"),
     (b"/* x", "3 OpenComment at 1:1"),
-    (
-        b"f() { x->tl = 9223372036854775808; }",
-        "4 BadNumber at 1:15",
-    ),
-    (b"f() { -x; }", "1 BadByte at 1:7"),
-    (b"f() { x-->tl = 1; }", "1 BadByte at 1:8"),
-    (b"f() { if (x ! y) { } }", "1 BadByte at 1:13"),
-    (b"f(x) [x |-tl:x] { }", "1 BadByte at 1:9"),
-    (b"f() { } \x0c", "1 BadByte at 1:9"),
-    (b"/*/", "3 OpenComment at 1:1"),
-    (b"/* /* */ */", "1 BadByte at 1:11"),
-    (b"/* a\nb */ @", "1 BadByte at 2:6"),
-    (b"f() { 3x->tl = 1; }", "4 BadNumber at 1:7"),
-    (b"f( ) ) @", "1 BadByte at 1:8"),
     (
         b"f(x) [x|->hd:9223372036854775808] { }",
         "4 BadNumber at 1:14",
@@ -130,30 +98,7 @@ pub const BAD_WORDS: [(&[u8], &str); 21] = [
 ];
 
 /// Files that are refused by the grammar.
-pub const BAD_GRAMMAR: [(&[u8], &str); 24] = [
-    (b"f() { x = ; }", "10 Unexpected at 1:11"),
-    (b"f(x) { x->tl = 3/**/4; }", "10 Unexpected at 1:21"),
-    (b"f(x,) { }", "10 Unexpected at 1:5"),
-    (b"f() { f(3;); }", "10 Unexpected at 1:10"),
-    (
-        b"f() { if (true) { } else { } else { } }",
-        "10 Unexpected at 1:30",
-    ),
-    (b"f() { local ; }", "10 Unexpected at 1:13"),
-    (b"f() {", "10 Unexpected at 1:6"),
-    (b"f", "10 Unexpected at 1:2"),
-    (b"f() [true] { }", "10 Unexpected at 1:6"),
-    (b"f(x) [x] { }", "10 Unexpected at 1:8"),
-    (b"f(x) [x|->tl] { }", "10 Unexpected at 1:13"),
-    (b"f(x) [x|->tl:x,] { }", "10 Unexpected at 1:16"),
-    (b"f(x;) { f(x;) || x = nil; }", "10 Unexpected at 1:20"),
-    (b"f(x) { x = new; }", "10 Unexpected at 1:15"),
-    (b"f(x) { x == nil; }", "10 Unexpected at 1:10"),
-    (b"f(x) { x = x->tl->tl; }", "10 Unexpected at 1:17"),
-    (b"f(x) { if x == nil { } }", "10 Unexpected at 1:11"),
-    (b"f(x) [lseg(x)] { }", "10 Unexpected at 1:13"),
-    (b"f(list) { }", "10 Unexpected at 1:3"),
-    (b"a b;", "10 Unexpected at 1:3"),
+pub const BAD_GRAMMAR: [(&[u8], &str); 4] = [
     (b"f() { } ]", "10 Unexpected at 1:9"),
     (b"f(x)", "10 Unexpected at 1:5"),
     (b"f(nil) { }", "10 Unexpected at 1:3"),
@@ -461,27 +406,24 @@ pub const LANGUAGE: [(&[u8], &str); 13] = [
     ),
 ];
 
-/// The files of examples/, and their answers with their statuses.
-pub const EXAMPLES: [(&str, &str, u8); 4] = [
-    ("set(x) [x|->] { x->tl = 3; } [x|->tl:3]\n", SET_PROOF, 0),
+/// The files of examples/, and their answers.
+pub const EXAMPLES: [(&[u8], &str); 4] = [
+    (b"set(x) [x|->] { x->tl = 3; } [x|->tl:3]\n", SET_PROOF),
     (
-        "swap(x, y) [x|->tl:y * y|->tl:x] {\n  x->tl = x;\n  y->tl = y;\n  x->hd = y;\n  y->hd = x;\n} [x|->tl:x,hd:y * y|->hd:x]\n",
+        b"swap(x, y) [x|->tl:y * y|->tl:x] {\n  x->tl = x;\n  y->tl = y;\n  x->hd = y;\n  y->hd = x;\n} [x|->tl:x,hd:y * y|->hd:x]\n",
         "accepted\nprocedure swap\nadd\nadd\nmutate 1\nmutate 2\nmutate 1\nmutate 2\nreturn\ncell 1\ncell 2\nend\n",
-        0,
     ),
     (
-        "leak(x, y) [x|-> * y|->] {\n  y->tl = x;\n} [y|->tl:x]\n",
+        b"leak(x, y) [x|-> * y|->] {\n  y->tl = x;\n} [y|->tl:x]\n",
         "failed leak\n",
-        1,
     ),
     (
-        "twice(x) [x|-> * x|->] { } [x|->hd:1]\n",
+        b"twice(x) [x|-> * x|->] { } [x|->hd:1]\n",
         "accepted\nprocedure twice\nadd\nadd\nabsurd\n",
-        0,
     ),
 ];
 
-/// Files of so many numbered things: a front, what stands before each number, what stands between two, and an end; how
+/// Files of so many numbered things: a beginning, what comes before each number, what comes between two, and an end; how
 /// many are within the limit and how many are not, the answer within it, and the refusal beyond it.
 pub const COUNTS: [((&str, &str, &str, &str), (u32, u32), &str, &str); 8] = [
     (
@@ -534,7 +476,7 @@ pub const COUNTS: [((&str, &str, &str, &str), (u32, u32), &str, &str); 8] = [
     ),
 ];
 
-/// Files of things that are nested: a front, an opening, a closing, and an end; how many openings are within the limit
+/// Files of things that are nested: a beginning, an opening, a closing, and an end; how many openings are within the limit
 /// and how many are not, the answer within it, and the refusal beyond it.
 pub const NESTS: [((&str, &str, &str, &str), (u32, u32), &str, &str); 3] = [
     (

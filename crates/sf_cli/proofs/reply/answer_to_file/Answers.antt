@@ -2,7 +2,7 @@ use Rattle.std.proofs.Common.{sym, subst}
 use Rattle.sf_base.specs.declared.limits.TheConstants.{FILE_BYTES}
 use Rattle.std.proofs.lemmas.Result.{IfOk-weaker}
 use Rattle.sf_cli.proofs.Replies.{fetched-answers}
-use Rattle.sf_cli.specs.Fetched.{Fetched}
+use Rattle.sf_cli.specs.Internal.Fetched.{Fetched}
 use Rattle.sf_cli.specs.Words.{Text}
 use Rattle.sf_cli.proofs.reply.answer_to_file.Goals as goal
 

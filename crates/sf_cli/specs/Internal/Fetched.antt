@@ -1,5 +1,4 @@
--- What bytes that were fetched of a file tell of it, where there is a limit on how many it may have. These definitions stand
--- between the code and Answer, and needn't be believed: no public contract names them.
+-- What bytes that were fetched of a file tell of it, where there is a limit on how many it may have.
 -- Ordinary: one byte more than the limit is asked for, so that a file that is too long is seen to be.
 use Rattle.std.specs.Prelude.{◌≡◌, ℕ, ◌<◌, ◌⊎◌, Option, Some, length}
 use Rattle.sf_io.specs.Shelf.{Files}
