@@ -1,5 +1,5 @@
--- FileFault: why a file is refused, the first cause in the order of work: its length and tokens, the grammar, names, the conditions on variables, that annotations are determined.
--- Each cause is its own crate's definition.
+-- FileFault: why a file is refused, the first cause in the order of work.
+-- That is: its length and tokens, the grammar, names, the conditions on variables, that annotations are determined; each is its own crate's definition.
 use Rattle.std.specs.Prelude.{◌≡◌, Some, List}
 use Rattle.std.specs.List.{All}
 use Rattle.sf_ast.specs.Surface.{Item}
@@ -27,13 +27,16 @@ use Rattle.sf_cli.specs.Words.{Text}
 -- the bytes are no program
 pub data ReadFault (bytes : Text) (r : Refusal) : Type 0 where
   in_tokens : (e : LexFault) → IsTokenFault bytes e → r ≡ of_tokens e → ReadFault bytes r
-  in_grammar : (ts : List Token) (e : ParseFault) → AreTokens bytes ts → IsGrammarFault bytes ts e → r ≡ of_grammar e → ReadFault bytes r
-  in_names : (ts : List Token) (tree : List Item) (e : NameFault) → AreTokens bytes ts → IsFile ts tree → FirstFault bytes tree e → r ≡ of_names e → ReadFault bytes r
+  in_grammar : (ts : List Token) (e : ParseFault) → AreTokens bytes ts → IsGrammarFault bytes ts e
+      → r ≡ of_grammar e → ReadFault bytes r
+  in_names : (ts : List Token) (tree : List Item) (e : NameFault) → AreTokens bytes ts → IsFile ts tree
+      → FirstFault bytes tree e → r ≡ of_names e → ReadFault bytes r
 
 -- the program breaks a condition on variables, or an annotation of it is not determined
 pub data ProgramFault (p : Program) (r : Refusal) : Type 0 where
   in_variables : (e : VarFault) → IsFirstFault p e → r ≡ of_variables e → ProgramFault p r
-  in_order : (at : Place) → Conditions p → IsFirstPlace (NeverTakenIn (annotations_in p)) (Some at) → r ≡ At Undetermined at → ProgramFault p r
+  in_order : (at : Place) → Conditions p → IsFirstPlace (NeverTakenIn (annotations_in p)) (Some at)
+      → r ≡ At Undetermined at → ProgramFault p r
 
 -- FileFault: the one or the other
 pub data FileFault (bytes : Text) (r : Refusal) : Type 0 where

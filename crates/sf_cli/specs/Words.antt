@@ -18,7 +18,8 @@ names_a_file (byte ∷ bytes) = not (byte == 45)
 
 -- two words: `verify` and a file's name
 abbrev pub order_of_two : Text → Text → Option Order
-order_of_two command file = cond (bytes_eq command (codes "verify") && names_a_file file) (Some (verify file)) None
+order_of_two command file =
+    cond (bytes_eq command (codes "verify") && names_a_file file) (Some (verify file)) None
 
 -- the command that the words are, if they are one
 abbrev pub order_of : List Text → Option Order

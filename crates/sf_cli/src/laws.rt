@@ -20,7 +20,7 @@ pub fn each_file_is_one_program()
     sf_elab::laws::each_file_is_one();
 }
 
-/// Each file has at most one answer: the layers below have one each at most, and no two of them meet.
+/// Each file has at most one answer: the layers below have one each at most, and no two of their causes hold together.
 pub fn each_file_has_one_answer()
     ensures { EachFileHasOneAnswer }
 {

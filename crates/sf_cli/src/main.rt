@@ -1,4 +1,12 @@
 //! The command `smallfoot`: it proves a program, or says what can't be shown of it.
+//!
+//! - `top`: the call that does all of it
+//! - `words`: which command the words are
+//! - `reply`: what the command says, and its status
+//! - `reading`: from a file's bytes to a program with which nothing is wrong
+//! - `refusal`: why a file is refused, and the line that says so
+//! - `built`: which programs there are rules for
+//! - `laws`: laws of answers
 #![tactic(auto)]
 
 ghost use Rattle.std.specs.Prelude.{◌≡◌, map, IfOk};
