@@ -5,3 +5,4 @@ pub mod Refused
 pub mod Accepted
 pub mod AnAnswer
 pub mod Complete
+pub mod AnswerLaws

@@ -49,6 +49,7 @@ pub fn each_file_has_an_answer()
 }
 
 /// Words have an answer over files, where the file that they name is there.
+#[tactic(auto, using(crate::proofs::AnswerLaws::each_command_has_an_answer))]
 pub fn each_command_has_an_answer()
     ensures { EachCommandHasAnAnswer }
 {
@@ -56,6 +57,7 @@ pub fn each_command_has_an_answer()
 }
 
 /// Words have at most one answer over the same files.
+#[tactic(auto, using(crate::proofs::AnswerLaws::each_command_has_one_answer))]
 pub fn each_command_has_one_answer()
     ensures { EachCommandHasOneAnswer }
 {

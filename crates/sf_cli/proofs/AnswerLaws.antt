@@ -1,0 +1,10 @@
+-- Laws that follow from another law alone, each under its function's name.
+use Rattle.sf_cli.proofs.AnAnswer.{some-command}
+use Rattle.sf_cli.proofs.OneAnswer.{answer-command}
+use Rattle.sf_cli.specs.Laws.{EachCommandHasAnAnswer, EachCommandHasOneAnswer, EachFileHasAnAnswer, EachFileHasOneAnswer}
+
+pub each_command_has_an_answer : EachFileHasAnAnswer → EachCommandHasAnAnswer
+each_command_has_an_answer = some-command
+
+pub each_command_has_one_answer : EachFileHasOneAnswer → EachCommandHasOneAnswer
+each_command_has_one_answer = answer-command
