@@ -1,57 +1,36 @@
 -- Each test decides its relation.
 use Rattle.std.proofs.Common.{◌≡◌, ◌↔◌, ℕ, ◌==◌, List, [], ◌∷◌, Option, Some, None, Contains, refl, ap}
 use Rattle.std.specs.Bool.{Decides}
-use Rattle.std.proofs.lemmas.Bool.Decides.{Decides-eqb, Decides-or, Decides-and, Decides-not}
+use Rattle.std.proofs.lemmas.Bool.Decides.{Decides-or, Decides-not}
 use Rattle.sf_base.proofs.Bools.{decides-false}
 use Rattle.sf_base.proofs.Elements.{contains-append, contains-cond, contains-none}
 use Rattle.sf_base.specs.declared.ids.ProcId.{ProcId}
 use Rattle.sf_base.specs.declared.ids.ResId.{ResId}
 use Rattle.sf_base.specs.declared.ids.Var.{Var}
-use Rattle.sf_base.specs.declared.ids.Var.TheVariants.{Own, Shared}
 use Rattle.sf_core.specs.declared.command.Expr.{Expr}
 use Rattle.sf_core.specs.declared.command.Expr.TheVariants.{Var as Variable, Nil, Int}
 use Rattle.sf_core.specs.declared.command.Occurrence.{Occurrence}
 use Rattle.sf_core.specs.Program.Syntax.{Command, assign, look_up, mutate, new, dispose, if, while, call, fork, with, Block, done, then}
 use Rattle.sf_calls.specs.Outside.{IsOther, OccursInExpr, IsAmong, OccursInValues, CallsIn, CallsInCommand}
-use Rattle.sf_calls.specs.Internal.Tests.{same_var, is_other, in_expr, in_references, in_values, callees_in, callees_of}
+use Rattle.sf_base.proofs.Variables.{resource-decides, same_var-decides}
+use Rattle.sf_calls.specs.Internal.Tests.{is_other, in_expr, in_references, in_values, callees_in, callees_of}
 use Rattle.sf_calls.proofs.Searches.{one_of, only_one}
 
 abbrev pub resource : ℕ → ResId
 resource n = record { 0 = n }
 
-pub same_resource : (r q : ResId) → Decides (r.0 == q.0) (r ≡ q)
-same_resource r q =
-    (λ e. ap resource ((Decides-eqb r.0 q.0).0 e), λ e. (Decides-eqb r.0 q.0).1 (ap (λ (k : ResId). k.0) e))
-
-pub var_is : (x y : Var) → Decides (same_var x y) (x ≡ y)
-var_is (Own i) (Own j) =
-    (λ e. ap Own ((Decides-eqb i j).0 e), λ e. (Decides-eqb i j).1 (let s : i ≡ j = cc in s))
-var_is (Own i) (Shared s j) = (λ e. absurd (cc), λ e. absurd (cc))
-var_is (Shared r i) (Own j) = (λ e. absurd (cc), λ e. absurd (cc))
-var_is (Shared r i) (Shared s j) = (
-  λ e. to ((Decides-and (r.0 == s.0) (i == j) (same_resource r s) (Decides-eqb i j)).0 e),
-  λ e.
-      (Decides-and (r.0 == s.0) (i == j) (same_resource r s) (Decides-eqb i j)).1 (from e),
-)
-  where
-    to : (r ≡ s) × (i ≡ j) → Shared r i ≡ Shared s j
-    to h = let a : r ≡ s = h.0 in let b : i ≡ j = h.1 in cc
-
-    from : Shared r i ≡ Shared s j → (r ≡ s) × (i ≡ j)
-    from e = (let a : r ≡ s = cc in a, let b : i ≡ j = cc in b)
-
 pub other_is : (but : Option ResId) (q : ResId) → Decides (is_other but q) (IsOther but q)
 other_is None q = (λ e. tt, λ h. refl)
-other_is (Some r) q = Decides-not (q.0 == r.0) (same_resource q r)
+other_is (Some r) q = Decides-not (q.0 == r.0) (resource-decides q r)
 
 pub in_expr_is : (x : Var) (e : Expr) → Decides (in_expr x e) (OccursInExpr x e)
-in_expr_is x (Variable y) = var_is y.var x
+in_expr_is x (Variable y) = same_var-decides y.var x
 in_expr_is x Nil = decides-false
 in_expr_is x (Int i) = decides-false
 
 pub in_references_is : (x : Var) (ys : List Occurrence) → Decides (in_references x ys) (IsAmong x ys)
 in_references_is x [] = decides-false
-in_references_is x (y ∷ ys) = Decides-or _ _ (var_is y.var x) (in_references_is x ys)
+in_references_is x (y ∷ ys) = Decides-or _ _ (same_var-decides y.var x) (in_references_is x ys)
 
 pub in_values_is : (x : Var) (es : List Expr) → Decides (in_values x es) (OccursInValues x es)
 in_values_is x [] = decides-false

@@ -27,13 +27,13 @@ use Rattle.sf_calls.specs.declared.summary.Summary.{Summary}
 use Rattle.sf_calls.specs.Internal.Summaries.{IsSummaryOf}
 use Rattle.sf_calls.specs.Sets.{IsEarlier, IsVarSet}
 use Rattle.sf_calls.proofs.InOrder.{set_same}
-use Rattle.sf_calls.proofs.Decided.{same_resource}
+use Rattle.sf_base.proofs.Variables.{resource-decides}
 use Rattle.sf_calls.proofs.Occurring.{OccursInOperand, OccursInCondition, OccursInFields, OccursIn, OccursInAny, OccursInOne, occurs_is}
 
 pub entered_is : (r : ResId) (es : List ResId) → Decides (is_entered r es) (Contains es r)
 entered_is r [] = (λ e. absurd (cc), λ c. absurd (contains-nil r c))
 entered_is r (q ∷ qs) =
-    let both = Decides-or (q.0 == r.0) (is_entered r qs) (same_resource q r) (entered_is r qs) in
+    let both = Decides-or (q.0 == r.0) (is_entered r qs) (resource-decides q r) (entered_is r qs) in
     (λ e. (contains-cons q qs r).1 (both.0 e), λ c. both.1 ((contains-cons q qs r).0 c))
 
 -- a variable of a resource that is not entered

@@ -30,8 +30,8 @@ use Rattle.sf_calls.specs.Internal.Summaries.{IsSummaryOf, AreSummaries, speaks_
 use Rattle.sf_calls.specs.Internal.Listed.{is_entered}
 use Rattle.sf_calls.specs.Outside.{EntersIn, OccursOutside}
 use Rattle.sf_calls.specs.Sets.{IsEarlier, IsSetOf, IsFamily}
-use Rattle.sf_calls.specs.Internal.Tests.{same_var}
-use Rattle.sf_calls.proofs.Decided.{same_resource, var_is}
+use Rattle.sf_base.specs.Variables.{same_var}
+use Rattle.sf_base.proofs.Variables.{resource-decides, same_var-decides}
 use Rattle.sf_calls.proofs.Listing.{entered_is}
 
 -- a test of each entry visited the procedures that have what it decides
@@ -76,7 +76,7 @@ row_same n P Q row to from r =
 pub has_is : (x : Var) (xs : List Var) → Decides (has x xs) (Contains xs x)
 has_is x [] = (λ e. absurd (cc), λ c. absurd (contains-nil x c))
 has_is x (y ∷ ys) =
-    let both = Decides-or (same_var y x) (has x ys) (var_is y x) (has_is x ys) in
+    let both = Decides-or (same_var y x) (has x ys) (same_var-decides y x) (has_is x ys) in
     (λ e. (contains-cons y ys x).1 (both.0 e), λ c. both.1 ((contains-cons y ys x).0 c))
 
 -- a variable of the resource is there
@@ -95,7 +95,7 @@ speaks_is r (Own n ∷ xs) = Decides-like (speaks_of r xs) to from (speaks_is r 
     from s = elim ((contains-cons (Own n) xs (Shared r s.0)).0 s.1) [ inl e ↦ absurd (cc) | inr c ↦ (s.0, c) ]
 speaks_is r (Shared q j ∷ xs) =
     Decides-like ((q.0 == r.0) || speaks_of r xs) to from
-    (Decides-or (q.0 == r.0) (speaks_of r xs) (same_resource q r) (speaks_is r xs))
+    (Decides-or (q.0 == r.0) (speaks_of r xs) (resource-decides q r) (speaks_is r xs))
   where
     to : (q ≡ r) ⊎ Speaks r xs → Speaks r (Shared q j ∷ xs)
     to (inl e) = (j, (contains-cons (Shared q j) xs (Shared r j)).1 (inl (ap (λ (k : ResId). Shared k j) e)))

@@ -12,9 +12,9 @@ use Rattle.sf_core.specs.Machine.HeldBy.{HeldBy}
 use Rattle.sf_calls.specs.Conditions.{Free, Takes}
 use Rattle.sf_calls.specs.Laws.{SetsFromTruncation}
 use Rattle.sf_calls.specs.Sets.{IsEarlier, IsEarlierResource, IsFamily, IsSetOf}
-use Rattle.sf_calls.specs.Internal.Tests.{same_var}
+use Rattle.sf_base.specs.Variables.{same_var}
 use Rattle.sf_calls.proofs.Decidable.{IsDecidable, decidable_by}
-use Rattle.sf_calls.proofs.Decided.{same_resource, var_is}
+use Rattle.sf_base.proofs.Variables.{resource-decides, same_var-decides}
 use Rattle.sf_calls.proofs.Gathered.{earlier_is}
 use Rattle.sf_calls.proofs.Had.{IsHad, had_decidable, had_exactly, had_once, had_pairs}
 use Rattle.sf_calls.proofs.SetsDecidable.{takes_decidable, holds_decidable, free_decidable}
@@ -52,14 +52,14 @@ pub sets_had : SetsFromTruncation
 sets_had p sets h = record {
   takes =
       family_had _ (Takes p)
-      (λ f. set_had (λ r q. r.0 == q.0) same_resource IsEarlierResource earlier_resource_had (Takes p f)
+      (λ f. set_had (λ r q. r.0 == q.0) resource-decides IsEarlierResource earlier_resource_had (Takes p f)
       (takes_decidable p f)) _ sets.takes (∥∥₁_map h (λ s. s.takes));
   holds =
       family_had _ (HeldBy p)
-      (λ f. set_had (λ r q. r.0 == q.0) same_resource IsEarlierResource earlier_resource_had
+      (λ f. set_had (λ r q. r.0 == q.0) resource-decides IsEarlierResource earlier_resource_had
       (HeldBy p f) (holds_decidable p f)) _ sets.holds (∥∥₁_map h (λ s. s.holds));
   free =
       family_had _ (Free p)
-      (λ f. set_had same_var var_is IsEarlier earlier_had (Free p f) (free_decidable p f)) _ sets.free
+      (λ f. set_had same_var same_var-decides IsEarlier earlier_had (Free p f) (free_decidable p f)) _ sets.free
       (∥∥₁_map h (λ s. s.free));
 }

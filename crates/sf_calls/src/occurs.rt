@@ -1,24 +1,17 @@
 //! Whether a variable occurs in the arguments of a call.
 
 ghost use Rattle.std.specs.Prelude.{◌≡◌};
-ghost use Rattle.sf_calls.specs.Internal.Tests.{same_var, in_expr, in_references, in_values};
+ghost use Rattle.sf_calls.specs.Internal.Tests.{in_expr, in_references, in_values};
 
 use sf_base::Var;
 use sf_core::{Expr, Occurrence};
-
-/// Whether two variables are one.
-pub fn is_same(x: Var, y: Var) -> bool
-    ensures { result ≡ same_var x y }
-{
-    x == y
-}
 
 /// Whether the variable occurs in the expression.
 pub fn in_expr(x: Var, e: &Expr) -> bool
     ensures { result ≡ in_expr x e.now }
 {
     match e {
-        Expr::Var(y) => is_same(y.var, x),
+        Expr::Var(y) => y.var.is_same(x),
         Expr::Nil => false,
         Expr::Int(_) => false,
     }
@@ -29,7 +22,7 @@ pub fn in_references(x: Var, references: &[Occurrence]) -> bool
     ensures { result ≡ in_references x references.now }
 {
     for y in references {
-        if is_same(y.var, x) {
+        if y.var.is_same(x) {
             return true;
         }
     }

@@ -2,7 +2,6 @@ ghost use Rattle.std.specs.Prelude.{◌≡◌, ◌↔◌, AllPairs, Contains, Is
 ghost use Rattle.sf_calls.specs.Sets.{IsEarlier};
 
 use crate::assigned::is_earlier;
-use crate::occurs::is_same;
 use sf_base::{ResId, Var};
 use std::marker::Model;
 
@@ -50,6 +49,6 @@ impl VarSet {
         ensures { IsTrue result ↔ Contains self.now x }
     {
         let at = self.items.partition_point(|y| is_earlier(*y, x));
-        at < self.items.len() && is_same(self.items[at], x)
+        at < self.items.len() && self.items[at].is_same(x)
     }
 }

@@ -34,8 +34,10 @@ use Rattle.sf_calls.specs.Around.{Around, inside, IsHeld, IsUnheld, Uses, Shares
 use Rattle.sf_calls.specs.FirstBreach.{resources_from, variables_from, UnheldAt, UnheldInExpr, UnheldInOperand, UnheldInTest, UnheldInLevel, UnheldInConjuncts, UnheldInConjunct, UnheldInCall, ReentersByCall, Repeats, PassesFree, named_in, SharesInFork, InBlock, InCommand, InProcedures, FirstBreach}
 use Rattle.sf_calls.specs.Outside.{IsAmong, OccursInValues}
 use Rattle.sf_calls.specs.Sets.{Sets, AreSetsOf, IsResSet, IsEarlier, IsEarlierResource}
-use Rattle.sf_calls.specs.Internal.Tests.{same_var, in_references, in_values}
-use Rattle.sf_calls.proofs.Decided.{resource, var_is, in_references_is, in_values_is}
+use Rattle.sf_base.specs.Variables.{same_var}
+use Rattle.sf_calls.specs.Internal.Tests.{in_references, in_values}
+use Rattle.sf_base.proofs.Variables.{same_var-decides}
+use Rattle.sf_calls.proofs.Decided.{resource, in_references_is, in_values_is}
 use Rattle.sf_calls.proofs.Gathered.{earlier_trans, not_earlier}
 use Rattle.sf_calls.proofs.InFile.{resource_apart, resources_ordered, resources_there, variables_ordered, free_there}
 use Rattle.sf_calls.proofs.InOrder.{ordered_pairs}
@@ -61,7 +63,7 @@ pub is_in_is : (xs : List Var) (x : Var) → Decides (is_in xs x) (Contains xs x
 is_in_is [] x = (λ e. absurd (cc), λ c. absurd (contains-nil x c))
 is_in_is (y ∷ ys) x =
     Decides-like (is_in (y ∷ ys) x) to from
-    (Decides-or (same_var y x) (is_in ys x) (var_is y x) (is_in_is ys x))
+    (Decides-or (same_var y x) (is_in ys x) (same_var-decides y x) (is_in_is ys x))
   where
     to : (y ≡ x) ⊎ Contains ys x → Contains (y ∷ ys) x
     to (inl e) = Contains-append_left (y ∷ []) ys x (contains-single_of y x e)

@@ -13,7 +13,7 @@ use Rattle.sf_calls.specs.Conditions.{IsShared}
 use Rattle.sf_calls.specs.Internal.Listed.{is_entered}
 use Rattle.sf_calls.specs.Outside.{OccursOutside, CallsIn, EntersIn}
 use Rattle.sf_calls.specs.Sets.{IsVarSet}
-use Rattle.sf_calls.specs.Internal.Tests.{same_var}
+use Rattle.sf_base.specs.Variables.{same_var}
 
 -- what occurs in the procedure's text. Where no call is inside a region of r, each is outside
 pub record IsSummaryOf (h : Procedure) (t : Summary) : Type 0 where

@@ -5,17 +5,11 @@ use Rattle.sf_base.specs.declared.ids.ProcId.{ProcId}
 use Rattle.sf_base.specs.declared.ids.ResId.{ResId}
 use Rattle.sf_base.specs.declared.ids.Var.{Var}
 use Rattle.sf_base.specs.declared.ids.Var.TheVariants.{Own, Shared}
+use Rattle.sf_base.specs.Variables.{same_var}
 use Rattle.sf_core.specs.declared.command.Expr.{Expr}
 use Rattle.sf_core.specs.declared.command.Expr.TheVariants.{Var as Variable, Nil, Int}
 use Rattle.sf_core.specs.declared.command.Occurrence.{Occurrence}
 use Rattle.sf_core.specs.Program.Syntax.{Command, assign, look_up, mutate, new, dispose, if, while, call, fork, with, Block, done, then}
-
--- one variable
-abbrev pub same_var : Var → Var → Bool
-same_var (Own i) (Own j) = i == j
-same_var (Own i) (Shared s j) = false
-same_var (Shared r i) (Own j) = false
-same_var (Shared r i) (Shared s j) = (r.0 == s.0) && (i == j)
 
 -- another resource than the one that is left out
 abbrev pub is_other : Option ResId → ResId → Bool

@@ -23,7 +23,8 @@ use Rattle.sf_core.specs.Program.Formed.{IsInBody}
 use Rattle.sf_calls.specs.declared.breach.Breach.{Breach}
 use Rattle.sf_calls.specs.declared.breach.Breach.TheVariants.{NotHeld, Reentered, SameReference, ReferenceIsFree, ParallelShares}
 use Rattle.sf_calls.specs.Sets.{Sets, IsEarlier}
-use Rattle.sf_calls.specs.Internal.Tests.{same_var, in_references, in_values}
+use Rattle.sf_base.specs.Variables.{same_var}
+use Rattle.sf_calls.specs.Internal.Tests.{in_references, in_values}
 
 -- what is found where the test is true
 abbrev pub found : {A : Type 0} → Bool → A → Option A

@@ -3,7 +3,7 @@ use Rattle.std.proofs.lemmas.List.Elements.{Contains-get_or}
 use Rattle.std.proofs.lemmas.List.Sorted.{IsPartitionPoint-from_clause}
 use Rattle.std.proofs.lemmas.Bool.Decides.{Decides-ltb}
 use Rattle.sf_calls.specs.Internal.Tests.{is_earlier}
-use Rattle.sf_calls.proofs.Decided.{var_is}
+use Rattle.sf_base.proofs.Variables.{same_var-decides}
 use Rattle.sf_calls.proofs.Gathered.{earlier_first, at_point}
 use Rattle.sf_calls.proofs.set.VarSet.contains.Goals as goal
 
@@ -19,9 +19,9 @@ returns-then-at-len c =
     ≡ get_or c.deref.result.now c.partition_point-at.result c.index.result.now = rw
     c.deref.ensures.value c.index.ensures in
     rw (same, c.is_same.ensures) (
-      λ e. rw (← (var_is c.index.result.now c.args.x).0 e, is)
+      λ e. rw (← (same_var-decides c.index.result.now c.args.x).0 e, is)
           (Contains-get_or c.deref.result.now c.partition_point-at.result c.index.result.now below),
-      λ h. (var_is c.index.result.now c.args.x).1
+      λ h. (same_var-decides c.index.result.now c.args.x).1
           (is ∙ (at_point c.deref.result.now c.partition_point-at.result c.args.x
           (rw (same) at c.requires) point h).1 c.index.result.now),
     )
