@@ -12,7 +12,7 @@ use Rattle.sf_ast.specs.declared.word.SurfaceExpr.{SurfaceExpr}
 use Rattle.sf_ast.specs.declared.word.SurfaceTest.{SurfaceTest}
 use Rattle.sf_ast.specs.declared.word.Word.{Word}
 use Rattle.sf_ast.specs.Surface as s
-use Rattle.sf_ast.specs.View.{note_of, call_of, commands, command_of, command_step}
+use Rattle.sf_ast.specs.View.{annotation_of, call_of, commands, command_of, command_step}
 
 pub of_assign : (x : Word) (a : SurfaceExpr) → command_of (v.Assign x a) ≡ s.assign x a
 of_assign x a = ap command_of (sym (v.rolls-Assign x a)) ∙ fold-roll-SurfaceCommand s.Command command_step _
@@ -44,7 +44,7 @@ of_if_alone p t c = ap command_of (sym (v.rolls-IfAlone p t c)) ∙ fold-roll-Su
 pub of_if : (p : Place) (t : SurfaceTest SurfaceExpr) (c d : Box SurfaceCommand) → command_of (v.If p t c d) ≡ s.if p t (command_of c.value) (command_of d.value)
 of_if p t c d = ap command_of (sym (v.rolls-If p t c d)) ∙ fold-roll-SurfaceCommand s.Command command_step _
 
-pub of_while : (p : Place) (t : SurfaceTest SurfaceExpr) (n : Option SurfaceNote) (c : Box SurfaceCommand) → command_of (v.While p t n c) ≡ s.while p t (option_map note_of n) (command_of c.value)
+pub of_while : (p : Place) (t : SurfaceTest SurfaceExpr) (n : Option SurfaceNote) (c : Box SurfaceCommand) → command_of (v.While p t n c) ≡ s.while p t (option_map annotation_of n) (command_of c.value)
 of_while p t n c = ap command_of (sym (v.rolls-While p t n c)) ∙ fold-roll-SurfaceCommand s.Command command_step _
 
 pub of_with : (p : Place) (r : Word) (t : SurfaceTest SurfaceExpr) (c : Box SurfaceCommand) → command_of (v.With p r t c) ≡ s.with p r t (command_of c.value)

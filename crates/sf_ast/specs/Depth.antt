@@ -4,7 +4,7 @@ use Rattle.std.specs.Prelude.{ℕ, ◌+◌, max, List, [], ◌∷◌, Option, So
 use Rattle.sf_ast.specs.Surface.{Conjunct, emp, group, choose, choose_round, equal, differ, points, ls, lseg, list, tree, Assertion, only, star, Note, blank, filled, Command, assign, look_up, new, mutate, dispose, dispose_round, if_alone, if, while, with, call, fork, block, Commands, done, then, Item, fields, resource, procedure}
 
 abbrev mutual
-  -- the levels below the assertion that a conjunct stands in
+  -- the levels below the assertion that a conjunct occurs in
   pub conjunct_depth : Conjunct → ℕ
   conjunct_depth (emp p) = 0
   conjunct_depth (group p a) = assertion_depth a
@@ -23,15 +23,15 @@ abbrev mutual
   assertion_depth (only c) = 1 + conjunct_depth c
   assertion_depth (star c a) = max (1 + conjunct_depth c) (assertion_depth a)
 
--- those of what stands in square brackets
-abbrev pub note_depth : Note → ℕ
-note_depth blank = 0
-note_depth (filled a) = assertion_depth a
+-- those of what occurs in square brackets
+abbrev pub annotation_depth : Note → ℕ
+annotation_depth blank = 0
+annotation_depth (filled a) = assertion_depth a
 
 -- those of a note that may be left out
 abbrev pub maybe_depth : Option Note → ℕ
 maybe_depth None = 0
-maybe_depth (Some n) = note_depth n
+maybe_depth (Some n) = annotation_depth n
 
 abbrev mutual
   -- the levels of a command, its own the first
@@ -80,7 +80,7 @@ abbrev mutual
 -- those of the deepest command or assertion of an item
 abbrev pub item_depth : Item → ℕ
 item_depth (fields ns) = 0
-item_depth (resource r) = note_depth r.invariant
+item_depth (resource r) = annotation_depth r.invariant
 item_depth (procedure f) = max (max (commands_depth f.body) (invariants_depth f.body)) (max (maybe_depth f.pre) (maybe_depth f.post))
 
 -- those of the deepest command or assertion of a file

@@ -28,12 +28,12 @@ mutual
     list : Place → SurfaceOperand → Conjunct
     tree : Place → SurfaceOperand → Conjunct
 
-  -- one conjunct, or one and more behind a `*`
+  -- one conjunct, or one and more after a `*`
   pub data Assertion : Type 0 where
     only : Conjunct → Assertion
     star : Conjunct → Assertion → Assertion
 
--- what stands in square brackets, if anything does
+-- what occurs in square brackets, if anything does
 pub data Note : Type 0 where
   blank : Note
   filled : Assertion → Note

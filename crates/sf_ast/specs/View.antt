@@ -28,7 +28,7 @@ use Rattle.sf_ast.specs.Surface as s
 abbrev pub names_of : SurfaceNames → s.Names
 names_of ns = record { first = ns.first; more = ns.more.items }
 
--- a conjunct and those behind it
+-- a conjunct and those after it
 abbrev pub conjuncts : s.Conjunct → List s.Conjunct → s.Assertion
 conjuncts x [] = s.only x
 conjuncts x (y ∷ ys) = s.star x (conjuncts y ys)
@@ -59,14 +59,14 @@ conjunct_of = fold-SurfaceConjunct s.Conjunct s.Assertion conjunct_step assertio
 abbrev pub assertion_of : SurfaceAssertion → s.Assertion
 assertion_of = fold-SurfaceAssertion s.Conjunct s.Assertion conjunct_step assertion_step
 
--- what stands in square brackets
-abbrev pub note_with : Option SurfaceAssertion → s.Note
-note_with None = s.blank
-note_with (Some x) = s.filled (assertion_of x)
+-- what occurs in square brackets
+abbrev pub annotation_with : Option SurfaceAssertion → s.Note
+annotation_with None = s.blank
+annotation_with (Some x) = s.filled (assertion_of x)
 
 -- a note of the code
-abbrev pub note_of : SurfaceNote → s.Note
-note_of n = note_with n.assertion
+abbrev pub annotation_of : SurfaceNote → s.Note
+annotation_of n = annotation_with n.assertion
 
 -- what a call of the code is given
 abbrev pub arguments_of : SurfaceArguments → s.Arguments
@@ -92,7 +92,7 @@ command_step (c.Dispose p e) = s.dispose p e
 command_step (c.DisposeRound p e) = s.dispose_round p e
 command_step (c.IfAlone p t x) = s.if_alone p t x.value
 command_step (c.If p t x y) = s.if p t x.value y.value
-command_step (c.While p t n x) = s.while p t (option_map note_of n) x.value
+command_step (c.While p t n x) = s.while p t (option_map annotation_of n) x.value
 command_step (c.With p r t x) = s.with p r t x.value
 command_step (c.Call x) = s.call (call_of x)
 command_step (c.Fork x y) = s.fork (call_of x) (call_of y)
@@ -109,19 +109,19 @@ parameters_of (p.Both xs ys) = s.references_and_values xs.items ys.items
 
 -- a resource of the code
 abbrev pub resource_of : SurfaceResource → s.Resource
-resource_of r = record { place = r.place; name = r.name; variables = r.variables.items; invariant = note_of r.invariant }
+resource_of r = record { place = r.place; name = r.name; variables = r.variables.items; invariant = annotation_of r.invariant }
 
 -- a procedure of the code
 abbrev pub procedure_of : SurfaceProcedure → s.Procedure
 procedure_of f = record {
   name = f.name;
   parameters = parameters_of f.parameters;
-  pre = option_map note_of f.pre;
+  pre = option_map annotation_of f.pre;
   opens = f.open;
   locals = map names_of f.locals.items;
   body = commands (map command_of f.body.items);
   closes = f.close;
-  post = option_map note_of f.post;
+  post = option_map annotation_of f.post;
 }
 
 -- an item of the code

@@ -42,15 +42,15 @@ pub enum SurfaceConjunct {
 #[cycle(assertion)]
 #[derive(Debug, Drop)]
 pub struct SurfaceAssertion {
-    /// The one in front.
+    /// The left one.
     pub first: Box<SurfaceConjunct>,
-    /// Those behind it, each behind its `*`.
+    /// Those after it, each after its `*`.
     pub more: Vec<SurfaceConjunct>,
 }
 
 /// `[ A ]`, or `[ ]`.
 #[derive(Debug, Drop)]
 pub struct SurfaceNote {
-    /// What stands between the brackets.
+    /// What comes between the brackets.
     pub assertion: Option<SurfaceAssertion>,
 }

@@ -16,7 +16,7 @@ pub enum SurfaceArguments {
 pub struct SurfaceCall {
     /// The procedure.
     pub name: Word,
-    /// What stands between its round brackets.
+    /// What comes between its round brackets.
     pub arguments: SurfaceArguments,
 }
 

@@ -20,7 +20,7 @@ pub enum SurfaceParameters {
 /// `resource r (x, y) [ A ]`
 #[derive(Debug, Drop)]
 pub struct SurfaceResource {
-    /// Where `resource` stands.
+    /// Where `resource` is.
     pub place: Place,
     /// Its name.
     pub name: Word,
@@ -35,17 +35,17 @@ pub struct SurfaceResource {
 pub struct SurfaceProcedure {
     /// Its name.
     pub name: Word,
-    /// What stands between its round brackets.
+    /// What comes between its round brackets.
     pub parameters: SurfaceParameters,
     /// Its precondition.
     pub pre: Option<SurfaceNote>,
-    /// Where the body's opening brace stands.
+    /// Where the body's opening brace is.
     pub open: Place,
     /// The names of each `local`.
     pub locals: Vec<SurfaceNames>,
-    /// The commands behind them.
+    /// The commands after them.
     pub body: Vec<SurfaceCommand>,
-    /// Where the body's closing brace stands.
+    /// Where the body's closing brace is.
     pub close: Place,
     /// Its postcondition.
     pub post: Option<SurfaceNote>,
@@ -65,7 +65,7 @@ pub enum Item {
 /// A file as it is written. No command and no assertion in it is deeper than 64.
 #[derive(Debug, Drop)]
 pub struct File {
-    /// What stands in it, in order.
+    /// What occurs in it, in order.
     pub items: Vec<Item>,
     ghost shallow: { items_depth (map item_of items.items) ≤ NESTING },
 }

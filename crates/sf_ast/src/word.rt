@@ -1,11 +1,11 @@
 use sf_base::Place;
 
-/// A name or an existential where it stands in the file.
+/// A name or an existential where it occurs in the file.
 #[derive(Clone, Copy, Debug, PartialEq, Eq)]
 pub struct Word {
-    /// How many bytes stand before its text.
+    /// How many bytes come before its text.
     pub start: usize,
-    /// How many bytes stand before what follows its text.
+    /// How many bytes come before what follows its text.
     pub end: usize,
     /// The place of its first byte.
     pub place: Place,
@@ -14,9 +14,9 @@ pub struct Word {
 /// One name or more, with commas between them.
 #[derive(Debug, Drop)]
 pub struct SurfaceNames {
-    /// The one in front.
+    /// The left one.
     pub first: Word,
-    /// Those behind it, each behind its comma.
+    /// Those after it, each after its comma.
     pub more: Vec<Word>,
 }
 
@@ -29,11 +29,11 @@ pub enum SurfaceExpr {
     Nil(Place),
     /// `NULL`
     Null(Place),
-    /// Digits, with a `-` in front or without: what they write, and where they stand.
+    /// Digits, with a `-` before them or none: what they write, and where they are.
     Number(i64, Place),
 }
 
-/// What stands in an assertion for a value.
+/// What occurs in an assertion for a value.
 #[derive(Clone, Copy, Debug, PartialEq, Eq)]
 pub enum SurfaceOperand {
     /// An expression.

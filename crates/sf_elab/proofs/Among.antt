@@ -1,23 +1,20 @@
 -- Which names are among words, word by word.
-use Rattle.std.proofs.Common.{◌≡◌, ℕ, ◌+◌, ◌<◌, ◌||◌, Bool, true, false, cond, is_some, List, [], ◌∷◌, ◌++◌, Option, Some, None, length, get_or, drop, refl, sym, ◌∙◌, ap, add-one, drop-cons}
+use Rattle.std.proofs.Common.{◌≡◌, ℕ, ◌+◌, ◌<◌, ◌||◌, Bool, true, false, cond, is_some, List, [], ◌∷◌, ◌++◌, Option, Some, length, get_or, drop, refl, sym, ◌∙◌, ap, add-one, drop-cons}
 use Rattle.std.proofs.Math.Bool.{or_assoc}
 use Rattle.std.specs.Str.{bytes_eq}
 use Rattle.std.proofs.lemmas.Slice.Eq.{bytes_eq-Decides}
+use Rattle.sf_base.proofs.Options.{is_some-cond}
 use Rattle.sf_ast.specs.declared.word.Word.{Word}
 use Rattle.sf_elab.specs.Procedures.{is_among}
 use Rattle.sf_elab.specs.Table.{Table, find, has, declare}
 use Rattle.sf_elab.specs.Texts.{text}
-
-has_one : {A : Type 0} (a : A) (b : Bool) → is_some (cond b (Some a) None) ≡ b
-has_one a true = refl
-has_one a false = refl
 
 has_step : {A : Type 0} (a : A) (o p : Option A) (b c : Bool) → is_some p ≡ (is_some o || c) → is_some (cond b (Some a) p) ≡ (is_some (cond b (Some a) o) || c)
 has_step a o p true c h = refl
 has_step a o p false c h = h
 
 has_push : {A : Type 0} (name : List ℕ) (t : Table A) (x : List ℕ × A) → has name (t ++ x ∷ []) ≡ (has name t || bytes_eq name x.0)
-has_push name [] x = has_one x.1 (bytes_eq name x.0)
+has_push name [] x = is_some-cond x.1 (bytes_eq name x.0)
 has_push name (y ∷ ys) x = has_step y.1 (find name ys) (find name (ys ++ x ∷ [])) (bytes_eq name y.0) (bytes_eq name x.0) (has_push name ys x)
 
 has_same : {A : Type 0} (name other : List ℕ) (t : Table A) (b : Bool) → bytes_eq name other ≡ b → has other t ≡ true → has name t ≡ (has name t || b)

@@ -1,5 +1,6 @@
 -- What an assertion without faults elaborates to mentions only what may be named there.
 use Rattle.std.proofs.Common.{◌≡◌, ◌≤◌, ℕ, not, List, [], ◌∷◌, ◌++◌, Option, Some, None, refl, sym, subst, arith}
+use Rattle.sf_base.proofs.Options.{unwrap-some}
 use Rattle.sf_ast.specs.declared.word.SurfaceOperand.{SurfaceOperand}
 use Rattle.sf_ast.specs.Depth as d
 use Rattle.sf_ast.specs.Surface as s
@@ -17,15 +18,15 @@ use Rattle.sf_elab.specs.declared.fault.Fault.TheVariants.{Missing}
 use Rattle.sf_elab.specs.declared.fault.Link.{Link}
 use Rattle.sf_elab.specs.declared.fault.Link.TheVariants.{Next, Left, Right}
 use Rattle.sf_elab.specs.declared.levels.Levels.{Levels}
-use Rattle.sf_elab.specs.Assertions.{operand_of, operand_faults, values_faults, link_of, has_link, segment_faults, tree_faults, conjunct_of, conjuncts_of, conjunct_faults, assertion_faults, note_of, note_faults, maybe_of, maybe_faults}
+use Rattle.sf_elab.specs.Assertions.{operand_of, operand_faults, values_faults, link_of, has_link, segment_faults, tree_faults, conjunct_of, conjuncts_of, conjunct_faults, assertion_faults, annotation_of, annotation_faults, maybe_of, maybe_faults}
 use Rattle.sf_elab.specs.Existentials.{words_in_operand, words_in_fields, words_in_conjunct, words_in, no_levels, opened, made_by, after_conjunct, after_level}
 use Rattle.sf_elab.specs.Faults.{where_, link_name}
-use Rattle.sf_elab.specs.InSight.{Sight, test_faults}
+use Rattle.sf_elab.specs.InEnv.{Env, test_faults}
 use Rattle.sf_elab.specs.Table.{Table, find}
 use Rattle.sf_elab.proofs.Depths.{level_no_deeper}
 use Rattle.sf_elab.proofs.ExistentialsMade.{AreMade, AreReached, reached_both, level_reached, level_made, reach_stays}
 use Rattle.sf_elab.proofs.NamedFields.{first_named}
-use Rattle.sf_elab.proofs.NoFaults.{none_both, none_three, there, unwrapped}
+use Rattle.sf_elab.proofs.NoFaults.{none_both, none_three, there}
 use Rattle.sf_elab.proofs.ScopesNumbered.{level_numbered}
 use Rattle.sf_elab.proofs.TableLaws.{finds_none}
 use Rattle.sf_elab.proofs.VariablesWithin.{Sees, operand_within, operand_test_within, values_within}
@@ -35,20 +36,20 @@ joined_within fields V made [] ys h k = k
 joined_within fields V made (x ∷ xs) ys h k = (h.0, joined_within fields V made xs ys h.1 k)
 
 -- the field that a predicate follows is the first of its name
-link_named : {fields : List (List ℕ)} {V : Var → Type 0} {i : Sight} → Sees fields V i → (k : Link) (p : Place) → where_ (not (has_link i k)) (Missing p k) ≡ [] → IsFirstNamed fields (link_name k) (Some (link_of i k).0)
+link_named : {fields : List (List ℕ)} {V : Var → Type 0} {i : Env} → Sees fields V i → (k : Link) (p : Place) → where_ (not (has_link i k)) (Missing p k) ≡ [] → IsFirstNamed fields (link_name k) (Some (link_of i k).0)
 link_named {fields} {V} {i} see k p h =
     let found = there (find (link_name k) i.declared.fields) (Missing p k) h in
-    let is : link_of i k ≡ found.0 = unwrapped (find (link_name k) i.declared.fields) found.0 (record { 0 = 0 }) found.1 in
+    let is : link_of i k ≡ found.0 = unwrap-some (find (link_name k) i.declared.fields) found.0 (record { 0 = 0 }) found.1 in
     subst (λ (f : FieldId). IsFirstNamed fields (link_name k) (Some f.0)) (sym is) (first_named fields i.declared.fields (link_name k) found.0 see.named found.1)
 
-both_operands : {fields : List (List ℕ)} {V : Var → Type 0} {i : Sight} → Sees fields V i → (made : List Scope) (l : Levels) → AreMade made l.reach → (x y : SurfaceOperand) → AreReached i.bytes l.reach (words_in_operand x ++ words_in_operand y)
+both_operands : {fields : List (List ℕ)} {V : Var → Type 0} {i : Env} → Sees fields V i → (made : List Scope) (l : Levels) → AreMade made l.reach → (x y : SurfaceOperand) → AreReached i.bytes l.reach (words_in_operand x ++ words_in_operand y)
     → operand_faults i x ≡ [] → operand_faults i y ≡ [] → OperandWithin V made (operand_of i l x) × OperandWithin V made (operand_of i l y)
 both_operands {fields} {V} {i} see made l m x y r h j =
     let words = reached_both i.bytes l.reach (words_in_operand x) (words_in_operand y) r in
     (operand_within see made l m x words.0 h, operand_within see made l m y words.1 j)
 
 mutual
-  conjunct_within : {fields : List (List ℕ)} {V : Var → Type 0} {i : Sight} → Sees fields V i → (made : List Scope) (l : Levels) → AreMade made l.reach → (x : s.Conjunct) → AreReached i.bytes l.reach (words_in_conjunct x) → conjunct_faults i x ≡ []
+  conjunct_within : {fields : List (List ℕ)} {V : Var → Type 0} {i : Env} → Sees fields V i → (made : List Scope) (l : Levels) → AreMade made l.reach → (x : s.Conjunct) → AreReached i.bytes l.reach (words_in_conjunct x) → conjunct_faults i x ≡ []
       → ConjunctsWithin fields V made (conjuncts (conjunct_of i l x))
   conjunct_within see made l m (s.emp p) r h = tt
   conjunct_within see made l m (s.group p a) r h = conjuncts_within see made l m a r h
@@ -98,7 +99,7 @@ mutual
       let links = none_both (where_ (not (has_link i Left)) (Missing p Left)) (where_ (not (has_link i Right)) (Missing p Right)) both.0 in
       ((link_named see Left p links.0, link_named see Right p links.1, operand_within see made l m x r both.1), tt)
 
-  conjuncts_within : {fields : List (List ℕ)} {V : Var → Type 0} {i : Sight} → Sees fields V i → (made : List Scope) (l : Levels) → AreMade made l.reach → (a : s.Assertion) → AreReached i.bytes l.reach (words_in a) → assertion_faults i a ≡ []
+  conjuncts_within : {fields : List (List ℕ)} {V : Var → Type 0} {i : Env} → Sees fields V i → (made : List Scope) (l : Levels) → AreMade made l.reach → (a : s.Assertion) → AreReached i.bytes l.reach (words_in a) → assertion_faults i a ≡ []
       → ConjunctsWithin fields V made (conjuncts (conjuncts_of i l a))
   conjuncts_within see made l m (s.only x) r h = conjunct_within see made l m x r h
   conjuncts_within {fields} {V} {i} see made l m (s.star x a) r h =
@@ -109,12 +110,12 @@ mutual
       (conjuncts_within see made (after_conjunct i.bytes l x) (subst (AreMade made) stays m) a (subst (λ (t : Table ℕ). AreReached i.bytes t (words_in a)) stays words.1) both.1)
 
 -- a whole assertion is in order
-pub note_within : {fields : List (List ℕ)} {V : Var → Type 0} {i : Sight} → Sees fields V i → (n : s.Note) → note_faults i n ≡ [] → d.note_depth n ≤ NESTING → AssertionWithin fields V (note_of i n)
-note_within see s.blank h k = record {
+pub annotation_within : {fields : List (List ℕ)} {V : Var → Type 0} {i : Env} → Sees fields V i → (n : s.Note) → annotation_faults i n ≡ [] → d.annotation_depth n ≤ NESTING → AssertionWithin fields V (annotation_of i n)
+annotation_within see s.blank h k = record {
   annotation = record { within = tt; numbered = (refl, tt); depth = omega arith };
   names = refl;
 }
-note_within {fields} {V} {i} see (s.filled a) h k = record {
+annotation_within {fields} {V} {i} see (s.filled a) h k = record {
   annotation = record {
     within = conjuncts_within see (made_by i.bytes no_levels a ∷ []) (opened i.bytes no_levels a) (level_made i.bytes no_levels a [] (finds_none _)) a (level_reached i.bytes no_levels a) h;
     numbered = (level_numbered i a).0;
@@ -124,6 +125,6 @@ note_within {fields} {V} {i} see (s.filled a) h k = record {
 }
 
 -- and so is one that may be left out
-pub maybe_within : {fields : List (List ℕ)} {V : Var → Type 0} {i : Sight} → Sees fields V i → (n : Option s.Note) → maybe_faults i n ≡ [] → d.maybe_depth n ≤ NESTING → AssertionWithin fields V (maybe_of i n)
-maybe_within see None h k = note_within see s.blank refl (omega arith)
-maybe_within see (Some n) h k = note_within see n h k
+pub maybe_within : {fields : List (List ℕ)} {V : Var → Type 0} {i : Env} → Sees fields V i → (n : Option s.Note) → maybe_faults i n ≡ [] → d.maybe_depth n ≤ NESTING → AssertionWithin fields V (maybe_of i n)
+maybe_within see None h k = annotation_within see s.blank refl (omega arith)
+maybe_within see (Some n) h k = annotation_within see n h k

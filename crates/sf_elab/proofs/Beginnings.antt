@@ -18,7 +18,7 @@ use Rattle.sf_elab.specs.Texts.{text}
 abbrev pub prime : List ℕ → Word → List ℕ
 prime bytes w = text bytes w ++ 39 ∷ []
 
--- one value, and those behind it
+-- one value, and those after it
 values_one : (bytes : List ℕ) (primed : Word → Bool) (k p q : ℕ) (w : Word) (ws : List Word) (t : Table Var) → q ≡ p + length (filter primed (w ∷ []))
     → body_values bytes primed (k + 1) q ws (body_values bytes primed k p (w ∷ []) t) ≡ body_values bytes primed k p (w ∷ ws) t
 values_one bytes primed k p q w ws t h = go (primed w) h

@@ -14,25 +14,25 @@ use Rattle.sf_elab.specs.Assertions.{conjunct_of, conjuncts_of, conjunct_faults,
 use Rattle.sf_elab.specs.Existentials.{words_in, meet, meet_all, opened, after_conjunct, after, after_level}
 use Rattle.sf_elab.specs.Table.{Table, has}
 use Rattle.sf_elab.specs.Texts.{text}
-use Rattle.sf_elab.specs.InSight.{Sight}
+use Rattle.sf_elab.specs.InEnv.{Env}
 use Rattle.sf_elab.proofs.Views.{assertion_is}
 
 -- a list of conjuncts
-abbrev pub rest_of : Sight → Levels → List surface.Conjunct → List (c.Conjunct Expr)
+abbrev pub rest_of : Env → Levels → List surface.Conjunct → List (c.Conjunct Expr)
 rest_of s l [] = []
 rest_of s l (d ∷ ds) = conjunct_of s l d ++ rest_of s (after_conjunct s.bytes l d) ds
 
--- what is there behind them
+-- what is there after them
 abbrev pub after_rest : List ℕ → Levels → List surface.Conjunct → Levels
 after_rest bytes l [] = l
 after_rest bytes l (d ∷ ds) = after_rest bytes (after_conjunct bytes l d) ds
 
 -- what is wrong with them
-abbrev pub rest_faults : Sight → List surface.Conjunct → List Fault
+abbrev pub rest_faults : Env → List surface.Conjunct → List Fault
 rest_faults s [] = []
 rest_faults s (d ∷ ds) = conjunct_faults s d ++ rest_faults s ds
 
-conjuncts_are : (s : Sight) (l : Levels) (d : surface.Conjunct) (ds : List surface.Conjunct) → conjuncts_of s l (conjuncts d ds) ≡ conjunct_of s l d ++ rest_of s (after_conjunct s.bytes l d) ds
+conjuncts_are : (s : Env) (l : Levels) (d : surface.Conjunct) (ds : List surface.Conjunct) → conjuncts_of s l (conjuncts d ds) ≡ conjunct_of s l d ++ rest_of s (after_conjunct s.bytes l d) ds
 conjuncts_are s l d [] = sym (append-nil (conjunct_of s l d))
 conjuncts_are s l d (e ∷ es) = ap (λ xs. conjunct_of s l d ++ xs) (conjuncts_are s (after_conjunct s.bytes l d) e es)
 
@@ -40,12 +40,12 @@ after_is : (bytes : List ℕ) (l : Levels) (d : surface.Conjunct) (ds : List sur
 after_is bytes l d [] = refl
 after_is bytes l d (e ∷ es) = after_is bytes (after_conjunct bytes l d) e es
 
-faults_are : (s : Sight) (d : surface.Conjunct) (ds : List surface.Conjunct) → assertion_faults s (conjuncts d ds) ≡ conjunct_faults s d ++ rest_faults s ds
+faults_are : (s : Env) (d : surface.Conjunct) (ds : List surface.Conjunct) → assertion_faults s (conjuncts d ds) ≡ conjunct_faults s d ++ rest_faults s ds
 faults_are s d [] = sym (append-nil (conjunct_faults s d))
 faults_are s d (e ∷ es) = ap (λ xs. conjunct_faults s d ++ xs) (faults_are s e es)
 
--- behind the first conjunct are those of the others
-pub conjuncts_pushed : (s : Sight) (l m : Levels) (before behind : List (c.Conjunct Expr)) (a : SurfaceAssertion) → behind ≡ before ++ conjunct_of s l (surface_conjunct a.first.value) → m ≡ after_conjunct s.bytes l (surface_conjunct a.first.value)
+-- after the first conjunct are those of the others
+pub conjuncts_pushed : (s : Env) (l m : Levels) (before behind : List (c.Conjunct Expr)) (a : SurfaceAssertion) → behind ≡ before ++ conjunct_of s l (surface_conjunct a.first.value) → m ≡ after_conjunct s.bytes l (surface_conjunct a.first.value)
     → behind ++ rest_of s m (map surface_conjunct a.more.items) ≡ before ++ conjuncts_of s l (assertion_of a)
 conjuncts_pushed s l m before behind a p q =
     let d : surface.Conjunct = surface_conjunct a.first.value in
@@ -59,7 +59,7 @@ after_pushed bytes l m a q =
     let ds : List surface.Conjunct = map surface_conjunct a.more.items in
     ap (λ n. after_rest bytes n ds) q ∙ sym (after_is bytes l d ds) ∙ ap (λ t. after bytes l t) (sym (assertion_is a))
 
-pub faults_pushed : (s : Sight) (before behind : List Fault) (a : SurfaceAssertion) → behind ≡ before ++ conjunct_faults s (surface_conjunct a.first.value) → behind ++ rest_faults s (map surface_conjunct a.more.items) ≡ before ++ assertion_faults s (assertion_of a)
+pub faults_pushed : (s : Env) (before behind : List Fault) (a : SurfaceAssertion) → behind ≡ before ++ conjunct_faults s (surface_conjunct a.first.value) → behind ++ rest_faults s (map surface_conjunct a.more.items) ≡ before ++ assertion_faults s (assertion_of a)
 faults_pushed s before behind a p =
     let d : surface.Conjunct = surface_conjunct a.first.value in
     let ds : List surface.Conjunct = map surface_conjunct a.more.items in
@@ -75,7 +75,7 @@ kept_by_test : (r : Table ℕ) (l : Levels) (name : List ℕ) (t : Bool) → tak
 kept_by_test r l name true p = p
 kept_by_test r l name false p = kept_by_push r l.reach (name, length l.names) p
 
--- what was in reach before existentials are met stands first
+-- what was in reach before existentials are met comes first
 pub kept_by_all : (bytes : List ℕ) (r : Table ℕ) (l : Levels) (ws : List Word) → take (length r) l.reach ≡ r → take (length r) (Levels.reach (meet_all bytes l ws)) ≡ r
 kept_by_all bytes r l [] p = p
 kept_by_all bytes r l (w ∷ ws) p = kept_by_all bytes r (meet bytes l w) ws (kept_by_test r l (text bytes w) (has (text bytes w) l.reach) p)

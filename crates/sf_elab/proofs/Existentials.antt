@@ -16,7 +16,7 @@ pub words_in_conjuncts : (c : s.Conjunct) (cs : List s.Conjunct) → words_in (c
 words_in_conjuncts c [] = sym (append-nil (words_in_conjunct c))
 words_in_conjuncts c (d ∷ ds) = ap (λ ws. words_in_conjunct c ++ ws) (words_in_conjuncts d ds)
 
--- behind the first conjunct are those of the others
+-- after the first conjunct are those of the others
 pub words_pushed : (before after : List Word) (a : SurfaceAssertion) → after ≡ before ++ words_in_conjunct (conjunct_of a.first.value) → after ++ words_in_rest (map conjunct_of a.more.items) ≡ before ++ words_in (assertion_of a)
 words_pushed before after a p =
     let c : s.Conjunct = conjunct_of a.first.value in

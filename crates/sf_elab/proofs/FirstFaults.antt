@@ -1,15 +1,16 @@
 -- The first of faults is one of them, and none of them is earlier; a file has a program or a first fault.
-use Rattle.std.proofs.Common.{◌≡◌, ◌<◌, ◌⊎◌, inl, inr, ◌&&◌, ◌||◌, ◌==◌, ℕ, zero, suc, Bool, true, false, nat_lt, List, [], ◌∷◌, length, slice_index_or, Option, Some, None, refl, sym, ◌∙◌, ap, subst, arith}
+use Rattle.std.proofs.Common.{◌≡◌, ◌⊎◌, inl, inr, ◌&&◌, ◌||◌, ◌==◌, ℕ, Bool, true, false, nat_lt, List, [], ◌∷◌, Option, Some, None, refl, sym, ◌∙◌, ap, subst, arith}
 use Rattle.std.proofs.lemmas.Bool.Decides.{nat_tests}
 use Rattle.std.proofs.lemmas.List.Elements.{All-nil, All-cons, All-contains}
 use Rattle.std.specs.List.{All, Contains}
 use Rattle.std.specs.Option.{option_map}
+use Rattle.sf_base.proofs.Elements.{contains-rest}
 use Rattle.sf_ast.specs.Surface.{Item}
 use Rattle.sf_core.specs.Program.Syntax.{Program}
 use Rattle.sf_elab.specs.declared.fault.Fault.{Fault}
 use Rattle.sf_elab.specs.declared.fault.NameFault.{NameFault}
 use Rattle.sf_elab.specs.Elaborated.{elaborated, faults, Elaborates, FirstFault}
-use Rattle.sf_elab.specs.Faults.{place_of, kind_of, is_earlier, earlier, first_of, told}
+use Rattle.sf_elab.specs.Faults.{place_of, kind_of, is_earlier, earlier, first_of, named_fault}
 use Rattle.sf_elab.specs.Laws.{IsFirstAmong}
 
 -- the order of three numbers
@@ -19,7 +20,7 @@ by_numbers l c k m d j = (nat_lt l m || ((l == m) && nat_lt c d)) || (((l == m) 
 never_itself : (l c k : ℕ) → by_numbers l c k l c k ≡ false
 never_itself l c k = grind (arith, nat_tests)
 
--- what is behind one that is not before the last is not before it
+-- what is after one that is not before the last is not before it
 behind_it : (l c k m d j n e i : ℕ) → by_numbers l c k m d j ≡ true → by_numbers l c k n e i ≡ false → by_numbers m d j n e i ≡ false
 behind_it l c k m d j n e i p q = grind (arith, nat_tests)
 
@@ -37,16 +38,6 @@ before : (a b r : Fault) → is_earlier b a ≡ false → is_earlier a r ≡ fal
 before a b r p q =
     not_before (place_of b).line (place_of b).column (kind_of b) (place_of a).line (place_of a).column (kind_of a) (place_of r).line (place_of r).column (kind_of r) p q
 
-two_cases : {A : Type 0} (x : A) (xs : List A) (y : A) → Contains (x ∷ xs) y → (x ≡ y) ⊎ Contains xs y
-two_cases x xs y h = go h.0 h.1 h.2
-  where
-    go : (k : ℕ) → k < length (x ∷ xs) → slice_index_or (x ∷ xs) k y ≡ y → (x ≡ y) ⊎ Contains xs y
-    go zero l e = inl e
-    go (suc k) l e = inr (k, omega arith, e)
-
-from_rest : {A : Type 0} (x : A) (xs : List A) (y : A) → Contains xs y → Contains (x ∷ xs) y
-from_rest x xs y h = (suc h.0, omega (arith, h.1), h.2)
-
 -- what is known of the first of what was found and of those
 record IsFirst (found : Option Fault) (bs : List Fault) (r : Fault) : Type 0 where
   among : (found ≡ Some r) ⊎ Contains bs r
@@ -60,7 +51,7 @@ one_more : (found : Option Fault) (b : Fault) (bs : List Fault) (r : Fault) → 
 one_more None b bs r h = record {
   among = inr (elim h.among [
     | inl e ↦ (0, omega arith, same_fault b r e)
-    | inr m ↦ from_rest b bs r m
+    | inr m ↦ contains-rest b bs r m
   ]);
   before = λ a e. absurd cc;
   behind = All-cons (λ (x : Fault). is_earlier x r ≡ false) b bs (h.before b refl) h.behind;
@@ -71,7 +62,7 @@ one_more (Some a) b bs r h = go (is_earlier b a) refl
     with_b e k = record {
       among = inr (elim h.among [
         | inl f ↦ (0, omega arith, sym e ∙ same_fault (earlier (Some a) b) r f)
-        | inr m ↦ from_rest b bs r m
+        | inr m ↦ contains-rest b bs r m
       ]);
       before = λ c f. subst (λ (x : Fault). is_earlier x r ≡ false) (same_fault a c f) k;
       behind = All-cons (λ (x : Fault). is_earlier x r ≡ false) b bs (h.before b (ap Some e)) h.behind;
@@ -81,7 +72,7 @@ one_more (Some a) b bs r h = go (is_earlier b a) refl
     with_a e k = record {
       among = elim h.among [
         | inl f ↦ inl (ap Some (sym e) ∙ f)
-        | inr m ↦ inr (from_rest b bs r m)
+        | inr m ↦ inr (contains-rest b bs r m)
       ];
       before = λ c f. h.before c (ap Some e ∙ f);
       behind = All-cons (λ (x : Fault). is_earlier x r ≡ false) b bs k h.behind;
@@ -125,12 +116,12 @@ one_or_other bytes is = go (faults bytes is) refl
     go [] h = inl (elaborated bytes is, record { sound = h; same = refl })
     go (f ∷ fs) h =
         let found = found_some f fs in
-        inr (told bytes found.0, ap (λ (xs : List Fault). option_map (told bytes) (first_of None xs)) h ∙ ap (option_map (told bytes)) found.1)
+        inr (named_fault bytes found.0, ap (λ (xs : List Fault). option_map (named_fault bytes) (first_of None xs)) h ∙ ap (option_map (named_fault bytes)) found.1)
 
 -- and not both
 pub never_both : (bytes : List ℕ) (is : List Item) (p : Program) (e : NameFault) → Elaborates bytes is p → FirstFault bytes is e → ⊥
 never_both bytes is p e h f =
-    let none : None ≡ Some e = ap (λ (xs : List Fault). option_map (told bytes) (first_of None xs)) (sym h.sound) ∙ f in
+    let none : None ≡ Some e = ap (λ (xs : List Fault). option_map (named_fault bytes) (first_of None xs)) (sym h.sound) ∙ f in
     absurd cc
 
 pub same_faults : (e g : NameFault) (o : Option NameFault) → o ≡ Some e → o ≡ Some g → e ≡ g

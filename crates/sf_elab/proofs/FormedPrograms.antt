@@ -12,14 +12,14 @@ use Rattle.sf_base.specs.declared.limits.TheConstants.{NESTING, PROCEDURES, RESO
 use Rattle.sf_core.specs.Program.Formed.{IsInBody, IsSettable, IsParameter, IsOfResource, AssertionWithin, ProcedureWithin, IsFormed}
 use Rattle.sf_core.specs.Program.Syntax as c
 use Rattle.sf_elab.specs.declared.declared.Declared.{Declared}
-use Rattle.sf_elab.specs.Assertions.{note_faults, maybe_faults}
+use Rattle.sf_elab.specs.Assertions.{annotation_faults, maybe_faults}
 use Rattle.sf_elab.specs.Commands.{all_faults, commands_of, commands_faults, set_in_all}
 use Rattle.sf_elab.specs.Declarations.{field_words, resources_in, procedures_in, references_of, values_of, numbered, numbered_faults, nth_field, shared_by, resource_name_faults, all_shared_faults, procedure_name_faults, declared_by, declared_faults}
 use Rattle.sf_elab.specs.Elaborated.{invariants_faults, elaborated, faults}
 use Rattle.sf_elab.specs.Procedures.{is_among, is_primed, parameters_of, declared_count, body_variables, first_assignments, outside_of, inside_of, procedure_of, parameter_faults, local_faults, procedure_faults, invariant_of, resource_of}
 use Rattle.sf_elab.specs.Table.{find}
 use Rattle.sf_elab.specs.Texts.{text}
-use Rattle.sf_elab.proofs.AssertionsWithin.{note_within, maybe_within}
+use Rattle.sf_elab.proofs.AssertionsWithin.{annotation_within, maybe_within}
 use Rattle.sf_elab.proofs.CommandsWithin.{SeesProgram, MayAllBeSet, blocks_joined, commands_within}
 use Rattle.sf_elab.proofs.DeclaredThings.{IsShared, resources_many, resource_from, procedure_from, resources_there, shared_there, procedures_there}
 use Rattle.sf_elab.proofs.Depths.{body_no_deeper}
@@ -53,26 +53,26 @@ procedure_shallow (s.procedure g ∷ is) zero f e =
     subst (λ (h : s.Procedure). d.item_depth (s.procedure h) ≤ max (d.item_depth (s.procedure g)) (d.items_depth is)) same (omega arith)
 procedure_shallow (s.procedure g ∷ is) (suc k) f e = omega (arith, procedure_shallow is k f e)
 
-resource_shallow : (is : List s.Item) (k : ℕ) (r : s.Resource) → slice_get (resources_in is) k ≡ Some r → d.note_depth r.invariant ≤ d.items_depth is
+resource_shallow : (is : List s.Item) (k : ℕ) (r : s.Resource) → slice_get (resources_in is) k ≡ Some r → d.annotation_depth r.invariant ≤ d.items_depth is
 resource_shallow [] k r e = absurd cc
 resource_shallow (s.fields ns ∷ is) k r e = omega (arith, resource_shallow is k r e)
 resource_shallow (s.procedure f ∷ is) k r e = omega (arith, resource_shallow is k r e)
 resource_shallow (s.resource q ∷ is) zero r e =
     let same : q ≡ r = cc in
-    subst (λ (h : s.Resource). d.note_depth h.invariant ≤ max (d.note_depth q.invariant) (d.items_depth is)) same (omega arith)
+    subst (λ (h : s.Resource). d.annotation_depth h.invariant ≤ max (d.annotation_depth q.invariant) (d.items_depth is)) same (omega arith)
 resource_shallow (s.resource q ∷ is) (suc k) r e = omega (arith, resource_shallow is k r e)
 
-invariant_sound : (bytes : List ℕ) (e : Declared) (k : ℕ) (rs : List s.Resource) (j : ℕ) (r : s.Resource) → slice_get rs j ≡ Some r → invariants_faults bytes e k rs ≡ [] → note_faults (invariant_of bytes e (k + j) r) r.invariant ≡ []
+invariant_sound : (bytes : List ℕ) (e : Declared) (k : ℕ) (rs : List s.Resource) (j : ℕ) (r : s.Resource) → slice_get rs j ≡ Some r → invariants_faults bytes e k rs ≡ [] → annotation_faults (invariant_of bytes e (k + j) r) r.invariant ≡ []
 invariant_sound bytes e k [] j r h n = absurd cc
 invariant_sound bytes e k (q ∷ rs) zero r h n =
     let same : q ≡ r = cc in
     let number : k ≡ k + 0 = omega arith in
-    let here = (none_both (note_faults (invariant_of bytes e k q) q.invariant) (invariants_faults bytes e (k + 1) rs) n).0 in
-    subst (λ i. note_faults (invariant_of bytes e i r) r.invariant ≡ []) number (subst (λ (q : s.Resource). note_faults (invariant_of bytes e k q) q.invariant ≡ []) same here)
+    let here = (none_both (annotation_faults (invariant_of bytes e k q) q.invariant) (invariants_faults bytes e (k + 1) rs) n).0 in
+    subst (λ i. annotation_faults (invariant_of bytes e i r) r.invariant ≡ []) number (subst (λ (q : s.Resource). annotation_faults (invariant_of bytes e k q) q.invariant ≡ []) same here)
 invariant_sound bytes e k (q ∷ rs) (suc j) r h n =
     let number : k + 1 + j ≡ k + suc j = omega arith in
-    let rest = (none_both (note_faults (invariant_of bytes e k q) q.invariant) (invariants_faults bytes e (k + 1) rs) n).1 in
-    subst (λ i. note_faults (invariant_of bytes e i r) r.invariant ≡ []) number (invariant_sound bytes e (k + 1) rs j r h rest)
+    let rest = (none_both (annotation_faults (invariant_of bytes e k q) q.invariant) (invariants_faults bytes e (k + 1) rs) n).1 in
+    subst (λ i. annotation_faults (invariant_of bytes e i r) r.invariant ≡ []) number (invariant_sound bytes e (k + 1) rs j r h rest)
 
 module _ (bytes : List ℕ) (is : List s.Item) where
   abbrev whole : c.Program
@@ -152,11 +152,11 @@ module _ (bytes : List ℕ) (is : List s.Item) where
         }
 
   -- a resource is in order
-  resource_within : (k : ℕ) (r : s.Resource) → note_faults (invariant_of bytes declared k r) r.invariant ≡ [] → d.note_depth r.invariant ≤ NESTING
+  resource_within : (k : ℕ) (r : s.Resource) → annotation_faults (invariant_of bytes declared k r) r.invariant ≡ [] → d.annotation_depth r.invariant ≤ NESTING
       → AssertionWithin (c.Program.fields whole) (IsOfResource k (length (c.Resource.variables (resource_of bytes declared k r)))) (c.Resource.invariant (resource_of bytes declared k r))
   resource_within k r h n =
       subst (λ m. AssertionWithin (c.Program.fields whole) (IsOfResource k m) (c.Resource.invariant (resource_of bytes declared k r))) (sym (length-map r.variables (text bytes)))
-      (note_within (invariant_sees k r) r.invariant h n)
+      (annotation_within (invariant_sees k r) r.invariant h n)
 
   -- the whole program is in order
   pub program_formed : d.items_depth is ≤ NESTING → faults bytes is ≡ [] → IsFormed whole
@@ -175,9 +175,9 @@ module _ (bytes : List ℕ) (is : List s.Item) where
             let found = resource_from bytes declared 0 (resources_in is) j r e in
             let number : 0 + j ≡ j = omega arith in
             let same : resource_of bytes declared j found.0 ≡ r = subst (λ n. resource_of bytes declared n found.0 ≡ r) number found.2 in
-            let sound : note_faults (invariant_of bytes declared j found.0) (s.Resource.invariant found.0) ≡ [] =
-            subst (λ n. note_faults (invariant_of bytes declared n found.0) (s.Resource.invariant found.0) ≡ []) number (invariant_sound bytes declared 0 (resources_in is) j found.0 found.1 all.1) in
-            let shallow : d.note_depth (s.Resource.invariant found.0) ≤ NESTING = omega (arith, resource_shallow is j found.0 found.1) in
+            let sound : annotation_faults (invariant_of bytes declared j found.0) (s.Resource.invariant found.0) ≡ [] =
+            subst (λ n. annotation_faults (invariant_of bytes declared n found.0) (s.Resource.invariant found.0) ≡ []) number (invariant_sound bytes declared 0 (resources_in is) j found.0 found.1 all.1) in
+            let shallow : d.annotation_depth (s.Resource.invariant found.0) ≤ NESTING = omega (arith, resource_shallow is j found.0 found.1) in
             subst (λ (q : c.Resource). AssertionWithin (c.Program.fields whole) (IsOfResource j (length q.variables)) q.invariant) same (resource_within j found.0 sound shallow);
         procedure_count = omega (arith, few_procedures, length-map (procedures_in is) (procedure_of bytes declared));
         resource_count = omega (arith, few_resources, resources_many bytes declared 0 (resources_in is));

@@ -1,63 +1,48 @@
 -- The fields of a file: each name stands for the first field of that name.
-use Rattle.std.proofs.Common.{◌≡◌, ◌≢◌, ◌<◌, ◌+◌, ℕ, zero, suc, Bool, true, false, cond, List, [], ◌∷◌, ◌++◌, map, length, slice_get, codes, Option, Some, None, is_some, refl, sym, ◌∙◌, ap, subst, arith}
+use Rattle.std.proofs.Common.{◌≡◌, ◌≢◌, ◌<◌, ◌+◌, ℕ, Bool, true, false, cond, List, [], ◌∷◌, ◌++◌, map, length, slice_get, codes, Option, Some, None, is_some, refl, sym, ◌∙◌, ap, subst, arith}
 use Rattle.std.proofs.lemmas.Option.{slice_get_within}
 use Rattle.std.proofs.lemmas.List.{append_assoc, length-append, append-nil}
 use Rattle.std.specs.Option.{option_map}
 use Rattle.std.specs.Str.{bytes_eq}
+use Rattle.sf_base.proofs.Lookup.{get-push_before, get-push_last, get-push_other}
+use Rattle.sf_base.proofs.Equality.{bytes_eq-same, bytes_eq-self, bytes_eq-other}
 use Rattle.sf_ast.specs.declared.word.Word.{Word}
 use Rattle.sf_base.specs.declared.ids.FieldId.{FieldId}
 use Rattle.sf_core.specs.Program.Named.{IsFirstNamed}
 use Rattle.sf_elab.specs.Declarations.{numbered, usual_fields, nth_field, field_table, field_names}
 use Rattle.sf_elab.specs.Table.{Table, find, has, declare}
 use Rattle.sf_elab.specs.Texts.{text}
-use Rattle.sf_elab.proofs.TableLaws.{same_name, other_name, name_itself}
 
 -- each name stands for the first of those of that name, and for none where there is none
 abbrev pub AreNamed : List (List ℕ) → Table FieldId → Type 0
 AreNamed names t = (name : List ℕ) → IsFirstNamed names name (option_map (λ (f : FieldId). f.0) (find name t))
 
--- what is at a place once one more name is there
-get_before : (names : List (List ℕ)) (n : List ℕ) (k : ℕ) → k < length names → slice_get (names ++ n ∷ []) k ≡ slice_get names k
-get_before [] n k h = absurd (omega arith)
-get_before (m ∷ names) n zero h = refl
-get_before (m ∷ names) n (suc k) h = get_before names n k (omega arith)
-
-get_last : (names : List (List ℕ)) (n : List ℕ) → slice_get (names ++ n ∷ []) (length names) ≡ Some n
-get_last [] n = refl
-get_last (m ∷ names) n = get_last names n
-
-get_cases : (names : List (List ℕ)) (n name : List ℕ) (k : ℕ) → slice_get (names ++ n ∷ []) k ≡ Some name → n ≢ name → slice_get names k ≡ Some name
-get_cases [] n name zero e apart = absurd (let same : n ≡ name = cc in apart same)
-get_cases [] n name (suc k) e apart = absurd cc
-get_cases (m ∷ names) n name zero e apart = e
-get_cases (m ∷ names) n name (suc k) e apart = get_cases names n name k e apart
-
 -- another name is found as before
 other_found : (names : List (List ℕ)) (n name : List ℕ) (o : Option ℕ) → n ≢ name → IsFirstNamed names name o → IsFirstNamed (names ++ n ∷ []) name o
-other_found names n name None apart h = λ k e. h k (get_cases names n name k e apart)
+other_found names n name None apart h = λ k e. h k (get-push_other names n name k e apart)
 other_found names n name (Some k) apart h =
-    (get_before names n k (slice_get_within names k name h.0) ∙ h.0, λ j below e. h.1 j below (get_cases names n name j e apart))
+    (get-push_before names n k (slice_get_within names k name h.0) ∙ h.0, λ j below e. h.1 j below (get-push_other names n name j e apart))
 
 -- one that is there is found as before
 first_found : (names : List (List ℕ)) (n name : List ℕ) (k : ℕ) → IsFirstNamed names name (Some k) → IsFirstNamed (names ++ n ∷ []) name (Some k)
 first_found names n name k h =
     let within : k < length names = slice_get_within names k name h.0 in
-    (get_before names n k within ∙ h.0, λ j below e. h.1 j below (sym (get_before names n j (omega arith)) ∙ e))
+    (get-push_before names n k within ∙ h.0, λ j below e. h.1 j below (sym (get-push_before names n j (omega arith)) ∙ e))
 
 -- a new one is the last
 last_found : (names : List (List ℕ)) (n : List ℕ) → IsFirstNamed names n None → IsFirstNamed (names ++ n ∷ []) n (Some (length names))
-last_found names n h = (get_last names n, λ j below e. h j (sym (get_before names n j below) ∙ e))
+last_found names n h = (get-push_last names n, λ j below e. h j (sym (get-push_before names n j below) ∙ e))
 
 find_other : (name n : List ℕ) (f : FieldId) (t : Table FieldId) → name ≢ n → find name (t ++ (n, f) ∷ []) ≡ find name t
 find_other name n f [] apart = go (bytes_eq name n) refl
   where
     go : (b : Bool) → bytes_eq name n ≡ b → cond b (Some f) None ≡ None
-    go true e = absurd (apart (same_name name n e))
+    go true e = absurd (apart (bytes_eq-same name n e))
     go false e = refl
 find_other name n f (e ∷ t) apart = ap (cond (bytes_eq name e.0) (Some e.1)) (find_other name n f t apart)
 
 find_last : (n : List ℕ) (f : FieldId) (t : Table FieldId) → find n t ≡ None → find n (t ++ (n, f) ∷ []) ≡ Some f
-find_last n f [] h = rw (name_itself n) refl
+find_last n f [] h = rw (bytes_eq-self n) refl
 find_last n f (e ∷ t) h = go (bytes_eq n e.0) h (find_last n f t)
   where
     go : (b : Bool) → cond b (Some e.1) (find n t) ≡ None → (find n t ≡ None → find n (t ++ (n, f) ∷ []) ≡ Some f) → cond b (Some e.1) (find n (t ++ (n, f) ∷ [])) ≡ Some f
@@ -94,9 +79,9 @@ declared_named names n f t q h name = go (bytes_eq n name) refl
   where
     go : (b : Bool) → bytes_eq n name ≡ b → IsFirstNamed (names ++ n ∷ []) name (number_found (find name (declare n f t)))
     go true e =
-        subst (λ m. IsFirstNamed (names ++ n ∷ []) m (number_found (find m (declare n f t)))) (same_name n name e) (same_named names n f t (find n t) q refl (h n))
+        subst (λ m. IsFirstNamed (names ++ n ∷ []) m (number_found (find m (declare n f t)))) (bytes_eq-same n name e) (same_named names n f t (find n t) q refl (h n))
     go false e =
-        let apart : n ≢ name = other_name n name e in
+        let apart : n ≢ name = bytes_eq-other n name e in
         subst (λ (o : Option FieldId). IsFirstNamed (names ++ n ∷ []) name (number_found o)) (sym (find_declared name n f t (λ same. apart (sym same))))
         (other_found names n name (number_found (find name t)) apart (h name))
 

@@ -1,5 +1,5 @@
 -- Where nothing is wrong with several things, nothing is wrong with each.
-use Rattle.std.proofs.Common.{◌≡◌, ℕ, zero, suc, Bool, true, false, not, List, [], ◌∷◌, ◌++◌, slice_get, Option, Some, None, is_some, unwrap_or, refl, ap, subst}
+use Rattle.std.proofs.Common.{◌≡◌, ℕ, zero, suc, Bool, true, false, not, List, [], ◌∷◌, ◌++◌, slice_get, Option, Some, None, is_some, refl, subst}
 use Rattle.std.specs.List.{AllByRecursion}
 use Rattle.sf_elab.specs.declared.fault.Fault.{Fault}
 use Rattle.sf_elab.specs.Commands.{all_faults}
@@ -35,9 +35,6 @@ none_where false f h = refl
 pub there : {A : Type 0} (o : Option A) (f : Fault) → where_ (not (is_some o)) f ≡ [] → (a : A) × (o ≡ Some a)
 there None f h = absurd cc
 there (Some a) f h = (a, refl)
-
-pub unwrapped : {A : Type 0} (o : Option A) (a d : A) → o ≡ Some a → unwrap_or o d ≡ a
-unwrapped o a d h = ap (λ p. unwrap_or p d) h
 
 pub none_each : {A : Type 0} (faults : A → List Fault) (xs : List A) → all_faults faults xs ≡ [] → AllByRecursion (λ x. faults x ≡ []) xs
 none_each faults [] h = tt

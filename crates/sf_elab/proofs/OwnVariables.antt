@@ -4,6 +4,7 @@ use Rattle.std.proofs.lemmas.Bool.{or_left, or_right}
 use Rattle.std.proofs.lemmas.List.{length-map, length-append}
 use Rattle.std.specs.List.{filter, AllByRecursion}
 use Rattle.std.specs.Str.{bytes_eq}
+use Rattle.sf_base.proofs.Equality.{bytes_eq-self}
 use Rattle.sf_ast.specs.declared.word.Word.{Word}
 use Rattle.sf_ast.specs.Surface.{Procedure}
 use Rattle.sf_base.specs.declared.ids.Var.{Var}
@@ -17,7 +18,7 @@ use Rattle.sf_elab.specs.Declarations.{references_of, values_of, numbered}
 use Rattle.sf_elab.specs.Procedures.{local_words, is_among, is_primed, parameters_of, parameter_count, declared_count, body_values, body_variables, own_names, own_at, first_assignments}
 use Rattle.sf_elab.specs.Table.{Table, declare}
 use Rattle.sf_elab.specs.Texts.{text}
-use Rattle.sf_elab.proofs.TableLaws.{Finds, finds_none, finds_declared, finds_numbered, name_itself}
+use Rattle.sf_elab.proofs.TableLaws.{Finds, finds_none, finds_declared, finds_numbered}
 
 -- how many primed locals there are
 abbrev pub primed_count : List ℕ → Procedure → ℕ
@@ -84,7 +85,7 @@ among_them bytes (w ∷ ws) all h v = (or_right (bytes_eq (text bytes w) (text b
 
 pub each_among : (bytes : List ℕ) (ws : List Word) → AllByRecursion (λ w. is_among bytes ws (text bytes w) ≡ true) ws
 each_among bytes [] = tt
-each_among bytes (w ∷ ws) = (or_left (bytes_eq (text bytes w) (text bytes w)) (is_among bytes ws (text bytes w)) (name_itself (text bytes w)), among_them bytes ws ws (each_among bytes ws) w)
+each_among bytes (w ∷ ws) = (or_left (bytes_eq (text bytes w) (text bytes w)) (is_among bytes ws (text bytes w)) (bytes_eq-self (text bytes w)), among_them bytes ws ws (each_among bytes ws) w)
 
 -- how the body begins
 pub first_within : (p : c.Program) (g : c.Procedure) (primed : Word → Bool) (at : Place) (k q : ℕ) (ws : List Word)

@@ -1,7 +1,11 @@
--- Levels are scopes: what is in reach inside one and behind it, and which numbers are new.
+-- Levels are scopes: what is in reach inside one and after it, and which numbers are new.
 use Rattle.std.proofs.Common.{◌≡◌, inl, inr, ◌≤◌, ◌||◌, ℕ, Bool, true, false, cond, List, [], ◌∷◌, ◌++◌, length, slice_get, Option, Some, None, is_some, refl, sym, ◌∙◌, ap, subst, arith}
 use Rattle.std.proofs.lemmas.List.{append-nil, append_assoc, length-append}
+use Rattle.std.proofs.Math.Bool.{or-false, or_assoc}
 use Rattle.std.specs.Str.{bytes_eq}
+use Rattle.sf_base.proofs.Lookup.{get-middle}
+use Rattle.sf_base.proofs.Options.{some-once}
+use Rattle.sf_base.proofs.Equality.{bytes_eq-same}
 use Rattle.sf_ast.specs.declared.word.Word.{Word}
 use Rattle.sf_ast.specs.Surface as s
 use Rattle.sf_elab.specs.declared.levels.Levels.{Levels}
@@ -11,15 +15,7 @@ use Rattle.sf_elab.specs.Procedures.{is_among}
 use Rattle.sf_elab.specs.Table.{Table, find, has, declare}
 use Rattle.sf_elab.specs.Texts.{text}
 use Rattle.sf_elab.proofs.ExistentialsMade.{met_reach}
-use Rattle.sf_elab.proofs.TableLaws.{same_name, found_declared}
-
-or_false : (b : Bool) → (b || false) ≡ b
-or_false true = refl
-or_false false = refl
-
-or_assoc : (a b c : Bool) → ((a || b) || c) ≡ (a || (b || c))
-or_assoc true b c = refl
-or_assoc false b c = refl
+use Rattle.sf_elab.proofs.TableLaws.{found_declared}
 
 -- what has a name once one more is declared
 has_pushed : {A : Type 0} (name n : List ℕ) (a : A) (t : Table A) → has name (t ++ (n, a) ∷ []) ≡ (has name t || bytes_eq name n)
@@ -38,8 +34,8 @@ has_declared : {A : Type 0} (name n : List ℕ) (a : A) (t : Table A) → has na
 has_declared name n a t = go (has n t) refl
   where
     there : (c : Bool) → bytes_eq name n ≡ c → has n t ≡ true → has name t ≡ (has name t || c)
-    there false e h = sym (or_false (has name t))
-    there true e h = let own : has name t ≡ true = subst (λ m. has m t ≡ true) (sym (same_name name n e)) h in rw own refl
+    there false e h = sym (or-false (has name t))
+    there true e h = let own : has name t ≡ true = subst (λ m. has m t ≡ true) (sym (bytes_eq-same name n e)) h in rw own refl
 
     go : (b : Bool) → has n t ≡ b → has name (cond b t (t ++ (n, a) ∷ [])) ≡ (has name t || bytes_eq name n)
     go true h = there (bytes_eq name n) refl h
@@ -62,7 +58,7 @@ found_behind name n a t v h = go (has n t)
 
 -- what is in reach once those are met
 met_in_reach : (bytes : List ℕ) (l : Levels) (ws : List Word) (name : List ℕ) → has name (Levels.reach (meet_all bytes l ws)) ≡ (has name l.reach || is_among bytes ws name)
-met_in_reach bytes l [] name = sym (or_false (has name l.reach))
+met_in_reach bytes l [] name = sym (or-false (has name l.reach))
 met_in_reach bytes l (w ∷ ws) name =
     let one : has name (Levels.reach (meet bytes l w)) ≡ (has name l.reach || bytes_eq name (text bytes w)) = ap (λ t. has name t) (met_reach bytes l w) ∙ has_declared name (text bytes w) (length l.names) l.reach in
     met_in_reach bytes (meet bytes l w) ws name ∙ ap (λ b. b || is_among bytes ws name) one ∙ or_assoc (has name l.reach) (bytes_eq name (text bytes w)) (is_among bytes ws name)
@@ -72,7 +68,7 @@ met_kept bytes l [] name n h = h
 met_kept bytes l (w ∷ ws) name n h =
     met_kept bytes (meet bytes l w) ws name n (ap (λ t. find name t) (met_reach bytes l w) ∙ found_behind name (text bytes w) (length l.names) l.reach n h)
 
--- names that have others behind them
+-- names that have others after them
 abbrev IsGrown : (old new : List (List ℕ)) → Type 0
 IsGrown old new = (more : List (List ℕ)) × (new ≡ old ++ more)
 
@@ -125,10 +121,6 @@ mutual
   after_grown bytes l (s.star d a) =
       grown_twice l.names (Levels.names (after_conjunct bytes l d)) (Levels.names (after bytes l (s.star d a))) (conjunct_grown bytes l d) (after_grown bytes (after_conjunct bytes l d) a)
 
-get_there : (xs ys : List (List ℕ)) (x : List ℕ) → slice_get ((xs ++ x ∷ []) ++ ys) (length xs) ≡ Some x
-get_there [] ys x = refl
-get_there (z ∷ xs) ys x = get_there xs ys x
-
 -- the place of a name that was made, and that name there
 abbrev IsNew : Levels → Levels → List ℕ → ℕ → Type 0
 IsNew old new name n = (length old.names ≤ n) × (slice_get new.names n ≡ Some name)
@@ -139,10 +131,7 @@ new_here bytes l w ws name n h e q =
     let one : Levels.names (meet bytes l w) ≡ l.names ++ text bytes w ∷ [] = rw lacks refl in
     let more = all_grown bytes (meet bytes l w) ws in
     let all : Levels.names (meet_all bytes l (w ∷ ws)) ≡ (l.names ++ text bytes w ∷ []) ++ more.0 = more.1 ∙ ap (λ x. x ++ more.0) one in
-    (omega arith, ap (λ x. slice_get x n) all ∙ ap (λ k. slice_get ((l.names ++ text bytes w ∷ []) ++ more.0) k) q ∙ get_there l.names more.0 (text bytes w) ∙ ap Some (sym e))
-
-found_one : {A : Type 0} (o : Option A) (a b : A) → o ≡ Some a → o ≡ Some b → a ≡ b
-found_one o a b e f = cc
+    (omega arith, ap (λ x. slice_get x n) all ∙ ap (λ k. slice_get ((l.names ++ text bytes w ∷ []) ++ more.0) k) q ∙ get-middle l.names more.0 (text bytes w) ∙ ap Some (sym e))
 
 met_new : (bytes : List ℕ) (l : Levels) (ws : List Word) (name : List ℕ) (n : ℕ) → has name l.reach ≡ false → find name (Levels.reach (meet_all bytes l ws)) ≡ Some n → IsNew l (meet_all bytes l ws) name n
 met_new bytes l [] name n h f = let there : has name l.reach ≡ true = ap is_some f in absurd cc
@@ -154,7 +143,7 @@ met_new bytes l (w ∷ ws) name n h f = go (find name (Levels.reach (meet bytes 
         let grown = met_grown bytes l w in
         (omega (arith, rest.0, ap length grown.1, length-append l.names grown.0), rest.1)
     go (Some v) e later =
-        let same : v ≡ n = found_one (find name (Levels.reach (meet_all bytes l (w ∷ ws)))) v n (met_kept bytes (meet bytes l w) ws name v e) f in
+        let same : v ≡ n = some-once (find name (Levels.reach (meet_all bytes l (w ∷ ws)))) v n (met_kept bytes (meet bytes l w) ws name v e) f in
         elim (found_declared name (text bytes w) (length l.names) l.reach v (ap (λ t. find name t) (sym (met_reach bytes l w)) ∙ e)) [
           | inl before ↦ let there : has name l.reach ≡ true = ap is_some before in absurd cc
           | inr new ↦ new_here bytes l w ws name n h new.0 (sym same ∙ sym new.1)

@@ -13,7 +13,7 @@ use Rattle.sf_core.specs.Program.View.{conjuncts}
 use Rattle.sf_elab.specs.declared.levels.Levels.{Levels}
 use Rattle.sf_elab.specs.Assertions.{conjunct_of, conjuncts_of, level_of}
 use Rattle.sf_elab.specs.Existentials.{words_in, no_levels, meet, meet_all, opened, made_by, after_conjunct, after, after_level}
-use Rattle.sf_elab.specs.InSight.{Sight}
+use Rattle.sf_elab.specs.InEnv.{Env}
 use Rattle.sf_elab.specs.Table.{has}
 use Rattle.sf_elab.specs.Texts.{text}
 
@@ -47,7 +47,7 @@ scopes_joined [] ys rest = refl
 scopes_joined (x ∷ xs) ys rest = ap (conjunct_scopes x) (scopes_joined xs ys rest)
 
 mutual
-  counts_one : (i : Sight) (l : Levels) (d : s.Conjunct) (rest : List Scope) (to : ℕ) → Counts (length (Levels.names (after_conjunct i.bytes l d))) rest to → Counts (length l.names) (conjuncts_scopes (conjuncts (conjunct_of i l d)) rest) to
+  counts_one : (i : Env) (l : Levels) (d : s.Conjunct) (rest : List Scope) (to : ℕ) → Counts (length (Levels.names (after_conjunct i.bytes l d))) rest to → Counts (length l.names) (conjuncts_scopes (conjuncts (conjunct_of i l d)) rest) to
   counts_one i l (s.emp p) rest to h = h
   counts_one i l (s.group p a) rest to h = counts_all i l a rest to h
   counts_one i l (s.choose p t a b) rest to h =
@@ -62,14 +62,14 @@ mutual
   counts_one i l (s.list p x) rest to h = h
   counts_one i l (s.tree p x) rest to h = h
 
-  counts_all : (i : Sight) (l : Levels) (a : s.Assertion) (rest : List Scope) (to : ℕ) → Counts (length (Levels.names (after i.bytes l a))) rest to → Counts (length l.names) (conjuncts_scopes (conjuncts (conjuncts_of i l a)) rest) to
+  counts_all : (i : Env) (l : Levels) (a : s.Assertion) (rest : List Scope) (to : ℕ) → Counts (length (Levels.names (after i.bytes l a))) rest to → Counts (length l.names) (conjuncts_scopes (conjuncts (conjuncts_of i l a)) rest) to
   counts_all i l (s.only d) rest to h = counts_one i l d rest to h
   counts_all i l (s.star d a) rest to h =
       subst (λ (ss : List Scope). Counts (length l.names) ss to) (sym (scopes_joined (conjunct_of i l d) (conjuncts_of i (after_conjunct i.bytes l d) a) rest))
       (counts_one i l d _ to (counts_all i (after_conjunct i.bytes l d) a rest to h))
 
 -- a whole assertion's scopes number all that it has names for
-pub level_numbered : (i : Sight) (a : s.Assertion) → Counts 0 (level_scopes (level_of i no_levels a) []) (length (Levels.names (after_level i.bytes no_levels a)))
+pub level_numbered : (i : Env) (a : s.Assertion) → Counts 0 (level_scopes (level_of i no_levels a) []) (length (Levels.names (after_level i.bytes no_levels a)))
 level_numbered i a =
     let to : ℕ = length (Levels.names (after_level i.bytes no_levels a)) in
     level_counts i.bytes no_levels a _ to (counts_all i (opened i.bytes no_levels a) a [] to (tt, omega arith))

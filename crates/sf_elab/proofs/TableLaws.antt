@@ -1,25 +1,16 @@
 -- Tables: what is found among names that were declared.
-use Rattle.std.proofs.Common.{◌≡◌, ◌≢◌, ◌⊎◌, inl, inr, ◌≤◌, ◌<◌, ◌+◌, ℕ, Bool, true, false, cond, List, [], ◌∷◌, ◌++◌, length, Some, is_some, refl, sym, subst, arith}
+use Rattle.std.proofs.Common.{◌≡◌, ◌⊎◌, inl, inr, ◌≤◌, ◌<◌, ◌+◌, ℕ, Bool, true, false, cond, List, [], ◌∷◌, ◌++◌, length, Some, is_some, refl, sym, subst, arith}
 use Rattle.std.proofs.lemmas.Option.{cond_some}
-use Rattle.std.proofs.lemmas.Slice.Eq.{bytes_eq-Decides}
 use Rattle.std.specs.Str.{bytes_eq}
+use Rattle.sf_base.proofs.Equality.{bytes_eq-same, bytes_eq-self}
 use Rattle.sf_ast.specs.declared.word.Word.{Word}
 use Rattle.sf_elab.specs.Declarations.{numbered}
 use Rattle.sf_elab.specs.Table.{Table, find, has, declare}
 use Rattle.sf_elab.specs.Texts.{text}
 
-pub same_name : (m n : List ℕ) → bytes_eq m n ≡ true → m ≡ n
-same_name m n h = (bytes_eq-Decides m n).0 h
-
-pub name_itself : (n : List ℕ) → bytes_eq n n ≡ true
-name_itself n = (bytes_eq-Decides n n).1 refl
-
-pub other_name : (m n : List ℕ) → bytes_eq m n ≡ false → m ≢ n
-other_name m n h e = let t : bytes_eq m n ≡ true = (bytes_eq-Decides m n).1 e in absurd cc
-
 -- what stands for a name once one more was declared
 found_pushed : {A : Type 0} (name n : List ℕ) (a : A) (t : Table A) (v : A) → find name (t ++ (n, a) ∷ []) ≡ Some v → (find name t ≡ Some v) ⊎ ((name ≡ n) × (a ≡ v))
-found_pushed name n a [] v h = let both = cond_some (bytes_eq name n) a v h in inr (same_name name n both.0, both.1)
+found_pushed name n a [] v h = let both = cond_some (bytes_eq name n) a v h in inr (bytes_eq-same name n both.0, both.1)
 found_pushed name n a (e ∷ t) v h = go (bytes_eq name e.0) h (found_pushed name n a t v)
   where
     go : (b : Bool) → cond b (Some e.1) (find name (t ++ (n, a) ∷ [])) ≡ Some v → (find name (t ++ (n, a) ∷ []) ≡ Some v → (find name t ≡ Some v) ⊎ ((name ≡ n) × (a ≡ v)))
@@ -51,7 +42,7 @@ kept_declared name n a t h = go (has n t)
     go false = kept_pushed name n a t h
 
 there_pushed : {A : Type 0} (n : List ℕ) (a : A) (t : Table A) → has n (t ++ (n, a) ∷ []) ≡ true
-there_pushed n a [] = rw (name_itself n) refl
+there_pushed n a [] = rw (bytes_eq-self n) refl
 there_pushed n a (e ∷ t) = go (bytes_eq n e.0) (there_pushed n a t)
   where
     go : (b : Bool) → has n (t ++ (n, a) ∷ []) ≡ true → is_some (cond b (Some e.1) (find n (t ++ (n, a) ∷ []))) ≡ true

@@ -3,6 +3,7 @@ use Rattle.std.proofs.Common.{◌≡◌, ◌⊎◌, inl, inr, ℕ, zero, suc, �
 use Rattle.std.proofs.lemmas.List.{append-nil, length-map, length-append}
 use Rattle.std.proofs.Math.Seq.{take-append_seam}
 use Rattle.std.specs.List.{flat_map, filter}
+use Rattle.sf_base.proofs.Equality.{bytes_eq-other}
 use Rattle.sf_ast.specs.declared.word.Word.{Word}
 use Rattle.sf_ast.specs.Surface.{Resource, Procedure, Item}
 use Rattle.sf_base.specs.declared.ids.ResId.{ResId}
@@ -26,7 +27,7 @@ use Rattle.sf_elab.specs.Table.{Table, has, declare}
 use Rattle.sf_elab.specs.Texts.{text}
 use Rattle.sf_elab.proofs.DeclaredThings.{procedure_from}
 use Rattle.sf_elab.proofs.NoFaults.{none_both, none_three, none_four, none_five, none_where, none_at}
-use Rattle.sf_elab.proofs.TableLaws.{other_name, kept_declared, there_declared}
+use Rattle.sf_elab.proofs.TableLaws.{kept_declared, there_declared}
 
 -- none of those names is known, and no two of them are the same
 record Fresh (K : List ℕ → Type 0) (ns : List (List ℕ)) : Type 0 where
@@ -36,7 +37,7 @@ record Fresh (K : List ℕ → Type 0) (ns : List (List ℕ)) : Type 0 where
 fresh_none : (K : List ℕ → Type 0) → Fresh K []
 fresh_none K = record { new = λ i n h k. absurd cc; apart = λ i j n h g. absurd cc }
 
--- one more in front, which is known to those behind it
+-- one more before them, which is known to those after it
 fresh_one : (K : List ℕ → Type 0) (n : List ℕ) (ns : List (List ℕ)) → (K n → ⊥) → Fresh (λ m. K m ⊎ (m ≡ n)) ns → Fresh K (n ∷ ns)
 fresh_one K n ns h f = record { new = new; apart = apart }
   where
@@ -54,7 +55,7 @@ fresh_one K n ns h f = record { new = new; apart = apart }
 fresh_fewer : (K L : List ℕ → Type 0) (ns : List (List ℕ)) → ((m : List ℕ) → K m → L m) → Fresh L ns → Fresh K ns
 fresh_fewer K L ns h f = record { new = λ i n e k. f.new i n e (h n k); apart = f.apart }
 
--- a name is declared, and those behind it are new then
+-- a name is declared, and those after it are new then
 abbrev Known : {A : Type 0} → Table A → List ℕ → Type 0
 Known t m = has m t ≡ true
 
@@ -66,7 +67,7 @@ fresh_declared n a t ns h f =
       | inr e ↦ subst (λ (x : List ℕ). has x (declare n a t) ≡ true) (sym e) (there_declared n a t)
     ]) f)
 
--- names that are numbered, and those that come behind them
+-- names that are numbered, and those that come after them
 fresh_numbered : {A : Type 0} (bytes : List ℕ) (limit : ℕ) (stands : ℕ → A) (k : ℕ) (ws : List Word) (t : Table A) (ns : List (List ℕ)) → numbered_faults bytes limit stands k ws t ≡ []
     → Fresh (Known (numbered bytes stands k ws t)) ns → Fresh (Known t) (map (text bytes) ws ++ ns)
 fresh_numbered bytes limit stands k [] t ns h f = f
@@ -98,7 +99,7 @@ not_owned : (own all : Bool) (f g : Fault) → cond own (f ∷ []) (where_ all g
 not_owned true all f g h = absurd cc
 not_owned false all f g h = none_where all g h
 
--- the variables of one resource, and those that come behind them
+-- the variables of one resource, and those that come after them
 fresh_shared : (bytes : List ℕ) (k before i : ℕ) (ws : List Word) (own all : Table Var) (ns : List (List ℕ)) → shared_faults bytes k before i ws own all ≡ []
     → Fresh (Known (numbered bytes (shared_by k) i ws all)) ns → Fresh (Known all) (map (text bytes) ws ++ ns)
 fresh_shared bytes k before i [] own all ns h f = f
@@ -128,17 +129,17 @@ usual_distinct =
     let three : List ℕ → Type 0 = λ m. two m ⊎ (m ≡ left_name) in
     let right : Fresh three (right_name ∷ []) = fresh_one three right_name [] (λ k. elim k [
       | inl k ↦ elim k [
-        | inl k ↦ elim k [ inl k ↦ k | inr e ↦ other_name right_name hd refl e ]
-        | inr e ↦ other_name right_name next_name refl e
+        | inl k ↦ elim k [ inl k ↦ k | inr e ↦ bytes_eq-other right_name hd refl e ]
+        | inr e ↦ bytes_eq-other right_name next_name refl e
       ]
-      | inr e ↦ other_name right_name left_name refl e
+      | inr e ↦ bytes_eq-other right_name left_name refl e
     ]) (fresh_none (λ m. three m ⊎ (m ≡ right_name))) in
     let left : Fresh two (left_name ∷ right_name ∷ []) = fresh_one two left_name (right_name ∷ []) (λ k. elim k [
-      | inl k ↦ elim k [ inl k ↦ k | inr e ↦ other_name left_name hd refl e ]
-      | inr e ↦ other_name left_name next_name refl e
+      | inl k ↦ elim k [ inl k ↦ k | inr e ↦ bytes_eq-other left_name hd refl e ]
+      | inr e ↦ bytes_eq-other left_name next_name refl e
     ]) right in
     let next : Fresh one (next_name ∷ left_name ∷ right_name ∷ []) =
-    fresh_one one next_name (left_name ∷ right_name ∷ []) (λ k. elim k [ inl k ↦ k | inr e ↦ other_name next_name hd refl e ]) left in
+    fresh_one one next_name (left_name ∷ right_name ∷ []) (λ k. elim k [ inl k ↦ k | inr e ↦ bytes_eq-other next_name hd refl e ]) left in
     (fresh_one none hd (next_name ∷ left_name ∷ right_name ∷ []) (λ k. k) next).apart
 
 fields_distinct : (bytes : List ℕ) (ws : List Word) → numbered_faults bytes FIELDS nth_field 0 ws [] ≡ [] → AreDistinct (field_names bytes ws)

@@ -1,17 +1,17 @@
 -- A file's answer: its program where no fault is found, and else the first fault.
 use Rattle.std.proofs.Common.{◌≡◌, ℕ, ◌≤◌, List, [], ◌∷◌, Some, None, refl, sym, subst, ◌∙◌}
+use Rattle.std.proofs.lemmas.Option.{none-some}
 use Rattle.sf_ast.specs.Depth.{items_depth}
 use Rattle.sf_ast.specs.Surface as surface
 use Rattle.sf_core.specs.Program.Formed.{IsFormed}
 use Rattle.sf_core.specs.Program.Syntax as c
-use Rattle.sf_base.proofs.Cases.{none-not_some}
 use Rattle.sf_elab.specs.declared.fault.Fault.{Fault}
 use Rattle.sf_elab.specs.Elaborated.{elaborated, faults, Elaborates}
 use Rattle.sf_elab.specs.Faults.{earlier, first_of}
 use Rattle.sf_elab.proofs.FormedPrograms.{program_formed}
 
 some_stays : (fs : List Fault) (f : Fault) → first_of (Some f) fs ≡ None → ⊥
-some_stays [] f e = none-not_some f (sym e)
+some_stays [] f e = none-some f (sym e)
 some_stays (g ∷ gs) f e = some_stays gs (earlier (Some f) g) e
 
 -- where nothing is first there is nothing

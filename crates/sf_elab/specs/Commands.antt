@@ -1,5 +1,5 @@
 -- The commands of a file, numbered, and what is wrong with names in them.
--- Blocks vanish: their commands stand in their place. A command stands where its first token does.
+-- Blocks vanish: their commands are in their place. A command is where its first token is.
 -- The commands of Berdine, Calcagno and O'Hearn, "Smallfoot" (2005), with this project's own numbering.
 use Rattle.std.specs.Prelude.{◌==◌, ◌&&◌, Bool, not, cond, List, [], ◌∷◌, ◌++◌, map, length}
 use Rattle.sf_ast.specs.declared.word.SurfaceExpr.{SurfaceExpr}
@@ -11,7 +11,7 @@ use Rattle.sf_elab.specs.declared.fault.Fault.{Fault}
 use Rattle.sf_elab.specs.declared.fault.Fault.TheVariants.{Unknown, Arity}
 use Rattle.sf_elab.specs.Assertions.{maybe_of, maybe_faults}
 use Rattle.sf_elab.specs.Faults.{where_}
-use Rattle.sf_elab.specs.InSight.{Sight, occurrence, variable_faults, expr_of, expr_faults, expr_place, test_of, test_faults, field_of, field_faults, resource_named, resource_faults, header_named}
+use Rattle.sf_elab.specs.InEnv.{Env, occurrence, variable_faults, expr_of, expr_faults, expr_place, test_of, test_faults, field_of, field_faults, resource_named, resource_faults, header_named}
 use Rattle.sf_elab.specs.Table.{has}
 use Rattle.sf_elab.specs.Texts.{text}
 
@@ -26,7 +26,7 @@ values_in (values es) = es
 values_in (both ws es) = es
 
 -- a call
-abbrev pub call_of : Sight → Call → c.Call
+abbrev pub call_of : Env → Call → c.Call
 call_of s d = record {
   callee = (header_named s d.name).id;
   place = d.name.place;
@@ -35,7 +35,7 @@ call_of s d = record {
 }
 
 -- whether it has its procedure's counts
-abbrev pub fits : Sight → Call → Bool
+abbrev pub fits : Env → Call → Bool
 fits s d = (length (references_in d.arguments) == (header_named s d.name).references) && (length (values_in d.arguments) == (header_named s d.name).values)
 
 -- what is wrong with each of those
@@ -44,18 +44,18 @@ all_faults faults [] = []
 all_faults faults (x ∷ xs) = faults x ++ all_faults faults xs
 
 -- what is wrong with the procedure that a call names: there is none, or it has other counts
-abbrev pub callee_faults : Sight → Call → List Fault
+abbrev pub callee_faults : Env → Call → List Fault
 callee_faults s d =
     cond (has (text s.bytes d.name) s.declared.procedures) (where_ (not (fits s d)) (Arity d.name)) (Unknown d.name ∷ [])
 
 -- what is wrong with a call
-abbrev pub call_faults : Sight → Call → List Fault
+abbrev pub call_faults : Env → Call → List Fault
 call_faults s d = callee_faults s d ++ all_faults (variable_faults s) (references_in d.arguments) ++ all_faults (expr_faults s) (values_in d.arguments)
 
 -- the commands
 abbrev mutual
   -- a command: one, or those of a block
-  pub command_of : Sight → Command → List c.Command
+  pub command_of : Env → Command → List c.Command
   command_of s (assign x e) = c.assign x.place (occurrence s x) (expr_of s e) ∷ []
   command_of s (look_up x e f) = c.look_up x.place (occurrence s x) (expr_of s e) (field_of s f) ∷ []
   command_of s (new x) = c.new x.place (occurrence s x) ∷ []
@@ -71,14 +71,14 @@ abbrev mutual
   command_of s (block p ds) = commands_of s ds
 
   -- several, one after the other
-  pub commands_of : Sight → Commands → List c.Command
+  pub commands_of : Env → Commands → List c.Command
   commands_of s done = []
   commands_of s (then d ds) = command_of s d ++ commands_of s ds
 
 -- what is wrong with names in commands
 abbrev mutual
   -- in a command, in text order
-  pub command_faults : Sight → Command → List Fault
+  pub command_faults : Env → Command → List Fault
   command_faults s (assign x e) = variable_faults s x ++ expr_faults s e
   command_faults s (look_up x e f) = variable_faults s x ++ expr_faults s e ++ field_faults s f
   command_faults s (new x) = variable_faults s x
@@ -94,7 +94,7 @@ abbrev mutual
   command_faults s (block p ds) = commands_faults s ds
 
   -- in each of several
-  pub commands_faults : Sight → Commands → List Fault
+  pub commands_faults : Env → Commands → List Fault
   commands_faults s done = []
   commands_faults s (then d ds) = command_faults s d ++ commands_faults s ds
 

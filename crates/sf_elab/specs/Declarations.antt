@@ -19,7 +19,7 @@ use Rattle.sf_elab.specs.Faults.{where_}
 use Rattle.sf_elab.specs.Table.{Table, has, declare}
 use Rattle.sf_elab.specs.Texts.{text}
 
--- one name and those behind it
+-- one name and those after it
 abbrev pub words_of : Names → List Word
 words_of ns = ns.first ∷ ns.more
 

@@ -7,10 +7,10 @@ use Rattle.sf_core.specs.Program.Syntax as c
 use Rattle.sf_elab.specs.declared.declared.Declared.{Declared}
 use Rattle.sf_elab.specs.declared.fault.Fault.{Fault}
 use Rattle.sf_elab.specs.declared.fault.NameFault.{NameFault}
-use Rattle.sf_elab.specs.Assertions.{note_faults}
+use Rattle.sf_elab.specs.Assertions.{annotation_faults}
 use Rattle.sf_elab.specs.Commands.{all_faults}
 use Rattle.sf_elab.specs.Declarations.{field_words, field_names, resources_in, procedures_in, declared_by, declared_faults}
-use Rattle.sf_elab.specs.Faults.{first_of, told}
+use Rattle.sf_elab.specs.Faults.{first_of, named_fault}
 use Rattle.sf_elab.specs.Procedures.{procedure_of, procedure_faults, invariant_of, resource_of}
 
 -- the resources from that number on
@@ -21,9 +21,9 @@ resources_from bytes d k (r ∷ rs) = resource_of bytes d k r ∷ resources_from
 -- what is wrong with names in their invariants
 abbrev pub invariants_faults : List ℕ → Declared → ℕ → List Resource → List Fault
 invariants_faults bytes d k [] = []
-invariants_faults bytes d k (r ∷ rs) = note_faults (invariant_of bytes d k r) r.invariant ++ invariants_faults bytes d (k + 1) rs
+invariants_faults bytes d k (r ∷ rs) = annotation_faults (invariant_of bytes d k r) r.invariant ++ invariants_faults bytes d (k + 1) rs
 
--- the numbered program; where a name stands for nothing, some number stands in its place
+-- the numbered program; where a name stands for nothing, some number occurs in its place
 abbrev pub elaborated : List ℕ → List Item → c.Program
 elaborated bytes is = record {
   fields = field_names bytes (field_words is);
@@ -44,4 +44,4 @@ pub record Elaborates (bytes : List ℕ) (is : List Item) (p : c.Program) : Type
 
 -- FirstFault: this is the first of what is wrong, by its place, and at one place by its kind
 abbrev pub FirstFault : List ℕ → List Item → NameFault → Type 0
-FirstFault bytes is e = option_map (told bytes) (first_of None (faults bytes is)) ≡ Some e
+FirstFault bytes is e = option_map (named_fault bytes) (first_of None (faults bytes is)) ≡ Some e

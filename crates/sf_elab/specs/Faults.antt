@@ -17,7 +17,7 @@ link_name Next = next_name
 link_name Left = left_name
 link_name Right = right_name
 
--- where a fault stands
+-- where a fault is
 abbrev pub place_of : Fault → Place
 place_of (f.Unknown w) = w.place
 place_of (f.Twice w) = w.place
@@ -45,7 +45,7 @@ is_before p q = nat_lt p.line q.line || ((p.line == q.line) && nat_lt p.column q
 abbrev pub is_same_place : Place → Place → Bool
 is_same_place p q = (p.line == q.line) && (p.column == q.column)
 
--- whether a fault comes before another: it stands earlier, or at the same place and is of a lower kind
+-- whether a fault comes before another: it is earlier, or at the same place and is of a lower kind
 abbrev pub is_earlier : Fault → Fault → Bool
 is_earlier a b = is_before (place_of a) (place_of b) || (is_same_place (place_of a) (place_of b) && nat_lt (kind_of a) (kind_of b))
 
@@ -60,14 +60,14 @@ first_of found [] = found
 first_of found (b ∷ bs) = first_of (Some (earlier found b)) bs
 
 -- the fault with its name, as it is answered
-abbrev pub told : List ℕ → Fault → NameFault
-told bytes (f.Unknown w) = n.UnknownName w.place (text bytes w)
-told bytes (f.Twice w) = n.Twice w.place (text bytes w)
-told bytes (f.Arity w) = n.Arity w.place (text bytes w)
-told bytes (f.OwnedTwice w) = n.OwnedTwice w.place (text bytes w)
-told bytes (f.Foreign w) = n.ForeignVariable w.place (text bytes w)
-told bytes (f.Missing p l) = n.MissingField p (link_name l)
-told bytes (f.TooMany p) = n.TooMany p
+abbrev pub named_fault : List ℕ → Fault → NameFault
+named_fault bytes (f.Unknown w) = n.UnknownName w.place (text bytes w)
+named_fault bytes (f.Twice w) = n.Twice w.place (text bytes w)
+named_fault bytes (f.Arity w) = n.Arity w.place (text bytes w)
+named_fault bytes (f.OwnedTwice w) = n.OwnedTwice w.place (text bytes w)
+named_fault bytes (f.Foreign w) = n.ForeignVariable w.place (text bytes w)
+named_fault bytes (f.Missing p l) = n.MissingField p (link_name l)
+named_fault bytes (f.TooMany p) = n.TooMany p
 
 -- one fault where the test is true, and else none
 abbrev pub where_ : Bool → Fault → List Fault

@@ -57,7 +57,7 @@ pub record LevelsAreScopes : Type 0 where
   pub in_reach : (bytes : List ℕ) (l : Levels) (a : Assertion) (name : List ℕ) → has name (opened bytes l a).reach ≡ (has name l.reach || is_among bytes (words_in a) name)
   -- what was in reach keeps its number
   pub kept : (bytes : List ℕ) (l : Levels) (a : Assertion) (name : List ℕ) (n : ℕ) → find name l.reach ≡ Some n → find name (opened bytes l a).reach ≡ Some n
-  -- what is new has a number that was not taken, and its name stands at that place of all names, so no two have one number
+  -- what is new has a number that was not taken, and its name is at that place of all names, so no two have one number
   pub new : (bytes : List ℕ) (l : Levels) (a : Assertion) (name : List ℕ) (n : ℕ) → has name l.reach ≡ false → find name (opened bytes l a).reach ≡ Some n
       → (length l.names ≤ n) × (slice_get (opened bytes l a).names n ≡ Some name)
   -- once the level was read, what was in reach before it is in reach again, and nothing else

@@ -1,7 +1,7 @@
 pub mod Table
 pub mod Texts
 pub mod Faults
-pub mod InSight
+pub mod InEnv
 pub mod Existentials
 pub mod Assertions
 pub mod Commands

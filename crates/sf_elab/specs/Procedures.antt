@@ -16,10 +16,10 @@ use Rattle.sf_core.specs.Program.Syntax as c
 use Rattle.sf_core.specs.Program.View as v
 use Rattle.sf_elab.specs.declared.declared.Declared.{Declared}
 use Rattle.sf_elab.specs.declared.fault.Fault.{Fault}
-use Rattle.sf_elab.specs.Assertions.{note_of, maybe_of, maybe_faults}
+use Rattle.sf_elab.specs.Assertions.{annotation_of, maybe_of, maybe_faults}
 use Rattle.sf_elab.specs.Commands.{commands_of, commands_faults, set_in_all}
 use Rattle.sf_elab.specs.Declarations.{words_of, references_of, values_of, numbered, numbered_faults, shared_by}
-use Rattle.sf_elab.specs.InSight.{Sight}
+use Rattle.sf_elab.specs.InEnv.{Env}
 use Rattle.sf_elab.specs.Table.{Table, declare}
 use Rattle.sf_elab.specs.Texts.{text}
 
@@ -79,11 +79,11 @@ first_assignments primed at k p (w ∷ ws) =
     else first_assignments primed at (k + 1) p ws
 
 -- what a procedure's pre and post see
-abbrev pub outside_of : List ℕ → Declared → Procedure → Sight
+abbrev pub outside_of : List ℕ → Declared → Procedure → Env
 outside_of bytes d f = record { bytes = bytes; declared = d; own = parameters_of bytes f; in_invariant = false }
 
 -- what its body sees
-abbrev pub inside_of : List ℕ → Declared → Procedure → Sight
+abbrev pub inside_of : List ℕ → Declared → Procedure → Env
 inside_of bytes d f = record { bytes = bytes; declared = d; own = body_variables bytes f; in_invariant = false }
 
 -- a procedure
@@ -120,9 +120,9 @@ procedure_faults bytes d f =
     ++ local_faults bytes f ++ commands_faults (inside_of bytes d f) f.body
 
 -- what the invariant of the resource of that number sees: its own variables
-abbrev pub invariant_of : List ℕ → Declared → ℕ → Resource → Sight
+abbrev pub invariant_of : List ℕ → Declared → ℕ → Resource → Env
 invariant_of bytes d k r = record { bytes = bytes; declared = d; own = numbered bytes (shared_by k) 0 r.variables []; in_invariant = true }
 
 -- the resource of that number
 abbrev pub resource_of : List ℕ → Declared → ℕ → Resource → c.Resource
-resource_of bytes d k r = record { name = text bytes r.name; variables = map (text bytes) r.variables; invariant = note_of (invariant_of bytes d k r) r.invariant }
+resource_of bytes d k r = record { name = text bytes r.name; variables = map (text bytes) r.variables; invariant = annotation_of (invariant_of bytes d k r) r.invariant }

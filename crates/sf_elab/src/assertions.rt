@@ -1,9 +1,10 @@
 //! The assertions of a file, numbered.
 
 ghost use Rattle.std.specs.Prelude.{◌≡◌, ◌∷◌, ◌++◌, ◌-◌, [], map, IfOk, OnOk};
-ghost use Rattle.sf_ast.specs.View.{assertion_of as surface_assertion, conjunct_of as surface_conjunct, note_of as surface_note};
+ghost use Rattle.sf_base.specs.Results.{Appends};
+ghost use Rattle.sf_ast.specs.View.{assertion_of as surface_assertion, conjunct_of as surface_conjunct, annotation_of as surface_annotation};
 ghost use Rattle.sf_core.specs.Program.View as core;
-ghost use Rattle.sf_elab.specs.Assertions.{operand_of, operand_faults, operand_place, values_of, values_faults, link_of, segment_faults, tree_faults, conjunct_of, conjuncts_of, level_of, conjunct_faults, assertion_faults, note_of, note_faults, maybe_of, maybe_faults};
+ghost use Rattle.sf_elab.specs.Assertions.{operand_of, operand_faults, operand_place, values_of, values_faults, link_of, segment_faults, tree_faults, conjunct_of, conjuncts_of, level_of, conjunct_faults, assertion_faults, annotation_of, annotation_faults, maybe_of, maybe_faults};
 ghost use Rattle.sf_elab.specs.Existentials.{after, after_conjunct, after_level};
 ghost use Rattle.sf_core.specs.declared.assertion.Operand.TheVariants.{Known};
 ghost use Rattle.sf_core.specs.declared.assertion.Test.TheVariants.{Equal, Differ};
@@ -15,11 +16,11 @@ ghost use Rattle.sf_elab.specs.Faults.{link_name, where_};
 ghost use Rattle.sf_elab.specs.Table.{declare, find, has};
 ghost use Rattle.sf_elab.specs.Texts.{text as word_text};
 ghost use Rattle.std.specs.Option.{option_map};
-ghost use Rattle.sf_elab.specs.InSight.{sight_of, test_of, test_faults, field_of, field_faults};
+ghost use Rattle.sf_elab.specs.InEnv.{env_of, test_of, test_faults, field_of, field_faults};
 
+use crate::env::{Env, expr_place, report_if};
 use crate::fault::{Fault, Link};
 use crate::levels::Levels;
-use crate::sight::{Sight, expr_place, note_where};
 use crate::table::Table;
 use crate::texts::text;
 use sf_ast::{
@@ -40,7 +41,7 @@ pub fn link_name(link: Link) -> &'static [u8]
     }
 }
 
-/// Where the first token of an operand stands.
+/// Where the first token of an operand is.
 fn operand_place(x: &SurfaceOperand) -> Place
     ensures { result ≡ operand_place x.now }
 {
@@ -52,21 +53,21 @@ fn operand_place(x: &SurfaceOperand) -> Place
 
 /// An operand.
 fn operand(
-    sight: &Sight<'_>,
+    env: &Env<'_>,
     levels: &Levels,
     x: &SurfaceOperand,
     found: &mut Vec<Fault>,
 ) -> Result<Operand<Expr>, AllocError>
-    ensures same { IfOk result (λ y. y ≡ operand_of (sight_of sight.now) levels.now x.now) }
-    ensures faults { OnOk result (found.new.items ≡ found.old.items ++ operand_faults (sight_of sight.now) x.now) }
+    ensures same { IfOk result (λ y. y ≡ operand_of (env_of env.now) levels.now x.now) }
+    ensures faults { Appends result found.old.items found.new.items (operand_faults (env_of env.now) x.now) }
 {
     match x {
         SurfaceOperand::Known(e) => {
-            let e = sight.expr(*e, found)?;
+            let e = env.expr(*e, found)?;
             Ok(Operand::Known(e))
         }
         SurfaceOperand::Existential(word) => {
-            let number = levels.reach.find(text(sight.bytes, *word));
+            let number = levels.reach.find(text(env.bytes, *word));
             Ok(Operand::Exists(number.unwrap_or(0)))
         }
     }
@@ -74,24 +75,25 @@ fn operand(
 
 /// A test of operands.
 fn test(
-    sight: &Sight<'_>,
+    env: &Env<'_>,
     levels: &Levels,
     test: &SurfaceTest<SurfaceOperand>,
     found: &mut Vec<Fault>,
 ) -> Result<Test<Operand<Expr>>, AllocError>
-    ensures same { IfOk result (λ y. y ≡ test_of (operand_of (sight_of sight.now) levels.now) test.now) }
-    ensures faults { OnOk result (found.new.items ≡ found.old.items ++ test_faults (operand_faults (sight_of sight.now)) test.now) }
+    ensures same { IfOk result (λ y. y ≡ test_of (operand_of (env_of env.now) levels.now) test.now) }
+    ensures faults { Appends result found.old.items found.new.items
+        (test_faults (operand_faults (env_of env.now)) test.now) }
 {
     match test {
         SurfaceTest::True(_) => Ok(Test::True),
         SurfaceTest::Equal(x, y) => {
-            let x = operand(sight, levels, x, found)?;
-            let y = operand(sight, levels, y, found)?;
+            let x = operand(env, levels, x, found)?;
+            let y = operand(env, levels, y, found)?;
             Ok(Test::Equal(x, y))
         }
         SurfaceTest::Differ(x, y) => {
-            let x = operand(sight, levels, x, found)?;
-            let y = operand(sight, levels, y, found)?;
+            let x = operand(env, levels, x, found)?;
+            let y = operand(env, levels, y, found)?;
             Ok(Test::Differ(x, y))
         }
     }
@@ -100,18 +102,23 @@ fn test(
 /// The field of that name, with what is wrong where those are given already.
 fn field(
     alloc: Global,
-    sight: &Sight<'_>,
+    env: &Env<'_>,
     field: &SurfaceField,
     given: &mut Table<FieldId>,
     found: &mut Vec<Fault>,
 ) -> Result<FieldId, AllocError>
-    ensures same { IfOk result (λ y. y ≡ field_of (sight_of sight.now) field.now.name) }
-    ensures given { OnOk result (given.new ≡ declare (word_text sight.now.bytes.now field.now.name) (field_of (sight_of sight.now) field.now.name) given.old) }
-    ensures faults { OnOk result (found.new.items ≡ found.old.items ++ (field_faults (sight_of sight.now) field.now.name ++ where_ (has (word_text sight.now.bytes.now field.now.name) given.old) (Twice field.now.name))) }
+    ensures same { IfOk result (λ y. y ≡ field_of (env_of env.now) field.now.name) }
+    ensures given { OnOk result (given.new
+        ≡ declare (word_text env.now.bytes.now field.now.name)
+        (field_of (env_of env.now) field.now.name) given.old) }
+    ensures faults { Appends result found.old.items found.new.items
+        (field_faults (env_of env.now) field.now.name
+        ++ where_ (has (word_text env.now.bytes.now field.now.name) given.old)
+        (Twice field.now.name)) }
 {
-    let number = sight.field(field.name, found)?;
-    let name = text(sight.bytes, field.name);
-    note_where(given.find(name).is_some(), Fault::Twice(field.name), found)?;
+    let number = env.field(field.name, found)?;
+    let name = text(env.bytes, field.name);
+    report_if(given.find(name).is_some(), Fault::Twice(field.name), found)?;
     given.declare(alloc, name, number)?;
     Ok(number)
 }
@@ -119,54 +126,55 @@ fn field(
 /// The fields of a cell with their values.
 fn values(
     alloc: Global,
-    sight: &Sight<'_>,
+    env: &Env<'_>,
     levels: &Levels,
     fields: &[SurfaceField],
     found: &mut Vec<Fault>,
 ) -> Result<Vec<(FieldId, Operand<Expr>)>, AllocError>
-    ensures same { IfOk result (λ v. v.items ≡ values_of (sight_of sight.now) levels.now fields.now) }
-    ensures faults { OnOk result (found.new.items ≡ found.old.items ++ values_faults (sight_of sight.now) [] fields.now) }
+    ensures same { IfOk result (λ v. v.items ≡ values_of (env_of env.now) levels.now fields.now) }
+    ensures faults { Appends result found.old.items found.new.items
+        (values_faults (env_of env.now) [] fields.now) }
 {
     let mut given = Table::new(alloc);
     let mut done = Vec::new(alloc);
     for one in fields {
-        let number = field(alloc, sight, one, &mut given, found)?;
-        let value = operand(sight, levels, &one.value, found)?;
+        let number = field(alloc, env, one, &mut given, found)?;
+        let value = operand(env, levels, &one.value, found)?;
         done.push((number, value))?;
     }
     Ok(done)
 }
 
 /// The field that predicates follow.
-fn link(sight: &Sight<'_>, link: Link) -> Option<FieldId>
-    ensures { result ≡ find (link_name link) sight.now.declared.now.fields }
+fn link(env: &Env<'_>, link: Link) -> Option<FieldId>
+    ensures { result ≡ find (link_name link) env.now.declared.now.fields }
 {
-    sight.declared.fields.find(link_name(link))
+    env.declared.fields.find(link_name(link))
 }
 
 /// The field of a segment.
-fn next(sight: &Sight<'_>, place: Place, found: &mut Vec<Fault>) -> Result<FieldId, AllocError>
-    ensures same { IfOk result (λ y. y ≡ link_of (sight_of sight.now) Next) }
-    ensures faults { OnOk result (found.new.items ≡ found.old.items ++ segment_faults (sight_of sight.now) place) }
+fn next(env: &Env<'_>, place: Place, found: &mut Vec<Fault>) -> Result<FieldId, AllocError>
+    ensures same { IfOk result (λ y. y ≡ link_of (env_of env.now) Next) }
+    ensures faults { Appends result found.old.items found.new.items (segment_faults (env_of env.now) place) }
 {
-    let next = link(sight, Link::Next);
-    note_where(next.is_none(), Fault::Missing(place, Link::Next), found)?;
+    let next = link(env, Link::Next);
+    report_if(next.is_none(), Fault::Missing(place, Link::Next), found)?;
     Ok(next.unwrap_or(FieldId(0)))
 }
 
 /// The fields of a tree.
 fn both_links(
-    sight: &Sight<'_>,
+    env: &Env<'_>,
     place: Place,
     found: &mut Vec<Fault>,
 ) -> Result<(FieldId, FieldId), AllocError>
-    ensures same { IfOk result (λ y. y ≡ (link_of (sight_of sight.now) Left, link_of (sight_of sight.now) Right)) }
-    ensures faults { OnOk result (found.new.items ≡ found.old.items ++ tree_faults (sight_of sight.now) place) }
+    ensures same { IfOk result (λ y. y ≡ (link_of (env_of env.now) Left, link_of (env_of env.now) Right)) }
+    ensures faults { Appends result found.old.items found.new.items (tree_faults (env_of env.now) place) }
 {
-    let left = link(sight, Link::Left);
-    let right = link(sight, Link::Right);
-    note_where(left.is_none(), Fault::Missing(place, Link::Left), found)?;
-    note_where(right.is_none(), Fault::Missing(place, Link::Right), found)?;
+    let left = link(env, Link::Left);
+    let right = link(env, Link::Right);
+    report_if(left.is_none(), Fault::Missing(place, Link::Left), found)?;
+    report_if(right.is_none(), Fault::Missing(place, Link::Right), found)?;
     Ok((left.unwrap_or(FieldId(0)), right.unwrap_or(FieldId(0))))
 }
 
@@ -182,120 +190,143 @@ fn scope(first: u32, end: u32) -> Scope
 
 /// Two operands.
 fn sides(
-    sight: &Sight<'_>,
+    env: &Env<'_>,
     levels: &Levels,
     x: &SurfaceOperand,
     y: &SurfaceOperand,
     found: &mut Vec<Fault>,
 ) -> Result<(Operand<Expr>, Operand<Expr>), AllocError>
-    ensures left { IfOk result (λ z. z.0 ≡ operand_of (sight_of sight.now) levels.now x.now) }
-    ensures right { IfOk result (λ z. z.1 ≡ operand_of (sight_of sight.now) levels.now y.now) }
-    ensures faults { OnOk result (found.new.items ≡ found.old.items ++ (operand_faults (sight_of sight.now) x.now ++ operand_faults (sight_of sight.now) y.now)) }
+    ensures left { IfOk result (λ z. z.0 ≡ operand_of (env_of env.now) levels.now x.now) }
+    ensures right { IfOk result (λ z. z.1 ≡ operand_of (env_of env.now) levels.now y.now) }
+    ensures faults { Appends result found.old.items found.new.items (operand_faults (env_of env.now) x.now
+        ++ operand_faults (env_of env.now) y.now) }
 {
-    let left = operand(sight, levels, x, found)?;
-    let right = operand(sight, levels, y, found)?;
+    let left = operand(env, levels, x, found)?;
+    let right = operand(env, levels, y, found)?;
     Ok((left, right))
 }
 
 /// An equation.
 fn equal(
-    sight: &Sight<'_>,
+    env: &Env<'_>,
     levels: &Levels,
     x: &SurfaceOperand,
     y: &SurfaceOperand,
     found: &mut Vec<Fault>,
 ) -> Result<Conjunct<Expr>, AllocError>
-    ensures same { IfOk result (λ c. core.conjunct_of c ≡ holds (operand_place x.now) (Equal (operand_of (sight_of sight.now) levels.now x.now) (operand_of (sight_of sight.now) levels.now y.now))) }
-    ensures faults { OnOk result (found.new.items ≡ found.old.items ++ (operand_faults (sight_of sight.now) x.now ++ operand_faults (sight_of sight.now) y.now)) }
+    ensures same { IfOk result (λ c. core.conjunct_of c
+        ≡ holds (operand_place x.now)
+        (Equal (operand_of (env_of env.now) levels.now x.now)
+        (operand_of (env_of env.now) levels.now y.now))) }
+    ensures faults { Appends result found.old.items found.new.items (operand_faults (env_of env.now) x.now
+        ++ operand_faults (env_of env.now) y.now) }
 {
-    let (left, right) = sides(sight, levels, x, y, found)?;
+    let (left, right) = sides(env, levels, x, y, found)?;
     Ok(Conjunct::Holds(operand_place(x), Test::Equal(left, right)))
 }
 
 /// An inequation.
 fn differ(
-    sight: &Sight<'_>,
+    env: &Env<'_>,
     levels: &Levels,
     x: &SurfaceOperand,
     y: &SurfaceOperand,
     found: &mut Vec<Fault>,
 ) -> Result<Conjunct<Expr>, AllocError>
-    ensures same { IfOk result (λ c. core.conjunct_of c ≡ holds (operand_place x.now) (Differ (operand_of (sight_of sight.now) levels.now x.now) (operand_of (sight_of sight.now) levels.now y.now))) }
-    ensures faults { OnOk result (found.new.items ≡ found.old.items ++ (operand_faults (sight_of sight.now) x.now ++ operand_faults (sight_of sight.now) y.now)) }
+    ensures same { IfOk result (λ c. core.conjunct_of c
+        ≡ holds (operand_place x.now)
+        (Differ (operand_of (env_of env.now) levels.now x.now)
+        (operand_of (env_of env.now) levels.now y.now))) }
+    ensures faults { Appends result found.old.items found.new.items (operand_faults (env_of env.now) x.now
+        ++ operand_faults (env_of env.now) y.now) }
 {
-    let (left, right) = sides(sight, levels, x, y, found)?;
+    let (left, right) = sides(env, levels, x, y, found)?;
     Ok(Conjunct::Holds(operand_place(x), Test::Differ(left, right)))
 }
 
 /// A cell.
 fn points(
     alloc: Global,
-    sight: &Sight<'_>,
+    env: &Env<'_>,
     levels: &Levels,
     x: &SurfaceOperand,
     fields: &[SurfaceField],
     found: &mut Vec<Fault>,
 ) -> Result<Conjunct<Expr>, AllocError>
-    ensures same { IfOk result (λ c. core.conjunct_of c ≡ cell (operand_place x.now) (operand_of (sight_of sight.now) levels.now x.now) (values_of (sight_of sight.now) levels.now fields.now)) }
-    ensures faults { OnOk result (found.new.items ≡ found.old.items ++ (operand_faults (sight_of sight.now) x.now ++ values_faults (sight_of sight.now) [] fields.now)) }
+    ensures same { IfOk result (λ c. core.conjunct_of c
+        ≡ cell (operand_place x.now) (operand_of (env_of env.now) levels.now x.now)
+        (values_of (env_of env.now) levels.now fields.now)) }
+    ensures faults { Appends result found.old.items found.new.items (operand_faults (env_of env.now) x.now
+        ++ values_faults (env_of env.now) [] fields.now) }
 {
-    let at = operand(sight, levels, x, found)?;
-    let values = values(alloc, sight, levels, fields, found)?;
+    let at = operand(env, levels, x, found)?;
+    let values = values(alloc, env, levels, fields, found)?;
     Ok(Conjunct::Points(operand_place(x), at, values))
 }
 
 /// A segment between two operands.
 fn between(
-    sight: &Sight<'_>,
+    env: &Env<'_>,
     levels: &Levels,
     place: Place,
     x: &SurfaceOperand,
     y: &SurfaceOperand,
     found: &mut Vec<Fault>,
 ) -> Result<Conjunct<Expr>, AllocError>
-    ensures same { IfOk result (λ c. core.conjunct_of c ≡ segment place (link_of (sight_of sight.now) Next) (operand_of (sight_of sight.now) levels.now x.now) (operand_of (sight_of sight.now) levels.now y.now)) }
-    ensures faults { OnOk result (found.new.items ≡ found.old.items ++ (segment_faults (sight_of sight.now) place ++ operand_faults (sight_of sight.now) x.now ++ operand_faults (sight_of sight.now) y.now)) }
+    ensures same { IfOk result (λ c. core.conjunct_of c
+        ≡ segment place (link_of (env_of env.now) Next)
+        (operand_of (env_of env.now) levels.now x.now)
+        (operand_of (env_of env.now) levels.now y.now)) }
+    ensures faults { Appends result found.old.items found.new.items (segment_faults (env_of env.now) place
+        ++ operand_faults (env_of env.now) x.now ++ operand_faults (env_of env.now) y.now) }
 {
-    let next = next(sight, place, found)?;
-    let (left, right) = sides(sight, levels, x, y, found)?;
+    let next = next(env, place, found)?;
+    let (left, right) = sides(env, levels, x, y, found)?;
     Ok(Conjunct::Segment(place, next, left, right))
 }
 
 /// A whole list.
 fn list(
-    sight: &Sight<'_>,
+    env: &Env<'_>,
     levels: &Levels,
     place: Place,
     x: &SurfaceOperand,
     found: &mut Vec<Fault>,
 ) -> Result<Conjunct<Expr>, AllocError>
-    ensures same { IfOk result (λ c. core.conjunct_of c ≡ segment place (link_of (sight_of sight.now) Next) (operand_of (sight_of sight.now) levels.now x.now) (Known Nil)) }
-    ensures faults { OnOk result (found.new.items ≡ found.old.items ++ (segment_faults (sight_of sight.now) place ++ operand_faults (sight_of sight.now) x.now)) }
+    ensures same { IfOk result (λ c. core.conjunct_of c
+        ≡ segment place (link_of (env_of env.now) Next)
+        (operand_of (env_of env.now) levels.now x.now) (Known Nil)) }
+    ensures faults { Appends result found.old.items found.new.items (segment_faults (env_of env.now) place
+        ++ operand_faults (env_of env.now) x.now) }
 {
-    let next = next(sight, place, found)?;
-    let first = operand(sight, levels, x, found)?;
+    let next = next(env, place, found)?;
+    let first = operand(env, levels, x, found)?;
     Ok(Conjunct::Segment(place, next, first, Operand::Known(Expr::Nil)))
 }
 
 /// A tree.
 fn tree(
-    sight: &Sight<'_>,
+    env: &Env<'_>,
     levels: &Levels,
     place: Place,
     x: &SurfaceOperand,
     found: &mut Vec<Fault>,
 ) -> Result<Conjunct<Expr>, AllocError>
-    ensures same { IfOk result (λ c. core.conjunct_of c ≡ tree place (link_of (sight_of sight.now) Left) (link_of (sight_of sight.now) Right) (operand_of (sight_of sight.now) levels.now x.now)) }
-    ensures faults { OnOk result (found.new.items ≡ found.old.items ++ (tree_faults (sight_of sight.now) place ++ operand_faults (sight_of sight.now) x.now)) }
+    ensures same { IfOk result (λ c. core.conjunct_of c
+        ≡ tree place (link_of (env_of env.now) Left) (link_of (env_of env.now) Right)
+        (operand_of (env_of env.now) levels.now x.now)) }
+    ensures faults { Appends result found.old.items found.new.items (tree_faults (env_of env.now) place
+        ++ operand_faults (env_of env.now) x.now) }
 {
-    let (left, right) = both_links(sight, place, found)?;
-    let root = operand(sight, levels, x, found)?;
+    let (left, right) = both_links(env, place, found)?;
+    let root = operand(env, levels, x, found)?;
     Ok(Conjunct::Tree(place, left, right, root))
 }
 
 /// Appends a conjunct that was made.
 fn push(one: Conjunct<Expr>, done: &mut Vec<Conjunct<Expr>>) -> Result<(), AllocError>
-    ensures { OnOk result (map core.conjunct_of done.new.items ≡ map core.conjunct_of done.old.items ++ core.conjunct_of one ∷ []) }
+    ensures { Appends result (map core.conjunct_of done.old.items) (map core.conjunct_of done.new.items)
+        (core.conjunct_of one ∷ []) }
 {
     done.push(one)?;
     Ok(())
@@ -305,33 +336,36 @@ fn push(one: Conjunct<Expr>, done: &mut Vec<Conjunct<Expr>>) -> Result<(), Alloc
 #[cycle(levels)]
 fn add_conjunct(
     alloc: Global,
-    sight: &Sight<'_>,
+    env: &Env<'_>,
     levels: &mut Levels,
     c: &SurfaceConjunct,
     done: &mut Vec<Conjunct<Expr>>,
     found: &mut Vec<Fault>,
 ) -> Result<(), AllocError>
-    ensures conjuncts { OnOk result (map core.conjunct_of done.new.items ≡ map core.conjunct_of done.old.items ++ conjunct_of (sight_of sight.now) levels.old (surface_conjunct c.now)) }
-    ensures levels { OnOk result (levels.new ≡ after_conjunct sight.now.bytes.now levels.old (surface_conjunct c.now)) }
-    ensures faults { OnOk result (found.new.items ≡ found.old.items ++ conjunct_faults (sight_of sight.now) (surface_conjunct c.now)) }
+    ensures conjuncts { Appends result (map core.conjunct_of done.old.items) (map core.conjunct_of done.new.items)
+        (conjunct_of (env_of env.now) levels.old (surface_conjunct c.now)) }
+    ensures levels { OnOk result (levels.new
+        ≡ after_conjunct env.now.bytes.now levels.old (surface_conjunct c.now)) }
+    ensures faults { Appends result found.old.items found.new.items
+        (conjunct_faults (env_of env.now) (surface_conjunct c.now)) }
 {
     match c {
         SurfaceConjunct::Emp(_) => Ok(()),
-        SurfaceConjunct::Group(_, all) => add_conjuncts(alloc, sight, levels, all, done, found),
+        SurfaceConjunct::Group(_, all) => add_conjuncts(alloc, env, levels, all, done, found),
         SurfaceConjunct::If(p, b, this, that) | SurfaceConjunct::IfRound(p, b, this, that) => {
-            let test = test(sight, levels, b, found)?;
-            let this = branch(alloc, sight, levels, this, found)?;
-            let that = branch(alloc, sight, levels, that, found)?;
+            let test = test(env, levels, b, found)?;
+            let this = branch(alloc, env, levels, this, found)?;
+            let that = branch(alloc, env, levels, that, found)?;
             push(Conjunct::If(*p, test, this, that), done)
         }
-        SurfaceConjunct::Equal(x, y) => push(equal(sight, levels, x, y, found)?, done),
-        SurfaceConjunct::Differ(x, y) => push(differ(sight, levels, x, y, found)?, done),
-        SurfaceConjunct::Points(x, fs) => push(points(alloc, sight, levels, x, fs, found)?, done),
+        SurfaceConjunct::Equal(x, y) => push(equal(env, levels, x, y, found)?, done),
+        SurfaceConjunct::Differ(x, y) => push(differ(env, levels, x, y, found)?, done),
+        SurfaceConjunct::Points(x, fs) => push(points(alloc, env, levels, x, fs, found)?, done),
         SurfaceConjunct::Ls(p, x, y) | SurfaceConjunct::Lseg(p, x, y) => {
-            push(between(sight, levels, *p, x, y, found)?, done)
+            push(between(env, levels, *p, x, y, found)?, done)
         }
-        SurfaceConjunct::List(p, x) => push(list(sight, levels, *p, x, found)?, done),
-        SurfaceConjunct::Tree(p, x) => push(tree(sight, levels, *p, x, found)?, done),
+        SurfaceConjunct::List(p, x) => push(list(env, levels, *p, x, found)?, done),
+        SurfaceConjunct::Tree(p, x) => push(tree(env, levels, *p, x, found)?, done),
     }
 }
 
@@ -339,19 +373,21 @@ fn add_conjunct(
 #[cycle(levels)]
 fn add_conjuncts(
     alloc: Global,
-    sight: &Sight<'_>,
+    env: &Env<'_>,
     levels: &mut Levels,
     level: &SurfaceAssertion,
     done: &mut Vec<Conjunct<Expr>>,
     found: &mut Vec<Fault>,
 ) -> Result<(), AllocError>
-    ensures conjuncts { OnOk result (map core.conjunct_of done.new.items ≡ map core.conjunct_of done.old.items ++ conjuncts_of (sight_of sight.now) levels.old (surface_assertion level.now)) }
-    ensures levels { OnOk result (levels.new ≡ after sight.now.bytes.now levels.old (surface_assertion level.now)) }
-    ensures faults { OnOk result (found.new.items ≡ found.old.items ++ assertion_faults (sight_of sight.now) (surface_assertion level.now)) }
+    ensures conjuncts { Appends result (map core.conjunct_of done.old.items) (map core.conjunct_of done.new.items)
+        (conjuncts_of (env_of env.now) levels.old (surface_assertion level.now)) }
+    ensures levels { OnOk result (levels.new ≡ after env.now.bytes.now levels.old (surface_assertion level.now)) }
+    ensures faults { Appends result found.old.items found.new.items
+        (assertion_faults (env_of env.now) (surface_assertion level.now)) }
 {
-    add_conjunct(alloc, sight, levels, &level.first, done, found)?;
+    add_conjunct(alloc, env, levels, &level.first, done, found)?;
     for c in &level.more {
-        add_conjunct(alloc, sight, levels, c, done, found)?;
+        add_conjunct(alloc, env, levels, c, done, found)?;
     }
     Ok(())
 }
@@ -360,40 +396,45 @@ fn add_conjuncts(
 #[cycle(levels)]
 fn branch(
     alloc: Global,
-    sight: &Sight<'_>,
+    env: &Env<'_>,
     levels: &mut Levels,
     level: &SurfaceAssertion,
     found: &mut Vec<Fault>,
 ) -> Result<Level<Expr>, AllocError>
-    ensures same { IfOk result (λ x. core.level_of x ≡ level_of (sight_of sight.now) levels.old (surface_assertion level.now)) }
-    ensures levels { OnOk result (levels.new ≡ after_level sight.now.bytes.now levels.old (surface_assertion level.now)) }
-    ensures faults { OnOk result (found.new.items ≡ found.old.items ++ assertion_faults (sight_of sight.now) (surface_assertion level.now)) }
+    ensures same { IfOk result (λ x. core.level_of x
+        ≡ level_of (env_of env.now) levels.old (surface_assertion level.now)) }
+    ensures levels { OnOk result (levels.new
+        ≡ after_level env.now.bytes.now levels.old (surface_assertion level.now)) }
+    ensures faults { Appends result found.old.items found.new.items
+        (assertion_faults (env_of env.now) (surface_assertion level.now)) }
 {
     let outside = levels.reach.len();
     let first = levels.names.len();
-    levels.enter(alloc, sight.bytes, level)?;
+    levels.enter(alloc, env.bytes, level)?;
     let made = scope(first, levels.names.len());
     let mut conjuncts = Vec::new(alloc);
-    add_conjuncts(alloc, sight, levels, level, &mut conjuncts, found)?;
-    levels.reach.cut(outside);
+    add_conjuncts(alloc, env, levels, level, &mut conjuncts, found)?;
+    levels.reach.truncate(outside);
     Ok(Level { made, conjuncts })
 }
 
-/// What stands in square brackets, as a whole assertion.
-pub fn note(
+/// What occurs in square brackets, as a whole assertion.
+pub fn annotation(
     alloc: Global,
-    sight: &Sight<'_>,
-    note: &SurfaceNote,
+    env: &Env<'_>,
+    annotation: &SurfaceNote,
     found: &mut Vec<Fault>,
 ) -> Result<Assertion, AllocError>
-    ensures same { IfOk result (λ x. core.assertion_of x ≡ note_of (sight_of sight.now) (surface_note note.now)) }
-    ensures faults { OnOk result (found.new.items ≡ found.old.items ++ note_faults (sight_of sight.now) (surface_note note.now)) }
+    ensures same { IfOk result (λ x. core.assertion_of x
+        ≡ annotation_of (env_of env.now) (surface_annotation annotation.now)) }
+    ensures faults { Appends result found.old.items found.new.items
+        (annotation_faults (env_of env.now) (surface_annotation annotation.now)) }
 {
-    match &note.assertion {
+    match &annotation.assertion {
         None => Ok(empty(alloc)),
         Some(assertion) => {
             let mut levels = Levels::new(alloc);
-            let level = branch(alloc, sight, &mut levels, assertion, found)?;
+            let level = branch(alloc, env, &mut levels, assertion, found)?;
             Ok(Assertion {
                 names: levels.names.into_vec(),
                 level,
@@ -404,7 +445,8 @@ pub fn note(
 
 /// The assertion that says nothing.
 fn empty(alloc: Global) -> Assertion
-    ensures { core.assertion_of result ≡ record { names = []; level = level (record { first = 0; count = 0 }) none } }
+    ensures { core.assertion_of result
+        ≡ record { names = []; level = level (record { first = 0; count = 0 }) none } }
 {
     Assertion {
         names: Vec::new(alloc),
@@ -418,15 +460,17 @@ fn empty(alloc: Global) -> Assertion
 /// A note that may be left out.
 pub fn maybe(
     alloc: Global,
-    sight: &Sight<'_>,
+    env: &Env<'_>,
     maybe: &Option<SurfaceNote>,
     found: &mut Vec<Fault>,
 ) -> Result<Assertion, AllocError>
-    ensures same { IfOk result (λ x. core.assertion_of x ≡ maybe_of (sight_of sight.now) (option_map surface_note maybe.now)) }
-    ensures faults { OnOk result (found.new.items ≡ found.old.items ++ maybe_faults (sight_of sight.now) (option_map surface_note maybe.now)) }
+    ensures same { IfOk result (λ x. core.assertion_of x
+        ≡ maybe_of (env_of env.now) (option_map surface_annotation maybe.now)) }
+    ensures faults { Appends result found.old.items found.new.items
+        (maybe_faults (env_of env.now) (option_map surface_annotation maybe.now)) }
 {
     match maybe {
         None => Ok(empty(alloc)),
-        Some(one) => note(alloc, sight, one, found),
+        Some(one) => annotation(alloc, env, one, found),
     }
 }

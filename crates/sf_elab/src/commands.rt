@@ -1,18 +1,19 @@
 //! The commands of a file, numbered.
 
-ghost use Rattle.std.specs.Prelude.{◌≡◌, ◌∷◌, ◌++◌, ◌≤◌, [], map, length, is_some, IfOk, OnOk};
+ghost use Rattle.std.specs.Prelude.{◌≡◌, ◌∷◌, ◌++◌, ◌≤◌, [], map, length, is_some, IfOk};
+ghost use Rattle.sf_base.specs.Results.{Appends};
 ghost use Rattle.std.specs.Option.{option_map};
-ghost use Rattle.sf_ast.specs.View.{arguments_of, call_of as surface_call, command_of as surface_command, commands as surface_commands, note_of as surface_note};
+ghost use Rattle.sf_ast.specs.View.{arguments_of, call_of as surface_call, command_of as surface_command, commands as surface_commands, annotation_of as surface_annotation};
 ghost use Rattle.sf_core.specs.Program.Syntax as syntax;
 ghost use Rattle.sf_core.specs.Program.View as core;
 ghost use Rattle.sf_elab.specs.Assertions.{maybe_faults, maybe_of};
 ghost use Rattle.sf_elab.specs.Commands.{references_in, values_in, call_of, fits, all_faults, callee_faults, call_faults, command_of, commands_of, command_faults, commands_faults, set_in, set_in_all};
-ghost use Rattle.sf_elab.specs.InSight.{sight_of, occurrence, variable_faults, expr_of, expr_faults, expr_place as place_of_expr, field_of, field_faults, test_of, test_faults, resource_named, resource_faults, header_named};
+ghost use Rattle.sf_elab.specs.InEnv.{env_of, occurrence, variable_faults, expr_of, expr_faults, expr_place as place_of_expr, field_of, field_faults, test_of, test_faults, resource_named, resource_faults, header_named};
 
 use crate::assertions::maybe;
 use crate::declared::Header;
+use crate::env::{Env, expr_place, report_if};
 use crate::fault::Fault;
-use crate::sight::{Sight, expr_place, note_where};
 use crate::texts::text;
 use sf_ast::{
     SurfaceArguments, SurfaceCall, SurfaceCommand, SurfaceExpr, SurfaceNote, SurfaceTest, Word,
@@ -44,16 +45,17 @@ fn values_in(arguments: &SurfaceArguments) -> &[SurfaceExpr]
 /// The variables that those words name.
 fn references(
     alloc: Global,
-    sight: &Sight<'_>,
+    env: &Env<'_>,
     words: &[Word],
     found: &mut Vec<Fault>,
 ) -> Result<Vec<Occurrence>, AllocError>
-    ensures same { IfOk result (λ v. v.items ≡ map (occurrence (sight_of sight.now)) words.now) }
-    ensures faults { OnOk result (found.new.items ≡ found.old.items ++ all_faults (variable_faults (sight_of sight.now)) words.now) }
+    ensures same { IfOk result (λ v. v.items ≡ map (occurrence (env_of env.now)) words.now) }
+    ensures faults { Appends result found.old.items found.new.items
+        (all_faults (variable_faults (env_of env.now)) words.now) }
 {
     let mut done = Vec::new(alloc);
     for word in words {
-        let one = sight.occurrence(*word, found)?;
+        let one = env.occurrence(*word, found)?;
         done.push(one)?;
     }
     Ok(done)
@@ -62,35 +64,33 @@ fn references(
 /// Those expressions.
 fn values(
     alloc: Global,
-    sight: &Sight<'_>,
+    env: &Env<'_>,
     exprs: &[SurfaceExpr],
     found: &mut Vec<Fault>,
 ) -> Result<Vec<Expr>, AllocError>
-    ensures same { IfOk result (λ v. v.items ≡ map (expr_of (sight_of sight.now)) exprs.now) }
-    ensures faults { OnOk result (found.new.items ≡ found.old.items ++ all_faults (expr_faults (sight_of sight.now)) exprs.now) }
+    ensures same { IfOk result (λ v. v.items ≡ map (expr_of (env_of env.now)) exprs.now) }
+    ensures faults { Appends result found.old.items found.new.items
+        (all_faults (expr_faults (env_of env.now)) exprs.now) }
 {
     let mut done = Vec::new(alloc);
     for e in exprs {
-        let one = sight.expr(*e, found)?;
+        let one = env.expr(*e, found)?;
         done.push(one)?;
     }
     Ok(done)
 }
 
 /// The procedure that a call names, with what is wrong where it has other counts.
-fn callee(
-    sight: &Sight<'_>,
-    call: &SurfaceCall,
-    found: &mut Vec<Fault>,
-) -> Result<ProcId, AllocError>
-    ensures same { IfOk result (λ f. f ≡ (header_named (sight_of sight.now) (surface_call call.now).name).id) }
-    ensures faults { OnOk result (found.new.items ≡ found.old.items ++ callee_faults (sight_of sight.now) (surface_call call.now)) }
+fn callee(env: &Env<'_>, call: &SurfaceCall, found: &mut Vec<Fault>) -> Result<ProcId, AllocError>
+    ensures same { IfOk result (λ f. f ≡ (header_named (env_of env.now) (surface_call call.now).name).id) }
+    ensures faults { Appends result found.old.items found.new.items
+        (callee_faults (env_of env.now) (surface_call call.now)) }
 {
-    match sight.declared.procedures.find(text(sight.bytes, call.name)) {
+    match env.declared.procedures.find(text(env.bytes, call.name)) {
         Some(header) => {
             let fits = references_in(&call.arguments).len() == header.references
                 && values_in(&call.arguments).len() == header.values;
-            note_where(!fits, Fault::Arity(call.name), found)?;
+            report_if(!fits, Fault::Arity(call.name), found)?;
             Ok(header.id)
         }
         None => {
@@ -103,16 +103,17 @@ fn callee(
 /// A call.
 fn call(
     alloc: Global,
-    sight: &Sight<'_>,
+    env: &Env<'_>,
     call: &SurfaceCall,
     found: &mut Vec<Fault>,
 ) -> Result<Call, AllocError>
-    ensures same { IfOk result (λ x. core.call_of x ≡ call_of (sight_of sight.now) (surface_call call.now)) }
-    ensures faults { OnOk result (found.new.items ≡ found.old.items ++ call_faults (sight_of sight.now) (surface_call call.now)) }
+    ensures same { IfOk result (λ x. core.call_of x ≡ call_of (env_of env.now) (surface_call call.now)) }
+    ensures faults { Appends result found.old.items found.new.items
+        (call_faults (env_of env.now) (surface_call call.now)) }
 {
-    let callee = callee(sight, call, found)?;
-    let references = references(alloc, sight, references_in(&call.arguments), found)?;
-    let values = values(alloc, sight, values_in(&call.arguments), found)?;
+    let callee = callee(env, call, found)?;
+    let references = references(alloc, env, references_in(&call.arguments), found)?;
+    let values = values(alloc, env, values_in(&call.arguments), found)?;
     Ok(Call {
         callee,
         place: call.name.place,
@@ -123,142 +124,162 @@ fn call(
 
 /// An assignment.
 fn assign(
-    sight: &Sight<'_>,
+    env: &Env<'_>,
     x: Word,
     e: SurfaceExpr,
     found: &mut Vec<Fault>,
 ) -> Result<Command, AllocError>
-    ensures same { IfOk result (λ one. core.command_of one ≡ syntax.assign x.place (occurrence (sight_of sight.now) x) (expr_of (sight_of sight.now) e)) }
-    ensures faults { OnOk result (found.new.items ≡ found.old.items ++ (variable_faults (sight_of sight.now) x ++ expr_faults (sight_of sight.now) e)) }
+    ensures same { IfOk result (λ one. core.command_of one
+        ≡ syntax.assign x.place (occurrence (env_of env.now) x) (expr_of (env_of env.now) e)) }
+    ensures faults { Appends result found.old.items found.new.items (variable_faults (env_of env.now) x
+        ++ expr_faults (env_of env.now) e) }
 {
-    let var = sight.occurrence(x, found)?;
-    let e = sight.expr(e, found)?;
+    let var = env.occurrence(x, found)?;
+    let e = env.expr(e, found)?;
     Ok(Command::Assign(x.place, var, e))
 }
 
 /// A look-up.
 fn look_up(
-    sight: &Sight<'_>,
+    env: &Env<'_>,
     x: Word,
     e: SurfaceExpr,
     field: Word,
     found: &mut Vec<Fault>,
 ) -> Result<Command, AllocError>
-    ensures same { IfOk result (λ one. core.command_of one ≡ syntax.look_up x.place (occurrence (sight_of sight.now) x) (expr_of (sight_of sight.now) e) (field_of (sight_of sight.now) field)) }
-    ensures faults { OnOk result (found.new.items ≡ found.old.items ++ (variable_faults (sight_of sight.now) x ++ expr_faults (sight_of sight.now) e ++ field_faults (sight_of sight.now) field)) }
+    ensures same { IfOk result (λ one. core.command_of one
+        ≡ syntax.look_up x.place (occurrence (env_of env.now) x) (expr_of (env_of env.now) e)
+        (field_of (env_of env.now) field)) }
+    ensures faults { Appends result found.old.items found.new.items (variable_faults (env_of env.now) x
+        ++ expr_faults (env_of env.now) e ++ field_faults (env_of env.now) field) }
 {
-    let var = sight.occurrence(x, found)?;
-    let e = sight.expr(e, found)?;
-    let field = sight.field(field, found)?;
+    let var = env.occurrence(x, found)?;
+    let e = env.expr(e, found)?;
+    let field = env.field(field, found)?;
     Ok(Command::LookUp(x.place, var, e, field))
 }
 
 /// A `new`.
-fn new_cell(sight: &Sight<'_>, x: Word, found: &mut Vec<Fault>) -> Result<Command, AllocError>
-    ensures same { IfOk result (λ one. core.command_of one ≡ syntax.new x.place (occurrence (sight_of sight.now) x)) }
-    ensures faults { OnOk result (found.new.items ≡ found.old.items ++ variable_faults (sight_of sight.now) x) }
+fn new_cell(env: &Env<'_>, x: Word, found: &mut Vec<Fault>) -> Result<Command, AllocError>
+    ensures same { IfOk result (λ one. core.command_of one
+        ≡ syntax.new x.place (occurrence (env_of env.now) x)) }
+    ensures faults { Appends result found.old.items found.new.items (variable_faults (env_of env.now) x) }
 {
-    let var = sight.occurrence(x, found)?;
+    let var = env.occurrence(x, found)?;
     Ok(Command::New(x.place, var))
 }
 
 /// A mutation.
 fn mutate(
-    sight: &Sight<'_>,
+    env: &Env<'_>,
     e: SurfaceExpr,
     field: Word,
     value: SurfaceExpr,
     found: &mut Vec<Fault>,
 ) -> Result<Command, AllocError>
-    ensures same { IfOk result (λ one. core.command_of one ≡ syntax.mutate (place_of_expr e) (expr_of (sight_of sight.now) e) (field_of (sight_of sight.now) field) (expr_of (sight_of sight.now) value)) }
-    ensures faults { OnOk result (found.new.items ≡ found.old.items ++ (expr_faults (sight_of sight.now) e ++ field_faults (sight_of sight.now) field ++ expr_faults (sight_of sight.now) value)) }
+    ensures same { IfOk result (λ one. core.command_of one
+        ≡ syntax.mutate (place_of_expr e) (expr_of (env_of env.now) e)
+        (field_of (env_of env.now) field) (expr_of (env_of env.now) value)) }
+    ensures faults { Appends result found.old.items found.new.items (expr_faults (env_of env.now) e
+        ++ field_faults (env_of env.now) field ++ expr_faults (env_of env.now) value) }
 {
-    let cell = sight.expr(e, found)?;
-    let field = sight.field(field, found)?;
-    let value = sight.expr(value, found)?;
+    let cell = env.expr(e, found)?;
+    let field = env.field(field, found)?;
+    let value = env.expr(value, found)?;
     Ok(Command::Mutate(expr_place(e), cell, field, value))
 }
 
 /// A `dispose`.
 fn dispose(
-    sight: &Sight<'_>,
+    env: &Env<'_>,
     place: Place,
     e: SurfaceExpr,
     found: &mut Vec<Fault>,
 ) -> Result<Command, AllocError>
-    ensures same { IfOk result (λ one. core.command_of one ≡ syntax.dispose place (expr_of (sight_of sight.now) e)) }
-    ensures faults { OnOk result (found.new.items ≡ found.old.items ++ expr_faults (sight_of sight.now) e) }
+    ensures same { IfOk result (λ one. core.command_of one ≡ syntax.dispose place (expr_of (env_of env.now) e)) }
+    ensures faults { Appends result found.old.items found.new.items (expr_faults (env_of env.now) e) }
 {
-    let e = sight.expr(e, found)?;
+    let e = env.expr(e, found)?;
     Ok(Command::Dispose(place, e))
 }
 
 /// A call alone.
 fn single(
     alloc: Global,
-    sight: &Sight<'_>,
+    env: &Env<'_>,
     one: &SurfaceCall,
     found: &mut Vec<Fault>,
 ) -> Result<Command, AllocError>
-    ensures same { IfOk result (λ c. core.command_of c ≡ syntax.call one.now.name.place (call_of (sight_of sight.now) (surface_call one.now))) }
-    ensures faults { OnOk result (found.new.items ≡ found.old.items ++ call_faults (sight_of sight.now) (surface_call one.now)) }
+    ensures same { IfOk result (λ c. core.command_of c
+        ≡ syntax.call one.now.name.place (call_of (env_of env.now) (surface_call one.now))) }
+    ensures faults { Appends result found.old.items found.new.items
+        (call_faults (env_of env.now) (surface_call one.now)) }
 {
-    let made = call(alloc, sight, one, found)?;
+    let made = call(alloc, env, one, found)?;
     Ok(Command::Call(one.name.place, made))
 }
 
 /// Two calls side by side.
 fn fork(
     alloc: Global,
-    sight: &Sight<'_>,
+    env: &Env<'_>,
     left: &SurfaceCall,
     right: &SurfaceCall,
     found: &mut Vec<Fault>,
 ) -> Result<Command, AllocError>
-    ensures same { IfOk result (λ c. core.command_of c ≡ syntax.fork left.now.name.place (call_of (sight_of sight.now) (surface_call left.now)) (call_of (sight_of sight.now) (surface_call right.now))) }
-    ensures faults { OnOk result (found.new.items ≡ found.old.items ++ (call_faults (sight_of sight.now) (surface_call left.now) ++ call_faults (sight_of sight.now) (surface_call right.now))) }
+    ensures same { IfOk result (λ c. core.command_of c
+        ≡ syntax.fork left.now.name.place (call_of (env_of env.now) (surface_call left.now))
+        (call_of (env_of env.now) (surface_call right.now))) }
+    ensures faults { Appends result found.old.items found.new.items
+        (call_faults (env_of env.now) (surface_call left.now)
+        ++ call_faults (env_of env.now) (surface_call right.now)) }
 {
-    let one = call(alloc, sight, left, found)?;
-    let other = call(alloc, sight, right, found)?;
+    let one = call(alloc, env, left, found)?;
+    let other = call(alloc, env, right, found)?;
     Ok(Command::Fork(left.name.place, one, other))
 }
 
 /// The test of a loop and its invariant.
 fn head(
     alloc: Global,
-    sight: &Sight<'_>,
+    env: &Env<'_>,
     test: &SurfaceTest<SurfaceExpr>,
     invariant: &Option<SurfaceNote>,
     found: &mut Vec<Fault>,
 ) -> Result<(Test<Expr>, Assertion), AllocError>
-    ensures test { IfOk result (λ x. x.0 ≡ test_of (expr_of (sight_of sight.now)) test.now) }
-    ensures invariant { IfOk result (λ x. core.assertion_of x.1 ≡ maybe_of (sight_of sight.now) (option_map surface_note invariant.now)) }
-    ensures faults { OnOk result (found.new.items ≡ found.old.items ++ (test_faults (expr_faults (sight_of sight.now)) test.now ++ maybe_faults (sight_of sight.now) (option_map surface_note invariant.now))) }
+    ensures test { IfOk result (λ x. x.0 ≡ test_of (expr_of (env_of env.now)) test.now) }
+    ensures invariant { IfOk result (λ x. core.assertion_of x.1
+        ≡ maybe_of (env_of env.now) (option_map surface_annotation invariant.now)) }
+    ensures faults { Appends result found.old.items found.new.items
+        (test_faults (expr_faults (env_of env.now)) test.now
+        ++ maybe_faults (env_of env.now) (option_map surface_annotation invariant.now)) }
 {
-    let test = sight.test(test, found)?;
-    let invariant = maybe(alloc, sight, invariant, found)?;
+    let test = env.test(test, found)?;
+    let invariant = maybe(alloc, env, invariant, found)?;
     Ok((test, invariant))
 }
 
 /// The resource of a region and its test.
 fn region(
-    sight: &Sight<'_>,
+    env: &Env<'_>,
     resource: Word,
     test: &SurfaceTest<SurfaceExpr>,
     found: &mut Vec<Fault>,
 ) -> Result<(ResId, Test<Expr>), AllocError>
-    ensures resource { IfOk result (λ x. x.0 ≡ resource_named (sight_of sight.now) resource) }
-    ensures test { IfOk result (λ x. x.1 ≡ test_of (expr_of (sight_of sight.now)) test.now) }
-    ensures faults { OnOk result (found.new.items ≡ found.old.items ++ (resource_faults (sight_of sight.now) resource ++ test_faults (expr_faults (sight_of sight.now)) test.now)) }
+    ensures resource { IfOk result (λ x. x.0 ≡ resource_named (env_of env.now) resource) }
+    ensures test { IfOk result (λ x. x.1 ≡ test_of (expr_of (env_of env.now)) test.now) }
+    ensures faults { Appends result found.old.items found.new.items (resource_faults (env_of env.now) resource
+        ++ test_faults (expr_faults (env_of env.now)) test.now) }
 {
-    let resource = sight.resource(resource, found)?;
-    let test = sight.test(test, found)?;
+    let resource = env.resource(resource, found)?;
+    let test = env.test(test, found)?;
     Ok((resource, test))
 }
 
 /// Appends a command that was made.
 fn push(one: Command, done: &mut Vec<Command>) -> Result<(), AllocError>
-    ensures { OnOk result (map core.command_of done.new.items ≡ map core.command_of done.old.items ++ core.command_of one ∷ []) }
+    ensures { Appends result (map core.command_of done.old.items) (map core.command_of done.new.items)
+        (core.command_of one ∷ []) }
 {
     done.push(one)?;
     Ok(())
@@ -268,44 +289,43 @@ fn push(one: Command, done: &mut Vec<Command>) -> Result<(), AllocError>
 #[cycle(commands)]
 fn add_command(
     alloc: Global,
-    sight: &Sight<'_>,
+    env: &Env<'_>,
     c: &SurfaceCommand,
     done: &mut Vec<Command>,
     found: &mut Vec<Fault>,
 ) -> Result<(), AllocError>
-    ensures commands { OnOk result (map core.command_of done.new.items ≡ map core.command_of done.old.items ++ command_of (sight_of sight.now) (surface_command c.now)) }
-    ensures faults { OnOk result (found.new.items ≡ found.old.items ++ command_faults (sight_of sight.now) (surface_command c.now)) }
+    ensures commands { Appends result (map core.command_of done.old.items) (map core.command_of done.new.items)
+        (command_of (env_of env.now) (surface_command c.now)) }
+    ensures faults { Appends result found.old.items found.new.items
+        (command_faults (env_of env.now) (surface_command c.now)) }
 {
     match c {
-        SurfaceCommand::Assign(x, e) => push(assign(sight, *x, *e, found)?, done),
-        SurfaceCommand::LookUp(x, e, f) => push(look_up(sight, *x, *e, *f, found)?, done),
-        SurfaceCommand::New(x) => push(new_cell(sight, *x, found)?, done),
-        SurfaceCommand::Mutate(e, f, v) => push(mutate(sight, *e, *f, *v, found)?, done),
+        SurfaceCommand::Assign(x, e) => push(assign(env, *x, *e, found)?, done),
+        SurfaceCommand::LookUp(x, e, f) => push(look_up(env, *x, *e, *f, found)?, done),
+        SurfaceCommand::New(x) => push(new_cell(env, *x, found)?, done),
+        SurfaceCommand::Mutate(e, f, v) => push(mutate(env, *e, *f, *v, found)?, done),
         SurfaceCommand::Dispose(p, e) | SurfaceCommand::DisposeRound(p, e) => {
-            push(dispose(sight, *p, *e, found)?, done)
+            push(dispose(env, *p, *e, found)?, done)
         }
-        SurfaceCommand::Call(one) => push(single(alloc, sight, one, found)?, done),
-        SurfaceCommand::Fork(a, b) => push(fork(alloc, sight, a, b, found)?, done),
+        SurfaceCommand::Call(one) => push(single(alloc, env, one, found)?, done),
+        SurfaceCommand::Fork(a, b) => push(fork(alloc, env, a, b, found)?, done),
         SurfaceCommand::IfAlone(p, test, one) => push(
-            if_alone(alloc, sight, *p, test, one, found)?,
+            if_alone(alloc, env, *p, test, one, found)?,
             done,
         ),
         SurfaceCommand::If(p, test, this, that) => {
-            let test = sight.test(test, found)?;
-            let this = inside(alloc, sight, this, found)?;
-            let that = inside(alloc, sight, that, found)?;
+            let test = env.test(test, found)?;
+            let this = inside(alloc, env, this, found)?;
+            let that = inside(alloc, env, that, found)?;
             push(Command::If(*p, test, this, that), done)
         }
         SurfaceCommand::While(p, test, invariant, body) => {
-            push(
-                repeat(alloc, sight, *p, test, invariant, body, found)?,
-                done,
-            )
+            push(repeat(alloc, env, *p, test, invariant, body, found)?, done)
         }
         SurfaceCommand::With(p, resource, test, body) => {
-            push(with(alloc, sight, *p, *resource, test, body, found)?, done)
+            push(with(alloc, env, *p, *resource, test, body, found)?, done)
         }
-        SurfaceCommand::Block(_, commands) => add_commands(alloc, sight, commands, done, found),
+        SurfaceCommand::Block(_, commands) => add_commands(alloc, env, commands, done, found),
     }
 }
 
@@ -313,17 +333,21 @@ fn add_command(
 #[cycle(commands)]
 fn if_alone(
     alloc: Global,
-    sight: &Sight<'_>,
+    env: &Env<'_>,
     place: Place,
     test: &SurfaceTest<SurfaceExpr>,
     this: &SurfaceCommand,
     found: &mut Vec<Fault>,
 ) -> Result<Command, AllocError>
-    ensures same { IfOk result (λ c. core.command_of c ≡ syntax.if place (test_of (expr_of (sight_of sight.now)) test.now) (core.block (command_of (sight_of sight.now) (surface_command this.now))) syntax.done) }
-    ensures faults { OnOk result (found.new.items ≡ found.old.items ++ (test_faults (expr_faults (sight_of sight.now)) test.now ++ command_faults (sight_of sight.now) (surface_command this.now))) }
+    ensures same { IfOk result (λ c. core.command_of c
+        ≡ syntax.if place (test_of (expr_of (env_of env.now)) test.now)
+        (core.block (command_of (env_of env.now) (surface_command this.now))) syntax.done) }
+    ensures faults { Appends result found.old.items found.new.items
+        (test_faults (expr_faults (env_of env.now)) test.now
+        ++ command_faults (env_of env.now) (surface_command this.now)) }
 {
-    let test = sight.test(test, found)?;
-    let this = inside(alloc, sight, this, found)?;
+    let test = env.test(test, found)?;
+    let this = inside(alloc, env, this, found)?;
     Ok(Command::If(place, test, this, Vec::new(alloc)))
 }
 
@@ -331,18 +355,24 @@ fn if_alone(
 #[cycle(commands)]
 fn repeat(
     alloc: Global,
-    sight: &Sight<'_>,
+    env: &Env<'_>,
     place: Place,
     test: &SurfaceTest<SurfaceExpr>,
     invariant: &Option<SurfaceNote>,
     body: &SurfaceCommand,
     found: &mut Vec<Fault>,
 ) -> Result<Command, AllocError>
-    ensures same { IfOk result (λ c. core.command_of c ≡ syntax.while place (test_of (expr_of (sight_of sight.now)) test.now) (maybe_of (sight_of sight.now) (option_map surface_note invariant.now)) (core.block (command_of (sight_of sight.now) (surface_command body.now)))) }
-    ensures faults { OnOk result (found.new.items ≡ found.old.items ++ (test_faults (expr_faults (sight_of sight.now)) test.now ++ maybe_faults (sight_of sight.now) (option_map surface_note invariant.now) ++ command_faults (sight_of sight.now) (surface_command body.now))) }
+    ensures same { IfOk result (λ c. core.command_of c
+        ≡ syntax.while place (test_of (expr_of (env_of env.now)) test.now)
+        (maybe_of (env_of env.now) (option_map surface_annotation invariant.now))
+        (core.block (command_of (env_of env.now) (surface_command body.now)))) }
+    ensures faults { Appends result found.old.items found.new.items
+        (test_faults (expr_faults (env_of env.now)) test.now
+        ++ maybe_faults (env_of env.now) (option_map surface_annotation invariant.now)
+        ++ command_faults (env_of env.now) (surface_command body.now)) }
 {
-    let (test, invariant) = head(alloc, sight, test, invariant, found)?;
-    let body = inside(alloc, sight, body, found)?;
+    let (test, invariant) = head(alloc, env, test, invariant, found)?;
+    let body = inside(alloc, env, body, found)?;
     Ok(Command::While(place, test, invariant, body))
 }
 
@@ -350,18 +380,23 @@ fn repeat(
 #[cycle(commands)]
 fn with(
     alloc: Global,
-    sight: &Sight<'_>,
+    env: &Env<'_>,
     place: Place,
     resource: Word,
     test: &SurfaceTest<SurfaceExpr>,
     body: &SurfaceCommand,
     found: &mut Vec<Fault>,
 ) -> Result<Command, AllocError>
-    ensures same { IfOk result (λ c. core.command_of c ≡ syntax.with place (resource_named (sight_of sight.now) resource) (test_of (expr_of (sight_of sight.now)) test.now) (core.block (command_of (sight_of sight.now) (surface_command body.now)))) }
-    ensures faults { OnOk result (found.new.items ≡ found.old.items ++ (resource_faults (sight_of sight.now) resource ++ test_faults (expr_faults (sight_of sight.now)) test.now ++ command_faults (sight_of sight.now) (surface_command body.now))) }
+    ensures same { IfOk result (λ c. core.command_of c
+        ≡ syntax.with place (resource_named (env_of env.now) resource)
+        (test_of (expr_of (env_of env.now)) test.now)
+        (core.block (command_of (env_of env.now) (surface_command body.now)))) }
+    ensures faults { Appends result found.old.items found.new.items (resource_faults (env_of env.now) resource
+        ++ test_faults (expr_faults (env_of env.now)) test.now
+        ++ command_faults (env_of env.now) (surface_command body.now)) }
 {
-    let (resource, test) = region(sight, resource, test, found)?;
-    let body = inside(alloc, sight, body, found)?;
+    let (resource, test) = region(env, resource, test, found)?;
+    let body = inside(alloc, env, body, found)?;
     Ok(Command::With(place, resource, test, body))
 }
 
@@ -369,15 +404,17 @@ fn with(
 #[cycle(commands)]
 fn inside(
     alloc: Global,
-    sight: &Sight<'_>,
+    env: &Env<'_>,
     c: &SurfaceCommand,
     found: &mut Vec<Fault>,
 ) -> Result<Vec<Command>, AllocError>
-    ensures same { IfOk result (λ v. map core.command_of v.items ≡ command_of (sight_of sight.now) (surface_command c.now)) }
-    ensures faults { OnOk result (found.new.items ≡ found.old.items ++ command_faults (sight_of sight.now) (surface_command c.now)) }
+    ensures same { IfOk result (λ v. map core.command_of v.items
+        ≡ command_of (env_of env.now) (surface_command c.now)) }
+    ensures faults { Appends result found.old.items found.new.items
+        (command_faults (env_of env.now) (surface_command c.now)) }
 {
     let mut done = Vec::new(alloc);
-    add_command(alloc, sight, c, &mut done, found)?;
+    add_command(alloc, env, c, &mut done, found)?;
     Ok(done)
 }
 
@@ -385,23 +422,25 @@ fn inside(
 #[cycle(commands)]
 pub fn add_commands(
     alloc: Global,
-    sight: &Sight<'_>,
+    env: &Env<'_>,
     commands: &[SurfaceCommand],
     done: &mut Vec<Command>,
     found: &mut Vec<Fault>,
 ) -> Result<(), AllocError>
-    ensures commands { OnOk result (map core.command_of done.new.items ≡ map core.command_of done.old.items ++ commands_of (sight_of sight.now) (surface_commands (map surface_command commands.now))) }
-    ensures faults { OnOk result (found.new.items ≡ found.old.items ++ commands_faults (sight_of sight.now) (surface_commands (map surface_command commands.now))) }
+    ensures commands { Appends result (map core.command_of done.old.items) (map core.command_of done.new.items)
+        (commands_of (env_of env.now) (surface_commands (map surface_command commands.now))) }
+    ensures faults { Appends result found.old.items found.new.items
+        (commands_faults (env_of env.now) (surface_commands (map surface_command commands.now))) }
 {
     for c in commands {
-        add_command(alloc, sight, c, done, found)?;
+        add_command(alloc, env, c, done, found)?;
     }
     Ok(())
 }
 
 /// Appends a word.
 fn add_word(word: Word, words: &mut Vec<Word>) -> Result<(), AllocError>
-    ensures { OnOk result (words.new.items ≡ words.old.items ++ word ∷ []) }
+    ensures { Appends result words.old.items words.new.items (word ∷ []) }
 {
     words.push(word)?;
     Ok(())
@@ -410,7 +449,7 @@ fn add_word(word: Word, words: &mut Vec<Word>) -> Result<(), AllocError>
 /// Appends the words that the command sets or passes as references.
 #[cycle(sets)]
 fn add_set_in(c: &SurfaceCommand, words: &mut Vec<Word>) -> Result<(), AllocError>
-    ensures { OnOk result (words.new.items ≡ words.old.items ++ set_in (surface_command c.now)) }
+    ensures { Appends result words.old.items words.new.items (set_in (surface_command c.now)) }
 {
     match c {
         SurfaceCommand::Assign(x, _) | SurfaceCommand::LookUp(x, _, _) | SurfaceCommand::New(x) =>
@@ -437,7 +476,8 @@ fn add_set_in(c: &SurfaceCommand, words: &mut Vec<Word>) -> Result<(), AllocErro
 /// Appends those of several commands, in text order.
 #[cycle(sets)]
 pub fn add_set_in_all(commands: &[SurfaceCommand], words: &mut Vec<Word>) -> Result<(), AllocError>
-    ensures { OnOk result (words.new.items ≡ words.old.items ++ set_in_all (surface_commands (map surface_command commands.now))) }
+    ensures { Appends result words.old.items words.new.items
+        (set_in_all (surface_commands (map surface_command commands.now))) }
 {
     for c in commands {
         add_set_in(c, words)?;
@@ -447,7 +487,7 @@ pub fn add_set_in_all(commands: &[SurfaceCommand], words: &mut Vec<Word>) -> Res
 
 /// Appends those words.
 pub fn add_all(more: &[Word], words: &mut Vec<Word>) -> Result<(), AllocError>
-    ensures { OnOk result (words.new.items ≡ words.old.items ++ more.now) }
+    ensures { Appends result words.old.items words.new.items more.now }
 {
     for word in more {
         words.push(*word)?;

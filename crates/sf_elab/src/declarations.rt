@@ -1,6 +1,7 @@
 //! What the items of a file declare.
 
 ghost use Rattle.std.specs.Prelude.{◌≡◌, ◌++◌, ◌+◌, [], length, map, IfOk, OnOk};
+ghost use Rattle.sf_base.specs.Results.{Appends};
 ghost use Rattle.sf_ast.specs.View.{item_of, names_of, parameters_of, procedure_of, resource_of};
 ghost use Rattle.sf_base.specs.declared.ids.Var.TheVariants.{Own};
 ghost use Rattle.sf_base.specs.declared.limits.TheConstants.{FIELDS, OWN_VARIABLES, RESOURCE_VARIABLES};
@@ -13,8 +14,8 @@ ghost use Rattle.sf_elab.specs.Texts.{text as word_text};
 use crate::assertions::link_name;
 use crate::commands::add_all;
 use crate::declared::{Declared, Header};
+use crate::env::report_if;
 use crate::fault::{Fault, Link};
-use crate::sight::note_where;
 use crate::table::Table;
 use crate::texts::{name, text};
 use sf_ast::{Item, SurfaceNames, SurfaceParameters, SurfaceProcedure, SurfaceResource, Word};
@@ -24,7 +25,7 @@ use std::alloc::{AllocError, Global};
 
 /// Appends the names.
 pub fn add_names(names: &SurfaceNames, words: &mut Vec<Word>) -> Result<(), AllocError>
-    ensures { OnOk result (words.new.items ≡ words.old.items ++ words_of (names_of names.now)) }
+    ensures { Appends result words.old.items words.new.items (words_of (names_of names.now)) }
 {
     words.push(names.first)?;
     add_all(&names.more, words)
@@ -32,7 +33,7 @@ pub fn add_names(names: &SurfaceNames, words: &mut Vec<Word>) -> Result<(), Allo
 
 /// Appends the names of all fields that the items declare.
 fn add_field_words(items: &[Item], words: &mut Vec<Word>) -> Result<(), AllocError>
-    ensures { OnOk result (words.new.items ≡ words.old.items ++ field_words (map item_of items.now)) }
+    ensures { Appends result words.old.items words.new.items (field_words (map item_of items.now)) }
 {
     for item in items {
         if let Item::Fields(names) = item {
@@ -72,26 +73,27 @@ fn declare_name<V: Copy>(
     found: &mut Vec<Fault>,
 ) -> Result<(), AllocError>
     ensures table { OnOk result (table.new ≡ declare (word_text bytes.now word) value table.old) }
-    ensures faults { OnOk result (found.new.items ≡ found.old.items ++ where_ (has (word_text bytes.now word) table.old) (Twice word)) }
+    ensures faults { Appends result found.old.items found.new.items
+        (where_ (has (word_text bytes.now word) table.old) (Twice word)) }
 {
     let name = text(bytes, word);
-    note_where(table.find(name).is_some(), Fault::Twice(word), found)?;
+    report_if(table.find(name).is_some(), Fault::Twice(word), found)?;
     table.declare(alloc, name, value)
 }
 
 /// Notes what is beyond a limit: the one of that number, at that place.
-fn note_beyond(
+fn annotation_beyond(
     limit: usize,
     number: u32,
     place: Place,
     found: &mut Vec<Fault>,
 ) -> Result<(), AllocError>
-    ensures { OnOk result (found.new.items ≡ found.old.items ++ beyond limit number place) }
+    ensures { Appends result found.old.items found.new.items (beyond limit number place) }
 {
-    note_where(number as usize >= limit, Fault::TooMany(place), found)
+    report_if(number as usize >= limit, Fault::TooMany(place), found)
 }
 
-/// Declares own variables, numbered behind those that are declared already.
+/// Declares own variables, numbered after those that are declared already.
 pub fn declare_own(
     alloc: Global,
     bytes: &[u8],
@@ -100,14 +102,15 @@ pub fn declare_own(
     own: &mut Table<Var>,
     found: &mut Vec<Fault>,
 ) -> Result<(), AllocError>
-    ensures declared { OnOk result (declared.new ≡ declared.old ++ words.now) }
+    ensures declared { Appends result declared.old declared.new words.now }
     ensures table { OnOk result (own.new ≡ numbered bytes.now Own (length declared.old) words.now own.old) }
-    ensures faults { OnOk result (found.new.items ≡ found.old.items ++ numbered_faults bytes.now OWN_VARIABLES Own (length declared.old) words.now own.old) }
+    ensures faults { Appends result found.old.items found.new.items
+        (numbered_faults bytes.now OWN_VARIABLES Own (length declared.old) words.now own.old) }
 {
     for word in words {
         let number = declared.len();
         declare_name(alloc, bytes, *word, Var::Own(number), own, found)?;
-        note_beyond(OWN_VARIABLES, number, word.place, found)?;
+        annotation_beyond(OWN_VARIABLES, number, word.place, found)?;
         declared.push(*word)?;
     }
     Ok(())
@@ -122,13 +125,14 @@ fn declare_fields(
     found: &mut Vec<Fault>,
 ) -> Result<(), AllocError>
     ensures table { OnOk result (fields.new ≡ numbered bytes.now nth_field 0 words.now fields.old) }
-    ensures faults { OnOk result (found.new.items ≡ found.old.items ++ numbered_faults bytes.now FIELDS nth_field 0 words.now fields.old) }
+    ensures faults { Appends result found.old.items found.new.items
+        (numbered_faults bytes.now FIELDS nth_field 0 words.now fields.old) }
 {
     let mut declared = Counted::new(alloc);
     for word in words {
         let number = declared.len();
         declare_name(alloc, bytes, *word, FieldId(number), fields, found)?;
-        note_beyond(FIELDS, number, word.place, found)?;
+        annotation_beyond(FIELDS, number, word.place, found)?;
         declared.push(*word)?;
     }
     Ok(())
@@ -154,7 +158,8 @@ fn fields(
     found: &mut Vec<Fault>,
 ) -> Result<Table<FieldId>, AllocError>
     ensures table { IfOk result (λ t. t ≡ field_table bytes.now words.now) }
-    ensures faults { OnOk result (found.new.items ≡ found.old.items ++ numbered_faults bytes.now FIELDS nth_field 0 words.now []) }
+    ensures faults { Appends result found.old.items found.new.items
+        (numbered_faults bytes.now FIELDS nth_field 0 words.now []) }
 {
     if words.is_empty() {
         return usual_fields(alloc);
@@ -172,7 +177,8 @@ fn declared_fields(
     found: &mut Vec<Fault>,
 ) -> Result<Table<FieldId>, AllocError>
     ensures table { IfOk result (λ t. t ≡ field_table bytes.now (field_words (map item_of items.now))) }
-    ensures faults { OnOk result (found.new.items ≡ found.old.items ++ numbered_faults bytes.now FIELDS nth_field 0 (field_words (map item_of items.now)) []) }
+    ensures faults { Appends result found.old.items found.new.items
+        (numbered_faults bytes.now FIELDS nth_field 0 (field_words (map item_of items.now)) []) }
 {
     let mut words = Vec::new(alloc);
     add_field_words(items, &mut words)?;
@@ -195,7 +201,7 @@ pub fn add_texts(
     words: &[Word],
     done: &mut Counted<Name>,
 ) -> Result<(), AllocError>
-    ensures { OnOk result (done.new ≡ done.old ++ map (word_text bytes.now) words.now) }
+    ensures { Appends result done.old done.new (map (word_text bytes.now) words.now) }
 {
     for word in words {
         done.push(name(alloc, bytes, *word)?)?;
@@ -242,7 +248,8 @@ fn declared_resources(
     found: &mut Vec<Fault>,
 ) -> Result<Table<ResId>, AllocError>
     ensures table { IfOk result (λ t. t ≡ resource_table bytes.now 0 (resources_in (map item_of items.now)) []) }
-    ensures faults { OnOk result (found.new.items ≡ found.old.items ++ resource_name_faults bytes.now 0 (resources_in (map item_of items.now)) []) }
+    ensures faults { Appends result found.old.items found.new.items
+        (resource_name_faults bytes.now 0 (resources_in (map item_of items.now)) []) }
 {
     let mut resources = Table::new(alloc);
     let mut declared = Counted::new(alloc);
@@ -257,7 +264,7 @@ fn declared_resources(
                 &mut resources,
                 found,
             )?;
-            note_beyond(RESOURCES, number, resource.place, found)?;
+            annotation_beyond(RESOURCES, number, resource.place, found)?;
             declared.push(resource.name)?;
         }
     }
@@ -266,21 +273,21 @@ fn declared_resources(
 
 /// Notes what is wrong with a variable of a resource: the resource has it already, or another one
 /// has.
-fn note_owner(
+fn annotation_owner(
     bytes: &[u8],
     word: Word,
     own: &Table<Var>,
     all: &Table<Var>,
     found: &mut Vec<Fault>,
 ) -> Result<(), AllocError>
-    ensures { OnOk result (found.new.items ≡ found.old.items ++ owner_faults bytes.now own.now all.now word) }
+    ensures { Appends result found.old.items found.new.items (owner_faults bytes.now own.now all.now word) }
 {
     let name = text(bytes, word);
     if own.find(name).is_some() {
         found.push(Fault::Twice(word))?;
         return Ok(());
     }
-    note_where(all.find(name).is_some(), Fault::OwnedTwice(word), found)
+    report_if(all.find(name).is_some(), Fault::OwnedTwice(word), found)
 }
 
 /// Declares a variable of a resource, among its own and among all, so many being declared.
@@ -296,15 +303,16 @@ fn declare_owned(
 ) -> Result<(), AllocError>
     ensures own { OnOk result (own.new ≡ declare (word_text bytes.now word) var own.old) }
     ensures all { OnOk result (all.new ≡ declare (word_text bytes.now word) var all.old) }
-    ensures faults { OnOk result (found.new.items ≡ found.old.items ++ (owner_faults bytes.now own.old all.old word ++ beyond RESOURCE_VARIABLES count word.place)) }
+    ensures faults { Appends result found.old.items found.new.items (owner_faults bytes.now own.old all.old word
+        ++ beyond RESOURCE_VARIABLES count word.place) }
 {
-    note_owner(bytes, word, own, all, found)?;
-    note_beyond(RESOURCE_VARIABLES, count, word.place, found)?;
-    declare_quietly(alloc, bytes, word, var, own)?;
-    declare_quietly(alloc, bytes, word, var, all)
+    annotation_owner(bytes, word, own, all, found)?;
+    annotation_beyond(RESOURCE_VARIABLES, count, word.place, found)?;
+    declare(alloc, bytes, word, var, own)?;
+    declare(alloc, bytes, word, var, all)
 }
 
-/// Declares the variables of one resource, behind those of others that are declared already.
+/// Declares the variables of one resource, after those of others that are declared already.
 pub fn declare_shared(
     alloc: Global,
     bytes: &[u8],
@@ -314,9 +322,10 @@ pub fn declare_shared(
     all: &mut Table<Var>,
     found: &mut Vec<Fault>,
 ) -> Result<(), AllocError>
-    ensures declared { OnOk result (declared.new ≡ declared.old ++ words.now) }
+    ensures declared { Appends result declared.old declared.new words.now }
     ensures table { OnOk result (all.new ≡ numbered bytes.now (shared_by k) 0 words.now all.old) }
-    ensures faults { OnOk result (found.new.items ≡ found.old.items ++ shared_faults bytes.now k (length declared.old) 0 words.now [] all.old) }
+    ensures faults { Appends result found.old.items found.new.items
+        (shared_faults bytes.now k (length declared.old) 0 words.now [] all.old) }
 {
     let first = declared.len();
     let mut own = Table::new(alloc);
@@ -330,7 +339,7 @@ pub fn declare_shared(
 }
 
 /// Declares a name that stands for that.
-pub fn declare_quietly<V: Copy>(
+pub fn declare<V: Copy>(
     alloc: Global,
     bytes: &[u8],
     word: Word,
@@ -350,7 +359,8 @@ fn declared_variables(
     found: &mut Vec<Fault>,
 ) -> Result<Table<Var>, AllocError>
     ensures table { IfOk result (λ t. t ≡ shared_table bytes.now 0 (resources_in (map item_of items.now)) []) }
-    ensures faults { OnOk result (found.new.items ≡ found.old.items ++ all_shared_faults bytes.now 0 0 (resources_in (map item_of items.now)) []) }
+    ensures faults { Appends result found.old.items found.new.items
+        (all_shared_faults bytes.now 0 0 (resources_in (map item_of items.now)) []) }
 {
     let mut all = Table::new(alloc);
     let mut resources = Counted::new(alloc);
@@ -384,8 +394,10 @@ fn declared_procedures(
     items: &[Item],
     found: &mut Vec<Fault>,
 ) -> Result<Table<Header>, AllocError>
-    ensures table { IfOk result (λ t. t ≡ procedure_table bytes.now 0 (procedures_in (map item_of items.now)) []) }
-    ensures faults { OnOk result (found.new.items ≡ found.old.items ++ procedure_name_faults bytes.now 0 (procedures_in (map item_of items.now)) []) }
+    ensures table { IfOk result (λ t. t
+        ≡ procedure_table bytes.now 0 (procedures_in (map item_of items.now)) []) }
+    ensures faults { Appends result found.old.items found.new.items
+        (procedure_name_faults bytes.now 0 (procedures_in (map item_of items.now)) []) }
 {
     let mut procedures = Table::new(alloc);
     let mut declared = Counted::new(alloc);
@@ -394,7 +406,7 @@ fn declared_procedures(
             let number = declared.len();
             let header = header(number, procedure);
             declare_name(alloc, bytes, procedure.name, header, &mut procedures, found)?;
-            note_beyond(PROCEDURES, number, procedure.name.place, found)?;
+            annotation_beyond(PROCEDURES, number, procedure.name.place, found)?;
             declared.push(procedure.name)?;
         }
     }
@@ -409,7 +421,8 @@ pub fn declared(
     found: &mut Vec<Fault>,
 ) -> Result<Declared, AllocError>
     ensures same { IfOk result (λ d. d ≡ declared_by bytes.now (map item_of items.now)) }
-    ensures faults { OnOk result (found.new.items ≡ found.old.items ++ declared_faults bytes.now (map item_of items.now)) }
+    ensures faults { Appends result found.old.items found.new.items
+        (declared_faults bytes.now (map item_of items.now)) }
 {
     let fields = declared_fields(alloc, bytes, items, found)?;
     let resources = declared_resources(alloc, bytes, items, found)?;

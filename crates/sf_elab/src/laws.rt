@@ -3,7 +3,6 @@
 ghost use Rattle.sf_elab.specs.Laws.{EachFileIsOne, ElaboratedIsFormed, FirstIsFirst, LevelsAreScopes, NamesAreUnique};
 
 /// What a file without faults elaborates to is a program in order.
-#[tactic(auto, using(crate::proofs::Closing::elaborated_is_formed))]
 pub fn elaborated_is_formed()
     ensures { ElaboratedIsFormed }
 {}
@@ -20,7 +19,7 @@ pub fn each_file_is_one()
     ensures { EachFileIsOne }
 {}
 
-/// A level has in reach what is around it and what occurs in it, under new numbers; behind it only
+/// A level has in reach what is around it and what occurs in it, under new numbers; after it only
 /// what was there before is in reach.
 #[tactic(auto, using(crate::proofs::Scopes::levels_are_scopes))]
 pub fn levels_are_scopes()

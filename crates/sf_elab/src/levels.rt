@@ -1,6 +1,7 @@
 //! The existentials of an assertion: which of them a level makes.
 
 ghost use Rattle.std.specs.Prelude.{◌≡◌, ◌++◌, OnOk};
+ghost use Rattle.sf_base.specs.Results.{Appends};
 ghost use Rattle.sf_ast.specs.View.{assertion_of, conjunct_of};
 ghost use Rattle.sf_elab.specs.Existentials.{words_in_operand, words_in_test, words_in_fields, words_in_conjunct, words_in, meet, meet_all, no_levels, opened};
 
@@ -21,7 +22,7 @@ pub struct Levels {
 
 /// Appends the existential that the operand is.
 fn add_operand(x: &SurfaceOperand, words: &mut Vec<Word>) -> Result<(), AllocError>
-    ensures { OnOk result (words.new.items ≡ words.old.items ++ words_in_operand x.now) }
+    ensures { Appends result words.old.items words.new.items (words_in_operand x.now) }
 {
     match x {
         SurfaceOperand::Known(_) => Ok(()),
@@ -34,7 +35,8 @@ fn add_operand(x: &SurfaceOperand, words: &mut Vec<Word>) -> Result<(), AllocErr
 
 /// Appends the existentials that the two operands are.
 fn add_both(x: &SurfaceOperand, y: &SurfaceOperand, words: &mut Vec<Word>) -> Result<(), AllocError>
-    ensures { OnOk result (words.new.items ≡ words.old.items ++ (words_in_operand x.now ++ words_in_operand y.now)) }
+    ensures { Appends result words.old.items words.new.items (words_in_operand x.now
+        ++ words_in_operand y.now) }
 {
     add_operand(x, words)?;
     add_operand(y, words)
@@ -42,7 +44,7 @@ fn add_both(x: &SurfaceOperand, y: &SurfaceOperand, words: &mut Vec<Word>) -> Re
 
 /// Appends the existentials of the test.
 fn add_test(test: &SurfaceTest<SurfaceOperand>, words: &mut Vec<Word>) -> Result<(), AllocError>
-    ensures { OnOk result (words.new.items ≡ words.old.items ++ words_in_test test.now) }
+    ensures { Appends result words.old.items words.new.items (words_in_test test.now) }
 {
     match test {
         SurfaceTest::True(_) => Ok(()),
@@ -52,7 +54,7 @@ fn add_test(test: &SurfaceTest<SurfaceOperand>, words: &mut Vec<Word>) -> Result
 
 /// Appends those among the values of fields.
 fn add_fields(fields: &[SurfaceField], words: &mut Vec<Word>) -> Result<(), AllocError>
-    ensures { OnOk result (words.new.items ≡ words.old.items ++ words_in_fields fields.now) }
+    ensures { Appends result words.old.items words.new.items (words_in_fields fields.now) }
 {
     for field in fields {
         add_operand(&field.value, words)?;
@@ -60,10 +62,10 @@ fn add_fields(fields: &[SurfaceField], words: &mut Vec<Word>) -> Result<(), Allo
     Ok(())
 }
 
-/// Appends the existentials of a level itself that stand in the conjunct.
+/// Appends the existentials of a level itself that occur in the conjunct.
 #[cycle(words)]
 fn add_conjunct(c: &SurfaceConjunct, words: &mut Vec<Word>) -> Result<(), AllocError>
-    ensures { OnOk result (words.new.items ≡ words.old.items ++ words_in_conjunct (conjunct_of c.now)) }
+    ensures { Appends result words.old.items words.new.items (words_in_conjunct (conjunct_of c.now)) }
 {
     match c {
         SurfaceConjunct::Emp(_) => Ok(()),
@@ -86,7 +88,7 @@ fn add_conjunct(c: &SurfaceConjunct, words: &mut Vec<Word>) -> Result<(), AllocE
 /// Appends the existentials of the level itself, in text order.
 #[cycle(words)]
 fn add_words(level: &SurfaceAssertion, words: &mut Vec<Word>) -> Result<(), AllocError>
-    ensures { OnOk result (words.new.items ≡ words.old.items ++ words_in (assertion_of level.now)) }
+    ensures { Appends result words.old.items words.new.items (words_in (assertion_of level.now)) }
 {
     add_conjunct(&level.first, words)?;
     for c in &level.more {

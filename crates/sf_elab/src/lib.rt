@@ -6,18 +6,18 @@ mod assertions;
 mod commands;
 mod declarations;
 mod declared;
+mod elaboration;
+mod env;
 mod fault;
-mod first;
+mod first_fault;
 pub mod laws;
 mod levels;
 mod procedures;
-mod sight;
 mod table;
 mod texts;
-mod whole;
 
+pub use elaboration::elaborate;
 pub use fault::NameFault;
-pub use whole::elaborate;
 
 #[cfg(test)]
 mod tests;

@@ -1,26 +1,26 @@
 //! The procedures and resources of a file, numbered.
 
 ghost use Rattle.std.specs.Prelude.{◌≡◌, ◌∷◌, ◌++◌, ◌+◌, [], ℕ, List, length, map, filter, IfOk, OnOk};
+ghost use Rattle.sf_base.specs.Results.{Appends};
 ghost use Rattle.sf_ast.specs.View.{command_of as surface_command, commands as surface_commands, item_of, names_of, procedure_of as surface_procedure, resource_of as surface_resource};
 ghost use Rattle.sf_base.specs.declared.ids.Var.TheVariants.{Own};
 ghost use Rattle.sf_core.specs.Program.View as core;
 ghost use Rattle.sf_elab.specs.Commands.{all_faults, commands_faults, commands_of, set_in_all};
-ghost use Rattle.sf_elab.specs.Assertions.{maybe_faults, maybe_of, note_faults, note_of};
+ghost use Rattle.sf_elab.specs.Assertions.{maybe_faults, maybe_of, annotation_faults, annotation_of};
 ghost use Rattle.sf_elab.specs.Declarations.{procedures_in, resources_in, numbered, references_of, shared_by, values_of};
 ghost use Rattle.sf_elab.specs.Elaborated.{invariants_faults, resources_from};
 ghost use Rattle.sf_elab.specs.Procedures.{local_words, is_among, is_primed, parameters_of, parameter_count, declared_count, body_values, body_variables, own_names, first_assignments, outside_of, inside_of, procedure_of, parameter_faults, local_faults, procedure_faults, invariant_of, resource_of};
 ghost use Rattle.sf_elab.specs.Table.{has};
 ghost use Rattle.sf_elab.specs.Texts.{text as word_text};
 
-use crate::assertions::{maybe, note};
+use crate::assertions::{annotation, maybe};
 use crate::commands::{add_commands, add_set_in_all};
 use crate::declarations::{
-    add_names, add_texts, declare_own, declare_quietly, declare_shared, names, references_of,
-    values_of,
+    add_names, add_texts, declare, declare_own, declare_shared, names, references_of, values_of,
 };
 use crate::declared::Declared;
+use crate::env::Env;
 use crate::fault::Fault;
-use crate::sight::Sight;
 use crate::table::Table;
 use crate::texts::{name, text};
 use sf_ast::{Item, SurfaceCommand, SurfaceNames, SurfaceProcedure, SurfaceResource, Word};
@@ -41,7 +41,10 @@ fn local_words(alloc: Global, locals: &[SurfaceNames]) -> Result<Vec<Word>, Allo
 
 /// The names that the body sets or passes as references.
 fn set_names(alloc: Global, bytes: &[u8], body: &[SurfaceCommand]) -> Result<Table<()>, AllocError>
-    ensures { IfOk result (λ t. (name : List ℕ) → has name t ≡ is_among bytes.now (set_in_all (surface_commands (map surface_command body.now))) name) }
+    ensures { IfOk result (λ t. (name : List ℕ)
+        → has name t
+        ≡ is_among bytes.now
+        (set_in_all (surface_commands (map surface_command body.now))) name) }
 {
     let mut words = Vec::new(alloc);
     add_set_in_all(body, &mut words)?;
@@ -54,7 +57,7 @@ fn names_among(alloc: Global, bytes: &[u8], words: &[Word]) -> Result<Table<()>,
 {
     let mut found = Table::new(alloc);
     for word in words {
-        declare_quietly(alloc, bytes, *word, (), &mut found)?;
+        declare(alloc, bytes, *word, (), &mut found)?;
     }
     Ok(found)
 }
@@ -87,7 +90,7 @@ fn own_at(place: Place, number: u32) -> Occurrence
 
 /// What a body sees and begins with, as far as its variables are declared.
 #[derive(Drop)]
-struct Begun {
+struct Prologue {
     /// Those that are declared.
     declared: Counted<Word>,
     /// What they stand for.
@@ -99,19 +102,26 @@ struct Begun {
 }
 
 /// Declares a value as the body sees it: it stands for itself, or where its name is set for a primed
-/// local, which has the next number behind all names and the value's own value at first.
+/// local, which has the next number after all names and the value's own value at first.
 fn declare_value(
     alloc: Global,
     bytes: &[u8],
     set: &Table<()>,
     at: Place,
     word: Word,
-    body: &mut Begun,
+    body: &mut Prologue,
 ) -> Result<(), AllocError>
-    ensures declared { OnOk result (body.new.declared ≡ body.old.declared ++ word ∷ []) }
-    ensures own { OnOk result (body.new.own ≡ body_values bytes.now (λ w. has (word_text bytes.now w) set.now) (length body.old.declared) (length body.old.names) (word ∷ []) body.old.own) }
-    ensures names { OnOk result (body.new.names ≡ body.old.names ++ map (λ w. word_text bytes.now w ++ 39 ∷ []) (filter (λ w. has (word_text bytes.now w) set.now) (word ∷ []))) }
-    ensures first { OnOk result (map core.command_of body.new.first.items ≡ map core.command_of body.old.first.items ++ first_assignments (λ w. has (word_text bytes.now w) set.now) at (length body.old.declared) (length body.old.names) (word ∷ [])) }
+    ensures declared { Appends result body.old.declared body.new.declared (word ∷ []) }
+    ensures own { OnOk result (body.new.own
+        ≡ body_values bytes.now (λ w. has (word_text bytes.now w) set.now)
+        (length body.old.declared) (length body.old.names) (word ∷ []) body.old.own) }
+    ensures names { Appends result body.old.names body.new.names
+        (map (λ w. word_text bytes.now w ++ 39 ∷ [])
+        (filter (λ w. has (word_text bytes.now w) set.now) (word ∷ []))) }
+    ensures first { Appends result (map core.command_of body.old.first.items)
+        (map core.command_of body.new.first.items)
+        (first_assignments (λ w. has (word_text bytes.now w) set.now) at
+        (length body.old.declared) (length body.old.names) (word ∷ [])) }
 {
     let number = body.declared.len();
     body.declared.push(word)?;
@@ -121,9 +131,9 @@ fn declare_value(
         body.names.push(primed_name(alloc, text(bytes, word))?)?;
         body.first
             .push(Command::Assign(at, own_at(at, primed), Expr::Var(value)))?;
-        declare_quietly(alloc, bytes, word, Var::Own(primed), &mut body.own)
+        declare(alloc, bytes, word, Var::Own(primed), &mut body.own)
     } else {
-        declare_quietly(alloc, bytes, word, Var::Own(number), &mut body.own)
+        declare(alloc, bytes, word, Var::Own(number), &mut body.own)
     }
 }
 
@@ -134,12 +144,19 @@ fn declare_values(
     set: &Table<()>,
     at: Place,
     words: &[Word],
-    body: &mut Begun,
+    body: &mut Prologue,
 ) -> Result<(), AllocError>
-    ensures declared { OnOk result (body.new.declared ≡ body.old.declared ++ words.now) }
-    ensures own { OnOk result (body.new.own ≡ body_values bytes.now (λ w. has (word_text bytes.now w) set.now) (length body.old.declared) (length body.old.names) words.now body.old.own) }
-    ensures names { OnOk result (body.new.names ≡ body.old.names ++ map (λ w. word_text bytes.now w ++ 39 ∷ []) (filter (λ w. has (word_text bytes.now w) set.now) words.now)) }
-    ensures first { OnOk result (map core.command_of body.new.first.items ≡ map core.command_of body.old.first.items ++ first_assignments (λ w. has (word_text bytes.now w) set.now) at (length body.old.declared) (length body.old.names) words.now) }
+    ensures declared { Appends result body.old.declared body.new.declared words.now }
+    ensures own { OnOk result (body.new.own
+        ≡ body_values bytes.now (λ w. has (word_text bytes.now w) set.now)
+        (length body.old.declared) (length body.old.names) words.now body.old.own) }
+    ensures names { Appends result body.old.names body.new.names
+        (map (λ w. word_text bytes.now w ++ 39 ∷ [])
+        (filter (λ w. has (word_text bytes.now w) set.now) words.now)) }
+    ensures first { Appends result (map core.command_of body.old.first.items)
+        (map core.command_of body.new.first.items)
+        (first_assignments (λ w. has (word_text bytes.now w) set.now) at
+        (length body.old.declared) (length body.old.names) words.now) }
 {
     for word in words {
         declare_value(alloc, bytes, set, at, *word, body)?;
@@ -165,10 +182,13 @@ fn parameters(
     f: &SurfaceProcedure,
     found: &mut Vec<Fault>,
 ) -> Result<Signature, AllocError>
-    ensures words { IfOk result (λ x. x.words ≡ references_of (surface_procedure f.now).parameters ++ values_of (surface_procedure f.now).parameters) }
-    ensures references { IfOk result (λ x. x.references ≡ length (references_of (surface_procedure f.now).parameters)) }
+    ensures words { IfOk result (λ x. x.words ≡ references_of (surface_procedure f.now).parameters
+        ++ values_of (surface_procedure f.now).parameters) }
+    ensures references { IfOk result (λ x. x.references
+        ≡ length (references_of (surface_procedure f.now).parameters)) }
     ensures own { IfOk result (λ x. x.own ≡ parameters_of bytes.now (surface_procedure f.now)) }
-    ensures faults { OnOk result (found.new.items ≡ found.old.items ++ parameter_faults bytes.now (surface_procedure f.now)) }
+    ensures faults { Appends result found.old.items found.new.items
+        (parameter_faults bytes.now (surface_procedure f.now)) }
 {
     let mut words = Counted::new(alloc);
     let mut own = Table::new(alloc);
@@ -192,7 +212,10 @@ fn declared_names(
     locals: &[Word],
 ) -> Result<Counted<Name>, AllocError>
     requires { locals.now ≡ local_words (surface_procedure f.now).locals }
-    ensures same { IfOk result (λ v. v ≡ map (word_text bytes.now) (references_of (surface_procedure f.now).parameters) ++ map (word_text bytes.now) (values_of (surface_procedure f.now).parameters) ++ map (word_text bytes.now) (local_words (surface_procedure f.now).locals)) }
+    ensures same { IfOk result (λ v. v
+        ≡ map (word_text bytes.now) (references_of (surface_procedure f.now).parameters)
+        ++ map (word_text bytes.now) (values_of (surface_procedure f.now).parameters)
+        ++ map (word_text bytes.now) (local_words (surface_procedure f.now).locals)) }
     ensures count { IfOk result (λ v. length v ≡ declared_count (surface_procedure f.now)) }
 {
     let mut done = Counted::new(alloc);
@@ -209,15 +232,20 @@ fn beginning(
     set: &Table<()>,
     f: &SurfaceProcedure,
     locals: &[Word],
-) -> Result<Begun, AllocError>
+) -> Result<Prologue, AllocError>
     requires locals { locals.now ≡ local_words (surface_procedure f.now).locals }
-    requires set { (name : List ℕ) → has name set.now ≡ is_among bytes.now (set_in_all (surface_procedure f.now).body) name }
+    requires set { (name : List ℕ)
+        → has name set.now ≡ is_among bytes.now (set_in_all (surface_procedure f.now).body) name }
     ensures own { IfOk result (λ x. x.own ≡ body_variables bytes.now (surface_procedure f.now)) }
     ensures names { IfOk result (λ x. x.names ≡ own_names bytes.now (surface_procedure f.now)) }
-    ensures first { IfOk result (λ x. map core.command_of x.first.items ≡ first_assignments (is_primed bytes.now (surface_procedure f.now)) f.now.open (length (references_of (surface_procedure f.now).parameters)) (declared_count (surface_procedure f.now)) (values_of (surface_procedure f.now).parameters)) }
+    ensures first { IfOk result (λ x. map core.command_of x.first.items
+        ≡ first_assignments (is_primed bytes.now (surface_procedure f.now)) f.now.open
+        (length (references_of (surface_procedure f.now).parameters))
+        (declared_count (surface_procedure f.now))
+        (values_of (surface_procedure f.now).parameters)) }
 {
-    let mut noted = Vec::new(alloc);
-    let mut body = Begun {
+    let mut reported = Vec::new(alloc);
+    let mut body = Prologue {
         declared: Counted::new(alloc),
         own: Table::new(alloc),
         names: declared_names(alloc, bytes, f, locals)?,
@@ -230,7 +258,7 @@ fn beginning(
         references,
         &mut body.declared,
         &mut body.own,
-        &mut noted,
+        &mut reported,
     )?;
     let values = values_of(&f.parameters);
     declare_values(alloc, bytes, set, f.open, values, &mut body)?;
@@ -240,12 +268,12 @@ fn beginning(
         locals,
         &mut body.declared,
         &mut body.own,
-        &mut noted,
+        &mut reported,
     )?;
     Ok(body)
 }
 
-/// The commands of a procedure's body, behind those with which it begins.
+/// The commands of a procedure's body, after those with which it begins.
 fn commands(
     alloc: Global,
     bytes: &[u8],
@@ -256,22 +284,26 @@ fn commands(
     found: &mut Vec<Fault>,
 ) -> Result<Vec<Command>, AllocError>
     requires { own.now ≡ body_variables bytes.now (surface_procedure f.now) }
-    ensures same { IfOk result (λ v. map core.command_of v.items ≡ map core.command_of first.items ++ commands_of (inside_of bytes.now declared.now (surface_procedure f.now)) (surface_procedure f.now).body) }
-    ensures faults { OnOk result (found.new.items ≡ found.old.items ++ commands_faults (inside_of bytes.now declared.now (surface_procedure f.now)) (surface_procedure f.now).body) }
+    ensures same { IfOk result (λ v. map core.command_of v.items ≡ map core.command_of first.items
+        ++ commands_of (inside_of bytes.now declared.now (surface_procedure f.now))
+        (surface_procedure f.now).body) }
+    ensures faults { Appends result found.old.items found.new.items
+        (commands_faults (inside_of bytes.now declared.now (surface_procedure f.now))
+        (surface_procedure f.now).body) }
 {
-    let sight = Sight {
+    let env = Env {
         bytes,
         declared,
         own,
         in_invariant: false,
     };
     let mut done = first;
-    add_commands(alloc, &sight, &f.body, &mut done, found)?;
+    add_commands(alloc, &env, &f.body, &mut done, found)?;
     Ok(done)
 }
 
 /// A procedure's pre and post, which see its parameters.
-fn notes(
+fn annotations(
     alloc: Global,
     bytes: &[u8],
     declared: &Declared,
@@ -280,18 +312,26 @@ fn notes(
     found: &mut Vec<Fault>,
 ) -> Result<(Assertion, Assertion), AllocError>
     requires { own.now ≡ parameters_of bytes.now (surface_procedure f.now) }
-    ensures pre { IfOk result (λ x. core.assertion_of x.0 ≡ maybe_of (outside_of bytes.now declared.now (surface_procedure f.now)) (surface_procedure f.now).pre) }
-    ensures post { IfOk result (λ x. core.assertion_of x.1 ≡ maybe_of (outside_of bytes.now declared.now (surface_procedure f.now)) (surface_procedure f.now).post) }
-    ensures faults { OnOk result (found.new.items ≡ found.old.items ++ maybe_faults (outside_of bytes.now declared.now (surface_procedure f.now)) (surface_procedure f.now).pre ++ maybe_faults (outside_of bytes.now declared.now (surface_procedure f.now)) (surface_procedure f.now).post) }
+    ensures pre { IfOk result (λ x. core.assertion_of x.0
+        ≡ maybe_of (outside_of bytes.now declared.now (surface_procedure f.now))
+        (surface_procedure f.now).pre) }
+    ensures post { IfOk result (λ x. core.assertion_of x.1
+        ≡ maybe_of (outside_of bytes.now declared.now (surface_procedure f.now))
+        (surface_procedure f.now).post) }
+    ensures faults { Appends result found.old.items found.new.items
+        (maybe_faults (outside_of bytes.now declared.now (surface_procedure f.now))
+        (surface_procedure f.now).pre
+        ++ maybe_faults (outside_of bytes.now declared.now (surface_procedure f.now))
+        (surface_procedure f.now).post) }
 {
-    let sight = Sight {
+    let env = Env {
         bytes,
         declared,
         own,
         in_invariant: false,
     };
-    let pre = maybe(alloc, &sight, &f.pre, found)?;
-    let post = maybe(alloc, &sight, &f.post, found)?;
+    let pre = maybe(alloc, &env, &f.pre, found)?;
+    let post = maybe(alloc, &env, &f.post, found)?;
     Ok((pre, post))
 }
 
@@ -315,12 +355,17 @@ fn inside(
     parameters: Signature,
     found: &mut Vec<Fault>,
 ) -> Result<Body, AllocError>
-    requires words { parameters.words ≡ references_of (surface_procedure f.now).parameters ++ values_of (surface_procedure f.now).parameters }
+    requires words { parameters.words ≡ references_of (surface_procedure f.now).parameters
+        ++ values_of (surface_procedure f.now).parameters }
     requires own { parameters.own ≡ parameters_of bytes.now (surface_procedure f.now) }
     ensures locals { IfOk result (λ x. x.locals ≡ length (local_words (surface_procedure f.now).locals)) }
-    ensures body { IfOk result (λ x. core.block_of x.body.items ≡ (procedure_of bytes.now declared.now (surface_procedure f.now)).body) }
+    ensures body { IfOk result (λ x. core.block_of x.body.items
+        ≡ (procedure_of bytes.now declared.now (surface_procedure f.now)).body) }
     ensures names { IfOk result (λ x. x.names.items ≡ own_names bytes.now (surface_procedure f.now)) }
-    ensures faults { OnOk result (found.new.items ≡ found.old.items ++ local_faults bytes.now (surface_procedure f.now) ++ commands_faults (inside_of bytes.now declared.now (surface_procedure f.now)) (surface_procedure f.now).body) }
+    ensures faults { Appends result found.old.items found.new.items
+        (local_faults bytes.now (surface_procedure f.now)
+        ++ commands_faults (inside_of bytes.now declared.now (surface_procedure f.now))
+        (surface_procedure f.now).body) }
 {
     let mut words = parameters.words;
     let mut own = parameters.own;
@@ -328,10 +373,10 @@ fn inside(
     let locals = local_words(alloc, &f.locals)?;
     declare_own(alloc, bytes, &locals, &mut words, &mut own, found)?;
     let set = set_names(alloc, bytes, &f.body)?;
-    let begun = beginning(alloc, bytes, &set, f, &locals)?;
-    let first = begun.first;
-    let names = begun.names.into_vec();
-    let body = commands(alloc, bytes, declared, &begun.own, f, first, found)?;
+    let prologue = beginning(alloc, bytes, &set, f, &locals)?;
+    let first = prologue.first;
+    let names = prologue.names.into_vec();
+    let body = commands(alloc, bytes, declared, &prologue.own, f, first, found)?;
     Ok(Body {
         locals: words.len() - count,
         names,
@@ -347,14 +392,16 @@ fn procedure(
     f: &SurfaceProcedure,
     found: &mut Vec<Fault>,
 ) -> Result<Proc, AllocError>
-    ensures same { IfOk result (λ x. core.procedure_of x ≡ procedure_of bytes.now declared.now (surface_procedure f.now)) }
-    ensures faults { OnOk result (found.new.items ≡ found.old.items ++ procedure_faults bytes.now declared.now (surface_procedure f.now)) }
+    ensures same { IfOk result (λ x. core.procedure_of x
+        ≡ procedure_of bytes.now declared.now (surface_procedure f.now)) }
+    ensures faults { Appends result found.old.items found.new.items
+        (procedure_faults bytes.now declared.now (surface_procedure f.now)) }
 {
     let name = name(alloc, bytes, f.name)?;
     let parameters = parameters(alloc, bytes, f, found)?;
     let references = parameters.references;
     let values = parameters.words.len() - references;
-    let (pre, post) = notes(alloc, bytes, declared, &parameters.own, f, found)?;
+    let (pre, post) = annotations(alloc, bytes, declared, &parameters.own, f, found)?;
     let inside = inside(alloc, bytes, declared, f, parameters, found)?;
     Ok(Proc {
         name,
@@ -379,7 +426,7 @@ fn variables(
 ) -> Result<Table<Var>, AllocError>
     ensures { IfOk result (λ t. t ≡ numbered bytes.now (shared_by number) 0 words.now []) }
 {
-    let mut noted = Vec::new(alloc);
+    let mut reported = Vec::new(alloc);
     let mut declared = Counted::new(alloc);
     let mut own = Table::new(alloc);
     declare_shared(
@@ -389,7 +436,7 @@ fn variables(
         words,
         &mut declared,
         &mut own,
-        &mut noted,
+        &mut reported,
     )?;
     Ok(own)
 }
@@ -403,17 +450,22 @@ fn invariant(
     r: &SurfaceResource,
     found: &mut Vec<Fault>,
 ) -> Result<Assertion, AllocError>
-    ensures same { IfOk result (λ x. core.assertion_of x ≡ note_of (invariant_of bytes.now declared.now number (surface_resource r.now)) (surface_resource r.now).invariant) }
-    ensures faults { OnOk result (found.new.items ≡ found.old.items ++ note_faults (invariant_of bytes.now declared.now number (surface_resource r.now)) (surface_resource r.now).invariant) }
+    ensures same { IfOk result (λ x. core.assertion_of x
+        ≡ annotation_of (invariant_of bytes.now declared.now number (surface_resource r.now))
+        (surface_resource r.now).invariant) }
+    ensures faults { Appends result found.old.items found.new.items
+        (annotation_faults
+        (invariant_of bytes.now declared.now number (surface_resource r.now))
+        (surface_resource r.now).invariant) }
 {
     let own = variables(alloc, bytes, number, &r.variables)?;
-    let sight = Sight {
+    let env = Env {
         bytes,
         declared,
         own: &own,
         in_invariant: true,
     };
-    note(alloc, &sight, &r.invariant, found)
+    annotation(alloc, &env, &r.invariant, found)
 }
 
 /// The resource of that number.
@@ -425,8 +477,12 @@ fn resource(
     r: &SurfaceResource,
     found: &mut Vec<Fault>,
 ) -> Result<Resource, AllocError>
-    ensures same { IfOk result (λ x. core.resource_of x ≡ resource_of bytes.now declared.now number (surface_resource r.now)) }
-    ensures faults { OnOk result (found.new.items ≡ found.old.items ++ note_faults (invariant_of bytes.now declared.now number (surface_resource r.now)) (surface_resource r.now).invariant) }
+    ensures same { IfOk result (λ x. core.resource_of x
+        ≡ resource_of bytes.now declared.now number (surface_resource r.now)) }
+    ensures faults { Appends result found.old.items found.new.items
+        (annotation_faults
+        (invariant_of bytes.now declared.now number (surface_resource r.now))
+        (surface_resource r.now).invariant) }
 {
     let invariant = invariant(alloc, bytes, declared, number, r, found)?;
     let name = name(alloc, bytes, r.name)?;
@@ -446,8 +502,10 @@ pub fn resources(
     items: &[Item],
     found: &mut Vec<Fault>,
 ) -> Result<Vec<Resource>, AllocError>
-    ensures same { IfOk result (λ v. map core.resource_of v.items ≡ resources_from bytes.now declared.now 0 (resources_in (map item_of items.now))) }
-    ensures faults { OnOk result (found.new.items ≡ found.old.items ++ invariants_faults bytes.now declared.now 0 (resources_in (map item_of items.now))) }
+    ensures same { IfOk result (λ v. map core.resource_of v.items
+        ≡ resources_from bytes.now declared.now 0 (resources_in (map item_of items.now))) }
+    ensures faults { Appends result found.old.items found.new.items
+        (invariants_faults bytes.now declared.now 0 (resources_in (map item_of items.now))) }
 {
     let mut done = Counted::new(alloc);
     for item in items {
@@ -467,8 +525,11 @@ pub fn procedures(
     items: &[Item],
     found: &mut Vec<Fault>,
 ) -> Result<Vec<Proc>, AllocError>
-    ensures same { IfOk result (λ v. map core.procedure_of v.items ≡ map (procedure_of bytes.now declared.now) (procedures_in (map item_of items.now))) }
-    ensures faults { OnOk result (found.new.items ≡ found.old.items ++ all_faults (procedure_faults bytes.now declared.now) (procedures_in (map item_of items.now))) }
+    ensures same { IfOk result (λ v. map core.procedure_of v.items
+        ≡ map (procedure_of bytes.now declared.now) (procedures_in (map item_of items.now))) }
+    ensures faults { Appends result found.old.items found.new.items
+        (all_faults (procedure_faults bytes.now declared.now)
+        (procedures_in (map item_of items.now))) }
 {
     let mut done = Vec::new(alloc);
     for item in items {

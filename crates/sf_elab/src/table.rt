@@ -58,7 +58,7 @@ impl<V: Copy> Table<V> {
     }
 
     /// Forgets the names but the first so many.
-    pub fn cut(&mut self, count: usize)
+    pub fn truncate(&mut self, count: usize)
         ensures { self.new ≡ take count self.old }
     {
         self.entries.truncate(count);

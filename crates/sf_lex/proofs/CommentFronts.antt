@@ -1,12 +1,13 @@
--- Comments: where the first `*/` stands.
-use Rattle.std.proofs.Common.{◌≡◌, ◌≤◌, ◌+◌, ◌==◌, ℕ, suc, List, [], ◌∷◌, ◌++◌, length, drop, true, false, Bool, ◌&&◌, Option, Some, None, refl, ap, sym, ◌∙◌, arith, subst, append_assoc, length-append}
+-- Comments: where the first `*/` is.
+use Rattle.std.proofs.Common.{◌≡◌, ◌≤◌, ◌+◌, ◌==◌, ℕ, suc, List, [], ◌∷◌, ◌++◌, length, drop, true, false, Bool, ◌&&◌, Some, None, refl, ap, sym, ◌∙◌, arith, subst, append_assoc, length-append}
 use Rattle.std.proofs.Math.Bool.{and-false}
 use Rattle.std.proofs.lemmas.Bool.{or_right}
 use Rattle.std.proofs.lemmas.Bool.Decides.{nat_tests}
 use Rattle.std.specs.List.{slice_index}
 use Rattle.std.specs.Option.{option_map}
+use Rattle.sf_base.proofs.Options.{option_map-some, option_map-none}
 use Rattle.sf_lex.specs.declared.front.Front.TheVariants as f
-use Rattle.sf_lex.specs.Front.{Stands, begins_comment, close_length}
+use Rattle.sf_lex.specs.Internal.Lexing.{Stands, begins_comment, close_length}
 use Rattle.sf_lex.specs.Piece.{comment, has_close}
 use Rattle.sf_lex.specs.Reading.{IsOpenComment}
 
@@ -25,7 +26,7 @@ closes_here : (b : ℕ) (bs : List ℕ) → b ≡ 42 → slice_index bs 0 ≡ 47
 closes_here b [] e h = let wrong : false ≡ true = ap (λ n. n == 47) h in absurd cc
 closes_here b (c ∷ bs) e h = record { inner = []; rest = bs; spells = cc; first = refl; counts = refl }
 
--- a byte in front of `*` does not close by what was not there
+-- a byte before `*` does not close by what was not there
 has_more : (b : ℕ) (bs rest inner : List ℕ) → bs ≡ inner ++ 42 ∷ 47 ∷ rest → ((b == 42) && (slice_index bs 0 == 47)) ≡ false → ((b == 42) && (slice_index (inner ++ 42 ∷ []) 0 == 47)) ≡ false
 has_more b bs rest [] e h = and-false (b == 42)
 has_more b bs rest (c ∷ inner) e h = subst (λ xs. ((b == 42) && (slice_index xs 0 == 47)) ≡ false) e h
@@ -39,10 +40,6 @@ closes_later b bs n h k = record {
   counts = let e : n ≡ length k.inner + 2 = k.counts in omega arith;
 }
 
-mapped : (o : Option ℕ) (n : ℕ) → option_map suc o ≡ Some n → (m : ℕ) × (o ≡ Some m) × (n ≡ suc m)
-mapped None n e = absurd cc
-mapped (Some m) n e = (m, refl, cc)
-
 pub close_some : (bs : List ℕ) (n : ℕ) → close_length bs ≡ Some n → Closes bs n
 close_some [] n e = absurd cc
 close_some (b ∷ bs) n e = go ((b == 42) && (slice_index bs 0 == 47)) refl (close_some bs)
@@ -55,12 +52,8 @@ close_some (b ∷ bs) n e = go ((b == 42) && (slice_index bs 0 == 47)) refl (clo
         subst (λ m. Closes (b ∷ bs) m) same (closes_here b bs at.0 at.1)
     go false h more =
         let mapped_e : option_map suc (close_length bs) ≡ Some n = rw h at e in
-        let parts = mapped (close_length bs) n mapped_e in
+        let parts = option_map-some suc (close_length bs) n mapped_e in
         subst (λ m. Closes (b ∷ bs) m) (sym parts.2) (closes_later b bs parts.0 h (more parts.0 parts.1))
-
-unmapped : (o : Option ℕ) → option_map suc o ≡ None → o ≡ None
-unmapped None e = refl
-unmapped (Some m) e = absurd cc
 
 pub close_none : (bs : List ℕ) → close_length bs ≡ None → has_close bs ≡ false
 close_none [] e = refl
@@ -70,9 +63,9 @@ close_none (b ∷ bs) e = go ((b == 42) && (slice_index bs 0 == 47)) refl (close
     go true h more = let wrong : Some 2 ≡ None = rw h at e in absurd cc
     go false h more =
         let rest : option_map suc (close_length bs) ≡ None = rw h at e in
-        rw h (more (unmapped (close_length bs) rest))
+        rw h (more (option_map-none suc (close_length bs) rest))
 
--- where `*/` stands, something closes
+-- where `*/` is, something closes
 pub close_there : (inner rest : List ℕ) → has_close (inner ++ 42 ∷ 47 ∷ rest) ≡ true
 close_there [] rest = refl
 close_there (b ∷ inner) rest = or_right ((b == 42) && (slice_index (inner ++ 42 ∷ 47 ∷ rest) 0 == 47)) _ (close_there inner rest)

@@ -1,6 +1,6 @@
 -- Each byte string reads: as tokens, or with a fault.
 use Rattle.std.proofs.Common.{◌≡◌, ◌<◌, ◌≤◌, ◌+◌, ◌-◌, ◌==◌, ◌⊎◌, inl, inr, ℕ, zero, suc, List, [], ◌++◌, length, drop, true, false, Bool, nat_lt, Option, Some, None, refl, sym, arith, length-drop, take-append-drop}
-use Rattle.std.proofs.lemmas.Bool.{ltb-true, ltb-false}
+use Rattle.std.proofs.lemmas.Bool.{ltb-true, ltb-false, eqb-true}
 use Rattle.std.specs.List.{slice_index}
 use Rattle.sf_base.specs.declared.limits.TheConstants.{FILE_BYTES}
 use Rattle.sf_base.specs.declared.place.Place.{Place}
@@ -9,17 +9,16 @@ use Rattle.sf_lex.specs.declared.fault.LexFault.TheVariants.{BadByte, LongWord, 
 use Rattle.sf_lex.specs.declared.front.Front.{Front}
 use Rattle.sf_lex.specs.declared.token.Kind.{Kind}
 use Rattle.sf_lex.specs.declared.token.Token.{Token}
-use Rattle.sf_lex.specs.Front.{Stands, begins_comment, begins_number, bytes_of, close_length, front_of, number_length, symbol_front, word_length}
+use Rattle.sf_lex.specs.Internal.Lexing.{Stands, begins_comment, begins_number, bytes_of, close_length, front_of, number_length, symbol_front, word_length}
 use Rattle.sf_lex.specs.Lexeme.{is_blank, is_letter}
 use Rattle.sf_lex.specs.Piece.{IsFront, is_bad_number, is_long_word, token}
 use Rattle.sf_lex.specs.Reading.{AreTokens, IsFault, IsFaultAt, first_place}
-use Rattle.sf_lex.proofs.Bytes.{is_underscore}
 use Rattle.sf_lex.proofs.CommentFronts.{comment_open, comment_stands}
 use Rattle.sf_lex.proofs.Steps.{ReadSo, finish, front_some, nothing_read, step, stop}
 use Rattle.sf_lex.proofs.SymbolFronts.{blank_stands, symbol_none, symbol_some}
 use Rattle.sf_lex.proofs.WordFronts.{existential_front, lone_underscore, number_front, word_front}
 
--- what stands in front of the bytes, or what is at fault there
+-- what comes before the bytes, or what is at fault there
 abbrev pub Seen : List ℕ → Place → Type 0
 Seen bs at = ((front : Front) × Stands front bs) ⊎ ((fault : LexFault) × IsFaultAt fault bs at)
 
@@ -59,7 +58,7 @@ seen-symbol bs at some b c l u d = go (symbol_front bs) refl
     go (Some p) e = inl (_, symbol_some bs p.0 p.1 l u d e)
     go None e = inr (BadByte at, (refl, symbol_none bs some b c l u d e))
 
--- where a byte is left, something stands in front or is at fault
+-- where a byte is left, something comes next or is at fault
 pub seen-some : (bs : List ℕ) (at : Place) → 0 < length bs → Seen bs at
 seen-some bs at some = go (is_blank (slice_index bs 0)) (begins_comment bs) (is_letter (slice_index bs 0)) (slice_index bs 0 == 95) (begins_number bs) refl refl refl refl refl
   where
@@ -68,7 +67,7 @@ seen-some bs at some = go (is_blank (slice_index bs 0)) (begins_comment bs) (is_
     go true comment letter underscore number b c l u d = inl (_, blank_stands bs some b)
     go false true letter underscore number b c l u d = seen-comment bs at c
     go false false true underscore number b c l u d = seen-word bs at some l
-    go false false false true number b c l u d = seen-existential bs at some (is_underscore (slice_index bs 0) u)
+    go false false false true number b c l u d = seen-existential bs at some (eqb-true (slice_index bs 0) 95 u)
     go false false false false true b c l u d = seen-number bs at d
     go false false false false false b c l u d = seen-symbol bs at some b c l u d
 

@@ -6,9 +6,9 @@ use Rattle.std.proofs.lemmas.Bool.Decides.{nat_tests}
 use Rattle.std.specs.List.{prefix_len, slice_index}
 use Rattle.std.specs.Str.Parse.{AllDigits, IsNumeral, without_leading_sign}
 use Rattle.std.specs.Char.{digit_value}
+use Rattle.sf_base.proofs.Bools.{or-not_left, or-not_right}
 use Rattle.sf_lex.specs.Lexeme.{is_digit}
-use Rattle.sf_lex.specs.Front.{begins_number, number_length}
-use Rattle.sf_lex.proofs.Bytes.{or_but_left, or_but_right}
+use Rattle.sf_lex.specs.Internal.Lexing.{begins_number, number_length}
 
 digit_below_ten : (b : ℕ) → is_digit b ≡ true → digit_value b < 10
 digit_below_ten b e = grind (arith, nat_tests)
@@ -37,7 +37,7 @@ no_plus b e = grind (arith, nat_tests)
 no_sign : (b : ℕ) (xs : List ℕ) → (b == 45) ≡ false → is_digit b ≡ true → without_leading_sign (b ∷ xs) ≡ b ∷ xs
 no_sign b xs h e = rw (h, no_plus b e) refl
 
--- behind a minus they stand alone
+-- after a minus they are alone
 one_sign : (b : ℕ) (xs : List ℕ) → (b == 45) ≡ true → without_leading_sign (b ∷ xs) ≡ xs
 one_sign b xs h = rw h refl
 
@@ -57,6 +57,6 @@ number_numeral (b ∷ bs) e = go (b == 45) refl
 
     go : (t : Bool) → (b == 45) ≡ t → IsNumeral 10 (without_leading_sign (take (cond t (1 + prefix_len is_digit bs) (prefix_len is_digit (b ∷ bs))) (b ∷ bs)))
     go true h =
-        let d : is_digit (slice_index bs 0) ≡ true = (and_parts (b == 45) _ (or_but_left (is_digit b) _ (no_minus b h) e)).1 in
+        let d : is_digit (slice_index bs 0) ≡ true = (and_parts (b == 45) _ (or-not_left (is_digit b) _ (no_minus b h) e)).1 in
         rw (one-add (prefix_len is_digit bs)) (subst (λ xs. IsNumeral 10 xs) (sym (one_sign b (take (prefix_len is_digit bs) bs) h)) (behind_minus bs d))
-    go false h = plain h (or_but_right (is_digit b) _ (and_left (b == 45) _ h) e)
+    go false h = plain h (or-not_right (is_digit b) _ (and_left (b == 45) _ h) e)

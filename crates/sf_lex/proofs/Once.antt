@@ -201,7 +201,7 @@ same_piece (token j a) (token k b) r s p q e =
     let text : a ≡ b = same.text in
     record { piece = cc; rest = same.rest }
 
--- no piece stands in front
+-- no piece comes next
 abbrev NoPiece : List ℕ → Type 0
 NoPiece bytes = (p : Piece) (rest : List ℕ) → IsPiece p rest → bytes ≡ text_of p ++ rest → ⊥
 
@@ -283,7 +283,7 @@ not_empty (BadNumber place) at f = token_not_empty f.1.kind f.1.text f.1.after f
 not_empty LongFile at f = f
 not_empty OutOfMemory at f = f
 
--- of what stands at one place one thing is at fault
+-- of what is at one place one thing is at fault
 bad_no_token : (bytes : List ℕ) (kind : Kind) (text after : List ℕ) → IsBadByte bytes → kind_of text ≡ Some kind → bytes ≡ text ++ after → ⊥
 bad_no_token bytes kind text after f e h = let no : kind_of text ≡ None = f.no_token text after h in cc
 

@@ -1,14 +1,13 @@
 -- One piece further: what was read so far, and the places and tokens of it.
 use Rattle.std.proofs.Common.{◌≡◌, ◌<◌, ◌≤◌, ◌+◌, ◌-◌, ◌==◌, ℕ, List, [], ◌∷◌, ◌++◌, length, take, drop, true, false, Bool, cond, None, Some, refl, ap, sym, ◌∙◌, arith, subst, append_assoc, append-nil, length-append, length-drop, length-take}
-use Rattle.std.proofs.Math.Seq.{drop-append_seam, take-append_seam}
-use Rattle.std.proofs.lemmas.List.{drop-drop, drop_all}
+use Rattle.std.proofs.lemmas.List.{drop-drop, drop_all, drop_at, take_at}
 use Rattle.sf_base.specs.declared.limits.TheConstants.{FILE_BYTES}
 use Rattle.sf_base.specs.declared.place.Place.{Place}
 use Rattle.sf_lex.specs.declared.fault.LexFault.{LexFault}
 use Rattle.sf_lex.specs.declared.fault.LexFault.TheVariants.{BadByte, LongWord, OpenComment, BadNumber, LongFile, OutOfMemory}
 use Rattle.sf_lex.specs.declared.front.Front.{Front}
 use Rattle.sf_lex.specs.declared.token.Token.{Token}
-use Rattle.sf_lex.specs.Front.{Stands, front_of, bytes_of, with_front}
+use Rattle.sf_lex.specs.Internal.Lexing.{Stands, front_of, bytes_of, with_front}
 use Rattle.sf_lex.specs.Piece.{Piece, blank, comment, token, text_of, spelled, IsPiece, ArePieces}
 use Rattle.sf_lex.specs.Reading.{AreTokens, IsFault, IsFaultAt, StopsAt, value_of, tokens_of, first_place, next_place, place_behind}
 
@@ -71,22 +70,16 @@ front_tokens found (blank b) start at = sym (append-nil found)
 front_tokens found (comment inner) start at = sym (append-nil found)
 front_tokens found (token kind text) start at = refl
 
-drop_text : (text rest : List ℕ) (n : ℕ) → n ≡ length text → drop n (text ++ rest) ≡ rest
-drop_text text rest n e = rw e (drop-append_seam text rest)
-
-take_text : (text rest : List ℕ) (n : ℕ) → n ≡ length text → take n (text ++ rest) ≡ text
-take_text text rest n e = rw e (take-append_seam text rest)
-
 drop_front : (front : Front) (bytes : List ℕ) (start : ℕ) (s : Stands front (drop start bytes)) → drop (start + bytes_of front) bytes ≡ s.rest
 drop_front front bytes start s =
     sym (drop-drop (bytes_of front) start bytes)
     ∙ ap (drop (bytes_of front)) s.spells
-    ∙ drop_text (text_of s.piece) s.rest (bytes_of front) (ap bytes_of s.is ∙ front_bytes s.piece)
+    ∙ drop_at (text_of s.piece) s.rest (bytes_of front) (sym (ap bytes_of s.is ∙ front_bytes s.piece))
 
 take_front : (front : Front) (bytes : List ℕ) (s : Stands front bytes) → take (bytes_of front) bytes ≡ text_of s.piece
 take_front front bytes s =
     ap (take (bytes_of front)) s.spells
-    ∙ take_text (text_of s.piece) s.rest (bytes_of front) (ap bytes_of s.is ∙ front_bytes s.piece)
+    ∙ take_at (text_of s.piece) s.rest (bytes_of front) (sym (ap bytes_of s.is ∙ front_bytes s.piece))
 
 pub step : (bytes : List ℕ) (start : ℕ) (at : Place) (found : List Token) (front : Front) → ReadSo bytes start at found → Stands front (drop start bytes)
     → ReadSo bytes (start + bytes_of front) (place_behind at (take (bytes_of front) (drop start bytes))) (with_front found front start at)

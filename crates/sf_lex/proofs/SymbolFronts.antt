@@ -2,13 +2,12 @@
 use Rattle.std.proofs.Common.{◌≡◌, ◌<◌, ◌==◌, ℕ, List, [], ◌∷◌, ◌++◌, length, true, false, Bool, cond, ◌&&◌, Option, Some, None, refl, ap, sym, ◌∙◌, arith, subst, pos}
 use Rattle.std.proofs.Math.Bool.{and-false}
 use Rattle.std.proofs.lemmas.Bool.{or_parts}
-use Rattle.std.proofs.lemmas.Bool.Decides.{nat_tests}
 use Rattle.std.specs.List.{slice_index}
 use Rattle.std.specs.Option.{option_map, option_or}
 use Rattle.sf_lex.specs.declared.front.Front.TheVariants as f
 use Rattle.sf_lex.specs.declared.token.Kind.{Kind}
 use Rattle.sf_lex.specs.declared.token.Kind.TheVariants as k
-use Rattle.sf_lex.specs.Front.{Stands, begins_comment, begins_number, symbol_front}
+use Rattle.sf_lex.specs.Internal.Lexing.{Stands, begins_comment, begins_number, symbol_front}
 use Rattle.sf_lex.specs.Lexeme.{is_blank, is_letter, is_digit, is_number, symbol_of_one, symbol_of_two, symbol_of_three, symbol_kind, kind_of}
 use Rattle.sf_lex.specs.Piece.{blank, token, IsFront, is_long_word, is_bad_number}
 use Rattle.sf_lex.specs.Reading.{value_of, IsBadByte}
@@ -210,6 +209,3 @@ symbol_none (b ∷ bs) some no_space no_open l u d e =
 pub blank_stands : (bs : List ℕ) → 0 < length bs → is_blank (slice_index bs 0) ≡ true → Stands (f.Space 1) bs
 blank_stands [] some e = absurd (omega arith)
 blank_stands (b ∷ bs) some e = record { piece = blank b; rest = bs; spells = refl; each = e; is = refl }
-
-pub no_underscore : (b : ℕ) → (b ≡ 95 → ⊥) → (b == 95) ≡ false
-no_underscore b h = grind (arith, nat_tests)

@@ -39,7 +39,7 @@ number-digits (b ∷ bs) e =
 number-fits : (kind : Kind) (text rest : List ℕ) → kind ≡ k.Number → is_bad_number kind text rest ≡ false → fits (signed_digits_value 10 text) ≡ true
 number-fits kind text rest n e = grind arith
 
--- a token that spans a text behind others, of that kind, is that text
+-- a token that spans a text after others, of that kind, is that text
 text-is : (bytes before text rest : List ℕ) (t : Token) → bytes ≡ before ++ (text ++ rest) → t.start ≡ length before → t.end ≡ length before + length text → t.place ≡ place_behind first_place before → t.value ≡ value_of t.kind text → IsPiece (token t.kind text) rest
     → IsItsText bytes t
 text-is bytes before text rest t e s n p v piece =
@@ -65,7 +65,7 @@ counted before text start s = simp length-append (omega arith)
 placed : (before text : List ℕ) (at : Place) → at ≡ place_behind first_place before → place_behind at text ≡ place_behind first_place (before ++ text)
 placed before text at p = ap (λ q. place_behind q text) p ∙ sym (behind_append first_place before text)
 
--- the tokens of pieces behind other bytes are their texts
+-- the tokens of pieces after other bytes are their texts
 texts-of : (ps : List Piece) (bytes before : List ℕ) (from start : ℕ) (at : Place) → bytes ≡ before ++ spelled ps [] → ArePieces ps [] → start ≡ length before → at ≡ place_behind first_place before → from ≤ start
     → AreTheirTexts bytes from (tokens_of ps start at)
 texts-of [] bytes before from start at e each s p h = tt

@@ -2,18 +2,20 @@
 use Rattle.std.proofs.Common.{◌≡◌, ◌<◌, ◌≤◌, ◌+◌, ◌==◌, ℕ, suc, List, [], ◌∷◌, ◌++◌, length, take, drop, true, false, Bool, cond, ◌&&◌, Option, Some, None, refl, ap, sym, ◌∙◌, arith, subst, take-append-drop, ℤ, pos}
 use Rattle.std.proofs.Math.Nat.{add-zero}
 use Rattle.std.proofs.Math.Numerals.{one-add}
-use Rattle.std.proofs.lemmas.Bool.{and_parts}
+use Rattle.std.proofs.lemmas.Bool.{and_parts, eqb-true}
 use Rattle.std.proofs.lemmas.List.{length-take-le, get_or-drop}
 use Rattle.std.specs.List.{prefix_len, list_all, slice_index}
 use Rattle.std.specs.Str.Parse.{signed_digits_value}
+use Rattle.sf_base.proofs.Bools.{or-not_left, or-not_right}
+use Rattle.sf_base.proofs.Prefixes.{prefix-more, prefix-none, prefix-passes, prefix-longest}
 use Rattle.sf_lex.specs.declared.front.Front.TheVariants as f
 use Rattle.sf_lex.specs.declared.token.Kind.{Kind}
 use Rattle.sf_lex.specs.declared.token.Kind.TheVariants as k
-use Rattle.sf_lex.specs.Front.{Stands, begins_number, number_length, word_length}
+use Rattle.sf_lex.specs.Internal.Lexing.{Stands, begins_number, number_length, word_length}
 use Rattle.sf_lex.specs.Lexeme.{is_letter, is_digit, is_word_byte, is_some_of, word_kind, symbol_kind, kind_of}
 use Rattle.sf_lex.specs.Piece.{token, IsFront, is_long_word, is_bad_number, fits}
 use Rattle.sf_lex.specs.Reading.{value_of, IsBadByte, IsLongWord, IsBadNumber}
-use Rattle.sf_lex.proofs.Bytes.{or_but_left, or_but_right, prefix_cons, prefix_none, run_all, run_stops, some_of_all, some_of_none, letter_is_word, digit_no_letter, digit_no_underscore, digit_no_minus, digit_no_equals, digit_no_bang, digit_no_bar, is_minus}
+use Rattle.sf_lex.proofs.Bytes.{some_of_all, some_of_none, letter_is_word, digit_no_letter, digit_no_underscore, digit_no_minus, digit_no_equals, digit_no_bang, digit_no_bar}
 
 kind_letter : (b : ℕ) (bs : List ℕ) → is_letter b ≡ true → list_all is_word_byte bs ≡ true → kind_of (b ∷ bs) ≡ Some (word_kind (b ∷ bs))
 kind_letter b bs l a = rw (l, a) refl
@@ -21,13 +23,13 @@ kind_letter b bs l a = rw (l, a) refl
 kind_no_letter : (b : ℕ) (bs : List ℕ) → is_letter b ≡ true → list_all is_word_byte bs ≡ false → kind_of (b ∷ bs) ≡ None
 kind_no_letter b bs l a = rw (l, a) refl
 
--- the run of word bytes behind a letter is the longest word
+-- the run of word bytes after a letter is the longest word
 pub word_front : (bs : List ℕ) → 0 < length bs → is_letter (slice_index bs 0) ≡ true → IsFront (word_kind (take (word_length bs) bs)) (take (word_length bs) bs) (drop (word_length bs) bs)
 word_front [] h l = absurd (omega arith)
 word_front (b ∷ bs) h l =
-    rw (prefix_cons is_word_byte b bs (letter_is_word b l)) (record {
-      is = kind_letter b (take (word_length bs) bs) l (run_all is_word_byte bs);
-      longest = λ c more after e. kind_no_letter b (take (word_length bs) bs ++ c ∷ more) l (run_stops is_word_byte bs c more after e);
+    rw (prefix-more is_word_byte b bs (letter_is_word b l)) (record {
+      is = kind_letter b (take (word_length bs) bs) l (prefix-passes is_word_byte bs);
+      longest = λ c more after e. kind_no_letter b (take (word_length bs) bs ++ c ∷ more) l (prefix-longest is_word_byte bs c more after e);
     })
 
 kind_underscore : (bs : List ℕ) → is_some_of is_word_byte bs ≡ true → kind_of (95 ∷ bs) ≡ Some k.Existential
@@ -39,8 +41,8 @@ kind_no_underscore bs e = rw e refl
 -- so is the run of word bytes that begins with `_`, where it is longer than that
 pub underscore_front : (bs : List ℕ) → 0 < length (take (word_length bs) bs) → IsFront k.Existential (95 ∷ take (word_length bs) bs) (drop (word_length bs) bs)
 underscore_front bs h = record {
-  is = kind_underscore (take (word_length bs) bs) (some_of_all is_word_byte (take (word_length bs) bs) h (run_all is_word_byte bs));
-  longest = λ c more after e. kind_no_underscore (take (word_length bs) bs ++ c ∷ more) (some_of_none is_word_byte (take (word_length bs) bs ++ c ∷ more) (run_stops is_word_byte bs c more after e));
+  is = kind_underscore (take (word_length bs) bs) (some_of_all is_word_byte (take (word_length bs) bs) h (prefix-passes is_word_byte bs));
+  longest = λ c more after e. kind_no_underscore (take (word_length bs) bs ++ c ∷ more) (some_of_none is_word_byte (take (word_length bs) bs ++ c ∷ more) (prefix-longest is_word_byte bs c more after e));
 }
 
 some_taken : (bs : List ℕ) → 0 < word_length bs → 0 < length (take (word_length bs) bs)
@@ -48,9 +50,9 @@ some_taken [] h = h
 some_taken (b ∷ bs) h = go (is_word_byte b) refl
   where
     go : (t : Bool) → is_word_byte b ≡ t → 0 < length (take (word_length (b ∷ bs)) (b ∷ bs))
-    go true e = rw (prefix_cons is_word_byte b bs e) (omega arith)
+    go true e = rw (prefix-more is_word_byte b bs e) (omega arith)
     go false e =
-        let none : word_length (b ∷ bs) ≡ 0 = prefix_none is_word_byte b bs e in
+        let none : word_length (b ∷ bs) ≡ 0 = prefix-none is_word_byte b bs e in
         absurd (omega arith)
 
 pub existential_front : (bs : List ℕ) → 0 < length bs → slice_index bs 0 ≡ 95 → 2 ≤ word_length bs → IsFront k.Existential (take (word_length bs) bs) (drop (word_length bs) bs)
@@ -60,7 +62,7 @@ existential_front (b ∷ bs) h u l =
   where
     at_underscore : (bs : List ℕ) → 2 ≤ word_length (95 ∷ bs) → IsFront k.Existential (take (word_length (95 ∷ bs)) (95 ∷ bs)) (drop (word_length (95 ∷ bs)) (95 ∷ bs))
     at_underscore bs l =
-        let n : word_length (95 ∷ bs) ≡ suc (word_length bs) = prefix_cons is_word_byte 95 bs refl in
+        let n : word_length (95 ∷ bs) ≡ suc (word_length bs) = prefix-more is_word_byte 95 bs refl in
         rw n (underscore_front bs (some_taken bs (omega arith)))
 
 no_text_at_underscore : (bs text after : List ℕ) → word_length (95 ∷ bs) < 2 → 95 ∷ bs ≡ text ++ after → kind_of text ≡ None
@@ -75,8 +77,8 @@ no_text_at_underscore bs (a ∷ b ∷ text) after l e =
   where
     go : (t : Bool) → is_word_byte b ≡ t → 95 ≡ a → bs ≡ b ∷ (text ++ after) → kind_of (a ∷ b ∷ text) ≡ None
     go true w same rest =
-        let n : word_length (95 ∷ bs) ≡ suc (word_length bs) = prefix_cons is_word_byte 95 bs refl in
-        let m : word_length bs ≡ suc (word_length (text ++ after)) = ap word_length rest ∙ prefix_cons is_word_byte b (text ++ after) w in
+        let n : word_length (95 ∷ bs) ≡ suc (word_length bs) = prefix-more is_word_byte 95 bs refl in
+        let m : word_length bs ≡ suc (word_length (text ++ after)) = ap word_length rest ∙ prefix-more is_word_byte b (text ++ after) w in
         absurd (omega arith)
     go false w same rest = subst (λ x. kind_of (x ∷ b ∷ text) ≡ None) same (rw w refl)
 
@@ -119,16 +121,16 @@ digits_longer b (x ∷ xs) c more d h = kind_no_digits b x (xs ++ c ∷ more) d 
 
 minus_front : (b : ℕ) (bs : List ℕ) → is_digit b ≡ true → IsFront k.Number (45 ∷ take (prefix_len is_digit (b ∷ bs)) (b ∷ bs)) (drop (prefix_len is_digit (b ∷ bs)) (b ∷ bs))
 minus_front b bs d =
-    rw (prefix_cons is_digit b bs d) (record {
-      is = kind_minus (b ∷ take (prefix_len is_digit bs) bs) (rw d (run_all is_digit bs));
-      longest = λ c more after e. minus_longer b (take (prefix_len is_digit bs) bs) c more d (run_stops is_digit bs c more after e);
+    rw (prefix-more is_digit b bs d) (record {
+      is = kind_minus (b ∷ take (prefix_len is_digit bs) bs) (rw d (prefix-passes is_digit bs));
+      longest = λ c more after e. minus_longer b (take (prefix_len is_digit bs) bs) c more d (prefix-longest is_digit bs c more after e);
     })
 
 digits_front : (b : ℕ) (bs : List ℕ) → is_digit b ≡ true → IsFront k.Number (take (prefix_len is_digit (b ∷ bs)) (b ∷ bs)) (drop (prefix_len is_digit (b ∷ bs)) (b ∷ bs))
 digits_front b bs d =
-    rw (prefix_cons is_digit b bs d) (record {
-      is = kind_digits b (take (prefix_len is_digit bs) bs) d (run_all is_digit bs);
-      longest = λ c more after e. digits_longer b (take (prefix_len is_digit bs) bs) c more d (run_stops is_digit bs c more after e);
+    rw (prefix-more is_digit b bs d) (record {
+      is = kind_digits b (take (prefix_len is_digit bs) bs) d (prefix-passes is_digit bs);
+      longest = λ c more after e. digits_longer b (take (prefix_len is_digit bs) bs) c more d (prefix-longest is_digit bs c more after e);
     })
 
 -- digits with their sign are the longest number
@@ -137,7 +139,7 @@ number_front [] e = absurd cc
 number_front (b ∷ bs) e = go (b == 45) refl
   where
     no_digit : (b == 45) ≡ true → is_digit b ≡ false
-    no_digit m = let same : 45 ≡ b = sym (is_minus b m) in subst (λ x. is_digit x ≡ false) same refl
+    no_digit m = let same : 45 ≡ b = sym (eqb-true b 45 m) in subst (λ x. is_digit x ≡ false) same refl
 
     behind_minus : (bs : List ℕ) → is_digit (slice_index bs 0) ≡ true → IsFront k.Number (45 ∷ take (prefix_len is_digit bs) bs) (drop (prefix_len is_digit bs) bs)
     behind_minus [] d = absurd cc
@@ -145,13 +147,13 @@ number_front (b ∷ bs) e = go (b == 45) refl
 
     go : (t : Bool) → (b == 45) ≡ t → IsFront k.Number (take (cond t (1 + prefix_len is_digit bs) (prefix_len is_digit (b ∷ bs))) (b ∷ bs)) (drop (cond t (1 + prefix_len is_digit bs) (prefix_len is_digit (b ∷ bs))) (b ∷ bs))
     go true m =
-        let d : is_digit (slice_index bs 0) ≡ true = (and_parts (b == 45) _ (or_but_left (is_digit b) _ (no_digit m) e)).1 in
-        rw (one-add (prefix_len is_digit bs), is_minus b m) (behind_minus bs d)
+        let d : is_digit (slice_index bs 0) ≡ true = (and_parts (b == 45) _ (or-not_left (is_digit b) _ (no_digit m) e)).1 in
+        rw (one-add (prefix_len is_digit bs), eqb-true b 45 m) (behind_minus bs d)
     go false m =
         let off : ((b == 45) && is_digit (slice_index bs 0)) ≡ false = rw m refl in
-        digits_front b bs (or_but_right (is_digit b) _ off e)
+        digits_front b bs (or-not_right (is_digit b) _ off e)
 
--- the longest token of so many bytes, neither too long nor a bad number, is what stands in front, with what it writes
+-- the longest token of so many bytes, neither too long nor a bad number, is what comes next, with what it writes
 pub token_stands : (kind : Kind) (bs : List ℕ) (n : ℕ) (v : ℤ) → n ≤ length bs → IsFront kind (take n bs) (drop n bs) → is_long_word kind n ≡ false → is_bad_number kind (take n bs) (drop n bs) ≡ false → v ≡ value_of kind (take n bs) → Stands (f.Token kind n v) bs
 token_stands kind bs n v h front long bad writes =
     let counts : length (take n bs) ≡ n = length-take-le n bs h in
@@ -193,7 +195,7 @@ pub no_number_no_value : (kind : Kind) (text : List ℕ) → (kind ≡ k.Number 
 no_number_no_value k.Number text h = absurd (h refl)
 no_number_no_value _ text h = refl
 
--- the byte behind so many is the first of those behind them
+-- the byte after so many is the first of those after them
 pub bad_number_at : (bs : List ℕ) (n : ℕ) → is_bad_number k.Number (take n bs) (drop n bs) ≡ cond (fits (signed_digits_value 10 (take n bs))) (is_word_byte (slice_index bs n)) true
 bad_number_at bs n = ap (λ b. cond (fits (signed_digits_value 10 (take n bs))) (is_word_byte b) true) (get_or-drop n bs 0 0 ∙ ap (slice_index bs) (add-zero n))
 

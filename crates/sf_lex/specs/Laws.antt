@@ -24,12 +24,12 @@ EachFileReadsOnce = (bytes : List ℕ) → ReadsOnce bytes
 abbrev pub text_at : List ℕ → Token → List ℕ
 text_at bytes t = take (t.end - t.start) (drop t.start bytes)
 
--- digits, with a `-` in front or without, of a number that fits 64 bits
+-- digits, with a `-` before them or none, of a number that fits 64 bits
 pub record IsNumber (text : List ℕ) : Type 0 where
   pub digits : is_number text ≡ true
   pub in_range : fits (signed_digits_value 10 text) ≡ true
 
--- a token is its text: bytes of the file, one or more, of its kind and not too long; its value is what they write, and its place is behind all
+-- a token is its text: bytes of the file, one or more, of its kind and not too long; its value is what they write, and its place is after all
 -- before them
 pub record IsItsText (bytes : List ℕ) (t : Token) : Type 0 where
   pub some : t.start < t.end
@@ -40,7 +40,7 @@ pub record IsItsText (bytes : List ℕ) (t : Token) : Type 0 where
   pub value : t.value ≡ value_of t.kind (text_at bytes t)
   pub place : t.place ≡ place_behind first_place (take t.start bytes)
 
--- each token is its text, and begins where the one before it ends or behind that
+-- each token is its text, and begins where the one before it ends or after that
 abbrev pub AreTheirTexts : List ℕ → (before : ℕ) → List Token → Type 0
 AreTheirTexts bytes before [] = Unit {0}
 AreTheirTexts bytes before (t ∷ ts) = IsItsText bytes t × (before ≤ t.start) × AreTheirTexts bytes t.end ts

@@ -28,7 +28,7 @@ abbrev pub is_some_of : (ℕ → Bool) → List ℕ → Bool
 is_some_of test [] = false
 is_some_of test (b ∷ bs) = test b && list_all test bs
 
--- digits, with a `-` in front or without
+-- digits, with a `-` before them or none
 abbrev pub is_number : List ℕ → Bool
 is_number [] = false
 is_number (b ∷ bs) = if b == 45 then is_some_of is_digit bs else is_some_of is_digit (b ∷ bs)

@@ -2,4 +2,4 @@ pub mod Lexeme
 pub mod Piece
 pub mod Reading
 pub mod Laws
-pub mod Front
+pub mod Internal

@@ -12,11 +12,11 @@ use Rattle.sf_lex.specs.declared.token.Token.{Token}
 use Rattle.sf_lex.specs.Lexeme.{is_blank, kind_of}
 use Rattle.sf_lex.specs.Piece.{Piece, blank, comment, token, text_of, spelled, has_close, is_long_word, is_bad_number, IsFront, ArePieces}
 
--- the place behind one byte: a line feed ends a line
+-- the place after one byte: a line feed ends a line
 abbrev pub next_place : Place → ℕ → Place
 next_place at byte = if byte == 10 then record { line = at.line + 1; column = 1 } else record { line = at.line; column = at.column + 1 }
 
--- the place behind bytes
+-- the place after bytes
 abbrev pub place_behind : Place → List ℕ → Place
 place_behind at [] = at
 place_behind at (b ∷ bs) = place_behind (next_place at b) bs
@@ -30,7 +30,7 @@ abbrev pub value_of : Kind → List ℕ → ℤ
 value_of Number text = signed_digits_value 10 text
 value_of _ text = pos 0
 
--- the tokens among pieces, where so many bytes stand before the first one, at that place
+-- the tokens among pieces, where so many bytes come before the first one, at that place
 abbrev pub tokens_of : List Piece → (start : ℕ) → Place → List Token
 tokens_of [] start at = []
 tokens_of (blank b ∷ ps) start at = tokens_of ps (start + 1) (next_place at b)
@@ -53,7 +53,7 @@ pub record IsBadByte (rest : List ℕ) : Type 0 where
   pub no_comment : (inside : List ℕ) → rest ≡ 47 ∷ 42 ∷ inside → ⊥
   pub no_token : (text after : List ℕ) → rest ≡ text ++ after → kind_of text ≡ None
 
--- the longest token in front is a name or existential that is too long
+-- the longest token next is a name or existential that is too long
 pub record IsLongWord (rest : List ℕ) : Type 0 where
   pub kind : Kind
   pub text : List ℕ
@@ -68,7 +68,7 @@ pub record IsOpenComment (rest : List ℕ) : Type 0 where
   pub spells : rest ≡ 47 ∷ 42 ∷ inside
   pub unclosed : has_close inside ≡ false
 
--- the longest token in front is a number that is not in order
+-- the longest token next is a number that is not in order
 pub record IsBadNumber (rest : List ℕ) : Type 0 where
   pub kind : Kind
   pub text : List ℕ
@@ -77,7 +77,7 @@ pub record IsBadNumber (rest : List ℕ) : Type 0 where
   pub front : IsFront kind text after
   pub bad : is_bad_number kind text after ≡ true
 
--- what is at fault at that place, with the rest of the file behind it
+-- what is at fault at that place, with the rest of the file after it
 abbrev pub IsFaultAt : LexFault → List ℕ → Place → Type 0
 IsFaultAt (BadByte place) rest at = (place ≡ at) × IsBadByte rest
 IsFaultAt (LongWord place) rest at = (place ≡ at) × IsLongWord rest
@@ -86,7 +86,7 @@ IsFaultAt (BadNumber place) rest at = (place ≡ at) × IsBadNumber rest
 IsFaultAt LongFile rest at = ⊥
 IsFaultAt OutOfMemory rest at = ⊥
 
--- the bytes are pieces up to a place, and what stands there is at fault
+-- the bytes are pieces up to a place, and what is there is at fault
 pub record StopsAt (bytes : List ℕ) (fault : LexFault) : Type 0 where
   pub short : length bytes ≤ FILE_BYTES
   pub pieces : List Piece

@@ -14,7 +14,7 @@ pub enum LexFault {
     /// Kind 3: a comment without an end, at its first byte.
     #[error("a comment without an end")]
     OpenComment(Place),
-    /// Kind 4: a number outside `i64`, or directly in front of a letter or `_`, at its first byte.
+    /// Kind 4: a number outside `i64`, or directly before a letter or `_`, at its first byte.
     #[error("a bad number")]
     BadNumber(Place),
     /// Kind 5: more bytes than a file may have. It comes before the others.

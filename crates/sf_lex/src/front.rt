@@ -2,7 +2,7 @@ ghost use Rattle.std.specs.Prelude.{◌≡◌, ◌<◌, ◌≤◌, ◌∷◌, tr
 ghost use Rattle.std.specs.List.{prefix_len};
 ghost use Rattle.std.specs.Str.{IsAscii};
 ghost use Rattle.std.specs.Str.Parse.{IsNumeral, without_leading_sign, signed_digits_value};
-ghost use Rattle.sf_lex.specs.Front.{Stands, begins_comment, begins_number, close_length, number_length, word_length};
+ghost use Rattle.sf_lex.specs.Internal.Lexing.{Stands, begins_comment, begins_number, close_length, number_length, word_length};
 ghost use Rattle.sf_lex.specs.Lexeme.{is_blank, is_digit, is_letter, is_word_byte};
 ghost use Rattle.sf_lex.specs.Piece.{fits, is_long_word};
 ghost use Rattle.sf_lex.specs.Reading.{IsFaultAt};
@@ -15,7 +15,7 @@ use sf_base::Place;
 use sf_base::limits::NAME_BYTES;
 use std::str;
 
-/// What stands at the front of the bytes that are left.
+/// What is at the front of the bytes that are left.
 #[derive(Clone, Copy, Debug, PartialEq, Eq)]
 pub enum Front {
     /// A blank or a comment of that many bytes.
@@ -31,14 +31,14 @@ fn is_blank(byte: u8) -> bool
     byte == b' ' || byte == b'\t' || byte == b'\r' || byte == b'\n'
 }
 
-/// Whether it may stand in a word, behind the first byte.
+/// Whether it may occur in a word, after the first byte.
 fn is_word_byte(byte: u8) -> bool
     ensures { result ≡ is_word_byte byte }
 {
     byte.is_ascii_alphanumeric() || byte == b'_'
 }
 
-/// How many bytes at the front may stand in a word.
+/// How many bytes at the front may occur in a word.
 fn word_length(bytes: &[u8]) -> usize
     ensures length { result ≡ word_length bytes.now }
     ensures within { result ≤ length bytes.now }
@@ -113,7 +113,8 @@ fn ascii(bytes: &[u8]) -> &str
 fn value(text: &[u8]) -> Option<i64>
     requires ascii { IsAscii text.now }
     requires numeral { IsNumeral 10 (without_leading_sign text.now) }
-    ensures { result ≡ (if fits (signed_digits_value 10 text.now) then Some (signed_digits_value 10 text.now) else None) }
+    ensures { result ≡ (if fits (signed_digits_value 10 text.now) then Some
+        (signed_digits_value 10 text.now) else None) }
 {
     match i64::from_str_radix(ascii(text), 10) {
         Ok(value) => Some(value),
@@ -124,7 +125,8 @@ fn value(text: &[u8]) -> Option<i64>
 /// The comment at the front.
 fn comment(place: Place, bytes: &[u8]) -> Result<Front, LexFault>
     requires { begins_comment bytes.now ≡ true }
-    ensures { MatchResult result (λ front. Stands front bytes.now) (λ fault. IsFaultAt fault bytes.now place) }
+    ensures { MatchResult result (λ front. Stands front bytes.now)
+        (λ fault. IsFaultAt fault bytes.now place) }
 {
     match close_length(from_index(bytes, 2)) {
         Some(length) => Ok(Front::Space(2 + length)),
@@ -146,7 +148,8 @@ fn is_long_word(kind: Kind, bytes: usize) -> bool
 fn word(place: Place, bytes: &[u8]) -> Result<Front, LexFault>
     requires some { 0 < length bytes.now }
     requires letter { is_letter (slice_index bytes.now 0) ≡ true }
-    ensures { MatchResult result (λ front. Stands front bytes.now) (λ fault. IsFaultAt fault bytes.now place) }
+    ensures { MatchResult result (λ front. Stands front bytes.now)
+        (λ fault. IsFaultAt fault bytes.now place) }
 {
     let length = word_length(bytes);
     let kind = word_kind(&bytes[..length]);
@@ -160,7 +163,8 @@ fn word(place: Place, bytes: &[u8]) -> Result<Front, LexFault>
 fn existential(place: Place, bytes: &[u8]) -> Result<Front, LexFault>
     requires some { 0 < length bytes.now }
     requires underscore { slice_index bytes.now 0 ≡ 95 }
-    ensures { MatchResult result (λ front. Stands front bytes.now) (λ fault. IsFaultAt fault bytes.now place) }
+    ensures { MatchResult result (λ front. Stands front bytes.now)
+        (λ fault. IsFaultAt fault bytes.now place) }
 {
     let length = word_length(bytes);
     if length < 2 {
@@ -172,13 +176,15 @@ fn existential(place: Place, bytes: &[u8]) -> Result<Front, LexFault>
     Ok(Front::Token(Kind::Existential, length, 0))
 }
 
-/// The number of so many bytes, unless it is outside 64 bits or directly in front of a letter or
+/// The number of so many bytes, unless it is outside 64 bits or directly before a letter or
 /// `_`.
 fn good_number(bytes: &[u8], end: usize) -> Option<i64>
     requires within { end ≤ length bytes.now }
     requires ascii { IsAscii (take end bytes.now) }
     requires numeral { IsNumeral 10 (without_leading_sign (take end bytes.now)) }
-    ensures { result ≡ (if fits (signed_digits_value 10 (take end bytes.now)) then (if is_word_byte (slice_index bytes.now end) then None else Some (signed_digits_value 10 (take end bytes.now))) else None) }
+    ensures { result ≡ (if fits (signed_digits_value 10 (take end bytes.now)) then
+        (if is_word_byte (slice_index bytes.now end) then None else Some
+        (signed_digits_value 10 (take end bytes.now))) else None) }
 {
     let value = value(&bytes[..end])?;
     if is_word_byte(byte_at(bytes, end)) {
@@ -190,7 +196,8 @@ fn good_number(bytes: &[u8], end: usize) -> Option<i64>
 /// The number at the front.
 fn number(place: Place, bytes: &[u8]) -> Result<Front, LexFault>
     requires { begins_number bytes.now ≡ true }
-    ensures { MatchResult result (λ front. Stands front bytes.now) (λ fault. IsFaultAt fault bytes.now place) }
+    ensures { MatchResult result (λ front. Stands front bytes.now)
+        (λ fault. IsFaultAt fault bytes.now place) }
 {
     let length = number_length(bytes);
     match good_number(bytes, length) {
@@ -199,10 +206,11 @@ fn number(place: Place, bytes: &[u8]) -> Result<Front, LexFault>
     }
 }
 
-/// What stands at the front.
+/// What is at the front.
 pub fn look(place: Place, bytes: &[u8]) -> Result<Front, LexFault>
     requires { 0 < length bytes.now }
-    ensures { MatchResult result (λ front. Stands front bytes.now) (λ fault. IsFaultAt fault bytes.now place) }
+    ensures { MatchResult result (λ front. Stands front bytes.now)
+        (λ fault. IsFaultAt fault bytes.now place) }
 {
     if is_blank(bytes[0]) {
         return Ok(Front::Space(1));

@@ -3,7 +3,6 @@
 ghost use Rattle.sf_lex.specs.Laws.{EachFileReadsOnce, EachTokenIsItsText};
 
 /// Each file reads in exactly one way: as one list of tokens, or with one fault.
-#[tactic(auto, using(crate::proofs::Closing::each_file_reads_once))]
 pub fn each_file_reads_once()
     ensures { EachFileReadsOnce }
 {}

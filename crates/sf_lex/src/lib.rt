@@ -1,4 +1,4 @@
-//! The tokens of a file: which bytes make one, where it stands, and the first fault where there is one.
+//! The tokens of a file: which bytes make one, where it is, and the first fault where there is one.
 #![tactic(auto)]
 
 mod fault;

@@ -1,6 +1,6 @@
 ghost use Rattle.std.specs.Prelude.{◌≡◌, ◌≤◌, ◌<◌, ◌+◌, ◌-◌, ◌^◌, ◌⊎◌, length, List, IfOk, IfErr, MatchResult};
 ghost use Rattle.sf_base.specs.declared.limits.TheConstants.{FILE_BYTES};
-ghost use Rattle.sf_lex.specs.Front.{bytes_of, with_front};
+ghost use Rattle.sf_lex.specs.Internal.Lexing.{bytes_of, with_front};
 ghost use Rattle.sf_lex.specs.Reading.{AreTokens, IsFault, first_place, next_place, place_behind};
 
 use crate::fault::LexFault;
@@ -11,7 +11,7 @@ use sf_base::Place;
 use sf_base::limits::FILE_BYTES;
 use std::alloc::Global;
 
-/// The place behind one byte.
+/// The place after one byte.
 fn next_place(place: Place, byte: u8) -> Place
     requires line { place.line < 2 ^ 32 - 1 }
     requires column { place.column < 2 ^ 32 - 1 }
@@ -30,7 +30,7 @@ fn next_place(place: Place, byte: u8) -> Place
     }
 }
 
-/// The place behind bytes.
+/// The place after bytes.
 fn place_behind(place: Place, bytes: &[u8]) -> Place
     requires line { place.line + length bytes.now < 2 ^ 32 }
     requires column { place.column + length bytes.now < 2 ^ 32 }
@@ -50,7 +50,7 @@ fn first_place() -> Place
     Place { line: 1, column: 1 }
 }
 
-/// The place behind a file's last byte.
+/// The place after a file's last byte.
 pub fn end_place(bytes: &[u8]) -> Place
     requires { length bytes.now ≤ FILE_BYTES }
     ensures { result ≡ place_behind first_place bytes.now }
@@ -58,7 +58,7 @@ pub fn end_place(bytes: &[u8]) -> Place
     place_behind(first_place(), bytes)
 }
 
-/// The tokens so far and the one in front, if a token is there.
+/// The tokens so far and the next one, if a token is there.
 fn keep(found: &mut Vec<Token>, front: Front, start: usize, place: Place) -> Result<(), LexFault>
     requires within { start + bytes_of front ≤ FILE_BYTES }
     ensures kept { IfOk result (λ _. found.new.items ≡ with_front found.old.items front start place) }
@@ -115,8 +115,11 @@ fn scan(alloc: Global, bytes: &[u8]) -> Result<Vec<Token>, LexFault>
 pub fn tokens(alloc: Global, bytes: &[u8]) -> Result<Vec<Token>, LexFault>
     ensures found { IfOk result (λ found. AreTokens bytes.now found.items) }
     ensures refused { IfErr result (λ fault. (fault ≡ LexFault.OutOfMemory) ⊎ IsFault bytes.now fault) }
-    ensures only_found { (tokens : List Token) → AreTokens bytes.now tokens → MatchResult result (λ found. found.items ≡ tokens) (λ fault. fault ≡ LexFault.OutOfMemory) }
-    ensures only_refused { (fault : LexFault) → IsFault bytes.now fault → MatchResult result (λ _. ⊥) (λ own. (own ≡ fault) ⊎ (own ≡ LexFault.OutOfMemory)) }
+    ensures only_found { (tokens : List Token) → AreTokens bytes.now tokens
+        → MatchResult result (λ found. found.items ≡ tokens) (λ fault. fault
+        ≡ LexFault.OutOfMemory) }
+    ensures only_refused { (fault : LexFault) → IsFault bytes.now fault
+        → MatchResult result (λ _. ⊥) (λ own. (own ≡ fault) ⊎ (own ≡ LexFault.OutOfMemory)) }
 {
     if bytes.len() > FILE_BYTES {
         return Err(LexFault::LongFile);

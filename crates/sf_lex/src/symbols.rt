@@ -1,10 +1,10 @@
 ghost use Rattle.std.specs.Prelude.{◌≡◌, ◌≤◌, drop, length, slice_index};
 ghost use Rattle.sf_lex.specs.Lexeme.{symbol_of_one, symbol_of_two, symbol_of_three};
-ghost use Rattle.sf_lex.specs.Front.{symbol_front};
+ghost use Rattle.sf_lex.specs.Internal.Lexing.{symbol_front};
 
 use crate::token::Kind;
 
-/// The byte there, and 0 behind the last one.
+/// The byte there, and 0 after the last one.
 pub fn byte_at(bytes: &[u8], index: usize) -> u8
     ensures { result ≡ slice_index bytes.now index }
 {

@@ -7,7 +7,7 @@ pub enum Kind {
     Name,
     /// `_`, then one or more letters, digits and `_`.
     Existential,
-    /// Digits, with a `-` in front or without, of a number that fits `i64`.
+    /// Digits, with a `-` before them or none, of a number that fits `i64`.
     Number,
     /// `NULL`
     Null,
@@ -79,16 +79,16 @@ pub enum Kind {
     Bars,
 }
 
-/// A token: its kind, what it writes where it is a number, and where its text stands in the file.
+/// A token: its kind, what it writes where it is a number, and where its text occurs in the file.
 #[derive(Clone, Copy, Debug, PartialEq, Eq)]
 pub struct Token {
     /// What it is.
     pub kind: Kind,
     /// What a number writes; 0 for other tokens.
     pub value: i64,
-    /// How many bytes stand before its text.
+    /// How many bytes come before its text.
     pub start: usize,
-    /// How many bytes stand before what follows its text.
+    /// How many bytes come before what follows its text.
     pub end: usize,
     /// The place of its first byte.
     pub place: Place,

@@ -10,11 +10,11 @@ use Rattle.sf_ast.specs.Surface as s
 use Rattle.sf_lex.specs.declared.token.Kind.{Kind}
 use Rattle.sf_lex.specs.declared.token.Kind.TheVariants as k
 use Rattle.sf_parse.specs.Grammar as g
-use Rattle.sf_parse.specs.Heads.{IsFlat}
-use Rattle.sf_parse.specs.Machine as m
-use Rattle.sf_parse.specs.Machine.{Owed, Choice, take, skip, refuse, Next, goes, bad, deep, leveled, chosen, choice, is_free, step, or_skip, mark_kind, on_exact, on_expression, on_operand, on_conjunct, on_command}
+use Rattle.sf_parse.specs.Internal.Heads.{IsFlat}
+use Rattle.sf_parse.specs.Internal.Machine as m
+use Rattle.sf_parse.specs.Internal.Machine.{Predicted, Choice, take, skip, refuse, Next, goes, bad, deep, leveled, chosen, choice, is_free, step, or_skip, terminal_kind, on_exact, on_expression, on_operand, on_conjunct, on_command}
 use Rattle.sf_parse.specs.Nesting.{has_level, NotElse, Follows, ConjunctWithin, AssertionWithin, MaybeWithin, CommandWithin, CommandsWithin}
-use Rattle.sf_parse.specs.Steps.{Ends}
+use Rattle.sf_parse.specs.Internal.Steps.{Ends}
 use Rattle.sf_parse.proofs.Means.{Spells, Means, MeansNext}
 
 pub a_place : Place
@@ -24,59 +24,59 @@ pub a_word : Word
 a_word = record { start = 0; end = 0; place = a_place }
 
 -- an expression's first token
-pub record ExprBack (n : ℕ) (u : Kind) (ss st : List Owed) (ts : List Kind) : Type 0 where
+pub record ExprBack (n : ℕ) (u : Kind) (ss st : List Predicted) (ts : List Kind) : Type 0 where
   pub expr : SurfaceExpr
   pub is : u ≡ g.expr expr
   pub more : Means n (ss ++ st) ts
 
-pub expr_back : (n : ℕ) (u : Kind) (ss st : List Owed) (w : Next) (ts : List Kind) → MeansNext n (chosen (on_expression u ss) true st w) ts → ExprBack n u ss st ts
+pub expr_back : (n : ℕ) (u : Kind) (ss st : List Predicted) (w : Next) (ts : List Kind) → MeansNext n (chosen (on_expression u ss) true st w) ts → ExprBack n u ss st ts
 expr_back n k.Name ss st w ts m = record { expr = e.Name a_word; is = refl; more = m }
 expr_back n k.Nil ss st w ts m = record { expr = e.Nil a_place; is = refl; more = m }
 expr_back n k.Null ss st w ts m = record { expr = e.Null a_place; is = refl; more = m }
 expr_back n k.Number ss st w ts m = record { expr = e.Number (pos 0) a_place; is = refl; more = m }
 expr_back n _ ss st w ts m = absurd m
 
-pub record OperandBack (n : ℕ) (u : Kind) (ss st : List Owed) (ts : List Kind) : Type 0 where
+pub record OperandBack (n : ℕ) (u : Kind) (ss st : List Predicted) (ts : List Kind) : Type 0 where
   pub expr : SurfaceOperand
   pub is : u ≡ g.operand expr
   pub more : Means n (ss ++ st) ts
 
-known_back : (n : ℕ) (u : Kind) (ss st : List Owed) (ts : List Kind) → ExprBack n u ss st ts → OperandBack n u ss st ts
+known_back : (n : ℕ) (u : Kind) (ss st : List Predicted) (ts : List Kind) → ExprBack n u ss st ts → OperandBack n u ss st ts
 known_back n u ss st ts m = record { expr = v.Known m.expr; is = m.is; more = m.more }
 
-pub operand_back : (n : ℕ) (u : Kind) (ss st : List Owed) (w : Next) (ts : List Kind) → MeansNext n (chosen (on_operand u ss) true st w) ts → OperandBack n u ss st ts
+pub operand_back : (n : ℕ) (u : Kind) (ss st : List Predicted) (w : Next) (ts : List Kind) → MeansNext n (chosen (on_operand u ss) true st w) ts → OperandBack n u ss st ts
 operand_back n k.Existential ss st w ts m = record { expr = v.Existential a_word; is = refl; more = m }
 operand_back n u ss st w ts m = known_back n u ss st ts (expr_back n u ss st w ts m)
 
 -- what may be left out is there, with a level, or is left out
-pub or_skip_back : (n : ℕ) (c : Choice) (f : Bool) (st : List Owed) (w : Next) (ts : List Kind) → MeansNext n (chosen (or_skip c) f st w) ts → ((f ≡ true) × MeansNext n (chosen c true st w) ts) ⊎ MeansNext n w ts
+pub or_skip_back : (n : ℕ) (c : Choice) (f : Bool) (st : List Predicted) (w : Next) (ts : List Kind) → MeansNext n (chosen (or_skip c) f st w) ts → ((f ≡ true) × MeansNext n (chosen c true st w) ts) ⊎ MeansNext n w ts
 or_skip_back n (take ss) true st w ts m = inl (refl, m)
 or_skip_back n (take ss) false st w ts m = absurd m
 or_skip_back n skip f st w ts m = inr m
 or_skip_back n refuse f st w ts m = inr m
 
 -- it is taken or refused
-abbrev pub Takes : Choice → Type 0
-Takes (take ss) = Unit {0}
-Takes skip = ⊥
-Takes refuse = Unit {0}
+abbrev pub Accepts : Choice → Type 0
+Accepts (take ss) = Unit {0}
+Accepts skip = ⊥
+Accepts refuse = Unit {0}
 
-pub takes_back : (n : ℕ) (c : Choice) (f : Bool) (st : List Owed) (w : Next) (ts : List Kind) → Takes c → MeansNext n (chosen c f st w) ts → (f ≡ true) × MeansNext n (chosen c true st w) ts
-takes_back n (take ss) true st w ts h m = (refl, m)
-takes_back n (take ss) false st w ts h m = absurd m
-takes_back n skip f st w ts h m = absurd h
-takes_back n refuse f st w ts h m = absurd m
+pub accepts_back : (n : ℕ) (c : Choice) (f : Bool) (st : List Predicted) (w : Next) (ts : List Kind) → Accepts c → MeansNext n (chosen c f st w) ts → (f ≡ true) × MeansNext n (chosen c true st w) ts
+accepts_back n (take ss) true st w ts h m = (refl, m)
+accepts_back n (take ss) false st w ts h m = absurd m
+accepts_back n skip f st w ts h m = absurd h
+accepts_back n refuse f st w ts h m = absurd m
 
-pub command_takes : (d : ℕ) (u : Kind) (ss : List Owed) → Takes (on_command d u ss)
-command_takes d k.Name ss = tt
-command_takes d _ ss = tt
+pub command_accepts : (d : ℕ) (u : Kind) (ss : List Predicted) → Accepts (on_command d u ss)
+command_accepts d k.Name ss = tt
+command_accepts d _ ss = tt
 
-pub conjunct_takes : (d : ℕ) (u : Kind) (ss : List Owed) → Takes (on_conjunct d u ss)
-conjunct_takes d k.Emp ss = tt
-conjunct_takes d _ ss = tt
+pub conjunct_accepts : (d : ℕ) (u : Kind) (ss : List Predicted) → Accepts (on_conjunct d u ss)
+conjunct_accepts d k.Emp ss = tt
+conjunct_accepts d _ ss = tt
 
 -- a conjunct's first token
-pub record ConjunctBack (n d : ℕ) (u : Kind) (ss st : List Owed) (ts : List Kind) : Type 0 where
+pub record ConjunctBack (n d : ℕ) (u : Kind) (ss st : List Predicted) (ts : List Kind) : Type 0 where
   pub conjunct : s.Conjunct
   pub rest : List Kind
   pub spells : u ∷ ts ≡ g.conjunct conjunct rest
@@ -84,7 +84,7 @@ pub record ConjunctBack (n d : ℕ) (u : Kind) (ss st : List Owed) (ts : List Ki
   pub ends : Ends conjunct rest
   pub more : Means n (ss ++ st) rest
 
-relation_back : (n d : ℕ) (u : Kind) (ss st : List Owed) (ts : List Kind) (x : SurfaceOperand) → u ≡ g.operand x → Means n (m.relation ∷ (ss ++ st)) ts → ConjunctBack n d u ss st ts
+relation_back : (n d : ℕ) (u : Kind) (ss st : List Predicted) (ts : List Kind) (x : SurfaceOperand) → u ≡ g.operand x → Means n (m.relation ∷ (ss ++ st)) ts → ConjunctBack n d u ss st ts
 relation_back n d u ss st ts x h (r, p, more) = relation_cases p more
   where
     relation_cases : Spells n m.relation ts r → Means n (ss ++ st) r → ConjunctBack n d u ss st ts
@@ -92,12 +92,12 @@ relation_back n d u ss st ts x h (r, p, more) = relation_cases p more
     relation_cases (inr (inl q)) more = record { conjunct = s.differ x q.0; rest = r; spells = cc; within = tt; ends = tt; more = more }
     relation_cases (inr (inr q)) more = record { conjunct = s.points x q.0; rest = r; spells = cc; within = tt; ends = tt; more = more }
 
-group_back : (n d : ℕ) (ss st : List Owed) (ts : List Kind) → Means n (m.assertion (d - 1) ∷ m.exact m.close_round ∷ (ss ++ st)) ts → ConjunctBack n d k.OpenRound ss st ts
+group_back : (n d : ℕ) (ss st : List Predicted) (ts : List Kind) → Means n (m.assertion (d - 1) ∷ m.exact m.close_round ∷ (ss ++ st)) ts → ConjunctBack n d k.OpenRound ss st ts
 group_back n d ss st ts (r1, a, (r2, c, more)) =
     let is : k.OpenRound ∷ ts ≡ g.conjunct (s.group a_place a.0) r2 = rw (← c) (ap (λ z. k.OpenRound ∷ z) a.1) in
     record { conjunct = s.group a_place a.0; rest = r2; spells = is; within = subst (λ z. AssertionWithin a.0 n (d - 1) z) c a.2; ends = tt; more = more }
 
-choose_back : (n d : ℕ) (ss st : List Owed) (ts : List Kind) → Means n (m.if_test ∷ m.exact m.then_word ∷ m.assertion (d - 1) ∷ m.exact m.else_word ∷ m.assertion (d - 1) ∷ (ss ++ st)) ts → ConjunctBack n d k.If ss st ts
+choose_back : (n d : ℕ) (ss st : List Predicted) (ts : List Kind) → Means n (m.if_test ∷ m.exact m.then_word ∷ m.assertion (d - 1) ∷ m.exact m.else_word ∷ m.assertion (d - 1) ∷ (ss ++ st)) ts → ConjunctBack n d k.If ss st ts
 choose_back n d ss st ts (r1, b, (r2, c, (r3, x, (r4, q, (r5, y, more))))) = test_cases b
   where
     tail : r2 ≡ g.assertion x.0 (k.Else ∷ g.assertion y.0 r5)
@@ -127,7 +127,7 @@ choose_back n d ss st ts (r1, b, (r2, c, (r3, x, (r4, q, (r5, y, more))))) = tes
       more = more;
     }
 
-pub conjunct_back : (n d : ℕ) (u : Kind) (ss st : List Owed) (w : Next) (ts : List Kind) → MeansNext n (chosen (on_conjunct d u ss) true st w) ts → ConjunctBack n d u ss st ts
+pub conjunct_back : (n d : ℕ) (u : Kind) (ss st : List Predicted) (w : Next) (ts : List Kind) → MeansNext n (chosen (on_conjunct d u ss) true st w) ts → ConjunctBack n d u ss st ts
 conjunct_back n d k.Emp ss st w ts q = record { conjunct = s.emp a_place; rest = ts; spells = refl; within = tt; ends = tt; more = q }
 conjunct_back n d k.OpenRound ss st w ts q = group_back n d ss st ts q
 conjunct_back n d k.If ss st w ts q = choose_back n d ss st ts q
@@ -140,7 +140,7 @@ conjunct_back n d u ss st w ts q =
     relation_back n d u ss st ts o.expr o.is o.more
 
 -- a command's first token
-pub record CommandBack (n d : ℕ) (u : Kind) (ss st : List Owed) (ts : List Kind) : Type 0 where
+pub record CommandBack (n d : ℕ) (u : Kind) (ss st : List Predicted) (ts : List Kind) : Type 0 where
   pub command : s.Command
   pub rest : List Kind
   pub spells : u ∷ ts ≡ g.command command rest
@@ -174,7 +174,7 @@ flat_follows (s.call c) r f = tt
 flat_follows (s.fork c b) r f = tt
 flat_follows _ r f = absurd f
 
-flat_back : (n d : ℕ) (u : Kind) (ss st : List Owed) (ts : List Kind) (c : s.Command) (r : List Kind) → IsFlat c → u ∷ ts ≡ g.command c r → Means n (ss ++ st) r → CommandBack n d u ss st ts
+flat_back : (n d : ℕ) (u : Kind) (ss st : List Predicted) (ts : List Kind) (c : s.Command) (r : List Kind) → IsFlat c → u ∷ ts ≡ g.command c r → Means n (ss ++ st) r → CommandBack n d u ss st ts
 flat_back n d u ss st ts c r f is more = record {
   command = c;
   rest = r;
@@ -200,7 +200,7 @@ follows_else (s.call c) r q f = tt
 follows_else (s.fork c b) r q f = tt
 follows_else (s.block p cs) r q f = tt
 
-if_back : (n d : ℕ) (ss st : List Owed) (ts : List Kind) → Means n (m.exact m.open_round ∷ m.test ∷ m.exact m.close_round ∷ m.command (d - 1) ∷ m.branch (d - 1) ∷ (ss ++ st)) ts → CommandBack n d k.If ss st ts
+if_back : (n d : ℕ) (ss st : List Predicted) (ts : List Kind) → Means n (m.exact m.open_round ∷ m.test ∷ m.exact m.close_round ∷ m.command (d - 1) ∷ m.branch (d - 1) ∷ (ss ++ st)) ts → CommandBack n d k.If ss st ts
 if_back n d ss st ts (r1, a, (r2, b, (r3, q, (r4, c, (r5, x, more))))) = branch_cases x more
   where
     whole : (z : List Kind) → r4 ≡ z → k.If ∷ ts ≡ k.If ∷ k.OpenRound ∷ g.test g.expr b.0 (k.CloseRound ∷ g.command c.0 z)
@@ -229,10 +229,10 @@ if_back n d ss st ts (r1, a, (r2, b, (r3, q, (r4, c, (r5, x, more))))) = branch_
       more = more;
     }
 
-while_back : (n d : ℕ) (ss st : List Owed) (ts : List Kind) → Means n (m.exact m.open_round ∷ m.test ∷ m.exact m.close_round ∷ m.maybe_note ∷ m.command (d - 1) ∷ (ss ++ st)) ts → CommandBack n d k.While ss st ts
+while_back : (n d : ℕ) (ss st : List Predicted) (ts : List Kind) → Means n (m.exact m.open_round ∷ m.test ∷ m.exact m.close_round ∷ m.maybe_annotation ∷ m.command (d - 1) ∷ (ss ++ st)) ts → CommandBack n d k.While ss st ts
 while_back n d ss st ts (r1, a, (r2, b, (r3, q, (r4, x, (r5, c, more))))) =
     let whole : k.While ∷ ts ≡ g.command (s.while a_place b.0 x.0 c.0) r5 =
-    ap (λ y. k.While ∷ y) (a ∙ ap (λ y. k.OpenRound ∷ y) (b.1 ∙ ap (λ y. g.test g.expr b.0 y) (q ∙ ap (λ y. k.CloseRound ∷ y) (x.1 ∙ ap (λ y. g.maybe_note x.0 y) c.1)))) in
+    ap (λ y. k.While ∷ y) (a ∙ ap (λ y. k.OpenRound ∷ y) (b.1 ∙ ap (λ y. g.test g.expr b.0 y) (q ∙ ap (λ y. k.CloseRound ∷ y) (x.1 ∙ ap (λ y. g.maybe_annotation x.0 y) c.1)))) in
     record {
       command = s.while a_place b.0 x.0 c.0;
       rest = r5;
@@ -242,7 +242,7 @@ while_back n d ss st ts (r1, a, (r2, b, (r3, q, (r4, x, (r5, c, more))))) =
       more = more;
     }
 
-with_back : (n d : ℕ) (ss st : List Owed) (ts : List Kind) → Means n (m.exact m.a_name ∷ m.exact m.when_word ∷ m.exact m.open_round ∷ m.test ∷ m.exact m.close_round ∷ m.command (d - 1) ∷ (ss ++ st)) ts → CommandBack n d k.With ss st ts
+with_back : (n d : ℕ) (ss st : List Predicted) (ts : List Kind) → Means n (m.exact m.a_name ∷ m.exact m.when_word ∷ m.exact m.open_round ∷ m.test ∷ m.exact m.close_round ∷ m.command (d - 1) ∷ (ss ++ st)) ts → CommandBack n d k.With ss st ts
 with_back n d ss st ts (r0, o, (r1, a, (r2, b, (r3, t, (r4, q, (r5, c, more)))))) =
     let whole : k.With ∷ ts ≡ g.command (s.with a_place a_word t.0 c.0) r5 =
     ap (λ y. k.With ∷ y) (o ∙ ap (λ y. k.Name ∷ y) (a ∙ ap (λ y. k.When ∷ y) (b ∙ ap (λ y. k.OpenRound ∷ y) (t.1 ∙ ap (λ y. g.test g.expr t.0 y) (q ∙ ap (λ y. k.CloseRound ∷ y) c.1))))) in
@@ -255,7 +255,7 @@ with_back n d ss st ts (r0, o, (r1, a, (r2, b, (r3, t, (r4, q, (r5, c, more)))))
       more = more;
     }
 
-block_back : (n d : ℕ) (ss st : List Owed) (ts : List Kind) → Means n (m.commands (d - 1) ∷ m.exact m.close_brace ∷ (ss ++ st)) ts → CommandBack n d k.OpenBrace ss st ts
+block_back : (n d : ℕ) (ss st : List Predicted) (ts : List Kind) → Means n (m.commands (d - 1) ∷ m.exact m.close_brace ∷ (ss ++ st)) ts → CommandBack n d k.OpenBrace ss st ts
 block_back n d ss st ts (r1, c, (r2, q, more)) =
     let whole : k.OpenBrace ∷ ts ≡ g.command (s.block a_place c.0) r2 = ap (λ y. k.OpenBrace ∷ y) (c.1 ∙ ap (λ y. g.commands c.0 y) q) in
     record {
@@ -267,14 +267,14 @@ block_back n d ss st ts (r1, c, (r2, q, more)) =
       more = more;
     }
 
-disposed_back : (n d : ℕ) (ss st : List Owed) (ts r : List Kind) → Spells n m.disposed ts r → Means n (ss ++ st) r → CommandBack n d k.Dispose ss st ts
+disposed_back : (n d : ℕ) (ss st : List Predicted) (ts r : List Kind) → Spells n m.disposed ts r → Means n (ss ++ st) r → CommandBack n d k.Dispose ss st ts
 disposed_back n d ss st ts r (inl (x, h)) more = flat_back n d k.Dispose ss st ts (s.dispose_round a_place x) r tt (ap (λ y. k.Dispose ∷ y) h) more
 disposed_back n d ss st ts r (inr (x, h)) more = flat_back n d k.Dispose ss st ts (s.dispose a_place x) r tt (ap (λ y. k.Dispose ∷ y) h) more
 
-mutate_back : (n d : ℕ) (u : Kind) (ss st : List Owed) (ts : List Kind) (x : SurfaceExpr) → u ≡ g.expr x → Means n (m.exact m.an_arrow ∷ m.exact m.a_name ∷ m.exact m.equals ∷ m.expression ∷ m.exact m.semicolon ∷ (ss ++ st)) ts → CommandBack n d u ss st ts
+mutate_back : (n d : ℕ) (u : Kind) (ss st : List Predicted) (ts : List Kind) (x : SurfaceExpr) → u ≡ g.expr x → Means n (m.exact m.an_arrow ∷ m.exact m.a_name ∷ m.exact m.equals ∷ m.expression ∷ m.exact m.semicolon ∷ (ss ++ st)) ts → CommandBack n d u ss st ts
 mutate_back n d u ss st ts x h (r1, a, (r2, b, (r3, c, (r4, y, (r5, q, more))))) = flat_back n d u ss st ts (s.mutate x a_word y.0) r5 tt (cc) more
 
-pub command_back : (n d : ℕ) (u : Kind) (ss st : List Owed) (w : Next) (ts : List Kind) → MeansNext n (chosen (on_command d u ss) true st w) ts → CommandBack n d u ss st ts
+pub command_back : (n d : ℕ) (u : Kind) (ss st : List Predicted) (w : Next) (ts : List Kind) → MeansNext n (chosen (on_command d u ss) true st w) ts → CommandBack n d u ss st ts
 command_back n d k.Name ss st w ts (r, c, more) = flat_back n d k.Name ss st ts c.0 r c.1 c.2 more
 command_back n d k.Dispose ss st w ts (r, c, more) = disposed_back n d ss st ts r c more
 command_back n d k.If ss st w ts q = if_back n d ss st ts q

@@ -1,4 +1,4 @@
--- What spells a command or an item is longer than what stands behind it.
+-- What spells a command or an item is longer than what comes after it.
 use Rattle.std.proofs.Common.{◌≡◌, ◌≤◌, ◌<◌, List, [], ◌∷◌, length, Option, Some, None, arith}
 use Rattle.sf_ast.specs.declared.word.SurfaceExpr.{SurfaceExpr}
 use Rattle.sf_ast.specs.declared.word.Word.{Word}
@@ -33,13 +33,13 @@ arguments_longer (s.both ns xs) r = omega (arith, maybe_names_longer ns (k.Semic
 call_longer : (c : s.Call) (r : List Kind) → length r < length (g.call c r)
 call_longer c r = omega (arith, arguments_longer c.arguments (k.CloseRound ∷ r))
 
-note_longer : (x : s.Note) (r : List Kind) → length r < length (g.note x r)
-note_longer s.blank r = omega arith
-note_longer (s.filled a) r = omega (arith, assertion_longer a (k.CloseSquare ∷ r))
+annotation_longer : (x : s.Note) (r : List Kind) → length r < length (g.annotation x r)
+annotation_longer s.blank r = omega arith
+annotation_longer (s.filled a) r = omega (arith, assertion_longer a (k.CloseSquare ∷ r))
 
-maybe_note_longer : (x : Option s.Note) (r : List Kind) → length r ≤ length (g.maybe_note x r)
-maybe_note_longer None r = omega arith
-maybe_note_longer (Some x) r = omega (arith, note_longer x r)
+maybe_annotation_longer : (x : Option s.Note) (r : List Kind) → length r ≤ length (g.maybe_annotation x r)
+maybe_annotation_longer None r = omega arith
+maybe_annotation_longer (Some x) r = omega (arith, annotation_longer x r)
 
 mutual
   command_longer : (c : s.Command) (r : List Kind) → length r < length (g.command c r)
@@ -51,7 +51,7 @@ mutual
   command_longer (s.dispose_round p a) r = omega arith
   command_longer (s.if_alone p b c) r = omega (arith, test_longer g.expr b (k.CloseRound ∷ g.command c r), command_longer c r)
   command_longer (s.if p b c d) r = omega (arith, test_longer g.expr b (k.CloseRound ∷ g.command c (k.Else ∷ g.command d r)), command_longer c (k.Else ∷ g.command d r), command_longer d r)
-  command_longer (s.while p b n c) r = omega (arith, test_longer g.expr b (k.CloseRound ∷ g.maybe_note n (g.command c r)), maybe_note_longer n (g.command c r), command_longer c r)
+  command_longer (s.while p b n c) r = omega (arith, test_longer g.expr b (k.CloseRound ∷ g.maybe_annotation n (g.command c r)), maybe_annotation_longer n (g.command c r), command_longer c r)
   command_longer (s.with p x b c) r = omega (arith, test_longer g.expr b (k.CloseRound ∷ g.command c r), command_longer c r)
   command_longer (s.call c) r = omega (arith, call_longer c (k.Semicolon ∷ r))
   command_longer (s.fork c d) r = omega (arith, call_longer c (k.Bars ∷ g.call d (k.Semicolon ∷ r)), call_longer d (k.Semicolon ∷ r))
@@ -61,7 +61,7 @@ mutual
   commands_longer s.done r = omega arith
   commands_longer (s.then c cs) r = omega (arith, command_longer c (g.commands cs r), commands_longer cs r)
 
--- so fewer tokens are left behind it
+-- so fewer tokens are left after it
 pub fewer_behind_command : (c : s.Command) (ts r : List Token) → kinds ts ≡ g.command c (kinds r) → length r < length ts
 fewer_behind_command c ts r h = fewer r ts (rw h (command_longer c (kinds r)))
 
@@ -77,16 +77,16 @@ procedure_longer : (f : s.Procedure) (r : List Kind) → length r < length (g.pr
 procedure_longer f r =
     omega (
       arith,
-      parameters_longer f.parameters (k.CloseRound ∷ g.maybe_note f.pre (k.OpenBrace ∷ g.locals f.locals (g.commands f.body (k.CloseBrace ∷ g.maybe_note f.post r)))),
-      maybe_note_longer f.pre (k.OpenBrace ∷ g.locals f.locals (g.commands f.body (k.CloseBrace ∷ g.maybe_note f.post r))),
-      locals_longer f.locals (g.commands f.body (k.CloseBrace ∷ g.maybe_note f.post r)),
-      commands_longer f.body (k.CloseBrace ∷ g.maybe_note f.post r),
-      maybe_note_longer f.post r,
+      parameters_longer f.parameters (k.CloseRound ∷ g.maybe_annotation f.pre (k.OpenBrace ∷ g.locals f.locals (g.commands f.body (k.CloseBrace ∷ g.maybe_annotation f.post r)))),
+      maybe_annotation_longer f.pre (k.OpenBrace ∷ g.locals f.locals (g.commands f.body (k.CloseBrace ∷ g.maybe_annotation f.post r))),
+      locals_longer f.locals (g.commands f.body (k.CloseBrace ∷ g.maybe_annotation f.post r)),
+      commands_longer f.body (k.CloseBrace ∷ g.maybe_annotation f.post r),
+      maybe_annotation_longer f.post r,
     )
 
 item_longer : (i : s.Item) (r : List Kind) → length r < length (g.item i r)
 item_longer (s.fields ns) r = omega (arith, more_names_longer ns.more (k.Semicolon ∷ r))
-item_longer (s.resource x) r = omega (arith, maybe_names_longer x.variables (k.CloseRound ∷ g.note x.invariant r), note_longer x.invariant r)
+item_longer (s.resource x) r = omega (arith, maybe_names_longer x.variables (k.CloseRound ∷ g.annotation x.invariant r), annotation_longer x.invariant r)
 item_longer (s.procedure f) r = procedure_longer f r
 
 pub fewer_behind_item : (i : s.Item) (ts r : List Token) → kinds ts ≡ g.item i (kinds r) → length r < length ts

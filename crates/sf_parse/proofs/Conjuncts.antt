@@ -1,4 +1,4 @@
--- Which way the machine goes at a conjunct and behind one, and one more conjunct at the end of an assertion.
+-- Which way the machine goes at a conjunct and after one, and one more conjunct at the end of an assertion.
 use Rattle.std.proofs.Common.{◌≡◌, ◌<◌, ℕ, zero, suc, List, [], ◌∷◌, ◌++◌, length, true, false, refl, ap, subst, sym, arith, ◌∙◌}
 use Rattle.std.proofs.lemmas.List.{length-map}
 use Rattle.sf_base.specs.declared.limits.TheConstants.{NESTING}
@@ -9,19 +9,19 @@ use Rattle.sf_lex.specs.declared.token.Kind.{Kind}
 use Rattle.sf_lex.specs.declared.token.Kind.TheVariants as k
 use Rattle.sf_lex.specs.declared.token.Token.{Token}
 use Rattle.sf_parse.specs.Grammar as g
-use Rattle.sf_parse.specs.Heads.{IsFlatConjunct, conjunct_next}
-use Rattle.sf_parse.specs.Machine as m
-use Rattle.sf_parse.specs.Machine.{Owed, verdict, unexpected, too_deep}
+use Rattle.sf_parse.specs.Internal.Heads.{IsFlatConjunct, conjunct_next}
+use Rattle.sf_parse.specs.Internal.Machine as m
+use Rattle.sf_parse.specs.Internal.Machine.{Predicted, verdict, unexpected, too_deep}
 use Rattle.sf_parse.specs.Nesting.{IsClosed, ConjunctWithin, AssertionWithin, RestWithin}
 use Rattle.sf_parse.specs.Parsing.{kinds}
 use Rattle.sf_parse.specs.Placed.{ConjunctAt, AssertionAt}
-use Rattle.sf_parse.specs.Steps.{NotNext, last_of, NotStar, Ends}
+use Rattle.sf_parse.specs.Internal.Steps.{NotNext, last_of, NotStar, Ends}
 use Rattle.sf_parse.proofs.Forth.{by_operand}
 use Rattle.sf_parse.proofs.Fronts.{left_of}
 use Rattle.sf_parse.proofs.HasLevel.{no_level, some_level}
 
 -- without a level
-deep : (ts : List Kind) (st : List Owed) → conjunct_next ts ≡ true → verdict 0 ts (m.assertion 0 ∷ st) ≡ too_deep (length ts)
+deep : (ts : List Kind) (st : List Predicted) → conjunct_next ts ≡ true → verdict 0 ts (m.assertion 0 ∷ st) ≡ too_deep (length ts)
 deep [] st h = absurd cc
 deep (k.Emp ∷ r) st h = rw (no_level (length r)) refl
 deep (k.OpenRound ∷ r) st h = rw (no_level (length r)) refl
@@ -37,10 +37,10 @@ deep (k.Number ∷ r) st h = rw (no_level (length r)) refl
 deep (k.Existential ∷ r) st h = rw (no_level (length r)) refl
 deep (t ∷ r) st h = absurd cc
 
-pub too_deep_here : (ts : List Token) (st : List Owed) → conjunct_next (kinds ts) ≡ true → verdict 0 (kinds ts) (m.assertion 0 ∷ st) ≡ too_deep (length ts)
+pub too_deep_here : (ts : List Token) (st : List Predicted) → conjunct_next (kinds ts) ≡ true → verdict 0 (kinds ts) (m.assertion 0 ∷ st) ≡ too_deep (length ts)
 too_deep_here ts st h = deep (kinds ts) st h ∙ ap too_deep (length-map ts (λ t. t.kind))
 
-no_assertion : (d : ℕ) (ts : List Kind) (st : List Owed) → conjunct_next ts ≡ false → verdict 0 ts (m.assertion d ∷ st) ≡ unexpected (length ts)
+no_assertion : (d : ℕ) (ts : List Kind) (st : List Predicted) → conjunct_next ts ≡ false → verdict 0 ts (m.assertion d ∷ st) ≡ unexpected (length ts)
 no_assertion d [] st h = refl
 no_assertion d (k.Emp ∷ r) st h = absurd cc
 no_assertion d (k.OpenRound ∷ r) st h = absurd cc
@@ -56,11 +56,11 @@ no_assertion d (k.Number ∷ r) st h = absurd cc
 no_assertion d (k.Existential ∷ r) st h = absurd cc
 no_assertion d (t ∷ r) st h = refl
 
-pub unexpected_here : (ts : List Token) (st : List Owed) → conjunct_next (kinds ts) ≡ false → verdict 0 (kinds ts) (m.assertion 0 ∷ st) ≡ unexpected (length ts)
+pub unexpected_here : (ts : List Token) (st : List Predicted) → conjunct_next (kinds ts) ≡ false → verdict 0 (kinds ts) (m.assertion 0 ∷ st) ≡ unexpected (length ts)
 unexpected_here ts st h = left_of ts (m.assertion 0 ∷ st) (no_assertion 0 (kinds ts) st h)
 
 -- with a level
-pub first_conjunct : (d : ℕ) (ts : List Kind) (st : List Owed) → 0 < d → verdict 0 ts (m.assertion d ∷ st) ≡ verdict 0 ts (m.conjunct d ∷ m.more_conjuncts d ∷ st)
+pub first_conjunct : (d : ℕ) (ts : List Kind) (st : List Predicted) → 0 < d → verdict 0 ts (m.assertion d ∷ st) ≡ verdict 0 ts (m.conjunct d ∷ m.more_conjuncts d ∷ st)
 first_conjunct zero ts st h = absurd (omega arith)
 first_conjunct (suc d) [] st h = refl
 first_conjunct (suc d) (k.Emp ∷ r) st h = refl
@@ -77,8 +77,8 @@ first_conjunct (suc d) (k.Number ∷ r) st h = refl
 first_conjunct (suc d) (k.Existential ∷ r) st h = refl
 first_conjunct (suc d) (t ∷ r) st h = refl
 
--- behind a conjunct
-pub no_more_conjuncts : (d : ℕ) (ts : List Kind) (st : List Owed) → NotNext k.Star ts → verdict 0 ts (m.more_conjuncts d ∷ st) ≡ verdict 0 ts st
+-- after a conjunct
+pub no_more_conjuncts : (d : ℕ) (ts : List Kind) (st : List Predicted) → NotNext k.Star ts → verdict 0 ts (m.more_conjuncts d ∷ st) ≡ verdict 0 ts st
 no_more_conjuncts d [] st h = refl
 no_more_conjuncts d (k.Star ∷ r) st h = absurd (h r refl)
 no_more_conjuncts d (t ∷ r) st h = refl
@@ -89,17 +89,17 @@ not_star (k.Star ∷ r) h = absurd (h r refl)
 not_star (t ∷ r) h = tt
 
 -- in square brackets that are not empty
-pub some_assertion : (ts : List Kind) (st : List Owed) → NotNext k.CloseSquare ts → verdict 0 ts (m.maybe_assertion ∷ m.exact m.close_square ∷ st) ≡ verdict 0 ts (m.assertion NESTING ∷ m.exact m.close_square ∷ st)
+pub some_assertion : (ts : List Kind) (st : List Predicted) → NotNext k.CloseSquare ts → verdict 0 ts (m.maybe_assertion ∷ m.exact m.close_square ∷ st) ≡ verdict 0 ts (m.assertion NESTING ∷ m.exact m.close_square ∷ st)
 some_assertion [] st h = refl
 some_assertion (k.CloseSquare ∷ r) st h = absurd (h r refl)
 some_assertion (t ∷ r) st h = refl
 
 -- a conjunct that begins with an operand
-pub operand_first : (d : ℕ) (x : SurfaceOperand) (ts r : List Token) (st : List Owed) → kinds ts ≡ g.operand x ∷ kinds r → verdict 0 (kinds ts) (m.conjunct d ∷ st) ≡ verdict 0 (kinds r) (m.relation ∷ st)
+pub operand_first : (d : ℕ) (x : SurfaceOperand) (ts r : List Token) (st : List Predicted) → kinds ts ≡ g.operand x ∷ kinds r → verdict 0 (kinds ts) (m.conjunct d ∷ st) ≡ verdict 0 (kinds r) (m.relation ∷ st)
 operand_first d x ts r st h = rw h (by_operand x (λ u. verdict 0 (u ∷ kinds r) (m.conjunct d ∷ st) ≡ verdict 0 (kinds r) (m.relation ∷ st)) refl refl refl refl refl)
 
 -- a test with no round brackets
-pub bare_test : (ts : List Kind) (st : List Owed) → NotNext k.OpenRound ts → verdict 0 ts (m.if_test ∷ st) ≡ verdict 0 ts (m.operand_test ∷ st)
+pub bare_test : (ts : List Kind) (st : List Predicted) → NotNext k.OpenRound ts → verdict 0 ts (m.if_test ∷ st) ≡ verdict 0 ts (m.operand_test ∷ st)
 bare_test [] st h = refl
 bare_test (k.OpenRound ∷ r) st h = absurd (h r refl)
 bare_test (t ∷ r) st h = refl

@@ -3,43 +3,43 @@ use Rattle.std.proofs.Common.{◌≡◌, ◌≤◌, ◌<◌, ◌-◌, ℕ, zero,
 use Rattle.std.proofs.Math.Nat.{eq-or-lt_of_le}
 use Rattle.std.proofs.Math.Seq.{get_or-append_seam}
 use Rattle.std.proofs.lemmas.List.{append-nil, map-append, length-map}
+use Rattle.sf_base.proofs.Lists.{cons-same}
 use Rattle.sf_base.specs.declared.place.Place.{Place}
 use Rattle.sf_ast.specs.Surface.{Item}
 use Rattle.sf_lex.specs.declared.token.Kind.{Kind}
 use Rattle.sf_lex.specs.declared.token.Token.{Token}
 use Rattle.sf_parse.specs.declared.fault.ParseFault.{ParseFault}
 use Rattle.sf_parse.specs.declared.fault.ParseFault.TheVariants.{Unexpected, TooDeep, OutOfMemory}
-use Rattle.sf_parse.specs.Faults.{place_left, Says}
+use Rattle.sf_parse.specs.Internal.Faults.{place_left, Says}
 use Rattle.sf_parse.specs.Grammar.{items}
 use Rattle.sf_parse.specs.Laws.{verdict_of, Spelled}
-use Rattle.sf_parse.specs.Machine as m
-use Rattle.sf_parse.specs.Machine.{Owed, Choice, take, skip, refuse, Next, goes, bad, deep, chosen, choice, is_free, step, Verdict, accepted, unexpected, too_deep, at_end, may_end, after, verdict}
+use Rattle.sf_parse.specs.Internal.Machine as m
+use Rattle.sf_parse.specs.Internal.Machine.{Predicted, Choice, take, skip, refuse, Next, goes, bad, deep, chosen, choice, is_free, step, Verdict, accepted, unexpected, too_deep, at_end, may_end, after, verdict}
 use Rattle.sf_parse.specs.Nesting.{ItemsWithin}
 use Rattle.sf_parse.specs.Parsing.{kinds, no_token, token_left, IsFile, CanBegin, CanBeginAny, IsUnexpected, IsTooDeep, IsFault}
 use Rattle.sf_parse.proofs.Exactly.{fault_of, fault_le}
 use Rattle.sf_parse.proofs.Free.{chosen_goes}
 use Rattle.sf_parse.proofs.HasLevel.{level_more}
-use Rattle.sf_parse.proofs.Once.{cons_once}
 use Rattle.sf_parse.proofs.Law.{exact, file_accepted, accepted_file, refuses}
 use Rattle.sf_parse.proofs.PlacingFiles.{file_placed}
 
 -- the more tokens are free of the limit, the more goes on
-free_more : (s : Owed) (n p l : ℕ) → n ≤ p → is_free s n l ≡ true → is_free s p l ≡ true
+free_more : (s : Predicted) (n p l : ℕ) → n ≤ p → is_free s n l ≡ true → is_free s p l ≡ true
 free_more (m.command d) n p l h e = level_more n p l d h e
 free_more (m.commands d) n p l h e = level_more n p l d h e
 free_more (m.assertion d) n p l h e = level_more n p l d h e
 free_more _ n p l h e = refl
 
-step_more : (n p l : ℕ) (st st2 : List Owed) (t : Kind) → n ≤ p → step n l st t ≡ goes st2 → step p l st t ≡ goes st2
+step_more : (n p l : ℕ) (st st2 : List Predicted) (t : Kind) → n ≤ p → step n l st t ≡ goes st2 → step p l st t ≡ goes st2
 step_more n p l [] st2 t h e = absurd cc
 step_more n p l (s ∷ st) st2 t h e =
     chosen_goes (choice s t) (is_free s n l) (is_free s p l) st st2 (step n l st t) (step p l st t) (free_more s n p l h) (step_more n p l st st2 t h) e
 
-pub accepted_more : (n p : ℕ) (ts : List Kind) (st : List Owed) → n ≤ p → verdict n ts st ≡ accepted → verdict p ts st ≡ accepted
+pub accepted_more : (n p : ℕ) (ts : List Kind) (st : List Predicted) → n ≤ p → verdict n ts st ≡ accepted → verdict p ts st ≡ accepted
 accepted_more n p [] st h e = e
 accepted_more n p (t ∷ ts) st h e = go (step n (suc (length ts)) st t) refl (λ st2. accepted_more n p ts st2 h) e
   where
-    go : (x : Next) → step n (suc (length ts)) st t ≡ x → ((st2 : List Owed) → verdict n ts st2 ≡ accepted → verdict p ts st2 ≡ accepted) → after (λ s. verdict n ts s) (suc (length ts)) x ≡ accepted → verdict p (t ∷ ts) st ≡ accepted
+    go : (x : Next) → step n (suc (length ts)) st t ≡ x → ((st2 : List Predicted) → verdict n ts st2 ≡ accepted → verdict p ts st2 ≡ accepted) → after (λ s. verdict n ts s) (suc (length ts)) x ≡ accepted → verdict p (t ∷ ts) st ≡ accepted
     go (goes st2) is f e = rw (step_more n p (suc (length ts)) st st2 t h is) (f st2 e)
     go bad is f e = absurd cc
     go deep is f e = absurd cc
@@ -67,17 +67,17 @@ pub data Splits {A : Type 0} (f : List A) (x : A) (b g : List A) (y : A) (c : Li
   later : (more : List A) → f ≡ g ++ y ∷ more → c ≡ more ++ x ∷ b → Splits f x b g y c
 
 under : {A : Type 0} (z w : A) (f : List A) (x : A) (b g : List A) (y : A) (c : List A) → z ≡ w → Splits f x b g y c → Splits (z ∷ f) x b (w ∷ g) y c
-under z w f x b g y c e (earlier more h i) = earlier more (cons_once w z g (f ++ x ∷ more) (sym e) h) i
-under z w f x b g y c e (same h i j) = same (cons_once z w f g e h) i j
-under z w f x b g y c e (later more h i) = later more (cons_once z w f (g ++ y ∷ more) e h) i
+under z w f x b g y c e (earlier more h i) = earlier more (cons-same w z g (f ++ x ∷ more) (sym e) h) i
+under z w f x b g y c e (same h i j) = same (cons-same z w f g e h) i j
+under z w f x b g y c e (later more h i) = later more (cons-same z w f (g ++ y ∷ more) e h) i
 
 splits : {A : Type 0} (f : List A) (x : A) (b g : List A) (y : A) (c : List A) → f ++ x ∷ b ≡ g ++ y ∷ c → Splits f x b g y c
 splits [] x b [] y c e = let i : x ≡ y = cc in let j : b ≡ c = cc in same refl i j
-splits [] x b (w ∷ g) y c e = let i : w ≡ x = cc in let j : b ≡ g ++ y ∷ c = cc in earlier g (cons_once w x g g i refl) j
-splits (z ∷ f) x b [] y c e = let i : z ≡ y = cc in let j : c ≡ f ++ x ∷ b = cc in later f (cons_once z y f f i refl) j
+splits [] x b (w ∷ g) y c e = let i : w ≡ x = cc in let j : b ≡ g ++ y ∷ c = cc in earlier g (cons-same w x g g i refl) j
+splits (z ∷ f) x b [] y c e = let i : z ≡ y = cc in let j : c ≡ f ++ x ∷ b = cc in later f (cons-same z y f f i refl) j
 splits (z ∷ f) x b (w ∷ g) y c e = let i : z ≡ w = cc in let j : f ++ x ∷ b ≡ g ++ y ∷ c = cc in under z w f x b g y c i (splits f x b g y c j)
 
--- the split of a list with so many left behind it
+-- the split of a list with so many left after it
 record Split {A : Type 0} (xs : List A) (n : ℕ) : Type 0 where
   front : List A
   one : A
@@ -109,7 +109,7 @@ kinds_split ts front t back is = ap kinds is ∙ map-append (λ (x : Token). x.k
 kinds_length : (ts : List Token) → length (kinds ts) ≡ length ts
 kinds_length ts = length-map ts (λ (x : Token). x.kind)
 
-never_zero : (ts : List Kind) (st : List Owed) → verdict 0 ts st ≡ too_deep 0 → ⊥
+never_zero : (ts : List Kind) (st : List Predicted) → verdict 0 ts st ≡ too_deep 0 → ⊥
 never_zero [] st h = end (may_end st) h
   where
     end : (b : Bool) → at_end b ≡ too_deep 0 → ⊥
@@ -117,7 +117,7 @@ never_zero [] st h = end (may_end st) h
     end false h = cc
 never_zero (t ∷ ts) st h = go (step 0 (suc (length ts)) st t) (never_zero ts) h
   where
-    go : (x : Next) → ((st : List Owed) → verdict 0 ts st ≡ too_deep 0 → ⊥) → after (λ s. verdict 0 ts s) (suc (length ts)) x ≡ too_deep 0 → ⊥
+    go : (x : Next) → ((st : List Predicted) → verdict 0 ts st ≡ too_deep 0 → ⊥) → after (λ s. verdict 0 ts s) (suc (length ts)) x ≡ too_deep 0 → ⊥
     go (goes st2) f h = f st2 h
     go bad f h = cc
     go deep f h = let q : suc (length ts) ≡ 0 = cc in omega arith
@@ -160,8 +160,8 @@ begins_whole ks e =
     let f = accepted_file 0 ks e in record { back = []; tree = f.0; spells = append-nil ks ∙ f.1; within = f.2 }
 
 -- the machine stops at a token with which the tokens before it no longer begin a file
-stops_there : (ks front : List Kind) (t : Kind) (back : List Kind) → ks ≡ front ++ t ∷ back → CanBegin front → (CanBegin (front ++ t ∷ []) → ⊥) → (b : Bool) × (verdict_of ks ≡ fault_of b (suc (length back)))
-stops_there ks front t back is can none = go (halt ks)
+fails_there : (ks front : List Kind) (t : Kind) (back : List Kind) → ks ≡ front ++ t ∷ back → CanBegin front → (CanBegin (front ++ t ∷ []) → ⊥) → (b : Bool) × (verdict_of ks ≡ fault_of b (suc (length back)))
+fails_there ks front t back is can none = go (halt ks)
   where
     compared : (f : List Kind) (x : Kind) (c : List Kind) (b : Bool) → ks ≡ f ++ x ∷ c → verdict_of ks ≡ fault_of b (suc (length c)) → Splits f x c front t back → (b : Bool) × (verdict_of ks ≡ fault_of b (suc (length back)))
     compared f x c b own e (earlier more h i) = absurd (begins_no_further ks f x c b more own e (subst CanBegin h can))
@@ -174,8 +174,8 @@ stops_there ks front t back is can none = go (halt ks)
     go (here f x c b own e) = compared f x c b own e (splits f x c front t back (sym own ∙ is))
 
 -- and at the end, where they only begin one
-stops_at_end : (ks : List Kind) → CanBegin ks → (Spelled ks → ⊥) → verdict_of ks ≡ unexpected 0
-stops_at_end ks can none = go (halt ks)
+fails_at_end : (ks : List Kind) → CanBegin ks → (Spelled ks → ⊥) → verdict_of ks ≡ unexpected 0
+fails_at_end ks can none = go (halt ks)
   where
     go : Halt ks → verdict_of ks ≡ unexpected 0
     go (whole e) = absurd (none ((exact ks).accepts e))
@@ -214,7 +214,7 @@ says_fault bytes ts OutOfMemory h = absurd h
 unexpected_says : (bytes : List ℕ) (ts : List Token) (p : Place) → IsUnexpected ts p → Says bytes ts (Unexpected p) (verdict_of (kinds ts))
 unexpected_says bytes ts p q =
     let is = kinds_split ts q.front q.token q.back q.split in
-    let s = stops_there (kinds ts) (kinds q.front) q.token.kind (kinds q.back) is q.begins (λ c. q.no_further (begins_any (kinds q.front ++ q.token.kind ∷ []) c)) in
+    let s = fails_there (kinds ts) (kinds q.front) q.token.kind (kinds q.back) is q.begins (λ c. q.no_further (begins_any (kinds q.front ++ q.token.kind ∷ []) c)) in
     go is s.0 s.1
   where
     go : kinds ts ≡ kinds q.front ++ q.token.kind ∷ kinds q.back → (b : Bool) → verdict_of (kinds ts) ≡ fault_of b (suc (length (kinds q.back))) → Says bytes ts (Unexpected p) (verdict_of (kinds ts))
@@ -224,7 +224,7 @@ unexpected_says bytes ts p q =
 too_deep_says : (bytes : List ℕ) (ts : List Token) (p : Place) → IsTooDeep ts p → Says bytes ts (TooDeep p) (verdict_of (kinds ts))
 too_deep_says bytes ts p q =
     let is = kinds_split ts q.front q.token q.back q.split in
-    let s = stops_there (kinds ts) (kinds q.front) q.token.kind (kinds q.back) is q.begins q.no_further in
+    let s = fails_there (kinds ts) (kinds q.front) q.token.kind (kinds q.back) is q.begins q.no_further in
     go is s.0 s.1
   where
     go : kinds ts ≡ kinds q.front ++ q.token.kind ∷ kinds q.back → (b : Bool) → verdict_of (kinds ts) ≡ fault_of b (suc (length (kinds q.back))) → Says bytes ts (TooDeep p) (verdict_of (kinds ts))
@@ -235,7 +235,7 @@ too_deep_says bytes ts p q =
 pub fault_says : (bytes : List ℕ) (ts : List Token) (f : ParseFault) → IsFault bytes ts f → Says bytes ts f (verdict_of (kinds ts))
 fault_says bytes ts (Unexpected p) h = elim h [
   | inl q ↦ unexpected_says bytes ts p q
-  | inr q ↦ (0, stops_at_end (kinds ts) q.begins (λ f. q.no_file f.tree f.spells f.within), q.there)
+  | inr q ↦ (0, fails_at_end (kinds ts) q.begins (λ f. q.no_file f.tree f.spells f.within), q.there)
 ]
 fault_says bytes ts (TooDeep p) h = too_deep_says bytes ts p h
 fault_says bytes ts OutOfMemory h = absurd h

@@ -13,10 +13,10 @@ use Rattle.sf_ast.specs.Surface as s
 use Rattle.sf_lex.specs.declared.token.Kind.{Kind}
 use Rattle.sf_lex.specs.declared.token.Kind.TheVariants as k
 use Rattle.sf_parse.specs.Grammar as g
-use Rattle.sf_parse.specs.Machine as m
-use Rattle.sf_parse.specs.Machine.{Owed, verdict}
+use Rattle.sf_parse.specs.Internal.Machine as m
+use Rattle.sf_parse.specs.Internal.Machine.{Predicted, verdict}
 use Rattle.sf_parse.specs.Nesting.{IsClosed, HasLevel, ConjunctWithin, AssertionWithin, RestWithin, NoteWithin, MaybeWithin}
-use Rattle.sf_parse.specs.Steps.{NotStar, Ends}
+use Rattle.sf_parse.specs.Internal.Steps.{NotStar, Ends}
 
 -- what holds of the four first tokens of an expression holds of each
 pub by_expr : (x : SurfaceExpr) (P : Kind → Type 0) → P k.Name → P k.Nil → P k.Null → P k.Number → P (g.expr x)
@@ -30,27 +30,27 @@ pub by_operand : (x : SurfaceOperand) (P : Kind → Type 0) → P k.Name → P k
 by_operand (v.Known x) P a b c d f = by_expr x P a b c d
 by_operand (v.Existential x) P a b c d f = f
 
-pub expr_goes : (n : ℕ) (x : SurfaceExpr) (r : List Kind) (st : List Owed) → verdict n (g.expr x ∷ r) (m.expression ∷ st) ≡ verdict n r st
+pub expr_goes : (n : ℕ) (x : SurfaceExpr) (r : List Kind) (st : List Predicted) → verdict n (g.expr x ∷ r) (m.expression ∷ st) ≡ verdict n r st
 expr_goes n x r st = by_expr x (λ u. verdict n (u ∷ r) (m.expression ∷ st) ≡ verdict n r st) refl refl refl refl
 
-pub operand_goes : (n : ℕ) (x : SurfaceOperand) (r : List Kind) (st : List Owed) → verdict n (g.operand x ∷ r) (m.operand ∷ st) ≡ verdict n r st
+pub operand_goes : (n : ℕ) (x : SurfaceOperand) (r : List Kind) (st : List Predicted) → verdict n (g.operand x ∷ r) (m.operand ∷ st) ≡ verdict n r st
 operand_goes n x r st = by_operand x (λ u. verdict n (u ∷ r) (m.operand ∷ st) ≡ verdict n r st) refl refl refl refl refl
 
-pub test_goes : (n : ℕ) (b : SurfaceTest SurfaceExpr) (r : List Kind) (st : List Owed) → verdict n (g.test g.expr b r) (m.test ∷ st) ≡ verdict n r st
+pub test_goes : (n : ℕ) (b : SurfaceTest SurfaceExpr) (r : List Kind) (st : List Predicted) → verdict n (g.test g.expr b r) (m.test ∷ st) ≡ verdict n r st
 test_goes n (t.True p) r st = refl
 test_goes n (t.Equal x y) r st =
     let h = expr_goes n y r st in by_expr x (λ u. verdict n (u ∷ k.EqualEqual ∷ g.expr y ∷ r) (m.test ∷ st) ≡ verdict n r st) h h h h
 test_goes n (t.Differ x y) r st =
     let h = expr_goes n y r st in by_expr x (λ u. verdict n (u ∷ k.NotEqual ∷ g.expr y ∷ r) (m.test ∷ st) ≡ verdict n r st) h h h h
 
-operand_test_goes : (n : ℕ) (b : SurfaceTest SurfaceOperand) (r : List Kind) (st : List Owed) → verdict n (g.test g.operand b r) (m.operand_test ∷ st) ≡ verdict n r st
+operand_test_goes : (n : ℕ) (b : SurfaceTest SurfaceOperand) (r : List Kind) (st : List Predicted) → verdict n (g.test g.operand b r) (m.operand_test ∷ st) ≡ verdict n r st
 operand_test_goes n (t.True p) r st = refl
 operand_test_goes n (t.Equal x y) r st =
     let h = operand_goes n y r st in by_operand x (λ u. verdict n (u ∷ k.EqualEqual ∷ g.operand y ∷ r) (m.operand_test ∷ st) ≡ verdict n r st) h h h h h
 operand_test_goes n (t.Differ x y) r st =
     let h = operand_goes n y r st in by_operand x (λ u. verdict n (u ∷ k.NotEqual ∷ g.operand y ∷ r) (m.operand_test ∷ st) ≡ verdict n r st) h h h h h
 
-bare_test_goes : (n : ℕ) (b : SurfaceTest SurfaceOperand) (r : List Kind) (st : List Owed) → verdict n (g.test g.operand b r) (m.if_test ∷ st) ≡ verdict n r st
+bare_test_goes : (n : ℕ) (b : SurfaceTest SurfaceOperand) (r : List Kind) (st : List Predicted) → verdict n (g.test g.operand b r) (m.if_test ∷ st) ≡ verdict n r st
 bare_test_goes n (t.True p) r st = refl
 bare_test_goes n (t.Equal x y) r st =
     let h = operand_goes n y r st in by_operand x (λ u. verdict n (u ∷ k.EqualEqual ∷ g.operand y ∷ r) (m.if_test ∷ st) ≡ verdict n r st) h h h h h
@@ -58,32 +58,32 @@ bare_test_goes n (t.Differ x y) r st =
     let h = operand_goes n y r st in by_operand x (λ u. verdict n (u ∷ k.NotEqual ∷ g.operand y ∷ r) (m.if_test ∷ st) ≡ verdict n r st) h h h h h
 
 -- names, where what follows does without more of them
-pub more_names_go : (n : ℕ) (xs : List Word) (r : List Kind) (st : List Owed) → verdict n r (m.more_names ∷ st) ≡ verdict n r st → verdict n (g.more_names xs r) (m.more_names ∷ st) ≡ verdict n r st
+pub more_names_go : (n : ℕ) (xs : List Word) (r : List Kind) (st : List Predicted) → verdict n r (m.more_names ∷ st) ≡ verdict n r st → verdict n (g.more_names xs r) (m.more_names ∷ st) ≡ verdict n r st
 more_names_go n [] r st h = h
 more_names_go n (x ∷ xs) r st h = more_names_go n xs r st h
 
-pub maybe_names_go : (n : ℕ) (xs : List Word) (r : List Kind) (st : List Owed) → verdict n r (m.maybe_names ∷ st) ≡ verdict n r st → verdict n r (m.more_names ∷ st) ≡ verdict n r st → verdict n (g.maybe_names xs r) (m.maybe_names ∷ st) ≡ verdict n r st
+pub maybe_names_go : (n : ℕ) (xs : List Word) (r : List Kind) (st : List Predicted) → verdict n r (m.maybe_names ∷ st) ≡ verdict n r st → verdict n r (m.more_names ∷ st) ≡ verdict n r st → verdict n (g.maybe_names xs r) (m.maybe_names ∷ st) ≡ verdict n r st
 maybe_names_go n [] r st h i = h
 maybe_names_go n (x ∷ xs) r st h i = more_names_go n xs r st i
 
-pub parameters_go : (n : ℕ) (ps : s.Parameters) (r : List Kind) (st : List Owed) → verdict n (g.parameters ps (k.CloseRound ∷ r)) (m.maybe_names ∷ m.maybe_values ∷ m.exact m.close_round ∷ st) ≡ verdict n r st
+pub parameters_go : (n : ℕ) (ps : s.Parameters) (r : List Kind) (st : List Predicted) → verdict n (g.parameters ps (k.CloseRound ∷ r)) (m.maybe_names ∷ m.maybe_values ∷ m.exact m.close_round ∷ st) ≡ verdict n r st
 parameters_go n (s.only_values xs) r st = maybe_names_go n xs (k.CloseRound ∷ r) (m.maybe_values ∷ m.exact m.close_round ∷ st) refl refl
 parameters_go n (s.references_and_values xs ys) r st =
     maybe_names_go n xs (k.Semicolon ∷ g.maybe_names ys (k.CloseRound ∷ r)) (m.maybe_values ∷ m.exact m.close_round ∷ st) refl refl
     ∙ maybe_names_go n ys (k.CloseRound ∷ r) (m.exact m.close_round ∷ st) refl refl
 
-more_exprs_go : (n : ℕ) (xs : List SurfaceExpr) (r : List Kind) (st : List Owed) → verdict n (g.more_exprs xs (k.CloseRound ∷ r)) (m.more_expressions ∷ st) ≡ verdict n (k.CloseRound ∷ r) st
+more_exprs_go : (n : ℕ) (xs : List SurfaceExpr) (r : List Kind) (st : List Predicted) → verdict n (g.more_exprs xs (k.CloseRound ∷ r)) (m.more_expressions ∷ st) ≡ verdict n (k.CloseRound ∷ r) st
 more_exprs_go n [] r st = refl
 more_exprs_go n (x ∷ xs) r st = expr_goes n x (g.more_exprs xs (k.CloseRound ∷ r)) (m.more_expressions ∷ st) ∙ more_exprs_go n xs r st
 
-maybe_exprs_go : (n : ℕ) (xs : List SurfaceExpr) (r : List Kind) (st : List Owed) → verdict n (g.maybe_exprs xs (k.CloseRound ∷ r)) (m.maybe_expressions ∷ st) ≡ verdict n (k.CloseRound ∷ r) st
+maybe_exprs_go : (n : ℕ) (xs : List SurfaceExpr) (r : List Kind) (st : List Predicted) → verdict n (g.maybe_exprs xs (k.CloseRound ∷ r)) (m.maybe_expressions ∷ st) ≡ verdict n (k.CloseRound ∷ r) st
 maybe_exprs_go n [] r st = refl
 maybe_exprs_go n (x ∷ xs) r st =
     let h = more_exprs_go n xs r st in
     by_expr x (λ u. verdict n (u ∷ g.more_exprs xs (k.CloseRound ∷ r)) (m.maybe_expressions ∷ st) ≡ verdict n (k.CloseRound ∷ r) st) h h h h
 
--- values behind a first one, whether or not all so far could be references
-rest_goes : (n : ℕ) (b : Bool) (xs : List SurfaceExpr) (r : List Kind) (st : List Owed) → verdict n (g.more_exprs xs (k.CloseRound ∷ r)) (m.rest b ∷ st) ≡ verdict n (k.CloseRound ∷ r) st
+-- values after a first one, whether or not all so far could be references
+rest_goes : (n : ℕ) (b : Bool) (xs : List SurfaceExpr) (r : List Kind) (st : List Predicted) → verdict n (g.more_exprs xs (k.CloseRound ∷ r)) (m.rest b ∷ st) ≡ verdict n (k.CloseRound ∷ r) st
 rest_goes n true [] r st = refl
 rest_goes n false [] r st = refl
 rest_goes n true (x ∷ xs) r st =
@@ -93,12 +93,12 @@ rest_goes n false (x ∷ xs) r st =
     let h = rest_goes n false xs r st in
     by_expr x (λ u. verdict n (k.Comma ∷ u ∷ g.more_exprs xs (k.CloseRound ∷ r)) (m.rest false ∷ st) ≡ verdict n (k.CloseRound ∷ r) st) h h h h
 
--- references behind a first one
-references_go : (n : ℕ) (ns : List Word) (xs : List SurfaceExpr) (r : List Kind) (st : List Owed) → verdict n (g.more_names ns (k.Semicolon ∷ g.maybe_exprs xs (k.CloseRound ∷ r))) (m.rest true ∷ st) ≡ verdict n (k.CloseRound ∷ r) st
+-- references after a first one
+references_go : (n : ℕ) (ns : List Word) (xs : List SurfaceExpr) (r : List Kind) (st : List Predicted) → verdict n (g.more_names ns (k.Semicolon ∷ g.maybe_exprs xs (k.CloseRound ∷ r))) (m.rest true ∷ st) ≡ verdict n (k.CloseRound ∷ r) st
 references_go n [] xs r st = maybe_exprs_go n xs r st
 references_go n (x ∷ ns) xs r st = references_go n ns xs r st
 
-pub arguments_go : (n : ℕ) (a : s.Arguments) (r : List Kind) (st : List Owed) → verdict n (g.arguments a (k.CloseRound ∷ r)) (m.maybe_arguments ∷ m.exact m.close_round ∷ st) ≡ verdict n r st
+pub arguments_go : (n : ℕ) (a : s.Arguments) (r : List Kind) (st : List Predicted) → verdict n (g.arguments a (k.CloseRound ∷ r)) (m.maybe_arguments ∷ m.exact m.close_round ∷ st) ≡ verdict n r st
 arguments_go n (s.values []) r st = refl
 arguments_go n (s.values (x ∷ xs)) r st =
     let h = rest_goes n false xs r (m.exact m.close_round ∷ st) in
@@ -106,7 +106,7 @@ arguments_go n (s.values (x ∷ xs)) r st =
 arguments_go n (s.both [] xs) r st = maybe_exprs_go n xs r (m.exact m.close_round ∷ st)
 arguments_go n (s.both (x ∷ ns) xs) r st = references_go n ns xs r (m.exact m.close_round ∷ st)
 
--- what may stand behind a conjunct, and behind an assertion
+-- what may come after a conjunct, and after an assertion
 abbrev pub AfterConjunct : List Kind → Type 0
 AfterConjunct (k.Star ∷ r) = Unit {0}
 AfterConjunct (k.CloseRound ∷ r) = Unit {0}
@@ -114,7 +114,7 @@ AfterConjunct (k.CloseSquare ∷ r) = Unit {0}
 AfterConjunct (k.Else ∷ r) = Unit {0}
 AfterConjunct _ = ⊥
 
-no_fields : (n : ℕ) (r : List Kind) (st : List Owed) → AfterConjunct r → verdict n r (m.maybe_fields ∷ st) ≡ verdict n r st
+no_fields : (n : ℕ) (r : List Kind) (st : List Predicted) → AfterConjunct r → verdict n r (m.maybe_fields ∷ st) ≡ verdict n r st
 no_fields n [] st h = absurd h
 no_fields n (k.Star ∷ r) st h = refl
 no_fields n (k.CloseRound ∷ r) st h = refl
@@ -122,7 +122,7 @@ no_fields n (k.CloseSquare ∷ r) st h = refl
 no_fields n (k.Else ∷ r) st h = refl
 no_fields n (_ ∷ r) st h = absurd h
 
-no_more_fields : (n : ℕ) (r : List Kind) (st : List Owed) → AfterConjunct r → verdict n r (m.more_fields ∷ st) ≡ verdict n r st
+no_more_fields : (n : ℕ) (r : List Kind) (st : List Predicted) → AfterConjunct r → verdict n r (m.more_fields ∷ st) ≡ verdict n r st
 no_more_fields n [] st h = absurd h
 no_more_fields n (k.Star ∷ r) st h = refl
 no_more_fields n (k.CloseRound ∷ r) st h = refl
@@ -130,21 +130,21 @@ no_more_fields n (k.CloseSquare ∷ r) st h = refl
 no_more_fields n (k.Else ∷ r) st h = refl
 no_more_fields n (_ ∷ r) st h = absurd h
 
-no_more_conjuncts : (n d : ℕ) (r : List Kind) (st : List Owed) → NotStar r → verdict n r (m.more_conjuncts d ∷ st) ≡ verdict n r st
+no_more_conjuncts : (n d : ℕ) (r : List Kind) (st : List Predicted) → NotStar r → verdict n r (m.more_conjuncts d ∷ st) ≡ verdict n r st
 no_more_conjuncts n d [] st h = refl
 no_more_conjuncts n d (k.Star ∷ r) st h = absurd h
 no_more_conjuncts n d (_ ∷ r) st h = refl
 
-more_fields_go : (n : ℕ) (fs : List SurfaceField) (r : List Kind) (st : List Owed) → AfterConjunct r → verdict n (g.more_fields fs r) (m.more_fields ∷ st) ≡ verdict n r st
+more_fields_go : (n : ℕ) (fs : List SurfaceField) (r : List Kind) (st : List Predicted) → AfterConjunct r → verdict n (g.more_fields fs r) (m.more_fields ∷ st) ≡ verdict n r st
 more_fields_go n [] r st h = no_more_fields n r st h
 more_fields_go n (f ∷ fs) r st h = operand_goes n f.value (g.more_fields fs r) (m.more_fields ∷ st) ∙ more_fields_go n fs r st h
 
-maybe_fields_go : (n : ℕ) (fs : List SurfaceField) (r : List Kind) (st : List Owed) → AfterConjunct r → verdict n (g.maybe_fields fs r) (m.maybe_fields ∷ st) ≡ verdict n r st
+maybe_fields_go : (n : ℕ) (fs : List SurfaceField) (r : List Kind) (st : List Predicted) → AfterConjunct r → verdict n (g.maybe_fields fs r) (m.maybe_fields ∷ st) ≡ verdict n r st
 maybe_fields_go n [] r st h = no_fields n r st h
 maybe_fields_go n (f ∷ fs) r st h = operand_goes n f.value (g.more_fields fs r) (m.more_fields ∷ st) ∙ more_fields_go n fs r st h
 
 -- an assertion begins with its first conjunct
-first_conjunct : (n : ℕ) (c : s.Conjunct) (d : ℕ) (r : List Kind) (st : List Owed) → HasLevel n (length (g.conjunct c r)) d → verdict n (g.conjunct c r) (m.assertion d ∷ st) ≡ verdict n (g.conjunct c r) (m.conjunct d ∷ m.more_conjuncts d ∷ st)
+first_conjunct : (n : ℕ) (c : s.Conjunct) (d : ℕ) (r : List Kind) (st : List Predicted) → HasLevel n (length (g.conjunct c r)) d → verdict n (g.conjunct c r) (m.assertion d ∷ st) ≡ verdict n (g.conjunct c r) (m.conjunct d ∷ m.more_conjuncts d ∷ st)
 first_conjunct n (s.emp p) d r st h = rw h refl
 first_conjunct n (s.group p a) d r st h = rw h refl
 first_conjunct n (s.choose p b x y) d r st h = rw h refl
@@ -161,21 +161,21 @@ first_conjunct n (s.list p x) d r st h = rw h refl
 first_conjunct n (s.tree p x) d r st h = rw h refl
 
 -- a note's assertion too
-first_in_note : (n : ℕ) (c : s.Conjunct) (r : List Kind) (st : List Owed) → verdict n (g.conjunct c r) (m.maybe_assertion ∷ st) ≡ verdict n (g.conjunct c r) (m.conjunct NESTING ∷ m.more_conjuncts NESTING ∷ st)
-first_in_note n (s.emp p) r st = refl
-first_in_note n (s.group p a) r st = refl
-first_in_note n (s.choose p b x y) r st = refl
-first_in_note n (s.choose_round p b x y) r st = refl
-first_in_note n (s.equal x y) r st =
+first_in_annotation : (n : ℕ) (c : s.Conjunct) (r : List Kind) (st : List Predicted) → verdict n (g.conjunct c r) (m.maybe_assertion ∷ st) ≡ verdict n (g.conjunct c r) (m.conjunct NESTING ∷ m.more_conjuncts NESTING ∷ st)
+first_in_annotation n (s.emp p) r st = refl
+first_in_annotation n (s.group p a) r st = refl
+first_in_annotation n (s.choose p b x y) r st = refl
+first_in_annotation n (s.choose_round p b x y) r st = refl
+first_in_annotation n (s.equal x y) r st =
     by_operand x (λ u. verdict n (u ∷ k.EqualEqual ∷ g.operand y ∷ r) (m.maybe_assertion ∷ st) ≡ verdict n (u ∷ k.EqualEqual ∷ g.operand y ∷ r) (m.conjunct NESTING ∷ m.more_conjuncts NESTING ∷ st)) refl refl refl refl refl
-first_in_note n (s.differ x y) r st =
+first_in_annotation n (s.differ x y) r st =
     by_operand x (λ u. verdict n (u ∷ k.NotEqual ∷ g.operand y ∷ r) (m.maybe_assertion ∷ st) ≡ verdict n (u ∷ k.NotEqual ∷ g.operand y ∷ r) (m.conjunct NESTING ∷ m.more_conjuncts NESTING ∷ st)) refl refl refl refl refl
-first_in_note n (s.points x fs) r st =
+first_in_annotation n (s.points x fs) r st =
     by_operand x (λ u. verdict n (u ∷ k.PointsTo ∷ g.maybe_fields fs r) (m.maybe_assertion ∷ st) ≡ verdict n (u ∷ k.PointsTo ∷ g.maybe_fields fs r) (m.conjunct NESTING ∷ m.more_conjuncts NESTING ∷ st)) refl refl refl refl refl
-first_in_note n (s.ls p x y) r st = refl
-first_in_note n (s.lseg p x y) r st = refl
-first_in_note n (s.list p x) r st = refl
-first_in_note n (s.tree p x) r st = refl
+first_in_annotation n (s.ls p x y) r st = refl
+first_in_annotation n (s.lseg p x y) r st = refl
+first_in_annotation n (s.list p x) r st = refl
+first_in_annotation n (s.tree p x) r st = refl
 
 pub closed_ends : (c : s.Conjunct) (r : List Kind) → IsClosed c → Ends c r
 closed_ends (s.choose p b x y) r h = absurd h
@@ -193,7 +193,7 @@ ends_before (s.choose_round p b x y) r h = h
 ends_before _ r h = tt
 
 mutual
-  conjunct_goes : (n : ℕ) (c : s.Conjunct) (d : ℕ) (r : List Kind) (st : List Owed) → ConjunctWithin c n d r → AfterConjunct r → Ends c r → verdict n (g.conjunct c r) (m.conjunct d ∷ st) ≡ verdict n r st
+  conjunct_goes : (n : ℕ) (c : s.Conjunct) (d : ℕ) (r : List Kind) (st : List Predicted) → ConjunctWithin c n d r → AfterConjunct r → Ends c r → verdict n (g.conjunct c r) (m.conjunct d ∷ st) ≡ verdict n r st
   conjunct_goes n (s.emp p) d r st w a f = refl
   conjunct_goes n (s.group p x) d r st w a f = assertion_goes n x (d - 1) (k.CloseRound ∷ r) (m.exact m.close_round ∷ st) w tt tt
   conjunct_goes n (s.choose p b x y) d r st w a f =
@@ -217,7 +217,7 @@ mutual
   conjunct_goes n (s.list p x) d r st w a f = operand_goes n x (k.CloseRound ∷ r) (m.exact m.close_round ∷ st)
   conjunct_goes n (s.tree p x) d r st w a f = operand_goes n x (k.CloseRound ∷ r) (m.exact m.close_round ∷ st)
 
-  assertion_goes : (n : ℕ) (a : s.Assertion) (d : ℕ) (r : List Kind) (st : List Owed) → AssertionWithin a n d r → AfterConjunct r → NotStar r → verdict n (g.assertion a r) (m.assertion d ∷ st) ≡ verdict n r st
+  assertion_goes : (n : ℕ) (a : s.Assertion) (d : ℕ) (r : List Kind) (st : List Predicted) → AssertionWithin a n d r → AfterConjunct r → NotStar r → verdict n (g.assertion a r) (m.assertion d ∷ st) ≡ verdict n r st
   assertion_goes n (s.only c) d r st w a f =
       first_conjunct n c d r st w.0 ∙ conjunct_goes n c d r (m.more_conjuncts d ∷ st) w.1 a (ends_before c r f) ∙ no_more_conjuncts n d r st f
   assertion_goes n (s.star c x) d r st w a f =
@@ -225,28 +225,28 @@ mutual
       ∙ conjunct_goes n c d (k.Star ∷ g.assertion x r) (m.more_conjuncts d ∷ st) w.1 tt (closed_ends c (k.Star ∷ g.assertion x r) w.2)
       ∙ rest_of_assertion n x d r st w.3 a f
 
-  -- what stands behind a `*`
-  rest_of_assertion : (n : ℕ) (a : s.Assertion) (d : ℕ) (r : List Kind) (st : List Owed) → RestWithin a n d r → AfterConjunct r → NotStar r → verdict n (g.assertion a r) (m.conjunct d ∷ m.more_conjuncts d ∷ st) ≡ verdict n r st
+  -- what comes after a `*`
+  rest_of_assertion : (n : ℕ) (a : s.Assertion) (d : ℕ) (r : List Kind) (st : List Predicted) → RestWithin a n d r → AfterConjunct r → NotStar r → verdict n (g.assertion a r) (m.conjunct d ∷ m.more_conjuncts d ∷ st) ≡ verdict n r st
   rest_of_assertion n (s.only c) d r st w a f = conjunct_goes n c d r (m.more_conjuncts d ∷ st) w a (ends_before c r f) ∙ no_more_conjuncts n d r st f
   rest_of_assertion n (s.star c x) d r st w a f =
       conjunct_goes n c d (k.Star ∷ g.assertion x r) (m.more_conjuncts d ∷ st) w.0 tt (closed_ends c (k.Star ∷ g.assertion x r) w.1)
       ∙ rest_of_assertion n x d r st w.2 a f
 
-in_note : (n : ℕ) (a : s.Assertion) (r : List Kind) (st : List Owed) → AssertionWithin a n NESTING (k.CloseSquare ∷ r) → verdict n (g.assertion a (k.CloseSquare ∷ r)) (m.maybe_assertion ∷ m.exact m.close_square ∷ st) ≡ verdict n r st
-in_note n (s.only c) r st w =
-    first_in_note n c (k.CloseSquare ∷ r) (m.exact m.close_square ∷ st)
+in_annotation : (n : ℕ) (a : s.Assertion) (r : List Kind) (st : List Predicted) → AssertionWithin a n NESTING (k.CloseSquare ∷ r) → verdict n (g.assertion a (k.CloseSquare ∷ r)) (m.maybe_assertion ∷ m.exact m.close_square ∷ st) ≡ verdict n r st
+in_annotation n (s.only c) r st w =
+    first_in_annotation n c (k.CloseSquare ∷ r) (m.exact m.close_square ∷ st)
     ∙ conjunct_goes n c NESTING (k.CloseSquare ∷ r) (m.more_conjuncts NESTING ∷ m.exact m.close_square ∷ st) w.1 tt (ends_before c (k.CloseSquare ∷ r) tt)
-in_note n (s.star c x) r st w =
-    first_in_note n c (k.Star ∷ g.assertion x (k.CloseSquare ∷ r)) (m.exact m.close_square ∷ st)
+in_annotation n (s.star c x) r st w =
+    first_in_annotation n c (k.Star ∷ g.assertion x (k.CloseSquare ∷ r)) (m.exact m.close_square ∷ st)
     ∙ conjunct_goes n c NESTING (k.Star ∷ g.assertion x (k.CloseSquare ∷ r)) (m.more_conjuncts NESTING ∷ m.exact m.close_square ∷ st) w.1 tt (closed_ends c (k.Star ∷ g.assertion x (k.CloseSquare ∷ r)) w.2)
     ∙ rest_of_assertion n x NESTING (k.CloseSquare ∷ r) (m.exact m.close_square ∷ st) w.3 tt tt
 
--- a note behind its opening bracket
-pub note_goes : (n : ℕ) (x : s.Note) (r : List Kind) (st : List Owed) → NoteWithin x n r → verdict n (g.note x r) (m.exact m.open_square ∷ m.maybe_assertion ∷ m.exact m.close_square ∷ st) ≡ verdict n r st
-note_goes n s.blank r st w = refl
-note_goes n (s.filled a) r st w = in_note n a r st w
+-- a note after its opening bracket
+pub annotation_goes : (n : ℕ) (x : s.Note) (r : List Kind) (st : List Predicted) → NoteWithin x n r → verdict n (g.annotation x r) (m.exact m.open_square ∷ m.maybe_assertion ∷ m.exact m.close_square ∷ st) ≡ verdict n r st
+annotation_goes n s.blank r st w = refl
+annotation_goes n (s.filled a) r st w = in_annotation n a r st w
 
-pub maybe_note_goes : (n : ℕ) (x : Option s.Note) (r : List Kind) (st : List Owed) → MaybeWithin x n r → verdict n r (m.maybe_note ∷ st) ≡ verdict n r st → verdict n (g.maybe_note x r) (m.maybe_note ∷ st) ≡ verdict n r st
-maybe_note_goes n None r st w h = h
-maybe_note_goes n (Some s.blank) r st w h = refl
-maybe_note_goes n (Some (s.filled a)) r st w h = in_note n a r st w
+pub maybe_annotation_goes : (n : ℕ) (x : Option s.Note) (r : List Kind) (st : List Predicted) → MaybeWithin x n r → verdict n r (m.maybe_annotation ∷ st) ≡ verdict n r st → verdict n (g.maybe_annotation x r) (m.maybe_annotation ∷ st) ≡ verdict n r st
+maybe_annotation_goes n None r st w h = h
+maybe_annotation_goes n (Some s.blank) r st w h = refl
+maybe_annotation_goes n (Some (s.filled a)) r st w h = in_annotation n a r st w

@@ -1,4 +1,4 @@
--- One more `local` or item at the end of a list, as it is spelled, where it stands and how deep it is nested.
+-- One more `local` or item at the end of a list, as it is spelled, where it is and how deep it is nested.
 use Rattle.std.proofs.Common.{◌≡◌, ◌<◌, ℕ, List, [], ◌∷◌, ◌++◌, length, ap, sym, subst, refl, arith}
 use Rattle.sf_ast.specs.Surface as s
 use Rattle.sf_lex.specs.declared.token.Kind.{Kind}
@@ -19,7 +19,7 @@ pub locals_at_push : (at : ℕ → Token) (ls : List s.Names) (x : s.Names) (r :
 locals_at_push at [] x r all one = (one, tt)
 locals_at_push at (y ∷ ls) x r all one = (subst (λ (z : List Kind). NamesAt at y (k.Semicolon ∷ z)) (sym (locals_push ls x r)) all.0, locals_at_push at ls x r all.1 one)
 
--- fewer tokens are left behind a `local`
+-- fewer tokens are left after a `local`
 pub fewer_behind_local : (x : s.Names) (ts r : List Token) → kinds ts ≡ k.Local ∷ g.names x (k.Semicolon ∷ kinds r) → length r < length ts
 fewer_behind_local x ts r h = fewer r ts (rw h (omega (arith, more_names_longer x.more (k.Semicolon ∷ kinds r))))
 

@@ -6,8 +6,8 @@ use Rattle.sf_ast.specs.Surface.{Item}
 use Rattle.sf_lex.specs.declared.token.Kind.{Kind}
 use Rattle.sf_parse.specs.Grammar.{items}
 use Rattle.sf_parse.specs.Laws.{TheVerdictIsExact}
-use Rattle.sf_parse.specs.Machine as m
-use Rattle.sf_parse.specs.Machine.{Owed, Next, goes, bad, deep, step, accepted, unexpected, too_deep, at_end, may_end, both, is_optional, after, verdict}
+use Rattle.sf_parse.specs.Internal.Machine as m
+use Rattle.sf_parse.specs.Internal.Machine.{Predicted, Next, goes, bad, deep, step, accepted, unexpected, too_deep, at_end, may_end, both, is_optional, after, verdict}
 use Rattle.sf_parse.specs.Nesting.{ItemsWithin}
 use Rattle.sf_parse.specs.Parsing.{CanBegin}
 use Rattle.sf_parse.proofs.Exactly.{GoesOn, fault_of, viable, stuck, deep_any}
@@ -33,7 +33,7 @@ refuses n front t back other b z e tree is w =
     stuck front t back other (m.items ∷ []) b n z e (file_accepted n (front ++ t ∷ other) tree (sym (append_assoc front (t ∷ []) other) ∙ is) w)
 
 -- what need not come is spelled by nothing
-optional_spells : (n : ℕ) (o : Owed) → is_optional o ≡ true → Spells n o [] []
+optional_spells : (n : ℕ) (o : Predicted) → is_optional o ≡ true → Spells n o [] []
 optional_spells n m.more_names h = ([], refl)
 optional_spells n m.maybe_names h = ([], refl)
 optional_spells n m.maybe_values h = inl refl
@@ -45,7 +45,7 @@ optional_spells n m.maybe_fields h = ([], refl)
 optional_spells n m.more_fields h = ([], refl)
 optional_spells n (m.more_conjuncts d) h = inl (tt, refl)
 optional_spells n m.maybe_assertion h = inl refl
-optional_spells n m.maybe_note h = (None, refl, tt)
+optional_spells n m.maybe_annotation h = (None, refl, tt)
 optional_spells n (m.commands d) h = (s.done, refl, tt)
 optional_spells n (m.branch d) h = inr (tt, refl)
 optional_spells n m.locals h = ([], refl)
@@ -61,7 +61,7 @@ both_right true b h = h
 both_right false b h = absurd cc
 
 -- so is a stack at which the file may end
-ended : (n : ℕ) (st : List Owed) → may_end st ≡ true → Means n st []
+ended : (n : ℕ) (st : List Predicted) → may_end st ≡ true → Means n st []
 ended n [] h = refl
 ended n (o ∷ st) h = ([], optional_spells n o (both_left (is_optional o) (may_end st) h), ended n st (both_right (is_optional o) (may_end st) h))
 
@@ -70,11 +70,11 @@ at_end_accepted true h = refl
 at_end_accepted false h = absurd cc
 
 -- what is accepted is spelled
-accepted_means : (n : ℕ) (ts : List Kind) (st : List Owed) → verdict n ts st ≡ accepted → Means n st ts
+accepted_means : (n : ℕ) (ts : List Kind) (st : List Predicted) → verdict n ts st ≡ accepted → Means n st ts
 accepted_means n [] st h = ended n st (at_end_accepted (may_end st) h)
 accepted_means n (t ∷ ts) st h = go (step n (suc (length ts)) st t) refl (accepted_means n ts) h
   where
-    go : (x : Next) → step n (suc (length ts)) st t ≡ x → ((st2 : List Owed) → verdict n ts st2 ≡ accepted → Means n st2 ts) → after (λ s. verdict n ts s) (suc (length ts)) x ≡ accepted → Means n st (t ∷ ts)
+    go : (x : Next) → step n (suc (length ts)) st t ≡ x → ((st2 : List Predicted) → verdict n ts st2 ≡ accepted → Means n st2 ts) → after (λ s. verdict n ts s) (suc (length ts)) x ≡ accepted → Means n st (t ∷ ts)
     go (goes st2) is f h = step_back n st t ts (subst (λ (x : Next). MeansNext n x ts) (sym is) (f st2 h))
     go bad is f h = absurd cc
     go deep is f h = absurd cc

@@ -11,50 +11,50 @@ use Rattle.sf_lex.specs.declared.token.Kind.{Kind}
 use Rattle.sf_lex.specs.declared.token.Kind.TheVariants as k
 use Rattle.sf_lex.specs.declared.token.Token.{Token}
 use Rattle.sf_parse.specs.Grammar as g
-use Rattle.sf_parse.specs.Heads.{command_next}
-use Rattle.sf_parse.specs.Machine as m
-use Rattle.sf_parse.specs.Machine.{Owed, verdict, unexpected, too_deep}
+use Rattle.sf_parse.specs.Internal.Heads.{command_next}
+use Rattle.sf_parse.specs.Internal.Machine as m
+use Rattle.sf_parse.specs.Internal.Machine.{Predicted, verdict, unexpected, too_deep}
 use Rattle.sf_parse.specs.Nesting.{Follows, CommandWithin, CommandsWithin}
 use Rattle.sf_parse.specs.Parsing.{kinds}
 use Rattle.sf_parse.specs.Placed.{CommandAt, CommandsAt}
-use Rattle.sf_parse.specs.Steps.{NotNext, expression_next}
+use Rattle.sf_parse.specs.Internal.Steps.{NotNext, expression_next}
 use Rattle.sf_parse.proofs.Back.{follows_else}
 use Rattle.sf_parse.proofs.Fronts.{left_of}
 use Rattle.sf_parse.proofs.HasLevel.{no_level, some_level}
 
 -- where no level is left
-level_stops : (ts : List Kind) (st : List Owed) → command_next ts ≡ true → verdict 0 ts (m.command 0 ∷ st) ≡ too_deep (length ts)
-level_stops [] st h = absurd cc
-level_stops (k.Name ∷ r) st h = rw (no_level (length r)) refl
-level_stops (k.Nil ∷ r) st h = rw (no_level (length r)) refl
-level_stops (k.Null ∷ r) st h = rw (no_level (length r)) refl
-level_stops (k.Number ∷ r) st h = rw (no_level (length r)) refl
-level_stops (k.Dispose ∷ r) st h = rw (no_level (length r)) refl
-level_stops (k.If ∷ r) st h = rw (no_level (length r)) refl
-level_stops (k.While ∷ r) st h = rw (no_level (length r)) refl
-level_stops (k.With ∷ r) st h = rw (no_level (length r)) refl
-level_stops (k.OpenBrace ∷ r) st h = rw (no_level (length r)) refl
-level_stops (t ∷ r) st h = absurd cc
+level_fails : (ts : List Kind) (st : List Predicted) → command_next ts ≡ true → verdict 0 ts (m.command 0 ∷ st) ≡ too_deep (length ts)
+level_fails [] st h = absurd cc
+level_fails (k.Name ∷ r) st h = rw (no_level (length r)) refl
+level_fails (k.Nil ∷ r) st h = rw (no_level (length r)) refl
+level_fails (k.Null ∷ r) st h = rw (no_level (length r)) refl
+level_fails (k.Number ∷ r) st h = rw (no_level (length r)) refl
+level_fails (k.Dispose ∷ r) st h = rw (no_level (length r)) refl
+level_fails (k.If ∷ r) st h = rw (no_level (length r)) refl
+level_fails (k.While ∷ r) st h = rw (no_level (length r)) refl
+level_fails (k.With ∷ r) st h = rw (no_level (length r)) refl
+level_fails (k.OpenBrace ∷ r) st h = rw (no_level (length r)) refl
+level_fails (t ∷ r) st h = absurd cc
 
-pub stops_at_level : (ts : List Token) (st : List Owed) → command_next (kinds ts) ≡ true → verdict 0 (kinds ts) (m.command 0 ∷ st) ≡ too_deep (length ts)
-stops_at_level ts st h = level_stops (kinds ts) st h ∙ ap too_deep (length-map ts (λ (t : Token). t.kind))
+pub fails_at_level : (ts : List Token) (st : List Predicted) → command_next (kinds ts) ≡ true → verdict 0 (kinds ts) (m.command 0 ∷ st) ≡ too_deep (length ts)
+fails_at_level ts st h = level_fails (kinds ts) st h ∙ ap too_deep (length-map ts (λ (t : Token). t.kind))
 
-command_stops : (d : ℕ) (ts : List Kind) (st : List Owed) → command_next ts ≡ false → verdict 0 ts (m.command d ∷ st) ≡ unexpected (length ts)
-command_stops d [] st h = refl
-command_stops d (k.Name ∷ r) st h = absurd cc
-command_stops d (k.Nil ∷ r) st h = absurd cc
-command_stops d (k.Null ∷ r) st h = absurd cc
-command_stops d (k.Number ∷ r) st h = absurd cc
-command_stops d (k.Dispose ∷ r) st h = absurd cc
-command_stops d (k.If ∷ r) st h = absurd cc
-command_stops d (k.While ∷ r) st h = absurd cc
-command_stops d (k.With ∷ r) st h = absurd cc
-command_stops d (k.OpenBrace ∷ r) st h = absurd cc
-command_stops d (t ∷ r) st h = refl
+command_fails : (d : ℕ) (ts : List Kind) (st : List Predicted) → command_next ts ≡ false → verdict 0 ts (m.command d ∷ st) ≡ unexpected (length ts)
+command_fails d [] st h = refl
+command_fails d (k.Name ∷ r) st h = absurd cc
+command_fails d (k.Nil ∷ r) st h = absurd cc
+command_fails d (k.Null ∷ r) st h = absurd cc
+command_fails d (k.Number ∷ r) st h = absurd cc
+command_fails d (k.Dispose ∷ r) st h = absurd cc
+command_fails d (k.If ∷ r) st h = absurd cc
+command_fails d (k.While ∷ r) st h = absurd cc
+command_fails d (k.With ∷ r) st h = absurd cc
+command_fails d (k.OpenBrace ∷ r) st h = absurd cc
+command_fails d (t ∷ r) st h = refl
 
 -- where no command begins
-pub stops_at_command : (d : ℕ) (ts : List Token) (st : List Owed) → command_next (kinds ts) ≡ false → verdict 0 (kinds ts) (m.command d ∷ st) ≡ unexpected (length ts)
-stops_at_command d ts st h = left_of ts (m.command d ∷ st) (command_stops d (kinds ts) st h)
+pub fails_at_command : (d : ℕ) (ts : List Token) (st : List Predicted) → command_next (kinds ts) ≡ false → verdict 0 (kinds ts) (m.command d ∷ st) ≡ unexpected (length ts)
+fails_at_command d ts st h = left_of ts (m.command d ∷ st) (command_fails d (kinds ts) st h)
 
 none_next : (ts : List Kind) → NotNext k.Name ts → NotNext k.Dispose ts → NotNext k.If ts → NotNext k.While ts → NotNext k.With ts → NotNext k.OpenBrace ts → expression_next ts ≡ false → command_next ts ≡ false
 none_next [] a b c d f i j = refl
@@ -71,43 +71,43 @@ pub no_command : (ts : List Token) → NotNext k.Name (kinds ts) → NotNext k.D
 no_command ts a b c d f i j = none_next (kinds ts) a b c d f i j
 
 -- with a level left
-pub takes_named : (d : ℕ) (ts r : List Token) (st : List Owed) → 0 < d → kinds ts ≡ k.Name ∷ kinds r → verdict 0 (kinds ts) (m.command d ∷ st) ≡ verdict 0 (kinds r) (m.named ∷ st)
-takes_named zero ts r st lv h = absurd (omega arith)
-takes_named (suc d) ts r st lv h = rw h refl
+pub accepts_named : (d : ℕ) (ts r : List Token) (st : List Predicted) → 0 < d → kinds ts ≡ k.Name ∷ kinds r → verdict 0 (kinds ts) (m.command d ∷ st) ≡ verdict 0 (kinds r) (m.named ∷ st)
+accepts_named zero ts r st lv h = absurd (omega arith)
+accepts_named (suc d) ts r st lv h = rw h refl
 
-pub takes_disposed : (d : ℕ) (ts r : List Token) (st : List Owed) → 0 < d → kinds ts ≡ k.Dispose ∷ kinds r → verdict 0 (kinds ts) (m.command d ∷ st) ≡ verdict 0 (kinds r) (m.disposed ∷ st)
-takes_disposed zero ts r st lv h = absurd (omega arith)
-takes_disposed (suc d) ts r st lv h = rw h refl
+pub accepts_disposed : (d : ℕ) (ts r : List Token) (st : List Predicted) → 0 < d → kinds ts ≡ k.Dispose ∷ kinds r → verdict 0 (kinds ts) (m.command d ∷ st) ≡ verdict 0 (kinds r) (m.disposed ∷ st)
+accepts_disposed zero ts r st lv h = absurd (omega arith)
+accepts_disposed (suc d) ts r st lv h = rw h refl
 
-pub takes_if : (d : ℕ) (ts r : List Token) (st : List Owed) → 0 < d → kinds ts ≡ k.If ∷ kinds r
+pub accepts_if : (d : ℕ) (ts r : List Token) (st : List Predicted) → 0 < d → kinds ts ≡ k.If ∷ kinds r
     → verdict 0 (kinds ts) (m.command d ∷ st) ≡ verdict 0 (kinds r) (m.exact m.open_round ∷ m.test ∷ m.exact m.close_round ∷ m.command (d - 1) ∷ m.branch (d - 1) ∷ st)
-takes_if zero ts r st lv h = absurd (omega arith)
-takes_if (suc d) ts r st lv h = rw h refl
+accepts_if zero ts r st lv h = absurd (omega arith)
+accepts_if (suc d) ts r st lv h = rw h refl
 
-pub takes_while : (d : ℕ) (ts r : List Token) (st : List Owed) → 0 < d → kinds ts ≡ k.While ∷ kinds r
-    → verdict 0 (kinds ts) (m.command d ∷ st) ≡ verdict 0 (kinds r) (m.exact m.open_round ∷ m.test ∷ m.exact m.close_round ∷ m.maybe_note ∷ m.command (d - 1) ∷ st)
-takes_while zero ts r st lv h = absurd (omega arith)
-takes_while (suc d) ts r st lv h = rw h refl
+pub accepts_while : (d : ℕ) (ts r : List Token) (st : List Predicted) → 0 < d → kinds ts ≡ k.While ∷ kinds r
+    → verdict 0 (kinds ts) (m.command d ∷ st) ≡ verdict 0 (kinds r) (m.exact m.open_round ∷ m.test ∷ m.exact m.close_round ∷ m.maybe_annotation ∷ m.command (d - 1) ∷ st)
+accepts_while zero ts r st lv h = absurd (omega arith)
+accepts_while (suc d) ts r st lv h = rw h refl
 
-pub takes_with : (d : ℕ) (ts r : List Token) (st : List Owed) → 0 < d → kinds ts ≡ k.With ∷ kinds r
+pub accepts_with : (d : ℕ) (ts r : List Token) (st : List Predicted) → 0 < d → kinds ts ≡ k.With ∷ kinds r
     → verdict 0 (kinds ts) (m.command d ∷ st) ≡ verdict 0 (kinds r) (m.exact m.a_name ∷ m.exact m.when_word ∷ m.exact m.open_round ∷ m.test ∷ m.exact m.close_round ∷ m.command (d - 1) ∷ st)
-takes_with zero ts r st lv h = absurd (omega arith)
-takes_with (suc d) ts r st lv h = rw h refl
+accepts_with zero ts r st lv h = absurd (omega arith)
+accepts_with (suc d) ts r st lv h = rw h refl
 
-pub takes_block : (d : ℕ) (ts r : List Token) (st : List Owed) → 0 < d → kinds ts ≡ k.OpenBrace ∷ kinds r → verdict 0 (kinds ts) (m.command d ∷ st) ≡ verdict 0 (kinds r) (m.commands (d - 1) ∷ m.exact m.close_brace ∷ st)
-takes_block zero ts r st lv h = absurd (omega arith)
-takes_block (suc d) ts r st lv h = rw h refl
+pub accepts_block : (d : ℕ) (ts r : List Token) (st : List Predicted) → 0 < d → kinds ts ≡ k.OpenBrace ∷ kinds r → verdict 0 (kinds ts) (m.command d ∷ st) ≡ verdict 0 (kinds r) (m.commands (d - 1) ∷ m.exact m.close_brace ∷ st)
+accepts_block zero ts r st lv h = absurd (omega arith)
+accepts_block (suc d) ts r st lv h = rw h refl
 
-pub takes_value : (d : ℕ) (x : SurfaceExpr) (ts r : List Token) (st : List Owed) → 0 < d → NotNext k.Name (kinds ts) → kinds ts ≡ g.expr x ∷ kinds r
+pub accepts_value : (d : ℕ) (x : SurfaceExpr) (ts r : List Token) (st : List Predicted) → 0 < d → NotNext k.Name (kinds ts) → kinds ts ≡ g.expr x ∷ kinds r
     → verdict 0 (kinds ts) (m.command d ∷ st) ≡ verdict 0 (kinds r) (m.exact m.an_arrow ∷ m.exact m.a_name ∷ m.exact m.equals ∷ m.expression ∷ m.exact m.semicolon ∷ st)
-takes_value zero x ts r st lv no_name h = absurd (omega arith)
-takes_value (suc d) (e.Name x) ts r st lv no_name h = absurd (no_name (kinds r) h)
-takes_value (suc d) (e.Nil p) ts r st lv no_name h = rw h refl
-takes_value (suc d) (e.Null p) ts r st lv no_name h = rw h refl
-takes_value (suc d) (e.Number x p) ts r st lv no_name h = rw h refl
+accepts_value zero x ts r st lv no_name h = absurd (omega arith)
+accepts_value (suc d) (e.Name x) ts r st lv no_name h = absurd (no_name (kinds r) h)
+accepts_value (suc d) (e.Nil p) ts r st lv no_name h = rw h refl
+accepts_value (suc d) (e.Null p) ts r st lv no_name h = rw h refl
+accepts_value (suc d) (e.Number x p) ts r st lv no_name h = rw h refl
 
 -- what need not come
-commands_over : (d : ℕ) (ts : List Kind) (st : List Owed) → command_next ts ≡ false → verdict 0 ts (m.commands d ∷ st) ≡ verdict 0 ts st
+commands_over : (d : ℕ) (ts : List Kind) (st : List Predicted) → command_next ts ≡ false → verdict 0 ts (m.commands d ∷ st) ≡ verdict 0 ts st
 commands_over d [] st h = refl
 commands_over d (k.Name ∷ r) st h = absurd cc
 commands_over d (k.Nil ∷ r) st h = absurd cc
@@ -120,10 +120,10 @@ commands_over d (k.With ∷ r) st h = absurd cc
 commands_over d (k.OpenBrace ∷ r) st h = absurd cc
 commands_over d (t ∷ r) st h = refl
 
-pub no_commands : (d : ℕ) (ts : List Token) (st : List Owed) → command_next (kinds ts) ≡ false → verdict 0 (kinds ts) (m.commands d ∷ st) ≡ verdict 0 (kinds ts) st
+pub no_commands : (d : ℕ) (ts : List Token) (st : List Predicted) → command_next (kinds ts) ≡ false → verdict 0 (kinds ts) (m.commands d ∷ st) ≡ verdict 0 (kinds ts) st
 no_commands d ts st h = commands_over d (kinds ts) st h
 
-commands_go_on : (d : ℕ) (ts : List Kind) (st : List Owed) → command_next ts ≡ true → verdict 0 ts (m.commands d ∷ st) ≡ verdict 0 ts (m.command d ∷ m.commands d ∷ st)
+commands_go_on : (d : ℕ) (ts : List Kind) (st : List Predicted) → command_next ts ≡ true → verdict 0 ts (m.commands d ∷ st) ≡ verdict 0 ts (m.command d ∷ m.commands d ∷ st)
 commands_go_on d [] st h = absurd cc
 commands_go_on d (k.Name ∷ r) st h = refl
 commands_go_on d (k.Nil ∷ r) st h = refl
@@ -136,28 +136,28 @@ commands_go_on d (k.With ∷ r) st h = refl
 commands_go_on d (k.OpenBrace ∷ r) st h = refl
 commands_go_on d (t ∷ r) st h = absurd cc
 
-pub another_command : (d : ℕ) (ts : List Token) (st : List Owed) → command_next (kinds ts) ≡ true → verdict 0 (kinds ts) (m.commands d ∷ st) ≡ verdict 0 (kinds ts) (m.command d ∷ m.commands d ∷ st)
+pub another_command : (d : ℕ) (ts : List Token) (st : List Predicted) → command_next (kinds ts) ≡ true → verdict 0 (kinds ts) (m.commands d ∷ st) ≡ verdict 0 (kinds ts) (m.command d ∷ m.commands d ∷ st)
 another_command d ts st h = commands_go_on d (kinds ts) st h
 
-branch_over : (d : ℕ) (ts : List Kind) (st : List Owed) → NotNext k.Else ts → verdict 0 ts (m.branch d ∷ st) ≡ verdict 0 ts st
+branch_over : (d : ℕ) (ts : List Kind) (st : List Predicted) → NotNext k.Else ts → verdict 0 ts (m.branch d ∷ st) ≡ verdict 0 ts st
 branch_over d [] st h = refl
 branch_over d (k.Else ∷ r) st h = absurd (h r refl)
 branch_over d (t ∷ r) st h = refl
 
-pub no_branch : (d : ℕ) (ts : List Token) (st : List Owed) → NotNext k.Else (kinds ts) → verdict 0 (kinds ts) (m.branch d ∷ st) ≡ verdict 0 (kinds ts) st
+pub no_branch : (d : ℕ) (ts : List Token) (st : List Predicted) → NotNext k.Else (kinds ts) → verdict 0 (kinds ts) (m.branch d ∷ st) ≡ verdict 0 (kinds ts) st
 no_branch d ts st h = branch_over d (kinds ts) st h
 
 pub ruleset levels = (
-  stops_at_level,
-  stops_at_command,
+  fails_at_level,
+  fails_at_command,
   no_command,
-  takes_named,
-  takes_disposed,
-  takes_if,
-  takes_while,
-  takes_with,
-  takes_block,
-  takes_value,
+  accepts_named,
+  accepts_disposed,
+  accepts_if,
+  accepts_while,
+  accepts_with,
+  accepts_block,
+  accepts_value,
   no_commands,
   another_command,
   no_branch,

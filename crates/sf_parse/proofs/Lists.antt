@@ -1,4 +1,4 @@
--- One more at the end of a list, as it is spelled and where it stands.
+-- One more at the end of a list, as it is spelled and where it is.
 use Rattle.std.proofs.Common.{◌≡◌, ℕ, List, [], ◌∷◌, ◌++◌, refl, ap, subst, sym}
 use Rattle.sf_ast.specs.declared.assertion.SurfaceField.{SurfaceField}
 use Rattle.sf_ast.specs.declared.word.Word.{Word}

@@ -1,4 +1,4 @@
--- What spells something is longer than what stands behind it.
+-- What spells something is longer than what comes after it.
 use Rattle.std.proofs.Common.{◌≤◌, ◌<◌, List, [], ◌∷◌, length, arith}
 use Rattle.std.proofs.lemmas.List.{length-map}
 use Rattle.sf_ast.specs.declared.assertion.SurfaceField.{SurfaceField}

@@ -1,4 +1,4 @@
--- What a stack stands for: the tokens that each thing owed spells, one behind the other.
+-- What a stack stands for: the tokens that each thing owed spells, one after the other.
 use Rattle.std.proofs.Common.{◌≡◌, ℕ, List, [], ◌∷◌, true, Option, ◌⊎◌}
 use Rattle.sf_base.specs.declared.limits.TheConstants.{NESTING}
 use Rattle.sf_ast.specs.declared.assertion.SurfaceField.{SurfaceField}
@@ -10,15 +10,15 @@ use Rattle.sf_ast.specs.Surface as s
 use Rattle.sf_lex.specs.declared.token.Kind.{Kind}
 use Rattle.sf_lex.specs.declared.token.Kind.TheVariants as k
 use Rattle.sf_parse.specs.Grammar as g
-use Rattle.sf_parse.specs.Heads.{IsFlat}
-use Rattle.sf_parse.specs.Machine as m
-use Rattle.sf_parse.specs.Machine.{Owed, mark_kind}
+use Rattle.sf_parse.specs.Internal.Heads.{IsFlat}
+use Rattle.sf_parse.specs.Internal.Machine as m
+use Rattle.sf_parse.specs.Internal.Machine.{Predicted, terminal_kind}
 use Rattle.sf_parse.specs.Nesting.{NotElse, Follows, ConjunctWithin, AssertionWithin, RestWithin, MaybeWithin, CommandWithin, CommandsWithin, ItemWithin, ItemsWithin}
-use Rattle.sf_parse.specs.Steps.{NotStar, Ends}
+use Rattle.sf_parse.specs.Internal.Steps.{NotStar, Ends}
 
--- what one thing owed spells, with the tokens behind it
-abbrev pub Spells : ℕ → Owed → List Kind → List Kind → Type 0
-Spells n (m.exact u) ts r = ts ≡ mark_kind u ∷ r
+-- what one thing owed spells, with the tokens after it
+abbrev pub Spells : ℕ → Predicted → List Kind → List Kind → Type 0
+Spells n (m.exact u) ts r = ts ≡ terminal_kind u ∷ r
 Spells n m.expression ts r = (x : SurfaceExpr) × (ts ≡ g.expr x ∷ r)
 Spells n m.operand ts r = (x : SurfaceOperand) × (ts ≡ g.operand x ∷ r)
 Spells n m.equality ts r = (ts ≡ k.EqualEqual ∷ r) ⊎ (ts ≡ k.NotEqual ∷ r)
@@ -40,7 +40,7 @@ Spells n (m.conjunct d) ts r = (c : s.Conjunct) × (ts ≡ g.conjunct c r) × Co
 Spells n (m.more_conjuncts d) ts r = (NotStar ts × (ts ≡ r)) ⊎ ((a : s.Assertion) × (ts ≡ k.Star ∷ g.assertion a r) × RestWithin a n d r × NotStar r)
 Spells n (m.assertion d) ts r = (a : s.Assertion) × (ts ≡ g.assertion a r) × AssertionWithin a n d r × NotStar r
 Spells n m.maybe_assertion ts r = (ts ≡ r) ⊎ ((a : s.Assertion) × (ts ≡ g.assertion a r) × AssertionWithin a n NESTING r × NotStar r)
-Spells n m.maybe_note ts r = (x : Option s.Note) × (ts ≡ g.maybe_note x r) × MaybeWithin x n r
+Spells n m.maybe_annotation ts r = (x : Option s.Note) × (ts ≡ g.maybe_annotation x r) × MaybeWithin x n r
 Spells n m.named ts r = (c : s.Command) × IsFlat c × (k.Name ∷ ts ≡ g.command c r)
 Spells n m.assigned ts r = (c : s.Command) × IsFlat c × (k.Name ∷ k.Equals ∷ ts ≡ g.command c r)
 Spells n m.look_up_or_end ts r = (ts ≡ k.Semicolon ∷ r) ⊎ (ts ≡ k.Arrow ∷ k.Name ∷ k.Semicolon ∷ r)
@@ -54,7 +54,7 @@ Spells n m.item_named ts r = (i : s.Item) × (k.Name ∷ ts ≡ g.item i r) × I
 Spells n m.items ts r = (is : List s.Item) × (ts ≡ g.items is r) × ItemsWithin is n r
 
 -- what a stack spells
-abbrev pub Means : ℕ → List Owed → List Kind → Type 0
+abbrev pub Means : ℕ → List Predicted → List Kind → Type 0
 Means n [] ts = ts ≡ []
 Means n (s ∷ st) ts = (r : List Kind) × Spells n s ts r × Means n st r
 

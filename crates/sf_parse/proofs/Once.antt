@@ -1,5 +1,6 @@
 -- Tokens spell one tree alone: names, expressions, tests, what calls are given, and fields.
 use Rattle.std.proofs.Common.{◌≡◌, ℕ, ℤ, List, [], ◌∷◌, length, refl, ap, sym, ◌∙◌, subst}
+use Rattle.sf_base.proofs.Lists.{cons-same}
 use Rattle.sf_base.specs.declared.place.Place.{Place}
 use Rattle.sf_ast.specs.declared.word.SurfaceExpr.{SurfaceExpr}
 use Rattle.sf_ast.specs.declared.word.SurfaceExpr.TheVariants as e
@@ -56,9 +57,6 @@ NotComma _ = Unit {0}
 pub comma_wrong : (r q : List Kind) → NotComma r → r ≡ k.Comma ∷ q → ⊥
 comma_wrong r q h e = subst (λ z. NotComma z) e h
 
-pub cons_once : {A : Type 0} (x y : A) (xs ys : List A) → x ≡ y → xs ≡ ys → x ∷ xs ≡ y ∷ ys
-cons_once x y xs ys h i = cc
-
 pub more_names_once : (at : ℕ → Token) (xs ys : List Word) (r q : List Kind) → MoreNamesAt at xs r → MoreNamesAt at ys q → NotComma r → NotComma q → g.more_names xs r ≡ g.more_names ys q → Same xs ys r q
 more_names_once at [] [] r q h i a b f = (refl, f)
 more_names_once at [] (y ∷ ys) r q h i a b f = absurd (comma_wrong r (k.Name ∷ g.more_names ys q) a f)
@@ -66,7 +64,7 @@ more_names_once at (x ∷ xs) [] r q h i a b f = absurd (comma_wrong q (k.Name �
 more_names_once at (x ∷ xs) (y ∷ ys) r q h i a b f =
     let tail : g.more_names xs r ≡ g.more_names ys q = cc in
     let rest = more_names_once at xs ys r q h.1 i.1 a b tail in
-    (cons_once x y xs ys (word_once at x y (k.Name ∷ g.more_names xs r) (k.Name ∷ g.more_names ys q) h.0 i.0 (ap (λ z. k.Name ∷ z) tail)) rest.0, rest.1)
+    (cons-same x y xs ys (word_once at x y (k.Name ∷ g.more_names xs r) (k.Name ∷ g.more_names ys q) h.0 i.0 (ap (λ z. k.Name ∷ z) tail)) rest.0, rest.1)
 
 -- no name comes next
 abbrev pub NotName : List Kind → Type 0
@@ -83,7 +81,7 @@ maybe_names_once at (x ∷ xs) [] r q h i a b c d f = absurd (name_wrong q (g.mo
 maybe_names_once at (x ∷ xs) (y ∷ ys) r q h i a b c d f =
     let tail : g.more_names xs r ≡ g.more_names ys q = cc in
     let rest = more_names_once at xs ys r q h.1 i.1 a b tail in
-    (cons_once x y xs ys (word_once at x y (k.Name ∷ g.more_names xs r) (k.Name ∷ g.more_names ys q) h.0 i.0 (ap (λ z. k.Name ∷ z) tail)) rest.0, rest.1)
+    (cons-same x y xs ys (word_once at x y (k.Name ∷ g.more_names xs r) (k.Name ∷ g.more_names ys q) h.0 i.0 (ap (λ z. k.Name ∷ z) tail)) rest.0, rest.1)
 
 pub parameters_once : (at : ℕ → Token) (ps qs : s.Parameters) (r q : List Kind) → ParametersAt at ps (k.CloseRound ∷ r) → ParametersAt at qs (k.CloseRound ∷ q) → g.parameters ps (k.CloseRound ∷ r) ≡ g.parameters qs (k.CloseRound ∷ q) → Same ps qs r q
 parameters_once at (s.only_values xs) (s.only_values ys) r q h i f =
@@ -117,7 +115,7 @@ more_exprs_once at (x ∷ xs) (y ∷ ys) r q h i f =
     let head : g.expr x ≡ g.expr y = cc in
     let tail : g.more_exprs xs (k.CloseRound ∷ r) ≡ g.more_exprs ys (k.CloseRound ∷ q) = cc in
     let rest = more_exprs_once at xs ys r q h.1 i.1 tail in
-    (cons_once x y xs ys (expr_once at x y _ _ h.0 i.0 head tail) rest.0, rest.1)
+    (cons-same x y xs ys (expr_once at x y _ _ h.0 i.0 head tail) rest.0, rest.1)
 
 pub expr_no_close : (x : SurfaceExpr) → g.expr x ≡ k.CloseRound → ⊥
 expr_no_close (e.Name x) u = cc
@@ -139,7 +137,7 @@ maybe_exprs_once at (x ∷ xs) (y ∷ ys) r q h i f =
     let head : g.expr x ≡ g.expr y = cc in
     let tail : g.more_exprs xs (k.CloseRound ∷ r) ≡ g.more_exprs ys (k.CloseRound ∷ q) = cc in
     let rest = more_exprs_once at xs ys r q h.1 i.1 tail in
-    (cons_once x y xs ys (expr_once at x y _ _ h.0 i.0 head tail) rest.0, rest.1)
+    (cons-same x y xs ys (expr_once at x y _ _ h.0 i.0 head tail) rest.0, rest.1)
 
 -- values alone are no references
 values_no_references : (xs : List SurfaceExpr) (ns : List Word) (r q : List Kind) → g.more_exprs xs (k.CloseRound ∷ r) ≡ g.more_names ns (k.Semicolon ∷ q) → ⊥

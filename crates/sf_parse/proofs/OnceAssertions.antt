@@ -1,5 +1,6 @@
 -- Tokens spell one assertion alone.
-use Rattle.std.proofs.Common.{◌≡◌, ◌-◌, ℕ, List, [], ◌∷◌, refl, ap, sym, ◌∙◌, subst}
+use Rattle.std.proofs.Common.{◌≡◌, ◌-◌, ℕ, List, [], ◌∷◌, refl, ap, sym, ◌∙◌, subst, ap₂}
+use Rattle.sf_base.proofs.Lists.{cons-same}
 use Rattle.sf_ast.specs.declared.assertion.SurfaceField.{SurfaceField}
 use Rattle.sf_ast.specs.declared.word.SurfaceExpr.{SurfaceExpr}
 use Rattle.sf_ast.specs.declared.word.SurfaceExpr.TheVariants as e
@@ -14,9 +15,9 @@ use Rattle.sf_lex.specs.declared.token.Token.{Token}
 use Rattle.sf_parse.specs.Grammar as g
 use Rattle.sf_parse.specs.Placed.{ExprAt, OperandAt, TestAt, FieldAt, MoreFieldsAt, MaybeFieldsAt, ConjunctAt, AssertionAt}
 use Rattle.sf_parse.specs.Nesting.{ConjunctWithin, AssertionWithin, RestWithin}
-use Rattle.sf_parse.specs.Steps.{NotStar, Ends}
+use Rattle.sf_parse.specs.Internal.Steps.{NotStar, Ends}
 use Rattle.sf_parse.proofs.Forth.{by_operand, closed_ends, ends_before, AfterConjunct}
-use Rattle.sf_parse.proofs.Once.{Same, word_once, place_once, expr_once, operand_once, NotComma, comma_wrong, NotName, name_wrong, cons_once}
+use Rattle.sf_parse.proofs.Once.{Same, word_once, place_once, expr_once, operand_once, NotComma, comma_wrong, NotName, name_wrong}
 
 expr_no_true : (x : SurfaceExpr) → g.expr x ≡ k.True → ⊥
 expr_no_true (e.Name x) u = cc
@@ -27,9 +28,6 @@ expr_no_true (e.Number x p) u = cc
 operand_no_true : (x : SurfaceOperand) → g.operand x ≡ k.True → ⊥
 operand_no_true (v.Known x) u = expr_no_true x u
 operand_no_true (v.Existential x) u = cc
-
-pub two_once : {A B : Type 0} (f : A → A → B) (x y z w : A) → x ≡ z → y ≡ w → f x y ≡ f z w
-two_once f x y z w h i = ap (λ a. f a y) h ∙ ap (λ b. f z b) i
 
 pub test_once : (at : ℕ → Token) (b c : SurfaceTest SurfaceExpr) (r q : List Kind) → TestAt at g.expr (ExprAt at) b r → TestAt at g.expr (ExprAt at) c q → g.test g.expr b r ≡ g.test g.expr c q → Same b c r q
 test_once at (t.True p) (t.True o) r q h i f = let tail : r ≡ q = cc in (ap t.True (place_once at p o (k.True ∷ r) (k.True ∷ q) h i f), tail)
@@ -43,12 +41,12 @@ test_once at (t.Equal x y) (t.Equal z w) r q h i f =
     let first : g.expr x ≡ g.expr z = cc in
     let second : g.expr y ≡ g.expr w = cc in
     let tail : r ≡ q = cc in
-    (two_once t.Equal x y z w (expr_once at x z _ _ h.0 i.0 first (ap (λ l. k.EqualEqual ∷ l) (cons_once (g.expr y) (g.expr w) r q second tail))) (expr_once at y w r q h.1 i.1 second tail), tail)
+    (ap₂ t.Equal (expr_once at x z _ _ h.0 i.0 first (ap (λ l. k.EqualEqual ∷ l) (cons-same (g.expr y) (g.expr w) r q second tail))) (expr_once at y w r q h.1 i.1 second tail), tail)
 test_once at (t.Differ x y) (t.Differ z w) r q h i f =
     let first : g.expr x ≡ g.expr z = cc in
     let second : g.expr y ≡ g.expr w = cc in
     let tail : r ≡ q = cc in
-    (two_once t.Differ x y z w (expr_once at x z _ _ h.0 i.0 first (ap (λ l. k.NotEqual ∷ l) (cons_once (g.expr y) (g.expr w) r q second tail))) (expr_once at y w r q h.1 i.1 second tail), tail)
+    (ap₂ t.Differ (expr_once at x z _ _ h.0 i.0 first (ap (λ l. k.NotEqual ∷ l) (cons-same (g.expr y) (g.expr w) r q second tail))) (expr_once at y w r q h.1 i.1 second tail), tail)
 
 operand_test_once : (at : ℕ → Token) (b c : SurfaceTest SurfaceOperand) (r q : List Kind) → TestAt at g.operand (OperandAt at) b r → TestAt at g.operand (OperandAt at) c q → g.test g.operand b r ≡ g.test g.operand c q → Same b c r q
 operand_test_once at (t.True p) (t.True o) r q h i f = let tail : r ≡ q = cc in (ap t.True (place_once at p o (k.True ∷ r) (k.True ∷ q) h i f), tail)
@@ -62,17 +60,17 @@ operand_test_once at (t.Equal x y) (t.Equal z w) r q h i f =
     let first : g.operand x ≡ g.operand z = cc in
     let second : g.operand y ≡ g.operand w = cc in
     let tail : r ≡ q = cc in
-    (two_once t.Equal x y z w (operand_once at x z _ _ h.0 i.0 first (ap (λ l. k.EqualEqual ∷ l) (cons_once (g.operand y) (g.operand w) r q second tail))) (operand_once at y w r q h.1 i.1 second tail), tail)
+    (ap₂ t.Equal (operand_once at x z _ _ h.0 i.0 first (ap (λ l. k.EqualEqual ∷ l) (cons-same (g.operand y) (g.operand w) r q second tail))) (operand_once at y w r q h.1 i.1 second tail), tail)
 operand_test_once at (t.Differ x y) (t.Differ z w) r q h i f =
     let first : g.operand x ≡ g.operand z = cc in
     let second : g.operand y ≡ g.operand w = cc in
     let tail : r ≡ q = cc in
-    (two_once t.Differ x y z w (operand_once at x z _ _ h.0 i.0 first (ap (λ l. k.NotEqual ∷ l) (cons_once (g.operand y) (g.operand w) r q second tail))) (operand_once at y w r q h.1 i.1 second tail), tail)
+    (ap₂ t.Differ (operand_once at x z _ _ h.0 i.0 first (ap (λ l. k.NotEqual ∷ l) (cons-same (g.operand y) (g.operand w) r q second tail))) (operand_once at y w r q h.1 i.1 second tail), tail)
 
 field_once : (at : ℕ → Token) (x y : SurfaceField) (r q : List Kind) → FieldAt at x r → FieldAt at y q → g.operand x.value ≡ g.operand y.value → r ≡ q → x ≡ y
 field_once at x y r q h i u f =
     let value : x.value ≡ y.value = operand_once at x.value y.value r q h.1 i.1 u f in
-    let name : x.name ≡ y.name = word_once at x.name y.name (g.field x r) (g.field y q) h.0 i.0 (ap (λ l. k.Name ∷ k.Colon ∷ l) (cons_once (g.operand x.value) (g.operand y.value) r q u f)) in
+    let name : x.name ≡ y.name = word_once at x.name y.name (g.field x r) (g.field y q) h.0 i.0 (ap (λ l. k.Name ∷ k.Colon ∷ l) (cons-same (g.operand x.value) (g.operand y.value) r q u f)) in
     ap (λ z. record { name = z; value = x.value }) name ∙ ap (λ z. record { name = y.name; value = z }) value
 
 more_fields_once : (at : ℕ → Token) (xs ys : List SurfaceField) (r q : List Kind) → MoreFieldsAt at xs r → MoreFieldsAt at ys q → NotComma r → NotComma q → g.more_fields xs r ≡ g.more_fields ys q → Same xs ys r q
@@ -83,7 +81,7 @@ more_fields_once at (x ∷ xs) (y ∷ ys) r q h i a b f =
     let head : g.operand x.value ≡ g.operand y.value = cc in
     let tail : g.more_fields xs r ≡ g.more_fields ys q = cc in
     let rest = more_fields_once at xs ys r q h.1 i.1 a b tail in
-    (cons_once x y xs ys (field_once at x y (g.more_fields xs r) (g.more_fields ys q) h.0 i.0 head tail) rest.0, rest.1)
+    (cons-same x y xs ys (field_once at x y (g.more_fields xs r) (g.more_fields ys q) h.0 i.0 head tail) rest.0, rest.1)
 
 maybe_fields_once : (at : ℕ → Token) (xs ys : List SurfaceField) (r q : List Kind) → MaybeFieldsAt at xs r → MaybeFieldsAt at ys q → NotComma r → NotComma q → NotName r → NotName q → g.maybe_fields xs r ≡ g.maybe_fields ys q → Same xs ys r q
 maybe_fields_once at [] [] r q h i a b c d f = (refl, f)
@@ -93,7 +91,7 @@ maybe_fields_once at (x ∷ xs) (y ∷ ys) r q h i a b c d f =
     let head : g.operand x.value ≡ g.operand y.value = cc in
     let tail : g.more_fields xs r ≡ g.more_fields ys q = cc in
     let rest = more_fields_once at xs ys r q h.1 i.1 a b tail in
-    (cons_once x y xs ys (field_once at x y (g.more_fields xs r) (g.more_fields ys q) h.0 i.0 head tail) rest.0, rest.1)
+    (cons-same x y xs ys (field_once at x y (g.more_fields xs r) (g.more_fields ys q) h.0 i.0 head tail) rest.0, rest.1)
 
 -- which conjunct the first tokens begin
 data Shape : Type 0 where
@@ -194,7 +192,7 @@ mutual
       let first : g.operand x ≡ g.operand z = cc in
       let second : g.operand y ≡ g.operand w = cc in
       let tail : r ≡ q = cc in
-      (two_once s.equal x y z w (operand_once at x z _ _ h.0 i.0 first (ap (λ l. k.EqualEqual ∷ l) (cons_once (g.operand y) (g.operand w) r q second tail))) (operand_once at y w r q h.1 i.1 second tail), tail)
+      (ap₂ s.equal (operand_once at x z _ _ h.0 i.0 first (ap (λ l. k.EqualEqual ∷ l) (cons-same (g.operand y) (g.operand w) r q second tail))) (operand_once at y w r q h.1 i.1 second tail), tail)
   conjunct_once at (s.choose p e x y) (s.choose o e2 x2 y2) n d r q h i v w a b c z f =
       let tests : g.test g.operand e (k.Then ∷ g.assertion x (k.Else ∷ g.assertion y r)) ≡ g.test g.operand e2 (k.Then ∷ g.assertion x2 (k.Else ∷ g.assertion y2 q)) = cc in
       let m = operand_test_once at e e2 (k.Then ∷ g.assertion x (k.Else ∷ g.assertion y r)) (k.Then ∷ g.assertion x2 (k.Else ∷ g.assertion y2 q)) h.1 i.1 tests in
@@ -219,7 +217,7 @@ mutual
       let first : g.operand x ≡ g.operand z = cc in
       let second : g.operand y ≡ g.operand w = cc in
       let tail : r ≡ q = cc in
-      (two_once s.differ x y z w (operand_once at x z _ _ h.0 i.0 first (ap (λ l. k.NotEqual ∷ l) (cons_once (g.operand y) (g.operand w) r q second tail))) (operand_once at y w r q h.1 i.1 second tail), tail)
+      (ap₂ s.differ (operand_once at x z _ _ h.0 i.0 first (ap (λ l. k.NotEqual ∷ l) (cons-same (g.operand y) (g.operand w) r q second tail))) (operand_once at y w r q h.1 i.1 second tail), tail)
   conjunct_once at (s.points x fs) (s.points z gs) n d r q h i a1 a2 a b y1 z1 f =
       let first : g.operand x ≡ g.operand z = cc in
       let fields : g.maybe_fields fs r ≡ g.maybe_fields gs q = cc in
@@ -231,7 +229,7 @@ mutual
       let tail : r ≡ q = cc in
       let close : k.CloseRound ∷ r ≡ k.CloseRound ∷ q = ap (λ l. k.CloseRound ∷ l) tail in (
         ap (λ g. s.ls g x y) (place_once at p o _ _ h.0 i.0 f)
-            ∙ two_once (s.ls o) x y z w (operand_once at x z _ _ h.1 i.1 first (ap (λ l. k.Comma ∷ l) (cons_once (g.operand y) (g.operand w) (k.CloseRound ∷ r) (k.CloseRound ∷ q) second close))) (operand_once at y w _ _ h.2 i.2 second close),
+            ∙ ap₂ (s.ls o) (operand_once at x z _ _ h.1 i.1 first (ap (λ l. k.Comma ∷ l) (cons-same (g.operand y) (g.operand w) (k.CloseRound ∷ r) (k.CloseRound ∷ q) second close))) (operand_once at y w _ _ h.2 i.2 second close),
         tail,
       )
   conjunct_once at (s.lseg p x y) (s.lseg o z w) n d r q h i a1 a2 a b y1 z1 f =
@@ -240,7 +238,7 @@ mutual
       let tail : r ≡ q = cc in
       let close : k.CloseRound ∷ r ≡ k.CloseRound ∷ q = ap (λ l. k.CloseRound ∷ l) tail in (
         ap (λ g. s.lseg g x y) (place_once at p o _ _ h.0 i.0 f)
-            ∙ two_once (s.lseg o) x y z w (operand_once at x z _ _ h.1 i.1 first (ap (λ l. k.Comma ∷ l) (cons_once (g.operand y) (g.operand w) (k.CloseRound ∷ r) (k.CloseRound ∷ q) second close))) (operand_once at y w _ _ h.2 i.2 second close),
+            ∙ ap₂ (s.lseg o) (operand_once at x z _ _ h.1 i.1 first (ap (λ l. k.Comma ∷ l) (cons-same (g.operand y) (g.operand w) (k.CloseRound ∷ r) (k.CloseRound ∷ q) second close))) (operand_once at y w _ _ h.2 i.2 second close),
         tail,
       )
   conjunct_once at (s.list p x) (s.list o z) n d r q h i a1 a2 a b y1 z1 f =

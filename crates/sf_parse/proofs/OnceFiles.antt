@@ -1,5 +1,6 @@
 -- Tokens spell one file alone.
-use Rattle.std.proofs.Common.{◌≡◌, ◌-◌, ℕ, List, [], ◌∷◌, Option, Some, None, refl, ap, sym, ◌∙◌, subst}
+use Rattle.std.proofs.Common.{◌≡◌, ◌-◌, ℕ, List, [], ◌∷◌, Option, Some, None, refl, ap, sym, ◌∙◌, subst, ap₂}
+use Rattle.sf_base.proofs.Lists.{cons-same}
 use Rattle.sf_base.specs.declared.place.Place.{Place}
 use Rattle.sf_ast.specs.declared.word.Word.{Word}
 use Rattle.sf_ast.specs.Surface as s
@@ -13,7 +14,7 @@ use Rattle.sf_parse.specs.Nesting.{NotElse, Follows, CommandWithin, CommandsWith
 use Rattle.sf_parse.proofs.Back.{follows_else}
 use Rattle.sf_parse.proofs.Forth.{by_expr, by_operand}
 use Rattle.sf_parse.proofs.ForthFiles.{follows_any, no_else_fronts}
-use Rattle.sf_parse.proofs.Once.{Same, word_once, place_once, expr_once, more_names_once, maybe_names_once, parameters_once, call_once, cons_once}
+use Rattle.sf_parse.proofs.Once.{Same, word_once, place_once, expr_once, more_names_once, maybe_names_once, parameters_once, call_once}
 use Rattle.sf_parse.proofs.OnceAssertions.{test_once, rest_within, assertion_once}
 
 -- which command the first tokens begin
@@ -127,24 +128,24 @@ assertion_not_close : (a : s.Assertion) (r q : List Kind) → g.assertion a r �
 assertion_not_close (s.only c) r q f = subst (λ z. NotClose z) f (conjunct_not_close c r)
 assertion_not_close (s.star c a) r q f = subst (λ z. NotClose z) f (conjunct_not_close c (k.Star ∷ g.assertion a r))
 
-note_once : (at : ℕ → Token) (n : ℕ) (x y : s.Note) (r q : List Kind) → NoteAt at x r → NoteAt at y q → NoteWithin x n r → NoteWithin y n q → g.note x r ≡ g.note y q → Same x y r q
-note_once at n s.blank s.blank r q h i v w f = (refl, (let t : r ≡ q = cc in t))
-note_once at n s.blank (s.filled a) r q h i v w f = let wrong : g.assertion a (k.CloseSquare ∷ q) ≡ k.CloseSquare ∷ r = cc in absurd (assertion_not_close a (k.CloseSquare ∷ q) r wrong)
-note_once at n (s.filled a) s.blank r q h i v w f = let wrong : g.assertion a (k.CloseSquare ∷ r) ≡ k.CloseSquare ∷ q = cc in absurd (assertion_not_close a (k.CloseSquare ∷ r) q wrong)
-note_once at n (s.filled a) (s.filled b) r q h i v w f =
+annotation_once : (at : ℕ → Token) (n : ℕ) (x y : s.Note) (r q : List Kind) → NoteAt at x r → NoteAt at y q → NoteWithin x n r → NoteWithin y n q → g.annotation x r ≡ g.annotation y q → Same x y r q
+annotation_once at n s.blank s.blank r q h i v w f = (refl, (let t : r ≡ q = cc in t))
+annotation_once at n s.blank (s.filled a) r q h i v w f = let wrong : g.assertion a (k.CloseSquare ∷ q) ≡ k.CloseSquare ∷ r = cc in absurd (assertion_not_close a (k.CloseSquare ∷ q) r wrong)
+annotation_once at n (s.filled a) s.blank r q h i v w f = let wrong : g.assertion a (k.CloseSquare ∷ r) ≡ k.CloseSquare ∷ q = cc in absurd (assertion_not_close a (k.CloseSquare ∷ r) q wrong)
+annotation_once at n (s.filled a) (s.filled b) r q h i v w f =
     let tail : g.assertion a (k.CloseSquare ∷ r) ≡ g.assertion b (k.CloseSquare ∷ q) = cc in
     let o = assertion_once at a b n NESTING (k.CloseSquare ∷ r) (k.CloseSquare ∷ q) h i (rest_within a n NESTING _ v) (rest_within b n NESTING _ w) tt tt tt tt tail in
     let last : k.CloseSquare ∷ r ≡ k.CloseSquare ∷ q = o.1 in
     (ap s.filled o.0, (let t : r ≡ q = cc in t))
 
-maybe_note_once : (at : ℕ → Token) (n : ℕ) (x y : Option s.Note) (r q : List Kind) → MaybeNoteAt at x r → MaybeNoteAt at y q → MaybeWithin x n r → MaybeWithin y n q
-    → ((u : List Kind) → r ≡ k.OpenSquare ∷ u → ⊥) → ((u : List Kind) → q ≡ k.OpenSquare ∷ u → ⊥) → g.maybe_note x r ≡ g.maybe_note y q → Same x y r q
-maybe_note_once at n None None r q h i v w a b f = (refl, f)
-maybe_note_once at n None (Some s.blank) r q h i v w a b f = absurd (a (k.CloseSquare ∷ q) f)
-maybe_note_once at n None (Some (s.filled y)) r q h i v w a b f = absurd (a (g.assertion y (k.CloseSquare ∷ q)) f)
-maybe_note_once at n (Some s.blank) None r q h i v w a b f = absurd (b (k.CloseSquare ∷ r) (sym f))
-maybe_note_once at n (Some (s.filled x)) None r q h i v w a b f = absurd (b (g.assertion x (k.CloseSquare ∷ r)) (sym f))
-maybe_note_once at n (Some x) (Some y) r q h i v w a b f = let o = note_once at n x y r q h i v w f in (ap Some o.0, o.1)
+maybe_annotation_once : (at : ℕ → Token) (n : ℕ) (x y : Option s.Note) (r q : List Kind) → MaybeNoteAt at x r → MaybeNoteAt at y q → MaybeWithin x n r → MaybeWithin y n q
+    → ((u : List Kind) → r ≡ k.OpenSquare ∷ u → ⊥) → ((u : List Kind) → q ≡ k.OpenSquare ∷ u → ⊥) → g.maybe_annotation x r ≡ g.maybe_annotation y q → Same x y r q
+maybe_annotation_once at n None None r q h i v w a b f = (refl, f)
+maybe_annotation_once at n None (Some s.blank) r q h i v w a b f = absurd (a (k.CloseSquare ∷ q) f)
+maybe_annotation_once at n None (Some (s.filled y)) r q h i v w a b f = absurd (a (g.assertion y (k.CloseSquare ∷ q)) f)
+maybe_annotation_once at n (Some s.blank) None r q h i v w a b f = absurd (b (k.CloseSquare ∷ r) (sym f))
+maybe_annotation_once at n (Some (s.filled x)) None r q h i v w a b f = absurd (b (g.assertion x (k.CloseSquare ∷ r)) (sym f))
+maybe_annotation_once at n (Some x) (Some y) r q h i v w a b f = let o = annotation_once at n x y r q h i v w f in (ap Some o.0, o.1)
 
 else_wrong : (r q : List Kind) → NotElse r → r ≡ k.Else ∷ q → ⊥
 else_wrong r q h e = subst (λ z. NotElse z) e h
@@ -152,15 +153,12 @@ else_wrong r q h e = subst (λ z. NotElse z) e h
 no_bracket : (c : s.Command) (r u : List Kind) → g.command c r ≡ k.OpenSquare ∷ u → ⊥
 no_bracket c r u f = begins_command c r (k.OpenSquare ∷ u) f refl
 
-two_of : {A B C : Type 0} (f : A → B → C) (x y : A) (z w : B) → x ≡ y → z ≡ w → f x z ≡ f y w
-two_of f x y z w h i = ap (λ a. f a z) h ∙ ap (λ b. f y b) i
-
 mutual
   command_once : (at : ℕ → Token) (c x : s.Command) (n d : ℕ) (r q : List Kind) → CommandAt at c r → CommandAt at x q → CommandWithin c n d r → CommandWithin x n d q → Follows c r → Follows x q → g.command c r ≡ g.command x q → Same c x r q
   command_once at (s.assign x a) (s.assign y b) n d r q h i v w j l f =
       let value : g.expr a ≡ g.expr b = cc in
       let tail : r ≡ q = cc in
-      (two_of (λ z u. s.assign z u) x y a b (word_once at x y _ _ h.0 i.0 f) (expr_once at a b _ _ h.1 i.1 value (ap (λ z. k.Semicolon ∷ z) tail)), tail)
+      (ap₂ (λ z u. s.assign z u) (word_once at x y _ _ h.0 i.0 f) (expr_once at a b _ _ h.1 i.1 value (ap (λ z. k.Semicolon ∷ z) tail)), tail)
   command_once at (s.look_up x a z) (s.look_up y b u) n d r q h i v w j l f =
       let value : g.expr a ≡ g.expr b = cc in
       let tail : r ≡ q = cc in
@@ -172,7 +170,7 @@ mutual
       let first : g.expr a ≡ g.expr e = cc in
       let value : g.expr b ≡ g.expr u = cc in
       let tail : r ≡ q = cc in
-      let last : g.expr b ∷ k.Semicolon ∷ r ≡ g.expr u ∷ k.Semicolon ∷ q = cons_once (g.expr b) (g.expr u) (k.Semicolon ∷ r) (k.Semicolon ∷ q) value (ap (λ m. k.Semicolon ∷ m) tail) in (
+      let last : g.expr b ∷ k.Semicolon ∷ r ≡ g.expr u ∷ k.Semicolon ∷ q = cons-same (g.expr b) (g.expr u) (k.Semicolon ∷ r) (k.Semicolon ∷ q) value (ap (λ m. k.Semicolon ∷ m) tail) in (
         ap (λ m. s.mutate m x b) (expr_once at a e _ _ h.0 i.0 first (ap (λ m. k.Arrow ∷ k.Name ∷ k.Equals ∷ m) last))
             ∙ ap (λ m. s.mutate e m b) (word_once at x y _ _ h.1 i.1 (ap (λ m. k.Name ∷ k.Equals ∷ m) last))
             ∙ ap (s.mutate e y) (expr_once at b u _ _ h.2 i.2 value (ap (λ m. k.Semicolon ∷ m) tail)),
@@ -218,11 +216,11 @@ mutual
       let z = command_once at a y n (d - 1) r q h.3 i.3 v.2 w.2 j l others in
       (ap (λ t. s.if t b c a) (place_once at p o _ _ h.0 i.0 f) ∙ ap (λ t. s.if o t c a) m.0 ∙ ap (λ t. s.if o e t a) u.0 ∙ ap (s.if o e x) z.0, z.1)
   command_once at (s.while p b x c) (s.while o e y a) n d r q h i v w j l f =
-      let tests : g.test g.expr b (k.CloseRound ∷ g.maybe_note x (g.command c r)) ≡ g.test g.expr e (k.CloseRound ∷ g.maybe_note y (g.command a q)) = cc in
+      let tests : g.test g.expr b (k.CloseRound ∷ g.maybe_annotation x (g.command c r)) ≡ g.test g.expr e (k.CloseRound ∷ g.maybe_annotation y (g.command a q)) = cc in
       let m = test_once at b e _ _ h.1 i.1 tests in
-      let behind : k.CloseRound ∷ g.maybe_note x (g.command c r) ≡ k.CloseRound ∷ g.maybe_note y (g.command a q) = m.1 in
-      let notes : g.maybe_note x (g.command c r) ≡ g.maybe_note y (g.command a q) = cc in
-      let u = maybe_note_once at n x y (g.command c r) (g.command a q) h.2 i.2 v.1 w.1 (no_bracket c r) (no_bracket a q) notes in
+      let behind : k.CloseRound ∷ g.maybe_annotation x (g.command c r) ≡ k.CloseRound ∷ g.maybe_annotation y (g.command a q) = m.1 in
+      let annotations : g.maybe_annotation x (g.command c r) ≡ g.maybe_annotation y (g.command a q) = cc in
+      let u = maybe_annotation_once at n x y (g.command c r) (g.command a q) h.2 i.2 v.1 w.1 (no_bracket c r) (no_bracket a q) annotations in
       let z = command_once at c a n (d - 1) r q h.3 i.3 v.2 w.2 j l u.1 in
       (ap (λ t. s.while t b x c) (place_once at p o _ _ h.0 i.0 f) ∙ ap (λ t. s.while o t x c) m.0 ∙ ap (λ t. s.while o e t c) u.0 ∙ ap (s.while o e y) z.0, z.1)
   command_once at (s.with p x b c) (s.with o y e a) n d r q h i v w j l f =
@@ -273,7 +271,7 @@ names_once at x y r q h i f =
     let tail : g.more_names x.more (k.Semicolon ∷ r) ≡ g.more_names y.more (k.Semicolon ∷ q) = cc in
     let o = more_names_once at x.more y.more (k.Semicolon ∷ r) (k.Semicolon ∷ q) h.1 i.1 tt tt tail in
     let last : k.Semicolon ∷ r ≡ k.Semicolon ∷ q = o.1 in
-    (two_of (λ a b. record { first = a; more = b }) x.first y.first x.more y.more (word_once at x.first y.first _ _ h.0 i.0 f) o.0, (let t : r ≡ q = cc in t))
+    (ap₂ (λ a b. record { first = a; more = b }) (word_once at x.first y.first _ _ h.0 i.0 f) o.0, (let t : r ≡ q = cc in t))
 
 commands_not_local : (cs : s.Commands) (r u : List Kind) → g.commands cs (k.CloseBrace ∷ r) ≡ k.Local ∷ u → ⊥
 commands_not_local s.done r u f = cc
@@ -288,7 +286,7 @@ locals_once at (x ∷ ls) (y ∷ ms) cs xs r q h i f =
     let tail : g.names x (k.Semicolon ∷ g.locals ls (g.commands cs (k.CloseBrace ∷ r))) ≡ g.names y (k.Semicolon ∷ g.locals ms (g.commands xs (k.CloseBrace ∷ q))) = cc in
     let o = names_once at x y _ _ h.0 i.0 tail in
     let m = locals_once at ls ms cs xs r q h.1 i.1 o.1 in
-    (cons_once x y ls ms o.0 m.0, m.1)
+    (cons-same x y ls ms o.0 m.0, m.1)
 
 names_no_call : (xs : List Word) (r u : List Kind) → g.more_names xs (k.Semicolon ∷ r) ≡ k.OpenRound ∷ u → ⊥
 names_no_call [] r u f = cc
@@ -300,11 +298,11 @@ NoNote r = (u : List Kind) → r ≡ k.OpenSquare ∷ u → ⊥
 
 resource_once : (at : ℕ → Token) (n : ℕ) (x y : s.Resource) (r q : List Kind) → ResourceAt at x r → ResourceAt at y q → NoteWithin x.invariant n r → NoteWithin y.invariant n q → g.resource x r ≡ g.resource y q → Same x y r q
 resource_once at n x y r q h i v w f =
-    let names : g.maybe_names x.variables (k.CloseRound ∷ g.note x.invariant r) ≡ g.maybe_names y.variables (k.CloseRound ∷ g.note y.invariant q) = cc in
-    let o = maybe_names_once at x.variables y.variables (k.CloseRound ∷ g.note x.invariant r) (k.CloseRound ∷ g.note y.invariant q) h.2 i.2 tt tt tt tt names in
-    let behind : k.CloseRound ∷ g.note x.invariant r ≡ k.CloseRound ∷ g.note y.invariant q = o.1 in
-    let notes : g.note x.invariant r ≡ g.note y.invariant q = cc in
-    let m = note_once at n x.invariant y.invariant r q h.3 i.3 v w notes in
+    let names : g.maybe_names x.variables (k.CloseRound ∷ g.annotation x.invariant r) ≡ g.maybe_names y.variables (k.CloseRound ∷ g.annotation y.invariant q) = cc in
+    let o = maybe_names_once at x.variables y.variables (k.CloseRound ∷ g.annotation x.invariant r) (k.CloseRound ∷ g.annotation y.invariant q) h.2 i.2 tt tt tt tt names in
+    let behind : k.CloseRound ∷ g.annotation x.invariant r ≡ k.CloseRound ∷ g.annotation y.invariant q = o.1 in
+    let annotations : g.annotation x.invariant r ≡ g.annotation y.invariant q = cc in
+    let m = annotation_once at n x.invariant y.invariant r q h.3 i.3 v w annotations in
     let make : Place → Word → List Word → s.Note → s.Resource = λ a b c d. record { place = a; name = b; variables = c; invariant = d } in
     let place : x.place ≡ y.place = place_once at x.place y.place _ _ h.0 i.0 f in
     let name : x.name ≡ y.name = word_once at x.name y.name _ _ h.1 i.1 (ap (λ z. k.Name ∷ k.OpenRound ∷ z) names) in
@@ -312,14 +310,14 @@ resource_once at n x y r q h i v w f =
 
 procedure_once : (at : ℕ → Token) (n : ℕ) (x y : s.Procedure) (r q : List Kind) → ProcedureAt at x r → ProcedureAt at y q → ItemWithin (s.procedure x) n r → ItemWithin (s.procedure y) n q → NoNote r → NoNote q → g.procedure x r ≡ g.procedure y q → Same x y r q
 procedure_once at n x y r q h i v w a b f =
-    let start : g.parameters x.parameters (k.CloseRound ∷ g.maybe_note x.pre (from_open x r)) ≡ g.parameters y.parameters (k.CloseRound ∷ g.maybe_note y.pre (from_open y q)) = cc in
-    let ps = parameters_once at x.parameters y.parameters (g.maybe_note x.pre (from_open x r)) (g.maybe_note y.pre (from_open y q)) h.1 i.1 start in
-    let pre = maybe_note_once at n x.pre y.pre (from_open x r) (from_open y q) h.2 i.2 v.0 w.0 (λ u e. let t : k.OpenBrace ∷ g.locals x.locals (g.commands x.body (from_close x r)) ≡ k.OpenSquare ∷ u = e in cc) (λ u e. let t : k.OpenBrace ∷ g.locals y.locals (g.commands y.body (from_close y q)) ≡ k.OpenSquare ∷ u = e in cc) ps.1 in
+    let start : g.parameters x.parameters (k.CloseRound ∷ g.maybe_annotation x.pre (from_open x r)) ≡ g.parameters y.parameters (k.CloseRound ∷ g.maybe_annotation y.pre (from_open y q)) = cc in
+    let ps = parameters_once at x.parameters y.parameters (g.maybe_annotation x.pre (from_open x r)) (g.maybe_annotation y.pre (from_open y q)) h.1 i.1 start in
+    let pre = maybe_annotation_once at n x.pre y.pre (from_open x r) (from_open y q) h.2 i.2 v.0 w.0 (λ u e. let t : k.OpenBrace ∷ g.locals x.locals (g.commands x.body (from_close x r)) ≡ k.OpenSquare ∷ u = e in cc) (λ u e. let t : k.OpenBrace ∷ g.locals y.locals (g.commands y.body (from_close y q)) ≡ k.OpenSquare ∷ u = e in cc) ps.1 in
     let opened : k.OpenBrace ∷ g.locals x.locals (g.commands x.body (from_close x r)) ≡ k.OpenBrace ∷ g.locals y.locals (g.commands y.body (from_close y q)) = pre.1 in
     let inner : g.locals x.locals (g.commands x.body (from_close x r)) ≡ g.locals y.locals (g.commands y.body (from_close y q)) = cc in
-    let ls = locals_once at x.locals y.locals x.body y.body (g.maybe_note x.post r) (g.maybe_note y.post q) h.4 i.4 inner in
-    let body = commands_once at x.body y.body n NESTING (g.maybe_note x.post r) (g.maybe_note y.post q) h.5 i.5 v.1 w.1 ls.1 in
-    let post = maybe_note_once at n x.post y.post r q h.7 i.7 v.2 w.2 a b body.1 in
+    let ls = locals_once at x.locals y.locals x.body y.body (g.maybe_annotation x.post r) (g.maybe_annotation y.post q) h.4 i.4 inner in
+    let body = commands_once at x.body y.body n NESTING (g.maybe_annotation x.post r) (g.maybe_annotation y.post q) h.5 i.5 v.1 w.1 ls.1 in
+    let post = maybe_annotation_once at n x.post y.post r q h.7 i.7 v.2 w.2 a b body.1 in
     let name : x.name ≡ y.name = word_once at x.name y.name _ _ h.0 i.0 f in
     let opens : x.opens ≡ y.opens = place_once at x.opens y.opens _ _ h.3 i.3 pre.1 in
     let closes : x.closes ≡ y.closes = place_once at x.closes y.closes _ _ h.6 i.6 (ap (λ z. k.CloseBrace ∷ z) body.1) in
@@ -341,19 +339,19 @@ item_once at n (s.fields x) (s.fields y) r q h i v w a b f = let o = names_once 
 item_once at n (s.resource x) (s.resource y) r q h i v w a b f = let o = resource_once at n x y r q h i v w f in (ap s.resource o.0, o.1)
 item_once at n (s.procedure x) (s.procedure y) r q h i v w a b f = let o = procedure_once at n x y r q h i v w a b f in (ap s.procedure o.0, o.1)
 item_once at n (s.fields x) (s.procedure y) r q h i v w a b f =
-    let wrong : g.more_names x.more (k.Semicolon ∷ r) ≡ k.OpenRound ∷ g.parameters y.parameters (k.CloseRound ∷ g.maybe_note y.pre (from_open y q)) = cc in absurd (names_no_call x.more r _ wrong)
+    let wrong : g.more_names x.more (k.Semicolon ∷ r) ≡ k.OpenRound ∷ g.parameters y.parameters (k.CloseRound ∷ g.maybe_annotation y.pre (from_open y q)) = cc in absurd (names_no_call x.more r _ wrong)
 item_once at n (s.procedure y) (s.fields x) r q h i v w a b f =
-    let wrong : g.more_names x.more (k.Semicolon ∷ q) ≡ k.OpenRound ∷ g.parameters y.parameters (k.CloseRound ∷ g.maybe_note y.pre (from_open y r)) = cc in absurd (names_no_call x.more q _ wrong)
+    let wrong : g.more_names x.more (k.Semicolon ∷ q) ≡ k.OpenRound ∷ g.parameters y.parameters (k.CloseRound ∷ g.maybe_annotation y.pre (from_open y r)) = cc in absurd (names_no_call x.more q _ wrong)
 item_once at n (s.fields x) (s.resource y) r q h i v w a b f = absurd cc
 item_once at n (s.resource y) (s.fields x) r q h i v w a b f = absurd cc
 item_once at n (s.procedure x) (s.resource y) r q h i v w a b f = absurd cc
 item_once at n (s.resource y) (s.procedure x) r q h i v w a b f = absurd cc
 
-items_no_note : (is : List s.Item) → NoNote (g.items is [])
-items_no_note [] u f = cc
-items_no_note (s.fields x ∷ is) u f = cc
-items_no_note (s.resource x ∷ is) u f = cc
-items_no_note (s.procedure x ∷ is) u f = cc
+items_no_annotation : (is : List s.Item) → NoNote (g.items is [])
+items_no_annotation [] u f = cc
+items_no_annotation (s.fields x ∷ is) u f = cc
+items_no_annotation (s.resource x ∷ is) u f = cc
+items_no_annotation (s.procedure x ∷ is) u f = cc
 
 item_some : (i : s.Item) (r : List Kind) → g.item i r ≡ [] → ⊥
 item_some (s.fields x) r f = cc
@@ -365,5 +363,5 @@ items_once at n [] [] h i v w f = refl
 items_once at n [] (y ∷ js) h i v w f = absurd (item_some y (g.items js []) (sym f))
 items_once at n (x ∷ is) [] h i v w f = absurd (item_some x (g.items is []) f)
 items_once at n (x ∷ is) (y ∷ js) h i v w f =
-    let o = item_once at n x y (g.items is []) (g.items js []) h.0 i.0 v.0 w.0 (items_no_note is) (items_no_note js) f in
-    cons_once x y is js o.0 (items_once at n is js h.1 i.1 v.1 w.1 o.1)
+    let o = item_once at n x y (g.items is []) (g.items js []) h.0 i.0 v.0 w.0 (items_no_annotation is) (items_no_annotation js) f in
+    cons-same x y is js o.0 (items_once at n is js h.1 i.1 v.1 w.1 o.1)

@@ -10,13 +10,13 @@ use Rattle.sf_lex.specs.declared.token.Token.{Token}
 use Rattle.sf_parse.specs.declared.fault.ParseFault.{ParseFault}
 use Rattle.sf_parse.specs.declared.fault.ParseFault.TheVariants as p
 use Rattle.sf_parse.specs.declared.stop.Stop.TheVariants as t
-use Rattle.sf_parse.specs.Faults.{place_left}
+use Rattle.sf_parse.specs.Internal.Faults.{place_left}
 use Rattle.sf_parse.specs.Grammar.{items}
-use Rattle.sf_parse.specs.Machine as m
+use Rattle.sf_parse.specs.Internal.Machine as m
 use Rattle.sf_parse.specs.Nesting.{ItemsWithin}
 use Rattle.sf_parse.specs.Parsing.{kinds, no_token, token_left, IsFile, IsFault}
 use Rattle.sf_parse.specs.Placed.{ItemsAt}
-use Rattle.sf_parse.specs.Steps.{Agree, Placed, Stops}
+use Rattle.sf_parse.specs.Internal.Steps.{Agree, Placed, FailsAt}
 use Rattle.sf_parse.proofs.Exactly.{fault_le}
 use Rattle.sf_parse.proofs.Faults.{token_there, says_fault, faults_once, files_without_fault}
 use Rattle.sf_parse.proofs.OnceFiles.{items_once}
@@ -37,17 +37,17 @@ pub file_found : (ts : List Token) (tree : List Item) → kinds ts ≡ items tre
 file_found ts tree is w stand = record { spells = is; within = w; places = (stand (token_left ts) (agree_all ts)).0 }
 
 -- no more tokens are left than there are
-pub left_within : (ts : List Token) (n : ℕ) → Stops (t.Unexpected n) (m.items ∷ []) ts → n ≤ length ts
+pub left_within : (ts : List Token) (n : ℕ) → FailsAt (t.Unexpected n) (m.items ∷ []) ts → n ≤ length ts
 left_within ts n h = let le : n ≤ length (kinds ts) = fault_le (kinds ts) (m.items ∷ []) true n (h []) in omega (arith, length-map ts (λ (x : Token). x.kind))
 
-pub deep_within : (ts : List Token) (n : ℕ) → Stops (t.TooDeep n) (m.items ∷ []) ts → n ≤ length ts
+pub deep_within : (ts : List Token) (n : ℕ) → FailsAt (t.TooDeep n) (m.items ∷ []) ts → n ≤ length ts
 deep_within ts n h = let le : n ≤ length (kinds ts) = fault_le (kinds ts) (m.items ∷ []) false n (h []) in omega (arith, length-map ts (λ (x : Token). x.kind))
 
 -- the fault where reading stops
-pub unexpected_there : (bytes : List ℕ) (ts : List Token) (n : ℕ) (place : Place) → Stops (t.Unexpected n) (m.items ∷ []) ts → place ≡ place_left bytes ts n → IsFault bytes ts (p.Unexpected place)
+pub unexpected_there : (bytes : List ℕ) (ts : List Token) (n : ℕ) (place : Place) → FailsAt (t.Unexpected n) (m.items ∷ []) ts → place ≡ place_left bytes ts n → IsFault bytes ts (p.Unexpected place)
 unexpected_there bytes ts n place h at = says_fault bytes ts (p.Unexpected place) (n, h [], at)
 
-pub too_deep_there : (bytes : List ℕ) (ts : List Token) (n : ℕ) (place : Place) → Stops (t.TooDeep n) (m.items ∷ []) ts → place ≡ place_left bytes ts n → IsFault bytes ts (p.TooDeep place)
+pub too_deep_there : (bytes : List ℕ) (ts : List Token) (n : ℕ) (place : Place) → FailsAt (t.TooDeep n) (m.items ∷ []) ts → place ≡ place_left bytes ts n → IsFault bytes ts (p.TooDeep place)
 too_deep_there bytes ts n place h at = says_fault bytes ts (p.TooDeep place) (n, h [], at)
 
 -- where tokens are left

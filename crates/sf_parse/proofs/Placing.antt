@@ -1,4 +1,4 @@
--- A tree's nodes are put where its tokens stand: names, expressions, what calls are given, tests and fields.
+-- A tree's nodes are put where its tokens is: names, expressions, what calls are given, tests and fields.
 use Rattle.std.proofs.Common.{◌≡◌, ℕ, ℤ, List, [], ◌∷◌, length, refl, ap, sym, ◌∙◌, subst}
 use Rattle.sf_base.specs.declared.place.Place.{Place}
 use Rattle.sf_ast.specs.declared.assertion.SurfaceField.{SurfaceField}
@@ -16,7 +16,7 @@ use Rattle.sf_lex.specs.declared.token.Token.{Token}
 use Rattle.sf_parse.specs.Grammar as g
 use Rattle.sf_parse.specs.Placed.{MoreNamesAt, NamesAt, MaybeNamesAt, ParametersAt, ExprAt, MoreExprsAt, MaybeExprsAt, ArgumentsAt, CallAt, OperandAt, TestAt, FieldAt, MoreFieldsAt, MaybeFieldsAt, LocalsAt}
 
--- a tree of the same tokens, whose nodes stand where these do, with those behind it
+-- a tree of the same tokens, whose nodes are where these are, with those after it
 pub record Placing {A : Type 0} (spell : A → List Kind → List Kind) (Stands : A → List Kind → Type 0) (x : A) (r : List Kind) : Type 0 where
   pub tree : A
   pub same : (q : List Kind) → spell tree q ≡ spell x q
@@ -29,11 +29,11 @@ word_there at r = record { start = (at (length r)).start; end = (at (length r)).
 abbrev pub place_there : (ℕ → Token) → List Kind → Place
 place_there at r = (at (length r)).place
 
--- what stands in front of some tokens stands in front of the same ones
+-- what comes before some tokens comes before the same ones
 pub stands_before : {A : Type 0} {spell : A → List Kind → List Kind} {Stands : A → List Kind → Type 0} {x : A} {r q : List Kind} (m : Placing spell Stands x r) → r ≡ q → Stands m.tree q
 stands_before {Stands = Stands} m e = subst (λ z. Stands m.tree z) e m.stands
 
--- names, each behind its comma
+-- names, each after its comma
 more_names_behind : (at : ℕ → Token) (x : Word) (xs : List Word) (r : List Kind) → Placing g.more_names (MoreNamesAt at) xs r → Placing g.more_names (MoreNamesAt at) (x ∷ xs) r
 more_names_behind at x xs r m = record {
   tree = word_there at (k.Name ∷ g.more_names xs r) ∷ m.tree;
@@ -100,7 +100,7 @@ operand_placed at (v.Known x) r =
     record { tree = v.Known m.tree; same = m.same; stands = m.stands }
 operand_placed at (v.Existential x) r = record { tree = v.Existential (word_there at (k.Existential ∷ r)); same = λ q. refl; stands = refl }
 
--- expressions, each behind its comma
+-- expressions, each after its comma
 more_exprs_behind : (at : ℕ → Token) (x : SurfaceExpr) (xs : List SurfaceExpr) (r : List Kind) → Placing expr_before (ExprAt at) x (g.more_exprs xs r) → Placing g.more_exprs (MoreExprsAt at) xs r → Placing g.more_exprs (MoreExprsAt at) (x ∷ xs) r
 more_exprs_behind at x xs r one m = record {
   tree = one.tree ∷ m.tree;
@@ -189,7 +189,7 @@ field_placed at f r =
       stands = (ap (λ z. word_there at (k.Name ∷ k.Colon ∷ z)) (sym (m.same r)), m.stands);
     }
 
--- fields, each behind its comma
+-- fields, each after its comma
 more_fields_behind : (at : ℕ → Token) (f : SurfaceField) (fs : List SurfaceField) (r : List Kind) → Placing g.field (FieldAt at) f (g.more_fields fs r) → Placing g.more_fields (MoreFieldsAt at) fs r → Placing g.more_fields (MoreFieldsAt at) (f ∷ fs) r
 more_fields_behind at f fs r one m = record {
   tree = one.tree ∷ m.tree;

@@ -1,4 +1,4 @@
--- A tree's nodes are put where its tokens stand: assertions and notes, which stay within their levels.
+-- A tree's nodes are put where its tokens is: assertions and notes, which stay within their levels.
 use Rattle.std.proofs.Common.{◌≡◌, ℕ, ◌-◌, List, [], ◌∷◌, length, Option, Some, None, refl, ap, sym, ◌∙◌, subst}
 use Rattle.sf_base.specs.declared.limits.TheConstants.{NESTING}
 use Rattle.sf_base.specs.declared.place.Place.{Place}
@@ -14,7 +14,7 @@ use Rattle.sf_parse.specs.Nesting.{HasLevel, IsClosed, ConjunctWithin, Assertion
 use Rattle.sf_parse.specs.Placed.{ConjunctAt, AssertionAt, NoteAt, MaybeNoteAt}
 use Rattle.sf_parse.proofs.Placing.{stands_before, place_there, operand_placed, operand_test_placed, maybe_fields_placed}
 
--- a conjunct of the same tokens, whose nodes stand where these do; it is within the same levels
+-- a conjunct of the same tokens, whose nodes are where these are; it is within the same levels
 pub record ConjunctPlacing (at : ℕ → Token) (c : s.Conjunct) (r : List Kind) : Type 0 where
   pub tree : s.Conjunct
   pub same : (q : List Kind) → g.conjunct tree q ≡ g.conjunct c q
@@ -22,7 +22,7 @@ pub record ConjunctPlacing (at : ℕ → Token) (c : s.Conjunct) (r : List Kind)
   pub within : (n d : ℕ) (q : List Kind) → ConjunctWithin c n d q → ConjunctWithin tree n d q
   pub closed : IsClosed c → IsClosed tree
 
--- an assertion of the same tokens, whose nodes stand where these do; it is within the same levels
+-- an assertion of the same tokens, whose nodes are where these are; it is within the same levels
 pub record AssertionPlacing (at : ℕ → Token) (a : s.Assertion) (r : List Kind) : Type 0 where
   pub tree : s.Assertion
   pub same : (q : List Kind) → g.assertion tree q ≡ g.assertion a q
@@ -40,7 +40,7 @@ assertion_before {at} m e = subst (λ z. AssertionAt at m.tree z) e m.stands
 pub level_same : (n d : ℕ) {r q : List Kind} → q ≡ r → HasLevel n (length r) d → HasLevel n (length q) d
 level_same n d e h = subst (λ z. HasLevel n (length z) d) (sym e) h
 
--- a conjunct within levels, in front of the same tokens
+-- a conjunct within levels, before the same tokens
 conjunct_within_before : (c : s.Conjunct) (n d : ℕ) {r q : List Kind} → q ≡ r → ConjunctWithin c n d r → ConjunctWithin c n d q
 conjunct_within_before c n d e w = subst (λ z. ConjunctWithin c n d z) (sym e) w
 
@@ -217,16 +217,16 @@ mutual
   assertion_placed at (s.only c) r = only_placed at c r (conjunct_placed at c r)
   assertion_placed at (s.star c a) r = star_placed at c a r (conjunct_placed at c (k.Star ∷ g.assertion a r)) (assertion_placed at a r)
 
--- a note of the same tokens, whose nodes stand where these do; it is within the same levels
+-- a note of the same tokens, whose nodes are where these are; it is within the same levels
 pub record NotePlacing (at : ℕ → Token) (x : s.Note) (r : List Kind) : Type 0 where
   pub tree : s.Note
-  pub same : (q : List Kind) → g.note tree q ≡ g.note x q
+  pub same : (q : List Kind) → g.annotation tree q ≡ g.annotation x q
   pub stands : NoteAt at tree r
   pub within : (n : ℕ) (q : List Kind) → NoteWithin x n q → NoteWithin tree n q
 
-pub note_placed : (at : ℕ → Token) (x : s.Note) (r : List Kind) → NotePlacing at x r
-note_placed at s.blank r = record { tree = s.blank; same = λ q. refl; stands = tt; within = λ n q w. tt }
-note_placed at (s.filled a) r =
+pub annotation_placed : (at : ℕ → Token) (x : s.Note) (r : List Kind) → NotePlacing at x r
+annotation_placed at s.blank r = record { tree = s.blank; same = λ q. refl; stands = tt; within = λ n q w. tt }
+annotation_placed at (s.filled a) r =
     let m = assertion_placed at a (k.CloseSquare ∷ r) in
     record {
       tree = s.filled m.tree;
@@ -238,15 +238,15 @@ note_placed at (s.filled a) r =
 -- so a note that may be left out
 pub record MaybePlacing (at : ℕ → Token) (x : Option s.Note) (r : List Kind) : Type 0 where
   pub tree : Option s.Note
-  pub same : (q : List Kind) → g.maybe_note tree q ≡ g.maybe_note x q
+  pub same : (q : List Kind) → g.maybe_annotation tree q ≡ g.maybe_annotation x q
   pub stands : MaybeNoteAt at tree r
   pub within : (n : ℕ) (q : List Kind) → MaybeWithin x n q → MaybeWithin tree n q
 
-pub maybe_note_placed : (at : ℕ → Token) (x : Option s.Note) (r : List Kind) → MaybePlacing at x r
-maybe_note_placed at None r = record { tree = None; same = λ q. refl; stands = tt; within = λ n q w. tt }
-maybe_note_placed at (Some x) r =
-    let m = note_placed at x r in
+pub maybe_annotation_placed : (at : ℕ → Token) (x : Option s.Note) (r : List Kind) → MaybePlacing at x r
+maybe_annotation_placed at None r = record { tree = None; same = λ q. refl; stands = tt; within = λ n q w. tt }
+maybe_annotation_placed at (Some x) r =
+    let m = annotation_placed at x r in
     record { tree = Some m.tree; same = m.same; stands = m.stands; within = m.within }
 
-pub maybe_note_before : {at : ℕ → Token} {x : Option s.Note} {r q : List Kind} (m : MaybePlacing at x r) → r ≡ q → MaybeNoteAt at m.tree q
-maybe_note_before {at} m e = subst (λ z. MaybeNoteAt at m.tree z) e m.stands
+pub maybe_annotation_before : {at : ℕ → Token} {x : Option s.Note} {r q : List Kind} (m : MaybePlacing at x r) → r ≡ q → MaybeNoteAt at m.tree q
+maybe_annotation_before {at} m e = subst (λ z. MaybeNoteAt at m.tree z) e m.stands

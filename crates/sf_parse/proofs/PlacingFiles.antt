@@ -1,4 +1,4 @@
--- A tree's nodes are put where its tokens stand: commands, items and files, which stay within their levels.
+-- A tree's nodes are put where its tokens is: commands, items and files, which stay within their levels.
 use Rattle.std.proofs.Common.{◌≡◌, ℕ, ◌-◌, List, [], ◌∷◌, length, Option, refl, ap, sym, ◌∙◌, subst}
 use Rattle.sf_base.specs.declared.limits.TheConstants.{NESTING}
 use Rattle.sf_base.specs.declared.place.Place.{Place}
@@ -15,9 +15,9 @@ use Rattle.sf_parse.specs.Nesting.{Follows, CommandWithin, CommandsWithin, Maybe
 use Rattle.sf_parse.specs.Parsing.{kinds, token_left, IsFile}
 use Rattle.sf_parse.specs.Placed.{CommandAt, CommandsAt, ItemAt, ItemsAt, from_close, from_open}
 use Rattle.sf_parse.proofs.Placing.{stands_before, word_there, place_there, expr_placed, names_placed, maybe_names_placed, parameters_placed, call_placed, expr_test_placed, locals_placed}
-use Rattle.sf_parse.proofs.PlacingAssertions.{level_same, note_placed, maybe_note_placed, maybe_note_before}
+use Rattle.sf_parse.proofs.PlacingAssertions.{level_same, annotation_placed, maybe_annotation_placed, maybe_annotation_before}
 
--- a command of the same tokens, whose nodes stand where these do; it is within the same levels
+-- a command of the same tokens, whose nodes are where these are; it is within the same levels
 pub record CommandPlacing (at : ℕ → Token) (c : s.Command) (r : List Kind) : Type 0 where
   pub tree : s.Command
   pub same : (q : List Kind) → g.command tree q ≡ g.command c q
@@ -25,7 +25,7 @@ pub record CommandPlacing (at : ℕ → Token) (c : s.Command) (r : List Kind) :
   pub within : (n d : ℕ) (q : List Kind) → CommandWithin c n d q → CommandWithin tree n d q
   pub follows : (q : List Kind) → Follows c q → Follows tree q
 
--- commands of the same tokens, whose nodes stand where these do; they are within the same levels
+-- commands of the same tokens, whose nodes are where these are; they are within the same levels
 pub record CommandsPlacing (at : ℕ → Token) (cs : s.Commands) (r : List Kind) : Type 0 where
   pub tree : s.Commands
   pub same : (q : List Kind) → g.commands tree q ≡ g.commands cs q
@@ -38,7 +38,7 @@ command_before {at} m e = subst (λ z. CommandAt at m.tree z) e m.stands
 commands_before : {at : ℕ → Token} {cs : s.Commands} {r q : List Kind} (m : CommandsPlacing at cs r) → r ≡ q → CommandsAt at m.tree q
 commands_before {at} m e = subst (λ z. CommandsAt at m.tree z) e m.stands
 
--- a command within levels, in front of the same tokens
+-- a command within levels, before the same tokens
 command_within_before : (c : s.Command) (n d : ℕ) {r q : List Kind} → q ≡ r → CommandWithin c n d r → CommandWithin c n d q
 command_within_before c n d e w = subst (λ z. CommandWithin c n d z) (sym e) w
 
@@ -178,14 +178,14 @@ if_placed at p b c e r m n =
 
 while_placed : (at : ℕ → Token) (p : Place) (b : SurfaceTest SurfaceExpr) (x : Option s.Note) (c : s.Command) (r : List Kind) → CommandPlacing at c r → CommandPlacing at (s.while p b x c) r
 while_placed at p b x c r m =
-    let o = expr_test_placed at b (k.CloseRound ∷ g.maybe_note x (g.command c r)) in
-    let y = maybe_note_placed at x (g.command c r) in
-    let behind = λ (q : List Kind). ap (λ (z : List Kind). k.CloseRound ∷ z) (y.same (g.command m.tree q) ∙ ap (g.maybe_note x) (m.same q)) in
-    let same = λ (q : List Kind). ap (λ (z : List Kind). k.While ∷ k.OpenRound ∷ z) (o.same (k.CloseRound ∷ g.maybe_note y.tree (g.command m.tree q)) ∙ ap (g.test g.expr b) (behind q)) in
+    let o = expr_test_placed at b (k.CloseRound ∷ g.maybe_annotation x (g.command c r)) in
+    let y = maybe_annotation_placed at x (g.command c r) in
+    let behind = λ (q : List Kind). ap (λ (z : List Kind). k.CloseRound ∷ z) (y.same (g.command m.tree q) ∙ ap (g.maybe_annotation x) (m.same q)) in
+    let same = λ (q : List Kind). ap (λ (z : List Kind). k.While ∷ k.OpenRound ∷ z) (o.same (k.CloseRound ∷ g.maybe_annotation y.tree (g.command m.tree q)) ∙ ap (g.test g.expr b) (behind q)) in
     record {
       tree = s.while (place_there at (g.command (s.while p b x c) r)) o.tree y.tree m.tree;
       same = same;
-      stands = (ap (place_there at) (sym (same r)), stands_before o (sym (behind r)), maybe_note_before y (sym (m.same r)), m.stands);
+      stands = (ap (place_there at) (sym (same r)), stands_before o (sym (behind r)), maybe_annotation_before y (sym (m.same r)), m.stands);
       within = λ n d q w. (
         level_same n d (same q) w.0,
         maybe_within_before y.tree n (m.same q) (y.within n (g.command c q) w.1),
@@ -247,7 +247,7 @@ mutual
   commands_placed at s.done r = record { tree = s.done; same = λ q. refl; stands = tt; within = λ n d q w. tt }
   commands_placed at (s.then c cs) r = then_placed at c cs r (command_placed at c (g.commands cs r)) (commands_placed at cs r)
 
--- an item of the same tokens, whose nodes stand where these do; it is within the same levels
+-- an item of the same tokens, whose nodes are where these are; it is within the same levels
 pub record ItemPlacing (at : ℕ → Token) (i : s.Item) (r : List Kind) : Type 0 where
   pub tree : s.Item
   pub same : (q : List Kind) → g.item tree q ≡ g.item i q
@@ -261,13 +261,13 @@ fields_placed at ns r =
 
 resource_placed : (at : ℕ → Token) (x : s.Resource) (r : List Kind) → ItemPlacing at (s.resource x) r
 resource_placed at x r =
-    let m = maybe_names_placed at x.variables (k.CloseRound ∷ g.note x.invariant r) in
-    let n = note_placed at x.invariant r in
+    let m = maybe_names_placed at x.variables (k.CloseRound ∷ g.annotation x.invariant r) in
+    let n = annotation_placed at x.invariant r in
     let behind = λ (q : List Kind). ap (λ (z : List Kind). k.CloseRound ∷ z) (n.same q) in
-    let header = λ (q : List Kind). ap (λ (z : List Kind). k.Name ∷ k.OpenRound ∷ z) (m.same (k.CloseRound ∷ g.note n.tree q) ∙ ap (g.maybe_names x.variables) (behind q)) in
+    let header = λ (q : List Kind). ap (λ (z : List Kind). k.Name ∷ k.OpenRound ∷ z) (m.same (k.CloseRound ∷ g.annotation n.tree q) ∙ ap (g.maybe_names x.variables) (behind q)) in
     let same = λ (q : List Kind). ap (λ (z : List Kind). k.Resource ∷ z) (header q) in
     record {
-      tree = s.resource (record { place = place_there at (g.resource x r); name = word_there at (k.Name ∷ k.OpenRound ∷ g.maybe_names x.variables (k.CloseRound ∷ g.note x.invariant r)); variables = m.tree; invariant = n.tree });
+      tree = s.resource (record { place = place_there at (g.resource x r); name = word_there at (k.Name ∷ k.OpenRound ∷ g.maybe_names x.variables (k.CloseRound ∷ g.annotation x.invariant r)); variables = m.tree; invariant = n.tree });
       same = same;
       stands = (ap (place_there at) (sym (same r)), ap (word_there at) (sym (header r)), stands_before m (sym (behind r)), n.stands);
       within = λ i q w. n.within i q w;
@@ -275,16 +275,16 @@ resource_placed at x r =
 
 procedure_placed : (at : ℕ → Token) (f : s.Procedure) (r : List Kind) → ItemPlacing at (s.procedure f) r
 procedure_placed at f r =
-    let post = maybe_note_placed at f.post r in
+    let post = maybe_annotation_placed at f.post r in
     let body = commands_placed at f.body (from_close f r) in
     let locals = locals_placed at f.locals (g.commands f.body (from_close f r)) in
-    let pre = maybe_note_placed at f.pre (from_open f r) in
-    let parameters = parameters_placed at f.parameters (k.CloseRound ∷ g.maybe_note f.pre (from_open f r)) in
+    let pre = maybe_annotation_placed at f.pre (from_open f r) in
+    let parameters = parameters_placed at f.parameters (k.CloseRound ∷ g.maybe_annotation f.pre (from_open f r)) in
     let close = λ (q : List Kind). ap (λ (z : List Kind). k.CloseBrace ∷ z) (post.same q) in
-    let commands = λ (q : List Kind). body.same (k.CloseBrace ∷ g.maybe_note post.tree q) ∙ ap (g.commands f.body) (close q) in
-    let open_ = λ (q : List Kind). ap (λ (z : List Kind). k.OpenBrace ∷ z) (locals.same (g.commands body.tree (k.CloseBrace ∷ g.maybe_note post.tree q)) ∙ ap (g.locals f.locals) (commands q)) in
-    let first = λ (q : List Kind). ap (λ (z : List Kind). k.CloseRound ∷ z) (pre.same (k.OpenBrace ∷ g.locals locals.tree (g.commands body.tree (k.CloseBrace ∷ g.maybe_note post.tree q))) ∙ ap (g.maybe_note f.pre) (open_ q)) in
-    let same = λ (q : List Kind). ap (λ (z : List Kind). k.Name ∷ k.OpenRound ∷ z) (parameters.same (k.CloseRound ∷ g.maybe_note pre.tree (k.OpenBrace ∷ g.locals locals.tree (g.commands body.tree (k.CloseBrace ∷ g.maybe_note post.tree q)))) ∙ ap (g.parameters f.parameters) (first q)) in
+    let commands = λ (q : List Kind). body.same (k.CloseBrace ∷ g.maybe_annotation post.tree q) ∙ ap (g.commands f.body) (close q) in
+    let open_ = λ (q : List Kind). ap (λ (z : List Kind). k.OpenBrace ∷ z) (locals.same (g.commands body.tree (k.CloseBrace ∷ g.maybe_annotation post.tree q)) ∙ ap (g.locals f.locals) (commands q)) in
+    let first = λ (q : List Kind). ap (λ (z : List Kind). k.CloseRound ∷ z) (pre.same (k.OpenBrace ∷ g.locals locals.tree (g.commands body.tree (k.CloseBrace ∷ g.maybe_annotation post.tree q))) ∙ ap (g.maybe_annotation f.pre) (open_ q)) in
+    let same = λ (q : List Kind). ap (λ (z : List Kind). k.Name ∷ k.OpenRound ∷ z) (parameters.same (k.CloseRound ∷ g.maybe_annotation pre.tree (k.OpenBrace ∷ g.locals locals.tree (g.commands body.tree (k.CloseBrace ∷ g.maybe_annotation post.tree q)))) ∙ ap (g.parameters f.parameters) (first q)) in
     record {
       tree = s.procedure (record {
         name = word_there at (g.procedure f r);
@@ -300,7 +300,7 @@ procedure_placed at f r =
       stands = (
         ap (word_there at) (sym (same r)),
         stands_before parameters (sym (first r)),
-        maybe_note_before pre (sym (open_ r)),
+        maybe_annotation_before pre (sym (open_ r)),
         ap (place_there at) (sym (open_ r)),
         stands_before locals (sym (commands r)),
         commands_before body (sym (close r)),
@@ -308,8 +308,8 @@ procedure_placed at f r =
         post.stands,
       );
       within = λ n q w. (
-        maybe_within_before pre.tree n (open_ q) (pre.within n (k.OpenBrace ∷ g.locals f.locals (g.commands f.body (k.CloseBrace ∷ g.maybe_note f.post q))) w.0),
-        commands_within_before body.tree n NESTING (close q) (body.within n NESTING (k.CloseBrace ∷ g.maybe_note f.post q) w.1),
+        maybe_within_before pre.tree n (open_ q) (pre.within n (k.OpenBrace ∷ g.locals f.locals (g.commands f.body (k.CloseBrace ∷ g.maybe_annotation f.post q))) w.0),
+        commands_within_before body.tree n NESTING (close q) (body.within n NESTING (k.CloseBrace ∷ g.maybe_annotation f.post q) w.1),
         post.within n q w.2,
       );
     }
@@ -319,7 +319,7 @@ item_placed at (s.fields ns) r = fields_placed at ns r
 item_placed at (s.resource x) r = resource_placed at x r
 item_placed at (s.procedure f) r = procedure_placed at f r
 
--- items of the same tokens, whose nodes stand where these do; they are within the same levels
+-- items of the same tokens, whose nodes are where these are; they are within the same levels
 pub record ItemsPlacing (at : ℕ → Token) (is : List s.Item) (r : List Kind) : Type 0 where
   pub tree : List s.Item
   pub same : (q : List Kind) → g.items tree q ≡ g.items is q

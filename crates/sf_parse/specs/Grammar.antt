@@ -49,7 +49,7 @@ abbrev pub maybe_exprs : List SurfaceExpr → List Kind → List Kind
 maybe_exprs [] r = r
 maybe_exprs (x ∷ xs) r = expr x ∷ more_exprs xs r
 
--- [ exprs ] [ ";" [ exprs ] ], where what stands before a `;` are names
+-- [ exprs ] [ ";" [ exprs ] ], where what comes before a `;` are names
 abbrev pub arguments : s.Arguments → List Kind → List Kind
 arguments (s.values xs) r = maybe_exprs xs r
 arguments (s.both ns xs) r = maybe_names ns (k.Semicolon ∷ maybe_exprs xs r)
@@ -106,14 +106,14 @@ abbrev mutual
   assertion (s.star c a) r = conjunct c (k.Star ∷ assertion a r)
 
 -- note = "[" [ assertion ] "]"
-abbrev pub note : s.Note → List Kind → List Kind
-note s.blank r = k.OpenSquare ∷ k.CloseSquare ∷ r
-note (s.filled a) r = k.OpenSquare ∷ assertion a (k.CloseSquare ∷ r)
+abbrev pub annotation : s.Note → List Kind → List Kind
+annotation s.blank r = k.OpenSquare ∷ k.CloseSquare ∷ r
+annotation (s.filled a) r = k.OpenSquare ∷ assertion a (k.CloseSquare ∷ r)
 
 -- [ note ]
-abbrev pub maybe_note : Option s.Note → List Kind → List Kind
-maybe_note None r = r
-maybe_note (Some n) r = note n r
+abbrev pub maybe_annotation : Option s.Note → List Kind → List Kind
+maybe_annotation None r = r
+maybe_annotation (Some n) r = annotation n r
 
 abbrev mutual
   -- command = name "=" expr ";" | name "=" expr "->" name ";" | name "=" "new" "(" ")" ";"
@@ -129,7 +129,7 @@ abbrev mutual
   command (s.dispose_round p a) r = k.Dispose ∷ k.OpenRound ∷ expr a ∷ k.CloseRound ∷ k.Semicolon ∷ r
   command (s.if_alone p b c) r = k.If ∷ k.OpenRound ∷ test expr b (k.CloseRound ∷ command c r)
   command (s.if p b c d) r = k.If ∷ k.OpenRound ∷ test expr b (k.CloseRound ∷ command c (k.Else ∷ command d r))
-  command (s.while p b n c) r = k.While ∷ k.OpenRound ∷ test expr b (k.CloseRound ∷ maybe_note n (command c r))
+  command (s.while p b n c) r = k.While ∷ k.OpenRound ∷ test expr b (k.CloseRound ∷ maybe_annotation n (command c r))
   command (s.with p x b c) r = k.With ∷ k.Name ∷ k.When ∷ k.OpenRound ∷ test expr b (k.CloseRound ∷ command c r)
   command (s.call c) r = call c (k.Semicolon ∷ r)
   command (s.fork c d) r = call c (k.Bars ∷ call d (k.Semicolon ∷ r))
@@ -147,13 +147,13 @@ locals (ns ∷ nss) r = k.Local ∷ names ns (k.Semicolon ∷ locals nss r)
 
 -- resource = "resource" name "(" [ names ] ")" "[" [ assertion ] "]"
 abbrev pub resource : s.Resource → List Kind → List Kind
-resource x r = k.Resource ∷ k.Name ∷ k.OpenRound ∷ maybe_names x.variables (k.CloseRound ∷ note x.invariant r)
+resource x r = k.Resource ∷ k.Name ∷ k.OpenRound ∷ maybe_names x.variables (k.CloseRound ∷ annotation x.invariant r)
 
 -- procedure = name "(" params ")" [ note ] "{" { "local" names ";" } { command } "}" [ note ]
 abbrev pub procedure : s.Procedure → List Kind → List Kind
 procedure f r =
     k.Name ∷ k.OpenRound
-    ∷ parameters f.parameters (k.CloseRound ∷ maybe_note f.pre (k.OpenBrace ∷ locals f.locals (commands f.body (k.CloseBrace ∷ maybe_note f.post r))))
+    ∷ parameters f.parameters (k.CloseRound ∷ maybe_annotation f.pre (k.OpenBrace ∷ locals f.locals (commands f.body (k.CloseBrace ∷ maybe_annotation f.post r))))
 
 -- item = fields | resource | procedure, where fields = name { "," name } ";"
 abbrev pub item : s.Item → List Kind → List Kind

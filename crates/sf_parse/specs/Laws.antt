@@ -9,7 +9,7 @@ use Rattle.sf_lex.specs.declared.token.Kind.{Kind}
 use Rattle.sf_lex.specs.declared.token.Token.{Token}
 use Rattle.sf_parse.specs.declared.fault.ParseFault.{ParseFault}
 use Rattle.sf_parse.specs.Grammar.{items}
-use Rattle.sf_parse.specs.Machine.{Verdict, accepted, unexpected, too_deep, verdict, items as some_items}
+use Rattle.sf_parse.specs.Internal.Machine.{Verdict, accepted, unexpected, too_deep, verdict, items as some_items}
 use Rattle.sf_parse.specs.Nearest.{IsNearest}
 use Rattle.sf_parse.specs.Nesting.{ItemsWithin}
 use Rattle.sf_parse.specs.Parsing.{kinds, CanBegin, CanBeginAny, IsFile, IsFault}
@@ -24,7 +24,7 @@ pub record Spelled (ts : List Kind) : Type 0 where
   pub spells : ts ≡ items tree []
   pub within : ItemsWithin tree 0 []
 
--- accepted are exactly the files; else the fault stands at the first token that does not go on
+-- accepted are exactly the files; else the fault is at the first token that does not go on
 pub record IsExact (ts : List Kind) : Type 0 where
   pub file : Spelled ts → verdict_of ts ≡ accepted
   pub accepts : verdict_of ts ≡ accepted → Spelled ts

@@ -3,10 +3,5 @@ pub mod Nesting
 pub mod Nearest
 pub mod Placed
 pub mod Parsing
-pub mod Machine
-pub mod Faults
 pub mod Laws
-pub mod Steps
-pub mod Given
-pub mod Heads
-pub mod Bodies
+pub mod Internal

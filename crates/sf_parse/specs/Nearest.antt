@@ -1,4 +1,4 @@
--- Which of several readings is meant, said without levels: each `else` belongs to the nearest `if`, and what stands behind the
+-- Which of several readings is meant, said without levels: each `else` belongs to the nearest `if`, and what comes after the
 -- `if` of an assertion reaches as far to the right as it can.
 -- Ordinary: the nearest `if` takes an `else`, as in Aho, Sethi, Ullman, "Compilers" (1986), section 4.3.
 use Rattle.std.specs.Prelude.{List, [], ◌∷◌, Option, Some, None}
@@ -21,12 +21,12 @@ abbrev mutual
   ConjunctNearest (s.list p x) = Unit {0}
   ConjunctNearest (s.tree p x) = Unit {0}
 
-  -- an assertion: an `if` in it is the last conjunct, since what stands behind would belong to its branch
+  -- an assertion: an `if` in it is the last conjunct, since what comes after would belong to its branch
   pub AssertionNearest : s.Assertion → Type 0
   AssertionNearest (s.only c) = ConjunctNearest c
   AssertionNearest (s.star c a) = ConjunctNearest c × IsClosed c × AssertionNearest a
 
--- what stands in square brackets
+-- what occurs in square brackets
 abbrev pub NoteNearest : s.Note → Type 0
 NoteNearest s.blank = Unit {0}
 NoteNearest (s.filled a) = AssertionNearest a
@@ -37,7 +37,7 @@ MaybeNearest None = Unit {0}
 MaybeNearest (Some x) = NoteNearest x
 
 abbrev mutual
-  -- a command: no `if` in front of an `else` ends with one that lacks its own
+  -- a command: no `if` before an `else` ends with one that lacks its own
   pub CommandNearest : s.Command → Type 0
   CommandNearest (s.if_alone p b c) = CommandNearest c
   CommandNearest (s.if p b c e) = CommandNearest c × CommandNearest e × Follows c (k.Else ∷ [])

@@ -5,14 +5,14 @@ use Rattle.sf_base.specs.declared.limits.TheConstants.{NESTING}
 use Rattle.sf_ast.specs.Surface as s
 use Rattle.sf_lex.specs.declared.token.Kind.{Kind}
 use Rattle.sf_lex.specs.declared.token.Kind.TheVariants as k
-use Rattle.sf_parse.specs.Grammar.{conjunct, assertion, maybe_note, command, commands, items, locals}
+use Rattle.sf_parse.specs.Grammar.{conjunct, assertion, maybe_annotation, command, commands, items, locals}
 
 -- no `else` comes next
 abbrev pub NotElse : List Kind → Type 0
 NotElse (k.Else ∷ r) = ⊥
 NotElse _ = Unit {0}
 
--- an `else` behind a command belongs to the nearest `if` in it that has none
+-- an `else` after a command belongs to the nearest `if` in it that has none
 abbrev pub Follows : s.Command → List Kind → Type 0
 Follows (s.if_alone p b c) r = NotElse r
 Follows (s.if p b c d) r = Follows d r
@@ -20,7 +20,7 @@ Follows (s.while p b n c) r = Follows c r
 Follows (s.with p x b c) r = Follows c r
 Follows _ r = Unit {0}
 
--- a conjunct that reaches as far to the right as it can has no other one behind it
+-- a conjunct that reaches as far to the right as it can has no other one after it
 abbrev pub IsClosed : s.Conjunct → Type 0
 IsClosed (s.choose p b x y) = ⊥
 IsClosed (s.choose_round p b x y) = ⊥
@@ -51,12 +51,12 @@ abbrev mutual
   ConjunctWithin (s.tree p x) n d r = Unit {0}
 
   -- an assertion has at most d levels, its own the first, where it begins with more than n tokens left; its branches reach as far
-  -- to the right as they can: a conjunct with another one behind it is closed
+  -- to the right as they can: a conjunct with another one after it is closed
   pub AssertionWithin : s.Assertion → (n d : ℕ) → List Kind → Type 0
   AssertionWithin (s.only c) n d r = HasLevel n (length (conjunct c r)) d × ConjunctWithin c n d r
   AssertionWithin (s.star c a) n d r = HasLevel n (length (conjunct c (k.Star ∷ assertion a r))) d × ConjunctWithin c n d (k.Star ∷ assertion a r) × IsClosed c × RestWithin a n d r
 
-  -- so has what stands behind a `*`, which begins no assertion
+  -- so has what comes after a `*`, which begins no assertion
   pub RestWithin : s.Assertion → (n d : ℕ) → List Kind → Type 0
   RestWithin (s.only c) n d r = ConjunctWithin c n d r
   RestWithin (s.star c a) n d r = ConjunctWithin c n d (k.Star ∷ assertion a r) × IsClosed c × RestWithin a n d r
@@ -99,8 +99,8 @@ abbrev pub ItemWithin : s.Item → (n : ℕ) → List Kind → Type 0
 ItemWithin (s.fields ns) n r = Unit {0}
 ItemWithin (s.resource x) n r = NoteWithin x.invariant n r
 ItemWithin (s.procedure f) n r =
-    MaybeWithin f.pre n (k.OpenBrace ∷ locals f.locals (commands f.body (k.CloseBrace ∷ maybe_note f.post r)))
-    × CommandsWithin f.body n NESTING (k.CloseBrace ∷ maybe_note f.post r)
+    MaybeWithin f.pre n (k.OpenBrace ∷ locals f.locals (commands f.body (k.CloseBrace ∷ maybe_annotation f.post r)))
+    × CommandsWithin f.body n NESTING (k.CloseBrace ∷ maybe_annotation f.post r)
     × MaybeWithin f.post n r
 
 -- those of all items: within the limit, each `else` to the nearest `if`, branches as far to the right as they can

@@ -25,7 +25,7 @@ no_token = record { kind = k.Name; value = pos 0; start = 0; end = 0; place = fi
 abbrev pub token_left : List Token → ℕ → Token
 token_left ts n = slice_index_or ts (length ts - n) no_token
 
--- the tokens are those of the tree, and the tree's nodes stand where their tokens do; it is within the limit on nesting and, of
+-- the tokens are those of the tree, and the tree's nodes are where their tokens are; it is within the limit on nesting and, of
 -- the trees with these tokens, the one that is meant: each `else` belongs to the nearest `if`, and an assertion's branches reach
 -- as far to the right as they can
 pub record IsFile (ts : List Token) (tree : List Item) : Type 0 where
@@ -59,7 +59,7 @@ pub record IsUnexpected (ts : List Token) (place : Place) : Type 0 where
   pub begins : CanBegin (kinds front)
   pub no_further : CanBeginAny (kinds front ++ token.kind ∷ []) → ⊥
 
--- the tokens begin a file and are none; the place is that behind the last byte
+-- the tokens begin a file and are none; the place is that after the last byte
 pub record IsUnexpectedEnd (bytes : List ℕ) (ts : List Token) (place : Place) : Type 0 where
   pub there : place ≡ place_behind first_place bytes
   pub begins : CanBegin (kinds ts)

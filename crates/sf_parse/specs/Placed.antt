@@ -1,4 +1,4 @@
--- Where the nodes of a tree stand: each word is the token there, and each place and each number is that of the token there.
+-- Where the nodes of a tree are: each word is the token there, and each place and each number is that of the token there.
 -- A token is named by how many are left with it, so `at (length r)` is the first of r.
 use Rattle.std.specs.Prelude.{◌≡◌, ℕ, ℤ, List, [], ◌∷◌, length, Option, Some, None}
 use Rattle.sf_base.specs.declared.place.Place.{Place}
@@ -14,7 +14,7 @@ use Rattle.sf_ast.specs.Surface as s
 use Rattle.sf_lex.specs.declared.token.Kind.{Kind}
 use Rattle.sf_lex.specs.declared.token.Kind.TheVariants as k
 use Rattle.sf_lex.specs.declared.token.Token.{Token}
-use Rattle.sf_parse.specs.Grammar.{more_names, names, maybe_names, expr, more_exprs, maybe_exprs, call, operand, test, field, more_fields, maybe_fields, conjunct, assertion, note, maybe_note, command, commands, locals, resource, procedure, items}
+use Rattle.sf_parse.specs.Grammar.{more_names, names, maybe_names, expr, more_exprs, maybe_exprs, call, operand, test, field, more_fields, maybe_fields, conjunct, assertion, annotation, maybe_annotation, command, commands, locals, resource, procedure, items}
 
 -- the word is the first token of those
 abbrev pub WordAt : (ℕ → Token) → Word → List Kind → Type 0
@@ -28,7 +28,7 @@ PlaceAt at p r = p ≡ (at (length r)).place
 abbrev pub NumberAt : (ℕ → Token) → ℤ → List Kind → Type 0
 NumberAt at n r = n ≡ (at (length r)).value
 
--- names, each behind its comma
+-- names, each after its comma
 abbrev pub MoreNamesAt : (ℕ → Token) → List Word → List Kind → Type 0
 MoreNamesAt at [] r = Unit {0}
 MoreNamesAt at (x ∷ xs) r = WordAt at x (k.Name ∷ more_names xs r) × MoreNamesAt at xs r
@@ -47,14 +47,14 @@ abbrev pub ParametersAt : (ℕ → Token) → s.Parameters → List Kind → Typ
 ParametersAt at (s.only_values xs) r = MaybeNamesAt at xs r
 ParametersAt at (s.references_and_values xs ys) r = MaybeNamesAt at xs (k.Semicolon ∷ maybe_names ys r) × MaybeNamesAt at ys r
 
--- an expression is one token, with these behind it
+-- an expression is one token, with these after it
 abbrev pub ExprAt : (ℕ → Token) → SurfaceExpr → List Kind → Type 0
 ExprAt at (e.Name x) r = WordAt at x (k.Name ∷ r)
 ExprAt at (e.Nil p) r = PlaceAt at p (k.Nil ∷ r)
 ExprAt at (e.Null p) r = PlaceAt at p (k.Null ∷ r)
 ExprAt at (e.Number n p) r = NumberAt at n (k.Number ∷ r) × PlaceAt at p (k.Number ∷ r)
 
--- expressions, each behind its comma
+-- expressions, each after its comma
 abbrev pub MoreExprsAt : (ℕ → Token) → List SurfaceExpr → List Kind → Type 0
 MoreExprsAt at [] r = Unit {0}
 MoreExprsAt at (x ∷ xs) r = ExprAt at x (more_exprs xs r) × MoreExprsAt at xs r
@@ -73,7 +73,7 @@ ArgumentsAt at (s.both ns xs) r = MaybeNamesAt at ns (k.Semicolon ∷ maybe_expr
 abbrev pub CallAt : (ℕ → Token) → s.Call → List Kind → Type 0
 CallAt at c r = WordAt at c.name (call c r) × ArgumentsAt at c.arguments (k.CloseRound ∷ r)
 
--- an operand is one token, with these behind it
+-- an operand is one token, with these after it
 abbrev pub OperandAt : (ℕ → Token) → SurfaceOperand → List Kind → Type 0
 OperandAt at (v.Known x) r = ExprAt at x r
 OperandAt at (v.Existential x) r = WordAt at x (k.Existential ∷ r)
@@ -88,7 +88,7 @@ TestAt at kind PartAt (t.Differ x y) r = PartAt x (k.NotEqual ∷ kind y ∷ r) 
 abbrev pub FieldAt : (ℕ → Token) → SurfaceField → List Kind → Type 0
 FieldAt at f r = WordAt at f.name (field f r) × OperandAt at f.value r
 
--- fields, each behind its comma
+-- fields, each after its comma
 abbrev pub MoreFieldsAt : (ℕ → Token) → List SurfaceField → List Kind → Type 0
 MoreFieldsAt at [] r = Unit {0}
 MoreFieldsAt at (f ∷ fs) r = FieldAt at f (more_fields fs r) × MoreFieldsAt at fs r
@@ -122,7 +122,7 @@ abbrev mutual
   AssertionAt at (s.only c) r = ConjunctAt at c r
   AssertionAt at (s.star c a) r = ConjunctAt at c (k.Star ∷ assertion a r) × AssertionAt at a r
 
--- what stands in square brackets
+-- what occurs in square brackets
 abbrev pub NoteAt : (ℕ → Token) → s.Note → List Kind → Type 0
 NoteAt at s.blank r = Unit {0}
 NoteAt at (s.filled a) r = AssertionAt at a (k.CloseSquare ∷ r)
@@ -146,7 +146,7 @@ abbrev mutual
       PlaceAt at p (command (s.if p b c d) r) × TestAt at expr (ExprAt at) b (k.CloseRound ∷ command c (k.Else ∷ command d r))
       × CommandAt at c (k.Else ∷ command d r) × CommandAt at d r
   CommandAt at (s.while p b n c) r =
-      PlaceAt at p (command (s.while p b n c) r) × TestAt at expr (ExprAt at) b (k.CloseRound ∷ maybe_note n (command c r))
+      PlaceAt at p (command (s.while p b n c) r) × TestAt at expr (ExprAt at) b (k.CloseRound ∷ maybe_annotation n (command c r))
       × MaybeNoteAt at n (command c r) × CommandAt at c r
   CommandAt at (s.with p x b c) r =
       PlaceAt at p (command (s.with p x b c) r) × WordAt at x (k.Name ∷ k.When ∷ k.OpenRound ∷ test expr b (k.CloseRound ∷ command c r))
@@ -168,12 +168,12 @@ LocalsAt at (ns ∷ nss) r = NamesAt at ns (k.Semicolon ∷ locals nss r) × Loc
 -- a resource
 abbrev pub ResourceAt : (ℕ → Token) → s.Resource → List Kind → Type 0
 ResourceAt at x r =
-    PlaceAt at x.place (resource x r) × WordAt at x.name (k.Name ∷ k.OpenRound ∷ maybe_names x.variables (k.CloseRound ∷ note x.invariant r))
-    × MaybeNamesAt at x.variables (k.CloseRound ∷ note x.invariant r) × NoteAt at x.invariant r
+    PlaceAt at x.place (resource x r) × WordAt at x.name (k.Name ∷ k.OpenRound ∷ maybe_names x.variables (k.CloseRound ∷ annotation x.invariant r))
+    × MaybeNamesAt at x.variables (k.CloseRound ∷ annotation x.invariant r) × NoteAt at x.invariant r
 
 -- a procedure from its closing brace on
 abbrev pub from_close : s.Procedure → List Kind → List Kind
-from_close f r = k.CloseBrace ∷ maybe_note f.post r
+from_close f r = k.CloseBrace ∷ maybe_annotation f.post r
 
 -- a procedure from its opening brace on
 abbrev pub from_open : s.Procedure → List Kind → List Kind
@@ -182,7 +182,7 @@ from_open f r = k.OpenBrace ∷ locals f.locals (commands f.body (from_close f r
 -- a procedure
 abbrev pub ProcedureAt : (ℕ → Token) → s.Procedure → List Kind → Type 0
 ProcedureAt at f r =
-    WordAt at f.name (procedure f r) × ParametersAt at f.parameters (k.CloseRound ∷ maybe_note f.pre (from_open f r)) × MaybeNoteAt at f.pre (from_open f r)
+    WordAt at f.name (procedure f r) × ParametersAt at f.parameters (k.CloseRound ∷ maybe_annotation f.pre (from_open f r)) × MaybeNoteAt at f.pre (from_open f r)
     × PlaceAt at f.opens (from_open f r) × LocalsAt at f.locals (commands f.body (from_close f r)) × CommandsAt at f.body (from_close f r)
     × PlaceAt at f.closes (from_close f r) × MaybeNoteAt at f.post r
 

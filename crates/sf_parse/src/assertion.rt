@@ -5,11 +5,11 @@ ghost use Rattle.sf_ast.specs.Surface.{Conjunct};
 ghost use Rattle.sf_ast.specs.View.{assertion_of, conjunct_of, conjuncts};
 ghost use Rattle.sf_lex.specs.declared.token.Token.{Token};
 ghost use Rattle.sf_parse.specs.Grammar.{assertion, conjunct};
-ghost use Rattle.sf_parse.specs.Machine as m;
+ghost use Rattle.sf_parse.specs.Internal.Machine as m;
 ghost use Rattle.sf_parse.specs.Nesting.{AssertionWithin, ConjunctWithin};
 ghost use Rattle.sf_parse.specs.Parsing.{kinds};
 ghost use Rattle.sf_parse.specs.Placed.{AssertionAt, ConjunctAt, PlaceAt};
-ghost use Rattle.sf_parse.specs.Steps.{Agree, Ends, NotStar, Placed, Stops, Takes};
+ghost use Rattle.sf_parse.specs.Internal.Steps.{Agree, Ends, NotStar, Placed, FailsAt, Accepts};
 
 use crate::condition::operand_test;
 use crate::conjunct::{predicate, relation};
@@ -24,7 +24,7 @@ use std::alloc::Global;
 /// The fault of an assertion for which there is no level.
 #[tactic(auto, using(crate::proofs::Conjuncts::behind))]
 fn no_level(tokens: &[Token]) -> Stop
-    ensures { Stops result (m.assertion 0 ∷ []) tokens.now }
+    ensures { FailsAt result (m.assertion 0 ∷ []) tokens.now }
 {
     if begins_conjunct(tokens) {
         Stop::TooDeep(tokens.len())
@@ -45,8 +45,8 @@ pub fn assertion(
     ensures within { IfOk result (λ r. AssertionWithin (assertion_of r.0) 0 depth (kinds r.1.now)) }
     ensures ended { IfOk result (λ r. NotStar (kinds r.1.now)) }
     ensures places { IfOk result (λ r. Placed (λ at b. AssertionAt at (assertion_of r.0) b) tokens.now r.1.now) }
-    ensures taken { IfOk result (λ r. Takes (m.assertion depth ∷ []) tokens.now r.1.now) }
-    ensures fault { IfErr result (λ e. Stops e (m.assertion depth ∷ []) tokens.now) }
+    ensures taken { IfOk result (λ r. Accepts (m.assertion depth ∷ []) tokens.now r.1.now) }
+    ensures fault { IfErr result (λ e. FailsAt e (m.assertion depth ∷ []) tokens.now) }
 {
     if depth == 0 {
         return Err(no_level(tokens));
@@ -57,7 +57,7 @@ pub fn assertion(
     Ok((SurfaceAssertion { first, more }, rest))
 }
 
-/// The conjuncts behind a first one, whichever that is, each behind its `*`.
+/// The conjuncts after a first one, whichever that is, each after its `*`.
 #[cycle(assertion)]
 #[tactic(auto, using(crate::proofs::Conjuncts::behind))]
 fn more_conjuncts(
@@ -66,12 +66,19 @@ fn more_conjuncts(
     tokens: &[Token],
 ) -> Result<(Vec<SurfaceConjunct>, &[Token]), Stop>
     requires { 0 < depth }
-    ensures spelled { IfOk result (λ r. (c : Conjunct) → conjunct c (kinds tokens.now) ≡ assertion (conjuncts c (map conjunct_of r.0.items)) (kinds r.1.now)) }
-    ensures within { IfOk result (λ r. (c : Conjunct) → ConjunctWithin c 0 depth (kinds tokens.now) → Ends c (kinds tokens.now) → AssertionWithin (conjuncts c (map conjunct_of r.0.items)) 0 depth (kinds r.1.now)) }
+    ensures spelled { IfOk result (λ r. (c : Conjunct)
+        → conjunct c (kinds tokens.now)
+        ≡ assertion (conjuncts c (map conjunct_of r.0.items)) (kinds r.1.now)) }
+    ensures within { IfOk result (λ r. (c : Conjunct) → ConjunctWithin c 0 depth (kinds tokens.now)
+        → Ends c (kinds tokens.now)
+        → AssertionWithin (conjuncts c (map conjunct_of r.0.items)) 0 depth (kinds r.1.now)) }
     ensures ended { IfOk result (λ r. NotStar (kinds r.1.now)) }
-    ensures places { IfOk result (λ r. (at : ℕ → Token) → Agree at tokens.now → (c : Conjunct) → ConjunctAt at c (kinds tokens.now) → AssertionAt at (conjuncts c (map conjunct_of r.0.items)) (kinds r.1.now) × Agree at r.1.now) }
-    ensures taken { IfOk result (λ r. Takes (m.more_conjuncts depth ∷ []) tokens.now r.1.now) }
-    ensures fault { IfErr result (λ e. Stops e (m.more_conjuncts depth ∷ []) tokens.now) }
+    ensures places { IfOk result (λ r. (at : ℕ → Token) → Agree at tokens.now → (c : Conjunct)
+        → ConjunctAt at c (kinds tokens.now)
+        → AssertionAt at (conjuncts c (map conjunct_of r.0.items)) (kinds r.1.now)
+        × Agree at r.1.now) }
+    ensures taken { IfOk result (λ r. Accepts (m.more_conjuncts depth ∷ []) tokens.now r.1.now) }
+    ensures fault { IfErr result (λ e. FailsAt e (m.more_conjuncts depth ∷ []) tokens.now) }
 {
     let mut found = Vec::new(alloc);
     let mut rest = tokens;
@@ -96,8 +103,8 @@ fn conjunct(
     ensures within { IfOk result (λ r. ConjunctWithin (conjunct_of r.0) 0 depth (kinds r.1.now)) }
     ensures ended { IfOk result (λ r. Ends (conjunct_of r.0) (kinds r.1.now)) }
     ensures places { IfOk result (λ r. Placed (λ at b. ConjunctAt at (conjunct_of r.0) b) tokens.now r.1.now) }
-    ensures taken { IfOk result (λ r. Takes (m.conjunct depth ∷ []) tokens.now r.1.now) }
-    ensures fault { IfErr result (λ e. Stops e (m.conjunct depth ∷ []) tokens.now) }
+    ensures taken { IfOk result (λ r. Accepts (m.conjunct depth ∷ []) tokens.now r.1.now) }
+    ensures fault { IfErr result (λ e. FailsAt e (m.conjunct depth ∷ []) tokens.now) }
 {
     if let Some((left, rest)) = eat_operand(tokens) {
         return relation(alloc, left, rest);
@@ -113,7 +120,7 @@ fn conjunct(
     predicate(tokens)
 }
 
-/// What stands behind the `if` of a conjunct, each branch of at most that many levels.
+/// What comes after the `if` of a conjunct, each branch of at most that many levels.
 #[cycle(assertion)]
 #[tactic(auto, using(crate::proofs::Conjuncts::behind))]
 fn choice(
@@ -123,11 +130,14 @@ fn choice(
     tokens: &[Token],
 ) -> Result<(SurfaceConjunct, &[Token]), Stop>
     ensures spelled { IfOk result (λ r. Kind.If ∷ kinds tokens.now ≡ conjunct (conjunct_of r.0) (kinds r.1.now)) }
-    ensures within { IfOk result (λ r. (d : ℕ) → d - 1 ≡ depth → ConjunctWithin (conjunct_of r.0) 0 d (kinds r.1.now)) }
+    ensures within { IfOk result (λ r. (d : ℕ) → d - 1 ≡ depth
+        → ConjunctWithin (conjunct_of r.0) 0 d (kinds r.1.now)) }
     ensures ended { IfOk result (λ r. NotStar (kinds r.1.now)) }
-    ensures places { IfOk result (λ r. (at : ℕ → Token) → Agree at tokens.now → PlaceAt at place (Kind.If ∷ kinds tokens.now) → ConjunctAt at (conjunct_of r.0) (kinds r.1.now) × Agree at r.1.now) }
-    ensures taken { IfOk result (λ r. Takes (m.choice_owed depth) tokens.now r.1.now) }
-    ensures fault { IfErr result (λ e. Stops e (m.choice_owed depth) tokens.now) }
+    ensures places { IfOk result (λ r. (at : ℕ → Token) → Agree at tokens.now
+        → PlaceAt at place (Kind.If ∷ kinds tokens.now)
+        → ConjunctAt at (conjunct_of r.0) (kinds r.1.now) × Agree at r.1.now) }
+    ensures taken { IfOk result (λ r. Accepts (m.choice_predicted depth) tokens.now r.1.now) }
+    ensures fault { IfErr result (λ e. FailsAt e (m.choice_predicted depth) tokens.now) }
 {
     if let Some((_, rest)) = eat(tokens, Kind::OpenRound) {
         let (test, rest) = operand_test(rest)?;
@@ -140,20 +150,27 @@ fn choice(
     Ok((SurfaceConjunct::If(place, test, then, otherwise), rest))
 }
 
-/// The two branches behind a test, each of at most that many levels.
+/// The two branches after a test, each of at most that many levels.
 #[cycle(assertion)]
 fn branches(
     alloc: Global,
     depth: usize,
     tokens: &[Token],
 ) -> Result<(SurfaceAssertion, SurfaceAssertion, &[Token]), Stop>
-    ensures spelled { IfOk result (λ r. kinds tokens.now ≡ Kind.Then ∷ assertion (assertion_of r.0) (Kind.Else ∷ assertion (assertion_of r.1) (kinds r.2.now))) }
-    ensures first_within { IfOk result (λ r. AssertionWithin (assertion_of r.0) 0 depth (Kind.Else ∷ assertion (assertion_of r.1) (kinds r.2.now))) }
+    ensures spelled { IfOk result (λ r. kinds tokens.now ≡ Kind.Then
+        ∷ assertion (assertion_of r.0) (Kind.Else
+        ∷ assertion (assertion_of r.1) (kinds r.2.now))) }
+    ensures first_within { IfOk result (λ r.
+        AssertionWithin (assertion_of r.0) 0 depth (Kind.Else
+        ∷ assertion (assertion_of r.1) (kinds r.2.now))) }
     ensures second_within { IfOk result (λ r. AssertionWithin (assertion_of r.1) 0 depth (kinds r.2.now)) }
     ensures ended { IfOk result (λ r. NotStar (kinds r.2.now)) }
-    ensures places { IfOk result (λ r. Placed (λ at b. AssertionAt at (assertion_of r.0) (Kind.Else ∷ assertion (assertion_of r.1) b) × AssertionAt at (assertion_of r.1) b) tokens.now r.2.now) }
-    ensures taken { IfOk result (λ r. Takes (m.branches_owed depth) tokens.now r.2.now) }
-    ensures fault { IfErr result (λ e. Stops e (m.branches_owed depth) tokens.now) }
+    ensures places { IfOk result (λ r.
+        Placed (λ at b.
+        AssertionAt at (assertion_of r.0) (Kind.Else ∷ assertion (assertion_of r.1) b)
+        × AssertionAt at (assertion_of r.1) b) tokens.now r.2.now) }
+    ensures taken { IfOk result (λ r. Accepts (m.branches_predicted depth) tokens.now r.2.now) }
+    ensures fault { IfErr result (λ e. FailsAt e (m.branches_predicted depth) tokens.now) }
 {
     let (_, rest) = expect(tokens, Kind::Then)?;
     let (then, rest) = assertion(alloc, depth, rest)?;

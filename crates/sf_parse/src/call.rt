@@ -3,13 +3,13 @@
 ghost use Rattle.std.specs.Prelude.{◌≡◌, ◌∷◌, [], Bool, List, false, true, map, IfErr, IfOk, MatchOption};
 ghost use Rattle.sf_ast.specs.View.{arguments_of};
 ghost use Rattle.sf_lex.specs.declared.token.Kind.TheVariants.{CloseRound, Comma};
-ghost use Rattle.sf_parse.specs.Given.{NoMore, all_names, is_name, owed_behind};
+ghost use Rattle.sf_parse.specs.Internal.Given.{NoMore, all_names, is_name, predicted_behind};
 ghost use Rattle.sf_parse.specs.Grammar.{arguments, maybe_exprs, more_exprs};
-ghost use Rattle.sf_parse.specs.Machine as m;
-ghost use Rattle.sf_parse.specs.Machine.{Owed, verdict};
+ghost use Rattle.sf_parse.specs.Internal.Machine as m;
+ghost use Rattle.sf_parse.specs.Internal.Machine.{Predicted, verdict};
 ghost use Rattle.sf_parse.specs.Parsing.{kinds};
 ghost use Rattle.sf_parse.specs.Placed.{ArgumentsAt, MaybeExprsAt, MoreExprsAt};
-ghost use Rattle.sf_parse.specs.Steps.{NotNext, Placed, Stops, Takes};
+ghost use Rattle.sf_parse.specs.Internal.Steps.{NotNext, Placed, FailsAt, Accepts};
 
 use crate::front::{eat, eat_expression};
 use crate::leaf::expect;
@@ -18,16 +18,18 @@ use sf_ast::{SurfaceArguments, SurfaceCall, SurfaceExpr, Word};
 use sf_lex::{Kind, Token};
 use std::alloc::{AllocError, Global};
 
-/// Expressions behind a first one, each behind its comma.
+/// Expressions after a first one, each after its comma.
 #[tactic(auto, using(crate::proofs::Arguments::given))]
 fn more_expressions(alloc: Global, tokens: &[Token]) -> Result<(Vec<SurfaceExpr>, &[Token]), Stop>
     ensures spelled { IfOk result (λ r. kinds tokens.now ≡ more_exprs r.0.items (kinds r.1.now)) }
     ensures places { IfOk result (λ r. Placed (λ at b. MoreExprsAt at r.0.items b) tokens.now r.1.now) }
     ensures ended { IfOk result (λ r. NotNext Comma (kinds r.1.now)) }
-    ensures taken { IfOk result (λ r. Takes (m.more_expressions ∷ []) tokens.now r.1.now) }
-    ensures taken_rest { IfOk result (λ r. (b : Bool) (st : List Owed) → verdict 0 (kinds tokens.now) (m.rest b ∷ st) ≡ verdict 0 (kinds r.1.now) (m.rest (all_names b r.0.items) ∷ st)) }
-    ensures fault { IfErr result (λ e. Stops e (m.more_expressions ∷ []) tokens.now) }
-    ensures fault_rest { IfErr result (λ e. (b : Bool) → Stops e (m.rest b ∷ []) tokens.now) }
+    ensures taken { IfOk result (λ r. Accepts (m.more_expressions ∷ []) tokens.now r.1.now) }
+    ensures taken_rest { IfOk result (λ r. (b : Bool) (st : List Predicted)
+        → verdict 0 (kinds tokens.now) (m.rest b ∷ st)
+        ≡ verdict 0 (kinds r.1.now) (m.rest (all_names b r.0.items) ∷ st)) }
+    ensures fault { IfErr result (λ e. FailsAt e (m.more_expressions ∷ []) tokens.now) }
+    ensures fault_rest { IfErr result (λ e. (b : Bool) → FailsAt e (m.rest b ∷ []) tokens.now) }
 {
     let mut found = Vec::new(alloc);
     let mut rest = tokens;
@@ -47,10 +49,12 @@ fn maybe_expressions(alloc: Global, tokens: &[Token]) -> Result<(Vec<SurfaceExpr
     ensures spelled { IfOk result (λ r. kinds tokens.now ≡ maybe_exprs r.0.items (kinds r.1.now)) }
     ensures places { IfOk result (λ r. Placed (λ at b. MaybeExprsAt at r.0.items b) tokens.now r.1.now) }
     ensures ended { IfOk result (λ r. NoMore r.0.items (kinds r.1.now)) }
-    ensures taken { IfOk result (λ r. Takes (m.maybe_expressions ∷ []) tokens.now r.1.now) }
-    ensures taken_arguments { IfOk result (λ r. (st : List Owed) → verdict 0 (kinds tokens.now) (m.maybe_arguments ∷ st) ≡ verdict 0 (kinds r.1.now) (owed_behind r.0.items ∷ st)) }
-    ensures fault { IfErr result (λ e. Stops e (m.maybe_expressions ∷ []) tokens.now) }
-    ensures fault_arguments { IfErr result (λ e. Stops e (m.maybe_arguments ∷ []) tokens.now) }
+    ensures taken { IfOk result (λ r. Accepts (m.maybe_expressions ∷ []) tokens.now r.1.now) }
+    ensures taken_arguments { IfOk result (λ r. (st : List Predicted)
+        → verdict 0 (kinds tokens.now) (m.maybe_arguments ∷ st)
+        ≡ verdict 0 (kinds r.1.now) (predicted_behind r.0.items ∷ st)) }
+    ensures fault { IfErr result (λ e. FailsAt e (m.maybe_expressions ∷ []) tokens.now) }
+    ensures fault_arguments { IfErr result (λ e. FailsAt e (m.maybe_arguments ∷ []) tokens.now) }
 {
     let Some((first, rest)) = eat_expression(tokens) else {
         return Ok((Vec::new(alloc), tokens));
@@ -73,8 +77,12 @@ fn name_of(value: &SurfaceExpr) -> Option<Word>
 /// The names that expressions are, if all are names.
 #[tactic(auto, using(crate::proofs::Arguments::given))]
 fn names_of(alloc: Global, values: &[SurfaceExpr]) -> Result<Option<Vec<Word>>, AllocError>
-    ensures names { IfOk result (λ o. MatchOption o (all_names true values.now ≡ false) (λ ns. values.now ≡ map SurfaceExpr.Name ns.items)) }
-    ensures all { IfOk result (λ o. MatchOption o (all_names true values.now ≡ false) (λ ns. all_names true values.now ≡ true)) }
+    ensures names { IfOk result (λ o.
+        MatchOption o (all_names true values.now ≡ false) (λ ns. values.now
+        ≡ map SurfaceExpr.Name ns.items)) }
+    ensures all { IfOk result (λ o.
+        MatchOption o (all_names true values.now ≡ false) (λ ns. all_names true values.now
+        ≡ true)) }
 {
     let mut names = Vec::new(alloc);
     for value in values {
@@ -91,8 +99,8 @@ fn names_of(alloc: Global, values: &[SurfaceExpr]) -> Result<Option<Vec<Word>>, 
 fn arguments(alloc: Global, tokens: &[Token]) -> Result<(SurfaceArguments, &[Token]), Stop>
     ensures spelled { IfOk result (λ r. kinds tokens.now ≡ arguments (arguments_of r.0) (kinds r.1.now)) }
     ensures places { IfOk result (λ r. Placed (λ at b. ArgumentsAt at (arguments_of r.0) b) tokens.now r.1.now) }
-    ensures taken { IfOk result (λ r. Takes (m.maybe_arguments ∷ []) tokens.now r.1.now) }
-    ensures fault { IfErr result (λ e. Stops e (m.maybe_arguments ∷ []) tokens.now) }
+    ensures taken { IfOk result (λ r. Accepts (m.maybe_arguments ∷ []) tokens.now r.1.now) }
+    ensures fault { IfErr result (λ e. FailsAt e (m.maybe_arguments ∷ []) tokens.now) }
 {
     let (given, rest) = maybe_expressions(alloc, tokens)?;
     let Some((_, after)) = eat(rest, Kind::Semicolon) else {
@@ -105,13 +113,17 @@ fn arguments(alloc: Global, tokens: &[Token]) -> Result<(SurfaceArguments, &[Tok
     Ok((SurfaceArguments::Both(names, values), after))
 }
 
-/// A call behind its `(`.
+/// A call after its `(`.
 pub fn call(alloc: Global, name: Word, tokens: &[Token]) -> Result<(SurfaceCall, &[Token]), Stop>
     ensures name { IfOk result (λ r. r.0.name ≡ name) }
-    ensures spelled { IfOk result (λ r. kinds tokens.now ≡ arguments (arguments_of r.0.arguments) (CloseRound ∷ kinds r.1.now)) }
-    ensures places { IfOk result (λ r. Placed (λ at b. ArgumentsAt at (arguments_of r.0.arguments) (CloseRound ∷ b)) tokens.now r.1.now) }
-    ensures taken { IfOk result (λ r. Takes (m.maybe_arguments ∷ m.exact m.close_round ∷ []) tokens.now r.1.now) }
-    ensures fault { IfErr result (λ e. Stops e (m.maybe_arguments ∷ m.exact m.close_round ∷ []) tokens.now) }
+    ensures spelled { IfOk result (λ r. kinds tokens.now
+        ≡ arguments (arguments_of r.0.arguments) (CloseRound ∷ kinds r.1.now)) }
+    ensures places { IfOk result (λ r.
+        Placed (λ at b.
+        ArgumentsAt at (arguments_of r.0.arguments) (CloseRound ∷ b)) tokens.now r.1.now) }
+    ensures taken { IfOk result (λ r.
+        Accepts (m.maybe_arguments ∷ m.exact m.close_round ∷ []) tokens.now r.1.now) }
+    ensures fault { IfErr result (λ e. FailsAt e (m.maybe_arguments ∷ m.exact m.close_round ∷ []) tokens.now) }
 {
     let (arguments, rest) = arguments(alloc, tokens)?;
     let (_, rest) = expect(rest, Kind::CloseRound)?;

@@ -2,22 +2,22 @@
 
 ghost use Rattle.std.specs.Prelude.{◌≡◌, ◌<◌, ◌-◌, ◌∷◌, [], false, map, IfErr, IfOk};
 ghost use Rattle.sf_ast.specs.Surface as s;
-ghost use Rattle.sf_ast.specs.View.{command_of, commands, note_of};
+ghost use Rattle.sf_ast.specs.View.{command_of, commands, annotation_of};
 ghost use Rattle.sf_lex.specs.declared.token.Kind.TheVariants as k;
 ghost use Rattle.sf_parse.specs.Grammar as g;
 ghost use Rattle.sf_parse.specs.Grammar.{command, expr};
-ghost use Rattle.sf_parse.specs.Heads.{IsFlat, PlacedBehind, command_next};
-ghost use Rattle.sf_parse.specs.Machine as m;
+ghost use Rattle.sf_parse.specs.Internal.Heads.{IsFlat, PlacedBehind, command_next};
+ghost use Rattle.sf_parse.specs.Internal.Machine as m;
 ghost use Rattle.sf_parse.specs.Nesting.{CommandWithin, CommandsWithin, Follows};
 ghost use Rattle.sf_parse.specs.Parsing.{kinds};
 ghost use Rattle.sf_parse.specs.Placed.{CommandAt, CommandsAt, ExprAt, PlaceAt, TestAt};
-ghost use Rattle.sf_parse.specs.Steps.{Placed, Stops, Takes};
+ghost use Rattle.sf_parse.specs.Internal.Steps.{Placed, FailsAt, Accepts};
 ghost use Rattle.std.specs.Option.{option_map};
 
+use crate::annotation::maybe_annotation;
 use crate::condition::test;
 use crate::front::{eat, eat_expression, eat_word};
 use crate::leaf::{expect, name};
-use crate::note::maybe_note;
 use crate::plain::{disposed, mutated, named};
 use crate::stop::Stop;
 use sf_ast::{SurfaceCommand, SurfaceExpr, SurfaceNote, SurfaceTest, Word};
@@ -49,7 +49,7 @@ fn begins_command(tokens: &[Token]) -> bool
 /// Why there is no command where no level is left.
 #[tactic(auto, using(crate::proofs::Levels::levels))]
 fn no_level(tokens: &[Token]) -> Stop
-    ensures { Stops result (m.command 0 ∷ []) tokens.now }
+    ensures { FailsAt result (m.command 0 ∷ []) tokens.now }
 {
     if begins_command(tokens) {
         Stop::TooDeep(tokens.len())
@@ -60,10 +60,14 @@ fn no_level(tokens: &[Token]) -> Stop
 
 /// `( B )`
 fn round_test(tokens: &[Token]) -> Result<(SurfaceTest<SurfaceExpr>, &[Token]), Stop>
-    ensures spelled { IfOk result (λ r. kinds tokens.now ≡ k.OpenRound ∷ g.test expr r.0 (k.CloseRound ∷ kinds r.1.now)) }
-    ensures places { IfOk result (λ r. Placed (λ at b. TestAt at expr (ExprAt at) r.0 (k.CloseRound ∷ b)) tokens.now r.1.now) }
-    ensures taken { IfOk result (λ r. Takes (m.exact m.open_round ∷ m.test ∷ m.exact m.close_round ∷ []) tokens.now r.1.now) }
-    ensures fault { IfErr result (λ e. Stops e (m.exact m.open_round ∷ m.test ∷ m.exact m.close_round ∷ []) tokens.now) }
+    ensures spelled { IfOk result (λ r. kinds tokens.now ≡ k.OpenRound
+        ∷ g.test expr r.0 (k.CloseRound ∷ kinds r.1.now)) }
+    ensures places { IfOk result (λ r.
+        Placed (λ at b. TestAt at expr (ExprAt at) r.0 (k.CloseRound ∷ b)) tokens.now r.1.now) }
+    ensures taken { IfOk result (λ r.
+        Accepts (m.exact m.open_round ∷ m.test ∷ m.exact m.close_round ∷ []) tokens.now r.1.now) }
+    ensures fault { IfErr result
+        (λ e. FailsAt e (m.exact m.open_round ∷ m.test ∷ m.exact m.close_round ∷ []) tokens.now) }
 {
     let (_, rest) = expect(tokens, Kind::OpenRound)?;
     let (condition, rest) = test(rest)?;
@@ -71,13 +75,15 @@ fn round_test(tokens: &[Token]) -> Result<(SurfaceTest<SurfaceExpr>, &[Token]), 
     Ok((condition, rest))
 }
 
-/// `E -> f = F ;` behind its first expression.
+/// `E -> f = F ;` after its first expression.
 fn value_first(object: SurfaceExpr, tokens: &[Token]) -> Result<(SurfaceCommand, &[Token]), Stop>
     ensures spelled { IfOk result (λ r. expr object ∷ kinds tokens.now ≡ command (command_of r.0) (kinds r.1.now)) }
     ensures flat { IfOk result (λ r. IsFlat (command_of r.0)) }
-    ensures places { IfOk result (λ r. PlacedBehind (λ at b. ExprAt at object b) (λ at b. CommandAt at (command_of r.0) b) tokens.now r.1.now) }
-    ensures taken { IfOk result (λ r. Takes (m.exact m.an_arrow ∷ m.mutated_owed) tokens.now r.1.now) }
-    ensures fault { IfErr result (λ e. Stops e (m.exact m.an_arrow ∷ m.mutated_owed) tokens.now) }
+    ensures places { IfOk result (λ r.
+        PlacedBehind (λ at b. ExprAt at object b)
+        (λ at b. CommandAt at (command_of r.0) b) tokens.now r.1.now) }
+    ensures taken { IfOk result (λ r. Accepts (m.exact m.an_arrow ∷ m.mutated_predicted) tokens.now r.1.now) }
+    ensures fault { IfErr result (λ e. FailsAt e (m.exact m.an_arrow ∷ m.mutated_predicted) tokens.now) }
 {
     let (_, rest) = expect(tokens, Kind::Arrow)?;
     mutated(object, rest)
@@ -104,7 +110,8 @@ fn if_node(
     then: SurfaceCommand,
     otherwise: SurfaceCommand,
 ) -> Result<SurfaceCommand, AllocError>
-    ensures { IfOk result (λ c. command_of c ≡ s.if place condition (command_of then) (command_of otherwise)) }
+    ensures { IfOk result (λ c. command_of c
+        ≡ s.if place condition (command_of then) (command_of otherwise)) }
 {
     let then = Box::new(alloc, then)?;
     let otherwise = Box::new(alloc, otherwise)?;
@@ -119,7 +126,8 @@ fn while_node(
     invariant: Option<SurfaceNote>,
     body: SurfaceCommand,
 ) -> Result<SurfaceCommand, AllocError>
-    ensures { IfOk result (λ c. command_of c ≡ s.while place condition (option_map note_of invariant) (command_of body)) }
+    ensures { IfOk result (λ c. command_of c
+        ≡ s.while place condition (option_map annotation_of invariant) (command_of body)) }
 {
     let body = Box::new(alloc, body)?;
     Ok(SurfaceCommand::While(place, condition, invariant, body))
@@ -139,7 +147,7 @@ fn with_node(
     Ok(SurfaceCommand::With(place, resource, condition, body))
 }
 
-/// An `if` behind its own word. An `else` belongs to the nearest one.
+/// An `if` after its own word. An `else` belongs to the nearest one.
 #[cycle(nest)]
 #[tactic(auto, using(crate::proofs::Levels::levels))]
 fn if_command(
@@ -152,9 +160,11 @@ fn if_command(
     ensures spelled { IfOk result (λ r. k.If ∷ kinds tokens.now ≡ command (command_of r.0) (kinds r.1.now)) }
     ensures within { IfOk result (λ r. CommandWithin (command_of r.0) 0 depth (kinds r.1.now)) }
     ensures follows { IfOk result (λ r. Follows (command_of r.0) (kinds r.1.now)) }
-    ensures places { IfOk result (λ r. PlacedBehind (λ at b. PlaceAt at place (k.If ∷ b)) (λ at b. CommandAt at (command_of r.0) b) tokens.now r.1.now) }
-    ensures taken { IfOk result (λ r. Takes (m.if_owed depth) tokens.now r.1.now) }
-    ensures fault { IfErr result (λ e. Stops e (m.if_owed depth) tokens.now) }
+    ensures places { IfOk result (λ r.
+        PlacedBehind (λ at b. PlaceAt at place (k.If ∷ b))
+        (λ at b. CommandAt at (command_of r.0) b) tokens.now r.1.now) }
+    ensures taken { IfOk result (λ r. Accepts (m.if_predicted depth) tokens.now r.1.now) }
+    ensures fault { IfErr result (λ e. FailsAt e (m.if_predicted depth) tokens.now) }
 {
     let (condition, rest) = round_test(tokens)?;
     let (then, rest) = command(alloc, depth - 1, rest)?;
@@ -165,7 +175,7 @@ fn if_command(
     Ok((if_node(alloc, place, condition, then, otherwise)?, after))
 }
 
-/// A `while` behind its own word.
+/// A `while` after its own word.
 #[cycle(nest)]
 #[tactic(auto, using(crate::proofs::Levels::levels))]
 fn while_command(
@@ -178,17 +188,19 @@ fn while_command(
     ensures spelled { IfOk result (λ r. k.While ∷ kinds tokens.now ≡ command (command_of r.0) (kinds r.1.now)) }
     ensures within { IfOk result (λ r. CommandWithin (command_of r.0) 0 depth (kinds r.1.now)) }
     ensures follows { IfOk result (λ r. Follows (command_of r.0) (kinds r.1.now)) }
-    ensures places { IfOk result (λ r. PlacedBehind (λ at b. PlaceAt at place (k.While ∷ b)) (λ at b. CommandAt at (command_of r.0) b) tokens.now r.1.now) }
-    ensures taken { IfOk result (λ r. Takes (m.while_owed depth) tokens.now r.1.now) }
-    ensures fault { IfErr result (λ e. Stops e (m.while_owed depth) tokens.now) }
+    ensures places { IfOk result (λ r.
+        PlacedBehind (λ at b. PlaceAt at place (k.While ∷ b))
+        (λ at b. CommandAt at (command_of r.0) b) tokens.now r.1.now) }
+    ensures taken { IfOk result (λ r. Accepts (m.while_predicted depth) tokens.now r.1.now) }
+    ensures fault { IfErr result (λ e. FailsAt e (m.while_predicted depth) tokens.now) }
 {
     let (condition, rest) = round_test(tokens)?;
-    let (invariant, rest) = maybe_note(alloc, rest)?;
+    let (invariant, rest) = maybe_annotation(alloc, rest)?;
     let (body, rest) = command(alloc, depth - 1, rest)?;
     Ok((while_node(alloc, place, condition, invariant, body)?, rest))
 }
 
-/// A `with` behind its own word.
+/// A `with` after its own word.
 #[cycle(nest)]
 #[tactic(auto, using(crate::proofs::Levels::levels))]
 fn with_command(
@@ -201,9 +213,11 @@ fn with_command(
     ensures spelled { IfOk result (λ r. k.With ∷ kinds tokens.now ≡ command (command_of r.0) (kinds r.1.now)) }
     ensures within { IfOk result (λ r. CommandWithin (command_of r.0) 0 depth (kinds r.1.now)) }
     ensures follows { IfOk result (λ r. Follows (command_of r.0) (kinds r.1.now)) }
-    ensures places { IfOk result (λ r. PlacedBehind (λ at b. PlaceAt at place (k.With ∷ b)) (λ at b. CommandAt at (command_of r.0) b) tokens.now r.1.now) }
-    ensures taken { IfOk result (λ r. Takes (m.with_owed depth) tokens.now r.1.now) }
-    ensures fault { IfErr result (λ e. Stops e (m.with_owed depth) tokens.now) }
+    ensures places { IfOk result (λ r.
+        PlacedBehind (λ at b. PlaceAt at place (k.With ∷ b))
+        (λ at b. CommandAt at (command_of r.0) b) tokens.now r.1.now) }
+    ensures taken { IfOk result (λ r. Accepts (m.with_predicted depth) tokens.now r.1.now) }
+    ensures fault { IfErr result (λ e. FailsAt e (m.with_predicted depth) tokens.now) }
 {
     let (resource, rest) = name(tokens)?;
     let (_, rest) = expect(rest, Kind::When)?;
@@ -212,7 +226,7 @@ fn with_command(
     Ok((with_node(alloc, place, resource, condition, body)?, rest))
 }
 
-/// A block behind its `{`.
+/// A block after its `{`.
 #[cycle(nest)]
 #[tactic(auto, using(crate::proofs::Levels::levels))]
 fn block(
@@ -225,9 +239,13 @@ fn block(
     ensures spelled { IfOk result (λ r. k.OpenBrace ∷ kinds tokens.now ≡ command (command_of r.0) (kinds r.1.now)) }
     ensures within { IfOk result (λ r. CommandWithin (command_of r.0) 0 depth (kinds r.1.now)) }
     ensures follows { IfOk result (λ r. Follows (command_of r.0) (kinds r.1.now)) }
-    ensures places { IfOk result (λ r. PlacedBehind (λ at b. PlaceAt at place (k.OpenBrace ∷ b)) (λ at b. CommandAt at (command_of r.0) b) tokens.now r.1.now) }
-    ensures taken { IfOk result (λ r. Takes (m.commands (depth - 1) ∷ m.exact m.close_brace ∷ []) tokens.now r.1.now) }
-    ensures fault { IfErr result (λ e. Stops e (m.commands (depth - 1) ∷ m.exact m.close_brace ∷ []) tokens.now) }
+    ensures places { IfOk result (λ r.
+        PlacedBehind (λ at b. PlaceAt at place (k.OpenBrace ∷ b))
+        (λ at b. CommandAt at (command_of r.0) b) tokens.now r.1.now) }
+    ensures taken { IfOk result (λ r.
+        Accepts (m.commands (depth - 1) ∷ m.exact m.close_brace ∷ []) tokens.now r.1.now) }
+    ensures fault { IfErr result
+        (λ e. FailsAt e (m.commands (depth - 1) ∷ m.exact m.close_brace ∷ []) tokens.now) }
 {
     let (inner, rest) = commands(alloc, depth - 1, tokens)?;
     let (_, rest) = expect(rest, Kind::CloseBrace)?;
@@ -246,8 +264,8 @@ fn command(
     ensures within { IfOk result (λ r. CommandWithin (command_of r.0) 0 depth (kinds r.1.now)) }
     ensures follows { IfOk result (λ r. Follows (command_of r.0) (kinds r.1.now)) }
     ensures places { IfOk result (λ r. Placed (λ at b. CommandAt at (command_of r.0) b) tokens.now r.1.now) }
-    ensures taken { IfOk result (λ r. Takes (m.command depth ∷ []) tokens.now r.1.now) }
-    ensures fault { IfErr result (λ e. Stops e (m.command depth ∷ []) tokens.now) }
+    ensures taken { IfOk result (λ r. Accepts (m.command depth ∷ []) tokens.now r.1.now) }
+    ensures fault { IfErr result (λ e. FailsAt e (m.command depth ∷ []) tokens.now) }
 {
     if depth == 0 {
         return Err(no_level(tokens));
@@ -284,12 +302,16 @@ pub fn commands(
     depth: usize,
     tokens: &[Token],
 ) -> Result<(Vec<SurfaceCommand>, &[Token]), Stop>
-    ensures spelled { IfOk result (λ r. kinds tokens.now ≡ g.commands (commands (map command_of r.0.items)) (kinds r.1.now)) }
-    ensures within { IfOk result (λ r. CommandsWithin (commands (map command_of r.0.items)) 0 depth (kinds r.1.now)) }
+    ensures spelled { IfOk result (λ r. kinds tokens.now
+        ≡ g.commands (commands (map command_of r.0.items)) (kinds r.1.now)) }
+    ensures within { IfOk result (λ r.
+        CommandsWithin (commands (map command_of r.0.items)) 0 depth (kinds r.1.now)) }
     ensures ended { IfOk result (λ r. command_next (kinds r.1.now) ≡ false) }
-    ensures places { IfOk result (λ r. Placed (λ at b. CommandsAt at (commands (map command_of r.0.items)) b) tokens.now r.1.now) }
-    ensures taken { IfOk result (λ r. Takes (m.commands depth ∷ []) tokens.now r.1.now) }
-    ensures fault { IfErr result (λ e. Stops e (m.commands depth ∷ []) tokens.now) }
+    ensures places { IfOk result (λ r.
+        Placed (λ at b.
+        CommandsAt at (commands (map command_of r.0.items)) b) tokens.now r.1.now) }
+    ensures taken { IfOk result (λ r. Accepts (m.commands depth ∷ []) tokens.now r.1.now) }
+    ensures fault { IfErr result (λ e. FailsAt e (m.commands depth ∷ []) tokens.now) }
 {
     let mut found = Vec::new(alloc);
     let mut rest = tokens;

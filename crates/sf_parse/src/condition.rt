@@ -2,10 +2,10 @@
 
 ghost use Rattle.std.specs.Prelude.{◌≡◌, ◌∷◌, [], IfErr, IfOk};
 ghost use Rattle.sf_parse.specs.Grammar.{expr, operand, test};
-ghost use Rattle.sf_parse.specs.Machine as m;
+ghost use Rattle.sf_parse.specs.Internal.Machine as m;
 ghost use Rattle.sf_parse.specs.Parsing.{kinds};
 ghost use Rattle.sf_parse.specs.Placed.{ExprAt, OperandAt, TestAt};
-ghost use Rattle.sf_parse.specs.Steps.{Placed, Stops, Takes};
+ghost use Rattle.sf_parse.specs.Internal.Steps.{Placed, FailsAt, Accepts};
 
 use crate::front::eat;
 use crate::leaf::{expression, operand};
@@ -18,8 +18,8 @@ use sf_lex::{Kind, Token};
 pub fn test(tokens: &[Token]) -> Result<(SurfaceTest<SurfaceExpr>, &[Token]), Stop>
     ensures spelled { IfOk result (λ r. kinds tokens.now ≡ test expr r.0 (kinds r.1.now)) }
     ensures places { IfOk result (λ r. Placed (λ at b. TestAt at expr (ExprAt at) r.0 b) tokens.now r.1.now) }
-    ensures taken { IfOk result (λ r. Takes (m.test ∷ []) tokens.now r.1.now) }
-    ensures fault { IfErr result (λ e. Stops e (m.test ∷ []) tokens.now) }
+    ensures taken { IfOk result (λ r. Accepts (m.test ∷ []) tokens.now r.1.now) }
+    ensures fault { IfErr result (λ e. FailsAt e (m.test ∷ []) tokens.now) }
 {
     if let Some((place, rest)) = eat(tokens, Kind::True) {
         return Ok((SurfaceTest::True(place), rest));
@@ -40,9 +40,10 @@ pub fn test(tokens: &[Token]) -> Result<(SurfaceTest<SurfaceExpr>, &[Token]), St
 #[tactic(auto, using(crate::proofs::Choices::choices))]
 pub fn operand_test(tokens: &[Token]) -> Result<(SurfaceTest<SurfaceOperand>, &[Token]), Stop>
     ensures spelled { IfOk result (λ r. kinds tokens.now ≡ test operand r.0 (kinds r.1.now)) }
-    ensures places { IfOk result (λ r. Placed (λ at b. TestAt at operand (OperandAt at) r.0 b) tokens.now r.1.now) }
-    ensures taken { IfOk result (λ r. Takes (m.operand_test ∷ []) tokens.now r.1.now) }
-    ensures fault { IfErr result (λ e. Stops e (m.operand_test ∷ []) tokens.now) }
+    ensures places { IfOk result (λ r.
+        Placed (λ at b. TestAt at operand (OperandAt at) r.0 b) tokens.now r.1.now) }
+    ensures taken { IfOk result (λ r. Accepts (m.operand_test ∷ []) tokens.now r.1.now) }
+    ensures fault { IfErr result (λ e. FailsAt e (m.operand_test ∷ []) tokens.now) }
 {
     if let Some((place, rest)) = eat(tokens, Kind::True) {
         return Ok((SurfaceTest::True(place), rest));

@@ -4,11 +4,11 @@ ghost use Rattle.std.specs.Prelude.{◌≡◌, ◌∷◌, ℕ, [], false, IfErr,
 ghost use Rattle.sf_ast.specs.View.{conjunct_of};
 ghost use Rattle.sf_lex.specs.declared.token.Token.{Token};
 ghost use Rattle.sf_parse.specs.Grammar.{conjunct, operand};
-ghost use Rattle.sf_parse.specs.Heads.{IsFlatConjunct};
-ghost use Rattle.sf_parse.specs.Machine as m;
+ghost use Rattle.sf_parse.specs.Internal.Heads.{IsFlatConjunct};
+ghost use Rattle.sf_parse.specs.Internal.Machine as m;
 ghost use Rattle.sf_parse.specs.Parsing.{kinds};
 ghost use Rattle.sf_parse.specs.Placed.{ConjunctAt, OperandAt};
-ghost use Rattle.sf_parse.specs.Steps.{Agree, NotNext, Placed, Stops, Takes, operand_next};
+ghost use Rattle.sf_parse.specs.Internal.Steps.{Agree, NotNext, Placed, FailsAt, Accepts, operand_next};
 
 use crate::fields::maybe_fields;
 use crate::front::eat;
@@ -20,10 +20,16 @@ use std::alloc::Global;
 
 /// `( E )`
 fn one_operand(tokens: &[Token]) -> Result<(SurfaceOperand, &[Token]), Stop>
-    ensures spelled { IfOk result (λ r. kinds tokens.now ≡ Kind.OpenRound ∷ operand r.0 ∷ Kind.CloseRound ∷ kinds r.1.now) }
-    ensures places { IfOk result (λ r. Placed (λ at b. OperandAt at r.0 (Kind.CloseRound ∷ b)) tokens.now r.1.now) }
-    ensures taken { IfOk result (λ r. Takes (m.exact m.open_round ∷ m.operand ∷ m.exact m.close_round ∷ []) tokens.now r.1.now) }
-    ensures fault { IfErr result (λ e. Stops e (m.exact m.open_round ∷ m.operand ∷ m.exact m.close_round ∷ []) tokens.now) }
+    ensures spelled { IfOk result (λ r. kinds tokens.now ≡ Kind.OpenRound ∷ operand r.0 ∷ Kind.CloseRound
+        ∷ kinds r.1.now) }
+    ensures places { IfOk result (λ r.
+        Placed (λ at b. OperandAt at r.0 (Kind.CloseRound ∷ b)) tokens.now r.1.now) }
+    ensures taken { IfOk result (λ r.
+        Accepts (m.exact m.open_round ∷ m.operand ∷ m.exact m.close_round
+        ∷ []) tokens.now r.1.now) }
+    ensures fault { IfErr result
+        (λ e. FailsAt e (m.exact m.open_round ∷ m.operand ∷ m.exact m.close_round
+        ∷ []) tokens.now) }
 {
     let (_, rest) = expect(tokens, Kind::OpenRound)?;
     let (value, rest) = operand(rest)?;
@@ -33,10 +39,13 @@ fn one_operand(tokens: &[Token]) -> Result<(SurfaceOperand, &[Token]), Stop>
 
 /// `( E , F )`
 fn two_operands(tokens: &[Token]) -> Result<(SurfaceOperand, SurfaceOperand, &[Token]), Stop>
-    ensures spelled { IfOk result (λ r. kinds tokens.now ≡ Kind.OpenRound ∷ operand r.0 ∷ Kind.Comma ∷ operand r.1 ∷ Kind.CloseRound ∷ kinds r.2.now) }
-    ensures places { IfOk result (λ r. Placed (λ at b. OperandAt at r.0 (Kind.Comma ∷ operand r.1 ∷ Kind.CloseRound ∷ b) × OperandAt at r.1 (Kind.CloseRound ∷ b)) tokens.now r.2.now) }
-    ensures taken { IfOk result (λ r. Takes m.pair_owed tokens.now r.2.now) }
-    ensures fault { IfErr result (λ e. Stops e m.pair_owed tokens.now) }
+    ensures spelled { IfOk result (λ r. kinds tokens.now ≡ Kind.OpenRound ∷ operand r.0 ∷ Kind.Comma
+        ∷ operand r.1 ∷ Kind.CloseRound ∷ kinds r.2.now) }
+    ensures places { IfOk result (λ r.
+        Placed (λ at b. OperandAt at r.0 (Kind.Comma ∷ operand r.1 ∷ Kind.CloseRound ∷ b)
+        × OperandAt at r.1 (Kind.CloseRound ∷ b)) tokens.now r.2.now) }
+    ensures taken { IfOk result (λ r. Accepts m.pair_predicted tokens.now r.2.now) }
+    ensures fault { IfErr result (λ e. FailsAt e m.pair_predicted tokens.now) }
 {
     let (_, rest) = expect(tokens, Kind::OpenRound)?;
     let (from, rest) = operand(rest)?;
@@ -46,18 +55,21 @@ fn two_operands(tokens: &[Token]) -> Result<(SurfaceOperand, SurfaceOperand, &[T
     Ok((from, to, rest))
 }
 
-/// What stands behind the operand that begins a conjunct.
+/// What comes after the operand that begins a conjunct.
 #[tactic(auto, using(crate::proofs::Choices::choices))]
 pub fn relation(
     alloc: Global,
     left: SurfaceOperand,
     tokens: &[Token],
 ) -> Result<(SurfaceConjunct, &[Token]), Stop>
-    ensures spelled { IfOk result (λ r. operand left ∷ kinds tokens.now ≡ conjunct (conjunct_of r.0) (kinds r.1.now)) }
+    ensures spelled { IfOk result (λ r. operand left ∷ kinds tokens.now
+        ≡ conjunct (conjunct_of r.0) (kinds r.1.now)) }
     ensures flat { IfOk result (λ r. IsFlatConjunct (conjunct_of r.0)) }
-    ensures places { IfOk result (λ r. (at : ℕ → Token) → Agree at tokens.now → OperandAt at left (kinds tokens.now) → ConjunctAt at (conjunct_of r.0) (kinds r.1.now) × Agree at r.1.now) }
-    ensures taken { IfOk result (λ r. Takes (m.relation ∷ []) tokens.now r.1.now) }
-    ensures fault { IfErr result (λ e. Stops e (m.relation ∷ []) tokens.now) }
+    ensures places { IfOk result (λ r. (at : ℕ → Token) → Agree at tokens.now
+        → OperandAt at left (kinds tokens.now)
+        → ConjunctAt at (conjunct_of r.0) (kinds r.1.now) × Agree at r.1.now) }
+    ensures taken { IfOk result (λ r. Accepts (m.relation ∷ []) tokens.now r.1.now) }
+    ensures fault { IfErr result (λ e. FailsAt e (m.relation ∷ []) tokens.now) }
 {
     if let Some((_, rest)) = eat(tokens, Kind::EqualEqual) {
         let (right, rest) = operand(rest)?;
@@ -83,8 +95,8 @@ pub fn predicate(tokens: &[Token]) -> Result<(SurfaceConjunct, &[Token]), Stop>
     ensures spelled { IfOk result (λ r. kinds tokens.now ≡ conjunct (conjunct_of r.0) (kinds r.1.now)) }
     ensures flat { IfOk result (λ r. IsFlatConjunct (conjunct_of r.0)) }
     ensures places { IfOk result (λ r. Placed (λ at b. ConjunctAt at (conjunct_of r.0) b) tokens.now r.1.now) }
-    ensures taken { IfOk result (λ r. (d : ℕ) → Takes (m.conjunct d ∷ []) tokens.now r.1.now) }
-    ensures fault { IfErr result (λ e. (d : ℕ) → Stops e (m.conjunct d ∷ []) tokens.now) }
+    ensures taken { IfOk result (λ r. (d : ℕ) → Accepts (m.conjunct d ∷ []) tokens.now r.1.now) }
+    ensures fault { IfErr result (λ e. (d : ℕ) → FailsAt e (m.conjunct d ∷ []) tokens.now) }
 {
     if let Some((place, rest)) = eat(tokens, Kind::Emp) {
         return Ok((SurfaceConjunct::Emp(place), rest));

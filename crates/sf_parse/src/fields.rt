@@ -2,10 +2,10 @@
 
 ghost use Rattle.std.specs.Prelude.{◌≡◌, ◌∷◌, [], IfErr, IfOk};
 ghost use Rattle.sf_parse.specs.Grammar.{field, maybe_fields, more_fields};
-ghost use Rattle.sf_parse.specs.Machine as m;
+ghost use Rattle.sf_parse.specs.Internal.Machine as m;
 ghost use Rattle.sf_parse.specs.Parsing.{kinds};
 ghost use Rattle.sf_parse.specs.Placed.{FieldAt, MaybeFieldsAt, MoreFieldsAt};
-ghost use Rattle.sf_parse.specs.Steps.{Placed, Stops, Takes};
+ghost use Rattle.sf_parse.specs.Internal.Steps.{Placed, FailsAt, Accepts};
 
 use crate::front::{eat, eat_word};
 use crate::leaf::{expect, name, operand};
@@ -18,8 +18,10 @@ use std::alloc::Global;
 fn field(tokens: &[Token]) -> Result<(SurfaceField, &[Token]), Stop>
     ensures spelled { IfOk result (λ r. kinds tokens.now ≡ field r.0 (kinds r.1.now)) }
     ensures places { IfOk result (λ r. Placed (λ at b. FieldAt at r.0 b) tokens.now r.1.now) }
-    ensures taken { IfOk result (λ r. Takes (m.exact m.a_name ∷ m.exact m.a_colon ∷ m.operand ∷ []) tokens.now r.1.now) }
-    ensures fault { IfErr result (λ e. Stops e (m.exact m.a_name ∷ m.exact m.a_colon ∷ m.operand ∷ []) tokens.now) }
+    ensures taken { IfOk result (λ r.
+        Accepts (m.exact m.a_name ∷ m.exact m.a_colon ∷ m.operand ∷ []) tokens.now r.1.now) }
+    ensures fault { IfErr result
+        (λ e. FailsAt e (m.exact m.a_name ∷ m.exact m.a_colon ∷ m.operand ∷ []) tokens.now) }
 {
     let (name, rest) = name(tokens)?;
     let (_, rest) = expect(rest, Kind::Colon)?;
@@ -27,13 +29,13 @@ fn field(tokens: &[Token]) -> Result<(SurfaceField, &[Token]), Stop>
     Ok((SurfaceField { name, value }, rest))
 }
 
-/// Fields behind a first one, each behind its comma.
+/// Fields after a first one, each after its comma.
 #[tactic(auto, using(crate::proofs::Choices::choices))]
 fn more_fields(alloc: Global, tokens: &[Token]) -> Result<(Vec<SurfaceField>, &[Token]), Stop>
     ensures spelled { IfOk result (λ r. kinds tokens.now ≡ more_fields r.0.items (kinds r.1.now)) }
     ensures places { IfOk result (λ r. Placed (λ at b. MoreFieldsAt at r.0.items b) tokens.now r.1.now) }
-    ensures taken { IfOk result (λ r. Takes (m.more_fields ∷ []) tokens.now r.1.now) }
-    ensures fault { IfErr result (λ e. Stops e (m.more_fields ∷ []) tokens.now) }
+    ensures taken { IfOk result (λ r. Accepts (m.more_fields ∷ []) tokens.now r.1.now) }
+    ensures fault { IfErr result (λ e. FailsAt e (m.more_fields ∷ []) tokens.now) }
 {
     let mut found = Vec::new(alloc);
     let mut rest = tokens;
@@ -50,8 +52,8 @@ fn more_fields(alloc: Global, tokens: &[Token]) -> Result<(Vec<SurfaceField>, &[
 pub fn maybe_fields(alloc: Global, tokens: &[Token]) -> Result<(Vec<SurfaceField>, &[Token]), Stop>
     ensures spelled { IfOk result (λ r. kinds tokens.now ≡ maybe_fields r.0.items (kinds r.1.now)) }
     ensures places { IfOk result (λ r. Placed (λ at b. MaybeFieldsAt at r.0.items b) tokens.now r.1.now) }
-    ensures taken { IfOk result (λ r. Takes (m.maybe_fields ∷ []) tokens.now r.1.now) }
-    ensures fault { IfErr result (λ e. Stops e (m.maybe_fields ∷ []) tokens.now) }
+    ensures taken { IfOk result (λ r. Accepts (m.maybe_fields ∷ []) tokens.now r.1.now) }
+    ensures fault { IfErr result (λ e. FailsAt e (m.maybe_fields ∷ []) tokens.now) }
 {
     let Some(_) = eat_word(tokens, Kind::Name) else {
         return Ok((Vec::new(alloc), tokens));

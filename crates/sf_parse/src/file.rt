@@ -5,10 +5,10 @@ ghost use Rattle.sf_ast.specs.Surface as s;
 ghost use Rattle.sf_ast.specs.View.{item_of};
 ghost use Rattle.sf_base.specs.declared.limits.TheConstants.{FILE_BYTES};
 ghost use Rattle.sf_lex.specs.Reading.{AreTokens};
-ghost use Rattle.sf_parse.specs.Faults.{place_left};
-ghost use Rattle.sf_parse.specs.Machine as m;
+ghost use Rattle.sf_parse.specs.Internal.Faults.{place_left};
+ghost use Rattle.sf_parse.specs.Internal.Machine as m;
 ghost use Rattle.sf_parse.specs.Parsing.{IsFault, IsFile};
-ghost use Rattle.sf_parse.specs.Steps.{Stops};
+ghost use Rattle.sf_parse.specs.Internal.Steps.{FailsAt};
 
 use crate::fault::ParseFault;
 use crate::item::items;
@@ -18,7 +18,7 @@ use sf_base::Place;
 use sf_lex::{Token, end_place};
 use std::alloc::Global;
 
-/// The place of the token with which so many are left, or that behind the last byte.
+/// The place of the token with which so many are left, or that after the last byte.
 fn place_left(bytes: &[u8], tokens: &[Token], left: usize) -> Place
     requires short { length bytes.now ≤ FILE_BYTES }
     requires within { left ≤ length tokens.now }
@@ -33,7 +33,7 @@ fn place_left(bytes: &[u8], tokens: &[Token], left: usize) -> Place
 /// The fault of a file, where reading stops so.
 fn fault_of(bytes: &[u8], tokens: &[Token], stop: Stop) -> ParseFault
     requires short { length bytes.now ≤ FILE_BYTES }
-    requires stops { Stops stop (m.items ∷ []) tokens.now }
+    requires fails { FailsAt stop (m.items ∷ []) tokens.now }
     ensures { (result ≡ ParseFault.OutOfMemory) ⊎ IsFault bytes.now tokens.now result }
 {
     match stop {
@@ -47,7 +47,8 @@ fn fault_of(bytes: &[u8], tokens: &[Token], stop: Stop) -> ParseFault
 fn read(alloc: Global, bytes: &[u8], tokens: &[Token]) -> Result<File, ParseFault>
     requires { AreTokens bytes.now tokens.now }
     ensures found { IfOk result (λ file. IsFile tokens.now (map item_of file.items.items)) }
-    ensures refused { IfErr result (λ fault. (fault ≡ ParseFault.OutOfMemory) ⊎ IsFault bytes.now tokens.now fault) }
+    ensures refused { IfErr result (λ fault. (fault ≡ ParseFault.OutOfMemory)
+        ⊎ IsFault bytes.now tokens.now fault) }
 {
     match items(alloc, tokens) {
         Ok(items) => Ok(File { items }),
@@ -63,9 +64,13 @@ fn read(alloc: Global, bytes: &[u8], tokens: &[Token]) -> Result<File, ParseFaul
 pub fn parse(alloc: Global, bytes: &[u8], tokens: &[Token]) -> Result<File, ParseFault>
     requires { AreTokens bytes.now tokens.now }
     ensures found { IfOk result (λ file. IsFile tokens.now (map item_of file.items.items)) }
-    ensures refused { IfErr result (λ fault. (fault ≡ ParseFault.OutOfMemory) ⊎ IsFault bytes.now tokens.now fault) }
-    ensures only_found { (tree : List s.Item) → IsFile tokens.now tree → MatchResult result (λ file. map item_of file.items.items ≡ tree) (λ fault. fault ≡ ParseFault.OutOfMemory) }
-    ensures only_refused { (fault : ParseFault) → IsFault bytes.now tokens.now fault → MatchResult result (λ _. ⊥) (λ own. (own ≡ fault) ⊎ (own ≡ ParseFault.OutOfMemory)) }
+    ensures refused { IfErr result (λ fault. (fault ≡ ParseFault.OutOfMemory)
+        ⊎ IsFault bytes.now tokens.now fault) }
+    ensures only_found { (tree : List s.Item) → IsFile tokens.now tree
+        → MatchResult result (λ file. map item_of file.items.items ≡ tree) (λ fault. fault
+        ≡ ParseFault.OutOfMemory) }
+    ensures only_refused { (fault : ParseFault) → IsFault bytes.now tokens.now fault
+        → MatchResult result (λ _. ⊥) (λ own. (own ≡ fault) ⊎ (own ≡ ParseFault.OutOfMemory)) }
 {
     read(alloc, bytes, tokens)
 }

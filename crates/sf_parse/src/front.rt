@@ -1,17 +1,17 @@
-//! What stands in front of the tokens that are left.
+//! What comes before the tokens that are left.
 
 ghost use Rattle.std.specs.Prelude.{◌≡◌, ◌∷◌, false, IfSome, MatchOption};
 ghost use Rattle.sf_parse.specs.Grammar.{expr, operand};
-ghost use Rattle.sf_parse.specs.Heads.{conjunct_next};
+ghost use Rattle.sf_parse.specs.Internal.Heads.{conjunct_next};
 ghost use Rattle.sf_parse.specs.Parsing.{kinds};
 ghost use Rattle.sf_parse.specs.Placed.{ExprAt, OperandAt, PlaceAt, WordAt};
-ghost use Rattle.sf_parse.specs.Steps.{NotNext, Placed, expression_next, operand_next};
+ghost use Rattle.sf_parse.specs.Internal.Steps.{NotNext, Placed, expression_next, operand_next};
 
 use sf_ast::{SurfaceExpr, SurfaceOperand, Word};
 use sf_base::Place;
 use sf_lex::{Kind, Token};
 
-/// Where a token's text stands.
+/// Where a token's text is.
 fn word_of(token: &Token) -> Word
     ensures start { result.start ≡ token.now.start }
     ensures end { result.end ≡ token.now.end }
@@ -24,9 +24,10 @@ fn word_of(token: &Token) -> Word
     }
 }
 
-/// A token of that kind, and the tokens behind it.
+/// A token of that kind, and the tokens after it.
 pub fn eat(tokens: &[Token], kind: Kind) -> Option<(Place, &[Token])>
-    ensures spelled { MatchOption result (NotNext kind (kinds tokens.now)) (λ r. kinds tokens.now ≡ kind ∷ kinds r.1.now) }
+    ensures spelled { MatchOption result (NotNext kind (kinds tokens.now)) (λ r. kinds tokens.now ≡ kind
+        ∷ kinds r.1.now) }
     ensures places { IfSome result (λ r. Placed (λ at b. PlaceAt at r.0 (kind ∷ b)) tokens.now r.1.now) }
 {
     match tokens {
@@ -41,9 +42,10 @@ pub fn eat(tokens: &[Token], kind: Kind) -> Option<(Place, &[Token])>
     }
 }
 
-/// A word of that kind, and the tokens behind it.
+/// A word of that kind, and the tokens after it.
 pub fn eat_word(tokens: &[Token], kind: Kind) -> Option<(Word, &[Token])>
-    ensures spelled { MatchOption result (NotNext kind (kinds tokens.now)) (λ r. kinds tokens.now ≡ kind ∷ kinds r.1.now) }
+    ensures spelled { MatchOption result (NotNext kind (kinds tokens.now)) (λ r. kinds tokens.now ≡ kind
+        ∷ kinds r.1.now) }
     ensures places { IfSome result (λ r. Placed (λ at b. WordAt at r.0 (kind ∷ b)) tokens.now r.1.now) }
 {
     match tokens {
@@ -58,9 +60,10 @@ pub fn eat_word(tokens: &[Token], kind: Kind) -> Option<(Word, &[Token])>
     }
 }
 
-/// An expression, and the tokens behind it.
+/// An expression, and the tokens after it.
 pub fn eat_expression(tokens: &[Token]) -> Option<(SurfaceExpr, &[Token])>
-    ensures spelled { MatchOption result (expression_next (kinds tokens.now) ≡ false) (λ r. kinds tokens.now ≡ expr r.0 ∷ kinds r.1.now) }
+    ensures spelled { MatchOption result (expression_next (kinds tokens.now) ≡ false) (λ r. kinds tokens.now
+        ≡ expr r.0 ∷ kinds r.1.now) }
     ensures places { IfSome result (λ r. Placed (λ at b. ExprAt at r.0 b) tokens.now r.1.now) }
 {
     match tokens {
@@ -75,10 +78,11 @@ pub fn eat_expression(tokens: &[Token]) -> Option<(SurfaceExpr, &[Token])>
     }
 }
 
-/// An operand, and the tokens behind it.
+/// An operand, and the tokens after it.
 #[tactic(auto, using(crate::proofs::Fronts::leaves))]
 pub fn eat_operand(tokens: &[Token]) -> Option<(SurfaceOperand, &[Token])>
-    ensures spelled { MatchOption result (operand_next (kinds tokens.now) ≡ false) (λ r. kinds tokens.now ≡ operand r.0 ∷ kinds r.1.now) }
+    ensures spelled { MatchOption result (operand_next (kinds tokens.now) ≡ false) (λ r. kinds tokens.now
+        ≡ operand r.0 ∷ kinds r.1.now) }
     ensures places { IfSome result (λ r. Placed (λ at b. OperandAt at r.0 b) tokens.now r.1.now) }
 {
     if let Some((known, rest)) = eat_expression(tokens) {

@@ -3,25 +3,25 @@
 ghost use Rattle.std.specs.Prelude.{◌≡◌, ◌<◌, ◌∷◌, [], List, length, map, IfErr, IfOk};
 ghost use Rattle.std.specs.Option.{option_map};
 ghost use Rattle.sf_ast.specs.Surface as s;
-ghost use Rattle.sf_ast.specs.View.{item_of, names_of, note_of, parameters_of};
+ghost use Rattle.sf_ast.specs.View.{item_of, names_of, annotation_of, parameters_of};
 ghost use Rattle.sf_base.specs.declared.limits.TheConstants.{NESTING};
 ghost use Rattle.sf_lex.specs.declared.token.Kind.TheVariants as k;
-ghost use Rattle.sf_parse.specs.Bodies.{BodyAt, BodyWithin, body, procedure_with};
+ghost use Rattle.sf_parse.specs.Internal.Bodies.{BodyAt, BodyWithin, body, procedure_with};
 ghost use Rattle.sf_parse.specs.Grammar as g;
 ghost use Rattle.sf_parse.specs.Grammar.{item};
-ghost use Rattle.sf_parse.specs.Heads.{PlacedBehind};
-ghost use Rattle.sf_parse.specs.Machine as m;
-ghost use Rattle.sf_parse.specs.Machine.{Owed, verdict};
+ghost use Rattle.sf_parse.specs.Internal.Heads.{PlacedBehind};
+ghost use Rattle.sf_parse.specs.Internal.Machine as m;
+ghost use Rattle.sf_parse.specs.Internal.Machine.{Predicted, verdict};
 ghost use Rattle.sf_parse.specs.Nesting.{ItemWithin, ItemsWithin};
 ghost use Rattle.sf_parse.specs.Parsing.{kinds};
 ghost use Rattle.sf_parse.specs.Placed.{ItemAt, ItemsAt, LocalsAt, PlaceAt, WordAt};
-ghost use Rattle.sf_parse.specs.Steps.{Placed, Stops, Takes};
+ghost use Rattle.sf_parse.specs.Internal.Steps.{Placed, FailsAt, Accepts};
 
+use crate::annotation::{annotation, maybe_annotation};
 use crate::command::commands;
 use crate::front::{eat, eat_word};
 use crate::leaf::{expect, name};
 use crate::names::{maybe_names, more_names, names, parameters};
-use crate::note::{maybe_note, note};
 use crate::stop::Stop;
 use sf_ast::{
     Item, SurfaceCommand, SurfaceNames, SurfaceNote, SurfaceParameters, SurfaceProcedure,
@@ -35,13 +35,13 @@ use std::alloc::Global;
 /// A procedure's body, between its braces.
 #[derive(Debug, Drop)]
 pub struct Body {
-    /// Where its opening brace stands.
+    /// Where its opening brace is.
     pub open: Place,
     /// The names of each `local`.
     pub locals: Vec<SurfaceNames>,
-    /// The commands behind them.
+    /// The commands after them.
     pub commands: Vec<SurfaceCommand>,
-    /// Where its closing brace stands.
+    /// Where its closing brace is.
     pub close: Place,
 }
 
@@ -49,9 +49,10 @@ pub struct Body {
 #[tactic(auto, using(crate::proofs::ItemHeads::item_heads))]
 fn locals(alloc: Global, tokens: &[Token]) -> Result<(Vec<SurfaceNames>, &[Token]), Stop>
     ensures spelled { IfOk result (λ r. kinds tokens.now ≡ g.locals (map names_of r.0.items) (kinds r.1.now)) }
-    ensures places { IfOk result (λ r. Placed (λ at b. LocalsAt at (map names_of r.0.items) b) tokens.now r.1.now) }
-    ensures taken { IfOk result (λ r. Takes (m.locals ∷ []) tokens.now r.1.now) }
-    ensures fault { IfErr result (λ e. Stops e (m.locals ∷ []) tokens.now) }
+    ensures places { IfOk result (λ r.
+        Placed (λ at b. LocalsAt at (map names_of r.0.items) b) tokens.now r.1.now) }
+    ensures taken { IfOk result (λ r. Accepts (m.locals ∷ []) tokens.now r.1.now) }
+    ensures fault { IfErr result (λ e. FailsAt e (m.locals ∷ []) tokens.now) }
 {
     let mut found = Vec::new(alloc);
     let mut rest = tokens;
@@ -69,8 +70,12 @@ fn procedure_body(alloc: Global, tokens: &[Token]) -> Result<(Body, &[Token]), S
     ensures spelled { IfOk result (λ r. kinds tokens.now ≡ body r.0 (kinds r.1.now)) }
     ensures within { IfOk result (λ r. BodyWithin r.0 (kinds r.1.now)) }
     ensures places { IfOk result (λ r. Placed (λ at b. BodyAt at r.0 b) tokens.now r.1.now) }
-    ensures taken { IfOk result (λ r. Takes (m.exact m.open_brace ∷ m.locals ∷ m.commands NESTING ∷ m.exact m.close_brace ∷ []) tokens.now r.1.now) }
-    ensures fault { IfErr result (λ e. Stops e (m.exact m.open_brace ∷ m.locals ∷ m.commands NESTING ∷ m.exact m.close_brace ∷ []) tokens.now) }
+    ensures taken { IfOk result (λ r.
+        Accepts (m.exact m.open_brace ∷ m.locals ∷ m.commands NESTING ∷ m.exact m.close_brace
+        ∷ []) tokens.now r.1.now) }
+    ensures fault { IfErr result
+        (λ e. FailsAt e (m.exact m.open_brace ∷ m.locals ∷ m.commands NESTING
+        ∷ m.exact m.close_brace ∷ []) tokens.now) }
 {
     let (open, rest) = expect(tokens, Kind::OpenBrace)?;
     let (locals, rest) = locals(alloc, rest)?;
@@ -95,7 +100,10 @@ fn procedure_of(
     body: Body,
     post: Option<SurfaceNote>,
 ) -> Item
-    ensures { item_of result ≡ s.procedure (procedure_with name (parameters_of parameters) (option_map note_of pre) body (option_map note_of post)) }
+    ensures { item_of result
+        ≡ s.procedure
+        (procedure_with name (parameters_of parameters) (option_map annotation_of pre) body
+        (option_map annotation_of post)) }
 {
     Item::Procedure(SurfaceProcedure {
         name,
@@ -109,48 +117,55 @@ fn procedure_of(
     })
 }
 
-/// A procedure behind its `(`.
+/// A procedure after its `(`.
 fn procedure(alloc: Global, first: Word, tokens: &[Token]) -> Result<(Item, &[Token]), Stop>
-    ensures spelled { IfOk result (λ r. k.Name ∷ k.OpenRound ∷ kinds tokens.now ≡ item (item_of r.0) (kinds r.1.now)) }
+    ensures spelled { IfOk result (λ r. k.Name ∷ k.OpenRound ∷ kinds tokens.now
+        ≡ item (item_of r.0) (kinds r.1.now)) }
     ensures within { IfOk result (λ r. ItemWithin (item_of r.0) 0 (kinds r.1.now)) }
-    ensures places { IfOk result (λ r. PlacedBehind (λ at b. WordAt at first (k.Name ∷ k.OpenRound ∷ b)) (λ at b. ItemAt at (item_of r.0) b) tokens.now r.1.now) }
-    ensures taken { IfOk result (λ r. Takes m.procedure_owed tokens.now r.1.now) }
-    ensures fault { IfErr result (λ e. Stops e m.procedure_owed tokens.now) }
+    ensures places { IfOk result (λ r.
+        PlacedBehind (λ at b. WordAt at first (k.Name ∷ k.OpenRound ∷ b))
+        (λ at b. ItemAt at (item_of r.0) b) tokens.now r.1.now) }
+    ensures taken { IfOk result (λ r. Accepts m.procedure_predicted tokens.now r.1.now) }
+    ensures fault { IfErr result (λ e. FailsAt e m.procedure_predicted tokens.now) }
 {
     let (parameters, rest) = parameters(alloc, tokens)?;
     let (_, rest) = expect(rest, Kind::CloseRound)?;
-    let (pre, rest) = maybe_note(alloc, rest)?;
+    let (pre, rest) = maybe_annotation(alloc, rest)?;
     let (body, rest) = procedure_body(alloc, rest)?;
-    let (post, rest) = maybe_note(alloc, rest)?;
+    let (post, rest) = maybe_annotation(alloc, rest)?;
     Ok((procedure_of(first, parameters, pre, body, post), rest))
 }
 
-/// Fields behind the first one's name.
+/// Fields after the first one's name.
 fn fields(alloc: Global, first: Word, tokens: &[Token]) -> Result<(Item, &[Token]), Stop>
     ensures spelled { IfOk result (λ r. k.Name ∷ kinds tokens.now ≡ item (item_of r.0) (kinds r.1.now)) }
     ensures within { IfOk result (λ r. ItemWithin (item_of r.0) 0 (kinds r.1.now)) }
-    ensures places { IfOk result (λ r. PlacedBehind (λ at b. WordAt at first (k.Name ∷ b)) (λ at b. ItemAt at (item_of r.0) b) tokens.now r.1.now) }
-    ensures taken { IfOk result (λ r. Takes (m.more_names ∷ m.exact m.semicolon ∷ []) tokens.now r.1.now) }
-    ensures fault { IfErr result (λ e. Stops e (m.more_names ∷ m.exact m.semicolon ∷ []) tokens.now) }
+    ensures places { IfOk result (λ r.
+        PlacedBehind (λ at b. WordAt at first (k.Name ∷ b))
+        (λ at b. ItemAt at (item_of r.0) b) tokens.now r.1.now) }
+    ensures taken { IfOk result (λ r. Accepts (m.more_names ∷ m.exact m.semicolon ∷ []) tokens.now r.1.now) }
+    ensures fault { IfErr result (λ e. FailsAt e (m.more_names ∷ m.exact m.semicolon ∷ []) tokens.now) }
 {
     let (more, rest) = more_names(alloc, tokens)?;
     let (_, rest) = expect(rest, Kind::Semicolon)?;
     Ok((Item::Fields(SurfaceNames { first, more }), rest))
 }
 
-/// A resource behind its own word.
+/// A resource after its own word.
 fn resource(alloc: Global, place: Place, tokens: &[Token]) -> Result<(Item, &[Token]), Stop>
     ensures spelled { IfOk result (λ r. k.Resource ∷ kinds tokens.now ≡ item (item_of r.0) (kinds r.1.now)) }
     ensures within { IfOk result (λ r. ItemWithin (item_of r.0) 0 (kinds r.1.now)) }
-    ensures places { IfOk result (λ r. PlacedBehind (λ at b. PlaceAt at place (k.Resource ∷ b)) (λ at b. ItemAt at (item_of r.0) b) tokens.now r.1.now) }
-    ensures taken { IfOk result (λ r. Takes m.resource_owed tokens.now r.1.now) }
-    ensures fault { IfErr result (λ e. Stops e m.resource_owed tokens.now) }
+    ensures places { IfOk result (λ r.
+        PlacedBehind (λ at b. PlaceAt at place (k.Resource ∷ b))
+        (λ at b. ItemAt at (item_of r.0) b) tokens.now r.1.now) }
+    ensures taken { IfOk result (λ r. Accepts m.resource_predicted tokens.now r.1.now) }
+    ensures fault { IfErr result (λ e. FailsAt e m.resource_predicted tokens.now) }
 {
     let (own, rest) = name(tokens)?;
     let (_, rest) = expect(rest, Kind::OpenRound)?;
     let (variables, rest) = maybe_names(alloc, rest)?;
     let (_, rest) = expect(rest, Kind::CloseRound)?;
-    let (invariant, rest) = note(alloc, rest)?;
+    let (invariant, rest) = annotation(alloc, rest)?;
     Ok((
         Item::Resource(SurfaceResource {
             place,
@@ -162,14 +177,16 @@ fn resource(alloc: Global, place: Place, tokens: &[Token]) -> Result<(Item, &[To
     ))
 }
 
-/// Fields or a procedure behind the name that begins it.
+/// Fields or a procedure after the name that begins it.
 #[tactic(auto, using(crate::proofs::ItemHeads::item_heads))]
 fn named_item(alloc: Global, first: Word, tokens: &[Token]) -> Result<(Item, &[Token]), Stop>
     ensures spelled { IfOk result (λ r. k.Name ∷ kinds tokens.now ≡ item (item_of r.0) (kinds r.1.now)) }
     ensures within { IfOk result (λ r. ItemWithin (item_of r.0) 0 (kinds r.1.now)) }
-    ensures places { IfOk result (λ r. PlacedBehind (λ at b. WordAt at first (k.Name ∷ b)) (λ at b. ItemAt at (item_of r.0) b) tokens.now r.1.now) }
-    ensures taken { IfOk result (λ r. Takes (m.item_named ∷ []) tokens.now r.1.now) }
-    ensures fault { IfErr result (λ e. Stops e (m.item_named ∷ []) tokens.now) }
+    ensures places { IfOk result (λ r.
+        PlacedBehind (λ at b. WordAt at first (k.Name ∷ b))
+        (λ at b. ItemAt at (item_of r.0) b) tokens.now r.1.now) }
+    ensures taken { IfOk result (λ r. Accepts (m.item_named ∷ []) tokens.now r.1.now) }
+    ensures fault { IfErr result (λ e. FailsAt e (m.item_named ∷ []) tokens.now) }
 {
     if let Some((_, rest)) = eat(tokens, Kind::OpenRound) {
         return procedure(alloc, first, rest);
@@ -184,8 +201,10 @@ fn item(alloc: Global, tokens: &[Token]) -> Result<(Item, &[Token]), Stop>
     ensures spelled { IfOk result (λ r. kinds tokens.now ≡ item (item_of r.0) (kinds r.1.now)) }
     ensures within { IfOk result (λ r. ItemWithin (item_of r.0) 0 (kinds r.1.now)) }
     ensures places { IfOk result (λ r. Placed (λ at b. ItemAt at (item_of r.0) b) tokens.now r.1.now) }
-    ensures taken { IfOk result (λ r. (st : List Owed) → verdict 0 (kinds tokens.now) (m.items ∷ st) ≡ verdict 0 (kinds r.1.now) (m.items ∷ st)) }
-    ensures fault { IfErr result (λ e. Stops e (m.items ∷ []) tokens.now) }
+    ensures taken { IfOk result (λ r. (st : List Predicted)
+        → verdict 0 (kinds tokens.now) (m.items ∷ st)
+        ≡ verdict 0 (kinds r.1.now) (m.items ∷ st)) }
+    ensures fault { IfErr result (λ e. FailsAt e (m.items ∷ []) tokens.now) }
 {
     if let Some((first, rest)) = eat_word(tokens, Kind::Name) {
         return named_item(alloc, first, rest);
@@ -201,7 +220,7 @@ pub fn items(alloc: Global, tokens: &[Token]) -> Result<Vec<Item>, Stop>
     ensures spelled { IfOk result (λ found. kinds tokens.now ≡ g.items (map item_of found.items) []) }
     ensures within { IfOk result (λ found. ItemsWithin (map item_of found.items) 0 []) }
     ensures places { IfOk result (λ found. Placed (λ at b. ItemsAt at (map item_of found.items) b) tokens.now []) }
-    ensures fault { IfErr result (λ e. Stops e (m.items ∷ []) tokens.now) }
+    ensures fault { IfErr result (λ e. FailsAt e (m.items ∷ []) tokens.now) }
 {
     let mut found = Vec::new(alloc);
     let mut rest = tokens;

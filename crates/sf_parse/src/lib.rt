@@ -1,6 +1,7 @@
 //! From the tokens of a file to its surface tree.
 #![tactic(auto)]
 
+mod annotation;
 mod assertion;
 mod call;
 mod command;
@@ -14,7 +15,6 @@ mod item;
 pub mod laws;
 mod leaf;
 mod names;
-mod note;
 mod plain;
 mod stop;
 

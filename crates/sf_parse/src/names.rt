@@ -3,10 +3,10 @@
 ghost use Rattle.std.specs.Prelude.{◌≡◌, ◌∷◌, [], IfErr, IfOk};
 ghost use Rattle.sf_ast.specs.View.{names_of, parameters_of};
 ghost use Rattle.sf_parse.specs.Grammar.{maybe_names, more_names, names, parameters};
-ghost use Rattle.sf_parse.specs.Machine as m;
+ghost use Rattle.sf_parse.specs.Internal.Machine as m;
 ghost use Rattle.sf_parse.specs.Parsing.{kinds};
 ghost use Rattle.sf_parse.specs.Placed.{MaybeNamesAt, MoreNamesAt, NamesAt, ParametersAt};
-ghost use Rattle.sf_parse.specs.Steps.{Placed, Stops, Takes};
+ghost use Rattle.sf_parse.specs.Internal.Steps.{Placed, FailsAt, Accepts};
 
 use crate::front::{eat, eat_word};
 use crate::leaf::name;
@@ -15,13 +15,13 @@ use sf_ast::{SurfaceNames, SurfaceParameters, Word};
 use sf_lex::{Kind, Token};
 use std::alloc::Global;
 
-/// Names behind a first one, each behind its comma.
+/// Names after a first one, each after its comma.
 #[tactic(auto, using(crate::proofs::Choices::choices))]
 pub fn more_names(alloc: Global, tokens: &[Token]) -> Result<(Vec<Word>, &[Token]), Stop>
     ensures spelled { IfOk result (λ r. kinds tokens.now ≡ more_names r.0.items (kinds r.1.now)) }
     ensures places { IfOk result (λ r. Placed (λ at b. MoreNamesAt at r.0.items b) tokens.now r.1.now) }
-    ensures taken { IfOk result (λ r. Takes (m.more_names ∷ []) tokens.now r.1.now) }
-    ensures fault { IfErr result (λ e. Stops e (m.more_names ∷ []) tokens.now) }
+    ensures taken { IfOk result (λ r. Accepts (m.more_names ∷ []) tokens.now r.1.now) }
+    ensures fault { IfErr result (λ e. FailsAt e (m.more_names ∷ []) tokens.now) }
 {
     let mut found = Vec::new(alloc);
     let mut rest = tokens;
@@ -37,8 +37,8 @@ pub fn more_names(alloc: Global, tokens: &[Token]) -> Result<(Vec<Word>, &[Token
 pub fn names(alloc: Global, tokens: &[Token]) -> Result<(SurfaceNames, &[Token]), Stop>
     ensures spelled { IfOk result (λ r. kinds tokens.now ≡ names (names_of r.0) (kinds r.1.now)) }
     ensures places { IfOk result (λ r. Placed (λ at b. NamesAt at (names_of r.0) b) tokens.now r.1.now) }
-    ensures taken { IfOk result (λ r. Takes (m.exact m.a_name ∷ m.more_names ∷ []) tokens.now r.1.now) }
-    ensures fault { IfErr result (λ e. Stops e (m.exact m.a_name ∷ m.more_names ∷ []) tokens.now) }
+    ensures taken { IfOk result (λ r. Accepts (m.exact m.a_name ∷ m.more_names ∷ []) tokens.now r.1.now) }
+    ensures fault { IfErr result (λ e. FailsAt e (m.exact m.a_name ∷ m.more_names ∷ []) tokens.now) }
 {
     let (first, rest) = name(tokens)?;
     let (more, rest) = more_names(alloc, rest)?;
@@ -50,8 +50,8 @@ pub fn names(alloc: Global, tokens: &[Token]) -> Result<(SurfaceNames, &[Token])
 pub fn maybe_names(alloc: Global, tokens: &[Token]) -> Result<(Vec<Word>, &[Token]), Stop>
     ensures spelled { IfOk result (λ r. kinds tokens.now ≡ maybe_names r.0.items (kinds r.1.now)) }
     ensures places { IfOk result (λ r. Placed (λ at b. MaybeNamesAt at r.0.items b) tokens.now r.1.now) }
-    ensures taken { IfOk result (λ r. Takes (m.maybe_names ∷ []) tokens.now r.1.now) }
-    ensures fault { IfErr result (λ e. Stops e (m.maybe_names ∷ []) tokens.now) }
+    ensures taken { IfOk result (λ r. Accepts (m.maybe_names ∷ []) tokens.now r.1.now) }
+    ensures fault { IfErr result (λ e. FailsAt e (m.maybe_names ∷ []) tokens.now) }
 {
     let Some((first, rest)) = eat_word(tokens, Kind::Name) else {
         return Ok((Vec::new(alloc), tokens));
@@ -66,8 +66,8 @@ pub fn maybe_names(alloc: Global, tokens: &[Token]) -> Result<(Vec<Word>, &[Toke
 pub fn parameters(alloc: Global, tokens: &[Token]) -> Result<(SurfaceParameters, &[Token]), Stop>
     ensures spelled { IfOk result (λ r. kinds tokens.now ≡ parameters (parameters_of r.0) (kinds r.1.now)) }
     ensures places { IfOk result (λ r. Placed (λ at b. ParametersAt at (parameters_of r.0) b) tokens.now r.1.now) }
-    ensures taken { IfOk result (λ r. Takes (m.maybe_names ∷ m.maybe_values ∷ []) tokens.now r.1.now) }
-    ensures fault { IfErr result (λ e. Stops e (m.maybe_names ∷ m.maybe_values ∷ []) tokens.now) }
+    ensures taken { IfOk result (λ r. Accepts (m.maybe_names ∷ m.maybe_values ∷ []) tokens.now r.1.now) }
+    ensures fault { IfErr result (λ e. FailsAt e (m.maybe_names ∷ m.maybe_values ∷ []) tokens.now) }
 {
     let (first, rest) = maybe_names(alloc, tokens)?;
     let Some((_, after)) = eat(rest, Kind::Semicolon) else {

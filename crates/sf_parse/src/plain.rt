@@ -5,11 +5,11 @@ ghost use Rattle.sf_ast.specs.View.{call_of, command_of};
 ghost use Rattle.sf_lex.specs.declared.token.Kind.TheVariants as k;
 ghost use Rattle.sf_parse.specs.Grammar as g;
 ghost use Rattle.sf_parse.specs.Grammar.{command, expr};
-ghost use Rattle.sf_parse.specs.Heads.{IsFlat, PlacedBehind};
-ghost use Rattle.sf_parse.specs.Machine as m;
+ghost use Rattle.sf_parse.specs.Internal.Heads.{IsFlat, PlacedBehind};
+ghost use Rattle.sf_parse.specs.Internal.Machine as m;
 ghost use Rattle.sf_parse.specs.Parsing.{kinds};
 ghost use Rattle.sf_parse.specs.Placed.{CallAt, CommandAt, ExprAt, PlaceAt, WordAt};
-ghost use Rattle.sf_parse.specs.Steps.{Placed, Stops, Takes};
+ghost use Rattle.sf_parse.specs.Internal.Steps.{Placed, FailsAt, Accepts};
 
 use crate::call::call;
 use crate::front::eat;
@@ -20,13 +20,16 @@ use sf_base::Place;
 use sf_lex::{Kind, Token};
 use std::alloc::Global;
 
-/// `E -> f = F ;` behind its arrow.
+/// `E -> f = F ;` after its arrow.
 pub fn mutated(object: SurfaceExpr, tokens: &[Token]) -> Result<(SurfaceCommand, &[Token]), Stop>
-    ensures spelled { IfOk result (λ r. expr object ∷ k.Arrow ∷ kinds tokens.now ≡ command (command_of r.0) (kinds r.1.now)) }
+    ensures spelled { IfOk result (λ r. expr object ∷ k.Arrow ∷ kinds tokens.now
+        ≡ command (command_of r.0) (kinds r.1.now)) }
     ensures flat { IfOk result (λ r. IsFlat (command_of r.0)) }
-    ensures places { IfOk result (λ r. PlacedBehind (λ at b. ExprAt at object (k.Arrow ∷ b)) (λ at b. CommandAt at (command_of r.0) b) tokens.now r.1.now) }
-    ensures taken { IfOk result (λ r. Takes m.mutated_owed tokens.now r.1.now) }
-    ensures fault { IfErr result (λ e. Stops e m.mutated_owed tokens.now) }
+    ensures places { IfOk result (λ r.
+        PlacedBehind (λ at b. ExprAt at object (k.Arrow ∷ b))
+        (λ at b. CommandAt at (command_of r.0) b) tokens.now r.1.now) }
+    ensures taken { IfOk result (λ r. Accepts m.mutated_predicted tokens.now r.1.now) }
+    ensures fault { IfErr result (λ e. FailsAt e m.mutated_predicted tokens.now) }
 {
     let (field, rest) = name(tokens)?;
     let (_, rest) = expect(rest, Kind::Equals)?;
@@ -35,18 +38,21 @@ pub fn mutated(object: SurfaceExpr, tokens: &[Token]) -> Result<(SurfaceCommand,
     Ok((SurfaceCommand::Mutate(object, field, value), rest))
 }
 
-/// `x = E ;` or `x = E -> f ;` behind its expression.
+/// `x = E ;` or `x = E -> f ;` after its expression.
 #[tactic(auto, using(crate::proofs::Heads::heads))]
 fn looked_up(
     target: Word,
     value: SurfaceExpr,
     tokens: &[Token],
 ) -> Result<(SurfaceCommand, &[Token]), Stop>
-    ensures spelled { IfOk result (λ r. k.Name ∷ k.Equals ∷ expr value ∷ kinds tokens.now ≡ command (command_of r.0) (kinds r.1.now)) }
+    ensures spelled { IfOk result (λ r. k.Name ∷ k.Equals ∷ expr value ∷ kinds tokens.now
+        ≡ command (command_of r.0) (kinds r.1.now)) }
     ensures flat { IfOk result (λ r. IsFlat (command_of r.0)) }
-    ensures places { IfOk result (λ r. PlacedBehind (λ at b. WordAt at target (k.Name ∷ k.Equals ∷ expr value ∷ b) × ExprAt at value b) (λ at b. CommandAt at (command_of r.0) b) tokens.now r.1.now) }
-    ensures taken { IfOk result (λ r. Takes (m.look_up_or_end ∷ []) tokens.now r.1.now) }
-    ensures fault { IfErr result (λ e. Stops e (m.look_up_or_end ∷ []) tokens.now) }
+    ensures places { IfOk result (λ r.
+        PlacedBehind (λ at b. WordAt at target (k.Name ∷ k.Equals ∷ expr value ∷ b)
+        × ExprAt at value b) (λ at b. CommandAt at (command_of r.0) b) tokens.now r.1.now) }
+    ensures taken { IfOk result (λ r. Accepts (m.look_up_or_end ∷ []) tokens.now r.1.now) }
+    ensures fault { IfErr result (λ e. FailsAt e (m.look_up_or_end ∷ []) tokens.now) }
 {
     if let Some((_, rest)) = eat(tokens, Kind::Semicolon) {
         return Ok((SurfaceCommand::Assign(target, value), rest));
@@ -59,13 +65,20 @@ fn looked_up(
     Ok((SurfaceCommand::LookUp(target, value, field), rest))
 }
 
-/// `x = new ( ) ;` behind its `new`.
+/// `x = new ( ) ;` after its `new`.
 fn made(target: Word, tokens: &[Token]) -> Result<(SurfaceCommand, &[Token]), Stop>
-    ensures spelled { IfOk result (λ r. k.Name ∷ k.Equals ∷ k.New ∷ kinds tokens.now ≡ command (command_of r.0) (kinds r.1.now)) }
+    ensures spelled { IfOk result (λ r. k.Name ∷ k.Equals ∷ k.New ∷ kinds tokens.now
+        ≡ command (command_of r.0) (kinds r.1.now)) }
     ensures flat { IfOk result (λ r. IsFlat (command_of r.0)) }
-    ensures places { IfOk result (λ r. PlacedBehind (λ at b. WordAt at target (k.Name ∷ k.Equals ∷ k.New ∷ b)) (λ at b. CommandAt at (command_of r.0) b) tokens.now r.1.now) }
-    ensures taken { IfOk result (λ r. Takes (m.exact m.open_round ∷ m.exact m.close_round ∷ m.exact m.semicolon ∷ []) tokens.now r.1.now) }
-    ensures fault { IfErr result (λ e. Stops e (m.exact m.open_round ∷ m.exact m.close_round ∷ m.exact m.semicolon ∷ []) tokens.now) }
+    ensures places { IfOk result (λ r.
+        PlacedBehind (λ at b. WordAt at target (k.Name ∷ k.Equals ∷ k.New ∷ b))
+        (λ at b. CommandAt at (command_of r.0) b) tokens.now r.1.now) }
+    ensures taken { IfOk result (λ r.
+        Accepts (m.exact m.open_round ∷ m.exact m.close_round ∷ m.exact m.semicolon
+        ∷ []) tokens.now r.1.now) }
+    ensures fault { IfErr result
+        (λ e. FailsAt e (m.exact m.open_round ∷ m.exact m.close_round ∷ m.exact m.semicolon
+        ∷ []) tokens.now) }
 {
     let (_, rest) = expect(tokens, Kind::OpenRound)?;
     let (_, rest) = expect(rest, Kind::CloseRound)?;
@@ -73,14 +86,17 @@ fn made(target: Word, tokens: &[Token]) -> Result<(SurfaceCommand, &[Token]), St
     Ok((SurfaceCommand::New(target), rest))
 }
 
-/// A command behind its `x =`.
+/// A command after its `x =`.
 #[tactic(auto, using(crate::proofs::Heads::heads))]
 fn assigned(target: Word, tokens: &[Token]) -> Result<(SurfaceCommand, &[Token]), Stop>
-    ensures spelled { IfOk result (λ r. k.Name ∷ k.Equals ∷ kinds tokens.now ≡ command (command_of r.0) (kinds r.1.now)) }
+    ensures spelled { IfOk result (λ r. k.Name ∷ k.Equals ∷ kinds tokens.now
+        ≡ command (command_of r.0) (kinds r.1.now)) }
     ensures flat { IfOk result (λ r. IsFlat (command_of r.0)) }
-    ensures places { IfOk result (λ r. PlacedBehind (λ at b. WordAt at target (k.Name ∷ k.Equals ∷ b)) (λ at b. CommandAt at (command_of r.0) b) tokens.now r.1.now) }
-    ensures taken { IfOk result (λ r. Takes (m.assigned ∷ []) tokens.now r.1.now) }
-    ensures fault { IfErr result (λ e. Stops e (m.assigned ∷ []) tokens.now) }
+    ensures places { IfOk result (λ r.
+        PlacedBehind (λ at b. WordAt at target (k.Name ∷ k.Equals ∷ b))
+        (λ at b. CommandAt at (command_of r.0) b) tokens.now r.1.now) }
+    ensures taken { IfOk result (λ r. Accepts (m.assigned ∷ []) tokens.now r.1.now) }
+    ensures fault { IfErr result (λ e. FailsAt e (m.assigned ∷ []) tokens.now) }
 {
     if let Some((_, rest)) = eat(tokens, Kind::New) {
         return made(target, rest);
@@ -89,12 +105,13 @@ fn assigned(target: Word, tokens: &[Token]) -> Result<(SurfaceCommand, &[Token])
     looked_up(target, value, rest)
 }
 
-/// The second call of a fork, behind the `||`.
+/// The second call of a fork, after the `||`.
 fn forked(alloc: Global, tokens: &[Token]) -> Result<(SurfaceCall, &[Token]), Stop>
     ensures spelled { IfOk result (λ r. kinds tokens.now ≡ g.call (call_of r.0) (k.Semicolon ∷ kinds r.1.now)) }
-    ensures places { IfOk result (λ r. Placed (λ at b. CallAt at (call_of r.0) (k.Semicolon ∷ b)) tokens.now r.1.now) }
-    ensures taken { IfOk result (λ r. Takes m.forked_owed tokens.now r.1.now) }
-    ensures fault { IfErr result (λ e. Stops e m.forked_owed tokens.now) }
+    ensures places { IfOk result (λ r.
+        Placed (λ at b. CallAt at (call_of r.0) (k.Semicolon ∷ b)) tokens.now r.1.now) }
+    ensures taken { IfOk result (λ r. Accepts m.forked_predicted tokens.now r.1.now) }
+    ensures fault { IfErr result (λ e. FailsAt e m.forked_predicted tokens.now) }
 {
     let (procedure, rest) = name(tokens)?;
     let (_, rest) = expect(rest, Kind::OpenRound)?;
@@ -103,18 +120,25 @@ fn forked(alloc: Global, tokens: &[Token]) -> Result<(SurfaceCall, &[Token]), St
     Ok((right, rest))
 }
 
-/// A call or two, behind the first one's `(`.
+/// A call or two, after the first one's `(`.
 #[tactic(auto, using(crate::proofs::Heads::heads))]
 fn called(
     alloc: Global,
     procedure: Word,
     tokens: &[Token],
 ) -> Result<(SurfaceCommand, &[Token]), Stop>
-    ensures spelled { IfOk result (λ r. k.Name ∷ k.OpenRound ∷ kinds tokens.now ≡ command (command_of r.0) (kinds r.1.now)) }
+    ensures spelled { IfOk result (λ r. k.Name ∷ k.OpenRound ∷ kinds tokens.now
+        ≡ command (command_of r.0) (kinds r.1.now)) }
     ensures flat { IfOk result (λ r. IsFlat (command_of r.0)) }
-    ensures places { IfOk result (λ r. PlacedBehind (λ at b. WordAt at procedure (k.Name ∷ k.OpenRound ∷ b)) (λ at b. CommandAt at (command_of r.0) b) tokens.now r.1.now) }
-    ensures taken { IfOk result (λ r. Takes (m.maybe_arguments ∷ m.exact m.close_round ∷ m.after_call ∷ []) tokens.now r.1.now) }
-    ensures fault { IfErr result (λ e. Stops e (m.maybe_arguments ∷ m.exact m.close_round ∷ m.after_call ∷ []) tokens.now) }
+    ensures places { IfOk result (λ r.
+        PlacedBehind (λ at b. WordAt at procedure (k.Name ∷ k.OpenRound ∷ b))
+        (λ at b. CommandAt at (command_of r.0) b) tokens.now r.1.now) }
+    ensures taken { IfOk result (λ r.
+        Accepts (m.maybe_arguments ∷ m.exact m.close_round ∷ m.after_call
+        ∷ []) tokens.now r.1.now) }
+    ensures fault { IfErr result
+        (λ e. FailsAt e (m.maybe_arguments ∷ m.exact m.close_round ∷ m.after_call
+        ∷ []) tokens.now) }
 {
     let (left, rest) = call(alloc, procedure, tokens)?;
     if let Some((_, rest)) = eat(rest, Kind::Semicolon) {
@@ -127,7 +151,7 @@ fn called(
     Ok((SurfaceCommand::Fork(left, right), after))
 }
 
-/// A command behind the name that begins it.
+/// A command after the name that begins it.
 #[tactic(auto, using(crate::proofs::Heads::heads))]
 pub fn named(
     alloc: Global,
@@ -136,9 +160,11 @@ pub fn named(
 ) -> Result<(SurfaceCommand, &[Token]), Stop>
     ensures spelled { IfOk result (λ r. k.Name ∷ kinds tokens.now ≡ command (command_of r.0) (kinds r.1.now)) }
     ensures flat { IfOk result (λ r. IsFlat (command_of r.0)) }
-    ensures places { IfOk result (λ r. PlacedBehind (λ at b. WordAt at first (k.Name ∷ b)) (λ at b. CommandAt at (command_of r.0) b) tokens.now r.1.now) }
-    ensures taken { IfOk result (λ r. Takes (m.named ∷ []) tokens.now r.1.now) }
-    ensures fault { IfErr result (λ e. Stops e (m.named ∷ []) tokens.now) }
+    ensures places { IfOk result (λ r.
+        PlacedBehind (λ at b. WordAt at first (k.Name ∷ b))
+        (λ at b. CommandAt at (command_of r.0) b) tokens.now r.1.now) }
+    ensures taken { IfOk result (λ r. Accepts (m.named ∷ []) tokens.now r.1.now) }
+    ensures fault { IfErr result (λ e. FailsAt e (m.named ∷ []) tokens.now) }
 {
     if let Some((_, rest)) = eat(tokens, Kind::Equals) {
         return assigned(first, rest);
@@ -152,14 +178,16 @@ pub fn named(
     Err(Stop::Unexpected(tokens.len()))
 }
 
-/// A command behind its `dispose`.
+/// A command after its `dispose`.
 #[tactic(auto, using(crate::proofs::Heads::heads))]
 pub fn disposed(place: Place, tokens: &[Token]) -> Result<(SurfaceCommand, &[Token]), Stop>
     ensures spelled { IfOk result (λ r. k.Dispose ∷ kinds tokens.now ≡ command (command_of r.0) (kinds r.1.now)) }
     ensures flat { IfOk result (λ r. IsFlat (command_of r.0)) }
-    ensures places { IfOk result (λ r. PlacedBehind (λ at b. PlaceAt at place (k.Dispose ∷ b)) (λ at b. CommandAt at (command_of r.0) b) tokens.now r.1.now) }
-    ensures taken { IfOk result (λ r. Takes (m.disposed ∷ []) tokens.now r.1.now) }
-    ensures fault { IfErr result (λ e. Stops e (m.disposed ∷ []) tokens.now) }
+    ensures places { IfOk result (λ r.
+        PlacedBehind (λ at b. PlaceAt at place (k.Dispose ∷ b))
+        (λ at b. CommandAt at (command_of r.0) b) tokens.now r.1.now) }
+    ensures taken { IfOk result (λ r. Accepts (m.disposed ∷ []) tokens.now r.1.now) }
+    ensures fault { IfErr result (λ e. FailsAt e (m.disposed ∷ []) tokens.now) }
 {
     if let Some((_, rest)) = eat(tokens, Kind::OpenRound) {
         let (value, rest) = expression(rest)?;

@@ -175,7 +175,7 @@ fn files_are_read_or_refused_at_the_first_bad_token(rt: HostRuntime) {
     }
 }
 
-/// Parts of a text, each as often as it says, one behind the other.
+/// Parts of a text, each as often as it says, one after the other.
 fn repeated(alloc: Global, parts: &[(&[u8], usize)]) -> Result<Vec<u8>, AllocError> {
     let mut text = Vec::new(alloc);
     for (part, count) in parts {
@@ -341,8 +341,8 @@ fn first_body(file: &File) -> (usize, bool) {
 fn first_conjuncts(file: &File) -> usize {
     for item in file.items.iter() {
         if let Item::Procedure(procedure) = item {
-            if let Some(note) = &procedure.pre {
-                if let Some(assertion) = &note.assertion {
+            if let Some(annotation) = &procedure.pre {
+                if let Some(assertion) = &annotation.assertion {
                     return 1 + assertion.more.len().min(1_000);
                 }
             }
@@ -515,13 +515,13 @@ fn spelling(letter: u8) -> &'static [u8] {
 /// What was seen while the places where a rule may end were gathered.
 #[derive(Clone, Copy, Debug)]
 struct Seen {
-    /// A token was wanted behind the last letter.
+    /// A token was wanted after the last letter.
     cut: bool,
     /// The rules went too deep to be followed.
     lost: bool,
 }
 
-/// Behind which letters a token may end that begins behind one of those, each a bit of a number.
+/// Behind which letters a token may end that begins after one of those, each a bit of a number.
 fn ends_of_token(letters: &[u8], wanted: u8, from: u64, seen: &mut Seen) -> u64 {
     let mut here: u64 = 1;
     let mut found = 0;
@@ -538,7 +538,7 @@ fn ends_of_token(letters: &[u8], wanted: u8, from: u64, seen: &mut Seen) -> u64 
     found
 }
 
-/// Behind which letters a rule may end that begins behind one of those.
+/// Behind which letters a rule may end that begins after one of those.
 #[cycle(rules)]
 fn ends_of_rule(letters: &[u8], rule: u8, from: u64, fuel: u32, seen: &mut Seen) -> u64 {
     if from == 0 {
@@ -557,7 +557,7 @@ fn ends_of_rule(letters: &[u8], rule: u8, from: u64, fuel: u32, seen: &mut Seen)
     found
 }
 
-/// Behind which letters parts may end, one behind the other.
+/// Behind which letters parts may end, one after the other.
 #[cycle(rules)]
 fn ends_of_parts(letters: &[u8], parts: &[u8], from: u64, fuel: u32, seen: &mut Seen) -> u64 {
     let mut at = from;
@@ -587,7 +587,7 @@ fn begins(letters: &[u8], lost: &mut bool) -> (bool, bool) {
     (seen.cut || whole, whole)
 }
 
-/// How many letters stand before the first one with which no file begins, if there is a fault.
+/// How many letters come before the first one with which no file begins, if there is a fault.
 fn first_fault(letters: &[u8], lost: &mut bool) -> Option<usize> {
     for count in 0..letters.len() {
         let (can_begin, _) = begins(&letters[..count + 1], lost);
@@ -599,7 +599,7 @@ fn first_fault(letters: &[u8], lost: &mut bool) -> Option<usize> {
     if whole { None } else { Some(letters.len()) }
 }
 
-/// The place of that token, or the one behind the bytes.
+/// The place of that token, or the one after the bytes.
 fn place_of(bytes: &[u8], found: &[Token], index: usize) -> Place {
     match found.get(index) {
         Some(token) => token.place,

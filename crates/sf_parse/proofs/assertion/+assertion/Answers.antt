@@ -5,12 +5,12 @@ use Rattle.sf_ast.specs.View.{conjuncts, conjunct_of, assertion_of}
 use Rattle.sf_lex.specs.declared.token.Kind.{Kind}
 use Rattle.sf_lex.specs.declared.token.Kind.TheVariants as k
 use Rattle.sf_parse.specs.Grammar.{assertion, conjunct, operand, test}
-use Rattle.sf_parse.specs.Machine as m
-use Rattle.sf_parse.specs.Machine.{verdict}
+use Rattle.sf_parse.specs.Internal.Machine as m
+use Rattle.sf_parse.specs.Internal.Machine.{verdict}
 use Rattle.sf_parse.specs.Nesting.{AssertionWithin}
 use Rattle.sf_parse.specs.Parsing.{kinds}
 use Rattle.sf_parse.specs.Placed.{AssertionAt, PlaceAt, TestAt, OperandAt}
-use Rattle.sf_parse.specs.Steps.{last_of, Ends}
+use Rattle.sf_parse.specs.Internal.Steps.{last_of, Ends}
 use Rattle.sf_parse.proofs.Conjuncts.{assertion_push, within_push, at_push, last_push}
 use Rattle.sf_parse.proofs.Forth.{closed_before_star}
 use Rattle.sf_parse.proofs.HasLevel.{some_level}

@@ -3,12 +3,12 @@ use Rattle.sf_ast.specs.Surface.{Conjunct}
 use Rattle.sf_ast.specs.View.{conjuncts, conjunct_of}
 use Rattle.sf_lex.specs.declared.token.Token.{Token}
 use Rattle.sf_parse.specs.Grammar.{conjunct, assertion}
-use Rattle.sf_parse.specs.Machine as m
-use Rattle.sf_parse.specs.Machine.{Owed, verdict}
+use Rattle.sf_parse.specs.Internal.Machine as m
+use Rattle.sf_parse.specs.Internal.Machine.{Predicted, verdict}
 use Rattle.sf_parse.specs.Nesting.{ConjunctWithin, AssertionWithin}
 use Rattle.sf_parse.specs.Parsing.{kinds}
 use Rattle.sf_parse.specs.Placed.{ConjunctAt, AssertionAt}
-use Rattle.sf_parse.specs.Steps.{Agree, last_of, Ends}
+use Rattle.sf_parse.specs.Internal.Steps.{Agree, last_of, Ends}
 use Rattle.sf_parse.proofs.assertion.+assertion.Given as goal
 
 abbrev pub decreases-assertion : goal.decreases-assertion
@@ -32,7 +32,7 @@ invariant-more_conjuncts-loop-after l = record {
   within : (c : Conjunct) → ConjunctWithin c 0 l.depth (kinds l.tokens) → Ends c (kinds l.tokens) → AssertionWithin (conjuncts c (map conjunct_of l.found.items)) 0 l.depth (kinds l.rest);
   ended : (c : Conjunct) → Ends c (kinds l.tokens) → Ends (last_of (conjuncts c (map conjunct_of l.found.items))) (kinds l.rest);
   places : (at : ℕ → Token) → Agree at l.tokens → (c : Conjunct) → ConjunctAt at c (kinds l.tokens) → AssertionAt at (conjuncts c (map conjunct_of l.found.items)) (kinds l.rest) × Agree at l.rest;
-  taken : (st : List Owed) → verdict 0 (kinds l.tokens) (m.more_conjuncts l.depth ∷ st) ≡ verdict 0 (kinds l.rest) (m.more_conjuncts l.depth ∷ st);
+  taken : (st : List Predicted) → verdict 0 (kinds l.tokens) (m.more_conjuncts l.depth ∷ st) ≡ verdict 0 (kinds l.rest) (m.more_conjuncts l.depth ∷ st);
 }
 
 abbrev pub decreases-more_conjuncts-loop-after : goal.decreases-more_conjuncts-loop-after

@@ -1,11 +1,11 @@
 use Rattle.std.proofs.Common.{arith}
 use Rattle.std.proofs.lemmas.Grind.{common_steps}
-use Rattle.sf_parse.specs.Given.{is_name}
-use Rattle.sf_parse.proofs.Arguments.{takes_first}
+use Rattle.sf_parse.specs.Internal.Given.{is_name}
+use Rattle.sf_parse.proofs.Arguments.{accepts_first}
 use Rattle.sf_parse.proofs.call.maybe_expressions.Goals as goal
 
 pub returns-in_err-found-clause-fault_arguments : goal.returns-in_err-found-clause-fault_arguments
-returns-in_err-found-clause-fault_arguments c = grind (arith, common_steps, takes_first, c.in_err-found.ensures.fault_rest (is_name c.in-Some.first))
+returns-in_err-found-clause-fault_arguments c = grind (arith, common_steps, accepts_first, c.in_err-found.ensures.fault_rest (is_name c.in-Some.first))
 
 pub returns-clause-places : goal.returns-clause-places
 returns-clause-places c = λ at agree.

@@ -1,13 +1,13 @@
 use Rattle.std.proofs.Common.{◌≡◌, List, ◌∷◌, ◌∙◌, ap, subst, sym}
 use Rattle.sf_lex.specs.declared.token.Kind.{Kind}
 use Rattle.sf_lex.specs.declared.token.Kind.TheVariants as k
-use Rattle.sf_parse.specs.Given.{all_names}
+use Rattle.sf_parse.specs.Internal.Given.{all_names}
 use Rattle.sf_parse.specs.Grammar.{expr, more_exprs}
-use Rattle.sf_parse.specs.Machine as m
-use Rattle.sf_parse.specs.Machine.{verdict}
+use Rattle.sf_parse.specs.Internal.Machine as m
+use Rattle.sf_parse.specs.Internal.Machine.{verdict}
 use Rattle.sf_parse.specs.Parsing.{kinds}
 use Rattle.sf_parse.specs.Placed.{MoreExprsAt}
-use Rattle.sf_parse.proofs.Arguments.{takes_next, takes_more, all_names_push, more_exprs_push, more_exprs_at_push}
+use Rattle.sf_parse.proofs.Arguments.{accepts_next, accepts_more, all_names_push, more_exprs_push, more_exprs_at_push}
 use Rattle.sf_parse.proofs.call.more_expressions.Goals as goal
 
 pub loop-after-preserved : goal.loop-after-preserved
@@ -24,8 +24,8 @@ loop-after-preserved c =
           let a = c.loop-after.invariant.places at agree in
           let b = c.in-Some-eat_expression.ensures.places at (c.in-Some.ensures.places at a.1).1 in
           (more_exprs_at_push at xs x (kinds r) (subst (λ (z : List Kind). MoreExprsAt at xs z) here a.0) b.0, b.1);
-      taken = λ st. c.loop-after.invariant.taken st ∙ takes_more x ts us r st c.in-Some.ensures.spelled c.in-Some-eat_expression.ensures.spelled;
+      taken = λ st. c.loop-after.invariant.taken st ∙ accepts_more x ts us r st c.in-Some.ensures.spelled c.in-Some-eat_expression.ensures.spelled;
       taken_rest = λ b st.
-          c.loop-after.invariant.taken_rest b st ∙ takes_next x (all_names b xs) ts us r st c.in-Some.ensures.spelled c.in-Some-eat_expression.ensures.spelled
+          c.loop-after.invariant.taken_rest b st ∙ accepts_next x (all_names b xs) ts us r st c.in-Some.ensures.spelled c.in-Some-eat_expression.ensures.spelled
           ∙ ap (λ z. verdict 0 (kinds r) (m.rest z ∷ st)) (sym (all_names_push b xs x));
     }

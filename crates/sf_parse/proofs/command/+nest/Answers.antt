@@ -3,12 +3,12 @@ use Rattle.std.proofs.lemmas.List.{map_push}
 use Rattle.std.proofs.lemmas.Result.{IfOk-weaker}
 use Rattle.std.specs.Option.{option_map}
 use Rattle.sf_ast.proofs.CommandViews.{of_block}
-use Rattle.sf_ast.specs.View.{command_of, commands, note_of}
+use Rattle.sf_ast.specs.View.{command_of, commands, annotation_of}
 use Rattle.sf_lex.specs.declared.token.Kind.{Kind}
 use Rattle.sf_lex.specs.declared.token.Kind.TheVariants as k
 use Rattle.sf_parse.specs.Grammar as g
 use Rattle.sf_parse.specs.Grammar.{expr}
-use Rattle.sf_parse.specs.Machine as m
+use Rattle.sf_parse.specs.Internal.Machine as m
 use Rattle.sf_parse.specs.Nesting.{CommandsWithin}
 use Rattle.sf_parse.specs.Parsing.{kinds}
 use Rattle.sf_parse.specs.Placed.{WordAt, PlaceAt, ExprAt, TestAt, MaybeNoteAt, CommandAt, CommandsAt}
@@ -123,14 +123,14 @@ if_command-returns-clause-places t c = λ at first agree.
 pub while_command-returns-clause-places : goal.while_command-returns-clause-places
 while_command-returns-clause-places t c = λ at first agree.
     let b = c.in_ok-condition.condition in
-    let n = option_map note_of c.in_ok-invariant.invariant in
+    let n = option_map annotation_of c.in_ok-invariant.invariant in
     let x = command_of c.in_ok-body.body in
     let r = kinds c.in_ok-body.rest.now in
     let a = c.in_ok-condition.ensures.places at agree in
     let d = c.in_ok-invariant.ensures.places at a.1 in
     let f = c.in_ok-body.ensures.places at d.1 in
-    let behind : kinds c.in_ok-condition.rest.now ≡ g.maybe_note n (g.command x r) = c.in_ok-invariant.ensures.spelled ∙ ap (λ (z : List Kind). g.maybe_note n z) c.in_ok-body.ensures.spelled in
-    let whole : kinds c.args.tokens.now ≡ k.OpenRound ∷ g.test expr b (k.CloseRound ∷ g.maybe_note n (g.command x r)) =
+    let behind : kinds c.in_ok-condition.rest.now ≡ g.maybe_annotation n (g.command x r) = c.in_ok-invariant.ensures.spelled ∙ ap (λ (z : List Kind). g.maybe_annotation n z) c.in_ok-body.ensures.spelled in
+    let whole : kinds c.args.tokens.now ≡ k.OpenRound ∷ g.test expr b (k.CloseRound ∷ g.maybe_annotation n (g.command x r)) =
     c.in_ok-condition.ensures.spelled ∙ ap (λ (z : List Kind). k.OpenRound ∷ g.test expr b (k.CloseRound ∷ z)) behind in
     rw c.in_ok-while_node.ensures (
       (

@@ -1,12 +1,12 @@
 use Rattle.std.proofs.Common.{◌≡◌, List, ◌∷◌, ◌+◌, map, length}
 use Rattle.sf_ast.specs.View.{command_of, commands}
 use Rattle.sf_parse.specs.Grammar as g
-use Rattle.sf_parse.specs.Machine as m
-use Rattle.sf_parse.specs.Machine.{Owed, verdict}
+use Rattle.sf_parse.specs.Internal.Machine as m
+use Rattle.sf_parse.specs.Internal.Machine.{Predicted, verdict}
 use Rattle.sf_parse.specs.Nesting.{CommandsWithin}
 use Rattle.sf_parse.specs.Parsing.{kinds}
 use Rattle.sf_parse.specs.Placed.{CommandsAt}
-use Rattle.sf_parse.specs.Steps.{Placed}
+use Rattle.sf_parse.specs.Internal.Steps.{Placed}
 use Rattle.sf_parse.proofs.command.+nest.Given as goal
 
 abbrev pub decreases-if_command : goal.decreases-if_command
@@ -32,7 +32,7 @@ invariant-commands-loop-alloc l = record {
   spelled : kinds l.tokens ≡ g.commands (commands (map command_of l.found.items)) (kinds l.rest);
   within : CommandsWithin (commands (map command_of l.found.items)) 0 l.depth (kinds l.rest);
   places : Placed (λ at b. CommandsAt at (commands (map command_of l.found.items)) b) l.tokens l.rest;
-  taken : (st : List Owed) → verdict 0 (kinds l.tokens) (m.commands l.depth ∷ st) ≡ verdict 0 (kinds l.rest) (m.commands l.depth ∷ st);
+  taken : (st : List Predicted) → verdict 0 (kinds l.tokens) (m.commands l.depth ∷ st) ≡ verdict 0 (kinds l.rest) (m.commands l.depth ∷ st);
 }
 
 abbrev pub decreases-commands-loop-alloc : goal.decreases-commands-loop-alloc

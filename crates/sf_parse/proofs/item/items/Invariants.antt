@@ -1,12 +1,12 @@
 use Rattle.std.proofs.Common.{◌≡◌, List, ◌∷◌, map, length}
 use Rattle.sf_ast.specs.View.{item_of}
-use Rattle.sf_parse.specs.Machine as m
-use Rattle.sf_parse.specs.Machine.{Owed, verdict}
+use Rattle.sf_parse.specs.Internal.Machine as m
+use Rattle.sf_parse.specs.Internal.Machine.{Predicted, verdict}
 use Rattle.sf_parse.specs.Nesting.{ItemsWithin}
 use Rattle.sf_parse.specs.Parsing.{kinds}
 use Rattle.sf_parse.specs.Placed.{ItemsAt}
 use Rattle.sf_parse.specs.Grammar as g
-use Rattle.sf_parse.specs.Steps.{Placed}
+use Rattle.sf_parse.specs.Internal.Steps.{Placed}
 use Rattle.sf_parse.proofs.item.items.Given as goal
 
 abbrev pub invariant-loop-rest : goal.invariant-loop-rest
@@ -14,7 +14,7 @@ invariant-loop-rest l = record {
   spelled : kinds l.tokens ≡ g.items (map item_of l.found.items) (kinds l.rest);
   within : ItemsWithin (map item_of l.found.items) 0 (kinds l.rest);
   places : Placed (λ at b. ItemsAt at (map item_of l.found.items) b) l.tokens l.rest;
-  taken : (st : List Owed) → verdict 0 (kinds l.tokens) (m.items ∷ st) ≡ verdict 0 (kinds l.rest) (m.items ∷ st);
+  taken : (st : List Predicted) → verdict 0 (kinds l.tokens) (m.items ∷ st) ≡ verdict 0 (kinds l.rest) (m.items ∷ st);
 }
 
 abbrev pub decreases-loop-rest : goal.decreases-loop-rest

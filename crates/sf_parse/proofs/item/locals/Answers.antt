@@ -4,8 +4,8 @@ use Rattle.sf_ast.specs.View.{names_of}
 use Rattle.sf_lex.specs.declared.token.Kind.{Kind}
 use Rattle.sf_lex.specs.declared.token.Kind.TheVariants as k
 use Rattle.sf_parse.specs.Grammar as g
-use Rattle.sf_parse.specs.Machine as m
-use Rattle.sf_parse.specs.Machine.{verdict}
+use Rattle.sf_parse.specs.Internal.Machine as m
+use Rattle.sf_parse.specs.Internal.Machine.{verdict}
 use Rattle.sf_parse.specs.Parsing.{kinds}
 use Rattle.sf_parse.specs.Placed.{NamesAt, LocalsAt}
 use Rattle.sf_parse.proofs.ItemLists.{locals_push, locals_at_push, fewer_behind_local}

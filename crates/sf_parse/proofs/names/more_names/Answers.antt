@@ -2,7 +2,7 @@ use Rattle.std.proofs.Common.{◌≡◌, List, subst, ◌∷◌, ◌∙◌, sym,
 use Rattle.sf_lex.specs.declared.token.Kind.{Kind}
 use Rattle.sf_lex.specs.declared.token.Kind.TheVariants as k
 use Rattle.sf_parse.specs.Grammar.{more_names}
-use Rattle.sf_parse.specs.Machine as m
+use Rattle.sf_parse.specs.Internal.Machine as m
 use Rattle.sf_parse.specs.Parsing.{kinds}
 use Rattle.sf_parse.specs.Placed.{MoreNamesAt}
 use Rattle.sf_parse.proofs.Lists.{more_names_push, more_names_at_push}

@@ -1,0 +1,5 @@
+use Rattle.sf_elab.proofs.Closing.{elaborated_is_formed}
+use Rattle.sf_elab.proofs.laws.elaborated_is_formed.Goals as goal
+
+pub returns : goal.returns
+returns c = elaborated_is_formed

@@ -1,0 +1,6 @@
+pub mod Bodies
+pub mod Faults
+pub mod Given
+pub mod Heads
+pub mod Machine
+pub mod Steps

@@ -1,0 +1,452 @@
+-- What may still come, as a stack of what is owed.
+-- A law, `the_verdict_is_exact`, says that its verdict is the grammar's.
+-- Ordinary: predictive parsing with a stack, as in Aho, Sethi, Ullman, "Compilers" (1986), section 4.4.
+use Rattle.std.specs.Prelude.{ℕ, suc, ◌-◌, ◌++◌, List, [], ◌∷◌, length, Bool, true, false}
+use Rattle.sf_base.specs.declared.limits.TheConstants.{NESTING}
+use Rattle.sf_lex.specs.declared.token.Kind.{Kind}
+use Rattle.sf_lex.specs.declared.token.Kind.TheVariants as k
+use Rattle.sf_parse.specs.Nesting.{has_level}
+
+-- a token that is owed as it is
+pub data Terminal : Type 0 where
+  a_name : Terminal
+  an_arrow : Terminal
+  equals : Terminal
+  semicolon : Terminal
+  open_round : Terminal
+  close_round : Terminal
+  open_square : Terminal
+  close_square : Terminal
+  open_brace : Terminal
+  close_brace : Terminal
+  a_colon : Terminal
+  a_comma : Terminal
+  then_word : Terminal
+  else_word : Terminal
+  when_word : Terminal
+
+-- what may be owed
+pub data Predicted : Type 0 where
+  exact : Terminal → Predicted
+  -- an expression, an operand, `==` or `!=`; a test over expressions, over operands, and one that may occur in `( )`
+  expression : Predicted
+  operand : Predicted
+  equality : Predicted
+  test : Predicted
+  operand_test : Predicted
+  if_test : Predicted
+  -- names after a first one; names or none; a `;` and names, or none
+  more_names : Predicted
+  maybe_names : Predicted
+  maybe_values : Predicted
+  -- what comes after the `(` of a call; after an expression there, where all so far are names or not; after a comma there
+  maybe_arguments : Predicted
+  rest : Bool → Predicted
+  next : Bool → Predicted
+  maybe_expressions : Predicted
+  more_expressions : Predicted
+  -- what comes after a conjunct's first operand; fields or none; fields after a first one
+  relation : Predicted
+  maybe_fields : Predicted
+  more_fields : Predicted
+  -- a conjunct; more of them after a `*`; an assertion of at most d levels; one or none in square brackets; a note or none
+  conjunct : ℕ → Predicted
+  more_conjuncts : ℕ → Predicted
+  assertion : ℕ → Predicted
+  maybe_assertion : Predicted
+  maybe_annotation : Predicted
+  -- what comes after the name that begins a command; after its `=`; after the expression there; after a call; after `dispose`
+  named : Predicted
+  assigned : Predicted
+  look_up_or_end : Predicted
+  after_call : Predicted
+  disposed : Predicted
+  -- a command of at most d levels; as many as come; the `else` of an `if`
+  command : ℕ → Predicted
+  commands : ℕ → Predicted
+  branch : ℕ → Predicted
+  -- the `local`s; what comes after the name that begins an item; as many items as come
+  locals : Predicted
+  item_named : Predicted
+  items : Predicted
+
+-- `( E , F )`
+abbrev pub pair_predicted : List Predicted
+pair_predicted = exact open_round ∷ operand ∷ exact a_comma ∷ operand ∷ exact close_round ∷ []
+
+-- what comes after the test of a conjunct's `if`, whose branches have at most d levels
+abbrev pub branches_predicted : ℕ → List Predicted
+branches_predicted d = exact then_word ∷ assertion d ∷ exact else_word ∷ assertion d ∷ []
+
+-- what comes after that `if`
+abbrev pub choice_predicted : ℕ → List Predicted
+choice_predicted d = if_test ∷ branches_predicted d
+
+-- what comes after the arrow of a mutation
+abbrev pub mutated_predicted : List Predicted
+mutated_predicted = exact a_name ∷ exact equals ∷ expression ∷ exact semicolon ∷ []
+
+-- what comes after the `||` of a fork
+abbrev pub forked_predicted : List Predicted
+forked_predicted = exact a_name ∷ exact open_round ∷ maybe_arguments ∷ exact close_round ∷ exact semicolon ∷ []
+
+-- what comes after the `if` of a command that has d levels
+abbrev pub if_predicted : ℕ → List Predicted
+if_predicted d = exact open_round ∷ test ∷ exact close_round ∷ command (d - 1) ∷ branch (d - 1) ∷ []
+
+-- what comes after its `while`
+abbrev pub while_predicted : ℕ → List Predicted
+while_predicted d = exact open_round ∷ test ∷ exact close_round ∷ maybe_annotation ∷ command (d - 1) ∷ []
+
+-- what comes after its `with`
+abbrev pub with_predicted : ℕ → List Predicted
+with_predicted d = exact a_name ∷ exact when_word ∷ exact open_round ∷ test ∷ exact close_round ∷ command (d - 1) ∷ []
+
+-- what comes after the `(` of a procedure
+abbrev pub procedure_predicted : List Predicted
+procedure_predicted = maybe_names ∷ maybe_values ∷ exact close_round ∷ maybe_annotation ∷ exact open_brace ∷ locals ∷ commands NESTING ∷ exact close_brace ∷ maybe_annotation ∷ []
+
+-- what comes after the word `resource`
+abbrev pub resource_predicted : List Predicted
+resource_predicted = exact a_name ∷ exact open_round ∷ maybe_names ∷ exact close_round ∷ exact open_square ∷ maybe_assertion ∷ exact close_square ∷ []
+
+-- at one token: take it and owe that instead, do without, or neither
+pub data Choice : Type 0 where
+  take : List Predicted → Choice
+  skip : Choice
+  refuse : Choice
+
+-- what need not come is done without
+abbrev pub or_skip : Choice → Choice
+or_skip (take ss) = take ss
+or_skip skip = skip
+or_skip refuse = skip
+
+-- the kind of an exact token
+abbrev pub terminal_kind : Terminal → Kind
+terminal_kind a_name = k.Name
+terminal_kind an_arrow = k.Arrow
+terminal_kind equals = k.Equals
+terminal_kind semicolon = k.Semicolon
+terminal_kind open_round = k.OpenRound
+terminal_kind close_round = k.CloseRound
+terminal_kind open_square = k.OpenSquare
+terminal_kind close_square = k.CloseSquare
+terminal_kind open_brace = k.OpenBrace
+terminal_kind close_brace = k.CloseBrace
+terminal_kind a_colon = k.Colon
+terminal_kind a_comma = k.Comma
+terminal_kind then_word = k.Then
+terminal_kind else_word = k.Else
+terminal_kind when_word = k.When
+
+-- that token alone
+abbrev pub on_exact : Terminal → Kind → Choice
+on_exact a_name k.Name = take []
+on_exact an_arrow k.Arrow = take []
+on_exact equals k.Equals = take []
+on_exact semicolon k.Semicolon = take []
+on_exact open_round k.OpenRound = take []
+on_exact close_round k.CloseRound = take []
+on_exact open_square k.OpenSquare = take []
+on_exact close_square k.CloseSquare = take []
+on_exact open_brace k.OpenBrace = take []
+on_exact close_brace k.CloseBrace = take []
+on_exact a_colon k.Colon = take []
+on_exact a_comma k.Comma = take []
+on_exact then_word k.Then = take []
+on_exact else_word k.Else = take []
+on_exact when_word k.When = take []
+on_exact u t = refuse
+
+-- a token that is an expression, and what is owed after it
+abbrev pub on_expression : Kind → List Predicted → Choice
+on_expression k.Name ss = take ss
+on_expression k.Nil ss = take ss
+on_expression k.Null ss = take ss
+on_expression k.Number ss = take ss
+on_expression t ss = refuse
+
+-- a token that is an operand, and what is owed after it
+abbrev pub on_operand : Kind → List Predicted → Choice
+on_operand k.Existential ss = take ss
+on_operand t ss = on_expression t ss
+
+-- `==` or `!=`
+abbrev pub on_equality : Kind → Choice
+on_equality k.EqualEqual = take []
+on_equality k.NotEqual = take []
+on_equality t = refuse
+
+-- a test over expressions
+abbrev pub on_test : Kind → Choice
+on_test k.True = take []
+on_test t = on_expression t (equality ∷ expression ∷ [])
+
+-- a test over operands
+abbrev pub on_operand_test : Kind → Choice
+on_operand_test k.True = take []
+on_operand_test t = on_operand t (equality ∷ operand ∷ [])
+
+-- a test after the `if` of an assertion
+abbrev pub on_if_test : Kind → Choice
+on_if_test k.OpenRound = take (operand_test ∷ exact close_round ∷ [])
+on_if_test t = on_operand_test t
+
+-- names after a first one
+abbrev pub on_more_names : Kind → Choice
+on_more_names k.Comma = take (exact a_name ∷ more_names ∷ [])
+on_more_names t = skip
+
+-- names, or none
+abbrev pub on_maybe_names : Kind → Choice
+on_maybe_names k.Name = take (more_names ∷ [])
+on_maybe_names t = skip
+
+-- value parameters after a `;`, or none
+abbrev pub on_maybe_values : Kind → Choice
+on_maybe_values k.Semicolon = take (maybe_names ∷ [])
+on_maybe_values t = skip
+
+-- an expression after a comma in a call
+abbrev pub on_next : Bool → Kind → Choice
+on_next b k.Name = take (rest b ∷ [])
+on_next b t = on_expression t (rest false ∷ [])
+
+-- what comes after the `(` of a call
+abbrev pub on_maybe_arguments : Kind → Choice
+on_maybe_arguments k.Semicolon = take (maybe_expressions ∷ [])
+on_maybe_arguments t = or_skip (on_next true t)
+
+-- what comes after an expression in a call
+abbrev pub on_rest : Bool → Kind → Choice
+on_rest b k.Comma = take (next b ∷ [])
+on_rest true k.Semicolon = take (maybe_expressions ∷ [])
+on_rest b t = skip
+
+-- expressions, or none
+abbrev pub on_maybe_expressions : Kind → Choice
+on_maybe_expressions t = or_skip (on_expression t (more_expressions ∷ []))
+
+-- expressions after a first one
+abbrev pub on_more_expressions : Kind → Choice
+on_more_expressions k.Comma = take (expression ∷ more_expressions ∷ [])
+on_more_expressions t = skip
+
+-- what comes after the first operand of a conjunct
+abbrev pub on_relation : Kind → Choice
+on_relation k.EqualEqual = take (operand ∷ [])
+on_relation k.NotEqual = take (operand ∷ [])
+on_relation k.PointsTo = take (maybe_fields ∷ [])
+on_relation t = refuse
+
+-- fields, or none
+abbrev pub on_maybe_fields : Kind → Choice
+on_maybe_fields k.Name = take (exact a_colon ∷ operand ∷ more_fields ∷ [])
+on_maybe_fields t = skip
+
+-- fields after a first one
+abbrev pub on_more_fields : Kind → Choice
+on_more_fields k.Comma = take (exact a_name ∷ exact a_colon ∷ operand ∷ more_fields ∷ [])
+on_more_fields t = skip
+
+-- a conjunct, and what is owed after it
+abbrev pub on_conjunct : ℕ → Kind → List Predicted → Choice
+on_conjunct d k.Emp ss = take ss
+on_conjunct d k.OpenRound ss = take (assertion (d - 1) ∷ exact close_round ∷ ss)
+on_conjunct d k.If ss = take (choice_predicted (d - 1) ++ ss)
+on_conjunct d k.Ls ss = take (pair_predicted ++ ss)
+on_conjunct d k.Lseg ss = take (pair_predicted ++ ss)
+on_conjunct d k.List ss = take (exact open_round ∷ operand ∷ exact close_round ∷ ss)
+on_conjunct d k.Tree ss = take (exact open_round ∷ operand ∷ exact close_round ∷ ss)
+on_conjunct d t ss = on_operand t (relation ∷ ss)
+
+-- conjuncts after a first one
+abbrev pub on_more_conjuncts : ℕ → Kind → Choice
+on_more_conjuncts d k.Star = take (conjunct d ∷ more_conjuncts d ∷ [])
+on_more_conjuncts d t = skip
+
+-- a note, or none
+abbrev pub on_maybe_annotation : Kind → Choice
+on_maybe_annotation k.OpenSquare = take (maybe_assertion ∷ exact close_square ∷ [])
+on_maybe_annotation t = skip
+
+-- what comes after the name that begins a command
+abbrev pub on_named : Kind → Choice
+on_named k.Equals = take (assigned ∷ [])
+on_named k.Arrow = take mutated_predicted
+on_named k.OpenRound = take (maybe_arguments ∷ exact close_round ∷ after_call ∷ [])
+on_named t = refuse
+
+-- what comes after the `=` there
+abbrev pub on_assigned : Kind → Choice
+on_assigned k.New = take (exact open_round ∷ exact close_round ∷ exact semicolon ∷ [])
+on_assigned t = on_expression t (look_up_or_end ∷ [])
+
+-- what comes after the expression there
+abbrev pub on_look_up_or_end : Kind → Choice
+on_look_up_or_end k.Semicolon = take []
+on_look_up_or_end k.Arrow = take (exact a_name ∷ exact semicolon ∷ [])
+on_look_up_or_end t = refuse
+
+-- what comes after a call
+abbrev pub on_after_call : Kind → Choice
+on_after_call k.Semicolon = take []
+on_after_call k.Bars = take forked_predicted
+on_after_call t = refuse
+
+-- what comes after `dispose`
+abbrev pub on_disposed : Kind → Choice
+on_disposed k.OpenRound = take (expression ∷ exact close_round ∷ exact semicolon ∷ [])
+on_disposed t = on_expression t (exact semicolon ∷ [])
+
+-- a command, and what is owed after it
+abbrev pub on_command : ℕ → Kind → List Predicted → Choice
+on_command d k.Name ss = take (named ∷ ss)
+on_command d k.Dispose ss = take (disposed ∷ ss)
+on_command d k.If ss = take (if_predicted d ++ ss)
+on_command d k.While ss = take (while_predicted d ++ ss)
+on_command d k.With ss = take (with_predicted d ++ ss)
+on_command d k.OpenBrace ss = take (commands (d - 1) ∷ exact close_brace ∷ ss)
+on_command d t ss = on_expression t (exact an_arrow ∷ mutated_predicted ++ ss)
+
+-- the `else` of an `if`, or none
+abbrev pub on_branch : ℕ → Kind → Choice
+on_branch d k.Else = take (command d ∷ [])
+on_branch d t = skip
+
+-- the `local`s of a body
+abbrev pub on_locals : Kind → Choice
+on_locals k.Local = take (exact a_name ∷ more_names ∷ exact semicolon ∷ locals ∷ [])
+on_locals t = skip
+
+-- what comes after the name that begins an item
+abbrev pub on_item_named : Kind → Choice
+on_item_named k.Comma = take (exact a_name ∷ more_names ∷ exact semicolon ∷ [])
+on_item_named k.Semicolon = take []
+on_item_named k.OpenRound = take procedure_predicted
+on_item_named t = refuse
+
+-- items
+abbrev pub on_items : Kind → Choice
+on_items k.Name = take (item_named ∷ items ∷ [])
+on_items k.Resource = take (resource_predicted ++ items ∷ [])
+on_items t = refuse
+
+-- what comes of one thing that is owed at one token
+abbrev pub choice : Predicted → Kind → Choice
+choice (exact u) t = on_exact u t
+choice expression t = on_expression t []
+choice operand t = on_operand t []
+choice equality t = on_equality t
+choice test t = on_test t
+choice operand_test t = on_operand_test t
+choice if_test t = on_if_test t
+choice more_names t = on_more_names t
+choice maybe_names t = on_maybe_names t
+choice maybe_values t = on_maybe_values t
+choice maybe_arguments t = on_maybe_arguments t
+choice (rest b) t = on_rest b t
+choice (next b) t = on_next b t
+choice maybe_expressions t = on_maybe_expressions t
+choice more_expressions t = on_more_expressions t
+choice relation t = on_relation t
+choice maybe_fields t = on_maybe_fields t
+choice more_fields t = on_more_fields t
+choice (conjunct d) t = on_conjunct d t []
+choice (more_conjuncts d) t = on_more_conjuncts d t
+choice (assertion d) t = on_conjunct d t (more_conjuncts d ∷ [])
+choice maybe_assertion t = or_skip (on_conjunct NESTING t (more_conjuncts NESTING ∷ []))
+choice maybe_annotation t = on_maybe_annotation t
+choice named t = on_named t
+choice assigned t = on_assigned t
+choice look_up_or_end t = on_look_up_or_end t
+choice after_call t = on_after_call t
+choice disposed t = on_disposed t
+choice (command d) t = on_command d t []
+choice (commands d) t = or_skip (on_command d t (commands d ∷ []))
+choice (branch d) t = on_branch d t
+choice locals t = on_locals t
+choice item_named t = on_item_named t
+choice items t = on_items t
+
+-- a command or an assertion takes a level, unless it begins with at most n tokens left
+abbrev pub is_free : Predicted → (n left : ℕ) → Bool
+is_free (command d) n left = has_level n left d
+is_free (commands d) n left = has_level n left d
+is_free (assertion d) n left = has_level n left d
+is_free _ n left = true
+
+-- what comes of a stack at one token
+pub data Next : Type 0 where
+  goes : List Predicted → Next
+  bad : Next
+  deep : Next
+
+-- a stack, if there is a level for it
+abbrev pub leveled : Bool → List Predicted → Next
+leveled true st = goes st
+leveled false st = deep
+
+-- what comes of a choice
+abbrev pub chosen : Choice → (free : Bool) → List Predicted → Next → Next
+chosen (take ss) free st without = leveled free (ss ++ st)
+chosen skip free st without = without
+chosen refuse free st without = bad
+
+-- the topmost that takes the token takes it
+abbrev pub step : (n left : ℕ) → List Predicted → Kind → Next
+step n left [] t = bad
+step n left (s ∷ st) t = chosen (choice s t) (is_free s n left) st (step n left st t)
+
+-- whether it need not come at the end of the file
+abbrev pub is_optional : Predicted → Bool
+is_optional more_names = true
+is_optional maybe_names = true
+is_optional maybe_values = true
+is_optional maybe_arguments = true
+is_optional (rest b) = true
+is_optional maybe_expressions = true
+is_optional more_expressions = true
+is_optional maybe_fields = true
+is_optional more_fields = true
+is_optional (more_conjuncts d) = true
+is_optional maybe_assertion = true
+is_optional maybe_annotation = true
+is_optional (commands d) = true
+is_optional (branch d) = true
+is_optional locals = true
+is_optional items = true
+is_optional _ = false
+
+-- both are true
+abbrev pub both : Bool → Bool → Bool
+both true b = b
+both false b = false
+
+-- whether the file may end
+abbrev pub may_end : List Predicted → Bool
+may_end [] = true
+may_end (s ∷ st) = both (is_optional s) (may_end st)
+
+-- the verdict, with how many tokens are left at the fault
+pub data Verdict : Type 0 where
+  accepted : Verdict
+  unexpected : ℕ → Verdict
+  too_deep : ℕ → Verdict
+
+-- the verdict at the end of the file
+abbrev pub at_end : Bool → Verdict
+at_end true = accepted
+at_end false = unexpected 0
+
+-- the verdict after one token
+abbrev pub after : (List Predicted → Verdict) → ℕ → Next → Verdict
+after f left (goes st) = f st
+after f left bad = unexpected left
+after f left deep = too_deep left
+
+-- the verdict over tokens where that is owed
+abbrev pub verdict : ℕ → List Kind → List Predicted → Verdict
+verdict n [] st = at_end (may_end st)
+verdict n (t ∷ ts) st = after (λ s. verdict n ts s) (suc (length ts)) (step n (suc (length ts)) st t)

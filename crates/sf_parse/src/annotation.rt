@@ -1,0 +1,81 @@
+//! Assertions in square brackets.
+
+ghost use Rattle.std.specs.Prelude.{◌≡◌, ◌∷◌, [], IfErr, IfOk};
+ghost use Rattle.std.specs.Option.{option_map};
+ghost use Rattle.sf_ast.specs.View.{annotation_of};
+ghost use Rattle.sf_parse.specs.Grammar.{maybe_annotation, annotation};
+ghost use Rattle.sf_parse.specs.Internal.Machine as m;
+ghost use Rattle.sf_parse.specs.Nesting.{MaybeWithin, NoteWithin};
+ghost use Rattle.sf_parse.specs.Parsing.{kinds};
+ghost use Rattle.sf_parse.specs.Placed.{MaybeNoteAt, NoteAt};
+ghost use Rattle.sf_parse.specs.Internal.Steps.{Placed, FailsAt, Accepts};
+
+use crate::assertion::assertion;
+use crate::front::eat;
+use crate::leaf::expect;
+use crate::stop::Stop;
+use sf_ast::SurfaceNote;
+use sf_base::limits::NESTING;
+use sf_lex::{Kind, Token};
+use std::alloc::Global;
+
+/// A note after its opening bracket.
+#[tactic(auto, using(crate::proofs::Conjuncts::behind))]
+fn inside(alloc: Global, tokens: &[Token]) -> Result<(SurfaceNote, &[Token]), Stop>
+    ensures spelled { IfOk result (λ r. Kind.OpenSquare ∷ kinds tokens.now
+        ≡ annotation (annotation_of r.0) (kinds r.1.now)) }
+    ensures within { IfOk result (λ r. NoteWithin (annotation_of r.0) 0 (kinds r.1.now)) }
+    ensures places { IfOk result (λ r. Placed (λ at b. NoteAt at (annotation_of r.0) b) tokens.now r.1.now) }
+    ensures taken { IfOk result (λ r.
+        Accepts (m.maybe_assertion ∷ m.exact m.close_square ∷ []) tokens.now r.1.now) }
+    ensures fault { IfErr result (λ e. FailsAt e (m.maybe_assertion ∷ m.exact m.close_square ∷ []) tokens.now) }
+{
+    if let Some((_, rest)) = eat(tokens, Kind::CloseSquare) {
+        return Ok((SurfaceNote { assertion: None }, rest));
+    }
+    let (found, rest) = assertion(alloc, NESTING, tokens)?;
+    let (_, rest) = expect(rest, Kind::CloseSquare)?;
+    Ok((
+        SurfaceNote {
+            assertion: Some(found),
+        },
+        rest,
+    ))
+}
+
+/// A note.
+pub fn annotation(alloc: Global, tokens: &[Token]) -> Result<(SurfaceNote, &[Token]), Stop>
+    ensures spelled { IfOk result (λ r. kinds tokens.now ≡ annotation (annotation_of r.0) (kinds r.1.now)) }
+    ensures within { IfOk result (λ r. NoteWithin (annotation_of r.0) 0 (kinds r.1.now)) }
+    ensures places { IfOk result (λ r. Placed (λ at b. NoteAt at (annotation_of r.0) b) tokens.now r.1.now) }
+    ensures taken { IfOk result (λ r.
+        Accepts (m.exact m.open_square ∷ m.maybe_assertion ∷ m.exact m.close_square
+        ∷ []) tokens.now r.1.now) }
+    ensures fault { IfErr result
+        (λ e. FailsAt e (m.exact m.open_square ∷ m.maybe_assertion ∷ m.exact m.close_square
+        ∷ []) tokens.now) }
+{
+    let (_, rest) = expect(tokens, Kind::OpenSquare)?;
+    inside(alloc, rest)
+}
+
+/// A note, or none.
+#[tactic(auto, using(crate::proofs::Choices::choices))]
+pub fn maybe_annotation(
+    alloc: Global,
+    tokens: &[Token],
+) -> Result<(Option<SurfaceNote>, &[Token]), Stop>
+    ensures spelled { IfOk result (λ r. kinds tokens.now
+        ≡ maybe_annotation (option_map annotation_of r.0) (kinds r.1.now)) }
+    ensures within { IfOk result (λ r. MaybeWithin (option_map annotation_of r.0) 0 (kinds r.1.now)) }
+    ensures places { IfOk result (λ r.
+        Placed (λ at b. MaybeNoteAt at (option_map annotation_of r.0) b) tokens.now r.1.now) }
+    ensures taken { IfOk result (λ r. Accepts (m.maybe_annotation ∷ []) tokens.now r.1.now) }
+    ensures fault { IfErr result (λ e. FailsAt e (m.maybe_annotation ∷ []) tokens.now) }
+{
+    let Some((_, rest)) = eat(tokens, Kind::OpenSquare) else {
+        return Ok((None, tokens));
+    };
+    let (found, rest) = inside(alloc, rest)?;
+    Ok((Some(found), rest))
+}
