@@ -3,7 +3,8 @@
 use Rattle.std.specs.Prelude.{◌≡◌, ◌≢◌, ℕ, Bool, true, false, cond, Option, Some, None, ◌⊎◌, ◌↔◌, ◌==◌}
 use Rattle.std.proofs.Common.{sym, ap, ◌∙◌, refl, subst, inl, inr, arith}
 use Rattle.std.proofs.lemmas.Bool.Decides.{nat_tests}
-use Rattle.sf_base.proofs.Cases.{none-not_some, some-same}
+use Rattle.std.proofs.lemmas.Option.{same_Some, none-some}
+use Rattle.std.proofs.lemmas.Bool.{cases_eq}
 use Rattle.sf_base.proofs.MapSplits.{empty_map, empty-holds, changed, only, map-same, splits-comm, splits-assoc_right, splits-assoc_left, splits-by_test, splits-changed_left, splits-put_left, splits-lacks_both, splits-cancel_left, splits-has_left, splits-lacks_right, splits-empty_left, splits-empty_right, splits-of_empty_left, splits-of_empty_right}
 use Rattle.sf_base.specs.HeapStore.{Cell, Heap, IsEmpty, IsOne, Splits, ◌⋆◌}
 
@@ -35,14 +36,6 @@ at-self a = grind (arith, nat_tests)
 pub at-other : (location other : ℕ) → other ≢ location → at_ location other ≡ false
 at-other a b e = grind (arith, nat_tests)
 
--- each location is the one or another
-pub at-which : (location other : ℕ) → (other ≡ location) ⊎ (other ≢ location)
-at-which a b = go (at_ a b) refl
-  where
-    go : (t : Bool) → at_ a b ≡ t → (b ≡ a) ⊎ (b ≢ a)
-    go true e = inl (at-same a b e)
-    go false e = inr (λ (s : b ≡ a). grind (arith, nat_tests))
-
 -- what is put is there
 pub put-here : (location : ℕ) (entry : Option Cell) (heap : Heap)
     → changed (at_ location) entry heap location ≡ entry
@@ -64,7 +57,7 @@ one-single a c =
 -- a heap with one cell is the one with just that cell
 pub one-is : {location : ℕ} {cell : Cell} {heap : Heap} → IsOne location cell heap
     → heap ≡ single location cell
-one-is {location} {cell} {heap} o = map-same heap (single location cell) (λ b. go b (at-which location b))
+one-is {location} {cell} {heap} o = map-same heap (single location cell) (λ b. go b (cases_eq b location))
   where
     go : (b : ℕ) → (b ≡ location) ⊎ (b ≢ location) → heap b ≡ single location cell b
     go b (inl e) =
@@ -80,21 +73,21 @@ one-same o p = one-is o ∙ sym (one-is p)
 -- a heap has one cell at one place
 pub one-same_place : {location other : ℕ} {cell also : Cell} {heap : Heap} → IsOne location cell heap
     → IsOne other also heap → (location ≡ other) × (cell ≡ also)
-one-same_place {location} {other} {cell} {also} {heap} o p = go (at-which other location)
+one-same_place {location} {other} {cell} {also} {heap} o p = go (cases_eq location other)
   where
     go : (location ≡ other) ⊎ (location ≢ other) → (location ≡ other) × (cell ≡ also)
-    go (inl e) = (e, some-same cell also (sym o.here ∙ ap heap e ∙ p.here))
-    go (inr n) = absurd (none-not_some cell (sym (p.elsewhere location n) ∙ o.here))
+    go (inl e) = (e, same_Some cell also (sym o.here ∙ ap heap e ∙ p.here))
+    go (inr n) = absurd (none-some cell (sym (p.elsewhere location n) ∙ o.here))
 
 -- a heap with one cell is not empty
 pub one-not_empty : {location : ℕ} {cell : Cell} {heap : Heap} → IsOne location cell heap → IsEmpty heap → ⊥
-one-not_empty {location} {cell} o e = none-not_some cell (sym (e.none location) ∙ o.here)
+one-not_empty {location} {cell} o e = none-some cell (sym (e.none location) ∙ o.here)
 
 -- a heap with one cell has something just at its location
 pub one-there : {location : ℕ} {cell : Cell} {heap : Heap} → IsOne location cell heap → (other : ℕ)
     → heap other ≢ None ↔ (other ≡ location)
 one-there {location} {cell} {heap} o other =
-    (λ n. go n (at-which location other), λ e s. none-not_some cell (sym s ∙ ap heap e ∙ o.here))
+    (λ n. go n (cases_eq other location), λ e s. none-some cell (sym s ∙ ap heap e ∙ o.here))
   where
     go : heap other ≢ None → (other ≡ location) ⊎ (other ≢ location) → other ≡ location
     go n (inl e) = e
@@ -112,7 +105,7 @@ one-splits a c h e = subst (λ z. Splits h z (remove_cell a h)) (go ∙ refl) (s
     at b (inr n) = ap (λ t. cond t (h b) None) (at-other a b n) ∙ sym (put-elsewhere a b (Some c) empty_map n)
 
     go : only (at_ a) h ≡ single a c
-    go = map-same (only (at_ a) h) (single a c) (λ b. at b (at-which a b))
+    go = map-same (only (at_ a) h) (single a c) (λ b. at b (cases_eq b a))
 
 -- what splits off beside one cell is the heap without it
 pub one-rest : {heap one rest : Heap} {location : ℕ} {cell : Cell} → IsOne location cell one
@@ -164,7 +157,7 @@ one-put_cell {location} {heap = heap} new o =
 -- without its only cell a heap is empty
 pub one-remove_cell : {location : ℕ} {cell : Cell} {heap : Heap} → IsOne location cell heap
     → IsEmpty (remove_cell location heap)
-one-remove_cell {location} {heap = heap} o = record { none = λ b. go b (at-which location b) }
+one-remove_cell {location} {heap = heap} o = record { none = λ b. go b (cases_eq b location) }
   where
     go : (b : ℕ) → (b ≡ location) ⊎ (b ≢ location) → remove_cell location heap b ≡ None
     go b (inl e) = subst (λ z. remove_cell location heap z ≡ None) (sym e) (put-here location None heap)
