@@ -1,5 +1,4 @@
-pub mod Bools
 pub mod Terms
 pub mod Parts
 pub mod States
-pub mod Worked
+pub mod SmallGoals

@@ -21,8 +21,10 @@ pub record Pending : Type 0 where
   pub conjuncts : Conjuncts Term
   pub bindings : List (Option Term)
 
--- what there is to do: a command; conjuncts to assume; conjuncts to show and hand over, with the names of their existentials;
--- variables to set and to remove; a loop; the ends of a loop's body, of a region, of the procedure, and of all
+-- what there is to do: a command; conjuncts to assume; conjuncts to show and hand over, with the names
+-- of their existentials;
+-- variables to set and to remove; a loop; the ends of a loop's body, of a region, of the procedure, and
+-- of all
 pub data Item : Type 0 where
   run : Command → Item
   add : Place → Pending → Item
@@ -41,7 +43,8 @@ pub record Goal : Type 0 where
 
 -- the conjuncts of the code, which has the next one last
 abbrev pub pending_of : CodePending → Pending
-pending_of p = record { conjuncts = conjuncts (map conjunct_of (reverse p.conjuncts.items)); bindings = p.bindings }
+pending_of p =
+    record { conjuncts = conjuncts (map conjunct_of (reverse p.conjuncts.items)); bindings = p.bindings }
 
 -- an item of the code: commands are an item each
 abbrev pub items_of : CodeItem → List Item

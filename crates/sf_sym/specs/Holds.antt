@@ -1,5 +1,6 @@
 -- Holds: which values of the variables and which heaps a goal stands for.
--- Berdine, Calcagno, O'Hearn, "Symbolic Execution with Separation Logic" (2005), section 3; Reynolds (2002) for the connectives.
+-- Berdine, Calcagno, O'Hearn, "Symbolic Execution with Separation Logic" (2005), section 3; Reynolds
+-- (2002) for the connectives.
 use Rattle.std.specs.Prelude.{◌≡◌, ◌≢◌, ℕ, List, [], ◌∷◌, Option, Some, None, get_or}
 use Rattle.sf_base.specs.declared.ids.FieldId.{FieldId}
 use Rattle.sf_base.specs.declared.ids.Var.{Var}
@@ -43,7 +44,9 @@ TreeAlong (Some left) (Some right) root heap = IsTree left right root heap
 
 -- an atom holds on exactly that heap
 abbrev pub AtomHolds : (ℕ → Value) → Links → Atom → Heap → Type 0
-AtomHolds w links (Points t fields) heap = (location : ℕ) × (here : Cell) × (term_value w t ≡ loc location) × IsOne location here heap × HasFields (term_value w) fields here
+AtomHolds w links (Points t fields) heap =
+    (location : ℕ) × (here : Cell) × (term_value w t ≡ loc location) × IsOne location here heap
+    × HasFields (term_value w) fields here
 AtomHolds w links (Ls t u) heap = SegAlong links.tl (term_value w t) (term_value w u) heap
 AtomHolds w links (Tree t) heap = TreeAlong links.l links.r (term_value w t) heap
 
@@ -58,9 +61,11 @@ IsBound w bindings some = (n : ℕ) (t : Term) → get_or bindings n None ≡ So
 
 -- the conjuncts hold on exactly that heap, with some values of the existentials that have no term yet
 abbrev pub PendingHolds : (ℕ → Value) → Pending → Heap → Type 0
-PendingHolds w given heap = (some : ℕ → Value) × IsBound w given.bindings some × SatAll given.conjuncts (term_value w) some heap
+PendingHolds w given heap =
+    (some : ℕ → Value) × IsBound w given.bindings some × SatAll given.conjuncts (term_value w) some heap
 
--- what is to be assumed before the first other thing to do holds on pairwise disjoint heaps that make up the heap
+-- what is to be assumed before the first other thing to do holds on pairwise disjoint heaps that make up
+-- the heap
 abbrev pub AddsHold : (ℕ → Value) → List Item → Heap → Type 0
 AddsHold w [] heap = IsEmpty heap
 AddsHold w (add p given ∷ items) heap = (PendingHolds w given ⋆ AddsHold w items) heap
@@ -77,7 +82,8 @@ AddsHold w (end p ∷ items) heap = IsEmpty heap
 pub record HoldsAt (w : ℕ → Value) (goal : Goal) (e : Var → Option Value) (heap : Heap) : Type 0 where
   pub vars : AllByRecursion (Agrees w e) goal.state.vars
   pub apart : AllByRecursion (Differ w) goal.state.apart
-  pub heaps : (AtomsHold w goal.state.links goal.state.atoms ⋆ (AtomsHold w goal.state.links goal.state.taken ⋆ AddsHold w goal.todo)) heap
+  pub heaps : (AtomsHold w goal.state.links goal.state.atoms ⋆
+      (AtomsHold w goal.state.links goal.state.taken ⋆ AddsHold w goal.todo)) heap
 
 -- Holds: it does so with some values of the symbols
 abbrev pub Holds : Goal → (Var → Option Value) → Heap → Type 0

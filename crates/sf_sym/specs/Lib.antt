@@ -1,6 +1,6 @@
 pub mod Goal
 pub mod Tests
 pub mod Holds
-pub mod Kept
 pub mod Laws
-pub mod Instances
+pub mod Lemmas
+pub mod Examples

@@ -1,5 +1,7 @@
--- The tests of a state: which terms surely differ, which are surely locations, and whether the state can be at all.
--- Berdine, Calcagno, O'Hearn, "Symbolic Execution with Separation Logic" (2005), section 4, in this project's own profile.
+-- The tests of a state: which terms surely differ, which are surely locations, and whether the state can
+-- be at all.
+-- Berdine, Calcagno, O'Hearn, "Symbolic Execution with Separation Logic" (2005), section 4, in this
+-- project's own profile.
 use Rattle.std.specs.Prelude.{ℕ, ◌==◌, Bool, true, false, ◌&&◌, ◌||◌, not, List, [], ◌∷◌, ◌++◌, Option, Some, None}
 use Rattle.std.specs.List.{list_any}
 use Rattle.std.specs.Ordering.{int_eq}
@@ -33,8 +35,9 @@ abbrev pub is_pair : Term → Term → Term × Term → Bool
 is_pair t u p = same_term p.0 t && same_term p.1 u || same_term p.0 u && same_term p.1 t
 
 -- two terms differ at once: they are different constants, or one of the pairs that differ
-abbrev pub direct : List (Term × Term) → Term → Term → Bool
-direct apart t u = is_constant t && is_constant u && not (same_term t u) || list_any (is_pair t u) apart
+abbrev pub differs_at_once : List (Term × Term) → Term → Term → Bool
+differs_at_once apart t u =
+    is_constant t && is_constant u && not (same_term t u) || list_any (is_pair t u) apart
 
 -- the term at which an atom begins
 abbrev pub root : Atom → Term
@@ -45,8 +48,8 @@ root (Tree t) = t
 -- an atom has a cell at its root: it is a cell, or a segment or a tree that isn't empty
 abbrev pub has_cell : List (Term × Term) → Atom → Bool
 has_cell apart (Points t fields) = true
-has_cell apart (Ls t u) = direct apart t u
-has_cell apart (Tree t) = direct apart t Nil
+has_cell apart (Ls t u) = differs_at_once apart t u
+has_cell apart (Tree t) = differs_at_once apart t Nil
 
 -- an atom allocates a term: it has a cell there
 abbrev pub allocates : List (Term × Term) → Term → Atom → Bool
@@ -62,16 +65,20 @@ abbrev pub parts : State → List Numbered
 parts s = s.atoms ++ s.taken
 
 -- some atom or taken atom, other than the one that is left out, allocates the term
-abbrev pub allocated : State → Term → Option ℕ → Bool
-allocated s t except = list_any (λ a. not (is_left_out except a.number) && allocates s.apart t a.atom) (parts s)
+abbrev pub is_allocated : State → Term → Option ℕ → Bool
+is_allocated s t except =
+    list_any (λ a. not (is_left_out except a.number) && allocates s.apart t a.atom) (parts s)
 
 -- two different atoms allocate the two terms
-abbrev pub both_allocated : State → Term → Term → Bool
-both_allocated s t u = list_any (λ a. allocates s.apart t a.atom && allocated s u (Some a.number)) (parts s)
+abbrev pub are_both_allocated : State → Term → Term → Bool
+are_both_allocated s t u =
+    list_any (λ a. allocates s.apart t a.atom && is_allocated s u (Some a.number)) (parts s)
 
 -- two terms surely differ: at once, or as a constant and a location, or as the locations of two cells
 abbrev pub differs : State → Term → Term → Bool
-differs s t u = direct s.apart t u || is_constant t && allocated s u None || is_constant u && allocated s t None || both_allocated s t u
+differs s t u =
+    differs_at_once s.apart t u || is_constant t && is_allocated s u None || is_constant u
+    && is_allocated s t None || are_both_allocated s t u
 
 -- an atom has a cell at a constant
 abbrev pub is_at_constant : List (Term × Term) → Atom → Bool
@@ -92,9 +99,14 @@ is_impossible apart a = is_at_constant apart a || is_integer_tree a
 -- two atoms of the list allocate one term
 abbrev pub has_repeat : List (Term × Term) → List Numbered → Bool
 has_repeat apart [] = false
-has_repeat apart (a ∷ rest) = list_any (λ b. allocates apart (root a.atom) b.atom) rest && has_cell apart a.atom || has_repeat apart rest
+has_repeat apart (a ∷ rest) =
+    list_any (λ b. allocates apart (root a.atom) b.atom) rest && has_cell apart a.atom
+    || has_repeat apart rest
 
--- no store and heap have the state: a term would differ from itself, or a constant would be a location, or an integer a tree,
+-- no store and heap have the state: a term would differ from itself, or a constant would be a location,
+-- or an integer a tree,
 -- or two cells would be one
 abbrev pub is_absurd : State → Bool
-is_absurd s = list_any (λ p. same_term p.0 p.1) s.apart || list_any (λ a. is_impossible s.apart a.atom) (parts s) || has_repeat s.apart (parts s)
+is_absurd s =
+    list_any (λ p. same_term p.0 p.1) s.apart || list_any (λ a. is_impossible s.apart a.atom) (parts s)
+    || has_repeat s.apart (parts s)

@@ -7,8 +7,8 @@ use sf_base::{FieldId, Sequence};
 /// A part of the heap, as a state knows it.
 #[derive(Debug, Drop)]
 pub enum Atom {
-    /// Exactly one cell, at the root, with these terms in these fields. The fields differ, and stand in
-    /// declared order.
+    /// Exactly one cell, at the root, with these terms in these fields. The fields differ, and are
+    /// in declared order.
     Points(Term, Sequence<(FieldId, Term)>),
     /// A list segment from the first term, its root, up to the second.
     Ls(Term, Term),

@@ -2,7 +2,8 @@ use crate::term::Term;
 use sf_base::Sequence;
 use sf_core::Conjunct;
 
-/// Conjuncts with terms that are still to be worked, and what their existentials stand for so far.
+/// Conjuncts with terms that are still to be assumed or to be shown, and what their existentials stand
+/// for so far.
 #[derive(Debug, Drop)]
 pub struct Pending {
     /// The conjuncts, the next one last, so that taking it costs nothing.
@@ -10,9 +11,3 @@ pub struct Pending {
     /// The term of each existential by its number, where it has one.
     pub bindings: Sequence<Option<Term>>,
 }
-
-/// Conjuncts that are still to be assumed.
-pub type Given = Pending;
-
-/// Conjuncts that are still to be shown and handed over.
-pub type Want = Pending;

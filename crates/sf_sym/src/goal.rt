@@ -1,4 +1,4 @@
-use crate::given::{Given, Want};
+use crate::given::Pending;
 use crate::state::State;
 use crate::term::Term;
 use sf_base::{Name, Place, ResId, Sequence, Var};
@@ -10,10 +10,10 @@ pub enum Item<'a> {
     /// These commands, in order. Each is a thing to do of its own, and has its own place.
     Run(&'a [Command]),
     /// Assume these conjuncts.
-    Add(Place, Given),
+    Add(Place, Pending),
     /// Show these conjuncts and hand their parts of the heap over. The names are those of their
     /// existentials, by number.
-    Take(Place, Want, &'a [Name]),
+    Take(Place, Pending, &'a [Name]),
     /// What was taken is gone for good: these variables have these terms, and these ones are removed.
     Gave(Place, Sequence<(Var, Term)>, Sequence<Var>),
     /// A loop whose invariant was handed over: its test, its invariant and its body.

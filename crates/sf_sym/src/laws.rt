@@ -4,16 +4,19 @@
 ghost use Rattle.sf_sym.specs.Laws.{AllocatedTermsAreLocations, DifferingTermsDiffer, HeldStatesAreNotAbsurd};
 
 /// Terms for which `State::differs` is true have different values.
+#[tactic(auto, using(crate::proofs::States::differing_terms_differ))]
 pub fn differing_terms_differ()
     ensures { DifferingTermsDiffer }
 {}
 
-/// A term for which `State::allocated` is true is the location of a cell of the heap.
+/// A term for which `State::is_allocated` is true is the location of a cell of the heap.
+#[tactic(auto, using(crate::proofs::States::allocated_terms_are_locations))]
 pub fn allocated_terms_are_locations()
     ensures { AllocatedTermsAreLocations }
 {}
 
 /// `State::is_absurd` is false.
+#[tactic(auto, using(crate::proofs::States::held_states_are_not_absurd))]
 pub fn held_states_are_not_absurd()
     ensures { HeldStatesAreNotAbsurd }
 {}

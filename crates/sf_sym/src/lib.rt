@@ -1,20 +1,27 @@
 //! Symbolic states and goals: what is known at a point of a procedure, and what is still to do there.
+//! The specs/ say which stores and heaps a goal stands for (`Holds`), and what the tests of a state are.
 //!
-//! A state stands for stores and heaps, a goal for these and for the rest of a proof. The specs/ say
-//! which ones (`Holds`), and what the tests of a state are.
+//! - `term`: values as a state knows them.
+//! - `atom`: the parts of a heap, as a state knows them.
+//! - `state`: states and their tests.
+//! - `given`: conjuncts that are still to be assumed or to be shown.
+//! - `goal`: a state, and what is still to do from there.
+//! - `tag`: the steps of a proof.
+//! - `laws`: what the tests of a state tell of its stores and heaps.
+//! - `examples`: examples of small goals.
 #![tactic(auto)]
 
-pub mod atom;
-pub mod given;
-pub mod goal;
-pub mod instances;
+mod atom;
+pub mod examples;
+mod given;
+mod goal;
 pub mod laws;
-pub mod state;
-pub mod tag;
-pub mod term;
+mod state;
+mod tag;
+mod term;
 
 pub use atom::{Atom, Numbered};
-pub use given::{Given, Pending, Want};
+pub use given::Pending;
 pub use goal::{Goal, Item};
 pub use state::State;
 pub use tag::Tag;

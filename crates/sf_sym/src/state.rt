@@ -1,6 +1,6 @@
 ghost use Rattle.std.specs.Prelude.{◌≡◌, ◌&&◌, ◌||◌, ◌++◌, not};
 ghost use Rattle.std.specs.List.{list_any};
-ghost use Rattle.sf_sym.specs.Tests.{allocated, allocates, both_allocated, differs, direct, has_cell, has_repeat, is_absurd, is_constant, is_impossible, is_integer_tree, is_left_out, is_pair, parts, root, same_term};
+ghost use Rattle.sf_sym.specs.Tests.{is_allocated, allocates, are_both_allocated, differs, differs_at_once, has_cell, has_repeat, is_absurd, is_constant, is_impossible, is_integer_tree, is_left_out, is_pair, parts, root, same_term};
 
 use crate::atom::{Atom, Numbered};
 use crate::term::Term;
@@ -28,19 +28,19 @@ pub struct State {
 
 impl State {
     /// Whether two terms differ at once: different constants, or one of the pairs that differ.
-    fn direct(&self, t: Term, u: Term) -> bool
-        ensures { result ≡ direct self.now.apart t u }
+    fn differs_at_once(&self, t: Term, u: Term) -> bool
+        ensures { result ≡ differs_at_once self.now.apart t u }
     {
-        is_direct(self.apart.as_slice(), t, u)
+        differ_at_once(self.apart.as_slice(), t, u)
     }
 
     /// Whether an atom or a taken atom other than number `except` has a cell at the term.
-    pub fn allocated(&self, t: Term, except: Option<u32>) -> bool
-        ensures { result ≡ allocated self.now t except }
+    pub fn is_allocated(&self, t: Term, except: Option<u32>) -> bool
+        ensures { result ≡ is_allocated self.now t except }
     {
         let apart = self.apart.as_slice();
-        is_allocated(apart, self.atoms.as_slice(), t, except)
-            || is_allocated(apart, self.taken.as_slice(), t, except)
+        has_other_allocator(apart, self.atoms.as_slice(), t, except)
+            || has_other_allocator(apart, self.taken.as_slice(), t, except)
     }
 
     /// Whether two terms surely differ: at once, or as a constant and a location, or as the locations of
@@ -49,15 +49,15 @@ impl State {
     pub fn differs(&self, t: Term, u: Term) -> bool
         ensures { result ≡ differs self.now t u }
     {
-        self.direct(t, u)
-            || t.is_constant() && self.allocated(u, None)
-            || u.is_constant() && self.allocated(t, None)
-            || self.both_allocated(t, u)
+        self.differs_at_once(t, u)
+            || t.is_constant() && self.is_allocated(u, None)
+            || u.is_constant() && self.is_allocated(t, None)
+            || self.are_both_allocated(t, u)
     }
 
     /// Whether two different atoms or taken atoms have cells at these terms.
-    fn both_allocated(&self, t: Term, u: Term) -> bool
-        ensures { result ≡ both_allocated self.now t u }
+    fn are_both_allocated(&self, t: Term, u: Term) -> bool
+        ensures { result ≡ are_both_allocated self.now t u }
     {
         self.has_first(self.atoms.as_slice(), t, u) || self.has_first(self.taken.as_slice(), t, u)
     }
@@ -65,16 +65,19 @@ impl State {
     /// Whether one of these atoms has a cell at the first term, and a different one of the state has a cell
     /// at the second.
     fn has_first(&self, atoms: &[Numbered], t: Term, u: Term) -> bool
-        ensures { result ≡ list_any (λ a. allocates self.now.apart t a.atom && allocated self.now u (Some a.number)) atoms.now }
+        ensures { result ≡ list_any
+            (λ a. allocates self.now.apart t a.atom && is_allocated self.now u (Some a.number))
+            atoms.now }
     {
         atoms.iter().any(|a| self.allocates_first(a, t, u))
     }
 
     /// Whether the atom has a cell at the first term, and another one has a cell at the second.
     fn allocates_first(&self, a: &Numbered, t: Term, u: Term) -> bool
-        ensures { result ≡ (allocates self.now.apart t a.now.atom && allocated self.now u (Some a.now.number)) }
+        ensures { result ≡ (allocates self.now.apart t a.now.atom
+            && is_allocated self.now u (Some a.now.number)) }
     {
-        allocates(self.apart.as_slice(), t, &a.atom) && self.allocated(u, Some(a.number))
+        allocates(self.apart.as_slice(), t, &a.atom) && self.is_allocated(u, Some(a.number))
     }
 
     /// Whether no store and heap have the state: a term would differ from itself, or a constant would be
@@ -112,8 +115,8 @@ impl State {
 }
 
 /// Whether two terms differ at once, by those pairs.
-fn is_direct(apart: &[(Term, Term)], t: Term, u: Term) -> bool
-    ensures { result ≡ direct apart.now t u }
+fn differ_at_once(apart: &[(Term, Term)], t: Term, u: Term) -> bool
+    ensures { result ≡ differs_at_once apart.now t u }
 {
     are_different_constants(t, u) || is_listed(apart, t, u)
 }
@@ -145,8 +148,8 @@ fn has_cell(apart: &[(Term, Term)], atom: &Atom) -> bool
 {
     match atom {
         Atom::Points(..) => true,
-        Atom::Ls(t, u) => is_direct(apart, *t, *u),
-        Atom::Tree(t) => is_direct(apart, *t, Term::Nil),
+        Atom::Ls(t, u) => differ_at_once(apart, *t, *u),
+        Atom::Tree(t) => differ_at_once(apart, *t, Term::Nil),
     }
 }
 
@@ -158,8 +161,14 @@ fn allocates(apart: &[(Term, Term)], t: Term, atom: &Atom) -> bool
 }
 
 /// Whether an atom of the list other than number `except` has a cell at the term.
-fn is_allocated(apart: &[(Term, Term)], atoms: &[Numbered], t: Term, except: Option<u32>) -> bool
-    ensures { result ≡ list_any (λ a. not (is_left_out except a.number) && allocates apart.now t a.atom) atoms.now }
+fn has_other_allocator(
+    apart: &[(Term, Term)],
+    atoms: &[Numbered],
+    t: Term,
+    except: Option<u32>,
+) -> bool
+    ensures { result ≡ list_any
+        (λ a. not (is_left_out except a.number) && allocates apart.now t a.atom) atoms.now }
 {
     atoms.iter().any(|a| allocates_beside(apart, a, t, except))
 }
@@ -203,12 +212,13 @@ fn is_integer_tree(atom: &Atom) -> bool
 }
 
 /// Whether an atom of the first list and a later one, there or in the second list, have cells at one term.
-fn repeats(apart: &[(Term, Term)], atoms: &[Numbered], behind: &[Numbered]) -> bool
-    ensures { (result || has_repeat apart.now behind.now) ≡ has_repeat apart.now (atoms.now ++ behind.now) }
+fn repeats(apart: &[(Term, Term)], atoms: &[Numbered], later: &[Numbered]) -> bool
+    ensures { (result || has_repeat apart.now later.now)
+        ≡ has_repeat apart.now (atoms.now ++ later.now) }
 {
     let mut left = atoms;
     while let Some((first, rest)) = left.split_first() {
-        if recurs(apart, &first.atom, rest, behind) {
+        if recurs(apart, &first.atom, rest, later) {
             return true;
         }
         left = rest;
@@ -217,12 +227,12 @@ fn repeats(apart: &[(Term, Term)], atoms: &[Numbered], behind: &[Numbered]) -> b
 }
 
 /// Whether the atom and one of the two lists have cells at one term.
-fn recurs(apart: &[(Term, Term)], atom: &Atom, rest: &[Numbered], behind: &[Numbered]) -> bool
-    ensures { result ≡ (list_any (λ b. allocates apart.now (root atom.now) b.atom) (rest.now ++ behind.now) && has_cell apart.now atom.now) }
+fn recurs(apart: &[(Term, Term)], atom: &Atom, rest: &[Numbered], later: &[Numbered]) -> bool
+    ensures { result ≡ (list_any (λ b. allocates apart.now (root atom.now) b.atom)
+        (rest.now ++ later.now) && has_cell apart.now atom.now) }
 {
     let root = atom.root();
-    (has_allocator(apart, rest, root) || has_allocator(apart, behind, root))
-        && has_cell(apart, atom)
+    (has_allocator(apart, rest, root) || has_allocator(apart, later, root)) && has_cell(apart, atom)
 }
 
 /// Whether an atom of the list has a cell at the term.
@@ -351,7 +361,7 @@ mod tests {
             let answers = [
                 s.differs(X, Y),
                 s.differs(NIL, X),
-                s.allocated(X, None),
+                s.is_allocated(X, None),
                 s.is_absurd(),
             ];
             assert_eq!(rt; answers, r.answers, "row {i}");
@@ -362,9 +372,9 @@ mod tests {
     #[test]
     fn an_atom_that_is_left_out_allocates_nothing(rt: HostRuntime) -> Result<(), AllocError> {
         let s = state(rt.alloc(), &[], &[Cell(X)], &[Cell(Y)])?;
-        assert!(rt; s.allocated(X, Some(101)));
-        assert!(rt; !s.allocated(X, Some(1)));
-        assert!(rt; !s.allocated(Y, Some(101)));
+        assert!(rt; s.is_allocated(X, Some(101)));
+        assert!(rt; !s.is_allocated(X, Some(1)));
+        assert!(rt; !s.is_allocated(Y, Some(101)));
         assert!(rt; s.differs(NIL, FIVE));
         assert!(rt; !s.differs(FIVE, FIVE));
         Ok(())

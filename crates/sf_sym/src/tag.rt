@@ -6,7 +6,7 @@ use sf_base::ProcId;
 pub enum Tag {
     /// Begin with the first goal of this procedure.
     Procedure(ProcId),
-    /// The state can't be.
+    /// The state is absurd: no store and heap have it.
     Absurd,
     /// An empty segment or tree goes.
     Drop(u32),

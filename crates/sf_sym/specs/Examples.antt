@@ -1,5 +1,6 @@
--- Small goals, worked out: what the definitions say of each.
--- The states are in the manner of Berdine, Calcagno, O'Hearn, "Symbolic Execution with Separation Logic" (2005).
+-- Examples of small goals: what the definitions say of each.
+-- The states are in the manner of Berdine, Calcagno, O'Hearn, "Symbolic Execution with Separation Logic"
+-- (2005).
 use Rattle.std.specs.Prelude.{◌≡◌, ◌↔◌, ℕ, List, [], ◌∷◌, Option, Some, None}
 use Rattle.sf_base.specs.declared.ids.Var.{Var}
 use Rattle.sf_base.specs.declared.ids.Var.TheVariants.{Own}
@@ -16,7 +17,6 @@ use Rattle.sf_sym.specs.declared.term.Term.{Term}
 use Rattle.sf_sym.specs.declared.term.Term.TheVariants.{Nil, Sym}
 use Rattle.sf_sym.specs.Goal.{add, end, Goal}
 use Rattle.sf_sym.specs.Holds.{Holds}
-use Rattle.sf_sym.specs.Kept.{IsKept, IsFitting}
 
 -- x = s0, s0 != nil, and these atoms
 abbrev pub state_with : List Numbered → State
@@ -30,7 +30,8 @@ state_with atoms = record {
   next_atom = 2;
 }
 
--- these conjuncts are to be assumed, with the existential of number 0 having that term, if any; then all is done
+-- these conjuncts are to be assumed, with the existential of number 0 having that term, if any; then all
+-- is done
 abbrev pub goal_with : List Numbered → Conjuncts Term → Option Term → Goal
 goal_with atoms conjuncts binding = record {
   state = state_with atoms;
@@ -42,8 +43,8 @@ abbrev pub one_atom : List Numbered
 one_atom = record { number = 1; atom = Points (Sym 0) ((tl, Sym 1) ∷ []) } ∷ []
 
 -- ls(s1,nil)
-abbrev pub list_behind : Conjuncts Term
-list_behind = also (segment place tl (Known (Sym 1)) (Known Nil)) none
+abbrev pub list_after : Conjuncts Term
+list_after = also (segment place tl (Known (Sym 1)) (Known Nil)) none
 
 -- s0|->tl:_u
 abbrev pub unknown_tail : Conjuncts Term
@@ -53,22 +54,22 @@ unknown_tail = also (points place (Known (Sym 0)) ((tl, Exists 0) ∷ [])) none
 abbrev pub all_are : Value → Var → Option Value
 all_are v x = Some v
 
--- a cell that is there and a list that is to be assumed behind it are two cells
-abbrev pub TwoCellsAreTheGoals : Type 0
-TwoCellsAreTheGoals = Holds (goal_with one_atom list_behind None) (all_are (loc 1)) two_cells
+-- a cell and a list after it, still to be assumed, are two cells
+unfoldable pub TwoCellsAreTheGoals : Type 0
+TwoCellsAreTheGoals = Holds (goal_with one_atom list_after None) (all_are (loc 1)) two_cells
 
 -- a goal in which x differs from nil doesn't hold where x is nil
-abbrev pub NilIsNotTheGoals : Type 0
-NilIsNotTheGoals = (heap : Heap) → Holds (goal_with one_atom list_behind None) (all_are nil) heap → ⊥
+unfoldable pub NilIsNotTheGoals : Type 0
+NilIsNotTheGoals = (heap : Heap) → Holds (goal_with one_atom list_after None) (all_are nil) heap → ⊥
 
 -- an existential that has a term has its value
-abbrev pub BoundExistentialIsItsTerm : Type 0
-BoundExistentialIsItsTerm = (location : ℕ) (cell : Cell) → Holds (goal_with [] unknown_tail (Some Nil)) (all_are (loc location)) (one_cell location cell) ↔ (cell 0 ≡ nil)
+unfoldable pub BoundExistentialIsItsTerm : Type 0
+BoundExistentialIsItsTerm =
+    (location : ℕ) (cell : Cell) → Holds (goal_with [] unknown_tail (Some Nil)) (all_are (loc location))
+    (one_cell location cell) ↔ (cell 0 ≡ nil)
 
 -- one that has none has any
-abbrev pub UnboundExistentialIsAnything : Type 0
-UnboundExistentialIsAnything = (location : ℕ) (cell : Cell) → Holds (goal_with [] unknown_tail None) (all_are (loc location)) (one_cell location cell)
-
--- the state keeps what states keep, and the conjuncts fit it
-abbrev pub StateIsKept : Type 0
-StateIsKept = IsKept (state_with one_atom) × IsFitting (state_with one_atom) (record { conjuncts = list_behind; bindings = Some (Sym 1) ∷ [] })
+unfoldable pub UnboundExistentialIsAnything : Type 0
+UnboundExistentialIsAnything =
+    (location : ℕ) (cell : Cell) → Holds (goal_with [] unknown_tail None) (all_are (loc location))
+    (one_cell location cell)
