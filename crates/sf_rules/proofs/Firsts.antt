@@ -15,31 +15,51 @@ pub nils_push : (from n m : ℕ) → m ≡ from + n → nils from (suc n) ≡ ni
 nils_push from zero m e = let same : m ≡ from = omega (arith, e) in rw same refl
 nils_push from (suc n) m e = ap (λ xs. (Own from, Nil) ∷ xs) (nils_push (suc from) n m (omega (arith, e)))
 
-pub symbols_push : (from n m : ℕ) → m ≡ from + n → symbols from (suc n) ≡ symbols from n ++ (Own m, Sym m) ∷ []
+pub symbols_push : (from n m : ℕ) → m ≡ from + n
+    → symbols from (suc n) ≡ symbols from n ++ (Own m, Sym m) ∷ []
 symbols_push from zero m e = let same : m ≡ from = omega (arith, e) in rw same refl
-symbols_push from (suc n) m e = ap (λ xs. (Own from, Sym from) ∷ xs) (symbols_push (suc from) n m (omega (arith, e)))
+symbols_push from (suc n) m e =
+    ap (λ xs. (Own from, Sym from) ∷ xs) (symbols_push (suc from) n m (omega (arith, e)))
 
-number_step : (x : List ℕ) (xs : List (List ℕ)) (name : List ℕ) (from : ℕ) → ((r : Option ℕ) → IsFirstNamed xs name r → number_of xs name (suc from) ≡ option_map (λ n. record { 0 = suc from + n }) r)
-    → (b : Bool) → bytes_eq x name ≡ b → (r : Option ℕ) → IsFirstNamed (x ∷ xs) name r → cond b (Some (record { 0 = from })) (number_of xs name (suc from)) ≡ option_map (λ n. record { 0 = from + n }) r
+number_step : (x : List ℕ) (xs : List (List ℕ)) (name : List ℕ) (from : ℕ)
+    → ((r : Option ℕ) → IsFirstNamed xs name r → number_of xs name (suc from)
+    ≡ option_map (λ n. record { 0 = suc from + n }) r)
+    → (b : Bool) → bytes_eq x name ≡ b → (r : Option ℕ) → IsFirstNamed (x ∷ xs) name r
+    → cond b (Some (record { 0 = from })) (number_of xs name (suc from))
+    ≡ option_map (λ n. record { 0 = from + n }) r
 number_step x xs name from others true e None h = absurd (h 0 (ap Some ((bytes_eq-Decides x name).0 e)))
-number_step x xs name from others true e (Some zero) h = let z : from ≡ from + 0 = omega arith in ap (λ n. Some (record { 0 = n })) z
-number_step x xs name from others true e (Some (suc k)) h = absurd (h.1 0 (omega arith) (ap Some ((bytes_eq-Decides x name).0 e)))
+number_step x xs name from others true e (Some zero) h =
+    let z : from ≡ from + 0 = omega arith in ap (λ n. Some (record { 0 = n })) z
+number_step x xs name from others true e (Some (suc k)) h =
+    absurd (h.1 0 (omega arith) (ap Some ((bytes_eq-Decides x name).0 e)))
 number_step x xs name from others false e None h = others None (λ k. h (suc k))
-number_step x xs name from others false e (Some zero) h = let f : Some x ≡ Some name = h.0 in let same : x ≡ name = cc in let t : bytes_eq x name ≡ true = (bytes_eq-Decides x name).1 same in absurd (cc)
-number_step x xs name from others false e (Some (suc k)) h = others (Some k) (h.0, λ j l. h.1 (suc j) (omega (arith, l))) ∙ ap (λ n. Some (record { 0 = n })) (omega arith)
+number_step x xs name from others false e (Some zero) h =
+    let f : Some x ≡ Some name = h.0 in
+    let same : x ≡ name = cc in
+    let t : bytes_eq x name ≡ true = (bytes_eq-Decides x name).1 same in absurd (cc)
+number_step x xs name from others false e (Some (suc k)) h =
+    others (Some k) (h.0, λ j l. h.1 (suc j) (omega (arith, l)))
+    ∙ ap (λ n. Some (record { 0 = n })) (omega arith)
 
-pub number_is : (names : List (List ℕ)) (name : List ℕ) (from : ℕ) (r : Option ℕ) → IsFirstNamed names name r → number_of names name from ≡ option_map (λ n. record { 0 = from + n }) r
+pub number_is : (names : List (List ℕ)) (name : List ℕ) (from : ℕ) (r : Option ℕ)
+    → IsFirstNamed names name r → number_of names name from ≡ option_map (λ n. record { 0 = from + n }) r
 number_is [] name from None h = refl
 number_is [] name from (Some k) h = let f : None ≡ Some name = h.0 in absurd (cc)
-number_is (x ∷ xs) name from r h = number_step x xs name from (number_is xs name (suc from)) (bytes_eq x name) refl r h
+number_is (x ∷ xs) name from r h =
+    number_step x xs name from (number_is xs name (suc from)) (bytes_eq x name) refl r h
 
-pub field_is : (names : List (List ℕ)) (name : List ℕ) (r : Option FieldId) → IsFirstNamed names name (option_map (λ f. f.0) r) → r ≡ number_of names name 0
+pub field_is : (names : List (List ℕ)) (name : List ℕ) (r : Option FieldId)
+    → IsFirstNamed names name (option_map (λ f. f.0) r) → r ≡ number_of names name 0
 field_is names name None h = sym (number_is names name 0 None h)
-field_is names name (Some f) h = let z : f.0 ≡ 0 + f.0 = omega arith in ap (λ n. Some (record { 0 = n })) z ∙ sym (number_is names name 0 (Some f.0) h)
+field_is names name (Some f) h =
+    let z : f.0 ≡ 0 + f.0 = omega arith in
+    ap (λ n. Some (record { 0 = n })) z ∙ sym (number_is names name 0 (Some f.0) h)
 
--- one more local behind those after the variables
-pub nils_after : (from i : ℕ) (vars xs : List (Var × Term)) → from ≤ i → xs ≡ vars ++ nils from (i - from) → xs ++ (Own i, Nil) ∷ [] ≡ vars ++ nils from (i + 1 - from)
+-- one more local after the variables and the other locals
+pub nils_after : (from i : ℕ) (vars xs : List (Var × Term)) → from ≤ i → xs ≡ vars ++ nils from (i - from)
+    → xs ++ (Own i, Nil) ∷ [] ≡ vars ++ nils from (i + 1 - from)
 nils_after from i vars xs l e =
     let n : suc (i - from) ≡ i + 1 - from = omega arith in
     let m : i ≡ from + (i - from) = omega arith in
-    ap (λ ys. ys ++ (Own i, Nil) ∷ []) e ∙ append_assoc vars (nils from (i - from)) ((Own i, Nil) ∷ []) ∙ ap (λ ys. vars ++ ys) (sym (nils_push from (i - from) i m) ∙ ap (nils from) n)
+    ap (λ ys. ys ++ (Own i, Nil) ∷ []) e ∙ append_assoc vars (nils from (i - from)) ((Own i, Nil) ∷ [])
+    ∙ ap (λ ys. vars ++ ys) (sym (nils_push from (i - from) i m) ∙ ap (nils from) n)

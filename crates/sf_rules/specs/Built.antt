@@ -1,4 +1,5 @@
--- Built: the programs for which there are rules so far: without resources, with bodies that only write fields, and with annotations that say which cells there are.
+-- Built: the programs for which there are rules so far: without resources, with bodies that only write
+-- fields, and with annotations that say which cells there are.
 -- This project's own stage of building; it shrinks to nothing as rules are added.
 use Rattle.std.specs.Prelude.{Bool, true, false, ◌&&◌, ◌==◌, length}
 use Rattle.std.specs.List.{list_all}

@@ -1,5 +1,5 @@
 pub mod Table
 pub mod Proves
-pub mod Left
-pub mod Cells
 pub mod Built
+pub mod Internal
+pub mod Lemmas

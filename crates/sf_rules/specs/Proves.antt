@@ -1,5 +1,6 @@
 -- Proves: tags that prove every procedure of a program, each by a finite tree of rows below its first goal.
--- Berdine, Calcagno, O'Hearn, "Symbolic Execution with Separation Logic" (2005): proof search as a tree of rule applications.
+-- Berdine, Calcagno, O'Hearn, "Symbolic Execution with Separation Logic" (2005): proof search as a tree
+-- of rule applications.
 use Rattle.std.specs.Prelude.{◌≡◌, ℕ, suc, Some, List, [], ◌∷◌, ◌++◌}
 use Rattle.sf_core.specs.Program.Syntax.{Procedure, Program}
 use Rattle.sf_sym.specs.declared.tag.Tag.{Tag}
@@ -15,7 +16,8 @@ mutual
   -- a proof of each of the goals
   pub data Proofs : List Goal → Type 0 where
     no_more : {goals : List Goal} → goals ≡ [] → Proofs goals
-    and : {goals : List Goal} → (goal : Goal) (others : List Goal) → goals ≡ goal ∷ others → Proof goal → Proofs others → Proofs goals
+    and : {goals : List Goal} → (goal : Goal) (others : List Goal) → goals ≡ goal ∷ others → Proof goal
+        → Proofs others → Proofs goals
 
 -- the tags of a proof, each goal's before those of the goals that it leaves, the first of these first
 abbrev mutual
@@ -30,7 +32,8 @@ abbrev mutual
 abbrev pub ProvesFrom : Program → (f : ℕ) → List Procedure → List Tag → Type 0
 ProvesFrom p f [] tags = tags ≡ []
 ProvesFrom p f (x ∷ xs) tags =
-    (proof : Proof (first_goal p x)) × (rest : List Tag) × (tags ≡ Begin (record { 0 = f }) ∷ (preorder proof ++ rest)) × ProvesFrom p (suc f) xs rest
+    (proof : Proof (first_goal p x)) × (rest : List Tag)
+    × (tags ≡ Begin (record { 0 = f }) ∷ (preorder proof ++ rest)) × ProvesFrom p (suc f) xs rest
 
 -- Proves: the tags prove every procedure of the program, in file order
 abbrev pub Proves : Program → List Tag → Type 0

@@ -1,5 +1,7 @@
--- The table of rules: for a goal and a tag the goals that are left, or no row. Here for programs that write fields.
--- Berdine, Calcagno, O'Hearn, "Symbolic Execution with Separation Logic" (2005), in this project's own profile.
+-- The table of rules: for a goal and a tag the goals that are left, or no row. Here for programs that
+-- write fields.
+-- Berdine, Calcagno, O'Hearn, "Symbolic Execution with Separation Logic" (2005), in this project's own
+-- profile.
 use Rattle.std.specs.Prelude.{ℕ, zero, suc, ◌+◌, ◌-◌, ◌^◌, ◌==◌, Bool, true, false, ◌&&◌, cond, Option, Some, None, List, [], ◌∷◌, ◌++◌, length, map, nat_lt, nat_le, codes, replicate}
 use Rattle.std.specs.List.{list_all}
 use Rattle.std.specs.Option.{option_map, option_and_then}
@@ -64,15 +66,20 @@ abbrev mutual
   conjunct_with to (points p x fs) = points p (operand_with to x) (map (λ f. (f.0, operand_with to f.1)) fs)
   conjunct_with to (segment p f x y) = segment p f (operand_with to x) (operand_with to y)
   conjunct_with to (tree p l r x) = tree p l r (operand_with to x)
-  conjunct_with to (choose p x this that) = choose p (test_with to x) (level_with to this) (level_with to that)
+  conjunct_with to (choose p x this that) =
+      choose p (test_with to x) (level_with to this) (level_with to that)
 
 -- the conjuncts of a level
 abbrev pub conjuncts_of : {E : Type 0} → Level E → Conjuncts E
 conjuncts_of (level made cs) = cs
 
--- an assertion's conjuncts, still to be worked, none of its existentials having a term
-abbrev pub pending : List (Var × Term) → Assertion → Pending
-pending vars a = record { conjuncts = conjuncts_with (term vars) (conjuncts_of a.level); bindings = replicate (length a.names) None }
+-- an assertion's conjuncts, still to be assumed or shown, none of its existentials having a term
+abbrev pub pending_assertion : List (Var × Term) → Assertion → Pending
+pending_assertion vars a =
+    record {
+      conjuncts = conjuncts_with (term vars) (conjuncts_of a.level);
+      bindings = replicate (length a.names) None;
+    }
 
 -- the item is there only where there are conjuncts
 abbrev pub unless_none : Conjuncts Term → Item → List Item
@@ -81,11 +88,14 @@ unless_none (also c cs) item = item ∷ []
 
 -- to assume an assertion
 abbrev pub to_add : Place → List (Var × Term) → Assertion → List Item
-to_add place vars a = unless_none (conjuncts_with (term vars) (conjuncts_of a.level)) (add place (pending vars a))
+to_add place vars a =
+    unless_none (conjuncts_with (term vars) (conjuncts_of a.level)) (add place (pending_assertion vars a))
 
 -- to show an assertion and hand over its part of the heap
 abbrev pub to_take : Place → List (Var × Term) → Assertion → List Item
-to_take place vars a = unless_none (conjuncts_with (term vars) (conjuncts_of a.level)) (take place (pending vars a) a.names)
+to_take place vars a =
+    unless_none (conjuncts_with (term vars) (conjuncts_of a.level))
+    (take place (pending_assertion vars a) a.names)
 
 -- the commands of a block
 abbrev pub to_run : Block → List Item
@@ -105,11 +115,17 @@ nils from (suc count) = (Own from, Nil) ∷ nils (suc from) count
 -- the place of a name in a list
 abbrev pub number_of : List (List ℕ) → List ℕ → ℕ → Option FieldId
 number_of [] name from = None
-number_of (x ∷ xs) name from = cond (bytes_eq x name) (Some (record { 0 = from })) (number_of xs name (suc from))
+number_of (x ∷ xs) name from =
+    cond (bytes_eq x name) (Some (record { 0 = from })) (number_of xs name (suc from))
 
 -- the fields that segments and trees go by
 abbrev pub links_of : Program → Links
-links_of p = record { tl = number_of p.fields (codes "tl") 0; l = number_of p.fields (codes "l") 0; r = number_of p.fields (codes "r") 0 }
+links_of p =
+    record {
+      tl = number_of p.fields (codes "tl") 0;
+      l = number_of p.fields (codes "l") 0;
+      r = number_of p.fields (codes "r") 0;
+    }
 
 -- the first goal of a procedure of a program without resources
 abbrev pub first_goal : Program → Procedure → Goal
@@ -117,7 +133,16 @@ first_goal p f =
     let parameters = f.references + f.values in
     let vars = symbols 0 parameters ++ nils parameters (length f.names - parameters) in
     record {
-      state = record { links = links_of p; vars = vars; apart = []; atoms = []; taken = []; next_sym = parameters; next_atom = 1 };
+      state =
+          record {
+            links = links_of p;
+            vars = vars;
+            apart = [];
+            atoms = [];
+            taken = [];
+            next_sym = parameters;
+            next_atom = 1;
+          };
       todo = to_add f.place vars f.pre ++ to_run f.body ++ (return f.end f.post ∷ []);
     }
 
@@ -126,14 +151,15 @@ abbrev pub has_numbers : State → Bool
 has_numbers s = nat_le s.next_sym (2 ^ 32 - 1024) && nat_le s.next_atom (2 ^ 32 - 1024)
 
 -- the term of an operand that has one
-abbrev pub known : Operand Term → Option Term
-known (Known t) = Some t
-known (Exists n) = None
+abbrev pub known_term : Operand Term → Option Term
+known_term (Known t) = Some t
+known_term (Exists n) = None
 
 -- a field's term is put in its place, in the order of the fields
 abbrev pub put_term : FieldId → Term → List (FieldId × Term) → List (FieldId × Term)
 put_term f u [] = (f, u) ∷ []
-put_term f u (g ∷ gs) = cond (g.0.0 == f.0) ((f, u) ∷ gs) (cond (nat_lt f.0 g.0.0) ((f, u) ∷ g ∷ gs) (g ∷ put_term f u gs))
+put_term f u (g ∷ gs) =
+    cond (g.0.0 == f.0) ((f, u) ∷ gs) (cond (nat_lt f.0 g.0.0) ((f, u) ∷ g ∷ gs) (g ∷ put_term f u gs))
 
 -- the term of a field, where it is known
 abbrev pub field_term : List (FieldId × Term) → FieldId → Option Term
@@ -143,9 +169,9 @@ field_term (g ∷ gs) f = cond (g.0.0 == f.0) (Some g.1) (field_term gs f)
 -- the terms of a new cell's fields, where all have one
 abbrev pub new_fields : List (FieldId × Operand Term) → List (FieldId × Term) → Option (List (FieldId × Term))
 new_fields [] made = Some made
-new_fields (f ∷ fs) made = option_and_then (λ u. new_fields fs (put_term f.0 u made)) (known f.1)
+new_fields (f ∷ fs) made = option_and_then (λ u. new_fields fs (put_term f.0 u made)) (known_term f.1)
 
--- a symbol at which a cell stands differs from nil
+-- the symbol of a cell differs from nil
 abbrev pub apart_from_nil : Term → List (Term × Term)
 apart_from_nil Nil = []
 apart_from_nil (Int i) = []
@@ -160,9 +186,10 @@ with_cell s root fields = record s {
 }
 
 -- one conjunct is assumed
-abbrev pub assumed : State → Conjunct Term → Option State
-assumed s (points p x fs) = option_and_then (λ root. option_map (with_cell s root) (new_fields fs [])) (known x)
-assumed s _ = None
+abbrev pub state_after_assumption : State → Conjunct Term → Option State
+state_after_assumption s (points p x fs) =
+    option_and_then (λ root. option_map (with_cell s root) (new_fields fs [])) (known_term x)
+state_after_assumption s _ = None
 
 -- the fields of an atom that is a cell at that term
 abbrev pub fields_at : Atom → Term → Option (List (FieldId × Term))
@@ -178,7 +205,9 @@ cell_at (x ∷ xs) a t = cond (x.number == a) (fields_at x.atom t) (cell_at xs a
 -- the atoms, that of the number being this cell
 abbrev pub with_fields : List Numbered → ℕ → Term → List (FieldId × Term) → List Numbered
 with_fields [] a root fields = []
-with_fields (x ∷ xs) a root fields = cond (x.number == a) (record { number = a; atom = Points root fields } ∷ xs) (x ∷ with_fields xs a root fields)
+with_fields (x ∷ xs) a root fields =
+    cond (x.number == a) (record { number = a; atom = Points root fields } ∷ xs)
+    (x ∷ with_fields xs a root fields)
 
 -- no atom is left
 abbrev pub is_empty : List Numbered → Bool
@@ -191,8 +220,10 @@ without [] a = []
 without (x ∷ xs) a = cond (x.number == a) xs (x ∷ without xs a)
 
 -- a field of a cell is written
-abbrev pub mutated : State → (root : Term) → FieldId → Term → (atom : ℕ) → Option State
-mutated s root f u a = option_map (λ fields. record s { atoms = with_fields s.atoms a root (put_term f u fields) }) (cell_at s.atoms a root)
+abbrev pub state_after_write : State → (root : Term) → FieldId → Term → (atom : ℕ) → Option State
+state_after_write s root f u a =
+    option_map (λ fields. record s { atoms = with_fields s.atoms a root (put_term f u fields) })
+    (cell_at s.atoms a root)
 
 -- the term that is there is that one
 abbrev pub has_term : Option Term → Option Term → Bool
@@ -202,21 +233,27 @@ has_term (Some t) (Some u) = same_term t u
 
 -- a wanted field has just that term in the cell
 abbrev pub fits : List (FieldId × Term) → FieldId × Operand Term → Bool
-fits fields f = has_term (field_term fields f.0) (known f.1)
+fits fields f = has_term (field_term fields f.0) (known_term f.1)
 
--- the cell of that number goes from the atoms to the taken ones, where it is at the root and its fields are as wanted
+-- the cell of that number goes from the atoms to the taken ones, where it is at the root and its fields
+-- are as wanted
 abbrev pub hand_over : State → (root : Term) → List (FieldId × Operand Term) → (atom : ℕ) → Option State
 hand_over s root wanted a =
     option_and_then (λ fields.
     cond (list_all (fits fields) wanted)
-    (Some (record s { atoms = without s.atoms a; taken = s.taken ++ (record { number = a; atom = Points root fields } ∷ []) }))
+    (Some (record s {
+      atoms = without s.atoms a;
+      taken = s.taken
+          ++ (record { number = a; atom = Points root fields } ∷ []);
+    }))
     None)
     (cell_at s.atoms a root)
 
 -- a wanted cell is handed over
-abbrev pub handed_over : State → Conjunct Term → (atom : ℕ) → Option State
-handed_over s (points p x wanted) a = option_and_then (λ root. hand_over s root wanted a) (known x)
-handed_over s _ a = None
+abbrev pub state_after_hand_over : State → Conjunct Term → (atom : ℕ) → Option State
+state_after_hand_over s (points p x wanted) a =
+    option_and_then (λ root. hand_over s root wanted a) (known_term x)
+state_after_hand_over s _ a = None
 
 -- the one goal that is left, with that state and those items
 abbrev pub one_goal : List Item → State → List Goal
@@ -230,7 +267,8 @@ absurd_row s = cond (is_absurd s) (Some []) None
 abbrev pub add_first : State → Place → Conjuncts Term → List (Option Term) → List Item → Option (List Goal)
 add_first s p none bindings todo = None
 add_first s p (also c cs) bindings todo =
-    option_map (one_goal (unless_none cs (add p (record { conjuncts = cs; bindings = bindings })) ++ todo)) (assumed s c)
+    option_map (one_goal (unless_none cs (add p (record { conjuncts = cs; bindings = bindings })) ++ todo))
+    (state_after_assumption s c)
 
 abbrev pub add_row : State → List Item → Option (List Goal)
 add_row s (add p given ∷ todo) = add_first s p given.conjuncts given.bindings todo
@@ -238,7 +276,8 @@ add_row s _ = None
 
 -- mutate: a field of a cell that is there is written
 abbrev pub mutate_one : State → Command → List Item → (atom : ℕ) → Option (List Goal)
-mutate_one s (mutate p e f v) todo a = option_map (one_goal todo) (mutated s (term s.vars e) f (term s.vars v) a)
+mutate_one s (mutate p e f v) todo a =
+    option_map (one_goal todo) (state_after_write s (term s.vars e) f (term s.vars v) a)
 mutate_one s _ todo a = None
 
 abbrev pub mutate_row : State → List Item → (atom : ℕ) → Option (List Goal)
@@ -251,10 +290,13 @@ return_row s (return p post ∷ todo) = Some (one_goal (to_take p s.vars post ++
 return_row s _ = None
 
 -- cell: the first wanted conjunct is a cell that is there
-abbrev pub cell_first : State → Place → Conjuncts Term → List (Option Term) → List (List ℕ) → List Item → (atom : ℕ) → Option (List Goal)
+abbrev pub cell_first : State → Place → Conjuncts Term → List (Option Term) → List (List ℕ) → List Item
+    → (atom : ℕ) → Option (List Goal)
 cell_first s p none bindings names todo a = None
 cell_first s p (also c cs) bindings names todo a =
-    option_map (one_goal (unless_none cs (take p (record { conjuncts = cs; bindings = bindings }) names) ++ todo)) (handed_over s c a)
+    option_map
+    (one_goal (unless_none cs (take p (record { conjuncts = cs; bindings = bindings }) names) ++ todo))
+    (state_after_hand_over s c a)
 
 abbrev pub cell_row : State → List Item → (atom : ℕ) → Option (List Goal)
 cell_row s (take p want names ∷ todo) a = cell_first s p want.conjuncts want.bindings names todo a

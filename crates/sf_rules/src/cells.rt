@@ -4,9 +4,9 @@ ghost use Rattle.std.specs.Prelude.{◌≡◌, ◌-◌, ◌<◌, ◌≤◌, ◌^
 ghost use Rattle.std.specs.List.{list_all};
 ghost use Rattle.std.specs.Option.{option_map};
 ghost use Rattle.sf_core.specs.Program.View.{conjunct_of};
-ghost use Rattle.sf_rules.specs.Cells.{all_fit, all_known, index_from};
-ghost use Rattle.sf_rules.specs.Left.{cell_of};
-ghost use Rattle.sf_rules.specs.Table.{field_term, fields_at, fits, hand_over, known, mutated, new_fields, put_term, with_cell};
+ghost use Rattle.sf_rules.specs.Internal.Cells.{all_fit, all_known, index_from};
+ghost use Rattle.sf_rules.specs.Internal.Subgoals.{cell_of};
+ghost use Rattle.sf_rules.specs.Table.{field_term, fields_at, fits, hand_over, known_term, state_after_write, new_fields, put_term, with_cell};
 
 use sf_base::{FieldId, Sequence};
 use sf_core::{Conjunct, Operand};
@@ -15,8 +15,8 @@ use std::alloc::{AllocError, Global};
 use std::mem;
 
 /// The term of an operand that has one.
-pub fn known(x: &Operand<Term>) -> Option<Term>
-    ensures { result ≡ known x.now }
+pub fn known_term(x: &Operand<Term>) -> Option<Term>
+    ensures { result ≡ known_term x.now }
 {
     match x {
         Operand::Known(t) => Some(*t),
@@ -51,7 +51,7 @@ pub(crate) fn field_term(fields: &[(FieldId, Term)], f: FieldId) -> Option<Term>
     None
 }
 
-/// Puts a field's term in its place, in the order of the fields. An `Err` is want of memory.
+/// Puts a field's term in its place, in the order of the fields. An `Err` means out of memory.
 fn put_term(
     mut fields: Vec<(FieldId, Term)>,
     f: FieldId,
@@ -101,15 +101,15 @@ fn into_fields(atom: Atom, t: Term) -> Option<Sequence<(FieldId, Term)>>
 }
 
 /// Writes a field of the cell at the root that has that number. `None` exactly where there is none; an
-/// `Err` is want of memory.
-pub(crate) fn mutated(
+/// `Err` means out of memory.
+pub(crate) fn state_after_write(
     state: State,
     root: Term,
     f: FieldId,
     u: Term,
     a: u32,
 ) -> Result<Option<State>, AllocError>
-    ensures { IfOk result (λ after. after ≡ mutated state root f u a) }
+    ensures { IfOk result (λ after. after ≡ state_after_write state root f u a) }
 {
     let Some(i) = index_of(state.atoms.as_slice(), a) else {
         return Ok(None);
@@ -136,7 +136,7 @@ pub(crate) fn mutated(
 fn is_fitting(fields: &[(FieldId, Term)], wanted: &(FieldId, Operand<Term>)) -> bool
     ensures { result ≡ fits fields.now wanted.now }
 {
-    match (field_term(fields, wanted.0), known(&wanted.1)) {
+    match (field_term(fields, wanted.0), known_term(&wanted.1)) {
         (Some(t), Some(u)) => t.is(u),
         _ => false,
     }
@@ -170,7 +170,7 @@ fn is_as_wanted(atom: &Atom, t: Term, wanted: &[(FieldId, Operand<Term>)]) -> bo
 }
 
 /// Hands the cell of that number over, if it is at the root and its fields are as wanted. `None` exactly
-/// where it isn't; an `Err` is want of memory.
+/// where it isn't; an `Err` means out of memory.
 pub(crate) fn hand_over(
     state: State,
     root: Term,
@@ -203,7 +203,7 @@ pub(crate) fn hand_over(
 pub fn are_known(fields: &[(FieldId, Operand<Term>)]) -> bool
     ensures { result ≡ all_known fields.now }
 {
-    fields.iter().all(|f| known(&f.1).is_some())
+    fields.iter().all(|f| known_term(&f.1).is_some())
 }
 
 /// The terms of a new cell's fields. `None` exactly where a field has no term.
@@ -216,7 +216,7 @@ pub(crate) fn new_fields(
     let mut made = Vec::with_capacity(alloc, fields.len())?;
     let mut left = fields;
     while let Some((first, rest)) = left.split_first() {
-        let Some(u) = known(&first.1) else {
+        let Some(u) = known_term(&first.1) else {
             return Ok(None);
         };
         made = put_term(made, first.0, u)?;
@@ -225,7 +225,7 @@ pub(crate) fn new_fields(
     Ok(Some(made))
 }
 
-/// One more cell. An `Err` is want of memory.
+/// One more cell. An `Err` means out of memory.
 pub(crate) fn with_cell(
     state: State,
     root: Term,

@@ -1,12 +1,13 @@
 //! Expressions and assertions with the terms that the variables have now.
 
-ghost use Rattle.std.specs.Prelude.{◌≡◌, IfOk, map};
-ghost use Rattle.sf_core.specs.Program.View.{conjunct_of, conjuncts, level_of};
-ghost use Rattle.sf_rules.specs.Table.{conjunct_with, conjuncts_with, level_with, operand_with, term, term_at, test_with};
+ghost use Rattle.std.specs.Prelude.{◌≡◌, IfOk, None, map, replicate};
+ghost use Rattle.sf_core.specs.Program.View.{assertion_of, conjunct_of, conjuncts, level_of};
+ghost use Rattle.sf_sym.specs.Goal.{pending_of};
+ghost use Rattle.sf_rules.specs.Table.{conjunct_with, conjuncts_with, level_with, operand_with, pending_assertion, term, term_at, test_with};
 
-use sf_base::{FieldId, Var};
-use sf_core::{Conjunct, Expr, Level, Operand, Test};
-use sf_sym::Term;
+use sf_base::{FieldId, Sequence, Var};
+use sf_core::{Assertion, Conjunct, Expr, Level, Operand, Test};
+use sf_sym::{Pending, Term};
 use std::alloc::{AllocError, Global};
 
 /// The term of an expression.
@@ -34,14 +35,39 @@ fn term_at(vars: &[(Var, Term)], x: Var) -> Term
     Term::Nil
 }
 
-/// Conjuncts with terms in place of expressions, in the same order. An `Err` is want of memory.
+/// The conjuncts of an assertion with the terms that its variables have now.
+pub(crate) fn pending_assertion(
+    alloc: Global,
+    vars: &[(Var, Term)],
+    a: &Assertion,
+) -> Result<Pending, AllocError>
+    ensures { IfOk result (λ given. pending_of given
+        ≡ pending_assertion vars.now (assertion_of a.now)) }
+{
+    let mut conjuncts = with_terms(alloc, vars, &a.level.conjuncts)?;
+    conjuncts.reverse();
+    Ok(Pending {
+        conjuncts,
+        bindings: unbound(alloc, a.names.len())?,
+    })
+}
+
+/// That many existentials without a term.
+fn unbound(alloc: Global, count: usize) -> Result<Sequence<Option<Term>>, AllocError>
+    ensures { IfOk result (λ bindings. bindings ≡ replicate count None) }
+{
+    Ok(Sequence::from_vec(vec![in alloc; None; count]?))
+}
+
+/// Conjuncts with terms in place of expressions, in the same order. An `Err` means out of memory.
 #[cycle(terms)]
-pub(crate) fn with_terms(
+fn with_terms(
     alloc: Global,
     vars: &[(Var, Term)],
     from: &[Conjunct<Expr>],
 ) -> Result<Vec<Conjunct<Term>>, AllocError>
-    ensures { IfOk result (λ cs. conjuncts (map conjunct_of cs.items) ≡ conjuncts_with (term vars.now) (conjuncts (map conjunct_of from.now))) }
+    ensures { IfOk result (λ cs. conjuncts (map conjunct_of cs.items)
+        ≡ conjuncts_with (term vars.now) (conjuncts (map conjunct_of from.now))) }
 {
     let mut made = Vec::with_capacity(alloc, from.len())?;
     for c in from {
@@ -126,7 +152,8 @@ fn fields_with(
     vars: &[(Var, Term)],
     fields: &[(FieldId, Operand<Expr>)],
 ) -> Result<Vec<(FieldId, Operand<Term>)>, AllocError>
-    ensures { IfOk result (λ fs. fs.items ≡ map (λ f. (f.0, operand_with (term vars.now) f.1)) fields.now) }
+    ensures { IfOk result (λ fs. fs.items
+        ≡ map (λ f. (f.0, operand_with (term vars.now) f.1)) fields.now) }
 {
     let mut made = Vec::with_capacity(alloc, fields.len())?;
     for f in fields {

@@ -1,15 +1,15 @@
-//! The items of a goal, with the next one last. A run without commands stands for nothing.
+//! The items of a goal, with the next one last. A run without commands is nothing to do.
 
 ghost use Rattle.std.specs.Prelude.{◌≡◌, ◌++◌, [], false, IfOk, IfSome, IfNone, List};
 ghost use Rattle.sf_sym.specs.Goal.{Item as Thing, add, items_of, pending_of, take};
-ghost use Rattle.sf_rules.specs.Left.{is_nothing, todo_of};
+ghost use Rattle.sf_rules.specs.Internal.Subgoals.{is_nothing, todo_of};
 ghost use Rattle.sf_rules.specs.Table.{unless_none};
 
 use sf_base::{Name, Place};
-use sf_sym::{Given, Item, Want};
+use sf_sym::{Item, Pending};
 use std::alloc::AllocError;
 
-/// Whether the item stands for nothing.
+/// Whether the item is nothing to do.
 fn is_nothing(item: &Item) -> bool
     ensures { result ≡ is_nothing item.now }
 {
@@ -19,9 +19,10 @@ fn is_nothing(item: &Item) -> bool
     }
 }
 
-/// Takes the next thing to do, with what stands for nothing before it. `None` exactly where nothing is left.
+/// Takes the next thing to do, with the empty runs before it. `None` exactly where nothing is left.
 pub(crate) fn next_item<'a>(todo: &mut Vec<Item<'a>>) -> Option<Item<'a>>
-    ensures item { IfSome result (λ i. todo_of todo.old.items ≡ items_of i ++ todo_of todo.new.items) }
+    ensures item { IfSome result
+        (λ i. todo_of todo.old.items ≡ items_of i ++ todo_of todo.new.items) }
     ensures something { IfSome result (λ i. is_nothing i ≡ false) }
     ensures none { IfNone result (todo_of todo.old.items ≡ []) }
 {
@@ -34,8 +35,9 @@ pub(crate) fn next_item<'a>(todo: &mut Vec<Item<'a>>) -> Option<Item<'a>>
 }
 
 /// The next thing to do. `None` exactly where nothing is left.
-pub fn front<'b, 'a>(todo: &'b [Item<'a>]) -> Option<&'b Item<'a>>
-    ensures item { IfSome result (λ i. (rest : List Thing) × (todo_of todo.now ≡ items_of i.now ++ rest)) }
+pub fn peek_item<'b, 'a>(todo: &'b [Item<'a>]) -> Option<&'b Item<'a>>
+    ensures item { IfSome result
+        (λ i. (rest : List Thing) × (todo_of todo.now ≡ items_of i.now ++ rest)) }
     ensures something { IfSome result (λ i. is_nothing i.now ≡ false) }
     ensures none { IfNone result (todo_of todo.now ≡ []) }
 {
@@ -50,13 +52,15 @@ pub fn front<'b, 'a>(todo: &'b [Item<'a>]) -> Option<&'b Item<'a>>
     None
 }
 
-/// Puts conjuncts to assume in front, if there are any. An `Err` is want of memory.
+/// Puts conjuncts to assume first, if there are any. An `Err` means out of memory.
 pub(crate) fn with_add<'a>(
     mut todo: Vec<Item<'a>>,
     place: Place,
-    given: Given,
+    given: Pending,
 ) -> Result<Vec<Item<'a>>, AllocError>
-    ensures { IfOk result (λ r. todo_of r.items ≡ unless_none (pending_of given).conjuncts (add place (pending_of given)) ++ todo_of todo.entry.items) }
+    ensures { IfOk result (λ r. todo_of r.items
+        ≡ unless_none (pending_of given).conjuncts (add place (pending_of given))
+        ++ todo_of todo.entry.items) }
 {
     if given.conjuncts.is_empty() {
         return Ok(todo);
@@ -65,14 +69,16 @@ pub(crate) fn with_add<'a>(
     Ok(todo)
 }
 
-/// Puts conjuncts to show in front, if there are any. An `Err` is want of memory.
+/// Puts conjuncts to show first, if there are any. An `Err` means out of memory.
 pub(crate) fn with_take<'a>(
     mut todo: Vec<Item<'a>>,
     place: Place,
-    want: Want,
+    want: Pending,
     names: &'a [Name],
 ) -> Result<Vec<Item<'a>>, AllocError>
-    ensures { IfOk result (λ r. todo_of r.items ≡ unless_none (pending_of want).conjuncts (take place (pending_of want) names.now) ++ todo_of todo.entry.items) }
+    ensures { IfOk result (λ r. todo_of r.items
+        ≡ unless_none (pending_of want).conjuncts (take place (pending_of want) names.now)
+        ++ todo_of todo.entry.items) }
 {
     if want.conjuncts.is_empty() {
         return Ok(todo);

@@ -1,5 +1,5 @@
 use Rattle.std.proofs.Common.{◌≡◌, ◌+◌, length}
-use Rattle.sf_rules.specs.Cells.{index_from}
+use Rattle.sf_rules.specs.Internal.Cells.{index_from}
 use Rattle.sf_rules.proofs.cells.index_of.Given as goal
 
 abbrev pub invariant-loop-first : goal.invariant-loop-first

@@ -9,14 +9,20 @@ use Rattle.sf_rules.proofs.terms.+terms.Goals as goal
 pub level_with-returns : goal.level_with-returns
 level_with-returns t c =
     level_of-roll _
-    ∙ ap (level c.args.level.now.made) (c.in_ok-with_terms.ensures ∙ ap (λ xs. conjuncts_with (term c.args.vars.now) (conjuncts (map conjunct_of xs))) c.deref.ensures.value)
+    ∙ ap (level c.args.level.now.made)
+    (c.in_ok-with_terms.ensures ∙ ap (λ xs. conjuncts_with (term c.args.vars.now)
+    (conjuncts (map conjunct_of xs))) c.deref.ensures.value)
     ∙ ap (level_with (term c.args.vars.now)) (sym (level_of-out c.args.level.now))
 
 pub with_terms-returns : goal.with_terms-returns
-with_terms-returns t c = conjuncts_with-of (term c.args.vars.now) conjunct_of conjunct_of c.args.from.now c.loop-c.made.items
-    (c.loop-c.invariant ∙ ap (map (λ c2. conjunct_with (term c.args.vars.now) (conjunct_of c2))) (take_all c.loop-c.c-index c.args.from.now c.loop-c-test.false))
+with_terms-returns t c =
+    conjuncts_with-of (term c.args.vars.now) conjunct_of conjunct_of c.args.from.now c.loop-c.made.items
+    (c.loop-c.invariant ∙ ap (map (λ c2. conjunct_with (term c.args.vars.now) (conjunct_of c2)))
+    (take_all c.loop-c.c-index c.args.from.now c.loop-c-test.false))
 
 pub conjunct_with-returns-in_ok-fields-in-Points : goal.conjunct_with-returns-in_ok-fields-in-Points
 conjunct_with-returns-in_ok-fields-in-Points t c =
-    points_with (term c.args.vars.now) c.args.c.now c.in-Points.place c.in-Points.root c.in-Points.fields c.operand_with.result c.in_ok-fields-in-Points.fields c.in-Points.is c.operand_with.ensures
-    (c.in_ok-fields-in-Points.ensures ∙ ap (map (λ f. (f.0, operand_with (term c.args.vars.now) f.1))) c.deref.ensures.value)
+    points_with (term c.args.vars.now) c.args.c.now c.in-Points.place c.in-Points.root c.in-Points.fields
+    c.operand_with.result c.in_ok-fields-in-Points.fields c.in-Points.is c.operand_with.ensures
+    (c.in_ok-fields-in-Points.ensures ∙ ap (map (λ f. (f.0, operand_with (term c.args.vars.now) f.1)))
+    c.deref.ensures.value)

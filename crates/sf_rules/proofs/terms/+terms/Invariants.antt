@@ -4,4 +4,6 @@ use Rattle.sf_rules.specs.Table.{conjunct_with, term}
 use Rattle.sf_rules.proofs.terms.+terms.Given as goal
 
 abbrev pub invariant-with_terms-loop-c : goal.invariant-with_terms-loop-c
-invariant-with_terms-loop-c l = map conjunct_of l.made.items ≡ map (λ c. conjunct_with (term l.vars) (conjunct_of c)) (take l.c-index l.from)
+invariant-with_terms-loop-c l =
+    map conjunct_of l.made.items ≡ map (λ c. conjunct_with (term l.vars) (conjunct_of c))
+    (take l.c-index l.from)

@@ -1,5 +1,5 @@
 use Rattle.std.proofs.Common.{◌≡◌, length}
-use Rattle.sf_rules.specs.Left.{todo_of}
+use Rattle.sf_rules.specs.Internal.Subgoals.{todo_of}
 use Rattle.sf_rules.proofs.todo.next_item.Given as goal
 
 abbrev pub invariant-loop-item : goal.invariant-loop-item

@@ -1,5 +1,5 @@
 use Rattle.sf_rules.proofs.Firsts.{field_is}
-use Rattle.sf_rules.proofs.rules.links_of.Goals as goal
+use Rattle.sf_rules.proofs.start.links_of.Goals as goal
 
 pub returns : goal.returns
 returns c = λ i. record {

@@ -1,6 +1,6 @@
--- How the goals that the code keeps and leaves are read: lists of items with the next one last, the goals that a rule leaves,
--- and what a mutation or a cell has. They stand between the code and Table: the calls of the search and the checker name them,
--- and what the program answers doesn't.
+-- How the goals that the code keeps and leaves are read: lists of items with the next one last, the
+-- goals that a rule leaves,
+-- and what a mutation or a cell has.
 use Rattle.std.specs.Prelude.{Bool, false, ◌==◌, length, Option, Some, None, List, [], ◌∷◌, reverse, map}
 use Rattle.std.specs.List.{flat_map}
 use Rattle.sf_base.specs.declared.ids.FieldId.{FieldId}
@@ -12,8 +12,8 @@ use Rattle.sf_sym.specs.declared.goal.Item.{Item as CodeItem}
 use Rattle.sf_sym.specs.declared.goal.Item.TheVariants.{Run, Add, Take, Gave, Head, Again, Exit, Return, End}
 use Rattle.sf_sym.specs.declared.term.Term.{Term}
 use Rattle.sf_sym.specs.Goal.{Item, Goal, items_of, goal_of}
-use Rattle.sf_rules.specs.declared.rules.Left.{Left}
-use Rattle.sf_rules.specs.declared.rules.Left.TheVariants.{Nothing, One}
+use Rattle.sf_rules.specs.declared.rules.Subgoals.{Subgoals}
+use Rattle.sf_rules.specs.declared.rules.Subgoals.TheVariants.{Nothing, One}
 
 -- what there is to do, by a list of the code's items
 abbrev pub todo_of : List CodeItem → List Item
@@ -23,7 +23,7 @@ todo_of items = flat_map items_of (reverse items)
 abbrev pub stack_of : List CodeGoal → List Goal
 stack_of goals = map goal_of (reverse goals)
 
--- an item that stands for nothing: no commands
+-- an item that is nothing to do: no commands
 abbrev pub is_nothing : CodeItem → Bool
 is_nothing (Run commands) = length commands.now == 0
 is_nothing (Add p given) = false
@@ -36,7 +36,7 @@ is_nothing (Return p post) = false
 is_nothing (End p) = false
 
 -- the goals that a rule leaves
-abbrev pub goals_of : Left → List Goal
+abbrev pub goals_of : Subgoals → List Goal
 goals_of Nothing = []
 goals_of (One goal) = goal_of goal ∷ []
 

@@ -1,0 +1,2 @@
+pub mod Subgoals
+pub mod Cells

@@ -1,0 +1,80 @@
+-- Lemmas on proofs, cells and conjuncts that the proofs of the crates above cite. Each states what it
+-- says; none is a definition.
+-- Ordinary: proofs are finite trees, and those of a list of goals are those of its parts.
+use Rattle.std.proofs.Common.{◌≡◌, Bool, true, false, cond, Option, Some, None, List, [], ◌∷◌, ◌++◌, map, reverse, refl, sym, ap, ◌∙◌, subst, append_assoc}
+use Rattle.std.proofs.lemmas.List.{reverse-append}
+use Rattle.sf_base.specs.declared.ids.FieldId.{FieldId}
+use Rattle.sf_core.specs.declared.assertion.Conjunct.{Conjunct as CodeConjunct}
+use Rattle.sf_core.specs.Program.Syntax.{also}
+use Rattle.sf_core.specs.Program.View.{conjunct_of, conjuncts}
+use Rattle.sf_sym.specs.declared.atom.Atom.{Atom}
+use Rattle.sf_sym.specs.declared.atom.Atom.TheVariants.{Points, Ls, Tree}
+use Rattle.sf_sym.specs.declared.term.Term.{Term}
+use Rattle.sf_sym.specs.Lemmas.{same_term_is}
+use Rattle.sf_sym.specs.Tests.{same_term}
+use Rattle.sf_rules.specs.Table.{fields_at}
+use Rattle.sf_sym.specs.declared.tag.Tag.{Tag}
+use Rattle.sf_sym.specs.Goal.{Goal}
+use Rattle.sf_rules.specs.Proves.{Proof, Proofs, no_more, and, preorder, preorders}
+
+-- proofs of equal goals have the same tags
+pub proofs-same : (gs hs : List Goal) → gs ≡ hs → (ps : Proofs gs)
+    → (qs : Proofs hs) × (preorders qs ≡ preorders ps)
+proofs-same gs hs e ps = subst (λ zs. (qs : Proofs zs) × (preorders qs ≡ preorders ps)) e (ps, refl)
+
+-- the same of one goal
+pub proof-same : (g h : Goal) → g ≡ h → (p : Proof g) → (q : Proof h) × (preorder q ≡ preorder p)
+proof-same g h e p = subst (λ z. (q : Proof z) × (preorder q ≡ preorder p)) e (p, refl)
+
+-- proofs of two lists of goals one after the other are proofs of each
+pub proofs-split : (gs hs : List Goal) (ps : Proofs (gs ++ hs))
+    → (qs : Proofs gs) × (rs : Proofs hs) × (preorders qs ++ preorders rs ≡ preorders ps)
+proofs-split [] hs ps = (no_more refl, ps, refl)
+proofs-split (g ∷ gs) hs (no_more e) = absurd (cc)
+proofs-split (g ∷ gs) hs (and goal others e p ps) =
+    let same : others ≡ gs ++ hs = cc in
+    let head : g ∷ gs ≡ goal ∷ gs = cc in
+    let moved = proofs-same others (gs ++ hs) same ps in
+    let parts = proofs-split gs hs moved.0 in (
+      and goal gs head p parts.0,
+      parts.1,
+      append_assoc (preorder p) (preorders parts.0) (preorders parts.1)
+          ∙ ap (λ ts. preorder p ++ ts) (parts.2 ∙ moved.1),
+    )
+
+no_tags : (gs : List Goal) (ps : Proofs gs) → gs ≡ [] → preorders ps ≡ []
+no_tags gs (no_more e) n = refl
+no_tags gs (and goal others e p ps) n = absurd (cc)
+
+append_nothing : (ts us : List Tag) → us ≡ [] → ts ++ us ≡ ts
+append_nothing [] us e = e
+append_nothing (t ∷ ts) us e = ap (λ vs. t ∷ vs) (append_nothing ts us e)
+
+-- a proof of the one goal of a list
+pub one_proof : (g : Goal) (gs : List Goal) → gs ≡ g ∷ [] → (ps : Proofs gs)
+    → (p : Proof g) × (preorder p ≡ preorders ps)
+one_proof g gs e (no_more n) = absurd (cc)
+one_proof g gs e (and goal others k p ps) =
+    let same : goal ≡ g = cc in
+    let none : others ≡ [] = cc in
+    let moved = proof-same goal g same p in
+    (moved.0, moved.1 ∙ sym (append_nothing (preorder p) (preorders ps) (no_tags others ps none)))
+
+points_step : (root t : Term) (gs fields : List (FieldId × Term)) (b : Bool) → (b ≡ true → root ≡ t)
+    → cond b (Some gs) None ≡ Some fields → Points root gs ≡ Points t fields
+points_step root t gs fields true same e = let r : root ≡ t = same refl in let g : gs ≡ fields = cc in cc
+points_step root t gs fields false same e = absurd (cc)
+
+-- an atom with fields at a term is the cell there
+pub points_at : (x : Atom) (t : Term) (fields : List (FieldId × Term)) → fields_at x t ≡ Some fields
+    → x ≡ Points t fields
+points_at (Points root gs) t fields e =
+    points_step root t gs fields (same_term root t) (same_term_is root t) e
+points_at (Ls u v) t fields e = absurd (cc)
+points_at (Tree u) t fields e = absurd (cc)
+
+-- the next conjunct of the code is the last
+pub last_conjunct : (xs : List (CodeConjunct Term)) (c : CodeConjunct Term)
+    → conjuncts (map (conjunct_of {E = Term}) (reverse (xs ++ c ∷ [])))
+    ≡ also (conjunct_of {E = Term} c) (conjuncts (map (conjunct_of {E = Term}) (reverse xs)))
+last_conjunct xs c = ap (λ ys. conjuncts (map (conjunct_of {E = Term}) ys)) (reverse-append xs (c ∷ []))
