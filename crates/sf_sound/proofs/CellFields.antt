@@ -4,6 +4,7 @@ use Rattle.std.specs.Prelude.{◌≡◌, ℕ, ◌<◌, ◌==◌, Bool, true, fal
 use Rattle.std.specs.List.{list_all, AllByRecursion}
 use Rattle.std.proofs.Common.{refl, sym, ap, ◌∙◌, subst, arith}
 use Rattle.std.proofs.lemmas.Bool.Decides.{nat_tests}
+use Rattle.std.proofs.lemmas.Bool.{ltb-true}
 use Rattle.sf_base.specs.declared.ids.FieldId.{FieldId}
 use Rattle.sf_base.specs.declared.value.Value.{Value}
 use Rattle.sf_core.specs.declared.assertion.Operand.{Operand}
@@ -11,101 +12,128 @@ use Rattle.sf_core.specs.declared.assertion.Operand.TheVariants.{Known, Exists}
 use Rattle.sf_base.specs.HeapStore.{Cell, put_field}
 use Rattle.sf_core.specs.Assertions.Sat.{operand, HasFields}
 use Rattle.sf_base.proofs.HeapSplits.{at-same, at-self}
+use Rattle.sf_base.proofs.Numbers.{eqb-greater}
+use Rattle.sf_base.proofs.Bools.{and-left, and-right}
 use Rattle.sf_sym.specs.declared.term.Term.{Term}
-use Rattle.sf_sym.proofs.Terms.{same_term_is}
-use Rattle.sf_sym.proofs.Bools.{and_left, and_right}
-use Rattle.sf_sound.specs.RowLaws.{AreOrdered}
-use Rattle.sf_rules.specs.Table.{known, put_term, field_term, new_fields, has_term, fits}
+use Rattle.sf_sym.specs.Lemmas.{same_term_is}
+use Rattle.sf_sound.specs.Laws.{AreOrdered}
+use Rattle.sf_rules.specs.Table.{known_term, put_term, field_term, new_fields, has_term, fits}
 
--- every field of the list comes behind that number
-abbrev pub AreBehind : ℕ → List (FieldId × Term) → Type 0
-AreBehind n fs = AllByRecursion (λ (g : FieldId × Term). n < g.0.0) fs
+-- every field of the list comes after that number
+abbrev pub AreAfter : ℕ → List (FieldId × Term) → Type 0
+AreAfter n fs = AllByRecursion (λ (g : FieldId × Term). n < g.0.0) fs
 
-behind-mono : (m n : ℕ) (fs : List (FieldId × Term)) → m < n → AreBehind n fs → AreBehind m fs
-behind-mono m n [] d b = tt
-behind-mono m n (f ∷ fs) d b = let e : n < f.0.0 = b.0 in let r : m < f.0.0 = grind arith in (r, behind-mono m n fs d b.1)
-
-behind-differs : (m n : ℕ) → m < n → n == m ≡ false
-behind-differs m n d = grind (arith, nat_tests)
-
-is-less : (m n : ℕ) → nat_lt m n ≡ true → m < n
-is-less m n e = grind (arith, nat_tests)
+after-mono : (m n : ℕ) (fs : List (FieldId × Term)) → m < n → AreAfter n fs → AreAfter m fs
+after-mono m n [] d b = tt
+after-mono m n (f ∷ fs) d b =
+    let e : n < f.0.0 = b.0 in let r : m < f.0.0 = grind arith in (r, after-mono m n fs d b.1)
 
 is-more : (m n : ℕ) → m == n ≡ false → nat_lt n m ≡ false → m < n
 is-more m n e d = grind (arith, nat_tests)
 
--- what is put comes behind too
-put-behind : (n : ℕ) (f : FieldId) (u : Term) (fs : List (FieldId × Term)) → n < f.0 → AreBehind n fs → AreBehind n (put_term f u fs)
-put-behind n f u [] d b = (d, tt)
-put-behind n f u (g ∷ gs) d b = go (g.0.0 == f.0) (nat_lt f.0 g.0.0) (put-behind n f u gs d b.1)
+-- so does what is put in
+put-after : (n : ℕ) (f : FieldId) (u : Term) (fs : List (FieldId × Term)) → n < f.0 → AreAfter n fs
+    → AreAfter n (put_term f u fs)
+put-after n f u [] d b = (d, tt)
+put-after n f u (g ∷ gs) d b = go (g.0.0 == f.0) (nat_lt f.0 g.0.0) (put-after n f u gs d b.1)
   where
-    go : (s t : Bool) → AreBehind n (put_term f u gs) → AreBehind n (cond s ((f, u) ∷ gs) (cond t ((f, u) ∷ g ∷ gs) (g ∷ put_term f u gs)))
+    go : (s t : Bool) → AreAfter n (put_term f u gs)
+        → AreAfter n (cond s ((f, u) ∷ gs) (cond t ((f, u) ∷ g ∷ gs) (g ∷ put_term f u gs)))
     go true t r = (d, b.1)
     go false true r = (d, b)
     go false false r = (b.0, r)
 
 -- the fields stay in order
-pub put-order : (f : FieldId) (u : Term) (fs : List (FieldId × Term)) → AreOrdered fs → AreOrdered (put_term f u fs)
+pub put-order : (f : FieldId) (u : Term) (fs : List (FieldId × Term)) → AreOrdered fs
+    → AreOrdered (put_term f u fs)
 put-order f u [] o = (tt, tt)
 put-order f u (g ∷ gs) o = go (g.0.0 == f.0) (nat_lt f.0 g.0.0) refl refl (put-order f u gs o.1)
   where
-    go : (s t : Bool) → g.0.0 == f.0 ≡ s → nat_lt f.0 g.0.0 ≡ t → AreOrdered (put_term f u gs) → AreOrdered (cond s ((f, u) ∷ gs) (cond t ((f, u) ∷ g ∷ gs) (g ∷ put_term f u gs)))
-    go true t c d r = (subst (λ n. AreBehind n gs) (at-same f.0 g.0.0 c) o.0, o.1)
-    go false true c d r = ((is-less f.0 g.0.0 d, behind-mono f.0 g.0.0 gs (is-less f.0 g.0.0 d) o.0), o)
-    go false false c d r = (put-behind g.0.0 f u gs (is-more g.0.0 f.0 c d) o.0, r)
+    go : (s t : Bool) → g.0.0 == f.0 ≡ s → nat_lt f.0 g.0.0 ≡ t → AreOrdered (put_term f u gs)
+        → AreOrdered (cond s ((f, u) ∷ gs) (cond t ((f, u) ∷ g ∷ gs) (g ∷ put_term f u gs)))
+    go true t c d r = (subst (λ n. AreAfter n gs) (at-same f.0 g.0.0 c) o.0, o.1)
+    go false true c d r = ((ltb-true f.0 g.0.0 d, after-mono f.0 g.0.0 gs (ltb-true f.0 g.0.0 d) o.0), o)
+    go false false c d r = (put-after g.0.0 f u gs (is-more g.0.0 f.0 c d) o.0, r)
 
 module _ (v : Term → Value) where
   -- a field that the cell has may be put among them
-  pub put-known : (f : FieldId) (u : Term) (fs : List (FieldId × Term)) (here : Cell) → here f.0 ≡ v u → HasFields v fs here → HasFields v (put_term f u fs) here
+  pub put-known : (f : FieldId) (u : Term) (fs : List (FieldId × Term)) (here : Cell) → here f.0 ≡ v u
+      → HasFields v fs here → HasFields v (put_term f u fs) here
   put-known f u [] here e h = (e, tt)
   put-known f u (g ∷ gs) here e h = go (g.0.0 == f.0) (nat_lt f.0 g.0.0) (put-known f u gs here e h.1)
     where
-      go : (s t : Bool) → HasFields v (put_term f u gs) here → HasFields v (cond s ((f, u) ∷ gs) (cond t ((f, u) ∷ g ∷ gs) (g ∷ put_term f u gs))) here
+      go : (s t : Bool) → HasFields v (put_term f u gs) here
+          → HasFields v (cond s ((f, u) ∷ gs) (cond t ((f, u) ∷ g ∷ gs) (g ∷ put_term f u gs))) here
       go true t r = (e, h.1)
       go false true r = (e, h)
       go false false r = (h.0, r)
 
-  put-others : (n : ℕ) (x : Value) (fs : List (FieldId × Term)) (here : Cell) → AreBehind n fs → HasFields v fs here → HasFields v fs (put_field here n x)
+  put-others : (n : ℕ) (x : Value) (fs : List (FieldId × Term)) (here : Cell) → AreAfter n fs
+      → HasFields v fs here → HasFields v fs (put_field here n x)
   put-others n x [] here b h = tt
-  put-others n x (g ∷ gs) here b h = (ap (λ t. cond t x (here g.0.0)) (behind-differs n g.0.0 b.0) ∙ h.0, put-others n x gs here b.1 h.1)
+  put-others n x (g ∷ gs) here b h =
+      (ap (λ t. cond t x (here g.0.0)) (eqb-greater n g.0.0 b.0) ∙ h.0, put-others n x gs here b.1 h.1)
 
   put-self : (n : ℕ) (x : Value) (here : Cell) → put_field here n x n ≡ x
   put-self n x here = ap (λ t. cond t x (here n)) (at-self n)
 
   -- a field that is written in the cell is put among them
-  pub put-written : (f : FieldId) (u : Term) (fs : List (FieldId × Term)) (here : Cell) → AreOrdered fs → HasFields v fs here → HasFields v (put_term f u fs) (put_field here f.0 (v u))
+  pub put-written : (f : FieldId) (u : Term) (fs : List (FieldId × Term)) (here : Cell) → AreOrdered fs
+      → HasFields v fs here → HasFields v (put_term f u fs) (put_field here f.0 (v u))
   put-written f u [] here o h = (put-self f.0 (v u) here, tt)
-  put-written f u (g ∷ gs) here o h = go (g.0.0 == f.0) (nat_lt f.0 g.0.0) refl refl (put-written f u gs here o.1 h.1)
+  put-written f u (g ∷ gs) here o h =
+      go (g.0.0 == f.0) (nat_lt f.0 g.0.0) refl refl (put-written f u gs here o.1 h.1)
     where
-      go : (s t : Bool) → g.0.0 == f.0 ≡ s → nat_lt f.0 g.0.0 ≡ t → HasFields v (put_term f u gs) (put_field here f.0 (v u))
-          → HasFields v (cond s ((f, u) ∷ gs) (cond t ((f, u) ∷ g ∷ gs) (g ∷ put_term f u gs))) (put_field here f.0 (v u))
-      go true t c d r = (put-self f.0 (v u) here, put-others f.0 (v u) gs here (subst (λ n. AreBehind n gs) (at-same f.0 g.0.0 c) o.0) h.1)
-      go false true c d r =
-          (put-self f.0 (v u) here, put-others f.0 (v u) (g ∷ gs) here (is-less f.0 g.0.0 d, behind-mono f.0 g.0.0 gs (is-less f.0 g.0.0 d) o.0) h)
+      go : (s t : Bool) → g.0.0 == f.0 ≡ s → nat_lt f.0 g.0.0 ≡ t
+          → HasFields v (put_term f u gs) (put_field here f.0 (v u))
+          → HasFields v (cond s ((f, u) ∷ gs) (cond t ((f, u) ∷ g ∷ gs) (g ∷ put_term f u gs)))
+          (put_field here f.0 (v u))
+      go true t c d r = (
+        put-self f.0 (v u) here,
+        put-others f.0 (v u) gs here
+            (subst (λ n. AreAfter n gs) (at-same f.0 g.0.0 c) o.0) h.1,
+      )
+      go false true c d r = (
+        put-self f.0 (v u) here,
+        put-others f.0 (v u) (g ∷ gs) here
+            (ltb-true f.0 g.0.0 d, after-mono f.0 g.0.0 gs (ltb-true f.0 g.0.0 d) o.0) h,
+      )
       go false false c d r = (ap (λ t. cond t (v u) (here g.0.0)) c ∙ h.0, r)
 
   -- the terms of a new cell's fields are true of a cell that has the fields
-  pub new-fields : (some : ℕ → Value) (fs : List (FieldId × Operand Term)) (made all : List (FieldId × Term)) (here : Cell)
-      → new_fields fs made ≡ Some all → HasFields v made here → HasFields (operand v some) fs here → HasFields v all here
+  pub new-fields : (some : ℕ → Value) (fs : List (FieldId × Operand Term))
+      (made all : List (FieldId × Term)) (here : Cell)
+      → new_fields fs made ≡ Some all → HasFields v made here → HasFields (operand v some) fs here
+      → HasFields v all here
   new-fields some [] made all here e m h = let i : made ≡ all = cc in subst (λ z. HasFields v z here) i m
-  new-fields some ((f, Known u) ∷ fs) made all here e m h = new-fields some fs (put_term f u made) all here e (put-known f u made here h.0 m) h.1
+  new-fields some ((f, Known u) ∷ fs) made all here e m h =
+      new-fields some fs (put_term f u made) all here e (put-known f u made here h.0 m) h.1
   new-fields some ((f, Exists n) ∷ fs) made all here e m h = absurd (cc)
 
   -- where each wanted field has just that term in the cell, the cell has the wanted fields
-  pub fits-fields : (some : ℕ → Value) (fields : List (FieldId × Term)) (wanted : List (FieldId × Operand Term)) (here : Cell)
-      → list_all (fits fields) wanted ≡ true → HasFields v fields here → HasFields (operand v some) wanted here
+  pub fits-fields : (some : ℕ → Value) (fields : List (FieldId × Term))
+      (wanted : List (FieldId × Operand Term)) (here : Cell)
+      → list_all (fits fields) wanted ≡ true → HasFields v fields here
+      → HasFields (operand v some) wanted here
   fits-fields some fields [] here e h = tt
-  fits-fields some fields (f ∷ fs) here e h = (one f.0 f.1 (and_left (fits fields f) (list_all (fits fields) fs) e), fits-fields some fields fs here (and_right (fits fields f) (list_all (fits fields) fs) e) h)
+  fits-fields some fields (f ∷ fs) here e h = (
+    one f.0 f.1 (and-left (fits fields f) (list_all (fits fields) fs) e),
+    fits-fields some fields fs here
+        (and-right (fits fields f) (list_all (fits fields) fs) e) h,
+  )
     where
-      found : (gs : List (FieldId × Term)) (g : FieldId) (t : Term) → field_term gs g ≡ Some t → HasFields v gs here → here g.0 ≡ v t
+      found : (gs : List (FieldId × Term)) (g : FieldId) (t : Term) → field_term gs g ≡ Some t
+          → HasFields v gs here → here g.0 ≡ v t
       found [] g t d k = absurd (cc)
       found (x ∷ gs) g t d k = go (x.0.0 == g.0) refl d (λ i. found gs g t i k.1)
         where
-          go : (b : Bool) → x.0.0 == g.0 ≡ b → cond b (Some x.1) (field_term gs g) ≡ Some t → (field_term gs g ≡ Some t → here g.0 ≡ v t) → here g.0 ≡ v t
+          go : (b : Bool) → x.0.0 == g.0 ≡ b → cond b (Some x.1) (field_term gs g) ≡ Some t
+              → (field_term gs g ≡ Some t → here g.0 ≡ v t) → here g.0 ≡ v t
           go true c i r = let j : x.1 ≡ t = cc in ap here (sym (at-same g.0 x.0.0 c)) ∙ k.0 ∙ ap v j
           go false c i r = r i
 
-      one : (g : FieldId) (o : Operand Term) → has_term (field_term fields g) (known o) ≡ true → here g.0 ≡ operand v some o
+      one : (g : FieldId) (o : Operand Term) → has_term (field_term fields g) (known_term o) ≡ true
+          → here g.0 ≡ operand v some o
       one g (Known u) d = go (field_term fields g) refl d
         where
           go : (t : Option Term) → field_term fields g ≡ t → has_term t (Some u) ≡ true → here g.0 ≡ v u
@@ -118,7 +146,8 @@ module _ (v : Term → Value) where
           go (Some t) i = absurd (cc)
 
 -- a new cell's fields are in order
-pub new-order : (fs : List (FieldId × Operand Term)) (made all : List (FieldId × Term)) → new_fields fs made ≡ Some all → AreOrdered made → AreOrdered all
+pub new-order : (fs : List (FieldId × Operand Term)) (made all : List (FieldId × Term))
+    → new_fields fs made ≡ Some all → AreOrdered made → AreOrdered all
 new-order [] made all e o = let i : made ≡ all = cc in subst AreOrdered i o
 new-order ((f, Known u) ∷ fs) made all e o = new-order fs (put_term f u made) all e (put-order f u made o)
 new-order ((f, Exists n) ∷ fs) made all e o = absurd (cc)

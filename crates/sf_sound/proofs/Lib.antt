@@ -4,10 +4,10 @@ pub mod CellFields
 pub mod CellAtoms
 pub mod Regrouped
 pub mod TermValues
-pub mod RowLaws
 pub mod ByRows
 pub mod Owns
 pub mod Reached
 pub mod Starts
 pub mod Sound
-pub mod SoundInstance
+pub mod Rows
+pub mod Clearing

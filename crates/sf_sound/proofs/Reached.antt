@@ -2,6 +2,7 @@
 -- Names: `step-LAW` speaks of one event, `good-LAW` of what follows for Good.
 use Rattle.std.specs.Prelude.{◌≡◌, ℕ, Option, Some, None, List, [], ◌∷◌, slice_get}
 use Rattle.std.proofs.Common.{refl, sym, ap, ◌∙◌, subst}
+use Rattle.std.proofs.lemmas.Option.{same_Some}
 use Rattle.sf_base.specs.declared.ids.FieldId.{FieldId}
 use Rattle.sf_base.specs.declared.ids.Var.{Var}
 use Rattle.sf_base.specs.declared.path.Turn.TheVariants.{Left as left, Right as right}
@@ -20,10 +21,11 @@ use Rattle.sf_core.specs.Machine.Reach.{Reach}
 use Rattle.sf_core.specs.Machine.Step.{Event, task_with, procedure_at, Does, Goes, TaskStep, Step}
 use Rattle.sf_core.specs.Program.Syntax.{Command, mutate, Procedure, Program, Resource}
 use Rattle.sf_core.specs.Assertions.Sat.{Sat}
-use Rattle.sf_base.proofs.Cases.{either, some-same}
 use Rattle.sf_core.proofs.Machine.GoodParts.{good-by_parts}
 use Rattle.sf_base.proofs.HeapSplits.{star-empty_left, star-empty_right, star-map_right}
-use Rattle.sf_sound.specs.RowLaws.{value_at, written}
+use Rattle.sf_base.proofs.Sums.{either}
+use Rattle.sf_base.proofs.Lists.{cons-parts}
+use Rattle.sf_sound.specs.Laws.{value_at, heap_with_cell}
 use Rattle.sf_sound.proofs.Owns.{Owns, Next, owns-command, owns-leave, owns-end}
 
 -- the values of a frame's variables
@@ -44,8 +46,9 @@ pub record IsAlone (path : Path) (frames : List Frame) (u : Task) : Type 0 where
   pub top : path ≡ []
   pub same : u ≡ runs frames
 
-pub alone-at : (path : Path) (frames : List Frame) (u : Task) → task_at path (runs frames) ≡ Some u → IsAlone path frames u
-alone-at [] frames u e = record { top = refl; same = sym (some-same (runs frames) u e) }
+pub alone-at : (path : Path) (frames : List Frame) (u : Task) → task_at path (runs frames) ≡ Some u
+    → IsAlone path frames u
+alone-at [] frames u e = record { top = refl; same = sym (same_Some (runs frames) u e) }
 alone-at (left ∷ path) frames u e = absurd (cc)
 alone-at (right ∷ path) frames u e = absurd (cc)
 
@@ -59,35 +62,52 @@ same-location : (a b : ℕ) (v : Value) → v ≡ loc a → v ≡ loc b → a �
 same-location a b v i j = cc
 
 same-cell : (heap : Heap) (a b : ℕ) (x y : Cell) → a ≡ b → heap a ≡ Some x → heap b ≡ Some y → x ≡ y
-same-cell heap a b x y e i j = some-same x y (sym i ∙ ap heap e ∙ j)
+same-cell heap a b x y e i j = same_Some x y (sym i ∙ ap heap e ∙ j)
 
-step-mutate : (p : Program) (ev : Event) (s : Common) (fixed : Fixed) (place : Place) (root : Expr) (field : FieldId) (value : Expr) (rest : List Item) (t : Common) (u : Task) (f : Procedure)
-    → Next f (mutate place root field value) rest (values_in fixed s) s.heap → Does p ev s fixed [] (mutate place root field value) rest t u → GoesOn f fixed t u
+step-mutate : (p : Program) (ev : Event) (s : Common) (fixed : Fixed) (place : Place) (root : Expr)
+    (field : FieldId) (value : Expr) (rest : List Item) (t : Common) (u : Task) (f : Procedure)
+    → Next f (mutate place root field value) rest (values_in fixed s) s.heap
+    → Does p ev s fixed [] (mutate place root field value) rest t u → GoesOn f fixed t u
 step-mutate p ev s fixed place root field value rest t u f n d =
     let a = same-location n.0 d.0 (evaluate fixed.slots s.store root) n.2.is d.2.is in
     let b = same-cell s.heap n.0 d.0 n.1 d.1 a n.2.there d.2.there in
-    let o : Owns f rest (values_in fixed s) (written d.0 (put_field d.1 field.0 (evaluate fixed.slots s.store value)) s.heap) =
-    subst (λ l. Owns f rest (values_in fixed s) (written l (put_field d.1 field.0 (evaluate fixed.slots s.store value)) s.heap)) a
-    (subst (λ x. Owns f rest (values_in fixed s) (written n.0 (put_field x field.0 (evaluate fixed.slots s.store value)) s.heap)) b n.3) in
-    record { rest = rest; is = d.4; owns = subst (λ (z : Common). Owns f rest (values_in fixed z) z.heap) (sym d.3) o }
+    let o : Owns f rest (values_in fixed s)
+    (heap_with_cell d.0 (put_field d.1 field.0 (evaluate fixed.slots s.store value)) s.heap) =
+    subst
+    (λ l. Owns f rest (values_in fixed s)
+    (heap_with_cell l (put_field d.1 field.0 (evaluate fixed.slots s.store value)) s.heap)) a
+    (subst (λ x. Owns f rest (values_in fixed s)
+    (heap_with_cell n.0 (put_field x field.0 (evaluate fixed.slots s.store value)) s.heap)) b n.3) in
+    record {
+      rest = rest;
+      is = d.4;
+      owns = subst (λ (z : Common). Owns f rest (values_in fixed z) z.heap) (sym d.3) o;
+    }
 
-step-command : (p : Program) (ev : Event) (s : Common) (fixed : Fixed) (c : Command) (rest : List Item) (t : Common) (u : Task) (f : Procedure)
+step-command : (p : Program) (ev : Event) (s : Common) (fixed : Fixed) (c : Command) (rest : List Item)
+    (t : Common) (u : Task) (f : Procedure)
     → Next f c rest (values_in fixed s) s.heap → Does p ev s fixed [] c rest t u → GoesOn f fixed t u
-step-command p ev s fixed (mutate place root field value) rest t u f n d = step-mutate p ev s fixed place root field value rest t u f n d
+step-command p ev s fixed (mutate place root field value) rest t u f n d =
+    step-mutate p ev s fixed place root field value rest t u f n d
 step-command p ev s fixed c rest t u f n d = absurd n
 
-step-goes : (p : Program) (ev : Event) (s : Common) (fixed : Fixed) (todo : List Item) (t : Common) (u : Task) (f : Procedure) → ev.task ≡ []
+step-goes : (p : Program) (ev : Event) (s : Common) (fixed : Fixed) (todo : List Item) (t : Common)
+    (u : Task) (f : Procedure)
+    → ev.task ≡ []
     → Owns f todo (values_in fixed s) s.heap → Goes p ev s fixed [] todo t u → GoesOn f fixed t u
 step-goes p ev s fixed [] t u f top o g = absurd (subst (λ z. IsCalled z []) top g.0)
-step-goes p ev s fixed (command c ∷ rest) t u f top o g = step-command p ev s fixed c rest t u f (owns-command f c rest (values_in fixed s) s.heap o) g
-step-goes p ev s fixed (leave r ∷ rest) t u f top o g = absurd (owns-leave f r rest (values_in fixed s) s.heap o)
+step-goes p ev s fixed (command c ∷ rest) t u f top o g =
+    step-command p ev s fixed c rest t u f (owns-command f c rest (values_in fixed s) s.heap o) g
+step-goes p ev s fixed (leave r ∷ rest) t u f top o g =
+    absurd (owns-leave f r rest (values_in fixed s) s.heap o)
 
 -- one event keeps it
 pub step-owned : (p : Program) (ev : Event) (c d : Config) → IsOwned p c → Step p ev c d → IsOwned p d
 step-owned p ev c d o s =
     let mine : List Frame = record { fixed = o.fixed; todo = o.todo } ∷ [] in
     let a = alone-at ev.task mine s.from (subst (λ z. task_at ev.task z ≡ Some s.from) o.alone s.there) in
-    let g = step-goes p ev c.common o.fixed o.todo d.common s.to o.procedure a.top o.owns (subst (λ z. TaskStep p ev c.common z d.common s.to) a.same s.steps) in
+    let g = step-goes p ev c.common o.fixed o.todo d.common s.to o.procedure a.top o.owns
+    (subst (λ z. TaskStep p ev c.common z d.common s.to) a.same s.steps) in
     record {
       fixed = o.fixed;
       todo = g.rest;
@@ -98,31 +118,38 @@ step-owned p ev c d o s =
     }
 
 -- every list of events keeps it
-pub reach-owned : (p : Program) (events : List Event) (c d : Config) → IsOwned p c → Reach p c events d → IsOwned p d
+pub reach-owned : (p : Program) (events : List Event) (c d : Config) → IsOwned p c → Reach p c events d
+    → IsOwned p d
 reach-owned p [] c d o r = subst (IsOwned p) (sym r) o
 reach-owned p (ev ∷ events) c d o r = reach-owned p events r.0 d (step-owned p ev c r.0 o r.1) r.2
 
 -- GOOD
 
-pub no-resource : (p : Program) (k : ℕ) (of : Resource) → p.resources ≡ [] → slice_get p.resources k ≡ Some of → ⊥
+pub no-resource : (p : Program) (k : ℕ) (of : Resource) → p.resources ≡ []
+    → slice_get p.resources k ≡ Some of → ⊥
 no-resource p k of n i = go k (subst (λ z. slice_get z k ≡ Some of) n i)
   where
     go : (k : ℕ) → slice_get [] k ≡ Some of → ⊥
     go k i = absurd (cc)
 
 -- the next command of a frame that owns the heap finds its cell
-present : (heap : Heap) (v : Value) (location : ℕ) (here : Cell) → v ≡ loc location → heap location ≡ Some here → IsAbsent heap v → ⊥
+present : (heap : Heap) (v : Value) (location : ℕ) (here : Cell) → v ≡ loc location
+    → heap location ≡ Some here → IsAbsent heap v → ⊥
 present heap v location here i j a = let k : heap location ≡ None = subst (IsAbsent heap) i a in absurd (cc)
 
-touch-command : (f : Procedure) (c : Command) (todo : List Item) (e : Var → Option Value) (heap : Heap) (root : Expr) → Next f c todo e heap → command_root c ≡ Some root → IsAbsent heap (value_at e root) → ⊥
+touch-command : (f : Procedure) (c : Command) (todo : List Item) (e : Var → Option Value) (heap : Heap)
+    (root : Expr)
+    → Next f c todo e heap → command_root c ≡ Some root → IsAbsent heap (value_at e root) → ⊥
 touch-command f (mutate p x field value) todo e heap root n r a =
     let i : x ≡ root = cc in
     present heap (value_at e x) n.0 n.1 n.2.is n.2.there (subst (λ z. IsAbsent heap (value_at e z)) (sym i) a)
 touch-command f c todo e heap root n r a = n
 
-touch-next : (f : Procedure) (todo : List Item) (e : Var → Option Value) (heap : Heap) (root : Expr) → Owns f todo e heap → next_root todo ≡ Some root → IsAbsent heap (value_at e root) → ⊥
+touch-next : (f : Procedure) (todo : List Item) (e : Var → Option Value) (heap : Heap) (root : Expr)
+    → Owns f todo e heap → next_root todo ≡ Some root → IsAbsent heap (value_at e root) → ⊥
 touch-next f [] e heap root o r a = absurd (cc)
-touch-next f (command c ∷ todo) e heap root o r a = touch-command f c todo e heap root (owns-command f c todo e heap o) r a
+touch-next f (command c ∷ todo) e heap root o r a =
+    touch-command f c todo e heap root (owns-command f c todo e heap o) r a
 touch-next f (leave r ∷ todo) e heap root o i a = absurd (cc)
 
 -- a task that is there is the entry's frame
@@ -131,38 +158,45 @@ record IsEntry (o : Frame) (frame : Frame) (below : List Frame) (path : Path) : 
   frame_is : frame ≡ o
   nothing_below : below ≡ []
 
-first-is : {X : Type 0} (x y : X) (xs ys : List X) → x ∷ xs ≡ y ∷ ys → (x ≡ y) × (xs ≡ ys)
-first-is x y xs ys e = let i : x ≡ y = cc in let j : xs ≡ ys = cc in (i, j)
-
 frames-are : (fs gs : List Frame) → runs fs ≡ runs gs → fs ≡ gs
 frames-are fs gs e = cc
 
-entry-is : (mine frame : Frame) (below : List Frame) (path : Path) (t : Task) → t ≡ runs (mine ∷ []) → task_at path t ≡ Some (runs (frame ∷ below)) → IsEntry mine frame below path
+entry-is : (mine frame : Frame) (below : List Frame) (path : Path) (t : Task) → t ≡ runs (mine ∷ [])
+    → task_at path t ≡ Some (runs (frame ∷ below)) → IsEntry mine frame below path
 entry-is mine frame below path t alone there =
-    let a = alone-at path (mine ∷ []) (runs (frame ∷ below)) (subst (λ z. task_at path z ≡ Some (runs (frame ∷ below))) alone there) in
-    let e = first-is frame mine below [] (frames-are (frame ∷ below) (mine ∷ []) a.same) in
+    let a = alone-at path (mine ∷ []) (runs (frame ∷ below))
+    (subst (λ z. task_at path z ≡ Some (runs (frame ∷ below))) alone there) in
+    let e = cons-parts frame mine below [] (frames-are (frame ∷ below) (mine ∷ []) a.same) in
     record { top = a.top; frame_is = e.0; nothing_below = e.1 }
 
 good-touches : (p : Program) (c : Config) → IsOwned p c → TouchesAbsent c → ⊥
 good-touches p c o b =
     let mine : Frame = record { fixed = o.fixed; todo = o.todo } in
     let e = entry-is mine b.frame b.below b.path c.tasks o.alone b.enabled.there in
-    touch-next o.procedure o.todo (values_in o.fixed c.common) c.common.heap b.root o.owns (subst (λ (z : Frame). next_root z.todo ≡ Some b.root) e.frame_is b.touches)
-    (subst (λ (z : Frame). IsAbsent c.common.heap (evaluate z.fixed.slots c.common.store b.root)) e.frame_is b.absent)
+    touch-next o.procedure o.todo (values_in o.fixed c.common) c.common.heap b.root o.owns
+    (subst (λ (z : Frame). next_root z.todo ≡ Some b.root) e.frame_is b.touches)
+    (subst (λ (z : Frame). IsAbsent c.common.heap (evaluate z.fixed.slots c.common.store b.root)) e.frame_is
+    b.absent)
 
 good-races : (p : Program) (c : Config) → IsOwned p c → Races c → ⊥
 good-races p c o b =
     let mine : List Frame = record { fixed = o.fixed; todo = o.todo } ∷ [] in
-    let x = alone-at b.path mine b.task (subst (λ z. task_at b.path z ≡ Some b.task) o.alone b.enabled.there) in
-    let y = alone-at b.other_path mine b.other (subst (λ z. task_at b.other_path z ≡ Some b.other) o.alone b.other_enabled.there) in
+    let x = alone-at b.path mine b.task
+    (subst (λ z. task_at b.path z ≡ Some b.task) o.alone b.enabled.there) in
+    let y = alone-at b.other_path mine b.other
+    (subst (λ z. task_at b.other_path z ≡ Some b.other) o.alone b.other_enabled.there) in
     b.different (x.top ∙ sym y.top)
 
 -- the whole heap is the entry's, and satisfies its postcondition where it has ended
-good-tasks : (p : Program) (c : Config) → IsFormed p → (fixed : Fixed) (todo : List Item) (f : Procedure) → procedure_at p fixed.procedure ≡ Some f → Owns f todo (values_in fixed c.common) c.common.heap
-    → c.tasks ≡ runs (record { fixed = fixed; todo = todo } ∷ []) → (FramePart p c.common.store fixed todo ⋆ RestPart c) c.common.heap
+good-tasks : (p : Program) (c : Config) → IsFormed p → (fixed : Fixed) (todo : List Item) (f : Procedure)
+    → procedure_at p fixed.procedure ≡ Some f → Owns f todo (values_in fixed c.common) c.common.heap
+    → c.tasks ≡ runs (record { fixed = fixed; todo = todo } ∷ [])
+    → (FramePart p c.common.store fixed todo ⋆ RestPart c) c.common.heap
 good-tasks p c formed fixed [] f there owns alone = star-map_right (λ part i h. i) (star-empty_right (λ g i.
-    let same : f ≡ g = some-same f g (sym there ∙ i) in
-    subst (λ z. Sat z.post.level (evaluate fixed.slots c.common.store) (λ n. nil) c.common.heap) same (owns-end p f (values_in fixed c.common) c.common.heap (formed.procedures fixed.procedure.0 f there).post owns)))
+    let same : f ≡ g = same_Some f g (sym there ∙ i) in
+    subst (λ z. Sat z.post.level (evaluate fixed.slots c.common.store) (λ n. nil) c.common.heap) same
+    (owns-end p f (values_in fixed c.common) c.common.heap
+    (formed.procedures fixed.procedure.0 f there).post owns)))
 good-tasks p c formed fixed (item ∷ todo) f there owns alone =
     star-empty_left (λ h. let d : item ∷ todo ≡ [] = subst (HasEnded []) alone h in absurd (cc))
 
@@ -170,6 +204,15 @@ good-tasks p c formed fixed (item ∷ todo) f there owns alone =
 pub good-owned : (p : Program) (c : Config) → IsFormed p → p.resources ≡ [] → IsOwned p c → Good p c
 good-owned p c formed no_resources o =
     good-by_parts p c (λ b. either b (good-touches p c o) (good-races p c o))
-    (subst (λ z. (InvariantParts c.common.store c.common.held 0 z ⋆ (TaskParts p c.common.store c.tasks ⋆ RestPart c)) c.common.heap) (sym no_resources)
-    (star-empty_left (subst (λ z. (TaskParts p c.common.store z ⋆ RestPart c) c.common.heap) (sym o.alone) (good-tasks p c formed o.fixed o.todo o.procedure o.there o.owns o.alone))))
-    (λ h. record { frame = record { fixed = o.fixed; todo = o.todo }; alone = o.alone; procedure = o.procedure; there = o.there; free = λ r of i. absurd (no-resource p r.0 of no_resources i) })
+    (subst (λ z. (InvariantParts c.common.store c.common.held 0 z ⋆
+    (TaskParts p c.common.store c.tasks ⋆ RestPart c)) c.common.heap) (sym no_resources)
+    (star-empty_left (subst (λ z. (TaskParts p c.common.store z ⋆ RestPart c) c.common.heap) (sym o.alone)
+    (good-tasks p c formed o.fixed o.todo o.procedure o.there o.owns o.alone))))
+    (λ h. record {
+      frame = record { fixed = o.fixed; todo = o.todo };
+      alone = o.alone;
+      procedure = o.procedure;
+      there = o.there;
+      free = λ r of i. absurd
+          (no-resource p r.0 of no_resources i);
+    })

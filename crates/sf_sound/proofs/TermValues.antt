@@ -11,42 +11,51 @@ use Rattle.sf_core.specs.declared.command.Expr.TheVariants.{Var as Variable, Nil
 use Rattle.sf_sym.specs.declared.term.Term.{Term}
 use Rattle.std.specs.List.{AllByRecursion}
 use Rattle.sf_sym.specs.Holds.{term_value, Agrees}
-use Rattle.sf_sound.specs.RowLaws.{is_listed, Covers, value_at}
+use Rattle.sf_sound.specs.Laws.{is_listed, Covers, value_at}
 use Rattle.sf_base.proofs.Variables.{same_var-decides}
 use Rattle.sf_base.specs.Variables.{same_var}
 use Rattle.sf_rules.specs.Table.{term_at, term}
 
 module _ (w : ℕ → Value) (e : Var → Option Value) where
   -- a variable with a value and a term has the term's value
-  listed-value : (vars : List (Var × Term)) (x : Var) (v : Value) → AllByRecursion (Agrees w e) vars → e x ≡ Some v → is_listed vars x ≡ true → term_value w (term_at vars x) ≡ v
+  listed-value : (vars : List (Var × Term)) (x : Var) (v : Value) → AllByRecursion (Agrees w e) vars
+      → e x ≡ Some v → is_listed vars x ≡ true → term_value w (term_at vars x) ≡ v
   listed-value [] x v a i l = absurd (cc)
   listed-value (y ∷ ys) x v a i l = go (same_var y.0 x) refl l (λ k. listed-value ys x v a.1 i k)
     where
-      go : (b : Bool) → same_var y.0 x ≡ b → b || is_listed ys x ≡ true → (is_listed ys x ≡ true → term_value w (term_at ys x) ≡ v) → term_value w (cond b y.1 (term_at ys x)) ≡ v
+      go : (b : Bool) → same_var y.0 x ≡ b → b || is_listed ys x ≡ true
+          → (is_listed ys x ≡ true → term_value w (term_at ys x) ≡ v)
+          → term_value w (cond b y.1 (term_at ys x)) ≡ v
       go true c k r = sym (a.0 v (ap e ((same_var-decides y.0 x).0 c) ∙ i))
       go false c k r = r k
 
   -- a variable that isn't listed counts as nil
-  unlisted-value : (vars : List (Var × Term)) (x : Var) → is_listed vars x ≡ false → term_value w (term_at vars x) ≡ nil
+  unlisted-value : (vars : List (Var × Term)) (x : Var) → is_listed vars x ≡ false
+      → term_value w (term_at vars x) ≡ nil
   unlisted-value [] x l = refl
   unlisted-value (y ∷ ys) x l = go (same_var y.0 x) l (λ k. unlisted-value ys x k)
     where
-      go : (b : Bool) → b || is_listed ys x ≡ false → (is_listed ys x ≡ false → term_value w (term_at ys x) ≡ nil) → term_value w (cond b y.1 (term_at ys x)) ≡ nil
+      go : (b : Bool) → b || is_listed ys x ≡ false
+          → (is_listed ys x ≡ false → term_value w (term_at ys x) ≡ nil)
+          → term_value w (cond b y.1 (term_at ys x)) ≡ nil
       go true k r = absurd (cc)
       go false k r = r k
 
-  pub variable-value : (vars : List (Var × Term)) → Covers vars e → AllByRecursion (Agrees w e) vars → (x : Var) → term_value w (term_at vars x) ≡ unwrap_or (e x) nil
+  pub variable-value : (vars : List (Var × Term)) → Covers vars e → AllByRecursion (Agrees w e) vars
+      → (x : Var) → term_value w (term_at vars x) ≡ unwrap_or (e x) nil
   variable-value vars c a x = go (e x) refl
     where
       go : (o : Option Value) → e x ≡ o → term_value w (term_at vars x) ≡ unwrap_or (e x) nil
       go None i = unlisted-value vars x (c x ∙ ap is_some i) ∙ ap (λ o. unwrap_or o nil) (sym i)
       go (Some v) i = listed-value vars x v a i (c x ∙ ap is_some i) ∙ ap (λ o. unwrap_or o nil) (sym i)
 
-  pub expression-value : (vars : List (Var × Term)) → Covers vars e → AllByRecursion (Agrees w e) vars → (x : Expr) → term_value w (term vars x) ≡ value_at e x
+  pub expression-value : (vars : List (Var × Term)) → Covers vars e → AllByRecursion (Agrees w e) vars
+      → (x : Expr) → term_value w (term vars x) ≡ value_at e x
   expression-value vars c a (Variable x) = variable-value vars c a x.var
   expression-value vars c a ENil = refl
   expression-value vars c a (EInt i) = refl
 
   -- the terms of all expressions have their values
-  pub values-are : (vars : List (Var × Term)) → Covers vars e → AllByRecursion (Agrees w e) vars → (λ x. term_value w (term vars x)) ≡ value_at e
+  pub values-are : (vars : List (Var × Term)) → Covers vars e → AllByRecursion (Agrees w e) vars
+      → (λ x. term_value w (term vars x)) ≡ value_at e
   values-are vars c a = λ j x. expression-value vars c a x j

@@ -1,3 +1,3 @@
 pub mod Sound
-pub mod RowLaws
-pub mod SoundInstance
+pub mod Laws
+pub mod Examples

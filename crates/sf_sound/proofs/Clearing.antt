@@ -1,7 +1,9 @@
 -- A small program that is proved and sound.
+use Rattle.sf_sound.specs.Sound.{ProvedProgramsAreSound}
 use Rattle.std.specs.Prelude.{◌≡◌, ◌≢◌, ◌≤◌, ◌<◌, ℕ, zero, suc, Some, List, [], ◌∷◌, slice_get}
 use Rattle.std.specs.List.{All}
 use Rattle.std.proofs.Common.{refl, subst, arith}
+use Rattle.std.proofs.lemmas.Option.{none-some}
 use Rattle.sf_base.specs.declared.ids.FieldId.{FieldId}
 use Rattle.sf_core.specs.declared.assertion.Operand.{Operand}
 use Rattle.sf_core.specs.declared.assertion.Operand.TheVariants.{Known}
@@ -9,30 +11,40 @@ use Rattle.sf_core.specs.declared.command.Expr.{Expr}
 use Rattle.sf_core.specs.declared.command.Expr.TheVariants.{Nil}
 use Rattle.sf_core.specs.Program.Formed.{IsParameter, OperandWithin, FieldsWithin, AssertionWithin, ProcedureWithin, IsFormed}
 use Rattle.sf_core.specs.Program.Syntax.{Procedure}
-use Rattle.sf_base.proofs.Cases.{none-not_some}
 use Rattle.sf_sym.specs.declared.tag.Tag.TheVariants as t
 use Rattle.sf_sym.specs.Goal.{Goal}
 use Rattle.sf_rules.specs.Proves.{Proof, by, Proofs, no_more, and, Proves}
-use Rattle.sf_sound.specs.SoundInstance.{hd, at_x, clears, clearing, clearing_tags, ClearingIsSound}
+use Rattle.sf_sound.specs.Examples.{hd, at_x, clears, clearing, clearing_tags, ClearingIsSound}
 use Rattle.sf_rules.specs.Table.{first_goal}
-use Rattle.sf_sound.proofs.Sound.{proved-programs_are_sound}
+use Rattle.sf_sound.proofs.Sound.{proved_programs_are_sound}
 
 one : {goal : Goal} → Proof goal → Proofs (goal ∷ [])
 one {goal} proof = and goal [] refl proof (no_more refl)
 
 proof : Proof (first_goal clearing clears)
-proof = by t.Add _ refl (one (by (t.Mutate 1) _ refl (one (by t.Return _ refl (one (by (t.Cell 1) _ refl (one (by t.End [] refl (no_more refl)))))))))
+proof =
+    by t.Add _ refl
+    (one (by (t.Mutate 1) _ refl (one (by t.Return _ refl
+    (one (by (t.Cell 1) _ refl (one (by t.End [] refl (no_more refl)))))))))
 
 proves : Proves clearing clearing_tags
 unfolding proof one
 proves = (proof, [], refl, refl)
 
-within : (fields : List (FieldId × Operand Expr)) → FieldsWithin clearing.fields (OperandWithin (IsParameter clearing clears) ((record { first = 0; count = 0 }) ∷ [])) fields
+within : (fields : List (FieldId × Operand Expr))
+    → FieldsWithin clearing.fields
+    (OperandWithin (IsParameter clearing clears) ((record { first = 0; count = 0 }) ∷ [])) fields
     → AssertionWithin clearing.fields (IsParameter clearing clears) (at_x fields)
-within fields w = let first : 0 < 1 = omega arith in let nesting : 1 ≤ 64 = omega arith in record { annotation = record { within = ((first, w), tt); numbered = (refl, tt); depth = nesting }; names = refl }
+within fields w =
+    let first : 0 < 1 = omega arith in
+    let nesting : 1 ≤ 64 = omega arith in
+    record {
+      annotation = record { within = ((first, w), tt); numbered = (refl, tt); depth = nesting };
+      names = refl;
+    }
 
-none-behind : All (λ (g : FieldId × Operand Expr). g.0.0 ≢ 0) []
-none-behind k g l = let e : ⊥ = omega arith in absurd e
+none-after : All (λ (g : FieldId × Operand Expr). g.0.0 ≢ 0) []
+none-after k g l = let e : ⊥ = omega arith in absurd e
 
 procedure-within : ProcedureWithin clearing clears
 procedure-within =
@@ -45,7 +57,7 @@ procedure-within =
       declared = named;
       primed = no_primed;
       pre = within [] tt;
-      post = within ((hd, Known Nil) ∷ []) (first, tt, none-behind, tt);
+      post = within ((hd, Known Nil) ∷ []) (first, tt, none-after, tt);
       body = ((first, first, tt), tt);
       depth = nesting;
     }
@@ -57,7 +69,7 @@ found (suc k) f e = absurd (cc)
 formed : IsFormed clearing
 formed = record {
   procedures = found;
-  resources = λ k r e. absurd (none-not_some r e);
+  resources = λ k r e. absurd (none-some r e);
   procedure_count = let e : 1 ≤ 1000 = omega arith in e;
   resource_count = let e : 0 ≤ 64 = omega arith in e;
   field_count = let e : 1 ≤ 16 = omega arith in e;
@@ -65,4 +77,10 @@ formed = record {
 }
 
 pub clearing_is_sound : ClearingIsSound
-clearing_is_sound = record { formed = formed; proves = proves; sound = proved-programs_are_sound clearing clearing_tags formed refl proves }
+unfolding ProvedProgramsAreSound
+clearing_is_sound =
+    record {
+      formed = formed;
+      proves = proves;
+      sound = proved_programs_are_sound clearing clearing_tags formed refl proves;
+    }

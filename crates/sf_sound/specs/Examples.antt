@@ -1,4 +1,4 @@
--- A small program, worked out: tags that prove it, so that it is sound.
+-- An example: tags that prove a small program, so that it is sound.
 -- It is in the manner of Berdine, Calcagno, O'Hearn, "Smallfoot" (2005).
 use Rattle.std.specs.Prelude.{List, [], ◌∷◌, codes}
 use Rattle.sf_base.specs.declared.ids.FieldId.{FieldId}
@@ -15,7 +15,7 @@ use Rattle.sf_sym.specs.declared.tag.Tag.TheVariants as t
 use Rattle.sf_rules.specs.Proves.{Proves}
 use Rattle.sf_sound.specs.Sound.{IsSound}
 
--- where all of it stands
+-- the place of all of it
 abbrev pub place : Place
 place = record { line = 1; column = 1 }
 
@@ -29,7 +29,11 @@ x = Variable (record { var = Own 0; place = place })
 
 -- there is a cell at x, with these fields
 abbrev pub at_x : List (FieldId × Operand Expr) → Assertion
-at_x fields = record { names = []; level = level (record { first = 0; count = 0 }) (also (points place (Known x) fields) none) }
+at_x fields =
+    record {
+      names = [];
+      level = level (record { first = 0; count = 0 }) (also (points place (Known x) fields) none);
+    }
 
 -- f(x) [x|->] { x->hd = nil; } [x|->hd:nil]
 abbrev pub clears : Procedure
