@@ -5,17 +5,17 @@ ghost use Rattle.sf_core.specs.Program.Syntax.{Program as ProgramOf};
 ghost use Rattle.sf_core.specs.Program.ProgramView.{program_of};
 ghost use Rattle.sf_sym.specs.Goal.{goal_of};
 ghost use Rattle.sf_sym.specs.declared.tag.Tag.{Tag as TagOf};
-ghost use Rattle.sf_check.specs.Checks.{ChecksFrom};
-ghost use Rattle.sf_check.specs.Checking.{AcceptsFrom};
+ghost use Rattle.sf_check.specs.Internal.Checks.{ChecksFrom};
+ghost use Rattle.sf_check.specs.Internal.Checking.{AcceptsFrom};
 ghost use Rattle.sf_rules.specs.Proves.{Proves};
 
 use sf_base::ProcId;
 use sf_core::Program;
-use sf_rules::{Left, apply, start_goal};
+use sf_rules::{Subgoals, apply, start_goal};
 use sf_sym::{Goal, Tag};
 use std::alloc::{AllocError, Global};
 
-/// Where a check stands.
+/// How far a check has come.
 #[derive(Drop)]
 struct Checking<'a> {
     /// The goal that is open, if one is.
@@ -25,15 +25,19 @@ struct Checking<'a> {
 }
 
 /// The next procedure begins, no goal being open. `None` exactly where the tag doesn't begin it; an
-/// `Err` is want of memory.
+/// `Err` means out of memory.
 fn begin<'a>(
     alloc: Global,
     p: &'a Program,
     begun: usize,
     tag: Tag,
 ) -> Result<Option<Checking<'a>>, AllocError>
-    ensures taken { IfOk result (λ next. IfSome next (λ at. (tags : List TagOf) → ChecksFrom (program_of p.now) begun [] (tag ∷ tags) ↔ AcceptsFrom (program_of p.now) at tags)) }
-    ensures refused { IfOk result (λ next. IfNone next ((tags : List TagOf) → ChecksFrom (program_of p.now) begun [] (tag ∷ tags) → ⊥)) }
+    ensures taken { IfOk result (λ next.
+        IfSome next (λ at. (tags : List TagOf) → ChecksFrom (program_of p.now) begun [] (tag ∷ tags)
+        ↔ AcceptsFrom (program_of p.now) at tags)) }
+    ensures refused { IfOk result (λ next.
+        IfNone next ((tags : List TagOf) → ChecksFrom (program_of p.now) begun [] (tag ∷ tags)
+        → ⊥)) }
 {
     if begun >= p.procedures.len() {
         return Ok(None);
@@ -48,20 +52,24 @@ fn begin<'a>(
     }))
 }
 
-/// A tag at the open goal. `None` exactly where it has no row there; an `Err` is want of memory.
+/// A tag at the open goal. `None` exactly where it has no row there; an `Err` means out of memory.
 fn advance<'a>(
     alloc: Global,
     goal: Goal<'a>,
     begun: usize,
     tag: Tag,
 ) -> Result<Option<Checking<'a>>, AllocError>
-    ensures taken { IfOk result (λ next. IfSome next (λ at. (p : ProgramOf) (tags : List TagOf) → ChecksFrom p begun (goal_of goal.entry ∷ []) (tag ∷ tags) ↔ AcceptsFrom p at tags)) }
-    ensures refused { IfOk result (λ next. IfNone next ((p : ProgramOf) (tags : List TagOf) → ChecksFrom p begun (goal_of goal.entry ∷ []) (tag ∷ tags) → ⊥)) }
+    ensures taken { IfOk result (λ next.
+        IfSome next (λ at. (p : ProgramOf) (tags : List TagOf)
+        → ChecksFrom p begun (goal_of goal.entry ∷ []) (tag ∷ tags) ↔ AcceptsFrom p at tags)) }
+    ensures refused { IfOk result (λ next.
+        IfNone next ((p : ProgramOf) (tags : List TagOf)
+        → ChecksFrom p begun (goal_of goal.entry ∷ []) (tag ∷ tags) → ⊥)) }
     ensures begun { IfOk result (λ next. IfSome next (λ at. at.begun ≡ begun)) }
 {
     match apply(alloc, goal, tag)? {
-        Some(Left::Nothing) => Ok(Some(Checking { goal: None, begun })),
-        Some(Left::One(goal)) => Ok(Some(Checking {
+        Some(Subgoals::Nothing) => Ok(Some(Checking { goal: None, begun })),
+        Some(Subgoals::One(goal)) => Ok(Some(Checking {
             goal: Some(goal),
             begun,
         })),
@@ -69,15 +77,20 @@ fn advance<'a>(
     }
 }
 
-/// The next tag. `None` exactly where it isn't accepted; an `Err` is want of memory.
+/// The next tag. `None` exactly where it isn't accepted; an `Err` means out of memory.
 fn take<'a>(
     alloc: Global,
     p: &'a Program,
     at: Checking<'a>,
     tag: Tag,
 ) -> Result<Option<Checking<'a>>, AllocError>
-    ensures taken { IfOk result (λ next. IfSome next (λ then. (tags : List TagOf) → AcceptsFrom (program_of p.now) at.entry (tag ∷ tags) ↔ AcceptsFrom (program_of p.now) then tags)) }
-    ensures refused { IfOk result (λ next. IfNone next ((tags : List TagOf) → AcceptsFrom (program_of p.now) at.entry (tag ∷ tags) → ⊥)) }
+    ensures taken { IfOk result (λ next.
+        IfSome next (λ then. (tags : List TagOf)
+        → AcceptsFrom (program_of p.now) at.entry (tag ∷ tags)
+        ↔ AcceptsFrom (program_of p.now) then tags)) }
+    ensures refused { IfOk result (λ next.
+        IfNone next ((tags : List TagOf) → AcceptsFrom (program_of p.now) at.entry (tag ∷ tags)
+        → ⊥)) }
 {
     let Checking { goal, begun } = at;
     match goal {
@@ -96,7 +109,7 @@ fn is_done<'a>(p: &Program, at: &Checking<'a>) -> bool
     }
 }
 
-/// Whether the tags prove every procedure of the program, in file order. An `Err` is want of memory.
+/// Whether the tags prove every procedure of the program, in file order. An `Err` means out of memory.
 pub fn check(alloc: Global, p: &Program, tags: &[Tag]) -> Result<bool, AllocError>
     ensures { IfOk result (λ accepted. IsTrue accepted ↔ Proves (program_of p.now) tags.now) }
 {

@@ -1,4 +1,6 @@
 //! The checker: whether tags prove a program.
+//!
+//! - `checking`: a check of tags, one after the other.
 #![tactic(auto)]
 
 mod checking;

@@ -1,4 +1,4 @@
--- The text of a proof: a line for each tag, and in front the verdict.
+-- The text of a proof: the line of the verdict, and then a line for each tag.
 -- Numbers are decimal, as The Open Group's "printf" prints them (2018).
 use Rattle.std.specs.Prelude.{ℕ, Option, Some, None, List, [], ◌∷◌, ◌++◌, codes, decimal}
 use Rattle.std.specs.Fmt.{signed_decimal}

@@ -1,6 +1,8 @@
 //! The text of a proof.
+//!
+//! - `text`: a line for each tag, after the line of the verdict.
 #![tactic(auto)]
 
-pub mod text;
+mod text;
 
-pub use text::proof_text;
+pub use text::{proof_text, put};

@@ -1,6 +1,7 @@
-//! The text of a proof: a line for each tag, and in front the verdict.
+//! The text of a proof: the line of the verdict, and then a line for each tag.
 
-ghost use Rattle.std.specs.Prelude.{◌≡◌, ◌++◌, IfOk, OnOk};
+ghost use Rattle.std.specs.Prelude.{◌≡◌, IfOk};
+ghost use Rattle.sf_base.specs.Results.{Appends};
 ghost use Rattle.sf_core.specs.Program.ProgramView.{program_of};
 ghost use Rattle.sf_proof.specs.ProofText.{atom_text, procedure_text, proof_text, split_text, tag_text, term_text};
 
@@ -11,7 +12,7 @@ use sf_sym::{Tag, Term};
 use std::alloc::{AllocError, Global};
 
 /// The text of a proof of the program by these tags. A `procedure` line of a procedure that isn't there has
-/// no name. An `Err` is want of memory.
+/// no name. An `Err` means out of memory.
 pub fn proof_text(alloc: Global, p: &Program, tags: &[Tag]) -> Result<Vec<u8>, AllocError>
     ensures { IfOk result (λ text. text.items ≡ proof_text (program_of p.now) tags.now) }
 {
@@ -23,26 +24,26 @@ pub fn proof_text(alloc: Global, p: &Program, tags: &[Tag]) -> Result<Vec<u8>, A
     Ok(text)
 }
 
-/// Appends a text. An `Err` is want of memory.
-fn put(text: &mut Vec<u8>, more: &str) -> Result<(), AllocError>
-    ensures { OnOk result (text.new.items ≡ text.old.items ++ more.now) }
+/// Appends a text. An `Err` means out of memory.
+pub fn put(text: &mut Vec<u8>, more: &str) -> Result<(), AllocError>
+    ensures { Appends result text.old.items text.new.items more.now }
 {
     text.extend_from_slice(more.as_bytes())?;
     Ok(())
 }
 
-/// Appends a tag that names an atom. An `Err` is want of memory.
+/// Appends a tag that names an atom. An `Err` means out of memory.
 fn put_atom(text: &mut Vec<u8>, tag: &str, atom: u32) -> Result<(), AllocError>
-    ensures { OnOk result (text.new.items ≡ text.old.items ++ atom_text tag.now atom) }
+    ensures { Appends result text.old.items text.new.items (atom_text tag.now atom) }
 {
     put(text, tag)?;
     put(text, " ")?;
     put(text, Buffer::new().format(atom))
 }
 
-/// Appends a term. An `Err` is want of memory.
+/// Appends a term. An `Err` means out of memory.
 fn put_term(text: &mut Vec<u8>, t: Term) -> Result<(), AllocError>
-    ensures { OnOk result (text.new.items ≡ text.old.items ++ term_text t) }
+    ensures { Appends result text.old.items text.new.items (term_text t) }
 {
     match t {
         Term::Nil => put(text, "nil"),
@@ -54,9 +55,9 @@ fn put_term(text: &mut Vec<u8>, t: Term) -> Result<(), AllocError>
     }
 }
 
-/// Appends the tag that splits by two terms. An `Err` is want of memory.
+/// Appends the tag that splits by two terms. An `Err` means out of memory.
 fn put_split(text: &mut Vec<u8>, t: Term, u: Term) -> Result<(), AllocError>
-    ensures { OnOk result (text.new.items ≡ text.old.items ++ split_text t u) }
+    ensures { Appends result text.old.items text.new.items (split_text t u) }
 {
     put(text, "split ")?;
     put_term(text, t)?;
@@ -64,18 +65,18 @@ fn put_split(text: &mut Vec<u8>, t: Term, u: Term) -> Result<(), AllocError>
     put_term(text, u)
 }
 
-/// Appends the tag that begins a procedure. An `Err` is want of memory.
+/// Appends the tag that begins a procedure. An `Err` means out of memory.
 fn put_procedure(text: &mut Vec<u8>, p: &Program, f: ProcId) -> Result<(), AllocError>
-    ensures { OnOk result (text.new.items ≡ text.old.items ++ procedure_text (program_of p.now) f) }
+    ensures { Appends result text.old.items text.new.items (procedure_text (program_of p.now) f) }
 {
     put(text, "procedure ")?;
     text.extend_from_slice(p.name_of(f))?;
     Ok(())
 }
 
-/// Appends a tag. An `Err` is want of memory.
+/// Appends a tag. An `Err` means out of memory.
 fn put_tag(text: &mut Vec<u8>, p: &Program, tag: Tag) -> Result<(), AllocError>
-    ensures { OnOk result (text.new.items ≡ text.old.items ++ tag_text (program_of p.now) tag) }
+    ensures { Appends result text.old.items text.new.items (tag_text (program_of p.now) tag) }
 {
     match tag {
         Tag::Procedure(f) => put_procedure(text, p, f),

@@ -13,4 +13,5 @@ start_goal-requires c = c.args.p.now.formed.procedures c.args.begun _ c.proc.ens
 pub returns-clause-taken : goal.returns-clause-taken
 returns-clause-taken c = λ tags.
     let same : c.args.tag ≡ Begin (record { 0 = c.args.begun }) = search rules in
-    begin-accepted (program_of c.args.p.now) c.args.begun (procedure_of c.proc.result.now) (goal_of c.in_ok-goal.goal) c.args.tag tags c.proc.ensures.meaning c.in_ok-goal.ensures same
+    begin-accepted (program_of c.args.p.now) c.args.begun (procedure_of c.proc.result.now)
+    (goal_of c.in_ok-goal.goal) c.args.tag tags c.proc.ensures.meaning c.in_ok-goal.ensures same

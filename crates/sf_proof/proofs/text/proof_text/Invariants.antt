@@ -4,4 +4,5 @@ use Rattle.sf_proof.specs.ProofText.{proof_text, lines_of}
 use Rattle.sf_proof.proofs.text.proof_text.Given as goal
 
 abbrev pub invariant-loop-tag : goal.invariant-loop-tag
-invariant-loop-tag l = proof_text (program_of l.p) l.tags ≡ l.text.items ++ lines_of (program_of l.p) (drop l.tag-index l.tags)
+invariant-loop-tag l =
+    proof_text (program_of l.p) l.tags ≡ l.text.items ++ lines_of (program_of l.p) (drop l.tag-index l.tags)
