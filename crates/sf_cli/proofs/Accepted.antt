@@ -7,7 +7,7 @@ use Rattle.sf_elab.specs.Laws.{ElaboratedIsFormed}
 use Rattle.sf_io.specs.Shelf.{Files}
 use Rattle.sf_parse.specs.Laws.{EachFileIsShallow}
 use Rattle.sf_search.specs.Judge.{Verdict, proof, fails, Judge}
-use Rattle.sf_search.specs.VerdictLaws.{VerdictsProve}
+use Rattle.sf_search.specs.Laws.{VerdictsProve}
 use Rattle.sf_sound.specs.Sound.{ProvedProgramsAreSound}
 use Rattle.sf_cli.proofs.BuiltForms.{built-no_resources}
 use Rattle.sf_cli.specs.Answer.{VerdictAnswer, ProgramAnswer, OrderAnswer, FileAnswer, MayBe, AcceptedBytes, Accepted, Reply, not_built, judged, refused, admitted, answer, unread}
@@ -22,6 +22,7 @@ accepted-formed shallow formed bytes p r =
 
 -- a file whose answer has status 0 reads as a program that is sound
 pub accepted-sound : EachFileIsShallow → ElaboratedIsFormed → VerdictsProve → ProvedProgramsAreSound → AcceptedFilesAreSound
+unfolding VerdictsProve ProvedProgramsAreSound
 accepted-sound shallow formed prove law bytes text (refused r f t s) = absurd (omega (arith, s))
 accepted-sound shallow formed prove law bytes text (admitted p a (not_built b t s)) = absurd (omega (arith, s))
 accepted-sound shallow formed prove law bytes text (admitted p a (judged b (fails f) j v)) = absurd (omega (arith, v.1))

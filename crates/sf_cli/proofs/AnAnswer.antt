@@ -16,10 +16,11 @@ use Rattle.sf_parse.specs.Laws.{EachFileIsShallow, EachHasOneAnswer}
 use Rattle.sf_parse.specs.Parsing.{IsFile}
 use Rattle.sf_precise.specs.Laws.{UndeterminedAnnotationsHavePlace}
 use Rattle.sf_precise.specs.Annotations.{annotations_in}
-use Rattle.sf_proof.specs.ProofText.{name_of, proof_text}
+use Rattle.sf_core.specs.Program.Named.{name_of}
+use Rattle.sf_proof.specs.ProofText.{proof_text}
 use Rattle.sf_rules.specs.Built.{is_built}
 use Rattle.sf_search.specs.Judge.{Verdict, proof, fails, Judge}
-use Rattle.sf_search.specs.VerdictLaws.{AVerdict}
+use Rattle.sf_search.specs.Laws.{VerdictExists}
 use Rattle.sf_vars.specs.Laws.{EachProgramHasAnAnswer}
 use Rattle.sf_cli.proofs.Accepted.{accepted-formed}
 use Rattle.sf_cli.specs.Answer.{Answer, FileAnswer, OrderAnswer, ProgramAnswer, admitted, judged, not_built, not_built_text, refused}
@@ -41,7 +42,7 @@ pub record Answers : Type 0 where
   pub formed : ElaboratedIsFormed
   pub variables : EachProgramHasAnAnswer
   pub orders : UndeterminedAnnotationsHavePlace
-  pub verdicts : AVerdict
+  pub verdicts : VerdictExists
 
 -- the answer to a program of which there is a verdict
 some-verdict : (p : Program) → is_built p ≡ true → (v : Verdict) → Judge p v → (text : Text) × (status : ℕ) × ProgramAnswer p text status
@@ -50,6 +51,7 @@ some-verdict p b (fails f) j = (codes "failed " ++ name_of p f ++ codes "\n", 1,
 
 -- the answer to a program in order
 some-program : Answers → (p : Program) → IsFormed p → (text : Text) × (status : ℕ) × ProgramAnswer p text status
+unfolding VerdictExists
 some-program l p f = go (is_built p) refl
   where
     go : (b : Bool) → is_built p ≡ b → (text : Text) × (status : ℕ) × ProgramAnswer p text status

@@ -27,7 +27,7 @@ use Rattle.sf_parse.specs.Parsing.{IsFile, IsFault as IsGrammarFault}
 use Rattle.sf_precise.specs.Laws.{NeverTakenIsUndetermined}
 use Rattle.sf_precise.specs.Annotations.{annotations_in, is_before, IsFirstPlace, NeverTakenIn}
 use Rattle.sf_search.specs.Judge.{Verdict, proof, fails}
-use Rattle.sf_search.specs.VerdictLaws.{OneVerdict}
+use Rattle.sf_search.specs.Laws.{VerdictIsUnique}
 use Rattle.sf_vars.specs.declared.fault.VarFault.{VarFault}
 use Rattle.sf_vars.specs.Faults.{IsVariableName, IsBreachName, told_by, IsFirstFault}
 use Rattle.sf_cli.specs.Answer.{VerdictAnswer, ProgramAnswer, OrderAnswer, FileAnswer, not_built, judged, refused, admitted}
@@ -48,7 +48,7 @@ pub record Layers : Type 0 where
   pub names : EachTreeIsOne
   pub breaches : FirstBreachIsUnique
   pub orders : NeverTakenIsUndetermined
-  pub verdicts : OneVerdict
+  pub verdicts : VerdictIsUnique
 
 -- the same tokens are the same tree
 reads-tree : EachFileIsOne → (bytes : Text) (ts us : List Token) (one two : List Item) → ts ≡ us → IsFile ts one → IsFile us two → one ≡ two
@@ -192,6 +192,7 @@ answer-printed p v w text other status code e a b = go v (subst (λ (z : Verdict
 
 -- a program has one answer
 answer-program : Layers → (p : Program) (text other : Text) (status code : ℕ) → ProgramAnswer p text status → ProgramAnswer p other code → (text ≡ other) × (status ≡ code)
+unfolding VerdictIsUnique
 answer-program l p text other status code (not_built b t s) (not_built c u r) = (t ∙ sym u, s ∙ sym r)
 answer-program l p text other status code (not_built b t s) (judged c w j u) = absurd cc
 answer-program l p text other status code (judged b v j t) (not_built c u r) = absurd cc

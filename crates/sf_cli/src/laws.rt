@@ -7,7 +7,7 @@ use sf_elab::laws::elaborated_is_formed;
 use sf_lex::laws::each_file_reads_once;
 use sf_parse::laws::each_file_is_shallow;
 use sf_precise::laws::{never_taken_is_undetermined, undetermined_annotations_have_place};
-use sf_search::{a_verdict, one_verdict, verdicts_prove};
+use sf_search::{verdict_exists, verdict_is_unique, verdicts_prove};
 use sf_sound::proved_programs_are_sound;
 use sf_vars::laws::each_program_has_an_answer;
 
@@ -30,7 +30,7 @@ pub fn each_file_has_one_answer()
     sf_elab::laws::each_file_is_one();
     first_breach_is_unique();
     never_taken_is_undetermined();
-    one_verdict();
+    verdict_is_unique();
 }
 
 /// Each file has an answer: it is refused for some cause, or there are no rules for it yet, or there is a
@@ -45,7 +45,7 @@ pub fn each_file_has_an_answer()
     elaborated_is_formed();
     each_program_has_an_answer();
     undetermined_annotations_have_place();
-    a_verdict();
+    verdict_exists();
 }
 
 /// Words have an answer over files, where the file that they name is there.

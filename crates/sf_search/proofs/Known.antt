@@ -9,8 +9,8 @@ use Rattle.sf_sym.specs.Tests.{is_absurd}
 use Rattle.sf_search.specs.declared.strategy.Known.{Known}
 use Rattle.sf_search.specs.declared.strategy.Known.TheVariants.{Nothing, Possible, Added}
 use Rattle.sf_search.specs.Judge.{takes, choice, choose_item}
-use Rattle.sf_search.specs.Known.{IsTrueOf, known_after}
-use Rattle.sf_search.specs.Numbers.{AreRising}
+use Rattle.sf_search.specs.Internal.Known.{IsTrueOf, known_after}
+use Rattle.sf_search.specs.Internal.Numbers.{AreRising}
 use Rattle.sf_search.proofs.Added.{added-grown}
 use Rattle.sf_search.proofs.Leaves.{One, Grown, Leaves, row_leaves}
 use Rattle.sf_search.proofs.Possible.{OnePossible, leaves_possible}
@@ -28,10 +28,14 @@ known-nothing (g ∷ gs) = tt
 known-possible : (left gs : List Goal) → OnePossible left → KnownOfFirst Possible (left ++ gs)
 known-possible left gs one = subst (λ goals. KnownOfFirst Possible (goals ++ gs)) (sym one.is) one.like
 
-known-added : (s : State) (left gs : List Goal) → is_absurd s ≡ false → AreRising 0 s.atoms s.next_atom → One (Grown s) left → KnownOfFirst Added (left ++ gs)
-known-added s left gs p r one = subst (λ goals. KnownOfFirst Added (goals ++ gs)) (sym one.is) (added-grown s one.goal.state p r one.like)
+known-added : (s : State) (left gs : List Goal) → is_absurd s ≡ false → AreRising 0 s.atoms s.next_atom
+    → One (Grown s) left → KnownOfFirst Added (left ++ gs)
+known-added s left gs p r one =
+    subst (λ goals. KnownOfFirst Added (goals ++ gs)) (sym one.is)
+    (added-grown s one.goal.state p r one.like)
 
-leaves-known : (s : State) (tag : Tag) (left gs : List Goal) → is_absurd s ≡ false → AreRising 0 s.atoms s.next_atom → Leaves tag s left → KnownOfFirst (known_after tag) (left ++ gs)
+leaves-known : (s : State) (tag : Tag) (left gs : List Goal) → is_absurd s ≡ false
+    → AreRising 0 s.atoms s.next_atom → Leaves tag s left → KnownOfFirst (known_after tag) (left ++ gs)
 leaves-known s (t.Procedure f) left gs p r w = known-nothing (left ++ gs)
 leaves-known s (t.Split x y) left gs p r w = known-nothing (left ++ gs)
 leaves-known s t.Absurd left gs p r w = known-nothing (left ++ gs)
@@ -58,7 +62,8 @@ leaves-known s (t.Drop a) left gs p r w = known-nothing (left ++ gs)
 leaves-known s (t.Force a) left gs p r w = known-nothing (left ++ gs)
 leaves-known s (t.Unroll a) left gs p r w = known-nothing (left ++ gs)
 leaves-known s (t.Look a) left gs p r w = known-nothing (left ++ gs)
-leaves-known s (t.Mutate a) left gs p r w = known-possible left gs (leaves_possible s (t.Mutate a) left refl p w)
+leaves-known s (t.Mutate a) left gs p r w =
+    known-possible left gs (leaves_possible s (t.Mutate a) left refl p w)
 leaves-known s (t.Dispose a) left gs p r w = known-nothing (left ++ gs)
 leaves-known s (t.Cell a) left gs p r w = known-possible left gs (leaves_possible s (t.Cell a) left refl p w)
 leaves-known s (t.Exact a) left gs p r w = known-nothing (left ++ gs)
@@ -66,10 +71,17 @@ leaves-known s (t.Head a) left gs p r w = known-nothing (left ++ gs)
 leaves-known s (t.Join a) left gs p r w = known-nothing (left ++ gs)
 leaves-known s (t.Node a) left gs p r w = known-nothing (left ++ gs)
 
-known-step : (g : Goal) (gs : List Goal) (tag : Tag) (left : List Goal) (b : Bool) → is_absurd g.state ≡ b → AreRising 0 g.state.atoms g.state.next_atom → cond b (takes t.Absurd) (choose_item g.state g.todo) ≡ takes tag → row g tag ≡ Some left → KnownOfFirst (known_after tag) (left ++ gs)
-known-step g gs tag left true a r c e = let same : t.Absurd ≡ tag = cc in subst (λ (z : Tag). KnownOfFirst (known_after z) (left ++ gs)) same (known-nothing (left ++ gs))
+known-step : (g : Goal) (gs : List Goal) (tag : Tag) (left : List Goal) (b : Bool) → is_absurd g.state ≡ b
+    → AreRising 0 g.state.atoms g.state.next_atom
+    → cond b (takes t.Absurd) (choose_item g.state g.todo) ≡ takes tag → row g tag ≡ Some left
+    → KnownOfFirst (known_after tag) (left ++ gs)
+known-step g gs tag left true a r c e =
+    let same : t.Absurd ≡ tag = cc in
+    subst (λ (z : Tag). KnownOfFirst (known_after z) (left ++ gs)) same (known-nothing (left ++ gs))
 known-step g gs tag left false a r c e = leaves-known g.state tag left gs a r (row_leaves g tag left e)
 
 -- after a tag that the strategy takes
-pub known-first : (g : Goal) (gs : List Goal) (tag : Tag) (left : List Goal) → AreRising 0 g.state.atoms g.state.next_atom → choice g ≡ takes tag → row g tag ≡ Some left → KnownOfFirst (known_after tag) (left ++ gs)
+pub known-first : (g : Goal) (gs : List Goal) (tag : Tag) (left : List Goal)
+    → AreRising 0 g.state.atoms g.state.next_atom → choice g ≡ takes tag → row g tag ≡ Some left
+    → KnownOfFirst (known_after tag) (left ++ gs)
 known-first g gs tag left r c e = known-step g gs tag left (is_absurd g.state) refl r c e

@@ -1,5 +1,6 @@
 -- What the code's failures say: how a search ended that found no proof, and which procedure fails.
--- Want of memory says nothing.
+-- Out of memory says nothing.
+-- Ordinary: one case a case.
 use Rattle.std.specs.Prelude.{List}
 use Rattle.sf_core.specs.Program.Syntax.{Program}
 use Rattle.sf_sym.specs.declared.tag.Tag.{Tag}

@@ -1,6 +1,9 @@
--- Judge: the strategy, which chooses the tag at each goal, and what it comes to for a whole program. Here for programs that
--- write fields. What it lacks so far: to drop or force an atom, to split where no atom is decided, and to look up fields.
--- Berdine, Calcagno, O'Hearn, "Smallfoot" (2005): proof search by symbolic execution, in this project's own profile.
+-- Judge: the strategy, which chooses the tag at each goal, and what it comes to for a whole program.
+-- Here for programs that
+-- write fields. What it lacks so far: to drop or force an atom, to split where no atom is decided, and
+-- to look up fields.
+-- Berdine, Calcagno, O'Hearn, "Smallfoot" (2005): proof search by symbolic execution, in this project's
+-- own profile.
 use Rattle.std.specs.Prelude.{◌≡◌, ℕ, suc, ◌+◌, ◌≤◌, ◌<◌, cond, Option, Some, None, List, [], ◌∷◌, ◌++◌, length, is_some, ◌⊎◌}
 use Rattle.std.specs.List.{list_all}
 use Rattle.sf_base.specs.declared.ids.FieldId.{FieldId}
@@ -15,7 +18,7 @@ use Rattle.sf_sym.specs.declared.tag.Tag.TheVariants as t
 use Rattle.sf_sym.specs.declared.term.Term.{Term}
 use Rattle.sf_sym.specs.Goal.{Item, run, add, take, return, end, Goal}
 use Rattle.sf_sym.specs.Tests.{is_absurd}
-use Rattle.sf_rules.specs.Table.{term, known, fields_at, fits, assumed, is_empty, row, first_goal}
+use Rattle.sf_rules.specs.Table.{term, known_term, fields_at, fits, state_after_assumption, is_empty, row, first_goal}
 use Rattle.sf_search.specs.declared.strategy.Stuck.{Stuck}
 use Rattle.sf_search.specs.declared.strategy.Stuck.TheVariants.{NoCell, NotEqual, NoAtom, Leak, NotBuilt}
 
@@ -25,7 +28,8 @@ pub data Choice : Type 0 where
   stays : Stuck → Choice
 
 -- this cell, if it is one, and else what was found among the others
-abbrev pub this_or : ℕ → Option (List (FieldId × Term)) → Option (ℕ × List (FieldId × Term)) → Option (ℕ × List (FieldId × Term))
+abbrev pub this_or : ℕ → Option (List (FieldId × Term)) → Option (ℕ × List (FieldId × Term))
+    → Option (ℕ × List (FieldId × Term))
 this_or number (Some fields) others = Some (number, fields)
 this_or number None others = others
 
@@ -47,12 +51,13 @@ choose_command s _ = stays NotBuilt
 -- at conjuncts to assume
 abbrev pub choose_add : State → Conjuncts Term → Choice
 choose_add s none = stays NotBuilt
-choose_add s (also c cs) = cond (is_some (assumed s c)) (takes t.Add) (stays NotBuilt)
+choose_add s (also c cs) = cond (is_some (state_after_assumption s c)) (takes t.Add) (stays NotBuilt)
 
 -- at a wanted cell with those fields: the lowest cell there, if its fields are as wanted
 abbrev pub choose_found : List (FieldId × Operand Term) → Option (ℕ × List (FieldId × Term)) → Choice
 choose_found wanted None = stays NoAtom
-choose_found wanted (Some found) = cond (list_all (fits found.1) wanted) (takes (t.Cell found.0)) (stays NotEqual)
+choose_found wanted (Some found) =
+    cond (list_all (fits found.1) wanted) (takes (t.Cell found.0)) (stays NotEqual)
 
 -- at a wanted cell at that term
 abbrev pub choose_cell : State → Option Term → List (FieldId × Operand Term) → Choice
@@ -61,7 +66,7 @@ choose_cell s (Some root) wanted = choose_found wanted (lowest_cell s.atoms root
 
 -- at a wanted conjunct
 abbrev pub choose_wanted : State → Conjunct Term → Choice
-choose_wanted s (points p x wanted) = choose_cell s (known x) wanted
+choose_wanted s (points p x wanted) = choose_cell s (known_term x) wanted
 choose_wanted s _ = stays NotBuilt
 
 -- at conjuncts to show
@@ -73,7 +78,7 @@ choose_take s (also c cs) = choose_wanted s c
 abbrev pub choose_end : State → Choice
 choose_end s = cond (is_empty s.atoms) (takes t.End) (stays Leak)
 
--- by the item in front
+-- by the first item
 abbrev pub choose_item : State → List Item → Choice
 choose_item s (run c ∷ todo) = choose_command s c
 choose_item s (add p given ∷ todo) = choose_add s given.conjuncts
@@ -82,11 +87,12 @@ choose_item s (return p post ∷ todo) = takes t.Return
 choose_item s (end p ∷ todo) = choose_end s
 choose_item s _ = stays NotBuilt
 
--- Choose: a goal whose state can't be is closed, and else the item in front decides
+-- Choose: a goal whose state is absurd is closed, and else the first item decides
 abbrev pub choice : Goal → Choice
 choice g = cond (is_absurd g.state) (takes t.Absurd) (choose_item g.state g.todo)
 
--- how a search ends: no goal is left, it is stuck at a goal, or a goal would take more tags than a procedure may have
+-- how a search ends: no goal is left, it is stuck at a goal, or a goal would take more tags than a
+-- procedure may have
 pub data Outcome : Type 0 where
   proved : Outcome
   stuck : Goal → Stuck → Outcome
@@ -97,7 +103,8 @@ abbrev pub Chosen : List Goal → List Tag → Outcome → Type 0
 Chosen [] [] proved = Unit {0}
 Chosen (g ∷ gs) [] (stuck h kind) = (h ≡ g) × (choice g ≡ stays kind)
 Chosen (g ∷ gs) [] large = (tag : Tag) × (choice g ≡ takes tag)
-Chosen (g ∷ gs) (tag ∷ tags) outcome = (choice g ≡ takes tag) × (left : List Goal) × (row g tag ≡ Some left) × Chosen (left ++ gs) tags outcome
+Chosen (g ∷ gs) (tag ∷ tags) outcome =
+    (choice g ≡ takes tag) × (left : List Goal) × (row g tag ≡ Some left) × Chosen (left ++ gs) tags outcome
 Chosen _ _ _ = ⊥
 
 -- a search ends as too large exactly after as many tags as a procedure may have
@@ -116,15 +123,17 @@ pub data Verdict : Type 0 where
   proof : List Tag → Verdict
   fails : ProcId → Verdict
 
--- a verdict with these tags in front of its own
-abbrev pub behind : List Tag → Verdict → Verdict
-behind tags (proof others) = proof (tags ++ others)
-behind tags (fails f) = fails f
+-- a verdict with these tags before its own
+abbrev pub with_prefix : List Tag → Verdict → Verdict
+with_prefix tags (proof others) = proof (tags ++ others)
+with_prefix tags (fails f) = fails f
 
--- after the search of procedure f: the others are judged where its tags and those before them fit into a file's limit
+-- after the search of procedure f: the others are judged where its tags and those before them fit into a
+-- file's limit
 abbrev pub Continues : (others : ℕ → Verdict → Type 0) → (spent f : ℕ) → List Tag → Outcome → Verdict → Type 0
 Continues others spent f tags proved v =
-    ((spent + length tags ≤ FILE_TAGS) × (w : Verdict) × others (spent + length tags) w × (v ≡ behind (t.Procedure (record { 0 = f }) ∷ tags) w))
+    ((spent + length tags ≤ FILE_TAGS) × (w : Verdict) × others (spent + length tags) w
+    × (v ≡ with_prefix (t.Procedure (record { 0 = f }) ∷ tags) w))
     ⊎ ((FILE_TAGS < spent + length tags) × (v ≡ fails (record { 0 = f })))
 Continues others spent f tags (stuck g kind) v = v ≡ fails (record { 0 = f })
 Continues others spent f tags large v = v ≡ fails (record { 0 = f })

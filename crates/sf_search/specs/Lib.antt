@@ -1,7 +1,4 @@
 pub mod Judge
-pub mod VerdictLaws
-pub mod Choices
 pub mod Ends
-pub mod Numbers
-pub mod Known
-pub mod BuiltLaws
+pub mod Laws
+pub mod Internal

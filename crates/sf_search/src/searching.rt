@@ -1,17 +1,18 @@
 //! The search for a proof, procedure by procedure.
 
 ghost use Rattle.std.specs.Prelude.{◌≡◌, ◌++◌, [], ◌∷◌, List, true, is_some, IfOk, IfErr, OnOk};
+ghost use Rattle.sf_base.specs.Results.{Appends};
 ghost use Rattle.sf_core.specs.Program.Formed.{ProcedureWithin};
 ghost use Rattle.sf_core.specs.Program.View.{procedure_of};
 ghost use Rattle.sf_core.specs.Program.ProgramView.{program_of};
 ghost use Rattle.sf_sym.specs.Goal.{Goal as AnyGoal, goal_of};
 ghost use Rattle.sf_sym.specs.declared.tag.Tag.TheVariants.{Procedure};
 ghost use Rattle.sf_search.specs.Ends.{EndsAs, FailsAs};
-ghost use Rattle.sf_search.specs.Choices.{choice_of};
+ghost use Rattle.sf_search.specs.Internal.Choices.{choice_of};
 ghost use Rattle.sf_search.specs.Judge.{Judge, Search, choice, proof, proved};
-ghost use Rattle.sf_search.specs.Known.{IsTrueOf};
-ghost use Rattle.sf_search.specs.Numbers.{HasNumbersAfter};
-ghost use Rattle.sf_rules.specs.Left.{stack_of};
+ghost use Rattle.sf_search.specs.Internal.Known.{IsTrueOf};
+ghost use Rattle.sf_search.specs.Internal.Numbers.{HasNumbersAfter};
+ghost use Rattle.sf_rules.specs.Internal.Subgoals.{stack_of};
 ghost use Rattle.sf_rules.specs.Table.{first_goal, row};
 
 use crate::strategy::{Choice, Known, Stuck, choose, choose_added, choose_next, known_after};
@@ -29,7 +30,7 @@ pub enum SearchFault<'a> {
     Stuck(Goal<'a>, Stuck),
     /// The proof would have more tags than a procedure's may have.
     TooLarge,
-    /// Memory is wanting.
+    /// Out of memory.
     OutOfMemory,
 }
 
@@ -49,7 +50,7 @@ impl<'a> From<AllocError> for SearchFault<'a> {
 pub enum VerifyFault {
     /// No proof of this procedure was found, the first such one.
     Failed(ProcId),
-    /// Memory is wanting.
+    /// Out of memory.
     OutOfMemory,
 }
 
@@ -78,8 +79,10 @@ impl From<AllocError> for VerifyFault {
 /// The tags of a proof of the procedure, without its `procedure` tag. An `Err` says how the search ended.
 pub fn search<'a>(alloc: Global, p: &'a Program, f: &'a Proc) -> Result<Vec<Tag>, SearchFault<'a>>
     requires { ProcedureWithin (program_of p.now) (procedure_of f.now) }
-    ensures ok { IfOk result (λ tags. Search (first_goal (program_of p.now) (procedure_of f.now)) tags.items proved) }
-    ensures err { IfErr result (λ e. EndsAs (first_goal (program_of p.now) (procedure_of f.now)) e) }
+    ensures ok { IfOk result (λ tags.
+        Search (first_goal (program_of p.now) (procedure_of f.now)) tags.items proved) }
+    ensures err { IfErr result (λ e.
+        EndsAs (first_goal (program_of p.now) (procedure_of f.now)) e) }
 {
     let first = start_goal(alloc, p, f)?;
     search_from(alloc, first)
@@ -122,8 +125,8 @@ fn choose_knowing(goal: &Goal, known: Known) -> Choice
     }
 }
 
-/// Takes the tag at a goal: what it leaves goes on the stack, and the tag behind the tags. An `Err` is want
-/// of memory.
+/// Takes the tag at a goal: what it leaves goes on the stack, and the tag after the tags. An `Err` means
+/// out of memory.
 fn follow<'a>(
     alloc: Global,
     stack: &mut Vec<Goal<'a>>,
@@ -132,8 +135,9 @@ fn follow<'a>(
     tag: Tag,
 ) -> Result<(), AllocError>
     requires { is_some (row (goal_of goal) tag) ≡ true }
-    ensures left { OnOk result ((left : List AnyGoal) × (row (goal_of goal.entry) tag ≡ Some left) × (stack_of stack.new.items ≡ left ++ stack_of stack.old.items)) }
-    ensures tags { OnOk result (tags.new.items ≡ tags.old.items ++ tag ∷ []) }
+    ensures left { OnOk result ((left : List AnyGoal) × (row (goal_of goal.entry) tag ≡ Some left)
+        × (stack_of stack.new.items ≡ left ++ stack_of stack.old.items)) }
+    ensures tags { Appends result tags.old.items tags.new.items (tag ∷ []) }
 {
     match apply(alloc, goal, tag)? {
         Some(left) => {
@@ -145,8 +149,8 @@ fn follow<'a>(
     }
 }
 
-/// The tags of a proof of the whole program, each procedure's behind its `procedure` tag. An `Err` says
-/// which procedure fails, or that memory is wanting.
+/// The tags of a proof of the whole program, each procedure's after its `procedure` tag. An `Err` says
+/// which procedure fails, or means out of memory.
 pub fn verify(alloc: Global, p: &Program) -> Result<Vec<Tag>, VerifyFault>
     ensures ok { IfOk result (λ tags. Judge (program_of p.now) (proof tags.items)) }
     ensures err { IfErr result (λ e. FailsAs (program_of p.now) e) }
@@ -170,9 +174,9 @@ pub fn verify(alloc: Global, p: &Program) -> Result<Vec<Tag>, VerifyFault>
     Ok(tags)
 }
 
-/// Puts a procedure's tags behind those of the procedures before it. An `Err` is want of memory.
+/// Puts a procedure's tags after those of the procedures before it. An `Err` means out of memory.
 fn append(tags: &mut Vec<Tag>, f: ProcId, found: &[Tag]) -> Result<(), AllocError>
-    ensures { OnOk result (tags.new.items ≡ tags.old.items ++ (Procedure f ∷ found.now)) }
+    ensures { Appends result tags.old.items tags.new.items (Procedure f ∷ found.now) }
 {
     tags.push(Tag::Procedure(f))?;
     tags.extend_from_slice(found)?;

@@ -6,15 +6,17 @@ ghost use Rattle.sf_core.specs.Program.View.{command_of, conjunct_of};
 ghost use Rattle.sf_sym.specs.declared.state.State.{State as AnyState};
 ghost use Rattle.sf_sym.specs.Tests.{is_absurd};
 ghost use Rattle.sf_sym.specs.Goal.{Item as Thing, goal_of, items_of, pending_of};
-ghost use Rattle.sf_search.specs.Choices.{choice_of, choose_first};
+ghost use Rattle.sf_search.specs.Internal.Choices.{choice_of, choose_first};
 ghost use Rattle.sf_search.specs.Judge.{choice, choose_add, choose_command, choose_end, choose_found, choose_item, choose_mutate, choose_take, choose_wanted, lowest_cell};
-ghost use Rattle.sf_search.specs.Known.{IsAdded, is_absurd_beside, known_after};
-ghost use Rattle.sf_rules.specs.Left.{is_nothing};
-ghost use Rattle.sf_rules.specs.Table.{assumed};
+ghost use Rattle.sf_search.specs.Internal.Known.{IsAdded, is_absurd_beside, known_after};
+ghost use Rattle.sf_rules.specs.Internal.Subgoals.{is_nothing};
+ghost use Rattle.sf_rules.specs.Table.{state_after_assumption};
 
 use sf_base::FieldId;
 use sf_core::{Command, Conjunct, Operand};
-use sf_rules::{are_fitting, are_known, as_cell, as_mutation, fields_at, front, known, term_of};
+use sf_rules::{
+    are_fitting, are_known, as_cell, as_mutation, fields_at, known_term, peek_item, term_of,
+};
 use sf_sym::{Goal, Item, Numbered, Pending, State, Tag, Term};
 
 /// Why the strategy goes no further at a goal.
@@ -28,7 +30,7 @@ pub enum Stuck {
     NoAtom,
     /// Cells are left at the end.
     Leak,
-    /// What is in front has no rule yet.
+    /// The first item has no rule yet.
     NotBuilt,
 }
 
@@ -37,9 +39,9 @@ pub enum Stuck {
 pub(crate) enum Known {
     /// Nothing.
     Nothing,
-    /// That it can be.
+    /// That it is not absurd.
     Possible,
-    /// That it can be exactly where its last cell stands at no constant, and at no other atom's term.
+    /// That it is absurd exactly where its last cell is at a constant, or at another atom's term.
     Added,
 }
 
@@ -52,7 +54,7 @@ pub enum Choice {
     Stays(Stuck),
 }
 
-/// What the strategy does at the goal: one whose state can't be is closed, and else the item in front
+/// What the strategy does at the goal: one whose state is absurd is closed, and else the first item
 /// decides.
 pub fn choose(goal: &Goal) -> Choice
     ensures { choice_of result ≡ choice (goal_of goal.now) }
@@ -63,20 +65,20 @@ pub fn choose(goal: &Goal) -> Choice
     choose_next(goal)
 }
 
-/// What it does at a goal whose state can be: the item in front decides. It compares no cells with one
-/// another.
+/// What it does at a goal whose state is not absurd: the first item decides. It compares no cells with
+/// one another.
 pub(crate) fn choose_next(goal: &Goal) -> Choice
     requires { is_absurd goal.now.state ≡ false }
     ensures { choice_of result ≡ choice (goal_of goal.now) }
 {
-    match front(&goal.todo) {
+    match peek_item(&goal.todo) {
         Some(item) => choose_item(&goal.state, item),
         None => Choice::Stays(Stuck::NotBuilt),
     }
 }
 
-/// What it does at a goal whose state got its last cell by the tag before, and could be before that: the cell
-/// is compared with the others, and no others with one another.
+/// What it does at a goal whose state got its last cell by the tag before, and was not absurd before that:
+/// the cell is compared with the others, and no others with one another.
 pub(crate) fn choose_added(goal: &Goal) -> Choice
     requires { IsAdded goal.now.state }
     ensures { choice_of result ≡ choice (goal_of goal.now) }
@@ -87,7 +89,7 @@ pub(crate) fn choose_added(goal: &Goal) -> Choice
     choose_next(goal)
 }
 
-/// Whether such a state can't be.
+/// Whether such a state is absurd.
 fn is_added_absurd(state: &State) -> bool
     requires { IsAdded state.now }
     ensures { result ≡ is_absurd state.now }
@@ -101,12 +103,14 @@ fn is_added_absurd(state: &State) -> bool
     }
 }
 
-/// Whether the atom stands at a constant, or some atom at nil, or another one at the same term.
+/// Whether the atom is at a constant, or some atom is at nil, or another one is at the same term.
 fn is_absurd_beside(state: &State, x: &Numbered) -> bool
     ensures { result ≡ is_absurd_beside state.now x.now }
 {
     let root = x.atom.root();
-    root.is_constant() || state.allocated(Term::Nil, None) || state.allocated(root, Some(x.number))
+    root.is_constant()
+        || state.is_allocated(Term::Nil, None)
+        || state.is_allocated(root, Some(x.number))
 }
 
 /// What is known of the state that a tag leaves.
@@ -120,9 +124,10 @@ pub(crate) fn known_after(tag: Tag) -> Known
     }
 }
 
-/// What it does at an item that stands for something.
+/// What it does at an item that is something to do.
 fn choose_item(state: &State, item: &Item) -> Choice
-    ensures { (rest : List Thing) → is_nothing item.now ≡ false → choice_of result ≡ choose_item state.now (items_of item.now ++ rest) }
+    ensures { (rest : List Thing) → is_nothing item.now ≡ false → choice_of result
+        ≡ choose_item state.now (items_of item.now ++ rest) }
 {
     match item {
         Item::Run(commands) => choose_run(state, commands),
@@ -184,10 +189,10 @@ fn lowest_cell(atoms: &[Numbered], t: Term) -> Option<(u32, &[(FieldId, Term)])>
 
 /// Whether the conjunct can be assumed.
 fn is_assumable(c: &Conjunct<Term>) -> bool
-    ensures { (s : AnyState) → result ≡ is_some (assumed s (conjunct_of c.now)) }
+    ensures { (s : AnyState) → result ≡ is_some (state_after_assumption s (conjunct_of c.now)) }
 {
     match as_cell(c) {
-        Some((root, fields)) => known(&root).is_some() && are_known(fields),
+        Some((root, fields)) => known_term(&root).is_some() && are_known(fields),
         None => false,
     }
 }
@@ -223,7 +228,7 @@ fn choose_wanted(state: &State, c: &Conjunct<Term>) -> Choice
     let Some((x, wanted)) = as_cell(c) else {
         return Choice::Stays(Stuck::NotBuilt);
     };
-    match known(&x) {
+    match known_term(&x) {
         Some(root) => choose_found(wanted, lowest_cell(state.atoms.as_slice(), root)),
         None => Choice::Stays(Stuck::NotBuilt),
     }
@@ -234,7 +239,8 @@ fn choose_found(
     wanted: &[(FieldId, Operand<Term>)],
     found: Option<(u32, &[(FieldId, Term)])>,
 ) -> Choice
-    ensures { choice_of result ≡ choose_found wanted.now (option_map (λ x. (x.0, x.1.now)) found.entry) }
+    ensures { choice_of result
+        ≡ choose_found wanted.now (option_map (λ x. (x.0, x.1.now)) found.entry) }
 {
     match found {
         Some((number, fields)) => {

@@ -10,5 +10,5 @@ returns c = some-answer (record {
   formed = c.elaborated_is_formed.ensures;
   variables = c.each_program_has_an_answer.ensures;
   orders = c.undetermined_annotations_have_place.ensures;
-  verdicts = c.a_verdict.ensures;
+  verdicts = c.verdict_exists.ensures;
 })

@@ -9,5 +9,5 @@ returns c = answer-once (record {
   names = c.each_file_is_one-2.ensures;
   breaches = c.first_breach_is_unique.ensures;
   orders = c.never_taken_is_undetermined.ensures;
-  verdicts = c.one_verdict.ensures;
+  verdicts = c.verdict_is_unique.ensures;
 })

@@ -2,8 +2,8 @@ use Rattle.std.proofs.Common.{◌≤◌, ◌-◌, [], ◌∷◌, length}
 use Rattle.sf_base.specs.declared.limits.TheConstants.{PROCEDURE_TAGS}
 use Rattle.std.specs.List.{AllByRecursion}
 use Rattle.sf_sym.specs.Goal.{goal_of}
-use Rattle.sf_search.specs.Numbers.{HasNumbersAfter}
-use Rattle.sf_rules.specs.Left.{stack_of}
+use Rattle.sf_search.specs.Internal.Numbers.{HasNumbersAfter}
+use Rattle.sf_rules.specs.Internal.Subgoals.{stack_of}
 use Rattle.sf_search.proofs.Known.{KnownOfFirst}
 use Rattle.sf_search.proofs.Trees.{Leads}
 use Rattle.sf_search.proofs.searching.search_from.Given as goal

@@ -4,4 +4,6 @@ use Rattle.sf_search.proofs.Assumable.{assumed_known}
 use Rattle.sf_search.proofs.strategy.is_assumable.Goals as goal
 
 pub returns-then-is_some : goal.returns-then-is_some
-returns-then-is_some c = λ s. assumed_known s (conjunct_of c.args.c.now) c.in-Some.root c.in-Some.fields.now c.are_known.result (search rules) (search rules) (search rules)
+returns-then-is_some c =
+    λ s. assumed_known s (conjunct_of c.args.c.now) c.in-Some.root c.in-Some.fields.now c.are_known.result
+    (search rules) (search rules) (search rules)

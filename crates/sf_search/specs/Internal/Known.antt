@@ -1,5 +1,4 @@
--- What a search knows of the next goal's state, and of which tag it comes. These definitions stand between the search's code
--- and Judge, and needn't be believed: no public contract names them.
+-- What a search knows of the next goal's state, and from which tag it knows it.
 -- Ordinary: what is known of a state is carried along, so that it needn't be found anew.
 use Rattle.std.specs.Prelude.{◌≡◌, ◌++◌, ◌||◌, Bool, false, List, [], ◌∷◌, Some, None}
 use Rattle.sf_sym.specs.declared.atom.Numbered.{Numbered}
@@ -7,17 +6,20 @@ use Rattle.sf_sym.specs.declared.state.State.{State}
 use Rattle.sf_sym.specs.declared.tag.Tag.{Tag}
 use Rattle.sf_sym.specs.declared.tag.Tag.TheVariants.{Add, Mutate, Cell, Return}
 use Rattle.sf_sym.specs.declared.term.Term.TheVariants.{Nil}
-use Rattle.sf_sym.specs.Tests.{allocated, is_absurd, is_constant, root}
+use Rattle.sf_sym.specs.Tests.{is_allocated, is_absurd, is_constant, root}
 use Rattle.sf_search.specs.declared.strategy.Known.{Known}
 use Rattle.sf_search.specs.declared.strategy.Known.TheVariants.{Nothing, Possible, Added}
 
--- the atom stands at a constant, or some atom at nil, or another one at the same term
+-- the atom is at a constant, or some atom is at nil, or another one is at the same term
 abbrev pub is_absurd_beside : State → Numbered → Bool
-is_absurd_beside s x = is_constant (root x.atom) || allocated s Nil None || allocated s (root x.atom) (Some x.number)
+is_absurd_beside s x =
+    is_constant (root x.atom) || is_allocated s Nil None || is_allocated s (root x.atom) (Some x.number)
 
--- whether the state can be is seen at its last atom, where none is taken
+-- whether the state is absurd is decided by its last atom, where none is taken
 abbrev pub IsAdded : State → Type 0
-IsAdded s = (rest : List Numbered) (x : Numbered) → s.atoms ≡ rest ++ x ∷ [] → s.taken ≡ [] → is_absurd s ≡ is_absurd_beside s x
+IsAdded s =
+    (rest : List Numbered) (x : Numbered) → s.atoms ≡ rest ++ x ∷ [] → s.taken ≡ [] → is_absurd s
+    ≡ is_absurd_beside s x
 
 -- what is known of the state is true
 abbrev pub IsTrueOf : Known → State → Type 0
@@ -25,7 +27,8 @@ IsTrueOf Nothing s = Unit {0}
 IsTrueOf Possible s = is_absurd s ≡ false
 IsTrueOf Added s = IsAdded s
 
--- what is known after a tag: by a write, a cell that is handed over or a return no cell comes or goes, and by an add one comes
+-- what is known after a tag: by a write, a cell that is handed over or a return no cell comes or goes,
+-- and by an add one comes
 abbrev pub known_after : Tag → Known
 known_after (Mutate a) = Possible
 known_after (Cell a) = Possible

@@ -1,5 +1,4 @@
--- How the code's choices are read, and what it does at commands. The last stands between the code and Judge, and needn't be
--- believed: no public contract names it.
+-- How the code's choices are read, and what it does at commands.
 -- Ordinary: one case a case.
 use Rattle.std.specs.Prelude.{List, [], ◌∷◌}
 use Rattle.sf_core.specs.declared.command.Command.{Command as CodeCommand}
