@@ -4,7 +4,6 @@ pub mod HeapSplits
 pub mod HeapSums
 pub mod StoreSplits
 pub mod Variables
-pub mod Cases
 pub mod Lookup
 pub mod Decisions
 pub mod Bools

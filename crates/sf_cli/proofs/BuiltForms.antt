@@ -1,9 +1,11 @@
 -- That a form is built is said of each element of a list.
 -- Names: built-*.
-use Rattle.std.proofs.Common.{◌≡◌, ◌==◌, Bool, true, false, ◌&&◌, arith, List, [], ◌∷◌, length, map, refl, ap}
+use Rattle.std.proofs.Common.{◌≡◌, ◌==◌, true, ◌&&◌, arith, List, [], ◌∷◌, length, map, refl, ap}
 use Rattle.std.proofs.lemmas.Bool.{eqb-true}
 use Rattle.std.proofs.lemmas.List.{length-map}
+use Rattle.std.proofs.lemmas.List.Folds.{list_all-map}
 use Rattle.std.specs.List.{list_all}
+use Rattle.sf_base.proofs.Bools.{and-left}
 use Rattle.sf_core.specs.declared.command.Expr.{Expr}
 use Rattle.sf_core.specs.Program.Syntax.{Conjunct, Command, Resource, Program}
 use Rattle.sf_core.specs.Program.View.{conjuncts, block}
@@ -19,21 +21,12 @@ pub built-mutations : {A : Type 0} (view : A → Command) (xs : List A) → are_
 built-mutations view [] = refl
 built-mutations view (x ∷ xs) = ap (λ b. is_mutation (view x) && b) (built-mutations view xs)
 
--- of a list that is seen by a view
-pub built-all : {A B : Type 0} (test : B → Bool) (view : A → B) (xs : List A) → list_all test (map view xs) ≡ list_all (λ x. test (view x)) xs
-built-all test view [] = refl
-built-all test view (x ∷ xs) = ap (λ b. test (view x) && b) (built-all test view xs)
-
-both-true : (a b : Bool) → (a && b) ≡ true → a ≡ true
-both-true true b h = refl
-both-true false b h = h
-
 -- a program for which there are rules has no resources
 pub built-no_resources : (p : Program) → is_built p ≡ true → p.resources ≡ []
-built-no_resources p e = go p.resources (eqb-true (length p.resources) 0 (both-true (length p.resources == 0) (list_all is_built_procedure p.procedures) e))
+built-no_resources p e = go p.resources (eqb-true (length p.resources) 0 (and-left (length p.resources == 0) (list_all is_built_procedure p.procedures) e))
   where
     go : (rs : List Resource) → length rs ≡ 0 → rs ≡ []
     go [] h = refl
     go (r ∷ rs) h = absurd (omega arith)
 
-pub ruleset built_forms = (built-cells, built-mutations, built-all, length-map)
+pub ruleset built_forms = (built-cells, built-mutations, list_all-map, length-map)

@@ -3,8 +3,10 @@
 use Rattle.std.proofs.Common.{◌≡◌, ℕ, true, List, Option, Some, None, sym, ap, ◌∙◌, subst, arith}
 use Rattle.std.proofs.lemmas.Bool.Decides.{nat_tests}
 use Rattle.std.proofs.lemmas.List.Elements.{All-contains}
+use Rattle.std.proofs.lemmas.Option.{none-some, same_Some}
 use Rattle.std.specs.List.{All}
 use Rattle.std.specs.Prelude.{slice_get}
+use Rattle.sf_base.proofs.Options.{some-once}
 use Rattle.sf_ast.specs.Surface.{Item}
 use Rattle.sf_base.specs.declared.ids.ProcId.{ProcId}
 use Rattle.sf_base.specs.declared.ids.Var.{Var}
@@ -14,7 +16,6 @@ use Rattle.sf_calls.specs.declared.breach.Breach.{Breach}
 use Rattle.sf_calls.specs.declared.breach.Breach.TheVariants.{NotHeld, Reentered, SameReference, ReferenceIsFree, ParallelShares}
 use Rattle.sf_calls.specs.FirstBreach.{Conditions}
 use Rattle.sf_calls.specs.Laws.{FirstBreachIsUnique}
-use Rattle.sf_base.proofs.Cases.{none-not_some}
 use Rattle.sf_core.specs.Assertions.Determined.{Determined}
 use Rattle.sf_core.specs.Program.Syntax.{Procedure, Resource, Program}
 use Rattle.sf_io.specs.Shelf.{Files}
@@ -93,24 +94,20 @@ fault-once l bytes r s (in_names ts tree e t g h k) (in_names us other f u j i m
     let same : other ≡ tree = reads-tree l.trees bytes us ts other tree ((l.tokens bytes).tokens us ts u t) j g in
     k ∙ ap of_names (l.names.one_fault bytes tree e f h (subst (λ (z : List Item). FirstFault bytes z f) same i)) ∙ sym m
 
--- what is found at one place of a list is one thing
-found-once : {A : Type 0} (o : Option A) (a b : A) → o ≡ Some a → o ≡ Some b → a ≡ b
-found-once o a b e f = cc
-
 -- a variable has one name
 named-variable : (p : Program) (f : ProcId) (x : Var) (n m : List ℕ) → IsVariableName p f x n → IsVariableName p f x m → n ≡ m
 named-variable p f (Own k) n m a b =
-    let same : a.0 ≡ b.0 = found-once (slice_get p.procedures f.0) a.0 b.0 a.1 b.1 in
-    found-once (slice_get b.0.names k) n m (subst (λ (h : Procedure). slice_get h.names k ≡ Some n) same a.2) b.2
+    let same : a.0 ≡ b.0 = some-once (slice_get p.procedures f.0) a.0 b.0 a.1 b.1 in
+    some-once (slice_get b.0.names k) n m (subst (λ (h : Procedure). slice_get h.names k ≡ Some n) same a.2) b.2
 named-variable p f (Shared r i) n m a b =
-    let same : a.0 ≡ b.0 = found-once (slice_get p.resources r.0) a.0 b.0 a.1 b.1 in
-    found-once (slice_get b.0.variables i) n m (subst (λ (h : Resource). slice_get h.variables i ≡ Some n) same a.2) b.2
+    let same : a.0 ≡ b.0 = some-once (slice_get p.resources r.0) a.0 b.0 a.1 b.1 in
+    some-once (slice_get b.0.variables i) n m (subst (λ (h : Resource). slice_get h.variables i ≡ Some n) same a.2) b.2
 
 -- so what a breach is told by is one name
 named-breach : (p : Program) (f : ProcId) (b : Breach) (n m : List ℕ) → IsBreachName p f b n → IsBreachName p f b m → n ≡ m
 named-breach p f (NotHeld q x) n m a c = named-variable p f x n m a c
 named-breach p f (Reentered q r) n m a c =
-    let same : a.0 ≡ c.0 = found-once (slice_get p.resources r.0) a.0 c.0 a.1 c.1 in
+    let same : a.0 ≡ c.0 = some-once (slice_get p.resources r.0) a.0 c.0 a.1 c.1 in
     sym a.2 ∙ ap (λ (h : Resource). h.name) same ∙ c.2
 named-breach p f (SameReference q x) n m a c = named-variable p f x n m a c
 named-breach p f (ReferenceIsFree q x) n m a c = named-variable p f x n m a c
@@ -122,22 +119,18 @@ fault-told p f g b c n m e h i j =
     let there : IsBreachName p f b m = subst (λ (z : ProcId). IsBreachName p z b m) (sym e) (subst (λ (z : Breach). IsBreachName p g z m) (sym h) j) in
     ap (λ (z : List ℕ). told_by b z) (named-breach p f b n m i there) ∙ ap (λ (z : Breach). told_by z m) h
 
--- equal pairs have equal parts
-from-some : {A : Type 0} (a b : A) → Some a ≡ Some b → a ≡ b
-from-some a b h = cc
-
 same-parts : (a b : ProcId × Breach) → a ≡ b → (a.0 ≡ b.0) × (a.1 ≡ b.1)
 same-parts a b e = (ap (λ (x : ProcId × Breach). x.0) e, ap (λ (x : ProcId × Breach). x.1) e)
 
 -- a program's first fault of variables is one
 fault-variables : Layers → (p : Program) (e f : VarFault) → IsFirstFault p e → IsFirstFault p f → e ≡ f
 fault-variables l p e f h i =
-    let same = same-parts (h.procedure, h.breach) (i.procedure, i.breach) (from-some (h.procedure, h.breach) (i.procedure, i.breach) (l.breaches p (Some (h.procedure, h.breach)) (Some (i.procedure, i.breach)) h.first i.first)) in
+    let same = same-parts (h.procedure, h.breach) (i.procedure, i.breach) (same_Some (h.procedure, h.breach) (i.procedure, i.breach) (l.breaches p (Some (h.procedure, h.breach)) (Some (i.procedure, i.breach)) h.first i.first)) in
     h.told ∙ fault-told p h.procedure i.procedure h.breach i.breach h.name i.name same.0 same.1 h.named i.named ∙ sym i.told
 
 -- conditions that hold have no first breach
 fault-none : Layers → (p : Program) (e : VarFault) → Conditions p → IsFirstFault p e → ⊥
-fault-none l p e c h = none-not_some (h.procedure, h.breach) (l.breaches p None (Some (h.procedure, h.breach)) c h.first)
+fault-none l p e c h = none-some (h.procedure, h.breach) (l.breaches p None (Some (h.procedure, h.breach)) c h.first)
 
 place-of : (p q : Place) → p.line ≡ q.line → p.column ≡ q.column → p ≡ q
 place-of p q e f = λ i. record { line = e i; column = f i }
@@ -213,5 +206,5 @@ answer-command one files words text other status code a b = go (order_of words) 
     go : (o : Option Order) → OrderAnswer files o text status → OrderAnswer files o other code → (text ≡ other) × (status ≡ code)
     go None x y = (x.0 ∙ sym y.0, x.1 ∙ sym y.1)
     go (Some (verify name)) x y =
-        let same : x.0 ≡ y.0 = found-once (files name) x.0 y.0 x.1 y.1 in
+        let same : x.0 ≡ y.0 = some-once (files name) x.0 y.0 x.1 y.1 in
         one x.0 text other status code x.2 (subst (λ (z : Text). FileAnswer z other code) (sym same) y.2)

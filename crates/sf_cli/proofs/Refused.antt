@@ -5,7 +5,7 @@ use Rattle.std.proofs.lemmas.List.Elements.{All-nil, All-cons}
 use Rattle.std.specs.declared.result.Result.{Result}
 use Rattle.std.specs.declared.result.Result.TheVariants.{Ok, Err}
 use Rattle.std.specs.List.{All}
-use Rattle.std.specs.Prelude.{IfOk, IfErr}
+use Rattle.std.specs.Prelude.{IfErr}
 use Rattle.std.specs.Result.{IsErrAnd}
 use Rattle.sf_ast.specs.Surface.{Item}
 use Rattle.sf_calls.specs.FirstBreach.{Conditions}
@@ -44,11 +44,6 @@ refused-by (Err e) P s h f = λ m. subst P (sym h) (f (λ z. m (h ∙ z)))
 pub refused-mapped : {X : Type 0} (r : Result X Refusal) (P Q : Refusal → Type 0) → ((e : Refusal) → P e → Q e) → IfErr r (λ e. e ≢ OutOfMemory → P e) → IfErr r (λ e. e ≢ OutOfMemory → Q e)
 refused-mapped (Ok x) P Q f h = tt
 refused-mapped (Err e) P Q f h = λ m. f e (h m)
-
--- of an answer of which two things hold
-pub refused-both : {X E : Type 0} (r : Result X E) (P Q R : X → Type 0) → ((x : X) → P x → Q x → R x) → IfOk r P → IfOk r Q → IfOk r R
-refused-both (Ok x) P Q R f h k = f x h k
-refused-both (Err e) P Q R f h k = tt
 
 -- for its tokens
 pub refused-tokens : (bytes : Text) (e : LexFault) → (e ≡ l.OutOfMemory) ⊎ IsTokenFault bytes e → of_tokens e ≢ OutOfMemory → ReadFault bytes (of_tokens e)

@@ -1,6 +1,6 @@
 use Rattle.sf_core.specs.Program.ProgramView.{program_of}
 use Rattle.std.proofs.lemmas.Result.{IfOk-weaker}
-use Rattle.sf_cli.proofs.Refused.{refused-both}
+use Rattle.sf_base.proofs.Results.{ok-both}
 use Rattle.sf_cli.specs.Answer.{refused, admitted}
 use Rattle.sf_cli.proofs.reply.answer_to_bytes.Goals as goal
 
@@ -10,4 +10,4 @@ returns-in-Ok c =
 
 pub returns-in-Err : goal.returns-in-Err
 returns-in-Err c =
-    refused-both c.say_refusal.result _ _ _ (λ said s n. refused c.in-Err.refusal (c.in-Err.ensures.refused n) s.0 s.1) c.say_refusal.ensures.said c.say_refusal.ensures.cause
+    ok-both c.say_refusal.result _ _ _ (λ said s n. refused c.in-Err.refusal (c.in-Err.ensures.refused n) s.0 s.1) c.say_refusal.ensures.said c.say_refusal.ensures.cause
