@@ -63,7 +63,8 @@ caller_pushed callers f g row v below is pushed h k = (to, from)
     from (inl (fs, at, c)) = elim (eqb_tells k.0 g.0) [
       | inl e ↦
           let same : fs ≡ row = same_Some fs row (sym at ∙ ap (slice_get callers) e.1 ∙ here) in
-          let in_row : Contains row.items h = subst (λ (w : Vec ProcId Global). Contains w.items h) same c in (
+          let in_row : Contains row.items h =
+          subst (λ (w : Vec ProcId Global). Contains w.items h) same c in (
             v,
             ap (slice_get (set callers g.0 v)) e.1 ∙ get-set_same callers g.0 v below,
             rw pushed

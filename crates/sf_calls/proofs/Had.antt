@@ -1,10 +1,10 @@
--- What merely is, is had: where it is decidable, and where it is built of such parts.
--- Names: `had_PART` says of what is built of PART that it is had.
+-- What follows from its truncation: what is decidable, and what is built of such parts.
+-- Names: `had_PART` says that what is built of PART follows from its truncation.
 use Rattle.std.proofs.Common.{◌↔◌, List, AllPairs, inl, inr}
 use Rattle.std.proofs.Math.Logic.{∥∥₁_elim, ∥∥₁_map}
 use Rattle.sf_calls.proofs.Decidable.{IsDecidable}
 
--- whoever holds no more than that it is, has it
+-- a type that follows from its truncation
 abbrev pub IsHad : Type 0 → Type 0
 IsHad P = ∥ P ∥₁ → P
 

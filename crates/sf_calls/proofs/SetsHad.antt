@@ -1,4 +1,4 @@
--- That sets are a program's is had.
+-- That sets are a program's follows from its truncation.
 use Rattle.std.proofs.Common.{◌≡◌, ℕ, ◌==◌, Bool, List}
 use Rattle.std.proofs.Math.Logic.{∥∥₁_map}
 use Rattle.std.proofs.Math.Nat.{ℕ_set}

@@ -1,4 +1,4 @@
--- What a program's numbers stand for is there: the procedures that are called, the resources that are
+-- What a program's numbers name is in it: the procedures that are called, the resources that are
 -- entered and the variables that occur.
 use Rattle.std.proofs.Common.{◌≡◌, ◌<◌, ℕ, List, [], ◌∷◌, length, Option, Some, None, slice_get, All, inl, inr, refl, subst}
 use Rattle.std.proofs.lemmas.Option.{slice_get_within}

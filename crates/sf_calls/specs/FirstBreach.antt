@@ -146,7 +146,7 @@ abbrev mutual
       first (UnheldInTest (UnheldInExpr (inside s a)) t)
       (first (where_ (IsHeld a s) (Reentered q s)) (InBlock (inside s a) c)) r
 
--- the procedures in file order, the next one having that number; what is found is told with its procedure
+-- the procedures in file order, the next one having that number; what is found is given with its procedure
 abbrev pub InProcedures : Program → ℕ → List Procedure → Option (ProcId × Breach) → Type 0
 InProcedures p k [] r = nothing r
 InProcedures p k (h ∷ hs) None =

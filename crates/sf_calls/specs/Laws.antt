@@ -1,5 +1,5 @@
 -- The sets are least: closed under their rules, and contained in every family that is; and they are
--- there. And what a type keeps truncated is had.
+-- there. And what a type keeps truncated follows from its truncation.
 -- What an inductive definition states, after Tarski, "A lattice-theoretical fixpoint theorem" (1955).
 -- Families are given by tests.
 use Rattle.std.specs.Prelude.{◌≡◌, Bool, IsTrue, Option, Some, None}
@@ -56,10 +56,10 @@ pub record BreachesAreFound (p : Program) : Type 0 where
 abbrev pub FirstBreachIsBroken : Type 0
 FirstBreachIsBroken = (p : Program) → IsFormed p → BreachesAreFound p
 
--- whoever holds that the sets are the program's, and not how that was found, has that they are
+-- that sets are the program's follows from its truncation
 abbrev pub SetsFromTruncation : Type 0
 SetsFromTruncation = (p : Program) (sets : Sets) → ∥ AreSetsOf p sets ∥₁ → AreSetsOf p sets
 
--- whoever holds that no condition is broken has it
+-- that no condition is broken follows from its truncation
 abbrev pub ConditionsFromTruncation : Type 0
 ConditionsFromTruncation = (p : Program) → ∥ Conditions p ∥₁ → Conditions p

@@ -41,7 +41,8 @@ pub fn variables_of(alloc: Global, p: &Program) -> Result<Vec<Var>, AllocError>
 /// Appends the first so many variables of the resource.
 fn add_variables(r: ResId, count: usize, found: &mut Vec<Var>) -> Result<(), AllocError>
     requires { count < 2 ^ 32 }
-    ensures { OnOk result ((counts : ℕ → ℕ) → IsSetOf IsEarlier (IsUpTo counts r.0 0) found.old.items
+    ensures { OnOk result ((counts : ℕ → ℕ) → IsSetOf IsEarlier
+        (IsUpTo counts r.0 0) found.old.items
         → IsSetOf IsEarlier (IsUpTo counts r.0 count) found.new.items) }
 {
     for i in 0..count {

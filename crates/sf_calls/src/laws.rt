@@ -1,6 +1,6 @@
 //! That the sets are the least ones, that each program has them, that what first breaks a condition
-//! is one, and that whoever holds no more than that such a fact is, has it. Each function does
-//! nothing; its contract is the law.
+//! is unique, and that such facts follow from their truncations. Each function does nothing; its
+//! contract is the law.
 
 ghost use Rattle.sf_calls.specs.Laws.{ConditionsFromTruncation, FirstBreachIsBroken, FirstBreachIsUnique, FreeIsLeast, SetsFromTruncation, SetsExist, TakesIsLeast};
 
@@ -28,20 +28,20 @@ pub fn first_breach_is_unique()
     ensures { FirstBreachIsUnique }
 {}
 
-/// The first breach of the conditions on variables is one, and there is none exactly where nothing
-/// in the program breaks them.
+/// The first breach of the conditions on variables is a breach, and there is none exactly where
+/// nothing in the program breaks them.
 #[tactic(auto, using(crate::proofs::Closing::first_breach_is_broken))]
 pub fn first_breach_is_broken()
     ensures { FirstBreachIsBroken }
 {}
 
-/// Whoever holds that sets are the program's, and not how that was found, has that they are.
+/// That sets are a program's follows from its truncation.
 #[tactic(auto, using(crate::proofs::Closing::sets_from_truncation))]
 pub fn sets_from_truncation()
     ensures { SetsFromTruncation }
 {}
 
-/// Whoever holds that no condition on variables is broken has it.
+/// That no condition on variables is broken follows from its truncation.
 #[tactic(auto, using(crate::proofs::Closing::conditions_from_truncation))]
 pub fn conditions_from_truncation()
     ensures { ConditionsFromTruncation }

@@ -1,4 +1,4 @@
-//! The least set of procedures that has some directly, and each caller of one that it has.
+//! The procedures from which one of some given procedures is reached by calls.
 
 ghost use Rattle.std.specs.Prelude.{◌≡◌, ◌↔◌, ◌<◌, ◌≤◌, ◌^◌, [], ◌∷◌, length, All, Contains, IfOk, OnOk, false, replicate};
 ghost use Rattle.sf_base.specs.declared.ids.ProcId.{ProcId};
@@ -8,8 +8,9 @@ ghost use Rattle.sf_calls.specs.Internal.Visited.{EachOnce, IsVisited, IsCaller,
 use sf_base::ProcId;
 use std::alloc::{AllocError, Global};
 
-/// Visited what reaches to a visited procedure by calls, by a search backwards along the calls: each
-/// procedure is queued once, and each call is looked at once. An `Err` means that memory ran out.
+/// The procedures that reach one of the given ones by calls, found by a search backwards along
+/// the calls: each procedure is queued once, and each call is looked at once. An `Err` means
+/// that memory ran out.
 pub fn leading(
     alloc: Global,
     direct: Vec<bool>,
@@ -44,14 +45,15 @@ fn visited_procedures(alloc: Global, visited: &[bool]) -> Result<Vec<ProcId>, Al
     Ok(found)
 }
 
-/// Visited those procedures, and queues those that were not visited yet.
+/// Visits those procedures, and queues those that were not visited yet.
 fn visit_all(
     fs: &[ProcId],
     visited: &mut Vec<bool>,
     queue: &mut Vec<ProcId>,
 ) -> Result<(), AllocError>
     requires { All (λ f. f.0 < length visited.old.items) fs.now }
-    ensures { OnOk result (VisitsMore fs.now visited.old.items queue.old.items visited.new.items queue.new.items) }
+    ensures { OnOk result (VisitsMore fs.now visited.old.items queue.old.items
+        visited.new.items queue.new.items) }
 {
     for f in fs {
         visit(*f, visited, queue)?;
@@ -59,11 +61,11 @@ fn visit_all(
     Ok(())
 }
 
-/// Visited one procedure, and queues it if it was not visited yet.
+/// Visits one procedure, and queues it if it was not visited yet.
 fn visit(f: ProcId, visited: &mut Vec<bool>, queue: &mut Vec<ProcId>) -> Result<(), AllocError>
     requires { f.0 < length visited.old.items }
-    ensures { OnOk result (VisitsMore (f
-        ∷ []) visited.old.items queue.old.items visited.new.items queue.new.items) }
+    ensures { OnOk result (VisitsMore (f ∷ []) visited.old.items queue.old.items
+        visited.new.items queue.new.items) }
 {
     if !visited[f.0 as usize] {
         visited[f.0 as usize] = true;
@@ -84,7 +86,7 @@ pub fn distinct(alloc: Global, count: usize, fs: &[ProcId]) -> Result<Vec<ProcId
     Ok(found)
 }
 
-/// For so many procedures no visit.
+/// So many procedures, none of them visited.
 fn none_visited(alloc: Global, count: usize) -> Result<Vec<bool>, AllocError>
     ensures { IfOk result (λ visited. visited.items ≡ replicate count false) }
 {

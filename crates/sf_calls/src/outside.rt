@@ -38,7 +38,8 @@ pub fn add_callees(
     body: &[Command],
     callees: &mut Vec<ProcId>,
 ) -> Result<(), AllocError>
-    ensures { Appends result callees.old.items callees.new.items (callees_in but (block_of body.now)) }
+    ensures { Appends result callees.old.items callees.new.items
+        (callees_in but (block_of body.now)) }
 {
     for c in body {
         add_callees_of(but, c, callees)?;
@@ -53,7 +54,8 @@ pub fn add_callees_of(
     c: &Command,
     callees: &mut Vec<ProcId>,
 ) -> Result<(), AllocError>
-    ensures { Appends result callees.old.items callees.new.items (callees_of but (command_of c.now)) }
+    ensures { Appends result callees.old.items callees.new.items
+        (callees_of but (command_of c.now)) }
 {
     match c {
         Command::Assign(_, _, _) => Ok(()),

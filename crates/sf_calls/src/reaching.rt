@@ -40,7 +40,8 @@ fn takes_sets(
     resources: &[ResId],
 ) -> Result<Vec<ResSet>, AllocError>
     requires summaries { AreSummaries (program_of p.now) summaries.now }
-    requires keys { IsSetOf IsEarlierResource (λ r. r.0 < length p.now.resources.items) resources.now }
+    requires keys { IsSetOf IsEarlierResource (λ r. r.0 < length p.now.resources.items)
+        resources.now }
     ensures { IfOk result (λ sets.
         IsFamily IsResSet (Takes (program_of p.now))
         (length (program_of p.now).procedures) sets.items) }
@@ -57,7 +58,8 @@ fn holds_sets(
     resources: &[ResId],
 ) -> Result<Vec<ResSet>, AllocError>
     requires summaries { AreSummaries (program_of p.now) summaries.now }
-    requires keys { IsSetOf IsEarlierResource (λ r. r.0 < length p.now.resources.items) resources.now }
+    requires keys { IsSetOf IsEarlierResource (λ r. r.0 < length p.now.resources.items)
+        resources.now }
     ensures { IfOk result (λ sets.
         IsFamily IsResSet (HeldBy (program_of p.now))
         (length (program_of p.now).procedures) sets.items) }

@@ -18,8 +18,10 @@ pub fn add_regions(
     with_calls: &mut Vec<ResId>,
 ) -> Result<bool, AllocError>
     ensures calls { IfOk result (λ calls. calls ≡ has_calls (block_of body.now)) }
-    ensures entered { Appends result entered.old.items entered.new.items (entered_in (block_of body.now)) }
-    ensures with_calls { Appends result with_calls.old.items with_calls.new.items (with_calls_in (block_of body.now)) }
+    ensures entered { Appends result entered.old.items entered.new.items
+        (entered_in (block_of body.now)) }
+    ensures with_calls { Appends result with_calls.old.items with_calls.new.items
+        (with_calls_in (block_of body.now)) }
 {
     let mut calls = false;
     for c in body {
@@ -37,8 +39,10 @@ fn add_regions_of(
     with_calls: &mut Vec<ResId>,
 ) -> Result<bool, AllocError>
     ensures calls { IfOk result (λ calls. calls ≡ has_calls_of (command_of c.now)) }
-    ensures entered { Appends result entered.old.items entered.new.items (entered_of (command_of c.now)) }
-    ensures with_calls { Appends result with_calls.old.items with_calls.new.items (with_calls_of (command_of c.now)) }
+    ensures entered { Appends result entered.old.items entered.new.items
+        (entered_of (command_of c.now)) }
+    ensures with_calls { Appends result with_calls.old.items with_calls.new.items
+        (with_calls_of (command_of c.now)) }
 {
     match c {
         Command::Assign(_, _, _)

@@ -71,7 +71,8 @@ fn add_operand(
     operand: &Operand<Expr>,
     named: &mut Vec<Var>,
 ) -> Result<(), AllocError>
-    ensures { Appends result named.old.items named.new.items (shared_in_operand entered.now operand.now) }
+    ensures { Appends result named.old.items named.new.items
+        (shared_in_operand entered.now operand.now) }
 {
     match operand {
         Operand::Known(e) => {
@@ -88,7 +89,8 @@ fn add_condition(
     test: &Test<Operand<Expr>>,
     named: &mut Vec<Var>,
 ) -> Result<(), AllocError>
-    ensures { Appends result named.old.items named.new.items (shared_in_condition entered.now test.now) }
+    ensures { Appends result named.old.items named.new.items
+        (shared_in_condition entered.now test.now) }
 {
     match test {
         Test::True => Ok(()),
@@ -106,7 +108,8 @@ fn add_fields(
     fields: &[(FieldId, Operand<Expr>)],
     named: &mut Vec<Var>,
 ) -> Result<(), AllocError>
-    ensures { Appends result named.old.items named.new.items (shared_in_fields entered.now fields.now) }
+    ensures { Appends result named.old.items named.new.items
+        (shared_in_fields entered.now fields.now) }
 {
     for f in fields {
         add_operand(entered, &f.1, named)?;
@@ -199,7 +202,8 @@ fn add_references(
 
 /// Appends those that values name.
 fn add_values(entered: &[ResId], values: &[Expr], named: &mut Vec<Var>) -> Result<(), AllocError>
-    ensures { Appends result named.old.items named.new.items (shared_in_values entered.now values.now) }
+    ensures { Appends result named.old.items named.new.items
+        (shared_in_values entered.now values.now) }
 {
     for e in values {
         add_expr(entered, e, named)?;
@@ -226,7 +230,8 @@ pub fn add_shared(
     body: &[Command],
     named: &mut Vec<Var>,
 ) -> Result<(), AllocError>
-    ensures { Appends result named.old.items named.new.items (shared_in entered.now (block_of body.now)) }
+    ensures { Appends result named.old.items named.new.items
+        (shared_in entered.now (block_of body.now)) }
 {
     for c in body {
         add_shared_of(alloc, entered, c, named)?;
@@ -242,7 +247,8 @@ fn add_shared_of(
     c: &Command,
     named: &mut Vec<Var>,
 ) -> Result<(), AllocError>
-    ensures { Appends result named.old.items named.new.items (shared_of entered.now (command_of c.now)) }
+    ensures { Appends result named.old.items named.new.items
+        (shared_of entered.now (command_of c.now)) }
 {
     match c {
         Command::Assign(_, x, e) | Command::LookUp(_, x, e, _) => {
