@@ -1,5 +1,5 @@
 -- Whoever holds no more than that assertions are others in order has that they are.
--- Names: `PART-had` says of what is built of PART that it is had.
+-- Names: `PART-had` says that what is built of PART follows from its truncation.
 use Rattle.std.proofs.Common.{◌≡◌, ℕ, Bool, false, List, [], ◌∷◌, refl, ap, subst, inl, inr}
 use Rattle.std.proofs.Math.Logic.{∥∥₁_elim, ∥∥₁_map}
 use Rattle.std.specs.Coded.{Coded-set, coded_ℕ, coded_list, codes}

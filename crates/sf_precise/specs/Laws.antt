@@ -1,6 +1,6 @@
 -- Laws of orders: an assertion has one order at most, has one where it is determined, and means the same
 -- in order; where it is not, a conjunct is never
--- taken; what was taken fixes existentials; and what a type keeps truncated is had.
+-- taken; what was taken fixes existentials; and what a type keeps truncated follows from its truncation.
 -- This project's own notions; that an order keeps the meaning is commutativity and associativity of the
 -- separating conjunction, as in Reynolds, "Separation Logic" (2002).
 use Rattle.std.specs.Prelude.{◌≡◌, ◌↔◌, ◌⊎◌, ℕ, Bool, true, List, Some}
@@ -65,7 +65,7 @@ OrderKeepsMeaning =
     (a o : Level Expr) (vars : Var → Value) (some : ℕ → Value) (heap : Heap) → IsOrderOfLevel a o
     → Sat a (value vars) some heap ↔ Sat o (value vars) some heap
 
--- whoever holds no more than that assertions are others in order has that they are
+-- that assertions are others in order follows from its truncation
 abbrev pub OrdersFromTruncation : Type 0
 OrdersFromTruncation =
     (notes orders : List Assertion) → ∥ AreOrdersOf notes orders ∥₁ → AreOrdersOf notes orders

@@ -14,8 +14,8 @@ use std::alloc::{AllocError, Global};
 /// A program, what its calls reach, and its annotations in order. It keeps that the calls are the
 /// program's, that no condition on its variables is broken, and that each order is that of its
 /// annotation. It keeps each without telling how it was found, and a law gives it back:
-/// `sets_from_truncation` and `conditions_from_truncation` of sf_calls, and `orders_from_truncation` here. `arrange` makes
-/// it.
+/// `sets_from_truncation` and `conditions_from_truncation` of sf_calls, and
+/// `orders_from_truncation` here. `arrange` makes it.
 #[derive(Debug, Drop)]
 pub struct Arranged {
     /// The program.
@@ -27,7 +27,8 @@ pub struct Arranged {
     pub orders: Vec<Ordered>,
     ghost sets: { ∥ AreSetsOf (program_of program) calls ∥₁ },
     ghost conditions: { ∥ Conditions (program_of program) ∥₁ },
-    ghost ordered: { ∥ AreOrdersOf (annotations_in (program_of program)) (map (λ o. assertion_of o.assertion) orders.items) ∥₁ },
+    ghost ordered: { ∥ AreOrdersOf (annotations_in (program_of program))
+        (map (λ o. assertion_of o.assertion) orders.items) ∥₁ },
 }
 
 impl Arranged {

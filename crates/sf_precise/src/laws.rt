@@ -57,7 +57,7 @@ pub fn order_keeps_meaning()
     ensures { OrderKeepsMeaning }
 {}
 
-/// Whoever holds no more than that assertions are others in order has that they are.
+/// That assertions are others in order follows from its truncation.
 #[tactic(auto, using(crate::proofs::Closing::orders_from_truncation))]
 pub fn orders_from_truncation()
     ensures { OrdersFromTruncation }

@@ -25,7 +25,8 @@ use std::alloc::{AllocError, Global};
 pub fn order(alloc: Global, a: &Assertion) -> Result<Ordered, OrderFault>
     ensures ordered { IfOk result (λ o. IsOrderOf (assertion_of a.now) (assertion_of o.assertion)) }
     ensures determined { IfOk result (λ o. Determined (assertion_of a.now).level) }
-    ensures undetermined { IfErr result (λ e. IfUndetermined e (λ p. ¬ Determined (assertion_of a.now).level)) }
+    ensures undetermined { IfErr result (λ e. IfUndetermined e
+        (λ p. ¬ Determined (assertion_of a.now).level)) }
     ensures place { IfErr result (λ e. IfUndetermined e (NeverTakenAt (assertion_of a.now).level)) }
 {
     let parts = prepare_all(alloc, &a.level.conjuncts)?;
@@ -69,7 +70,8 @@ fn order_level(
         (option_map conjunct_of o)) level.now.conjuncts.items parts.orders.items }
     requires outer { AllZip (λ c ns. ns.items
         ≡ outer_of (conjunct_of c)) level.now.conjuncts.items parts.outers.items }
-    ensures ordered { IfOk result (λ o. IsOrderFrom (known_outside start) (level_of level.now) (level_of o)) }
+    ensures ordered { IfOk result (λ o. IsOrderFrom (known_outside start) (level_of level.now)
+        (level_of o)) }
     ensures undetermined { IfErr result
         (λ e. IfUndetermined e (NeverTakenFrom (known_outside start) (level_of level.now))) }
 {
@@ -89,7 +91,8 @@ fn order_branch(
     outer: &mut Vec<u32>,
 ) -> Result<Option<Level<Expr>>, AllocError>
     ensures order { IfOk result (λ o. IsBranch (level_of branch.now) (option_map level_of o)) }
-    ensures outer { Appends result outer.old.items outer.new.items (outer_of_level (level_of branch.now)) }
+    ensures outer { Appends result outer.old.items outer.new.items
+        (outer_of_level (level_of branch.now)) }
 {
     let parts = prepare_all(alloc, &branch.conjuncts)?;
     add_all_not_made(branch.made, &parts.outers, outer)?;
@@ -127,7 +130,8 @@ fn prepare(
     c: &Conjunct<Expr>,
     outer: &mut Vec<u32>,
 ) -> Result<Option<Conjunct<Expr>>, AllocError>
-    ensures prepared { IfOk result (λ o. IsPrepared (conjunct_of c.now) (option_map conjunct_of o)) }
+    ensures prepared { IfOk result (λ o. IsPrepared (conjunct_of c.now)
+        (option_map conjunct_of o)) }
     ensures outer { Appends result outer.old.items outer.new.items (outer_of (conjunct_of c.now)) }
 {
     match c {

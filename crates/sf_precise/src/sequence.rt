@@ -31,7 +31,8 @@ pub fn sequence(
     outers: &[Vec<u32>],
 ) -> Result<Vec<Conjunct<Expr>>, OrderFault>
     requires outer { AllZip (λ c ns. ns.items ≡ outer_of (conjunct_of c)) cs.now outers.now }
-    requires prepared { AllZip (λ c o. IsPrepared (conjunct_of c) (option_map conjunct_of o)) cs.now parts.items }
+    requires prepared { AllZip (λ c o. IsPrepared (conjunct_of c) (option_map conjunct_of o))
+        cs.now parts.items }
     ensures ordered { IfOk result (λ os.
         IsOrder (known_outside start) (conjuncts (map conjunct_of cs.now))
         (conjuncts (map conjunct_of os.items))) }

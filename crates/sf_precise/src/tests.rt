@@ -1,5 +1,5 @@
-//! Orders of small assertions, worked out by hand, and of a long one. Each conjunct is told by the
-//! column of its place.
+//! Orders of small assertions, found by hand, and of a long one. Each conjunct is named by the column
+//! of its place.
 
 ghost use Rattle.std.specs.Prelude.{◌≡◌, []};
 ghost use Rattle.sf_base.specs.declared.ids.Var.TheVariants.{Own};
@@ -208,17 +208,6 @@ fn empty(alloc: Global) -> Program
     }
 }
 
-#[test]
-fn an_empty_program_is_arranged(rt: HostRuntime) -> Result<(), Fail> {
-    let p = empty(rt.alloc());
-    let calls = reach(rt.alloc(), &p)?;
-    match arrange(rt.alloc(), p, calls) {
-        Ok(arranged) => assert_eq!(rt; arranged.orders.len(), 0),
-        Err(_) => assert!(rt; false),
-    }
-    Ok(())
-}
-
 fn own(n: u32) -> Occurrence
     ensures { result.var ≡ Own n }
 {
@@ -229,7 +218,7 @@ fn own(n: u32) -> Occurrence
 }
 
 #[test]
-fn what_a_command_may_change_is_told(rt: HostRuntime) -> Result<(), Fail> {
+fn new_changes_its_variable(rt: HostRuntime) -> Result<(), Fail> {
     let p = empty(rt.alloc());
     let calls = reach(rt.alloc(), &p)?;
     let c = Command::New(at(1), own(0));

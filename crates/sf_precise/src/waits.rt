@@ -28,8 +28,10 @@ pub fn demand_of(
     ordered: bool,
 ) -> Result<Demand, AllocError>
     requires { outer.now ≡ outer_of (conjunct_of c.now) }
-    ensures need { IfOk result (λ d. d.need ≡ need_of (known_outside start) (conjunct_of c.now) ordered) }
-    ensures waits { IfOk result (λ d. d.waits.items ≡ waits_for (known_outside start) (conjunct_of c.now)) }
+    ensures need { IfOk result (λ d. d.need ≡ need_of (known_outside start)
+        (conjunct_of c.now) ordered) }
+    ensures waits { IfOk result (λ d. d.waits.items ≡ waits_for (known_outside start)
+        (conjunct_of c.now)) }
 {
     let mut all = Vec::new(alloc);
     add_supplies(c, outer, &mut all)?;

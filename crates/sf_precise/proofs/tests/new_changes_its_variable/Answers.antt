@@ -8,7 +8,7 @@ use Rattle.sf_core.specs.Program.Formed.{IsSettable}
 use Rattle.sf_core.specs.Program.Syntax.{Command, Procedure, Assertion, new, done, level, none}
 use Rattle.sf_core.specs.Program.View.{command_of, command_step}
 use Rattle.sf_core.specs.Program.ProgramView.{program_of}
-use Rattle.sf_precise.proofs.tests.what_a_command_may_change_is_told.Goals as goal
+use Rattle.sf_precise.proofs.tests.new_changes_its_variable.Goals as goal
 
 view : (p : Place) (x : Occurrence) → command_of (New p x) ≡ new p x
 view p x = ap command_of (sym (rolls-New p x)) ∙ fold-roll-Command Command command_step _
