@@ -1,4 +1,4 @@
--- Faults: what is told of a breach of the conditions on variables: its kind, its place, and the name of
+-- Faults: what is said of a breach of the conditions on variables: its kind, its place, and the name of
 -- the variable or of the resource.
 -- Ordinary: a message is its cause together with the word that the text has for it.
 use Rattle.std.specs.Prelude.{◌≡◌, ℕ, List, Some, slice_get}
@@ -32,7 +32,7 @@ IsBreachName p f (SameReference place x) name = IsVariableName p f x name
 IsBreachName p f (ReferenceIsFree place x) name = IsVariableName p f x name
 IsBreachName p f (ParallelShares place x) name = IsVariableName p f x name
 
--- the breach told by that name
+-- the breach that has that name
 abbrev pub told_by : Breach → List ℕ → VarFault
 told_by (NotHeld place x) name = TellNotHeld place name
 told_by (Reentered place r) name = TellReentered place name

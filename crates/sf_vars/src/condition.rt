@@ -23,7 +23,8 @@ use std::alloc::Global;
 pub fn conditions(alloc: Global, p: &Program, c: &Calls) -> Result<(), VarFault>
     requires { AreSetsOf (program_of p.now) c.now }
     ensures kept { OnOk result (Conditions (program_of p.now)) }
-    ensures broken { IfErr result (λ fault. fault ≢ OutOfMemory → IsFirstFault (program_of p.now) fault) }
+    ensures broken { IfErr result (λ fault. fault ≢ OutOfMemory → IsFirstFault
+        (program_of p.now) fault) }
 {
     match first_breach(p, c) {
         Ok(()) => Ok(()),

@@ -1,4 +1,4 @@
-//! The names that faults tell.
+//! The names in faults.
 
 ghost use Rattle.std.specs.Prelude.{◌≡◌, ◌<◌, ℕ, List, length, IfOk};
 ghost use Rattle.sf_core.specs.Program.ProgramView.{program_of};

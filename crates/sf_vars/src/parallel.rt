@@ -11,7 +11,7 @@ use sf_calls::occurs::{in_references, in_values};
 use sf_calls::{Breach, Calls};
 use sf_core::{Call, Expr, Occurrence};
 
-/// Looks for a variable that one of the calls may change and the other uses: first those that stand
+/// Looks for a variable that one of the calls may change and the other uses: first those that occur
 /// in the calls, then the others.
 pub fn shares_in_fork(calls: &Calls, left: &Call, right: &Call) -> Result<(), Breach>
     requires left { HasSets calls.now left.now.callee }

@@ -113,7 +113,8 @@ fn in_single(calls: &Calls, held: &Held, call: &Call) -> Result<(), Breach>
 fn in_fork(calls: &Calls, held: &Held, left: &Call, right: &Call) -> Result<(), Breach>
     requires left { HasSets calls.now left.now.callee }
     requires right { HasSets calls.now right.now.callee }
-    ensures { result_err result ≡ in_fork calls.now held.now (call_of left.now) (call_of right.now) }
+    ensures { result_err result ≡ in_fork calls.now held.now (call_of left.now)
+        (call_of right.now) }
 {
     unheld_in_call(calls, held, left)?;
     unheld_in_call(calls, held, right)?;

@@ -111,7 +111,7 @@ abbrev mutual
   in_conjunct held (choose place t this that) =
       option_or (in_test (in_operand held) t) (option_or (in_level held this) (in_level held that))
 
--- of those variables the first that is not held, told at that place
+-- of those variables the first that is not held, reported at that place
 abbrev pub free_unheld : List Bool → Place → List Var → Option Breach
 free_unheld held place xs = search_in (λ x. found (lacks held x) (NotHeld place x)) xs
 
@@ -121,7 +121,7 @@ unheld_in_call sets held c =
     option_or (free_unheld held c.place (free_of sets c.callee))
     (option_or (search_in (at_occurrence held) c.references) (search_in (in_expr held) c.values))
 
--- of those resources the first that is held, told at that place
+-- of those resources the first that is held, reported at that place
 abbrev pub taken_held : List Bool → Place → List ResId → Option Breach
 taken_held held place rs = search_in (λ r. found (has held r) (Reentered place r)) rs
 
@@ -170,7 +170,7 @@ shared_by_name sets c d named =
     option_or (search_in (λ x. shared_at sets c d x.var) named.references)
     (search_in (shared_by_value sets c d) named.values)
 
--- of those variables the first that is free in the procedure, told at that place
+-- of those variables the first that is free in the procedure, reported at that place
 abbrev pub also_free : Sets → Place → ProcId → List Var → Option Breach
 also_free sets place g xs = search_in (λ x. found (is_in (free_of sets g) x) (ParallelShares place x)) xs
 
