@@ -2,6 +2,11 @@
 //!
 //! Names are not copied: the tree has the ends of their texts. It keeps whatever the spelling needs,
 //! so that the kinds of a file's tokens are a function of its tree.
+//!
+//! - `assertion`: assertions and their conjuncts.
+//! - `command`: commands and calls.
+//! - `file`: a whole file: fields, resources, procedures.
+//! - `word`: words, expressions, operands and tests.
 #![tactic(auto)]
 
 mod assertion;

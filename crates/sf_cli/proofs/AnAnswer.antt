@@ -12,7 +12,7 @@ use Rattle.sf_io.specs.Shelf.{Files}
 use Rattle.sf_lex.specs.declared.token.Token.{Token}
 use Rattle.sf_lex.specs.Laws.{EachFileReadsOnce}
 use Rattle.sf_lex.specs.Reading.{AreTokens}
-use Rattle.sf_parse.specs.Laws.{EachFileIsShallow, EachHasOneAnswer}
+use Rattle.sf_parse.specs.Laws.{EachFileIsShallow, AnswerIsUnique}
 use Rattle.sf_parse.specs.Parsing.{IsFile}
 use Rattle.sf_precise.specs.Laws.{UndeterminedAnnotationsHavePlace}
 use Rattle.sf_precise.specs.Annotations.{annotations_in}
@@ -36,7 +36,7 @@ use Rattle.sf_cli.specs.Words.{Text, Order, verify, order_of, usage_text}
 -- what the layers below say: that each has an answer, and that what is read is in order
 pub record Answers : Type 0 where
   pub tokens : EachFileReadsOnce
-  pub grammar : EachHasOneAnswer
+  pub grammar : AnswerIsUnique
   pub shallow : EachFileIsShallow
   pub names : EachTreeIsOne
   pub formed : ElaboratedIsFormed

@@ -23,7 +23,7 @@ use Rattle.sf_elab.specs.Elaborated.{Elaborates, FirstFault}
 use Rattle.sf_elab.specs.Laws.{EachFileIsOne as EachTreeIsOne}
 use Rattle.sf_lex.specs.declared.token.Token.{Token}
 use Rattle.sf_lex.specs.Laws.{EachFileReadsOnce}
-use Rattle.sf_parse.specs.Laws.{EachFileIsOne, EachHasOneAnswer}
+use Rattle.sf_parse.specs.Laws.{EachFileIsOne, AnswerIsUnique}
 use Rattle.sf_parse.specs.Parsing.{IsFile, IsFault as IsGrammarFault}
 use Rattle.sf_precise.specs.Laws.{NeverTakenIsUndetermined}
 use Rattle.sf_precise.specs.Annotations.{annotations_in, is_before, IsFirstPlace, NeverTakenIn}
@@ -45,7 +45,7 @@ use Rattle.sf_cli.specs.Words.{Text, Order, verify, order_of}
 pub record Layers : Type 0 where
   pub tokens : EachFileReadsOnce
   pub trees : EachFileIsOne
-  pub grammar : EachHasOneAnswer
+  pub grammar : AnswerIsUnique
   pub names : EachTreeIsOne
   pub breaches : FirstBreachIsUnique
   pub orders : NeverTakenIsUndetermined

@@ -26,7 +26,7 @@ pub fn each_file_has_one_answer()
 {
     each_file_reads_once();
     sf_parse::laws::each_file_is_one();
-    sf_parse::laws::each_has_one_answer();
+    sf_parse::laws::answer_is_unique();
     sf_elab::laws::each_file_is_one();
     first_breach_is_unique();
     never_taken_is_undetermined();
@@ -39,7 +39,7 @@ pub fn each_file_has_an_answer()
     ensures { EachFileHasAnAnswer }
 {
     each_file_reads_once();
-    sf_parse::laws::each_has_one_answer();
+    sf_parse::laws::answer_is_unique();
     each_file_is_shallow();
     sf_elab::laws::each_file_is_one();
     elaborated_is_formed();

@@ -2,7 +2,6 @@
 use Rattle.std.proofs.Common.{◌≡◌, ◌<◌, ◌==◌, ℕ, List, [], ◌∷◌, length, true, false, Bool, refl, arith}
 use Rattle.std.proofs.lemmas.Bool.Decides.{nat_tests}
 use Rattle.std.specs.List.{list_all}
-use Rattle.sf_base.proofs.Prefixes.{prefix-more, prefix-none}
 use Rattle.sf_lex.specs.Lexeme.{is_letter, is_digit, is_word_byte, is_some_of}
 
 pub some_of_all : (p : ℕ → Bool) (bs : List ℕ) → 0 < length bs → list_all p bs ≡ true → is_some_of p bs ≡ true

@@ -1,9 +1,9 @@
 pub mod Ascii
 pub mod Numerals
 pub mod Bytes
-pub mod WordFronts
-pub mod CommentFronts
-pub mod SymbolFronts
+pub mod WordLexemes
+pub mod CommentLexemes
+pub mod SymbolLexemes
 pub mod Steps
 pub mod EachReads
 pub mod Once

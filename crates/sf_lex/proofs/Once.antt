@@ -11,40 +11,40 @@ use Rattle.sf_lex.specs.declared.token.Kind.{Kind}
 use Rattle.sf_lex.specs.declared.token.Kind.TheVariants as k
 use Rattle.sf_lex.specs.declared.token.Token.{Token}
 use Rattle.sf_lex.specs.Lexeme.{is_blank, kind_of}
-use Rattle.sf_lex.specs.Piece.{Piece, blank, comment, token, text_of, spelled, has_close, is_long_word, is_bad_number, IsFront, IsPiece, ArePieces}
+use Rattle.sf_lex.specs.Piece.{Piece, blank, comment, token, text_of, spelled, has_close, is_long_word, is_bad_number, IsLexeme, IsPiece, ArePieces}
 use Rattle.sf_lex.specs.Reading.{AreTokens, IsFault, IsFaultAt, IsBadByte, IsLongWord, IsBadNumber, StopsAt, tokens_of, first_place, place_behind}
 use Rattle.sf_lex.specs.Laws.{EachFileReadsOnce}
-use Rattle.sf_lex.proofs.CommentFronts.{close_there}
+use Rattle.sf_lex.proofs.CommentLexemes.{close_there}
 use Rattle.sf_lex.proofs.EachReads.{reads-some}
 
--- of two fronts of one byte string the first goes on to the second, or the other way round
+-- of two prefixes of one byte string the first goes on to the second, or the other way round
 data Compared (a b r s : List ℕ) : Type 0 where
   alike : a ≡ b → r ≡ s → Compared a b r s
   longer : (x : ℕ) (more : List ℕ) → b ≡ a ++ x ∷ more → r ≡ x ∷ (more ++ s) → Compared a b r s
   shorter : (x : ℕ) (more : List ℕ) → a ≡ b ++ x ∷ more → s ≡ x ∷ (more ++ r) → Compared a b r s
 
-compare_fronts : (a b r s : List ℕ) → a ++ r ≡ b ++ s → Compared a b r s
-compare_fronts [] [] r s e = alike refl e
-compare_fronts [] (x ∷ b) r s e = longer x b refl e
-compare_fronts (x ∷ a) [] r s e = shorter x a refl (sym e)
-compare_fronts (x ∷ a) (y ∷ b) r s e =
+compare_lexemes : (a b r s : List ℕ) → a ++ r ≡ b ++ s → Compared a b r s
+compare_lexemes [] [] r s e = alike refl e
+compare_lexemes [] (x ∷ b) r s e = longer x b refl e
+compare_lexemes (x ∷ a) [] r s e = shorter x a refl (sym e)
+compare_lexemes (x ∷ a) (y ∷ b) r s e =
     let head : x ≡ y = cc in
     let tail : a ++ r ≡ b ++ s = cc in
-    elim (compare_fronts a b r s tail) [
+    elim (compare_lexemes a b r s tail) [
       | alike h t ↦ alike (cc) t
       | longer z more h t ↦ longer z more (cc) t
       | shorter z more h t ↦ shorter z more (cc) t
     ]
 
 -- one kind and one text
-record SameFront (one two : Kind) (a b r s : List ℕ) : Type 0 where
+record SameLexeme (one two : Kind) (a b r s : List ℕ) : Type 0 where
   kind : one ≡ two
   text : a ≡ b
   rest : r ≡ s
 
-same_front : (one two : Kind) (a b r s : List ℕ) → IsFront one a r → IsFront two b s → a ++ r ≡ b ++ s → SameFront one two a b r s
-same_front one two a b r s p q e =
-    elim (compare_fronts a b r s e) [
+same_lexeme : (one two : Kind) (a b r s : List ℕ) → IsLexeme one a r → IsLexeme two b s → a ++ r ≡ b ++ s → SameLexeme one two a b r s
+same_lexeme one two a b r s p q e =
+    elim (compare_lexemes a b r s e) [
       | alike h t ↦ let there : kind_of b ≡ Some two = q.is in let here : kind_of a ≡ Some one = p.is in record { kind = cc; text = h; rest = t }
       | longer x more h t ↦
           let none : kind_of (a ++ x ∷ more) ≡ None = p.longest x more s t in
@@ -196,7 +196,7 @@ same_piece (comment a) (token k b) r s p q e = absurd (no_comment_token (a ++ 42
 same_piece (token j a) (blank b) r s p q e = absurd (no_blank_token b s j a r q p.0.is (sym e))
 same_piece (token j a) (comment b) r s p q e = absurd (no_comment_token (b ++ 42 ∷ 47 ∷ s) j a r p.0.is (sym (comment_text b s) ∙ sym e))
 same_piece (token j a) (token k b) r s p q e =
-    let same = same_front j k a b r s p.0 q.0 e in
+    let same = same_lexeme j k a b r s p.0 q.0 e in
     let kind : j ≡ k = same.kind in
     let text : a ≡ b = same.text in
     record { piece = cc; rest = same.rest }
@@ -238,12 +238,12 @@ no_piece_bad bytes f (token kind text) rest p e =
     let there : kind_of text ≡ Some kind = p.0.is in
     cc
 
-no_piece_token : (bytes : List ℕ) (kind : Kind) (text after : List ℕ) → IsFront kind text after → bytes ≡ text ++ after
+no_piece_token : (bytes : List ℕ) (kind : Kind) (text after : List ℕ) → IsLexeme kind text after → bytes ≡ text ++ after
     → ((is_long_word kind (length text) ≡ false) → (is_bad_number kind text after ≡ false) → ⊥) → NoPiece bytes
 no_piece_token bytes kind text after f h wrong (blank b) rest p e = no_blank_token b rest kind text after p f.is (sym e ∙ h)
 no_piece_token bytes kind text after f h wrong (comment inner) rest p e = no_comment_token (inner ++ 42 ∷ 47 ∷ rest) kind text after f.is (sym (comment_text inner rest) ∙ sym e ∙ h)
 no_piece_token bytes kind text after f h wrong (token other own) rest p e =
-    let same = same_front other kind own text rest after p.0 f (sym e ∙ h) in
+    let same = same_lexeme other kind own text rest after p.0 f (sym e ∙ h) in
     let kinds : other ≡ kind = same.kind in
     let texts : own ≡ text = same.text in
     let rests : rest ≡ after = same.rest in
@@ -264,9 +264,9 @@ no_piece_open bytes inside h c (token kind text) rest p e = no_comment_token ins
 
 no_piece : (fault : LexFault) (bytes : List ℕ) (at : Place) → IsFaultAt fault bytes at → NoPiece bytes
 no_piece (BadByte place) bytes at f = no_piece_bad bytes f.1
-no_piece (LongWord place) bytes at f = no_piece_token bytes f.1.kind f.1.text f.1.after f.1.front f.1.spells (λ no _. let there : is_long_word f.1.kind (length f.1.text) ≡ true = f.1.long in cc)
+no_piece (LongWord place) bytes at f = no_piece_token bytes f.1.kind f.1.text f.1.after f.1.lexeme f.1.spells (λ no _. let there : is_long_word f.1.kind (length f.1.text) ≡ true = f.1.long in cc)
 no_piece (OpenComment place) bytes at f = no_piece_open bytes f.1.inside f.1.spells f.1.unclosed
-no_piece (BadNumber place) bytes at f = no_piece_token bytes f.1.kind f.1.text f.1.after f.1.front f.1.spells (λ _ no. let there : is_bad_number f.1.kind f.1.text f.1.after ≡ true = f.1.bad in cc)
+no_piece (BadNumber place) bytes at f = no_piece_token bytes f.1.kind f.1.text f.1.after f.1.lexeme f.1.spells (λ _ no. let there : is_bad_number f.1.kind f.1.text f.1.after ≡ true = f.1.bad in cc)
 no_piece LongFile bytes at f = absurd f
 no_piece OutOfMemory bytes at f = absurd f
 
@@ -277,9 +277,9 @@ token_not_empty kind (b ∷ text) after e h = cc
 
 not_empty : (fault : LexFault) (at : Place) → IsFaultAt fault [] at → ⊥
 not_empty (BadByte place) at f = let some : 0 < 0 = f.1.some in omega arith
-not_empty (LongWord place) at f = token_not_empty f.1.kind f.1.text f.1.after f.1.front.is f.1.spells
+not_empty (LongWord place) at f = token_not_empty f.1.kind f.1.text f.1.after f.1.lexeme.is f.1.spells
 not_empty (OpenComment place) at f = let none : [] ≡ 47 ∷ 42 ∷ f.1.inside = f.1.spells in cc
-not_empty (BadNumber place) at f = token_not_empty f.1.kind f.1.text f.1.after f.1.front.is f.1.spells
+not_empty (BadNumber place) at f = token_not_empty f.1.kind f.1.text f.1.after f.1.lexeme.is f.1.spells
 not_empty LongFile at f = f
 not_empty OutOfMemory at f = f
 
@@ -293,26 +293,26 @@ long_or_bad _ text after e h = cc
 
 long_no_bad : (bytes : List ℕ) → IsLongWord bytes → IsBadNumber bytes → ⊥
 long_no_bad bytes f g =
-    let same = same_front f.kind g.kind f.text g.text f.after g.after f.front g.front (sym f.spells ∙ g.spells) in
+    let same = same_lexeme f.kind g.kind f.text g.text f.after g.after f.lexeme g.lexeme (sym f.spells ∙ g.spells) in
     let long : is_long_word f.kind (length f.text) ≡ true = f.long in
     long_or_bad g.kind g.text g.after (subst (λ k. is_long_word k (length g.text) ≡ true) same.kind (subst (λ t. is_long_word f.kind (length t) ≡ true) same.text long)) g.bad
 
 same_fault : (e f : LexFault) (bytes : List ℕ) (at : Place) → IsFaultAt e bytes at → IsFaultAt f bytes at → e ≡ f
 same_fault (BadByte p) (BadByte q) bytes at a b = ap BadByte (a.0 ∙ sym b.0)
-same_fault (BadByte p) (LongWord q) bytes at a b = absurd (bad_no_token bytes b.1.kind b.1.text b.1.after a.1 b.1.front.is b.1.spells)
+same_fault (BadByte p) (LongWord q) bytes at a b = absurd (bad_no_token bytes b.1.kind b.1.text b.1.after a.1 b.1.lexeme.is b.1.spells)
 same_fault (BadByte p) (OpenComment q) bytes at a b = absurd (a.1.no_comment b.1.inside b.1.spells)
-same_fault (BadByte p) (BadNumber q) bytes at a b = absurd (bad_no_token bytes b.1.kind b.1.text b.1.after a.1 b.1.front.is b.1.spells)
-same_fault (LongWord p) (BadByte q) bytes at a b = absurd (bad_no_token bytes a.1.kind a.1.text a.1.after b.1 a.1.front.is a.1.spells)
+same_fault (BadByte p) (BadNumber q) bytes at a b = absurd (bad_no_token bytes b.1.kind b.1.text b.1.after a.1 b.1.lexeme.is b.1.spells)
+same_fault (LongWord p) (BadByte q) bytes at a b = absurd (bad_no_token bytes a.1.kind a.1.text a.1.after b.1 a.1.lexeme.is a.1.spells)
 same_fault (LongWord p) (LongWord q) bytes at a b = ap LongWord (a.0 ∙ sym b.0)
-same_fault (LongWord p) (OpenComment q) bytes at a b = absurd (no_comment_token b.1.inside a.1.kind a.1.text a.1.after a.1.front.is (sym b.1.spells ∙ a.1.spells))
+same_fault (LongWord p) (OpenComment q) bytes at a b = absurd (no_comment_token b.1.inside a.1.kind a.1.text a.1.after a.1.lexeme.is (sym b.1.spells ∙ a.1.spells))
 same_fault (LongWord p) (BadNumber q) bytes at a b = absurd (long_no_bad bytes a.1 b.1)
 same_fault (OpenComment p) (BadByte q) bytes at a b = absurd (b.1.no_comment a.1.inside a.1.spells)
-same_fault (OpenComment p) (LongWord q) bytes at a b = absurd (no_comment_token a.1.inside b.1.kind b.1.text b.1.after b.1.front.is (sym a.1.spells ∙ b.1.spells))
+same_fault (OpenComment p) (LongWord q) bytes at a b = absurd (no_comment_token a.1.inside b.1.kind b.1.text b.1.after b.1.lexeme.is (sym a.1.spells ∙ b.1.spells))
 same_fault (OpenComment p) (OpenComment q) bytes at a b = ap OpenComment (a.0 ∙ sym b.0)
-same_fault (OpenComment p) (BadNumber q) bytes at a b = absurd (no_comment_token a.1.inside b.1.kind b.1.text b.1.after b.1.front.is (sym a.1.spells ∙ b.1.spells))
-same_fault (BadNumber p) (BadByte q) bytes at a b = absurd (bad_no_token bytes a.1.kind a.1.text a.1.after b.1 a.1.front.is a.1.spells)
+same_fault (OpenComment p) (BadNumber q) bytes at a b = absurd (no_comment_token a.1.inside b.1.kind b.1.text b.1.after b.1.lexeme.is (sym a.1.spells ∙ b.1.spells))
+same_fault (BadNumber p) (BadByte q) bytes at a b = absurd (bad_no_token bytes a.1.kind a.1.text a.1.after b.1 a.1.lexeme.is a.1.spells)
 same_fault (BadNumber p) (LongWord q) bytes at a b = absurd (long_no_bad bytes b.1 a.1)
-same_fault (BadNumber p) (OpenComment q) bytes at a b = absurd (no_comment_token b.1.inside a.1.kind a.1.text a.1.after a.1.front.is (sym b.1.spells ∙ a.1.spells))
+same_fault (BadNumber p) (OpenComment q) bytes at a b = absurd (no_comment_token b.1.inside a.1.kind a.1.text a.1.after a.1.lexeme.is (sym b.1.spells ∙ a.1.spells))
 same_fault (BadNumber p) (BadNumber q) bytes at a b = ap BadNumber (a.0 ∙ sym b.0)
 same_fault LongFile f bytes at a b = absurd a
 same_fault OutOfMemory f bytes at a b = absurd a

@@ -5,9 +5,9 @@ use Rattle.sf_base.specs.declared.limits.TheConstants.{FILE_BYTES}
 use Rattle.sf_base.specs.declared.place.Place.{Place}
 use Rattle.sf_lex.specs.declared.fault.LexFault.{LexFault}
 use Rattle.sf_lex.specs.declared.fault.LexFault.TheVariants.{BadByte, LongWord, OpenComment, BadNumber, LongFile, OutOfMemory}
-use Rattle.sf_lex.specs.declared.front.Front.{Front}
+use Rattle.sf_lex.specs.declared.lexeme.Lexeme.{Lexeme}
 use Rattle.sf_lex.specs.declared.token.Token.{Token}
-use Rattle.sf_lex.specs.Internal.Lexing.{Stands, front_of, bytes_of, with_front}
+use Rattle.sf_lex.specs.Internal.Lexing.{IsNext, lexeme_of, bytes_of, with_lexeme}
 use Rattle.sf_lex.specs.Piece.{Piece, blank, comment, token, text_of, spelled, IsPiece, ArePieces}
 use Rattle.sf_lex.specs.Reading.{AreTokens, IsFault, IsFaultAt, StopsAt, value_of, tokens_of, first_place, next_place, place_behind}
 
@@ -60,33 +60,33 @@ tokens_more (token kind text ∷ ps) p start at =
     ∙ ap (λ n. tokens_of ps (start + length text) (place_behind at text) ++ tokens_of (p ∷ []) n (place_behind (place_behind at text) (spelled ps []))) count
     ∙ ap (λ q. tokens_of ps (start + length text) (place_behind at text) ++ tokens_of (p ∷ []) (start + length (text ++ spelled ps [])) q) (sym (behind_append at text (spelled ps []))))
 
-front_bytes : (p : Piece) → bytes_of (front_of p) ≡ length (text_of p)
-front_bytes (blank b) = refl
-front_bytes (comment inner) = refl
-front_bytes (token kind text) = refl
+lexeme_bytes : (p : Piece) → bytes_of (lexeme_of p) ≡ length (text_of p)
+lexeme_bytes (blank b) = refl
+lexeme_bytes (comment inner) = refl
+lexeme_bytes (token kind text) = refl
 
-front_tokens : (found : List Token) (p : Piece) (start : ℕ) (at : Place) → with_front found (front_of p) start at ≡ found ++ tokens_of (p ∷ []) start at
-front_tokens found (blank b) start at = sym (append-nil found)
-front_tokens found (comment inner) start at = sym (append-nil found)
-front_tokens found (token kind text) start at = refl
+lexeme_tokens : (found : List Token) (p : Piece) (start : ℕ) (at : Place) → with_lexeme found (lexeme_of p) start at ≡ found ++ tokens_of (p ∷ []) start at
+lexeme_tokens found (blank b) start at = sym (append-nil found)
+lexeme_tokens found (comment inner) start at = sym (append-nil found)
+lexeme_tokens found (token kind text) start at = refl
 
-drop_front : (front : Front) (bytes : List ℕ) (start : ℕ) (s : Stands front (drop start bytes)) → drop (start + bytes_of front) bytes ≡ s.rest
-drop_front front bytes start s =
-    sym (drop-drop (bytes_of front) start bytes)
-    ∙ ap (drop (bytes_of front)) s.spells
-    ∙ drop_at (text_of s.piece) s.rest (bytes_of front) (sym (ap bytes_of s.is ∙ front_bytes s.piece))
+drop_lexeme : (lexeme : Lexeme) (bytes : List ℕ) (start : ℕ) (s : IsNext lexeme (drop start bytes)) → drop (start + bytes_of lexeme) bytes ≡ s.rest
+drop_lexeme lexeme bytes start s =
+    sym (drop-drop (bytes_of lexeme) start bytes)
+    ∙ ap (drop (bytes_of lexeme)) s.spells
+    ∙ drop_at (text_of s.piece) s.rest (bytes_of lexeme) (sym (ap bytes_of s.is ∙ lexeme_bytes s.piece))
 
-take_front : (front : Front) (bytes : List ℕ) (s : Stands front bytes) → take (bytes_of front) bytes ≡ text_of s.piece
-take_front front bytes s =
-    ap (take (bytes_of front)) s.spells
-    ∙ take_at (text_of s.piece) s.rest (bytes_of front) (sym (ap bytes_of s.is ∙ front_bytes s.piece))
+take_lexeme : (lexeme : Lexeme) (bytes : List ℕ) (s : IsNext lexeme bytes) → take (bytes_of lexeme) bytes ≡ text_of s.piece
+take_lexeme lexeme bytes s =
+    ap (take (bytes_of lexeme)) s.spells
+    ∙ take_at (text_of s.piece) s.rest (bytes_of lexeme) (sym (ap bytes_of s.is ∙ lexeme_bytes s.piece))
 
-pub step : (bytes : List ℕ) (start : ℕ) (at : Place) (found : List Token) (front : Front) → ReadSo bytes start at found → Stands front (drop start bytes)
-    → ReadSo bytes (start + bytes_of front) (place_behind at (take (bytes_of front) (drop start bytes))) (with_front found front start at)
-step bytes start at found front r s =
-    let rest : drop (start + bytes_of front) bytes ≡ s.rest = drop_front front bytes start s in
-    let text : take (bytes_of front) (drop start bytes) ≡ text_of s.piece = take_front front (drop start bytes) s in
-    let counts : bytes_of front ≡ length (text_of s.piece) = ap bytes_of s.is ∙ front_bytes s.piece in
+pub step : (bytes : List ℕ) (start : ℕ) (at : Place) (found : List Token) (lexeme : Lexeme) → ReadSo bytes start at found → IsNext lexeme (drop start bytes)
+    → ReadSo bytes (start + bytes_of lexeme) (place_behind at (take (bytes_of lexeme) (drop start bytes))) (with_lexeme found lexeme start at)
+step bytes start at found lexeme r s =
+    let rest : drop (start + bytes_of lexeme) bytes ≡ s.rest = drop_lexeme lexeme bytes start s in
+    let text : take (bytes_of lexeme) (drop start bytes) ≡ text_of s.piece = take_lexeme lexeme (drop start bytes) s in
+    let counts : bytes_of lexeme ≡ length (text_of s.piece) = ap bytes_of s.is ∙ lexeme_bytes s.piece in
     record {
       pieces = r.pieces ++ s.piece ∷ [];
       spells =
@@ -94,7 +94,7 @@ step bytes start at found front r s =
           ∙ ap (spelled (r.pieces ++ s.piece ∷ [])) (sym rest);
       each = subst (λ xs. ArePieces (r.pieces ++ s.piece ∷ []) xs) (sym rest) (pieces_more r.pieces s.piece s.rest (subst (λ xs. ArePieces r.pieces xs) s.spells r.each) s.each);
       are =
-          ap (λ x. with_front found x start at) s.is ∙ front_tokens found s.piece start at
+          ap (λ x. with_lexeme found x start at) s.is ∙ lexeme_tokens found s.piece start at
           ∙ ap (λ xs. xs ++ tokens_of (s.piece ∷ []) start at) r.are
           ∙ ap (λ n. tokens_of r.pieces 0 first_place ++ tokens_of (s.piece ∷ []) n at) (r.within ∙ zero_first (length (spelled r.pieces [])))
           ∙ ap (λ q. tokens_of r.pieces 0 first_place ++ tokens_of (s.piece ∷ []) (0 + length (spelled r.pieces [])) q) r.behind
@@ -104,7 +104,7 @@ step bytes start at found front r s =
           ∙ sym (behind_append first_place (spelled r.pieces []) (text_of s.piece))
           ∙ ap (place_behind first_place) (sym (whole r.pieces s.piece));
       within =
-          ap (λ n. n + bytes_of front) r.within ∙ ap (λ n. length (spelled r.pieces []) + n) counts
+          ap (λ n. n + bytes_of lexeme) r.within ∙ ap (λ n. length (spelled r.pieces []) + n) counts
           ∙ sym (length-append (spelled r.pieces []) (text_of s.piece)) ∙ ap length (sym (whole r.pieces s.piece));
     }
   where
@@ -120,15 +120,15 @@ text_some (comment inner) rest h = omega arith
 text_some (token kind []) rest h = let none : None ≡ Some kind = h.0.is in absurd cc
 text_some (token kind (b ∷ text)) rest h = omega arith
 
-pub front_some : (front : Front) (bytes : List ℕ) → Stands front bytes → 0 < bytes_of front
-front_some front bytes s =
-    let counts : bytes_of front ≡ length (text_of s.piece) = ap bytes_of s.is ∙ front_bytes s.piece in
+pub lexeme_some : (lexeme : Lexeme) (bytes : List ℕ) → IsNext lexeme bytes → 0 < bytes_of lexeme
+lexeme_some lexeme bytes s =
+    let counts : bytes_of lexeme ≡ length (text_of s.piece) = ap bytes_of s.is ∙ lexeme_bytes s.piece in
     let some : 0 < length (text_of s.piece) = text_some s.piece s.rest s.each in
     omega arith
 
-pub front_fits : (front : Front) (bytes : List ℕ) → Stands front bytes → bytes_of front ≤ length bytes
-front_fits front bytes s =
-    let counts : bytes_of front ≡ length (text_of s.piece) = ap bytes_of s.is ∙ front_bytes s.piece in
+pub lexeme_fits : (lexeme : Lexeme) (bytes : List ℕ) → IsNext lexeme bytes → bytes_of lexeme ≤ length bytes
+lexeme_fits lexeme bytes s =
+    let counts : bytes_of lexeme ≡ length (text_of s.piece) = ap bytes_of s.is ∙ lexeme_bytes s.piece in
     let whole : length bytes ≡ length (text_of s.piece) + length s.rest = ap length s.spells ∙ length-append (text_of s.piece) s.rest in
     omega arith
 
@@ -203,21 +203,21 @@ same_count : (start n : ℕ) → (start + n) - start ≡ n
 same_count start n = omega arith
 
 -- one piece further, as the scanner goes
-pub step_so : (bytes rest : List ℕ) (start n : ℕ) (at next : Place) (found kept : List Token) (front : Front) → ReadSo bytes start at found → rest ≡ drop start bytes → Stands front rest → n ≡ bytes_of front
-    → next ≡ place_behind at (take ((start + n) - start) (drop start bytes)) → kept ≡ with_front found front start at → ReadSo bytes (start + n) next kept
-step_so bytes rest start n at next found kept front r e s count place tokens =
-    let one : ReadSo bytes (start + bytes_of front) (place_behind at (take (bytes_of front) (drop start bytes))) (with_front found front start at) =
-    step bytes start at found front r (subst (λ xs. Stands front xs) e s) in
-    let two : ReadSo bytes (start + n) (place_behind at (take n (drop start bytes))) (with_front found front start at) =
-    subst (λ m. ReadSo bytes (start + m) (place_behind at (take m (drop start bytes))) (with_front found front start at)) (sym count) one in
-    let three : ReadSo bytes (start + n) next (with_front found front start at) =
-    subst (λ q. ReadSo bytes (start + n) q (with_front found front start at)) (ap (λ m. place_behind at (take m (drop start bytes))) (sym (same_count start n)) ∙ sym place) two in
+pub step_so : (bytes rest : List ℕ) (start n : ℕ) (at next : Place) (found kept : List Token) (lexeme : Lexeme) → ReadSo bytes start at found → rest ≡ drop start bytes → IsNext lexeme rest → n ≡ bytes_of lexeme
+    → next ≡ place_behind at (take ((start + n) - start) (drop start bytes)) → kept ≡ with_lexeme found lexeme start at → ReadSo bytes (start + n) next kept
+step_so bytes rest start n at next found kept lexeme r e s count place tokens =
+    let one : ReadSo bytes (start + bytes_of lexeme) (place_behind at (take (bytes_of lexeme) (drop start bytes))) (with_lexeme found lexeme start at) =
+    step bytes start at found lexeme r (subst (λ xs. IsNext lexeme xs) e s) in
+    let two : ReadSo bytes (start + n) (place_behind at (take n (drop start bytes))) (with_lexeme found lexeme start at) =
+    subst (λ m. ReadSo bytes (start + m) (place_behind at (take m (drop start bytes))) (with_lexeme found lexeme start at)) (sym count) one in
+    let three : ReadSo bytes (start + n) next (with_lexeme found lexeme start at) =
+    subst (λ q. ReadSo bytes (start + n) q (with_lexeme found lexeme start at)) (ap (λ m. place_behind at (take m (drop start bytes))) (sym (same_count start n)) ∙ sym place) two in
     subst (λ ts. ReadSo bytes (start + n) next ts) (sym tokens) three
 
 -- the scanner stays within the bytes
-pub within_so : (bytes rest : List ℕ) (start n : ℕ) (front : Front) → start ≤ length bytes → rest ≡ drop start bytes → Stands front rest → n ≡ bytes_of front → start + n ≤ length bytes
-within_so bytes rest start n front h e s count =
-    let fits : bytes_of front ≤ length rest = front_fits front rest s in
+pub within_so : (bytes rest : List ℕ) (start n : ℕ) (lexeme : Lexeme) → start ≤ length bytes → rest ≡ drop start bytes → IsNext lexeme rest → n ≡ bytes_of lexeme → start + n ≤ length bytes
+within_so bytes rest start n lexeme h e s count =
+    let fits : bytes_of lexeme ≤ length rest = lexeme_fits lexeme rest s in
     let left : length rest ≡ length bytes - start = ap length e ∙ length-drop start bytes in
     omega arith
 

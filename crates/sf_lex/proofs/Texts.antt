@@ -12,7 +12,7 @@ use Rattle.sf_lex.specs.Piece.{Piece, blank, comment, token, text_of, spelled, f
 use Rattle.sf_lex.specs.Reading.{tokens_of, first_place, next_place, place_behind, value_of}
 use Rattle.sf_lex.specs.Laws.{AreTheirTexts, EachTokenIsItsText, IsItsText, text_at}
 use Rattle.sf_lex.proofs.Steps.{behind_append, text_some}
-use Rattle.sf_lex.proofs.SymbolFronts.{symbol_no_number}
+use Rattle.sf_lex.proofs.SymbolLexemes.{symbol_no_number}
 
 -- no word is a number
 word-no_number : (text : List ℕ) → word_kind text ≡ k.Number → ⊥
@@ -43,10 +43,10 @@ number-fits kind text rest n e = grind arith
 text-is : (bytes before text rest : List ℕ) (t : Token) → bytes ≡ before ++ (text ++ rest) → t.start ≡ length before → t.end ≡ length before + length text → t.place ≡ place_behind first_place before → t.value ≡ value_of t.kind text → IsPiece (token t.kind text) rest
     → IsItsText bytes t
 text-is bytes before text rest t e s n p v piece =
-    let front : drop t.start bytes ≡ text ++ rest = rw (e, s) (drop-append_seam before (text ++ rest)) in
+    let lexeme : drop t.start bytes ≡ text ++ rest = rw (e, s) (drop-append_seam before (text ++ rest)) in
     let ahead : take t.start bytes ≡ before = rw (e, s) (take-append_seam before (text ++ rest)) in
     let count : t.end - t.start ≡ length text = omega arith in
-    let same : text_at bytes t ≡ text = rw (front, count) (take-append_seam text rest) in
+    let same : text_at bytes t ≡ text = rw (lexeme, count) (take-append_seam text rest) in
     let whole : length bytes ≡ length before + (length text + length rest) = rw e (simp length-append refl) in
     let some : 0 < length text = text_some (token t.kind text) rest piece in
     record {

@@ -50,7 +50,7 @@ is_bad_number Number text rest = if fits (signed_digits_value 10 text) then is_w
 is_bad_number _ text rest = false
 
 -- the longest token before the rest
-pub record IsFront (kind : Kind) (text rest : List ℕ) : Type 0 where
+pub record IsLexeme (kind : Kind) (text rest : List ℕ) : Type 0 where
   pub is : kind_of text ≡ Some kind
   pub longest : IsLongest text rest
 
@@ -58,7 +58,7 @@ pub record IsFront (kind : Kind) (text rest : List ℕ) : Type 0 where
 abbrev pub IsPiece : Piece → List ℕ → Type 0
 IsPiece (blank b) rest = is_blank b ≡ true
 IsPiece (comment inner) rest = has_close (inner ++ 42 ∷ []) ≡ false
-IsPiece (token kind text) rest = IsFront kind text rest × (is_long_word kind (length text) ≡ false) × (is_bad_number kind text rest ≡ false)
+IsPiece (token kind text) rest = IsLexeme kind text rest × (is_long_word kind (length text) ≡ false) × (is_bad_number kind text rest ≡ false)
 
 -- each is a piece before what follows it
 abbrev pub ArePieces : List Piece → List ℕ → Type 0

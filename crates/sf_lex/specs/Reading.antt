@@ -10,7 +10,7 @@ use Rattle.sf_lex.specs.declared.token.Kind.{Kind}
 use Rattle.sf_lex.specs.declared.token.Kind.TheVariants.{Number}
 use Rattle.sf_lex.specs.declared.token.Token.{Token}
 use Rattle.sf_lex.specs.Lexeme.{is_blank, kind_of}
-use Rattle.sf_lex.specs.Piece.{Piece, blank, comment, token, text_of, spelled, has_close, is_long_word, is_bad_number, IsFront, ArePieces}
+use Rattle.sf_lex.specs.Piece.{Piece, blank, comment, token, text_of, spelled, has_close, is_long_word, is_bad_number, IsLexeme, ArePieces}
 
 -- the place after one byte: a line feed ends a line
 abbrev pub next_place : Place → ℕ → Place
@@ -59,7 +59,7 @@ pub record IsLongWord (rest : List ℕ) : Type 0 where
   pub text : List ℕ
   pub after : List ℕ
   pub spells : rest ≡ text ++ after
-  pub front : IsFront kind text after
+  pub lexeme : IsLexeme kind text after
   pub long : is_long_word kind (length text) ≡ true
 
 -- a comment begins, and nothing ends it
@@ -74,7 +74,7 @@ pub record IsBadNumber (rest : List ℕ) : Type 0 where
   pub text : List ℕ
   pub after : List ℕ
   pub spells : rest ≡ text ++ after
-  pub front : IsFront kind text after
+  pub lexeme : IsLexeme kind text after
   pub bad : is_bad_number kind text after ≡ true
 
 -- what is at fault at that place, with the rest of the file after it

@@ -1,9 +1,17 @@
 //! The tokens of a file: which bytes make one, where it is, and the first fault where there is one.
+//!
+//! - `fault`: why bytes are no tokens.
+//! - `laws`: laws of reading tokens.
+//! - `lexeme`: the next token, blank or comment of the bytes that are left.
+//! - `scan`: the calls `tokens` and `end_place`.
+//! - `symbols`: the longest symbol that comes next.
+//! - `token`: tokens and their kinds.
+//! - `words`: reserved words.
 #![tactic(auto)]
 
 mod fault;
-mod front;
 pub mod laws;
+mod lexeme;
 mod scan;
 mod symbols;
 mod token;

@@ -1,10 +1,10 @@
 ghost use Rattle.std.specs.Prelude.{◌≡◌, ◌≤◌, ◌<◌, ◌+◌, ◌-◌, ◌^◌, ◌⊎◌, length, List, IfOk, IfErr, MatchResult};
 ghost use Rattle.sf_base.specs.declared.limits.TheConstants.{FILE_BYTES};
-ghost use Rattle.sf_lex.specs.Internal.Lexing.{bytes_of, with_front};
+ghost use Rattle.sf_lex.specs.Internal.Lexing.{bytes_of, with_lexeme};
 ghost use Rattle.sf_lex.specs.Reading.{AreTokens, IsFault, first_place, next_place, place_behind};
 
 use crate::fault::LexFault;
-use crate::front::{Front, look};
+use crate::lexeme::{Lexeme, next_lexeme};
 use crate::symbols::from_index;
 use crate::token::Token;
 use sf_base::Place;
@@ -59,14 +59,14 @@ pub fn end_place(bytes: &[u8]) -> Place
 }
 
 /// The tokens so far and the next one, if a token is there.
-fn keep(found: &mut Vec<Token>, front: Front, start: usize, place: Place) -> Result<(), LexFault>
-    requires within { start + bytes_of front ≤ FILE_BYTES }
-    ensures kept { IfOk result (λ _. found.new.items ≡ with_front found.old.items front start place) }
+fn keep(found: &mut Vec<Token>, lexeme: Lexeme, start: usize, place: Place) -> Result<(), LexFault>
+    requires within { start + bytes_of lexeme ≤ FILE_BYTES }
+    ensures kept { IfOk result (λ _. found.new.items ≡ with_lexeme found.old.items lexeme start place) }
     ensures refused { IfErr result (λ fault. fault ≡ LexFault.OutOfMemory) }
 {
-    match front {
-        Front::Space(_) => Ok(()),
-        Front::Token(kind, bytes, value) => {
+    match lexeme {
+        Lexeme::Space(_) => Ok(()),
+        Lexeme::Token(kind, bytes, value) => {
             found.push(Token {
                 kind,
                 value,
@@ -79,13 +79,13 @@ fn keep(found: &mut Vec<Token>, front: Front, start: usize, place: Place) -> Res
     }
 }
 
-/// How many bytes the front takes.
-fn bytes_of(front: Front) -> usize
-    ensures { result ≡ bytes_of front }
+/// How many bytes the lexeme takes.
+fn bytes_of(lexeme: Lexeme) -> usize
+    ensures { result ≡ bytes_of lexeme }
 {
-    match front {
-        Front::Space(bytes) => bytes,
-        Front::Token(_, bytes, _) => bytes,
+    match lexeme {
+        Lexeme::Space(bytes) => bytes,
+        Lexeme::Token(_, bytes, _) => bytes,
     }
 }
 
@@ -99,9 +99,9 @@ fn scan(alloc: Global, bytes: &[u8]) -> Result<Vec<Token>, LexFault>
     let mut start: usize = 0;
     let mut place = first_place();
     while start < bytes.len() {
-        let front = look(place, from_index(bytes, start))?;
-        let end = start + bytes_of(front);
-        keep(&mut found, front, start, place)?;
+        let lexeme = next_lexeme(place, from_index(bytes, start))?;
+        let end = start + bytes_of(lexeme);
+        keep(&mut found, lexeme, start, place)?;
         place = place_behind(place, &bytes[start..end]);
         start = end;
     }

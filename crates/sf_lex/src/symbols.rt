@@ -1,6 +1,6 @@
 ghost use Rattle.std.specs.Prelude.{◌≡◌, ◌≤◌, drop, length, slice_index};
 ghost use Rattle.sf_lex.specs.Lexeme.{symbol_of_one, symbol_of_two, symbol_of_three};
-ghost use Rattle.sf_lex.specs.Internal.Lexing.{symbol_front};
+ghost use Rattle.sf_lex.specs.Internal.Lexing.{symbol_lexeme};
 
 use crate::token::Kind;
 
@@ -65,9 +65,9 @@ fn symbol_of_three(first: u8, second: u8, third: u8) -> Option<Kind>
     }
 }
 
-/// The longest symbol at the front, and its length.
+/// The longest symbol next, and its length.
 pub fn symbol(bytes: &[u8]) -> Option<(Kind, usize)>
-    ensures { result ≡ symbol_front bytes.now }
+    ensures { result ≡ symbol_lexeme bytes.now }
 {
     let first = byte_at(bytes, 0);
     let second = byte_at(bytes, 1);

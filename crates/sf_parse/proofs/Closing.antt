@@ -2,7 +2,7 @@
 use Rattle.std.proofs.Common.{sym, ◌∙◌, []}
 use Rattle.sf_parse.specs.Parsing.{token_left}
 use Rattle.sf_parse.proofs.OnceFiles.{items_once}
-use Rattle.sf_parse.specs.Laws.{EachFileIsOne, EachFileIsShallow, EachHasOneAnswer, ShallowTreesAreWithin, TheVerdictIsExact}
+use Rattle.sf_parse.specs.Laws.{EachFileIsOne, EachFileIsShallow, AnswerIsUnique, ShallowTreesAreWithin, TheVerdictIsExact}
 use Rattle.sf_parse.proofs.Depths.{items_within}
 use Rattle.sf_parse.proofs.Faults.{file_or_fault, faults_once, files_without_fault}
 use Rattle.sf_parse.proofs.Nearest.{items_nearest, items_shallow}
@@ -14,8 +14,8 @@ each_file_is_one ts one two f g = items_once (token_left ts) 0 one two f.places 
 pub each_file_is_shallow : EachFileIsShallow
 each_file_is_shallow ts tree f = items_within tree [] f.within
 
-pub each_has_one_answer : EachHasOneAnswer
-each_has_one_answer bytes ts = record { some = file_or_fault bytes ts; faults = faults_once bytes ts; apart = files_without_fault bytes ts }
+pub answer_is_unique : AnswerIsUnique
+answer_is_unique bytes ts = record { some = file_or_fault bytes ts; faults = faults_once bytes ts; apart = files_without_fault bytes ts }
 
 pub shallow_trees_are_within : ShallowTreesAreWithin
 shallow_trees_are_within tree = (λ w. (items_nearest tree 0 [] w, items_within tree [] w), λ h. items_shallow tree 0 [] h.0 h.1)

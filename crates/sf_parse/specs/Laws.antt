@@ -56,5 +56,5 @@ pub record HasOneAnswer (bytes : List ℕ) (ts : List Token) : Type 0 where
   pub apart : (tree : List Item) (f : ParseFault) → IsFile ts tree → IsFault bytes ts f → ⊥
 
 -- so it is with all tokens of all bytes
-abbrev pub EachHasOneAnswer : Type 0
-EachHasOneAnswer = (bytes : List ℕ) (ts : List Token) → HasOneAnswer bytes ts
+abbrev pub AnswerIsUnique : Type 0
+AnswerIsUnique = (bytes : List ℕ) (ts : List Token) → HasOneAnswer bytes ts

@@ -1,6 +1,6 @@
 //! Laws of reading a file. Each function does nothing; its contract is the law.
 
-ghost use Rattle.sf_parse.specs.Laws.{EachFileIsOne, EachFileIsShallow, EachHasOneAnswer, ShallowTreesAreWithin, TheVerdictIsExact};
+ghost use Rattle.sf_parse.specs.Laws.{EachFileIsOne, EachFileIsShallow, AnswerIsUnique, ShallowTreesAreWithin, TheVerdictIsExact};
 
 /// What is owed decides exactly as the grammar does: which tokens are a file, and where the others go wrong.
 #[tactic(auto, using(crate::proofs::Closing::the_verdict_is_exact))]
@@ -28,7 +28,6 @@ pub fn shallow_trees_are_within()
 {}
 
 /// Tokens have one answer: they are a file, or they have a fault, and one alone.
-#[tactic(auto, using(crate::proofs::Closing::each_has_one_answer))]
-pub fn each_has_one_answer()
-    ensures { EachHasOneAnswer }
+pub fn answer_is_unique()
+    ensures { AnswerIsUnique }
 {}

@@ -1,4 +1,4 @@
-//! What is owed and is one token: a mark, a name, an expression, an operand.
+//! What is predicted and is one token: a symbol or reserved word, a name, an expression, an operand.
 
 ghost use Rattle.std.specs.Prelude.{◌≡◌, ◌∷◌, [], IfErr, IfOk};
 ghost use Rattle.sf_parse.specs.Grammar.{expr, operand};

@@ -5,7 +5,7 @@ pub returns : goal.returns
 returns c = answer-once (record {
   tokens = c.each_file_reads_once.ensures;
   trees = c.each_file_is_one.ensures;
-  grammar = c.each_has_one_answer.ensures;
+  grammar = c.answer_is_unique.ensures;
   names = c.each_file_is_one-2.ensures;
   breaches = c.first_breach_is_unique.ensures;
   orders = c.never_taken_is_undetermined.ensures;

@@ -1,8 +1,8 @@
 use Rattle.std.proofs.Common.{sym, ◌∙◌, refl}
 use Rattle.std.proofs.lemmas.Bool.{ne_eqb}
 use Rattle.std.specs.List.{slice_index}
-use Rattle.sf_lex.proofs.SymbolFronts.{blank_stands, symbol_some, symbol_none}
-use Rattle.sf_lex.proofs.front.look.Goals as goal
+use Rattle.sf_lex.proofs.SymbolLexemes.{blank_stands, symbol_some, symbol_none}
+use Rattle.sf_lex.proofs.lexeme.next_lexeme.Goals as goal
 
 pub returns-then-is_blank : goal.returns-then-is_blank
 returns-then-is_blank c = blank_stands c.args.bytes.now c.requires (sym c.is_blank.ensures ∙ c.if-is_blank.true)

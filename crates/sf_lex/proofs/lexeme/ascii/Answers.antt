@@ -1,5 +1,5 @@
 use Rattle.std.proofs.lemmas.Str.{IsUtf8-from_ascii}
-use Rattle.sf_lex.proofs.front.ascii.Goals as goal
+use Rattle.sf_lex.proofs.lexeme.ascii.Goals as goal
 
 pub unreachable-requires : goal.unreachable-requires
 unreachable-requires c = absurd (c.in-Err.ensures.cases.0 (IsUtf8-from_ascii c.args.bytes.now c.requires))

@@ -1,15 +1,15 @@
--- Symbols at the front: the longest one that fits, or none.
+-- Symbols next: the longest one that fits, or none.
 use Rattle.std.proofs.Common.{◌≡◌, ◌<◌, ◌==◌, ℕ, List, [], ◌∷◌, ◌++◌, length, true, false, Bool, cond, ◌&&◌, Option, Some, None, refl, ap, sym, ◌∙◌, arith, subst, pos}
 use Rattle.std.proofs.Math.Bool.{and-false}
 use Rattle.std.proofs.lemmas.Bool.{or_parts}
 use Rattle.std.specs.List.{slice_index}
 use Rattle.std.specs.Option.{option_map, option_or}
-use Rattle.sf_lex.specs.declared.front.Front.TheVariants as f
+use Rattle.sf_lex.specs.declared.lexeme.Lexeme.TheVariants as f
 use Rattle.sf_lex.specs.declared.token.Kind.{Kind}
 use Rattle.sf_lex.specs.declared.token.Kind.TheVariants as k
-use Rattle.sf_lex.specs.Internal.Lexing.{Stands, begins_comment, begins_number, symbol_front}
+use Rattle.sf_lex.specs.Internal.Lexing.{IsNext, begins_comment, begins_number, symbol_lexeme}
 use Rattle.sf_lex.specs.Lexeme.{is_blank, is_letter, is_digit, is_number, symbol_of_one, symbol_of_two, symbol_of_three, symbol_kind, kind_of}
-use Rattle.sf_lex.specs.Piece.{blank, token, IsFront, is_long_word, is_bad_number}
+use Rattle.sf_lex.specs.Piece.{blank, token, IsLexeme, is_long_word, is_bad_number}
 use Rattle.sf_lex.specs.Reading.{value_of, IsBadByte}
 
 -- the byte begins no word, no existential and no number
@@ -80,8 +80,8 @@ no_value : (kind : Kind) (text : List ℕ) → is_mark (Some kind) ≡ true → 
 no_value k.Number text e = absurd cc
 no_value _ text e = refl
 
-stands : (kind : Kind) (text after : List ℕ) → is_mark (Some kind) ≡ true → IsFront kind text after → Stands (f.Token kind (length text) (pos 0)) (text ++ after)
-stands kind text after m front = record { piece = token kind text; rest = after; spells = refl; each = (front, (in_order kind text after m).0, (in_order kind text after m).1); is = ap (f.Token kind (length text)) (no_value kind text m) }
+stands : (kind : Kind) (text after : List ℕ) → is_mark (Some kind) ≡ true → IsLexeme kind text after → IsNext (f.Token kind (length text) (pos 0)) (text ++ after)
+stands kind text after m lexeme = record { piece = token kind text; rest = after; spells = refl; each = (lexeme, (in_order kind text after m).0, (in_order kind text after m).1); is = ap (f.Token kind (length text)) (no_value kind text m) }
 
 one_short : (b c : ℕ) → symbol_of_three b c 0 ≡ None
 one_short b c = rw (and-false ((b == 124) && (c == 45))) refl
@@ -92,14 +92,14 @@ two_short b d = rw (and-false (b == 124)) refl
 pair_short : (b : ℕ) → symbol_of_two b 0 ≡ None
 pair_short b = rw (and-false (b == 61), and-false (b == 33), and-false (b == 45), and-false (b == 124)) refl
 
-three_stands : (b c d : ℕ) (bs : List ℕ) (kind : Kind) → Apart b (c ∷ d ∷ bs) → symbol_of_three b c d ≡ Some kind → Stands (f.Token kind 3 (pos 0)) (b ∷ c ∷ d ∷ bs)
+three_stands : (b c d : ℕ) (bs : List ℕ) (kind : Kind) → Apart b (c ∷ d ∷ bs) → symbol_of_three b c d ≡ Some kind → IsNext (f.Token kind 3 (pos 0)) (b ∷ c ∷ d ∷ bs)
 three_stands b c d bs kind a e =
     stands kind (b ∷ c ∷ d ∷ []) bs (subst IsMark e (mark_three b c d)).mark (record {
       is = kind_symbol b (c ∷ d ∷ []) bs a ∙ e;
       longest = λ x more after h. kind_symbol b (c ∷ d ∷ x ∷ more) after (subst (λ xs. Apart b (c ∷ d ∷ xs)) h a) ∙ refl;
     })
 
-two_stands : (b c : ℕ) (bs : List ℕ) (kind : Kind) → Apart b (c ∷ bs) → symbol_of_three b c (slice_index bs 0) ≡ None → symbol_of_two b c ≡ Some kind → Stands (f.Token kind 2 (pos 0)) (b ∷ c ∷ bs)
+two_stands : (b c : ℕ) (bs : List ℕ) (kind : Kind) → Apart b (c ∷ bs) → symbol_of_three b c (slice_index bs 0) ≡ None → symbol_of_two b c ≡ Some kind → IsNext (f.Token kind 2 (pos 0)) (b ∷ c ∷ bs)
 two_stands b c bs kind a none e =
     stands kind (b ∷ c ∷ []) bs (subst IsMark e (mark_two b c)).mark (record {
       is = kind_symbol b (c ∷ []) bs a ∙ e;
@@ -110,7 +110,7 @@ two_stands b c bs kind a none e =
     longer x [] after none = none
     longer x (y ∷ more) after none = refl
 
-one_stands : (b : ℕ) (bs : List ℕ) (kind : Kind) → Apart b bs → symbol_of_three b (slice_index bs 0) (slice_index bs 1) ≡ None → symbol_of_two b (slice_index bs 0) ≡ None → symbol_of_one b ≡ Some kind → Stands (f.Token kind 1 (pos 0)) (b ∷ bs)
+one_stands : (b : ℕ) (bs : List ℕ) (kind : Kind) → Apart b bs → symbol_of_three b (slice_index bs 0) (slice_index bs 1) ≡ None → symbol_of_two b (slice_index bs 0) ≡ None → symbol_of_one b ≡ Some kind → IsNext (f.Token kind 1 (pos 0)) (b ∷ bs)
 one_stands b bs kind a no3 no2 e =
     stands kind (b ∷ []) bs (subst IsMark e (mark_one b)).mark (record {
       is = kind_symbol b [] bs a ∙ e;
@@ -146,23 +146,23 @@ choose None None (Some x) kind n e P three two one = let a : Some x ≡ Some kin
 choose None None None kind n e P three two one = absurd cc
 
 -- the symbol that the scanner sees is the longest token
-pub symbol_some : (bs : List ℕ) (kind : Kind) (n : ℕ) → is_letter (slice_index bs 0) ≡ false → (slice_index bs 0 == 95) ≡ false → begins_number bs ≡ false → symbol_front bs ≡ Some (kind, n) → Stands (f.Token kind n (pos 0)) bs
+pub symbol_some : (bs : List ℕ) (kind : Kind) (n : ℕ) → is_letter (slice_index bs 0) ≡ false → (slice_index bs 0 == 95) ≡ false → begins_number bs ≡ false → symbol_lexeme bs ≡ Some (kind, n) → IsNext (f.Token kind n (pos 0)) bs
 symbol_some [] kind n l u d e = absurd cc
 symbol_some (b ∷ []) kind n l u d e =
-    choose (symbol_of_three b 0 0) (symbol_of_two b 0) (symbol_of_one b) kind n e (Stands (f.Token kind n (pos 0)) (b ∷ []))
+    choose (symbol_of_three b 0 0) (symbol_of_two b 0) (symbol_of_one b) kind n e (IsNext (f.Token kind n (pos 0)) (b ∷ []))
     (λ h m. let no : symbol_of_three b 0 0 ≡ None = two_short b 0 in absurd cc)
     (λ _ h m. let no : symbol_of_two b 0 ≡ None = pair_short b in absurd cc)
-    (λ n3 n2 h m. subst (λ i. Stands (f.Token kind i (pos 0)) (b ∷ [])) (sym m) (one_stands b [] kind (apart_of b [] l u d) n3 n2 h))
+    (λ n3 n2 h m. subst (λ i. IsNext (f.Token kind i (pos 0)) (b ∷ [])) (sym m) (one_stands b [] kind (apart_of b [] l u d) n3 n2 h))
 symbol_some (b ∷ c ∷ []) kind n l u d e =
-    choose (symbol_of_three b c 0) (symbol_of_two b c) (symbol_of_one b) kind n e (Stands (f.Token kind n (pos 0)) (b ∷ c ∷ []))
+    choose (symbol_of_three b c 0) (symbol_of_two b c) (symbol_of_one b) kind n e (IsNext (f.Token kind n (pos 0)) (b ∷ c ∷ []))
     (λ h m. let no : symbol_of_three b c 0 ≡ None = one_short b c in absurd cc)
-    (λ n3 h m. subst (λ i. Stands (f.Token kind i (pos 0)) (b ∷ c ∷ [])) (sym m) (two_stands b c [] kind (apart_of b (c ∷ []) l u d) n3 h))
-    (λ n3 n2 h m. subst (λ i. Stands (f.Token kind i (pos 0)) (b ∷ c ∷ [])) (sym m) (one_stands b (c ∷ []) kind (apart_of b (c ∷ []) l u d) n3 n2 h))
+    (λ n3 h m. subst (λ i. IsNext (f.Token kind i (pos 0)) (b ∷ c ∷ [])) (sym m) (two_stands b c [] kind (apart_of b (c ∷ []) l u d) n3 h))
+    (λ n3 n2 h m. subst (λ i. IsNext (f.Token kind i (pos 0)) (b ∷ c ∷ [])) (sym m) (one_stands b (c ∷ []) kind (apart_of b (c ∷ []) l u d) n3 n2 h))
 symbol_some (b ∷ c ∷ x ∷ bs) kind n l u d e =
-    choose (symbol_of_three b c x) (symbol_of_two b c) (symbol_of_one b) kind n e (Stands (f.Token kind n (pos 0)) (b ∷ c ∷ x ∷ bs))
-    (λ h m. subst (λ i. Stands (f.Token kind i (pos 0)) (b ∷ c ∷ x ∷ bs)) (sym m) (three_stands b c x bs kind (apart_of b (c ∷ x ∷ bs) l u d) h))
-    (λ n3 h m. subst (λ i. Stands (f.Token kind i (pos 0)) (b ∷ c ∷ x ∷ bs)) (sym m) (two_stands b c (x ∷ bs) kind (apart_of b (c ∷ x ∷ bs) l u d) n3 h))
-    (λ n3 n2 h m. subst (λ i. Stands (f.Token kind i (pos 0)) (b ∷ c ∷ x ∷ bs)) (sym m) (one_stands b (c ∷ x ∷ bs) kind (apart_of b (c ∷ x ∷ bs) l u d) n3 n2 h))
+    choose (symbol_of_three b c x) (symbol_of_two b c) (symbol_of_one b) kind n e (IsNext (f.Token kind n (pos 0)) (b ∷ c ∷ x ∷ bs))
+    (λ h m. subst (λ i. IsNext (f.Token kind i (pos 0)) (b ∷ c ∷ x ∷ bs)) (sym m) (three_stands b c x bs kind (apart_of b (c ∷ x ∷ bs) l u d) h))
+    (λ n3 h m. subst (λ i. IsNext (f.Token kind i (pos 0)) (b ∷ c ∷ x ∷ bs)) (sym m) (two_stands b c (x ∷ bs) kind (apart_of b (c ∷ x ∷ bs) l u d) n3 h))
+    (λ n3 n2 h m. subst (λ i. IsNext (f.Token kind i (pos 0)) (b ∷ c ∷ x ∷ bs)) (sym m) (one_stands b (c ∷ x ∷ bs) kind (apart_of b (c ∷ x ∷ bs) l u d) n3 n2 h))
 
 record NoSymbol (b c d : ℕ) : Type 0 where
   three : symbol_of_three b c d ≡ None
@@ -195,7 +195,7 @@ none_of b bs (x ∷ text) after a none e =
     ∙ no_text b text after (subst (λ xs. NoSymbol b (slice_index xs 0) (slice_index xs 1)) rest none))
 
 -- where it sees none, the byte begins none token
-pub symbol_none : (bs : List ℕ) → 0 < length bs → is_blank (slice_index bs 0) ≡ false → begins_comment bs ≡ false → is_letter (slice_index bs 0) ≡ false → (slice_index bs 0 == 95) ≡ false → begins_number bs ≡ false → symbol_front bs ≡ None → IsBadByte bs
+pub symbol_none : (bs : List ℕ) → 0 < length bs → is_blank (slice_index bs 0) ≡ false → begins_comment bs ≡ false → is_letter (slice_index bs 0) ≡ false → (slice_index bs 0 == 95) ≡ false → begins_number bs ≡ false → symbol_lexeme bs ≡ None → IsBadByte bs
 symbol_none [] some no_space no_open l u d e = absurd (omega arith)
 symbol_none (b ∷ bs) some no_space no_open l u d e =
     let none : NoSymbol b (slice_index bs 0) (slice_index bs 1) = no_symbols b (slice_index bs 0) (slice_index bs 1) _ _ _ refl refl refl e in
@@ -206,6 +206,6 @@ symbol_none (b ∷ bs) some no_space no_open l u d e =
       no_token = λ text after h. none_of b bs text after (apart_of b bs l u d) none h;
     }
 
-pub blank_stands : (bs : List ℕ) → 0 < length bs → is_blank (slice_index bs 0) ≡ true → Stands (f.Space 1) bs
+pub blank_stands : (bs : List ℕ) → 0 < length bs → is_blank (slice_index bs 0) ≡ true → IsNext (f.Space 1) bs
 blank_stands [] some e = absurd (omega arith)
 blank_stands (b ∷ bs) some e = record { piece = blank b; rest = bs; spells = refl; each = e; is = refl }

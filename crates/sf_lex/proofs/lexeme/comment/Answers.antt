@@ -1,7 +1,7 @@
 use Rattle.std.proofs.Common.{◌≡◌, ◌≤◌, ◌-◌, drop, length, sym, ap, ◌∙◌, refl, length-drop, rules}
 use Rattle.sf_lex.specs.Internal.Lexing.{close_length}
-use Rattle.sf_lex.proofs.CommentFronts.{comment_stands, comment_open, close_within}
-use Rattle.sf_lex.proofs.front.comment.Goals as goal
+use Rattle.sf_lex.proofs.CommentLexemes.{comment_stands, comment_open, close_within}
+use Rattle.sf_lex.proofs.lexeme.comment.Goals as goal
 
 pub overflow_add-result : goal.overflow_add-result
 overflow_add-result c =

@@ -6,8 +6,8 @@ use Rattle.std.proofs.lemmas.Bool.Decides.{nat_tests}
 use Rattle.std.specs.List.{slice_index}
 use Rattle.std.specs.Option.{option_map}
 use Rattle.sf_base.proofs.Options.{option_map-some, option_map-none}
-use Rattle.sf_lex.specs.declared.front.Front.TheVariants as f
-use Rattle.sf_lex.specs.Internal.Lexing.{Stands, begins_comment, close_length}
+use Rattle.sf_lex.specs.declared.lexeme.Lexeme.TheVariants as f
+use Rattle.sf_lex.specs.Internal.Lexing.{IsNext, begins_comment, close_length}
 use Rattle.sf_lex.specs.Piece.{comment, has_close}
 use Rattle.sf_lex.specs.Reading.{IsOpenComment}
 
@@ -79,7 +79,7 @@ opens_so (b ∷ c ∷ bs) e =
     let second : c ≡ 42 = grind (arith, nat_tests) in
     cc
 
-pub comment_stands : (bs : List ℕ) (n : ℕ) → begins_comment bs ≡ true → close_length (drop 2 bs) ≡ Some n → Stands (f.Space (2 + n)) bs
+pub comment_stands : (bs : List ℕ) (n : ℕ) → begins_comment bs ≡ true → close_length (drop 2 bs) ≡ Some n → IsNext (f.Space (2 + n)) bs
 comment_stands bs n e h =
     let k : Closes (drop 2 bs) n = close_some (drop 2 bs) n h in
     record {

@@ -2,7 +2,7 @@ ghost use Rattle.std.specs.Prelude.{◌≡◌, ◌<◌, ◌≤◌, ◌∷◌, tr
 ghost use Rattle.std.specs.List.{prefix_len};
 ghost use Rattle.std.specs.Str.{IsAscii};
 ghost use Rattle.std.specs.Str.Parse.{IsNumeral, without_leading_sign, signed_digits_value};
-ghost use Rattle.sf_lex.specs.Internal.Lexing.{Stands, begins_comment, begins_number, close_length, number_length, word_length};
+ghost use Rattle.sf_lex.specs.Internal.Lexing.{IsNext, begins_comment, begins_number, close_length, number_length, word_length};
 ghost use Rattle.sf_lex.specs.Lexeme.{is_blank, is_digit, is_letter, is_word_byte};
 ghost use Rattle.sf_lex.specs.Piece.{fits, is_long_word};
 ghost use Rattle.sf_lex.specs.Reading.{IsFaultAt};
@@ -15,9 +15,9 @@ use sf_base::Place;
 use sf_base::limits::NAME_BYTES;
 use std::str;
 
-/// What is at the front of the bytes that are left.
+/// What is next in the bytes that are left.
 #[derive(Clone, Copy, Debug, PartialEq, Eq)]
-pub enum Front {
+pub enum Lexeme {
     /// A blank or a comment of that many bytes.
     Space(usize),
     /// A token of that many bytes, and what it writes where it is a number, else 0.
@@ -38,7 +38,7 @@ fn is_word_byte(byte: u8) -> bool
     byte.is_ascii_alphanumeric() || byte == b'_'
 }
 
-/// How many bytes at the front may occur in a word.
+/// How many bytes next may occur in a word.
 fn word_length(bytes: &[u8]) -> usize
     ensures length { result ≡ word_length bytes.now }
     ensures within { result ≤ length bytes.now }
@@ -46,7 +46,7 @@ fn word_length(bytes: &[u8]) -> usize
     bytes.iter().take_while(|byte| is_word_byte(**byte)).count()
 }
 
-/// How many digits are at the front.
+/// How many digits are next.
 fn digits(bytes: &[u8]) -> usize
     ensures length { result ≡ prefix_len is_digit bytes.now }
     ensures within { result ≤ length bytes.now }
@@ -75,7 +75,7 @@ fn begins_number(bytes: &[u8]) -> bool
     }
 }
 
-/// How long the number at the front is.
+/// How long the number next is.
 fn number_length(bytes: &[u8]) -> usize
     ensures length { result ≡ number_length bytes.now }
     ensures within { result ≤ length bytes.now }
@@ -122,14 +122,14 @@ fn value(text: &[u8]) -> Option<i64>
     }
 }
 
-/// The comment at the front.
-fn comment(place: Place, bytes: &[u8]) -> Result<Front, LexFault>
+/// The comment next.
+fn comment(place: Place, bytes: &[u8]) -> Result<Lexeme, LexFault>
     requires { begins_comment bytes.now ≡ true }
-    ensures { MatchResult result (λ front. Stands front bytes.now)
+    ensures { MatchResult result (λ lexeme. IsNext lexeme bytes.now)
         (λ fault. IsFaultAt fault bytes.now place) }
 {
     match close_length(from_index(bytes, 2)) {
-        Some(length) => Ok(Front::Space(2 + length)),
+        Some(length) => Ok(Lexeme::Space(2 + length)),
         None => Err(LexFault::OpenComment(place)),
     }
 }
@@ -144,11 +144,11 @@ fn is_long_word(kind: Kind, bytes: usize) -> bool
     }
 }
 
-/// The name or reserved word at the front.
-fn word(place: Place, bytes: &[u8]) -> Result<Front, LexFault>
+/// The name or reserved word next.
+fn word(place: Place, bytes: &[u8]) -> Result<Lexeme, LexFault>
     requires some { 0 < length bytes.now }
     requires letter { is_letter (slice_index bytes.now 0) ≡ true }
-    ensures { MatchResult result (λ front. Stands front bytes.now)
+    ensures { MatchResult result (λ lexeme. IsNext lexeme bytes.now)
         (λ fault. IsFaultAt fault bytes.now place) }
 {
     let length = word_length(bytes);
@@ -156,14 +156,14 @@ fn word(place: Place, bytes: &[u8]) -> Result<Front, LexFault>
     if is_long_word(kind, length) {
         return Err(LexFault::LongWord(place));
     }
-    Ok(Front::Token(kind, length, 0))
+    Ok(Lexeme::Token(kind, length, 0))
 }
 
-/// The existential at the front, or the lone `_`.
-fn existential(place: Place, bytes: &[u8]) -> Result<Front, LexFault>
+/// The existential next, or the lone `_`.
+fn existential(place: Place, bytes: &[u8]) -> Result<Lexeme, LexFault>
     requires some { 0 < length bytes.now }
     requires underscore { slice_index bytes.now 0 ≡ 95 }
-    ensures { MatchResult result (λ front. Stands front bytes.now)
+    ensures { MatchResult result (λ lexeme. IsNext lexeme bytes.now)
         (λ fault. IsFaultAt fault bytes.now place) }
 {
     let length = word_length(bytes);
@@ -173,7 +173,7 @@ fn existential(place: Place, bytes: &[u8]) -> Result<Front, LexFault>
     if is_long_word(Kind::Existential, length) {
         return Err(LexFault::LongWord(place));
     }
-    Ok(Front::Token(Kind::Existential, length, 0))
+    Ok(Lexeme::Token(Kind::Existential, length, 0))
 }
 
 /// The number of so many bytes, unless it is outside 64 bits or directly before a letter or
@@ -193,27 +193,27 @@ fn good_number(bytes: &[u8], end: usize) -> Option<i64>
     Some(value)
 }
 
-/// The number at the front.
-fn number(place: Place, bytes: &[u8]) -> Result<Front, LexFault>
+/// The number next.
+fn number(place: Place, bytes: &[u8]) -> Result<Lexeme, LexFault>
     requires { begins_number bytes.now ≡ true }
-    ensures { MatchResult result (λ front. Stands front bytes.now)
+    ensures { MatchResult result (λ lexeme. IsNext lexeme bytes.now)
         (λ fault. IsFaultAt fault bytes.now place) }
 {
     let length = number_length(bytes);
     match good_number(bytes, length) {
-        Some(value) => Ok(Front::Token(Kind::Number, length, value)),
+        Some(value) => Ok(Lexeme::Token(Kind::Number, length, value)),
         None => Err(LexFault::BadNumber(place)),
     }
 }
 
-/// What is at the front.
-pub fn look(place: Place, bytes: &[u8]) -> Result<Front, LexFault>
+/// What is next.
+pub fn next_lexeme(place: Place, bytes: &[u8]) -> Result<Lexeme, LexFault>
     requires { 0 < length bytes.now }
-    ensures { MatchResult result (λ front. Stands front bytes.now)
+    ensures { MatchResult result (λ lexeme. IsNext lexeme bytes.now)
         (λ fault. IsFaultAt fault bytes.now place) }
 {
     if is_blank(bytes[0]) {
-        return Ok(Front::Space(1));
+        return Ok(Lexeme::Space(1));
     }
     if begins_comment(bytes) {
         return comment(place, bytes);
@@ -228,7 +228,7 @@ pub fn look(place: Place, bytes: &[u8]) -> Result<Front, LexFault>
         return number(place, bytes);
     }
     match symbol(bytes) {
-        Some((kind, length)) => Ok(Front::Token(kind, length, 0)),
+        Some((kind, length)) => Ok(Lexeme::Token(kind, length, 0)),
         None => Err(LexFault::BadByte(place)),
     }
 }

@@ -1,7 +1,7 @@
 use Rattle.std.proofs.Common.{◌≡◌, ◌+◌, drop}
 use Rattle.std.specs.Option.{option_map}
 use Rattle.sf_lex.specs.Internal.Lexing.{close_length}
-use Rattle.sf_lex.proofs.front.close_length.Given as goal
+use Rattle.sf_lex.proofs.lexeme.close_length.Given as goal
 
 -- what the bytes that are left tell, with the bytes before them, is what all tell
 abbrev pub invariant-loop-i : goal.invariant-loop-i
