@@ -247,6 +247,7 @@ mod tests {
     use super::*;
     use crate::atom::Numbered;
     use Shape::{Cell, Ls, Tree};
+    use sf_base::FieldId;
     use std::alloc::{AllocError, Global};
 
     const NIL: Term = Term::Nil;
