@@ -1,6 +1,7 @@
 -- The machine: its configurations and steps, what is bad, where a procedure starts, and what is good.
 -- One module for each.
 pub mod Config
+pub mod Next
 pub mod Step
 pub mod Reach
 pub mod Enabled

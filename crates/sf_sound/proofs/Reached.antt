@@ -10,7 +10,8 @@ use Rattle.sf_base.specs.declared.place.Place.{Place}
 use Rattle.sf_base.specs.declared.value.Value.{Value}
 use Rattle.sf_base.specs.declared.value.Value.TheVariants.{Nil as nil, Loc as loc}
 use Rattle.sf_core.specs.declared.command.Expr.{Expr}
-use Rattle.sf_core.specs.Machine.Bad.{command_root, next_root, IsAbsent, TouchesAbsent, Races}
+use Rattle.sf_core.specs.Machine.Bad.{IsAbsent, TouchesNoCell, IsAtNoCell, TouchesAbsent, Races}
+use Rattle.sf_core.specs.Machine.Next.{frame_next, next}
 use Rattle.sf_core.specs.Machine.Config.{Item, command, leave, Fixed, Frame, Task, runs, Path, Common, Config, evaluate, task_at, put_task, IsCalled}
 use Rattle.sf_core.specs.Machine.Enabled.{HasEnded}
 use Rattle.sf_core.specs.Program.Formed.{IsFormed}
@@ -24,7 +25,6 @@ use Rattle.sf_core.specs.Assertions.Sat.{Sat}
 use Rattle.sf_core.proofs.Machine.GoodParts.{good-by_parts}
 use Rattle.sf_base.proofs.HeapSplits.{star-empty_left, star-empty_right, star-map_right}
 use Rattle.sf_base.proofs.Sums.{either}
-use Rattle.sf_base.proofs.Lists.{cons-parts}
 use Rattle.sf_sound.specs.Laws.{value_at, heap_with_cell}
 use Rattle.sf_sound.proofs.Owns.{Owns, Next, owns-command, owns-leave, owns-end}
 
@@ -94,7 +94,7 @@ step-command p ev s fixed c rest t u f n d = absurd n
 step-goes : (p : Program) (ev : Event) (s : Common) (fixed : Fixed) (todo : List Item) (t : Common)
     (u : Task) (f : Procedure)
     → ev.task ≡ []
-    → Owns f todo (values_in fixed s) s.heap → Goes p ev s fixed [] todo t u → GoesOn f fixed t u
+    → Owns f todo (values_in fixed s) s.heap → Goes p ev s (frame_next fixed [] todo) t u → GoesOn f fixed t u
 step-goes p ev s fixed [] t u f top o g = absurd (subst (λ z. IsCalled z []) top g.0)
 step-goes p ev s fixed (command c ∷ rest) t u f top o g =
     step-command p ev s fixed c rest t u f (owns-command f c rest (values_in fixed s) s.heap o) g
@@ -138,45 +138,25 @@ present : (heap : Heap) (v : Value) (location : ℕ) (here : Cell) → v ≡ loc
 present heap v location here i j a = let k : heap location ≡ None = subst (IsAbsent heap) i a in absurd (cc)
 
 touch-command : (f : Procedure) (c : Command) (todo : List Item) (e : Var → Option Value) (heap : Heap)
-    (root : Expr)
-    → Next f c todo e heap → command_root c ≡ Some root → IsAbsent heap (value_at e root) → ⊥
-touch-command f (mutate p x field value) todo e heap root n r a =
-    let i : x ≡ root = cc in
-    present heap (value_at e x) n.0 n.1 n.2.is n.2.there (subst (λ z. IsAbsent heap (value_at e z)) (sym i) a)
-touch-command f c todo e heap root n r a = n
+    → Next f c todo e heap → TouchesNoCell (value_at e) heap c → ⊥
+touch-command f (mutate p x field value) todo e heap n a =
+    present heap (value_at e x) n.0 n.1 n.2.is n.2.there a
+touch-command f c todo e heap n a = n
 
-touch-next : (f : Procedure) (todo : List Item) (e : Var → Option Value) (heap : Heap) (root : Expr)
-    → Owns f todo e heap → next_root todo ≡ Some root → IsAbsent heap (value_at e root) → ⊥
-touch-next f [] e heap root o r a = absurd (cc)
-touch-next f (command c ∷ todo) e heap root o r a =
-    touch-command f c todo e heap root (owns-command f c todo e heap o) r a
-touch-next f (leave r ∷ todo) e heap root o i a = absurd (cc)
-
--- a task that is there is the entry's frame
-record IsEntry (o : Frame) (frame : Frame) (below : List Frame) (path : Path) : Type 0 where
-  top : path ≡ []
-  frame_is : frame ≡ o
-  nothing_below : below ≡ []
-
-frames-are : (fs gs : List Frame) → runs fs ≡ runs gs → fs ≡ gs
-frames-are fs gs e = cc
-
-entry-is : (mine frame : Frame) (below : List Frame) (path : Path) (t : Task) → t ≡ runs (mine ∷ [])
-    → task_at path t ≡ Some (runs (frame ∷ below)) → IsEntry mine frame below path
-entry-is mine frame below path t alone there =
-    let a = alone-at path (mine ∷ []) (runs (frame ∷ below))
-    (subst (λ z. task_at path z ≡ Some (runs (frame ∷ below))) alone there) in
-    let e = cons-parts frame mine below [] (frames-are (frame ∷ below) (mine ∷ []) a.same) in
-    record { top = a.top; frame_is = e.0; nothing_below = e.1 }
+touch-next : (f : Procedure) (fixed : Fixed) (todo : List Item) (s : Common)
+    → Owns f todo (values_in fixed s) s.heap → IsAtNoCell s (frame_next fixed [] todo) → ⊥
+touch-next f fixed [] s o a = a
+touch-next f fixed (command c ∷ todo) s o a =
+    touch-command f c todo (values_in fixed s) s.heap (owns-command f c todo (values_in fixed s) s.heap o) a
+touch-next f fixed (leave r ∷ todo) s o a = a
 
 good-touches : (p : Program) (c : Config) → IsOwned p c → TouchesAbsent c → ⊥
 good-touches p c o b =
-    let mine : Frame = record { fixed = o.fixed; todo = o.todo } in
-    let e = entry-is mine b.frame b.below b.path c.tasks o.alone b.enabled.there in
-    touch-next o.procedure o.todo (values_in o.fixed c.common) c.common.heap b.root o.owns
-    (subst (λ (z : Frame). next_root z.todo ≡ Some b.root) e.frame_is b.touches)
-    (subst (λ (z : Frame). IsAbsent c.common.heap (evaluate z.fixed.slots c.common.store b.root)) e.frame_is
-    b.absent)
+    let mine : List Frame = record { fixed = o.fixed; todo = o.todo } ∷ [] in
+    let a = alone-at b.path mine b.task
+    (subst (λ z. task_at b.path z ≡ Some b.task) o.alone b.enabled.there) in
+    touch-next o.procedure o.fixed o.todo c.common o.owns
+    (subst (λ z. IsAtNoCell c.common (next z)) a.same b.absent)
 
 good-races : (p : Program) (c : Config) → IsOwned p c → Races c → ⊥
 good-races p c o b =

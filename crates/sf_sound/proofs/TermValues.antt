@@ -1,6 +1,6 @@
 -- The term of an expression has the expression's value, where a goal holds.
 -- Names: `listed-LAW` and `unlisted-LAW` speak of variables with and without a term.
-use Rattle.std.specs.Prelude.{◌≡◌, ℕ, ◌==◌, Bool, true, false, ◌||◌, cond, Option, Some, None, List, [], ◌∷◌, is_some}
+use Rattle.std.specs.Prelude.{◌≡◌, ℕ, Bool, true, false, ◌||◌, cond, Option, Some, None, List, [], ◌∷◌, is_some}
 use Rattle.std.specs.Option.{unwrap_or}
 use Rattle.std.proofs.Common.{refl, sym, ap, ◌∙◌}
 use Rattle.sf_base.specs.declared.ids.Var.{Var}

@@ -1,13 +1,14 @@
 -- That an event leads to one configuration alone.
 -- Names: `WHAT-unique`.
-use Rattle.std.specs.Prelude.{◌≡◌, ℕ, List, [], ◌∷◌, Some, None}
+use Rattle.std.specs.Prelude.{◌≡◌, ℕ, List, ◌∷◌, Some, None}
 use Rattle.std.proofs.Common.{sym, ap, ap₂, ◌∙◌, subst, inl, inr}
 use Rattle.sf_base.proofs.Options.{some-once}
 use Rattle.sf_base.proofs.Equality.{same-by}
 use Rattle.sf_base.specs.declared.value.Value.{Value}
 use Rattle.sf_core.specs.declared.assertion.Test.{Test}
 use Rattle.sf_core.specs.declared.command.Expr.{Expr}
-use Rattle.sf_core.specs.Machine.Config.{Item, command, leave, Fixed, Frame, Task, runs, waits, Common, Config, evaluate, put_task}
+use Rattle.sf_core.specs.Machine.Config.{Item, Fixed, Frame, Task, runs, Common, Config, evaluate, put_task}
+use Rattle.sf_core.specs.Machine.Next.{Next, does, leaves, returns, joins, nothing, next}
 use Rattle.sf_base.specs.HeapStore.{Cell, put_field, Heap}
 use Rattle.sf_core.specs.Machine.Step.{Event, set_slot, set_cell, open_room, room_count, room_for, arguments, callee_frame, fork_task, Finds, Chooses, Does, Goes, TaskStep, Step}
 use Rattle.sf_core.specs.Program.Syntax.{Command, assign, look_up, mutate, new, dispose, if, while, call, fork, with, Procedure, Program}
@@ -70,18 +71,13 @@ does-unique p ev s t w f below (fork place c e) rest u v d h =
     )
 does-unique p ev s t w f below (with place r test body) rest u v d h = (d.2 ∙ sym h.2, d.3 ∙ sym h.3)
 
-goes-unique : (p : Program) (ev : Event) (s t w : Common) (f : Fixed) (below : List Frame) (todo : List Item)
-    (u v : Task)
-    → Goes p ev s f below todo t u → Goes p ev s f below todo w v → (t ≡ w) × (u ≡ v)
-goes-unique p ev s t w f below [] u v d h = (d.1 ∙ sym h.1, d.2 ∙ sym h.2)
-goes-unique p ev s t w f below (command c ∷ rest) u v d h = does-unique p ev s t w f below c rest u v d h
-goes-unique p ev s t w f below (leave r ∷ rest) u v d h = (d.1 ∙ sym h.1, d.2 ∙ sym h.2)
-
-task-unique : (p : Program) (ev : Event) (s t w : Common) (from u v : Task) → TaskStep p ev s from t u
-    → TaskStep p ev s from w v → (t ≡ w) × (u ≡ v)
-task-unique p ev s t w (runs []) u v d h = absurd d
-task-unique p ev s t w (runs (f ∷ below)) u v d h = goes-unique p ev s t w f.fixed below f.todo u v d h
-task-unique p ev s t w (waits frames one two) u v d h = (d.2 ∙ sym h.2, d.3 ∙ sym h.3)
+goes-unique : (p : Program) (ev : Event) (s t w : Common) (n : Next) (u v : Task) → Goes p ev s n t u
+    → Goes p ev s n w v → (t ≡ w) × (u ≡ v)
+goes-unique p ev s t w (does f below c rest) u v d h = does-unique p ev s t w f below c rest u v d h
+goes-unique p ev s t w (leaves f below r rest) u v d h = (d.1 ∙ sym h.1, d.2 ∙ sym h.2)
+goes-unique p ev s t w (returns f below) u v d h = (d.1 ∙ sym h.1, d.2 ∙ sym h.2)
+goes-unique p ev s t w (joins frames one two) u v d h = (d.2 ∙ sym h.2, d.3 ∙ sym h.3)
+goes-unique p ev s t w nothing u v d h = absurd d
 
 -- an event leads to at most one configuration
 pub step-unique : (p : Program) (event : Event) (c d e : Config) → Step p event c d → Step p event c e → d ≡ e
@@ -89,7 +85,7 @@ step-unique p event c d e s r =
     let same : r.from ≡ s.from = some-once _ r.from s.from r.there s.there in
     let steps : TaskStep p event c.common s.from e.common r.to =
     subst (λ z. TaskStep p event c.common z e.common r.to) same r.steps in
-    let both = task-unique p event c.common d.common e.common s.from s.to r.to s.steps steps in
+    let both = goes-unique p event c.common d.common e.common (next s.from) s.to r.to s.steps steps in
     let used : d.used ≡ e.used = s.used ∙ sym r.used in
     let tasks : d.tasks ≡ e.tasks =
     same-by s.tasks r.tasks (ap (λ z. put_task event.task z c.tasks) both.1) in

@@ -17,10 +17,11 @@ use Rattle.sf_base.proofs.HeapSplits.{at-self}
 use Rattle.sf_core.proofs.Machine.Steps.{cell-at}
 use Rattle.sf_core.proofs.Assertions.Sat.{test-agree}
 use Rattle.sf_base.proofs.StoreSplits.{slot-self}
-use Rattle.sf_core.specs.Machine.Config.{Item, command, leave, Room, in_room, Fixed, Frame, Task, runs, waits, Path, Common, Config, evaluate, task_at, put_task}
-use Rattle.sf_core.specs.Machine.Enabled.{Thing, variable, cell, IsInRoom, ReadsExpr, ReadsTest, ReadsAll, IsCellAt, CommandReads, CommandWrites, FrameReads, FrameWrites, Reads, Writes}
+use Rattle.sf_core.specs.Machine.Config.{Item, Room, in_room, Fixed, Frame, Task, Path, Common, Config, evaluate, task_at, put_task, adds}
+use Rattle.sf_core.specs.Machine.Next.{Next, does, leaves, returns, joins, nothing, next}
+use Rattle.sf_core.specs.Machine.Enabled.{Thing, variable, cell, IsInRoom, ReadsExpr, ReadsTest, ReadsAll, IsCellAt, CommandReads, CommandWrites, Reads, Writes}
 use Rattle.sf_base.specs.HeapStore.{Cell, put_field, Slot, same_slot, Store}
-use Rattle.sf_core.specs.Machine.Laws.{CommandMakes, FrameMakes, Makes, AgreeOn, AgreesOnReads, AgreesAfter}
+use Rattle.sf_core.specs.Machine.Laws.{CommandMakes, Makes, AgreeOn, AgreesOnReads, AgreesAfter}
 use Rattle.sf_core.specs.Assertions.Occurs.{OccursInTest}
 use Rattle.sf_core.specs.Assertions.Sat.{IsTrueOf}
 use Rattle.sf_core.specs.Machine.Step.{Event, set_slot, set_cell, set_holder, open_room, close_room, room_count, room_for, arguments, Finds, Chooses, Does, Goes, TaskStep, Step}
@@ -325,22 +326,13 @@ module _ (p : Program) (ev : Event) (s o : Common) where
     }),
   )
 
-  frame-local : (f : Fixed) (below : List Frame) (todo : List Item) (t : Common) (u : Task)
-      → Finding (FrameReads f.slots s.store todo)
-      (λ thing. FrameWrites f s.store todo thing ⊎ FrameMakes p ev todo thing) → Goes p ev s f below todo t u
-      → (w : Common) × Goes p ev o f below todo w u
-      × Agrees (λ thing. FrameWrites f s.store todo thing ⊎ FrameMakes p ev todo thing) t w
-  frame-local f below [] t u h d = (
-    _,
-    (d.0, refl, d.2),
-    subst (λ z. Agrees (λ thing. IsInRoom f.room thing ⊎ ⊥) z (close_room f.room o)) (sym d.1) (record {
-      things = λ thing i. close_room-agree s o f.room thing
-          (elim i [ inl j ↦ elim j [ inl k ↦ inl k | inr k ↦ absurd k ] | inr y ↦ inr y ]);
-      holders = h.holders;
-    }),
-  )
-  frame-local f below (command c ∷ rest) t u h d = command-local f below c rest t u h d
-  frame-local f below (leave r ∷ rest) t u h d = (
+  next-local : (n : Next) (t : Common) (u : Task)
+      → Finding (Reads s.store n) (λ thing. Writes s.store n thing ⊎ Makes p ev n thing)
+      → Goes p ev s n t u
+      → (w : Common) × Goes p ev o n w u
+      × Agrees (λ thing. Writes s.store n thing ⊎ Makes p ev n thing) t w
+  next-local (does f below c rest) t u h d = command-local f below c rest t u h d
+  next-local (leaves f below r rest) t u h d = (
     _,
     (sym (h.holders r) ∙ d.0, refl, d.2),
     subst (λ z. Agrees (λ thing. ⊥ ⊎ ⊥) z (set_holder r None o)) (sym d.1) (record {
@@ -351,29 +343,31 @@ module _ (p : Program) (ev : Event) (s o : Common) where
       holders = holder-agree s o r None h.holders;
     }),
   )
-
-  task-local : (task : Task) (t : Common) (u : Task)
-      → Finding (Reads s.store task) (λ thing. Writes s.store task thing ⊎ Makes p ev task thing)
-      → TaskStep p ev s task t u
-      → (w : Common) × TaskStep p ev o task w u
-      × Agrees (λ thing. Writes s.store task thing ⊎ Makes p ev task thing) t w
-  task-local (runs []) t u h d = absurd d
-  task-local (runs (f ∷ below)) t u h d = frame-local f.fixed below f.todo t u h d
-  task-local (waits frames one two) t u h d =
+  next-local (returns f below) t u h d = (
+    _,
+    (d.0, refl, d.2),
+    subst (λ z. Agrees (λ thing. IsInRoom f.room thing ⊎ ⊥) z (close_room f.room o)) (sym d.1) (record {
+      things = λ thing i. close_room-agree s o f.room thing
+          (elim i [ inl j ↦ elim j [ inl k ↦ inl k | inr k ↦ absurd k ] | inr y ↦ inr y ]);
+      holders = h.holders;
+    }),
+  )
+  next-local (joins frames one two) t u h d =
       (o, (d.0, d.1, refl, d.3), same-agrees _ t d.2 (λ thing i. elim i [ inl x ↦ x | inr y ↦ y ]) h.holders)
+  next-local nothing t u h d = absurd d
 
 -- a step rests on what it reads, on the cells that it writes or makes, and on the holders
 pub step-local : (p : Program) (event : Event) (c d : Config) (task : Task) (other : Common)
-    → Step p event c d → task_at event.task c.tasks ≡ Some task → AgreesOnReads p event task c.common other
+    → Step p event c d → task_at event.task c.tasks ≡ Some task → AgreesOnReads p event (next task) c.common other
     → (e : Config) × Step p event (record c { common = other }) e × (e.tasks ≡ d.tasks)
-    × AgreesAfter p event task c.common other d.common e.common
+    × AgreesAfter p event (next task) c.common other d.common e.common
 step-local p event c d task other s e finds =
     let same : s.from ≡ task = cc (s.there, e) in
     let steps : TaskStep p event c.common task d.common s.to =
     subst (λ z. TaskStep p event c.common z d.common s.to) same s.steps in
-    let r = task-local p event c.common other task d.common s.to
+    let r = next-local p event c.common other (next task) d.common s.to
     (record { read = finds.read; cells = finds.cells; holders = finds.holders }) steps in (
-      record { common = r.0; used = event.number ∷ c.used; tasks = put_task event.task s.to c.tasks },
+      record { common = r.0; used = adds event.number c.used; tasks = put_task event.task s.to c.tasks },
       record { fresh = s.fresh; used = refl; from = task; to = s.to; there = e; steps = r.1; tasks = refl },
       sym s.tasks,
       record { things = r.2.things; holders = r.2.holders },

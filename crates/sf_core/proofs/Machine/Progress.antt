@@ -1,6 +1,6 @@
 -- That an enabled task steps, unless something named keeps it.
 -- Names: `WHAT-or_stop` gives the step or what keeps it, `WHAT-stopped` that there is none, `WHAT-or_not` decides.
-use Rattle.std.specs.Prelude.{◌≡◌, ◌≢◌, ℕ, List, [], ◌∷◌, Option, Some, None, ◌⊎◌, length}
+use Rattle.std.specs.Prelude.{◌≡◌, ◌≢◌, ℕ, false, List, [], ◌∷◌, Option, Some, None, ◌⊎◌, length}
 use Rattle.std.proofs.Common.{sym, ap, ◌∙◌, refl, subst, inl, inr, arith}
 use Rattle.std.proofs.lemmas.Bool.{cases_lt}
 use Rattle.sf_base.proofs.Options.{some-none, some-or_none}
@@ -10,14 +10,15 @@ use Rattle.sf_base.specs.declared.value.Value.{Value}
 use Rattle.sf_base.specs.declared.value.Value.TheVariants.{Nil as nil, Int as int, Loc as loc}
 use Rattle.sf_core.specs.declared.command.Expr.{Expr}
 use Rattle.sf_core.specs.Machine.Bad.{IsAbsent}
-use Rattle.sf_core.specs.Machine.Config.{Item, command, leave, Fixed, Frame, Task, runs, waits, Path, Common, Config, evaluate, task_at, put_task, IsUsed, IsCalled}
-use Rattle.sf_core.specs.Machine.Enabled.{HasEnded, IsShut, IsEnabled, Thing, cell}
+use Rattle.sf_core.specs.Machine.Config.{Item, Fixed, Frame, Task, Path, Common, Config, evaluate, task_at, put_task, adds}
+use Rattle.sf_core.specs.Machine.Next.{Next, does, leaves, returns, joins, nothing, next}
+use Rattle.sf_core.specs.Machine.Enabled.{IsShut, IsBlocked, IsEnabled, Thing, cell}
 use Rattle.sf_base.specs.HeapStore.{Cell, Heap}
-use Rattle.sf_core.specs.Machine.Laws.{CommandMakes, FrameMakes, Makes, CommandStops, FrameStops, Stops}
+use Rattle.sf_core.specs.Machine.Laws.{CommandMakes, Makes, CommandStops, Stops}
 use Rattle.sf_core.specs.Machine.Step.{Event, procedure_at, Finds, Does, Goes, TaskStep, Step}
 use Rattle.sf_core.specs.Program.Syntax.{Command, assign, look_up, mutate, new, dispose, if, while, call, fork, with, Program}
 use Rattle.sf_core.proofs.Assertions.Sat.{test-which}
-use Rattle.sf_core.proofs.Machine.Tasks.{enabled-may_go}
+use Rattle.sf_core.proofs.Machine.Tasks.{CanGo, enabled-can_go}
 
 -- whether two paths are the same
 pub path-or_not : (path other : Path) → (path ≡ other) ⊎ (path ≢ other)
@@ -69,8 +70,8 @@ module _ (p : Program) (ev : Event) (c : Config) where
   MayMake made = (location : ℕ) → made (cell location) → (location ≢ 0) × (c.common.heap location ≡ None)
 
   command-or_stop : (f : Fixed) (below : List Frame) (one : Command) (rest : List Item)
-      → (IsShut c.common.held (command one ∷ rest) → ⊥) → MayMake (CommandMakes p ev one)
-      → ((t : Common) × (u : Task) × Does p ev c.common f below one rest t u) ⊎ CommandStops p ev.task c f one
+      → (IsShut c.common.held one → ⊥) → MayMake (CommandMakes p ev one)
+      → ((t : Common) × (u : Task) × Does p ev c.common f below one rest t u) ⊎ CommandStops p ev.task c.common f one
   command-or_stop f below (assign place x e) rest s z = inl (_, _, (refl, refl))
   command-or_stop f below (look_up place x e g) rest s z =
       elim (finds-or_not (evaluate f.slots c.common.store) c.common.heap e)
@@ -104,37 +105,23 @@ module _ (p : Program) (ev : Event) (c : Config) where
       elim (test-which (evaluate f.slots c.common.store) test)
       [ inl h ↦ inl (_, _, (free-of_open (c.common.held r) s, h, refl, refl)) | inr h ↦ inr h ]
 
-  frame-or_stop : (f : Fixed) (below : List Frame) (todo : List Item) → (IsShut c.common.held todo → ⊥)
-      → (todo ≡ [] → IsCalled ev.task below) → MayMake (FrameMakes p ev todo)
-      → ((t : Common) × (u : Task) × Goes p ev c.common f below todo t u) ⊎ FrameStops p ev.task c f todo
-  frame-or_stop f below [] s k z = inl (_, _, (k refl, refl, refl))
-  frame-or_stop f below (command one ∷ rest) s k z = command-or_stop f below one rest s z
-  frame-or_stop f below (leave r ∷ rest) s k z =
+  next-or_stop : (n : Next) → (IsBlocked c.common.held n → ⊥) → CanGo ev.task n → MayMake (Makes p ev n)
+      → ((t : Common) × (u : Task) × Goes p ev c.common n t u) ⊎ Stops p ev.task c.common n
+  next-or_stop (does f below one rest) b k z = command-or_stop f below one rest b z
+  next-or_stop (leaves f below r rest) b k z =
       elim (holder-or_not (c.common.held r) ev.task) [ inl h ↦ inl (_, _, (h, refl, refl)) | inr h ↦ inr h ]
-
-  -- a frame that is used up is returned from, unless the task has ended
-  called-or_ended : (path : Path) (f : Frame) (below : List Frame) → (HasEnded path (runs (f ∷ below)) → ⊥)
-      → f.todo ≡ [] → IsCalled path below
-  called-or_ended [] f [] n e = absurd (n e)
-  called-or_ended [] f (g ∷ below) n e = tt
-  called-or_ended (turn ∷ path) f below n e = tt
-
-  task-or_stop : (task : Task) → IsEnabled c ev.task task → MayMake (Makes p ev task)
-      → ((t : Common) × (u : Task) × TaskStep p ev c.common task t u) ⊎ Stops p ev.task c task
-  task-or_stop (runs []) e z = absurd (e.going tt)
-  task-or_stop (runs (f ∷ below)) e z =
-      frame-or_stop f.fixed below f.todo e.free (called-or_ended ev.task f below e.going) z
-  task-or_stop (waits frames one two) e z = let m =
-      enabled-may_go c ev.task (waits frames one two) e in inl (_, _, (m.0, m.1, refl, refl))
+  next-or_stop (returns f below) b k z = inl (_, _, (k, refl, refl))
+  next-or_stop (joins frames one two) b k z = inl (_, _, (k.0, k.1, refl, refl))
+  next-or_stop nothing b k z = absurd k
 
   -- an enabled task steps, unless something named keeps it
-  pub enabled-or_stop : (task : Task) → IsEnabled c ev.task task → (IsUsed c.used ev.number → ⊥)
-      → MayMake (Makes p ev task)
-      → ((d : Config) × Step p ev c d) ⊎ Stops p ev.task c task
+  pub enabled-or_stop : (task : Task) → IsEnabled c ev.task task → c.used ev.number ≡ false
+      → MayMake (Makes p ev (next task))
+      → ((d : Config) × Step p ev c d) ⊎ Stops p ev.task c.common (next task)
   enabled-or_stop task e fresh z =
-      elim (task-or_stop task e z) [
+      elim (next-or_stop (next task) e.free (enabled-can_go c ev.task task e) z) [
         | inl k ↦ inl (
-          record { common = k.0; used = ev.number ∷ c.used; tasks = put_task ev.task k.1 c.tasks },
+          record { common = k.0; used = adds ev.number c.used; tasks = put_task ev.task k.1 c.tasks },
           record {
             fresh = fresh;
             used = refl;
@@ -149,7 +136,7 @@ module _ (p : Program) (ev : Event) (c : Config) where
       ]
 
   command-stopped : (f : Fixed) (below : List Frame) (one : Command) (rest : List Item) (t : Common)
-      (u : Task) → CommandStops p ev.task c f one → Does p ev c.common f below one rest t u → ⊥
+      (u : Task) → CommandStops p ev.task c.common f one → Does p ev c.common f below one rest t u → ⊥
   command-stopped f below (assign place x e) rest t u s d = s
   command-stopped f below (look_up place x e g) rest t u s d =
       finds-not_absent (evaluate f.slots c.common.store) c.common.heap e d.0 d.1 d.2 s
@@ -166,22 +153,17 @@ module _ (p : Program) (ev : Event) (c : Config) where
   command-stopped f below (fork place one two) rest t u (inr (inr s)) d = some-none d.2 (sym d.4 ∙ s)
   command-stopped f below (with place r test body) rest t u s d = s d.1
 
-  frame-stopped : (f : Fixed) (below : List Frame) (todo : List Item) (t : Common) (u : Task)
-      → FrameStops p ev.task c f todo → Goes p ev c.common f below todo t u → ⊥
-  frame-stopped f below [] t u s d = s
-  frame-stopped f below (command one ∷ rest) t u s d = command-stopped f below one rest t u s d
-  frame-stopped f below (leave r ∷ rest) t u s d = s d.0
-
-  task-stopped : (task : Task) (t : Common) (u : Task) → Stops p ev.task c task
-      → TaskStep p ev c.common task t u → ⊥
-  task-stopped (runs []) t u s d = s
-  task-stopped (runs (f ∷ below)) t u s d = frame-stopped f.fixed below f.todo t u s d
-  task-stopped (waits frames one two) t u s d = s
+  next-stopped : (n : Next) (t : Common) (u : Task) → Stops p ev.task c.common n → Goes p ev c.common n t u → ⊥
+  next-stopped (does f below one rest) t u s d = command-stopped f below one rest t u s d
+  next-stopped (leaves f below r rest) t u s d = s d.0
+  next-stopped (returns f below) t u s d = s
+  next-stopped (joins frames one two) t u s d = s
+  next-stopped nothing t u s d = s
 
   -- a task that something named keeps from it doesn't step
-  pub step-stopped : (d : Config) (task : Task) → task_at ev.task c.tasks ≡ Some task → Stops p ev.task c task
-      → Step p ev c d → ⊥
+  pub step-stopped : (d : Config) (task : Task) → task_at ev.task c.tasks ≡ Some task
+      → Stops p ev.task c.common (next task) → Step p ev c d → ⊥
   step-stopped d task e s step =
       let same : step.from ≡ task = cc (step.there, e) in
-      task-stopped task d.common step.to s
+      next-stopped (next task) d.common step.to s
       (subst (λ z. TaskStep p ev c.common z d.common step.to) same step.steps)

@@ -1,6 +1,6 @@
 -- What one step of the machine changes, and what it leaves alone.
 -- Names: WHAT-RELATION, as `store-kept`: the part of the configuration, and what is said of it.
-use Rattle.std.specs.Prelude.{◌≡◌, ℕ, Bool, true, false, cond, List, [], ◌∷◌, Option, Some, None, ◌⊎◌, ◌==◌}
+use Rattle.std.specs.Prelude.{◌≡◌, ℕ, Bool, true, false, cond, List, Option, Some, None, ◌⊎◌, ◌==◌}
 use Rattle.std.proofs.Common.{sym, ap, ◌∙◌, refl, subst, inl, inr}
 use Rattle.sf_base.proofs.Bools.{cond-else}
 use Rattle.sf_base.specs.declared.ids.ResId.{ResId}
@@ -8,10 +8,11 @@ use Rattle.sf_base.specs.declared.value.Value.{Value}
 use Rattle.sf_base.specs.declared.value.Value.TheVariants.{Loc as loc}
 use Rattle.sf_base.proofs.HeapSplits.{put-elsewhere}
 use Rattle.sf_base.proofs.StoreSplits.{slot-elsewhere, resource-same}
-use Rattle.sf_core.specs.Machine.Config.{Item, command, leave, Room, in_room, Fixed, Frame, Task, runs, waits, Path, Common, Config, task_at}
-use Rattle.sf_core.specs.Machine.Enabled.{variable, cell, IsCellAt, CommandWrites, FrameWrites}
+use Rattle.sf_core.specs.Machine.Config.{Item, Room, in_room, Fixed, Frame, Task, Path, Common, Config, task_at}
+use Rattle.sf_core.specs.Machine.Next.{Next, does, leaves, returns, joins, nothing, next}
+use Rattle.sf_core.specs.Machine.Enabled.{variable, cell, IsCellAt, CommandWrites}
 use Rattle.sf_base.specs.HeapStore.{Cell, Slot}
-use Rattle.sf_core.specs.Machine.Laws.{CommandMakes, FrameMakes, Makes, IsLeft, HolderChanges, ChangesOnlyFootprint}
+use Rattle.sf_core.specs.Machine.Laws.{CommandMakes, Makes, IsLeft, HolderChanges, ChangesOnlyFootprint}
 use Rattle.sf_core.specs.Machine.Step.{Event, set_slot, set_cell, set_holder, open_room, close_room, room_count, room_for, arguments, Does, Goes, TaskStep, Step}
 use Rattle.sf_core.specs.Program.Syntax.{Command, assign, look_up, mutate, new, dispose, if, while, call, fork, with, Program}
 
@@ -66,24 +67,16 @@ store-by_command p ev s t f below (fork place c e) rest u d y w m =
     (λ i. m (d.1, d.2, d.3, d.4, inl i)))
 store-by_command p ev s t f below (with place r test body) rest u d y w m = ap (λ (z : Common). z.store y) d.2
 
-store-by_frame : (p : Program) (ev : Event) (s t : Common) (f : Fixed) (below : List Frame) (todo : List Item)
-    (u : Task)
-    → Goes p ev s f below todo t u → (y : Slot) → (FrameWrites f s.store todo (variable y) → ⊥)
-    → (FrameMakes p ev todo (variable y) → ⊥)
-    → t.store y ≡ s.store y
-store-by_frame p ev s t f below [] u d y w m =
-    ap (λ (z : Common). z.store y) d.1 ∙ close_room-other f.room y s w
-store-by_frame p ev s t f below (command c ∷ rest) u d y w m =
-    store-by_command p ev s t f below c rest u d y w m
-store-by_frame p ev s t f below (leave r ∷ rest) u d y w m = ap (λ (z : Common). z.store y) d.1
-
--- what a task's event neither writes nor makes of the store stays
-pub store-by_task : (p : Program) (ev : Event) (s t : Common) (task u : Task)
-    → TaskStep p ev s task t u → (y : Slot) → IsLeft p ev s.store task (variable y) → t.store y ≡ s.store y
-store-by_task p ev s t (runs []) u d y l = absurd d
-store-by_task p ev s t (runs (f ∷ below)) u d y l =
-    store-by_frame p ev s t f.fixed below f.todo u d y l.unwritten l.not_made
-store-by_task p ev s t (waits frames one two) u d y l = ap (λ (z : Common). z.store y) d.2
+-- what an event neither writes nor makes of the store stays
+pub store-by_next : (p : Program) (ev : Event) (s t : Common) (n : Next) (u : Task)
+    → Goes p ev s n t u → (y : Slot) → IsLeft p ev s.store n (variable y) → t.store y ≡ s.store y
+store-by_next p ev s t (does f below c rest) u d y l =
+    store-by_command p ev s t f below c rest u d y l.unwritten l.not_made
+store-by_next p ev s t (leaves f below r rest) u d y l = ap (λ (z : Common). z.store y) d.1
+store-by_next p ev s t (returns f below) u d y l =
+    ap (λ (z : Common). z.store y) d.1 ∙ close_room-other f.room y s l.unwritten
+store-by_next p ev s t (joins frames one two) u d y l = ap (λ (z : Common). z.store y) d.2
+store-by_next p ev s t nothing u d y l = absurd d
 
 -- Cells
 heap-by_command : (p : Program) (ev : Event) (s t : Common) (f : Fixed) (below : List Frame) (c : Command)
@@ -106,23 +99,15 @@ heap-by_command p ev s t f below (call place c) rest u d a w m = ap (λ (z : Com
 heap-by_command p ev s t f below (fork place c e) rest u d a w m = ap (λ (z : Common). z.heap a) d.5
 heap-by_command p ev s t f below (with place r test body) rest u d a w m = ap (λ (z : Common). z.heap a) d.2
 
-heap-by_frame : (p : Program) (ev : Event) (s t : Common) (f : Fixed) (below : List Frame) (todo : List Item)
-    (u : Task)
-    → Goes p ev s f below todo t u → (a : ℕ) → (FrameWrites f s.store todo (cell a) → ⊥)
-    → (FrameMakes p ev todo (cell a) → ⊥)
-    → t.heap a ≡ s.heap a
-heap-by_frame p ev s t f below [] u d a w m = ap (λ (z : Common). z.heap a) d.1
-heap-by_frame p ev s t f below (command c ∷ rest) u d a w m =
-    heap-by_command p ev s t f below c rest u d a w m
-heap-by_frame p ev s t f below (leave r ∷ rest) u d a w m = ap (λ (z : Common). z.heap a) d.1
-
--- what a task's event neither writes nor makes of the heap stays
-pub heap-by_task : (p : Program) (ev : Event) (s t : Common) (task u : Task)
-    → TaskStep p ev s task t u → (a : ℕ) → IsLeft p ev s.store task (cell a) → t.heap a ≡ s.heap a
-heap-by_task p ev s t (runs []) u d a l = absurd d
-heap-by_task p ev s t (runs (f ∷ below)) u d a l =
-    heap-by_frame p ev s t f.fixed below f.todo u d a l.unwritten l.not_made
-heap-by_task p ev s t (waits frames one two) u d a l = ap (λ (z : Common). z.heap a) d.2
+-- what an event neither writes nor makes of the heap stays
+pub heap-by_next : (p : Program) (ev : Event) (s t : Common) (n : Next) (u : Task)
+    → Goes p ev s n t u → (a : ℕ) → IsLeft p ev s.store n (cell a) → t.heap a ≡ s.heap a
+heap-by_next p ev s t (does f below c rest) u d a l =
+    heap-by_command p ev s t f below c rest u d a l.unwritten l.not_made
+heap-by_next p ev s t (leaves f below r rest) u d a l = ap (λ (z : Common). z.heap a) d.1
+heap-by_next p ev s t (returns f below) u d a l = ap (λ (z : Common). z.heap a) d.1
+heap-by_next p ev s t (joins frames one two) u d a l = ap (λ (z : Common). z.heap a) d.2
+heap-by_next p ev s t nothing u d a l = absurd d
 
 -- The cell that a `new` makes
 absent-by_command : (p : Program) (ev : Event) (s t : Common) (f : Fixed) (below : List Frame) (c : Command)
@@ -140,20 +125,14 @@ absent-by_command p ev s t f below (fork place c e) rest u d a m =
     elim m.4 [ inl i ↦ absurd i | inr i ↦ absurd i ]
 absent-by_command p ev s t f below (with place r test body) rest u d a m = absurd m
 
-absent-by_frame : (p : Program) (ev : Event) (s t : Common) (f : Fixed) (below : List Frame)
-    (todo : List Item) (u : Task)
-    → Goes p ev s f below todo t u → (a : ℕ) → FrameMakes p ev todo (cell a) → s.heap a ≡ None
-absent-by_frame p ev s t f below [] u d a m = absurd m
-absent-by_frame p ev s t f below (command c ∷ rest) u d a m =
-    absent-by_command p ev s t f below c rest u d a m
-absent-by_frame p ev s t f below (leave r ∷ rest) u d a m = absurd m
-
--- the cell that a task's event makes wasn't there before
-pub absent-by_task : (p : Program) (ev : Event) (s t : Common) (task u : Task)
-    → TaskStep p ev s task t u → (a : ℕ) → Makes p ev task (cell a) → s.heap a ≡ None
-absent-by_task p ev s t (runs []) u d a m = absurd m
-absent-by_task p ev s t (runs (f ∷ below)) u d a m = absent-by_frame p ev s t f.fixed below f.todo u d a m
-absent-by_task p ev s t (waits frames one two) u d a m = absurd m
+-- the cell that an event makes wasn't there before
+pub absent-by_next : (p : Program) (ev : Event) (s t : Common) (n : Next) (u : Task)
+    → Goes p ev s n t u → (a : ℕ) → Makes p ev n (cell a) → s.heap a ≡ None
+absent-by_next p ev s t (does f below c rest) u d a m = absent-by_command p ev s t f below c rest u d a m
+absent-by_next p ev s t (leaves f below r rest) u d a m = absurd m
+absent-by_next p ev s t (returns f below) u d a m = absurd m
+absent-by_next p ev s t (joins frames one two) u d a m = absurd m
+absent-by_next p ev s t nothing u d a m = absurd m
 
 -- Holders
 holder-same : (path : Path) (s t : Common) (r : ResId) → t.held ≡ s.held
@@ -198,20 +177,15 @@ held-by_command p ev s t f below (fork place c e) rest u d r =
 held-by_command p ev s t f below (with place q test body) rest u d r =
     holder-set ev.task s t r q (Some ev.task) d.2 (inl (d.0, refl))
 
-held-by_frame : (p : Program) (ev : Event) (s t : Common) (f : Fixed) (below : List Frame) (todo : List Item)
-    (u : Task)
-    → Goes p ev s f below todo t u → (r : ResId) → HolderChanges ev.task (s.held r) (t.held r)
-held-by_frame p ev s t f below [] u d r = holder-same ev.task s t r (ap (λ (z : Common). z.held) d.1)
-held-by_frame p ev s t f below (command c ∷ rest) u d r = held-by_command p ev s t f below c rest u d r
-held-by_frame p ev s t f below (leave q ∷ rest) u d r = holder-set ev.task s t r q None d.1 (inr (d.0, refl))
-
--- a task's event takes a free resource, gives back its own, and leaves the others
-pub held-by_task : (p : Program) (ev : Event) (s t : Common) (task u : Task)
-    → TaskStep p ev s task t u → (r : ResId) → HolderChanges ev.task (s.held r) (t.held r)
-held-by_task p ev s t (runs []) u d r = absurd d
-held-by_task p ev s t (runs (f ∷ below)) u d r = held-by_frame p ev s t f.fixed below f.todo u d r
-held-by_task p ev s t (waits frames one two) u d r =
+-- an event takes a free resource for its task, gives back the task's own, and leaves the others
+pub held-by_next : (p : Program) (ev : Event) (s t : Common) (n : Next) (u : Task)
+    → Goes p ev s n t u → (r : ResId) → HolderChanges ev.task (s.held r) (t.held r)
+held-by_next p ev s t (does f below c rest) u d r = held-by_command p ev s t f below c rest u d r
+held-by_next p ev s t (leaves f below q rest) u d r = holder-set ev.task s t r q None d.1 (inr (d.0, refl))
+held-by_next p ev s t (returns f below) u d r = holder-same ev.task s t r (ap (λ (z : Common). z.held) d.1)
+held-by_next p ev s t (joins frames one two) u d r =
     holder-same ev.task s t r (ap (λ (z : Common). z.held) d.2)
+held-by_next p ev s t nothing u d r = absurd d
 
 -- all that a step can change
 pub step-footprint : (p : Program) (event : Event) (c d : Config) (task : Task) → Step p event c d
@@ -221,8 +195,8 @@ step-footprint p event c d task s e =
     let steps : TaskStep p event c.common task d.common s.to =
     subst (λ z. TaskStep p event c.common z d.common s.to) same s.steps in
     record {
-      variables = λ slot l. store-by_task p event c.common d.common task s.to steps slot l;
-      cells = λ location l. heap-by_task p event c.common d.common task s.to steps location l;
-      absent = λ location m. absent-by_task p event c.common d.common task s.to steps location m;
-      holders = λ r. held-by_task p event c.common d.common task s.to steps r;
+      variables = λ slot l. store-by_next p event c.common d.common (next task) s.to steps slot l;
+      cells = λ location l. heap-by_next p event c.common d.common (next task) s.to steps location l;
+      absent = λ location m. absent-by_next p event c.common d.common (next task) s.to steps location m;
+      holders = λ r. held-by_next p event c.common d.common (next task) s.to steps r;
     }

@@ -4,11 +4,12 @@ use Rattle.std.specs.Prelude.{◌≡◌, ◌≢◌, List, [], ◌∷◌, Some, �
 use Rattle.std.proofs.Common.{sym, ap, ◌∙◌, refl, subst, inl, inr}
 use Rattle.sf_base.specs.declared.path.Turn.{Turn}
 use Rattle.sf_base.specs.declared.path.Turn.TheVariants.{Left as left, Right as right}
-use Rattle.sf_core.specs.Machine.Config.{Item, command, Fixed, Frame, Task, runs, waits, Path, Common, Config, task_at, put_task, IsCalled, IsOver}
+use Rattle.sf_core.specs.Machine.Config.{Item, command, leave, Fixed, Frame, Task, runs, waits, Path, Common, Config, task_at, put_task, IsCalled, IsOver}
 use Rattle.sf_core.specs.Machine.Enabled.{HasEnded, IsShut, IsBlocked, IsEnabled}
+use Rattle.sf_core.specs.Machine.Next.{Next, does, leaves, returns, joins, nothing, frame_next, next}
 use Rattle.sf_core.specs.Machine.Laws.{Diverge, IsAbove, WaitsWith, KeepsOthers}
-use Rattle.sf_core.specs.Machine.Step.{Event, Goes, TaskStep, Step}
-use Rattle.sf_core.specs.Program.Syntax.{with, Program}
+use Rattle.sf_core.specs.Machine.Step.{Event, Does, Goes, TaskStep, Step}
+use Rattle.sf_core.specs.Program.Syntax.{Command, with, Program}
 
 -- what is put at one path leaves the tasks whose paths part from it
 pub task_at-other : (other path : Path) (u t : Task) → Diverge other path
@@ -59,23 +60,27 @@ ended-no_step : (p : Program) (ev : Event) (s t : Common) (path : Path) → ev.t
     → TaskStep p ev s task t u → HasEnded path task → ⊥
 ended-no_step p ev s t path e (runs []) u d h = absurd d
 ended-no_step p ev s t [] e (runs (f ∷ [])) u d h =
-    let g : Goes p ev s f.fixed [] [] t u = subst (λ z. Goes p ev s f.fixed [] z t u) h d in
+    let g : Goes p ev s (returns f.fixed []) t u =
+    subst (λ z. Goes p ev s (frame_next f.fixed [] z) t u) h d in
     subst (λ z. IsCalled z []) e g.0
 ended-no_step p ev s t [] e (runs (f ∷ g ∷ below)) u d h = absurd h
 ended-no_step p ev s t (turn ∷ path) e (runs (f ∷ below)) u d h = absurd h
 ended-no_step p ev s t path e (waits frames one two) u d h = absurd h
 
--- a step isn't at a region whose resource is held
-step-not_shut : (p : Program) (ev : Event) (s t : Common) (f : Fixed) (below : List Frame) (todo : List Item)
-    (u : Task) → Goes p ev s f below todo t u → IsShut s.held todo → ⊥
-step-not_shut p ev s t f below (command (with place r test body) ∷ rest) u d h = h d.0
-step-not_shut p ev s t f below _ u d h = absurd h
+-- a command that has an event is no region whose resource is held
+does-not_shut : (p : Program) (ev : Event) (s t : Common) (f : Fixed) (below : List Frame) (c : Command)
+    (rest : List Item) (u : Task) → Does p ev s f below c rest t u → IsShut s.held c → ⊥
+does-not_shut p ev s t f below (with place r test body) rest u d h = h d.0
+does-not_shut p ev s t f below _ rest u d h = absurd h
 
-step-not_blocked : (p : Program) (ev : Event) (s t : Common) (task u : Task) → TaskStep p ev s task t u
-    → IsBlocked s.held task → ⊥
-step-not_blocked p ev s t (runs []) u d h = absurd d
-step-not_blocked p ev s t (runs (f ∷ below)) u d h = step-not_shut p ev s t f.fixed below f.todo u d h
-step-not_blocked p ev s t (waits frames one two) u d h = h (d.0, d.1)
+-- what has an event needn't wait
+goes-not_blocked : (p : Program) (ev : Event) (s t : Common) (n : Next) (u : Task) → Goes p ev s n t u
+    → IsBlocked s.held n → ⊥
+goes-not_blocked p ev s t (does f below c rest) u d h = does-not_shut p ev s t f below c rest u d h
+goes-not_blocked p ev s t (leaves f below r rest) u d h = h
+goes-not_blocked p ev s t (returns f below) u d h = h
+goes-not_blocked p ev s t (joins frames one two) u d h = h (d.0, d.1)
+goes-not_blocked p ev s t nothing u d h = h
 
 -- only enabled tasks step
 pub step-enabled : (p : Program) (event : Event) (c d : Config) → Step p event c d
@@ -85,7 +90,7 @@ step-enabled p event c d s = (
   record {
     there = s.there;
     going = λ h. ended-no_step p event c.common d.common event.task refl s.from s.to s.steps h;
-    free = λ h. step-not_blocked p event c.common d.common s.from s.to s.steps h;
+    free = λ h. goes-not_blocked p event c.common d.common (next s.from) s.to s.steps h;
   },
 )
 
@@ -131,6 +136,30 @@ enabled-may_go c path (waits frames one two) e =
       | inr n ↦ absurd (e.free (λ h. n h.0))
       | inl a ↦ elim (over-or_not two) [ inr n ↦ absurd (e.free (λ h. n h.1)) | inl b ↦ (a, b) ]
     ]
+
+-- what comes next has all that it needs of its own task and of its children
+abbrev pub CanGo : Path → Next → Type 0
+CanGo path (does f below c rest) = Unit {0}
+CanGo path (leaves f below r rest) = Unit {0}
+CanGo path (returns f below) = IsCalled path below
+CanGo path (joins frames one two) = IsOver one × IsOver two
+CanGo path nothing = ⊥
+
+-- a frame goes on unless it is the entry's and has nothing more to do
+frame-can_go : (path : Path) (f : Fixed) (below : List Frame) (todo : List Item)
+    → (HasEnded path (runs (record { fixed = f; todo = todo } ∷ below)) → ⊥) → CanGo path (frame_next f below todo)
+frame-can_go [] f [] [] n = absurd (n refl)
+frame-can_go [] f (g ∷ below) [] n = tt
+frame-can_go (turn ∷ path) f below [] n = tt
+frame-can_go path f below (command c ∷ rest) n = tt
+frame-can_go path f below (leave r ∷ rest) n = tt
+
+-- an enabled task has that
+pub enabled-can_go : (c : Config) (path : Path) (task : Task) → IsEnabled c path task
+    → CanGo path (next task)
+enabled-can_go c path (runs []) e = absurd (e.going tt)
+enabled-can_go c path (runs (f ∷ below)) e = frame-can_go path f.fixed below f.todo e.going
+enabled-can_go c path (waits frames one two) e = enabled-may_go c path (waits frames one two) e
 
 -- nothing below a child that is over may go on
 task_at-over : (path : Path) (t task : Task) → IsOver t → task_at path t ≡ Some task → MayGo task → ⊥

@@ -1,6 +1,6 @@
 -- Config: one heap, one store, the holders of the resources, and a tree of tasks, each with a stack of frames.
 -- O'Hearn, "Resources, Concurrency and Local Reasoning" (2007); Brookes, "A Semantics for CSL" (2007).
-use Rattle.std.specs.Prelude.{◌≡◌, ℕ, Bool, false, List, [], ◌∷◌, Option, Some, None, ◌⊎◌, ◌==◌, ◌&&◌, ◌+◌, ltb, leb}
+use Rattle.std.specs.Prelude.{ℕ, Bool, false, List, [], ◌∷◌, Option, Some, None, ◌==◌, ◌&&◌, ◌||◌, ◌+◌, ltb, leb}
 use Rattle.std.specs.Option.{unwrap_or}
 use Rattle.sf_base.specs.declared.ids.ProcId.{ProcId}
 use Rattle.sf_base.specs.declared.ids.ResId.{ResId}
@@ -65,10 +65,10 @@ pub record Common : Type 0 where
   pub store : Store
   pub held : ResId → Option Path
 
--- Config: what is shared, the numbers of the events so far, and the tree of the tasks
+-- Config: what is shared, the set of the numbers of the events so far, and the tree of the tasks
 pub record Config : Type 0 where
   pub common : Common
-  pub used : List ℕ
+  pub used : ℕ → Bool
   pub tasks : Task
 
 -- the value of an expression where the variables name these slots; a slot that the store lacks counts as nil
@@ -91,10 +91,9 @@ put_task (right ∷ path) u (waits frames one two) = waits frames one (put_task 
 put_task (left ∷ path) u (runs frames) = runs frames
 put_task (right ∷ path) u (runs frames) = runs frames
 
--- the number is one of those used so far
-abbrev pub IsUsed : List ℕ → ℕ → Type 0
-IsUsed [] number = ⊥
-IsUsed (one ∷ used) number = (number ≡ one) ⊎ IsUsed used number
+-- the set of those numbers and this one
+abbrev pub adds : ℕ → (ℕ → Bool) → ℕ → Bool
+adds number used = λ other. (other == number) || used other
 
 -- the frame is returned from when it has nothing more to do: it is not the entry's own
 abbrev pub IsCalled : Path → (below : List Frame) → Type 0

@@ -9,7 +9,8 @@ use Rattle.sf_core.specs.declared.assertion.Test.{Test}
 use Rattle.sf_core.specs.declared.assertion.Test.TheVariants.{True, Equal, Differ}
 use Rattle.sf_core.specs.declared.command.Expr.{Expr}
 use Rattle.sf_core.specs.declared.command.Expr.TheVariants.{Var as Variable, Nil, Int}
-use Rattle.sf_core.specs.Machine.Config.{Item, command, leave, Room, in_room, Fixed, Task, runs, waits, Path, Config, evaluate, task_at, IsOver}
+use Rattle.sf_core.specs.Machine.Config.{Room, in_room, Task, runs, waits, Path, Config, evaluate, task_at, IsOver}
+use Rattle.sf_core.specs.Machine.Next.{Next, does, leaves, returns, joins, nothing, next}
 use Rattle.sf_base.specs.HeapStore.{Slot, Store}
 use Rattle.sf_core.specs.Program.Syntax.{Command, assign, look_up, mutate, new, dispose, if, while, call, fork, with}
 
@@ -22,22 +23,24 @@ HasEnded [] (runs (f ∷ g ∷ below)) = ⊥
 HasEnded (turn ∷ path) (runs (f ∷ below)) = ⊥
 HasEnded path (waits frames one two) = ⊥
 
--- the next thing to do is a region of a resource that is held
-abbrev pub IsShut : (ResId → Option Path) → List Item → Type 0
-IsShut held (command (with place r test body) ∷ rest) = held r ≢ None
+-- the command is a region of a resource that is held
+abbrev pub IsShut : (ResId → Option Path) → Command → Type 0
+IsShut held (with place r test body) = held r ≢ None
 IsShut held _ = ⊥
 
--- the task has to wait for others: for a child that hasn't ended, or for a resource that is held
-abbrev pub IsBlocked : (ResId → Option Path) → Task → Type 0
-IsBlocked held (runs []) = ⊥
-IsBlocked held (runs (f ∷ below)) = IsShut held f.todo
-IsBlocked held (waits frames one two) = IsOver one × IsOver two → ⊥
+-- what comes next has to wait for others: for a resource that is held, or for a child that hasn't ended
+abbrev pub IsBlocked : (ResId → Option Path) → Next → Type 0
+IsBlocked held (does f below c rest) = IsShut held c
+IsBlocked held (leaves f below r rest) = ⊥
+IsBlocked held (returns f below) = ⊥
+IsBlocked held (joins frames one two) = IsOver one × IsOver two → ⊥
+IsBlocked held nothing = ⊥
 
 -- Enabled: there is such a task at the path, it hasn't ended, and it needn't wait for others
 pub record IsEnabled (c : Config) (path : Path) (task : Task) : Type 0 where
   pub there : task_at path c.tasks ≡ Some task
   pub going : HasEnded path task → ⊥
-  pub free : IsBlocked c.common.held task → ⊥
+  pub free : IsBlocked c.common.held (next task) → ⊥
 
 -- what a step may read or write: the variable in a slot, or the cell at a location
 pub data Thing : Type 0 where
@@ -102,26 +105,18 @@ abbrev pub IsInRoom : Room → Thing → Type 0
 IsInRoom room (variable slot) = in_room room slot ≡ true
 IsInRoom room (cell location) = ⊥
 
--- what the next event of a frame reads
-abbrev pub FrameReads : (Var → Slot) → Store → List Item → Thing → Type 0
-FrameReads slots store [] thing = ⊥
-FrameReads slots store (command c ∷ rest) thing = CommandReads slots store c thing
-FrameReads slots store (leave r ∷ rest) thing = ⊥
+-- what comes next reads this: only a command reads
+abbrev pub Reads : Store → Next → Thing → Type 0
+Reads store (does f below c rest) thing = CommandReads f.slots store c thing
+Reads store (leaves f below r rest) thing = ⊥
+Reads store (returns f below) thing = ⊥
+Reads store (joins frames one two) thing = ⊥
+Reads store nothing thing = ⊥
 
--- what the next event of a frame writes: a return writes the frame's own slots
-abbrev pub FrameWrites : Fixed → Store → List Item → Thing → Type 0
-FrameWrites f store [] thing = IsInRoom f.room thing
-FrameWrites f store (command c ∷ rest) thing = CommandWrites f.slots store c thing
-FrameWrites f store (leave r ∷ rest) thing = ⊥
-
--- what the next step of a task reads; a join reads nothing
-abbrev pub Reads : Store → Task → Thing → Type 0
-Reads store (runs []) thing = ⊥
-Reads store (runs (f ∷ below)) thing = FrameReads f.fixed.slots store f.todo thing
-Reads store (waits frames one two) thing = ⊥
-
--- what the next step of a task writes; a join writes nothing
-abbrev pub Writes : Store → Task → Thing → Type 0
-Writes store (runs []) thing = ⊥
-Writes store (runs (f ∷ below)) thing = FrameWrites f.fixed store f.todo thing
-Writes store (waits frames one two) thing = ⊥
+-- what comes next writes this: a return writes the frame's own slots
+abbrev pub Writes : Store → Next → Thing → Type 0
+Writes store (does f below c rest) thing = CommandWrites f.slots store c thing
+Writes store (leaves f below r rest) thing = ⊥
+Writes store (returns f below) thing = IsInRoom f.room thing
+Writes store (joins frames one two) thing = ⊥
+Writes store nothing thing = ⊥

@@ -15,7 +15,7 @@ use Rattle.sf_core.specs.declared.command.Expr.{Expr}
 use Rattle.sf_core.specs.declared.command.Expr.TheVariants.{Var as Variable, Nil, Int}
 use Rattle.sf_core.specs.declared.command.Occurrence.{Occurrence}
 use Rattle.sf_core.specs.Machine.Bad.{Bad}
-use Rattle.sf_core.specs.Machine.Config.{Item, command, Fixed, Frame, Task, runs, waits, Path, Common, Config}
+use Rattle.sf_core.specs.Machine.Config.{Item, command, Fixed, Frame, Task, runs, waits, Path, Common, Config, adds}
 use Rattle.sf_core.specs.Machine.Enabled.{HasEnded, IsEnabled}
 use Rattle.sf_core.specs.Machine.Good.{Good}
 use Rattle.sf_base.specs.HeapStore.{Cell, put_field, Heap, IsEmpty, IsOne, Slot, shared, own, same_slot, Store}
@@ -152,7 +152,7 @@ parent = record {
 abbrev pub side_by_side : (this that : List Item) → Common → Config
 side_by_side this that s = record {
   common = s;
-  used = 1 ∷ 0 ∷ [];
+  used = adds 1 (λ number. number == 0);
   tasks = waits (parent ∷ []) (runs (record { fixed = child 0; todo = this } ∷ []))
       (runs (record { fixed = child 2; todo = that } ∷ []));
 }
@@ -207,7 +207,7 @@ HeldRegionsWait = (k : Cell)
 abbrev pub alone : List Item → Common → Config
 alone todo s = record {
   common = s;
-  used = 0 ∷ [];
+  used = λ number. number == 0;
   tasks = runs (record { fixed = child 0; todo = todo } ∷ []);
 }
 
@@ -352,7 +352,7 @@ main_done = record { fixed = (entry_frame (record { 0 = 0 }) main).fixed; todo =
 abbrev pub ended_with : Heap → Config
 ended_with heap = record {
   common = record { heap = heap; store = one_in (loc 1); held = λ r. None };
-  used = 0 ∷ [];
+  used = λ number. number == 0;
   tasks = runs (main_done ∷ []);
 }
 
@@ -381,7 +381,7 @@ returning_with heap = record {
         (one_in (loc 1) slot);
     held = λ r. None;
   };
-  used = 1 ∷ 0 ∷ [];
+  used = adds 1 (λ number. number == 0);
   tasks = runs (set_done ∷ main_done ∷ []);
 }
 
@@ -423,7 +423,7 @@ skip_done = record { fixed = (entry_frame (record { 0 = 0 }) skip).fixed; todo =
 abbrev pub skip_ended_with : Heap → Config
 skip_ended_with heap = record {
   common = record { heap = heap; store = shared_in (loc 1); held = λ r. None };
-  used = 0 ∷ [];
+  used = λ number. number == 0;
   tasks = runs (skip_done ∷ []);
 }
 

@@ -1,11 +1,12 @@
 -- Laws of the machine: what a step changes and what it leaves alone, which tasks step, and how runs compose.
 -- After Brookes (2007), where the footprints of actions say what they share.
-use Rattle.std.specs.Prelude.{◌≡◌, ◌≢◌, ℕ, List, [], ◌∷◌, ◌++◌, Option, Some, None, ◌⊎◌, ◌↔◌, length, ◌≤◌}
+use Rattle.std.specs.Prelude.{◌≡◌, ◌≢◌, ℕ, true, false, List, [], ◌∷◌, ◌++◌, Option, Some, None, ◌⊎◌, ◌↔◌, length, ◌≤◌}
 use Rattle.sf_base.specs.declared.ids.ResId.{ResId}
 use Rattle.sf_base.specs.declared.limits.TheConstants.{TURNS}
 use Rattle.sf_base.specs.declared.path.Turn.TheVariants.{Left as left, Right as right}
 use Rattle.sf_core.specs.Machine.Bad.{IsAbsent}
-use Rattle.sf_core.specs.Machine.Config.{Item, command, leave, Fixed, Frame, Task, runs, waits, Path, Common, Config, evaluate, task_at, IsUsed}
+use Rattle.sf_core.specs.Machine.Config.{Fixed, Frame, Task, waits, Path, Common, Config, evaluate, task_at}
+use Rattle.sf_core.specs.Machine.Next.{Next, does, leaves, returns, joins, nothing, next}
 use Rattle.sf_core.specs.Machine.Enabled.{Thing, variable, cell, IsInRoom, Reads, Writes, HasEnded, IsEnabled}
 use Rattle.sf_base.specs.HeapStore.{Slot, Store}
 use Rattle.sf_core.specs.Machine.Reach.{Reach}
@@ -31,22 +32,18 @@ CommandMakes p event (fork place c d) thing =
     × (IsInRoom (room_for g event.number 0) thing ⊎ IsInRoom (room_for h event.number (room_count g)) thing)
 CommandMakes p event (with place r test body) thing = ⊥
 
--- what the next event of a frame makes
-abbrev pub FrameMakes : Program → Event → List Item → Thing → Type 0
-FrameMakes p event [] thing = ⊥
-FrameMakes p event (command c ∷ rest) thing = CommandMakes p event c thing
-FrameMakes p event (leave r ∷ rest) thing = ⊥
+-- what comes next makes this: only a command makes anything
+abbrev pub Makes : Program → Event → Next → Thing → Type 0
+Makes p event (does f below c rest) thing = CommandMakes p event c thing
+Makes p event (leaves f below r rest) thing = ⊥
+Makes p event (returns f below) thing = ⊥
+Makes p event (joins frames one two) thing = ⊥
+Makes p event nothing thing = ⊥
 
--- what the next event of a task makes
-abbrev pub Makes : Program → Event → Task → Thing → Type 0
-Makes p event (runs []) thing = ⊥
-Makes p event (runs (f ∷ below)) thing = FrameMakes p event f.todo thing
-Makes p event (waits frames one two) thing = ⊥
-
--- the thing is neither written nor made by the task's next event
-pub record IsLeft (p : Program) (event : Event) (store : Store) (task : Task) (thing : Thing) : Type 0 where
-  pub unwritten : Writes store task thing → ⊥
-  pub not_made : Makes p event task thing → ⊥
+-- the thing is neither written nor made by what comes next
+pub record IsLeft (p : Program) (event : Event) (store : Store) (what : Next) (thing : Thing) : Type 0 where
+  pub unwritten : Writes store what thing → ⊥
+  pub not_made : Makes p event what thing → ⊥
 
 -- the holder of a resource: the same as before, or the task took it when it was free, or the task gave it
 -- back
@@ -56,11 +53,11 @@ HolderChanges path before after = (after ≡ before)
 
 -- all that the event of a task can change
 pub record ChangesOnlyFootprint (p : Program) (event : Event) (task : Task) (before after : Config) : Type 0 where
-  pub variables : (slot : Slot) → IsLeft p event before.common.store task (variable slot)
+  pub variables : (slot : Slot) → IsLeft p event before.common.store (next task) (variable slot)
       → after.common.store slot ≡ before.common.store slot
-  pub cells : (location : ℕ) → IsLeft p event before.common.store task (cell location)
+  pub cells : (location : ℕ) → IsLeft p event before.common.store (next task) (cell location)
       → after.common.heap location ≡ before.common.heap location
-  pub absent : (location : ℕ) → Makes p event task (cell location) → before.common.heap location ≡ None
+  pub absent : (location : ℕ) → Makes p event (next task) (cell location) → before.common.heap location ≡ None
   pub holders : (r : ResId) → HolderChanges event.task (before.common.held r) (after.common.held r)
 
 -- a step changes what it writes and what it makes, and nothing else
@@ -77,15 +74,15 @@ AgreeOn one two (cell location) = one.heap location ≡ two.heap location
 
 -- the other state agrees on all that the event of a task rests on: what it reads, the cells that it writes or
 -- makes, and the holders
-pub record AgreesOnReads (p : Program) (event : Event) (task : Task) (here other : Common) : Type 0 where
-  pub read : (thing : Thing) → Reads here.store task thing → AgreeOn here other thing
-  pub cells : (location : ℕ) → Writes here.store task (cell location) ⊎ Makes p event task (cell location)
+pub record AgreesOnReads (p : Program) (event : Event) (what : Next) (here other : Common) : Type 0 where
+  pub read : (thing : Thing) → Reads here.store what thing → AgreeOn here other thing
+  pub cells : (location : ℕ) → Writes here.store what (cell location) ⊎ Makes p event what (cell location)
       → AgreeOn here other (cell location)
   pub holders : (r : ResId) → here.held r ≡ other.held r
 
 -- what the event writes and makes is the same in both states after it, and so is what was the same before
-pub record AgreesAfter (p : Program) (event : Event) (task : Task) (here other after also : Common) : Type 0 where
-  pub things : (thing : Thing) → (Writes here.store task thing ⊎ Makes p event task thing)
+pub record AgreesAfter (p : Program) (event : Event) (what : Next) (here other after also : Common) : Type 0 where
+  pub things : (thing : Thing) → (Writes here.store what thing ⊎ Makes p event what thing)
       ⊎ AgreeOn here other thing → AgreeOn after also thing
   pub holders : (r : ResId) → after.held r ≡ also.held r
 
@@ -93,9 +90,9 @@ pub record AgreesAfter (p : Program) (event : Event) (task : Task) (here other a
 -- state agrees on these, there is the same step, to the same tasks
 unfoldable pub StepsAreLocal : Type 0
 StepsAreLocal = (p : Program) (event : Event) (c d : Config) (task : Task) (other : Common)
-    → Step p event c d → task_at event.task c.tasks ≡ Some task → AgreesOnReads p event task c.common other
+    → Step p event c d → task_at event.task c.tasks ≡ Some task → AgreesOnReads p event (next task) c.common other
     → (e : Config) × Step p event (record c { common = other }) e × (e.tasks ≡ d.tasks)
-    × AgreesAfter p event task c.common other d.common e.common
+    × AgreesAfter p event (next task) c.common other d.common e.common
 
 -- an event leads to at most one configuration
 unfoldable pub StepsAreDeterministic : Type 0
@@ -114,9 +111,9 @@ AreDistinct (event ∷ events) = (HasNumber events event.number → ⊥) × AreD
 
 -- how a run uses numbers: each of its events has a new one, and just these are added
 pub record Numbers (events : List Event) (before after : Config) : Type 0 where
-  pub fresh : (number : ℕ) → HasNumber events number → IsUsed before.used number → ⊥
+  pub fresh : (number : ℕ) → HasNumber events number → before.used number ≡ false
   pub distinct : AreDistinct events
-  pub added : (number : ℕ) → IsUsed after.used number ↔ (HasNumber events number ⊎ IsUsed before.used number)
+  pub added : (number : ℕ) → (after.used number ≡ true) ↔ (HasNumber events number ⊎ (before.used number ≡ true))
 
 -- used numbers only grow, by the numbers of the events, which are new and different
 unfoldable pub UsedNumbersGrow : Type 0
@@ -179,41 +176,37 @@ EnabledTasksDiverge = (c : Config) (path other : Path) (task another : Task) →
 
 -- what keeps the event of a command from being: an absent cell, a condition that is false, a callee that the
 -- program lacks, a path of 63 turns
-abbrev pub CommandStops : Program → Path → Config → Fixed → Command → Type 0
-CommandStops p path c f (assign place x e) = ⊥
-CommandStops p path c f (look_up place x e g) = IsAbsent c.common.heap (evaluate f.slots c.common.store e)
-CommandStops p path c f (mutate place e g v) = IsAbsent c.common.heap (evaluate f.slots c.common.store e)
-CommandStops p path c f (new place x) = ⊥
-CommandStops p path c f (dispose place e) = IsAbsent c.common.heap (evaluate f.slots c.common.store e)
-CommandStops p path c f (if place test this that) = ⊥
-CommandStops p path c f (while place test kept body) = ⊥
-CommandStops p path c f (call place one) = procedure_at p one.callee ≡ None
-CommandStops p path c f (fork place one two) = (TURNS ≤ length path)
+abbrev pub CommandStops : Program → Path → Common → Fixed → Command → Type 0
+CommandStops p path s f (assign place x e) = ⊥
+CommandStops p path s f (look_up place x e g) = IsAbsent s.heap (evaluate f.slots s.store e)
+CommandStops p path s f (mutate place e g v) = IsAbsent s.heap (evaluate f.slots s.store e)
+CommandStops p path s f (new place x) = ⊥
+CommandStops p path s f (dispose place e) = IsAbsent s.heap (evaluate f.slots s.store e)
+CommandStops p path s f (if place test this that) = ⊥
+CommandStops p path s f (while place test kept body) = ⊥
+CommandStops p path s f (call place one) = procedure_at p one.callee ≡ None
+CommandStops p path s f (fork place one two) = (TURNS ≤ length path)
     ⊎ ((procedure_at p one.callee ≡ None) ⊎ (procedure_at p two.callee ≡ None))
-CommandStops p path c f (with place r test body) = IsTrueOf (evaluate f.slots c.common.store) test → ⊥
+CommandStops p path s f (with place r test body) = IsTrueOf (evaluate f.slots s.store) test → ⊥
 
--- what keeps the next event of a frame from being: the above, or that it leaves a region whose resource its
--- task doesn't hold
-abbrev pub FrameStops : Program → Path → Config → Fixed → List Item → Type 0
-FrameStops p path c f [] = ⊥
-FrameStops p path c f (command one ∷ rest) = CommandStops p path c f one
-FrameStops p path c f (leave r ∷ rest) = c.common.held r ≢ Some path
-
--- what keeps the next event of a task from being
-abbrev pub Stops : Program → Path → Config → Task → Type 0
-Stops p path c (runs []) = ⊥
-Stops p path c (runs (f ∷ below)) = FrameStops p path c f.fixed f.todo
-Stops p path c (waits frames one two) = ⊥
+-- what keeps the next event of a task from being: the above, or that it leaves a region whose resource it
+-- doesn't hold
+abbrev pub Stops : Program → Path → Common → Next → Type 0
+Stops p path s (does f below c rest) = CommandStops p path s f c
+Stops p path s (leaves f below r rest) = s.held r ≢ Some path
+Stops p path s (returns f below) = ⊥
+Stops p path s (joins frames one two) = ⊥
+Stops p path s nothing = ⊥
 
 -- an enabled task steps, by any event of it with a new number, unless one of these keeps it; where it makes a
 -- cell its location has to be absent, and not 0
 unfoldable pub EnabledTasksProgress : Type 0
 EnabledTasksProgress = (p : Program) (event : Event) (c : Config) (task : Task) → IsEnabled c event.task task
-    → (IsUsed c.used event.number → ⊥) → ((location : ℕ) → Makes p event task (cell location)
+    → c.used event.number ≡ false → ((location : ℕ) → Makes p event (next task) (cell location)
     → (location ≢ 0) × (c.common.heap location ≡ None))
-    → ((d : Config) × Step p event c d) ⊎ Stops p event.task c task
+    → ((d : Config) × Step p event c d) ⊎ Stops p event.task c.common (next task)
 
 -- a task that one of these keeps from it has no event
 unfoldable pub StoppedTasksDoNotStep : Type 0
 StoppedTasksDoNotStep = (p : Program) (event : Event) (c d : Config) (task : Task)
-    → task_at event.task c.tasks ≡ Some task → Stops p event.task c task → Step p event c d → ⊥
+    → task_at event.task c.tasks ≡ Some task → Stops p event.task c.common (next task) → Step p event c d → ⊥

@@ -1,6 +1,6 @@
 -- Start: where a procedure may start, with its precondition and all invariants on disjoint cells.
 -- O'Hearn (2007); Brookes (2007): the state at the start of a program with resources.
-use Rattle.std.specs.Prelude.{◌≡◌, ℕ, List, [], ◌∷◌, Some, None, length, ◌+◌, ◌<◌, ◌≤◌}
+use Rattle.std.specs.Prelude.{◌≡◌, ℕ, List, [], ◌∷◌, Some, None, length, ◌==◌, ◌+◌, ◌<◌, ◌≤◌}
 use Rattle.std.specs.List.{slice_get}
 use Rattle.sf_base.specs.declared.ids.ProcId.{ProcId}
 use Rattle.sf_base.specs.declared.ids.ResId.{ResId}
@@ -36,7 +36,7 @@ entry_frame f g = record {
 abbrev pub initial_config : ProcId → Procedure → Store → Heap → Config
 initial_config f g store heap = record {
   common = record { heap = heap; store = store; held = λ r. None };
-  used = 0 ∷ [];
+  used = λ number. number == 0;
   tasks = runs (entry_frame f g ∷ []);
 }
 

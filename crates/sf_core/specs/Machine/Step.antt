@@ -1,6 +1,6 @@
 -- Step: what one event of one task does to a configuration, for each kind of event.
 -- O'Hearn (2007), Brookes (2007) for regions and forks; Berdine, Calcagno, O'Hearn (2005) for the commands.
-use Rattle.std.specs.Prelude.{◌≡◌, ◌≢◌, ℕ, zero, suc, cond, List, [], ◌∷◌, ◌++◌, Option, Some, None, ◌⊎◌, get_or, length, map, ◌==◌, ◌+◌, ◌-◌, ◌<◌}
+use Rattle.std.specs.Prelude.{◌≡◌, ◌≢◌, ℕ, zero, suc, false, cond, List, [], ◌∷◌, ◌++◌, Option, Some, None, ◌⊎◌, get_or, length, map, ◌==◌, ◌+◌, ◌-◌, ◌<◌}
 use Rattle.std.specs.List.{slice_get}
 use Rattle.sf_base.specs.declared.limits.TheConstants.{TURNS}
 use Rattle.sf_base.specs.declared.ids.ProcId.{ProcId}
@@ -12,7 +12,8 @@ use Rattle.sf_base.specs.declared.value.Value.TheVariants.{Nil as nil, Loc as lo
 use Rattle.sf_core.specs.declared.assertion.Test.{Test}
 use Rattle.sf_core.specs.declared.command.Expr.{Expr}
 use Rattle.sf_core.specs.declared.command.Occurrence.{Occurrence}
-use Rattle.sf_core.specs.Machine.Config.{Item, command, leave, items, Room, in_room, Fixed, Frame, Task, runs, waits, Path, Common, Config, evaluate, task_at, put_task, IsUsed, IsCalled, IsOver}
+use Rattle.sf_core.specs.Machine.Config.{Item, command, leave, items, Room, in_room, Fixed, Frame, Task, runs, waits, Path, Common, Config, evaluate, task_at, put_task, adds, IsCalled, IsOver}
+use Rattle.sf_core.specs.Machine.Next.{Next, does, leaves, returns, joins, nothing, next}
 use Rattle.sf_base.specs.HeapStore.{Cell, put_field, Heap, Slot, shared, own, same_slot, Store}
 use Rattle.sf_core.specs.Assertions.Sat.{IsTrueOf}
 use Rattle.sf_core.specs.Program.Syntax.{Call, Command, assign, look_up, mutate, new, dispose, if, while, call, fork, with, Procedure, Program}
@@ -151,26 +152,24 @@ Does p ev s f below (with place r test body) rest t u =
     (s.held r ≡ None) × IsTrueOf (evaluate f.slots s.store) test
     × (t ≡ set_holder r (Some ev.task) s) × (u ≡ task_with f (items body ++ (leave r ∷ rest)) below)
 
--- the next event of frame f above others: a return where nothing is left to do, else a command or the exit of
--- a region
-abbrev pub Goes : Program → Event → Common → Fixed → (below : List Frame) → (todo : List Item) → Common → Task
-    → Type 0
-Goes p ev s f below [] t u = IsCalled ev.task below × (t ≡ close_room f.room s) × (u ≡ runs below)
-Goes p ev s f below (command c ∷ rest) t u = Does p ev s f below c rest t u
-Goes p ev s f below (leave r ∷ rest) t u = (s.held r ≡ Some ev.task) × (t ≡ set_holder r None s)
+-- the event of what comes next: a command's, or an exit, a return or a join
+abbrev pub Goes : Program → Event → Common → Next → Common → Task → Type 0
+Goes p ev s (does f below c rest) t u = Does p ev s f below c rest t u
+Goes p ev s (leaves f below r rest) t u = (s.held r ≡ Some ev.task) × (t ≡ set_holder r None s)
     × (u ≡ task_with f rest below)
+Goes p ev s (returns f below) t u = IsCalled ev.task below × (t ≡ close_room f.room s) × (u ≡ runs below)
+Goes p ev s (joins frames one two) t u = IsOver one × IsOver two × (t ≡ s) × (u ≡ runs frames)
+Goes p ev s nothing t u = ⊥
 
--- the next event of a task: that of its innermost frame, or the join where both children have ended
+-- the next event of a task: what is shared goes from s to t, and the task becomes u
 abbrev pub TaskStep : Program → Event → Common → Task → Common → Task → Type 0
-TaskStep p ev s (runs []) t u = ⊥
-TaskStep p ev s (runs (f ∷ below)) t u = Goes p ev s f.fixed below f.todo t u
-TaskStep p ev s (waits frames one two) t u = IsOver one × IsOver two × (t ≡ s) × (u ≡ runs frames)
+TaskStep p ev s task t u = Goes p ev s (next task) t u
 
 -- Step: the event's number is new, the task at its path steps, and the tree is the old one with that task in
 -- its place
 pub record Step (p : Program) (event : Event) (before after : Config) : Type 0 where
-  pub fresh : IsUsed before.used event.number → ⊥
-  pub used : after.used ≡ event.number ∷ before.used
+  pub fresh : before.used event.number ≡ false
+  pub used : after.used ≡ adds event.number before.used
   pub from : Task
   pub to : Task
   pub there : task_at event.task before.tasks ≡ Some from

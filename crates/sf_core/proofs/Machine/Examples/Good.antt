@@ -4,7 +4,7 @@ use Rattle.std.specs.Prelude.{◌≡◌, ◌≢◌, ℕ, ◌==◌, Bool, true, f
 use Rattle.std.specs.List.{slice_get}
 use Rattle.std.specs.Option.{unwrap_or}
 use Rattle.std.proofs.Common.{sym, ap, ◌∙◌, refl, subst, inl, inr}
-use Rattle.std.proofs.lemmas.Option.{none-some}
+use Rattle.std.proofs.lemmas.Option.{none-some, same_Some}
 use Rattle.sf_base.proofs.Lookup.{get-single}
 use Rattle.sf_base.proofs.Options.{some-none}
 use Rattle.sf_base.specs.declared.ids.ResId.{ResId}
@@ -17,7 +17,8 @@ use Rattle.sf_core.proofs.Machine.Tasks.{task_at-running}
 use Rattle.sf_base.proofs.MapSplits.{empty_map, empty-holds, splits-empty_left, splits-empty_right, apart-none}
 use Rattle.sf_core.proofs.Assertions.Segments.{loc-same, nil-not_loc}
 use Rattle.sf_base.proofs.StoreSplits.{resource-is, resource-same}
-use Rattle.sf_core.specs.Machine.Bad.{Bad, next_root}
+use Rattle.sf_core.specs.Machine.Bad.{Bad, IsAtNoCell}
+use Rattle.sf_core.specs.Machine.Next.{frame_next, next}
 use Rattle.sf_core.specs.Machine.Config.{Frame, runs, Path, Config, evaluate, task_at, IsCalled}
 use Rattle.sf_core.specs.Machine.Good.{Owner, resource, task, IsOwned, Returns, Good}
 use Rattle.sf_base.specs.HeapStore.{Apart, Cell, Heap, IsEmpty, IsOne, shared}
@@ -81,14 +82,14 @@ ended_is_good_with_its_cell_alone heap = (ended-one heap, λ o. set-good (ended_
 returning-not_bad : (c : Config) (frame : Frame) (below : List Frame) → c.tasks ≡ runs (frame ∷ below)
     → frame.todo ≡ [] → Bad c → ⊥
 returning-not_bad c frame below only done (inl b) =
-    let there : task_at b.path (runs (frame ∷ below)) ≡ Some (runs (b.frame ∷ b.below)) =
-    subst (λ z. task_at b.path z ≡ Some (runs (b.frame ∷ b.below))) only b.enabled.there in
-    let top : b.path ≡ [] = task_at-running b.path (frame ∷ below) (runs (b.frame ∷ b.below)) there in
-    let here : Some (runs (frame ∷ below)) ≡ Some (runs (b.frame ∷ b.below)) =
-    subst (λ z. task_at z (runs (frame ∷ below)) ≡ Some (runs (b.frame ∷ b.below))) top there in
-    let same : frame ≡ b.frame = cc in
-    let nothing : b.frame.todo ≡ [] = subst (λ (z : Frame). z.todo ≡ []) same done in
-    none-some b.root (subst (λ z. next_root z ≡ Some b.root) nothing b.touches)
+    let there : task_at b.path (runs (frame ∷ below)) ≡ Some b.task =
+    subst (λ z. task_at b.path z ≡ Some b.task) only b.enabled.there in
+    let top : b.path ≡ [] = task_at-running b.path (frame ∷ below) b.task there in
+    let here : Some (runs (frame ∷ below)) ≡ Some b.task =
+    subst (λ z. task_at z (runs (frame ∷ below)) ≡ Some b.task) top there in
+    let mine : IsAtNoCell c.common (next (runs (frame ∷ below))) =
+    subst (λ z. IsAtNoCell c.common (next z)) (sym (same_Some (runs (frame ∷ below)) b.task here)) b.absent in
+    subst (λ z. IsAtNoCell c.common (frame_next frame.fixed below z)) done mine
 returning-not_bad c frame below only done (inr r) =
     r.different (
     task_at-running r.path (frame ∷ below) r.task

@@ -1,16 +1,15 @@
 -- The examples of two tasks side by side: what races and what doesn't.
 -- Names: each example has the name of its function; `side-WHAT` speaks of two tasks side by side.
-use Rattle.std.specs.Prelude.{◌≡◌, ◌≢◌, ℕ, List, [], ◌∷◌, Option, Some, None, ◌⊎◌}
-use Rattle.std.proofs.Common.{sym, ap, ◌∙◌, refl, subst, inl, inr, arith}
-use Rattle.std.proofs.lemmas.Option.{none-some}
+use Rattle.std.specs.Prelude.{◌≡◌, ◌≢◌, ℕ, List, [], ◌∷◌, Some, None, ◌⊎◌}
+use Rattle.std.proofs.Common.{sym, ◌∙◌, refl, subst, inl, inr, arith}
 use Rattle.sf_base.proofs.Options.{some-none}
 use Rattle.sf_base.specs.declared.path.Turn.TheVariants.{Left as left, Right as right}
-use Rattle.sf_core.specs.declared.command.Expr.{Expr}
-use Rattle.sf_core.specs.Machine.Bad.{Bad, IsAbsent, next_root}
-use Rattle.sf_core.specs.Machine.Config.{Item, Frame, Task, runs, Path, Common, evaluate, task_at}
-use Rattle.sf_core.specs.Machine.Enabled.{IsShut, IsBlocked, IsEnabled, Thing, variable, cell, FrameReads, FrameWrites, Reads, Writes}
-use Rattle.sf_base.specs.HeapStore.{Cell, shared, own}
-use Rattle.sf_core.specs.Machine.Examples.{lock, own_one, one_at, child_slots, child, side_by_side, at_one_cell, mutates, looks_up, enters, TwoMutationsRace, MutationAndLookUpRace, TwoLookUpsDoNotRace, TwoEntriesDoNotRace, HeldRegionsWait, sets_shared, enters_by_shared, passes_shared, makes_one, AssignmentAndTestRace, AssignmentAndConditionRace, AssignmentAndReferenceDoNotRace, NewAndLookUpDoNotRace}
+use Rattle.sf_core.specs.Machine.Bad.{Bad, IsAtNoCell}
+use Rattle.sf_core.specs.Machine.Next.{Next, frame_next, next}
+use Rattle.sf_core.specs.Machine.Config.{Item, Task, runs, Path, Common, task_at}
+use Rattle.sf_core.specs.Machine.Enabled.{IsBlocked, IsEnabled, Thing, variable, cell, Reads, Writes}
+use Rattle.sf_base.specs.HeapStore.{shared, own}
+use Rattle.sf_core.specs.Machine.Examples.{lock, child, side_by_side, at_one_cell, mutates, looks_up, enters, TwoMutationsRace, MutationAndLookUpRace, TwoLookUpsDoNotRace, TwoEntriesDoNotRace, HeldRegionsWait, sets_shared, enters_by_shared, passes_shared, makes_one, AssignmentAndTestRace, AssignmentAndConditionRace, AssignmentAndReferenceDoNotRace, NewAndLookUpDoNotRace}
 use Rattle.sf_core.proofs.Machine.Tasks.{MayGo, enabled-may_go}
 
 -- the tasks of such a configuration that may go on
@@ -37,43 +36,37 @@ side-enabled : (this that : List Item) (s : Common) (path : Path) (one : Task)
 side-enabled this that s path one e =
     side-tasks this that s path one e.there (enabled-may_go (side_by_side this that s) path one e)
 
--- a frame with that to do, its slots from that index on, doesn't touch an absent cell
+-- what a child with that to do does next, its slots from that index on
+abbrev child_next : ℕ → List Item → Next
+child_next first todo = frame_next (child first) [] todo
+
+-- a child with that to do doesn't touch an absent cell
 abbrev Finds : ℕ → List Item → Common → Type 0
-Finds first todo s = (root : Expr) → next_root todo ≡ Some root
-    → IsAbsent s.heap (evaluate (child_slots first) s.store root) → ⊥
+Finds first todo s = IsAtNoCell s (child_next first todo) → ⊥
 
 -- what the one writes the other neither reads nor writes
 abbrev Minds : (first : ℕ) (todo : List Item) (other : ℕ) (others : List Item) → Common → Type 0
 Minds first todo other others s =
-    (thing : Thing) → FrameWrites (child first) s.store todo thing
-    → FrameReads (child_slots other) s.store others thing ⊎ FrameWrites (child other) s.store others thing → ⊥
-
--- a frame that finds its cells touches no absent one
-finds-touches : (first : ℕ) (todo : List Item) (s : Common) (frame : Frame) (below : List Frame) (root : Expr)
-    → Finds first todo s → runs (record { fixed = child first; todo = todo } ∷ []) ≡ runs (frame ∷ below)
-    → next_root frame.todo ≡ Some root → IsAbsent s.heap (evaluate frame.fixed.slots s.store root) → ⊥
-finds-touches first todo s frame below root f e t a =
-    let same : record { fixed = child first; todo = todo } ≡ frame = cc in
-    f root (ap (λ (z : Frame). next_root z.todo) same ∙ t)
-    (subst (λ (z : Frame). IsAbsent s.heap (evaluate z.fixed.slots s.store root)) (sym same) a)
+    (thing : Thing) → Writes s.store (child_next first todo) thing
+    → Reads s.store (child_next other others) thing ⊎ Writes s.store (child_next other others) thing → ⊥
 
 -- two tasks side by side aren't bad where both find their cells and neither minds the other
 side-good : (this that : List Item) (s : Common) → Finds 0 this s → Finds 2 that s → Minds 0 this 2 that s
     → Minds 2 that 0 this s → Bad (side_by_side this that s) → ⊥
 side-good this that s f g m n (inl b) =
-    elim (side-enabled this that s b.path (runs (b.frame ∷ b.below)) b.enabled) [
-      | inl k ↦ finds-touches 0 this s b.frame b.below b.root f k.1 b.touches b.absent
-      | inr k ↦ finds-touches 2 that s b.frame b.below b.root g k.1 b.touches b.absent
+    elim (side-enabled this that s b.path b.task b.enabled) [
+      | inl k ↦ f (subst (λ z. IsAtNoCell s (next z)) (sym k.1) b.absent)
+      | inr k ↦ g (subst (λ z. IsAtNoCell s (next z)) (sym k.1) b.absent)
     ]
 side-good this that s f g m n (inr r) = elim (side-enabled this that s r.path r.task r.enabled) [
   | inl a ↦ elim (side-enabled this that s r.other_path r.other r.other_enabled) [
     | inl b ↦ r.different (a.0 ∙ sym b.0)
-    | inr b ↦ m r.thing (subst (λ z. Writes s.store z r.thing) (sym a.1) r.writes)
-        (subst (λ z. Reads s.store z r.thing ⊎ Writes s.store z r.thing) (sym b.1) r.meets)
+    | inr b ↦ m r.thing (subst (λ z. Writes s.store (next z) r.thing) (sym a.1) r.writes)
+        (subst (λ z. Reads s.store (next z) r.thing ⊎ Writes s.store (next z) r.thing) (sym b.1) r.meets)
   ]
   | inr a ↦ elim (side-enabled this that s r.other_path r.other r.other_enabled) [
-    | inl b ↦ n r.thing (subst (λ z. Writes s.store z r.thing) (sym a.1) r.writes)
-        (subst (λ z. Reads s.store z r.thing ⊎ Writes s.store z r.thing) (sym b.1) r.meets)
+    | inl b ↦ n r.thing (subst (λ z. Writes s.store (next z) r.thing) (sym a.1) r.writes)
+        (subst (λ z. Reads s.store (next z) r.thing ⊎ Writes s.store (next z) r.thing) (sym b.1) r.meets)
     | inr b ↦ r.different (a.0 ∙ sym b.0)
   ]
 ]
@@ -83,10 +76,9 @@ side-waits : (this that : List Item) (s : Common) → Finds 0 this s
     → ((task : Task) → IsEnabled (side_by_side this that s) (right ∷ []) task → ⊥)
     → Bad (side_by_side this that s) → ⊥
 side-waits this that s f n (inl b) =
-    elim (side-enabled this that s b.path (runs (b.frame ∷ b.below)) b.enabled) [
-      | inl k ↦ finds-touches 0 this s b.frame b.below b.root f k.1 b.touches b.absent
-      | inr k ↦ n (runs (b.frame ∷ b.below))
-          (subst (λ z. IsEnabled (side_by_side this that s) z (runs (b.frame ∷ b.below))) k.0 b.enabled)
+    elim (side-enabled this that s b.path b.task b.enabled) [
+      | inl k ↦ f (subst (λ z. IsAtNoCell s (next z)) (sym k.1) b.absent)
+      | inr k ↦ n b.task (subst (λ z. IsEnabled (side_by_side this that s) z b.task) k.0 b.enabled)
     ]
 side-waits this that s f n (inr r) = elim (side-enabled this that s r.path r.task r.enabled) [
   | inr a ↦ n r.task (subst (λ z. IsEnabled (side_by_side this that s) z r.task) a.0 r.enabled)
@@ -97,19 +89,22 @@ side-waits this that s f n (inr r) = elim (side-enabled this that s r.path r.tas
 ]
 
 -- the one at the right isn't enabled where its resource is held
-right-waits : (this : List Item) (i : Item) (rest : List Item) (s : Common) → IsShut s.held (i ∷ rest)
+right-waits : (this : List Item) (i : Item) (rest : List Item) (s : Common)
+    → IsBlocked s.held (child_next 2 (i ∷ rest))
     → (task : Task) → IsEnabled (side_by_side this (i ∷ rest) s) (right ∷ []) task → ⊥
 right-waits this i rest s shut one e =
     let same : runs (record { fixed = child 2; todo = i ∷ rest } ∷ []) ≡ one = cc (e.there) in
-    e.free (subst (IsBlocked s.held) same shut)
+    e.free (subst (λ z. IsBlocked s.held (next z)) same shut)
 
 -- the one at the left is enabled where it has something to do, and that is no region whose resource is held
-left-enabled : (i : Item) (rest that : List Item) (s : Common) → (IsShut s.held (i ∷ rest) → ⊥)
+left-enabled : (i : Item) (rest that : List Item) (s : Common)
+    → (IsBlocked s.held (child_next 0 (i ∷ rest)) → ⊥)
     → IsEnabled (side_by_side (i ∷ rest) that s) (left ∷ [])
     (runs (record { fixed = child 0; todo = i ∷ rest } ∷ []))
 left-enabled i rest that s n = record { there = refl; going = λ h. h; free = n }
 
-right-enabled : (this : List Item) (i : Item) (rest : List Item) (s : Common) → (IsShut s.held (i ∷ rest) → ⊥)
+right-enabled : (this : List Item) (i : Item) (rest : List Item) (s : Common)
+    → (IsBlocked s.held (child_next 2 (i ∷ rest)) → ⊥)
     → IsEnabled (side_by_side this (i ∷ rest) s) (right ∷ [])
     (runs (record { fixed = child 2; todo = i ∷ rest } ∷ []))
 right-enabled this i rest s n = record { there = refl; going = λ h. h; free = n }
@@ -119,9 +114,9 @@ turns-differ e = absurd (cc)
 
 -- two enabled tasks race where the one at the left writes what the other reads or writes
 left-races : (i j : Item) (rest others : List Item) (s : Common)
-    → (IsShut s.held (i ∷ rest) → ⊥) → (IsShut s.held (j ∷ others) → ⊥)
-    → (thing : Thing) → FrameWrites (child 0) s.store (i ∷ rest) thing
-    → FrameReads (child_slots 2) s.store (j ∷ others) thing ⊎ FrameWrites (child 2) s.store (j ∷ others) thing
+    → (IsBlocked s.held (child_next 0 (i ∷ rest)) → ⊥) → (IsBlocked s.held (child_next 2 (j ∷ others)) → ⊥)
+    → (thing : Thing) → Writes s.store (child_next 0 (i ∷ rest)) thing
+    → Reads s.store (child_next 2 (j ∷ others)) thing ⊎ Writes s.store (child_next 2 (j ∷ others)) thing
     → Bad (side_by_side (i ∷ rest) (j ∷ others) s)
 left-races i j rest others s m n thing w r = inr (record {
   path = left ∷ [];
@@ -138,9 +133,9 @@ left-races i j rest others s m n thing w r = inr (record {
 
 -- so do they where the one at the right writes it
 right-races : (i j : Item) (rest others : List Item) (s : Common)
-    → (IsShut s.held (i ∷ rest) → ⊥) → (IsShut s.held (j ∷ others) → ⊥)
-    → (thing : Thing) → FrameWrites (child 2) s.store (j ∷ others) thing
-    → FrameReads (child_slots 0) s.store (i ∷ rest) thing ⊎ FrameWrites (child 0) s.store (i ∷ rest) thing
+    → (IsBlocked s.held (child_next 0 (i ∷ rest)) → ⊥) → (IsBlocked s.held (child_next 2 (j ∷ others)) → ⊥)
+    → (thing : Thing) → Writes s.store (child_next 2 (j ∷ others)) thing
+    → Reads s.store (child_next 0 (i ∷ rest)) thing ⊎ Writes s.store (child_next 0 (i ∷ rest)) thing
     → Bad (side_by_side (i ∷ rest) (j ∷ others) s)
 right-races i j rest others s m n thing w r = inr (record {
   path = right ∷ [];
@@ -168,25 +163,6 @@ mutation_and_look_up_race k = (
   right-races _ _ [] [] (at_one_cell k None) (λ h. h) (λ h. h) (cell 1) refl (inl (inr refl)),
 )
 
--- the first variable of each child is the location of the cell, which is there
-finds-cell : (k : Cell) (holder : Option Path) (root : Expr) → Some (own_one 0) ≡ Some root
-    → IsAbsent (one_at k) (evaluate (child_slots 0) (at_one_cell k holder).store root) → ⊥
-finds-cell k holder root e a =
-    let same : own_one 0 ≡ root = cc in
-    let here : IsAbsent (one_at k) (evaluate (child_slots 0) (at_one_cell k holder).store (own_one 0)) =
-    subst (λ z. IsAbsent (one_at k) (evaluate (child_slots 0) (at_one_cell k holder).store z)) (sym same)
-    a in
-    some-none k here
-
-finds-cell_too : (k : Cell) (holder : Option Path) (root : Expr) → Some (own_one 0) ≡ Some root
-    → IsAbsent (one_at k) (evaluate (child_slots 2) (at_one_cell k holder).store root) → ⊥
-finds-cell_too k holder root e a =
-    let same : own_one 0 ≡ root = cc in
-    let here : IsAbsent (one_at k) (evaluate (child_slots 2) (at_one_cell k holder).store (own_one 0)) =
-    subst (λ z. IsAbsent (one_at k) (evaluate (child_slots 2) (at_one_cell k holder).store z)) (sym same)
-    a in
-    some-none k here
-
 -- things of different kinds, or slots of different indices, differ
 things-differ : (thing : Thing) (i j : ℕ) → thing ≡ variable (own 1 i)
     → (thing ≡ variable (own 1 j)) ⊎ (thing ≡ cell 1) → i ≢ j → ⊥
@@ -202,7 +178,7 @@ look_ups-mind thing i j k e (inr f) n m = things-differ thing i k e (inl f) m
 pub two_look_ups_do_not_race : TwoLookUpsDoNotRace
 unfolding TwoLookUpsDoNotRace
 two_look_ups_do_not_race k =
-    side-good looks_up looks_up (at_one_cell k None) (finds-cell k None) (finds-cell_too k None)
+    side-good looks_up looks_up (at_one_cell k None) (some-none k) (some-none k)
     (λ thing w m. look_ups-mind thing 1 2 3 w m (omega arith) (omega arith))
     (λ thing w m. look_ups-mind thing 3 0 1 w m (omega arith) (omega arith))
 
@@ -210,7 +186,7 @@ two_look_ups_do_not_race k =
 pub two_entries_do_not_race : TwoEntriesDoNotRace
 unfolding TwoEntriesDoNotRace
 two_entries_do_not_race k =
-    side-good enters enters (at_one_cell k None) (λ root e a. none-some root e) (λ root e a. none-some root e)
+    side-good enters enters (at_one_cell k None) (λ a. a) (λ a. a)
     (λ thing w m. w) (λ thing w m. w)
 
 nothing-met : ⊥ ⊎ ⊥ → ⊥
@@ -223,7 +199,7 @@ unfolding HeldRegionsWait
 held_regions_wait k =
     let waiting = right-waits mutates _ [] (at_one_cell k (Some (left ∷ []))) (some-none (left ∷ [])) in (
       waiting,
-      side-waits mutates enters (at_one_cell k (Some (left ∷ []))) (finds-cell k (Some (left ∷ [])))
+      side-waits mutates enters (at_one_cell k (Some (left ∷ []))) (some-none k)
           waiting,
     )
 
@@ -238,7 +214,7 @@ pub assignment_and_condition_race : AssignmentAndConditionRace
 unfolding AssignmentAndConditionRace
 assignment_and_condition_race s = (
   λ free. left-races _ _ [] [] s (λ h. h) (λ h. h free) (variable (shared lock 0)) refl (inl (inl refl)),
-  λ path held. side-waits sets_shared enters_by_shared s (λ root e a. none-some root e)
+  λ path held. side-waits sets_shared enters_by_shared s (λ a. a)
       (right-waits sets_shared _ [] s (λ free. some-none path (sym held ∙ free))),
 )
 
@@ -246,14 +222,14 @@ assignment_and_condition_race s = (
 pub assignment_and_reference_do_not_race : AssignmentAndReferenceDoNotRace
 unfolding AssignmentAndReferenceDoNotRace
 assignment_and_reference_do_not_race s =
-    side-good sets_shared passes_shared s (λ root e a. none-some root e) (λ root e a. none-some root e)
+    side-good sets_shared passes_shared s (λ a. a) (λ a. a)
     (λ thing w m. nothing-met m) (λ thing w m. w)
 
 -- the cell of a `new` isn't one that is there
 pub new_and_look_up_do_not_race : NewAndLookUpDoNotRace
 unfolding NewAndLookUpDoNotRace
 new_and_look_up_do_not_race k =
-    side-good makes_one looks_up (at_one_cell k None) (λ root e a. none-some root e) (finds-cell_too k None)
+    side-good makes_one looks_up (at_one_cell k None) (λ a. a) (some-none k)
     (λ thing w m. look_ups-mind thing 0 2 3 w m (omega arith) (omega arith))
     (λ thing w m. new-minds thing 3 0 w m (omega arith))
   where

@@ -1,11 +1,10 @@
 -- The examples of runs, and of a start without resources.
 -- Names: each example has the name of its function; `ended-WHAT` speaks of an ended entry, `one-WHAT` of a cell.
-use Rattle.std.specs.Prelude.{◌≡◌, ◌≢◌, ℕ, ◌==◌, ◌&&◌, pos, true, cond, nat_lt, List, [], ◌∷◌, Some, None, ◌⊎◌, ◌<◌}
-use Rattle.std.specs.List.{list_all, slice_get}
+use Rattle.std.specs.Prelude.{◌≡◌, ◌≢◌, ℕ, ◌==◌, ◌&&◌, pos, false, cond, [], ◌∷◌, Some, None, ◌⊎◌, ◌<◌}
+use Rattle.std.specs.List.{slice_get}
 use Rattle.std.specs.Option.{unwrap_or}
 use Rattle.std.proofs.Common.{sym, ap, ap₂, ◌∙◌, refl, subst, inl, inr, arith}
 use Rattle.std.proofs.lemmas.Bool.{and_parts}
-use Rattle.std.proofs.lemmas.Bool.Decides.{nat_tests}
 use Rattle.std.proofs.lemmas.Option.{none-some}
 use Rattle.sf_base.proofs.Options.{cond-some}
 use Rattle.sf_base.specs.declared.ids.ResId.{ResId}
@@ -15,13 +14,13 @@ use Rattle.sf_base.specs.declared.path.Turn.TheVariants.{Left as left, Right as 
 use Rattle.sf_base.specs.declared.value.Value.{Value}
 use Rattle.sf_base.specs.declared.value.Value.TheVariants.{Nil as nil, Int as int, Loc as loc}
 use Rattle.sf_core.specs.declared.command.Expr.{Expr}
-use Rattle.sf_core.specs.declared.command.Expr.TheVariants.{Var as Variable, Nil}
+use Rattle.sf_core.specs.declared.command.Expr.TheVariants.{Var as Variable}
 use Rattle.sf_core.specs.declared.command.Occurrence.{Occurrence}
 use Rattle.sf_core.specs.declared.assertion.Operand.TheVariants.{Known}
 use Rattle.sf_base.proofs.HeapSplits.{at-same, one-single, put-elsewhere, star-drop_right}
 use Rattle.sf_base.proofs.MapSplits.{apart-none, splits-empty_right}
 use Rattle.sf_core.specs.Machine.Bad.{Bad}
-use Rattle.sf_core.specs.Machine.Config.{Frame, Task, runs, Path, Common, Config, evaluate, task_at, put_task, IsUsed, IsCalled}
+use Rattle.sf_core.specs.Machine.Config.{Frame, Task, runs, Path, Common, Config, evaluate, task_at, put_task, adds, IsCalled}
 use Rattle.sf_core.specs.Machine.Enabled.{HasEnded}
 use Rattle.sf_core.specs.Machine.Good.{Owner, resource, task, Returns, Good}
 use Rattle.sf_base.specs.HeapStore.{Apart, Splits, Cell, put_field, Heap, IsOne, Slot, shared, own}
@@ -35,22 +34,12 @@ use Rattle.sf_core.specs.Program.Syntax.{Procedure, Program, Resource}
 use Rattle.sf_core.proofs.Machine.Tasks.{task_at-ended}
 
 -- Steps of known configurations
--- a number above all used ones is new
-number-new : (n : ℕ) (used : List ℕ) → list_all (λ m. nat_lt m n) used ≡ true → IsUsed used n → ⊥
-number-new n [] l u = u
-number-new n (m ∷ used) l (inl e) =
-    let below : nat_lt m n ≡ true = (and_parts (nat_lt m n) (list_all (λ k. nat_lt k n) used) l).0 in
-    absurd (grind (arith, nat_tests))
-number-new n (m ∷ used) l (inr u) =
-    number-new n used (and_parts (nat_lt m n) (list_all (λ k. nat_lt k n) used) l).1 u
-
 -- the step that an event of a task makes, with the configuration that it leads to
-to : (p : Program) (ev : Event) (c : Config) (t : Common) (from u : Task)
-    → list_all (λ m. nat_lt m ev.number) c.used ≡ true
+to : (p : Program) (ev : Event) (c : Config) (t : Common) (from u : Task) → c.used ev.number ≡ false
     → task_at ev.task c.tasks ≡ Some from → TaskStep p ev c.common from t u
-    → Step p ev c (record { common = t; used = ev.number ∷ c.used; tasks = put_task ev.task u c.tasks })
+    → Step p ev c (record { common = t; used = adds ev.number c.used; tasks = put_task ev.task u c.tasks })
 to p ev c t from u f e s = record {
-  fresh = number-new ev.number c.used f;
+  fresh = f;
   used = refl;
   from = from;
   to = u;
@@ -64,11 +53,8 @@ pub dispose_at_nil_is_bad : DisposeAtNilIsBad
 unfolding DisposeAtNilIsBad
 dispose_at_nil_is_bad s rest = inl (record {
   path = [];
-  frame = _;
-  below = [];
+  task = _;
   enabled = record { there = refl; going = λ h. absurd (cc); free = λ h. h };
-  root = Nil;
-  touches = refl;
   absent = tt;
 })
 
@@ -238,12 +224,11 @@ entry_part-apart h (task (turn ∷ path)) other n a = tt
 -- nothing bad comes after the end
 pub ended-not_bad : (c : Config) → HasEnded [] c.tasks → Bad c → ⊥
 ended-not_bad c h (inl b) =
-    let top : b.path ≡ [] = task_at-ended b.path c.tasks (runs (b.frame ∷ b.below)) h b.enabled.there in
-    let there : task_at [] c.tasks ≡ Some (runs (b.frame ∷ b.below)) =
-    subst (λ z. task_at z c.tasks ≡ Some (runs (b.frame ∷ b.below))) top b.enabled.there in
-    let same : c.tasks ≡ runs (b.frame ∷ b.below) = cc in
-    b.enabled.going (subst (λ z. HasEnded z (runs (b.frame ∷ b.below))) (sym top)
-    (subst (HasEnded []) same h))
+    let top : b.path ≡ [] = task_at-ended b.path c.tasks b.task h b.enabled.there in
+    let there : task_at [] c.tasks ≡ Some b.task =
+    subst (λ z. task_at z c.tasks ≡ Some b.task) top b.enabled.there in
+    let same : c.tasks ≡ b.task = cc in
+    b.enabled.going (subst (λ z. HasEnded z b.task) (sym top) (subst (HasEnded []) same h))
 ended-not_bad c h (inr r) =
     r.different (task_at-ended r.path c.tasks r.task h r.enabled.there
     ∙ sym (task_at-ended r.other_path c.tasks r.other h r.other_enabled.there))
