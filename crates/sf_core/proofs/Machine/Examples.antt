@@ -3,3 +3,4 @@ pub mod Runs
 pub mod Races
 pub mod Good
 pub mod Starts
+pub mod Numbers

@@ -1,6 +1,6 @@
 -- Examples of the machine's definitions: small programs, their runs, and configurations that are bad or not.
 -- The commands are those of Berdine, Calcagno, O'Hearn, "Smallfoot" (2005); races as in O'Hearn (2007).
-use Rattle.std.specs.Prelude.{◌≡◌, ◌↔◌, ℕ, ◌+◌, ◌-◌, ◌==◌, pos, cond, List, [], ◌∷◌, length, codes, Option, Some, None}
+use Rattle.std.specs.Prelude.{◌≡◌, ◌≢◌, ◌⊎◌, ◌↔◌, ℕ, false, ◌+◌, ◌-◌, ◌==◌, pos, cond, List, [], ◌∷◌, length, codes, Option, Some, None}
 use Rattle.sf_base.specs.declared.ids.FieldId.{FieldId}
 use Rattle.sf_base.specs.declared.ids.ResId.{ResId}
 use Rattle.sf_base.specs.declared.ids.Var.{Var}
@@ -15,13 +15,13 @@ use Rattle.sf_core.specs.declared.command.Expr.{Expr}
 use Rattle.sf_core.specs.declared.command.Expr.TheVariants.{Var as Variable, Nil, Int}
 use Rattle.sf_core.specs.declared.command.Occurrence.{Occurrence}
 use Rattle.sf_core.specs.Machine.Bad.{Bad}
-use Rattle.sf_core.specs.Machine.Config.{Item, command, Fixed, Frame, Task, runs, waits, Path, Common, Config, adds}
+use Rattle.sf_core.specs.Machine.Config.{Item, command, Fixed, Frame, Task, runs, waits, Path, Common, Config, task_at, adds}
 use Rattle.sf_core.specs.Machine.Enabled.{HasEnded, IsEnabled}
 use Rattle.sf_core.specs.Machine.Good.{Good}
 use Rattle.sf_base.specs.HeapStore.{Cell, put_field, Heap, IsEmpty, IsOne, Slot, shared, own, same_slot, Store}
 use Rattle.sf_core.specs.Machine.Reach.{Reach}
 use Rattle.sf_core.specs.Machine.Start.{Start, initial_config, entry_frame, entry_slot}
-use Rattle.sf_core.specs.Machine.Step.{Event, room_for, slots_of}
+use Rattle.sf_core.specs.Machine.Step.{Event, Step, room_for, slots_of, task_with}
 use Rattle.sf_core.specs.Program.Syntax.{points, level, none, also, Call, assign, look_up, mutate, new, dispose, if, while, call, fork, with, Block, done, then, Assertion, Procedure, Program, Resource}
 
 -- a place in the text, which no definition looks at
@@ -516,3 +516,45 @@ AssignmentAndReferenceDoNotRace = (s : Common) → Bad (side_by_side sets_shared
 -- nor do a `new` and a look-up of a cell that is there
 unfoldable pub NewAndLookUpDoNotRace : Type 0
 NewAndLookUpDoNotRace = (k : Cell) → Bad (side_by_side makes_one looks_up (at_one_cell k None)) → ⊥
+
+-- after a call neither the number of its event nor that of the start is new: no event of any task has it
+unfoldable pub UsedNumbersStayUsed : Type 0
+UsedNumbersStayUsed = (k : Cell) (c d : Config) (again : Event) → Step setting (event [] 1) (setting_start k) c
+    → (again.number ≡ 1) ⊎ (again.number ≡ 0) → Step setting again c d → ⊥
+
+-- a task whose path has 63 turns has no event at a fork
+unfoldable pub DeepForksDoNotStep : Type 0
+DeepForksDoNotStep = (p : Program) (ev : Event) (c d : Config) (f : Fixed) (one two : Call) (rest : List Item)
+    (below : List Frame) → length ev.task ≡ 63
+    → task_at ev.task c.tasks ≡ Some (task_with f (command (fork here one two) ∷ rest) below)
+    → Step p ev c d → ⊥
+
+-- one whose path has 62 turns has one: the entry of `forks` that deep in the tree
+unfoldable pub LessDeepForksStep : Type 0
+LessDeepForksStep = (ev : Event) (c : Config) → length ev.task ≡ 62
+    → task_at ev.task c.tasks ≡ Some (runs (entry_frame (record { 0 = 0 }) forks ∷ []))
+    → c.used ev.number ≡ false → (d : Config) × Step forking ev c d
+
+-- twice(c;) [c |->] { set(; c); set(; c); } [c |->]
+abbrev pub twice : Procedure
+twice = procedure (codes "c" ∷ []) 1 0 one_cell
+    (then (call here (calls 1 (own_one 0 ∷ []))) (then (call here (calls 1 (own_one 0 ∷ []))) done))
+
+-- it and `set`, with no resource
+abbrev pub setting_twice : Program
+setting_twice = record { fields = codes "hd" ∷ []; resources = []; procedures = twice ∷ set ∷ [] }
+
+-- `twice` starts at the one cell
+abbrev pub twice_start : Cell → Config
+twice_start k = initial_config (record { 0 = 0 }) twice (one_in (loc 1)) (one_at k)
+
+-- the slot of the first call, which has returned, is gone, and the second call has another
+pub record HasNewRoom (number : ℕ) (d : Config) : Type 0 where
+  pub new : number ≢ 1
+  pub gone : d.common.store (own 1 0) ≡ None
+  pub there : d.common.store (own number 0) ≡ Some (loc 1)
+
+-- a room isn't given twice: whatever number the second call has, its slot isn't that of the first
+unfoldable pub RoomsAreNotGivenTwice : Type 0
+RoomsAreNotGivenTwice = (k : Cell) (number : ℕ) (d : Config) → Reach setting_twice (twice_start k)
+    (event [] 1 ∷ event [] 2 ∷ event [] 3 ∷ event [] number ∷ []) d → HasNewRoom number d

@@ -6,6 +6,7 @@ ghost use Rattle.sf_core.specs.Machine.Examples.{
   CallMutateReturn,
   ChildrenEndInAnyOrder,
   ChildrenFillReferences,
+  DeepForksDoNotStep,
   DisposeAtNilIsBad,
   EndedIsGoodWithItsCellAlone,
   EndedIsGoodWithTheInvariantAlone,
@@ -14,11 +15,13 @@ ghost use Rattle.sf_core.specs.Machine.Examples.{
   FreedLocationsComeAgain,
   HeldRegionsWait,
   HoldersDoNotStart,
+  LessDeepForksStep,
   MutationAndLookUpRace,
   NewAndLookUpDoNotRace,
   ReferencesArePassedOn,
   RegionThenLoop,
   ReturningIsGoodWithItsCell,
+  RoomsAreNotGivenTwice,
   SettingStarts,
   SkipDoesNotStartWithNothing,
   SkipStartsWithNothingElse,
@@ -26,6 +29,7 @@ ghost use Rattle.sf_core.specs.Machine.Examples.{
   TwoEntriesDoNotRace,
   TwoLookUpsDoNotRace,
   TwoMutationsRace,
+  UsedNumbersStayUsed,
 };
 
 /// A procedure of one cell has a start: the definition of a start can be met.
@@ -187,4 +191,28 @@ pub fn assignment_and_reference_do_not_race()
 #[tactic(auto, using(crate::proofs::Machine::Examples::Races::new_and_look_up_do_not_race))]
 pub fn new_and_look_up_do_not_race()
     ensures { NewAndLookUpDoNotRace }
+{}
+
+/// After a call the number of its event isn't new, nor is that of the start.
+#[tactic(auto, using(crate::proofs::Machine::Examples::Numbers::used_numbers_stay_used))]
+pub fn used_numbers_stay_used()
+    ensures { UsedNumbersStayUsed }
+{}
+
+/// A task whose path has 63 turns has no event at a fork.
+#[tactic(auto, using(crate::proofs::Machine::Examples::Numbers::deep_forks_do_not_step))]
+pub fn deep_forks_do_not_step()
+    ensures { DeepForksDoNotStep }
+{}
+
+/// A task whose path has 62 turns has one.
+#[tactic(auto, using(crate::proofs::Machine::Examples::Numbers::less_deep_forks_step))]
+pub fn less_deep_forks_step()
+    ensures { LessDeepForksStep }
+{}
+
+/// Of two calls, one after the other, the second has another room, whatever its number.
+#[tactic(auto, using(crate::proofs::Machine::Examples::Numbers::rooms_are_not_given_twice))]
+pub fn rooms_are_not_given_twice()
+    ensures { RoomsAreNotGivenTwice }
 {}

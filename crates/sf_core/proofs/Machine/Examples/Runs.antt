@@ -35,7 +35,7 @@ use Rattle.sf_core.proofs.Machine.Tasks.{task_at-ended}
 
 -- Steps of known configurations
 -- the step that an event of a task makes, with the configuration that it leads to
-to : (p : Program) (ev : Event) (c : Config) (t : Common) (from u : Task) → c.used ev.number ≡ false
+pub to : (p : Program) (ev : Event) (c : Config) (t : Common) (from u : Task) → c.used ev.number ≡ false
     → task_at ev.task c.tasks ≡ Some from → TaskStep p ev c.common from t u
     → Step p ev c (record { common = t; used = adds ev.number c.used; tasks = put_task ev.task u c.tasks })
 to p ev c t from u f e s = record {
