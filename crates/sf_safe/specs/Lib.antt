@@ -1,0 +1,5 @@
+pub mod Own
+pub mod Contract
+pub mod Safe
+pub mod Invariant
+pub mod Law
