@@ -1,0 +1,5 @@
+pub mod Owns
+pub mod Shuffles
+pub mod Seen
+pub mod Commands
+pub mod Trees

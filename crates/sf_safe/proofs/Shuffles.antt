@@ -1,0 +1,112 @@
+-- The regroupings of the parts of a whole that events make, over plain variables.
+-- Names: after-EVENT, with the parts as they are after it.
+use Rattle.std.specs.Prelude.{List, [], ◌∷◌}
+use Rattle.sf_safe.specs.Own.{Own, Parts}
+use Rattle.sf_safe.proofs.Owns.{Sums, group, order}
+
+-- after a call: new slots m, what the callee is given u, what its caller keeps v, the lower frames' q
+pub record AfterCall (w m u v q r e : Own) : Type 0 where
+  pub callee : Own
+  pub others : Own
+  pub stack : Own
+  pub entered : Parts callee u m
+  pub waiting : Parts others v q
+  pub split : Parts stack callee others
+  pub sums : Sums w (stack ∷ r ∷ e ∷ [])
+
+pub after-call : (w m u v q r e : Own) → Sums w (m ∷ u ∷ v ∷ q ∷ r ∷ e ∷ []) → AfterCall w m u v q r e
+after-call w m u v q r e s =
+    let a = group (v ∷ q ∷ r ∷ e ∷ []) (order (1 ∷ []) (m ∷ u ∷ v ∷ q ∷ r ∷ e ∷ []) w s) in
+    let b = group (a.both ∷ r ∷ e ∷ []) (order (1 ∷ 1 ∷ []) (a.both ∷ v ∷ q ∷ r ∷ e ∷ []) w a.sums) in
+    let c = group (r ∷ e ∷ []) (order (1 ∷ []) (b.both ∷ a.both ∷ r ∷ e ∷ []) w b.sums) in
+    record {
+      callee = a.both;
+      others = b.both;
+      stack = c.both;
+      entered = a.parts;
+      waiting = b.parts;
+      split = c.parts;
+      sums = c.sums;
+    }
+
+-- after a fork: new slots m of the left and l of the right child, what they are given, a and b, what their
+-- parent keeps v, the lower frames' q
+pub record AfterFork (w l m a b v q r e : Own) : Type 0 where
+  pub first : Own
+  pub second : Own
+  pub parent : Own
+  pub children : Own
+  pub task : Own
+  pub first_entered : Parts first a m
+  pub second_entered : Parts second b l
+  pub waiting : Parts parent v q
+  pub apart : Parts children first second
+  pub split : Parts task parent children
+  pub sums : Sums w (task ∷ r ∷ e ∷ [])
+
+pub after-fork : (w l m a b v q r e : Own) → Sums w (l ∷ m ∷ a ∷ b ∷ v ∷ q ∷ r ∷ e ∷ [])
+    → AfterFork w l m a b v q r e
+after-fork w l m a b v q r e s =
+    let x = group (b ∷ l ∷ v ∷ q ∷ r ∷ e ∷ [])
+    (order (2 ∷ 1 ∷ 1 ∷ []) (l ∷ m ∷ a ∷ b ∷ v ∷ q ∷ r ∷ e ∷ []) w s) in
+    let y = group (x.both ∷ v ∷ q ∷ r ∷ e ∷ [])
+    (order (1 ∷ 1 ∷ []) (x.both ∷ b ∷ l ∷ v ∷ q ∷ r ∷ e ∷ []) w x.sums) in
+    let c = group (v ∷ q ∷ r ∷ e ∷ [])
+    (order (1 ∷ []) (y.both ∷ x.both ∷ v ∷ q ∷ r ∷ e ∷ []) w y.sums) in
+    let p = group (c.both ∷ r ∷ e ∷ []) (order (1 ∷ 1 ∷ []) (c.both ∷ v ∷ q ∷ r ∷ e ∷ []) w c.sums) in
+    let t = group (r ∷ e ∷ []) p.sums in
+    record {
+      first = x.both;
+      second = y.both;
+      parent = p.both;
+      children = c.both;
+      task = t.both;
+      first_entered = x.parts;
+      second_entered = y.parts;
+      waiting = p.parts;
+      apart = c.parts;
+      split = t.parts;
+      sums = t.sums;
+    }
+
+-- after a return or a join: what comes back, g, joins the frame's part v, beside the lower frames' q
+pub record AfterBack (w g v q r e : Own) : Type 0 where
+  pub frame : Own
+  pub stack : Own
+  pub back : Parts frame g v
+  pub split : Parts stack frame q
+  pub sums : Sums w (stack ∷ r ∷ e ∷ [])
+
+pub after-back : (w g v q r e : Own) → Sums w (g ∷ v ∷ q ∷ r ∷ e ∷ []) → AfterBack w g v q r e
+after-back w g v q r e s =
+    let a = group (q ∷ r ∷ e ∷ []) s in
+    let b = group (r ∷ e ∷ []) a.sums in
+    record { frame = a.both; stack = b.both; back = a.parts; split = b.parts; sums = b.sums }
+
+-- after an entry: the share i of a resource comes to the frame's part v, and d is left to the free ones
+pub record AfterEntry (w v q r i d : Own) : Type 0 where
+  pub frame : Own
+  pub stack : Own
+  pub back : Parts frame v i
+  pub split : Parts stack frame q
+  pub sums : Sums w (stack ∷ r ∷ d ∷ [])
+
+pub after-entry : (w v q r i d : Own) → Sums w (v ∷ q ∷ r ∷ i ∷ d ∷ []) → AfterEntry w v q r i d
+after-entry w v q r i d s =
+    let a = group (q ∷ r ∷ d ∷ []) (order (0 ∷ 2 ∷ []) (v ∷ q ∷ r ∷ i ∷ d ∷ []) w s) in
+    let b = group (r ∷ d ∷ []) a.sums in
+    record { frame = a.both; stack = b.both; back = a.parts; split = b.parts; sums = b.sums }
+
+-- after an exit: the share i is with the free ones' e again
+pub record AfterExit (w i v q r e : Own) : Type 0 where
+  pub stack : Own
+  pub free : Own
+  pub back : Parts free i e
+  pub split : Parts stack v q
+  pub sums : Sums w (stack ∷ r ∷ free ∷ [])
+
+pub after-exit : (w i v q r e : Own) → Sums w (i ∷ v ∷ q ∷ r ∷ e ∷ []) → AfterExit w i v q r e
+after-exit w i v q r e s =
+    let a = group (v ∷ q ∷ r ∷ []) (order (0 ∷ 3 ∷ []) (i ∷ v ∷ q ∷ r ∷ e ∷ []) w s) in
+    let b = group (r ∷ a.both ∷ []) (order (1 ∷ 1 ∷ 1 ∷ []) (a.both ∷ v ∷ q ∷ r ∷ []) w a.sums) in
+    record { stack = b.both; free = a.both; back = a.parts; split = b.parts; sums = b.sums }

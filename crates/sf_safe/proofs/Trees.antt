@@ -1,0 +1,198 @@
+-- The tree of tasks: shares that are safe for more events are so for fewer, and one task of the tree with its share.
+-- Names: `fewer-WHAT` goes to one event less; `focus`.
+use Rattle.std.specs.Prelude.{◌≡◌, ℕ, zero, suc, List, [], ◌∷◌, ◌++◌, Option, Some, None}
+use Rattle.std.proofs.Common.{sym, subst}
+use Rattle.std.proofs.lemmas.Option.{same_Some}
+use Rattle.sf_base.specs.declared.path.Turn.TheVariants.{Left as left, Right as right}
+use Rattle.sf_core.specs.Machine.Config.{Item, command, leave, items, Frame, Task, runs, waits, Path, task_at, put_task}
+use Rattle.sf_core.specs.Program.Syntax.{assign, look_up, mutate, new, dispose, if, while, call, fork, with, Program}
+use Rattle.sf_safe.specs.Own.{Own, Parts, nothing, ◌⋆◌}
+use Rattle.sf_safe.specs.Contract.{Known}
+use Rattle.sf_safe.specs.Safe.{Safe}
+use Rattle.sf_safe.specs.Invariant.{known, Callers, Running, Waiting, Tree}
+use Rattle.sf_safe.proofs.Owns.{and, parts-comm, parts-left, parts-nothing, parts-of_nothing, parts-right}
+
+module _ (p : Program) where
+  -- a frame that is safe for more events is so for fewer
+  pub fewer : (n : ℕ) (k : Known) (todo : List Item) (w : Own) → Safe p (suc n) k todo w → Safe p n k todo w
+  fewer zero k todo w s = tt
+  fewer (suc n) k [] w s = s
+  fewer (suc n) k (command (assign place x e) ∷ rest) w s = (s.0, s.1, fewer n k rest _ s.2)
+  fewer (suc n) k (command (look_up place x e field) ∷ rest) w s = (s.0, s.1, fewer n k rest _ s.2)
+  fewer (suc n) k (command (mutate place e field v) ∷ rest) w s = (s.0, s.1, fewer n k rest _ s.2)
+  fewer (suc n) k (command (new place x) ∷ rest) w s = (s.0, λ a c i e. fewer n k rest _ (s.1 a c i e))
+  fewer (suc n) k (command (dispose place e) ∷ rest) w s = (s.0, fewer n k rest _ s.1)
+  fewer (suc n) k (command (if place test this that) ∷ rest) w s = record {
+    reads = s.reads;
+    this = λ t. fewer n k (items this ++ rest) w (s.this t);
+    that = λ t. fewer n k (items that ++ rest) w (s.that t);
+  }
+  fewer (suc n) k (command (while place test kept body) ∷ rest) w s = record {
+    reads = s.reads;
+    this = λ t. fewer n k (items body ++ (command (while place test kept body) ∷ rest)) w (s.this t);
+    that = λ t. fewer n k rest w (s.that t);
+  }
+  fewer (suc n) k (command (call place c) ∷ rest) w s = (
+    s.0,
+    λ g i. let a = s.1 g i in record {
+      given = a.given;
+      kept = a.kept;
+      parts = a.parts;
+      enters = a.enters;
+      goes_on = λ event back after e q. fewer n k rest after (a.goes_on event back after e q);
+    },
+  )
+  fewer (suc n) k (command (fork place c d) ∷ rest) w s = (
+    s.0,
+    s.1,
+    λ g h i j. let a = s.2 g h i j in record {
+      given = a.given;
+      left = a.left;
+      right = a.right;
+      kept = a.kept;
+      parts = a.parts;
+      apart = a.apart;
+      enters_left = a.enters_left;
+      enters_right = a.enters_right;
+      goes_on = λ event one two back after x y q r.
+          fewer n k rest after (a.goes_on event one two back after x y q r);
+    },
+  )
+  fewer (suc n) k (command (with place r test body) ∷ rest) w s = record {
+    there = s.there;
+    reads = s.reads;
+    goes_on = λ share both f q t. fewer n k _ both (s.goes_on share both f q t);
+  }
+  fewer (suc n) k (leave r ∷ rest) w s = record {
+    share = s.share;
+    kept = s.kept;
+    parts = s.parts;
+    free = s.free;
+    goes_on = fewer n k rest s.kept s.goes_on;
+  }
+
+  pub fewer-callers : (n : ℕ) (k : Known) (below : List Frame) (owed : Known) (w : Own)
+      → Callers p (suc n) k below owed w → Callers p n k below owed w
+  fewer-callers n k [] owed w s = s
+  fewer-callers n k (f ∷ below) owed w (v, s) = (v, record {
+    left = s.left;
+    right = s.right;
+    parts = s.parts;
+    first = λ back after r q. fewer n (known f v) f.todo after (s.first back after r q);
+    second = fewer-callers n (known f v) below owed s.right s.second;
+  })
+
+  pub fewer-running : (n : ℕ) (owed : Known) (frames : List Frame) (w : Own) → Running p (suc n) owed frames w
+      → Running p n owed frames w
+  fewer-running n owed [] w s = s
+  fewer-running n owed (f ∷ below) w (v, s) = (v, record {
+    left = s.left;
+    right = s.right;
+    parts = s.parts;
+    first = fewer n (known f v) f.todo s.left s.first;
+    second = fewer-callers n (known f v) below owed s.right s.second;
+  })
+
+  pub fewer-waiting : (n : ℕ) (owed : Known) (frames : List Frame) (g h : Known) (w : Own)
+      → Waiting p (suc n) owed frames g h w → Waiting p n owed frames g h w
+  fewer-waiting n owed [] g h w s = s
+  fewer-waiting n owed (f ∷ below) g h w (v, s) = (v, record {
+    left = s.left;
+    right = s.right;
+    parts = s.parts;
+    first = λ one two back after x y i j. fewer n (known f v) f.todo after (s.first one two back after x y i j);
+    second = fewer-callers n (known f v) below owed s.right s.second;
+  })
+
+  pub fewer-tree : (n : ℕ) (owed : Known) (t : Task) (w : Own) → Tree p (suc n) owed t w → Tree p n owed t w
+  fewer-tree n owed (runs frames) w s = fewer-running n owed frames w s
+  fewer-tree n owed (waits frames one two) w (g, h, k) = (g, h, record {
+    left = k.left;
+    right = k.right;
+    parts = k.parts;
+    first = fewer-waiting n owed frames g h k.left k.first;
+    second = record {
+      left = k.second.left;
+      right = k.second.right;
+      parts = k.second.parts;
+      first = fewer-tree n g one _ k.second.first;
+      second = fewer-tree n h two _ k.second.second;
+    };
+  })
+
+  -- one task of the tree, with its share, and the way back to a tree for one event less
+  pub record Focus (n : ℕ) (owed : Known) (path : Path) (t u : Task) (w : Own) : Type 0 where
+    pub owes : Known
+    pub part : Own
+    pub rest : Own
+    pub parts : Parts w part rest
+    pub here : Tree p (suc n) owes u part
+    pub back : (u' : Task) (part' w' : Own) → Tree p n owes u' part' → Parts w' part' rest
+        → Tree p n owed (put_task path u' t) w'
+
+  pub focus : (n : ℕ) (owed : Known) (path : Path) (t u : Task) (w : Own) → task_at path t ≡ Some u
+      → Tree p (suc n) owed t w → Focus n owed path t u w
+  focus n owed [] t u w e s = record {
+    owes = owed;
+    part = w;
+    rest = nothing;
+    parts = parts-nothing w;
+    here = subst (λ z. Tree p (suc n) owed z w) (same_Some t u e) s;
+    back = λ u' part' w' h q. subst (Tree p n owed u') (sym (parts-of_nothing q)) h;
+  }
+  focus n owed (left ∷ path) (runs frames) u w e s = absurd (cc)
+  focus n owed (right ∷ path) (runs frames) u w e s = absurd (cc)
+  focus n owed (left ∷ path) (waits frames one two) u w e (g, h, k) =
+      let f = focus n g path one u k.second.left e k.second.first in
+      let m = parts-right f.parts k.second.parts in
+      let c = parts-right m.1 (parts-comm k.parts) in
+      record {
+        owes = f.owes;
+        part = f.part;
+        rest = and (and f.rest k.second.right) k.left;
+        parts = c.1;
+        here = f.here;
+        back = λ u' part' w' t q.
+            let x = parts-left c.0 q in
+            let y = parts-left m.0 x.0 in
+            (g, h, record {
+              left = k.left;
+              right = _;
+              parts = parts-comm x.1;
+              first = fewer-waiting n owed frames g h k.left k.first;
+              second = record {
+                left = _;
+                right = k.second.right;
+                parts = y.1;
+                first = f.back u' part' _ t y.0;
+                second = fewer-tree n h two _ k.second.second;
+              };
+            });
+      }
+  focus n owed (right ∷ path) (waits frames one two) u w e (g, h, k) =
+      let f = focus n h path two u k.second.right e k.second.second in
+      let m = parts-right f.parts (parts-comm k.second.parts) in
+      let c = parts-right m.1 (parts-comm k.parts) in
+      record {
+        owes = f.owes;
+        part = f.part;
+        rest = and (and f.rest k.second.left) k.left;
+        parts = c.1;
+        here = f.here;
+        back = λ u' part' w' t q.
+            let x = parts-left c.0 q in
+            let y = parts-left m.0 x.0 in
+            (g, h, record {
+              left = k.left;
+              right = _;
+              parts = parts-comm x.1;
+              first = fewer-waiting n owed frames g h k.left k.first;
+              second = record {
+                left = k.second.left;
+                right = _;
+                parts = parts-comm y.1;
+                first = fewer-tree n g one _ k.second.first;
+                second = f.back u' part' _ t y.0;
+              };
+            });
+      }
