@@ -3,3 +3,5 @@ pub mod Shuffles
 pub mod Seen
 pub mod Commands
 pub mod Trees
+pub mod Events
+pub mod Calls
