@@ -5,3 +5,6 @@ pub mod Commands
 pub mod Trees
 pub mod Events
 pub mod Calls
+pub mod Forks
+pub mod Regions
+pub mod Keeps
