@@ -8,3 +8,4 @@ pub mod Calls
 pub mod Forks
 pub mod Regions
 pub mod Keeps
+pub mod NeverBad
