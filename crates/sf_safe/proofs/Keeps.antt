@@ -3,16 +3,18 @@
 use Rattle.std.specs.Prelude.{◌≡◌, ◌≢◌, ℕ, zero, suc, Bool, true, false, cond, List, [], ◌∷◌, ◌++◌, Option, Some, None, ◌⊎◌, ◌==◌, ◌+◌, ◌-◌, ◌&&◌, leb, ltb}
 use Rattle.std.proofs.Common.{sym, ap, ◌∙◌, refl, subst, arith, inl, inr}
 use Rattle.std.proofs.lemmas.Bool.Decides.{nat_tests}
+use Rattle.std.proofs.lemmas.Option.{same_Some}
+use Rattle.sf_base.specs.declared.path.Turn.TheVariants.{Left as left, Right as right}
 use Rattle.sf_base.specs.declared.value.Value.{Value}
 use Rattle.sf_base.specs.HeapStore.{Slot, shared, own}
-use Rattle.sf_core.specs.Machine.Config.{Item, command, leave, items, Room, in_room, Frame, Task, runs, waits, Path, Common, Config, IsUsed}
+use Rattle.sf_core.specs.Machine.Config.{Item, command, leave, items, Room, in_room, Frame, Task, runs, waits, Path, Common, Config, IsCalled, IsUsed, put_task, task_at}
 use Rattle.sf_core.specs.Machine.Reach.{Reach}
 use Rattle.sf_core.specs.Machine.Step.{Event, Does, Goes, TaskStep, Step, arguments, open_room, room_for, room_count, index_of, close_room}
 use Rattle.sf_core.specs.Program.Syntax.{assign, look_up, mutate, new, dispose, if, while, call, fork, with, Procedure, Program}
 use Rattle.sf_safe.specs.Own.{Own, Parts, everything}
 use Rattle.sf_safe.specs.Contract.{Known}
 use Rattle.sf_safe.specs.Safe.{Safe}
-use Rattle.sf_safe.specs.Invariant.{known, Tree, Resources, IsMadeBefore, IsOwned}
+use Rattle.sf_safe.specs.Invariant.{known, Tree, Resources, HasFrame, IsMadeBefore, IsOwned}
 use Rattle.sf_safe.specs.Law.{BodiesAreSafe}
 use Rattle.sf_safe.proofs.Calls.{called, returned}
 use Rattle.sf_safe.proofs.Commands.{assigned, disposed, looked_up, made, mutated, tested, Moved}
@@ -193,6 +195,47 @@ made-after p ev c d st a g (own i k) h = subst (λ us. IsUsed us i) (sym st.used
   | inr x ↦ inl x
   ])
 
+-- THE ENTRY is not returned from
+
+frame-stays : (p : Program) (n : ℕ) (owed : Known) (ev : Event) (before after : Task) (s t : Common) (w : Own)
+    → ev.task ≡ [] → Tree p (suc n) owed before w → TaskStep p ev s before t after → HasFrame after
+frame-stays p n owed ev (runs []) after s t w top tree d = absurd d
+frame-stays p n owed ev (waits [] one other) after s t w top (g, h, k) d = absurd k.first
+frame-stays p n owed ev (waits (f ∷ below) one other) after s t w top tree d = subst HasFrame (sym d.3) tt
+frame-stays p n owed ev (runs (f ∷ below)) after s t w top tree d = go f.todo d
+  where
+    called-by : (below : List Frame) → IsCalled [] below → HasFrame (runs below)
+    called-by [] h = absurd h
+    called-by (g ∷ below) h = tt
+    go : (todo : List Item) → Goes p ev s f.fixed below todo t after → HasFrame after
+    go [] x = subst HasFrame (sym x.2) (called-by below (subst (λ z. IsCalled z below) top x.0))
+    go (leave r ∷ rest) x = subst HasFrame (sym x.2) tt
+    go (command (assign _ y z) ∷ rest) x = subst HasFrame (sym x.1) tt
+    go (command (look_up _ y z g) ∷ rest) x = subst HasFrame (sym x.4) tt
+    go (command (mutate _ y g z) ∷ rest) x = subst HasFrame (sym x.4) tt
+    go (command (new _ y) ∷ rest) x = subst HasFrame (sym x.3) tt
+    go (command (dispose _ y) ∷ rest) x = subst HasFrame (sym x.4) tt
+    go (command (if _ b y z) ∷ rest) x =
+        elim x.1 [ inl k ↦ subst HasFrame (sym k.1) tt | inr k ↦ subst HasFrame (sym k.1) tt ]
+    go (command (while _ b y z) ∷ rest) x =
+        elim x.1 [ inl k ↦ subst HasFrame (sym k.1) tt | inr k ↦ subst HasFrame (sym k.1) tt ]
+    go (command (call _ c) ∷ rest) x = subst HasFrame (sym x.3) tt
+    go (command (fork _ c h) ∷ rest) x = subst HasFrame (sym x.6) tt
+    go (command (with _ r b y) ∷ rest) x = subst HasFrame (sym x.3) tt
+
+entry-stays : (p : Program) (n : ℕ) (owed : Known) (ev : Event) (c d : Config) (w : Own) → Step p ev c d
+    → Tree p (suc n) owed c.tasks w → HasFrame d.tasks
+entry-stays p n owed ev c d w st tree = subst HasFrame (sym st.tasks) (go ev.task refl c.tasks tree st.there)
+  where
+    go : (path : Path) → ev.task ≡ path → (t : Task) → Tree p (suc n) owed t w → task_at path t ≡ Some st.from
+        → HasFrame (put_task path st.to t)
+    go [] i t a x = frame-stays p n owed ev st.from st.to c.common d.common w i
+        (subst (λ z. Tree p (suc n) owed z w) (same_Some t st.from x) a) st.steps
+    go (left ∷ path) i (runs frames) a x = absurd (cc)
+    go (right ∷ path) i (runs frames) a x = absurd (cc)
+    go (left ∷ path) i (waits frames one two) a x = tt
+    go (right ∷ path) i (waits frames one two) a x = tt
+
 -- one event keeps what is owned, for one event less
 pub step-owned : (p : Program) → BodiesAreSafe p → (n : ℕ) (entry : Known) (ev : Event) (c d : Config)
     → IsOwned p (suc n) entry c → Step p ev c d → IsOwned p n entry d
@@ -210,6 +253,7 @@ step-owned p bodies n entry ev c d s st =
       resources = x.resources;
       made = made-after p ev c d st s.made
           (grows p n k.owes ev st.from st.to c.common d.common k.part all.0 all.1 k.here st.steps);
+      stays = entry-stays p n entry ev c d s.tasks st s.tree;
     }
 
 -- a list of events keeps it, where it holds for every number of events

@@ -9,3 +9,5 @@ pub mod Forks
 pub mod Regions
 pub mod Keeps
 pub mod NeverBad
+pub mod GoodOwned
+pub mod Unheld

@@ -65,6 +65,12 @@ abbrev pub IsMadeBefore : Config → Slot → Type 0
 IsMadeBefore c (shared r i) = Unit {0}
 IsMadeBefore c (own event i) = IsUsed c.used event
 
+-- the task has a frame, or waits with one
+abbrev pub HasFrame : Task → Type 0
+HasFrame (runs []) = ⊥
+HasFrame (runs (f ∷ below)) = Unit {0}
+HasFrame (waits frames one two) = Unit {0}
+
 -- IsOwned: the shares of the tasks, which are safe for that many events, and those of the resources are disjoint
 -- and together all that there is; `entry` is the frame of the procedure that began
 pub record IsOwned (p : Program) (n : ℕ) (entry : Known) (c : Config) : Type 0 where
@@ -74,3 +80,5 @@ pub record IsOwned (p : Program) (n : ℕ) (entry : Known) (c : Config) : Type 0
   pub tree : Tree p n entry c.tasks tasks
   pub resources : Resources p c.common.held 0 p.resources free
   pub made : (slot : Slot) → c.common.store slot ≢ None → IsMadeBefore c slot
+  -- the entry isn't returned from
+  pub stays : HasFrame c.tasks
