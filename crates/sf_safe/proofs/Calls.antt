@@ -1,16 +1,16 @@
 -- Calls and returns keep what is owned.
 -- Names: the event's.
-use Rattle.std.specs.Prelude.{◌≡◌, ◌≢◌, ℕ, suc, Bool, true, false, List, [], ◌∷◌, Some, None, ◌==◌, ◌&&◌, ◌+◌, ◌-◌, ◌<◌, ◌≤◌, leb, ltb, length}
-use Rattle.std.proofs.Common.{sym, ap, ap₂, ◌∙◌, refl, subst, arith}
+use Rattle.std.specs.Prelude.{◌≡◌, ℕ, suc, true, List, [], ◌∷◌, None, ◌==◌, ◌&&◌, ◌+◌, ◌-◌, ◌<◌, ◌≤◌, leb, ltb, length}
+use Rattle.std.proofs.Common.{sym, ap₂, ◌∙◌, refl, subst, arith}
 use Rattle.std.proofs.lemmas.Bool.Decides.{nat_tests}
 use Rattle.sf_base.specs.declared.ids.Var.TheVariants.{Own as OwnVar}
 use Rattle.sf_base.specs.declared.place.Place.{Place}
 use Rattle.sf_base.specs.HeapStore.{Slot, shared, own}
 use Rattle.sf_base.proofs.MapSplits.{splits-lacks_right}
-use Rattle.sf_core.specs.Machine.Config.{Item, command, items, Room, in_room, Frame, Task, runs, Path, Common, IsCalled}
-use Rattle.sf_core.specs.Machine.Step.{Event, Does, Goes, arguments, callee_frame, close_room, open_room, procedure_at, room_for, room_count}
+use Rattle.sf_core.specs.Machine.Config.{Item, command, in_room, Frame, Task, runs, Common}
+use Rattle.sf_core.specs.Machine.Step.{Event, Does, arguments, close_room, open_room, room_for}
 use Rattle.sf_core.specs.Program.Syntax.{Call, call, Procedure, Program}
-use Rattle.sf_safe.specs.Own.{Own, Parts, HasSlot, everything, new_slots, nothing, without_room}
+use Rattle.sf_safe.specs.Own.{Own, Parts, HasSlot, everything, new_slots, without_room}
 use Rattle.sf_safe.specs.Contract.{Known, Ended, OwnsVariables, Returned}
 use Rattle.sf_safe.specs.Safe.{Safe, callee}
 use Rattle.sf_safe.specs.Invariant.{known, Callers, Running, Tree, Resources}
@@ -32,13 +32,13 @@ room-index d e i first count references names h c = (
   grind (arith, nat_tests, h),
   omega arith,
   let a : leb first i ≡ true = grind (arith, nat_tests, h) in
-  let b : ltb i (first + count) ≡ true = grind (arith, nat_tests, h) in
-  let l : first ≤ i = grind (arith, nat_tests, a) in
-  let m : i < first + count = grind (arith, nat_tests, b) in
-  omega (arith, l, m, c),
+      let b : ltb i (first + count) ≡ true = grind (arith, nat_tests, h) in
+      let l : first ≤ i = grind (arith, nat_tests, a) in
+      let m : i < first + count = grind (arith, nat_tests, b) in
+      omega (arith, l, m, c),
   let a : leb first i ≡ true = grind (arith, nat_tests, h) in
-  let l : first ≤ i = grind (arith, nat_tests, a) in
-  omega (arith, l),
+      let l : first ≤ i = grind (arith, nat_tests, a) in
+      omega (arith, l),
 )
 
 -- a frame owns the slots of its room
@@ -73,7 +73,7 @@ module _ (p : Program) (n : ℕ) (owed : Known) (f : Frame) (below : List Frame)
       let parts : Parts (everything p t) (everything p s) new_ =
       subst (λ z. Parts (everything p z) (everything p s) new_) (sym becomes)
       (subst (λ z. Parts (everything p (open_room room (arguments slots s.store c) s)) (everything p s)
-        (new_slots room z)) args (parts-open_room p room (arguments slots s.store c) s (new g))) in
+      (new_slots room z)) args (parts-open_room p room (arguments slots s.store c) s (new g))) in
       let more = front (rule.given ∷ rule.kept ∷ k.right ∷ r ∷ e ∷ []) (parts-comm parts)
       (open_ (rule.given ∷ rule.kept ∷ []) (k.right ∷ r ∷ e ∷ []) all (two rule.parts)) in
       let x = after-call (everything p t) new_ rule.given rule.kept k.right r e more in
@@ -81,20 +81,26 @@ module _ (p : Program) (n : ℕ) (owed : Known) (f : Frame) (below : List Frame)
         part = x.stack;
         free = e;
         sums = x.sums;
-        tree = subst (λ z. Tree p n owed z x.stack) (sym is) (arguments slots k.left.slots c, record {
-          left = x.callee;
-          right = x.others;
-          parts = x.split;
-          first = bodies (callee me k.left c g room) g there n x.callee
-              (rule.enters ev.number x.callee x.entered);
-          second = (v, record {
-            left = rule.kept;
-            right = k.right;
-            parts = x.waiting;
-            first = rule.goes_on ev.number;
-            second = fewer-callers p n me below owed k.right k.second;
-          });
-        });
+        tree = subst (λ z. Tree p n owed z x.stack) (sym is) (
+          arguments slots k.left.slots c,
+          record {
+            left = x.callee;
+            right = x.others;
+            parts = x.split;
+            first = bodies (callee me k.left c g room) g there n x.callee
+                (rule.enters ev.number x.callee x.entered);
+            second = (
+              v,
+              record {
+                left = rule.kept;
+                right = k.right;
+                parts = x.waiting;
+                first = rule.goes_on ev.number;
+                second = fewer-callers p n me below owed k.right k.second;
+              },
+            );
+          },
+        );
         resources = subst (λ z. Resources p z.held 0 p.resources e) (sym becomes) free;
       }
 
@@ -122,13 +128,16 @@ module _ (p : Program) (n : ℕ) (owed : Known) (f : Frame) (below : List Frame)
         part = z.stack;
         free = e;
         sums = z.sums;
-        tree = subst (λ y. Tree p n owed y z.stack) (sym is) (v, record {
-          left = z.frame;
-          right = w.right;
-          parts = z.split;
-          first = fewer p n (known g v) g.todo z.frame (w.first b z.frame back z.back);
-          second = fewer-callers p n (known g v) callers owed w.right w.second;
-        });
+        tree = subst (λ y. Tree p n owed y z.stack) (sym is) (
+          v,
+          record {
+            left = z.frame;
+            right = w.right;
+            parts = z.split;
+            first = fewer p n (known g v) g.todo z.frame (w.first b z.frame back z.back);
+            second = fewer-callers p n (known g v) callers owed w.right w.second;
+          },
+        );
         resources = res;
       }
 
@@ -148,5 +157,5 @@ module _ (p : Program) (n : ℕ) (owed : Known) (f : Frame) (below : List Frame)
       subst (λ z. Sums (everything p z) (without_room room k.left ∷ k.right ∷ r ∷ e ∷ [])) (sym becomes)
       (front (k.right ∷ r ∷ e ∷ []) parts all.2) in
       given-back me below k.right (without_room room k.left) more k.second
-          (record { full = k.left; ended = ended; is = refl })
-          (subst (λ z. Resources p z.held 0 p.resources e) (sym becomes) free) is
+      (record { full = k.left; ended = ended; is = refl })
+      (subst (λ z. Resources p z.held 0 p.resources e) (sym becomes) free) is

@@ -1,22 +1,21 @@
 -- Events of one frame alone: what they do to everything they do to the frame's share.
 -- Names: the command's.
-use Rattle.std.specs.Prelude.{◌≡◌, ◌≢◌, ℕ, suc, Bool, true, false, cond, List, [], ◌∷◌, ◌++◌, Option, Some, None}
+use Rattle.std.specs.Prelude.{◌≡◌, ◌≢◌, ℕ, suc, Bool, true, false, cond, List, ◌∷◌, Some, None}
 use Rattle.std.proofs.Common.{sym, ap, ap₂, ◌∙◌, refl, subst, inl, inr}
 use Rattle.sf_base.specs.declared.ids.FieldId.{FieldId}
 use Rattle.sf_base.specs.declared.place.Place.{Place}
 use Rattle.sf_base.specs.declared.value.Value.{Value}
 use Rattle.sf_base.specs.declared.value.Value.TheVariants.{Loc as loc}
-use Rattle.sf_base.specs.HeapStore.{Cell, Slot, Store, put_field, same_slot}
-use Rattle.sf_base.proofs.MapSplits.{changed, splits-has_left, splits-lacks_both}
-use Rattle.sf_base.proofs.StoreSplits.{at_slot, slot-same}
+use Rattle.sf_base.specs.HeapStore.{Slot, Store, put_field, same_slot}
+use Rattle.sf_base.proofs.MapSplits.{splits-has_left, splits-lacks_both}
+use Rattle.sf_base.proofs.StoreSplits.{slot-same}
 use Rattle.sf_core.specs.declared.assertion.Test.{Test}
 use Rattle.sf_core.specs.declared.command.Expr.{Expr}
 use Rattle.sf_core.specs.declared.command.Occurrence.{Occurrence}
-use Rattle.sf_core.specs.Assertions.Sat.{IsTrueOf}
-use Rattle.sf_core.specs.Machine.Config.{Item, command, items, Frame, Task, Common, evaluate}
+use Rattle.sf_core.specs.Machine.Config.{Item, command, Frame, Task, Common, evaluate}
 use Rattle.sf_core.specs.Machine.Step.{Event, Does, task_with, Chooses}
-use Rattle.sf_core.specs.Program.Syntax.{Command, assign, look_up, mutate, new, dispose, if, while, call, fork, with, Assertion, Block, Program}
-use Rattle.sf_safe.specs.Own.{Own, Parts, HasSlot, everything, put_cell, put_slot}
+use Rattle.sf_core.specs.Program.Syntax.{assign, look_up, mutate, new, dispose, Program}
+use Rattle.sf_safe.specs.Own.{Own, Parts, everything, put_cell, put_slot}
 use Rattle.sf_safe.specs.Contract.{Known, see}
 use Rattle.sf_safe.specs.Safe.{Safe, Branches}
 use Rattle.sf_safe.proofs.Owns.{parts-new_cell, parts-put_cell, parts-put_slot}
@@ -60,12 +59,12 @@ module _ (p : Program) (n : ℕ) (k : Known) (ev : Event) (below : List Frame) (
         held = ap (λ z. z.held) d.0;
         old = subst (λ (z : Common). (slot : Slot) → z.store slot ≢ None → s.store slot ≢ None) (sym d.0)
             (put-old s.store (k.fixed.slots x.var) (evaluate k.fixed.slots s.store e)
-              (a.0.0, splits-has_left (k.fixed.slots x.var) a.0.0 parts.slots a.0.1));
+            (a.0.0, splits-has_left (k.fixed.slots x.var) a.0.0 parts.slots a.0.1));
         part = put_slot (k.fixed.slots x.var) (see k u e) u;
         parts = subst (λ z. Parts (everything p z) (put_slot (k.fixed.slots x.var) (see k u e) u) r) (sym d.0)
             (subst (λ z. Parts (put_slot (k.fixed.slots x.var) z (everything p s))
-              (put_slot (k.fixed.slots x.var) (see k u e) u) r) (sym same)
-              (parts-put_slot (k.fixed.slots x.var) (see k u e) a.0 parts));
+            (put_slot (k.fixed.slots x.var) (see k u e) u) r) (sym same)
+            (parts-put_slot (k.fixed.slots x.var) (see k u e) a.0 parts));
         safe = a.2;
       }
 
@@ -83,11 +82,11 @@ module _ (p : Program) (n : ℕ) (k : Known) (ev : Event) (below : List Frame) (
         held = ap (λ z. z.held) d.3;
         old = subst (λ (z : Common). (slot : Slot) → z.store slot ≢ None → s.store slot ≢ None) (sym d.3)
             (put-old s.store slot (d.1 field.0)
-              (a.0.0, splits-has_left slot a.0.0 parts.slots a.0.1));
+            (a.0.0, splits-has_left slot a.0.0 parts.slots a.0.1));
         part = put_slot slot (at.cell field.0) u;
         parts = subst (λ z. Parts (everything p z) (put_slot slot (at.cell field.0) u) r) (sym d.3)
             (subst (λ z. Parts (put_slot slot (z field.0) (everything p s)) (put_slot slot (at.cell field.0) u) r)
-              same (parts-put_slot slot (at.cell field.0) a.0 parts));
+            same (parts-put_slot slot (at.cell field.0) a.0 parts));
         safe = a.2;
       }
 
@@ -110,8 +109,8 @@ module _ (p : Program) (n : ℕ) (k : Known) (ev : Event) (below : List Frame) (
         part = new_ u;
         parts = subst (λ z. Parts (everything p z) (new_ u) r) (sym d.3)
             (subst (λ z. Parts z (new_ u) r) (ap₂ (λ l c. put_cell l c (everything p s)) same.0 cell)
-              (parts-put_cell at.location at.cell (Some (put_field at.cell field.0 (see k u v)))
-                at.finds.there parts));
+            (parts-put_cell at.location at.cell (Some (put_field at.cell field.0 (see k u v)))
+            at.finds.there parts));
         safe = a.2;
       }
 
@@ -148,7 +147,7 @@ module _ (p : Program) (n : ℕ) (k : Known) (ev : Event) (below : List Frame) (
         part = put_cell at.location None u;
         parts = subst (λ z. Parts (everything p z) (put_cell at.location None u) r) (sym d.3)
             (subst (λ z. Parts (put_cell z None (everything p s)) (put_cell at.location None u) r) same
-              (parts-put_cell at.location at.cell None at.finds.there parts));
+            (parts-put_cell at.location at.cell None at.finds.there parts));
         safe = a.1;
       }
 
@@ -160,8 +159,8 @@ module _ (p : Program) (n : ℕ) (k : Known) (ev : Event) (below : List Frame) (
   tested test this that a i d =
       let same = seen-test k.fixed.slots (everything p s) u r parts test a.reads in
       elim d [
-        inl e ↦ go this e.1 (a.this (subst (λ z. z) same e.0))
-      | inr e ↦ go that e.1 (a.that (λ h. e.0 (subst (λ z. z) (sym same) h)))
+        | inl e ↦ go this e.1 (a.this (subst (λ z. z) same e.0))
+        | inr e ↦ go that e.1 (a.that (λ h. e.0 (subst (λ z. z) (sym same) h)))
       ]
     where
       go : (todo : List Item) → task ≡ task_with k.fixed todo below → Safe p n k todo u → After

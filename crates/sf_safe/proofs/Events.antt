@@ -1,9 +1,9 @@
 -- One event of one task, on all that there is: its share u, the other tasks' shares r, the free resources' e.
 -- Names: the event's.
-use Rattle.std.specs.Prelude.{◌≡◌, ◌≢◌, ℕ, suc, List, [], ◌∷◌}
-use Rattle.std.proofs.Common.{sym, ap, subst}
-use Rattle.sf_core.specs.Machine.Config.{Item, command, Frame, Task, Common}
-use Rattle.sf_core.specs.Program.Syntax.{Command, Program}
+use Rattle.std.specs.Prelude.{◌≡◌, ℕ, suc, List, [], ◌∷◌}
+use Rattle.std.proofs.Common.{sym, subst}
+use Rattle.sf_core.specs.Machine.Config.{Item, Frame, Task, Common}
+use Rattle.sf_core.specs.Program.Syntax.{Program}
 use Rattle.sf_safe.specs.Own.{Own, Parts, everything}
 use Rattle.sf_safe.specs.Contract.{Known}
 use Rattle.sf_safe.specs.Safe.{Safe}
@@ -36,12 +36,15 @@ module _ (p : Program) where
         part = g.both;
         free = e;
         sums = g.sums;
-        tree = subst (λ z. Tree p n owed z g.both) (sym m.is) (v, record {
-          left = m.part;
-          right = k.right;
-          parts = g.parts;
-          first = m.safe;
-          second = fewer-callers p n (known f v) below owed k.right k.second;
-        });
+        tree = subst (λ z. Tree p n owed z g.both) (sym m.is) (
+          v,
+          record {
+            left = m.part;
+            right = k.right;
+            parts = g.parts;
+            first = m.safe;
+            second = fewer-callers p n (known f v) below owed k.right k.second;
+          },
+        );
         resources = subst (λ z. Resources p z 0 p.resources e) (sym m.held) free;
       }

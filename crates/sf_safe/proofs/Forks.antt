@@ -1,7 +1,7 @@
 -- Forks and joins keep what is owned.
 -- Names: the event's.
 use Rattle.std.specs.Prelude.{◌≡◌, ℕ, suc, true, List, [], ◌∷◌, None}
-use Rattle.std.proofs.Common.{sym, ap, subst, refl}
+use Rattle.std.proofs.Common.{sym, subst, refl}
 use Rattle.sf_base.specs.declared.place.Place.{Place}
 use Rattle.sf_base.specs.HeapStore.{Slot}
 use Rattle.sf_core.specs.Machine.Config.{Item, command, in_room, Frame, Task, runs, waits, Common, IsOver}
@@ -51,8 +51,8 @@ module _ (p : Program) (n : ℕ) (owed : Known) (s t : Common) (task : Task) (u 
       let parts2 : Parts (everything p t) (everything p between) second =
       subst (λ z. Parts (everything p z) (everything p between) second) (sym does.5)
       (subst (λ z. Parts (everything p (open_room other (arguments slots s.store d) between))
-        (everything p between) (new_slots other z)) args2
-        (parts-open_room p other (arguments slots s.store d) between (new2 g h))) in
+      (everything p between) (new_slots other z)) args2
+      (parts-open_room p other (arguments slots s.store d) between (new2 g h))) in
       let given = open_ (rule.left ∷ rule.right ∷ []) (rule.kept ∷ k.right ∷ r ∷ e ∷ [])
       (open_ (rule.given ∷ rule.kept ∷ []) (k.right ∷ r ∷ e ∷ []) all (two rule.parts)) (two rule.apart) in
       let more = front (rule.left ∷ rule.right ∷ rule.kept ∷ k.right ∷ r ∷ e ∷ []) (parts-comm parts) given in
@@ -65,37 +65,50 @@ module _ (p : Program) (n : ℕ) (owed : Known) (s t : Common) (task : Task) (u 
         part = x.task;
         free = e;
         sums = x.sums;
-        tree = subst (λ z. Tree p n owed z x.task) (sym does.6) (left, right, record {
-          left = x.parent;
-          right = x.children;
-          parts = x.split;
-          first = (v, record {
-            left = rule.kept;
-            right = k.right;
-            parts = x.waiting;
-            first = rule.goes_on ev.number;
-            second = fewer-callers p n me below owed k.right k.second;
-          });
-          second = record {
-            left = x.first;
-            right = x.second;
-            parts = x.apart;
-            first = (left.values, record {
+        tree = subst (λ z. Tree p n owed z x.task) (sym does.6) (
+          left,
+          right,
+          record {
+            left = x.parent;
+            right = x.children;
+            parts = x.split;
+            first = (
+              v,
+              record {
+                left = rule.kept;
+                right = k.right;
+                parts = x.waiting;
+                first = rule.goes_on ev.number;
+                second = fewer-callers p n me below owed k.right k.second;
+              },
+            );
+            second = record {
               left = x.first;
-              right = nothing;
-              parts = parts-nothing x.first;
-              first = bodies left g does.3 n x.first (rule.enters_left ev.number x.first x.first_entered);
-              second = (refl, refl);
-            });
-            second = (right.values, record {
-              left = x.second;
-              right = nothing;
-              parts = parts-nothing x.second;
-              first = bodies right h does.4 n x.second (rule.enters_right ev.number x.second x.second_entered);
-              second = (refl, refl);
-            });
-          };
-        });
+              right = x.second;
+              parts = x.apart;
+              first = (
+                left.values,
+                record {
+                  left = x.first;
+                  right = nothing;
+                  parts = parts-nothing x.first;
+                  first = bodies left g does.3 n x.first (rule.enters_left ev.number x.first x.first_entered);
+                  second = (refl, refl);
+                },
+              );
+              second = (
+                right.values,
+                record {
+                  left = x.second;
+                  right = nothing;
+                  parts = parts-nothing x.second;
+                  first = bodies right h does.4 n x.second (rule.enters_right ev.number x.second x.second_entered);
+                  second = (refl, refl);
+                },
+              );
+            };
+          },
+        );
         resources = subst (λ z. Resources p z.held 0 p.resources e) (sym does.5) free;
       }
 
@@ -118,14 +131,17 @@ module _ (p : Program) (n : ℕ) (owed : Known) (s t : Common) (task : Task) (u 
         part = z.stack;
         free = e;
         sums = subst (λ b. Sums (everything p b) (z.stack ∷ r ∷ e ∷ [])) (sym d) z.sums;
-        tree = subst (λ b. Tree p n owed b z.stack) (sym i) (v, record {
-          left = z.frame;
-          right = m.right;
-          parts = z.split;
-          first = fewer p n (known f v) f.todo z.frame
-              (m.first k.second.left k.second.right k.right z.frame k.second.first k.second.second k.second.parts
+        tree = subst (λ b. Tree p n owed b z.stack) (sym i) (
+          v,
+          record {
+            left = z.frame;
+            right = m.right;
+            parts = z.split;
+            first = fewer p n (known f v) f.todo z.frame
+                (m.first k.second.left k.second.right k.right z.frame k.second.first k.second.second k.second.parts
                 z.back);
-          second = fewer-callers p n (known f v) below owed m.right m.second;
-        });
+            second = fewer-callers p n (known f v) below owed m.right m.second;
+          },
+        );
         resources = subst (λ b. Resources p b.held 0 p.resources e) (sym d) free;
       }

@@ -1,7 +1,7 @@
 -- What is owned is good.
 -- Names: `sat-WHAT` carries an assertion from a share to all that there is; `parts-WHAT` speaks of sf_core's parts of
 -- a good configuration.
-use Rattle.std.specs.Prelude.{◌≡◌, ◌≢◌, ℕ, zero, suc, Bool, true, false, cond, List, [], ◌∷◌, Option, Some, None, ◌⊎◌, ◌==◌, ◌<◌, ◌≤◌, ◌+◌, length, ltb}
+use Rattle.std.specs.Prelude.{◌≡◌, ◌≢◌, ℕ, suc, Bool, true, false, cond, List, [], ◌∷◌, Option, Some, None, ◌⊎◌, ◌==◌, ◌<◌, ◌≤◌, ◌+◌, length, ltb}
 use Rattle.std.specs.List.{slice_get}
 use Rattle.std.specs.Option.{option_or, unwrap_or}
 use Rattle.std.proofs.Common.{sym, ap, ap₂, ◌∙◌, refl, subst, inl, inr, arith}
@@ -14,27 +14,25 @@ use Rattle.sf_base.specs.declared.ids.Var.TheVariants.{Own as OwnVar, Shared}
 use Rattle.sf_base.specs.declared.value.Value.TheVariants.{Nil as nil}
 use Rattle.sf_base.specs.HeapStore as heaps
 use Rattle.sf_base.specs.HeapStore.{Heap, IsEmpty, Slot, Splits}
-use Rattle.sf_base.proofs.HeapSplits.{star-assoc_left, star-empty_left, star-empty_right, star-of}
 use Rattle.sf_base.proofs.MapSplits.{empty-holds, splits-assoc_right, splits-comm, splits-cross, splits-empty_right, splits-has_left}
 use Rattle.sf_base.proofs.StoreSplits.{resource-same}
-use Rattle.sf_calls.specs.Conditions.{Free}
 use Rattle.sf_calls.specs.Reaches.{directly}
 use Rattle.sf_calls.proofs.Within.{level_within}
 use Rattle.sf_core.specs.declared.command.Expr.{Expr}
 use Rattle.sf_core.specs.Assertions.Occurs.{VarOccursIn}
 use Rattle.sf_core.specs.Assertions.Sat.{Sat}
 use Rattle.sf_core.specs.Internal.GoodParts.{EndsWell, FramePart, InvariantPart, InvariantParts, RestPart, TaskParts}
-use Rattle.sf_core.specs.Machine.Config.{Item, command, leave, Frame, Task, runs, waits, Path, Common, Config, evaluate}
+use Rattle.sf_core.specs.Machine.Config.{Item, Frame, Task, runs, waits, Path, Common, Config, evaluate}
 use Rattle.sf_core.specs.Machine.Enabled.{HasEnded}
 use Rattle.sf_core.specs.Machine.Good.{Good}
 use Rattle.sf_core.specs.Machine.Start.{entry_slot}
 use Rattle.sf_core.specs.Machine.Step.{procedure_at}
-use Rattle.sf_core.specs.Program.Formed.{AssertionWithin, IsFormed, IsOfResource, IsParameter}
+use Rattle.sf_core.specs.Program.Formed.{IsFormed, IsOfResource, IsParameter}
 use Rattle.sf_core.specs.Program.Syntax.{Level, Procedure, Program, Resource}
 use Rattle.sf_core.proofs.Assertions.Sat.{sat-same_variables}
 use Rattle.sf_core.proofs.Machine.GoodParts.{good-by_parts}
-use Rattle.sf_safe.specs.Own.{Own, Parts, HasSlot, everything, nothing}
-use Rattle.sf_safe.specs.Contract.{Known, Ended, FreeShare, HasJust, IsVariableOf}
+use Rattle.sf_safe.specs.Own.{Own, Parts, HasSlot, everything}
+use Rattle.sf_safe.specs.Contract.{Known, Ended, FreeShare, IsVariableOf}
 use Rattle.sf_safe.specs.Safe.{Safe}
 use Rattle.sf_safe.specs.Invariant.{known, HasFrame, IsOwned, Resources, ShareOf, Tree}
 use Rattle.sf_safe.proofs.NeverBad.{never-bad}
@@ -68,8 +66,8 @@ sat-ended p formed k all w r g q e there =
     let same : e.procedure ≡ g = same_Some e.procedure g (sym e.owns.frame.there ∙ there) in
     subst (λ z. Sat z.post.level (evaluate k.fixed.slots all.slots) (λ n. nil) w.cells) same
     (sat-everywhere e.procedure.post.level k.fixed.slots all w r w.cells q
-      (λ x o. e.owns.variables.each x
-        (post-variable p formed k.fixed.procedure e.procedure e.owns.frame.there x o)) e.post)
+    (λ x o. e.owns.variables.each x
+    (post-variable p formed k.fixed.procedure e.procedure e.owns.frame.there x o)) e.post)
 
 -- the invariant of a free resource holds of its share
 sat-free : (p : Program) → IsFormed p → (r : ResId) (all w rest : Own) (q : Resource) → Parts all w rest
@@ -79,9 +77,9 @@ sat-free p formed r all w rest q parts s there =
     let same : s.resource ≡ q = same_Some s.resource q (sym s.there ∙ there) in
     subst (λ z. Sat z.invariant.level (evaluate entry_slot all.slots) (λ n. nil) w.cells) same
     (sat-everywhere s.resource.invariant.level entry_slot all w rest w.cells parts
-      (λ x o. s.variables.each x
-        (level_within p.fields (IsOfResource r.0 (length s.resource.variables)) [] x s.resource.invariant.level
-          (formed.resources r.0 s.resource s.there).annotation.within o)) s.invariant)
+    (λ x o. s.variables.each x
+    (level_within p.fields (IsOfResource r.0 (length s.resource.variables)) [] x s.resource.invariant.level
+    (formed.resources r.0 s.resource s.there).annotation.within o)) s.invariant)
 
 -- THE PARTS of a good configuration
 
@@ -129,7 +127,6 @@ module _ (p : Program) (formed : IsFormed p) where
     first = e;
     second = tt;
   }
-
 
   frame-part : (n : ℕ) (k : Known) (todo : List Item) (s : Common) (w r : Own) → Parts (everything p s) w r
       → Safe p (suc n) k todo w → (h u : Heap) → Splits h w.cells u
@@ -205,6 +202,7 @@ module _ (p : Program) (formed : IsFormed p) where
           (one-token m r.0 (λ z. x (ap (λ (y : _). y r) i.tokens ∙ z))) in
           ap held same ∙ e
       here_ (Some path) e i x = absurd (x (ap (λ (z : Own). z.tokens r) i))
+
       go : (o : Option (Unit {0})) → f.left.tokens r ≡ o → (f.right.tokens r ≢ None → held r ≡ None) → held r ≡ None
       go None e ih = ih (λ z. h (f.parts.tokens.is r ∙ ap₂ option_or e z))
       go (Some x) e ih = here_ (held (record { 0 = m })) refl f.first
@@ -248,26 +246,26 @@ module _ (p : Program) (formed : IsFormed p) where
   parts-end n c w r q a =
       subst (λ z. TaskParts p c.common.store z w.cells) (sym a.is)
       (subst (λ z. FramePart p c.common.store a.frame.fixed z w.cells) (sym a.done)
-        (λ g there. sat-ended p formed (known a.frame a.values) (everything p c.common) w r g q a.ended there))
+      (λ g there. sat-ended p formed (known a.frame a.values) (everything p c.common) w r g q a.ended there))
 
   parts-rest : (n : ℕ) (o : Known) (c : Config) (s : IsOwned p (suc n) o c)
       → (heaps.◌⋆◌ (TaskParts p c.common.store c.tasks) (RestPart c)) s.tasks.cells
   parts-rest n o c s = elim (ended-or-not c.tasks) [
-      inl e ↦ record {
-        left = s.tasks.cells;
-        right = λ a. None;
-        splits = splits-empty_right empty-holds;
-        first = parts-end n c s.tasks s.free s.parts (at-end n o c.tasks s.tasks e s.stays s.tree);
-        second = λ i. empty-holds;
-      }
+    | inl e ↦ record {
+      left = s.tasks.cells;
+      right = λ a. None;
+      splits = splits-empty_right empty-holds;
+      first = parts-end n c s.tasks s.free s.parts (at-end n o c.tasks s.tasks e s.stays s.tree);
+      second = λ i. empty-holds;
+    }
     | inr e ↦ let a = parts-tasks n c.common c.tasks o s.tasks s.free s.parts s.tree in record {
-        left = a.left;
-        right = a.right;
-        splits = a.splits;
-        first = a.first;
-        second = λ i. absurd (e i);
-      }
-    ]
+      left = a.left;
+      right = a.right;
+      splits = a.splits;
+      first = a.first;
+      second = λ i. absurd (e i);
+    }
+  ]
 
   -- what is owned, for an event more, is good
   pub good-owned : (n : ℕ) (o : Known) (c : Config) → IsOwned p (suc n) o c → Good p c

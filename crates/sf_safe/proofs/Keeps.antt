@@ -1,6 +1,6 @@
 -- Every event keeps what is owned.
 -- Names: `room-LAW` speaks of new slots, `step-LAW` of one event of a configuration, `reach-LAW` of a list of them.
-use Rattle.std.specs.Prelude.{◌≡◌, ◌≢◌, ℕ, zero, suc, Bool, true, false, cond, List, [], ◌∷◌, ◌++◌, Option, Some, None, ◌⊎◌, ◌==◌, ◌+◌, ◌-◌, ◌&&◌, leb, ltb}
+use Rattle.std.specs.Prelude.{◌≡◌, ◌≢◌, ℕ, suc, Bool, true, false, cond, List, [], ◌∷◌, ◌++◌, Option, Some, None, ◌⊎◌, ◌==◌, ◌+◌, ◌-◌, ◌&&◌, leb, ltb}
 use Rattle.std.proofs.Common.{sym, ap, ◌∙◌, refl, subst, arith, inl, inr}
 use Rattle.std.proofs.lemmas.Bool.Decides.{nat_tests}
 use Rattle.std.proofs.lemmas.Option.{same_Some}
@@ -9,7 +9,7 @@ use Rattle.sf_base.specs.declared.value.Value.{Value}
 use Rattle.sf_base.specs.HeapStore.{Slot, shared, own}
 use Rattle.sf_core.specs.Machine.Config.{Item, command, leave, items, Room, in_room, Frame, Task, runs, waits, Path, Common, Config, IsCalled, IsUsed, put_task, task_at}
 use Rattle.sf_core.specs.Machine.Reach.{Reach}
-use Rattle.sf_core.specs.Machine.Step.{Event, Does, Goes, TaskStep, Step, arguments, open_room, room_for, room_count, index_of, close_room}
+use Rattle.sf_core.specs.Machine.Step.{Event, Goes, TaskStep, Step, arguments, open_room, room_for, room_count, index_of}
 use Rattle.sf_core.specs.Program.Syntax.{assign, look_up, mutate, new, dispose, if, while, call, fork, with, Procedure, Program}
 use Rattle.sf_safe.specs.Own.{Own, Parts, everything}
 use Rattle.sf_safe.specs.Contract.{Known}
@@ -22,7 +22,7 @@ use Rattle.sf_safe.proofs.Events.{After, alone}
 use Rattle.sf_safe.proofs.Forks.{forked, joined}
 use Rattle.sf_safe.proofs.Owns.{Sums, group, open_, pair, parts-right, two}
 use Rattle.sf_safe.proofs.Regions.{entered, left_}
-use Rattle.sf_safe.proofs.Trees.{Focus, focus}
+use Rattle.sf_safe.proofs.Trees.{focus}
 
 -- NEW SLOTS
 
@@ -91,12 +91,14 @@ module _ (p : Program) where
     where
       fresh : (g : Procedure) (slot : Slot) → in_room (room_for g ev.number 0) slot ≡ true → s.store slot ≡ None
       fresh g = room-fresh s used (room_for g ev.number 0) old unused
+
       -- the events of the frame alone
       mine : (todo : List Item) → f.todo ≡ todo
           → ((values : ℕ → Value) (share rest : Own) → Parts (everything p s) share rest
           → Safe p (suc n) (known f values) todo share → Moved p n (known f values) below s t after rest)
           → After p n owed t after r
       mine todo i moves = alone p n owed f below todo s t after u r e i a tree free moves
+
       go : (todo : List Item) → f.todo ≡ todo → Goes p ev s f.fixed below todo t after → After p n owed t after r
       go [] i x = returned p n owed f below s t after u r e a tree free i x.1 x.2
       go (leave q ∷ rest) i x = left_ p n owed f below s t after u r e a tree free ev.task q rest i x.0 x.1 x.2
@@ -107,30 +109,30 @@ module _ (p : Program) where
       go (command (fork place c h) ∷ rest) i x =
           forked p n owed s t after u r e a free bodies f below tree ev place c h rest fresh
           (λ g o slot j. ap
-            (λ b. cond b (Some (arguments f.fixed.slots s.store c (index_of slot - 0))) (s.store slot))
-            (room-apart g o ev.number slot j)
-            ∙ room-fresh s used (room_for o ev.number (room_count g)) old unused slot j)
+          (λ b. cond b (Some (arguments f.fixed.slots s.store c (index_of slot - 0))) (s.store slot))
+          (room-apart g o ev.number slot j)
+          ∙ room-fresh s used (room_for o ev.number (room_count g)) old unused slot j)
           i x
       go (command (assign place z v) ∷ rest) i x = mine _ i
           (λ values share others q safe. assigned p n (known f values) ev below rest s t after share others q place z v
-            safe x)
+          safe x)
       go (command (look_up place z v field) ∷ rest) i x = mine _ i
           (λ values share others q safe. looked_up p n (known f values) ev below rest s t after share others q place z v
-            field safe x)
+          field safe x)
       go (command (mutate place z field v) ∷ rest) i x = mine _ i
           (λ values share others q safe. mutated p n (known f values) ev below rest s t after share others q place z
-            field v safe x)
+          field v safe x)
       go (command (new place z) ∷ rest) i x = mine _ i
           (λ values share others q safe. made p n (known f values) ev below rest s t after share others q place z safe x)
       go (command (dispose place z) ∷ rest) i x = mine _ i
           (λ values share others q safe. disposed p n (known f values) ev below rest s t after share others q place z
-            safe x)
+          safe x)
       go (command (if place test this that) ∷ rest) i x = mine _ i
           (λ values share others q safe. tested p n (known f values) ev below rest s t after share others q test
-            (items this ++ rest) (items that ++ rest) safe x.0 x.1)
+          (items this ++ rest) (items that ++ rest) safe x.0 x.1)
       go (command (while place test kept body) ∷ rest) i x = mine _ i
           (λ values share others q safe. tested p n (known f values) ev below rest s t after share others q test
-            (items body ++ (command (while place test kept body) ∷ rest)) rest safe x.0 x.1)
+          (items body ++ (command (while place test kept body) ∷ rest)) rest safe x.0 x.1)
 
   grows : (n : ℕ) (owed : Known) (ev : Event) (before after : Task) (s t : Common) (u r : Own)
       → Parts (everything p s) u r → Tree p (suc n) owed before u → TaskStep p ev s before t after
@@ -142,11 +144,13 @@ module _ (p : Program) where
     where
       k-parts : (rest : Own) × Parts (everything p s) k.left rest
       k-parts = let m = parts-right k.parts q in (_, m.1)
+
       mine : (todo : List Item) → f.todo ≡ todo
           → (Safe p (suc n) (known f v) todo k.left → Moved p n (known f v) below s t after k-parts.0)
           → (s.store slot ≢ None) ⊎ AllMade (λ e. e ≡ ev.number) slot
       mine todo i moves =
           inl ((moves (subst (λ z. Safe p (suc n) (known f v) z k.left) i k.first)).old slot h)
+
       go : (todo : List Item) → f.todo ≡ todo → Goes p ev s f.fixed below todo t after
           → (s.store slot ≢ None) ⊎ AllMade (λ e. e ≡ ev.number) slot
       go [] i y = inl (cond-old (in_room f.fixed.room slot) (s.store slot)
@@ -158,10 +162,10 @@ module _ (p : Program) where
           (λ e. h (ap (λ (z : Common). z.store slot) y.2 ∙ e))
       go (command (fork place c g) ∷ rest) i y =
           elim (room-grows (room_for y.2 ev.number (room_count y.1))
-            (open_room (room_for y.1 ev.number 0) (arguments f.fixed.slots s.store c) s) ev.number
-            (arguments f.fixed.slots s.store g) refl slot (λ e. h (ap (λ (z : Common). z.store slot) y.5 ∙ e))) [
-            inl z ↦ room-grows (room_for y.1 ev.number 0) s ev.number (arguments f.fixed.slots s.store c) refl slot z
-          | inr z ↦ inr z
+          (open_room (room_for y.1 ev.number 0) (arguments f.fixed.slots s.store c) s) ev.number
+          (arguments f.fixed.slots s.store g) refl slot (λ e. h (ap (λ (z : Common). z.store slot) y.5 ∙ e))) [
+            | inl z ↦ room-grows (room_for y.1 ev.number 0) s ev.number (arguments f.fixed.slots s.store c) refl slot z
+            | inr z ↦ inr z
           ]
       go (command (assign place z g) ∷ rest) i x = mine _ i
           (λ safe. assigned p n (known f v) ev below rest s t after k.left k-parts.0 k-parts.1 place z g safe x)
@@ -175,10 +179,10 @@ module _ (p : Program) where
           (λ safe. disposed p n (known f v) ev below rest s t after k.left k-parts.0 k-parts.1 place z safe x)
       go (command (if place test this that) ∷ rest) i x = mine _ i
           (λ safe. tested p n (known f v) ev below rest s t after k.left k-parts.0 k-parts.1 test
-            (items this ++ rest) (items that ++ rest) safe x.0 x.1)
+          (items this ++ rest) (items that ++ rest) safe x.0 x.1)
       go (command (while place test kept body) ∷ rest) i x = mine _ i
           (λ safe. tested p n (known f v) ev below rest s t after k.left k-parts.0 k-parts.1 test
-            (items body ++ (command (while place test kept body) ∷ rest)) rest safe x.0 x.1)
+          (items body ++ (command (while place test kept body) ∷ rest)) rest safe x.0 x.1)
 
 -- CONFIGURATIONS
 
@@ -191,9 +195,9 @@ made-after : (p : Program) (ev : Event) (c d : Config) → Step p ev c d
     → (slot : Slot) → d.common.store slot ≢ None → IsMadeBefore d slot
 made-after p ev c d st a g (shared q k) h = tt
 made-after p ev c d st a g (own i k) h = subst (λ us. IsUsed us i) (sym st.used) (elim (g (own i k) h) [
-    inl x ↦ inr (a (own i k) x)
+  | inl x ↦ inr (a (own i k) x)
   | inr x ↦ inl x
-  ])
+])
 
 -- THE ENTRY is not returned from
 
@@ -207,6 +211,7 @@ frame-stays p n owed ev (runs (f ∷ below)) after s t w top tree d = go f.todo 
     called-by : (below : List Frame) → IsCalled [] below → HasFrame (runs below)
     called-by [] h = absurd h
     called-by (g ∷ below) h = tt
+
     go : (todo : List Item) → Goes p ev s f.fixed below todo t after → HasFrame after
     go [] x = subst HasFrame (sym x.2) (called-by below (subst (λ z. IsCalled z below) top x.0))
     go (leave r ∷ rest) x = subst HasFrame (sym x.2) tt

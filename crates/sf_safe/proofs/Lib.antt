@@ -11,3 +11,5 @@ pub mod Keeps
 pub mod NeverBad
 pub mod GoodOwned
 pub mod Unheld
+pub mod Starts
+pub mod Sound

@@ -1,15 +1,13 @@
 -- What is owned is never bad: nobody is at an absent cell, and no two tasks race.
 -- Names: `owned-WHAT` of what an event reads or writes, `never-WHAT` of a configuration.
-use Rattle.std.specs.Prelude.{◌≡◌, ◌≢◌, ℕ, zero, suc, true, List, [], ◌∷◌, Option, Some, None, ◌⊎◌, length, ◌<◌}
-use Rattle.std.specs.Option.{option_or}
+use Rattle.std.specs.Prelude.{◌≡◌, ◌≢◌, ℕ, zero, suc, List, [], ◌∷◌, Option, Some, None, ◌⊎◌, length, ◌<◌}
 use Rattle.std.proofs.Common.{sym, ap, ◌∙◌, refl, subst, inl, inr, arith}
 use Rattle.std.proofs.lemmas.Option.{same_Some}
-use Rattle.sf_base.specs.declared.ids.ResId.{ResId}
 use Rattle.sf_base.specs.declared.ids.Var.{Var}
 use Rattle.sf_base.specs.declared.path.Turn.{Turn}
 use Rattle.sf_base.specs.declared.path.Turn.TheVariants.{Left as left, Right as right}
 use Rattle.sf_base.specs.declared.value.Value.{Value}
-use Rattle.sf_base.specs.declared.value.Value.TheVariants.{Nil as nil, Int as int, Loc as loc}
+use Rattle.sf_base.specs.declared.value.Value.TheVariants.{Loc as loc}
 use Rattle.sf_base.specs.HeapStore.{Cell, Heap, Slot}
 use Rattle.sf_base.proofs.MapSplits.{splits-has_left, splits-lacks_right, splits-which}
 use Rattle.sf_core.specs.declared.assertion.Test.{Test}
@@ -17,11 +15,11 @@ use Rattle.sf_core.specs.declared.assertion.Test.TheVariants.{True, Equal, Diffe
 use Rattle.sf_core.specs.declared.command.Expr.{Expr}
 use Rattle.sf_core.specs.declared.command.Expr.TheVariants.{Var as Variable, Nil, Int}
 use Rattle.sf_core.specs.Machine.Bad.{Bad, IsAbsent, Races, TouchesAbsent, next_root}
-use Rattle.sf_core.specs.Machine.Config.{Item, command, leave, in_room, Frame, Task, runs, waits, Path, Common, Config, evaluate, task_at}
-use Rattle.sf_core.specs.Machine.Enabled.{CommandReads, CommandWrites, FrameReads, FrameWrites, IsBlocked, IsCellAt, IsInRoom, IsShut, Reads, ReadsAll, ReadsExpr, ReadsTest, Thing, Writes, cell, variable}
+use Rattle.sf_core.specs.Machine.Config.{Item, command, leave, Frame, Task, runs, waits, Path, Common, Config, evaluate, task_at}
+use Rattle.sf_core.specs.Machine.Enabled.{FrameReads, FrameWrites, IsBlocked, IsCellAt, IsInRoom, IsShut, Reads, ReadsAll, ReadsExpr, ReadsTest, Thing, Writes, cell, variable}
 use Rattle.sf_core.specs.Program.Syntax.{assign, look_up, mutate, new, dispose, if, while, call, fork, with, Program}
 use Rattle.sf_safe.specs.Own.{Own, Parts, HasAll, HasExpr, HasSlot, HasTest, everything}
-use Rattle.sf_safe.specs.Contract.{Known, see}
+use Rattle.sf_safe.specs.Contract.{Known}
 use Rattle.sf_safe.specs.Safe.{Safe, OwnsCell}
 use Rattle.sf_safe.specs.Invariant.{known, IsOwned, Resources, Running, Tree}
 use Rattle.sf_safe.proofs.Calls.{owned-room}
@@ -52,13 +50,13 @@ thing-apart (cell a) p o q = none-some _ q.0 (splits-lacks_right a o.0 p.cells o
 
 pub thing-either : {w u v : Own} (t : Thing) → Parts w u v → OwnsThing w t → OwnsThing u t ⊎ OwnsThing v t
 thing-either (variable slot) p o = elim (splits-which slot o.0 p.slots o.1) [
-    inl h ↦ inl (o.0, h.0)
+  | inl h ↦ inl (o.0, h.0)
   | inr h ↦ inr (o.0, h.0)
-  ]
+]
 thing-either (cell a) p o = elim (splits-which a o.0 p.cells o.1) [
-    inl h ↦ inl (o.0, h.0)
+  | inl h ↦ inl (o.0, h.0)
   | inr h ↦ inr (o.0, h.0)
-  ]
+]
 
 -- WHAT A FRAME'S NEXT EVENT READS AND WRITES
 
@@ -126,13 +124,13 @@ module _ (p : Program) where
   owned-reads n k (command (assign place x y) ∷ rest) s w r e t q a free b d =
       inl (owned-expr k.fixed.slots w t y a.1 d)
   owned-reads n k (command (look_up place x y g) ∷ rest) s w r e t q a free b d = inl (elim d [
-      inl z ↦ owned-expr k.fixed.slots w t y a.1.reads z
+    | inl z ↦ owned-expr k.fixed.slots w t y a.1.reads z
     | inr z ↦ owned-cell k (everything p s) w q.0 y t q.1 a.1 z
-    ])
+  ])
   owned-reads n k (command (mutate place x g y) ∷ rest) s w r e t q a free b d = inl (elim d [
-      inl z ↦ owned-expr k.fixed.slots w t x a.1.reads z
+    | inl z ↦ owned-expr k.fixed.slots w t x a.1.reads z
     | inr z ↦ owned-expr k.fixed.slots w t y a.0 z
-    ])
+  ])
   owned-reads n k (command (new place x) ∷ rest) s w r e t q a free b d = absurd d
   owned-reads n k (command (dispose place x) ∷ rest) s w r e t q a free b d =
       inl (owned-expr k.fixed.slots w t x a.0.reads d)
@@ -143,9 +141,9 @@ module _ (p : Program) where
   owned-reads n k (command (call place c) ∷ rest) s w r e t q a free b d =
       inl (owned-all k.fixed.slots w t c.values a.0 d)
   owned-reads n k (command (fork place c g) ∷ rest) s w r e t q a free b d = inl (elim d [
-      inl z ↦ owned-all k.fixed.slots w t c.values a.0 z
+    | inl z ↦ owned-all k.fixed.slots w t c.values a.0 z
     | inr z ↦ owned-all k.fixed.slots w t g.values a.1 z
-    ])
+  ])
   owned-reads n k (command (with place g test body) ∷ rest) s w r e t q a free b d =
       let taken = resources-take p s.held g [] 0 p.resources e (omega arith)
       (let l : g.0 < length p.resources = a.there in omega (arith, l)) (is-free (s.held g) b) free in
@@ -153,9 +151,9 @@ module _ (p : Program) where
       (open_ (taken.share ∷ taken.rest ∷ []) (w ∷ r ∷ [])
       (order (1 ∷ []) (w ∷ e ∷ r ∷ []) (everything p s) q) (two taken.parts))) in
       elim (thing-either t m.parts (owned-test k.fixed.slots m.both t test
-        (a.reads taken.share m.both taken.free m.parts) d)) [
-        inl z ↦ inl z
-      | inr z ↦ inr (thing-left t taken.parts z)
+      (a.reads taken.share m.both taken.free m.parts) d)) [
+        | inl z ↦ inl z
+        | inr z ↦ inr (thing-left t taken.parts z)
       ]
 
   -- TWO TASKS of a tree that run have different shares
@@ -239,11 +237,11 @@ module _ (p : Program) where
   two-tasks n o (left ∷ q) (right ∷ r) f g (waits fs a b) w d i j (h, k, s) =
       deeper (parts-comm s.parts)
       (sides n h k a b q r f g s.right s.second.left s.second.right s.second.parts i j s.second.first
-        s.second.second)
+      s.second.second)
   two-tasks n o (right ∷ q) (left ∷ r) f g (waits fs a b) w d i j (h, k, s) =
       deeper (parts-comm s.parts)
       (turned (sides n h k a b r q g f s.right s.second.left s.second.right s.second.parts j i s.second.first
-        s.second.second))
+      s.second.second))
 
   -- ABSENT CELLS
 
@@ -262,6 +260,7 @@ module _ (p : Program) where
     where
       slots : Var → Slot
       slots = a.frame.fixed.slots
+
       place : (v : ℕ → Value) (w r : Own) (e : Expr) → Parts (everything p c.common) w r
           → OwnsCell (known a.frame v) w e → Some e ≡ Some a.root → ⊥
       place v w r e q at d =
@@ -269,6 +268,7 @@ module _ (p : Program) where
           (seen-value slots (everything p c.common) w r q e at.reads ∙ at.finds.is)
           (splits-has_left at.location at.cell q.cells at.finds.there)
           (subst (λ z. IsAbsent c.common.heap (evaluate slots c.common.store z)) (sym (same_Some e a.root d)) a.absent)
+
       go : (v : ℕ → Value) (w r : Own) → Parts (everything p c.common) w r → (todo : List Item)
           → next_root todo ≡ Some a.root → Safe p (suc n) (known a.frame v) todo w → ⊥
       go v w r q [] t z = absurd (cc)
@@ -306,13 +306,13 @@ module _ (p : Program) where
       let mine = owned-writes n (known f t.one.0) f.todo c.common x.left b1.0 thing b1.1 x.first writes in
       let b2 = order (1 ∷ 1 ∷ []) (x.left ∷ y.left ∷ s.free ∷ y.right ∷ x.right ∷ t.rest ∷ []) w b1 in
       let theirs : OwnsThing y.left thing ⊎ OwnsThing s.free thing = elim meets [
-        inl z ↦ owned-reads n (known g t.other.0) g.todo c.common y.left b2.2.0 s.free thing
-        (b2.0, b2.1, (b2.2.0, b2.2.1, single b2.2.0)) y.first s.resources unshut z
-      | inr z ↦ inl (owned-writes n (known g t.other.0) g.todo c.common y.left b2.0 thing b2.1 y.first z)
+        | inl z ↦ owned-reads n (known g t.other.0) g.todo c.common y.left b2.2.0 s.free thing
+            (b2.0, b2.1, (b2.2.0, b2.2.1, single b2.2.0)) y.first s.resources unshut z
+        | inr z ↦ inl (owned-writes n (known g t.other.0) g.todo c.common y.left b2.0 thing b2.1 y.first z)
       ] in
       thing-apart thing b1.1 mine (elim theirs [
-        inl z ↦ thing-left thing b1.2.1 z
-      | inr z ↦ thing-right thing b1.2.1 (thing-left thing b1.2.2.1 z)
+        | inl z ↦ thing-left thing b1.2.1 z
+        | inr z ↦ thing-right thing b1.2.1 (thing-left thing b1.2.2.1 z)
       ])
 
   never-races : (n : ℕ) (o : Known) (c : Config) → IsOwned p (suc n) o c → Races c → ⊥

@@ -1,14 +1,14 @@
 -- What is owned splits like maps do: cells, slots and tokens apart.
 -- Names: `parts-LAW` speaks of `Parts whole left right`, `has-LAW` of a slot that is owned.
-use Rattle.std.specs.Prelude.{◌≡◌, ◌≢◌, ℕ, Bool, true, false, cond, List, [], ◌∷◌, ◌++◌, Option, Some, None, length, ltb, ◌-◌}
+use Rattle.std.specs.Prelude.{◌≡◌, ℕ, Bool, true, false, cond, List, [], ◌∷◌, ◌++◌, Option, Some, None, ◌-◌}
 use Rattle.std.specs.Option.{option_or}
-use Rattle.std.proofs.Common.{sym, ap, ◌∙◌, refl, subst}
+use Rattle.std.proofs.Common.{sym, ap, refl, subst}
 use Rattle.sf_base.specs.HeapStore.{Map, Splits, Apart, Cell, Slot}
 use Rattle.sf_base.specs.declared.value.Value.{Value}
-use Rattle.sf_base.proofs.MapSplits.{changed, empty-holds, empty-is, map-same, splits-assoc_right, splits-cancel_left, splits-changed_left, splits-comm, splits-empty_parts, splits-empty_right, splits-has_left, splits-lacks_right, splits-of_empty_right}
+use Rattle.sf_base.proofs.MapSplits.{empty-holds, splits-assoc_right, splits-cancel_left, splits-changed_left, splits-comm, splits-empty_right, splits-has_left, splits-of_empty_right}
 use Rattle.sf_base.proofs.HeapSplits.{cell-change_left, cell-new_left}
 use Rattle.sf_base.proofs.StoreSplits.{slot-change_left}
-use Rattle.sf_base.proofs.HeapSums.{Splitting, Cut, Sums as SumsOf, nth, without, ordered, sums-cancel, sums-cut, sums-of_parts, sums-one, sums-open, sums-order, sums-parts, sums-single}
+use Rattle.sf_base.proofs.HeapSums.{Splitting, Cut, Sums as SumsOf, ordered, sums-cut, sums-of_parts, sums-open, sums-order, sums-parts, sums-single}
 use Rattle.sf_core.specs.Machine.Config.{Room, in_room, Common}
 use Rattle.sf_core.specs.Machine.Step.{open_room, index_of}
 use Rattle.sf_core.specs.Program.Syntax.{Program}

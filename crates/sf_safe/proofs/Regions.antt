@@ -1,14 +1,14 @@
 -- Entries and exits of regions keep what is owned.
 -- Names: `resources-LAW` speaks of the shares of the resources; else the event's.
-use Rattle.std.specs.Prelude.{◌≡◌, ◌≢◌, ℕ, zero, suc, Bool, true, false, cond, List, [], ◌∷◌, ◌++◌, Option, Some, None, ◌==◌, ◌<◌, ◌≤◌, ◌+◌, length}
-use Rattle.std.proofs.Common.{sym, ap, ◌∙◌, refl, subst, arith}
+use Rattle.std.specs.Prelude.{◌≡◌, ℕ, suc, Bool, true, false, cond, List, [], ◌∷◌, Option, Some, None, ◌==◌, ◌<◌, ◌≤◌, ◌+◌, length}
+use Rattle.std.proofs.Common.{sym, ap, refl, subst, arith}
 use Rattle.std.proofs.lemmas.Bool.Decides.{nat_tests}
 use Rattle.std.proofs.lemmas.Option.{slice_get_within}
 use Rattle.sf_base.specs.declared.ids.ResId.{ResId}
 use Rattle.sf_base.specs.declared.place.Place.{Place}
 use Rattle.sf_core.specs.declared.assertion.Test.{Test}
 use Rattle.sf_core.specs.declared.command.Expr.{Expr}
-use Rattle.sf_core.specs.Machine.Config.{Item, command, leave, items, Frame, Task, Path, Common}
+use Rattle.sf_core.specs.Machine.Config.{Item, command, leave, Frame, Task, Path, Common}
 use Rattle.sf_core.specs.Machine.Step.{Event, Does, set_holder, task_with}
 use Rattle.sf_core.specs.Program.Syntax.{Block, with, Program, Resource}
 use Rattle.sf_safe.specs.Own.{Own, Parts, everything, nothing}
@@ -160,13 +160,16 @@ module _ (p : Program) (n : ℕ) (owed : Known) (f : Frame) (below : List Frame)
         part = z.stack;
         free = taken.rest;
         sums = subst (λ y. Sums (everything p y) (z.stack ∷ q ∷ taken.rest ∷ [])) (sym d.2) z.sums;
-        tree = subst (λ y. Tree p n owed y z.stack) (sym d.3) (v, record {
-          left = z.frame;
-          right = k.right;
-          parts = z.split;
-          first = safe.goes_on taken.share z.frame taken.free z.back true_;
-          second = fewer-callers p n (known f v) below owed k.right k.second;
-        });
+        tree = subst (λ y. Tree p n owed y z.stack) (sym d.3) (
+          v,
+          record {
+            left = z.frame;
+            right = k.right;
+            parts = z.split;
+            first = safe.goes_on taken.share z.frame taken.free z.back true_;
+            second = fewer-callers p n (known f v) below owed k.right k.second;
+          },
+        );
         resources = subst (λ y. Resources p y.held 0 p.resources taken.rest) (sym d.2) taken.others;
       }
 
@@ -184,15 +187,18 @@ module _ (p : Program) (n : ℕ) (owed : Known) (f : Frame) (below : List Frame)
         part = z.stack;
         free = z.free;
         sums = subst (λ y. Sums (everything p y) (z.stack ∷ q ∷ z.free ∷ [])) (sym d) z.sums;
-        tree = subst (λ y. Tree p n owed y z.stack) (sym j) (v, record {
-          left = safe.kept;
-          right = k.right;
-          parts = z.split;
-          first = safe.goes_on;
-          second = fewer-callers p n (known f v) below owed k.right k.second;
-        });
+        tree = subst (λ y. Tree p n owed y z.stack) (sym j) (
+          v,
+          record {
+            left = safe.kept;
+            right = k.right;
+            parts = z.split;
+            first = safe.goes_on;
+            second = fewer-callers p n (known f v) below owed k.right k.second;
+          },
+        );
         resources = subst (λ y. Resources p y.held 0 p.resources z.free) (sym d)
             (resources-give p s.held r path 0 p.resources z.free safe.share e (omega arith)
-              (let l : r.0 < length p.resources = slice_get_within p.resources r.0 safe.free.resource safe.free.there in
-              omega (arith, l)) h safe.free z.back free);
+            (let l : r.0 < length p.resources = slice_get_within p.resources r.0 safe.free.resource safe.free.there in
+            omega (arith, l)) h safe.free z.back free);
       }

@@ -1,11 +1,10 @@
 -- What is seen in a part is what is seen in the whole, as far as what is read is owned.
 -- Names: `seen-WHAT`.
-use Rattle.std.specs.Prelude.{◌≡◌, ◌≢◌, ℕ, List, [], ◌∷◌, Some, get_or, map}
+use Rattle.std.specs.Prelude.{◌≡◌, ◌≢◌, ℕ, List, [], ◌∷◌, get_or, map}
 use Rattle.std.specs.Option.{unwrap_or}
-use Rattle.std.proofs.Common.{sym, ap, ap₂, ◌∙◌, refl, subst}
+use Rattle.std.proofs.Common.{sym, ap, ap₂, ◌∙◌, refl}
 use Rattle.std.proofs.lemmas.Option.{same_Some}
 use Rattle.sf_base.specs.declared.ids.Var.{Var}
-use Rattle.sf_base.specs.declared.value.Value.{Value}
 use Rattle.sf_base.specs.declared.value.Value.TheVariants.{Nil as nil, Loc as loc}
 use Rattle.sf_base.specs.HeapStore.{Cell, Slot}
 use Rattle.sf_base.proofs.MapSplits.{splits-has_left}

@@ -1,6 +1,6 @@
 -- The regroupings of the parts of a whole that events make, over plain variables.
 -- Names: after-EVENT, with the parts as they are after it.
-use Rattle.std.specs.Prelude.{List, [], ◌∷◌}
+use Rattle.std.specs.Prelude.{[], ◌∷◌}
 use Rattle.sf_safe.specs.Own.{Own, Parts}
 use Rattle.sf_safe.proofs.Owns.{Sums, group, order}
 

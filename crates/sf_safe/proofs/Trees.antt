@@ -1,12 +1,12 @@
 -- The tree of tasks: shares that are safe for more events are so for fewer, and one task of the tree with its share.
 -- Names: `fewer-WHAT` goes to one event less; `focus`.
-use Rattle.std.specs.Prelude.{◌≡◌, ℕ, zero, suc, List, [], ◌∷◌, ◌++◌, Option, Some, None}
+use Rattle.std.specs.Prelude.{◌≡◌, ℕ, zero, suc, List, [], ◌∷◌, ◌++◌, Some}
 use Rattle.std.proofs.Common.{sym, subst}
 use Rattle.std.proofs.lemmas.Option.{same_Some}
 use Rattle.sf_base.specs.declared.path.Turn.TheVariants.{Left as left, Right as right}
 use Rattle.sf_core.specs.Machine.Config.{Item, command, leave, items, Frame, Task, runs, waits, Path, task_at, put_task}
 use Rattle.sf_core.specs.Program.Syntax.{assign, look_up, mutate, new, dispose, if, while, call, fork, with, Program}
-use Rattle.sf_safe.specs.Own.{Own, Parts, nothing, ◌⋆◌}
+use Rattle.sf_safe.specs.Own.{Own, Parts, nothing}
 use Rattle.sf_safe.specs.Contract.{Known}
 use Rattle.sf_safe.specs.Safe.{Safe}
 use Rattle.sf_safe.specs.Invariant.{known, Callers, Running, Waiting, Tree}
@@ -74,51 +74,64 @@ module _ (p : Program) where
   pub fewer-callers : (n : ℕ) (k : Known) (below : List Frame) (owed : Known) (w : Own)
       → Callers p (suc n) k below owed w → Callers p n k below owed w
   fewer-callers n k [] owed w s = s
-  fewer-callers n k (f ∷ below) owed w (v, s) = (v, record {
-    left = s.left;
-    right = s.right;
-    parts = s.parts;
-    first = λ back after r q. fewer n (known f v) f.todo after (s.first back after r q);
-    second = fewer-callers n (known f v) below owed s.right s.second;
-  })
+  fewer-callers n k (f ∷ below) owed w (v, s) = (
+    v,
+    record {
+      left = s.left;
+      right = s.right;
+      parts = s.parts;
+      first = λ back after r q. fewer n (known f v) f.todo after (s.first back after r q);
+      second = fewer-callers n (known f v) below owed s.right s.second;
+    },
+  )
 
   pub fewer-running : (n : ℕ) (owed : Known) (frames : List Frame) (w : Own) → Running p (suc n) owed frames w
       → Running p n owed frames w
   fewer-running n owed [] w s = s
-  fewer-running n owed (f ∷ below) w (v, s) = (v, record {
-    left = s.left;
-    right = s.right;
-    parts = s.parts;
-    first = fewer n (known f v) f.todo s.left s.first;
-    second = fewer-callers n (known f v) below owed s.right s.second;
-  })
+  fewer-running n owed (f ∷ below) w (v, s) = (
+    v,
+    record {
+      left = s.left;
+      right = s.right;
+      parts = s.parts;
+      first = fewer n (known f v) f.todo s.left s.first;
+      second = fewer-callers n (known f v) below owed s.right s.second;
+    },
+  )
 
   pub fewer-waiting : (n : ℕ) (owed : Known) (frames : List Frame) (g h : Known) (w : Own)
       → Waiting p (suc n) owed frames g h w → Waiting p n owed frames g h w
   fewer-waiting n owed [] g h w s = s
-  fewer-waiting n owed (f ∷ below) g h w (v, s) = (v, record {
-    left = s.left;
-    right = s.right;
-    parts = s.parts;
-    first = λ one two back after x y i j. fewer n (known f v) f.todo after (s.first one two back after x y i j);
-    second = fewer-callers n (known f v) below owed s.right s.second;
-  })
+  fewer-waiting n owed (f ∷ below) g h w (v, s) = (
+    v,
+    record {
+      left = s.left;
+      right = s.right;
+      parts = s.parts;
+      first = λ one two back after x y i j. fewer n (known f v) f.todo after (s.first one two back after x y i j);
+      second = fewer-callers n (known f v) below owed s.right s.second;
+    },
+  )
 
   pub fewer-tree : (n : ℕ) (owed : Known) (t : Task) (w : Own) → Tree p (suc n) owed t w → Tree p n owed t w
   fewer-tree n owed (runs frames) w s = fewer-running n owed frames w s
-  fewer-tree n owed (waits frames one two) w (g, h, k) = (g, h, record {
-    left = k.left;
-    right = k.right;
-    parts = k.parts;
-    first = fewer-waiting n owed frames g h k.left k.first;
-    second = record {
-      left = k.second.left;
-      right = k.second.right;
-      parts = k.second.parts;
-      first = fewer-tree n g one _ k.second.first;
-      second = fewer-tree n h two _ k.second.second;
-    };
-  })
+  fewer-tree n owed (waits frames one two) w (g, h, k) = (
+    g,
+    h,
+    record {
+      left = k.left;
+      right = k.right;
+      parts = k.parts;
+      first = fewer-waiting n owed frames g h k.left k.first;
+      second = record {
+        left = k.second.left;
+        right = k.second.right;
+        parts = k.second.parts;
+        first = fewer-tree n g one _ k.second.first;
+        second = fewer-tree n h two _ k.second.second;
+      };
+    },
+  )
 
   -- one task of the tree, with its share, and the way back to a tree for one event less
   pub record Focus (n : ℕ) (owed : Known) (path : Path) (t u : Task) (w : Own) : Type 0 where
@@ -154,20 +167,23 @@ module _ (p : Program) where
         here = f.here;
         back = λ u' part' w' t q.
             let x = parts-left c.0 q in
-            let y = parts-left m.0 x.0 in
-            (g, h, record {
-              left = k.left;
-              right = _;
-              parts = parts-comm x.1;
-              first = fewer-waiting n owed frames g h k.left k.first;
-              second = record {
-                left = _;
-                right = k.second.right;
-                parts = y.1;
-                first = f.back u' part' _ t y.0;
-                second = fewer-tree n h two _ k.second.second;
-              };
-            });
+            let y = parts-left m.0 x.0 in (
+              g,
+              h,
+              record {
+                left = k.left;
+                right = _;
+                parts = parts-comm x.1;
+                first = fewer-waiting n owed frames g h k.left k.first;
+                second = record {
+                  left = _;
+                  right = k.second.right;
+                  parts = y.1;
+                  first = f.back u' part' _ t y.0;
+                  second = fewer-tree n h two _ k.second.second;
+                };
+              },
+            );
       }
   focus n owed (right ∷ path) (waits frames one two) u w e (g, h, k) =
       let f = focus n h path two u k.second.right e k.second.second in
@@ -181,18 +197,21 @@ module _ (p : Program) where
         here = f.here;
         back = λ u' part' w' t q.
             let x = parts-left c.0 q in
-            let y = parts-left m.0 x.0 in
-            (g, h, record {
-              left = k.left;
-              right = _;
-              parts = parts-comm x.1;
-              first = fewer-waiting n owed frames g h k.left k.first;
-              second = record {
-                left = k.second.left;
+            let y = parts-left m.0 x.0 in (
+              g,
+              h,
+              record {
+                left = k.left;
                 right = _;
-                parts = parts-comm y.1;
-                first = fewer-tree n g one _ k.second.first;
-                second = f.back u' part' _ t y.0;
-              };
-            });
+                parts = parts-comm x.1;
+                first = fewer-waiting n owed frames g h k.left k.first;
+                second = record {
+                  left = k.second.left;
+                  right = _;
+                  parts = parts-comm y.1;
+                  first = fewer-tree n g one _ k.second.first;
+                  second = f.back u' part' _ t y.0;
+                };
+              },
+            );
       }

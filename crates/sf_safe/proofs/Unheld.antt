@@ -2,11 +2,11 @@
 -- would be where its resource isn't held, which the conditions on variables forbid.
 -- Names: `PART-occurs` of a variable in a PART of the body, `PART-calls` of a call there.
 use Rattle.std.specs.Prelude.{◌≡◌, ◌≢◌, ℕ, List, [], ◌∷◌, Contains, Some, ◌⊎◌, slice_get}
-use Rattle.std.proofs.Common.{sym, ap, ◌∙◌, refl, subst, inl, inr}
+use Rattle.std.proofs.Common.{sym, ap, refl, subst, inl, inr}
 use Rattle.sf_base.specs.declared.ids.ProcId.{ProcId}
 use Rattle.sf_base.specs.declared.ids.ResId.{ResId}
 use Rattle.sf_base.specs.declared.ids.Var.{Var}
-use Rattle.sf_base.specs.declared.ids.Var.TheVariants.{Own as OwnVar, Shared}
+use Rattle.sf_base.specs.declared.ids.Var.TheVariants.{Shared}
 use Rattle.sf_base.specs.declared.place.Place.{Place}
 use Rattle.sf_base.proofs.Elements.{contains-cons, contains-nil}
 use Rattle.sf_core.specs.declared.assertion.Operand.TheVariants.{Known}
@@ -21,11 +21,11 @@ use Rattle.sf_core.specs.Program.Formed.{IsFormed}
 use Rattle.sf_core.specs.Program.Syntax.{Call, Command, assign, look_up, mutate, new, dispose, if, while, call, fork, with, Block, done, then, Procedure, Program}
 use Rattle.sf_calls.specs.declared.breach.Breach.TheVariants.{NotHeld}
 use Rattle.sf_calls.specs.Around.{Around, IsHeld}
-use Rattle.sf_calls.specs.Breaks.{Breaks, BreaksAt, FurtherIn, Makes, Somewhere, StandsIn, StandsInCall}
-use Rattle.sf_calls.specs.Conditions.{Calls, Free, FreeIn, Mentions}
+use Rattle.sf_calls.specs.Breaks.{BreaksAt, FurtherIn, Somewhere, StandsInCall}
+use Rattle.sf_calls.specs.Conditions.{Free, FreeIn}
 use Rattle.sf_calls.specs.FirstBreach.{Conditions}
 use Rattle.sf_calls.specs.Outside.{CallsIn, CallsInCommand, IsAmong, OccursInCall, OccursInCommand, OccursInExpr, OccursInTest, OccursInValues, OccursOutside}
-use Rattle.sf_calls.specs.Reaches.{Reaches, directly, through}
+use Rattle.sf_calls.specs.Reaches.{directly, through}
 use Rattle.sf_calls.proofs.Closing.{first_breach_is_broken}
 
 module _ (p : Program) (f : ProcId) (r : ResId) (i : ℕ) where
@@ -119,9 +119,13 @@ module _ (p : Program) (f : ProcId) (r : ResId) (i : ℕ) where
         let m = block-occurs entered unheld d o in (m.0, inr (inr m.1))
     command-occurs entered unheld (while q t a c) (inl o) =
         let m = test-occurs t o in (m.0, inl (unheld, inl (inl m.1)))
-    command-occurs entered unheld (while q t a c) (inr (inl (y, e, o))) =
-        (y.place, inl (unheld,
-          inl (inr (subst (λ z. core.OccursIn a.level (Known (Variable z))) (is-at y e) o))))
+    command-occurs entered unheld (while q t a c) (inr (inl (y, e, o))) = (
+      y.place,
+      inl (
+        unheld,
+        inl (inr (subst (λ z. core.OccursIn a.level (Known (Variable z))) (is-at y e) o)),
+      ),
+    )
     command-occurs entered unheld (while q t a c) (inr (inr o)) =
         let m = block-occurs entered unheld c o in (m.0, inr m.1)
     command-occurs entered unheld (call q c) o =
@@ -178,6 +182,7 @@ module _ (p : Program) (f : ProcId) (r : ResId) (i : ℕ) where
     where
       broken : (h : Procedure) → slice_get p.procedures f.0 ≡ Some h → BrokenIn [] h.body → ⊥
       broken h there b = (first_breach_is_broken p formed).kept conditions f (NotHeld b.0 x) (h, there, b.1)
+
       go : FreeIn p f x → ⊥
       go (directly (h, there, inl o)) =
           n (record { procedure = h; there = there; variable = i; occurs = inl o })

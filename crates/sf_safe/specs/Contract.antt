@@ -1,6 +1,6 @@
 -- What contracts say of what is owned: how a frame begins and ends, and the share of a resource that is free.
 -- O'Hearn (2007); Brookes (2007). The contracts are the program's own: there is nothing here to choose.
-use Rattle.std.specs.Prelude.{◌≡◌, ℕ, Option, Some, None, cond, length, ◌+◌, ◌-◌, ◌<◌, ◌≤◌, ◌==◌}
+use Rattle.std.specs.Prelude.{◌≡◌, ℕ, Some, None, cond, length, ◌+◌, ◌-◌, ◌<◌, ◌≤◌, ◌==◌}
 use Rattle.std.specs.List.{slice_get}
 use Rattle.std.specs.Option.{unwrap_or}
 use Rattle.sf_base.specs.declared.ids.ProcId.{ProcId}

@@ -39,7 +39,6 @@ pub record ◌⋆◌ (P Q : Own → Type 0) (whole : Own) : Type 0 where
   pub second : Q right
 
 infixr 40 ◌⋆◌
-
 -- all that there is: the heap, the store, and a token for each resource of the program
 abbrev pub everything : Program → Common → Own
 everything p s = record {

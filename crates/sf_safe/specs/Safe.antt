@@ -10,7 +10,7 @@ use Rattle.sf_core.specs.declared.command.Expr.{Expr}
 use Rattle.sf_core.specs.Assertions.Sat.{IsTrueOf}
 use Rattle.sf_core.specs.Machine.Config.{Item, command, leave, items, Room}
 use Rattle.sf_core.specs.Machine.Step.{callee_frame, arguments, room_for, room_count, procedure_at, Finds}
-use Rattle.sf_core.specs.Program.Syntax.{Call, Command, assign, look_up, mutate, new, dispose, if, while, call, fork, with, Procedure, Program}
+use Rattle.sf_core.specs.Program.Syntax.{Call, assign, look_up, mutate, new, dispose, if, while, call, fork, with, Procedure, Program}
 use Rattle.sf_safe.specs.Own.{Own, Parts, HasSlot, HasExpr, HasTest, HasAll, put_slot, put_cell, new_slots}
 use Rattle.sf_safe.specs.Contract.{Known, see, Entered, Ended, Returned, FreeShare}
 

@@ -1,0 +1,14 @@
+-- The law: a start is owned, each event keeps what is owned, and what is owned is good.
+-- Names: the law's.
+use Rattle.sf_safe.specs.Law.{SafeProgramsAreSound}
+use Rattle.sf_safe.proofs.GoodOwned.{good-owned}
+use Rattle.sf_safe.proofs.Keeps.{reach-owned}
+use Rattle.sf_safe.proofs.Starts.{entry, start-owned}
+
+pub safe_programs_are_sound : SafeProgramsAreSound
+unfolding SafeProgramsAreSound
+safe_programs_are_sound p formed conditions bodies f store heap start reached events s r =
+    let mine = entry p formed conditions f store heap start s in
+    good-owned p formed 0 mine reached
+    (reach-owned p bodies events 1 mine start reached
+    (λ n. start-owned p formed conditions f store heap start s bodies n) r)
