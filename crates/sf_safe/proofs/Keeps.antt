@@ -1,13 +1,14 @@
 -- Every event keeps what is owned.
 -- Names: `room-LAW` speaks of new slots, `step-LAW` of one event of a configuration, `reach-LAW` of a list of them.
-use Rattle.std.specs.Prelude.{◌≡◌, ◌≢◌, ℕ, suc, Bool, true, false, cond, List, [], ◌∷◌, ◌++◌, Option, Some, None, ◌⊎◌, ◌==◌, ◌+◌, ◌-◌, ◌&&◌, leb, ltb}
-use Rattle.std.proofs.Common.{sym, ap, ◌∙◌, refl, subst, arith, inl, inr}
+use Rattle.std.specs.Prelude.{◌≡◌, ◌≢◌, ℕ, suc, Bool, true, false, cond, List, [], ◌∷◌, ◌++◌, Option, Some, None, ◌⊎◌, ◌==◌, ◌+◌, ◌-◌, ◌&&◌, leb, ltb, ◌||◌}
+use Rattle.std.proofs.Common.{true≢false, sym, ap, ◌∙◌, refl, subst, arith, inl, inr}
 use Rattle.std.proofs.lemmas.Bool.Decides.{nat_tests}
 use Rattle.std.proofs.lemmas.Option.{same_Some}
 use Rattle.sf_base.specs.declared.path.Turn.TheVariants.{Left as left, Right as right}
 use Rattle.sf_base.specs.declared.value.Value.{Value}
 use Rattle.sf_base.specs.HeapStore.{Slot, shared, own}
-use Rattle.sf_core.specs.Machine.Config.{Item, command, leave, items, Room, in_room, Frame, Task, runs, waits, Path, Common, Config, IsCalled, IsUsed, put_task, task_at}
+use Rattle.sf_core.specs.Machine.Config.{Item, command, leave, items, Room, in_room, Frame, Task, runs, waits, Path, Common, Config, IsCalled, put_task, task_at}
+use Rattle.sf_core.specs.Machine.Next.{frame_next}
 use Rattle.sf_core.specs.Machine.Reach.{Reach}
 use Rattle.sf_core.specs.Machine.Step.{Event, Goes, TaskStep, Step, arguments, open_room, room_for, room_count, index_of}
 use Rattle.sf_core.specs.Program.Syntax.{assign, look_up, mutate, new, dispose, if, while, call, fork, with, Procedure, Program}
@@ -99,7 +100,7 @@ module _ (p : Program) where
           → After p n owed t after r
       mine todo i moves = alone p n owed f below todo s t after u r e i a tree free moves
 
-      go : (todo : List Item) → f.todo ≡ todo → Goes p ev s f.fixed below todo t after → After p n owed t after r
+      go : (todo : List Item) → f.todo ≡ todo → Goes p ev s (frame_next f.fixed below todo) t after → After p n owed t after r
       go [] i x = returned p n owed f below s t after u r e a tree free i x.1 x.2
       go (leave q ∷ rest) i x = left_ p n owed f below s t after u r e a tree free ev.task q rest i x.0 x.1 x.2
       go (command (with place q test body) ∷ rest) i x =
@@ -151,7 +152,7 @@ module _ (p : Program) where
       mine todo i moves =
           inl ((moves (subst (λ z. Safe p (suc n) (known f v) z k.left) i k.first)).old slot h)
 
-      go : (todo : List Item) → f.todo ≡ todo → Goes p ev s f.fixed below todo t after
+      go : (todo : List Item) → f.todo ≡ todo → Goes p ev s (frame_next f.fixed below todo) t after
           → (s.store slot ≢ None) ⊎ AllMade (λ e. e ≡ ev.number) slot
       go [] i y = inl (cond-old (in_room f.fixed.room slot) (s.store slot)
           (λ e. h (ap (λ (z : Common). z.store slot) y.1 ∙ e)))
@@ -186,18 +187,24 @@ module _ (p : Program) where
 
 -- CONFIGURATIONS
 
-made-same : (c : Config) (slot : Slot) → IsMadeBefore c slot → AllMade (IsUsed c.used) slot
+made-same : (c : Config) (slot : Slot) → IsMadeBefore c slot → AllMade (λ e. c.used e ≡ true) slot
 made-same c (shared r i) h = h
 made-same c (own e i) h = h
+
+adds-old : (i number : ℕ) (b : Bool) → b ≡ true → (i == number) || b ≡ true
+adds-old i number b e = grind (arith, nat_tests, e)
+
+adds-new : (i number : ℕ) (b : Bool) → i ≡ number → (i == number) || b ≡ true
+adds-new i number b e = grind (arith, nat_tests, e)
 
 made-after : (p : Program) (ev : Event) (c d : Config) → Step p ev c d
     → ((slot : Slot) → c.common.store slot ≢ None → IsMadeBefore c slot) → Grows ev.number c.common d.common
     → (slot : Slot) → d.common.store slot ≢ None → IsMadeBefore d slot
 made-after p ev c d st a g (shared q k) h = tt
-made-after p ev c d st a g (own i k) h = subst (λ us. IsUsed us i) (sym st.used) (elim (g (own i k) h) [
-  | inl x ↦ inr (a (own i k) x)
-  | inr x ↦ inl x
-])
+made-after p ev c d st a g (own i k) h = ap (λ us. us i) st.used ∙ elim (g (own i k) h) [
+  | inl x ↦ adds-old i ev.number (c.used i) (a (own i k) x)
+  | inr x ↦ adds-new i ev.number (c.used i) x
+]
 
 -- THE ENTRY is not returned from
 
@@ -212,7 +219,7 @@ frame-stays p n owed ev (runs (f ∷ below)) after s t w top tree d = go f.todo 
     called-by [] h = absurd h
     called-by (g ∷ below) h = tt
 
-    go : (todo : List Item) → Goes p ev s f.fixed below todo t after → HasFrame after
+    go : (todo : List Item) → Goes p ev s (frame_next f.fixed below todo) t after → HasFrame after
     go [] x = subst HasFrame (sym x.2) (called-by below (subst (λ z. IsCalled z below) top x.0))
     go (leave r ∷ rest) x = subst HasFrame (sym x.2) tt
     go (command (assign _ y z) ∷ rest) x = subst HasFrame (sym x.1) tt
@@ -247,8 +254,8 @@ pub step-owned : (p : Program) → BodiesAreSafe p → (n : ℕ) (entry : Known)
 step-owned p bodies n entry ev c d s st =
     let k = focus p n entry ev.task c.tasks st.from s.tasks st.there s.tree in
     let all = open_ (k.part ∷ k.rest ∷ []) (s.free ∷ []) (two s.parts) (two k.parts) in
-    let x = event p bodies n k.owes ev st.from st.to c.common d.common (IsUsed c.used) k.part k.rest s.free
-    (λ slot h. made-same c slot (s.made slot h)) st.fresh all k.here s.resources st.steps in
+    let x = event p bodies n k.owes ev st.from st.to c.common d.common (λ e. c.used e ≡ true) k.part k.rest s.free
+    (λ slot h. made-same c slot (s.made slot h)) (λ i. true≢false (sym i ∙ st.fresh)) all k.here s.resources st.steps in
     let g = group (x.free ∷ []) x.sums in
     record {
       tasks = g.both;

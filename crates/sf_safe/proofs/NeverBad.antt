@@ -14,9 +14,10 @@ use Rattle.sf_core.specs.declared.assertion.Test.{Test}
 use Rattle.sf_core.specs.declared.assertion.Test.TheVariants.{True, Equal, Differ}
 use Rattle.sf_core.specs.declared.command.Expr.{Expr}
 use Rattle.sf_core.specs.declared.command.Expr.TheVariants.{Var as Variable, Nil, Int}
-use Rattle.sf_core.specs.Machine.Bad.{Bad, IsAbsent, Races, TouchesAbsent, next_root}
+use Rattle.sf_core.specs.Machine.Bad.{Bad, IsAbsent, IsAtNoCell, Races, TouchesAbsent}
 use Rattle.sf_core.specs.Machine.Config.{Item, command, leave, Frame, Task, runs, waits, Path, Common, Config, evaluate, task_at}
-use Rattle.sf_core.specs.Machine.Enabled.{FrameReads, FrameWrites, IsBlocked, IsCellAt, IsInRoom, IsShut, Reads, ReadsAll, ReadsExpr, ReadsTest, Thing, Writes, cell, variable}
+use Rattle.sf_core.specs.Machine.Enabled.{IsBlocked, IsCellAt, IsInRoom, Reads, ReadsAll, ReadsExpr, ReadsTest, Thing, Writes, cell, variable}
+use Rattle.sf_core.specs.Machine.Next.{frame_next, next}
 use Rattle.sf_core.specs.Program.Syntax.{assign, look_up, mutate, new, dispose, if, while, call, fork, with, Program}
 use Rattle.sf_safe.specs.Own.{Own, Parts, HasAll, HasExpr, HasSlot, HasTest, everything}
 use Rattle.sf_safe.specs.Contract.{Known}
@@ -94,57 +95,59 @@ in-room p k w s (cell a) d = absurd d
 
 module _ (p : Program) where
   -- what a frame writes is its own
-  pub owned-writes : (n : ℕ) (k : Known) (todo : List Item) (s : Common) (w r : Own) (t : Thing)
-      → Parts (everything p s) w r → Safe p (suc n) k todo w → FrameWrites k.fixed s.store todo t → OwnsThing w t
-  owned-writes n k [] s w r t q a d = in-room p k w a t d
-  owned-writes n k (leave g ∷ rest) s w r t q a d = absurd d
-  owned-writes n k (command (assign place x e) ∷ rest) s w r t q a d = subst (OwnsThing w) (sym d) a.0
-  owned-writes n k (command (look_up place x e g) ∷ rest) s w r t q a d = subst (OwnsThing w) (sym d) a.0
-  owned-writes n k (command (mutate place e g v) ∷ rest) s w r t q a d =
+  pub owned-writes : (n : ℕ) (k : Known) (below : List Frame) (todo : List Item) (s : Common) (w r : Own) (t : Thing)
+      → Parts (everything p s) w r → Safe p (suc n) k todo w
+      → Writes s.store (frame_next k.fixed below todo) t → OwnsThing w t
+  owned-writes n k below [] s w r t q a d = in-room p k w a t d
+  owned-writes n k below (leave g ∷ rest) s w r t q a d = absurd d
+  owned-writes n k below (command (assign place x e) ∷ rest) s w r t q a d = subst (OwnsThing w) (sym d) a.0
+  owned-writes n k below (command (look_up place x e g) ∷ rest) s w r t q a d = subst (OwnsThing w) (sym d) a.0
+  owned-writes n k below (command (mutate place e g v) ∷ rest) s w r t q a d =
       owned-cell k (everything p s) w r e t q a.1 d
-  owned-writes n k (command (new place x) ∷ rest) s w r t q a d = subst (OwnsThing w) (sym d) a.0
-  owned-writes n k (command (dispose place e) ∷ rest) s w r t q a d =
+  owned-writes n k below (command (new place x) ∷ rest) s w r t q a d = subst (OwnsThing w) (sym d) a.0
+  owned-writes n k below (command (dispose place e) ∷ rest) s w r t q a d =
       owned-cell k (everything p s) w r e t q a.0 d
-  owned-writes n k (command (if place test this that) ∷ rest) s w r t q a d = absurd d
-  owned-writes n k (command (while place test kept body) ∷ rest) s w r t q a d = absurd d
-  owned-writes n k (command (call place c) ∷ rest) s w r t q a d = absurd d
-  owned-writes n k (command (fork place c g) ∷ rest) s w r t q a d = absurd d
-  owned-writes n k (command (with place g test body) ∷ rest) s w r t q a d = absurd d
+  owned-writes n k below (command (if place test this that) ∷ rest) s w r t q a d = absurd d
+  owned-writes n k below (command (while place test kept body) ∷ rest) s w r t q a d = absurd d
+  owned-writes n k below (command (call place c) ∷ rest) s w r t q a d = absurd d
+  owned-writes n k below (command (fork place c g) ∷ rest) s w r t q a d = absurd d
+  owned-writes n k below (command (with place g test body) ∷ rest) s w r t q a d = absurd d
 
   is-free : (x : Option Path) → (x ≢ None → ⊥) → x ≡ None
   is-free None h = refl
   is-free (Some y) h = absurd (h (λ e. absurd (cc)))
 
   -- what it reads is its own or, at a region, a free resource's
-  pub owned-reads : (n : ℕ) (k : Known) (todo : List Item) (s : Common) (w r e : Own) (t : Thing)
+  pub owned-reads : (n : ℕ) (k : Known) (below : List Frame) (todo : List Item) (s : Common) (w r e : Own) (t : Thing)
       → Sums (everything p s) (w ∷ e ∷ r ∷ []) → Safe p (suc n) k todo w → Resources p s.held 0 p.resources e
-      → (IsShut s.held todo → ⊥) → FrameReads k.fixed.slots s.store todo t → OwnsThing w t ⊎ OwnsThing e t
-  owned-reads n k [] s w r e t q a free b d = absurd d
-  owned-reads n k (leave g ∷ rest) s w r e t q a free b d = absurd d
-  owned-reads n k (command (assign place x y) ∷ rest) s w r e t q a free b d =
+      → (IsBlocked s.held (frame_next k.fixed below todo) → ⊥) → Reads s.store (frame_next k.fixed below todo) t
+      → OwnsThing w t ⊎ OwnsThing e t
+  owned-reads n k below [] s w r e t q a free b d = absurd d
+  owned-reads n k below (leave g ∷ rest) s w r e t q a free b d = absurd d
+  owned-reads n k below (command (assign place x y) ∷ rest) s w r e t q a free b d =
       inl (owned-expr k.fixed.slots w t y a.1 d)
-  owned-reads n k (command (look_up place x y g) ∷ rest) s w r e t q a free b d = inl (elim d [
+  owned-reads n k below (command (look_up place x y g) ∷ rest) s w r e t q a free b d = inl (elim d [
     | inl z ↦ owned-expr k.fixed.slots w t y a.1.reads z
     | inr z ↦ owned-cell k (everything p s) w q.0 y t q.1 a.1 z
   ])
-  owned-reads n k (command (mutate place x g y) ∷ rest) s w r e t q a free b d = inl (elim d [
+  owned-reads n k below (command (mutate place x g y) ∷ rest) s w r e t q a free b d = inl (elim d [
     | inl z ↦ owned-expr k.fixed.slots w t x a.1.reads z
     | inr z ↦ owned-expr k.fixed.slots w t y a.0 z
   ])
-  owned-reads n k (command (new place x) ∷ rest) s w r e t q a free b d = absurd d
-  owned-reads n k (command (dispose place x) ∷ rest) s w r e t q a free b d =
+  owned-reads n k below (command (new place x) ∷ rest) s w r e t q a free b d = absurd d
+  owned-reads n k below (command (dispose place x) ∷ rest) s w r e t q a free b d =
       inl (owned-expr k.fixed.slots w t x a.0.reads d)
-  owned-reads n k (command (if place test this that) ∷ rest) s w r e t q a free b d =
+  owned-reads n k below (command (if place test this that) ∷ rest) s w r e t q a free b d =
       inl (owned-test k.fixed.slots w t test a.reads d)
-  owned-reads n k (command (while place test kept body) ∷ rest) s w r e t q a free b d =
+  owned-reads n k below (command (while place test kept body) ∷ rest) s w r e t q a free b d =
       inl (owned-test k.fixed.slots w t test a.reads d)
-  owned-reads n k (command (call place c) ∷ rest) s w r e t q a free b d =
+  owned-reads n k below (command (call place c) ∷ rest) s w r e t q a free b d =
       inl (owned-all k.fixed.slots w t c.values a.0 d)
-  owned-reads n k (command (fork place c g) ∷ rest) s w r e t q a free b d = inl (elim d [
+  owned-reads n k below (command (fork place c g) ∷ rest) s w r e t q a free b d = inl (elim d [
     | inl z ↦ owned-all k.fixed.slots w t c.values a.0 z
     | inr z ↦ owned-all k.fixed.slots w t g.values a.1 z
   ])
-  owned-reads n k (command (with place g test body) ∷ rest) s w r e t q a free b d =
+  owned-reads n k below (command (with place g test body) ∷ rest) s w r e t q a free b d =
       let taken = resources-take p s.held g [] 0 p.resources e (omega arith)
       (let l : g.0 < length p.resources = a.there in omega (arith, l)) (is-free (s.held g) b) free in
       let m = group (taken.rest ∷ r ∷ []) (order (2 ∷ 0 ∷ []) (taken.share ∷ taken.rest ∷ w ∷ r ∷ []) (everything p s)
@@ -250,48 +253,48 @@ module _ (p : Program) where
   present heap v location here i j a = none-some (heap location) here (subst (IsAbsent heap) i a) j
 
   never-absent : (n : ℕ) (o : Known) (c : Config) → IsOwned p (suc n) o c → TouchesAbsent c → ⊥
-  never-absent n o c s a =
-      let k = focus p n o a.path c.tasks (runs (a.frame ∷ a.below)) s.tasks a.enabled.there s.tree in
-      let v = k.here.0 in
-      let m = k.here.1 in
-      let all = open_ (m.left ∷ m.right ∷ []) (k.rest ∷ s.free ∷ [])
-      (open_ (k.part ∷ k.rest ∷ []) (s.free ∷ []) (two s.parts) (two k.parts)) (two m.parts) in
-      go v m.left all.0 all.1 a.frame.todo a.touches m.first
+  never-absent n o c s a = task-there a.task a.enabled.there a.absent
     where
-      slots : Var → Slot
-      slots = a.frame.fixed.slots
+      place : (k : Known) (w r : Own) (e : Expr) → Parts (everything p c.common) w r → OwnsCell k w e
+          → IsAbsent c.common.heap (evaluate k.fixed.slots c.common.store e) → ⊥
+      place k w r e q at d =
+          present c.common.heap (evaluate k.fixed.slots c.common.store e) at.location at.cell
+          (seen-value k.fixed.slots (everything p c.common) w r q e at.reads ∙ at.finds.is)
+          (splits-has_left at.location at.cell q.cells at.finds.there) d
 
-      place : (v : ℕ → Value) (w r : Own) (e : Expr) → Parts (everything p c.common) w r
-          → OwnsCell (known a.frame v) w e → Some e ≡ Some a.root → ⊥
-      place v w r e q at d =
-          present c.common.heap (evaluate slots c.common.store e) at.location at.cell
-          (seen-value slots (everything p c.common) w r q e at.reads ∙ at.finds.is)
-          (splits-has_left at.location at.cell q.cells at.finds.there)
-          (subst (λ z. IsAbsent c.common.heap (evaluate slots c.common.store z)) (sym (same_Some e a.root d)) a.absent)
+      frame-there : (k : Known) (below : List Frame) (w r : Own) → Parts (everything p c.common) w r
+          → (todo : List Item) → IsAtNoCell c.common (frame_next k.fixed below todo) → Safe p (suc n) k todo w → ⊥
+      frame-there k below w r q [] t z = t
+      frame-there k below w r q (leave g ∷ rest) t z = t
+      frame-there k below w r q (command (look_up _ x e g) ∷ rest) t z = place k w r e q z.1 t
+      frame-there k below w r q (command (mutate _ e g x) ∷ rest) t z = place k w r e q z.1 t
+      frame-there k below w r q (command (dispose _ e) ∷ rest) t z = place k w r e q z.0 t
+      frame-there k below w r q (command (assign _ x e) ∷ rest) t z = t
+      frame-there k below w r q (command (new _ x) ∷ rest) t z = t
+      frame-there k below w r q (command (if _ x y e) ∷ rest) t z = t
+      frame-there k below w r q (command (while _ x y e) ∷ rest) t z = t
+      frame-there k below w r q (command (call _ x) ∷ rest) t z = t
+      frame-there k below w r q (command (fork _ x y) ∷ rest) t z = t
+      frame-there k below w r q (command (with _ x y e) ∷ rest) t z = t
 
-      go : (v : ℕ → Value) (w r : Own) → Parts (everything p c.common) w r → (todo : List Item)
-          → next_root todo ≡ Some a.root → Safe p (suc n) (known a.frame v) todo w → ⊥
-      go v w r q [] t z = absurd (cc)
-      go v w r q (leave g ∷ rest) t z = absurd (cc)
-      go v w r q (command (look_up _ x e g) ∷ rest) t z = place v w r e q z.1 t
-      go v w r q (command (mutate _ e g x) ∷ rest) t z = place v w r e q z.1 t
-      go v w r q (command (dispose _ e) ∷ rest) t z = place v w r e q z.0 t
-      go v w r q (command (assign _ x e) ∷ rest) t z = absurd (cc)
-      go v w r q (command (new _ x) ∷ rest) t z = absurd (cc)
-      go v w r q (command (if _ x y e) ∷ rest) t z = absurd (cc)
-      go v w r q (command (while _ x y e) ∷ rest) t z = absurd (cc)
-      go v w r q (command (call _ x) ∷ rest) t z = absurd (cc)
-      go v w r q (command (fork _ x y) ∷ rest) t z = absurd (cc)
-      go v w r q (command (with _ x y e) ∷ rest) t z = absurd (cc)
+      task-there : (task : Task) → task_at a.path c.tasks ≡ Some task → IsAtNoCell c.common (next task) → ⊥
+      task-there (runs []) i t = t
+      task-there (waits frames one two) i t = t
+      task-there (runs (f ∷ below)) i t =
+          let k = focus p n o a.path c.tasks (runs (f ∷ below)) s.tasks i s.tree in
+          let m = k.here.1 in
+          let all = open_ (m.left ∷ m.right ∷ []) (k.rest ∷ s.free ∷ [])
+          (open_ (k.part ∷ k.rest ∷ []) (s.free ∷ []) (two s.parts) (two k.parts)) (two m.parts) in
+          frame-there (known f k.here.0) below m.left all.0 all.1 f.todo t m.first
 
   -- RACES
 
   -- two frames, what the one writes and what the other reads or writes
   frames-race : (n : ℕ) (o : Known) (c : Config) → IsOwned p (suc n) o c → (q r : Path) (f g : Frame)
       (below others : List Frame) (t : Thing) → q ≢ r → task_at q c.tasks ≡ Some (runs (f ∷ below))
-      → task_at r c.tasks ≡ Some (runs (g ∷ others)) → (IsShut c.common.held g.todo → ⊥)
-      → FrameWrites f.fixed c.common.store f.todo t
-      → FrameReads g.fixed.slots c.common.store g.todo t ⊎ FrameWrites g.fixed c.common.store g.todo t → ⊥
+      → task_at r c.tasks ≡ Some (runs (g ∷ others)) → (IsBlocked c.common.held (next (runs (g ∷ others))) → ⊥)
+      → Writes c.common.store (next (runs (f ∷ below))) t
+      → Reads c.common.store (next (runs (g ∷ others))) t ⊎ Writes c.common.store (next (runs (g ∷ others))) t → ⊥
   frames-race n o c s q r f g below others thing d i j unshut writes meets =
       let t = two-tasks n o q r (f ∷ below) (g ∷ others) c.tasks s.tasks d i j s.tree in
       let x = t.one.1 in
@@ -303,12 +306,12 @@ module _ (p : Program) where
       (order (2 ∷ []) (x.left ∷ x.right ∷ t.second ∷ t.rest ∷ s.free ∷ []) w a2) (two y.parts) in
       -- the writer's share, the other's, the free resources', the rest
       let b1 = order (2 ∷ 0 ∷ 3 ∷ []) (y.left ∷ y.right ∷ x.left ∷ x.right ∷ t.rest ∷ s.free ∷ []) w a3 in
-      let mine = owned-writes n (known f t.one.0) f.todo c.common x.left b1.0 thing b1.1 x.first writes in
+      let mine = owned-writes n (known f t.one.0) below f.todo c.common x.left b1.0 thing b1.1 x.first writes in
       let b2 = order (1 ∷ 1 ∷ []) (x.left ∷ y.left ∷ s.free ∷ y.right ∷ x.right ∷ t.rest ∷ []) w b1 in
       let theirs : OwnsThing y.left thing ⊎ OwnsThing s.free thing = elim meets [
-        | inl z ↦ owned-reads n (known g t.other.0) g.todo c.common y.left b2.2.0 s.free thing
+        | inl z ↦ owned-reads n (known g t.other.0) others g.todo c.common y.left b2.2.0 s.free thing
             (b2.0, b2.1, (b2.2.0, b2.2.1, single b2.2.0)) y.first s.resources unshut z
-        | inr z ↦ inl (owned-writes n (known g t.other.0) g.todo c.common y.left b2.0 thing b2.1 y.first z)
+        | inr z ↦ inl (owned-writes n (known g t.other.0) others g.todo c.common y.left b2.0 thing b2.1 y.first z)
       ] in
       thing-apart thing b1.1 mine (elim theirs [
         | inl z ↦ thing-left thing b1.2.1 z
@@ -320,9 +323,9 @@ module _ (p : Program) where
       go a.task a.other a.enabled.there a.other_enabled.there a.other_enabled.free a.writes a.meets
     where
       go : (task other : Task) → task_at a.path c.tasks ≡ Some task → task_at a.other_path c.tasks ≡ Some other
-          → (IsBlocked c.common.held other → ⊥)
-          → Writes c.common.store task a.thing
-          → Reads c.common.store other a.thing ⊎ Writes c.common.store other a.thing → ⊥
+          → (IsBlocked c.common.held (next other) → ⊥)
+          → Writes c.common.store (next task) a.thing
+          → Reads c.common.store (next other) a.thing ⊎ Writes c.common.store (next other) a.thing → ⊥
       go (runs []) other i j b x y = x
       go (waits fs l r) other i j b x y = x
       go (runs (f ∷ below)) (runs []) i j b x y = elim y [ inl z ↦ z | inr z ↦ z ]

@@ -331,13 +331,16 @@ module _ (p : Program) (formed : IsFormed p) (conditions : Conditions p) (f : Pr
     };
   }
 
+  zero-used : (e : ℕ) → e ≡ 0 → e == 0 ≡ true
+  zero-used e i = grind (arith, nat_tests, i)
+
   start-made : (slot : Slot) → store slot ≢ None → IsMadeBefore (initial_config f g store heap) slot
   start-made (shared r i) n = tt
   start-made (own e i) n = go (store (own e i)) refl
     where
       go : (v : Option Value) → store (own e i) ≡ v → IsMadeBefore (initial_config f g store heap) (own e i)
       go None j = absurd (n j)
-      go (Some v) j = inl (s.no_more (own e i) v j).0
+      go (Some v) j = zero-used e (s.no_more (own e i) v j).0
 
   zero-plus : (n : ℕ) → n ≡ 0 + n
   zero-plus n = omega arith

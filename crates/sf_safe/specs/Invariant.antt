@@ -1,10 +1,10 @@
 -- Invariant: how a configuration is owned: by a tree of tasks, each a stack of frames with their shares, and by the
 -- free resources. After Vafeiadis (2011), with procedures and nested parallel calls.
-use Rattle.std.specs.Prelude.{◌≡◌, ◌≢◌, ℕ, suc, List, [], ◌∷◌, Option, Some, None}
+use Rattle.std.specs.Prelude.{◌≡◌, ◌≢◌, ℕ, suc, List, [], ◌∷◌, Option, Some, None, true}
 use Rattle.sf_base.specs.declared.ids.ResId.{ResId}
 use Rattle.sf_base.specs.declared.value.Value.{Value}
 use Rattle.sf_base.specs.HeapStore.{Slot, shared, own}
-use Rattle.sf_core.specs.Machine.Config.{Item, Frame, Task, runs, waits, Path, Config, IsUsed}
+use Rattle.sf_core.specs.Machine.Config.{Item, Frame, Task, runs, waits, Path, Config}
 use Rattle.sf_core.specs.Program.Syntax.{Program, Resource}
 use Rattle.sf_safe.specs.Own.{Own, Parts, nothing, everything, ◌⋆◌}
 use Rattle.sf_safe.specs.Contract.{Known, Returned, FreeShare}
@@ -63,7 +63,7 @@ Resources p held number (r ∷ rs) w = (ShareOf p (held (record { 0 = number }))
 -- the number of each slot that an event made has been used
 abbrev pub IsMadeBefore : Config → Slot → Type 0
 IsMadeBefore c (shared r i) = Unit {0}
-IsMadeBefore c (own event i) = IsUsed c.used event
+IsMadeBefore c (own event i) = c.used event ≡ true
 
 -- the task has a frame, or waits with one
 abbrev pub HasFrame : Task → Type 0
