@@ -1,5 +1,7 @@
 pub mod Steps
 pub mod Locality
+pub mod Decided
+pub mod Commute
 pub mod Runs
 pub mod Tasks
 pub mod Progress

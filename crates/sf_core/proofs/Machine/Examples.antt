@@ -4,3 +4,4 @@ pub mod Races
 pub mod Good
 pub mod Starts
 pub mod Numbers
+pub mod Commute

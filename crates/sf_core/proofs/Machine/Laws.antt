@@ -1,22 +1,28 @@
 -- The laws of the machine: each from the lemmas of its subject.
 -- Names: each lemma has the name of the law's function.
+use Rattle.sf_core.proofs.Machine.Commute.{step-commute}
 use Rattle.sf_core.proofs.Machine.Determinism.{step-unique}
 use Rattle.sf_core.proofs.Machine.GoodParts.{good-by_parts}
-use Rattle.sf_core.proofs.Machine.Locality.{step-local}
+use Rattle.sf_core.proofs.Machine.Locality.{goes-local}
 use Rattle.sf_core.proofs.Machine.Progress.{enabled-or_stop, step-stopped}
 use Rattle.sf_core.proofs.Machine.Runs.{reach-cut, reach-join, reach-numbers}
-use Rattle.sf_core.proofs.Machine.Steps.{step-footprint}
+use Rattle.sf_core.proofs.Machine.Steps.{next-footprint}
 use Rattle.sf_core.proofs.Machine.Tasks.{enabled-diverge, ended-no_event, step-enabled, step-frames}
+use Rattle.sf_core.specs.Machine.Next.{next}
 use Rattle.sf_core.specs.Internal.GoodParts.{PartsMakeGood}
-use Rattle.sf_core.specs.Machine.Laws.{EnabledTasksDiverge, EnabledTasksProgress, EndedRunsStop, OnlyEnabledTasksStep, RunsCompose, StepsAreDeterministic, StepsAreLocal, StepsFrameOtherTasks, StepsWriteOnlyTheirFootprint, StoppedTasksDoNotStep, UsedNumbersGrow}
+use Rattle.sf_core.specs.Machine.Laws.{EnabledTasksDiverge, EnabledTasksProgress, EndedRunsStop, OnlyEnabledTasksStep, RunsCompose, StepsAreDeterministic, StepsAreLocal, StepsCommute, StepsFrameOtherTasks, StepsWriteOnlyTheirFootprint, StoppedTasksDoNotStep, UsedNumbersGrow}
 
 pub steps_write_only_their_footprint : StepsWriteOnlyTheirFootprint
 unfolding StepsWriteOnlyTheirFootprint
-steps_write_only_their_footprint p event before after task s e = step-footprint p event before after task s e
+steps_write_only_their_footprint p event s t task u d = next-footprint p event s t (next task) u d
 
 pub steps_are_local : StepsAreLocal
 unfolding StepsAreLocal
-steps_are_local = step-local
+steps_are_local p event s t other task u d agrees = goes-local p event s t other (next task) u d agrees
+
+pub steps_commute : StepsCommute
+unfolding StepsCommute
+steps_commute = step-commute
 
 pub steps_are_deterministic : StepsAreDeterministic
 unfolding StepsAreDeterministic

@@ -17,19 +17,19 @@ use Rattle.sf_base.proofs.HeapSplits.{at-self}
 use Rattle.sf_core.proofs.Machine.Steps.{cell-at}
 use Rattle.sf_core.proofs.Assertions.Sat.{test-agree}
 use Rattle.sf_base.proofs.StoreSplits.{slot-self}
-use Rattle.sf_core.specs.Machine.Config.{Item, Room, in_room, Fixed, Frame, Task, Path, Common, Config, evaluate, task_at, put_task, adds}
-use Rattle.sf_core.specs.Machine.Next.{Next, does, leaves, returns, joins, nothing, next}
+use Rattle.sf_core.specs.Machine.Config.{Item, Room, in_room, Fixed, Frame, Task, Path, Common, evaluate}
+use Rattle.sf_core.specs.Machine.Next.{Next, does, leaves, returns, joins, nothing}
 use Rattle.sf_core.specs.Machine.Enabled.{Thing, variable, cell, IsInRoom, ReadsExpr, ReadsTest, ReadsAll, IsCellAt, CommandReads, CommandWrites, Reads, Writes}
 use Rattle.sf_base.specs.HeapStore.{Cell, put_field, Slot, same_slot, Store}
-use Rattle.sf_core.specs.Machine.Laws.{CommandMakes, Makes, AgreeOn, AgreesOnReads, AgreesAfter}
+use Rattle.sf_core.specs.Machine.Laws.{CommandMakes, Makes, Enters, Moves, AgreeOn, AgreesOnReads, AgreesAfter}
 use Rattle.sf_core.specs.Assertions.Occurs.{OccursInTest}
 use Rattle.sf_core.specs.Assertions.Sat.{IsTrueOf}
-use Rattle.sf_core.specs.Machine.Step.{Event, set_slot, set_cell, set_holder, open_room, close_room, room_count, room_for, arguments, Finds, Chooses, Does, Goes, TaskStep, Step}
+use Rattle.sf_core.specs.Machine.Step.{Event, set_slot, set_cell, set_holder, open_room, close_room, room_count, room_for, arguments, Finds, Chooses, Does, Goes}
 use Rattle.sf_core.specs.Program.Syntax.{Call, Command, assign, look_up, mutate, new, dispose, if, while, call, fork, with, Procedure, Program}
 
 -- What is evaluated
 -- an expression has the same value where the slot that it reads has
-evaluate-same : (slots : Var → Slot) (one two : Store) (e : Expr)
+pub evaluate-same : (slots : Var → Slot) (one two : Store) (e : Expr)
     → ((slot : Slot) → ReadsExpr slots e (variable slot) → one slot ≡ two slot)
     → evaluate slots one e ≡ evaluate slots two e
 evaluate-same slots one two (Variable x) h = ap (λ o. unwrap_or o nil) (h (slots x.var) refl)
@@ -91,21 +91,29 @@ module _ (a b : Common) where
   close_room-agree room (cell l) (inl i) = absurd i
   close_room-agree room (cell l) (inr h) = h
 
-  holder-agree : (r : ResId) (holder : Option Path) → ((q : ResId) → a.held q ≡ b.held q) → (q : ResId)
+  holder-agree : (r : ResId) (holder : Option Path) (q : ResId) → (q ≡ r) ⊎ (a.held q ≡ b.held q)
       → (set_holder r holder a).held q ≡ (set_holder r holder b).held q
-  holder-agree r holder h q = ap (λ z. cond (q.0 == r.0) holder z) (h q)
+  holder-agree r holder q (inl e) =
+      cond-agree (q.0 == r.0) holder holder (a.held q) (b.held q) refl
+      (inl (ap (λ (z : ResId). z.0 == r.0) e ∙ at-self r.0))
+  holder-agree r holder q (inr h) = ap (λ z. cond (q.0 == r.0) holder z) h
 
 module _ (p : Program) (ev : Event) (s o : Common) where
-  -- what is touched, and what was the same, is the same in both states
-  record Agrees (touched : Thing → Type 0) (t w : Common) : Type 0 where
+  -- what is touched or moved, and what was the same, is the same in both states
+  record Agrees (touched : Thing → Type 0) (moved : ResId → Type 0) (t w : Common) : Type 0 where
     things : (thing : Thing) → touched thing ⊎ AgreeOn s o thing → AgreeOn t w thing
-    holders : (r : ResId) → t.held r ≡ w.held r
+    holders : (r : ResId) → moved r ⊎ (s.held r ≡ o.held r) → t.held r ≡ w.held r
 
-  -- what an event reads, and the cells that it touches, are the same in both states
-  record Finding (reads touched : Thing → Type 0) : Type 0 where
+  -- what an event reads, the cells that it touches, and the holder of what it moves are the same in both states
+  record Finding (reads touched : Thing → Type 0) (moved : ResId → Type 0) : Type 0 where
     read : (thing : Thing) → reads thing → AgreeOn s o thing
     cells : (location : ℕ) → touched (cell location) → AgreeOn s o (cell location)
-    holders : (r : ResId) → s.held r ≡ o.held r
+    holders : (r : ResId) → moved r → s.held r ≡ o.held r
+
+  -- no resource is moved
+  none-moved : (r : ResId) → ⊥ ⊎ (s.held r ≡ o.held r) → s.held r ≡ o.held r
+  none-moved r (inl x) = absurd x
+  none-moved r (inr h) = h
 
   -- what is found at an expression is found there in the other state
   finds-same : (slots : Var → Slot) (e : Expr) (a : ℕ) (k : Cell)
@@ -137,9 +145,9 @@ module _ (p : Program) (ev : Event) (s o : Common) where
 
   -- nothing shared changes
   same-agrees : (touched : Thing → Type 0) (t : Common) → t ≡ s → ((thing : Thing) → touched thing → ⊥)
-      → ((r : ResId) → s.held r ≡ o.held r) → Agrees touched t o
-  same-agrees touched t e n h = subst (λ z. Agrees touched z o) (sym e)
-      (record { things = λ thing i. elim i [ inl x ↦ absurd (n thing x) | inr y ↦ y ]; holders = h })
+      → Agrees touched (λ r. ⊥) t o
+  same-agrees touched t e n = subst (λ z. Agrees touched (λ r. ⊥) z o) (sym e)
+      (record { things = λ thing i. elim i [ inl x ↦ absurd (n thing x) | inr y ↦ y ]; holders = none-moved })
 
   -- a change of holders leaves the things
   holder-leaves : (r : ResId) (holder : Option Path) (thing : Thing) → AgreeOn s o thing
@@ -149,20 +157,20 @@ module _ (p : Program) (ev : Event) (s o : Common) where
 
   command-local : (f : Fixed) (below : List Frame) (c : Command) (rest : List Item) (t : Common) (u : Task)
       → Finding (CommandReads f.slots s.store c)
-      (λ thing. CommandWrites f.slots s.store c thing ⊎ CommandMakes p ev c thing)
+      (λ thing. CommandWrites f.slots s.store c thing ⊎ CommandMakes p ev c thing) (Enters c)
       → Does p ev s f below c rest t u
       → (w : Common) × Does p ev o f below c rest w u
-      × Agrees (λ thing. CommandWrites f.slots s.store c thing ⊎ CommandMakes p ev c thing) t w
+      × Agrees (λ thing. CommandWrites f.slots s.store c thing ⊎ CommandMakes p ev c thing) (Enters c) t w
   command-local f below (assign place x e) rest t u h d = (
     _,
     (refl, d.1),
-    subst (λ z. Agrees (λ thing. CommandWrites f.slots s.store (assign place x e) thing ⊎ ⊥) z
+    subst (λ z. Agrees (λ thing. CommandWrites f.slots s.store (assign place x e) thing ⊎ ⊥) (λ r. ⊥) z
         (set_slot (f.slots x.var) (evaluate f.slots o.store e) o)) (sym d.0) (record {
           things = λ thing i. slot-agree s o (f.slots x.var) (evaluate f.slots s.store e)
               (evaluate f.slots o.store e)
               (evaluate-same f.slots s.store o.store e (λ slot r. h.read (variable slot) r)) thing
               (elim i [ inl j ↦ elim j [ inl k ↦ inl k | inr k ↦ absurd k ] | inr y ↦ inr y ]);
-          holders = h.holders;
+          holders = none-moved;
         }),
   )
   command-local f below (look_up place x e g) rest t u h d = (
@@ -175,11 +183,11 @@ module _ (p : Program) (ev : Event) (s o : Common) where
       refl,
       d.4,
     ),
-    subst (λ z. Agrees (λ thing. CommandWrites f.slots s.store (look_up place x e g) thing ⊎ ⊥) z
+    subst (λ z. Agrees (λ thing. CommandWrites f.slots s.store (look_up place x e g) thing ⊎ ⊥) (λ r. ⊥) z
         (set_slot (f.slots x.var) (d.1 g.0) o)) (sym d.3) (record {
           things = λ thing i. slot-agree s o (f.slots x.var) (d.1 g.0) (d.1 g.0) refl thing
               (elim i [ inl j ↦ elim j [ inl k ↦ inl k | inr k ↦ absurd k ] | inr y ↦ inr y ]);
-          holders = h.holders;
+          holders = none-moved;
         }),
   )
   command-local f below (mutate place e g v) rest t u h d = (
@@ -192,7 +200,7 @@ module _ (p : Program) (ev : Event) (s o : Common) where
       refl,
       d.4,
     ),
-    subst (λ z. Agrees (λ thing. CommandWrites f.slots s.store (mutate place e g v) thing ⊎ ⊥) z
+    subst (λ z. Agrees (λ thing. CommandWrites f.slots s.store (mutate place e g v) thing ⊎ ⊥) (λ r. ⊥) z
         (set_cell d.0 (Some (put_field d.1 g.0 (evaluate f.slots o.store v))) o)) (sym d.3) (record {
           things = λ thing i. cell-agree s o d.0 (Some (put_field d.1 g.0 (evaluate f.slots s.store v)))
               (Some (put_field d.1 g.0 (evaluate f.slots o.store v)))
@@ -203,13 +211,13 @@ module _ (p : Program) (ev : Event) (s o : Common) where
                     [ inl k ↦ inl (cell-only (evaluate f.slots s.store e) d.0 thing d.2.is k) | inr k ↦ absurd k ]
                 | inr y ↦ inr y
               ]);
-          holders = h.holders;
+          holders = none-moved;
         }),
   )
   command-local f below (new place x) rest t u h d = (
     _,
     (d.0, sym (h.cells ev.at (inr refl)) ∙ d.1, refl, d.3),
-    subst (λ z. Agrees (λ thing. (thing ≡ variable (f.slots x.var)) ⊎ (thing ≡ cell ev.at)) z
+    subst (λ z. Agrees (λ thing. (thing ≡ variable (f.slots x.var)) ⊎ (thing ≡ cell ev.at)) (λ r. ⊥) z
         (set_slot (f.slots x.var) (loc ev.at) (set_cell ev.at (Some ev.fields) o))) (sym d.2) (record {
           things = λ thing i. slot-agree (set_cell ev.at (Some ev.fields) s) (set_cell ev.at (Some ev.fields) o)
               (f.slots x.var) (loc ev.at) (loc ev.at) refl thing
@@ -220,7 +228,7 @@ module _ (p : Program) (ev : Event) (s o : Common) where
                 ]
                 | inr y ↦ inr (cell-agree s o ev.at (Some ev.fields) (Some ev.fields) refl thing (inr y))
               ]);
-          holders = h.holders;
+          holders = none-moved;
         }),
   )
   command-local f below (dispose place e) rest t u h d = (
@@ -233,7 +241,7 @@ module _ (p : Program) (ev : Event) (s o : Common) where
       refl,
       d.4,
     ),
-    subst (λ z. Agrees (λ thing. CommandWrites f.slots s.store (dispose place e) thing ⊎ ⊥) z
+    subst (λ z. Agrees (λ thing. CommandWrites f.slots s.store (dispose place e) thing ⊎ ⊥) (λ r. ⊥) z
         (set_cell d.0 None o)) (sym d.3) (record {
           things = λ thing i. cell-agree s o d.0 None None refl thing
               (elim i [
@@ -241,28 +249,28 @@ module _ (p : Program) (ev : Event) (s o : Common) where
                     [ inl k ↦ inl (cell-only (evaluate f.slots s.store e) d.0 thing d.2.is k) | inr k ↦ absurd k ]
                 | inr y ↦ inr y
               ]);
-          holders = h.holders;
+          holders = none-moved;
         }),
   )
   command-local f below (if place test this that) rest t u h d = (
     o,
     (refl, chooses-same f.slots test _ _ u (λ slot r. h.read (variable slot) r) d.1),
-    same-agrees _ t d.0 (λ thing i. elim i [ inl x ↦ x | inr y ↦ y ]) h.holders,
+    same-agrees _ t d.0 (λ thing i. elim i [ inl x ↦ x | inr y ↦ y ]),
   )
   command-local f below (while place test kept body) rest t u h d = (
     o,
     (refl, chooses-same f.slots test _ _ u (λ slot r. h.read (variable slot) r) d.1),
-    same-agrees _ t d.0 (λ thing i. elim i [ inl x ↦ x | inr y ↦ y ]) h.holders,
+    same-agrees _ t d.0 (λ thing i. elim i [ inl x ↦ x | inr y ↦ y ]),
   )
   command-local f below (call place c) rest t u h d = (
     _,
     (d.0, d.1, refl, d.3),
-    subst (λ z. Agrees (λ thing. ⊥ ⊎ CommandMakes p ev (call place c) thing) z
+    subst (λ z. Agrees (λ thing. ⊥ ⊎ CommandMakes p ev (call place c) thing) (λ r. ⊥) z
         (open_room (room_for d.0 ev.number 0) (arguments f.slots o.store c) o)) (sym d.2) (record {
           things = λ thing i. open_room-agree s o (room_for d.0 ev.number 0) (arguments f.slots s.store c)
               (arguments f.slots o.store c) (arguments-same f.slots c (λ slot r. h.read (variable slot) r)) thing
               (elim i [ inl j ↦ elim j [ inl k ↦ absurd k | inr k ↦ inl (mine thing k) ] | inr y ↦ inr y ]);
-          holders = h.holders;
+          holders = none-moved;
         }),
   )
     where
@@ -273,7 +281,7 @@ module _ (p : Program) (ev : Event) (s o : Common) where
   command-local f below (fork place c e) rest t u h d = (
     _,
     (d.0, d.1, d.2, d.3, d.4, refl, d.6),
-    subst (λ z. Agrees (λ thing. ⊥ ⊎ CommandMakes p ev (fork place c e) thing) z
+    subst (λ z. Agrees (λ thing. ⊥ ⊎ CommandMakes p ev (fork place c e) thing) (λ r. ⊥) z
         (open_room (room_for d.2 ev.number (room_count d.1)) (arguments f.slots o.store e)
         (open_room (room_for d.1 ev.number 0) (arguments f.slots o.store c) o))) (sym d.5) (record {
           things = λ thing i. open_room-agree
@@ -289,7 +297,7 @@ module _ (p : Program) (ev : Event) (s o : Common) where
                 ]
                 | inr y ↦ inr (first thing (inr y))
               ]);
-          holders = h.holders;
+          holders = none-moved;
         }),
   )
     where
@@ -312,63 +320,55 @@ module _ (p : Program) (ev : Event) (s o : Common) where
   command-local f below (with place r test body) rest t u h d = (
     _,
     (
-      sym (h.holders r) ∙ d.0,
+      sym (h.holders r refl) ∙ d.0,
       test-same f.slots s.store o.store test (λ slot i. h.read (variable slot) i) d.1,
       refl,
       d.3,
     ),
-    subst (λ z. Agrees (λ thing. ⊥ ⊎ ⊥) z (set_holder r (Some ev.task) o)) (sym d.2) (record {
+    subst (λ z. Agrees (λ thing. ⊥ ⊎ ⊥) (λ q. q ≡ r) z (set_holder r (Some ev.task) o)) (sym d.2) (record {
       things = λ thing i. elim i [
         | inl j ↦ elim j [ inl k ↦ absurd k | inr k ↦ absurd k ]
         | inr y ↦ holder-leaves r (Some ev.task) thing y
       ];
-      holders = holder-agree s o r (Some ev.task) h.holders;
+      holders = holder-agree s o r (Some ev.task);
     }),
   )
 
   next-local : (n : Next) (t : Common) (u : Task)
-      → Finding (Reads s.store n) (λ thing. Writes s.store n thing ⊎ Makes p ev n thing)
+      → Finding (Reads s.store n) (λ thing. Writes s.store n thing ⊎ Makes p ev n thing) (Moves n)
       → Goes p ev s n t u
       → (w : Common) × Goes p ev o n w u
-      × Agrees (λ thing. Writes s.store n thing ⊎ Makes p ev n thing) t w
+      × Agrees (λ thing. Writes s.store n thing ⊎ Makes p ev n thing) (Moves n) t w
   next-local (does f below c rest) t u h d = command-local f below c rest t u h d
   next-local (leaves f below r rest) t u h d = (
     _,
-    (sym (h.holders r) ∙ d.0, refl, d.2),
-    subst (λ z. Agrees (λ thing. ⊥ ⊎ ⊥) z (set_holder r None o)) (sym d.1) (record {
+    (sym (h.holders r refl) ∙ d.0, refl, d.2),
+    subst (λ z. Agrees (λ thing. ⊥ ⊎ ⊥) (λ q. q ≡ r) z (set_holder r None o)) (sym d.1) (record {
       things = λ thing i. elim i [
         | inl j ↦ elim j [ inl k ↦ absurd k | inr k ↦ absurd k ]
         | inr y ↦ holder-leaves r None thing y
       ];
-      holders = holder-agree s o r None h.holders;
+      holders = holder-agree s o r None;
     }),
   )
   next-local (returns f below) t u h d = (
     _,
     (d.0, refl, d.2),
-    subst (λ z. Agrees (λ thing. IsInRoom f.room thing ⊎ ⊥) z (close_room f.room o)) (sym d.1) (record {
+    subst (λ z. Agrees (λ thing. IsInRoom f.room thing ⊎ ⊥) (λ r. ⊥) z (close_room f.room o)) (sym d.1) (record {
       things = λ thing i. close_room-agree s o f.room thing
           (elim i [ inl j ↦ elim j [ inl k ↦ inl k | inr k ↦ absurd k ] | inr y ↦ inr y ]);
-      holders = h.holders;
+      holders = none-moved;
     }),
   )
   next-local (joins frames one two) t u h d =
-      (o, (d.0, d.1, refl, d.3), same-agrees _ t d.2 (λ thing i. elim i [ inl x ↦ x | inr y ↦ y ]) h.holders)
+      (o, (d.0, d.1, refl, d.3), same-agrees _ t d.2 (λ thing i. elim i [ inl x ↦ x | inr y ↦ y ]))
   next-local nothing t u h d = absurd d
 
--- a step rests on what it reads, on the cells that it writes or makes, and on the holders
-pub step-local : (p : Program) (event : Event) (c d : Config) (task : Task) (other : Common)
-    → Step p event c d → task_at event.task c.tasks ≡ Some task → AgreesOnReads p event (next task) c.common other
-    → (e : Config) × Step p event (record c { common = other }) e × (e.tasks ≡ d.tasks)
-    × AgreesAfter p event (next task) c.common other d.common e.common
-step-local p event c d task other s e finds =
-    let same : s.from ≡ task = cc (s.there, e) in
-    let steps : TaskStep p event c.common task d.common s.to =
-    subst (λ z. TaskStep p event c.common z d.common s.to) same s.steps in
-    let r = next-local p event c.common other (next task) d.common s.to
-    (record { read = finds.read; cells = finds.cells; holders = finds.holders }) steps in (
-      record { common = r.0; used = adds event.number c.used; tasks = put_task event.task s.to c.tasks },
-      record { fresh = s.fresh; used = refl; from = task; to = s.to; there = e; steps = r.1; tasks = refl },
-      sym s.tasks,
-      record { things = r.2.things; holders = r.2.holders },
-    )
+-- an event rests on what it reads, on the cells that it writes or makes, and on the holder of what it moves
+pub goes-local : (p : Program) (event : Event) (s t other : Common) (n : Next) (u : Task)
+    → Goes p event s n t u → AgreesOnReads p event n s other
+    → (w : Common) × Goes p event other n w u × AgreesAfter p event n s other t w
+goes-local p event s t other n u d agrees =
+    let r = next-local p event s other n t u
+    (record { read = agrees.read; cells = agrees.cells; holders = agrees.holders }) d in
+    (r.0, r.1, record { things = r.2.things; holders = r.2.holders })

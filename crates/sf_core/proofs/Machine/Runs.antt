@@ -3,7 +3,7 @@
 use Rattle.std.specs.Prelude.{◌≡◌, ◌≢◌, ℕ, ◌==◌, Bool, true, false, ◌||◌, List, [], ◌∷◌, ◌++◌, ◌⊎◌}
 use Rattle.std.proofs.Common.{true≢false, sym, ap, ◌∙◌, refl, subst, inl, inr}
 use Rattle.std.proofs.lemmas.Bool.{or_cases, or_left, or_right}
-use Rattle.sf_base.proofs.HeapSplits.{at-same, at-self}
+use Rattle.sf_base.proofs.HeapSplits.{at-other, at-same, at-self}
 use Rattle.sf_core.specs.Machine.Config.{Config, adds}
 use Rattle.sf_core.specs.Machine.Laws.{HasNumber, Numbers}
 use Rattle.sf_core.specs.Machine.Reach.{Reach}
@@ -15,13 +15,17 @@ adds-used : (n m : ℕ) (used : ℕ → Bool) → adds m used n ≡ true → (n 
 adds-used n m used e = elim (or_cases (n == m) (used n) e) [ inl f ↦ inl (at-same m n f) | inr f ↦ inr f ]
 
 -- a number that isn't used after another is added wasn't used before
-adds-fresh : (n m : ℕ) (used : ℕ → Bool) → adds m used n ≡ false → (n ≢ m) × (used n ≡ false)
+pub adds-fresh : (n m : ℕ) (used : ℕ → Bool) → adds m used n ≡ false → (n ≢ m) × (used n ≡ false)
 adds-fresh n m used e =
     (λ s. true≢false (sym (or_left (n == m) (used n) (ap (λ z. n == z) (sym s) ∙ at-self n)) ∙ e), go (n == m) e)
   where
     go : (b : Bool) → (b || used n) ≡ false → used n ≡ false
     go true f = absurd (true≢false f)
     go false f = f
+
+-- a number that isn't used isn't used after another is added
+pub adds-other : (n m : ℕ) (used : ℕ → Bool) → n ≢ m → used n ≡ false → adds m used n ≡ false
+adds-other n m used h e = ap (λ z. z || used n) (at-other m n h) ∙ e
 
 -- the numbers of a run: new, different, and just these are added
 pub reach-numbers : (p : Program) (events : List Event) (c d : Config) → Reach p c events d

@@ -1,19 +1,20 @@
 -- What one step of the machine changes, and what it leaves alone.
 -- Names: WHAT-RELATION, as `store-kept`: the part of the configuration, and what is said of it.
-use Rattle.std.specs.Prelude.{◌≡◌, ℕ, Bool, true, false, cond, List, Option, Some, None, ◌⊎◌, ◌==◌}
-use Rattle.std.proofs.Common.{sym, ap, ◌∙◌, refl, subst, inl, inr}
+use Rattle.std.specs.Prelude.{◌≡◌, ℕ, true, List, Option, Some, None, ◌==◌}
+use Rattle.std.proofs.Common.{sym, ap, ◌∙◌, subst, inl, inr}
+use Rattle.std.proofs.lemmas.Bool.{cond-true}
 use Rattle.sf_base.proofs.Bools.{cond-else}
 use Rattle.sf_base.specs.declared.ids.ResId.{ResId}
 use Rattle.sf_base.specs.declared.value.Value.{Value}
 use Rattle.sf_base.specs.declared.value.Value.TheVariants.{Loc as loc}
-use Rattle.sf_base.proofs.HeapSplits.{put-elsewhere}
+use Rattle.sf_base.proofs.HeapSplits.{at-self, put-elsewhere}
 use Rattle.sf_base.proofs.StoreSplits.{slot-elsewhere, resource-same}
-use Rattle.sf_core.specs.Machine.Config.{Item, Room, in_room, Fixed, Frame, Task, Path, Common, Config, task_at}
-use Rattle.sf_core.specs.Machine.Next.{Next, does, leaves, returns, joins, nothing, next}
+use Rattle.sf_core.specs.Machine.Config.{Item, Room, in_room, Fixed, Frame, Task, Path, Common}
+use Rattle.sf_core.specs.Machine.Next.{Next, does, leaves, returns, joins, nothing}
 use Rattle.sf_core.specs.Machine.Enabled.{variable, cell, IsCellAt, CommandWrites}
 use Rattle.sf_base.specs.HeapStore.{Cell, Slot}
-use Rattle.sf_core.specs.Machine.Laws.{CommandMakes, Makes, IsLeft, HolderChanges, ChangesOnlyFootprint}
-use Rattle.sf_core.specs.Machine.Step.{Event, set_slot, set_cell, set_holder, open_room, close_room, room_count, room_for, arguments, Does, Goes, TaskStep, Step}
+use Rattle.sf_core.specs.Machine.Laws.{CommandMakes, Makes, IsLeft, Enters, Moves, HolderChanges, ChangesOnlyFootprint}
+use Rattle.sf_core.specs.Machine.Step.{Event, set_slot, set_cell, set_holder, open_room, close_room, room_count, room_for, arguments, Does, Goes}
 use Rattle.sf_core.specs.Program.Syntax.{Command, assign, look_up, mutate, new, dispose, if, while, call, fork, with, Program}
 
 set_slot-other : (x y : Slot) (v : Value) (s : Common) → (variable y ≡ variable x → ⊥)
@@ -135,68 +136,71 @@ absent-by_next p ev s t (joins frames one two) u d a m = absurd m
 absent-by_next p ev s t nothing u d a m = absurd m
 
 -- Holders
-holder-same : (path : Path) (s t : Common) (r : ResId) → t.held ≡ s.held
-    → HolderChanges path (s.held r) (t.held r)
-holder-same path s t r e = inl (ap (λ h. h r) e)
+-- the resource has that holder afterwards
+pub holder-here : (r : ResId) (holder : Option Path) (s : Common) → (set_holder r holder s).held r ≡ holder
+holder-here r holder s = cond-true (r.0 == r.0) holder (s.held r) (at-self r.0)
 
-holder-by_test : (path : Path) (b : Bool) (before old next : Option Path) → (b ≡ true → before ≡ old)
-    → ((old ≡ None) × (next ≡ Some path)) ⊎ ((old ≡ Some path) × (next ≡ None))
-    → HolderChanges path before (cond b next before)
-holder-by_test path false before old next e w = inl refl
-holder-by_test path true before old next e (inl w) = inr (inl (e refl ∙ w.0, w.1))
-holder-by_test path true before old next e (inr w) = inr (inr (e refl ∙ w.0, w.1))
+-- and no other has
+pub holder-other : (r q : ResId) (holder : Option Path) (s : Common) → (q ≡ r → ⊥)
+    → (set_holder r holder s).held q ≡ s.held q
+holder-other r q holder s n = cond-else (q.0 == r.0) holder (s.held q) (λ t. n (resource-same q r t))
 
-holder-set : (path : Path) (s t : Common) (q r : ResId) (next : Option Path) → t ≡ set_holder r next s
-    → ((s.held r ≡ None) × (next ≡ Some path)) ⊎ ((s.held r ≡ Some path) × (next ≡ None))
-    → HolderChanges path (s.held q) (t.held q)
-holder-set path s t q r next e w =
-    subst (λ (z : Common). HolderChanges path (s.held q) (z.held q)) (sym e)
-    (holder-by_test path (q.0 == r.0) (s.held q) (s.held r) next (λ h. ap s.held (resource-same q r h)) w)
+-- the holder where the resource is the one that gets it
+holder-set : (r q : ResId) (holder : Option Path) (s t : Common) → q ≡ r → t ≡ set_holder r holder s
+    → t.held q ≡ holder
+holder-set r q holder s t e i =
+    ap (λ (z : Common). z.held q) i ∙ ap (λ z. (set_holder r holder s).held z) e ∙ holder-here r holder s
+
+moved-by_command : (p : Program) (ev : Event) (s t : Common) (f : Fixed) (below : List Frame) (c : Command)
+    (rest : List Item) (u : Task) → Does p ev s f below c rest t u → (r : ResId) → Enters c r
+    → HolderChanges ev.task (s.held r) (t.held r)
+moved-by_command p ev s t f below (with place q test body) rest u d r m =
+    inl (ap s.held m ∙ d.0, holder-set q r (Some ev.task) s t m d.2)
+moved-by_command p ev s t f below _ rest u d r m = absurd m
+
+-- the resource that an event enters was free, and the one that it leaves was the task's own
+pub moved-by_next : (p : Program) (ev : Event) (s t : Common) (n : Next) (u : Task) → Goes p ev s n t u
+    → (r : ResId) → Moves n r → HolderChanges ev.task (s.held r) (t.held r)
+moved-by_next p ev s t (does f below c rest) u d r m = moved-by_command p ev s t f below c rest u d r m
+moved-by_next p ev s t (leaves f below q rest) u d r m =
+    inr (ap s.held m ∙ d.0, holder-set q r None s t m d.1)
+moved-by_next p ev s t (returns f below) u d r m = absurd m
+moved-by_next p ev s t (joins frames one two) u d r m = absurd m
+moved-by_next p ev s t nothing u d r m = absurd m
 
 held-by_command : (p : Program) (ev : Event) (s t : Common) (f : Fixed) (below : List Frame) (c : Command)
-    (rest : List Item) (u : Task)
-    → Does p ev s f below c rest t u → (r : ResId) → HolderChanges ev.task (s.held r) (t.held r)
-held-by_command p ev s t f below (assign place x e) rest u d r =
-    holder-same ev.task s t r (ap (λ (z : Common). z.held) d.0)
-held-by_command p ev s t f below (look_up place x e g) rest u d r =
-    holder-same ev.task s t r (ap (λ (z : Common). z.held) d.3)
-held-by_command p ev s t f below (mutate place e g v) rest u d r =
-    holder-same ev.task s t r (ap (λ (z : Common). z.held) d.3)
-held-by_command p ev s t f below (new place x) rest u d r =
-    holder-same ev.task s t r (ap (λ (z : Common). z.held) d.2)
-held-by_command p ev s t f below (dispose place e) rest u d r =
-    holder-same ev.task s t r (ap (λ (z : Common). z.held) d.3)
-held-by_command p ev s t f below (if place test this that) rest u d r =
-    holder-same ev.task s t r (ap (λ (z : Common). z.held) d.0)
-held-by_command p ev s t f below (while place test kept body) rest u d r =
-    holder-same ev.task s t r (ap (λ (z : Common). z.held) d.0)
-held-by_command p ev s t f below (call place c) rest u d r =
-    holder-same ev.task s t r (ap (λ (z : Common). z.held) d.2)
-held-by_command p ev s t f below (fork place c e) rest u d r =
-    holder-same ev.task s t r (ap (λ (z : Common). z.held) d.5)
-held-by_command p ev s t f below (with place q test body) rest u d r =
-    holder-set ev.task s t r q (Some ev.task) d.2 (inl (d.0, refl))
+    (rest : List Item) (u : Task) → Does p ev s f below c rest t u → (r : ResId) → (Enters c r → ⊥)
+    → t.held r ≡ s.held r
+held-by_command p ev s t f below (assign place x e) rest u d r n = ap (λ (z : Common). z.held r) d.0
+held-by_command p ev s t f below (look_up place x e g) rest u d r n = ap (λ (z : Common). z.held r) d.3
+held-by_command p ev s t f below (mutate place e g v) rest u d r n = ap (λ (z : Common). z.held r) d.3
+held-by_command p ev s t f below (new place x) rest u d r n = ap (λ (z : Common). z.held r) d.2
+held-by_command p ev s t f below (dispose place e) rest u d r n = ap (λ (z : Common). z.held r) d.3
+held-by_command p ev s t f below (if place test this that) rest u d r n = ap (λ (z : Common). z.held r) d.0
+held-by_command p ev s t f below (while place test kept body) rest u d r n =
+    ap (λ (z : Common). z.held r) d.0
+held-by_command p ev s t f below (call place c) rest u d r n = ap (λ (z : Common). z.held r) d.2
+held-by_command p ev s t f below (fork place c e) rest u d r n = ap (λ (z : Common). z.held r) d.5
+held-by_command p ev s t f below (with place q test body) rest u d r n =
+    ap (λ (z : Common). z.held r) d.2 ∙ holder-other q r (Some ev.task) s n
 
--- an event takes a free resource for its task, gives back the task's own, and leaves the others
-pub held-by_next : (p : Program) (ev : Event) (s t : Common) (n : Next) (u : Task)
-    → Goes p ev s n t u → (r : ResId) → HolderChanges ev.task (s.held r) (t.held r)
-held-by_next p ev s t (does f below c rest) u d r = held-by_command p ev s t f below c rest u d r
-held-by_next p ev s t (leaves f below q rest) u d r = holder-set ev.task s t r q None d.1 (inr (d.0, refl))
-held-by_next p ev s t (returns f below) u d r = holder-same ev.task s t r (ap (λ (z : Common). z.held) d.1)
-held-by_next p ev s t (joins frames one two) u d r =
-    holder-same ev.task s t r (ap (λ (z : Common). z.held) d.2)
-held-by_next p ev s t nothing u d r = absurd d
+-- the other resources stay with their holders
+pub held-by_next : (p : Program) (ev : Event) (s t : Common) (n : Next) (u : Task) → Goes p ev s n t u
+    → (r : ResId) → (Moves n r → ⊥) → t.held r ≡ s.held r
+held-by_next p ev s t (does f below c rest) u d r n = held-by_command p ev s t f below c rest u d r n
+held-by_next p ev s t (leaves f below q rest) u d r n =
+    ap (λ (z : Common). z.held r) d.1 ∙ holder-other q r None s n
+held-by_next p ev s t (returns f below) u d r n = ap (λ (z : Common). z.held r) d.1
+held-by_next p ev s t (joins frames one two) u d r n = ap (λ (z : Common). z.held r) d.2
+held-by_next p ev s t nothing u d r n = absurd d
 
--- all that a step can change
-pub step-footprint : (p : Program) (event : Event) (c d : Config) (task : Task) → Step p event c d
-    → task_at event.task c.tasks ≡ Some task → ChangesOnlyFootprint p event task c d
-step-footprint p event c d task s e =
-    let same : s.from ≡ task = cc (s.there, e) in
-    let steps : TaskStep p event c.common task d.common s.to =
-    subst (λ z. TaskStep p event c.common z d.common s.to) same s.steps in
-    record {
-      variables = λ slot l. store-by_next p event c.common d.common (next task) s.to steps slot l;
-      cells = λ location l. heap-by_next p event c.common d.common (next task) s.to steps location l;
-      absent = λ location m. absent-by_next p event c.common d.common (next task) s.to steps location m;
-      holders = λ r. held-by_next p event c.common d.common (next task) s.to steps r;
-    }
+-- all that an event can change
+pub next-footprint : (p : Program) (event : Event) (s t : Common) (n : Next) (u : Task) → Goes p event s n t u
+    → ChangesOnlyFootprint p event n s t
+next-footprint p event s t n u d = record {
+  variables = λ slot l. store-by_next p event s t n u d slot l;
+  cells = λ location l. heap-by_next p event s t n u d location l;
+  absent = λ location m. absent-by_next p event s t n u d location m;
+  moved = λ r m. moved-by_next p event s t n u d r m;
+  kept = λ r m. held-by_next p event s t n u d r m;
+}

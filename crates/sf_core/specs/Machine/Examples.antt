@@ -558,3 +558,17 @@ pub record HasNewRoom (number : ℕ) (d : Config) : Type 0 where
 unfoldable pub RoomsAreNotGivenTwice : Type 0
 RoomsAreNotGivenTwice = (k : Cell) (number : ℕ) (d : Config) → Reach setting_twice (twice_start k)
     (event [] 1 ∷ event [] 2 ∷ event [] 3 ∷ event [] number ∷ []) d → HasNewRoom number d
+
+-- both orders of the returns of a fork's children lead to one configuration
+unfoldable pub ReturnsCommute : Type 0
+ReturnsCommute = (d : Config)
+    × Reach forking forking_start (event [] 1 ∷ event (left ∷ []) 2 ∷ event (right ∷ []) 3 ∷ []) d
+    × Reach forking forking_start (event [] 1 ∷ event (right ∷ []) 3 ∷ event (left ∷ []) 2 ∷ []) d
+
+-- so do both orders of a mutation and of another task's entry of a region
+unfoldable pub MutationAndEntryCommute : Type 0
+MutationAndEntryCommute = (p : Program) (k : Cell) → (d : Config)
+    × Reach p (side_by_side mutates enters (at_one_cell k None))
+    (event (left ∷ []) 2 ∷ event (right ∷ []) 3 ∷ []) d
+    × Reach p (side_by_side mutates enters (at_one_cell k None))
+    (event (right ∷ []) 3 ∷ event (left ∷ []) 2 ∷ []) d

@@ -11,7 +11,7 @@ use Rattle.sf_core.specs.Machine.Enabled.{Thing, variable, cell, IsInRoom, Reads
 use Rattle.sf_base.specs.HeapStore.{Slot, Store}
 use Rattle.sf_core.specs.Machine.Reach.{Reach}
 use Rattle.sf_core.specs.Assertions.Sat.{IsTrueOf}
-use Rattle.sf_core.specs.Machine.Step.{Event, Step, procedure_at, room_count, room_for}
+use Rattle.sf_core.specs.Machine.Step.{Event, TaskStep, Step, procedure_at, room_count, room_for}
 use Rattle.sf_core.specs.Program.Syntax.{Command, assign, look_up, mutate, new, dispose, if, while, call, fork, with, Procedure, Program}
 
 -- what the event of a command makes: the cell of a `new`, or the rooms of the callee of a call or of those of
@@ -45,26 +45,38 @@ pub record IsLeft (p : Program) (event : Event) (store : Store) (what : Next) (t
   pub unwritten : Writes store what thing → ⊥
   pub not_made : Makes p event what thing → ⊥
 
--- the holder of a resource: the same as before, or the task took it when it was free, or the task gave it
--- back
+-- the command enters a region of that resource
+abbrev pub Enters : Command → ResId → Type 0
+Enters (with place q test body) r = r ≡ q
+Enters _ r = ⊥
+
+-- what comes next enters a region of that resource, or leaves one: no other resource changes hands
+abbrev pub Moves : Next → ResId → Type 0
+Moves (does f below c rest) r = Enters c r
+Moves (leaves f below q rest) r = r ≡ q
+Moves (returns f below) r = ⊥
+Moves (joins frames one two) r = ⊥
+Moves nothing r = ⊥
+
+-- the holder of a resource that changes hands: the task took it when it was free, or gave it back
 abbrev pub HolderChanges : Path → (before after : Option Path) → Type 0
-HolderChanges path before after = (after ≡ before)
-    ⊎ (((before ≡ None) × (after ≡ Some path)) ⊎ ((before ≡ Some path) × (after ≡ None)))
+HolderChanges path before after = ((before ≡ None) × (after ≡ Some path))
+    ⊎ ((before ≡ Some path) × (after ≡ None))
 
--- all that the event of a task can change
-pub record ChangesOnlyFootprint (p : Program) (event : Event) (task : Task) (before after : Config) : Type 0 where
-  pub variables : (slot : Slot) → IsLeft p event before.common.store (next task) (variable slot)
-      → after.common.store slot ≡ before.common.store slot
-  pub cells : (location : ℕ) → IsLeft p event before.common.store (next task) (cell location)
-      → after.common.heap location ≡ before.common.heap location
-  pub absent : (location : ℕ) → Makes p event (next task) (cell location) → before.common.heap location ≡ None
-  pub holders : (r : ResId) → HolderChanges event.task (before.common.held r) (after.common.held r)
+-- all that an event can change of what is shared
+pub record ChangesOnlyFootprint (p : Program) (event : Event) (what : Next) (before after : Common) : Type 0 where
+  pub variables : (slot : Slot) → IsLeft p event before.store what (variable slot)
+      → after.store slot ≡ before.store slot
+  pub cells : (location : ℕ) → IsLeft p event before.store what (cell location)
+      → after.heap location ≡ before.heap location
+  pub absent : (location : ℕ) → Makes p event what (cell location) → before.heap location ≡ None
+  pub moved : (r : ResId) → Moves what r → HolderChanges event.task (before.held r) (after.held r)
+  pub kept : (r : ResId) → (Moves what r → ⊥) → after.held r ≡ before.held r
 
--- a step changes what it writes and what it makes, and nothing else
+-- a task's step changes what it writes and what it makes, and nothing else
 unfoldable pub StepsWriteOnlyTheirFootprint : Type 0
-StepsWriteOnlyTheirFootprint =
-    (p : Program) (event : Event) (c d : Config) (task : Task) → Step p event c d
-    → task_at event.task c.tasks ≡ Some task → ChangesOnlyFootprint p event task c d
+StepsWriteOnlyTheirFootprint = (p : Program) (event : Event) (s t : Common) (task u : Task)
+    → TaskStep p event s task t u → ChangesOnlyFootprint p event (next task) s t
 
 -- two states agree on a thing: the slot has the same value in both, or the location the same cell, or both
 -- have nothing there
@@ -72,27 +84,51 @@ abbrev pub AgreeOn : Common → Common → Thing → Type 0
 AgreeOn one two (variable slot) = one.store slot ≡ two.store slot
 AgreeOn one two (cell location) = one.heap location ≡ two.heap location
 
--- the other state agrees on all that the event of a task rests on: what it reads, the cells that it writes or
--- makes, and the holders
+-- the other state agrees on all that an event rests on: what it reads, the cells that it writes or makes, and
+-- the holder of the resource that it enters or leaves
 pub record AgreesOnReads (p : Program) (event : Event) (what : Next) (here other : Common) : Type 0 where
   pub read : (thing : Thing) → Reads here.store what thing → AgreeOn here other thing
   pub cells : (location : ℕ) → Writes here.store what (cell location) ⊎ Makes p event what (cell location)
       → AgreeOn here other (cell location)
-  pub holders : (r : ResId) → here.held r ≡ other.held r
+  pub holders : (r : ResId) → Moves what r → here.held r ≡ other.held r
 
--- what the event writes and makes is the same in both states after it, and so is what was the same before
+-- what an event writes, makes and moves is the same in both states after it, and so is what was the same
+-- before
 pub record AgreesAfter (p : Program) (event : Event) (what : Next) (here other after also : Common) : Type 0 where
   pub things : (thing : Thing) → (Writes here.store what thing ⊎ Makes p event what thing)
       ⊎ AgreeOn here other thing → AgreeOn after also thing
-  pub holders : (r : ResId) → after.held r ≡ also.held r
+  pub holders : (r : ResId) → Moves what r ⊎ (here.held r ≡ other.held r) → after.held r ≡ also.held r
 
--- a step rests on what it reads, on the cells that it writes or makes, and on the holders: where another
--- state agrees on these, there is the same step, to the same tasks
+-- a task's step rests on what it reads, on the cells that it writes or makes, and on the holder of the resource
+-- that it enters or leaves: where another state agrees on these, there is the same step, to the same task
 unfoldable pub StepsAreLocal : Type 0
-StepsAreLocal = (p : Program) (event : Event) (c d : Config) (task : Task) (other : Common)
-    → Step p event c d → task_at event.task c.tasks ≡ Some task → AgreesOnReads p event (next task) c.common other
-    → (e : Config) × Step p event (record c { common = other }) e × (e.tasks ≡ d.tasks)
-    × AgreesAfter p event (next task) c.common other d.common e.common
+StepsAreLocal = (p : Program) (event : Event) (s t other : Common) (task u : Task)
+    → TaskStep p event s task t u → AgreesOnReads p event (next task) s other
+    → (w : Common) × TaskStep p event other task w u × AgreesAfter p event (next task) s other t w
+
+-- the paths diverge: up to some turn they are the same, and there the one goes left and the other right
+abbrev pub Diverge : Path → Path → Type 0
+Diverge [] path = ⊥
+Diverge (turn ∷ path) [] = ⊥
+Diverge (left ∷ path) (left ∷ other) = Diverge path other
+Diverge (left ∷ path) (right ∷ other) = Unit {0}
+Diverge (right ∷ path) (left ∷ other) = Unit {0}
+Diverge (right ∷ path) (right ∷ other) = Diverge path other
+
+-- neither of two events of different tasks changes what the other reads or changes, and no resource changes
+-- hands by both
+pub record AreIndependent (p : Program) (one two : Event) (store : Store) (this that : Next) : Type 0 where
+  pub first : (thing : Thing) → Writes store this thing ⊎ Makes p one this thing
+      → Reads store that thing ⊎ (Writes store that thing ⊎ Makes p two that thing) → ⊥
+  pub second : (thing : Thing) → Writes store that thing ⊎ Makes p two that thing → Reads store this thing → ⊥
+  pub hands : (r : ResId) → Moves this r → Moves that r → ⊥
+
+-- steps of different tasks commute where they are independent: the other order leads to the same configuration
+unfoldable pub StepsCommute : Type 0
+StepsCommute = (p : Program) (one two : Event) (c d e : Config) (this that : Task)
+    → task_at one.task c.tasks ≡ Some this → task_at two.task c.tasks ≡ Some that → Diverge one.task two.task
+    → AreIndependent p one two c.common.store (next this) (next that) → Step p one c d → Step p two d e
+    → (m : Config) × Step p two c m × Step p one m e
 
 -- an event leads to at most one configuration
 unfoldable pub StepsAreDeterministic : Type 0
@@ -123,15 +159,6 @@ UsedNumbersGrow = (p : Program) (events : List Event) (c d : Config) → Reach p
 unfoldable pub RunsCompose : Type 0
 RunsCompose = (p : Program) (events more : List Event) (c d : Config)
     → Reach p c (events ++ more) d ↔ ((between : Config) × Reach p c events between × Reach p between more d)
-
--- the paths diverge: up to some turn they are the same, and there the one goes left and the other right
-abbrev pub Diverge : Path → Path → Type 0
-Diverge [] path = ⊥
-Diverge (turn ∷ path) [] = ⊥
-Diverge (left ∷ path) (left ∷ other) = Diverge path other
-Diverge (left ∷ path) (right ∷ other) = Unit {0}
-Diverge (right ∷ path) (left ∷ other) = Unit {0}
-Diverge (right ∷ path) (right ∷ other) = Diverge path other
 
 -- the first path is that of an ancestor of the second one's task
 abbrev pub IsAbove : Path → Path → Type 0

@@ -16,11 +16,13 @@ ghost use Rattle.sf_core.specs.Machine.Examples.{
   HeldRegionsWait,
   HoldersDoNotStart,
   LessDeepForksStep,
+  MutationAndEntryCommute,
   MutationAndLookUpRace,
   NewAndLookUpDoNotRace,
   ReferencesArePassedOn,
   RegionThenLoop,
   ReturningIsGoodWithItsCell,
+  ReturnsCommute,
   RoomsAreNotGivenTwice,
   SettingStarts,
   SkipDoesNotStartWithNothing,
@@ -215,4 +217,16 @@ pub fn less_deep_forks_step()
 #[tactic(auto, using(crate::proofs::Machine::Examples::Numbers::rooms_are_not_given_twice))]
 pub fn rooms_are_not_given_twice()
     ensures { RoomsAreNotGivenTwice }
+{}
+
+/// The returns of a fork's children lead to one configuration in either order.
+#[tactic(auto, using(crate::proofs::Machine::Examples::Commute::returns_commute))]
+pub fn returns_commute()
+    ensures { ReturnsCommute }
+{}
+
+/// So do a mutation and another task's entry of a region.
+#[tactic(auto, using(crate::proofs::Machine::Examples::Commute::mutation_and_entry_commute))]
+pub fn mutation_and_entry_commute()
+    ensures { MutationAndEntryCommute }
 {}

@@ -9,24 +9,33 @@ ghost use Rattle.sf_core.specs.Machine.Laws.{
   StepsFrameOtherTasks,
   RunsCompose,
   StepsAreLocal,
+  StepsCommute,
   StepsWriteOnlyTheirFootprint,
   StoppedTasksDoNotStep,
   UsedNumbersGrow,
 };
 
-/// A step changes the slots and cells that it writes, the rooms that a call or fork makes and the
-/// cell that a `new` makes, and nothing else; and a resource changes hands only by its task.
+/// A task's step changes the slots and cells that it writes, the rooms that a call or fork makes and
+/// the cell that a `new` makes, and nothing else; and the one resource that changes hands is that of
+/// the region that the task enters or leaves.
 #[tactic(auto, using(crate::proofs::Machine::Laws::steps_write_only_their_footprint))]
 pub fn steps_write_only_their_footprint()
     ensures { StepsWriteOnlyTheirFootprint }
 {}
 
-/// A step rests on what it reads, on the cells that it writes or makes, and on the holders of the
-/// resources: where another state agrees on these there is the same step, and what it writes and
-/// makes is the same after it.
+/// A task's step rests on what it reads, on the cells that it writes or makes, and on the holder of
+/// the resource that it enters or leaves: where another state agrees on these there is the same
+/// step, and what it writes, makes and moves is the same after it.
 #[tactic(auto, using(crate::proofs::Machine::Laws::steps_are_local))]
 pub fn steps_are_local()
     ensures { StepsAreLocal }
+{}
+
+/// Steps of different tasks commute where neither changes what the other reads or changes, and no
+/// resource changes hands by both: the other order leads to the same configuration.
+#[tactic(auto, using(crate::proofs::Machine::Laws::steps_commute))]
+pub fn steps_commute()
+    ensures { StepsCommute }
 {}
 
 /// An event leads to at most one configuration.

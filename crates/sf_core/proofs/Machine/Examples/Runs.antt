@@ -80,7 +80,7 @@ freed_locations_come_again p s n = (
     fives : (makes 1).at ≡ 0 → ⊥
     fives e = absurd (omega (arith, e))
 
-forks-deep : 0 < 63
+pub forks-deep : 0 < 63
 forks-deep = omega arith
 
 -- both orders, event by event
