@@ -2,6 +2,7 @@ pub mod Steps
 pub mod Locality
 pub mod Decided
 pub mod Commute
+pub mod Frames
 pub mod Runs
 pub mod Tasks
 pub mod Progress

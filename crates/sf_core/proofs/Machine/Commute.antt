@@ -90,7 +90,7 @@ common-same s t h k =
     λ i. record { heap = heaps i; store = stores i; held = holders i }
 
 -- what an event doesn't change is the same after it
-footprint-leaves : (p : Program) (ev : Event) (n : Next) (s t : Common) → ChangesOnlyFootprint p ev n s t
+pub footprint-leaves : (p : Program) (ev : Event) (n : Next) (s t : Common) → ChangesOnlyFootprint p ev n s t
     → (thing : Thing) → (Writes s.store n thing ⊎ Makes p ev n thing → ⊥) → AgreeOn t s thing
 footprint-leaves p ev n s t f (variable slot) h =
     f.variables slot (record { unwritten = λ w. h (inl w); not_made = λ m. h (inr m) })

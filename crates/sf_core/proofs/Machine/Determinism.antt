@@ -71,7 +71,8 @@ does-unique p ev s t w f below (fork place c e) rest u v d h =
     )
 does-unique p ev s t w f below (with place r test body) rest u v d h = (d.2 ∙ sym h.2, d.3 ∙ sym h.3)
 
-goes-unique : (p : Program) (ev : Event) (s t w : Common) (n : Next) (u v : Task) → Goes p ev s n t u
+-- an event of what comes next leads to one state and one task
+pub goes-unique : (p : Program) (ev : Event) (s t w : Common) (n : Next) (u v : Task) → Goes p ev s n t u
     → Goes p ev s n w v → (t ≡ w) × (u ≡ v)
 goes-unique p ev s t w (does f below c rest) u v d h = does-unique p ev s t w f below c rest u v d h
 goes-unique p ev s t w (leaves f below r rest) u v d h = (d.1 ∙ sym h.1, d.2 ∙ sym h.2)

@@ -2,6 +2,7 @@
 -- Names: each lemma has the name of the law's function.
 use Rattle.sf_core.proofs.Machine.Commute.{step-commute}
 use Rattle.sf_core.proofs.Machine.Determinism.{step-unique}
+use Rattle.sf_core.proofs.Machine.Frames.{part-step, whole-step}
 use Rattle.sf_core.proofs.Machine.GoodParts.{good-by_parts}
 use Rattle.sf_core.proofs.Machine.Locality.{goes-local}
 use Rattle.sf_core.proofs.Machine.Progress.{enabled-or_stop, step-stopped}
@@ -10,7 +11,7 @@ use Rattle.sf_core.proofs.Machine.Steps.{next-footprint}
 use Rattle.sf_core.proofs.Machine.Tasks.{enabled-diverge, ended-no_event, step-enabled, step-frames}
 use Rattle.sf_core.specs.Machine.Next.{next}
 use Rattle.sf_core.specs.Internal.GoodParts.{PartsMakeGood}
-use Rattle.sf_core.specs.Machine.Laws.{EnabledTasksDiverge, EnabledTasksProgress, EndedRunsStop, OnlyEnabledTasksStep, RunsCompose, StepsAreDeterministic, StepsAreLocal, StepsCommute, StepsFrameOtherTasks, StepsWriteOnlyTheirFootprint, StoppedTasksDoNotStep, UsedNumbersGrow}
+use Rattle.sf_core.specs.Machine.Laws.{EnabledTasksDiverge, EnabledTasksProgress, EndedRunsStop, OnlyEnabledTasksStep, RunsCompose, StepsAreDeterministic, StepsAreLocal, StepsAreMonotone, StepsCommute, StepsHaveFrames, StepsFrameOtherTasks, StepsWriteOnlyTheirFootprint, StoppedTasksDoNotStep, UsedNumbersGrow}
 
 pub steps_write_only_their_footprint : StepsWriteOnlyTheirFootprint
 unfolding StepsWriteOnlyTheirFootprint
@@ -23,6 +24,16 @@ steps_are_local p event s t other task u d agrees = goes-local p event s t other
 pub steps_commute : StepsCommute
 unfolding StepsCommute
 steps_commute = step-commute
+
+pub steps_are_monotone : StepsAreMonotone
+unfolding StepsAreMonotone
+steps_are_monotone p event whole part after cells variables task u h o d =
+    part-step p event whole part cells variables (next task) h o after u d
+
+pub steps_have_frames : StepsHaveFrames
+unfolding StepsHaveFrames
+steps_have_frames p event whole part after cells variables task u h o safe d =
+    whole-step p event whole part cells variables (next task) h o after u safe d
 
 pub steps_are_deterministic : StepsAreDeterministic
 unfolding StepsAreDeterministic

@@ -60,7 +60,7 @@ finds-or_not see heap root = go (see root) refl
     go (loc a) e = at a (heap a) e refl
 
 -- what is found at an expression is not absent
-finds-not_absent : (see : Expr → Value) (heap : Heap) (root : Expr) (location : ℕ) (here : Cell)
+pub finds-not_absent : (see : Expr → Value) (heap : Heap) (root : Expr) (location : ℕ) (here : Cell)
     → Finds see heap root location here → IsAbsent heap (see root) → ⊥
 finds-not_absent see heap root a k f n = some-none k (sym f.there ∙ subst (IsAbsent heap) f.is n)
 

@@ -4,11 +4,11 @@ use Rattle.std.specs.Prelude.{◌≡◌, ◌≢◌, ℕ, true, false, List, [], 
 use Rattle.sf_base.specs.declared.ids.ResId.{ResId}
 use Rattle.sf_base.specs.declared.limits.TheConstants.{TURNS}
 use Rattle.sf_base.specs.declared.path.Turn.TheVariants.{Left as left, Right as right}
-use Rattle.sf_core.specs.Machine.Bad.{IsAbsent}
+use Rattle.sf_core.specs.Machine.Bad.{IsAbsent, IsAtNoCell}
 use Rattle.sf_core.specs.Machine.Config.{Fixed, Frame, Task, waits, Path, Common, Config, evaluate, task_at}
 use Rattle.sf_core.specs.Machine.Next.{Next, does, leaves, returns, joins, nothing, next}
 use Rattle.sf_core.specs.Machine.Enabled.{Thing, variable, cell, IsInRoom, Reads, Writes, HasEnded, IsEnabled}
-use Rattle.sf_base.specs.HeapStore.{Slot, Store}
+use Rattle.sf_base.specs.HeapStore.{Heap, Slot, Splits, Store}
 use Rattle.sf_core.specs.Machine.Reach.{Reach}
 use Rattle.sf_core.specs.Assertions.Sat.{IsTrueOf}
 use Rattle.sf_core.specs.Machine.Step.{Event, TaskStep, Step, procedure_at, room_count, room_for}
@@ -129,6 +129,47 @@ StepsCommute = (p : Program) (one two : Event) (c d e : Config) (this that : Tas
     → task_at one.task c.tasks ≡ Some this → task_at two.task c.tasks ≡ Some that → Diverge one.task two.task
     → AreIndependent p one two c.common.store (next this) (next that) → Step p one c d → Step p two d e
     → (m : Config) × Step p two c m × Step p one m e
+
+-- what is shared splits: into a part of it, and a rest of cells and of variables
+pub record HasPart (whole part : Common) (cells : Heap) (variables : Store) : Type 0 where
+  pub heaps : Splits whole.heap part.heap cells
+  pub stores : Splits whole.store part.store variables
+
+-- the rest has no variable that an event of the part reads, writes or makes, and no cell that it makes; and the
+-- part knows the holder of the resource that it enters or leaves
+pub record IsOfPart (p : Program) (event : Event) (what : Next) (whole part : Common) (cells : Heap)
+    (variables : Store) : Type 0 where
+  pub read : (slot : Slot) → Reads part.store what (variable slot) → variables slot ≡ None
+  pub changed : (slot : Slot) → Writes part.store what (variable slot) ⊎ Makes p event what (variable slot)
+      → variables slot ≡ None
+  pub made : (location : ℕ) → Makes p event what (cell location) → cells location ≡ None
+  pub holder : (r : ResId) → Moves what r → part.held r ≡ whole.held r
+
+-- the whole splits after an event as before, with the same rest, and of its resources only the one that the event
+-- moves changes hands, as in the part
+pub record KeepsRest (what : Next) (whole whole_after part_after : Common) (cells : Heap)
+    (variables : Store) : Type 0 where
+  pub splits : HasPart whole_after part_after cells variables
+  pub moved : (r : ResId) → Moves what r → whole_after.held r ≡ part_after.held r
+  pub kept : (r : ResId) → (Moves what r → ⊥) → whole_after.held r ≡ whole.held r
+
+-- safety is monotone: a step of a part is one of the whole, and leaves the rest.
+-- Yang and O'Hearn, "A Semantic Basis for Local Reasoning" (2002)
+unfoldable pub StepsAreMonotone : Type 0
+StepsAreMonotone = (p : Program) (event : Event) (whole part after : Common) (cells : Heap) (variables : Store)
+    (task u : Task) → HasPart whole part cells variables
+    → IsOfPart p event (next task) whole part cells variables → TaskStep p event part task after u
+    → (w : Common) × TaskStep p event whole task w u × KeepsRest (next task) whole w after cells variables
+
+-- the frame property: where a part is not about to touch an absent cell, a step of the whole is one of the part,
+-- and leaves the rest.
+-- Yang and O'Hearn (2002)
+unfoldable pub StepsHaveFrames : Type 0
+StepsHaveFrames = (p : Program) (event : Event) (whole part after : Common) (cells : Heap) (variables : Store)
+    (task u : Task) → HasPart whole part cells variables
+    → IsOfPart p event (next task) whole part cells variables → (IsAtNoCell part (next task) → ⊥)
+    → TaskStep p event whole task after u
+    → (t : Common) × TaskStep p event part task t u × KeepsRest (next task) whole after t cells variables
 
 -- an event leads to at most one configuration
 unfoldable pub StepsAreDeterministic : Type 0

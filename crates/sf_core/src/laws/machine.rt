@@ -9,6 +9,8 @@ ghost use Rattle.sf_core.specs.Machine.Laws.{
   StepsFrameOtherTasks,
   RunsCompose,
   StepsAreLocal,
+  StepsAreMonotone,
+  StepsHaveFrames,
   StepsCommute,
   StepsWriteOnlyTheirFootprint,
   StoppedTasksDoNotStep,
@@ -36,6 +38,20 @@ pub fn steps_are_local()
 #[tactic(auto, using(crate::proofs::Machine::Laws::steps_commute))]
 pub fn steps_commute()
     ensures { StepsCommute }
+{}
+
+/// A step of a part is a step of the whole, and leaves the rest: where heap and store split into
+/// those of the part and a rest that has nothing of what the event reads, writes or makes.
+#[tactic(auto, using(crate::proofs::Machine::Laws::steps_are_monotone))]
+pub fn steps_are_monotone()
+    ensures { StepsAreMonotone }
+{}
+
+/// The frame property: a step of the whole is a step of such a part, unless that is about to touch
+/// a cell that it lacks, and leaves the rest.
+#[tactic(auto, using(crate::proofs::Machine::Laws::steps_have_frames))]
+pub fn steps_have_frames()
+    ensures { StepsHaveFrames }
 {}
 
 /// An event leads to at most one configuration.
