@@ -13,10 +13,10 @@ use Rattle.sf_core.specs.Program.Syntax.{Call, call, Procedure, Program}
 use Rattle.sf_safe.specs.Own.{Own, Parts, HasSlot, everything, new_slots, without_room}
 use Rattle.sf_safe.specs.Contract.{Known, Ended, OwnsVariables, Returned}
 use Rattle.sf_safe.specs.Safe.{Safe, callee}
-use Rattle.sf_safe.specs.Invariant.{known, Callers, Running, Tree, Resources}
+use Rattle.sf_safe.specs.Internal.Invariant.{known, Callers, Running, Tree, Resources}
 use Rattle.sf_safe.specs.Law.{BodiesAreSafe}
 use Rattle.sf_safe.proofs.Events.{After}
-use Rattle.sf_safe.proofs.Owns.{Sums, front, group, open_, order, parts-comm, parts-of_nothing, parts-open_room, parts-without_room, two}
+use Rattle.sf_safe.proofs.Owns.{Sums, front, group, opened, order, parts-comm, parts-of_nothing, parts-open_room, parts-without_room, two}
 use Rattle.sf_safe.proofs.Seen.{seen-arguments}
 use Rattle.sf_safe.proofs.Shuffles.{after-back, after-call}
 use Rattle.sf_safe.proofs.Trees.{fewer, fewer-callers}
@@ -67,7 +67,7 @@ module _ (p : Program) (n : ℕ) (owed : Known) (f : Frame) (below : List Frame)
       let room = room_for g ev.number 0 in
       let safe = subst (λ z. Safe p (suc n) me z k.left) i k.first in
       let rule = safe.1 g there in
-      let all = open_ (k.left ∷ k.right ∷ []) (r ∷ e ∷ []) sums (two k.parts) in
+      let all = opened (k.left ∷ k.right ∷ []) (r ∷ e ∷ []) sums (two k.parts) in
       let args = seen-arguments slots (everything p s) k.left all.0 all.1 c safe.0 in
       let new_ = new_slots room (arguments slots k.left.slots c) in
       let parts : Parts (everything p t) (everything p s) new_ =
@@ -75,7 +75,7 @@ module _ (p : Program) (n : ℕ) (owed : Known) (f : Frame) (below : List Frame)
       (subst (λ z. Parts (everything p (open_room room (arguments slots s.store c) s)) (everything p s)
       (new_slots room z)) args (parts-open_room p room (arguments slots s.store c) s (new g))) in
       let more = front (rule.given ∷ rule.kept ∷ k.right ∷ r ∷ e ∷ []) (parts-comm parts)
-      (open_ (rule.given ∷ rule.kept ∷ []) (k.right ∷ r ∷ e ∷ []) all (two rule.parts)) in
+      (opened (rule.given ∷ rule.kept ∷ []) (k.right ∷ r ∷ e ∷ []) all (two rule.parts)) in
       let x = after-call (everything p t) new_ rule.given rule.kept k.right r e more in
       record {
         part = x.stack;
@@ -121,7 +121,7 @@ module _ (p : Program) (n : ℕ) (owed : Known) (f : Frame) (below : List Frame)
       }
   given-back k (g ∷ callers) q b a (v, w) back res is =
       let all = order (2 ∷ 0 ∷ []) (w.left ∷ w.right ∷ b ∷ r ∷ e ∷ []) (everything p t)
-      (open_ (w.left ∷ w.right ∷ []) (b ∷ r ∷ e ∷ [])
+      (opened (w.left ∷ w.right ∷ []) (b ∷ r ∷ e ∷ [])
       (order (1 ∷ []) (b ∷ q ∷ r ∷ e ∷ []) (everything p t) a) (two w.parts)) in
       let z = after-back (everything p t) b w.left w.right r e all in
       record {
@@ -149,7 +149,7 @@ module _ (p : Program) (n : ℕ) (owed : Known) (f : Frame) (below : List Frame)
       let me = known f v in
       let room = f.fixed.room in
       let ended : Ended p me k.left = subst (λ z. Safe p (suc n) me z k.left) i k.first in
-      let all = open_ (k.left ∷ k.right ∷ []) (r ∷ e ∷ []) sums (two k.parts) in
+      let all = opened (k.left ∷ k.right ∷ []) (r ∷ e ∷ []) sums (two k.parts) in
       let parts = parts-without_room room
       (λ slot h. let a = owned-room p me ended.procedure k.left ended.owns slot h in
       splits-lacks_right slot a.0 all.1.slots a.1) all.1 in

@@ -7,9 +7,9 @@ use Rattle.sf_core.specs.Program.Syntax.{Program}
 use Rattle.sf_safe.specs.Own.{Own, Parts, everything}
 use Rattle.sf_safe.specs.Contract.{Known}
 use Rattle.sf_safe.specs.Safe.{Safe}
-use Rattle.sf_safe.specs.Invariant.{known, Running, Tree, Resources}
+use Rattle.sf_safe.specs.Internal.Invariant.{known, Running, Tree, Resources}
 use Rattle.sf_safe.proofs.Commands.{Moved}
-use Rattle.sf_safe.proofs.Owns.{Sums, front, group, open_, two}
+use Rattle.sf_safe.proofs.Owns.{Sums, front, group, opened, two}
 use Rattle.sf_safe.proofs.Trees.{fewer-callers}
 
 module _ (p : Program) where
@@ -29,7 +29,7 @@ module _ (p : Program) where
       → Safe p (suc n) (known f values) todo share → Moved p n (known f values) below s t task rest)
       → After n owed t task r
   alone n owed f below todo s t task u r e i a (v, k) free moves =
-      let b = open_ (k.left ∷ k.right ∷ []) (r ∷ e ∷ []) a (two k.parts) in
+      let b = opened (k.left ∷ k.right ∷ []) (r ∷ e ∷ []) a (two k.parts) in
       let m = moves v k.left b.0 b.1 (subst (λ z. Safe p (suc n) (known f v) z k.left) i k.first) in
       let g = group (r ∷ e ∷ []) (front (k.right ∷ r ∷ e ∷ []) m.parts b.2) in
       record {

@@ -10,10 +10,10 @@ use Rattle.sf_core.specs.Program.Syntax.{Call, fork, Procedure, Program}
 use Rattle.sf_safe.specs.Own.{Own, Parts, everything, new_slots, nothing}
 use Rattle.sf_safe.specs.Safe.{Safe, callee}
 use Rattle.sf_safe.specs.Contract.{Known}
-use Rattle.sf_safe.specs.Invariant.{known, Running, Tree, Resources}
+use Rattle.sf_safe.specs.Internal.Invariant.{known, Running, Tree, Resources}
 use Rattle.sf_safe.specs.Law.{BodiesAreSafe}
 use Rattle.sf_safe.proofs.Events.{After}
-use Rattle.sf_safe.proofs.Owns.{Sums, front, open_, order, parts-comm, parts-nothing, parts-open_room, two}
+use Rattle.sf_safe.proofs.Owns.{Sums, front, opened, order, parts-comm, parts-nothing, parts-open_room, two}
 use Rattle.sf_safe.proofs.Seen.{seen-arguments}
 use Rattle.sf_safe.proofs.Shuffles.{after-back, after-fork}
 use Rattle.sf_safe.proofs.Trees.{fewer, fewer-callers}
@@ -39,7 +39,7 @@ module _ (p : Program) (n : ℕ) (owed : Known) (s t : Common) (task : Task) (u 
       let other = room_for h ev.number (room_count g) in
       let safe = subst (λ z. Safe p (suc n) me z k.left) i k.first in
       let rule = safe.2 g h does.3 does.4 in
-      let all = open_ (k.left ∷ k.right ∷ []) (r ∷ e ∷ []) sums (two k.parts) in
+      let all = opened (k.left ∷ k.right ∷ []) (r ∷ e ∷ []) sums (two k.parts) in
       let args = seen-arguments slots (everything p s) k.left all.0 all.1 c safe.0 in
       let args2 = seen-arguments slots (everything p s) k.left all.0 all.1 d safe.1 in
       let first = new_slots one (arguments slots k.left.slots c) in
@@ -53,8 +53,8 @@ module _ (p : Program) (n : ℕ) (owed : Known) (s t : Common) (task : Task) (u 
       (subst (λ z. Parts (everything p (open_room other (arguments slots s.store d) between))
       (everything p between) (new_slots other z)) args2
       (parts-open_room p other (arguments slots s.store d) between (new2 g h))) in
-      let given = open_ (rule.left ∷ rule.right ∷ []) (rule.kept ∷ k.right ∷ r ∷ e ∷ [])
-      (open_ (rule.given ∷ rule.kept ∷ []) (k.right ∷ r ∷ e ∷ []) all (two rule.parts)) (two rule.apart) in
+      let given = opened (rule.left ∷ rule.right ∷ []) (rule.kept ∷ k.right ∷ r ∷ e ∷ [])
+      (opened (rule.given ∷ rule.kept ∷ []) (k.right ∷ r ∷ e ∷ []) all (two rule.parts)) (two rule.apart) in
       let more = front (rule.left ∷ rule.right ∷ rule.kept ∷ k.right ∷ r ∷ e ∷ []) (parts-comm parts) given in
       let more2 = front (first ∷ rule.left ∷ rule.right ∷ rule.kept ∷ k.right ∷ r ∷ e ∷ []) (parts-comm parts2)
       more in
@@ -123,8 +123,8 @@ module _ (p : Program) (n : ℕ) (owed : Known) (s t : Common) (task : Task) (u 
   joined (f ∷ below) (runs []) (runs []) (g, h, k) x y d i =
       let v = k.first.0 in
       let m = k.first.1 in
-      let all = open_ (k.left ∷ k.right ∷ []) (r ∷ e ∷ []) sums (two k.parts) in
-      let all2 = open_ (m.left ∷ m.right ∷ []) (k.right ∷ r ∷ e ∷ []) all (two m.parts) in
+      let all = opened (k.left ∷ k.right ∷ []) (r ∷ e ∷ []) sums (two k.parts) in
+      let all2 = opened (m.left ∷ m.right ∷ []) (k.right ∷ r ∷ e ∷ []) all (two m.parts) in
       let z = after-back (everything p s) k.right m.left m.right r e
       (order (2 ∷ []) (m.left ∷ m.right ∷ k.right ∷ r ∷ e ∷ []) (everything p s) all2) in
       record {

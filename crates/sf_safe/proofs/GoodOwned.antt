@@ -34,9 +34,9 @@ use Rattle.sf_core.proofs.Machine.GoodParts.{good-by_parts}
 use Rattle.sf_safe.specs.Own.{Own, Parts, HasSlot, everything}
 use Rattle.sf_safe.specs.Contract.{Known, Ended, FreeShare, IsVariableOf}
 use Rattle.sf_safe.specs.Safe.{Safe}
-use Rattle.sf_safe.specs.Invariant.{known, HasFrame, IsOwned, Resources, ShareOf, Tree}
+use Rattle.sf_safe.specs.Internal.Invariant.{known, HasFrame, IsOwned, Resources, ShareOf, Tree}
 use Rattle.sf_safe.proofs.NeverBad.{never-bad}
-use Rattle.sf_safe.proofs.Owns.{open_, order, parts-comm, parts-of_nothing, parts-right, two}
+use Rattle.sf_safe.proofs.Owns.{opened, order, parts-comm, parts-of_nothing, parts-right, two}
 
 -- an assertion whose variables are owned means in the share what it means in all that there is
 sat-everywhere : (a : Level Expr) (slots : Var → Slot) (all w r : Own) (heap : Heap) → Parts all w r
@@ -101,7 +101,7 @@ module _ (p : Program) (formed : IsFormed p) where
       → Parts (everything p s) w r → Resources p s.held m rs w → InvariantParts s.store s.held m rs w.cells
   parts-resources s m [] w r at q f = record { none = λ a. ap (λ (z : Own). z.cells a) f }
   parts-resources s m (o ∷ rs) w r at q f =
-      let a = open_ (f.left ∷ f.right ∷ []) (r ∷ []) (two q) (two f.parts) in
+      let a = opened (f.left ∷ f.right ∷ []) (r ∷ []) (two q) (two f.parts) in
       let b = order (1 ∷ []) (f.left ∷ f.right ∷ r ∷ []) (everything p s) a in
       record {
         left = f.left.cells;
@@ -147,9 +147,9 @@ module _ (p : Program) (formed : IsFormed p) where
       let b = parts-right a.parts q in
       frame-part n (known f v) f.todo s a.left _ b.1 a.first w.cells a.right.cells a.parts.cells
   parts-tasks n s (waits frames x y) o w r q (g, h, a) =
-      let b = open_ (a.second.left ∷ a.second.right ∷ []) (a.left ∷ r ∷ [])
+      let b = opened (a.second.left ∷ a.second.right ∷ []) (a.left ∷ r ∷ [])
       (order (1 ∷ []) (a.left ∷ a.right ∷ r ∷ []) (everything p s)
-      (open_ (a.left ∷ a.right ∷ []) (r ∷ []) (two q) (two a.parts))) (two a.second.parts) in
+      (opened (a.left ∷ a.right ∷ []) (r ∷ []) (two q) (two a.parts))) (two a.second.parts) in
       let c = order (1 ∷ []) (a.second.left ∷ a.second.right ∷ a.left ∷ r ∷ []) (everything p s) b in
       let one = parts-tasks n s x g a.second.left b.0 b.1 a.second.first in
       let other = parts-tasks n s y h a.second.right c.0 c.1 a.second.second in

@@ -15,14 +15,14 @@ use Rattle.sf_core.specs.Program.Syntax.{assign, look_up, mutate, new, dispose, 
 use Rattle.sf_safe.specs.Own.{Own, Parts, everything}
 use Rattle.sf_safe.specs.Contract.{Known}
 use Rattle.sf_safe.specs.Safe.{Safe}
-use Rattle.sf_safe.specs.Invariant.{known, Tree, Resources, HasFrame, IsMadeBefore, IsOwned}
+use Rattle.sf_safe.specs.Internal.Invariant.{known, Tree, Resources, HasFrame, IsMadeBefore, IsOwned}
 use Rattle.sf_safe.specs.Law.{BodiesAreSafe}
 use Rattle.sf_safe.proofs.Calls.{called, returned}
 use Rattle.sf_safe.proofs.Commands.{assigned, disposed, looked_up, made, mutated, tested, Moved}
 use Rattle.sf_safe.proofs.Events.{After, alone}
 use Rattle.sf_safe.proofs.Forks.{forked, joined}
-use Rattle.sf_safe.proofs.Owns.{Sums, group, open_, pair, parts-right, two}
-use Rattle.sf_safe.proofs.Regions.{entered, left_}
+use Rattle.sf_safe.proofs.Owns.{Sums, group, opened, pair, parts-right, two}
+use Rattle.sf_safe.proofs.Regions.{entered, exited}
 use Rattle.sf_safe.proofs.Trees.{focus}
 
 -- NEW SLOTS
@@ -102,7 +102,7 @@ module _ (p : Program) where
 
       go : (todo : List Item) → f.todo ≡ todo → Goes p ev s (frame_next f.fixed below todo) t after → After p n owed t after r
       go [] i x = returned p n owed f below s t after u r e a tree free i x.1 x.2
-      go (leave q ∷ rest) i x = left_ p n owed f below s t after u r e a tree free ev.task q rest i x.0 x.1 x.2
+      go (leave q ∷ rest) i x = exited p n owed f below s t after u r e a tree free ev.task q rest i x.0 x.1 x.2
       go (command (with place q test body) ∷ rest) i x =
           entered p n owed f below s t after u r e a tree free ev place q test body rest i x
       go (command (call place c) ∷ rest) i x =
@@ -253,7 +253,7 @@ pub step-owned : (p : Program) → BodiesAreSafe p → (n : ℕ) (entry : Known)
     → IsOwned p (suc n) entry c → Step p ev c d → IsOwned p n entry d
 step-owned p bodies n entry ev c d s st =
     let k = focus p n entry ev.task c.tasks st.from s.tasks st.there s.tree in
-    let all = open_ (k.part ∷ k.rest ∷ []) (s.free ∷ []) (two s.parts) (two k.parts) in
+    let all = opened (k.part ∷ k.rest ∷ []) (s.free ∷ []) (two s.parts) (two k.parts) in
     let x = event p bodies n k.owes ev st.from st.to c.common d.common (λ e. c.used e ≡ true) k.part k.rest s.free
     (λ slot h. made-same c slot (s.made slot h)) (λ i. true≢false (sym i ∙ st.fresh)) all k.here s.resources st.steps in
     let g = group (x.free ∷ []) x.sums in

@@ -13,3 +13,5 @@ pub mod GoodOwned
 pub mod Unheld
 pub mod Starts
 pub mod Sound
+pub mod Writing
+pub mod FillingTwice

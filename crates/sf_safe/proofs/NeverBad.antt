@@ -22,9 +22,9 @@ use Rattle.sf_core.specs.Program.Syntax.{assign, look_up, mutate, new, dispose, 
 use Rattle.sf_safe.specs.Own.{Own, Parts, HasAll, HasExpr, HasSlot, HasTest, everything}
 use Rattle.sf_safe.specs.Contract.{Known}
 use Rattle.sf_safe.specs.Safe.{Safe, OwnsCell}
-use Rattle.sf_safe.specs.Invariant.{known, IsOwned, Resources, Running, Tree}
+use Rattle.sf_safe.specs.Internal.Invariant.{known, IsOwned, Resources, Running, Tree}
 use Rattle.sf_safe.proofs.Calls.{owned-room}
-use Rattle.sf_safe.proofs.Owns.{Sums, group, open_, order, parts-comm, single, two}
+use Rattle.sf_safe.proofs.Owns.{Sums, group, opened, order, parts-comm, single, two}
 use Rattle.sf_safe.proofs.Regions.{resources-take}
 use Rattle.sf_safe.proofs.Seen.{seen-value}
 use Rattle.sf_safe.proofs.Trees.{focus}
@@ -151,7 +151,7 @@ module _ (p : Program) where
       let taken = resources-take p s.held g [] 0 p.resources e (omega arith)
       (let l : g.0 < length p.resources = a.there in omega (arith, l)) (is-free (s.held g) b) free in
       let m = group (taken.rest ∷ r ∷ []) (order (2 ∷ 0 ∷ []) (taken.share ∷ taken.rest ∷ w ∷ r ∷ []) (everything p s)
-      (open_ (taken.share ∷ taken.rest ∷ []) (w ∷ r ∷ [])
+      (opened (taken.share ∷ taken.rest ∷ []) (w ∷ r ∷ [])
       (order (1 ∷ []) (w ∷ e ∷ r ∷ []) (everything p s) q) (two taken.parts))) in
       elim (thing-either t m.parts (owned-test k.fixed.slots m.both t test
       (a.reads taken.share m.both taken.free m.parts) d)) [
@@ -176,7 +176,7 @@ module _ (p : Program) where
 
   deeper : {n : ℕ} {f g : List Frame} {w u v : Own} → Parts w u v → Two n f g u → Two n f g w
   deeper {v = v} q t =
-      let s = open_ (t.first ∷ t.second ∷ t.rest ∷ []) (v ∷ []) (two q) t.sums in
+      let s = opened (t.first ∷ t.second ∷ t.rest ∷ []) (v ∷ []) (two q) t.sums in
       let m = group (t.first ∷ t.second ∷ [])
       (order (2 ∷ 2 ∷ []) (t.first ∷ t.second ∷ t.rest ∷ v ∷ []) _ s) in
       record {
@@ -196,8 +196,8 @@ module _ (p : Program) where
   sides n g h l r q k f e w u v parts i j s t =
       let x = focus p n g q l (runs f) u i s in
       let y = focus p n h k r (runs e) v j t in
-      let a = open_ (x.part ∷ x.rest ∷ []) (v ∷ []) (two parts) (two x.parts) in
-      let b = open_ (y.part ∷ y.rest ∷ []) (x.part ∷ x.rest ∷ [])
+      let a = opened (x.part ∷ x.rest ∷ []) (v ∷ []) (two parts) (two x.parts) in
+      let b = opened (y.part ∷ y.rest ∷ []) (x.part ∷ x.rest ∷ [])
       (order (2 ∷ []) (x.part ∷ x.rest ∷ v ∷ []) w a) (two y.parts) in
       let c = group (x.part ∷ y.part ∷ [])
       (order (1 ∷ 2 ∷ 1 ∷ []) (y.part ∷ y.rest ∷ x.part ∷ x.rest ∷ []) w b) in
@@ -283,8 +283,8 @@ module _ (p : Program) where
       task-there (runs (f ∷ below)) i t =
           let k = focus p n o a.path c.tasks (runs (f ∷ below)) s.tasks i s.tree in
           let m = k.here.1 in
-          let all = open_ (m.left ∷ m.right ∷ []) (k.rest ∷ s.free ∷ [])
-          (open_ (k.part ∷ k.rest ∷ []) (s.free ∷ []) (two s.parts) (two k.parts)) (two m.parts) in
+          let all = opened (m.left ∷ m.right ∷ []) (k.rest ∷ s.free ∷ [])
+          (opened (k.part ∷ k.rest ∷ []) (s.free ∷ []) (two s.parts) (two k.parts)) (two m.parts) in
           frame-there (known f k.here.0) below m.left all.0 all.1 f.todo t m.first
 
   -- RACES
@@ -300,9 +300,9 @@ module _ (p : Program) where
       let x = t.one.1 in
       let y = t.other.1 in
       let w = everything p c.common in
-      let a1 = open_ (t.first ∷ t.second ∷ t.rest ∷ []) (s.free ∷ []) (two s.parts) t.sums in
-      let a2 = open_ (x.left ∷ x.right ∷ []) (t.second ∷ t.rest ∷ s.free ∷ []) a1 (two x.parts) in
-      let a3 = open_ (y.left ∷ y.right ∷ []) (x.left ∷ x.right ∷ t.rest ∷ s.free ∷ [])
+      let a1 = opened (t.first ∷ t.second ∷ t.rest ∷ []) (s.free ∷ []) (two s.parts) t.sums in
+      let a2 = opened (x.left ∷ x.right ∷ []) (t.second ∷ t.rest ∷ s.free ∷ []) a1 (two x.parts) in
+      let a3 = opened (y.left ∷ y.right ∷ []) (x.left ∷ x.right ∷ t.rest ∷ s.free ∷ [])
       (order (2 ∷ []) (x.left ∷ x.right ∷ t.second ∷ t.rest ∷ s.free ∷ []) w a2) (two y.parts) in
       -- the writer's share, the other's, the free resources', the rest
       let b1 = order (2 ∷ 0 ∷ 3 ∷ []) (y.left ∷ y.right ∷ x.left ∷ x.right ∷ t.rest ∷ s.free ∷ []) w a3 in

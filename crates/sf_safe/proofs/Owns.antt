@@ -91,8 +91,8 @@ parts-left p q = let m = parts-right (parts-comm p) (parts-comm q) in (parts-com
 pub order : (ns : List ℕ) (us : List Own) (w : Own) → Sums w us → Sums w (ordered nothing ns us)
 order ns us w s = sums-order owns ns us w s
 
-pub open_ : {u w : Own} (us vs : List Own) → Sums w (u ∷ vs) → Sums u us → Sums w (us ++ vs)
-open_ us vs s t = sums-open owns us vs s t
+pub opened : {u w : Own} (us vs : List Own) → Sums w (u ∷ vs) → Sums u us → Sums w (us ++ vs)
+opened us vs s t = sums-open owns us vs s t
 
 pub two : {w u v : Own} → Parts w u v → Sums w (u ∷ v ∷ [])
 two p = sums-of_parts owns p

@@ -14,9 +14,9 @@ use Rattle.sf_core.specs.Program.Syntax.{Block, with, Program, Resource}
 use Rattle.sf_safe.specs.Own.{Own, Parts, everything, nothing}
 use Rattle.sf_safe.specs.Contract.{Known, FreeShare}
 use Rattle.sf_safe.specs.Safe.{Safe}
-use Rattle.sf_safe.specs.Invariant.{known, Running, Tree, ShareOf, Resources}
+use Rattle.sf_safe.specs.Internal.Invariant.{known, Running, Tree, ShareOf, Resources}
 use Rattle.sf_safe.proofs.Events.{After}
-use Rattle.sf_safe.proofs.Owns.{Sums, open_, order, parts-comm, parts-nothing, parts-of_nothing, parts-right, two}
+use Rattle.sf_safe.proofs.Owns.{Sums, opened, order, parts-comm, parts-nothing, parts-of_nothing, parts-right, two}
 use Rattle.sf_safe.proofs.Seen.{seen-test}
 use Rattle.sf_safe.proofs.Shuffles.{after-entry, after-exit}
 use Rattle.sf_safe.proofs.Trees.{fewer-callers}
@@ -148,12 +148,12 @@ module _ (p : Program) (n : ℕ) (owed : Known) (f : Frame) (below : List Frame)
       let k = running.1 in
       let safe = subst (λ z. Safe p (suc n) (known f v) z k.left) i k.first in
       let taken = resources-take p s.held r ev.task 0 p.resources e (omega arith) (let l : r.0 < length p.resources = safe.there in omega (arith, l)) d.0 free in
-      let all = open_ (k.left ∷ k.right ∷ []) (q ∷ e ∷ []) sums (two k.parts) in
+      let all = opened (k.left ∷ k.right ∷ []) (q ∷ e ∷ []) sums (two k.parts) in
       let all2 = order (2 ∷ 2 ∷ 2 ∷ 0 ∷ []) (taken.share ∷ taken.rest ∷ k.left ∷ k.right ∷ q ∷ []) (everything p s)
-      (open_ (taken.share ∷ taken.rest ∷ []) (k.left ∷ k.right ∷ q ∷ [])
+      (opened (taken.share ∷ taken.rest ∷ []) (k.left ∷ k.right ∷ q ∷ [])
       (order (3 ∷ []) (k.left ∷ k.right ∷ q ∷ e ∷ []) (everything p s) all) (two taken.parts)) in
       let z = after-entry (everything p s) k.left k.right q taken.share taken.rest all2 in
-      let both = open_ (z.frame ∷ k.right ∷ []) (q ∷ taken.rest ∷ []) z.sums (two z.split) in
+      let both = opened (z.frame ∷ k.right ∷ []) (q ∷ taken.rest ∷ []) z.sums (two z.split) in
       let reads = safe.reads taken.share z.frame taken.free z.back in
       let true_ = subst (λ y. y) (seen-test f.fixed.slots (everything p s) z.frame both.0 both.1 test reads) d.1 in
       record {
@@ -174,14 +174,14 @@ module _ (p : Program) (n : ℕ) (owed : Known) (f : Frame) (below : List Frame)
       }
 
   -- an exit: the frame gives the resource its share back
-  pub left_ : (path : Path) (r : ResId) (rest : List Item) → f.todo ≡ leave r ∷ rest → s.held r ≡ Some path
+  pub exited : (path : Path) (r : ResId) (rest : List Item) → f.todo ≡ leave r ∷ rest → s.held r ≡ Some path
       → t ≡ set_holder r None s → task ≡ task_with f.fixed rest below → After p n owed t task q
-  left_ path r rest i h d j =
+  exited path r rest i h d j =
       let v = running.0 in
       let k = running.1 in
       let safe = subst (λ z. Safe p (suc n) (known f v) z k.left) i k.first in
-      let all = open_ (safe.share ∷ safe.kept ∷ []) (k.right ∷ q ∷ e ∷ [])
-      (open_ (k.left ∷ k.right ∷ []) (q ∷ e ∷ []) sums (two k.parts)) (two safe.parts) in
+      let all = opened (safe.share ∷ safe.kept ∷ []) (k.right ∷ q ∷ e ∷ [])
+      (opened (k.left ∷ k.right ∷ []) (q ∷ e ∷ []) sums (two k.parts)) (two safe.parts) in
       let z = after-exit (everything p s) safe.share safe.kept k.right q e all in
       record {
         part = z.stack;

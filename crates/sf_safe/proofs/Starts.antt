@@ -26,7 +26,7 @@ use Rattle.sf_core.specs.Program.Syntax.{Procedure, Program, Resource}
 use Rattle.sf_core.proofs.Assertions.Sat.{sat-same_variables}
 use Rattle.sf_safe.specs.Own.{Own, Parts, everything, nothing}
 use Rattle.sf_safe.specs.Contract.{Known, Entered, FreeShare, IsFrameOf, IsVariableOf}
-use Rattle.sf_safe.specs.Invariant.{IsMadeBefore, IsOwned, Resources}
+use Rattle.sf_safe.specs.Internal.Invariant.{IsMadeBefore, IsOwned, Resources}
 use Rattle.sf_safe.specs.Law.{BodiesAreSafe}
 use Rattle.sf_safe.proofs.Owns.{own-same, parts-nothing}
 use Rattle.sf_safe.proofs.Unheld.{unheld-is_not_free}

@@ -9,7 +9,7 @@ use Rattle.sf_core.specs.Program.Syntax.{assign, look_up, mutate, new, dispose, 
 use Rattle.sf_safe.specs.Own.{Own, Parts, nothing}
 use Rattle.sf_safe.specs.Contract.{Known}
 use Rattle.sf_safe.specs.Safe.{Safe}
-use Rattle.sf_safe.specs.Invariant.{known, Callers, Running, Waiting, Tree}
+use Rattle.sf_safe.specs.Internal.Invariant.{known, Callers, Running, Waiting, Tree}
 use Rattle.sf_safe.proofs.Owns.{and, parts-comm, parts-left, parts-nothing, parts-of_nothing, parts-right}
 
 module _ (p : Program) where

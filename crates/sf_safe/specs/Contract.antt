@@ -60,7 +60,7 @@ pub record IsFrameOf (p : Program) (f : Fixed) (g : Procedure) : Type 0 where
   pub apart : (x y : Var) → IsVariableOf p f.procedure g x → IsVariableOf p f.procedure g y
       → f.slots x ≡ f.slots y → x ≡ y
 
--- what is owned by a frame between its commands' regions: just its variables, and no token
+-- what a frame owns when it begins and when it ends: just its variables, and no token
 pub record OwnsVariables (p : Program) (k : Known) (g : Procedure) (w : Own) : Type 0 where
   pub frame : IsFrameOf p k.fixed g
   pub variables : HasJust (IsVariableOf p k.fixed.procedure g) k.fixed.slots w

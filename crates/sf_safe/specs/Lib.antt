@@ -1,5 +1,6 @@
 pub mod Own
 pub mod Contract
 pub mod Safe
-pub mod Invariant
 pub mod Law
+pub mod Examples
+pub mod Internal
