@@ -384,7 +384,8 @@ refilled w f c new = record {
       );
 }
 
-safe-leave : (n : ℕ) (k : Known) (both share w : Own) → Parts both share w → FreeShare filling_twice lock share
+safe-leave : (n : ℕ) (k : Known) (both share w : Own) → Parts both share w
+    → FreeShare filling_twice lock share
     → Ended filling_twice k w → Safe filling_twice n k (leave lock ∷ []) both
 safe-leave zero k both share w q f e = tt
 safe-leave (suc n) k both share w q f e = record {
@@ -417,7 +418,8 @@ safe-fill (suc n) k both share w q f slots e =
           (parts-put_cell c.location c.here_ (Some new) c.one.here (parts-comm q)) (refilled share f c new) e,
     )
 
-safe-fills : (n : ℕ) (k : Known) (w : Own) → Entered filling_twice k w → Safe filling_twice n k (items fills.body) w
+safe-fills : (n : ℕ) (k : Known) (w : Own) → Entered filling_twice k w
+    → Safe filling_twice n k (items fills.body) w
 safe-fills zero k w e = tt
 safe-fills (suc n) k w e = record {
   there = let one : 0 < 1 = omega arith in one;
@@ -484,7 +486,8 @@ forks-fills n k w is e = record {
       safe-end n k after (subst (Ended filling_twice k) (sym same) e);
 }
 
-safe-twice : (n : ℕ) (k : Known) (w : Own) → Entered filling_twice k w → Safe filling_twice n k (items twice.body) w
+safe-twice : (n : ℕ) (k : Known) (w : Own) → Entered filling_twice k w
+    → Safe filling_twice n k (items twice.body) w
 safe-twice zero k w e = tt
 safe-twice (suc n) k w e = (
   tt,

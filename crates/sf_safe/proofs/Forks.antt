@@ -21,7 +21,8 @@ use Rattle.sf_safe.proofs.Trees.{fewer, fewer-callers}
 module _ (p : Program) (n : ℕ) (owed : Known) (s t : Common) (task : Task) (u r e : Own)
     (sums : Sums (everything p s) (u ∷ r ∷ e ∷ [])) (free : Resources p s.held 0 p.resources e) where
   -- a fork: each child begins with what its parent gives it and its new slots
-  pub forked : BodiesAreSafe p → (f : Frame) (below : List Frame) → Running p (suc n) owed (f ∷ below) u → (ev : Event)
+  pub forked : BodiesAreSafe p → (f : Frame) (below : List Frame) → Running p (suc n) owed (f ∷ below) u
+      → (ev : Event)
       (place : Place) (c d : Call) (rest : List Item)
       → ((g : Procedure) (slot : Slot) → in_room (room_for g ev.number 0) slot ≡ true → s.store slot ≡ None)
       → ((g h : Procedure) (slot : Slot) → in_room (room_for h ev.number (room_count g)) slot ≡ true
@@ -113,7 +114,8 @@ module _ (p : Program) (n : ℕ) (owed : Known) (s t : Common) (task : Task) (u 
       }
 
   -- a join: what the two children give back goes to their parent
-  pub joined : (frames : List Frame) (one other : Task) → Tree p (suc n) owed (waits frames one other) u → IsOver one
+  pub joined : (frames : List Frame) (one other : Task) → Tree p (suc n) owed (waits frames one other) u
+      → IsOver one
       → IsOver other → t ≡ s → task ≡ runs frames → After p n owed t task r
   joined [] one other (g, h, k) x y d i = absurd k.first
   joined (f ∷ below) (waits _ _ _) other (g, h, k) x y d i = absurd x

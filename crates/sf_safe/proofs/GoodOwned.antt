@@ -1,6 +1,5 @@
 -- What is owned is good.
--- Names: `sat-WHAT` carries an assertion from a share to all that there is; `parts-WHAT` speaks of sf_core's parts of
--- a good configuration.
+-- Names: `sat-WHAT` carries an assertion from a share to the whole; `parts-WHAT` speaks of sf_core's parts.
 use Rattle.std.specs.Prelude.{◌≡◌, ◌≢◌, ℕ, suc, Bool, true, false, cond, List, [], ◌∷◌, Option, Some, None, ◌⊎◌, ◌==◌, ◌<◌, ◌≤◌, ◌+◌, length, ltb}
 use Rattle.std.specs.List.{slice_get}
 use Rattle.std.specs.Option.{option_or, unwrap_or}
@@ -48,7 +47,8 @@ sat-everywhere a slots all w r heap p h s =
     (λ x o. let v = h x o in ap (λ z. unwrap_or z nil) (v.1 ∙ sym (splits-has_left (slots x) v.0 p.slots v.1))) s
 
 -- what occurs in a postcondition is a variable of the frame
-post-variable : (p : Program) → IsFormed p → (f : ProcId) (g : Procedure) → procedure_at p f ≡ Some g → (x : Var)
+post-variable : (p : Program) → IsFormed p → (f : ProcId) (g : Procedure) → procedure_at p f ≡ Some g
+    → (x : Var)
     → VarOccursIn g.post.level x → IsVariableOf p f g x
 post-variable p formed f g there (Shared r i) o = (tt, directly (g, there, inr (inl o)))
 post-variable p formed f g there (OwnVar i) o =
@@ -59,7 +59,8 @@ post-variable p formed f g there (OwnVar i) o =
     omega (arith, l, m)
 
 -- the postcondition of a frame that ends holds of its share
-sat-ended : (p : Program) → IsFormed p → (k : Known) (all w r : Own) (g : Procedure) → Parts all w r → Ended p k w
+sat-ended : (p : Program) → IsFormed p → (k : Known) (all w r : Own) (g : Procedure) → Parts all w r
+    → Ended p k w
     → procedure_at p k.fixed.procedure ≡ Some g
     → Sat g.post.level (evaluate k.fixed.slots all.slots) (λ n. nil) w.cells
 sat-ended p formed k all w r g q e there =
@@ -173,7 +174,8 @@ module _ (p : Program) (formed : IsFormed p) where
     pub done : frame.todo ≡ []
     pub ended : Ended p (known frame values) w
 
-  at-end : (n : ℕ) (o : Known) (t : Task) (w : Own) → HasEnded [] t → HasFrame t → Tree p (suc n) o t w → AtEnd n t w
+  at-end : (n : ℕ) (o : Known) (t : Task) (w : Own) → HasEnded [] t → HasFrame t → Tree p (suc n) o t w
+      → AtEnd n t w
   at-end n o (runs []) w e d a = absurd d
   at-end n o (runs (f ∷ g ∷ fs)) w e d a = absurd e
   at-end n o (waits fs x y) w e d a = absurd e
@@ -190,7 +192,8 @@ module _ (p : Program) (formed : IsFormed p) where
       go false n = absurd (n refl)
 
   -- a resource whose token is with the free ones is free
-  is-free : (held : ResId → Option Path) (m : ℕ) (rs : List Resource) (w : Own) (r : ResId) → Resources p held m rs w
+  is-free : (held : ResId → Option Path) (m : ℕ) (rs : List Resource) (w : Own) (r : ResId)
+      → Resources p held m rs w
       → w.tokens r ≢ None → held r ≡ None
   is-free held m [] w r f h = absurd (h (ap (λ (z : Own). z.tokens r) f))
   is-free held m (o ∷ rs) w r f h = go (f.left.tokens r) refl (λ x. is-free held (suc m) rs f.right r f.second x)
@@ -203,7 +206,8 @@ module _ (p : Program) (formed : IsFormed p) where
           ap held same ∙ e
       here_ (Some path) e i x = absurd (x (ap (λ (z : Own). z.tokens r) i))
 
-      go : (o : Option (Unit {0})) → f.left.tokens r ≡ o → (f.right.tokens r ≢ None → held r ≡ None) → held r ≡ None
+      go : (o : Option (Unit {0})) → f.left.tokens r ≡ o → (f.right.tokens r ≢ None → held r ≡ None)
+          → held r ≡ None
       go None e ih = ih (λ z. h (f.parts.tokens.is r ∙ ap₂ option_or e z))
       go (Some x) e ih = here_ (held (record { 0 = m })) refl f.first
           (λ z. let a : Some x ≡ None = sym e ∙ z in absurd (cc))
@@ -274,7 +278,9 @@ module _ (p : Program) (formed : IsFormed p) where
         left = s.free.cells;
         right = s.tasks.cells;
         splits = splits-comm s.parts.cells;
-        first = parts-resources c.common 0 p.resources s.free s.tasks (λ i q e. subst (λ z. slice_get p.resources z ≡ Some q) (zero-plus i) e) (parts-comm s.parts) s.resources;
+        first = parts-resources c.common 0 p.resources s.free s.tasks
+            (λ i q e. subst (λ z. slice_get p.resources z ≡ Some q) (zero-plus i) e)
+            (parts-comm s.parts) s.resources;
         second = parts-rest n o c s;
       })
       (ends-well n o c s)

@@ -1,5 +1,5 @@
 -- Every event keeps what is owned.
--- Names: `room-LAW` speaks of new slots, `step-LAW` of one event of a configuration, `reach-LAW` of a list of them.
+-- Names: `room-LAW` speaks of new slots, `step-LAW` of one event, `reach-LAW` of a list of them.
 use Rattle.std.specs.Prelude.{◌≡◌, ◌≢◌, ℕ, suc, Bool, true, false, cond, List, [], ◌∷◌, ◌++◌, Option, Some, None, ◌⊎◌, ◌==◌, ◌+◌, ◌-◌, ◌&&◌, leb, ltb, ◌||◌}
 use Rattle.std.proofs.Common.{true≢false, sym, ap, ◌∙◌, refl, subst, arith, inl, inr}
 use Rattle.std.proofs.lemmas.Bool.Decides.{nat_tests}
@@ -53,7 +53,8 @@ room-fresh s used room a n (own e k) i = go (s.store (own e k)) refl
         absurd (n (subst used (first-true e room.event _ i) (a (own e k) there)))
 
 -- the two rooms of a fork have different slots
-room-apart : (g h : Procedure) (event : ℕ) (slot : Slot) → in_room (room_for h event (room_count g)) slot ≡ true
+room-apart : (g h : Procedure) (event : ℕ) (slot : Slot)
+    → in_room (room_for h event (room_count g)) slot ≡ true
     → in_room (room_for g event 0) slot ≡ false
 room-apart g h e (shared q k) i = refl
 room-apart g h e (own d k) i = apart-ranges d e k (room_count g) (room_count h) i
@@ -90,7 +91,8 @@ module _ (p : Program) where
       joined p n owed s t after u r e a free frames one other tree d.0 d.1 d.2 d.3
   event bodies n owed ev (runs (f ∷ below)) after s t used u r e old unused a tree free d = go f.todo refl d
     where
-      fresh : (g : Procedure) (slot : Slot) → in_room (room_for g ev.number 0) slot ≡ true → s.store slot ≡ None
+      fresh : (g : Procedure) (slot : Slot) → in_room (room_for g ev.number 0) slot ≡ true
+          → s.store slot ≡ None
       fresh g = room-fresh s used (room_for g ev.number 0) old unused
 
       -- the events of the frame alone
@@ -100,7 +102,8 @@ module _ (p : Program) where
           → After p n owed t after r
       mine todo i moves = alone p n owed f below todo s t after u r e i a tree free moves
 
-      go : (todo : List Item) → f.todo ≡ todo → Goes p ev s (frame_next f.fixed below todo) t after → After p n owed t after r
+      go : (todo : List Item) → f.todo ≡ todo → Goes p ev s (frame_next f.fixed below todo) t after
+          → After p n owed t after r
       go [] i x = returned p n owed f below s t after u r e a tree free i x.1 x.2
       go (leave q ∷ rest) i x = exited p n owed f below s t after u r e a tree free ev.task q rest i x.0 x.1 x.2
       go (command (with place q test body) ∷ rest) i x =
@@ -269,7 +272,8 @@ step-owned p bodies n entry ev c d s st =
     }
 
 -- a list of events keeps it, where it holds for every number of events
-pub reach-owned : (p : Program) → BodiesAreSafe p → (events : List Event) (n : ℕ) (entry : Known) (c d : Config)
+pub reach-owned : (p : Program) → BodiesAreSafe p
+    → (events : List Event) (n : ℕ) (entry : Known) (c d : Config)
     → ((m : ℕ) → IsOwned p m entry c) → Reach p c events d → IsOwned p n entry d
 reach-owned p bodies [] n entry c d s r = subst (IsOwned p n entry) (sym r) (s n)
 reach-owned p bodies (ev ∷ events) n entry c d s (m, x, y) =

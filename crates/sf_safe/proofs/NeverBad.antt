@@ -120,7 +120,8 @@ module _ (p : Program) where
   -- what it reads is its own or, at a region, a free resource's
   pub owned-reads : (n : ℕ) (k : Known) (below : List Frame) (todo : List Item) (s : Common) (w r e : Own) (t : Thing)
       → Sums (everything p s) (w ∷ e ∷ r ∷ []) → Safe p (suc n) k todo w → Resources p s.held 0 p.resources e
-      → (IsBlocked s.held (frame_next k.fixed below todo) → ⊥) → Reads s.store (frame_next k.fixed below todo) t
+      → (IsBlocked s.held (frame_next k.fixed below todo) → ⊥)
+      → Reads s.store (frame_next k.fixed below todo) t
       → OwnsThing w t ⊎ OwnsThing e t
   owned-reads n k below [] s w r e t q a free b d = absurd d
   owned-reads n k below (leave g ∷ rest) s w r e t q a free b d = absurd d
@@ -170,7 +171,8 @@ module _ (p : Program) where
     pub one : Running p (suc n) owes f first
     pub other : Running p (suc n) other_owes g second
 
-  inside : (d : Turn) (q : Path) (f g : List Frame) (t : Task) → t ≡ runs f → task_at (d ∷ q) t ≡ Some (runs g) → ⊥
+  inside : (d : Turn) (q : Path) (f g : List Frame) (t : Task) → t ≡ runs f
+      → task_at (d ∷ q) t ≡ Some (runs g) → ⊥
   inside left q f g t e i = absurd (none-some _ (runs g) (ap (task_at (left ∷ q)) e) i)
   inside right q f g t e i = absurd (none-some _ (runs g) (ap (task_at (right ∷ q)) e) i)
 
@@ -191,7 +193,8 @@ module _ (p : Program) where
       }
 
   sides : (n : ℕ) (g h : Known) (l r : Task) (q k : Path) (f e : List Frame) (w u v : Own) → Parts w u v
-      → task_at q l ≡ Some (runs f) → task_at k r ≡ Some (runs e) → Tree p (suc n) g l u → Tree p (suc n) h r v
+      → task_at q l ≡ Some (runs f) → task_at k r ≡ Some (runs e) → Tree p (suc n) g l u
+      → Tree p (suc n) h r v
       → Two n f e w
   sides n g h l r q k f e w u v parts i j s t =
       let x = focus p n g q l (runs f) u i s in
@@ -248,7 +251,8 @@ module _ (p : Program) where
 
   -- ABSENT CELLS
 
-  present : (heap : Heap) (v : Value) (location : ℕ) (here : Cell) → v ≡ loc location → heap location ≡ Some here
+  present : (heap : Heap) (v : Value) (location : ℕ) (here : Cell) → v ≡ loc location
+      → heap location ≡ Some here
       → IsAbsent heap v → ⊥
   present heap v location here i j a = none-some (heap location) here (subst (IsAbsent heap) i a) j
 
@@ -263,7 +267,8 @@ module _ (p : Program) where
           (splits-has_left at.location at.cell q.cells at.finds.there) d
 
       frame-there : (k : Known) (below : List Frame) (w r : Own) → Parts (everything p c.common) w r
-          → (todo : List Item) → IsAtNoCell c.common (frame_next k.fixed below todo) → Safe p (suc n) k todo w → ⊥
+          → (todo : List Item) → IsAtNoCell c.common (frame_next k.fixed below todo)
+          → Safe p (suc n) k todo w → ⊥
       frame-there k below w r q [] t z = t
       frame-there k below w r q (leave g ∷ rest) t z = t
       frame-there k below w r q (command (look_up _ x e g) ∷ rest) t z = place k w r e q z.1 t
@@ -292,7 +297,8 @@ module _ (p : Program) where
   -- two frames, what the one writes and what the other reads or writes
   frames-race : (n : ℕ) (o : Known) (c : Config) → IsOwned p (suc n) o c → (q r : Path) (f g : Frame)
       (below others : List Frame) (t : Thing) → q ≢ r → task_at q c.tasks ≡ Some (runs (f ∷ below))
-      → task_at r c.tasks ≡ Some (runs (g ∷ others)) → (IsBlocked c.common.held (next (runs (g ∷ others))) → ⊥)
+      → task_at r c.tasks ≡ Some (runs (g ∷ others))
+      → (IsBlocked c.common.held (next (runs (g ∷ others))) → ⊥)
       → Writes c.common.store (next (runs (f ∷ below))) t
       → Reads c.common.store (next (runs (g ∷ others))) t ⊎ Writes c.common.store (next (runs (g ∷ others))) t → ⊥
   frames-race n o c s q r f g below others thing d i j unshut writes meets =
@@ -322,7 +328,8 @@ module _ (p : Program) where
   never-races n o c s a =
       go a.task a.other a.enabled.there a.other_enabled.there a.other_enabled.free a.writes a.meets
     where
-      go : (task other : Task) → task_at a.path c.tasks ≡ Some task → task_at a.other_path c.tasks ≡ Some other
+      go : (task other : Task) → task_at a.path c.tasks ≡ Some task
+          → task_at a.other_path c.tasks ≡ Some other
           → (IsBlocked c.common.held (next other) → ⊥)
           → Writes c.common.store (next task) a.thing
           → Reads c.common.store (next other) a.thing ⊎ Writes c.common.store (next other) a.thing → ⊥

@@ -147,7 +147,8 @@ module _ (p : Program) (n : ℕ) (owed : Known) (f : Frame) (below : List Frame)
       let v = running.0 in
       let k = running.1 in
       let safe = subst (λ z. Safe p (suc n) (known f v) z k.left) i k.first in
-      let taken = resources-take p s.held r ev.task 0 p.resources e (omega arith) (let l : r.0 < length p.resources = safe.there in omega (arith, l)) d.0 free in
+      let taken = resources-take p s.held r ev.task 0 p.resources e (omega arith)
+      (let l : r.0 < length p.resources = safe.there in omega (arith, l)) d.0 free in
       let all = opened (k.left ∷ k.right ∷ []) (q ∷ e ∷ []) sums (two k.parts) in
       let all2 = order (2 ∷ 2 ∷ 2 ∷ 0 ∷ []) (taken.share ∷ taken.rest ∷ k.left ∷ k.right ∷ q ∷ []) (everything p s)
       (opened (taken.share ∷ taken.rest ∷ []) (k.left ∷ k.right ∷ q ∷ [])

@@ -1,4 +1,4 @@
--- A start is owned: the entry's frame has its own variables and the cells of its precondition, the resources have theirs.
+-- A start is owned: the entry's frame has its own variables and cells, and the resources have theirs.
 -- Names: `start-WHAT`.
 use Rattle.std.specs.Prelude.{◌≡◌, ◌≢◌, ℕ, suc, Bool, true, false, cond, List, [], ◌∷◌, Option, Some, None, ◌==◌, ◌<◌, ◌≤◌, ◌+◌, ◌-◌, ◌&&◌, leb, length, ltb}
 use Rattle.std.specs.List.{slice_get}
@@ -59,7 +59,8 @@ module _ (p : Program) (formed : IsFormed p) (conditions : Conditions p) (f : Pr
   start-not_free : (r : ResId) (i : ℕ) → Free p f (Shared r i) → ⊥
   start-not_free r i = unheld-is_not_free p f r i formed conditions (s.holds_none r)
 
-  start-apart : (x y : Var) → IsVariableOf p f g x → IsVariableOf p f g y → entry_slot x ≡ entry_slot y → x ≡ y
+  start-apart : (x y : Var) → IsVariableOf p f g x → IsVariableOf p f g y → entry_slot x ≡ entry_slot y
+      → x ≡ y
   start-apart (OwnVar i) (OwnVar j) a b e = cc
   start-apart (OwnVar i) (Shared q j) a b e = absurd (start-not_free q j b)
   start-apart (Shared r i) y a b e = absurd (start-not_free r i a)
@@ -138,7 +139,8 @@ module _ (p : Program) (formed : IsFormed p) (conditions : Conditions p) (f : Pr
   }
 
   module _ {X : Type 0} where
-    part-apart : (a b : Bool) (x : Option X) → (a ≡ true → b ≡ true → ⊥) → Apart (cond a x None) (cond b x None)
+    part-apart : (a b : Bool) (x : Option X) → (a ≡ true → b ≡ true → ⊥)
+        → Apart (cond a x None) (cond b x None)
     part-apart true true None n = tt
     part-apart true true (Some x) n = absurd (n refl refl)
     part-apart true false None n = tt
@@ -195,7 +197,8 @@ module _ (p : Program) (formed : IsFormed p) (conditions : Conditions p) (f : Pr
       apart (shared r i) =
           let w = ways r.0 m in part-apart (r.0 == m) (leb (suc m) r.0) (store (shared r i)) w.0
 
-      is : (y : Slot) → only (from m) store y ≡ option_or (only (of_one m) store y) (only (from (suc m)) store y)
+      is : (y : Slot)
+          → only (from m) store y ≡ option_or (only (of_one m) store y) (only (from (suc m)) store y)
       is (own e i) = refl
       is (shared r i) =
           let w = ways r.0 m in
@@ -228,7 +231,8 @@ module _ (p : Program) (formed : IsFormed p) (conditions : Conditions p) (f : Pr
 
   -- the share of one resource
   one-is : (m : ℕ) (q : Resource) (h : Heap) → slice_get p.resources m ≡ Some q
-      → Sat q.invariant.level (evaluate entry_slot store) (λ n. nil) h → FreeShare p (record { 0 = m }) (one_share m h)
+      → Sat q.invariant.level (evaluate entry_slot store) (λ n. nil) h
+      → FreeShare p (record { 0 = m }) (one_share m h)
   one-is m q h there sat = record {
     resource = q;
     there = there;

@@ -1,4 +1,4 @@
--- The tree of tasks: shares that are safe for more events are so for fewer, and one task of the tree with its share.
+-- The tree of tasks: what is safe for more events is so for fewer, and one task with its share.
 -- Names: `fewer-WHAT` goes to one event less; `focus`.
 use Rattle.std.specs.Prelude.{◌≡◌, ℕ, zero, suc, List, [], ◌∷◌, ◌++◌, Some}
 use Rattle.std.proofs.Common.{sym, subst}

@@ -1,5 +1,5 @@
--- A procedure whose contract mentions no variable of a resource uses none of it outside its regions: else a variable
--- would be where its resource isn't held, which the conditions on variables forbid.
+-- A procedure whose contract mentions no variable of a resource uses none outside its regions: else one would
+-- be where its resource isn't held, which the conditions on variables forbid.
 -- Names: `PART-occurs` of a variable in a PART of the body, `PART-calls` of a call there.
 use Rattle.std.specs.Prelude.{◌≡◌, ◌≢◌, ℕ, List, [], ◌∷◌, Contains, Some, ◌⊎◌, slice_get}
 use Rattle.std.proofs.Common.{sym, ap, refl, subst, inl, inr}
@@ -57,7 +57,8 @@ module _ (p : Program) (f : ProcId) (r : ResId) (i : ℕ) where
   expr-occurs Nil o = absurd o
   expr-occurs (Int n) o = absurd o
 
-  test-occurs : (t : Test Expr) → OccursInTest x t → (place : Place) × core.OccursInTest t (Variable (at_ place))
+  test-occurs : (t : Test Expr) → OccursInTest x t
+      → (place : Place) × core.OccursInTest t (Variable (at_ place))
   test-occurs True o = absurd o
   test-occurs (Equal a b) (inl o) = let m = expr-occurs a o in (m.0, inl m.1)
   test-occurs (Equal a b) (inr o) = let m = expr-occurs b o in (m.0, inr m.1)
@@ -70,7 +71,8 @@ module _ (p : Program) (f : ProcId) (r : ResId) (i : ℕ) where
   references-occurs (y ∷ ys) (inr o) =
       let m = references-occurs ys o in (m.0, (contains-cons y ys (at_ m.0)).1 (inr m.1))
 
-  values-occurs : (es : List Expr) → OccursInValues x es → (place : Place) × Contains es (Variable (at_ place))
+  values-occurs : (es : List Expr) → OccursInValues x es
+      → (place : Place) × Contains es (Variable (at_ place))
   values-occurs [] o = absurd o
   values-occurs (e ∷ es) (inl o) =
       let m = expr-occurs e o in (m.0, (contains-cons e es (Variable (at_ m.0))).1 (inl (sym m.1)))
@@ -140,7 +142,8 @@ module _ (p : Program) (f : ProcId) (r : ResId) (i : ℕ) where
         let m = block-occurs (s ∷ entered) (still entered s unheld d) c o in (m.0, inr m.1)
 
   mutual
-    block-calls : (entered : List ResId) → (IsHeld (around entered) r → ⊥) → (g : ProcId) → Free p g x → (b : Block)
+    block-calls : (entered : List ResId) → (IsHeld (around entered) r → ⊥) → (g : ProcId) → Free p g x
+        → (b : Block)
         → CallsIn (Some r) g b → BrokenIn entered b
     block-calls entered unheld g free done o = absurd o
     block-calls entered unheld g free (then c b) (inl o) =

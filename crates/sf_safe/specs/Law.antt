@@ -20,8 +20,8 @@ abbrev pub BodiesAreSafe : Program → Type 0
 BodiesAreSafe p = (k : Known) (g : Procedure) → procedure_at p k.fixed.procedure ≡ Some g → (n : ℕ) (w : Own)
     → Entered p k w → Safe p n k (items g.body) w
 
--- every procedure, from every store and heap that it may start from, and by every list of events, is only ever in
--- good configurations
+-- every procedure, from every store and heap that it may start from, and by every list of events, is only
+-- ever in good configurations
 abbrev pub IsSound : Program → Type 0
 IsSound p = (f : ProcId) (store : Store) (heap : Heap) (start reached : Config) (events : List Event)
     → Start p f store heap start → Reach p start events reached → Good p reached

@@ -1,5 +1,5 @@
 -- Own: what a frame owns, which is cells, slots and the tokens of resources, and how it splits in two.
--- O'Hearn (2007) for ownership of cells; Bornat, Calcagno, Yang (2006) for variables that are owned like cells.
+-- O'Hearn (2007) for ownership of cells; Bornat, Calcagno, Yang (2006) for variables owned like cells.
 use Rattle.std.specs.Prelude.{◌≡◌, ℕ, Option, Some, None, List, [], ◌∷◌, cond, ◌==◌, length, ltb, ◌-◌}
 use Rattle.sf_base.specs.declared.ids.ResId.{ResId}
 use Rattle.sf_base.specs.declared.ids.Var.{Var}

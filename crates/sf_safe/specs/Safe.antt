@@ -1,6 +1,5 @@
 -- Safe: what a frame needs of what it owns so that its next events, as many as are asked for, go well.
--- By the number of events, as Vafeiadis, "Concurrent Separation Logic and Operational Semantics" (2011); the rules
--- are those of O'Hearn (2007) and Brookes (2007).
+-- After Vafeiadis, "Concurrent Separation Logic and Operational Semantics" (2011); rules: O'Hearn, Brookes (2007).
 use Rattle.std.specs.Prelude.{◌≡◌, ◌≢◌, ℕ, zero, suc, List, [], ◌∷◌, ◌++◌, Some, None, length, ◌<◌}
 use Rattle.sf_base.specs.declared.ids.ResId.{ResId}
 use Rattle.sf_base.specs.declared.value.Value.TheVariants.{Loc as loc}
@@ -40,9 +39,10 @@ pub record Branches (k : Known) (w : Own) (test : Test Expr) (This That : Type 0
   pub this : IsTrueOf (see k w) test → This
   pub that : (IsTrueOf (see k w) test → ⊥) → That
 
--- a call: a part is given that makes the callee begin, the rest is kept, and with whatever the callee gives back
--- beside it the frame goes on. The rule of procedure calls with the frame rule
-pub record Calls (p : Program) (k : Known) (w : Own) (c : Call) (g : Procedure) (Next : Own → Type 0) : Type 0 where
+-- a call: a part is given that makes the callee begin, the rest is kept, and with whatever the callee gives
+-- back beside it the frame goes on. The rule of procedure calls with the frame rule
+pub record Calls (p : Program) (k : Known) (w : Own) (c : Call) (g : Procedure) (Next : Own → Type 0)
+    : Type 0 where
   pub given : Own
   pub kept : Own
   pub parts : Parts w given kept
@@ -50,8 +50,8 @@ pub record Calls (p : Program) (k : Known) (w : Own) (c : Call) (g : Procedure) 
   pub goes_on : (event : ℕ) (back after : Own) → Returned p (callee k w c g (room_for g event 0)) back
       → Parts after back kept → Next after
 
--- two calls: two disjoint parts are given, one for each, and with whatever the two callees give back, disjoint,
--- beside the rest the frame goes on. The rule of parallel composition with the frame rule
+-- two calls: two disjoint parts are given, one for each, and with whatever the two callees give back,
+-- disjoint, beside the rest the frame goes on. The rule of parallel composition with the frame rule
 pub record Forks (p : Program) (k : Known) (w : Own) (c d : Call) (g h : Procedure) (Next : Own → Type 0)
     : Type 0 where
   pub given : Own
@@ -84,8 +84,8 @@ pub record LeavesRegion (p : Program) (w : Own) (r : ResId) (Next : Own → Type
   pub free : FreeShare p r share
   pub goes_on : Next kept
 
--- Safe: for that many events the frame, which has these items still to do and owns w, finds what it needs in w,
--- whatever other tasks do to what it doesn't own
+-- Safe: for that many events the frame, which has these items still to do and owns w, finds what it needs in
+-- w, whatever other tasks do to what it doesn't own
 abbrev pub Safe : Program → (events : ℕ) → Known → List Item → Own → Type 0
 Safe p zero k todo w = Unit {0}
 -- at its end it owns just what its postcondition says

@@ -1,5 +1,5 @@
--- Invariant: how a configuration is owned: by a tree of tasks, each a stack of frames with their shares, and by the
--- free resources. After Vafeiadis (2011), with procedures and nested parallel calls.
+-- Invariant: how a configuration is owned: by a tree of tasks, each a stack of frames, and by free resources.
+-- After Vafeiadis (2011), with procedures and nested parallel calls.
 use Rattle.std.specs.Prelude.{◌≡◌, ◌≢◌, ℕ, suc, List, [], ◌∷◌, Option, Some, None, true}
 use Rattle.sf_base.specs.declared.ids.ResId.{ResId}
 use Rattle.sf_base.specs.declared.value.Value.{Value}
@@ -30,8 +30,8 @@ Callers p n callee [] owed w = (callee ≡ owed) × (w ≡ nothing)
 Callers p n callee (f ∷ below) owed w = (values : ℕ → Value)
     × (AwaitsReturn p n callee (known f values) f.todo ⋆ Callers p n (known f values) below owed) w
 
--- the shares of a task that runs: its innermost frame is safe, and its callers wait; a task that has ended has
--- the share that it gives back
+-- the shares of a task that runs: its innermost frame is safe, and its callers wait; a task that has ended
+-- has the share that it gives back
 abbrev pub Running : Program → ℕ → (owed : Known) → List Frame → Own → Type 0
 Running p n owed [] w = Returned p owed w
 Running p n owed (f ∷ below) w = (values : ℕ → Value)
@@ -71,8 +71,8 @@ HasFrame (runs []) = ⊥
 HasFrame (runs (f ∷ below)) = Unit {0}
 HasFrame (waits frames one two) = Unit {0}
 
--- IsOwned: the shares of the tasks, which are safe for that many events, and those of the resources are disjoint
--- and together all that there is; `entry` is the frame of the procedure that began
+-- IsOwned: the shares of the tasks, which are safe for that many events, and those of the resources are
+-- disjoint and together all that there is; `entry` is the frame of the procedure that began
 pub record IsOwned (p : Program) (n : ℕ) (entry : Known) (c : Config) : Type 0 where
   pub tasks : Own
   pub free : Own
