@@ -6,3 +6,4 @@ pub mod Trees
 pub mod Finite
 pub mod Laws
 pub mod Examples
+pub mod Scopes

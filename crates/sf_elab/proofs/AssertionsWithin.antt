@@ -1,5 +1,5 @@
 -- What an assertion without faults elaborates to mentions only what may be named there.
-use Rattle.std.proofs.Common.{◌≡◌, ◌≤◌, ℕ, not, List, [], ◌∷◌, ◌++◌, Option, Some, None, refl, sym, subst, arith}
+use Rattle.std.proofs.Common.{◌≡◌, ◌≤◌, ℕ, not, List, [], ◌∷◌, ◌++◌, length, Option, Some, None, refl, sym, subst, arith}
 use Rattle.sf_base.proofs.Options.{unwrap-some}
 use Rattle.sf_ast.specs.declared.word.SurfaceOperand.{SurfaceOperand}
 use Rattle.sf_ast.specs.Depth as d
@@ -10,7 +10,7 @@ use Rattle.sf_base.specs.declared.limits.TheConstants.{NESTING}
 use Rattle.sf_base.specs.declared.place.Place.{Place}
 use Rattle.sf_core.specs.declared.assertion.Scope.{Scope}
 use Rattle.sf_core.specs.declared.command.Expr.{Expr}
-use Rattle.sf_core.specs.Program.Formed.{ConjunctsWithin, AssertionWithin, OperandWithin}
+use Rattle.sf_core.specs.Program.Formed.{level_scopes, ConjunctsWithin, AssertionWithin, OperandWithin}
 use Rattle.sf_core.specs.Program.Named.{IsFirstNamed}
 use Rattle.sf_core.specs.Program.Syntax as c
 use Rattle.sf_core.specs.Program.View.{conjuncts}
@@ -18,7 +18,7 @@ use Rattle.sf_elab.specs.declared.fault.Fault.TheVariants.{Missing}
 use Rattle.sf_elab.specs.declared.fault.Link.{Link}
 use Rattle.sf_elab.specs.declared.fault.Link.TheVariants.{Next, Left, Right}
 use Rattle.sf_elab.specs.declared.levels.Levels.{Levels}
-use Rattle.sf_elab.specs.Assertions.{operand_of, operand_faults, values_faults, link_of, has_link, segment_faults, tree_faults, conjunct_of, conjuncts_of, conjunct_faults, assertion_faults, annotation_of, annotation_faults, maybe_of, maybe_faults}
+use Rattle.sf_elab.specs.Assertions.{operand_of, operand_faults, values_faults, link_of, has_link, segment_faults, tree_faults, conjunct_of, conjuncts_of, level_of, conjunct_faults, assertion_faults, annotation_of, annotation_faults, maybe_of, maybe_faults}
 use Rattle.sf_elab.specs.Existentials.{words_in_operand, words_in_fields, words_in_conjunct, words_in, no_levels, opened, made_by, after_conjunct, after_level}
 use Rattle.sf_elab.specs.Faults.{where_, link_name}
 use Rattle.sf_elab.specs.InEnv.{Env, test_faults}
@@ -27,7 +27,7 @@ use Rattle.sf_elab.proofs.Depths.{level_no_deeper}
 use Rattle.sf_elab.proofs.ExistentialsMade.{AreMade, AreReached, reached_both, level_reached, level_made, reach_stays}
 use Rattle.sf_elab.proofs.NamedFields.{first_named}
 use Rattle.sf_elab.proofs.NoFaults.{none_both, none_three, there}
-use Rattle.sf_elab.proofs.ScopesNumbered.{level_numbered}
+use Rattle.sf_elab.proofs.ScopesNumbered.{level_numbered, numbered_below, numbered_disjoint}
 use Rattle.sf_elab.proofs.TableLaws.{finds_none}
 use Rattle.sf_elab.proofs.VariablesWithin.{Sees, operand_within, operand_test_within, values_within}
 
@@ -109,20 +109,29 @@ mutual
       joined_within fields V made (conjunct_of i l x) (conjuncts_of i (after_conjunct i.bytes l x) a) (conjunct_within see made l m x words.0 both.0)
       (conjuncts_within see made (after_conjunct i.bytes l x) (subst (AreMade made) stays m) a (subst (λ (t : Table ℕ). AreReached i.bytes t (words_in a)) stays words.1) both.1)
 
+-- the scope of an assertion that makes nothing
+abbrev no_scope : List Scope
+no_scope = record { first = 0; count = 0 } ∷ []
+
 -- a whole assertion is in order
 pub annotation_within : {fields : List (List ℕ)} {V : Var → Type 0} {i : Env} → Sees fields V i → (n : s.Note) → annotation_faults i n ≡ [] → d.annotation_depth n ≤ NESTING → AssertionWithin fields V (annotation_of i n)
 annotation_within see s.blank h k = record {
-  annotation = record { within = tt; numbered = (refl, tt); depth = omega arith };
+  annotation = record { within = tt; disjoint = numbered_disjoint 0 no_scope (refl, tt); depth = omega arith };
+  named = numbered_below 0 0 no_scope ((refl, tt), refl);
   names = refl;
 }
 annotation_within {fields} {V} {i} see (s.filled a) h k = record {
   annotation = record {
     within = conjuncts_within see (made_by i.bytes no_levels a ∷ []) (opened i.bytes no_levels a) (level_made i.bytes no_levels a [] (finds_none _)) a (level_reached i.bytes no_levels a) h;
-    numbered = (level_numbered i a).0;
+    disjoint = numbered_disjoint 0 scopes (level_numbered i a).0;
     depth = omega (arith, level_no_deeper i no_levels a);
   };
+  named = numbered_below 0 (length (Levels.names (after_level i.bytes no_levels a))) scopes (level_numbered i a);
   names = omega (arith, (level_numbered i a).1);
 }
+  where
+    scopes : List Scope
+    scopes = level_scopes (level_of i no_levels a) []
 
 -- and so is one that may be left out
 pub maybe_within : {fields : List (List ℕ)} {V : Var → Type 0} {i : Env} → Sees fields V i → (n : Option s.Note) → maybe_faults i n ≡ [] → d.maybe_depth n ≤ NESTING → AssertionWithin fields V (maybe_of i n)

@@ -1,13 +1,18 @@
--- The scopes of what an assertion elaborates to number its existentials without gaps, in text order.
+-- The scopes of what an assertion elaborates to number its existentials without gaps, in text order. So no
+-- existential is made by two of them.
+use Rattle.std.specs.Prelude.{min, max, nat_lt}
 use Rattle.std.proofs.Common.{◌≡◌, ◌≤◌, ◌+◌, ℕ, Bool, true, false, cond, List, [], ◌∷◌, ◌++◌, length, refl, sym, ap, subst, arith}
+use Rattle.std.proofs.lemmas.Bool.Decides.{nat_tests}
+use Rattle.std.proofs.lemmas.List.Elements.{All-nil, All-cons}
 use Rattle.std.proofs.lemmas.List.{length-append}
 use Rattle.std.proofs.lemmas.List.Sums.{sum_by-cons}
-use Rattle.std.specs.List.{sum_by}
+use Rattle.std.specs.List.{All, AllByRecursion, IsDistinct, sum_by}
 use Rattle.sf_ast.specs.declared.word.Word.{Word}
 use Rattle.sf_ast.specs.Surface as s
 use Rattle.sf_core.specs.declared.assertion.Scope.{Scope}
 use Rattle.sf_core.specs.declared.command.Expr.{Expr}
-use Rattle.sf_core.specs.Program.Formed.{level_scopes, conjuncts_scopes, conjunct_scopes, AreNumbered}
+use Rattle.sf_core.specs.Assertions.Scopes.{overlap}
+use Rattle.sf_core.specs.Program.Formed.{level_scopes, conjuncts_scopes, conjunct_scopes}
 use Rattle.sf_core.specs.Program.Syntax as c
 use Rattle.sf_core.specs.Program.View.{conjuncts}
 use Rattle.sf_elab.specs.declared.levels.Levels.{Levels}
@@ -17,7 +22,12 @@ use Rattle.sf_elab.specs.InEnv.{Env}
 use Rattle.sf_elab.specs.Table.{has}
 use Rattle.sf_elab.specs.Texts.{text}
 
--- the scopes number existentials from there on, up to that number
+-- the scopes number existentials from there on, without gaps or overlaps
+abbrev AreNumbered : ℕ → List Scope → Type 0
+AreNumbered from [] = Unit {0}
+AreNumbered from (s ∷ ss) = (s.first ≡ from) × AreNumbered (from + s.count) ss
+
+-- and up to that number
 abbrev pub Counts : ℕ → List Scope → ℕ → Type 0
 Counts from scopes to = AreNumbered from scopes × (from + sum_by (λ (s : Scope). s.count) scopes ≡ to)
 
@@ -73,3 +83,33 @@ pub level_numbered : (i : Env) (a : s.Assertion) → Counts 0 (level_scopes (lev
 level_numbered i a =
     let to : ℕ = length (Levels.names (after_level i.bytes no_levels a)) in
     level_counts i.bytes no_levels a _ to (counts_all i (opened i.bytes no_levels a) a [] to (tt, omega arith))
+
+-- a scope that ends where another begins, or before it, does not overlap it
+no_overlap : (a b c d : ℕ) → a + b ≤ c → nat_lt (max a c) (min (a + b) (c + d)) ≡ false
+no_overlap a b c d h = grind (arith, nat_tests)
+
+apart_from : (s : Scope) (from : ℕ) (ss : List Scope) → s.first + s.count ≤ from → AreNumbered from ss
+    → AllByRecursion (λ t. overlap s t ≡ false) ss
+apart_from s from [] h n = tt
+apart_from s from (t ∷ ts) h n = (
+  no_overlap s.first s.count t.first t.count (omega arith),
+  apart_from s (from + t.count) ts (omega arith) n.1,
+)
+
+-- numbered scopes make no existential twice
+pub numbered_disjoint : (from : ℕ) (ss : List Scope) → AreNumbered from ss → IsDistinct overlap ss
+unfolding IsDistinct
+numbered_disjoint from [] n = tt
+numbered_disjoint from (s ∷ ss) n = (
+  apart_from s (from + s.count) ss (omega arith) n.1,
+  numbered_disjoint (from + s.count) ss n.1,
+)
+
+-- and none beyond their counts
+pub numbered_below : (from to : ℕ) (ss : List Scope) → Counts from ss to
+    → All (λ (s : Scope). s.first + s.count ≤ to) ss
+numbered_below from to [] n = All-nil (λ (s : Scope). s.first + s.count ≤ to)
+numbered_below from to (s ∷ ss) n =
+    let total = sum_by-cons (λ (s : Scope). s.count) s ss in
+    All-cons (λ (s : Scope). s.first + s.count ≤ to) s ss (omega (arith, total, n.1, n.0.0))
+    (numbered_below (from + s.count) to ss (n.0.1, omega (arith, total, n.1)))

@@ -1,10 +1,12 @@
 -- The laws of the crate, under the names of their functions in src/laws.rt.
 use Rattle.sf_precise.proofs.OrdersExist.{determined-order, determined-or_place, notes-or_place}
-use Rattle.sf_precise.specs.Laws.{DeterminedHasOrder, NeverTakenIsUndetermined, OrderIsUnique, OrderKeepsMeaning, OrderedIsDetermined, OrdersFromTruncation, InOrderIsDetermined, TakenFixExistentials, UndeterminedHasPlace, UndeterminedAnnotationsHavePlace}
+use Rattle.sf_precise.specs.Laws.{DeterminedHasOrder, NeverTakenIsUndetermined, OrderIsUnique, OrderKeepsForm, OrderKeepsMeaning, OrderedIsDetermined, OrdersFromTruncation, InOrderIsDetermined, TakenFixExistentials, UndeterminedHasPlace, UndeterminedAnnotationsHavePlace}
 use Rattle.sf_precise.proofs.Branches.{never-undetermined, ordered-determined, ordered-stands}
 use Rattle.std.specs.Prelude.{false}
+use Rattle.sf_precise.proofs.OrderForms.{assertion-within}
 use Rattle.sf_precise.proofs.OrderMeaning.{level-one, level-sat, sat-level, stands-determined}
 use Rattle.sf_core.specs.Assertions.Sat.{value}
+use Rattle.sf_core.specs.Program.Formed.{IsInBody, IsOfResource, IsParameter}
 use Rattle.sf_precise.proofs.OrdersHad.{orders-had}
 use Rattle.sf_precise.proofs.TakenFixes.{takes-agree}
 
@@ -24,6 +26,14 @@ order_keeps_meaning =
       λ d. sat-level (value vars)
           (λ n. false) a o some heap i d,
     )
+
+pub order_keeps_form : OrderKeepsForm
+order_keeps_form = record {
+  contract = λ p f a o i w. assertion-within p.fields (IsParameter p f) (λ n. false) a o i.names i.level w;
+  loop = λ p f a o i w. assertion-within p.fields (IsInBody p f) (λ n. false) a o i.names i.level w;
+  resource = λ p number count a o i w. assertion-within p.fields (IsOfResource number count) (λ n. false) a o
+      i.names i.level w;
+}
 
 pub ordered_is_determined : OrderedIsDetermined
 ordered_is_determined = λ a o i. (ordered-determined a o i, ordered-stands a o i)

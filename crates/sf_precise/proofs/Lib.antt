@@ -9,6 +9,7 @@ pub mod Adding
 pub mod Sequences
 pub mod Branches
 pub mod OrderMeaning
+pub mod OrderForms
 pub mod TakenDecided
 pub mod OrdersHad
 pub mod OrdersExist

@@ -1,6 +1,6 @@
--- Laws of orders: an assertion has one order at most, has one where it is determined, and means the same
--- in order; where it is not, a conjunct is never
--- taken; what was taken fixes existentials; and what a type keeps truncated follows from its truncation.
+-- Laws of orders: an assertion has one order at most, has one where it is determined, and in order means the
+-- same and is as well-formed; where it is not, a conjunct is never taken; what was taken fixes existentials; and
+-- what a type keeps truncated follows from its truncation.
 -- This project's own notions; that an order keeps the meaning is commutativity and associativity of the
 -- separating conjunction, as in Reynolds, "Separation Logic" (2002).
 use Rattle.std.specs.Prelude.{◌≡◌, ◌↔◌, ◌⊎◌, ℕ, Bool, true, List, Some}
@@ -13,9 +13,10 @@ use Rattle.sf_core.specs.Assertions.Determined.{Determined}
 use Rattle.sf_base.specs.HeapStore.{Heap, Splits}
 use Rattle.sf_core.specs.Assertions.InOrder.{IsInOrder}
 use Rattle.sf_core.specs.Assertions.Sat.{Sat, SatAll, value}
-use Rattle.sf_core.specs.Program.Syntax.{Assertion, Conjuncts, Level}
+use Rattle.sf_core.specs.Program.Formed.{AssertionWithin, IsInBody, IsOfResource, IsParameter}
+use Rattle.sf_core.specs.Program.Syntax.{Assertion, Conjuncts, Level, Procedure, Program}
 use Rattle.sf_precise.specs.Annotations.{AreOrdersOf, IsFirstPlace, NeverTakenIn}
-use Rattle.sf_precise.specs.Order.{IsOrderOfLevel}
+use Rattle.sf_precise.specs.Order.{IsOrderOf, IsOrderOfLevel}
 use Rattle.sf_precise.specs.Taken.{NeverTakenAt, Takes, known_by}
 
 -- a level has one order at most
@@ -64,6 +65,19 @@ abbrev pub OrderKeepsMeaning : Type 0
 OrderKeepsMeaning =
     (a o : Level Expr) (vars : Var → Value) (some : ℕ → Value) (heap : Heap) → IsOrderOfLevel a o
     → Sat a (value vars) some heap ↔ Sat o (value vars) some heap
+
+-- a well-formed assertion in order is well-formed
+pub record OrderKeepsForm : Type 0 where
+  -- as a pre or post
+  pub contract : (p : Program) (f : Procedure) (a o : Assertion) → IsOrderOf a o
+      → AssertionWithin p.fields (IsParameter p f) a → AssertionWithin p.fields (IsParameter p f) o
+  -- as a loop's invariant
+  pub loop : (p : Program) (f : Procedure) (a o : Assertion) → IsOrderOf a o
+      → AssertionWithin p.fields (IsInBody p f) a → AssertionWithin p.fields (IsInBody p f) o
+  -- as the invariant of the resource of that number, with so many variables
+  pub resource : (p : Program) (number count : ℕ) (a o : Assertion) → IsOrderOf a o
+      → AssertionWithin p.fields (IsOfResource number count) a
+      → AssertionWithin p.fields (IsOfResource number count) o
 
 -- that assertions are others in order follows from its truncation
 abbrev pub OrdersFromTruncation : Type 0

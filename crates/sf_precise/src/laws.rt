@@ -1,6 +1,6 @@
 //! Laws of orders. Each function does nothing; its contract is the law.
 
-ghost use Rattle.sf_precise.specs.Laws.{DeterminedHasOrder, UndeterminedHasPlace, UndeterminedAnnotationsHavePlace, TakenFixExistentials, NeverTakenIsUndetermined, OrderIsUnique, OrderKeepsMeaning, OrderedIsDetermined, OrdersFromTruncation, InOrderIsDetermined};
+ghost use Rattle.sf_precise.specs.Laws.{DeterminedHasOrder, UndeterminedHasPlace, UndeterminedAnnotationsHavePlace, TakenFixExistentials, NeverTakenIsUndetermined, OrderIsUnique, OrderKeepsForm, OrderKeepsMeaning, OrderedIsDetermined, OrdersFromTruncation, InOrderIsDetermined};
 
 /// An assertion has one order at most.
 #[tactic(auto, using(crate::proofs::Closing::order_is_unique))]
@@ -55,6 +55,12 @@ pub fn taken_fix_existentials()
 #[tactic(auto, using(crate::proofs::Closing::order_keeps_meaning))]
 pub fn order_keeps_meaning()
     ensures { OrderKeepsMeaning }
+{}
+
+/// A well-formed assertion in order is well-formed: its scopes still make no existential twice.
+#[tactic(auto, using(crate::proofs::Closing::order_keeps_form))]
+pub fn order_keeps_form()
+    ensures { OrderKeepsForm }
 {}
 
 /// That assertions are others in order follows from its truncation.

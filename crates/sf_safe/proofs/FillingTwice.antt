@@ -27,8 +27,10 @@ use Rattle.sf_calls.proofs.Closing.{first_breach_is_broken}
 use Rattle.sf_core.specs.Assertions.Occurs.{VarOccursIn}
 use Rattle.sf_core.specs.Assertions.Sat.{Sat}
 use Rattle.sf_core.specs.declared.command.Expr.TheVariants.{Var as Variable, Int}
+use Rattle.sf_core.specs.declared.assertion.Scope.{Scope}
 use Rattle.sf_core.specs.declared.assertion.Test.TheVariants.{True}
 use Rattle.sf_core.specs.declared.command.Occurrence.{Occurrence}
+use Rattle.sf_core.proofs.Assertions.Scopes.{below-single, disjoint-single}
 use Rattle.sf_core.specs.Machine.Config.{command, evaluate, in_room, items, leave}
 use Rattle.sf_core.specs.Machine.Examples.{at_shared, calls, emp, guarding, hd, here, lock, shared_one}
 use Rattle.sf_core.specs.Machine.HeldBy.{HeldBy}
@@ -52,9 +54,18 @@ which (suc (suc k)) g e = absurd (cc)
 
 -- FORMED
 
+-- the scope of an assertion without existentials
+abbrev no_scope : Scope
+no_scope = record { first = 0; count = 0 }
+
 formed-emp : (g : Procedure) → AssertionWithin filling_twice.fields (IsParameter filling_twice g) emp
 formed-emp g = record {
-  annotation = record { within = tt; numbered = (refl, tt); depth = let e : 1 ≤ 64 = omega arith in e };
+  annotation = record {
+    within = tt;
+    disjoint = disjoint-single no_scope;
+    depth = let e : 1 ≤ 64 = omega arith in e;
+  };
+  named = below-single no_scope 0 (omega arith);
   names = refl;
 }
 
@@ -104,9 +115,10 @@ formed-resources zero r e =
     (record {
       annotation = record {
         within = (((refl, one), tt), tt);
-        numbered = (refl, tt);
+        disjoint = disjoint-single no_scope;
         depth = let e : 1 ≤ 64 = omega arith in e;
       };
+      named = below-single no_scope 0 (omega arith);
       names = refl;
     })
 formed-resources (suc k) r e = absurd (cc)

@@ -7,8 +7,10 @@ use Rattle.std.proofs.lemmas.Option.{none-some}
 use Rattle.sf_base.specs.declared.ids.FieldId.{FieldId}
 use Rattle.sf_core.specs.declared.assertion.Operand.{Operand}
 use Rattle.sf_core.specs.declared.assertion.Operand.TheVariants.{Known}
+use Rattle.sf_core.specs.declared.assertion.Scope.{Scope}
 use Rattle.sf_core.specs.declared.command.Expr.{Expr}
 use Rattle.sf_core.specs.declared.command.Expr.TheVariants.{Nil}
+use Rattle.sf_core.proofs.Assertions.Scopes.{below-single, disjoint-single}
 use Rattle.sf_core.specs.Program.Formed.{IsParameter, OperandWithin, FieldsWithin, AssertionWithin, ProcedureWithin, IsFormed}
 use Rattle.sf_core.specs.Program.Syntax.{Procedure}
 use Rattle.sf_sym.specs.declared.tag.Tag.TheVariants as t
@@ -31,6 +33,10 @@ proves : Proves clearing clearing_tags
 unfolding proof one
 proves = (proof, [], refl, refl)
 
+-- the scope of an assertion without existentials
+abbrev no_scope : Scope
+no_scope = record { first = 0; count = 0 }
+
 within : (fields : List (FieldId × Operand Expr))
     → FieldsWithin clearing.fields
     (OperandWithin (IsParameter clearing clears) ((record { first = 0; count = 0 }) ∷ [])) fields
@@ -39,7 +45,8 @@ within fields w =
     let first : 0 < 1 = omega arith in
     let nesting : 1 ≤ 64 = omega arith in
     record {
-      annotation = record { within = ((first, w), tt); numbered = (refl, tt); depth = nesting };
+      annotation = record { within = ((first, w), tt); disjoint = disjoint-single no_scope; depth = nesting };
+      named = below-single no_scope 0 (omega arith);
       names = refl;
     }
 

@@ -1,7 +1,7 @@
 -- A program is formed, and has its links, in one way at most, so that its type can keep the facts.
 -- Ordinary: each part is an equation of numbers, an order, or a list of such.
-use Rattle.std.specs.Prelude.{◌≡◌, ◌≢◌, ℕ, ◌+◌, Option, Some, None, List, [], ◌∷◌, slice_get}
-use Rattle.std.specs.List.{All}
+use Rattle.std.specs.Prelude.{◌≡◌, ◌≢◌, ℕ, ◌+◌, ◌≤◌, length, Option, Some, None, List, [], ◌∷◌, slice_get}
+use Rattle.std.specs.List.{All, IsDistinct-prop}
 use Rattle.std.specs.Coded.{×_prop, Π_prop, →_prop, Unit-prop, le_prop, Coded-set, coded_ℕ, coded_bool, coded_list, coded_option}
 use Rattle.sf_base.specs.declared.ids.FieldId.{FieldId}
 use Rattle.sf_core.specs.declared.fields.Links.{Links}
@@ -14,8 +14,9 @@ use Rattle.sf_core.specs.declared.assertion.Test.{Test}
 use Rattle.sf_core.specs.declared.assertion.Test.TheVariants.{True, Equal, Differ}
 use Rattle.sf_core.specs.declared.command.Expr.{Expr}
 use Rattle.sf_core.specs.declared.command.Expr.TheVariants.{Var as Variable, Nil, Int}
+use Rattle.sf_core.specs.Assertions.Scopes.{overlap}
 use Rattle.sf_core.specs.Program.Links.{AreLinks, next_name, left_name, right_name}
-use Rattle.sf_core.specs.Program.Formed.{level_scopes, IsInBody, IsSettable, IsParameter, IsOfResource, ExprWithin, TestWithin, OperandWithin, FieldsWithin, LevelWithin, ConjunctsWithin, ConjunctWithin, AreNumbered, AnnotationWithin, AssertionWithin, HasCounts, CallWithin, CommandWithin, BlockWithin, ProcedureWithin, IsFormed}
+use Rattle.sf_core.specs.Program.Formed.{level_scopes, IsInBody, IsSettable, IsParameter, IsOfResource, ExprWithin, TestWithin, OperandWithin, FieldsWithin, LevelWithin, ConjunctsWithin, ConjunctWithin, AnnotationWithin, AssertionWithin, HasCounts, CallWithin, CommandWithin, BlockWithin, ProcedureWithin, IsFormed}
 use Rattle.sf_core.specs.Program.Named.{IsFirstNamed}
 use Rattle.sf_core.specs.Program.Syntax.{Conjunct, holds, points, segment, tree, choose, Level, level, Conjuncts, none, also, Call, Command, assign, look_up, mutate, new, dispose, if, while, call, fork, with, Block, done, then, Assertion, Procedure, Program}
 
@@ -136,17 +137,12 @@ mutual
     LevelWithin-prop fields V v made that s.2 t.2 i,
   )
 
--- that scopes are numbered one after the other
-AreNumbered-prop : (from : ℕ) (ss : List Scope) → IsProp (AreNumbered from ss)
-AreNumbered-prop from [] = Unit-prop
-AreNumbered-prop from (s ∷ ss) = ×_prop (number-prop _ _) (AreNumbered-prop (from + s.count) ss)
-
 -- that an assertion's levels are in order
 AnnotationWithin-prop : (fields : List (List ℕ)) (V : Var → Type 0) → ((x : Var) → IsProp (V x))
     → (a : Level Expr) → IsProp (AnnotationWithin fields V a)
 AnnotationWithin-prop fields V v a s t = λ i. record {
   within = LevelWithin-prop fields V v [] a s.within t.within i;
-  numbered = AreNumbered-prop 0 (level_scopes a []) s.numbered t.numbered i;
+  disjoint = IsDistinct-prop overlap (level_scopes a []) s.disjoint t.disjoint i;
   depth = le_prop s.depth t.depth i;
 }
 
@@ -155,6 +151,8 @@ AssertionWithin-prop : (fields : List (List ℕ)) (V : Var → Type 0) → ((x :
     → (a : Assertion) → IsProp (AssertionWithin fields V a)
 AssertionWithin-prop fields V v a s t = λ i. record {
   annotation = AnnotationWithin-prop fields V v a.level s.annotation t.annotation i;
+  named = All-prop (λ (s : Scope). s.first + s.count ≤ length a.names) (λ s. le_prop)
+      (level_scopes a.level []) s.named t.named i;
   names = number-prop _ _ s.names t.names i;
 }
 

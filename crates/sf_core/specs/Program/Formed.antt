@@ -1,7 +1,7 @@
 -- What every program keeps by its type: numbers of things that are there, calls that fit, limits that are met.
 -- After the conditions on programs of Berdine, Calcagno, O'Hearn, "Smallfoot" (2005), in this project's own profile.
 use Rattle.std.specs.Prelude.{◌≡◌, ◌≢◌, ℕ, suc, ◌+◌, ◌<◌, ◌≤◌, max, IsTrue, Bool, Option, Some, None, List, [], ◌∷◌, length, slice_get}
-use Rattle.std.specs.List.{All, list_any, sum_by}
+use Rattle.std.specs.List.{All, IsDistinct, list_any, sum_by}
 use Rattle.sf_base.specs.declared.ids.FieldId.{FieldId}
 use Rattle.sf_base.specs.declared.ids.Var.{Var}
 use Rattle.sf_base.specs.declared.ids.Var.TheVariants.{Own, Shared}
@@ -13,7 +13,7 @@ use Rattle.sf_core.specs.declared.assertion.Test.{Test}
 use Rattle.sf_core.specs.declared.assertion.Test.TheVariants.{True, Equal, Differ}
 use Rattle.sf_core.specs.declared.command.Expr.{Expr}
 use Rattle.sf_core.specs.declared.command.Expr.TheVariants.{Var as Variable, Nil, Int}
-use Rattle.sf_core.specs.Assertions.Scopes.{is_made_by}
+use Rattle.sf_core.specs.Assertions.Scopes.{is_made_by, overlap}
 use Rattle.sf_core.specs.Program.Links.{next_name, left_name, right_name}
 use Rattle.sf_core.specs.Program.Named.{IsFirstNamed}
 use Rattle.sf_core.specs.Program.Syntax.{Conjunct, holds, points, segment, tree, choose, Level, level, Conjuncts, none, also, Call, Command, assign, look_up, mutate, new, dispose, if, while, call, fork, with, Block, done, then, Assertion, Procedure, Resource, Program}
@@ -116,11 +116,6 @@ abbrev mutual
   conjunct_scopes (tree q left right x) rest = rest
   conjunct_scopes (choose q t this that) rest = level_scopes this (level_scopes that rest)
 
--- the scopes number existentials from there on, without gaps or overlaps
-abbrev pub AreNumbered : ℕ → List Scope → Type 0
-AreNumbered from [] = Unit {0}
-AreNumbered from (s ∷ ss) = (s.first ≡ from) × AreNumbered (from + s.count) ss
-
 -- how deep levels are nested, the outermost counted
 abbrev mutual
   -- a level is one deeper than its conjuncts
@@ -140,15 +135,17 @@ abbrev mutual
   conjunct_depth (tree q left right x) = 0
   conjunct_depth (choose q t this that) = max (level_depth this) (level_depth that)
 
--- an annotation is well-formed, with only those variables
+-- an annotation is well-formed, with only those variables: no existential is made by two of its scopes
 pub record AnnotationWithin (fields : List (List ℕ)) (V : Var → Type 0) (a : Level Expr) : Type 0 where
   pub within : LevelWithin fields V [] a
-  pub numbered : AreNumbered 0 (level_scopes a [])
+  pub disjoint : IsDistinct overlap (level_scopes a [])
   pub depth : level_depth a ≤ NESTING
 
--- an assertion is well-formed, with only those variables, and has one name for each existential
+-- an assertion is well-formed, with only those variables, and has a name for each existential that its scopes
+-- make, and no more
 pub record AssertionWithin (fields : List (List ℕ)) (V : Var → Type 0) (a : Assertion) : Type 0 where
   pub annotation : AnnotationWithin fields V a.level
+  pub named : All (λ s. s.first + s.count ≤ length a.names) (level_scopes a.level [])
   pub names : length a.names ≡ sum_by (λ s. s.count) (level_scopes a.level [])
 
 -- a procedure that is there, and has as many references and values as the call
