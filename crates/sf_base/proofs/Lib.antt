@@ -1,5 +1,6 @@
 pub mod TaskPaths
 pub mod MapSplits
+pub mod First
 pub mod HeapSplits
 pub mod HeapSums
 pub mod StoreSplits

@@ -1,3 +1,4 @@
+pub mod First
 pub mod HeapStore
 pub mod Internal
 pub mod Results

@@ -9,8 +9,8 @@
 //! - `limits`: how much of each thing a file, a proof, a state and a command line may have.
 //!
 //! `specs/` defines heaps, stores and the separating conjunction (HeapStore), the test of two
-//! variables (Variables), and what clauses say of a call's result (Results). `proofs/` has the algebra
-//! of heaps that split (MapSplits, HeapSplits, HeapSums, StoreSplits) and, by subject, the lemmas that
+//! variables (Variables), what comes first in a text or a list (First), and what clauses say of a
+//! call's result (Results). `proofs/` has the algebra of heaps that split (MapSplits, HeapSplits, HeapSums, StoreSplits) and, by subject, the lemmas that
 //! speak of std's types alone.
 #![tactic(auto)]
 

@@ -26,7 +26,8 @@ use Rattle.sf_lex.specs.Laws.{EachFileReadsOnce}
 use Rattle.sf_parse.specs.Laws.{EachFileIsOne, AnswerIsUnique}
 use Rattle.sf_parse.specs.Parsing.{IsFile, IsFault as IsGrammarFault}
 use Rattle.sf_precise.specs.Laws.{NeverTakenIsUndetermined}
-use Rattle.sf_precise.specs.Annotations.{annotations_in, is_before, IsFirstPlace, NeverTakenIn}
+use Rattle.sf_base.specs.First.{is_before}
+use Rattle.sf_precise.specs.Annotations.{annotations_in, IsFirstPlace, NeverTakenIn}
 use Rattle.sf_search.specs.Judge.{Verdict, proof, fails}
 use Rattle.sf_search.specs.Laws.{VerdictIsUnique}
 use Rattle.sf_vars.specs.declared.fault.VarFault.{VarFault}

@@ -18,4 +18,4 @@ only_found program bytes is (Err e) found refused p h = elim refused [ inl memor
 pub only_refused : {X : Type 0} (program : X → Program) (bytes : List ℕ) (is : List Item) (r : Result X NameFault) → IfOk r (λ x. Elaborates bytes is (program x)) → IfErr r (λ e. (e ≡ OutOfMemory) ⊎ FirstFault bytes is e)
     → (fault : NameFault) → FirstFault bytes is fault → MatchResult r (λ _. ⊥) (λ own. (own ≡ fault) ⊎ (own ≡ OutOfMemory))
 only_refused program bytes is (Ok x) found refused fault h = never_both bytes is (program x) fault found h
-only_refused program bytes is (Err e) found refused fault h = elim refused [ inl memory ↦ inr memory | inr own ↦ inl (same_faults e fault _ own h) ]
+only_refused program bytes is (Err e) found refused fault h = elim refused [ inl memory ↦ inr memory | inr own ↦ inl (same_faults bytes is e fault own h) ]

@@ -14,6 +14,7 @@ pub mod Limits
 pub mod NamedFields
 pub mod NoFaults
 pub mod OwnVariables
+pub mod PrimedValues
 pub mod Scopes
 pub mod ScopesNumbered
 pub mod TableLaws

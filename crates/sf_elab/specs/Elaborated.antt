@@ -1,7 +1,7 @@
 -- Elaborates: the program that a file's tree is, and its first fault where it is none.
 -- The numbering of names is the usual resolution of identifiers; the scopes are this language's own.
-use Rattle.std.specs.Prelude.{◌≡◌, ℕ, ◌+◌, List, [], ◌∷◌, ◌++◌, map, Some, None}
-use Rattle.std.specs.Option.{option_map}
+use Rattle.std.specs.Prelude.{◌≡◌, ℕ, ◌+◌, List, [], ◌∷◌, ◌++◌, map}
+use Rattle.sf_base.specs.First.{IsFirstAmong}
 use Rattle.sf_ast.specs.Surface.{Resource, Item}
 use Rattle.sf_core.specs.Program.Syntax as c
 use Rattle.sf_elab.specs.declared.declared.Declared.{Declared}
@@ -10,7 +10,7 @@ use Rattle.sf_elab.specs.declared.fault.NameFault.{NameFault}
 use Rattle.sf_elab.specs.Assertions.{annotation_faults}
 use Rattle.sf_elab.specs.Commands.{all_faults}
 use Rattle.sf_elab.specs.Declarations.{field_words, field_names, resources_in, procedures_in, declared_by, declared_faults}
-use Rattle.sf_elab.specs.Faults.{first_of, named_fault}
+use Rattle.sf_elab.specs.Faults.{is_earlier, named_fault}
 use Rattle.sf_elab.specs.Procedures.{procedure_of, procedure_faults, invariant_of, resource_of}
 
 -- the resources from that number on
@@ -42,6 +42,9 @@ pub record Elaborates (bytes : List ℕ) (is : List Item) (p : c.Program) : Type
   pub sound : faults bytes is ≡ []
   pub same : p ≡ elaborated bytes is
 
--- FirstFault: this is the first of what is wrong, by its place, and at one place by its kind
-abbrev pub FirstFault : List ℕ → List Item → NameFault → Type 0
-FirstFault bytes is e = option_map (named_fault bytes) (first_of None (faults bytes is)) ≡ Some e
+-- FirstFault: this is the first of what is wrong, by its place, at one place by its kind, and of several of one
+-- kind there the one that the walk comes to first
+pub record FirstFault (bytes : List ℕ) (is : List Item) (e : NameFault) : Type 0 where
+  pub fault : Fault
+  pub first : IsFirstAmong is_earlier (faults bytes is) fault
+  pub named : e ≡ named_fault bytes fault

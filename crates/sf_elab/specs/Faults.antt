@@ -1,7 +1,8 @@
 -- What can be wrong with names, and which fault is the first: by line, by column, and at one place by its kind.
 -- This project's own kinds of faults.
-use Rattle.std.specs.Prelude.{ℕ, Bool, ◌&&◌, ◌||◌, ◌==◌, nat_lt, if◌then◌else◌, List, [], ◌∷◌, Option, Some, None}
+use Rattle.std.specs.Prelude.{ℕ, Bool, ◌&&◌, ◌||◌, ◌==◌, nat_lt, if◌then◌else◌, List, [], ◌∷◌}
 use Rattle.sf_base.specs.declared.place.Place.{Place}
+use Rattle.sf_base.specs.First.{is_before}
 use Rattle.sf_core.specs.Program.Links.{next_name, left_name, right_name}
 use Rattle.sf_elab.specs.declared.fault.Fault.{Fault}
 use Rattle.sf_elab.specs.declared.fault.Fault.TheVariants as f
@@ -37,27 +38,14 @@ kind_of (f.Foreign w) = 24
 kind_of (f.Missing p l) = 25
 kind_of (f.TooMany p) = 26
 
--- whether a place comes before another
-abbrev pub is_before : Place → Place → Bool
-is_before p q = nat_lt p.line q.line || ((p.line == q.line) && nat_lt p.column q.column)
-
 -- whether it is the same place
 abbrev pub is_same_place : Place → Place → Bool
 is_same_place p q = (p.line == q.line) && (p.column == q.column)
 
 -- whether a fault comes before another: it is earlier, or at the same place and is of a lower kind
 abbrev pub is_earlier : Fault → Fault → Bool
-is_earlier a b = is_before (place_of a) (place_of b) || (is_same_place (place_of a) (place_of b) && nat_lt (kind_of a) (kind_of b))
-
--- the earlier of what is found so far and one more
-abbrev pub earlier : Option Fault → Fault → Fault
-earlier None b = b
-earlier (Some a) b = if is_earlier b a then b else a
-
--- the first of what is found so far and those
-abbrev pub first_of : Option Fault → List Fault → Option Fault
-first_of found [] = found
-first_of found (b ∷ bs) = first_of (Some (earlier found b)) bs
+is_earlier a b = is_before (place_of a) (place_of b)
+    || (is_same_place (place_of a) (place_of b) && nat_lt (kind_of a) (kind_of b))
 
 -- the fault with its name, as it is answered
 abbrev pub named_fault : List ℕ → Fault → NameFault

@@ -1,10 +1,13 @@
 -- Laws of elaboration, stated.
 -- What a definition that computes owes its reader: that its answers are what its words say.
-use Rattle.std.specs.Prelude.{◌≡◌, ◌≤◌, ◌⊎◌, ◌||◌, ◌+◌, ℕ, false, List, [], ◌++◌, map, take, length, slice_get, Contains, Some, None}
+use Rattle.std.specs.Prelude.{◌≡◌, ◌↔◌, ◌≤◌, ◌⊎◌, ◌||◌, ◌+◌, ℕ, true, false, List, [], ◌++◌, map, take, length, slice_get, Contains, Some}
 use Rattle.std.specs.List.{flat_map}
+use Rattle.sf_base.specs.First.{IsFirstAmong}
 use Rattle.sf_base.specs.declared.limits.TheConstants.{NESTING}
 use Rattle.sf_ast.specs.Depth.{items_depth}
-use Rattle.sf_ast.specs.Surface.{Assertion, Item}
+use Rattle.sf_ast.specs.Surface as Surface
+use Rattle.sf_ast.specs.Surface.{Assertion, Command, assign, look_up, new, if_alone, if, while, with, call, fork, block, Commands, done, then, Item}
+use Rattle.sf_ast.specs.declared.word.Word.{Word}
 use Rattle.sf_core.specs.Program.Formed.{IsFormed}
 use Rattle.sf_core.specs.Program.Syntax.{Procedure, Resource, Program}
 use Rattle.sf_elab.specs.declared.fault.Fault.{Fault}
@@ -12,22 +15,20 @@ use Rattle.sf_elab.specs.declared.fault.NameFault.{NameFault}
 use Rattle.sf_elab.specs.Elaborated.{elaborated, faults, Elaborates, FirstFault}
 use Rattle.sf_elab.specs.declared.levels.Levels.{Levels}
 use Rattle.sf_elab.specs.Existentials.{words_in, opened, after_level}
-use Rattle.sf_elab.specs.Faults.{first_of, is_earlier}
-use Rattle.sf_elab.specs.Procedures.{is_among}
+use Rattle.sf_elab.specs.Faults.{is_earlier}
+use Rattle.sf_elab.specs.Commands.{references_in}
+use Rattle.sf_elab.specs.Procedures.{is_among, is_primed}
 use Rattle.sf_elab.specs.Table.{find, has}
+use Rattle.sf_elab.specs.Texts.{text}
 
 -- what a file without faults elaborates to is a program in order
 abbrev pub ElaboratedIsFormed : Type 0
 ElaboratedIsFormed = (bytes : List ℕ) (is : List Item) → items_depth is ≤ NESTING → faults bytes is ≡ [] → IsFormed (elaborated bytes is)
 
--- a fault that is one of those, and none of them is earlier
-pub record IsFirstAmong (all : List Fault) (fault : Fault) : Type 0 where
-  pub among : Contains all fault
-  pub first : (other : Fault) → Contains all other → is_earlier other fault ≡ false
-
 -- the first of faults is one of them, and none of them is earlier
 abbrev pub FirstIsFirst : Type 0
-FirstIsFirst = (all : List Fault) (fault : Fault) → first_of None all ≡ Some fault → IsFirstAmong all fault
+FirstIsFirst = (all : List Fault) (fault : Fault) → IsFirstAmong is_earlier all fault
+    → Contains all fault × ((other : Fault) → Contains all other → is_earlier other fault ≡ false)
 
 -- a file is one program or has one first fault, and not both
 pub record EachFileIsOne : Type 0 where
@@ -64,3 +65,34 @@ pub record LevelsAreScopes : Type 0 where
   pub left : (bytes : List ℕ) (l : Levels) (a : Assertion) → (after_level bytes l a).reach ≡ l.reach
   -- and the numbers of the level stay taken, each by its name
   pub taken : (bytes : List ℕ) (l : Levels) (a : Assertion) → (more : List (List ℕ)) × ((after_level bytes l a).names ≡ (opened bytes l a).names ++ more)
+
+-- the command itself sets the word, or passes it as a reference, whatever is inside it
+abbrev pub Sets : Command → Word → Type 0
+Sets (assign x e) w = x ≡ w
+Sets (look_up x e field) w = x ≡ w
+Sets (new x) w = x ≡ w
+Sets (call one) w = Contains (references_in one.arguments) w
+Sets (fork one other) w = Contains (references_in one.arguments) w ⊎ Contains (references_in other.arguments) w
+Sets _ w = ⊥
+
+abbrev mutual
+  -- it is that command, or one inside it
+  pub IsPartOf : Command → Command → Type 0
+  IsPartOf d (if_alone p t c) = (d ≡ if_alone p t c) ⊎ IsPartOf d c
+  IsPartOf d (if p t c b) = (d ≡ if p t c b) ⊎ (IsPartOf d c ⊎ IsPartOf d b)
+  IsPartOf d (while p t n c) = (d ≡ while p t n c) ⊎ IsPartOf d c
+  IsPartOf d (with p r t c) = (d ≡ with p r t c) ⊎ IsPartOf d c
+  IsPartOf d (block p cs) = (d ≡ block p cs) ⊎ IsPartOfAll d cs
+  IsPartOf d c = d ≡ c
+
+  -- it is one of those commands, or inside one
+  pub IsPartOfAll : Command → Commands → Type 0
+  IsPartOfAll d done = ⊥
+  IsPartOfAll d (then c cs) = IsPartOf d c ⊎ IsPartOfAll d cs
+
+-- a procedure's value parameter is primed exactly where a command of the body, at any depth, sets a variable of
+-- its name or passes one as a reference
+abbrev pub PrimedValuesAreSet : Type 0
+PrimedValuesAreSet = (bytes : List ℕ) (f : Surface.Procedure) (w : Word)
+    → is_primed bytes f w ≡ true
+    ↔ ((v : Word) × (d : Command) × IsPartOfAll d f.body × Sets d v × (text bytes v ≡ text bytes w))

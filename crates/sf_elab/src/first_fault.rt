@@ -1,7 +1,8 @@
 //! The first of the faults, and how it is answered.
 
-ghost use Rattle.std.specs.Prelude.{◌≡◌, None, Some, IfOk};
-ghost use Rattle.sf_elab.specs.Faults.{link_name, place_of, kind_of, is_before, is_same_place, is_earlier, earlier, first_of, named_fault};
+ghost use Rattle.std.specs.Prelude.{◌≡◌, ◌∷◌, ◌++◌, [], List, IfOk};
+ghost use Rattle.sf_base.specs.First.{IsFirstAmong, IsFirstOf};
+ghost use Rattle.sf_elab.specs.Faults.{link_name, place_of, kind_of, is_same_place, is_earlier, named_fault};
 
 use crate::assertions::link_name;
 use crate::fault::{Fault, NameFault};
@@ -39,13 +40,6 @@ fn kind_of(fault: Fault) -> u32
     }
 }
 
-/// Whether a place comes before another.
-fn is_before(p: Place, q: Place) -> bool
-    ensures { result ≡ is_before p q }
-{
-    p.line < q.line || (p.line == q.line && p.column < q.column)
-}
-
 /// Whether it is the same place.
 fn is_same_place(p: Place, q: Place) -> bool
     ensures { result ≡ is_same_place p q }
@@ -57,13 +51,14 @@ fn is_same_place(p: Place, q: Place) -> bool
 fn is_earlier(a: Fault, b: Fault) -> bool
     ensures { result ≡ is_earlier a b }
 {
-    is_before(place_of(a), place_of(b))
+    place_of(a).is_before(place_of(b))
         || (is_same_place(place_of(a), place_of(b)) && kind_of(a) < kind_of(b))
 }
 
 /// The earlier of what is found so far and one more.
 fn earlier(found: Option<Fault>, fault: Fault) -> Fault
-    ensures { result ≡ earlier found fault }
+    ensures { (before : List Fault) → IsFirstOf is_earlier before found
+        → IsFirstAmong is_earlier (before ++ fault ∷ []) result }
 {
     match found {
         None => fault,
@@ -79,7 +74,7 @@ fn earlier(found: Option<Fault>, fault: Fault) -> Fault
 
 /// The first of those.
 pub fn first_of(faults: &[Fault]) -> Option<Fault>
-    ensures { result ≡ first_of None faults.now }
+    ensures { IsFirstOf is_earlier faults.now result }
 {
     let mut found = None;
     for fault in faults {

@@ -1,6 +1,6 @@
 //! Laws of elaboration. Each function does nothing; its contract is the law.
 
-ghost use Rattle.sf_elab.specs.Laws.{EachFileIsOne, ElaboratedIsFormed, FirstIsFirst, LevelsAreScopes, NamesAreUnique};
+ghost use Rattle.sf_elab.specs.Laws.{EachFileIsOne, ElaboratedIsFormed, FirstIsFirst, LevelsAreScopes, NamesAreUnique, PrimedValuesAreSet};
 
 /// What a file without faults elaborates to is a program in order.
 pub fn elaborated_is_formed()
@@ -8,7 +8,6 @@ pub fn elaborated_is_formed()
 {}
 
 /// The first of faults is one of them, and none of them is earlier.
-#[tactic(auto, using(crate::proofs::Closing::first_fault_is_first))]
 pub fn first_fault_is_first()
     ensures { FirstIsFirst }
 {}
@@ -30,4 +29,10 @@ pub fn levels_are_scopes()
 #[tactic(auto, using(crate::proofs::UniqueNames::names_are_unique))]
 pub fn names_are_unique()
     ensures { NamesAreUnique }
+{}
+
+/// A value parameter is primed exactly where a command of the body sets a variable of its name or
+/// passes one as a reference.
+pub fn primed_values_are_set()
+    ensures { PrimedValuesAreSet }
 {}

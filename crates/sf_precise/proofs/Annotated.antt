@@ -11,7 +11,8 @@ use Rattle.sf_base.proofs.Sums.{either}
 use Rattle.sf_base.specs.declared.place.Place.{Place}
 use Rattle.sf_core.specs.Assertions.Determined.{Determined}
 use Rattle.sf_core.specs.Program.Syntax.{Assertion, Conjuncts, Level, level, none, also}
-use Rattle.sf_precise.specs.Annotations.{AreOrdersOf, IsFirstPlace, NeverTakenIn, earlier_of, is_before}
+use Rattle.sf_base.specs.First.{is_before}
+use Rattle.sf_precise.specs.Annotations.{AreOrdersOf, IsFirstPlace, NeverTakenIn, earlier_of}
 use Rattle.sf_precise.specs.Order.{IsOrderOf}
 use Rattle.sf_precise.specs.Taken.{IsFirstNeverTaken, NeverTakenAt}
 use Rattle.sf_precise.proofs.Branches.{never-undetermined}

@@ -1,9 +1,10 @@
 -- Notes: all annotations of a program, and the first conjunct among them that is never taken, by its
 -- place in the file.
 -- Ordinary: a walk through the program. Summary order across annotations is the order of places.
-use Rattle.std.specs.Prelude.{◌≡◌, ◌==◌, Bool, true, cond, ◌&&◌, ◌||◌, nat_lt, List, [], ◌∷◌, ◌++◌, Option, Some, None, Contains, flat_map, map}
+use Rattle.std.specs.Prelude.{◌≡◌, true, cond, List, [], ◌∷◌, ◌++◌, Option, Some, None, Contains, flat_map, map}
 use Rattle.std.specs.List.{AllZip}
 use Rattle.sf_base.specs.declared.place.Place.{Place}
+use Rattle.sf_base.specs.First.{is_before}
 use Rattle.sf_core.specs.Program.Syntax.{Assertion, Command, assign, look_up, mutate, new, dispose, if, while, call, fork, with, Block, done, then, Procedure, Program}
 use Rattle.sf_precise.specs.Order.{IsOrderOf}
 use Rattle.sf_precise.specs.Taken.{NeverTakenAt}
@@ -36,10 +37,6 @@ notes_of f = f.pre ∷ (loops_in f.body ++ f.post ∷ [])
 -- file order
 abbrev pub annotations_in : Program → List Assertion
 annotations_in p = map (λ r. r.invariant) p.resources ++ flat_map notes_of p.procedures
-
--- the one place comes before the other in the text
-abbrev pub is_before : Place → Place → Bool
-is_before p q = nat_lt p.line q.line || ((p.line == q.line) && nat_lt p.column q.column)
 
 -- the first conjunct that is never taken in one of these annotations is there
 abbrev pub NeverTakenIn : List Assertion → Place → Type 0

@@ -5,7 +5,7 @@ ghost use Rattle.sf_core.specs.Program.View.{assertion_of};
 ghost use Rattle.sf_core.specs.Program.ProgramView.{program_of};
 ghost use Rattle.sf_calls.specs.FirstBreach.{Conditions};
 ghost use Rattle.sf_calls.specs.Sets.{AreSetsOf};
-ghost use Rattle.sf_precise.specs.Annotations.{AreOrdersOf, IsFirstPlace, NeverTakenIn, earlier_of, is_before, annotations_in};
+ghost use Rattle.sf_precise.specs.Annotations.{AreOrdersOf, IsFirstPlace, NeverTakenIn, earlier_of, annotations_in};
 ghost use Rattle.sf_precise.specs.Taken.{IfUndetermined};
 
 use crate::annotations::annotations_in;
@@ -84,18 +84,11 @@ fn earlier(first: Option<Place>, place: Place) -> Place
     match first {
         None => place,
         Some(other) => {
-            if is_before(place, other) {
+            if place.is_before(other) {
                 place
             } else {
                 other
             }
         }
     }
-}
-
-/// Whether the one place comes before the other in the text.
-fn is_before(p: Place, q: Place) -> bool
-    ensures { result ≡ is_before p q }
-{
-    p.line < q.line || (p.line == q.line && p.column < q.column)
 }

@@ -1,10 +1,9 @@
-use Rattle.std.proofs.Common.{◌≡◌, List, None, map, rules}
+use Rattle.std.proofs.Common.{◌≡◌, List, [], map, rules}
 use Rattle.sf_ast.specs.View.{item_of}
 use Rattle.sf_core.specs.Program.View.{program_with}
 use Rattle.sf_core.specs.Program.ProgramView.{program_of}
 use Rattle.sf_elab.specs.declared.fault.Fault.{Fault}
 use Rattle.sf_elab.specs.Elaborated.{elaborated, faults}
-use Rattle.sf_elab.specs.Faults.{first_of}
 use Rattle.sf_elab.proofs.Wholes.{parts_formed, parts_elaborate}
 use Rattle.sf_elab.proofs.elaboration.resolve.Goals as goal
 
@@ -15,7 +14,7 @@ program-requires c =
     let items = map item_of c.args.file.items.items in
     let all : found ≡ faults c.args.bytes.now items = search rules in
     let whole : program_with g.fields.items g.resources.items g.procedures.items ≡ elaborated c.args.bytes.now items = search rules in
-    let none : first_of None found ≡ None = search rules in
+    let none : found ≡ [] = search rules in
     parts_formed c.args.bytes.now items found (program_with g.fields.items g.resources.items g.procedures.items) c.args.file.shallow whole all none
 
 pub returns-clause-found : goal.returns-clause-found
@@ -25,5 +24,5 @@ returns-clause-found c =
     let items = map item_of c.args.file.items.items in
     let all : found ≡ faults c.args.bytes.now items = search rules in
     let whole : program_of c.program.result ≡ elaborated c.args.bytes.now items = search rules in
-    let none : first_of None found ≡ None = search rules in
+    let none : found ≡ [] = search rules in
     parts_elaborate c.args.bytes.now items found (program_of c.program.result) whole all none

@@ -1,7 +1,8 @@
-use Rattle.std.proofs.Common.{◌≡◌, drop, None}
-use Rattle.sf_elab.specs.Faults.{first_of}
+use Rattle.std.proofs.Common.{take}
+use Rattle.sf_base.specs.First.{IsFirstOf}
+use Rattle.sf_elab.specs.Faults.{is_earlier}
 use Rattle.sf_elab.proofs.first_fault.first_of.Given as goal
 
--- what is left leads to the same
+-- the first of those that were looked at
 abbrev pub invariant-loop-fault : goal.invariant-loop-fault
-invariant-loop-fault l = first_of l.found (drop l.fault-index l.faults) ≡ first_of None l.faults
+invariant-loop-fault l = IsFirstOf is_earlier (take l.fault-index l.faults) l.found
