@@ -8,5 +8,6 @@ pub mod Tasks
 pub mod Progress
 pub mod Determinism
 pub mod GoodParts
+pub mod InOrder
 pub mod Laws
 pub mod Examples

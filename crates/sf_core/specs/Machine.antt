@@ -9,5 +9,6 @@ pub mod Bad
 pub mod HeldBy
 pub mod Start
 pub mod Good
+pub mod InOrder
 pub mod Laws
 pub mod Examples

@@ -227,8 +227,7 @@ step-commute p one two c d e this that there also apart i s r =
     let second : TaskStep p two d.common that e.common r.to =
     subst (λ z. TaskStep p two d.common z e.common r.to) after r.steps in
     let m = goes-commute p one two c.common d.common e.common (next this) (next that) s.to r.to i first second in
-    let new = adds-fresh two.number one.number c.used (ap (λ f. f two.number) (sym s.used) ∙ r.fresh) in
-    (
+    let new = adds-fresh two.number one.number c.used (ap (λ f. f two.number) (sym s.used) ∙ r.fresh) in (
       record { common = m.0; used = adds two.number c.used; tasks = put_task two.task r.to c.tasks },
       record {
         fresh = new.1;

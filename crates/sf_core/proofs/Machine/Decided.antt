@@ -42,7 +42,7 @@ room-or_not : (room : Room) (thing : Thing) → Decided (IsInRoom room thing)
 room-or_not room (variable y) = true-or_not (in_room room y)
 room-or_not room (cell a) = inr (λ h. h)
 
-resource-or_not : (r q : ResId) → Decided (r ≡ q)
+pub resource-or_not : (r q : ResId) → Decided (r ≡ q)
 resource-or_not r q =
     elim (cases_eq r.0 q.0) [ inl e ↦ inl (resource-is r q e) | inr n ↦ inr (λ e. n (ap (λ (z : ResId). z.0) e)) ]
 

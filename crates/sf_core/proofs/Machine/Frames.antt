@@ -228,6 +228,9 @@ module _ (p : Program) (ev : Event) (whole part : Common) (cells : Heap) (variab
       → (t : Common) × Goes p ev part n t u × KeepsRest n whole w t cells variables
   whole-step w u safe e =
       let t = goes-local p ev whole w part n u e (whole-agrees w u safe e) in
-      let v = part-step t.0 u t.1 in
-      (t.0, t.1, subst (λ z. KeepsRest n whole z t.0 cells variables)
-      (goes-unique p ev whole v.0 w n u u v.1 e).0 v.2)
+      let v = part-step t.0 u t.1 in (
+        t.0,
+        t.1,
+        subst (λ z. KeepsRest n whole z t.0 cells variables)
+            (goes-unique p ev whole v.0 w n u u v.1 e).0 v.2,
+      )

@@ -4,6 +4,9 @@ use Rattle.sf_core.proofs.Machine.Commute.{step-commute}
 use Rattle.sf_core.proofs.Machine.Determinism.{step-unique}
 use Rattle.sf_core.proofs.Machine.Frames.{part-step, whole-step}
 use Rattle.sf_core.proofs.Machine.GoodParts.{good-by_parts}
+use Rattle.sf_core.proofs.Machine.InOrder.Kept.{step-keeps}
+use Rattle.sf_core.proofs.Machine.InOrder.Met.{used-there, exit-held, task-may_stop}
+use Rattle.sf_core.proofs.Machine.InOrder.Starts.{start-in_order, reach-keeps}
 use Rattle.sf_core.proofs.Machine.Locality.{goes-local}
 use Rattle.sf_core.proofs.Machine.Progress.{enabled-or_stop, step-stopped}
 use Rattle.sf_core.proofs.Machine.Runs.{reach-cut, reach-join, reach-numbers}
@@ -11,7 +14,7 @@ use Rattle.sf_core.proofs.Machine.Steps.{next-footprint}
 use Rattle.sf_core.proofs.Machine.Tasks.{enabled-diverge, ended-no_event, step-enabled, step-frames}
 use Rattle.sf_core.specs.Machine.Next.{next}
 use Rattle.sf_core.specs.Internal.GoodParts.{PartsMakeGood}
-use Rattle.sf_core.specs.Machine.Laws.{EnabledTasksDiverge, EnabledTasksProgress, EndedRunsStop, OnlyEnabledTasksStep, RunsCompose, StepsAreDeterministic, StepsAreLocal, StepsAreMonotone, StepsCommute, StepsHaveFrames, StepsFrameOtherTasks, StepsWriteOnlyTheirFootprint, StoppedTasksDoNotStep, UsedNumbersGrow}
+use Rattle.sf_core.specs.Machine.Laws.{ExitsAreOfHeldResources, OrderedTasksStopOnlyThere, ReachedConfigsAreInOrder, StepsKeepOrder, UsedSlotsAreThere, EnabledTasksDiverge, EnabledTasksProgress, EndedRunsStop, OnlyEnabledTasksStep, RunsCompose, StepsAreDeterministic, StepsAreLocal, StepsAreMonotone, StepsCommute, StepsHaveFrames, StepsFrameOtherTasks, StepsWriteOnlyTheirFootprint, StoppedTasksDoNotStep, UsedNumbersGrow}
 
 pub steps_write_only_their_footprint : StepsWriteOnlyTheirFootprint
 unfolding StepsWriteOnlyTheirFootprint
@@ -77,3 +80,24 @@ enabled_tasks_progress = enabled-or_stop
 pub stopped_tasks_do_not_step : StoppedTasksDoNotStep
 unfolding StoppedTasksDoNotStep
 stopped_tasks_do_not_step = step-stopped
+
+pub steps_keep_order : StepsKeepOrder
+unfolding StepsKeepOrder
+steps_keep_order p entry event before after formed o s = step-keeps p entry event before after formed o s
+
+pub reached_configs_are_in_order : ReachedConfigsAreInOrder
+unfolding ReachedConfigsAreInOrder
+reached_configs_are_in_order p f store heap start now events formed s r =
+    reach-keeps p s.procedure events start now formed (start-in_order p f store heap start formed s) r
+
+pub used_slots_are_there : UsedSlotsAreThere
+unfolding UsedSlotsAreThere
+used_slots_are_there p entry now path task slot o e h = used-there p entry now path o task slot e h
+
+pub exits_are_of_held_resources : ExitsAreOfHeldResources
+unfolding ExitsAreOfHeldResources
+exits_are_of_held_resources p entry now path f below r rest o e = exit-held p entry now path o f below r rest e
+
+pub ordered_tasks_stop_only_there : OrderedTasksStopOnlyThere
+unfolding OrderedTasksStopOnlyThere
+ordered_tasks_stop_only_there p entry now path task o e s = task-may_stop p entry now path o task e s

@@ -33,7 +33,7 @@ path-or_not (right ∷ path) (right ∷ other) =
     elim (path-or_not path other) [ inl e ↦ inl (ap (λ z. right ∷ z) e) | inr n ↦ inr (λ e. n (cc)) ]
 
 -- whether a resource is held by the task at that path
-holder-or_not : (holder : Option Path) (path : Path) → (holder ≡ Some path) ⊎ (holder ≢ Some path)
+pub holder-or_not : (holder : Option Path) (path : Path) → (holder ≡ Some path) ⊎ (holder ≢ Some path)
 holder-or_not None path = inr (λ e. absurd (cc))
 holder-or_not (Some other) path =
     elim (path-or_not other path) [ inl e ↦ inl (ap Some e) | inr n ↦ inr (λ e. n (cc)) ]

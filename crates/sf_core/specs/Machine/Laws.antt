@@ -4,14 +4,19 @@ use Rattle.std.specs.Prelude.{◌≡◌, ◌≢◌, ℕ, true, false, List, [], 
 use Rattle.sf_base.specs.declared.ids.ResId.{ResId}
 use Rattle.sf_base.specs.declared.limits.TheConstants.{TURNS}
 use Rattle.sf_base.specs.declared.path.Turn.TheVariants.{Left as left, Right as right}
-use Rattle.sf_core.specs.Machine.Bad.{IsAbsent, IsAtNoCell}
-use Rattle.sf_core.specs.Machine.Config.{Fixed, Frame, Task, waits, Path, Common, Config, evaluate, task_at}
+use Rattle.sf_base.specs.declared.ids.ProcId.{ProcId}
+use Rattle.sf_base.specs.declared.value.Value.{Value}
+use Rattle.sf_core.specs.Machine.Bad.{IsAbsent, TouchesNoCell, IsAtNoCell}
+use Rattle.sf_core.specs.Machine.InOrder.{IsInOrder}
+use Rattle.sf_core.specs.Machine.Start.{Start}
+use Rattle.sf_core.specs.Program.Formed.{IsFormed}
+use Rattle.sf_core.specs.Machine.Config.{Item, leave, Fixed, Frame, Task, waits, Path, Common, Config, evaluate, task_at}
 use Rattle.sf_core.specs.Machine.Next.{Next, does, leaves, returns, joins, nothing, next}
 use Rattle.sf_core.specs.Machine.Enabled.{Thing, variable, cell, IsInRoom, Reads, Writes, HasEnded, IsEnabled}
 use Rattle.sf_base.specs.HeapStore.{Heap, Slot, Splits, Store}
 use Rattle.sf_core.specs.Machine.Reach.{Reach}
 use Rattle.sf_core.specs.Assertions.Sat.{IsTrueOf}
-use Rattle.sf_core.specs.Machine.Step.{Event, TaskStep, Step, procedure_at, room_count, room_for}
+use Rattle.sf_core.specs.Machine.Step.{Event, TaskStep, Step, procedure_at, room_count, room_for, task_with}
 use Rattle.sf_core.specs.Program.Syntax.{Command, assign, look_up, mutate, new, dispose, if, while, call, fork, with, Procedure, Program}
 
 -- what the event of a command makes: the cell of a `new`, or the rooms of the callee of a call or of those of
@@ -278,3 +283,50 @@ EnabledTasksProgress = (p : Program) (event : Event) (c : Config) (task : Task) 
 unfoldable pub StoppedTasksDoNotStep : Type 0
 StoppedTasksDoNotStep = (p : Program) (event : Event) (c d : Config) (task : Task)
     → task_at event.task c.tasks ≡ Some task → Stops p event.task c.common (next task) → Step p event c d → ⊥
+
+-- each step keeps a configuration in order
+unfoldable pub StepsKeepOrder : Type 0
+StepsKeepOrder = (p : Program) (entry : Procedure) (event : Event) (c d : Config) → IsFormed p
+    → IsInOrder p entry c → Step p event c d → IsInOrder p entry d
+
+-- every configuration that is reached from a start is in order
+unfoldable pub ReachedConfigsAreInOrder : Type 0
+ReachedConfigsAreInOrder = (p : Program) (f : ProcId) (store : Store) (heap : Heap) (start c : Config)
+    (events : List Event) → IsFormed p → (s : Start p f store heap start) → Reach p start events c
+    → IsInOrder p s.procedure c
+
+-- in a configuration in order the variables that the next step of a task reads or writes are in the store: the
+-- value that counts where a slot is absent is never met
+unfoldable pub UsedSlotsAreThere : Type 0
+UsedSlotsAreThere = (p : Program) (entry : Procedure) (c : Config) (path : Path) (task : Task) (slot : Slot)
+    → IsInOrder p entry c → task_at path c.tasks ≡ Some task
+    → Reads c.common.store (next task) (variable slot) ⊎ Writes c.common.store (next task) (variable slot)
+    → (v : Value) × (c.common.store slot ≡ Some v)
+
+-- in a configuration in order a task whose next step is the exit from a region holds its resource
+unfoldable pub ExitsAreOfHeldResources : Type 0
+ExitsAreOfHeldResources = (p : Program) (entry : Procedure) (c : Config) (path : Path) (f : Fixed)
+    (below : List Frame) (r : ResId) (rest : List Item) → IsInOrder p entry c
+    → task_at path c.tasks ≡ Some (task_with f (leave r ∷ rest) below) → c.common.held r ≡ Some path
+
+-- what may keep a task of a configuration in order from its step: an absent cell, a condition that is false, or
+-- a path of 63 turns at a fork
+abbrev pub CommandMayStop : Path → Common → Fixed → Command → Type 0
+CommandMayStop path s f (fork place one two) = TURNS ≤ length path
+CommandMayStop path s f (with place r test body) = IsTrueOf (evaluate f.slots s.store) test → ⊥
+CommandMayStop path s f c = TouchesNoCell (evaluate f.slots s.store) s.heap c
+
+-- what comes next is such a command
+abbrev pub MayStop : Path → Common → Next → Type 0
+MayStop path s (does f below c rest) = CommandMayStop path s f c
+MayStop path s (leaves f below r rest) = ⊥
+MayStop path s (returns f below) = ⊥
+MayStop path s (joins frames one two) = ⊥
+MayStop path s nothing = ⊥
+
+-- in a configuration in order nothing else keeps a task: callees are there, and exits are of regions that it is
+-- inside of
+unfoldable pub OrderedTasksStopOnlyThere : Type 0
+OrderedTasksStopOnlyThere = (p : Program) (entry : Procedure) (c : Config) (path : Path) (task : Task)
+    → IsInOrder p entry c → task_at path c.tasks ≡ Some task → Stops p path c.common (next task)
+    → MayStop path c.common (next task)

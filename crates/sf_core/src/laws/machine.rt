@@ -15,6 +15,11 @@ ghost use Rattle.sf_core.specs.Machine.Laws.{
   StepsWriteOnlyTheirFootprint,
   StoppedTasksDoNotStep,
   UsedNumbersGrow,
+  StepsKeepOrder,
+  ReachedConfigsAreInOrder,
+  UsedSlotsAreThere,
+  ExitsAreOfHeldResources,
+  OrderedTasksStopOnlyThere,
 };
 
 /// A task's step changes the slots and cells that it writes, the rooms that a call or fork makes and
@@ -118,4 +123,37 @@ pub fn enabled_tasks_progress()
 #[tactic(auto, using(crate::proofs::Machine::Laws::stopped_tasks_do_not_step))]
 pub fn stopped_tasks_do_not_step()
     ensures { StoppedTasksDoNotStep }
+{}
+
+/// Each step keeps a configuration in order.
+#[tactic(auto, using(crate::proofs::Machine::Laws::steps_keep_order))]
+pub fn steps_keep_order()
+    ensures { StepsKeepOrder }
+{}
+
+/// Every configuration that is reached from a start is in order.
+#[tactic(auto, using(crate::proofs::Machine::Laws::reached_configs_are_in_order))]
+pub fn reached_configs_are_in_order()
+    ensures { ReachedConfigsAreInOrder }
+{}
+
+/// In a configuration in order the variables that the next step of a task reads or writes are in the
+/// store, so the value that counts where a slot is absent is never met.
+#[tactic(auto, using(crate::proofs::Machine::Laws::used_slots_are_there))]
+pub fn used_slots_are_there()
+    ensures { UsedSlotsAreThere }
+{}
+
+/// In a configuration in order a task that leaves a region holds its resource, so the condition of an
+/// exit is always met.
+#[tactic(auto, using(crate::proofs::Machine::Laws::exits_are_of_held_resources))]
+pub fn exits_are_of_held_resources()
+    ensures { ExitsAreOfHeldResources }
+{}
+
+/// In a configuration in order only an absent cell, a condition that is false, or 63 turns at a fork
+/// keep a task from its step.
+#[tactic(auto, using(crate::proofs::Machine::Laws::ordered_tasks_stop_only_there))]
+pub fn ordered_tasks_stop_only_there()
+    ensures { OrderedTasksStopOnlyThere }
 {}
