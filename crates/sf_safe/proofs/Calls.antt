@@ -24,7 +24,7 @@ use Rattle.sf_safe.proofs.Trees.{fewer, fewer-callers}
 -- THE ROOM of a frame
 
 -- a slot of a room, by its number in it
-room-index : (d e i first count references names : ℕ)
+pub room-index : (d e i first count references names : ℕ)
     → (d == e) && (leb first i && ltb i (first + count)) ≡ true
     → count ≡ names - references
     → (d ≡ e) × (references ≤ references + (i - first)) × (references + (i - first) < names)

@@ -47,7 +47,7 @@ sat-everywhere a slots all w r heap p h s =
     (λ x o. let v = h x o in ap (λ z. unwrap_or z nil) (v.1 ∙ sym (splits-has_left (slots x) v.0 p.slots v.1))) s
 
 -- what occurs in a postcondition is a variable of the frame
-post-variable : (p : Program) → IsFormed p → (f : ProcId) (g : Procedure) → procedure_at p f ≡ Some g
+pub post-variable : (p : Program) → IsFormed p → (f : ProcId) (g : Procedure) → procedure_at p f ≡ Some g
     → (x : Var)
     → VarOccursIn g.post.level x → IsVariableOf p f g x
 post-variable p formed f g there (Shared r i) o = (tt, directly (g, there, inr (inl o)))

@@ -15,3 +15,6 @@ pub mod Starts
 pub mod Sound
 pub mod Writing
 pub mod FillingTwice
+pub mod Views
+pub mod Lent
+pub mod Locally

@@ -4,3 +4,5 @@ pub mod Safe
 pub mod Law
 pub mod Examples
 pub mod Internal
+pub mod Local
+pub mod LocalSafe

@@ -1,7 +1,8 @@
-//! The machine's half of soundness. The function is a law: calling it gives its fact to the caller's
-//! proof, and does nothing.
+//! The machine's half of soundness, for frames as they are in the machine and as they see themselves.
+//! Each function is a law: calling it gives its fact to the caller's proof, and does nothing.
 
 ghost use Rattle.sf_safe.specs.Law.{SafeProgramsAreSound};
+ghost use Rattle.sf_safe.specs.LocalSafe.{LocallySafeProgramsAreSound};
 
 /// A program that is formed, meets the conditions on variables, and whose bodies are safe for every
 /// number of events from whatever satisfies their preconditions is sound: whatever procedure it starts
@@ -12,4 +13,11 @@ ghost use Rattle.sf_safe.specs.Law.{SafeProgramsAreSound};
 #[tactic(auto, using(crate::proofs::Sound::safe_programs_are_sound))]
 pub fn safe_programs_are_sound()
     ensures { SafeProgramsAreSound }
+{}
+
+/// The same of a program whose bodies are safe as they see themselves: by the values of their
+/// variables, without the slots in which the machine keeps them.
+#[tactic(auto, using(crate::proofs::Locally::locally_safe_programs_are_sound))]
+pub fn locally_safe_programs_are_sound()
+    ensures { LocallySafeProgramsAreSound }
 {}

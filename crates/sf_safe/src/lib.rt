@@ -9,4 +9,4 @@ mod examples;
 mod laws;
 
 pub use examples::{filling_twice_is_sound, writing_is_not_safe};
-pub use laws::safe_programs_are_sound;
+pub use laws::{locally_safe_programs_are_sound, safe_programs_are_sound};
