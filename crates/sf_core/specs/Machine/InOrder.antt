@@ -9,7 +9,8 @@ use Rattle.sf_base.specs.declared.ids.Var.TheVariants.{Shared}
 use Rattle.sf_base.specs.declared.limits.TheConstants.{TURNS}
 use Rattle.sf_base.specs.HeapStore.{Slot, shared, own}
 use Rattle.sf_core.specs.Machine.Config.{Item, command, leave, in_room, Fixed, Frame, Task, runs, waits, Path, Config, task_at}
-use Rattle.sf_core.specs.Machine.Step.{procedure_at}
+use Rattle.sf_core.specs.Machine.Start.{entry_slot}
+use Rattle.sf_core.specs.Machine.Step.{procedure_at, room_for}
 use Rattle.sf_core.specs.Program.Formed.{variable_count, IsInBody, CommandWithin}
 use Rattle.sf_core.specs.Program.Syntax.{Procedure, Program}
 
@@ -104,6 +105,12 @@ HasTurns n (runs frames) = Unit {0}
 HasTurns zero (waits frames one two) = ⊥
 HasTurns (suc n) (waits frames one two) = HasTurns n one × HasTurns n two
 
+-- the last of these frames is the entry's, with its own variables
+abbrev pub EndsInEntry : (entry : Procedure) → List Frame → Type 0
+EndsInEntry g [] = ⊥
+EndsInEntry g (f ∷ []) = (f.fixed.slots ≡ entry_slot) × (f.fixed.room ≡ room_for g 0 g.references)
+EndsInEntry g (f ∷ h ∷ below) = EndsInEntry g (h ∷ below)
+
 -- a configuration is in order, of a program and of the procedure that is its entry
 pub record IsInOrder (p : Program) (entry : Procedure) (c : Config) : Type 0 where
   -- each frame's procedure is there, and what is to do is well formed for it
@@ -124,6 +131,8 @@ pub record IsInOrder (p : Program) (entry : Procedure) (c : Config) : Type 0 whe
   pub store : (slot : Slot) → is_some (c.common.store slot) ≡ ltb 0 (times_there p entry c.tasks slot)
   -- frames name what is kept, their own rooms and those of the frames below them, across forks too
   pub names : NamesInTree p (is_kept p entry) c.tasks
+  -- the entry's frame is at the bottom of the entry's task, so its slots are there
+  pub bottom : EndsInEntry entry (stack_of (Some c.tasks))
   -- tasks that wait have frames
   pub waiting : WaitersHaveFrames c.tasks
   -- paths have at most 63 turns

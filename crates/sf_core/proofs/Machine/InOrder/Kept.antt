@@ -10,8 +10,8 @@ use Rattle.sf_base.specs.declared.ids.ResId.{ResId}
 use Rattle.sf_base.specs.declared.limits.TheConstants.{TURNS}
 use Rattle.sf_base.specs.declared.path.Turn.TheVariants.{Left as left, Right as right}
 use Rattle.sf_base.specs.HeapStore.{Slot, shared, own}
-use Rattle.sf_core.specs.Machine.Config.{Item, command, leave, items, Room, in_room, Fixed, Frame, Task, runs, waits, Path, Common, Config, task_at, put_task, adds, IsOver}
-use Rattle.sf_core.specs.Machine.InOrder.{EachStack, stack_of, ItemWithin, FrameIsFormed, exits, regions, is_kept, rooms_with, times_there, with_rooms, NamesInTree, WaitersHaveFrames, HasTurns, IsInOrder}
+use Rattle.sf_core.specs.Machine.Config.{Item, command, leave, items, Room, in_room, Fixed, Frame, Task, runs, waits, Path, Common, Config, task_at, put_task, adds, IsCalled, IsOver}
+use Rattle.sf_core.specs.Machine.InOrder.{EachStack, stack_of, ItemWithin, FrameIsFormed, exits, regions, is_kept, rooms_with, times_there, with_rooms, NamesInTree, EndsInEntry, WaitersHaveFrames, HasTurns, IsInOrder}
 use Rattle.sf_core.specs.Machine.Next.{frame_next}
 use Rattle.sf_core.specs.Machine.Step.{Event, index_of, close_room, arguments, room_for, room_count, callee_frame, fork_task, task_with, procedure_at, Goes, TaskStep, Step}
 use Rattle.sf_core.specs.Program.Formed.{IsFormed}
@@ -20,7 +20,7 @@ use Rattle.sf_core.proofs.Machine.InOrder.Names.{callee-names}
 use Rattle.sf_core.proofs.Machine.InOrder.Regions.{HoldsRegions, holds-same, holds-goes_on}
 use Rattle.sf_core.proofs.Machine.InOrder.Shapes.{SetsVariable, Hands, same, enters, exits_one, GoesOn, CallsOne, CallsTwo, block-within, block-exits, command-shape, exit-shape}
 use Rattle.sf_core.proofs.Machine.InOrder.Slots.{Counts, one_if, counts-of, counts-disjoint, counts-store, counts-there, counts-same, counts-opened, counts-opened_two, counts-closed, fresh-slot, is_some-set, NamesAt, names-at, names-there}
-use Rattle.sf_core.proofs.Machine.InOrder.Trees.{each-at, each-put, each-map, waiting-put, turns-put, names-put, regions-put}
+use Rattle.sf_core.proofs.Machine.InOrder.Trees.{bottom-at, bottom-put, bottom-return, bottom-todo, each-at, each-put, each-map, waiting-put, turns-put, names-put, regions-put}
 
 module _ (p : Program) (g0 : Procedure) (c : Config) (o : IsInOrder p g0 c) where
   -- how often each slot is there
@@ -78,9 +78,10 @@ module _ (p : Program) (g0 : Procedure) (c : Config) (o : IsInOrder p g0 c) wher
     builds : (from u : Task) → task_at ev.task c.tasks ≡ Some from
         → EachStack (AllByRecursion (FrameIsFormed p)) u → HoldsRegions t.held (put_task ev.task u c.tasks)
         → EachStack HasNumbers u → Counts p g0 t.store (put_task ev.task u c.tasks)
-        → ((s : Slot → Bool) → NamesInTree p s from → NamesInTree p s u) → WaitersHaveFrames u
+        → ((s : Slot → Bool) → NamesInTree p s from → NamesInTree p s u)
+        → (ev.task ≡ [] → EndsInEntry g0 (stack_of (Some u))) → WaitersHaveFrames u
         → ((m : ℕ) → TURNS ≡ length ev.task + m → HasTurns m u) → IsInOrder p g0 (after u)
-    builds from u e frames regions numbers counts names waiting turns = record {
+    builds from u e frames regions numbers counts names bottom waiting turns = record {
       formed = each-put (AllByRecursion (FrameIsFormed p)) ev.task c.tasks u o.formed frames;
       inside = regions.inside;
       outside = regions.outside;
@@ -91,9 +92,15 @@ module _ (p : Program) (g0 : Procedure) (c : Config) (o : IsInOrder p g0 c) wher
       store = λ slot. counts-store (times_there p g0 (put_task ev.task u c.tasks) slot)
           (is_some (t.store slot)) (counts slot);
       names = names-put p (is_kept p g0) ev.task c.tasks from u e names o.names;
+      bottom = bottom-put g0 ev.task c.tasks u bottom o.bottom;
       waiting = waiting-put ev.task c.tasks u o.waiting waiting;
       depth = turns-put TURNS ev.task c.tasks from u o.depth e turns;
     }
+
+    -- the entry's frame is at the bottom of the task that steps where that is the entry's
+    bottom-now : (from : Task) → task_at ev.task c.tasks ≡ Some from → ev.task ≡ []
+        → EndsInEntry g0 (stack_of (Some from))
+    bottom-now from e top = bottom-at g0 ev.task c.tasks from top e o.bottom
 
     -- the frame of a call is formed
     callee-formed : (call : Call) (h : Procedure) (f : Fixed) (room : Room)
@@ -129,7 +136,9 @@ module _ (p : Program) (g0 : Procedure) (c : Config) (o : IsInOrder p g0 c) wher
         (numbers-now (runs (record { fixed = f; todo = old } ∷ below)) e)
         (counts-same p g0 c.common.store t.store ev.task c.tasks
         (runs (record { fixed = f; todo = old } ∷ below)) (task_with f k.todo below) e counts-now
-        (λ slot. refl) (still-there f old below g e i k.sets)) (λ s n. n) tt (λ m j. tt))
+        (λ slot. refl) (still-there f old below g e i k.sets)) (λ s n. n)
+        (λ top. bottom-todo g0 f old k.todo below
+        (bottom-now (runs (record { fixed = f; todo = old } ∷ below)) e top)) tt (λ m j. tt))
 
     -- a call
     pub call-keeps : (f : Fixed) (cmd : Command) (rest : List Item) (below : List Frame) (g : Procedure) (u : Task)
@@ -151,7 +160,7 @@ module _ (p : Program) (g0 : Procedure) (c : Config) (o : IsInOrder p g0 c) wher
         (λ slot h. fresh-slot p g0 c.used c.tasks room slot new o.start o.numbers h) (λ slot. refl)
         (λ slot. ap (λ (z : Common). z.store slot) k.common))
         (λ s n. (callee-names p g (with_rooms (mine ∷ below) s) f k.c k.h ev.number 0 n.0 i k.within k.there, n))
-        tt (λ m j. tt))
+        (λ above. bottom-todo g0 f (command cmd ∷ rest) rest below (bottom-now from e above)) tt (λ m j. tt))
       where
         room : Room
         room = room_for k.h ev.number 0
@@ -206,6 +215,7 @@ module _ (p : Program) (g0 : Procedure) (c : Config) (o : IsInOrder p g0 c) wher
             tt,
           ),
         ))
+        (λ top. bottom-todo g0 f (command cmd ∷ rest) rest below (bottom-now from e top))
         ((λ z. absurd (cc)), tt, tt) turns)
       where
         one : Room
@@ -265,16 +275,18 @@ module _ (p : Program) (g0 : Procedure) (c : Config) (o : IsInOrder p g0 c) wher
     -- a return
     pub return-keeps : (f : Fixed) (below : List Frame)
         → task_at ev.task c.tasks ≡ Some (runs (record { fixed = f; todo = [] } ∷ below))
-        → AllByRecursion (FrameIsFormed p) below → t ≡ close_room f.room c.common
+        → AllByRecursion (FrameIsFormed p) below → IsCalled ev.task below → t ≡ close_room f.room c.common
         → IsInOrder p g0 (after (runs below))
-    return-keeps f below e others k =
+    return-keeps f below e others called k =
         builds from (runs below) e others
         (holds-same c.common.held t.held c.tasks (put_task ev.task (runs below) c.tasks) regions-now
         (ap (λ (z : Common). z.held) k)
         (λ r. regions-put r ev.task c.tasks from (runs below) e (same-regions r)))
         (numbers-now from e).1
         (counts-closed p g0 c.common.store t.store ev.task c.tasks from (runs below) f.room e counts-now
-        (λ slot. refl) (λ slot. ap (λ (z : Common). z.store slot) k)) (λ s n. n.1) tt (λ m j. tt)
+        (λ slot. refl) (λ slot. ap (λ (z : Common). z.store slot) k)) (λ s n. n.1)
+        (λ top. bottom-return g0 ev.task (record { fixed = f; todo = [] }) below called top (bottom-now from e top)) tt
+        (λ m j. tt)
       where
         from : Task
         from = runs (record { fixed = f; todo = [] } ∷ below)
@@ -296,7 +308,8 @@ module _ (p : Program) (g0 : Procedure) (c : Config) (o : IsInOrder p g0 c) wher
         (λ r. regions-put r ev.task c.tasks (waits frames one two) (runs frames) e (same-regions r)))
         (numbers-now (waits frames one two) e).0
         (counts-same p g0 c.common.store t.store ev.task c.tasks (waits frames one two) (runs frames) e counts-now
-        rooms (λ slot. ap (λ (z : Common). is_some (z.store slot)) k)) (λ s n. n.0) tt (λ m j. tt)
+        rooms (λ slot. ap (λ (z : Common). is_some (z.store slot)) k)) (λ s n. n.0)
+        (bottom-now (waits frames one two) e) tt (λ m j. tt)
       where
         over-regions : (r : ResId) (path : Path) (task : Task) → IsOver task
             → 0 ≡ regions r (stack_of (task_at path task))
@@ -345,7 +358,7 @@ module _ (p : Program) (g0 : Procedure) (c : Config) (o : IsInOrder p g0 c) wher
         → Goes p ev c.common (frame_next f below todo) t u → IsInOrder p g0 (after u)
     stack-keeps f [] below u e d =
         let frames = formed-now ev.task (runs (record { fixed = f; todo = [] } ∷ below)) e in
-        subst (λ z. IsInOrder p g0 (after z)) (sym d.2) (return-keeps f below e frames.1 d.1)
+        subst (λ z. IsInOrder p g0 (after z)) (sym d.2) (return-keeps f below e frames.1 d.0 d.1)
     stack-keeps f (command cmd ∷ rest) below u e d =
         let frames = formed-now ev.task (runs (record { fixed = f; todo = command cmd ∷ rest } ∷ below)) e in
         let mine = frames.0 in

@@ -145,6 +145,7 @@ module _ (p : Program) (f : ProcId) (store : Store) (heap : Heap) (c : Config) (
     disjoint = λ slot. counts-disjoint _ (is_some (store slot)) (start-counts slot);
     store = λ slot. counts-store _ (is_some (store slot)) (start-counts slot);
     names = (start-names, tt);
+    bottom = (refl, refl);
     waiting = tt;
     depth = tt;
   })

@@ -7,9 +7,9 @@ use Rattle.sf_base.specs.declared.ids.ResId.{ResId}
 use Rattle.sf_base.specs.declared.path.Turn.{Turn}
 use Rattle.sf_base.specs.declared.path.Turn.TheVariants.{Left as left, Right as right}
 use Rattle.sf_base.specs.HeapStore.{Slot}
-use Rattle.sf_core.specs.Machine.Config.{Frame, Task, runs, waits, Path, task_at, put_task}
-use Rattle.sf_core.specs.Machine.InOrder.{EachStack, stack_of, regions, rooms_with, with_rooms, NamesInTree, WaitersHaveFrames, HasTurns}
-use Rattle.sf_core.specs.Program.Syntax.{Program}
+use Rattle.sf_core.specs.Machine.Config.{Fixed, IsCalled, Item, Frame, Task, runs, waits, Path, task_at, put_task}
+use Rattle.sf_core.specs.Machine.InOrder.{EndsInEntry, EachStack, stack_of, regions, rooms_with, with_rooms, NamesInTree, WaitersHaveFrames, HasTurns}
+use Rattle.sf_core.specs.Program.Syntax.{Procedure, Program}
 use Rattle.sf_core.proofs.Machine.Progress.{path-or_not}
 
 -- the task is at the path
@@ -52,6 +52,34 @@ waiting-put (left ∷ path) (runs frames) u h k = h
 waiting-put (right ∷ path) (runs frames) u h k = h
 waiting-put (left ∷ path) (waits frames one two) u h k = (h.0, waiting-put path one u h.1 k, h.2)
 waiting-put (right ∷ path) (waits frames one two) u h k = (h.0, h.1, waiting-put path two u h.2 k)
+
+-- the entry's task has the entry's frame at its bottom where what is put in its place has
+pub bottom-put : (g : Procedure) (path : Path) (t u : Task) → (path ≡ [] → EndsInEntry g (stack_of (Some u)))
+    → EndsInEntry g (stack_of (Some t)) → EndsInEntry g (stack_of (Some (put_task path u t)))
+bottom-put g [] t u f h = f refl
+bottom-put g (left ∷ path) (runs frames) u f h = h
+bottom-put g (right ∷ path) (runs frames) u f h = h
+bottom-put g (left ∷ path) (waits frames one two) u f h = h
+bottom-put g (right ∷ path) (waits frames one two) u f h = h
+
+-- the entry's task is the whole tree
+pub bottom-at : (g : Procedure) (path : Path) (t from : Task) → path ≡ [] → task_at path t ≡ Some from
+    → EndsInEntry g (stack_of (Some t)) → EndsInEntry g (stack_of (Some from))
+bottom-at g path t from top e h = subst (λ z. EndsInEntry g (stack_of (Some z)))
+    (same_Some t from (ap (λ z. task_at z t) (sym top) ∙ e)) h
+
+-- what a frame has to do doesn't matter for that
+pub bottom-todo : (g : Procedure) (f : Fixed) (old todo : List Item) (below : List Frame)
+    → EndsInEntry g (record { fixed = f; todo = old } ∷ below)
+    → EndsInEntry g (record { fixed = f; todo = todo } ∷ below)
+bottom-todo g f old todo [] h = h
+bottom-todo g f old todo (b ∷ below) h = h
+
+-- a frame that is returned from isn't the last of the entry's task
+pub bottom-return : (g : Procedure) (path : Path) (f : Frame) (below : List Frame) → IsCalled path below
+    → path ≡ [] → EndsInEntry g (f ∷ below) → EndsInEntry g below
+bottom-return g path f [] called top h = absurd (subst (λ z. IsCalled z []) top called)
+bottom-return g path f (b ∷ below) called top h = h
 
 -- the turns that are left at the path's end are enough for the task there
 pub turns-put : (n : ℕ) (path : Path) (t from u : Task) → HasTurns n t → task_at path t ≡ Some from
