@@ -9,5 +9,6 @@ pub mod Progress
 pub mod Determinism
 pub mod GoodParts
 pub mod InOrder
+pub mod RaceFree
 pub mod Laws
 pub mod Examples

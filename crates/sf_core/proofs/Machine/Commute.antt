@@ -177,7 +177,7 @@ module _ (p : Program) (one two : Event) (s t w : Common) (n k : Next) (u v : Ta
 
 -- The tree
 -- diverging is mutual
-diverge-sym : (path other : Path) → Diverge path other → Diverge other path
+pub diverge-sym : (path other : Path) → Diverge path other → Diverge other path
 diverge-sym [] other h = absurd h
 diverge-sym (turn ∷ path) [] h = absurd h
 diverge-sym (left ∷ path) (left ∷ other) h = diverge-sym path other h

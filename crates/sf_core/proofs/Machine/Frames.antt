@@ -84,7 +84,7 @@ writes-finds s f (fork place c d) a n w = absurd w
 writes-finds s f (with place q test body) a n w = absurd w
 
 -- the cells that an event reads or writes are there where it isn't about to touch an absent one
-next-finds : (s : Common) (n : Next) (a : ℕ) → (IsAtNoCell s n → ⊥)
+pub next-finds : (s : Common) (n : Next) (a : ℕ) → (IsAtNoCell s n → ⊥)
     → Reads s.store n (cell a) ⊎ Writes s.store n (cell a) → (k : Cell) × (s.heap a ≡ Some k)
 next-finds s (does f below c rest) a n (inl r) = reads-finds s f c a n r
 next-finds s (does f below c rest) a n (inr w) = writes-finds s f c a n w

@@ -9,12 +9,13 @@ use Rattle.sf_core.proofs.Machine.InOrder.Met.{used-there, exit-held, task-may_s
 use Rattle.sf_core.proofs.Machine.InOrder.Starts.{start-in_order, reach-keeps}
 use Rattle.sf_core.proofs.Machine.Locality.{goes-local}
 use Rattle.sf_core.proofs.Machine.Progress.{enabled-or_stop, step-stopped}
+use Rattle.sf_core.proofs.Machine.RaceFree.{race_free-commute}
 use Rattle.sf_core.proofs.Machine.Runs.{reach-cut, reach-join, reach-numbers}
 use Rattle.sf_core.proofs.Machine.Steps.{next-footprint}
 use Rattle.sf_core.proofs.Machine.Tasks.{enabled-diverge, ended-no_event, step-enabled, step-frames}
 use Rattle.sf_core.specs.Machine.Next.{next}
 use Rattle.sf_core.specs.Internal.GoodParts.{PartsMakeGood}
-use Rattle.sf_core.specs.Machine.Laws.{ExitsAreOfHeldResources, OrderedTasksStopOnlyThere, ReachedConfigsAreInOrder, StepsKeepOrder, UsedSlotsAreThere, EnabledTasksDiverge, EnabledTasksProgress, EndedRunsStop, OnlyEnabledTasksStep, RunsCompose, StepsAreDeterministic, StepsAreLocal, StepsAreMonotone, StepsCommute, StepsHaveFrames, StepsFrameOtherTasks, StepsWriteOnlyTheirFootprint, StoppedTasksDoNotStep, UsedNumbersGrow}
+use Rattle.sf_core.specs.Machine.Laws.{ExitsAreOfHeldResources, OrderedTasksStopOnlyThere, RaceFreeStepsCommute, ReachedConfigsAreInOrder, StepsKeepOrder, UsedSlotsAreThere, EnabledTasksDiverge, EnabledTasksProgress, EndedRunsStop, OnlyEnabledTasksStep, RunsCompose, StepsAreDeterministic, StepsAreLocal, StepsAreMonotone, StepsCommute, StepsHaveFrames, StepsFrameOtherTasks, StepsWriteOnlyTheirFootprint, StoppedTasksDoNotStep, UsedNumbersGrow}
 
 pub steps_write_only_their_footprint : StepsWriteOnlyTheirFootprint
 unfolding StepsWriteOnlyTheirFootprint
@@ -101,3 +102,7 @@ exits_are_of_held_resources p entry now path f below r rest o e = exit-held p en
 pub ordered_tasks_stop_only_there : OrderedTasksStopOnlyThere
 unfolding OrderedTasksStopOnlyThere
 ordered_tasks_stop_only_there p entry now path task o e s = task-may_stop p entry now path o task e s
+
+pub race_free_steps_commute : RaceFreeStepsCommute
+unfolding RaceFreeStepsCommute
+race_free_steps_commute = race_free-commute

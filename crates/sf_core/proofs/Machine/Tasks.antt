@@ -56,7 +56,7 @@ step-frames p event c d s = record {
 }
 
 -- a task that has ended makes no step
-ended-no_step : (p : Program) (ev : Event) (s t : Common) (path : Path) → ev.task ≡ path → (task u : Task)
+pub ended-no_step : (p : Program) (ev : Event) (s t : Common) (path : Path) → ev.task ≡ path → (task u : Task)
     → TaskStep p ev s task t u → HasEnded path task → ⊥
 ended-no_step p ev s t path e (runs []) u d h = absurd d
 ended-no_step p ev s t [] e (runs (f ∷ [])) u d h =
@@ -74,7 +74,7 @@ does-not_shut p ev s t f below (with place r test body) rest u d h = h d.0
 does-not_shut p ev s t f below _ rest u d h = absurd h
 
 -- what has an event needn't wait
-goes-not_blocked : (p : Program) (ev : Event) (s t : Common) (n : Next) (u : Task) → Goes p ev s n t u
+pub goes-not_blocked : (p : Program) (ev : Event) (s t : Common) (n : Next) (u : Task) → Goes p ev s n t u
     → IsBlocked s.held n → ⊥
 goes-not_blocked p ev s t (does f below c rest) u d h = does-not_shut p ev s t f below c rest u d h
 goes-not_blocked p ev s t (leaves f below r rest) u d h = h

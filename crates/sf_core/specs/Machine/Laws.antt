@@ -6,7 +6,7 @@ use Rattle.sf_base.specs.declared.limits.TheConstants.{TURNS}
 use Rattle.sf_base.specs.declared.path.Turn.TheVariants.{Left as left, Right as right}
 use Rattle.sf_base.specs.declared.ids.ProcId.{ProcId}
 use Rattle.sf_base.specs.declared.value.Value.{Value}
-use Rattle.sf_core.specs.Machine.Bad.{IsAbsent, TouchesNoCell, IsAtNoCell}
+use Rattle.sf_core.specs.Machine.Bad.{Bad, IsAbsent, TouchesNoCell, IsAtNoCell}
 use Rattle.sf_core.specs.Machine.InOrder.{IsInOrder}
 use Rattle.sf_core.specs.Machine.Start.{Start}
 use Rattle.sf_core.specs.Program.Formed.{IsFormed}
@@ -330,3 +330,19 @@ unfoldable pub OrderedTasksStopOnlyThere : Type 0
 OrderedTasksStopOnlyThere = (p : Program) (entry : Procedure) (c : Config) (path : Path) (task : Task)
     → IsInOrder p entry c → task_at path c.tasks ≡ Some task → Stops p path c.common (next task)
     → MayStop path c.common (next task)
+
+-- two events don't compete for a resource, nor for a cell that the second makes: the first neither makes it nor
+-- writes it
+pub record DoNotCompete (p : Program) (one two : Event) (store : Store) (this that : Next) : Type 0 where
+  pub hands : (r : ResId) → Moves this r → Moves that r → ⊥
+  pub made : (location : ℕ) → Makes p one this (cell location) → Makes p two that (cell location) → ⊥
+  pub written : (location : ℕ) → Writes store this (cell location) → Makes p two that (cell location) → ⊥
+
+-- from a configuration in order that isn't bad, steps of different tasks commute unless they compete: nothing
+-- but a race or an absent cell, a resource and a cell that is made tells their orders apart
+unfoldable pub RaceFreeStepsCommute : Type 0
+RaceFreeStepsCommute = (p : Program) (entry : Procedure) (one two : Event) (c d e : Config) (this that : Task)
+    → IsInOrder p entry c → (Bad c → ⊥) → task_at one.task c.tasks ≡ Some this
+    → task_at two.task c.tasks ≡ Some that → Diverge one.task two.task
+    → DoNotCompete p one two c.common.store (next this) (next that) → Step p one c d → Step p two d e
+    → (m : Config) × Step p two c m × Step p one m e

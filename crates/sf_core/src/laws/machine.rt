@@ -15,6 +15,7 @@ ghost use Rattle.sf_core.specs.Machine.Laws.{
   StepsWriteOnlyTheirFootprint,
   StoppedTasksDoNotStep,
   UsedNumbersGrow,
+  RaceFreeStepsCommute,
   StepsKeepOrder,
   ReachedConfigsAreInOrder,
   UsedSlotsAreThere,
@@ -156,4 +157,11 @@ pub fn exits_are_of_held_resources()
 #[tactic(auto, using(crate::proofs::Machine::Laws::ordered_tasks_stop_only_there))]
 pub fn ordered_tasks_stop_only_there()
     ensures { OrderedTasksStopOnlyThere }
+{}
+
+/// From a configuration in order that isn't bad, steps of different tasks commute, unless they enter
+/// or leave one resource, or the second makes a cell that the first makes or writes.
+#[tactic(auto, using(crate::proofs::Machine::Laws::race_free_steps_commute))]
+pub fn race_free_steps_commute()
+    ensures { RaceFreeStepsCommute }
 {}
