@@ -195,7 +195,7 @@ module _ (p : Program) (formed : IsFormed p) (k : Known) (g : Procedure) (frame 
   rest-seen l w s m n q = seen-part slots l w s n (λ x v. splits-has_right x v q.values)
 
   pub local-safe : (n : ℕ) (todo : List Item) (l : Local) (w : Own) → IsSeen slots l w
-      → LocalSafe p n k.fixed.procedure k.values todo l → Safe p n k todo w
+      → LocalSafe p n (Ends p k.fixed.procedure k.values) todo l → Safe p n k todo w
   local-safe zero todo l w s a = tt
   local-safe (suc n) [] l w s a = local-ended l w s a
   local-safe (suc n) (command (assign place x e) ∷ rest) l w s a = (

@@ -6,3 +6,4 @@ pub mod Examples
 pub mod Internal
 pub mod Local
 pub mod LocalSafe
+pub mod Lemmas

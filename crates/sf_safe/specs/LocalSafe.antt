@@ -73,46 +73,46 @@ pub record LocalLeaves (p : Program) (l : Local) (r : ResId) (Next : Local → T
   pub free : IsShare p r share
   pub goes_on : Next kept
 
--- LocalSafe: for that many events a frame of the procedure, whose value parameters had these values at its start and
--- which has these items still to do, finds what it needs in what it has
-abbrev pub LocalSafe : Program → (events : ℕ) → ProcId → (ℕ → Value) → List Item → Local → Type 0
-LocalSafe p zero f values todo l = Unit {0}
-LocalSafe p (suc n) f values [] l = Ends p f values l
-LocalSafe p (suc n) f values (command (assign place x e) ∷ rest) l =
-    HasVar l x.var × HasIn l e × LocalSafe p n f values rest (put_variable x.var (look l e) l)
-LocalSafe p (suc n) f values (command (look_up place x e field) ∷ rest) l =
+-- LocalSafe: for that many events a frame that has these items still to do finds what it needs in what it has, and
+-- where they are done what is wanted of the end holds
+abbrev pub LocalSafe : Program → (events : ℕ) → (End : Local → Type 0) → List Item → Local → Type 0
+LocalSafe p zero End todo l = Unit {0}
+LocalSafe p (suc n) End [] l = End l
+LocalSafe p (suc n) End (command (assign place x e) ∷ rest) l =
+    HasVar l x.var × HasIn l e × LocalSafe p n End rest (put_variable x.var (look l e) l)
+LocalSafe p (suc n) End (command (look_up place x e field) ∷ rest) l =
     HasVar l x.var × (at : HasCell l e)
-    × LocalSafe p n f values rest (put_variable x.var (at.cell field.0) l)
-LocalSafe p (suc n) f values (command (mutate place e field v) ∷ rest) l =
+    × LocalSafe p n End rest (put_variable x.var (at.cell field.0) l)
+LocalSafe p (suc n) End (command (mutate place e field v) ∷ rest) l =
     HasIn l v × (at : HasCell l e)
-    × LocalSafe p n f values rest (put_local at.location (Some (put_field at.cell field.0 (look l v))) l)
-LocalSafe p (suc n) f values (command (new place x) ∷ rest) l =
+    × LocalSafe p n End rest (put_local at.location (Some (put_field at.cell field.0 (look l v))) l)
+LocalSafe p (suc n) End (command (new place x) ∷ rest) l =
     HasVar l x.var × ((location : ℕ) (cell : Cell) → location ≢ 0 → l.cells location ≡ None
-    → LocalSafe p n f values rest (put_variable x.var (loc location) (put_local location (Some cell) l)))
-LocalSafe p (suc n) f values (command (dispose place e) ∷ rest) l =
-    (at : HasCell l e) × LocalSafe p n f values rest (put_local at.location None l)
-LocalSafe p (suc n) f values (command (if place test this that) ∷ rest) l =
-    LocalBranches l test (LocalSafe p n f values (items this ++ rest) l)
-    (LocalSafe p n f values (items that ++ rest) l)
-LocalSafe p (suc n) f values (command (while place test kept body) ∷ rest) l =
+    → LocalSafe p n End rest (put_variable x.var (loc location) (put_local location (Some cell) l)))
+LocalSafe p (suc n) End (command (dispose place e) ∷ rest) l =
+    (at : HasCell l e) × LocalSafe p n End rest (put_local at.location None l)
+LocalSafe p (suc n) End (command (if place test this that) ∷ rest) l =
+    LocalBranches l test (LocalSafe p n End (items this ++ rest) l)
+    (LocalSafe p n End (items that ++ rest) l)
+LocalSafe p (suc n) End (command (while place test kept body) ∷ rest) l =
     LocalBranches l test
-    (LocalSafe p n f values (items body ++ (command (while place test kept body) ∷ rest)) l)
-    (LocalSafe p n f values rest l)
-LocalSafe p (suc n) f values (command (call place c) ∷ rest) l =
+    (LocalSafe p n End (items body ++ (command (while place test kept body) ∷ rest)) l)
+    (LocalSafe p n End rest l)
+LocalSafe p (suc n) End (command (call place c) ∷ rest) l =
     HasInAll l c.values
-    × ((g : Procedure) → procedure_at p c.callee ≡ Some g → LocalCalls p l c g (LocalSafe p n f values rest))
-LocalSafe p (suc n) f values (command (fork place c d) ∷ rest) l =
+    × ((g : Procedure) → procedure_at p c.callee ≡ Some g → LocalCalls p l c g (LocalSafe p n End rest))
+LocalSafe p (suc n) End (command (fork place c d) ∷ rest) l =
     HasInAll l c.values × HasInAll l d.values
     × ((g h : Procedure) → procedure_at p c.callee ≡ Some g → procedure_at p d.callee ≡ Some h
-    → LocalForks p l c d g h (LocalSafe p n f values rest))
-LocalSafe p (suc n) f values (command (with place r test body) ∷ rest) l =
-    LocalEnters p l r test (LocalSafe p n f values (items body ++ (leave r ∷ rest)))
-LocalSafe p (suc n) f values (leave r ∷ rest) l = LocalLeaves p l r (LocalSafe p n f values rest)
+    → LocalForks p l c d g h (LocalSafe p n End rest))
+LocalSafe p (suc n) End (command (with place r test body) ∷ rest) l =
+    LocalEnters p l r test (LocalSafe p n End (items body ++ (leave r ∷ rest)))
+LocalSafe p (suc n) End (leave r ∷ rest) l = LocalLeaves p l r (LocalSafe p n End rest)
 
 -- each procedure's body is safe for every number of events, seen from inside, from whatever it may begin with
 abbrev pub BodiesAreLocallySafe : Program → Type 0
 BodiesAreLocallySafe p = (f : ProcId) (g : Procedure) → procedure_at p f ≡ Some g → (values : ℕ → Value) (n : ℕ)
-    (l : Local) → Begins p f g values l → LocalSafe p n f values (items g.body) l
+    (l : Local) → Begins p f g values l → LocalSafe p n (Ends p f values) (items g.body) l
 
 -- a program that is formed, meets the conditions on variables and whose bodies are safe, seen from inside, is sound
 unfoldable pub LocallySafeProgramsAreSound : Type 0
