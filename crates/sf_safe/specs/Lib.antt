@@ -7,3 +7,4 @@ pub mod Internal
 pub mod Local
 pub mod LocalSafe
 pub mod Lemmas
+pub mod Unbroken
