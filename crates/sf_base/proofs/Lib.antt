@@ -17,4 +17,5 @@ pub mod Lists
 pub mod Prefixes
 pub mod Zips
 pub mod Elements
+pub mod Members
 pub mod Counts

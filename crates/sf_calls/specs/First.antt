@@ -1,24 +1,10 @@
--- First: of questions in order, the first that finds something.
--- Ordinary: a lexicographic choice. A question relates to None where it finds nothing, and to Some b
--- where b is what it finds.
+-- First: of the elements of a list, the first that has a property.
+-- Ordinary: what a linear search finds, without the search.
 use Rattle.std.specs.Prelude.{◌≡◌, ◌⊎◌, List, [], ◌∷◌, Option, Some, None}
 
--- it finds nothing
-abbrev pub nothing : {A : Type 0} → Option A → Type 0
-nothing None = Unit {0}
-nothing (Some a) = ⊥
-
--- it finds b exactly where C holds
-abbrev pub where_ : {A : Type 0} → Type 0 → A → Option A → Type 0
-where_ C b None = ¬ C
-where_ C b (Some a) = C × (a ≡ b)
-
--- what the one finds, and where it finds nothing what the other does
-abbrev pub first : {A : Type 0} → (Option A → Type 0) → (Option A → Type 0) → Option A → Type 0
-first P Q None = P None × Q None
-first P Q (Some a) = P (Some a) ⊎ (P None × Q (Some a))
-
--- what is found first in the order of the list
-abbrev pub first_of : {A X : Type 0} → (X → Option A → Type 0) → List X → Option A → Type 0
-first_of P [] r = nothing r
-first_of P (x ∷ xs) r = first (P x) (first_of P xs) r
+-- what f makes of the first element of which P holds; None where it holds of none
+abbrev pub IsFirst : {A X : Type 0} → (X → Type 0) → (X → A) → List X → Option A → Type 0
+IsFirst P f [] None = Unit {0}
+IsFirst P f [] (Some a) = ⊥
+IsFirst P f (x ∷ xs) None = (¬ (P x)) × IsFirst P f xs None
+IsFirst P f (x ∷ xs) (Some a) = (P x × (a ≡ f x)) ⊎ ((¬ (P x)) × IsFirst P f xs (Some a))

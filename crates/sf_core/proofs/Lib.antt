@@ -1,2 +1,3 @@
+pub mod HeadsWithin
 pub mod Assertions
 pub mod Machine

@@ -4,6 +4,7 @@ pub mod Syntax
 pub mod View
 pub mod ProgramView
 pub mod Places
+pub mod Heads
 pub mod Named
 pub mod Links
 pub mod Formed

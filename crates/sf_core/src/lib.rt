@@ -5,6 +5,7 @@
 //! - `assertion`: assertions as trees of conjuncts.
 //! - `command`: expressions, calls and commands.
 //! - `fields`: fields by name, and the links, which segments and trees follow.
+//! - `heads`: what occurs in a command itself.
 //! - `program`: procedures, resources, and the program with all that its type keeps.
 //! - `ordered`: assertions whose conjuncts are in order.
 //! - `laws`: laws of assertions and of the machine.
@@ -15,6 +16,7 @@ mod assertion;
 mod command;
 pub mod examples;
 mod fields;
+mod heads;
 pub mod laws;
 mod ordered;
 mod program;
@@ -22,5 +24,6 @@ mod program;
 pub use assertion::{Assertion, Conjunct, Level, Operand, Scope, Test};
 pub use command::{Call, Command, Expr, Occurrence};
 pub use fields::Links;
+pub use heads::{add_call_occurrences, add_head_occurrences, add_level_occurrences};
 pub use ordered::Ordered;
 pub use program::{Proc, Program, Resource};

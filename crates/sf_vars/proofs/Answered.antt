@@ -1,21 +1,84 @@
--- Each program has an answer: what its breach is by has a name, and the search over its sets finds none
--- or the first.
-use Rattle.std.proofs.Common.{◌≡◌, ◌⊎◌, ◌<◌, ℕ, List, [], Option, Some, None, IfSome, slice_get, get_or, refl, inl, inr, arith}
+-- Each program has an answer: what it breaks a condition by is there and has a name, and the search over its
+-- sets finds none or the first.
+use Rattle.std.proofs.Common.{◌≡◌, ◌⊎◌, ◌<◌, ℕ, List, [], ◌∷◌, Option, Some, None, Contains, slice_get, get_or, refl, inl, inr, subst, arith}
+use Rattle.std.specs.List.{flat_map}
+use Rattle.std.proofs.lemmas.List.Elements.{Contains-append_left}
 use Rattle.std.proofs.lemmas.Option.{slice_get-get_or, slice_get_cases}
+use Rattle.sf_base.proofs.Elements.{contains-cons}
 use Rattle.sf_base.specs.declared.ids.ProcId.{ProcId}
 use Rattle.sf_base.specs.declared.ids.Var.{Var}
 use Rattle.sf_base.specs.declared.ids.Var.TheVariants.{Own, Shared}
-use Rattle.sf_core.specs.Program.Formed.{variable_count}
-use Rattle.sf_core.specs.Program.Syntax.{Program, Resource}
+use Rattle.sf_core.specs.declared.command.Occurrence.{Occurrence}
+use Rattle.sf_core.specs.Program.Formed.{IsFormed, IsInBody, CallWithin, CommandWithin, variable_count}
+use Rattle.sf_core.specs.Program.Heads.{Site, expr_occurrences}
+use Rattle.sf_core.specs.Program.Syntax.{Call, Procedure, Program, Resource}
+use Rattle.sf_core.proofs.HeadsWithin.{call-within, calls-within, forks-calls, head-within, regions-within, sites-within}
 use Rattle.sf_calls.specs.declared.breach.Breach.{Breach}
 use Rattle.sf_calls.specs.declared.breach.Breach.TheVariants.{NotHeld, Reentered, SameReference, ReferenceIsFree, ParallelShares}
+use Rattle.sf_calls.specs.Assigned.{MayChange}
+use Rattle.sf_calls.specs.Breaks.{BreaksAt, Breaks, IsAgain}
 use Rattle.sf_calls.specs.FirstBreach.{Conditions, FirstBreach}
+use Rattle.sf_calls.proofs.Broken.{first_broken}
+use Rattle.sf_calls.proofs.Least.{takes_within}
 use Rattle.sf_calls.proofs.SetsThere.{sets_there}
 use Rattle.sf_vars.specs.declared.fault.VarFault.{VarFault}
 use Rattle.sf_vars.specs.Faults.{IsVariableName, IsBreachName, IsFirstFault, told_by}
 use Rattle.sf_vars.specs.Laws.{EachProgramHasAnAnswer}
 use Rattle.sf_vars.specs.Internal.Search.{in_procedures, IsVariableIn, IsBreachIn}
-use Rattle.sf_vars.proofs.Meets.{meets_program}
+use Rattle.sf_vars.proofs.Fits.{free_in_body}
+use Rattle.sf_vars.proofs.Meets.{among_there, meets_program}
+
+-- what a call may change may be named where it is made
+changed_in : (p : Program) (h : Procedure) (c : Call) (x : Var) → IsFormed p → CallWithin p h c
+    → MayChange p c x → IsInBody p h x
+changed_in p h c x formed w (inl a) =
+    let y = among_there x c.references (flat_map expr_occurrences c.values) a in
+    subst (IsInBody p h) y.2 (call-within p h c w y.0 y.1)
+changed_in p h c x formed w (inr f) = free_in_body p h c.callee x formed f
+
+again_there : (x : Occurrence) (xs : List Occurrence) → IsAgain x xs → Contains xs x
+again_there x [] h = absurd h
+again_there x (y ∷ ys) (inl h) = (contains-cons y ys x).1 (inr h.1)
+again_there x (y ∷ ys) (inr h) = (contains-cons y ys x).1 (inr (again_there x ys h))
+
+-- what a command breaks a condition by may be named in the procedure, or is a resource of the file
+breaks_in : (p : Program) (f : ProcId) (h : Procedure) (s : Site) → IsFormed p
+    → slice_get p.procedures f.0 ≡ Some h → CommandWithin p h s.command → (b : Breach) → BreaksAt p f b s
+    → IsBreachIn p f b
+breaks_in p f h s formed at w (NotHeld place x) (u, inl (inl c)) =
+    (h, at, head-within p h s.command w (record { var = x; place = place }) c)
+breaks_in p f h s formed at w (NotHeld place x) (u, inl (inr (d, k, c))) =
+    (h, at, call-within p h d (calls-within p h s.command w d k) (record { var = x; place = place }) c)
+breaks_in p f h s formed at w (NotHeld place x) (u, inr (d, k, (e, free))) =
+    (h, at, free_in_body p h d.callee x formed free)
+breaks_in p f h s formed at w (Reentered place r) (u, inl (e, c)) = regions-within p h s.command w r c
+breaks_in p f h s formed at w (Reentered place r) (u, inr (d, k, (e, t))) = takes_within p formed d.callee r t
+breaks_in p f h s formed at w (SameReference place x) (d, k, g) =
+    let y : Occurrence = record { var = x; place = place } in (
+      h,
+      at,
+      call-within p h d (calls-within p h s.command w d k) y
+          (Contains-append_left d.references _ y (again_there y d.references g)),
+    )
+breaks_in p f h s formed at w (ReferenceIsFree place x) (d, k, (c, free)) =
+    let y : Occurrence = record { var = x; place = place } in
+    (h, at, call-within p h d (calls-within p h s.command w d k) y (Contains-append_left d.references _ y c))
+breaks_in p f h s formed at w (ParallelShares place x) (e, k, is, inl t) =
+    let d = (forks-calls s.command e k).0 in
+    (h, at, changed_in p h e.0 x formed (calls-within p h s.command w e.0 d) t.0)
+breaks_in p f h s formed at w (ParallelShares place x) (e, k, is, inr t) =
+    let d = (forks-calls s.command e k).1 in
+    (h, at, changed_in p h e.1 x formed (calls-within p h s.command w e.1 d) t.0)
+
+-- what comes first may be named
+pub first_in : (p : Program) (f : ProcId) (b : Breach) → IsFormed p → FirstBreach p (Some (f, b))
+    → IsBreachIn p f b
+first_in p f b formed first = there ((first_broken p formed).found f b first)
+  where
+    there : Breaks p f b → IsBreachIn p f b
+    there (h, at, (s, m, k)) =
+        breaks_in p f h s formed at
+        (sites-within p h [] h.body (formed.procedures f.0 h at).body s m) b k
 
 -- a variable that the procedure may name has a name
 variable_named : (p : Program) (f : ProcId) (x : Var) → IsVariableIn p f x
@@ -42,11 +105,11 @@ breach_named p f (ReferenceIsFree place x) h = variable_named p f x h
 breach_named p f (ParallelShares place x) h = variable_named p f x h
 
 -- what is found first is the answer
-answered : (p : Program) (o : Option (ProcId × Breach)) → FirstBreach p o
-    → IfSome o (λ e. IsBreachIn p e.0 e.1) → Conditions p ⊎ ((fault : VarFault) × IsFirstFault p fault)
-answered p None first in_program = inl first
-answered p (Some (f, b)) first in_program =
-    let named = breach_named p f b in_program in
+answered : (p : Program) (o : Option (ProcId × Breach)) → IsFormed p → FirstBreach p o
+    → Conditions p ⊎ ((fault : VarFault) × IsFirstFault p fault)
+answered p None formed first = inl first
+answered p (Some (f, b)) formed first =
+    let named = breach_named p f b (first_in p f b formed first) in
     inr (
       told_by b named.0,
       record {
@@ -62,5 +125,5 @@ answered p (Some (f, b)) first in_program =
 pub program_answered : EachProgramHasAnAnswer
 program_answered p formed =
     let sets = sets_there p formed in
-    let found = meets_program p sets.0 formed sets.1 (in_procedures sets.0 0 p.procedures) refl in
-    answered p (in_procedures sets.0 0 p.procedures) found.0 found.1
+    answered p (in_procedures sets.0 0 p.procedures) formed
+    (meets_program p sets.0 formed sets.1 (in_procedures sets.0 0 p.procedures) refl)

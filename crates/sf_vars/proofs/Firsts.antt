@@ -1,75 +1,70 @@
--- What is found first: a search by tests finds what the relation says, and a search of an ordered set
--- finds what one of all that is there does.
-use Rattle.std.proofs.Common.{◌≡◌, ◌↔◌, Bool, true, false, List, [], ◌∷◌, ◌++◌, Option, Some, None, IfSome, Contains, All, refl, sym, ap, inl, inr, ◌∙◌, subst}
+-- What is found first: a search by tests finds the first of a list, and a search of an ordered set finds
+-- what one of all that is there does.
+-- Names: `first-LAW`.
+use Rattle.std.proofs.Common.{◌≡◌, ◌↔◌, Bool, true, false, List, [], ◌∷◌, ◌++◌, map, Option, Some, None, Contains, refl, sym, ap, inl, inr, ◌∙◌, subst}
 use Rattle.std.specs.Bool.{Decides}
+use Rattle.std.specs.List.{flat_map}
 use Rattle.std.specs.Option.{option_or}
-use Rattle.std.proofs.lemmas.List.Elements.{Contains-append_cases, Contains-append_left, Contains-append_right, All-head, All-tail}
-use Rattle.sf_base.proofs.Elements.{contains-nil, contains-single, contains-single_of}
-use Rattle.sf_calls.specs.First.{nothing, where_, first, first_of}
+use Rattle.std.proofs.lemmas.List.Elements.{Contains-append_cases, Contains-append_left, Contains-append_right}
+use Rattle.sf_base.proofs.Elements.{contains-nil, contains-single, contains-single_of, contains-cons}
+use Rattle.sf_calls.specs.First.{IsFirst}
 use Rattle.sf_calls.proofs.InOrder.{Ordered}
 use Rattle.sf_vars.specs.Internal.Search.{found, search_in}
 
--- it is what the relation finds, and W holds of it
-abbrev pub Meets : {A : Type 0} → (Option A → Type 0) → (A → Type 0) → Option A → Type 0
-Meets P W o = P o × IfSome o W
+-- what comes first in two lists, the second of which is asked only where the first one has nothing
+pub first-append : {A X : Type 0} (P : X → Type 0) (f : X → A) (xs ys : List X) (o q : Option A)
+    → IsFirst P f xs o → (IsFirst P f xs None → IsFirst P f ys q) → IsFirst P f (xs ++ ys) (option_or o q)
+first-append P f [] ys None q p h = h tt
+first-append P f [] ys (Some a) q p h = absurd p
+first-append P f (x ∷ xs) ys None None p h = (p.0, first-append P f xs ys None None p.1 (λ n. h (p.0, n)))
+first-append P f (x ∷ xs) ys None (Some b) p h =
+    inr (p.0, first-append P f xs ys None (Some b) p.1 (λ n. h (p.0, n)))
+first-append P f (x ∷ xs) ys (Some a) q (inl p) h = inl p
+first-append P f (x ∷ xs) ys (Some a) q (inr p) h =
+    inr (p.0, first-append P f xs ys (Some a) q p.1 (λ n. h (p.0, n)))
 
-pub meets_nothing : {A : Type 0} (W : A → Type 0) → Meets (nothing {A = A}) W None
-meets_nothing W = (tt, tt)
+-- in lists that are made of each element
+pub first-flat_map : {A X Y : Type 0} (P : Y → Type 0) (f : Y → A) (g : X → List Y) (s : X → Option A)
+    (xs : List X)
+    → ((x : X) → Contains xs x → IsFirst P f (g x) (s x)) → IsFirst P f (flat_map g xs) (search_in s xs)
+first-flat_map P f g s [] each = tt
+first-flat_map P f g s (x ∷ xs) each =
+    first-append P f (g x) (flat_map g xs) (s x) (search_in s xs)
+    (each x ((contains-cons x xs x).1 (inl refl)))
+    (λ n. first-flat_map P f g s xs (λ y c. each y ((contains-cons x xs y).1 (inr c))))
 
-pub meets_both : {A : Type 0} (P Q : Option A → Type 0) (W : A → Type 0) (o q : Option A) → Meets P W o
-    → Meets Q W q → Meets (first P Q) W (option_or o q)
-meets_both P Q W None None p q = ((p.0, q.0), tt)
-meets_both P Q W None (Some b) p q = (inr (p.0, q.0), q.1)
-meets_both P Q W (Some a) q p h = (inl p.0, p.1)
+-- of what is made of each element
+pub first-map : {A X Y : Type 0} (P : Y → Type 0) (f : Y → A) (g : X → Y) (xs : List X) (o : Option A)
+    → IsFirst (λ x. P (g x)) (λ x. f (g x)) xs o → IsFirst P f (map g xs) o
+first-map P f g [] o h = h
+first-map P f g (x ∷ xs) None h = (h.0, first-map P f g xs None h.1)
+first-map P f g (x ∷ xs) (Some a) (inl h) = inl h
+first-map P f g (x ∷ xs) (Some a) (inr h) = inr (h.0, first-map P f g xs (Some a) h.1)
 
-pub meets_found : {A : Type 0} (b : Bool) (C : Type 0) (x : A) (W : A → Type 0) → Decides b C → (C → W x)
-    → Meets (where_ C x) W (found b x)
-meets_found true C x W d w = ((d.0 refl, refl), w (d.0 refl))
-meets_found false C x W d w = ((λ c. absurd (let e : false ≡ true = d.1 c in cc)), tt)
-
-pub meets_list : {A X : Type 0} (P : X → Option A → Type 0) (W : A → Type 0) (f : X → Option A)
-    (V : X → Type 0)
-    → ((x : X) → V x → Meets (P x) W (f x)) → (xs : List X) → All V xs
-    → Meets (first_of P xs) W (search_in f xs)
-meets_list P W f V each [] all = (tt, tt)
-meets_list P W f V each (x ∷ xs) all =
-    meets_both (P x) (first_of P xs) W (f x) (search_in f xs) (each x (All-head V x xs all))
-    (meets_list P W f V each xs (All-tail V x xs all))
-
--- the first of two lists, the second of which is asked only where the first one has nothing
-pub meets_append : {A X : Type 0} (P : X → Option A → Type 0) (W : A → Type 0) (xs ys : List X)
-    (o q : Option A)
-    → Meets (first_of P xs) W o → (first_of P xs None → Meets (first_of P ys) W q)
-    → Meets (first_of P (xs ++ ys)) W (option_or o q)
-meets_append P W [] ys None q p h = h tt
-meets_append P W [] ys (Some a) q p h = absurd p.0
-meets_append P W (x ∷ xs) ys None q p h = go q (meets_append P W xs ys None q (p.0.1, tt) (λ n. h (p.0.0, n)))
+-- a search by a test
+pub first-search : {A X : Type 0} (P : X → Type 0) (f : X → A) (test : X → Bool) (xs : List X)
+    → ((x : X) → Contains xs x → Decides (test x) (P x))
+    → IsFirst P f xs (search_in (λ x. found (test x) (f x)) xs)
+first-search P f test [] decides = tt
+first-search {A} {X} P f test (x ∷ xs) decides =
+    go (test x) (search_in (λ x. found (test x) (f x)) xs)
+    (decides x ((contains-cons x xs x).1 (inl refl)))
+    (first-search P f test xs (λ y c. decides y ((contains-cons x xs y).1 (inr c))))
   where
-    go : (q : _) → Meets (first_of P (xs ++ ys)) W q → Meets (first (P x) (first_of P (xs ++ ys))) W q
-    go None m = ((p.0.0, m.0), tt)
-    go (Some b) m = (inr (p.0.0, m.0), m.1)
-meets_append P W (x ∷ xs) ys (Some a) q (inl p, w) h = (inl p, w)
-meets_append P W (x ∷ xs) ys (Some a) q (inr p, w) h =
-    let m = meets_append P W xs ys (Some a) q (p.1, w) (λ n. h (p.0, n)) in (inr (p.0, m.0), m.1)
+    go : (b : Bool) (o : Option A) → Decides b (P x) → IsFirst P f xs o
+        → IsFirst P f (x ∷ xs) (option_or (found b (f x)) o)
+    go true o d h = inl (d.0 refl, refl)
+    go false None d h = ((λ p. absurd (let e : false ≡ true = d.1 p in cc)), h)
+    go false (Some a) d h = inr ((λ p. absurd (let e : false ≡ true = d.1 p in cc)), h)
 
--- where none is found there is none
-pub none_of : {A X : Type 0} (C : X → Type 0) (f : X → A) (xs : List X)
-    → first_of (λ x. where_ (C x) (f x)) xs None → (x : X) → Contains xs x → C x → ⊥
-none_of C f [] n x c h = contains-nil x c
-none_of C f (y ∷ ys) n x c h = elim (Contains-append_cases (y ∷ []) ys x c) [
-  | inl k ↦ n.0 (subst C (sym (contains-single y x k)) h)
-  | inr k ↦ none_of C f ys n.1 x k h
-]
-
--- two conditions that hold of the same are found at the same
-pub same_first : {A X : Type 0} (C D : X → Type 0) (f : X → A) → ((x : X) → C x → D x)
-    → ((x : X) → D x → C x) → (xs : List X) (o : Option A)
-    → first_of (λ x. where_ (C x) (f x)) xs o → first_of (λ x. where_ (D x) (f x)) xs o
-same_first C D f to from [] o h = h
-same_first C D f to from (x ∷ xs) None h = (λ d. h.0 (from x d), same_first C D f to from xs None h.1)
-same_first C D f to from (x ∷ xs) (Some a) (inl h) = inl (to x h.0, h.1)
-same_first C D f to from (x ∷ xs) (Some a) (inr h) =
-    inr ((λ d. h.0 (from x d)), same_first C D f to from xs (Some a) h.1)
+-- two conditions of which the one holds where the other does are first at the same
+pub first-same : {A X : Type 0} (P Q : X → Type 0) (f : X → A) (xs : List X) (o : Option A)
+    → ((x : X) → P x → Q x) → ((x : X) → Q x → P x) → IsFirst P f xs o → IsFirst Q f xs o
+first-same P Q f [] o to from h = h
+first-same P Q f (x ∷ xs) None to from h = ((λ q. h.0 (from x q)), first-same P Q f xs None to from h.1)
+first-same P Q f (x ∷ xs) (Some a) to from (inl h) = inl (to x h.0, h.1)
+first-same P Q f (x ∷ xs) (Some a) to from (inr h) =
+    inr ((λ q. h.0 (from x q)), first-same P Q f xs (Some a) to from h.1)
 
 -- the first of those in order of which it holds, as b tells; or there is none
 abbrev pub IsLeast : {A X : Type 0} → (X → X → Type 0) → (X → Type 0) → (X → A) → List X → Option A → Type 0
@@ -125,7 +120,7 @@ least_found {A} {X} B D f test apart decides (z ∷ zs) ordered =
 
 -- what is first in an ordered list is found first
 pub least_first : {A X : Type 0} (B : X → X → Type 0) (D : X → Type 0) (f : X → A) (xs : List X)
-    → Ordered B xs → (o : Option A) → IsLeast B D f xs o → first_of (λ x. where_ (D x) (f x)) xs o
+    → Ordered B xs → (o : Option A) → IsLeast B D f xs o → IsFirst D f xs o
 least_first B D f [] ordered None l = tt
 least_first B D f [] ordered (Some b) l = absurd (contains-nil l.0 l.1)
 least_first B D f (z ∷ zs) ordered None l = (
@@ -144,27 +139,22 @@ least_first {A} {X} B D f (z ∷ zs) ordered (Some b) (x, c, h, e, before) =
     ]
 
 -- an ordered set is searched in place of all that there is
-pub meets_set : {A X : Type 0} (B : X → X → Type 0) (C D : X → Type 0) (f : X → A) (test : X → Bool)
-    (W : A → Type 0) (all some : List X)
+pub first-set : {A X : Type 0} (B : X → X → Type 0) (C D : X → Type 0) (f : X → A) (test : X → Bool)
+    (all some : List X)
     → ((x y : X) → B x y → B y x → ⊥) → ((x : X) → Decides (test x) (D x)) → Ordered B all → Ordered B some
     → ((x : X) → Contains some x ↔ C x) → ((x : X) → C x → Contains all x)
-    → ((x : X) → C x → D x → W (f x))
-    → Meets (first_of (λ x. where_ (C x × D x) (f x)) all) W (search_in (λ x. found (test x) (f x)) some)
-meets_set {A} {X} B C D f test W all some apart decides ordered_all ordered_some members inside has =
-    let l = least_found B D f test apart decides some ordered_some in
-    let m = go (search_in (λ x. found (test x) (f x)) some) l in
-    (least_first B (λ x. C x × D x) f all ordered_all _ m.0, m.1)
+    → IsFirst (λ x. C x × D x) f all (search_in (λ x. found (test x) (f x)) some)
+first-set {A} {X} B C D f test all some apart decides ordered_all ordered_some members inside =
+    least_first B (λ x. C x × D x) f all ordered_all _
+    (go (search_in (λ x. found (test x) (f x)) some) (least_found B D f test apart decides some ordered_some))
   where
-    go : (o : Option A) → IsLeast B D f some o → IsLeast B (λ x. C x × D x) f all o × IfSome o W
-    go None l = (λ x c h. l x ((members x).1 h.0) h.1, tt)
+    go : (o : Option A) → IsLeast B D f some o → IsLeast B (λ x. C x × D x) f all o
+    go None l = λ x c h. l x ((members x).1 h.0) h.1
     go (Some b) (x, c, h, e, before) = (
-      (
-        x,
-        inside x ((members x).0 c),
-        ((members x).0 c, h),
-        e,
-        λ y k less g. before y
-            ((members y).1 g.0) less g.1,
-      ),
-      subst W (sym e) (has x ((members x).0 c) h),
+      x,
+      inside x ((members x).0 c),
+      ((members x).0 c, h),
+      e,
+      λ y k less g. before y
+          ((members y).1 g.0) less g.1,
     )

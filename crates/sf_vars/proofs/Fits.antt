@@ -6,7 +6,7 @@ use Rattle.sf_base.specs.declared.ids.ProcId.{ProcId}
 use Rattle.sf_base.specs.declared.ids.Var.{Var}
 use Rattle.sf_base.specs.declared.ids.Var.TheVariants.{Own, Shared}
 use Rattle.sf_base.specs.declared.limits.TheConstants.{RESOURCES}
-use Rattle.sf_core.specs.Program.Formed.{IsFormed, IsInBody, IsSettable, CallWithin, CommandWithin, BlockWithin}
+use Rattle.sf_core.specs.Program.Formed.{IsFormed, IsInBody, CallWithin, CommandWithin, BlockWithin}
 use Rattle.sf_core.specs.Machine.HeldBy.{HeldBy}
 use Rattle.sf_core.specs.Program.Syntax.{Call, Command, assign, look_up, mutate, new, dispose, if, while, call, fork, with, Block, done, then, Procedure, Program}
 use Rattle.sf_calls.specs.Conditions.{Takes, Free}
@@ -86,11 +86,6 @@ held_fit p sets g formed are there k d below =
     let inside : (get_or (holds_of sets g) k d).0 < length p.resources = holds_within p formed g
     (get_or (holds_of sets g) k d) held in
     omega (arith, inside, formed.resource_count)
-
--- a variable that may be set may be read
-pub settable_in : (p : Program) (h : Procedure) (x : Var) → IsSettable p h x → IsInBody p h x
-settable_in p h (Own n) w = w.0
-settable_in p h (Shared r i) w = w
 
 -- what is free anywhere may be named everywhere
 pub free_in_body : (p : Program) (h : Procedure) (g : ProcId) (x : Var) → IsFormed p → Free p g x

@@ -1,62 +1,62 @@
 -- The search finds the first breach.
-use Rattle.std.proofs.Common.{◌≡◌, ◌≢◌, ◌⊎◌, ◌↔◌, ◌<◌, ◌+◌, ℕ, suc, Bool, true, false, List, [], ◌∷◌, ◌++◌, length, get_or, replicate, slice_get, Option, Some, None, IfSome, Contains, All, refl, sym, ap, inl, inr, ◌∙◌, subst, arith}
+-- Names: `meets_PART` says that what the search finds in PART is what comes first there.
+use Rattle.std.proofs.Common.{◌≡◌, ◌≢◌, ◌⊎◌, ◌<◌, ◌+◌, ℕ, suc, Bool, true, false, List, [], ◌∷◌, ◌++◌, length, map, get_or, replicate, slice_get, Option, Some, None, Contains, All, refl, sym, ap, inl, inr, ◌∙◌, subst, arith}
 use Rattle.std.specs.Bool.{Decides}
+use Rattle.std.specs.List.{flat_map}
 use Rattle.std.specs.Option.{option_or, option_map}
 use Rattle.std.proofs.lemmas.Bool.Decides.{Decides-or, Decides-and, Decides-not, Decides-like, eqb_tells, leb_tells}
 use Rattle.std.proofs.lemmas.List.{length-set, get_or-set_same, get_or-set_other, length-replicate, get_or-replicate, get_or_past}
 use Rattle.std.proofs.lemmas.List.Elements.{Contains-append_cases, Contains-append_left, Contains-append_right, All-head, All-tail}
+use Rattle.std.proofs.lemmas.List.Elements.{Contains-get_or}
+use Rattle.std.proofs.lemmas.Grind.{flat_map-append}
 use Rattle.std.proofs.lemmas.Option.{slice_get_within}
-use Rattle.sf_base.proofs.Elements.{contains-nil, contains-single, contains-single_of}
+use Rattle.sf_base.proofs.Elements.{contains-nil, contains-single, contains-single_of, contains-cons}
+use Rattle.sf_base.proofs.Members.{contains-map}
 use Rattle.sf_base.proofs.Options.{option_or-assoc}
-use Rattle.sf_base.specs.declared.ids.FieldId.{FieldId}
 use Rattle.sf_base.specs.declared.ids.ProcId.{ProcId}
 use Rattle.sf_base.specs.declared.ids.ResId.{ResId}
 use Rattle.sf_base.specs.declared.ids.Var.{Var}
 use Rattle.sf_base.specs.declared.ids.Var.TheVariants.{Own, Shared}
 use Rattle.sf_base.specs.declared.limits.TheConstants.{RESOURCES}
-use Rattle.sf_core.specs.declared.assertion.Operand.{Operand}
-use Rattle.sf_core.specs.declared.assertion.Operand.TheVariants.{Known, Exists}
-use Rattle.sf_core.specs.declared.assertion.Scope.{Scope}
-use Rattle.sf_core.specs.declared.assertion.Test.{Test}
-use Rattle.sf_core.specs.declared.assertion.Test.TheVariants.{True, Equal, Differ}
+use Rattle.sf_base.specs.Variables.{same_var}
+use Rattle.sf_base.proofs.Variables.{same_var-decides}
 use Rattle.sf_core.specs.declared.command.Expr.{Expr}
 use Rattle.sf_core.specs.declared.command.Expr.TheVariants.{Var as Variable, Nil, Int}
 use Rattle.sf_core.specs.declared.command.Occurrence.{Occurrence}
-use Rattle.sf_core.specs.Program.Formed.{IsFormed, IsInBody, IsSettable, ExprWithin, TestWithin, OperandWithin, FieldsWithin, LevelWithin, ConjunctsWithin, ConjunctWithin, CallWithin, CommandWithin, BlockWithin}
+use Rattle.sf_core.specs.Program.Formed.{IsFormed, CommandWithin, BlockWithin}
+use Rattle.sf_core.specs.Program.Heads.{Site, sites, inner_sites, head_calls, head_forks, head_occurrences, head_regions, call_occurrences, expr_occurrences}
+use Rattle.sf_core.specs.Program.Places.{place_of}
 use Rattle.sf_core.specs.Machine.HeldBy.{HeldBy}
-use Rattle.sf_core.specs.Program.Syntax.{Conjunct, holds, points, segment, tree, choose, Level, level, Conjuncts, none, also, Call, Command, assign, look_up, mutate, new, dispose, if, while, call, fork, with, Block, done, then, Procedure, Program}
+use Rattle.sf_core.specs.Program.Syntax.{Call, Command, assign, look_up, mutate, new, dispose, if, while, call, fork, with, Block, done, then, Procedure, Program}
+use Rattle.sf_core.proofs.HeadsWithin.{calls-within, forks-calls, regions-within}
 use Rattle.sf_calls.specs.declared.breach.Breach.{Breach}
 use Rattle.sf_calls.specs.declared.breach.Breach.TheVariants.{NotHeld, Reentered, SameReference, ReferenceIsFree, ParallelShares}
 use Rattle.sf_calls.specs.Conditions.{Takes, Free}
-use Rattle.sf_calls.specs.First.{where_, first, first_of}
+use Rattle.sf_calls.specs.First.{IsFirst}
 use Rattle.sf_calls.specs.Assigned.{MayChange}
-use Rattle.sf_calls.specs.Around.{Around, inside, IsHeld, IsUnheld, Uses, Shares}
-use Rattle.sf_calls.specs.FirstBreach.{resources_from, variables_from, UnheldAt, UnheldInExpr, UnheldInOperand, UnheldInTest, UnheldInLevel, UnheldInConjuncts, UnheldInConjunct, UnheldInCall, ReentersByCall, Repeats, PassesFree, named_in, SharesInFork, InBlock, InCommand, InProcedures, FirstBreach}
+use Rattle.sf_calls.specs.Around.{IsHeld, IsUnheld, Uses, Shares}
+use Rattle.sf_calls.specs.FirstBreach.{resources_from, variables_from, Question, occurs, frees, enters, takes, repeats as again, passes, shares as share, breach_of, IsBroken, call_uses, call_takes, repeats_after, fork_shares, uses_questions, enters_questions, repeats_questions, passes_questions, head_questions, site_questions, questions_from, IsNo, told, FirstBreach}
 use Rattle.sf_calls.specs.Outside.{IsAmong, OccursInValues}
 use Rattle.sf_calls.specs.Sets.{Sets, AreSetsOf, IsResSet, IsEarlier, IsEarlierResource}
-use Rattle.sf_base.specs.Variables.{same_var}
 use Rattle.sf_calls.specs.Internal.Tests.{in_references, in_values}
-use Rattle.sf_base.proofs.Variables.{same_var-decides}
 use Rattle.sf_calls.proofs.Decided.{resource, in_references_is, in_values_is}
+use Rattle.sf_calls.proofs.Firsts.{none-of}
 use Rattle.sf_calls.proofs.Gathered.{earlier_trans, not_earlier}
 use Rattle.sf_calls.proofs.InFile.{resource_apart, resources_ordered, resources_there, variables_ordered, free_there}
 use Rattle.sf_calls.proofs.InOrder.{ordered_pairs}
 use Rattle.sf_calls.proofs.Least.{takes_within}
-use Rattle.sf_vars.specs.Internal.Search.{found, search_in, has, with_one, with_all, none_held, lacks, is_in, takes_of, holds_of, free_of, at_occurrence, in_expr, in_operand, in_test, in_level, in_conjuncts, in_conjunct, free_unheld, unheld_in_call, reenters_by_call, repeats, passes_free, may_change, uses, shares, shared_at, shared_by_value, shared_by_name, free_in_both, shares_in_fork, in_single, in_fork, in_block, in_command, in_procedure, in_procedures, IsBreachIn}
-use Rattle.sf_vars.proofs.Firsts.{Meets, meets_nothing, meets_both, meets_found, meets_list, meets_append, meets_set, none_of, same_first}
-use Rattle.sf_vars.proofs.Fits.{callee_there, free_set, takes_set, holds_set, held_fit, settable_in, free_in_body}
+use Rattle.sf_calls.proofs.Searches.{proc}
+use Rattle.sf_vars.specs.Internal.Search.{found, has, with_one, with_all, none_held, lacks, is_in, takes_of, holds_of, free_of, unheld, free_unheld, unheld_in_call, reenters_by_call, repeats, passes_free, may_change, uses, shares, shared_among, free_in_both, shares_in_fork, entered_held, in_head, in_block, in_inner, in_procedure, in_procedures}
+use Rattle.sf_vars.proofs.Firsts.{first-append, first-flat_map, first-map, first-search, first-same, first-set}
+use Rattle.sf_vars.proofs.Fits.{callee_there, free_set, takes_set, holds_set, held_fit}
 
 -- where one is in a program, and the visited tell what is held there
-record Stands (a : Around) (h : Procedure) (sets : Sets) (held : List Bool) : Type 0 where
-  formed : IsFormed a.program
-  are : AreSetsOf a.program sets
-  there : slice_get a.program.procedures a.procedure.0 ≡ Some h
+record Stands (p : Program) (f : ProcId) (entered : List ResId) (sets : Sets) (held : List Bool)
+    : Type 0 where
+  formed : IsFormed p
+  are : AreSetsOf p sets
   size : length held ≡ RESOURCES
-  is : (r : ResId) → Decides (has held r) (IsHeld a r)
-
--- a breach by what may be named there
-abbrev In : Around → Breach → Type 0
-In a b = IsBreachIn a.program a.procedure b
+  is : (r : ResId) → Decides (has held r) (IsHeld p f entered r)
 
 -- a test by a list
 pub is_in_is : (xs : List Var) (x : Var) → Decides (is_in xs x) (Contains xs x)
@@ -73,212 +73,71 @@ is_in_is (y ∷ ys) x =
     from c =
         elim (Contains-append_cases (y ∷ []) ys x c) [ inl k ↦ inl (contains-single y x k) | inr k ↦ inr k ]
 
-unheld_is : (a : Around) (h : Procedure) (sets : Sets) (held : List Bool) → Stands a h sets held → (x : Var)
-    → Decides (lacks held x) (IsUnheld a x)
-unheld_is a h sets held s (Own n) = (λ e. absurd (cc), λ u. absurd u)
-unheld_is a h sets held s (Shared r i) = Decides-not (has held r) (s.is r)
+unheld_is : (p : Program) (f : ProcId) (es : List ResId) (sets : Sets) (held : List Bool)
+    → Stands p f es sets held → (x : Var) → Decides (lacks held x) (IsUnheld p f es x)
+unheld_is p f es sets held s (Own n) = (λ e. absurd (cc), λ u. absurd u)
+unheld_is p f es sets held s (Shared r i) = Decides-not (has held r) (s.is r)
 
-meets_at : (a : Around) (h : Procedure) (sets : Sets) (held : List Bool) → Stands a h sets held
-    → (x : Occurrence) → IsInBody a.program h x.var → Meets (UnheldAt a x) (In a) (at_occurrence held x)
-meets_at a h sets held s x w =
-    meets_found (lacks held x.var) (IsUnheld a x.var) (NotHeld x.place x.var) (In a)
-    (unheld_is a h sets held s x.var) (λ u. (h, s.there, w))
+-- what comes first at a site
+abbrev First : Program → ProcId → Site → List Question → Option Breach → Type 0
+First p f s = IsFirst (IsBroken p f s) breach_of
 
-meets_set_at : (a : Around) (h : Procedure) (sets : Sets) (held : List Bool) → Stands a h sets held
-    → (x : Occurrence) → IsSettable a.program h x.var → Meets (UnheldAt a x) (In a) (at_occurrence held x)
-meets_set_at a h sets held s x w = meets_at a h sets held s x (settable_in a.program h x.var w)
+abbrev inside : Site → List ResId
+inside s = head_regions s.command ++ s.entered
 
-meets_expr : (a : Around) (h : Procedure) (sets : Sets) (held : List Bool) → Stands a h sets held
-    → (e : Expr) → ExprWithin (IsInBody a.program h) e → Meets (UnheldInExpr a e) (In a) (in_expr held e)
-meets_expr a h sets held s (Variable x) w = meets_at a h sets held s x w
-meets_expr a h sets held s Nil w = meets_nothing (In a)
-meets_expr a h sets held s (Int i) w = meets_nothing (In a)
-
-meets_operand : (a : Around) (h : Procedure) (sets : Sets) (held : List Bool) → Stands a h sets held
-    → (made : List Scope) (o : Operand Expr) → OperandWithin (IsInBody a.program h) made o
-    → Meets (UnheldInOperand a o) (In a) (in_operand held o)
-meets_operand a h sets held s made (Known e) w = meets_expr a h sets held s e w
-meets_operand a h sets held s made (Exists n) w = meets_nothing (In a)
-
-meets_test : {E : Type 0} (W : Breach → Type 0) (P : E → Option Breach → Type 0) (f : E → Option Breach)
-    (V : E → Type 0)
-    → ((e : E) → V e → Meets (P e) W (f e)) → (t : Test E) → TestWithin V t
-    → Meets (UnheldInTest P t) W (in_test f t)
-meets_test W P f V each True w = meets_nothing W
-meets_test W P f V each (Equal x y) w = meets_both (P x) (P y) W (f x) (f y) (each x w.0) (each y w.1)
-meets_test W P f V each (Differ x y) w = meets_both (P x) (P y) W (f x) (f y) (each x w.0) (each y w.1)
-
-meets_condition : (a : Around) (h : Procedure) (sets : Sets) (held : List Bool) → Stands a h sets held
-    → (made : List Scope) (t : Test (Operand Expr))
-    → TestWithin (OperandWithin (IsInBody a.program h) made) t
-    → Meets (UnheldInTest (UnheldInOperand a) t) (In a) (in_test (in_operand held) t)
-meets_condition a h sets held s made t w =
-    meets_test (In a) (UnheldInOperand a) (in_operand held) (OperandWithin (IsInBody a.program h) made)
-    (meets_operand a h sets held s made) t w
-
-meets_fields : (a : Around) (h : Procedure) (sets : Sets) (held : List Bool) → Stands a h sets held
-    → (fields : List (List ℕ)) (made : List Scope) (fs : List (FieldId × Operand Expr))
-    → FieldsWithin fields (OperandWithin (IsInBody a.program h) made) fs
-    → Meets (first_of (λ f. UnheldInOperand a f.1) fs) (In a) (search_in (λ f. in_operand held f.1) fs)
-meets_fields a h sets held s fields made [] w = (tt, tt)
-meets_fields a h sets held s fields made (f ∷ fs) w =
-    meets_both (UnheldInOperand a f.1) (first_of (λ f. UnheldInOperand a f.1) fs) (In a)
-    (in_operand held f.1) (search_in (λ f. in_operand held f.1) fs)
-    (meets_operand a h sets held s made f.1 w.1) (meets_fields a h sets held s fields made fs w.3)
-
-mutual
-  meets_level : (a : Around) (h : Procedure) (sets : Sets) (held : List Bool) → Stands a h sets held
-      → (fields : List (List ℕ)) (made : List Scope) (l : Level Expr)
-      → LevelWithin fields (IsInBody a.program h) made l
-      → Meets (UnheldInLevel a l) (In a) (in_level held l)
-  meets_level a h sets held s fields made (level here cs) w =
-      meets_conjuncts a h sets held s fields (here ∷ made) cs w
-
-  meets_conjuncts : (a : Around) (h : Procedure) (sets : Sets) (held : List Bool) → Stands a h sets held
-      → (fields : List (List ℕ)) (made : List Scope) (cs : Conjuncts Expr)
-      → ConjunctsWithin fields (IsInBody a.program h) made cs
-      → Meets (UnheldInConjuncts a cs) (In a) (in_conjuncts held cs)
-  meets_conjuncts a h sets held s fields made none w = meets_nothing (In a)
-  meets_conjuncts a h sets held s fields made (also c cs) w =
-      meets_both (UnheldInConjunct a c) (UnheldInConjuncts a cs) (In a) (in_conjunct held c)
-      (in_conjuncts held cs) (meets_conjunct a h sets held s fields made c w.0)
-      (meets_conjuncts a h sets held s fields made cs w.1)
-
-  meets_conjunct : (a : Around) (h : Procedure) (sets : Sets) (held : List Bool) → Stands a h sets held
-      → (fields : List (List ℕ)) (made : List Scope) (c : Conjunct Expr)
-      → ConjunctWithin fields (IsInBody a.program h) made c
-      → Meets (UnheldInConjunct a c) (In a) (in_conjunct held c)
-  meets_conjunct a h sets held s fields made (holds place t) w = meets_condition a h sets held s made t w
-  meets_conjunct a h sets held s fields made (points place root fs) w =
-      meets_both (UnheldInOperand a root) (first_of (λ f. UnheldInOperand a f.1) fs) (In a)
-      (in_operand held root) (search_in (λ f. in_operand held f.1) fs)
-      (meets_operand a h sets held s made root w.0) (meets_fields a h sets held s fields made fs w.1)
-  meets_conjunct a h sets held s fields made (segment place next from to) w =
-      meets_both (UnheldInOperand a from) (UnheldInOperand a to) (In a) (in_operand held from)
-      (in_operand held to) (meets_operand a h sets held s made from w.1)
-      (meets_operand a h sets held s made to w.2)
-  meets_conjunct a h sets held s fields made (tree place left right root) w =
-      meets_operand a h sets held s made root w.2
-  meets_conjunct a h sets held s fields made (choose place t this that) w =
-      meets_both (UnheldInTest (UnheldInOperand a) t) (first (UnheldInLevel a this) (UnheldInLevel a that))
-      (In a) (in_test (in_operand held) t) (option_or (in_level held this) (in_level held that))
-      (meets_condition a h sets held s made t w.0)
-      (meets_both (UnheldInLevel a this) (UnheldInLevel a that) (In a) (in_level held this)
-      (in_level held that) (meets_level a h sets held s fields made this w.1)
-      (meets_level a h sets held s fields made that w.2))
+meets_unheld : (p : Program) (f : ProcId) (s : Site) (sets : Sets) (held : List Bool)
+    → Stands p f (inside s) sets held → (xs : List Occurrence) → First p f s (map occurs xs) (unheld held xs)
+meets_unheld p f s sets held st xs =
+    first-map (IsBroken p f s) breach_of occurs xs (unheld held xs)
+    (first-search (λ x. IsUnheld p f (inside s) x.var) (λ x. NotHeld x.place x.var) (λ x. lacks held x.var) xs
+    (λ x c. unheld_is p f (inside s) sets held st x.var))
 
 -- earlier variables are not later ones
 earlier_apart : (x y : Var) → IsEarlier x y → IsEarlier y x → ⊥
 earlier_apart x y h k = not_earlier x (earlier_trans x y x h k)
 
-meets_free : (a : Around) (h : Procedure) (sets : Sets) (held : List Bool) → Stands a h sets held
-    → (c : Call) → CallWithin a.program h c
-    → Meets (first_of (λ x. where_ (Free a.program c.callee x × IsUnheld a x) (NotHeld c.place x))
-    (variables_from 0 a.program.resources)) (In a) (free_unheld held c.place (free_of sets c.callee))
-meets_free a h sets held s c w =
-    let free = free_set a.program sets c.callee s.are (callee_there a.program h c w) in
-    meets_set IsEarlier (Free a.program c.callee) (IsUnheld a) (NotHeld c.place) (lacks held) (In a)
-    (variables_from 0 a.program.resources) (free_of sets c.callee)
-    earlier_apart (unheld_is a h sets held s) (variables_ordered 0 a.program.resources)
+meets_call : (p : Program) (f : ProcId) (s : Site) (sets : Sets) (held : List Bool)
+    → Stands p f (inside s) sets held → (c : Call) → c.callee.0 < length p.procedures
+    → First p f s (call_uses p c) (unheld_in_call sets held c)
+meets_call p f s sets held st c below =
+    let free = free_set p sets c.callee st.are below in
+    first-append (IsBroken p f s) breach_of (map (frees c) (variables_from 0 p.resources)) _
+    (free_unheld held c.place (free_of sets c.callee)) (unheld held (call_occurrences c))
+    (first-map (IsBroken p f s) breach_of (frees c) (variables_from 0 p.resources) _
+    (first-set IsEarlier (Free p c.callee) (IsUnheld p f (inside s)) (NotHeld c.place) (lacks held)
+    (variables_from 0 p.resources) (free_of sets c.callee) earlier_apart
+    (unheld_is p f (inside s) sets held st) (variables_ordered 0 p.resources)
     (ordered_pairs IsEarlier (free_of sets c.callee) free.ordered) free.members
-    (λ x f. free_there a.program c.callee x s.formed f)
-    (λ x f u. (h, s.there, free_in_body a.program h c.callee x s.formed f))
+    (λ x h. free_there p c.callee x st.formed h)))
+    (λ n. meets_unheld p f s sets held st (call_occurrences c))
 
-meets_call : (a : Around) (h : Procedure) (sets : Sets) (held : List Bool) → Stands a h sets held
-    → (c : Call) → CallWithin a.program h c → Meets (UnheldInCall a c) (In a) (unheld_in_call sets held c)
-meets_call a h sets held s c w =
-    meets_both (first_of (λ x. where_ (Free a.program c.callee x × IsUnheld a x) (NotHeld c.place x))
-    (variables_from 0 a.program.resources))
-    (first (first_of (UnheldAt a) c.references) (first_of (UnheldInExpr a) c.values)) (In a)
-    (free_unheld held c.place (free_of sets c.callee))
-    (option_or (search_in (at_occurrence held) c.references) (search_in (in_expr held) c.values))
-    (meets_free a h sets held s c w)
-    (meets_both (first_of (UnheldAt a) c.references) (first_of (UnheldInExpr a) c.values) (In a)
-    (search_in (at_occurrence held) c.references) (search_in (in_expr held) c.values)
-    (meets_list (UnheldAt a) (In a) (at_occurrence held) (λ x. IsSettable a.program h x.var)
-    (meets_set_at a h sets held s) c.references w.references)
-    (meets_list (UnheldInExpr a) (In a) (in_expr held) (ExprWithin (IsInBody a.program h))
-    (meets_expr a h sets held s) c.values w.values))
+meets_takes : (p : Program) (f : ProcId) (s : Site) (sets : Sets) (held : List Bool)
+    → Stands p f s.entered sets held → (c : Call) → c.callee.0 < length p.procedures
+    → First p f s (call_takes p c) (reenters_by_call sets held c)
+meets_takes p f s sets held st c below =
+    let taken = takes_set p sets c.callee st.are below in
+    first-map (IsBroken p f s) breach_of (takes c) (resources_from 0 p.resources) _
+    (first-set IsEarlierResource (Takes p c.callee) (IsHeld p f s.entered) (Reentered c.place) (has held)
+    (resources_from 0 p.resources) (takes_of sets c.callee) resource_apart st.is
+    (resources_ordered 0 p.resources)
+    (ordered_pairs IsEarlierResource (takes_of sets c.callee) taken.ordered) taken.members
+    (λ r t. resources_there 0 p.resources r (omega arith)
+    (let there : r.0 < length p.resources = takes_within p st.formed c.callee r t in
+    omega arith)))
 
-meets_reenters : (a : Around) (h : Procedure) (sets : Sets) (held : List Bool) → Stands a h sets held
-    → (c : Call) → CallWithin a.program h c
-    → Meets (ReentersByCall a c) (In a) (reenters_by_call sets held c)
-meets_reenters a h sets held s c w =
-    let takes = takes_set a.program sets c.callee s.are (callee_there a.program h c w) in
-    meets_set IsEarlierResource (Takes a.program c.callee) (IsHeld a) (Reentered c.place) (has held) (In a)
-    (resources_from 0 a.program.resources) (takes_of sets c.callee)
-    resource_apart s.is (resources_ordered 0 a.program.resources)
-    (ordered_pairs IsEarlierResource (takes_of sets c.callee) takes.ordered) takes.members
-    (λ r t. resources_there 0 a.program.resources r (omega arith)
-    (let below : r.0 < length a.program.resources = takes_within a.program s.formed c.callee r t in
-    omega arith))
-    (λ r t u. takes_within a.program s.formed c.callee r t)
-
--- one more reference was passed
-among_push : (x y : Var) (o : Occurrence) (seen : List Occurrence) → o.var ≡ y
-    → IsAmong x (seen ++ o ∷ []) ↔ (IsAmong x seen ⊎ (y ≡ x))
-among_push x y o [] e = (
-  λ h. elim h [ inl k ↦ inr (sym e ∙ k) | inr k ↦ absurd k ],
-  λ h. elim h [
-    | inl k ↦ absurd k
-    | inr k ↦ inl (e ∙ k)
-  ],
-)
-among_push x y o (z ∷ zs) e = let rest = among_push x y o zs e in (
-  λ h. elim h [ inl k ↦ inl (inl k) | inr k ↦ elim (rest.0 k) [ inl l ↦ inl (inr l) | inr l ↦ inr l ] ],
-  λ h. elim h [
-    | inl k ↦ elim k [ inl l ↦ inl l | inr l ↦ inr (rest.1 (inl l)) ]
-    | inr k ↦ inr (rest.1 (inr k))
-  ],
-)
-
-seen_push : (o : Occurrence) (seen : List Occurrence) (before : List Var)
-    → ((x : Var) → Decides (in_references x seen) (Contains before x)) → (x : Var)
-    → Decides (in_references x (seen ++ o ∷ [])) (Contains (o.var ∷ before) x)
-seen_push o seen before tells x =
-    Decides-like (in_references x (seen ++ o ∷ [])) to from (in_references_is x (seen ++ o ∷ []))
+meets_repeats : (p : Program) (f : ProcId) (s : Site) (before xs : List Occurrence)
+    → First p f s (repeats_after before xs) (repeats before xs)
+meets_repeats p f s before [] = tt
+meets_repeats p f s before (x ∷ xs) =
+    first-append (IsBroken p f s) breach_of (again before x ∷ []) (repeats_after (before ++ x ∷ []) xs)
+    (found (in_references x.var before) (SameReference x.place x.var)) (repeats (before ++ x ∷ []) xs)
+    (one (in_references x.var before) (in_references_is x.var before))
+    (λ n. meets_repeats p f s (before ++ x ∷ []) xs)
   where
-    old : IsAmong x seen ↔ Contains before x
-    old = (λ k. (tells x).0 ((in_references_is x seen).1 k), λ c. (in_references_is x seen).0 ((tells x).1 c))
-
-    to : IsAmong x (seen ++ o ∷ []) → Contains (o.var ∷ before) x
-    to k = elim ((among_push x o.var o seen refl).0 k) [
-      | inl l ↦ Contains-append_right (o.var ∷ []) before x (old.0 l)
-      | inr l ↦ Contains-append_left (o.var ∷ []) before x (contains-single_of o.var x l)
-    ]
-
-    from : Contains (o.var ∷ before) x → IsAmong x (seen ++ o ∷ [])
-    from c =
-        (among_push x o.var o seen refl).1
-        (elim (Contains-append_cases (o.var ∷ []) before x c) [
-          | inl l ↦ inr (contains-single o.var x l)
-          | inr l ↦ inl (old.1 l)
-        ])
-
-meets_repeats : (W : Breach → Type 0) (V : Occurrence → Type 0)
-    → ((x : Occurrence) → V x → W (SameReference x.place x.var))
-    → (before : List Var) (seen : List Occurrence)
-    → ((x : Var) → Decides (in_references x seen) (Contains before x))
-    → (xs : List Occurrence) → All V xs → Meets (Repeats before xs) W (repeats seen xs)
-meets_repeats W V each before seen tells [] all = (tt, tt)
-meets_repeats W V each before seen tells (x ∷ xs) all =
-    meets_both (where_ (Contains before x.var) (SameReference x.place x.var))
-    (Repeats (x.var ∷ before) xs) W (found (in_references x.var seen) (SameReference x.place x.var))
-    (repeats (seen ++ x ∷ []) xs)
-    (meets_found (in_references x.var seen) (Contains before x.var) (SameReference x.place x.var) W
-    (tells x.var) (λ c. each x (All-head V x xs all)))
-    (meets_repeats W V each (x.var ∷ before) (seen ++ x ∷ []) (seen_push x seen before tells) xs
-    (All-tail V x xs all))
-
-none_seen : (x : Var) → Decides (in_references x []) (Contains [] x)
-none_seen x = (λ e. absurd (cc), λ c. absurd (contains-nil x c))
-
-meets_again : (a : Around) (h : Procedure) → slice_get a.program.procedures a.procedure.0 ≡ Some h
-    → (c : Call) → CallWithin a.program h c
-    → Meets (Repeats [] c.references) (In a) (repeats [] c.references)
-meets_again a h there c w =
-    meets_repeats (In a) (λ x. IsSettable a.program h x.var)
-    (λ x v. (h, there, settable_in a.program h x.var v)) [] [] none_seen c.references w.references
+    one : (b : Bool) → Decides b (IsAmong x.var before)
+        → First p f s (again before x ∷ []) (found b (SameReference x.place x.var))
+    one true d = inl (d.0 refl, refl)
+    one false d = ((λ h. absurd (let e : false ≡ true = d.1 h in cc)), tt)
 
 free_is : (p : Program) (sets : Sets) (g : ProcId) → AreSetsOf p sets → g.0 < length p.procedures
     → (x : Var) → Decides (is_in (free_of sets g) x) (Free p g x)
@@ -286,160 +145,102 @@ free_is p sets g are below x =
     let m = (free_set p sets g are below).members x in
     Decides-like (is_in (free_of sets g) x) m.0 m.1 (is_in_is (free_of sets g) x)
 
-meets_passes : (a : Around) (h : Procedure) (sets : Sets) (held : List Bool) → Stands a h sets held
-    → (c : Call) → CallWithin a.program h c → Meets (PassesFree a.program c) (In a) (passes_free sets c)
-meets_passes a h sets held s c w =
-    meets_list (λ x. where_ (Free a.program c.callee x.var) (ReferenceIsFree x.place x.var)) (In a)
-    (λ x. found (is_in (free_of sets c.callee) x.var) (ReferenceIsFree x.place x.var))
-    (λ x. IsSettable a.program h x.var)
-    (λ x v. meets_found (is_in (free_of sets c.callee) x.var) (Free a.program c.callee x.var)
-    (ReferenceIsFree x.place x.var) (In a)
-    (free_is a.program sets c.callee s.are (callee_there a.program h c w) x.var)
-    (λ f. (h, s.there, settable_in a.program h x.var v)))
-    c.references w.references
+meets_passes : (p : Program) (f : ProcId) (s : Site) (sets : Sets) → AreSetsOf p sets → (c : Call)
+    → c.callee.0 < length p.procedures → First p f s (map (passes c) c.references) (passes_free sets c)
+meets_passes p f s sets are c below =
+    first-map (IsBroken p f s) breach_of (passes c) c.references (passes_free sets c)
+    (first-search (λ x. Free p c.callee x.var) (λ x. ReferenceIsFree x.place x.var)
+    (λ x. is_in (free_of sets c.callee) x.var) c.references
+    (λ x k. free_is p sets c.callee are below x.var))
 
-may_is : (p : Program) (h : Procedure) (sets : Sets) → AreSetsOf p sets → (c : Call) → CallWithin p h c
+may_is : (p : Program) (sets : Sets) → AreSetsOf p sets → (c : Call) → c.callee.0 < length p.procedures
     → (x : Var) → Decides (may_change sets c x) (MayChange p c x)
-may_is p h sets are c w x =
+may_is p sets are c w x =
     Decides-or (in_references x c.references) (is_in (free_of sets c.callee) x)
-    (in_references_is x c.references) (free_is p sets c.callee are (callee_there p h c w) x)
+    (in_references_is x c.references) (free_is p sets c.callee are w x)
 
-uses_is : (p : Program) (h : Procedure) (sets : Sets) → AreSetsOf p sets → (c : Call) → CallWithin p h c
+uses_is : (p : Program) (sets : Sets) → AreSetsOf p sets → (c : Call) → c.callee.0 < length p.procedures
     → (x : Var) → Decides (uses sets c x) (Uses p c x)
-uses_is p h sets are c w x =
-    Decides-or (may_change sets c x) (in_values x c.values) (may_is p h sets are c w x)
+uses_is p sets are c w x =
+    Decides-or (may_change sets c x) (in_values x c.values) (may_is p sets are c w x)
     (in_values_is x c.values)
 
-shares_is : (p : Program) (h : Procedure) (sets : Sets) → AreSetsOf p sets → (c d : Call) → CallWithin p h c
-    → CallWithin p h d → (x : Var) → Decides (shares sets c d x) (Shares p c d x)
-shares_is p h sets are c d w v x =
-    Decides-or _ _ (Decides-and _ _ (may_is p h sets are c w x) (uses_is p h sets are d v x))
-    (Decides-and _ _ (may_is p h sets are d v x) (uses_is p h sets are c w x))
+shares_is : (p : Program) (sets : Sets) → AreSetsOf p sets → (c d : Call) → c.callee.0 < length p.procedures
+    → d.callee.0 < length p.procedures → (x : Var) → Decides (shares sets c d x) (Shares p c d x)
+shares_is p sets are c d w v x =
+    Decides-or _ _ (Decides-and _ _ (may_is p sets are c w x) (uses_is p sets are d v x))
+    (Decides-and _ _ (may_is p sets are d v x) (uses_is p sets are c w x))
 
--- the variables that occur in a call, one after the other
-meets_named : (P : Var → Option Breach → Type 0) (W : Breach → Type 0) (f : Var → Option Breach)
-    (g : Expr → Option Breach) (V : Var → Type 0)
-    → ((x : Var) → V x → Meets (P x) W (f x))
-    → ((x : Occurrence) → g (Variable x) ≡ f x.var) → g Nil ≡ None → ((i : _) → g (Int i) ≡ None)
-    → (xs : List Occurrence) (es : List Expr) → All (λ x. V x.var) xs → All (ExprWithin V) es
-    → Meets (first_of P (named_in xs es)) W (option_or (search_in (λ x. f x.var) xs) (search_in g es))
-meets_named P W f g V each one nil int [] [] v w = (tt, tt)
-meets_named P W f g V each one nil int [] (Variable x ∷ es) v w =
-    subst
-    (λ (o : Option Breach). Meets (first (P x.var) (first_of P (named_in [] es))) W
-    (option_or o (search_in g es))) (sym (one x))
-    (meets_both (P x.var) (first_of P (named_in [] es)) W (f x.var) (search_in g es)
-    (each x.var (All-head (ExprWithin V) (Variable x) es w))
-    (meets_named P W f g V each one nil int [] es v (All-tail (ExprWithin V) (Variable x) es w)))
-meets_named P W f g V each one nil int [] (Nil ∷ es) v w =
-    subst (λ (o : Option Breach). Meets (first_of P (named_in [] es)) W (option_or o (search_in g es)))
-    (sym nil) (meets_named P W f g V each one nil int [] es v (All-tail (ExprWithin V) Nil es w))
-meets_named P W f g V each one nil int [] (Int i ∷ es) v w =
-    subst (λ (o : Option Breach). Meets (first_of P (named_in [] es)) W (option_or o (search_in g es)))
-    (sym (int i))
-    (meets_named P W f g V each one nil int [] es v (All-tail (ExprWithin V) (Int i) es w))
-meets_named P W f g V each one nil int (x ∷ xs) es v w =
-    subst (Meets (first (P x.var) (first_of P (named_in xs es))) W)
-    (sym (option_or-assoc (f x.var) (search_in (λ x. f x.var) xs) (search_in g es)))
-    (meets_both (P x.var) (first_of P (named_in xs es)) W (f x.var)
-    (option_or (search_in (λ x. f x.var) xs) (search_in g es))
-    (each x.var (All-head (λ x. V x.var) x xs v))
-    (meets_named P W f g V each one nil int xs es (All-tail (λ x. V x.var) x xs v) w))
+-- a variable that a call uses, and that does not occur in it, is free in its procedure
+pub among_there : (x : Var) (xs ys : List Occurrence) → IsAmong x xs
+    → (y : Occurrence) × Contains (xs ++ ys) y × (y.var ≡ x)
+among_there x [] ys h = absurd h
+among_there x (z ∷ zs) ys (inl e) = (z, (contains-cons z (zs ++ ys) z).1 (inl refl), e)
+among_there x (z ∷ zs) ys (inr h) =
+    let r = among_there x zs ys h in (r.0, (contains-cons z (zs ++ ys) r.0).1 (inr r.1), r.2)
 
--- what occurs in a call is named in it
-among_named : (x : Var) (xs : List Occurrence) (es : List Expr) → IsAmong x xs → Contains (named_in xs es) x
-among_named x [] es h = absurd h
-among_named x (y ∷ ys) es (inl e) =
-    Contains-append_left (y.var ∷ []) (named_in ys es) x (contains-single_of y.var x e)
-among_named x (y ∷ ys) es (inr h) =
-    Contains-append_right (y.var ∷ []) (named_in ys es) x (among_named x ys es h)
+value_there : (x : Var) (es : List Expr) → OccursInValues x es
+    → (y : Occurrence) × Contains (flat_map expr_occurrences es) y × (y.var ≡ x)
+value_there x [] h = absurd h
+value_there x (Variable z ∷ es) (inl e) =
+    (z, (contains-cons z (flat_map expr_occurrences es) z).1 (inl refl), e)
+value_there x (Nil ∷ es) (inl e) = absurd e
+value_there x (Int i ∷ es) (inl e) = absurd e
+value_there x (e ∷ es) (inr h) =
+    let r = value_there x es h in
+    (r.0, Contains-append_right (expr_occurrences e) (flat_map expr_occurrences es) r.0 r.1, r.2)
 
-value_named : (x : Var) (xs : List Occurrence) (es : List Expr) → OccursInValues x es
-    → Contains (named_in xs es) x
-value_named x [] [] h = absurd h
-value_named x [] (Variable y ∷ es) (inl e) =
-    Contains-append_left (y.var ∷ []) (named_in [] es) x (contains-single_of y.var x e)
-value_named x [] (Variable y ∷ es) (inr h) =
-    Contains-append_right (y.var ∷ []) (named_in [] es) x (value_named x [] es h)
-value_named x [] (Nil ∷ es) (inl e) = absurd e
-value_named x [] (Nil ∷ es) (inr h) = value_named x [] es h
-value_named x [] (Int i ∷ es) (inl e) = absurd e
-value_named x [] (Int i ∷ es) (inr h) = value_named x [] es h
-value_named x (y ∷ ys) es h = Contains-append_right (y.var ∷ []) (named_in ys es) x (value_named x ys es h)
+used_free : (p : Program) (c : Call) (x : Var)
+    → ((y : Occurrence) → Contains (call_occurrences c) y → y.var ≡ x → ⊥) → Uses p c x → Free p c.callee x
+used_free p c x out (inl (inl k)) =
+    let r = among_there x c.references (flat_map expr_occurrences c.values) k in absurd (out r.0 r.1 r.2)
+used_free p c x out (inl (inr k)) = k
+used_free p c x out (inr k) =
+    let r = value_there x c.values k in
+    absurd (out r.0 (Contains-append_right c.references (flat_map expr_occurrences c.values) r.0 r.1) r.2)
 
--- a call that may change, or use, a variable that does not occur in it has it free
-changed_free : (p : Program) (c : Call) (x : Var) → (Contains (named_in c.references c.values) x → ⊥)
-    → MayChange p c x → Free p c.callee x
-changed_free p c x out (inl k) = absurd (out (among_named x c.references c.values k))
-changed_free p c x out (inr k) = k
-
-used_free : (p : Program) (c : Call) (x : Var) → (Contains (named_in c.references c.values) x → ⊥)
-    → Uses p c x → Free p c.callee x
-used_free p c x out (inl k) = changed_free p c x out k
-used_free p c x out (inr k) = absurd (out (value_named x c.references c.values k))
-
--- two calls that share no variable that occurs in them share what is free in both
-free_shared : (p : Program) (c d : Call) (x : Var) → (Contains (named_in c.references c.values) x → ⊥)
-    → (Contains (named_in d.references d.values) x → ⊥) → Shares p c d x
-    → Free p c.callee x × Free p d.callee x
-free_shared p c d x no_c no_d (inl h) = (changed_free p c x no_c h.0, used_free p d x no_d h.1)
-free_shared p c d x no_c no_d (inr h) = (used_free p c x no_c h.1, changed_free p d x no_d h.0)
-
-meets_shares : (a : Around) (h : Procedure) (sets : Sets) (held : List Bool) → Stands a h sets held
-    → (c d : Call) → CallWithin a.program h c → CallWithin a.program h d
-    → Meets (SharesInFork a.program c d) (In a) (shares_in_fork sets c d)
-meets_shares a h sets held s c d w v =
-    meets_append P (In a) (named_in c.references c.values ++ named_in d.references d.values)
-    (variables_from 0 a.program.resources)
-    (option_or (shared_by_name sets c d c) (shared_by_name sets c d d)) (free_in_both sets c d)
-    (meets_append P (In a) (named_in c.references c.values) (named_in d.references d.values)
-    (shared_by_name sets c d c) (shared_by_name sets c d d) (named c w) (λ n. named d v))
-    (λ n. (
-      same_first (λ x. Free a.program c.callee x × Free a.program d.callee x) (Shares a.program c d)
-          (ParallelShares c.place)
-          (λ x f. inl (inr f.0, inl (inr f.1)))
-          (λ x t. free_shared a.program c d x
-          (λ k. none_of (Shares a.program c d) (ParallelShares c.place)
-          (named_in c.references c.values ++ named_in d.references d.values) n x
-          (Contains-append_left (named_in c.references c.values) (named_in d.references d.values) x k)
-          t)
-          (λ k. none_of (Shares a.program c d) (ParallelShares c.place)
-          (named_in c.references c.values ++ named_in d.references d.values) n x
-          (Contains-append_right (named_in c.references c.values) (named_in d.references d.values) x k)
-          t) t)
-          (variables_from 0 a.program.resources) (free_in_both sets c d) others.0,
-      others.1,
-    ))
+meets_shares : (p : Program) (f : ProcId) (s : Site) (sets : Sets) → IsFormed p → AreSetsOf p sets
+    → (c d : Call) → c.callee.0 < length p.procedures → d.callee.0 < length p.procedures
+    → First p f s (fork_shares p c d) (shares_in_fork sets c d)
+meets_shares p f s sets formed are c d c_there d_there =
+    first-append (IsBroken p f s) breach_of (map (λ x. share c d x.var) (call_occurrences c)) _
+    (shared_among sets c d (call_occurrences c)) _ (named (call_occurrences c))
+    (λ n. first-append (IsBroken p f s) breach_of (map (λ x. share c d x.var) (call_occurrences d)) _
+    (shared_among sets c d (call_occurrences d)) (free_in_both sets c d) (named (call_occurrences d))
+    (λ m. first-map (IsBroken p f s) breach_of (share c d) (variables_from 0 p.resources)
+    (free_in_both sets c d)
+    (first-same (λ x. Free p c.callee x × Free p d.callee x) (Shares p c d) (ParallelShares c.place)
+    (variables_from 0 p.resources) (free_in_both sets c d) (λ x h. inl (inr h.0, inl (inr h.1)))
+    (λ x h. both x (out (call_occurrences c) n x h) (out (call_occurrences d) m x h) h) others)))
   where
-    P : Var → Option Breach → Type 0
-    P x = where_ (Shares a.program c d x) (ParallelShares c.place x)
+    named : (xs : List Occurrence)
+        → First p f s (map (λ x. share c d x.var) xs) (shared_among sets c d xs)
+    named xs =
+        first-map (IsBroken p f s) breach_of (λ x. share c d x.var) xs (shared_among sets c d xs)
+        (first-search (λ x. Shares p c d x.var) (λ x. ParallelShares c.place x.var)
+        (λ x. shares sets c d x.var) xs (λ x k. shares_is p sets are c d c_there d_there x.var))
 
-    at : (x : Var) → IsInBody a.program h x → Meets (P x) (In a) (shared_at sets c d x)
-    at x i =
-        meets_found (shares sets c d x) (Shares a.program c d x) (ParallelShares c.place x) (In a)
-        (shares_is a.program h sets s.are c d w v x) (λ t. (h, s.there, i))
+    out : (xs : List Occurrence) → First p f s (map (λ x. share c d x.var) xs) None → (x : Var)
+        → Shares p c d x → (y : Occurrence) → Contains xs y → y.var ≡ x → ⊥
+    out xs n x h y k e =
+        none-of (IsBroken p f s) breach_of (map (λ x. share c d x.var) xs) n (share c d y.var)
+        (contains-map (λ x. share c d x.var) xs y k) (subst (Shares p c d) (sym e) h)
 
-    named : (e : Call) → CallWithin a.program h e
-        → Meets (first_of P (named_in e.references e.values)) (In a) (shared_by_name sets c d e)
-    named e within =
-        meets_named P (In a) (shared_at sets c d) (shared_by_value sets c d) (IsInBody a.program h) at
-        (λ x. refl) refl (λ i. refl) e.references e.values
-        (λ k o below. settable_in a.program h (get_or e.references k o).var (within.references k o below))
-        within.values
+    both : (x : Var) → ((y : Occurrence) → Contains (call_occurrences c) y → y.var ≡ x → ⊥)
+        → ((y : Occurrence) → Contains (call_occurrences d) y → y.var ≡ x → ⊥) → Shares p c d x
+        → Free p c.callee x × Free p d.callee x
+    both x no_c no_d (inl h) = (used_free p c x no_c (inl h.0), used_free p d x no_d h.1)
+    both x no_c no_d (inr h) = (used_free p c x no_c h.1, used_free p d x no_d (inl h.0))
 
-    others : Meets
-        (first_of (λ x. where_ (Free a.program c.callee x × Free a.program d.callee x)
-        (ParallelShares c.place x)) (variables_from 0 a.program.resources)) (In a) (free_in_both sets c d)
+    others : IsFirst (λ x. Free p c.callee x × Free p d.callee x) (ParallelShares c.place)
+        (variables_from 0 p.resources) (free_in_both sets c d)
     others =
-        let free = free_set a.program sets c.callee s.are (callee_there a.program h c w) in
-        meets_set IsEarlier (Free a.program c.callee) (Free a.program d.callee) (ParallelShares c.place)
-        (is_in (free_of sets d.callee)) (In a) (variables_from 0 a.program.resources)
-        (free_of sets c.callee)
-        earlier_apart (free_is a.program sets d.callee s.are (callee_there a.program h d v))
-        (variables_ordered 0 a.program.resources)
+        let free = free_set p sets c.callee are c_there in
+        first-set IsEarlier (Free p c.callee) (Free p d.callee) (ParallelShares c.place)
+        (is_in (free_of sets d.callee)) (variables_from 0 p.resources) (free_of sets c.callee) earlier_apart
+        (free_is p sets d.callee are d_there) (variables_ordered 0 p.resources)
         (ordered_pairs IsEarlier (free_of sets c.callee) free.ordered) free.members
-        (λ x f. free_there a.program c.callee x s.formed f)
-        (λ x f u. (h, s.there, free_in_body a.program h c.callee x s.formed f))
+        (λ x h. free_there p c.callee x formed h)
 
 -- one more visit
 has_one : (held : List Bool) (s r : ResId) → s.0 < length held
@@ -464,161 +265,7 @@ has_one held s r below = elim (eqb_tells s.0 r.0) [ inl e ↦ here (ap resource 
           ]),
         )
 
--- inside a region its resource is held too
-stands_inside : (a : Around) (h : Procedure) (sets : Sets) (held : List Bool) (q : ResId)
-    → q.0 < length a.program.resources → Stands a h sets held → Stands (inside q a) h sets (with_one held q)
-stands_inside a h sets held q there s = record {
-  formed = s.formed;
-  are = s.are;
-  there = s.there;
-  size = length-set held q.0 true ∙ s.size;
-  is =
-      λ r. Decides-like (has (with_one held q) r) (to r) (from r)
-      (has_one held q r (omega (arith, there, s.formed.resource_count, s.size)));
-}
-  where
-    to : (r : ResId) → (q ≡ r) ⊎ (has held r ≡ true) → IsHeld (inside q a) r
-    to r (inl e) = inr (Contains-append_left (q ∷ []) a.entered r (contains-single_of q r e))
-    to r (inr t) =
-        elim ((s.is r).0 t) [ inl k ↦ inl k | inr k ↦ inr (Contains-append_right (q ∷ []) a.entered r k) ]
-
-    from : (r : ResId) → IsHeld (inside q a) r → (q ≡ r) ⊎ (has held r ≡ true)
-    from r (inl k) = inr ((s.is r).1 (inl k))
-    from r (inr c) =
-        elim (Contains-append_cases (q ∷ []) a.entered r c) [
-          | inl k ↦ inl (contains-single q r k)
-          | inr k ↦ inr ((s.is r).1 (inr k))
-        ]
-
-meets_single : (a : Around) (h : Procedure) (sets : Sets) (held : List Bool) → Stands a h sets held
-    → (q : _) (c : Call) → CallWithin a.program h c
-    → Meets (InCommand a (call q c)) (In a) (in_single sets held c)
-meets_single a h sets held s q c w =
-    meets_both (UnheldInCall a c)
-    (first (ReentersByCall a c) (first (Repeats [] c.references) (PassesFree a.program c))) (In a)
-    (unheld_in_call sets held c)
-    (option_or (reenters_by_call sets held c)
-    (option_or (repeats [] c.references) (passes_free sets c)))
-    (meets_call a h sets held s c w)
-    (meets_both (ReentersByCall a c) (first (Repeats [] c.references) (PassesFree a.program c)) (In a)
-    (reenters_by_call sets held c) (option_or (repeats [] c.references) (passes_free sets c))
-    (meets_reenters a h sets held s c w)
-    (meets_both (Repeats [] c.references) (PassesFree a.program c) (In a) (repeats [] c.references)
-    (passes_free sets c)
-    (meets_again a h s.there c w)
-    (meets_passes a h sets held s c w)))
-
--- the same of two calls
-meets_two : (a : Around) (h : Procedure) (P : Call → Option Breach → Type 0) (f : Call → Option Breach)
-    → ((c : Call) → CallWithin a.program h c → Meets (P c) (In a) (f c))
-    → (c d : Call) → CallWithin a.program h c → CallWithin a.program h d
-    → Meets (first (P c) (P d)) (In a) (option_or (f c) (f d))
-meets_two a h P f each c d w v = meets_both (P c) (P d) (In a) (f c) (f d) (each c w) (each d v)
-
-fork_later : (a : Around) (h : Procedure) (sets : Sets) (held : List Bool) → Stands a h sets held
-    → (c d : Call) → CallWithin a.program h c → CallWithin a.program h d
-    → Meets
-    (first (first (ReentersByCall a c) (ReentersByCall a d))
-    (first (first (Repeats [] c.references) (Repeats [] d.references))
-    (first (first (PassesFree a.program c) (PassesFree a.program d)) (SharesInFork a.program c d))))
-    (In a)
-    (option_or (option_or (reenters_by_call sets held c) (reenters_by_call sets held d))
-    (option_or (option_or (repeats [] c.references) (repeats [] d.references))
-    (option_or (option_or (passes_free sets c) (passes_free sets d)) (shares_in_fork sets c d))))
-fork_later a h sets held s c d w v =
-    meets_both (first (ReentersByCall a c) (ReentersByCall a d))
-    (first (first (Repeats [] c.references) (Repeats [] d.references))
-    (first (first (PassesFree a.program c) (PassesFree a.program d)) (SharesInFork a.program c d)))
-    (In a)
-    (option_or (reenters_by_call sets held c) (reenters_by_call sets held d))
-    (option_or (option_or (repeats [] c.references) (repeats [] d.references))
-    (option_or (option_or (passes_free sets c) (passes_free sets d)) (shares_in_fork sets c d)))
-    (meets_two a h (ReentersByCall a) (reenters_by_call sets held) (meets_reenters a h sets held s) c d w v)
-    (meets_both (first (Repeats [] c.references) (Repeats [] d.references))
-    (first (first (PassesFree a.program c) (PassesFree a.program d)) (SharesInFork a.program c d))
-    (In a)
-    (option_or (repeats [] c.references) (repeats [] d.references))
-    (option_or (option_or (passes_free sets c) (passes_free sets d)) (shares_in_fork sets c d))
-    (meets_two a h (λ e. Repeats [] e.references) (λ e. repeats [] e.references)
-    (meets_again a h s.there) c d w v)
-    (meets_both (first (PassesFree a.program c) (PassesFree a.program d)) (SharesInFork a.program c d)
-    (In a) (option_or (passes_free sets c) (passes_free sets d)) (shares_in_fork sets c d)
-    (meets_two a h (PassesFree a.program) (passes_free sets) (meets_passes a h sets held s) c d w v)
-    (meets_shares a h sets held s c d w v)))
-
-meets_fork : (a : Around) (h : Procedure) (sets : Sets) (held : List Bool) → Stands a h sets held
-    → (q : _) (c d : Call) → CallWithin a.program h c → CallWithin a.program h d
-    → Meets (InCommand a (fork q c d)) (In a) (in_fork sets held c d)
-meets_fork a h sets held s q c d w v =
-    meets_both (first (UnheldInCall a c) (UnheldInCall a d))
-    (first (first (ReentersByCall a c) (ReentersByCall a d))
-    (first (first (Repeats [] c.references) (Repeats [] d.references))
-    (first (first (PassesFree a.program c) (PassesFree a.program d)) (SharesInFork a.program c d))))
-    (In a)
-    (option_or (unheld_in_call sets held c) (unheld_in_call sets held d))
-    (option_or (option_or (reenters_by_call sets held c) (reenters_by_call sets held d))
-    (option_or (option_or (repeats [] c.references) (repeats [] d.references))
-    (option_or (option_or (passes_free sets c) (passes_free sets d)) (shares_in_fork sets c d))))
-    (meets_two a h (UnheldInCall a) (unheld_in_call sets held) (meets_call a h sets held s) c d w v)
-    (fork_later a h sets held s c d w v)
-
-meets_guard : (a : Around) (h : Procedure) (sets : Sets) (held : List Bool) → Stands a h sets held
-    → (t : Test Expr) → TestWithin (ExprWithin (IsInBody a.program h)) t
-    → Meets (UnheldInTest (UnheldInExpr a) t) (In a) (in_test (in_expr held) t)
-meets_guard a h sets held s t w =
-    meets_test (In a) (UnheldInExpr a) (in_expr held) (ExprWithin (IsInBody a.program h))
-    (meets_expr a h sets held s) t w
-
-mutual
-  meets_block : (a : Around) (h : Procedure) (sets : Sets) (held : List Bool) → Stands a h sets held
-      → (b : Block) → BlockWithin a.program h b → Meets (InBlock a b) (In a) (in_block sets held b)
-  meets_block a h sets held s done w = meets_nothing (In a)
-  meets_block a h sets held s (then c b) w =
-      meets_both (InCommand a c) (InBlock a b) (In a) (in_command sets held c) (in_block sets held b)
-      (meets_command a h sets held s c w.0) (meets_block a h sets held s b w.1)
-
-  meets_command : (a : Around) (h : Procedure) (sets : Sets) (held : List Bool) → Stands a h sets held
-      → (c : Command) → CommandWithin a.program h c → Meets (InCommand a c) (In a) (in_command sets held c)
-  meets_command a h sets held s (assign q x e) w =
-      meets_both (UnheldAt a x) (UnheldInExpr a e) (In a) (at_occurrence held x) (in_expr held e)
-      (meets_set_at a h sets held s x w.0) (meets_expr a h sets held s e w.1)
-  meets_command a h sets held s (look_up q x e field) w =
-      meets_both (UnheldAt a x) (UnheldInExpr a e) (In a) (at_occurrence held x) (in_expr held e)
-      (meets_set_at a h sets held s x w.0) (meets_expr a h sets held s e w.1)
-  meets_command a h sets held s (mutate q e field d) w =
-      meets_both (UnheldInExpr a e) (UnheldInExpr a d) (In a) (in_expr held e) (in_expr held d)
-      (meets_expr a h sets held s e w.0) (meets_expr a h sets held s d w.2)
-  meets_command a h sets held s (new q x) w = meets_set_at a h sets held s x w
-  meets_command a h sets held s (dispose q e) w = meets_expr a h sets held s e w
-  meets_command a h sets held s (if q t c d) w =
-      meets_both (UnheldInTest (UnheldInExpr a) t) (first (InBlock a c) (InBlock a d)) (In a)
-      (in_test (in_expr held) t) (option_or (in_block sets held c) (in_block sets held d))
-      (meets_guard a h sets held s t w.0)
-      (meets_both (InBlock a c) (InBlock a d) (In a) (in_block sets held c) (in_block sets held d)
-      (meets_block a h sets held s c w.1) (meets_block a h sets held s d w.2))
-  meets_command a h sets held s (while q t i c) w =
-      meets_both (UnheldInTest (UnheldInExpr a) t) (first (UnheldInLevel a i.level) (InBlock a c)) (In a)
-      (in_test (in_expr held) t) (option_or (in_level held i.level) (in_block sets held c))
-      (meets_guard a h sets held s t w.0)
-      (meets_both (UnheldInLevel a i.level) (InBlock a c) (In a) (in_level held i.level)
-      (in_block sets held c)
-      (meets_level a h sets held s a.program.fields [] i.level w.1.annotation.within)
-      (meets_block a h sets held s c w.2))
-  meets_command a h sets held s (call q c) w = meets_single a h sets held s q c w
-  meets_command a h sets held s (fork q c d) w = meets_fork a h sets held s q c d w.0 w.1
-  meets_command a h sets held s (with q r t c) w =
-      let in_region = stands_inside a h sets held r w.0 s in
-      meets_both (UnheldInTest (UnheldInExpr (inside r a)) t)
-      (first (where_ (IsHeld a r) (Reentered q r)) (InBlock (inside r a) c)) (In a)
-      (in_test (in_expr (with_one held r)) t)
-      (option_or (found (has held r) (Reentered q r)) (in_block sets (with_one held r) c))
-      (meets_guard (inside r a) h sets (with_one held r) in_region t w.1)
-      (meets_both (where_ (IsHeld a r) (Reentered q r)) (InBlock (inside r a) c) (In a)
-      (found (has held r) (Reentered q r)) (in_block sets (with_one held r) c)
-      (meets_found (has held r) (IsHeld a r) (Reentered q r) (In a) (s.is r) (λ t. w.0))
-      (meets_block (inside r a) h sets (with_one held r) in_region c w.2))
-
--- at first what the procedure holds is held, and nothing else
+-- more visits
 length_all : (held : List Bool) (rs : List ResId) → length (with_all held rs) ≡ length held
 length_all held [] = refl
 length_all held (r ∷ rs) = length_all (with_one held r) rs ∙ length-set held r.0 true
@@ -660,78 +307,187 @@ no_visit n k =
       | inr l ↦ get_or-replicate n k false false l.1
     ]
 
-abbrev start : Program → ℕ → Around
-start p k = record { program = p; procedure = record { 0 = k }; entered = [] }
-
-stands_first : (p : Program) (sets : Sets) (k : ℕ) (h : Procedure) → IsFormed p → AreSetsOf p sets
-    → slice_get p.procedures k ≡ Some h
-    → Stands (start p k) h sets (with_all none_held (holds_of sets (record { 0 = k })))
-stands_first p sets k h formed are there = record {
-  formed = formed;
-  are = are;
-  there = there;
-  size = length_all none_held (holds_of sets (record { 0 = k })) ∙ length-replicate RESOURCES false;
-  is =
-      λ r. Decides-like (has (with_all none_held (holds_of sets (record { 0 = k }))) r) (to r) (from r)
-      (has_all none_held (holds_of sets (record { 0 = k })) r fit);
+-- inside more regions their resources are held too
+stands_inside : (p : Program) (f : ProcId) (es rs : List ResId) (sets : Sets) (held : List Bool)
+    → ((r : ResId) → Contains rs r → r.0 < length p.resources) → Stands p f es sets held
+    → Stands p f (rs ++ es) sets (with_all held rs)
+stands_inside p f es rs sets held there s = record {
+  formed = s.formed;
+  are = s.are;
+  size = length_all held rs ∙ s.size;
+  is = λ r. Decides-like (has (with_all held rs) r) (to r) (from r) (has_all held rs r fit);
 }
   where
-    below : k < length p.procedures
-    below = slice_get_within p.procedures k h there
+    fit : All (λ q. q.0 < length held) rs
+    fit k d below =
+        let less : (get_or rs k d).0 < length p.resources =
+        there (get_or rs k d) (Contains-get_or rs k d below) in
+        omega (arith, less, s.formed.resource_count, s.size)
 
-    set : IsResSet (HeldBy p (record { 0 = k })) (holds_of sets (record { 0 = k }))
-    set = holds_set p sets (record { 0 = k }) are below
+    to : (r : ResId) → Contains rs r ⊎ (has held r ≡ true) → IsHeld p f (rs ++ es) r
+    to r (inl c) = inr (Contains-append_left rs es r c)
+    to r (inr t) =
+        elim ((s.is r).0 t) [ inl k ↦ inl k | inr k ↦ inr (Contains-append_right rs es r k) ]
 
-    fit : All (λ q. q.0 < length none_held) (holds_of sets (record { 0 = k }))
+    from : (r : ResId) → IsHeld p f (rs ++ es) r → Contains rs r ⊎ (has held r ≡ true)
+    from r (inl k) = inr ((s.is r).1 (inl k))
+    from r (inr c) =
+        elim (Contains-append_cases rs es r c) [ inl k ↦ inl k | inr k ↦ inr ((s.is r).1 (inr k)) ]
+
+meets_head : (p : Program) (f : ProcId) (s : Site) (sets : Sets) (held : List Bool) (h : Procedure)
+    → Stands p f s.entered sets held → CommandWithin p h s.command
+    → First p f s (head_questions p s.command) (in_head sets held s.command)
+meets_head p f s sets held h st w =
+    first-append (IsBroken p f s) breach_of (uses_questions p s.command) _ _ _
+    (first-append (IsBroken p f s) breach_of (map occurs (head_occurrences s.command)) _
+    (unheld more (head_occurrences s.command)) _
+    (meets_unheld p f s sets more st_more (head_occurrences s.command))
+    (λ n. first-flat_map (IsBroken p f s) breach_of (call_uses p) (unheld_in_call sets more)
+    (head_calls s.command) (λ d k. meets_call p f s sets more st_more d (there d k))))
+    (λ n. first-append (IsBroken p f s) breach_of (enters_questions p s.command) _ _ _
+    (first-append (IsBroken p f s) breach_of
+    (map (enters (place_of s.command)) (head_regions s.command)) _
+    (entered_held held (place_of s.command) (head_regions s.command)) _
+    (first-map (IsBroken p f s) breach_of (enters (place_of s.command)) (head_regions s.command) _
+    (first-search (IsHeld p f s.entered) (Reentered (place_of s.command)) (has held)
+    (head_regions s.command) (λ r k. st.is r)))
+    (λ n. first-flat_map (IsBroken p f s) breach_of (call_takes p) (reenters_by_call sets held)
+    (head_calls s.command) (λ d k. meets_takes p f s sets held st d (there d k))))
+    (λ n. first-append (IsBroken p f s) breach_of (repeats_questions s.command) _ _ _
+    (first-flat_map (IsBroken p f s) breach_of (λ d. repeats_after [] d.references)
+    (λ d. repeats [] d.references) (head_calls s.command) (λ d k. meets_repeats p f s [] d.references))
+    (λ n. first-append (IsBroken p f s) breach_of (passes_questions s.command) _ _ _
+    (first-flat_map (IsBroken p f s) breach_of (λ d. map (passes d) d.references) (passes_free sets)
+    (head_calls s.command) (λ d k. meets_passes p f s sets st.are d (there d k)))
+    (λ n. first-flat_map (IsBroken p f s) breach_of (λ e. fork_shares p e.0 e.1)
+    (λ e. shares_in_fork sets e.0 e.1) (head_forks s.command)
+    (λ e k. let two = forks-calls s.command e k in
+    meets_shares p f s sets st.formed st.are e.0 e.1 (there e.0 two.0) (there e.1 two.1))))))
+  where
+    more : List Bool
+    more = with_all held (head_regions s.command)
+
+    st_more : Stands p f (inside s) sets more
+    st_more =
+        stands_inside p f s.entered (head_regions s.command) sets held (regions-within p h s.command w) st
+
+    there : (d : Call) → Contains (head_calls s.command) d → d.callee.0 < length p.procedures
+    there d k = callee_there p h d (calls-within p h s.command w d k)
+
+-- the questions about commands, in their order
+abbrev FirstOf : Program → ProcId → List Site → Option Breach → Type 0
+FirstOf p f ss = IsFirst (λ e. IsBroken p f e.0 e.1) (λ e. breach_of e.1) (site_questions p ss)
+
+meets_append : (p : Program) (f : ProcId) (ss ts : List Site) (o q : Option Breach) → FirstOf p f ss o
+    → FirstOf p f ts q → FirstOf p f (ss ++ ts) (option_or o q)
+meets_append p f ss ts o q h k =
+    subst (λ (xs : List (Site × Question)). IsFirst (λ e. IsBroken p f e.0 e.1) (λ e. breach_of e.1) xs
+    (option_or o q))
+    (sym (flat_map-append (λ s. map (λ r. (s, r)) (head_questions p s.command)) ss ts))
+    (first-append (λ e. IsBroken p f e.0 e.1) (λ e. breach_of e.1) (site_questions p ss)
+    (site_questions p ts) o q h (λ n. k))
+
+mutual
+  meets_block : (p : Program) (f : ProcId) (es : List ResId) (sets : Sets) (held : List Bool) (h : Procedure)
+      → Stands p f es sets held → (b : Block) → BlockWithin p h b
+      → FirstOf p f (sites es b) (in_block sets held b)
+  meets_block p f es sets held h st done w = tt
+  meets_block p f es sets held h st (then c b) w =
+      let s : Site = record { entered = es; command = c } in
+      subst (FirstOf p f (sites es (then c b)))
+      (sym (option_or-assoc (in_head sets held c) (in_inner sets held c) (in_block sets held b)))
+      (first-append (λ e. IsBroken p f e.0 e.1) (λ e. breach_of e.1)
+      (map (λ r. (s, r)) (head_questions p c)) _ (in_head sets held c) _
+      (first-map (λ e. IsBroken p f e.0 e.1) (λ e. breach_of e.1) (λ r. (s, r)) (head_questions p c) _
+      (meets_head p f s sets held h st w.0))
+      (λ n. meets_append p f (inner_sites es c) (sites es b) (in_inner sets held c) (in_block sets held b)
+      (meets_inner p f es sets held h st c w.0) (meets_block p f es sets held h st b w.1)))
+
+  meets_inner : (p : Program) (f : ProcId) (es : List ResId) (sets : Sets) (held : List Bool) (h : Procedure)
+      → Stands p f es sets held → (c : Command) → CommandWithin p h c
+      → FirstOf p f (inner_sites es c) (in_inner sets held c)
+  meets_inner p f es sets held h st (if q t c d) w =
+      meets_append p f (sites es c) (sites es d) (in_block sets held c) (in_block sets held d)
+      (meets_block p f es sets held h st c w.1) (meets_block p f es sets held h st d w.2)
+  meets_inner p f es sets held h st (while q t i c) w = meets_block p f es sets held h st c w.2
+  meets_inner p f es sets held h st (with q r t c) w =
+      meets_block p f (r ∷ es) sets (with_one held r) h
+      (stands_inside p f es (r ∷ []) sets held
+      (λ s k. subst (λ (z : ResId). z.0 < length p.resources) (contains-single r s k) w.0) st) c w.2
+  meets_inner p f es sets held h st (assign q x e) w = tt
+  meets_inner p f es sets held h st (look_up q x e field) w = tt
+  meets_inner p f es sets held h st (mutate q e field d) w = tt
+  meets_inner p f es sets held h st (new q x) w = tt
+  meets_inner p f es sets held h st (dispose q e) w = tt
+  meets_inner p f es sets held h st (call q c) w = tt
+  meets_inner p f es sets held h st (fork q c d) w = tt
+
+-- at first what the procedure holds is held, and nothing else
+stands_first : (p : Program) (sets : Sets) (k : ℕ) → IsFormed p → AreSetsOf p sets → k < length p.procedures
+    → Stands p (proc k) [] sets (with_all none_held (holds_of sets (proc k)))
+stands_first p sets k formed are below = record {
+  formed = formed;
+  are = are;
+  size = length_all none_held (holds_of sets (proc k)) ∙ length-replicate RESOURCES false;
+  is =
+      λ r. Decides-like (has (with_all none_held (holds_of sets (proc k))) r) (to r) (from r)
+      (has_all none_held (holds_of sets (proc k)) r fit);
+}
+  where
+    set : IsResSet (HeldBy p (proc k)) (holds_of sets (proc k))
+    set = holds_set p sets (proc k) are below
+
+    fit : All (λ q. q.0 < length none_held) (holds_of sets (proc k))
     fit =
-        subst (λ (n : ℕ). All (λ q. q.0 < n) (holds_of sets (record { 0 = k })))
-        (sym (length-replicate RESOURCES false)) (held_fit p sets (record { 0 = k }) formed are below)
+        subst (λ (n : ℕ). All (λ q. q.0 < n) (holds_of sets (proc k)))
+        (sym (length-replicate RESOURCES false)) (held_fit p sets (proc k) formed are below)
 
-    to : (r : ResId) → Contains (holds_of sets (record { 0 = k })) r ⊎ (has none_held r ≡ true)
-        → IsHeld (start p k) r
+    to : (r : ResId) → Contains (holds_of sets (proc k)) r ⊎ (has none_held r ≡ true)
+        → IsHeld p (proc k) [] r
     to r (inl c) = inl ((set.members r).0 c)
     to r (inr e) =
         absurd (let no : has none_held r ≡ false = no_visit RESOURCES r.0 in
         let f : true ≡ false = sym e ∙ no in cc)
 
-    from : (r : ResId) → IsHeld (start p k) r
-        → Contains (holds_of sets (record { 0 = k })) r ⊎ (has none_held r ≡ true)
+    from : (r : ResId) → IsHeld p (proc k) [] r
+        → Contains (holds_of sets (proc k)) r ⊎ (has none_held r ≡ true)
     from r (inl b) = inl ((set.members r).1 b)
     from r (inr c) = absurd (contains-nil r c)
 
--- what is found in a program, from a procedure on
-abbrev InFile : Program → ProcId × Breach → Type 0
-InFile p e = IsBreachIn p e.0 e.1
-
 meets_procedures : (p : Program) (sets : Sets) → IsFormed p → AreSetsOf p sets
     → (k : ℕ) (hs : List Procedure) → ((i : ℕ) → slice_get hs i ≡ slice_get p.procedures (k + i))
-    → Meets (InProcedures p k hs) (InFile p) (in_procedures sets k hs)
-meets_procedures p sets formed are k [] same = (tt, tt)
+    → IsFirst (IsNo p) told (questions_from p k hs) (in_procedures sets k hs)
+meets_procedures p sets formed are k [] same = tt
 meets_procedures p sets formed are k (h ∷ hs) same =
-    go (in_procedure sets (record { 0 = k }) h) (in_procedures sets (suc k) hs)
-    (meets_block (start p k) h sets (with_all none_held (holds_of sets (record { 0 = k })))
-    (stands_first p sets k h formed are there) h.body (formed.procedures k h there).body)
-    (meets_procedures p sets formed are (suc k) hs
+    first-append (IsNo p) told (map (λ q. (proc k, q)) (site_questions p (sites [] h.body))) _
+    (option_map (λ b. (proc k, b)) (in_procedure sets (proc k) h)) (in_procedures sets (suc k) hs)
+    (first-map (IsNo p) told (λ q. (proc k, q)) (site_questions p (sites [] h.body)) _
+    (numbered (site_questions p (sites [] h.body)) (in_procedure sets (proc k) h)
+    (meets_block p (proc k) [] sets (with_all none_held (holds_of sets (proc k))) h
+    (stands_first p sets k formed are (slice_get_within p.procedures k h there)) h.body
+    (formed.procedures k h there).body)))
+    (λ n. meets_procedures p sets formed are (suc k) hs
     (λ i. same (suc i) ∙ ap (slice_get p.procedures) (let e : k + suc i ≡ suc k + i = omega arith in
     e)))
   where
     there : slice_get p.procedures k ≡ Some h
     there = ap (slice_get p.procedures) (let e : k ≡ k + 0 = omega arith in e) ∙ sym (same 0)
 
-    go : (o : Option Breach) (q : Option (ProcId × Breach))
-        → Meets (InBlock (start p k) h.body) (In (start p k)) o
-        → Meets (InProcedures p (suc k) hs) (InFile p) q
-        → Meets (InProcedures p k (h ∷ hs)) (InFile p)
-        (option_or (option_map (λ b. (record { 0 = k }, b)) o) q)
-    go None None m n = ((m.0, n.0), tt)
-    go None (Some (f, b)) m n = (inr (m.0, n.0), n.1)
-    go (Some b) q m n = (inl (refl, m.0), m.1)
+    -- what is found is told with the procedure's number
+    numbered : (xs : List (Site × Question)) (o : Option Breach)
+        → IsFirst (λ e. IsBroken p (proc k) e.0 e.1) (λ e. breach_of e.1) xs o
+        → IsFirst {A = ProcId × Breach} (λ e. IsBroken p (proc k) e.0 e.1) (λ e. (proc k, breach_of e.1)) xs
+        (option_map (λ b. (proc k, b)) o)
+    numbered [] None m = tt
+    numbered [] (Some b) m = absurd m
+    numbered (x ∷ xs) None m = (m.0, numbered xs None m.1)
+    numbered (x ∷ xs) (Some b) (inl m) = inl (m.0, ap (λ (c : Breach). (proc k, c)) m.1)
+    numbered (x ∷ xs) (Some b) (inr m) = inr (m.0, numbered xs (Some b) m.1)
 
--- what the search finds in a whole program is its first breach, by what may be named there
+-- what the search finds in a whole program is its first breach
 pub meets_program : (p : Program) (sets : Sets) → IsFormed p → AreSetsOf p sets
-    → (o : Option (ProcId × Breach)) → o ≡ in_procedures sets 0 p.procedures
-    → FirstBreach p o × IfSome o (λ e. IsBreachIn p e.0 e.1)
+    → (o : Option (ProcId × Breach)) → o ≡ in_procedures sets 0 p.procedures → FirstBreach p o
 meets_program p sets formed are o e =
-    subst (Meets (FirstBreach p) (InFile p)) (sym e)
+    subst (FirstBreach p) (sym e)
     (meets_procedures p sets formed are 0 p.procedures
     (λ i. ap (slice_get p.procedures) (let same : i ≡ 0 + i = omega arith in same)))

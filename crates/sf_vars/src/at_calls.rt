@@ -2,11 +2,12 @@
 
 ghost use Rattle.std.specs.Prelude.{◌≡◌, []};
 ghost use Rattle.std.specs.Result.{result_err};
+ghost use Rattle.sf_core.specs.Program.Heads.{call_occurrences};
 ghost use Rattle.sf_core.specs.Program.View.{call_of};
-ghost use Rattle.sf_vars.specs.Internal.Search.{HasSets, free_of, free_unheld, is_in, passes_free, reenters_by_call, repeats, taken_held, unheld_in_call};
+ghost use Rattle.sf_vars.specs.Internal.Search.{HasSets, free_of, is_in, passes_free, reenters_by_call, repeats, taken_held, unheld_in_call};
 
 use crate::held::Held;
-use crate::unheld::{references, values};
+use crate::unheld::{free_unheld, unheld};
 use sf_base::{Place, ProcId, ResId, Var};
 use sf_calls::occurs::in_references;
 use sf_calls::{Breach, Calls};
@@ -14,25 +15,18 @@ use sf_core::{Call, Occurrence};
 
 /// Looks for a variable of a resource that is not held: first those that are free in what is
 /// called, then those that occur in the call.
-pub fn unheld_in_call(calls: &Calls, held: &Held, call: &Call) -> Result<(), Breach>
-    requires { HasSets calls.now call.now.callee }
+pub fn unheld_in_call(
+    calls: &Calls,
+    held: &Held,
+    call: &Call,
+    words: &[Occurrence],
+) -> Result<(), Breach>
+    requires sets { HasSets calls.now call.now.callee }
+    requires words { words.now ≡ call_occurrences (call_of call.now) }
     ensures { result_err result ≡ unheld_in_call calls.now held.now (call_of call.now) }
 {
     free_unheld(held, call.place, calls.free(call.callee).as_slice())?;
-    references(held, &call.references)?;
-    values(held, &call.values)
-}
-
-/// Looks for one of those variables that is not held, and tells it at that place.
-fn free_unheld(held: &Held, place: Place, xs: &[Var]) -> Result<(), Breach>
-    ensures { result_err result ≡ free_unheld held.now place xs.now }
-{
-    for x in xs {
-        if held.lacks(*x) {
-            return Err(Breach::NotHeld(place, *x));
-        }
-    }
-    Ok(())
+    unheld(held, words)
 }
 
 /// Looks for a held resource that the called procedure takes.

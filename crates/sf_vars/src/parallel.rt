@@ -2,60 +2,50 @@
 
 ghost use Rattle.std.specs.Prelude.{◌≡◌};
 ghost use Rattle.std.specs.Result.{result_err};
+ghost use Rattle.sf_core.specs.Program.Heads.{call_occurrences};
 ghost use Rattle.sf_core.specs.Program.View.{call_of};
-ghost use Rattle.sf_vars.specs.Internal.Search.{HasSets, also_free, free_in_both, may_change, search_in, shared_at, shared_by_name, shared_by_value, shares, shares_in_fork, uses};
+ghost use Rattle.sf_vars.specs.Internal.Search.{HasSets, also_free, free_in_both, may_change, shared_among, shared_at, shares, shares_in_fork, uses};
 
 use crate::at_calls::is_free;
 use sf_base::{Place, ProcId, Var};
 use sf_calls::occurs::{in_references, in_values};
 use sf_calls::{Breach, Calls};
-use sf_core::{Call, Expr, Occurrence};
+use sf_core::{Call, Occurrence};
 
 /// Looks for a variable that one of the calls may change and the other uses: first those that occur
 /// in the calls, then the others.
-pub fn shares_in_fork(calls: &Calls, left: &Call, right: &Call) -> Result<(), Breach>
-    requires left { HasSets calls.now left.now.callee }
-    requires right { HasSets calls.now right.now.callee }
-    ensures { result_err result ≡ shares_in_fork calls.now (call_of left.now) (call_of right.now) }
-{
-    shared_references(calls, left, right, &left.references)?;
-    shared_values(calls, left, right, &left.values)?;
-    shared_references(calls, left, right, &right.references)?;
-    shared_values(calls, left, right, &right.values)?;
-    free_in_both(calls, left, right)
-}
-
-/// Looks at the variables that those references name.
-fn shared_references(
+pub fn shares_in_fork(
     calls: &Calls,
     left: &Call,
     right: &Call,
-    references: &[Occurrence],
+    left_words: &[Occurrence],
+    right_words: &[Occurrence],
+) -> Result<(), Breach>
+    requires left { HasSets calls.now left.now.callee }
+    requires right { HasSets calls.now right.now.callee }
+    requires left_words { left_words.now ≡ call_occurrences (call_of left.now) }
+    requires right_words { right_words.now ≡ call_occurrences (call_of right.now) }
+    ensures { result_err result ≡ shares_in_fork calls.now (call_of left.now) (call_of right.now) }
+{
+    shared_among(calls, left, right, left_words)?;
+    shared_among(calls, left, right, right_words)?;
+    free_in_both(calls, left, right)
+}
+
+/// Looks at the variables that occur there.
+fn shared_among(
+    calls: &Calls,
+    left: &Call,
+    right: &Call,
+    words: &[Occurrence],
 ) -> Result<(), Breach>
     requires left { HasSets calls.now left.now.callee }
     requires right { HasSets calls.now right.now.callee }
     ensures { result_err result
-        ≡ search_in (λ x.
-        shared_at calls.now (call_of left.now) (call_of right.now) x.var) references.now }
+        ≡ shared_among calls.now (call_of left.now) (call_of right.now) words.now }
 {
-    for x in references {
+    for x in words {
         shared_at(calls, left, right, x.var)?;
-    }
-    Ok(())
-}
-
-/// Looks at the variables that those values name.
-fn shared_values(calls: &Calls, left: &Call, right: &Call, values: &[Expr]) -> Result<(), Breach>
-    requires left { HasSets calls.now left.now.callee }
-    requires right { HasSets calls.now right.now.callee }
-    ensures { result_err result
-        ≡ search_in (shared_by_value calls.now (call_of left.now)
-        (call_of right.now)) values.now }
-{
-    for e in values {
-        if let Expr::Var(x) = e {
-            shared_at(calls, left, right, x.var)?;
-        }
     }
     Ok(())
 }

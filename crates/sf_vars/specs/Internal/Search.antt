@@ -1,6 +1,6 @@
 -- Search: the first breach of the conditions on variables as a search that computes, over the sets of
 -- each procedure and a flag for each resource that is held.
--- Ordinary: each relation of FirstBreach has the search by the same cases. What is free in a procedure,
+-- Ordinary: a linear search of the questions of FirstBreach, in their order. What is free in a procedure,
 -- or taken by it, is looked at as its set.
 use Rattle.std.specs.Prelude.{ℕ, suc, Bool, true, false, cond, not, ◌&&◌, ◌||◌, ◌<◌, List, [], ◌∷◌, ◌++◌, Option, Some, None, slice_index_or, slice_set, length, replicate, AllPairs, ◌≡◌, slice_get}
 use Rattle.std.specs.List.{list_any}
@@ -11,14 +11,10 @@ use Rattle.sf_base.specs.declared.ids.Var.{Var}
 use Rattle.sf_base.specs.declared.ids.Var.TheVariants.{Own, Shared}
 use Rattle.sf_base.specs.declared.limits.TheConstants.{RESOURCES}
 use Rattle.sf_base.specs.declared.place.Place.{Place}
-use Rattle.sf_core.specs.declared.assertion.Operand.{Operand}
-use Rattle.sf_core.specs.declared.assertion.Operand.TheVariants.{Known, Exists}
-use Rattle.sf_core.specs.declared.assertion.Test.{Test}
-use Rattle.sf_core.specs.declared.assertion.Test.TheVariants.{True, Equal, Differ}
-use Rattle.sf_core.specs.declared.command.Expr.{Expr}
-use Rattle.sf_core.specs.declared.command.Expr.TheVariants.{Var as Variable, Nil, Int}
 use Rattle.sf_core.specs.declared.command.Occurrence.{Occurrence}
-use Rattle.sf_core.specs.Program.Syntax.{Conjunct, holds, points, segment, tree, choose, Level, level, Conjuncts, none, also, Call, Command, assign, look_up, mutate, new, dispose, if, while, call, fork, with, Block, done, then, Procedure, Program}
+use Rattle.sf_core.specs.Program.Heads.{call_occurrences, head_calls, head_forks, head_occurrences, head_regions}
+use Rattle.sf_core.specs.Program.Places.{place_of}
+use Rattle.sf_core.specs.Program.Syntax.{Call, Command, assign, look_up, mutate, new, dispose, if, while, call, fork, with, Block, done, then, Procedure, Program}
 use Rattle.sf_core.specs.Program.Formed.{IsInBody}
 use Rattle.sf_calls.specs.declared.breach.Breach.{Breach}
 use Rattle.sf_calls.specs.declared.breach.Breach.TheVariants.{NotHeld, Reentered, SameReference, ReferenceIsFree, ParallelShares}
@@ -73,43 +69,9 @@ free_of sets g = slice_index_or sets.free g.0 []
 abbrev pub at_occurrence : List Bool → Occurrence → Option Breach
 at_occurrence held x = found (lacks held x.var) (NotHeld x.place x.var)
 
--- the same in an expression
-abbrev pub in_expr : List Bool → Expr → Option Breach
-in_expr held (Variable x) = at_occurrence held x
-in_expr held Nil = None
-in_expr held (Int i) = None
-
--- in an operand
-abbrev pub in_operand : List Bool → Operand Expr → Option Breach
-in_operand held (Known e) = in_expr held e
-in_operand held (Exists n) = None
-
--- in a test, the left side first
-abbrev pub in_test : {E : Type 0} → (E → Option Breach) → Test E → Option Breach
-in_test f True = None
-in_test f (Equal x y) = option_or (f x) (f y)
-in_test f (Differ x y) = option_or (f x) (f y)
-
--- in assertions, in text order
-abbrev mutual
-  -- in a level: in its conjuncts
-  pub in_level : List Bool → Level Expr → Option Breach
-  in_level held (level made cs) = in_conjuncts held cs
-
-  -- in conjuncts, one after the other
-  pub in_conjuncts : List Bool → Conjuncts Expr → Option Breach
-  in_conjuncts held none = None
-  in_conjuncts held (also c cs) = option_or (in_conjunct held c) (in_conjuncts held cs)
-
-  -- in one conjunct: in its root and fields, its sides, or its test and then its branches
-  pub in_conjunct : List Bool → Conjunct Expr → Option Breach
-  in_conjunct held (holds place t) = in_test (in_operand held) t
-  in_conjunct held (points place root fs) =
-      option_or (in_operand held root) (search_in (λ f. in_operand held f.1) fs)
-  in_conjunct held (segment place next from to) = option_or (in_operand held from) (in_operand held to)
-  in_conjunct held (tree place left right root) = in_operand held root
-  in_conjunct held (choose place t this that) =
-      option_or (in_test (in_operand held) t) (option_or (in_level held this) (in_level held that))
+-- the first of those occurrences
+abbrev pub unheld : List Bool → List Occurrence → Option Breach
+unheld held xs = search_in (at_occurrence held) xs
 
 -- of those variables the first that is not held, reported at that place
 abbrev pub free_unheld : List Bool → Place → List Var → Option Breach
@@ -118,8 +80,7 @@ free_unheld held place xs = search_in (λ x. found (lacks held x) (NotHeld place
 -- a call whose procedure has a variable free that is not held, at its name; then what occurs in it
 abbrev pub unheld_in_call : Sets → List Bool → Call → Option Breach
 unheld_in_call sets held c =
-    option_or (free_unheld held c.place (free_of sets c.callee))
-    (option_or (search_in (at_occurrence held) c.references) (search_in (in_expr held) c.values))
+    option_or (free_unheld held c.place (free_of sets c.callee)) (unheld held (call_occurrences c))
 
 -- of those resources the first that is held, reported at that place
 abbrev pub taken_held : List Bool → Place → List ResId → Option Breach
@@ -158,17 +119,9 @@ shares sets c d x = (may_change sets c x && uses sets d x) || (may_change sets d
 abbrev pub shared_at : Sets → (left right : Call) → Var → Option Breach
 shared_at sets c d x = found (shares sets c d x) (ParallelShares c.place x)
 
--- they share the variable that the value names
-abbrev pub shared_by_value : Sets → (left right : Call) → Expr → Option Breach
-shared_by_value sets c d (Variable x) = shared_at sets c d x.var
-shared_by_value sets c d Nil = None
-shared_by_value sets c d (Int i) = None
-
--- they share a variable that occurs in the named one
-abbrev pub shared_by_name : Sets → (left right named : Call) → Option Breach
-shared_by_name sets c d named =
-    option_or (search_in (λ x. shared_at sets c d x.var) named.references)
-    (search_in (shared_by_value sets c d) named.values)
+-- the first of those that they share
+abbrev pub shared_among : Sets → (left right : Call) → List Occurrence → Option Breach
+shared_among sets c d xs = search_in (λ x. shared_at sets c d x.var) xs
 
 -- of those variables the first that is free in the procedure, reported at that place
 abbrev pub also_free : Sets → Place → ProcId → List Var → Option Breach
@@ -181,46 +134,54 @@ free_in_both sets c d = also_free sets c.place d.callee (free_of sets c.callee)
 -- two calls that share
 abbrev pub shares_in_fork : Sets → (left right : Call) → Option Breach
 shares_in_fork sets c d =
-    option_or (option_or (shared_by_name sets c d c) (shared_by_name sets c d d)) (free_in_both sets c d)
+    option_or (shared_among sets c d (call_occurrences c)) (
+    option_or (shared_among sets c d (call_occurrences d)) (free_in_both sets c d))
 
--- a call by itself
-abbrev pub in_single : Sets → List Bool → Call → Option Breach
-in_single sets held c =
-    option_or (unheld_in_call sets held c) (
-    option_or (reenters_by_call sets held c) (
-    option_or (repeats [] c.references) (passes_free sets c)))
+-- the resources that are entered there and held
+abbrev pub entered_held : List Bool → Place → List ResId → Option Breach
+entered_held held place rs = search_in (λ r. found (has held r) (Reentered place r)) rs
 
--- two parallel calls
-abbrev pub in_fork : Sets → List Bool → (left right : Call) → Option Breach
-in_fork sets held c d =
-    option_or (option_or (unheld_in_call sets held c) (unheld_in_call sets held d)) (
-    option_or (option_or (reenters_by_call sets held c) (reenters_by_call sets held d)) (
-    option_or (option_or (repeats [] c.references) (repeats [] d.references)) (
-    option_or (option_or (passes_free sets c) (passes_free sets d)) (shares_in_fork sets c d))))
+-- the last three kinds
+abbrev pub in_arguments : Sets → List Call → List (Call × Call) → Option Breach
+in_arguments sets cs forks =
+    option_or (search_in (λ d. repeats [] d.references) cs) (
+    option_or (search_in (passes_free sets) cs) (search_in (λ e. shares_in_fork sets e.0 e.1) forks))
+
+-- what calls break, given the two that are parallel
+abbrev pub in_calls : Sets → List Bool → List Call → List (Call × Call) → Option Breach
+in_calls sets held cs forks =
+    option_or (search_in (unheld_in_call sets held) cs) (
+    option_or (search_in (reenters_by_call sets held) cs) (in_arguments sets cs forks))
+
+-- in a command itself: what is used there, inside its region if it is one; then the other kinds
+abbrev pub in_head : Sets → List Bool → Command → Option Breach
+in_head sets held c =
+    option_or
+    (option_or (unheld (with_all held (head_regions c)) (head_occurrences c))
+    (search_in (unheld_in_call sets (with_all held (head_regions c))) (head_calls c)))
+    (option_or
+    (option_or (entered_held held (place_of c) (head_regions c))
+    (search_in (reenters_by_call sets held) (head_calls c)))
+    (in_arguments sets (head_calls c) (head_forks c)))
 
 -- in commands, in text order
 abbrev mutual
-  -- in a block: in a command before those after it
+  -- in a block: in a command, in those inside it, and then in those after it
   pub in_block : Sets → List Bool → Block → Option Breach
   in_block sets held done = None
-  in_block sets held (then c b) = option_or (in_command sets held c) (in_block sets held b)
+  in_block sets held (then c b) =
+      option_or (option_or (in_head sets held c) (in_inner sets held c)) (in_block sets held b)
 
-  -- in a command, and then in those inside it
-  pub in_command : Sets → List Bool → Command → Option Breach
-  in_command sets held (assign q x e) = option_or (at_occurrence held x) (in_expr held e)
-  in_command sets held (look_up q x e field) = option_or (at_occurrence held x) (in_expr held e)
-  in_command sets held (mutate q e field d) = option_or (in_expr held e) (in_expr held d)
-  in_command sets held (new q x) = at_occurrence held x
-  in_command sets held (dispose q e) = in_expr held e
-  in_command sets held (if q t c d) =
-      option_or (in_test (in_expr held) t) (option_or (in_block sets held c) (in_block sets held d))
-  in_command sets held (while q t i c) =
-      option_or (in_test (in_expr held) t) (option_or (in_level held i.level) (in_block sets held c))
-  in_command sets held (call q c) = in_single sets held c
-  in_command sets held (fork q c d) = in_fork sets held c d
-  in_command sets held (with q s t c) =
-      option_or (in_test (in_expr (with_one held s)) t)
-      (option_or (found (has held s) (Reentered q s)) (in_block sets (with_one held s) c))
+  -- in the commands inside a command
+  pub in_inner : Sets → List Bool → Command → Option Breach
+  in_inner sets held (if q t c d) = option_or (in_block sets held c) (in_block sets held d)
+  in_inner sets held (while q t i c) = in_block sets held c
+  in_inner sets held (with q r t c) = in_block sets (with_one held r) c
+  in_inner sets held _ = None
+
+-- in a command, and then in those inside it
+abbrev pub in_command : Sets → List Bool → Command → Option Breach
+in_command sets held c = option_or (in_head sets held c) (in_inner sets held c)
 
 -- no resource is visited
 abbrev pub none_held : List Bool

@@ -1,6 +1,6 @@
 use Rattle.std.proofs.Common.{◌≡◌, drop}
 use Rattle.sf_vars.specs.Internal.Search.{free_unheld}
-use Rattle.sf_vars.proofs.at_calls.free_unheld.Given as goal
+use Rattle.sf_vars.proofs.unheld.free_unheld.Given as goal
 
 -- what was passed breaks nothing
 abbrev pub invariant-loop-x : goal.invariant-loop-x
