@@ -43,7 +43,7 @@ among-push x (z ∷ zs) y (inl (inr h)) = inr (among-push x zs y (inl h))
 among-push x (z ∷ zs) y (inr e) = inr (among-push x zs y (inr e))
 
 -- a question about a site whose answer is no is a breach there
-abbrev Tells : Program → ProcId → Site → Question → Type 0
+abbrev pub Tells : Program → ProcId → Site → Question → Type 0
 Tells p f s q = IsBroken p f s q → BreaksAt p f (breach_of q) s
 
 uses_break : (p : Program) (f : ProcId) (s : Site) (q : Question)
@@ -164,7 +164,7 @@ shares_break p f s q c =
               ]
         ]
 
-asked_break : (p : Program) (f : ProcId) (s : Site) (q : Question)
+pub asked_break : (p : Program) (f : ProcId) (s : Site) (q : Question)
     → Contains (head_questions p s.command) q → Tells p f s q
 asked_break p f s q c =
     elim (Contains-append_cases (uses_questions p s.command) _ q c) [
@@ -182,7 +182,7 @@ asked_break p f s q c =
     ]
 
 -- the question about a site whose answer is that breach
-abbrev IsAskedAt : Program → ProcId → Site → Breach → Type 0
+abbrev pub IsAskedAt : Program → ProcId → Site → Breach → Type 0
 IsAskedAt p f s b =
     (q : Question) × Contains (head_questions p s.command) q × IsBroken p f s q × (b ≡ breach_of q)
 
@@ -238,7 +238,7 @@ after_enters p s q c =
     Contains-append_right (uses_questions p s.command) _ q
     (Contains-append_right (enters_questions p s.command) _ q c)
 
-break_asked : (p : Program) → IsFormed p → (f : ProcId) (s : Site) (b : Breach) → BreaksAt p f b s
+pub break_asked : (p : Program) → IsFormed p → (f : ProcId) (s : Site) (b : Breach) → BreaksAt p f b s
     → IsAskedAt p f s b
 break_asked p formed f s (NotHeld place x) (u, inl (inl c)) =
     let y : Occurrence = record { var = x; place = place } in (

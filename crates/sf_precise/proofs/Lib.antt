@@ -15,4 +15,5 @@ pub mod OrdersHad
 pub mod OrdersExist
 pub mod TakenFixes
 pub mod Closing
+pub mod Exactly
 pub mod Annotated

@@ -1,10 +1,13 @@
 //! A program with all its annotations in order.
 
-ghost use Rattle.std.specs.Prelude.{◌≡◌, map, IfErr, IfOk};
+ghost use Rattle.std.specs.Prelude.{◌≡◌, ◌⊎◌, List, Some, map, IfErr, IfOk, MatchResult};
+ghost use Rattle.sf_base.specs.declared.place.Place.{Place};
+ghost use Rattle.sf_core.specs.Program.Syntax as s;
 ghost use Rattle.sf_core.specs.Program.View.{assertion_of};
 ghost use Rattle.sf_core.specs.Program.ProgramView.{program_of};
 ghost use Rattle.sf_calls.specs.FirstBreach.{Conditions};
 ghost use Rattle.sf_calls.specs.Sets.{AreSetsOf};
+ghost use Rattle.sf_precise.specs.declared.fault.OrderFault.TheVariants.{OutOfMemory, Undetermined};
 ghost use Rattle.sf_precise.specs.Annotations.{AreOrdersOf, IsFirstPlace, NeverTakenIn, earlier_of, annotations_in};
 ghost use Rattle.sf_precise.specs.Taken.{IfUndetermined};
 
@@ -19,7 +22,8 @@ use std::alloc::Global;
 
 /// The program with each of its annotations in order. The calls are those that `reach` finds for
 /// it, and no condition on its variables is broken. `Undetermined` comes exactly where an
-/// annotation has no order, with the place of the first conjunct in the file that is never taken.
+/// annotation has no order, with the place of the first conjunct in the file that is never taken;
+/// instead of either answer memory may have run out.
 pub fn arrange(alloc: Global, p: Program, c: Calls) -> Result<Arranged, OrderFault>
     requires sets { AreSetsOf (program_of p) c }
     requires conditions { Conditions (program_of p) }
@@ -31,6 +35,13 @@ pub fn arrange(alloc: Global, p: Program, c: Calls) -> Result<Arranged, OrderFau
     ensures undetermined { IfErr result
         (λ e. IfUndetermined e
         (λ q. IsFirstPlace (NeverTakenIn (annotations_in (program_of p))) (Some q))) }
+    ensures only_arranged { (orders : List s.Assertion)
+        → AreOrdersOf (annotations_in (program_of p)) orders
+        → MatchResult result (λ a. map (λ o. assertion_of o.assertion) a.orders.items ≡ orders)
+        (λ e. e ≡ OutOfMemory) }
+    ensures only_undetermined { (q : Place)
+        → IsFirstPlace (NeverTakenIn (annotations_in (program_of p))) (Some q)
+        → MatchResult result (λ _. ⊥) (λ e. (e ≡ Undetermined q) ⊎ (e ≡ OutOfMemory)) }
 {
     let orders = order_annotations(alloc, &p)?;
     Ok(Arranged {
@@ -42,6 +53,25 @@ pub fn arrange(alloc: Global, p: Program, c: Calls) -> Result<Arranged, OrderFau
 
 /// The program's annotations in order, or the first place at which a conjunct is never taken.
 fn order_annotations(alloc: Global, p: &Program) -> Result<Vec<Ordered>, OrderFault>
+    ensures orders { IfOk result (λ orders.
+        AreOrdersOf (annotations_in (program_of p.now))
+        (map (λ o. assertion_of o.assertion) orders.items)) }
+    ensures undetermined { IfErr result
+        (λ e. IfUndetermined e
+        (λ q. IsFirstPlace (NeverTakenIn (annotations_in (program_of p.now))) (Some q))) }
+    ensures only_arranged { (orders : List s.Assertion)
+        → AreOrdersOf (annotations_in (program_of p.now)) orders
+        → MatchResult result (λ found. map (λ o. assertion_of o.assertion) found.items ≡ orders)
+        (λ e. e ≡ OutOfMemory) }
+    ensures only_undetermined { (q : Place)
+        → IsFirstPlace (NeverTakenIn (annotations_in (program_of p.now))) (Some q)
+        → MatchResult result (λ _. ⊥) (λ e. (e ≡ Undetermined q) ⊎ (e ≡ OutOfMemory)) }
+{
+    find_orders(alloc, p)
+}
+
+/// The orders of the program's annotations, or the first place at which a conjunct is never taken.
+fn find_orders(alloc: Global, p: &Program) -> Result<Vec<Ordered>, OrderFault>
     ensures orders { IfOk result (λ orders.
         AreOrdersOf (annotations_in (program_of p.now))
         (map (λ o. assertion_of o.assertion) orders.items)) }

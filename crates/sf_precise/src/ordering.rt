@@ -1,11 +1,14 @@
 //! The order of an assertion, branches first: what is known around a branch decides nothing about
 //! its order, once all that it takes from there is known.
 
-ghost use Rattle.std.specs.Prelude.{◌≡◌, [], map, option_map, IfErr, IfOk, Some, None};
+ghost use Rattle.std.specs.Prelude.{◌≡◌, ◌⊎◌, [], map, option_map, IfErr, IfOk, MatchResult, Some, None};
 ghost use Rattle.sf_base.specs.Results.{Appends};
 ghost use Rattle.std.specs.List.{AllZip};
 ghost use Rattle.sf_core.specs.Assertions.Determined.{Determined, HasOrder};
+ghost use Rattle.sf_base.specs.declared.place.Place.{Place};
+ghost use Rattle.sf_core.specs.Program.Syntax as s;
 ghost use Rattle.sf_core.specs.Program.View.{assertion_of, conjunct_of, level_of};
+ghost use Rattle.sf_precise.specs.declared.fault.OrderFault.TheVariants.{OutOfMemory, Undetermined};
 ghost use Rattle.sf_precise.specs.Order.{IsOrderFrom, IsOrderOf};
 ghost use Rattle.sf_precise.specs.Internal.Outer.{outer_of, outer_of_level};
 ghost use Rattle.sf_precise.specs.Internal.Prepared.{IsBranch, IsPrepared, joined};
@@ -21,8 +24,24 @@ use std::alloc::{AllocError, Global};
 
 /// The assertion with its conjuncts in order: the first ready one, in text order, and then the
 /// others in order, inside branches too. `Undetermined` comes exactly where there is no order at
-/// all, with the place of the first conjunct that is never taken, whichever are taken before it.
+/// all, with the place of the first conjunct that is never taken, whichever are taken before it;
+/// instead of either answer memory may have run out.
 pub fn order(alloc: Global, a: &Assertion) -> Result<Ordered, OrderFault>
+    ensures ordered { IfOk result (λ o. IsOrderOf (assertion_of a.now) (assertion_of o.assertion)) }
+    ensures determined { IfOk result (λ o. Determined (assertion_of a.now).level) }
+    ensures undetermined { IfErr result (λ e. IfUndetermined e
+        (λ p. ¬ Determined (assertion_of a.now).level)) }
+    ensures place { IfErr result (λ e. IfUndetermined e (NeverTakenAt (assertion_of a.now).level)) }
+    ensures only_ordered { (o : s.Assertion) → IsOrderOf (assertion_of a.now) o
+        → MatchResult result (λ x. assertion_of x.assertion ≡ o) (λ e. e ≡ OutOfMemory) }
+    ensures only_undetermined { (p : Place) → NeverTakenAt (assertion_of a.now).level p
+        → MatchResult result (λ _. ⊥) (λ e. (e ≡ Undetermined p) ⊎ (e ≡ OutOfMemory)) }
+{
+    find_order(alloc, a)
+}
+
+/// The order that the rule gives, or the first conjunct that is never taken.
+fn find_order(alloc: Global, a: &Assertion) -> Result<Ordered, OrderFault>
     ensures ordered { IfOk result (λ o. IsOrderOf (assertion_of a.now) (assertion_of o.assertion)) }
     ensures determined { IfOk result (λ o. Determined (assertion_of a.now).level) }
     ensures undetermined { IfErr result (λ e. IfUndetermined e

@@ -1,6 +1,6 @@
 -- Two tasks that enter one region: the program is formed, meets the conditions, and its bodies are safe.
 -- Names: `formed-WHAT`, `conditions-WHAT`, `safe-WHAT`; the law's.
-use Rattle.std.specs.Prelude.{◌≡◌, ◌⊎◌, ℕ, pos, zero, suc, Bool, slice_get, true, false, cond, [], ◌∷◌, Option, Some, None, ◌==◌, ◌&&◌, ◌<◌, ◌≤◌, ◌+◌, ◌-◌, length, leb, ltb}
+use Rattle.std.specs.Prelude.{◌≡◌, ◌⊎◌, ℕ, pos, zero, suc, Bool, slice_get, true, false, cond, [], ◌∷◌, Contains, Option, Some, None, ◌==◌, ◌&&◌, ◌<◌, ◌≤◌, ◌+◌, ◌-◌, length, leb, ltb}
 use Rattle.std.specs.Option.{unwrap_or}
 use Rattle.std.proofs.Common.{sym, ap, ◌∙◌, refl, subst, subst₂, inl, inr, arith}
 use Rattle.std.proofs.lemmas.Bool.Decides.{nat_tests}
@@ -12,13 +12,13 @@ use Rattle.sf_base.specs.declared.ids.Var.TheVariants.{Own as OwnVar, Shared}
 use Rattle.sf_base.specs.declared.value.Value.{Value}
 use Rattle.sf_base.specs.declared.value.Value.TheVariants.{Nil as nil, Int as int, Loc as loc}
 use Rattle.sf_base.specs.HeapStore.{Cell, IsEmpty, IsOne, Slot, own, put_field, shared}
-use Rattle.sf_base.proofs.Elements.{contains-cons, contains-nil}
+use Rattle.sf_base.proofs.Elements.{contains-cons, contains-nil, contains-single}
 use Rattle.sf_base.proofs.HeapSplits.{one-put_cell, star-drop_right, star-empty_right}
 use Rattle.sf_base.proofs.MapSplits.{empty-holds, empty-is, map-same, splits-has_right}
 use Rattle.sf_calls.specs.declared.breach.Breach.{Breach}
 use Rattle.sf_calls.specs.declared.breach.Breach.TheVariants.{NotHeld, ParallelShares, Reentered, ReferenceIsFree, SameReference}
-use Rattle.sf_calls.specs.Around.{Around, IsHeld, Shares, inside}
-use Rattle.sf_calls.specs.Breaks.{Breaks, BreaksAt, IsAgain, Somewhere}
+use Rattle.sf_calls.specs.Around.{IsHeld, Shares}
+use Rattle.sf_calls.specs.Breaks.{Breaks, BreaksAt, IsAgain}
 use Rattle.sf_calls.specs.Conditions.{Free, FreeIn, Mentions}
 use Rattle.sf_calls.specs.FirstBreach.{Conditions}
 use Rattle.sf_calls.specs.Outside.{OccursOutside}
@@ -36,6 +36,7 @@ use Rattle.sf_core.specs.Machine.Examples.{at_shared, calls, emp, guarding, hd, 
 use Rattle.sf_core.specs.Machine.HeldBy.{HeldBy}
 use Rattle.sf_core.specs.Machine.Start.{entry_slot}
 use Rattle.sf_core.specs.Machine.Step.{arguments, index_of, room_for}
+use Rattle.sf_core.specs.Program.Heads.{Site, call_occurrences, sites}
 use Rattle.sf_core.specs.Program.Formed.{AssertionWithin, CallWithin, IsFormed, IsOfResource, IsParameter, ProcedureWithin}
 use Rattle.sf_core.specs.Program.Syntax.{Call, Command, done, fork, mutate, then, with, Procedure, Resource}
 use Rattle.sf_safe.specs.Own.{Own, Parts, new_slots, nothing, put_cell, without_room}
@@ -198,14 +199,8 @@ held-none f r h = elim (which f.0 h.procedure h.there) [
       | inr o ↦ b (Shared r h.variable) (subst (λ z. VarOccursIn z.post.level (Shared r h.variable)) (sym e) o)
     ]
 
--- where one is in a body, outside regions and inside the region of the lock
-abbrev outside : ProcId → Around
-outside f = record { program = filling_twice; procedure = f; entered = [] }
-
-abbrev in_lock : ProcId → Around
-in_lock f = inside lock (outside f)
-
-unheld-outside : (f : ProcId) (r : ResId) → IsHeld (outside f) r → ⊥
+-- outside regions no resource is held
+unheld-outside : (f : ProcId) (r : ResId) → IsHeld filling_twice f [] r → ⊥
 unheld-outside f r (inl h) = held-none f r h
 unheld-outside f r (inr c) = contains-nil r c
 
@@ -219,6 +214,12 @@ entering = with here lock True (then filling done)
 abbrev forking : Command
 forking = fork here (calls 1 []) (calls 1 [])
 
+abbrev outside : Command → Site
+outside c = record { entered = []; command = c }
+
+abbrev in_lock : Command → Site
+in_lock c = record { entered = lock ∷ []; command = c }
+
 shares-none : (x : Var) → Shares filling_twice (calls 1 []) (calls 1 []) x → ⊥
 shares-none x (inl (inl a, b)) = a
 shares-none x (inl (inr a, b)) = free-none (record { 0 = 1 }) x a
@@ -226,69 +227,74 @@ shares-none x (inr (inl a, b)) = a
 shares-none x (inr (inr a, b)) = free-none (record { 0 = 1 }) x a
 
 -- a call that `twice` makes is that of `fills`, without references
-made-call : (d : Call) → (calls 1 [] ≡ d) ⊎ (calls 1 [] ≡ d) → calls 1 [] ≡ d
-made-call d (inl e) = e
-made-call d (inr e) = e
+made-call : (d : Call) → Contains (calls 1 [] ∷ calls 1 [] ∷ []) d → calls 1 [] ≡ d
+made-call d m = elim ((contains-cons (calls 1 []) (calls 1 [] ∷ []) d).0 m) [
+  | inl e ↦ e
+  | inr k ↦ contains-single (calls 1 []) d k
+]
 
-conditions-fork : (f : ProcId) (b : Breach) → BreaksAt b (outside f) forking → ⊥
-conditions-fork f (NotHeld place x) (u, inl (inl (inl c))) = contains-nil (record { var = x; place = place }) c
-conditions-fork f (NotHeld place x) (u, inl (inl (inr c))) = contains-nil _ c
-conditions-fork f (NotHeld place x) (u, inl (inr (inl c))) = contains-nil (record { var = x; place = place }) c
-conditions-fork f (NotHeld place x) (u, inl (inr (inr c))) = contains-nil _ c
-conditions-fork f (NotHeld place x) (u, inr (d, m, i, free)) = free-none d.callee x free
+conditions-fork : (f : ProcId) (b : Breach) → BreaksAt filling_twice f b (outside forking) → ⊥
+conditions-fork f (NotHeld place x) (u, inl (inl c)) = contains-nil (record { var = x; place = place }) c
+conditions-fork f (NotHeld place x) (u, inl (inr (d, m, c))) =
+    contains-nil (record { var = x; place = place })
+    (subst (λ (z : Call). Contains (call_occurrences z) (record { var = x; place = place }))
+    (sym (made-call d m)) c)
+conditions-fork f (NotHeld place x) (u, inr (d, m, (i, free))) = free-none d.callee x free
 conditions-fork f (Reentered place r) (h, o) = unheld-outside f r h
 conditions-fork f (SameReference place x) (d, m, again) =
     subst (λ (z : Call). IsAgain (record { var = x; place = place }) z.references)
     (sym (made-call d m)) again
-conditions-fork f (ReferenceIsFree place x) (d, m, c, free) = free-none d.callee x free
-conditions-fork f (ParallelShares place x) (i, s) = shares-none x s
+conditions-fork f (ReferenceIsFree place x) (d, m, (c, free)) = free-none d.callee x free
+conditions-fork f (ParallelShares place x) (e, m, i, s) =
+    shares-none x
+    (subst (λ (z : Call × Call). Shares filling_twice z.0 z.1 x)
+    (sym (contains-single (calls 1 [], calls 1 []) e m)) s)
 
-conditions-enter : (f : ProcId) (b : Breach) → BreaksAt b (outside f) entering → ⊥
-conditions-enter f (NotHeld place x) (u, inl o) = o
-conditions-enter f (NotHeld place x) (u, inr o) = o.1
+conditions-enter : (f : ProcId) (b : Breach) → BreaksAt filling_twice f b (outside entering) → ⊥
+conditions-enter f (NotHeld place x) (u, inl (inl c)) = contains-nil (record { var = x; place = place }) c
+conditions-enter f (NotHeld place x) (u, inl (inr o)) = contains-nil o.0 o.1
+conditions-enter f (NotHeld place x) (u, inr o) = contains-nil o.0 o.1
 conditions-enter f (Reentered place r) (h, o) = unheld-outside f r h
-conditions-enter f (SameReference place x) o = o.1
-conditions-enter f (ReferenceIsFree place x) o = o.1
-conditions-enter f (ParallelShares place x) o = o
+conditions-enter f (SameReference place x) o = contains-nil o.0 o.1
+conditions-enter f (ReferenceIsFree place x) o = contains-nil o.0 o.1
+conditions-enter f (ParallelShares place x) o = contains-nil o.0 o.1
 
-conditions-fill : (f : ProcId) (b : Breach) → BreaksAt b (in_lock f) filling → ⊥
+conditions-fill : (f : ProcId) (b : Breach) → BreaksAt filling_twice f b (in_lock filling) → ⊥
 conditions-fill f (NotHeld place (OwnVar i)) (u, o) = u
-conditions-fill f (NotHeld place (Shared r i)) (u, inl (inl e)) =
-    u (inr ((contains-cons lock [] r).1 (inl (same r i e))))
+conditions-fill f (NotHeld place (Shared r i)) (u, inl (inl c)) =
+    u (inr ((contains-cons lock [] r).1 (inl (same r i (contains-single at_shared _ c)))))
   where
-    same : (r : ResId) (i : ℕ)
-        → Variable (record { var = Shared r i; place = place })
-        ≡ shared_one → lock ≡ r
-    same r i e =
-        let o : record { var = Shared r i; place = place } ≡ at_shared = cc in
-        let v : Shared r i ≡ Shared lock 0 = ap (λ (z : Occurrence). z.var) o in cc
-conditions-fill f (NotHeld place (Shared r i)) (u, inl (inr e)) = absurd (cc)
-conditions-fill f (NotHeld place (Shared r i)) (u, inr o) = o.1
-conditions-fill f (Reentered place r) (h, inl o) = o
-conditions-fill f (Reentered place r) (h, inr o) = o.1
-conditions-fill f (SameReference place x) o = o.1
-conditions-fill f (ReferenceIsFree place x) o = o.1
-conditions-fill f (ParallelShares place x) o = o
+    same : (r : ResId) (i : ℕ) → at_shared ≡ record { var = Shared r i; place = place } → lock ≡ r
+    same r i e = let v : Shared lock 0 ≡ Shared r i = ap (λ (z : Occurrence). z.var) e in cc
+conditions-fill f (NotHeld place (Shared r i)) (u, inl (inr o)) = contains-nil o.0 o.1
+conditions-fill f (NotHeld place (Shared r i)) (u, inr o) = contains-nil o.0 o.1
+conditions-fill f (Reentered place r) (h, inl o) = contains-nil r o.1
+conditions-fill f (Reentered place r) (h, inr o) = contains-nil o.0 o.1
+conditions-fill f (SameReference place x) o = contains-nil o.0 o.1
+conditions-fill f (ReferenceIsFree place x) o = contains-nil o.0 o.1
+conditions-fill f (ParallelShares place x) o = contains-nil o.0 o.1
 
-conditions-twice : (f : ProcId) (b : Breach) → Somewhere (BreaksAt b) (outside f) twice.body → ⊥
-conditions-twice f b (inl (inl o)) = conditions-fork f b o
-conditions-twice f b (inl (inr o)) = o
-conditions-twice f b (inr o) = o
+conditions-twice : (f : ProcId) (b : Breach) (s : Site) → Contains (sites [] twice.body) s
+    → BreaksAt filling_twice f b s → ⊥
+conditions-twice f b s m k =
+    conditions-fork f b (subst (BreaksAt filling_twice f b) (sym (contains-single (outside forking) s m)) k)
 
-conditions-fills : (f : ProcId) (b : Breach) → Somewhere (BreaksAt b) (outside f) fills.body → ⊥
-conditions-fills f b (inl (inl o)) = conditions-enter f b o
-conditions-fills f b (inl (inr (inl (inl o)))) = conditions-fill f b o
-conditions-fills f b (inl (inr (inl (inr o)))) = o
-conditions-fills f b (inl (inr (inr o))) = o
-conditions-fills f b (inr o) = o
+conditions-fills : (f : ProcId) (b : Breach) (s : Site) → Contains (sites [] fills.body) s
+    → BreaksAt filling_twice f b s → ⊥
+conditions-fills f b s m k = elim ((contains-cons (outside entering) (in_lock filling ∷ []) s).0 m) [
+  | inl e ↦ conditions-enter f b (subst (BreaksAt filling_twice f b) (sym e) k)
+  | inr l ↦
+      conditions-fill f b
+      (subst (BreaksAt filling_twice f b) (sym (contains-single (in_lock filling) s l)) k)
+]
 
 conditions : Conditions filling_twice
 conditions = (first_breach_is_broken filling_twice formed).unbroken (λ f b breaks. go f b breaks)
   where
     go : (f : ProcId) (b : Breach) → Breaks filling_twice f b → ⊥
-    go f b (h, there, s) = elim (which f.0 h there) [
-      | inl e ↦ conditions-twice f b (subst (λ (z : Procedure). Somewhere (BreaksAt b) (outside f) z.body) (sym e) s)
-      | inr e ↦ conditions-fills f b (subst (λ (z : Procedure). Somewhere (BreaksAt b) (outside f) z.body) (sym e) s)
+    go f b (h, there, (s, m, k)) = elim (which f.0 h there) [
+      | inl e ↦ conditions-twice f b s (subst (λ (z : Procedure). Contains (sites [] z.body) s) (sym e) m) k
+      | inr e ↦ conditions-fills f b s (subst (λ (z : Procedure). Contains (sites [] z.body) s) (sym e) m) k
     ]
 
 -- SAFE: a frame of either procedure begins and ends with nothing

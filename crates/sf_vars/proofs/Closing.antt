@@ -1,6 +1,10 @@
 -- The laws of the crate, under the names of their functions in src/laws.rt.
 use Rattle.sf_vars.proofs.Answered.{program_answered}
-use Rattle.sf_vars.specs.Laws.{EachProgramHasAnAnswer}
+use Rattle.sf_vars.proofs.NothingEarlier.{nothing_earlier}
+use Rattle.sf_vars.specs.Laws.{EachProgramHasAnAnswer, NothingComesEarlier}
 
 pub each_program_has_an_answer : EachProgramHasAnAnswer
 each_program_has_an_answer = program_answered
+
+pub nothing_comes_earlier : NothingComesEarlier
+nothing_comes_earlier = nothing_earlier

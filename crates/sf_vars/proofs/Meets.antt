@@ -375,7 +375,7 @@ meets_head p f s sets held h st w =
     there d k = callee_there p h d (calls-within p h s.command w d k)
 
 -- the questions about commands, in their order
-abbrev FirstOf : Program → ProcId → List Site → Option Breach → Type 0
+abbrev pub FirstOf : Program → ProcId → List Site → Option Breach → Type 0
 FirstOf p f ss = IsFirst (λ e. IsBroken p f e.0 e.1) (λ e. breach_of e.1) (site_questions p ss)
 
 meets_append : (p : Program) (f : ProcId) (ss ts : List Site) (o q : Option Breach) → FirstOf p f ss o

@@ -1,9 +1,13 @@
--- Each program has an answer: no condition on variables is broken, or a fault comes first.
--- Ordinary: a relation that is total has a value for each argument.
-use Rattle.std.specs.Prelude.{◌⊎◌}
+-- Each program has an answer: no condition on variables is broken, or a fault comes first; and nothing comes
+-- earlier than what is first.
+-- Ordinary: a relation that is total has a value for each argument, and the least of an order nothing below it.
+use Rattle.std.specs.Prelude.{◌⊎◌, ℕ, Some}
+use Rattle.sf_base.specs.declared.ids.ProcId.{ProcId}
 use Rattle.sf_core.specs.Program.Formed.{IsFormed}
 use Rattle.sf_core.specs.Program.Syntax.{Program}
-use Rattle.sf_calls.specs.FirstBreach.{Conditions}
+use Rattle.sf_calls.specs.declared.breach.Breach.{Breach}
+use Rattle.sf_calls.specs.FirstBreach.{Conditions, FirstBreach}
+use Rattle.sf_vars.specs.Earlier.{IsEarlierBreach, IsLocated, Located}
 use Rattle.sf_vars.specs.Faults.{IsFirstFault}
 use Rattle.sf_vars.specs.declared.fault.VarFault.{VarFault}
 
@@ -11,3 +15,11 @@ use Rattle.sf_vars.specs.declared.fault.VarFault.{VarFault}
 abbrev pub EachProgramHasAnAnswer : Type 0
 EachProgramHasAnAnswer =
     (p : Program) → IsFormed p → Conditions p ⊎ ((fault : VarFault) × IsFirstFault p fault)
+
+-- what comes first is at some command, and no breach of the program is earlier by procedure, command and kind
+abbrev pub NothingComesEarlier : Type 0
+NothingComesEarlier =
+    (p : Program) (f : ProcId) (b : Breach) → IsFormed p → FirstBreach p (Some (f, b))
+    → (k : ℕ) × IsLocated p (record { procedure = f; command = k; breach = b })
+    × ((d : Located) → IsLocated p d
+    → ¬ (IsEarlierBreach d (record { procedure = f; command = k; breach = b })))

@@ -1,3 +1,4 @@
 pub mod Faults
+pub mod Earlier
 pub mod Laws
 pub mod Internal

@@ -1,21 +1,13 @@
-use Rattle.std.proofs.Common.{rules}
-use Rattle.sf_core.specs.Program.View.{level_of}
-use Rattle.sf_precise.proofs.Branches.{error-not, ordered-determined, ordered-stands}
+use Rattle.sf_core.specs.Program.View.{assertion_of}
+use Rattle.sf_precise.proofs.Exactly.{only-ordered, only-undetermined}
 use Rattle.sf_precise.proofs.ordering.order.Goals as goal
 
-pub returns-in_err-level-clause-undetermined : goal.returns-in_err-level-clause-undetermined
-returns-in_err-level-clause-undetermined c =
-    error-not c.from_residual-in_err-level.result (level_of c.args.a.now.level) (search rules)
+pub returns-clause-only_ordered : goal.returns-clause-only_ordered
+returns-clause-only_ordered c =
+    only-ordered (assertion_of c.args.a.now) (λ x. assertion_of x.assertion) c.find_order.result
+    c.find_order.ensures.ordered c.find_order.ensures.undetermined
 
-pub invariant_of-result : goal.invariant_of-result
-invariant_of-result c =
-    record {
-      in_order =
-          ordered-stands (level_of c.args.a.now.level)
-          (level_of c.in_ok-level.level) c.in_ok-level.ensures.ordered;
-    }
-
-pub returns-clause-determined : goal.returns-clause-determined
-returns-clause-determined c =
-    ordered-determined (level_of c.args.a.now.level)
-    (level_of c.in_ok-level.level) c.in_ok-level.ensures.ordered
+pub returns-clause-only_undetermined : goal.returns-clause-only_undetermined
+returns-clause-only_undetermined c =
+    only-undetermined (assertion_of c.args.a.now) c.find_order.result
+    c.find_order.ensures.determined c.find_order.ensures.place

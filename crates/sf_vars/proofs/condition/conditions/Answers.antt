@@ -1,6 +1,7 @@
-use Rattle.std.proofs.Common.{◌∙◌, Some, None, sym}
+use Rattle.std.proofs.Common.{◌∙◌, Some, None, sym, inl}
 use Rattle.sf_core.specs.Program.ProgramView.{program_of}
 use Rattle.sf_vars.proofs.Answered.{first_in}
+use Rattle.sf_vars.proofs.Exactly.{conditions-apart, fault-once}
 use Rattle.sf_vars.proofs.Meets.{meets_program}
 use Rattle.sf_vars.proofs.condition.conditions.Goals as goal
 
@@ -26,3 +27,37 @@ returns-in_ok-fault_of-in-Some-clause-broken c = λ other. record {
   named = c.in_ok-fault_of-in-Some.ensures.1;
   told = c.in_ok-fault_of-in-Some.ensures.2;
 }
+
+pub returns-in-None-clause-only_broken : goal.returns-in-None-clause-only_broken
+returns-in-None-clause-only_broken c = λ fault h.
+    conditions-apart (program_of c.args.p.now) fault
+    (meets_program (program_of c.args.p.now) c.args.c.now c.args.p.now.formed c.requires None
+    (sym c.in-None.is ∙ c.in_ok-first_breach.ensures)) h
+
+pub returns-in_ok-fault_of-in-Some-clause-only_kept : goal.returns-in_ok-fault_of-in-Some-clause-only_kept
+returns-in_ok-fault_of-in-Some-clause-only_kept c = λ kept.
+    absurd
+    (conditions-apart (program_of c.args.p.now) c.in_ok-fault_of-in-Some.field-0 kept (record {
+      procedure = c.in-Some.f;
+      breach = c.in-Some.breach;
+      name = c.in_ok-fault_of-in-Some.ensures.0;
+      first =
+          meets_program (program_of c.args.p.now) c.args.c.now c.args.p.now.formed c.requires
+          (Some (c.in-Some.f, c.in-Some.breach)) (sym c.in-Some.is ∙ c.in_ok-first_breach.ensures);
+      named = c.in_ok-fault_of-in-Some.ensures.1;
+      told = c.in_ok-fault_of-in-Some.ensures.2;
+    }))
+
+pub returns-in_ok-fault_of-in-Some-clause-only_broken : goal.returns-in_ok-fault_of-in-Some-clause-only_broken
+returns-in_ok-fault_of-in-Some-clause-only_broken c = λ fault h.
+    inl
+    (fault-once (program_of c.args.p.now) c.in_ok-fault_of-in-Some.field-0 fault (record {
+      procedure = c.in-Some.f;
+      breach = c.in-Some.breach;
+      name = c.in_ok-fault_of-in-Some.ensures.0;
+      first =
+          meets_program (program_of c.args.p.now) c.args.c.now c.args.p.now.formed c.requires
+          (Some (c.in-Some.f, c.in-Some.breach)) (sym c.in-Some.is ∙ c.in_ok-first_breach.ensures);
+      named = c.in_ok-fault_of-in-Some.ensures.1;
+      told = c.in_ok-fault_of-in-Some.ensures.2;
+    }) h)
