@@ -5,6 +5,7 @@ use Rattle.std.proofs.Common.{sym, ap, ◌∙◌, refl, subst, inl, inr, arith}
 use Rattle.std.proofs.lemmas.Bool.{cases_eq}
 use Rattle.std.proofs.lemmas.Option.{none-some, same_Some}
 use Rattle.sf_base.proofs.Elements.{contains-cons}
+use Rattle.sf_base.specs.declared.ids.ProcId.{ProcId}
 use Rattle.sf_base.specs.declared.ids.ResId.{ResId}
 use Rattle.sf_base.specs.declared.ids.Var.{Var}
 use Rattle.sf_base.specs.declared.place.Place.{Place}
@@ -13,19 +14,20 @@ use Rattle.sf_core.specs.declared.command.Expr.{Expr}
 use Rattle.sf_core.specs.declared.command.Occurrence.{Occurrence}
 use Rattle.sf_core.specs.Machine.Step.{procedure_at}
 use Rattle.sf_core.specs.Program.Formed.{CallWithin, HasCounts}
-use Rattle.sf_core.specs.Program.Syntax.{Block, Call, Command, Procedure, fork, with}
+use Rattle.sf_core.specs.Program.Heads.{Site, head_calls}
+use Rattle.sf_core.specs.Program.Syntax.{Block, Call, Procedure, Program, fork, with}
 use Rattle.sf_calls.specs.declared.breach.Breach.{Breach}
 use Rattle.sf_calls.specs.declared.breach.Breach.TheVariants.{ParallelShares, Reentered, ReferenceIsFree, SameReference}
-use Rattle.sf_calls.specs.Around.{Around, IsHeld}
+use Rattle.sf_calls.specs.Around.{IsHeld}
 use Rattle.sf_calls.specs.Assigned.{MayChange}
-use Rattle.sf_calls.specs.Breaks.{BreaksAt, IsAgain, Makes}
+use Rattle.sf_calls.specs.Breaks.{BreaksAt, IsAgain}
 use Rattle.sf_calls.specs.Conditions.{Takes}
 use Rattle.sf_calls.specs.Outside.{IsAmong, OccursInValues}
 use Rattle.sf_safe.specs.Local.{Fits}
 
--- the command breaks no condition where it is
-abbrev pub Unbroken : Around → Command → Type 0
-Unbroken a c = (b : Breach) → BreaksAt b a c → ⊥
+-- the command there breaks no condition in the body of that procedure
+abbrev pub Unbroken : Program → ProcId → Site → Type 0
+Unbroken p k s = (b : Breach) → BreaksAt p k b s → ⊥
 
 slice-contains : (refs : List Occurrence) (i : ℕ) (y : Occurrence) → slice_get refs i ≡ Some y → Contains refs y
 slice-contains [] i y e = absurd (none-some y e)
@@ -55,9 +57,9 @@ among-contains (y ∷ refs) x (inr a) =
     (m.0, (contains-cons y refs (record { var = x; place = m.0 })).1 (inr m.1))
 
 -- a call that is well formed and breaks no condition fits its callee
-pub unbroken-fits : (a : Around) (f g : Procedure) (whole : Command) (c : Call) → Unbroken a whole → Makes whole c
-    → CallWithin a.program f c → procedure_at a.program c.callee ≡ Some g → Fits a.program c g
-unbroken-fits a f g whole c n makes within there =
+pub unbroken-fits : (p : Program) (k : ProcId) (s : Site) (f g : Procedure) (c : Call) → Unbroken p k s
+    → Contains (head_calls s.command) c → CallWithin p f c → procedure_at p c.callee ≡ Some g → Fits p c g
+unbroken-fits p k s f g c n makes within there =
     let counts = subst (λ z. HasCounts z c) there within.callee in
     record {
       references = counts.0;
@@ -71,7 +73,7 @@ unbroken-fits a f g whole c n makes within there =
       ];
       not_free = λ x among free.
           let m = among-contains c.references x among in
-          n (ReferenceIsFree m.0 x) (c, makes, m.1, free);
+          n (ReferenceIsFree m.0 x) (c, makes, (m.1, free));
     }
   where
     order : (i j : ℕ) → (i < j) ⊎ ((i ≡ j) ⊎ (j < i))
@@ -88,16 +90,20 @@ unbroken-fits a f g whole c n makes within there =
     repeated i j x y e h same l = n (SameReference y.place y.var) (c, makes, again c.references i j x y e h same l)
 
 -- what the one of two parallel calls may change the other may neither change nor read
-pub unbroken-apart : (a : Around) (place : Place) (c d : Call) → Unbroken a (fork place c d) → (x : Var)
-    → MayChange a.program c x → (MayChange a.program d x ⊎ OccursInValues x d.values) → ⊥
-unbroken-apart a place c d n x i j = n (ParallelShares c.place x) (refl, inl (i, j))
+pub unbroken-apart : (p : Program) (k : ProcId) (entered : List ResId) (place : Place) (c d : Call)
+    → Unbroken p k (record { entered = entered; command = fork place c d }) → (x : Var)
+    → MayChange p c x → (MayChange p d x ⊎ OccursInValues x d.values) → ⊥
+unbroken-apart p k entered place c d n x i j =
+    n (ParallelShares c.place x) ((c, d), (contains-cons (c, d) [] (c, d)).1 (inl refl), refl, inl (i, j))
 
 -- a region that is entered isn't held
-pub unbroken-enters : (a : Around) (place : Place) (r : ResId) (test : Test Expr) (body : Block)
-    → Unbroken a (with place r test body) → IsHeld a r → ⊥
-unbroken-enters a place r test body n held = n (Reentered place r) (held, inl (refl, refl))
+pub unbroken-enters : (p : Program) (k : ProcId) (entered : List ResId) (place : Place) (r : ResId)
+    (test : Test Expr) (body : Block)
+    → Unbroken p k (record { entered = entered; command = with place r test body }) → IsHeld p k entered r → ⊥
+unbroken-enters p k entered place r test body n held =
+    n (Reentered place r) (held, inl (refl, (contains-cons r [] r).1 (inl refl)))
 
 -- nor is one that a call takes
-pub unbroken-takes : (a : Around) (whole : Command) (c : Call) → Unbroken a whole → Makes whole c → (r : ResId)
-    → Takes a.program c.callee r → IsHeld a r → ⊥
-unbroken-takes a whole c n makes r takes held = n (Reentered c.place r) (held, inr (c, makes, refl, takes))
+pub unbroken-takes : (p : Program) (k : ProcId) (s : Site) (c : Call) → Unbroken p k s
+    → Contains (head_calls s.command) c → (r : ResId) → Takes p c.callee r → IsHeld p k s.entered r → ⊥
+unbroken-takes p k s c n makes r takes held = n (Reentered c.place r) (held, inr (c, makes, (refl, takes)))
