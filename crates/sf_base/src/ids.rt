@@ -12,7 +12,7 @@ pub struct ResId(pub u32);
 pub struct ProcId(pub u32);
 
 /// The number of a field, in declared order from 0.
-#[derive(Clone, Copy, Debug, PartialEq, Eq, PartialOrd, Ord, Hash)]
+#[derive(Clone, Copy, Debug, Default, PartialEq, Eq, PartialOrd, Ord, Hash)]
 pub struct FieldId(pub u32);
 
 /// A variable, as the text of one procedure or of one invariant names it.

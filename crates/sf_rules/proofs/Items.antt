@@ -1,22 +1,22 @@
 -- Lists of the code's items, with the next one last.
-use Rattle.std.proofs.Common.{Option, None, Vec, Global, Some, append_assoc, ◌≡◌, ℕ, ◌==◌, true, false, List, [], ◌∷◌, ◌++◌, length, map, reverse, refl, sym, ap, ◌∙◌, arith}
+use Rattle.std.proofs.Common.{Option, None, Vec, Global, Some, append_assoc, ◌≡◌, ℕ, ◌==◌, true, false, List, [], ◌∷◌, ◌++◌, length, map, refl, sym, ap, ◌∙◌, arith}
 use Rattle.std.specs.List.{flat_map}
-use Rattle.std.proofs.lemmas.List.{reverse-append, length-reverse}
+use Rattle.std.proofs.lemmas.List.{reverse-append}
 use Rattle.sf_core.specs.declared.command.Command.{Command as CodeCommand}
 use Rattle.sf_core.specs.Program.View.{assertion_of, block_of, command_of, conjunct_of, conjuncts, block}
 use Rattle.sf_core.specs.declared.assertion.Conjunct.{Conjunct as CodeConjunct}
-use Rattle.sf_core.specs.Program.Syntax.{also, Command, Assertion, Block}
+use Rattle.sf_core.specs.Program.Syntax.{Command, Assertion, Block}
 use Rattle.sf_sym.specs.declared.term.Term.{Term}
 use Rattle.sf_rules.specs.Table.{end_row, add_row, cell_row, pending_assertion, unless_none, to_run, to_add, to_take, return_row}
 use Rattle.sf_base.specs.declared.ids.Var.{Var}
 use Rattle.sf_base.specs.declared.place.Place.{Place}
-use Rattle.sf_sym.specs.declared.state.State.{State}
+use Rattle.sf_sym.specs.State.{State}
 use Rattle.sf_sym.specs.declared.goal.Item.{Item as CodeItem}
 use Rattle.sf_sym.specs.declared.goal.Item.TheVariants.{Run, Add, Take, Gave, Head, Again, Exit, Return, End}
-use Rattle.sf_sym.specs.Goal.{Pending, Goal, Item, items_of, run, add, take, return, end, goal_of}
+use Rattle.sf_sym.specs.Goal.{Goal, Item, items_of, run, add, take, return, end, goal_of}
 use Rattle.std.specs.Borrow.{Bor}
 use Rattle.sf_core.specs.declared.assertion.Assertion.{Assertion as CodeAssertion}
-use Rattle.sf_sym.specs.declared.given.Pending.{Pending as CodePending}
+use Rattle.sf_sym.specs.Pending.{Pending, Given}
 use Rattle.sf_rules.specs.Internal.Subgoals.{todo_of, is_nothing}
 
 pub todo_of_push : (xs : List CodeItem) (x : CodeItem) → todo_of (xs ++ x ∷ []) ≡ items_of x ++ todo_of xs
@@ -48,24 +48,15 @@ unless_some_of : (ys : List (CodeConjunct Term)) (item : Item) → (length ys �
 unless_some_of [] item e = absurd (e refl)
 unless_some_of (y ∷ ys) item e = refl
 
--- conjuncts are an item unless there are none
-pub unless_empty : (xs : List (CodeConjunct Term)) (item : Item) → length xs ≡ 0
-    → unless_none (conjuncts (map (conjunct_of {E = Term}) (reverse xs))) item ≡ []
-unless_empty xs item e = unless_none_of (reverse xs) item (length-reverse xs ∙ e)
-
-pub unless_some : (xs : List (CodeConjunct Term)) (item : Item) → (length xs ≡ 0 → ⊥)
-    → unless_none (conjuncts (map (conjunct_of {E = Term}) (reverse xs))) item ≡ item ∷ []
-unless_some xs item e = unless_some_of (reverse xs) item (λ h. e (sym (length-reverse xs) ∙ h))
-
 -- with the item first, unless there are no conjuncts
 pub unless_empty_before : (xs : List (CodeConjunct Term)) (item : Item) (rest : List Item) → length xs ≡ 0
-    → rest ≡ unless_none (conjuncts (map (conjunct_of {E = Term}) (reverse xs))) item ++ rest
-unless_empty_before xs item rest e = sym (ap (λ ys. ys ++ rest) (unless_empty xs item e))
+    → rest ≡ unless_none (conjuncts (map (conjunct_of {E = Term}) xs)) item ++ rest
+unless_empty_before xs item rest e = sym (ap (λ ys. ys ++ rest) (unless_none_of xs item e))
 
 pub unless_some_before : (xs : List (CodeConjunct Term)) (item : Item) (rest all : List Item)
     → (length xs ≡ 0 → ⊥) → all ≡ item ∷ rest
-    → all ≡ unless_none (conjuncts (map (conjunct_of {E = Term}) (reverse xs))) item ++ rest
-unless_some_before xs item rest all e is = is ∙ sym (ap (λ ys. ys ++ rest) (unless_some xs item e))
+    → all ≡ unless_none (conjuncts (map (conjunct_of {E = Term}) xs)) item ++ rest
+unless_some_before xs item rest all e is = is ∙ sym (ap (λ ys. ys ++ rest) (unless_some_of xs item e))
 
 pub to_run_of : (cs : List CodeCommand)
     → to_run (block (map command_of cs)) ≡ map (λ c. run (command_of c)) cs
@@ -131,7 +122,7 @@ pub end_other : (s : State) (i : CodeItem) (rest items : List Item) → items �
 end_other s i rest items is e n = end_other_of s i rest e n ∙ ap (end_row s) (sym is)
 
 add_other_of : (s : State) (i : CodeItem) (rest : List Item) → is_nothing i ≡ false
-    → ((p : Place) (given : CodePending) → i ≡ Add p given → ⊥) → None ≡ add_row s (items_of i ++ rest)
+    → ((p : Place) (given : Given) → i ≡ Add p given → ⊥) → None ≡ add_row s (items_of i ++ rest)
 add_other_of s (Run commands) rest e n = run_other (add_row s) commands.now rest (λ c r. refl) e
 add_other_of s (Add p given) rest e n = absurd (n p given refl)
 add_other_of s (Take p want names) rest e n = refl
@@ -143,12 +134,12 @@ add_other_of s (Return p post) rest e n = refl
 add_other_of s (End p) rest e n = refl
 
 pub add_other : (s : State) (i : CodeItem) (rest items : List Item) → items ≡ items_of i ++ rest
-    → is_nothing i ≡ false → ((p : Place) (given : CodePending) → i ≡ Add p given → ⊥)
+    → is_nothing i ≡ false → ((p : Place) (given : Given) → i ≡ Add p given → ⊥)
     → None ≡ add_row s items
 add_other s i rest items is e n = add_other_of s i rest e n ∙ ap (add_row s) (sym is)
 
 cell_other_of : (s : State) (a : ℕ) (i : CodeItem) (rest : List Item) → is_nothing i ≡ false
-    → ((p : Place) (want : CodePending) (names : Bor (List (List ℕ))) → i ≡ Take p want names → ⊥)
+    → ((p : Place) (want : Given) (names : Bor (List (List ℕ))) → i ≡ Take p want names → ⊥)
     → None ≡ cell_row s (items_of i ++ rest) a
 cell_other_of s a (Run commands) rest e n =
     run_other (λ items. cell_row s items a) commands.now rest (λ c r. refl) e
@@ -163,7 +154,7 @@ cell_other_of s a (End p) rest e n = refl
 
 pub cell_other : (s : State) (a : ℕ) (i : CodeItem) (rest items : List Item) → items ≡ items_of i ++ rest
     → is_nothing i ≡ false
-    → ((p : Place) (want : CodePending) (names : Bor (List (List ℕ))) → i ≡ Take p want names → ⊥)
+    → ((p : Place) (want : Given) (names : Bor (List (List ℕ))) → i ≡ Take p want names → ⊥)
     → None ≡ cell_row s items a
 cell_other s a i rest items is e n =
     cell_other_of s a i rest e n ∙ ap ((λ items. cell_row s items a)) (sym is)

@@ -1,18 +1,12 @@
 -- Lemmas on proofs, cells and conjuncts that the proofs of the crates above cite. Each states what it
 -- says; none is a definition.
 -- Ordinary: proofs are finite trees, and those of a list of goals are those of its parts.
-use Rattle.std.proofs.Common.{◌≡◌, Bool, true, false, cond, Option, Some, None, List, [], ◌∷◌, ◌++◌, map, reverse, refl, sym, ap, ◌∙◌, subst, append_assoc}
+use Rattle.std.proofs.Common.{◌≡◌, List, [], ◌∷◌, ◌++◌, map, reverse, refl, sym, ap, ◌∙◌, subst, append_assoc}
 use Rattle.std.proofs.lemmas.List.{reverse-append}
-use Rattle.sf_base.specs.declared.ids.FieldId.{FieldId}
 use Rattle.sf_core.specs.declared.assertion.Conjunct.{Conjunct as CodeConjunct}
 use Rattle.sf_core.specs.Program.Syntax.{also}
 use Rattle.sf_core.specs.Program.View.{conjunct_of, conjuncts}
-use Rattle.sf_sym.specs.declared.atom.Atom.{Atom}
-use Rattle.sf_sym.specs.declared.atom.Atom.TheVariants.{Points, Ls, Tree}
 use Rattle.sf_sym.specs.declared.term.Term.{Term}
-use Rattle.sf_sym.specs.Lemmas.{same_term_is}
-use Rattle.sf_sym.specs.Tests.{same_term}
-use Rattle.sf_rules.specs.Table.{fields_at}
 use Rattle.sf_sym.specs.declared.tag.Tag.{Tag}
 use Rattle.sf_sym.specs.Goal.{Goal}
 use Rattle.sf_rules.specs.Proves.{Proof, Proofs, no_more, and, preorder, preorders}
@@ -59,19 +53,6 @@ one_proof g gs e (and goal others k p ps) =
     let none : others ≡ [] = cc in
     let moved = proof-same goal g same p in
     (moved.0, moved.1 ∙ sym (append_nothing (preorder p) (preorders ps) (no_tags others ps none)))
-
-points_step : (root t : Term) (gs fields : List (FieldId × Term)) (b : Bool) → (b ≡ true → root ≡ t)
-    → cond b (Some gs) None ≡ Some fields → Points root gs ≡ Points t fields
-points_step root t gs fields true same e = let r : root ≡ t = same refl in let g : gs ≡ fields = cc in cc
-points_step root t gs fields false same e = absurd (cc)
-
--- an atom with fields at a term is the cell there
-pub points_at : (x : Atom) (t : Term) (fields : List (FieldId × Term)) → fields_at x t ≡ Some fields
-    → x ≡ Points t fields
-points_at (Points root gs) t fields e =
-    points_step root t gs fields (same_term root t) (same_term_is root t) e
-points_at (Ls u v) t fields e = absurd (cc)
-points_at (Tree u) t fields e = absurd (cc)
 
 -- the next conjunct of the code is the last
 pub last_conjunct : (xs : List (CodeConjunct Term)) (c : CodeConjunct Term)

@@ -2,7 +2,7 @@
 -- write fields.
 -- Berdine, Calcagno, O'Hearn, "Symbolic Execution with Separation Logic" (2005), in this project's own
 -- profile.
-use Rattle.std.specs.Prelude.{ℕ, zero, suc, ◌+◌, ◌-◌, ◌^◌, ◌==◌, Bool, true, false, ◌&&◌, cond, Option, Some, None, List, [], ◌∷◌, ◌++◌, length, map, nat_lt, nat_le, codes, replicate}
+use Rattle.std.specs.Prelude.{ℕ, zero, suc, ◌+◌, ◌-◌, ◌^◌, Bool, true, false, ◌&&◌, cond, Option, Some, None, List, [], ◌∷◌, ◌++◌, length, map, nat_le, codes, replicate}
 use Rattle.std.specs.List.{list_all}
 use Rattle.std.specs.Option.{option_map, option_and_then}
 use Rattle.std.specs.Str.{bytes_eq}
@@ -10,36 +10,24 @@ use Rattle.sf_base.specs.declared.ids.FieldId.{FieldId}
 use Rattle.sf_base.specs.declared.ids.Var.{Var}
 use Rattle.sf_base.specs.declared.ids.Var.TheVariants.{Own}
 use Rattle.sf_base.specs.declared.place.Place.{Place}
-use Rattle.sf_base.specs.Variables.{same_var}
 use Rattle.sf_core.specs.declared.assertion.Operand.{Operand}
 use Rattle.sf_core.specs.declared.assertion.Operand.TheVariants.{Known, Exists}
 use Rattle.sf_core.specs.declared.assertion.Test.{Test}
 use Rattle.sf_core.specs.declared.assertion.Test.TheVariants.{True, Equal, Differ}
 use Rattle.sf_core.specs.declared.command.Expr.{Expr}
-use Rattle.sf_core.specs.declared.command.Expr.TheVariants.{Var as Variable, Nil as ENil, Int as EInt}
 use Rattle.sf_core.specs.Program.Syntax.{Conjunct, holds, points, segment, tree, choose, Level, level, Conjuncts, none, also, Command, mutate, Block, done, then, Assertion, Procedure, Program}
-use Rattle.sf_sym.specs.declared.atom.Atom.{Atom}
-use Rattle.sf_sym.specs.declared.atom.Atom.TheVariants.{Points, Ls, Tree}
 use Rattle.sf_sym.specs.declared.atom.Numbered.{Numbered}
 use Rattle.sf_core.specs.declared.fields.Links.{Links}
-use Rattle.sf_sym.specs.declared.state.State.{State}
+use Rattle.sf_sym.specs.Cells.{cell_at, with_cell, state_after_write, after_hand_over}
+use Rattle.sf_sym.specs.Fields.{field_term, put_term}
+use Rattle.sf_sym.specs.State.{State, first_state, term}
 use Rattle.sf_sym.specs.declared.tag.Tag.{Tag}
 use Rattle.sf_sym.specs.declared.tag.Tag.TheVariants as t
 use Rattle.sf_sym.specs.declared.term.Term.{Term}
-use Rattle.sf_sym.specs.declared.term.Term.TheVariants.{Nil, Int, Sym}
-use Rattle.sf_sym.specs.Goal.{Pending, Item, run, add, take, return, end, Goal}
+use Rattle.sf_sym.specs.declared.term.Term.TheVariants.{Nil, Sym}
+use Rattle.sf_sym.specs.Goal.{Item, run, add, take, return, end, Goal}
+use Rattle.sf_sym.specs.Pending.{Pending}
 use Rattle.sf_sym.specs.Tests.{same_term, is_absurd}
-
--- the term of a variable; each variable in reach has one
-abbrev pub term_at : List (Var × Term) → Var → Term
-term_at [] x = Nil
-term_at (v ∷ vs) x = cond (same_var v.0 x) v.1 (term_at vs x)
-
--- the term of an expression
-abbrev pub term : List (Var × Term) → Expr → Term
-term vars (Variable x) = term_at vars x.var
-term vars ENil = Nil
-term vars (EInt i) = Int i
 
 -- an operand with its term
 abbrev pub operand_with : (Expr → Term) → Operand Expr → Operand Term
@@ -133,16 +121,7 @@ first_goal p f =
     let parameters = f.references + f.values in
     let vars = symbols 0 parameters ++ nils parameters (length f.names - parameters) in
     record {
-      state =
-          record {
-            links = links_of p;
-            vars = vars;
-            apart = [];
-            atoms = [];
-            taken = [];
-            next_sym = parameters;
-            next_atom = 1;
-          };
+      state = first_state (links_of p) vars parameters;
       todo = to_add f.place vars f.pre ++ to_run f.body ++ (return f.end f.post ∷ []);
     }
 
@@ -155,35 +134,10 @@ abbrev pub known_term : Operand Term → Option Term
 known_term (Known t) = Some t
 known_term (Exists n) = None
 
--- a field's term is put in its place, in the order of the fields
-abbrev pub put_term : FieldId → Term → List (FieldId × Term) → List (FieldId × Term)
-put_term f u [] = (f, u) ∷ []
-put_term f u (g ∷ gs) =
-    cond (g.0.0 == f.0) ((f, u) ∷ gs) (cond (nat_lt f.0 g.0.0) ((f, u) ∷ g ∷ gs) (g ∷ put_term f u gs))
-
--- the term of a field, where it is known
-abbrev pub field_term : List (FieldId × Term) → FieldId → Option Term
-field_term [] f = None
-field_term (g ∷ gs) f = cond (g.0.0 == f.0) (Some g.1) (field_term gs f)
-
 -- the terms of a new cell's fields, where all have one
 abbrev pub new_fields : List (FieldId × Operand Term) → List (FieldId × Term) → Option (List (FieldId × Term))
 new_fields [] made = Some made
 new_fields (f ∷ fs) made = option_and_then (λ u. new_fields fs (put_term f.0 u made)) (known_term f.1)
-
--- the symbol of a cell differs from nil
-abbrev pub apart_from_nil : Term → List (Term × Term)
-apart_from_nil Nil = []
-apart_from_nil (Int i) = []
-apart_from_nil (Sym n) = (Sym n, Nil) ∷ []
-
--- the state with one more cell
-abbrev pub with_cell : State → Term → List (FieldId × Term) → State
-with_cell s root fields = record s {
-  apart = s.apart ++ apart_from_nil root;
-  atoms = s.atoms ++ (record { number = s.next_atom; atom = Points root fields } ∷ []);
-  next_atom = s.next_atom + 1;
-}
 
 -- one conjunct is assumed
 abbrev pub state_after_assumption : State → Conjunct Term → Option State
@@ -191,39 +145,10 @@ state_after_assumption s (points p x fs) =
     option_and_then (λ root. option_map (with_cell s root) (new_fields fs [])) (known_term x)
 state_after_assumption s _ = None
 
--- the fields of an atom that is a cell at that term
-abbrev pub fields_at : Atom → Term → Option (List (FieldId × Term))
-fields_at (Points root fields) t = cond (same_term root t) (Some fields) None
-fields_at (Ls u v) t = None
-fields_at (Tree u) t = None
-
--- the fields of the atom of that number, where it is a cell at that term
-abbrev pub cell_at : List Numbered → ℕ → Term → Option (List (FieldId × Term))
-cell_at [] a t = None
-cell_at (x ∷ xs) a t = cond (x.number == a) (fields_at x.atom t) (cell_at xs a t)
-
--- the atoms, that of the number being this cell
-abbrev pub with_fields : List Numbered → ℕ → Term → List (FieldId × Term) → List Numbered
-with_fields [] a root fields = []
-with_fields (x ∷ xs) a root fields =
-    cond (x.number == a) (record { number = a; atom = Points root fields } ∷ xs)
-    (x ∷ with_fields xs a root fields)
-
 -- no atom is left
 abbrev pub is_empty : List Numbered → Bool
 is_empty [] = true
 is_empty (x ∷ xs) = false
-
--- the atoms without that of the number
-abbrev pub without : List Numbered → ℕ → List Numbered
-without [] a = []
-without (x ∷ xs) a = cond (x.number == a) xs (x ∷ without xs a)
-
--- a field of a cell is written
-abbrev pub state_after_write : State → (root : Term) → FieldId → Term → (atom : ℕ) → Option State
-state_after_write s root f u a =
-    option_map (λ fields. record s { atoms = with_fields s.atoms a root (put_term f u fields) })
-    (cell_at s.atoms a root)
 
 -- the term that is there is that one
 abbrev pub has_term : Option Term → Option Term → Bool
@@ -240,13 +165,7 @@ fits fields f = has_term (field_term fields f.0) (known_term f.1)
 abbrev pub hand_over : State → (root : Term) → List (FieldId × Operand Term) → (atom : ℕ) → Option State
 hand_over s root wanted a =
     option_and_then (λ fields.
-    cond (list_all (fits fields) wanted)
-    (Some (record s {
-      atoms = without s.atoms a;
-      taken = s.taken
-          ++ (record { number = a; atom = Points root fields } ∷ []);
-    }))
-    None)
+    cond (list_all (fits fields) wanted) (Some (after_hand_over s root fields a)) None)
     (cell_at s.atoms a root)
 
 -- a wanted cell is handed over

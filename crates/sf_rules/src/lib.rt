@@ -1,7 +1,7 @@
 //! The table of rules: the first goal of a procedure, and the goals that a tag leaves of a goal.
 //!
 //! - `terms`: expressions and assertions with the terms that the variables have now.
-//! - `cells`: cells of a state: finding one, reading and writing its fields, and handing it over.
+//! - `cells`: cells of a state: whether one is as wanted, writing its fields, and handing it over.
 //! - `todo`: the items of a goal.
 //! - `start`: the first goal of a procedure.
 //! - `rules`: the rows of the table.
@@ -13,7 +13,7 @@ mod start;
 mod terms;
 mod todo;
 
-pub use cells::{are_fitting, are_known, as_cell, fields_at, known_term};
+pub use cells::{are_fitting, are_known, as_cell, known_term};
 pub use rules::{Subgoals, apply, as_mutation, open_goals};
 pub use start::start_goal;
 pub use terms::term_of;

@@ -7,12 +7,12 @@ ghost use Rattle.sf_sym.specs.Goal.{end, goal_of};
 ghost use Rattle.sf_rules.specs.Internal.Subgoals.{goals_of, mutation, stack_of, todo_of};
 ghost use Rattle.sf_rules.specs.Table.{absurd_row, add_row, cell_row, end_row, has_numbers, mutate_row, return_row, row, row_of, state_after_assumption, state_after_hand_over, to_take};
 
-use crate::cells::{as_cell, hand_over, known_term, new_fields, state_after_write, with_cell};
+use crate::cells::{as_cell, hand_over, known_term, new_fields, state_after_write};
 use crate::terms::{pending_assertion, term_of};
 use crate::todo::{next_item, with_add, with_take};
 use sf_base::{FieldId, Place, Var};
 use sf_core::{Assertion, Command, Conjunct, Expr};
-use sf_sym::{Goal, Item, Pending, State, Tag, Term};
+use sf_sym::{Goal, Item, State, Tag, Term};
 use std::alloc::{AllocError, Global};
 
 /// What a rule leaves to be proved.
@@ -42,7 +42,7 @@ pub fn apply<'a>(
 fn has_numbers(state: &State) -> bool
     ensures { result ≡ has_numbers state.now }
 {
-    state.next_sym <= u32::MAX - 1023 && state.next_atom <= u32::MAX - 1023
+    state.next_sym() <= u32::MAX - 1023 && state.next_atom() <= u32::MAX - 1023
 }
 
 /// What the tag's row leaves.
@@ -88,7 +88,7 @@ fn return_from<'a>(alloc: Global, goal: Goal<'a>) -> Result<Option<Subgoals<'a>>
     };
     match item {
         Item::Return(place, post) => {
-            let todo = after_return(alloc, state.vars.as_slice(), place, post)?;
+            let todo = after_return(alloc, state.vars(), place, post)?;
             Ok(Some(Subgoals::One(Goal { state, todo })))
         }
         _ => Ok(None),
@@ -119,7 +119,7 @@ fn end<'a>(goal: Goal<'a>) -> Option<Subgoals<'a>>
     let Goal { state, mut todo } = goal;
     match next_item(&mut todo)? {
         Item::End(_) => {
-            if state.atoms.len() == 0 {
+            if state.atoms().is_empty() {
                 Some(Subgoals::Nothing)
             } else {
                 None
@@ -164,8 +164,8 @@ fn mutate<'a>(goal: Goal<'a>, a: u32) -> Result<Option<Subgoals<'a>>, AllocError
             let Some((e, f, v)) = as_mutation(command) else {
                 return Ok(None);
             };
-            let root = term_of(state.vars.as_slice(), &e);
-            let u = term_of(state.vars.as_slice(), &v);
+            let root = term_of(state.vars(), &e);
+            let u = term_of(state.vars(), &v);
             let Some(state) = state_after_write(state, root, f, u, a)? else {
                 return Ok(None);
             };
@@ -179,7 +179,7 @@ fn mutate<'a>(goal: Goal<'a>, a: u32) -> Result<Option<Subgoals<'a>>, AllocError
 /// A conjunct is assumed. `None` exactly where it isn't one that can be; an `Err` means out of memory.
 fn state_after_assumption(
     alloc: Global,
-    state: State,
+    mut state: State,
     c: Conjunct<Term>,
 ) -> Result<Option<State>, AllocError>
     requires { IsTrue (has_numbers state) }
@@ -194,7 +194,8 @@ fn state_after_assumption(
     let Some(fields) = new_fields(alloc, fields)? else {
         return Ok(None);
     };
-    Ok(Some(with_cell(state, root, fields)?))
+    state.add_cell(root, fields)?;
+    Ok(Some(state))
 }
 
 /// add: the first conjunct to assume is assumed.
@@ -208,25 +209,14 @@ fn add<'a>(alloc: Global, goal: Goal<'a>) -> Result<Option<Subgoals<'a>>, AllocE
         return Ok(None);
     };
     match item {
-        Item::Add(place, given) => {
-            let Pending {
-                mut conjuncts,
-                bindings,
-            } = given;
-            let Some(c) = conjuncts.pop() else {
+        Item::Add(place, mut given) => {
+            let Some(c) = given.take_first() else {
                 return Ok(None);
             };
             let Some(state) = state_after_assumption(alloc, state, c)? else {
                 return Ok(None);
             };
-            let todo = with_add(
-                todo,
-                place,
-                Pending {
-                    conjuncts,
-                    bindings,
-                },
-            )?;
+            let todo = with_add(todo, place, given)?;
             Ok(Some(Subgoals::One(Goal { state, todo })))
         }
         _ => Ok(None),
@@ -260,26 +250,14 @@ fn cell<'a>(goal: Goal<'a>, a: u32) -> Result<Option<Subgoals<'a>>, AllocError>
         return Ok(None);
     };
     match item {
-        Item::Take(place, want, names) => {
-            let Pending {
-                mut conjuncts,
-                bindings,
-            } = want;
-            let Some(c) = conjuncts.pop() else {
+        Item::Take(place, mut want, names) => {
+            let Some(c) = want.take_first() else {
                 return Ok(None);
             };
             let Some(state) = state_after_hand_over(state, c, a)? else {
                 return Ok(None);
             };
-            let todo = with_take(
-                todo,
-                place,
-                Pending {
-                    conjuncts,
-                    bindings,
-                },
-                names,
-            )?;
+            let todo = with_take(todo, place, want, names)?;
             Ok(Some(Subgoals::One(Goal { state, todo })))
         }
         _ => Ok(None),

@@ -10,7 +10,7 @@ ghost use Rattle.sf_rules.specs.Table.{first_goal, links_of, nils, symbols, to_a
 
 use crate::terms::pending_assertion;
 use crate::todo::with_add;
-use sf_base::{Sequence, Var};
+use sf_base::Var;
 use sf_core::{Links, Proc, Program};
 use sf_sym::{Goal, Item, State, Term};
 use std::alloc::{AllocError, Global};
@@ -22,17 +22,9 @@ pub fn start_goal<'a>(alloc: Global, p: &'a Program, f: &'a Proc) -> Result<Goal
 {
     let parameters = f.references + f.values;
     let vars = first_vars(alloc, parameters, f.names.len() as u32)?;
-    let todo = first_items(alloc, vars.as_slice(), f)?;
+    let todo = first_items(alloc, &vars, f)?;
     Ok(Goal {
-        state: State {
-            links: links_of(p),
-            vars: Sequence::from_vec(vars),
-            apart: Sequence::new(alloc),
-            atoms: Sequence::new(alloc),
-            taken: Sequence::new(alloc),
-            next_sym: parameters,
-            next_atom: 1,
-        },
+        state: State::new(alloc, links_of(p), vars, parameters),
         todo,
     })
 }

@@ -2,10 +2,11 @@
 
 ghost use Rattle.std.specs.Prelude.{◌≡◌, IfOk, None, map, replicate};
 ghost use Rattle.sf_core.specs.Program.View.{assertion_of, conjunct_of, conjuncts, level_of};
-ghost use Rattle.sf_sym.specs.Goal.{pending_of};
-ghost use Rattle.sf_rules.specs.Table.{conjunct_with, conjuncts_with, level_with, operand_with, pending_assertion, term, term_at, test_with};
+ghost use Rattle.sf_sym.specs.Pending.{pending_of};
+ghost use Rattle.sf_rules.specs.Table.{conjunct_with, conjuncts_with, level_with, operand_with, pending_assertion, test_with};
+ghost use Rattle.sf_sym.specs.State.{term, term_at};
 
-use sf_base::{FieldId, Sequence, Var};
+use sf_base::{FieldId, Var};
 use sf_core::{Assertion, Conjunct, Expr, Level, Operand, Test};
 use sf_sym::{Pending, Term};
 use std::alloc::{AllocError, Global};
@@ -44,19 +45,15 @@ pub(crate) fn pending_assertion(
     ensures { IfOk result (λ given. pending_of given
         ≡ pending_assertion vars.now (assertion_of a.now)) }
 {
-    let mut conjuncts = with_terms(alloc, vars, &a.level.conjuncts)?;
-    conjuncts.reverse();
-    Ok(Pending {
-        conjuncts,
-        bindings: unbound(alloc, a.names.len())?,
-    })
+    let conjuncts = with_terms(alloc, vars, &a.level.conjuncts)?;
+    Ok(Pending::new(conjuncts, unbound(alloc, a.names.len())?))
 }
 
 /// That many existentials without a term.
-fn unbound(alloc: Global, count: usize) -> Result<Sequence<Option<Term>>, AllocError>
-    ensures { IfOk result (λ bindings. bindings ≡ replicate count None) }
+fn unbound(alloc: Global, count: usize) -> Result<Vec<Option<Term>>, AllocError>
+    ensures { IfOk result (λ bindings. bindings.items ≡ replicate count None) }
 {
-    Ok(Sequence::from_vec(vec![in alloc; None; count]?))
+    vec![in alloc; None; count]
 }
 
 /// Conjuncts with terms in place of expressions, in the same order. An `Err` means out of memory.

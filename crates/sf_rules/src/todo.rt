@@ -1,7 +1,8 @@
 //! The items of a goal, with the next one last. A run without commands is nothing to do.
 
 ghost use Rattle.std.specs.Prelude.{◌≡◌, ◌++◌, [], false, IfOk, IfSome, IfNone, List};
-ghost use Rattle.sf_sym.specs.Goal.{Item as Thing, add, items_of, pending_of, take};
+ghost use Rattle.sf_sym.specs.Goal.{Item as Thing, add, items_of, take};
+ghost use Rattle.sf_sym.specs.Pending.{pending_of};
 ghost use Rattle.sf_rules.specs.Internal.Subgoals.{is_nothing, todo_of};
 ghost use Rattle.sf_rules.specs.Table.{unless_none};
 
@@ -62,7 +63,7 @@ pub(crate) fn with_add<'a>(
         ≡ unless_none (pending_of given).conjuncts (add place (pending_of given))
         ++ todo_of todo.entry.items) }
 {
-    if given.conjuncts.is_empty() {
+    if given.is_empty() {
         return Ok(todo);
     }
     todo.push(Item::Add(place, given))?;
@@ -80,7 +81,7 @@ pub(crate) fn with_take<'a>(
         ≡ unless_none (pending_of want).conjuncts (take place (pending_of want) names.now)
         ++ todo_of todo.entry.items) }
 {
-    if want.conjuncts.is_empty() {
+    if want.is_empty() {
         return Ok(todo);
     }
     todo.push(Item::Take(place, want, names))?;

@@ -11,7 +11,7 @@ use Rattle.sf_base.specs.declared.ids.FieldId.{FieldId}
 use Rattle.sf_sym.specs.declared.atom.Atom.{Atom}
 use Rattle.sf_sym.specs.declared.atom.Atom.TheVariants.{Points, Ls, Tree}
 use Rattle.sf_sym.specs.declared.atom.Numbered.{Numbered}
-use Rattle.sf_sym.specs.declared.state.State.{State}
+use Rattle.sf_sym.specs.State.{State}
 use Rattle.sf_sym.specs.declared.term.Term.{Term}
 use Rattle.sf_sym.specs.declared.term.Term.TheVariants.{Nil, Int, Sym}
 use Rattle.sf_sym.specs.Tests.{same_term, is_constant, is_pair, differs_at_once, root, has_cell, allocates, is_integer_tree, is_impossible, has_repeat, is_absurd}
@@ -20,7 +20,7 @@ use Rattle.sf_search.specs.Internal.Known.{IsAdded}
 use Rattle.sf_search.specs.Internal.Numbers.{AreRising}
 use Rattle.sf_search.proofs.Leaves.{Grown}
 use Rattle.sf_search.proofs.Possible.{absurd_by, repeat_last}
-use Rattle.sf_rules.specs.Table.{with_cell, apart_from_nil}
+use Rattle.sf_sym.specs.Cells.{with_cell, apart_from_nil}
 
 -- what each that has p has, some has where some has p
 some-of : (p q : Numbered → Bool) → ((x : Numbered) → p x ≡ true → q x ≡ true) → (xs : List Numbered)

@@ -10,11 +10,13 @@ use Rattle.sf_core.specs.Program.Syntax.{Conjunct, Conjuncts, also, holds, point
 use Rattle.sf_sym.specs.declared.tag.Tag.TheVariants as t
 use Rattle.sf_search.specs.Judge.{takes, stays, choose_add}
 use Rattle.sf_search.specs.declared.strategy.Stuck.TheVariants.{NotBuilt}
-use Rattle.sf_sym.specs.declared.state.State.{State}
+use Rattle.sf_sym.specs.State.{State}
 use Rattle.sf_sym.specs.declared.term.Term.{Term}
 use Rattle.sf_rules.specs.Internal.Cells.{all_known}
 use Rattle.sf_rules.specs.Internal.Subgoals.{cell_of}
-use Rattle.sf_rules.specs.Table.{state_after_assumption, known_term, new_fields, put_term, with_cell}
+use Rattle.sf_rules.specs.Table.{state_after_assumption, known_term, new_fields}
+use Rattle.sf_sym.specs.Fields.{put_term}
+use Rattle.sf_sym.specs.Cells.{with_cell}
 
 new_fields_known : (fs : List (FieldId × Operand Term)) (made : List (FieldId × Term))
     → is_some (new_fields fs made) ≡ all_known fs

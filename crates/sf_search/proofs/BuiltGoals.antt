@@ -15,7 +15,7 @@ use Rattle.sf_core.specs.declared.assertion.Scope.{Scope}
 use Rattle.sf_core.specs.declared.command.Expr.{Expr}
 use Rattle.sf_core.specs.Program.Formed.{is_made, OperandWithin, FieldsWithin, ConjunctsWithin, AssertionWithin, ProcedureWithin, conjuncts_scopes}
 use Rattle.sf_core.specs.Program.Syntax.{Conjunct, holds, points, segment, tree, choose, Conjuncts, none, also, Level, level, Command, assign, look_up, mutate, new, dispose, if, while, call, fork, with, Block, done, then, Assertion, Procedure, Program}
-use Rattle.sf_sym.specs.declared.state.State.{State}
+use Rattle.sf_sym.specs.State.{State, term}
 use Rattle.sf_sym.specs.declared.tag.Tag.{Tag}
 use Rattle.sf_sym.specs.declared.tag.Tag.TheVariants as t
 use Rattle.sf_sym.specs.declared.term.Term.{Term}
@@ -29,7 +29,8 @@ use Rattle.sf_search.proofs.Assumable.{points_known}
 use Rattle.sf_search.proofs.Leaves.{made}
 use Rattle.sf_rules.specs.Built.{are_cells, has_cells, is_plain, is_mutation, are_mutations, is_built_procedure}
 use Rattle.sf_rules.specs.Internal.Cells.{all_known}
-use Rattle.sf_rules.specs.Table.{row, row_of, has_numbers, state_after_assumption, state_after_hand_over, state_after_write, known_term, operand_with, conjuncts_with, conjuncts_of, first_goal, unless_none, to_add, to_run, pending_assertion, one_goal, is_empty, term, fits}
+use Rattle.sf_rules.specs.Table.{row, row_of, has_numbers, state_after_assumption, state_after_hand_over, known_term, operand_with, conjuncts_with, conjuncts_of, first_goal, unless_none, to_add, to_run, pending_assertion, one_goal, is_empty, fits}
+use Rattle.sf_sym.specs.Cells.{state_after_write}
 
 -- a cell whose root and fields have terms
 abbrev IsKnownCell : Conjunct Term → Type 0

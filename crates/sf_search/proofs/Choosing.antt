@@ -14,7 +14,7 @@ use Rattle.sf_core.specs.declared.assertion.Operand.TheVariants.{Known, Exists}
 use Rattle.sf_core.specs.Program.Syntax.{Conjunct, Conjuncts, none, also, holds, points, segment, tree, choose, Command, assign, look_up, mutate, new, dispose, if, while, call, fork, with}
 use Rattle.sf_sym.specs.declared.atom.Atom.TheVariants.{Points}
 use Rattle.sf_sym.specs.declared.atom.Numbered.{Numbered}
-use Rattle.sf_sym.specs.declared.state.State.{State}
+use Rattle.sf_sym.specs.State.{State, term}
 use Rattle.sf_sym.specs.declared.tag.Tag.{Tag}
 use Rattle.sf_sym.specs.declared.tag.Tag.TheVariants as t
 use Rattle.sf_sym.specs.declared.term.Term.{Term}
@@ -24,7 +24,9 @@ use Rattle.sf_search.specs.declared.strategy.Stuck.{Stuck}
 use Rattle.sf_search.specs.declared.strategy.Stuck.TheVariants.{NotBuilt, NotEqual, Leak}
 use Rattle.sf_search.specs.Internal.Numbers.{AreRising, HasNumbersAfter}
 use Rattle.sf_search.specs.Judge.{takes, stays, choice, choose_item, choose_command, choose_mutate, choose_add, choose_take, choose_wanted, choose_found, lowest_cell, this_or}
-use Rattle.sf_rules.specs.Table.{row, row_of, has_numbers, state_after_assumption, hand_over, with_fields, without, cell_at, fields_at, fits, put_term, one_goal, is_empty, term}
+use Rattle.sf_rules.specs.Table.{row, row_of, has_numbers, state_after_assumption, hand_over, fits, one_goal, is_empty}
+use Rattle.sf_sym.specs.Cells.{with_fields, without, cell_at, fields_at}
+use Rattle.sf_sym.specs.Fields.{put_term}
 
 takes_same : (a b : Tag) → takes a ≡ takes b → a ≡ b
 takes_same a b e = cc

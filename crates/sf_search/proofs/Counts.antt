@@ -11,14 +11,16 @@ use Rattle.sf_core.specs.Program.Formed.{ProcedureWithin}
 use Rattle.sf_core.specs.Program.Syntax.{Procedure, Program}
 use Rattle.sf_sym.specs.declared.atom.Numbered.{Numbered}
 use Rattle.sf_sym.specs.declared.atom.Atom.TheVariants.{Points}
-use Rattle.sf_sym.specs.declared.state.State.{State}
+use Rattle.sf_sym.specs.State.{State}
 use Rattle.sf_sym.specs.declared.tag.Tag.{Tag}
 use Rattle.sf_sym.specs.declared.tag.Tag.TheVariants as t
 use Rattle.sf_sym.specs.declared.term.Term.{Term}
 use Rattle.sf_sym.specs.Goal.{Goal}
 use Rattle.sf_search.specs.Internal.Numbers.{AreRising, HasNumbersAfter}
 use Rattle.sf_search.proofs.Leaves.{One, Grown, Written, Handed, Leaves, row_leaves}
-use Rattle.sf_rules.specs.Table.{row, first_goal, with_fields, without, cell_at, fits, put_term}
+use Rattle.sf_rules.specs.Table.{row, first_goal, fits}
+use Rattle.sf_sym.specs.Cells.{with_fields, without, cell_at}
+use Rattle.sf_sym.specs.Fields.{put_term}
 
 -- numbers go up by one atom at most, and atoms' numbers go on rising
 pub record Raises (s s2 : State) : Type 0 where

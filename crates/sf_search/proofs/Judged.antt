@@ -4,7 +4,7 @@ use Rattle.std.proofs.Common.{◌≡◌, ℕ, zero, suc, ◌+◌, inl, inr, true
 use Rattle.std.specs.List.{AllByRecursion}
 use Rattle.std.proofs.lemmas.Bool.{cases_lt}
 use Rattle.sf_base.specs.declared.limits.TheConstants.{PROCEDURE_TAGS, FILE_TAGS}
-use Rattle.sf_core.specs.Program.Formed.{IsFormed, ProcedureWithin}
+use Rattle.sf_core.specs.Program.Formed.{ProcedureWithin}
 use Rattle.sf_core.specs.Program.Syntax.{Procedure, Program}
 use Rattle.sf_sym.specs.declared.tag.Tag.{Tag}
 use Rattle.sf_sym.specs.declared.tag.Tag.TheVariants.{Procedure as Begin}

@@ -8,13 +8,14 @@ use Rattle.sf_base.specs.declared.place.Place.{Place}
 use Rattle.sf_core.specs.declared.assertion.Operand.{Operand}
 use Rattle.sf_core.specs.declared.assertion.Operand.TheVariants.{Known, Exists}
 use Rattle.sf_core.specs.Program.Syntax.{Conjunct, Conjuncts, none, also, holds, points, segment, tree, choose, Command, assign, look_up, mutate, new, dispose, if, while, call, fork, with}
-use Rattle.sf_sym.specs.declared.state.State.{State}
+use Rattle.sf_sym.specs.State.{State, term}
 use Rattle.sf_sym.specs.declared.tag.Tag.{Tag}
 use Rattle.sf_sym.specs.declared.tag.Tag.TheVariants as t
 use Rattle.sf_sym.specs.declared.term.Term.{Term}
 use Rattle.sf_sym.specs.Goal.{Item, run, add, take, gave, head, again, exit, return, end, Goal}
 use Rattle.sf_sym.specs.Tests.{is_absurd}
-use Rattle.sf_rules.specs.Table.{row, row_of, has_numbers, add_row, add_first, mutate_row, return_row, cell_row, cell_first, end_row, state_after_assumption, state_after_hand_over, hand_over, state_after_write, with_cell, new_fields, one_goal, is_empty, term}
+use Rattle.sf_rules.specs.Table.{row, row_of, has_numbers, add_row, add_first, mutate_row, return_row, cell_row, cell_first, end_row, state_after_assumption, state_after_hand_over, hand_over, new_fields, one_goal, is_empty}
+use Rattle.sf_sym.specs.Cells.{state_after_write, with_cell}
 
 -- what f makes of an option
 pub record Made {X Y : Type 0} (f : X → Y) (o : Option X) (y : Y) : Type 0 where

@@ -12,16 +12,17 @@ use Rattle.sf_core.specs.declared.assertion.Operand.{Operand}
 use Rattle.sf_sym.specs.declared.atom.Atom.{Atom}
 use Rattle.sf_sym.specs.declared.atom.Atom.TheVariants.{Points, Ls, Tree}
 use Rattle.sf_sym.specs.declared.atom.Numbered.{Numbered}
-use Rattle.sf_sym.specs.declared.state.State.{State}
+use Rattle.sf_sym.specs.State.{State}
 use Rattle.sf_sym.specs.declared.tag.Tag.{Tag}
 use Rattle.sf_sym.specs.declared.tag.Tag.TheVariants as t
 use Rattle.sf_sym.specs.declared.term.Term.{Term}
 use Rattle.sf_sym.specs.Goal.{Goal}
 use Rattle.sf_sym.specs.Tests.{same_term, root, has_cell, allocates, is_impossible, has_repeat, is_absurd}
-use Rattle.sf_sym.specs.Lemmas.{same_term_is}
+use Rattle.sf_sym.specs.Lemmas.{same_term_is, points_at}
 use Rattle.sf_search.proofs.Leaves.{One, Written, Handed, Leaves}
-use Rattle.sf_rules.specs.Lemmas.{points_at}
-use Rattle.sf_rules.specs.Table.{fits, with_fields, without, cell_at, fields_at, put_term}
+use Rattle.sf_rules.specs.Table.{fits}
+use Rattle.sf_sym.specs.Cells.{with_fields, without, cell_at, fields_at}
+use Rattle.sf_sym.specs.Fields.{put_term}
 
 -- an atom without its fields
 abbrev bare : Atom → Atom

@@ -12,13 +12,14 @@ use Rattle.sf_base.specs.declared.limits.TheConstants.{PROCEDURE_TAGS, FILE_TAGS
 use Rattle.sf_core.specs.declared.assertion.Operand.{Operand}
 use Rattle.sf_core.specs.Program.Syntax.{Conjunct, points, Conjuncts, none, also, Command, mutate, Procedure, Program}
 use Rattle.sf_sym.specs.declared.atom.Numbered.{Numbered}
-use Rattle.sf_sym.specs.declared.state.State.{State}
+use Rattle.sf_sym.specs.State.{State, term}
 use Rattle.sf_sym.specs.declared.tag.Tag.{Tag}
 use Rattle.sf_sym.specs.declared.tag.Tag.TheVariants as t
 use Rattle.sf_sym.specs.declared.term.Term.{Term}
 use Rattle.sf_sym.specs.Goal.{Item, run, add, take, return, end, Goal}
 use Rattle.sf_sym.specs.Tests.{is_absurd}
-use Rattle.sf_rules.specs.Table.{term, known_term, fields_at, fits, state_after_assumption, is_empty, row, first_goal}
+use Rattle.sf_rules.specs.Table.{known_term, fits, state_after_assumption, is_empty, row, first_goal}
+use Rattle.sf_sym.specs.Cells.{fields_at}
 use Rattle.sf_search.specs.declared.strategy.Stuck.{Stuck}
 use Rattle.sf_search.specs.declared.strategy.Stuck.TheVariants.{NoCell, NotEqual, NoAtom, Leak, NotBuilt}
 

@@ -3,9 +3,10 @@
 ghost use Rattle.std.specs.Prelude.{◌≡◌, ◌++◌, false, List, is_some};
 ghost use Rattle.std.specs.Option.{option_map};
 ghost use Rattle.sf_core.specs.Program.View.{command_of, conjunct_of};
-ghost use Rattle.sf_sym.specs.declared.state.State.{State as AnyState};
+ghost use Rattle.sf_sym.specs.State.{State as AnyState};
 ghost use Rattle.sf_sym.specs.Tests.{is_absurd};
-ghost use Rattle.sf_sym.specs.Goal.{Item as Thing, goal_of, items_of, pending_of};
+ghost use Rattle.sf_sym.specs.Goal.{Item as Thing, goal_of, items_of};
+ghost use Rattle.sf_sym.specs.Pending.{pending_of};
 ghost use Rattle.sf_search.specs.Internal.Choices.{choice_of, choose_first};
 ghost use Rattle.sf_search.specs.Judge.{choice, choose_add, choose_command, choose_end, choose_found, choose_item, choose_mutate, choose_take, choose_wanted, lowest_cell};
 ghost use Rattle.sf_search.specs.Internal.Known.{IsAdded, is_absurd_beside, known_after};
@@ -15,7 +16,7 @@ ghost use Rattle.sf_rules.specs.Table.{state_after_assumption};
 use sf_base::FieldId;
 use sf_core::{Command, Conjunct, Operand};
 use sf_rules::{
-    are_fitting, are_known, as_cell, as_mutation, fields_at, known_term, peek_item, term_of,
+    are_fitting, are_known, as_cell, as_mutation, known_term, peek_item, term_of,
 };
 use sf_sym::{Goal, Item, Numbered, Pending, State, Tag, Term};
 
@@ -94,10 +95,10 @@ fn is_added_absurd(state: &State) -> bool
     requires { IsAdded state.now }
     ensures { result ≡ is_absurd state.now }
 {
-    if state.taken.len() > 0 {
+    if !state.taken().is_empty() {
         return state.is_absurd();
     }
-    match state.atoms.as_slice().split_last() {
+    match state.atoms().split_last() {
         Some((last, _)) => is_absurd_beside(state, last),
         None => state.is_absurd(),
     }
@@ -158,8 +159,8 @@ fn choose_command(state: &State, command: &Command) -> Choice
 {
     match as_mutation(command) {
         Some((e, _, _)) => {
-            let root = term_of(state.vars.as_slice(), &e);
-            choose_mutate(lowest_cell(state.atoms.as_slice(), root))
+            let root = term_of(state.vars(), &e);
+            choose_mutate(lowest_cell(state.atoms(), root))
         }
         None => Choice::Stays(Stuck::NotBuilt),
     }
@@ -180,7 +181,7 @@ fn lowest_cell(atoms: &[Numbered], t: Term) -> Option<(u32, &[(FieldId, Term)])>
     ensures { option_map (λ x. (x.0, x.1.now)) result ≡ lowest_cell atoms.now t }
 {
     for x in atoms {
-        if let Some(fields) = fields_at(&x.atom, t) {
+        if let Some(fields) = x.atom.fields_at(t) {
             return Some((x.number, fields));
         }
     }
@@ -201,7 +202,7 @@ fn is_assumable(c: &Conjunct<Term>) -> bool
 fn choose_add(given: &Pending) -> Choice
     ensures { (s : AnyState) → choice_of result ≡ choose_add s (pending_of given.now).conjuncts }
 {
-    let Some((c, _)) = given.conjuncts.split_last() else {
+    let Some(c) = given.first() else {
         return Choice::Stays(Stuck::NotBuilt);
     };
     if is_assumable(c) {
@@ -215,8 +216,8 @@ fn choose_add(given: &Pending) -> Choice
 fn choose_take(state: &State, want: &Pending) -> Choice
     ensures { choice_of result ≡ choose_take state.now (pending_of want.now).conjuncts }
 {
-    match want.conjuncts.split_last() {
-        Some((c, _)) => choose_wanted(state, c),
+    match want.first() {
+        Some(c) => choose_wanted(state, c),
         None => Choice::Stays(Stuck::NotBuilt),
     }
 }
@@ -229,7 +230,7 @@ fn choose_wanted(state: &State, c: &Conjunct<Term>) -> Choice
         return Choice::Stays(Stuck::NotBuilt);
     };
     match known_term(&x) {
-        Some(root) => choose_found(wanted, lowest_cell(state.atoms.as_slice(), root)),
+        Some(root) => choose_found(wanted, lowest_cell(state.atoms(), root)),
         None => Choice::Stays(Stuck::NotBuilt),
     }
 }
@@ -258,7 +259,7 @@ fn choose_found(
 fn choose_end(state: &State) -> Choice
     ensures { choice_of result ≡ choose_end state.now }
 {
-    if state.atoms.len() == 0 {
+    if state.atoms().is_empty() {
         Choice::Takes(Tag::End)
     } else {
         Choice::Stays(Stuck::Leak)

@@ -15,8 +15,9 @@ use Rattle.std.specs.List.{AllByRecursion}
 use Rattle.sf_sym.specs.Holds.{AtomHolds, AtomsHold}
 use Rattle.sf_sym.specs.Tests.{same_term}
 use Rattle.sf_sym.specs.Lemmas.{same_term_is}
-use Rattle.sf_sound.specs.Laws.{HasOrder, AreOrdered}
-use Rattle.sf_rules.specs.Table.{fields_at, cell_at, with_fields, without}
+use Rattle.sf_sound.specs.Laws.{HasOrder}
+use Rattle.sf_sym.specs.Fields.{AreOrdered}
+use Rattle.sf_sym.specs.Cells.{fields_at, cell_at, with_fields, without}
 
 -- the cell's part of a heap on which atoms hold, and the part of the others; beside them another such
 -- cell makes the atoms with that one

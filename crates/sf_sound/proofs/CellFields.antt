@@ -16,8 +16,8 @@ use Rattle.sf_base.proofs.Numbers.{eqb-greater}
 use Rattle.sf_base.proofs.Bools.{and-left, and-right}
 use Rattle.sf_sym.specs.declared.term.Term.{Term}
 use Rattle.sf_sym.specs.Lemmas.{same_term_is}
-use Rattle.sf_sound.specs.Laws.{AreOrdered}
-use Rattle.sf_rules.specs.Table.{known_term, put_term, field_term, new_fields, has_term, fits}
+use Rattle.sf_sym.specs.Fields.{AreOrdered, put_term, field_term}
+use Rattle.sf_rules.specs.Table.{known_term, new_fields, has_term, fits}
 
 -- every field of the list comes after that number
 abbrev pub AreAfter : ℕ → List (FieldId × Term) → Type 0

@@ -22,7 +22,8 @@ use Rattle.sf_base.proofs.Sums.{either}
 use Rattle.sf_sym.specs.declared.tag.Tag.{Tag}
 use Rattle.sf_sym.specs.declared.tag.Tag.TheVariants as t
 use Rattle.std.specs.List.{AllByRecursion}
-use Rattle.sf_sym.specs.Goal.{Pending, Item, run, add, take, exit, return, end, Goal}
+use Rattle.sf_sym.specs.Goal.{Item, run, add, take, exit, return, end, Goal}
+use Rattle.sf_sym.specs.Pending.{Pending}
 use Rattle.sf_sym.specs.Holds.{AtomsHold, AddsHold, HoldsAt}
 use Rattle.sf_rules.specs.Proves.{Proof}
 use Rattle.sf_sound.specs.Laws.{SomeOf, value_at, IsNoAdd, IsInOrder, works_out, heap_with_cell, WantsHold, EndLeavesNothing}

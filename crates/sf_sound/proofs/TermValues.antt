@@ -14,7 +14,7 @@ use Rattle.sf_sym.specs.Holds.{term_value, Agrees}
 use Rattle.sf_sound.specs.Laws.{is_listed, Covers, value_at}
 use Rattle.sf_base.proofs.Variables.{same_var-decides}
 use Rattle.sf_base.specs.Variables.{same_var}
-use Rattle.sf_rules.specs.Table.{term_at, term}
+use Rattle.sf_sym.specs.State.{term_at, term}
 
 module _ (w : ℕ → Value) (e : Var → Option Value) where
   -- a variable with a value and a term has the term's value

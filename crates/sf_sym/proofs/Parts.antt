@@ -2,13 +2,13 @@
 -- Names: `located-LAW` speaks of a value that is the location of a cell, `atom-LAW` of one atom,
 -- `atoms-LAW` of a list of atoms.
 use Rattle.std.specs.List.{list_any, AllByRecursion}
-use Rattle.std.proofs.Common.{◌≡◌, ◌≢◌, ℕ, Bool, true, ◌&&◌, List, [], ◌∷◌, ◌++◌, Option, Some, None, refl, sym, ap, ◌∙◌, subst, inl, inr}
+use Rattle.std.proofs.Common.{◌≡◌, ◌≢◌, ℕ, Bool, true, ◌&&◌, List, [], ◌∷◌, Option, Some, None, refl, sym, ap, ◌∙◌, subst, inl, inr}
 use Rattle.std.proofs.lemmas.Bool.{or_cases}
 use Rattle.std.proofs.lemmas.Option.{none-some}
 use Rattle.sf_base.specs.declared.ids.FieldId.{FieldId}
 use Rattle.sf_base.specs.declared.value.Value.{Value}
 use Rattle.sf_base.specs.declared.value.Value.TheVariants.{Nil as nil, Int as int}
-use Rattle.sf_base.specs.HeapStore.{Heap, Splits, ◌⋆◌}
+use Rattle.sf_base.specs.HeapStore.{Heap, Splits}
 use Rattle.sf_sym.specs.declared.atom.Atom.{Atom}
 use Rattle.sf_sym.specs.declared.atom.Atom.TheVariants.{Points, Ls, Tree}
 use Rattle.sf_sym.specs.declared.atom.Numbered.{Numbered}
@@ -19,7 +19,7 @@ use Rattle.sf_sym.specs.Holds.{term_value, Differ, SegAlong, TreeAlong, AtomHold
 use Rattle.sf_sym.specs.Laws.{IsLocationIn}
 use Rattle.sf_sym.specs.Tests.{same_term, is_constant, root, has_cell, allocates, is_integer_tree, is_impossible, has_repeat}
 use Rattle.sf_base.proofs.MapSplits.{splits-has_left, splits-has_right, splits-lacks_right}
-use Rattle.sf_base.proofs.HeapSplits.{one-in, star-drop_left, star-assoc_right, star-map_right}
+use Rattle.sf_base.proofs.HeapSplits.{one-in}
 use Rattle.sf_base.proofs.Bools.{and-left, and-right}
 use Rattle.sf_core.proofs.Assertions.Segments.{loc-same, seg-first}
 use Rattle.sf_core.proofs.Assertions.Trees.{tree-root}

@@ -12,7 +12,7 @@ use Rattle.sf_core.specs.Assertions.Examples.{place, tl, l, r, one_cell, two_cel
 use Rattle.sf_core.specs.Program.Syntax.{Conjuncts, none, also, points, segment}
 use Rattle.sf_sym.specs.declared.atom.Atom.TheVariants.{Points}
 use Rattle.sf_sym.specs.declared.atom.Numbered.{Numbered}
-use Rattle.sf_sym.specs.declared.state.State.{State}
+use Rattle.sf_sym.specs.State.{State}
 use Rattle.sf_sym.specs.declared.term.Term.{Term}
 use Rattle.sf_sym.specs.declared.term.Term.TheVariants.{Nil, Sym}
 use Rattle.sf_sym.specs.Goal.{add, end, Goal}

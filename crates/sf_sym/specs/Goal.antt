@@ -1,25 +1,20 @@
 -- Goals as the definitions see them: lists in place of the code's vectors, and one item for each command.
 -- Berdine, Calcagno, O'Hearn, "Symbolic Execution with Separation Logic" (2005).
-use Rattle.std.specs.Prelude.{ℕ, List, [], ◌∷◌, map, reverse, Option}
+use Rattle.std.specs.Prelude.{ℕ, List, [], ◌∷◌, map, reverse}
 use Rattle.std.specs.List.{flat_map}
 use Rattle.sf_base.specs.declared.ids.ResId.{ResId}
 use Rattle.sf_base.specs.declared.ids.Var.{Var}
 use Rattle.sf_base.specs.declared.place.Place.{Place}
 use Rattle.sf_core.specs.declared.assertion.Test.{Test}
 use Rattle.sf_core.specs.declared.command.Expr.{Expr}
-use Rattle.sf_core.specs.Program.Syntax.{Conjuncts, Command, Block, Assertion}
-use Rattle.sf_core.specs.Program.View.{conjuncts, conjunct_of, command_of, block_of, assertion_of}
-use Rattle.sf_sym.specs.declared.given.Pending.{Pending as CodePending}
+use Rattle.sf_core.specs.Program.Syntax.{Command, Block, Assertion}
+use Rattle.sf_core.specs.Program.View.{command_of, block_of, assertion_of}
 use Rattle.sf_sym.specs.declared.goal.Goal.{Goal as CodeGoal}
 use Rattle.sf_sym.specs.declared.goal.Item.{Item as CodeItem}
 use Rattle.sf_sym.specs.declared.goal.Item.TheVariants.{Run, Add, Take, Gave, Head, Again, Exit, Return, End}
-use Rattle.sf_sym.specs.declared.state.State.{State}
+use Rattle.sf_sym.specs.Pending.{Pending, pending_of}
+use Rattle.sf_sym.specs.State.{State}
 use Rattle.sf_sym.specs.declared.term.Term.{Term}
-
--- conjuncts that are still to be worked, and the term that each existential has so far, by its number
-pub record Pending : Type 0 where
-  pub conjuncts : Conjuncts Term
-  pub bindings : List (Option Term)
 
 -- what there is to do: a command; conjuncts to assume; conjuncts to show and hand over, with the names
 -- of their existentials;
@@ -40,11 +35,6 @@ pub data Item : Type 0 where
 pub record Goal : Type 0 where
   pub state : State
   pub todo : List Item
-
--- the conjuncts of the code, which has the next one last
-abbrev pub pending_of : CodePending → Pending
-pending_of p =
-    record { conjuncts = conjuncts (map conjunct_of (reverse p.conjuncts.items)); bindings = p.bindings }
 
 -- an item of the code: commands are an item each
 abbrev pub items_of : CodeItem → List Item

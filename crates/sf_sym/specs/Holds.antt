@@ -15,7 +15,8 @@ use Rattle.sf_core.specs.declared.fields.Links.{Links}
 use Rattle.sf_sym.specs.declared.term.Term.{Term}
 use Rattle.sf_sym.specs.declared.term.Term.TheVariants.{Nil, Int, Sym}
 use Rattle.std.specs.List.{AllByRecursion}
-use Rattle.sf_sym.specs.Goal.{Pending, Item, run, add, take, gave, head, again, exit, return, end, Goal}
+use Rattle.sf_sym.specs.Goal.{Item, run, add, take, gave, head, again, exit, return, end, Goal}
+use Rattle.sf_sym.specs.Pending.{Pending}
 
 -- the value of a term, for given values of the symbols
 abbrev pub term_value : (ℕ → Value) → Term → Value

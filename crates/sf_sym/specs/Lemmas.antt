@@ -1,6 +1,6 @@
 -- Lemmas on terms and atoms that the proofs of the crates above cite. Each states what it says; none is a definition.
 -- Ordinary: equality of terms is decided by cases, and ⋆ is associative.
-use Rattle.std.specs.Prelude.{◌≡◌, ℕ, true, List, [], ◌∷◌, ◌++◌}
+use Rattle.std.specs.Prelude.{◌≡◌, ℕ, Bool, true, false, cond, Some, None, List, [], ◌∷◌, ◌++◌}
 use Rattle.std.proofs.Common.{refl, ap}
 use Rattle.std.proofs.lemmas.Bool.{false≢true}
 use Rattle.std.proofs.lemmas.Bool.Decides.{Decides-int_eq, Decides-eqb}
@@ -8,9 +8,13 @@ use Rattle.sf_base.proofs.HeapSplits.{star-drop_left, star-assoc_right, star-map
 use Rattle.sf_base.specs.declared.value.Value.{Value}
 use Rattle.sf_base.specs.HeapStore.{Heap, ◌⋆◌}
 use Rattle.sf_core.specs.declared.fields.Links.{Links}
+use Rattle.sf_base.specs.declared.ids.FieldId.{FieldId}
+use Rattle.sf_sym.specs.declared.atom.Atom.{Atom}
+use Rattle.sf_sym.specs.declared.atom.Atom.TheVariants.{Points, Ls, Tree}
 use Rattle.sf_sym.specs.declared.atom.Numbered.{Numbered}
 use Rattle.sf_sym.specs.declared.term.Term.{Term}
 use Rattle.sf_sym.specs.declared.term.Term.TheVariants.{Nil, Int, Sym}
+use Rattle.sf_sym.specs.Cells.{fields_at}
 use Rattle.sf_sym.specs.Holds.{AtomsHold}
 use Rattle.sf_sym.specs.Tests.{same_term}
 
@@ -32,3 +36,16 @@ pub atoms-append : (w : ℕ → Value) (links : Links) (xs ys : List Numbered) (
 atoms-append w links [] ys h d = star-drop_left d
 atoms-append w links (x ∷ xs) ys h d =
     star-map_right (λ part e. atoms-append w links xs ys part e) (star-assoc_right d)
+
+points_step : (root t : Term) (gs fields : List (FieldId × Term)) (b : Bool) → (b ≡ true → root ≡ t)
+    → cond b (Some gs) None ≡ Some fields → Points root gs ≡ Points t fields
+points_step root t gs fields true same e = let r : root ≡ t = same refl in let g : gs ≡ fields = cc in cc
+points_step root t gs fields false same e = absurd (cc)
+
+-- an atom with fields at a term is the cell there
+pub points_at : (x : Atom) (t : Term) (fields : List (FieldId × Term)) → fields_at x t ≡ Some fields
+    → x ≡ Points t fields
+points_at (Points root gs) t fields e =
+    points_step root t gs fields (same_term root t) (same_term_is root t) e
+points_at (Ls u v) t fields e = absurd (cc)
+points_at (Tree u) t fields e = absurd (cc)

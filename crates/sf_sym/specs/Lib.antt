@@ -1,6 +1,11 @@
+pub mod Fields
+pub mod State
+pub mod Pending
 pub mod Goal
 pub mod Tests
+pub mod Cells
 pub mod Holds
 pub mod Laws
 pub mod Lemmas
 pub mod Examples
+pub mod Internal

@@ -1,15 +1,17 @@
 ghost use Rattle.std.specs.Prelude.{◌≡◌};
+ghost use Rattle.std.specs.Option.{option_map};
+ghost use Rattle.sf_sym.specs.Cells.{fields_at};
 ghost use Rattle.sf_sym.specs.Tests.{root};
 
+use crate::fields::FieldTerms;
 use crate::term::Term;
-use sf_base::{FieldId, Sequence};
+use sf_base::FieldId;
 
 /// A part of the heap, as a state knows it.
-#[derive(Debug, Drop)]
+#[derive(Drop)]
 pub enum Atom {
-    /// Exactly one cell, at the root, with these terms in these fields. The fields differ, and are
-    /// in declared order.
-    Points(Term, Sequence<(FieldId, Term)>),
+    /// Exactly one cell, at the root, with these terms in these fields.
+    Points(Term, FieldTerms),
     /// A list segment from the first term, its root, up to the second.
     Ls(Term, Term),
     /// A tree from that term, its root.
@@ -17,7 +19,7 @@ pub enum Atom {
 }
 
 /// An atom and the number by which tags name it.
-#[derive(Debug, Drop)]
+#[derive(Drop)]
 pub struct Numbered {
     /// Its number, from 1.
     pub number: u32,
@@ -32,6 +34,16 @@ impl Atom {
     {
         match self {
             Atom::Points(t, _) | Atom::Ls(t, _) | Atom::Tree(t) => *t,
+        }
+    }
+
+    /// The known fields, where it is a cell at that term.
+    pub fn fields_at(&self, t: Term) -> Option<&[(FieldId, Term)]>
+        ensures { option_map (λ x. x.now) result ≡ fields_at self.now t }
+    {
+        match self {
+            Atom::Points(root, fields) if root.is(t) => Some(fields.as_slice()),
+            Atom::Points(..) | Atom::Ls(..) | Atom::Tree(_) => None,
         }
     }
 }

@@ -1,11 +1,11 @@
-use crate::given::Pending;
+use crate::pending::Pending;
 use crate::state::State;
 use crate::term::Term;
 use sf_base::{Name, Place, ResId, Sequence, Var};
 use sf_core::{Assertion, Command, Expr, Test};
 
 /// Something to do. Each has a place, for messages. Commands and assertions are the program's own.
-#[derive(Debug, Drop)]
+#[derive(Drop)]
 pub enum Item<'a> {
     /// These commands, in order. Each is a thing to do of its own, and has its own place.
     Run(&'a [Command]),
@@ -29,7 +29,7 @@ pub enum Item<'a> {
 }
 
 /// A state and what is still to do from there.
-#[derive(Debug, Drop)]
+#[derive(Drop)]
 pub struct Goal<'a> {
     /// What is known there.
     pub state: State,

@@ -3,8 +3,10 @@
 //!
 //! - `term`: values as a state knows them.
 //! - `atom`: the parts of a heap, as a state knows them.
-//! - `state`: states and their tests.
-//! - `given`: conjuncts that are still to be assumed or to be shown.
+//! - `fields`: the terms of a cell's fields.
+//! - `state`: states, and the primitive changes of them.
+//! - `known`: the tests of a state.
+//! - `pending`: conjuncts that are still to be assumed or to be shown.
 //! - `goal`: a state, and what is still to do from there.
 //! - `tag`: the steps of a proof.
 //! - `laws`: what the tests of a state tell of its stores and heaps.
@@ -13,16 +15,19 @@
 
 mod atom;
 pub mod examples;
-mod given;
+mod fields;
 mod goal;
+mod known;
 pub mod laws;
+mod pending;
 mod state;
 mod tag;
 mod term;
 
 pub use atom::{Atom, Numbered};
-pub use given::Pending;
+pub use fields::{FieldTerms, field_term};
 pub use goal::{Goal, Item};
+pub use pending::Pending;
 pub use state::State;
 pub use tag::Tag;
 pub use term::Term;

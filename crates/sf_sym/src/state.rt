@@ -1,383 +1,202 @@
-ghost use Rattle.std.specs.Prelude.{◌≡◌, ◌&&◌, ◌||◌, ◌++◌, not};
-ghost use Rattle.std.specs.List.{list_any};
-ghost use Rattle.sf_sym.specs.Tests.{is_allocated, allocates, are_both_allocated, differs, differs_at_once, has_cell, has_repeat, is_absurd, is_constant, is_impossible, is_integer_tree, is_left_out, is_pair, parts, root, same_term};
+//! States: what is known at one point of a procedure, and the primitive changes of it.
+
+ghost use Rattle.std.specs.Prelude.{◌≡◌, ◌<◌, ◌≤◌, ◌^◌, ◌-◌, true, length, is_some, Some, List, IfSome, IfNone, OnErr, OnOk};
+ghost use Rattle.std.specs.Option.{option_map};
+ghost use Rattle.sf_base.specs.declared.ids.FieldId.{FieldId as FieldNumber};
+ghost use Rattle.sf_sym.specs.Cells.{after_hand_over, cell_at, fields_at, state_after_write, with_cell};
+ghost use Rattle.sf_sym.specs.Internal.Indices.{index_from};
+ghost use Rattle.sf_sym.specs.State.{first_state};
+ghost use Rattle.sf_sym.specs.declared.term.Term.{Term as TermOf};
 
 use crate::atom::{Atom, Numbered};
+use crate::fields::FieldTerms;
 use crate::term::Term;
-use sf_base::{Sequence, Var};
+use sf_base::{FieldId, Var};
 use sf_core::Links;
+use std::alloc::{AllocError, Global};
+use std::marker::Model;
 
-/// What is known of the variables and of the heap at one point of a procedure.
-#[derive(Debug, Drop)]
+/// What is known of the variables and of the heap at one point of a procedure. Contracts see it as the
+/// record `State`; what isn't listed there is how the code finds things.
+#[derive(Drop)]
 pub struct State {
-    /// The fields of segments and trees, which no step changes.
-    pub links: Links,
-    /// A term for each variable in reach, in the order of the variables.
-    pub vars: Sequence<(Var, Term)>,
-    /// Pairs of terms that differ.
-    pub apart: Sequence<(Term, Term)>,
-    /// The parts of the heap, in order of their numbers.
-    pub atoms: Sequence<Numbered>,
-    /// The parts that were handed over in the subtraction now under way, in the order in which they were.
-    pub taken: Sequence<Numbered>,
-    /// The number of the next symbol, from 0.
-    pub next_sym: u32,
-    /// The number of the next atom, from 1.
-    pub next_atom: u32,
+    links: Links,
+    vars: Vec<(Var, Term)>,
+    apart: Vec<(Term, Term)>,
+    atoms: Vec<Numbered>,
+    taken: Vec<Numbered>,
+    next_sym: u32,
+    next_atom: u32,
+}
+
+impl Model for State {
+    ghost use Rattle.sf_sym.specs.State.{State as Known, state_of};
+
+    ghost Value = { Known };
+
+    ghost view = { λ s. state_of s.links s.vars.items s.apart.items s.atoms.items s.taken.items s.next_sym
+        s.next_atom };
 }
 
 impl State {
-    /// Whether two terms differ at once: different constants, or one of the pairs that differ.
-    fn differs_at_once(&self, t: Term, u: Term) -> bool
-        ensures { result ≡ differs_at_once self.now.apart t u }
+    /// The state that knows these terms of the variables, which have the symbols below `next_sym`, and
+    /// nothing of the heap.
+    pub fn new(alloc: Global, links: Links, vars: Vec<(Var, Term)>, next_sym: u32) -> State
+        ensures { result ≡ first_state links vars.items next_sym }
     {
-        differ_at_once(self.apart.as_slice(), t, u)
+        State {
+            links,
+            vars,
+            apart: Vec::new(alloc),
+            atoms: Vec::new(alloc),
+            taken: Vec::new(alloc),
+            next_sym,
+            next_atom: 1,
+        }
     }
 
-    /// Whether an atom or a taken atom other than number `except` has a cell at the term.
-    pub fn is_allocated(&self, t: Term, except: Option<u32>) -> bool
-        ensures { result ≡ is_allocated self.now t except }
+    /// The terms of the variables, in the order of the variables.
+    pub fn vars(&self) -> &[(Var, Term)]
+        ensures { result.now ≡ self.now.vars }
     {
-        let apart = self.apart.as_slice();
-        has_other_allocator(apart, self.atoms.as_slice(), t, except)
-            || has_other_allocator(apart, self.taken.as_slice(), t, except)
+        self.vars.as_slice()
     }
 
-    /// Whether two terms surely differ: at once, or as a constant and a location, or as the locations of
-    /// two cells. It goes over the atoms a few times, and over the pairs that differ once for each atom
-    /// whose root is one of the terms.
-    pub fn differs(&self, t: Term, u: Term) -> bool
-        ensures { result ≡ differs self.now t u }
+    /// The pairs of terms that differ.
+    pub fn apart(&self) -> &[(Term, Term)]
+        ensures { result.now ≡ self.now.apart }
     {
-        self.differs_at_once(t, u)
-            || t.is_constant() && self.is_allocated(u, None)
-            || u.is_constant() && self.is_allocated(t, None)
-            || self.are_both_allocated(t, u)
+        self.apart.as_slice()
     }
 
-    /// Whether two different atoms or taken atoms have cells at these terms.
-    fn are_both_allocated(&self, t: Term, u: Term) -> bool
-        ensures { result ≡ are_both_allocated self.now t u }
+    /// The parts of the heap, in order of their numbers.
+    pub fn atoms(&self) -> &[Numbered]
+        ensures { result.now ≡ self.now.atoms }
     {
-        self.has_first(self.atoms.as_slice(), t, u) || self.has_first(self.taken.as_slice(), t, u)
+        self.atoms.as_slice()
     }
 
-    /// Whether one of these atoms has a cell at the first term, and a different one of the state has a cell
-    /// at the second.
-    fn has_first(&self, atoms: &[Numbered], t: Term, u: Term) -> bool
-        ensures { result ≡ list_any
-            (λ a. allocates self.now.apart t a.atom && is_allocated self.now u (Some a.number))
-            atoms.now }
+    /// The parts that were handed over in the subtraction now under way, in the order in which they were.
+    pub fn taken(&self) -> &[Numbered]
+        ensures { result.now ≡ self.now.taken }
     {
-        atoms.iter().any(|a| self.allocates_first(a, t, u))
+        self.taken.as_slice()
     }
 
-    /// Whether the atom has a cell at the first term, and another one has a cell at the second.
-    fn allocates_first(&self, a: &Numbered, t: Term, u: Term) -> bool
-        ensures { result ≡ (allocates self.now.apart t a.now.atom
-            && is_allocated self.now u (Some a.now.number)) }
+    /// The number of the next symbol.
+    pub fn next_sym(&self) -> u32
+        ensures { result ≡ self.now.next_sym }
     {
-        allocates(self.apart.as_slice(), t, &a.atom) && self.is_allocated(u, Some(a.number))
+        self.next_sym
     }
 
-    /// Whether no store and heap have the state: a term would differ from itself, or a constant would be
-    /// a location, or an integer a tree, or two cells would be one. The last compares the root of each
-    /// atom with those of the later ones; the rest goes over the state once.
-    pub fn is_absurd(&self) -> bool
-        ensures { result ≡ is_absurd self.now }
+    /// The number of the next atom.
+    pub fn next_atom(&self) -> u32
+        ensures { result ≡ self.now.next_atom }
     {
-        self.has_reflexive_pair() || self.has_impossible_atom() || self.has_repeat()
+        self.next_atom
     }
 
-    /// Whether a term is to differ from itself.
-    fn has_reflexive_pair(&self) -> bool
-        ensures { result ≡ list_any (λ p. same_term p.0 p.1) self.now.apart }
+    /// The known fields of the atom of that number, where it is a cell at that term.
+    pub fn cell(&self, a: u32, root: Term) -> Option<&[(FieldId, Term)]>
+        ensures { option_map (λ x. x.now) result ≡ cell_at self.now.atoms a root }
     {
-        self.apart.as_slice().iter().any(|p| p.0.is(p.1))
+        let i = index_of(self.atoms.as_slice(), a)?;
+        self.atoms[i].atom.fields_at(root)
     }
 
-    /// Whether an atom or a taken atom is one that no heap has.
-    fn has_impossible_atom(&self) -> bool
-        ensures { result ≡ list_any (λ a. is_impossible self.now.apart a.atom) (parts self.now) }
+    /// One more cell: it has the next number, and a symbol at which it is differs from nil. An `Err`
+    /// means out of memory, and then nothing changes.
+    pub fn add_cell(&mut self, root: Term, fields: FieldTerms) -> Result<(), AllocError>
+        requires { self.old.next_atom ≤ 2 ^ 32 - 1024 }
+        ensures ok { OnOk result (self.new ≡ with_cell self.old root fields) }
+        ensures err { OnErr result (self.new ≡ self.old) }
     {
-        let apart = self.apart.as_slice();
-        has_impossible(apart, self.atoms.as_slice()) || has_impossible(apart, self.taken.as_slice())
+        self.apart.reserve(1)?;
+        self.atoms.reserve(1)?;
+        if let Term::Sym(_) = root {
+            self.apart.push_reserved((root, Term::Nil));
+        }
+        self.atoms.push_reserved(Numbered {
+            number: self.next_atom,
+            atom: Atom::Points(root, fields),
+        });
+        self.next_atom += 1;
+        Ok(())
     }
 
-    /// Whether two atoms or taken atoms have cells at one term.
-    fn has_repeat(&self) -> bool
-        ensures { result ≡ has_repeat self.now.apart (parts self.now) }
+    /// Writes a field of the cell of that number at the root. An `Err` means out of memory, and then
+    /// nothing changes.
+    pub fn write_field(&mut self, a: u32, root: Term, f: FieldId, u: Term) -> Result<(), AllocError>
+        requires { is_some (cell_at self.old.atoms a root) ≡ true }
+        ensures ok { OnOk result (state_after_write self.old root f u a ≡ Some self.new) }
+        ensures err { OnErr result (self.new ≡ self.old) }
     {
-        let apart = self.apart.as_slice();
-        repeats(apart, self.atoms.as_slice(), self.taken.as_slice())
-            || repeats(apart, self.taken.as_slice(), &[])
+        let Some(i) = index_of(self.atoms.as_slice(), a) else {
+            unreachable!();
+        };
+        match &mut self.atoms[i].atom {
+            Atom::Points(_, fields) => fields.put(f, u)?,
+            Atom::Ls(..) => unreachable!(),
+            Atom::Tree(_) => unreachable!(),
+        }
+        Ok(())
+    }
+
+    /// Hands the cell of that number at the root over: it goes from the atoms to the taken ones. An `Err`
+    /// means out of memory, and then nothing changes.
+    pub fn hand_over(&mut self, a: u32, root: Term) -> Result<(), AllocError>
+        requires { is_some (cell_at self.old.atoms a root) ≡ true }
+        ensures ok { OnOk result ((fields : List (FieldNumber × TermOf))
+            → cell_at self.old.atoms a root ≡ Some fields
+            → self.new ≡ after_hand_over self.old root fields a) }
+        ensures err { OnErr result (self.new ≡ self.old) }
+    {
+        let Some(i) = index_of(self.atoms.as_slice(), a) else {
+            unreachable!();
+        };
+        self.taken.reserve(1)?;
+        let atom = self.atoms.remove(i);
+        self.taken.push_reserved(atom);
+        Ok(())
     }
 }
 
-/// Whether two terms differ at once, by those pairs.
-fn differ_at_once(apart: &[(Term, Term)], t: Term, u: Term) -> bool
-    ensures { result ≡ differs_at_once apart.now t u }
+/// The index of the first atom of that number.
+fn index_of(atoms: &[Numbered], a: u32) -> Option<usize>
+    ensures place { result ≡ index_from 0 atoms.now a }
+    ensures within { IfSome result (λ i. i < length atoms.now) }
 {
-    are_different_constants(t, u) || is_listed(apart, t, u)
-}
-
-/// Whether the terms are different constants.
-fn are_different_constants(t: Term, u: Term) -> bool
-    ensures { result ≡ (is_constant t && is_constant u && not (same_term t u)) }
-{
-    t.is_constant() && u.is_constant() && !t.is(u)
-}
-
-/// Whether one of the pairs is of these terms.
-fn is_listed(apart: &[(Term, Term)], t: Term, u: Term) -> bool
-    ensures { result ≡ list_any (is_pair t u) apart.now }
-{
-    apart.iter().any(|p| is_pair(*p, t, u))
-}
-
-/// Whether the pair is of these terms, in either order.
-fn is_pair(p: (Term, Term), t: Term, u: Term) -> bool
-    ensures { result ≡ is_pair t u p }
-{
-    p.0.is(t) && p.1.is(u) || p.0.is(u) && p.1.is(t)
-}
-
-/// Whether the atom has a cell at its root.
-fn has_cell(apart: &[(Term, Term)], atom: &Atom) -> bool
-    ensures { result ≡ has_cell apart.now atom.now }
-{
-    match atom {
-        Atom::Points(..) => true,
-        Atom::Ls(t, u) => differ_at_once(apart, *t, *u),
-        Atom::Tree(t) => differ_at_once(apart, *t, Term::Nil),
-    }
-}
-
-/// Whether the atom has a cell at the term.
-fn allocates(apart: &[(Term, Term)], t: Term, atom: &Atom) -> bool
-    ensures { result ≡ allocates apart.now t atom.now }
-{
-    atom.root().is(t) && has_cell(apart, atom)
-}
-
-/// Whether an atom of the list other than number `except` has a cell at the term.
-fn has_other_allocator(
-    apart: &[(Term, Term)],
-    atoms: &[Numbered],
-    t: Term,
-    except: Option<u32>,
-) -> bool
-    ensures { result ≡ list_any
-        (λ a. not (is_left_out except a.number) && allocates apart.now t a.atom) atoms.now }
-{
-    atoms.iter().any(|a| allocates_beside(apart, a, t, except))
-}
-
-/// Whether the atom isn't number `except` and has a cell at the term.
-fn allocates_beside(apart: &[(Term, Term)], a: &Numbered, t: Term, except: Option<u32>) -> bool
-    ensures { result ≡ (not (is_left_out except a.now.number) && allocates apart.now t a.now.atom) }
-{
-    !is_left_out(except, a.number) && allocates(apart, t, &a.atom)
-}
-
-/// Whether that number is the one left out.
-fn is_left_out(except: Option<u32>, number: u32) -> bool
-    ensures { result ≡ is_left_out except number }
-{
-    match except {
-        Some(other) => number == other,
-        None => false,
-    }
-}
-
-/// Whether an atom of the list is one that no heap has.
-fn has_impossible(apart: &[(Term, Term)], atoms: &[Numbered]) -> bool
-    ensures { result ≡ list_any (λ a. is_impossible apart.now a.atom) atoms.now }
-{
-    atoms.iter().any(|a| is_impossible(apart, &a.atom))
-}
-
-/// Whether no heap has the atom: it is a cell at a constant, or the tree of an integer.
-fn is_impossible(apart: &[(Term, Term)], atom: &Atom) -> bool
-    ensures { result ≡ is_impossible apart.now atom.now }
-{
-    atom.root().is_constant() && has_cell(apart, atom) || is_integer_tree(atom)
-}
-
-/// Whether the atom is the tree of an integer.
-fn is_integer_tree(atom: &Atom) -> bool
-    ensures { result ≡ is_integer_tree atom.now }
-{
-    matches!(atom, Atom::Tree(Term::Int(_)))
-}
-
-/// Whether an atom of the first list and a later one, there or in the second list, have cells at one term.
-fn repeats(apart: &[(Term, Term)], atoms: &[Numbered], later: &[Numbered]) -> bool
-    ensures { (result || has_repeat apart.now later.now)
-        ≡ has_repeat apart.now (atoms.now ++ later.now) }
-{
+    let mut i = 0;
     let mut left = atoms;
     while let Some((first, rest)) = left.split_first() {
-        if recurs(apart, &first.atom, rest, later) {
-            return true;
+        if first.number == a {
+            return Some(i);
         }
+        i += 1;
         left = rest;
     }
-    false
-}
-
-/// Whether the atom and one of the two lists have cells at one term.
-fn recurs(apart: &[(Term, Term)], atom: &Atom, rest: &[Numbered], later: &[Numbered]) -> bool
-    ensures { result ≡ (list_any (λ b. allocates apart.now (root atom.now) b.atom)
-        (rest.now ++ later.now) && has_cell apart.now atom.now) }
-{
-    let root = atom.root();
-    (has_allocator(apart, rest, root) || has_allocator(apart, later, root)) && has_cell(apart, atom)
-}
-
-/// Whether an atom of the list has a cell at the term.
-fn has_allocator(apart: &[(Term, Term)], atoms: &[Numbered], t: Term) -> bool
-    ensures { result ≡ list_any (λ b. allocates apart.now t b.atom) atoms.now }
-{
-    atoms.iter().any(|b| allocates(apart, t, &b.atom))
+    None
 }
 
 #[cfg(test)]
-mod tests {
-    use super::*;
-    use crate::atom::Numbered;
-    use Shape::{Cell, Ls, Tree};
-    use sf_base::FieldId;
-    use std::alloc::{AllocError, Global};
-
-    const NIL: Term = Term::Nil;
-
-    const X: Term = Term::Sym(0);
-
-    const Y: Term = Term::Sym(1);
-
-    const FIVE: Term = Term::Int(5);
-
-    /// An atom without its number.
-    #[derive(Clone, Copy)]
-    enum Shape {
-        Cell(Term),
-        Ls(Term, Term),
-        Tree(Term),
-    }
-
-    fn atoms(
+impl State {
+    /// A state of these parts, with no variables.
+    pub(crate) fn from_parts(
         alloc: Global,
-        first: u32,
-        shapes: &[Shape],
-    ) -> Result<Sequence<Numbered>, AllocError> {
-        let mut all = Vec::new(alloc);
-        let mut number = first;
-        for shape in shapes {
-            let atom = match *shape {
-                Shape::Cell(t) => Atom::Points(t, Sequence::new(alloc)),
-                Shape::Ls(t, u) => Atom::Ls(t, u),
-                Shape::Tree(t) => Atom::Tree(t),
-            };
-            all.push(Numbered { number, atom })?;
-            number = number.wrapping_add(1);
-        }
-        Ok(Sequence::from_vec(all))
-    }
-
-    /// The atoms are numbered from 1, the taken atoms from 101.
-    fn state(
-        alloc: Global,
-        apart: &[(Term, Term)],
-        kept: &[Shape],
-        taken: &[Shape],
-    ) -> Result<State, AllocError> {
-        let mut pairs = Vec::new(alloc);
-        for pair in apart {
-            pairs.push(*pair)?;
-        }
-        Ok(State {
-            links: Links {
-                tl: Some(FieldId(0)),
-                l: Some(FieldId(1)),
-                r: Some(FieldId(2)),
-            },
-            vars: Sequence::new(alloc),
-            apart: Sequence::from_vec(pairs),
-            atoms: atoms(alloc, 1, kept)?,
-            taken: atoms(alloc, 101, taken)?,
+        links: Links,
+        apart: Vec<(Term, Term)>,
+        atoms: Vec<Numbered>,
+        taken: Vec<Numbered>,
+    ) -> State {
+        State {
+            links,
+            vars: Vec::new(alloc),
+            apart,
+            atoms,
+            taken,
             next_sym: 2,
             next_atom: 201,
-        })
-    }
-
-    /// A state, and whether there X and Y differ, X and nil do, X is allocated, and it can't be.
-    #[derive(Clone, Copy)]
-    struct Row<'a> {
-        apart: &'a [(Term, Term)],
-        kept: &'a [Shape],
-        taken: &'a [Shape],
-        answers: [bool; 4],
-    }
-
-    fn known<'a>(
-        apart: &'a [(Term, Term)],
-        kept: &'a [Shape],
-        taken: &'a [Shape],
-        answers: [bool; 4],
-    ) -> Row<'a> {
-        Row {
-            apart,
-            kept,
-            taken,
-            answers,
         }
-    }
-
-    #[test]
-    fn states_answer_as_they_should(rt: HostRuntime) -> Result<(), AllocError> {
-        const NO: bool = false;
-        const YES: bool = true;
-        let rows = [
-            known(&[], &[], &[], [NO, NO, NO, NO]),
-            known(&[(Y, X)], &[], &[], [YES, NO, NO, NO]),
-            known(&[], &[Cell(X)], &[], [NO, YES, YES, NO]),
-            known(&[], &[Ls(X, NIL)], &[], [NO, NO, NO, NO]),
-            known(&[(X, NIL)], &[Ls(X, NIL)], &[], [NO, YES, YES, NO]),
-            known(&[(X, NIL)], &[Tree(X)], &[], [NO, YES, YES, NO]),
-            known(&[], &[Cell(X), Cell(Y)], &[], [YES, YES, YES, NO]),
-            known(&[], &[Cell(X)], &[Cell(Y)], [YES, YES, YES, NO]),
-            known(&[], &[Cell(X), Cell(X)], &[], [NO, YES, YES, YES]),
-            known(&[], &[Cell(X)], &[Cell(X)], [NO, YES, YES, YES]),
-            known(&[], &[Cell(X), Ls(X, Y)], &[], [NO, YES, YES, NO]),
-            known(&[(X, Y)], &[Cell(X), Ls(X, Y)], &[], [YES, YES, YES, YES]),
-            known(&[(NIL, NIL)], &[], &[], [NO, NO, NO, YES]),
-            known(&[], &[Ls(NIL, FIVE)], &[], [NO, NO, NO, YES]),
-            known(&[], &[Ls(FIVE, FIVE)], &[], [NO, NO, NO, NO]),
-            known(&[], &[], &[Tree(FIVE)], [NO, NO, NO, YES]),
-            known(&[], &[Tree(NIL)], &[], [NO, NO, NO, NO]),
-        ];
-        for (i, r) in rows.iter().enumerate() {
-            let s = state(rt.alloc(), r.apart, r.kept, r.taken)?;
-            let answers = [
-                s.differs(X, Y),
-                s.differs(NIL, X),
-                s.is_allocated(X, None),
-                s.is_absurd(),
-            ];
-            assert_eq!(rt; answers, r.answers, "row {i}");
-        }
-        Ok(())
-    }
-
-    #[test]
-    fn an_atom_that_is_left_out_allocates_nothing(rt: HostRuntime) -> Result<(), AllocError> {
-        let s = state(rt.alloc(), &[], &[Cell(X)], &[Cell(Y)])?;
-        assert!(rt; s.is_allocated(X, Some(101)));
-        assert!(rt; !s.is_allocated(X, Some(1)));
-        assert!(rt; !s.is_allocated(Y, Some(101)));
-        assert!(rt; s.differs(NIL, FIVE));
-        assert!(rt; !s.differs(FIVE, FIVE));
-        Ok(())
     }
 }

@@ -3,7 +3,7 @@
 use Rattle.std.specs.Prelude.{List, [], ◌∷◌}
 use Rattle.sf_core.specs.declared.command.Command.{Command as CodeCommand}
 use Rattle.sf_core.specs.Program.View.{command_of}
-use Rattle.sf_sym.specs.declared.state.State.{State}
+use Rattle.sf_sym.specs.State.{State}
 use Rattle.sf_search.specs.declared.strategy.Choice.{Choice as CodeChoice}
 use Rattle.sf_search.specs.declared.strategy.Choice.TheVariants.{Takes, Stays}
 use Rattle.sf_search.specs.declared.strategy.Stuck.TheVariants.{NotBuilt}

@@ -2,7 +2,7 @@
 -- Ordinary: what is known of a state is carried along, so that it needn't be found anew.
 use Rattle.std.specs.Prelude.{◌≡◌, ◌++◌, ◌||◌, Bool, false, List, [], ◌∷◌, Some, None}
 use Rattle.sf_sym.specs.declared.atom.Numbered.{Numbered}
-use Rattle.sf_sym.specs.declared.state.State.{State}
+use Rattle.sf_sym.specs.State.{State}
 use Rattle.sf_sym.specs.declared.tag.Tag.{Tag}
 use Rattle.sf_sym.specs.declared.tag.Tag.TheVariants.{Add, Mutate, Cell, Return}
 use Rattle.sf_sym.specs.declared.term.Term.TheVariants.{Nil}

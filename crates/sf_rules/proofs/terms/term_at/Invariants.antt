@@ -1,5 +1,5 @@
 use Rattle.std.proofs.Common.{◌≡◌, length}
-use Rattle.sf_rules.specs.Table.{term_at}
+use Rattle.sf_sym.specs.State.{term_at}
 use Rattle.sf_rules.proofs.terms.term_at.Given as goal
 
 abbrev pub invariant-loop-first : goal.invariant-loop-first

@@ -1,16 +1,17 @@
 use Rattle.std.proofs.Common.{rules, ap, ◌∙◌}
-use Rattle.sf_sym.specs.Goal.{pending_of, add}
+use Rattle.sf_sym.specs.Goal.{add}
+use Rattle.sf_sym.specs.Pending.{pending_of}
 use Rattle.sf_rules.specs.Internal.Subgoals.{todo_of}
 use Rattle.sf_rules.proofs.Items.{todo_of_push, unless_empty_before, unless_some_before}
 use Rattle.sf_rules.proofs.todo.with_add.Goals as goal
 
 pub returns-then-is_empty : goal.returns-then-is_empty
 returns-then-is_empty c =
-    unless_empty_before c.args.given.conjuncts.items (add c.args.place (pending_of c.args.given))
+    unless_empty_before c.args.given.conjuncts (add c.args.place (pending_of c.args.given))
     (todo_of c.args.todo.items) (search rules)
 
 pub returns : goal.returns
 returns c =
-    unless_some_before c.args.given.conjuncts.items (add c.args.place (pending_of c.args.given))
+    unless_some_before c.args.given.conjuncts (add c.args.place (pending_of c.args.given))
     (todo_of c.args.todo.items) (todo_of c.push.new.self.items) (search rules)
     (ap todo_of c.in_ok-push.ensures.items ∙ todo_of_push c.args.todo.items _)

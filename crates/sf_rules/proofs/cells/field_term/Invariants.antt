@@ -1,9 +1,0 @@
-use Rattle.std.proofs.Common.{◌≡◌, length}
-use Rattle.sf_rules.specs.Table.{field_term}
-use Rattle.sf_rules.proofs.cells.field_term.Given as goal
-
-abbrev pub invariant-loop-first : goal.invariant-loop-first
-invariant-loop-first l = field_term l.fields l.f ≡ field_term l.left l.f
-
-abbrev pub decreases-loop-first : goal.decreases-loop-first
-decreases-loop-first l = length l.left

@@ -1,0 +1,139 @@
+-- Atoms by their numbers: where the code finds one, the definitions find it.
+-- Names: `at-LAW` speaks of the atom at an index.
+use Rattle.std.proofs.Common.{◌≡◌, ℕ, suc, ◌==◌, ◌<◌, ◌+◌, Bool, true, false, cond, Option, Some, None, List, [], ◌∷◌, ◌++◌, length, get_or, slice_set, is_some, refl, sym, ap, ◌∙◌, subst, arith}
+use Rattle.std.specs.List.{remove}
+use Rattle.std.specs.Option.{option_map}
+use Rattle.std.proofs.lemmas.Bool.Decides.{Decides-eqb}
+use Rattle.sf_base.specs.declared.ids.FieldId.{FieldId}
+use Rattle.sf_sym.specs.declared.atom.Atom.{Atom}
+use Rattle.sf_sym.specs.declared.atom.Atom.TheVariants.{Points}
+use Rattle.sf_sym.specs.declared.atom.Numbered.{Numbered}
+use Rattle.sf_sym.specs.declared.term.Term.{Term}
+use Rattle.sf_sym.specs.Cells.{after_hand_over, cell_at, fields_at, state_after_write, with_fields, without}
+use Rattle.sf_sym.specs.Fields.{put_term}
+use Rattle.sf_sym.specs.Internal.Indices.{index_from}
+use Rattle.sf_sym.specs.Lemmas.{points_at, same_term_is}
+use Rattle.sf_sym.specs.Tests.{same_term}
+use Rattle.sf_sym.specs.State.{State}
+
+none_step : {X : Type 0} (b : Bool) (i : ℕ) (k : Option ℕ) (x y : Option X) → (k ≡ None → y ≡ None)
+    → cond b (Some i) k ≡ None → cond b x y ≡ None
+none_step true i k x y f e = absurd (cc)
+none_step false i k x y f e = f e
+
+-- the atom of that number is at k: it is the cell there, and what becomes of the list
+pub record At (a k : ℕ) (xs : List Numbered) : Type 0 where
+  pub within : k < length xs
+  pub cell : (d : Numbered) (t : Term) → cell_at xs a t ≡ fields_at (get_or xs k d).atom t
+  pub number : (d : Numbered) → (get_or xs k d).number ≡ a
+  pub written : (t : Term) (fields : List (FieldId × Term))
+      → with_fields xs a t fields ≡ slice_set xs k (record { number = a; atom = Points t fields })
+  pub removed : without xs a ≡ remove xs k
+
+-- the same where atoms are counted from i on
+abbrev AtFrom : (a i k : ℕ) → List Numbered → Type 0
+AtFrom a i k xs = (at : ℕ) × (i + at ≡ k) × At a at xs
+
+at-first : (a : ℕ) (x : Numbered) (xs : List Numbered) → x.number == a ≡ true → At a 0 (x ∷ xs)
+at-first a x xs h = record {
+  within = omega arith;
+  cell = λ d t. rw h refl;
+  number = λ d. (Decides-eqb x.number a).0 h;
+  written = λ t fields. rw h refl;
+  removed = rw h refl;
+}
+
+at-rest : (a k : ℕ) (x : Numbered) (xs : List Numbered) → x.number == a ≡ false → At a k xs
+    → At a (suc k) (x ∷ xs)
+at-rest a k x xs h s = record {
+  within = omega (arith, s.within);
+  cell = λ d t. rw h (s.cell d t);
+  number = s.number;
+  written = λ t fields. rw h (ap (λ ys. x ∷ ys) (s.written t fields));
+  removed = rw h (ap (λ ys. x ∷ ys) s.removed);
+}
+
+at-step : (a i k : ℕ) (x : Numbered) (xs : List Numbered) (b : Bool) → x.number == a ≡ b
+    → (index_from (suc i) xs a ≡ Some k → AtFrom a (suc i) k xs)
+    → cond b (Some i) (index_from (suc i) xs a) ≡ Some k → AtFrom a i k (x ∷ xs)
+at-step a i k x xs true h others e = let same : i ≡ k = cc in (0, omega (arith, same), at-first a x xs h)
+at-step a i k x xs false h others e =
+    let s = others e in (suc s.0, omega (arith, s.1), at-rest a s.0 x xs h s.2)
+
+module _ (a : ℕ) where
+  -- no atom of that number: no cell
+  pub none_at : (i : ℕ) (xs : List Numbered) (t : Term) → index_from i xs a ≡ None → cell_at xs a t ≡ None
+  none_at i [] t e = refl
+  none_at i (x ∷ xs) t e =
+      none_step (x.number == a) i (index_from (suc i) xs a) (fields_at x.atom t) (cell_at xs a t)
+      (none_at (suc i) xs t) e
+
+  at-from : (i k : ℕ) (xs : List Numbered) → index_from i xs a ≡ Some k → AtFrom a i k xs
+  at-from i k [] e = absurd (cc)
+  at-from i k (x ∷ xs) e = at-step a i k x xs (x.number == a) refl (at-from (suc i) k xs) e
+
+pub is_at : (a k : ℕ) (xs : List Numbered) → index_from 0 xs a ≡ Some k → At a k xs
+is_at a k xs e = let s = at-from a 0 k xs e in let same : s.0 ≡ k = omega (arith, s.1) in
+    subst (λ n. At a n xs) same s.2
+
+-- the code's index of an atom that isn't there, for a cell that is
+pub none_is_no_cell : (a : ℕ) (xs : List Numbered) (t : Term) → index_from 0 xs a ≡ None
+    → is_some (cell_at xs a t) ≡ true → ⊥
+none_is_no_cell a xs t e c = let n = none_at a 0 xs t e in absurd (cc)
+
+-- what is at the index of an atom is that atom: it is a cell at a term exactly where the state says so
+pub cell_found : (a k : ℕ) (x : Numbered) (xs : List Numbered) (t : Term) → Some k ≡ index_from 0 xs a
+    → x ≡ get_or xs k x → fields_at x.atom t ≡ cell_at xs a t
+cell_found a k x xs t e is =
+    ap (λ y. fields_at y.atom t) is ∙ sym ((is_at a k xs (sym e)).cell x t)
+
+-- so a segment or a tree at that index is no cell
+pub not_a_cell : (a k : ℕ) (x : Numbered) (xs : List Numbered) (t : Term) → Some k ≡ index_from 0 xs a
+    → x ≡ get_or xs k x → fields_at x.atom t ≡ None → is_some (cell_at xs a t) ≡ true → ⊥
+not_a_cell a k x xs t e is n c = let found = cell_found a k x xs t e is in absurd (cc)
+
+cell-step : (root t : Term) (fields : List (FieldId × Term)) (b : Bool) → (b ≡ true → root ≡ t)
+    → is_some (cond b (Some fields) None) ≡ true → (root ≡ t) × (cond b (Some fields) None ≡ Some fields)
+cell-step root t fields true same e = (same refl, refl)
+cell-step root t fields false same e = absurd (cc)
+
+-- a cell at a term is there with its root and fields
+pub cell_parts : (x : Atom) (root t : Term) (fields : List (FieldId × Term)) → x ≡ Points root fields
+    → is_some (fields_at x t) ≡ true → (root ≡ t) × (fields_at x t ≡ Some fields)
+cell_parts x root t fields is e =
+    let here : is_some (fields_at (Points root fields) t) ≡ true = ap (λ y. is_some (fields_at y t)) (sym is) ∙ e in
+    let both = cell-step root t fields (same_term root t) (same_term_is root t) here in
+    (both.0, ap (λ y. fields_at y t) is ∙ both.1)
+
+module _ (s : State) (a k : ℕ) (x : Numbered) (t : Term) where
+  -- a field of the cell is written where the cell is
+  pub written_at : (f : FieldId) (u root : Term) (fields new : List (FieldId × Term))
+      → Some k ≡ index_from 0 s.atoms a → x ≡ get_or s.atoms k x → x.atom ≡ Points root fields
+      → is_some (cell_at s.atoms a t) ≡ true → new ≡ put_term f u fields
+      → state_after_write s t f u a
+      ≡ Some (record s { atoms = slice_set s.atoms k (record { number = x.number; atom = Points root new }) })
+  written_at f u root fields new e is cell some p =
+      let at = is_at a k s.atoms (sym e) in
+      let found = cell_found a k x s.atoms t e is in
+      let parts = cell_parts x.atom root t fields cell (ap is_some found ∙ some) in
+      let number : x.number ≡ a = ap (λ y. y.number) is ∙ at.number x in
+      ap (option_map (λ fields. record s { atoms = with_fields s.atoms a t (put_term f u fields) }))
+      (sym found ∙ parts.1)
+      ∙ ap (λ xs. Some (record s { atoms = xs }))
+      (at.written t (put_term f u fields)
+      ∙ ap (λ y. slice_set s.atoms k y)
+      (λ i. record { number = sym number i; atom = Points (sym parts.0 i) (sym p i) }))
+
+  -- the cell goes from where it is
+  pub handed_over_at : (taken : List Numbered) (atoms : List Numbered)
+      → Some k ≡ index_from 0 s.atoms a → x ≡ get_or s.atoms k x
+      → atoms ≡ remove s.atoms k → taken ≡ s.taken ++ x ∷ []
+      → (fields : List (FieldId × Term)) → cell_at s.atoms a t ≡ Some fields
+      → record s { atoms = atoms; taken = taken } ≡ after_hand_over s t fields a
+  handed_over_at taken atoms e is p q fields c =
+      let at = is_at a k s.atoms (sym e) in
+      let cell : x.atom ≡ Points t fields = points_at x.atom t fields (cell_found a k x s.atoms t e is ∙ c) in
+      let number : x.number ≡ a = ap (λ y. y.number) is ∙ at.number x in
+      ap (λ xs. record s { atoms = xs; taken = taken }) (p ∙ sym at.removed)
+      ∙ ap (λ xs. record s { atoms = without s.atoms a; taken = xs })
+      (q ∙ ap (λ y. s.taken ++ y ∷ []) (λ i. record { number = number i; atom = cell i }))

@@ -1,0 +1,356 @@
+//! The tests of a state: what it knows of terms, and whether it can be at all.
+
+ghost use Rattle.std.specs.Prelude.{◌≡◌, ◌&&◌, ◌||◌, ◌++◌, not};
+ghost use Rattle.std.specs.List.{list_any};
+ghost use Rattle.sf_sym.specs.Tests.{is_allocated, allocates, are_both_allocated, differs, differs_at_once, has_cell, has_repeat, is_absurd, is_constant, is_impossible, is_integer_tree, is_left_out, is_pair, parts, root, same_term};
+
+use crate::atom::{Atom, Numbered};
+use crate::state::State;
+use crate::term::Term;
+
+impl State {
+    /// Whether two terms differ at once: different constants, or one of the pairs that differ.
+    fn differs_at_once(&self, t: Term, u: Term) -> bool
+        ensures { result ≡ differs_at_once self.now.apart t u }
+    {
+        differ_at_once(self.apart(), t, u)
+    }
+
+    /// Whether an atom or a taken atom other than number `except` has a cell at the term.
+    pub fn is_allocated(&self, t: Term, except: Option<u32>) -> bool
+        ensures { result ≡ is_allocated self.now t except }
+    {
+        let apart = self.apart();
+        has_other_allocator(apart, self.atoms(), t, except)
+            || has_other_allocator(apart, self.taken(), t, except)
+    }
+
+    /// Whether two terms surely differ: at once, or as a constant and a location, or as the locations of
+    /// two cells. It goes over the atoms a few times, and over the pairs that differ once for each atom
+    /// whose root is one of the terms.
+    pub fn differs(&self, t: Term, u: Term) -> bool
+        ensures { result ≡ differs self.now t u }
+    {
+        self.differs_at_once(t, u)
+            || t.is_constant() && self.is_allocated(u, None)
+            || u.is_constant() && self.is_allocated(t, None)
+            || self.are_both_allocated(t, u)
+    }
+
+    /// Whether two different atoms or taken atoms have cells at these terms.
+    fn are_both_allocated(&self, t: Term, u: Term) -> bool
+        ensures { result ≡ are_both_allocated self.now t u }
+    {
+        self.has_first(self.atoms(), t, u) || self.has_first(self.taken(), t, u)
+    }
+
+    /// Whether one of these atoms has a cell at the first term, and a different one of the state has a cell
+    /// at the second.
+    fn has_first(&self, atoms: &[Numbered], t: Term, u: Term) -> bool
+        ensures { result ≡ list_any
+            (λ a. allocates self.now.apart t a.atom && is_allocated self.now u (Some a.number))
+            atoms.now }
+    {
+        atoms.iter().any(|a| self.allocates_first(a, t, u))
+    }
+
+    /// Whether the atom has a cell at the first term, and another one has a cell at the second.
+    fn allocates_first(&self, a: &Numbered, t: Term, u: Term) -> bool
+        ensures { result ≡ (allocates self.now.apart t a.now.atom
+            && is_allocated self.now u (Some a.now.number)) }
+    {
+        allocates(self.apart(), t, &a.atom) && self.is_allocated(u, Some(a.number))
+    }
+
+    /// Whether no store and heap have the state: a term would differ from itself, or a constant would be
+    /// a location, or an integer a tree, or two cells would be one. The last compares the root of each
+    /// atom with those of the later ones; the rest goes over the state once.
+    pub fn is_absurd(&self) -> bool
+        ensures { result ≡ is_absurd self.now }
+    {
+        self.has_reflexive_pair() || self.has_impossible_atom() || self.has_repeat()
+    }
+
+    /// Whether a term is to differ from itself.
+    fn has_reflexive_pair(&self) -> bool
+        ensures { result ≡ list_any (λ p. same_term p.0 p.1) self.now.apart }
+    {
+        self.apart().iter().any(|p| p.0.is(p.1))
+    }
+
+    /// Whether an atom or a taken atom is one that no heap has.
+    fn has_impossible_atom(&self) -> bool
+        ensures { result ≡ list_any (λ a. is_impossible self.now.apart a.atom) (parts self.now) }
+    {
+        let apart = self.apart();
+        has_impossible(apart, self.atoms()) || has_impossible(apart, self.taken())
+    }
+
+    /// Whether two atoms or taken atoms have cells at one term.
+    fn has_repeat(&self) -> bool
+        ensures { result ≡ has_repeat self.now.apart (parts self.now) }
+    {
+        let apart = self.apart();
+        repeats(apart, self.atoms(), self.taken()) || repeats(apart, self.taken(), &[])
+    }
+}
+
+/// Whether two terms differ at once, by those pairs.
+fn differ_at_once(apart: &[(Term, Term)], t: Term, u: Term) -> bool
+    ensures { result ≡ differs_at_once apart.now t u }
+{
+    are_different_constants(t, u) || is_listed(apart, t, u)
+}
+
+/// Whether the terms are different constants.
+fn are_different_constants(t: Term, u: Term) -> bool
+    ensures { result ≡ (is_constant t && is_constant u && not (same_term t u)) }
+{
+    t.is_constant() && u.is_constant() && !t.is(u)
+}
+
+/// Whether one of the pairs is of these terms.
+fn is_listed(apart: &[(Term, Term)], t: Term, u: Term) -> bool
+    ensures { result ≡ list_any (is_pair t u) apart.now }
+{
+    apart.iter().any(|p| is_pair(*p, t, u))
+}
+
+/// Whether the pair is of these terms, in either order.
+fn is_pair(p: (Term, Term), t: Term, u: Term) -> bool
+    ensures { result ≡ is_pair t u p }
+{
+    p.0.is(t) && p.1.is(u) || p.0.is(u) && p.1.is(t)
+}
+
+/// Whether the atom has a cell at its root.
+fn has_cell(apart: &[(Term, Term)], atom: &Atom) -> bool
+    ensures { result ≡ has_cell apart.now atom.now }
+{
+    match atom {
+        Atom::Points(..) => true,
+        Atom::Ls(t, u) => differ_at_once(apart, *t, *u),
+        Atom::Tree(t) => differ_at_once(apart, *t, Term::Nil),
+    }
+}
+
+/// Whether the atom has a cell at the term.
+fn allocates(apart: &[(Term, Term)], t: Term, atom: &Atom) -> bool
+    ensures { result ≡ allocates apart.now t atom.now }
+{
+    atom.root().is(t) && has_cell(apart, atom)
+}
+
+/// Whether an atom of the list other than number `except` has a cell at the term.
+fn has_other_allocator(
+    apart: &[(Term, Term)],
+    atoms: &[Numbered],
+    t: Term,
+    except: Option<u32>,
+) -> bool
+    ensures { result ≡ list_any
+        (λ a. not (is_left_out except a.number) && allocates apart.now t a.atom) atoms.now }
+{
+    atoms.iter().any(|a| allocates_beside(apart, a, t, except))
+}
+
+/// Whether the atom isn't number `except` and has a cell at the term.
+fn allocates_beside(apart: &[(Term, Term)], a: &Numbered, t: Term, except: Option<u32>) -> bool
+    ensures { result ≡ (not (is_left_out except a.now.number) && allocates apart.now t a.now.atom) }
+{
+    !is_left_out(except, a.number) && allocates(apart, t, &a.atom)
+}
+
+/// Whether that number is the one left out.
+fn is_left_out(except: Option<u32>, number: u32) -> bool
+    ensures { result ≡ is_left_out except number }
+{
+    match except {
+        Some(other) => number == other,
+        None => false,
+    }
+}
+
+/// Whether an atom of the list is one that no heap has.
+fn has_impossible(apart: &[(Term, Term)], atoms: &[Numbered]) -> bool
+    ensures { result ≡ list_any (λ a. is_impossible apart.now a.atom) atoms.now }
+{
+    atoms.iter().any(|a| is_impossible(apart, &a.atom))
+}
+
+/// Whether no heap has the atom: it is a cell at a constant, or the tree of an integer.
+fn is_impossible(apart: &[(Term, Term)], atom: &Atom) -> bool
+    ensures { result ≡ is_impossible apart.now atom.now }
+{
+    atom.root().is_constant() && has_cell(apart, atom) || is_integer_tree(atom)
+}
+
+/// Whether the atom is the tree of an integer.
+fn is_integer_tree(atom: &Atom) -> bool
+    ensures { result ≡ is_integer_tree atom.now }
+{
+    matches!(atom, Atom::Tree(Term::Int(_)))
+}
+
+/// Whether an atom of the first list and a later one, there or in the second list, have cells at one term.
+fn repeats(apart: &[(Term, Term)], atoms: &[Numbered], later: &[Numbered]) -> bool
+    ensures { (result || has_repeat apart.now later.now)
+        ≡ has_repeat apart.now (atoms.now ++ later.now) }
+{
+    let mut left = atoms;
+    while let Some((first, rest)) = left.split_first() {
+        if recurs(apart, &first.atom, rest, later) {
+            return true;
+        }
+        left = rest;
+    }
+    false
+}
+
+/// Whether the atom and one of the two lists have cells at one term.
+fn recurs(apart: &[(Term, Term)], atom: &Atom, rest: &[Numbered], later: &[Numbered]) -> bool
+    ensures { result ≡ (list_any (λ b. allocates apart.now (root atom.now) b.atom)
+        (rest.now ++ later.now) && has_cell apart.now atom.now) }
+{
+    let root = atom.root();
+    (has_allocator(apart, rest, root) || has_allocator(apart, later, root)) && has_cell(apart, atom)
+}
+
+/// Whether an atom of the list has a cell at the term.
+fn has_allocator(apart: &[(Term, Term)], atoms: &[Numbered], t: Term) -> bool
+    ensures { result ≡ list_any (λ b. allocates apart.now t b.atom) atoms.now }
+{
+    atoms.iter().any(|b| allocates(apart, t, &b.atom))
+}
+
+#[cfg(test)]
+mod tests {
+    use super::*;
+    use crate::fields::FieldTerms;
+    use Shape::{Cell, Ls, Tree};
+    use sf_base::FieldId;
+    use sf_core::Links;
+    use std::alloc::{AllocError, Global};
+
+    const NIL: Term = Term::Nil;
+
+    const X: Term = Term::Sym(0);
+
+    const Y: Term = Term::Sym(1);
+
+    const FIVE: Term = Term::Int(5);
+
+    /// An atom without its number.
+    #[derive(Clone, Copy)]
+    enum Shape {
+        Cell(Term),
+        Ls(Term, Term),
+        Tree(Term),
+    }
+
+    fn atoms(alloc: Global, first: u32, shapes: &[Shape]) -> Result<Vec<Numbered>, AllocError> {
+        let mut all = Vec::new(alloc);
+        let mut number = first;
+        for shape in shapes {
+            let atom = match *shape {
+                Shape::Cell(t) => Atom::Points(t, FieldTerms::new(alloc)),
+                Shape::Ls(t, u) => Atom::Ls(t, u),
+                Shape::Tree(t) => Atom::Tree(t),
+            };
+            all.push(Numbered { number, atom })?;
+            number = number.wrapping_add(1);
+        }
+        Ok(all)
+    }
+
+    /// The atoms are numbered from 1, the taken atoms from 101.
+    fn state(
+        alloc: Global,
+        apart: &[(Term, Term)],
+        kept: &[Shape],
+        taken: &[Shape],
+    ) -> Result<State, AllocError> {
+        let mut pairs = Vec::new(alloc);
+        for pair in apart {
+            pairs.push(*pair)?;
+        }
+        let links = Links {
+            tl: Some(FieldId(0)),
+            l: Some(FieldId(1)),
+            r: Some(FieldId(2)),
+        };
+        let atoms_now = atoms(alloc, 1, kept)?;
+        let taken_now = atoms(alloc, 101, taken)?;
+        Ok(State::from_parts(alloc, links, pairs, atoms_now, taken_now))
+    }
+
+    /// A state, and whether there X and Y differ, X and nil do, X is allocated, and it can't be.
+    #[derive(Clone, Copy)]
+    struct Row<'a> {
+        apart: &'a [(Term, Term)],
+        kept: &'a [Shape],
+        taken: &'a [Shape],
+        answers: [bool; 4],
+    }
+
+    fn known<'a>(
+        apart: &'a [(Term, Term)],
+        kept: &'a [Shape],
+        taken: &'a [Shape],
+        answers: [bool; 4],
+    ) -> Row<'a> {
+        Row {
+            apart,
+            kept,
+            taken,
+            answers,
+        }
+    }
+
+    #[test]
+    fn states_answer_as_they_should(rt: HostRuntime) -> Result<(), AllocError> {
+        const NO: bool = false;
+        const YES: bool = true;
+        let rows = [
+            known(&[], &[], &[], [NO, NO, NO, NO]),
+            known(&[(Y, X)], &[], &[], [YES, NO, NO, NO]),
+            known(&[], &[Cell(X)], &[], [NO, YES, YES, NO]),
+            known(&[], &[Ls(X, NIL)], &[], [NO, NO, NO, NO]),
+            known(&[(X, NIL)], &[Ls(X, NIL)], &[], [NO, YES, YES, NO]),
+            known(&[(X, NIL)], &[Tree(X)], &[], [NO, YES, YES, NO]),
+            known(&[], &[Cell(X), Cell(Y)], &[], [YES, YES, YES, NO]),
+            known(&[], &[Cell(X)], &[Cell(Y)], [YES, YES, YES, NO]),
+            known(&[], &[Cell(X), Cell(X)], &[], [NO, YES, YES, YES]),
+            known(&[], &[Cell(X)], &[Cell(X)], [NO, YES, YES, YES]),
+            known(&[], &[Cell(X), Ls(X, Y)], &[], [NO, YES, YES, NO]),
+            known(&[(X, Y)], &[Cell(X), Ls(X, Y)], &[], [YES, YES, YES, YES]),
+            known(&[(NIL, NIL)], &[], &[], [NO, NO, NO, YES]),
+            known(&[], &[Ls(NIL, FIVE)], &[], [NO, NO, NO, YES]),
+            known(&[], &[Ls(FIVE, FIVE)], &[], [NO, NO, NO, NO]),
+            known(&[], &[], &[Tree(FIVE)], [NO, NO, NO, YES]),
+            known(&[], &[Tree(NIL)], &[], [NO, NO, NO, NO]),
+        ];
+        for (i, r) in rows.iter().enumerate() {
+            let s = state(rt.alloc(), r.apart, r.kept, r.taken)?;
+            let answers = [
+                s.differs(X, Y),
+                s.differs(NIL, X),
+                s.is_allocated(X, None),
+                s.is_absurd(),
+            ];
+            assert_eq!(rt; answers, r.answers, "row {i}");
+        }
+        Ok(())
+    }
+
+    #[test]
+    fn an_atom_that_is_left_out_allocates_nothing(rt: HostRuntime) -> Result<(), AllocError> {
+        let s = state(rt.alloc(), &[], &[Cell(X)], &[Cell(Y)])?;
+        assert!(rt; s.is_allocated(X, Some(101)));
+        assert!(rt; !s.is_allocated(X, Some(1)));
+        assert!(rt; !s.is_allocated(Y, Some(101)));
+        assert!(rt; s.differs(NIL, FIVE));
+        assert!(rt; !s.differs(FIVE, FIVE));
+        Ok(())
+    }
+}
