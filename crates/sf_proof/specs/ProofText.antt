@@ -1,8 +1,7 @@
 -- The text of a proof: the line of the verdict, and then a line for each tag.
 -- Numbers are decimal, as The Open Group's "printf" prints them (2018).
-use Rattle.std.specs.Prelude.{ℕ, Option, Some, None, List, [], ◌∷◌, ◌++◌, codes, decimal}
+use Rattle.std.specs.Prelude.{ℕ, List, [], ◌∷◌, ◌++◌, codes, decimal}
 use Rattle.std.specs.Fmt.{signed_decimal}
-use Rattle.std.specs.List.{slice_get}
 use Rattle.sf_base.specs.declared.ids.ProcId.{ProcId}
 use Rattle.sf_core.specs.Program.Named.{name_of}
 use Rattle.sf_core.specs.Program.Syntax.{Program}

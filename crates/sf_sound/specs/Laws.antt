@@ -1,7 +1,7 @@
 -- The laws of the rows: what a row says of the values and heaps of which its goal holds, with the same
 -- values of the symbols.
 -- Berdine, Calcagno, O'Hearn, "Symbolic Execution with Separation Logic" (2005): the soundness of each rule.
-use Rattle.std.specs.Prelude.{◌≡◌, ℕ, ◌<◌, ◌==◌, Bool, true, false, ◌||◌, cond, Option, Some, List, [], ◌∷◌, is_some, ◌⊎◌}
+use Rattle.std.specs.Prelude.{◌≡◌, ℕ, ◌==◌, Bool, true, false, ◌||◌, cond, Option, Some, List, [], ◌∷◌, is_some, ◌⊎◌}
 use Rattle.std.specs.Option.{unwrap_or}
 use Rattle.sf_base.specs.declared.ids.FieldId.{FieldId}
 use Rattle.sf_base.specs.declared.ids.ProcId.{ProcId}
@@ -24,6 +24,7 @@ use Rattle.sf_sym.specs.declared.tag.Tag.{Tag}
 use Rattle.sf_sym.specs.declared.tag.Tag.TheVariants as t
 use Rattle.sf_sym.specs.declared.term.Term.{Term}
 use Rattle.std.specs.List.{AllByRecursion}
+use Rattle.sf_sym.specs.Fields.{AreOrdered}
 use Rattle.sf_sym.specs.Goal.{Item, run, add, take, return, Goal}
 use Rattle.sf_sym.specs.Holds.{AtomsHold, PendingHolds, HoldsAt, Holds}
 use Rattle.sf_base.specs.Variables.{same_var}
@@ -57,11 +58,6 @@ abbrev pub AddsComeFirst : List Item → Type 0
 AddsComeFirst [] = Unit {0}
 AddsComeFirst (add p given ∷ todo) = AddsComeFirst todo
 AddsComeFirst (item ∷ todo) = AllByRecursion IsNoAdd todo
-
--- the fields are in their order, each once
-abbrev pub AreOrdered : List (FieldId × Term) → Type 0
-AreOrdered [] = Unit {0}
-AreOrdered (f ∷ fs) = AllByRecursion (λ (g : FieldId × Term). f.0.0 < g.0.0) fs × AreOrdered fs
 
 -- a cell's fields are in order
 abbrev pub HasOrder : Atom → Type 0

@@ -1,10 +1,10 @@
 -- Lemmas on terms and atoms that the proofs of the crates above cite. Each states what it says; none is a definition.
 -- Ordinary: equality of terms is decided by cases, and ⋆ is associative.
-use Rattle.std.specs.Prelude.{◌≡◌, ℕ, Bool, true, false, cond, Some, None, List, [], ◌∷◌, ◌++◌}
-use Rattle.std.proofs.Common.{refl, ap}
-use Rattle.std.proofs.lemmas.Bool.{false≢true}
-use Rattle.std.proofs.lemmas.Bool.Decides.{Decides-int_eq, Decides-eqb}
-use Rattle.sf_base.proofs.HeapSplits.{star-drop_left, star-assoc_right, star-map_right}
+use Rattle.std.specs.Prelude.{◌≡◌, ℕ, ◌<◌, ◌==◌, nat_lt, Bool, true, false, cond, Some, None, List, [], ◌∷◌, ◌++◌}
+use Rattle.std.proofs.Common.{refl, ap, subst, arith}
+use Rattle.std.proofs.lemmas.Bool.{false≢true, ltb-true}
+use Rattle.std.proofs.lemmas.Bool.Decides.{Decides-int_eq, Decides-eqb, nat_tests}
+use Rattle.sf_base.proofs.HeapSplits.{at-same, star-drop_left, star-assoc_right, star-map_right}
 use Rattle.sf_base.specs.declared.value.Value.{Value}
 use Rattle.sf_base.specs.HeapStore.{Heap, ◌⋆◌}
 use Rattle.sf_core.specs.declared.fields.Links.{Links}
@@ -15,6 +15,7 @@ use Rattle.sf_sym.specs.declared.atom.Numbered.{Numbered}
 use Rattle.sf_sym.specs.declared.term.Term.{Term}
 use Rattle.sf_sym.specs.declared.term.Term.TheVariants.{Nil, Int, Sym}
 use Rattle.sf_sym.specs.Cells.{fields_at}
+use Rattle.sf_sym.specs.Fields.{AreAfter, AreOrdered, put_term}
 use Rattle.sf_sym.specs.Holds.{AtomsHold}
 use Rattle.sf_sym.specs.Tests.{same_term}
 
@@ -49,3 +50,36 @@ points_at (Points root gs) t fields e =
     points_step root t gs fields (same_term root t) (same_term_is root t) e
 points_at (Ls u v) t fields e = absurd (cc)
 points_at (Tree u) t fields e = absurd (cc)
+
+-- what comes after a field comes after each one before it
+pub after-mono : (m n : ℕ) (fs : List (FieldId × Term)) → m < n → AreAfter n fs → AreAfter m fs
+after-mono m n [] d b = tt
+after-mono m n (f ∷ fs) d b =
+    let e : n < f.0.0 = b.0 in let r : m < f.0.0 = grind arith in (r, after-mono m n fs d b.1)
+
+is-more : (m n : ℕ) → m == n ≡ false → nat_lt n m ≡ false → m < n
+is-more m n e d = grind (arith, nat_tests)
+
+-- so does what is put in
+put-after : (n : ℕ) (f : FieldId) (u : Term) (fs : List (FieldId × Term)) → n < f.0 → AreAfter n fs
+    → AreAfter n (put_term f u fs)
+put-after n f u [] d b = (d, tt)
+put-after n f u (g ∷ gs) d b = go (g.0.0 == f.0) (nat_lt f.0 g.0.0) (put-after n f u gs d b.1)
+  where
+    go : (s t : Bool) → AreAfter n (put_term f u gs)
+        → AreAfter n (cond s ((f, u) ∷ gs) (cond t ((f, u) ∷ g ∷ gs) (g ∷ put_term f u gs)))
+    go true t r = (d, b.1)
+    go false true r = (d, b)
+    go false false r = (b.0, r)
+
+-- the fields stay in order
+pub put-order : (f : FieldId) (u : Term) (fs : List (FieldId × Term)) → AreOrdered fs
+    → AreOrdered (put_term f u fs)
+put-order f u [] o = (tt, tt)
+put-order f u (g ∷ gs) o = go (g.0.0 == f.0) (nat_lt f.0 g.0.0) refl refl (put-order f u gs o.1)
+  where
+    go : (s t : Bool) → g.0.0 == f.0 ≡ s → nat_lt f.0 g.0.0 ≡ t → AreOrdered (put_term f u gs)
+        → AreOrdered (cond s ((f, u) ∷ gs) (cond t ((f, u) ∷ g ∷ gs) (g ∷ put_term f u gs)))
+    go true t c d r = (subst (λ n. AreAfter n gs) (at-same f.0 g.0.0 c) o.0, o.1)
+    go false true c d r = ((ltb-true f.0 g.0.0 d, after-mono f.0 g.0.0 gs (ltb-true f.0 g.0.0 d) o.0), o)
+    go false false c d r = (put-after g.0.0 f u gs (is-more g.0.0 f.0 c d) o.0, r)
