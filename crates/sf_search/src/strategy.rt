@@ -15,9 +15,7 @@ ghost use Rattle.sf_rules.specs.Table.{state_after_assumption};
 
 use sf_base::FieldId;
 use sf_core::{Command, Conjunct, Operand};
-use sf_rules::{
-    are_fitting, are_known, as_cell, as_mutation, known_term, peek_item, term_of,
-};
+use sf_rules::{are_fitting, are_known, as_cell, as_mutation, known_term, peek_item, term_of};
 use sf_sym::{Goal, Item, Numbered, Pending, State, Tag, Term};
 
 /// Why the strategy goes no further at a goal.
@@ -109,9 +107,7 @@ fn is_absurd_beside(state: &State, x: &Numbered) -> bool
     ensures { result ≡ is_absurd_beside state.now x.now }
 {
     let root = x.atom.root();
-    root.is_constant()
-        || state.is_allocated(Term::Nil, None)
-        || state.is_allocated(root, Some(x.number))
+    root.is_constant() || state.allocated(Term::Nil, None) || state.allocated(root, Some(x.number))
 }
 
 /// What is known of the state that a tag leaves.

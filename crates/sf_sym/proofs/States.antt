@@ -12,7 +12,7 @@ use Rattle.sf_sym.specs.declared.term.Term.{Term}
 use Rattle.sf_sym.specs.Goal.{Goal}
 use Rattle.sf_sym.specs.Holds.{term_value, AtomsHold, AddsHold, HoldsAt}
 use Rattle.sf_sym.specs.Laws.{DifferingTermsDiffer, AllocatedTermsAreLocations, HeldStatesAreNotAbsurd}
-use Rattle.sf_sym.specs.Tests.{is_constant, same_term, differs_at_once, allocates, is_left_out, parts, is_allocated, are_both_allocated, is_impossible, has_repeat}
+use Rattle.sf_sym.specs.Tests.{is_constant, same_term, differs_at_once, allocates, is_left_out, parts, allocated, are_both_allocated, is_impossible, has_repeat}
 use Rattle.sf_base.proofs.HeapSplits.{star-assoc_left, star-map_left}
 use Rattle.sf_base.proofs.Bools.{not-both, and-left, and-right}
 use Rattle.sf_base.proofs.Elements.{any-some}
@@ -44,9 +44,9 @@ allocated-differ : (w : ℕ → Value) (goal : Goal) (e : Var → Option Value) 
 allocated-differ w goal e heap h t u b =
     let p = holds-parts w goal e heap h in
     let s = goal.state in
-    let a = any-some (λ a. allocates s.apart t a.atom && is_allocated s u (Some a.number)) (parts s) b in
-    let one = (and-left (allocates s.apart t a.0.atom) (is_allocated s u (Some a.0.number)) a.1) in
-    let other = (and-right (allocates s.apart t a.0.atom) (is_allocated s u (Some a.0.number)) a.1) in
+    let a = any-some (λ a. allocates s.apart t a.atom && allocated s u (Some a.number)) (parts s) b in
+    let one = (and-left (allocates s.apart t a.0.atom) (allocated s u (Some a.0.number)) a.1) in
+    let other = (and-right (allocates s.apart t a.0.atom) (allocated s u (Some a.0.number)) a.1) in
     atoms-differ w s.links s.apart h.apart t u
     (λ x. (x.number == a.0.number) && allocates s.apart t x.atom)
     (λ x. not (x.number == a.0.number) && allocates s.apart u x.atom)
@@ -64,12 +64,12 @@ allocated-differ w goal e heap h t u b =
 -- a constant and an allocated term have different values
 constant-differs : (w : ℕ → Value) (goal : Goal) (e : Var → Option Value) (heap : Heap)
     → HoldsAt w goal e heap
-    → (t u : Term) → is_constant t && is_allocated goal.state u None ≡ true → term_value w t ≢ term_value w u
+    → (t u : Term) → is_constant t && allocated goal.state u None ≡ true → term_value w t ≢ term_value w u
 unfolding AllocatedTermsAreLocations
 constant-differs w goal e heap h t u c i =
     let l = allocated_terms_are_locations w goal e heap h u None
-    (and-right (is_constant t) (is_allocated goal.state u None) c) in
-    term-constant_no_location w t l.location (and-left (is_constant t) (is_allocated goal.state u None) c)
+    (and-right (is_constant t) (allocated goal.state u None) c) in
+    term-constant_no_location w t l.location (and-left (is_constant t) (allocated goal.state u None) c)
     (i ∙ l.is)
 
 -- terms that differ have different values
@@ -78,12 +78,12 @@ unfolding DifferingTermsDiffer
 differing_terms_differ w goal e heap h t u d =
     let s = goal.state in
     elim
-    (or_cases (differs_at_once s.apart t u || is_constant t && is_allocated s u None || is_constant u
-    && is_allocated s t None) (are_both_allocated s t u) d) [
+    (or_cases (differs_at_once s.apart t u || is_constant t && allocated s u None || is_constant u
+    && allocated s t None) (are_both_allocated s t u) d) [
       | inl y ↦
-          elim (or_cases (differs_at_once s.apart t u || is_constant t && is_allocated s u None)
-          (is_constant u && is_allocated s t None) y) [
-            | inl z ↦ elim (or_cases (differs_at_once s.apart t u) (is_constant t && is_allocated s u None) z) [
+          elim (or_cases (differs_at_once s.apart t u || is_constant t && allocated s u None)
+          (is_constant u && allocated s t None) y) [
+            | inl z ↦ elim (or_cases (differs_at_once s.apart t u) (is_constant t && allocated s u None) z) [
               | inl x ↦ direct-differs w s.apart t u h.apart x
               | inr x ↦ constant-differs w goal e heap h t u x
             ]

@@ -8,7 +8,7 @@ use Rattle.sf_base.specs.HeapStore.{Cell, Heap}
 use Rattle.sf_sym.specs.declared.term.Term.{Term}
 use Rattle.sf_sym.specs.Goal.{Goal}
 use Rattle.sf_sym.specs.Holds.{term_value, HoldsAt}
-use Rattle.sf_sym.specs.Tests.{differs, is_allocated, is_absurd}
+use Rattle.sf_sym.specs.Tests.{differs, allocated, is_absurd}
 
 -- the value is the location of a cell of the heap
 pub record IsLocationIn (heap : Heap) (v : Value) : Type 0 where
@@ -32,7 +32,7 @@ DifferingTermsDiffer =
 -- an allocated term is a location of the heap
 unfoldable pub AllocatedTermsAreLocations : Type 0
 AllocatedTermsAreLocations =
-    WhereHolds (λ w goal heap. (t : Term) (except : Option ℕ) → IsTrue (is_allocated goal.state t except)
+    WhereHolds (λ w goal heap. (t : Term) (except : Option ℕ) → IsTrue (allocated goal.state t except)
     → IsLocationIn heap (term_value w t))
 
 -- the state isn't absurd

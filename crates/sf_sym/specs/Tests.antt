@@ -65,20 +65,20 @@ abbrev pub parts : State → List Numbered
 parts s = s.atoms ++ s.taken
 
 -- some atom or taken atom, other than the one that is left out, allocates the term
-abbrev pub is_allocated : State → Term → Option ℕ → Bool
-is_allocated s t except =
+abbrev pub allocated : State → Term → Option ℕ → Bool
+allocated s t except =
     list_any (λ a. not (is_left_out except a.number) && allocates s.apart t a.atom) (parts s)
 
 -- two different atoms allocate the two terms
 abbrev pub are_both_allocated : State → Term → Term → Bool
 are_both_allocated s t u =
-    list_any (λ a. allocates s.apart t a.atom && is_allocated s u (Some a.number)) (parts s)
+    list_any (λ a. allocates s.apart t a.atom && allocated s u (Some a.number)) (parts s)
 
 -- two terms surely differ: at once, or as a constant and a location, or as the locations of two cells
 abbrev pub differs : State → Term → Term → Bool
 differs s t u =
-    differs_at_once s.apart t u || is_constant t && is_allocated s u None || is_constant u
-    && is_allocated s t None || are_both_allocated s t u
+    differs_at_once s.apart t u || is_constant t && allocated s u None || is_constant u
+    && allocated s t None || are_both_allocated s t u
 
 -- an atom has a cell at a constant
 abbrev pub is_at_constant : List (Term × Term) → Atom → Bool

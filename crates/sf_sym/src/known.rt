@@ -2,7 +2,7 @@
 
 ghost use Rattle.std.specs.Prelude.{◌≡◌, ◌&&◌, ◌||◌, ◌++◌, not};
 ghost use Rattle.std.specs.List.{list_any};
-ghost use Rattle.sf_sym.specs.Tests.{is_allocated, allocates, are_both_allocated, differs, differs_at_once, has_cell, has_repeat, is_absurd, is_constant, is_impossible, is_integer_tree, is_left_out, is_pair, parts, root, same_term};
+ghost use Rattle.sf_sym.specs.Tests.{allocated, allocates, are_both_allocated, differs, differs_at_once, has_cell, has_repeat, is_absurd, is_constant, is_impossible, is_integer_tree, is_left_out, is_pair, parts, root, same_term};
 
 use crate::atom::{Atom, Numbered};
 use crate::state::State;
@@ -17,8 +17,8 @@ impl State {
     }
 
     /// Whether an atom or a taken atom other than number `except` has a cell at the term.
-    pub fn is_allocated(&self, t: Term, except: Option<u32>) -> bool
-        ensures { result ≡ is_allocated self.now t except }
+    pub fn allocated(&self, t: Term, except: Option<u32>) -> bool
+        ensures { result ≡ allocated self.now t except }
     {
         let apart = self.apart();
         has_other_allocator(apart, self.atoms(), t, except)
@@ -32,8 +32,8 @@ impl State {
         ensures { result ≡ differs self.now t u }
     {
         self.differs_at_once(t, u)
-            || t.is_constant() && self.is_allocated(u, None)
-            || u.is_constant() && self.is_allocated(t, None)
+            || t.is_constant() && self.allocated(u, None)
+            || u.is_constant() && self.allocated(t, None)
             || self.are_both_allocated(t, u)
     }
 
@@ -48,7 +48,7 @@ impl State {
     /// at the second.
     fn has_first(&self, atoms: &[Numbered], t: Term, u: Term) -> bool
         ensures { result ≡ list_any
-            (λ a. allocates self.now.apart t a.atom && is_allocated self.now u (Some a.number))
+            (λ a. allocates self.now.apart t a.atom && allocated self.now u (Some a.number))
             atoms.now }
     {
         atoms.iter().any(|a| self.allocates_first(a, t, u))
@@ -57,9 +57,9 @@ impl State {
     /// Whether the atom has a cell at the first term, and another one has a cell at the second.
     fn allocates_first(&self, a: &Numbered, t: Term, u: Term) -> bool
         ensures { result ≡ (allocates self.now.apart t a.now.atom
-            && is_allocated self.now u (Some a.now.number)) }
+            && allocated self.now u (Some a.now.number)) }
     {
-        allocates(self.apart(), t, &a.atom) && self.is_allocated(u, Some(a.number))
+        allocates(self.apart(), t, &a.atom) && self.allocated(u, Some(a.number))
     }
 
     /// Whether no store and heap have the state: a term would differ from itself, or a constant would be
@@ -335,7 +335,7 @@ mod tests {
             let answers = [
                 s.differs(X, Y),
                 s.differs(NIL, X),
-                s.is_allocated(X, None),
+                s.allocated(X, None),
                 s.is_absurd(),
             ];
             assert_eq!(rt; answers, r.answers, "row {i}");
@@ -346,9 +346,9 @@ mod tests {
     #[test]
     fn an_atom_that_is_left_out_allocates_nothing(rt: HostRuntime) -> Result<(), AllocError> {
         let s = state(rt.alloc(), &[], &[Cell(X)], &[Cell(Y)])?;
-        assert!(rt; s.is_allocated(X, Some(101)));
-        assert!(rt; !s.is_allocated(X, Some(1)));
-        assert!(rt; !s.is_allocated(Y, Some(101)));
+        assert!(rt; s.allocated(X, Some(101)));
+        assert!(rt; !s.allocated(X, Some(1)));
+        assert!(rt; !s.allocated(Y, Some(101)));
         assert!(rt; s.differs(NIL, FIVE));
         assert!(rt; !s.differs(FIVE, FIVE));
         Ok(())

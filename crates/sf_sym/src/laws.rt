@@ -9,7 +9,7 @@ pub fn differing_terms_differ()
     ensures { DifferingTermsDiffer }
 {}
 
-/// A term for which `State::is_allocated` is true is the location of a cell of the heap.
+/// A term for which `State::allocated` is true is the location of a cell of the heap.
 #[tactic(auto, using(crate::proofs::States::allocated_terms_are_locations))]
 pub fn allocated_terms_are_locations()
     ensures { AllocatedTermsAreLocations }

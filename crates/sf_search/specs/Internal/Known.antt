@@ -6,14 +6,14 @@ use Rattle.sf_sym.specs.State.{State}
 use Rattle.sf_sym.specs.declared.tag.Tag.{Tag}
 use Rattle.sf_sym.specs.declared.tag.Tag.TheVariants.{Add, Mutate, Cell, Return}
 use Rattle.sf_sym.specs.declared.term.Term.TheVariants.{Nil}
-use Rattle.sf_sym.specs.Tests.{is_allocated, is_absurd, is_constant, root}
+use Rattle.sf_sym.specs.Tests.{allocated, is_absurd, is_constant, root}
 use Rattle.sf_search.specs.declared.strategy.Known.{Known}
 use Rattle.sf_search.specs.declared.strategy.Known.TheVariants.{Nothing, Possible, Added}
 
 -- the atom is at a constant, or some atom is at nil, or another one is at the same term
 abbrev pub is_absurd_beside : State → Numbered → Bool
 is_absurd_beside s x =
-    is_constant (root x.atom) || is_allocated s Nil None || is_allocated s (root x.atom) (Some x.number)
+    is_constant (root x.atom) || allocated s Nil None || allocated s (root x.atom) (Some x.number)
 
 -- whether the state is absurd is decided by its last atom, where none is taken
 abbrev pub IsAdded : State → Type 0
