@@ -52,9 +52,9 @@ regions r (f ∷ frames) = exits r f.todo + regions r frames
 
 -- Slots
 -- the slot is one of the entry's references, or of a variable of a resource: it is in no frame's room
-abbrev pub is_kept : Program → (entry : Procedure) → Slot → Bool
-is_kept p g (own e i) = (e == 0) && ltb i g.references
-is_kept p g (shared r i) = ltb i (variable_count (slice_get p.resources r.0))
+abbrev pub is_outer : Program → (entry : Procedure) → Slot → Bool
+is_outer p g (own e i) = (e == 0) && ltb i g.references
+is_outer p g (shared r i) = ltb i (variable_count (slice_get p.resources r.0))
 
 -- how many of the frames have the slot in their rooms
 abbrev pub rooms_in : Slot → List Frame → ℕ
@@ -66,9 +66,9 @@ abbrev pub rooms_with : Slot → Task → ℕ
 rooms_with slot (runs frames) = rooms_in slot frames
 rooms_with slot (waits frames one two) = rooms_in slot frames + (rooms_with slot one + rooms_with slot two)
 
--- how often the slot is there: as one that is kept, and in the rooms of the tree
+-- how often the slot is there: outside the rooms, and in those of the tree
 abbrev pub times_there : Program → (entry : Procedure) → Task → Slot → ℕ
-times_there p g t slot = cond (is_kept p g slot) 1 0 + rooms_with slot t
+times_there p g t slot = cond (is_outer p g slot) 1 0 + rooms_with slot t
 
 -- Names
 -- those slots, and those of the rooms of these frames
@@ -125,12 +125,12 @@ pub record IsInOrder (p : Program) (entry : Procedure) (c : Config) : Type 0 whe
   pub numbers : EachStack (AllByRecursion (λ f. c.used f.fixed.room.event ≡ true)) c.tasks
   -- the start's number is used
   pub start : c.used 0 ≡ true
-  -- rooms are disjoint from one another and from what is kept
+  -- rooms are disjoint from one another and from the slots outside them
   pub disjoint : (slot : Slot) → times_there p entry c.tasks slot ≤ 1
-  -- the store has exactly what is kept and the rooms
+  -- the store has exactly the rooms and the slots outside them
   pub store : (slot : Slot) → is_some (c.common.store slot) ≡ ltb 0 (times_there p entry c.tasks slot)
-  -- frames name what is kept, their own rooms and those of the frames below them, across forks too
-  pub names : NamesInTree p (is_kept p entry) c.tasks
+  -- frames name slots outside the rooms, of their own rooms and of those of the frames below them, across forks too
+  pub names : NamesInTree p (is_outer p entry) c.tasks
   -- the entry's frame is at the bottom of the entry's task, so its slots are there
   pub bottom : EndsInEntry entry (stack_of (Some c.tasks))
   -- tasks that wait have frames

@@ -11,7 +11,7 @@ use Rattle.sf_base.specs.declared.limits.TheConstants.{TURNS}
 use Rattle.sf_base.specs.declared.path.Turn.TheVariants.{Left as left, Right as right}
 use Rattle.sf_base.specs.HeapStore.{Slot, shared, own}
 use Rattle.sf_core.specs.Machine.Config.{Item, command, leave, items, Room, in_room, Fixed, Frame, Task, runs, waits, Path, Common, Config, task_at, put_task, adds, IsCalled, IsOver}
-use Rattle.sf_core.specs.Machine.InOrder.{EachStack, stack_of, ItemWithin, FrameIsFormed, exits, regions, is_kept, rooms_with, times_there, with_rooms, NamesInTree, EndsInEntry, WaitersHaveFrames, HasTurns, IsInOrder}
+use Rattle.sf_core.specs.Machine.InOrder.{EachStack, stack_of, ItemWithin, FrameIsFormed, exits, regions, is_outer, rooms_with, times_there, with_rooms, NamesInTree, EndsInEntry, WaitersHaveFrames, HasTurns, IsInOrder}
 use Rattle.sf_core.specs.Machine.Next.{frame_next}
 use Rattle.sf_core.specs.Machine.Step.{Event, index_of, close_room, arguments, room_for, room_count, callee_frame, fork_task, task_with, procedure_at, Goes, TaskStep, Step}
 use Rattle.sf_core.specs.Program.Formed.{IsFormed}
@@ -34,9 +34,9 @@ module _ (p : Program) (g0 : Procedure) (c : Config) (o : IsInOrder p g0 c) wher
 
   -- what a task names is there
   pub names-now : (path : Path) (from : Task) → task_at path c.tasks ≡ Some from → NamesAt p There from
-  names-now path from e = names-at p There (is_kept p g0) path c.tasks from e o.names
+  names-now path from e = names-at p There (is_outer p g0) path c.tasks from e o.names
       (λ slot h. counts-there (times_there p g0 c.tasks slot) (is_some (c.common.store slot)) (counts-now slot)
-      (let one : one_if (is_kept p g0 slot) ≡ 1 = ap one_if h in omega arith))
+      (let one : one_if (is_outer p g0 slot) ≡ 1 = ap one_if h in omega arith))
       (λ slot l. counts-there (times_there p g0 c.tasks slot) (is_some (c.common.store slot)) (counts-now slot)
       (let some : 1 ≤ rooms_with slot c.tasks = l in omega arith))
 
@@ -91,7 +91,7 @@ module _ (p : Program) (g0 : Procedure) (c : Config) (o : IsInOrder p g0 c) wher
           (is_some (t.store slot)) (counts slot);
       store = λ slot. counts-store (times_there p g0 (put_task ev.task u c.tasks) slot)
           (is_some (t.store slot)) (counts slot);
-      names = names-put p (is_kept p g0) ev.task c.tasks from u e names o.names;
+      names = names-put p (is_outer p g0) ev.task c.tasks from u e names o.names;
       bottom = bottom-put g0 ev.task c.tasks u bottom o.bottom;
       waiting = waiting-put ev.task c.tasks u o.waiting waiting;
       depth = turns-put TURNS ev.task c.tasks from u o.depth e turns;

@@ -1,4 +1,4 @@
--- That the store has exactly what is kept and the rooms, each once, after each kind of event.
+-- That the store has exactly the rooms and the slots outside them, each once, after each kind of event.
 -- Names: `counts-WHAT` speaks of how often a slot is there, `fresh-WHAT` of slots of a number that isn't used,
 -- `names-WHAT` of the slots that frames name.
 use Rattle.std.specs.Prelude.{◌≡◌, ℕ, zero, suc, ◌+◌, ◌==◌, ◌≤◌, Bool, true, false, cond, ◌&&◌, ltb, leb, Option, Some, None, List, [], ◌∷◌, ◌⊎◌, is_some}
@@ -12,7 +12,7 @@ use Rattle.sf_base.specs.declared.path.Turn.TheVariants.{Left as left, Right as 
 use Rattle.sf_base.specs.declared.value.Value.{Value}
 use Rattle.sf_base.specs.HeapStore.{Slot, shared, own, same_slot, Store}
 use Rattle.sf_core.specs.Machine.Config.{Room, in_room, Fixed, Frame, Item, Task, runs, waits, Path, Common, task_at, put_task}
-use Rattle.sf_core.specs.Machine.InOrder.{EachStack, is_kept, rooms_in, rooms_with, times_there, with_rooms, NamesInTree}
+use Rattle.sf_core.specs.Machine.InOrder.{EachStack, is_outer, rooms_in, rooms_with, times_there, with_rooms, NamesInTree}
 use Rattle.sf_core.specs.Machine.Step.{set_slot}
 use Rattle.sf_core.specs.Program.Syntax.{Procedure, Program}
 use Rattle.sf_core.proofs.Machine.InOrder.Trees.{rooms-put}
@@ -79,9 +79,9 @@ fresh-tree used n i (waits frames one two) e h =
     let right : rooms_with (own n i) two ≡ 0 = fresh-tree used n i two e h.2 in
     omega arith
 
-fresh-kept : (p : Program) (g : Procedure) (used : ℕ → Bool) (n i : ℕ) → used n ≡ false → used 0 ≡ true
-    → is_kept p g (own n i) ≡ false
-fresh-kept p g used n i e z = go (n == 0) refl
+fresh-outer : (p : Program) (g : Procedure) (used : ℕ → Bool) (n i : ℕ) → used n ≡ false → used 0 ≡ true
+    → is_outer p g (own n i) ≡ false
+fresh-outer p g used n i e z = go (n == 0) refl
   where
     go : (b : Bool) → n == 0 ≡ b → (b && ltb i g.references) ≡ false
     go true h = absurd (true≢false (sym z ∙ ap used (sym (at-same 0 n h)) ∙ e))
@@ -96,7 +96,7 @@ fresh-slot p g used t room (shared r i) e z h q = absurd (true≢false (sym q))
 fresh-slot p g used t room (own n i) e z h q =
     let number : n ≡ room.event = at-same room.event n (and_parts (n == room.event) _ q).0 in
     let new : used n ≡ false = ap used number ∙ e in
-    let kept : one_if (is_kept p g (own n i)) ≡ 0 = ap one_if (fresh-kept p g used n i new z) in
+    let kept : one_if (is_outer p g (own n i)) ≡ 0 = ap one_if (fresh-outer p g used n i new z) in
     let rooms : rooms_with (own n i) t ≡ 0 = fresh-tree used n i t new h in
     omega arith
 
@@ -109,8 +109,8 @@ counts-put : (p : Program) (g : Procedure) (path : Path) (t from u : Task) (slot
 counts-put p g path t from u slot before after there e k =
     let rooms : rooms_with slot (put_task path u t) + rooms_with slot from
     ≡ rooms_with slot t + rooms_with slot u = rooms-put slot path t from u there in
-    let old : one_if (is_kept p g slot) + rooms_with slot t ≡ before = e in
-    let goal : one_if (is_kept p g slot) + rooms_with slot (put_task path u t) ≡ after = omega arith in
+    let old : one_if (is_outer p g slot) + rooms_with slot t ≡ before = e in
+    let goal : one_if (is_outer p g slot) + rooms_with slot (put_task path u t) ≡ after = omega arith in
     goal
 
 -- where the rooms stay, and what the store has
@@ -194,12 +194,12 @@ counts-closed p g s w path t from u room there c r i slot =
     let rooms : rooms_with slot from ≡ one_if (in_room room slot) + rooms_with slot u = r slot in
     let tree : rooms_with slot (put_task path u t) + rooms_with slot from
     ≡ rooms_with slot t + rooms_with slot u = rooms-put slot path t from u there in
-    let some : one_if (in_room room slot) + (one_if (is_kept p g slot) + rooms_with slot (put_task path u t))
+    let some : one_if (in_room room slot) + (one_if (is_outer p g slot) + rooms_with slot (put_task path u t))
     ≡ times_there p g t slot = omega arith in
     let stores : one_if (in_room room slot) + one_if (is_some (w slot)) ≡ one_if (is_some (s slot)) =
     ap (λ z. one_if (in_room room slot) + one_if (is_some z)) (i slot)
     ∙ closed (in_room room slot) (s slot) (times_there p g t slot)
-    (one_if (is_kept p g slot) + rooms_with slot (put_task path u t)) (c slot) some in
+    (one_if (is_outer p g slot) + rooms_with slot (put_task path u t)) (c slot) some in
     counts-put p g path t from u slot (one_if (is_some (s slot))) (one_if (is_some (w slot))) there (c slot)
     (omega arith)
 

@@ -15,7 +15,7 @@ use Rattle.sf_base.specs.declared.ids.Var.TheVariants.{Own, Shared}
 use Rattle.sf_base.specs.declared.path.Turn.TheVariants.{Left as left, Right as right}
 use Rattle.sf_base.specs.HeapStore.{Heap, Slot, shared, own, Store}
 use Rattle.sf_core.specs.Machine.Config.{items, in_room, runs, Path, Config, task_at}
-use Rattle.sf_core.specs.Machine.InOrder.{stack_of, exits, regions, is_kept, times_there, with_rooms, NamesOf, IsInOrder}
+use Rattle.sf_core.specs.Machine.InOrder.{stack_of, exits, regions, is_outer, times_there, with_rooms, NamesOf, IsInOrder}
 use Rattle.sf_core.specs.Machine.Reach.{Reach}
 use Rattle.sf_core.specs.Machine.Start.{entry_slot, entry_frame, Start}
 use Rattle.sf_core.specs.Machine.Step.{Event, procedure_at, room_for}
@@ -44,7 +44,7 @@ module _ (p : Program) (f : ProcId) (store : Store) (heap : Heap) (c : Config) (
       omega (arith, d)
 
   start-shared : (r : ResId) (i : ℕ)
-      → is_kept p s.procedure (shared r i) ≡ is_some (store (shared r i))
+      → is_outer p s.procedure (shared r i) ≡ is_some (store (shared r i))
   start-shared r i = bool-same (ltb i (variable_count (slice_get p.resources r.0))) (is_some (store (shared r i)))
       (λ h. let k = s.kept (shared r i) (resource-there (slice_get p.resources r.0) i h) in ap is_some k.1)
       (λ h. let v = is-there (store (shared r i)) h in
@@ -87,14 +87,14 @@ module _ (p : Program) (f : ProcId) (store : Store) (heap : Heap) (c : Config) (
   start-counts : (slot : Slot)
       → times_there p s.procedure (runs (entry_frame f s.procedure ∷ [])) slot ≡ one_if (is_some (store slot))
   start-counts (shared r i) =
-      let b : one_if (is_kept p s.procedure (shared r i)) ≡ one_if (is_some (store (shared r i))) =
+      let b : one_if (is_outer p s.procedure (shared r i)) ≡ one_if (is_some (store (shared r i))) =
       ap one_if (start-shared r i) in
       omega arith
   start-counts (own e i) =
       own-parts (e == 0) i (s.procedure).references (length (s.procedure).names) few-references
       ∙ ap one_if (start-own e i)
 
-  start-names : NamesOf p (with_rooms (entry_frame f s.procedure ∷ []) (is_kept p s.procedure))
+  start-names : NamesOf p (with_rooms (entry_frame f s.procedure ∷ []) (is_outer p s.procedure))
       (entry_frame f s.procedure).fixed
   start-names = record {
     resources = λ r i. refl;
@@ -102,7 +102,7 @@ module _ (p : Program) (f : ProcId) (store : Store) (heap : Heap) (c : Config) (
   }
     where
       go : (x : Var) → IsInBody p s.procedure x
-          → with_rooms (entry_frame f s.procedure ∷ []) (is_kept p s.procedure) (entry_slot x) ≡ true
+          → with_rooms (entry_frame f s.procedure ∷ []) (is_outer p s.procedure) (entry_slot x) ≡ true
       go (Shared r i) b = grind (arith, nat_tests)
       go (Own i) b = elim (cases_lt i (s.procedure).references) [
         | inl h ↦ let x : ltb i (s.procedure).references ≡ true = grind (arith, nat_tests) in
