@@ -26,7 +26,7 @@ use Rattle.sf_calls.specs.Reaches.{directly, through}
 use Rattle.sf_calls.proofs.Closing.{first_breach_is_broken}
 use Rattle.sf_core.specs.Assertions.Occurs.{VarOccursIn}
 use Rattle.sf_core.specs.Assertions.Sat.{Sat}
-use Rattle.sf_core.specs.declared.command.Expr.TheVariants.{Var as Variable, Int}
+use Rattle.sf_core.specs.declared.command.Expr.TheVariants.{Int}
 use Rattle.sf_core.specs.declared.assertion.Scope.{Scope}
 use Rattle.sf_core.specs.declared.assertion.Test.TheVariants.{True}
 use Rattle.sf_core.specs.declared.command.Occurrence.{Occurrence}

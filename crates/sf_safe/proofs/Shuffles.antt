@@ -53,7 +53,7 @@ after-fork w l m a b v q r e s =
     (order (1 ∷ 1 ∷ []) (x.both ∷ b ∷ l ∷ v ∷ q ∷ r ∷ e ∷ []) w x.sums) in
     let c = group (v ∷ q ∷ r ∷ e ∷ [])
     (order (1 ∷ []) (y.both ∷ x.both ∷ v ∷ q ∷ r ∷ e ∷ []) w y.sums) in
-    let p = group {u = c.both} (c.both ∷ r ∷ e ∷ []) (order (1 ∷ 1 ∷ []) (c.both ∷ v ∷ q ∷ r ∷ e ∷ []) w c.sums) in
+    let p = group {u = v} (c.both ∷ r ∷ e ∷ []) (order (1 ∷ 1 ∷ []) (c.both ∷ v ∷ q ∷ r ∷ e ∷ []) w c.sums) in
     let t = group {u = p.both} (r ∷ e ∷ []) p.sums in
     record {
       first = x.both;

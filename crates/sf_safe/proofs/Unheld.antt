@@ -2,7 +2,7 @@
 -- be where its resource isn't held, which the conditions on variables forbid.
 -- Names: `PART-occurs` of a variable in a PART of the body, `PART-calls` of a call there.
 use Rattle.std.specs.Prelude.{◌≡◌, ◌≢◌, ℕ, List, [], ◌∷◌, ◌++◌, Contains, Some, ◌⊎◌, slice_get}
-use Rattle.std.proofs.Common.{sym, ap, refl, subst, inl, inr}
+use Rattle.std.proofs.Common.{sym, refl, subst, inl, inr}
 use Rattle.sf_base.specs.declared.ids.ProcId.{ProcId}
 use Rattle.sf_base.specs.declared.ids.ResId.{ResId}
 use Rattle.sf_base.specs.declared.ids.Var.{Var}
@@ -18,12 +18,12 @@ use Rattle.sf_core.specs.declared.command.Expr.TheVariants.{Var as Variable, Nil
 use Rattle.sf_core.specs.declared.command.Occurrence.{Occurrence}
 use Rattle.sf_core.specs.Machine.HeldBy.{HeldBy}
 use Rattle.sf_core.specs.Program.Formed.{IsFormed}
-use Rattle.sf_core.specs.Program.Heads.{Site, call_occurrences, expr_occurrences, head_occurrences, inner_sites, level_occurrences, sites, test_occurrences}
+use Rattle.sf_core.specs.Program.Heads.{Site, call_occurrences, expr_occurrences, inner_sites, level_occurrences, sites, test_occurrences}
 use Rattle.sf_core.proofs.HeadsWithin.{level-there}
 use Rattle.sf_core.specs.Program.Syntax.{Call, Command, assign, look_up, mutate, new, dispose, if, while, call, fork, with, Block, done, then, Procedure, Program}
 use Rattle.sf_calls.specs.declared.breach.Breach.TheVariants.{NotHeld}
 use Rattle.sf_calls.specs.Around.{IsHeld}
-use Rattle.sf_calls.specs.Breaks.{BreaksAt, Makes}
+use Rattle.sf_calls.specs.Breaks.{BreaksAt}
 use Rattle.sf_calls.specs.Conditions.{Free, FreeIn}
 use Rattle.sf_calls.specs.FirstBreach.{Conditions}
 use Rattle.sf_calls.specs.Outside.{CallsIn, CallsInCommand, IsAmong, OccursInCall, OccursInCommand, OccursInExpr, OccursInTest, OccursInValues, OccursOutside}
