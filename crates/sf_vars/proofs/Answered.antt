@@ -18,6 +18,7 @@ use Rattle.sf_calls.specs.declared.breach.Breach.TheVariants.{NotHeld, Reentered
 use Rattle.sf_calls.specs.Assigned.{MayChange}
 use Rattle.sf_calls.specs.Breaks.{BreaksAt, Breaks, IsAgain}
 use Rattle.sf_calls.specs.FirstBreach.{Conditions, FirstBreach}
+use Rattle.sf_calls.specs.Sets.{Sets, AreSetsOf}
 use Rattle.sf_calls.proofs.Broken.{first_broken}
 use Rattle.sf_calls.proofs.Least.{takes_within}
 use Rattle.sf_calls.proofs.SetsThere.{sets_there}
@@ -103,6 +104,20 @@ breach_named p f (Reentered place r) below = elim (slice_get_cases p.resources r
 breach_named p f (SameReference place x) h = variable_named p f x h
 breach_named p f (ReferenceIsFree place x) h = variable_named p f x h
 breach_named p f (ParallelShares place x) h = variable_named p f x h
+
+-- a fault that tells what the search finds is the first one
+pub found_told : (p : Program) (sets : Sets) (f : ProcId) (b : Breach) (fault : VarFault) → IsFormed p
+    → AreSetsOf p sets
+    → Some (f, b) ≡ in_procedures sets 0 p.procedures
+    → (name : List ℕ) × IsBreachName p f b name × (fault ≡ told_by b name) → IsFirstFault p fault
+found_told p sets f b fault formed are e (name, named, told) = record {
+  procedure = f;
+  breach = b;
+  name = name;
+  first = meets_program p sets formed are (Some (f, b)) e;
+  named = named;
+  told = told;
+}
 
 -- what is found first is the answer
 answered : (p : Program) (o : Option (ProcId × Breach)) → IsFormed p → FirstBreach p o

@@ -1,5 +1,5 @@
 use sf_base::{Name, Place};
-use std::alloc::{AllocError, AllocFailed};
+use std::alloc::AllocError;
 use thiserror::Error;
 
 /// Which of the conditions on variables a program breaks first, where, and by which variable or
@@ -34,17 +34,6 @@ impl From<AllocError> for VarFault {
     ghost from_gives = { λ _ e. e ≡ OutOfMemory };
 
     fn from(_error: AllocError) -> VarFault {
-        VarFault::OutOfMemory
-    }
-}
-
-impl<T: Drop> From<AllocFailed<T>> for VarFault {
-    ghost use Rattle.std.specs.Prelude.{◌≡◌};
-    ghost use Rattle.sf_vars.specs.declared.fault.VarFault.TheVariants.{OutOfMemory};
-
-    ghost from_gives = { λ _ e. e ≡ OutOfMemory };
-
-    fn from(_error: AllocFailed<T>) -> VarFault {
         VarFault::OutOfMemory
     }
 }

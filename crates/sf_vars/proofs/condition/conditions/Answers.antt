@@ -1,6 +1,6 @@
 use Rattle.std.proofs.Common.{◌∙◌, Some, None, sym, inl}
 use Rattle.sf_core.specs.Program.ProgramView.{program_of}
-use Rattle.sf_vars.proofs.Answered.{first_in}
+use Rattle.sf_vars.proofs.Answered.{first_in, found_told}
 use Rattle.sf_vars.proofs.Exactly.{conditions-apart, fault-once}
 use Rattle.sf_vars.proofs.Meets.{meets_program}
 use Rattle.sf_vars.proofs.condition.conditions.Goals as goal
@@ -17,16 +17,10 @@ returns-in-None-clause-kept c =
     (sym c.in-None.is ∙ c.in_ok-first_breach.ensures)
 
 pub returns-in_ok-fault_of-in-Some-clause-broken : goal.returns-in_ok-fault_of-in-Some-clause-broken
-returns-in_ok-fault_of-in-Some-clause-broken c = λ other. record {
-  procedure = c.in-Some.f;
-  breach = c.in-Some.breach;
-  name = c.in_ok-fault_of-in-Some.ensures.0;
-  first =
-      meets_program (program_of c.args.p.now) c.args.c.now c.args.p.now.formed c.requires
-      (Some (c.in-Some.f, c.in-Some.breach)) (sym c.in-Some.is ∙ c.in_ok-first_breach.ensures);
-  named = c.in_ok-fault_of-in-Some.ensures.1;
-  told = c.in_ok-fault_of-in-Some.ensures.2;
-}
+returns-in_ok-fault_of-in-Some-clause-broken c = λ other.
+    found_told (program_of c.args.p.now) c.args.c.now c.in-Some.f c.in-Some.breach
+    c.in_ok-fault_of-in-Some.field-0 c.args.p.now.formed c.requires
+    (sym c.in-Some.is ∙ c.in_ok-first_breach.ensures) c.in_ok-fault_of-in-Some.ensures
 
 pub returns-in-None-clause-only_broken : goal.returns-in-None-clause-only_broken
 returns-in-None-clause-only_broken c = λ fault h.
@@ -37,27 +31,15 @@ returns-in-None-clause-only_broken c = λ fault h.
 pub returns-in_ok-fault_of-in-Some-clause-only_kept : goal.returns-in_ok-fault_of-in-Some-clause-only_kept
 returns-in_ok-fault_of-in-Some-clause-only_kept c = λ kept.
     absurd
-    (conditions-apart (program_of c.args.p.now) c.in_ok-fault_of-in-Some.field-0 kept (record {
-      procedure = c.in-Some.f;
-      breach = c.in-Some.breach;
-      name = c.in_ok-fault_of-in-Some.ensures.0;
-      first =
-          meets_program (program_of c.args.p.now) c.args.c.now c.args.p.now.formed c.requires
-          (Some (c.in-Some.f, c.in-Some.breach)) (sym c.in-Some.is ∙ c.in_ok-first_breach.ensures);
-      named = c.in_ok-fault_of-in-Some.ensures.1;
-      told = c.in_ok-fault_of-in-Some.ensures.2;
-    }))
+    (conditions-apart (program_of c.args.p.now) c.in_ok-fault_of-in-Some.field-0 kept
+    (found_told (program_of c.args.p.now) c.args.c.now c.in-Some.f c.in-Some.breach
+    c.in_ok-fault_of-in-Some.field-0 c.args.p.now.formed c.requires
+    (sym c.in-Some.is ∙ c.in_ok-first_breach.ensures) c.in_ok-fault_of-in-Some.ensures))
 
 pub returns-in_ok-fault_of-in-Some-clause-only_broken : goal.returns-in_ok-fault_of-in-Some-clause-only_broken
 returns-in_ok-fault_of-in-Some-clause-only_broken c = λ fault h.
     inl
-    (fault-once (program_of c.args.p.now) c.in_ok-fault_of-in-Some.field-0 fault (record {
-      procedure = c.in-Some.f;
-      breach = c.in-Some.breach;
-      name = c.in_ok-fault_of-in-Some.ensures.0;
-      first =
-          meets_program (program_of c.args.p.now) c.args.c.now c.args.p.now.formed c.requires
-          (Some (c.in-Some.f, c.in-Some.breach)) (sym c.in-Some.is ∙ c.in_ok-first_breach.ensures);
-      named = c.in_ok-fault_of-in-Some.ensures.1;
-      told = c.in_ok-fault_of-in-Some.ensures.2;
-    }) h)
+    (fault-once (program_of c.args.p.now) c.in_ok-fault_of-in-Some.field-0 fault
+    (found_told (program_of c.args.p.now) c.args.c.now c.in-Some.f c.in-Some.breach
+    c.in_ok-fault_of-in-Some.field-0 c.args.p.now.formed c.requires
+    (sym c.in-Some.is ∙ c.in_ok-first_breach.ensures) c.in_ok-fault_of-in-Some.ensures) h)
