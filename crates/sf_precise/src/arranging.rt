@@ -13,7 +13,7 @@ ghost use Rattle.sf_precise.specs.Taken.{IfUndetermined};
 
 use crate::annotations::annotations_in;
 use crate::arranged::Arranged;
-use crate::fault::OrderFault;
+use crate::fault::{OrderFault, push};
 use crate::ordering::order;
 use sf_base::Place;
 use sf_calls::Calls;
@@ -96,7 +96,7 @@ fn order_all(alloc: Global, notes: &[&Assertion]) -> Result<Vec<Ordered>, OrderF
     let mut first = None;
     for a in notes {
         match order(alloc, a) {
-            Ok(ordered) => orders.push(ordered)?,
+            Ok(ordered) => push(&mut orders, ordered)?,
             Err(OrderFault::Undetermined(place)) => first = Some(earlier(first, place)),
             Err(OrderFault::OutOfMemory) => return Err(OrderFault::OutOfMemory),
         }

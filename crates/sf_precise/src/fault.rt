@@ -1,5 +1,8 @@
+ghost use Rattle.std.specs.Prelude.{[], ◌∷◌};
+ghost use Rattle.sf_base.specs.Results.{Appends};
+
 use sf_base::Place;
-use std::alloc::{AllocError, AllocFailed};
+use std::alloc::AllocError;
 
 /// Why an assertion has no order.
 #[derive(Clone, Copy, Debug, PartialEq, Eq)]
@@ -21,13 +24,11 @@ impl From<AllocError> for OrderFault {
     }
 }
 
-impl<T: Drop> From<AllocFailed<T>> for OrderFault {
-    ghost use Rattle.std.specs.Prelude.{◌≡◌};
-    ghost use Rattle.sf_precise.specs.declared.fault.OrderFault.TheVariants.{OutOfMemory};
-
-    ghost from_gives = { λ _ e. e ≡ OutOfMemory };
-
-    fn from(_error: AllocFailed<T>) -> OrderFault {
-        OrderFault::OutOfMemory
-    }
+/// Puts one more item at the end of the list. An `Err` means that memory ran out, and leaves nothing
+/// of the item.
+pub fn push<T: Drop>(items: &mut Vec<T>, item: T) -> Result<(), AllocError>
+    ensures { Appends result items.old.items items.new.items (item ∷ []) }
+{
+    items.push(item)?;
+    Ok(())
 }

@@ -12,7 +12,7 @@ ghost use Rattle.sf_precise.specs.Taken.{IfUndetermined, IsFirstNeverTaken, plac
 ghost use Rattle.sf_precise.specs.Internal.Waits.{jobs_of, known_outside};
 ghost use Rattle.sf_precise.specs.Internal.Work.{IsFirstLacking, IsWork, none_taken};
 
-use crate::fault::OrderFault;
+use crate::fault::{OrderFault, push};
 use crate::waits::demand_of;
 use crate::work::Work;
 use sf_base::Place;
@@ -49,7 +49,7 @@ pub fn sequence(
             unreachable!();
         };
         work.learn_from(&c)?;
-        taken.push(c)?;
+        push(&mut taken, c)?;
     }
     match first_lacking(&work.lacking) {
         Some(i) => Err(OrderFault::Undetermined(place_of(&cs[i]))),

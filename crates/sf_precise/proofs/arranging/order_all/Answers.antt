@@ -12,7 +12,7 @@ loop-a-preserved c = elim c.match-order.branch [
       c.loop-a.a-index c.a-item.result c.loop-a-test.true c.a-item.is
       c.loop-a.first c.match-order.first c.loop-a.orders.items w.in-Ok.ordered c.match-order.orders.items
       w.first-is
-      (ap (λ (v : Vec Ordered Global). v.items) w.orders-is ∙ w.in_ok-push-in-Ok.ensures.items)
+      (ap (λ (v : Vec Ordered Global). v.items) w.orders-is ∙ w.in_ok-push-in-Ok.ensures)
       w.in-Ok.ensures.determined w.in-Ok.ensures.ordered c.loop-a.invariant
   | in-Err-Undetermined w ↦
       read-fault (λ a. assertion_of a.now) (λ o. assertion_of o.assertion) c.args.notes.now c.loop-a.a-index

@@ -60,7 +60,7 @@ loop-i-preserved c =
     })
     c.index_mut.result.now c.index_mut.ensures.value c.in-Some-take.c
     (sym c.take.ensures.value ∙ c.in-Some-take.is) c.learn_from.new.self c.in_ok-learn_from.ensures
-    c.take.new.self c.push.new.self.items c.in_ok-push.ensures.items
+    c.take.new.self c.push.new.items.items c.in_ok-push.ensures
 
 pub offset_bounds-cs-i : goal.offset_bounds-cs-i
 offset_bounds-cs-i c =
