@@ -11,7 +11,7 @@ use Rattle.sf_elab.specs.Laws.{ElaboratedIsFormed, EachFileIsOne as EachTreeIsOn
 use Rattle.sf_io.specs.Shelf.{Files}
 use Rattle.sf_lex.specs.declared.token.Token.{Token}
 use Rattle.sf_lex.specs.Laws.{EachFileReadsOnce}
-use Rattle.sf_lex.specs.Reading.{AreTokens}
+use Rattle.sf_lex.specs.Reading.{AreTokens, end_place}
 use Rattle.sf_parse.specs.Laws.{EachFileIsShallow, AnswerIsUnique}
 use Rattle.sf_parse.specs.Parsing.{IsFile}
 use Rattle.sf_precise.specs.Laws.{UndeterminedAnnotationsHavePlace}
@@ -85,7 +85,7 @@ some-tree l bytes ts tree t f = elim (l.names.some bytes tree) [
 
 -- the answer to a file that has tokens
 some-tokens : Answers → (bytes : Text) (ts : List Token) → AreTokens bytes ts → (text : Text) × (status : ℕ) × FileAnswer bytes text status
-some-tokens l bytes ts t = elim ((l.grammar bytes ts).some) [
+some-tokens l bytes ts t = elim ((l.grammar (end_place bytes) ts).some) [
   | inl f ↦ some-tree l bytes ts f.0 t f.1
   | inr e ↦ some-refusal bytes (of_grammar e.0) (unread (in_grammar ts e.0 t e.1 refl))
 ]

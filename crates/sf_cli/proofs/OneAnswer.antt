@@ -23,6 +23,7 @@ use Rattle.sf_elab.specs.Elaborated.{Elaborates, FirstFault}
 use Rattle.sf_elab.specs.Laws.{EachFileIsOne as EachTreeIsOne}
 use Rattle.sf_lex.specs.declared.token.Token.{Token}
 use Rattle.sf_lex.specs.Laws.{EachFileReadsOnce}
+use Rattle.sf_lex.specs.Reading.{end_place}
 use Rattle.sf_parse.specs.Laws.{EachFileIsOne, AnswerIsUnique}
 use Rattle.sf_parse.specs.Parsing.{IsFile, IsFault as IsGrammarFault}
 use Rattle.sf_precise.specs.Laws.{NeverTakenIsUndetermined}
@@ -66,14 +67,14 @@ pub reads-once : Layers → EachFileIsOneProgram
 reads-once l = reads-program l.tokens l.trees l.names
 
 -- a fault of the grammar is that of the file's own tokens
-fault-moved : Layers → (bytes : Text) (ts us : List Token) (e : _) → ts ≡ us → IsGrammarFault bytes us e → IsGrammarFault bytes ts e
-fault-moved l bytes ts us e same h = subst (λ (z : List Token). IsGrammarFault bytes z e) (sym same) h
+fault-moved : Layers → (bytes : Text) (ts us : List Token) (e : _) → ts ≡ us → IsGrammarFault (end_place bytes) us e → IsGrammarFault (end_place bytes) ts e
+fault-moved l bytes ts us e same h = subst (λ (z : List Token). IsGrammarFault (end_place bytes) z e) (sym same) h
 
 -- bytes that read as a program have no fault of reading
 pub reads-apart : Layers → (bytes : Text) (p : Program) (r : Refusal) → Reads bytes p → ReadFault bytes r → ⊥
 reads-apart l bytes p r s (in_tokens e h k) = (l.tokens bytes).apart s.tokens e s.spelled h
 reads-apart l bytes p r s (in_grammar ts e t h k) =
-    (l.grammar bytes s.tokens).apart s.tree e s.parsed (fault-moved l bytes s.tokens ts e ((l.tokens bytes).tokens s.tokens ts s.spelled t) h)
+    (l.grammar (end_place bytes) s.tokens).apart s.tree e s.parsed (fault-moved l bytes s.tokens ts e ((l.tokens bytes).tokens s.tokens ts s.spelled t) h)
 reads-apart l bytes p r s (in_names ts tree e t f h k) =
     let same : s.tree ≡ tree = reads-tree l.trees bytes s.tokens ts s.tree tree ((l.tokens bytes).tokens s.tokens ts s.spelled t) s.parsed f in
     l.names.not_both bytes tree p e (subst (λ (z : List Item). Elaborates bytes z p) same s.elaborated) h
@@ -85,12 +86,12 @@ fault-once l bytes r s (in_tokens e h k) (in_grammar ts f t i m) = absurd ((l.to
 fault-once l bytes r s (in_tokens e h k) (in_names ts tree f t g i m) = absurd ((l.tokens bytes).apart ts e t h)
 fault-once l bytes r s (in_grammar ts e t h k) (in_tokens f i m) = absurd ((l.tokens bytes).apart ts f t i)
 fault-once l bytes r s (in_grammar ts e t h k) (in_grammar us f u i m) =
-    k ∙ ap of_grammar ((l.grammar bytes ts).faults e f h (fault-moved l bytes ts us f ((l.tokens bytes).tokens ts us t u) i)) ∙ sym m
+    k ∙ ap of_grammar ((l.grammar (end_place bytes) ts).faults e f h (fault-moved l bytes ts us f ((l.tokens bytes).tokens ts us t u) i)) ∙ sym m
 fault-once l bytes r s (in_grammar ts e t h k) (in_names us tree f u g i m) =
-    absurd ((l.grammar bytes us).apart tree e g (fault-moved l bytes us ts e ((l.tokens bytes).tokens us ts u t) h))
+    absurd ((l.grammar (end_place bytes) us).apart tree e g (fault-moved l bytes us ts e ((l.tokens bytes).tokens us ts u t) h))
 fault-once l bytes r s (in_names ts tree e t g h k) (in_tokens f i m) = absurd ((l.tokens bytes).apart ts f t i)
 fault-once l bytes r s (in_names ts tree e t g h k) (in_grammar us f u i m) =
-    absurd ((l.grammar bytes ts).apart tree f g (fault-moved l bytes ts us f ((l.tokens bytes).tokens ts us t u) i))
+    absurd ((l.grammar (end_place bytes) ts).apart tree f g (fault-moved l bytes ts us f ((l.tokens bytes).tokens ts us t u) i))
 fault-once l bytes r s (in_names ts tree e t g h k) (in_names us other f u j i m) =
     let same : other ≡ tree = reads-tree l.trees bytes us ts other tree ((l.tokens bytes).tokens us ts u t) j g in
     k ∙ ap of_names (l.names.one_fault bytes tree e f h (subst (λ (z : List Item). FirstFault bytes z f) same i)) ∙ sym m

@@ -8,6 +8,7 @@ use Rattle.std.specs.List.{All}
 use Rattle.std.specs.Prelude.{IfErr}
 use Rattle.std.specs.Result.{IsErrAnd}
 use Rattle.sf_ast.specs.Surface.{Item}
+use Rattle.sf_base.specs.declared.place.Place.{Place}
 use Rattle.sf_calls.specs.FirstBreach.{Conditions}
 use Rattle.sf_core.specs.Assertions.Determined.{Determined}
 use Rattle.sf_core.specs.Program.Syntax.{Program, Assertion}
@@ -17,7 +18,7 @@ use Rattle.sf_elab.specs.Elaborated.{FirstFault}
 use Rattle.sf_lex.specs.declared.fault.LexFault.{LexFault}
 use Rattle.sf_lex.specs.declared.fault.LexFault.TheVariants as l
 use Rattle.sf_lex.specs.declared.token.Token.{Token}
-use Rattle.sf_lex.specs.Reading.{AreTokens, IsFault as IsTokenFault}
+use Rattle.sf_lex.specs.Reading.{AreTokens, IsFault as IsTokenFault, end_place}
 use Rattle.sf_parse.specs.declared.fault.ParseFault.{ParseFault}
 use Rattle.sf_parse.specs.declared.fault.ParseFault.TheVariants as g
 use Rattle.sf_parse.specs.Parsing.{IsFile, IsFault as IsGrammarFault}
@@ -51,10 +52,10 @@ refused-tokens bytes e (inl m) k = absurd (k (ap of_tokens m))
 refused-tokens bytes e (inr h) k = in_tokens e h refl
 
 -- by the grammar
-pub refused-grammar : (bytes : Text) (ts : List Token) (e : ParseFault) → AreTokens bytes ts → (e ≡ g.OutOfMemory) ⊎ IsGrammarFault bytes ts e → of_grammar e ≢ OutOfMemory
+pub refused-grammar : (bytes : Text) (end : Place) (ts : List Token) (e : ParseFault) → AreTokens bytes ts → end ≡ end_place bytes → (e ≡ g.OutOfMemory) ⊎ IsGrammarFault end ts e → of_grammar e ≢ OutOfMemory
     → ReadFault bytes (of_grammar e)
-refused-grammar bytes ts e t (inl m) k = absurd (k (ap of_grammar m))
-refused-grammar bytes ts e t (inr h) k = in_grammar ts e t h refl
+refused-grammar bytes end ts e t at (inl m) k = absurd (k (ap of_grammar m))
+refused-grammar bytes end ts e t at (inr h) k = in_grammar ts e t (subst (λ (z : Place). IsGrammarFault z ts e) at h) refl
 
 -- for a name
 pub refused-names : (bytes : Text) (ts : List Token) (tree : List Item) (e : NameFault) → AreTokens bytes ts → IsFile ts tree → (e ≡ n.OutOfMemory) ⊎ FirstFault bytes tree e

@@ -11,7 +11,7 @@ use Rattle.sf_elab.specs.declared.fault.NameFault.{NameFault}
 use Rattle.sf_elab.specs.Elaborated.{FirstFault}
 use Rattle.sf_lex.specs.declared.fault.LexFault.{LexFault}
 use Rattle.sf_lex.specs.declared.token.Token.{Token}
-use Rattle.sf_lex.specs.Reading.{AreTokens, IsFault as IsTokenFault}
+use Rattle.sf_lex.specs.Reading.{AreTokens, IsFault as IsTokenFault, end_place}
 use Rattle.sf_parse.specs.declared.fault.ParseFault.{ParseFault}
 use Rattle.sf_parse.specs.Parsing.{IsFile, IsFault as IsGrammarFault}
 use Rattle.sf_precise.specs.Annotations.{annotations_in, IsFirstPlace, NeverTakenIn}
@@ -27,7 +27,7 @@ use Rattle.sf_cli.specs.Words.{Text}
 -- the bytes are no program
 pub data ReadFault (bytes : Text) (r : Refusal) : Type 0 where
   in_tokens : (e : LexFault) → IsTokenFault bytes e → r ≡ of_tokens e → ReadFault bytes r
-  in_grammar : (ts : List Token) (e : ParseFault) → AreTokens bytes ts → IsGrammarFault bytes ts e
+  in_grammar : (ts : List Token) (e : ParseFault) → AreTokens bytes ts → IsGrammarFault (end_place bytes) ts e
       → r ≡ of_grammar e → ReadFault bytes r
   in_names : (ts : List Token) (tree : List Item) (e : NameFault) → AreTokens bytes ts → IsFile ts tree
       → FirstFault bytes tree e → r ≡ of_names e → ReadFault bytes r

@@ -27,7 +27,7 @@ fn read(alloc: Global, bytes: &[u8]) -> Result<Program, Refusal>
     ensures refused { IfErr result (λ r. r ≢ OutOfMemory → ReadFault bytes.now r) }
 {
     let tokens = tokens(alloc, bytes)?;
-    let file = parse(alloc, bytes, &tokens)?;
+    let file = parse(alloc, &tokens)?;
     Ok(elaborate(alloc, bytes, file)?)
 }
 

@@ -9,7 +9,7 @@ use Rattle.sf_lex.specs.declared.lexeme.Lexeme.{Lexeme}
 use Rattle.sf_lex.specs.declared.token.Token.{Token}
 use Rattle.sf_lex.specs.Internal.Lexing.{IsNext, lexeme_of, bytes_of, with_lexeme}
 use Rattle.sf_lex.specs.Piece.{Piece, blank, comment, token, text_of, spelled, IsPiece, ArePieces}
-use Rattle.sf_lex.specs.Reading.{AreTokens, IsFault, IsFaultAt, StopsAt, value_of, tokens_of, first_place, next_place, place_behind}
+use Rattle.sf_lex.specs.Reading.{AreTokens, IsFault, IsFaultAt, StopsAt, value_of, tokens_of, end_place, first_place, next_place, place_behind}
 
 -- the bytes up to a place are pieces with these tokens
 pub record ReadSo (bytes : List ℕ) (start : ℕ) (at : Place) (found : List Token) : Type 0 where
@@ -180,6 +180,10 @@ finish bytes start at found short done r =
       each = subst (λ xs. ArePieces r.pieces xs) none r.each;
       are = r.are;
     }
+
+-- at the end the place is that after the last byte
+pub finish_place : (bytes : List ℕ) (start : ℕ) (at : Place) (found : List Token) → length bytes ≤ start → ReadSo bytes start at found → at ≡ end_place bytes
+finish_place bytes start at found done r = r.behind ∙ ap (place_behind first_place) (ap (spelled r.pieces) (sym (drop_all start bytes done)) ∙ sym r.spells)
 
 stops : (bytes : List ℕ) (start : ℕ) (at : Place) (found : List Token) (fault : LexFault) → length bytes ≤ FILE_BYTES → ReadSo bytes start at found → IsFaultAt fault (drop start bytes) at → StopsAt bytes fault
 stops bytes start at found fault short r f = record {

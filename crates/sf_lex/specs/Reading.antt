@@ -25,6 +25,10 @@ place_behind at (b ∷ bs) = place_behind (next_place at b) bs
 abbrev pub first_place : Place
 first_place = record { line = 1; column = 1 }
 
+-- the place after a file's last byte
+abbrev pub end_place : List ℕ → Place
+end_place bytes = place_behind first_place bytes
+
 -- what a number writes, and 0 for other tokens
 abbrev pub value_of : Kind → List ℕ → ℤ
 value_of Number text = signed_digits_value 10 text

@@ -1,5 +1,4 @@
 use sf_base::Place;
-use std::alloc::{AllocError, AllocFailed};
 use thiserror::Error;
 
 /// Why the bytes of a file are no tokens.
@@ -23,26 +22,4 @@ pub enum LexFault {
     /// Memory ran out.
     #[error("out of memory")]
     OutOfMemory,
-}
-
-impl From<AllocError> for LexFault {
-    ghost use Rattle.std.specs.Prelude.{◌≡◌};
-    ghost use Rattle.sf_lex.specs.declared.fault.LexFault.TheVariants.{OutOfMemory};
-
-    ghost from_gives = { λ _ e. e ≡ OutOfMemory };
-
-    fn from(_error: AllocError) -> LexFault {
-        LexFault::OutOfMemory
-    }
-}
-
-impl<T: Drop> From<AllocFailed<T>> for LexFault {
-    ghost use Rattle.std.specs.Prelude.{◌≡◌};
-    ghost use Rattle.sf_lex.specs.declared.fault.LexFault.TheVariants.{OutOfMemory};
-
-    ghost from_gives = { λ _ e. e ≡ OutOfMemory };
-
-    fn from(_error: AllocFailed<T>) -> LexFault {
-        LexFault::OutOfMemory
-    }
 }

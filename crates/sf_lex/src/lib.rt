@@ -3,7 +3,7 @@
 //! - `fault`: why bytes are no tokens.
 //! - `laws`: laws of reading tokens.
 //! - `lexeme`: the next token, blank or comment of the bytes that are left.
-//! - `scan`: the calls `tokens` and `end_place`.
+//! - `scan`: the call `tokens`.
 //! - `symbols`: the longest symbol that comes next.
 //! - `token`: tokens and their kinds.
 //! - `words`: reserved words.
@@ -18,8 +18,8 @@ mod token;
 mod words;
 
 pub use fault::LexFault;
-pub use scan::{end_place, tokens};
-pub use token::{Kind, Token};
+pub use scan::tokens;
+pub use token::{Kind, Token, Tokens};
 
 #[cfg(test)]
 mod tests;

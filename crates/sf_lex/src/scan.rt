@@ -1,15 +1,15 @@
 ghost use Rattle.std.specs.Prelude.{◌≡◌, ◌≤◌, ◌<◌, ◌+◌, ◌-◌, ◌^◌, ◌⊎◌, length, List, IfOk, IfErr, MatchResult};
 ghost use Rattle.sf_base.specs.declared.limits.TheConstants.{FILE_BYTES};
 ghost use Rattle.sf_lex.specs.Internal.Lexing.{bytes_of, with_lexeme};
-ghost use Rattle.sf_lex.specs.Reading.{AreTokens, IsFault, first_place, next_place, place_behind};
+ghost use Rattle.sf_lex.specs.Reading.{AreTokens, IsFault, end_place, first_place, next_place, place_behind};
 
 use crate::fault::LexFault;
 use crate::lexeme::{Lexeme, next_lexeme};
 use crate::symbols::from_index;
-use crate::token::Token;
+use crate::token::{Token, Tokens};
 use sf_base::Place;
 use sf_base::limits::FILE_BYTES;
-use std::alloc::Global;
+use std::alloc::{AllocError, Global};
 
 /// The place after one byte.
 fn next_place(place: Place, byte: u8) -> Place
@@ -50,19 +50,16 @@ fn first_place() -> Place
     Place { line: 1, column: 1 }
 }
 
-/// The place after a file's last byte.
-pub fn end_place(bytes: &[u8]) -> Place
-    requires { length bytes.now ≤ FILE_BYTES }
-    ensures { result ≡ place_behind first_place bytes.now }
-{
-    place_behind(first_place(), bytes)
-}
-
 /// The tokens so far and the next one, if a token is there.
-fn keep(found: &mut Vec<Token>, lexeme: Lexeme, start: usize, place: Place) -> Result<(), LexFault>
+fn keep(
+    found: &mut Vec<Token>,
+    lexeme: Lexeme,
+    start: usize,
+    place: Place,
+) -> Result<(), AllocError>
     requires within { start + bytes_of lexeme ≤ FILE_BYTES }
-    ensures kept { IfOk result (λ _. found.new.items ≡ with_lexeme found.old.items lexeme start place) }
-    ensures refused { IfErr result (λ fault. fault ≡ LexFault.OutOfMemory) }
+    ensures { IfOk result (λ _. found.new.items
+        ≡ with_lexeme found.old.items lexeme start place) }
 {
     match lexeme {
         Lexeme::Space(_) => Ok(()),
@@ -90,9 +87,10 @@ fn bytes_of(lexeme: Lexeme) -> usize
 }
 
 /// The tokens of a file, piece by piece.
-fn scan(alloc: Global, bytes: &[u8]) -> Result<Vec<Token>, LexFault>
+fn scan(alloc: Global, bytes: &[u8]) -> Result<Tokens, LexFault>
     requires { length bytes.now ≤ FILE_BYTES }
-    ensures found { IfOk result (λ found. AreTokens bytes.now found.items) }
+    ensures found { IfOk result (λ tokens. AreTokens bytes.now tokens.items.items) }
+    ensures end { IfOk result (λ tokens. tokens.end ≡ end_place bytes.now) }
     ensures refused { IfErr result (λ fault. (fault ≡ LexFault.OutOfMemory) ⊎ IsFault bytes.now fault) }
 {
     let mut found = Vec::new(alloc);
@@ -101,22 +99,29 @@ fn scan(alloc: Global, bytes: &[u8]) -> Result<Vec<Token>, LexFault>
     while start < bytes.len() {
         let lexeme = next_lexeme(place, from_index(bytes, start))?;
         let end = start + bytes_of(lexeme);
-        keep(&mut found, lexeme, start, place)?;
+        let Ok(()) = keep(&mut found, lexeme, start, place) else {
+            return Err(LexFault::OutOfMemory);
+        };
         place = place_behind(place, &bytes[start..end]);
         start = end;
     }
-    Ok(found)
+    Ok(Tokens {
+        items: found,
+        end: place,
+    })
 }
 
-/// The tokens of a file, in order: the longest that fit, between blanks and comments.
+/// The tokens of a file, in order: the longest that fit, between blanks and comments; and the
+/// place where the file ends.
 ///
 /// Refused with `LongFile` where the file has more than 1,048,576 bytes, else with the first fault
 /// of another kind and its place, exactly where there is one, or where memory runs out.
-pub fn tokens(alloc: Global, bytes: &[u8]) -> Result<Vec<Token>, LexFault>
-    ensures found { IfOk result (λ found. AreTokens bytes.now found.items) }
+pub fn tokens(alloc: Global, bytes: &[u8]) -> Result<Tokens, LexFault>
+    ensures found { IfOk result (λ found. AreTokens bytes.now found.items.items) }
+    ensures end { IfOk result (λ found. found.end ≡ end_place bytes.now) }
     ensures refused { IfErr result (λ fault. (fault ≡ LexFault.OutOfMemory) ⊎ IsFault bytes.now fault) }
     ensures only_found { (tokens : List Token) → AreTokens bytes.now tokens
-        → MatchResult result (λ found. found.items ≡ tokens) (λ fault. fault
+        → MatchResult result (λ found. found.items.items ≡ tokens) (λ fault. fault
         ≡ LexFault.OutOfMemory) }
     ensures only_refused { (fault : LexFault) → IsFault bytes.now fault
         → MatchResult result (λ _. ⊥) (λ own. (own ≡ fault) ⊎ (own ≡ LexFault.OutOfMemory)) }

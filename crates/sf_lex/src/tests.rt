@@ -19,6 +19,7 @@ fn refusal(alloc: Global, bytes: &[u8]) -> Option<LexFault> {
 fn reads_as(alloc: Global, bytes: &[u8], kinds: &[Kind]) -> bool {
     match tokens(alloc, bytes) {
         Ok(found) => found
+            .items
             .iter()
             .map(|token| token.kind)
             .eq(kinds.iter().copied()),
@@ -156,14 +157,20 @@ fn tokens_have_their_ends_and_places(rt: HostRuntime) {
         token(Kind::Name, 0, 0, 1, at(1, 1)),
         token(Kind::Existential, 0, 3, 5, at(2, 2)),
     ];
-    assert!(rt; two.is_ok_and(|found| found.as_slice() == expected.as_slice()));
+    assert!(rt;
+        two.is_ok_and(|found| found.items.as_slice() == expected.as_slice()
+            && found.end == at(2, 4))
+    );
     let three = tokens(rt.alloc(), b"/*\n*/-12 |->\r\n\ttree");
     let expected = [
         token(Kind::Number, -12, 5, 8, at(2, 3)),
         token(Kind::PointsTo, 0, 9, 12, at(2, 7)),
         token(Kind::Tree, 0, 15, 19, at(3, 2)),
     ];
-    assert!(rt; three.is_ok_and(|found| found.as_slice() == expected.as_slice()));
+    assert!(rt;
+        three.is_ok_and(|found| found.items.as_slice() == expected.as_slice()
+            && found.end == at(3, 6))
+    );
 }
 
 #[test]

@@ -93,3 +93,12 @@ pub struct Token {
     /// The place of its first byte.
     pub place: Place,
 }
+
+/// The tokens of a file, and where it ends.
+#[derive(Debug, Drop)]
+pub struct Tokens {
+    /// The tokens, in order.
+    pub items: Vec<Token>,
+    /// The place after the file's last byte.
+    pub end: Place,
+}

@@ -15,7 +15,7 @@ pub each_file_is_shallow : EachFileIsShallow
 each_file_is_shallow ts tree f = items_within tree [] f.within
 
 pub answer_is_unique : AnswerIsUnique
-answer_is_unique bytes ts = record { some = file_or_fault bytes ts; faults = faults_once bytes ts; apart = files_without_fault bytes ts }
+answer_is_unique end ts = record { some = file_or_fault end ts; faults = faults_once end ts; apart = files_without_fault end ts }
 
 pub shallow_trees_are_within : ShallowTreesAreWithin
 shallow_trees_are_within tree = (λ w. (items_nearest tree 0 [] w, items_within tree [] w), λ h. items_shallow tree 0 [] h.0 h.1)

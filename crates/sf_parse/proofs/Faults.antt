@@ -185,20 +185,20 @@ fails_at_end ks can none = go (halt ks)
 place_there : (ts front : List Token) (t : Token) (back : List Token) (n : ℕ) → ts ≡ front ++ t ∷ back → length back ≡ n → (token_left ts (suc n)).place ≡ t.place
 place_there ts front t back n is left = rw (is, ← left) (ap (λ (x : Token). x.place) (token_there front t back))
 
-unexpected_is : (bytes : List ℕ) (ts : List Token) (p : Place) (n : ℕ) → verdict_of (kinds ts) ≡ unexpected n → p ≡ place_left bytes ts n → IsFault bytes ts (Unexpected p)
-unexpected_is bytes ts p zero e at =
+unexpected_is : (end : Place) (ts : List Token) (p : Place) (n : ℕ) → verdict_of (kinds ts) ≡ unexpected n → p ≡ place_left end ts n → IsFault end ts (Unexpected p)
+unexpected_is end ts p zero e at =
     let q = (exact (kinds ts)).ends e in
     inr (record { there = at; begins = q.0; no_file = λ tree is w. q.1 (record { tree = tree; spells = is; within = w }) })
-unexpected_is bytes ts p (suc n) e at =
+unexpected_is end ts p (suc n) e at =
     let le : suc n ≤ length (kinds ts) = fault_le (kinds ts) (m.items ∷ []) true (suc n) e in
     let s = split_at ts n (omega (arith, kinds_length ts)) in
     let v : verdict_of (kinds ts) ≡ unexpected (suc (length (kinds s.back))) = e ∙ ap (λ (i : ℕ). unexpected (suc i)) (sym (kinds_length s.back ∙ s.left)) in
     let q = (exact (kinds ts)).wrong (kinds s.front) s.one.kind (kinds s.back) (kinds_split ts s.front s.one s.back s.is) v in
     inl (record { front = s.front; token = s.one; back = s.back; split = s.is; there = at ∙ place_there ts s.front s.one s.back n s.is s.left; begins = q.0; no_further = q.1 })
 
-too_deep_is : (bytes : List ℕ) (ts : List Token) (p : Place) (n : ℕ) → verdict_of (kinds ts) ≡ too_deep n → p ≡ place_left bytes ts n → IsFault bytes ts (TooDeep p)
-too_deep_is bytes ts p zero e at = absurd (never_zero (kinds ts) (m.items ∷ []) e)
-too_deep_is bytes ts p (suc n) e at =
+too_deep_is : (end : Place) (ts : List Token) (p : Place) (n : ℕ) → verdict_of (kinds ts) ≡ too_deep n → p ≡ place_left end ts n → IsFault end ts (TooDeep p)
+too_deep_is end ts p zero e at = absurd (never_zero (kinds ts) (m.items ∷ []) e)
+too_deep_is end ts p (suc n) e at =
     let le : suc n ≤ length (kinds ts) = fault_le (kinds ts) (m.items ∷ []) false (suc n) e in
     let s = split_at ts n (omega (arith, kinds_length ts)) in
     let v : verdict_of (kinds ts) ≡ too_deep (suc (length (kinds s.back))) = e ∙ ap (λ (i : ℕ). too_deep (suc i)) (sym (kinds_length s.back ∙ s.left)) in
@@ -206,67 +206,67 @@ too_deep_is bytes ts p (suc n) e at =
     record { front = s.front; token = s.one; back = s.back; split = s.is; there = at ∙ place_there ts s.front s.one s.back n s.is s.left; begins = q.0; begins_deeper = q.1; no_further = q.2 }
 
 -- what the verdict says is the fault
-pub says_fault : (bytes : List ℕ) (ts : List Token) (f : ParseFault) → Says bytes ts f (verdict_of (kinds ts)) → IsFault bytes ts f
-says_fault bytes ts (Unexpected p) h = unexpected_is bytes ts p h.0 h.1 h.2
-says_fault bytes ts (TooDeep p) h = too_deep_is bytes ts p h.0 h.1 h.2
-says_fault bytes ts OutOfMemory h = absurd h
+pub says_fault : (end : Place) (ts : List Token) (f : ParseFault) → Says end ts f (verdict_of (kinds ts)) → IsFault end ts f
+says_fault end ts (Unexpected p) h = unexpected_is end ts p h.0 h.1 h.2
+says_fault end ts (TooDeep p) h = too_deep_is end ts p h.0 h.1 h.2
+says_fault end ts OutOfMemory h = absurd h
 
-unexpected_says : (bytes : List ℕ) (ts : List Token) (p : Place) → IsUnexpected ts p → Says bytes ts (Unexpected p) (verdict_of (kinds ts))
-unexpected_says bytes ts p q =
+unexpected_says : (end : Place) (ts : List Token) (p : Place) → IsUnexpected ts p → Says end ts (Unexpected p) (verdict_of (kinds ts))
+unexpected_says end ts p q =
     let is = kinds_split ts q.front q.token q.back q.split in
     let s = fails_there (kinds ts) (kinds q.front) q.token.kind (kinds q.back) is q.begins (λ c. q.no_further (begins_any (kinds q.front ++ q.token.kind ∷ []) c)) in
     go is s.0 s.1
   where
-    go : kinds ts ≡ kinds q.front ++ q.token.kind ∷ kinds q.back → (b : Bool) → verdict_of (kinds ts) ≡ fault_of b (suc (length (kinds q.back))) → Says bytes ts (Unexpected p) (verdict_of (kinds ts))
+    go : kinds ts ≡ kinds q.front ++ q.token.kind ∷ kinds q.back → (b : Bool) → verdict_of (kinds ts) ≡ fault_of b (suc (length (kinds q.back))) → Says end ts (Unexpected p) (verdict_of (kinds ts))
     go is true e = (suc (length (kinds q.back)), e, q.there ∙ sym (place_there ts q.front q.token q.back (length (kinds q.back)) q.split (sym (kinds_length q.back))))
     go is false e = absurd (q.no_further ((exact (kinds ts)).deeper (kinds q.front) q.token.kind (kinds q.back) is e).1)
 
-too_deep_says : (bytes : List ℕ) (ts : List Token) (p : Place) → IsTooDeep ts p → Says bytes ts (TooDeep p) (verdict_of (kinds ts))
-too_deep_says bytes ts p q =
+too_deep_says : (end : Place) (ts : List Token) (p : Place) → IsTooDeep ts p → Says end ts (TooDeep p) (verdict_of (kinds ts))
+too_deep_says end ts p q =
     let is = kinds_split ts q.front q.token q.back q.split in
     let s = fails_there (kinds ts) (kinds q.front) q.token.kind (kinds q.back) is q.begins q.no_further in
     go is s.0 s.1
   where
-    go : kinds ts ≡ kinds q.front ++ q.token.kind ∷ kinds q.back → (b : Bool) → verdict_of (kinds ts) ≡ fault_of b (suc (length (kinds q.back))) → Says bytes ts (TooDeep p) (verdict_of (kinds ts))
+    go : kinds ts ≡ kinds q.front ++ q.token.kind ∷ kinds q.back → (b : Bool) → verdict_of (kinds ts) ≡ fault_of b (suc (length (kinds q.back))) → Says end ts (TooDeep p) (verdict_of (kinds ts))
     go is true e = absurd (((exact (kinds ts)).wrong (kinds q.front) q.token.kind (kinds q.back) is e).1 q.begins_deeper)
     go is false e = (suc (length (kinds q.back)), e, q.there ∙ sym (place_there ts q.front q.token q.back (length (kinds q.back)) q.split (sym (kinds_length q.back))))
 
 -- and the fault is what the verdict says
-pub fault_says : (bytes : List ℕ) (ts : List Token) (f : ParseFault) → IsFault bytes ts f → Says bytes ts f (verdict_of (kinds ts))
-fault_says bytes ts (Unexpected p) h = elim h [
-  | inl q ↦ unexpected_says bytes ts p q
+pub fault_says : (end : Place) (ts : List Token) (f : ParseFault) → IsFault end ts f → Says end ts f (verdict_of (kinds ts))
+fault_says end ts (Unexpected p) h = elim h [
+  | inl q ↦ unexpected_says end ts p q
   | inr q ↦ (0, fails_at_end (kinds ts) q.begins (λ f. q.no_file f.tree f.spells f.within), q.there)
 ]
-fault_says bytes ts (TooDeep p) h = too_deep_says bytes ts p h
-fault_says bytes ts OutOfMemory h = absurd h
+fault_says end ts (TooDeep p) h = too_deep_says end ts p h
+fault_says end ts OutOfMemory h = absurd h
 
 -- a fault is one alone
-says_once : (bytes : List ℕ) (ts : List Token) (v : Verdict) (f g : ParseFault) → Says bytes ts f v → Says bytes ts g v → f ≡ g
-says_once bytes ts v (Unexpected p) (Unexpected q) h i = let n : h.0 ≡ i.0 = cc (h.1, i.1) in ap Unexpected (h.2 ∙ ap (place_left bytes ts) n ∙ sym i.2)
-says_once bytes ts v (TooDeep p) (TooDeep q) h i = let n : h.0 ≡ i.0 = cc (h.1, i.1) in ap TooDeep (h.2 ∙ ap (place_left bytes ts) n ∙ sym i.2)
-says_once bytes ts v (Unexpected p) (TooDeep q) h i = absurd (cc (h.1, i.1))
-says_once bytes ts v (TooDeep p) (Unexpected q) h i = absurd (cc (h.1, i.1))
-says_once bytes ts v OutOfMemory g h i = absurd h
-says_once bytes ts v f OutOfMemory h i = absurd i
+says_once : (end : Place) (ts : List Token) (v : Verdict) (f g : ParseFault) → Says end ts f v → Says end ts g v → f ≡ g
+says_once end ts v (Unexpected p) (Unexpected q) h i = let n : h.0 ≡ i.0 = cc (h.1, i.1) in ap Unexpected (h.2 ∙ ap (place_left end ts) n ∙ sym i.2)
+says_once end ts v (TooDeep p) (TooDeep q) h i = let n : h.0 ≡ i.0 = cc (h.1, i.1) in ap TooDeep (h.2 ∙ ap (place_left end ts) n ∙ sym i.2)
+says_once end ts v (Unexpected p) (TooDeep q) h i = absurd (cc (h.1, i.1))
+says_once end ts v (TooDeep p) (Unexpected q) h i = absurd (cc (h.1, i.1))
+says_once end ts v OutOfMemory g h i = absurd h
+says_once end ts v f OutOfMemory h i = absurd i
 
-pub faults_once : (bytes : List ℕ) (ts : List Token) (f g : ParseFault) → IsFault bytes ts f → IsFault bytes ts g → f ≡ g
-faults_once bytes ts f g h i = says_once bytes ts (verdict_of (kinds ts)) f g (fault_says bytes ts f h) (fault_says bytes ts g i)
+pub faults_once : (end : Place) (ts : List Token) (f g : ParseFault) → IsFault end ts f → IsFault end ts g → f ≡ g
+faults_once end ts f g h i = says_once end ts (verdict_of (kinds ts)) f g (fault_says end ts f h) (fault_says end ts g i)
 
-accepted_says_none : (bytes : List ℕ) (ts : List Token) (v : Verdict) (f : ParseFault) → v ≡ accepted → Says bytes ts f v → ⊥
-accepted_says_none bytes ts v (Unexpected p) e h = cc (e, h.1)
-accepted_says_none bytes ts v (TooDeep p) e h = cc (e, h.1)
-accepted_says_none bytes ts v OutOfMemory e h = h
+accepted_says_none : (end : Place) (ts : List Token) (v : Verdict) (f : ParseFault) → v ≡ accepted → Says end ts f v → ⊥
+accepted_says_none end ts v (Unexpected p) e h = cc (e, h.1)
+accepted_says_none end ts v (TooDeep p) e h = cc (e, h.1)
+accepted_says_none end ts v OutOfMemory e h = h
 
 -- a file has no fault
-pub files_without_fault : (bytes : List ℕ) (ts : List Token) (tree : List Item) (f : ParseFault) → IsFile ts tree → IsFault bytes ts f → ⊥
-files_without_fault bytes ts tree f file h =
-    accepted_says_none bytes ts (verdict_of (kinds ts)) f ((exact (kinds ts)).file (record { tree = tree; spells = file.spells; within = file.within })) (fault_says bytes ts f h)
+pub files_without_fault : (end : Place) (ts : List Token) (tree : List Item) (f : ParseFault) → IsFile ts tree → IsFault end ts f → ⊥
+files_without_fault end ts tree f file h =
+    accepted_says_none end ts (verdict_of (kinds ts)) f ((exact (kinds ts)).file (record { tree = tree; spells = file.spells; within = file.within })) (fault_says end ts f h)
 
 -- tokens are a file, or have a fault
-pub file_or_fault : (bytes : List ℕ) (ts : List Token) → ((tree : List Item) × IsFile ts tree) ⊎ ((f : ParseFault) × IsFault bytes ts f)
-file_or_fault bytes ts = go (verdict_of (kinds ts)) refl
+pub file_or_fault : (end : Place) (ts : List Token) → ((tree : List Item) × IsFile ts tree) ⊎ ((f : ParseFault) × IsFault end ts f)
+file_or_fault end ts = go (verdict_of (kinds ts)) refl
   where
-    go : (v : Verdict) → verdict_of (kinds ts) ≡ v → ((tree : List Item) × IsFile ts tree) ⊎ ((f : ParseFault) × IsFault bytes ts f)
+    go : (v : Verdict) → verdict_of (kinds ts) ≡ v → ((tree : List Item) × IsFile ts tree) ⊎ ((f : ParseFault) × IsFault end ts f)
     go accepted e = inl (file_placed ts ((exact (kinds ts)).accepts e))
-    go (unexpected n) e = inr (Unexpected (place_left bytes ts n), says_fault bytes ts (Unexpected (place_left bytes ts n)) (n, e, refl))
-    go (too_deep n) e = inr (TooDeep (place_left bytes ts n), says_fault bytes ts (TooDeep (place_left bytes ts n)) (n, e, refl))
+    go (unexpected n) e = inr (Unexpected (place_left end ts n), says_fault end ts (Unexpected (place_left end ts n)) (n, e, refl))
+    go (too_deep n) e = inr (TooDeep (place_left end ts n), says_fault end ts (TooDeep (place_left end ts n)) (n, e, refl))

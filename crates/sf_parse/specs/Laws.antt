@@ -3,6 +3,7 @@
 -- Ordinary: the viable prefix property, as in Aho, Sethi, Ullman, "Compilers" (1986), section 4.1.
 use Rattle.std.specs.Prelude.{◌≡◌, ◌≤◌, ◌↔◌, ◌⊎◌, ℕ, suc, List, [], ◌∷◌, ◌++◌, length}
 use Rattle.sf_base.specs.declared.limits.TheConstants.{NESTING}
+use Rattle.sf_base.specs.declared.place.Place.{Place}
 use Rattle.sf_ast.specs.Depth.{items_depth}
 use Rattle.sf_ast.specs.Surface.{Item}
 use Rattle.sf_lex.specs.declared.token.Kind.{Kind}
@@ -50,11 +51,11 @@ abbrev pub ShallowTreesAreWithin : Type 0
 ShallowTreesAreWithin = (tree : List Item) → ItemsWithin tree 0 [] ↔ (IsNearest tree × (items_depth tree ≤ NESTING))
 
 -- tokens have one answer: they are a file, with the places of its nodes, or have a fault, which is one alone, and never both
-pub record HasOneAnswer (bytes : List ℕ) (ts : List Token) : Type 0 where
-  pub some : ((tree : List Item) × IsFile ts tree) ⊎ ((f : ParseFault) × IsFault bytes ts f)
-  pub faults : (e f : ParseFault) → IsFault bytes ts e → IsFault bytes ts f → e ≡ f
-  pub apart : (tree : List Item) (f : ParseFault) → IsFile ts tree → IsFault bytes ts f → ⊥
+pub record HasOneAnswer (end : Place) (ts : List Token) : Type 0 where
+  pub some : ((tree : List Item) × IsFile ts tree) ⊎ ((f : ParseFault) × IsFault end ts f)
+  pub faults : (e f : ParseFault) → IsFault end ts e → IsFault end ts f → e ≡ f
+  pub apart : (tree : List Item) (f : ParseFault) → IsFile ts tree → IsFault end ts f → ⊥
 
--- so it is with all tokens of all bytes
+-- so it is with all tokens, wherever the file ends
 abbrev pub AnswerIsUnique : Type 0
-AnswerIsUnique = (bytes : List ℕ) (ts : List Token) → HasOneAnswer bytes ts
+AnswerIsUnique = (end : Place) (ts : List Token) → HasOneAnswer end ts

@@ -6,7 +6,7 @@ use Rattle.sf_ast.specs.Surface.{Item}
 use Rattle.sf_lex.specs.declared.token.Kind.{Kind}
 use Rattle.sf_lex.specs.declared.token.Kind.TheVariants as k
 use Rattle.sf_lex.specs.declared.token.Token.{Token}
-use Rattle.sf_lex.specs.Reading.{first_place, place_behind}
+use Rattle.sf_lex.specs.Reading.{first_place}
 use Rattle.sf_parse.specs.declared.fault.ParseFault.{ParseFault}
 use Rattle.sf_parse.specs.declared.fault.ParseFault.TheVariants.{Unexpected, TooDeep, OutOfMemory}
 use Rattle.sf_parse.specs.Grammar.{items}
@@ -59,9 +59,9 @@ pub record IsUnexpected (ts : List Token) (place : Place) : Type 0 where
   pub begins : CanBegin (kinds front)
   pub no_further : CanBeginAny (kinds front ++ token.kind ∷ []) → ⊥
 
--- the tokens begin a file and are none; the place is that after the last byte
-pub record IsUnexpectedEnd (bytes : List ℕ) (ts : List Token) (place : Place) : Type 0 where
-  pub there : place ≡ place_behind first_place bytes
+-- the tokens begin a file and are none; the place is that of the file's end
+pub record IsUnexpectedEnd (end : Place) (ts : List Token) (place : Place) : Type 0 where
+  pub there : place ≡ end
   pub begins : CanBegin (kinds ts)
   pub no_file : (tree : List Item) → kinds ts ≡ items tree [] → ItemsWithin tree 0 [] → ⊥
 
@@ -76,8 +76,8 @@ pub record IsTooDeep (ts : List Token) (place : Place) : Type 0 where
   pub begins_deeper : CanBeginAny (kinds front ++ token.kind ∷ [])
   pub no_further : CanBegin (kinds front ++ token.kind ∷ []) → ⊥
 
--- the fault of a file's tokens
-abbrev pub IsFault : (bytes : List ℕ) → List Token → ParseFault → Type 0
-IsFault bytes ts (Unexpected place) = IsUnexpected ts place ⊎ IsUnexpectedEnd bytes ts place
-IsFault bytes ts (TooDeep place) = IsTooDeep ts place
-IsFault bytes ts OutOfMemory = ⊥
+-- the fault of a file's tokens, where the file ends at that place
+abbrev pub IsFault : (end : Place) → List Token → ParseFault → Type 0
+IsFault end ts (Unexpected place) = IsUnexpected ts place ⊎ IsUnexpectedEnd end ts place
+IsFault end ts (TooDeep place) = IsTooDeep ts place
+IsFault end ts OutOfMemory = ⊥

@@ -15,6 +15,7 @@ use crate::condition::operand_test;
 use crate::conjunct::{predicate, relation};
 use crate::front::{begins_conjunct, eat, eat_operand};
 use crate::leaf::expect;
+use crate::memory::{add, boxed};
 use crate::stop::Stop;
 use sf_ast::{SurfaceAssertion, SurfaceConjunct};
 use sf_base::Place;
@@ -53,7 +54,7 @@ pub fn assertion(
     }
     let (first, rest) = conjunct(alloc, depth, tokens)?;
     let (more, rest) = more_conjuncts(alloc, depth, rest)?;
-    let first = Box::new(alloc, first)?;
+    let first = boxed(alloc, first)?;
     Ok((SurfaceAssertion { first, more }, rest))
 }
 
@@ -84,7 +85,7 @@ fn more_conjuncts(
     let mut rest = tokens;
     while let Some((_, after)) = eat(rest, Kind::Star) {
         let (one, after) = conjunct(alloc, depth, after)?;
-        found.push(one)?;
+        add(&mut found, one)?;
         rest = after;
     }
     Ok((found, rest))

@@ -13,6 +13,7 @@ ghost use Rattle.sf_parse.specs.Internal.Steps.{NotNext, Placed, FailsAt, Accept
 
 use crate::front::{eat, eat_expression};
 use crate::leaf::expect;
+use crate::memory::{add, with_first};
 use crate::stop::Stop;
 use sf_ast::{SurfaceArguments, SurfaceCall, SurfaceExpr, Word};
 use sf_lex::{Kind, Token};
@@ -37,7 +38,7 @@ fn more_expressions(alloc: Global, tokens: &[Token]) -> Result<(Vec<SurfaceExpr>
         let Some((value, after)) = eat_expression(after) else {
             return Err(Stop::Unexpected(after.len()));
         };
-        found.push(value)?;
+        add(&mut found, value)?;
         rest = after;
     }
     Ok((found, rest))
@@ -59,9 +60,8 @@ fn maybe_expressions(alloc: Global, tokens: &[Token]) -> Result<(Vec<SurfaceExpr
     let Some((first, rest)) = eat_expression(tokens) else {
         return Ok((Vec::new(alloc), tokens));
     };
-    let (mut found, rest) = more_expressions(alloc, rest)?;
-    found.insert(0, first)?;
-    Ok((found, rest))
+    let (found, rest) = more_expressions(alloc, rest)?;
+    Ok((with_first(first, found)?, rest))
 }
 
 /// The name that an expression is, if it is one.

@@ -18,6 +18,7 @@ use crate::annotation::maybe_annotation;
 use crate::condition::test;
 use crate::front::{eat, eat_expression, eat_word};
 use crate::leaf::{expect, name};
+use crate::memory::add;
 use crate::plain::{disposed, mutated, named};
 use crate::stop::Stop;
 use sf_ast::{SurfaceCommand, SurfaceExpr, SurfaceNote, SurfaceTest, Word};
@@ -317,7 +318,7 @@ pub fn commands(
     let mut rest = tokens;
     while begins_command(rest) {
         let (one, after) = command(alloc, depth, rest)?;
-        found.push(one)?;
+        add(&mut found, one)?;
         rest = after;
     }
     Ok((found, rest))

@@ -1,5 +1,4 @@
 use sf_base::Place;
-use std::alloc::{AllocError, AllocFailed};
 use thiserror::Error;
 
 /// Why tokens are no file.
@@ -14,26 +13,4 @@ pub enum ParseFault {
     /// Memory ran out.
     #[error("out of memory")]
     OutOfMemory,
-}
-
-impl From<AllocError> for ParseFault {
-    ghost use Rattle.std.specs.Prelude.{◌≡◌};
-    ghost use Rattle.sf_parse.specs.declared.fault.ParseFault.TheVariants.{OutOfMemory};
-
-    ghost from_gives = { λ _ e. e ≡ OutOfMemory };
-
-    fn from(_error: AllocError) -> ParseFault {
-        ParseFault::OutOfMemory
-    }
-}
-
-impl<T: Drop> From<AllocFailed<T>> for ParseFault {
-    ghost use Rattle.std.specs.Prelude.{◌≡◌};
-    ghost use Rattle.sf_parse.specs.declared.fault.ParseFault.TheVariants.{OutOfMemory};
-
-    ghost from_gives = { λ _ e. e ≡ OutOfMemory };
-
-    fn from(_error: AllocFailed<T>) -> ParseFault {
-        ParseFault::OutOfMemory
-    }
 }

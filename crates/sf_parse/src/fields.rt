@@ -9,6 +9,7 @@ ghost use Rattle.sf_parse.specs.Internal.Steps.{Placed, FailsAt, Accepts};
 
 use crate::front::{eat, eat_word};
 use crate::leaf::{expect, name, operand};
+use crate::memory::{add, with_first};
 use crate::stop::Stop;
 use sf_ast::SurfaceField;
 use sf_lex::{Kind, Token};
@@ -41,7 +42,7 @@ fn more_fields(alloc: Global, tokens: &[Token]) -> Result<(Vec<SurfaceField>, &[
     let mut rest = tokens;
     while let Some((_, after)) = eat(rest, Kind::Comma) {
         let (one, after) = field(after)?;
-        found.push(one)?;
+        add(&mut found, one)?;
         rest = after;
     }
     Ok((found, rest))
@@ -59,7 +60,6 @@ pub fn maybe_fields(alloc: Global, tokens: &[Token]) -> Result<(Vec<SurfaceField
         return Ok((Vec::new(alloc), tokens));
     };
     let (first, rest) = field(tokens)?;
-    let (mut found, rest) = more_fields(alloc, rest)?;
-    found.insert(0, first)?;
-    Ok((found, rest))
+    let (found, rest) = more_fields(alloc, rest)?;
+    Ok((with_first(first, found)?, rest))
 }

@@ -24,24 +24,6 @@ fn word_of(token: &Token) -> Word
     }
 }
 
-/// A token of that kind, and the tokens after it.
-pub fn eat(tokens: &[Token], kind: Kind) -> Option<(Place, &[Token])>
-    ensures spelled { MatchOption result (NotNext kind (kinds tokens.now)) (λ r. kinds tokens.now ≡ kind
-        ∷ kinds r.1.now) }
-    ensures places { IfSome result (λ r. Placed (λ at b. PlaceAt at r.0 (kind ∷ b)) tokens.now r.1.now) }
-{
-    match tokens {
-        [token, rest @ ..] => {
-            if token.kind == kind {
-                Some((token.place, rest))
-            } else {
-                None
-            }
-        }
-        _ => None,
-    }
-}
-
 /// A word of that kind, and the tokens after it.
 pub fn eat_word(tokens: &[Token], kind: Kind) -> Option<(Word, &[Token])>
     ensures spelled { MatchOption result (NotNext kind (kinds tokens.now)) (λ r. kinds tokens.now ≡ kind
@@ -58,6 +40,17 @@ pub fn eat_word(tokens: &[Token], kind: Kind) -> Option<(Word, &[Token])>
         }
         _ => None,
     }
+}
+
+/// The place of a token of that kind, and the tokens after it.
+pub fn eat(tokens: &[Token], kind: Kind) -> Option<(Place, &[Token])>
+    ensures spelled { MatchOption result (NotNext kind (kinds tokens.now))
+        (λ r. kinds tokens.now ≡ kind ∷ kinds r.1.now) }
+    ensures places { IfSome result (λ r.
+        Placed (λ at b. PlaceAt at r.0 (kind ∷ b)) tokens.now r.1.now) }
+{
+    let (word, rest) = eat_word(tokens, kind)?;
+    Some((word.place, rest))
 }
 
 /// An expression, and the tokens after it.

@@ -21,6 +21,7 @@ use crate::annotation::{annotation, maybe_annotation};
 use crate::command::commands;
 use crate::front::{eat, eat_word};
 use crate::leaf::{expect, name};
+use crate::memory::add;
 use crate::names::{maybe_names, more_names, names, parameters};
 use crate::stop::Stop;
 use sf_ast::{
@@ -59,7 +60,7 @@ fn locals(alloc: Global, tokens: &[Token]) -> Result<(Vec<SurfaceNames>, &[Token
     while let Some((_, after)) = eat(rest, Kind::Local) {
         let (one, after) = names(alloc, after)?;
         let (_, after) = expect(after, Kind::Semicolon)?;
-        found.push(one)?;
+        add(&mut found, one)?;
         rest = after;
     }
     Ok((found, rest))
@@ -226,7 +227,7 @@ pub fn items(alloc: Global, tokens: &[Token]) -> Result<Vec<Item>, Stop>
     let mut rest = tokens;
     while !rest.is_empty() {
         let (one, after) = item(alloc, rest)?;
-        found.push(one)?;
+        add(&mut found, one)?;
         rest = after;
     }
     Ok(found)

@@ -13,6 +13,7 @@
 //! - `item`: the items of a file: fields, resources, procedures.
 //! - `laws`: laws of reading a file.
 //! - `leaf`: what is predicted and is one token.
+//! - `memory`: what takes memory: lists that grow by one, values in boxes.
 //! - `names`: names with commas between them.
 //! - `plain`: commands with no command in them.
 //! - `stop`: why reading stops, by how many tokens are left.
@@ -31,6 +32,7 @@ mod front;
 mod item;
 pub mod laws;
 mod leaf;
+mod memory;
 mod names;
 mod plain;
 mod stop;

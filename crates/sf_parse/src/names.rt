@@ -10,6 +10,7 @@ ghost use Rattle.sf_parse.specs.Internal.Steps.{Placed, FailsAt, Accepts};
 
 use crate::front::{eat, eat_word};
 use crate::leaf::name;
+use crate::memory::{add, with_first};
 use crate::stop::Stop;
 use sf_ast::{SurfaceNames, SurfaceParameters, Word};
 use sf_lex::{Kind, Token};
@@ -27,7 +28,7 @@ pub fn more_names(alloc: Global, tokens: &[Token]) -> Result<(Vec<Word>, &[Token
     let mut rest = tokens;
     while let Some((_, after)) = eat(rest, Kind::Comma) {
         let (word, after) = name(after)?;
-        found.push(word)?;
+        add(&mut found, word)?;
         rest = after;
     }
     Ok((found, rest))
@@ -56,9 +57,8 @@ pub fn maybe_names(alloc: Global, tokens: &[Token]) -> Result<(Vec<Word>, &[Toke
     let Some((first, rest)) = eat_word(tokens, Kind::Name) else {
         return Ok((Vec::new(alloc), tokens));
     };
-    let (mut found, rest) = more_names(alloc, rest)?;
-    found.insert(0, first)?;
-    Ok((found, rest))
+    let (found, rest) = more_names(alloc, rest)?;
+    Ok((with_first(first, found)?, rest))
 }
 
 /// The parameters of a procedure.

@@ -31,7 +31,7 @@ fn too_deep(column: u32) -> Answer {
 fn outcome(alloc: Global, bytes: &[u8]) -> Answer {
     match tokens(alloc, bytes) {
         Err(fault) => Answer::Lexed(fault),
-        Ok(found) => match parse(alloc, bytes, found.as_slice()) {
+        Ok(found) => match parse(alloc, &found) {
             Ok(_) => Answer::Read,
             Err(fault) => Answer::Refused(fault),
         },
@@ -42,7 +42,7 @@ fn outcome(alloc: Global, bytes: &[u8]) -> Answer {
 fn file(alloc: Global, bytes: &[u8]) -> Option<File> {
     match tokens(alloc, bytes) {
         Err(_) => None,
-        Ok(found) => parse(alloc, bytes, found.as_slice()).ok(),
+        Ok(found) => parse(alloc, &found).ok(),
     }
 }
 
@@ -270,47 +270,14 @@ fn nesting_has_sixty_four_levels(rt: HostRuntime) -> Result<(), AllocError> {
 }
 
 #[test]
-fn a_million_tokens_at_one_level_are_read(rt: HostRuntime) -> Result<(), AllocError> {
-    let cases: [[(&[u8], usize); 3]; 2] = [
+fn a_million_bytes_of_one_list_are_read(rt: HostRuntime) -> Result<(), AllocError> {
+    let cases: [[(&[u8], usize); 3]; 8] = [
         [(b"f(){", 1), (b"x=x;", 262_000), (b"}", 1)],
         [(b"f(){{", 1), (b"x=x;", 262_000), (b"}}", 1)],
-    ];
-    for parts in cases {
-        let text = repeated(rt.alloc(), parts.as_slice())?;
-        assert!(rt; outcome(rt.alloc(), text.as_slice()) == Answer::Read);
-    }
-    Ok(())
-}
-
-#[test]
-fn a_million_bytes_of_declarations_are_read(rt: HostRuntime) -> Result<(), AllocError> {
-    let cases: [[(&[u8], usize); 3]; 2] = [
         [(b"f(){", 1), (b"local x;", 131_000), (b"}", 1)],
         [(b"", 0), (b"a;", 524_000), (b"", 0)],
-    ];
-    for parts in cases {
-        let text = repeated(rt.alloc(), parts.as_slice())?;
-        assert!(rt; outcome(rt.alloc(), text.as_slice()) == Answer::Read);
-    }
-    Ok(())
-}
-
-#[test]
-fn a_million_tokens_in_round_brackets_are_read(rt: HostRuntime) -> Result<(), AllocError> {
-    let cases: [[(&[u8], usize); 3]; 2] = [
         [(b"f(x", 1), (b",x", 524_000), (b"){}", 1)],
         [(b"f(){f(x", 1), (b",x", 524_000), (b");}", 1)],
-    ];
-    for parts in cases {
-        let text = repeated(rt.alloc(), parts.as_slice())?;
-        assert!(rt; outcome(rt.alloc(), text.as_slice()) == Answer::Read);
-    }
-    Ok(())
-}
-
-#[test]
-fn a_million_bytes_of_one_annotation_are_read(rt: HostRuntime) -> Result<(), AllocError> {
-    let cases: [[(&[u8], usize); 3]; 2] = [
         [(b"f()[x==x", 1), (b"*x==x", 209_600), (b"]{}", 1)],
         [(b"f()[x|->x:x", 1), (b",x:x", 262_000), (b"]{}", 1)],
     ];
@@ -624,11 +591,11 @@ fn agrees(alloc: Global, letters: &[u8], lost: &mut bool) -> Result<bool, AllocE
         None => Answer::Read,
         Some(index) => Answer::Refused(ParseFault::Unexpected(place_of(
             text.as_slice(),
-            found.as_slice(),
+            found.items.as_slice(),
             index,
         ))),
     };
-    Ok(found.len() == letters.len() && outcome(alloc, text.as_slice()) == expected)
+    Ok(found.items.len() == letters.len() && outcome(alloc, text.as_slice()) == expected)
 }
 
 /// Numbers that look random, always the same ones.

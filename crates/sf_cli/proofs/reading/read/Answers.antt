@@ -1,6 +1,3 @@
-use Rattle.std.proofs.Common.{List, sym, subst}
-use Rattle.sf_lex.specs.declared.token.Token.{Token}
-use Rattle.sf_lex.specs.Reading.{AreTokens}
 use Rattle.sf_cli.proofs.Refused.{refused-by, refused-tokens, refused-grammar, refused-names}
 use Rattle.sf_cli.specs.FileFault.{ReadFault}
 use Rattle.sf_cli.proofs.reading.read.Goals as goal
@@ -12,13 +9,13 @@ returns-in_err-tokens-clause-refused c =
 pub returns-in_err-file-clause-refused : goal.returns-in_err-file-clause-refused
 returns-in_err-file-clause-refused c =
     let bytes = c.args.bytes.now in
-    let are : AreTokens bytes c.deref.result.now = subst (λ (z : List Token). AreTokens bytes z) (sym c.deref.ensures.value) c.in_ok-tokens.ensures.found in
+    let tokens = c.in_ok-tokens.tokens in
     refused-by c.from_residual-in_err-file.result (ReadFault bytes) _ c.from_residual-in_err-file.ensures.1
-    (refused-grammar bytes c.deref.result.now c.in_err-file.field-0.0 are c.in_err-file.ensures.refused)
+    (refused-grammar bytes tokens.end tokens.items.items c.in_err-file.field-0.0 c.in_ok-tokens.ensures.found c.in_ok-tokens.ensures.end c.in_err-file.ensures.refused)
 
 pub returns-in_err-elaborate-clause-refused : goal.returns-in_err-elaborate-clause-refused
 returns-in_err-elaborate-clause-refused c =
     let bytes = c.args.bytes.now in
-    let are : AreTokens bytes c.deref.result.now = subst (λ (z : List Token). AreTokens bytes z) (sym c.deref.ensures.value) c.in_ok-tokens.ensures.found in
+    let tokens = c.in_ok-tokens.tokens in
     refused-by c.from_residual-in_err-elaborate.result (ReadFault bytes) _ c.from_residual-in_err-elaborate.ensures.1
-    (refused-names bytes c.deref.result.now _ c.in_err-elaborate.field-0.0 are c.in_ok-file.ensures.found c.in_err-elaborate.ensures.refused)
+    (refused-names bytes tokens.items.items _ c.in_err-elaborate.field-0.0 c.in_ok-tokens.ensures.found c.in_ok-file.ensures.found c.in_err-elaborate.ensures.refused)

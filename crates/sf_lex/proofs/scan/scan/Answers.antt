@@ -17,6 +17,6 @@ pub loop-start-preserved : goal.loop-start-preserved
 loop-start-preserved c = record {
   read =
       step_so c.args.bytes.now c.from_index.result.now c.loop-start.start c.bytes_of.result c.loop-start.place c.place_behind-place.result c.loop-start.found.items c.keep.new.found.items c.in_ok-lexeme.lexeme
-      c.loop-start.invariant.read c.from_index.ensures c.in_ok-lexeme.ensures c.bytes_of.ensures c.place_behind-place.ensures c.in_ok-keep.ensures.kept;
+      c.loop-start.invariant.read c.from_index.ensures c.in_ok-lexeme.ensures c.bytes_of.ensures c.place_behind-place.ensures c.in-Ok.ensures;
   within = within_so c.args.bytes.now c.from_index.result.now c.loop-start.start c.bytes_of.result c.in_ok-lexeme.lexeme c.loop-start.invariant.within c.from_index.ensures c.in_ok-lexeme.ensures c.bytes_of.ensures;
 }

@@ -44,7 +44,7 @@ more_conjuncts-loop-after-preserved t c =
     let y = conjunct_of c.in_ok-one.one in
     let r = kinds c.in_ok-one.after.now in
     let here : kinds c.loop-after.rest.now ≡ k.Star ∷ conjunct y r = rw (c.in-Some.ensures.spelled, c.in_ok-one.ensures.spelled) refl in
-    let pushed : map conjunct_of c.push.new.self.items ≡ xs ++ y ∷ [] = rw c.in_ok-push.ensures.items (map_push conjunct_of c.loop-after.found.items c.in_ok-one.one) in
+    let pushed : map conjunct_of c.add.new.found.items ≡ xs ++ y ∷ [] = rw c.in_ok-add.ensures (map_push conjunct_of c.loop-after.found.items c.in_ok-one.one) in
     rw pushed record {
       spelled = λ x. c.loop-after.invariant.spelled x ∙ ap (assertion (conjuncts x xs)) here ∙ sym (assertion_push x xs y r);
       within = λ x within ends.
@@ -116,5 +116,5 @@ conjunct-returns-in-Some-eat-2-clause-places t c =
 pub assertion-returns-clause-places : goal.assertion-returns-clause-places
 assertion-returns-clause-places t c = λ at agree.
     let a = c.in_ok-first.ensures.places at agree in
-    rw (view_assertion record { first = c.in_ok-first-2.first; more = c.in_ok-more.more }, c.in_ok-first-2.ensures.ok)
+    rw (view_assertion record { first = c.in_ok-first-2.first; more = c.in_ok-more.more }, c.in_ok-first-2.ensures)
     (c.in_ok-more.ensures.places at a.1 (conjunct_of c.in_ok-first.first) a.0)

@@ -18,7 +18,7 @@ loop-after-preserved c =
     let us = c.in-Some.after.now in
     let r = c.in-Some-eat_expression.after.now in
     let here : kinds ts ≡ k.Comma ∷ expr x ∷ kinds r = c.in-Some.ensures.spelled ∙ ap (λ (z : List Kind). k.Comma ∷ z) c.in-Some-eat_expression.ensures.spelled in
-    rw c.in_ok-push.ensures.items record {
+    rw c.in_ok-add.ensures record {
       spelled = c.loop-after.invariant.spelled ∙ ap (more_exprs xs) here ∙ sym (more_exprs_push xs x (kinds r));
       places = λ at agree.
           let a = c.loop-after.invariant.places at agree in

@@ -61,7 +61,7 @@ commands-loop-alloc-preserved t c =
     let cs = map command_of c.loop-alloc.found.items in
     let x = command_of c.in_ok-one.one in
     let r = kinds c.in_ok-one.after.now in
-    let e : map command_of c.push.new.self.items ≡ cs ++ x ∷ [] = rw c.in_ok-push.ensures.items (map_push _ c.loop-alloc.found.items c.in_ok-one.one) in
+    let e : map command_of c.add.new.found.items ≡ cs ++ x ∷ [] = rw c.in_ok-add.ensures (map_push _ c.loop-alloc.found.items c.in_ok-one.one) in
     record {
       spelled = rw e (c.loop-alloc.invariant.spelled ∙ ap (λ (z : List Kind). g.commands (commands cs) z) c.in_ok-one.ensures.spelled ∙ sym (commands_push cs x r));
       within = rw e (within_push cs x c.args.depth r (subst (λ (z : List Kind). CommandsWithin (commands cs) 0 c.args.depth z) c.in_ok-one.ensures.spelled c.loop-alloc.invariant.within) c.in_ok-one.ensures.within);

@@ -14,7 +14,7 @@ loop-after-preserved c =
     let f = c.in_ok-one.one in
     let r = kinds c.in_ok-one.after.now in
     let here : kinds c.loop-after.rest.now ≡ k.Comma ∷ field f r = rw (c.in-Some.ensures.spelled, c.in_ok-one.ensures.spelled) refl in
-    rw c.in_ok-push.ensures.items record {
+    rw c.in_ok-add.ensures record {
       spelled = c.loop-after.invariant.spelled ∙ ap (more_fields fs) here ∙ sym (more_fields_push fs f r);
       places = λ at agree.
           let a = c.loop-after.invariant.places at agree in

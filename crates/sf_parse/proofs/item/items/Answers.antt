@@ -18,7 +18,7 @@ loop-rest-preserved c =
     let is = map item_of c.loop-rest.found.items in
     let i = item_of c.in_ok-one.one in
     let r = kinds c.in_ok-one.after.now in
-    let e : map item_of c.push.new.self.items ≡ is ++ i ∷ [] = rw c.in_ok-push.ensures.items (map_push _ c.loop-rest.found.items c.in_ok-one.one) in
+    let e : map item_of c.add.new.found.items ≡ is ++ i ∷ [] = rw c.in_ok-add.ensures (map_push _ c.loop-rest.found.items c.in_ok-one.one) in
     record {
       spelled = rw e (c.loop-rest.invariant.spelled ∙ ap (λ (z : List Kind). g.items is z) c.in_ok-one.ensures.spelled ∙ sym (items_push is i r));
       within = rw e (items_within_push is i r (subst (λ (z : List Kind). ItemsWithin is 0 z) c.in_ok-one.ensures.spelled c.loop-rest.invariant.within) c.in_ok-one.ensures.within);

@@ -21,7 +21,7 @@ loop-after-preserved c =
     let ls = map names_of c.loop-after.found.items in
     let x = names_of c.in_ok-one.one in
     let r = kinds c.in_ok-after.after.now in
-    let e : map names_of c.push.new.self.items ≡ ls ++ x ∷ [] = rw c.in_ok-push.ensures.items (map_push _ c.loop-after.found.items c.in_ok-one.one) in
+    let e : map names_of c.add.new.found.items ≡ ls ++ x ∷ [] = rw c.in_ok-add.ensures (map_push _ c.loop-after.found.items c.in_ok-one.one) in
     let here : kinds c.loop-after.rest.now ≡ k.Local ∷ g.names x (k.Semicolon ∷ r) =
     c.in-Some.ensures.spelled ∙ ap (λ (z : List Kind). k.Local ∷ z) (c.in_ok-one.ensures.spelled ∙ ap (λ (z : List Kind). g.names x z) c.in_ok-after.ensures.spelled) in
     record {

@@ -14,7 +14,7 @@ loop-after-preserved c =
     let x = c.in_ok-word.word in
     let r = kinds c.in_ok-word.after.now in
     let here : kinds c.loop-after.rest.now ≡ k.Comma ∷ k.Name ∷ r = rw (c.in-Some.ensures.spelled, c.in_ok-word.ensures.spelled) refl in
-    rw c.in_ok-push.ensures.items record {
+    rw c.in_ok-add.ensures record {
       spelled = c.loop-after.invariant.spelled ∙ ap (more_names xs) here ∙ sym (more_names_push xs x r);
       places = λ at agree.
           let a = c.loop-after.invariant.places at agree in
