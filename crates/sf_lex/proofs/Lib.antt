@@ -8,6 +8,5 @@ pub mod Steps
 pub mod EachReads
 pub mod Once
 pub mod Texts
-pub mod Answered
 pub mod Spelled
 pub mod Closing

@@ -56,29 +56,13 @@ same_lexeme one two a b r s p q e =
           absurd cc
     ]
 
-blank_32 : (bs : List ℕ) → kind_of (32 ∷ bs) ≡ None
-blank_32 [] = refl
-blank_32 (b ∷ []) = refl
-blank_32 (b ∷ c ∷ []) = refl
-blank_32 (b ∷ c ∷ d ∷ bs) = refl
-
-blank_9 : (bs : List ℕ) → kind_of (9 ∷ bs) ≡ None
-blank_9 [] = refl
-blank_9 (b ∷ []) = refl
-blank_9 (b ∷ c ∷ []) = refl
-blank_9 (b ∷ c ∷ d ∷ bs) = refl
-
-blank_13 : (bs : List ℕ) → kind_of (13 ∷ bs) ≡ None
-blank_13 [] = refl
-blank_13 (b ∷ []) = refl
-blank_13 (b ∷ c ∷ []) = refl
-blank_13 (b ∷ c ∷ d ∷ bs) = refl
-
-blank_10 : (bs : List ℕ) → kind_of (10 ∷ bs) ≡ None
-blank_10 [] = refl
-blank_10 (b ∷ []) = refl
-blank_10 (b ∷ c ∷ []) = refl
-blank_10 (b ∷ c ∷ d ∷ bs) = refl
+-- a first byte begins no token where no text after it, of whatever length, makes one
+by_length : (n : ℕ) → kind_of (n ∷ []) ≡ None → ((b : ℕ) → kind_of (n ∷ b ∷ []) ≡ None) → ((b c : ℕ) → kind_of (n ∷ b ∷ c ∷ []) ≡ None)
+    → ((b c d : ℕ) (bs : List ℕ) → kind_of (n ∷ b ∷ c ∷ d ∷ bs) ≡ None) → (bs : List ℕ) → kind_of (n ∷ bs) ≡ None
+by_length n none one two more [] = none
+by_length n none one two more (b ∷ []) = one b
+by_length n none one two more (b ∷ c ∷ []) = two b c
+by_length n none one two more (b ∷ c ∷ d ∷ bs) = more b c d bs
 
 not_blank : (b : ℕ) → is_blank b ≡ true → (b == 32) ≡ false → (b == 9) ≡ false → (b == 13) ≡ false → (b == 10) ≡ false → ⊥
 not_blank b e x y z w = let wrong : false ≡ true = rw (x, y, z, w) at e in cc
@@ -91,19 +75,19 @@ blank_no_token b bs e = at_32 (b == 32) refl
     none_at n h k = let same : n ≡ b = grind (arith, nat_tests) in subst (λ x. kind_of (x ∷ bs) ≡ None) same k
 
     at_10 : (b == 32) ≡ false → (b == 9) ≡ false → (b == 13) ≡ false → (t : Bool) → (b == 10) ≡ t → kind_of (b ∷ bs) ≡ None
-    at_10 x y z true h = none_at 10 h (blank_10 bs)
+    at_10 x y z true h = none_at 10 h (by_length 10 refl (λ b. refl) (λ b c. refl) (λ b c d bs. refl) bs)
     at_10 x y z false h = absurd (not_blank b e x y z h)
 
     at_13 : (b == 32) ≡ false → (b == 9) ≡ false → (t : Bool) → (b == 13) ≡ t → kind_of (b ∷ bs) ≡ None
-    at_13 x y true h = none_at 13 h (blank_13 bs)
+    at_13 x y true h = none_at 13 h (by_length 13 refl (λ b. refl) (λ b c. refl) (λ b c d bs. refl) bs)
     at_13 x y false h = at_10 x y h (b == 10) refl
 
     at_9 : (b == 32) ≡ false → (t : Bool) → (b == 9) ≡ t → kind_of (b ∷ bs) ≡ None
-    at_9 x true h = none_at 9 h (blank_9 bs)
+    at_9 x true h = none_at 9 h (by_length 9 refl (λ b. refl) (λ b c. refl) (λ b c d bs. refl) bs)
     at_9 x false h = at_13 x h (b == 13) refl
 
     at_32 : (t : Bool) → (b == 32) ≡ t → kind_of (b ∷ bs) ≡ None
-    at_32 true h = none_at 32 h (blank_32 bs)
+    at_32 true h = none_at 32 h (by_length 32 refl (λ b. refl) (λ b c. refl) (λ b c d bs. refl) bs)
     at_32 false h = at_9 h (b == 9) refl
 
 -- nor does `/*`

@@ -1,4 +1,5 @@
-ghost use Rattle.std.specs.Prelude.{◌≡◌, ◌≤◌, ◌<◌, ◌+◌, ◌-◌, ◌^◌, ◌⊎◌, length, List, IfOk, IfErr, MatchResult};
+ghost use Rattle.std.specs.Prelude.{◌≡◌, ◌≤◌, ◌<◌, ◌+◌, ◌-◌, ◌^◌, ◌⊎◌, length, IfOk, IfErr};
+ghost use Rattle.sf_base.specs.Results.{Decides};
 ghost use Rattle.sf_base.specs.declared.limits.TheConstants.{FILE_BYTES};
 ghost use Rattle.sf_lex.specs.Internal.Lexing.{bytes_of, with_lexeme};
 ghost use Rattle.sf_lex.specs.Reading.{AreTokens, IsFault, end_place, first_place, next_place, place_behind};
@@ -117,14 +118,9 @@ fn scan(alloc: Global, bytes: &[u8]) -> Result<Tokens, LexFault>
 /// Refused with `LongFile` where the file has more than 1,048,576 bytes, else with the first fault
 /// of another kind and its place, exactly where there is one, or where memory runs out.
 pub fn tokens(alloc: Global, bytes: &[u8]) -> Result<Tokens, LexFault>
-    ensures found { IfOk result (λ found. AreTokens bytes.now found.items.items) }
+    ensures decides { Decides result (λ found. found.items.items)
+        (AreTokens bytes.now) (IsFault bytes.now) LexFault.OutOfMemory }
     ensures end { IfOk result (λ found. found.end ≡ end_place bytes.now) }
-    ensures refused { IfErr result (λ fault. (fault ≡ LexFault.OutOfMemory) ⊎ IsFault bytes.now fault) }
-    ensures only_found { (tokens : List Token) → AreTokens bytes.now tokens
-        → MatchResult result (λ found. found.items.items ≡ tokens) (λ fault. fault
-        ≡ LexFault.OutOfMemory) }
-    ensures only_refused { (fault : LexFault) → IsFault bytes.now fault
-        → MatchResult result (λ _. ⊥) (λ own. (own ≡ fault) ⊎ (own ≡ LexFault.OutOfMemory)) }
 {
     if bytes.len() > FILE_BYTES {
         return Err(LexFault::LongFile);

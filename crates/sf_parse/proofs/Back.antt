@@ -153,26 +153,19 @@ level_of : (n d : ℕ) (u : Kind) (ts : List Kind) (whole : List Kind) → u ∷
 level_of n d u ts whole e h = subst (λ z. has_level n (length z) d ≡ true) e h
 
 flat_within : (c : s.Command) (n d : ℕ) (r : List Kind) → IsFlat c → has_level n (length (g.command c r)) d ≡ true → CommandWithin c n d r
-flat_within (s.assign x a) n d r f h = h
-flat_within (s.look_up x a y) n d r f h = h
-flat_within (s.new x) n d r f h = h
-flat_within (s.mutate a x b) n d r f h = h
-flat_within (s.dispose p a) n d r f h = h
-flat_within (s.dispose_round p a) n d r f h = h
-flat_within (s.call c) n d r f h = h
-flat_within (s.fork c b) n d r f h = h
-flat_within _ n d r f h = absurd f
+flat_within (s.if_alone p b c) n d r f h = absurd f
+flat_within (s.if p b c e) n d r f h = absurd f
+flat_within (s.while p b x c) n d r f h = absurd f
+flat_within (s.with p x b c) n d r f h = absurd f
+flat_within (s.block p cs) n d r f h = absurd f
+flat_within _ n d r f h = h
 
 flat_follows : (c : s.Command) (r : List Kind) → IsFlat c → Follows c r
-flat_follows (s.assign x a) r f = tt
-flat_follows (s.look_up x a y) r f = tt
-flat_follows (s.new x) r f = tt
-flat_follows (s.mutate a x b) r f = tt
-flat_follows (s.dispose p a) r f = tt
-flat_follows (s.dispose_round p a) r f = tt
-flat_follows (s.call c) r f = tt
-flat_follows (s.fork c b) r f = tt
-flat_follows _ r f = absurd f
+flat_follows (s.if_alone p b c) r f = absurd f
+flat_follows (s.if p b c e) r f = absurd f
+flat_follows (s.while p b x c) r f = absurd f
+flat_follows (s.with p x b c) r f = absurd f
+flat_follows _ r f = tt
 
 flat_back : (n d : ℕ) (u : Kind) (ss st : List Predicted) (ts : List Kind) (c : s.Command) (r : List Kind) → IsFlat c → u ∷ ts ≡ g.command c r → Means n (ss ++ st) r → CommandBack n d u ss st ts
 flat_back n d u ss st ts c r f is more = record {

@@ -10,6 +10,7 @@ use Rattle.sf_parse.specs.Internal.Machine as m
 use Rattle.sf_parse.specs.Internal.Machine.{Predicted, verdict, unexpected}
 use Rattle.sf_parse.specs.Parsing.{kinds}
 use Rattle.sf_parse.specs.Internal.Steps.{NotNext, FailsAt, operand_next}
+use Rattle.sf_parse.proofs.Decided.{conjunct_decided, refused}
 use Rattle.sf_parse.proofs.Fronts.{left_of}
 
 pub no_more_names : (ts : List Kind) (st : List Predicted) → NotNext k.Comma ts → verdict 0 ts (m.more_names ∷ st) ≡ verdict 0 ts st
@@ -69,19 +70,7 @@ no_relation ts st h i j = left_of ts (m.relation ∷ st) (go (kinds ts) h i j)
 
 pub conjunct_fails : (d : ℕ) (ts : List Kind) (st : List Predicted) → conjunct_next ts ≡ false → verdict 0 ts (m.conjunct d ∷ st) ≡ unexpected (length ts)
 conjunct_fails d [] st h = refl
-conjunct_fails d (k.Emp ∷ r) st h = absurd cc
-conjunct_fails d (k.OpenRound ∷ r) st h = absurd cc
-conjunct_fails d (k.If ∷ r) st h = absurd cc
-conjunct_fails d (k.Ls ∷ r) st h = absurd cc
-conjunct_fails d (k.Lseg ∷ r) st h = absurd cc
-conjunct_fails d (k.List ∷ r) st h = absurd cc
-conjunct_fails d (k.Tree ∷ r) st h = absurd cc
-conjunct_fails d (k.Name ∷ r) st h = absurd cc
-conjunct_fails d (k.Nil ∷ r) st h = absurd cc
-conjunct_fails d (k.Null ∷ r) st h = absurd cc
-conjunct_fails d (k.Number ∷ r) st h = absurd cc
-conjunct_fails d (k.Existential ∷ r) st h = absurd cc
-conjunct_fails d (t ∷ r) st h = refl
+conjunct_fails d (t ∷ r) st h = rw (refused (conjunct_decided d t r) h []) refl
 
 none_begins : (ts : List Kind) → operand_next ts ≡ false → NotNext k.OpenRound ts → NotNext k.If ts → NotNext k.Emp ts → NotNext k.Ls ts → NotNext k.Lseg ts → NotNext k.List ts → NotNext k.Tree ts → conjunct_next ts ≡ false
 none_begins [] o a b c e f g h = refl

@@ -2,10 +2,10 @@
 use Rattle.std.proofs.Common.{sym, ◌∙◌, []}
 use Rattle.sf_parse.specs.Parsing.{token_left}
 use Rattle.sf_parse.proofs.OnceFiles.{items_once}
-use Rattle.sf_parse.specs.Laws.{EachFileIsOne, EachFileIsShallow, AnswerIsUnique, ShallowTreesAreWithin, TheVerdictIsExact}
-use Rattle.sf_parse.proofs.Depths.{items_within}
+use Rattle.sf_parse.specs.Laws.{EachFileIsOne, EachFileIsShallow, AnswerIsUnique, LevelsAreDepths, ShallowTreesAreWithin, TheVerdictIsExact}
+use Rattle.sf_parse.proofs.Depths.{items_levels_whole, items_shallow, items_within, levels_within}
 use Rattle.sf_parse.proofs.Faults.{file_or_fault, faults_once, files_without_fault}
-use Rattle.sf_parse.proofs.Nearest.{items_nearest, items_shallow}
+use Rattle.sf_parse.proofs.Nearest.{items_nearest}
 use Rattle.sf_parse.proofs.Law.{exact}
 
 pub each_file_is_one : EachFileIsOne
@@ -18,7 +18,10 @@ pub answer_is_unique : AnswerIsUnique
 answer_is_unique end ts = record { some = file_or_fault end ts; faults = faults_once end ts; apart = files_without_fault end ts }
 
 pub shallow_trees_are_within : ShallowTreesAreWithin
-shallow_trees_are_within tree = (λ w. (items_nearest tree 0 [] w, items_within tree [] w), λ h. items_shallow tree 0 [] h.0 h.1)
+shallow_trees_are_within tree n = (λ w. (items_nearest tree n [] w, levels_within tree n [] w), λ h. items_shallow tree n [] h.0 h.1)
+
+pub levels_are_depths : LevelsAreDepths
+levels_are_depths tree = items_levels_whole tree []
 
 pub the_verdict_is_exact : TheVerdictIsExact
 the_verdict_is_exact = exact

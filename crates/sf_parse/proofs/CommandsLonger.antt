@@ -37,12 +37,12 @@ annotation_longer : (x : s.Note) (r : List Kind) → length r < length (g.annota
 annotation_longer s.blank r = omega arith
 annotation_longer (s.filled a) r = omega (arith, assertion_longer a (k.CloseSquare ∷ r))
 
-maybe_annotation_longer : (x : Option s.Note) (r : List Kind) → length r ≤ length (g.maybe_annotation x r)
+pub maybe_annotation_longer : (x : Option s.Note) (r : List Kind) → length r ≤ length (g.maybe_annotation x r)
 maybe_annotation_longer None r = omega arith
 maybe_annotation_longer (Some x) r = omega (arith, annotation_longer x r)
 
 mutual
-  command_longer : (c : s.Command) (r : List Kind) → length r < length (g.command c r)
+  pub command_longer : (c : s.Command) (r : List Kind) → length r < length (g.command c r)
   command_longer (s.assign x a) r = omega arith
   command_longer (s.look_up x a f) r = omega arith
   command_longer (s.new x) r = omega arith

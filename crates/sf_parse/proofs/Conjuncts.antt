@@ -11,11 +11,12 @@ use Rattle.sf_lex.specs.declared.token.Token.{Token}
 use Rattle.sf_parse.specs.Grammar as g
 use Rattle.sf_parse.specs.Internal.Heads.{IsFlatConjunct, conjunct_next}
 use Rattle.sf_parse.specs.Internal.Machine as m
-use Rattle.sf_parse.specs.Internal.Machine.{Predicted, verdict, unexpected, too_deep}
+use Rattle.sf_parse.specs.Internal.Machine.{Predicted, on_conjunct, verdict, unexpected, too_deep}
 use Rattle.sf_parse.specs.Nesting.{IsClosed, ConjunctWithin, AssertionWithin, RestWithin}
 use Rattle.sf_parse.specs.Parsing.{kinds}
 use Rattle.sf_parse.specs.Placed.{ConjunctAt, AssertionAt}
 use Rattle.sf_parse.specs.Internal.Steps.{NotNext, last_of, NotStar, Ends}
+use Rattle.sf_parse.proofs.Decided.{Decided, takes, refuses, conjunct_decided, in_parts, refused, taken}
 use Rattle.sf_parse.proofs.Forth.{by_operand}
 use Rattle.sf_parse.proofs.Fronts.{left_of}
 use Rattle.sf_parse.proofs.HasLevel.{no_level, some_level}
@@ -23,38 +24,14 @@ use Rattle.sf_parse.proofs.HasLevel.{no_level, some_level}
 -- without a level
 deep : (ts : List Kind) (st : List Predicted) → conjunct_next ts ≡ true → verdict 0 ts (m.assertion 0 ∷ st) ≡ too_deep (length ts)
 deep [] st h = absurd cc
-deep (k.Emp ∷ r) st h = rw (no_level (length r)) refl
-deep (k.OpenRound ∷ r) st h = rw (no_level (length r)) refl
-deep (k.If ∷ r) st h = rw (no_level (length r)) refl
-deep (k.Ls ∷ r) st h = rw (no_level (length r)) refl
-deep (k.Lseg ∷ r) st h = rw (no_level (length r)) refl
-deep (k.List ∷ r) st h = rw (no_level (length r)) refl
-deep (k.Tree ∷ r) st h = rw (no_level (length r)) refl
-deep (k.Name ∷ r) st h = rw (no_level (length r)) refl
-deep (k.Nil ∷ r) st h = rw (no_level (length r)) refl
-deep (k.Null ∷ r) st h = rw (no_level (length r)) refl
-deep (k.Number ∷ r) st h = rw (no_level (length r)) refl
-deep (k.Existential ∷ r) st h = rw (no_level (length r)) refl
-deep (t ∷ r) st h = absurd cc
+deep (t ∷ r) st h = rw ((taken (conjunct_decided 0 t r) h).1 (m.more_conjuncts 0 ∷ []), no_level (length r)) refl
 
 pub too_deep_here : (ts : List Token) (st : List Predicted) → conjunct_next (kinds ts) ≡ true → verdict 0 (kinds ts) (m.assertion 0 ∷ st) ≡ too_deep (length ts)
 too_deep_here ts st h = deep (kinds ts) st h ∙ ap too_deep (length-map ts (λ t. t.kind))
 
 no_assertion : (d : ℕ) (ts : List Kind) (st : List Predicted) → conjunct_next ts ≡ false → verdict 0 ts (m.assertion d ∷ st) ≡ unexpected (length ts)
 no_assertion d [] st h = refl
-no_assertion d (k.Emp ∷ r) st h = absurd cc
-no_assertion d (k.OpenRound ∷ r) st h = absurd cc
-no_assertion d (k.If ∷ r) st h = absurd cc
-no_assertion d (k.Ls ∷ r) st h = absurd cc
-no_assertion d (k.Lseg ∷ r) st h = absurd cc
-no_assertion d (k.List ∷ r) st h = absurd cc
-no_assertion d (k.Tree ∷ r) st h = absurd cc
-no_assertion d (k.Name ∷ r) st h = absurd cc
-no_assertion d (k.Nil ∷ r) st h = absurd cc
-no_assertion d (k.Null ∷ r) st h = absurd cc
-no_assertion d (k.Number ∷ r) st h = absurd cc
-no_assertion d (k.Existential ∷ r) st h = absurd cc
-no_assertion d (t ∷ r) st h = refl
+no_assertion d (t ∷ r) st h = rw (refused (conjunct_decided d t r) h (m.more_conjuncts d ∷ [])) refl
 
 pub unexpected_here : (ts : List Token) (st : List Predicted) → conjunct_next (kinds ts) ≡ false → verdict 0 (kinds ts) (m.assertion 0 ∷ st) ≡ unexpected (length ts)
 unexpected_here ts st h = left_of ts (m.assertion 0 ∷ st) (no_assertion 0 (kinds ts) st h)
@@ -63,19 +40,11 @@ unexpected_here ts st h = left_of ts (m.assertion 0 ∷ st) (no_assertion 0 (kin
 pub first_conjunct : (d : ℕ) (ts : List Kind) (st : List Predicted) → 0 < d → verdict 0 ts (m.assertion d ∷ st) ≡ verdict 0 ts (m.conjunct d ∷ m.more_conjuncts d ∷ st)
 first_conjunct zero ts st h = absurd (omega arith)
 first_conjunct (suc d) [] st h = refl
-first_conjunct (suc d) (k.Emp ∷ r) st h = refl
-first_conjunct (suc d) (k.OpenRound ∷ r) st h = refl
-first_conjunct (suc d) (k.If ∷ r) st h = refl
-first_conjunct (suc d) (k.Ls ∷ r) st h = refl
-first_conjunct (suc d) (k.Lseg ∷ r) st h = refl
-first_conjunct (suc d) (k.List ∷ r) st h = refl
-first_conjunct (suc d) (k.Tree ∷ r) st h = refl
-first_conjunct (suc d) (k.Name ∷ r) st h = refl
-first_conjunct (suc d) (k.Nil ∷ r) st h = refl
-first_conjunct (suc d) (k.Null ∷ r) st h = refl
-first_conjunct (suc d) (k.Number ∷ r) st h = refl
-first_conjunct (suc d) (k.Existential ∷ r) st h = refl
-first_conjunct (suc d) (t ∷ r) st h = refl
+first_conjunct (suc d) (t ∷ r) st h = go (conjunct_decided (suc d) t r)
+  where
+    go : Decided (conjunct_next (t ∷ r)) (on_conjunct (suc d) t) → verdict 0 (t ∷ r) (m.assertion (suc d) ∷ st) ≡ verdict 0 (t ∷ r) (m.conjunct (suc d) ∷ m.more_conjuncts (suc d) ∷ st)
+    go (takes xs b e) = rw (e (m.more_conjuncts (suc d) ∷ []), e []) (ap (verdict 0 r) (in_parts xs (m.more_conjuncts (suc d) ∷ []) st))
+    go (refuses b e) = rw (e (m.more_conjuncts (suc d) ∷ []), e []) refl
 
 -- after a conjunct
 pub no_more_conjuncts : (d : ℕ) (ts : List Kind) (st : List Predicted) → NotNext k.Star ts → verdict 0 ts (m.more_conjuncts d ∷ st) ≡ verdict 0 ts st
@@ -109,14 +78,7 @@ pub flat_within : (c : s.Conjunct) (d : ℕ) (r : List Kind) → IsFlatConjunct 
 flat_within (s.group p a) d r h = absurd h
 flat_within (s.choose p b x y) d r h = absurd h
 flat_within (s.choose_round p b x y) d r h = absurd h
-flat_within (s.emp p) d r h = tt
-flat_within (s.equal x y) d r h = tt
-flat_within (s.differ x y) d r h = tt
-flat_within (s.points x fs) d r h = tt
-flat_within (s.ls p x y) d r h = tt
-flat_within (s.lseg p x y) d r h = tt
-flat_within (s.list p x) d r h = tt
-flat_within (s.tree p x) d r h = tt
+flat_within _ d r h = tt
 
 pub flat_ends : (c : s.Conjunct) (r : List Kind) → IsFlatConjunct c → Ends c r
 flat_ends (s.choose p b x y) r h = absurd h

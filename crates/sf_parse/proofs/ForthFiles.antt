@@ -19,33 +19,29 @@ follows_any (s.if_alone p b c) r h = h
 follows_any (s.if p b c d) r h = follows_any d r h
 follows_any (s.while p b x c) r h = follows_any c r h
 follows_any (s.with p x b c) r h = follows_any c r h
-follows_any (s.assign x a) r h = tt
-follows_any (s.look_up x a f) r h = tt
-follows_any (s.new x) r h = tt
-follows_any (s.mutate a f b) r h = tt
-follows_any (s.dispose p a) r h = tt
-follows_any (s.dispose_round p a) r h = tt
-follows_any (s.call c) r h = tt
-follows_any (s.fork c d) r h = tt
-follows_any (s.block p cs) r h = tt
+follows_any _ r h = tt
 
-expr_no_else : (x : SurfaceExpr) (r : List Kind) → NotElse (g.expr x ∷ r)
-expr_no_else x r = by_expr x (λ u. NotElse (u ∷ r)) tt tt tt tt
+-- what is so of each token that may begin a command, whatever comes after it, is so of each command
+by_command : (P : List Kind → Type 0) → ((r : List Kind) → P (k.Name ∷ r)) → ((r : List Kind) → P (k.Nil ∷ r)) → ((r : List Kind) → P (k.Null ∷ r)) → ((r : List Kind) → P (k.Number ∷ r))
+    → ((r : List Kind) → P (k.Dispose ∷ r)) → ((r : List Kind) → P (k.If ∷ r)) → ((r : List Kind) → P (k.While ∷ r)) → ((r : List Kind) → P (k.With ∷ r)) → ((r : List Kind) → P (k.OpenBrace ∷ r))
+    → (c : s.Command) (r : List Kind) → P (g.command c r)
+by_command P name nil null number dispose if_word while_word with_word brace (s.mutate a f b) r =
+    by_expr a (λ u. P (u ∷ k.Arrow ∷ k.Name ∷ k.Equals ∷ g.expr b ∷ k.Semicolon ∷ r)) (name _) (nil _) (null _) (number _)
+by_command P name nil null number dispose if_word while_word with_word brace (s.assign x a) r = name _
+by_command P name nil null number dispose if_word while_word with_word brace (s.look_up x a f) r = name _
+by_command P name nil null number dispose if_word while_word with_word brace (s.new x) r = name _
+by_command P name nil null number dispose if_word while_word with_word brace (s.dispose p a) r = dispose _
+by_command P name nil null number dispose if_word while_word with_word brace (s.dispose_round p a) r = dispose _
+by_command P name nil null number dispose if_word while_word with_word brace (s.if_alone p b c) r = if_word _
+by_command P name nil null number dispose if_word while_word with_word brace (s.if p b c d) r = if_word _
+by_command P name nil null number dispose if_word while_word with_word brace (s.while p b x c) r = while_word _
+by_command P name nil null number dispose if_word while_word with_word brace (s.with p x b c) r = with_word _
+by_command P name nil null number dispose if_word while_word with_word brace (s.call c) r = name _
+by_command P name nil null number dispose if_word while_word with_word brace (s.fork c d) r = name _
+by_command P name nil null number dispose if_word while_word with_word brace (s.block p cs) r = brace _
 
 no_else_front : (c : s.Command) (r : List Kind) → NotElse (g.command c r)
-no_else_front (s.mutate a f b) r = expr_no_else a (k.Arrow ∷ k.Name ∷ k.Equals ∷ g.expr b ∷ k.Semicolon ∷ r)
-no_else_front (s.assign x a) r = tt
-no_else_front (s.look_up x a f) r = tt
-no_else_front (s.new x) r = tt
-no_else_front (s.dispose p a) r = tt
-no_else_front (s.dispose_round p a) r = tt
-no_else_front (s.if_alone p b c) r = tt
-no_else_front (s.if p b c d) r = tt
-no_else_front (s.while p b x c) r = tt
-no_else_front (s.with p x b c) r = tt
-no_else_front (s.call c) r = tt
-no_else_front (s.fork c d) r = tt
-no_else_front (s.block p cs) r = tt
+no_else_front = by_command NotElse (λ r. tt) (λ r. tt) (λ r. tt) (λ r. tt) (λ r. tt) (λ r. tt) (λ r. tt) (λ r. tt) (λ r. tt)
 
 pub no_else_fronts : (cs : s.Commands) (r : List Kind) → NotElse r → NotElse (g.commands cs r)
 no_else_fronts s.done r h = h
@@ -53,37 +49,13 @@ no_else_fronts (s.then c cs) r h = no_else_front c (g.commands cs r)
 
 -- a command begins no note
 no_annotation : (n : ℕ) (c : s.Command) (r : List Kind) (st : List Predicted) → verdict n (g.command c r) (m.maybe_annotation ∷ st) ≡ verdict n (g.command c r) st
-no_annotation n (s.mutate a f b) r st =
-    by_expr a (λ u. verdict n (u ∷ k.Arrow ∷ k.Name ∷ k.Equals ∷ g.expr b ∷ k.Semicolon ∷ r) (m.maybe_annotation ∷ st) ≡ verdict n (u ∷ k.Arrow ∷ k.Name ∷ k.Equals ∷ g.expr b ∷ k.Semicolon ∷ r) st) refl refl refl refl
-no_annotation n (s.assign x a) r st = refl
-no_annotation n (s.look_up x a f) r st = refl
-no_annotation n (s.new x) r st = refl
-no_annotation n (s.dispose p a) r st = refl
-no_annotation n (s.dispose_round p a) r st = refl
-no_annotation n (s.if_alone p b c) r st = refl
-no_annotation n (s.if p b c d) r st = refl
-no_annotation n (s.while p b x c) r st = refl
-no_annotation n (s.with p x b c) r st = refl
-no_annotation n (s.call c) r st = refl
-no_annotation n (s.fork c d) r st = refl
-no_annotation n (s.block p cs) r st = refl
+no_annotation n c r st =
+    by_command (λ z. verdict n z (m.maybe_annotation ∷ st) ≡ verdict n z st) (λ z. refl) (λ z. refl) (λ z. refl) (λ z. refl) (λ z. refl) (λ z. refl) (λ z. refl) (λ z. refl) (λ z. refl) c r
 
 -- the first of several commands
 one_of_many : (n : ℕ) (c : s.Command) (d : ℕ) (r : List Kind) (st : List Predicted) → verdict n (g.command c r) (m.commands d ∷ st) ≡ verdict n (g.command c r) (m.command d ∷ m.commands d ∷ st)
-one_of_many n (s.mutate a f b) d r st =
-    by_expr a (λ u. verdict n (u ∷ k.Arrow ∷ k.Name ∷ k.Equals ∷ g.expr b ∷ k.Semicolon ∷ r) (m.commands d ∷ st) ≡ verdict n (u ∷ k.Arrow ∷ k.Name ∷ k.Equals ∷ g.expr b ∷ k.Semicolon ∷ r) (m.command d ∷ m.commands d ∷ st)) refl refl refl refl
-one_of_many n (s.assign x a) d r st = refl
-one_of_many n (s.look_up x a f) d r st = refl
-one_of_many n (s.new x) d r st = refl
-one_of_many n (s.dispose p a) d r st = refl
-one_of_many n (s.dispose_round p a) d r st = refl
-one_of_many n (s.if_alone p b c) d r st = refl
-one_of_many n (s.if p b c e) d r st = refl
-one_of_many n (s.while p b x c) d r st = refl
-one_of_many n (s.with p x b c) d r st = refl
-one_of_many n (s.call c) d r st = refl
-one_of_many n (s.fork c e) d r st = refl
-one_of_many n (s.block p cs) d r st = refl
+one_of_many n c d r st =
+    by_command (λ z. verdict n z (m.commands d ∷ st) ≡ verdict n z (m.command d ∷ m.commands d ∷ st)) (λ z. refl) (λ z. refl) (λ z. refl) (λ z. refl) (λ z. refl) (λ z. refl) (λ z. refl) (λ z. refl) (λ z. refl) c r
 
 no_branch : (n : ℕ) (d : ℕ) (r : List Kind) (st : List Predicted) → NotElse r → verdict n r (m.branch d ∷ st) ≡ verdict n r st
 no_branch n d [] st h = refl
@@ -133,20 +105,8 @@ mutual
 
 -- a body after its `local`s
 no_local : (n : ℕ) (c : s.Command) (r : List Kind) (st : List Predicted) → verdict n (g.command c r) (m.locals ∷ st) ≡ verdict n (g.command c r) st
-no_local n (s.mutate a f b) r st =
-    by_expr a (λ u. verdict n (u ∷ k.Arrow ∷ k.Name ∷ k.Equals ∷ g.expr b ∷ k.Semicolon ∷ r) (m.locals ∷ st) ≡ verdict n (u ∷ k.Arrow ∷ k.Name ∷ k.Equals ∷ g.expr b ∷ k.Semicolon ∷ r) st) refl refl refl refl
-no_local n (s.assign x a) r st = refl
-no_local n (s.look_up x a f) r st = refl
-no_local n (s.new x) r st = refl
-no_local n (s.dispose p a) r st = refl
-no_local n (s.dispose_round p a) r st = refl
-no_local n (s.if_alone p b c) r st = refl
-no_local n (s.if p b c d) r st = refl
-no_local n (s.while p b x c) r st = refl
-no_local n (s.with p x b c) r st = refl
-no_local n (s.call c) r st = refl
-no_local n (s.fork c d) r st = refl
-no_local n (s.block p cs) r st = refl
+no_local n c r st =
+    by_command (λ z. verdict n z (m.locals ∷ st) ≡ verdict n z st) (λ z. refl) (λ z. refl) (λ z. refl) (λ z. refl) (λ z. refl) (λ z. refl) (λ z. refl) (λ z. refl) (λ z. refl) c r
 
 no_locals : (n : ℕ) (cs : s.Commands) (r : List Kind) (st : List Predicted) → verdict n (g.commands cs (k.CloseBrace ∷ r)) (m.locals ∷ st) ≡ verdict n (g.commands cs (k.CloseBrace ∷ r)) st
 no_locals n s.done r st = refl

@@ -13,11 +13,12 @@ use Rattle.sf_lex.specs.declared.token.Token.{Token}
 use Rattle.sf_parse.specs.Grammar as g
 use Rattle.sf_parse.specs.Internal.Heads.{command_next}
 use Rattle.sf_parse.specs.Internal.Machine as m
-use Rattle.sf_parse.specs.Internal.Machine.{Predicted, verdict, unexpected, too_deep}
-use Rattle.sf_parse.specs.Nesting.{Follows, CommandWithin, CommandsWithin}
+use Rattle.sf_parse.specs.Internal.Machine.{Predicted, after, leveled, verdict, unexpected, too_deep}
+use Rattle.sf_parse.specs.Nesting.{has_level, Follows, CommandWithin, CommandsWithin}
 use Rattle.sf_parse.specs.Parsing.{kinds}
 use Rattle.sf_parse.specs.Placed.{CommandAt, CommandsAt}
 use Rattle.sf_parse.specs.Internal.Steps.{NotNext, expression_next}
+use Rattle.sf_parse.proofs.Decided.{command_decided, in_parts, refused, taken}
 use Rattle.sf_parse.proofs.Back.{follows_else}
 use Rattle.sf_parse.proofs.Fronts.{left_of}
 use Rattle.sf_parse.proofs.HasLevel.{no_level, some_level}
@@ -25,32 +26,14 @@ use Rattle.sf_parse.proofs.HasLevel.{no_level, some_level}
 -- where no level is left
 level_fails : (ts : List Kind) (st : List Predicted) → command_next ts ≡ true → verdict 0 ts (m.command 0 ∷ st) ≡ too_deep (length ts)
 level_fails [] st h = absurd cc
-level_fails (k.Name ∷ r) st h = rw (no_level (length r)) refl
-level_fails (k.Nil ∷ r) st h = rw (no_level (length r)) refl
-level_fails (k.Null ∷ r) st h = rw (no_level (length r)) refl
-level_fails (k.Number ∷ r) st h = rw (no_level (length r)) refl
-level_fails (k.Dispose ∷ r) st h = rw (no_level (length r)) refl
-level_fails (k.If ∷ r) st h = rw (no_level (length r)) refl
-level_fails (k.While ∷ r) st h = rw (no_level (length r)) refl
-level_fails (k.With ∷ r) st h = rw (no_level (length r)) refl
-level_fails (k.OpenBrace ∷ r) st h = rw (no_level (length r)) refl
-level_fails (t ∷ r) st h = absurd cc
+level_fails (t ∷ r) st h = rw ((taken (command_decided 0 t r) h).1 [], no_level (length r)) refl
 
 pub fails_at_level : (ts : List Token) (st : List Predicted) → command_next (kinds ts) ≡ true → verdict 0 (kinds ts) (m.command 0 ∷ st) ≡ too_deep (length ts)
 fails_at_level ts st h = level_fails (kinds ts) st h ∙ ap too_deep (length-map ts (λ (t : Token). t.kind))
 
 command_fails : (d : ℕ) (ts : List Kind) (st : List Predicted) → command_next ts ≡ false → verdict 0 ts (m.command d ∷ st) ≡ unexpected (length ts)
 command_fails d [] st h = refl
-command_fails d (k.Name ∷ r) st h = absurd cc
-command_fails d (k.Nil ∷ r) st h = absurd cc
-command_fails d (k.Null ∷ r) st h = absurd cc
-command_fails d (k.Number ∷ r) st h = absurd cc
-command_fails d (k.Dispose ∷ r) st h = absurd cc
-command_fails d (k.If ∷ r) st h = absurd cc
-command_fails d (k.While ∷ r) st h = absurd cc
-command_fails d (k.With ∷ r) st h = absurd cc
-command_fails d (k.OpenBrace ∷ r) st h = absurd cc
-command_fails d (t ∷ r) st h = refl
+command_fails d (t ∷ r) st h = rw (refused (command_decided d t r) h []) refl
 
 -- where no command begins
 pub fails_at_command : (d : ℕ) (ts : List Token) (st : List Predicted) → command_next (kinds ts) ≡ false → verdict 0 (kinds ts) (m.command d ∷ st) ≡ unexpected (length ts)
@@ -109,32 +92,16 @@ accepts_value (suc d) (e.Number x p) ts r st lv no_name h = rw h refl
 -- what need not come
 commands_over : (d : ℕ) (ts : List Kind) (st : List Predicted) → command_next ts ≡ false → verdict 0 ts (m.commands d ∷ st) ≡ verdict 0 ts st
 commands_over d [] st h = refl
-commands_over d (k.Name ∷ r) st h = absurd cc
-commands_over d (k.Nil ∷ r) st h = absurd cc
-commands_over d (k.Null ∷ r) st h = absurd cc
-commands_over d (k.Number ∷ r) st h = absurd cc
-commands_over d (k.Dispose ∷ r) st h = absurd cc
-commands_over d (k.If ∷ r) st h = absurd cc
-commands_over d (k.While ∷ r) st h = absurd cc
-commands_over d (k.With ∷ r) st h = absurd cc
-commands_over d (k.OpenBrace ∷ r) st h = absurd cc
-commands_over d (t ∷ r) st h = refl
+commands_over d (t ∷ r) st h = rw (refused (command_decided d t r) h (m.commands d ∷ [])) refl
 
 pub no_commands : (d : ℕ) (ts : List Token) (st : List Predicted) → command_next (kinds ts) ≡ false → verdict 0 (kinds ts) (m.commands d ∷ st) ≡ verdict 0 (kinds ts) st
 no_commands d ts st h = commands_over d (kinds ts) st h
 
 commands_go_on : (d : ℕ) (ts : List Kind) (st : List Predicted) → command_next ts ≡ true → verdict 0 ts (m.commands d ∷ st) ≡ verdict 0 ts (m.command d ∷ m.commands d ∷ st)
 commands_go_on d [] st h = absurd cc
-commands_go_on d (k.Name ∷ r) st h = refl
-commands_go_on d (k.Nil ∷ r) st h = refl
-commands_go_on d (k.Null ∷ r) st h = refl
-commands_go_on d (k.Number ∷ r) st h = refl
-commands_go_on d (k.Dispose ∷ r) st h = refl
-commands_go_on d (k.If ∷ r) st h = refl
-commands_go_on d (k.While ∷ r) st h = refl
-commands_go_on d (k.With ∷ r) st h = refl
-commands_go_on d (k.OpenBrace ∷ r) st h = refl
-commands_go_on d (t ∷ r) st h = absurd cc
+commands_go_on d (t ∷ r) st h =
+    let o = taken (command_decided d t r) h in
+    rw (o.1 (m.commands d ∷ []), o.1 []) (ap (λ (z : List Predicted). after (λ s. verdict 0 r s) (suc (length r)) (leveled (has_level 0 (suc (length r)) d) z)) (in_parts o.0 (m.commands d ∷ []) st))
 
 pub another_command : (d : ℕ) (ts : List Token) (st : List Predicted) → command_next (kinds ts) ≡ true → verdict 0 (kinds ts) (m.commands d ∷ st) ≡ verdict 0 (kinds ts) (m.command d ∷ m.commands d ∷ st)
 another_command d ts st h = commands_go_on d (kinds ts) st h

@@ -11,6 +11,7 @@ pub mod Law
 pub mod Once
 pub mod OnceAssertions
 pub mod OnceFiles
+pub mod Decided
 pub mod Depths
 pub mod Fronts
 pub mod Faults
@@ -24,6 +25,7 @@ pub mod ItemHeads
 pub mod Parsed
 pub mod Choices
 pub mod Lists
+pub mod Sides
 pub mod Views
 pub mod Conjuncts
 pub mod Placing

@@ -1,6 +1,7 @@
 -- Tokens spell one assertion alone.
 use Rattle.std.proofs.Common.{◌≡◌, ◌-◌, ℕ, List, [], ◌∷◌, refl, ap, sym, ◌∙◌, subst, ap₂}
 use Rattle.sf_base.proofs.Lists.{cons-same}
+use Rattle.sf_base.specs.declared.place.Place.{Place}
 use Rattle.sf_ast.specs.declared.assertion.SurfaceField.{SurfaceField}
 use Rattle.sf_ast.specs.declared.word.SurfaceExpr.{SurfaceExpr}
 use Rattle.sf_ast.specs.declared.word.SurfaceExpr.TheVariants as e
@@ -13,7 +14,7 @@ use Rattle.sf_lex.specs.declared.token.Kind.{Kind}
 use Rattle.sf_lex.specs.declared.token.Kind.TheVariants as k
 use Rattle.sf_lex.specs.declared.token.Token.{Token}
 use Rattle.sf_parse.specs.Grammar as g
-use Rattle.sf_parse.specs.Placed.{ExprAt, OperandAt, TestAt, FieldAt, MoreFieldsAt, MaybeFieldsAt, ConjunctAt, AssertionAt}
+use Rattle.sf_parse.specs.Placed.{PlaceAt, ExprAt, OperandAt, TestAt, FieldAt, MoreFieldsAt, MaybeFieldsAt, ConjunctAt, AssertionAt}
 use Rattle.sf_parse.specs.Nesting.{ConjunctWithin, AssertionWithin, RestWithin}
 use Rattle.sf_parse.specs.Internal.Steps.{NotStar, Ends}
 use Rattle.sf_parse.proofs.Forth.{by_operand, closed_ends, ends_before, AfterConjunct}
@@ -29,43 +30,33 @@ operand_no_true : (x : SurfaceOperand) → g.operand x ≡ k.True → ⊥
 operand_no_true (v.Known x) u = expr_no_true x u
 operand_no_true (v.Existential x) u = cc
 
+-- tests over values of one kind, which are no `true`: two at one place are one
+tests_once : {E : Type 0} (kind : E → Kind) (PartAt : E → List Kind → Type 0) (at : ℕ → Token) → ((x : E) → kind x ≡ k.True → ⊥)
+    → ((x y : E) (r q : List Kind) → PartAt x r → PartAt y q → kind x ≡ kind y → r ≡ q → x ≡ y)
+    → (b c : SurfaceTest E) (r q : List Kind) → TestAt at kind PartAt b r → TestAt at kind PartAt c q → g.test kind b r ≡ g.test kind c q → Same b c r q
+tests_once kind PartAt at no_true once (t.True p) (t.True o) r q h i f = let tail : r ≡ q = cc in (ap t.True (place_once at p o (k.True ∷ r) (k.True ∷ q) h i f), tail)
+tests_once kind PartAt at no_true once (t.True p) (t.Equal x y) r q h i f = absurd (no_true x cc)
+tests_once kind PartAt at no_true once (t.True p) (t.Differ x y) r q h i f = absurd (no_true x cc)
+tests_once kind PartAt at no_true once (t.Equal x y) (t.True p) r q h i f = absurd (no_true x cc)
+tests_once kind PartAt at no_true once (t.Differ x y) (t.True p) r q h i f = absurd (no_true x cc)
+tests_once kind PartAt at no_true once (t.Equal x y) (t.Differ z w) r q h i f = absurd cc
+tests_once kind PartAt at no_true once (t.Differ x y) (t.Equal z w) r q h i f = absurd cc
+tests_once kind PartAt at no_true once (t.Equal x y) (t.Equal z w) r q h i f =
+    let first : kind x ≡ kind z = cc in
+    let second : kind y ≡ kind w = cc in
+    let tail : r ≡ q = cc in
+    (ap₂ t.Equal (once x z _ _ h.0 i.0 first (ap (λ l. k.EqualEqual ∷ l) (cons-same (kind y) (kind w) r q second tail))) (once y w r q h.1 i.1 second tail), tail)
+tests_once kind PartAt at no_true once (t.Differ x y) (t.Differ z w) r q h i f =
+    let first : kind x ≡ kind z = cc in
+    let second : kind y ≡ kind w = cc in
+    let tail : r ≡ q = cc in
+    (ap₂ t.Differ (once x z _ _ h.0 i.0 first (ap (λ l. k.NotEqual ∷ l) (cons-same (kind y) (kind w) r q second tail))) (once y w r q h.1 i.1 second tail), tail)
+
 pub test_once : (at : ℕ → Token) (b c : SurfaceTest SurfaceExpr) (r q : List Kind) → TestAt at g.expr (ExprAt at) b r → TestAt at g.expr (ExprAt at) c q → g.test g.expr b r ≡ g.test g.expr c q → Same b c r q
-test_once at (t.True p) (t.True o) r q h i f = let tail : r ≡ q = cc in (ap t.True (place_once at p o (k.True ∷ r) (k.True ∷ q) h i f), tail)
-test_once at (t.True p) (t.Equal x y) r q h i f = absurd (expr_no_true x cc)
-test_once at (t.True p) (t.Differ x y) r q h i f = absurd (expr_no_true x cc)
-test_once at (t.Equal x y) (t.True p) r q h i f = absurd (expr_no_true x cc)
-test_once at (t.Differ x y) (t.True p) r q h i f = absurd (expr_no_true x cc)
-test_once at (t.Equal x y) (t.Differ z w) r q h i f = absurd cc
-test_once at (t.Differ x y) (t.Equal z w) r q h i f = absurd cc
-test_once at (t.Equal x y) (t.Equal z w) r q h i f =
-    let first : g.expr x ≡ g.expr z = cc in
-    let second : g.expr y ≡ g.expr w = cc in
-    let tail : r ≡ q = cc in
-    (ap₂ t.Equal (expr_once at x z _ _ h.0 i.0 first (ap (λ l. k.EqualEqual ∷ l) (cons-same (g.expr y) (g.expr w) r q second tail))) (expr_once at y w r q h.1 i.1 second tail), tail)
-test_once at (t.Differ x y) (t.Differ z w) r q h i f =
-    let first : g.expr x ≡ g.expr z = cc in
-    let second : g.expr y ≡ g.expr w = cc in
-    let tail : r ≡ q = cc in
-    (ap₂ t.Differ (expr_once at x z _ _ h.0 i.0 first (ap (λ l. k.NotEqual ∷ l) (cons-same (g.expr y) (g.expr w) r q second tail))) (expr_once at y w r q h.1 i.1 second tail), tail)
+test_once at b c r q h i f = tests_once g.expr (ExprAt at) at expr_no_true (expr_once at) b c r q h i f
 
 operand_test_once : (at : ℕ → Token) (b c : SurfaceTest SurfaceOperand) (r q : List Kind) → TestAt at g.operand (OperandAt at) b r → TestAt at g.operand (OperandAt at) c q → g.test g.operand b r ≡ g.test g.operand c q → Same b c r q
-operand_test_once at (t.True p) (t.True o) r q h i f = let tail : r ≡ q = cc in (ap t.True (place_once at p o (k.True ∷ r) (k.True ∷ q) h i f), tail)
-operand_test_once at (t.True p) (t.Equal x y) r q h i f = absurd (operand_no_true x cc)
-operand_test_once at (t.True p) (t.Differ x y) r q h i f = absurd (operand_no_true x cc)
-operand_test_once at (t.Equal x y) (t.True p) r q h i f = absurd (operand_no_true x cc)
-operand_test_once at (t.Differ x y) (t.True p) r q h i f = absurd (operand_no_true x cc)
-operand_test_once at (t.Equal x y) (t.Differ z w) r q h i f = absurd cc
-operand_test_once at (t.Differ x y) (t.Equal z w) r q h i f = absurd cc
-operand_test_once at (t.Equal x y) (t.Equal z w) r q h i f =
-    let first : g.operand x ≡ g.operand z = cc in
-    let second : g.operand y ≡ g.operand w = cc in
-    let tail : r ≡ q = cc in
-    (ap₂ t.Equal (operand_once at x z _ _ h.0 i.0 first (ap (λ l. k.EqualEqual ∷ l) (cons-same (g.operand y) (g.operand w) r q second tail))) (operand_once at y w r q h.1 i.1 second tail), tail)
-operand_test_once at (t.Differ x y) (t.Differ z w) r q h i f =
-    let first : g.operand x ≡ g.operand z = cc in
-    let second : g.operand y ≡ g.operand w = cc in
-    let tail : r ≡ q = cc in
-    (ap₂ t.Differ (operand_once at x z _ _ h.0 i.0 first (ap (λ l. k.NotEqual ∷ l) (cons-same (g.operand y) (g.operand w) r q second tail))) (operand_once at y w r q h.1 i.1 second tail), tail)
+operand_test_once at b c r q h i f = tests_once g.operand (OperandAt at) at operand_no_true (operand_once at) b c r q h i f
 
 field_once : (at : ℕ → Token) (x y : SurfaceField) (r q : List Kind) → FieldAt at x r → FieldAt at y q → g.operand x.value ≡ g.operand y.value → r ≡ q → x ≡ y
 field_once at x y r q h i u f =
@@ -92,6 +83,31 @@ maybe_fields_once at (x ∷ xs) (y ∷ ys) r q h i a b c d f =
     let tail : g.more_fields xs r ≡ g.more_fields ys q = cc in
     let rest = more_fields_once at xs ys r q h.1 i.1 a b tail in
     (cons-same x y xs ys (field_once at x y (g.more_fields xs r) (g.more_fields ys q) h.0 i.0 head tail) rest.0, rest.1)
+
+-- a word with two operands in round brackets
+abbrev PairAt : (ℕ → Token) → Kind → Place → SurfaceOperand → SurfaceOperand → List Kind → Type 0
+PairAt at u p x y r = PlaceAt at p (u ∷ k.OpenRound ∷ g.operand x ∷ k.Comma ∷ g.operand y ∷ k.CloseRound ∷ r) × OperandAt at x (k.Comma ∷ g.operand y ∷ k.CloseRound ∷ r) × OperandAt at y (k.CloseRound ∷ r)
+
+pair_once : (f : Place → SurfaceOperand → SurfaceOperand → s.Conjunct) (u : Kind) (at : ℕ → Token) (p o : Place) (x y z w : SurfaceOperand) (r q : List Kind) → PairAt at u p x y r → PairAt at u o z w q
+    → u ∷ k.OpenRound ∷ g.operand x ∷ k.Comma ∷ g.operand y ∷ k.CloseRound ∷ r ≡ u ∷ k.OpenRound ∷ g.operand z ∷ k.Comma ∷ g.operand w ∷ k.CloseRound ∷ q → Same (f p x y) (f o z w) r q
+pair_once f u at p o x y z w r q h i e =
+    let first : g.operand x ≡ g.operand z = cc in
+    let second : g.operand y ≡ g.operand w = cc in
+    let tail : r ≡ q = cc in
+    let close : k.CloseRound ∷ r ≡ k.CloseRound ∷ q = ap (λ l. k.CloseRound ∷ l) tail in (
+      ap (λ g. f g x y) (place_once at p o _ _ h.0 i.0 e)
+          ∙ ap₂ (f o) (operand_once at x z _ _ h.1 i.1 first (ap (λ l. k.Comma ∷ l) (cons-same (g.operand y) (g.operand w) (k.CloseRound ∷ r) (k.CloseRound ∷ q) second close))) (operand_once at y w _ _ h.2 i.2 second close),
+      tail,
+    )
+
+-- a word with one
+single_once : (f : Place → SurfaceOperand → s.Conjunct) (u : Kind) (at : ℕ → Token) (p o : Place) (x z : SurfaceOperand) (r q : List Kind)
+    → PlaceAt at p (u ∷ k.OpenRound ∷ g.operand x ∷ k.CloseRound ∷ r) × OperandAt at x (k.CloseRound ∷ r) → PlaceAt at o (u ∷ k.OpenRound ∷ g.operand z ∷ k.CloseRound ∷ q) × OperandAt at z (k.CloseRound ∷ q)
+    → u ∷ k.OpenRound ∷ g.operand x ∷ k.CloseRound ∷ r ≡ u ∷ k.OpenRound ∷ g.operand z ∷ k.CloseRound ∷ q → Same (f p x) (f o z) r q
+single_once f u at p o x z r q h i e =
+    let first : g.operand x ≡ g.operand z = cc in
+    let tail : r ≡ q = cc in
+    (ap (λ g. f g x) (place_once at p o _ _ h.0 i.0 e) ∙ ap (f o) (operand_once at x z _ _ h.1 i.1 first (ap (λ l. k.CloseRound ∷ l) tail)), tail)
 
 -- which conjunct the first tokens begin
 data Shape : Type 0 where
@@ -223,32 +239,10 @@ mutual
       let fields : g.maybe_fields fs r ≡ g.maybe_fields gs q = cc in
       let o = maybe_fields_once at fs gs r q h.1 i.1 (after_no_comma r a) (after_no_comma q b) (after_no_name r a) (after_no_name q b) fields in
       (ap (λ l. s.points l fs) (operand_once at x z _ _ h.0 i.0 first (ap (λ l. k.PointsTo ∷ l) fields)) ∙ ap (s.points z) o.0, o.1)
-  conjunct_once at (s.ls p x y) (s.ls o z w) n d r q h i a1 a2 a b y1 z1 f =
-      let first : g.operand x ≡ g.operand z = cc in
-      let second : g.operand y ≡ g.operand w = cc in
-      let tail : r ≡ q = cc in
-      let close : k.CloseRound ∷ r ≡ k.CloseRound ∷ q = ap (λ l. k.CloseRound ∷ l) tail in (
-        ap (λ g. s.ls g x y) (place_once at p o _ _ h.0 i.0 f)
-            ∙ ap₂ (s.ls o) (operand_once at x z _ _ h.1 i.1 first (ap (λ l. k.Comma ∷ l) (cons-same (g.operand y) (g.operand w) (k.CloseRound ∷ r) (k.CloseRound ∷ q) second close))) (operand_once at y w _ _ h.2 i.2 second close),
-        tail,
-      )
-  conjunct_once at (s.lseg p x y) (s.lseg o z w) n d r q h i a1 a2 a b y1 z1 f =
-      let first : g.operand x ≡ g.operand z = cc in
-      let second : g.operand y ≡ g.operand w = cc in
-      let tail : r ≡ q = cc in
-      let close : k.CloseRound ∷ r ≡ k.CloseRound ∷ q = ap (λ l. k.CloseRound ∷ l) tail in (
-        ap (λ g. s.lseg g x y) (place_once at p o _ _ h.0 i.0 f)
-            ∙ ap₂ (s.lseg o) (operand_once at x z _ _ h.1 i.1 first (ap (λ l. k.Comma ∷ l) (cons-same (g.operand y) (g.operand w) (k.CloseRound ∷ r) (k.CloseRound ∷ q) second close))) (operand_once at y w _ _ h.2 i.2 second close),
-        tail,
-      )
-  conjunct_once at (s.list p x) (s.list o z) n d r q h i a1 a2 a b y1 z1 f =
-      let first : g.operand x ≡ g.operand z = cc in
-      let tail : r ≡ q = cc in
-      (ap (λ g. s.list g x) (place_once at p o _ _ h.0 i.0 f) ∙ ap (s.list o) (operand_once at x z _ _ h.1 i.1 first (ap (λ l. k.CloseRound ∷ l) tail)), tail)
-  conjunct_once at (s.tree p x) (s.tree o z) n d r q h i a1 a2 a b y1 z1 f =
-      let first : g.operand x ≡ g.operand z = cc in
-      let tail : r ≡ q = cc in
-      (ap (λ g. s.tree g x) (place_once at p o _ _ h.0 i.0 f) ∙ ap (s.tree o) (operand_once at x z _ _ h.1 i.1 first (ap (λ l. k.CloseRound ∷ l) tail)), tail)
+  conjunct_once at (s.ls p x y) (s.ls o z w) n d r q h i a1 a2 a b y1 z1 f = pair_once s.ls k.Ls at p o x y z w r q h i f
+  conjunct_once at (s.lseg p x y) (s.lseg o z w) n d r q h i a1 a2 a b y1 z1 f = pair_once s.lseg k.Lseg at p o x y z w r q h i f
+  conjunct_once at (s.list p x) (s.list o z) n d r q h i a1 a2 a b y1 z1 f = single_once s.list k.List at p o x z r q h i f
+  conjunct_once at (s.tree p x) (s.tree o z) n d r q h i a1 a2 a b y1 z1 f = single_once s.tree k.Tree at p o x z r q h i f
   conjunct_once at c x n d r q h i v w a b y z f = let wrong : class c ≡ class x = one_class c x r q f in absurd cc
 
   pub assertion_once : (at : ℕ → Token) (a b : s.Assertion) (n d : ℕ) (r q : List Kind) → AssertionAt at a r → AssertionAt at b q → RestWithin a n d r → RestWithin b n d q → AfterConjunct r → AfterConjunct q → NotStar r → NotStar q → g.assertion a r ≡ g.assertion b q → Same a b r q

@@ -5,6 +5,7 @@ use Rattle.sf_ast.specs.declared.assertion.SurfaceField.{SurfaceField}
 use Rattle.sf_ast.specs.declared.word.SurfaceExpr.{SurfaceExpr}
 use Rattle.sf_ast.specs.declared.word.SurfaceExpr.TheVariants as e
 use Rattle.sf_ast.specs.declared.word.SurfaceOperand.{SurfaceOperand}
+use Rattle.sf_ast.specs.declared.word.SurfaceTest.{SurfaceTest}
 use Rattle.sf_ast.specs.declared.word.SurfaceTest.TheVariants as t
 use Rattle.sf_ast.specs.declared.word.Word.{Word}
 use Rattle.sf_ast.specs.Surface as s
@@ -50,23 +51,20 @@ equality_back n st k.EqualEqual w ts q = (ts, inl refl, q)
 equality_back n st k.NotEqual w ts q = (ts, inr refl, q)
 equality_back n st _ w ts q = absurd q
 
-compared : (n : ℕ) (st : List Predicted) (u : Kind) (ts : List Kind) (x : SurfaceExpr) → u ≡ g.expr x → Means n (m.equality ∷ m.expression ∷ st) ts → Means n (m.test ∷ st) (u ∷ ts)
-compared n st u ts x h (r1, q, (r2, y, more)) = cases q
-  where
-    cases : Spells n m.equality ts r1 → Means n (m.test ∷ st) (u ∷ ts)
-    cases (inl e) = (r2, (t.Equal x y.0, cc), more)
-    cases (inr e) = (r2, (t.Differ x y.0, cc), more)
+-- two values with `==` or `!=` between them are a test
+compared : {E : Type 0} (kind : E → Kind) (n : ℕ) (u : Kind) (ts r1 r2 : List Kind) (x y : E) → u ≡ kind x → Spells n m.equality ts r1 → r1 ≡ kind y ∷ r2 → (b : SurfaceTest E) × (u ∷ ts ≡ g.test kind b r2)
+compared kind n u ts r1 r2 x y h (inl e) i = (t.Equal x y, cc)
+compared kind n u ts r1 r2 x y h (inr e) i = (t.Differ x y, cc)
+
+compared_values : (n : ℕ) (st : List Predicted) (u : Kind) (ts : List Kind) (x : SurfaceExpr) → u ≡ g.expr x → Means n (m.equality ∷ m.expression ∷ st) ts → Means n (m.test ∷ st) (u ∷ ts)
+compared_values n st u ts x h (r1, q, (r2, y, more)) = (r2, compared g.expr n u ts r1 r2 x y.0 h q y.1, more)
 
 test_back : (n : ℕ) (st : List Predicted) (u : Kind) (w : Next) (ts : List Kind) → MeansNext n (chosen (m.on_test u) true st w) ts → Means n (m.test ∷ st) (u ∷ ts)
 test_back n st k.True w ts q = (ts, (t.True a_place, refl), q)
-test_back n st u w ts q = let o = expr_back n u (m.equality ∷ m.expression ∷ []) st w ts q in compared n st u ts o.expr o.is o.more
+test_back n st u w ts q = let o = expr_back n u (m.equality ∷ m.expression ∷ []) st w ts q in compared_values n st u ts o.expr o.is o.more
 
 compared_operands : (n : ℕ) (st : List Predicted) (u : Kind) (ts : List Kind) (x : SurfaceOperand) → u ≡ g.operand x → Means n (m.equality ∷ m.operand ∷ st) ts → Means n (m.operand_test ∷ st) (u ∷ ts)
-compared_operands n st u ts x h (r1, q, (r2, y, more)) = cases q
-  where
-    cases : Spells n m.equality ts r1 → Means n (m.operand_test ∷ st) (u ∷ ts)
-    cases (inl e) = (r2, (t.Equal x y.0, cc), more)
-    cases (inr e) = (r2, (t.Differ x y.0, cc), more)
+compared_operands n st u ts x h (r1, q, (r2, y, more)) = (r2, compared g.operand n u ts r1 r2 x y.0 h q y.1, more)
 
 operand_test_back : (n : ℕ) (st : List Predicted) (u : Kind) (w : Next) (ts : List Kind) → MeansNext n (chosen (m.on_operand_test u) true st w) ts → Means n (m.operand_test ∷ st) (u ∷ ts)
 operand_test_back n st k.True w ts q = (ts, (t.True a_place, refl), q)

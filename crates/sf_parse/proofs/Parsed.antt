@@ -57,17 +57,3 @@ place_of_token end ts (suc n) h = refl
 
 pub place_at : (end : Place) (ts : List Token) (n : ℕ) (d : Token) → 0 < n → n ≤ length ts → (get_or ts (length ts - n) d).place ≡ place_left end ts n
 place_at end ts n d some le = ap (λ (x : Token). x.place) (get_or_default ts (length ts - n) d no_token (omega arith)) ∙ place_of_token end ts n some
-
-file_once : (ts : List Token) (one two : List Item) → IsFile ts one → IsFile ts two → one ≡ two
-file_once ts one two f g = items_once (token_left ts) 0 one two f.places g.places f.within g.within (sym f.spells ∙ g.spells)
-
--- an answer that is in order says of all others that they are none
-pub only_found : {X : Type 0} (tree_of : X → List Item) (end : Place) (ts : List Token) (r : Result X ParseFault) → IfOk r (λ x. IsFile ts (tree_of x)) → IfErr r (λ e. (e ≡ p.OutOfMemory) ⊎ IsFault end ts e)
-    → (tree : List Item) → IsFile ts tree → MatchResult r (λ x. tree_of x ≡ tree) (λ e. e ≡ p.OutOfMemory)
-only_found tree_of end ts (Ok x) found refused tree h = file_once ts (tree_of x) tree found h
-only_found tree_of end ts (Err e) found refused tree h = elim refused [ inl memory ↦ memory | inr fault ↦ absurd (files_without_fault end ts tree e h fault) ]
-
-pub only_refused : {X : Type 0} (tree_of : X → List Item) (end : Place) (ts : List Token) (r : Result X ParseFault) → IfOk r (λ x. IsFile ts (tree_of x)) → IfErr r (λ e. (e ≡ p.OutOfMemory) ⊎ IsFault end ts e)
-    → (fault : ParseFault) → IsFault end ts fault → MatchResult r (λ _. ⊥) (λ own. (own ≡ fault) ⊎ (own ≡ p.OutOfMemory))
-only_refused tree_of end ts (Ok x) found refused fault h = files_without_fault end ts (tree_of x) fault found h
-only_refused tree_of end ts (Err e) found refused fault h = elim refused [ inl memory ↦ inr memory | inr own ↦ inl (faults_once end ts e fault own h) ]

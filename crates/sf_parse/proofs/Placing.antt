@@ -14,7 +14,7 @@ use Rattle.sf_lex.specs.declared.token.Kind.{Kind}
 use Rattle.sf_lex.specs.declared.token.Kind.TheVariants as k
 use Rattle.sf_lex.specs.declared.token.Token.{Token}
 use Rattle.sf_parse.specs.Grammar as g
-use Rattle.sf_parse.specs.Placed.{MoreNamesAt, NamesAt, MaybeNamesAt, ParametersAt, ExprAt, MoreExprsAt, MaybeExprsAt, ArgumentsAt, CallAt, OperandAt, TestAt, FieldAt, MoreFieldsAt, MaybeFieldsAt, LocalsAt}
+use Rattle.sf_parse.specs.Placed.{WordAt, MoreNamesAt, NamesAt, MaybeNamesAt, ParametersAt, ExprAt, MoreExprsAt, MaybeExprsAt, ArgumentsAt, CallAt, OperandAt, TestAt, FieldAt, MoreFieldsAt, MaybeFieldsAt, LocalsAt}
 
 -- a tree of the same tokens, whose nodes are where these are, with those after it
 pub record Placing {A : Type 0} (spell : A → List Kind → List Kind) (Stands : A → List Kind → Type 0) (x : A) (r : List Kind) : Type 0 where
@@ -33,17 +33,28 @@ place_there at r = (at (length r)).place
 pub stands_before : {A : Type 0} {spell : A → List Kind → List Kind} {Stands : A → List Kind → Type 0} {x : A} {r q : List Kind} (m : Placing spell Stands x r) → r ≡ q → Stands m.tree q
 stands_before {Stands = Stands} m e = subst (λ z. Stands m.tree z) e m.stands
 
--- names, each after its comma
-more_names_behind : (at : ℕ → Token) (x : Word) (xs : List Word) (r : List Kind) → Placing g.more_names (MoreNamesAt at) xs r → Placing g.more_names (MoreNamesAt at) (x ∷ xs) r
-more_names_behind at x xs r m = record {
-  tree = word_there at (k.Name ∷ g.more_names xs r) ∷ m.tree;
-  same = λ q. ap (λ z. k.Comma ∷ k.Name ∷ z) (m.same q);
-  stands = (ap (λ z. word_there at (k.Name ∷ z)) (sym (m.same r)), m.stands);
+-- a first element and those after it
+cons_placed : {A : Type 0} {one : A → List Kind → List Kind} {OneAt : A → List Kind → Type 0} {many all : List A → List Kind → List Kind} {ManyAt AllAt : List A → List Kind → Type 0}
+    → ((x : A) (xs : List A) (q : List Kind) → all (x ∷ xs) q ≡ one x (many xs q)) → ((x : A) (xs : List A) (q : List Kind) → OneAt x (many xs q) → ManyAt xs q → AllAt (x ∷ xs) q)
+    → (x : A) (xs : List A) (r : List Kind) → Placing one OneAt x (many xs r) → Placing many ManyAt xs r → Placing all AllAt (x ∷ xs) r
+cons_placed {one = one} {many = many} spelled stands x xs r o m = record {
+  tree = o.tree ∷ m.tree;
+  same = λ q. spelled o.tree m.tree q ∙ o.same (many m.tree q) ∙ ap (λ z. one x z) (m.same q) ∙ sym (spelled x xs q);
+  stands = stands o.tree m.tree r (stands_before o (sym (m.same r))) m.stands;
 }
 
+-- what comes after a comma
+after_comma : {A : Type 0} {one : A → List Kind → List Kind} {OneAt : A → List Kind → Type 0} {x : A} {r : List Kind} → Placing one OneAt x r → Placing (λ y q. k.Comma ∷ one y q) OneAt x r
+after_comma m = record { tree = m.tree; same = λ q. ap (λ z. k.Comma ∷ z) (m.same q); stands = m.stands }
+
+-- a name, as one token
+word_placed : (at : ℕ → Token) (x : Word) (r : List Kind) → Placing (λ y q. k.Name ∷ q) (λ y q. WordAt at y (k.Name ∷ q)) x r
+word_placed at x r = record { tree = word_there at (k.Name ∷ r); same = λ q. refl; stands = refl }
+
+-- names, each after its comma
 pub more_names_placed : (at : ℕ → Token) (xs : List Word) (r : List Kind) → Placing g.more_names (MoreNamesAt at) xs r
 more_names_placed at [] r = record { tree = []; same = λ q. refl; stands = tt }
-more_names_placed at (x ∷ xs) r = more_names_behind at x xs r (more_names_placed at xs r)
+more_names_placed at (x ∷ xs) r = cons_placed (λ y ys q. refl) (λ y ys q h i. (h, i)) x xs r (after_comma (word_placed at x (g.more_names xs r))) (more_names_placed at xs r)
 
 -- one name or more
 pub names_placed : (at : ℕ → Token) (ns : s.Names) (r : List Kind) → Placing g.names (NamesAt at) ns r
@@ -58,13 +69,17 @@ names_placed at ns r =
 -- names, or none
 pub maybe_names_placed : (at : ℕ → Token) (xs : List Word) (r : List Kind) → Placing g.maybe_names (MaybeNamesAt at) xs r
 maybe_names_placed at [] r = record { tree = []; same = λ q. refl; stands = tt }
-maybe_names_placed at (x ∷ xs) r =
-    let m = more_names_placed at xs r in
-    record {
-      tree = word_there at (k.Name ∷ g.more_names xs r) ∷ m.tree;
-      same = λ q. ap (λ z. k.Name ∷ z) (m.same q);
-      stands = (ap (λ z. word_there at (k.Name ∷ z)) (sym (m.same r)), m.stands);
-    }
+maybe_names_placed at (x ∷ xs) r = cons_placed (λ y ys q. refl) (λ y ys q h i. (h, i)) x xs r (word_placed at x (g.more_names xs r)) (more_names_placed at xs r)
+
+-- two parts with a `;` between them
+halves_placed : {A B C : Type 0} {one : A → List Kind → List Kind} {OneAt : A → List Kind → Type 0} {two : B → List Kind → List Kind} {TwoAt : B → List Kind → Type 0} {all : C → List Kind → List Kind} {AllAt : C → List Kind → Type 0}
+    → (f : A → B → C) → ((x : A) (y : B) (q : List Kind) → all (f x y) q ≡ one x (k.Semicolon ∷ two y q)) → ((x : A) (y : B) (q : List Kind) → OneAt x (k.Semicolon ∷ two y q) → TwoAt y q → AllAt (f x y) q)
+    → (x : A) (y : B) (r : List Kind) → Placing one OneAt x (k.Semicolon ∷ two y r) → Placing two TwoAt y r → Placing all AllAt (f x y) r
+halves_placed {one = one} {two = two} f spelled stands x y r m n = record {
+  tree = f m.tree n.tree;
+  same = λ q. spelled m.tree n.tree q ∙ m.same (k.Semicolon ∷ two n.tree q) ∙ ap (λ z. one x (k.Semicolon ∷ z)) (n.same q) ∙ sym (spelled x y q);
+  stands = stands m.tree n.tree r (stands_before m (ap (λ z. k.Semicolon ∷ z) (sym (n.same r)))) n.stands;
+}
 
 -- parameters
 pub parameters_placed : (at : ℕ → Token) (ps : s.Parameters) (r : List Kind) → Placing g.parameters (ParametersAt at) ps r
@@ -72,13 +87,7 @@ parameters_placed at (s.only_values xs) r =
     let m = maybe_names_placed at xs r in
     record { tree = s.only_values m.tree; same = m.same; stands = m.stands }
 parameters_placed at (s.references_and_values xs ys) r =
-    let m = maybe_names_placed at xs (k.Semicolon ∷ g.maybe_names ys r) in
-    let n = maybe_names_placed at ys r in
-    record {
-      tree = s.references_and_values m.tree n.tree;
-      same = λ q. m.same (k.Semicolon ∷ g.maybe_names n.tree q) ∙ ap (λ z. g.maybe_names xs (k.Semicolon ∷ z)) (n.same q);
-      stands = (stands_before m (ap (λ z. k.Semicolon ∷ z) (sym (n.same r))), n.stands);
-    }
+    halves_placed s.references_and_values (λ a b q. refl) (λ a b q h i. (h, i)) xs ys r (maybe_names_placed at xs (k.Semicolon ∷ g.maybe_names ys r)) (maybe_names_placed at ys r)
 
 -- an expression, as one token
 abbrev pub expr_before : SurfaceExpr → List Kind → List Kind
@@ -101,28 +110,14 @@ operand_placed at (v.Known x) r =
 operand_placed at (v.Existential x) r = record { tree = v.Existential (word_there at (k.Existential ∷ r)); same = λ q. refl; stands = refl }
 
 -- expressions, each after its comma
-more_exprs_behind : (at : ℕ → Token) (x : SurfaceExpr) (xs : List SurfaceExpr) (r : List Kind) → Placing expr_before (ExprAt at) x (g.more_exprs xs r) → Placing g.more_exprs (MoreExprsAt at) xs r → Placing g.more_exprs (MoreExprsAt at) (x ∷ xs) r
-more_exprs_behind at x xs r one m = record {
-  tree = one.tree ∷ m.tree;
-  same = λ q. ap (λ z. k.Comma ∷ z) (one.same (g.more_exprs m.tree q) ∙ ap (λ z. g.expr x ∷ z) (m.same q));
-  stands = (stands_before one (sym (m.same r)), m.stands);
-}
-
 pub more_exprs_placed : (at : ℕ → Token) (xs : List SurfaceExpr) (r : List Kind) → Placing g.more_exprs (MoreExprsAt at) xs r
 more_exprs_placed at [] r = record { tree = []; same = λ q. refl; stands = tt }
-more_exprs_placed at (x ∷ xs) r = more_exprs_behind at x xs r (expr_placed at x (g.more_exprs xs r)) (more_exprs_placed at xs r)
+more_exprs_placed at (x ∷ xs) r = cons_placed (λ y ys q. refl) (λ y ys q h i. (h, i)) x xs r (after_comma (expr_placed at x (g.more_exprs xs r))) (more_exprs_placed at xs r)
 
 -- expressions, or none
 pub maybe_exprs_placed : (at : ℕ → Token) (xs : List SurfaceExpr) (r : List Kind) → Placing g.maybe_exprs (MaybeExprsAt at) xs r
 maybe_exprs_placed at [] r = record { tree = []; same = λ q. refl; stands = tt }
-maybe_exprs_placed at (x ∷ xs) r =
-    let one = expr_placed at x (g.more_exprs xs r) in
-    let m = more_exprs_placed at xs r in
-    record {
-      tree = one.tree ∷ m.tree;
-      same = λ q. one.same (g.more_exprs m.tree q) ∙ ap (λ z. g.expr x ∷ z) (m.same q);
-      stands = (stands_before one (sym (m.same r)), m.stands);
-    }
+maybe_exprs_placed at (x ∷ xs) r = cons_placed (λ y ys q. refl) (λ y ys q h i. (h, i)) x xs r (expr_placed at x (g.more_exprs xs r)) (more_exprs_placed at xs r)
 
 -- what a call is given
 pub arguments_placed : (at : ℕ → Token) (xs : s.Arguments) (r : List Kind) → Placing g.arguments (ArgumentsAt at) xs r
@@ -130,13 +125,7 @@ arguments_placed at (s.values xs) r =
     let m = maybe_exprs_placed at xs r in
     record { tree = s.values m.tree; same = m.same; stands = m.stands }
 arguments_placed at (s.both ns xs) r =
-    let m = maybe_names_placed at ns (k.Semicolon ∷ g.maybe_exprs xs r) in
-    let n = maybe_exprs_placed at xs r in
-    record {
-      tree = s.both m.tree n.tree;
-      same = λ q. m.same (k.Semicolon ∷ g.maybe_exprs n.tree q) ∙ ap (λ z. g.maybe_names ns (k.Semicolon ∷ z)) (n.same q);
-      stands = (stands_before m (ap (λ z. k.Semicolon ∷ z) (sym (n.same r))), n.stands);
-    }
+    halves_placed s.both (λ a b q. refl) (λ a b q h i. (h, i)) ns xs r (maybe_names_placed at ns (k.Semicolon ∷ g.maybe_exprs xs r)) (maybe_exprs_placed at xs r)
 
 -- a call
 pub call_placed : (at : ℕ → Token) (c : s.Call) (r : List Kind) → Placing g.call (CallAt at) c r
@@ -190,37 +179,22 @@ field_placed at f r =
     }
 
 -- fields, each after its comma
-more_fields_behind : (at : ℕ → Token) (f : SurfaceField) (fs : List SurfaceField) (r : List Kind) → Placing g.field (FieldAt at) f (g.more_fields fs r) → Placing g.more_fields (MoreFieldsAt at) fs r → Placing g.more_fields (MoreFieldsAt at) (f ∷ fs) r
-more_fields_behind at f fs r one m = record {
-  tree = one.tree ∷ m.tree;
-  same = λ q. ap (λ z. k.Comma ∷ z) (one.same (g.more_fields m.tree q) ∙ ap (λ z. g.field f z) (m.same q));
-  stands = (stands_before one (sym (m.same r)), m.stands);
-}
-
 pub more_fields_placed : (at : ℕ → Token) (fs : List SurfaceField) (r : List Kind) → Placing g.more_fields (MoreFieldsAt at) fs r
 more_fields_placed at [] r = record { tree = []; same = λ q. refl; stands = tt }
-more_fields_placed at (f ∷ fs) r = more_fields_behind at f fs r (field_placed at f (g.more_fields fs r)) (more_fields_placed at fs r)
+more_fields_placed at (f ∷ fs) r = cons_placed (λ y ys q. refl) (λ y ys q h i. (h, i)) f fs r (after_comma (field_placed at f (g.more_fields fs r))) (more_fields_placed at fs r)
 
 -- fields, or none
 pub maybe_fields_placed : (at : ℕ → Token) (fs : List SurfaceField) (r : List Kind) → Placing g.maybe_fields (MaybeFieldsAt at) fs r
 maybe_fields_placed at [] r = record { tree = []; same = λ q. refl; stands = tt }
-maybe_fields_placed at (f ∷ fs) r =
-    let one = field_placed at f (g.more_fields fs r) in
-    let m = more_fields_placed at fs r in
-    record {
-      tree = one.tree ∷ m.tree;
-      same = λ q. one.same (g.more_fields m.tree q) ∙ ap (λ z. g.field f z) (m.same q);
-      stands = (stands_before one (sym (m.same r)), m.stands);
-    }
+maybe_fields_placed at (f ∷ fs) r = cons_placed (λ y ys q. refl) (λ y ys q h i. (h, i)) f fs r (field_placed at f (g.more_fields fs r)) (more_fields_placed at fs r)
 
--- the names of each `local`
-locals_behind : (at : ℕ → Token) (ns : s.Names) (nss : List s.Names) (r : List Kind) → Placing g.names (NamesAt at) ns (k.Semicolon ∷ g.locals nss r) → Placing g.locals (LocalsAt at) nss r → Placing g.locals (LocalsAt at) (ns ∷ nss) r
-locals_behind at ns nss r one m = record {
-  tree = one.tree ∷ m.tree;
-  same = λ q. ap (λ z. k.Local ∷ z) (one.same (k.Semicolon ∷ g.locals m.tree q) ∙ ap (λ z. g.names ns (k.Semicolon ∷ z)) (m.same q));
-  stands = (stands_before one (ap (λ z. k.Semicolon ∷ z) (sym (m.same r))), m.stands);
-}
+-- the names of one `local`
+local_placed : (at : ℕ → Token) (ns : s.Names) (r : List Kind) → Placing (λ ms q. k.Local ∷ g.names ms (k.Semicolon ∷ q)) (λ ms q. NamesAt at ms (k.Semicolon ∷ q)) ns r
+local_placed at ns r =
+    let m = names_placed at ns (k.Semicolon ∷ r) in
+    record { tree = m.tree; same = λ q. ap (λ z. k.Local ∷ z) (m.same (k.Semicolon ∷ q)); stands = m.stands }
 
+-- those of each
 pub locals_placed : (at : ℕ → Token) (nss : List s.Names) (r : List Kind) → Placing g.locals (LocalsAt at) nss r
 locals_placed at [] r = record { tree = []; same = λ q. refl; stands = tt }
-locals_placed at (ns ∷ nss) r = locals_behind at ns nss r (names_placed at ns (k.Semicolon ∷ g.locals nss r)) (locals_placed at nss r)
+locals_placed at (ns ∷ nss) r = cons_placed (λ y ys q. refl) (λ y ys q h i. (h, i)) ns nss r (local_placed at ns (g.locals nss r)) (locals_placed at nss r)

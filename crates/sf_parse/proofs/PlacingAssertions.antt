@@ -11,7 +11,7 @@ use Rattle.sf_lex.specs.declared.token.Kind.TheVariants as k
 use Rattle.sf_lex.specs.declared.token.Token.{Token}
 use Rattle.sf_parse.specs.Grammar as g
 use Rattle.sf_parse.specs.Nesting.{HasLevel, IsClosed, ConjunctWithin, AssertionWithin, RestWithin, NoteWithin, MaybeWithin}
-use Rattle.sf_parse.specs.Placed.{ConjunctAt, AssertionAt, NoteAt, MaybeNoteAt}
+use Rattle.sf_parse.specs.Placed.{PlaceAt, OperandAt, ConjunctAt, AssertionAt, NoteAt, MaybeNoteAt}
 use Rattle.sf_parse.proofs.Placing.{stands_before, place_there, operand_placed, operand_test_placed, maybe_fields_placed}
 
 -- a conjunct of the same tokens, whose nodes are where these are; it is within the same levels
@@ -47,29 +47,27 @@ conjunct_within_before c n d e w = subst (λ z. ConjunctWithin c n d z) (sym e) 
 assertion_within_before : (a : s.Assertion) (n d : ℕ) {r q : List Kind} → q ≡ r → AssertionWithin a n d r → AssertionWithin a n d q
 assertion_within_before a n d e w = subst (λ z. AssertionWithin a n d z) (sym e) w
 
-equal_placed : (at : ℕ → Token) (x y : SurfaceOperand) (r : List Kind) → ConjunctPlacing at (s.equal x y) r
-equal_placed at x y r =
-    let a = operand_placed at x (k.EqualEqual ∷ g.operand y ∷ r) in
+-- two sides with a mark between them
+sides_placed : (f : SurfaceOperand → SurfaceOperand → s.Conjunct) (u : Kind) (at : ℕ → Token) → ((x y : SurfaceOperand) (q : List Kind) → g.conjunct (f x y) q ≡ g.operand x ∷ u ∷ g.operand y ∷ q)
+    → ((x y : SurfaceOperand) (q : List Kind) → OperandAt at x (u ∷ g.operand y ∷ q) → OperandAt at y q → ConjunctAt at (f x y) q)
+    → ((x y : SurfaceOperand) (n d : ℕ) (q : List Kind) → ConjunctWithin (f x y) n d q) → ((x y : SurfaceOperand) → IsClosed (f x y))
+    → (x y : SurfaceOperand) (r : List Kind) → ConjunctPlacing at (f x y) r
+sides_placed f u at spelled stands within closed x y r =
+    let a = operand_placed at x (u ∷ g.operand y ∷ r) in
     let b = operand_placed at y r in
     record {
-      tree = s.equal a.tree b.tree;
-      same = λ q. a.same (k.EqualEqual ∷ g.operand b.tree ∷ q) ∙ ap (λ z. g.operand x ∷ k.EqualEqual ∷ z) (b.same q);
-      stands = (stands_before a (ap (λ z. k.EqualEqual ∷ z) (sym (b.same r))), b.stands);
-      within = λ n d q w. tt;
-      closed = λ h. tt;
+      tree = f a.tree b.tree;
+      same = λ q. spelled a.tree b.tree q ∙ a.same (u ∷ g.operand b.tree ∷ q) ∙ ap (λ z. g.operand x ∷ u ∷ z) (b.same q) ∙ sym (spelled x y q);
+      stands = stands a.tree b.tree r (stands_before a (ap (λ z. u ∷ z) (sym (b.same r)))) b.stands;
+      within = λ n d q w. within a.tree b.tree n d q;
+      closed = λ h. closed a.tree b.tree;
     }
 
+equal_placed : (at : ℕ → Token) (x y : SurfaceOperand) (r : List Kind) → ConjunctPlacing at (s.equal x y) r
+equal_placed at = sides_placed s.equal k.EqualEqual at (λ x y q. refl) (λ x y q h i. (h, i)) (λ x y n d q. tt) (λ x y. tt)
+
 differ_placed : (at : ℕ → Token) (x y : SurfaceOperand) (r : List Kind) → ConjunctPlacing at (s.differ x y) r
-differ_placed at x y r =
-    let a = operand_placed at x (k.NotEqual ∷ g.operand y ∷ r) in
-    let b = operand_placed at y r in
-    record {
-      tree = s.differ a.tree b.tree;
-      same = λ q. a.same (k.NotEqual ∷ g.operand b.tree ∷ q) ∙ ap (λ z. g.operand x ∷ k.NotEqual ∷ z) (b.same q);
-      stands = (stands_before a (ap (λ z. k.NotEqual ∷ z) (sym (b.same r))), b.stands);
-      within = λ n d q w. tt;
-      closed = λ h. tt;
-    }
+differ_placed at = sides_placed s.differ k.NotEqual at (λ x y q. refl) (λ x y q h i. (h, i)) (λ x y n d q. tt) (λ x y. tt)
 
 points_placed : (at : ℕ → Token) (x : SurfaceOperand) (fs : List SurfaceField) (r : List Kind) → ConjunctPlacing at (s.points x fs) r
 points_placed at x fs r =
@@ -83,55 +81,56 @@ points_placed at x fs r =
       closed = λ h. tt;
     }
 
-ls_placed : (at : ℕ → Token) (p : Place) (x y : SurfaceOperand) (r : List Kind) → ConjunctPlacing at (s.ls p x y) r
-ls_placed at p x y r =
+-- two operands in round brackets after a word
+pair_placed : (f : Place → SurfaceOperand → SurfaceOperand → s.Conjunct) (u : Kind) (at : ℕ → Token)
+    → ((p : Place) (x y : SurfaceOperand) (q : List Kind) → g.conjunct (f p x y) q ≡ u ∷ k.OpenRound ∷ g.operand x ∷ k.Comma ∷ g.operand y ∷ k.CloseRound ∷ q)
+    → ((p : Place) (x y : SurfaceOperand) (q : List Kind) → PlaceAt at p (g.conjunct (f p x y) q) → OperandAt at x (k.Comma ∷ g.operand y ∷ k.CloseRound ∷ q) → OperandAt at y (k.CloseRound ∷ q) → ConjunctAt at (f p x y) q)
+    → ((p : Place) (x y : SurfaceOperand) (n d : ℕ) (q : List Kind) → ConjunctWithin (f p x y) n d q) → ((p : Place) (x y : SurfaceOperand) → IsClosed (f p x y))
+    → (p : Place) (x y : SurfaceOperand) (r : List Kind) → ConjunctPlacing at (f p x y) r
+pair_placed f u at spelled stands within closed p x y r =
     let a = operand_placed at x (k.Comma ∷ g.operand y ∷ k.CloseRound ∷ r) in
     let b = operand_placed at y (k.CloseRound ∷ r) in
-    let same = λ (q : List Kind). ap (λ (z : List Kind). k.Ls ∷ k.OpenRound ∷ z) (a.same (k.Comma ∷ g.operand b.tree ∷ k.CloseRound ∷ q) ∙ ap (λ (z : List Kind). g.operand x ∷ k.Comma ∷ z) (b.same (k.CloseRound ∷ q))) in
+    let place = place_there at (g.conjunct (f p x y) r) in
+    let same = λ (q : List Kind). spelled place a.tree b.tree q
+    ∙ ap (λ (z : List Kind). u ∷ k.OpenRound ∷ z) (a.same (k.Comma ∷ g.operand b.tree ∷ k.CloseRound ∷ q) ∙ ap (λ (z : List Kind). g.operand x ∷ k.Comma ∷ z) (b.same (k.CloseRound ∷ q)))
+    ∙ sym (spelled p x y q) in
     record {
-      tree = s.ls (place_there at (g.conjunct (s.ls p x y) r)) a.tree b.tree;
+      tree = f place a.tree b.tree;
       same = same;
-      stands = (ap (place_there at) (sym (same r)), stands_before a (ap (λ z. k.Comma ∷ z) (sym (b.same (k.CloseRound ∷ r)))), b.stands);
-      within = λ n d q w. tt;
-      closed = λ h. tt;
+      stands = stands place a.tree b.tree r (ap (place_there at) (sym (same r))) (stands_before a (ap (λ z. k.Comma ∷ z) (sym (b.same (k.CloseRound ∷ r))))) b.stands;
+      within = λ n d q w. within place a.tree b.tree n d q;
+      closed = λ h. closed place a.tree b.tree;
     }
 
+ls_placed : (at : ℕ → Token) (p : Place) (x y : SurfaceOperand) (r : List Kind) → ConjunctPlacing at (s.ls p x y) r
+ls_placed at = pair_placed s.ls k.Ls at (λ p x y q. refl) (λ p x y q h i j. (h, i, j)) (λ p x y n d q. tt) (λ p x y. tt)
+
 lseg_placed : (at : ℕ → Token) (p : Place) (x y : SurfaceOperand) (r : List Kind) → ConjunctPlacing at (s.lseg p x y) r
-lseg_placed at p x y r =
-    let a = operand_placed at x (k.Comma ∷ g.operand y ∷ k.CloseRound ∷ r) in
-    let b = operand_placed at y (k.CloseRound ∷ r) in
-    let same = λ (q : List Kind). ap (λ (z : List Kind). k.Lseg ∷ k.OpenRound ∷ z) (a.same (k.Comma ∷ g.operand b.tree ∷ k.CloseRound ∷ q) ∙ ap (λ (z : List Kind). g.operand x ∷ k.Comma ∷ z) (b.same (k.CloseRound ∷ q))) in
+lseg_placed at = pair_placed s.lseg k.Lseg at (λ p x y q. refl) (λ p x y q h i j. (h, i, j)) (λ p x y n d q. tt) (λ p x y. tt)
+
+-- one operand in round brackets after a word
+single_placed : (f : Place → SurfaceOperand → s.Conjunct) (u : Kind) (at : ℕ → Token)
+    → ((p : Place) (x : SurfaceOperand) (q : List Kind) → g.conjunct (f p x) q ≡ u ∷ k.OpenRound ∷ g.operand x ∷ k.CloseRound ∷ q)
+    → ((p : Place) (x : SurfaceOperand) (q : List Kind) → PlaceAt at p (g.conjunct (f p x) q) → OperandAt at x (k.CloseRound ∷ q) → ConjunctAt at (f p x) q)
+    → ((p : Place) (x : SurfaceOperand) (n d : ℕ) (q : List Kind) → ConjunctWithin (f p x) n d q) → ((p : Place) (x : SurfaceOperand) → IsClosed (f p x))
+    → (p : Place) (x : SurfaceOperand) (r : List Kind) → ConjunctPlacing at (f p x) r
+single_placed f u at spelled stands within closed p x r =
+    let a = operand_placed at x (k.CloseRound ∷ r) in
+    let place = place_there at (g.conjunct (f p x) r) in
+    let same = λ (q : List Kind). spelled place a.tree q ∙ ap (λ (z : List Kind). u ∷ k.OpenRound ∷ z) (a.same (k.CloseRound ∷ q)) ∙ sym (spelled p x q) in
     record {
-      tree = s.lseg (place_there at (g.conjunct (s.lseg p x y) r)) a.tree b.tree;
+      tree = f place a.tree;
       same = same;
-      stands = (ap (place_there at) (sym (same r)), stands_before a (ap (λ z. k.Comma ∷ z) (sym (b.same (k.CloseRound ∷ r)))), b.stands);
-      within = λ n d q w. tt;
-      closed = λ h. tt;
+      stands = stands place a.tree r (ap (place_there at) (sym (same r))) a.stands;
+      within = λ n d q w. within place a.tree n d q;
+      closed = λ h. closed place a.tree;
     }
 
 list_placed : (at : ℕ → Token) (p : Place) (x : SurfaceOperand) (r : List Kind) → ConjunctPlacing at (s.list p x) r
-list_placed at p x r =
-    let a = operand_placed at x (k.CloseRound ∷ r) in
-    let same = λ (q : List Kind). ap (λ (z : List Kind). k.List ∷ k.OpenRound ∷ z) (a.same (k.CloseRound ∷ q)) in
-    record {
-      tree = s.list (place_there at (g.conjunct (s.list p x) r)) a.tree;
-      same = same;
-      stands = (ap (place_there at) (sym (same r)), a.stands);
-      within = λ n d q w. tt;
-      closed = λ h. tt;
-    }
+list_placed at = single_placed s.list k.List at (λ p x q. refl) (λ p x q h i. (h, i)) (λ p x n d q. tt) (λ p x. tt)
 
 tree_placed : (at : ℕ → Token) (p : Place) (x : SurfaceOperand) (r : List Kind) → ConjunctPlacing at (s.tree p x) r
-tree_placed at p x r =
-    let a = operand_placed at x (k.CloseRound ∷ r) in
-    let same = λ (q : List Kind). ap (λ (z : List Kind). k.Tree ∷ k.OpenRound ∷ z) (a.same (k.CloseRound ∷ q)) in
-    record {
-      tree = s.tree (place_there at (g.conjunct (s.tree p x) r)) a.tree;
-      same = same;
-      stands = (ap (place_there at) (sym (same r)), a.stands);
-      within = λ n d q w. tt;
-      closed = λ h. tt;
-    }
+tree_placed at = single_placed s.tree k.Tree at (λ p x q. refl) (λ p x q h i. (h, i)) (λ p x n d q. tt) (λ p x. tt)
 
 group_placed : (at : ℕ → Token) (p : Place) (a : s.Assertion) (r : List Kind) → AssertionPlacing at a (k.CloseRound ∷ r) → ConjunctPlacing at (s.group p a) r
 group_placed at p a r m =

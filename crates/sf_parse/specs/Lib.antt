@@ -1,6 +1,7 @@
 pub mod Grammar
 pub mod Nesting
 pub mod Nearest
+pub mod Depths
 pub mod Placed
 pub mod Parsing
 pub mod Laws

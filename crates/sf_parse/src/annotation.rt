@@ -25,10 +25,12 @@ fn inside(alloc: Global, tokens: &[Token]) -> Result<(SurfaceNote, &[Token]), St
     ensures spelled { IfOk result (λ r. Kind.OpenSquare ∷ kinds tokens.now
         ≡ annotation (annotation_of r.0) (kinds r.1.now)) }
     ensures within { IfOk result (λ r. NoteWithin (annotation_of r.0) 0 (kinds r.1.now)) }
-    ensures places { IfOk result (λ r. Placed (λ at b. NoteAt at (annotation_of r.0) b) tokens.now r.1.now) }
+    ensures places { IfOk result (λ r.
+        Placed (λ at b. NoteAt at (annotation_of r.0) b) tokens.now r.1.now) }
     ensures taken { IfOk result (λ r.
         Accepts (m.maybe_assertion ∷ m.exact m.close_square ∷ []) tokens.now r.1.now) }
-    ensures fault { IfErr result (λ e. FailsAt e (m.maybe_assertion ∷ m.exact m.close_square ∷ []) tokens.now) }
+    ensures fault { IfErr result (λ e.
+        FailsAt e (m.maybe_assertion ∷ m.exact m.close_square ∷ []) tokens.now) }
 {
     if let Some((_, rest)) = eat(tokens, Kind::CloseSquare) {
         return Ok((SurfaceNote { assertion: None }, rest));
@@ -45,9 +47,11 @@ fn inside(alloc: Global, tokens: &[Token]) -> Result<(SurfaceNote, &[Token]), St
 
 /// A note.
 pub fn annotation(alloc: Global, tokens: &[Token]) -> Result<(SurfaceNote, &[Token]), Stop>
-    ensures spelled { IfOk result (λ r. kinds tokens.now ≡ annotation (annotation_of r.0) (kinds r.1.now)) }
+    ensures spelled { IfOk result (λ r.
+        kinds tokens.now ≡ annotation (annotation_of r.0) (kinds r.1.now)) }
     ensures within { IfOk result (λ r. NoteWithin (annotation_of r.0) 0 (kinds r.1.now)) }
-    ensures places { IfOk result (λ r. Placed (λ at b. NoteAt at (annotation_of r.0) b) tokens.now r.1.now) }
+    ensures places { IfOk result (λ r.
+        Placed (λ at b. NoteAt at (annotation_of r.0) b) tokens.now r.1.now) }
     ensures taken { IfOk result (λ r.
         Accepts (m.exact m.open_square ∷ m.maybe_assertion ∷ m.exact m.close_square
         ∷ []) tokens.now r.1.now) }
@@ -67,7 +71,8 @@ pub fn maybe_annotation(
 ) -> Result<(Option<SurfaceNote>, &[Token]), Stop>
     ensures spelled { IfOk result (λ r. kinds tokens.now
         ≡ maybe_annotation (option_map annotation_of r.0) (kinds r.1.now)) }
-    ensures within { IfOk result (λ r. MaybeWithin (option_map annotation_of r.0) 0 (kinds r.1.now)) }
+    ensures within { IfOk result (λ r.
+        MaybeWithin (option_map annotation_of r.0) 0 (kinds r.1.now)) }
     ensures places { IfOk result (λ r.
         Placed (λ at b. MaybeNoteAt at (option_map annotation_of r.0) b) tokens.now r.1.now) }
     ensures taken { IfOk result (λ r. Accepts (m.maybe_annotation ∷ []) tokens.now r.1.now) }

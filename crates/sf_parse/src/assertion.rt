@@ -42,10 +42,12 @@ pub fn assertion(
     depth: usize,
     tokens: &[Token],
 ) -> Result<(SurfaceAssertion, &[Token]), Stop>
-    ensures spelled { IfOk result (λ r. kinds tokens.now ≡ assertion (assertion_of r.0) (kinds r.1.now)) }
+    ensures spelled { IfOk result (λ r.
+        kinds tokens.now ≡ assertion (assertion_of r.0) (kinds r.1.now)) }
     ensures within { IfOk result (λ r. AssertionWithin (assertion_of r.0) 0 depth (kinds r.1.now)) }
     ensures ended { IfOk result (λ r. NotStar (kinds r.1.now)) }
-    ensures places { IfOk result (λ r. Placed (λ at b. AssertionAt at (assertion_of r.0) b) tokens.now r.1.now) }
+    ensures places { IfOk result (λ r.
+        Placed (λ at b. AssertionAt at (assertion_of r.0) b) tokens.now r.1.now) }
     ensures taken { IfOk result (λ r. Accepts (m.assertion depth ∷ []) tokens.now r.1.now) }
     ensures fault { IfErr result (λ e. FailsAt e (m.assertion depth ∷ []) tokens.now) }
 {
@@ -100,10 +102,12 @@ fn conjunct(
     tokens: &[Token],
 ) -> Result<(SurfaceConjunct, &[Token]), Stop>
     requires { 0 < depth }
-    ensures spelled { IfOk result (λ r. kinds tokens.now ≡ conjunct (conjunct_of r.0) (kinds r.1.now)) }
+    ensures spelled { IfOk result (λ r.
+        kinds tokens.now ≡ conjunct (conjunct_of r.0) (kinds r.1.now)) }
     ensures within { IfOk result (λ r. ConjunctWithin (conjunct_of r.0) 0 depth (kinds r.1.now)) }
     ensures ended { IfOk result (λ r. Ends (conjunct_of r.0) (kinds r.1.now)) }
-    ensures places { IfOk result (λ r. Placed (λ at b. ConjunctAt at (conjunct_of r.0) b) tokens.now r.1.now) }
+    ensures places { IfOk result (λ r.
+        Placed (λ at b. ConjunctAt at (conjunct_of r.0) b) tokens.now r.1.now) }
     ensures taken { IfOk result (λ r. Accepts (m.conjunct depth ∷ []) tokens.now r.1.now) }
     ensures fault { IfErr result (λ e. FailsAt e (m.conjunct depth ∷ []) tokens.now) }
 {
@@ -130,7 +134,8 @@ fn choice(
     place: Place,
     tokens: &[Token],
 ) -> Result<(SurfaceConjunct, &[Token]), Stop>
-    ensures spelled { IfOk result (λ r. Kind.If ∷ kinds tokens.now ≡ conjunct (conjunct_of r.0) (kinds r.1.now)) }
+    ensures spelled { IfOk result (λ r.
+        Kind.If ∷ kinds tokens.now ≡ conjunct (conjunct_of r.0) (kinds r.1.now)) }
     ensures within { IfOk result (λ r. (d : ℕ) → d - 1 ≡ depth
         → ConjunctWithin (conjunct_of r.0) 0 d (kinds r.1.now)) }
     ensures ended { IfOk result (λ r. NotStar (kinds r.1.now)) }
@@ -164,7 +169,8 @@ fn branches(
     ensures first_within { IfOk result (λ r.
         AssertionWithin (assertion_of r.0) 0 depth (Kind.Else
         ∷ assertion (assertion_of r.1) (kinds r.2.now))) }
-    ensures second_within { IfOk result (λ r. AssertionWithin (assertion_of r.1) 0 depth (kinds r.2.now)) }
+    ensures second_within { IfOk result (λ r.
+        AssertionWithin (assertion_of r.1) 0 depth (kinds r.2.now)) }
     ensures ended { IfOk result (λ r. NotStar (kinds r.2.now)) }
     ensures places { IfOk result (λ r.
         Placed (λ at b.

@@ -1,6 +1,7 @@
 //! Calls, and what they are given.
 
-ghost use Rattle.std.specs.Prelude.{◌≡◌, ◌∷◌, [], Bool, List, false, true, map, IfErr, IfOk, MatchOption};
+ghost use Rattle.std.specs.Prelude.{◌≡◌, ◌∷◌, [], Bool, List, false, true, map};
+ghost use Rattle.std.specs.Prelude.{IfErr, IfOk, MatchOption};
 ghost use Rattle.sf_ast.specs.View.{arguments_of};
 ghost use Rattle.sf_lex.specs.declared.token.Kind.TheVariants.{CloseRound, Comma};
 ghost use Rattle.sf_parse.specs.Internal.Given.{NoMore, all_names, is_name, predicted_behind};
@@ -23,7 +24,8 @@ use std::alloc::{AllocError, Global};
 #[tactic(auto, using(crate::proofs::Arguments::given))]
 fn more_expressions(alloc: Global, tokens: &[Token]) -> Result<(Vec<SurfaceExpr>, &[Token]), Stop>
     ensures spelled { IfOk result (λ r. kinds tokens.now ≡ more_exprs r.0.items (kinds r.1.now)) }
-    ensures places { IfOk result (λ r. Placed (λ at b. MoreExprsAt at r.0.items b) tokens.now r.1.now) }
+    ensures places { IfOk result (λ r.
+        Placed (λ at b. MoreExprsAt at r.0.items b) tokens.now r.1.now) }
     ensures ended { IfOk result (λ r. NotNext Comma (kinds r.1.now)) }
     ensures taken { IfOk result (λ r. Accepts (m.more_expressions ∷ []) tokens.now r.1.now) }
     ensures taken_rest { IfOk result (λ r. (b : Bool) (st : List Predicted)
@@ -48,7 +50,8 @@ fn more_expressions(alloc: Global, tokens: &[Token]) -> Result<(Vec<SurfaceExpr>
 #[tactic(auto, using(crate::proofs::Arguments::given))]
 fn maybe_expressions(alloc: Global, tokens: &[Token]) -> Result<(Vec<SurfaceExpr>, &[Token]), Stop>
     ensures spelled { IfOk result (λ r. kinds tokens.now ≡ maybe_exprs r.0.items (kinds r.1.now)) }
-    ensures places { IfOk result (λ r. Placed (λ at b. MaybeExprsAt at r.0.items b) tokens.now r.1.now) }
+    ensures places { IfOk result (λ r.
+        Placed (λ at b. MaybeExprsAt at r.0.items b) tokens.now r.1.now) }
     ensures ended { IfOk result (λ r. NoMore r.0.items (kinds r.1.now)) }
     ensures taken { IfOk result (λ r. Accepts (m.maybe_expressions ∷ []) tokens.now r.1.now) }
     ensures taken_arguments { IfOk result (λ r. (st : List Predicted)
@@ -97,8 +100,10 @@ fn names_of(alloc: Global, values: &[SurfaceExpr]) -> Result<Option<Vec<Word>>, 
 /// What a call is given. Where no `;` comes, or one of the expressions is no name, all are values.
 #[tactic(auto, using(crate::proofs::Arguments::given))]
 fn arguments(alloc: Global, tokens: &[Token]) -> Result<(SurfaceArguments, &[Token]), Stop>
-    ensures spelled { IfOk result (λ r. kinds tokens.now ≡ arguments (arguments_of r.0) (kinds r.1.now)) }
-    ensures places { IfOk result (λ r. Placed (λ at b. ArgumentsAt at (arguments_of r.0) b) tokens.now r.1.now) }
+    ensures spelled { IfOk result (λ r.
+        kinds tokens.now ≡ arguments (arguments_of r.0) (kinds r.1.now)) }
+    ensures places { IfOk result (λ r.
+        Placed (λ at b. ArgumentsAt at (arguments_of r.0) b) tokens.now r.1.now) }
     ensures taken { IfOk result (λ r. Accepts (m.maybe_arguments ∷ []) tokens.now r.1.now) }
     ensures fault { IfErr result (λ e. FailsAt e (m.maybe_arguments ∷ []) tokens.now) }
 {
@@ -123,7 +128,8 @@ pub fn call(alloc: Global, name: Word, tokens: &[Token]) -> Result<(SurfaceCall,
         ArgumentsAt at (arguments_of r.0.arguments) (CloseRound ∷ b)) tokens.now r.1.now) }
     ensures taken { IfOk result (λ r.
         Accepts (m.maybe_arguments ∷ m.exact m.close_round ∷ []) tokens.now r.1.now) }
-    ensures fault { IfErr result (λ e. FailsAt e (m.maybe_arguments ∷ m.exact m.close_round ∷ []) tokens.now) }
+    ensures fault { IfErr result (λ e.
+        FailsAt e (m.maybe_arguments ∷ m.exact m.close_round ∷ []) tokens.now) }
 {
     let (arguments, rest) = arguments(alloc, tokens)?;
     let (_, rest) = expect(rest, Kind::CloseRound)?;

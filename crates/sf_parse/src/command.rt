@@ -78,13 +78,16 @@ fn round_test(tokens: &[Token]) -> Result<(SurfaceTest<SurfaceExpr>, &[Token]), 
 
 /// `E -> f = F ;` after its first expression.
 fn value_first(object: SurfaceExpr, tokens: &[Token]) -> Result<(SurfaceCommand, &[Token]), Stop>
-    ensures spelled { IfOk result (λ r. expr object ∷ kinds tokens.now ≡ command (command_of r.0) (kinds r.1.now)) }
+    ensures spelled { IfOk result (λ r.
+        expr object ∷ kinds tokens.now ≡ command (command_of r.0) (kinds r.1.now)) }
     ensures flat { IfOk result (λ r. IsFlat (command_of r.0)) }
     ensures places { IfOk result (λ r.
         PlacedBehind (λ at b. ExprAt at object b)
         (λ at b. CommandAt at (command_of r.0) b) tokens.now r.1.now) }
-    ensures taken { IfOk result (λ r. Accepts (m.exact m.an_arrow ∷ m.mutated_predicted) tokens.now r.1.now) }
-    ensures fault { IfErr result (λ e. FailsAt e (m.exact m.an_arrow ∷ m.mutated_predicted) tokens.now) }
+    ensures taken { IfOk result (λ r.
+        Accepts (m.exact m.an_arrow ∷ m.mutated_predicted) tokens.now r.1.now) }
+    ensures fault { IfErr result (λ e.
+        FailsAt e (m.exact m.an_arrow ∷ m.mutated_predicted) tokens.now) }
 {
     let (_, rest) = expect(tokens, Kind::Arrow)?;
     mutated(object, rest)
@@ -158,7 +161,8 @@ fn if_command(
     tokens: &[Token],
 ) -> Result<(SurfaceCommand, &[Token]), Stop>
     requires { 0 < depth }
-    ensures spelled { IfOk result (λ r. k.If ∷ kinds tokens.now ≡ command (command_of r.0) (kinds r.1.now)) }
+    ensures spelled { IfOk result (λ r.
+        k.If ∷ kinds tokens.now ≡ command (command_of r.0) (kinds r.1.now)) }
     ensures within { IfOk result (λ r. CommandWithin (command_of r.0) 0 depth (kinds r.1.now)) }
     ensures follows { IfOk result (λ r. Follows (command_of r.0) (kinds r.1.now)) }
     ensures places { IfOk result (λ r.
@@ -186,7 +190,8 @@ fn while_command(
     tokens: &[Token],
 ) -> Result<(SurfaceCommand, &[Token]), Stop>
     requires { 0 < depth }
-    ensures spelled { IfOk result (λ r. k.While ∷ kinds tokens.now ≡ command (command_of r.0) (kinds r.1.now)) }
+    ensures spelled { IfOk result (λ r.
+        k.While ∷ kinds tokens.now ≡ command (command_of r.0) (kinds r.1.now)) }
     ensures within { IfOk result (λ r. CommandWithin (command_of r.0) 0 depth (kinds r.1.now)) }
     ensures follows { IfOk result (λ r. Follows (command_of r.0) (kinds r.1.now)) }
     ensures places { IfOk result (λ r.
@@ -211,7 +216,8 @@ fn with_command(
     tokens: &[Token],
 ) -> Result<(SurfaceCommand, &[Token]), Stop>
     requires { 0 < depth }
-    ensures spelled { IfOk result (λ r. k.With ∷ kinds tokens.now ≡ command (command_of r.0) (kinds r.1.now)) }
+    ensures spelled { IfOk result (λ r.
+        k.With ∷ kinds tokens.now ≡ command (command_of r.0) (kinds r.1.now)) }
     ensures within { IfOk result (λ r. CommandWithin (command_of r.0) 0 depth (kinds r.1.now)) }
     ensures follows { IfOk result (λ r. Follows (command_of r.0) (kinds r.1.now)) }
     ensures places { IfOk result (λ r.
@@ -237,7 +243,8 @@ fn block(
     tokens: &[Token],
 ) -> Result<(SurfaceCommand, &[Token]), Stop>
     requires { 0 < depth }
-    ensures spelled { IfOk result (λ r. k.OpenBrace ∷ kinds tokens.now ≡ command (command_of r.0) (kinds r.1.now)) }
+    ensures spelled { IfOk result (λ r.
+        k.OpenBrace ∷ kinds tokens.now ≡ command (command_of r.0) (kinds r.1.now)) }
     ensures within { IfOk result (λ r. CommandWithin (command_of r.0) 0 depth (kinds r.1.now)) }
     ensures follows { IfOk result (λ r. Follows (command_of r.0) (kinds r.1.now)) }
     ensures places { IfOk result (λ r.
@@ -261,10 +268,12 @@ fn command(
     depth: usize,
     tokens: &[Token],
 ) -> Result<(SurfaceCommand, &[Token]), Stop>
-    ensures spelled { IfOk result (λ r. kinds tokens.now ≡ command (command_of r.0) (kinds r.1.now)) }
+    ensures spelled { IfOk result (λ r.
+        kinds tokens.now ≡ command (command_of r.0) (kinds r.1.now)) }
     ensures within { IfOk result (λ r. CommandWithin (command_of r.0) 0 depth (kinds r.1.now)) }
     ensures follows { IfOk result (λ r. Follows (command_of r.0) (kinds r.1.now)) }
-    ensures places { IfOk result (λ r. Placed (λ at b. CommandAt at (command_of r.0) b) tokens.now r.1.now) }
+    ensures places { IfOk result (λ r.
+        Placed (λ at b. CommandAt at (command_of r.0) b) tokens.now r.1.now) }
     ensures taken { IfOk result (λ r. Accepts (m.command depth ∷ []) tokens.now r.1.now) }
     ensures fault { IfErr result (λ e. FailsAt e (m.command depth ∷ []) tokens.now) }
 {

@@ -17,7 +17,8 @@ use sf_lex::{Kind, Token};
 #[tactic(auto, using(crate::proofs::Choices::choices))]
 pub fn test(tokens: &[Token]) -> Result<(SurfaceTest<SurfaceExpr>, &[Token]), Stop>
     ensures spelled { IfOk result (λ r. kinds tokens.now ≡ test expr r.0 (kinds r.1.now)) }
-    ensures places { IfOk result (λ r. Placed (λ at b. TestAt at expr (ExprAt at) r.0 b) tokens.now r.1.now) }
+    ensures places { IfOk result (λ r.
+        Placed (λ at b. TestAt at expr (ExprAt at) r.0 b) tokens.now r.1.now) }
     ensures taken { IfOk result (λ r. Accepts (m.test ∷ []) tokens.now r.1.now) }
     ensures fault { IfErr result (λ e. FailsAt e (m.test ∷ []) tokens.now) }
 {

@@ -8,7 +8,8 @@ ghost use Rattle.sf_parse.specs.Internal.Heads.{IsFlatConjunct};
 ghost use Rattle.sf_parse.specs.Internal.Machine as m;
 ghost use Rattle.sf_parse.specs.Parsing.{kinds};
 ghost use Rattle.sf_parse.specs.Placed.{ConjunctAt, OperandAt};
-ghost use Rattle.sf_parse.specs.Internal.Steps.{Agree, NotNext, Placed, FailsAt, Accepts, operand_next};
+ghost use Rattle.sf_parse.specs.Internal.Steps.{Accepts, Agree, FailsAt, NotNext, Placed};
+ghost use Rattle.sf_parse.specs.Internal.Steps.{operand_next};
 
 use crate::fields::maybe_fields;
 use crate::front::eat;
@@ -20,7 +21,8 @@ use std::alloc::Global;
 
 /// `( E )`
 fn one_operand(tokens: &[Token]) -> Result<(SurfaceOperand, &[Token]), Stop>
-    ensures spelled { IfOk result (λ r. kinds tokens.now ≡ Kind.OpenRound ∷ operand r.0 ∷ Kind.CloseRound
+    ensures spelled { IfOk result (λ r.
+        kinds tokens.now ≡ Kind.OpenRound ∷ operand r.0 ∷ Kind.CloseRound
         ∷ kinds r.1.now) }
     ensures places { IfOk result (λ r.
         Placed (λ at b. OperandAt at r.0 (Kind.CloseRound ∷ b)) tokens.now r.1.now) }
@@ -92,9 +94,11 @@ pub fn predicate(tokens: &[Token]) -> Result<(SurfaceConjunct, &[Token]), Stop>
     requires no_operand { operand_next (kinds tokens.now) ≡ false }
     requires no_group { NotNext Kind.OpenRound (kinds tokens.now) }
     requires no_choice { NotNext Kind.If (kinds tokens.now) }
-    ensures spelled { IfOk result (λ r. kinds tokens.now ≡ conjunct (conjunct_of r.0) (kinds r.1.now)) }
+    ensures spelled { IfOk result (λ r.
+        kinds tokens.now ≡ conjunct (conjunct_of r.0) (kinds r.1.now)) }
     ensures flat { IfOk result (λ r. IsFlatConjunct (conjunct_of r.0)) }
-    ensures places { IfOk result (λ r. Placed (λ at b. ConjunctAt at (conjunct_of r.0) b) tokens.now r.1.now) }
+    ensures places { IfOk result (λ r.
+        Placed (λ at b. ConjunctAt at (conjunct_of r.0) b) tokens.now r.1.now) }
     ensures taken { IfOk result (λ r. (d : ℕ) → Accepts (m.conjunct d ∷ []) tokens.now r.1.now) }
     ensures fault { IfErr result (λ e. (d : ℕ) → FailsAt e (m.conjunct d ∷ []) tokens.now) }
 {

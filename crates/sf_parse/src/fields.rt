@@ -34,7 +34,8 @@ fn field(tokens: &[Token]) -> Result<(SurfaceField, &[Token]), Stop>
 #[tactic(auto, using(crate::proofs::Choices::choices))]
 fn more_fields(alloc: Global, tokens: &[Token]) -> Result<(Vec<SurfaceField>, &[Token]), Stop>
     ensures spelled { IfOk result (λ r. kinds tokens.now ≡ more_fields r.0.items (kinds r.1.now)) }
-    ensures places { IfOk result (λ r. Placed (λ at b. MoreFieldsAt at r.0.items b) tokens.now r.1.now) }
+    ensures places { IfOk result (λ r.
+        Placed (λ at b. MoreFieldsAt at r.0.items b) tokens.now r.1.now) }
     ensures taken { IfOk result (λ r. Accepts (m.more_fields ∷ []) tokens.now r.1.now) }
     ensures fault { IfErr result (λ e. FailsAt e (m.more_fields ∷ []) tokens.now) }
 {
@@ -52,7 +53,8 @@ fn more_fields(alloc: Global, tokens: &[Token]) -> Result<(Vec<SurfaceField>, &[
 #[tactic(auto, using(crate::proofs::Choices::choices))]
 pub fn maybe_fields(alloc: Global, tokens: &[Token]) -> Result<(Vec<SurfaceField>, &[Token]), Stop>
     ensures spelled { IfOk result (λ r. kinds tokens.now ≡ maybe_fields r.0.items (kinds r.1.now)) }
-    ensures places { IfOk result (λ r. Placed (λ at b. MaybeFieldsAt at r.0.items b) tokens.now r.1.now) }
+    ensures places { IfOk result (λ r.
+        Placed (λ at b. MaybeFieldsAt at r.0.items b) tokens.now r.1.now) }
     ensures taken { IfOk result (λ r. Accepts (m.maybe_fields ∷ []) tokens.now r.1.now) }
     ensures fault { IfErr result (λ e. FailsAt e (m.maybe_fields ∷ []) tokens.now) }
 {

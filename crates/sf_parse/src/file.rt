@@ -1,8 +1,8 @@
 //! A whole file.
 
-ghost use Rattle.std.specs.Prelude.{◌≡◌, ◌≤◌, ◌⊎◌, ◌∷◌, [], List, length, map, IfErr, IfOk, MatchResult};
-ghost use Rattle.sf_ast.specs.Surface as s;
+ghost use Rattle.std.specs.Prelude.{◌≡◌, ◌≤◌, ◌⊎◌, ◌∷◌, [], length, map, IfErr, IfOk};
 ghost use Rattle.sf_ast.specs.View.{item_of};
+ghost use Rattle.sf_base.specs.Results.{Decides};
 ghost use Rattle.sf_parse.specs.Internal.Faults.{place_left};
 ghost use Rattle.sf_parse.specs.Internal.Machine as m;
 ghost use Rattle.sf_parse.specs.Parsing.{IsFault, IsFile};
@@ -57,16 +57,9 @@ fn read(alloc: Global, end: Place, tokens: &[Token]) -> Result<File, ParseFault>
 /// tokens would make one, at the first token of a command or an assertion nested deeper than 64
 /// levels, or where memory runs out.
 pub fn parse(alloc: Global, tokens: &Tokens) -> Result<File, ParseFault>
-    ensures found { IfOk result (λ file.
-        IsFile tokens.now.items.items (map item_of file.items.items)) }
-    ensures refused { IfErr result (λ fault. (fault ≡ ParseFault.OutOfMemory)
-        ⊎ IsFault tokens.now.end tokens.now.items.items fault) }
-    ensures only_found { (tree : List s.Item) → IsFile tokens.now.items.items tree
-        → MatchResult result (λ file. map item_of file.items.items ≡ tree) (λ fault. fault
-        ≡ ParseFault.OutOfMemory) }
-    ensures only_refused { (fault : ParseFault)
-        → IsFault tokens.now.end tokens.now.items.items fault
-        → MatchResult result (λ _. ⊥) (λ own. (own ≡ fault) ⊎ (own ≡ ParseFault.OutOfMemory)) }
+    ensures { Decides result (λ file. map item_of file.items.items)
+        (IsFile tokens.now.items.items) (IsFault tokens.now.end tokens.now.items.items)
+        ParseFault.OutOfMemory }
 {
     read(alloc, tokens.end, tokens.items.as_slice())
 }

@@ -26,9 +26,10 @@ fn word_of(token: &Token) -> Word
 
 /// A word of that kind, and the tokens after it.
 pub fn eat_word(tokens: &[Token], kind: Kind) -> Option<(Word, &[Token])>
-    ensures spelled { MatchOption result (NotNext kind (kinds tokens.now)) (λ r. kinds tokens.now ≡ kind
-        ∷ kinds r.1.now) }
-    ensures places { IfSome result (λ r. Placed (λ at b. WordAt at r.0 (kind ∷ b)) tokens.now r.1.now) }
+    ensures spelled { MatchOption result (NotNext kind (kinds tokens.now))
+        (λ r. kinds tokens.now ≡ kind ∷ kinds r.1.now) }
+    ensures places { IfSome result (λ r.
+        Placed (λ at b. WordAt at r.0 (kind ∷ b)) tokens.now r.1.now) }
 {
     match tokens {
         [token, rest @ ..] => {
@@ -55,8 +56,8 @@ pub fn eat(tokens: &[Token], kind: Kind) -> Option<(Place, &[Token])>
 
 /// An expression, and the tokens after it.
 pub fn eat_expression(tokens: &[Token]) -> Option<(SurfaceExpr, &[Token])>
-    ensures spelled { MatchOption result (expression_next (kinds tokens.now) ≡ false) (λ r. kinds tokens.now
-        ≡ expr r.0 ∷ kinds r.1.now) }
+    ensures spelled { MatchOption result (expression_next (kinds tokens.now) ≡ false)
+        (λ r. kinds tokens.now ≡ expr r.0 ∷ kinds r.1.now) }
     ensures places { IfSome result (λ r. Placed (λ at b. ExprAt at r.0 b) tokens.now r.1.now) }
 {
     match tokens {
@@ -74,8 +75,8 @@ pub fn eat_expression(tokens: &[Token]) -> Option<(SurfaceExpr, &[Token])>
 /// An operand, and the tokens after it.
 #[tactic(auto, using(crate::proofs::Fronts::leaves))]
 pub fn eat_operand(tokens: &[Token]) -> Option<(SurfaceOperand, &[Token])>
-    ensures spelled { MatchOption result (operand_next (kinds tokens.now) ≡ false) (λ r. kinds tokens.now
-        ≡ operand r.0 ∷ kinds r.1.now) }
+    ensures spelled { MatchOption result (operand_next (kinds tokens.now) ≡ false)
+        (λ r. kinds tokens.now ≡ operand r.0 ∷ kinds r.1.now) }
     ensures places { IfSome result (λ r. Placed (λ at b. OperandAt at r.0 b) tokens.now r.1.now) }
 {
     if let Some((known, rest)) = eat_expression(tokens) {

@@ -49,7 +49,8 @@ pub struct Body {
 /// The `local`s of a body.
 #[tactic(auto, using(crate::proofs::ItemHeads::item_heads))]
 fn locals(alloc: Global, tokens: &[Token]) -> Result<(Vec<SurfaceNames>, &[Token]), Stop>
-    ensures spelled { IfOk result (λ r. kinds tokens.now ≡ g.locals (map names_of r.0.items) (kinds r.1.now)) }
+    ensures spelled { IfOk result (λ r.
+        kinds tokens.now ≡ g.locals (map names_of r.0.items) (kinds r.1.now)) }
     ensures places { IfOk result (λ r.
         Placed (λ at b. LocalsAt at (map names_of r.0.items) b) tokens.now r.1.now) }
     ensures taken { IfOk result (λ r. Accepts (m.locals ∷ []) tokens.now r.1.now) }
@@ -139,13 +140,16 @@ fn procedure(alloc: Global, first: Word, tokens: &[Token]) -> Result<(Item, &[To
 
 /// Fields after the first one's name.
 fn fields(alloc: Global, first: Word, tokens: &[Token]) -> Result<(Item, &[Token]), Stop>
-    ensures spelled { IfOk result (λ r. k.Name ∷ kinds tokens.now ≡ item (item_of r.0) (kinds r.1.now)) }
+    ensures spelled { IfOk result (λ r.
+        k.Name ∷ kinds tokens.now ≡ item (item_of r.0) (kinds r.1.now)) }
     ensures within { IfOk result (λ r. ItemWithin (item_of r.0) 0 (kinds r.1.now)) }
     ensures places { IfOk result (λ r.
         PlacedBehind (λ at b. WordAt at first (k.Name ∷ b))
         (λ at b. ItemAt at (item_of r.0) b) tokens.now r.1.now) }
-    ensures taken { IfOk result (λ r. Accepts (m.more_names ∷ m.exact m.semicolon ∷ []) tokens.now r.1.now) }
-    ensures fault { IfErr result (λ e. FailsAt e (m.more_names ∷ m.exact m.semicolon ∷ []) tokens.now) }
+    ensures taken { IfOk result (λ r.
+        Accepts (m.more_names ∷ m.exact m.semicolon ∷ []) tokens.now r.1.now) }
+    ensures fault { IfErr result (λ e.
+        FailsAt e (m.more_names ∷ m.exact m.semicolon ∷ []) tokens.now) }
 {
     let (more, rest) = more_names(alloc, tokens)?;
     let (_, rest) = expect(rest, Kind::Semicolon)?;
@@ -154,7 +158,8 @@ fn fields(alloc: Global, first: Word, tokens: &[Token]) -> Result<(Item, &[Token
 
 /// A resource after its own word.
 fn resource(alloc: Global, place: Place, tokens: &[Token]) -> Result<(Item, &[Token]), Stop>
-    ensures spelled { IfOk result (λ r. k.Resource ∷ kinds tokens.now ≡ item (item_of r.0) (kinds r.1.now)) }
+    ensures spelled { IfOk result (λ r.
+        k.Resource ∷ kinds tokens.now ≡ item (item_of r.0) (kinds r.1.now)) }
     ensures within { IfOk result (λ r. ItemWithin (item_of r.0) 0 (kinds r.1.now)) }
     ensures places { IfOk result (λ r.
         PlacedBehind (λ at b. PlaceAt at place (k.Resource ∷ b))
@@ -181,7 +186,8 @@ fn resource(alloc: Global, place: Place, tokens: &[Token]) -> Result<(Item, &[To
 /// Fields or a procedure after the name that begins it.
 #[tactic(auto, using(crate::proofs::ItemHeads::item_heads))]
 fn named_item(alloc: Global, first: Word, tokens: &[Token]) -> Result<(Item, &[Token]), Stop>
-    ensures spelled { IfOk result (λ r. k.Name ∷ kinds tokens.now ≡ item (item_of r.0) (kinds r.1.now)) }
+    ensures spelled { IfOk result (λ r.
+        k.Name ∷ kinds tokens.now ≡ item (item_of r.0) (kinds r.1.now)) }
     ensures within { IfOk result (λ r. ItemWithin (item_of r.0) 0 (kinds r.1.now)) }
     ensures places { IfOk result (λ r.
         PlacedBehind (λ at b. WordAt at first (k.Name ∷ b))
@@ -201,7 +207,8 @@ fn item(alloc: Global, tokens: &[Token]) -> Result<(Item, &[Token]), Stop>
     requires { 0 < length tokens.now }
     ensures spelled { IfOk result (λ r. kinds tokens.now ≡ item (item_of r.0) (kinds r.1.now)) }
     ensures within { IfOk result (λ r. ItemWithin (item_of r.0) 0 (kinds r.1.now)) }
-    ensures places { IfOk result (λ r. Placed (λ at b. ItemAt at (item_of r.0) b) tokens.now r.1.now) }
+    ensures places { IfOk result (λ r.
+        Placed (λ at b. ItemAt at (item_of r.0) b) tokens.now r.1.now) }
     ensures taken { IfOk result (λ r. (st : List Predicted)
         → verdict 0 (kinds tokens.now) (m.items ∷ st)
         ≡ verdict 0 (kinds r.1.now) (m.items ∷ st)) }
@@ -218,9 +225,11 @@ fn item(alloc: Global, tokens: &[Token]) -> Result<(Item, &[Token]), Stop>
 
 /// The items of a file.
 pub fn items(alloc: Global, tokens: &[Token]) -> Result<Vec<Item>, Stop>
-    ensures spelled { IfOk result (λ found. kinds tokens.now ≡ g.items (map item_of found.items) []) }
+    ensures spelled { IfOk result (λ found.
+        kinds tokens.now ≡ g.items (map item_of found.items) []) }
     ensures within { IfOk result (λ found. ItemsWithin (map item_of found.items) 0 []) }
-    ensures places { IfOk result (λ found. Placed (λ at b. ItemsAt at (map item_of found.items) b) tokens.now []) }
+    ensures places { IfOk result (λ found.
+        Placed (λ at b. ItemsAt at (map item_of found.items) b) tokens.now []) }
     ensures fault { IfErr result (λ e. FailsAt e (m.items ∷ []) tokens.now) }
 {
     let mut found = Vec::new(alloc);

@@ -1,4 +1,5 @@
-//! What is predicted and is one token: a symbol or reserved word, a name, an expression, an operand.
+//! What is predicted and is one token: a symbol or reserved word, a name, an expression or an
+//! operand.
 
 ghost use Rattle.std.specs.Prelude.{◌≡◌, ◌∷◌, [], IfErr, IfOk};
 ghost use Rattle.sf_parse.specs.Grammar.{expr, operand};
@@ -19,8 +20,10 @@ use sf_lex::{Kind, Token};
 pub fn expect(tokens: &[Token], kind: Kind) -> Result<(Place, &[Token]), Stop>
     requires { terminal_kind (terminal_of kind) ≡ kind }
     ensures spelled { IfOk result (λ r. kinds tokens.now ≡ kind ∷ kinds r.1.now) }
-    ensures places { IfOk result (λ r. Placed (λ at b. PlaceAt at r.0 (kind ∷ b)) tokens.now r.1.now) }
-    ensures taken { IfOk result (λ r. Accepts (m.exact (terminal_of kind) ∷ []) tokens.now r.1.now) }
+    ensures places { IfOk result (λ r.
+        Placed (λ at b. PlaceAt at r.0 (kind ∷ b)) tokens.now r.1.now) }
+    ensures taken { IfOk result (λ r.
+        Accepts (m.exact (terminal_of kind) ∷ []) tokens.now r.1.now) }
     ensures fault { IfErr result (λ e. FailsAt e (m.exact (terminal_of kind) ∷ []) tokens.now) }
 {
     eat(tokens, kind).ok_or(Stop::Unexpected(tokens.len()))
@@ -30,7 +33,8 @@ pub fn expect(tokens: &[Token], kind: Kind) -> Result<(Place, &[Token]), Stop>
 #[tactic(auto, using(crate::proofs::Fronts::leaves))]
 pub fn name(tokens: &[Token]) -> Result<(Word, &[Token]), Stop>
     ensures spelled { IfOk result (λ r. kinds tokens.now ≡ Kind.Name ∷ kinds r.1.now) }
-    ensures places { IfOk result (λ r. Placed (λ at b. WordAt at r.0 (Kind.Name ∷ b)) tokens.now r.1.now) }
+    ensures places { IfOk result (λ r.
+        Placed (λ at b. WordAt at r.0 (Kind.Name ∷ b)) tokens.now r.1.now) }
     ensures taken { IfOk result (λ r. Accepts (m.exact m.a_name ∷ []) tokens.now r.1.now) }
     ensures fault { IfErr result (λ e. FailsAt e (m.exact m.a_name ∷ []) tokens.now) }
 {

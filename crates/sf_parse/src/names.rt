@@ -20,7 +20,8 @@ use std::alloc::Global;
 #[tactic(auto, using(crate::proofs::Choices::choices))]
 pub fn more_names(alloc: Global, tokens: &[Token]) -> Result<(Vec<Word>, &[Token]), Stop>
     ensures spelled { IfOk result (λ r. kinds tokens.now ≡ more_names r.0.items (kinds r.1.now)) }
-    ensures places { IfOk result (λ r. Placed (λ at b. MoreNamesAt at r.0.items b) tokens.now r.1.now) }
+    ensures places { IfOk result (λ r.
+        Placed (λ at b. MoreNamesAt at r.0.items b) tokens.now r.1.now) }
     ensures taken { IfOk result (λ r. Accepts (m.more_names ∷ []) tokens.now r.1.now) }
     ensures fault { IfErr result (λ e. FailsAt e (m.more_names ∷ []) tokens.now) }
 {
@@ -37,9 +38,12 @@ pub fn more_names(alloc: Global, tokens: &[Token]) -> Result<(Vec<Word>, &[Token
 /// One name or more.
 pub fn names(alloc: Global, tokens: &[Token]) -> Result<(SurfaceNames, &[Token]), Stop>
     ensures spelled { IfOk result (λ r. kinds tokens.now ≡ names (names_of r.0) (kinds r.1.now)) }
-    ensures places { IfOk result (λ r. Placed (λ at b. NamesAt at (names_of r.0) b) tokens.now r.1.now) }
-    ensures taken { IfOk result (λ r. Accepts (m.exact m.a_name ∷ m.more_names ∷ []) tokens.now r.1.now) }
-    ensures fault { IfErr result (λ e. FailsAt e (m.exact m.a_name ∷ m.more_names ∷ []) tokens.now) }
+    ensures places { IfOk result (λ r.
+        Placed (λ at b. NamesAt at (names_of r.0) b) tokens.now r.1.now) }
+    ensures taken { IfOk result (λ r.
+        Accepts (m.exact m.a_name ∷ m.more_names ∷ []) tokens.now r.1.now) }
+    ensures fault { IfErr result (λ e.
+        FailsAt e (m.exact m.a_name ∷ m.more_names ∷ []) tokens.now) }
 {
     let (first, rest) = name(tokens)?;
     let (more, rest) = more_names(alloc, rest)?;
@@ -50,7 +54,8 @@ pub fn names(alloc: Global, tokens: &[Token]) -> Result<(SurfaceNames, &[Token])
 #[tactic(auto, using(crate::proofs::Choices::choices))]
 pub fn maybe_names(alloc: Global, tokens: &[Token]) -> Result<(Vec<Word>, &[Token]), Stop>
     ensures spelled { IfOk result (λ r. kinds tokens.now ≡ maybe_names r.0.items (kinds r.1.now)) }
-    ensures places { IfOk result (λ r. Placed (λ at b. MaybeNamesAt at r.0.items b) tokens.now r.1.now) }
+    ensures places { IfOk result (λ r.
+        Placed (λ at b. MaybeNamesAt at r.0.items b) tokens.now r.1.now) }
     ensures taken { IfOk result (λ r. Accepts (m.maybe_names ∷ []) tokens.now r.1.now) }
     ensures fault { IfErr result (λ e. FailsAt e (m.maybe_names ∷ []) tokens.now) }
 {
@@ -64,9 +69,12 @@ pub fn maybe_names(alloc: Global, tokens: &[Token]) -> Result<(Vec<Word>, &[Toke
 /// The parameters of a procedure.
 #[tactic(auto, using(crate::proofs::Choices::choices))]
 pub fn parameters(alloc: Global, tokens: &[Token]) -> Result<(SurfaceParameters, &[Token]), Stop>
-    ensures spelled { IfOk result (λ r. kinds tokens.now ≡ parameters (parameters_of r.0) (kinds r.1.now)) }
-    ensures places { IfOk result (λ r. Placed (λ at b. ParametersAt at (parameters_of r.0) b) tokens.now r.1.now) }
-    ensures taken { IfOk result (λ r. Accepts (m.maybe_names ∷ m.maybe_values ∷ []) tokens.now r.1.now) }
+    ensures spelled { IfOk result (λ r.
+        kinds tokens.now ≡ parameters (parameters_of r.0) (kinds r.1.now)) }
+    ensures places { IfOk result (λ r.
+        Placed (λ at b. ParametersAt at (parameters_of r.0) b) tokens.now r.1.now) }
+    ensures taken { IfOk result (λ r.
+        Accepts (m.maybe_names ∷ m.maybe_values ∷ []) tokens.now r.1.now) }
     ensures fault { IfErr result (λ e. FailsAt e (m.maybe_names ∷ m.maybe_values ∷ []) tokens.now) }
 {
     let (first, rest) = maybe_names(alloc, tokens)?;

@@ -107,7 +107,8 @@ fn assigned(target: Word, tokens: &[Token]) -> Result<(SurfaceCommand, &[Token])
 
 /// The second call of a fork, after the `||`.
 fn forked(alloc: Global, tokens: &[Token]) -> Result<(SurfaceCall, &[Token]), Stop>
-    ensures spelled { IfOk result (λ r. kinds tokens.now ≡ g.call (call_of r.0) (k.Semicolon ∷ kinds r.1.now)) }
+    ensures spelled { IfOk result (λ r.
+        kinds tokens.now ≡ g.call (call_of r.0) (k.Semicolon ∷ kinds r.1.now)) }
     ensures places { IfOk result (λ r.
         Placed (λ at b. CallAt at (call_of r.0) (k.Semicolon ∷ b)) tokens.now r.1.now) }
     ensures taken { IfOk result (λ r. Accepts m.forked_predicted tokens.now r.1.now) }
@@ -158,7 +159,8 @@ pub fn named(
     first: Word,
     tokens: &[Token],
 ) -> Result<(SurfaceCommand, &[Token]), Stop>
-    ensures spelled { IfOk result (λ r. k.Name ∷ kinds tokens.now ≡ command (command_of r.0) (kinds r.1.now)) }
+    ensures spelled { IfOk result (λ r.
+        k.Name ∷ kinds tokens.now ≡ command (command_of r.0) (kinds r.1.now)) }
     ensures flat { IfOk result (λ r. IsFlat (command_of r.0)) }
     ensures places { IfOk result (λ r.
         PlacedBehind (λ at b. WordAt at first (k.Name ∷ b))
@@ -181,7 +183,8 @@ pub fn named(
 /// A command after its `dispose`.
 #[tactic(auto, using(crate::proofs::Heads::heads))]
 pub fn disposed(place: Place, tokens: &[Token]) -> Result<(SurfaceCommand, &[Token]), Stop>
-    ensures spelled { IfOk result (λ r. k.Dispose ∷ kinds tokens.now ≡ command (command_of r.0) (kinds r.1.now)) }
+    ensures spelled { IfOk result (λ r.
+        k.Dispose ∷ kinds tokens.now ≡ command (command_of r.0) (kinds r.1.now)) }
     ensures flat { IfOk result (λ r. IsFlat (command_of r.0)) }
     ensures places { IfOk result (λ r.
         PlacedBehind (λ at b. PlaceAt at place (k.Dispose ∷ b))

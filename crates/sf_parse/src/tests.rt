@@ -188,81 +188,51 @@ fn repeated(alloc: Global, parts: &[(&[u8], usize)]) -> Result<Vec<u8>, AllocErr
 
 #[test]
 fn nesting_has_sixty_four_levels(rt: HostRuntime) -> Result<(), AllocError> {
-    let cases: [([(&[u8], usize); 4], Answer); 13] = [
+    let cases: [(&[u8], &[u8], usize, &[u8], &[u8], Answer); 13] = [
+        (b"f() ", b"{", 65, b"", b"}", Answer::Read),
+        (b"f() ", b"{", 66, b"", b"}", too_deep(70)),
+        (b"f() { ", b"{", 64, b"x = nil;", b"", too_deep(71)),
+        (b"f() { ", b"{", 64, b";", b"", unexpected(71)),
         (
-            [(b"f() { ", 1), (b"{", 64), (b"}", 64), (b" }", 1)],
-            Answer::Read,
-        ),
-        (
-            [(b"f() {", 1), (b"{", 65), (b"}", 65), (b" }", 1)],
-            too_deep(70),
-        ),
-        (
-            [(b"f() { ", 1), (b"{", 64), (b"x = nil;", 1), (b"", 0)],
-            too_deep(71),
-        ),
-        (
-            [(b"f() { ", 1), (b"{", 64), (b";", 1), (b"", 0)],
-            unexpected(71),
-        ),
-        (
-            [
-                (b"f() { ", 1),
-                (b"{", 63),
-                (b"if (true) x = nil;", 1),
-                (b"", 0),
-            ],
+            b"f() { ",
+            b"{",
+            63,
+            b"if (true) x = nil;",
+            b"",
             too_deep(80),
         ),
+        (b"f() { ", b"{", 63, b"if (true) ;", b"", unexpected(80)),
+        (b"f() { ", b"{", 63, b"if (true) ", b"", unexpected(80)),
         (
-            [(b"f() { ", 1), (b"{", 63), (b"if (true) ;", 1), (b"", 0)],
-            unexpected(80),
-        ),
-        (
-            [(b"f() { ", 1), (b"{", 63), (b"if (true) ", 1), (b"", 0)],
-            unexpected(80),
-        ),
-        (
-            [
-                (b"f() { ", 1),
-                (b"if (true) ", 63),
-                (b"x = nil; }", 1),
-                (b"", 0),
-            ],
+            b"f() { ",
+            b"if (true) ",
+            63,
+            b"x = nil; }",
+            b"",
             Answer::Read,
         ),
+        (b"f() [", b"(", 63, b"emp", b")", unexpected(135)),
+        (b"f() [", b"(", 64, b"emp", b")", too_deep(70)),
+        (b"f() [", b"(", 65, b"", b"", too_deep(70)),
         (
-            [(b"f() [", 1), (b"(", 63), (b"emp", 1), (b")", 63)],
-            unexpected(135),
-        ),
-        (
-            [(b"f() [", 1), (b"(", 64), (b"emp", 1), (b")", 64)],
-            too_deep(70),
-        ),
-        (
-            [(b"f() [", 1), (b"(", 65), (b"", 0), (b"", 0)],
-            too_deep(70),
-        ),
-        (
-            [
-                (b"f() [", 1),
-                (b"if true then emp else ", 64),
-                (b"emp", 1),
-                (b"", 0),
-            ],
+            b"f() [",
+            b"if true then emp else ",
+            64,
+            b"emp",
+            b"",
             too_deep(1405),
         ),
         (
-            [
-                (b"f() [", 1),
-                (b"(", 62),
-                (b"if true then emp else emp * (emp)", 1),
-                (b"", 0),
-            ],
+            b"f() [",
+            b"(",
+            62,
+            b"if true then emp else emp * (emp)",
+            b"",
             too_deep(97),
         ),
     ];
-    for (parts, expected) in cases {
+    for (before, open, times, inside, close, expected) in cases {
+        let parts: [(&[u8], usize); 4] = [(before, 1), (open, times), (inside, 1), (close, times)];
         let text = repeated(rt.alloc(), parts.as_slice())?;
         assert!(rt; outcome(rt.alloc(), text.as_slice()) == expected);
     }

@@ -6,19 +6,16 @@ use Rattle.sf_lex.specs.declared.token.Kind.{Kind}
 use Rattle.sf_lex.specs.declared.token.Kind.TheVariants as k
 use Rattle.sf_lex.specs.declared.token.Token.{Token}
 use Rattle.sf_parse.specs.Parsing.{kinds}
-use Rattle.sf_parse.specs.Internal.Steps.{Agree, operand_next}
+use Rattle.sf_parse.specs.Internal.Steps.{Agree, expression_next, operand_next}
 
 -- a command with no command in it
 abbrev pub IsFlat : s.Command → Type 0
-IsFlat (s.assign x a) = Unit {0}
-IsFlat (s.look_up x a f) = Unit {0}
-IsFlat (s.new x) = Unit {0}
-IsFlat (s.mutate a f b) = Unit {0}
-IsFlat (s.dispose p a) = Unit {0}
-IsFlat (s.dispose_round p a) = Unit {0}
-IsFlat (s.call c) = Unit {0}
-IsFlat (s.fork c e) = Unit {0}
-IsFlat _ = ⊥
+IsFlat (s.if_alone p b c) = ⊥
+IsFlat (s.if p b c e) = ⊥
+IsFlat (s.while p b x c) = ⊥
+IsFlat (s.with p x b c) = ⊥
+IsFlat (s.block p cs) = ⊥
+IsFlat _ = Unit {0}
 
 -- what was read is where its tokens are, its first tokens having been read before
 abbrev pub PlacedBehind : ((ℕ → Token) → List Kind → Type 0) → ((ℕ → Token) → List Kind → Type 0) → List Token → List Token → Type 0
@@ -26,16 +23,12 @@ PlacedBehind First Stands ts r = (at : ℕ → Token) → First at (kinds ts) �
 
 -- a command comes next
 abbrev pub command_next : List Kind → Bool
-command_next (k.Name ∷ r) = true
-command_next (k.Nil ∷ r) = true
-command_next (k.Null ∷ r) = true
-command_next (k.Number ∷ r) = true
 command_next (k.Dispose ∷ r) = true
 command_next (k.If ∷ r) = true
 command_next (k.While ∷ r) = true
 command_next (k.With ∷ r) = true
 command_next (k.OpenBrace ∷ r) = true
-command_next _ = false
+command_next r = expression_next r
 
 -- a conjunct with no assertion in it
 abbrev pub IsFlatConjunct : s.Conjunct → Type 0
