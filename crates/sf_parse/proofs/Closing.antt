@@ -1,12 +1,12 @@
 -- The laws of the crate, under the names of their functions in src/laws.rt.
 use Rattle.std.proofs.Common.{sym, ◌∙◌, []}
 use Rattle.sf_parse.specs.Parsing.{token_left}
-use Rattle.sf_parse.proofs.OnceFiles.{items_once}
+use Rattle.sf_parse.proofs.Grammar.OnceFiles.{items_once}
 use Rattle.sf_parse.specs.Laws.{EachFileIsOne, EachFileIsShallow, AnswerIsUnique, LevelsAreDepths, ShallowTreesAreWithin, TheVerdictIsExact}
-use Rattle.sf_parse.proofs.Depths.{items_levels_whole, items_shallow, items_within, levels_within}
-use Rattle.sf_parse.proofs.Faults.{file_or_fault, faults_once, files_without_fault}
-use Rattle.sf_parse.proofs.Nearest.{items_nearest}
-use Rattle.sf_parse.proofs.Law.{exact}
+use Rattle.sf_parse.proofs.Grammar.Depths.{items_levels_whole, items_shallow, items_within, levels_within}
+use Rattle.sf_parse.proofs.Machine.Faults.{file_or_fault, faults_once, files_without_fault}
+use Rattle.sf_parse.proofs.Grammar.Nearest.{items_nearest}
+use Rattle.sf_parse.proofs.Machine.Law.{exact}
 
 pub each_file_is_one : EachFileIsOne
 each_file_is_one ts one two f g = items_once (token_left ts) 0 one two f.places g.places f.within g.within (sym f.spells ∙ g.spells)

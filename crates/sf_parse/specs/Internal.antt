@@ -3,4 +3,4 @@ pub mod Faults
 pub mod Given
 pub mod Heads
 pub mod Machine
-pub mod Steps
+pub mod Parser

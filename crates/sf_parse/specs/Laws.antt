@@ -14,7 +14,7 @@ use Rattle.sf_parse.specs.Grammar.{items}
 use Rattle.sf_parse.specs.Internal.Machine.{Verdict, accepted, unexpected, too_deep, verdict, items as some_items}
 use Rattle.sf_parse.specs.Nearest.{IsNearest}
 use Rattle.sf_parse.specs.Nesting.{ItemsWithin}
-use Rattle.sf_parse.specs.Parsing.{kinds, CanBegin, CanBeginAny, IsFile, IsFault}
+use Rattle.sf_parse.specs.Parsing.{CanBegin, CanBeginAny, IsFile, IsFault}
 
 -- the verdict over a whole file, with nothing free of the limit on nesting
 abbrev pub verdict_of : List Kind → Verdict

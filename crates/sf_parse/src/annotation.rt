@@ -8,7 +8,7 @@ ghost use Rattle.sf_parse.specs.Internal.Machine as m;
 ghost use Rattle.sf_parse.specs.Nesting.{MaybeWithin, NoteWithin};
 ghost use Rattle.sf_parse.specs.Parsing.{kinds};
 ghost use Rattle.sf_parse.specs.Placed.{MaybeNoteAt, NoteAt};
-ghost use Rattle.sf_parse.specs.Internal.Steps.{Placed, FailsAt, Accepts};
+ghost use Rattle.sf_parse.specs.Internal.Parser.{Placed, FailsAt, Accepts};
 
 use crate::assertion::assertion;
 use crate::front::eat;
@@ -20,7 +20,7 @@ use sf_lex::{Kind, Token};
 use std::alloc::Global;
 
 /// A note after its opening bracket.
-#[tactic(auto, using(crate::proofs::Conjuncts::behind))]
+#[tactic(auto, using(crate::proofs::Parser::Conjuncts::behind))]
 fn inside(alloc: Global, tokens: &[Token]) -> Result<(SurfaceNote, &[Token]), Stop>
     ensures spelled { IfOk result (λ r. Kind.OpenSquare ∷ kinds tokens.now
         ≡ annotation (annotation_of r.0) (kinds r.1.now)) }
@@ -64,7 +64,7 @@ pub fn annotation(alloc: Global, tokens: &[Token]) -> Result<(SurfaceNote, &[Tok
 }
 
 /// A note, or none.
-#[tactic(auto, using(crate::proofs::Choices::choices))]
+#[tactic(auto, using(crate::proofs::Parser::Choices::choices))]
 pub fn maybe_annotation(
     alloc: Global,
     tokens: &[Token],

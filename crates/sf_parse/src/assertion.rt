@@ -9,7 +9,7 @@ ghost use Rattle.sf_parse.specs.Internal.Machine as m;
 ghost use Rattle.sf_parse.specs.Nesting.{AssertionWithin, ConjunctWithin};
 ghost use Rattle.sf_parse.specs.Parsing.{kinds};
 ghost use Rattle.sf_parse.specs.Placed.{AssertionAt, ConjunctAt, PlaceAt};
-ghost use Rattle.sf_parse.specs.Internal.Steps.{Agree, Ends, NotStar, Placed, FailsAt, Accepts};
+ghost use Rattle.sf_parse.specs.Internal.Parser.{Agree, Ends, NotStar, Placed, FailsAt, Accepts};
 
 use crate::condition::operand_test;
 use crate::conjunct::{predicate, relation};
@@ -23,7 +23,7 @@ use sf_lex::{Kind, Token};
 use std::alloc::Global;
 
 /// The fault of an assertion for which there is no level.
-#[tactic(auto, using(crate::proofs::Conjuncts::behind))]
+#[tactic(auto, using(crate::proofs::Parser::Conjuncts::behind))]
 fn no_level(tokens: &[Token]) -> Stop
     ensures { FailsAt result (m.assertion 0 ∷ []) tokens.now }
 {
@@ -36,7 +36,7 @@ fn no_level(tokens: &[Token]) -> Stop
 
 /// An assertion of at most that many levels.
 #[cycle(assertion)]
-#[tactic(auto, using(crate::proofs::Conjuncts::behind))]
+#[tactic(auto, using(crate::proofs::Parser::Conjuncts::behind))]
 pub fn assertion(
     alloc: Global,
     depth: usize,
@@ -62,7 +62,7 @@ pub fn assertion(
 
 /// The conjuncts after a first one, whichever that is, each after its `*`.
 #[cycle(assertion)]
-#[tactic(auto, using(crate::proofs::Conjuncts::behind))]
+#[tactic(auto, using(crate::proofs::Parser::Conjuncts::behind))]
 fn more_conjuncts(
     alloc: Global,
     depth: usize,
@@ -95,7 +95,7 @@ fn more_conjuncts(
 
 /// A conjunct of an assertion that has that many levels.
 #[cycle(assertion)]
-#[tactic(auto, using(crate::proofs::Conjuncts::behind))]
+#[tactic(auto, using(crate::proofs::Parser::Conjuncts::behind))]
 fn conjunct(
     alloc: Global,
     depth: usize,
@@ -127,7 +127,7 @@ fn conjunct(
 
 /// What comes after the `if` of a conjunct, each branch of at most that many levels.
 #[cycle(assertion)]
-#[tactic(auto, using(crate::proofs::Conjuncts::behind))]
+#[tactic(auto, using(crate::proofs::Parser::Conjuncts::behind))]
 fn choice(
     alloc: Global,
     depth: usize,

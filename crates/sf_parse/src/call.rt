@@ -10,7 +10,7 @@ ghost use Rattle.sf_parse.specs.Internal.Machine as m;
 ghost use Rattle.sf_parse.specs.Internal.Machine.{Predicted, verdict};
 ghost use Rattle.sf_parse.specs.Parsing.{kinds};
 ghost use Rattle.sf_parse.specs.Placed.{ArgumentsAt, MaybeExprsAt, MoreExprsAt};
-ghost use Rattle.sf_parse.specs.Internal.Steps.{NotNext, Placed, FailsAt, Accepts};
+ghost use Rattle.sf_parse.specs.Internal.Parser.{NotNext, Placed, FailsAt, Accepts};
 
 use crate::front::{eat, eat_expression};
 use crate::leaf::expect;
@@ -21,7 +21,7 @@ use sf_lex::{Kind, Token};
 use std::alloc::{AllocError, Global};
 
 /// Expressions after a first one, each after its comma.
-#[tactic(auto, using(crate::proofs::Arguments::given))]
+#[tactic(auto, using(crate::proofs::Parser::Arguments::given))]
 fn more_expressions(alloc: Global, tokens: &[Token]) -> Result<(Vec<SurfaceExpr>, &[Token]), Stop>
     ensures spelled { IfOk result (λ r. kinds tokens.now ≡ more_exprs r.0.items (kinds r.1.now)) }
     ensures places { IfOk result (λ r.
@@ -47,7 +47,7 @@ fn more_expressions(alloc: Global, tokens: &[Token]) -> Result<(Vec<SurfaceExpr>
 }
 
 /// Expressions, or none.
-#[tactic(auto, using(crate::proofs::Arguments::given))]
+#[tactic(auto, using(crate::proofs::Parser::Arguments::given))]
 fn maybe_expressions(alloc: Global, tokens: &[Token]) -> Result<(Vec<SurfaceExpr>, &[Token]), Stop>
     ensures spelled { IfOk result (λ r. kinds tokens.now ≡ maybe_exprs r.0.items (kinds r.1.now)) }
     ensures places { IfOk result (λ r.
@@ -78,7 +78,7 @@ fn name_of(value: &SurfaceExpr) -> Option<Word>
 }
 
 /// The names that expressions are, if all are names.
-#[tactic(auto, using(crate::proofs::Arguments::given))]
+#[tactic(auto, using(crate::proofs::Parser::Arguments::given))]
 fn names_of(alloc: Global, values: &[SurfaceExpr]) -> Result<Option<Vec<Word>>, AllocError>
     ensures names { IfOk result (λ o.
         MatchOption o (all_names true values.now ≡ false) (λ ns. values.now
@@ -98,7 +98,7 @@ fn names_of(alloc: Global, values: &[SurfaceExpr]) -> Result<Option<Vec<Word>>, 
 }
 
 /// What a call is given. Where no `;` comes, or one of the expressions is no name, all are values.
-#[tactic(auto, using(crate::proofs::Arguments::given))]
+#[tactic(auto, using(crate::proofs::Parser::Arguments::given))]
 fn arguments(alloc: Global, tokens: &[Token]) -> Result<(SurfaceArguments, &[Token]), Stop>
     ensures spelled { IfOk result (λ r.
         kinds tokens.now ≡ arguments (arguments_of r.0) (kinds r.1.now)) }

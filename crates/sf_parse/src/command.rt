@@ -11,7 +11,7 @@ ghost use Rattle.sf_parse.specs.Internal.Machine as m;
 ghost use Rattle.sf_parse.specs.Nesting.{CommandWithin, CommandsWithin, Follows};
 ghost use Rattle.sf_parse.specs.Parsing.{kinds};
 ghost use Rattle.sf_parse.specs.Placed.{CommandAt, CommandsAt, ExprAt, PlaceAt, TestAt};
-ghost use Rattle.sf_parse.specs.Internal.Steps.{Placed, FailsAt, Accepts};
+ghost use Rattle.sf_parse.specs.Internal.Parser.{Placed, FailsAt, Accepts};
 ghost use Rattle.std.specs.Option.{option_map};
 
 use crate::annotation::maybe_annotation;
@@ -48,7 +48,7 @@ fn begins_command(tokens: &[Token]) -> bool
 }
 
 /// Why there is no command where no level is left.
-#[tactic(auto, using(crate::proofs::Levels::levels))]
+#[tactic(auto, using(crate::proofs::Parser::Levels::levels))]
 fn no_level(tokens: &[Token]) -> Stop
     ensures { FailsAt result (m.command 0 ∷ []) tokens.now }
 {
@@ -153,7 +153,7 @@ fn with_node(
 
 /// An `if` after its own word. An `else` belongs to the nearest one.
 #[cycle(nest)]
-#[tactic(auto, using(crate::proofs::Levels::levels))]
+#[tactic(auto, using(crate::proofs::Parser::Levels::levels))]
 fn if_command(
     alloc: Global,
     place: Place,
@@ -182,7 +182,7 @@ fn if_command(
 
 /// A `while` after its own word.
 #[cycle(nest)]
-#[tactic(auto, using(crate::proofs::Levels::levels))]
+#[tactic(auto, using(crate::proofs::Parser::Levels::levels))]
 fn while_command(
     alloc: Global,
     place: Place,
@@ -208,7 +208,7 @@ fn while_command(
 
 /// A `with` after its own word.
 #[cycle(nest)]
-#[tactic(auto, using(crate::proofs::Levels::levels))]
+#[tactic(auto, using(crate::proofs::Parser::Levels::levels))]
 fn with_command(
     alloc: Global,
     place: Place,
@@ -235,7 +235,7 @@ fn with_command(
 
 /// A block after its `{`.
 #[cycle(nest)]
-#[tactic(auto, using(crate::proofs::Levels::levels))]
+#[tactic(auto, using(crate::proofs::Parser::Levels::levels))]
 fn block(
     alloc: Global,
     place: Place,
@@ -262,7 +262,7 @@ fn block(
 
 /// One command of at most that many levels.
 #[cycle(nest)]
-#[tactic(auto, using(crate::proofs::Levels::levels))]
+#[tactic(auto, using(crate::proofs::Parser::Levels::levels))]
 fn command(
     alloc: Global,
     depth: usize,
@@ -306,7 +306,7 @@ fn command(
 
 /// As many commands as come.
 #[cycle(nest)]
-#[tactic(auto, using(crate::proofs::Levels::levels))]
+#[tactic(auto, using(crate::proofs::Parser::Levels::levels))]
 pub fn commands(
     alloc: Global,
     depth: usize,

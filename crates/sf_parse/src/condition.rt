@@ -5,7 +5,7 @@ ghost use Rattle.sf_parse.specs.Grammar.{expr, operand, test};
 ghost use Rattle.sf_parse.specs.Internal.Machine as m;
 ghost use Rattle.sf_parse.specs.Parsing.{kinds};
 ghost use Rattle.sf_parse.specs.Placed.{ExprAt, OperandAt, TestAt};
-ghost use Rattle.sf_parse.specs.Internal.Steps.{Placed, FailsAt, Accepts};
+ghost use Rattle.sf_parse.specs.Internal.Parser.{Placed, FailsAt, Accepts};
 
 use crate::front::eat;
 use crate::leaf::{expression, operand};
@@ -14,7 +14,7 @@ use sf_ast::{SurfaceExpr, SurfaceOperand, SurfaceTest};
 use sf_lex::{Kind, Token};
 
 /// A test over expressions.
-#[tactic(auto, using(crate::proofs::Choices::choices))]
+#[tactic(auto, using(crate::proofs::Parser::Choices::choices))]
 pub fn test(tokens: &[Token]) -> Result<(SurfaceTest<SurfaceExpr>, &[Token]), Stop>
     ensures spelled { IfOk result (λ r. kinds tokens.now ≡ test expr r.0 (kinds r.1.now)) }
     ensures places { IfOk result (λ r.
@@ -38,7 +38,7 @@ pub fn test(tokens: &[Token]) -> Result<(SurfaceTest<SurfaceExpr>, &[Token]), St
 }
 
 /// A test over operands.
-#[tactic(auto, using(crate::proofs::Choices::choices))]
+#[tactic(auto, using(crate::proofs::Parser::Choices::choices))]
 pub fn operand_test(tokens: &[Token]) -> Result<(SurfaceTest<SurfaceOperand>, &[Token]), Stop>
     ensures spelled { IfOk result (λ r. kinds tokens.now ≡ test operand r.0 (kinds r.1.now)) }
     ensures places { IfOk result (λ r.

@@ -8,8 +8,8 @@ ghost use Rattle.sf_parse.specs.Internal.Heads.{IsFlatConjunct};
 ghost use Rattle.sf_parse.specs.Internal.Machine as m;
 ghost use Rattle.sf_parse.specs.Parsing.{kinds};
 ghost use Rattle.sf_parse.specs.Placed.{ConjunctAt, OperandAt};
-ghost use Rattle.sf_parse.specs.Internal.Steps.{Accepts, Agree, FailsAt, NotNext, Placed};
-ghost use Rattle.sf_parse.specs.Internal.Steps.{operand_next};
+ghost use Rattle.sf_parse.specs.Internal.Parser.{Accepts, Agree, FailsAt, NotNext, Placed};
+ghost use Rattle.sf_parse.specs.Internal.Parser.{operand_next};
 
 use crate::fields::maybe_fields;
 use crate::front::eat;
@@ -58,7 +58,7 @@ fn two_operands(tokens: &[Token]) -> Result<(SurfaceOperand, SurfaceOperand, &[T
 }
 
 /// What comes after the operand that begins a conjunct.
-#[tactic(auto, using(crate::proofs::Choices::choices))]
+#[tactic(auto, using(crate::proofs::Parser::Choices::choices))]
 pub fn relation(
     alloc: Global,
     left: SurfaceOperand,
@@ -89,7 +89,7 @@ pub fn relation(
 }
 
 /// `emp`, a segment, a list or a tree.
-#[tactic(auto, using(crate::proofs::Choices::choices))]
+#[tactic(auto, using(crate::proofs::Parser::Choices::choices))]
 pub fn predicate(tokens: &[Token]) -> Result<(SurfaceConjunct, &[Token]), Stop>
     requires no_operand { operand_next (kinds tokens.now) ≡ false }
     requires no_group { NotNext Kind.OpenRound (kinds tokens.now) }

@@ -5,7 +5,7 @@ ghost use Rattle.sf_parse.specs.Grammar.{field, maybe_fields, more_fields};
 ghost use Rattle.sf_parse.specs.Internal.Machine as m;
 ghost use Rattle.sf_parse.specs.Parsing.{kinds};
 ghost use Rattle.sf_parse.specs.Placed.{FieldAt, MaybeFieldsAt, MoreFieldsAt};
-ghost use Rattle.sf_parse.specs.Internal.Steps.{Placed, FailsAt, Accepts};
+ghost use Rattle.sf_parse.specs.Internal.Parser.{Placed, FailsAt, Accepts};
 
 use crate::front::{eat, eat_word};
 use crate::leaf::{expect, name, operand};
@@ -31,7 +31,7 @@ fn field(tokens: &[Token]) -> Result<(SurfaceField, &[Token]), Stop>
 }
 
 /// Fields after a first one, each after its comma.
-#[tactic(auto, using(crate::proofs::Choices::choices))]
+#[tactic(auto, using(crate::proofs::Parser::Choices::choices))]
 fn more_fields(alloc: Global, tokens: &[Token]) -> Result<(Vec<SurfaceField>, &[Token]), Stop>
     ensures spelled { IfOk result (λ r. kinds tokens.now ≡ more_fields r.0.items (kinds r.1.now)) }
     ensures places { IfOk result (λ r.
@@ -50,7 +50,7 @@ fn more_fields(alloc: Global, tokens: &[Token]) -> Result<(Vec<SurfaceField>, &[
 }
 
 /// Fields, or none.
-#[tactic(auto, using(crate::proofs::Choices::choices))]
+#[tactic(auto, using(crate::proofs::Parser::Choices::choices))]
 pub fn maybe_fields(alloc: Global, tokens: &[Token]) -> Result<(Vec<SurfaceField>, &[Token]), Stop>
     ensures spelled { IfOk result (λ r. kinds tokens.now ≡ maybe_fields r.0.items (kinds r.1.now)) }
     ensures places { IfOk result (λ r.

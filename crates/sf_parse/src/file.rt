@@ -6,7 +6,7 @@ ghost use Rattle.sf_base.specs.Results.{Decides};
 ghost use Rattle.sf_parse.specs.Internal.Faults.{place_left};
 ghost use Rattle.sf_parse.specs.Internal.Machine as m;
 ghost use Rattle.sf_parse.specs.Parsing.{IsFault, IsFile};
-ghost use Rattle.sf_parse.specs.Internal.Steps.{FailsAt};
+ghost use Rattle.sf_parse.specs.Internal.Parser.{FailsAt};
 
 use crate::fault::ParseFault;
 use crate::item::items;

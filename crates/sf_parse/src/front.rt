@@ -5,7 +5,7 @@ ghost use Rattle.sf_parse.specs.Grammar.{expr, operand};
 ghost use Rattle.sf_parse.specs.Internal.Heads.{conjunct_next};
 ghost use Rattle.sf_parse.specs.Parsing.{kinds};
 ghost use Rattle.sf_parse.specs.Placed.{ExprAt, OperandAt, PlaceAt, WordAt};
-ghost use Rattle.sf_parse.specs.Internal.Steps.{NotNext, Placed, expression_next, operand_next};
+ghost use Rattle.sf_parse.specs.Internal.Parser.{NotNext, Placed, expression_next, operand_next};
 
 use sf_ast::{SurfaceExpr, SurfaceOperand, Word};
 use sf_base::Place;
@@ -73,7 +73,7 @@ pub fn eat_expression(tokens: &[Token]) -> Option<(SurfaceExpr, &[Token])>
 }
 
 /// An operand, and the tokens after it.
-#[tactic(auto, using(crate::proofs::Fronts::leaves))]
+#[tactic(auto, using(crate::proofs::Parser::Fronts::leaves))]
 pub fn eat_operand(tokens: &[Token]) -> Option<(SurfaceOperand, &[Token])>
     ensures spelled { MatchOption result (operand_next (kinds tokens.now) ≡ false)
         (λ r. kinds tokens.now ≡ operand r.0 ∷ kinds r.1.now) }

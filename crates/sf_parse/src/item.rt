@@ -15,7 +15,7 @@ ghost use Rattle.sf_parse.specs.Internal.Machine.{Predicted, verdict};
 ghost use Rattle.sf_parse.specs.Nesting.{ItemWithin, ItemsWithin};
 ghost use Rattle.sf_parse.specs.Parsing.{kinds};
 ghost use Rattle.sf_parse.specs.Placed.{ItemAt, ItemsAt, LocalsAt, PlaceAt, WordAt};
-ghost use Rattle.sf_parse.specs.Internal.Steps.{Placed, FailsAt, Accepts};
+ghost use Rattle.sf_parse.specs.Internal.Parser.{Placed, FailsAt, Accepts};
 
 use crate::annotation::{annotation, maybe_annotation};
 use crate::command::commands;
@@ -47,7 +47,7 @@ pub struct Body {
 }
 
 /// The `local`s of a body.
-#[tactic(auto, using(crate::proofs::ItemHeads::item_heads))]
+#[tactic(auto, using(crate::proofs::Parser::ItemHeads::item_heads))]
 fn locals(alloc: Global, tokens: &[Token]) -> Result<(Vec<SurfaceNames>, &[Token]), Stop>
     ensures spelled { IfOk result (λ r.
         kinds tokens.now ≡ g.locals (map names_of r.0.items) (kinds r.1.now)) }
@@ -184,7 +184,7 @@ fn resource(alloc: Global, place: Place, tokens: &[Token]) -> Result<(Item, &[To
 }
 
 /// Fields or a procedure after the name that begins it.
-#[tactic(auto, using(crate::proofs::ItemHeads::item_heads))]
+#[tactic(auto, using(crate::proofs::Parser::ItemHeads::item_heads))]
 fn named_item(alloc: Global, first: Word, tokens: &[Token]) -> Result<(Item, &[Token]), Stop>
     ensures spelled { IfOk result (λ r.
         k.Name ∷ kinds tokens.now ≡ item (item_of r.0) (kinds r.1.now)) }
@@ -202,7 +202,7 @@ fn named_item(alloc: Global, first: Word, tokens: &[Token]) -> Result<(Item, &[T
 }
 
 /// One item.
-#[tactic(auto, using(crate::proofs::ItemHeads::item_heads))]
+#[tactic(auto, using(crate::proofs::Parser::ItemHeads::item_heads))]
 fn item(alloc: Global, tokens: &[Token]) -> Result<(Item, &[Token]), Stop>
     requires { 0 < length tokens.now }
     ensures spelled { IfOk result (λ r. kinds tokens.now ≡ item (item_of r.0) (kinds r.1.now)) }

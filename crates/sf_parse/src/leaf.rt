@@ -7,7 +7,7 @@ ghost use Rattle.sf_parse.specs.Internal.Machine as m;
 ghost use Rattle.sf_parse.specs.Internal.Machine.{terminal_kind};
 ghost use Rattle.sf_parse.specs.Parsing.{kinds};
 ghost use Rattle.sf_parse.specs.Placed.{ExprAt, OperandAt, PlaceAt, WordAt};
-ghost use Rattle.sf_parse.specs.Internal.Steps.{Placed, FailsAt, Accepts, terminal_of};
+ghost use Rattle.sf_parse.specs.Internal.Parser.{Placed, FailsAt, Accepts, terminal_of};
 
 use crate::front::{eat, eat_expression, eat_operand, eat_word};
 use crate::stop::Stop;
@@ -16,7 +16,7 @@ use sf_base::Place;
 use sf_lex::{Kind, Token};
 
 /// A mark, which is one token that is owed as it is.
-#[tactic(auto, using(crate::proofs::Fronts::leaves))]
+#[tactic(auto, using(crate::proofs::Parser::Fronts::leaves))]
 pub fn expect(tokens: &[Token], kind: Kind) -> Result<(Place, &[Token]), Stop>
     requires { terminal_kind (terminal_of kind) ≡ kind }
     ensures spelled { IfOk result (λ r. kinds tokens.now ≡ kind ∷ kinds r.1.now) }
@@ -30,7 +30,7 @@ pub fn expect(tokens: &[Token], kind: Kind) -> Result<(Place, &[Token]), Stop>
 }
 
 /// A name.
-#[tactic(auto, using(crate::proofs::Fronts::leaves))]
+#[tactic(auto, using(crate::proofs::Parser::Fronts::leaves))]
 pub fn name(tokens: &[Token]) -> Result<(Word, &[Token]), Stop>
     ensures spelled { IfOk result (λ r. kinds tokens.now ≡ Kind.Name ∷ kinds r.1.now) }
     ensures places { IfOk result (λ r.
@@ -42,7 +42,7 @@ pub fn name(tokens: &[Token]) -> Result<(Word, &[Token]), Stop>
 }
 
 /// An expression.
-#[tactic(auto, using(crate::proofs::Fronts::leaves))]
+#[tactic(auto, using(crate::proofs::Parser::Fronts::leaves))]
 pub fn expression(tokens: &[Token]) -> Result<(SurfaceExpr, &[Token]), Stop>
     ensures spelled { IfOk result (λ r. kinds tokens.now ≡ expr r.0 ∷ kinds r.1.now) }
     ensures places { IfOk result (λ r. Placed (λ at b. ExprAt at r.0 b) tokens.now r.1.now) }
@@ -53,7 +53,7 @@ pub fn expression(tokens: &[Token]) -> Result<(SurfaceExpr, &[Token]), Stop>
 }
 
 /// An operand.
-#[tactic(auto, using(crate::proofs::Fronts::leaves))]
+#[tactic(auto, using(crate::proofs::Parser::Fronts::leaves))]
 pub fn operand(tokens: &[Token]) -> Result<(SurfaceOperand, &[Token]), Stop>
     ensures spelled { IfOk result (λ r. kinds tokens.now ≡ operand r.0 ∷ kinds r.1.now) }
     ensures places { IfOk result (λ r. Placed (λ at b. OperandAt at r.0 b) tokens.now r.1.now) }

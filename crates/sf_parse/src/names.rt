@@ -6,7 +6,7 @@ ghost use Rattle.sf_parse.specs.Grammar.{maybe_names, more_names, names, paramet
 ghost use Rattle.sf_parse.specs.Internal.Machine as m;
 ghost use Rattle.sf_parse.specs.Parsing.{kinds};
 ghost use Rattle.sf_parse.specs.Placed.{MaybeNamesAt, MoreNamesAt, NamesAt, ParametersAt};
-ghost use Rattle.sf_parse.specs.Internal.Steps.{Placed, FailsAt, Accepts};
+ghost use Rattle.sf_parse.specs.Internal.Parser.{Placed, FailsAt, Accepts};
 
 use crate::front::{eat, eat_word};
 use crate::leaf::name;
@@ -17,7 +17,7 @@ use sf_lex::{Kind, Token};
 use std::alloc::Global;
 
 /// Names after a first one, each after its comma.
-#[tactic(auto, using(crate::proofs::Choices::choices))]
+#[tactic(auto, using(crate::proofs::Parser::Choices::choices))]
 pub fn more_names(alloc: Global, tokens: &[Token]) -> Result<(Vec<Word>, &[Token]), Stop>
     ensures spelled { IfOk result (λ r. kinds tokens.now ≡ more_names r.0.items (kinds r.1.now)) }
     ensures places { IfOk result (λ r.
@@ -51,7 +51,7 @@ pub fn names(alloc: Global, tokens: &[Token]) -> Result<(SurfaceNames, &[Token])
 }
 
 /// Names, or none.
-#[tactic(auto, using(crate::proofs::Choices::choices))]
+#[tactic(auto, using(crate::proofs::Parser::Choices::choices))]
 pub fn maybe_names(alloc: Global, tokens: &[Token]) -> Result<(Vec<Word>, &[Token]), Stop>
     ensures spelled { IfOk result (λ r. kinds tokens.now ≡ maybe_names r.0.items (kinds r.1.now)) }
     ensures places { IfOk result (λ r.
@@ -67,7 +67,7 @@ pub fn maybe_names(alloc: Global, tokens: &[Token]) -> Result<(Vec<Word>, &[Toke
 }
 
 /// The parameters of a procedure.
-#[tactic(auto, using(crate::proofs::Choices::choices))]
+#[tactic(auto, using(crate::proofs::Parser::Choices::choices))]
 pub fn parameters(alloc: Global, tokens: &[Token]) -> Result<(SurfaceParameters, &[Token]), Stop>
     ensures spelled { IfOk result (λ r.
         kinds tokens.now ≡ parameters (parameters_of r.0) (kinds r.1.now)) }

@@ -9,7 +9,7 @@ ghost use Rattle.sf_parse.specs.Internal.Heads.{IsFlat, PlacedBehind};
 ghost use Rattle.sf_parse.specs.Internal.Machine as m;
 ghost use Rattle.sf_parse.specs.Parsing.{kinds};
 ghost use Rattle.sf_parse.specs.Placed.{CallAt, CommandAt, ExprAt, PlaceAt, WordAt};
-ghost use Rattle.sf_parse.specs.Internal.Steps.{Placed, FailsAt, Accepts};
+ghost use Rattle.sf_parse.specs.Internal.Parser.{Placed, FailsAt, Accepts};
 
 use crate::call::call;
 use crate::front::eat;
@@ -39,7 +39,7 @@ pub fn mutated(object: SurfaceExpr, tokens: &[Token]) -> Result<(SurfaceCommand,
 }
 
 /// `x = E ;` or `x = E -> f ;` after its expression.
-#[tactic(auto, using(crate::proofs::Heads::heads))]
+#[tactic(auto, using(crate::proofs::Parser::Heads::heads))]
 fn looked_up(
     target: Word,
     value: SurfaceExpr,
@@ -87,7 +87,7 @@ fn made(target: Word, tokens: &[Token]) -> Result<(SurfaceCommand, &[Token]), St
 }
 
 /// A command after its `x =`.
-#[tactic(auto, using(crate::proofs::Heads::heads))]
+#[tactic(auto, using(crate::proofs::Parser::Heads::heads))]
 fn assigned(target: Word, tokens: &[Token]) -> Result<(SurfaceCommand, &[Token]), Stop>
     ensures spelled { IfOk result (λ r. k.Name ∷ k.Equals ∷ kinds tokens.now
         ≡ command (command_of r.0) (kinds r.1.now)) }
@@ -122,7 +122,7 @@ fn forked(alloc: Global, tokens: &[Token]) -> Result<(SurfaceCall, &[Token]), St
 }
 
 /// A call or two, after the first one's `(`.
-#[tactic(auto, using(crate::proofs::Heads::heads))]
+#[tactic(auto, using(crate::proofs::Parser::Heads::heads))]
 fn called(
     alloc: Global,
     procedure: Word,
@@ -153,7 +153,7 @@ fn called(
 }
 
 /// A command after the name that begins it.
-#[tactic(auto, using(crate::proofs::Heads::heads))]
+#[tactic(auto, using(crate::proofs::Parser::Heads::heads))]
 pub fn named(
     alloc: Global,
     first: Word,
@@ -181,7 +181,7 @@ pub fn named(
 }
 
 /// A command after its `dispose`.
-#[tactic(auto, using(crate::proofs::Heads::heads))]
+#[tactic(auto, using(crate::proofs::Parser::Heads::heads))]
 pub fn disposed(place: Place, tokens: &[Token]) -> Result<(SurfaceCommand, &[Token]), Stop>
     ensures spelled { IfOk result (λ r.
         k.Dispose ∷ kinds tokens.now ≡ command (command_of r.0) (kinds r.1.now)) }

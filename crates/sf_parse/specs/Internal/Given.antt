@@ -7,7 +7,7 @@ use Rattle.sf_lex.specs.declared.token.Kind.{Kind}
 use Rattle.sf_lex.specs.declared.token.Kind.TheVariants as k
 use Rattle.sf_parse.specs.Internal.Machine as m
 use Rattle.sf_parse.specs.Internal.Machine.{Predicted}
-use Rattle.sf_parse.specs.Internal.Steps.{NotNext, expression_next}
+use Rattle.sf_parse.specs.Internal.Parser.{NotNext, expression_next}
 
 -- the expression is a name, and may be a reference
 abbrev pub is_name : SurfaceExpr → Bool

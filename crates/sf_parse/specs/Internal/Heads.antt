@@ -1,12 +1,12 @@
 -- What comes next, and what was begun where its first tokens are read.
 -- Ordinary: left factoring, as in Aho, Sethi, Ullman, "Compilers" (1986), section 4.3.
-use Rattle.std.specs.Prelude.{ℕ, List, ◌∷◌, Bool, true, false}
+use Rattle.std.specs.Prelude.{ℕ, List, ◌∷◌, Bool, true}
 use Rattle.sf_ast.specs.Surface as s
 use Rattle.sf_lex.specs.declared.token.Kind.{Kind}
 use Rattle.sf_lex.specs.declared.token.Kind.TheVariants as k
 use Rattle.sf_lex.specs.declared.token.Token.{Token}
 use Rattle.sf_parse.specs.Parsing.{kinds}
-use Rattle.sf_parse.specs.Internal.Steps.{Agree, expression_next, operand_next}
+use Rattle.sf_parse.specs.Internal.Parser.{Agree, expression_next, operand_next}
 
 -- a command with no command in it
 abbrev pub IsFlat : s.Command → Type 0

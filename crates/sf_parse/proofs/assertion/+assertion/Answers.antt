@@ -10,12 +10,12 @@ use Rattle.sf_parse.specs.Internal.Machine.{verdict}
 use Rattle.sf_parse.specs.Nesting.{AssertionWithin}
 use Rattle.sf_parse.specs.Parsing.{kinds}
 use Rattle.sf_parse.specs.Placed.{AssertionAt, PlaceAt, TestAt, OperandAt}
-use Rattle.sf_parse.specs.Internal.Steps.{last_of, Ends}
-use Rattle.sf_parse.proofs.Conjuncts.{assertion_push, within_push, at_push, last_push}
-use Rattle.sf_parse.proofs.Forth.{closed_before_star}
-use Rattle.sf_parse.proofs.HasLevel.{some_level}
-use Rattle.sf_parse.proofs.Longer.{conjunct_longer, fewer}
-use Rattle.sf_parse.proofs.Views.{view_assertion, view_group, view_choose, view_choose_round}
+use Rattle.sf_parse.specs.Internal.Parser.{last_of, Ends}
+use Rattle.sf_parse.proofs.Parser.Conjuncts.{assertion_push, within_push, at_push, last_push}
+use Rattle.sf_parse.proofs.Machine.Forth.{closed_before_star}
+use Rattle.sf_parse.proofs.Machine.HasLevel.{some_level}
+use Rattle.sf_parse.proofs.Grammar.Longer.{conjunct_longer, fewer}
+use Rattle.sf_parse.proofs.Parser.Views.{view_assertion, view_group, view_choose, view_choose_round}
 use Rattle.sf_parse.proofs.assertion.+assertion.Goals as goal
 
 pub more_conjuncts-loop-after-init : goal.more_conjuncts-loop-after-init

@@ -8,7 +8,7 @@ use Rattle.sf_parse.specs.Internal.Machine.{Predicted, verdict}
 use Rattle.sf_parse.specs.Nesting.{ConjunctWithin, AssertionWithin}
 use Rattle.sf_parse.specs.Parsing.{kinds}
 use Rattle.sf_parse.specs.Placed.{ConjunctAt, AssertionAt}
-use Rattle.sf_parse.specs.Internal.Steps.{Agree, last_of, Ends}
+use Rattle.sf_parse.specs.Internal.Parser.{Agree, last_of, Ends}
 use Rattle.sf_parse.proofs.assertion.+assertion.Given as goal
 
 abbrev pub decreases-assertion : goal.decreases-assertion

@@ -5,7 +5,7 @@ use Rattle.sf_lex.specs.declared.token.Kind.TheVariants as k
 use Rattle.sf_parse.specs.Grammar.{maybe_exprs}
 use Rattle.sf_parse.specs.Parsing.{kinds}
 use Rattle.sf_parse.specs.Placed.{MaybeExprsAt}
-use Rattle.sf_parse.proofs.Arguments.{names_spelled, names_stand}
+use Rattle.sf_parse.proofs.Parser.Arguments.{names_spelled, names_stand}
 use Rattle.sf_parse.proofs.call.arguments.Goals as goal
 
 pub returns-clause-spelled : goal.returns-clause-spelled

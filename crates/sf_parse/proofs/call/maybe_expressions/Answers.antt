@@ -1,7 +1,7 @@
 use Rattle.std.proofs.Common.{arith}
 use Rattle.std.proofs.lemmas.Grind.{common_steps}
 use Rattle.sf_parse.specs.Internal.Given.{is_name}
-use Rattle.sf_parse.proofs.Arguments.{accepts_first}
+use Rattle.sf_parse.proofs.Parser.Arguments.{accepts_first}
 use Rattle.sf_parse.proofs.call.maybe_expressions.Goals as goal
 
 pub returns-in_err-found-clause-fault_arguments : goal.returns-in_err-found-clause-fault_arguments

@@ -7,7 +7,7 @@ use Rattle.sf_parse.specs.Internal.Machine as m
 use Rattle.sf_parse.specs.Internal.Machine.{verdict}
 use Rattle.sf_parse.specs.Parsing.{kinds}
 use Rattle.sf_parse.specs.Placed.{MoreExprsAt}
-use Rattle.sf_parse.proofs.Arguments.{accepts_next, accepts_more, all_names_push, more_exprs_push, more_exprs_at_push}
+use Rattle.sf_parse.proofs.Parser.Arguments.{accepts_next, accepts_more, all_names_push, more_exprs_push, more_exprs_at_push}
 use Rattle.sf_parse.proofs.call.more_expressions.Goals as goal
 
 pub loop-after-preserved : goal.loop-after-preserved

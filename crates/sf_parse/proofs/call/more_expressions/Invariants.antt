@@ -5,7 +5,7 @@ use Rattle.sf_parse.specs.Internal.Machine as m
 use Rattle.sf_parse.specs.Internal.Machine.{Predicted, verdict}
 use Rattle.sf_parse.specs.Parsing.{kinds}
 use Rattle.sf_parse.specs.Placed.{MoreExprsAt}
-use Rattle.sf_parse.specs.Internal.Steps.{Placed}
+use Rattle.sf_parse.specs.Internal.Parser.{Placed}
 use Rattle.sf_parse.proofs.call.more_expressions.Given as goal
 
 abbrev pub invariant-loop-after : goal.invariant-loop-after

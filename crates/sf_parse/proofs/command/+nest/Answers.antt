@@ -12,8 +12,8 @@ use Rattle.sf_parse.specs.Internal.Machine as m
 use Rattle.sf_parse.specs.Nesting.{CommandsWithin}
 use Rattle.sf_parse.specs.Parsing.{kinds}
 use Rattle.sf_parse.specs.Placed.{WordAt, PlaceAt, ExprAt, TestAt, MaybeNoteAt, CommandAt, CommandsAt}
-use Rattle.sf_parse.proofs.CommandsLonger.{fewer_behind_command}
-use Rattle.sf_parse.proofs.Levels.{if_within, another_command, commands_push, within_push, commands_at_push}
+use Rattle.sf_parse.proofs.Grammar.CommandsLonger.{fewer_behind_command}
+use Rattle.sf_parse.proofs.Parser.Levels.{if_within, another_command, commands_push, within_push, commands_at_push}
 use Rattle.sf_parse.proofs.command.+nest.Goals as goal
 
 pub block-returns-clause-places : goal.block-returns-clause-places

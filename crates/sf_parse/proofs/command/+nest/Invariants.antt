@@ -6,7 +6,7 @@ use Rattle.sf_parse.specs.Internal.Machine.{Predicted, verdict}
 use Rattle.sf_parse.specs.Nesting.{CommandsWithin}
 use Rattle.sf_parse.specs.Parsing.{kinds}
 use Rattle.sf_parse.specs.Placed.{CommandsAt}
-use Rattle.sf_parse.specs.Internal.Steps.{Placed}
+use Rattle.sf_parse.specs.Internal.Parser.{Placed}
 use Rattle.sf_parse.proofs.command.+nest.Given as goal
 
 abbrev pub decreases-if_command : goal.decreases-if_command

@@ -1,7 +1,7 @@
 use Rattle.sf_lex.specs.declared.token.Kind.TheVariants.{EqualEqual, NotEqual}
 use Rattle.sf_parse.specs.Grammar.{expr}
 use Rattle.sf_parse.specs.Placed.{ExprAt}
-use Rattle.sf_parse.proofs.Sides.{sides_at}
+use Rattle.sf_parse.proofs.Parser.Sides.{sides_at}
 use Rattle.sf_parse.proofs.condition.test.Goals as goal
 
 pub returns-in-Some-eat-clause-places : goal.returns-in-Some-eat-clause-places

@@ -2,7 +2,7 @@ use Rattle.std.proofs.Common.{List, ◌∷◌, subst}
 use Rattle.sf_lex.specs.declared.token.Kind.{Kind}
 use Rattle.sf_lex.specs.declared.token.Kind.TheVariants as k
 use Rattle.sf_parse.specs.Placed.{PlaceAt}
-use Rattle.sf_parse.proofs.Views.{view_emp, view_ls, view_lseg, view_list, view_tree}
+use Rattle.sf_parse.proofs.Parser.Views.{view_emp, view_ls, view_lseg, view_list, view_tree}
 use Rattle.sf_parse.proofs.conjunct.predicate.Goals as goal
 
 pub returns-in-Some-clause-places : goal.returns-in-Some-clause-places

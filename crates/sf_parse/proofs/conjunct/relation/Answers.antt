@@ -4,7 +4,7 @@ use Rattle.sf_lex.specs.declared.token.Kind.TheVariants as k
 use Rattle.sf_parse.specs.Grammar.{operand, maybe_fields}
 use Rattle.sf_parse.specs.Parsing.{kinds}
 use Rattle.sf_parse.specs.Placed.{OperandAt}
-use Rattle.sf_parse.proofs.Views.{view_equal, view_differ, view_points}
+use Rattle.sf_parse.proofs.Parser.Views.{view_equal, view_differ, view_points}
 use Rattle.sf_parse.proofs.conjunct.relation.Goals as goal
 
 pub returns-in-Some-clause-places : goal.returns-in-Some-clause-places

@@ -5,7 +5,7 @@ use Rattle.sf_parse.specs.Grammar.{field, more_fields}
 use Rattle.sf_parse.specs.Internal.Machine as m
 use Rattle.sf_parse.specs.Parsing.{kinds}
 use Rattle.sf_parse.specs.Placed.{MoreFieldsAt}
-use Rattle.sf_parse.proofs.Lists.{more_fields_push, more_fields_at_push}
+use Rattle.sf_parse.proofs.Parser.Lists.{more_fields_push, more_fields_at_push}
 use Rattle.sf_parse.proofs.fields.more_fields.Goals as goal
 
 pub loop-after-preserved : goal.loop-after-preserved

@@ -1,5 +1,5 @@
 use Rattle.std.proofs.Common.{inr}
-use Rattle.sf_parse.proofs.Parsed.{left_within, deep_within, unexpected_there, too_deep_there}
+use Rattle.sf_parse.proofs.Parser.Parsed.{left_within, deep_within, unexpected_there, too_deep_there}
 use Rattle.sf_parse.proofs.file.fault_of.Goals as goal
 
 pub place_left-requires : goal.place_left-requires

@@ -4,7 +4,7 @@ use Rattle.sf_base.proofs.Decisions.{decides}
 use Rattle.sf_parse.specs.declared.fault.ParseFault.TheVariants.{OutOfMemory}
 use Rattle.sf_parse.specs.Parsing.{IsFile, IsFault}
 use Rattle.sf_parse.proofs.Closing.{each_file_is_one}
-use Rattle.sf_parse.proofs.Faults.{faults_once, files_without_fault}
+use Rattle.sf_parse.proofs.Machine.Faults.{faults_once, files_without_fault}
 use Rattle.sf_parse.proofs.file.parse.Goals as goal
 
 pub returns : goal.returns

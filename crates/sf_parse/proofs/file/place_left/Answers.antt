@@ -1,6 +1,6 @@
 use Rattle.std.proofs.Common.{pos, arith}
 use Rattle.sf_lex.specs.declared.token.Kind.TheVariants as k
-use Rattle.sf_parse.proofs.Parsed.{place_at}
+use Rattle.sf_parse.proofs.Parser.Parsed.{place_at}
 use Rattle.sf_parse.proofs.file.place_left.Goals as goal
 
 pub returns : goal.returns

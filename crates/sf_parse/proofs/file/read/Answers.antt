@@ -1,7 +1,7 @@
 use Rattle.std.proofs.Common.{[], map}
 use Rattle.sf_ast.specs.View.{item_of}
-use Rattle.sf_parse.proofs.Depths.{items_within}
-use Rattle.sf_parse.proofs.Parsed.{file_found}
+use Rattle.sf_parse.proofs.Grammar.Depths.{items_within}
+use Rattle.sf_parse.proofs.Parser.Parsed.{file_found}
 use Rattle.sf_parse.proofs.file.read.Goals as goal
 
 pub invariant_of-result : goal.invariant_of-result

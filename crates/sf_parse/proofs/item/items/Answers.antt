@@ -6,8 +6,8 @@ use Rattle.sf_parse.specs.Grammar as g
 use Rattle.sf_parse.specs.Nesting.{ItemsWithin}
 use Rattle.sf_parse.specs.Parsing.{kinds}
 use Rattle.sf_parse.specs.Placed.{ItemsAt}
-use Rattle.sf_parse.proofs.CommandsLonger.{fewer_behind_item}
-use Rattle.sf_parse.proofs.ItemLists.{items_push, items_within_push, items_at_push}
+use Rattle.sf_parse.proofs.Grammar.CommandsLonger.{fewer_behind_item}
+use Rattle.sf_parse.proofs.Parser.ItemLists.{items_push, items_within_push, items_at_push}
 use Rattle.sf_parse.proofs.item.items.Goals as goal
 
 pub loop-rest-smaller : goal.loop-rest-smaller

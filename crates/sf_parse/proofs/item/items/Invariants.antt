@@ -6,7 +6,7 @@ use Rattle.sf_parse.specs.Nesting.{ItemsWithin}
 use Rattle.sf_parse.specs.Parsing.{kinds}
 use Rattle.sf_parse.specs.Placed.{ItemsAt}
 use Rattle.sf_parse.specs.Grammar as g
-use Rattle.sf_parse.specs.Internal.Steps.{Placed}
+use Rattle.sf_parse.specs.Internal.Parser.{Placed}
 use Rattle.sf_parse.proofs.item.items.Given as goal
 
 abbrev pub invariant-loop-rest : goal.invariant-loop-rest

@@ -8,7 +8,7 @@ use Rattle.sf_parse.specs.Internal.Machine as m
 use Rattle.sf_parse.specs.Internal.Machine.{verdict}
 use Rattle.sf_parse.specs.Parsing.{kinds}
 use Rattle.sf_parse.specs.Placed.{NamesAt, LocalsAt}
-use Rattle.sf_parse.proofs.ItemLists.{locals_push, locals_at_push, fewer_behind_local}
+use Rattle.sf_parse.proofs.Parser.ItemLists.{locals_push, locals_at_push, fewer_behind_local}
 use Rattle.sf_parse.proofs.item.locals.Goals as goal
 
 pub loop-after-smaller : goal.loop-after-smaller

@@ -5,7 +5,7 @@ use Rattle.sf_parse.specs.Grammar.{more_names}
 use Rattle.sf_parse.specs.Internal.Machine as m
 use Rattle.sf_parse.specs.Parsing.{kinds}
 use Rattle.sf_parse.specs.Placed.{MoreNamesAt}
-use Rattle.sf_parse.proofs.Lists.{more_names_push, more_names_at_push}
+use Rattle.sf_parse.proofs.Parser.Lists.{more_names_push, more_names_at_push}
 use Rattle.sf_parse.proofs.names.more_names.Goals as goal
 
 pub loop-after-preserved : goal.loop-after-preserved

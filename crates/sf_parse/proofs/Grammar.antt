@@ -1,0 +1,7 @@
+pub mod Once
+pub mod OnceAssertions
+pub mod OnceFiles
+pub mod Depths
+pub mod Longer
+pub mod CommandsLonger
+pub mod Nearest

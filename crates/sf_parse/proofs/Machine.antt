@@ -1,0 +1,12 @@
+pub mod Means
+pub mod HasLevel
+pub mod Free
+pub mod Back
+pub mod OwedBack
+pub mod Complete
+pub mod Exactly
+pub mod Forth
+pub mod ForthFiles
+pub mod Law
+pub mod Decided
+pub mod Faults

@@ -1,0 +1,12 @@
+pub mod Fronts
+pub mod Arguments
+pub mod Heads
+pub mod Levels
+pub mod ItemLists
+pub mod ItemHeads
+pub mod Parsed
+pub mod Choices
+pub mod Lists
+pub mod Views
+pub mod Conjuncts
+pub mod Sides
