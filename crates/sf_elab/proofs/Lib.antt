@@ -1,5 +1,4 @@
 pub mod Among
-pub mod Answered
 pub mod AssertionsWithin
 pub mod Beginnings
 pub mod CommandsWithin

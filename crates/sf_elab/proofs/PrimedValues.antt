@@ -95,6 +95,10 @@ primed_values_are_set bytes f w = (there, back)
         → is_primed bytes f w ≡ true
     back h =
         let place = collected_in f.body h.0 h.1 h.2 h.3 in
-        list_any-from_Any test (set_in_all f.body)
-        (place.0, h.0, place.1, place.2,
-        (bytes_eq-Decides (text bytes w) (text bytes h.0)).1 (sym h.4))
+        list_any-from_Any test (set_in_all f.body) (
+          place.0,
+          h.0,
+          place.1,
+          place.2,
+          (bytes_eq-Decides (text bytes w) (text bytes h.0)).1 (sym h.4),
+        )

@@ -7,7 +7,6 @@ ghost use Rattle.sf_core.specs.Program.View as core;
 ghost use Rattle.sf_elab.specs.Assertions.{operand_of, operand_faults, operand_place, values_of, values_faults, link_of, segment_faults, tree_faults, conjunct_of, conjuncts_of, level_of, conjunct_faults, assertion_faults, annotation_of, annotation_faults, maybe_of, maybe_faults};
 ghost use Rattle.sf_elab.specs.Existentials.{after, after_conjunct, after_level};
 ghost use Rattle.sf_core.specs.declared.assertion.Operand.TheVariants.{Known};
-ghost use Rattle.sf_core.specs.declared.assertion.Test.TheVariants.{Equal, Differ};
 ghost use Rattle.sf_core.specs.declared.command.Expr.TheVariants.{Nil};
 ghost use Rattle.sf_core.specs.Program.Syntax.{level, none, holds, points as cell, segment, tree};
 ghost use Rattle.sf_elab.specs.declared.fault.Fault.TheVariants.{Twice};
@@ -59,7 +58,8 @@ fn operand(
     found: &mut Vec<Fault>,
 ) -> Result<Operand<Expr>, AllocError>
     ensures same { IfOk result (λ y. y ≡ operand_of (env_of env.now) levels.now x.now) }
-    ensures faults { Appends result found.old.items found.new.items (operand_faults (env_of env.now) x.now) }
+    ensures faults { Appends result found.old.items found.new.items
+        (operand_faults (env_of env.now) x.now) }
 {
     match x {
         SurfaceOperand::Known(e) => {
@@ -73,6 +73,25 @@ fn operand(
     }
 }
 
+/// Two operands.
+fn sides(
+    env: &Env<'_>,
+    levels: &Levels,
+    x: &SurfaceOperand,
+    y: &SurfaceOperand,
+    found: &mut Vec<Fault>,
+) -> Result<(Operand<Expr>, Operand<Expr>), AllocError>
+    ensures left { IfOk result (λ z. z.0 ≡ operand_of (env_of env.now) levels.now x.now) }
+    ensures right { IfOk result (λ z. z.1 ≡ operand_of (env_of env.now) levels.now y.now) }
+    ensures faults { Appends result found.old.items found.new.items
+        (operand_faults (env_of env.now) x.now
+        ++ operand_faults (env_of env.now) y.now) }
+{
+    let left = operand(env, levels, x, found)?;
+    let right = operand(env, levels, y, found)?;
+    Ok((left, right))
+}
+
 /// A test of operands.
 fn test(
     env: &Env<'_>,
@@ -80,20 +99,19 @@ fn test(
     test: &SurfaceTest<SurfaceOperand>,
     found: &mut Vec<Fault>,
 ) -> Result<Test<Operand<Expr>>, AllocError>
-    ensures same { IfOk result (λ y. y ≡ test_of (operand_of (env_of env.now) levels.now) test.now) }
+    ensures same { IfOk result
+        (λ y. y ≡ test_of (operand_of (env_of env.now) levels.now) test.now) }
     ensures faults { Appends result found.old.items found.new.items
         (test_faults (operand_faults (env_of env.now)) test.now) }
 {
     match test {
         SurfaceTest::True(_) => Ok(Test::True),
         SurfaceTest::Equal(x, y) => {
-            let x = operand(env, levels, x, found)?;
-            let y = operand(env, levels, y, found)?;
+            let (x, y) = sides(env, levels, x, y, found)?;
             Ok(Test::Equal(x, y))
         }
         SurfaceTest::Differ(x, y) => {
-            let x = operand(env, levels, x, found)?;
-            let y = operand(env, levels, y, found)?;
+            let (x, y) = sides(env, levels, x, y, found)?;
             Ok(Test::Differ(x, y))
         }
     }
@@ -155,7 +173,8 @@ fn link(env: &Env<'_>, link: Link) -> Option<FieldId>
 /// The field of a segment.
 fn next(env: &Env<'_>, place: Place, found: &mut Vec<Fault>) -> Result<FieldId, AllocError>
     ensures same { IfOk result (λ y. y ≡ link_of (env_of env.now) Next) }
-    ensures faults { Appends result found.old.items found.new.items (segment_faults (env_of env.now) place) }
+    ensures faults { Appends result found.old.items found.new.items
+        (segment_faults (env_of env.now) place) }
 {
     let next = link(env, Link::Next);
     report_if(next.is_none(), Fault::Missing(place, Link::Next), found)?;
@@ -168,8 +187,10 @@ fn both_links(
     place: Place,
     found: &mut Vec<Fault>,
 ) -> Result<(FieldId, FieldId), AllocError>
-    ensures same { IfOk result (λ y. y ≡ (link_of (env_of env.now) Left, link_of (env_of env.now) Right)) }
-    ensures faults { Appends result found.old.items found.new.items (tree_faults (env_of env.now) place) }
+    ensures same { IfOk result
+        (λ y. y ≡ (link_of (env_of env.now) Left, link_of (env_of env.now) Right)) }
+    ensures faults { Appends result found.old.items found.new.items
+        (tree_faults (env_of env.now) place) }
 {
     let left = link(env, Link::Left);
     let right = link(env, Link::Right);
@@ -188,60 +209,22 @@ fn scope(first: u32, end: u32) -> Scope
     }
 }
 
-/// Two operands.
-fn sides(
+/// A test among the conjuncts, with the left one of its sides.
+fn compared(
     env: &Env<'_>,
     levels: &Levels,
-    x: &SurfaceOperand,
-    y: &SurfaceOperand,
-    found: &mut Vec<Fault>,
-) -> Result<(Operand<Expr>, Operand<Expr>), AllocError>
-    ensures left { IfOk result (λ z. z.0 ≡ operand_of (env_of env.now) levels.now x.now) }
-    ensures right { IfOk result (λ z. z.1 ≡ operand_of (env_of env.now) levels.now y.now) }
-    ensures faults { Appends result found.old.items found.new.items (operand_faults (env_of env.now) x.now
-        ++ operand_faults (env_of env.now) y.now) }
-{
-    let left = operand(env, levels, x, found)?;
-    let right = operand(env, levels, y, found)?;
-    Ok((left, right))
-}
-
-/// An equation.
-fn equal(
-    env: &Env<'_>,
-    levels: &Levels,
-    x: &SurfaceOperand,
-    y: &SurfaceOperand,
+    left: &SurfaceOperand,
+    sides: &SurfaceTest<SurfaceOperand>,
     found: &mut Vec<Fault>,
 ) -> Result<Conjunct<Expr>, AllocError>
     ensures same { IfOk result (λ c. core.conjunct_of c
-        ≡ holds (operand_place x.now)
-        (Equal (operand_of (env_of env.now) levels.now x.now)
-        (operand_of (env_of env.now) levels.now y.now))) }
-    ensures faults { Appends result found.old.items found.new.items (operand_faults (env_of env.now) x.now
-        ++ operand_faults (env_of env.now) y.now) }
+        ≡ holds (operand_place left.now)
+        (test_of (operand_of (env_of env.now) levels.now) sides.now)) }
+    ensures faults { Appends result found.old.items found.new.items
+        (test_faults (operand_faults (env_of env.now)) sides.now) }
 {
-    let (left, right) = sides(env, levels, x, y, found)?;
-    Ok(Conjunct::Holds(operand_place(x), Test::Equal(left, right)))
-}
-
-/// An inequation.
-fn differ(
-    env: &Env<'_>,
-    levels: &Levels,
-    x: &SurfaceOperand,
-    y: &SurfaceOperand,
-    found: &mut Vec<Fault>,
-) -> Result<Conjunct<Expr>, AllocError>
-    ensures same { IfOk result (λ c. core.conjunct_of c
-        ≡ holds (operand_place x.now)
-        (Differ (operand_of (env_of env.now) levels.now x.now)
-        (operand_of (env_of env.now) levels.now y.now))) }
-    ensures faults { Appends result found.old.items found.new.items (operand_faults (env_of env.now) x.now
-        ++ operand_faults (env_of env.now) y.now) }
-{
-    let (left, right) = sides(env, levels, x, y, found)?;
-    Ok(Conjunct::Holds(operand_place(x), Test::Differ(left, right)))
+    let test = test(env, levels, sides, found)?;
+    Ok(Conjunct::Holds(operand_place(left), test))
 }
 
 /// A cell.
@@ -256,7 +239,8 @@ fn points(
     ensures same { IfOk result (λ c. core.conjunct_of c
         ≡ cell (operand_place x.now) (operand_of (env_of env.now) levels.now x.now)
         (values_of (env_of env.now) levels.now fields.now)) }
-    ensures faults { Appends result found.old.items found.new.items (operand_faults (env_of env.now) x.now
+    ensures faults { Appends result found.old.items found.new.items
+        (operand_faults (env_of env.now) x.now
         ++ values_faults (env_of env.now) [] fields.now) }
 {
     let at = operand(env, levels, x, found)?;
@@ -277,7 +261,8 @@ fn between(
         ≡ segment place (link_of (env_of env.now) Next)
         (operand_of (env_of env.now) levels.now x.now)
         (operand_of (env_of env.now) levels.now y.now)) }
-    ensures faults { Appends result found.old.items found.new.items (segment_faults (env_of env.now) place
+    ensures faults { Appends result found.old.items found.new.items
+        (segment_faults (env_of env.now) place
         ++ operand_faults (env_of env.now) x.now ++ operand_faults (env_of env.now) y.now) }
 {
     let next = next(env, place, found)?;
@@ -296,7 +281,8 @@ fn list(
     ensures same { IfOk result (λ c. core.conjunct_of c
         ≡ segment place (link_of (env_of env.now) Next)
         (operand_of (env_of env.now) levels.now x.now) (Known Nil)) }
-    ensures faults { Appends result found.old.items found.new.items (segment_faults (env_of env.now) place
+    ensures faults { Appends result found.old.items found.new.items
+        (segment_faults (env_of env.now) place
         ++ operand_faults (env_of env.now) x.now) }
 {
     let next = next(env, place, found)?;
@@ -315,7 +301,8 @@ fn tree(
     ensures same { IfOk result (λ c. core.conjunct_of c
         ≡ tree place (link_of (env_of env.now) Left) (link_of (env_of env.now) Right)
         (operand_of (env_of env.now) levels.now x.now)) }
-    ensures faults { Appends result found.old.items found.new.items (tree_faults (env_of env.now) place
+    ensures faults { Appends result found.old.items found.new.items
+        (tree_faults (env_of env.now) place
         ++ operand_faults (env_of env.now) x.now) }
 {
     let (left, right) = both_links(env, place, found)?;
@@ -325,7 +312,8 @@ fn tree(
 
 /// Appends a conjunct that was made.
 fn push(one: Conjunct<Expr>, done: &mut Vec<Conjunct<Expr>>) -> Result<(), AllocError>
-    ensures { Appends result (map core.conjunct_of done.old.items) (map core.conjunct_of done.new.items)
+    ensures { Appends result (map core.conjunct_of done.old.items)
+        (map core.conjunct_of done.new.items)
         (core.conjunct_of one ∷ []) }
 {
     done.push(one)?;
@@ -342,7 +330,8 @@ fn add_conjunct(
     done: &mut Vec<Conjunct<Expr>>,
     found: &mut Vec<Fault>,
 ) -> Result<(), AllocError>
-    ensures conjuncts { Appends result (map core.conjunct_of done.old.items) (map core.conjunct_of done.new.items)
+    ensures conjuncts { Appends result (map core.conjunct_of done.old.items)
+        (map core.conjunct_of done.new.items)
         (conjunct_of (env_of env.now) levels.old (surface_conjunct c.now)) }
     ensures levels { OnOk result (levels.new
         ≡ after_conjunct env.now.bytes.now levels.old (surface_conjunct c.now)) }
@@ -358,8 +347,14 @@ fn add_conjunct(
             let that = branch(alloc, env, levels, that, found)?;
             push(Conjunct::If(*p, test, this, that), done)
         }
-        SurfaceConjunct::Equal(x, y) => push(equal(env, levels, x, y, found)?, done),
-        SurfaceConjunct::Differ(x, y) => push(differ(env, levels, x, y, found)?, done),
+        SurfaceConjunct::Equal(x, y) => {
+            let test = SurfaceTest::Equal(*x, *y);
+            push(compared(env, levels, x, &test, found)?, done)
+        }
+        SurfaceConjunct::Differ(x, y) => {
+            let test = SurfaceTest::Differ(*x, *y);
+            push(compared(env, levels, x, &test, found)?, done)
+        }
         SurfaceConjunct::Points(x, fs) => push(points(alloc, env, levels, x, fs, found)?, done),
         SurfaceConjunct::Ls(p, x, y) | SurfaceConjunct::Lseg(p, x, y) => {
             push(between(env, levels, *p, x, y, found)?, done)
@@ -379,9 +374,11 @@ fn add_conjuncts(
     done: &mut Vec<Conjunct<Expr>>,
     found: &mut Vec<Fault>,
 ) -> Result<(), AllocError>
-    ensures conjuncts { Appends result (map core.conjunct_of done.old.items) (map core.conjunct_of done.new.items)
+    ensures conjuncts { Appends result (map core.conjunct_of done.old.items)
+        (map core.conjunct_of done.new.items)
         (conjuncts_of (env_of env.now) levels.old (surface_assertion level.now)) }
-    ensures levels { OnOk result (levels.new ≡ after env.now.bytes.now levels.old (surface_assertion level.now)) }
+    ensures levels { OnOk result
+        (levels.new ≡ after env.now.bytes.now levels.old (surface_assertion level.now)) }
     ensures faults { Appends result found.old.items found.new.items
         (assertion_faults (env_of env.now) (surface_assertion level.now)) }
 {

@@ -82,7 +82,8 @@ fn values(
 
 /// The procedure that a call names, with what is wrong where it has other counts.
 fn callee(env: &Env<'_>, call: &SurfaceCall, found: &mut Vec<Fault>) -> Result<ProcId, AllocError>
-    ensures same { IfOk result (λ f. f ≡ (header_named (env_of env.now) (surface_call call.now).name).id) }
+    ensures same { IfOk result
+        (λ f. f ≡ (header_named (env_of env.now) (surface_call call.now).name).id) }
     ensures faults { Appends result found.old.items found.new.items
         (callee_faults (env_of env.now) (surface_call call.now)) }
 {
@@ -107,7 +108,8 @@ fn call(
     call: &SurfaceCall,
     found: &mut Vec<Fault>,
 ) -> Result<Call, AllocError>
-    ensures same { IfOk result (λ x. core.call_of x ≡ call_of (env_of env.now) (surface_call call.now)) }
+    ensures same { IfOk result
+        (λ x. core.call_of x ≡ call_of (env_of env.now) (surface_call call.now)) }
     ensures faults { Appends result found.old.items found.new.items
         (call_faults (env_of env.now) (surface_call call.now)) }
 {
@@ -131,7 +133,8 @@ fn assign(
 ) -> Result<Command, AllocError>
     ensures same { IfOk result (λ one. core.command_of one
         ≡ syntax.assign x.place (occurrence (env_of env.now) x) (expr_of (env_of env.now) e)) }
-    ensures faults { Appends result found.old.items found.new.items (variable_faults (env_of env.now) x
+    ensures faults { Appends result found.old.items found.new.items
+        (variable_faults (env_of env.now) x
         ++ expr_faults (env_of env.now) e) }
 {
     let var = env.occurrence(x, found)?;
@@ -150,7 +153,8 @@ fn look_up(
     ensures same { IfOk result (λ one. core.command_of one
         ≡ syntax.look_up x.place (occurrence (env_of env.now) x) (expr_of (env_of env.now) e)
         (field_of (env_of env.now) field)) }
-    ensures faults { Appends result found.old.items found.new.items (variable_faults (env_of env.now) x
+    ensures faults { Appends result found.old.items found.new.items
+        (variable_faults (env_of env.now) x
         ++ expr_faults (env_of env.now) e ++ field_faults (env_of env.now) field) }
 {
     let var = env.occurrence(x, found)?;
@@ -163,7 +167,8 @@ fn look_up(
 fn new_cell(env: &Env<'_>, x: Word, found: &mut Vec<Fault>) -> Result<Command, AllocError>
     ensures same { IfOk result (λ one. core.command_of one
         ≡ syntax.new x.place (occurrence (env_of env.now) x)) }
-    ensures faults { Appends result found.old.items found.new.items (variable_faults (env_of env.now) x) }
+    ensures faults { Appends result found.old.items found.new.items
+        (variable_faults (env_of env.now) x) }
 {
     let var = env.occurrence(x, found)?;
     Ok(Command::New(x.place, var))
@@ -196,8 +201,10 @@ fn dispose(
     e: SurfaceExpr,
     found: &mut Vec<Fault>,
 ) -> Result<Command, AllocError>
-    ensures same { IfOk result (λ one. core.command_of one ≡ syntax.dispose place (expr_of (env_of env.now) e)) }
-    ensures faults { Appends result found.old.items found.new.items (expr_faults (env_of env.now) e) }
+    ensures same { IfOk result
+        (λ one. core.command_of one ≡ syntax.dispose place (expr_of (env_of env.now) e)) }
+    ensures faults { Appends result found.old.items found.new.items
+        (expr_faults (env_of env.now) e) }
 {
     let e = env.expr(e, found)?;
     Ok(Command::Dispose(place, e))
@@ -268,7 +275,8 @@ fn region(
 ) -> Result<(ResId, Test<Expr>), AllocError>
     ensures resource { IfOk result (λ x. x.0 ≡ resource_named (env_of env.now) resource) }
     ensures test { IfOk result (λ x. x.1 ≡ test_of (expr_of (env_of env.now)) test.now) }
-    ensures faults { Appends result found.old.items found.new.items (resource_faults (env_of env.now) resource
+    ensures faults { Appends result found.old.items found.new.items
+        (resource_faults (env_of env.now) resource
         ++ test_faults (expr_faults (env_of env.now)) test.now) }
 {
     let resource = env.resource(resource, found)?;
@@ -278,7 +286,8 @@ fn region(
 
 /// Appends a command that was made.
 fn push(one: Command, done: &mut Vec<Command>) -> Result<(), AllocError>
-    ensures { Appends result (map core.command_of done.old.items) (map core.command_of done.new.items)
+    ensures { Appends result (map core.command_of done.old.items)
+        (map core.command_of done.new.items)
         (core.command_of one ∷ []) }
 {
     done.push(one)?;
@@ -294,7 +303,8 @@ fn add_command(
     done: &mut Vec<Command>,
     found: &mut Vec<Fault>,
 ) -> Result<(), AllocError>
-    ensures commands { Appends result (map core.command_of done.old.items) (map core.command_of done.new.items)
+    ensures commands { Appends result (map core.command_of done.old.items)
+        (map core.command_of done.new.items)
         (command_of (env_of env.now) (surface_command c.now)) }
     ensures faults { Appends result found.old.items found.new.items
         (command_faults (env_of env.now) (surface_command c.now)) }
@@ -391,7 +401,8 @@ fn with(
         ≡ syntax.with place (resource_named (env_of env.now) resource)
         (test_of (expr_of (env_of env.now)) test.now)
         (core.block (command_of (env_of env.now) (surface_command body.now)))) }
-    ensures faults { Appends result found.old.items found.new.items (resource_faults (env_of env.now) resource
+    ensures faults { Appends result found.old.items found.new.items
+        (resource_faults (env_of env.now) resource
         ++ test_faults (expr_faults (env_of env.now)) test.now
         ++ command_faults (env_of env.now) (surface_command body.now)) }
 {
@@ -427,7 +438,8 @@ pub fn add_commands(
     done: &mut Vec<Command>,
     found: &mut Vec<Fault>,
 ) -> Result<(), AllocError>
-    ensures commands { Appends result (map core.command_of done.old.items) (map core.command_of done.new.items)
+    ensures commands { Appends result (map core.command_of done.old.items)
+        (map core.command_of done.new.items)
         (commands_of (env_of env.now) (surface_commands (map surface_command commands.now))) }
     ensures faults { Appends result found.old.items found.new.items
         (commands_faults (env_of env.now) (surface_commands (map surface_command commands.now))) }

@@ -103,7 +103,8 @@ pub fn declare_own(
     found: &mut Vec<Fault>,
 ) -> Result<(), AllocError>
     ensures declared { Appends result declared.old declared.new words.now }
-    ensures table { OnOk result (own.new ≡ numbered bytes.now Own (length declared.old) words.now own.old) }
+    ensures table { OnOk result
+        (own.new ≡ numbered bytes.now Own (length declared.old) words.now own.old) }
     ensures faults { Appends result found.old.items found.new.items
         (numbered_faults bytes.now OWN_VARIABLES Own (length declared.old) words.now own.old) }
 {
@@ -176,7 +177,8 @@ fn declared_fields(
     items: &[Item],
     found: &mut Vec<Fault>,
 ) -> Result<Table<FieldId>, AllocError>
-    ensures table { IfOk result (λ t. t ≡ field_table bytes.now (field_words (map item_of items.now))) }
+    ensures table { IfOk result
+        (λ t. t ≡ field_table bytes.now (field_words (map item_of items.now))) }
     ensures faults { Appends result found.old.items found.new.items
         (numbered_faults bytes.now FIELDS nth_field 0 (field_words (map item_of items.now)) []) }
 {
@@ -233,7 +235,8 @@ fn field_names(alloc: Global, bytes: &[u8], words: &[Word]) -> Result<Vec<Name>,
 
 /// The names of the fields of a file.
 pub fn field_names_of(alloc: Global, bytes: &[u8], items: &[Item]) -> Result<Vec<Name>, AllocError>
-    ensures { IfOk result (λ v. v.items ≡ field_names bytes.now (field_words (map item_of items.now))) }
+    ensures { IfOk result
+        (λ v. v.items ≡ field_names bytes.now (field_words (map item_of items.now))) }
 {
     let mut words = Vec::new(alloc);
     add_field_words(items, &mut words)?;
@@ -247,7 +250,8 @@ fn declared_resources(
     items: &[Item],
     found: &mut Vec<Fault>,
 ) -> Result<Table<ResId>, AllocError>
-    ensures table { IfOk result (λ t. t ≡ resource_table bytes.now 0 (resources_in (map item_of items.now)) []) }
+    ensures table { IfOk result
+        (λ t. t ≡ resource_table bytes.now 0 (resources_in (map item_of items.now)) []) }
     ensures faults { Appends result found.old.items found.new.items
         (resource_name_faults bytes.now 0 (resources_in (map item_of items.now)) []) }
 {
@@ -280,7 +284,8 @@ fn annotation_owner(
     all: &Table<Var>,
     found: &mut Vec<Fault>,
 ) -> Result<(), AllocError>
-    ensures { Appends result found.old.items found.new.items (owner_faults bytes.now own.now all.now word) }
+    ensures { Appends result found.old.items found.new.items
+        (owner_faults bytes.now own.now all.now word) }
 {
     let name = text(bytes, word);
     if own.find(name).is_some() {
@@ -303,7 +308,8 @@ fn declare_owned(
 ) -> Result<(), AllocError>
     ensures own { OnOk result (own.new ≡ declare (word_text bytes.now word) var own.old) }
     ensures all { OnOk result (all.new ≡ declare (word_text bytes.now word) var all.old) }
-    ensures faults { Appends result found.old.items found.new.items (owner_faults bytes.now own.old all.old word
+    ensures faults { Appends result found.old.items found.new.items
+        (owner_faults bytes.now own.old all.old word
         ++ beyond RESOURCE_VARIABLES count word.place) }
 {
     annotation_owner(bytes, word, own, all, found)?;
@@ -358,7 +364,8 @@ fn declared_variables(
     items: &[Item],
     found: &mut Vec<Fault>,
 ) -> Result<Table<Var>, AllocError>
-    ensures table { IfOk result (λ t. t ≡ shared_table bytes.now 0 (resources_in (map item_of items.now)) []) }
+    ensures table { IfOk result
+        (λ t. t ≡ shared_table bytes.now 0 (resources_in (map item_of items.now)) []) }
     ensures faults { Appends result found.old.items found.new.items
         (all_shared_faults bytes.now 0 0 (resources_in (map item_of items.now)) []) }
 {

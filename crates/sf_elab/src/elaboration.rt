@@ -1,10 +1,9 @@
 //! A whole file.
 
-ghost use Rattle.std.specs.Prelude.{◌≡◌, ◌⊎◌, ◌++◌, map, IfErr, IfOk, MatchResult};
-ghost use Rattle.sf_base.specs.Results.{Appends};
+ghost use Rattle.std.specs.Prelude.{◌≡◌, ◌⊎◌, ◌++◌, map, IfErr, IfOk};
+ghost use Rattle.sf_base.specs.Results.{Appends, Decides};
 ghost use Rattle.sf_ast.specs.View.{item_of};
 ghost use Rattle.sf_core.specs.Program.Formed.{IsFormed};
-ghost use Rattle.sf_core.specs.Program.Syntax as c;
 ghost use Rattle.sf_core.specs.Program.View.{procedure_of as core_procedure, program_with, resource_of};
 ghost use Rattle.sf_core.specs.Program.ProgramView.{program_of};
 ghost use Rattle.sf_elab.specs.Commands.{all_faults};
@@ -59,9 +58,11 @@ fn parts(
     items: &[Item],
     found: &mut Vec<Fault>,
 ) -> Result<Gathered, AllocError>
-    ensures program { IfOk result (λ x. program_with x.fields.items x.resources.items x.procedures.items
+    ensures program { IfOk result
+        (λ x. program_with x.fields.items x.resources.items x.procedures.items
         ≡ elaborated bytes.now (map item_of items.now)) }
-    ensures faults { Appends result found.old.items found.new.items (faults bytes.now (map item_of items.now)) }
+    ensures faults { Appends result found.old.items found.new.items
+        (faults bytes.now (map item_of items.now)) }
 {
     let fields = field_names_of(alloc, bytes, items)?;
     let names = declared(alloc, bytes, items, found)?;
@@ -75,7 +76,8 @@ fn parts(
 
 /// The program of those parts, which are in order.
 fn program(parts: Gathered) -> Program
-    requires { IsFormed (program_with parts.fields.items parts.resources.items parts.procedures.items) }
+    requires { IsFormed
+        (program_with parts.fields.items parts.resources.items parts.procedures.items) }
     ensures { program_of result
         ≡ program_with parts.fields.items parts.resources.items parts.procedures.items }
 {
@@ -90,7 +92,8 @@ fn program(parts: Gathered) -> Program
 
 /// The program of a file's tree, or its first fault.
 fn resolve(alloc: Global, bytes: &[u8], file: File) -> Result<Program, NameFault>
-    ensures found { IfOk result (λ p. Elaborates bytes.now (map item_of file.items.items) (program_of p)) }
+    ensures found { IfOk result
+        (λ p. Elaborates bytes.now (map item_of file.items.items) (program_of p)) }
     ensures refused { IfErr result (λ fault. (fault ≡ NameFault.OutOfMemory)
         ⊎ FirstFault bytes.now (map item_of file.items.items) fault) }
 {
@@ -105,16 +108,11 @@ fn resolve(alloc: Global, bytes: &[u8], file: File) -> Result<Program, NameFault
 /// The program that a file's tree is, over the file's bytes: exactly where no name is at fault.
 ///
 /// A fault is the first one by place, and at one place the one of the lowest kind. `OutOfMemory`
-/// comes where a growth was refused: by the allocator, or because things of one kind have numbers of
-/// 32 bits.
+/// comes where a growth was refused: by the allocator, or because things of one kind have numbers
+/// of 32 bits.
 pub fn elaborate(alloc: Global, bytes: &[u8], file: File) -> Result<Program, NameFault>
-    ensures found { IfOk result (λ p. Elaborates bytes.now (map item_of file.items.items) (program_of p)) }
-    ensures refused { IfErr result (λ fault. (fault ≡ NameFault.OutOfMemory)
-        ⊎ FirstFault bytes.now (map item_of file.items.items) fault) }
-    ensures only_found { (p : c.Program) → Elaborates bytes.now (map item_of file.items.items) p
-        → MatchResult result (λ q. program_of q ≡ p) (λ fault. fault ≡ NameFault.OutOfMemory) }
-    ensures only_refused { (fault : NameFault) → FirstFault bytes.now (map item_of file.items.items) fault
-        → MatchResult result (λ _. ⊥) (λ own. (own ≡ fault) ⊎ (own ≡ NameFault.OutOfMemory)) }
+    ensures { Decides result program_of (Elaborates bytes.now (map item_of file.items.items))
+        (FirstFault bytes.now (map item_of file.items.items)) NameFault.OutOfMemory }
 {
     resolve(alloc, bytes, file)
 }

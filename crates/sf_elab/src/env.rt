@@ -71,7 +71,8 @@ impl Env<'_> {
     /// The variable of that name, where it is. What is wrong with the name is noted.
     pub fn occurrence(&self, word: Word, found: &mut Vec<Fault>) -> Result<Occurrence, AllocError>
         ensures same { IfOk result (λ x. x ≡ occurrence (env_of self.now) word) }
-        ensures faults { Appends result found.old.items found.new.items (variable_faults (env_of self.now) word) }
+        ensures faults { Appends result found.old.items found.new.items
+            (variable_faults (env_of self.now) word) }
     {
         let var = self.variable(word);
         let fault = if self.in_invariant {
@@ -89,7 +90,8 @@ impl Env<'_> {
     /// An expression.
     pub fn expr(&self, e: SurfaceExpr, found: &mut Vec<Fault>) -> Result<Expr, AllocError>
         ensures same { IfOk result (λ x. x ≡ expr_of (env_of self.now) e) }
-        ensures faults { Appends result found.old.items found.new.items (expr_faults (env_of self.now) e) }
+        ensures faults { Appends result found.old.items found.new.items
+            (expr_faults (env_of self.now) e) }
     {
         match e {
             SurfaceExpr::Name(word) => {
@@ -130,7 +132,8 @@ impl Env<'_> {
     /// The field of that name.
     pub fn field(&self, word: Word, found: &mut Vec<Fault>) -> Result<FieldId, AllocError>
         ensures same { IfOk result (λ x. x ≡ field_of (env_of self.now) word) }
-        ensures faults { Appends result found.old.items found.new.items (field_faults (env_of self.now) word) }
+        ensures faults { Appends result found.old.items found.new.items
+            (field_faults (env_of self.now) word) }
     {
         let field = self.declared.fields.find(text(self.bytes, word));
         report_if(field.is_none(), Fault::Unknown(word), found)?;
@@ -140,7 +143,8 @@ impl Env<'_> {
     /// The resource of that name.
     pub fn resource(&self, word: Word, found: &mut Vec<Fault>) -> Result<ResId, AllocError>
         ensures same { IfOk result (λ x. x ≡ resource_named (env_of self.now) word) }
-        ensures faults { Appends result found.old.items found.new.items (resource_faults (env_of self.now) word) }
+        ensures faults { Appends result found.old.items found.new.items
+            (resource_faults (env_of self.now) word) }
     {
         let resource = self.declared.resources.find(text(self.bytes, word));
         report_if(resource.is_none(), Fault::Unknown(word), found)?;

@@ -2,7 +2,7 @@
 
 use sf_ast::Word;
 use sf_base::{Name, Place};
-use std::alloc::{AllocError, AllocFailed};
+use std::alloc::AllocError;
 use thiserror::Error;
 
 /// A field that predicates follow.
@@ -71,17 +71,6 @@ impl From<AllocError> for NameFault {
     ghost from_gives = { λ _ e. e ≡ OutOfMemory };
 
     fn from(_error: AllocError) -> NameFault {
-        NameFault::OutOfMemory
-    }
-}
-
-impl<T: Drop> From<AllocFailed<T>> for NameFault {
-    ghost use Rattle.std.specs.Prelude.{◌≡◌};
-    ghost use Rattle.sf_elab.specs.declared.fault.NameFault.TheVariants.{OutOfMemory};
-
-    ghost from_gives = { λ _ e. e ≡ OutOfMemory };
-
-    fn from(_error: AllocFailed<T>) -> NameFault {
         NameFault::OutOfMemory
     }
 }

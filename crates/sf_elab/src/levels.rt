@@ -65,7 +65,8 @@ fn add_fields(fields: &[SurfaceField], words: &mut Vec<Word>) -> Result<(), Allo
 /// Appends the existentials of a level itself that occur in the conjunct.
 #[cycle(words)]
 fn add_conjunct(c: &SurfaceConjunct, words: &mut Vec<Word>) -> Result<(), AllocError>
-    ensures { Appends result words.old.items words.new.items (words_in_conjunct (conjunct_of c.now)) }
+    ensures { Appends result words.old.items words.new.items
+        (words_in_conjunct (conjunct_of c.now)) }
 {
     match c {
         SurfaceConjunct::Emp(_) => Ok(()),

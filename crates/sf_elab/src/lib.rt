@@ -1,8 +1,9 @@
 //! From the surface tree to the numbered program: what each name stands for, or the first fault of
 //! its names and counts.
 //!
-//! It is one crate in two layers, the tables of names and, from `env` on, the walk over the tree: each
-//! function of the walk looks names up, so a crate for the tables alone would hand all of them over.
+//! It is one crate in two layers, the tables of names and, from `env` on, the walk over the tree:
+//! each function of the walk looks names up, so a crate for the tables alone would hand all of them
+//! over.
 //!
 //! - `table`: names and what they stand for.
 //! - `texts`: what words say.

@@ -101,8 +101,8 @@ struct Prologue {
     first: Vec<Command>,
 }
 
-/// Declares a value as the body sees it: it stands for itself, or where its name is set for a primed
-/// local, which has the next number after all names and the value's own value at first.
+/// Declares a value as the body sees it: it stands for itself, or where its name is set for a
+/// primed local, which has the next number after all names and the value's own value at first.
 fn declare_value(
     alloc: Global,
     bytes: &[u8],
@@ -358,10 +358,12 @@ fn inside(
     requires words { parameters.words ≡ references_of (surface_procedure f.now).parameters
         ++ values_of (surface_procedure f.now).parameters }
     requires own { parameters.own ≡ parameters_of bytes.now (surface_procedure f.now) }
-    ensures locals { IfOk result (λ x. x.locals ≡ length (local_words (surface_procedure f.now).locals)) }
+    ensures locals { IfOk result
+        (λ x. x.locals ≡ length (local_words (surface_procedure f.now).locals)) }
     ensures body { IfOk result (λ x. core.block_of x.body.items
         ≡ (procedure_of bytes.now declared.now (surface_procedure f.now)).body) }
-    ensures names { IfOk result (λ x. x.names.items ≡ own_names bytes.now (surface_procedure f.now)) }
+    ensures names { IfOk result
+        (λ x. x.names.items ≡ own_names bytes.now (surface_procedure f.now)) }
     ensures faults { Appends result found.old.items found.new.items
         (local_faults bytes.now (surface_procedure f.now)
         ++ commands_faults (inside_of bytes.now declared.now (surface_procedure f.now))

@@ -1,11 +1,16 @@
-use Rattle.std.proofs.Common.{map}
+use Rattle.std.proofs.Common.{map, sym, ◌∙◌}
 use Rattle.sf_ast.specs.View.{item_of}
+use Rattle.sf_base.proofs.Decisions.{decides}
 use Rattle.sf_core.specs.Program.ProgramView.{program_of}
-use Rattle.sf_elab.proofs.Answered.{only_found, only_refused}
+use Rattle.sf_elab.specs.declared.fault.NameFault.TheVariants.{OutOfMemory}
+use Rattle.sf_elab.specs.Elaborated.{Elaborates, FirstFault}
+use Rattle.sf_elab.proofs.FirstFaults.{never_both, same_faults}
 use Rattle.sf_elab.proofs.elaboration.elaborate.Goals as goal
 
-pub returns-clause-only_found : goal.returns-clause-only_found
-returns-clause-only_found c = only_found program_of c.args.bytes.now (map item_of c.args.file.items.items) c.resolve.result c.resolve.ensures.found c.resolve.ensures.refused
-
-pub returns-clause-only_refused : goal.returns-clause-only_refused
-returns-clause-only_refused c = only_refused program_of c.args.bytes.now (map item_of c.args.file.items.items) c.resolve.result c.resolve.ensures.found c.resolve.ensures.refused
+pub returns : goal.returns
+returns c =
+    let bytes = c.args.bytes.now in
+    let items = map item_of c.args.file.items.items in
+    decides c.resolve.result program_of (Elaborates bytes items) (FirstFault bytes items) OutOfMemory
+    (λ p q f g. f.same ∙ sym g.same) (same_faults bytes items) (never_both bytes items)
+    c.resolve.ensures.found c.resolve.ensures.refused
