@@ -19,7 +19,7 @@ use Rattle.sf_calls.specs.Laws.{FirstBreachIsUnique}
 use Rattle.sf_core.specs.Assertions.Determined.{Determined}
 use Rattle.sf_core.specs.Program.Syntax.{Procedure, Resource, Program}
 use Rattle.sf_io.specs.Shelf.{Files}
-use Rattle.sf_elab.specs.Elaborated.{Elaborates, FirstFault}
+use Rattle.sf_elab.specs.Files.Elaborated.{Elaborates, FirstFault}
 use Rattle.sf_elab.specs.Laws.{EachFileIsOne as EachTreeIsOne}
 use Rattle.sf_lex.specs.declared.token.Token.{Token}
 use Rattle.sf_lex.specs.Laws.{EachFileReadsOnce}

@@ -14,7 +14,7 @@ use Rattle.sf_core.specs.Assertions.Determined.{Determined}
 use Rattle.sf_core.specs.Program.Syntax.{Program, Assertion}
 use Rattle.sf_elab.specs.declared.fault.NameFault.{NameFault}
 use Rattle.sf_elab.specs.declared.fault.NameFault.TheVariants as n
-use Rattle.sf_elab.specs.Elaborated.{FirstFault}
+use Rattle.sf_elab.specs.Files.Elaborated.{FirstFault}
 use Rattle.sf_lex.specs.declared.fault.LexFault.{LexFault}
 use Rattle.sf_lex.specs.declared.fault.LexFault.TheVariants as l
 use Rattle.sf_lex.specs.declared.token.Token.{Token}

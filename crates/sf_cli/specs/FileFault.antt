@@ -8,7 +8,7 @@ use Rattle.sf_calls.specs.FirstBreach.{Conditions}
 use Rattle.sf_core.specs.Assertions.Determined.{Determined}
 use Rattle.sf_core.specs.Program.Syntax.{Program}
 use Rattle.sf_elab.specs.declared.fault.NameFault.{NameFault}
-use Rattle.sf_elab.specs.Elaborated.{FirstFault}
+use Rattle.sf_elab.specs.Files.Elaborated.{FirstFault}
 use Rattle.sf_lex.specs.declared.fault.LexFault.{LexFault}
 use Rattle.sf_lex.specs.declared.token.Token.{Token}
 use Rattle.sf_lex.specs.Reading.{AreTokens, IsFault as IsTokenFault, end_place}

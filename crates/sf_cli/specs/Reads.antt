@@ -3,7 +3,7 @@
 use Rattle.std.specs.Prelude.{List}
 use Rattle.sf_ast.specs.Surface.{Item}
 use Rattle.sf_core.specs.Program.Syntax.{Program}
-use Rattle.sf_elab.specs.Elaborated.{Elaborates}
+use Rattle.sf_elab.specs.Files.Elaborated.{Elaborates}
 use Rattle.sf_lex.specs.declared.token.Token.{Token}
 use Rattle.sf_lex.specs.Reading.{AreTokens}
 use Rattle.sf_parse.specs.Parsing.{IsFile}

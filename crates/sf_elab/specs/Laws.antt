@@ -12,14 +12,14 @@ use Rattle.sf_core.specs.Program.Formed.{IsFormed}
 use Rattle.sf_core.specs.Program.Syntax.{Procedure, Resource, Program}
 use Rattle.sf_elab.specs.declared.fault.Fault.{Fault}
 use Rattle.sf_elab.specs.declared.fault.NameFault.{NameFault}
-use Rattle.sf_elab.specs.Elaborated.{elaborated, faults, Elaborates, FirstFault}
+use Rattle.sf_elab.specs.Files.Elaborated.{elaborated, faults, Elaborates, FirstFault}
 use Rattle.sf_elab.specs.declared.levels.Levels.{Levels}
-use Rattle.sf_elab.specs.Existentials.{words_in, opened, after_level}
-use Rattle.sf_elab.specs.Faults.{is_earlier}
-use Rattle.sf_elab.specs.Commands.{references_in}
-use Rattle.sf_elab.specs.Procedures.{is_among, is_primed}
-use Rattle.sf_elab.specs.Table.{find, has}
-use Rattle.sf_elab.specs.Texts.{text}
+use Rattle.sf_elab.specs.Annotations.Existentials.{words_in, opened, after_level}
+use Rattle.sf_elab.specs.Files.Faults.{is_earlier}
+use Rattle.sf_elab.specs.Bodies.Commands.{references_in}
+use Rattle.sf_elab.specs.Bodies.Procedures.{is_among, is_primed}
+use Rattle.sf_elab.specs.Names.Table.{find, has}
+use Rattle.sf_elab.specs.Names.Texts.{text}
 
 -- what a file without faults elaborates to is a program in order
 abbrev pub ElaboratedIsFormed : Type 0

@@ -1,11 +1,5 @@
-pub mod Table
-pub mod Texts
-pub mod Faults
-pub mod InEnv
-pub mod Existentials
-pub mod Assertions
-pub mod Commands
-pub mod Declarations
-pub mod Procedures
-pub mod Elaborated
+pub mod Names
+pub mod Files
+pub mod Annotations
+pub mod Bodies
 pub mod Laws

@@ -4,18 +4,18 @@ ghost use Rattle.std.specs.Prelude.{◌≡◌, ◌∷◌, ◌++◌, ◌-◌, [],
 ghost use Rattle.sf_base.specs.Results.{Appends};
 ghost use Rattle.sf_ast.specs.View.{assertion_of as surface_assertion, conjunct_of as surface_conjunct, annotation_of as surface_annotation};
 ghost use Rattle.sf_core.specs.Program.View as core;
-ghost use Rattle.sf_elab.specs.Assertions.{operand_of, operand_faults, operand_place, values_of, values_faults, link_of, segment_faults, tree_faults, conjunct_of, conjuncts_of, level_of, conjunct_faults, assertion_faults, annotation_of, annotation_faults, maybe_of, maybe_faults};
-ghost use Rattle.sf_elab.specs.Existentials.{after, after_conjunct, after_level};
+ghost use Rattle.sf_elab.specs.Annotations.Assertions.{operand_of, operand_faults, operand_place, values_of, values_faults, link_of, segment_faults, tree_faults, conjunct_of, conjuncts_of, level_of, conjunct_faults, assertion_faults, annotation_of, annotation_faults, maybe_of, maybe_faults};
+ghost use Rattle.sf_elab.specs.Annotations.Existentials.{after, after_conjunct, after_level};
 ghost use Rattle.sf_core.specs.declared.assertion.Operand.TheVariants.{Known};
 ghost use Rattle.sf_core.specs.declared.command.Expr.TheVariants.{Nil};
 ghost use Rattle.sf_core.specs.Program.Syntax.{level, none, holds, points as cell, segment, tree};
 ghost use Rattle.sf_elab.specs.declared.fault.Fault.TheVariants.{Twice};
 ghost use Rattle.sf_elab.specs.declared.fault.Link.TheVariants.{Next, Left, Right};
-ghost use Rattle.sf_elab.specs.Faults.{link_name, where_};
-ghost use Rattle.sf_elab.specs.Table.{declare, find, has};
-ghost use Rattle.sf_elab.specs.Texts.{text as word_text};
+ghost use Rattle.sf_elab.specs.Files.Faults.{link_name, where_};
+ghost use Rattle.sf_elab.specs.Names.Table.{declare, find, has};
+ghost use Rattle.sf_elab.specs.Names.Texts.{text as word_text};
 ghost use Rattle.std.specs.Option.{option_map};
-ghost use Rattle.sf_elab.specs.InEnv.{env_of, test_of, test_faults, field_of, field_faults};
+ghost use Rattle.sf_elab.specs.Names.InEnv.{env_of, test_of, test_faults, field_of, field_faults};
 
 use crate::env::{Env, expr_place, report_if};
 use crate::fault::{Fault, Link};

@@ -6,9 +6,9 @@ ghost use Rattle.std.specs.Option.{option_map};
 ghost use Rattle.sf_ast.specs.View.{arguments_of, call_of as surface_call, command_of as surface_command, commands as surface_commands, annotation_of as surface_annotation};
 ghost use Rattle.sf_core.specs.Program.Syntax as syntax;
 ghost use Rattle.sf_core.specs.Program.View as core;
-ghost use Rattle.sf_elab.specs.Assertions.{maybe_faults, maybe_of};
-ghost use Rattle.sf_elab.specs.Commands.{references_in, values_in, call_of, fits, all_faults, callee_faults, call_faults, command_of, commands_of, command_faults, commands_faults, set_in, set_in_all};
-ghost use Rattle.sf_elab.specs.InEnv.{env_of, occurrence, variable_faults, expr_of, expr_faults, expr_place as place_of_expr, field_of, field_faults, test_of, test_faults, resource_named, resource_faults, header_named};
+ghost use Rattle.sf_elab.specs.Annotations.Assertions.{maybe_faults, maybe_of};
+ghost use Rattle.sf_elab.specs.Bodies.Commands.{references_in, values_in, call_of, fits, all_faults, callee_faults, call_faults, command_of, commands_of, command_faults, commands_faults, set_in, set_in_all};
+ghost use Rattle.sf_elab.specs.Names.InEnv.{env_of, occurrence, variable_faults, expr_of, expr_faults, expr_place as place_of_expr, field_of, field_faults, test_of, test_faults, resource_named, resource_faults, header_named};
 
 use crate::assertions::maybe;
 use crate::declared::Header;

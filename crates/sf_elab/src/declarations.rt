@@ -6,10 +6,10 @@ ghost use Rattle.sf_ast.specs.View.{item_of, names_of, parameters_of, procedure_
 ghost use Rattle.sf_base.specs.declared.ids.Var.TheVariants.{Own};
 ghost use Rattle.sf_base.specs.declared.limits.TheConstants.{FIELDS, OWN_VARIABLES, RESOURCE_VARIABLES};
 ghost use Rattle.sf_elab.specs.declared.fault.Fault.TheVariants.{Twice};
-ghost use Rattle.sf_elab.specs.Declarations.{words_of, field_words, resources_in, procedures_in, references_of, values_of, numbered, numbered_faults, beyond, nth_field, field_table, field_names, usual_fields, usual_names, resource_table, resource_name_faults, shared_by, shared_table, shared_faults, all_shared_faults, owner_faults, header_of, procedure_table, procedure_name_faults, declared_by, declared_faults};
-ghost use Rattle.sf_elab.specs.Faults.{where_};
-ghost use Rattle.sf_elab.specs.Table.{declare, has};
-ghost use Rattle.sf_elab.specs.Texts.{text as word_text};
+ghost use Rattle.sf_elab.specs.Names.Declarations.{words_of, field_words, resources_in, procedures_in, references_of, values_of, numbered, numbered_faults, beyond, nth_field, field_table, field_names, usual_fields, usual_names, resource_table, resource_name_faults, shared_by, shared_table, shared_faults, all_shared_faults, owner_faults, header_of, procedure_table, procedure_name_faults, declared_by, declared_faults};
+ghost use Rattle.sf_elab.specs.Files.Faults.{where_};
+ghost use Rattle.sf_elab.specs.Names.Table.{declare, has};
+ghost use Rattle.sf_elab.specs.Names.Texts.{text as word_text};
 
 use crate::assertions::link_name;
 use crate::commands::add_all;

@@ -6,10 +6,10 @@ ghost use Rattle.sf_ast.specs.View.{item_of};
 ghost use Rattle.sf_core.specs.Program.Formed.{IsFormed};
 ghost use Rattle.sf_core.specs.Program.View.{procedure_of as core_procedure, program_with, resource_of};
 ghost use Rattle.sf_core.specs.Program.ProgramView.{program_of};
-ghost use Rattle.sf_elab.specs.Commands.{all_faults};
-ghost use Rattle.sf_elab.specs.Declarations.{procedures_in, resources_in};
-ghost use Rattle.sf_elab.specs.Elaborated.{Elaborates, FirstFault, elaborated, faults, invariants_faults, resources_from};
-ghost use Rattle.sf_elab.specs.Procedures.{procedure_faults, procedure_of};
+ghost use Rattle.sf_elab.specs.Bodies.Commands.{all_faults};
+ghost use Rattle.sf_elab.specs.Names.Declarations.{procedures_in, resources_in};
+ghost use Rattle.sf_elab.specs.Files.Elaborated.{Elaborates, FirstFault, elaborated, faults, invariants_faults, resources_from};
+ghost use Rattle.sf_elab.specs.Bodies.Procedures.{procedure_faults, procedure_of};
 
 use crate::declarations::{declared, field_names_of};
 use crate::declared::Declared;

@@ -2,9 +2,9 @@
 
 ghost use Rattle.std.specs.Prelude.{◌≡◌, is_some, not, IfOk};
 ghost use Rattle.sf_base.specs.Results.{Appends};
-ghost use Rattle.sf_elab.specs.Faults.{where_};
-ghost use Rattle.sf_elab.specs.InEnv.{env_of, variable, occurrence, variable_faults, expr_of, expr_faults, expr_place, test_of, test_faults, field_of, field_faults, resource_named, resource_faults};
-ghost use Rattle.sf_elab.specs.Texts.{text};
+ghost use Rattle.sf_elab.specs.Files.Faults.{where_};
+ghost use Rattle.sf_elab.specs.Names.InEnv.{env_of, variable, occurrence, variable_faults, expr_of, expr_faults, expr_place, test_of, test_faults, field_of, field_faults, resource_named, resource_faults};
+ghost use Rattle.sf_elab.specs.Names.Texts.{text};
 
 use crate::declared::Declared;
 use crate::fault::Fault;

@@ -2,7 +2,7 @@
 
 ghost use Rattle.std.specs.Prelude.{◌≡◌, ◌∷◌, ◌++◌, [], List, IfOk};
 ghost use Rattle.sf_base.specs.First.{IsFirstAmong, IsFirstOf};
-ghost use Rattle.sf_elab.specs.Faults.{link_name, place_of, kind_of, is_same_place, is_earlier, named_fault};
+ghost use Rattle.sf_elab.specs.Files.Faults.{link_name, place_of, kind_of, is_same_place, is_earlier, named_fault};
 
 use crate::assertions::link_name;
 use crate::fault::{Fault, NameFault};

@@ -13,20 +13,20 @@ pub fn first_fault_is_first()
 {}
 
 /// A file is one program or has one first fault, and not both.
-#[tactic(auto, using(crate::proofs::Closing::each_file_is_one))]
+#[tactic(auto, using(crate::proofs::Files::Closing::each_file_is_one))]
 pub fn each_file_is_one()
     ensures { EachFileIsOne }
 {}
 
 /// A level has in reach what is around it and what occurs in it, under new numbers; after it only
 /// what was there before is in reach.
-#[tactic(auto, using(crate::proofs::Scopes::levels_are_scopes))]
+#[tactic(auto, using(crate::proofs::Annotations::Scopes::levels_are_scopes))]
 pub fn levels_are_scopes()
     ensures { LevelsAreScopes }
 {}
 
 /// In a program that a file is, a name stands for one thing of its kind.
-#[tactic(auto, using(crate::proofs::UniqueNames::names_are_unique))]
+#[tactic(auto, using(crate::proofs::Names::UniqueNames::names_are_unique))]
 pub fn names_are_unique()
     ensures { NamesAreUnique }
 {}

@@ -3,7 +3,7 @@
 ghost use Rattle.std.specs.Prelude.{◌≡◌, ◌++◌, OnOk};
 ghost use Rattle.sf_base.specs.Results.{Appends};
 ghost use Rattle.sf_ast.specs.View.{assertion_of, conjunct_of};
-ghost use Rattle.sf_elab.specs.Existentials.{words_in_operand, words_in_test, words_in_fields, words_in_conjunct, words_in, meet, meet_all, no_levels, opened};
+ghost use Rattle.sf_elab.specs.Annotations.Existentials.{words_in_operand, words_in_test, words_in_fields, words_in_conjunct, words_in, meet, meet_all, no_levels, opened};
 
 use crate::table::Table;
 use crate::texts::text;

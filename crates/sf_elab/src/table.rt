@@ -1,7 +1,7 @@
 //! Names and what they stand for.
 
 ghost use Rattle.std.specs.Prelude.{◌≡◌, [], length, take, OnOk};
-ghost use Rattle.sf_elab.specs.Table.{find, declare};
+ghost use Rattle.sf_elab.specs.Names.Table.{find, declare};
 
 use indexmap::IndexMap;
 use std::alloc::{AllocError, Global};

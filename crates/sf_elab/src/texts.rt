@@ -1,7 +1,7 @@
 //! What words say.
 
 ghost use Rattle.std.specs.Prelude.{◌≡◌, IfOk};
-ghost use Rattle.sf_elab.specs.Texts.{text};
+ghost use Rattle.sf_elab.specs.Names.Texts.{text};
 
 use sf_ast::Word;
 use sf_base::Name;

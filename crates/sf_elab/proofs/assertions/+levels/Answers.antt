@@ -1,8 +1,8 @@
 use Rattle.std.proofs.Common.{rules, map}
 use Rattle.sf_ast.specs.View.{assertion_of}
 use Rattle.sf_core.specs.Program.View.{conjunct_of}
-use Rattle.sf_elab.specs.InEnv.{env_of}
-use Rattle.sf_elab.proofs.Conjuncts.{conjuncts_pushed, after_pushed, faults_pushed, level_left}
+use Rattle.sf_elab.specs.Names.InEnv.{env_of}
+use Rattle.sf_elab.proofs.Annotations.Conjuncts.{conjuncts_pushed, after_pushed, faults_pushed, level_left}
 use Rattle.sf_elab.proofs.assertions.+levels.Goals as goal
 
 pub add_conjuncts-loop-c-init : goal.add_conjuncts-loop-c-init

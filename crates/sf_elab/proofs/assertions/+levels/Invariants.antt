@@ -1,10 +1,10 @@
 use Rattle.std.proofs.Common.{◌≡◌, drop, map, ◌++◌}
 use Rattle.sf_ast.specs.View.{conjunct_of as surface_conjunct, assertion_of}
 use Rattle.sf_core.specs.Program.View.{conjunct_of}
-use Rattle.sf_elab.specs.Assertions.{conjuncts_of, assertion_faults}
-use Rattle.sf_elab.specs.Existentials.{after}
-use Rattle.sf_elab.specs.InEnv.{env_of}
-use Rattle.sf_elab.proofs.Conjuncts.{rest_of, after_rest, rest_faults}
+use Rattle.sf_elab.specs.Annotations.Assertions.{conjuncts_of, assertion_faults}
+use Rattle.sf_elab.specs.Annotations.Existentials.{after}
+use Rattle.sf_elab.specs.Names.InEnv.{env_of}
+use Rattle.sf_elab.proofs.Annotations.Conjuncts.{rest_of, after_rest, rest_faults}
 use Rattle.sf_elab.proofs.assertions.+levels.Given as goal
 
 -- those so far and those of what is left are all

@@ -1,6 +1,6 @@
 use Rattle.std.proofs.Common.{◌≡◌, drop, ◌++◌, []}
-use Rattle.sf_elab.specs.Assertions.{values_of, values_faults}
-use Rattle.sf_elab.specs.InEnv.{env_of}
+use Rattle.sf_elab.specs.Annotations.Assertions.{values_of, values_faults}
+use Rattle.sf_elab.specs.Names.InEnv.{env_of}
 use Rattle.sf_elab.proofs.assertions.values.Given as goal
 
 -- those so far and those of what is left are all

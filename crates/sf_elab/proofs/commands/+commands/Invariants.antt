@@ -1,8 +1,8 @@
 use Rattle.std.proofs.Common.{◌≡◌, drop, map, ◌++◌}
 use Rattle.sf_ast.specs.View.{commands as surface_commands, command_of as surface_command}
 use Rattle.sf_core.specs.Program.View.{command_of}
-use Rattle.sf_elab.specs.Commands.{commands_of, commands_faults}
-use Rattle.sf_elab.specs.InEnv.{env_of}
+use Rattle.sf_elab.specs.Bodies.Commands.{commands_of, commands_faults}
+use Rattle.sf_elab.specs.Names.InEnv.{env_of}
 use Rattle.sf_elab.proofs.commands.+commands.Given as goal
 
 -- those so far and those of what is left are all

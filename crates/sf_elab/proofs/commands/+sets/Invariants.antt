@@ -1,6 +1,6 @@
 use Rattle.std.proofs.Common.{◌≡◌, drop, map, ◌++◌}
 use Rattle.sf_ast.specs.View.{commands, command_of}
-use Rattle.sf_elab.specs.Commands.{set_in_all}
+use Rattle.sf_elab.specs.Bodies.Commands.{set_in_all}
 use Rattle.sf_elab.proofs.commands.+sets.Given as goal
 
 -- those so far and those of what is left are all

@@ -1,6 +1,6 @@
 use Rattle.std.proofs.Common.{◌≡◌, drop, map, ◌++◌}
-use Rattle.sf_elab.specs.Commands.{all_faults}
-use Rattle.sf_elab.specs.InEnv.{env_of, expr_of, expr_faults}
+use Rattle.sf_elab.specs.Bodies.Commands.{all_faults}
+use Rattle.sf_elab.specs.Names.InEnv.{env_of, expr_of, expr_faults}
 use Rattle.sf_elab.proofs.commands.values.Given as goal
 
 -- those so far and those of what is left are all

@@ -1,6 +1,6 @@
 use Rattle.std.proofs.Common.{◌≡◌, drop, map, ◌++◌}
 use Rattle.sf_ast.specs.View.{item_of}
-use Rattle.sf_elab.specs.Declarations.{field_words}
+use Rattle.sf_elab.specs.Names.Declarations.{field_words}
 use Rattle.sf_elab.proofs.declarations.add_field_words.Given as goal
 
 -- those so far and those of what is left are all

@@ -1,5 +1,5 @@
 use Rattle.std.proofs.Common.{◌≡◌, drop, map, ◌++◌}
-use Rattle.sf_elab.specs.Texts.{text}
+use Rattle.sf_elab.specs.Names.Texts.{text}
 use Rattle.sf_elab.proofs.declarations.add_texts.Given as goal
 
 -- those so far and those of what is left are all

@@ -1,6 +1,6 @@
 use Rattle.std.proofs.Common.{◌≡◌, drop, length, ◌++◌}
 use Rattle.sf_base.specs.declared.limits.TheConstants.{FIELDS}
-use Rattle.sf_elab.specs.Declarations.{nth_field, numbered, numbered_faults}
+use Rattle.sf_elab.specs.Names.Declarations.{nth_field, numbered, numbered_faults}
 use Rattle.sf_elab.proofs.declarations.declare_fields.Given as goal
 
 -- those so far and those of what is left are all

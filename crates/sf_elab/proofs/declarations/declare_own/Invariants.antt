@@ -1,7 +1,7 @@
 use Rattle.std.proofs.Common.{◌≡◌, drop, length, ◌++◌}
 use Rattle.sf_base.specs.declared.ids.Var.TheVariants.{Own}
 use Rattle.sf_base.specs.declared.limits.TheConstants.{OWN_VARIABLES}
-use Rattle.sf_elab.specs.Declarations.{numbered, numbered_faults}
+use Rattle.sf_elab.specs.Names.Declarations.{numbered, numbered_faults}
 use Rattle.sf_elab.proofs.declarations.declare_own.Given as goal
 
 -- those so far and those of what is left are all

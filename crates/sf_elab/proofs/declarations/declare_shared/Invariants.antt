@@ -1,5 +1,5 @@
 use Rattle.std.proofs.Common.{◌≡◌, ◌+◌, drop, length, [], ◌++◌}
-use Rattle.sf_elab.specs.Declarations.{shared_by, numbered, shared_faults}
+use Rattle.sf_elab.specs.Names.Declarations.{shared_by, numbered, shared_faults}
 use Rattle.sf_elab.proofs.declarations.declare_shared.Given as goal
 
 -- those so far and those of what is left are all

@@ -1,6 +1,6 @@
 use Rattle.std.proofs.Common.{◌≡◌, [], drop, length, map, ◌++◌}
 use Rattle.sf_ast.specs.View.{item_of}
-use Rattle.sf_elab.specs.Declarations.{procedures_in, procedure_table, procedure_name_faults}
+use Rattle.sf_elab.specs.Names.Declarations.{procedures_in, procedure_table, procedure_name_faults}
 use Rattle.sf_elab.proofs.declarations.declared_procedures.Given as goal
 
 -- those so far and those of what is left are all

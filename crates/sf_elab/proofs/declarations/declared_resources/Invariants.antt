@@ -1,6 +1,6 @@
 use Rattle.std.proofs.Common.{◌≡◌, [], drop, length, map, ◌++◌}
 use Rattle.sf_ast.specs.View.{item_of}
-use Rattle.sf_elab.specs.Declarations.{resources_in, resource_table, resource_name_faults}
+use Rattle.sf_elab.specs.Names.Declarations.{resources_in, resource_table, resource_name_faults}
 use Rattle.sf_elab.proofs.declarations.declared_resources.Given as goal
 
 -- those so far and those of what is left are all

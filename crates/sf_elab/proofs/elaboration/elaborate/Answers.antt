@@ -3,8 +3,8 @@ use Rattle.sf_ast.specs.View.{item_of}
 use Rattle.sf_base.proofs.Decisions.{decides}
 use Rattle.sf_core.specs.Program.ProgramView.{program_of}
 use Rattle.sf_elab.specs.declared.fault.NameFault.TheVariants.{OutOfMemory}
-use Rattle.sf_elab.specs.Elaborated.{Elaborates, FirstFault}
-use Rattle.sf_elab.proofs.FirstFaults.{never_both, same_faults}
+use Rattle.sf_elab.specs.Files.Elaborated.{Elaborates, FirstFault}
+use Rattle.sf_elab.proofs.Files.FirstFaults.{never_both, same_faults}
 use Rattle.sf_elab.proofs.elaboration.elaborate.Goals as goal
 
 pub returns : goal.returns

@@ -3,8 +3,8 @@ use Rattle.sf_ast.specs.View.{item_of}
 use Rattle.sf_core.specs.Program.View.{program_with}
 use Rattle.sf_core.specs.Program.ProgramView.{program_of}
 use Rattle.sf_elab.specs.declared.fault.Fault.{Fault}
-use Rattle.sf_elab.specs.Elaborated.{elaborated, faults}
-use Rattle.sf_elab.proofs.Wholes.{parts_formed, parts_elaborate}
+use Rattle.sf_elab.specs.Files.Elaborated.{elaborated, faults}
+use Rattle.sf_elab.proofs.Files.Wholes.{parts_formed, parts_elaborate}
 use Rattle.sf_elab.proofs.elaboration.resolve.Goals as goal
 
 pub program-requires : goal.program-requires

@@ -1,5 +1,5 @@
 use Rattle.std.proofs.Common.{refl, inl, inr, sym, ◌∙◌}
-use Rattle.sf_elab.proofs.FirstFaults.{earlier_alone, earlier_found}
+use Rattle.sf_elab.proofs.Files.FirstFaults.{earlier_alone, earlier_found}
 use Rattle.sf_elab.proofs.first_fault.earlier.Goals as goal
 
 pub returns-in-None : goal.returns-in-None

@@ -2,7 +2,7 @@ use Rattle.std.proofs.Common.{subst, sym, take}
 use Rattle.std.proofs.lemmas.List.{take_more}
 use Rattle.sf_base.specs.First.{IsFirstAmong}
 use Rattle.sf_elab.specs.declared.fault.Fault.TheVariants.{Unknown}
-use Rattle.sf_elab.specs.Faults.{is_earlier}
+use Rattle.sf_elab.specs.Files.Faults.{is_earlier}
 use Rattle.sf_elab.proofs.first_fault.first_of.Goals as goal
 
 pub loop-fault-preserved : goal.loop-fault-preserved

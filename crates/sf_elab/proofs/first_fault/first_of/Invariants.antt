@@ -1,6 +1,6 @@
 use Rattle.std.proofs.Common.{take}
 use Rattle.sf_base.specs.First.{IsFirstOf}
-use Rattle.sf_elab.specs.Faults.{is_earlier}
+use Rattle.sf_elab.specs.Files.Faults.{is_earlier}
 use Rattle.sf_elab.proofs.first_fault.first_of.Given as goal
 
 -- the first of those that were looked at

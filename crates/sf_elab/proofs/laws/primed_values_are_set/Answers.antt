@@ -1,4 +1,4 @@
-use Rattle.sf_elab.proofs.PrimedValues.{primed_values_are_set}
+use Rattle.sf_elab.proofs.Bodies.PrimedValues.{primed_values_are_set}
 use Rattle.sf_elab.proofs.laws.primed_values_are_set.Goals as goal
 
 pub returns : goal.returns

@@ -1,5 +1,5 @@
 use Rattle.std.proofs.Common.{rules}
-use Rattle.sf_elab.proofs.Existentials.{words_pushed}
+use Rattle.sf_elab.proofs.Annotations.Existentials.{words_pushed}
 use Rattle.sf_elab.proofs.levels.+words.Goals as goal
 
 pub add_words-loop-c-init : goal.add_words-loop-c-init

@@ -1,7 +1,7 @@
 use Rattle.std.proofs.Common.{◌≡◌, drop, map, ◌++◌}
 use Rattle.sf_ast.specs.View.{conjunct_of, assertion_of}
-use Rattle.sf_elab.specs.Existentials.{words_in}
-use Rattle.sf_elab.proofs.Existentials.{words_in_rest}
+use Rattle.sf_elab.specs.Annotations.Existentials.{words_in}
+use Rattle.sf_elab.proofs.Annotations.Existentials.{words_in_rest}
 use Rattle.sf_elab.proofs.levels.+words.Given as goal
 
 -- those so far and those of what is left are all

@@ -1,5 +1,5 @@
 use Rattle.std.proofs.Common.{◌≡◌, drop, ◌++◌}
-use Rattle.sf_elab.specs.Existentials.{words_in_fields}
+use Rattle.sf_elab.specs.Annotations.Existentials.{words_in_fields}
 use Rattle.sf_elab.proofs.levels.add_fields.Given as goal
 
 -- those so far and those of what is left are all

@@ -1,9 +1,9 @@
 use Rattle.std.proofs.Common.{Bool, rules}
 use Rattle.sf_ast.specs.View.{procedure_of}
 use Rattle.sf_ast.specs.declared.word.Word.{Word}
-use Rattle.sf_elab.specs.Table.{has}
-use Rattle.sf_elab.specs.Texts.{text}
-use Rattle.sf_elab.proofs.Beginnings.{body_sees_all}
+use Rattle.sf_elab.specs.Names.Table.{has}
+use Rattle.sf_elab.specs.Names.Texts.{text}
+use Rattle.sf_elab.proofs.Bodies.Beginnings.{body_sees_all}
 use Rattle.sf_elab.proofs.procedures.beginning.Goals as goal
 
 pub returns-clause-own : goal.returns-clause-own

@@ -1,9 +1,9 @@
 use Rattle.std.proofs.Common.{◌≡◌, ◌∷◌, ◌+◌, ◌∙◌, Bool, drop, get_or, map, add-one, drop-cons}
 use Rattle.sf_ast.specs.declared.word.Word.{Word}
 use Rattle.sf_core.specs.Program.View.{command_of}
-use Rattle.sf_elab.specs.Table.{has}
-use Rattle.sf_elab.specs.Texts.{text}
-use Rattle.sf_elab.proofs.Beginnings.{values_more, first_more, primed_more, declared_more}
+use Rattle.sf_elab.specs.Names.Table.{has}
+use Rattle.sf_elab.specs.Names.Texts.{text}
+use Rattle.sf_elab.proofs.Bodies.Beginnings.{values_more, first_more, primed_more, declared_more}
 use Rattle.sf_elab.proofs.procedures.declare_values.Goals as goal
 
 pub loop-word-preserved : goal.loop-word-preserved

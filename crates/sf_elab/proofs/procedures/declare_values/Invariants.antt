@@ -1,9 +1,9 @@
 use Rattle.std.proofs.Common.{◌≡◌, [], ◌∷◌, drop, length, map, ◌++◌}
 use Rattle.std.specs.List.{filter}
 use Rattle.sf_core.specs.Program.View.{command_of}
-use Rattle.sf_elab.specs.Procedures.{body_values, first_assignments}
-use Rattle.sf_elab.specs.Table.{has}
-use Rattle.sf_elab.specs.Texts.{text}
+use Rattle.sf_elab.specs.Bodies.Procedures.{body_values, first_assignments}
+use Rattle.sf_elab.specs.Names.Table.{has}
+use Rattle.sf_elab.specs.Names.Texts.{text}
 use Rattle.sf_elab.proofs.procedures.declare_values.Given as goal
 
 -- those so far and those of what is left are all

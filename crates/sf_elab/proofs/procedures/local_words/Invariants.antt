@@ -1,6 +1,6 @@
 use Rattle.std.proofs.Common.{◌≡◌, drop, map, ◌++◌}
 use Rattle.sf_ast.specs.View.{names_of}
-use Rattle.sf_elab.specs.Procedures.{local_words}
+use Rattle.sf_elab.specs.Bodies.Procedures.{local_words}
 use Rattle.sf_elab.proofs.procedures.local_words.Given as goal
 
 -- those so far and those of what is left are all

@@ -1,4 +1,4 @@
-use Rattle.sf_elab.proofs.Among.{among_more}
+use Rattle.sf_elab.proofs.Names.Among.{among_more}
 use Rattle.sf_elab.proofs.procedures.names_among.Goals as goal
 
 pub loop-word-preserved : goal.loop-word-preserved

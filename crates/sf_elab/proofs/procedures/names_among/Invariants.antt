@@ -1,6 +1,6 @@
 use Rattle.std.proofs.Common.{◌≡◌, ℕ, List, drop, ◌||◌}
-use Rattle.sf_elab.specs.Procedures.{is_among}
-use Rattle.sf_elab.specs.Table.{has}
+use Rattle.sf_elab.specs.Bodies.Procedures.{is_among}
+use Rattle.sf_elab.specs.Names.Table.{has}
 use Rattle.sf_elab.proofs.procedures.names_among.Given as goal
 
 -- what is left leads to the same

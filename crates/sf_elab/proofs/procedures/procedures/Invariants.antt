@@ -1,9 +1,9 @@
 use Rattle.std.proofs.Common.{◌≡◌, drop, map, ◌++◌}
 use Rattle.sf_ast.specs.View.{item_of}
 use Rattle.sf_core.specs.Program.View as core
-use Rattle.sf_elab.specs.Commands.{all_faults}
-use Rattle.sf_elab.specs.Declarations.{procedures_in}
-use Rattle.sf_elab.specs.Procedures.{procedure_of, procedure_faults}
+use Rattle.sf_elab.specs.Bodies.Commands.{all_faults}
+use Rattle.sf_elab.specs.Names.Declarations.{procedures_in}
+use Rattle.sf_elab.specs.Bodies.Procedures.{procedure_of, procedure_faults}
 use Rattle.sf_elab.proofs.procedures.procedures.Given as goal
 
 -- those so far and those of what is left are all

@@ -1,8 +1,8 @@
 use Rattle.std.proofs.Common.{◌≡◌, drop, length, map, ◌++◌}
 use Rattle.sf_ast.specs.View.{item_of}
 use Rattle.sf_core.specs.Program.View.{resource_of}
-use Rattle.sf_elab.specs.Declarations.{resources_in}
-use Rattle.sf_elab.specs.Elaborated.{resources_from, invariants_faults}
+use Rattle.sf_elab.specs.Names.Declarations.{resources_in}
+use Rattle.sf_elab.specs.Files.Elaborated.{resources_from, invariants_faults}
 use Rattle.sf_elab.proofs.procedures.resources.Given as goal
 
 -- those so far and those of what is left are all

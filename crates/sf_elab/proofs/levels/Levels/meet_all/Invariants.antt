@@ -1,5 +1,5 @@
 use Rattle.std.proofs.Common.{◌≡◌, drop}
-use Rattle.sf_elab.specs.Existentials.{meet_all}
+use Rattle.sf_elab.specs.Annotations.Existentials.{meet_all}
 use Rattle.sf_elab.proofs.levels.Levels.meet_all.Given as goal
 
 -- what is left leads to the same

@@ -1,6 +1,6 @@
 use Rattle.std.proofs.Common.{◌≡◌, ◌∙◌, ap, sym, is_some, false}
-use Rattle.sf_elab.specs.Table.{find, declare}
-use Rattle.sf_elab.proofs.Tables.{named, declared_in}
+use Rattle.sf_elab.specs.Names.Table.{find, declare}
+use Rattle.sf_elab.proofs.Names.Tables.{named, declared_in}
 use Rattle.sf_elab.proofs.table.Table.declare.Goals as goal
 
 pub returns : goal.returns

@@ -1,6 +1,6 @@
 use Rattle.std.proofs.Common.{◌∙◌, ap}
-use Rattle.sf_elab.specs.Table.{find}
-use Rattle.sf_elab.proofs.Tables.{found_by}
+use Rattle.sf_elab.specs.Names.Table.{find}
+use Rattle.sf_elab.proofs.Names.Tables.{found_by}
 use Rattle.sf_elab.proofs.table.Table.find.Goals as goal
 
 pub returns : goal.returns

@@ -1,6 +1,6 @@
 use Rattle.std.proofs.Common.{◌∙◌, ap, sym, take}
 use Rattle.std.proofs.lemmas.List.{take-map}
-use Rattle.sf_elab.proofs.Tables.{named}
+use Rattle.sf_elab.proofs.Names.Tables.{named}
 use Rattle.sf_elab.proofs.table.Table.truncate.Goals as goal
 
 pub returns : goal.returns

@@ -1,0 +1,9 @@
+-- What is known of levels, their existentials, and what assertions elaborate to.
+-- One module for each subject.
+pub mod AssertionsWithin
+pub mod Conjuncts
+pub mod Depths
+pub mod Existentials
+pub mod ExistentialsMade
+pub mod Scopes
+pub mod ScopesNumbered

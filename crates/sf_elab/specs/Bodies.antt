@@ -1,0 +1,4 @@
+-- Bodies: commands as numbered ones, and the procedures and resources that they are in.
+-- One module for each.
+pub mod Commands
+pub mod Procedures
