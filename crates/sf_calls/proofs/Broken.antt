@@ -260,18 +260,17 @@ break_asked p formed f s (NotHeld place x) (u, inl (inr (d, m, c))) =
       u,
       refl,
     )
-break_asked p formed f s (NotHeld place x) (u, inr (d, m, (e, free))) =
-    (
-      frees d x,
-      of_uses p s (frees d x)
-          (Contains-append_right (map occurs (head_occurrences s.command)) _ (frees d x)
-          (contains-flat_map (call_uses p) (head_calls s.command) d (frees d x) m
-          (Contains-append_left _ _ (frees d x)
-          (contains-map (frees d) (variables_from 0 p.resources) x
-          (free_there p d.callee x formed free))))),
-      (free, u),
-      ap (λ (k : Place). NotHeld k x) (sym e),
-    )
+break_asked p formed f s (NotHeld place x) (u, inr (d, m, (e, free))) = (
+  frees d x,
+  of_uses p s (frees d x)
+      (Contains-append_right (map occurs (head_occurrences s.command)) _ (frees d x)
+      (contains-flat_map (call_uses p) (head_calls s.command) d (frees d x) m
+      (Contains-append_left _ _ (frees d x)
+      (contains-map (frees d) (variables_from 0 p.resources) x
+      (free_there p d.callee x formed free))))),
+  (free, u),
+  ap (λ (k : Place). NotHeld k x) (sym e),
+)
 break_asked p formed f s (Reentered place r) (h, inl (e, c)) = (
   enters (place_of s.command) r,
   of_enters p s (enters (place_of s.command) r)

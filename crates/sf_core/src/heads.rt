@@ -47,10 +47,7 @@ fn add_test(test: &Test<Expr>, found: &mut Vec<Occurrence>) -> Result<(), AllocE
 }
 
 /// Appends what occurs in a test of assertions.
-fn add_condition(
-    test: &Test<Operand<Expr>>,
-    found: &mut Vec<Occurrence>,
-) -> Result<(), AllocError>
+fn add_condition(test: &Test<Operand<Expr>>, found: &mut Vec<Occurrence>) -> Result<(), AllocError>
     ensures { Appends result found.old.items found.new.items
         (test_occurrences operand_occurrences test.now) }
 {

@@ -63,7 +63,7 @@ module _ {E : Type 0} where
   leaves-scopes none c rest l = absurd l
   leaves-scopes (also d ds) c rest (inl l) =
       subst₂ (λ x y. IsPermutation (conjunct_scopes d (conjuncts_scopes ds []))
-          (conjunct_scopes x [] ++ conjuncts_scopes y [])) l.0 l.1
+      (conjunct_scopes x [] ++ conjuncts_scopes y [])) l.0 l.1
       (subst (IsPermutation (conjunct_scopes d (conjuncts_scopes ds [])))
       (conjunct-rest d (conjuncts_scopes ds [])) (IsPermutation-refl _))
   leaves-scopes (also d ds) c rest (inr l) =
@@ -184,7 +184,7 @@ module _ (fields : List (List ℕ)) (V : Var → Type 0) where
     within-within known made c (tree p left right x) e w = subst (ConjunctWithin fields V made) e w
     within-within known made c (choose p t this that) e w =
         let parts : ConjunctWithin fields V made (choose p t e.0 e.1) =
-            subst (ConjunctWithin fields V made) e.2 w in (
+        subst (ConjunctWithin fields V made) e.2 w in (
           parts.0,
           inside-within known made e.0 this e.3 parts.1,
           inside-within known made e.1 that e.4 parts.2,

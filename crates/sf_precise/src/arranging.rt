@@ -113,12 +113,6 @@ fn earlier(first: Option<Place>, place: Place) -> Place
 {
     match first {
         None => place,
-        Some(other) => {
-            if place.is_before(other) {
-                place
-            } else {
-                other
-            }
-        }
+        Some(other) => { if place.is_before(other) { place } else { other } }
     }
 }
