@@ -12,7 +12,7 @@ use Rattle.sf_cli.specs.Refusals.{refusal_text}
 use Rattle.sf_search.specs.Judge.{Verdict, proof, fails, Judge}
 use Rattle.sf_core.specs.Program.Named.{name_of}
 use Rattle.sf_proof.specs.ProofText.{proof_text}
-use Rattle.sf_sound.specs.Sound.{IsSound}
+use Rattle.sf_safe.specs.Law.{IsSound}
 use Rattle.sf_cli.specs.declared.refusal.Refusal.{Refusal}
 use Rattle.sf_cli.specs.declared.refusal.Refusal.TheVariants.{At}
 use Rattle.sf_cli.specs.declared.refusal.RefusalKind.TheVariants.{NotBuilt}

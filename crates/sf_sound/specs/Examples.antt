@@ -13,7 +13,7 @@ use Rattle.sf_core.specs.Program.Syntax.{level, none, also, points, mutate, done
 use Rattle.sf_sym.specs.declared.tag.Tag.{Tag}
 use Rattle.sf_sym.specs.declared.tag.Tag.TheVariants as t
 use Rattle.sf_rules.specs.Proves.{Proves}
-use Rattle.sf_sound.specs.Sound.{IsSound}
+use Rattle.sf_safe.specs.Law.{IsSound}
 
 -- the place of all of it
 abbrev pub place : Place
