@@ -3,3 +3,8 @@ pub mod Proves
 pub mod Built
 pub mod Internal
 pub mod Lemmas
+pub mod Setting
+pub mod Words
+pub mod Rows
+pub mod Laws
+pub mod Examples

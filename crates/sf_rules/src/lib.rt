@@ -5,15 +5,20 @@
 //! - `todo`: the items of a goal.
 //! - `start`: the first goal of a procedure.
 //! - `rules`: the rows of the table.
+//! - `laws`: these rows are rows of the whole table.
+//! - `examples`: examples of rows of the whole table.
 #![tactic(auto)]
 
 mod cells;
+pub mod examples;
+mod laws;
 mod rules;
 mod start;
 mod terms;
 mod todo;
 
 pub use cells::{are_fitting, are_known, as_cell, known_term};
+pub use laws::built_rows_are_rows;
 pub use rules::{Subgoals, apply, as_mutation, open_goals};
 pub use start::start_goal;
 pub use terms::term_of;

@@ -4,6 +4,8 @@ pub mod Pending
 pub mod Goal
 pub mod Tests
 pub mod Cells
+pub mod Mapped
+pub mod Equalities
 pub mod Holds
 pub mod Laws
 pub mod Lemmas

@@ -1,0 +1,10 @@
+pub mod Knowledge
+pub mod Commands
+pub mod Branches
+pub mod Loops
+pub mod Calls
+pub mod Regions
+pub mod Ends
+pub mod Produce
+pub mod Subtract
+pub mod Whole

@@ -1,0 +1,45 @@
+-- The rows of critical regions: enter, exit.
+-- O'Hearn, "Resources, Concurrency and Local Reasoning" (2007): the invariant is lent for the region.
+use Rattle.std.specs.Prelude.{ℕ, suc, Option, None, List, [], ◌∷◌, ◌++◌}
+use Rattle.std.specs.List.{slice_get}
+use Rattle.std.specs.Option.{option_and_then}
+use Rattle.sf_base.specs.declared.ids.ResId.{ResId}
+use Rattle.sf_base.specs.declared.ids.Var.{Var}
+use Rattle.sf_base.specs.declared.ids.Var.TheVariants.{Shared}
+use Rattle.sf_base.specs.declared.place.Place.{Place}
+use Rattle.sf_core.specs.declared.assertion.Test.{Test}
+use Rattle.sf_core.specs.declared.command.Expr.{Expr}
+use Rattle.sf_core.specs.Program.Syntax.{with, Block, Resource}
+use Rattle.sf_sym.specs.Goal.{Item, run, gave, exit, Goal}
+use Rattle.sf_sym.specs.State.{State, term}
+use Rattle.sf_rules.specs.Setting.{Setting}
+use Rattle.sf_rules.specs.Table.{to_run}
+use Rattle.sf_rules.specs.Words.{one_goal, to_add, to_add_test, to_take, with_fresh}
+
+-- the variables of a resource, which has these names, from that number on
+abbrev pub variables_from : ResId → ℕ → List (List ℕ) → List Var
+variables_from r i [] = []
+variables_from r i (name ∷ names) = Shared r i ∷ variables_from r (suc i) names
+
+-- enter: the resource's variables are there, with unknown values; its invariant and the condition are assumed
+abbrev pub entered : Setting → State → Place → ResId → Test Expr → Block → List Item → Resource
+    → Option (List Goal)
+entered d s p r t body rest of =
+    let now = with_fresh (variables_from r 0 of.variables) s in
+    one_goal now
+    (to_add p (term now.vars) (d.ordered of.invariant)
+    ++ (to_add_test p (term now.vars) t ++ (to_run body ++ (exit p r ∷ rest))))
+
+abbrev pub enter_row : Setting → State → List Item → Option (List Goal)
+enter_row d s (run (with p r t body) ∷ rest) =
+    option_and_then (entered d s p r t body rest) (slice_get d.program.resources r.0)
+enter_row d s _ = None
+
+-- exit: the invariant is due, and then the resource's variables are gone
+abbrev pub exit_row : Setting → State → List Item → Option (List Goal)
+exit_row d s (exit p r ∷ rest) =
+    option_and_then (λ of. one_goal s
+    (to_take p (term s.vars) (d.ordered of.invariant)
+    ++ (gave p [] (variables_from r 0 of.variables) ∷ rest)))
+    (slice_get d.program.resources r.0)
+exit_row d s _ = None
