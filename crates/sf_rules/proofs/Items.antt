@@ -7,13 +7,13 @@ use Rattle.sf_core.specs.Program.View.{assertion_of, block_of, command_of, conju
 use Rattle.sf_core.specs.declared.assertion.Conjunct.{Conjunct as CodeConjunct}
 use Rattle.sf_core.specs.Program.Syntax.{Command, Assertion, Block}
 use Rattle.sf_sym.specs.declared.term.Term.{Term}
-use Rattle.sf_rules.specs.Table.{end_row, add_row, cell_row, pending_assertion, unless_none, to_run, to_add, to_take, return_row}
+use Rattle.sf_rules.specs.Table.{end_row, add_row, cell_row, pending_assertion, to_add, to_take, return_row}
+use Rattle.sf_sym.specs.Goal.{unless_none, to_run, Goal, Item, items_of, run, add, take, return, end, goal_of}
 use Rattle.sf_base.specs.declared.ids.Var.{Var}
 use Rattle.sf_base.specs.declared.place.Place.{Place}
 use Rattle.sf_sym.specs.State.{State}
 use Rattle.sf_sym.specs.declared.goal.Item.{Item as CodeItem}
 use Rattle.sf_sym.specs.declared.goal.Item.TheVariants.{Run, Add, Take, Gave, Head, Again, Exit, Return, End}
-use Rattle.sf_sym.specs.Goal.{Goal, Item, items_of, run, add, take, return, end, goal_of}
 use Rattle.std.specs.Borrow.{Bor}
 use Rattle.sf_core.specs.declared.assertion.Assertion.{Assertion as CodeAssertion}
 use Rattle.sf_sym.specs.Pending.{Pending, Given}

@@ -16,7 +16,8 @@ use Rattle.sf_core.specs.Program.Syntax.{Conjunct, holds, points, segment, tree,
 use Rattle.sf_sym.specs.declared.term.Term.{Term}
 use Rattle.sf_sym.specs.Cells.{after_hand_over, cell_at, state_after_write, with_cell}
 use Rattle.sf_sym.specs.Fields.{field_term, put_term}
-use Rattle.sf_sym.specs.Goal.{Item, run, add, take, gave, head, again, exit, return, end, Goal}
+use Rattle.sf_sym.specs.Goal.{Item, run, add, take, gave, head, again, exit, return, end, Goal, unless_none}
+use Rattle.sf_sym.specs.Pending.{conjuncts_of}
 use Rattle.sf_sym.specs.State.{State, term}
 use Rattle.sf_rules.specs.Rows.Ends as ends
 use Rattle.sf_rules.specs.Rows.Whole as whole
@@ -26,11 +27,12 @@ use Rattle.sf_sym.specs.declared.tag.Tag.TheVariants as t
 use Rattle.sf_rules.specs.Rows.Produce as produce
 use Rattle.sf_rules.specs.Rows.Commands as commands
 use Rattle.sf_rules.specs.Words as words
+use Rattle.sf_sym.specs.Goal as goals
 use Rattle.sf_rules.specs.Table as built
 use Rattle.sf_sym.specs.Mapped as mapped
 use Rattle.sf_rules.specs.Laws.{BuiltRowsAreRows}
 use Rattle.sf_rules.specs.Rows.Subtract as subtract
-use Rattle.sf_rules.specs.Table.{add_first, add_row, cell_first, cell_row, end_row, fits, has_numbers, has_term, mutate_one, mutate_row, new_fields, one_goal, return_row, row_of, unless_none}
+use Rattle.sf_rules.specs.Table.{add_first, add_row, cell_first, cell_row, end_row, fits, has_numbers, has_term, mutate_one, mutate_row, new_fields, one_goal, return_row, row_of}
 
 -- fields that all have terms are met without a new symbol
 fields-met : (s : State) (bindings : List (Option Term)) (fs : List (FieldId × Operand Term))
@@ -162,7 +164,7 @@ take-same : (p : Place) (vars : List (Var × Term)) (a : Assertion)
     → built.to_take p vars a ≡ words.to_take p (term vars) a
 take-same p vars a =
     ap (λ cs. unless_none cs (take p (record { conjuncts = cs; bindings = replicate (length a.names) None }) a.names))
-    (conjuncts-same (term vars) (built.conjuncts_of a.level))
+    (conjuncts-same (term vars) (conjuncts_of a.level))
 
 -- at the items in front
 return-whole : (s : State) (todo : List Item) (left : List Goal) → return_row s todo ≡ Some left
@@ -193,7 +195,7 @@ end-whole s (again p invariant ∷ rest) left e = absurd (cc)
 end-whole s (exit p r ∷ rest) left e = absurd (cc)
 
 written : (rest : List Item) (left : List Goal) (o : Option State) → option_map (one_goal rest) o ≡ Some left
-    → option_and_then (λ after. words.one_goal after rest) o ≡ Some left
+    → option_and_then (λ after. goals.one_goal after rest) o ≡ Some left
 written rest left None e = absurd (cc)
 written rest left (Some after) e = e
 

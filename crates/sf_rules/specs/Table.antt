@@ -25,8 +25,8 @@ use Rattle.sf_sym.specs.declared.tag.Tag.{Tag}
 use Rattle.sf_sym.specs.declared.tag.Tag.TheVariants as t
 use Rattle.sf_sym.specs.declared.term.Term.{Term}
 use Rattle.sf_sym.specs.declared.term.Term.TheVariants.{Nil, Sym}
-use Rattle.sf_sym.specs.Goal.{Item, run, add, take, return, end, Goal}
-use Rattle.sf_sym.specs.Pending.{Pending}
+use Rattle.sf_sym.specs.Goal.{Item, run, add, take, return, end, Goal, unless_none, to_run}
+use Rattle.sf_sym.specs.Pending.{Pending, conjuncts_of}
 use Rattle.sf_sym.specs.Tests.{same_term, is_absurd}
 
 -- an operand with its term
@@ -57,10 +57,6 @@ abbrev mutual
   conjunct_with to (choose p x this that) =
       choose p (test_with to x) (level_with to this) (level_with to that)
 
--- the conjuncts of a level
-abbrev pub conjuncts_of : {E : Type 0} → Level E → Conjuncts E
-conjuncts_of (level made cs) = cs
-
 -- an assertion's conjuncts, still to be assumed or shown, none of its existentials having a term
 abbrev pub pending_assertion : List (Var × Term) → Assertion → Pending
 pending_assertion vars a =
@@ -68,11 +64,6 @@ pending_assertion vars a =
       conjuncts = conjuncts_with (term vars) (conjuncts_of a.level);
       bindings = replicate (length a.names) None;
     }
-
--- the item is there only where there are conjuncts
-abbrev pub unless_none : Conjuncts Term → Item → List Item
-unless_none none item = []
-unless_none (also c cs) item = item ∷ []
 
 -- to assume an assertion
 abbrev pub to_add : Place → List (Var × Term) → Assertion → List Item
@@ -84,11 +75,6 @@ abbrev pub to_take : Place → List (Var × Term) → Assertion → List Item
 to_take place vars a =
     unless_none (conjuncts_with (term vars) (conjuncts_of a.level))
     (take place (pending_assertion vars a) a.names)
-
--- the commands of a block
-abbrev pub to_run : Block → List Item
-to_run done = []
-to_run (then c cs) = run c ∷ to_run cs
 
 -- a fresh symbol for each of that many variables, in order
 abbrev pub symbols : (from count : ℕ) → List (Var × Term)

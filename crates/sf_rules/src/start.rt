@@ -4,9 +4,9 @@ ghost use Rattle.std.specs.Prelude.{◌≡◌, ◌++◌, ◌-◌, ◌≤◌, ◌
 ghost use Rattle.sf_core.specs.Program.Formed.{ProcedureWithin};
 ghost use Rattle.sf_core.specs.Program.View.{assertion_of, block_of, procedure_of};
 ghost use Rattle.sf_core.specs.Program.ProgramView.{program_of};
-ghost use Rattle.sf_sym.specs.Goal.{goal_of, return};
+ghost use Rattle.sf_sym.specs.Goal.{goal_of, return, to_run};
 ghost use Rattle.sf_rules.specs.Internal.Subgoals.{todo_of};
-ghost use Rattle.sf_rules.specs.Table.{first_goal, links_of, nils, symbols, to_add, to_run};
+ghost use Rattle.sf_rules.specs.Table.{first_goal, links_of, nils, symbols, to_add};
 
 use crate::terms::pending_assertion;
 use crate::todo::with_add;

@@ -1,10 +1,9 @@
 //! The items of a goal, with the next one last. A run without commands is nothing to do.
 
 ghost use Rattle.std.specs.Prelude.{◌≡◌, ◌++◌, [], false, IfOk, IfSome, IfNone, List};
-ghost use Rattle.sf_sym.specs.Goal.{Item as Thing, add, items_of, take};
+ghost use Rattle.sf_sym.specs.Goal.{Item as Thing, add, items_of, take, unless_none};
 ghost use Rattle.sf_sym.specs.Pending.{pending_of};
 ghost use Rattle.sf_rules.specs.Internal.Subgoals.{is_nothing, todo_of};
-ghost use Rattle.sf_rules.specs.Table.{unless_none};
 
 use sf_base::{Name, Place};
 use sf_sym::{Item, Pending};

@@ -19,7 +19,7 @@ use Rattle.sf_sym.specs.State.{State, term}
 use Rattle.sf_sym.specs.declared.tag.Tag.{Tag}
 use Rattle.sf_sym.specs.declared.tag.Tag.TheVariants as t
 use Rattle.sf_sym.specs.declared.term.Term.{Term}
-use Rattle.sf_sym.specs.Goal.{Item, run, add, take, gave, head, again, exit, return, end, Goal}
+use Rattle.sf_sym.specs.Goal.{Item, run, add, take, gave, head, again, exit, return, end, Goal, unless_none, to_run}
 use Rattle.sf_sym.specs.Tests.{is_absurd}
 use Rattle.sf_search.specs.Laws.{BuiltHasRules}
 use Rattle.sf_search.specs.declared.strategy.Stuck.{Stuck}
@@ -29,7 +29,8 @@ use Rattle.sf_search.proofs.Assumable.{points_known}
 use Rattle.sf_search.proofs.Leaves.{made}
 use Rattle.sf_rules.specs.Built.{are_cells, has_cells, is_plain, is_mutation, are_mutations, is_built_procedure}
 use Rattle.sf_rules.specs.Internal.Cells.{all_known}
-use Rattle.sf_rules.specs.Table.{row, row_of, has_numbers, state_after_assumption, state_after_hand_over, known_term, operand_with, conjuncts_with, conjuncts_of, first_goal, unless_none, to_add, to_run, pending_assertion, one_goal, is_empty, fits}
+use Rattle.sf_rules.specs.Table.{row, row_of, has_numbers, state_after_assumption, state_after_hand_over, known_term, operand_with, conjuncts_with, first_goal, to_add, pending_assertion, one_goal, is_empty, fits}
+use Rattle.sf_sym.specs.Pending.{conjuncts_of}
 use Rattle.sf_sym.specs.Cells.{state_after_write}
 
 -- a cell whose root and fields have terms

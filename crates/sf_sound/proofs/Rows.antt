@@ -25,8 +25,8 @@ use Rattle.sf_sym.specs.declared.tag.Tag.{Tag}
 use Rattle.sf_sym.specs.declared.tag.Tag.TheVariants as t
 use Rattle.sf_sym.specs.declared.term.Term.{Term}
 use Rattle.sf_sym.specs.declared.term.Term.TheVariants.{Nil, Int, Sym}
-use Rattle.sf_sym.specs.Goal.{Item, run, add, take, return, end, Goal}
-use Rattle.sf_sym.specs.Pending.{Pending}
+use Rattle.sf_sym.specs.Goal.{Item, run, add, take, return, end, Goal, unless_none}
+use Rattle.sf_sym.specs.Pending.{Pending, conjuncts_of}
 use Rattle.sf_sym.specs.Holds.{term_value, Agrees, Differ, AtomHolds, AtomsHold, IsBound, PendingHolds, AddsHold, HoldsAt}
 use Rattle.sf_sym.specs.Tests.{is_absurd}
 use Rattle.sf_sym.specs.Lemmas.{atoms-append, put-order}
@@ -34,7 +34,7 @@ use Rattle.sf_sym.specs.Laws.{HeldStatesAreNotAbsurd}
 use Rattle.sf_sym.proofs.States.{held_states_are_not_absurd}
 use Rattle.sf_sound.specs.Laws.{SomeOf, Covers, value_at, IsNoAdd, AddsComeFirst, HasOrder, IsInOrder, RowsKeepMeaning, AbsurdKeepsMeaning, AddKeepsMeaning, heap_with_cell, Mutates, MutateFollowsEvent, WantsHold, Owes, ReturnOwesPostcondition, CellKeepsMeaning, HandsOver, CellHandsOver, EndLeavesNothing, RowsKeepOrder}
 use Rattle.sf_sym.specs.Fields.{AreOrdered, put_term}
-use Rattle.sf_rules.specs.Table.{pending_assertion, unless_none, to_take, conjuncts_of, conjuncts_with, has_numbers, new_fields, state_after_assumption, is_empty, fits, state_after_hand_over, one_goal, add_first, add_row, mutate_one, mutate_row, return_row, cell_first, cell_row, end_row, row_of, row}
+use Rattle.sf_rules.specs.Table.{pending_assertion, to_take, conjuncts_with, has_numbers, new_fields, state_after_assumption, is_empty, fits, state_after_hand_over, one_goal, add_first, add_row, mutate_one, mutate_row, return_row, cell_first, cell_row, end_row, row_of, row}
 use Rattle.sf_sym.specs.Cells.{apart_from_nil, with_cell, cell_at, with_fields, without}
 use Rattle.sf_sound.proofs.CellAtoms.{find-cell, with-order, without-order, found-order, order-append}
 use Rattle.sf_sound.proofs.CellFields.{put-written, new-fields, new-order, fits-fields}

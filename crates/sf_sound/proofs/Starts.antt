@@ -31,12 +31,13 @@ use Rattle.sf_sym.specs.declared.tag.Tag.{Tag}
 use Rattle.sf_sym.specs.declared.term.Term.{Term}
 use Rattle.sf_sym.specs.declared.term.Term.TheVariants.{Nil, Sym}
 use Rattle.std.specs.List.{AllByRecursion}
-use Rattle.sf_sym.specs.Goal.{Item, return}
+use Rattle.sf_sym.specs.Goal.{Item, return, to_run}
 use Rattle.sf_sym.specs.Holds.{term_value, Agrees, IsBound, AddsHold, HoldsAt}
 use Rattle.sf_rules.specs.Proves.{Proof, ProvesFrom, Proves}
 use Rattle.sf_sound.specs.Laws.{FirstGoalsHold, is_listed, Covers, value_at, IsNoAdd, AddsComeFirst, IsInOrder}
 use Rattle.sf_base.specs.Variables.{same_var}
-use Rattle.sf_rules.specs.Table.{conjuncts_with, conjuncts_of, pending_assertion, to_add, to_run, symbols, nils, first_goal}
+use Rattle.sf_rules.specs.Table.{conjuncts_with, pending_assertion, to_add, symbols, nils, first_goal}
+use Rattle.sf_sym.specs.Pending.{conjuncts_of}
 use Rattle.sf_sym.specs.State.{term}
 use Rattle.sf_sound.proofs.Owns.{IsToDo, Owns, settle}
 use Rattle.sf_sound.proofs.Reached.{IsOwned, no-resource}

@@ -1,4 +1,4 @@
--- The cells of a state: how one is found by its number, written, handed over, and how one more comes.
+-- The atoms of a state: how one is found by its number, written, handed over, and how one more comes.
 -- Berdine, Calcagno, O'Hearn, "Symbolic Execution with Separation Logic" (2005), section 4.
 use Rattle.std.specs.Prelude.{ℕ, ◌+◌, ◌==◌, cond, Option, Some, None, List, [], ◌∷◌, ◌++◌}
 use Rattle.std.specs.Option.{option_map}
@@ -29,6 +29,11 @@ with_fields [] a root fields = []
 with_fields (x ∷ xs) a root fields =
     cond (x.number == a) (record { number = a; atom = Points root fields } ∷ xs)
     (x ∷ with_fields xs a root fields)
+
+-- the atom of that number
+abbrev pub atom_at : List Numbered → ℕ → Option Atom
+atom_at [] a = None
+atom_at (x ∷ xs) a = cond (x.number == a) (Some x.atom) (atom_at xs a)
 
 -- the atoms without that of the number
 abbrev pub without : List Numbered → ℕ → List Numbered
@@ -61,4 +66,18 @@ after_hand_over s root fields a = record s {
   atoms = without s.atoms a;
   taken = s.taken
       ++ (record { number = a; atom = Points root fields } ∷ []);
+}
+
+-- that atom goes to the taken ones
+abbrev pub handed : State → (a : ℕ) → Atom → State
+handed s a x = record s {
+  atoms = without s.atoms a;
+  taken = s.taken ++ (record { number = a; atom = x } ∷ []);
+}
+
+-- the state with one more segment or tree, which has the next number
+abbrev pub with_atom : Atom → State → State
+with_atom x s = record s {
+  atoms = s.atoms ++ (record { number = s.next_atom; atom = x } ∷ []);
+  next_atom = s.next_atom + 1;
 }

@@ -1,8 +1,7 @@
 -- What it means to assume that two terms are the same, or that they differ: in a state, and in a whole goal.
 -- Substitution of equals: Berdine, Calcagno, O'Hearn, "Symbolic Execution with Separation Logic" (2005), section 4.
-use Rattle.std.specs.Prelude.{ℕ, ◌==◌, cond, nat_lt, map, Option, Some, None, List, [], ◌∷◌, ◌++◌}
+use Rattle.std.specs.Prelude.{ℕ, ◌==◌, cond, nat_lt, map, Option, Some, None, [], ◌∷◌, ◌++◌}
 use Rattle.std.specs.Option.{option_map}
-use Rattle.sf_base.specs.declared.ids.FieldId.{FieldId}
 use Rattle.sf_sym.specs.declared.atom.Atom.{Atom}
 use Rattle.sf_sym.specs.declared.atom.Atom.TheVariants.{Points, Ls, Tree}
 use Rattle.sf_sym.specs.declared.atom.Numbered.{Numbered}

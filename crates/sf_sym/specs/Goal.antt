@@ -1,13 +1,13 @@
 -- Goals as the definitions see them: lists in place of the code's vectors, and one item for each command.
 -- Berdine, Calcagno, O'Hearn, "Symbolic Execution with Separation Logic" (2005).
-use Rattle.std.specs.Prelude.{ℕ, List, [], ◌∷◌, map, reverse}
+use Rattle.std.specs.Prelude.{ℕ, List, [], ◌∷◌, Option, Some, map, reverse}
 use Rattle.std.specs.List.{flat_map}
 use Rattle.sf_base.specs.declared.ids.ResId.{ResId}
 use Rattle.sf_base.specs.declared.ids.Var.{Var}
 use Rattle.sf_base.specs.declared.place.Place.{Place}
 use Rattle.sf_core.specs.declared.assertion.Test.{Test}
 use Rattle.sf_core.specs.declared.command.Expr.{Expr}
-use Rattle.sf_core.specs.Program.Syntax.{Command, Block, Assertion}
+use Rattle.sf_core.specs.Program.Syntax.{Command, Block, done, then, Conjuncts, none, also, Assertion}
 use Rattle.sf_core.specs.Program.View.{command_of, block_of, assertion_of}
 use Rattle.sf_sym.specs.declared.goal.Goal.{Goal as CodeGoal}
 use Rattle.sf_sym.specs.declared.goal.Item.{Item as CodeItem}
@@ -35,6 +35,32 @@ pub data Item : Type 0 where
 pub record Goal : Type 0 where
   pub state : State
   pub todo : List Item
+
+-- the goal with that state
+abbrev pub at_state : Goal → State → Goal
+at_state g s = record g { state = s }
+
+-- the one goal that is left, with that state and those items
+abbrev pub one_goal : State → List Item → Option (List Goal)
+one_goal s todo = Some (record { state = s; todo = todo } ∷ [])
+
+-- the item is there only where there are conjuncts
+abbrev pub unless_none : Conjuncts Term → Item → List Item
+unless_none none item = []
+unless_none (also c cs) item = item ∷ []
+
+-- to assume conjuncts, if there are any
+abbrev pub adding : Place → Pending → List Item
+adding p given = unless_none given.conjuncts (add p given)
+
+-- to show them and hand over their part of the heap
+abbrev pub taking : Place → Pending → (names : List (List ℕ)) → List Item
+taking p want names = unless_none want.conjuncts (take p want names)
+
+-- the commands of a block
+abbrev pub to_run : Block → List Item
+to_run done = []
+to_run (then c cs) = run c ∷ to_run cs
 
 -- an item of the code: commands are an item each
 abbrev pub items_of : CodeItem → List Item

@@ -11,3 +11,5 @@ pub mod Laws
 pub mod Lemmas
 pub mod Examples
 pub mod Internal
+pub mod Variables
+pub mod Decided

@@ -1,6 +1,6 @@
 -- State: what is known of the variables and of the heap at one point of a procedure.
 -- Berdine, Calcagno, O'Hearn, "Symbolic Execution with Separation Logic" (2005), section 3.
-use Rattle.std.specs.Prelude.{ℕ, cond, List, [], ◌∷◌}
+use Rattle.std.specs.Prelude.{ℕ, ◌+◌, cond, List, [], ◌∷◌}
 use Rattle.sf_base.specs.declared.ids.Var.{Var}
 use Rattle.sf_base.specs.Variables.{same_var}
 use Rattle.sf_core.specs.declared.command.Expr.{Expr}
@@ -43,6 +43,10 @@ state_of links vars apart atoms taken next_sym next_atom = record {
 -- the state that knows these terms of the variables, and nothing of the heap
 abbrev pub first_state : Links → List (Var × Term) → (next_sym : ℕ) → State
 first_state links vars next_sym = state_of links vars [] [] [] next_sym 1
+
+-- the state with so many symbols more
+abbrev pub with_symbols : ℕ → State → State
+with_symbols n s = record s { next_sym = s.next_sym + n }
 
 -- the term of a variable; each variable in reach has one
 abbrev pub term_at : List (Var × Term) → Var → Term

@@ -2,22 +2,12 @@
 -- Berdine, Calcagno, O'Hearn, "Smallfoot" (2005): a choice waits until its test is decided.
 use Rattle.std.specs.Prelude.{Bool, true, false, cond, Option, Some, None, List, ◌∷◌, ◌++◌}
 use Rattle.std.specs.Option.{option_and_then}
-use Rattle.sf_core.specs.declared.assertion.Test.{Test}
-use Rattle.sf_core.specs.Program.Syntax.{choose, Level, Conjuncts, also, if}
+use Rattle.sf_core.specs.Program.Syntax.{choose, Conjuncts, also, if}
 use Rattle.sf_sym.specs.declared.term.Term.{Term}
-use Rattle.sf_sym.specs.Goal.{Item, run, add, take, Goal}
-use Rattle.sf_sym.specs.Pending.{Pending}
+use Rattle.sf_sym.specs.Goal.{Item, run, add, take, Goal, adding, one_goal, taking, to_run}
+use Rattle.sf_sym.specs.Pending.{Pending, with_branch}
 use Rattle.sf_sym.specs.State.{State, term}
-use Rattle.sf_rules.specs.Table.{conjuncts_of, to_run}
-use Rattle.sf_rules.specs.Words.{adding, before, command_test, is_false, is_true, one_goal, taking, test_of_terms}
-
--- the test is decided so: true, or false
-abbrev pub is_decided : (so : Bool) → State → Test Term → Bool
-is_decided so s t = cond so (is_true s t) (is_false s t)
-
--- the conjuncts with a branch in place of the choice before them
-abbrev pub with_branch : Pending → Level Term → Conjuncts Term → Pending
-with_branch p branch rest = record { conjuncts = before (conjuncts_of branch) rest; bindings = p.bindings }
+use Rattle.sf_sym.specs.Decided.{command_test, is_decided, test_of_terms}
 
 -- the first conjunct is a choice whose test is decided so: the conjuncts with its branch for that
 abbrev pub chosen : (so : Bool) → State → Pending → Conjuncts Term → Option Pending

@@ -1,22 +1,23 @@
 -- The rows of calls: call, fork, give.
 -- Berdine, Calcagno, O'Hearn, "Smallfoot" (2005): the precondition is handed over, and the postcondition comes back;
 -- O'Hearn, "Resources, Concurrency and Local Reasoning" (2007), for parallel calls.
-use Rattle.std.specs.Prelude.{ℕ, zero, suc, Option, None, List, [], ◌∷◌, ◌++◌, length, map}
+use Rattle.std.specs.Prelude.{ℕ, zero, suc, ◌+◌, Option, None, List, [], ◌∷◌, ◌++◌, length, map}
 use Rattle.std.specs.List.{slice_get}
 use Rattle.std.specs.Option.{option_and_then}
 use Rattle.sf_base.specs.declared.ids.Var.{Var}
 use Rattle.sf_base.specs.declared.ids.Var.TheVariants.{Own, Shared}
+use Rattle.sf_base.specs.declared.place.Place.{Place}
 use Rattle.sf_core.specs.declared.command.Expr.{Expr}
 use Rattle.sf_core.specs.declared.command.Expr.TheVariants.{Var as Variable, Nil as ENil, Int as EInt}
 use Rattle.sf_core.specs.declared.command.Occurrence.{Occurrence}
 use Rattle.sf_core.specs.Program.Syntax.{Call, call, fork, Procedure}
 use Rattle.sf_sym.specs.declared.term.Term.{Term}
 use Rattle.sf_sym.specs.declared.term.Term.TheVariants.{Nil, Int}
-use Rattle.sf_sym.specs.Goal.{Item, run, gave, Goal}
-use Rattle.sf_sym.specs.State.{State, term, term_at}
-use Rattle.sf_rules.specs.Rows.Knowledge.{with_symbols}
+use Rattle.sf_sym.specs.Goal.{Item, run, gave, Goal, one_goal}
+use Rattle.sf_sym.specs.State.{State, term, term_at, with_symbols}
 use Rattle.sf_rules.specs.Setting.{Setting}
-use Rattle.sf_rules.specs.Words.{fresh_for, one_goal, remove_vars, set_vars, to_add, to_take}
+use Rattle.sf_rules.specs.Words.{to_add, to_take}
+use Rattle.sf_sym.specs.Variables.{fresh_for, remove_vars, set_vars}
 
 -- the term of the callee's own variable of that number: that of the caller's variable for a reference, and those of
 -- the values after them
@@ -51,31 +52,33 @@ abbrev pub term_after : State → List (Var × Term) → Call → Expr → Term
 term_after s set c = term_by (callee_term (term_at (set_vars set s.vars)) c (map (term s.vars) c.values))
 
 -- call: the precondition is due, then what the call may change is unknown, and the postcondition is assumed
-abbrev pub called : Setting → State → Call → List Item → Procedure → Option (List Goal)
-called d s c rest g =
+abbrev pub called : Setting → State → Place → Call → List Item → Procedure → Option (List Goal)
+called d s p c rest g =
     let set = fresh_for s.next_sym (changed d c) in
     one_goal (with_symbols (length set) s)
     (to_take c.place (term_before s c) (d.ordered g.pre)
-    ++ (gave c.place set [] ∷ (to_add c.place (term_after s set c) (d.ordered g.post) ++ rest)))
+    ++ (gave p set [] ∷ (to_add p (term_after s set c) (d.ordered g.post) ++ rest)))
 
 abbrev pub call_row : Setting → State → List Item → Option (List Goal)
 call_row d s (run (call p c) ∷ rest) =
-    option_and_then (called d s c rest) (slice_get d.program.procedures c.callee.0)
+    option_and_then (called d s p c rest) (slice_get d.program.procedures c.callee.0)
 call_row d s _ = None
 
--- fork: both preconditions are due, then what the calls may change is unknown, and both postconditions are assumed
-abbrev pub forked : Setting → State → (one two : Call) → List Item → (g h : Procedure) → Option (List Goal)
-forked d s c e rest g h =
-    let set = fresh_for s.next_sym (changed d c ++ changed d e) in
-    one_goal (with_symbols (length set) s)
+-- fork: both preconditions are due, then what the calls may change is unknown, and both postconditions are assumed,
+-- each with what its own call may have changed
+abbrev pub forked : Setting → State → Place → (one two : Call) → List Item → (g h : Procedure) → Option (List Goal)
+forked d s p c e rest g h =
+    let first = fresh_for s.next_sym (changed d c) in
+    let second = fresh_for (s.next_sym + length first) (changed d e) in
+    one_goal (with_symbols (length (first ++ second)) s)
     (to_take c.place (term_before s c) (d.ordered g.pre)
     ++ (to_take e.place (term_before s e) (d.ordered h.pre)
-    ++ (gave c.place set [] ∷ (to_add c.place (term_after s set c) (d.ordered g.post)
-    ++ (to_add e.place (term_after s set e) (d.ordered h.post) ++ rest)))))
+    ++ (gave p (first ++ second) [] ∷ (to_add p (term_after s first c) (d.ordered g.post)
+    ++ (to_add p (term_after s second e) (d.ordered h.post) ++ rest)))))
 
 abbrev pub fork_row : Setting → State → List Item → Option (List Goal)
 fork_row d s (run (fork p c e) ∷ rest) =
-    option_and_then (λ g. option_and_then (forked d s c e rest g) (slice_get d.program.procedures e.callee.0))
+    option_and_then (λ g. option_and_then (forked d s p c e rest g) (slice_get d.program.procedures e.callee.0))
     (slice_get d.program.procedures c.callee.0)
 fork_row d s _ = None
 

@@ -9,10 +9,9 @@ use Rattle.sf_sym.specs.declared.term.Term.{Term}
 use Rattle.sf_sym.specs.declared.term.Term.TheVariants.{Sym}
 use Rattle.sf_sym.specs.Cells.{cell_at, state_after_write, with_cell, without}
 use Rattle.sf_sym.specs.Fields.{field_term}
-use Rattle.sf_sym.specs.Goal.{Item, run, Goal}
-use Rattle.sf_sym.specs.State.{State, term}
-use Rattle.sf_rules.specs.Rows.Knowledge.{with_symbols}
-use Rattle.sf_rules.specs.Words.{one_goal, set_var}
+use Rattle.sf_sym.specs.Goal.{Item, run, Goal, one_goal}
+use Rattle.sf_sym.specs.State.{State, term, with_symbols}
+use Rattle.sf_sym.specs.Variables.{set_var}
 
 -- the state in which the variable has that term
 abbrev pub with_var : Var → Term → State → State

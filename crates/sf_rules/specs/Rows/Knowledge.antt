@@ -1,29 +1,19 @@
 -- The rows that work out what is known, whatever is to do: absurd, drop, force, split, unroll.
 -- Berdine, Calcagno, O'Hearn, "Symbolic Execution with Separation Logic" (2005), section 4: normalization.
-use Rattle.std.specs.Prelude.{ℕ, ◌+◌, ◌==◌, Bool, true, false, ◌&&◌, ◌||◌, not, cond, nat_lt, Option, Some, None, List, [], ◌∷◌, ◌++◌}
+use Rattle.std.specs.Prelude.{ℕ, ◌+◌, Bool, true, false, ◌&&◌, ◌||◌, not, cond, nat_lt, Option, Some, None, List, [], ◌∷◌, ◌++◌}
 use Rattle.std.specs.Option.{option_map, option_and_then}
 use Rattle.sf_base.specs.declared.ids.FieldId.{FieldId}
 use Rattle.sf_core.specs.declared.fields.Links.{Links}
 use Rattle.sf_sym.specs.declared.atom.Atom.{Atom}
 use Rattle.sf_sym.specs.declared.atom.Atom.TheVariants.{Points, Ls, Tree}
-use Rattle.sf_sym.specs.declared.atom.Numbered.{Numbered}
 use Rattle.sf_sym.specs.declared.term.Term.{Term}
 use Rattle.sf_sym.specs.declared.term.Term.TheVariants.{Nil, Int, Sym}
-use Rattle.sf_sym.specs.Cells.{without, with_cell}
+use Rattle.sf_sym.specs.Cells.{atom_at, with_atom, with_cell, without}
 use Rattle.sf_sym.specs.Equalities.{assumed_apart, assumed_equal}
 use Rattle.sf_sym.specs.Fields.{put_term}
-use Rattle.sf_sym.specs.Goal.{Goal}
-use Rattle.sf_sym.specs.State.{State}
+use Rattle.sf_sym.specs.Goal.{Goal, at_state}
+use Rattle.sf_sym.specs.State.{State, with_symbols}
 use Rattle.sf_sym.specs.Tests.{allocated, differs, is_absurd, is_constant, same_term}
-
--- the atom of that number
-abbrev pub atom_at : List Numbered → ℕ → Option Atom
-atom_at [] a = None
-atom_at (x ∷ xs) a = cond (x.number == a) (Some x.atom) (atom_at xs a)
-
--- the goal with that state
-abbrev pub at_state : Goal → State → Goal
-at_state g s = record g { state = s }
 
 -- absurd: no store and heap have the state, so nothing is left to prove
 abbrev pub absurd_row : Goal → Option (List Goal)
@@ -67,17 +57,6 @@ abbrev pub split_row : Goal → (t u : Term) → Option (List Goal)
 split_row g t u =
     cond (not (same_term t u) && (is_below g.state.next_sym t && is_below g.state.next_sym u))
     (Some (assumed_equal t u g ∷ assumed_apart t u g ∷ [])) None
-
--- one more segment or tree, with the next number
-abbrev pub with_atom : Atom → State → State
-with_atom x s = record s {
-  atoms = s.atoms ++ (record { number = s.next_atom; atom = x } ∷ []);
-  next_atom = s.next_atom + 1;
-}
-
--- so many symbols more
-abbrev pub with_symbols : ℕ → State → State
-with_symbols n s = record s { next_sym = s.next_sym + n }
 
 -- a segment that isn't empty: a cell, and a segment from its link on
 abbrev pub unrolled_segment : Option FieldId → (t u : Term) → State → Option State

@@ -4,11 +4,11 @@
 use Rattle.std.specs.Prelude.{Option, Some, None, List, [], ◌∷◌, ◌++◌}
 use Rattle.sf_core.specs.declared.command.Expr.TheVariants.{Nil as ENil}
 use Rattle.sf_core.specs.Program.Syntax.{while}
-use Rattle.sf_sym.specs.Goal.{Item, run, head, again, end, Goal}
+use Rattle.sf_sym.specs.Goal.{Item, run, head, again, end, Goal, one_goal, to_run}
 use Rattle.sf_sym.specs.State.{State, term}
 use Rattle.sf_rules.specs.Setting.{Setting}
-use Rattle.sf_rules.specs.Table.{to_run}
-use Rattle.sf_rules.specs.Words.{negation, one_goal, to_add, to_add_test, to_take, with_fresh}
+use Rattle.sf_rules.specs.Words.{negation, to_add, to_add_test, to_take}
+use Rattle.sf_sym.specs.Variables.{with_fresh}
 
 -- loop: the invariant is due, and then the loop begins
 abbrev pub loop_row : Setting → State → List Item → Option (List Goal)

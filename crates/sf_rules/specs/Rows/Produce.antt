@@ -11,19 +11,12 @@ use Rattle.sf_core.specs.Program.Syntax.{Conjunct, holds, points, segment, tree,
 use Rattle.sf_sym.specs.declared.atom.Atom.TheVariants.{Ls, Tree}
 use Rattle.sf_sym.specs.declared.term.Term.{Term}
 use Rattle.sf_sym.specs.declared.term.Term.TheVariants.{Sym}
-use Rattle.sf_sym.specs.Cells.{with_cell}
+use Rattle.sf_sym.specs.Cells.{with_cell, with_atom}
 use Rattle.sf_sym.specs.Equalities.{assumed_apart, assumed_equal}
 use Rattle.sf_sym.specs.Fields.{put_term}
-use Rattle.sf_sym.specs.Goal.{Item, add, Goal}
-use Rattle.sf_sym.specs.State.{State}
-use Rattle.sf_rules.specs.Rows.Knowledge.{with_atom, with_symbols}
-use Rattle.sf_rules.specs.Words.{adding}
-
--- an existential stands for that term from now on
-abbrev pub bind_to : List (Option Term) → ℕ → Term → List (Option Term)
-bind_to [] n t = []
-bind_to (b ∷ bs) zero t = Some t ∷ bs
-bind_to (b ∷ bs) (suc n) t = b ∷ bind_to bs n t
+use Rattle.sf_sym.specs.Goal.{Item, add, Goal, adding}
+use Rattle.sf_sym.specs.State.{State, with_symbols}
+use Rattle.sf_sym.specs.Pending.{bind_to}
 
 -- what meeting an operand gives: its term, the state, and what existentials stand for from then on
 pub record Met : Type 0 where

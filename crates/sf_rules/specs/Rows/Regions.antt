@@ -10,11 +10,11 @@ use Rattle.sf_base.specs.declared.place.Place.{Place}
 use Rattle.sf_core.specs.declared.assertion.Test.{Test}
 use Rattle.sf_core.specs.declared.command.Expr.{Expr}
 use Rattle.sf_core.specs.Program.Syntax.{with, Block, Resource}
-use Rattle.sf_sym.specs.Goal.{Item, run, gave, exit, Goal}
+use Rattle.sf_sym.specs.Goal.{Item, run, gave, exit, Goal, one_goal, to_run}
 use Rattle.sf_sym.specs.State.{State, term}
 use Rattle.sf_rules.specs.Setting.{Setting}
-use Rattle.sf_rules.specs.Table.{to_run}
-use Rattle.sf_rules.specs.Words.{one_goal, to_add, to_add_test, to_take, with_fresh}
+use Rattle.sf_rules.specs.Words.{to_add, to_add_test, to_take}
+use Rattle.sf_sym.specs.Variables.{with_fresh}
 
 -- the variables of a resource, which has these names, from that number on
 abbrev pub variables_from : ResId → ℕ → List (List ℕ) → List Var

@@ -11,14 +11,13 @@ use Rattle.sf_sym.specs.declared.atom.Atom.{Atom}
 use Rattle.sf_sym.specs.declared.atom.Atom.TheVariants.{Ls, Tree}
 use Rattle.sf_sym.specs.declared.term.Term.{Term}
 use Rattle.sf_sym.specs.declared.term.Term.TheVariants.{Nil, Sym}
-use Rattle.sf_sym.specs.Cells.{after_hand_over, cell_at, without}
+use Rattle.sf_sym.specs.Cells.{after_hand_over, atom_at, cell_at, handed}
 use Rattle.sf_sym.specs.Fields.{field_term, put_term}
-use Rattle.sf_sym.specs.Goal.{Item, take, Goal}
-use Rattle.sf_sym.specs.State.{State}
+use Rattle.sf_sym.specs.Goal.{Item, take, Goal, one_goal, taking}
+use Rattle.sf_sym.specs.State.{State, with_symbols}
 use Rattle.sf_sym.specs.Tests.{allocated, differs, is_constant, same_term}
-use Rattle.sf_rules.specs.Rows.Knowledge.{atom_at, with_symbols}
-use Rattle.sf_rules.specs.Rows.Produce.{bind_to}
-use Rattle.sf_rules.specs.Words.{one_goal, taking, term_of}
+use Rattle.sf_sym.specs.Pending.{bind_to}
+use Rattle.sf_sym.specs.Decided.{term_of}
 
 -- a subtraction under way: the state, what existentials stand for, and the conjuncts that are still wanted
 pub record Want : Type 0 where
@@ -124,13 +123,6 @@ empty_step s bindings (segment q next x y) cs =
 empty_step s bindings (tree q left right x) cs =
     option_and_then (λ e. Some (removed s bindings cs)) (both same_term bindings x (Known Nil))
 empty_step s bindings _ cs = None
-
--- that atom goes to the taken ones
-abbrev pub handed : State → (a : ℕ) → Atom → State
-handed s a x = record s {
-  atoms = without s.atoms a;
-  taken = s.taken ++ (record { number = a; atom = x } ∷ []);
-}
 
 -- two atoms are one segment, or one tree
 abbrev pub is_same_shape : Atom → Atom → Bool
