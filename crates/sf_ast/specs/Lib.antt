@@ -1,3 +1,4 @@
 pub mod Surface
 pub mod View
 pub mod Depth
+pub mod Lemmas

@@ -5,7 +5,7 @@ use Rattle.sf_parse.specs.Grammar as g
 use Rattle.sf_parse.specs.Parsing.{kinds}
 use Rattle.sf_parse.specs.Placed.{WordAt, ArgumentsAt}
 use Rattle.sf_ast.specs.View.{arguments_of, call_of}
-use Rattle.sf_ast.proofs.CommandViews.{of_call, of_fork}
+use Rattle.sf_ast.specs.Lemmas.{of_call, of_fork}
 use Rattle.sf_parse.proofs.plain.called.Goals as goal
 
 pub returns-in-Some-clause-places : goal.returns-in-Some-clause-places

@@ -4,7 +4,7 @@ use Rattle.sf_lex.specs.declared.token.Kind.TheVariants as k
 use Rattle.sf_parse.specs.Grammar as g
 use Rattle.sf_parse.specs.Parsing.{kinds}
 use Rattle.sf_parse.specs.Placed.{WordAt, ExprAt}
-use Rattle.sf_ast.proofs.CommandViews.{of_assign, of_look_up}
+use Rattle.sf_ast.specs.Lemmas.{of_assign, of_look_up}
 use Rattle.sf_parse.proofs.plain.looked_up.Goals as goal
 
 pub returns-in-Some-clause-places : goal.returns-in-Some-clause-places

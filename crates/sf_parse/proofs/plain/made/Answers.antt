@@ -3,7 +3,7 @@ use Rattle.sf_lex.specs.declared.token.Kind.{Kind}
 use Rattle.sf_lex.specs.declared.token.Kind.TheVariants as k
 use Rattle.sf_parse.specs.Parsing.{kinds}
 use Rattle.sf_parse.specs.Placed.{WordAt}
-use Rattle.sf_ast.proofs.CommandViews.{of_new}
+use Rattle.sf_ast.specs.Lemmas.{of_new}
 use Rattle.sf_parse.proofs.plain.made.Goals as goal
 
 pub returns-clause-places : goal.returns-clause-places

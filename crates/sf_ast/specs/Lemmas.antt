@@ -1,4 +1,5 @@
--- How each command of the code is read.
+-- Lemmas on commands that the proofs of the crates above cite: how each command of the code is read. Each states what it
+-- says; none is a definition.
 use Rattle.std.proofs.Common.{◌≡◌, map, Option, ap, sym, ◌∙◌}
 use Rattle.std.specs.Global.{Box, Vec}
 use Rattle.std.specs.Option.{option_map}
