@@ -98,23 +98,3 @@ get-set_other {A} xs i k v other = elim (slice_get_cases xs k).1 [
       ∙ ap Some (get_or-set_other xs i k v x.0 other ∙ x.3) ∙ sym x.2
   | inr x ↦ slice_get_past (set xs i v) k (rw length-set x.0) ∙ sym x.1
 ]
-
--- as they were called before
-pub read_at : {A : Type 0} (xs ys : List A) (i : ℕ) (x : A) → ys ≡ xs → i < length ys
-    → x ≡ slice_index_or ys i x → slice_get xs i ≡ Some x
-read_at xs ys i x e within is = get-read xs ys i x e within is
-
-pub read_mapped : {A B : Type 0} (f : A → B) (xs ys : List A) (i : ℕ) (x : A) →
-    ys ≡ xs → i < length ys → x ≡ slice_index_or ys i x → slice_get (map f xs) i ≡ Some (f x)
-read_mapped f xs ys i x e within is = get-read_map f xs ys i x e within is
-
-pub none_more : {A : Type 0} (xs : List A) (x y : A) (i : ℕ) → slice_get xs i ≡ Some x → (x ≡ y → ⊥) →
-    ((k : ℕ) → k < i → slice_get xs k ≢ Some y) → (k : ℕ) → k < i + 1 → slice_get xs k ≢ Some y
-none_more xs x y i here other before = get-none_more xs x y i here other before
-
-pub none_past : {A : Type 0} (xs : List A) (y : A) (i : ℕ) → length xs ≤ i →
-    ((k : ℕ) → k < i → slice_get xs k ≢ Some y) → (k : ℕ) → slice_get xs k ≢ Some y
-none_past xs y i past before = get-none_all xs y i past before
-
-pub only-there : {A : Type 0} (x y : A) (n : ℕ) → slice_get (x ∷ []) n ≡ Some y → (n ≡ 0) × (x ≡ y)
-only-there x y n e = get-single x y n e
