@@ -4,3 +4,6 @@ pub mod States
 pub mod SmallGoals
 pub mod PutTerms
 pub mod Indices
+pub mod InPlace
+pub mod Conjuncts
+pub mod Replaced

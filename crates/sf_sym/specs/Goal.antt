@@ -67,7 +67,7 @@ abbrev pub items_of : CodeItem → List Item
 items_of (Run commands) = map (λ c. run (command_of c)) commands.now
 items_of (Add p given) = add p (pending_of given) ∷ []
 items_of (Take p want names) = take p (pending_of want) names.now ∷ []
-items_of (Gave p set removed) = gave p set removed ∷ []
+items_of (Gave p set removed) = gave p set.items removed.items ∷ []
 items_of (Head p test invariant body) = head p test.now (assertion_of invariant.now) (block_of body.now) ∷ []
 items_of (Again p invariant) = again p (assertion_of invariant.now) ∷ []
 items_of (Exit p r) = exit p r ∷ []

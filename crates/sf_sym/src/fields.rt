@@ -1,9 +1,11 @@
 //! The terms of a cell's fields.
 
-ghost use Rattle.std.specs.Prelude.{◌≡◌, ◌≤◌, [], length, slice_get, OnErr, OnOk};
+ghost use Rattle.std.specs.Prelude.{◌≡◌, ◌≤◌, [], length, map, slice_get, OnErr, OnOk};
+ghost use Rattle.sf_sym.specs.Equalities.{put_for};
 ghost use Rattle.sf_sym.specs.Fields.{field_term, put_term};
 ghost use Rattle.sf_sym.specs.Internal.Places.{is_field, place_of};
 
+use crate::replace::Replacement;
 use crate::term::Term;
 use sf_base::FieldId;
 use smallvec::SmallVec;
@@ -66,6 +68,13 @@ impl FieldTerms {
             self.items.insert(at, (f, u))?;
         }
         Ok(())
+    }
+
+    /// Replaces a symbol by a term.
+    pub(crate) fn replace(&mut self, r: Replacement)
+        ensures { self.new ≡ map (λ f. (f.0, put_for r.symbol r.by f.1)) self.old }
+    {
+        r.in_fields(self.items.as_mut_slice());
     }
 }
 

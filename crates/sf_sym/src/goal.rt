@@ -1,8 +1,14 @@
+ghost use Rattle.std.specs.Prelude.{◌≡◌, OnErr, OnOk};
+ghost use Rattle.sf_sym.specs.Equalities.{assumed_apart, assumed_equal, goal_with, put_for};
+ghost use Rattle.sf_sym.specs.Goal.{goal_of};
+
 use crate::pending::Pending;
+use crate::replace::Replacement;
 use crate::state::State;
 use crate::term::Term;
-use sf_base::{Name, Place, ResId, Sequence, Var};
+use sf_base::{Name, Place, ResId, Var};
 use sf_core::{Assertion, Command, Expr, Test};
+use std::alloc::AllocError;
 
 /// Something to do. Each has a place, for messages. Commands and assertions are the program's own.
 #[derive(Drop)]
@@ -15,7 +21,7 @@ pub enum Item<'a> {
     /// existentials, by number.
     Take(Place, Pending, &'a [Name]),
     /// What was taken is gone for good: these variables have these terms, and these ones are removed.
-    Gave(Place, Sequence<(Var, Term)>, Sequence<Var>),
+    Gave(Place, Vec<(Var, Term)>, Vec<Var>),
     /// A loop whose invariant was handed over: its test, its invariant and its body.
     Head(Place, &'a Test<Expr>, &'a Assertion, &'a [Command]),
     /// The end of a loop's body: its invariant is due.
@@ -35,4 +41,43 @@ pub struct Goal<'a> {
     pub state: State,
     /// What is still to do, the next item last.
     pub todo: Vec<Item<'a>>,
+}
+
+impl Goal<'_> {
+    /// Assumes that the two terms are the same: one that is a symbol is replaced by the other wherever it
+    /// occurs, of two symbols the greater. Two constants can't be the same, and then nil is to differ from
+    /// itself. Memory is wanted for that alone: an `Err` means that there is none, and then nothing
+    /// changes.
+    pub fn assume_equal(&mut self, t: Term, u: Term) -> Result<(), AllocError>
+        ensures ok { OnOk result (goal_of self.new ≡ assumed_equal t u (goal_of self.old)) }
+        ensures err { OnErr result (self.new ≡ self.old) }
+    {
+        if t.is(u) {
+            return Ok(());
+        }
+        match Replacement::between(t, u) {
+            Some(r) => {
+                self.replace(r);
+                Ok(())
+            }
+            None => self.assume_apart(Term::Nil, Term::Nil),
+        }
+    }
+
+    /// Assumes that the two terms differ. An `Err` means out of memory, and then nothing changes.
+    pub fn assume_apart(&mut self, t: Term, u: Term) -> Result<(), AllocError>
+        ensures ok { OnOk result (goal_of self.new ≡ assumed_apart t u (goal_of self.old)) }
+        ensures err { OnErr result (self.new ≡ self.old) }
+    {
+        self.state.assume_apart(t, u)?;
+        Ok(())
+    }
+
+    /// Replaces a symbol by a term.
+    fn replace(&mut self, r: Replacement)
+        ensures { goal_of self.new ≡ goal_with (put_for r.symbol r.by) (goal_of self.old) }
+    {
+        self.state.replace(r);
+        r.in_items(&mut self.todo);
+    }
 }

@@ -9,6 +9,7 @@
 //! - `pending`: conjuncts that are still to be assumed or to be shown.
 //! - `goal`: a state, and what is still to do from there.
 //! - `tag`: the steps of a proof.
+//! - `replace`: replacing a symbol by a term.
 //! - `laws`: what the tests of a state tell of its stores and heaps.
 //! - `examples`: examples of small goals.
 #![tactic(auto)]
@@ -20,6 +21,7 @@ mod goal;
 mod known;
 pub mod laws;
 mod pending;
+mod replace;
 mod state;
 mod tag;
 mod term;

@@ -2,8 +2,11 @@
 
 ghost use Rattle.std.specs.Prelude.{◌≡◌, ◌==◌, ◌∷◌, [], List, length, IfSome, IfNone};
 ghost use Rattle.sf_core.specs.declared.assertion.Conjunct.{Conjunct as ConjunctOf};
+ghost use Rattle.sf_sym.specs.Equalities.{pending_with, put_for};
+ghost use Rattle.sf_sym.specs.Pending.{pending_of};
 ghost use Rattle.sf_sym.specs.declared.term.Term.{Term as TermOf};
 
+use crate::replace::Replacement;
 use crate::term::Term;
 use sf_core::Conjunct;
 use std::marker::Model;
@@ -67,5 +70,12 @@ impl Pending {
         ensures bindings { self.new.bindings ≡ self.old.bindings }
     {
         self.conjuncts.pop()
+    }
+    /// Replaces a symbol by a term.
+    pub(crate) fn replace(&mut self, r: Replacement)
+        ensures { pending_of self.new ≡ pending_with (put_for r.symbol r.by) (pending_of self.old) }
+    {
+        r.in_conjuncts(&mut self.conjuncts);
+        r.in_bindings(&mut self.bindings);
     }
 }

@@ -4,12 +4,14 @@ ghost use Rattle.std.specs.Prelude.{◌≡◌, ◌<◌, ◌≤◌, ◌^◌, ◌-
 ghost use Rattle.std.specs.Option.{option_map};
 ghost use Rattle.sf_base.specs.declared.ids.FieldId.{FieldId as FieldNumber};
 ghost use Rattle.sf_sym.specs.Cells.{after_hand_over, cell_at, fields_at, state_after_write, with_cell};
+ghost use Rattle.sf_sym.specs.Equalities.{put_for, state_with, with_pair};
 ghost use Rattle.sf_sym.specs.Internal.Indices.{index_from};
 ghost use Rattle.sf_sym.specs.State.{first_state};
 ghost use Rattle.sf_sym.specs.declared.term.Term.{Term as TermOf};
 
 use crate::atom::{Atom, Numbered};
 use crate::fields::FieldTerms;
+use crate::replace::Replacement;
 use crate::term::Term;
 use sf_base::{FieldId, Var};
 use sf_core::Links;
@@ -123,6 +125,25 @@ impl State {
         });
         self.next_atom += 1;
         Ok(())
+    }
+
+    /// The two terms differ from now on. An `Err` means out of memory, and then nothing changes.
+    pub fn assume_apart(&mut self, t: Term, u: Term) -> Result<(), AllocError>
+        ensures ok { OnOk result (self.new ≡ with_pair t u self.old) }
+        ensures err { OnErr result (self.new ≡ self.old) }
+    {
+        self.apart.push((t, u))?;
+        Ok(())
+    }
+
+    /// Replaces a symbol by a term.
+    pub(crate) fn replace(&mut self, r: Replacement)
+        ensures { self.new ≡ state_with (put_for r.symbol r.by) self.old }
+    {
+        r.in_vars(&mut self.vars);
+        r.in_pairs(&mut self.apart);
+        r.in_atoms(&mut self.atoms);
+        r.in_atoms(&mut self.taken);
     }
 
     /// Writes a field of the cell of that number at the root. An `Err` means out of memory, and then

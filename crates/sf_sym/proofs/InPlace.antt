@@ -1,0 +1,49 @@
+-- Lists whose elements are changed in place, one after the other.
+-- Names: `map_next` is the step of such a loop, `viewed_next` that of elements as definitions see them.
+use Rattle.std.proofs.Common.{◌≡◌, ℕ, ◌+◌, ◌<◌, ◌≤◌, List, [], ◌∷◌, ◌++◌, length, get_or, map, take, drop, slice_set, Vec, Global, refl, sym, ap, ◌∙◌, subst, arith}
+use Rattle.std.proofs.lemmas.List.{append-nil, map-set, get_or-map, get_or_default, length-map, take_all, drop_all}
+use Rattle.std.proofs.lemmas.List.Edits.{map_over_more}
+use Rattle.std.specs.Vec.{with_items}
+use Rattle.sf_base.specs.declared.ids.FieldId.{FieldId}
+use Rattle.sf_sym.specs.declared.term.Term.{Term}
+use Rattle.sf_sym.specs.Fields.{AreAfter, AreOrdered}
+use Rattle.sf_sym.proofs.PutTerms.{refill-whole}
+use Rattle.std.specs.List.{refill}
+
+-- one more element is what f makes of it
+pub map_next : {X : Type 0} (f : X → X) (xs ys : List X) (i : ℕ) (d y : X) → i < length xs
+    → length ys ≡ length xs → ys ≡ map f (take i xs) ++ drop i xs → y ≡ f (get_or ys i d)
+    → slice_set ys i y ≡ map f (take (i + 1) xs) ++ drop (i + 1) xs
+map_next f xs ys i d y lt n e v =
+    ap (slice_set ys i) v
+    ∙ map_over_more f xs ys i (get_or ys i d) lt e (get_or_default ys i d (get_or ys i d) (omega arith))
+
+module _ {X Y : Type 0} (view : X → Y) (f : Y → Y) (xs : List X) where
+  -- the same of elements as definitions see them
+  pub viewed_next : (ys : List X) (i : ℕ) (d y : X) → i < length xs → length ys ≡ length xs
+      → map view ys ≡ map f (take i (map view xs)) ++ drop i (map view xs)
+      → view y ≡ f (view (get_or ys i d))
+      → map view (slice_set ys i y) ≡ map f (take (i + 1) (map view xs)) ++ drop (i + 1) (map view xs)
+  viewed_next ys i d y lt n e v =
+      let within : i < length ys = omega arith in
+      map-set view ys i y
+      ∙ map_next f (map view xs) (map view ys) i (view d) (view y) (omega (arith, length-map xs view))
+      (length-map ys view ∙ n ∙ sym (length-map xs view)) e
+      (v ∙ ap f (sym (get_or-map view ys i d (view d) within)))
+
+-- a vector that was lent whole comes back whole
+pub vec-whole : {X : Type 0} (v : Vec X Global) (ws : List X) → length ws ≡ length v.items
+    → (with_items v ws).items ≡ ws
+vec-whole v ws e =
+    ap (λ n. refill n v.items ws) v.ok.0 ∙ refill-whole v.items ws e
+
+-- fields with other terms are in the same order
+after-map : (to : Term → Term) (n : ℕ) (fs : List (FieldId × Term)) → AreAfter n fs
+    → AreAfter n (map (λ f. (f.0, to f.1)) fs)
+after-map to n [] a = tt
+after-map to n (f ∷ fs) a = (a.0, after-map to n fs a.1)
+
+pub ordered-map : (to : Term → Term) (fs : List (FieldId × Term)) → AreOrdered fs
+    → AreOrdered (map (λ f. (f.0, to f.1)) fs)
+ordered-map to [] o = tt
+ordered-map to (f ∷ fs) o = (after-map to f.0.0 fs o.0, ordered-map to fs o.1)
