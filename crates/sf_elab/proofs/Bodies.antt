@@ -3,3 +3,4 @@
 pub mod Beginnings
 pub mod CommandsWithin
 pub mod PrimedValues
+pub mod CommandLists

@@ -341,8 +341,9 @@ fn add_conjunct(
     match c {
         SurfaceConjunct::Emp(_) => Ok(()),
         SurfaceConjunct::Group(_, all) => add_conjuncts(alloc, env, levels, all, done, found),
-        SurfaceConjunct::If(p, b, this, that) | SurfaceConjunct::IfRound(p, b, this, that) => {
-            let test = test(env, levels, b, found)?;
+        SurfaceConjunct::If(p, condition, this, that)
+        | SurfaceConjunct::IfRound(p, condition, this, that) => {
+            let test = test(env, levels, condition, found)?;
             let this = branch(alloc, env, levels, this, found)?;
             let that = branch(alloc, env, levels, that, found)?;
             push(Conjunct::If(*p, test, this, that), done)
@@ -355,7 +356,9 @@ fn add_conjunct(
             let test = SurfaceTest::Differ(*x, *y);
             push(compared(env, levels, x, &test, found)?, done)
         }
-        SurfaceConjunct::Points(x, fs) => push(points(alloc, env, levels, x, fs, found)?, done),
+        SurfaceConjunct::Points(x, fields) => {
+            push(points(alloc, env, levels, x, fields, found)?, done)
+        }
         SurfaceConjunct::Ls(p, x, y) | SurfaceConjunct::Lseg(p, x, y) => {
             push(between(env, levels, *p, x, y, found)?, done)
         }

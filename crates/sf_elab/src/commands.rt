@@ -318,7 +318,7 @@ fn add_command(
             push(dispose(env, *p, *e, found)?, done)
         }
         SurfaceCommand::Call(one) => push(single(alloc, env, one, found)?, done),
-        SurfaceCommand::Fork(a, b) => push(fork(alloc, env, a, b, found)?, done),
+        SurfaceCommand::Fork(left, right) => push(fork(alloc, env, left, right, found)?, done),
         SurfaceCommand::IfAlone(p, test, one) => push(
             if_alone(alloc, env, *p, test, one, found)?,
             done,

@@ -6,11 +6,12 @@ use Rattle.sf_ast.specs.declared.word.Word.{Word}
 use Rattle.sf_ast.specs.Surface.{Procedure}
 use Rattle.sf_base.specs.declared.ids.Var.{Var}
 use Rattle.sf_base.specs.declared.ids.Var.TheVariants.{Own}
+use Rattle.sf_base.specs.declared.limits.TheConstants.{OWN_VARIABLES}
 use Rattle.sf_base.specs.declared.place.Place.{Place}
 use Rattle.sf_core.specs.declared.command.Expr.TheVariants.{Var as Variable}
 use Rattle.sf_core.specs.Program.Syntax as c
-use Rattle.sf_elab.specs.Names.Declarations.{references_of, values_of, numbered}
-use Rattle.sf_elab.specs.Bodies.Procedures.{local_words, is_primed, parameter_count, declared_count, body_values, body_variables, own_at, first_assignments}
+use Rattle.sf_elab.specs.Names.Declarations.{references_of, values_of, numbered, numbered_faults}
+use Rattle.sf_elab.specs.Bodies.Procedures.{local_words, is_primed, parameters_of, parameter_count, declared_count, body_values, body_variables, own_names, own_at, first_assignments, local_faults}
 use Rattle.sf_elab.specs.Names.Table.{Table, declare}
 use Rattle.sf_elab.specs.Names.Texts.{text}
 
@@ -103,3 +104,30 @@ body_sees_all bytes f primed references values locals first second names t u v s
     ∙ ap (λ m. body_values bytes (is_primed bytes f) (length (references_of f.parameters)) m values t) n ∙ ap (λ ws. body_values bytes (is_primed bytes f) (length (references_of f.parameters)) (declared_count f) ws t) w
     ∙ ap (body_values bytes (is_primed bytes f) (length (references_of f.parameters)) (declared_count f) (values_of f.parameters)) start in
     k ∙ ap (λ m. numbered bytes Own m locals u) two ∙ ap (λ ws. numbered bytes Own (parameter_count f) ws u) l ∙ ap (numbered bytes Own (parameter_count f) (local_words f.locals)) middle
+
+-- the names of all own variables, once those of parameters and locals are there
+pub names_are_all : (bytes : List ℕ) (f : Procedure) (primed : Word → Bool) (values : List Word) (before now : List (List ℕ)) → ((w : Word) → primed w ≡ is_primed bytes f w) → values ≡ values_of f.parameters
+    → before ≡ map (text bytes) (references_of f.parameters) ++ map (text bytes) (values_of f.parameters) ++ map (text bytes) (local_words f.locals)
+    → now ≡ before ++ map (prime bytes) (filter primed values) → now ≡ own_names bytes f
+names_are_all bytes f primed values before now same w b n =
+    let all : primed ≡ is_primed bytes f = λ i x. same x i in
+    n ∙ ap (λ (g : Word → Bool). before ++ map (prime bytes) (filter g values)) all ∙ ap (λ ws. before ++ map (prime bytes) (filter (is_primed bytes f) ws)) w
+    ∙ ap (λ ns. ns ++ map (prime bytes) (filter (is_primed bytes f) (values_of f.parameters))) b
+
+-- how the body begins, once its values are declared
+pub first_are_all : (bytes : List ℕ) (f : Procedure) (primed : Word → Bool) (at : Place) (references values first : List Word) (names : List (List ℕ)) (before now : List c.Command) → ((w : Word) → primed w ≡ is_primed bytes f w)
+    → references ≡ references_of f.parameters → values ≡ values_of f.parameters → length names ≡ declared_count f → first ≡ references → before ≡ [] → now ≡ before ++ first_assignments primed at (length first) (length names) values
+    → now ≡ first_assignments (is_primed bytes f) at (length (references_of f.parameters)) (declared_count f) (values_of f.parameters)
+first_are_all bytes f primed at references values first names before now same r w n a b e =
+    let all : primed ≡ is_primed bytes f = λ i x. same x i in
+    e ∙ ap (λ cs. cs ++ first_assignments primed at (length first) (length names) values) b ∙ ap (λ (g : Word → Bool). first_assignments g at (length first) (length names) values) all
+    ∙ ap (λ m. first_assignments (is_primed bytes f) at m (length names) values) (ap length (a ∙ r)) ∙ ap (λ m. first_assignments (is_primed bytes f) at (length (references_of f.parameters)) m values) n
+    ∙ ap (first_assignments (is_primed bytes f) at (length (references_of f.parameters)) (declared_count f)) w
+
+-- what is wrong with locals that are declared after the parameters
+pub local_faults_are : (bytes : List ℕ) (f : Procedure) (words locals : List Word) (own : Table Var) → words ≡ references_of f.parameters ++ values_of f.parameters → locals ≡ local_words f.locals → own ≡ parameters_of bytes f
+    → numbered_faults bytes OWN_VARIABLES Own (length words) locals own ≡ local_faults bytes f
+local_faults_are bytes f words locals own w l o =
+    let count : length words ≡ parameter_count f = ap length w ∙ length-append (references_of f.parameters) (values_of f.parameters) in
+    ap (λ n. numbered_faults bytes OWN_VARIABLES Own n locals own) count ∙ ap (λ ws. numbered_faults bytes OWN_VARIABLES Own (parameter_count f) ws own) l
+    ∙ ap (numbered_faults bytes OWN_VARIABLES Own (parameter_count f) (local_words f.locals)) o
