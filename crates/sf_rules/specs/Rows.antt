@@ -1,4 +1,3 @@
-pub mod Knowledge
 pub mod Commands
 pub mod Branches
 pub mod Loops

@@ -7,7 +7,7 @@ use Rattle.std.specs.List.{AllByRecursion}
 use Rattle.sf_base.proofs.Sums.{either}
 use Rattle.sf_sym.specs.Goal.{Goal}
 use Rattle.sf_rules.specs.Proves.{Proof, by, Proofs, no_more, and}
-use Rattle.sf_sound.specs.Laws.{SomeOf}
+use Rattle.sf_sym.specs.Laws.{SomeOf}
 use Rattle.sf_rules.specs.Table.{row}
 
 -- the last row of a proof: a tag that has one there, and proofs of the goals that are left

@@ -16,53 +16,10 @@ use Rattle.sf_base.proofs.Bools.{and-left, and-right}
 use Rattle.sf_sym.specs.declared.term.Term.{Term}
 use Rattle.sf_sym.specs.Fields.{AreAfter, AreOrdered, put_term, field_term}
 use Rattle.sf_sym.specs.Lemmas.{after-mono, put-order, same_term_is}
+use Rattle.sf_sym.proofs.CellFields.{put-known}
 use Rattle.sf_rules.specs.Table.{known_term, new_fields, has_term, fits}
 
 module _ (v : Term → Value) where
-  -- a field that the cell has may be put among them
-  pub put-known : (f : FieldId) (u : Term) (fs : List (FieldId × Term)) (here : Cell) → here f.0 ≡ v u
-      → HasFields v fs here → HasFields v (put_term f u fs) here
-  put-known f u [] here e h = (e, tt)
-  put-known f u (g ∷ gs) here e h = go (g.0.0 == f.0) (nat_lt f.0 g.0.0) (put-known f u gs here e h.1)
-    where
-      go : (s t : Bool) → HasFields v (put_term f u gs) here
-          → HasFields v (cond s ((f, u) ∷ gs) (cond t ((f, u) ∷ g ∷ gs) (g ∷ put_term f u gs))) here
-      go true t r = (e, h.1)
-      go false true r = (e, h)
-      go false false r = (h.0, r)
-
-  put-others : (n : ℕ) (x : Value) (fs : List (FieldId × Term)) (here : Cell) → AreAfter n fs
-      → HasFields v fs here → HasFields v fs (put_field here n x)
-  put-others n x [] here b h = tt
-  put-others n x (g ∷ gs) here b h =
-      (ap (λ t. cond t x (here g.0.0)) (eqb-greater n g.0.0 b.0) ∙ h.0, put-others n x gs here b.1 h.1)
-
-  put-self : (n : ℕ) (x : Value) (here : Cell) → put_field here n x n ≡ x
-  put-self n x here = ap (λ t. cond t x (here n)) (at-self n)
-
-  -- a field that is written in the cell is put among them
-  pub put-written : (f : FieldId) (u : Term) (fs : List (FieldId × Term)) (here : Cell) → AreOrdered fs
-      → HasFields v fs here → HasFields v (put_term f u fs) (put_field here f.0 (v u))
-  put-written f u [] here o h = (put-self f.0 (v u) here, tt)
-  put-written f u (g ∷ gs) here o h =
-      go (g.0.0 == f.0) (nat_lt f.0 g.0.0) refl refl (put-written f u gs here o.1 h.1)
-    where
-      go : (s t : Bool) → g.0.0 == f.0 ≡ s → nat_lt f.0 g.0.0 ≡ t
-          → HasFields v (put_term f u gs) (put_field here f.0 (v u))
-          → HasFields v (cond s ((f, u) ∷ gs) (cond t ((f, u) ∷ g ∷ gs) (g ∷ put_term f u gs)))
-          (put_field here f.0 (v u))
-      go true t c d r = (
-        put-self f.0 (v u) here,
-        put-others f.0 (v u) gs here
-            (subst (λ n. AreAfter n gs) (at-same f.0 g.0.0 c) o.0) h.1,
-      )
-      go false true c d r = (
-        put-self f.0 (v u) here,
-        put-others f.0 (v u) (g ∷ gs) here
-            (ltb-true f.0 g.0.0 d, after-mono f.0 g.0.0 gs (ltb-true f.0 g.0.0 d) o.0) h,
-      )
-      go false false c d r = (ap (λ t. cond t (v u) (here g.0.0)) c ∙ h.0, r)
-
   -- the terms of a new cell's fields are true of a cell that has the fields
   pub new-fields : (some : ℕ → Value) (fs : List (FieldId × Operand Term))
       (made all : List (FieldId × Term)) (here : Cell)
@@ -70,7 +27,7 @@ module _ (v : Term → Value) where
       → HasFields v all here
   new-fields some [] made all here e m h = let i : made ≡ all = cc in subst (λ z. HasFields v z here) i m
   new-fields some ((f, Known u) ∷ fs) made all here e m h =
-      new-fields some fs (put_term f u made) all here e (put-known f u made here h.0 m) h.1
+      new-fields some fs (put_term f u made) all here e (put-known v f u made here h.0 m) h.1
   new-fields some ((f, Exists n) ∷ fs) made all here e m h = absurd (cc)
 
   -- where each wanted field has just that term in the cell, the cell has the wanted fields

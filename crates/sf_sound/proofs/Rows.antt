@@ -32,12 +32,14 @@ use Rattle.sf_sym.specs.Tests.{is_absurd}
 use Rattle.sf_sym.specs.Lemmas.{atoms-append, put-order}
 use Rattle.sf_sym.specs.Laws.{HeldStatesAreNotAbsurd}
 use Rattle.sf_sym.proofs.States.{held_states_are_not_absurd}
-use Rattle.sf_sound.specs.Laws.{SomeOf, Covers, value_at, IsNoAdd, AddsComeFirst, HasOrder, IsInOrder, RowsKeepMeaning, AbsurdKeepsMeaning, AddKeepsMeaning, heap_with_cell, Mutates, MutateFollowsEvent, WantsHold, Owes, ReturnOwesPostcondition, CellKeepsMeaning, HandsOver, CellHandsOver, EndLeavesNothing, RowsKeepOrder}
+use Rattle.sf_sym.specs.Laws.{SomeOf}
+use Rattle.sf_sound.specs.Laws.{Covers, value_at, IsNoAdd, AddsComeFirst, HasOrder, IsInOrder, RowsKeepMeaning, AbsurdKeepsMeaning, AddKeepsMeaning, heap_with_cell, Mutates, MutateFollowsEvent, WantsHold, Owes, ReturnOwesPostcondition, CellKeepsMeaning, HandsOver, CellHandsOver, EndLeavesNothing, RowsKeepOrder}
 use Rattle.sf_sym.specs.Fields.{AreOrdered, put_term}
 use Rattle.sf_rules.specs.Table.{pending_assertion, to_take, conjuncts_with, has_numbers, new_fields, state_after_assumption, is_empty, fits, state_after_hand_over, one_goal, add_first, add_row, mutate_one, mutate_row, return_row, cell_first, cell_row, end_row, row_of, row}
 use Rattle.sf_sym.specs.Cells.{apart_from_nil, with_cell, cell_at, with_fields, without}
 use Rattle.sf_sound.proofs.CellAtoms.{find-cell, with-order, without-order, found-order, order-append}
-use Rattle.sf_sound.proofs.CellFields.{put-written, new-fields, new-order, fits-fields}
+use Rattle.sf_sym.proofs.CellFields.{put-written}
+use Rattle.sf_sound.proofs.CellFields.{new-fields, new-order, fits-fields}
 use Rattle.sf_sound.proofs.Regrouped.{regroup-assume, regroup-hand}
 use Rattle.sf_sound.proofs.SatClosed.{sat-outermost}
 use Rattle.sf_sound.proofs.SatTerms.{conjuncts-with}

@@ -25,15 +25,11 @@ use Rattle.sf_sym.specs.declared.tag.Tag.TheVariants as t
 use Rattle.sf_sym.specs.declared.term.Term.{Term}
 use Rattle.std.specs.List.{AllByRecursion}
 use Rattle.sf_sym.specs.Fields.{AreOrdered}
+use Rattle.sf_sym.specs.Laws.{SomeOf}
 use Rattle.sf_sym.specs.Goal.{Item, run, add, take, return, Goal}
 use Rattle.sf_sym.specs.Holds.{AtomsHold, PendingHolds, HoldsAt, Holds}
 use Rattle.sf_base.specs.Variables.{same_var}
 use Rattle.sf_rules.specs.Table.{first_goal, row}
-
--- one of the goals has the property
-abbrev pub SomeOf : (Goal → Type 0) → List Goal → Type 0
-SomeOf P [] = ⊥
-SomeOf P (g ∷ gs) = P g ⊎ SomeOf P gs
 
 -- whether a variable has a term
 abbrev pub is_listed : List (Var × Term) → Var → Bool

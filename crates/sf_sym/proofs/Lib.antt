@@ -7,3 +7,10 @@ pub mod Indices
 pub mod InPlace
 pub mod Conjuncts
 pub mod Replaced
+pub mod OtherValues
+pub mod OtherTerms
+pub mod Below
+pub mod TwoHeaps
+pub mod CellFields
+pub mod AtomLists
+pub mod FreshValues

@@ -1,13 +1,17 @@
 -- What the tests of a state tell of each store and heap of which a goal with that state holds.
 -- Berdine, Calcagno, O'Hearn, "Symbolic Execution with Separation Logic" (2005), section 4.
-use Rattle.std.specs.Prelude.{◌≡◌, ◌≢◌, ℕ, Option, Some, IsTrue}
+use Rattle.std.specs.Prelude.{◌≡◌, ◌≢◌, ◌↔◌, ◌⊎◌, ℕ, ◌≤◌, List, [], ◌∷◌, Option, Some, IsTrue}
+use Rattle.std.specs.List.{AllByRecursion}
 use Rattle.sf_base.specs.declared.ids.Var.{Var}
 use Rattle.sf_base.specs.declared.value.Value.{Value}
 use Rattle.sf_base.specs.declared.value.Value.TheVariants.{Loc as loc}
-use Rattle.sf_base.specs.HeapStore.{Cell, Heap}
+use Rattle.sf_base.specs.HeapStore.{Cell, Heap, Splits}
+use Rattle.sf_sym.specs.Below.{AreBelow, IsBelow, SameBelow}
 use Rattle.sf_sym.specs.declared.term.Term.{Term}
+use Rattle.sf_sym.specs.Equalities.{assumed_apart, assumed_equal}
 use Rattle.sf_sym.specs.Goal.{Goal}
-use Rattle.sf_sym.specs.Holds.{term_value, HoldsAt}
+use Rattle.sf_sym.specs.Holds.{term_value, HoldsAt, Holds}
+use Rattle.sf_sym.specs.HoldsIn.{HoldsIn}
 use Rattle.sf_sym.specs.Tests.{differs, allocated, is_absurd}
 
 -- the value is the location of a cell of the heap
@@ -38,3 +42,66 @@ AllocatedTermsAreLocations =
 -- the state isn't absurd
 unfoldable pub HeldStatesAreNotAbsurd : Type 0
 HeldStatesAreNotAbsurd = WhereHolds (λ w goal heap. IsTrue (is_absurd goal.state) → ⊥)
+
+-- a goal holds of a heap exactly where it holds of two parts of it: what is there, and what was handed over
+unfoldable pub HoldsOnTwoHeaps : Type 0
+HoldsOnTwoHeaps =
+    (goal : Goal) (e : Var → Option Value) (heap : Heap) → Holds goal e heap
+    ↔ ((w : ℕ → Value) × (free : Heap) × (taken : Heap) × Splits heap free taken
+    × HoldsIn w goal e free taken)
+
+-- what a goal stands for rests on no symbol's value but those below its next one
+unfoldable pub OtherSymbolsAreFree : Type 0
+OtherSymbolsAreFree =
+    (v w : ℕ → Value) (goal : Goal) (e : Var → Option Value) (free taken : Heap) → AreBelow goal
+    → SameBelow goal.state.next_sym v w → HoldsIn w goal e free taken → HoldsIn v goal e free taken
+
+-- two terms of one value may be assumed to be the same
+unfoldable pub EqualTermsMayBeAssumed : Type 0
+EqualTermsMayBeAssumed =
+    (w : ℕ → Value) (t u : Term) (goal : Goal) (e : Var → Option Value) (free taken : Heap)
+    → term_value w t ≡ term_value w u → HoldsIn w goal e free taken
+    → HoldsIn w (assumed_equal t u goal) e free taken
+
+-- two terms of different values may be assumed to differ
+unfoldable pub DifferingTermsMayBeAssumed : Type 0
+DifferingTermsMayBeAssumed =
+    (w : ℕ → Value) (t u : Term) (goal : Goal) (e : Var → Option Value) (free taken : Heap)
+    → term_value w t ≢ term_value w u → HoldsIn w goal e free taken
+    → HoldsIn w (assumed_apart t u goal) e free taken
+
+-- a goal still speaks of symbols below its next one only, where two of those are assumed to be the same or to differ
+unfoldable pub AssumedTermsAreBelow : Type 0
+AssumedTermsAreBelow =
+    (t u : Term) (goal : Goal) → AreBelow goal → IsBelow goal.state.next_sym t
+    → IsBelow goal.state.next_sym u → AreBelow (assumed_equal t u goal) × AreBelow (assumed_apart t u goal)
+
+-- Forms of laws
+-- one of the goals has the property
+abbrev pub SomeOf : (Goal → Type 0) → List Goal → Type 0
+SomeOf P [] = ⊥
+SomeOf P (g ∷ gs) = P g ⊎ SomeOf P gs
+
+-- a goal that a row leaves of another speaks of symbols below its next one only, of which there are no fewer, and
+-- goes by the same links
+pub record Follows (goal child : Goal) : Type 0 where
+  pub below : AreBelow child
+  pub symbols : goal.state.next_sym ≤ child.state.next_sym
+  pub links : child.state.links ≡ goal.state.links
+
+-- it holds on these heaps with the values that the other goal's symbols have, and some values of its own ones
+pub record HoldsStill (w : ℕ → Value) (goal : Goal) (e : Var → Option Value) (free taken : Heap)
+    (child : Goal) : Type 0 where
+  pub values : ℕ → Value
+  pub same : SameBelow goal.state.next_sym values w
+  pub holds : HoldsIn values child e free taken
+
+-- the goals that are left follow the goal, and wherever it holds, one of them does
+pub record Kept (goal : Goal) (left : List Goal) : Type 0 where
+  pub follow : AllByRecursion (Follows goal) left
+  pub hold : (w : ℕ → Value) (e : Var → Option Value) (free taken : Heap) → HoldsIn w goal e free taken
+      → SomeOf (HoldsStill w goal e free taken) left
+
+-- a row keeps what goals stand for
+abbrev pub KeepsGoals : (Goal → Option (List Goal)) → Type 0
+KeepsGoals row = (goal : Goal) (left : List Goal) → AreBelow goal → row goal ≡ Some left → Kept goal left

@@ -7,6 +7,8 @@ pub mod Cells
 pub mod Mapped
 pub mod Equalities
 pub mod Holds
+pub mod HoldsIn
+pub mod Below
 pub mod Laws
 pub mod Lemmas
 pub mod Examples

@@ -9,7 +9,7 @@ use Rattle.sf_rules.specs.Rows.Branches.{then_row, else_row}
 use Rattle.sf_rules.specs.Rows.Calls.{call_row, fork_row, give_row}
 use Rattle.sf_rules.specs.Rows.Commands.{assign_row, look_row, mutate_row, new_row, dispose_row}
 use Rattle.sf_rules.specs.Rows.Ends.{return_row, end_row}
-use Rattle.sf_rules.specs.Rows.Knowledge.{absurd_row, drop_row, force_row, split_row, unroll_row}
+use Rattle.sf_normal.specs.Knowledge.{absurd_row, drop_row, force_row, split_row, unroll_row}
 use Rattle.sf_rules.specs.Rows.Loops.{loop_row, around_row, again_row}
 use Rattle.sf_rules.specs.Rows.Produce.{add_row}
 use Rattle.sf_rules.specs.Rows.Regions.{enter_row, exit_row}

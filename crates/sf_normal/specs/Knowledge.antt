@@ -1,13 +1,14 @@
 -- The rows that work out what is known, whatever is to do: absurd, drop, force, split, unroll.
 -- Berdine, Calcagno, O'Hearn, "Symbolic Execution with Separation Logic" (2005), section 4: normalization.
-use Rattle.std.specs.Prelude.{ℕ, ◌+◌, Bool, true, false, ◌&&◌, ◌||◌, not, cond, nat_lt, Option, Some, None, List, [], ◌∷◌, ◌++◌}
+use Rattle.std.specs.Prelude.{ℕ, ◌+◌, Bool, false, ◌&&◌, ◌||◌, not, cond, Option, Some, None, List, [], ◌∷◌}
 use Rattle.std.specs.Option.{option_map, option_and_then}
 use Rattle.sf_base.specs.declared.ids.FieldId.{FieldId}
 use Rattle.sf_core.specs.declared.fields.Links.{Links}
 use Rattle.sf_sym.specs.declared.atom.Atom.{Atom}
 use Rattle.sf_sym.specs.declared.atom.Atom.TheVariants.{Points, Ls, Tree}
 use Rattle.sf_sym.specs.declared.term.Term.{Term}
-use Rattle.sf_sym.specs.declared.term.Term.TheVariants.{Nil, Int, Sym}
+use Rattle.sf_sym.specs.declared.term.Term.TheVariants.{Nil, Sym}
+use Rattle.sf_sym.specs.Below.{is_below}
 use Rattle.sf_sym.specs.Cells.{atom_at, with_atom, with_cell, without}
 use Rattle.sf_sym.specs.Equalities.{assumed_apart, assumed_equal}
 use Rattle.sf_sym.specs.Fields.{put_term}
@@ -45,12 +46,6 @@ force_row g a =
     option_and_then (λ e. cond (not (same_term e.0 e.1) && (is_constant e.0 || allocated g.state e.0 (Some a)))
     (Some (assumed_equal e.0 e.1 g ∷ [])) None)
     (option_and_then ends (atom_at g.state.atoms a))
-
--- the term is a constant, or a symbol that there is
-abbrev pub is_below : ℕ → Term → Bool
-is_below n Nil = true
-is_below n (Int i) = true
-is_below n (Sym m) = nat_lt m n
 
 -- split: two terms are the same, or they differ
 abbrev pub split_row : Goal → (t u : Term) → Option (List Goal)
