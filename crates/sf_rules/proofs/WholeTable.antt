@@ -20,6 +20,7 @@ use Rattle.sf_sym.specs.Goal.{Item, run, add, take, gave, head, again, exit, ret
 use Rattle.sf_sym.specs.Pending.{conjuncts_of}
 use Rattle.sf_sym.specs.State.{State, term}
 use Rattle.sf_rules.specs.Rows.Ends as ends
+use Rattle.sf_rules.specs.Rows.Front as front
 use Rattle.sf_rules.specs.Rows.Whole as whole
 use Rattle.sf_rules.specs.Setting.{Setting}
 use Rattle.sf_sym.specs.declared.tag.Tag.{Tag}
@@ -31,7 +32,8 @@ use Rattle.sf_sym.specs.Goal as goals
 use Rattle.sf_rules.specs.Table as built
 use Rattle.sf_sym.specs.Mapped as mapped
 use Rattle.sf_rules.specs.Laws.{BuiltRowsAreRows}
-use Rattle.sf_rules.specs.Rows.Subtract as subtract
+use Rattle.sf_rules.specs.Rows.Take as taken
+use Rattle.sf_consume.specs.Subtract as subtract
 use Rattle.sf_rules.specs.Table.{add_first, add_row, cell_first, cell_row, end_row, fits, has_numbers, has_term, mutate_one, mutate_row, new_fields, one_goal, return_row, row_of}
 
 -- fields that all have terms are met without a new symbol
@@ -71,14 +73,15 @@ module _ (s : State) (p : Place) (bindings : List (Option Term)) (cs : Conjuncts
       → new_fields fs [] ≡ o
       → option_map (one_goal (unless_none cs (add p (record { conjuncts = cs; bindings = bindings })) ++ rest))
       (option_map (with_cell s root) o) ≡ Some left
-      → produce.add_first s p bindings (also (points q (Known root) fs) cs) rest ≡ Some left
+      → option_map (λ g. g ∷ []) (produce.add_first s p bindings (also (points q (Known root) fs) cs) rest)
+      ≡ Some left
   add-fields q root fs None m e = absurd (cc)
   add-fields q root fs (Some all) m e =
       ap (λ (x : produce.MetFields). Some (produce.goal_after (with_cell x.state root x.fields) p cs x.bindings rest ∷ []))
       (fields-met s bindings fs [] all m) ∙ e
 
   add-whole : (c : Conjunct Term) → add_first s p (also c cs) bindings rest ≡ Some left
-      → produce.add_first s p bindings (also c cs) rest ≡ Some left
+      → option_map (λ g. g ∷ []) (produce.add_first s p bindings (also c cs) rest) ≡ Some left
   add-whole (holds q x) e = absurd (cc)
   add-whole (points q (Known root) fs) e = add-fields q root fs (new_fields fs []) refl e
   add-whole (points q (Exists n) fs) e = absurd (cc)
@@ -90,36 +93,33 @@ module _ (s : State) (p : Place) (bindings : List (Option Term)) (cs : Conjuncts
     abbrev todo : List Item
     todo = unless_none cs (take p (record { conjuncts = cs; bindings = bindings }) names) ++ rest
 
+    abbrev left_by : subtract.Want → Option (List Goal)
+    left_by w = goals.one_goal w.state (goals.taking p (taken.still w) names ++ rest)
+
+    abbrev handed_by : Term × subtract.Fit → subtract.Want
+    handed_by r = subtract.removed (subtract.handed_cell s r.0 a r.1) r.1.bindings cs
+
     cell-fits : (root : Term) (ws : List (FieldId × Operand Term)) (fields : List (FieldId × Term)) (b : Bool)
         → list_all (fits fields) ws ≡ b
         → option_map (one_goal todo) (cond b (Some (after_hand_over s root fields a)) None) ≡ Some left
-        → option_and_then (λ (w : subtract.Want). Some (record {
-          state = w.state;
-          todo = unless_none w.conjuncts (take p (record { conjuncts = w.conjuncts; bindings = w.bindings }) names) ++ rest;
-        } ∷ []))
-        (option_and_then (λ (f : subtract.Fit). Some (subtract.removed (after_hand_over f.state root f.fields a) f.bindings cs))
-        (subtract.fit_fields (record { state = s; fields = fields; bindings = bindings }) ws)) ≡ Some left
-    cell-fits root ws fields true l e =
-        rw (fields-fit (record { state = s; fields = fields; bindings = bindings }) ws l) e
+        → option_and_then left_by (option_map handed_by (option_map (λ f. (root, f))
+        (subtract.fit_fields (subtract.first_fit s fields bindings) ws))) ≡ Some left
+    cell-fits root ws fields true l e = rw (fields-fit (subtract.first_fit s fields bindings) ws l) e
     cell-fits root ws fields false l e = absurd (cc)
 
     cell-fields : (root : Term) (ws : List (FieldId × Operand Term)) (o : Option (List (FieldId × Term)))
         → option_map (one_goal todo) (option_and_then
         (λ fields. cond (list_all (fits fields) ws) (Some (after_hand_over s root fields a)) None) o) ≡ Some left
-        → option_and_then (λ (w : subtract.Want). Some (record {
-          state = w.state;
-          todo = unless_none w.conjuncts (take p (record { conjuncts = w.conjuncts; bindings = w.bindings }) names) ++ rest;
-        } ∷ []))
-        (option_and_then (λ fields. option_and_then
-        (λ (f : subtract.Fit). Some (subtract.removed (after_hand_over f.state root f.fields a) f.bindings cs))
-        (subtract.fit_fields (record { state = s; fields = fields; bindings = bindings }) ws)) o) ≡ Some left
+        → option_and_then left_by (option_map handed_by (option_and_then
+        (λ fields. option_map (λ f. (root, f)) (subtract.fit_fields (subtract.first_fit s fields bindings) ws))
+        o)) ≡ Some left
     cell-fields root ws None e = absurd (cc)
     cell-fields root ws (Some fields) e = cell-fits root ws fields (list_all (fits fields) ws) refl e
 
     cell-whole : (c : Conjunct Term)
         → cell_first s p (also c cs) bindings names rest a ≡ Some left
-        → subtract.take_row (subtract.cell_step a) s
-        (take p (record { conjuncts = also c cs; bindings = bindings }) names ∷ rest) ≡ Some left
+        → taken.take_row (subtract.cell_step a) s p (record { conjuncts = also c cs; bindings = bindings }) names rest
+        ≡ Some left
     cell-whole (holds q x) e = absurd (cc)
     cell-whole (points q (Known root) ws) e = cell-fields root ws (cell_at s.atoms a root) e
     cell-whole (points q (Exists n) ws) e = absurd (cc)
@@ -168,7 +168,7 @@ take-same p vars a =
 
 -- at the items in front
 return-whole : (s : State) (todo : List Item) (left : List Goal) → return_row s todo ≡ Some left
-    → ends.return_row s todo ≡ Some left
+    → front.at_return (ends.return_row s) todo ≡ Some left
 return-whole s [] left e = absurd (cc)
 return-whole s (return p post ∷ rest) left e =
     ap (λ ys. Some (record { state = s; todo = ys ++ (end p ∷ []) } ∷ [])) (sym (take-same p s.vars post)) ∙ e
@@ -182,7 +182,7 @@ return-whole s (exit p r ∷ rest) left e = absurd (cc)
 return-whole s (end p ∷ rest) left e = absurd (cc)
 
 end-whole : (s : State) (todo : List Item) (left : List Goal) → end_row s todo ≡ Some left
-    → ends.end_row s todo ≡ Some left
+    → front.at_end (ends.end_row s) todo ≡ Some left
 end-whole s [] left e = absurd (cc)
 end-whole s (end p ∷ rest) left e = e
 end-whole s (return p post ∷ rest) left e = absurd (cc)
@@ -200,7 +200,7 @@ written rest left None e = absurd (cc)
 written rest left (Some after) e = e
 
 mutate-command : (s : State) (c : Command) (rest : List Item) (a : ℕ) (left : List Goal)
-    → mutate_one s c rest a ≡ Some left → commands.mutate_row s (run c ∷ rest) a ≡ Some left
+    → mutate_one s c rest a ≡ Some left → commands.mutate_row a s c rest ≡ Some left
 mutate-command s (mutate p e f v) rest a left m =
     written rest left (state_after_write s (term s.vars e) f (term s.vars v) a) m
 mutate-command s (assign p x e) rest a left m = absurd (cc)
@@ -214,7 +214,7 @@ mutate-command s (fork p c d) rest a left m = absurd (cc)
 mutate-command s (with p r x c) rest a left m = absurd (cc)
 
 mutate-whole : (s : State) (todo : List Item) (a : ℕ) (left : List Goal) → mutate_row s todo a ≡ Some left
-    → commands.mutate_row s todo a ≡ Some left
+    → front.at_command (commands.mutate_row a s) todo ≡ Some left
 mutate-whole s [] a left e = absurd (cc)
 mutate-whole s (run c ∷ rest) a left e = mutate-command s c rest a left e
 mutate-whole s (add p given ∷ rest) a left e = absurd (cc)
@@ -228,12 +228,12 @@ mutate-whole s (end p ∷ rest) a left e = absurd (cc)
 
 add-conjuncts : (s : State) (p : Place) (bindings : List (Option Term)) (cs : Conjuncts Term) (rest : List Item)
     (left : List Goal) → add_first s p cs bindings rest ≡ Some left
-    → produce.add_first s p bindings cs rest ≡ Some left
+    → option_map (λ g. g ∷ []) (produce.add_first s p bindings cs rest) ≡ Some left
 add-conjuncts s p bindings none rest left e = absurd (cc)
 add-conjuncts s p bindings (also c cs) rest left e = add-whole s p bindings cs rest left c e
 
 add-item : (s : State) (todo : List Item) (left : List Goal) → add_row s todo ≡ Some left
-    → produce.add_row s todo ≡ Some left
+    → front.at_add (produce.add_row s) todo ≡ Some left
 add-item s [] left e = absurd (cc)
 add-item s (add p given ∷ rest) left e = add-conjuncts s p given.bindings given.conjuncts rest left e
 add-item s (run c ∷ rest) left e = absurd (cc)
@@ -248,13 +248,13 @@ add-item s (end p ∷ rest) left e = absurd (cc)
 cell-conjuncts : (s : State) (p : Place) (bindings : List (Option Term)) (names : List (List ℕ))
     (cs : Conjuncts Term) (rest : List Item) (a : ℕ) (left : List Goal)
     → cell_first s p cs bindings names rest a ≡ Some left
-    → subtract.take_row (subtract.cell_step a) s
-    (take p (record { conjuncts = cs; bindings = bindings }) names ∷ rest) ≡ Some left
+    → taken.take_row (subtract.cell_step a) s p (record { conjuncts = cs; bindings = bindings }) names rest
+    ≡ Some left
 cell-conjuncts s p bindings names none rest a left e = absurd (cc)
 cell-conjuncts s p bindings names (also c cs) rest a left e = cell-whole s p bindings cs rest left names a c e
 
 cell-item : (s : State) (todo : List Item) (a : ℕ) (left : List Goal) → cell_row s todo a ≡ Some left
-    → subtract.take_row (subtract.cell_step a) s todo ≡ Some left
+    → front.at_take (taken.take_row (subtract.cell_step a) s) todo ≡ Some left
 cell-item s [] a left e = absurd (cc)
 cell-item s (take p want names ∷ rest) a left e =
     cell-conjuncts s p want.bindings names want.conjuncts rest a left e

@@ -1,3 +1,4 @@
+pub mod Front
 pub mod Commands
 pub mod Branches
 pub mod Loops
@@ -5,5 +6,5 @@ pub mod Calls
 pub mod Regions
 pub mod Ends
 pub mod Produce
-pub mod Subtract
+pub mod Take
 pub mod Whole

@@ -2,3 +2,4 @@ pub mod Judge
 pub mod Ends
 pub mod Laws
 pub mod Internal
+pub mod Strategy

@@ -2,14 +2,14 @@
 -- Names: `at-LAW` speaks of the atom at an index.
 use Rattle.std.proofs.Common.{◌≡◌, ℕ, suc, ◌==◌, ◌<◌, ◌+◌, Bool, true, false, cond, Option, Some, None, List, [], ◌∷◌, ◌++◌, length, get_or, slice_set, is_some, refl, sym, ap, ◌∙◌, subst, arith}
 use Rattle.std.specs.List.{remove}
-use Rattle.std.specs.Option.{option_map}
+use Rattle.std.specs.Option.{option_and_then, option_map}
 use Rattle.std.proofs.lemmas.Bool.Decides.{Decides-eqb}
 use Rattle.sf_base.specs.declared.ids.FieldId.{FieldId}
 use Rattle.sf_sym.specs.declared.atom.Atom.{Atom}
 use Rattle.sf_sym.specs.declared.atom.Atom.TheVariants.{Points}
 use Rattle.sf_sym.specs.declared.atom.Numbered.{Numbered}
 use Rattle.sf_sym.specs.declared.term.Term.{Term}
-use Rattle.sf_sym.specs.Cells.{after_hand_over, cell_at, fields_at, state_after_write, with_fields, without}
+use Rattle.sf_sym.specs.Cells.{after_hand_over, atom_at, cell_at, fields_at, state_after_write, with_fields, without}
 use Rattle.sf_sym.specs.Fields.{put_term}
 use Rattle.sf_sym.specs.Internal.Indices.{index_from}
 use Rattle.sf_sym.specs.Lemmas.{points_at, same_term_is}
@@ -137,3 +137,55 @@ module _ (s : State) (a k : ℕ) (x : Numbered) (t : Term) where
       ap (λ xs. record s { atoms = xs; taken = taken }) (p ∙ sym at.removed)
       ∙ ap (λ xs. record s { atoms = without s.atoms a; taken = xs })
       (q ∙ ap (λ y. s.taken ++ y ∷ []) (λ i. record { number = number i; atom = cell i }))
+
+-- no atom of that number, by its index
+pub no_atom : (a i : ℕ) (xs : List Numbered) → index_from i xs a ≡ None → atom_at xs a ≡ None
+no_atom a i [] e = refl
+no_atom a i (x ∷ xs) e =
+    none_step (x.number == a) i (index_from (suc i) xs a) (Some x.atom) (atom_at xs a) (no_atom a (suc i) xs) e
+
+-- then nothing goes by it
+without-step : (a i : ℕ) (x : Numbered) (xs : List Numbered) (b : Bool)
+    → (index_from (suc i) xs a ≡ None → without xs a ≡ xs)
+    → cond b (Some i) (index_from (suc i) xs a) ≡ None → cond b xs (x ∷ without xs a) ≡ x ∷ xs
+without-step a i x xs true f e = absurd (cc)
+without-step a i x xs false f e = ap (λ ys. x ∷ ys) (f e)
+
+pub nothing_without : (a i : ℕ) (xs : List Numbered) → index_from i xs a ≡ None → without xs a ≡ xs
+nothing_without a i [] e = refl
+nothing_without a i (x ∷ xs) e =
+    without-step a i x xs (x.number == a) (nothing_without a (suc i) xs) e
+
+-- the atom at an index
+atom-step : (a i k : ℕ) (x d : Numbered) (xs : List Numbered) (b : Bool)
+    → (index_from (suc i) xs a ≡ Some k → (at : ℕ) × (suc i + at ≡ k) × (atom_at xs a ≡ Some (get_or xs at d).atom))
+    → cond b (Some i) (index_from (suc i) xs a) ≡ Some k
+    → (at : ℕ) × (i + at ≡ k) × (cond b (Some x.atom) (atom_at xs a) ≡ Some (get_or (x ∷ xs) at d).atom)
+atom-step a i k x d xs true f e = let same : i ≡ k = cc in (0, omega (arith, same), refl)
+atom-step a i k x d xs false f e = let s = f e in (suc s.0, omega (arith, s.1), s.2)
+
+atom-from : (a i k : ℕ) (xs : List Numbered) (d : Numbered) → index_from i xs a ≡ Some k
+    → (at : ℕ) × (i + at ≡ k) × (atom_at xs a ≡ Some (get_or xs at d).atom)
+atom-from a i k [] d e = absurd (cc)
+atom-from a i k (x ∷ xs) d e = atom-step a i k x d xs (x.number == a) (atom-from a (suc i) k xs d) e
+
+pub atom_found : (a k : ℕ) (x : Numbered) (xs : List Numbered) → index_from 0 xs a ≡ Some k → x ≡ get_or xs k x
+    → Some x.atom ≡ atom_at xs a
+atom_found a k x xs e is =
+    let s = atom-from a 0 k xs x e in
+    let same : s.0 ≡ k = omega (arith, s.1) in
+    let there : atom_at xs a ≡ Some (get_or xs k x).atom = subst (λ n. atom_at xs a ≡ Some (get_or xs n x).atom) same s.2 in
+    ap (λ y. Some y.atom) is ∙ sym there
+
+-- a cell of that number is an atom of that number
+cell-of-step : (x : Atom) (c : Option (List (FieldId × Term))) (o : Option Atom) (t : Term) (b : Bool)
+    → c ≡ option_and_then (λ y. fields_at y t) o
+    → cond b (fields_at x t) c ≡ option_and_then (λ y. fields_at y t) (cond b (Some x) o)
+cell-of-step x c o t true e = refl
+cell-of-step x c o t false e = e
+
+pub cell_of_atom : (a : ℕ) (xs : List Numbered) (t : Term)
+    → cell_at xs a t ≡ option_and_then (λ x. fields_at x t) (atom_at xs a)
+cell_of_atom a [] t = refl
+cell_of_atom a (x ∷ xs) t =
+    cell-of-step x.atom (cell_at xs a t) (atom_at xs a) t (x.number == a) (cell_of_atom a xs t)

@@ -1,4 +1,4 @@
-ghost use Rattle.std.specs.Prelude.{◌≡◌};
+ghost use Rattle.std.specs.Prelude.{◌≡◌, IfOk};
 ghost use Rattle.std.specs.Option.{option_map};
 ghost use Rattle.sf_sym.specs.Cells.{fields_at};
 ghost use Rattle.sf_sym.specs.Tests.{root};
@@ -6,6 +6,7 @@ ghost use Rattle.sf_sym.specs.Tests.{root};
 use crate::fields::FieldTerms;
 use crate::term::Term;
 use sf_base::FieldId;
+use std::alloc::AllocError;
 
 /// A part of the heap, as a state knows it.
 #[derive(Drop)]
@@ -44,6 +45,16 @@ impl Atom {
         match self {
             Atom::Points(root, fields) if root.is(t) => Some(fields.as_slice()),
             Atom::Points(..) | Atom::Ls(..) | Atom::Tree(_) => None,
+        }
+    }
+
+    /// A copy of the known fields, where it is a cell at that term. An `Err` means out of memory.
+    pub(crate) fn copy_fields(&self, t: Term) -> Result<Option<FieldTerms>, AllocError>
+        ensures { IfOk result (λ fields. fields ≡ fields_at self.now t) }
+    {
+        match self {
+            Atom::Points(root, fields) if root.is(t) => Ok(Some(fields.copy()?)),
+            Atom::Points(..) | Atom::Ls(..) | Atom::Tree(_) => Ok(None),
         }
     }
 }

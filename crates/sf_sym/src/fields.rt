@@ -1,6 +1,6 @@
 //! The terms of a cell's fields.
 
-ghost use Rattle.std.specs.Prelude.{◌≡◌, ◌≤◌, [], length, map, slice_get, OnErr, OnOk};
+ghost use Rattle.std.specs.Prelude.{◌≡◌, ◌≤◌, [], length, map, slice_get, IfOk, OnErr, OnOk};
 ghost use Rattle.sf_sym.specs.Equalities.{put_for};
 ghost use Rattle.sf_sym.specs.Fields.{field_term, put_term};
 ghost use Rattle.sf_sym.specs.Internal.Places.{is_field, place_of};
@@ -40,6 +40,15 @@ impl FieldTerms {
         FieldTerms {
             items: SmallVec::new(alloc),
         }
+    }
+
+    /// The same fields with the same terms. An `Err` means out of memory.
+    pub fn copy(&self) -> Result<FieldTerms, AllocError>
+        ensures { IfOk result (λ fields. fields ≡ self.now) }
+    {
+        Ok(FieldTerms {
+            items: SmallVec::from_slice(*self.items.allocator(), self.items.as_slice())?,
+        })
     }
 
     /// The fields with their terms.

@@ -6,6 +6,7 @@
 //! - `fields`: the terms of a cell's fields.
 //! - `state`: states, and the primitive changes of them.
 //! - `known`: the tests of a state.
+//! - `decided`: which terms operands have.
 //! - `pending`: conjuncts that are still to be assumed or to be shown.
 //! - `goal`: a state, and what is still to do from there.
 //! - `tag`: the steps of a proof.
@@ -15,6 +16,7 @@
 #![tactic(auto)]
 
 mod atom;
+mod decided;
 pub mod examples;
 mod fields;
 mod goal;
@@ -27,6 +29,7 @@ mod tag;
 mod term;
 
 pub use atom::{Atom, Numbered};
+pub use decided::term_of;
 pub use fields::{FieldTerms, field_term};
 pub use goal::{Goal, Item};
 pub use pending::Pending;

@@ -1,6 +1,6 @@
 //! Conjuncts that are still to be assumed or to be shown.
 
-ghost use Rattle.std.specs.Prelude.{◌≡◌, ◌==◌, ◌∷◌, [], List, length, IfSome, IfNone};
+ghost use Rattle.std.specs.Prelude.{◌≡◌, ◌<◌, ◌==◌, ◌∷◌, [], List, Some, length, set, IfSome, IfNone, IfOk, OnErr, OnOk};
 ghost use Rattle.sf_core.specs.declared.assertion.Conjunct.{Conjunct as ConjunctOf};
 ghost use Rattle.sf_sym.specs.Equalities.{pending_with, put_for};
 ghost use Rattle.sf_sym.specs.Pending.{pending_of};
@@ -9,6 +9,7 @@ ghost use Rattle.sf_sym.specs.declared.term.Term.{Term as TermOf};
 use crate::replace::Replacement;
 use crate::term::Term;
 use sf_core::Conjunct;
+use std::alloc::AllocError;
 use std::marker::Model;
 
 /// Conjuncts with terms that are still to be assumed or to be shown, and what their existentials stand
@@ -61,6 +62,68 @@ impl Pending {
     {
         let (first, _) = self.conjuncts.split_last()?;
         Some(first)
+    }
+
+    /// What the existentials stand for, by their numbers.
+    pub fn bindings(&self) -> &[Option<Term>]
+        ensures { result.now ≡ self.now.bindings }
+    {
+        self.bindings.as_slice()
+    }
+
+    /// The existential of that number stands for the term from now on, if there is one of that number.
+    pub fn bind(&mut self, n: u32, t: Term)
+        ensures conjuncts { self.new.conjuncts ≡ self.old.conjuncts }
+        ensures bindings { self.new.bindings ≡ set self.old.bindings n (Some t) }
+    {
+        if (n as usize) < self.bindings.len() {
+            self.bindings[n as usize] = Some(t);
+        }
+    }
+
+    /// Puts a conjunct in place of the first, if one is left.
+    pub fn replace_first(&mut self, c: Conjunct<Term>)
+        ensures conjuncts { (first : ConjunctOf TermOf) (rest : List (ConjunctOf TermOf))
+            → self.old.conjuncts ≡ first ∷ rest → self.new.conjuncts ≡ c ∷ rest }
+        ensures bindings { self.new.bindings ≡ self.old.bindings }
+    {
+        if self.conjuncts.pop().is_some() {
+            self.conjuncts.push_reserved(c);
+        }
+    }
+
+    /// Puts two conjuncts in place of the first, which is handed out. An `Err` means out of memory, and
+    /// then nothing changes.
+    pub fn split_first(
+        &mut self,
+        one: Conjunct<Term>,
+        two: Conjunct<Term>,
+    ) -> Result<Conjunct<Term>, AllocError>
+        requires { 0 < length self.old.conjuncts }
+        ensures taken { IfOk result (λ c. (first : ConjunctOf TermOf) (rest : List (ConjunctOf TermOf))
+            → self.old.conjuncts ≡ first ∷ rest → c ≡ first) }
+        ensures conjuncts { OnOk result ((first : ConjunctOf TermOf) (rest : List (ConjunctOf TermOf))
+            → self.old.conjuncts ≡ first ∷ rest → self.new.conjuncts ≡ one ∷ two ∷ rest) }
+        ensures bindings { self.new.bindings ≡ self.old.bindings }
+        ensures err { OnErr result (self.new ≡ self.old) }
+    {
+        self.conjuncts.reserve(1)?;
+        let Some(c) = self.conjuncts.pop() else {
+            unreachable!();
+        };
+        self.conjuncts.push_reserved(two);
+        self.conjuncts.push_reserved(one);
+        Ok(c)
+    }
+
+    /// Puts a conjunct in place of the first two, as it was before they came in its place.
+    pub fn join_first(&mut self, c: Conjunct<Term>)
+        ensures conjuncts { (one two : ConjunctOf TermOf) (rest : List (ConjunctOf TermOf))
+            → self.old.conjuncts ≡ one ∷ two ∷ rest → self.new.conjuncts ≡ c ∷ rest }
+        ensures bindings { self.new.bindings ≡ self.old.bindings }
+    {
+        self.conjuncts.pop();
+        self.replace_first(c);
     }
 
     /// Takes the first conjunct, if one is left.

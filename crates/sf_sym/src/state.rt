@@ -1,12 +1,13 @@
 //! States: what is known at one point of a procedure, and the primitive changes of it.
 
-ghost use Rattle.std.specs.Prelude.{◌≡◌, ◌<◌, ◌≤◌, ◌^◌, ◌-◌, true, length, is_some, Some, List, IfSome, IfNone, OnErr, OnOk};
+ghost use Rattle.std.specs.Prelude.{◌≡◌, ◌<◌, ◌≤◌, ◌^◌, ◌-◌, true, length, is_some, Some, List, IfSome, IfNone, IfOk, OnErr, OnOk};
 ghost use Rattle.std.specs.Option.{option_map};
 ghost use Rattle.sf_base.specs.declared.ids.FieldId.{FieldId as FieldNumber};
-ghost use Rattle.sf_sym.specs.Cells.{after_hand_over, cell_at, fields_at, state_after_write, with_cell};
+ghost use Rattle.sf_sym.specs.Cells.{after_hand_over, atom_at, cell_at, fields_at, handed, state_after_write, with_cell, without};
 ghost use Rattle.sf_sym.specs.Equalities.{put_for, state_with, with_pair};
 ghost use Rattle.sf_sym.specs.Internal.Indices.{index_from};
 ghost use Rattle.sf_sym.specs.State.{first_state};
+ghost use Rattle.sf_sym.specs.declared.atom.Atom.{Atom as AtomOf};
 ghost use Rattle.sf_sym.specs.declared.term.Term.{Term as TermOf};
 
 use crate::atom::{Atom, Numbered};
@@ -107,6 +108,14 @@ impl State {
         self.atoms[i].atom.fields_at(root)
     }
 
+    /// The atom of that number.
+    pub fn atom(&self, a: u32) -> Option<&Atom>
+        ensures { option_map (λ x. x.now) result ≡ atom_at self.now.atoms a }
+    {
+        let i = index_of(self.atoms.as_slice(), a)?;
+        Some(&self.atoms[i].atom)
+    }
+
     /// One more cell: it has the next number, and a symbol at which it is differs from nil. An `Err`
     /// means out of memory, and then nothing changes.
     pub fn add_cell(&mut self, root: Term, fields: FieldTerms) -> Result<(), AllocError>
@@ -164,6 +173,57 @@ impl State {
         Ok(())
     }
 
+    /// A copy of the fields of the atom of that number, where it is a cell at that term. An `Err` means out
+    /// of memory.
+    #[tactic(auto, using(crate::proofs::Indices::cell_of_atom))]
+    pub fn copy_cell(&self, a: u32, root: Term) -> Result<Option<FieldTerms>, AllocError>
+        ensures { IfOk result (λ fields. fields ≡ cell_at self.now.atoms a root) }
+    {
+        match self.atom(a) {
+            Some(atom) => atom.copy_fields(root),
+            None => Ok(None),
+        }
+    }
+
+    /// Hands the atom of that number over: it goes from the atoms to the taken ones. An `Err` means out of
+    /// memory, and then nothing changes.
+    pub fn hand_over_atom(&mut self, a: u32) -> Result<(), AllocError>
+        requires { is_some (atom_at self.old.atoms a) ≡ true }
+        ensures ok { OnOk result ((x : AtomOf) → atom_at self.old.atoms a ≡ Some x
+            → self.new ≡ handed self.old a x) }
+        ensures err { OnErr result (self.new ≡ self.old) }
+    {
+        self.taken.reserve(1)?;
+        let Some(atom) = take_out(&mut self.atoms, a) else {
+            unreachable!();
+        };
+        self.taken.push_reserved(Numbered { number: a, atom });
+        Ok(())
+    }
+
+    /// Hands the cell of that number at the root over with these fields, for which new symbols were used up
+    /// to that number. An `Err` means out of memory, and then nothing changes.
+    pub fn hand_over_cell(
+        &mut self,
+        a: u32,
+        root: Term,
+        fields: FieldTerms,
+        next_sym: u32,
+    ) -> Result<(), AllocError>
+        ensures ok { OnOk result (self.new
+            ≡ after_hand_over (record self.old { next_sym = next_sym }) root fields a) }
+        ensures err { OnErr result (self.new ≡ self.old) }
+    {
+        self.taken.reserve(1)?;
+        take_out(&mut self.atoms, a);
+        self.taken.push_reserved(Numbered {
+            number: a,
+            atom: Atom::Points(root, fields),
+        });
+        self.next_sym = next_sym;
+        Ok(())
+    }
+
     /// Hands the cell of that number at the root over: it goes from the atoms to the taken ones. An `Err`
     /// means out of memory, and then nothing changes.
     pub fn hand_over(&mut self, a: u32, root: Term) -> Result<(), AllocError>
@@ -181,6 +241,16 @@ impl State {
         self.taken.push_reserved(atom);
         Ok(())
     }
+}
+
+/// Takes the first atom of that number out, if one is there.
+fn take_out(atoms: &mut Vec<Numbered>, a: u32) -> Option<Atom>
+    ensures atom { result ≡ atom_at atoms.old.items a }
+    ensures others { atoms.new.items ≡ without atoms.old.items a }
+{
+    let i = index_of(atoms.as_slice(), a)?;
+    let Numbered { number: _, atom } = atoms.remove(i);
+    Some(atom)
 }
 
 /// The index of the first atom of that number.

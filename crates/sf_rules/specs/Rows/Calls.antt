@@ -10,10 +10,10 @@ use Rattle.sf_base.specs.declared.place.Place.{Place}
 use Rattle.sf_core.specs.declared.command.Expr.{Expr}
 use Rattle.sf_core.specs.declared.command.Expr.TheVariants.{Var as Variable, Nil as ENil, Int as EInt}
 use Rattle.sf_core.specs.declared.command.Occurrence.{Occurrence}
-use Rattle.sf_core.specs.Program.Syntax.{Call, call, fork, Procedure}
+use Rattle.sf_core.specs.Program.Syntax.{Call, Command, call, fork, Procedure}
 use Rattle.sf_sym.specs.declared.term.Term.{Term}
 use Rattle.sf_sym.specs.declared.term.Term.TheVariants.{Nil, Int}
-use Rattle.sf_sym.specs.Goal.{Item, run, gave, Goal, one_goal}
+use Rattle.sf_sym.specs.Goal.{Item, gave, Goal, one_goal}
 use Rattle.sf_sym.specs.State.{State, term, term_at, with_symbols}
 use Rattle.sf_rules.specs.Setting.{Setting}
 use Rattle.sf_rules.specs.Words.{to_add, to_take}
@@ -59,10 +59,10 @@ called d s p c rest g =
     (to_take c.place (term_before s c) (d.ordered g.pre)
     ++ (gave p set [] ∷ (to_add p (term_after s set c) (d.ordered g.post) ++ rest)))
 
-abbrev pub call_row : Setting → State → List Item → Option (List Goal)
-call_row d s (run (call p c) ∷ rest) =
+abbrev pub call_row : Setting → State → Command → List Item → Option (List Goal)
+call_row d s (call p c) rest =
     option_and_then (called d s p c rest) (slice_get d.program.procedures c.callee.0)
-call_row d s _ = None
+call_row d s _ rest = None
 
 -- fork: both preconditions are due, then what the calls may change is unknown, and both postconditions are assumed,
 -- each with what its own call may have changed
@@ -76,14 +76,14 @@ forked d s p c e rest g h =
     ++ (gave p (first ++ second) [] ∷ (to_add p (term_after s first c) (d.ordered g.post)
     ++ (to_add p (term_after s second e) (d.ordered h.post) ++ rest)))))
 
-abbrev pub fork_row : Setting → State → List Item → Option (List Goal)
-fork_row d s (run (fork p c e) ∷ rest) =
+abbrev pub fork_row : Setting → State → Command → List Item → Option (List Goal)
+fork_row d s (fork p c e) rest =
     option_and_then (λ g. option_and_then (forked d s p c e rest g) (slice_get d.program.procedures e.callee.0))
     (slice_get d.program.procedures c.callee.0)
-fork_row d s _ = None
+fork_row d s _ rest = None
 
 -- give: what was taken is gone for good; variables are set and removed
-abbrev pub give_row : State → List Item → Option (List Goal)
-give_row s (gave p set removed ∷ rest) =
+abbrev pub give_row : State → Place → (set : List (Var × Term)) → (removed : List Var) → List Item
+    → Option (List Goal)
+give_row s p set removed rest =
     one_goal (record s { taken = []; vars = remove_vars removed (set_vars set s.vars) }) rest
-give_row s _ = None

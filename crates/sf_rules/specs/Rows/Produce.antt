@@ -1,7 +1,7 @@
 -- The row of what is assumed: add.
 -- Berdine, Calcagno, O'Hearn, "Symbolic Execution with Separation Logic" (2005), section 4.
 use Rattle.std.specs.Prelude.{ℕ, zero, suc, get_or, Option, Some, None, List, [], ◌∷◌, ◌++◌}
-use Rattle.std.specs.Option.{option_and_then}
+use Rattle.std.specs.Option.{option_map}
 use Rattle.sf_base.specs.declared.ids.FieldId.{FieldId}
 use Rattle.sf_base.specs.declared.place.Place.{Place}
 use Rattle.sf_core.specs.declared.assertion.Operand.{Operand}
@@ -14,9 +14,9 @@ use Rattle.sf_sym.specs.declared.term.Term.TheVariants.{Sym}
 use Rattle.sf_sym.specs.Cells.{with_cell, with_atom}
 use Rattle.sf_sym.specs.Equalities.{assumed_apart, assumed_equal}
 use Rattle.sf_sym.specs.Fields.{put_term}
-use Rattle.sf_sym.specs.Goal.{Item, add, Goal, adding}
+use Rattle.sf_sym.specs.Goal.{Item, Goal, adding}
 use Rattle.sf_sym.specs.State.{State, with_symbols}
-use Rattle.sf_sym.specs.Pending.{bind_to}
+use Rattle.sf_sym.specs.Pending.{Pending, bind_to}
 
 -- what meeting an operand gives: its term, the state, and what existentials stand for from then on
 pub record Met : Type 0 where
@@ -80,11 +80,11 @@ added s p bindings (tree q left right x) cs rest =
     Some (goal_after (with_atom (Tree root.term) root.state) p cs root.bindings rest)
 added s p bindings (choose q t this that) cs rest = None
 
-abbrev pub add_first : State → Place → List (Option Term) → Conjuncts Term → List Item → Option (List Goal)
+-- the first conjunct is assumed
+abbrev pub add_first : State → Place → List (Option Term) → Conjuncts Term → List Item → Option Goal
 add_first s p bindings none rest = None
-add_first s p bindings (also c cs) rest =
-    option_and_then (λ g. Some (g ∷ [])) (added s p bindings c cs rest)
+add_first s p bindings (also c cs) rest = added s p bindings c cs rest
 
-abbrev pub add_row : State → List Item → Option (List Goal)
-add_row s (add p given ∷ rest) = add_first s p given.bindings given.conjuncts rest
-add_row s _ = None
+-- add: the first conjunct to assume is assumed
+abbrev pub add_row : State → Place → Pending → List Item → Option (List Goal)
+add_row s p given rest = option_map (λ g. g ∷ []) (add_first s p given.bindings given.conjuncts rest)

@@ -9,8 +9,8 @@ use Rattle.sf_base.specs.declared.ids.Var.TheVariants.{Shared}
 use Rattle.sf_base.specs.declared.place.Place.{Place}
 use Rattle.sf_core.specs.declared.assertion.Test.{Test}
 use Rattle.sf_core.specs.declared.command.Expr.{Expr}
-use Rattle.sf_core.specs.Program.Syntax.{with, Block, Resource}
-use Rattle.sf_sym.specs.Goal.{Item, run, gave, exit, Goal, one_goal, to_run}
+use Rattle.sf_core.specs.Program.Syntax.{Command, with, Block, Resource}
+use Rattle.sf_sym.specs.Goal.{Item, gave, exit, Goal, one_goal, to_run}
 use Rattle.sf_sym.specs.State.{State, term}
 use Rattle.sf_rules.specs.Setting.{Setting}
 use Rattle.sf_rules.specs.Words.{to_add, to_add_test, to_take}
@@ -30,16 +30,15 @@ entered d s p r t body rest of =
     (to_add p (term now.vars) (d.ordered of.invariant)
     ++ (to_add_test p (term now.vars) t ++ (to_run body ++ (exit p r ∷ rest))))
 
-abbrev pub enter_row : Setting → State → List Item → Option (List Goal)
-enter_row d s (run (with p r t body) ∷ rest) =
+abbrev pub enter_row : Setting → State → Command → List Item → Option (List Goal)
+enter_row d s (with p r t body) rest =
     option_and_then (entered d s p r t body rest) (slice_get d.program.resources r.0)
-enter_row d s _ = None
+enter_row d s _ rest = None
 
 -- exit: the invariant is due, and then the resource's variables are gone
-abbrev pub exit_row : Setting → State → List Item → Option (List Goal)
-exit_row d s (exit p r ∷ rest) =
+abbrev pub exit_row : Setting → State → Place → ResId → List Item → Option (List Goal)
+exit_row d s p r rest =
     option_and_then (λ of. one_goal s
     (to_take p (term s.vars) (d.ordered of.invariant)
     ++ (gave p [] (variables_from r 0 of.variables) ∷ rest)))
     (slice_get d.program.resources r.0)
-exit_row d s _ = None

@@ -1,0 +1,2 @@
+pub mod Subtract
+pub mod Internal

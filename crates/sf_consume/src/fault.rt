@@ -1,0 +1,21 @@
+use std::alloc::AllocError;
+
+/// Why a tag leaves nothing of a subtraction.
+#[derive(Clone, Copy, Debug, PartialEq, Eq, Drop)]
+pub enum ConsumeFault {
+    /// The tag has no row there: it isn't one of subtraction, or the condition of its row doesn't hold.
+    NotARule,
+    /// Out of memory.
+    OutOfMemory,
+}
+
+impl From<AllocError> for ConsumeFault {
+    ghost use Rattle.std.specs.Prelude.{◌≡◌};
+    ghost use Rattle.sf_consume.specs.declared.fault.ConsumeFault.TheVariants.{OutOfMemory};
+
+    ghost from_gives = { λ _ e. e ≡ OutOfMemory };
+
+    fn from(_error: AllocError) -> ConsumeFault {
+        ConsumeFault::OutOfMemory
+    }
+}

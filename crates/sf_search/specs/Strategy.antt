@@ -1,0 +1,267 @@
+-- The strategy, which chooses the tag at each goal, or says why the goal is stuck.
+-- Berdine, Calcagno, O'Hearn, "Smallfoot" (2005): proof search by symbolic execution, in this project's own profile.
+use Rattle.std.specs.Prelude.{ℕ, Bool, true, ◌&&◌, ◌||◌, not, cond, is_some, nat_lt, Option, Some, None, List, [], ◌∷◌}
+use Rattle.std.specs.Option.{option_map, option_and_then}
+use Rattle.sf_base.specs.declared.ids.FieldId.{FieldId}
+use Rattle.sf_consume.specs.Subtract.{bind_step, both, cell_step, empty_step, is_same_shape, same_step, wanted_shape, Step}
+use Rattle.sf_core.specs.declared.assertion.Operand.{Operand}
+use Rattle.sf_core.specs.declared.assertion.Test.{Test}
+use Rattle.sf_core.specs.declared.assertion.Test.TheVariants.{True, Equal, Differ}
+use Rattle.sf_core.specs.Program.Syntax.{Conjunct, holds, points, segment, tree, choose, Conjuncts, none, also, Command, assign, look_up, mutate, new, dispose, if, while, call, fork, with}
+use Rattle.sf_sym.specs.declared.atom.Atom.{Atom}
+use Rattle.sf_sym.specs.declared.atom.Atom.TheVariants.{Points, Ls, Tree}
+use Rattle.sf_sym.specs.declared.atom.Numbered.{Numbered}
+use Rattle.sf_sym.specs.declared.tag.Tag.{Tag}
+use Rattle.sf_sym.specs.declared.tag.Tag.TheVariants as t
+use Rattle.sf_sym.specs.declared.term.Term.{Term}
+use Rattle.sf_sym.specs.declared.term.Term.TheVariants.{Nil}
+use Rattle.sf_sym.specs.Cells.{fields_at}
+use Rattle.sf_sym.specs.Decided.{command_test, is_false, is_true, term_of, test_of_terms}
+use Rattle.sf_sym.specs.Goal.{Item, run, add, take, gave, head, again, exit, return, end, Goal}
+use Rattle.sf_sym.specs.Pending.{Pending}
+use Rattle.sf_sym.specs.State.{State, term}
+use Rattle.sf_sym.specs.Tests.{allocated, differs, is_absurd, is_constant, parts, same_term}
+use Rattle.sf_normal.specs.Knowledge.{ends, is_nothing}
+
+-- why a goal is stuck
+pub data Kind : Type 0 where
+  -- the command's cell isn't known to be there
+  no_cell : Kind
+  -- two terms aren't known to be the same
+  not_equal : Kind
+  -- two terms aren't known to differ
+  not_different : Kind
+  -- a wanted part of the heap isn't known to be there
+  no_atom : Kind
+  -- parts of the heap are left at the end
+  leak : Kind
+  -- the end of a wanted segment isn't known to be outside the segment that begins it
+  end_not_allocated : Kind
+
+-- what the strategy does at a goal: it takes a tag, or it is stuck there
+pub data Choice : Type 0 where
+  takes : Tag → Choice
+  stays : Kind → Choice
+
+-- Atoms
+-- what has the lower number, of two things that are there or not
+abbrev pub lower : {X : Type 0} → Option (ℕ × X) → Option (ℕ × X) → Option (ℕ × X)
+lower None b = b
+lower (Some a) None = Some a
+lower (Some a) (Some b) = cond (nat_lt b.0 a.0) (Some b) (Some a)
+
+-- the lowest atom of which something is so, with what is said of it
+abbrev pub lowest : {X : Type 0} → (Atom → Option X) → List Numbered → Option (ℕ × X)
+lowest f [] = None
+lowest f (a ∷ rest) = lower (option_map (λ x. (a.number, x)) (f a.atom)) (lowest f rest)
+
+-- an atom of which a test is true
+abbrev pub which : (Atom → Bool) → Atom → Option Atom
+which test a = cond (test a) (Some a) None
+
+-- the end of a segment that begins at the term
+abbrev pub segment_at : Term → Atom → Option Term
+segment_at u (Points v fields) = None
+segment_at u (Ls v w) = cond (same_term v u) (Some w) None
+segment_at u (Tree v) = None
+
+-- a tree with that root
+abbrev pub tree_at : Term → Atom → Option Atom
+tree_at u (Points v fields) = None
+tree_at u (Ls v w) = None
+tree_at u (Tree v) = cond (same_term v u) (Some (Tree v)) None
+
+-- a segment or tree whose root can't be a cell of its own
+abbrev pub forced_ends : State → (a : ℕ) → Atom → Option (Term × Term)
+forced_ends s a x =
+    option_and_then (λ e. cond (not (same_term e.0 e.1) && (is_constant e.0 || allocated s e.0 (Some a))) (Some e)
+    None) (ends x)
+
+-- the lowest atom that is to be empty
+abbrev pub lowest_forced : State → List Numbered → Option (ℕ × (Term × Term))
+lowest_forced s [] = None
+lowest_forced s (a ∷ rest) =
+    lower (option_map (λ e. (a.number, e)) (forced_ends s a.number a.atom)) (lowest_forced s rest)
+
+-- the ends of a segment or tree of which it isn't known whether it is empty
+abbrev pub undecided_ends : State → Atom → Option (Term × Term)
+undecided_ends s x =
+    option_and_then (λ e. cond (same_term e.0 e.1 || differs s e.0 e.1) None (Some e)) (ends x)
+
+-- Where a goal would be stuck
+-- the ends of the lowest atom or taken atom that is undecided are split, and without one the goal is stuck
+abbrev pub split_or : State → Kind → Choice
+split_or s kind = go (lowest (undecided_ends s) (parts s))
+  where
+    go : Option (ℕ × (Term × Term)) → Choice
+    go None = stays kind
+    go (Some (a, e)) = takes (t.Split e.0 e.1)
+
+-- the first of two choices that is there
+abbrev pub or_else : Option Choice → Choice → Choice
+or_else None c = c
+or_else (Some c) d = c
+
+-- a part of the heap that may begin with a cell at the term is opened: the lowest segment there, or else the lowest
+-- tree; it is unrolled where it surely isn't empty, and else its ends are split
+abbrev pub opened_by : State → (root end_ : Term) → (a : ℕ) → Choice
+opened_by s u v a = cond (differs s u v) (takes (t.Unroll a)) (takes (t.Split u v))
+
+abbrev pub opened : State → Term → Option Choice
+opened s u = first (lowest (segment_at u) s.atoms) (lowest (tree_at u) s.atoms)
+  where
+    first : Option (ℕ × Term) → Option (ℕ × Atom) → Option Choice
+    first (Some (a, w)) others = Some (opened_by s u w a)
+    first None (Some (a, x)) = Some (opened_by s u Nil a)
+    first None None = None
+
+-- a cell at that term is wanted: the lowest one, or a part of the heap is opened
+abbrev pub at_cell : State → Term → (found : ℕ → Choice) → Kind → Choice
+at_cell s u found kind = first (lowest (λ x. fields_at x u) s.atoms)
+  where
+    first : Option (ℕ × List (FieldId × Term)) → Choice
+    first (Some (a, fields)) = found a
+    first None = or_else (opened s u) (split_or s kind)
+
+-- a tag where its row is there
+abbrev pub takes_if : Bool → Tag → Option Choice
+takes_if b tag = cond b (Some (takes tag)) None
+
+-- Choices
+-- a test that isn't decided is split by its two terms
+abbrev pub at_test : State → Test Term → Choice
+at_test s test =
+    cond (is_true s test) (takes t.Then) (cond (is_false s test) (takes t.Else) (split_by test))
+  where
+    split_by : Test Term → Choice
+    split_by True = takes t.Then
+    split_by (Equal u v) = takes (t.Split u v)
+    split_by (Differ u v) = takes (t.Split u v)
+
+-- a choice among conjuncts, whose operands have terms
+abbrev pub at_choice : State → List (Option Term) → Test (Operand Term) → Choice
+at_choice s bindings test = known (test_of_terms bindings test)
+  where
+    known : Option (Test Term) → Choice
+    known None = split_or s not_equal
+    known (Some x) = at_test s x
+
+-- Commands
+abbrev pub at_command : State → Command → Choice
+at_command s (assign p x e) = takes t.Assign
+at_command s (look_up p x e f) = at_cell s (term s.vars e) (λ a. takes (t.Look a)) no_cell
+at_command s (mutate p e f v) = at_cell s (term s.vars e) (λ a. takes (t.Mutate a)) no_cell
+at_command s (new p x) = takes t.New
+at_command s (dispose p e) = at_cell s (term s.vars e) (λ a. takes (t.Dispose a)) no_cell
+at_command s (if p test c d) = at_test s (command_test (term s.vars) test)
+at_command s (while p test a c) = takes t.Loop
+at_command s (call p c) = takes t.Call
+at_command s (fork p c d) = takes t.Fork
+at_command s (with p r test c) = takes t.Enter
+
+-- What is assumed
+abbrev pub at_given : State → List (Option Term) → Conjuncts Term → Choice
+at_given s bindings (also (choose p test this that) cs) = at_choice s bindings test
+at_given s bindings _ = takes t.Add
+
+-- What is to be shown
+-- whether a step has a row at a conjunct
+abbrev pub has_step : Step → State → List (Option Term) → Conjunct Term → Bool
+has_step step s bindings c = is_some (step s bindings c none)
+
+-- an equality: an existential gets a term, or the terms are one
+abbrev pub at_equality : State → List (Option Term) → Conjunct Term → Choice
+at_equality s bindings c =
+    or_else (takes_if (has_step bind_step s bindings c) t.Bind)
+    (or_else (takes_if (has_step same_step s bindings c) t.Same) (split_or s not_equal))
+
+-- a wanted cell at that term: the lowest one there, if it fits
+abbrev pub at_wanted_cell : State → List (Option Term) → Conjunct Term → Term → Choice
+at_wanted_cell s bindings c u =
+    at_cell s u
+    (λ a. or_else (takes_if (has_step (cell_step a) s bindings c) (t.Cell a)) (split_or s not_equal)) no_atom
+
+-- the lowest atom that is the wanted one
+abbrev pub exact_atom : State → Option Atom → Option Choice
+exact_atom s None = None
+exact_atom s (Some wanted) =
+    option_map (λ f. takes (t.Exact f.0)) (lowest (which (λ x. is_same_shape x wanted)) s.atoms)
+
+-- the lowest cell at that term
+abbrev pub begins_with : State → Term → (ℕ → Tag) → Option Choice
+begins_with s u tag = option_map (λ f. takes (tag f.0)) (lowest (λ x. fields_at x u) s.atoms)
+
+-- the lowest segment from that term: it is joined where the wanted end can't be inside it
+abbrev pub joins : State → (u v : Term) → Option Choice
+joins s u v = option_map (λ f. cond (is_constant v || allocated s v (Some f.0)) (takes (t.Join f.0))
+    (split_or s end_not_allocated)) (lowest (segment_at u) s.atoms)
+
+-- a wanted list between these terms
+abbrev pub at_list : State → List (Option Term) → Conjunct Term → Option (Term × Term) → Choice
+at_list s bindings c None = split_or s no_atom
+at_list s bindings c (Some (u, v)) =
+    or_else (takes_if (has_step empty_step s bindings c) t.Empty)
+    (or_else (exact_atom s (wanted_shape bindings c))
+    (or_else (takes_if (not (differs s u v)) (t.Split u v))
+    (or_else (begins_with s u t.Head)
+    (or_else (joins s u v) (split_or s no_atom)))))
+
+-- a wanted tree with that root
+abbrev pub at_tree : State → List (Option Term) → Conjunct Term → Option Term → Choice
+at_tree s bindings c None = split_or s no_atom
+at_tree s bindings c (Some u) =
+    or_else (takes_if (has_step empty_step s bindings c) t.Empty)
+    (or_else (exact_atom s (wanted_shape bindings c))
+    (or_else (begins_with s u t.Node)
+    (or_else (takes_if (not (differs s u Nil)) (t.Split u Nil)) (split_or s no_atom))))
+
+-- one wanted conjunct
+abbrev pub at_wanted : State → List (Option Term) → Conjunct Term → Choice
+at_wanted s bindings (holds p True) = split_or s not_equal
+at_wanted s bindings (holds p (Equal x y)) = at_equality s bindings (holds p (Equal x y))
+at_wanted s bindings (holds p (Differ x y)) =
+    or_else (option_and_then (λ e. takes_if (differs s e.0 e.1) t.Apart) (both bindings x y))
+    (split_or s not_different)
+at_wanted s bindings (points p x fs) = at_root (term_of bindings x)
+  where
+    at_root : Option Term → Choice
+    at_root None = split_or s no_atom
+    at_root (Some u) = at_wanted_cell s bindings (points p x fs) u
+at_wanted s bindings (segment p next x y) =
+    at_list s bindings (segment p next x y) (both bindings x y)
+at_wanted s bindings (tree p left right x) = at_tree s bindings (tree p left right x) (term_of bindings x)
+at_wanted s bindings (choose p test this that) = at_choice s bindings test
+
+abbrev pub at_want : State → Pending → Choice
+at_want s want = first want.conjuncts
+  where
+    first : Conjuncts Term → Choice
+    first none = split_or s no_atom
+    first (also c cs) = at_wanted s want.bindings c
+
+-- The end
+abbrev pub at_end : State → List Numbered → Choice
+at_end s [] = takes t.End
+at_end s (a ∷ rest) = split_or s leak
+
+-- by the item in front
+abbrev pub at_items : State → List Item → Choice
+at_items s (run c ∷ todo) = at_command s c
+at_items s (add p given ∷ todo) = at_given s given.bindings given.conjuncts
+at_items s (take p want names ∷ todo) = at_want s want
+at_items s (gave p set removed ∷ todo) = takes t.Give
+at_items s (head p test invariant body ∷ todo) = takes t.Around
+at_items s (again p invariant ∷ todo) = takes t.Again
+at_items s (exit p r ∷ todo) = takes t.Exit
+at_items s (return p post ∷ todo) = takes t.Return
+at_items s (end p ∷ todo) = at_end s s.atoms
+at_items s [] = takes t.End
+
+-- Choose: an absurd state is closed; then the lowest empty atom goes; then the lowest atom that can only be empty is so;
+-- then the item in front decides
+abbrev pub chooses : Goal → Choice
+chooses g =
+    or_else (takes_if (is_absurd g.state) t.Absurd)
+    (or_else (option_map (λ f. takes (t.Drop f.0)) (lowest (which is_nothing) g.state.atoms))
+    (or_else (option_map (λ f. takes (t.Force f.0)) (lowest_forced g.state g.state.atoms))
+    (at_items g.state g.todo)))
