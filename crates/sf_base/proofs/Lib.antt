@@ -1,6 +1,7 @@
 pub mod TaskPaths
 pub mod MapSplits
 pub mod First
+pub mod Places
 pub mod HeapSplits
 pub mod HeapSums
 pub mod StoreSplits

@@ -1,13 +1,12 @@
 -- An assertion has one order or a first conjunct that is never taken, and not both; so have all annotations.
 -- Names: `WHAT-once` says that there is one at most; `only-ANSWER` that a call answers that where it is due.
-use Rattle.std.specs.Prelude.{◌≡◌, ◌⊎◌, Bool, true, false, nat_lt, List, [], ◌∷◌, ◌==◌, ◌||◌, ◌&&◌, ℕ, Some, IfOk, IfErr, MatchResult, Contains}
+use Rattle.std.specs.Prelude.{◌≡◌, ◌⊎◌, Bool, false, List, [], ◌∷◌, ℕ, Some, IfOk, IfErr, MatchResult}
 use Rattle.std.specs.declared.result.Result.{Result}
 use Rattle.std.specs.declared.result.Result.TheVariants.{Ok, Err}
-use Rattle.std.proofs.Common.{◌∙◌, refl, sym, ap, inl, inr, subst, arith}
-use Rattle.std.proofs.lemmas.Bool.Decides.{nat_tests}
+use Rattle.std.proofs.Common.{◌∙◌, refl, sym, ap, inl, inr, subst}
 use Rattle.sf_base.proofs.Elements.{contains-nil, contains-cons}
+use Rattle.sf_base.proofs.Places.{is_before-neither}
 use Rattle.sf_base.specs.declared.place.Place.{Place}
-use Rattle.sf_base.specs.First.{is_before}
 use Rattle.sf_core.specs.declared.command.Expr.{Expr}
 use Rattle.sf_core.specs.Assertions.Determined.{Determined}
 use Rattle.sf_core.specs.Program.Syntax.{Assertion, Conjuncts, none, also, Level, level}
@@ -74,14 +73,8 @@ orders-apart (b ∷ rest) (o ∷ os) p h (a, c, n) = elim ((contains-cons b rest
   | inr k ↦ orders-apart rest os p h.1 (a, k, n)
 ]
 
-place-once : (p q : Place) → (is_before p q ≡ true → ⊥) → (is_before q p ≡ true → ⊥) → p ≡ q
-place-once p q h i =
-    let lines : p.line ≡ q.line = grind (arith, nat_tests) in
-    let columns : p.column ≡ q.column = grind (arith, nat_tests) in
-    λ k. record { line = lines k; column = columns k }
-
 first-once : (P : Place → Type 0) (p q : Place) → IsFirstPlace P (Some p) → IsFirstPlace P (Some q) → p ≡ q
-first-once P p q h i = place-once p q (i.1 p h.0) (h.1 q i.0)
+first-once P p q h i = is_before-neither p q (i.1 p h.0) (h.1 q i.0)
 
 pub only-arranged : {X : Type 0} (notes : List Assertion) (view : X → List Assertion) (r : Result X OrderFault)
     → IfOk r (λ x. AreOrdersOf notes (view x))

@@ -1,7 +1,7 @@
--- Each program has an answer: no condition on variables is broken, or a fault comes first; and nothing comes
--- earlier than what is first.
+-- Each program has one answer: no condition on variables is broken, or a fault comes first, and not
+-- both; and nothing comes earlier than what is first.
 -- Ordinary: a relation that is total has a value for each argument, and the least of an order nothing below it.
-use Rattle.std.specs.Prelude.{◌⊎◌, ℕ, Some}
+use Rattle.std.specs.Prelude.{◌≡◌, ◌⊎◌, ℕ, Some}
 use Rattle.sf_base.specs.declared.ids.ProcId.{ProcId}
 use Rattle.sf_core.specs.Program.Formed.{IsFormed}
 use Rattle.sf_core.specs.Program.Syntax.{Program}
@@ -15,6 +15,12 @@ use Rattle.sf_vars.specs.declared.fault.VarFault.{VarFault}
 abbrev pub EachProgramHasAnAnswer : Type 0
 EachProgramHasAnAnswer =
     (p : Program) → IsFormed p → Conditions p ⊎ ((fault : VarFault) × IsFirstFault p fault)
+
+-- a program has one first fault at most, and none where it breaks no condition
+pub record EachProgramHasOneAnswer : Type 0 where
+  pub one_fault : (p : Program) (fault other : VarFault) → IsFirstFault p fault → IsFirstFault p other
+      → fault ≡ other
+  pub not_both : (p : Program) (fault : VarFault) → Conditions p → IsFirstFault p fault → ⊥
 
 -- what comes first is at some command, and no breach of the program is earlier by procedure, command and kind
 abbrev pub NothingComesEarlier : Type 0
