@@ -6,8 +6,8 @@ use sf_base::{FieldId, Value};
 use std::alloc::{AllocError, Global};
 use std::marker::Model;
 
-/// A cell: a value for each of the file's fields. Contracts see the list of the values, by the fields'
-/// numbers.
+/// A cell: a value for each of the file's fields. Contracts see the list of the values, by the
+/// fields' numbers.
 #[derive(Debug, Drop)]
 pub struct Cell {
     values: Vec<Value>,

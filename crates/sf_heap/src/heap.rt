@@ -14,8 +14,8 @@ use std::alloc::{AllocError, AllocFailed, Global};
 use std::marker::Model;
 use std::mem::replace;
 
-/// The cells of a running program, each at its location. Contracts see the finite map from locations to
-/// the values of the cells' fields; `heap_of` is the heap of the definitions that it is.
+/// The cells of a running program, each at its location. Contracts see the finite map from locations
+/// to the values of the cells' fields; `heap_of` is the heap of the definitions that it is.
 #[derive(Debug, Drop)]
 pub struct Heap {
     entries: Vec<Entry>,
@@ -154,9 +154,9 @@ impl Heap {
         true
     }
 
-    /// Takes all cells of another heap in, which has none at a location of this one. An `Err` says that
-    /// memory ran out: it hands the other heap back whole, and nothing is changed. The boxes move, and no
-    /// cell is copied.
+    /// Takes all cells of another heap in, which has none at a location of this one. An `Err` says
+    /// that memory ran out: it hands the other heap back whole, and nothing is changed. The boxes
+    /// move, and no cell is copied.
     pub fn join(&mut self, other: Heap) -> Result<(), Heap>
         requires { AreDisjoint self.old other }
         ensures ok { OnOk result (Splits (map.get self.new) (map.get self.old) (map.get other)) }
@@ -174,11 +174,12 @@ impl Heap {
         Ok(())
     }
 
-    /// Takes the cells at those locations out, which all have one. An `Err` says that memory ran out, and
-    /// nothing is changed. The boxes move, and no cell is copied.
+    /// Takes the cells at those locations out, which all have one. An `Err` says that memory ran out,
+    /// and nothing is changed. The boxes move, and no cell is copied.
     pub fn part_off(&mut self, at: &Locations) -> Result<Heap, AllocError>
         requires { All (HasCell self.old) at.now }
-        ensures ok { IfOk result (λ part. Splits (map.get self.old) (map.get part) (map.get self.new)) }
+        ensures ok { IfOk result
+            (λ part. Splits (map.get self.old) (map.get part) (map.get self.new)) }
         ensures heaps { IfOk result
             (λ part. Splits (heap_of self.old) (heap_of part) (heap_of self.new)) }
         ensures locations { IfOk result (AreAt at.now) }

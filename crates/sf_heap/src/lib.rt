@@ -5,8 +5,8 @@
 //! - `heap`: cells in boxes, in a vector in order of location.
 //! - `moves`: the loops that move entries between such vectors.
 //!
-//! `specs/` says which heap of the definitions a `Heap` is (Cells), and what a heap becomes while one of
-//! its cells is lent (Lending).
+//! `specs/` says which heap of the definitions a `Heap` is (Cells), what the refusal of a cell says
+//! (Faults), and what a heap ends as where one of its cells was lent (Lending).
 #![tactic(auto)]
 
 mod cell;

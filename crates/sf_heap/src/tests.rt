@@ -1,4 +1,4 @@
-//! Each call that allocates succeeds where there is ample memory, and a heap is what was put into it.
+//! Each call that allocates succeeds where there is ample memory, and a heap is what was put in.
 
 use crate::{Cell, Heap, Locations};
 use sf_base::{FieldId, Value};
