@@ -1,10 +1,8 @@
 -- Unroll: a segment or tree whose ends differ begins with a cell, and fresh symbols have the values of its links.
 -- Names: `kind_child` is the goal that is left for a segment or a tree, `KIND-LAW` speaks of it.
-use Rattle.std.specs.List.{AllByRecursion}
 use Rattle.std.specs.Option.{option_map}
-use Rattle.std.proofs.Common.{◌≡◌, ◌≢◌, ℕ, ◌+◌, Bool, true, false, cond, List, [], ◌∷◌, ◌++◌, Option, Some, None, refl, sym, ◌∙◌, subst, arith}
+use Rattle.std.proofs.Common.{◌≡◌, ◌≢◌, ℕ, ◌+◌, Bool, true, false, cond, List, [], ◌∷◌, Option, Some, None, refl, sym, ◌∙◌, subst, arith}
 use Rattle.std.proofs.lemmas.Option.{option_and_then_some}
-use Rattle.sf_base.proofs.Elements.{all_by-append}
 use Rattle.sf_base.proofs.HeapSplits.{star-assoc_right, star-comm, star-map_left, star-map_right, star-of}
 use Rattle.sf_base.proofs.MapSplits.{union, splits-comm, splits-union}
 use Rattle.sf_base.specs.declared.ids.FieldId.{FieldId}
@@ -12,28 +10,27 @@ use Rattle.sf_base.specs.declared.ids.Var.{Var}
 use Rattle.sf_base.specs.declared.value.Value.{Value}
 use Rattle.sf_base.specs.declared.value.Value.TheVariants.{Loc as loc}
 use Rattle.sf_base.specs.HeapStore.{Heap, ◌⋆◌}
-use Rattle.sf_core.proofs.Assertions.Segments.{nil-not_loc, seg-head}
+use Rattle.sf_core.proofs.Assertions.Segments.{seg-head}
 use Rattle.sf_core.proofs.Assertions.Trees.{tree-root}
 use Rattle.sf_normal.proofs.Keeping.{kept-one}
 use Rattle.sf_normal.specs.Knowledge.{unroll_one, unrolled_segment, unrolled_tree}
 use Rattle.sf_normal.specs.Laws.{UnrollKeepsGoals}
-use Rattle.sf_sym.proofs.AtomLists.{at-all, atoms-one_more, atoms-out, without-all}
-use Rattle.sf_sym.proofs.Below.{atoms-weaker, below-more, below-symbol, below-value, items-weaker, paired-weaker, pairs-weaker, put-all}
+use Rattle.sf_sym.proofs.AtomLists.{at-all, atoms-one_more, atoms-out}
+use Rattle.sf_sym.proofs.Below.{below-symbol, below-value, put-all}
 use Rattle.sf_sym.proofs.CellFields.{put-known}
+use Rattle.sf_sym.proofs.FreshGoals.{adds-stay, apart-stays, later, later-apart, later-others, later-taken, later-todo, later-vars, more-below, others-stay, taken-stay, vars-stay}
 use Rattle.sf_sym.proofs.FreshValues.{value-below, value-here, value-same, with_value}
-use Rattle.sf_sym.proofs.OtherValues.{Same, adds-other_values, atoms-other_values, pairs-other_values, vars-other_values}
 use Rattle.sf_sym.proofs.States.{differing_terms_differ}
 use Rattle.sf_sym.proofs.TwoHeaps.{in-at}
-use Rattle.sf_sym.specs.Below.{AllInAtom, AllInAtoms, AllInItem, AllInPairs, AllPaired, AreBelow, IsBelow, SameBelow}
-use Rattle.sf_sym.specs.Cells.{apart_from_nil, atom_at, with_atom, with_cell, without}
+use Rattle.sf_sym.specs.Below.{AreBelow, IsBelow, SameBelow}
+use Rattle.sf_sym.specs.Cells.{atom_at, with_atom, with_cell, without}
 use Rattle.sf_sym.specs.declared.atom.Atom.{Atom}
 use Rattle.sf_sym.specs.declared.atom.Atom.TheVariants.{Points, Ls, Tree}
-use Rattle.sf_sym.specs.declared.atom.Numbered.{Numbered}
 use Rattle.sf_sym.specs.declared.term.Term.{Term}
-use Rattle.sf_sym.specs.declared.term.Term.TheVariants.{Nil, Int, Sym}
+use Rattle.sf_sym.specs.declared.term.Term.TheVariants.{Nil, Sym}
 use Rattle.sf_sym.specs.Fields.{put_term}
 use Rattle.sf_sym.specs.Goal.{Goal, at_state}
-use Rattle.sf_sym.specs.Holds.{term_value, Agrees, Differ, SegAlong, TreeAlong, AtomHolds, AtomsHold, AddsHold}
+use Rattle.sf_sym.specs.Holds.{term_value, SegAlong, TreeAlong, AtomHolds}
 use Rattle.sf_sym.specs.HoldsIn.{HoldsIn}
 use Rattle.sf_sym.specs.Laws.{DifferingTermsDiffer, Follows, HoldsStill, Kept}
 use Rattle.sf_sym.specs.State.{State, with_symbols}
@@ -65,89 +62,6 @@ unfolding DifferingTermsDiffer
 differ-in w goal e free taken t u h d =
     differing_terms_differ w goal e (union free taken)
     (in-at w goal e (union free taken) free taken (splits-union h.disjoint) h) t u d
-
--- a location differs from nil
-from_nil-differs : (v : ℕ → Value) (t : Term) (location : ℕ) → term_value v t ≡ loc location
-    → AllByRecursion (Differ v) (apart_from_nil t)
-from_nil-differs v Nil location e = tt
-from_nil-differs v (Int i) location e = tt
-from_nil-differs v (Sym n) location e = (λ i. nil-not_loc location (sym i ∙ e), tt)
-
-from_nil-below : (n : ℕ) (t : Term) → IsBelow n t → AllInPairs (IsBelow n) (apart_from_nil t)
-from_nil-below n Nil b = tt
-from_nil-below n (Int i) b = tt
-from_nil-below n (Sym m) b = ((b, refl), tt)
-
--- all that the goal spoke of is below a larger number
-module _ (goal : Goal) (below : AreBelow goal) (k : ℕ) where
-  later : (t : Term) → IsBelow goal.state.next_sym t → IsBelow (goal.state.next_sym + k) t
-  later t b = below-more goal.state.next_sym (goal.state.next_sym + k) (omega arith) t b
-
-  later-vars : AllPaired (IsBelow (goal.state.next_sym + k)) goal.state.vars
-  later-vars = paired-weaker (IsBelow goal.state.next_sym) (IsBelow (goal.state.next_sym + k)) later
-      goal.state.vars below.state.vars
-
-  later-apart : (t : Term) → IsBelow (goal.state.next_sym + k) t
-      → AllInPairs (IsBelow (goal.state.next_sym + k)) (goal.state.apart ++ apart_from_nil t)
-  later-apart t b =
-      all_by-append
-      (λ (p : Term × Term). IsBelow (goal.state.next_sym + k) p.0 × IsBelow (goal.state.next_sym + k) p.1)
-      goal.state.apart (apart_from_nil t)
-      (pairs-weaker (IsBelow goal.state.next_sym) (IsBelow (goal.state.next_sym + k)) later goal.state.apart
-      below.state.apart) (from_nil-below (goal.state.next_sym + k) t b)
-
-  later-others : (a : ℕ) → AllInAtoms (IsBelow (goal.state.next_sym + k)) (without goal.state.atoms a)
-  later-others a =
-      atoms-weaker (IsBelow goal.state.next_sym) (IsBelow (goal.state.next_sym + k)) later
-      (without goal.state.atoms a) (without-all (IsBelow goal.state.next_sym) goal.state.atoms a below.state.atoms)
-
-  later-taken : AllInAtoms (IsBelow (goal.state.next_sym + k)) goal.state.taken
-  later-taken = atoms-weaker (IsBelow goal.state.next_sym) (IsBelow (goal.state.next_sym + k)) later
-      goal.state.taken below.state.taken
-
-  later-todo : AllByRecursion (AllInItem (IsBelow (goal.state.next_sym + k))) goal.todo
-  later-todo = items-weaker (IsBelow goal.state.next_sym) (IsBelow (goal.state.next_sym + k)) later
-      goal.todo below.todo
-
--- one more atom
-more-below : (n : ℕ) (xs : List Numbered) (x : Numbered) → AllInAtoms (IsBelow n) xs
-    → AllInAtom (IsBelow n) x.atom → AllInAtoms (IsBelow n) (xs ++ x ∷ [])
-more-below n xs x b c = all_by-append (λ (a : Numbered). AllInAtom (IsBelow n) a.atom) xs (x ∷ []) b (c, tt)
-
--- what stays of a goal that holds, with other values of the symbols that it doesn't speak of
-module _ (w v : ℕ → Value) (goal : Goal) (below : AreBelow goal) (same : SameBelow goal.state.next_sym v w)
-    (e : Var → Option Value) (free taken : Heap) (h : HoldsIn w goal e free taken) where
-  agree : (t : Term) → IsBelow goal.state.next_sym t → Same w v t
-  agree t b = below-value goal.state.next_sym v w same t b
-
-  agree-vars : AllPaired (Same w v) goal.state.vars
-  agree-vars = paired-weaker (IsBelow goal.state.next_sym) (Same w v) agree goal.state.vars below.state.vars
-
-  apart-stays : (t : Term) (location : ℕ) → term_value v t ≡ loc location
-      → AllByRecursion (Differ v) (goal.state.apart ++ apart_from_nil t)
-  apart-stays t location i =
-      all_by-append (Differ v) goal.state.apart (apart_from_nil t)
-      (pairs-other_values w v goal.state.apart
-      (pairs-weaker (IsBelow goal.state.next_sym) (Same w v) agree goal.state.apart below.state.apart) h.apart)
-      (from_nil-differs v t location i)
-
-  others-stay : (a : ℕ) (part : Heap) → AtomsHold w goal.state.links (without goal.state.atoms a) part
-      → AtomsHold v goal.state.links (without goal.state.atoms a) part
-  others-stay a part s =
-      atoms-other_values w v goal.state.links (without goal.state.atoms a) part
-      (atoms-weaker (IsBelow goal.state.next_sym) (Same w v) agree (without goal.state.atoms a)
-      (without-all (IsBelow goal.state.next_sym) goal.state.atoms a below.state.atoms)) s
-
-  taken-stay : AtomsHold v goal.state.links goal.state.taken taken
-  taken-stay = atoms-other_values w v goal.state.links goal.state.taken taken
-      (atoms-weaker (IsBelow goal.state.next_sym) (Same w v) agree goal.state.taken below.state.taken) h.gone
-
-  adds-stay : AddsHold v goal.todo h.there.right
-  adds-stay = adds-other_values w v goal.todo h.there.right
-      (items-weaker (IsBelow goal.state.next_sym) (Same w v) agree goal.todo below.todo) h.there.second
-
-  vars-stay : AllByRecursion (Agrees v e) goal.state.vars
-  vars-stay = vars-other_values w v e goal.state.vars agree-vars h.vars
 
 -- the goal that is left for a segment
 segment-follows : (goal : Goal) (a : ℕ) (t u : Term) (next : FieldId) → AreBelow goal

@@ -4,3 +4,5 @@ pub mod Numbers
 pub mod Firsts
 pub mod WholeTable
 pub mod SmallRows
+pub mod CommandLaws
+pub mod BranchLaws

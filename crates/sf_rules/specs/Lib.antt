@@ -8,3 +8,4 @@ pub mod Words
 pub mod Rows
 pub mod Laws
 pub mod Examples
+pub mod LawsOfCommands

@@ -5,13 +5,13 @@
 //! - `todo`: the items of a goal.
 //! - `start`: the first goal of a procedure.
 //! - `rules`: the rows of the table.
-//! - `laws`: these rows are rows of the whole table.
+//! - `laws`: these rows are rows of the whole table; what the rows of commands keep.
 //! - `examples`: examples of rows of the whole table.
 #![tactic(auto)]
 
 mod cells;
 pub mod examples;
-mod laws;
+pub mod laws;
 mod rules;
 mod start;
 mod terms;

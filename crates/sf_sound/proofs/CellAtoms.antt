@@ -15,7 +15,7 @@ use Rattle.std.specs.List.{AllByRecursion}
 use Rattle.sf_sym.specs.Holds.{AtomHolds, AtomsHold}
 use Rattle.sf_sym.specs.Tests.{same_term}
 use Rattle.sf_sym.specs.Lemmas.{same_term_is}
-use Rattle.sf_sound.specs.Laws.{HasOrder}
+use Rattle.sf_sym.specs.Ready.{HasOrder}
 use Rattle.sf_sym.specs.Fields.{AreOrdered}
 use Rattle.sf_sym.specs.Cells.{fields_at, cell_at, with_fields, without}
 

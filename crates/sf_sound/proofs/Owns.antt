@@ -27,7 +27,8 @@ use Rattle.sf_sym.specs.Pending.{Pending}
 use Rattle.sf_sym.specs.Holds.{AtomsHold, AddsHold, HoldsAt}
 use Rattle.sf_rules.specs.Proves.{Proof}
 use Rattle.sf_sym.specs.Laws.{SomeOf}
-use Rattle.sf_sound.specs.Laws.{value_at, IsNoAdd, IsInOrder, works_out, heap_with_cell, WantsHold, EndLeavesNothing}
+use Rattle.sf_sound.specs.Laws.{IsNoAdd, IsInOrder, works_out, heap_with_cell, WantsHold, EndLeavesNothing}
+use Rattle.sf_sym.specs.Ready.{value_at}
 use Rattle.sf_rules.specs.Table.{row_of, row}
 use Rattle.sf_sound.proofs.ByRows.{LastRow, by-rows, some-each}
 use Rattle.sf_sound.proofs.Rows.{past_adds, row-is, absurd-never, add-child, spelled, mutate-child, IsClosing, cell-child, end_leaves_nothing, returning, return-left, return-closing, return-order, return-owes}

@@ -25,7 +25,8 @@ use Rattle.sf_core.specs.Assertions.Sat.{Sat}
 use Rattle.sf_core.proofs.Machine.GoodParts.{good-by_parts}
 use Rattle.sf_base.proofs.HeapSplits.{star-empty_left, star-empty_right, star-map_right}
 use Rattle.sf_base.proofs.Sums.{either}
-use Rattle.sf_sound.specs.Laws.{value_at, heap_with_cell}
+use Rattle.sf_sound.specs.Laws.{heap_with_cell}
+use Rattle.sf_sym.specs.Ready.{value_at}
 use Rattle.sf_sound.proofs.Owns.{Owns, Next, owns-command, owns-leave, owns-end}
 
 -- the values of a frame's variables

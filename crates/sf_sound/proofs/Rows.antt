@@ -33,7 +33,8 @@ use Rattle.sf_sym.specs.Lemmas.{atoms-append, put-order}
 use Rattle.sf_sym.specs.Laws.{HeldStatesAreNotAbsurd}
 use Rattle.sf_sym.proofs.States.{held_states_are_not_absurd}
 use Rattle.sf_sym.specs.Laws.{SomeOf}
-use Rattle.sf_sound.specs.Laws.{Covers, value_at, IsNoAdd, AddsComeFirst, HasOrder, IsInOrder, RowsKeepMeaning, AbsurdKeepsMeaning, AddKeepsMeaning, heap_with_cell, Mutates, MutateFollowsEvent, WantsHold, Owes, ReturnOwesPostcondition, CellKeepsMeaning, HandsOver, CellHandsOver, EndLeavesNothing, RowsKeepOrder}
+use Rattle.sf_sound.specs.Laws.{Covers, IsNoAdd, AddsComeFirst, IsInOrder, RowsKeepMeaning, AbsurdKeepsMeaning, AddKeepsMeaning, heap_with_cell, Mutates, MutateFollowsEvent, WantsHold, Owes, ReturnOwesPostcondition, CellKeepsMeaning, HandsOver, CellHandsOver, EndLeavesNothing, RowsKeepOrder}
+use Rattle.sf_sym.specs.Ready.{value_at, HasOrder}
 use Rattle.sf_sym.specs.Fields.{AreOrdered, put_term}
 use Rattle.sf_rules.specs.Table.{pending_assertion, to_take, conjuncts_with, has_numbers, new_fields, state_after_assumption, is_empty, fits, state_after_hand_over, one_goal, add_first, add_row, mutate_one, mutate_row, return_row, cell_first, cell_row, end_row, row_of, row}
 use Rattle.sf_sym.specs.Cells.{apart_from_nil, with_cell, cell_at, with_fields, without}

@@ -34,7 +34,8 @@ use Rattle.std.specs.List.{AllByRecursion}
 use Rattle.sf_sym.specs.Goal.{Item, return, to_run}
 use Rattle.sf_sym.specs.Holds.{term_value, Agrees, IsBound, AddsHold, HoldsAt}
 use Rattle.sf_rules.specs.Proves.{Proof, ProvesFrom, Proves}
-use Rattle.sf_sound.specs.Laws.{FirstGoalsHold, is_listed, Covers, value_at, IsNoAdd, AddsComeFirst, IsInOrder}
+use Rattle.sf_sound.specs.Laws.{FirstGoalsHold, Covers, IsNoAdd, AddsComeFirst, IsInOrder}
+use Rattle.sf_sym.specs.Ready.{is_listed, value_at}
 use Rattle.sf_base.specs.Variables.{same_var}
 use Rattle.sf_rules.specs.Table.{conjuncts_with, pending_assertion, to_add, symbols, nils, first_goal}
 use Rattle.sf_sym.specs.Pending.{conjuncts_of}

@@ -11,24 +11,14 @@ use Rattle.sf_core.specs.declared.command.Expr.TheVariants.{Var as Variable, Nil
 use Rattle.sf_sym.specs.declared.term.Term.{Term}
 use Rattle.std.specs.List.{AllByRecursion}
 use Rattle.sf_sym.specs.Holds.{term_value, Agrees}
-use Rattle.sf_sound.specs.Laws.{is_listed, Covers, value_at}
+use Rattle.sf_sound.specs.Laws.{Covers}
+use Rattle.sf_sym.proofs.KnownValues.{listed-value}
+use Rattle.sf_sym.specs.Ready.{is_listed, value_at}
 use Rattle.sf_base.proofs.Variables.{same_var-decides}
 use Rattle.sf_base.specs.Variables.{same_var}
 use Rattle.sf_sym.specs.State.{term_at, term}
 
 module _ (w : ℕ → Value) (e : Var → Option Value) where
-  -- a variable with a value and a term has the term's value
-  listed-value : (vars : List (Var × Term)) (x : Var) (v : Value) → AllByRecursion (Agrees w e) vars
-      → e x ≡ Some v → is_listed vars x ≡ true → term_value w (term_at vars x) ≡ v
-  listed-value [] x v a i l = absurd (cc)
-  listed-value (y ∷ ys) x v a i l = go (same_var y.0 x) refl l (λ k. listed-value ys x v a.1 i k)
-    where
-      go : (b : Bool) → same_var y.0 x ≡ b → b || is_listed ys x ≡ true
-          → (is_listed ys x ≡ true → term_value w (term_at ys x) ≡ v)
-          → term_value w (cond b y.1 (term_at ys x)) ≡ v
-      go true c k r = sym (a.0 v (ap e ((same_var-decides y.0 x).0 c) ∙ i))
-      go false c k r = r k
-
   -- a variable that isn't listed counts as nil
   unlisted-value : (vars : List (Var × Term)) (x : Var) → is_listed vars x ≡ false
       → term_value w (term_at vars x) ≡ nil
@@ -47,7 +37,7 @@ module _ (w : ℕ → Value) (e : Var → Option Value) where
     where
       go : (o : Option Value) → e x ≡ o → term_value w (term_at vars x) ≡ unwrap_or (e x) nil
       go None i = unlisted-value vars x (c x ∙ ap is_some i) ∙ ap (λ o. unwrap_or o nil) (sym i)
-      go (Some v) i = listed-value vars x v a i (c x ∙ ap is_some i) ∙ ap (λ o. unwrap_or o nil) (sym i)
+      go (Some v) i = listed-value w e vars x v a i (c x ∙ ap is_some i) ∙ ap (λ o. unwrap_or o nil) (sym i)
 
   pub expression-value : (vars : List (Var × Term)) → Covers vars e → AllByRecursion (Agrees w e) vars
       → (x : Expr) → term_value w (term vars x) ≡ value_at e x

@@ -26,23 +26,15 @@ use Rattle.sf_sym.specs.declared.term.Term.{Term}
 use Rattle.std.specs.List.{AllByRecursion}
 use Rattle.sf_sym.specs.Fields.{AreOrdered}
 use Rattle.sf_sym.specs.Laws.{SomeOf}
+use Rattle.sf_sym.specs.Ready.{HasOrder, is_listed, value_at}
 use Rattle.sf_sym.specs.Goal.{Item, run, add, take, return, Goal}
 use Rattle.sf_sym.specs.Holds.{AtomsHold, PendingHolds, HoldsAt, Holds}
 use Rattle.sf_base.specs.Variables.{same_var}
 use Rattle.sf_rules.specs.Table.{first_goal, row}
 
--- whether a variable has a term
-abbrev pub is_listed : List (Var × Term) → Var → Bool
-is_listed [] x = false
-is_listed (v ∷ vs) x = same_var v.0 x || is_listed vs x
-
 -- the variables that have a term are just those that have a value
 abbrev pub Covers : List (Var × Term) → (Var → Option Value) → Type 0
 Covers vars e = (x : Var) → is_listed vars x ≡ is_some (e x)
-
--- the value of an expression; a variable without a value counts as nil
-abbrev pub value_at : (Var → Option Value) → Expr → Value
-value_at e = value (λ x. unwrap_or (e x) nil)
 
 -- the item assumes nothing
 abbrev pub IsNoAdd : Item → Type 0
@@ -54,12 +46,6 @@ abbrev pub AddsComeFirst : List Item → Type 0
 AddsComeFirst [] = Unit {0}
 AddsComeFirst (add p given ∷ todo) = AddsComeFirst todo
 AddsComeFirst (item ∷ todo) = AllByRecursion IsNoAdd todo
-
--- a cell's fields are in order
-abbrev pub HasOrder : Atom → Type 0
-HasOrder (Points root fields) = AreOrdered fields
-HasOrder (Ls u v) = Unit {0}
-HasOrder (Tree u) = Unit {0}
 
 -- what each goal of a program keeps, and the laws rest on
 pub record IsInOrder (goal : Goal) (e : Var → Option Value) : Type 0 where

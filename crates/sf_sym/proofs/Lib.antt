@@ -14,3 +14,5 @@ pub mod TwoHeaps
 pub mod CellFields
 pub mod AtomLists
 pub mod FreshValues
+pub mod KnownValues
+pub mod FreshGoals

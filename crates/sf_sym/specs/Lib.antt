@@ -15,3 +15,4 @@ pub mod Examples
 pub mod Internal
 pub mod Variables
 pub mod Decided
+pub mod Ready

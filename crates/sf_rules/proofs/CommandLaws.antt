@@ -1,0 +1,513 @@
+-- The laws of commands: the goal that is left holds after the event.
+-- Names: `COMMAND_follows_event` is the law of that command's row.
+use Rattle.std.specs.List.{AllByRecursion}
+use Rattle.std.specs.Option.{option_map, option_and_then}
+use Rattle.std.proofs.Common.{◌≡◌, ℕ, ◌+◌, ◌==◌, Bool, true, false, cond, Option, Some, None, List, [], ◌∷◌, refl, sym, ap, ◌∙◌, subst, inl, arith}
+use Rattle.std.proofs.lemmas.Option.{same_Some}
+use Rattle.sf_base.proofs.HeapSplits.{at-same, cell-change_left, cell-new_left, one-in, one-put, one-put_cell, one-remove_cell, one-single, star-drop_right, star-empty_right, star-map_right, star-of}
+use Rattle.sf_base.proofs.MapSplits.{splits-lacks_whole, splits-of_empty_left, splits-union}
+use Rattle.sf_base.specs.declared.ids.FieldId.{FieldId}
+use Rattle.sf_base.specs.declared.ids.Var.{Var}
+use Rattle.sf_base.specs.declared.place.Place.{Place}
+use Rattle.sf_base.specs.declared.value.Value.{Value}
+use Rattle.sf_base.specs.declared.value.Value.TheVariants.{Loc as loc}
+use Rattle.sf_base.specs.HeapStore.{Cell, Heap, IsEmpty, IsOne, Splits, put_field, ◌⋆◌}
+use Rattle.sf_core.specs.Assertions.Sat.{HasFields}
+use Rattle.sf_core.specs.declared.command.Expr.{Expr}
+use Rattle.sf_core.specs.declared.command.Occurrence.{Occurrence}
+use Rattle.sf_core.specs.Program.Syntax.{Command, assign, look_up, mutate, new, dispose}
+use Rattle.sf_rules.specs.LawsOfCommands.{Executed, FindsCell, before_command, heap_with, AssignFollowsEvent, LookFollowsEvent, MutateFollowsEvent, NewFollowsEvent, DisposeFollowsEvent}
+use Rattle.sf_rules.specs.Rows.Commands.{looked, with_var}
+use Rattle.sf_sym.proofs.AtomLists.{at-all, at-cell, atoms-in_place, atoms-one_more, atoms-out, with_fields-all, without-all}
+use Rattle.sf_sym.proofs.Below.{below-symbol, paired-weaker, pairs-weaker, put-all}
+use Rattle.sf_sym.proofs.CellFields.{put-known, put-written}
+use Rattle.sf_sym.proofs.FreshGoals.{agree, apart-stays, atoms-stay, later, later-apart, later-taken, later-todo, later-vars, later-atoms, more-below, others-stay, taken-stay, vars-stay}
+use Rattle.sf_sym.proofs.FreshValues.{value-below, value-here, with_value}
+use Rattle.sf_sym.proofs.KnownValues.{known-value, set-agrees, set-all, term-all}
+use Rattle.sf_sym.proofs.OtherValues.{Same, fields-other_values, pairs-other_values}
+use Rattle.sf_sym.specs.Below.{AllPaired, IsBelow, SameBelow}
+use Rattle.sf_sym.specs.Cells.{atom_at, cell_at, with_cell, with_fields, without}
+use Rattle.sf_sym.specs.declared.atom.Atom.TheVariants.{Points}
+use Rattle.sf_sym.specs.declared.atom.Numbered.{Numbered}
+use Rattle.sf_sym.specs.declared.term.Term.{Term}
+use Rattle.sf_sym.specs.declared.term.Term.TheVariants.{Sym}
+use Rattle.sf_sym.specs.Fields.{AreOrdered, field_term, put_term}
+use Rattle.sf_sym.specs.Goal.{Item, run, add, take, gave, head, again, exit, return, end, Goal, one_goal}
+use Rattle.sf_sym.specs.Holds.{term_value, AtomsHold, AddsHold}
+use Rattle.sf_sym.specs.HoldsIn.{HoldsIn}
+use Rattle.sf_sym.specs.Laws.{Follows, HoldsStill}
+use Rattle.sf_sym.specs.Ready.{BeginsWithNoAdd, HasOrder, IsKnown, IsReady, value_at, with_variable}
+use Rattle.sf_sym.specs.State.{State, term, with_symbols}
+
+-- nothing is assumed at once, so no heap is needed for it
+no-add : (w : ℕ → Value) (items : List Item) (heap : Heap) → BeginsWithNoAdd items → IsEmpty heap
+    → AddsHold w items heap
+no-add w [] heap b e = e
+no-add w (run c ∷ items) heap b e = e
+no-add w (add p given ∷ items) heap b e = absurd b
+no-add w (take p want names ∷ items) heap b e = e
+no-add w (gave p set removed ∷ items) heap b e = e
+no-add w (head p test invariant body ∷ items) heap b e = e
+no-add w (again p invariant ∷ items) heap b e = e
+no-add w (exit p r ∷ items) heap b e = e
+no-add w (return p post ∷ items) heap b e = e
+no-add w (end p ∷ items) heap b e = e
+
+pub beside-none : {P : Heap → Type 0} (w : ℕ → Value) (items : List Item) (heap : Heap) → BeginsWithNoAdd items
+    → P heap → (P ⋆ AddsHold w items) heap
+beside-none w items heap b p = star-map_right (λ part d. no-add w items part b d) (star-empty_right p)
+
+pub executed-one : (goal child : Goal) (left : List Goal)
+    (After : (w : ℕ → Value) (e : Var → Option Value) (free taken : Heap) → Goal → Type 0)
+    → Some (child ∷ []) ≡ Some left → Follows goal child
+    → ((w : ℕ → Value) (e : Var → Option Value) (free taken : Heap) → HoldsIn w goal e free taken
+    → After w e free taken child) → Executed goal left After
+executed-one goal child left After e follows holds =
+    subst (λ all. Executed goal all After) (same_Some (child ∷ []) left e) (record {
+      follow = (follows, tt);
+      after = λ w e free taken h. inl (holds w e free taken h);
+    })
+
+-- the cell of a number, and its part of what is there
+record Out (w : ℕ → Value) (s : State) (free : Heap) (a : ℕ) (t : Term) (fields : List (FieldId × Term))
+    : Type 0 where
+  location : ℕ
+  here : Cell
+  part : Heap
+  others : Heap
+  is : term_value w t ≡ loc location
+  splits : Splits free part others
+  one : IsOne location here part
+  has : HasFields (term_value w) fields here
+  beside : AtomsHold w s.links (without s.atoms a) others
+  there : free location ≡ Some here
+
+cell-out : (w : ℕ → Value) (s : State) (c : Command) (rest : List Item) (e : Var → Option Value)
+    (free taken : Heap) (a : ℕ) (t : Term) (fields : List (FieldId × Term))
+    → HoldsIn w (before_command s c rest) e free taken → cell_at s.atoms a t ≡ Some fields
+    → Out w s free a t fields
+cell-out w s c rest e free taken a t fields h found =
+    let o = atoms-out w s.links s.atoms a (Points t fields) free (at-cell s.atoms a t fields found)
+    (star-drop_right h.there) in
+    let (location, here, is, one, has) = o.first in
+    record {
+      location = location;
+      here = here;
+      part = o.left;
+      others = o.right;
+      is = is;
+      splits = o.splits;
+      one = one;
+      has = has;
+      beside = o.second;
+      there = one-in one o.splits;
+    }
+
+-- what is known of a field that has a term
+field-value : (v : Term → Value) (fields : List (FieldId × Term)) (f : FieldId) (t : Term) (here : Cell)
+    → field_term fields f ≡ Some t → HasFields v fields here → here f.0 ≡ v t
+field-value v [] f t here e h = absurd (cc)
+field-value v (g ∷ gs) f t here e h = go (g.0.0 == f.0) refl e (λ i. field-value v gs f t here i h.1)
+  where
+    go : (b : Bool) → g.0.0 == f.0 ≡ b → cond b (Some g.1) (field_term gs f) ≡ Some t
+        → (field_term gs f ≡ Some t → here f.0 ≡ v t) → here f.0 ≡ v t
+    go true c i r = let j : g.1 ≡ t = cc in ap here (sym (at-same f.0 g.0.0 c)) ∙ h.0 ∙ ap v j
+    go false c i r = r i
+
+-- the terms of expressions are below the next symbol
+term-below : (n : ℕ) (vars : List (Var × Term)) → AllPaired (IsBelow n) vars → (x : Expr)
+    → IsBelow n (term vars x)
+term-below n vars b x = term-all (IsBelow n) refl (λ i. refl) vars b x
+
+-- the cell of that number has its fields in order
+cell-order : (atoms : List Numbered) (a : ℕ) (t : Term) (fields : List (FieldId × Term))
+    → AllByRecursion (λ (x : Numbered). HasOrder x.atom) atoms → atom_at atoms a ≡ Some (Points t fields)
+    → AreOrdered fields
+cell-order [] a t fields o e = absurd (cc)
+cell-order (x ∷ xs) a t fields o e = go (x.number == a) e (λ i. cell-order xs a t fields o.1 i)
+  where
+    go : (b : Bool) → cond b (Some x.atom) (atom_at xs a) ≡ Some (Points t fields)
+        → (atom_at xs a ≡ Some (Points t fields) → AreOrdered fields) → AreOrdered fields
+    go true i r = let same : x.atom ≡ Points t fields = cc in subst HasOrder same o.0
+    go false i r = r i
+
+-- ASSIGN
+
+pub assign_follows_event : AssignFollowsEvent
+unfolding AssignFollowsEvent
+assign_follows_event s rest left p x value ready row =
+    let b = ready.below in
+    let t = term s.vars value in
+    executed-one (before_command s (assign p x value) rest)
+    (record { state = with_var x.var t s; todo = rest }) left _ row
+    (record {
+      below = record {
+        state = record {
+          vars = set-all (IsBelow s.next_sym) x.var t s.vars
+              (term-below s.next_sym s.vars b.state.vars value) b.state.vars;
+          apart = b.state.apart;
+          atoms = b.state.atoms;
+          taken = b.state.taken;
+        };
+        todo = b.todo.1;
+      };
+      symbols = omega arith;
+      links = refl;
+    })
+    (λ w e free taken h known. record {
+      values = w;
+      same = λ m d. refl;
+      holds = record {
+        vars = set-agrees w e x.var (value_at e value) s.vars t ready.vars
+            (sym (known-value w e s.vars h.vars value known)) h.vars;
+        apart = h.apart;
+        disjoint = h.disjoint;
+        there = beside-none w rest free ready.after (star-drop_right h.there);
+        gone = h.gone;
+      };
+    })
+
+-- DISPOSE
+
+pub dispose_follows_event : DisposeFollowsEvent
+unfolding DisposeFollowsEvent
+dispose_follows_event s rest left p root a ready row = go (cell_at s.atoms a (term s.vars root)) refl row
+  where
+    go : (o : Option (List (FieldId × Term))) → cell_at s.atoms a (term s.vars root) ≡ o
+        → option_and_then (λ fields. one_goal (record s { atoms = without s.atoms a }) rest) o ≡ Some left
+        → Executed (before_command s (dispose p root) rest) left
+        (λ w e free taken child. IsKnown s.vars e root → FindsCell e free root
+        (λ location cell. HoldsStill w (before_command s (dispose p root) rest) e
+        (heap_with location None free) taken child))
+    go None found e = absurd (cc)
+    go (Some fields) found e =
+        let b = ready.below in
+        executed-one (before_command s (dispose p root) rest)
+        (record { state = record s { atoms = without s.atoms a }; todo = rest }) left _ e
+        (record {
+          below = record {
+            state = record {
+              vars = b.state.vars;
+              apart = b.state.apart;
+              atoms = without-all (IsBelow s.next_sym) s.atoms a b.state.atoms;
+              taken = b.state.taken;
+            };
+            todo = b.todo.1;
+          };
+          symbols = omega arith;
+          links = refl;
+        })
+        (λ w e free taken h known.
+        let o = cell-out w s (dispose p root) rest e free taken a (term s.vars root) fields h found in
+        let after = cell-change_left o.location o.here None o.splits o.one.here in
+        let gone = splits-of_empty_left (one-remove_cell o.one) after in
+        record {
+          location = o.location;
+          cell = o.here;
+          finds = record { is = sym (known-value w e s.vars h.vars root known) ∙ o.is; there = o.there };
+          follows = record {
+            values = w;
+            same = λ m d. refl;
+            holds = record {
+              vars = h.vars;
+              apart = h.apart;
+              disjoint =
+                  (cell-change_left o.location o.here None (splits-union h.disjoint) o.there).apart;
+              there = beside-none w rest (heap_with o.location None free) ready.after
+                  (subst (AtomsHold w s.links (without s.atoms a)) (sym gone) o.beside);
+              gone = h.gone;
+            };
+          };
+        })
+
+-- MUTATE
+
+pub mutate_follows_event : MutateFollowsEvent
+unfolding MutateFollowsEvent
+mutate_follows_event s rest left p root field value a ready row =
+    go (cell_at s.atoms a (term s.vars root)) refl row
+  where
+    go : (o : Option (List (FieldId × Term))) → cell_at s.atoms a (term s.vars root) ≡ o
+        →
+        option_and_then (λ after. one_goal after rest)
+        (option_map (λ fields. record s {
+          atoms = with_fields s.atoms a (term s.vars root) (put_term field (term s.vars value) fields);
+        }) o)
+        ≡ Some left
+        → Executed (before_command s (mutate p root field value) rest) left
+        (λ w e free taken child. IsKnown s.vars e root → IsKnown s.vars e value → FindsCell e free root
+        (λ location cell. HoldsStill w (before_command s (mutate p root field value) rest) e
+        (heap_with location (Some (put_field cell field.0 (value_at e value))) free) taken child))
+    go None found e = absurd (cc)
+    go (Some fields) found e =
+        let b = ready.below in
+        let t = term s.vars root in
+        let u = term s.vars value in
+        let at = at-cell s.atoms a t fields found in
+        let old = at-all (IsBelow s.next_sym) s.atoms a (Points t fields) at b.state.atoms in
+        executed-one (before_command s (mutate p root field value) rest)
+        (record { state = record s { atoms = with_fields s.atoms a t (put_term field u fields) }; todo = rest })
+        left _ e
+        (record {
+          below = record {
+            state = record {
+              vars = b.state.vars;
+              apart = b.state.apart;
+              atoms = with_fields-all (IsBelow s.next_sym) s.atoms a t (put_term field u fields)
+                  b.state.atoms (
+                    old.0,
+                    put-all (IsBelow s.next_sym) field u fields
+                        (term-below s.next_sym s.vars b.state.vars value) old.1,
+                  );
+              taken = b.state.taken;
+            };
+            todo = b.todo.1;
+          };
+          symbols = omega arith;
+          links = refl;
+        })
+        (λ w e free taken h known also_known.
+        let o = cell-out w s (mutate p root field value) rest e free taken a t fields h found in
+        let is = known-value w e s.vars h.vars value also_known in
+        let cell : Cell = put_field o.here field.0 (value_at e value) in
+        let fits = subst (λ z. HasFields (term_value w) (put_term field u fields) (put_field o.here field.0 z)) is
+        (put-written (term_value w) field u fields o.here (cell-order s.atoms a t fields ready.fields at) o.has) in
+        record {
+          location = o.location;
+          cell = o.here;
+          finds = record { is = sym (known-value w e s.vars h.vars root known) ∙ o.is; there = o.there };
+          follows = record {
+            values = w;
+            same = λ m d. refl;
+            holds = record {
+              vars = h.vars;
+              apart = h.apart;
+              disjoint =
+                  (cell-change_left o.location o.here (Some cell) (splits-union h.disjoint) o.there).apart;
+              there = beside-none w rest (heap_with o.location (Some cell) free) ready.after
+                  (atoms-in_place w s.links s.atoms a (Points t fields) t (put_term field u fields)
+                  (heap_with o.location (Some cell) free) at
+                  (star-of (cell-change_left o.location o.here (Some cell) o.splits o.one.here)
+                  (o.location, cell, o.is, one-put_cell cell o.one, fits) o.beside));
+              gone = h.gone;
+            };
+          };
+        })
+
+-- NEW
+
+pub new_follows_event : NewFollowsEvent
+unfolding NewFollowsEvent
+new_follows_event s rest left p x ready row =
+    let goal = before_command s (new p x) rest in
+    let b = ready.below in
+    let n = s.next_sym in
+    let fresh = below-symbol (n + 1) n (omega arith) in
+    executed-one goal
+    (record { state = with_cell (with_var x.var (Sym n) (with_symbols 1 s)) (Sym n) []; todo = rest }) left _ row
+    (record {
+      below = record {
+        state = record {
+          vars = set-all (IsBelow (n + 1)) x.var (Sym n) s.vars fresh (later-vars goal b 1);
+          apart = later-apart goal b 1 (Sym n) fresh;
+          atoms = more-below (n + 1) s.atoms _ (later-atoms goal b 1) (fresh, tt);
+          taken = later-taken goal b 1;
+        };
+        todo = (later-todo goal b 1).1;
+      };
+      symbols = omega arith;
+      links = refl;
+    })
+    (λ w e free taken h location cell free_lacks taken_lacks.
+    let v = with_value n (loc location) w in
+    let same : SameBelow n v w = λ m i. value-below n (loc location) w m i in
+    let is : v n ≡ loc location = value-here n (loc location) w in
+    record {
+      values = v;
+      same = same;
+      holds = record {
+        vars = set-agrees v e x.var (loc location) s.vars (Sym n) ready.vars (sym is)
+            (vars-stay w v goal b same e free taken h);
+        apart = apart-stays w v goal b same e free taken h (Sym n) location is;
+        disjoint = (cell-new_left location (Some cell) (splits-union h.disjoint)
+            (splits-lacks_whole location (splits-union h.disjoint) free_lacks taken_lacks)).apart;
+        there = beside-none v rest (heap_with location (Some cell) free) ready.after
+            (atoms-one_more v s.links s.atoms _ (heap_with location (Some cell) free)
+            (star-of (one-put location cell free free_lacks)
+            (location, cell, is, one-single location cell, tt)
+            (atoms-stay w v goal b same e free taken h free (star-drop_right h.there))));
+        gone = taken-stay w v goal b same e free taken h;
+      };
+    })
+
+-- LOOK
+
+-- a field's term has a property that all have
+field-all : (P : Term → Type 0) (fields : List (FieldId × Term)) (f : FieldId) (t : Term)
+    → field_term fields f ≡ Some t → AllPaired P fields → P t
+field-all P [] f t e h = absurd (cc)
+field-all P (g ∷ gs) f t e h = go (g.0.0 == f.0) e (λ i. field-all P gs f t i h.1)
+  where
+    go : (b : Bool) → cond b (Some g.1) (field_term gs f) ≡ Some t → (field_term gs f ≡ Some t → P t) → P t
+    go true i r = let j : g.1 ≡ t = cc in subst P j h.0
+    go false i r = r i
+
+-- what the law says of the goals that are left
+abbrev Looks : State → List Item → Place → Occurrence → Expr → FieldId → List Goal → Type 0
+Looks s rest p x root field left = Executed (before_command s (look_up p x root field) rest) left
+    (λ w e free taken child. IsKnown s.vars e root → FindsCell e free root
+    (λ location cell. HoldsStill w (before_command s (look_up p x root field) rest)
+    (with_variable x.var (cell field.0) e) free taken child))
+
+-- a field that is known
+look-known : (s : State) (rest : List Item) (left : List Goal) (p : Place) (x : Occurrence) (root : Expr)
+    (field : FieldId) (a : ℕ)
+    → IsReady (before_command s (look_up p x root field) rest) rest
+    → (fields : List (FieldId × Term)) → cell_at s.atoms a (term s.vars root) ≡ Some fields
+    → (u : Term) → field_term fields field ≡ Some u
+    → one_goal (with_var x.var u s) rest ≡ Some left → Looks s rest p x root field left
+look-known s rest left p x root field a ready fields found u is e =
+    let b = ready.below in
+    let t = term s.vars root in
+    let old = at-all (IsBelow s.next_sym) s.atoms a (Points t fields) (at-cell s.atoms a t fields found)
+    b.state.atoms in
+    executed-one (before_command s (look_up p x root field) rest)
+    (record { state = with_var x.var u s; todo = rest }) left _ e
+    (record {
+      below = record {
+        state = record {
+          vars = set-all (IsBelow s.next_sym) x.var u s.vars
+              (field-all (IsBelow s.next_sym) fields field u is old.1) b.state.vars;
+          apart = b.state.apart;
+          atoms = b.state.atoms;
+          taken = b.state.taken;
+        };
+        todo = b.todo.1;
+      };
+      symbols = omega arith;
+      links = refl;
+    })
+    (λ w e free taken h known.
+    let o = cell-out w s (look_up p x root field) rest e free taken a t fields h found in
+    record {
+      location = o.location;
+      cell = o.here;
+      finds = record { is = sym (known-value w e s.vars h.vars root known) ∙ o.is; there = o.there };
+      follows = record {
+        values = w;
+        same = λ m d. refl;
+        holds = record {
+          vars = set-agrees w e x.var (o.here field.0) s.vars u ready.vars
+              (field-value (term_value w) fields field u o.here is o.has) h.vars;
+          apart = h.apart;
+          disjoint = h.disjoint;
+          there = beside-none w rest free ready.after (star-drop_right h.there);
+          gone = h.gone;
+        };
+      };
+    })
+
+-- a field that isn't known gets a fresh symbol first
+look-fresh : (s : State) (rest : List Item) (left : List Goal) (p : Place) (x : Occurrence) (root : Expr)
+    (field : FieldId) (a : ℕ)
+    → IsReady (before_command s (look_up p x root field) rest) rest
+    → (fields : List (FieldId × Term)) → cell_at s.atoms a (term s.vars root) ≡ Some fields
+    → one_goal (with_var x.var (Sym s.next_sym) (with_symbols 1 (record s {
+      atoms = with_fields s.atoms a (term s.vars root) (put_term field (Sym s.next_sym) fields);
+    }))) rest ≡ Some left → Looks s rest p x root field left
+look-fresh s rest left p x root field a ready fields found e =
+    let goal = before_command s (look_up p x root field) rest in
+    let b = ready.below in
+    let n = s.next_sym in
+    let t = term s.vars root in
+    let put = put_term field (Sym n) fields in
+    let at = at-cell s.atoms a t fields found in
+    let old = at-all (IsBelow n) s.atoms a (Points t fields) at b.state.atoms in
+    let fresh = below-symbol (n + 1) n (omega arith) in
+    executed-one goal
+    (record {
+      state = with_var x.var (Sym n) (with_symbols 1 (record s { atoms = with_fields s.atoms a t put }));
+      todo = rest;
+    }) left _ e
+    (record {
+      below = record {
+        state = record {
+          vars = set-all (IsBelow (n + 1)) x.var (Sym n) s.vars fresh (later-vars goal b 1);
+          apart = pairs-weaker (IsBelow n) (IsBelow (n + 1)) (later goal b 1) s.apart b.state.apart;
+          atoms = with_fields-all (IsBelow (n + 1)) s.atoms a t put (later-atoms goal b 1) (
+            later goal b 1 t old.0,
+            put-all (IsBelow (n + 1)) field (Sym n) fields fresh
+                (paired-weaker (IsBelow n) (IsBelow (n + 1)) (later goal b 1) fields old.1),
+          );
+          taken = later-taken goal b 1;
+        };
+        todo = (later-todo goal b 1).1;
+      };
+      symbols = omega arith;
+      links = refl;
+    })
+    (λ w e free taken h known.
+    let o = cell-out w s (look_up p x root field) rest e free taken a t fields h found in
+    let y = o.here field.0 in
+    let v = with_value n y w in
+    let same : SameBelow n v w = λ m i. value-below n y w m i in
+    let is : v n ≡ y = value-here n y w in
+    let stays = agree w v goal b same e free taken h in
+    record {
+      location = o.location;
+      cell = o.here;
+      finds = record { is = sym (known-value w e s.vars h.vars root known) ∙ o.is; there = o.there };
+      follows = record {
+        values = v;
+        same = same;
+        holds = record {
+          vars = set-agrees v e x.var y s.vars (Sym n) ready.vars (sym is)
+              (vars-stay w v goal b same e free taken h);
+          apart = pairs-other_values w v s.apart
+              (pairs-weaker (IsBelow n) (Same w v) stays s.apart b.state.apart) h.apart;
+          disjoint = h.disjoint;
+          there = beside-none v rest free ready.after
+              (atoms-in_place v s.links s.atoms a (Points t fields) t put free at
+              (star-of o.splits (
+                o.location,
+                o.here,
+                sym (stays t old.0) ∙ o.is,
+                o.one,
+                put-known (term_value v) field (Sym n) fields o.here (sym is)
+                    (fields-other_values w v fields o.here
+                    (paired-weaker (IsBelow n) (Same w v) stays fields old.1) o.has),
+              )
+              (others-stay w v goal b same e free taken h a o.others o.beside)));
+          gone = taken-stay w v goal b same e free taken h;
+        };
+      };
+    })
+
+pub look_follows_event : LookFollowsEvent
+unfolding LookFollowsEvent
+look_follows_event s rest left p x root field a ready row = go (cell_at s.atoms a (term s.vars root)) refl row
+  where
+    step : (fields : List (FieldId × Term)) → cell_at s.atoms a (term s.vars root) ≡ Some fields
+        → (o : Option Term) → field_term fields field ≡ o
+        →
+        option_and_then (λ after. one_goal after rest) (looked s (term s.vars root) field a x.var o)
+        ≡ Some left
+        → Looks s rest p x root field left
+    step fields found (Some u) is e = look-known s rest left p x root field a ready fields found u is e
+    step fields found None is e =
+        look-fresh s rest left p x root field a ready fields found
+        (subst (λ (o : Option (List (FieldId × Term))).
+        option_and_then (λ after. one_goal after rest)
+        (option_map (with_var x.var (Sym s.next_sym)) (option_map (λ fs. record (with_symbols 1 s) {
+          atoms = with_fields s.atoms a (term s.vars root) (put_term field (Sym s.next_sym) fs);
+        }) o))
+        ≡ Some left) found e)
+
+    go : (o : Option (List (FieldId × Term))) → cell_at s.atoms a (term s.vars root) ≡ o
+        →
+        option_and_then (λ fields. option_and_then (λ after. one_goal after rest)
+        (looked s (term s.vars root) field a x.var (field_term fields field))) o
+        ≡ Some left
+        → Looks s rest p x root field left
+    go None found e = absurd (cc)
+    go (Some fields) found e = step fields found (field_term fields field) refl e
