@@ -6,9 +6,9 @@ use Rattle.sf_core.specs.declared.assertion.Operand.{Operand}
 use Rattle.sf_core.specs.declared.command.Expr.{Expr}
 use Rattle.sf_core.specs.declared.assertion.Conjunct.{Conjunct as CodeConjunct, Points}
 use Rattle.sf_core.specs.declared.assertion.Conjunct.TheVariants.{rolls-Points}
-use Rattle.sf_core.specs.declared.assertion.Conjunct.TheFolds.{fold-roll-Conjunct, fold-roll-Level, fold_out-Level}
+use Rattle.sf_core.specs.declared.assertion.Conjunct.TheFolds.{fold-roll-Conjunct, fold-roll-Level}
 use Rattle.sf_core.specs.declared.assertion.Conjunct.TheOpen.{Level-F}
-use Rattle.sf_core.specs.declared.assertion.Level.{Level as CodeLevel, roll-Level, out-Level}
+use Rattle.sf_core.specs.declared.assertion.Level.{Level as CodeLevel, roll-Level}
 use Rattle.sf_core.specs.Program.Syntax.{Conjunct, also, points, Level, level}
 use Rattle.sf_core.specs.Program.View.{conjuncts, conjunct_of, level_of, conjunct_step, level_step}
 use Rattle.sf_sym.specs.declared.term.Term.{Term}
@@ -28,11 +28,6 @@ conjuncts_with-of to f g xs ys e = ap conjuncts e ∙ conjuncts_with-map to f xs
 pub level_of-roll : (x : Level-F Term (CodeConjunct Term) (CodeLevel Term))
     → level_of {E = Term} (roll-Level Term x) ≡ level x.made (conjuncts (map conjunct_of x.conjuncts.items))
 level_of-roll x = fold-roll-Level Term (Conjunct Term) (Level Term) conjunct_step level_step x
-
-pub level_of-out : (l : CodeLevel Expr)
-    → level_of {E = Expr} l
-    ≡ level (out-Level Expr l).made (conjuncts (map conjunct_of (out-Level Expr l).conjuncts.items))
-level_of-out l = fold_out-Level Expr (Conjunct Expr) (Level Expr) conjunct_step level_step l
 
 conjunct_of-points : (p : Place) (x : Operand Term) (v : Vec (FieldId × Operand Term) Global)
     → conjunct_of {E = Term} (Points p x v) ≡ points p x v.items

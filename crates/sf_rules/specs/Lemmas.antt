@@ -1,11 +1,14 @@
--- Lemmas on proofs, cells and conjuncts that the proofs of the crates above cite. Each states what it
--- says; none is a definition.
+-- Lemmas on proofs, cells, conjuncts and levels that the proofs of the crates above cite. Each states
+-- what it says; none is a definition.
 -- Ordinary: proofs are finite trees, and those of a list of goals are those of its parts.
 use Rattle.std.proofs.Common.{◌≡◌, List, [], ◌∷◌, ◌++◌, map, reverse, refl, sym, ap, ◌∙◌, subst, append_assoc}
 use Rattle.std.proofs.lemmas.List.{reverse-append}
 use Rattle.sf_core.specs.declared.assertion.Conjunct.{Conjunct as CodeConjunct}
-use Rattle.sf_core.specs.Program.Syntax.{also}
-use Rattle.sf_core.specs.Program.View.{conjunct_of, conjuncts}
+use Rattle.sf_core.specs.declared.assertion.Conjunct.TheFolds.{fold_out-Level}
+use Rattle.sf_core.specs.declared.assertion.Level.{Level as CodeLevel, out-Level}
+use Rattle.sf_core.specs.declared.command.Expr.{Expr}
+use Rattle.sf_core.specs.Program.Syntax.{Conjunct, also, Level, level}
+use Rattle.sf_core.specs.Program.View.{conjunct_of, conjuncts, level_of, conjunct_step, level_step}
 use Rattle.sf_sym.specs.declared.term.Term.{Term}
 use Rattle.sf_sym.specs.declared.tag.Tag.{Tag}
 use Rattle.sf_sym.specs.Goal.{Goal}
@@ -59,3 +62,9 @@ pub last_conjunct : (xs : List (CodeConjunct Term)) (c : CodeConjunct Term)
     → conjuncts (map (conjunct_of {E = Term}) (reverse (xs ++ c ∷ [])))
     ≡ also (conjunct_of {E = Term} c) (conjuncts (map (conjunct_of {E = Term}) (reverse xs)))
 last_conjunct xs c = ap (λ ys. conjuncts (map (conjunct_of {E = Term}) ys)) (reverse-append xs (c ∷ []))
+
+-- a level of the code is its scope and its conjuncts
+pub level_of-out : (l : CodeLevel Expr)
+    → level_of {E = Expr} l
+    ≡ level (out-Level Expr l).made (conjuncts (map conjunct_of (out-Level Expr l).conjuncts.items))
+level_of-out l = fold_out-Level Expr (Conjunct Expr) (Level Expr) conjunct_step level_step l
