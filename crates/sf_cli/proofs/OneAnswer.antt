@@ -1,24 +1,15 @@
 -- A file has at most one answer: its reading, its faults and the verdict are each determined, and no two of them meet.
--- Names: reads-*, fault-*, named-*, answer-*.
-use Rattle.std.proofs.Common.{◌≡◌, ℕ, true, List, Option, Some, None, sym, ap, ◌∙◌, subst, arith}
-use Rattle.std.proofs.lemmas.Bool.Decides.{nat_tests}
+-- Names: reads-*, fault-*, answer-*.
+use Rattle.std.proofs.Common.{◌≡◌, ℕ, List, Option, Some, None, sym, ap, ◌∙◌, subst}
 use Rattle.std.proofs.lemmas.List.Elements.{All-contains}
-use Rattle.std.proofs.lemmas.Option.{none-some, same_Some}
 use Rattle.std.specs.List.{All}
-use Rattle.std.specs.Prelude.{slice_get}
+use Rattle.sf_base.proofs.Places.{is_before-neither}
 use Rattle.sf_base.proofs.Options.{some-once}
 use Rattle.sf_ast.specs.Surface.{Item}
-use Rattle.sf_base.specs.declared.ids.ProcId.{ProcId}
-use Rattle.sf_base.specs.declared.ids.Var.{Var}
-use Rattle.sf_base.specs.declared.ids.Var.TheVariants.{Own, Shared}
 use Rattle.sf_base.specs.declared.place.Place.{Place}
-use Rattle.sf_calls.specs.declared.breach.Breach.{Breach}
-use Rattle.sf_calls.specs.declared.breach.Breach.TheVariants.{NotHeld, Reentered, SameReference, ReferenceIsFree, ParallelShares}
 use Rattle.sf_calls.specs.FirstBreach.{Conditions}
-use Rattle.sf_calls.specs.Laws.{FirstBreachIsUnique}
 use Rattle.sf_core.specs.Assertions.Determined.{Determined}
-use Rattle.sf_core.specs.Program.Syntax.{Procedure, Resource, Program}
-use Rattle.sf_io.specs.Shelf.{Files}
+use Rattle.sf_core.specs.Program.Syntax.{Program}
 use Rattle.sf_elab.specs.Files.Elaborated.{Elaborates, FirstFault}
 use Rattle.sf_elab.specs.Laws.{EachFileIsOne as EachTreeIsOne}
 use Rattle.sf_lex.specs.declared.token.Token.{Token}
@@ -27,12 +18,10 @@ use Rattle.sf_lex.specs.Reading.{end_place}
 use Rattle.sf_parse.specs.Laws.{EachFileIsOne, AnswerIsUnique}
 use Rattle.sf_parse.specs.Parsing.{IsFile, IsFault as IsGrammarFault}
 use Rattle.sf_precise.specs.Laws.{NeverTakenIsUndetermined}
-use Rattle.sf_base.specs.First.{is_before}
 use Rattle.sf_precise.specs.Annotations.{annotations_in, IsFirstPlace, NeverTakenIn}
 use Rattle.sf_search.specs.Judge.{Verdict, proof, fails}
 use Rattle.sf_search.specs.Laws.{VerdictIsUnique}
-use Rattle.sf_vars.specs.declared.fault.VarFault.{VarFault}
-use Rattle.sf_vars.specs.Faults.{IsVariableName, IsBreachName, told_by, IsFirstFault}
+use Rattle.sf_vars.specs.Laws.{EachProgramHasOneAnswer}
 use Rattle.sf_cli.specs.Answer.{VerdictAnswer, ProgramAnswer, OrderAnswer, FileAnswer, not_built, judged, refused, admitted}
 use Rattle.sf_cli.specs.declared.refusal.Refusal.{Refusal}
 use Rattle.sf_cli.specs.declared.refusal.Refusal.TheVariants.{At}
@@ -49,7 +38,7 @@ pub record Layers : Type 0 where
   pub trees : EachFileIsOne
   pub grammar : AnswerIsUnique
   pub names : EachTreeIsOne
-  pub breaches : FirstBreachIsUnique
+  pub breaches : EachProgramHasOneAnswer
   pub orders : NeverTakenIsUndetermined
   pub verdicts : VerdictIsUnique
 
@@ -96,70 +85,22 @@ fault-once l bytes r s (in_names ts tree e t g h k) (in_names us other f u j i m
     let same : other ≡ tree = reads-tree l.trees bytes us ts other tree ((l.tokens bytes).tokens us ts u t) j g in
     k ∙ ap of_names (l.names.one_fault bytes tree e f h (subst (λ (z : List Item). FirstFault bytes z f) same i)) ∙ sym m
 
--- a variable has one name
-named-variable : (p : Program) (f : ProcId) (x : Var) (n m : List ℕ) → IsVariableName p f x n → IsVariableName p f x m → n ≡ m
-named-variable p f (Own k) n m a b =
-    let same : a.0 ≡ b.0 = some-once (slice_get p.procedures f.0) a.0 b.0 a.1 b.1 in
-    some-once (slice_get b.0.names k) n m (subst (λ (h : Procedure). slice_get h.names k ≡ Some n) same a.2) b.2
-named-variable p f (Shared r i) n m a b =
-    let same : a.0 ≡ b.0 = some-once (slice_get p.resources r.0) a.0 b.0 a.1 b.1 in
-    some-once (slice_get b.0.variables i) n m (subst (λ (h : Resource). slice_get h.variables i ≡ Some n) same a.2) b.2
-
--- so what a breach is told by is one name
-named-breach : (p : Program) (f : ProcId) (b : Breach) (n m : List ℕ) → IsBreachName p f b n → IsBreachName p f b m → n ≡ m
-named-breach p f (NotHeld q x) n m a c = named-variable p f x n m a c
-named-breach p f (Reentered q r) n m a c =
-    let same : a.0 ≡ c.0 = some-once (slice_get p.resources r.0) a.0 c.0 a.1 c.1 in
-    sym a.2 ∙ ap (λ (h : Resource). h.name) same ∙ c.2
-named-breach p f (SameReference q x) n m a c = named-variable p f x n m a c
-named-breach p f (ReferenceIsFree q x) n m a c = named-variable p f x n m a c
-named-breach p f (ParallelShares q x) n m a c = named-variable p f x n m a c
-
--- two faults that tell the same breach are one
-fault-told : (p : Program) (f g : ProcId) (b c : Breach) (n m : List ℕ) → f ≡ g → b ≡ c → IsBreachName p f b n → IsBreachName p g c m → told_by b n ≡ told_by c m
-fault-told p f g b c n m e h i j =
-    let there : IsBreachName p f b m = subst (λ (z : ProcId). IsBreachName p z b m) (sym e) (subst (λ (z : Breach). IsBreachName p g z m) (sym h) j) in
-    ap (λ (z : List ℕ). told_by b z) (named-breach p f b n m i there) ∙ ap (λ (z : Breach). told_by z m) h
-
-same-parts : (a b : ProcId × Breach) → a ≡ b → (a.0 ≡ b.0) × (a.1 ≡ b.1)
-same-parts a b e = (ap (λ (x : ProcId × Breach). x.0) e, ap (λ (x : ProcId × Breach). x.1) e)
-
--- a program's first fault of variables is one
-fault-variables : Layers → (p : Program) (e f : VarFault) → IsFirstFault p e → IsFirstFault p f → e ≡ f
-fault-variables l p e f h i =
-    let same = same-parts (h.procedure, h.breach) (i.procedure, i.breach) (same_Some (h.procedure, h.breach) (i.procedure, i.breach) (l.breaches p (Some (h.procedure, h.breach)) (Some (i.procedure, i.breach)) h.first i.first)) in
-    h.told ∙ fault-told p h.procedure i.procedure h.breach i.breach h.name i.name same.0 same.1 h.named i.named ∙ sym i.told
-
--- conditions that hold have no first breach
-fault-none : Layers → (p : Program) (e : VarFault) → Conditions p → IsFirstFault p e → ⊥
-fault-none l p e c h = none-some (h.procedure, h.breach) (l.breaches p None (Some (h.procedure, h.breach)) c h.first)
-
-place-of : (p q : Place) → p.line ≡ q.line → p.column ≡ q.column → p ≡ q
-place-of p q e f = λ i. record { line = e i; column = f i }
-
--- neither place is before the other
-place-once : (p q : Place) → (is_before p q ≡ true → ⊥) → (is_before q p ≡ true → ⊥) → p ≡ q
-place-once p q h i =
-    let lines : p.line ≡ q.line = grind (arith, nat_tests) in
-    let columns : p.column ≡ q.column = grind (arith, nat_tests) in
-    place-of p q lines columns
-
 -- the first place at which an annotation is stuck is one
 fault-place : (P : Place → Type 0) (p q : Place) → IsFirstPlace P (Some p) → IsFirstPlace P (Some q) → p ≡ q
-fault-place P p q h i = place-once p q (i.1 p h.0) (h.1 q i.0)
+fault-place P p q h i = is_before-neither p q (i.1 p h.0) (h.1 q i.0)
 
 -- a program has one fault at most
 pub fault-program : Layers → (p : Program) (r s : Refusal) → ProgramFault p r → ProgramFault p s → r ≡ s
-fault-program l p r s (in_variables e h k) (in_variables f i m) = k ∙ ap of_variables (fault-variables l p e f h i) ∙ sym m
-fault-program l p r s (in_variables e h k) (in_order at c i m) = absurd (fault-none l p e c h)
-fault-program l p r s (in_order at c h k) (in_variables f i m) = absurd (fault-none l p f c i)
+fault-program l p r s (in_variables e h k) (in_variables f i m) = k ∙ ap of_variables (l.breaches.one_fault p e f h i) ∙ sym m
+fault-program l p r s (in_variables e h k) (in_order at c i m) = absurd (l.breaches.not_both p e c h)
+fault-program l p r s (in_order at c h k) (in_variables f i m) = absurd (l.breaches.not_both p f c i)
 fault-program l p r s (in_order at c h k) (in_order on d i m) =
     let same : at ≡ on = fault-place (NeverTakenIn (annotations_in p)) at on h i in
     k ∙ ap (λ (z : Place). At Undetermined z) same ∙ sym m
 
 -- a program with which nothing is wrong has no fault
 fault-apart : Layers → (p : Program) (r : Refusal) → Conditions p → All (λ a. Determined a.level) (annotations_in p) → ProgramFault p r → ⊥
-fault-apart l p r c d (in_variables e h k) = fault-none l p e c h
+fault-apart l p r c d (in_variables e h k) = l.breaches.not_both p e c h
 fault-apart l p r c d (in_order at e h k) = l.orders h.0.0.level at h.0.2 (All-contains (λ a. Determined a.level) (annotations_in p) h.0.0 d h.0.1)
 
 -- a file that is admitted isn't refused

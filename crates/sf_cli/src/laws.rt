@@ -2,14 +2,13 @@
 
 ghost use Rattle.sf_cli.specs.Laws.{AcceptedFilesAreSound, EachCommandHasAnAnswer, EachCommandHasOneAnswer, EachFileHasAnAnswer, EachFileHasOneAnswer, EachFileIsOneProgram};
 
-use sf_calls::laws::first_breach_is_unique;
 use sf_elab::laws::elaborated_is_formed;
 use sf_lex::laws::each_file_reads_once;
 use sf_parse::laws::each_file_is_shallow;
 use sf_precise::laws::{never_taken_is_undetermined, undetermined_annotations_have_place};
 use sf_search::{verdict_exists, verdict_is_unique, verdicts_prove};
 use sf_sound::proved_programs_are_sound;
-use sf_vars::laws::each_program_has_an_answer;
+use sf_vars::laws::{each_program_has_an_answer, each_program_has_one_answer};
 
 /// Bytes read as at most one program.
 pub fn each_file_is_one_program()
@@ -28,7 +27,7 @@ pub fn each_file_has_one_answer()
     sf_parse::laws::each_file_is_one();
     sf_parse::laws::answer_is_unique();
     sf_elab::laws::each_file_is_one();
-    first_breach_is_unique();
+    each_program_has_one_answer();
     never_taken_is_undetermined();
     verdict_is_unique();
 }

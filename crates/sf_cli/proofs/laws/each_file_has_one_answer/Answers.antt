@@ -7,7 +7,7 @@ returns c = answer-once (record {
   trees = c.each_file_is_one.ensures;
   grammar = c.answer_is_unique.ensures;
   names = c.each_file_is_one-2.ensures;
-  breaches = c.first_breach_is_unique.ensures;
+  breaches = c.each_program_has_one_answer.ensures;
   orders = c.never_taken_is_undetermined.ensures;
   verdicts = c.verdict_is_unique.ensures;
 })
