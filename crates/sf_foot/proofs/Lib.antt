@@ -1,0 +1,4 @@
+pub mod Walking
+pub mod Parts
+pub mod Trees
+pub mod Pigeons
