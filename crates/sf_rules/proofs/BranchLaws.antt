@@ -1,7 +1,7 @@
 -- The laws of choices among commands: the branch that is left is that of the test's value.
 -- Names: `decided-LAW` of a test that a state decides.
 use Rattle.std.specs.List.{AllByRecursion}
-use Rattle.std.proofs.Common.{◌≡◌, ◌≢◌, ℕ, Bool, true, false, cond, Option, Some, None, List, [], ◌∷◌, ◌++◌, refl, sym, ap, ◌∙◌, arith}
+use Rattle.std.proofs.Common.{◌≡◌, ◌≢◌, ℕ, Bool, true, false, cond, Option, Some, None, List, ◌++◌, refl, sym, ap, ◌∙◌, arith}
 use Rattle.sf_base.proofs.HeapSplits.{star-drop_right}
 use Rattle.sf_base.proofs.MapSplits.{splits-union, union}
 use Rattle.sf_base.specs.declared.ids.Var.{Var}
@@ -18,17 +18,17 @@ use Rattle.sf_rules.specs.LawsOfCommands.{before_command, Executed, IsTestKnown,
 use Rattle.sf_sym.proofs.KnownValues.{known-value}
 use Rattle.sf_sym.proofs.States.{differing_terms_differ}
 use Rattle.sf_sym.proofs.TwoHeaps.{in-at}
-use Rattle.sf_sym.specs.Below.{AllInItem, AreBelow, IsBelow}
-use Rattle.sf_sym.specs.Decided.{command_test, is_decided, is_false, is_true}
+use Rattle.sf_sym.specs.Below.{AllInItem, IsBelow}
+use Rattle.sf_sym.specs.Decided.{command_test, is_false, is_true}
 use Rattle.sf_sym.specs.declared.term.Term.{Term}
-use Rattle.sf_sym.specs.Goal.{Item, run, Goal, one_goal, to_run}
+use Rattle.sf_sym.specs.Goal.{Item, Goal, one_goal, to_run}
 use Rattle.sf_sym.specs.Holds.{term_value}
 use Rattle.sf_sym.specs.HoldsIn.{HoldsIn}
 use Rattle.sf_sym.specs.Laws.{DifferingTermsDiffer, Follows, HoldsStill}
 use Rattle.sf_sym.specs.Lemmas.{same_term_is}
 use Rattle.sf_sym.specs.Ready.{BeginsWithNoAdd, IsKnown, IsReady, value_at}
 use Rattle.sf_sym.specs.State.{State, term}
-use Rattle.sf_sym.specs.Tests.{differs, same_term}
+use Rattle.sf_sym.specs.Tests.{differs}
 
 -- a block's commands assume nothing
 run-no_add : (c : Block) (rest : List Item) → BeginsWithNoAdd rest → BeginsWithNoAdd (to_run c ++ rest)
