@@ -12,6 +12,7 @@ use Rattle.sf_base.proofs.Lookup.{get-set_same, get-set_other}
 use Rattle.sf_base.specs.declared.ids.ProcId.{ProcId}
 use Rattle.sf_base.specs.declared.ids.ResId.{ResId}
 use Rattle.sf_core.specs.Program.Formed.{IsFormed}
+use Rattle.sf_core.specs.Program.Heads.{sites}
 use Rattle.sf_core.specs.Program.Syntax.{Procedure, Program}
 use Rattle.sf_calls.specs.Conditions.{Calls}
 use Rattle.sf_calls.specs.declared.summary.Summary.{Summary}
@@ -20,8 +21,8 @@ use Rattle.sf_calls.specs.Internal.Visited.{IsCaller, AreCallers}
 use Rattle.sf_calls.specs.Internal.Summaries.{IsSummaryOf, AreSummaries, has_calls_inside, left_out_has_calls_inside}
 use Rattle.sf_calls.specs.Outside.{CallsIn}
 use Rattle.sf_calls.specs.Internal.Tests.{callees_in}
-use Rattle.sf_calls.proofs.Decided.{callees_in_are}
-use Rattle.sf_calls.proofs.Listing.{calls_anyway, entered_is}
+use Rattle.sf_calls.proofs.Decided.{callees_in_are, entered_is}
+use Rattle.sf_calls.proofs.Listing.{calls_anyway}
 use Rattle.sf_calls.proofs.Searches.{proc}
 use Rattle.sf_calls.proofs.Within.{callees_within}
 
@@ -114,7 +115,7 @@ calls_none p but rows none f g =
 -- one more procedure was looked at
 pub calls_more : (p : Program) (but : Option ResId) (i : ℕ) (h : Procedure) (callees : List ProcId)
     (before after : List (Vec ProcId Global))
-    → slice_get p.procedures i ≡ Some h → callees ≡ callees_in but h.body
+    → slice_get p.procedures i ≡ Some h → callees ≡ callees_in but (sites [] h.body)
     → ((f g : ProcId) → IsCaller before f g ↔ ((f.0 < i) × Calls p but f g))
     → ((f g : ProcId) → IsCaller after f g ↔ (IsCaller before f g ⊎ ((f ≡ proc i) × Contains callees g)))
     → (f g : ProcId) → IsCaller after f g ↔ ((f.0 < i + 1) × Calls p but f g)
@@ -166,11 +167,11 @@ calls_all p but i rows past are f g = (
 
 -- each callee is there
 pub callees_there : (p : Program) (but : Option ResId) (i : ℕ) (h : Procedure) (callees : List ProcId)
-    → IsFormed p → slice_get p.procedures i ≡ Some h → callees ≡ callees_in but h.body
+    → IsFormed p → slice_get p.procedures i ≡ Some h → callees ≡ callees_in but (sites [] h.body)
     → All (λ g. g.0 < length p.procedures) callees
 callees_there p but i h callees formed at are k d below =
     let g : ProcId = get_or callees k d in
-    let has : Contains (callees_in but h.body) g = subst (λ (xs : List ProcId). Contains xs g) are
+    let has : Contains (callees_in but (sites [] h.body)) g = subst (λ (xs : List ProcId). Contains xs g) are
     (Contains-get_or callees k d below) in
     callees_within p h but g h.body (formed.procedures i h at).body ((callees_in_are but g h.body).0 has)
 

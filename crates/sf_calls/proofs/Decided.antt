@@ -1,27 +1,36 @@
 -- Each test decides its relation.
-use Rattle.std.proofs.Common.{◌≡◌, ◌↔◌, ℕ, ◌==◌, List, [], ◌∷◌, Option, Some, None, Contains, refl, ap}
+use Rattle.std.proofs.Common.{◌≡◌, ◌↔◌, ℕ, ◌==◌, ◌||◌, List, [], ◌∷◌, Option, Some, None, Contains, refl, subst}
 use Rattle.std.specs.Bool.{Decides}
 use Rattle.std.proofs.lemmas.Bool.Decides.{Decides-or, Decides-not}
 use Rattle.sf_base.proofs.Bools.{decides-false}
-use Rattle.sf_base.proofs.Elements.{contains-append, contains-cond, contains-none}
+use Rattle.sf_base.proofs.Elements.{contains-cond, contains-cons, contains-nil}
+use Rattle.sf_base.proofs.Members.{contains-map, contains-map_from}
 use Rattle.sf_base.specs.declared.ids.ProcId.{ProcId}
 use Rattle.sf_base.specs.declared.ids.ResId.{ResId}
 use Rattle.sf_base.specs.declared.ids.Var.{Var}
 use Rattle.sf_core.specs.declared.command.Expr.{Expr}
 use Rattle.sf_core.specs.declared.command.Expr.TheVariants.{Var as Variable, Nil, Int}
 use Rattle.sf_core.specs.declared.command.Occurrence.{Occurrence}
-use Rattle.sf_core.specs.Program.Syntax.{Command, assign, look_up, mutate, new, dispose, if, while, call, fork, with, Block, done, then}
-use Rattle.sf_calls.specs.Outside.{IsOther, OccursInExpr, IsAmong, OccursInValues, CallsIn, CallsInCommand}
+use Rattle.sf_core.specs.Program.Heads.{head_calls, sites}
+use Rattle.sf_core.specs.Program.Syntax.{Block, Command}
+use Rattle.sf_calls.specs.Outside.{IsOutside, OccursInExpr, IsAmong, OccursInValues, CallsIn, Makes}
+use Rattle.sf_calls.specs.Internal.Listed.{is_entered}
 use Rattle.sf_base.proofs.Variables.{resource-decides, same_var-decides}
-use Rattle.sf_calls.specs.Internal.Tests.{is_other, in_expr, in_references, in_values, callees_in, callees_of}
-use Rattle.sf_calls.proofs.Searches.{one_of, only_one}
+use Rattle.sf_calls.specs.Internal.Tests.{is_outside, in_expr, in_references, in_values, callees_in, callees_of}
+use Rattle.sf_calls.proofs.Sites.{listed_somewhere}
 
 abbrev pub resource : ℕ → ResId
 resource n = record { 0 = n }
 
-pub other_is : (but : Option ResId) (q : ResId) → Decides (is_other but q) (IsOther but q)
-other_is None q = (λ e. tt, λ h. refl)
-other_is (Some r) q = Decides-not (q.0 == r.0) (resource-decides q r)
+pub entered_is : (r : ResId) (es : List ResId) → Decides (is_entered r es) (Contains es r)
+entered_is r [] = (λ e. absurd (cc), λ c. absurd (contains-nil r c))
+entered_is r (q ∷ qs) =
+    let both = Decides-or (q.0 == r.0) (is_entered r qs) (resource-decides q r) (entered_is r qs) in
+    (λ e. (contains-cons q qs r).1 (both.0 e), λ c. both.1 ((contains-cons q qs r).0 c))
+
+pub outside_is : (but : Option ResId) (es : List ResId) → Decides (is_outside but es) (IsOutside but es)
+outside_is None es = (λ e. tt, λ h. refl)
+outside_is (Some r) es = Decides-not (is_entered r es) (entered_is r es)
 
 pub in_expr_is : (x : Var) (e : Expr) → Decides (in_expr x e) (OccursInExpr x e)
 in_expr_is x (Variable y) = same_var-decides y.var x
@@ -36,28 +45,15 @@ pub in_values_is : (x : Var) (es : List Expr) → Decides (in_values x es) (Occu
 in_values_is x [] = decides-false
 in_values_is x (e ∷ es) = Decides-or _ _ (in_expr_is x e) (in_values_is x es)
 
--- one procedure
-pub of_one : (f g : ProcId) → Contains (f ∷ []) g ↔ (f ≡ g)
-of_one f g = (only_one f g, λ e. one_of f g (ap (λ (k : ProcId). k.0) e))
+-- the callees of a command
+callees_of_are : (g : ProcId) (c : Command) → Contains (callees_of c) g ↔ Makes c (λ d. d.callee ≡ g)
+callees_of_are g c = (
+  contains-map_from (λ d. d.callee) (head_calls c) g,
+  λ m. subst (Contains (callees_of c)) m.2 (contains-map (λ d. d.callee) (head_calls c) m.0 m.1),
+)
 
-mutual
-  pub callees_in_are : (but : Option ResId) (g : ProcId) (b : Block)
-      → Contains (callees_in but b) g ↔ CallsIn but g b
-  callees_in_are but g done = contains-none g
-  callees_in_are but g (then c b) =
-      contains-append _ _ g _ _ (callees_of_are but g c) (callees_in_are but g b)
-
-  pub callees_of_are : (but : Option ResId) (g : ProcId) (c : Command)
-      → Contains (callees_of but c) g ↔ CallsInCommand but g c
-  callees_of_are but g (assign p y e) = contains-none g
-  callees_of_are but g (look_up p y e field) = contains-none g
-  callees_of_are but g (mutate p e field d) = contains-none g
-  callees_of_are but g (new p y) = contains-none g
-  callees_of_are but g (dispose p e) = contains-none g
-  callees_of_are but g (if p t c d) =
-      contains-append _ _ g _ _ (callees_in_are but g c) (callees_in_are but g d)
-  callees_of_are but g (while p t a c) = callees_in_are but g c
-  callees_of_are but g (call p c) = of_one c.callee g
-  callees_of_are but g (fork p c d) =
-      contains-append (c.callee ∷ []) (d.callee ∷ []) g _ _ (of_one c.callee g) (of_one d.callee g)
-  callees_of_are but g (with p r t c) = contains-cond _ _ g _ _ (other_is but r) (callees_in_are but g c)
+pub callees_in_are : (but : Option ResId) (g : ProcId) (b : Block)
+    → Contains (callees_in but (sites [] b)) g ↔ CallsIn but g b
+callees_in_are but g =
+    listed_somewhere _ _ g
+    (λ s. contains-cond _ _ g _ _ (outside_is but s.entered) (callees_of_are g s.command))

@@ -1,4 +1,4 @@
-pub mod Occurring
+pub mod Sites
 pub mod Searches
 pub mod Decided
 pub mod InOrder

@@ -10,16 +10,17 @@ use Rattle.sf_base.specs.declared.ids.Var.{Var}
 use Rattle.sf_base.specs.declared.ids.Var.TheVariants.{Own, Shared}
 use Rattle.sf_core.specs.Machine.HeldBy.{HeldBy}
 use Rattle.sf_core.specs.Assertions.Occurs.{VarOccursIn}
+use Rattle.sf_core.specs.Program.Heads.{sites}
 use Rattle.sf_core.specs.Program.Syntax.{Procedure, Program}
 use Rattle.sf_calls.specs.Conditions.{Calls, Free, Has, Takes}
 use Rattle.sf_calls.specs.Reaches.{Reaches}
 use Rattle.sf_calls.specs.Outside.{CallsIn, EntersIn, OccursOutside, owner}
-use Rattle.sf_calls.specs.Internal.Listed.{entered_in, is_entered, shared_in, shared_in_level}
+use Rattle.sf_calls.specs.Internal.Listed.{entered_in, is_entered, shared_in, shared_in_levels}
 use Rattle.sf_calls.specs.Internal.Tests.{callees_in}
 use Rattle.sf_calls.specs.Internal.Summaries.{has, speaks_of}
 use Rattle.sf_calls.proofs.Decidable.{IsDecidable, decidable_both, decidable_by, listed, listed_is, passes, passes_is}
-use Rattle.sf_calls.proofs.Decided.{callees_in_are}
-use Rattle.sf_calls.proofs.Listing.{entered_are, entered_is, mentioned_are, in_contract_are}
+use Rattle.sf_calls.proofs.Decided.{callees_in_are, entered_is}
+use Rattle.sf_calls.proofs.Listing.{entered_are, mentioned_are, in_contract_are}
 use Rattle.sf_calls.proofs.Paths.{decidable_reaches}
 use Rattle.sf_calls.proofs.Rows.{Speaks, speaks_is, has_is as list_has_is}
 use Rattle.sf_calls.proofs.Searches.{proc}
@@ -53,12 +54,12 @@ has_there p P f h = procedure_below (length p.procedures) f (slice_get_within p.
 
 -- the procedures that the procedure calls outside the regions of the resource that is left out
 abbrev called : Program → Option ResId → ProcId → List ProcId
-called p but f = listed (λ (h : Procedure). callees_in but h.body) (slice_get p.procedures f.0)
+called p but f = listed (λ (h : Procedure). callees_in but (sites [] h.body)) (slice_get p.procedures f.0)
 
 -- they are those
 called_are : (p : Program) (but : Option ResId) (f g : ProcId) → Contains (called p but f) g ↔ Calls p but f g
 called_are p but f g =
-    listed_is (λ (h : Procedure). callees_in but h.body) (λ h k. CallsIn but k h.body)
+    listed_is (λ (h : Procedure). callees_in but (sites [] h.body)) (λ h k. CallsIn but k h.body)
     (λ h k. callees_in_are but k h.body) (slice_get p.procedures f.0) g
 
 -- a test of the procedure of that number decides whether it is one of those
@@ -86,21 +87,21 @@ module _ (p : Program) (t : Procedure → Bool) (P : Procedure → Type 0)
       same_procedure (λ g. decidable_by _ (has_is p t P is g)) (calls_decidable p but) f
 
 -- the list of its regions decides whether a procedure enters a resource
-enters_is : (r : ResId) (h : Procedure) → Decides (is_entered r (entered_in h.body)) (EntersIn r h.body)
+enters_is : (r : ResId) (h : Procedure) → Decides (is_entered r (entered_in (sites [] h.body))) (EntersIn r h.body)
 enters_is r h =
-    let are = entered_are r h.body in Decides-like _ are.0 are.1 (entered_is r (entered_in h.body))
+    let are = entered_are r h.body in Decides-like _ are.0 are.1 (entered_is r (entered_in (sites [] h.body)))
 
 -- whether a procedure takes a resource
 pub takes_decidable : (p : Program) (f : ProcId) (r : ResId) → IsDecidable (Takes p f r)
 takes_decidable p f r =
-    along_calls p (λ h. is_entered r (entered_in h.body)) (λ h. EntersIn r h.body) (enters_is r) None f
+    along_calls p (λ h. is_entered r (entered_in (sites [] h.body))) (λ h. EntersIn r h.body) (enters_is r) None f
 
 -- the variables of resources that a procedure mentions, and those of its pre and post
 abbrev mentioned : Procedure → List Var
-mentioned h = shared_in_level [] h.pre.level ++ (shared_in_level [] h.post.level ++ shared_in [] h.body)
+mentioned h = shared_in_levels h.pre.level h.post.level ++ shared_in (sites [] h.body)
 
 abbrev in_contract : Procedure → List Var
-in_contract h = shared_in_level [] h.pre.level ++ shared_in_level [] h.post.level
+in_contract h = shared_in_levels h.pre.level h.post.level
 
 -- they decide whether it mentions a resource's variable
 mentions_is : (r : ResId) (i : ℕ) (h : Procedure)

@@ -4,17 +4,14 @@
 use Rattle.std.specs.Prelude.{◌≡◌, ◌⊎◌, List, [], ◌∷◌, ◌++◌, Contains}
 use Rattle.sf_base.specs.declared.ids.ProcId.{ProcId}
 use Rattle.sf_core.specs.declared.command.Occurrence.{Occurrence}
-use Rattle.sf_core.specs.Program.Heads.{Site, sites, head_calls, head_forks, head_occurrences, head_regions, call_occurrences}
+use Rattle.sf_core.specs.Program.Heads.{Site, sites, head_forks, head_occurrences, head_regions, call_occurrences}
 use Rattle.sf_core.specs.Program.Places.{place_of}
 use Rattle.sf_core.specs.Program.Syntax.{Call, Command, Program}
 use Rattle.sf_calls.specs.declared.breach.Breach.{Breach}
 use Rattle.sf_calls.specs.declared.breach.Breach.TheVariants.{NotHeld, Reentered, SameReference, ReferenceIsFree, ParallelShares}
 use Rattle.sf_calls.specs.Around.{IsHeld, IsUnheld, Shares}
 use Rattle.sf_calls.specs.Conditions.{Takes, Free, Has}
-
--- the command makes a call of which that holds
-abbrev pub Makes : Command → (Call → Type 0) → Type 0
-Makes c P = (d : Call) × Contains (head_calls c) d × P d
+use Rattle.sf_calls.specs.Outside.{Makes}
 
 -- it occurs in the command itself, or in one of its calls
 abbrev pub OccursAt : Occurrence → Command → Type 0

@@ -10,7 +10,7 @@ use crate::outside::add_callees;
 use crate::shared::is_entered;
 use crate::summary::Summary;
 use sf_base::{ProcId, ResId};
-use sf_core::Program;
+use sf_core::{Program, sites};
 use std::alloc::{AllocError, Global};
 
 /// For each procedure those that call it outside the regions of the resource that is left out. An
@@ -24,8 +24,9 @@ pub fn callers_of(
 {
     let mut callers = no_callers(alloc, p.procedures.len())?;
     for (i, procedure) in p.procedures.iter().enumerate() {
+        let body = sites(alloc, &procedure.body)?;
         let mut callees = Vec::new(alloc);
-        add_callees(but, &procedure.body, &mut callees)?;
+        add_callees(but, &body, &mut callees)?;
         add_caller(ProcId(i as u32), &callees, &mut callers)?;
     }
     Ok(callers)

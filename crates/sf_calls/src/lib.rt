@@ -1,7 +1,7 @@
 //! What a call of a procedure may enter, hold and use: the least sets on which the conditions on
 //! variables rest.
 //!
-//! - `assigned`: the variables that a command may change.
+//! - `assigned`: the variables that commands may change.
 //! - `breach`: which condition on variables is broken, and where.
 //! - `callers`: for each procedure, who calls it.
 //! - `calls`: the sets of all procedures.
@@ -11,7 +11,7 @@
 //! - `occurs`: whether a variable occurs in the arguments of a call.
 //! - `outside`: the calls outside the regions of a resource.
 //! - `reaching`: the call `reach`, which finds the sets.
-//! - `regions`: the regions of commands, and whether calls are inside them.
+//! - `regions`: the regions of commands, and those with a call inside.
 //! - `set`: sets as lists in order.
 //! - `shared`: the variables of resources that occur outside the regions of their resources.
 //! - `summary`: what occurs in each procedure's text.
@@ -38,6 +38,3 @@ pub use breach::Breach;
 pub use calls::Calls;
 pub use reaching::reach;
 pub use set::{ResSet, Set, VarSet};
-
-#[cfg(test)]
-mod tests;

@@ -1,13 +1,15 @@
 //! The calls that occur in commands outside the regions of a resource.
 
-ghost use Rattle.std.specs.Prelude.{◌≡◌};
+ghost use Rattle.std.specs.Prelude.{◌≡◌, map};
 ghost use Rattle.sf_base.specs.Results.{Appends};
-ghost use Rattle.sf_core.specs.Program.View.{block_of, command_of};
+ghost use Rattle.sf_core.specs.Program.Sites.{site_of};
+ghost use Rattle.sf_core.specs.Program.View.{command_of};
 ghost use Rattle.sf_calls.specs.Outside.{owner};
-ghost use Rattle.sf_calls.specs.Internal.Tests.{is_other, callees_in, callees_of};
+ghost use Rattle.sf_calls.specs.Internal.Tests.{is_outside, callees_in, callees_of};
 
+use crate::shared::is_entered;
 use sf_base::{ProcId, ResId, Var};
-use sf_core::Command;
+use sf_core::{Command, Site};
 use std::alloc::AllocError;
 
 /// The resource whose variable it is.
@@ -20,58 +22,39 @@ pub fn owner(x: Var) -> Option<ResId>
     }
 }
 
-/// Whether a region of `q` is a region of another resource than the one that is left out.
-fn is_other(but: Option<ResId>, q: ResId) -> bool
-    ensures { result ≡ is_other but q }
+/// Whether regions of those resources are none of the one that is left out.
+fn is_outside(but: Option<ResId>, entered: &[ResId]) -> bool
+    ensures { result ≡ is_outside but entered.now }
 {
     match but {
         None => true,
-        Some(r) => q.0 != r.0,
+        Some(r) => !is_entered(r, entered),
     }
 }
 
-/// Appends the procedures that the commands call outside the regions of the resource that is left
-/// out, in text order. An `Err` means that memory ran out.
-#[cycle(callees)]
+/// Appends the procedures that are called at those sites outside the regions of the resource that is
+/// left out, in text order. An `Err` means that memory ran out.
 pub fn add_callees(
     but: Option<ResId>,
-    body: &[Command],
+    sites: &[Site],
     callees: &mut Vec<ProcId>,
 ) -> Result<(), AllocError>
     ensures { Appends result callees.old.items callees.new.items
-        (callees_in but (block_of body.now)) }
+        (callees_in but (map site_of sites.now)) }
 {
-    for c in body {
-        add_callees_of(but, c, callees)?;
+    for s in sites {
+        if is_outside(but, &s.entered) {
+            add_callees_of(s.command, callees)?;
+        }
     }
     Ok(())
 }
 
-/// Appends those that one command calls. An `Err` means that memory ran out.
-#[cycle(callees)]
-pub fn add_callees_of(
-    but: Option<ResId>,
-    c: &Command,
-    callees: &mut Vec<ProcId>,
-) -> Result<(), AllocError>
-    ensures { Appends result callees.old.items callees.new.items
-        (callees_of but (command_of c.now)) }
+/// Appends those that the command itself calls.
+fn add_callees_of(c: &Command, callees: &mut Vec<ProcId>) -> Result<(), AllocError>
+    ensures { Appends result callees.old.items callees.new.items (callees_of (command_of c.now)) }
 {
     match c {
-        Command::Assign(_, _, _) => Ok(()),
-        Command::LookUp(_, _, _, _) => Ok(()),
-        Command::Mutate(_, _, _, _) => Ok(()),
-        Command::New(_, _) => Ok(()),
-        Command::Dispose(_, _) => Ok(()),
-        Command::If(_, _, c, d) => {
-            add_callees(but, c, callees)?;
-            add_callees(but, d, callees)?;
-            Ok(())
-        }
-        Command::While(_, _, _, c) => {
-            add_callees(but, c, callees)?;
-            Ok(())
-        }
         Command::Call(_, call) => {
             callees.push(call.callee)?;
             Ok(())
@@ -81,11 +64,6 @@ pub fn add_callees_of(
             callees.push(right.callee)?;
             Ok(())
         }
-        Command::With(_, r, _, c) => {
-            if is_other(but, *r) {
-                add_callees(but, c, callees)?;
-            }
-            Ok(())
-        }
+        _ => Ok(()),
     }
 }

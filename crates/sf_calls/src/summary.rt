@@ -7,11 +7,11 @@ ghost use Rattle.sf_calls.specs.Internal.Summaries.{AreSummaries, IsSummaryOf};
 ghost use Rattle.sf_calls.specs.Sets.{IsVarSet};
 
 use crate::assigned::insert_all;
-use crate::regions::add_regions;
+use crate::regions::{add_regions, add_with_calls};
 use crate::set::{Set, VarSet};
-use crate::shared::{add_level, add_shared};
+use crate::shared::{add_kept, add_shared};
 use sf_base::{ResId, Var};
-use sf_core::{Proc, Program};
+use sf_core::{Proc, Program, add_level_occurrences, sites};
 use std::alloc::{AllocError, Global};
 
 /// What occurs in a procedure's text.
@@ -42,15 +42,19 @@ pub fn summaries_of(alloc: Global, p: &Program) -> Result<Vec<Summary>, AllocErr
 fn summary_of(alloc: Global, h: &Proc) -> Result<Summary, AllocError>
     ensures { IfOk result (IsSummaryOf (procedure_of h.now)) }
 {
+    let mut words = Vec::new(alloc);
+    add_level_occurrences(&h.pre.level, &mut words)?;
+    add_level_occurrences(&h.post.level, &mut words)?;
     let mut named = Vec::new(alloc);
-    add_level(&[], &h.pre.level, &mut named)?;
-    add_level(&[], &h.post.level, &mut named)?;
+    add_kept(&[], &words, &mut named)?;
     let in_contract = ordered(alloc, &named)?;
-    add_shared(alloc, &[], &h.body, &mut named)?;
+    let body = sites(alloc, &h.body)?;
+    add_shared(alloc, &body, &mut named)?;
     let mentioned = ordered(alloc, &named)?;
     let mut entered = Vec::new(alloc);
+    add_regions(&body, &mut entered)?;
     let mut with_calls = Vec::new(alloc);
-    add_regions(&h.body, &mut entered, &mut with_calls)?;
+    add_with_calls(&body, &mut with_calls)?;
     Ok(Summary {
         in_contract,
         mentioned,

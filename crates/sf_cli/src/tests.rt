@@ -3,6 +3,7 @@
 mod numbers;
 mod orders;
 mod proofs;
+mod sets;
 mod tables;
 
 use crate::top::smallfoot;

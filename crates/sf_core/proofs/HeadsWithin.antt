@@ -1,6 +1,6 @@
 -- What the heads of a well-formed body have is there: variables that the body may read, calls that fit,
 -- resources of the file.
--- Names: `PART-within` says that what occurs in PART may be read, `PART-there` that it is among its occurrences.
+-- Names: `PART-within` says that what occurs in PART may be read.
 use Rattle.std.proofs.Common.{◌≡◌, ◌<◌, List, [], ◌∷◌, ◌++◌, length, Contains, All, ℕ, refl, inl, inr, subst}
 use Rattle.std.specs.List.{flat_map}
 use Rattle.std.proofs.lemmas.List.Elements.{Contains-append_cases, Contains-append_left, Contains-append_right, All-head, All-tail}
@@ -17,7 +17,6 @@ use Rattle.sf_core.specs.declared.assertion.Test.TheVariants.{True, Equal, Diffe
 use Rattle.sf_core.specs.declared.command.Expr.{Expr}
 use Rattle.sf_core.specs.declared.command.Expr.TheVariants.{Var as Variable, Nil, Int}
 use Rattle.sf_core.specs.declared.command.Occurrence.{Occurrence}
-use Rattle.sf_core.specs.Assertions.Occurs.{OccursIn, OccursInAll, OccursInOne, OccursInTest, OccursInFields}
 use Rattle.sf_core.specs.Program.Formed.{IsInBody, IsSettable, ExprWithin, TestWithin, OperandWithin, FieldsWithin, LevelWithin, ConjunctsWithin, ConjunctWithin, CallWithin, CommandWithin, BlockWithin}
 use Rattle.sf_core.specs.Program.Heads.{expr_occurrences, operand_occurrences, test_occurrences, level_occurrences, conjuncts_occurrences, conjunct_occurrences, call_occurrences, head_occurrences, head_calls, head_forks, head_regions, Site, sites, inner_sites}
 use Rattle.sf_core.specs.Program.Syntax.{Conjunct, holds, points, segment, tree, choose, Level, level, Conjuncts, none, also, Call, Command, assign, look_up, mutate, new, dispose, if, while, call, fork, with, Block, done, then, Procedure, Program}
@@ -64,7 +63,7 @@ fields-within fields V made (f ∷ fs) w =
     (operand-within V made f.1 w.1) (fields-within fields V made fs w.3)
 
 mutual
-  level-within : (fields : List (List ℕ)) (V : Var → Type 0) (made : List Scope) (l : Level Expr)
+  pub level-within : (fields : List (List ℕ)) (V : Var → Type 0) (made : List Scope) (l : Level Expr)
       → LevelWithin fields V made l → Within V (level_occurrences l)
   level-within fields V made (level here cs) w = conjuncts-within fields V (here ∷ made) cs w
 
@@ -224,67 +223,3 @@ mutual
   inner-within p h es (dispose q e) w s k = absurd (contains-nil s k)
   inner-within p h es (call q c) w s k = absurd (contains-nil s k)
   inner-within p h es (fork q c d) w s k = absurd (contains-nil s k)
-
--- an occurrence in a level is among those of the level
-operand-there : (x : Occurrence) (o : Operand Expr) → Known (Variable x) ≡ o
-    → Contains (operand_occurrences o) x
-operand-there x o e =
-    subst (λ (z : Operand Expr). Contains (operand_occurrences z) x) e ((contains-cons x [] x).1 (inl refl))
-
-condition-there : (x : Occurrence) (t : Test (Operand Expr)) → OccursInTest t (Known (Variable x))
-    → Contains (test_occurrences operand_occurrences t) x
-condition-there x True o = absurd o
-condition-there x (Equal a b) (inl o) =
-    Contains-append_left (operand_occurrences a) (operand_occurrences b) x (operand-there x a o)
-condition-there x (Equal a b) (inr o) =
-    Contains-append_right (operand_occurrences a) (operand_occurrences b) x (operand-there x b o)
-condition-there x (Differ a b) (inl o) =
-    Contains-append_left (operand_occurrences a) (operand_occurrences b) x (operand-there x a o)
-condition-there x (Differ a b) (inr o) =
-    Contains-append_right (operand_occurrences a) (operand_occurrences b) x (operand-there x b o)
-
-fields-there : (x : Occurrence) (fs : List (FieldId × Operand Expr)) → OccursInFields fs (Known (Variable x))
-    → Contains (flat_map (λ f. operand_occurrences f.1) fs) x
-fields-there x [] o = absurd o
-fields-there x (f ∷ fs) (inl o) =
-    Contains-append_left (operand_occurrences f.1) (flat_map (λ f. operand_occurrences f.1) fs) x
-    (operand-there x f.1 o)
-fields-there x (f ∷ fs) (inr o) =
-    Contains-append_right (operand_occurrences f.1) (flat_map (λ f. operand_occurrences f.1) fs) x
-    (fields-there x fs o)
-
-mutual
-  pub level-there : (x : Occurrence) (l : Level Expr) → OccursIn l (Known (Variable x))
-      → Contains (level_occurrences l) x
-  level-there x (level made cs) o = conjuncts-there x cs o.0
-
-  conjuncts-there : (x : Occurrence) (cs : Conjuncts Expr) → OccursInAll cs (Known (Variable x))
-      → Contains (conjuncts_occurrences cs) x
-  conjuncts-there x none o = absurd o
-  conjuncts-there x (also c cs) (inl o) =
-      Contains-append_left (conjunct_occurrences c) (conjuncts_occurrences cs) x (conjunct-there x c o)
-  conjuncts-there x (also c cs) (inr o) =
-      Contains-append_right (conjunct_occurrences c) (conjuncts_occurrences cs) x (conjuncts-there x cs o)
-
-  conjunct-there : (x : Occurrence) (c : Conjunct Expr) → OccursInOne c (Known (Variable x))
-      → Contains (conjunct_occurrences c) x
-  conjunct-there x (holds q t) o = condition-there x t o
-  conjunct-there x (points q root fs) (inl o) =
-      Contains-append_left (operand_occurrences root) (flat_map (λ f. operand_occurrences f.1) fs) x
-      (operand-there x root o)
-  conjunct-there x (points q root fs) (inr o) =
-      Contains-append_right (operand_occurrences root) (flat_map (λ f. operand_occurrences f.1) fs) x
-      (fields-there x fs o)
-  conjunct-there x (segment q next from to) (inl o) =
-      Contains-append_left (operand_occurrences from) (operand_occurrences to) x (operand-there x from o)
-  conjunct-there x (segment q next from to) (inr o) =
-      Contains-append_right (operand_occurrences from) (operand_occurrences to) x (operand-there x to o)
-  conjunct-there x (tree q left right root) o = operand-there x root o
-  conjunct-there x (choose q t this that) (inl o) =
-      Contains-append_left (test_occurrences operand_occurrences t) _ x (condition-there x t o)
-  conjunct-there x (choose q t this that) (inr (inl o)) =
-      Contains-append_right (test_occurrences operand_occurrences t) _ x
-      (Contains-append_left (level_occurrences this) (level_occurrences that) x (level-there x this o))
-  conjunct-there x (choose q t this that) (inr (inr o)) =
-      Contains-append_right (test_occurrences operand_occurrences t) _ x
-      (Contains-append_right (level_occurrences this) (level_occurrences that) x (level-there x that o))

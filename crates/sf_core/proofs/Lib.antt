@@ -1,3 +1,4 @@
 pub mod HeadsWithin
+pub mod Occurrences
 pub mod Assertions
 pub mod Machine

@@ -5,6 +5,7 @@ pub mod View
 pub mod ProgramView
 pub mod Places
 pub mod Heads
+pub mod Sites
 pub mod Named
 pub mod Links
 pub mod Formed

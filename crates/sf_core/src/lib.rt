@@ -8,6 +8,7 @@
 //! - `heads`: what occurs in a command itself.
 //! - `program`: procedures, resources, and the program with all that its type keeps.
 //! - `ordered`: assertions whose conjuncts are in order.
+//! - `walk`: the walk over all commands.
 //! - `laws`: laws of assertions and of the machine.
 //! - `examples`: examples of assertions and of runs.
 #![tactic(auto)]
@@ -20,6 +21,7 @@ mod heads;
 pub mod laws;
 mod ordered;
 mod program;
+mod walk;
 
 pub use assertion::{Assertion, Conjunct, Level, Operand, Scope, Test};
 pub use command::{Call, Command, Expr, Occurrence};
@@ -27,3 +29,4 @@ pub use fields::Links;
 pub use heads::{add_call_occurrences, add_head_occurrences, add_level_occurrences};
 pub use ordered::Ordered;
 pub use program::{Proc, Program, Resource};
+pub use walk::{Site, sites};

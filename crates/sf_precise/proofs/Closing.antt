@@ -1,12 +1,13 @@
 -- The laws of the crate, under the names of their functions in src/laws.rt.
 use Rattle.sf_precise.proofs.OrdersExist.{determined-order, determined-or_place, notes-or_place}
-use Rattle.sf_precise.specs.Laws.{DeterminedHasOrder, NeverTakenIsUndetermined, OrderIsUnique, OrderKeepsForm, OrderKeepsMeaning, OrderedIsDetermined, OrdersFromTruncation, InOrderIsDetermined, TakenFixExistentials, UndeterminedHasPlace, UndeterminedAnnotationsHavePlace}
+use Rattle.sf_precise.specs.Laws.{DeterminedHasOrder, NeverTakenIsUndetermined, OrderIsUnique, OrderKeepsForm, OrderKeepsMeaning, OrderedIsDetermined, OrderingExists, OrdersFromTruncation, InOrderIsDetermined, TakenFixExistentials, UndeterminedHasPlace, UndeterminedAnnotationsHavePlace}
 use Rattle.sf_precise.proofs.Branches.{never-undetermined, ordered-determined, ordered-stands}
 use Rattle.std.specs.Prelude.{false}
 use Rattle.sf_precise.proofs.OrderForms.{assertion-within}
 use Rattle.sf_precise.proofs.OrderMeaning.{level-one, level-sat, sat-level, stands-determined}
 use Rattle.sf_core.specs.Assertions.Sat.{value}
 use Rattle.sf_core.specs.Program.Formed.{IsInBody, IsOfResource, IsParameter}
+use Rattle.sf_precise.proofs.Picked.{ordering-exists}
 use Rattle.sf_precise.proofs.OrdersHad.{orders-had}
 use Rattle.sf_precise.proofs.TakenFixes.{takes-agree}
 
@@ -54,3 +55,6 @@ undetermined_has_place = λ a. determined-or_place a
 
 pub undetermined_annotations_have_place : UndeterminedAnnotationsHavePlace
 undetermined_annotations_have_place = notes-or_place
+
+pub ordering_exists : OrderingExists
+ordering_exists = ordering-exists

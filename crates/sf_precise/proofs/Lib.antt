@@ -14,6 +14,8 @@ pub mod TakenDecided
 pub mod OrdersHad
 pub mod OrdersExist
 pub mod TakenFixes
+pub mod Picked
 pub mod Closing
 pub mod Exactly
 pub mod Annotated
+pub mod Starts

@@ -5,29 +5,14 @@ use Rattle.std.specs.Prelude.{◌≡◌, true, cond, List, [], ◌∷◌, ◌++�
 use Rattle.std.specs.List.{AllZip}
 use Rattle.sf_base.specs.declared.place.Place.{Place}
 use Rattle.sf_base.specs.First.{is_before}
-use Rattle.sf_core.specs.Program.Syntax.{Assertion, Command, assign, look_up, mutate, new, dispose, if, while, call, fork, with, Block, done, then, Procedure, Program}
+use Rattle.sf_core.specs.Program.Heads.{head_invariants, sites}
+use Rattle.sf_core.specs.Program.Syntax.{Assertion, Block, Procedure, Program}
 use Rattle.sf_precise.specs.Order.{IsOrderOf}
 use Rattle.sf_precise.specs.Taken.{NeverTakenAt}
 
 -- the invariants of loops, in text order
-abbrev mutual
-  -- those in commands, one command after the other
-  pub loops_in : Block → List Assertion
-  loops_in done = []
-  loops_in (then c b) = loops_of c ++ loops_in b
-
-  -- those in one command: of a loop its own, and those in its body
-  pub loops_of : Command → List Assertion
-  loops_of (assign p x e) = []
-  loops_of (look_up p x e field) = []
-  loops_of (mutate p e field d) = []
-  loops_of (new p x) = []
-  loops_of (dispose p e) = []
-  loops_of (if p t c d) = loops_in c ++ loops_in d
-  loops_of (while p t a c) = a ∷ loops_in c
-  loops_of (call p c) = []
-  loops_of (fork p c d) = []
-  loops_of (with p r t c) = loops_in c
+abbrev pub loops_in : Block → List Assertion
+loops_in b = flat_map (λ s. head_invariants s.command) (sites [] b)
 
 -- a procedure's annotations in text order: its pre, the invariants of its loops, its post
 abbrev pub notes_of : Procedure → List Assertion

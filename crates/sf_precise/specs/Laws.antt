@@ -1,5 +1,6 @@
 -- Laws of orders: an assertion has one order at most, has one where it is determined, and in order means the
--- same and is as well-formed; where it is not, a conjunct is never taken; what was taken fixes existentials; and
+-- same and is as well-formed; a function finds it; where there is none, a conjunct is never taken; what was taken
+-- fixes existentials; and
 -- what a type keeps truncated follows from its truncation.
 -- This project's own notions; that an order keeps the meaning is commutativity and associativity of the
 -- separating conjunction, as in Reynolds, "Separation Logic" (2002).
@@ -83,3 +84,13 @@ pub record OrderKeepsForm : Type 0 where
 abbrev pub OrdersFromTruncation : Type 0
 OrdersFromTruncation =
     (notes orders : List Assertion) → ∥ AreOrdersOf notes orders ∥₁ → AreOrdersOf notes orders
+
+-- the function puts each assertion that has an order in that order
+abbrev pub IsOrdering : (Assertion → Assertion) → Type 0
+IsOrdering in_order = (a o : Assertion) → IsOrderOf a o → in_order a ≡ o
+
+-- some function does, and what it makes of a determined assertion is its order
+unfoldable pub OrderingExists : Type 0
+OrderingExists =
+    (in_order : Assertion → Assertion) × IsOrdering in_order
+    × ((a : Assertion) → Determined a.level → IsOrderOf a (in_order a))

@@ -1,24 +1,40 @@
 //! All annotations of a program.
 
-ghost use Rattle.std.specs.Prelude.{◌≡◌, flat_map, map, IfOk};
+ghost use Rattle.std.specs.Prelude.{◌≡◌, flat_map, length, map, IfOk};
 ghost use Rattle.sf_base.specs.Results.{Appends};
-ghost use Rattle.sf_core.specs.Program.View.{assertion_of, block_of, command_of, procedure_of, resource_of};
+ghost use Rattle.sf_core.specs.Program.View.{assertion_of, command_of, procedure_of, resource_of};
+ghost use Rattle.sf_core.specs.Program.Sites.{site_of};
+ghost use Rattle.sf_core.specs.Program.Heads.{head_invariants};
 ghost use Rattle.sf_core.specs.Program.ProgramView.{program_of};
-ghost use Rattle.sf_precise.specs.Annotations.{loops_in, loops_of, annotations_in, notes_of};
+ghost use Rattle.sf_precise.specs.Annotations.{annotations_in, notes_of};
+ghost use Rattle.sf_precise.specs.Internal.Starts.{ends_from, starts_from};
 
-use sf_core::{Assertion, Command, Proc, Program, Resource};
+use sf_core::{Assertion, Command, Proc, Program, Resource, Site, sites};
 use std::alloc::{AllocError, Global};
 
-/// The annotations: the resources' invariants, and then, for each procedure in file order, its pre,
-/// the invariants of its loops in text order, and its post.
-pub fn annotations_in<'a>(alloc: Global, p: &'a Program) -> Result<Vec<&'a Assertion>, AllocError>
-    ensures { IfOk result (λ notes. map (λ a. assertion_of a.now) notes.items
+/// The annotations of a program: the resources' invariants, and then, for each procedure in file
+/// order, its pre, the invariants of its loops in text order, and its post.
+#[derive(Drop)]
+pub struct Annotations<'a> {
+    /// The annotations.
+    pub assertions: Vec<&'a Assertion>,
+    /// Where those of each procedure start, and after the last ones where they end.
+    pub starts: Vec<usize>,
+}
+
+/// The annotations. An `Err` means that memory ran out.
+pub fn annotations_in<'a>(alloc: Global, p: &'a Program) -> Result<Annotations<'a>, AllocError>
+    ensures assertions { IfOk result (λ notes. map (λ a. assertion_of a.now) notes.assertions.items
         ≡ annotations_in (program_of p.now)) }
+    ensures starts { IfOk result (λ notes. notes.starts.items
+        ≡ starts_from (length p.now.resources.items) (map procedure_of p.now.procedures.items)) }
 {
-    let mut notes = Vec::new(alloc);
-    add_invariants(&p.resources, &mut notes)?;
-    add_annotations(&p.procedures, &mut notes)?;
-    Ok(notes)
+    let mut assertions = Vec::new(alloc);
+    add_invariants(&p.resources, &mut assertions)?;
+    let mut starts = Vec::new(alloc);
+    starts.push(assertions.len())?;
+    add_annotations(alloc, &p.procedures, &mut assertions, &mut starts)?;
+    Ok(Annotations { assertions, starts })
 }
 
 /// Appends the invariants of the resources.
@@ -36,23 +52,29 @@ fn add_invariants<'a>(
     Ok(())
 }
 
-/// Appends the annotations of the procedures.
+/// Appends the annotations of the procedures, and where they end.
 fn add_annotations<'a>(
+    alloc: Global,
     procedures: &'a [Proc],
     notes: &mut Vec<&'a Assertion>,
+    ends: &mut Vec<usize>,
 ) -> Result<(), AllocError>
-    ensures { Appends result (map (λ a. assertion_of a.now) notes.old.items)
+    ensures notes { Appends result (map (λ a. assertion_of a.now) notes.old.items)
         (map (λ a. assertion_of a.now) notes.new.items)
         (flat_map notes_of (map procedure_of procedures.now)) }
+    ensures ends { Appends result ends.old.items ends.new.items
+        (ends_from (length notes.old.items) (map procedure_of procedures.now)) }
 {
     for procedure in procedures {
-        add_annotations_of(procedure, notes)?;
+        add_annotations_of(alloc, procedure, notes)?;
+        ends.push(notes.len())?;
     }
     Ok(())
 }
 
 /// Appends those of one procedure.
 fn add_annotations_of<'a>(
+    alloc: Global,
     procedure: &'a Proc,
     notes: &mut Vec<&'a Assertion>,
 ) -> Result<(), AllocError>
@@ -60,50 +82,31 @@ fn add_annotations_of<'a>(
         (map (λ a. assertion_of a.now) notes.new.items) (notes_of (procedure_of procedure.now)) }
 {
     notes.push(&procedure.pre)?;
-    add_loops(&procedure.body, notes)?;
+    let body = sites(alloc, &procedure.body)?;
+    add_loops(&body, notes)?;
     notes.push(&procedure.post)?;
     Ok(())
 }
 
-/// Appends the invariants of the loops in the commands, in text order.
-#[cycle(loops)]
-fn add_loops<'a>(body: &'a [Command], notes: &mut Vec<&'a Assertion>) -> Result<(), AllocError>
+/// Appends the invariants of the loops at those sites.
+fn add_loops<'a>(sites: &[Site<'a>], notes: &mut Vec<&'a Assertion>) -> Result<(), AllocError>
     ensures { Appends result (map (λ a. assertion_of a.now) notes.old.items)
-        (map (λ a. assertion_of a.now) notes.new.items) (loops_in (block_of body.now)) }
+        (map (λ a. assertion_of a.now) notes.new.items)
+        (flat_map (λ s. head_invariants s.command) (map site_of sites.now)) }
 {
-    for c in body {
-        add_loops_of(c, notes)?;
+    for s in sites {
+        add_invariant_of(s.command, notes)?;
     }
     Ok(())
 }
 
-/// Appends those of one command.
-#[cycle(loops)]
-fn add_loops_of<'a>(c: &'a Command, notes: &mut Vec<&'a Assertion>) -> Result<(), AllocError>
+/// Appends the command's invariant, if it is a loop.
+fn add_invariant_of<'a>(c: &'a Command, notes: &mut Vec<&'a Assertion>) -> Result<(), AllocError>
     ensures { Appends result (map (λ a. assertion_of a.now) notes.old.items)
-        (map (λ a. assertion_of a.now) notes.new.items) (loops_of (command_of c.now)) }
+        (map (λ a. assertion_of a.now) notes.new.items) (head_invariants (command_of c.now)) }
 {
-    match c {
-        Command::Assign(_, _, _) => Ok(()),
-        Command::LookUp(_, _, _, _) => Ok(()),
-        Command::Mutate(_, _, _, _) => Ok(()),
-        Command::New(_, _) => Ok(()),
-        Command::Dispose(_, _) => Ok(()),
-        Command::If(_, _, c, d) => {
-            add_loops(c, notes)?;
-            add_loops(d, notes)?;
-            Ok(())
-        }
-        Command::While(_, _, invariant, c) => {
-            notes.push(invariant)?;
-            add_loops(c, notes)?;
-            Ok(())
-        }
-        Command::Call(_, _) => Ok(()),
-        Command::Fork(_, _, _) => Ok(()),
-        Command::With(_, _, _, c) => {
-            add_loops(c, notes)?;
-            Ok(())
-        }
+    if let Command::While(_, _, invariant, _) = c {
+        notes.push(invariant)?;
     }
+    Ok(())
 }

@@ -1,11 +1,15 @@
-ghost use Rattle.std.specs.Prelude.{IfOk, map};
-ghost use Rattle.sf_core.specs.Program.View.{assertion_of, command_of};
+ghost use Rattle.std.specs.Prelude.{◌≡◌, ◌<◌, length, map, slice_get, IfOk, IfSome};
+ghost use Rattle.sf_core.specs.Program.View.{assertion_of, block_of, procedure_of};
 ghost use Rattle.sf_core.specs.Program.ProgramView.{program_of};
-ghost use Rattle.sf_calls.specs.Assigned.{Assigned, IsInOrderIn};
+ghost use Rattle.sf_calls.specs.Assigned.{AreInOrderIn, Assigned};
 ghost use Rattle.sf_calls.specs.FirstBreach.{Conditions};
 ghost use Rattle.sf_calls.specs.Sets.{AreSetsOf, IsVarSet};
 ghost use Rattle.sf_precise.specs.Annotations.{AreOrdersOf, annotations_in};
+ghost use Rattle.sf_precise.specs.Internal.Starts.{starts_from};
+ghost use Rattle.sf_precise.specs.Order.{IsOrderOf};
 
+use crate::laws::orders_from_truncation;
+use sf_base::{ProcId, ResId};
 use sf_calls::laws::sets_from_truncation;
 use sf_calls::{Calls, VarSet};
 use sf_core::{Command, Ordered, Program};
@@ -25,21 +29,55 @@ pub struct Arranged {
     /// The annotations in order: the resources' invariants, and then, for each procedure in file
     /// order, its pre, the invariants of its loops in text order, and its post.
     pub orders: Vec<Ordered>,
+    /// Where the orders of each procedure start, and after the last ones where they end.
+    pub(crate) starts: Vec<usize>,
     ghost sets: { ∥ AreSetsOf (program_of program) calls ∥₁ },
     ghost conditions: { ∥ Conditions (program_of program) ∥₁ },
     ghost ordered: { ∥ AreOrdersOf (annotations_in (program_of program))
         (map (λ o. assertion_of o.assertion) orders.items) ∥₁ },
+    ghost started: { starts.items
+        ≡ starts_from (length program.resources.items) (map procedure_of program.procedures.items) },
 }
 
 impl Arranged {
-    /// The variables that the command may change. The command is one of the program. An `Err` is
-    /// out of memory, and comes for nothing else.
-    pub fn assigned(&self, alloc: Global, c: &Command) -> Result<VarSet, AllocError>
-        requires { IsInOrderIn (program_of self.now.program) (command_of c.now) }
-        ensures { IfOk result (λ xs.
-            IsVarSet (λ x. Assigned (program_of self.now.program) x (command_of c.now)) xs) }
+    /// The variables that commands may change, each once and in order of number. The commands are a
+    /// block of the program. An `Err` is out of memory, and comes for nothing else.
+    pub fn assigned(&self, alloc: Global, body: &[Command]) -> Result<VarSet, AllocError>
+        requires { AreInOrderIn (program_of self.now.program) (block_of body.now) }
+        ensures { IfOk result
+            (IsVarSet (Assigned (program_of self.now.program) (block_of body.now))) }
     {
         sets_from_truncation();
-        self.calls.assigned(alloc, &self.program, c)
+        self.calls.assigned(alloc, &self.program, body)
+    }
+
+    /// The resource's invariant, in order.
+    pub fn invariant(&self, r: ResId) -> &Ordered
+        requires { r.0 < length self.now.program.resources.items }
+        ensures { IfSome (slice_get (program_of self.now.program).resources r.0)
+            (λ h. IsOrderOf h.invariant (assertion_of result.now.assertion)) }
+    {
+        orders_from_truncation();
+        &self.orders[r.0 as usize]
+    }
+
+    /// The procedure's pre, in order.
+    pub fn pre(&self, f: ProcId) -> &Ordered
+        requires { f.0 < length self.now.program.procedures.items }
+        ensures { IfSome (slice_get (program_of self.now.program).procedures f.0)
+            (λ h. IsOrderOf h.pre (assertion_of result.now.assertion)) }
+    {
+        orders_from_truncation();
+        &self.orders[self.starts[f.0 as usize]]
+    }
+
+    /// The procedure's post, in order.
+    pub fn post(&self, f: ProcId) -> &Ordered
+        requires { f.0 < length self.now.program.procedures.items }
+        ensures { IfSome (slice_get (program_of self.now.program).procedures f.0)
+            (λ h. IsOrderOf h.post (assertion_of result.now.assertion)) }
+    {
+        orders_from_truncation();
+        &self.orders[self.starts[f.0 as usize + 1] - 1]
     }
 }

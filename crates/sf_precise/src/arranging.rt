@@ -1,15 +1,16 @@
 //! A program with all its annotations in order.
 
-ghost use Rattle.std.specs.Prelude.{◌≡◌, ◌⊎◌, List, Some, map, IfErr, IfOk, MatchResult};
+ghost use Rattle.std.specs.Prelude.{◌≡◌, ◌⊎◌, List, Some, length, map, IfErr, IfOk, MatchResult};
 ghost use Rattle.sf_base.specs.declared.place.Place.{Place};
 ghost use Rattle.sf_core.specs.Program.Syntax as s;
-ghost use Rattle.sf_core.specs.Program.View.{assertion_of};
+ghost use Rattle.sf_core.specs.Program.View.{assertion_of, procedure_of};
 ghost use Rattle.sf_core.specs.Program.ProgramView.{program_of};
 ghost use Rattle.sf_calls.specs.FirstBreach.{Conditions};
 ghost use Rattle.sf_calls.specs.Sets.{AreSetsOf};
 ghost use Rattle.sf_precise.specs.declared.fault.OrderFault.TheVariants.{OutOfMemory, Undetermined};
 ghost use Rattle.sf_precise.specs.Annotations.{AreOrdersOf, IsFirstPlace, NeverTakenIn, earlier_of, annotations_in};
 ghost use Rattle.sf_precise.specs.Taken.{IfUndetermined};
+ghost use Rattle.sf_precise.specs.Internal.Starts.{starts_from};
 
 use crate::annotations::annotations_in;
 use crate::arranged::Arranged;
@@ -43,25 +44,36 @@ pub fn arrange(alloc: Global, p: Program, c: Calls) -> Result<Arranged, OrderFau
         → IsFirstPlace (NeverTakenIn (annotations_in (program_of p))) (Some q)
         → MatchResult result (λ _. ⊥) (λ e. (e ≡ Undetermined q) ⊎ (e ≡ OutOfMemory)) }
 {
-    let orders = order_annotations(alloc, &p)?;
+    let found = order_annotations(alloc, &p)?;
     Ok(Arranged {
         program: p,
         calls: c,
-        orders,
+        orders: found.orders,
+        starts: found.starts,
     })
 }
 
+/// Annotations in order, and where those of each procedure start.
+#[derive(Drop)]
+struct Found {
+    orders: Vec<Ordered>,
+    starts: Vec<usize>,
+}
+
 /// The program's annotations in order, or the first place at which a conjunct is never taken.
-fn order_annotations(alloc: Global, p: &Program) -> Result<Vec<Ordered>, OrderFault>
-    ensures orders { IfOk result (λ orders.
+fn order_annotations(alloc: Global, p: &Program) -> Result<Found, OrderFault>
+    ensures orders { IfOk result (λ found.
         AreOrdersOf (annotations_in (program_of p.now))
-        (map (λ o. assertion_of o.assertion) orders.items)) }
+        (map (λ o. assertion_of o.assertion) found.orders.items)) }
+    ensures starts { IfOk result (λ found. found.starts.items
+        ≡ starts_from (length p.now.resources.items) (map procedure_of p.now.procedures.items)) }
     ensures undetermined { IfErr result
         (λ e. IfUndetermined e
         (λ q. IsFirstPlace (NeverTakenIn (annotations_in (program_of p.now))) (Some q))) }
     ensures only_arranged { (orders : List s.Assertion)
         → AreOrdersOf (annotations_in (program_of p.now)) orders
-        → MatchResult result (λ found. map (λ o. assertion_of o.assertion) found.items ≡ orders)
+        → MatchResult result
+        (λ found. map (λ o. assertion_of o.assertion) found.orders.items ≡ orders)
         (λ e. e ≡ OutOfMemory) }
     ensures only_undetermined { (q : Place)
         → IsFirstPlace (NeverTakenIn (annotations_in (program_of p.now))) (Some q)
@@ -71,16 +83,22 @@ fn order_annotations(alloc: Global, p: &Program) -> Result<Vec<Ordered>, OrderFa
 }
 
 /// The orders of the program's annotations, or the first place at which a conjunct is never taken.
-fn find_orders(alloc: Global, p: &Program) -> Result<Vec<Ordered>, OrderFault>
-    ensures orders { IfOk result (λ orders.
+fn find_orders(alloc: Global, p: &Program) -> Result<Found, OrderFault>
+    ensures orders { IfOk result (λ found.
         AreOrdersOf (annotations_in (program_of p.now))
-        (map (λ o. assertion_of o.assertion) orders.items)) }
+        (map (λ o. assertion_of o.assertion) found.orders.items)) }
+    ensures starts { IfOk result (λ found. found.starts.items
+        ≡ starts_from (length p.now.resources.items) (map procedure_of p.now.procedures.items)) }
     ensures undetermined { IfErr result
         (λ e. IfUndetermined e
         (λ q. IsFirstPlace (NeverTakenIn (annotations_in (program_of p.now))) (Some q))) }
 {
     let notes = annotations_in(alloc, p)?;
-    order_all(alloc, &notes)
+    let orders = order_all(alloc, &notes.assertions)?;
+    Ok(Found {
+        orders,
+        starts: notes.starts,
+    })
 }
 
 /// The annotations in order, or the first place at which a conjunct of one is never taken.

@@ -1,6 +1,6 @@
 //! Laws of orders. Each function does nothing; its contract is the law.
 
-ghost use Rattle.sf_precise.specs.Laws.{DeterminedHasOrder, UndeterminedHasPlace, UndeterminedAnnotationsHavePlace, TakenFixExistentials, NeverTakenIsUndetermined, OrderIsUnique, OrderKeepsForm, OrderKeepsMeaning, OrderedIsDetermined, OrdersFromTruncation, InOrderIsDetermined};
+ghost use Rattle.sf_precise.specs.Laws.{DeterminedHasOrder, UndeterminedHasPlace, UndeterminedAnnotationsHavePlace, TakenFixExistentials, NeverTakenIsUndetermined, OrderIsUnique, OrderKeepsForm, OrderKeepsMeaning, OrderedIsDetermined, OrdersFromTruncation, InOrderIsDetermined, OrderingExists};
 
 /// An assertion has one order at most.
 #[tactic(auto, using(crate::proofs::Closing::order_is_unique))]
@@ -67,4 +67,10 @@ pub fn order_keeps_form()
 #[tactic(auto, using(crate::proofs::Closing::orders_from_truncation))]
 pub fn orders_from_truncation()
     ensures { OrdersFromTruncation }
+{}
+
+/// One function puts each determined assertion in its order.
+#[tactic(auto, using(crate::proofs::Closing::ordering_exists))]
+pub fn ordering_exists()
+    ensures { OrderingExists }
 {}

@@ -1,15 +1,9 @@
 //! Orders of small assertions, found by hand, and of a long one. Each conjunct is named by the column
 //! of its place.
 
-ghost use Rattle.std.specs.Prelude.{◌≡◌, []};
-ghost use Rattle.sf_base.specs.declared.ids.Var.TheVariants.{Own};
-
-use crate::{OrderFault, arrange, order};
-use sf_base::{FieldId, Place, Var};
-use sf_calls::reach;
-use sf_core::{
-    Assertion, Command, Conjunct, Expr, Level, Links, Occurrence, Operand, Program, Scope, Test,
-};
+use crate::{OrderFault, order};
+use sf_base::{FieldId, Place};
+use sf_core::{Assertion, Conjunct, Expr, Level, Operand, Scope, Test};
 use std::alloc::{AllocError, Global};
 use std::test::Fail;
 
@@ -191,43 +185,5 @@ fn a_long_chain_in_reverse_is_ordered(rt: HostRuntime) -> Result<(), Fail> {
     assert_eq!(rt; found.len(), 2001);
     assert_eq!(rt; found.first().copied(), Some(2000));
     assert_eq!(rt; found.last().copied(), Some(0));
-    Ok(())
-}
-
-/// A program with nothing in it.
-fn empty(alloc: Global) -> Program
-    ensures { result.procedures.items ≡ [] }
-{
-    let fields = Vec::new(alloc);
-    let links = Links::among(&fields);
-    Program {
-        fields,
-        resources: Vec::new(alloc),
-        procedures: Vec::new(alloc),
-        links,
-    }
-}
-
-fn own(n: u32) -> Occurrence
-    ensures { result.var ≡ Own n }
-{
-    Occurrence {
-        var: Var::Own(n),
-        place: at(1),
-    }
-}
-
-#[test]
-fn new_changes_its_variable(rt: HostRuntime) -> Result<(), Fail> {
-    let p = empty(rt.alloc());
-    let calls = reach(rt.alloc(), &p)?;
-    let c = Command::New(at(1), own(0));
-    match arrange(rt.alloc(), p, calls) {
-        Ok(arranged) => {
-            let found = arranged.assigned(rt.alloc(), &c)?;
-            assert_eq!(rt; found.as_slice(), [Var::Own(0)].as_slice());
-        }
-        Err(_) => assert!(rt; false),
-    }
     Ok(())
 }

@@ -12,7 +12,7 @@ use Rattle.sf_base.specs.declared.ids.Var.TheVariants.{Own as OwnVar, Shared}
 use Rattle.sf_base.specs.declared.value.Value.{Value}
 use Rattle.sf_base.specs.declared.value.Value.TheVariants.{Nil as nil, Int as int, Loc as loc}
 use Rattle.sf_base.specs.HeapStore.{Cell, IsEmpty, IsOne, Slot, own, put_field, shared}
-use Rattle.sf_base.proofs.Elements.{contains-cons, contains-nil, contains-single}
+use Rattle.sf_base.proofs.Elements.{contains-cons, contains-nil, contains-single, contains-single_of}
 use Rattle.sf_base.proofs.HeapSplits.{one-put_cell, star-drop_right, star-empty_right}
 use Rattle.sf_base.proofs.MapSplits.{empty-holds, empty-is, map-same, splits-has_right}
 use Rattle.sf_calls.specs.declared.breach.Breach.{Breach}
@@ -22,6 +22,7 @@ use Rattle.sf_calls.specs.Breaks.{Breaks, BreaksAt, IsAgain}
 use Rattle.sf_calls.specs.Conditions.{Free, FreeIn, Mentions}
 use Rattle.sf_calls.specs.FirstBreach.{Conditions}
 use Rattle.sf_calls.specs.Outside.{OccursOutside}
+use Rattle.sf_calls.proofs.Sites.{at_one}
 use Rattle.sf_calls.specs.Reaches.{directly, through}
 use Rattle.sf_calls.proofs.Closing.{first_breach_is_broken}
 use Rattle.sf_core.specs.Assertions.Occurs.{VarOccursIn}
@@ -140,21 +141,19 @@ emp-none : (x : Var) → VarOccursIn emp.level x → ⊥
 emp-none x o = o.2.0
 
 fills-outside : (r : ResId) (i : ℕ) → OccursOutside (Shared r i) fills.body → ⊥
-fills-outside r i (inl (other, inl o)) = o
-fills-outside r i (inl (other, inr (inl (inl e)))) = other (same r i e)
+fills-outside r i o = elim (at_one _ (sites [] fills.body) o) [
+  | inl h ↦ h.1
+  | inr k ↦ elim k [
+    | inl h ↦ elim h.1 [ inl e ↦ h.0 (contains-single_of lock r (same e)) | inr e ↦ e ]
+    | inr e ↦ e
+  ]
+]
   where
-    same : (r : ResId) (i : ℕ) → Shared lock 0 ≡ Shared r i → lock ≡ r
-    same r i e = cc
-fills-outside r i (inl (other, inr (inl (inr e)))) = e
-fills-outside r i (inl (other, inr (inr e))) = e
-fills-outside r i (inr e) = e
+    same : Shared lock 0 ≡ Shared r i → lock ≡ r
+    same e = cc
 
 twice-outside : (r : ResId) (i : ℕ) → OccursOutside (Shared r i) twice.body → ⊥
-twice-outside r i (inl (inl (inl o))) = o
-twice-outside r i (inl (inl (inr o))) = o
-twice-outside r i (inl (inr (inl o))) = o
-twice-outside r i (inl (inr (inr o))) = o
-twice-outside r i (inr o) = o
+twice-outside r i o = elim (at_one _ (sites [] twice.body) o) [ inl h ↦ h.1 | inr e ↦ e ]
 
 -- what a procedure mentions, by its contract and its body
 abbrev Mentioned : Procedure → Var → Type 0

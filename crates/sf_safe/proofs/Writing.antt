@@ -10,15 +10,18 @@ use Rattle.sf_base.specs.declared.ids.Var.TheVariants.{Own as OwnVar, Shared}
 use Rattle.sf_base.specs.declared.value.Value.{Value}
 use Rattle.sf_base.specs.declared.value.Value.TheVariants.{Nil as nil}
 use Rattle.sf_base.specs.HeapStore.{Cell, Slot, own, same_slot}
+use Rattle.sf_base.proofs.Elements.{contains-nil}
 use Rattle.sf_base.proofs.MapSplits.{empty-holds}
 use Rattle.sf_base.proofs.StoreSplits.{slot-same}
 use Rattle.sf_calls.specs.Conditions.{Calls, Free, FreeIn, Mentions}
 use Rattle.sf_calls.specs.Reaches.{directly, through}
 use Rattle.sf_calls.specs.Outside.{CallsIn, OccursOutside}
+use Rattle.sf_calls.proofs.Sites.{at_one}
 use Rattle.sf_core.specs.Assertions.Occurs.{VarOccursIn}
 use Rattle.sf_core.specs.Assertions.Sat.{Sat}
 use Rattle.sf_core.specs.Machine.Examples.{emp, one_in}
 use Rattle.sf_core.specs.Machine.Start.{entry_frame, entry_slot}
+use Rattle.sf_core.specs.Program.Heads.{sites}
 use Rattle.sf_core.specs.Program.Syntax.{Procedure}
 use Rattle.sf_safe.specs.Own.{HasSlot, Own}
 use Rattle.sf_safe.specs.Contract.{Entered, IsVariableOf, Known, see}
@@ -37,9 +40,10 @@ emp-empty : (x : Var) → VarOccursIn emp.level x → ⊥
 emp-empty x o = o.2.0
 
 body-own : (r : ResId) (i : ℕ) → OccursOutside (Shared r i) writes.body → ⊥
-body-own r i (inl (inl e)) = absurd (cc)
-body-own r i (inl (inr e)) = e
-body-own r i (inr e) = e
+body-own r i o = elim (at_one _ (sites [] writes.body) o) [
+  | inl h ↦ elim h.1 [ inl e ↦ absurd (cc) | inr e ↦ e ]
+  | inr e ↦ e
+]
 
 mentions-none : (f : ProcId) (r : ResId) (i : ℕ) → Mentions writing (Shared r i) f → ⊥
 mentions-none f r i (h, there, o) = go (subst
@@ -54,7 +58,10 @@ mentions-none f r i (h, there, o) = go (subst
 
 calls-none : (but : Option ResId) (f g : ProcId) → Calls writing but f g → ⊥
 calls-none but f g (h, there, c) =
-    elim (subst (λ z. CallsIn but g z.body) (sym (only-one f.0 h there)) c) [ inl a ↦ a | inr a ↦ a ]
+    elim (at_one _ (sites [] writes.body) (subst (λ z. CallsIn but g z.body) (sym (only-one f.0 h there)) c)) [
+      | inl a ↦ contains-nil a.1.0 a.1.1
+      | inr a ↦ a
+    ]
 
 free-none : (f : ProcId) (r : ResId) (i : ℕ) → Free writing f (Shared r i) → ⊥
 free-none f r i (shared_, m) = go m

@@ -27,14 +27,16 @@ use Rattle.sf_vars.specs.Faults.{IsVariableName, IsBreachName, IsFirstFault, tol
 use Rattle.sf_vars.specs.Laws.{EachProgramHasAnAnswer}
 use Rattle.sf_vars.specs.Internal.Search.{in_procedures, IsVariableIn, IsBreachIn}
 use Rattle.sf_vars.proofs.Fits.{free_in_body}
-use Rattle.sf_vars.proofs.Meets.{among_there, meets_program}
+use Rattle.sf_calls.proofs.Sites.{among_at}
+use Rattle.sf_vars.proofs.Meets.{meets_program}
 
 -- what a call may change may be named where it is made
 changed_in : (p : Program) (h : Procedure) (c : Call) (x : Var) → IsFormed p → CallWithin p h c
     → MayChange p c x → IsInBody p h x
 changed_in p h c x formed w (inl a) =
-    let y = among_there x c.references (flat_map expr_occurrences c.values) a in
-    subst (IsInBody p h) y.2 (call-within p h c w y.0 y.1)
+    let y = among_at x c.references a in
+    subst (IsInBody p h) y.2
+    (call-within p h c w y.0 (Contains-append_left c.references (flat_map expr_occurrences c.values) y.0 y.1))
 changed_in p h c x formed w (inr f) = free_in_body p h c.callee x formed f
 
 again_there : (x : Occurrence) (xs : List Occurrence) → IsAgain x xs → Contains xs x

@@ -1,5 +1,5 @@
 -- What a program calls and enters has its sets and its visit, and what its sets have may be named.
-use Rattle.std.proofs.Common.{◌<◌, [], length, get_or, None, All, refl, arith}
+use Rattle.std.proofs.Common.{◌<◌, [], length, get_or, All, arith}
 use Rattle.std.proofs.lemmas.List.Elements.{Contains-get_or}
 use Rattle.std.proofs.lemmas.Option.{slice_get-get_or}
 use Rattle.sf_base.specs.declared.ids.ProcId.{ProcId}
@@ -13,13 +13,8 @@ use Rattle.sf_calls.specs.Conditions.{Takes, Free}
 use Rattle.sf_calls.specs.Sets.{Sets, AreSetsOf, IsResSet, IsVarSet}
 use Rattle.sf_calls.proofs.InFile.{free_within}
 use Rattle.sf_calls.proofs.Least.{holds_within}
-use Rattle.sf_calls.proofs.Within.{callees_of_within}
+use Rattle.sf_calls.proofs.Within.{callee_within}
 use Rattle.sf_vars.specs.Internal.Search.{HasSets, BlockFits, CommandFits, free_of, takes_of, holds_of}
-
--- what is called is there
-pub callee_there : (p : Program) (h : Procedure) (c : Call) → CallWithin p h c
-    → c.callee.0 < length p.procedures
-callee_there p h c w = callees_of_within p h None c.callee (call c.place c) w refl
 
 pub free_set : (p : Program) (sets : Sets) (g : ProcId) → AreSetsOf p sets → g.0 < length p.procedures
     → IsVarSet (Free p g) (free_of sets g)
@@ -64,11 +59,11 @@ mutual
   command_fits p sets h formed are (if q t c d) w =
       (block_fits p sets h formed are c w.1, block_fits p sets h formed are d w.2)
   command_fits p sets h formed are (while q t a c) w = block_fits p sets h formed are c w.2
-  command_fits p sets h formed are (call q c) w = has_sets p sets c.callee are (callee_there p h c w)
+  command_fits p sets h formed are (call q c) w = has_sets p sets c.callee are (callee_within p h c w)
   command_fits p sets h formed are (fork q c d) w = (
-    has_sets p sets c.callee are (callee_there p h c w.0),
+    has_sets p sets c.callee are (callee_within p h c w.0),
     has_sets p sets d.callee are
-        (callee_there p h d w.1),
+        (callee_within p h d w.1),
   )
   command_fits p sets h formed are (with q s t c) w = (
     let below : s.0 < length p.resources = w.0 in

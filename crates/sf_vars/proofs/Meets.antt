@@ -46,9 +46,11 @@ use Rattle.sf_calls.proofs.InFile.{resource_apart, resources_ordered, resources_
 use Rattle.sf_calls.proofs.InOrder.{ordered_pairs}
 use Rattle.sf_calls.proofs.Least.{takes_within}
 use Rattle.sf_calls.proofs.Searches.{proc}
+use Rattle.sf_calls.proofs.Sites.{among_at}
 use Rattle.sf_vars.specs.Internal.Search.{found, has, with_one, with_all, none_held, lacks, is_in, takes_of, holds_of, free_of, unheld, free_unheld, unheld_in_call, reenters_by_call, repeats, passes_free, may_change, uses, shares, shared_among, free_in_both, shares_in_fork, entered_held, in_head, in_block, in_inner, in_procedure, in_procedures}
 use Rattle.sf_vars.proofs.Firsts.{first-append, first-flat_map, first-map, first-search, first-same, first-set}
-use Rattle.sf_vars.proofs.Fits.{callee_there, free_set, takes_set, holds_set, held_fit}
+use Rattle.sf_calls.proofs.Within.{callee_within}
+use Rattle.sf_vars.proofs.Fits.{free_set, takes_set, holds_set, held_fit}
 
 -- where one is in a program, and the visited tell what is held there
 record Stands (p : Program) (f : ProcId) (entered : List ResId) (sets : Sets) (held : List Bool)
@@ -171,14 +173,6 @@ shares_is p sets are c d w v x =
     Decides-or _ _ (Decides-and _ _ (may_is p sets are c w x) (uses_is p sets are d v x))
     (Decides-and _ _ (may_is p sets are d v x) (uses_is p sets are c w x))
 
--- a variable that a call uses, and that does not occur in it, is free in its procedure
-pub among_there : (x : Var) (xs ys : List Occurrence) → IsAmong x xs
-    → (y : Occurrence) × Contains (xs ++ ys) y × (y.var ≡ x)
-among_there x [] ys h = absurd h
-among_there x (z ∷ zs) ys (inl e) = (z, (contains-cons z (zs ++ ys) z).1 (inl refl), e)
-among_there x (z ∷ zs) ys (inr h) =
-    let r = among_there x zs ys h in (r.0, (contains-cons z (zs ++ ys) r.0).1 (inr r.1), r.2)
-
 value_there : (x : Var) (es : List Expr) → OccursInValues x es
     → (y : Occurrence) × Contains (flat_map expr_occurrences es) y × (y.var ≡ x)
 value_there x [] h = absurd h
@@ -190,10 +184,12 @@ value_there x (e ∷ es) (inr h) =
     let r = value_there x es h in
     (r.0, Contains-append_right (expr_occurrences e) (flat_map expr_occurrences es) r.0 r.1, r.2)
 
+-- a variable that a call uses, and that does not occur in it, is free in its procedure
 used_free : (p : Program) (c : Call) (x : Var)
     → ((y : Occurrence) → Contains (call_occurrences c) y → y.var ≡ x → ⊥) → Uses p c x → Free p c.callee x
 used_free p c x out (inl (inl k)) =
-    let r = among_there x c.references (flat_map expr_occurrences c.values) k in absurd (out r.0 r.1 r.2)
+    let r = among_at x c.references k in
+    absurd (out r.0 (Contains-append_left c.references (flat_map expr_occurrences c.values) r.0 r.1) r.2)
 used_free p c x out (inl (inr k)) = k
 used_free p c x out (inr k) =
     let r = value_there x c.values k in
@@ -372,7 +368,7 @@ meets_head p f s sets held h st w =
         stands_inside p f s.entered (head_regions s.command) sets held (regions-within p h s.command w) st
 
     there : (d : Call) → Contains (head_calls s.command) d → d.callee.0 < length p.procedures
-    there d k = callee_there p h d (calls-within p h s.command w d k)
+    there d k = callee_within p h d (calls-within p h s.command w d k)
 
 -- the questions about commands, in their order
 abbrev pub FirstOf : Program → ProcId → List Site → Option Breach → Type 0

@@ -1,6 +1,7 @@
--- The relations on what occurs in commands and assertions, as tests and lists that compute.
--- Ordinary: each relation by cases has the test by the same cases.
-use Rattle.std.specs.Prelude.{◌==◌, nat_lt, Bool, true, false, cond, ◌&&◌, ◌||◌, not, List, [], ◌∷◌, ◌++◌, Option, Some, None}
+-- The relations on what occurs in commands, as tests and lists that compute.
+-- Ordinary: each relation has the test that decides it, or the list of what it holds of.
+use Rattle.std.specs.Prelude.{◌==◌, nat_lt, Bool, true, false, cond, ◌&&◌, ◌||◌, not, List, [], ◌∷◌, ◌++◌, map, Option, Some, None}
+use Rattle.std.specs.List.{flat_map}
 use Rattle.sf_base.specs.declared.ids.ProcId.{ProcId}
 use Rattle.sf_base.specs.declared.ids.ResId.{ResId}
 use Rattle.sf_base.specs.declared.ids.Var.{Var}
@@ -9,12 +10,14 @@ use Rattle.sf_base.specs.Variables.{same_var}
 use Rattle.sf_core.specs.declared.command.Expr.{Expr}
 use Rattle.sf_core.specs.declared.command.Expr.TheVariants.{Var as Variable, Nil, Int}
 use Rattle.sf_core.specs.declared.command.Occurrence.{Occurrence}
-use Rattle.sf_core.specs.Program.Syntax.{Command, assign, look_up, mutate, new, dispose, if, while, call, fork, with, Block, done, then}
+use Rattle.sf_core.specs.Program.Heads.{Site, head_calls, head_sets}
+use Rattle.sf_core.specs.Program.Syntax.{Command}
+use Rattle.sf_calls.specs.Internal.Listed.{is_entered}
 
--- another resource than the one that is left out
-abbrev pub is_other : Option ResId → ResId → Bool
-is_other None q = true
-is_other (Some r) q = not (q.0 == r.0)
+-- regions of those resources are none of the one that is left out
+abbrev pub is_outside : Option ResId → List ResId → Bool
+is_outside None entered = true
+is_outside (Some r) entered = not (is_entered r entered)
 
 -- the variable occurs in an expression, in references, in values
 abbrev pub in_expr : Var → Expr → Bool
@@ -30,46 +33,25 @@ abbrev pub in_values : Var → List Expr → Bool
 in_values x [] = false
 in_values x (e ∷ es) = in_expr x e || in_values x es
 
--- the procedures that are called outside the regions of the resource that is left out, in text order
-abbrev mutual
-  pub callees_in : Option ResId → Block → List ProcId
-  callees_in but done = []
-  callees_in but (then c b) = callees_of but c ++ callees_in but b
+-- the procedures that a command itself calls
+abbrev pub callees_of : Command → List ProcId
+callees_of c = map (λ d. d.callee) (head_calls c)
 
-  pub callees_of : Option ResId → Command → List ProcId
-  callees_of but (assign p y e) = []
-  callees_of but (look_up p y e field) = []
-  callees_of but (mutate p e field d) = []
-  callees_of but (new p y) = []
-  callees_of but (dispose p e) = []
-  callees_of but (if p t c d) = callees_in but c ++ callees_in but d
-  callees_of but (while p t a c) = callees_in but c
-  callees_of but (call p c) = c.callee ∷ []
-  callees_of but (fork p c d) = c.callee ∷ d.callee ∷ []
-  callees_of but (with p r t c) = cond (is_other but r) (callees_in but c) []
+-- those that are called outside the regions of the resource that is left out, in text order
+abbrev pub callees_in : Option ResId → List Site → List ProcId
+callees_in but = flat_map (λ s. cond (is_outside but s.entered) (callees_of s.command) [])
 
--- the variables that references name
-abbrev pub named_by : List Occurrence → List Var
-named_by [] = []
-named_by (y ∷ ys) = y.var ∷ named_by ys
+-- the variables of those occurrences
+abbrev pub variables_of : List Occurrence → List Var
+variables_of = map (λ y. y.var)
 
--- the variables that are set, and those that references of calls name, in text order
-abbrev mutual
-  pub set_in : Block → List Var
-  set_in done = []
-  set_in (then c b) = set_of c ++ set_in b
+-- the variables that a command itself sets, and those that references of its calls name
+abbrev pub set_of : Command → List Var
+set_of c = variables_of (head_sets c ++ flat_map (λ d. d.references) (head_calls c))
 
-  pub set_of : Command → List Var
-  set_of (assign p y e) = y.var ∷ []
-  set_of (look_up p y e field) = y.var ∷ []
-  set_of (mutate p e field d) = []
-  set_of (new p y) = y.var ∷ []
-  set_of (dispose p e) = []
-  set_of (if p t c d) = set_in c ++ set_in d
-  set_of (while p t a c) = set_in c
-  set_of (call p c) = named_by c.references
-  set_of (fork p c d) = named_by c.references ++ named_by d.references
-  set_of (with p r t c) = set_in c
+-- those at all of these sites, in text order
+abbrev pub set_in : List Site → List Var
+set_in = flat_map (λ s. set_of s.command)
 
 -- the variable comes before the other
 abbrev pub is_earlier : Var → Var → Bool

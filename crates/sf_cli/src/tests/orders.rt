@@ -1,8 +1,10 @@
 //! The order of a file's annotations, worked out by hand.
 
 use crate::reading::admit;
-use sf_core::{Conjunct, Expr};
-use std::alloc::AllocError;
+use sf_base::{ProcId, ResId};
+use sf_core::{Conjunct, Expr, Ordered};
+use std::alloc::{AllocError, Global};
+use std::process::Abort;
 use std::test::Fail;
 
 /// Appends the places of the conjuncts, each before those in its branches.
@@ -23,6 +25,19 @@ fn add_places(cs: &[Conjunct<Expr>], found: &mut Vec<(u32, u32)>) -> Result<(), 
     Ok(())
 }
 
+/// The conjuncts of the assertion are at those places.
+fn are_at<A: Abort>(
+    rt: &A,
+    alloc: Global,
+    order: &Ordered,
+    places: &[(u32, u32)],
+) -> Result<(), AllocError> {
+    let mut found = Vec::new(alloc);
+    add_places(&order.assertion.level.conjuncts, &mut found)?;
+    assert_eq!(rt; found.as_slice(), places);
+    Ok(())
+}
+
 #[test]
 fn annotations_are_arranged(rt: HostRuntime) -> Result<(), Fail> {
     let file =
@@ -38,10 +53,13 @@ fn annotations_are_arranged(rt: HostRuntime) -> Result<(), Fail> {
         Ok(arranged) => {
             assert_eq!(rt; arranged.orders.len(), orders.len());
             for (order, places) in arranged.orders.iter().zip(orders) {
-                let mut found = Vec::new(alloc);
-                add_places(&order.assertion.level.conjuncts, &mut found)?;
-                assert_eq!(rt; found.as_slice(), places);
+                are_at(&rt, alloc, order, places)?;
             }
+            assert_eq!(rt; arranged.program.resources.len(), 1);
+            are_at(&rt, alloc, arranged.invariant(ResId(0)), orders[0])?;
+            assert_eq!(rt; arranged.program.procedures.len(), 1);
+            are_at(&rt, alloc, arranged.pre(ProcId(0)), orders[1])?;
+            are_at(&rt, alloc, arranged.post(ProcId(0)), orders[3])?;
         }
         Err(_) => assert!(rt; false),
     }

@@ -1,6 +1,6 @@
 -- Heads: what a command has in itself, apart from the commands inside it, and the walk over all commands.
 -- Ordinary: the nodes of a syntax tree, each before its subtrees, in text order.
-use Rattle.std.specs.Prelude.{List, [], ◌∷◌, ◌++◌}
+use Rattle.std.specs.Prelude.{List, [], ◌∷◌, ◌++◌, Contains}
 use Rattle.std.specs.List.{flat_map}
 use Rattle.sf_base.specs.declared.ids.ResId.{ResId}
 use Rattle.sf_core.specs.declared.assertion.Operand.{Operand}
@@ -10,7 +10,7 @@ use Rattle.sf_core.specs.declared.assertion.Test.TheVariants.{True, Equal, Diffe
 use Rattle.sf_core.specs.declared.command.Expr.{Expr}
 use Rattle.sf_core.specs.declared.command.Expr.TheVariants.{Var as Variable, Nil, Int}
 use Rattle.sf_core.specs.declared.command.Occurrence.{Occurrence}
-use Rattle.sf_core.specs.Program.Syntax.{Conjunct, holds, points, segment, tree, choose, Level, level, Conjuncts, none, also, Call, Command, assign, look_up, mutate, new, dispose, if, while, call, fork, with, Block, done, then}
+use Rattle.sf_core.specs.Program.Syntax.{Assertion, Conjunct, holds, points, segment, tree, choose, Level, level, Conjuncts, none, also, Call, Command, assign, look_up, mutate, new, dispose, if, while, call, fork, with, Block, done, then}
 
 -- the variables that occur in an expression, with their places
 abbrev pub expr_occurrences : Expr → List Occurrence
@@ -85,6 +85,15 @@ abbrev pub head_forks : Command → List (Call × Call)
 head_forks (fork q c d) = (c, d) ∷ []
 head_forks _ = []
 
+-- all that occurs in the command itself and in its calls
+abbrev pub occurrences_at : Command → List Occurrence
+occurrences_at c = head_occurrences c ++ flat_map call_occurrences (head_calls c)
+
+-- its invariant, if it is a loop
+abbrev pub head_invariants : Command → List Assertion
+head_invariants (while q t i c) = i ∷ []
+head_invariants _ = []
+
 -- the resource that it enters, if it is a region: what occurs in it, and the commands inside it, are inside
 -- that region
 abbrev pub head_regions : Command → List ResId
@@ -110,3 +119,7 @@ abbrev mutual
   inner_sites entered (while q t i c) = sites entered c
   inner_sites entered (with q r t c) = sites (r ∷ entered) c
   inner_sites entered _ = []
+
+-- one of the commands has that property, where it is
+abbrev pub Somewhere : (Site → Type 0) → Block → Type 0
+Somewhere P b = (s : Site) × Contains (sites [] b) s × P s

@@ -1,10 +1,13 @@
-use Rattle.std.proofs.Common.{◌≡◌, ◌≤◌, ◌∙◌, sym, ap, length, map, slice_get, Some, ◌++◌, rules, arith}
+use Rattle.std.proofs.Common.{◌≡◌, ◌≤◌, ◌∙◌, sym, ap, length, map, slice_get, Some, [], ◌++◌, rules, arith}
 use Rattle.std.proofs.lemmas.List.{length-map}
 use Rattle.sf_base.proofs.Lookup.{get-read_map}
+use Rattle.sf_core.specs.Program.Heads.{sites}
+use Rattle.sf_core.specs.Program.Sites.{site_of}
 use Rattle.sf_core.specs.Program.View.{procedure_of, block_of}
 use Rattle.sf_core.specs.Program.ProgramView.{program_of}
 use Rattle.sf_calls.specs.Internal.Tests.{callees_in}
 use Rattle.sf_calls.proofs.CallGraph.{calls_none, calls_more, calls_all, callees_there}
+use Rattle.sf_calls.proofs.Sites.{all_appended}
 use Rattle.sf_calls.proofs.callers.callers_of.Goals as goal
 
 pub loop-i-init : goal.loop-i-init
@@ -23,13 +26,14 @@ add_caller-requires c =
     get-read_map procedure_of c.args.p.now.procedures.items c.deref-procedure-items.result.now c.loop-i.i
     c.procedure-item.result c.deref-procedure-items.ensures.value c.loop-i-test.true
     c.procedure-item.is in
-    let are : c.deref-in-loop-i.result.now
-    ≡ callees_in c.args.but (block_of c.procedure-item.result.body.items) =
-    c.deref-in-loop-i.ensures.value ∙ c.in_ok-add_callees.ensures
-    ∙ ap (λ xs. xs ++ callees_in c.args.but (block_of c.deref.result.now)) c.new-callees.ensures.items
-    ∙ ap (λ xs. callees_in c.args.but (block_of xs)) c.deref.ensures.value in
+    let are : c.deref-in-loop-i-2.result.now
+    ≡ callees_in c.args.but (sites [] (block_of c.procedure-item.result.body.items)) =
+    all_appended (callees_in c.args.but)
+    (ap (map site_of) c.deref-in-loop-i.ensures.value ∙ c.in_ok-body.ensures
+    ∙ ap (λ xs. sites [] (block_of xs)) c.deref.ensures.value) c.new-callees.ensures.items
+    c.in_ok-add_callees.ensures c.deref-in-loop-i-2.ensures.value in
     let within = callees_there (program_of c.args.p.now) c.args.but c.loop-i.i
-    (procedure_of c.procedure-item.result) c.deref-in-loop-i.result.now c.args.p.now.formed at are in
+    (procedure_of c.procedure-item.result) c.deref-in-loop-i-2.result.now c.args.p.now.formed at are in
     rw (c.loop-i.invariant.size, ← length-map c.args.p.now.procedures.items procedure_of) within
 
 pub loop-i-preserved : goal.loop-i-preserved
@@ -39,16 +43,17 @@ loop-i-preserved c =
     get-read_map procedure_of c.args.p.now.procedures.items c.deref-procedure-items.result.now c.loop-i.i
     c.procedure-item.result c.deref-procedure-items.ensures.value c.loop-i-test.true
     c.procedure-item.is in
-    let are : c.deref-in-loop-i.result.now
-    ≡ callees_in c.args.but (block_of c.procedure-item.result.body.items) =
-    c.deref-in-loop-i.ensures.value ∙ c.in_ok-add_callees.ensures
-    ∙ ap (λ xs. xs ++ callees_in c.args.but (block_of c.deref.result.now)) c.new-callees.ensures.items
-    ∙ ap (λ xs. callees_in c.args.but (block_of xs)) c.deref.ensures.value in
+    let are : c.deref-in-loop-i-2.result.now
+    ≡ callees_in c.args.but (sites [] (block_of c.procedure-item.result.body.items)) =
+    all_appended (callees_in c.args.but)
+    (ap (map site_of) c.deref-in-loop-i.ensures.value ∙ c.in_ok-body.ensures
+    ∙ ap (λ xs. sites [] (block_of xs)) c.deref.ensures.value) c.new-callees.ensures.items
+    c.in_ok-add_callees.ensures c.deref-in-loop-i-2.ensures.value in
     record {
       size = c.in_ok-add_caller.ensures.size ∙ c.loop-i.invariant.size;
       callers =
           calls_more (program_of c.args.p.now) c.args.but c.loop-i.i
-          (procedure_of c.procedure-item.result) c.deref-in-loop-i.result.now c.loop-i.callers.items
+          (procedure_of c.procedure-item.result) c.deref-in-loop-i-2.result.now c.loop-i.callers.items
           c.add_caller.new.callers.items at are c.loop-i.invariant.callers
           c.in_ok-add_caller.ensures.more;
     }
