@@ -10,7 +10,7 @@ use Rattle.sf_core.proofs.Assertions.Segments.{seg-empty}
 use Rattle.sf_core.proofs.Assertions.Trees.{tree-from_nil}
 use Rattle.sf_core.specs.declared.fields.Links.{Links}
 use Rattle.sf_normal.proofs.Keeping.{kept-one, still-same}
-use Rattle.sf_normal.specs.Knowledge.{is_nothing}
+use Rattle.sf_sym.specs.Known.{is_nothing}
 use Rattle.sf_normal.specs.Laws.{DropKeepsGoals}
 use Rattle.sf_sym.proofs.AtomLists.{atoms-out, without-all}
 use Rattle.sf_sym.specs.Below.{IsBelow}

@@ -12,7 +12,7 @@ use Rattle.sf_base.specs.HeapStore.{Heap}
 use Rattle.sf_core.proofs.Assertions.Sat.{value-which}
 use Rattle.sf_core.specs.declared.fields.Links.{Links}
 use Rattle.sf_normal.proofs.Keeping.{follows-equal, kept-one, still-same}
-use Rattle.sf_normal.specs.Knowledge.{ends}
+use Rattle.sf_sym.specs.Known.{ends}
 use Rattle.sf_normal.specs.Laws.{ForceKeepsGoals}
 use Rattle.sf_sym.proofs.AtomLists.{at-all, at-append, atoms-out, without-any}
 use Rattle.sf_sym.proofs.Parts.{atoms-located, located-apart, seg_along-located, tree_along-located}

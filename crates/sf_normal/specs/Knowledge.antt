@@ -1,30 +1,25 @@
 -- The rows that work out what is known, whatever is to do: absurd, drop, force, split, unroll.
 -- Berdine, Calcagno, O'Hearn, "Symbolic Execution with Separation Logic" (2005), section 4: normalization.
-use Rattle.std.specs.Prelude.{ℕ, ◌+◌, Bool, false, ◌&&◌, ◌||◌, not, cond, Option, Some, None, List, [], ◌∷◌}
+use Rattle.std.specs.Prelude.{ℕ, ◌+◌, ◌&&◌, not, cond, Option, Some, None, List, [], ◌∷◌}
 use Rattle.std.specs.Option.{option_map, option_and_then}
 use Rattle.sf_base.specs.declared.ids.FieldId.{FieldId}
 use Rattle.sf_core.specs.declared.fields.Links.{Links}
 use Rattle.sf_sym.specs.declared.atom.Atom.{Atom}
 use Rattle.sf_sym.specs.declared.atom.Atom.TheVariants.{Points, Ls, Tree}
 use Rattle.sf_sym.specs.declared.term.Term.{Term}
-use Rattle.sf_sym.specs.declared.term.Term.TheVariants.{Nil, Sym}
+use Rattle.sf_sym.specs.declared.term.Term.TheVariants.{Sym}
 use Rattle.sf_sym.specs.Below.{is_below}
 use Rattle.sf_sym.specs.Cells.{atom_at, with_atom, with_cell, without}
 use Rattle.sf_sym.specs.Equalities.{assumed_apart, assumed_equal}
 use Rattle.sf_sym.specs.Fields.{put_term}
 use Rattle.sf_sym.specs.Goal.{Goal, at_state}
+use Rattle.sf_sym.specs.Known.{ends, is_forced, is_nothing}
 use Rattle.sf_sym.specs.State.{State, with_symbols}
-use Rattle.sf_sym.specs.Tests.{allocated, differs, is_absurd, is_constant, same_term}
+use Rattle.sf_sym.specs.Tests.{differs, is_absurd, same_term}
 
 -- absurd: no store and heap have the state, so nothing is left to prove
 abbrev pub absurd_row : Goal → Option (List Goal)
 absurd_row g = cond (is_absurd g.state) (Some []) None
-
--- an empty segment or tree: from a term to itself, or from nil
-abbrev pub is_nothing : Atom → Bool
-is_nothing (Points t fields) = false
-is_nothing (Ls t u) = same_term t u
-is_nothing (Tree t) = same_term t Nil
 
 -- drop: an empty segment or tree goes
 abbrev pub drop_row : Goal → (a : ℕ) → Option (List Goal)
@@ -33,18 +28,11 @@ drop_row g a =
     (Some (at_state g (record g.state { atoms = without g.state.atoms a }) ∷ [])) None)
     (atom_at g.state.atoms a)
 
--- the ends of a segment or a tree, which are its root and where it ends
-abbrev pub ends : Atom → Option (Term × Term)
-ends (Points t fields) = None
-ends (Ls t u) = Some (t, u)
-ends (Tree t) = Some (t, Nil)
-
 -- force: a segment or tree whose root can't be a cell of its own, being a constant or a cell of another atom, is
 -- empty, so its ends are the same
 abbrev pub force_row : Goal → (a : ℕ) → Option (List Goal)
 force_row g a =
-    option_and_then (λ e. cond (not (same_term e.0 e.1) && (is_constant e.0 || allocated g.state e.0 (Some a)))
-    (Some (assumed_equal e.0 e.1 g ∷ [])) None)
+    option_and_then (λ e. cond (is_forced g.state a e) (Some (assumed_equal e.0 e.1 g ∷ [])) None)
     (option_and_then ends (atom_at g.state.atoms a))
 
 -- split: two terms are the same, or they differ

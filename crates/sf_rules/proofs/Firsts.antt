@@ -1,5 +1,5 @@
 -- The first variables of a procedure and the numbers of its fields.
-use Rattle.std.proofs.Common.{◌≡◌, ℕ, zero, suc, ◌+◌, ◌-◌, ◌≤◌, append_assoc, Bool, true, false, cond, Option, Some, None, List, [], ◌∷◌, ◌++◌, refl, sym, ap, ◌∙◌, arith}
+use Rattle.std.proofs.Common.{◌≡◌, ℕ, zero, suc, ◌+◌, ◌-◌, ◌<◌, ◌≤◌, nat_lt, append_assoc, Bool, true, false, cond, Option, Some, None, List, [], ◌∷◌, ◌++◌, refl, sym, subst, ap, ◌∙◌, arith}
 use Rattle.std.specs.Option.{option_map}
 use Rattle.std.specs.Str.{bytes_eq}
 use Rattle.std.proofs.lemmas.Slice.Eq.{bytes_eq-Decides}
@@ -9,6 +9,8 @@ use Rattle.sf_base.specs.declared.ids.Var.TheVariants.{Own}
 use Rattle.sf_core.specs.Program.Named.{IsFirstNamed}
 use Rattle.sf_sym.specs.declared.term.Term.{Term}
 use Rattle.sf_sym.specs.declared.term.Term.TheVariants.{Nil, Sym}
+use Rattle.std.proofs.lemmas.Bool.Decides.{nat_tests}
+use Rattle.sf_sym.specs.Variables.{AreInOrder, IsBeforeAll}
 use Rattle.sf_rules.specs.Table.{nils, number_of, symbols}
 
 pub nils_push : (from n m : ℕ) → m ≡ from + n → nils from (suc n) ≡ nils from n ++ (Own m, Nil) ∷ []
@@ -63,3 +65,31 @@ nils_after from i vars xs l e =
     let m : i ≡ from + (i - from) = omega arith in
     ap (λ ys. ys ++ (Own i, Nil) ∷ []) e ∙ append_assoc vars (nils from (i - from)) ((Own i, Nil) ∷ [])
     ∙ ap (λ ys. vars ++ ys) (sym (nils_push from (i - from) i m) ∙ ap (nils from) n)
+
+lt-test : (k m : ℕ) → k < m → nat_lt k m ≡ true
+lt-test k m lt = grind (arith, nat_tests)
+
+own-nils : (k from count : ℕ) → k < from → IsBeforeAll (Own k) (nils from count)
+own-nils k from zero lt = tt
+own-nils k from (suc count) lt = (lt-test k from lt, own-nils k (suc from) count (omega arith))
+
+own-firsts : (k from count m n : ℕ) → k < from → k < m → IsBeforeAll (Own k) (symbols from count ++ nils m n)
+own-firsts k from zero m n lt less = own-nils k m n less
+own-firsts k from (suc count) m n lt less =
+    (lt-test k from lt, own-firsts k (suc from) count m n (omega arith) less)
+
+nils-order : (from count : ℕ) → AreInOrder (nils from count)
+nils-order from zero = tt
+nils-order from (suc count) = (own-nils from (suc from) count (omega arith), nils-order (suc from) count)
+
+firsts-order : (from count m n : ℕ) → from + count ≤ m → AreInOrder (symbols from count ++ nils m n)
+firsts-order from zero m n le = nils-order m n
+firsts-order from (suc count) m n le = (
+  own-firsts from (suc from) count m n (omega arith) (omega arith),
+  firsts-order (suc from) count m n (omega arith),
+)
+
+-- a procedure's own variables are in order at first
+pub own_firsts-order : (vs : List (Var × Term)) (n count : ℕ) → vs ≡ symbols 0 n ++ nils n (count - n)
+    → AreInOrder vs
+own_firsts-order vs n count e = subst AreInOrder (sym e) (firsts-order 0 n n (count - n) (omega arith))

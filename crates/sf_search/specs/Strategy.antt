@@ -21,7 +21,7 @@ use Rattle.sf_sym.specs.Goal.{Item, run, add, take, gave, head, again, exit, ret
 use Rattle.sf_sym.specs.Pending.{Pending}
 use Rattle.sf_sym.specs.State.{State, term}
 use Rattle.sf_sym.specs.Tests.{allocated, differs, is_absurd, is_constant, parts, same_term}
-use Rattle.sf_normal.specs.Knowledge.{ends, is_nothing}
+use Rattle.sf_sym.specs.Known.{ends, is_nothing}
 
 -- why a goal is stuck
 pub data Kind : Type 0 where

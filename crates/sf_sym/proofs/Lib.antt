@@ -16,3 +16,4 @@ pub mod AtomLists
 pub mod FreshValues
 pub mod KnownValues
 pub mod FreshGoals
+pub mod VariableLists

@@ -16,3 +16,4 @@ pub mod Internal
 pub mod Variables
 pub mod Decided
 pub mod Ready
+pub mod Known

@@ -1,6 +1,7 @@
 -- How variables get terms in a state and lose them: they are kept in order, own ones before those of resources.
 -- Berdine, Calcagno, O'Hearn, "Symbolic Execution with Separation Logic" (2005), section 4.
-use Rattle.std.specs.Prelude.{ℕ, suc, ◌+◌, ◌==◌, Bool, true, false, ◌&&◌, ◌||◌, cond, nat_lt, List, [], ◌∷◌, length}
+use Rattle.std.specs.Prelude.{ℕ, suc, ◌+◌, ◌==◌, Bool, true, false, ◌&&◌, ◌||◌, IsTrue, cond, nat_lt, List, [], ◌∷◌, length}
+use Rattle.std.specs.List.{AllByRecursion}
 use Rattle.sf_base.specs.declared.ids.Var.{Var}
 use Rattle.sf_base.specs.declared.ids.Var.TheVariants.{Own, Shared}
 use Rattle.sf_base.specs.Variables.{same_var}
@@ -14,6 +15,15 @@ comes_before (Own i) (Own j) = nat_lt i j
 comes_before (Own i) (Shared r j) = true
 comes_before (Shared q i) (Own j) = false
 comes_before (Shared q i) (Shared r j) = nat_lt q.0 r.0 || ((q.0 == r.0) && nat_lt i j)
+
+-- the variable comes before each of them
+abbrev pub IsBeforeAll : Var → List (Var × Term) → Type 0
+IsBeforeAll x vs = AllByRecursion (λ (v : Var × Term). IsTrue (comes_before x v.0)) vs
+
+-- the variables are in order, each once
+abbrev pub AreInOrder : List (Var × Term) → Type 0
+AreInOrder [] = Unit {0}
+AreInOrder (v ∷ vs) = IsBeforeAll v.0 vs × AreInOrder vs
 
 -- the variable has that term from now on
 abbrev pub set_var : Var → Term → List (Var × Term) → List (Var × Term)

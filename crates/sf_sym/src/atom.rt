@@ -6,7 +6,7 @@ ghost use Rattle.sf_sym.specs.Tests.{root};
 use crate::fields::FieldTerms;
 use crate::term::Term;
 use sf_base::FieldId;
-use std::alloc::AllocError;
+use std::alloc::{AllocError, Global};
 
 /// A part of the heap, as a state knows it.
 #[derive(Drop)]
@@ -57,4 +57,29 @@ impl Atom {
             Atom::Points(..) | Atom::Ls(..) | Atom::Tree(_) => Ok(None),
         }
     }
+    /// The same atom. An `Err` means out of memory.
+    pub fn copy(&self) -> Result<Atom, AllocError>
+        ensures { IfOk result (λ atom. atom ≡ self.now) }
+    {
+        match self {
+            Atom::Points(t, fields) => Ok(Atom::Points(*t, fields.copy()?)),
+            Atom::Ls(t, u) => Ok(Atom::Ls(*t, *u)),
+            Atom::Tree(t) => Ok(Atom::Tree(*t)),
+        }
+    }
+}
+
+/// The same atoms with the same numbers. An `Err` means out of memory.
+pub(crate) fn copy_all(alloc: Global, atoms: &[Numbered]) -> Result<Vec<Numbered>, AllocError>
+    ensures { IfOk result (λ copies. copies.items ≡ atoms.now) }
+{
+    let mut copies = Vec::with_capacity(alloc, atoms.len())?;
+    for a in atoms {
+        let atom = a.atom.copy()?;
+        copies.push(Numbered {
+            number: a.number,
+            atom,
+        })?;
+    }
+    Ok(copies)
 }

@@ -7,16 +7,19 @@
 //! - `state`: states, and the primitive changes of them.
 //! - `known`: the tests of a state.
 //! - `decided`: which terms operands have.
+//! - `empty`: atoms that can only be empty.
 //! - `pending`: conjuncts that are still to be assumed or to be shown.
 //! - `goal`: a state, and what is still to do from there.
 //! - `tag`: the steps of a proof.
 //! - `replace`: replacing a symbol by a term.
+//! - `vars`: the terms of the variables.
 //! - `laws`: what the tests of a state tell of its stores and heaps.
 //! - `examples`: examples of small goals.
 #![tactic(auto)]
 
 mod atom;
 mod decided;
+mod empty;
 pub mod examples;
 mod fields;
 mod goal;
@@ -27,6 +30,7 @@ mod replace;
 mod state;
 mod tag;
 mod term;
+mod vars;
 
 pub use atom::{Atom, Numbered};
 pub use decided::term_of;

@@ -1,19 +1,22 @@
 //! States: what is known at one point of a procedure, and the primitive changes of it.
 
-ghost use Rattle.std.specs.Prelude.{◌≡◌, ◌<◌, ◌≤◌, ◌^◌, ◌-◌, true, length, is_some, Some, List, IfSome, IfNone, IfOk, OnErr, OnOk};
+ghost use Rattle.std.specs.Prelude.{◌≡◌, ◌<◌, ◌≤◌, ◌^◌, ◌+◌, true, [], length, is_some, Some, List, IfSome, IfNone, IfOk, OnErr, OnOk};
 ghost use Rattle.std.specs.Option.{option_map};
 ghost use Rattle.sf_base.specs.declared.ids.FieldId.{FieldId as FieldNumber};
-ghost use Rattle.sf_sym.specs.Cells.{after_hand_over, atom_at, cell_at, fields_at, handed, state_after_write, with_cell, without};
+ghost use Rattle.sf_sym.specs.Cells.{after_hand_over, atom_at, cell_at, fields_at, handed, state_after_write, with_atom, with_cell, without};
 ghost use Rattle.sf_sym.specs.Equalities.{put_for, state_with, with_pair};
 ghost use Rattle.sf_sym.specs.Internal.Indices.{index_from};
-ghost use Rattle.sf_sym.specs.State.{first_state};
+ghost use Rattle.sf_sym.specs.State.{first_state, term_at, with_symbols};
+ghost use Rattle.sf_sym.specs.Variables.{AreInOrder, remove_vars, set_var, set_vars, with_fresh};
 ghost use Rattle.sf_sym.specs.declared.atom.Atom.{Atom as AtomOf};
 ghost use Rattle.sf_sym.specs.declared.term.Term.{Term as TermOf};
+ghost use Rattle.sf_sym.specs.declared.term.Term.TheVariants.{Sym};
 
-use crate::atom::{Atom, Numbered};
+use crate::atom::{Atom, Numbered, copy_all};
 use crate::fields::FieldTerms;
 use crate::replace::Replacement;
 use crate::term::Term;
+use crate::vars::{VarTerms, term_at};
 use sf_base::{FieldId, Var};
 use sf_core::Links;
 use std::alloc::{AllocError, Global};
@@ -24,7 +27,7 @@ use std::marker::Model;
 #[derive(Drop)]
 pub struct State {
     links: Links,
-    vars: Vec<(Var, Term)>,
+    vars: VarTerms,
     apart: Vec<(Term, Term)>,
     atoms: Vec<Numbered>,
     taken: Vec<Numbered>,
@@ -37,25 +40,41 @@ impl Model for State {
 
     ghost Value = { Known };
 
-    ghost view = { λ s. state_of s.links s.vars.items s.apart.items s.atoms.items s.taken.items s.next_sym
+    ghost view = { λ s. state_of s.links s.vars s.apart.items s.atoms.items s.taken.items s.next_sym
         s.next_atom };
 }
 
 impl State {
     /// The state that knows these terms of the variables, which have the symbols below `next_sym`, and
-    /// nothing of the heap.
+    /// nothing of the heap. The variables are in order, each once.
     pub fn new(alloc: Global, links: Links, vars: Vec<(Var, Term)>, next_sym: u32) -> State
+        requires { AreInOrder vars.items }
         ensures { result ≡ first_state links vars.items next_sym }
     {
         State {
             links,
-            vars,
+            vars: VarTerms::from_vec(vars),
             apart: Vec::new(alloc),
             atoms: Vec::new(alloc),
             taken: Vec::new(alloc),
             next_sym,
             next_atom: 1,
         }
+    }
+
+    /// The same state. An `Err` means out of memory.
+    pub fn copy(&self, alloc: Global) -> Result<State, AllocError>
+        ensures { IfOk result (λ state. state ≡ self.now) }
+    {
+        Ok(State {
+            links: self.links,
+            vars: self.vars.copy(alloc)?,
+            apart: Vec::from_slice(alloc, &self.apart)?,
+            atoms: copy_all(alloc, &self.atoms)?,
+            taken: copy_all(alloc, &self.taken)?,
+            next_sym: self.next_sym,
+            next_atom: self.next_atom,
+        })
     }
 
     /// The terms of the variables, in the order of the variables.
@@ -116,10 +135,109 @@ impl State {
         Some(&self.atoms[i].atom)
     }
 
+    /// The term of a variable, `Nil` where it has none.
+    pub fn term_at(&self, x: Var) -> Term
+        ensures { result ≡ term_at self.now.vars x }
+    {
+        term_at(self.vars.as_slice(), x)
+    }
+
+    /// A symbol that doesn't occur yet.
+    pub fn fresh_symbol(&mut self) -> Term
+        requires { self.old.next_sym + 1 < 2 ^ 32 }
+        ensures symbol { result ≡ Sym self.old.next_sym }
+        ensures counted { self.new ≡ with_symbols 1 self.old }
+    {
+        let fresh = Term::Sym(self.next_sym);
+        self.next_sym += 1;
+        fresh
+    }
+
+    /// So many symbols more.
+    pub fn add_symbols(&mut self, count: u32)
+        requires { self.old.next_sym + count < 2 ^ 32 }
+        ensures { self.new ≡ with_symbols count self.old }
+    {
+        self.next_sym += count;
+    }
+
+    /// Sets a variable. An `Err` means out of memory, and then nothing changes.
+    pub fn set_var(&mut self, x: Var, t: Term) -> Result<(), AllocError>
+        ensures ok { OnOk result
+            (self.new ≡ record self.old { vars = set_var x t self.old.vars }) }
+        ensures err { OnErr result (self.new ≡ self.old) }
+    {
+        self.vars.set(x, t)?;
+        Ok(())
+    }
+
+    /// Sets variables, one after the other. An `Err` means out of memory, and then nothing changes.
+    pub fn set_vars(&mut self, xs: &[(Var, Term)]) -> Result<(), AllocError>
+        ensures ok { OnOk result
+            (self.new ≡ record self.old { vars = set_vars xs.now self.old.vars }) }
+        ensures err { OnErr result (self.new ≡ self.old) }
+    {
+        self.vars.set_all(xs)?;
+        Ok(())
+    }
+
+    /// Gives each of the variables a fresh symbol. An `Err` means out of memory, and then nothing changes.
+    pub fn set_fresh(&mut self, xs: &[Var]) -> Result<(), AllocError>
+        requires { self.old.next_sym + length xs.now < 2 ^ 32 }
+        ensures ok { OnOk result (self.new ≡ with_fresh xs.now self.old) }
+        ensures err { OnErr result (self.new ≡ self.old) }
+    {
+        self.vars.set_fresh(self.next_sym, xs)?;
+        self.next_sym += xs.len() as u32;
+        Ok(())
+    }
+
+    /// Removes variables: they have no term any more.
+    pub fn remove_vars(&mut self, xs: &[Var])
+        ensures { self.new ≡ record self.old { vars = remove_vars xs.now self.old.vars } }
+    {
+        self.vars.remove_all(xs);
+    }
+
+    /// Forgets the parts that were handed over.
+    pub fn clear_taken(&mut self)
+        ensures { self.new ≡ record self.old { taken = [] } }
+    {
+        self.taken.clear();
+    }
+
+    /// Forgets the parts of the heap, and those that were handed over.
+    pub fn clear_heap(&mut self)
+        ensures { self.new ≡ record self.old { atoms = []; taken = [] } }
+    {
+        self.atoms.clear();
+        self.taken.clear();
+    }
+
+    /// One more atom, with the next number. An `Err` means out of memory, and then nothing changes.
+    pub fn add_atom(&mut self, atom: Atom) -> Result<(), AllocError>
+        requires { self.old.next_atom + 1 < 2 ^ 32 }
+        ensures ok { OnOk result (self.new ≡ with_atom atom self.old) }
+        ensures err { OnErr result (self.new ≡ self.old) }
+    {
+        let number = self.next_atom;
+        self.atoms.push(Numbered { number, atom })?;
+        self.next_atom = number + 1;
+        Ok(())
+    }
+
+    /// Takes the atom of that number out, if it is there.
+    pub fn remove_atom(&mut self, a: u32) -> Option<Atom>
+        ensures atom { result ≡ atom_at self.old.atoms a }
+        ensures others { self.new ≡ record self.old { atoms = without self.old.atoms a } }
+    {
+        take_out(&mut self.atoms, a)
+    }
+
     /// One more cell: it has the next number, and a symbol at which it is differs from nil. An `Err`
     /// means out of memory, and then nothing changes.
     pub fn add_cell(&mut self, root: Term, fields: FieldTerms) -> Result<(), AllocError>
-        requires { self.old.next_atom ≤ 2 ^ 32 - 1024 }
+        requires { self.old.next_atom + 1 < 2 ^ 32 }
         ensures ok { OnOk result (self.new ≡ with_cell self.old root fields) }
         ensures err { OnErr result (self.new ≡ self.old) }
     {
@@ -149,7 +267,7 @@ impl State {
     pub(crate) fn replace(&mut self, r: Replacement)
         ensures { self.new ≡ state_with (put_for r.symbol r.by) self.old }
     {
-        r.in_vars(&mut self.vars);
+        self.vars.replace(r);
         r.in_pairs(&mut self.apart);
         r.in_atoms(&mut self.atoms);
         r.in_atoms(&mut self.taken);
@@ -282,7 +400,7 @@ impl State {
     ) -> State {
         State {
             links,
-            vars: Vec::new(alloc),
+            vars: VarTerms::from_vec(Vec::new(alloc)),
             apart,
             atoms,
             taken,

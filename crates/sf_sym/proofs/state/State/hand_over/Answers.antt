@@ -13,11 +13,11 @@ unreachable-requires c =
 pub returns-clause-ok : goal.returns-clause-ok
 returns-clause-ok c =
     subst (λ s. (fields : List (FieldId × Term)) → cell_at s.atoms c.args.a c.args.root ≡ Some fields
-    → state_of c.self.inside.links c.self.inside.vars.items c.self.inside.apart.items
+    → state_of c.self.inside.links c.self.inside.vars c.self.inside.apart.items
     c.remove-atom.new.self.items c.push_reserved.new.self.items c.self.inside.next_sym
     c.self.inside.next_atom ≡ after_hand_over s c.args.root fields c.args.a)
     c.self.view_is
-    (handed_over_at (state_of c.self.inside.links c.self.inside.vars.items c.self.inside.apart.items
+    (handed_over_at (state_of c.self.inside.links c.self.inside.vars c.self.inside.apart.items
     c.self.inside.atoms.items c.self.inside.taken.items c.self.inside.next_sym c.self.inside.next_atom)
     c.args.a c.in-Some.i c.remove-atom.result c.args.root c.push_reserved.new.self.items
     c.remove-atom.new.self.items (search rules) (search rules) (search rules) (search rules))

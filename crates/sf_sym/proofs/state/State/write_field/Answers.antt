@@ -27,12 +27,12 @@ unreachable-requires-in-Tree c =
 pub returns-clause-ok : goal.returns-clause-ok
 returns-clause-ok c =
     subst (λ s. state_after_write s c.args.root c.args.f c.args.u c.args.a
-    ≡ Some (state_of c.self.inside.links c.self.inside.vars.items c.self.inside.apart.items
+    ≡ Some (state_of c.self.inside.links c.self.inside.vars c.self.inside.apart.items
     (with_item c.self.inside.atoms c.in-Some.i
     (record { number = c.index_mut.result.now.number; atom = Points c.in-Points.field-0 c.put.new.self })).items
     c.self.inside.taken.items c.self.inside.next_sym c.self.inside.next_atom))
     c.self.view_is
-    (written_at (state_of c.self.inside.links c.self.inside.vars.items c.self.inside.apart.items
+    (written_at (state_of c.self.inside.links c.self.inside.vars c.self.inside.apart.items
     c.self.inside.atoms.items c.self.inside.taken.items c.self.inside.next_sym c.self.inside.next_atom)
     c.args.a c.in-Some.i c.index_mut.result.now c.args.root c.args.f c.args.u c.in-Points.field-0
     c.in-Points.fields c.put.new.self (search rules) (search rules) c.in-Points.is (search rules)

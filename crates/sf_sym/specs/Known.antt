@@ -1,0 +1,48 @@
+-- Which atoms of a state can only be empty, and which of them is the first.
+-- Berdine, Calcagno, O'Hearn, "Symbolic Execution with Separation Logic" (2005), section 4: normalization.
+use Rattle.std.specs.Prelude.{ℕ, Bool, false, ◌&&◌, ◌||◌, not, cond, Option, Some, None, List, [], ◌∷◌}
+use Rattle.std.specs.Option.{option_and_then, option_map}
+use Rattle.sf_sym.specs.declared.atom.Atom.{Atom}
+use Rattle.sf_sym.specs.declared.atom.Atom.TheVariants.{Points, Ls, Tree}
+use Rattle.sf_sym.specs.declared.atom.Numbered.{Numbered}
+use Rattle.sf_sym.specs.declared.term.Term.{Term}
+use Rattle.sf_sym.specs.declared.term.Term.TheVariants.{Nil}
+use Rattle.sf_sym.specs.State.{State}
+use Rattle.sf_sym.specs.Tests.{allocated, is_constant, same_term}
+
+-- an empty segment or tree: from a term to itself, or from nil
+abbrev pub is_nothing : Atom → Bool
+is_nothing (Points t fields) = false
+is_nothing (Ls t u) = same_term t u
+is_nothing (Tree t) = same_term t Nil
+
+-- the ends of a segment or a tree, which are its root and where it ends
+abbrev pub ends : Atom → Option (Term × Term)
+ends (Points t fields) = None
+ends (Ls t u) = Some (t, u)
+ends (Tree t) = Some (t, Nil)
+
+-- a segment or tree with these ends and that number is empty: its root can't be a cell of its own, being a constant or
+-- a cell of another atom, and its ends aren't one term yet
+abbrev pub is_forced : State → (a : ℕ) → Term × Term → Bool
+is_forced s a e = not (same_term e.0 e.1) && (is_constant e.0 || allocated s e.0 (Some a))
+
+-- the ends of such an atom, which then are the same
+abbrev pub forced_ends : State → (a : ℕ) → Atom → Option (Term × Term)
+forced_ends s a x = option_and_then (λ e. cond (is_forced s a e) (Some e) None) (ends x)
+
+-- the number of the first atom that is nothing
+abbrev pub first_nothing : List Numbered → Option ℕ
+first_nothing [] = None
+first_nothing (a ∷ rest) = cond (is_nothing a.atom) (Some a.number) (first_nothing rest)
+
+-- the first of two options that is there
+abbrev pub or_else : {X : Type 0} → Option X → Option X → Option X
+or_else (Some x) y = Some x
+or_else None y = y
+
+-- the number and the ends of the first atom that is forced
+abbrev pub first_forced : State → List Numbered → Option (ℕ × Term × Term)
+first_forced s [] = None
+first_forced s (a ∷ rest) =
+    or_else (option_map (λ e. (a.number, e.0, e.1)) (forced_ends s a.number a.atom)) (first_forced s rest)

@@ -1,0 +1,75 @@
+//! Atoms that can only be empty.
+
+ghost use Rattle.std.specs.Prelude.{◌≡◌};
+ghost use Rattle.sf_sym.specs.Known.{ends, first_forced, first_nothing, forced_ends, is_nothing};
+
+use crate::atom::Atom;
+use crate::state::State;
+use crate::term::Term;
+
+impl Atom {
+    /// Whether it is an empty segment or tree: from a term to itself, or from nil.
+    pub fn is_nothing(&self) -> bool
+        ensures { result ≡ is_nothing self.now }
+    {
+        match self {
+            Atom::Points(..) => false,
+            Atom::Ls(t, u) => t.is(*u),
+            Atom::Tree(t) => t.is(Term::Nil),
+        }
+    }
+
+    /// The ends of a segment or a tree: its root, and where it ends.
+    pub fn ends(&self) -> Option<(Term, Term)>
+        ensures { result ≡ ends self.now }
+    {
+        match self {
+            Atom::Points(..) => None,
+            Atom::Ls(t, u) => Some((*t, *u)),
+            Atom::Tree(t) => Some((*t, Term::Nil)),
+        }
+    }
+}
+
+impl State {
+    /// The ends of an atom of that number, where it can only be empty: its root is a constant or a cell
+    /// of another atom, and the ends aren't one term yet.
+    pub fn forced_ends(&self, a: u32, atom: &Atom) -> Option<(Term, Term)>
+        ensures { result ≡ forced_ends self.now a atom.now }
+    {
+        let (t, u) = atom.ends()?;
+        if !t.is(u) && (t.is_constant() || self.allocated(t, Some(a))) {
+            Some((t, u))
+        } else {
+            None
+        }
+    }
+
+    /// The number of the first atom that is an empty segment or tree.
+    pub fn droppable(&self) -> Option<u32>
+        ensures { result ≡ first_nothing self.now.atoms }
+    {
+        let mut left = self.atoms();
+        while let Some((first, rest)) = left.split_first() {
+            if first.atom.is_nothing() {
+                return Some(first.number);
+            }
+            left = rest;
+        }
+        None
+    }
+
+    /// The first atom that can only be empty though its ends aren't one term yet, with its ends.
+    pub fn forced(&self) -> Option<(u32, Term, Term)>
+        ensures { result ≡ first_forced self.now self.now.atoms }
+    {
+        let mut left = self.atoms();
+        while let Some((first, rest)) = left.split_first() {
+            if let Some((t, u)) = self.forced_ends(first.number, &first.atom) {
+                return Some((first.number, t, u));
+            }
+            left = rest;
+        }
+        None
+    }
+}
