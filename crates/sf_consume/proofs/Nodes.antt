@@ -1,5 +1,5 @@
 -- A wanted tree that begins with a cell.
-use Rattle.std.proofs.Common.{◌≡◌, ℕ, Option, Some, List, [], ◌∷◌, map, refl, sym, ap, ◌∙◌}
+use Rattle.std.proofs.Common.{◌≡◌, ℕ, Option, Some, List, ◌∷◌, map, refl, sym, ap, ◌∙◌}
 use Rattle.sf_base.specs.declared.ids.FieldId.{FieldId}
 use Rattle.sf_core.specs.declared.assertion.Conjunct.{Conjunct as CodeConjunct}
 use Rattle.sf_core.specs.Program.Syntax.{Conjunct, Conjuncts, also}
@@ -11,7 +11,7 @@ use Rattle.sf_sym.specs.State.{State}
 use Rattle.sf_sym.specs.declared.term.Term.{Term}
 use Rattle.sf_consume.specs.declared.wanted.WantedTree.{WantedTree}
 use Rattle.sf_consume.specs.Internal.Fits.{want_of}
-use Rattle.sf_consume.specs.Subtract.{Fit, Want, first_fit, handed_cell, link, node_step, node_there, removed, stepped, tree_from, wanted_tree}
+use Rattle.sf_consume.specs.Subtract.{Fit, first_fit, handed_cell, link, node_step, node_there, removed, stepped, tree_from, wanted_tree}
 
 module _ (a : ℕ) (s new : State) (bindings : List (Option Term)) (w : WantedTree) (t : Term)
     (fields : List (FieldId × Term)) (l r : Fit × Term) (cs : Conjuncts Term) where

@@ -1,14 +1,12 @@
 -- Lists of the code's items, with the next one last.
-use Rattle.std.proofs.Common.{Option, None, Vec, Global, Some, append_assoc, ◌≡◌, ℕ, ◌==◌, true, false, List, [], ◌∷◌, ◌++◌, length, map, refl, sym, ap, ◌∙◌, arith}
-use Rattle.std.specs.List.{flat_map}
-use Rattle.std.proofs.lemmas.List.{reverse-append}
+use Rattle.std.proofs.Common.{Option, None, Vec, Global, Some, append_assoc, ◌≡◌, ℕ, ◌==◌, false, List, [], ◌∷◌, ◌++◌, length, map, refl, sym, ap, ◌∙◌, arith}
 use Rattle.sf_core.specs.declared.command.Command.{Command as CodeCommand}
-use Rattle.sf_core.specs.Program.View.{assertion_of, block_of, command_of, conjunct_of, conjuncts, block}
-use Rattle.sf_core.specs.declared.assertion.Conjunct.{Conjunct as CodeConjunct}
+use Rattle.sf_core.specs.Program.View.{assertion_of, block_of, command_of, block}
 use Rattle.sf_core.specs.Program.Syntax.{Command, Assertion, Block}
 use Rattle.sf_sym.specs.declared.term.Term.{Term}
+use Rattle.sf_sym.specs.Lemmas.{todo_of_push}
 use Rattle.sf_rules.specs.Table.{end_row, add_row, cell_row, pending_assertion, to_add, to_take, return_row}
-use Rattle.sf_sym.specs.Goal.{unless_none, to_run, Goal, Item, items_of, run, add, take, return, end, goal_of}
+use Rattle.sf_sym.specs.Goal.{unless_none, to_run, Goal, Item, items_of, run, add, take, return, end, goal_of, todo_of}
 use Rattle.sf_base.specs.declared.ids.Var.{Var}
 use Rattle.sf_base.specs.declared.place.Place.{Place}
 use Rattle.sf_sym.specs.State.{State}
@@ -17,46 +15,7 @@ use Rattle.sf_sym.specs.declared.goal.Item.TheVariants.{Run, Add, Take, Gave, He
 use Rattle.std.specs.Borrow.{Bor}
 use Rattle.sf_core.specs.declared.assertion.Assertion.{Assertion as CodeAssertion}
 use Rattle.sf_sym.specs.Pending.{Pending, Given}
-use Rattle.sf_rules.specs.Internal.Subgoals.{todo_of, is_nothing}
-
-pub todo_of_push : (xs : List CodeItem) (x : CodeItem) → todo_of (xs ++ x ∷ []) ≡ items_of x ++ todo_of xs
-todo_of_push xs x = ap (flat_map items_of) (reverse-append xs (x ∷ []))
-
-no_commands : (cs : List CodeCommand) → (length cs == 0) ≡ true → map (λ c. run (command_of c)) cs ≡ []
-no_commands [] e = refl
-no_commands (c ∷ cs) e = grind arith
-
--- an item that is nothing to do has no items
-pub nothing_of : (x : CodeItem) → is_nothing x ≡ true → items_of x ≡ []
-nothing_of (Run commands) e = no_commands commands.now e
-nothing_of (Add p given) e = absurd (cc)
-nothing_of (Take p want names) e = absurd (cc)
-nothing_of (Gave p set removed) e = absurd (cc)
-nothing_of (Head p test invariant body) e = absurd (cc)
-nothing_of (Again p invariant) e = absurd (cc)
-nothing_of (Exit p r) e = absurd (cc)
-nothing_of (Return p post) e = absurd (cc)
-nothing_of (End p) e = absurd (cc)
-
-unless_none_of : (ys : List (CodeConjunct Term)) (item : Item) → length ys ≡ 0
-    → unless_none (conjuncts (map (conjunct_of {E = Term}) ys)) item ≡ []
-unless_none_of [] item e = refl
-unless_none_of (y ∷ ys) item e = absurd (omega (arith, e))
-
-unless_some_of : (ys : List (CodeConjunct Term)) (item : Item) → (length ys ≡ 0 → ⊥)
-    → unless_none (conjuncts (map (conjunct_of {E = Term}) ys)) item ≡ item ∷ []
-unless_some_of [] item e = absurd (e refl)
-unless_some_of (y ∷ ys) item e = refl
-
--- with the item first, unless there are no conjuncts
-pub unless_empty_before : (xs : List (CodeConjunct Term)) (item : Item) (rest : List Item) → length xs ≡ 0
-    → rest ≡ unless_none (conjuncts (map (conjunct_of {E = Term}) xs)) item ++ rest
-unless_empty_before xs item rest e = sym (ap (λ ys. ys ++ rest) (unless_none_of xs item e))
-
-pub unless_some_before : (xs : List (CodeConjunct Term)) (item : Item) (rest all : List Item)
-    → (length xs ≡ 0 → ⊥) → all ≡ item ∷ rest
-    → all ≡ unless_none (conjuncts (map (conjunct_of {E = Term}) xs)) item ++ rest
-unless_some_before xs item rest all e is = is ∙ sym (ap (λ ys. ys ++ rest) (unless_some_of xs item e))
+use Rattle.sf_sym.specs.Internal.Items.{is_nothing}
 
 pub to_run_of : (cs : List CodeCommand)
     → to_run (block (map command_of cs)) ≡ map (λ c. run (command_of c)) cs

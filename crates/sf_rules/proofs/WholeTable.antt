@@ -25,7 +25,7 @@ use Rattle.sf_rules.specs.Rows.Whole as whole
 use Rattle.sf_rules.specs.Setting.{Setting}
 use Rattle.sf_sym.specs.declared.tag.Tag.{Tag}
 use Rattle.sf_sym.specs.declared.tag.Tag.TheVariants as t
-use Rattle.sf_rules.specs.Rows.Produce as produce
+use Rattle.sf_produce.specs.Add as produce
 use Rattle.sf_rules.specs.Rows.Commands as commands
 use Rattle.sf_rules.specs.Words as words
 use Rattle.sf_sym.specs.Goal as goals

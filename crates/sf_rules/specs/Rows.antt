@@ -5,6 +5,5 @@ pub mod Loops
 pub mod Calls
 pub mod Regions
 pub mod Ends
-pub mod Produce
 pub mod Take
 pub mod Whole

@@ -2,7 +2,6 @@
 //!
 //! - `terms`: expressions and assertions with the terms that the variables have now.
 //! - `cells`: cells of a state: whether one is as wanted, writing its fields, and handing it over.
-//! - `todo`: the items of a goal.
 //! - `start`: the first goal of a procedure.
 //! - `rules`: the rows of the table.
 //! - `laws`: these rows are rows of the whole table; what the rows of commands keep.
@@ -15,11 +14,9 @@ pub mod laws;
 mod rules;
 mod start;
 mod terms;
-mod todo;
 
 pub use cells::{are_fitting, are_known, as_cell, known_term};
 pub use laws::built_rows_are_rows;
 pub use rules::{Subgoals, apply, as_mutation, open_goals};
 pub use start::start_goal;
 pub use terms::term_of;
-pub use todo::peek_item;

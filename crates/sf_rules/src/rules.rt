@@ -3,16 +3,15 @@
 ghost use Rattle.std.specs.Prelude.{◌≡◌, ◌++◌, ◌∷◌, [], IfOk, IsTrue, OnErr, OnOk};
 ghost use Rattle.std.specs.Option.{option_map};
 ghost use Rattle.sf_core.specs.Program.View.{assertion_of, command_of, conjunct_of};
-ghost use Rattle.sf_sym.specs.Goal.{end, goal_of};
-ghost use Rattle.sf_rules.specs.Internal.Subgoals.{goals_of, mutation, stack_of, todo_of};
+ghost use Rattle.sf_sym.specs.Goal.{end, goal_of, todo_of};
+ghost use Rattle.sf_rules.specs.Internal.Subgoals.{goals_of, mutation, stack_of};
 ghost use Rattle.sf_rules.specs.Table.{absurd_row, add_row, cell_row, end_row, has_numbers, mutate_row, return_row, row, row_of, state_after_assumption, state_after_hand_over, to_take};
 
 use crate::cells::{as_cell, hand_over, known_term, new_fields, state_after_write};
 use crate::terms::{pending_assertion, term_of};
-use crate::todo::{next_item, with_add, with_take};
 use sf_base::{FieldId, Place, Var};
 use sf_core::{Assertion, Command, Conjunct, Expr};
-use sf_sym::{Goal, Item, State, Tag, Term};
+use sf_sym::{Goal, Item, State, Tag, Term, next_item, with_add, with_take};
 use std::alloc::{AllocError, Global};
 
 /// What a rule leaves to be proved.

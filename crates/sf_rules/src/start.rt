@@ -4,15 +4,13 @@ ghost use Rattle.std.specs.Prelude.{◌≡◌, ◌++◌, ◌-◌, ◌≤◌, ◌
 ghost use Rattle.sf_core.specs.Program.Formed.{ProcedureWithin};
 ghost use Rattle.sf_core.specs.Program.View.{assertion_of, block_of, procedure_of};
 ghost use Rattle.sf_core.specs.Program.ProgramView.{program_of};
-ghost use Rattle.sf_sym.specs.Goal.{goal_of, return, to_run};
-ghost use Rattle.sf_rules.specs.Internal.Subgoals.{todo_of};
+ghost use Rattle.sf_sym.specs.Goal.{goal_of, return, to_run, todo_of};
 ghost use Rattle.sf_rules.specs.Table.{first_goal, links_of, nils, symbols, to_add};
 
 use crate::terms::pending_assertion;
-use crate::todo::with_add;
 use sf_base::Var;
 use sf_core::{Links, Proc, Program};
-use sf_sym::{Goal, Item, State, Term};
+use sf_sym::{Goal, Item, State, Term, with_add};
 use std::alloc::{AllocError, Global};
 
 /// The first goal of a procedure of the program. An `Err` means out of memory.

@@ -10,13 +10,13 @@ ghost use Rattle.sf_sym.specs.Pending.{pending_of};
 ghost use Rattle.sf_search.specs.Internal.Choices.{choice_of, choose_first};
 ghost use Rattle.sf_search.specs.Judge.{choice, choose_add, choose_command, choose_end, choose_found, choose_item, choose_mutate, choose_take, choose_wanted, lowest_cell};
 ghost use Rattle.sf_search.specs.Internal.Known.{IsAdded, is_absurd_beside, known_after};
-ghost use Rattle.sf_rules.specs.Internal.Subgoals.{is_nothing};
+ghost use Rattle.sf_sym.specs.Internal.Items.{is_nothing};
 ghost use Rattle.sf_rules.specs.Table.{state_after_assumption};
 
 use sf_base::FieldId;
 use sf_core::{Command, Conjunct, Operand};
-use sf_rules::{are_fitting, are_known, as_cell, as_mutation, known_term, peek_item, term_of};
-use sf_sym::{Goal, Item, Numbered, Pending, State, Tag, Term};
+use sf_rules::{are_fitting, are_known, as_cell, as_mutation, known_term, term_of};
+use sf_sym::{Goal, Item, Numbered, Pending, State, Tag, Term, peek_item};
 
 /// Why the strategy goes no further at a goal.
 #[derive(Clone, Copy, Debug, PartialEq, Eq)]

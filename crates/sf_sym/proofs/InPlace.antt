@@ -1,7 +1,7 @@
 -- Lists whose elements are changed in place, one after the other.
 -- Names: `map_next` is the step of such a loop, `viewed_next` that of elements as definitions see them.
-use Rattle.std.proofs.Common.{◌≡◌, ℕ, ◌+◌, ◌<◌, ◌≤◌, List, [], ◌∷◌, ◌++◌, length, get_or, map, take, drop, slice_set, Vec, Global, refl, sym, ap, ◌∙◌, subst, arith}
-use Rattle.std.proofs.lemmas.List.{append-nil, map-set, get_or-map, get_or_default, length-map, take_all, drop_all}
+use Rattle.std.proofs.Common.{◌≡◌, ℕ, ◌+◌, ◌<◌, List, [], ◌∷◌, ◌++◌, length, get_or, map, take, drop, slice_set, Vec, Global, sym, ap, ◌∙◌, arith}
+use Rattle.std.proofs.lemmas.List.{map-set, get_or-map, get_or_default, length-map}
 use Rattle.std.proofs.lemmas.List.Edits.{map_over_more}
 use Rattle.std.specs.Vec.{with_items}
 use Rattle.sf_base.specs.declared.ids.FieldId.{FieldId}

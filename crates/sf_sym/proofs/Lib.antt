@@ -17,3 +17,4 @@ pub mod FreshValues
 pub mod KnownValues
 pub mod FreshGoals
 pub mod VariableLists
+pub mod Items

@@ -10,7 +10,7 @@ use Rattle.sf_core.specs.Program.View.{command_of, conjunct_of, conjuncts}
 use Rattle.sf_sym.specs.declared.goal.Item.{Item as CodeItem}
 use Rattle.sf_sym.specs.declared.term.Term.{Term}
 use Rattle.sf_sym.specs.Equalities.{item_with}
-use Rattle.sf_sym.specs.Goal.{Item, run, items_of}
+use Rattle.sf_sym.specs.Goal.{run, items_of}
 use Rattle.sf_sym.specs.Mapped.{conjunct_with, conjuncts_with}
 use Rattle.sf_sym.proofs.Conjuncts.{conjuncts_with-map}
 

@@ -1,7 +1,7 @@
 -- Lists of variables with their terms: what setting and removing does in them, and that they stay in order.
 -- Names: `lex` speaks of two numbers each, `comes_before-LAW` of two variables, `set-LAW` of a list in which one is set,
 -- `remove-LAW` of one from which one is removed.
-use Rattle.std.proofs.Common.{◌≡◌, ℕ, suc, ◌==◌, ◌+◌, Bool, true, false, ◌&&◌, ◌||◌, IsTrue, cond, nat_lt, Option, Some, None, List, [], ◌∷◌, slice_get, slice_set, map, refl, sym, ap, ◌∙◌, subst, arith}
+use Rattle.std.proofs.Common.{◌≡◌, ℕ, suc, ◌==◌, ◌+◌, Bool, true, false, ◌&&◌, ◌||◌, IsTrue, cond, nat_lt, Some, None, List, [], ◌∷◌, slice_get, slice_set, map, refl, sym, ap, ◌∙◌, subst, arith}
 use Rattle.std.specs.List.{insert, remove, position, position_from}
 use Rattle.std.proofs.lemmas.Iterator.Adapters.{position_from-zero}
 use Rattle.std.proofs.lemmas.Bool.Decides.{nat_tests}

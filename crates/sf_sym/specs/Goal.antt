@@ -74,6 +74,10 @@ items_of (Exit p r) = exit p r ∷ []
 items_of (Return p post) = return p (assertion_of post.now) ∷ []
 items_of (End p) = end p ∷ []
 
+-- what there is to do, by a list of the code's items
+abbrev pub todo_of : List CodeItem → List Item
+todo_of items = flat_map items_of (reverse items)
+
 -- a goal of the code, which has the next item last
 abbrev pub goal_of : CodeGoal → Goal
-goal_of g = record { state = g.state; todo = flat_map items_of (reverse g.todo.items) }
+goal_of g = record { state = g.state; todo = todo_of g.todo.items }

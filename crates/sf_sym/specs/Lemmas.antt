@@ -1,7 +1,9 @@
--- Lemmas on terms and atoms that the proofs of the crates above cite. Each states what it says; none is a definition.
+-- Lemmas on terms, atoms and items that the proofs of the crates above cite. Each states what it says; none is a definition.
 -- Ordinary: equality of terms is decided by cases, and ⋆ is associative.
 use Rattle.std.specs.Prelude.{◌≡◌, ℕ, ◌<◌, ◌==◌, nat_lt, Bool, true, false, cond, Some, None, List, [], ◌∷◌, ◌++◌}
 use Rattle.std.proofs.Common.{refl, ap, subst, arith}
+use Rattle.std.specs.List.{flat_map}
+use Rattle.std.proofs.lemmas.List.{reverse-append}
 use Rattle.std.proofs.lemmas.Bool.{false≢true, ltb-true}
 use Rattle.std.proofs.lemmas.Bool.Decides.{Decides-int_eq, Decides-eqb, nat_tests}
 use Rattle.sf_base.proofs.HeapSplits.{at-same, star-drop_left, star-assoc_right, star-map_right}
@@ -14,8 +16,10 @@ use Rattle.sf_sym.specs.declared.atom.Atom.TheVariants.{Points, Ls, Tree}
 use Rattle.sf_sym.specs.declared.atom.Numbered.{Numbered}
 use Rattle.sf_sym.specs.declared.term.Term.{Term}
 use Rattle.sf_sym.specs.declared.term.Term.TheVariants.{Nil, Int, Sym}
+use Rattle.sf_sym.specs.declared.goal.Item.{Item as CodeItem}
 use Rattle.sf_sym.specs.Cells.{fields_at}
 use Rattle.sf_sym.specs.Fields.{AreAfter, AreOrdered, put_term}
+use Rattle.sf_sym.specs.Goal.{items_of, todo_of}
 use Rattle.sf_sym.specs.Holds.{AtomsHold}
 use Rattle.sf_sym.specs.Tests.{same_term}
 
@@ -83,3 +87,7 @@ put-order f u (g ∷ gs) o = go (g.0.0 == f.0) (nat_lt f.0 g.0.0) refl refl (put
     go true t c d r = (subst (λ n. AreAfter n gs) (at-same f.0 g.0.0 c) o.0, o.1)
     go false true c d r = ((ltb-true f.0 g.0.0 d, after-mono f.0 g.0.0 gs (ltb-true f.0 g.0.0 d) o.0), o)
     go false false c d r = (put-after g.0.0 f u gs (is-more g.0.0 f.0 c d) o.0, r)
+
+-- one more item of the code comes first
+pub todo_of_push : (xs : List CodeItem) (x : CodeItem) → todo_of (xs ++ x ∷ []) ≡ items_of x ++ todo_of xs
+todo_of_push xs x = ap (flat_map items_of) (reverse-append xs (x ∷ []))

@@ -10,6 +10,7 @@
 //! - `empty`: atoms that can only be empty.
 //! - `pending`: conjuncts that are still to be assumed or to be shown.
 //! - `goal`: a state, and what is still to do from there.
+//! - `todo`: the items of a goal.
 //! - `tag`: the steps of a proof.
 //! - `replace`: replacing a symbol by a term.
 //! - `vars`: the terms of the variables.
@@ -30,6 +31,7 @@ mod replace;
 mod state;
 mod tag;
 mod term;
+mod todo;
 mod vars;
 
 pub use atom::{Atom, Numbered};
@@ -40,3 +42,4 @@ pub use pending::Pending;
 pub use state::State;
 pub use tag::Tag;
 pub use term::Term;
+pub use todo::{next_item, peek_item, with_add, with_take};

@@ -3,6 +3,7 @@
 -- (2007) for regions and parallel calls.
 use Rattle.std.specs.Prelude.{cond, Option, None, List}
 use Rattle.sf_consume.specs.Subtract.{bind_step, same_step, apart_step, cell_step, empty_step, exact_step, head_step, join_step, node_step}
+use Rattle.sf_produce.specs.Add.{add_row}
 use Rattle.sf_sym.specs.declared.tag.Tag.{Tag}
 use Rattle.sf_sym.specs.declared.tag.Tag.TheVariants as t
 use Rattle.sf_sym.specs.Goal.{Goal}
@@ -13,7 +14,6 @@ use Rattle.sf_rules.specs.Rows.Ends.{return_row, end_row}
 use Rattle.sf_normal.specs.Knowledge.{absurd_row, drop_row, force_row, split_row, unroll_row}
 use Rattle.sf_rules.specs.Rows.Front.{at_command, at_add, at_take, at_gave, at_head, at_again, at_exit, at_return, at_end}
 use Rattle.sf_rules.specs.Rows.Loops.{loop_row, around_row, again_row}
-use Rattle.sf_rules.specs.Rows.Produce.{add_row}
 use Rattle.sf_rules.specs.Rows.Regions.{enter_row, exit_row}
 use Rattle.sf_rules.specs.Rows.Take.{take_row}
 use Rattle.sf_rules.specs.Setting.{Setting}

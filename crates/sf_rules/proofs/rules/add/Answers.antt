@@ -1,5 +1,5 @@
 use Rattle.std.proofs.Common.{rules}
-use Rattle.sf_rules.specs.Internal.Subgoals.{todo_of}
+use Rattle.sf_sym.specs.Goal.{todo_of}
 use Rattle.sf_rules.proofs.Items.{add_other}
 use Rattle.sf_rules.proofs.rules.add.Goals as goal
 

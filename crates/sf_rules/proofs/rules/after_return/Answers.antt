@@ -1,7 +1,7 @@
 use Rattle.std.proofs.Common.{rules}
 use Rattle.sf_core.specs.Program.View.{assertion_of}
 use Rattle.sf_sym.specs.Pending.{pending_of}
-use Rattle.sf_rules.specs.Internal.Subgoals.{todo_of}
+use Rattle.sf_sym.specs.Goal.{todo_of}
 use Rattle.sf_rules.proofs.Items.{after_is}
 use Rattle.sf_rules.proofs.rules.after_return.Goals as goal
 

@@ -1,5 +1,5 @@
 use Rattle.std.proofs.Common.{rules}
-use Rattle.sf_rules.specs.Internal.Subgoals.{todo_of}
+use Rattle.sf_sym.specs.Goal.{todo_of}
 use Rattle.sf_rules.proofs.Items.{end_other}
 use Rattle.sf_rules.proofs.rules.end.Goals as goal
 

@@ -1,6 +1,6 @@
 use Rattle.std.proofs.Common.{rules}
 use Rattle.sf_core.specs.Program.View.{assertion_of}
-use Rattle.sf_rules.specs.Internal.Subgoals.{todo_of}
+use Rattle.sf_sym.specs.Goal.{todo_of}
 use Rattle.sf_rules.proofs.Items.{return_is, return_other}
 use Rattle.sf_rules.proofs.rules.return_from.Goals as goal
 

@@ -1,7 +1,7 @@
 use Rattle.std.proofs.Common.{rules}
 use Rattle.sf_core.specs.Program.View.{assertion_of, block_of}
 use Rattle.sf_sym.specs.Pending.{pending_of}
-use Rattle.sf_rules.specs.Internal.Subgoals.{todo_of}
+use Rattle.sf_sym.specs.Goal.{todo_of}
 use Rattle.sf_rules.proofs.Items.{first_is, run_and_return}
 use Rattle.sf_rules.proofs.start.first_items.Goals as goal
 

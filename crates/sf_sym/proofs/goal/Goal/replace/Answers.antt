@@ -1,4 +1,4 @@
-use Rattle.std.proofs.Common.{◌≡◌, ap, ◌∙◌, length, map, arith}
+use Rattle.std.proofs.Common.{ap, ◌∙◌, length, map, arith}
 use Rattle.sf_sym.specs.Equalities.{item_with, put_for}
 use Rattle.sf_sym.specs.Goal.{items_of}
 use Rattle.sf_sym.proofs.InPlace.{vec-whole}

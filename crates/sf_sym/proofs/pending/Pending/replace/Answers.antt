@@ -1,4 +1,4 @@
-use Rattle.std.proofs.Common.{◌≡◌, ap, ◌∙◌, length, map, arith}
+use Rattle.std.proofs.Common.{ap, ◌∙◌, length, map, arith}
 use Rattle.std.specs.Option.{option_map}
 use Rattle.sf_core.specs.Program.View.{conjunct_of}
 use Rattle.sf_sym.specs.Equalities.{pending_with, put_for}

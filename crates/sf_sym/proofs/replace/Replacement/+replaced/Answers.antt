@@ -1,4 +1,4 @@
-use Rattle.std.proofs.Common.{◌≡◌, ◌≢◌, ℕ, map, length, slice_set, get_or, sym, ap, ◌∙◌, arith, length-set}
+use Rattle.std.proofs.Common.{◌≢◌, map, length, sym, ap, ◌∙◌, arith, length-set}
 use Rattle.std.proofs.lemmas.List.{get_or-set_other}
 use Rattle.sf_core.specs.Program.Syntax.{level}
 use Rattle.sf_core.specs.Program.View.{conjunct_of, conjuncts}

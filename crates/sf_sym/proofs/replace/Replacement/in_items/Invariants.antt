@@ -1,4 +1,4 @@
-use Rattle.std.proofs.Common.{◌≡◌, ◌++◌, length, map, take, drop}
+use Rattle.std.proofs.Common.{◌≡◌, ◌++◌, map, take, drop}
 use Rattle.sf_sym.specs.Equalities.{item_with, put_for}
 use Rattle.sf_sym.specs.Goal.{items_of}
 use Rattle.sf_sym.proofs.replace.Replacement.in_items.Given as goal

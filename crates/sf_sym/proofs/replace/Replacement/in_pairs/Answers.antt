@@ -1,4 +1,4 @@
-use Rattle.std.proofs.Common.{ap, arith, get_or}
+use Rattle.std.proofs.Common.{arith}
 use Rattle.sf_sym.specs.Equalities.{put_for}
 use Rattle.sf_sym.specs.declared.term.Term.TheVariants.{Nil}
 use Rattle.sf_sym.proofs.InPlace.{map_next}

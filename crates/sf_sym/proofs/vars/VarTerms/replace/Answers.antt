@@ -1,4 +1,4 @@
-use Rattle.std.proofs.Common.{◌≡◌, length, map, sym, ap, ◌∙◌, subst, arith}
+use Rattle.std.proofs.Common.{length, map, sym, ap, ◌∙◌, subst, arith}
 use Rattle.sf_sym.specs.Equalities.{put_for}
 use Rattle.sf_sym.specs.Variables.{AreInOrder}
 use Rattle.sf_sym.proofs.InPlace.{vec-whole}

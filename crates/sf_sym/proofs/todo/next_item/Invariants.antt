@@ -1,6 +1,6 @@
 use Rattle.std.proofs.Common.{◌≡◌, length}
-use Rattle.sf_rules.specs.Internal.Subgoals.{todo_of}
-use Rattle.sf_rules.proofs.todo.next_item.Given as goal
+use Rattle.sf_sym.specs.Goal.{todo_of}
+use Rattle.sf_sym.proofs.todo.next_item.Given as goal
 
 abbrev pub invariant-loop-item : goal.invariant-loop-item
 invariant-loop-item l = todo_of l.fn.todo.items ≡ todo_of l.todo.items

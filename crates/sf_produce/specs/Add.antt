@@ -1,6 +1,6 @@
 -- The row of what is assumed: add.
 -- Berdine, Calcagno, O'Hearn, "Symbolic Execution with Separation Logic" (2005), section 4.
-use Rattle.std.specs.Prelude.{ℕ, zero, suc, get_or, Option, Some, None, List, [], ◌∷◌, ◌++◌}
+use Rattle.std.specs.Prelude.{ℕ, suc, get_or, Option, Some, None, List, [], ◌∷◌, ◌++◌, length, set}
 use Rattle.std.specs.Option.{option_map}
 use Rattle.sf_base.specs.declared.ids.FieldId.{FieldId}
 use Rattle.sf_base.specs.declared.place.Place.{Place}
@@ -15,8 +15,8 @@ use Rattle.sf_sym.specs.Cells.{with_cell, with_atom}
 use Rattle.sf_sym.specs.Equalities.{assumed_apart, assumed_equal}
 use Rattle.sf_sym.specs.Fields.{put_term}
 use Rattle.sf_sym.specs.Goal.{Item, Goal, adding}
+use Rattle.sf_sym.specs.Pending.{Pending}
 use Rattle.sf_sym.specs.State.{State, with_symbols}
-use Rattle.sf_sym.specs.Pending.{Pending, bind_to}
 
 -- what meeting an operand gives: its term, the state, and what existentials stand for from then on
 pub record Met : Type 0 where
@@ -30,7 +30,7 @@ met_existential s bindings n (Some t) = record { term = t; state = s; bindings =
 met_existential s bindings n None = record {
   term = Sym s.next_sym;
   state = with_symbols 1 s;
-  bindings = bind_to bindings n (Sym s.next_sym);
+  bindings = set bindings n (Some (Sym s.next_sym));
 }
 
 abbrev pub met : State → List (Option Term) → Operand Term → Met
@@ -49,6 +49,19 @@ met_fields s bindings [] made = record { fields = made; state = s; bindings = bi
 met_fields s bindings (f ∷ fs) made =
     let m = met s bindings f.1 in met_fields m.state m.bindings fs (put_term f.0 m.term made)
 
+-- what meeting two operands gives, the first known to the second
+pub record MetBoth : Type 0 where
+  pub one : Term
+  pub two : Term
+  pub state : State
+  pub bindings : List (Option Term)
+
+abbrev pub met_both : State → List (Option Term) → (x y : Operand Term) → MetBoth
+met_both s bindings x y =
+    let first = met s bindings x in
+    let second = met first.state first.bindings y in
+    record { one = first.term; two = second.term; state = second.state; bindings = second.bindings }
+
 -- the goal with that state, in which those other conjuncts are still to be assumed first
 abbrev pub goal_after : State → Place → Conjuncts Term → List (Option Term) → List Item → Goal
 goal_after s p cs bindings rest = record {
@@ -56,28 +69,33 @@ goal_after s p cs bindings rest = record {
   todo = adding p (record { conjuncts = cs; bindings = bindings }) ++ rest;
 }
 
--- add: the first conjunct is assumed, one without branches
+-- a list segment is assumed: the field along which it goes is the program's
+abbrev pub added_segment : State → Place → List (Option Term) → (x y : Operand Term) → Conjuncts Term → List Item → Goal
+added_segment s p bindings x y cs rest =
+    let m = met_both s bindings x y in
+    goal_after (with_atom (Ls m.one m.two) m.state) p cs m.bindings rest
+
+-- a tree
+abbrev pub added_tree : State → Place → List (Option Term) → (x : Operand Term) → Conjuncts Term → List Item → Goal
+added_tree s p bindings x cs rest =
+    let root = met s bindings x in
+    goal_after (with_atom (Tree root.term) root.state) p cs root.bindings rest
+
+-- one conjunct is assumed, before these others; a choice can't be before its test is decided
 abbrev pub added : State → Place → List (Option Term) → Conjunct Term → Conjuncts Term → List Item → Option Goal
 added s p bindings (holds q True) cs rest = Some (goal_after s p cs bindings rest)
 added s p bindings (holds q (Equal x y)) cs rest =
-    let one = met s bindings x in
-    let two = met one.state one.bindings y in
-    Some (assumed_equal one.term two.term (goal_after two.state p cs two.bindings rest))
+    let m = met_both s bindings x y in
+    Some (assumed_equal m.one m.two (goal_after m.state p cs m.bindings rest))
 added s p bindings (holds q (Differ x y)) cs rest =
-    let one = met s bindings x in
-    let two = met one.state one.bindings y in
-    Some (assumed_apart one.term two.term (goal_after two.state p cs two.bindings rest))
+    let m = met_both s bindings x y in
+    Some (assumed_apart m.one m.two (goal_after m.state p cs m.bindings rest))
 added s p bindings (points q x fs) cs rest =
     let root = met s bindings x in
     let m = met_fields root.state root.bindings fs [] in
     Some (goal_after (with_cell m.state root.term m.fields) p cs m.bindings rest)
-added s p bindings (segment q next x y) cs rest =
-    let one = met s bindings x in
-    let two = met one.state one.bindings y in
-    Some (goal_after (with_atom (Ls one.term two.term) two.state) p cs two.bindings rest)
-added s p bindings (tree q left right x) cs rest =
-    let root = met s bindings x in
-    Some (goal_after (with_atom (Tree root.term) root.state) p cs root.bindings rest)
+added s p bindings (segment q next x y) cs rest = Some (added_segment s p bindings x y cs rest)
+added s p bindings (tree q left right x) cs rest = Some (added_tree s p bindings x cs rest)
 added s p bindings (choose q t this that) cs rest = None
 
 -- the first conjunct is assumed
@@ -88,3 +106,8 @@ add_first s p bindings (also c cs) rest = added s p bindings c cs rest
 -- add: the first conjunct to assume is assumed
 abbrev pub add_row : State → Place → Pending → List Item → Option (List Goal)
 add_row s p given rest = option_map (λ g. g ∷ []) (add_first s p given.bindings given.conjuncts rest)
+
+-- so many symbols may be new: one for each operand
+abbrev pub operands : Conjuncts Term → ℕ
+operands (also (points q x fs) cs) = suc (length fs)
+operands _ = 2

@@ -1,6 +1,6 @@
 use Rattle.std.proofs.Common.{◌≡◌, ◌≤◌, length, take}
-use Rattle.sf_rules.specs.Internal.Subgoals.{todo_of}
-use Rattle.sf_rules.proofs.todo.peek_item.Given as goal
+use Rattle.sf_sym.specs.Goal.{todo_of}
+use Rattle.sf_sym.proofs.todo.peek_item.Given as goal
 
 abbrev pub invariant-loop-end : goal.invariant-loop-end
 invariant-loop-end l = record {

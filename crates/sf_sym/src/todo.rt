@@ -1,12 +1,13 @@
 //! The items of a goal, with the next one last. A run without commands is nothing to do.
 
 ghost use Rattle.std.specs.Prelude.{◌≡◌, ◌++◌, [], false, IfOk, IfSome, IfNone, List};
-ghost use Rattle.sf_sym.specs.Goal.{Item as Thing, add, items_of, take, unless_none};
+ghost use Rattle.sf_sym.specs.Goal.{Item as Thing, add, items_of, take, todo_of, unless_none};
 ghost use Rattle.sf_sym.specs.Pending.{pending_of};
-ghost use Rattle.sf_rules.specs.Internal.Subgoals.{is_nothing, todo_of};
+ghost use Rattle.sf_sym.specs.Internal.Items.{is_nothing};
 
+use crate::goal::Item;
+use crate::pending::Pending;
 use sf_base::{Name, Place};
-use sf_sym::{Item, Pending};
 use std::alloc::AllocError;
 
 /// Whether the item is nothing to do.
@@ -20,7 +21,7 @@ fn is_nothing(item: &Item) -> bool
 }
 
 /// Takes the next thing to do, with the empty runs before it. `None` exactly where nothing is left.
-pub(crate) fn next_item<'a>(todo: &mut Vec<Item<'a>>) -> Option<Item<'a>>
+pub fn next_item<'a>(todo: &mut Vec<Item<'a>>) -> Option<Item<'a>>
     ensures item { IfSome result
         (λ i. todo_of todo.old.items ≡ items_of i ++ todo_of todo.new.items) }
     ensures something { IfSome result (λ i. is_nothing i ≡ false) }
@@ -53,7 +54,7 @@ pub fn peek_item<'b, 'a>(todo: &'b [Item<'a>]) -> Option<&'b Item<'a>>
 }
 
 /// Puts conjuncts to assume first, if there are any. An `Err` means out of memory.
-pub(crate) fn with_add<'a>(
+pub fn with_add<'a>(
     mut todo: Vec<Item<'a>>,
     place: Place,
     given: Pending,
@@ -70,7 +71,7 @@ pub(crate) fn with_add<'a>(
 }
 
 /// Puts conjuncts to show first, if there are any. An `Err` means out of memory.
-pub(crate) fn with_take<'a>(
+pub fn with_take<'a>(
     mut todo: Vec<Item<'a>>,
     place: Place,
     want: Pending,

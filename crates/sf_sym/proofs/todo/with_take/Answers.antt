@@ -1,9 +1,9 @@
 use Rattle.std.proofs.Common.{rules, ap, ◌∙◌}
-use Rattle.sf_sym.specs.Goal.{take}
+use Rattle.sf_sym.specs.Goal.{take, todo_of}
 use Rattle.sf_sym.specs.Pending.{pending_of}
-use Rattle.sf_rules.specs.Internal.Subgoals.{todo_of}
-use Rattle.sf_rules.proofs.Items.{todo_of_push, unless_empty_before, unless_some_before}
-use Rattle.sf_rules.proofs.todo.with_take.Goals as goal
+use Rattle.sf_sym.specs.Lemmas.{todo_of_push}
+use Rattle.sf_sym.proofs.Items.{unless_empty_before, unless_some_before}
+use Rattle.sf_sym.proofs.todo.with_take.Goals as goal
 
 pub returns-then-is_empty : goal.returns-then-is_empty
 returns-then-is_empty c =

@@ -1,0 +1,11 @@
+//! Production: what is to be assumed becomes what is known. The specs/ have the row: what assuming the first
+//! conjunct leaves of a goal.
+//!
+//! - `operands`: operands that are met, and what existentials get by that.
+//! - `rows`: the row of what is assumed.
+#![tactic(auto)]
+
+mod operands;
+mod rows;
+
+pub use rows::produce;
