@@ -1,6 +1,6 @@
 //! Wanted cells, and wanted lists and trees that begin with a cell.
 
-ghost use Rattle.std.specs.Prelude.{◌≡◌, ◌+◌, ◌<◌, ◌≤◌, ◌^◌, IfNone, IfOk, IfSome, None, OnErr, Some, [], length};
+ghost use Rattle.std.specs.Prelude.{◌≡◌, ◌+◌, ◌<◌, ◌≤◌, ◌^◌, IfNone, IfOk, IfSome, None, OnErr, Some, [], is_some, length, true};
 ghost use Rattle.std.specs.Option.{option_map};
 ghost use Rattle.sf_consume.specs.Internal.Fits.{after_changes, fitting_of, want_of};
 ghost use Rattle.sf_consume.specs.Subtract.{cell_step, fitting, head_step, new_symbols, node_step, stepped};
@@ -60,6 +60,7 @@ fn fitting(
     requires { state.now.next_sym + length wanted.now < 2 ^ 32 }
     ensures fits { IfOk result (λ r. option_map (fitting_of bindings.now) r
         ≡ fitting a state.now bindings.now (root, wanted.now)) }
+    ensures there { IfOk result (λ r. IfSome r (λ x. is_some (cell_at state.now.atoms a x.0) ≡ true)) }
 {
     let Some(t) = term_of(bindings, &root) else {
         return Ok(None);

@@ -18,3 +18,4 @@ pub mod KnownValues
 pub mod FreshGoals
 pub mod VariableLists
 pub mod Items
+pub mod NumberLists

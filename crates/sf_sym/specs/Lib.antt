@@ -17,3 +17,4 @@ pub mod Variables
 pub mod Decided
 pub mod Ready
 pub mod Known
+pub mod Numbers

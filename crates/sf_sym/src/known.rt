@@ -248,40 +248,46 @@ mod tests {
         Tree(Term),
     }
 
-    fn atoms(alloc: Global, first: u32, shapes: &[Shape]) -> Result<Vec<Numbered>, AllocError> {
-        let mut all = Vec::new(alloc);
-        let mut number = first;
-        for shape in shapes {
-            let atom = match *shape {
-                Shape::Cell(t) => Atom::Points(t, FieldTerms::new(alloc)),
-                Shape::Ls(t, u) => Atom::Ls(t, u),
-                Shape::Tree(t) => Atom::Tree(t),
-            };
-            all.push(Numbered { number, atom })?;
-            number = number.wrapping_add(1);
+    /// One more atom, and its number.
+    fn add(alloc: Global, s: &mut State, shape: Shape) -> Result<u32, AllocError> {
+        let number = s.next_atom();
+        if number > 1000 {
+            return Err(AllocError);
         }
-        Ok(all)
+        s.add_atom(match shape {
+            Shape::Cell(t) => Atom::Points(t, FieldTerms::new(alloc)),
+            Shape::Ls(t, u) => Atom::Ls(t, u),
+            Shape::Tree(t) => Atom::Tree(t),
+        })?;
+        Ok(number)
     }
 
-    /// The atoms are numbered from 1, the taken atoms from 101.
+    /// The taken atoms have the first numbers.
     fn state(
         alloc: Global,
         apart: &[(Term, Term)],
         kept: &[Shape],
         taken: &[Shape],
     ) -> Result<State, AllocError> {
-        let mut pairs = Vec::new(alloc);
-        for pair in apart {
-            pairs.push(*pair)?;
-        }
         let links = Links {
             tl: Some(FieldId(0)),
             l: Some(FieldId(1)),
             r: Some(FieldId(2)),
         };
-        let atoms_now = atoms(alloc, 1, kept)?;
-        let taken_now = atoms(alloc, 101, taken)?;
-        Ok(State::from_parts(alloc, links, pairs, atoms_now, taken_now))
+        let mut s = State::new(alloc, links, Vec::new(alloc), 2);
+        for pair in apart {
+            s.assume_apart(pair.0, pair.1)?;
+        }
+        for shape in taken {
+            let number = add(alloc, &mut s, *shape)?;
+            if s.atom(number).is_some() {
+                s.hand_over_atom(number)?;
+            }
+        }
+        for shape in kept {
+            add(alloc, &mut s, *shape)?;
+        }
+        Ok(s)
     }
 
     /// A state, and whether there X and Y differ, X and nil do, X is allocated, and it can't be.
@@ -346,9 +352,9 @@ mod tests {
     #[test]
     fn an_atom_that_is_left_out_allocates_nothing(rt: HostRuntime) -> Result<(), AllocError> {
         let s = state(rt.alloc(), &[], &[Cell(X)], &[Cell(Y)])?;
-        assert!(rt; s.allocated(X, Some(101)));
-        assert!(rt; !s.allocated(X, Some(1)));
-        assert!(rt; !s.allocated(Y, Some(101)));
+        assert!(rt; s.allocated(X, Some(1)));
+        assert!(rt; !s.allocated(X, Some(2)));
+        assert!(rt; !s.allocated(Y, Some(1)));
         assert!(rt; s.differs(NIL, FIVE));
         assert!(rt; !s.differs(FIVE, FIVE));
         Ok(())

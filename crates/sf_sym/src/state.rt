@@ -1,9 +1,9 @@
 //! States: what is known at one point of a procedure, and the primitive changes of it.
 
-ghost use Rattle.std.specs.Prelude.{◌≡◌, ◌<◌, ◌≤◌, ◌^◌, ◌+◌, true, [], length, is_some, Some, List, IfSome, IfNone, IfOk, OnErr, OnOk};
+ghost use Rattle.std.specs.Prelude.{◌≡◌, ◌<◌, ◌≤◌, ◌^◌, ◌+◌, ◌++◌, true, [], length, vec_capacity, vec_len, is_some, Some, List, IfSome, IfNone, IfOk, OnErr, OnOk};
 ghost use Rattle.std.specs.Option.{option_map};
 ghost use Rattle.sf_base.specs.declared.ids.FieldId.{FieldId as FieldNumber};
-ghost use Rattle.sf_sym.specs.Cells.{after_hand_over, atom_at, cell_at, fields_at, handed, state_after_write, with_atom, with_cell, without};
+ghost use Rattle.sf_sym.specs.Cells.{after_hand_over, apart_from_nil, atom_at, cell_at, fields_at, handed, state_after_write, with_atom, with_cell, without};
 ghost use Rattle.sf_sym.specs.Equalities.{put_for, state_with, with_pair};
 ghost use Rattle.sf_sym.specs.Internal.Indices.{index_from};
 ghost use Rattle.sf_sym.specs.State.{first_state, term_at, with_symbols};
@@ -39,6 +39,10 @@ impl Model for State {
     ghost use Rattle.sf_sym.specs.State.{State as Known, state_of};
 
     ghost Value = { Known };
+
+    ghost use Rattle.sf_sym.specs.Numbers.{AreNumbered, numbers};
+
+    ghost invariant = { λ s. AreNumbered (numbers s.atoms.items) (numbers s.taken.items) s.next_atom };
 
     ghost view = { λ s. state_of s.links s.vars s.apart.items s.atoms.items s.taken.items s.next_sym
         s.next_atom };
@@ -243,9 +247,7 @@ impl State {
     {
         self.apart.reserve(1)?;
         self.atoms.reserve(1)?;
-        if let Term::Sym(_) = root {
-            self.apart.push_reserved((root, Term::Nil));
-        }
+        put_apart_from_nil(&mut self.apart, root);
         self.atoms.push_reserved(Numbered {
             number: self.next_atom,
             atom: Atom::Points(root, fields),
@@ -328,6 +330,7 @@ impl State {
         fields: FieldTerms,
         next_sym: u32,
     ) -> Result<(), AllocError>
+        requires { is_some (cell_at self.old.atoms a root) ≡ true }
         ensures ok { OnOk result (self.new
             ≡ after_hand_over (record self.old { next_sym = next_sym }) root fields a) }
         ensures err { OnErr result (self.new ≡ self.old) }
@@ -371,6 +374,16 @@ fn take_out(atoms: &mut Vec<Numbered>, a: u32) -> Option<Atom>
     Some(atom)
 }
 
+/// One more pair, if the term is a symbol: it differs from nil. There is room for the pair.
+fn put_apart_from_nil(apart: &mut Vec<(Term, Term)>, t: Term)
+    requires { vec_len apart.old < vec_capacity apart.old }
+    ensures { apart.new.items ≡ apart.old.items ++ apart_from_nil t }
+{
+    if let Term::Sym(_) = t {
+        apart.push_reserved((t, Term::Nil));
+    }
+}
+
 /// The index of the first atom of that number.
 fn index_of(atoms: &[Numbered], a: u32) -> Option<usize>
     ensures place { result ≡ index_from 0 atoms.now a }
@@ -386,26 +399,4 @@ fn index_of(atoms: &[Numbered], a: u32) -> Option<usize>
         left = rest;
     }
     None
-}
-
-#[cfg(test)]
-impl State {
-    /// A state of these parts, with no variables.
-    pub(crate) fn from_parts(
-        alloc: Global,
-        links: Links,
-        apart: Vec<(Term, Term)>,
-        atoms: Vec<Numbered>,
-        taken: Vec<Numbered>,
-    ) -> State {
-        State {
-            links,
-            vars: VarTerms::from_vec(Vec::new(alloc)),
-            apart,
-            atoms,
-            taken,
-            next_sym: 2,
-            next_atom: 201,
-        }
-    }
 }

@@ -3,7 +3,8 @@ use Rattle.sf_base.specs.declared.ids.FieldId.{FieldId}
 use Rattle.sf_sym.specs.Cells.{cell_at, after_hand_over}
 use Rattle.sf_sym.specs.State.{state_of}
 use Rattle.sf_sym.specs.declared.term.Term.{Term}
-use Rattle.sf_sym.proofs.Indices.{none_is_no_cell, handed_over_at}
+use Rattle.sf_sym.proofs.Indices.{none_is_no_cell, handed_over_at, is_at}
+use Rattle.sf_sym.proofs.NumberLists.{numbered-hand_over}
 use Rattle.sf_sym.proofs.state.State.hand_over.Goals as goal
 
 pub unreachable-requires : goal.unreachable-requires
@@ -21,3 +22,11 @@ returns-clause-ok c =
     c.self.inside.atoms.items c.self.inside.taken.items c.self.inside.next_sym c.self.inside.next_atom)
     c.args.a c.in-Some.i c.remove-atom.result c.args.root c.push_reserved.new.self.items
     c.remove-atom.new.self.items (search rules) (search rules) (search rules) (search rules))
+
+pub invariant_of-self-2 : goal.invariant_of-self-2
+invariant_of-self-2 c =
+    let inside = c.self.inside in
+    let at = is_at c.args.a c.in-Some.i inside.atoms.items (search rules) in
+    numbered-hand_over inside.atoms.items inside.taken.items c.remove-atom.new.self.items inside.next_atom
+    c.self.invariant c.push_reserved.new.self.items c.in-Some.i c.remove-atom.result at.within
+    (search rules) (search rules) (search rules)

@@ -1,9 +1,10 @@
-use Rattle.std.proofs.Common.{◌≡◌, Some, None, rules, ap, subst}
+use Rattle.std.proofs.Common.{◌≡◌, Some, None, rules, refl, ap, subst}
 use Rattle.std.specs.Vec.{with_item}
 use Rattle.sf_sym.specs.Cells.{fields_at, state_after_write}
 use Rattle.sf_sym.specs.State.{state_of}
 use Rattle.sf_sym.specs.declared.atom.Atom.TheVariants.{Points}
 use Rattle.sf_sym.proofs.Indices.{none_is_no_cell, not_a_cell, written_at}
+use Rattle.sf_sym.proofs.NumberLists.{numbered-set}
 use Rattle.sf_sym.proofs.state.State.write_field.Goals as goal
 
 pub unreachable-requires : goal.unreachable-requires
@@ -37,3 +38,11 @@ returns-clause-ok c =
     c.args.a c.in-Some.i c.index_mut.result.now c.args.root c.args.f c.args.u c.in-Points.field-0
     c.in-Points.fields c.put.new.self (search rules) (search rules) c.in-Points.is (search rules)
     (search rules))
+
+pub invariant_of-self-2 : goal.invariant_of-self-2
+invariant_of-self-2 c =
+    let inside = c.self.inside in
+    numbered-set inside.atoms.items inside.taken.items inside.atoms.items inside.next_atom c.self.invariant
+    c.in-Some.i c.index_mut.result.now
+    (record { number = c.index_mut.result.now.number; atom = Points c.in-Points.field-0 c.put.new.self })
+    (search rules) refl
