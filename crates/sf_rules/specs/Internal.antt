@@ -1,2 +1,3 @@
 pub mod Subgoals
 pub mod Cells
+pub mod Front

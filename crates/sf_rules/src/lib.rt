@@ -2,6 +2,8 @@
 //!
 //! - `terms`: expressions and assertions with the terms that the variables have now.
 //! - `cells`: cells of a state: whether one is as wanted, writing its fields, and handing it over.
+//! - `front`: what is in front of what there is to do.
+//! - `commands`: the rows of commands that touch a variable or a cell.
 //! - `start`: the first goal of a procedure.
 //! - `rules`: the rows of the table.
 //! - `laws`: these rows are rows of the whole table; what the rows of commands keep.
@@ -9,7 +11,9 @@
 #![tactic(auto)]
 
 mod cells;
+mod commands;
 pub mod examples;
+mod front;
 pub mod laws;
 mod rules;
 mod start;

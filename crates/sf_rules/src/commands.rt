@@ -1,0 +1,158 @@
+//! Rows of commands that touch a variable or a cell: assign, look, mutate, new, dispose.
+
+ghost use Rattle.std.specs.Prelude.{◌≡◌, IfOk, IsTrue};
+ghost use Rattle.std.specs.Option.{option_and_then, option_map};
+ghost use Rattle.sf_rules.specs.Internal.Subgoals.{goals_of};
+ghost use Rattle.sf_rules.specs.Rows.Commands.{assign_row, dispose_row, look_row, looked, mutate_row, new_row};
+ghost use Rattle.sf_rules.specs.Rows.Front.{at_command};
+ghost use Rattle.sf_rules.specs.Table.{has_numbers};
+ghost use Rattle.sf_sym.specs.Cells.{cell_at};
+ghost use Rattle.sf_sym.specs.Fields.{field_term};
+ghost use Rattle.sf_sym.specs.Goal.{one_goal, todo_of};
+
+use crate::front::take_command;
+use crate::rules::Subgoals;
+use crate::terms::term_of;
+use sf_base::{FieldId, Var};
+use sf_core::Command;
+use sf_sym::{FieldTerms, Goal, Term, field_term};
+use std::alloc::{AllocError, Global};
+
+/// assign: the variable has the expression's term.
+pub(crate) fn assign<'a>(mut goal: Goal<'a>) -> Result<Option<Subgoals<'a>>, AllocError>
+    ensures { IfOk result (λ left. option_map goals_of left
+        ≡ at_command (assign_row goal.entry.state) (todo_of goal.entry.todo.items)) }
+{
+    let Some(c) = take_command(&mut goal.todo)? else {
+        return Ok(None);
+    };
+    match c {
+        Command::Assign(_, x, e) => {
+            let t = term_of(goal.state.vars(), e);
+            goal.state.set_var(x.var, t)?;
+            Ok(Some(Subgoals::One(goal)))
+        }
+        Command::LookUp(..) | Command::Mutate(..) | Command::New(..) => Ok(None),
+        Command::Dispose(..) | Command::If(..) | Command::While(..) => Ok(None),
+        Command::Call(..) | Command::Fork(..) | Command::With(..) => Ok(None),
+    }
+}
+
+/// look: the variable has the term of the cell's field.
+pub(crate) fn look<'a>(mut goal: Goal<'a>, a: u32) -> Result<Option<Subgoals<'a>>, AllocError>
+    requires { IsTrue (has_numbers goal.state) }
+    ensures { IfOk result (λ left. option_map goals_of left
+        ≡ at_command (look_row a goal.entry.state) (todo_of goal.entry.todo.items)) }
+{
+    let Some(c) = take_command(&mut goal.todo)? else {
+        return Ok(None);
+    };
+    match c {
+        Command::LookUp(_, x, e, f) => {
+            let root = term_of(goal.state.vars(), e);
+            look_up(goal, a, root, *f, x.var)
+        },
+        Command::Assign(..) | Command::Mutate(..) | Command::New(..) => Ok(None),
+        Command::Dispose(..) | Command::If(..) | Command::While(..) => Ok(None),
+        Command::Call(..) | Command::Fork(..) | Command::With(..) => Ok(None),
+    }
+}
+
+/// The variable has the term of that field of the cell of that number at the root, which is a fresh symbol where it
+/// isn't known. `None` exactly where there is no such cell.
+fn look_up<'a>(
+    mut goal: Goal<'a>,
+    a: u32,
+    root: Term,
+    f: FieldId,
+    x: Var,
+) -> Result<Option<Subgoals<'a>>, AllocError>
+    requires { IsTrue (has_numbers goal.state) }
+    ensures { IfOk result (λ left. option_map goals_of left ≡ option_and_then
+        (λ fields. option_and_then (λ after. one_goal after (todo_of goal.entry.todo.items))
+        (looked goal.entry.state root f a x (field_term fields f)))
+        (cell_at goal.entry.state.atoms a root)) }
+{
+    let Some(fields) = goal.state.cell(a, root) else {
+        return Ok(None);
+    };
+    let t = match field_term(fields, f) {
+        Some(t) => t,
+        None => {
+            let t = goal.state.fresh_symbol();
+            goal.state.write_field(a, root, f, t)?;
+            t
+        }
+    };
+    goal.state.set_var(x, t)?;
+    Ok(Some(Subgoals::One(goal)))
+}
+
+/// mutate: the cell's field has the expression's term.
+pub(crate) fn mutate<'a>(mut goal: Goal<'a>, a: u32) -> Result<Option<Subgoals<'a>>, AllocError>
+    ensures { IfOk result (λ left. option_map goals_of left
+        ≡ at_command (mutate_row a goal.entry.state) (todo_of goal.entry.todo.items)) }
+{
+    let Some(c) = take_command(&mut goal.todo)? else {
+        return Ok(None);
+    };
+    match c {
+        Command::Mutate(_, e, f, v) => {
+            let root = term_of(goal.state.vars(), e);
+            let u = term_of(goal.state.vars(), v);
+            if goal.state.cell(a, root).is_none() {
+                return Ok(None);
+            }
+            goal.state.write_field(a, root, *f, u)?;
+            Ok(Some(Subgoals::One(goal)))
+        }
+        Command::Assign(..) | Command::LookUp(..) | Command::New(..) => Ok(None),
+        Command::Dispose(..) | Command::If(..) | Command::While(..) => Ok(None),
+        Command::Call(..) | Command::Fork(..) | Command::With(..) => Ok(None),
+    }
+}
+
+/// new: the variable has a fresh symbol, and there is a cell of which no field is known.
+pub(crate) fn new<'a>(alloc: Global, mut goal: Goal<'a>) -> Result<Option<Subgoals<'a>>, AllocError>
+    requires { IsTrue (has_numbers goal.state) }
+    ensures { IfOk result (λ left. option_map goals_of left
+        ≡ at_command (new_row goal.entry.state) (todo_of goal.entry.todo.items)) }
+{
+    let Some(c) = take_command(&mut goal.todo)? else {
+        return Ok(None);
+    };
+    match c {
+        Command::New(_, x) => {
+            let t = goal.state.fresh_symbol();
+            goal.state.set_var(x.var, t)?;
+            goal.state.add_cell(t, FieldTerms::new(alloc))?;
+            Ok(Some(Subgoals::One(goal)))
+        }
+        Command::Assign(..) | Command::LookUp(..) | Command::Mutate(..) => Ok(None),
+        Command::Dispose(..) | Command::If(..) | Command::While(..) => Ok(None),
+        Command::Call(..) | Command::Fork(..) | Command::With(..) => Ok(None),
+    }
+}
+
+/// dispose: the cell goes.
+pub(crate) fn dispose<'a>(mut goal: Goal<'a>, a: u32) -> Result<Option<Subgoals<'a>>, AllocError>
+    ensures { IfOk result (λ left. option_map goals_of left
+        ≡ at_command (dispose_row a goal.entry.state) (todo_of goal.entry.todo.items)) }
+{
+    let Some(c) = take_command(&mut goal.todo)? else {
+        return Ok(None);
+    };
+    match c {
+        Command::Dispose(_, e) => {
+            let root = term_of(goal.state.vars(), e);
+            if goal.state.cell(a, root).is_none() {
+                return Ok(None);
+            }
+            goal.state.remove_atom(a);
+            Ok(Some(Subgoals::One(goal)))
+        }
+        Command::Assign(..) | Command::LookUp(..) | Command::Mutate(..) => Ok(None),
+        Command::New(..) | Command::If(..) | Command::While(..) => Ok(None),
+        Command::Call(..) | Command::Fork(..) | Command::With(..) => Ok(None),
+    }
+}
