@@ -1,5 +1,5 @@
 -- Each test decides its relation.
-use Rattle.std.proofs.Common.{◌≡◌, ◌↔◌, ℕ, ◌==◌, ◌||◌, List, [], ◌∷◌, Option, Some, None, Contains, refl, subst}
+use Rattle.std.proofs.Common.{◌≡◌, ◌↔◌, ℕ, ◌==◌, List, [], ◌∷◌, Option, Some, None, Contains, refl, subst}
 use Rattle.std.specs.Bool.{Decides}
 use Rattle.std.proofs.lemmas.Bool.Decides.{Decides-or, Decides-not}
 use Rattle.sf_base.proofs.Bools.{decides-false}

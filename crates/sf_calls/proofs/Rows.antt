@@ -18,10 +18,12 @@ use Rattle.sf_base.specs.declared.ids.ResId.{ResId}
 use Rattle.sf_base.specs.declared.ids.Var.{Var}
 use Rattle.sf_base.specs.declared.ids.Var.TheVariants.{Own, Shared}
 use Rattle.sf_core.specs.declared.program.Proc.{Proc}
+use Rattle.sf_core.specs.declared.program.Program.{Program as CodeProgram}
 use Rattle.sf_core.specs.Machine.HeldBy.{HeldBy}
 use Rattle.sf_core.specs.Assertions.Occurs.{VarOccursIn}
 use Rattle.sf_core.specs.Program.Syntax.{Procedure, Program}
-use Rattle.sf_core.specs.Program.View.{procedure_of}
+use Rattle.sf_core.specs.Program.ProgramView.{program_of}
+use Rattle.sf_core.specs.Program.View.{procedure_of, resource_of}
 use Rattle.sf_calls.specs.declared.summary.Summary.{Summary}
 use Rattle.sf_calls.specs.Conditions.{Calls, Enters, Mentions, IsShared}
 use Rattle.sf_calls.specs.Reaches.{Reaches, directly, through}
@@ -29,7 +31,7 @@ use Rattle.sf_calls.specs.Internal.Visited.{IsVisited, IsCaller, AreCallers, IsR
 use Rattle.sf_calls.specs.Internal.Summaries.{IsSummaryOf, AreSummaries, speaks_of, has}
 use Rattle.sf_calls.specs.Internal.Listed.{is_entered}
 use Rattle.sf_calls.specs.Outside.{EntersIn, OccursOutside}
-use Rattle.sf_calls.specs.Sets.{IsEarlier, IsSetOf, IsFamily}
+use Rattle.sf_calls.specs.Sets.{IsEarlier, IsEarlierResource, IsSetOf, IsResSet, IsFamily}
 use Rattle.sf_base.specs.Variables.{same_var}
 use Rattle.sf_base.proofs.Variables.{resource-decides, same_var-decides}
 use Rattle.sf_calls.proofs.Decided.{entered_is}
@@ -284,7 +286,7 @@ family_of {A} B n m P S Q keys rows sets s z apart both e each = record {
 }
 
 -- rows are as many as their keys, and as long as there are procedures
-pub rows_fit : {A : Type 0} (n : ℕ) (P : ProcId → A → Type 0) (keys : List A)
+rows_fit : {A : Type 0} (n : ℕ) (P : ProcId → A → Type 0) (keys : List A)
     (rows : List (Vec Bool Global))
     → AreRows n P keys rows → (length rows ≡ length keys) × All (λ row. n ≤ length row.items) rows
 rows_fit n P [] [] z = (refl, All-nil (λ (row : Vec Bool Global). n ≤ length row.items))
@@ -296,6 +298,29 @@ rows_fit n P (k ∷ ks) (row ∷ rows) z =
       All-cons (λ (r : Vec Bool Global). n ≤ length r.items) row rows
           (let e = z.0.size in omega (arith, e)) rest.1,
     )
+
+-- the same of rows as they are read, and of a count of procedures
+pub rows_read : {A : Type 0} (n m : ℕ) (P : ProcId → A → Type 0) (keys : List A)
+    (rows read : List (Vec Bool Global))
+    → AreRows n P keys rows → read ≡ rows → m ≡ n
+    → (length read ≡ length keys) × All (λ row. m ≤ length row.items) read
+rows_read n m P keys rows read z e size =
+    let fit = rows_fit n P keys rows z in (ap length e ∙ fit.0, rw (e, size) fit.1)
+
+-- a set of resources for each procedure, where only resources of the program are had
+pub resource_sets : (p : CodeProgram) (P : ProcId → ResId → Type 0)
+    → ((f : ProcId) (r : ResId) → P f r → r.0 < length (program_of p).resources)
+    → (keys : List ResId) (rows read : List (Vec Bool Global)) (count : ℕ)
+    → IsSetOf IsEarlierResource (λ r. r.0 < length p.resources.items) keys
+    → AreRows (length p.procedures.items) P keys rows → read ≡ rows → count ≡ length p.procedures.items
+    → (sets : List (List ResId)) → length sets ≡ count
+    → ((f : ℕ) (rs : List ResId) → slice_get sets f ≡ Some rs → rs ≡ chosen f keys read)
+    → IsFamily IsResSet P (length (program_of p).procedures) sets
+resource_sets p P within keys rows read count s z e all sets size each =
+    family_of IsEarlierResource (length p.procedures.items) (length (program_of p).procedures) P P
+    (λ (r : ResId). r.0 < length p.resources.items) keys read sets s (rw e z)
+    (λ f r h. (rw (← length-map p.resources.items resource_of) (within f r h), h)) (λ f r q h. h)
+    (size ∙ all ∙ sym (length-map p.procedures.items procedure_of)) each
 
 -- the row of one more key
 pub rows_more : {A : Type 0} (n : ℕ) (P : ProcId → A → Type 0) (keys : List A) (i : ℕ) (d : A)

@@ -6,7 +6,7 @@ ghost use Rattle.sf_core.specs.Program.ProgramView.{program_of};
 ghost use Rattle.sf_calls.specs.Internal.Visited.{IsCaller, AreCallers};
 ghost use Rattle.sf_calls.specs.Internal.Summaries.{AreSummaries, has_calls_inside, left_out_has_calls_inside};
 
-use crate::outside::add_callees;
+use crate::outside::callees_in;
 use crate::shared::is_entered;
 use crate::summary::Summary;
 use sf_base::{ProcId, ResId};
@@ -25,8 +25,7 @@ pub fn callers_of(
     let mut callers = no_callers(alloc, p.procedures.len())?;
     for (i, procedure) in p.procedures.iter().enumerate() {
         let body = sites(alloc, &procedure.body)?;
-        let mut callees = Vec::new(alloc);
-        add_callees(but, &body, &mut callees)?;
+        let callees = callees_in(alloc, but, &body)?;
         add_caller(ProcId(i as u32), &callees, &mut callers)?;
     }
     Ok(callers)

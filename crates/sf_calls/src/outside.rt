@@ -1,6 +1,6 @@
 //! The calls that occur in commands outside the regions of a resource.
 
-ghost use Rattle.std.specs.Prelude.{◌≡◌, map};
+ghost use Rattle.std.specs.Prelude.{◌≡◌, map, IfOk};
 ghost use Rattle.sf_base.specs.Results.{Appends};
 ghost use Rattle.sf_core.specs.Program.Sites.{site_of};
 ghost use Rattle.sf_core.specs.Program.View.{command_of};
@@ -10,7 +10,7 @@ ghost use Rattle.sf_calls.specs.Internal.Tests.{is_outside, callees_in, callees_
 use crate::shared::is_entered;
 use sf_base::{ProcId, ResId, Var};
 use sf_core::{Command, Site};
-use std::alloc::AllocError;
+use std::alloc::{AllocError, Global};
 
 /// The resource whose variable it is.
 pub fn owner(x: Var) -> Option<ResId>
@@ -32,22 +32,22 @@ fn is_outside(but: Option<ResId>, entered: &[ResId]) -> bool
     }
 }
 
-/// Appends the procedures that are called at those sites outside the regions of the resource that is
-/// left out, in text order. An `Err` means that memory ran out.
-pub fn add_callees(
+/// The procedures that are called at those sites outside the regions of the resource that is left
+/// out, in text order. An `Err` means that memory ran out.
+pub fn callees_in(
+    alloc: Global,
     but: Option<ResId>,
     sites: &[Site],
-    callees: &mut Vec<ProcId>,
-) -> Result<(), AllocError>
-    ensures { Appends result callees.old.items callees.new.items
-        (callees_in but (map site_of sites.now)) }
+) -> Result<Vec<ProcId>, AllocError>
+    ensures { IfOk result (λ callees. callees.items ≡ callees_in but (map site_of sites.now)) }
 {
+    let mut callees = Vec::new(alloc);
     for s in sites {
         if is_outside(but, &s.entered) {
-            add_callees_of(s.command, callees)?;
+            add_callees_of(s.command, &mut callees)?;
         }
     }
-    Ok(())
+    Ok(callees)
 }
 
 /// Appends those that the command itself calls.

@@ -19,3 +19,4 @@ pub mod Closing
 pub mod Exactly
 pub mod Annotated
 pub mod Starts
+pub mod Stored

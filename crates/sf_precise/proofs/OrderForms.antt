@@ -1,8 +1,8 @@
 -- An assertion in order is well-formed where the assertion is: its scopes are the same ones, in another order.
 -- Names: `LEVEL-rest` of scopes that come after, `leaves-LAW` of a list without one conjunct; `order-LAW`,
 -- `within-LAW`, `inside-LAW`, `level-LAW` of conjuncts, of one conjunct, of a branch, and of a whole level.
-use Rattle.std.specs.Prelude.{◌≡◌, ◌≤◌, ℕ, suc, ◌+◌, Bool, max, min, nat_lt, List, [], ◌∷◌, ◌++◌, length, IsPermutation}
-use Rattle.std.specs.List.{All, IsDistinct, sum_by}
+use Rattle.std.specs.Prelude.{◌≡◌, ◌≤◌, ℕ, suc, ◌+◌, Bool, max, nat_lt, List, [], ◌∷◌, ◌++◌, length, IsPermutation}
+use Rattle.std.specs.List.{All}
 use Rattle.std.proofs.Common.{sym, ap, ap₂, ◌∙◌, refl, subst, subst₂, inl, inr, append_assoc, arith}
 use Rattle.std.proofs.Math.Nat.{max_comm, min_comm}
 use Rattle.std.proofs.lemmas.List.Sorted.{All-permutation, IsPermutation-append, IsPermutation-append_comm, IsPermutation-append_left, IsPermutation-append_right, IsPermutation-cons, IsPermutation-refl, IsPermutation-trans, sum_by-IsPermutation}
@@ -14,7 +14,7 @@ use Rattle.sf_core.specs.Assertions.Determined.{Leaves, known_after, known_insid
 use Rattle.sf_core.specs.Assertions.Scopes.{overlap}
 use Rattle.sf_core.specs.Program.Formed.{AssertionWithin, ConjunctWithin, ConjunctsWithin, LevelWithin, conjunct_depth, conjunct_scopes, conjuncts_depth, conjuncts_scopes, level_depth, level_scopes}
 use Rattle.sf_core.specs.Program.Syntax.{Assertion, Conjunct, holds, points, segment, tree, choose, Level, level, Conjuncts, none, also}
-use Rattle.sf_precise.specs.Order.{IsOrder, IsOrderFrom, IsOrderInside, IsOrderOf, IsOrderWithin}
+use Rattle.sf_precise.specs.Order.{IsOrder, IsOrderFrom, IsOrderInside, IsOrderWithin}
 use Rattle.sf_precise.proofs.Agree.{first-leaves}
 
 -- of three lists the first two change places

@@ -3,7 +3,7 @@ use Rattle.std.proofs.Common.{◌≡◌, ◌⊎◌, ◌∙◌, false, refl, sym,
 use Rattle.sf_base.specs.declared.place.Place.{Place}
 use Rattle.sf_core.specs.Assertions.Determined.{Determined}
 use Rattle.sf_core.specs.Program.Syntax.{Assertion}
-use Rattle.sf_precise.specs.Laws.{IsOrdering, OrderingExists}
+use Rattle.sf_precise.specs.Laws.{OrderingExists}
 use Rattle.sf_precise.specs.Order.{IsOrderOf}
 use Rattle.sf_precise.specs.Taken.{NeverTakenAt}
 use Rattle.sf_precise.proofs.Branches.{never-undetermined, ordered-determined}

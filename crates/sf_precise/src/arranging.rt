@@ -60,30 +60,8 @@ struct Found {
     starts: Vec<usize>,
 }
 
-/// The program's annotations in order, or the first place at which a conjunct is never taken.
-fn order_annotations(alloc: Global, p: &Program) -> Result<Found, OrderFault>
-    ensures orders { IfOk result (λ found.
-        AreOrdersOf (annotations_in (program_of p.now))
-        (map (λ o. assertion_of o.assertion) found.orders.items)) }
-    ensures starts { IfOk result (λ found. found.starts.items
-        ≡ starts_from (length p.now.resources.items) (map procedure_of p.now.procedures.items)) }
-    ensures undetermined { IfErr result
-        (λ e. IfUndetermined e
-        (λ q. IsFirstPlace (NeverTakenIn (annotations_in (program_of p.now))) (Some q))) }
-    ensures only_arranged { (orders : List s.Assertion)
-        → AreOrdersOf (annotations_in (program_of p.now)) orders
-        → MatchResult result
-        (λ found. map (λ o. assertion_of o.assertion) found.orders.items ≡ orders)
-        (λ e. e ≡ OutOfMemory) }
-    ensures only_undetermined { (q : Place)
-        → IsFirstPlace (NeverTakenIn (annotations_in (program_of p.now))) (Some q)
-        → MatchResult result (λ _. ⊥) (λ e. (e ≡ Undetermined q) ⊎ (e ≡ OutOfMemory)) }
-{
-    find_orders(alloc, p)
-}
-
 /// The orders of the program's annotations, or the first place at which a conjunct is never taken.
-fn find_orders(alloc: Global, p: &Program) -> Result<Found, OrderFault>
+fn order_annotations(alloc: Global, p: &Program) -> Result<Found, OrderFault>
     ensures orders { IfOk result (λ found.
         AreOrdersOf (annotations_in (program_of p.now))
         (map (λ o. assertion_of o.assertion) found.orders.items)) }

@@ -1,4 +1,4 @@
-use Rattle.std.proofs.Common.{◌≡◌, ◌∙◌, slice_get, length, sym, ap, rules}
+use Rattle.std.proofs.Common.{◌≡◌, ◌∙◌, slice_get, length, sym, rules}
 use Rattle.std.proofs.lemmas.List.{length-map}
 use Rattle.sf_base.proofs.Results.{ok-both}
 use Rattle.sf_core.specs.Program.Formed.{variable_count}
@@ -9,17 +9,14 @@ use Rattle.sf_calls.specs.Internal.Visited.{AreRows}
 use Rattle.sf_calls.specs.Internal.Gathers.{IsUpTo}
 use Rattle.sf_calls.specs.Sets.{IsEarlier}
 use Rattle.sf_calls.proofs.Least.{free_apart, free_both}
-use Rattle.sf_calls.proofs.Rows.{family_of, rows_fit}
+use Rattle.sf_calls.proofs.Rows.{family_of, rows_read}
 use Rattle.sf_calls.proofs.InOrder.{all_shared}
 use Rattle.sf_calls.proofs.reaching.free_sets.Goals as goal
 
 pub sets-requires : goal.sets-requires
 sets-requires c =
-    let fit = rows_fit (length c.args.p.now.procedures.items)
-    (FreeIn (program_of c.args.p.now)) c.args.variables.now c.in_ok-rows.rows.items
-    c.in_ok-rows.ensures in
-    let count : c.len.result ≡ length c.args.p.now.procedures.items = search rules in
-    record { same = ap length c.deref.ensures.value ∙ fit.0; long = rw (c.deref.ensures.value, count) fit.1 }
+    let fit = rows_read _ _ _ _ _ _ c.in_ok-rows.ensures c.deref.ensures.value (search rules) in
+    record { same = fit.0; long = fit.1 }
 
 pub returns : goal.returns
 returns c =

@@ -1,16 +1,8 @@
-use Rattle.std.proofs.Common.{map}
-use Rattle.sf_core.specs.Program.View.{assertion_of}
-use Rattle.sf_core.specs.Program.ProgramView.{program_of}
-use Rattle.sf_precise.specs.Annotations.{annotations_in}
-use Rattle.sf_precise.proofs.Exactly.{only-arranged, only-stuck}
+use Rattle.std.proofs.lemmas.Result.{err_from_is_err_and}
 use Rattle.sf_precise.proofs.arranging.order_annotations.Goals as goal
 
-pub returns-clause-only_arranged : goal.returns-clause-only_arranged
-returns-clause-only_arranged c =
-    only-arranged (annotations_in (program_of c.args.p.now)) (λ v. map (λ o. assertion_of o.assertion) v.orders.items)
-    c.find_orders.result c.find_orders.ensures.orders c.find_orders.ensures.undetermined
-
-pub returns-clause-only_undetermined : goal.returns-clause-only_undetermined
-returns-clause-only_undetermined c =
-    only-stuck (annotations_in (program_of c.args.p.now)) (λ v. map (λ o. assertion_of o.assertion) v.orders.items)
-    c.find_orders.result c.find_orders.ensures.orders c.find_orders.ensures.undetermined
+pub returns-in_err-orders-clause-undetermined : goal.returns-in_err-orders-clause-undetermined
+returns-in_err-orders-clause-undetermined c =
+    let p = err_from_is_err_and c.from_residual-in_err-orders.result c.from_residual-in_err-orders.ensures.1 in
+    rw (p.1, p.2)
+    (rw (c.deref.ensures.value, c.in_ok-notes.ensures.assertions) at c.in_err-orders.ensures.undetermined)

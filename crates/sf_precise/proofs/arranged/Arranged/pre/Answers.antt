@@ -1,56 +1,19 @@
-use Rattle.std.proofs.Common.{◌≡◌, ◌∙◌, ◌<◌, ◌+◌, length, get_or, map, vec_len, ap, arith, rules}
-use Rattle.std.proofs.lemmas.List.{get_or_read, length-map}
-use Rattle.sf_core.specs.Program.View.{assertion_of, procedure_of, resource_of}
-use Rattle.sf_core.specs.Program.ProgramView.{program_of}
-use Rattle.sf_precise.specs.Annotations.{annotations_in}
-use Rattle.sf_precise.proofs.Starts.{length-starts, order-there, order-within, pre-at}
+use Rattle.std.proofs.Common.{arith}
+use Rattle.sf_precise.proofs.Stored.{pre-there, pre-within, start-more}
 use Rattle.sf_precise.proofs.arranged.Arranged.pre.Goals as goal
 
 pub index-requires : goal.index-requires
-index-requires c =
-    let s = c.args.self.now in
-    omega (
-      arith,
-      c.requires,
-      ap length s.started,
-      length-starts (length s.program.resources.items) (map procedure_of s.program.procedures.items),
-      length-map s.program.procedures.items procedure_of,
-    )
+index-requires c = let more = start-more c.args.self.now c.args.f.0 c.requires in omega (arith, more)
 
 pub index-requires-2 : goal.index-requires-2
 index-requires-2 c =
     let s = c.args.self.now in
-    let below : c.args.f.0 < length s.starts.items = omega (
-      arith,
-      c.requires,
-      ap length s.started,
-      length-starts (length s.program.resources.items) (map procedure_of s.program.procedures.items),
-      length-map s.program.procedures.items procedure_of,
-    ) in
-    let inside : c.index.result.now < length s.orders.items =
-    order-within (λ o. assertion_of o.assertion) (annotations_in (program_of s.program)) s.orders.items
-    (program_of s.program).procedures c.args.f.0 c.index.result.now (λ h. h.pre)
-    (c.orders_from_truncation.ensures _ _ s.ordered)
-    (pre-at (program_of s.program) _ s.starts.items c.args.f.0 c.index.result.now
-    (length-map s.program.resources.items resource_of) s.started
-    (get_or_read s.starts.items c.args.f.0 c.index.result.now below c.index.ensures 0))
-    (rw length-map c.requires) in
-    omega (arith, s.orders.ok.0)
+    let inside = pre-within s c.args.f.0 c.requires (c.orders_from_truncation.ensures _ _ s.ordered)
+    c.index.result.now c.index.ensures in
+    omega (arith, s.orders.ok.0, inside)
 
 pub returns : goal.returns
 returns c =
     let s = c.args.self.now in
-    let below : c.args.f.0 < length s.starts.items = omega (
-      arith,
-      c.requires,
-      ap length s.started,
-      length-starts (length s.program.resources.items) (map procedure_of s.program.procedures.items),
-      length-map s.program.procedures.items procedure_of,
-    ) in
-    order-there (λ o. assertion_of o.assertion) (annotations_in (program_of s.program)) s.orders.items
-    (program_of s.program).procedures c.args.f.0 c.index.result.now (λ h. h.pre)
-    (c.orders_from_truncation.ensures _ _ s.ordered)
-    (pre-at (program_of s.program) _ s.starts.items c.args.f.0 c.index.result.now
-    (length-map s.program.resources.items resource_of) s.started
-    (get_or_read s.starts.items c.args.f.0 c.index.result.now below c.index.ensures 0))
-    c.index-2.result.now c.index-2.ensures
+    pre-there s c.args.f.0 c.requires (c.orders_from_truncation.ensures _ _ s.ordered) c.index.result.now
+    c.index.ensures c.index-2.result.now c.index-2.ensures
