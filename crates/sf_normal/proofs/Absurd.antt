@@ -3,8 +3,8 @@ use Rattle.std.proofs.Common.{◌≡◌, Bool, true, false, cond, [], Some, None
 use Rattle.std.proofs.lemmas.Option.{same_Some}
 use Rattle.sf_base.proofs.MapSplits.{union, splits-union}
 use Rattle.sf_normal.specs.Laws.{AbsurdKeepsGoals}
-use Rattle.sf_sym.proofs.States.{held_states_are_not_absurd}
-use Rattle.sf_sym.proofs.TwoHeaps.{in-at}
+use Rattle.sf_sym.specs.Lemmas.States.{held_states_are_not_absurd}
+use Rattle.sf_sym.specs.Lemmas.TwoHeaps.{in-at}
 use Rattle.sf_sym.specs.Laws.{HeldStatesAreNotAbsurd, Kept}
 use Rattle.sf_sym.specs.Tests.{is_absurd}
 

@@ -12,8 +12,8 @@ use Rattle.sf_core.specs.declared.fields.Links.{Links}
 use Rattle.sf_normal.proofs.Keeping.{kept-one, still-same}
 use Rattle.sf_sym.specs.Known.{is_nothing}
 use Rattle.sf_normal.specs.Laws.{DropKeepsGoals}
-use Rattle.sf_sym.proofs.AtomLists.{atoms-out, without-all}
-use Rattle.sf_sym.specs.Below.{IsBelow}
+use Rattle.sf_sym.specs.Lemmas.AtomLists.{atoms-out, without-all}
+use Rattle.sf_sym.specs.Below.{AllInAtom, IsBelow}
 use Rattle.sf_sym.specs.Cells.{atom_at, without}
 use Rattle.sf_sym.specs.declared.atom.Atom.{Atom}
 use Rattle.sf_sym.specs.declared.atom.Atom.TheVariants.{Points, Ls, Tree}
@@ -63,7 +63,7 @@ drop_keeps_goals a goal left below row =
             state = record {
               vars = below.state.vars;
               apart = below.state.apart;
-              atoms = without-all (IsBelow goal.state.next_sym) goal.state.atoms a below.state.atoms;
+              atoms = without-all (AllInAtom (IsBelow goal.state.next_sym)) goal.state.atoms a below.state.atoms;
               taken = below.state.taken;
             };
             todo = below.todo;

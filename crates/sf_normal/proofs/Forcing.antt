@@ -14,11 +14,11 @@ use Rattle.sf_core.specs.declared.fields.Links.{Links}
 use Rattle.sf_normal.proofs.Keeping.{follows-equal, kept-one, still-same}
 use Rattle.sf_sym.specs.Known.{ends}
 use Rattle.sf_normal.specs.Laws.{ForceKeepsGoals}
-use Rattle.sf_sym.proofs.AtomLists.{at-all, at-append, atoms-out, without-any}
-use Rattle.sf_sym.proofs.Parts.{atoms-located, located-apart, seg_along-located, tree_along-located}
-use Rattle.sf_sym.proofs.States.{holds-parts}
-use Rattle.sf_sym.proofs.Terms.{term-constant_no_location}
-use Rattle.sf_sym.proofs.TwoHeaps.{equal_terms_may_be_assumed, in-at}
+use Rattle.sf_sym.specs.Lemmas.AtomLists.{at-all, at-append, atoms-out, without-any}
+use Rattle.sf_sym.specs.Lemmas.Parts.{atoms-located, located-apart, seg_along-located, tree_along-located}
+use Rattle.sf_sym.specs.Lemmas.States.{holds-parts}
+use Rattle.sf_sym.specs.Lemmas.Terms.{term-constant_no_location}
+use Rattle.sf_sym.specs.Lemmas.TwoHeaps.{equal_terms_may_be_assumed, in-at}
 use Rattle.sf_sym.specs.Below.{AllInAtom, IsBelow}
 use Rattle.sf_sym.specs.Cells.{atom_at, without}
 use Rattle.sf_sym.specs.declared.atom.Atom.{Atom}
@@ -131,7 +131,7 @@ force_keeps_goals a goal left below row =
         → cond b (Some (assumed_equal both.0 both.1 goal ∷ [])) None ≡ Some left → Kept goal left
     go both x at is_ends true i e =
         let b = ends-below goal.state.next_sym x both is_ends
-        (at-all (IsBelow goal.state.next_sym) goal.state.atoms a x at below.state.atoms) in
+        (at-all (AllInAtom (IsBelow goal.state.next_sym)) goal.state.atoms a x at below.state.atoms) in
         kept-one goal (assumed_equal both.0 both.1 goal) left e
         (follows-equal both.0 both.1 goal below b.0 b.1)
         (λ w f free taken h. still-same w goal (assumed_equal both.0 both.1 goal) f free taken

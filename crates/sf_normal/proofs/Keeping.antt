@@ -5,7 +5,7 @@ use Rattle.std.proofs.lemmas.Option.{same_Some}
 use Rattle.sf_base.specs.declared.ids.Var.{Var}
 use Rattle.sf_base.specs.declared.value.Value.{Value}
 use Rattle.sf_base.specs.HeapStore.{Heap}
-use Rattle.sf_sym.proofs.TwoHeaps.{assumed_terms_are_below, equal-stays}
+use Rattle.sf_sym.specs.Lemmas.TwoHeaps.{assumed_terms_are_below, equal-stays}
 use Rattle.sf_sym.specs.Below.{AreBelow, IsBelow}
 use Rattle.sf_sym.specs.declared.term.Term.{Term}
 use Rattle.sf_sym.specs.Equalities.{assumed_equal}

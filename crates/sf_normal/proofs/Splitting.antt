@@ -9,7 +9,7 @@ use Rattle.sf_base.specs.HeapStore.{Heap}
 use Rattle.sf_core.proofs.Assertions.Sat.{value-which}
 use Rattle.sf_normal.proofs.Keeping.{follows-equal, still-same}
 use Rattle.sf_normal.specs.Laws.{SplitKeepsGoals}
-use Rattle.sf_sym.proofs.TwoHeaps.{assumed_terms_are_below, differing_terms_may_be_assumed, equal_terms_may_be_assumed}
+use Rattle.sf_sym.specs.Lemmas.TwoHeaps.{assumed_terms_are_below, differing_terms_may_be_assumed, equal_terms_may_be_assumed}
 use Rattle.sf_sym.specs.Below.{is_below}
 use Rattle.sf_sym.specs.Equalities.{assumed_apart, assumed_equal}
 use Rattle.sf_sym.specs.Holds.{term_value}

@@ -15,14 +15,14 @@ use Rattle.sf_core.proofs.Assertions.Trees.{tree-root}
 use Rattle.sf_normal.proofs.Keeping.{kept-one}
 use Rattle.sf_normal.specs.Knowledge.{unroll_one, unrolled_segment, unrolled_tree}
 use Rattle.sf_normal.specs.Laws.{UnrollKeepsGoals}
-use Rattle.sf_sym.proofs.AtomLists.{at-all, atoms-one_more, atoms-out}
-use Rattle.sf_sym.proofs.Below.{below-symbol, below-value, put-all}
-use Rattle.sf_sym.proofs.CellFields.{put-known}
-use Rattle.sf_sym.proofs.FreshGoals.{adds-stay, apart-stays, later, later-apart, later-others, later-taken, later-todo, later-vars, more-below, others-stay, taken-stay, vars-stay}
-use Rattle.sf_sym.proofs.FreshValues.{value-below, value-here, value-same, with_value}
-use Rattle.sf_sym.proofs.States.{differing_terms_differ}
-use Rattle.sf_sym.proofs.TwoHeaps.{in-at}
-use Rattle.sf_sym.specs.Below.{AreBelow, IsBelow, SameBelow}
+use Rattle.sf_sym.specs.Lemmas.AtomLists.{at-all, atoms-one_more, atoms-out}
+use Rattle.sf_sym.specs.Lemmas.Below.{below-symbol, below-value, put-all}
+use Rattle.sf_sym.specs.Lemmas.CellFields.{put-known}
+use Rattle.sf_sym.specs.Lemmas.FreshGoals.{adds-stay, apart-stays, later, later-apart, later-others, later-taken, later-todo, later-vars, more-below, others-stay, taken-stay, vars-stay}
+use Rattle.sf_sym.specs.Lemmas.FreshValues.{value-below, value-here, value-same, with_value}
+use Rattle.sf_sym.specs.Lemmas.States.{differing_terms_differ}
+use Rattle.sf_sym.specs.Lemmas.TwoHeaps.{in-at}
+use Rattle.sf_sym.specs.Below.{AllInAtom, AreBelow, IsBelow, SameBelow}
 use Rattle.sf_sym.specs.Cells.{atom_at, with_atom, with_cell, without}
 use Rattle.sf_sym.specs.declared.atom.Atom.{Atom}
 use Rattle.sf_sym.specs.declared.atom.Atom.TheVariants.{Points, Ls, Tree}
@@ -137,7 +137,7 @@ segment_kept : (goal : Goal) (a : ℕ) (t u : Term) (left : List Goal) → AreBe
 segment_kept goal a t u left below at false d o tl e = absurd (cc)
 segment_kept goal a t u left below at true d None tl e = absurd (cc)
 segment_kept goal a t u left below at true d (Some next) tl e =
-    let b = at-all (IsBelow goal.state.next_sym) goal.state.atoms a (Ls t u) at below.state.atoms in
+    let b = at-all (AllInAtom (IsBelow goal.state.next_sym)) goal.state.atoms a (Ls t u) at below.state.atoms in
     kept-one goal (segment_child goal a t u next) left e (segment-follows goal a t u next below b.0 b.1)
     (segment-holds goal a t u next below b.0 b.1 at tl d)
 
@@ -238,7 +238,7 @@ tree_kept goal a t left below at false d l r is_l is_r e = absurd (cc)
 tree_kept goal a t left below at true d None r is_l is_r e = absurd (cc)
 tree_kept goal a t left below at true d (Some l) None is_l is_r e = absurd (cc)
 tree_kept goal a t left below at true d (Some l) (Some r) is_l is_r e =
-    let b = at-all (IsBelow goal.state.next_sym) goal.state.atoms a (Tree t) at below.state.atoms in
+    let b = at-all (AllInAtom (IsBelow goal.state.next_sym)) goal.state.atoms a (Tree t) at below.state.atoms in
     kept-one goal (tree_child goal a t l r) left e (tree-follows goal a t l r below b)
     (tree-holds goal a t l r below b at is_l is_r d)
 

@@ -15,9 +15,9 @@ use Rattle.sf_core.specs.declared.command.Expr.{Expr}
 use Rattle.sf_core.specs.Program.Syntax.{Block, done, then, if}
 use Rattle.sf_rules.proofs.CommandLaws.{beside-none, executed-one}
 use Rattle.sf_rules.specs.LawsOfCommands.{before_command, Executed, IsTestKnown, ThenFollowsTest, ElseFollowsTest}
-use Rattle.sf_sym.proofs.KnownValues.{known-value}
-use Rattle.sf_sym.proofs.States.{differing_terms_differ}
-use Rattle.sf_sym.proofs.TwoHeaps.{in-at}
+use Rattle.sf_sym.specs.Lemmas.KnownValues.{known-value}
+use Rattle.sf_sym.specs.Lemmas.States.{differing_terms_differ}
+use Rattle.sf_sym.specs.Lemmas.TwoHeaps.{in-at}
 use Rattle.sf_sym.specs.Below.{AllInItem, IsBelow}
 use Rattle.sf_sym.specs.Decided.{command_test, is_false, is_true}
 use Rattle.sf_sym.specs.declared.term.Term.{Term}

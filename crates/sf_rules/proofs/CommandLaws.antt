@@ -18,14 +18,14 @@ use Rattle.sf_core.specs.declared.command.Occurrence.{Occurrence}
 use Rattle.sf_core.specs.Program.Syntax.{Command, assign, look_up, mutate, new, dispose}
 use Rattle.sf_rules.specs.LawsOfCommands.{Executed, FindsCell, before_command, heap_with, AssignFollowsEvent, LookFollowsEvent, MutateFollowsEvent, NewFollowsEvent, DisposeFollowsEvent}
 use Rattle.sf_rules.specs.Rows.Commands.{looked, with_var}
-use Rattle.sf_sym.proofs.AtomLists.{at-all, at-cell, atoms-in_place, atoms-one_more, atoms-out, with_fields-all, without-all}
-use Rattle.sf_sym.proofs.Below.{below-symbol, paired-weaker, pairs-weaker, put-all}
-use Rattle.sf_sym.proofs.CellFields.{put-known, put-written}
-use Rattle.sf_sym.proofs.FreshGoals.{agree, apart-stays, atoms-stay, later, later-apart, later-taken, later-todo, later-vars, later-atoms, more-below, others-stay, taken-stay, vars-stay}
-use Rattle.sf_sym.proofs.FreshValues.{value-below, value-here, with_value}
-use Rattle.sf_sym.proofs.KnownValues.{known-value, set-agrees, set-all, term-all}
-use Rattle.sf_sym.proofs.OtherValues.{Same, fields-other_values, pairs-other_values}
-use Rattle.sf_sym.specs.Below.{AllPaired, IsBelow, SameBelow}
+use Rattle.sf_sym.specs.Lemmas.AtomLists.{at-all, at-cell, atoms-in_place, atoms-one_more, atoms-out, with_fields-all, without-all}
+use Rattle.sf_sym.specs.Lemmas.Below.{below-symbol, paired-weaker, pairs-weaker, put-all}
+use Rattle.sf_sym.specs.Lemmas.CellFields.{put-known, put-written}
+use Rattle.sf_sym.specs.Lemmas.FreshGoals.{agree, apart-stays, atoms-stay, later, later-apart, later-taken, later-todo, later-vars, later-atoms, more-below, others-stay, taken-stay, vars-stay}
+use Rattle.sf_sym.specs.Lemmas.FreshValues.{value-below, value-here, with_value}
+use Rattle.sf_sym.specs.Lemmas.KnownValues.{known-value, set-agrees, set-all, term-all}
+use Rattle.sf_sym.specs.Lemmas.OtherValues.{Same, fields-other_values, pairs-other_values}
+use Rattle.sf_sym.specs.Below.{AllInAtom, AllPaired, IsBelow, SameBelow}
 use Rattle.sf_sym.specs.Cells.{atom_at, cell_at, with_cell, with_fields, without}
 use Rattle.sf_sym.specs.declared.atom.Atom.TheVariants.{Points}
 use Rattle.sf_sym.specs.declared.atom.Numbered.{Numbered}
@@ -189,7 +189,7 @@ dispose_follows_event s rest left p root a ready row = go (cell_at s.atoms a (te
             state = record {
               vars = b.state.vars;
               apart = b.state.apart;
-              atoms = without-all (IsBelow s.next_sym) s.atoms a b.state.atoms;
+              atoms = without-all (AllInAtom (IsBelow s.next_sym)) s.atoms a b.state.atoms;
               taken = b.state.taken;
             };
             todo = b.todo.1;
@@ -244,7 +244,7 @@ mutate_follows_event s rest left p root field value a ready row =
         let t = term s.vars root in
         let u = term s.vars value in
         let at = at-cell s.atoms a t fields found in
-        let old = at-all (IsBelow s.next_sym) s.atoms a (Points t fields) at b.state.atoms in
+        let old = at-all (AllInAtom (IsBelow s.next_sym)) s.atoms a (Points t fields) at b.state.atoms in
         executed-one (before_command s (mutate p root field value) rest)
         (record { state = record s { atoms = with_fields s.atoms a t (put_term field u fields) }; todo = rest })
         left _ e
@@ -253,7 +253,7 @@ mutate_follows_event s rest left p root field value a ready row =
             state = record {
               vars = b.state.vars;
               apart = b.state.apart;
-              atoms = with_fields-all (IsBelow s.next_sym) s.atoms a t (put_term field u fields)
+              atoms = with_fields-all (AllInAtom (IsBelow s.next_sym)) s.atoms a t (put_term field u fields)
                   b.state.atoms (
                     old.0,
                     put-all (IsBelow s.next_sym) field u fields
@@ -369,7 +369,7 @@ look-known : (s : State) (rest : List Item) (left : List Goal) (p : Place) (x : 
 look-known s rest left p x root field a ready fields found u is e =
     let b = ready.below in
     let t = term s.vars root in
-    let old = at-all (IsBelow s.next_sym) s.atoms a (Points t fields) (at-cell s.atoms a t fields found)
+    let old = at-all (AllInAtom (IsBelow s.next_sym)) s.atoms a (Points t fields) (at-cell s.atoms a t fields found)
     b.state.atoms in
     executed-one (before_command s (look_up p x root field) rest)
     (record { state = with_var x.var u s; todo = rest }) left _ e
@@ -422,7 +422,7 @@ look-fresh s rest left p x root field a ready fields found e =
     let t = term s.vars root in
     let put = put_term field (Sym n) fields in
     let at = at-cell s.atoms a t fields found in
-    let old = at-all (IsBelow n) s.atoms a (Points t fields) at b.state.atoms in
+    let old = at-all (AllInAtom (IsBelow n)) s.atoms a (Points t fields) at b.state.atoms in
     let fresh = below-symbol (n + 1) n (omega arith) in
     executed-one goal
     (record {
@@ -434,7 +434,7 @@ look-fresh s rest left p x root field a ready fields found e =
         state = record {
           vars = set-all (IsBelow (n + 1)) x.var (Sym n) s.vars fresh (later-vars goal b 1);
           apart = pairs-weaker (IsBelow n) (IsBelow (n + 1)) (later goal b 1) s.apart b.state.apart;
-          atoms = with_fields-all (IsBelow (n + 1)) s.atoms a t put (later-atoms goal b 1) (
+          atoms = with_fields-all (AllInAtom (IsBelow (n + 1))) s.atoms a t put (later-atoms goal b 1) (
             later goal b 1 t old.0,
             put-all (IsBelow (n + 1)) field (Sym n) fields fresh
                 (paired-weaker (IsBelow n) (IsBelow (n + 1)) (later goal b 1) fields old.1),

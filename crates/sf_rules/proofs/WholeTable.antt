@@ -1,23 +1,18 @@
 -- The rows that there is code for are rows of the whole table.
 -- Names: `TAG-whole` is of the row of that tag.
-use Rattle.std.proofs.Common.{◌≡◌, ℕ, Bool, true, false, cond, Option, Some, None, List, [], ◌∷◌, ◌++◌, length, map, replicate, refl, sym, ap, ◌∙◌}
+use Rattle.std.proofs.Common.{◌≡◌, ℕ, Bool, true, false, cond, Option, Some, None, List, [], ◌∷◌, ◌++◌, refl, ap, ◌∙◌}
 use Rattle.std.specs.List.{list_all}
 use Rattle.std.specs.Option.{option_and_then, option_map}
 use Rattle.sf_base.specs.declared.ids.FieldId.{FieldId}
-use Rattle.sf_base.specs.declared.ids.Var.{Var}
 use Rattle.sf_base.specs.declared.place.Place.{Place}
 use Rattle.sf_base.proofs.Bools.{and-left, and-right}
 use Rattle.sf_core.specs.declared.assertion.Operand.{Operand}
 use Rattle.sf_core.specs.declared.assertion.Operand.TheVariants.{Known, Exists}
-use Rattle.sf_core.specs.declared.assertion.Test.{Test}
-use Rattle.sf_core.specs.declared.assertion.Test.TheVariants.{True, Equal, Differ}
-use Rattle.sf_core.specs.declared.command.Expr.{Expr}
-use Rattle.sf_core.specs.Program.Syntax.{Conjunct, holds, points, segment, tree, choose, Conjuncts, none, also, Level, level, Assertion, Command, assign, look_up, mutate, new, dispose, if, while, call, fork, with}
+use Rattle.sf_core.specs.Program.Syntax.{Conjunct, holds, points, segment, tree, choose, Conjuncts, none, also, Command, assign, look_up, mutate, new, dispose, if, while, call, fork, with}
 use Rattle.sf_sym.specs.declared.term.Term.{Term}
 use Rattle.sf_sym.specs.Cells.{after_hand_over, cell_at, state_after_write, with_cell}
 use Rattle.sf_sym.specs.Fields.{field_term, put_term}
 use Rattle.sf_sym.specs.Goal.{Item, run, add, take, gave, head, again, exit, return, end, Goal, unless_none}
-use Rattle.sf_sym.specs.Pending.{conjuncts_of}
 use Rattle.sf_sym.specs.State.{State, term}
 use Rattle.sf_rules.specs.Rows.Ends as ends
 use Rattle.sf_rules.specs.Rows.Front as front
@@ -27,10 +22,7 @@ use Rattle.sf_sym.specs.declared.tag.Tag.{Tag}
 use Rattle.sf_sym.specs.declared.tag.Tag.TheVariants as t
 use Rattle.sf_produce.specs.Add as produce
 use Rattle.sf_rules.specs.Rows.Commands as commands
-use Rattle.sf_rules.specs.Words as words
 use Rattle.sf_sym.specs.Goal as goals
-use Rattle.sf_rules.specs.Table as built
-use Rattle.sf_sym.specs.Mapped as mapped
 use Rattle.sf_rules.specs.Laws.{BuiltRowsAreRows}
 use Rattle.sf_rules.specs.Rows.Take as taken
 use Rattle.sf_consume.specs.Subtract as subtract
@@ -127,51 +119,11 @@ module _ (s : State) (p : Place) (bindings : List (Option Term)) (cs : Conjuncts
     cell-whole (tree q l r x) e = absurd (cc)
     cell-whole (choose q x this that) e = absurd (cc)
 
-operand-same : (to : Expr → Term) (x : Operand Expr) → built.operand_with to x ≡ mapped.operand_with to x
-operand-same to (Known e) = refl
-operand-same to (Exists n) = refl
-
-test-same : (to : Expr → Term) (x : Test (Operand Expr)) → built.test_with to x ≡ mapped.test_with to x
-test-same to True = refl
-test-same to (Equal x y) = λ i. Equal (operand-same to x i) (operand-same to y i)
-test-same to (Differ x y) = λ i. Differ (operand-same to x i) (operand-same to y i)
-
-fields-same : (to : Expr → Term) (fs : List (FieldId × Operand Expr))
-    → map {B = FieldId × Operand Term} (λ f. (f.0, built.operand_with to f.1)) fs
-    ≡ map {B = FieldId × Operand Term} (λ f. (f.0, mapped.operand_with to f.1)) fs
-fields-same to [] = refl
-fields-same to (f ∷ fs) = λ i. (f.0, operand-same to f.1 i) ∷ fields-same to fs i
-
-mutual
-  conjuncts-same : (to : Expr → Term) (cs : Conjuncts Expr)
-      → built.conjuncts_with to cs ≡ mapped.conjuncts_with to cs
-  conjuncts-same to none = refl
-  conjuncts-same to (also c cs) = λ i. also (conjunct-same to c i) (conjuncts-same to cs i)
-
-  conjunct-same : (to : Expr → Term) (c : Conjunct Expr)
-      → built.conjunct_with to c ≡ mapped.conjunct_with to c
-  conjunct-same to (holds p x) = λ i. holds p (test-same to x i)
-  conjunct-same to (points p x fs) = λ i. points p (operand-same to x i) (fields-same to fs i)
-  conjunct-same to (segment p f x y) = λ i. segment p f (operand-same to x i) (operand-same to y i)
-  conjunct-same to (tree p l r x) = λ i. tree p l r (operand-same to x i)
-  conjunct-same to (choose p x this that) =
-      λ i. choose p (test-same to x i) (level-same to this i) (level-same to that i)
-
-  level-same : (to : Expr → Term) (l : Level Expr) → built.level_with to l ≡ mapped.level_with to l
-  level-same to (level made cs) = λ i. level made (conjuncts-same to cs i)
-
-take-same : (p : Place) (vars : List (Var × Term)) (a : Assertion)
-    → built.to_take p vars a ≡ words.to_take p (term vars) a
-take-same p vars a =
-    ap (λ cs. unless_none cs (take p (record { conjuncts = cs; bindings = replicate (length a.names) None }) a.names))
-    (conjuncts-same (term vars) (conjuncts_of a.level))
-
 -- at the items in front
 return-whole : (s : State) (todo : List Item) (left : List Goal) → return_row s todo ≡ Some left
     → front.at_return (ends.return_row s) todo ≡ Some left
 return-whole s [] left e = absurd (cc)
-return-whole s (return p post ∷ rest) left e =
-    ap (λ ys. Some (record { state = s; todo = ys ++ (end p ∷ []) } ∷ [])) (sym (take-same p s.vars post)) ∙ e
+return-whole s (return p post ∷ rest) left e = e
 return-whole s (run c ∷ rest) left e = absurd (cc)
 return-whole s (add p given ∷ rest) left e = absurd (cc)
 return-whole s (take p want names ∷ rest) left e = absurd (cc)

@@ -12,7 +12,7 @@ use Rattle.sf_core.specs.declared.assertion.Level.{Level as CodeLevel, roll-Leve
 use Rattle.sf_core.specs.Program.Syntax.{Conjunct, also, points, Level, level}
 use Rattle.sf_core.specs.Program.View.{conjuncts, conjunct_of, level_of, conjunct_step, level_step}
 use Rattle.sf_sym.specs.declared.term.Term.{Term}
-use Rattle.sf_rules.specs.Table.{operand_with, conjunct_with, conjuncts_with}
+use Rattle.sf_sym.specs.Mapped.{operand_with, conjunct_with, conjuncts_with}
 
 pub conjuncts_with-map : {X : Type 0} (to : Expr → Term) (f : X → Conjunct Expr) (xs : List X)
     → conjuncts (map (λ x. conjunct_with to (f x)) xs) ≡ conjuncts_with to (conjuncts (map f xs))

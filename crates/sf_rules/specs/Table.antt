@@ -2,7 +2,7 @@
 -- write fields.
 -- Berdine, Calcagno, O'Hearn, "Symbolic Execution with Separation Logic" (2005), in this project's own
 -- profile.
-use Rattle.std.specs.Prelude.{ℕ, zero, suc, ◌+◌, ◌-◌, ◌^◌, Bool, true, false, ◌&&◌, cond, Option, Some, None, List, [], ◌∷◌, ◌++◌, length, map, nat_le, codes, replicate}
+use Rattle.std.specs.Prelude.{ℕ, zero, suc, ◌+◌, ◌-◌, ◌^◌, Bool, true, false, ◌&&◌, cond, Option, Some, None, List, [], ◌∷◌, ◌++◌, length, nat_le, codes, replicate}
 use Rattle.std.specs.List.{list_all}
 use Rattle.std.specs.Option.{option_map, option_and_then}
 use Rattle.std.specs.Str.{bytes_eq}
@@ -12,10 +12,7 @@ use Rattle.sf_base.specs.declared.ids.Var.TheVariants.{Own}
 use Rattle.sf_base.specs.declared.place.Place.{Place}
 use Rattle.sf_core.specs.declared.assertion.Operand.{Operand}
 use Rattle.sf_core.specs.declared.assertion.Operand.TheVariants.{Known, Exists}
-use Rattle.sf_core.specs.declared.assertion.Test.{Test}
-use Rattle.sf_core.specs.declared.assertion.Test.TheVariants.{True, Equal, Differ}
-use Rattle.sf_core.specs.declared.command.Expr.{Expr}
-use Rattle.sf_core.specs.Program.Syntax.{Conjunct, holds, points, segment, tree, choose, Level, level, Conjuncts, none, also, Command, mutate, Assertion, Procedure, Program}
+use Rattle.sf_core.specs.Program.Syntax.{Conjunct, points, Conjuncts, none, also, Command, mutate, Assertion, Procedure, Program}
 use Rattle.sf_sym.specs.declared.atom.Numbered.{Numbered}
 use Rattle.sf_core.specs.declared.fields.Links.{Links}
 use Rattle.sf_sym.specs.Cells.{cell_at, with_cell, state_after_write, after_hand_over}
@@ -25,37 +22,10 @@ use Rattle.sf_sym.specs.declared.tag.Tag.{Tag}
 use Rattle.sf_sym.specs.declared.tag.Tag.TheVariants as t
 use Rattle.sf_sym.specs.declared.term.Term.{Term}
 use Rattle.sf_sym.specs.declared.term.Term.TheVariants.{Nil, Sym}
+use Rattle.sf_sym.specs.Mapped.{conjuncts_with}
 use Rattle.sf_sym.specs.Goal.{Item, run, add, take, return, end, Goal, unless_none, to_run}
 use Rattle.sf_sym.specs.Pending.{Pending, conjuncts_of}
 use Rattle.sf_sym.specs.Tests.{same_term, is_absurd}
-
--- an operand with its term
-abbrev pub operand_with : (Expr → Term) → Operand Expr → Operand Term
-operand_with to (Known e) = Known (to e)
-operand_with to (Exists n) = Exists n
-
--- a test with its terms
-abbrev pub test_with : (Expr → Term) → Test (Operand Expr) → Test (Operand Term)
-test_with to True = True
-test_with to (Equal x y) = Equal (operand_with to x) (operand_with to y)
-test_with to (Differ x y) = Differ (operand_with to x) (operand_with to y)
-
--- an assertion's conjuncts with the terms that the variables have now
-abbrev mutual
-  pub level_with : (Expr → Term) → Level Expr → Level Term
-  level_with to (level made cs) = level made (conjuncts_with to cs)
-
-  pub conjuncts_with : (Expr → Term) → Conjuncts Expr → Conjuncts Term
-  conjuncts_with to none = none
-  conjuncts_with to (also c cs) = also (conjunct_with to c) (conjuncts_with to cs)
-
-  pub conjunct_with : (Expr → Term) → Conjunct Expr → Conjunct Term
-  conjunct_with to (holds p x) = holds p (test_with to x)
-  conjunct_with to (points p x fs) = points p (operand_with to x) (map (λ f. (f.0, operand_with to f.1)) fs)
-  conjunct_with to (segment p f x y) = segment p f (operand_with to x) (operand_with to y)
-  conjunct_with to (tree p l r x) = tree p l r (operand_with to x)
-  conjunct_with to (choose p x this that) =
-      choose p (test_with to x) (level_with to this) (level_with to that)
 
 -- an assertion's conjuncts, still to be assumed or shown, none of its existentials having a term
 abbrev pub pending_assertion : List (Var × Term) → Assertion → Pending

@@ -3,7 +3,8 @@
 ghost use Rattle.std.specs.Prelude.{◌≡◌, IfOk, None, map, replicate};
 ghost use Rattle.sf_core.specs.Program.View.{assertion_of, conjunct_of, conjuncts, level_of};
 ghost use Rattle.sf_sym.specs.Pending.{pending_of};
-ghost use Rattle.sf_rules.specs.Table.{conjunct_with, conjuncts_with, level_with, operand_with, pending_assertion, test_with};
+ghost use Rattle.sf_rules.specs.Table.{pending_assertion};
+ghost use Rattle.sf_sym.specs.Mapped.{conjunct_with, conjuncts_with, level_with, operand_with, test_with};
 ghost use Rattle.sf_sym.specs.State.{term, term_at};
 
 use sf_base::{FieldId, Var};

@@ -29,7 +29,8 @@ use Rattle.sf_search.proofs.Assumable.{points_known}
 use Rattle.sf_search.proofs.Leaves.{made}
 use Rattle.sf_rules.specs.Built.{are_cells, has_cells, is_plain, is_mutation, are_mutations, is_built_procedure}
 use Rattle.sf_rules.specs.Internal.Cells.{all_known}
-use Rattle.sf_rules.specs.Table.{row, row_of, has_numbers, state_after_assumption, state_after_hand_over, known_term, operand_with, conjuncts_with, first_goal, to_add, pending_assertion, one_goal, is_empty, fits}
+use Rattle.sf_rules.specs.Table.{row, row_of, has_numbers, state_after_assumption, state_after_hand_over, known_term, first_goal, to_add, pending_assertion, one_goal, is_empty, fits}
+use Rattle.sf_sym.specs.Mapped.{operand_with, conjuncts_with}
 use Rattle.sf_sym.specs.Pending.{conjuncts_of}
 use Rattle.sf_sym.specs.Cells.{state_after_write}
 

@@ -1,22 +1,20 @@
 -- The known fields of a cell: what is put among them is true of it, and they stay in order.
 -- Names: `put-LAW` speaks of `put_term`, `new-LAW` of `new_fields`.
-use Rattle.std.specs.Prelude.{◌≡◌, ℕ, ◌==◌, Bool, true, false, cond, nat_lt, Option, Some, None, List, [], ◌∷◌}
+use Rattle.std.specs.Prelude.{◌≡◌, ℕ, ◌==◌, Bool, true, false, cond, Option, Some, None, List, [], ◌∷◌}
 use Rattle.std.specs.List.{list_all}
 use Rattle.std.proofs.Common.{refl, sym, ap, ◌∙◌, subst}
-use Rattle.std.proofs.lemmas.Bool.{ltb-true}
 use Rattle.sf_base.specs.declared.ids.FieldId.{FieldId}
 use Rattle.sf_base.specs.declared.value.Value.{Value}
 use Rattle.sf_core.specs.declared.assertion.Operand.{Operand}
 use Rattle.sf_core.specs.declared.assertion.Operand.TheVariants.{Known, Exists}
-use Rattle.sf_base.specs.HeapStore.{Cell, put_field}
+use Rattle.sf_base.specs.HeapStore.{Cell}
 use Rattle.sf_core.specs.Assertions.Sat.{operand, HasFields}
-use Rattle.sf_base.proofs.HeapSplits.{at-same, at-self}
-use Rattle.sf_base.proofs.Numbers.{eqb-greater}
+use Rattle.sf_base.proofs.HeapSplits.{at-same}
 use Rattle.sf_base.proofs.Bools.{and-left, and-right}
 use Rattle.sf_sym.specs.declared.term.Term.{Term}
-use Rattle.sf_sym.specs.Fields.{AreAfter, AreOrdered, put_term, field_term}
-use Rattle.sf_sym.specs.Lemmas.{after-mono, put-order, same_term_is}
-use Rattle.sf_sym.proofs.CellFields.{put-known}
+use Rattle.sf_sym.specs.Fields.{AreOrdered, put_term, field_term}
+use Rattle.sf_sym.specs.Lemmas.{put-order, same_term_is}
+use Rattle.sf_sym.specs.Lemmas.CellFields.{put-known}
 use Rattle.sf_rules.specs.Table.{known_term, new_fields, has_term, fits}
 
 module _ (v : Term → Value) where

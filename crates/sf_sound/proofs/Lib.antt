@@ -1,7 +1,5 @@
-pub mod SatTerms
 pub mod SatClosed
 pub mod CellFields
-pub mod CellAtoms
 pub mod Regrouped
 pub mod TermValues
 pub mod ByRows
@@ -10,4 +8,5 @@ pub mod Reached
 pub mod Starts
 pub mod Sound
 pub mod Rows
+pub mod Showing
 pub mod Clearing

@@ -31,7 +31,8 @@ use Rattle.sf_sound.specs.Laws.{IsNoAdd, IsInOrder, works_out, heap_with_cell, W
 use Rattle.sf_sym.specs.Ready.{value_at}
 use Rattle.sf_rules.specs.Table.{row_of, row}
 use Rattle.sf_sound.proofs.ByRows.{LastRow, by-rows, some-each}
-use Rattle.sf_sound.proofs.Rows.{past_adds, row-is, absurd-never, add-child, spelled, mutate-child, IsClosing, cell-child, end_leaves_nothing, returning, return-left, return-closing, return-order, return-owes}
+use Rattle.sf_sound.proofs.Rows.{past_adds, row-is, absurd-never, add-child, spelled, mutate-child, end_leaves_nothing}
+use Rattle.sf_sound.proofs.Showing.{IsClosing, cell-child, returning, return-left, return-closing, return-order, return-owes}
 
 -- what a frame has still to do is what the goal has to do before the procedure's return
 abbrev pub IsToDo : Procedure → List machine.Item → List Item → Type 0

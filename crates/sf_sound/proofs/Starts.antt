@@ -37,13 +37,14 @@ use Rattle.sf_rules.specs.Proves.{Proof, ProvesFrom, Proves}
 use Rattle.sf_sound.specs.Laws.{FirstGoalsHold, Covers, IsNoAdd, AddsComeFirst, IsInOrder}
 use Rattle.sf_sym.specs.Ready.{is_listed, value_at}
 use Rattle.sf_base.specs.Variables.{same_var}
-use Rattle.sf_rules.specs.Table.{conjuncts_with, pending_assertion, to_add, symbols, nils, first_goal}
+use Rattle.sf_rules.specs.Table.{pending_assertion, to_add, symbols, nils, first_goal}
+use Rattle.sf_sym.specs.Mapped.{conjuncts_with}
 use Rattle.sf_sym.specs.Pending.{conjuncts_of}
 use Rattle.sf_sym.specs.State.{term}
 use Rattle.sf_sound.proofs.Owns.{IsToDo, Owns, settle}
 use Rattle.sf_sound.proofs.Reached.{IsOwned, no-resource}
 use Rattle.sf_sound.proofs.Rows.{past_adds, past-add, rest-adds, adds-order}
-use Rattle.sf_sound.proofs.SatTerms.{conjuncts-with}
+use Rattle.sf_sym.specs.Lemmas.OtherTerms.{conjuncts-with}
 use Rattle.sf_sound.proofs.TermValues.{values-are}
 
 -- THE PROOF OF A PROCEDURE

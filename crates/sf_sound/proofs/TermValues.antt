@@ -12,9 +12,8 @@ use Rattle.sf_sym.specs.declared.term.Term.{Term}
 use Rattle.std.specs.List.{AllByRecursion}
 use Rattle.sf_sym.specs.Holds.{term_value, Agrees}
 use Rattle.sf_sound.specs.Laws.{Covers}
-use Rattle.sf_sym.proofs.KnownValues.{listed-value}
+use Rattle.sf_sym.specs.Lemmas.KnownValues.{listed-value}
 use Rattle.sf_sym.specs.Ready.{is_listed, value_at}
-use Rattle.sf_base.proofs.Variables.{same_var-decides}
 use Rattle.sf_base.specs.Variables.{same_var}
 use Rattle.sf_sym.specs.State.{term_at, term}
 

@@ -1,8 +1,7 @@
 -- The laws of the rows: what a row says of the values and heaps of which its goal holds, with the same
 -- values of the symbols.
 -- Berdine, Calcagno, O'Hearn, "Symbolic Execution with Separation Logic" (2005): the soundness of each rule.
-use Rattle.std.specs.Prelude.{◌≡◌, ℕ, ◌==◌, Bool, true, false, ◌||◌, cond, Option, Some, List, [], ◌∷◌, is_some, ◌⊎◌}
-use Rattle.std.specs.Option.{unwrap_or}
+use Rattle.std.specs.Prelude.{◌≡◌, ℕ, ◌==◌, Bool, true, false, cond, Option, Some, List, [], ◌∷◌, is_some}
 use Rattle.sf_base.specs.declared.ids.FieldId.{FieldId}
 use Rattle.sf_base.specs.declared.ids.ProcId.{ProcId}
 use Rattle.sf_base.specs.declared.ids.Var.{Var}
@@ -12,24 +11,20 @@ use Rattle.sf_base.specs.declared.value.Value.TheVariants.{Nil as nil}
 use Rattle.sf_core.specs.declared.command.Expr.{Expr}
 use Rattle.sf_core.specs.Program.Formed.{IsParameter, AssertionWithin, IsFormed}
 use Rattle.sf_base.specs.HeapStore.{Cell, put_field, Heap, Store, IsEmpty, Splits, ◌⋆◌}
-use Rattle.sf_core.specs.Assertions.Sat.{value, Sat}
+use Rattle.sf_core.specs.Assertions.Sat.{Sat}
 use Rattle.sf_core.specs.Machine.Config.{Config}
 use Rattle.sf_core.specs.Machine.Start.{entry_slot, Start}
 use Rattle.sf_core.specs.Machine.Step.{Finds}
 use Rattle.sf_core.specs.Program.Syntax.{mutate, Assertion, Procedure, Program}
-use Rattle.sf_sym.specs.declared.atom.Atom.{Atom}
-use Rattle.sf_sym.specs.declared.atom.Atom.TheVariants.{Points, Ls, Tree}
 use Rattle.sf_sym.specs.declared.atom.Numbered.{Numbered}
 use Rattle.sf_sym.specs.declared.tag.Tag.{Tag}
 use Rattle.sf_sym.specs.declared.tag.Tag.TheVariants as t
 use Rattle.sf_sym.specs.declared.term.Term.{Term}
 use Rattle.std.specs.List.{AllByRecursion}
-use Rattle.sf_sym.specs.Fields.{AreOrdered}
 use Rattle.sf_sym.specs.Laws.{SomeOf}
 use Rattle.sf_sym.specs.Ready.{HasOrder, is_listed, value_at}
 use Rattle.sf_sym.specs.Goal.{Item, run, add, take, return, Goal}
 use Rattle.sf_sym.specs.Holds.{AtomsHold, PendingHolds, HoldsAt, Holds}
-use Rattle.sf_base.specs.Variables.{same_var}
 use Rattle.sf_rules.specs.Table.{first_goal, row}
 
 -- the variables that have a term are just those that have a value

@@ -21,7 +21,7 @@ pub fn first_goals_hold()
 {}
 
 /// The goals that a row leaves of a goal that is in order are in order.
-#[tactic(auto, using(crate::proofs::Rows::rows_keep_order))]
+#[tactic(auto, using(crate::proofs::Showing::rows_keep_order))]
 pub fn rows_keep_order()
     ensures { RowsKeepOrder }
 {}
@@ -54,19 +54,19 @@ pub fn mutate_follows_event()
 
 /// The goal that `return` leaves holds where its goal does, and a heap that has what it wants satisfies
 /// the postcondition.
-#[tactic(auto, using(crate::proofs::Rows::return_owes_postcondition))]
+#[tactic(auto, using(crate::proofs::Showing::return_owes_postcondition))]
 pub fn return_owes_postcondition()
     ensures { ReturnOwesPostcondition }
 {}
 
 /// The goal that `cell` leaves holds where its goal does.
-#[tactic(auto, using(crate::proofs::Rows::cell_keeps_meaning))]
+#[tactic(auto, using(crate::proofs::Showing::cell_keeps_meaning))]
 pub fn cell_keeps_meaning()
     ensures { CellKeepsMeaning }
 {}
 
 /// The part of the heap that `cell` hands over has what was wanted, together with what is still wanted.
-#[tactic(auto, using(crate::proofs::Rows::cell_hands_over))]
+#[tactic(auto, using(crate::proofs::Showing::cell_hands_over))]
 pub fn cell_hands_over()
     ensures { CellHandsOver }
 {}

@@ -1,5 +1,17 @@
 -- Lemmas on terms, atoms and items that the proofs of the crates above cite. Each states what it says; none is a definition.
 -- Ordinary: equality of terms is decided by cases, and ⋆ is associative.
+pub mod AtomLists
+pub mod Below
+pub mod CellFields
+pub mod FreshGoals
+pub mod FreshValues
+pub mod KnownValues
+pub mod OtherTerms
+pub mod OtherValues
+pub mod Parts
+pub mod States
+pub mod Terms
+pub mod TwoHeaps
 use Rattle.std.specs.Prelude.{◌≡◌, ℕ, ◌<◌, ◌==◌, nat_lt, Bool, true, false, cond, Some, None, List, [], ◌∷◌, ◌++◌}
 use Rattle.std.proofs.Common.{refl, ap, subst, arith}
 use Rattle.std.specs.List.{flat_map}

@@ -1,6 +1,6 @@
 use Rattle.std.proofs.Common.{◌≡◌, map, take}
 use Rattle.sf_core.specs.Program.View.{conjunct_of}
-use Rattle.sf_rules.specs.Table.{conjunct_with}
+use Rattle.sf_sym.specs.Mapped.{conjunct_with}
 use Rattle.sf_sym.specs.State.{term}
 use Rattle.sf_rules.proofs.terms.+terms.Given as goal
 

@@ -1,5 +1,5 @@
 use Rattle.std.proofs.Common.{◌≡◌, map, take}
-use Rattle.sf_rules.specs.Table.{operand_with}
+use Rattle.sf_sym.specs.Mapped.{operand_with}
 use Rattle.sf_sym.specs.State.{term}
 use Rattle.sf_rules.proofs.terms.fields_with.Given as goal
 

@@ -8,10 +8,10 @@ use Rattle.sf_base.proofs.MapSplits.{splits-comm}
 use Rattle.sf_base.specs.declared.ids.Var.{Var}
 use Rattle.sf_base.specs.declared.value.Value.{Value}
 use Rattle.sf_base.specs.HeapStore.{Heap, Splits}
-use Rattle.sf_sym.proofs.Below.{below-value, goal-weaker}
-use Rattle.sf_sym.proofs.OtherTerms.{all-with, goal-with}
-use Rattle.sf_sym.proofs.OtherValues.{Same, goal-other_values}
-use Rattle.sf_sym.proofs.Terms.{term-constants}
+use Rattle.sf_sym.specs.Lemmas.Below.{below-value, goal-weaker}
+use Rattle.sf_sym.specs.Lemmas.OtherTerms.{all-with, goal-with}
+use Rattle.sf_sym.specs.Lemmas.OtherValues.{Same, goal-other_values}
+use Rattle.sf_sym.specs.Lemmas.Terms.{term-constants}
 use Rattle.sf_sym.specs.Below.{AllInGoal, AreBelow, IsBelow}
 use Rattle.sf_sym.specs.declared.term.Term.{Term}
 use Rattle.sf_sym.specs.declared.term.Term.TheVariants.{Nil, Int, Sym}

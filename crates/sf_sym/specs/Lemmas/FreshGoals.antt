@@ -10,9 +10,9 @@ use Rattle.sf_base.specs.declared.value.Value.{Value}
 use Rattle.sf_base.specs.declared.value.Value.TheVariants.{Loc as loc}
 use Rattle.sf_base.specs.HeapStore.{Heap}
 use Rattle.sf_core.proofs.Assertions.Segments.{nil-not_loc}
-use Rattle.sf_sym.proofs.AtomLists.{without-all}
-use Rattle.sf_sym.proofs.Below.{atoms-weaker, below-more, below-value, items-weaker, paired-weaker, pairs-weaker}
-use Rattle.sf_sym.proofs.OtherValues.{Same, adds-other_values, atoms-other_values, pairs-other_values, vars-other_values}
+use Rattle.sf_sym.specs.Lemmas.AtomLists.{without-all}
+use Rattle.sf_sym.specs.Lemmas.Below.{atoms-weaker, below-more, below-value, items-weaker, paired-weaker, pairs-weaker}
+use Rattle.sf_sym.specs.Lemmas.OtherValues.{Same, adds-other_values, atoms-other_values, pairs-other_values, vars-other_values}
 use Rattle.sf_sym.specs.Below.{AllInAtom, AllInAtoms, AllInItem, AllInPairs, AllPaired, AreBelow, IsBelow, SameBelow}
 use Rattle.sf_sym.specs.Cells.{apart_from_nil, without}
 use Rattle.sf_sym.specs.declared.atom.Numbered.{Numbered}
@@ -55,7 +55,7 @@ module _ (goal : Goal) (below : AreBelow goal) (k : ℕ) where
   pub later-others : (a : ℕ) → AllInAtoms (IsBelow (goal.state.next_sym + k)) (without goal.state.atoms a)
   later-others a =
       atoms-weaker (IsBelow goal.state.next_sym) (IsBelow (goal.state.next_sym + k)) later
-      (without goal.state.atoms a) (without-all (IsBelow goal.state.next_sym) goal.state.atoms a below.state.atoms)
+      (without goal.state.atoms a) (without-all (AllInAtom (IsBelow goal.state.next_sym)) goal.state.atoms a below.state.atoms)
 
   pub later-atoms : AllInAtoms (IsBelow (goal.state.next_sym + k)) goal.state.atoms
   later-atoms = atoms-weaker (IsBelow goal.state.next_sym) (IsBelow (goal.state.next_sym + k)) later
@@ -96,7 +96,7 @@ module _ (w v : ℕ → Value) (goal : Goal) (below : AreBelow goal) (same : Sam
   others-stay a part s =
       atoms-other_values w v goal.state.links (without goal.state.atoms a) part
       (atoms-weaker (IsBelow goal.state.next_sym) (Same w v) agree (without goal.state.atoms a)
-      (without-all (IsBelow goal.state.next_sym) goal.state.atoms a below.state.atoms)) s
+      (without-all (AllInAtom (IsBelow goal.state.next_sym)) goal.state.atoms a below.state.atoms)) s
 
   pub taken-stay : AtomsHold v goal.state.links goal.state.taken taken
   taken-stay = atoms-other_values w v goal.state.links goal.state.taken taken

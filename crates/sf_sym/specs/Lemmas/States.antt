@@ -16,9 +16,9 @@ use Rattle.sf_sym.specs.Tests.{is_constant, same_term, differs_at_once, allocate
 use Rattle.sf_base.proofs.HeapSplits.{star-assoc_left, star-map_left}
 use Rattle.sf_base.proofs.Bools.{not-both, and-left, and-right}
 use Rattle.sf_base.proofs.Elements.{any-some}
-use Rattle.sf_sym.proofs.Terms.{term-constant_no_location, direct-differs, pairs-irreflexive}
+use Rattle.sf_sym.specs.Lemmas.Terms.{term-constant_no_location, direct-differs, pairs-irreflexive}
 use Rattle.sf_sym.specs.Lemmas.{atoms-append}
-use Rattle.sf_sym.proofs.Parts.{located-left, atoms-located, atoms-differ, atoms-possible, atoms-no_repeat}
+use Rattle.sf_sym.specs.Lemmas.Parts.{located-left, atoms-located, atoms-differ, atoms-possible, atoms-no_repeat}
 
 -- the atoms and the taken atoms hold on one part of the heap
 pub holds-parts : (w : ℕ → Value) (goal : Goal) (e : Var → Option Value) (heap : Heap) → HoldsAt w goal e heap

@@ -24,7 +24,7 @@ use Rattle.sf_base.proofs.Bools.{and-left, and-right}
 use Rattle.sf_core.proofs.Assertions.Segments.{loc-same, seg-first}
 use Rattle.sf_core.proofs.Assertions.Trees.{tree-root}
 use Rattle.sf_sym.specs.Lemmas.{same_term_is}
-use Rattle.sf_sym.proofs.Terms.{term-constant_no_location, direct-differs}
+use Rattle.sf_sym.specs.Lemmas.Terms.{term-constant_no_location, direct-differs}
 
 -- a location of the left part is one of the whole
 pub located-left : {h g k : Heap} {v : Value} → Splits h g k → IsLocationIn g v → IsLocationIn h v

@@ -1,6 +1,6 @@
 -- Lists of atoms: one is taken out, one comes in place of another, one more comes, and what is said of every one.
 -- Names: `atoms-LAW` of the heap that atoms hold on, `without-LAW` of a list without one.
-use Rattle.std.specs.List.{list_any}
+use Rattle.std.specs.List.{list_any, AllByRecursion}
 use Rattle.std.proofs.Common.{◌≡◌, ℕ, ◌==◌, Bool, true, false, cond, List, [], ◌∷◌, ◌++◌, Some, refl, subst, inl, inr}
 use Rattle.std.proofs.lemmas.Bool.{or_cases, or_left, or_right}
 use Rattle.sf_base.proofs.HeapSplits.{star-comm, star-empty_right, star-map_left, star-map_right, star-swap}
@@ -8,7 +8,6 @@ use Rattle.sf_base.specs.declared.ids.FieldId.{FieldId}
 use Rattle.sf_base.specs.declared.value.Value.{Value}
 use Rattle.sf_base.specs.HeapStore.{Heap, ◌⋆◌}
 use Rattle.sf_core.specs.declared.fields.Links.{Links}
-use Rattle.sf_sym.specs.Below.{AllInAtom, AllInAtoms}
 use Rattle.sf_sym.specs.Cells.{atom_at, cell_at, fields_at, with_fields, without}
 use Rattle.sf_sym.specs.declared.atom.Atom.{Atom}
 use Rattle.sf_sym.specs.declared.atom.Atom.TheVariants.{Points}
@@ -103,35 +102,37 @@ without-any p (y ∷ ys) a fails e = go (y.number == a) refl (λ i. without-any 
       | inr rest ↦ or_right (p y) (list_any p (without ys a)) (r rest)
     ]
 
-module _ (P : Term → Type 0) where
+module _ (Q : Atom → Type 0) where
   -- what is said of every atom is said of that of a number
-  pub at-all : (atoms : List Numbered) (a : ℕ) (x : Atom) → atom_at atoms a ≡ Some x → AllInAtoms P atoms
-      → AllInAtom P x
+  pub at-all : (atoms : List Numbered) (a : ℕ) (x : Atom) → atom_at atoms a ≡ Some x
+      → AllByRecursion (λ (y : Numbered). Q y.atom) atoms → Q x
   at-all [] a x e h = absurd (cc)
   at-all (y ∷ ys) a x e h = go (y.number == a) e (λ i. at-all ys a x i h.1)
     where
-      go : (b : Bool) → cond b (Some y.atom) (atom_at ys a) ≡ Some x → (atom_at ys a ≡ Some x → AllInAtom P x)
-          → AllInAtom P x
-      go true i r = let same : y.atom ≡ x = cc in subst (AllInAtom P) same h.0
+      go : (b : Bool) → cond b (Some y.atom) (atom_at ys a) ≡ Some x → (atom_at ys a ≡ Some x → Q x) → Q x
+      go true i r = let same : y.atom ≡ x = cc in subst Q same h.0
       go false i r = r i
 
   -- and of every one but that
-  pub without-all : (atoms : List Numbered) (a : ℕ) → AllInAtoms P atoms → AllInAtoms P (without atoms a)
+  pub without-all : (atoms : List Numbered) (a : ℕ) → AllByRecursion (λ (y : Numbered). Q y.atom) atoms
+      → AllByRecursion (λ (y : Numbered). Q y.atom) (without atoms a)
   without-all [] a h = tt
   without-all (y ∷ ys) a h = go (y.number == a) (without-all ys a h.1)
     where
-      go : (b : Bool) → AllInAtoms P (without ys a) → AllInAtoms P (cond b ys (y ∷ without ys a))
+      go : (b : Bool) → AllByRecursion (λ (y : Numbered). Q y.atom) (without ys a)
+          → AllByRecursion (λ (y : Numbered). Q y.atom) (cond b ys (y ∷ without ys a))
       go true r = h.1
       go false r = (h.0, r)
 
   -- and of every one with a cell in place of one
   pub with_fields-all : (atoms : List Numbered) (a : ℕ) (t : Term) (fields : List (FieldId × Term))
-      → AllInAtoms P atoms → AllInAtom P (Points t fields) → AllInAtoms P (with_fields atoms a t fields)
+      → AllByRecursion (λ (y : Numbered). Q y.atom) atoms → Q (Points t fields)
+      → AllByRecursion (λ (y : Numbered). Q y.atom) (with_fields atoms a t fields)
   with_fields-all [] a t fields h n = tt
   with_fields-all (y ∷ ys) a t fields h n = go (y.number == a) (with_fields-all ys a t fields h.1 n)
     where
-      go : (b : Bool) → AllInAtoms P (with_fields ys a t fields)
-          → AllInAtoms P
+      go : (b : Bool) → AllByRecursion (λ (y : Numbered). Q y.atom) (with_fields ys a t fields)
+          → AllByRecursion (λ (y : Numbered). Q y.atom)
           (cond b (record { number = a; atom = Points t fields } ∷ ys) (y ∷ with_fields ys a t fields))
       go true r = (n, h.1)
       go false r = (h.0, r)
