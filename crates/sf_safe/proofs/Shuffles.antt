@@ -83,19 +83,10 @@ after-back w g v q r e s =
     let b = group (r ∷ e ∷ []) a.sums in
     record { frame = a.both; stack = b.both; back = a.parts; split = b.parts; sums = b.sums }
 
--- after an entry: the share i of a resource comes to the frame's part v, and d is left to the free ones
-pub record AfterEntry (w v q r i d : Own) : Type 0 where
-  pub frame : Own
-  pub stack : Own
-  pub back : Parts frame v i
-  pub split : Parts stack frame q
-  pub sums : Sums w (stack ∷ r ∷ d ∷ [])
-
-pub after-entry : (w v q r i d : Own) → Sums w (v ∷ q ∷ r ∷ i ∷ d ∷ []) → AfterEntry w v q r i d
-after-entry w v q r i d s =
-    let a = group (q ∷ r ∷ d ∷ []) (order (0 ∷ 2 ∷ []) (v ∷ q ∷ r ∷ i ∷ d ∷ []) w s) in
-    let b = group (r ∷ d ∷ []) a.sums in
-    record { frame = a.both; stack = b.both; back = a.parts; split = b.parts; sums = b.sums }
+-- after an entry: the share i of a resource comes to the frame's part v as what comes back does, and d is left to
+-- the free ones
+pub after-entry : (w v q r i d : Own) → Sums w (v ∷ q ∷ r ∷ i ∷ d ∷ []) → AfterBack w v i q r d
+after-entry w v q r i d s = after-back w v i q r d (order (0 ∷ 2 ∷ []) (v ∷ q ∷ r ∷ i ∷ d ∷ []) w s)
 
 -- after an exit: the share i is with the free ones' e again
 pub record AfterExit (w i v q r e : Own) : Type 0 where

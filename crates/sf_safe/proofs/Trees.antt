@@ -113,25 +113,28 @@ module _ (p : Program) where
     },
   )
 
-  pub fewer-tree : (n : ℕ) (owed : Known) (t : Task) (w : Own) → Tree p (suc n) owed t w → Tree p n owed t w
-  fewer-tree n owed (runs frames) w s = fewer-running n owed frames w s
-  fewer-tree n owed (waits frames one two) w (g, h, k) = (
+  -- the tree of a task that waits, of its own share and those of its children
+  waiting-tree : (n : ℕ) (owed : Known) (frames : List Frame) (one two : Task) (g h : Known)
+      {w stack both this that : Own}
+      → Parts w stack both → Parts both this that → Waiting p n owed frames g h stack → Tree p n g one this
+      → Tree p n h two that → Tree p n owed (waits frames one two) w
+  waiting-tree n owed frames one two g h parts apart s x y = (
     g,
     h,
     record {
-      left = k.left;
-      right = k.right;
-      parts = k.parts;
-      first = fewer-waiting n owed frames g h k.left k.first;
-      second = record {
-        left = k.second.left;
-        right = k.second.right;
-        parts = k.second.parts;
-        first = fewer-tree n g one _ k.second.first;
-        second = fewer-tree n h two _ k.second.second;
-      };
+      left = _;
+      right = _;
+      parts = parts;
+      first = s;
+      second = record { left = _; right = _; parts = apart; first = x; second = y };
     },
   )
+
+  pub fewer-tree : (n : ℕ) (owed : Known) (t : Task) (w : Own) → Tree p (suc n) owed t w → Tree p n owed t w
+  fewer-tree n owed (runs frames) w s = fewer-running n owed frames w s
+  fewer-tree n owed (waits frames one two) w (g, h, k) =
+      waiting-tree n owed frames one two g h k.parts k.second.parts (fewer-waiting n owed frames g h k.left k.first)
+      (fewer-tree n g one _ k.second.first) (fewer-tree n h two _ k.second.second)
 
   -- one task of the tree, with its share, and the way back to a tree for one event less
   pub record Focus (n : ℕ) (owed : Known) (path : Path) (t u : Task) (w : Own) : Type 0 where
@@ -142,6 +145,27 @@ module _ (p : Program) where
     pub here : Tree p (suc n) owes u part
     pub back : (u' : Task) (part' w' : Own) → Tree p n owes u' part' → Parts w' part' rest
         → Tree p n owed (put_task path u' t) w'
+
+  -- a task of one child has its share beside what the other child and the waiting frames have
+  beside : {n : ℕ} {owed g : Known} {path turns : Path} {child t u : Task} {w stack both this that : Own}
+      → Parts w stack both → Parts both this that → Focus n g path child u this
+      → ((u' : Task) (this' both' w' : Own) → Tree p n g (put_task path u' child) this'
+      → Parts both' this' that → Parts w' stack both' → Tree p n owed (put_task turns u' t) w')
+      → Focus n owed turns t u w
+  beside {stack = stack} {that = that} parts apart f back =
+      let m = parts-right f.parts apart in
+      let c = parts-right m.1 (parts-comm parts) in
+      record {
+        owes = f.owes;
+        part = f.part;
+        rest = and (and f.rest that) stack;
+        parts = c.1;
+        here = f.here;
+        back = λ u' part' w' t q.
+            let x = parts-left c.0 q in
+            let y = parts-left m.0 x.0 in
+            back u' _ _ w' (f.back u' part' _ t y.0) y.1 (parts-comm x.1);
+      }
 
   pub focus : (n : ℕ) (owed : Known) (path : Path) (t u : Task) (w : Own) → task_at path t ≡ Some u
       → Tree p (suc n) owed t w → Focus n owed path t u w
@@ -156,62 +180,10 @@ module _ (p : Program) where
   focus n owed (left ∷ path) (runs frames) u w e s = absurd (cc)
   focus n owed (right ∷ path) (runs frames) u w e s = absurd (cc)
   focus n owed (left ∷ path) (waits frames one two) u w e (g, h, k) =
-      let f = focus n g path one u k.second.left e k.second.first in
-      let m = parts-right f.parts k.second.parts in
-      let c = parts-right m.1 (parts-comm k.parts) in
-      record {
-        owes = f.owes;
-        part = f.part;
-        rest = and (and f.rest k.second.right) k.left;
-        parts = c.1;
-        here = f.here;
-        back = λ u' part' w' t q.
-            let x = parts-left c.0 q in
-            let y = parts-left m.0 x.0 in (
-              g,
-              h,
-              record {
-                left = k.left;
-                right = _;
-                parts = parts-comm x.1;
-                first = fewer-waiting n owed frames g h k.left k.first;
-                second = record {
-                  left = _;
-                  right = k.second.right;
-                  parts = y.1;
-                  first = f.back u' part' _ t y.0;
-                  second = fewer-tree n h two _ k.second.second;
-                };
-              },
-            );
-      }
+      beside k.parts k.second.parts (focus n g path one u k.second.left e k.second.first)
+      (λ u' this both w' t q s. waiting-tree n owed frames (put_task path u' one) two g h s q
+      (fewer-waiting n owed frames g h k.left k.first) t (fewer-tree n h two _ k.second.second))
   focus n owed (right ∷ path) (waits frames one two) u w e (g, h, k) =
-      let f = focus n h path two u k.second.right e k.second.second in
-      let m = parts-right f.parts (parts-comm k.second.parts) in
-      let c = parts-right m.1 (parts-comm k.parts) in
-      record {
-        owes = f.owes;
-        part = f.part;
-        rest = and (and f.rest k.second.left) k.left;
-        parts = c.1;
-        here = f.here;
-        back = λ u' part' w' t q.
-            let x = parts-left c.0 q in
-            let y = parts-left m.0 x.0 in (
-              g,
-              h,
-              record {
-                left = k.left;
-                right = _;
-                parts = parts-comm x.1;
-                first = fewer-waiting n owed frames g h k.left k.first;
-                second = record {
-                  left = k.second.left;
-                  right = _;
-                  parts = parts-comm y.1;
-                  first = fewer-tree n g one _ k.second.first;
-                  second = f.back u' part' _ t y.0;
-                };
-              },
-            );
-      }
+      beside k.parts (parts-comm k.second.parts) (focus n h path two u k.second.right e k.second.second)
+      (λ u' this both w' t q s. waiting-tree n owed frames one (put_task path u' two) g h s (parts-comm q)
+      (fewer-waiting n owed frames g h k.left k.first) (fewer-tree n g one _ k.second.first) t)

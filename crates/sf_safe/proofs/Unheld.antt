@@ -1,6 +1,6 @@
 -- A procedure whose contract mentions no variable of a resource uses none outside its regions: else one would
 -- be where its resource isn't held, which the conditions on variables forbid.
-use Rattle.std.specs.Prelude.{◌≡◌, ℕ, List, [], ◌∷◌, ◌++◌, Contains, Some, ◌⊎◌, slice_get}
+use Rattle.std.specs.Prelude.{◌≡◌, ℕ, List, ◌++◌, Contains, Some, slice_get}
 use Rattle.std.proofs.Common.{sym, refl, subst, inl, inr}
 use Rattle.std.proofs.lemmas.List.Elements.{Contains-append_cases}
 use Rattle.sf_base.specs.declared.ids.ProcId.{ProcId}
