@@ -13,7 +13,7 @@ after_more [] n t bindings = refl
 after_more (x ∷ xs) n t bindings = after_more xs n t (set bindings x.0 (Some x.1))
 
 -- a change by its number
-set-at : (bindings : List (Option Term)) (m n : ℕ) (t : Term) (b : Bool) → m == n ≡ b → n < length bindings
+pub set-at : (bindings : List (Option Term)) (m n : ℕ) (t : Term) (b : Bool) → m == n ≡ b → n < length bindings
     → get_or (set bindings m (Some t)) n None ≡ cond b (Some t) (get_or bindings n None)
 set-at bindings m n t true e within =
     get_or-set_at bindings m n (Some t) None (sym ((Decides-eqb m n).0 e)) (subst (λ k. k < length bindings)

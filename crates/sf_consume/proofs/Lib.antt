@@ -1,2 +1,10 @@
 pub mod Changes
 pub mod Nodes
+pub mod WantedFirst
+pub mod Handing
+pub mod Bindings
+pub mod Fitting
+pub mod PureLaws
+pub mod PartLaws
+pub mod CellLaws
+pub mod Chains

@@ -1,2 +1,4 @@
 pub mod Subtract
+pub mod Wants
+pub mod Laws
 pub mod Internal

@@ -7,12 +7,14 @@
 //! - `cells`: wanted parts that are cells or begin with one.
 //! - `parts`: wanted segments and trees that are an atom or begin with one.
 //! - `wanted`: what is wanted first.
+//! - `laws`: what the rows keep.
 //! - `rows`: the rows of subtraction by their tags.
 #![tactic(auto)]
 
 mod cells;
 mod fault;
 mod fit;
+pub mod laws;
 mod parts;
 mod pure;
 mod rows;
