@@ -1,5 +1,5 @@
 pub mod Keeping
-pub mod Absurd
+pub mod AbsurdStates
 pub mod Dropping
 pub mod Forcing
 pub mod Splitting

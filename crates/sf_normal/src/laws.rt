@@ -6,7 +6,7 @@
 ghost use Rattle.sf_normal.specs.Laws.{AbsurdKeepsGoals, DropKeepsGoals, ForceKeepsGoals, SplitKeepsGoals, UnrollKeepsGoals};
 
 /// A state that is absurd has no values and heaps, so nothing is left to prove.
-#[tactic(auto, using(crate::proofs::Absurd::absurd_keeps_goals))]
+#[tactic(auto, using(crate::proofs::AbsurdStates::absurd_keeps_goals))]
 pub fn absurd_keeps_goals()
     ensures { AbsurdKeepsGoals }
 {}

@@ -35,6 +35,20 @@ reversed_conjuncts to xs ys e =
     ap conjuncts (reversed-viewed conjunct_of (conjunct_with to) xs ys e)
     ∙ conjuncts_with-map to (map conjunct_of (reverse xs))
 
+-- conjuncts that are the same one by one, the next one last
+pub reversed_conjuncts_same : (xs ys : List (CodeConjunct Term)) → map conjunct_of ys ≡ map conjunct_of xs
+    → conjuncts (map (conjunct_of {E = Term}) (reverse ys)) ≡ conjuncts (map (conjunct_of {E = Term}) (reverse xs))
+reversed_conjuncts_same xs ys e =
+    ap conjuncts (reversed-map conjunct_of ys ∙ ap reverse e ∙ sym (reversed-map conjunct_of xs))
+
+-- things to do that are the same one by one, the next one last
+pub reversed_same : (xs ys : List CodeItem) → map items_of ys ≡ map items_of xs
+    → flat_map items_of (reverse ys) ≡ flat_map items_of (reverse xs)
+reversed_same xs ys e =
+    sym (flat_map-map (λ z. z) items_of (reverse ys))
+    ∙ ap (flat_map (λ z. z)) (reversed-map items_of ys ∙ ap reverse e ∙ sym (reversed-map items_of xs))
+    ∙ flat_map-map (λ z. z) items_of (reverse xs)
+
 flat-map : {X Y : Type 0} (f : X → Y) (zs : List (List X))
     → flat_map (λ z. z) (map (map f) zs) ≡ map f (flat_map (λ z. z) zs)
 flat-map f [] = refl

@@ -1,6 +1,8 @@
 //! Atoms that can only be empty.
 
 ghost use Rattle.std.specs.Prelude.{◌≡◌};
+ghost use Rattle.std.specs.Option.{option_and_then};
+ghost use Rattle.sf_sym.specs.Cells.{atom_at};
 ghost use Rattle.sf_sym.specs.Known.{ends, first_forced, first_nothing, forced_ends, is_nothing};
 
 use crate::atom::Atom;
@@ -32,6 +34,13 @@ impl Atom {
 }
 
 impl State {
+    /// The ends of the atom of that number, where it is a segment or a tree.
+    pub fn ends(&self, a: u32) -> Option<(Term, Term)>
+        ensures { result ≡ option_and_then ends (atom_at self.now.atoms a) }
+    {
+        self.atom(a)?.ends()
+    }
+
     /// The ends of an atom of that number, where it can only be empty: its root is a constant or a cell
     /// of another atom, and the ends aren't one term yet.
     pub fn forced_ends(&self, a: u32, atom: &Atom) -> Option<(Term, Term)>

@@ -11,6 +11,7 @@
 //! - `pending`: conjuncts that are still to be assumed or to be shown.
 //! - `goal`: a state, and what is still to do from there.
 //! - `todo`: the items of a goal.
+//! - `copy`: copies of goals.
 //! - `tag`: the steps of a proof.
 //! - `replace`: replacing a symbol by a term.
 //! - `vars`: the terms of the variables.
@@ -19,6 +20,7 @@
 #![tactic(auto)]
 
 mod atom;
+mod copy;
 mod decided;
 mod empty;
 pub mod examples;

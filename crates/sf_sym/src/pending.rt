@@ -6,10 +6,11 @@ ghost use Rattle.sf_sym.specs.Equalities.{pending_with, put_for};
 ghost use Rattle.sf_sym.specs.Pending.{pending_of};
 ghost use Rattle.sf_sym.specs.declared.term.Term.{Term as TermOf};
 
+use crate::copy::copy_conjuncts;
 use crate::replace::Replacement;
 use crate::term::Term;
 use sf_core::Conjunct;
-use std::alloc::AllocError;
+use std::alloc::{AllocError, Global};
 use std::marker::Model;
 
 /// Conjuncts with terms that are still to be assumed or to be shown, and what their existentials stand
@@ -134,6 +135,17 @@ impl Pending {
     {
         self.conjuncts.pop()
     }
+
+    /// The same conjuncts, with the same terms of the existentials. An `Err` means out of memory.
+    pub(crate) fn copy(&self, alloc: Global) -> Result<Pending, AllocError>
+        ensures { IfOk result (λ copy. pending_of copy ≡ pending_of self.now) }
+    {
+        Ok(Pending {
+            conjuncts: copy_conjuncts(alloc, &self.conjuncts)?,
+            bindings: Vec::from_slice(alloc, &self.bindings)?,
+        })
+    }
+
     /// Replaces a symbol by a term.
     pub(crate) fn replace(&mut self, r: Replacement)
         ensures { pending_of self.new ≡ pending_with (put_for r.symbol r.by) (pending_of self.old) }

@@ -81,6 +81,13 @@ impl State {
         })
     }
 
+    /// The fields by which segments and trees go.
+    pub fn links(&self) -> Links
+        ensures { result ≡ self.now.links }
+    {
+        self.links
+    }
+
     /// The terms of the variables, in the order of the variables.
     pub fn vars(&self) -> &[(Var, Term)]
         ensures { result.now ≡ self.now.vars }

@@ -1,4 +1,5 @@
 ghost use Rattle.std.specs.Prelude.{◌≡◌};
+ghost use Rattle.sf_sym.specs.Below.{is_below};
 ghost use Rattle.sf_sym.specs.Tests.{is_constant, same_term};
 
 /// A value as a state knows it. Terms are ordered: nil, the integers by value, the symbols by number.
@@ -26,5 +27,15 @@ impl Term {
         ensures { result ≡ same_term self other }
     {
         self == other
+    }
+
+    /// Whether it is a constant, or a symbol below that number.
+    pub fn is_below(self, next: u32) -> bool
+        ensures { result ≡ is_below next self }
+    {
+        match self {
+            Term::Nil | Term::Int(_) => true,
+            Term::Sym(n) => n < next,
+        }
     }
 }
