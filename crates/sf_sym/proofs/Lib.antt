@@ -7,3 +7,4 @@ pub mod Replaced
 pub mod VariableLists
 pub mod Items
 pub mod NumberLists
+pub mod OwnRoots

@@ -6,6 +6,7 @@ ghost use Rattle.sf_sym.specs.Cells.{atom_at};
 ghost use Rattle.sf_sym.specs.Known.{ends, first_forced, first_nothing, forced_ends, is_nothing};
 
 use crate::atom::Atom;
+use crate::roots::first_at_constant;
 use crate::state::State;
 use crate::term::Term;
 
@@ -68,10 +69,14 @@ impl State {
         None
     }
 
-    /// The first atom that can only be empty though its ends aren't one term yet, with its ends.
+    /// The first atom that can only be empty though its ends aren't one term yet, with its ends. Atoms are
+    /// compared with each other only where two begin at one symbol.
     pub fn forced(&self) -> Option<(u32, Term, Term)>
         ensures { result ≡ first_forced self.now self.now.atoms }
     {
+        if self.have_own_roots() {
+            return first_at_constant(self.atoms());
+        }
         let mut left = self.atoms();
         while let Some((first, rest)) = left.split_first() {
             if let Some((t, u)) = self.forced_ends(first.number, &first.atom) {

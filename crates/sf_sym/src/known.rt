@@ -1,14 +1,25 @@
 //! The tests of a state: what it knows of terms, and whether it can be at all.
 
-ghost use Rattle.std.specs.Prelude.{◌≡◌, ◌&&◌, ◌||◌, ◌++◌, not};
+ghost use Rattle.std.specs.Prelude.{◌≡◌, ◌&&◌, ◌||◌, ◌++◌, false, not};
+ghost use Rattle.std.specs.Bool.{OnTrue};
 ghost use Rattle.std.specs.List.{list_any};
+ghost use Rattle.sf_sym.specs.Internal.OwnRoots.{HaveOwnRoots};
 ghost use Rattle.sf_sym.specs.Tests.{allocated, allocates, are_both_allocated, differs, differs_at_once, has_cell, has_repeat, is_absurd, is_constant, is_impossible, is_integer_tree, is_left_out, is_pair, parts, root, same_term};
 
 use crate::atom::{Atom, Numbered};
+use crate::roots::have_own_roots;
 use crate::state::State;
 use crate::term::Term;
 
 impl State {
+    /// Whether no two atoms or taken atoms begin at one symbol. Where there is no memory to find that
+    /// out, it says `false` too.
+    pub(crate) fn have_own_roots(&self) -> bool
+        ensures { OnTrue result (HaveOwnRoots (parts self.now)) }
+    {
+        have_own_roots(self.alloc(), self.atoms(), self.taken())
+    }
+
     /// Whether two terms differ at once: different constants, or one of the pairs that differ.
     fn differs_at_once(&self, t: Term, u: Term) -> bool
         ensures { result ≡ differs_at_once self.now.apart t u }
@@ -63,8 +74,8 @@ impl State {
     }
 
     /// Whether no store and heap have the state: a term would differ from itself, or a constant would be
-    /// a location, or an integer a tree, or two cells would be one. The last compares the root of each
-    /// atom with those of the later ones; the rest goes over the state once.
+    /// a location, or an integer a tree, or two cells would be one. It goes over the state once, and
+    /// compares atoms with each other only where two begin at one symbol.
     pub fn is_absurd(&self) -> bool
         ensures { result ≡ is_absurd self.now }
     {
@@ -86,10 +97,15 @@ impl State {
         has_impossible(apart, self.atoms()) || has_impossible(apart, self.taken())
     }
 
-    /// Whether two atoms or taken atoms have cells at one term.
+    /// Whether two atoms or taken atoms have cells at one term, none being impossible by itself.
+    #[tactic(auto, using(crate::proofs::OwnRoots::apart_no_repeat))]
     fn has_repeat(&self) -> bool
+        requires { list_any (λ a. is_impossible self.now.apart a.atom) (parts self.now) ≡ false }
         ensures { result ≡ has_repeat self.now.apart (parts self.now) }
     {
+        if self.have_own_roots() {
+            return false;
+        }
         let apart = self.apart();
         repeats(apart, self.atoms(), self.taken()) || repeats(apart, self.taken(), &[])
     }

@@ -4,6 +4,7 @@
 //! - `term`: values as a state knows them.
 //! - `atom`: the parts of a heap, as a state knows them.
 //! - `fields`: the terms of a cell's fields.
+//! - `roots`: whether no two atoms of a state begin at one symbol.
 //! - `state`: states, and the primitive changes of them.
 //! - `known`: the tests of a state.
 //! - `decided`: which terms operands have.
@@ -30,6 +31,7 @@ mod known;
 pub mod laws;
 mod pending;
 mod replace;
+mod roots;
 mod state;
 mod tag;
 mod term;

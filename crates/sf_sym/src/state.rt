@@ -81,6 +81,11 @@ impl State {
         })
     }
 
+    /// What its lists allocate by.
+    pub(crate) fn alloc(&self) -> Global {
+        *self.atoms.allocator()
+    }
+
     /// The fields by which segments and trees go.
     pub fn links(&self) -> Links
         ensures { result ≡ self.now.links }

@@ -1,4 +1,4 @@
-use Rattle.std.proofs.Common.{◌≡◌, length, map, ap, ◌∙◌, arith}
+use Rattle.std.proofs.Common.{length, map, ap, ◌∙◌, arith}
 use Rattle.sf_sym.specs.Equalities.{numbered_with, put_for}
 use Rattle.sf_sym.proofs.InPlace.{vec-whole}
 use Rattle.sf_sym.proofs.NumberLists.{numbered-map}

@@ -1,0 +1,9 @@
+use Rattle.std.proofs.Common.{sym, ap, ◌∙◌}
+use Rattle.sf_sym.specs.Internal.OwnRoots.{first_at_constant}
+use Rattle.sf_sym.proofs.OwnRoots.{own_forced}
+use Rattle.sf_sym.proofs.state.State.forced.Goals as goal
+
+pub returns-then-have_own_roots : goal.returns-then-have_own_roots
+returns-then-have_own_roots c =
+    c.first_at_constant.ensures ∙ ap first_at_constant c.atoms.ensures
+    ∙ sym (own_forced c.args.self.now c.if-have_own_roots.ensures)
