@@ -2,7 +2,7 @@
 
 ghost use Rattle.std.specs.Prelude.{◌≡◌, ◌+◌, ◌<◌, ◌≤◌, ◌^◌, IfNone, IfOk, IfSome, None, OnErr, Some, [], is_some, length, true};
 ghost use Rattle.std.specs.Option.{option_map};
-ghost use Rattle.sf_consume.specs.Internal.Fits.{after_changes, fitting_of, want_of};
+ghost use Rattle.sf_consume.specs.Internal.Fits.{AnswersBy, after_changes, fitting_of};
 ghost use Rattle.sf_consume.specs.Subtract.{cell_step, fitting, head_step, new_symbols, node_step, stepped};
 ghost use Rattle.sf_sym.specs.Cells.{cell_at};
 ghost use Rattle.sf_sym.specs.Pending.{pending_of};
@@ -23,12 +23,7 @@ pub(crate) fn cell(
     a: u32,
 ) -> Result<Option<()>, AllocError>
     requires { state.old.next_sym + new_symbols (pending_of want.old).conjuncts < 2 ^ 32 }
-    ensures done { IfOk result (λ r. IfSome r (λ _. stepped (cell_step a) (want_of state.old want.old)
-        ≡ Some (want_of state.new want.new))) }
-    ensures none { IfOk result (λ r.
-        IfNone r (stepped (cell_step a) (want_of state.old want.old) ≡ None)) }
-    ensures kept { IfOk result (λ r. IfNone r (state.new ≡ state.old)) }
-    ensures kept_want { IfOk result (λ r. IfNone r (want.new ≡ want.old)) }
+    ensures answers { IfOk result (AnswersBy (cell_step a) state.old state.new want.old want.new) }
     ensures err { OnErr result (state.new ≡ state.old) }
     ensures err_want { OnErr result (want.new ≡ want.old) }
 {
@@ -117,12 +112,7 @@ pub(crate) fn head(
     a: u32,
 ) -> Result<Option<()>, AllocError>
     requires { state.old.next_sym + 1 < 2 ^ 32 }
-    ensures done { IfOk result (λ r. IfSome r (λ _. stepped (head_step a) (want_of state.old want.old)
-        ≡ Some (want_of state.new want.new))) }
-    ensures none { IfOk result (λ r.
-        IfNone r (stepped (head_step a) (want_of state.old want.old) ≡ None)) }
-    ensures kept { IfOk result (λ r. IfNone r (state.new ≡ state.old)) }
-    ensures kept_want { IfOk result (λ r. IfNone r (want.new ≡ want.old)) }
+    ensures answers { IfOk result (AnswersBy (head_step a) state.old state.new want.old want.new) }
     ensures err { OnErr result (state.new ≡ state.old) }
     ensures err_want { OnErr result (want.new ≡ want.old) }
 {
@@ -156,12 +146,7 @@ pub(crate) fn node(
     a: u32,
 ) -> Result<Option<()>, AllocError>
     requires { state.old.next_sym + 2 < 2 ^ 32 }
-    ensures done { IfOk result (λ r. IfSome r (λ _. stepped (node_step a) (want_of state.old want.old)
-        ≡ Some (want_of state.new want.new))) }
-    ensures none { IfOk result (λ r.
-        IfNone r (stepped (node_step a) (want_of state.old want.old) ≡ None)) }
-    ensures kept { IfOk result (λ r. IfNone r (state.new ≡ state.old)) }
-    ensures kept_want { IfOk result (λ r. IfNone r (want.new ≡ want.old)) }
+    ensures answers { IfOk result (AnswersBy (node_step a) state.old state.new want.old want.new) }
     ensures err { OnErr result (state.new ≡ state.old) }
     ensures err_want { OnErr result (want.new ≡ want.old) }
 {

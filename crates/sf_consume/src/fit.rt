@@ -126,9 +126,9 @@ fn latest(changes: &[(u32, Term)], n: u32, before: Option<Term>) -> Option<Term>
 {
     let mut term = before;
     let mut left = changes;
-    while let Some((first, rest)) = left.split_first() {
-        if first.0 == n {
-            term = Some(first.1);
+    while let Some((change, rest)) = left.split_first() {
+        if change.0 == n {
+            term = Some(change.1);
         }
         left = rest;
     }

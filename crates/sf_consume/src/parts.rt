@@ -1,7 +1,7 @@
 //! Wanted segments and trees that are an atom, or begin with one.
 
 ghost use Rattle.std.specs.Prelude.{◌≡◌, IfNone, IfOk, IfSome, None, OnErr, Some};
-ghost use Rattle.sf_consume.specs.Internal.Fits.{want_of};
+ghost use Rattle.sf_consume.specs.Internal.Fits.{AnswersBy};
 ghost use Rattle.sf_consume.specs.Subtract.{exact_step, is_same_shape, join_step, joined, stepped};
 
 use crate::wanted::{as_list, both, list_from, wanted_shape};
@@ -11,12 +11,7 @@ use std::alloc::AllocError;
 /// exact: a wanted segment or tree is that atom. `None` exactly where it isn't; an `Err` means out of memory.
 /// After either nothing has changed.
 pub(crate) fn exact(state: &mut State, want: &mut Pending, a: u32) -> Result<Option<()>, AllocError>
-    ensures done { IfOk result (λ r. IfSome r (λ _. stepped (exact_step a) (want_of state.old want.old)
-        ≡ Some (want_of state.new want.new))) }
-    ensures none { IfOk result (λ r.
-        IfNone r (stepped (exact_step a) (want_of state.old want.old) ≡ None)) }
-    ensures kept { IfOk result (λ r. IfNone r (state.new ≡ state.old)) }
-    ensures kept_want { IfOk result (λ r. IfNone r (want.new ≡ want.old)) }
+    ensures answers { IfOk result (AnswersBy (exact_step a) state.old state.new want.old want.new) }
     ensures err { OnErr result (state.new ≡ state.old) }
     ensures err_want { OnErr result (want.new ≡ want.old) }
 {
@@ -51,12 +46,7 @@ fn is_same_shape(x: &Atom, y: &Atom) -> bool
 /// join: a wanted segment begins with that segment; its end is a constant or a cell of another atom. `None`
 /// exactly where it isn't so; an `Err` means out of memory. After either nothing has changed.
 pub(crate) fn join(state: &mut State, want: &mut Pending, a: u32) -> Result<Option<()>, AllocError>
-    ensures done { IfOk result (λ r. IfSome r (λ _. stepped (join_step a) (want_of state.old want.old)
-        ≡ Some (want_of state.new want.new))) }
-    ensures none { IfOk result (λ r.
-        IfNone r (stepped (join_step a) (want_of state.old want.old) ≡ None)) }
-    ensures kept { IfOk result (λ r. IfNone r (state.new ≡ state.old)) }
-    ensures kept_want { IfOk result (λ r. IfNone r (want.new ≡ want.old)) }
+    ensures answers { IfOk result (AnswersBy (join_step a) state.old state.new want.old want.new) }
     ensures err { OnErr result (state.new ≡ state.old) }
     ensures err_want { OnErr result (want.new ≡ want.old) }
 {

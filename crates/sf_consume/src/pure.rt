@@ -1,7 +1,7 @@
 //! Wanted equalities and inequalities, and what is wanted of no heap: these need no memory.
 
 ghost use Rattle.std.specs.Prelude.{◌≡◌, IfNone, IfSome, None, Some};
-ghost use Rattle.sf_consume.specs.Internal.Fits.{want_of};
+ghost use Rattle.sf_consume.specs.Internal.Fits.{AnswersBy};
 ghost use Rattle.sf_consume.specs.Subtract.{apart_step, bind_step, binding, empty_step, one_binding, same_step, stepped, unbound};
 
 use crate::wanted::{as_equality, as_inequality, both, wanted_ends};
@@ -11,10 +11,7 @@ use sf_sym::{Pending, State, Term, term_of};
 /// bind: one side of an equality is an existential without a term, and gets that of the other. `None` exactly
 /// where it isn't so.
 pub(crate) fn bind(state: &State, want: &mut Pending) -> Option<()>
-    ensures done { IfSome result (λ _. stepped bind_step (want_of state.now want.old)
-        ≡ Some (want_of state.now want.new)) }
-    ensures none { IfNone result (stepped bind_step (want_of state.now want.old) ≡ None) }
-    ensures kept { IfNone result (want.new ≡ want.old) }
+    ensures answers { AnswersBy bind_step state.now state.now want.old want.new result }
 {
     let (x, y) = as_equality(want.first()?)?;
     let (n, t) = binding(want.bindings(), x, y)?;
@@ -25,10 +22,7 @@ pub(crate) fn bind(state: &State, want: &mut Pending) -> Option<()>
 
 /// same: an equality of one term with itself.
 pub(crate) fn same(state: &State, want: &mut Pending) -> Option<()>
-    ensures done { IfSome result (λ _. stepped same_step (want_of state.now want.old)
-        ≡ Some (want_of state.now want.new)) }
-    ensures none { IfNone result (stepped same_step (want_of state.now want.old) ≡ None) }
-    ensures kept { IfNone result (want.new ≡ want.old) }
+    ensures answers { AnswersBy same_step state.now state.now want.old want.new result }
 {
     let (x, y) = as_equality(want.first()?)?;
     let (t, u) = both(want.bindings(), x, y)?;
@@ -41,10 +35,7 @@ pub(crate) fn same(state: &State, want: &mut Pending) -> Option<()>
 
 /// apart: an inequality of terms that surely differ.
 pub(crate) fn apart(state: &State, want: &mut Pending) -> Option<()>
-    ensures done { IfSome result (λ _. stepped apart_step (want_of state.now want.old)
-        ≡ Some (want_of state.now want.new)) }
-    ensures none { IfNone result (stepped apart_step (want_of state.now want.old) ≡ None) }
-    ensures kept { IfNone result (want.new ≡ want.old) }
+    ensures answers { AnswersBy apart_step state.now state.now want.old want.new result }
 {
     let (x, y) = as_inequality(want.first()?)?;
     let (t, u) = both(want.bindings(), x, y)?;
@@ -57,10 +48,7 @@ pub(crate) fn apart(state: &State, want: &mut Pending) -> Option<()>
 
 /// empty: a segment from a term to itself, or the tree of nil.
 pub(crate) fn empty(state: &State, want: &mut Pending) -> Option<()>
-    ensures done { IfSome result (λ _. stepped empty_step (want_of state.now want.old)
-        ≡ Some (want_of state.now want.new)) }
-    ensures none { IfNone result (stepped empty_step (want_of state.now want.old) ≡ None) }
-    ensures kept { IfNone result (want.new ≡ want.old) }
+    ensures answers { AnswersBy empty_step state.now state.now want.old want.new result }
 {
     let (t, u) = wanted_ends(want.bindings(), want.first()?)?;
     if !t.is(u) {

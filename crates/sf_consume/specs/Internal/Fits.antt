@@ -1,11 +1,11 @@
 -- How the code compares the fields of a wanted cell: it notes what existentials are to stand for, and sets it at the end.
 -- Ordinary: a list of changes that are made one after the other.
-use Rattle.std.specs.Prelude.{ℕ, ◌==◌, cond, Option, Some, List, [], ◌∷◌, set}
+use Rattle.std.specs.Prelude.{◌≡◌, ℕ, ◌==◌, cond, Option, Some, None, List, [], ◌∷◌, IfNone, IfSome, set}
 use Rattle.sf_sym.specs.declared.term.Term.{Term}
 use Rattle.sf_sym.specs.Pending.{Given, pending_of}
 use Rattle.sf_sym.specs.State.{State}
 use Rattle.sf_consume.specs.declared.fit.Fitting.{Fitting}
-use Rattle.sf_consume.specs.Subtract.{Fit, Want}
+use Rattle.sf_consume.specs.Subtract.{Fit, Step, Want, stepped}
 
 -- what existentials stand for after these changes
 abbrev pub after_changes : List (ℕ × Term) → List (Option Term) → List (Option Term)
@@ -40,3 +40,13 @@ want_of s want = record {
   bindings = (pending_of want).bindings;
   conjuncts = (pending_of want).conjuncts;
 }
+
+-- how the code answers by a step, of a state and what is wanted of it, before and after
+pub record AnswersBy {X : Type 0} (step : Step) (before after : State) (want still : Given) (answer : Option X)
+    : Type 0 where
+  -- where it is done, what is left is the step's
+  pub done : IfSome answer (λ _. stepped step (want_of before want) ≡ Some (want_of after still))
+  -- it isn't exactly where the step leaves nothing, and then nothing has changed
+  pub none : IfNone answer (stepped step (want_of before want) ≡ None)
+  pub kept : IfNone answer (after ≡ before)
+  pub kept_want : IfNone answer (still ≡ want)
