@@ -15,13 +15,14 @@ use Rattle.sf_core.specs.Assertions.Sat.{HasFields, Seg, cell, Tree as IsTree, n
 use Rattle.sf_core.specs.declared.assertion.Operand.{Operand}
 use Rattle.sf_core.specs.Program.Syntax.{Conjunct, points, segment, tree, Conjuncts, also}
 use Rattle.sf_consume.proofs.Fitting.{FitBelow, fit-all, link-is}
-use Rattle.sf_consume.proofs.Handing.{both-are, by_first, differ-in, operand-below, operand-is, state-below, state-handed, state-joins, state-out, wanting_first, wants-other}
+use Rattle.sf_consume.proofs.Handing.{both-are, by_first, operand-below, operand-is, state-below, state-handed, state-joins, state-out, wanting_first, wants-other}
 use Rattle.sf_consume.proofs.WantedFirst.{cell-is, list-is, tree-is}
 use Rattle.sf_consume.specs.declared.wanted.WantedList.{WantedList}
 use Rattle.sf_consume.specs.declared.wanted.WantedTree.{WantedTree}
 use Rattle.sf_consume.specs.Laws.{alone, Subtracts, CellKeepsWants, HeadKeepsWants, NodeKeepsWants}
 use Rattle.sf_consume.specs.Subtract.{Fit, Want, both, cell_step, first_fit, fit_fields, fitting, handed_cell, head_step, head_there, link, list_from, node_step, node_there, removed, tree_from, wanted_cell, wanted_list, wanted_tree}
 use Rattle.sf_consume.specs.Wants.{AllWanted, IsFormed, Wants}
+use Rattle.sf_sym.specs.Lemmas.Decided.{differ-in}
 use Rattle.sf_sym.specs.Lemmas.AtomLists.{at-all, at-cell}
 use Rattle.sf_sym.specs.Lemmas.Below.{below-more, below-value}
 use Rattle.sf_sym.specs.Below.{AllInAtom, AllPaired, IsBelow, SameBelow}
@@ -213,7 +214,7 @@ head-one a s bindings k cs t u fields formed from to differ found =
     let one_value = below-value n v w d.same t below.0 in
     let end_value = below-value n v w d.same u end_below in
     let apart : term_value v t ≢ term_value v u =
-    λ i. differ-in w s e free taken t u h differ (one_value ∙ i ∙ sym end_value) in
+    λ i. differ-in w (alone s) e free taken h t u differ (one_value ∙ i ∙ sym end_value) in
     record {
       values = v;
       same = d.same;

@@ -1,10 +1,9 @@
 -- How the fields of a cell are compared: each symbol that comes up has the value of its field.
--- Names: `field-LAW` of a known field, `link-LAW` of one that may be fresh, `fit-LAW` of those that are wanted.
+-- Names: `link-LAW` of a field that may be fresh, `fit-LAW` of those that are wanted.
 use Rattle.std.specs.List.{AllByRecursion}
 use Rattle.std.specs.Option.{option_and_then}
-use Rattle.std.proofs.Common.{◌≡◌, ℕ, ◌+◌, ◌<◌, ◌≤◌, ◌==◌, Bool, true, false, cond, List, [], ◌∷◌, Option, Some, None, get_or, length, refl, sym, ap, ◌∙◌, subst, arith}
+use Rattle.std.proofs.Common.{◌≡◌, ℕ, ◌+◌, ◌<◌, ◌≤◌, List, [], ◌∷◌, Option, Some, None, get_or, length, refl, sym, ap, ◌∙◌, subst, arith}
 use Rattle.std.proofs.lemmas.Option.{cond_some, same_Some}
-use Rattle.sf_base.proofs.HeapSplits.{at-same}
 use Rattle.sf_base.specs.declared.ids.FieldId.{FieldId}
 use Rattle.sf_base.specs.declared.value.Value.{Value}
 use Rattle.sf_base.specs.HeapStore.{Cell}
@@ -17,7 +16,7 @@ use Rattle.sf_consume.specs.Subtract.{Fit, fit_existential, fit_field, fit_field
 use Rattle.sf_consume.specs.Wants.{IsCounted}
 use Rattle.sf_sym.specs.Lemmas.{same_term_is}
 use Rattle.sf_sym.specs.Lemmas.Below.{below-more, below-symbol, below-value, paired-weaker, put-all}
-use Rattle.sf_sym.specs.Lemmas.CellFields.{put-known}
+use Rattle.sf_sym.specs.Lemmas.CellFields.{field-all, field-value, put-known}
 use Rattle.sf_sym.specs.Lemmas.FreshValues.{value-below, value-here, with_value}
 use Rattle.sf_sym.specs.Lemmas.OtherValues.{Same, fields-other_values}
 use Rattle.sf_sym.specs.Below.{AllPaired, IsBelow, SameBelow}
@@ -27,28 +26,6 @@ use Rattle.sf_sym.specs.declared.term.Term.TheVariants.{Sym}
 use Rattle.sf_sym.specs.Fields.{field_term}
 use Rattle.sf_sym.specs.Holds.{term_value, IsBound}
 use Rattle.sf_sym.specs.Tests.{same_term}
-
--- Known fields
--- a known field has its term's value
-pub field-value : (v : Term → Value) (fields : List (FieldId × Term)) (f : FieldId) (t : Term) (here : Cell)
-    → field_term fields f ≡ Some t → HasFields v fields here → here f.0 ≡ v t
-field-value v [] f t here e h = absurd (cc)
-field-value v (g ∷ gs) f t here e h = go (g.0.0 == f.0) refl e (λ i. field-value v gs f t here i h.1)
-  where
-    go : (b : Bool) → g.0.0 == f.0 ≡ b → cond b (Some g.1) (field_term gs f) ≡ Some t
-        → (field_term gs f ≡ Some t → here f.0 ≡ v t) → here f.0 ≡ v t
-    go true c i r = ap here (sym (at-same f.0 g.0.0 c)) ∙ h.0 ∙ ap v (same_Some g.1 t i)
-    go false c i r = r i
-
--- its term has a property that all have
-pub field-all : (P : Term → Type 0) (fields : List (FieldId × Term)) (f : FieldId) (t : Term)
-    → field_term fields f ≡ Some t → AllPaired P fields → P t
-field-all P [] f t e h = absurd (cc)
-field-all P (g ∷ gs) f t e h = go (g.0.0 == f.0) e (λ i. field-all P gs f t i h.1)
-  where
-    go : (b : Bool) → cond b (Some g.1) (field_term gs f) ≡ Some t → (field_term gs f ≡ Some t → P t) → P t
-    go true i r = subst P (same_Some g.1 t i) h.0
-    go false i r = r i
 
 -- Fresh fields
 -- values with which the fields of a cell are as a fit has them by then, and one of its fields is that term

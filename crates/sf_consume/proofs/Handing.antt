@@ -1,10 +1,10 @@
 -- What the laws of all rows share: a part that is handed over, and what is wanted with other values of symbols.
 -- Names: `state-LAW` of a state alone, `wants-LAW` of what is wanted.
 use Rattle.std.specs.Option.{option_and_then, option_map}
-use Rattle.std.proofs.Common.{◌≡◌, ◌≢◌, ℕ, true, ◌≤◌, List, Option, Some, None, refl, sym, ap, ◌∙◌, subst, inr, arith}
+use Rattle.std.proofs.Common.{◌≡◌, ℕ, ◌≤◌, List, Option, Some, None, refl, sym, ap, ◌∙◌, subst, inr, arith}
 use Rattle.std.proofs.lemmas.Option.{same_Some}
 use Rattle.sf_base.proofs.HeapSplits.{star-drop_right, star-empty_right, star-of}
-use Rattle.sf_base.proofs.MapSplits.{empty_map, empty-holds, splits-assoc_right, splits-comm, splits-empty_left, splits-empty_right, splits-union, union}
+use Rattle.sf_base.proofs.MapSplits.{empty_map, empty-holds, splits-assoc_right, splits-comm, splits-empty_left, splits-empty_right, splits-of_empty_left, splits-union, union}
 use Rattle.sf_base.specs.declared.ids.Var.{Var}
 use Rattle.sf_base.specs.declared.value.Value.{Value}
 use Rattle.sf_base.specs.HeapStore.{Apart, Heap, Splits}
@@ -20,8 +20,6 @@ use Rattle.sf_consume.specs.Wants.{IsFormed, Wants}
 use Rattle.sf_sym.specs.Lemmas.AtomLists.{atoms-one_more, atoms-out, without-all}
 use Rattle.sf_sym.specs.Lemmas.Below.{below-more, below-value, state-weaker}
 use Rattle.sf_sym.specs.Lemmas.FreshGoals.{more-below}
-use Rattle.sf_sym.specs.Lemmas.States.{differing_terms_differ}
-use Rattle.sf_sym.specs.Lemmas.TwoHeaps.{in-at}
 use Rattle.sf_sym.specs.Lemmas.OtherValues.{Same, goal-other_values}
 use Rattle.sf_sym.specs.Below.{AllInAtom, AllInPending, AllInState, IsBelow, SameBelow}
 use Rattle.sf_sym.specs.Cells.{atom_at, handed, without}
@@ -30,9 +28,7 @@ use Rattle.sf_sym.specs.declared.atom.Atom.{Atom}
 use Rattle.sf_sym.specs.declared.term.Term.{Term}
 use Rattle.sf_sym.specs.Holds.{term_value, AtomHolds, IsBound}
 use Rattle.sf_sym.specs.HoldsIn.{HoldsIn}
-use Rattle.sf_sym.specs.Laws.{DifferingTermsDiffer}
 use Rattle.sf_sym.specs.State.{State}
-use Rattle.sf_sym.specs.Tests.{differs}
 
 -- a subtraction whose first conjunct is that one
 abbrev pub wanting_first : State → List (Option Term) → Conjunct Term → Conjuncts Term → Want
@@ -197,15 +193,15 @@ state-below n a s y more below b =
     }
 
 -- Rows that hand nothing over
-pub nothing_handed : (s : State) (bindings now : List (Option Term)) (c : Conjunct Term) (cs : Conjuncts Term)
-    → IsFormed (wanting_first s bindings c cs) → IsFormed (removed s now cs)
+-- whatever heap is still wanted was wanted before
+pub hands_nothing : (s : State) (bindings now : List (Option Term)) (cs left : Conjuncts Term)
+    → IsFormed (removed s bindings cs) → IsFormed (removed s now left)
     →
     ((w some : ℕ → Value) (e : Var → Option Value) (free taken : Heap) → HoldsIn w (alone s) e free taken
-    → IsBound w now some
-    → IsBound w bindings some × SatOne c (term_value w) some empty_map)
-    → Subtracts (wanting_first s bindings c cs) (removed s now cs)
-nothing_handed s bindings now c cs formed left one = record {
-  formed = left;
+    → (heap : Heap) → Wants w some (removed s now left) heap → Wants w some (removed s bindings cs) heap)
+    → Subtracts (removed s bindings cs) (removed s now left)
+hands_nothing s bindings now cs left formed left_formed wants = record {
+  formed = left_formed;
   symbols = omega arith;
   links = refl;
   hands = λ w e free taken h. record {
@@ -217,17 +213,23 @@ nothing_handed s bindings now c cs formed left one = record {
     values = w;
     same = λ m i. refl;
     holds = h;
-    wants = λ some more whole splits d. let first = one w some e free taken h d.bound in record {
-      bound = first.0;
-      satisfied = star-of splits first.1 d.satisfied;
-    };
+    wants = λ some more whole splits d.
+        subst (Wants w some (removed s bindings cs)) (sym (splits-of_empty_left empty-holds splits))
+        (wants w some e free taken h more d);
   };
 }
 
--- terms that surely differ have different values
-pub differ-in : (w : ℕ → Value) (s : State) (e : Var → Option Value) (free taken : Heap) (t u : Term)
-    → HoldsIn w (alone s) e free taken → differs s t u ≡ true → term_value w t ≢ term_value w u
-unfolding DifferingTermsDiffer
-differ-in w s e free taken t u h d =
-    differing_terms_differ w (alone s) e (union free taken)
-    (in-at w (alone s) e (union free taken) free taken (splits-union h.disjoint) h) t u d
+-- the first conjunct needs no heap
+pub nothing_handed : (s : State) (bindings now : List (Option Term)) (c : Conjunct Term) (cs : Conjuncts Term)
+    → IsFormed (wanting_first s bindings c cs) → IsFormed (removed s now cs)
+    →
+    ((w some : ℕ → Value) (e : Var → Option Value) (free taken : Heap) → HoldsIn w (alone s) e free taken
+    → IsBound w now some
+    → IsBound w bindings some × SatOne c (term_value w) some empty_map)
+    → Subtracts (wanting_first s bindings c cs) (removed s now cs)
+nothing_handed s bindings now c cs formed left one =
+    hands_nothing s bindings now (also c cs) cs formed left
+    (λ w some e free taken h heap d. let first = one w some e free taken h d.bound in record {
+      bound = first.0;
+      satisfied = star-of (splits-empty_left empty-holds) first.1 d.satisfied;
+    })

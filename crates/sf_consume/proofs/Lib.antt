@@ -8,3 +8,4 @@ pub mod PureLaws
 pub mod PartLaws
 pub mod CellLaws
 pub mod Chains
+pub mod Branches

@@ -16,12 +16,13 @@ use Rattle.sf_core.specs.declared.assertion.Operand.TheVariants.{Known}
 use Rattle.sf_core.specs.declared.assertion.Test.TheVariants.{Equal}
 use Rattle.sf_core.specs.Program.Syntax.{Conjunct, holds, points, segment, tree, choose, Conjuncts, also}
 use Rattle.sf_consume.proofs.Bindings.{Binds, binds-either, set-all, set-here, set-keeps, set-length}
-use Rattle.sf_consume.proofs.Handing.{both-are, by_first, differ-in, formed-rest, nothing_handed, operand-below, operand-is, wanting_first}
+use Rattle.sf_consume.proofs.Handing.{both-are, by_first, formed-rest, nothing_handed, operand-below, operand-is, wanting_first}
 use Rattle.sf_consume.proofs.WantedFirst.{equality-is, inequality-is}
 use Rattle.sf_consume.specs.Laws.{alone, Subtracts, BindKeepsWants, SameKeepsWants, ApartKeepsWants, EmptyKeepsWants}
 use Rattle.sf_consume.specs.Subtract.{Want, bind_step, same_step, apart_step, empty_step, binding, both, equality, inequality, removed, removed_if, wanted_ends}
 use Rattle.sf_consume.specs.Wants.{IsCounted, IsFormed, OneWanted, AllWanted}
 use Rattle.sf_sym.specs.Lemmas.{same_term_is}
+use Rattle.sf_sym.specs.Lemmas.Decided.{differ-in}
 use Rattle.sf_sym.specs.Below.{IsBelow}
 use Rattle.sf_sym.specs.declared.term.Term.{Term}
 use Rattle.sf_sym.specs.declared.term.Term.TheVariants.{Nil}
@@ -77,7 +78,7 @@ apart_keeps_wants = by_first apart_step (λ s bindings c cs after formed row.
     removed-if (differs s) s bindings c cs after e formed left
     (λ differ w some f free taken h bound. subst (λ d. SatOne d (term_value w) some empty_map) (sym is) (
       empty-holds,
-      λ i. differ-in w s f free taken e.0 e.1 h differ
+      λ i. differ-in w (alone s) f free taken h e.0 e.1 differ
           (sym (operand-is w some bindings sides.0 e.0 bound one) ∙ i
           ∙ operand-is w some bindings sides.1 e.1 bound two),
     )))))

@@ -1,23 +1,29 @@
 -- What each row of subtraction keeps: the part of the heap that it hands over is what it takes off what is wanted.
 -- Berdine, Calcagno, O'Hearn, "Symbolic Execution with Separation Logic" (2005), section 5: subtraction is sound.
-use Rattle.std.specs.Prelude.{◌≡◌, ◌↔◌, ℕ, ◌≤◌, [], Option, Some, None, replicate}
+use Rattle.std.specs.Prelude.{◌≡◌, ◌↔◌, ℕ, ◌≤◌, Bool, true, cond, List, [], Option, Some, None, replicate}
 use Rattle.sf_base.specs.declared.ids.Var.{Var}
+use Rattle.sf_base.specs.declared.place.Place.{Place}
 use Rattle.sf_base.specs.declared.value.Value.{Value}
 use Rattle.sf_base.specs.HeapStore.{Heap, IsEmpty, Splits}
-use Rattle.sf_consume.specs.Subtract.{Step, Want, stepped, subtracted, bind_step, same_step, apart_step, cell_step, empty_step, exact_step, head_step, join_step, node_step}
+use Rattle.sf_consume.specs.Subtract.{Step, Want, removed, stepped, subtracted, bind_step, same_step, apart_step, cell_step, empty_step, exact_step, head_step, join_step, node_step}
 use Rattle.sf_consume.specs.Wants.{IsFormed, Wants}
 use Rattle.sf_core.specs.Assertions.Occurs.{OccursIn}
 use Rattle.sf_core.specs.Assertions.Sat.{SameOutside, Sat, SatAll}
+use Rattle.sf_core.specs.declared.assertion.Operand.{Operand}
 use Rattle.sf_core.specs.declared.assertion.Operand.TheVariants.{Exists}
 use Rattle.sf_core.specs.declared.assertion.Scope.{Scope}
+use Rattle.sf_core.specs.declared.assertion.Test.{Test}
 use Rattle.sf_core.specs.declared.command.Expr.{Expr}
-use Rattle.sf_core.specs.Program.Syntax.{Conjuncts, none, level}
+use Rattle.sf_core.specs.Program.Syntax.{Conjuncts, none, also, choose, Level, level}
 use Rattle.sf_sym.specs.Below.{SameBelow}
+use Rattle.sf_sym.specs.Decided.{is_decided, test_of_terms}
 use Rattle.sf_sym.specs.declared.tag.Tag.{Tag}
+use Rattle.sf_sym.specs.declared.term.Term.{Term}
 use Rattle.sf_sym.specs.Goal.{Goal}
 use Rattle.sf_sym.specs.Holds.{term_value, IsBound}
 use Rattle.sf_sym.specs.HoldsIn.{HoldsIn}
 use Rattle.sf_sym.specs.Mapped.{conjuncts_with}
+use Rattle.sf_sym.specs.Pending.{before, conjuncts_of}
 use Rattle.sf_sym.specs.State.{State, term}
 
 -- a state alone, with nothing to do
@@ -92,6 +98,16 @@ NodeKeepsWants = (atom : ℕ) → KeepsWants (node_step atom)
 unfoldable pub SubtractionKeepsWants : Type 0
 SubtractionKeepsWants =
     (tag : Tag) (want after : Want) → IsFormed want → subtracted tag want ≡ Some after → Subtracts want after
+
+-- a choice whose test is decided: its branch for that is wanted in its place
+unfoldable pub BranchKeepsWants : Type 0
+BranchKeepsWants =
+    (so : Bool) (s : State) (bindings : List (Option Term)) (place : Place) (test : Test (Operand Term))
+    (this that : Level Term) (cs : Conjuncts Term) (terms : Test Term)
+    → IsFormed (removed s bindings (also (choose place test this that) cs))
+    → test_of_terms bindings test ≡ Some terms → is_decided so s terms ≡ true
+    → Subtracts (removed s bindings (also (choose place test this that) cs))
+    (removed s bindings (before (conjuncts_of (cond so this that)) cs))
 
 -- From the first row to the last
 -- what is wanted of a state where an assertion is to be shown: its conjuncts, with the terms that the variables have,

@@ -3,7 +3,7 @@
 //! was wanted before. From the first row to the last, what was handed over satisfies the assertion. Each
 //! function is a law: calling it gives its fact to the caller's proof, and does nothing.
 
-ghost use Rattle.sf_consume.specs.Laws.{ApartKeepsWants, AssertionIsShown, AssertionIsWanted, BindKeepsWants, CellKeepsWants, EmptyKeepsWants, ExactKeepsWants, HeadKeepsWants, JoinKeepsWants, NodeKeepsWants, NothingIsWanted, SameKeepsWants, SubtractionKeepsWants, SubtractionsChain};
+ghost use Rattle.sf_consume.specs.Laws.{ApartKeepsWants, AssertionIsShown, AssertionIsWanted, BindKeepsWants, BranchKeepsWants, CellKeepsWants, EmptyKeepsWants, ExactKeepsWants, HeadKeepsWants, JoinKeepsWants, NodeKeepsWants, NothingIsWanted, SameKeepsWants, SubtractionKeepsWants, SubtractionsChain};
 
 /// bind: the existential has the value of the other side.
 #[tactic(auto, using(crate::proofs::PureLaws::bind_keeps_wants))]
@@ -57,6 +57,12 @@ pub fn join_keeps_wants()
 #[tactic(auto, using(crate::proofs::CellLaws::node_keeps_wants))]
 pub fn node_keeps_wants()
     ensures { NodeKeepsWants }
+{}
+
+/// A choice whose test is decided: its branch for that is wanted in its place.
+#[tactic(auto, using(crate::proofs::Branches::branch_keeps_wants))]
+pub fn branch_keeps_wants()
+    ensures { BranchKeepsWants }
 {}
 
 /// Every tag of subtraction keeps what is wanted.

@@ -20,7 +20,7 @@ use Rattle.sf_sym.specs.Lemmas.Below.{below-symbol, below-value, put-all}
 use Rattle.sf_sym.specs.Lemmas.CellFields.{put-known}
 use Rattle.sf_sym.specs.Lemmas.FreshGoals.{adds-stay, apart-stays, later, later-apart, later-others, later-taken, later-todo, later-vars, more-below, others-stay, taken-stay, vars-stay}
 use Rattle.sf_sym.specs.Lemmas.FreshValues.{value-below, value-here, value-same, with_value}
-use Rattle.sf_sym.specs.Lemmas.States.{differing_terms_differ}
+use Rattle.sf_sym.specs.Lemmas.Decided.{differ-in}
 use Rattle.sf_sym.specs.Lemmas.TwoHeaps.{in-at}
 use Rattle.sf_sym.specs.Below.{AllInAtom, AreBelow, IsBelow, SameBelow}
 use Rattle.sf_sym.specs.Cells.{atom_at, with_atom, with_cell, without}
@@ -54,14 +54,6 @@ tree_child goal a t left right =
     at_state goal
     (with_atom (Tree two) (with_atom (Tree one)
     (with_cell (with_symbols 2 (state_without goal a)) t (put_term left one (put_term right two [])))))
-
--- terms that surely differ have different values where the goal holds
-differ-in : (w : ℕ → Value) (goal : Goal) (e : Var → Option Value) (free taken : Heap) (t u : Term)
-    → HoldsIn w goal e free taken → differs goal.state t u ≡ true → term_value w t ≢ term_value w u
-unfolding DifferingTermsDiffer
-differ-in w goal e free taken t u h d =
-    differing_terms_differ w goal e (union free taken)
-    (in-at w goal e (union free taken) free taken (splits-union h.disjoint) h) t u d
 
 -- the goal that is left for a segment
 segment-follows : (goal : Goal) (a : ℕ) (t u : Term) (next : FieldId) → AreBelow goal
@@ -97,7 +89,7 @@ segment-holds goal a t u next below b c at tl d w e free taken h =
     let n = goal.state.next_sym in
     let links = goal.state.links in
     let o = atoms-out w links goal.state.atoms a (Ls t u) h.there.left at h.there.first in
-    let head = seg-head (differ-in w goal e free taken t u h d)
+    let head = seg-head (differ-in w goal e free taken h t u d)
     (subst (λ z. SegAlong z (term_value w t) (term_value w u) o.left) tl o.first) in
     let x = head.here next.0 in
     let v = with_value n x w in
@@ -181,7 +173,7 @@ tree-holds goal a t left right below b at l r d w e free taken h =
     let n = goal.state.next_sym in
     let links = goal.state.links in
     let o = atoms-out w links goal.state.atoms a (Tree t) h.there.left at h.there.first in
-    let root = tree-root (differ-in w goal e free taken t Nil h d)
+    let root = tree-root (differ-in w goal e free taken h t Nil d)
     (subst (λ z. TreeAlong (Some left) z (term_value w t) o.left) r
     (subst (λ z. TreeAlong z links.r (term_value w t) o.left) l o.first)) in
     let x = root.here left.0 in

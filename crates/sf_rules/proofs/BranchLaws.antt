@@ -1,9 +1,8 @@
 -- The laws of choices among commands: the branch that is left is that of the test's value.
--- Names: `decided-LAW` of a test that a state decides.
+-- Names: `test-LAW` of a command's test.
 use Rattle.std.specs.List.{AllByRecursion}
-use Rattle.std.proofs.Common.{◌≡◌, ◌≢◌, ℕ, Bool, true, false, cond, Option, Some, None, List, ◌++◌, refl, sym, ap, ◌∙◌, arith}
+use Rattle.std.proofs.Common.{◌≡◌, ◌↔◌, ℕ, Bool, true, false, cond, Option, Some, None, List, ◌++◌, refl, sym, ◌∙◌, arith}
 use Rattle.sf_base.proofs.HeapSplits.{star-drop_right}
-use Rattle.sf_base.proofs.MapSplits.{splits-union, union}
 use Rattle.sf_base.specs.declared.ids.Var.{Var}
 use Rattle.sf_base.specs.declared.place.Place.{Place}
 use Rattle.sf_base.specs.declared.value.Value.{Value}
@@ -15,20 +14,17 @@ use Rattle.sf_core.specs.declared.command.Expr.{Expr}
 use Rattle.sf_core.specs.Program.Syntax.{Block, done, then, if}
 use Rattle.sf_rules.proofs.CommandLaws.{beside-none, executed-one}
 use Rattle.sf_rules.specs.LawsOfCommands.{before_command, Executed, IsTestKnown, ThenFollowsTest, ElseFollowsTest}
+use Rattle.sf_sym.specs.Lemmas.Decided.{decided-false, decided-true}
 use Rattle.sf_sym.specs.Lemmas.KnownValues.{known-value}
-use Rattle.sf_sym.specs.Lemmas.States.{differing_terms_differ}
-use Rattle.sf_sym.specs.Lemmas.TwoHeaps.{in-at}
 use Rattle.sf_sym.specs.Below.{AllInItem, IsBelow}
 use Rattle.sf_sym.specs.Decided.{command_test, is_false, is_true}
 use Rattle.sf_sym.specs.declared.term.Term.{Term}
 use Rattle.sf_sym.specs.Goal.{Item, Goal, one_goal, to_run}
 use Rattle.sf_sym.specs.Holds.{term_value}
 use Rattle.sf_sym.specs.HoldsIn.{HoldsIn}
-use Rattle.sf_sym.specs.Laws.{DifferingTermsDiffer, Follows, HoldsStill}
-use Rattle.sf_sym.specs.Lemmas.{same_term_is}
+use Rattle.sf_sym.specs.Laws.{Follows, HoldsStill}
 use Rattle.sf_sym.specs.Ready.{BeginsWithNoAdd, IsKnown, IsReady, value_at}
 use Rattle.sf_sym.specs.State.{State, term}
-use Rattle.sf_sym.specs.Tests.{differs}
 
 -- a block's commands assume nothing
 run-no_add : (c : Block) (rest : List Item) → BeginsWithNoAdd rest → BeginsWithNoAdd (to_run c ++ rest)
@@ -43,36 +39,30 @@ run-all P (then c cs) rest a = (tt, run-all P cs rest a)
 
 module _ (w : ℕ → Value) (goal : Goal) (e : Var → Option Value) (free taken : Heap)
     (h : HoldsIn w goal e free taken) where
-  -- terms that surely differ have different values
-  decided-differ : (t u : Term) → differs goal.state t u ≡ true → term_value w t ≢ term_value w u
-  unfolding DifferingTermsDiffer
-  decided-differ t u d =
-      differing_terms_differ w goal e (union free taken)
-      (in-at w goal e (union free taken) free taken (splits-union h.disjoint) h) t u d
-
   known : (x : Expr) → IsKnown goal.state.vars e x → term_value w (term goal.state.vars x) ≡ value_at e x
   known x k = known-value w e goal.state.vars h.vars x k
 
+  -- a test is true exactly where it is true of its terms
+  test-known : (test : Test Expr) → IsTestKnown goal.state.vars e test
+      → IsTrueOf (term_value w) (command_test (term goal.state.vars) test) ↔ IsTrueOf (value_at e) test
+  test-known True k = (λ i. i, λ i. i)
+  test-known (Equal x y) k =
+      (λ i. sym (known x k.0) ∙ i ∙ known y k.1, λ i. known x k.0 ∙ i ∙ sym (known y k.1))
+  test-known (Differ x y) k =
+      (λ n i. n (known x k.0 ∙ i ∙ sym (known y k.1)), λ n i. n (sym (known x k.0) ∙ i ∙ known y k.1))
+
   -- a test that is decided true is true
-  decided-true : (test : Test Expr) → IsTestKnown goal.state.vars e test
+  test-true : (test : Test Expr) → IsTestKnown goal.state.vars e test
       → is_true goal.state (command_test (term goal.state.vars) test) ≡ true → IsTrueOf (value_at e) test
-  decided-true True k d = tt
-  decided-true (Equal x y) k d =
-      sym (known x k.0)
-      ∙ ap (term_value w) (same_term_is (term goal.state.vars x) (term goal.state.vars y) d) ∙ known y k.1
-  decided-true (Differ x y) k d = λ i.
-      decided-differ (term goal.state.vars x) (term goal.state.vars y) d (known x k.0 ∙ i ∙ sym (known y k.1))
+  test-true test k d =
+      (test-known test k).0 (decided-true w goal e free taken h (command_test (term goal.state.vars) test) d)
 
   -- one that is decided false is false
-  decided-false : (test : Test Expr) → IsTestKnown goal.state.vars e test
+  test-false : (test : Test Expr) → IsTestKnown goal.state.vars e test
       → is_false goal.state (command_test (term goal.state.vars) test) ≡ true
       → IsTrueOf (value_at e) test → ⊥
-  decided-false True k d = λ i. absurd (cc)
-  decided-false (Equal x y) k d = λ i.
-      decided-differ (term goal.state.vars x) (term goal.state.vars y) d (known x k.0 ∙ i ∙ sym (known y k.1))
-  decided-false (Differ x y) k d = λ n.
-      n (sym (known x k.0)
-      ∙ ap (term_value w) (same_term_is (term goal.state.vars x) (term goal.state.vars y) d) ∙ known y k.1)
+  test-false test k d i =
+      decided-false w goal e free taken h (command_test (term goal.state.vars) test) d ((test-known test k).1 i)
 
 -- the goal that is left with the commands of a block
 module _ (s : State) (rest : List Item) (p : Place) (test : Test Expr) (this that c : Block)
@@ -121,7 +111,7 @@ then_follows_test s rest left p test this that ready row =
         (record { state = s; todo = to_run this ++ rest }) left _ e
         (branch-follows s rest p test this that this ready)
         (λ w f free taken h k. (
-          decided-true w (before_command s (if p test this that) rest) f free taken h test k d,
+          test-true w (before_command s (if p test this that) rest) f free taken h test k d,
           branch-holds s rest p test this that this ready w f free taken h,
         ))
 
@@ -142,6 +132,6 @@ else_follows_test s rest left p test this that ready row =
         (record { state = s; todo = to_run that ++ rest }) left _ e
         (branch-follows s rest p test this that that ready)
         (λ w f free taken h k. (
-          decided-false w (before_command s (if p test this that) rest) f free taken h test k d,
+          test-false w (before_command s (if p test this that) rest) f free taken h test k d,
           branch-holds s rest p test this that that ready w f free taken h,
         ))

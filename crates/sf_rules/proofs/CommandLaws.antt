@@ -20,7 +20,7 @@ use Rattle.sf_rules.specs.LawsOfCommands.{Executed, FindsCell, before_command, h
 use Rattle.sf_rules.specs.Rows.Commands.{looked, with_var}
 use Rattle.sf_sym.specs.Lemmas.AtomLists.{at-all, at-cell, atoms-in_place, atoms-one_more, atoms-out, with_fields-all, without-all}
 use Rattle.sf_sym.specs.Lemmas.Below.{below-symbol, paired-weaker, pairs-weaker, put-all}
-use Rattle.sf_sym.specs.Lemmas.CellFields.{put-known, put-written}
+use Rattle.sf_sym.specs.Lemmas.CellFields.{field-all, field-value, put-known, put-written}
 use Rattle.sf_sym.specs.Lemmas.FreshGoals.{agree, apart-stays, atoms-stay, later, later-apart, later-taken, later-todo, later-vars, later-atoms, more-below, others-stay, taken-stay, vars-stay}
 use Rattle.sf_sym.specs.Lemmas.FreshValues.{value-below, value-here, with_value}
 use Rattle.sf_sym.specs.Lemmas.KnownValues.{known-value, set-agrees, set-all, term-all}
@@ -102,17 +102,6 @@ cell-out w s c rest e free taken a t fields h found =
       beside = o.second;
       there = one-in one o.splits;
     }
-
--- what is known of a field that has a term
-field-value : (v : Term → Value) (fields : List (FieldId × Term)) (f : FieldId) (t : Term) (here : Cell)
-    → field_term fields f ≡ Some t → HasFields v fields here → here f.0 ≡ v t
-field-value v [] f t here e h = absurd (cc)
-field-value v (g ∷ gs) f t here e h = go (g.0.0 == f.0) refl e (λ i. field-value v gs f t here i h.1)
-  where
-    go : (b : Bool) → g.0.0 == f.0 ≡ b → cond b (Some g.1) (field_term gs f) ≡ Some t
-        → (field_term gs f ≡ Some t → here f.0 ≡ v t) → here f.0 ≡ v t
-    go true c i r = let j : g.1 ≡ t = cc in ap here (sym (at-same f.0 g.0.0 c)) ∙ h.0 ∙ ap v j
-    go false c i r = r i
 
 -- the terms of expressions are below the next symbol
 term-below : (n : ℕ) (vars : List (Var × Term)) → AllPaired (IsBelow n) vars → (x : Expr)
@@ -341,16 +330,6 @@ new_follows_event s rest left p x ready row =
     })
 
 -- LOOK
-
--- a field's term has a property that all have
-field-all : (P : Term → Type 0) (fields : List (FieldId × Term)) (f : FieldId) (t : Term)
-    → field_term fields f ≡ Some t → AllPaired P fields → P t
-field-all P [] f t e h = absurd (cc)
-field-all P (g ∷ gs) f t e h = go (g.0.0 == f.0) e (λ i. field-all P gs f t i h.1)
-  where
-    go : (b : Bool) → cond b (Some g.1) (field_term gs f) ≡ Some t → (field_term gs f ≡ Some t → P t) → P t
-    go true i r = let j : g.1 ≡ t = cc in subst P j h.0
-    go false i r = r i
 
 -- what the law says of the goals that are left
 abbrev Looks : State → List Item → Place → Occurrence → Expr → FieldId → List Goal → Type 0

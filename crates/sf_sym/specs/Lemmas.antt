@@ -3,6 +3,7 @@
 pub mod AtomLists
 pub mod Below
 pub mod CellFields
+pub mod Decided
 pub mod FreshGoals
 pub mod FreshValues
 pub mod KnownValues

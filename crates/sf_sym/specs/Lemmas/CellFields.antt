@@ -1,7 +1,8 @@
--- The known fields of a cell: what is put among them is true of it.
--- Names: `put-LAW` speaks of `put_term`.
-use Rattle.std.proofs.Common.{◌≡◌, ℕ, ◌==◌, Bool, true, false, cond, nat_lt, List, [], ◌∷◌, refl, ap, ◌∙◌, subst}
+-- The known fields of a cell: what is put among them is true of it, and each has its term's value.
+-- Names: `put-LAW` speaks of `put_term`, `field-LAW` of `field_term`.
+use Rattle.std.proofs.Common.{◌≡◌, ℕ, ◌==◌, Bool, true, false, cond, nat_lt, List, [], ◌∷◌, Option, Some, None, refl, sym, ap, ◌∙◌, subst}
 use Rattle.std.proofs.lemmas.Bool.{ltb-true}
+use Rattle.std.proofs.lemmas.Option.{same_Some}
 use Rattle.sf_base.proofs.HeapSplits.{at-same, at-self}
 use Rattle.sf_base.proofs.Numbers.{eqb-greater}
 use Rattle.sf_base.specs.declared.ids.FieldId.{FieldId}
@@ -9,7 +10,8 @@ use Rattle.sf_base.specs.declared.value.Value.{Value}
 use Rattle.sf_base.specs.HeapStore.{Cell, put_field}
 use Rattle.sf_core.specs.Assertions.Sat.{HasFields}
 use Rattle.sf_sym.specs.declared.term.Term.{Term}
-use Rattle.sf_sym.specs.Fields.{AreAfter, AreOrdered, put_term}
+use Rattle.sf_sym.specs.Below.{AllPaired}
+use Rattle.sf_sym.specs.Fields.{AreAfter, AreOrdered, field_term, put_term}
 use Rattle.sf_sym.specs.Lemmas.{after-mono}
 
 module _ (v : Term → Value) where
@@ -56,3 +58,24 @@ module _ (v : Term → Value) where
             (ltb-true f.0 g.0.0 d, after-mono f.0 g.0.0 gs (ltb-true f.0 g.0.0 d) o.0) h,
       )
       go false false c d r = (ap (λ t. cond t (v u) (here g.0.0)) c ∙ h.0, r)
+
+-- a known field has its term's value
+pub field-value : (v : Term → Value) (fields : List (FieldId × Term)) (f : FieldId) (t : Term) (here : Cell)
+    → field_term fields f ≡ Some t → HasFields v fields here → here f.0 ≡ v t
+field-value v [] f t here e h = absurd (cc)
+field-value v (g ∷ gs) f t here e h = go (g.0.0 == f.0) refl e (λ i. field-value v gs f t here i h.1)
+  where
+    go : (b : Bool) → g.0.0 == f.0 ≡ b → cond b (Some g.1) (field_term gs f) ≡ Some t
+        → (field_term gs f ≡ Some t → here f.0 ≡ v t) → here f.0 ≡ v t
+    go true c i r = ap here (sym (at-same f.0 g.0.0 c)) ∙ h.0 ∙ ap v (same_Some g.1 t i)
+    go false c i r = r i
+
+-- its term has a property that all have
+pub field-all : (P : Term → Type 0) (fields : List (FieldId × Term)) (f : FieldId) (t : Term)
+    → field_term fields f ≡ Some t → AllPaired P fields → P t
+field-all P [] f t e h = absurd (cc)
+field-all P (g ∷ gs) f t e h = go (g.0.0 == f.0) e (λ i. field-all P gs f t i h.1)
+  where
+    go : (b : Bool) → cond b (Some g.1) (field_term gs f) ≡ Some t → (field_term gs f ≡ Some t → P t) → P t
+    go true i r = subst P (same_Some g.1 t i) h.0
+    go false i r = r i
