@@ -18,7 +18,8 @@ impl Model for Calls {
 
     ghost Value = { Sets };
 
-    ghost view = { λ c. record { takes = c.takes.items; holds = c.holds.items; free = c.free.items } };
+    ghost view = { λ c.
+        record { takes = c.takes.items; holds = c.holds.items; free = c.free.items } };
 }
 
 impl Calls {
@@ -46,8 +47,9 @@ impl Calls {
         &self.holds[f.0 as usize]
     }
 
-    /// The variables of resources that occur in the procedure's pre or post, or that it uses outside
-    /// the regions of their resources, itself or by its calls there. There is such a procedure.
+    /// The variables of resources that occur in the procedure's pre or post, or that it uses
+    /// outside the regions of their resources, itself or by its calls there. There is such a
+    /// procedure.
     pub fn free(&self, f: ProcId) -> &VarSet
         requires { f.0 < length self.now.free }
         ensures { slice_get self.now.free f.0 ≡ Some result.now }

@@ -25,7 +25,7 @@ mod calls;
 mod keys;
 pub mod laws;
 mod leading;
-pub mod occurs;
+mod occurs;
 mod outside;
 mod reaching;
 mod regions;
@@ -36,5 +36,6 @@ mod tables;
 
 pub use breach::Breach;
 pub use calls::Calls;
+pub use occurs::{in_references, in_values};
 pub use reaching::reach;
 pub use set::{ResSet, Set, VarSet};

@@ -1,5 +1,5 @@
-//! The variables of resources that occur in commands outside the regions of their resources, in text
-//! order.
+//! The variables of resources that occur in commands outside the regions of their resources, in
+//! text order.
 
 ghost use Rattle.std.specs.Prelude.{◌≡◌, ◌++◌, IfOk, map};
 ghost use Rattle.std.specs.List.{flat_map};

@@ -8,8 +8,8 @@ use sf_base::{FieldId, Value};
 use sf_heap::Heap;
 use std::alloc::{AllocError, Global};
 
-/// Appends the locations of a segment's cells, from the first on. It stops with `false` where a cell
-/// isn't there, and where there are more locations than cells, so that one comes twice.
+/// Appends the locations of a segment's cells, from the first on. It stops with `false` where a
+/// cell isn't there, and where there are more locations than cells, so that one comes twice.
 pub(crate) fn walk_segment(
     heap: &Heap,
     next: FieldId,
@@ -39,9 +39,9 @@ pub(crate) fn walk_segment(
     Ok(true)
 }
 
-/// Appends the locations of a tree's cells, each before those of its left and then its right field. It
-/// stops with `false` where a cell isn't there, and where there are more locations than cells, so that
-/// one comes twice.
+/// Appends the locations of a tree's cells, each before those of its left and then its right field.
+/// It stops with `false` where a cell isn't there, and where there are more locations than cells,
+/// so that one comes twice.
 pub(crate) fn walk_tree(
     alloc: Global,
     heap: &Heap,
@@ -52,8 +52,8 @@ pub(crate) fn walk_tree(
 ) -> Result<bool, AllocError>
     ensures yes { IfOk result (λ b. IsTrue b
         → WalksOn (TreesWalk heap.now left right (root ∷ [])) found.old.items found.new.items) }
-    ensures no { IfOk result (λ b. b ≡ false → ((ls : List ℕ) → TreesWalk heap.now left right (root ∷ []) ls
-        → map.len heap.now < length (found.old.items ++ ls))) }
+    ensures no { IfOk result (λ b. b ≡ false → ((ls : List ℕ)
+        → TreesWalk heap.now left right (root ∷ []) ls → map.len heap.now < length (found.old.items ++ ls))) }
 {
     let mut roots = vec![in alloc; root]?;
     'walk: while let Some(at) = roots.pop() {

@@ -14,8 +14,9 @@ use std::alloc::{AllocError, AllocFailed, Global};
 use std::marker::Model;
 use std::mem::replace;
 
-/// The cells of a running program, each at its location. Contracts see the finite map from locations
-/// to the values of the cells' fields; `heap_of` is the heap of the definitions that it is.
+/// The cells of a running program, each at its location. Contracts see the finite map from
+/// locations to the values of the cells' fields; `heap_of` is the heap of the definitions that it
+/// is.
 #[derive(Debug, Drop)]
 pub struct Heap {
     entries: Vec<Entry>,
@@ -174,8 +175,8 @@ impl Heap {
         Ok(())
     }
 
-    /// Takes the cells at those locations out, which all have one. An `Err` says that memory ran out,
-    /// and nothing is changed. The boxes move, and no cell is copied.
+    /// Takes the cells at those locations out, which all have one. An `Err` says that memory ran
+    /// out, and nothing is changed. The boxes move, and no cell is copied.
     pub fn part_off(&mut self, at: &Locations) -> Result<Heap, AllocError>
         requires { All (HasCell self.old) at.now }
         ensures ok { IfOk result

@@ -60,11 +60,13 @@ impl<'a, R: Files> Shelf for FileShelf<'a, R> {
         ensures failed { IsErrOf result FetchFault.Failed
             → Increased (failures_of self.old name.now) (failures_of self.new name.now) }
         ensures fault { IsErrOf result FetchFault.Failed → self.new ≡ self.old ++ name.now ∷ [] }
-        ensures no_fault { IsOk result ⊎ IsErrOf result FetchFault.OutOfMemory → self.new ≡ self.old }
+        ensures no_fault { IsOk result ⊎ IsErrOf result FetchFault.OutOfMemory
+            → self.new ≡ self.old }
         ensures others { (other : List ℕ) → other ≢ name.now
             → failures_of self.new other ≡ failures_of self.old other }
         ensures counts { (any : List ℕ) → failures_of self.old any ≤ failures_of self.new any }
-        ensures ok { OnOk result ((any : List ℕ) → failures_of self.new any ≡ failures_of self.old any) }
+        ensures ok { OnOk result ((any : List ℕ)
+            → failures_of self.new any ≡ failures_of self.old any) }
         ensures out_of_memory { IsErrOf result FetchFault.OutOfMemory
             → ((any : List ℕ) → failures_of self.new any ≡ failures_of self.old any) }
     {
@@ -94,8 +96,8 @@ fn read_file<R: Files>(rt: &R, name: &str, most: usize, out: &mut Vec<u8>) -> Re
     read
 }
 
-// Appends what the file gives, until it ends or `most` bytes were read. That is all that is due of a
-// file which tells its bytes.
+// Appends what the file gives, until it ends or `most` bytes were read. That is all that is due of
+// a file which tells its bytes.
 fn read_at_most<F: Read>(file: &mut F, most: usize, out: &mut Vec<u8>) -> Result<(), FetchFault>
     ensures grew { GrewAtMost most out.old.items out.new.items }
     ensures told { OnOk result (IfSome (F.remaining file.old)

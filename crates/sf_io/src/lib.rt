@@ -1,7 +1,8 @@
 //! The outside: where files come from, where the answer goes, and where threads may be held up.
 //!
 //! - `shelf`: the trait of what hands out files; `file_shelf` the real ones, `mem_shelf` a stand-in
-//! - `sink`: the trait of what takes the answer's bytes; `std_sink` standard output, `mem_sink` a stand-in
+//! - `sink`: the trait of what takes the answer's bytes; `std_sink` standard output, `mem_sink` a
+//!   stand-in
 //! - `fault_plan`: at which calls a stand-in is to fail
 //! - `failures`: the names of files that couldn't be read
 //! - `gate`: points at which a thread may be held up

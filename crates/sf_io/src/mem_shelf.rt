@@ -100,9 +100,9 @@ impl Shelf for MemShelf {
 
     ghost faults = { λ shelf. failures_of (failed_of shelf) };
 
-    /// Hands out the bytes under the name. `Failed` comes where the call is to fail or there are none, and
-    /// exactly then the name is one more that failed. Each call counts, but one for which memory runs out
-    /// may not count.
+    /// Hands out the bytes under the name. `Failed` comes where the call is to fail or there are
+    /// none, and exactly then the name is one more that failed. Each call counts, but one for which
+    /// memory runs out may not count.
     fn fetch(&mut self, name: &str, most: usize, out: &mut Vec<u8>) -> Result<(), FetchFault>
         ensures files_stay { files_of self.new ≡ files_of self.old }
         ensures told { OnOk result (IsSomeAnd (files_of self.old name.now)
@@ -110,7 +110,8 @@ impl Shelf for MemShelf {
         ensures appended { OnOk result (GrewAtMost most out.old.items out.new.items) }
         ensures refused { OnErr result (out.new.items ≡ out.old.items) }
         ensures failed { IsErrOf result FetchFault.Failed
-            → Increased (failures_of (failed_of self.old) name.now) (failures_of (failed_of self.new) name.now) }
+            → Increased (failures_of (failed_of self.old) name.now)
+            (failures_of (failed_of self.new) name.now) }
         ensures fault { IsErrOf result FetchFault.Failed
             → failed_of self.new ≡ failed_of self.old ++ name.now ∷ [] }
         ensures no_fault { IsOk result ⊎ IsErrOf result FetchFault.OutOfMemory

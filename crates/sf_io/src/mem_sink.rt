@@ -22,7 +22,8 @@ impl Model for MemSink {
 
     ghost Value = { Taken };
 
-    ghost view = { λ s. record { bytes = s.bytes.items; most = s.most; plan = s.plan; faults = s.faults } };
+    ghost view = { λ s.
+        record { bytes = s.bytes.items; most = s.most; plan = s.plan; faults = s.faults } };
 }
 
 impl MemSink {
@@ -92,9 +93,9 @@ impl Sink for MemSink {
 
     ghost faults = { λ sink. sink.faults };
 
-    /// Takes as much of the piece as one call takes. Of a piece that isn't empty `Failed` comes exactly
-    /// where the call is to fail or nothing is taken at all, and each such call counts. The count of faults
-    /// goes up by one exactly there, or is at its end.
+    /// Takes as much of the piece as one call takes. Of a piece that isn't empty `Failed` comes
+    /// exactly where the call is to fail or nothing is taken at all, and each such call counts. The
+    /// count of faults goes up by one exactly there, or is at its end.
     fn put(&mut self, piece: &[u8]) -> Result<usize, SinkFault>
         ensures bound { IfOk result (λ n. n ≤ length piece.now) }
         ensures progress { IfOk result (λ n. 0 < length piece.now → 0 < n) }
@@ -102,8 +103,10 @@ impl Sink for MemSink {
         ensures empty { piece.now ≡ [] → result ≡ Ok 0 }
         ensures nothing { piece.now ≡ [] → self.new ≡ self.old }
         ensures refused { OnErr result (self.new.bytes ≡ self.old.bytes) }
-        ensures failed { IsErrOf result SinkFault.Failed → Increased self.old.faults self.new.faults }
-        ensures fault { IsErrOf result SinkFault.Failed → self.new.faults ≡ one_more self.old.faults }
+        ensures failed { IsErrOf result SinkFault.Failed
+            → Increased self.old.faults self.new.faults }
+        ensures fault { IsErrOf result SinkFault.Failed
+            → self.new.faults ≡ one_more self.old.faults }
         ensures no_fault { IsOk result → self.new.faults ≡ self.old.faults }
         ensures out_of_memory { IsErrOf result SinkFault.OutOfMemory
             → self.new.faults ≡ self.old.faults }

@@ -25,8 +25,8 @@ pub trait Sink {
     ghost faults: { Self → ℕ };
 
     /// Takes the first bytes of the piece, at least one of a piece that has any, and answers how
-    /// many. Nothing happens where the piece is empty. `Failed` comes only where the count increased.
-    /// After an `Err` nothing was taken.
+    /// many. Nothing happens where the piece is empty. `Failed` comes only where the count
+    /// increased. After an `Err` nothing was taken.
     fn put(&mut self, piece: &[u8]) -> Result<usize, SinkFault>
         ensures bound { IfOk result (λ n. n ≤ length piece.now) }
         ensures progress { IfOk result (λ n. 0 < length piece.now → 0 < n) }

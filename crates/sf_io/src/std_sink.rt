@@ -38,8 +38,8 @@ impl<'a, R: Print> Sink for StdSink<'a, R> {
     ghost faults = { λ count. count };
 
     /// Writes until all is taken, a write fails, or one takes nothing. What a piece's first writes
-    /// took before a fault is answered; a fault that lasts is met again by the next call. The count goes
-    /// up by one, or is at its end, exactly where the piece isn't taken whole.
+    /// took before a fault is answered; a fault that lasts is met again by the next call. The count
+    /// goes up by one, or is at its end, exactly where the piece isn't taken whole.
     fn put(&mut self, piece: &[u8]) -> Result<usize, SinkFault>
         ensures bound { IfOk result (λ n. n ≤ length piece.now) }
         ensures progress { IfOk result (λ n. 0 < length piece.now → 0 < n) }

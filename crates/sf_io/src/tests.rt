@@ -21,7 +21,8 @@ fn copy<S: Shelf, K: Sink>(
 ) -> u8
     ensures done { result ≡ 0 → IfSome (S.files shelf.old) (λ all. IsSomeAnd (all name.now)
         (λ bytes. K.written sink.new ≡ with_bytes (K.written sink.old) (take most bytes))) }
-    ensures read_fault { result ≡ 7 → Increased (S.faults shelf.old name.now) (S.faults shelf.new name.now) }
+    ensures read_fault { result ≡ 7
+        → Increased (S.faults shelf.old name.now) (S.faults shelf.new name.now) }
     ensures read_fault_text { result ≡ 7
         → K.written sink.new ≡ with_bytes (K.written sink.old) name.now }
     ensures write_fault { result ≡ 8 → Increased (K.faults sink.old) (K.faults sink.new) }
@@ -169,7 +170,8 @@ fn a_caller_of_any_shelf_and_sink_gets_each_status(rt: HostRuntime) -> Result<()
     Ok(())
 }
 
-// A terminal that takes so many bytes in one write, takes nothing at one write, and fails at another.
+// A terminal that takes so many bytes in one write, takes nothing at one write, and fails at
+// another.
 #[derive(Drop)]
 struct Paper {
     bytes: RefCell<Vec<u8>>,
@@ -210,8 +212,8 @@ impl Print for Paper {
     }
 }
 
-// What putting that text into standard output answers, where that is such a terminal, and the bytes that
-// the terminal has then.
+// What putting that text into standard output answers, where that is such a terminal, and the bytes
+// that the terminal has then.
 fn printed(
     alloc: Global,
     most: usize,

@@ -7,7 +7,8 @@ pub fn each_file_reads_once()
     ensures { EachFileReadsOnce }
 {}
 
-/// Each token is its text: bytes of the file of that kind, in order, words no longer than allowed, numbers that fit.
+/// Each token is its text: bytes of the file of that kind, in order, words no longer than allowed,
+/// numbers that fit.
 #[tactic(auto, using(crate::proofs::Closing::each_token_is_its_text))]
 pub fn each_token_is_its_text()
     ensures { EachTokenIsItsText }

@@ -92,7 +92,8 @@ fn scan(alloc: Global, bytes: &[u8]) -> Result<Tokens, LexFault>
     requires { length bytes.now ≤ FILE_BYTES }
     ensures found { IfOk result (λ tokens. AreTokens bytes.now tokens.items.items) }
     ensures end { IfOk result (λ tokens. tokens.end ≡ end_place bytes.now) }
-    ensures refused { IfErr result (λ fault. (fault ≡ LexFault.OutOfMemory) ⊎ IsFault bytes.now fault) }
+    ensures refused { IfErr result
+        (λ fault. (fault ≡ LexFault.OutOfMemory) ⊎ IsFault bytes.now fault) }
 {
     let mut found = Vec::new(alloc);
     let mut start: usize = 0;

@@ -39,6 +39,15 @@ ready-insert was n l k i e f = grind (arith, nat_tests)
 pub ready-as_was : (was : Bool) (n l i : ℕ) → n ≢ 0 → was ≡ (was || ((n == 0) && (i == l)))
 ready-as_was was n l i e = grind (arith, nat_tests)
 
+-- what is added to a count where a number is the one that is counted, and elsewhere
+counted-one : (a b l i : ℕ) → l ≡ i → a + b * cond (l == i) 1 0 ≡ a + b
+counted-one a b l i e =
+    let t : (l == i) ≡ true = grind (arith, nat_tests) in ap (λ (c : Bool). a + b * cond c 1 0) t ∙ omega arith
+
+counted-other : (a b l i : ℕ) → l ≢ i → a + b * cond (l == i) 1 0 ≡ a
+counted-other a b l i n =
+    let t : (l == i) ≡ false = grind (arith, nat_tests) in ap (λ (c : Bool). a + b * cond c 1 0) t ∙ omega arith
+
 pub adds-job : (j : Job) (u w : Work) → w.lacking.items ≡ u.lacking.items ++ j.need ∷ []
     → AddsWaits (length u.lacking.items) j.waits u.waiting w.waiting
     → ((i : ℕ) → is_ready w i ≡ (is_ready u i || ((j.need == 0) && (i == length u.lacking.items))))
@@ -97,39 +106,22 @@ adds-job j u w lack waits ready jobs known unknown is = record {
         first : slice_get jobs i ≡ Some k
             → count_by (λ q. q == i) (row u.waiting n) + count_by (λ m. m == n) j.waits * cond
             (length jobs == i) 1 0 ≡ count_by (λ m. m == n) k.waits
-        first h = go (eqb_tells (length jobs) i)
-          where
-            go : (((length jobs == i) ≡ true) × (length jobs ≡ i))
-                ⊎ (((length jobs == i) ≡ false) × (length jobs ≢ i))
-                → count_by (λ q. q == i) (row u.waiting n) + count_by (λ m. m == n) j.waits * cond
-                (length jobs == i) 1 0 ≡ count_by (λ m. m == n) k.waits
-            go (inl s) = absurd (let b = slice_get_within jobs i k h in omega arith)
-            go (inr s) =
-                ap
-                (λ (b : Bool). count_by (λ q. q == i) (row u.waiting n) + count_by
-                (λ m. m == n) j.waits * cond b 1 0) s.0
-                ∙ (let was : count_by (λ q. q == i) (row u.waiting n)
-                ≡ count_by (λ m. m == n) k.waits = is.rows n f i k h in omega arith)
+        first h =
+            counted-other (count_by (λ q. q == i) (row u.waiting n)) (count_by (λ m. m == n) j.waits) (length jobs) i
+            (let b = slice_get_within jobs i k h in omega arith)
+            ∙ is.rows n f i k h
 
         last : (i ≡ length jobs) × (j ≡ k)
             → count_by (λ q. q == i) (row u.waiting n) + count_by (λ m. m == n) j.waits * cond
             (length jobs == i) 1 0 ≡ count_by (λ m. m == n) k.waits
-        last h = go (eqb_tells (length jobs) i)
-          where
-            go : (((length jobs == i) ≡ true) × (length jobs ≡ i))
-                ⊎ (((length jobs == i) ≡ false) × (length jobs ≢ i))
-                → count_by (λ q. q == i) (row u.waiting n) + count_by (λ m. m == n) j.waits * cond
-                (length jobs == i) 1 0 ≡ count_by (λ m. m == n) k.waits
-            go (inl s) =
-                ap
-                (λ (b : Bool). count_by (λ q. q == i) (row u.waiting n) + count_by
-                (λ m. m == n) j.waits * cond b 1 0) s.0
-                ∙ (let none = count-below i (row u.waiting n)
-                (λ q c. let b : q < length jobs = is.within n q c in let e = h.0 in omega arith) in
-                let same : count_by (λ m. m == n) j.waits ≡ count_by (λ m. m == n) k.waits =
-                ap (λ (z : Job). count_by (λ m. m == n) z.waits) h.1 in
-                omega arith)
-            go (inr s) = absurd (s.1 (sym h.0))
+        last h =
+            counted-one (count_by (λ q. q == i) (row u.waiting n)) (count_by (λ m. m == n) j.waits) (length jobs) i
+            (sym h.0)
+            ∙ (let none = count-below i (row u.waiting n)
+            (λ q c. let b : q < length jobs = is.within n q c in let e = h.0 in omega arith) in
+            let same : count_by (λ m. m == n) j.waits ≡ count_by (λ m. m == n) k.waits =
+            ap (λ (z : Job). count_by (λ m. m == n) z.waits) h.1 in
+            omega arith)
 
     gone : (n : ℕ) → known n ≡ true → row w.waiting n ≡ []
     gone n t =

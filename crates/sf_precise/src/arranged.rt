@@ -35,8 +35,8 @@ pub struct Arranged {
     ghost conditions: { ∥ Conditions (program_of program) ∥₁ },
     ghost ordered: { ∥ AreOrdersOf (annotations_in (program_of program))
         (map (λ o. assertion_of o.assertion) orders.items) ∥₁ },
-    ghost started: { starts.items
-        ≡ starts_from (length program.resources.items) (map procedure_of program.procedures.items) },
+    ghost started: { starts.items ≡ starts_from (length program.resources.items)
+        (map procedure_of program.procedures.items) },
 }
 
 impl Arranged {

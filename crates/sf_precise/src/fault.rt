@@ -24,8 +24,8 @@ impl From<AllocError> for OrderFault {
     }
 }
 
-/// Puts one more item at the end of the list. An `Err` means that memory ran out, and leaves nothing
-/// of the item.
+/// Puts one more item at the end of the list. An `Err` means that memory ran out, and leaves
+/// nothing of the item.
 pub fn push<T: Drop>(items: &mut Vec<T>, item: T) -> Result<(), AllocError>
     ensures { Appends result items.old.items items.new.items (item ∷ []) }
 {

@@ -1,5 +1,5 @@
-//! Orders of small assertions, found by hand, and of a long one. Each conjunct is named by the column
-//! of its place.
+//! Orders of small assertions, found by hand, and of a long one. Each conjunct is named by the
+//! column of its place.
 
 use crate::{OrderFault, order};
 use sf_base::{FieldId, Place};

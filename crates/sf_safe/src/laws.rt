@@ -1,15 +1,16 @@
-//! The machine's half of soundness, for frames as they are in the machine and as they see themselves.
-//! Each function is a law: calling it gives its fact to the caller's proof, and does nothing.
+//! The machine's half of soundness, for frames as they are in the machine and as they see
+//! themselves. Each function is a law: calling it gives its fact to the caller's proof, and does
+//! nothing.
 
 ghost use Rattle.sf_safe.specs.Law.{SafeProgramsAreSound};
 ghost use Rattle.sf_safe.specs.LocalSafe.{LocallySafeProgramsAreSound};
 
 /// A program that is formed, meets the conditions on variables, and whose bodies are safe for every
-/// number of events from whatever satisfies their preconditions is sound: whatever procedure it starts
-/// with, from whatever store and heap that procedure's precondition and the invariants allow, and
-/// whatever events come in whatever order, no event touches a cell that isn't there, no two tasks race,
-/// free resources and finished calls have disjoint footprints of their invariants and postconditions,
-/// and where the procedure has ended nothing is leaked.
+/// number of events from whatever satisfies their preconditions is sound: whatever procedure it
+/// starts with, from whatever store and heap that procedure's precondition and the invariants
+/// allow, and whatever events come in whatever order, no event touches a cell that isn't there, no
+/// two tasks race, free resources and finished calls have disjoint footprints of their invariants
+/// and postconditions, and where the procedure has ended nothing is leaked.
 #[tactic(auto, using(crate::proofs::Sound::safe_programs_are_sound))]
 pub fn safe_programs_are_sound()
     ensures { SafeProgramsAreSound }

@@ -1,5 +1,5 @@
-//! The machine's half of soundness: what a frame owns, when a frame is safe for a number of events, and
-//! that safe bodies make sound programs, whatever rules showed them to be safe.
+//! The machine's half of soundness: what a frame owns, when a frame is safe for a number of events,
+//! and that safe bodies make sound programs, whatever rules showed them to be safe.
 //!
 //! - `laws`: the theorem.
 //! - `examples`: small frames that are safe, or aren't.

@@ -9,8 +9,7 @@ ghost use Rattle.sf_vars.specs.Internal.Search.{HasSets, free_of, is_in, passes_
 use crate::held::Held;
 use crate::unheld::{free_unheld, unheld};
 use sf_base::{Place, ProcId, ResId, Var};
-use sf_calls::occurs::in_references;
-use sf_calls::{Breach, Calls};
+use sf_calls::{Breach, Calls, in_references};
 use sf_core::{Call, Occurrence};
 
 /// Looks for a variable of a resource that is not held: first those that are free in what is

@@ -1,5 +1,5 @@
-//! That each program has one answer, and that nothing comes earlier than what is first. Each function
-//! does nothing; its contract is the law.
+//! That each program has one answer, and that nothing comes earlier than what is first. Each
+//! function does nothing; its contract is the law.
 
 ghost use Rattle.sf_vars.specs.Laws.{EachProgramHasAnAnswer, EachProgramHasOneAnswer, NothingComesEarlier};
 

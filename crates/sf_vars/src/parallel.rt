@@ -8,8 +8,7 @@ ghost use Rattle.sf_vars.specs.Internal.Search.{HasSets, also_free, free_in_both
 
 use crate::at_calls::is_free;
 use sf_base::{Place, ProcId, Var};
-use sf_calls::occurs::{in_references, in_values};
-use sf_calls::{Breach, Calls};
+use sf_calls::{Breach, Calls, in_references, in_values};
 use sf_core::{Call, Occurrence};
 
 /// Looks for a variable that one of the calls may change and the other uses: first those that occur

@@ -1,4 +1,5 @@
 -- The part of a heap at some locations.
+-- Ordinary: a partial map restricted to a set of keys.
 use Rattle.std.specs.Prelude.{◌==◌, cond, ℕ, List, None}
 use Rattle.std.specs.List.{list_any}
 use Rattle.sf_base.specs.HeapStore.{Heap}

@@ -1,4 +1,5 @@
 -- Walks along pointers: the locations that a conjunct's cells have, in the order in which they are met.
+-- Ordinary: paths of a linked structure, a relation case for each cell that is met.
 use Rattle.std.specs.Prelude.{◌≡◌, ◌≢◌, ℕ, List, [], ◌∷◌, ◌++◌, Some, slice_index_or}
 use Rattle.std.specs.FinMap.{get}
 use Rattle.sf_base.specs.declared.ids.FieldId.{FieldId}

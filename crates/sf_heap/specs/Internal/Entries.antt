@@ -1,4 +1,5 @@
 -- The entries of a heap's vector: the map that they are, their order, and the place of a location among them.
+-- Ordinary: a finite map as its list of entries, increasing by key.
 use Rattle.std.specs.Prelude.{◌≡◌, ◌<◌, ℕ, List, [], ◌∷◌, ◌++◌, length, map, Option}
 use Rattle.std.specs.FinMap.{find}
 use Rattle.std.specs.Ordering.{nat_cmp}

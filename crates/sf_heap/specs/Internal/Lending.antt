@@ -1,4 +1,5 @@
 -- What an entry ends as, where its cell was lent.
+-- Ordinary: what a reference points at, after it was lent and given back.
 use Rattle.std.specs.Borrow.{Lends, MutBor, Fml}
 use Rattle.std.specs.Box.{with_value}
 use Rattle.sf_heap.specs.Cells.{FieldValues}

@@ -1,4 +1,5 @@
 -- What the loops keep that move the entries of two vectors into one, and of one into two.
+-- Ordinary: the merge of two increasing lists, and its inverse, from the greatest key down.
 use Rattle.std.specs.Prelude.{◌≡◌, ◌⊎◌, ℕ, List, [], ◌∷◌, ◌++◌, Contains, IsTrue, is_some, map}
 use Rattle.std.specs.Option.{option_or}
 use Rattle.sf_base.specs.HeapStore.{Apart, Splits}
