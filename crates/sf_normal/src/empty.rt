@@ -8,16 +8,16 @@ ghost use Rattle.sf_sym.specs.Goal.{goal_of};
 use sf_sym::Goal;
 use std::alloc::AllocError;
 
-/// absurd: no store and heap have the state, so that nothing is left to prove. `false` exactly where the rule doesn't
-/// apply. No memory is wanted.
+/// absurd: no store and heap have the state, so that nothing is left to prove. `false` exactly
+/// where the rule doesn't apply. No memory is wanted.
 pub fn absurd(goal: Goal<'_>) -> bool
     ensures { cond result (Some []) None ≡ absurd_row (goal_of goal.entry) }
 {
     goal.state.is_absurd()
 }
 
-/// drop: the atom of that number, an empty segment or tree, goes. `None` exactly where it is no such atom. No memory
-/// is wanted.
+/// drop: the atom of that number, an empty segment or tree, goes. `None` exactly where it is no
+/// such atom. No memory is wanted.
 pub fn drop<'a>(mut goal: Goal<'a>, a: u32) -> Option<Goal<'a>>
     ensures { option_map (λ g. goal_of g ∷ []) result ≡ drop_row (goal_of goal.entry) a }
 {
@@ -28,9 +28,9 @@ pub fn drop<'a>(mut goal: Goal<'a>, a: u32) -> Option<Goal<'a>>
     Some(goal)
 }
 
-/// force: the ends of the atom of that number, a segment or tree that can only be empty, are the same. `None` exactly
-/// where it is no such atom, or its ends are one term already. Memory is wanted only where the ends are two
-/// constants; an `Err` means that there is none.
+/// force: the ends of the atom of that number, a segment or tree that can only be empty, are the
+/// same. `None` exactly where it is no such atom, or its ends are one term already. Memory is
+/// wanted only where the ends are two constants; an `Err` means that there is none.
 pub fn force<'a>(mut goal: Goal<'a>, a: u32) -> Result<Option<Goal<'a>>, AllocError>
     ensures { IfOk result (λ left. option_map (λ g. goal_of g ∷ []) left
         ≡ force_row (goal_of goal.entry) a) }

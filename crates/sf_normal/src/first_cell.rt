@@ -8,9 +8,10 @@ ghost use Rattle.sf_sym.specs.Goal.{at_state, goal_of};
 use sf_sym::{Atom, FieldTerms, Goal, Term};
 use std::alloc::{AllocError, Global};
 
-/// unroll: in place of the atom of that number, a segment or tree whose ends surely differ, its first cell and what
-/// comes behind it, with fresh symbols and new numbers. `None` exactly where it is no such atom, or the program hasn't
-/// the fields by which it goes; an `Err` means out of memory.
+/// unroll: in place of the atom of that number, a segment or tree whose ends surely differ, its
+/// first cell and what comes behind it, with fresh symbols and new numbers. `None` exactly where it
+/// is no such atom, or the program hasn't the fields by which it goes; an `Err` means out of
+/// memory.
 pub fn unroll<'a>(alloc: Global, mut goal: Goal<'a>, a: u32) -> Result<Option<Goal<'a>>, AllocError>
     requires symbols { goal.state.next_sym + 2 < 2 ^ 32 }
     requires atoms { goal.state.next_atom + 3 < 2 ^ 32 }

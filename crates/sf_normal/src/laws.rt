@@ -1,7 +1,7 @@
-//! What the rules keep: of a goal that speaks of symbols below its next one only, each goal that is left
-//! does so too, and wherever the goal holds, one of them holds on the same heaps, with the same values of
-//! the goal's symbols. Each function is a law: calling it gives its fact to the caller's proof, and does
-//! nothing.
+//! What the rules keep: of a goal that speaks of symbols below its next one only, each goal that is
+//! left does so too, and wherever the goal holds, one of them holds on the same heaps, with the
+//! same values of the goal's symbols. Each function is a law: calling it gives its fact to the
+//! caller's proof, and does nothing.
 
 ghost use Rattle.sf_normal.specs.Laws.{AbsurdKeepsGoals, DropKeepsGoals, ForceKeepsGoals, SplitKeepsGoals, UnrollKeepsGoals};
 
@@ -17,8 +17,8 @@ pub fn drop_keeps_goals()
     ensures { DropKeepsGoals }
 {}
 
-/// A segment or tree whose root is a constant or a cell of another atom has no cell, so its ends are the
-/// same.
+/// A segment or tree whose root is a constant or a cell of another atom has no cell, so its ends
+/// are the same.
 #[tactic(auto, using(crate::proofs::Forcing::force_keeps_goals))]
 pub fn force_keeps_goals()
     ensures { ForceKeepsGoals }

@@ -1,5 +1,6 @@
-//! The rules that work out what is known, whatever is to do: a state that can't be, an empty segment or tree,
-//! one that can only be empty, two terms that are the same or differ, the first cell of a segment or tree.
+//! The rules that work out what is known, whatever is to do: a state that can't be, an empty
+//! segment or tree, one that can only be empty, two terms that are the same or differ, the first
+//! cell of a segment or tree.
 //!
 //! - `empty`: a state that can't be, and atoms that can only be empty.
 //! - `two_terms`: two terms are the same, or they differ.

@@ -8,8 +8,9 @@ ghost use Rattle.sf_sym.specs.Goal.{goal_of};
 use sf_sym::{Goal, Term};
 use std::alloc::{AllocError, Global};
 
-/// split: first the goal where the two terms are the same, then the one where they differ, which is a copy. `None`
-/// exactly where they are one term, or one is a symbol that the goal doesn't have yet; an `Err` means out of memory.
+/// split: first the goal where the two terms are the same, then the one where they differ, which is
+/// a copy. `None` exactly where they are one term, or one is a symbol that the goal doesn't have
+/// yet; an `Err` means out of memory.
 pub fn split<'a>(
     alloc: Global,
     goal: Goal<'a>,

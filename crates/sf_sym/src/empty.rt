@@ -1,14 +1,18 @@
 //! Atoms that can only be empty.
 
 ghost use Rattle.std.specs.Prelude.{◌≡◌};
+ghost use Rattle.std.specs.BTreeSet.{contains};
 ghost use Rattle.std.specs.Option.{option_and_then};
+ghost use Rattle.std.specs.Ordering.{nat_cmp};
+ghost use Rattle.sf_sym.specs.Internal.OwnRoots.{first_unsettled, unsettled_ends};
 ghost use Rattle.sf_sym.specs.Cells.{atom_at};
 ghost use Rattle.sf_sym.specs.Known.{ends, first_forced, first_nothing, forced_ends, is_nothing};
 
-use crate::atom::Atom;
-use crate::roots::first_at_constant;
+use crate::atom::{Atom, Numbered};
+use crate::roots::{first_at_constant, is_settled};
 use crate::state::State;
 use crate::term::Term;
+use std::collections::BTreeSet;
 
 impl Atom {
     /// Whether it is an empty segment or tree: from a term to itself, or from nil.
@@ -42,8 +46,8 @@ impl State {
         self.atom(a)?.ends()
     }
 
-    /// The ends of an atom of that number, where it can only be empty: its root is a constant or a cell
-    /// of another atom, and the ends aren't one term yet.
+    /// The ends of an atom of that number, where it can only be empty: its root is a constant or a
+    /// cell of another atom, and the ends aren't one term yet.
     pub fn forced_ends(&self, a: u32, atom: &Atom) -> Option<(Term, Term)>
         ensures { result ≡ forced_ends self.now a atom.now }
     {
@@ -69,13 +73,16 @@ impl State {
         None
     }
 
-    /// The first atom that can only be empty though its ends aren't one term yet, with its ends. Atoms are
-    /// compared with each other only where two begin at one symbol.
+    /// The first atom that can only be empty though its ends aren't one term yet, with its ends.
+    /// Atoms are compared with each other only where two begin at one symbol.
     pub fn forced(&self) -> Option<(u32, Term, Term)>
         ensures { result ≡ first_forced self.now self.now.atoms }
     {
         if self.have_own_roots() {
             return first_at_constant(self.atoms());
+        }
+        if let Some(cells) = self.own_cells() {
+            return self.first_unsettled(&cells);
         }
         let mut left = self.atoms();
         while let Some((first, rest)) = left.split_first() {
@@ -85,5 +92,30 @@ impl State {
             left = rest;
         }
         None
+    }
+
+    /// The first of those that are forced, with its ends, where these are the symbols of cells and
+    /// no two atoms have a cell at the same one.
+    fn first_unsettled(&self, cells: &BTreeSet<u32>) -> Option<(u32, Term, Term)>
+        ensures { result ≡ first_unsettled (contains nat_cmp cells.now) self.now self.now.atoms }
+    {
+        let mut left = self.atoms();
+        while let Some((first, rest)) = left.split_first() {
+            if let Some((t, u)) = self.unsettled_ends(cells, first) {
+                return Some((first.number, t, u));
+            }
+            left = rest;
+        }
+        None
+    }
+
+    /// The ends of an atom that is forced, unless it is settled.
+    fn unsettled_ends(&self, cells: &BTreeSet<u32>, a: &Numbered) -> Option<(Term, Term)>
+        ensures { result ≡ unsettled_ends (contains nat_cmp cells.now) self.now a.now }
+    {
+        if is_settled(cells, self.apart(), &a.atom) {
+            return None;
+        }
+        self.forced_ends(a.number, &a.atom)
     }
 }

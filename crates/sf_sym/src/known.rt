@@ -1,23 +1,36 @@
 //! The tests of a state: what it knows of terms, and whether it can be at all.
 
-ghost use Rattle.std.specs.Prelude.{◌≡◌, ◌&&◌, ◌||◌, ◌++◌, false, not};
+ghost use Rattle.std.specs.Prelude.{◌≡◌, ◌&&◌, ◌||◌, ◌++◌, ℕ, IfSome, false, not};
+ghost use Rattle.std.specs.BTreeSet.{contains};
 ghost use Rattle.std.specs.Bool.{OnTrue};
 ghost use Rattle.std.specs.List.{list_any};
-ghost use Rattle.sf_sym.specs.Internal.OwnRoots.{HaveOwnRoots};
+ghost use Rattle.std.specs.Ordering.{nat_cmp};
+ghost use Rattle.sf_sym.specs.Internal.OwnRoots.{HaveOwnCells, HaveOwnRoots, cell_symbols};
 ghost use Rattle.sf_sym.specs.Tests.{allocated, allocates, are_both_allocated, differs, differs_at_once, has_cell, has_repeat, is_absurd, is_constant, is_impossible, is_integer_tree, is_left_out, is_pair, parts, root, same_term};
 
 use crate::atom::{Atom, Numbered};
-use crate::roots::have_own_roots;
+use crate::roots::{have_own_roots, own_cells};
 use crate::state::State;
 use crate::term::Term;
+use std::collections::BTreeSet;
 
 impl State {
-    /// Whether no two atoms or taken atoms begin at one symbol. Where there is no memory to find that
-    /// out, it says `false` too.
+    /// Whether no two atoms or taken atoms begin at one symbol. Where there is no memory to find
+    /// that out, it says `false` too.
     pub(crate) fn have_own_roots(&self) -> bool
         ensures { OnTrue result (HaveOwnRoots (parts self.now)) }
     {
         have_own_roots(self.alloc(), self.atoms(), self.taken())
+    }
+
+    /// The symbols at which atoms or taken atoms have cells, if no two have one at the same symbol.
+    /// Where there is no memory to find that out, there is no answer either.
+    pub(crate) fn own_cells(&self) -> Option<BTreeSet<u32>>
+        ensures own { IfSome result (λ cells. HaveOwnCells self.now.apart (parts self.now)) }
+        ensures symbols { IfSome result (λ cells. (n : ℕ) → contains nat_cmp cells n
+            ≡ cell_symbols self.now.apart (parts self.now) n) }
+    {
+        own_cells(self.alloc(), self.apart(), self.atoms(), self.taken())
     }
 
     /// Whether two terms differ at once: different constants, or one of the pairs that differ.
@@ -36,9 +49,9 @@ impl State {
             || has_other_allocator(apart, self.taken(), t, except)
     }
 
-    /// Whether two terms surely differ: at once, or as a constant and a location, or as the locations of
-    /// two cells. It goes over the atoms a few times, and over the pairs that differ once for each atom
-    /// whose root is one of the terms.
+    /// Whether two terms surely differ: at once, or as a constant and a location, or as the
+    /// locations of two cells. It goes over the atoms a few times, and over the pairs that differ
+    /// once for each atom whose root is one of the terms.
     pub fn differs(&self, t: Term, u: Term) -> bool
         ensures { result ≡ differs self.now t u }
     {
@@ -55,8 +68,8 @@ impl State {
         self.has_first(self.atoms(), t, u) || self.has_first(self.taken(), t, u)
     }
 
-    /// Whether one of these atoms has a cell at the first term, and a different one of the state has a cell
-    /// at the second.
+    /// Whether one of these atoms has a cell at the first term, and a different one of the state
+    /// has a cell at the second.
     fn has_first(&self, atoms: &[Numbered], t: Term, u: Term) -> bool
         ensures { result ≡ list_any
             (λ a. allocates self.now.apart t a.atom && allocated self.now u (Some a.number))
@@ -73,9 +86,9 @@ impl State {
         allocates(self.apart(), t, &a.atom) && self.allocated(u, Some(a.number))
     }
 
-    /// Whether no store and heap have the state: a term would differ from itself, or a constant would be
-    /// a location, or an integer a tree, or two cells would be one. It goes over the state once, and
-    /// compares atoms with each other only where two begin at one symbol.
+    /// Whether no store and heap have the state: a term would differ from itself, or a constant
+    /// would be a location, or an integer a tree, or two cells would be one. It goes over the state
+    /// once, and compares atoms with each other only where two begin at one symbol.
     pub fn is_absurd(&self) -> bool
         ensures { result ≡ is_absurd self.now }
     {
@@ -98,12 +111,15 @@ impl State {
     }
 
     /// Whether two atoms or taken atoms have cells at one term, none being impossible by itself.
-    #[tactic(auto, using(crate::proofs::OwnRoots::apart_no_repeat))]
+    #[tactic(auto, using(crate::proofs::OwnRoots::own_roots_no_repeat, crate::proofs::OwnRoots::own_cells_no_repeat))]
     fn has_repeat(&self) -> bool
         requires { list_any (λ a. is_impossible self.now.apart a.atom) (parts self.now) ≡ false }
         ensures { result ≡ has_repeat self.now.apart (parts self.now) }
     {
         if self.have_own_roots() {
+            return false;
+        }
+        if let Some(_cells) = self.own_cells() {
             return false;
         }
         let apart = self.apart();
@@ -140,7 +156,7 @@ fn is_pair(p: (Term, Term), t: Term, u: Term) -> bool
 }
 
 /// Whether the atom has a cell at its root.
-fn has_cell(apart: &[(Term, Term)], atom: &Atom) -> bool
+pub(crate) fn has_cell(apart: &[(Term, Term)], atom: &Atom) -> bool
     ensures { result ≡ has_cell apart.now atom.now }
 {
     match atom {
@@ -208,7 +224,8 @@ fn is_integer_tree(atom: &Atom) -> bool
     matches!(atom, Atom::Tree(Term::Int(_)))
 }
 
-/// Whether an atom of the first list and a later one, there or in the second list, have cells at one term.
+/// Whether an atom of the first list and a later one, there or in the second list, have cells at
+/// one term.
 fn repeats(apart: &[(Term, Term)], atoms: &[Numbered], later: &[Numbered]) -> bool
     ensures { (result || has_repeat apart.now later.now)
         ≡ has_repeat apart.now (atoms.now ++ later.now) }

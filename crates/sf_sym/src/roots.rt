@@ -1,20 +1,21 @@
-//! Whether no two atoms of a state begin at one symbol. Where that is so, most tests of the state need no second look at
-//! its atoms.
+//! Whether no two atoms of a state begin at one symbol, or have a cell at one. Where that is so,
+//! most tests of the state need no second look at its atoms.
 
 ghost use Rattle.std.specs.BTreeSet.{contains};
-ghost use Rattle.std.specs.Ordering.{nat_cmp};
-ghost use Rattle.std.specs.Prelude.{◌≡◌, ◌++◌, ℕ, List, false};
 ghost use Rattle.std.specs.Bool.{OnTrue};
-ghost use Rattle.sf_sym.specs.Internal.OwnRoots.{BeginApart, HaveOwnRoots, ends_at_constant, first_at_constant, has_symbol, with_symbol};
+ghost use Rattle.std.specs.Ordering.{nat_cmp};
+ghost use Rattle.std.specs.Prelude.{◌≡◌, ◌++◌, ℕ, IfSome, List, false};
+ghost use Rattle.sf_sym.specs.Internal.OwnRoots.{AreApart, HaveOwnCells, HaveOwnRoots, cell_place, cell_symbols, ends_at_constant, first_at_constant, has_symbol, is_settled, root_place, symbols_at, with_symbol};
 ghost use Rattle.sf_sym.specs.declared.atom.Numbered.{Numbered as NumberedOf};
 
 use crate::atom::{Atom, Numbered};
+use crate::known::has_cell;
 use crate::term::Term;
 use std::alloc::Global;
 use std::collections::BTreeSet;
 
-/// Whether no two atoms of the two lists begin at one symbol. Where there is no memory to find that out, it says `false`
-/// too, so that whoever asks has to look at the atoms themselves.
+/// Whether no two atoms of the two lists begin at one symbol. Where there is no memory to find that
+/// out, it says `false` too, so that whoever asks has to look at the atoms themselves.
 pub(crate) fn have_own_roots(alloc: Global, atoms: &[Numbered], taken: &[Numbered]) -> bool
     ensures { OnTrue result (HaveOwnRoots (atoms.now ++ taken.now)) }
 {
@@ -25,10 +26,33 @@ pub(crate) fn have_own_roots(alloc: Global, atoms: &[Numbered], taken: &[Numbere
     note_roots(&mut seen, taken)
 }
 
+/// The symbols at which atoms of the two lists have cells, if no two have one at the same symbol.
+/// Where there is no memory to find that out, there is no answer either.
+pub(crate) fn own_cells(
+    alloc: Global,
+    apart: &[(Term, Term)],
+    atoms: &[Numbered],
+    taken: &[Numbered],
+) -> Option<BTreeSet<u32>>
+    ensures own { IfSome result (λ seen. HaveOwnCells apart.now (atoms.now ++ taken.now)) }
+    ensures symbols { IfSome result (λ seen. (n : ℕ) → contains nat_cmp seen n
+        ≡ cell_symbols apart.now (atoms.now ++ taken.now) n) }
+{
+    let mut seen = BTreeSet::new(alloc);
+    if !note_cells(&mut seen, apart, atoms) {
+        return None;
+    }
+    if !note_cells(&mut seen, apart, taken) {
+        return None;
+    }
+    Some(seen)
+}
+
 /// Notes the symbols at which the atoms begin. `true` only where none was there.
 fn note_roots(seen: &mut BTreeSet<u32>, atoms: &[Numbered]) -> bool
-    ensures { OnTrue result ((later : List NumberedOf) → BeginApart (contains nat_cmp seen.new) later
-        → BeginApart (contains nat_cmp seen.old) (atoms.now ++ later)) }
+    ensures { OnTrue result ((later : List NumberedOf)
+        → AreApart root_place (contains nat_cmp seen.new) later
+        → AreApart root_place (contains nat_cmp seen.old) (atoms.now ++ later)) }
 {
     let mut left = atoms;
     while let Some((first, rest)) = left.split_first() {
@@ -38,6 +62,36 @@ fn note_roots(seen: &mut BTreeSet<u32>, atoms: &[Numbered]) -> bool
         left = rest;
     }
     true
+}
+
+/// Notes the symbols at which the atoms have cells. `true` only where none was there.
+fn note_cells(seen: &mut BTreeSet<u32>, apart: &[(Term, Term)], atoms: &[Numbered]) -> bool
+    ensures own { OnTrue result ((later : List NumberedOf)
+        → AreApart (cell_place apart.now) (contains nat_cmp seen.new) later
+        → AreApart (cell_place apart.now) (contains nat_cmp seen.old) (atoms.now ++ later)) }
+    ensures symbols { OnTrue result ((later : List NumberedOf) (n : ℕ)
+        → symbols_at (cell_place apart.now) (contains nat_cmp seen.new) later n
+        ≡ symbols_at (cell_place apart.now) (contains nat_cmp seen.old) (atoms.now ++ later) n) }
+{
+    let mut left = atoms;
+    while let Some((first, rest)) = left.split_first() {
+        if !note(seen, cell_place(apart, first)) {
+            return false;
+        }
+        left = rest;
+    }
+    true
+}
+
+/// Where the atom has its first cell; nil, which is no symbol, where it isn't known to have one.
+fn cell_place(apart: &[(Term, Term)], a: &Numbered) -> Term
+    ensures { result ≡ cell_place apart.now a.now }
+{
+    if has_cell(apart, &a.atom) {
+        a.atom.root()
+    } else {
+        Term::Nil
+    }
 }
 
 /// Notes the term, if it is a symbol. `true` only where it wasn't there.
@@ -55,7 +109,19 @@ fn note(seen: &mut BTreeSet<u32>, t: Term) -> bool
     }
 }
 
-/// The number and the ends of the first segment or tree at a constant whose ends aren't one term yet.
+/// Whether the atom isn't forced: it begins at a symbol that isn't among those of cells, or has a
+/// cell there itself.
+pub(crate) fn is_settled(cells: &BTreeSet<u32>, apart: &[(Term, Term)], atom: &Atom) -> bool
+    ensures { result ≡ is_settled (contains nat_cmp cells.now) apart.now atom.now }
+{
+    match atom.root() {
+        Term::Nil | Term::Int(_) => false,
+        Term::Sym(n) => !cells.contains(&n) || has_cell(apart, atom),
+    }
+}
+
+/// The number and the ends of the first segment or tree at a constant whose ends aren't one term
+/// yet.
 pub(crate) fn first_at_constant(atoms: &[Numbered]) -> Option<(u32, Term, Term)>
     ensures { result ≡ first_at_constant atoms.now }
 {
