@@ -2,6 +2,7 @@ pub mod Outside
 pub mod Conditions
 pub mod Sets
 pub mod Assigned
+pub mod Changes
 pub mod Around
 pub mod First
 pub mod FirstBreach

@@ -1,6 +1,6 @@
 -- The least sets as lists: in order of number, and without repeats.
 -- Ordinary: a finite set as the strictly increasing list of its members.
-use Rattle.std.specs.Prelude.{◌≡◌, ◌↔◌, ◌⊎◌, ℕ, ◌<◌, List, length, Some, slice_get, AllPairs, Contains}
+use Rattle.std.specs.Prelude.{◌≡◌, ◌↔◌, ◌⊎◌, ℕ, ◌<◌, ◌==◌, nat_lt, Bool, true, false, ◌&&◌, ◌||◌, List, length, Some, slice_get, AllPairs, Contains}
 use Rattle.sf_base.specs.declared.ids.ProcId.{ProcId}
 use Rattle.sf_base.specs.declared.ids.ResId.{ResId}
 use Rattle.sf_base.specs.declared.ids.Var.{Var}
@@ -20,6 +20,13 @@ IsEarlier (Own m) (Own n) = m < n
 IsEarlier (Own m) (Shared q j) = Unit {0}
 IsEarlier (Shared r i) (Own n) = ⊥
 IsEarlier (Shared r i) (Shared q j) = (r.0 < q.0) ⊎ ((r ≡ q) × (i < j))
+
+-- the same as a test
+abbrev pub is_earlier : Var → Var → Bool
+is_earlier (Own m) (Own n) = nat_lt m n
+is_earlier (Own m) (Shared q j) = true
+is_earlier (Shared r i) (Own n) = false
+is_earlier (Shared r i) (Shared q j) = nat_lt r.0 q.0 || ((r.0 == q.0) && nat_lt i j)
 
 -- the list has exactly those, each before the later ones
 pub record IsSetOf {A : Type 0} (Before : A → A → Type 0) (P : A → Type 0) (xs : List A) : Type 0 where

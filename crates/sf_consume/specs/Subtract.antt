@@ -1,7 +1,7 @@
 -- The rows of subtraction, of what is to be shown and handed over: bind, same, apart, cell, empty, exact, head, join,
 -- node.
 -- Berdine, Calcagno, O'Hearn, "Symbolic Execution with Separation Logic" (2005), section 5: subtraction.
-use Rattle.std.specs.Prelude.{ℕ, ◌+◌, Bool, false, ◌&&◌, ◌||◌, cond, get_or, is_some, Option, Some, None, List, [], ◌∷◌, length, set}
+use Rattle.std.specs.Prelude.{ℕ, ◌+◌, Bool, false, ◌&&◌, ◌||◌, cond, get_or, is_some, Option, Some, None, List, [], ◌∷◌, set}
 use Rattle.std.specs.Option.{option_and_then, option_map}
 use Rattle.sf_base.specs.declared.ids.FieldId.{FieldId}
 use Rattle.sf_consume.specs.declared.wanted.WantedList.{WantedList}
@@ -14,6 +14,7 @@ use Rattle.sf_sym.specs.declared.atom.Atom.{Atom}
 use Rattle.sf_sym.specs.declared.atom.Atom.TheVariants.{Ls, Tree}
 use Rattle.sf_sym.specs.declared.tag.Tag.{Tag}
 use Rattle.sf_sym.specs.declared.tag.Tag.TheVariants as tags
+use Rattle.sf_sym.specs.Pending.{existentials_in}
 use Rattle.sf_sym.specs.declared.term.Term.{Term}
 use Rattle.sf_sym.specs.declared.term.Term.TheVariants.{Nil, Sym}
 use Rattle.sf_sym.specs.Cells.{after_hand_over, atom_at, cell_at, handed}
@@ -291,7 +292,8 @@ step_of _ = None
 abbrev pub subtracted : Tag → Want → Option Want
 subtracted tag w = option_and_then (λ step. stepped step w) (step_of tag)
 
--- so many symbols may be new at the first conjunct: one for each field of a cell, and for a list or tree at most two
+-- so many symbols may be new at the first conjunct: one for each existential in a cell's fields, and for a list or
+-- tree at most two
 abbrev pub new_symbols : Conjuncts Term → ℕ
-new_symbols (also (points q x fs) cs) = length fs
+new_symbols (also (points q x fs) cs) = existentials_in fs
 new_symbols _ = 2

@@ -1,11 +1,11 @@
 //! Wanted cells, and wanted lists and trees that begin with a cell.
 
-ghost use Rattle.std.specs.Prelude.{◌≡◌, ◌+◌, ◌<◌, ◌≤◌, ◌^◌, IfNone, IfOk, IfSome, None, OnErr, Some, [], is_some, length, true};
+ghost use Rattle.std.specs.Prelude.{◌≡◌, ◌+◌, ◌<◌, ◌≤◌, ◌^◌, IfNone, IfOk, IfSome, None, OnErr, Some, [], is_some, true};
 ghost use Rattle.std.specs.Option.{option_map};
 ghost use Rattle.sf_consume.specs.Internal.Fits.{AnswersBy, after_changes, fitting_of};
 ghost use Rattle.sf_consume.specs.Subtract.{cell_step, fitting, head_step, new_symbols, node_step, stepped};
 ghost use Rattle.sf_sym.specs.Cells.{cell_at};
-ghost use Rattle.sf_sym.specs.Pending.{pending_of};
+ghost use Rattle.sf_sym.specs.Pending.{existentials_in, pending_of};
 
 use crate::fit::{Fitting, fit_fields, link};
 use crate::wanted::{as_cell, as_list, as_tree, both, list_from, tree_from};
@@ -52,7 +52,7 @@ fn fitting(
     wanted: &[(FieldId, Operand<Term>)],
     a: u32,
 ) -> Result<Option<(Term, Fitting)>, AllocError>
-    requires { state.now.next_sym + length wanted.now < 2 ^ 32 }
+    requires { state.now.next_sym + existentials_in wanted.now < 2 ^ 32 }
     ensures fits { IfOk result (λ r. option_map (fitting_of bindings.now) r
         ≡ fitting a state.now bindings.now (root, wanted.now)) }
     ensures there { IfOk result (λ r. IfSome r (λ x. is_some (cell_at state.now.atoms a x.0) ≡ true)) }

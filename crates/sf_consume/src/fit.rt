@@ -1,11 +1,12 @@
 //! How far the fields of a wanted cell fit a cell. Nothing of the state changes while they are compared: what
 //! existentials are to stand for is noted, and the cell's fields are a copy.
 
-ghost use Rattle.std.specs.Prelude.{◌≡◌, ◌+◌, ◌<◌, ◌≤◌, ◌^◌, get_or, length, IfOk, IfSome, None, List, Option};
+ghost use Rattle.std.specs.Prelude.{◌≡◌, ◌+◌, ◌<◌, ◌≤◌, ◌^◌, get_or, IfOk, IfSome, None, List, Option};
 ghost use Rattle.std.specs.Option.{option_map};
 ghost use Rattle.sf_consume.specs.Internal.Fits.{after_changes, fit_of, latest, link_of};
 ghost use Rattle.sf_consume.specs.Subtract.{fit_existential, fit_field, fit_fields, fit_known, fit_new, link};
 ghost use Rattle.sf_sym.specs.Fields.{field_term};
+ghost use Rattle.sf_sym.specs.Pending.{existentials_in, one_if_existential};
 ghost use Rattle.sf_sym.specs.declared.term.Term.{Term as TermOf};
 
 use sf_base::FieldId;
@@ -31,7 +32,7 @@ pub(crate) fn fit_fields(
     mut fit: Fitting,
     wanted: &[(FieldId, Operand<Term>)],
 ) -> Result<Option<Fitting>, AllocError>
-    requires { fit.next_sym + length wanted.now < 2 ^ 32 }
+    requires { fit.next_sym + existentials_in wanted.now < 2 ^ 32 }
     ensures { IfOk result (λ after. option_map (fit_of bindings.now) after
         ≡ fit_fields (fit_of bindings.now fit) wanted.now) }
 {
@@ -52,10 +53,11 @@ fn fit_field(
     fit: Fitting,
     wanted: &(FieldId, Operand<Term>),
 ) -> Result<Option<Fitting>, AllocError>
-    requires { fit.next_sym + 1 < 2 ^ 32 }
+    requires { fit.next_sym + one_if_existential wanted.now.1 < 2 ^ 32 }
     ensures fits { IfOk result (λ after. option_map (fit_of bindings.now) after
         ≡ fit_field (fit_of bindings.now fit) wanted.now) }
-    ensures symbols { IfOk result (λ after. IfSome after (λ f. f.next_sym ≤ fit.next_sym + 1)) }
+    ensures symbols { IfOk result (λ after. IfSome after
+        (λ f. f.next_sym ≤ fit.next_sym + one_if_existential wanted.now.1)) }
 {
     let field = wanted.0;
     match wanted.1 {

@@ -20,6 +20,11 @@ picked-order : (a : Assertion) (w : Determined a.level ⊎ ((q : Place) × Never
 picked-order a (inl d) e = record { names = refl; level = (determined-order a.level d).1 }
 picked-order a (inr n) e = absurd (never-undetermined a.level n.0 n.1 e)
 
+picked-kept : (a : Assertion) (w : Determined a.level ⊎ ((q : Place) × NeverTakenAt a.level q))
+    → ¬ Determined a.level → picked a w ≡ a
+picked-kept a (inl d) n = absurd (n d)
+picked-kept a (inr w) n = refl
+
 -- an assertion has one order
 order-one : (a o u : Assertion) → IsOrderOf a o → IsOrderOf a u → o ≡ u
 order-one a o u i j =
@@ -35,7 +40,10 @@ pub ordering-exists : OrderingExists
 unfolding OrderingExists
 ordering-exists = (
   in_order,
-  λ a o i. order-one a (in_order a) o
-      (picked-order a (determined-or_place a.level) (ordered-determined a.level o.level i.level)) i,
+  record {
+    ordered = λ a o i. order-one a (in_order a) o
+        (picked-order a (determined-or_place a.level) (ordered-determined a.level o.level i.level)) i;
+    kept = λ a n. picked-kept a (determined-or_place a.level) n;
+  },
   λ a d. picked-order a (determined-or_place a.level) d,
 )

@@ -17,7 +17,7 @@ use Rattle.sf_core.specs.Assertions.Sat.{Sat, SatAll, value}
 use Rattle.sf_core.specs.Program.Formed.{AssertionWithin, IsInBody, IsOfResource, IsParameter}
 use Rattle.sf_core.specs.Program.Syntax.{Assertion, Conjuncts, Level, Procedure, Program}
 use Rattle.sf_precise.specs.Annotations.{AreOrdersOf, IsFirstPlace, NeverTakenIn}
-use Rattle.sf_precise.specs.Order.{IsOrderOf, IsOrderOfLevel}
+use Rattle.sf_precise.specs.Order.{IsOrderOf, IsOrderOfLevel, IsOrdering}
 use Rattle.sf_precise.specs.Taken.{NeverTakenAt, Takes, known_by}
 
 -- a level has one order at most
@@ -84,10 +84,6 @@ pub record OrderKeepsForm : Type 0 where
 abbrev pub OrdersFromTruncation : Type 0
 OrdersFromTruncation =
     (notes orders : List Assertion) → ∥ AreOrdersOf notes orders ∥₁ → AreOrdersOf notes orders
-
--- the function puts each assertion that has an order in that order
-abbrev pub IsOrdering : (Assertion → Assertion) → Type 0
-IsOrdering in_order = (a o : Assertion) → IsOrderOf a o → in_order a ≡ o
 
 -- some function does, and what it makes of a determined assertion is its order
 unfoldable pub OrderingExists : Type 0

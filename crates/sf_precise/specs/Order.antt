@@ -2,7 +2,7 @@
 -- branches too.
 -- This project's own choice among the orders that Determined allows.
 use Rattle.std.specs.Prelude.{◌≡◌, ◌⊎◌, ℕ, Bool, false}
-use Rattle.sf_core.specs.Assertions.Determined.{CanBeTaken, known_after, known_inside}
+use Rattle.sf_core.specs.Assertions.Determined.{CanBeTaken, Determined, known_after, known_inside}
 use Rattle.sf_core.specs.Program.Syntax.{Conjunct, holds, points, segment, tree, choose, Level, level, Conjuncts, none, also, Assertion}
 
 -- the conjunct is the first of these that can be taken, and those are the others
@@ -48,3 +48,8 @@ IsOrderOfLevel a o = IsOrderFrom (λ n. false) a o
 pub record IsOrderOf (a o : Assertion) : Type 0 where
   pub names : o.names ≡ a.names
   pub level : IsOrderOfLevel a.level o.level
+
+-- the function puts each assertion that has an order in that order, and leaves one that isn't determined as it is
+pub record IsOrdering (in_order : Assertion → Assertion) : Type 0 where
+  pub ordered : (a o : Assertion) → IsOrderOf a o → in_order a ≡ o
+  pub kept : (a : Assertion) → ¬ Determined a.level → in_order a ≡ a

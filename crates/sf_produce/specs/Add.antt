@@ -1,6 +1,6 @@
 -- The row of what is assumed: add.
 -- Berdine, Calcagno, O'Hearn, "Symbolic Execution with Separation Logic" (2005), section 4.
-use Rattle.std.specs.Prelude.{ℕ, suc, get_or, Option, Some, None, List, [], ◌∷◌, ◌++◌, length, set}
+use Rattle.std.specs.Prelude.{ℕ, ◌+◌, get_or, Option, Some, None, List, [], ◌∷◌, ◌++◌, set}
 use Rattle.std.specs.Option.{option_map}
 use Rattle.sf_base.specs.declared.ids.FieldId.{FieldId}
 use Rattle.sf_base.specs.declared.place.Place.{Place}
@@ -15,7 +15,7 @@ use Rattle.sf_sym.specs.Cells.{with_cell, with_atom}
 use Rattle.sf_sym.specs.Equalities.{assumed_apart, assumed_equal}
 use Rattle.sf_sym.specs.Fields.{put_term}
 use Rattle.sf_sym.specs.Goal.{Item, Goal, adding}
-use Rattle.sf_sym.specs.Pending.{Pending}
+use Rattle.sf_sym.specs.Pending.{Pending, existentials_in, one_if_existential}
 use Rattle.sf_sym.specs.State.{State, with_symbols}
 
 -- what meeting an operand gives: its term, the state, and what existentials stand for from then on
@@ -107,7 +107,7 @@ add_first s p bindings (also c cs) rest = added s p bindings c cs rest
 abbrev pub add_row : State → Place → Pending → List Item → Option (List Goal)
 add_row s p given rest = option_map (λ g. g ∷ []) (add_first s p given.bindings given.conjuncts rest)
 
--- so many symbols may be new: one for each operand
+-- so many symbols may be new: one for each existential of a cell, and else at most two
 abbrev pub operands : Conjuncts Term → ℕ
-operands (also (points q x fs) cs) = suc (length fs)
+operands (also (points q x fs) cs) = one_if_existential x + existentials_in fs
 operands _ = 2

@@ -1,8 +1,9 @@
 //! Operands that are met: an existential that is met for the first time gets a fresh symbol.
 
-ghost use Rattle.std.specs.Prelude.{◌≡◌, ◌+◌, ◌<◌, ◌≤◌, ◌^◌, [], IfOk, length};
+ghost use Rattle.std.specs.Prelude.{◌≡◌, ◌+◌, ◌<◌, ◌≤◌, ◌^◌, [], IfOk};
 ghost use Rattle.sf_produce.specs.Add.{met, met_both, met_fields};
 ghost use Rattle.sf_produce.specs.Internal.Meeting.{both_of, fields_of, met_of};
+ghost use Rattle.sf_sym.specs.Pending.{existentials_in, one_if_existential};
 
 use sf_base::FieldId;
 use sf_core::Operand;
@@ -11,10 +12,10 @@ use std::alloc::{AllocError, Global};
 
 /// The term of an operand, which is a fresh symbol where it is an existential that is met for the first time.
 pub(crate) fn met(state: &mut State, given: &mut Pending, x: Operand<Term>) -> Term
-    requires { state.old.next_sym + 1 < 2 ^ 32 }
+    requires { state.old.next_sym + one_if_existential x < 2 ^ 32 }
     ensures met { met_of state.new given.new.bindings result ≡ met state.old given.old.bindings x }
     ensures conjuncts { given.new.conjuncts ≡ given.old.conjuncts }
-    ensures symbols { state.new.next_sym ≤ state.old.next_sym + 1 }
+    ensures symbols { state.new.next_sym ≤ state.old.next_sym + one_if_existential x }
     ensures atoms { state.new.next_atom ≡ state.old.next_atom }
 {
     if let Some(t) = term_of(given.bindings(), &x) {
@@ -55,7 +56,7 @@ pub(crate) fn met_fields(
     given: &mut Pending,
     fields: &[(FieldId, Operand<Term>)],
 ) -> Result<FieldTerms, AllocError>
-    requires { state.old.next_sym + length fields.now < 2 ^ 32 }
+    requires { state.old.next_sym + existentials_in fields.now < 2 ^ 32 }
     ensures met { IfOk result (λ made. fields_of state.new given.new.bindings made
         ≡ met_fields state.old given.old.bindings fields.now []) }
     ensures conjuncts { given.new.conjuncts ≡ given.old.conjuncts }

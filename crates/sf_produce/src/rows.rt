@@ -1,12 +1,12 @@
 //! The row of what is assumed: add.
 
-ghost use Rattle.std.specs.Prelude.{◌≡◌, ◌+◌, ◌<◌, ◌^◌, IfOk, Some, length, suc};
+ghost use Rattle.std.specs.Prelude.{◌≡◌, ◌+◌, ◌<◌, ◌^◌, IfOk, Some};
 ghost use Rattle.std.specs.Option.{option_map};
 ghost use Rattle.sf_core.specs.Program.Syntax.{holds, points};
 ghost use Rattle.sf_core.specs.declared.assertion.Test.TheVariants.{Differ, Equal};
 ghost use Rattle.sf_produce.specs.Add.{add_first, added, added_segment, added_tree, goal_after, operands};
 ghost use Rattle.sf_sym.specs.Goal.{goal_of};
-ghost use Rattle.sf_sym.specs.Pending.{pending_of};
+ghost use Rattle.sf_sym.specs.Pending.{existentials_in, one_if_existential, pending_of};
 
 use crate::operands::{met, met_both, met_fields};
 use sf_base::{FieldId, Place};
@@ -100,7 +100,8 @@ fn cell<'a>(
     root: Operand<Term>,
     fields: &[(FieldId, Operand<Term>)],
 ) -> Result<Goal<'a>, AllocError>
-    requires symbols { goal.state.next_sym + suc (length fields.now) < 2 ^ 32 }
+    requires symbols { goal.state.next_sym
+        + (one_if_existential root + existentials_in fields.now) < 2 ^ 32 }
     requires atoms { goal.state.next_atom + 1 < 2 ^ 32 }
     ensures { IfOk result (λ g. Some (goal_of g) ≡ added goal.entry.state place given.bindings
         (points place root fields.now) (pending_of given).conjuncts (goal_of goal.entry).todo) }

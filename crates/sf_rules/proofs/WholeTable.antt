@@ -1,6 +1,6 @@
 -- The rows that there is code for are rows of the whole table.
 -- Names: `TAG-whole` is of the row of that tag.
-use Rattle.std.proofs.Common.{◌≡◌, ℕ, Bool, true, false, cond, Option, Some, None, List, [], ◌∷◌, ◌++◌, refl, ap, ◌∙◌}
+use Rattle.std.proofs.Common.{◌≡◌, ℕ, Bool, true, false, cond, Option, Some, None, List, [], ◌∷◌, ◌++◌, refl, ap, ◌∙◌, arith}
 use Rattle.std.specs.List.{list_all}
 use Rattle.std.specs.Option.{option_and_then, option_map}
 use Rattle.sf_base.specs.declared.ids.FieldId.{FieldId}
@@ -13,6 +13,7 @@ use Rattle.sf_sym.specs.declared.term.Term.{Term}
 use Rattle.sf_sym.specs.Cells.{after_hand_over, cell_at, state_after_write, with_cell}
 use Rattle.sf_sym.specs.Fields.{field_term, put_term}
 use Rattle.sf_sym.specs.Goal.{Item, run, add, take, gave, head, again, exit, return, end, Goal, unless_none}
+use Rattle.sf_sym.specs.Pending.{existentials_in}
 use Rattle.sf_sym.specs.State.{State, term}
 use Rattle.sf_rules.specs.Rows.Ends as ends
 use Rattle.sf_rules.specs.Rows.Front as front
@@ -24,6 +25,8 @@ use Rattle.sf_produce.specs.Add as produce
 use Rattle.sf_rules.specs.Rows.Commands as commands
 use Rattle.sf_sym.specs.Goal as goals
 use Rattle.sf_rules.specs.Laws.{BuiltRowsAreRows}
+use Rattle.sf_rules.specs.Few.{if_few}
+use Rattle.sf_rules.specs.Rows.Add as added
 use Rattle.sf_rules.specs.Rows.Take as taken
 use Rattle.sf_consume.specs.Subtract as subtract
 use Rattle.sf_rules.specs.Table.{add_first, add_row, cell_first, cell_row, end_row, fits, has_numbers, has_term, mutate_one, mutate_row, new_fields, one_goal, return_row, row_of}
@@ -36,6 +39,14 @@ fields-met s bindings [] made all e = let same : made ≡ all = cc in
     ap (λ x. record { fields = x; state = s; bindings = bindings }) same
 fields-met s bindings ((f, Known u) ∷ fs) made all e = fields-met s bindings fs (put_term f u made) all e
 fields-met s bindings ((f, Exists n) ∷ fs) made all e = absurd (cc)
+
+-- they have no existential
+fields-known : (fs : List (FieldId × Operand Term)) (made all : List (FieldId × Term))
+    → new_fields fs made ≡ Some all → existentials_in fs ≡ 0
+fields-known [] made all e = refl
+fields-known ((f, Known u) ∷ fs) made all e =
+    let rest = fields-known fs (put_term f u made) all e in omega arith
+fields-known ((f, Exists n) ∷ fs) made all e = absurd (cc)
 
 fit-step : (f : subtract.Fit) (t : Option Term) (u : Term) → has_term t (Some u) ≡ true
     → subtract.fit_known f t u ≡ Some f
@@ -59,8 +70,39 @@ fields-fit f ((field, Exists n) ∷ ws) e =
     absurd (no-term (field_term f.fields field)
     (and-left (fits f.fields (field, Exists n)) (list_all (fits f.fields) ws) e))
 
+-- they have no existential
+fit-known : (fields : List (FieldId × Term)) (ws : List (FieldId × Operand Term))
+    → list_all (fits fields) ws ≡ true → existentials_in ws ≡ 0
+fit-known fields [] e = refl
+fit-known fields ((field, Known u) ∷ ws) e =
+    let rest = fit-known fields ws
+    (and-right (fits fields (field, Known u)) (list_all (fits fields) ws) e) in
+    omega arith
+fit-known fields ((field, Exists n) ∷ ws) e =
+    absurd (no-term (field_term fields field)
+    (and-left (fits fields (field, Exists n)) (list_all (fits fields) ws) e))
+
 module _ (s : State) (p : Place) (bindings : List (Option Term)) (cs : Conjuncts Term) (rest : List Item)
     (left : List Goal) where
+  few-fields : (root : Term) (fs : List (FieldId × Operand Term)) (o : Option (List (FieldId × Term)))
+      → new_fields fs [] ≡ o
+      → option_map (one_goal (unless_none cs (add p (record { conjuncts = cs; bindings = bindings })) ++ rest))
+      (option_map (with_cell s root) o) ≡ Some left
+      → existentials_in fs ≡ 0
+  few-fields root fs None m e = absurd (cc)
+  few-fields root fs (Some all) m e = fields-known fs [] all m
+
+  -- no symbol is new
+  add-few : (c : Conjunct Term) → add_first s p (also c cs) bindings rest ≡ Some left
+      → produce.operands (also c cs) ≡ 0
+  add-few (holds q x) e = absurd (cc)
+  add-few (points q (Known root) fs) e =
+      let none = few-fields root fs (new_fields fs []) refl e in omega arith
+  add-few (points q (Exists n) fs) e = absurd (cc)
+  add-few (segment q next x y) e = absurd (cc)
+  add-few (tree q l r x) e = absurd (cc)
+  add-few (choose q x this that) e = absurd (cc)
+
   add-fields : (q : Place) (root : Term) (fs : List (FieldId × Operand Term)) (o : Option (List (FieldId × Term)))
       → new_fields fs [] ≡ o
       → option_map (one_goal (unless_none cs (add p (record { conjuncts = cs; bindings = bindings })) ++ rest))
@@ -108,12 +150,31 @@ module _ (s : State) (p : Place) (bindings : List (Option Term)) (cs : Conjuncts
     cell-fields root ws None e = absurd (cc)
     cell-fields root ws (Some fields) e = cell-fits root ws fields (list_all (fits fields) ws) refl e
 
+    few-fit : (root : Term) (ws : List (FieldId × Operand Term)) (fields : List (FieldId × Term)) (b : Bool)
+        → list_all (fits fields) ws ≡ b
+        → option_map (one_goal todo) (cond b (Some (after_hand_over s root fields a)) None) ≡ Some left
+        → existentials_in ws ≡ 0
+    few-fit root ws fields true l e = fit-known fields ws l
+    few-fit root ws fields false l e = absurd (cc)
+
+    -- no symbol is new
+    cell-few : (root : Term) (ws : List (FieldId × Operand Term)) (o : Option (List (FieldId × Term)))
+        → option_map (one_goal todo) (option_and_then
+        (λ fields. cond (list_all (fits fields) ws) (Some (after_hand_over s root fields a)) None) o) ≡ Some left
+        → existentials_in ws ≡ 0
+    cell-few root ws None e = absurd (cc)
+    cell-few root ws (Some fields) e = few-fit root ws fields (list_all (fits fields) ws) refl e
+
     cell-whole : (c : Conjunct Term)
         → cell_first s p (also c cs) bindings names rest a ≡ Some left
         → taken.take_row (subtract.cell_step a) s p (record { conjuncts = also c cs; bindings = bindings }) names rest
         ≡ Some left
     cell-whole (holds q x) e = absurd (cc)
-    cell-whole (points q (Known root) ws) e = cell-fields root ws (cell_at s.atoms a root) e
+    cell-whole (points q (Known root) ws) e =
+        ap (λ n. if_few n (option_and_then left_by (subtract.stepped (subtract.cell_step a) (taken.wanting s
+        (record { conjuncts = also (points q (Known root) ws) cs; bindings = bindings })))))
+        (cell-few root ws (cell_at s.atoms a root) e)
+        ∙ cell-fields root ws (cell_at s.atoms a root) e
     cell-whole (points q (Exists n) ws) e = absurd (cc)
     cell-whole (segment q next x y) e = absurd (cc)
     cell-whole (tree q l r x) e = absurd (cc)
@@ -180,12 +241,14 @@ mutate-whole s (end p ∷ rest) a left e = absurd (cc)
 
 add-conjuncts : (s : State) (p : Place) (bindings : List (Option Term)) (cs : Conjuncts Term) (rest : List Item)
     (left : List Goal) → add_first s p cs bindings rest ≡ Some left
-    → option_map (λ g. g ∷ []) (produce.add_first s p bindings cs rest) ≡ Some left
+    → if_few (produce.operands cs) (option_map (λ g. g ∷ []) (produce.add_first s p bindings cs rest)) ≡ Some left
 add-conjuncts s p bindings none rest left e = absurd (cc)
-add-conjuncts s p bindings (also c cs) rest left e = add-whole s p bindings cs rest left c e
+add-conjuncts s p bindings (also c cs) rest left e =
+    ap (λ n. if_few n (option_map (λ g. g ∷ []) (produce.add_first s p bindings (also c cs) rest)))
+    (add-few s p bindings cs rest left c e) ∙ add-whole s p bindings cs rest left c e
 
 add-item : (s : State) (todo : List Item) (left : List Goal) → add_row s todo ≡ Some left
-    → front.at_add (produce.add_row s) todo ≡ Some left
+    → front.at_add (added.assume_row s) todo ≡ Some left
 add-item s [] left e = absurd (cc)
 add-item s (add p given ∷ rest) left e = add-conjuncts s p given.bindings given.conjuncts rest left e
 add-item s (run c ∷ rest) left e = absurd (cc)

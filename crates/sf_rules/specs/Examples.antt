@@ -6,7 +6,8 @@ use Rattle.sf_core.specs.declared.assertion.Operand.TheVariants.{Known}
 use Rattle.sf_core.specs.declared.assertion.Test.TheVariants.{True, Differ}
 use Rattle.sf_core.specs.Assertions.Examples.{place, tl}
 use Rattle.sf_core.specs.Machine.Examples.{emp, one_cell, own_one, procedure}
-use Rattle.sf_core.specs.Program.Syntax.{Call, Conjuncts, none, also, holds, points, segment, done, fork, Program}
+use Rattle.sf_core.specs.declared.command.Expr.TheVariants.{Nil as ENil}
+use Rattle.sf_core.specs.Program.Syntax.{Block, Call, Conjuncts, none, also, holds, points, segment, assign, done, then, fork, Program}
 use Rattle.sf_sym.specs.declared.atom.Atom.TheVariants.{Points, Ls}
 use Rattle.sf_sym.specs.declared.atom.Numbered.{Numbered}
 use Rattle.sf_sym.specs.declared.tag.Tag.TheVariants as t
@@ -75,15 +76,17 @@ GivenIsGone = (d : Setting)
     (gave place ((Own 0, Sym 1) ∷ []) [] ∷ end place ∷ [])) t.Give
     ≡ Some (goal_at (record (state_with []) { vars = (Own 0, Sym 1) ∷ [] }) (end place ∷ []) ∷ [])
 
--- a setting of that program, in which every block may change x, and no resource is used
-abbrev pub changing_x : Program → Setting
-changing_x p = record {
+-- a setting of that program, in which no resource is used, and annotations are in order as they are
+abbrev pub plain : Program → Setting
+plain p = record {
   program = p;
+  sets = record { takes = []; holds = []; free = [] };
   ordered = λ a. a;
-  free = λ f. [];
-  holds = λ f. [];
-  assigned = λ b. Own 0 ∷ [];
 }
+
+-- x = nil
+abbrev pub changing_x : Block
+changing_x = then (assign place (record { var = Own 0; place = place }) ENil) done
 
 -- no procedure
 abbrev pub no_program : Program
@@ -93,12 +96,14 @@ no_program = record { fields = []; resources = []; procedures = [] }
 abbrev pub around_now : State
 around_now = record (state_with list_at_one) { vars = (Own 0, Sym 2) ∷ []; next_sym = 3 }
 
--- around: a loop `while (true) [emp] { }`. First its body, from nothing at all; second what comes after it, where
+-- around: a loop `while (true) [emp] { x = nil; }`. First its body, from nothing at all; second what comes after it, where
 -- nil differs from itself, since the test can't be false
 unfoldable pub LoopsGoOnceAround : Type 0
 LoopsGoOnceAround =
-    row (changing_x no_program) (goal_at (state_with list_at_one) (head place True emp done ∷ end place ∷ [])) t.Around
-    ≡ Some (goal_at (record around_now { atoms = [] }) (again place emp ∷ [])
+    row (plain no_program)
+    (goal_at (state_with list_at_one) (head place True emp changing_x ∷ end place ∷ [])) t.Around
+    ≡ Some (goal_at (record around_now { atoms = [] })
+    (run (assign place (record { var = Own 0; place = place }) ENil) ∷ again place emp ∷ [])
     ∷ goal_at around_now
     (add place (record { conjuncts = also (holds place (Differ (Known Nil) (Known Nil))) none; bindings = [] })
     ∷ end place ∷ [])
@@ -123,7 +128,7 @@ cell_at_x = also (points place (Known (Sym 0)) []) none
 -- fork: both preconditions are due, then what was taken is gone, and both postconditions are assumed
 unfoldable pub ForksLeaveFiveItems : Type 0
 ForksLeaveFiveItems =
-    row (changing_x one_procedure) (goal_at (state_with []) (run (fork place calls_with calls_with) ∷ end place ∷ []))
+    row (plain one_procedure) (goal_at (state_with []) (run (fork place calls_with calls_with) ∷ end place ∷ []))
     t.Fork
     ≡ Some (goal_at (state_with [])
     (take place (record { conjuncts = cell_at_x; bindings = [] }) []

@@ -3,6 +3,7 @@ pub mod Proves
 pub mod Built
 pub mod Internal
 pub mod Lemmas
+pub mod Few
 pub mod Setting
 pub mod Words
 pub mod Rows

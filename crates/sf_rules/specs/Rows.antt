@@ -6,4 +6,5 @@ pub mod Calls
 pub mod Regions
 pub mod Ends
 pub mod Take
+pub mod Add
 pub mod Whole

@@ -1,19 +1,17 @@
--- Setting: what rows need of a program besides a goal: its annotations in order, and the least sets of its calls.
+-- Setting: what rows need of a program besides a goal: the least sets of its calls, and its annotations in order.
 -- The sets are those of the variable conditions of Berdine, Calcagno, O'Hearn, "Smallfoot" (2005).
-use Rattle.std.specs.Prelude.{List}
-use Rattle.sf_base.specs.declared.ids.ProcId.{ProcId}
-use Rattle.sf_base.specs.declared.ids.ResId.{ResId}
-use Rattle.sf_base.specs.declared.ids.Var.{Var}
-use Rattle.sf_core.specs.Program.Syntax.{Assertion, Block, Program}
+use Rattle.sf_calls.specs.Sets.{Sets}
+use Rattle.sf_core.specs.Program.ProgramView.{program_of}
+use Rattle.sf_core.specs.Program.Syntax.{Assertion, Program}
+use Rattle.sf_precise.specs.declared.arranged.Arranged.{Arranged}
 
--- Setting: a program, and functions that give what follows from it
+-- Setting: a program, for each procedure what it holds and what is free in it, and a function that puts annotations in
+-- order
 pub record Setting : Type 0 where
   pub program : Program
-  -- an annotation with its conjuncts in order
+  pub sets : Sets
   pub ordered : Assertion → Assertion
-  -- the variables of resources that are free in a procedure, in file order
-  pub free : ProcId → List Var
-  -- the resources that a procedure's contract mentions, in file order
-  pub holds : ProcId → List ResId
-  -- the variables that a block may change, in number order
-  pub assigned : Block → List Var
+
+-- the setting of a program that the code has arranged, by a function that puts annotations in order
+abbrev pub setting_of : (ordered : Assertion → Assertion) → Arranged → Setting
+setting_of ordered a = record { program = program_of a.program; sets = a.calls; ordered = ordered }

@@ -1,7 +1,10 @@
 -- Pending: conjuncts that are still to be assumed or to be shown, and what their existentials stand for so far.
 -- Berdine, Calcagno, O'Hearn, "Symbolic Execution with Separation Logic" (2005).
-use Rattle.std.specs.Prelude.{ℕ, zero, suc, List, [], ◌∷◌, Option, Some, map, reverse}
+use Rattle.std.specs.Prelude.{ℕ, ◌+◌, List, [], ◌∷◌, Option, map, reverse}
+use Rattle.sf_base.specs.declared.ids.FieldId.{FieldId}
 use Rattle.sf_core.specs.declared.assertion.Conjunct.{Conjunct as CodeConjunct}
+use Rattle.sf_core.specs.declared.assertion.Operand.{Operand}
+use Rattle.sf_core.specs.declared.assertion.Operand.TheVariants.{Known, Exists}
 use Rattle.sf_core.specs.Program.Syntax.{Level, level, Conjuncts, none, also}
 use Rattle.sf_core.specs.Program.View.{conjuncts, conjunct_of}
 use Rattle.sf_sym.specs.declared.term.Term.{Term}
@@ -28,6 +31,16 @@ given_of cs bindings = record { conjuncts = reverse cs; bindings = bindings }
 abbrev pub conjuncts_of : {E : Type 0} → Level E → Conjuncts E
 conjuncts_of (level made cs) = cs
 
+-- 1 for an existential, 0 for what has a term
+abbrev pub one_if_existential : {E : Type 0} → Operand E → ℕ
+one_if_existential (Known t) = 0
+one_if_existential (Exists n) = 1
+
+-- how many of the fields of a cell have an existential as their value
+abbrev pub existentials_in : {E : Type 0} → List (FieldId × Operand E) → ℕ
+existentials_in [] = 0
+existentials_in (f ∷ fs) = one_if_existential f.1 + existentials_in fs
+
 -- one list of conjuncts before another
 abbrev pub before : {E : Type 0} → Conjuncts E → Conjuncts E → Conjuncts E
 before none ds = ds
@@ -36,9 +49,3 @@ before (also c cs) ds = also c (before cs ds)
 -- the conjuncts with a branch in place of the choice before them
 abbrev pub with_branch : Pending → Level Term → Conjuncts Term → Pending
 with_branch p branch rest = record { conjuncts = before (conjuncts_of branch) rest; bindings = p.bindings }
-
--- an existential stands for that term from now on
-abbrev pub bind_to : List (Option Term) → ℕ → Term → List (Option Term)
-bind_to [] n t = []
-bind_to (b ∷ bs) zero t = Some t ∷ bs
-bind_to (b ∷ bs) (suc n) t = b ∷ bind_to bs n t

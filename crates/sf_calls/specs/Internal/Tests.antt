@@ -52,10 +52,3 @@ set_of c = variables_of (head_sets c ++ flat_map (λ d. d.references) (head_call
 -- those at all of these sites, in text order
 abbrev pub set_in : List Site → List Var
 set_in = flat_map (λ s. set_of s.command)
-
--- the variable comes before the other
-abbrev pub is_earlier : Var → Var → Bool
-is_earlier (Own m) (Own n) = nat_lt m n
-is_earlier (Own m) (Shared q j) = true
-is_earlier (Shared r i) (Own n) = false
-is_earlier (Shared r i) (Shared q j) = nat_lt r.0 q.0 || ((r.0 == q.0) && nat_lt i j)

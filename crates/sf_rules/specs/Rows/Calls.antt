@@ -15,6 +15,8 @@ use Rattle.sf_sym.specs.declared.term.Term.{Term}
 use Rattle.sf_sym.specs.declared.term.Term.TheVariants.{Nil, Int}
 use Rattle.sf_sym.specs.Goal.{Item, gave, Goal, one_goal}
 use Rattle.sf_sym.specs.State.{State, term, term_at, with_symbols}
+use Rattle.sf_calls.specs.Changes.{changed}
+use Rattle.sf_rules.specs.Few.{if_few}
 use Rattle.sf_rules.specs.Setting.{Setting}
 use Rattle.sf_rules.specs.Words.{to_add, to_take}
 use Rattle.sf_sym.specs.Variables.{fresh_for, remove_vars, set_vars}
@@ -39,10 +41,6 @@ term_by f (Variable x) = f x.var
 term_by f ENil = Nil
 term_by f (EInt i) = Int i
 
--- what a call may change: its references, and then the variables that are free in what it calls
-abbrev pub changed : Setting → Call → List Var
-changed d c = map (λ x. x.var) c.references ++ d.free c.callee
-
 -- the terms of the callee's variables before the call, and after it, where what it may change has these terms; the
 -- values keep their old ones
 abbrev pub term_before : State → Call → Expr → Term
@@ -54,10 +52,10 @@ term_after s set c = term_by (callee_term (term_at (set_vars set s.vars)) c (map
 -- call: the precondition is due, then what the call may change is unknown, and the postcondition is assumed
 abbrev pub called : Setting → State → Place → Call → List Item → Procedure → Option (List Goal)
 called d s p c rest g =
-    let set = fresh_for s.next_sym (changed d c) in
-    one_goal (with_symbols (length set) s)
+    let set = fresh_for s.next_sym (changed d.sets c) in
+    if_few (length set) (one_goal (with_symbols (length set) s)
     (to_take c.place (term_before s c) (d.ordered g.pre)
-    ++ (gave p set [] ∷ (to_add p (term_after s set c) (d.ordered g.post) ++ rest)))
+    ++ (gave p set [] ∷ (to_add p (term_after s set c) (d.ordered g.post) ++ rest))))
 
 abbrev pub call_row : Setting → State → Command → List Item → Option (List Goal)
 call_row d s (call p c) rest =
@@ -68,13 +66,13 @@ call_row d s _ rest = None
 -- each with what its own call may have changed
 abbrev pub forked : Setting → State → Place → (one two : Call) → List Item → (g h : Procedure) → Option (List Goal)
 forked d s p c e rest g h =
-    let first = fresh_for s.next_sym (changed d c) in
-    let second = fresh_for (s.next_sym + length first) (changed d e) in
-    one_goal (with_symbols (length (first ++ second)) s)
+    let first = fresh_for s.next_sym (changed d.sets c) in
+    let second = fresh_for (s.next_sym + length first) (changed d.sets e) in
+    if_few (length (first ++ second)) (one_goal (with_symbols (length (first ++ second)) s)
     (to_take c.place (term_before s c) (d.ordered g.pre)
     ++ (to_take e.place (term_before s e) (d.ordered h.pre)
     ++ (gave p (first ++ second) [] ∷ (to_add p (term_after s first c) (d.ordered g.post)
-    ++ (to_add p (term_after s second e) (d.ordered h.post) ++ rest)))))
+    ++ (to_add p (term_after s second e) (d.ordered h.post) ++ rest))))))
 
 abbrev pub fork_row : Setting → State → Command → List Item → Option (List Goal)
 fork_row d s (fork p c e) rest =

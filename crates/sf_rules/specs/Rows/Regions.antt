@@ -1,6 +1,6 @@
 -- The rows of critical regions: enter, exit.
 -- O'Hearn, "Resources, Concurrency and Local Reasoning" (2007): the invariant is lent for the region.
-use Rattle.std.specs.Prelude.{ℕ, suc, Option, None, List, [], ◌∷◌, ◌++◌}
+use Rattle.std.specs.Prelude.{ℕ, suc, Option, None, List, [], ◌∷◌, ◌++◌, length}
 use Rattle.std.specs.List.{slice_get}
 use Rattle.std.specs.Option.{option_and_then}
 use Rattle.sf_base.specs.declared.ids.ResId.{ResId}
@@ -12,6 +12,7 @@ use Rattle.sf_core.specs.declared.command.Expr.{Expr}
 use Rattle.sf_core.specs.Program.Syntax.{Command, with, Block, Resource}
 use Rattle.sf_sym.specs.Goal.{Item, gave, exit, Goal, one_goal, to_run}
 use Rattle.sf_sym.specs.State.{State, term}
+use Rattle.sf_rules.specs.Few.{if_few}
 use Rattle.sf_rules.specs.Setting.{Setting}
 use Rattle.sf_rules.specs.Words.{to_add, to_add_test, to_take}
 use Rattle.sf_sym.specs.Variables.{with_fresh}
@@ -25,10 +26,11 @@ variables_from r i (name ∷ names) = Shared r i ∷ variables_from r (suc i) na
 abbrev pub entered : Setting → State → Place → ResId → Test Expr → Block → List Item → Resource
     → Option (List Goal)
 entered d s p r t body rest of =
-    let now = with_fresh (variables_from r 0 of.variables) s in
-    one_goal now
+    let xs = variables_from r 0 of.variables in
+    let now = with_fresh xs s in
+    if_few (length xs) (one_goal now
     (to_add p (term now.vars) (d.ordered of.invariant)
-    ++ (to_add_test p (term now.vars) t ++ (to_run body ++ (exit p r ∷ rest))))
+    ++ (to_add_test p (term now.vars) t ++ (to_run body ++ (exit p r ∷ rest)))))
 
 abbrev pub enter_row : Setting → State → Command → List Item → Option (List Goal)
 enter_row d s (with p r t body) rest =

@@ -3,9 +3,10 @@
 use Rattle.std.specs.Prelude.{ℕ, Option, List, ◌++◌}
 use Rattle.std.specs.Option.{option_and_then}
 use Rattle.sf_base.specs.declared.place.Place.{Place}
-use Rattle.sf_consume.specs.Subtract.{Step, Want, stepped}
+use Rattle.sf_consume.specs.Subtract.{Step, Want, new_symbols, stepped}
 use Rattle.sf_sym.specs.Goal.{Item, Goal, one_goal, taking}
 use Rattle.sf_sym.specs.Pending.{Pending}
+use Rattle.sf_rules.specs.Few.{if_few}
 use Rattle.sf_sym.specs.State.{State}
 
 -- what is wanted, as a subtraction under way
@@ -19,4 +20,5 @@ still w = record { conjuncts = w.conjuncts; bindings = w.bindings }
 -- a row of subtraction
 abbrev pub take_row : Step → State → Place → Pending → (names : List (List ℕ)) → List Item → Option (List Goal)
 take_row step s p want names rest =
-    option_and_then (λ w. one_goal w.state (taking p (still w) names ++ rest)) (stepped step (wanting s want))
+    if_few (new_symbols want.conjuncts)
+    (option_and_then (λ w. one_goal w.state (taking p (still w) names ++ rest)) (stepped step (wanting s want)))

@@ -3,7 +3,7 @@
 -- (2007) for regions and parallel calls.
 use Rattle.std.specs.Prelude.{cond, Option, None, List}
 use Rattle.sf_consume.specs.Subtract.{bind_step, same_step, apart_step, cell_step, empty_step, exact_step, head_step, join_step, node_step}
-use Rattle.sf_produce.specs.Add.{add_row}
+use Rattle.sf_rules.specs.Rows.Add.{assume_row}
 use Rattle.sf_sym.specs.declared.tag.Tag.{Tag}
 use Rattle.sf_sym.specs.declared.tag.Tag.TheVariants as t
 use Rattle.sf_sym.specs.Goal.{Goal}
@@ -36,7 +36,7 @@ row_of d g t.Then = then_row g.state g.todo
 row_of d g t.Else = else_row g.state g.todo
 row_of d g t.Loop = at_command (loop_row d g.state) g.todo
 row_of d g t.Around = at_head (around_row d g.state) g.todo
-row_of d g t.Again = at_again (again_row g.state) g.todo
+row_of d g t.Again = at_again (again_row d g.state) g.todo
 row_of d g t.Call = at_command (call_row d g.state) g.todo
 row_of d g t.Fork = at_command (fork_row d g.state) g.todo
 row_of d g t.Enter = at_command (enter_row d g.state) g.todo
@@ -44,7 +44,7 @@ row_of d g t.Exit = at_exit (exit_row d g.state) g.todo
 row_of d g t.Return = at_return (return_row g.state) g.todo
 row_of d g t.Give = at_gave (give_row g.state) g.todo
 row_of d g t.End = at_end (end_row g.state) g.todo
-row_of d g t.Add = at_add (add_row g.state) g.todo
+row_of d g t.Add = at_add (assume_row g.state) g.todo
 row_of d g t.Bind = at_take (take_row bind_step g.state) g.todo
 row_of d g t.Same = at_take (take_row same_step g.state) g.todo
 row_of d g t.Apart = at_take (take_row apart_step g.state) g.todo

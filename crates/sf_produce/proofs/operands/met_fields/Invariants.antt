@@ -1,4 +1,5 @@
 use Rattle.std.proofs.Common.{◌≡◌, ◌+◌, ◌≤◌, [], length}
+use Rattle.sf_sym.specs.Pending.{existentials_in}
 use Rattle.sf_produce.specs.Add.{met_fields}
 use Rattle.sf_produce.proofs.operands.met_fields.Given as goal
 
@@ -8,7 +9,7 @@ invariant-loop-first l = record {
       ≡ met_fields l.state l.given.bindings l.left l.made;
   conjuncts : l.given.conjuncts ≡ l.fn.given.conjuncts;
   atoms : l.state.next_atom ≡ l.fn.state.next_atom;
-  symbols : l.state.next_sym + length l.left ≤ l.fn.state.next_sym + length l.fields;
+  symbols : l.state.next_sym + existentials_in l.left ≤ l.fn.state.next_sym + existentials_in l.fields;
 }
 
 abbrev pub decreases-loop-first : goal.decreases-loop-first
