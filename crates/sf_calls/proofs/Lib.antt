@@ -9,6 +9,7 @@ pub mod Rows
 pub mod Least
 pub mod InFile
 pub mod Gathered
+pub mod Changed
 pub mod Firsts
 pub mod OneBreach
 pub mod Broken

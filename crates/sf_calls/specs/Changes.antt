@@ -1,7 +1,7 @@
 -- Changes: the variables that commands may change, as the list in order of number, where the least sets are known.
 -- The modified variables of Hoare logic, where a call changes the variables that its references name and those that
 -- are free in its procedure.
-use Rattle.std.specs.Prelude.{ℕ, cond, List, [], ◌∷◌, ◌++◌, get_or, map}
+use Rattle.std.specs.Prelude.{cond, List, [], ◌∷◌, ◌++◌, get_or, map}
 use Rattle.std.specs.List.{flat_map}
 use Rattle.sf_base.specs.declared.ids.ProcId.{ProcId}
 use Rattle.sf_base.specs.declared.ids.Var.{Var}

@@ -7,13 +7,15 @@ use Rattle.sf_base.specs.declared.ids.ProcId.{ProcId}
 use Rattle.sf_base.specs.declared.ids.ResId.{ResId}
 use Rattle.sf_base.specs.declared.ids.Var.{Var}
 use Rattle.sf_core.specs.Program.Formed.{IsFormed}
-use Rattle.sf_core.specs.Program.Syntax.{Program}
+use Rattle.sf_core.specs.Program.Syntax.{Block, Program}
+use Rattle.sf_calls.specs.Assigned.{AreInOrderIn, Assigned}
+use Rattle.sf_calls.specs.Changes.{changes_in}
 use Rattle.sf_calls.specs.Conditions.{Calls, Enters, Mentions, Takes, Free, IsShared}
 use Rattle.sf_calls.specs.declared.breach.Breach.{Breach}
 use Rattle.sf_calls.specs.Breaks.{Breaks}
 use Rattle.sf_calls.specs.FirstBreach.{FirstBreach, Conditions}
 use Rattle.sf_calls.specs.Outside.{owner}
-use Rattle.sf_calls.specs.Sets.{Sets, AreSetsOf}
+use Rattle.sf_calls.specs.Sets.{Sets, AreSetsOf, IsVarSet}
 
 -- the rules of Takes, for a family of sets
 pub record IsTakesClosed (p : Program) (T : ProcId → ResId → Type 0) : Type 0 where
@@ -63,3 +65,8 @@ SetsFromTruncation = (p : Program) (sets : Sets) → ∥ AreSetsOf p sets ∥₁
 -- that no condition is broken follows from its truncation
 abbrev pub ConditionsFromTruncation : Type 0
 ConditionsFromTruncation = (p : Program) → ∥ Conditions p ∥₁ → Conditions p
+
+-- of a program's sets, in one of its blocks, what the commands may change is what is assigned
+abbrev pub ChangesAreAssigned : Type 0
+ChangesAreAssigned = (p : Program) (sets : Sets) (b : Block) → AreSetsOf p sets → AreInOrderIn p b
+    → IsVarSet (Assigned p b) (changes_in sets b)

@@ -1,7 +1,8 @@
 ghost use Rattle.std.specs.Prelude.{◌≡◌, ◌<◌, length, Some, slice_get};
+ghost use Rattle.sf_calls.specs.Changes.{free_in};
 
 use crate::set::{ResSet, VarSet};
-use sf_base::ProcId;
+use sf_base::{ProcId, Var};
 use std::marker::Model;
 
 /// For each procedure of a program what calls of it may enter, what it holds, and what is free in
@@ -55,5 +56,21 @@ impl Calls {
         ensures { slice_get self.now.free f.0 ≡ Some result.now }
     {
         &self.free[f.0 as usize]
+    }
+    /// The variables that `free` has, by a procedure's number: none where there is no such procedure.
+    pub fn free_in(&self, f: ProcId) -> &[Var]
+        ensures { result.now ≡ free_in self.now f }
+    {
+        match self.free.get(f.0 as usize) {
+            Some(xs) => xs.as_slice(),
+            None => &[],
+        }
+    }
+
+    /// How many procedures there are.
+    pub(crate) fn count(&self) -> usize
+        ensures { result ≡ length self.now.free }
+    {
+        self.free.len()
     }
 }

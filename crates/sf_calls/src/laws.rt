@@ -1,8 +1,8 @@
 //! That the sets are the least ones, that each program has them, that what first breaks a condition
-//! is unique, and that such facts follow from their truncations. Each function does nothing; its
-//! contract is the law.
+//! is unique, that what commands may change is what is assigned, and that such facts follow from their
+//! truncations. Each function does nothing; its contract is the law.
 
-ghost use Rattle.sf_calls.specs.Laws.{ConditionsFromTruncation, FirstBreachIsBroken, FirstBreachIsUnique, FreeIsLeast, SetsFromTruncation, SetsExist, TakesIsLeast};
+ghost use Rattle.sf_calls.specs.Laws.{ChangesAreAssigned, ConditionsFromTruncation, FirstBreachIsBroken, FirstBreachIsUnique, FreeIsLeast, SetsFromTruncation, SetsExist, TakesIsLeast};
 
 /// What procedures take is closed under its rules, and contained in whatever is.
 #[tactic(auto, using(crate::proofs::Closing::takes_is_least))]
@@ -45,4 +45,9 @@ pub fn sets_from_truncation()
 #[tactic(auto, using(crate::proofs::Closing::conditions_from_truncation))]
 pub fn conditions_from_truncation()
     ensures { ConditionsFromTruncation }
+{}
+
+/// Of a program's sets, in one of its blocks, what the commands may change is what is assigned.
+pub fn changes_are_assigned()
+    ensures { ChangesAreAssigned }
 {}

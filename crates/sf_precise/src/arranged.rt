@@ -1,16 +1,15 @@
 ghost use Rattle.std.specs.Prelude.{◌≡◌, ◌<◌, length, map, slice_get, IfOk, IfSome};
 ghost use Rattle.sf_core.specs.Program.View.{assertion_of, block_of, procedure_of};
 ghost use Rattle.sf_core.specs.Program.ProgramView.{program_of};
-ghost use Rattle.sf_calls.specs.Assigned.{AreInOrderIn, Assigned};
+ghost use Rattle.sf_calls.specs.Changes.{changes_in};
 ghost use Rattle.sf_calls.specs.FirstBreach.{Conditions};
-ghost use Rattle.sf_calls.specs.Sets.{AreSetsOf, IsVarSet};
+ghost use Rattle.sf_calls.specs.Sets.{AreSetsOf};
 ghost use Rattle.sf_precise.specs.Annotations.{AreOrdersOf, annotations_in};
 ghost use Rattle.sf_precise.specs.Internal.Starts.{starts_from};
 ghost use Rattle.sf_precise.specs.Order.{IsOrderOf};
 
 use crate::laws::orders_from_truncation;
 use sf_base::{ProcId, ResId};
-use sf_calls::laws::sets_from_truncation;
 use sf_calls::{Calls, VarSet};
 use sf_core::{Command, Ordered, Program};
 use std::alloc::{AllocError, Global};
@@ -40,15 +39,13 @@ pub struct Arranged {
 }
 
 impl Arranged {
-    /// The variables that commands may change, each once and in order of number. The commands are a
-    /// block of the program. An `Err` is out of memory, and comes for nothing else.
+    /// The variables that commands may change, each once and in order of number. The commands are those of
+    /// any block; of a block of the program `changes_are_assigned` of sf_calls says which they are. An
+    /// `Err` is out of memory, and comes for nothing else.
     pub fn assigned(&self, alloc: Global, body: &[Command]) -> Result<VarSet, AllocError>
-        requires { AreInOrderIn (program_of self.now.program) (block_of body.now) }
-        ensures { IfOk result
-            (IsVarSet (Assigned (program_of self.now.program) (block_of body.now))) }
+        ensures { IfOk result (λ xs. xs ≡ changes_in self.now.calls (block_of body.now)) }
     {
-        sets_from_truncation();
-        self.calls.assigned(alloc, &self.program, body)
+        self.calls.assigned(alloc, body)
     }
 
     /// The resource's invariant, in order.
