@@ -18,6 +18,8 @@ pub mod laws;
 mod parts;
 mod pure;
 mod rows;
+#[cfg(test)]
+mod tests;
 mod wanted;
 
 pub use fault::ConsumeFault;
