@@ -1,10 +1,10 @@
 -- Unroll: a segment or tree whose ends differ begins with a cell, and fresh symbols have the values of its links.
 -- Names: `kind_child` is the goal that is left for a segment or a tree, `KIND-LAW` speaks of it.
 use Rattle.std.specs.Option.{option_map}
-use Rattle.std.proofs.Common.{◌≡◌, ◌≢◌, ℕ, ◌+◌, Bool, true, false, cond, List, [], ◌∷◌, Option, Some, None, refl, sym, ◌∙◌, subst, arith}
+use Rattle.std.proofs.Common.{◌≡◌, ℕ, ◌+◌, Bool, true, false, cond, List, [], ◌∷◌, Option, Some, None, refl, sym, ◌∙◌, subst, arith}
 use Rattle.std.proofs.lemmas.Option.{option_and_then_some}
 use Rattle.sf_base.proofs.HeapSplits.{star-assoc_right, star-comm, star-map_left, star-map_right, star-of}
-use Rattle.sf_base.proofs.MapSplits.{union, splits-comm, splits-union}
+use Rattle.sf_base.proofs.MapSplits.{splits-comm}
 use Rattle.sf_base.specs.declared.ids.FieldId.{FieldId}
 use Rattle.sf_base.specs.declared.ids.Var.{Var}
 use Rattle.sf_base.specs.declared.value.Value.{Value}
@@ -21,7 +21,6 @@ use Rattle.sf_sym.specs.Lemmas.CellFields.{put-known}
 use Rattle.sf_sym.specs.Lemmas.FreshGoals.{adds-stay, apart-stays, later, later-apart, later-others, later-taken, later-todo, later-vars, more-below, others-stay, taken-stay, vars-stay}
 use Rattle.sf_sym.specs.Lemmas.FreshValues.{value-below, value-here, value-same, with_value}
 use Rattle.sf_sym.specs.Lemmas.Decided.{differ-in}
-use Rattle.sf_sym.specs.Lemmas.TwoHeaps.{in-at}
 use Rattle.sf_sym.specs.Below.{AllInAtom, AreBelow, IsBelow, SameBelow}
 use Rattle.sf_sym.specs.Cells.{atom_at, with_atom, with_cell, without}
 use Rattle.sf_sym.specs.declared.atom.Atom.{Atom}
@@ -32,7 +31,7 @@ use Rattle.sf_sym.specs.Fields.{put_term}
 use Rattle.sf_sym.specs.Goal.{Goal, at_state}
 use Rattle.sf_sym.specs.Holds.{term_value, SegAlong, TreeAlong, AtomHolds}
 use Rattle.sf_sym.specs.HoldsIn.{HoldsIn}
-use Rattle.sf_sym.specs.Laws.{DifferingTermsDiffer, Follows, HoldsStill, Kept}
+use Rattle.sf_sym.specs.Laws.{Follows, HoldsStill, Kept}
 use Rattle.sf_sym.specs.State.{State, with_symbols}
 use Rattle.sf_sym.specs.Tests.{differs}
 

@@ -1,6 +1,6 @@
 -- The known fields of a cell: what is put among them is true of it, and each has its term's value.
 -- Names: `put-LAW` speaks of `put_term`, `field-LAW` of `field_term`.
-use Rattle.std.proofs.Common.{◌≡◌, ℕ, ◌==◌, Bool, true, false, cond, nat_lt, List, [], ◌∷◌, Option, Some, None, refl, sym, ap, ◌∙◌, subst}
+use Rattle.std.proofs.Common.{◌≡◌, ℕ, ◌==◌, Bool, true, false, cond, nat_lt, List, [], ◌∷◌, Some, refl, sym, ap, ◌∙◌, subst}
 use Rattle.std.proofs.lemmas.Bool.{ltb-true}
 use Rattle.std.proofs.lemmas.Option.{same_Some}
 use Rattle.sf_base.proofs.HeapSplits.{at-same, at-self}
