@@ -1,4 +1,4 @@
--- From the first row to the last: an assertion that is wanted, one row after another, nothing that is wanted.
+-- From the first row to the last: an assertion, one row after another, nothing that is wanted.
 -- Names: the laws have the names of the functions whose contracts they are.
 use Rattle.std.proofs.Common.{◌≡◌, ℕ, List, Option, Some, None, get_or, replicate, refl, sym, ap, ◌∙◌, subst, arith}
 use Rattle.std.proofs.lemmas.Option.{none-some}

@@ -27,8 +27,8 @@ use Rattle.sf_sym.specs.Fields.{field_term}
 use Rattle.sf_sym.specs.Holds.{term_value, IsBound}
 use Rattle.sf_sym.specs.Tests.{same_term}
 
--- Fresh fields
--- values with which the fields of a cell are as a fit has them by then, and one of its fields is that term
+-- Fresh fields values with which the fields of a cell are as a fit has them by then, and one of its
+-- fields is that term
 pub record Valued (v : ℕ → Value) (here : Cell) (f after : Fit) (field : FieldId) (t : Term) : Type 0 where
   pub values : ℕ → Value
   pub same : SameBelow f.next_sym values v
@@ -178,7 +178,8 @@ fit-one f after field (Exists n) below counted e = go (get_or f.bindings n None)
         subst (λ z. FieldFits f z field (Exists n)) (same_Some (fit_new f field n) after e)
         (new-fits f field n below counted i)
 
--- values with which the fields of a cell are as a fit has them by then, and those that are wanted are as they should be
+-- values with which the fields of a cell are as a fit has them by then, and those that are wanted
+-- are as they should be
 pub record Fitted (v : ℕ → Value) (here : Cell) (f after : Fit) (ws : List (FieldId × Operand Term)) : Type 0 where
   pub values : ℕ → Value
   pub same : SameBelow f.next_sym values v

@@ -1,4 +1,4 @@
--- What the laws of all rows share: a part that is handed over, and what is wanted with other values of symbols.
+-- What the laws of all rows share: a part that is handed over, and other values of symbols.
 -- Names: `state-LAW` of a state alone, `wants-LAW` of what is wanted.
 use Rattle.std.specs.Option.{option_and_then, option_map}
 use Rattle.std.proofs.Common.{◌≡◌, ℕ, ◌≤◌, List, Option, Some, None, refl, sym, ap, ◌∙◌, subst, inr, arith}
@@ -77,8 +77,8 @@ operand-below n bindings cs (Known u) t below o e =
     subst (IsBelow n) (same_Some u t e) (below.conjuncts u o)
 operand-below n bindings cs (Exists m) t below o e = below.bindings m t e
 
--- Wanted heaps
--- what is wanted with some values of the symbols is wanted with others that are the same below the next symbol
+-- Wanted heaps what is wanted with some values of the symbols is wanted with others that are the
+-- same below the next symbol
 pub wants-other : (w v some : ℕ → Value) (want : Want) (heap : Heap) → IsFormed want
     → SameBelow want.state.next_sym v w → Wants v some want heap → Wants w some want heap
 wants-other w v some want heap formed same d = record {

@@ -1,5 +1,5 @@
 -- What a subtraction under way wants of a heap, and which subtractions speak only of what there is.
--- Berdine, Calcagno, O'Hearn, "Symbolic Execution with Separation Logic" (2005), section 5: what is left to prove.
+-- Berdine, Calcagno, O'Hearn, "Symbolic Execution with Separation Logic" (2005), section 5.
 use Rattle.std.specs.Prelude.{◌≡◌, ℕ, ◌<◌, Some, length}
 use Rattle.std.specs.List.{AllByRecursion}
 use Rattle.sf_base.specs.declared.ids.FieldId.{FieldId}
@@ -17,8 +17,9 @@ use Rattle.sf_sym.specs.declared.term.Term.{Term}
 use Rattle.sf_sym.specs.Holds.{term_value, IsBound}
 use Rattle.sf_sym.specs.Pending.{Pending}
 
--- Wants: the heap is one that is wanted: with these values of the symbols and of the existentials the conjuncts that are
--- still to be shown hold on exactly that heap, and each existential that has a term has that term's value
+-- Wants: the heap is one that is wanted: with these values of the symbols and of the existentials
+-- the conjuncts that are still to be shown hold on exactly that heap, and each existential that has
+-- a term has that term's value
 pub record Wants (w some : ℕ → Value) (want : Want) (heap : Heap) : Type 0 where
   pub bound : IsBound w want.bindings some
   pub satisfied : SatAll want.conjuncts (term_value w) some heap
@@ -32,8 +33,8 @@ abbrev pub IsCounted : ℕ → Operand Term → Type 0
 IsCounted count (Known t) = Unit {0}
 IsCounted count (Exists n) = n < count
 
--- what is wanted mentions only that many existentials, in branches too, and its segments and trees go along the fields
--- of these links
+-- what is wanted mentions only that many existentials, in branches too, and its segments and trees
+-- go along the fields of these links
 abbrev mutual
   -- a level does so
   pub LevelWanted : Links → ℕ → Level Term → Type 0
@@ -56,8 +57,8 @@ abbrev mutual
   OneWanted links count (choose q t this that) =
       TestWithin (IsCounted count) t × LevelWanted links count this × LevelWanted links count that
 
--- IsFormed: a subtraction speaks of symbols below its state's next one only, and of existentials that it counts; what it
--- wants goes along its state's links
+-- IsFormed: a subtraction speaks of symbols below its state's next one only, and of existentials
+-- that it counts; what it wants goes along its state's links
 pub record IsFormed (want : Want) : Type 0 where
   pub state : AllInState (IsBelow want.state.next_sym) want.state
   pub terms : AllInPending (IsBelow want.state.next_sym) (still_wanted want)

@@ -1,7 +1,8 @@
-//! What each row of subtraction keeps: wherever the state holds, a part of the heap is handed over, the state
-//! that is left holds on the rest, and whatever heap is still wanted, together with the part it is one that
-//! was wanted before. From the first row to the last, what was handed over satisfies the assertion. Each
-//! function is a law: calling it gives its fact to the caller's proof, and does nothing.
+//! What each row of subtraction keeps: wherever the state holds, a part of the heap is handed over,
+//! the state that is left holds on the rest, and whatever heap is still wanted, together with the
+//! part it is one that was wanted before. From the first row to the last, what was handed over
+//! satisfies the assertion. Each function is a law: calling it gives its fact to the caller's
+//! proof, and does nothing.
 
 ghost use Rattle.sf_consume.specs.Laws.{ApartKeepsWants, AssertionIsShown, AssertionIsWanted, BindKeepsWants, BranchKeepsWants, CellKeepsWants, EmptyKeepsWants, ExactKeepsWants, HeadKeepsWants, JoinKeepsWants, NodeKeepsWants, NothingIsWanted, SameKeepsWants, SubtractionKeepsWants, SubtractionsChain};
 
@@ -23,7 +24,8 @@ pub fn apart_keeps_wants()
     ensures { ApartKeepsWants }
 {}
 
-/// cell: that cell is the one that is wanted, with the values of the fields that were bound and came up.
+/// cell: that cell is the one that is wanted, with the values of the fields that were bound and
+/// came up.
 #[tactic(auto, using(crate::proofs::CellLaws::cell_keeps_wants))]
 pub fn cell_keeps_wants()
     ensures { CellKeepsWants }
@@ -47,7 +49,8 @@ pub fn head_keeps_wants()
     ensures { HeadKeepsWants }
 {}
 
-/// join: a segment and one from its end on are a segment, where the end of both isn't inside the first.
+/// join: a segment and one from its end on are a segment, where the end of both isn't inside the
+/// first.
 #[tactic(auto, using(crate::proofs::PartLaws::join_keeps_wants))]
 pub fn join_keeps_wants()
     ensures { JoinKeepsWants }
@@ -71,7 +74,8 @@ pub fn subtraction_keeps_wants()
     ensures { SubtractionKeepsWants }
 {}
 
-/// The first row: where an assertion is to be shown, the heaps that are wanted are those that satisfy it.
+/// The first row: where an assertion is to be shown, the heaps that are wanted are those that
+/// satisfy it.
 #[tactic(auto, using(crate::proofs::Chains::assertion_is_wanted))]
 pub fn assertion_is_wanted()
     ensures { AssertionIsWanted }
@@ -89,8 +93,8 @@ pub fn nothing_is_wanted()
     ensures { NothingIsWanted }
 {}
 
-/// From the first row to the last: where no conjunct of an assertion is left, the part of the heap that was
-/// handed over satisfies it, with the terms that its existentials were bound to.
+/// From the first row to the last: where no conjunct of an assertion is left, the part of the heap
+/// that was handed over satisfies it, with the terms that its existentials were bound to.
 #[tactic(auto, using(crate::proofs::Chains::assertion_is_shown))]
 pub fn assertion_is_shown()
     ensures { AssertionIsShown }

@@ -1,5 +1,5 @@
-//! Each tag of subtraction once, with ample memory, since no clause says that memory is there; and an end
-//! that isn't known to be outside a segment.
+//! Each tag of subtraction once, with ample memory, since no clause says that memory is there; and
+//! an end that isn't known to be outside a segment.
 
 ghost use Rattle.std.specs.Prelude.{◌≡◌, ◌≤◌, ◌∷◌, [], IfOk};
 ghost use Rattle.sf_consume.specs.Subtract.{new_symbols};
