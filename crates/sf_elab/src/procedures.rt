@@ -443,33 +443,6 @@ fn variables(
     Ok(own)
 }
 
-/// The invariant of the resource of that number.
-fn invariant(
-    alloc: Global,
-    bytes: &[u8],
-    declared: &Declared,
-    number: u32,
-    r: &SurfaceResource,
-    found: &mut Vec<Fault>,
-) -> Result<Assertion, AllocError>
-    ensures same { IfOk result (λ x. core.assertion_of x
-        ≡ annotation_of (invariant_of bytes.now declared.now number (surface_resource r.now))
-        (surface_resource r.now).invariant) }
-    ensures faults { Appends result found.old.items found.new.items
-        (annotation_faults
-        (invariant_of bytes.now declared.now number (surface_resource r.now))
-        (surface_resource r.now).invariant) }
-{
-    let own = variables(alloc, bytes, number, &r.variables)?;
-    let env = Env {
-        bytes,
-        declared,
-        own: &own,
-        in_invariant: true,
-    };
-    annotation(alloc, &env, &r.invariant, found)
-}
-
 /// The resource of that number.
 fn resource(
     alloc: Global,
@@ -486,7 +459,14 @@ fn resource(
         (invariant_of bytes.now declared.now number (surface_resource r.now))
         (surface_resource r.now).invariant) }
 {
-    let invariant = invariant(alloc, bytes, declared, number, r, found)?;
+    let own = variables(alloc, bytes, number, &r.variables)?;
+    let env = Env {
+        bytes,
+        declared,
+        own: &own,
+        in_invariant: true,
+    };
+    let invariant = annotation(alloc, &env, &r.invariant, found)?;
     let name = name(alloc, bytes, r.name)?;
     let variables = names(alloc, bytes, &r.variables)?;
     Ok(Resource {
