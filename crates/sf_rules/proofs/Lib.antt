@@ -1,4 +1,6 @@
 pub mod Worded
+pub mod Branching
+pub mod Looping
 pub mod Items
 pub mod Numbers
 pub mod Firsts

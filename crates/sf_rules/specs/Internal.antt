@@ -1,3 +1,4 @@
 pub mod Subgoals
 pub mod Cells
 pub mod Front
+pub mod Children

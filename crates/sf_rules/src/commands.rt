@@ -2,7 +2,7 @@
 
 ghost use Rattle.std.specs.Prelude.{◌≡◌, IfOk, IsTrue};
 ghost use Rattle.std.specs.Option.{option_and_then, option_map};
-ghost use Rattle.sf_rules.specs.Internal.Subgoals.{goals_of};
+ghost use Rattle.sf_rules.specs.Internal.Children.{children_of};
 ghost use Rattle.sf_rules.specs.Rows.Commands.{assign_row, dispose_row, look_row, looked, mutate_row, new_row};
 ghost use Rattle.sf_rules.specs.Rows.Front.{at_command};
 ghost use Rattle.sf_rules.specs.Table.{has_numbers};
@@ -10,8 +10,8 @@ ghost use Rattle.sf_sym.specs.Cells.{cell_at};
 ghost use Rattle.sf_sym.specs.Fields.{field_term};
 ghost use Rattle.sf_sym.specs.Goal.{one_goal, todo_of};
 
+use crate::children::Children;
 use crate::front::take_command;
-use crate::rules::Subgoals;
 use crate::terms::term_of;
 use sf_base::{FieldId, Var};
 use sf_core::Command;
@@ -19,8 +19,8 @@ use sf_sym::{FieldTerms, Goal, Term, field_term};
 use std::alloc::{AllocError, Global};
 
 /// assign: the variable has the expression's term.
-pub(crate) fn assign<'a>(mut goal: Goal<'a>) -> Result<Option<Subgoals<'a>>, AllocError>
-    ensures { IfOk result (λ left. option_map goals_of left
+pub(crate) fn assign<'a>(mut goal: Goal<'a>) -> Result<Option<Children<'a>>, AllocError>
+    ensures { IfOk result (λ left. option_map children_of left
         ≡ at_command (assign_row goal.entry.state) (todo_of goal.entry.todo.items)) }
 {
     let Some(c) = take_command(&mut goal.todo)? else {
@@ -30,7 +30,7 @@ pub(crate) fn assign<'a>(mut goal: Goal<'a>) -> Result<Option<Subgoals<'a>>, All
         Command::Assign(_, x, e) => {
             let t = term_of(goal.state.vars(), e);
             goal.state.set_var(x.var, t)?;
-            Ok(Some(Subgoals::One(goal)))
+            Ok(Some(Children::One(goal)))
         }
         Command::LookUp(..) | Command::Mutate(..) | Command::New(..) => Ok(None),
         Command::Dispose(..) | Command::If(..) | Command::While(..) => Ok(None),
@@ -39,9 +39,9 @@ pub(crate) fn assign<'a>(mut goal: Goal<'a>) -> Result<Option<Subgoals<'a>>, All
 }
 
 /// look: the variable has the term of the cell's field.
-pub(crate) fn look<'a>(mut goal: Goal<'a>, a: u32) -> Result<Option<Subgoals<'a>>, AllocError>
+pub(crate) fn look<'a>(mut goal: Goal<'a>, a: u32) -> Result<Option<Children<'a>>, AllocError>
     requires { IsTrue (has_numbers goal.state) }
-    ensures { IfOk result (λ left. option_map goals_of left
+    ensures { IfOk result (λ left. option_map children_of left
         ≡ at_command (look_row a goal.entry.state) (todo_of goal.entry.todo.items)) }
 {
     let Some(c) = take_command(&mut goal.todo)? else {
@@ -66,9 +66,9 @@ fn look_up<'a>(
     root: Term,
     f: FieldId,
     x: Var,
-) -> Result<Option<Subgoals<'a>>, AllocError>
+) -> Result<Option<Children<'a>>, AllocError>
     requires { IsTrue (has_numbers goal.state) }
-    ensures { IfOk result (λ left. option_map goals_of left ≡ option_and_then
+    ensures { IfOk result (λ left. option_map children_of left ≡ option_and_then
         (λ fields. option_and_then (λ after. one_goal after (todo_of goal.entry.todo.items))
         (looked goal.entry.state root f a x (field_term fields f)))
         (cell_at goal.entry.state.atoms a root)) }
@@ -85,12 +85,12 @@ fn look_up<'a>(
         }
     };
     goal.state.set_var(x, t)?;
-    Ok(Some(Subgoals::One(goal)))
+    Ok(Some(Children::One(goal)))
 }
 
 /// mutate: the cell's field has the expression's term.
-pub(crate) fn mutate<'a>(mut goal: Goal<'a>, a: u32) -> Result<Option<Subgoals<'a>>, AllocError>
-    ensures { IfOk result (λ left. option_map goals_of left
+pub(crate) fn mutate<'a>(mut goal: Goal<'a>, a: u32) -> Result<Option<Children<'a>>, AllocError>
+    ensures { IfOk result (λ left. option_map children_of left
         ≡ at_command (mutate_row a goal.entry.state) (todo_of goal.entry.todo.items)) }
 {
     let Some(c) = take_command(&mut goal.todo)? else {
@@ -104,7 +104,7 @@ pub(crate) fn mutate<'a>(mut goal: Goal<'a>, a: u32) -> Result<Option<Subgoals<'
                 return Ok(None);
             }
             goal.state.write_field(a, root, *f, u)?;
-            Ok(Some(Subgoals::One(goal)))
+            Ok(Some(Children::One(goal)))
         }
         Command::Assign(..) | Command::LookUp(..) | Command::New(..) => Ok(None),
         Command::Dispose(..) | Command::If(..) | Command::While(..) => Ok(None),
@@ -113,9 +113,9 @@ pub(crate) fn mutate<'a>(mut goal: Goal<'a>, a: u32) -> Result<Option<Subgoals<'
 }
 
 /// new: the variable has a fresh symbol, and there is a cell of which no field is known.
-pub(crate) fn new<'a>(alloc: Global, mut goal: Goal<'a>) -> Result<Option<Subgoals<'a>>, AllocError>
+pub(crate) fn new<'a>(alloc: Global, mut goal: Goal<'a>) -> Result<Option<Children<'a>>, AllocError>
     requires { IsTrue (has_numbers goal.state) }
-    ensures { IfOk result (λ left. option_map goals_of left
+    ensures { IfOk result (λ left. option_map children_of left
         ≡ at_command (new_row goal.entry.state) (todo_of goal.entry.todo.items)) }
 {
     let Some(c) = take_command(&mut goal.todo)? else {
@@ -126,7 +126,7 @@ pub(crate) fn new<'a>(alloc: Global, mut goal: Goal<'a>) -> Result<Option<Subgoa
             let t = goal.state.fresh_symbol();
             goal.state.set_var(x.var, t)?;
             goal.state.add_cell(t, FieldTerms::new(alloc))?;
-            Ok(Some(Subgoals::One(goal)))
+            Ok(Some(Children::One(goal)))
         }
         Command::Assign(..) | Command::LookUp(..) | Command::Mutate(..) => Ok(None),
         Command::Dispose(..) | Command::If(..) | Command::While(..) => Ok(None),
@@ -135,8 +135,8 @@ pub(crate) fn new<'a>(alloc: Global, mut goal: Goal<'a>) -> Result<Option<Subgoa
 }
 
 /// dispose: the cell goes.
-pub(crate) fn dispose<'a>(mut goal: Goal<'a>, a: u32) -> Result<Option<Subgoals<'a>>, AllocError>
-    ensures { IfOk result (λ left. option_map goals_of left
+pub(crate) fn dispose<'a>(mut goal: Goal<'a>, a: u32) -> Result<Option<Children<'a>>, AllocError>
+    ensures { IfOk result (λ left. option_map children_of left
         ≡ at_command (dispose_row a goal.entry.state) (todo_of goal.entry.todo.items)) }
 {
     let Some(c) = take_command(&mut goal.todo)? else {
@@ -149,7 +149,7 @@ pub(crate) fn dispose<'a>(mut goal: Goal<'a>, a: u32) -> Result<Option<Subgoals<
                 return Ok(None);
             }
             goal.state.remove_atom(a);
-            Ok(Some(Subgoals::One(goal)))
+            Ok(Some(Children::One(goal)))
         }
         Command::Assign(..) | Command::LookUp(..) | Command::Mutate(..) => Ok(None),
         Command::New(..) | Command::If(..) | Command::While(..) => Ok(None),

@@ -1,6 +1,6 @@
 //! Conjuncts that are still to be assumed or to be shown.
 
-ghost use Rattle.std.specs.Prelude.{◌≡◌, ◌<◌, ◌==◌, ◌∷◌, [], List, Some, length, set, IfSome, IfNone, IfOk, OnErr, OnOk};
+ghost use Rattle.std.specs.Prelude.{◌≡◌, ◌<◌, ◌==◌, ◌∷◌, ◌++◌, [], List, Some, length, set, IfSome, IfNone, IfOk, OnErr, OnOk};
 ghost use Rattle.sf_core.specs.declared.assertion.Conjunct.{Conjunct as ConjunctOf};
 ghost use Rattle.sf_sym.specs.Equalities.{pending_with, put_for};
 ghost use Rattle.sf_sym.specs.Pending.{pending_of};
@@ -134,6 +134,18 @@ impl Pending {
         ensures bindings { self.new.bindings ≡ self.old.bindings }
     {
         self.conjuncts.pop()
+    }
+
+    /// Puts these conjuncts, in order, before the others. An `Err` means out of memory, and then nothing
+    /// changes.
+    pub fn put_before(&mut self, mut first: Vec<Conjunct<Term>>) -> Result<(), AllocError>
+        ensures conjuncts { OnOk result (self.new.conjuncts ≡ first.items ++ self.old.conjuncts) }
+        ensures bindings { self.new.bindings ≡ self.old.bindings }
+        ensures err { OnErr result (self.new ≡ self.old) }
+    {
+        first.reverse();
+        self.conjuncts.append(&mut first)?;
+        Ok(())
     }
 
     /// The same conjuncts, with the same terms of the existentials. An `Err` means out of memory.

@@ -3,11 +3,12 @@
 use Rattle.std.specs.Prelude.{ℕ, Option, List, ◌++◌}
 use Rattle.std.specs.Option.{option_and_then}
 use Rattle.sf_base.specs.declared.place.Place.{Place}
-use Rattle.sf_consume.specs.Subtract.{Step, Want, new_symbols, stepped}
+use Rattle.sf_consume.specs.Subtract.{Step, Want, new_symbols, stepped, subtracted}
 use Rattle.sf_sym.specs.Goal.{Item, Goal, one_goal, taking}
 use Rattle.sf_sym.specs.Pending.{Pending}
 use Rattle.sf_rules.specs.Few.{if_few}
 use Rattle.sf_sym.specs.State.{State}
+use Rattle.sf_sym.specs.declared.tag.Tag.{Tag}
 
 -- what is wanted, as a subtraction under way
 abbrev pub wanting : State → Pending → Want
@@ -22,3 +23,9 @@ abbrev pub take_row : Step → State → Place → Pending → (names : List (Li
 take_row step s p want names rest =
     if_few (new_symbols want.conjuncts)
     (option_and_then (λ w. one_goal w.state (taking p (still w) names ++ rest)) (stepped step (wanting s want)))
+
+-- the same by the tag that names the step
+abbrev pub subtract_row : Tag → State → Place → Pending → (names : List (List ℕ)) → List Item → Option (List Goal)
+subtract_row tag s p want names rest =
+    if_few (new_symbols want.conjuncts)
+    (option_and_then (λ w. one_goal w.state (taking p (still w) names ++ rest)) (subtracted tag (wanting s want)))
