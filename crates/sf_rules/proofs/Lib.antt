@@ -8,3 +8,4 @@ pub mod WholeTable
 pub mod SmallRows
 pub mod CommandLaws
 pub mod BranchLaws
+mod OwnTerms

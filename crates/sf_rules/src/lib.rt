@@ -1,6 +1,8 @@
 //! The table of rules: the first goal of a procedure, and the goals that a tag leaves of a goal.
 //!
 //! - `terms`: expressions and assertions with the terms that the variables have now.
+//! - `words`: where the terms of an annotation's expressions are from, and annotations first of all
+//!   that there is to do.
 //! - `cells`: cells of a state: whether one is as wanted, writing its fields, and handing it over.
 //! - `front`: what is in front of what there is to do.
 //! - `children`: what a tag leaves of a goal: the whole table.
@@ -30,6 +32,7 @@ mod rules;
 mod start;
 mod subtracting;
 mod terms;
+mod words;
 
 pub use cells::{are_fitting, are_known, as_cell, known_term};
 pub use children::Children;

@@ -2,7 +2,6 @@
 
 ghost use Rattle.std.specs.Prelude.{◌≡◌, ◌++◌, ◌∷◌, [], IfOk, IsTrue};
 ghost use Rattle.std.specs.Option.{option_map};
-ghost use Rattle.sf_core.specs.declared.assertion.Operand.TheVariants.{Known};
 ghost use Rattle.sf_core.specs.declared.command.Expr.TheVariants.{Nil as ENil};
 ghost use Rattle.sf_core.specs.Program.View.{assertion_of, block_of};
 ghost use Rattle.sf_precise.specs.Order.{IsOrdering};
@@ -12,17 +11,17 @@ ghost use Rattle.sf_rules.specs.Rows.Front.{at_again, at_command, at_end, at_hea
 ghost use Rattle.sf_rules.specs.Rows.Loops.{after_loop, again_row, around_row, body_once, loop_row};
 ghost use Rattle.sf_rules.specs.Setting.{Setting};
 ghost use Rattle.sf_rules.specs.Table.{has_numbers};
-ghost use Rattle.sf_rules.specs.Words.{negation, pending_assertion, to_add_test};
+ghost use Rattle.sf_rules.specs.Words.{negation, pending_assertion};
 ghost use Rattle.sf_sym.specs.Goal.{end, goal_of, taking, todo_of};
 ghost use Rattle.sf_sym.specs.Pending.{pending_of};
 ghost use Rattle.sf_sym.specs.State.{term};
 
 use crate::children::Children;
 use crate::front::{Loop, take_again, take_command, take_end, take_head, take_return};
-use crate::terms::{pending_assertion, term_of};
+use crate::words::{Terms, pending, with_test};
 use sf_base::{Name, Place, Var};
 use sf_calls::Calls;
-use sf_core::{Assertion, Command, Conjunct, Expr, Operand, Test};
+use sf_core::{Assertion, Command, Expr, Test};
 use sf_precise::{OrderFault, order};
 use sf_sym::{Goal, Item, Pending, State, Term, with_add, with_take};
 use std::alloc::{AllocError, Global};
@@ -40,22 +39,10 @@ pub(crate) fn pending_in_order(
     ensures names { IfOk result (λ _. (d.ordered (assertion_of a.now)).names ≡ (assertion_of a.now).names) }
 {
     match order(alloc, a) {
-        Ok(o) => pending(alloc, vars, &o.assertion),
-        Err(OrderFault::Undetermined(_)) => pending(alloc, vars, a),
+        Ok(o) => pending(alloc, Terms::Of(vars), &o.assertion),
+        Err(OrderFault::Undetermined(_)) => pending(alloc, Terms::Of(vars), a),
         Err(OrderFault::OutOfMemory) => Err(AllocError),
     }
-}
-
-/// The conjuncts of an assertion with the terms that its variables have now. An `Err` means out of memory.
-pub(crate) fn pending(
-    alloc: Global,
-    vars: &[(Var, Term)],
-    a: &Assertion,
-) -> Result<Pending, AllocError>
-    ensures { IfOk result (λ given. pending_of given
-        ≡ pending_assertion (term vars.now) (assertion_of a.now)) }
-{
-    pending_assertion(alloc, vars, a)
 }
 
 /// loop: the invariant is due, and then the loop begins.
@@ -126,7 +113,7 @@ fn body_once<'a>(alloc: Global, mut state: State, l: &Loop<'a>) -> Result<Goal<'
     todo.push(Item::Again(l.place, l.invariant))?;
     todo.push(Item::Run(l.body))?;
     let vars = state.vars();
-    let todo = with_test(alloc, todo, vars, l.place, l.test)?;
+    let todo = with_test(alloc, todo, l.place, Terms::Of(vars), l.test)?;
     let given = pending_in_order(alloc, vars, l.invariant)?;
     let todo = with_add(todo, l.place, given)?;
     state.clear_heap();
@@ -147,38 +134,11 @@ fn after_loop<'a>(
         (assertion_of l.now.invariant.now) (todo_of todo.entry.items)) }
 {
     let vars = state.vars();
-    let todo = with_test(alloc, todo, vars, l.place, &negation(l.test))?;
+    let todo = with_test(alloc, todo, l.place, Terms::Of(vars), &negation(l.test))?;
     let given = pending_in_order(alloc, vars, l.invariant)?;
     let todo = with_add(todo, l.place, given)?;
     state.clear_taken();
     Ok(Goal { state, todo })
-}
-
-/// Puts the test to assume first, unless it is always true. An `Err` means out of memory.
-pub(crate) fn with_test<'a>(
-    alloc: Global,
-    todo: Vec<Item<'a>>,
-    vars: &[(Var, Term)],
-    place: Place,
-    test: &Test<Expr>,
-) -> Result<Vec<Item<'a>>, AllocError>
-    ensures { IfOk result (λ r. todo_of r.items
-        ≡ to_add_test place (term vars.now) test.now ++ todo_of todo.entry.items) }
-{
-    let test = match test {
-        Test::True => return Ok(todo),
-        Test::Equal(x, y) => Test::Equal(known(vars, x), known(vars, y)),
-        Test::Differ(x, y) => Test::Differ(known(vars, x), known(vars, y)),
-    };
-    let conjuncts = vec![in alloc; Conjunct::Holds(place, test)]?;
-    with_add(todo, place, Pending::new(conjuncts, Vec::new(alloc)))
-}
-
-/// An expression's term as an operand.
-fn known(vars: &[(Var, Term)], e: &Expr) -> Operand<Term>
-    ensures { result ≡ Known (term vars.now e.now) }
-{
-    Operand::Known(term_of(vars, e))
 }
 
 /// The negation of a test: of one that is always true, that nil differs from itself.
@@ -220,7 +180,7 @@ pub(crate) fn return_from<'a>(
     let Some((place, post)) = take_return(&mut todo)? else {
         return Ok(None);
     };
-    let want = pending(alloc, state.vars(), post)?;
+    let want = pending(alloc, Terms::Of(state.vars()), post)?;
     let todo = shown_at_last(alloc, place, want, &post.names)?;
     Ok(Some(Children::One(Goal { state, todo })))
 }

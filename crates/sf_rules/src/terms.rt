@@ -3,10 +3,12 @@
 ghost use Rattle.std.specs.Prelude.{◌≡◌, IfOk, None, map, replicate};
 ghost use Rattle.sf_core.specs.Program.View.{assertion_of, conjunct_of, conjuncts, level_of};
 ghost use Rattle.sf_sym.specs.Pending.{pending_of};
+ghost use Rattle.sf_rules.specs.Internal.Terms.{terms_of};
 ghost use Rattle.sf_rules.specs.Table.{pending_assertion};
 ghost use Rattle.sf_sym.specs.Mapped.{conjunct_with, conjuncts_with, level_with, operand_with, test_with};
 ghost use Rattle.sf_sym.specs.State.{term, term_at};
 
+use crate::words::{Terms, pending};
 use sf_base::{FieldId, Var};
 use sf_core::{Assertion, Conjunct, Expr, Level, Operand, Test};
 use sf_sym::{Pending, Term};
@@ -24,7 +26,7 @@ pub fn term_of(vars: &[(Var, Term)], e: &Expr) -> Term
 }
 
 /// The term of a variable, `Nil` where it has none.
-fn term_at(vars: &[(Var, Term)], x: Var) -> Term
+pub(crate) fn term_at(vars: &[(Var, Term)], x: Var) -> Term
     ensures { result ≡ term_at vars.now x }
 {
     let mut left = vars;
@@ -46,12 +48,12 @@ pub(crate) fn pending_assertion(
     ensures { IfOk result (λ given. pending_of given
         ≡ pending_assertion vars.now (assertion_of a.now)) }
 {
-    let conjuncts = with_terms(alloc, vars, &a.level.conjuncts)?;
-    Ok(Pending::new(conjuncts, unbound(alloc, a.names.len())?))
+    let given = pending(alloc, Terms::Of(vars), a)?;
+    Ok(given)
 }
 
 /// That many existentials without a term.
-fn unbound(alloc: Global, count: usize) -> Result<Vec<Option<Term>>, AllocError>
+pub(crate) fn unbound(alloc: Global, count: usize) -> Result<Vec<Option<Term>>, AllocError>
     ensures { IfOk result (λ bindings. bindings.items ≡ replicate count None) }
 {
     vec![in alloc; None; count]
@@ -59,17 +61,17 @@ fn unbound(alloc: Global, count: usize) -> Result<Vec<Option<Term>>, AllocError>
 
 /// Conjuncts with terms in place of expressions, in the same order. An `Err` means out of memory.
 #[cycle(terms)]
-fn with_terms(
+pub(crate) fn with_terms(
     alloc: Global,
-    vars: &[(Var, Term)],
+    terms: Terms<'_>,
     from: &[Conjunct<Expr>],
 ) -> Result<Vec<Conjunct<Term>>, AllocError>
     ensures { IfOk result (λ cs. conjuncts (map conjunct_of cs.items)
-        ≡ conjuncts_with (term vars.now) (conjuncts (map conjunct_of from.now))) }
+        ≡ conjuncts_with (terms_of terms.entry) (conjuncts (map conjunct_of from.now))) }
 {
     let mut made = Vec::with_capacity(alloc, from.len())?;
     for c in from {
-        made.push(conjunct_with(alloc, vars, c)?)?;
+        made.push(conjunct_with(alloc, terms, c)?)?;
     }
     Ok(made)
 }
@@ -78,32 +80,33 @@ fn with_terms(
 #[cycle(terms)]
 fn conjunct_with(
     alloc: Global,
-    vars: &[(Var, Term)],
+    terms: Terms<'_>,
     c: &Conjunct<Expr>,
 ) -> Result<Conjunct<Term>, AllocError>
-    ensures { IfOk result (λ d. conjunct_of d ≡ conjunct_with (term vars.now) (conjunct_of c.now)) }
+    ensures { IfOk result (λ d. conjunct_of d
+        ≡ conjunct_with (terms_of terms.entry) (conjunct_of c.now)) }
 {
     match c {
-        Conjunct::Holds(place, test) => Ok(Conjunct::Holds(*place, test_with(vars, test))),
+        Conjunct::Holds(place, test) => Ok(Conjunct::Holds(*place, test_with(terms, test))),
         Conjunct::Points(place, root, fields) => {
-            let fields = fields_with(alloc, vars, fields)?;
-            Ok(Conjunct::Points(*place, operand_with(vars, root), fields))
+            let fields = fields_with(alloc, terms, fields)?;
+            Ok(Conjunct::Points(*place, operand_with(terms, root), fields))
         }
         Conjunct::Segment(place, next, from, to) => {
             Ok(Conjunct::Segment(
                 *place,
                 *next,
-                operand_with(vars, from),
-                operand_with(vars, to),
+                operand_with(terms, from),
+                operand_with(terms, to),
             ))
         }
         Conjunct::Tree(place, left, right, root) => {
-            Ok(Conjunct::Tree(*place, *left, *right, operand_with(vars, root)))
+            Ok(Conjunct::Tree(*place, *left, *right, operand_with(terms, root)))
         }
         Conjunct::If(place, test, this, that) => {
-            let this = level_with(alloc, vars, this)?;
-            let that = level_with(alloc, vars, that)?;
-            Ok(Conjunct::If(*place, test_with(vars, test), this, that))
+            let this = level_with(alloc, terms, this)?;
+            let that = level_with(alloc, terms, that)?;
+            Ok(Conjunct::If(*place, test_with(terms, test), this, that))
         }
     }
 }
@@ -112,34 +115,35 @@ fn conjunct_with(
 #[cycle(terms)]
 fn level_with(
     alloc: Global,
-    vars: &[(Var, Term)],
+    terms: Terms<'_>,
     level: &Level<Expr>,
 ) -> Result<Level<Term>, AllocError>
-    ensures { IfOk result (λ d. level_of d ≡ level_with (term vars.now) (level_of level.now)) }
+    ensures { IfOk result (λ d. level_of d
+        ≡ level_with (terms_of terms.entry) (level_of level.now)) }
 {
     Ok(Level {
         made: level.made,
-        conjuncts: with_terms(alloc, vars, &level.conjuncts)?,
+        conjuncts: with_terms(alloc, terms, &level.conjuncts)?,
     })
 }
 
 /// A test with terms.
-fn test_with(vars: &[(Var, Term)], test: &Test<Operand<Expr>>) -> Test<Operand<Term>>
-    ensures { result ≡ test_with (term vars.now) test.now }
+fn test_with(terms: Terms<'_>, test: &Test<Operand<Expr>>) -> Test<Operand<Term>>
+    ensures { result ≡ test_with (terms_of terms.entry) test.now }
 {
     match test {
         Test::True => Test::True,
-        Test::Equal(x, y) => Test::Equal(operand_with(vars, x), operand_with(vars, y)),
-        Test::Differ(x, y) => Test::Differ(operand_with(vars, x), operand_with(vars, y)),
+        Test::Equal(x, y) => Test::Equal(operand_with(terms, x), operand_with(terms, y)),
+        Test::Differ(x, y) => Test::Differ(operand_with(terms, x), operand_with(terms, y)),
     }
 }
 
 /// An operand with its term.
-fn operand_with(vars: &[(Var, Term)], x: &Operand<Expr>) -> Operand<Term>
-    ensures { result ≡ operand_with (term vars.now) x.now }
+fn operand_with(terms: Terms<'_>, x: &Operand<Expr>) -> Operand<Term>
+    ensures { result ≡ operand_with (terms_of terms.entry) x.now }
 {
     match x {
-        Operand::Known(e) => Operand::Known(term_of(vars, e)),
+        Operand::Known(e) => Operand::Known(terms.of(e)),
         Operand::Exists(n) => Operand::Exists(*n),
     }
 }
@@ -147,15 +151,15 @@ fn operand_with(vars: &[(Var, Term)], x: &Operand<Expr>) -> Operand<Term>
 /// Fields with their terms.
 fn fields_with(
     alloc: Global,
-    vars: &[(Var, Term)],
+    terms: Terms<'_>,
     fields: &[(FieldId, Operand<Expr>)],
 ) -> Result<Vec<(FieldId, Operand<Term>)>, AllocError>
     ensures { IfOk result (λ fs. fs.items
-        ≡ map (λ f. (f.0, operand_with (term vars.now) f.1)) fields.now) }
+        ≡ map (λ f. (f.0, operand_with (terms_of terms.entry) f.1)) fields.now) }
 {
     let mut made = Vec::with_capacity(alloc, fields.len())?;
     for f in fields {
-        made.push((f.0, operand_with(vars, &f.1)))?;
+        made.push((f.0, operand_with(terms, &f.1)))?;
     }
     Ok(made)
 }
