@@ -24,7 +24,7 @@ use Rattle.sf_calls.specs.Internal.Tests.{callees_in}
 use Rattle.sf_calls.proofs.Decided.{callees_in_are, entered_is}
 use Rattle.sf_calls.proofs.Listing.{calls_anyway}
 use Rattle.sf_calls.proofs.Searches.{proc}
-use Rattle.sf_calls.proofs.Within.{callees_within}
+use Rattle.sf_calls.specs.Lemmas.Within.{callees_within}
 
 -- empty rows have no caller
 pub no_caller : (rows : List (Vec ProcId Global)) → All (λ v. v.items ≡ []) rows → (f g : ProcId)

@@ -17,7 +17,7 @@ use Rattle.sf_calls.specs.Outside.{IsOutside, OccursInExpr, IsAmong, OccursInVal
 use Rattle.sf_calls.specs.Internal.Listed.{is_entered}
 use Rattle.sf_base.proofs.Variables.{resource-decides, same_var-decides}
 use Rattle.sf_calls.specs.Internal.Tests.{is_outside, in_expr, in_references, in_values, callees_in, callees_of}
-use Rattle.sf_calls.proofs.Sites.{listed_somewhere}
+use Rattle.sf_calls.specs.Lemmas.Sites.{listed_somewhere}
 
 abbrev pub resource : ℕ → ResId
 resource n = record { 0 = n }

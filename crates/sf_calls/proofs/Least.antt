@@ -14,7 +14,7 @@ use Rattle.sf_calls.specs.Reaches.{Reaches, directly, through}
 use Rattle.sf_calls.specs.Outside.{owner}
 use Rattle.sf_calls.specs.Internal.Gathers.{IsUpTo}
 use Rattle.sf_calls.proofs.Rows.{reaches_within}
-use Rattle.sf_calls.proofs.Within.{entered_within, level_within, block_within}
+use Rattle.sf_calls.specs.Lemmas.Within.{entered_within, level_within, block_within}
 
 -- what is taken is there
 pub takes_within : (p : Program) → IsFormed p → (f : ProcId) (r : ResId) → Takes p f r

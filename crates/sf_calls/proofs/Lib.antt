@@ -1,9 +1,7 @@
-pub mod Sites
 pub mod Searches
 pub mod Decided
 pub mod InOrder
 pub mod Listing
-pub mod Within
 pub mod CallGraph
 pub mod Rows
 pub mod Least

@@ -23,7 +23,7 @@ use Rattle.sf_calls.specs.Internal.Summaries.{IsSummaryOf}
 use Rattle.sf_calls.specs.Sets.{IsEarlier, IsVarSet}
 use Rattle.sf_calls.proofs.Decided.{entered_is}
 use Rattle.sf_calls.proofs.InOrder.{set_same}
-use Rattle.sf_calls.proofs.Sites.{among_at, among_of, listed_somewhere}
+use Rattle.sf_calls.specs.Lemmas.Sites.{among_at, among_of, listed_somewhere}
 
 -- a variable of a resource that is not entered
 abbrev IsKept : List ResId → Var → Type 0

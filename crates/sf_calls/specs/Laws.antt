@@ -2,10 +2,11 @@
 -- there. And what a type keeps truncated follows from its truncation.
 -- What an inductive definition states, after Tarski, "A lattice-theoretical fixpoint theorem" (1955).
 -- Families are given by tests.
-use Rattle.std.specs.Prelude.{◌≡◌, Bool, IsTrue, Option, Some, None}
+use Rattle.std.specs.Prelude.{◌≡◌, ◌<◌, Bool, IsTrue, Option, Some, None, length}
 use Rattle.sf_base.specs.declared.ids.ProcId.{ProcId}
 use Rattle.sf_base.specs.declared.ids.ResId.{ResId}
 use Rattle.sf_base.specs.declared.ids.Var.{Var}
+use Rattle.sf_core.specs.Machine.HeldBy.{HeldBy}
 use Rattle.sf_core.specs.Program.Formed.{IsFormed}
 use Rattle.sf_core.specs.Program.Syntax.{Block, Program}
 use Rattle.sf_calls.specs.Assigned.{AreInOrderIn, Assigned}
@@ -70,3 +71,8 @@ ConditionsFromTruncation = (p : Program) → ∥ Conditions p ∥₁ → Conditi
 abbrev pub ChangesAreAssigned : Type 0
 ChangesAreAssigned = (p : Program) (sets : Sets) (b : Block) → AreSetsOf p sets → AreInOrderIn p b
     → IsVarSet (Assigned p b) (changes_in sets b)
+
+-- what a procedure of a program that is in order holds is a resource of the program
+abbrev pub HeldResourcesAreThere : Type 0
+HeldResourcesAreThere = (p : Program) → IsFormed p → (f : ProcId) (r : ResId) → HeldBy p f r
+    → r.0 < length p.resources

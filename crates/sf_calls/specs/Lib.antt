@@ -8,5 +8,6 @@ pub mod First
 pub mod FirstBreach
 pub mod Breaks
 pub mod Laws
+pub mod Lemmas
 pub mod Reaches
 pub mod Internal

@@ -2,7 +2,7 @@
 //! is unique, that what commands may change is what is assigned, and that such facts follow from their
 //! truncations. Each function does nothing; its contract is the law.
 
-ghost use Rattle.sf_calls.specs.Laws.{ChangesAreAssigned, ConditionsFromTruncation, FirstBreachIsBroken, FirstBreachIsUnique, FreeIsLeast, SetsFromTruncation, SetsExist, TakesIsLeast};
+ghost use Rattle.sf_calls.specs.Laws.{ChangesAreAssigned, ConditionsFromTruncation, FirstBreachIsBroken, FirstBreachIsUnique, FreeIsLeast, HeldResourcesAreThere, SetsFromTruncation, SetsExist, TakesIsLeast};
 
 /// What procedures take is closed under its rules, and contained in whatever is.
 #[tactic(auto, using(crate::proofs::Closing::takes_is_least))]
@@ -50,4 +50,9 @@ pub fn conditions_from_truncation()
 /// Of a program's sets, in one of its blocks, what the commands may change is what is assigned.
 pub fn changes_are_assigned()
     ensures { ChangesAreAssigned }
+{}
+
+/// What a procedure of a program holds is one of the program's resources.
+pub fn held_resources_are_there()
+    ensures { HeldResourcesAreThere }
 {}

@@ -1,1 +1,9 @@
 pub mod Stacks
+pub mod Trees
+pub mod Taking
+pub mod Finishing
+pub mod Refusing
+pub mod Walking
+pub mod Exactly
+pub mod ProvenHad
+pub mod Closing

@@ -1,1 +1,6 @@
 pub mod Internal
+pub mod Stand
+pub mod Refusal
+pub mod Proven
+pub mod Accepted
+pub mod Laws

@@ -1,6 +1,6 @@
 -- A file has an answer: each layer has one of its own, and with them one of the cases of an answer is there.
 -- Names: some-*, what is found at each step of the way.
-use Rattle.std.proofs.Common.{◌≡◌, ◌⊎◌, ℕ, Bool, true, false, List, Option, Some, None, inl, inr, refl, sym, subst, ◌++◌, codes}
+use Rattle.std.proofs.Common.{◌≡◌, ◌⊎◌, ℕ, List, Option, Some, None, inl, inr, refl, sym, subst}
 use Rattle.std.specs.List.{All}
 use Rattle.sf_ast.specs.Surface.{Item}
 use Rattle.sf_calls.specs.FirstBreach.{Conditions}
@@ -16,14 +16,14 @@ use Rattle.sf_parse.specs.Laws.{EachFileIsShallow, AnswerIsUnique}
 use Rattle.sf_parse.specs.Parsing.{IsFile}
 use Rattle.sf_precise.specs.Laws.{UndeterminedAnnotationsHavePlace}
 use Rattle.sf_precise.specs.Annotations.{annotations_in}
-use Rattle.sf_core.specs.Program.Named.{name_of}
 use Rattle.sf_proof.specs.ProofText.{proof_text}
-use Rattle.sf_rules.specs.Built.{is_built}
-use Rattle.sf_search.specs.Judge.{Verdict, proof, fails, Judge}
-use Rattle.sf_search.specs.Laws.{VerdictExists}
+use Rattle.sf_rules.specs.LawsOfSettings.{SettingExists}
+use Rattle.sf_rules.specs.Setting.{IsSettingOf, Setting}
+use Rattle.sf_search.specs.Whole.Judge.{Verdict, proof, fails, Judge}
+use Rattle.sf_search.specs.Whole.Laws.{ProgramsHaveVerdicts}
 use Rattle.sf_vars.specs.Laws.{EachProgramHasAnAnswer}
 use Rattle.sf_cli.proofs.Accepted.{accepted-formed}
-use Rattle.sf_cli.specs.Answer.{Answer, FileAnswer, OrderAnswer, ProgramAnswer, admitted, judged, not_built, not_built_text, refused}
+use Rattle.sf_cli.specs.Answer.{Answer, FileAnswer, OrderAnswer, ProgramAnswer, admitted, cause_text, refused}
 use Rattle.sf_cli.specs.declared.refusal.Refusal.{Refusal}
 use Rattle.sf_cli.specs.declared.refusal.Refusal.TheVariants.{At}
 use Rattle.sf_cli.specs.declared.refusal.RefusalKind.TheVariants.{Undetermined}
@@ -42,21 +42,30 @@ pub record Answers : Type 0 where
   pub formed : ElaboratedIsFormed
   pub variables : EachProgramHasAnAnswer
   pub orders : UndeterminedAnnotationsHavePlace
-  pub verdicts : VerdictExists
+  pub settings : SettingExists
+  pub verdicts : ProgramsHaveVerdicts
 
 -- the answer to a program of which there is a verdict
-some-verdict : (p : Program) → is_built p ≡ true → (v : Verdict) → Judge p v → (text : Text) × (status : ℕ) × ProgramAnswer p text status
-some-verdict p b (proof tags) j = (proof_text p tags, 0, judged b (proof tags) j (refl, refl))
-some-verdict p b (fails f) j = (codes "failed " ++ name_of p f ++ codes "\n", 1, judged b (fails f) j (refl, refl))
+some-verdict : (p : Program) (d : Setting) → IsSettingOf p d → (v : Verdict) → Judge d v
+    → (text : Text) × (status : ℕ) × ProgramAnswer p text status
+some-verdict p d own (proof tags) j = (
+  proof_text p tags,
+  0,
+  record { setting = d; own = own; verdict = proof tags; judged = j; said = (refl, refl) },
+)
+some-verdict p d own (fails f why) j = (
+  cause_text p f why,
+  1,
+  record { setting = d; own = own; verdict = fails f why; judged = j; said = (refl, refl) },
+)
 
 -- the answer to a program in order
 some-program : Answers → (p : Program) → IsFormed p → (text : Text) × (status : ℕ) × ProgramAnswer p text status
-unfolding VerdictExists
-some-program l p f = go (is_built p) refl
-  where
-    go : (b : Bool) → is_built p ≡ b → (text : Text) × (status : ℕ) × ProgramAnswer p text status
-    go true e = let v = l.verdicts p f in some-verdict p e v.0 v.1
-    go false e = (not_built_text, 3, not_built e refl refl)
+unfolding SettingExists ProgramsHaveVerdicts
+some-program l p f =
+    let own = l.settings p f in
+    let v = l.verdicts own.0 in
+    some-verdict p own.0 own.1 v.0 v.1
 
 -- the answer to a file that is refused
 some-refusal : (bytes : Text) (r : Refusal) → FileFault bytes r → (text : Text) × (status : ℕ) × FileAnswer bytes text status

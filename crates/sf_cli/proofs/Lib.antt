@@ -1,4 +1,5 @@
-pub mod BuiltForms
+pub mod Ordering
+pub mod Verdicts
 pub mod Replies
 pub mod OneAnswer
 pub mod Refused

@@ -19,10 +19,12 @@ use Rattle.sf_parse.specs.Laws.{EachFileIsOne, AnswerIsUnique}
 use Rattle.sf_parse.specs.Parsing.{IsFile, IsFault as IsGrammarFault}
 use Rattle.sf_precise.specs.Laws.{NeverTakenIsUndetermined}
 use Rattle.sf_precise.specs.Annotations.{annotations_in, IsFirstPlace, NeverTakenIn}
-use Rattle.sf_search.specs.Judge.{Verdict, proof, fails}
-use Rattle.sf_search.specs.Laws.{VerdictIsUnique}
+use Rattle.sf_rules.specs.LawsOfSettings.{SettingIsUnique}
+use Rattle.sf_rules.specs.Setting.{Setting}
+use Rattle.sf_search.specs.Whole.Judge.{Judge, Verdict, proof, fails}
+use Rattle.sf_search.specs.Whole.Laws.{VerdictsAreUnique}
 use Rattle.sf_vars.specs.Laws.{EachProgramHasOneAnswer}
-use Rattle.sf_cli.specs.Answer.{VerdictAnswer, ProgramAnswer, OrderAnswer, FileAnswer, not_built, judged, refused, admitted}
+use Rattle.sf_cli.specs.Answer.{VerdictAnswer, ProgramAnswer, OrderAnswer, FileAnswer, refused, admitted}
 use Rattle.sf_cli.specs.declared.refusal.Refusal.{Refusal}
 use Rattle.sf_cli.specs.declared.refusal.Refusal.TheVariants.{At}
 use Rattle.sf_cli.specs.declared.refusal.RefusalKind.TheVariants.{Undetermined}
@@ -40,7 +42,8 @@ pub record Layers : Type 0 where
   pub names : EachTreeIsOne
   pub breaches : EachProgramHasOneAnswer
   pub orders : NeverTakenIsUndetermined
-  pub verdicts : VerdictIsUnique
+  pub settings : SettingIsUnique
+  pub verdicts : VerdictsAreUnique
 
 -- the same tokens are the same tree
 reads-tree : EachFileIsOne → (bytes : Text) (ts us : List Token) (one two : List Item) → ts ≡ us → IsFile ts one → IsFile us two → one ≡ two
@@ -124,15 +127,17 @@ answer-printed p v w text other status code e a b = go v (subst (λ (z : Verdict
   where
     go : (u : Verdict) → VerdictAnswer p u other code → VerdictAnswer p u text status → (text ≡ other) × (status ≡ code)
     go (proof tags) y x = (x.0 ∙ sym y.0, x.1 ∙ sym y.1)
-    go (fails f) y x = (x.0 ∙ sym y.0, x.1 ∙ sym y.1)
+    go (fails f why) y x = (x.0 ∙ sym y.0, x.1 ∙ sym y.1)
 
 -- a program has one answer
-answer-program : Layers → (p : Program) (text other : Text) (status code : ℕ) → ProgramAnswer p text status → ProgramAnswer p other code → (text ≡ other) × (status ≡ code)
-unfolding VerdictIsUnique
-answer-program l p text other status code (not_built b t s) (not_built c u r) = (t ∙ sym u, s ∙ sym r)
-answer-program l p text other status code (not_built b t s) (judged c w j u) = absurd cc
-answer-program l p text other status code (judged b v j t) (not_built c u r) = absurd cc
-answer-program l p text other status code (judged b v j t) (judged c w k u) = answer-printed p v w text other status code (l.verdicts p v w j k) t u
+answer-program : Layers → (p : Program) (text other : Text) (status code : ℕ) → ProgramAnswer p text status
+    → ProgramAnswer p other code → (text ≡ other) × (status ≡ code)
+unfolding SettingIsUnique VerdictsAreUnique
+answer-program l p text other status code a b =
+    let same : a.setting ≡ b.setting = l.settings p a.setting b.setting a.own b.own in
+    answer-printed p a.verdict b.verdict text other status code
+    (l.verdicts a.setting a.verdict b.verdict a.judged
+    (subst (λ (d : Setting). Judge d b.verdict) (sym same) b.judged)) a.said b.said
 
 -- a file has one answer
 pub answer-once : Layers → EachFileHasOneAnswer

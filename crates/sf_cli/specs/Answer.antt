@@ -1,37 +1,54 @@
 -- Answer: the text and the status that the command gives to its words, over a map of files.
 -- The form of a command's answer is that of The Open Group, "Utility Conventions" (2018); the statuses are this project's own.
-use Rattle.std.specs.Prelude.{◌≡◌, ℕ, ◌<◌, ◌⊎◌, true, false, Option, Some, None, List, ◌++◌, codes}
-use Rattle.sf_lex.specs.Reading.{first_place}
+use Rattle.std.specs.Prelude.{◌≡◌, ℕ, ◌<◌, ◌⊎◌, Option, Some, None, List, ◌++◌, codes}
 use Rattle.sf_core.specs.Program.Syntax.{Program}
 use Rattle.sf_io.specs.Increased.{Increased}
 use Rattle.sf_io.specs.Shelf.{Files}
 use Rattle.sf_io.specs.Sink.{WrotePrefix}
-use Rattle.sf_rules.specs.Built.{is_built}
+use Rattle.sf_rules.specs.Setting.{IsSettingOf, Setting}
 use Rattle.sf_cli.specs.FileFault.{FileFault, Admits}
 use Rattle.sf_cli.specs.Refusals.{refusal_text}
-use Rattle.sf_search.specs.Judge.{Verdict, proof, fails, Judge}
+use Rattle.sf_report.specs.declared.stuck.Stuck.{Stuck}
+use Rattle.sf_report.specs.declared.stuck.Stuck.TheVariants.{NoCell, NotEqual, NotDifferent, NoAtom, Leak, EndNotAllocated}
+use Rattle.sf_report.specs.Failure.{failure_text, too_large_text}
+use Rattle.sf_search.specs.Strategy.{Kind, no_cell, not_equal, not_different, no_atom, leak, end_not_allocated}
+use Rattle.sf_search.specs.Whole.Judge.{Cause, stuck_at, too_large, without_row, Verdict, proof, fails, Judge}
+use Rattle.sf_base.specs.declared.ids.ProcId.{ProcId}
 use Rattle.sf_core.specs.Program.Named.{name_of}
 use Rattle.sf_proof.specs.ProofText.{proof_text}
 use Rattle.sf_safe.specs.Law.{IsSound}
 use Rattle.sf_cli.specs.declared.refusal.Refusal.{Refusal}
-use Rattle.sf_cli.specs.declared.refusal.Refusal.TheVariants.{At}
-use Rattle.sf_cli.specs.declared.refusal.RefusalKind.TheVariants.{NotBuilt}
 use Rattle.sf_cli.specs.Words.{Text, Order, verify, order_of, usage_text}
+
+-- why a search is stuck, as it is printed
+abbrev pub printed : Kind → Stuck
+printed no_cell = NoCell
+printed not_equal = NotEqual
+printed not_different = NotDifferent
+printed no_atom = NoAtom
+printed leak = Leak
+printed end_not_allocated = EndNotAllocated
+
+-- why a procedure fails, printed: the goal at which its search is stuck, that its proof would be too large, or, where a
+-- tag that the strategy takes has no row, its name alone
+abbrev pub cause_text : Program → ProcId → Cause → Text
+cause_text p f (stuck_at goal kind before) = failure_text p f goal (printed kind)
+cause_text p f too_large = too_large_text p f
+cause_text p f without_row = codes "failed " ++ name_of p f ++ codes "\n"
 
 -- the verdict on a program, printed
 abbrev pub VerdictAnswer : Program → Verdict → Text → (status : ℕ) → Type 0
 VerdictAnswer p (proof tags) text status = (text ≡ proof_text p tags) × (status ≡ 0)
-VerdictAnswer p (fails f) text status = (text ≡ codes "failed " ++ name_of p f ++ codes "\n") × (status ≡ 1)
+VerdictAnswer p (fails f why) text status = (text ≡ cause_text p f why) × (status ≡ 1)
 
--- what is said of a program for which there are no rules yet
-abbrev pub not_built_text : Text
-not_built_text = refusal_text (At NotBuilt first_place)
-
--- the answer to a program with which nothing is wrong: there are no rules for it yet, or there is a verdict
-pub data ProgramAnswer (p : Program) (text : Text) (status : ℕ) : Type 0 where
-  not_built : is_built p ≡ false → text ≡ not_built_text → status ≡ 3 → ProgramAnswer p text status
-  judged : is_built p ≡ true → (v : Verdict) → Judge p v → VerdictAnswer p v text status
-      → ProgramAnswer p text status
+-- the answer to a program with which nothing is wrong: the verdict on it, by the least sets of its calls and with its
+-- annotations in order
+pub record ProgramAnswer (p : Program) (text : Text) (status : ℕ) : Type 0 where
+  pub setting : Setting
+  pub own : IsSettingOf p setting
+  pub verdict : Verdict
+  pub judged : Judge setting verdict
+  pub said : VerdictAnswer p verdict text status
 
 -- the answer to a file's bytes: it is refused, or it is the answer to the program that it reads as
 pub data FileAnswer (bytes text : Text) (status : ℕ) : Type 0 where

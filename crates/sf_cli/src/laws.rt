@@ -6,8 +6,9 @@ use sf_elab::laws::elaborated_is_formed;
 use sf_lex::laws::each_file_reads_once;
 use sf_parse::laws::each_file_is_shallow;
 use sf_precise::laws::{never_taken_is_undetermined, undetermined_annotations_have_place};
-use sf_search::{verdict_exists, verdict_is_unique, verdicts_prove};
-use sf_sound::proved_programs_are_sound;
+use sf_rules::laws::{setting_exists, setting_is_unique};
+use sf_search::{programs_have_verdicts, taken_tags_prove, verdicts_are_unique};
+use sf_sound::proofs_are_sound;
 use sf_vars::laws::{each_program_has_an_answer, each_program_has_one_answer};
 
 /// Bytes read as at most one program.
@@ -29,11 +30,11 @@ pub fn each_file_has_one_answer()
     sf_elab::laws::each_file_is_one();
     each_program_has_one_answer();
     never_taken_is_undetermined();
-    verdict_is_unique();
+    setting_is_unique();
+    verdicts_are_unique();
 }
 
-/// Each file has an answer: it is refused for some cause, or there are no rules for it yet, or there is a
-/// verdict on it.
+/// Each file has an answer: it is refused for some cause, or there is a verdict on it.
 pub fn each_file_has_an_answer()
     ensures { EachFileHasAnAnswer }
 {
@@ -44,7 +45,8 @@ pub fn each_file_has_an_answer()
     elaborated_is_formed();
     each_program_has_an_answer();
     undetermined_annotations_have_place();
-    verdict_exists();
+    setting_exists();
+    programs_have_verdicts();
 }
 
 /// Words have an answer over files, where the file that they name is there.
@@ -69,6 +71,6 @@ pub fn accepted_files_are_sound()
 {
     each_file_is_shallow();
     elaborated_is_formed();
-    verdicts_prove();
-    proved_programs_are_sound();
+    taken_tags_prove();
+    proofs_are_sound();
 }

@@ -5,7 +5,6 @@
 //! - `reply`: what the command says, and its status
 //! - `reading`: from a file's bytes to a program with which nothing is wrong
 //! - `refusal`: why a file is refused, and the line that says so
-//! - `built`: which programs there are rules for
 //! - `laws`: laws of answers
 #![tactic(auto)]
 
@@ -13,7 +12,6 @@ ghost use Rattle.std.specs.Prelude.{◌≡◌, map, IfOk};
 ghost use Rattle.std.specs.String.{string_bytes};
 ghost use Rattle.sf_cli.specs.WordsOf.{words_of};
 
-mod built;
 mod laws;
 mod reading;
 mod refusal;

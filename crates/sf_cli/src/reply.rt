@@ -3,24 +3,35 @@
 ghost use Rattle.std.specs.Prelude.{◌≡◌, ◌≢◌, ◌<◌, ◌≤◌, ◌-◌, ◌^◌, ◌++◌, List, Some, IfOk, IsErrOf, codes};
 ghost use Rattle.sf_core.specs.Program.ProgramView.{program_of};
 ghost use Rattle.sf_io.specs.Increased.{Increased};
-ghost use Rattle.sf_cli.specs.Answer.{AnswersFile, FileAnswer, NamesFile, ProgramAnswer, Reply, VerdictAnswer, read_fault_text};
+ghost use Rattle.sf_cli.specs.Answer.{AnswersFile, FileAnswer, NamesFile, ProgramAnswer, Reply, VerdictAnswer, cause_text, printed, read_fault_text};
 ghost use Rattle.sf_cli.specs.Internal.Fetched.{Fetched};
 ghost use Rattle.sf_cli.specs.Refusals.{refusal_text};
 ghost use Rattle.sf_cli.specs.declared.refusal.Refusal.TheVariants.{OutOfMemory};
-ghost use Rattle.sf_search.specs.Judge.{Verdict, Judge};
+ghost use Rattle.sf_precise.specs.Order.{IsOrdering};
+ghost use Rattle.sf_rules.specs.Setting.{Setting, setting_of};
+ghost use Rattle.sf_search.specs.Internal.Choosing.{kind_of};
+ghost use Rattle.sf_search.specs.Whole.Ends.{cause_of};
+ghost use Rattle.sf_search.specs.Whole.Judge.{Cause, Judge, proof};
 ghost use Rattle.sf_cli.specs.Words.{Text, order_of};
 ghost use Rattle.sf_cli.specs.WordsOf.{order_in, words_of};
 
-use crate::built::is_built;
 use crate::reading::admit;
-use crate::refusal::{FIRST_PLACE, Refusal, RefusalKind, refusal_text};
+use crate::refusal::{Refusal, refusal_text};
 use crate::words::{Order, USAGE, read_order};
+use sf_base::ProcId;
 use sf_base::limits::FILE_BYTES;
-use sf_check::check;
+use sf_check::CheckFault;
+use sf_check::proving::check;
 use sf_core::Program;
 use sf_io::{FetchFault, Shelf};
+use sf_precise::Arranged;
 use sf_proof::proof_text;
-use sf_search::{VerifyFault, verdicts_prove, verify};
+use sf_report::{Stuck, failed, too_large};
+use sf_rules::laws::arranged_has_setting;
+use sf_search::choices::Kind;
+use sf_search::taken_tags_prove;
+use sf_search::verdicts::{SearchFault, VerifyFault, verify};
+use sf_sym::Tag;
 use std::alloc::{AllocError, Global};
 
 /// What is said, and the status that goes with it.
@@ -53,25 +64,78 @@ fn say_of(alloc: Global, text: &str, name: &[u8], status: u8) -> Result<Said, Al
     Ok(Said { text: line, status })
 }
 
-/// The verdict on a program, printed. The tags that the search found are accepted by the checker
-/// before they are printed.
-fn judged(alloc: Global, p: &Program) -> Result<Said, AllocError>
-    ensures { IfOk result (λ said. (v : Verdict) × Judge (program_of p.now) v
-        × VerdictAnswer (program_of p.now) v said.text.items said.status) }
+/// The answer to a program with which nothing is wrong: the verdict on it, printed. The tags that
+/// the search found are accepted by the checker before they are printed. An `Err` means that memory
+/// ran out.
+fn answer_to_program(alloc: Global, arranged: &Arranged) -> Result<Said, AllocError>
+    ensures { IfOk result (λ said.
+        ProgramAnswer (program_of arranged.now.program) said.text.items said.status) }
 {
-    match verify(alloc, p) {
-        Ok(tags) => {
-            verdicts_prove();
-            if !check(alloc, p, tags.as_slice())? {
-                unreachable!();
-            }
-            Ok(Said {
-                text: proof_text(alloc, p, tags.as_slice())?,
-                status: 0,
-            })
-        }
-        Err(VerifyFault::Failed(f)) => say_of(alloc, "failed ", p.name_of(f), 1),
+    arranged_has_setting();
+    let p = &arranged.program;
+    match verify(alloc, arranged) {
+        Ok(tags) => say_proof(alloc, arranged, tags),
+        Err(VerifyFault::Failed(f, why)) => say_failure(alloc, p, f, &why),
         Err(VerifyFault::OutOfMemory) => Err(AllocError),
+    }
+}
+
+/// Why a search is stuck, as it is printed.
+fn printed(kind: Kind) -> Stuck
+    ensures { result ≡ printed (kind_of kind) }
+{
+    match kind {
+        Kind::NoCell => Stuck::NoCell,
+        Kind::NotEqual => Stuck::NotEqual,
+        Kind::NotDifferent => Stuck::NotDifferent,
+        Kind::NoAtom => Stuck::NoAtom,
+        Kind::Leak => Stuck::Leak,
+        Kind::EndNotAllocated => Stuck::EndNotAllocated,
+    }
+}
+
+/// That a procedure fails, and why. An `Err` means that memory ran out, which is also the answer
+/// where the search failed for that.
+fn say_failure(
+    alloc: Global,
+    p: &Program,
+    f: ProcId,
+    fault: &SearchFault<'_>,
+) -> Result<Said, AllocError>
+    ensures { IfOk result (λ said. (why : Cause) → cause_of fault.now ≡ Some why
+        → (said.text.items ≡ cause_text (program_of p.now) f why) × (said.status ≡ 1)) }
+{
+    match fault {
+        SearchFault::Stuck(goal, kind, _) => Ok(Said {
+            text: failed(alloc, p, f, goal, printed(*kind))?,
+            status: 1,
+        }),
+        SearchFault::TooLarge => Ok(Said {
+            text: too_large(alloc, p, f)?,
+            status: 1,
+        }),
+        SearchFault::NoRow(_) => say_of(alloc, "failed ", p.name_of(f), 1),
+        SearchFault::OutOfMemory => Err(AllocError),
+    }
+}
+
+/// A proof, printed, once the checker has accepted it.
+fn say_proof(alloc: Global, arranged: &Arranged, tags: Vec<Tag>) -> Result<Said, AllocError>
+    ghost d: { Setting }
+    requires ordered { IsOrdering d.ordered }
+    requires setting { d ≡ setting_of d.ordered arranged.now }
+    requires judged { Judge d (proof tags.items) }
+    ensures { IfOk result (λ said. VerdictAnswer (program_of arranged.now.program)
+        (proof tags.items) said.text.items said.status) }
+{
+    taken_tags_prove();
+    match check(alloc, arranged, tags) {
+        Ok(proof) => Ok(Said {
+            text: proof_text(alloc, &arranged.program, proof.tags())?,
+            status: 0,
+        }),
+        Err(CheckFault::Refused(..)) => unreachable!(),
+        Err(CheckFault::OutOfMemory) => Err(AllocError),
     }
 }
 
@@ -87,22 +151,12 @@ fn say_refusal(alloc: Global, refusal: &Refusal) -> Result<Said, AllocError>
     })
 }
 
-/// The answer to a program with which nothing is wrong.
-fn answer_to_program(alloc: Global, p: &Program) -> Result<Said, AllocError>
-    ensures { IfOk result (λ said. ProgramAnswer (program_of p.now) said.text.items said.status) }
-{
-    if !is_built(p) {
-        return say_refusal(alloc, &Refusal::At(RefusalKind::NotBuilt, FIRST_PLACE));
-    }
-    judged(alloc, p)
-}
-
 /// The answer to a file's bytes, of which those past the limit don't matter.
 fn answer_to_bytes(alloc: Global, bytes: &[u8]) -> Result<Said, AllocError>
     ensures { IfOk result (λ said. FileAnswer bytes.now said.text.items said.status) }
 {
     match admit(alloc, bytes) {
-        Ok(arranged) => answer_to_program(alloc, &arranged.program),
+        Ok(arranged) => answer_to_program(alloc, &arranged),
         Err(refusal) => say_refusal(alloc, &refusal),
     }
 }

@@ -1,13 +1,16 @@
 //! The command as a whole, over a shelf and a sink in memory. The answers were worked out by hand.
 
+mod examples;
 mod numbers;
 mod orders;
 mod proofs;
 mod sets;
 mod tables;
+mod verdicts;
 
 use crate::top::smallfoot;
 use crate::words::USAGE;
+use examples::EXAMPLES;
 use sf_io::{MemShelf, MemSink, OpenGate};
 use std::alloc::Global;
 use std::process::Abort;
@@ -15,9 +18,10 @@ use std::sync::Wait;
 use std::test::Fail;
 use std::thread::Threads;
 use tables::{
-    ANSWERS, BAD_GRAMMAR, BAD_NAMES, BAD_WORDS, BROKEN_CONDITIONS, COUNTS, EXAMPLES, IN_ORDER,
-    LANGUAGE, NESTS, NO_COMMANDS, SET, SET_PROOF, UNDETERMINED,
+    ANSWERS, BAD_GRAMMAR, BAD_NAMES, BAD_WORDS, BROKEN_CONDITIONS, COUNTS, IN_ORDER, LANGUAGE,
+    NESTS, NO_COMMANDS, SET, SET_PROOF, UNDETERMINED,
 };
+use verdicts::{CALLS, CHOICES, EXISTENTIALS, LISTS, LOOPS, PARALLEL, RECURSION, RESOURCES, TREES};
 
 /// The command says that to the words over that shelf, with that status.
 fn says<R: Threads + Wait + Sync + Abort>(
@@ -105,6 +109,19 @@ fn files_have_their_answers(rt: HostRuntime) -> Result<(), Fail> {
     are_answered(&rt, rt.alloc(), &IN_ORDER)?;
     are_answered(&rt, rt.alloc(), &LANGUAGE)?;
     are_answered(&rt, rt.alloc(), &EXAMPLES)
+}
+
+#[test]
+fn programs_have_their_verdicts(rt: HostRuntime) -> Result<(), Fail> {
+    are_answered(&rt, rt.alloc(), &LISTS)?;
+    are_answered(&rt, rt.alloc(), &TREES)?;
+    are_answered(&rt, rt.alloc(), &LOOPS)?;
+    are_answered(&rt, rt.alloc(), &CALLS)?;
+    are_answered(&rt, rt.alloc(), &RECURSION)?;
+    are_answered(&rt, rt.alloc(), &RESOURCES)?;
+    are_answered(&rt, rt.alloc(), &PARALLEL)?;
+    are_answered(&rt, rt.alloc(), &EXISTENTIALS)?;
+    are_answered(&rt, rt.alloc(), &CHOICES)
 }
 
 #[test]

@@ -1,47 +1,14 @@
--- What existentials stand for, where one that has no term yet gets one.
--- Names: `set-LAW` of the bindings with one more, `unbound-LAW` of an operand that is an existential without a term.
+-- Which existentials have no term yet, and which term one gets.
+-- Names: `unbound-LAW` of an operand that is an existential without a term, `binds-LAW` of an equality that gives it one.
 use Rattle.std.specs.Option.{option_and_then, option_map}
 use Rattle.std.specs.Prelude.{◌⊎◌}
-use Rattle.std.proofs.Common.{◌≡◌, ℕ, ◌<◌, ◌==◌, Bool, true, false, cond, List, Option, Some, None, get_or, length, set, is_some, refl, sym, ap, ◌∙◌, subst, inl, inr}
-use Rattle.std.proofs.lemmas.Bool.Decides.{Decides-eqb}
-use Rattle.std.proofs.lemmas.List.{get_or-set_other, length-set}
-use Rattle.std.proofs.lemmas.Option.{none-some, same_Some}
+use Rattle.std.proofs.Common.{◌≡◌, ℕ, cond, List, Option, Some, None, get_or, is_some, refl, ap, ◌∙◌, subst, inl, inr}
+use Rattle.std.proofs.lemmas.Option.{same_Some}
 use Rattle.sf_core.specs.declared.assertion.Operand.{Operand}
 use Rattle.sf_core.specs.declared.assertion.Operand.TheVariants.{Known, Exists}
-use Rattle.sf_consume.proofs.Changes.{set-at}
 use Rattle.sf_consume.specs.Subtract.{binding, first_of, one_binding, unbound}
 use Rattle.sf_sym.specs.Decided.{term_of}
 use Rattle.sf_sym.specs.declared.term.Term.{Term}
-
-module _ (bindings : List (Option Term)) (n : ℕ) (u : Term) where
-  -- it has that term
-  pub set-here : n < length bindings → get_or (set bindings n (Some u)) n None ≡ Some u
-  set-here within = set-at bindings n n u true ((Decides-eqb n n).1 refl) within
-
-  -- what the others stand for stays
-  pub set-keeps : get_or bindings n None ≡ None → (m : ℕ) (t : Term) → get_or bindings m None ≡ Some t
-      → get_or (set bindings n (Some u)) m None ≡ Some t
-  set-keeps free m t e =
-      get_or-set_other bindings n m (Some u) None
-      (λ same. none-some t (sym free ∙ ap (λ k. get_or bindings k None) (sym same) ∙ e)) ∙ e
-
-  -- each has a property that the new one and the others have
-  pub set-all : (P : Term → Type 0) → n < length bindings → P u
-      → ((m : ℕ) (t : Term) → get_or bindings m None ≡ Some t → P t)
-      → (m : ℕ) (t : Term) → get_or (set bindings n (Some u)) m None ≡ Some t → P t
-  set-all P within here others m t e = go (n == m) refl
-    where
-      go : (b : Bool) → n == m ≡ b → P t
-      go true i =
-          let same : n ≡ m = (Decides-eqb n m).0 i in
-          subst P (same_Some u t (sym (set-here within) ∙ ap (λ k. get_or (set bindings n (Some u)) k None) same ∙ e))
-          here
-      go false i = others m t (sym (get_or-set_other bindings n m (Some u) None
-          (λ same. let other : n == m ≡ true = (Decides-eqb n m).1 (sym same) in absurd (cc))) ∙ e)
-
-  -- there are as many
-  pub set-length : length (set bindings n (Some u)) ≡ length bindings
-  set-length = length-set bindings n (Some u)
 
 -- an operand that is an existential without a term
 pub unbound-is : (bindings : List (Option Term)) (x : Operand Term) (n : ℕ) → unbound bindings x ≡ Some n

@@ -15,13 +15,15 @@ use Rattle.sf_core.specs.Assertions.Sat.{HasFields, Seg, cell, Tree as IsTree, n
 use Rattle.sf_core.specs.declared.assertion.Operand.{Operand}
 use Rattle.sf_core.specs.Program.Syntax.{Conjunct, points, segment, tree, Conjuncts, also}
 use Rattle.sf_consume.proofs.Fitting.{FitBelow, fit-all, link-is}
-use Rattle.sf_consume.proofs.Handing.{both-are, by_first, operand-below, operand-is, state-below, state-handed, state-joins, state-out, wanting_first, wants-other}
+use Rattle.sf_consume.proofs.Handing.{both-are, by_first, state-below, state-handed, state-joins, state-out, wanting_first, wants-other}
 use Rattle.sf_consume.proofs.WantedFirst.{cell-is, list-is, tree-is}
 use Rattle.sf_consume.specs.declared.wanted.WantedList.{WantedList}
 use Rattle.sf_consume.specs.declared.wanted.WantedTree.{WantedTree}
 use Rattle.sf_consume.specs.Laws.{alone, Subtracts, CellKeepsWants, HeadKeepsWants, NodeKeepsWants}
 use Rattle.sf_consume.specs.Subtract.{Fit, Want, both, cell_step, first_fit, fit_fields, fitting, handed_cell, head_step, head_there, link, list_from, node_step, node_there, removed, tree_from, wanted_cell, wanted_list, wanted_tree}
-use Rattle.sf_consume.specs.Wants.{AllWanted, IsFormed, Wants}
+use Rattle.sf_consume.specs.Wants.{IsFormed, Wants}
+use Rattle.sf_sym.specs.Lemmas.Bindings.{operand-below, operand-is}
+use Rattle.sf_sym.specs.Formed.{AllFormed}
 use Rattle.sf_sym.specs.Lemmas.Decided.{differ-in}
 use Rattle.sf_sym.specs.Lemmas.AtomLists.{at-all, at-cell}
 use Rattle.sf_sym.specs.Lemmas.Below.{below-more, below-value}
@@ -110,7 +112,7 @@ cell-one a s bindings q x ws cs t fields f formed root found fit =
         conjuncts = λ u o. below-more s.next_sym f.next_sym fits.grows.symbols u (formed.terms.conjuncts u (inr o));
         bindings = fits.grows.below.bindings;
       };
-      conjuncts = subst (λ k. AllWanted s.links k cs) (sym fits.grows.length) formed.conjuncts.1;
+      conjuncts = subst (λ k. AllFormed s.links k cs) (sym fits.grows.length) formed.conjuncts.1;
     })
     (λ w e free taken h location here part is one has. let d = fits.values w here has in record {
       values = d.values;

@@ -10,10 +10,9 @@ use Rattle.sf_base.specs.HeapStore.{Cell}
 use Rattle.sf_core.specs.Assertions.Sat.{HasFields, operand}
 use Rattle.sf_core.specs.declared.assertion.Operand.{Operand}
 use Rattle.sf_core.specs.declared.assertion.Operand.TheVariants.{Known, Exists}
-use Rattle.sf_consume.proofs.Bindings.{set-all, set-here, set-keeps, set-length}
-use Rattle.sf_consume.proofs.Handing.{operand-is}
 use Rattle.sf_consume.specs.Subtract.{Fit, fit_existential, fit_field, fit_fields, fit_known, fit_new, link, linked}
-use Rattle.sf_consume.specs.Wants.{IsCounted}
+use Rattle.sf_sym.specs.Lemmas.Bindings.{operand-is, set-all, set-here, set-keeps, set-length}
+use Rattle.sf_sym.specs.Formed.{IsCounted}
 use Rattle.sf_sym.specs.Lemmas.{same_term_is}
 use Rattle.sf_sym.specs.Lemmas.Below.{below-more, below-symbol, below-value, paired-weaker, put-all}
 use Rattle.sf_sym.specs.Lemmas.CellFields.{field-all, field-value, put-known}

@@ -21,7 +21,7 @@ use Rattle.sf_sym.specs.Lemmas.AtomLists.{atoms-one_more, atoms-out, without-all
 use Rattle.sf_sym.specs.Lemmas.Below.{below-more, below-value, state-weaker}
 use Rattle.sf_sym.specs.Lemmas.FreshGoals.{more-below}
 use Rattle.sf_sym.specs.Lemmas.OtherValues.{Same, goal-other_values}
-use Rattle.sf_sym.specs.Below.{AllInAtom, AllInPending, AllInState, IsBelow, SameBelow}
+use Rattle.sf_sym.specs.Below.{AllInAtom, AllInState, IsBelow, SameBelow}
 use Rattle.sf_sym.specs.Cells.{atom_at, handed, without}
 use Rattle.sf_sym.specs.Decided.{term_of}
 use Rattle.sf_sym.specs.declared.atom.Atom.{Atom}
@@ -51,12 +51,6 @@ by_first step law want after formed row = go want.conjuncts formed row
     go (also c cs) formed row = law want.state want.bindings c cs after formed row
 
 -- Operands
--- the value of an operand is that of its term
-pub operand-is : (w some : ℕ → Value) (bindings : List (Option Term)) (x : Operand Term) (t : Term)
-    → IsBound w bindings some → term_of bindings x ≡ Some t → operand (term_value w) some x ≡ term_value w t
-operand-is w some bindings (Known u) t bound e = ap (term_value w) (same_Some u t e)
-operand-is w some bindings (Exists n) t bound e = bound n t e
-
 -- two operands that both have terms
 pub both-are : (bindings : List (Option Term)) (x y : Operand Term) (e : Term × Term)
     → both bindings x y ≡ Some e → (term_of bindings x ≡ Some e.0) × (term_of bindings y ≡ Some e.1)
@@ -68,14 +62,6 @@ both-are bindings x y e row = go (term_of bindings x) (term_of bindings y) row
     go (Some t) None row = absurd (cc)
     go (Some t) (Some u) row =
         let same = same_Some (t, u) e row in (ap (λ z. Some z.0) same, ap (λ z. Some z.1) same)
-
--- the term of an operand that occurs is below the next symbol
-pub operand-below : (n : ℕ) (bindings : List (Option Term)) (cs : Conjuncts Term) (x : Operand Term) (t : Term)
-    → AllInPending (IsBelow n) (record { conjuncts = cs; bindings = bindings }) → OccursInAll cs x
-    → term_of bindings x ≡ Some t → IsBelow n t
-operand-below n bindings cs (Known u) t below o e =
-    subst (IsBelow n) (same_Some u t e) (below.conjuncts u o)
-operand-below n bindings cs (Exists m) t below o e = below.bindings m t e
 
 -- Wanted heaps what is wanted with some values of the symbols is wanted with others that are the
 -- same below the next symbol

@@ -1,4 +1,5 @@
 pub mod Changes
+pub mod Meetings
 pub mod Nodes
 pub mod WantedFirst
 pub mod Handing
@@ -9,3 +10,4 @@ pub mod PartLaws
 pub mod CellLaws
 pub mod Chains
 pub mod Branches
+pub mod Restating

@@ -16,12 +16,14 @@ use Rattle.sf_core.proofs.Assertions.Segments.{loc-same, seg-append}
 use Rattle.sf_core.specs.Assertions.Sat.{SatOne, Seg, Tree as IsTree, operand}
 use Rattle.sf_core.specs.declared.fields.Links.{Links}
 use Rattle.sf_core.specs.Program.Syntax.{Conjunct, holds, points, segment, tree, choose, Conjuncts, also}
-use Rattle.sf_consume.proofs.Handing.{Out, both-are, by_first, formed-rest, operand-below, operand-is, state-below, state-handed, state-joins, state-out, wanting_first}
+use Rattle.sf_consume.proofs.Handing.{Out, both-are, by_first, formed-rest, state-below, state-handed, state-joins, state-out, wanting_first}
 use Rattle.sf_consume.proofs.WantedFirst.{list-is}
 use Rattle.sf_consume.specs.declared.wanted.WantedList.{WantedList}
 use Rattle.sf_consume.specs.Laws.{alone, Subtracts, ExactKeepsWants, JoinKeepsWants}
 use Rattle.sf_consume.specs.Subtract.{Want, both, exact_step, exact_there, is_same_shape, join_step, join_there, joined, list_from, removed, wanted_list, wanted_shape}
-use Rattle.sf_consume.specs.Wants.{IsFormed, OneWanted}
+use Rattle.sf_consume.specs.Wants.{IsFormed}
+use Rattle.sf_sym.specs.Lemmas.Bindings.{operand-below, operand-is}
+use Rattle.sf_sym.specs.Formed.{OneFormed}
 use Rattle.sf_sym.specs.Lemmas.{same_term_is}
 use Rattle.sf_sym.specs.Lemmas.AtomLists.{at-all, without-any}
 use Rattle.sf_sym.specs.Lemmas.Parts.{atoms-located, located-left}
@@ -55,7 +57,7 @@ same-shape (Tree t) (Tree v) e = ap Tree (same_term_is t v e)
 
 -- a segment or tree that is wanted holds where it does as an atom
 shape-holds : (links : Links) (count : ℕ) (bindings : List (Option Term)) (c : Conjunct Term) (x : Atom) (heap : Heap)
-    → OneWanted links count c → wanted_shape bindings c ≡ Some x → (w some : ℕ → Value)
+    → OneFormed links count c → wanted_shape bindings c ≡ Some x → (w some : ℕ → Value)
     → IsBound w bindings some → AtomHolds w links x heap → SatOne c (term_value w) some heap
 shape-holds links count bindings (holds q t) x heap wanted e w some bound h = absurd (cc)
 shape-holds links count bindings (points q y fs) x heap wanted e w some bound h = absurd (cc)

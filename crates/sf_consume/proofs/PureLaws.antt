@@ -15,12 +15,14 @@ use Rattle.sf_core.specs.declared.assertion.Operand.{Operand}
 use Rattle.sf_core.specs.declared.assertion.Operand.TheVariants.{Known}
 use Rattle.sf_core.specs.declared.assertion.Test.TheVariants.{Equal}
 use Rattle.sf_core.specs.Program.Syntax.{Conjunct, holds, points, segment, tree, choose, Conjuncts, also}
-use Rattle.sf_consume.proofs.Bindings.{Binds, binds-either, set-all, set-here, set-keeps, set-length}
-use Rattle.sf_consume.proofs.Handing.{both-are, by_first, formed-rest, nothing_handed, operand-below, operand-is, wanting_first}
+use Rattle.sf_consume.proofs.Bindings.{Binds, binds-either}
+use Rattle.sf_consume.proofs.Handing.{both-are, by_first, formed-rest, nothing_handed, wanting_first}
 use Rattle.sf_consume.proofs.WantedFirst.{equality-is, inequality-is}
 use Rattle.sf_consume.specs.Laws.{alone, Subtracts, BindKeepsWants, SameKeepsWants, ApartKeepsWants, EmptyKeepsWants}
 use Rattle.sf_consume.specs.Subtract.{Want, bind_step, same_step, apart_step, empty_step, binding, both, equality, inequality, removed, removed_if, wanted_ends}
-use Rattle.sf_consume.specs.Wants.{IsCounted, IsFormed, OneWanted, AllWanted}
+use Rattle.sf_consume.specs.Wants.{IsFormed}
+use Rattle.sf_sym.specs.Lemmas.Bindings.{operand-below, operand-is, set-all, set-here, set-keeps, set-length}
+use Rattle.sf_sym.specs.Formed.{IsCounted, OneFormed, AllFormed}
 use Rattle.sf_sym.specs.Lemmas.{same_term_is}
 use Rattle.sf_sym.specs.Lemmas.Decided.{differ-in}
 use Rattle.sf_sym.specs.Below.{IsBelow}
@@ -87,7 +89,7 @@ apart_keeps_wants = by_first apart_step (λ s bindings c cs after formed row.
 bind-one : (s : State) (bindings : List (Option Term)) (c : Conjunct Term) (cs : Conjuncts Term) (x y : Operand Term)
     (n : ℕ) (t : Term)
     → IsFormed (wanting_first s bindings c cs) → OccursInOne c x → OccursInOne c y
-    → (OneWanted s.links (length bindings) c → IsCounted (length bindings) x)
+    → (OneFormed s.links (length bindings) c → IsCounted (length bindings) x)
     → Binds bindings x y n t
     →
     ((w some : ℕ → Value) → operand (term_value w) some x ≡ operand (term_value w) some y
@@ -105,7 +107,7 @@ bind-one s bindings c cs x y n t formed at_x at_y counted binds sat =
             (operand-below s.next_sym bindings (also c cs) y t formed.terms (inl at_y) binds.term)
             formed.terms.bindings;
       };
-      conjuncts = subst (λ k. AllWanted s.links k cs) (sym (set-length bindings n t)) formed.conjuncts.1;
+      conjuncts = subst (λ k. AllFormed s.links k cs) (sym (set-length bindings n t)) formed.conjuncts.1;
     })
     (λ w some f free taken h bound.
     let old : IsBound w bindings some = λ m u e. bound m u (set-keeps bindings n t binds.free m u e) in (

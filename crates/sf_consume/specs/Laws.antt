@@ -6,7 +6,7 @@ use Rattle.sf_base.specs.declared.place.Place.{Place}
 use Rattle.sf_base.specs.declared.value.Value.{Value}
 use Rattle.sf_base.specs.HeapStore.{Heap, IsEmpty, Splits}
 use Rattle.sf_consume.specs.Subtract.{Step, Want, removed, stepped, subtracted, bind_step, same_step, apart_step, cell_step, empty_step, exact_step, head_step, join_step, node_step}
-use Rattle.sf_consume.specs.Wants.{IsFormed, Wants}
+use Rattle.sf_consume.specs.Wants.{IsFormed, Wants, wanting}
 use Rattle.sf_core.specs.Assertions.Occurs.{OccursIn}
 use Rattle.sf_core.specs.Assertions.Sat.{SameOutside, Sat, SatAll}
 use Rattle.sf_core.specs.declared.assertion.Operand.{Operand}
@@ -15,15 +15,16 @@ use Rattle.sf_core.specs.declared.assertion.Scope.{Scope}
 use Rattle.sf_core.specs.declared.assertion.Test.{Test}
 use Rattle.sf_core.specs.declared.command.Expr.{Expr}
 use Rattle.sf_core.specs.Program.Syntax.{Conjuncts, none, also, choose, Level, level}
-use Rattle.sf_sym.specs.Below.{SameBelow}
+use Rattle.sf_sym.specs.Below.{AllInPending, IsBelow, SameBelow}
 use Rattle.sf_sym.specs.Decided.{is_decided, test_of_terms}
 use Rattle.sf_sym.specs.declared.tag.Tag.{Tag}
 use Rattle.sf_sym.specs.declared.term.Term.{Term}
+use Rattle.sf_sym.specs.Equalities.{pending_with}
 use Rattle.sf_sym.specs.Goal.{Goal}
 use Rattle.sf_sym.specs.Holds.{term_value, IsBound}
 use Rattle.sf_sym.specs.HoldsIn.{HoldsIn}
 use Rattle.sf_sym.specs.Mapped.{conjuncts_with}
-use Rattle.sf_sym.specs.Pending.{before, conjuncts_of}
+use Rattle.sf_sym.specs.Pending.{Pending, before, conjuncts_of}
 use Rattle.sf_sym.specs.State.{State, term}
 
 -- a state alone, with nothing to do
@@ -113,6 +114,14 @@ BranchKeepsWants =
     → test_of_terms bindings test ≡ Some terms → is_decided so s terms ≡ true
     → Subtracts (removed s bindings (also (choose place test this that) cs))
     (removed s bindings (before (conjuncts_of (cond so this that)) cs))
+
+-- what is to be shown is wanted of the same heaps, in whatever state, with other terms of the same values
+unfoldable pub RestatedTermsAreWanted : Type 0
+RestatedTermsAreWanted =
+    (below : ℕ) (earlier later : ℕ → Value) (to : Term → Term) (s after : State) (want : Pending)
+    → ((t : Term) → IsBelow below t → term_value later (to t) ≡ term_value earlier t)
+    → AllInPending (IsBelow below) want → (some : ℕ → Value) (heap : Heap)
+    → Wants later some (wanting after (pending_with to want)) heap ↔ Wants earlier some (wanting s want) heap
 
 -- From the first row to the last what is wanted of a state where an assertion is to be shown: its
 -- conjuncts, with the terms that the variables have, and none of that many existentials has a term

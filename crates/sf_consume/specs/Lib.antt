@@ -1,4 +1,5 @@
 pub mod Subtract
+pub mod Misfit
 pub mod Wants
 pub mod Laws
 pub mod Internal

@@ -4,7 +4,7 @@
 //! satisfies the assertion. Each function is a law: calling it gives its fact to the caller's
 //! proof, and does nothing.
 
-ghost use Rattle.sf_consume.specs.Laws.{ApartKeepsWants, AssertionIsShown, AssertionIsWanted, BindKeepsWants, BranchKeepsWants, CellKeepsWants, EmptyKeepsWants, ExactKeepsWants, HeadKeepsWants, JoinKeepsWants, NodeKeepsWants, NothingIsWanted, SameKeepsWants, SubtractionKeepsWants, SubtractionsChain};
+ghost use Rattle.sf_consume.specs.Laws.{ApartKeepsWants, AssertionIsShown, AssertionIsWanted, BindKeepsWants, BranchKeepsWants, CellKeepsWants, EmptyKeepsWants, ExactKeepsWants, HeadKeepsWants, JoinKeepsWants, NodeKeepsWants, NothingIsWanted, RestatedTermsAreWanted, SameKeepsWants, SubtractionKeepsWants, SubtractionsChain};
 
 /// bind: the existential has the value of the other side.
 #[tactic(auto, using(crate::proofs::PureLaws::bind_keeps_wants))]
@@ -72,6 +72,12 @@ pub fn branch_keeps_wants()
 #[tactic(auto, using(crate::proofs::Chains::subtraction_keeps_wants))]
 pub fn subtraction_keeps_wants()
     ensures { SubtractionKeepsWants }
+{}
+
+/// Terms of the same values in place of those that occur: the same heaps are wanted.
+#[tactic(auto, using(crate::proofs::Restating::restated_terms_are_wanted))]
+pub fn restated_terms_are_wanted()
+    ensures { RestatedTermsAreWanted }
 {}
 
 /// The first row: where an assertion is to be shown, the heaps that are wanted are those that

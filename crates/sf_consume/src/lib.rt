@@ -3,24 +3,35 @@
 //!
 //! - `fault`: why a tag doesn't apply.
 //! - `fit`: how far the fields of a wanted cell fit a cell.
+//! - `meeting`: the same, without changing anything.
+//! - `differing`: the first field of a wanted cell that doesn't fit.
 //! - `pure`: wanted equalities and inequalities, and what is wanted of no heap.
 //! - `cells`: wanted parts that are cells or begin with one.
 //! - `parts`: wanted segments and trees that are an atom or begin with one.
 //! - `wanted`: what is wanted first.
+//! - `ready`: whether a step has a row, without taking it.
 //! - `laws`: what the rows keep.
 //! - `rows`: the rows of subtraction by their tags.
 #![tactic(auto)]
 
 mod cells;
+mod differing;
 mod fault;
 mod fit;
 pub mod laws;
+mod meeting;
 mod parts;
 mod pure;
+mod ready;
 mod rows;
 #[cfg(test)]
 mod tests;
 mod wanted;
 
+pub use differing::{Misfit, first_misfit};
 pub use fault::ConsumeFault;
+pub use meeting::Met;
+pub use parts::is_same_shape;
+pub use ready::{binds, fits_cell, is_empty, is_same};
 pub use rows::subtract;
+pub use wanted::{both, wanted_shape};

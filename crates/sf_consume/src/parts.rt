@@ -33,7 +33,7 @@ pub(crate) fn exact(state: &mut State, want: &mut Pending, a: u32) -> Result<Opt
 }
 
 /// Whether two atoms are one segment, or one tree.
-fn is_same_shape(x: &Atom, y: &Atom) -> bool
+pub fn is_same_shape(x: &Atom, y: &Atom) -> bool
     ensures { result ≡ is_same_shape x.now y.now }
 {
     match (x, y) {

@@ -59,7 +59,11 @@ pub(crate) fn empty(state: &State, want: &mut Pending) -> Option<()>
 }
 
 /// One side of an equality is an existential without a term, and the other has one: its number, and that term.
-fn binding(bindings: &[Option<Term>], x: Operand<Term>, y: Operand<Term>) -> Option<(u32, Term)>
+pub(crate) fn binding(
+    bindings: &[Option<Term>],
+    x: Operand<Term>,
+    y: Operand<Term>,
+) -> Option<(u32, Term)>
     ensures { result ≡ binding bindings.now x y }
 {
     match one_binding(bindings, x, y) {

@@ -96,7 +96,7 @@ pub(crate) fn as_tree(c: &Conjunct<Term>) -> Option<WantedTree>
 }
 
 /// A wanted segment or tree as an atom.
-pub(crate) fn wanted_shape(bindings: &[Option<Term>], c: &Conjunct<Term>) -> Option<Atom>
+pub fn wanted_shape(bindings: &[Option<Term>], c: &Conjunct<Term>) -> Option<Atom>
     ensures { result ≡ wanted_shape bindings.now (conjunct_of c.now) }
 {
     match c {
@@ -121,11 +121,7 @@ pub(crate) fn wanted_ends(bindings: &[Option<Term>], c: &Conjunct<Term>) -> Opti
 }
 
 /// The terms of both operands.
-pub(crate) fn both(
-    bindings: &[Option<Term>],
-    x: Operand<Term>,
-    y: Operand<Term>,
-) -> Option<(Term, Term)>
+pub fn both(bindings: &[Option<Term>], x: Operand<Term>, y: Operand<Term>) -> Option<(Term, Term)>
     ensures { result ≡ both bindings.now x y }
 {
     let t = term_of(bindings, &x)?;

@@ -8,5 +8,6 @@ pub mod Steps
 pub mod EachReads
 pub mod Once
 pub mod Texts
+pub mod Wholes
 pub mod Spelled
 pub mod Closing

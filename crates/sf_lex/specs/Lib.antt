@@ -1,5 +1,6 @@
 pub mod Lexeme
 pub mod Piece
 pub mod Reading
+pub mod Whole
 pub mod Laws
 pub mod Internal

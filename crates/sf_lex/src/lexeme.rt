@@ -32,7 +32,7 @@ fn is_blank(byte: u8) -> bool
 }
 
 /// Whether it may occur in a word, after the first byte.
-fn is_word_byte(byte: u8) -> bool
+pub fn is_word_byte(byte: u8) -> bool
     ensures { result ≡ is_word_byte byte }
 {
     byte.is_ascii_alphanumeric() || byte == b'_'
@@ -110,7 +110,7 @@ fn ascii(bytes: &[u8]) -> &str
 }
 
 /// The number, if it fits 64 bits.
-fn value(text: &[u8]) -> Option<i64>
+pub fn value(text: &[u8]) -> Option<i64>
     requires ascii { IsAscii text.now }
     requires numeral { IsNumeral 10 (without_leading_sign text.now) }
     ensures { result ≡ (if fits (signed_digits_value 10 text.now) then Some

@@ -6,6 +6,7 @@
 //! - `scan`: the call `tokens`.
 //! - `symbols`: the longest symbol that comes next.
 //! - `token`: tokens and their kinds.
+//! - `whole`: whether a whole text is a name, and which number it writes.
 //! - `words`: reserved words.
 #![tactic(auto)]
 
@@ -15,11 +16,13 @@ mod lexeme;
 mod scan;
 mod symbols;
 mod token;
+mod whole;
 mod words;
 
 pub use fault::LexFault;
 pub use scan::tokens;
 pub use token::{Kind, Token, Tokens};
+pub use whole::{is_name, number};
 
 #[cfg(test)]
 mod tests;

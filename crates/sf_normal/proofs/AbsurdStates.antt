@@ -5,15 +5,15 @@ use Rattle.sf_base.proofs.MapSplits.{union, splits-union}
 use Rattle.sf_normal.specs.Laws.{AbsurdKeepsGoals}
 use Rattle.sf_sym.specs.Lemmas.States.{held_states_are_not_absurd}
 use Rattle.sf_sym.specs.Lemmas.TwoHeaps.{in-at}
-use Rattle.sf_sym.specs.Laws.{HeldStatesAreNotAbsurd, Kept}
+use Rattle.sf_sym.specs.Laws.{HeldStatesAreNotAbsurd, HoldsAsBefore, KeptWith}
 use Rattle.sf_sym.specs.Tests.{is_absurd}
 
 pub absurd_keeps_goals : AbsurdKeepsGoals
 unfolding AbsurdKeepsGoals HeldStatesAreNotAbsurd
 absurd_keeps_goals goal left below row = go (is_absurd goal.state) refl row
   where
-    go : (b : Bool) → is_absurd goal.state ≡ b → cond b (Some []) None ≡ Some left → Kept goal left
-    go true i e = subst (Kept goal) (same_Some [] left e) (record {
+    go : (b : Bool) → is_absurd goal.state ≡ b → cond b (Some []) None ≡ Some left → KeptWith goal left HoldsAsBefore
+    go true i e = subst (λ gs. KeptWith goal gs HoldsAsBefore) (same_Some [] left e) (record {
       follow = tt;
       hold = λ w e free taken h.
           held_states_are_not_absurd w goal e (union free taken)

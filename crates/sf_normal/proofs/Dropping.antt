@@ -9,7 +9,7 @@ use Rattle.sf_base.specs.HeapStore.{Heap, IsEmpty}
 use Rattle.sf_core.proofs.Assertions.Segments.{seg-empty}
 use Rattle.sf_core.proofs.Assertions.Trees.{tree-from_nil}
 use Rattle.sf_core.specs.declared.fields.Links.{Links}
-use Rattle.sf_normal.proofs.Keeping.{kept-one, still-same}
+use Rattle.sf_sym.specs.Lemmas.Keeping.{before-same, kept-one}
 use Rattle.sf_sym.specs.Known.{is_nothing}
 use Rattle.sf_normal.specs.Laws.{DropKeepsGoals}
 use Rattle.sf_sym.specs.Lemmas.AtomLists.{atoms-out, without-all}
@@ -20,7 +20,7 @@ use Rattle.sf_sym.specs.declared.atom.Atom.TheVariants.{Points, Ls, Tree}
 use Rattle.sf_sym.specs.declared.term.Term.TheVariants.{Nil}
 use Rattle.sf_sym.specs.Goal.{at_state}
 use Rattle.sf_sym.specs.Holds.{term_value, SegAlong, TreeAlong, AtomHolds}
-use Rattle.sf_sym.specs.Laws.{Kept}
+use Rattle.sf_sym.specs.Laws.{HoldsAsBefore, KeptWith}
 use Rattle.sf_sym.specs.Lemmas.{same_term_is}
 
 seg_along-empty : (next : Option FieldId) (from to : Value) (heap : Heap) → from ≡ to
@@ -56,8 +56,8 @@ drop_keeps_goals a goal left below row =
         →
         cond b (Some (at_state goal (record goal.state { atoms = without goal.state.atoms a }) ∷ [])) None
         ≡ Some left
-        → Kept goal left
-    go x at true i e = kept-one goal (at_state goal (record goal.state { atoms = without goal.state.atoms a }))
+        → KeptWith goal left HoldsAsBefore
+    go x at true i e = kept-one HoldsAsBefore goal (at_state goal (record goal.state { atoms = without goal.state.atoms a }))
         left e (record {
           below = record {
             state = record {
@@ -70,9 +70,10 @@ drop_keeps_goals a goal left below row =
           };
           symbols = omega arith;
           links = refl;
+          formed = λ f. f;
         })
-        (λ w e free taken h. still-same w goal
-        (at_state goal (record goal.state { atoms = without goal.state.atoms a })) e free taken (record {
+        (λ w e free taken h. before-same w goal (record goal.state { atoms = without goal.state.atoms a }) e
+        free taken (record {
           vars = h.vars;
           apart = h.apart;
           disjoint = h.disjoint;

@@ -11,14 +11,14 @@ use Rattle.sf_base.specs.declared.value.Value.{Value}
 use Rattle.sf_base.specs.HeapStore.{Heap}
 use Rattle.sf_core.proofs.Assertions.Sat.{value-which}
 use Rattle.sf_core.specs.declared.fields.Links.{Links}
-use Rattle.sf_normal.proofs.Keeping.{follows-equal, kept-one, still-same}
+use Rattle.sf_sym.specs.Lemmas.Keeping.{before-equal, follows-equal, kept-one}
 use Rattle.sf_sym.specs.Known.{ends}
 use Rattle.sf_normal.specs.Laws.{ForceKeepsGoals}
 use Rattle.sf_sym.specs.Lemmas.AtomLists.{at-all, at-append, atoms-out, without-any}
 use Rattle.sf_sym.specs.Lemmas.Parts.{atoms-located, located-apart, seg_along-located, tree_along-located}
 use Rattle.sf_sym.specs.Lemmas.States.{holds-parts}
 use Rattle.sf_sym.specs.Lemmas.Terms.{term-constant_no_location}
-use Rattle.sf_sym.specs.Lemmas.TwoHeaps.{equal_terms_may_be_assumed, in-at}
+use Rattle.sf_sym.specs.Lemmas.TwoHeaps.{in-at}
 use Rattle.sf_sym.specs.Below.{AllInAtom, IsBelow}
 use Rattle.sf_sym.specs.Cells.{atom_at, without}
 use Rattle.sf_sym.specs.declared.atom.Atom.{Atom}
@@ -30,7 +30,7 @@ use Rattle.sf_sym.specs.Equalities.{assumed_equal}
 use Rattle.sf_sym.specs.Goal.{Goal}
 use Rattle.sf_sym.specs.Holds.{term_value, AtomHolds}
 use Rattle.sf_sym.specs.HoldsIn.{HoldsIn}
-use Rattle.sf_sym.specs.Laws.{EqualTermsMayBeAssumed, IsLocationIn, Kept}
+use Rattle.sf_sym.specs.Laws.{HoldsAsBefore, IsLocationIn, KeptWith}
 use Rattle.sf_sym.specs.Tests.{allocated, allocates, is_constant, is_left_out, parts, same_term}
 
 -- a segment or tree whose ends have different values has a cell at its root
@@ -114,7 +114,7 @@ forced-same w goal e free taken a x both h at is_ends forced =
     ]
 
 pub force_keeps_goals : ForceKeepsGoals
-unfolding ForceKeepsGoals EqualTermsMayBeAssumed
+unfolding ForceKeepsGoals
 force_keeps_goals a goal left below row =
     option_and_then_some
     (λ (e : Term × Term).
@@ -128,15 +128,14 @@ force_keeps_goals a goal left below row =
     go : (both : Term × Term) (x : Atom) → atom_at goal.state.atoms a ≡ Some x → ends x ≡ Some both
         → (b : Bool)
         → (not (same_term both.0 both.1) && (is_constant both.0 || allocated goal.state both.0 (Some a))) ≡ b
-        → cond b (Some (assumed_equal both.0 both.1 goal ∷ [])) None ≡ Some left → Kept goal left
+        → cond b (Some (assumed_equal both.0 both.1 goal ∷ [])) None ≡ Some left → KeptWith goal left HoldsAsBefore
     go both x at is_ends true i e =
         let b = ends-below goal.state.next_sym x both is_ends
         (at-all (AllInAtom (IsBelow goal.state.next_sym)) goal.state.atoms a x at below.state.atoms) in
-        kept-one goal (assumed_equal both.0 both.1 goal) left e
+        kept-one HoldsAsBefore goal (assumed_equal both.0 both.1 goal) left e
         (follows-equal both.0 both.1 goal below b.0 b.1)
-        (λ w f free taken h. still-same w goal (assumed_equal both.0 both.1 goal) f free taken
-        (equal_terms_may_be_assumed w both.0 both.1 goal f free taken
+        (λ w f free taken h. before-equal w both.0 both.1 goal f free taken
         (forced-same w goal f free taken a x both h at is_ends
         (and-right (not (same_term both.0 both.1))
-        (is_constant both.0 || allocated goal.state both.0 (Some a)) i)) h))
+        (is_constant both.0 || allocated goal.state both.0 (Some a)) i)) h)
     go both x at is_ends false i e = absurd (cc)

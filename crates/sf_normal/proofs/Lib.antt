@@ -1,4 +1,3 @@
-pub mod Keeping
 pub mod AbsurdStates
 pub mod Dropping
 pub mod Forcing

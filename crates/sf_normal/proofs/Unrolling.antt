@@ -12,7 +12,7 @@ use Rattle.sf_base.specs.declared.value.Value.TheVariants.{Loc as loc}
 use Rattle.sf_base.specs.HeapStore.{Heap, ◌⋆◌}
 use Rattle.sf_core.proofs.Assertions.Segments.{seg-head}
 use Rattle.sf_core.proofs.Assertions.Trees.{tree-root}
-use Rattle.sf_normal.proofs.Keeping.{kept-one}
+use Rattle.sf_sym.specs.Lemmas.Keeping.{before-still, kept-one}
 use Rattle.sf_normal.specs.Knowledge.{unroll_one, unrolled_segment, unrolled_tree}
 use Rattle.sf_normal.specs.Laws.{UnrollKeepsGoals}
 use Rattle.sf_sym.specs.Lemmas.AtomLists.{at-all, atoms-one_more, atoms-out}
@@ -31,7 +31,7 @@ use Rattle.sf_sym.specs.Fields.{put_term}
 use Rattle.sf_sym.specs.Goal.{Goal, at_state}
 use Rattle.sf_sym.specs.Holds.{term_value, SegAlong, TreeAlong, AtomHolds}
 use Rattle.sf_sym.specs.HoldsIn.{HoldsIn}
-use Rattle.sf_sym.specs.Laws.{Follows, HoldsStill, Kept}
+use Rattle.sf_sym.specs.Laws.{Follows, HoldsAsBefore, HoldsStill, KeptWith}
 use Rattle.sf_sym.specs.State.{State, with_symbols}
 use Rattle.sf_sym.specs.Tests.{differs}
 
@@ -76,6 +76,7 @@ segment-follows goal a t u next below b c =
       };
       symbols = omega arith;
       links = refl;
+      formed = λ f. f;
     }
 
 segment-holds : (goal : Goal) (a : ℕ) (t u : Term) (next : FieldId) → AreBelow goal
@@ -124,13 +125,14 @@ segment_kept : (goal : Goal) (a : ℕ) (t u : Term) (left : List Goal) → AreBe
     →
     cond d (option_map (λ s. at_state goal s ∷ []) (unrolled_segment o t u (state_without goal a))) None
     ≡ Some left
-    → Kept goal left
+    → KeptWith goal left HoldsAsBefore
 segment_kept goal a t u left below at false d o tl e = absurd (cc)
 segment_kept goal a t u left below at true d None tl e = absurd (cc)
 segment_kept goal a t u left below at true d (Some next) tl e =
     let b = at-all (AllInAtom (IsBelow goal.state.next_sym)) goal.state.atoms a (Ls t u) at below.state.atoms in
-    kept-one goal (segment_child goal a t u next) left e (segment-follows goal a t u next below b.0 b.1)
-    (segment-holds goal a t u next below b.0 b.1 at tl d)
+    kept-one HoldsAsBefore goal (segment_child goal a t u next) left e (segment-follows goal a t u next below b.0 b.1)
+    (λ w e free taken h. before-still w goal (segment_child goal a t u next).state e free taken
+    (segment-holds goal a t u next below b.0 b.1 at tl d w e free taken h))
 
 -- the goal that is left for a tree
 tree-follows : (goal : Goal) (a : ℕ) (t : Term) (left right : FieldId) → AreBelow goal
@@ -159,6 +161,7 @@ tree-follows goal a t left right below b =
       };
       symbols = omega arith;
       links = refl;
+      formed = λ f. f;
     }
 
 tree-holds : (goal : Goal) (a : ℕ) (t : Term) (left right : FieldId) → AreBelow goal
@@ -224,21 +227,22 @@ tree_kept : (goal : Goal) (a : ℕ) (t : Term) (left : List Goal) → AreBelow g
     →
     cond d (option_map (λ s. at_state goal s ∷ []) (unrolled_tree l r t (state_without goal a))) None
     ≡ Some left
-    → Kept goal left
+    → KeptWith goal left HoldsAsBefore
 tree_kept goal a t left below at false d l r is_l is_r e = absurd (cc)
 tree_kept goal a t left below at true d None r is_l is_r e = absurd (cc)
 tree_kept goal a t left below at true d (Some l) None is_l is_r e = absurd (cc)
 tree_kept goal a t left below at true d (Some l) (Some r) is_l is_r e =
     let b = at-all (AllInAtom (IsBelow goal.state.next_sym)) goal.state.atoms a (Tree t) at below.state.atoms in
-    kept-one goal (tree_child goal a t l r) left e (tree-follows goal a t l r below b)
-    (tree-holds goal a t l r below b at is_l is_r d)
+    kept-one HoldsAsBefore goal (tree_child goal a t l r) left e (tree-follows goal a t l r below b)
+    (λ w e free taken h. before-still w goal (tree_child goal a t l r).state e free taken
+    (tree-holds goal a t l r below b at is_l is_r d w e free taken h))
 
 pub unroll_keeps_goals : UnrollKeepsGoals
 unfolding UnrollKeepsGoals
 unroll_keeps_goals a goal left below row =
     option_and_then_some (unroll_one goal a) (atom_at goal.state.atoms a) left row go
   where
-    go : (x : Atom) → atom_at goal.state.atoms a ≡ Some x → unroll_one goal a x ≡ Some left → Kept goal left
+    go : (x : Atom) → atom_at goal.state.atoms a ≡ Some x → unroll_one goal a x ≡ Some left → KeptWith goal left HoldsAsBefore
     go (Points t fields) at e = absurd (cc)
     go (Ls t u) at e =
         segment_kept goal a t u left below at (differs goal.state t u) refl goal.state.links.tl refl e

@@ -1,2 +1,3 @@
 pub mod Add
+pub mod Laws
 pub mod Internal

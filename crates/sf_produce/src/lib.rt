@@ -3,8 +3,10 @@
 //!
 //! - `operands`: operands that are met, and what existentials get by that.
 //! - `rows`: the row of what is assumed.
+//! - `laws`: what it keeps.
 #![tactic(auto)]
 
+pub mod laws;
 mod operands;
 mod rows;
 

@@ -1,1 +1,5 @@
 pub mod ProofText
+pub mod Words
+pub mod Reading
+pub mod Laws
+pub mod Internal

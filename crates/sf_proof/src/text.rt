@@ -11,8 +11,8 @@ use sf_core::Program;
 use sf_sym::{Tag, Term};
 use std::alloc::{AllocError, Global};
 
-/// The text of a proof of the program by these tags. A `procedure` line of a procedure that isn't there has
-/// no name. An `Err` means out of memory.
+/// The text of a proof of the program by these tags. A `procedure` line of a procedure that isn't
+/// there has no name. An `Err` means out of memory.
 pub fn proof_text(alloc: Global, p: &Program, tags: &[Tag]) -> Result<Vec<u8>, AllocError>
     ensures { IfOk result (λ text. text.items ≡ proof_text (program_of p.now) tags.now) }
 {
@@ -42,7 +42,7 @@ fn put_atom(text: &mut Vec<u8>, tag: &str, atom: u32) -> Result<(), AllocError>
 }
 
 /// Appends a term. An `Err` means out of memory.
-fn put_term(text: &mut Vec<u8>, t: Term) -> Result<(), AllocError>
+pub fn put_term(text: &mut Vec<u8>, t: Term) -> Result<(), AllocError>
     ensures { Appends result text.old.items text.new.items (term_text t) }
 {
     match t {

@@ -2,6 +2,7 @@
 -- Names: `test-LAW` of a command's test.
 use Rattle.std.specs.List.{AllByRecursion}
 use Rattle.std.proofs.Common.{◌≡◌, ◌↔◌, ℕ, Bool, true, false, cond, Option, Some, None, List, ◌++◌, refl, sym, ◌∙◌, arith}
+use Rattle.sf_base.proofs.Elements.{all_by-append}
 use Rattle.sf_base.proofs.HeapSplits.{star-drop_right}
 use Rattle.sf_base.specs.declared.ids.Var.{Var}
 use Rattle.sf_base.specs.declared.place.Place.{Place}
@@ -14,7 +15,9 @@ use Rattle.sf_core.specs.declared.command.Expr.{Expr}
 use Rattle.sf_core.specs.Program.Syntax.{Block, done, then, if}
 use Rattle.sf_rules.proofs.CommandLaws.{beside-none, executed-one}
 use Rattle.sf_rules.specs.LawsOfCommands.{before_command, Executed, IsTestKnown, ThenFollowsTest, ElseFollowsTest}
+use Rattle.sf_sym.specs.Formed.{ItemFormed}
 use Rattle.sf_sym.specs.Lemmas.Decided.{decided-false, decided-true}
+use Rattle.sf_sym.specs.Lemmas.Formed.{formed-run}
 use Rattle.sf_sym.specs.Lemmas.KnownValues.{known-value}
 use Rattle.sf_sym.specs.Below.{AllInItem, IsBelow}
 use Rattle.sf_sym.specs.Decided.{command_test, is_false, is_true}
@@ -76,6 +79,7 @@ module _ (s : State) (rest : List Item) (p : Place) (test : Test Expr) (this tha
     };
     symbols = omega arith;
     links = refl;
+    formed = λ f. all_by-append (ItemFormed s.links) (to_run c) rest (formed-run s.links c) f.1;
   }
 
   branch-holds : (w : ℕ → Value) (e : Var → Option Value) (free taken : Heap)

@@ -12,12 +12,12 @@ use Rattle.sf_core.specs.declared.command.Command.{Command as CodeCommand, If as
 use Rattle.sf_core.specs.declared.command.Command.TheVariants.{rolls-If as choice-rolls}
 use Rattle.sf_core.specs.declared.command.Command.TheFolds.{fold-roll-Command}
 use Rattle.sf_core.specs.declared.command.Expr.{Expr}
-use Rattle.sf_core.specs.Program.Syntax.{Command, Conjunct, Conjuncts, Level, level, none, also, choose, if}
+use Rattle.sf_core.specs.Program.Syntax.{Command, Conjunct, Conjuncts, Level, level, also, choose, if}
 use Rattle.sf_core.specs.Program.View.{block, command_of, command_step, conjunct_of, conjuncts, level_of, conjunct_step, level_step}
 use Rattle.sf_sym.specs.Decided.{command_test, is_decided, test_of_terms}
 use Rattle.sf_sym.specs.Goal.{Item, one_goal, run, to_run}
 use Rattle.sf_sym.specs.declared.term.Term.{Term}
-use Rattle.sf_sym.specs.Pending.{Given, Pending, before, conjuncts_of, pending_of, with_branch}
+use Rattle.sf_sym.specs.Pending.{Given, before, conjuncts_of, pending_of, with_branch}
 use Rattle.sf_sym.specs.State.{State, term}
 use Rattle.sf_rules.specs.Rows.Branches.{branch_row, chosen}
 use Rattle.sf_rules.proofs.Items.{to_run_of}

@@ -2,9 +2,9 @@
 -- Names: `COMMAND_follows_event` is the law of that command's row.
 use Rattle.std.specs.List.{AllByRecursion}
 use Rattle.std.specs.Option.{option_map, option_and_then}
-use Rattle.std.proofs.Common.{◌≡◌, ℕ, ◌+◌, ◌==◌, Bool, true, false, cond, Option, Some, None, List, [], ◌∷◌, refl, sym, ap, ◌∙◌, subst, inl, arith}
+use Rattle.std.proofs.Common.{◌≡◌, ℕ, ◌+◌, ◌==◌, Bool, true, false, cond, Option, Some, None, List, [], ◌∷◌, refl, sym, ◌∙◌, subst, inl, arith}
 use Rattle.std.proofs.lemmas.Option.{same_Some}
-use Rattle.sf_base.proofs.HeapSplits.{at-same, cell-change_left, cell-new_left, one-in, one-put, one-put_cell, one-remove_cell, one-single, star-drop_right, star-empty_right, star-map_right, star-of}
+use Rattle.sf_base.proofs.HeapSplits.{cell-change_left, cell-new_left, one-in, one-put, one-put_cell, one-remove_cell, one-single, star-drop_right, star-empty_right, star-map_right, star-of}
 use Rattle.sf_base.proofs.MapSplits.{splits-lacks_whole, splits-of_empty_left, splits-union}
 use Rattle.sf_base.specs.declared.ids.FieldId.{FieldId}
 use Rattle.sf_base.specs.declared.ids.Var.{Var}
@@ -142,6 +142,7 @@ assign_follows_event s rest left p x value ready row =
       };
       symbols = omega arith;
       links = refl;
+      formed = λ f. f.1;
     })
     (λ w e free taken h known. record {
       values = w;
@@ -185,6 +186,7 @@ dispose_follows_event s rest left p root a ready row = go (cell_at s.atoms a (te
           };
           symbols = omega arith;
           links = refl;
+          formed = λ f. f.1;
         })
         (λ w e free taken h known.
         let o = cell-out w s (dispose p root) rest e free taken a (term s.vars root) fields h found in
@@ -254,6 +256,7 @@ mutate_follows_event s rest left p root field value a ready row =
           };
           symbols = omega arith;
           links = refl;
+          formed = λ f. f.1;
         })
         (λ w e free taken h known also_known.
         let o = cell-out w s (mutate p root field value) rest e free taken a t fields h found in
@@ -306,6 +309,7 @@ new_follows_event s rest left p x ready row =
       };
       symbols = omega arith;
       links = refl;
+      formed = λ f. f.1;
     })
     (λ w e free taken h location cell free_lacks taken_lacks.
     let v = with_value n (loc location) w in
@@ -365,6 +369,7 @@ look-known s rest left p x root field a ready fields found u is e =
       };
       symbols = omega arith;
       links = refl;
+      formed = λ f. f.1;
     })
     (λ w e free taken h known.
     let o = cell-out w s (look_up p x root field) rest e free taken a t fields h found in
@@ -424,6 +429,7 @@ look-fresh s rest left p x root field a ready fields found e =
       };
       symbols = omega arith;
       links = refl;
+      formed = λ f. f.1;
     })
     (λ w e free taken h known.
     let o = cell-out w s (look_up p x root field) rest e free taken a t fields h found in

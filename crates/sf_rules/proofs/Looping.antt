@@ -1,5 +1,5 @@
 -- What the rows of loops and of ends leave, by what the code puts before what is left to do.
-use Rattle.std.proofs.Common.{◌≡◌, Bool, true, cond, nat_lt, List, [], ◌∷◌, ◌++◌, length, Option, Some, None, Vec, Global, map, refl, sym, ap, ◌∙◌}
+use Rattle.std.proofs.Common.{◌≡◌, Bool, true, cond, nat_lt, List, [], ◌∷◌, ◌++◌, length, Some, None, Vec, Global, map, sym, ap, ◌∙◌}
 use Rattle.std.specs.Borrow.{Bor}
 use Rattle.sf_base.specs.declared.ids.Var.{Var}
 use Rattle.sf_base.specs.declared.place.Place.{Place}

@@ -29,6 +29,7 @@ use Rattle.sf_rules.specs.Few.{if_few}
 use Rattle.sf_rules.specs.Rows.Add as added
 use Rattle.sf_rules.specs.Rows.Take as taken
 use Rattle.sf_consume.specs.Subtract as subtract
+use Rattle.sf_consume.specs.Wants.{still_wanted, wanting}
 use Rattle.sf_rules.specs.Table.{add_first, add_row, cell_first, cell_row, end_row, fits, has_numbers, has_term, mutate_one, mutate_row, new_fields, one_goal, return_row, row_of}
 
 -- fields that all have terms are met without a new symbol
@@ -128,7 +129,7 @@ module _ (s : State) (p : Place) (bindings : List (Option Term)) (cs : Conjuncts
     todo = unless_none cs (take p (record { conjuncts = cs; bindings = bindings }) names) ++ rest
 
     abbrev left_by : subtract.Want → Option (List Goal)
-    left_by w = goals.one_goal w.state (goals.taking p (taken.still w) names ++ rest)
+    left_by w = goals.one_goal w.state (goals.taking p (still_wanted w) names ++ rest)
 
     abbrev handed_by : Term × subtract.Fit → subtract.Want
     handed_by r = subtract.removed (subtract.handed_cell s r.0 a r.1) r.1.bindings cs
@@ -167,11 +168,11 @@ module _ (s : State) (p : Place) (bindings : List (Option Term)) (cs : Conjuncts
 
     cell-whole : (c : Conjunct Term)
         → cell_first s p (also c cs) bindings names rest a ≡ Some left
-        → taken.take_row (subtract.cell_step a) s p (record { conjuncts = also c cs; bindings = bindings }) names rest
+        → taken.subtract_row (t.Cell a) s p (record { conjuncts = also c cs; bindings = bindings }) names rest
         ≡ Some left
     cell-whole (holds q x) e = absurd (cc)
     cell-whole (points q (Known root) ws) e =
-        ap (λ n. if_few n (option_and_then left_by (subtract.stepped (subtract.cell_step a) (taken.wanting s
+        ap (λ n. if_few n (option_and_then left_by (subtract.subtracted (t.Cell a) (wanting s
         (record { conjuncts = also (points q (Known root) ws) cs; bindings = bindings })))))
         (cell-few root ws (cell_at s.atoms a root) e)
         ∙ cell-fields root ws (cell_at s.atoms a root) e
@@ -263,13 +264,13 @@ add-item s (end p ∷ rest) left e = absurd (cc)
 cell-conjuncts : (s : State) (p : Place) (bindings : List (Option Term)) (names : List (List ℕ))
     (cs : Conjuncts Term) (rest : List Item) (a : ℕ) (left : List Goal)
     → cell_first s p cs bindings names rest a ≡ Some left
-    → taken.take_row (subtract.cell_step a) s p (record { conjuncts = cs; bindings = bindings }) names rest
+    → taken.subtract_row (t.Cell a) s p (record { conjuncts = cs; bindings = bindings }) names rest
     ≡ Some left
 cell-conjuncts s p bindings names none rest a left e = absurd (cc)
 cell-conjuncts s p bindings names (also c cs) rest a left e = cell-whole s p bindings cs rest left names a c e
 
 cell-item : (s : State) (todo : List Item) (a : ℕ) (left : List Goal) → cell_row s todo a ≡ Some left
-    → front.at_take (taken.take_row (subtract.cell_step a) s) todo ≡ Some left
+    → front.at_take (taken.subtract_row (t.Cell a) s) todo ≡ Some left
 cell-item s [] a left e = absurd (cc)
 cell-item s (take p want names ∷ rest) a left e =
     cell-conjuncts s p want.bindings names want.conjuncts rest a left e

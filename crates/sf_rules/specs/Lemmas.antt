@@ -1,7 +1,7 @@
--- Lemmas on proofs, cells, conjuncts and levels that the proofs of the crates above cite. Each states
+-- Lemmas on proofs, rows, cells, conjuncts and levels that the proofs of the crates above cite. Each states
 -- what it says; none is a definition.
 -- Ordinary: proofs are finite trees, and those of a list of goals are those of its parts.
-use Rattle.std.proofs.Common.{◌≡◌, List, [], ◌∷◌, ◌++◌, map, reverse, refl, sym, ap, ◌∙◌, subst, append_assoc}
+use Rattle.std.proofs.Common.{◌≡◌, ℕ, Bool, true, false, cond, nat_lt, Option, Some, None, List, [], ◌∷◌, ◌++◌, map, reverse, refl, sym, ap, ◌∙◌, subst, append_assoc}
 use Rattle.std.proofs.lemmas.List.{reverse-append}
 use Rattle.sf_core.specs.declared.assertion.Conjunct.{Conjunct as CodeConjunct}
 use Rattle.sf_core.specs.declared.assertion.Conjunct.TheFolds.{fold_out-Level}
@@ -12,6 +12,7 @@ use Rattle.sf_core.specs.Program.View.{conjunct_of, conjuncts, level_of, conjunc
 use Rattle.sf_sym.specs.declared.term.Term.{Term}
 use Rattle.sf_sym.specs.declared.tag.Tag.{Tag}
 use Rattle.sf_sym.specs.Goal.{Goal}
+use Rattle.sf_rules.specs.Few.{if_few}
 use Rattle.sf_rules.specs.Proves.{Proof, Proofs, no_more, and, preorder, preorders}
 
 -- proofs of equal goals have the same tags
@@ -68,3 +69,11 @@ pub level_of-out : (l : CodeLevel Expr)
     → level_of {E = Expr} l
     ≡ level (out-Level Expr l).made (conjuncts (map conjunct_of (out-Level Expr l).conjuncts.items))
 level_of-out l = fold_out-Level Expr (Conjunct Expr) (Level Expr) conjunct_step level_step l
+
+-- a row that needs few new symbols
+pub few-left : (count : ℕ) (o : Option (List Goal)) (left : List Goal) → if_few count o ≡ Some left → o ≡ Some left
+few-left count o left e = go (nat_lt count 1024) e
+  where
+    go : (b : Bool) → cond b o None ≡ Some left → o ≡ Some left
+    go true e = e
+    go false e = absurd (cc)

@@ -4,9 +4,14 @@ pub mod Built
 pub mod Internal
 pub mod Lemmas
 pub mod Few
+pub mod First
+pub mod Proving
 pub mod Setting
 pub mod Words
 pub mod Rows
 pub mod Laws
 pub mod Examples
 pub mod LawsOfCommands
+pub mod LawsOfConjuncts
+pub mod RowCases
+pub mod LawsOfSettings

@@ -1,15 +1,26 @@
 //! What a tag leaves of a goal: the whole table.
 
-ghost use Rattle.std.specs.Prelude.{◌≡◌, IfErr, IfOk, IsTrue, None, Some};
+ghost use Rattle.std.specs.Prelude.{◌≡◌, ◌∷◌, [], IfErr, IfOk, IsTrue, None, Some, cond};
 ghost use Rattle.std.specs.Option.{option_map};
+ghost use Rattle.sf_precise.specs.Order.{IsOrdering};
 ghost use Rattle.sf_rules.specs.Internal.Children.{children_of};
 ghost use Rattle.sf_rules.specs.Rows.Whole.{row, row_of};
 ghost use Rattle.sf_rules.specs.Setting.{Setting, setting_of};
 ghost use Rattle.sf_rules.specs.Table.{has_numbers};
-ghost use Rattle.sf_precise.specs.Order.{IsOrdering};
+ghost use Rattle.sf_rules.specs.declared.children.RuleFault.TheVariants.{NotARule};
 ghost use Rattle.sf_sym.specs.Goal.{goal_of};
 
-use sf_sym::Goal;
+use crate::branches::branch;
+use crate::calls::{call, fork, give};
+use crate::commands::{assign, dispose, look, mutate, new};
+use crate::loops::{again, around, begin_loop, end, return_from};
+use crate::regions::{enter, exit};
+use crate::rules::has_numbers;
+use crate::subtracting::{assume, show};
+use sf_normal::{absurd, drop, force, split, unroll};
+use sf_precise::Arranged;
+use sf_sym::{Goal, Tag};
+use std::alloc::{AllocError, Global};
 
 /// What a row leaves to be proved.
 #[derive(Drop)]
@@ -20,4 +31,136 @@ pub enum Children<'a> {
     One(Goal<'a>),
     /// The first of these, and then the second.
     Two(Goal<'a>, Goal<'a>),
+}
+
+/// Why a tag leaves nothing of a goal.
+#[derive(Clone, Copy, Debug)]
+pub enum RuleFault {
+    /// The tag has no row at the goal.
+    NotARule,
+    /// Out of memory.
+    OutOfMemory,
+}
+
+impl From<AllocError> for RuleFault {
+    ghost use Rattle.std.specs.Prelude.{◌≡◌};
+    ghost use Rattle.sf_rules.specs.declared.children.RuleFault.TheVariants.{OutOfMemory};
+
+    ghost from_gives = { λ _ e. e ≡ OutOfMemory };
+
+    fn from(_error: AllocError) -> RuleFault {
+        RuleFault::OutOfMemory
+    }
+}
+
+/// What a tag leaves of a goal, which stays as it is. `NotARule` comes exactly where the tag has no
+/// row there.
+pub fn children_by<'a>(
+    alloc: Global,
+    arranged: &'a Arranged,
+    goal: &Goal<'a>,
+    tag: Tag,
+) -> Result<Children<'a>, RuleFault>
+    ghost d: { Setting }
+    requires ordered { IsOrdering d.ordered }
+    requires setting { d ≡ setting_of d.ordered arranged.now }
+    ensures ok { IfOk result (λ left. row d (goal_of goal.now) tag ≡ Some (children_of left)) }
+    ensures err { IfErr result (λ e. e ≡ NotARule → row d (goal_of goal.now) tag ≡ None) }
+{
+    let goal = goal.copy(alloc)?;
+    apply_row(alloc, arranged, goal, tag)
+}
+
+/// The same, of a goal that is given up: nothing is copied where one goal is left.
+pub fn apply_row<'a>(
+    alloc: Global,
+    arranged: &'a Arranged,
+    goal: Goal<'a>,
+    tag: Tag,
+) -> Result<Children<'a>, RuleFault>
+    ghost d: { Setting }
+    requires ordered { IsOrdering d.ordered }
+    requires setting { d ≡ setting_of d.ordered arranged.now }
+    ensures ok { IfOk result (λ left. row d (goal_of goal.entry) tag ≡ Some (children_of left)) }
+    ensures err { IfErr result (λ e. e ≡ NotARule → row d (goal_of goal.entry) tag ≡ None) }
+{
+    if !has_numbers(&goal.state) {
+        return Err(RuleFault::NotARule);
+    }
+    match row_of(alloc, arranged, goal, tag)? {
+        Some(left) => Ok(left),
+        None => Err(RuleFault::NotARule),
+    }
+}
+
+/// What the tag's row leaves, where numbers can't run out. `None` exactly where there is no row.
+fn row_of<'a>(
+    alloc: Global,
+    arranged: &'a Arranged,
+    goal: Goal<'a>,
+    tag: Tag,
+) -> Result<Option<Children<'a>>, AllocError>
+    ghost d: { Setting }
+    requires ordered { IsOrdering d.ordered }
+    requires setting { d ≡ setting_of d.ordered arranged.now }
+    requires numbers { IsTrue (has_numbers goal.state) }
+    ensures { IfOk result (λ left. option_map children_of left ≡ row_of d (goal_of goal.entry) tag) }
+{
+    match tag {
+        Tag::Procedure(_) => Ok(None),
+        Tag::Absurd => Ok(closed(absurd(goal))),
+        Tag::Drop(a) => Ok(one(drop(goal, a))),
+        Tag::Force(a) => Ok(one(force(goal, a)?)),
+        Tag::Split(t, u) => Ok(two(split(alloc, goal, t, u)?)),
+        Tag::Unroll(a) => Ok(one(unroll(alloc, goal, a)?)),
+        Tag::Assign => assign(goal),
+        Tag::Look(a) => look(goal, a),
+        Tag::Mutate(a) => mutate(goal, a),
+        Tag::New => new(alloc, goal),
+        Tag::Dispose(a) => dispose(goal, a),
+        Tag::Then => branch(true, goal),
+        Tag::Else => branch(false, goal),
+        Tag::Loop => begin_loop(alloc, goal),
+        Tag::Around => around(alloc, &arranged.calls, goal),
+        Tag::Again => again(alloc, goal),
+        Tag::Call => call(alloc, arranged, goal),
+        Tag::Fork => fork(alloc, arranged, goal),
+        Tag::Enter => enter(alloc, arranged, goal),
+        Tag::Exit => exit(alloc, arranged, goal),
+        Tag::Return => return_from(alloc, goal),
+        Tag::Give => give(goal),
+        Tag::End => end(goal),
+        Tag::Add => assume(alloc, goal),
+        Tag::Bind | Tag::Same | Tag::Apart | Tag::Cell(_) => show(alloc, goal, tag),
+        Tag::Empty | Tag::Exact(_) | Tag::Head(_) => show(alloc, goal, tag),
+        Tag::Join(_) | Tag::Node(_) => show(alloc, goal, tag),
+    }
+}
+
+/// No goal, where the goal is proved.
+fn closed<'a>(proved: bool) -> Option<Children<'a>>
+    ensures { option_map children_of result ≡ cond proved (Some []) None }
+{
+    if proved { Some(Children::None) } else { None }
+}
+
+/// One goal, if one is left.
+fn one<'a>(left: Option<Goal<'a>>) -> Option<Children<'a>>
+    ensures { option_map children_of result ≡ option_map (λ g. goal_of g ∷ []) left.entry }
+{
+    match left {
+        Some(goal) => Some(Children::One(goal)),
+        None => None,
+    }
+}
+
+/// Two goals, if they are left.
+fn two<'a>(left: Option<(Goal<'a>, Goal<'a>)>) -> Option<Children<'a>>
+    ensures { option_map children_of result
+        ≡ option_map (λ both. goal_of both.0 ∷ goal_of both.1 ∷ []) left.entry }
+{
+    match left {
+        Some((first, second)) => Some(Children::Two(first, second)),
+        None => None,
+    }
 }

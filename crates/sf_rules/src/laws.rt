@@ -1,13 +1,29 @@
-//! What the table has to do with the whole table of rules, and what the rows of commands do to what a goal
-//! stands for. Each function is a law: calling it gives its fact to the caller's proof, and does nothing.
+//! What the table has to do with the whole table of rules, and what the rows of commands and of conjuncts do to what a
+//! goal stands for. Each function is a law: calling it gives its fact to the caller's proof, and does nothing.
 
 ghost use Rattle.sf_rules.specs.Laws.{BuiltRowsAreRows};
+ghost use Rattle.sf_rules.specs.LawsOfSettings.{ArrangedHasSetting, SettingExists, SettingIsUnique};
+ghost use Rattle.sf_rules.specs.RowCases.{RowsHaveCases};
+ghost use Rattle.sf_rules.specs.LawsOfConjuncts.{AssumeKeepsGoals, AssumedBranchKeepsGoals, ShownBranchLeavesRest, SubtractionLeavesRest};
 ghost use Rattle.sf_rules.specs.LawsOfCommands.{AssignFollowsEvent, DisposeFollowsEvent, ElseFollowsTest, LookFollowsEvent, MutateFollowsEvent, NewFollowsEvent, ThenFollowsTest};
+
+use sf_calls::laws::{sets_exist, sets_from_truncation};
+use sf_consume::laws::{branch_keeps_wants, subtraction_keeps_wants};
+use sf_precise::laws::{
+    determined_has_order, never_taken_is_undetermined, ordering_exists, undetermined_has_place,
+};
+use sf_produce::laws::add_keeps_goals;
 
 /// Each row that there is code for is a row of the whole table, whatever the program is.
 #[tactic(auto, using(crate::proofs::WholeTable::built_rows_are_rows))]
 pub fn built_rows_are_rows()
     ensures { BuiltRowsAreRows }
+{}
+
+/// Each row of the whole table has something in front and leaves goals as one of its cases says.
+#[tactic(auto, using(crate::proofs::RowInversion::rows_have_cases))]
+pub fn rows_have_cases()
+    ensures { RowsHaveCases }
 {}
 
 /// After an assignment the variable has the value of the expression.
@@ -51,3 +67,60 @@ pub fn then_follows_test()
 pub fn else_follows_test()
     ensures { ElseFollowsTest }
 {}
+
+/// Wherever a goal holds, it holds with its first conjunct assumed.
+#[tactic(auto, using(crate::proofs::ConjunctLaws::assume_keeps_goals))]
+pub fn assume_keeps_goals()
+    ensures { AssumeKeepsGoals }
+{
+    add_keeps_goals();
+}
+
+/// Wherever a goal holds with a choice to assume first, it holds with the branch in its place that its test decides.
+#[tactic(auto, using(crate::proofs::ConjunctLaws::assumed_branch_keeps_goals))]
+pub fn assumed_branch_keeps_goals()
+    ensures { AssumedBranchKeepsGoals }
+{}
+
+/// What a row of subtraction hands over is what it takes off what is wanted.
+#[tactic(auto, using(crate::proofs::ConjunctLaws::subtraction_leaves_rest))]
+pub fn subtraction_leaves_rest()
+    ensures { SubtractionLeavesRest }
+{
+    subtraction_keeps_wants();
+}
+
+/// Where a choice is to be shown first, the branch that its test decides is wanted in its place.
+#[tactic(auto, using(crate::proofs::ConjunctLaws::shown_branch_leaves_rest))]
+pub fn shown_branch_leaves_rest()
+    ensures { ShownBranchLeavesRest }
+{
+    branch_keeps_wants();
+}
+
+/// A program has one setting at most.
+#[tactic(auto, using(crate::proofs::Settings::setting_is_unique))]
+pub fn setting_is_unique()
+    ensures { SettingIsUnique }
+{
+    undetermined_has_place();
+    never_taken_is_undetermined();
+    determined_has_order();
+}
+
+/// A program that is in order has a setting.
+#[tactic(auto, using(crate::proofs::Settings::setting_exists))]
+pub fn setting_exists()
+    ensures { SettingExists }
+{
+    sets_exist();
+    ordering_exists();
+}
+
+/// What the code has arranged is a setting of its program.
+#[tactic(auto, using(crate::proofs::Settings::arranged_has_setting))]
+pub fn arranged_has_setting()
+    ensures { ArrangedHasSetting }
+{
+    sets_from_truncation();
+}

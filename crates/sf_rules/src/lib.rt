@@ -9,12 +9,14 @@
 //! - `commands`: the rows of commands that touch a variable or a cell.
 //! - `decided`: which tests a state decides.
 //! - `branches`: the rows of choices.
-//! - `calls`: the row of what was taken; those of calls and regions are definitions.
+//! - `calls`: the rows of calls, and of what was taken.
 //! - `loops`: the rows of loops and of ends.
+//! - `regions`: the rows of critical regions.
 //! - `subtracting`: the rows of what is assumed, and of what is to be shown.
 //! - `start`: the first goal of a procedure.
 //! - `rules`: the rows of the table.
-//! - `laws`: these rows are rows of the whole table; what the rows of commands keep.
+//! - `laws`: these rows are rows of the whole table; what is in front of each of its rows; what the rows of commands
+//!   and of conjuncts keep; that a program has one setting.
 //! - `examples`: examples of rows of the whole table.
 #![tactic(auto)]
 
@@ -28,6 +30,7 @@ pub mod examples;
 mod front;
 pub mod laws;
 mod loops;
+mod regions;
 mod rules;
 mod start;
 mod subtracting;
@@ -35,9 +38,9 @@ mod terms;
 mod words;
 
 pub use cells::{are_fitting, are_known, as_cell, known_term};
-pub use children::Children;
+pub use children::{Children, RuleFault, apply_row, children_by};
 pub use decided::{command_test, is_decided, test_of_terms};
 pub use laws::built_rows_are_rows;
 pub use rules::{Subgoals, apply, as_mutation, open_goals};
-pub use start::start_goal;
+pub use start::{first_goal, start_goal};
 pub use terms::term_of;

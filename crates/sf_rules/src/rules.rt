@@ -38,7 +38,7 @@ pub fn apply<'a>(
 }
 
 /// Whether new numbers can't run out.
-fn has_numbers(state: &State) -> bool
+pub(crate) fn has_numbers(state: &State) -> bool
     ensures { result ≡ has_numbers state.now }
 {
     state.next_sym() <= u32::MAX - 1023 && state.next_atom() <= u32::MAX - 1023

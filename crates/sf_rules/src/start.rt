@@ -1,15 +1,24 @@
 //! The first goal of a procedure.
 
-ghost use Rattle.std.specs.Prelude.{◌≡◌, ◌++◌, ◌-◌, ◌≤◌, ◌∷◌, [], IfOk};
+ghost use Rattle.std.specs.Prelude.{◌≡◌, ◌++◌, ◌-◌, ◌<◌, ◌≤◌, ◌^◌, ◌∷◌, [], All, AllPairs, IfOk, IfSome, get_or, length};
+ghost use Rattle.std.specs.List.{flat_map, slice_get};
+ghost use Rattle.sf_precise.specs.Order.{IsOrdering};
 ghost use Rattle.sf_core.specs.Program.Formed.{ProcedureWithin};
 ghost use Rattle.sf_core.specs.Program.View.{assertion_of, block_of, procedure_of};
 ghost use Rattle.sf_core.specs.Program.ProgramView.{program_of};
 ghost use Rattle.sf_sym.specs.Goal.{goal_of, return, to_run, todo_of};
+ghost use Rattle.sf_rules.specs.First.{first_goal as first_of, state_by, variables_of};
+ghost use Rattle.sf_calls.specs.Sets.{IsEarlierResource};
+ghost use Rattle.sf_rules.specs.Setting.{Setting, setting_of};
 ghost use Rattle.sf_rules.specs.Table.{first_goal, links_of, nils, symbols, to_add};
 
+use crate::regions::add_variables;
 use crate::terms::pending_assertion;
-use sf_base::Var;
+use crate::words::{Terms, with_assumed};
+use sf_base::{ProcId, ResId, Var};
+use sf_calls::laws::{held_resources_are_there, sets_from_truncation};
 use sf_core::{Links, Proc, Program};
+use sf_precise::Arranged;
 use sf_sym::{Goal, Item, State, Term, with_add};
 use std::alloc::{AllocError, Global};
 
@@ -25,6 +34,80 @@ pub fn start_goal<'a>(alloc: Global, p: &'a Program, f: &'a Proc) -> Result<Goal
         state: State::new(alloc, links_of(p), vars, parameters),
         todo,
     })
+}
+
+/// The first goal of the procedure of that number. There is such a procedure. An `Err` means out of
+/// memory.
+pub fn first_goal<'a>(
+    alloc: Global,
+    arranged: &'a Arranged,
+    f: ProcId,
+) -> Result<Goal<'a>, AllocError>
+    ghost d: { Setting }
+    requires ordered { IsOrdering d.ordered }
+    requires setting { d ≡ setting_of d.ordered arranged.now }
+    requires there { f.0 < length arranged.now.program.procedures.items }
+    ensures { IfOk result (λ first. IfSome (slice_get d.program.procedures f.0)
+        (λ g. goal_of first ≡ first_of d f g)) }
+{
+    let procedure = arranged.program.proc(f);
+    let state = first_state(alloc, arranged, f, procedure)?;
+    let mut todo = Vec::with_capacity(alloc, 3)?;
+    todo.push(Item::Return(procedure.end, &arranged.post(f).assertion))?;
+    todo.push(Item::Run(&procedure.body))?;
+    let terms = Terms::Of(state.vars());
+    let pre = &arranged.pre(f).assertion;
+    let todo = with_assumed(alloc, todo, procedure.place, terms, pre)?;
+    Ok(Goal { state, todo })
+}
+
+/// The first state of a procedure, which has that number.
+fn first_state(
+    alloc: Global,
+    arranged: &Arranged,
+    f: ProcId,
+    procedure: &Proc,
+) -> Result<State, AllocError>
+    requires there { f.0 < length arranged.now.program.procedures.items }
+    requires formed { ProcedureWithin (program_of arranged.now.program) (procedure_of procedure.now) }
+    ensures { IfOk result (λ state. state ≡ state_by (program_of arranged.now.program)
+        (get_or arranged.now.calls.holds f.0 []) (procedure_of procedure.now)) }
+{
+    let parameters = procedure.references + procedure.values;
+    let vars = first_vars(alloc, parameters, procedure.names.len() as u32)?;
+    let mut state = State::new(alloc, links_of(&arranged.program), vars, parameters);
+    state.set_fresh(&held_variables(alloc, arranged, f)?)?;
+    Ok(state)
+}
+
+/// The variables of the resources that the procedure holds, in file order: fewer than 2^20.
+fn held_variables(alloc: Global, arranged: &Arranged, f: ProcId) -> Result<Vec<Var>, AllocError>
+    requires { f.0 < length arranged.now.program.procedures.items }
+    ensures variables { IfOk result (λ xs. xs.items
+        ≡ flat_map (variables_of (program_of arranged.now.program)) (get_or arranged.now.calls.holds f.0 [])) }
+    ensures few { IfOk result (λ xs. length xs.items < 2 ^ 20) }
+{
+    sets_from_truncation();
+    held_resources_are_there();
+    variables_of_all(alloc, &arranged.program, arranged.calls.holds(f).as_slice())
+}
+
+/// The variables of those resources of the program, in their order: fewer than 2^20.
+fn variables_of_all(alloc: Global, p: &Program, rs: &[ResId]) -> Result<Vec<Var>, AllocError>
+    requires rising { AllPairs IsEarlierResource rs.now }
+    requires there { All (λ r. r.0 < length (program_of p.now).resources) rs.now }
+    ensures variables { IfOk result (λ xs. xs.items ≡ flat_map (variables_of (program_of p.now)) rs.now) }
+    ensures few { IfOk result (λ xs. length xs.items < 2 ^ 20) }
+{
+    let mut found = Vec::new(alloc);
+    let mut left = rs;
+    while let Some((r, rest)) = left.split_first() {
+        if let Some(resource) = p.resources.get(r.0 as usize) {
+            add_variables(*r, &resource.variables, &mut found)?;
+        }
+        left = rest;
+    }
+    Ok(found)
 }
 
 /// The fields that segments and trees go by.

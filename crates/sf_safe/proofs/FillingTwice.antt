@@ -22,7 +22,7 @@ use Rattle.sf_calls.specs.Breaks.{Breaks, BreaksAt, IsAgain}
 use Rattle.sf_calls.specs.Conditions.{Free, FreeIn, Mentions}
 use Rattle.sf_calls.specs.FirstBreach.{Conditions}
 use Rattle.sf_calls.specs.Outside.{OccursOutside}
-use Rattle.sf_calls.proofs.Sites.{at_one}
+use Rattle.sf_calls.specs.Lemmas.Sites.{at_one}
 use Rattle.sf_calls.specs.Reaches.{directly, through}
 use Rattle.sf_calls.proofs.Closing.{first_breach_is_broken}
 use Rattle.sf_core.specs.Assertions.Occurs.{VarOccursIn}

@@ -16,7 +16,7 @@ use Rattle.sf_base.specs.HeapStore.{Heap, IsEmpty, Slot, Splits}
 use Rattle.sf_base.proofs.MapSplits.{empty-holds, splits-assoc_right, splits-comm, splits-cross, splits-empty_right, splits-has_left}
 use Rattle.sf_base.proofs.StoreSplits.{resource-same}
 use Rattle.sf_calls.specs.Reaches.{directly}
-use Rattle.sf_calls.proofs.Within.{level_within}
+use Rattle.sf_calls.specs.Lemmas.Within.{level_within}
 use Rattle.sf_core.specs.declared.command.Expr.{Expr}
 use Rattle.sf_core.specs.Assertions.Occurs.{VarOccursIn}
 use Rattle.sf_core.specs.Assertions.Sat.{Sat}

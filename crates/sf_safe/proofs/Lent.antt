@@ -19,7 +19,7 @@ use Rattle.sf_calls.specs.Assigned.{MayChange}
 use Rattle.sf_calls.specs.Conditions.{Free}
 use Rattle.sf_calls.specs.Outside.{IsAmong}
 use Rattle.sf_calls.specs.Reaches.{directly}
-use Rattle.sf_calls.proofs.Within.{level_within}
+use Rattle.sf_calls.specs.Lemmas.Within.{level_within}
 use Rattle.sf_core.specs.declared.command.Occurrence.{Occurrence}
 use Rattle.sf_core.specs.Assertions.Occurs.{VarOccursIn}
 use Rattle.sf_core.specs.Assertions.Sat.{Sat, value}

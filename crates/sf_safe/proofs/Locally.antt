@@ -12,7 +12,7 @@ use Rattle.sf_base.specs.declared.value.Value.{Value}
 use Rattle.sf_base.specs.declared.value.Value.TheVariants.{Nil as nil, Loc as loc}
 use Rattle.sf_base.specs.HeapStore.{Slot, put_field, shared}
 use Rattle.sf_base.proofs.MapSplits.{splits-has_left, splits-has_right}
-use Rattle.sf_calls.proofs.Within.{level_within}
+use Rattle.sf_calls.specs.Lemmas.Within.{level_within}
 use Rattle.sf_core.specs.declared.command.Expr.{Expr}
 use Rattle.sf_core.specs.Assertions.Sat.{Sat}
 use Rattle.sf_core.specs.Machine.Config.{Item, command, evaluate, items, leave}

@@ -16,7 +16,7 @@ use Rattle.sf_base.specs.HeapStore.{Apart, Heap, IsEmpty, Slot, Splits, Store, o
 use Rattle.sf_base.proofs.MapSplits.{empty-is, map-same, only}
 use Rattle.sf_calls.specs.Conditions.{Free}
 use Rattle.sf_calls.specs.FirstBreach.{Conditions}
-use Rattle.sf_calls.proofs.Within.{level_within}
+use Rattle.sf_calls.specs.Lemmas.Within.{level_within}
 use Rattle.sf_core.specs.Assertions.Occurs.{VarOccursIn}
 use Rattle.sf_core.specs.Assertions.Sat.{Sat}
 use Rattle.sf_core.specs.Machine.Config.{Config, evaluate}

@@ -23,7 +23,7 @@ use Rattle.sf_calls.specs.FirstBreach.{Conditions}
 use Rattle.sf_calls.specs.Outside.{CallsIn, OccursOutside}
 use Rattle.sf_calls.specs.Reaches.{directly, through}
 use Rattle.sf_calls.proofs.Closing.{first_breach_is_broken}
-use Rattle.sf_calls.proofs.Sites.{among_at}
+use Rattle.sf_calls.specs.Lemmas.Sites.{among_at}
 
 -- what occurs at a command occurs in it itself, or in one of its calls
 occurs-at : (c : Command) (y : Occurrence) → Contains (occurrences_at c) y → OccursAt y c

@@ -16,7 +16,7 @@ use Rattle.sf_base.proofs.StoreSplits.{slot-same}
 use Rattle.sf_calls.specs.Conditions.{Calls, Free, FreeIn, Mentions}
 use Rattle.sf_calls.specs.Reaches.{directly, through}
 use Rattle.sf_calls.specs.Outside.{CallsIn, OccursOutside}
-use Rattle.sf_calls.proofs.Sites.{at_one}
+use Rattle.sf_calls.specs.Lemmas.Sites.{at_one}
 use Rattle.sf_core.specs.Assertions.Occurs.{VarOccursIn}
 use Rattle.sf_core.specs.Assertions.Sat.{Sat}
 use Rattle.sf_core.specs.Machine.Examples.{emp, one_in}

@@ -10,3 +10,6 @@ pub mod Choosing
 pub mod Judging
 pub mod Judged
 pub mod BuiltGoals
+pub mod Lowest
+pub mod Views
+pub mod Whole

@@ -3,3 +3,4 @@ pub mod Ends
 pub mod Laws
 pub mod Internal
 pub mod Strategy
+pub mod Whole

@@ -89,13 +89,14 @@ undecided_ends s x =
     option_and_then (λ e. cond (same_term e.0 e.1 || differs s e.0 e.1) None (Some e)) (ends x)
 
 -- Where a goal would be stuck
+-- these ends are split, and without any the goal is stuck
+abbrev pub split_found : Kind → Option (ℕ × (Term × Term)) → Choice
+split_found kind None = stays kind
+split_found kind (Some (a, e)) = takes (t.Split e.0 e.1)
+
 -- the ends of the lowest atom or taken atom that is undecided are split, and without one the goal is stuck
 abbrev pub split_or : State → Kind → Choice
-split_or s kind = go (lowest (undecided_ends s) (parts s))
-  where
-    go : Option (ℕ × (Term × Term)) → Choice
-    go None = stays kind
-    go (Some (a, e)) = takes (t.Split e.0 e.1)
+split_or s kind = split_found kind (lowest (undecided_ends s) (parts s))
 
 -- the first of two choices that is there
 abbrev pub or_else : Option Choice → Choice → Choice
@@ -107,44 +108,48 @@ or_else (Some c) d = c
 abbrev pub opened_by : State → (root end_ : Term) → (a : ℕ) → Choice
 opened_by s u v a = cond (differs s u v) (takes (t.Unroll a)) (takes (t.Split u v))
 
+abbrev pub opened_first : State → Term → Option (ℕ × Term) → Option (ℕ × Atom) → Option Choice
+opened_first s u (Some (a, w)) others = Some (opened_by s u w a)
+opened_first s u None (Some (a, x)) = Some (opened_by s u Nil a)
+opened_first s u None None = None
+
 abbrev pub opened : State → Term → Option Choice
-opened s u = first (lowest (segment_at u) s.atoms) (lowest (tree_at u) s.atoms)
-  where
-    first : Option (ℕ × Term) → Option (ℕ × Atom) → Option Choice
-    first (Some (a, w)) others = Some (opened_by s u w a)
-    first None (Some (a, x)) = Some (opened_by s u Nil a)
-    first None None = None
+opened s u = opened_first s u (lowest (segment_at u) s.atoms) (lowest (tree_at u) s.atoms)
+
+-- that atom, or else this
+abbrev pub found_or : {X : Type 0} → (found : ℕ → Choice) → Choice → Option (ℕ × X) → Choice
+found_or found c (Some (a, x)) = found a
+found_or found c None = c
 
 -- a cell at that term is wanted: the lowest one, or a part of the heap is opened
 abbrev pub at_cell : State → Term → (found : ℕ → Choice) → Kind → Choice
-at_cell s u found kind = first (lowest (λ x. fields_at x u) s.atoms)
-  where
-    first : Option (ℕ × List (FieldId × Term)) → Choice
-    first (Some (a, fields)) = found a
-    first None = or_else (opened s u) (split_or s kind)
+at_cell s u found kind =
+    found_or found (or_else (opened s u) (split_or s kind)) (lowest (λ x. fields_at x u) s.atoms)
 
 -- a tag where its row is there
 abbrev pub takes_if : Bool → Tag → Option Choice
 takes_if b tag = cond b (Some (takes tag)) None
 
 -- Choices
--- a test that isn't decided is split by its two terms
+-- the two terms of a test are split
+abbrev pub split_by : Test Term → Choice
+split_by True = takes t.Then
+split_by (Equal u v) = takes (t.Split u v)
+split_by (Differ u v) = takes (t.Split u v)
+
+-- by a test: where it isn't decided it is split
 abbrev pub at_test : State → Test Term → Choice
 at_test s test =
     cond (is_true s test) (takes t.Then) (cond (is_false s test) (takes t.Else) (split_by test))
-  where
-    split_by : Test Term → Choice
-    split_by True = takes t.Then
-    split_by (Equal u v) = takes (t.Split u v)
-    split_by (Differ u v) = takes (t.Split u v)
 
--- a choice among conjuncts, whose operands have terms
+-- by a test, if its operands have terms
+abbrev pub at_known : State → Option (Test Term) → Choice
+at_known s None = split_or s not_equal
+at_known s (Some x) = at_test s x
+
+-- a choice among conjuncts
 abbrev pub at_choice : State → List (Option Term) → Test (Operand Term) → Choice
-at_choice s bindings test = known (test_of_terms bindings test)
-  where
-    known : Option (Test Term) → Choice
-    known None = split_or s not_equal
-    known (Some x) = at_test s x
+at_choice s bindings test = at_known s (test_of_terms bindings test)
 
 -- Commands
 abbrev pub at_command : State → Command → Choice
@@ -175,11 +180,22 @@ at_equality s bindings c =
     or_else (takes_if (has_step bind_step s bindings c) t.Bind)
     (or_else (takes_if (has_step same_step s bindings c) t.Same) (split_or s not_equal))
 
+-- an inequality: the terms surely differ
+abbrev pub at_inequality : State → List (Option Term) → (x y : Operand Term) → Choice
+at_inequality s bindings x y =
+    or_else (option_and_then (λ e. takes_if (differs s e.0 e.1) t.Apart) (both bindings x y))
+    (split_or s not_different)
+
 -- a wanted cell at that term: the lowest one there, if it fits
 abbrev pub at_wanted_cell : State → List (Option Term) → Conjunct Term → Term → Choice
 at_wanted_cell s bindings c u =
     at_cell s u
     (λ a. or_else (takes_if (has_step (cell_step a) s bindings c) (t.Cell a)) (split_or s not_equal)) no_atom
+
+-- the same where its root has a term
+abbrev pub at_points : State → List (Option Term) → Conjunct Term → Option Term → Choice
+at_points s bindings c None = split_or s no_atom
+at_points s bindings c (Some u) = at_wanted_cell s bindings c u
 
 -- the lowest atom that is the wanted one
 abbrev pub exact_atom : State → Option Atom → Option Choice
@@ -219,25 +235,20 @@ at_tree s bindings c (Some u) =
 abbrev pub at_wanted : State → List (Option Term) → Conjunct Term → Choice
 at_wanted s bindings (holds p True) = split_or s not_equal
 at_wanted s bindings (holds p (Equal x y)) = at_equality s bindings (holds p (Equal x y))
-at_wanted s bindings (holds p (Differ x y)) =
-    or_else (option_and_then (λ e. takes_if (differs s e.0 e.1) t.Apart) (both bindings x y))
-    (split_or s not_different)
-at_wanted s bindings (points p x fs) = at_root (term_of bindings x)
-  where
-    at_root : Option Term → Choice
-    at_root None = split_or s no_atom
-    at_root (Some u) = at_wanted_cell s bindings (points p x fs) u
+at_wanted s bindings (holds p (Differ x y)) = at_inequality s bindings x y
+at_wanted s bindings (points p x fs) = at_points s bindings (points p x fs) (term_of bindings x)
 at_wanted s bindings (segment p next x y) =
     at_list s bindings (segment p next x y) (both bindings x y)
 at_wanted s bindings (tree p left right x) = at_tree s bindings (tree p left right x) (term_of bindings x)
 at_wanted s bindings (choose p test this that) = at_choice s bindings test
 
+-- the first wanted conjunct
+abbrev pub at_first_wanted : State → List (Option Term) → Conjuncts Term → Choice
+at_first_wanted s bindings none = split_or s no_atom
+at_first_wanted s bindings (also c cs) = at_wanted s bindings c
+
 abbrev pub at_want : State → Pending → Choice
-at_want s want = first want.conjuncts
-  where
-    first : Conjuncts Term → Choice
-    first none = split_or s no_atom
-    first (also c cs) = at_wanted s want.bindings c
+at_want s want = at_first_wanted s want.bindings want.conjuncts
 
 -- The end
 abbrev pub at_end : State → List Numbered → Choice
@@ -257,8 +268,8 @@ at_items s (return p post ∷ todo) = takes t.Return
 at_items s (end p ∷ todo) = at_end s s.atoms
 at_items s [] = takes t.End
 
--- Choose: an absurd state is closed; then the lowest empty atom goes; then the lowest atom that can only be empty is so;
--- then the item in front decides
+-- Choose: an absurd state is closed; then the lowest empty atom goes; then the lowest atom that can only be empty is
+-- so; then the item in front decides
 abbrev pub chooses : Goal → Choice
 chooses g =
     or_else (takes_if (is_absurd g.state) t.Absurd)

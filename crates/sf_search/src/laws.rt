@@ -1,7 +1,8 @@
-//! Laws of the search. Each function is a law: calling it gives its fact to the caller's proof, and does
-//! nothing.
+//! Laws of the search. Each function is a law: calling it gives its fact to the caller's proof, and
+//! does nothing.
 
 ghost use Rattle.sf_search.specs.Laws.{BuiltHasRules, VerdictExists, VerdictIsUnique, VerdictsProve};
+ghost use Rattle.sf_search.specs.Whole.Laws.{ProgramsHaveVerdicts, SearchExists, SearchIsUnique, TakenTagsHaveRows, TakenTagsProve, VerdictsAreUnique};
 
 /// A program has at most one verdict.
 #[tactic(auto, using(crate::proofs::Chosen::verdict_is_unique))]
@@ -21,8 +22,45 @@ pub fn verdicts_prove()
     ensures { VerdictsProve }
 {}
 
-/// In programs of the form that is built no search for a procedure is stuck because there is no rule.
+/// In programs of the form that is built no search for a procedure is stuck because there is no
+/// rule.
 #[tactic(auto, using(crate::proofs::BuiltGoals::built_has_rules))]
 pub fn built_has_rules()
     ensures { BuiltHasRules }
+{}
+
+/// By the whole table: the search from a goal comes to something.
+#[tactic(auto, using(crate::proofs::Whole::Ending::search_exists))]
+pub fn search_exists()
+    ensures { SearchExists }
+{}
+
+/// It comes to one thing alone.
+#[tactic(auto, using(crate::proofs::Whole::Once::search_is_unique))]
+pub fn search_is_unique()
+    ensures { SearchIsUnique }
+{}
+
+/// Each program has a verdict.
+#[tactic(auto, using(crate::proofs::Whole::Ending::programs_have_verdicts))]
+pub fn programs_have_verdicts()
+    ensures { ProgramsHaveVerdicts }
+{}
+
+/// A program has at most one verdict.
+#[tactic(auto, using(crate::proofs::Whole::Once::verdicts_are_unique))]
+pub fn verdicts_are_unique()
+    ensures { VerdictsAreUnique }
+{}
+
+/// The tags of a verdict that is a proof prove the program.
+#[tactic(auto, using(crate::proofs::Whole::Trees::taken_tags_prove))]
+pub fn taken_tags_prove()
+    ensures { TakenTagsProve }
+{}
+
+/// The strategy takes no tag without a row, at goals as programs have them.
+#[tactic(auto, using(crate::proofs::Whole::Taken::taken_tags_have_rows))]
+pub fn taken_tags_have_rows()
+    ensures { TakenTagsHaveRows }
 {}

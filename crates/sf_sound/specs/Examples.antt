@@ -1,18 +1,23 @@
 -- An example: tags that prove a small program, so that it is sound.
 -- It is in the manner of Berdine, Calcagno, O'Hearn, "Smallfoot" (2005).
 use Rattle.std.specs.Prelude.{List, [], ◌∷◌, codes}
+use Rattle.std.specs.List.{All}
 use Rattle.sf_base.specs.declared.ids.FieldId.{FieldId}
 use Rattle.sf_base.specs.declared.ids.Var.TheVariants.{Own}
 use Rattle.sf_base.specs.declared.place.Place.{Place}
 use Rattle.sf_core.specs.declared.assertion.Operand.{Operand}
 use Rattle.sf_core.specs.declared.assertion.Operand.TheVariants.{Known}
 use Rattle.sf_core.specs.declared.command.Expr.{Expr}
+use Rattle.sf_calls.specs.FirstBreach.{Conditions}
+use Rattle.sf_core.specs.Assertions.Determined.{Determined}
 use Rattle.sf_core.specs.declared.command.Expr.TheVariants.{Var as Variable, Nil}
 use Rattle.sf_core.specs.Program.Formed.{IsFormed}
-use Rattle.sf_core.specs.Program.Syntax.{level, none, also, points, mutate, done, then, Assertion, Procedure, Program}
+use Rattle.sf_core.specs.Program.Syntax.{level, none, also, points, mutate, fork, done, then, Assertion, Call, Procedure, Program}
+use Rattle.sf_precise.specs.Annotations.{annotations_in}
+use Rattle.sf_rules.specs.Setting.{IsSettingOf, Setting}
 use Rattle.sf_sym.specs.declared.tag.Tag.{Tag}
 use Rattle.sf_sym.specs.declared.tag.Tag.TheVariants as t
-use Rattle.sf_rules.specs.Proves.{Proves}
+use Rattle.sf_rules.specs.Proving.{Proves}
 use Rattle.sf_safe.specs.Law.{IsSound}
 
 -- the place of all of it
@@ -50,16 +55,55 @@ clears = record {
   end = place;
 }
 
--- the program with this procedure alone
-abbrev pub clearing : Program
-clearing = record { fields = codes "hd" ∷ []; resources = []; procedures = clears ∷ [] }
+-- the parameter y
+abbrev pub y : Expr
+y = Variable (record { var = Own 1; place = place })
+
+-- there is a cell at x and another one at y, with these fields
+abbrev pub at_both : List (FieldId × Operand Expr) → Assertion
+at_both fields =
+    record {
+      names = [];
+      level = level (record { first = 0; count = 0 })
+          (also (points place (Known x) fields) (also (points place (Known y) fields) none));
+    }
+
+-- f of that value
+abbrev pub clear : Expr → Call
+clear e = record { callee = record { 0 = 0 }; place = place; references = []; values = e ∷ [] }
+
+-- g(x, y) [x|-> * y|->] { f(x) || f(y); } [x|->hd:nil * y|->hd:nil]
+abbrev pub clears_both : Procedure
+clears_both = record {
+  name = codes "g";
+  place = place;
+  names = codes "x" ∷ codes "y" ∷ [];
+  references = 0;
+  values = 2;
+  locals = 0;
+  pre = at_both [];
+  post = at_both ((hd, Known Nil) ∷ []);
+  body = then (fork place (clear x) (clear y)) done;
+  end = place;
+}
+
+-- the program with both procedures
+abbrev pub pair : Program
+pair = record { fields = codes "hd" ∷ []; resources = []; procedures = clears ∷ clears_both ∷ [] }
 
 -- the tags of its proof
-abbrev pub clearing_tags : List Tag
-clearing_tags = t.Procedure (record { 0 = 0 }) ∷ t.Add ∷ t.Mutate 1 ∷ t.Return ∷ t.Cell 1 ∷ t.End ∷ []
+abbrev pub pair_tags : List Tag
+pair_tags =
+    t.Procedure (record { 0 = 0 }) ∷ t.Add ∷ t.Mutate 1 ∷ t.Return ∷ t.Cell 1 ∷ t.End
+    ∷ t.Procedure (record { 0 = 1 }) ∷ t.Add ∷ t.Add ∷ t.Fork ∷ t.Cell 1 ∷ t.Cell 2 ∷ t.Give ∷ t.Add ∷ t.Add
+    ∷ t.Return ∷ t.Cell 3 ∷ t.Cell 4 ∷ t.End ∷ []
 
--- the tags prove it, and it is sound
-pub record ClearingIsSound : Type 0 where
-  pub formed : IsFormed clearing
-  pub proves : Proves clearing clearing_tags
-  pub sound : IsSound clearing
+-- it keeps what the theorem asks of a program, the tags prove it by the rows of the whole table, and it is sound
+pub record PairIsSound : Type 0 where
+  pub formed : IsFormed pair
+  pub conditions : Conditions pair
+  pub determined : All (λ a. Determined a.level) (annotations_in pair)
+  pub setting : Setting
+  pub own : IsSettingOf pair setting
+  pub proves : Proves setting pair_tags
+  pub sound : IsSound pair

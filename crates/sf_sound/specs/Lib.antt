@@ -1,3 +1,3 @@
-pub mod Sound
-pub mod Laws
+pub mod Proofs
+pub mod Internal
 pub mod Examples

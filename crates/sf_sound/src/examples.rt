@@ -1,10 +1,15 @@
 //! An example. The function does nothing; its contract is the result.
 
-ghost use Rattle.sf_sound.specs.Examples.{ClearingIsSound};
+ghost use Rattle.sf_sound.specs.Examples.{PairIsSound};
 
-/// A small program that is in order, and that tags prove: so there are programs that are proved, and
-/// this one is sound.
-#[tactic(auto, using(crate::proofs::Clearing::clearing_is_sound))]
-pub fn clearing_is_sound()
-    ensures { ClearingIsSound }
-{}
+use crate::laws::proofs_are_sound;
+use sf_precise::laws::ordering_exists;
+
+/// A program with parallel calls that keeps all that the theorem asks and that tags prove by the rows
+/// of the whole table: so what the theorem asks can be kept, and this program is sound.
+pub fn pair_is_sound()
+    ensures { PairIsSound }
+{
+    proofs_are_sound();
+    ordering_exists();
+}

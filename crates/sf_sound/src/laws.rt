@@ -1,78 +1,54 @@
-//! What a proof promises, and the laws of the rows of the table on which it rests. Each function is a
-//! law: calling it gives its fact to the caller's proof, and does nothing.
+//! What a proof promises. The function is a law: calling it gives its fact to the caller's proof, and
+//! does nothing.
 
-ghost use Rattle.sf_sound.specs.Laws.{AbsurdKeepsMeaning, AddKeepsMeaning, CellHandsOver, CellKeepsMeaning, EndLeavesNothing, FirstGoalsHold, MutateFollowsEvent, ReturnOwesPostcondition, RowsKeepMeaning, RowsKeepOrder};
-ghost use Rattle.sf_sound.specs.Sound.{ProvedProgramsAreSound};
+ghost use Rattle.sf_sound.specs.Proofs.{ProofsAreSound};
 
-/// A program without resources of which the tags are a proof is sound: whatever procedure it starts
-/// with, from whatever store and heap that procedure's precondition allows, and whatever events come in
-/// whatever order, no event touches a cell that isn't there, no two tasks race, and where the procedure
-/// has ended the heap is exactly what its postcondition says.
-#[tactic(auto, using(crate::proofs::Sound::proved_programs_are_sound))]
-pub fn proved_programs_are_sound()
-    ensures { ProvedProgramsAreSound }
-{}
+use sf_calls::laws::{changes_are_assigned, first_breach_is_broken};
+use sf_normal::laws::{
+    absurd_keeps_goals, drop_keeps_goals, force_keeps_goals, split_keeps_goals, unroll_keeps_goals,
+};
+use sf_precise::laws::{
+    determined_has_order, order_keeps_form, order_keeps_meaning, ordered_is_determined,
+};
+use sf_rules::laws::{
+    assign_follows_event, assume_keeps_goals, assumed_branch_keeps_goals, dispose_follows_event,
+    else_follows_test, look_follows_event, mutate_follows_event, new_follows_event,
+    rows_have_cases, shown_branch_leaves_rest, subtraction_leaves_rest, then_follows_test,
+};
+use sf_safe::locally_safe_programs_are_sound;
 
-/// The first goal of a procedure holds wherever the procedure starts, each parameter's symbol having the
-/// parameter's value, and it is in order.
-#[tactic(auto, using(crate::proofs::Starts::first_goals_hold))]
-pub fn first_goals_hold()
-    ensures { FirstGoalsHold }
-{}
-
-/// The goals that a row leaves of a goal that is in order are in order.
-#[tactic(auto, using(crate::proofs::Showing::rows_keep_order))]
-pub fn rows_keep_order()
-    ensures { RowsKeepOrder }
-{}
-
-/// Where a goal holds and a row that works out what is known applies, one of the goals that are left
-/// holds, with the same values of the symbols.
-#[tactic(auto, using(crate::proofs::Rows::rows_keep_meaning))]
-pub fn rows_keep_meaning()
-    ensures { RowsKeepMeaning }
-{}
-
-/// A goal that `absurd` closes doesn't hold of any values and heap.
-#[tactic(auto, using(crate::proofs::Rows::absurd_keeps_meaning))]
-pub fn absurd_keeps_meaning()
-    ensures { AbsurdKeepsMeaning }
-{}
-
-/// Where a goal holds, the goal that `add` leaves does, with the same values of the symbols.
-#[tactic(auto, using(crate::proofs::Rows::add_keeps_meaning))]
-pub fn add_keeps_meaning()
-    ensures { AddKeepsMeaning }
-{}
-
-/// Where a goal whose first item is a mutation holds and `mutate` has a row, the cell is there, and the goal
-/// that is left holds after the event.
-#[tactic(auto, using(crate::proofs::Rows::mutate_follows_event))]
-pub fn mutate_follows_event()
-    ensures { MutateFollowsEvent }
-{}
-
-/// The goal that `return` leaves holds where its goal does, and a heap that has what it wants satisfies
-/// the postcondition.
-#[tactic(auto, using(crate::proofs::Showing::return_owes_postcondition))]
-pub fn return_owes_postcondition()
-    ensures { ReturnOwesPostcondition }
-{}
-
-/// The goal that `cell` leaves holds where its goal does.
-#[tactic(auto, using(crate::proofs::Showing::cell_keeps_meaning))]
-pub fn cell_keeps_meaning()
-    ensures { CellKeepsMeaning }
-{}
-
-/// The part of the heap that `cell` hands over has what was wanted, together with what is still wanted.
-#[tactic(auto, using(crate::proofs::Showing::cell_hands_over))]
-pub fn cell_hands_over()
-    ensures { CellHandsOver }
-{}
-
-/// At a goal that `end` closes no part of the heap is left.
-#[tactic(auto, using(crate::proofs::Rows::end_leaves_nothing))]
-pub fn end_leaves_nothing()
-    ensures { EndLeavesNothing }
-{}
+/// A program that tags prove by the rows of the whole table is sound: one that is formed, meets the
+/// conditions on variables and has determined annotations, proved by its own least sets and with
+/// its annotations in order. Whatever procedure it starts with, from whatever store and heap that
+/// the precondition and the invariants allow, and whatever events come in whatever order: no event
+/// touches a cell that isn't there, no two tasks race, free resources and finished calls have
+/// disjoint footprints of their invariants and postconditions, and where the procedure has ended
+/// nothing is leaked.
+pub fn proofs_are_sound()
+    ensures { ProofsAreSound }
+{
+    rows_have_cases();
+    absurd_keeps_goals();
+    drop_keeps_goals();
+    force_keeps_goals();
+    split_keeps_goals();
+    unroll_keeps_goals();
+    assign_follows_event();
+    look_follows_event();
+    mutate_follows_event();
+    new_follows_event();
+    dispose_follows_event();
+    then_follows_test();
+    else_follows_test();
+    assume_keeps_goals();
+    assumed_branch_keeps_goals();
+    subtraction_leaves_rest();
+    shown_branch_leaves_rest();
+    locally_safe_programs_are_sound();
+    first_breach_is_broken();
+    changes_are_assigned();
+    order_keeps_meaning();
+    ordered_is_determined();
+    order_keeps_form();
+    determined_has_order();
+}

@@ -1,15 +1,16 @@
 -- What the tests of a state tell of each store and heap of which a goal with that state holds.
 -- Berdine, Calcagno, O'Hearn, "Symbolic Execution with Separation Logic" (2005), section 4.
-use Rattle.std.specs.Prelude.{◌≡◌, ◌≢◌, ◌↔◌, ◌⊎◌, ℕ, ◌≤◌, List, [], ◌∷◌, Option, Some, IsTrue}
+use Rattle.std.specs.Prelude.{◌≡◌, ◌≢◌, ◌↔◌, ◌⊎◌, ℕ, ◌≤◌, List, [], ◌∷◌, Option, Some, IsTrue, map}
 use Rattle.std.specs.List.{AllByRecursion}
 use Rattle.sf_base.specs.declared.ids.Var.{Var}
 use Rattle.sf_base.specs.declared.value.Value.{Value}
 use Rattle.sf_base.specs.declared.value.Value.TheVariants.{Loc as loc}
 use Rattle.sf_base.specs.HeapStore.{Cell, Heap, Splits}
-use Rattle.sf_sym.specs.Below.{AreBelow, IsBelow, SameBelow}
+use Rattle.sf_sym.specs.Below.{AllPaired, AreBelow, IsBelow, SameBelow}
 use Rattle.sf_sym.specs.declared.term.Term.{Term}
-use Rattle.sf_sym.specs.Equalities.{assumed_apart, assumed_equal}
-use Rattle.sf_sym.specs.Goal.{Goal}
+use Rattle.sf_sym.specs.Equalities.{assumed_apart, assumed_equal, item_with}
+use Rattle.sf_sym.specs.Formed.{AreFormed}
+use Rattle.sf_sym.specs.Goal.{Goal, Item}
 use Rattle.sf_sym.specs.Holds.{term_value, HoldsAt, Holds}
 use Rattle.sf_sym.specs.HoldsIn.{HoldsIn}
 use Rattle.sf_sym.specs.Tests.{differs, allocated, is_absurd}
@@ -82,12 +83,13 @@ abbrev pub SomeOf : (Goal → Type 0) → List Goal → Type 0
 SomeOf P [] = ⊥
 SomeOf P (g ∷ gs) = P g ⊎ SomeOf P gs
 
--- a goal that a row leaves of another speaks of symbols below its next one only, of which there are no fewer, and
--- goes by the same links
+-- a goal that a row leaves of another speaks of symbols below its next one only, of which there are no fewer, goes by
+-- the same links, and has only formed conjuncts where the other has
 pub record Follows (goal child : Goal) : Type 0 where
   pub below : AreBelow child
   pub symbols : goal.state.next_sym ≤ child.state.next_sym
   pub links : child.state.links ≡ goal.state.links
+  pub formed : AreFormed goal → AreFormed child
 
 -- it holds on these heaps with the values that the other goal's symbols have, and some values of its own ones
 pub record HoldsStill (w : ℕ → Value) (goal : Goal) (e : Var → Option Value) (free taken : Heap)
@@ -96,12 +98,43 @@ pub record HoldsStill (w : ℕ → Value) (goal : Goal) (e : Var → Option Valu
   pub same : SameBelow goal.state.next_sym values w
   pub holds : HoldsIn values child e free taken
 
--- the goals that are left follow the goal, and wherever it holds, one of them does
-pub record Kept (goal : Goal) (left : List Goal) : Type 0 where
+-- what is still to do is the same, with other terms in place of those that occur, which have the same values
+pub record Restated (values : ℕ → Value) (items others : List Item) : Type 0 where
+  pub to : Term → Term
+  pub same : (t : Term) → term_value values (to t) ≡ term_value values t
+  pub is : others ≡ map (item_with to) items
+
+-- the goal holds still, and all that is still to do is the same with terms of the same values
+pub record HoldsAsBefore (w : ℕ → Value) (goal : Goal) (e : Var → Option Value) (free taken : Heap)
+    (child : Goal) : Type 0 where
+  pub still : HoldsStill w goal e free taken child
+  pub todo : Restated still.values goal.todo child.todo
+
+-- the goals that are left follow the goal, and wherever it holds, what is said is so of one of them
+pub record KeptWith (goal : Goal) (left : List Goal)
+    (So : (w : ℕ → Value) → Goal → (e : Var → Option Value) (free taken : Heap) → Goal → Type 0) : Type 0 where
   pub follow : AllByRecursion (Follows goal) left
   pub hold : (w : ℕ → Value) (e : Var → Option Value) (free taken : Heap) → HoldsIn w goal e free taken
-      → SomeOf (HoldsStill w goal e free taken) left
+      → SomeOf (So w goal e free taken) left
 
--- a row keeps what goals stand for
+-- one of them holds still
+abbrev pub Kept : Goal → (left : List Goal) → Type 0
+Kept goal left = KeptWith goal left HoldsStill
+
+-- a row keeps what goals stand for, whatever is to do: what is to be assumed, to be shown and to be set, too
 abbrev pub KeepsGoals : (Goal → Option (List Goal)) → Type 0
-KeepsGoals row = (goal : Goal) (left : List Goal) → AreBelow goal → row goal ≡ Some left → Kept goal left
+KeepsGoals row =
+    (goal : Goal) (left : List Goal) → AreBelow goal → row goal ≡ Some left → KeptWith goal left HoldsAsBefore
+
+-- the values that variables are to get by their terms
+abbrev pub set_values : (ℕ → Value) → List (Var × Term) → List (Var × Value)
+set_values w [] = []
+set_values w (x ∷ xs) = (x.0, term_value w x.1) ∷ set_values w xs
+
+-- they are the same by other terms of the same values
+unfoldable pub RestatedTermsAreSet : Type 0
+RestatedTermsAreSet =
+    (below : ℕ) (earlier later : ℕ → Value) (to : Term → Term) (set : List (Var × Term))
+    → ((t : Term) → IsBelow below t → term_value later (to t) ≡ term_value earlier t)
+    → AllPaired (IsBelow below) set
+    → set_values later (map (λ (x : Var × Term). (x.0, to x.1)) set) ≡ set_values earlier set

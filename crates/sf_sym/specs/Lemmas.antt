@@ -1,15 +1,21 @@
 -- Lemmas on terms, atoms and items that the proofs of the crates above cite. Each states what it says; none is a definition.
 -- Ordinary: equality of terms is decided by cases, and ⋆ is associative.
+pub mod Adding
 pub mod AtomLists
 pub mod Below
+pub mod Bindings
 pub mod CellFields
+pub mod Choices
 pub mod Decided
+pub mod Formed
 pub mod FreshGoals
 pub mod FreshValues
+pub mod Keeping
 pub mod KnownValues
 pub mod OtherTerms
 pub mod OtherValues
 pub mod Parts
+pub mod Restated
 pub mod States
 pub mod Terms
 pub mod TwoHeaps

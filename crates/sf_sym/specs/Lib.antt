@@ -9,6 +9,7 @@ pub mod Equalities
 pub mod Holds
 pub mod HoldsIn
 pub mod Below
+pub mod Formed
 pub mod Laws
 pub mod Lemmas
 pub mod Examples

@@ -1,7 +1,7 @@
 //! What the tests of a state tell of each store and heap of which a goal with that state holds. Each
 //! function is a law: calling it gives its fact to the caller's proof, and does nothing.
 
-ghost use Rattle.sf_sym.specs.Laws.{AllocatedTermsAreLocations, AssumedTermsAreBelow, DifferingTermsDiffer, DifferingTermsMayBeAssumed, EqualTermsMayBeAssumed, HeldStatesAreNotAbsurd, HoldsOnTwoHeaps, OtherSymbolsAreFree};
+ghost use Rattle.sf_sym.specs.Laws.{AllocatedTermsAreLocations, AssumedTermsAreBelow, DifferingTermsDiffer, DifferingTermsMayBeAssumed, EqualTermsMayBeAssumed, HeldStatesAreNotAbsurd, HoldsOnTwoHeaps, OtherSymbolsAreFree, RestatedTermsAreSet};
 
 /// Terms for which `State::differs` is true have different values.
 #[tactic(auto, using(crate::specs::Lemmas::States::differing_terms_differ))]
@@ -51,4 +51,10 @@ pub fn differing_terms_may_be_assumed()
 #[tactic(auto, using(crate::specs::Lemmas::TwoHeaps::assumed_terms_are_below))]
 pub fn assumed_terms_are_below()
     ensures { AssumedTermsAreBelow }
+{}
+
+/// Variables are to get terms of the same values where what is still to do is the same with other terms.
+#[tactic(auto, using(crate::specs::Lemmas::Restated::restated_terms_are_set))]
+pub fn restated_terms_are_set()
+    ensures { RestatedTermsAreSet }
 {}

@@ -47,3 +47,4 @@ pub use state::State;
 pub use tag::Tag;
 pub use term::Term;
 pub use todo::{next_item, peek_item, with_add, with_take};
+pub use vars::fresh_for;

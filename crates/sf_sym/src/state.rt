@@ -6,6 +6,7 @@ ghost use Rattle.sf_base.specs.declared.ids.FieldId.{FieldId as FieldNumber};
 ghost use Rattle.sf_sym.specs.Cells.{after_hand_over, apart_from_nil, atom_at, cell_at, fields_at, handed, state_after_write, with_atom, with_cell, without};
 ghost use Rattle.sf_sym.specs.Equalities.{put_for, state_with, with_pair};
 ghost use Rattle.sf_sym.specs.Internal.Indices.{index_from};
+ghost use Rattle.sf_sym.specs.Numbers.{AreNumbered, numbers};
 ghost use Rattle.sf_sym.specs.State.{first_state, term_at, with_symbols};
 ghost use Rattle.sf_sym.specs.Variables.{AreInOrder, remove_vars, set_var, set_vars, with_fresh};
 ghost use Rattle.sf_sym.specs.declared.atom.Atom.{Atom as AtomOf};
@@ -135,6 +136,14 @@ impl State {
         self.next_atom
     }
 
+    /// The numbers of the atoms rise, the taken ones have others, and all are below the next one. Calling
+    /// it gives that to the caller's proof, and does nothing.
+    pub fn is_numbered(&self)
+        ensures { AreNumbered (numbers self.now.atoms) (numbers self.now.taken) self.now.next_atom }
+    {
+        let _next = self.next_atom;
+    }
+
     /// The known fields of the atom of that number, where it is a cell at that term.
     pub fn cell(&self, a: u32, root: Term) -> Option<&[(FieldId, Term)]>
         ensures { option_map (λ x. x.now) result ≡ cell_at self.now.atoms a root }
@@ -195,6 +204,19 @@ impl State {
     {
         self.vars.set_all(xs)?;
         Ok(())
+    }
+
+    /// The variables with their terms as they are where those are set, one after the other; the state
+    /// keeps its own. An `Err` means out of memory.
+    pub fn vars_after(
+        &self,
+        alloc: Global,
+        xs: &[(Var, Term)],
+    ) -> Result<Vec<(Var, Term)>, AllocError>
+        ensures { IfOk result (λ vars. vars.items ≡ set_vars xs.now self.now.vars) }
+    {
+        let vars = self.vars.after(alloc, xs)?;
+        Ok(vars)
     }
 
     /// Gives each of the variables a fresh symbol. An `Err` means out of memory, and then nothing changes.

@@ -77,6 +77,20 @@ impl VarTerms {
         Ok(())
     }
 
+    /// The variables with their terms, where those are set, one after the other. An `Err` means out of
+    /// memory.
+    pub(crate) fn after(
+        &self,
+        alloc: Global,
+        xs: &[(Var, Term)],
+    ) -> Result<Vec<(Var, Term)>, AllocError>
+        ensures { IfOk result (λ vars. vars.items ≡ set_vars xs.now self.now) }
+    {
+        let mut vars = self.copy(alloc)?;
+        vars.set_all(xs)?;
+        Ok(vars.items)
+    }
+
     /// Sets each of the variables to a symbol, from that number on. An `Err` means out of memory, and
     /// then nothing changes.
     pub(crate) fn set_fresh(&mut self, from: u32, xs: &[Var]) -> Result<(), AllocError>
@@ -140,6 +154,22 @@ pub(crate) fn term_at(vars: &[(Var, Term)], x: Var) -> Term
         left = rest;
     }
     Term::Nil
+}
+
+/// A symbol for each of the variables, from that number on. An `Err` means out of memory.
+pub fn fresh_for(alloc: Global, from: u32, xs: &[Var]) -> Result<Vec<(Var, Term)>, AllocError>
+    requires { from + length xs.now < 2 ^ 32 }
+    ensures { IfOk result (λ set. set.items ≡ fresh_for from xs.now) }
+{
+    let mut set = Vec::with_capacity(alloc, xs.len())?;
+    let mut next = from;
+    let mut left = xs;
+    while let Some((first, rest)) = left.split_first() {
+        set.push((*first, Term::Sym(next)))?;
+        next += 1;
+        left = rest;
+    }
+    Ok(set)
 }
 
 /// Whether a variable comes before another.

@@ -27,7 +27,7 @@ use Rattle.sf_vars.specs.Faults.{IsVariableName, IsBreachName, IsFirstFault, tol
 use Rattle.sf_vars.specs.Laws.{EachProgramHasAnAnswer}
 use Rattle.sf_vars.specs.Internal.Search.{in_procedures, IsVariableIn, IsBreachIn}
 use Rattle.sf_vars.proofs.Fits.{free_in_body}
-use Rattle.sf_calls.proofs.Sites.{among_at}
+use Rattle.sf_calls.specs.Lemmas.Sites.{among_at}
 use Rattle.sf_vars.proofs.Meets.{meets_program}
 
 -- what a call may change may be named where it is made

@@ -13,7 +13,7 @@ use Rattle.sf_calls.specs.Conditions.{Takes, Free}
 use Rattle.sf_calls.specs.Sets.{Sets, AreSetsOf, IsResSet, IsVarSet}
 use Rattle.sf_calls.proofs.InFile.{free_within}
 use Rattle.sf_calls.proofs.Least.{holds_within}
-use Rattle.sf_calls.proofs.Within.{callee_within}
+use Rattle.sf_calls.specs.Lemmas.Within.{callee_within}
 use Rattle.sf_vars.specs.Internal.Search.{HasSets, BlockFits, CommandFits, free_of, takes_of, holds_of}
 
 pub free_set : (p : Program) (sets : Sets) (g : ProcId) → AreSetsOf p sets → g.0 < length p.procedures

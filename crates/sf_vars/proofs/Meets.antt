@@ -46,10 +46,10 @@ use Rattle.sf_calls.proofs.InFile.{resource_apart, resources_ordered, resources_
 use Rattle.sf_calls.proofs.InOrder.{ordered_pairs}
 use Rattle.sf_calls.proofs.Least.{takes_within}
 use Rattle.sf_calls.proofs.Searches.{proc}
-use Rattle.sf_calls.proofs.Sites.{among_at}
+use Rattle.sf_calls.specs.Lemmas.Sites.{among_at}
 use Rattle.sf_vars.specs.Internal.Search.{found, has, with_one, with_all, none_held, lacks, is_in, takes_of, holds_of, free_of, unheld, free_unheld, unheld_in_call, reenters_by_call, repeats, passes_free, may_change, uses, shares, shared_among, free_in_both, shares_in_fork, entered_held, in_head, in_block, in_inner, in_procedure, in_procedures}
 use Rattle.sf_vars.proofs.Firsts.{first-append, first-flat_map, first-map, first-search, first-same, first-set}
-use Rattle.sf_calls.proofs.Within.{callee_within}
+use Rattle.sf_calls.specs.Lemmas.Within.{callee_within}
 use Rattle.sf_vars.proofs.Fits.{free_set, takes_set, holds_set, held_fit}
 
 -- where one is in a program, and the visited tell what is held there

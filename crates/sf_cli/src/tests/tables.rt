@@ -4,10 +4,6 @@ pub const SET: &[u8] = b"set(x) [x|->] { x->tl = 3; } [x|->tl:3]";
 
 pub const SET_PROOF: &str = "accepted\nprocedure set\nadd\nmutate 1\nreturn\ncell 1\nend\n";
 
-pub const NOT_BUILT: &str = "file refused: 27 NotBuilt at 1:1\n";
-
-pub const FAILED: &str = "failed f\n";
-
 pub const KEPT: &str = "accepted\nprocedure f\nadd\nreturn\ncell 1\nend\n";
 
 pub const EMPTY: &str = "accepted\nprocedure f\nreturn\nend\n";
@@ -18,7 +14,10 @@ pub const WRITTEN: &str = "accepted\nprocedure f\nadd\nmutate 1\nreturn\ncell 1\
 pub const ANSWERS: [(&[u8], &str); 36] = [
     (b"", "accepted\n"),
     (SET, SET_PROOF),
-    (b"set(x) [] { x->tl = 3; }", "failed set\n"),
+    (
+        b"set(x) [] { x->tl = 3; }",
+        "failed set at 1:13 NoCell\nvars x = s0\napart\natoms\ntaken\nwant cell s0\n",
+    ),
     (
         b"v(x) [x|-> * x|->] { }",
         "accepted\nprocedure v\nadd\nadd\nabsurd\n",
@@ -31,7 +30,10 @@ pub const ANSWERS: [(&[u8], &str); 36] = [
         b"f() { } g() { }",
         "accepted\nprocedure f\nreturn\nend\nprocedure g\nreturn\nend\n",
     ),
-    (b"f() { } g(x) [x|->] { } h(x) [x|->] { }", "failed g\n"),
+    (
+        b"f() { } g(x) [x|->] { } h(x) [x|->] { }",
+        "failed g at 1:23 Leak\nvars x = s0\napart s0 != nil\natoms 1: s0|->\ntaken\nwant emp\n",
+    ),
     (
         b"f(x) [x|->hd:9223372036854775807] { } [x|->hd:9223372036854775807]",
         KEPT,
@@ -46,10 +48,22 @@ pub const ANSWERS: [(&[u8], &str); 36] = [
     (b"f(x) [x|->hd:x,tl:x] { } [x|->tl:x]", KEPT),
     (b"f\t(\r\nx )\n[ x|-> ]\n{ }\n[ x |-> ]\n", KEPT),
     (b"f(x) [nil|->] { }", "accepted\nprocedure f\nadd\nabsurd\n"),
-    (b"f(x) [x|->hd:1] { } [x|->hd:2]", FAILED),
-    (b"f(x) [x|->] { } [x|->hd:nil]", FAILED),
-    (b"f(x) [x|->] { }", FAILED),
-    (b"f(x) { } [x|->]", FAILED),
+    (
+        b"f(x) [x|->hd:1] { } [x|->hd:2]",
+        "failed f at 1:19 NotEqual\nvars x = s0\napart s0 != nil\natoms 1: s0|->hd:1\ntaken\nwant 1 == 2\n",
+    ),
+    (
+        b"f(x) [x|->] { } [x|->hd:nil]",
+        "failed f at 1:15 NotEqual\nvars x = s0\napart s0 != nil\natoms 1: s0|->\ntaken\nwant ? == nil\n",
+    ),
+    (
+        b"f(x) [x|->] { }",
+        "failed f at 1:15 Leak\nvars x = s0\napart s0 != nil\natoms 1: s0|->\ntaken\nwant emp\n",
+    ),
+    (
+        b"f(x) { } [x|->]",
+        "failed f at 1:8 NoAtom\nvars x = s0\napart\natoms\ntaken\nwant s0|->\n",
+    ),
     (b"f(x) [x|->] { x->hd = 007; } [x|->hd:7]", WRITTEN),
     (b"f(x) [x|->] { {x->hd = 1;} } [x|->hd:1]", WRITTEN),
     (b"a; f(x) [x|->a:1] { x->a = 2; } [x|->a:2]", WRITTEN),
@@ -63,13 +77,28 @@ pub const ANSWERS: [(&[u8], &str); 36] = [
         b"f(x; y) [x|-> * y|->] { x->hd = y; } [x|->hd:y * y|->]",
         "accepted\nprocedure f\nadd\nadd\nmutate 1\nreturn\ncell 1\ncell 2\nend\n",
     ),
-    (b"f(x) [x|->hd:_y] { } [x|->]", NOT_BUILT),
-    (b"f(x) [x == nil] { }", NOT_BUILT),
-    (b"f(x) { } [list(x)]", NOT_BUILT),
-    (b"f(x) { x = nil; }", NOT_BUILT),
-    (b"f(x;) { x = new(); }", NOT_BUILT),
-    (b"f() { } g() { f(); }", NOT_BUILT),
-    (b"resource r () []", NOT_BUILT),
+    (b"f(x) [x|->hd:_y] { } [x|->]", KEPT),
+    (
+        b"f(x) [x == nil] { }",
+        "accepted\nprocedure f\nadd\nreturn\nend\n",
+    ),
+    (
+        b"f(x) { } [list(x)]",
+        "failed f at 1:8 NoAtom\nvars x = s0\napart s0 != nil\natoms\ntaken\nwant ls(s0,nil)\n",
+    ),
+    (
+        b"f(x) { x = nil; }",
+        "accepted\nprocedure f\nassign\nassign\nreturn\nend\n",
+    ),
+    (
+        b"f(x;) { x = new(); }",
+        "failed f at 1:20 Leak\nvars x = s1\napart s1 != nil\natoms 1: s1|->\ntaken\nwant emp\n",
+    ),
+    (
+        b"f() { } g() { f(); }",
+        "accepted\nprocedure f\nreturn\nend\nprocedure g\ncall\ngive\nreturn\nend\n",
+    ),
+    (b"resource r () []", "accepted\n"),
 ];
 
 /// Files that are refused for their words, with the kind and the place.
@@ -289,75 +318,111 @@ pub const UNDETERMINED: [(&[u8], &str); 8] = [
 
 /// Files with which nothing is wrong, and what is said of them.
 pub const IN_ORDER: [(&[u8], &str); 29] = [
-    (b"f() [__ == nil] { }", NOT_BUILT),
+    (
+        b"f() [__ == nil] { }",
+        "accepted\nprocedure f\nadd\nreturn\nend\n",
+    ),
     (b"f() { } /* \xc3\xa4 @ */", EMPTY),
-    (b"f(x) { x->tl = -9223372036854775808; }", FAILED),
-    (b"f(x) { x->tl = 9223372036854775807; }", FAILED),
+    (
+        b"f(x) { x->tl = -9223372036854775808; }",
+        "failed f at 1:8 NoCell\nvars x = s0\napart\natoms\ntaken\nwant cell s0\n",
+    ),
+    (
+        b"f(x) { x->tl = 9223372036854775807; }",
+        "failed f at 1:8 NoCell\nvars x = s0\napart\natoms\ntaken\nwant cell s0\n",
+    ),
     (b"f(;) { }", EMPTY),
     (b"f(x;) { }", EMPTY),
-    (b"resource r () []", NOT_BUILT),
-    (b"f(x) { dispose x; dispose(x); }", NOT_BUILT),
-    (b"f(x) { nil->tl = 3; 3->hd = nil; }", FAILED),
+    (b"resource r () []", "accepted\n"),
+    (
+        b"f(x) { dispose x; dispose(x); }",
+        "failed f at 1:8 NoCell\nvars x = s0\napart\natoms\ntaken\nwant cell s0\n",
+    ),
+    (
+        b"f(x) { nil->tl = 3; 3->hd = nil; }",
+        "failed f at 1:8 NoCell\nvars x = s0\napart\natoms\ntaken\nwant cell nil\n",
+    ),
     (
         b"f(x) [if x == nil then emp else if (x != nil) then emp else emp * x == nil] { }",
-        NOT_BUILT,
+        "accepted\nprocedure f\nsplit s0 nil\nthen\nreturn\nend\nelse\nthen\nreturn\nend\n",
     ),
     (
         b"f(x) [if x == nil then x == _y else x|->tl:_y] { }",
-        NOT_BUILT,
+        "failed f at 1:50 Leak\nvars x = s0\napart s0 != nil\natoms 1: s0|->tl:s1\ntaken\nwant emp\n",
     ),
-    (b"f(x) [ls(_a,_b) * _b|->tl:_a * x|->tl:_b] { }", NOT_BUILT),
-    (b"f(x) [_a == _b * _b == x] { }", NOT_BUILT),
+    (
+        b"f(x) [ls(_a,_b) * _b|->tl:_a * x|->tl:_b] { }",
+        "failed f at 1:45 Leak\nvars x = s0\napart s0 != nil, s1 != nil\natoms 1: s0|->tl:s1, 2: s1|->tl:s1\ntaken\nwant emp\n",
+    ),
+    (
+        b"f(x) [_a == _b * _b == x] { }",
+        "accepted\nprocedure f\nadd\nadd\nreturn\nend\n",
+    ),
     (
         b"f(x) [if x == nil then (if x == nil then _z == x * list(_z) else _z == nil) else emp] { }",
-        NOT_BUILT,
+        "accepted\nprocedure f\nsplit s0 nil\nthen\nthen\nadd\nadd\ndrop 1\nreturn\nend\nelse\nreturn\nend\n",
     ),
     (
         b"resource r (v) [] f() { with r when (v == nil) { v = nil; } }",
-        NOT_BUILT,
+        "accepted\nprocedure f\nenter\nadd\nassign\nexit\ngive\nreturn\nend\n",
     ),
     (
         b"resource r (v) [] resource s (w) [] f() { with r when (true) { with s when (v == w) { } } }",
-        NOT_BUILT,
+        "accepted\nprocedure f\nenter\nenter\nadd\nexit\ngive\nexit\ngive\nreturn\nend\n",
     ),
     (
         b"resource r (v) [] f() { local v; v = nil; } [v == nil]",
-        NOT_BUILT,
+        "failed f at 1:43 NotEqual\nvars v = nil, r.v = s0\napart\natoms\ntaken\nwant s0 == nil\n",
     ),
-    (b"f(y) { } p(a;) { f(a) || f(a); }", NOT_BUILT),
+    (
+        b"f(y) { } p(a;) { f(a) || f(a); }",
+        "accepted\nprocedure f\nreturn\nend\nprocedure p\nfork\ngive\nreturn\nend\n",
+    ),
     (
         b"resource r (v) [] g(y) { } p() [v == nil] { g(v) || g(v); }",
-        NOT_BUILT,
+        "accepted\nprocedure g\nreturn\nend\nprocedure p\nadd\nfork\ngive\nreturn\nend\n",
     ),
     (
         b"resource r (v) [] f() [v == nil] { v = nil; g(); } g() { } h() { with r when (true) { f(); } }",
-        NOT_BUILT,
+        "failed h at 1:87 NotEqual\nvars r.v = s0\napart\natoms\ntaken\nwant s0 == nil\n",
     ),
-    (b"f(x) [_a == _a * _a == x] { }", NOT_BUILT),
-    (b"f(x) [_a != x * x|->tl:_a] { }", NOT_BUILT),
-    (b"resource r (v) [] f(v;) { v = nil; }", NOT_BUILT),
+    (
+        b"f(x) [_a == _a * _a == x] { }",
+        "accepted\nprocedure f\nadd\nadd\nreturn\nend\n",
+    ),
+    (
+        b"f(x) [_a != x * x|->tl:_a] { }",
+        "failed f at 1:30 Leak\nvars x = s0\napart s0 != nil, s1 != s0\natoms 1: s0|->tl:s1\ntaken\nwant emp\n",
+    ),
+    (
+        b"resource r (v) [] f(v;) { v = nil; }",
+        "accepted\nprocedure f\nassign\nreturn\nend\n",
+    ),
     (
         b"resource r (v) [] f(v;) [v == nil] { } g(x;) { f(x;); }",
-        NOT_BUILT,
+        "failed g at 1:48 NotEqual\nvars x = s0\napart\natoms\ntaken\nwant s0 == nil\n",
     ),
     (
         b"resource r (v) [] f() { local v; while (v != nil) [v == nil] { } }",
-        NOT_BUILT,
+        "accepted\nprocedure f\nloop\nsame\naround\nadd\nadd\nabsurd\nadd\nadd\nreturn\nend\n",
     ),
     (
         b"f() { with r when (v == nil) { } } resource r (v) []",
-        NOT_BUILT,
+        "accepted\nprocedure f\nenter\nadd\nexit\ngive\nreturn\nend\n",
     ),
-    (b"a; tl; f(x) [list(x)] { }", NOT_BUILT),
-    (b"f; resource f (f) [] f(g;) { }", NOT_BUILT),
+    (
+        b"a; tl; f(x) [list(x)] { }",
+        "failed f at 1:25 Leak\nvars x = s0\napart s0 != nil\natoms 1: ls(s0,nil)\ntaken\nwant emp\n",
+    ),
+    (b"f; resource f (f) [] f(g;) { }", EMPTY),
     (
         b"f(x) [(if x == nil then _y == nil else emp) * (if x == nil then emp else _y == nil)] { }",
-        NOT_BUILT,
+        "accepted\nprocedure f\nsplit s0 nil\nthen\nadd\nthen\nreturn\nend\nelse\nelse\nadd\nreturn\nend\n",
     ),
 ];
 
 /// The examples of docs/LANGUAGE.md, copied.
-pub const LANGUAGE: [(&[u8], &str); 13] = [
+pub const LANGUAGE: [(&[u8], &str); 27] = [
     (b"set(x) [x|->] { x->tl = 3; } [x|->tl:3]", SET_PROOF),
     (
         b"key, next;\nmark(x) [x|->] { x->key = 1; x->next = nil; } [x|->next:nil,key:1]",
@@ -365,24 +430,24 @@ pub const LANGUAGE: [(&[u8], &str); 13] = [
     ),
     (
         b"second(x) [ls(_y,nil) * x|->tl:_y] { } [ls(x,nil)]",
-        NOT_BUILT,
+        "accepted\nprocedure second\nadd\nadd\nreturn\nhead 1\nexact 2\nend\n",
     ),
     (
         b"resource r (v) [tree(_x)]",
         "file refused: 40 Undetermined at 1:17\n",
     ),
-    (b"resource r (v) [v|->tl:_x * tree(_x)]", NOT_BUILT),
+    (b"resource r (v) [v|->tl:_x * tree(_x)]", "accepted\n"),
     (
         b"resource buf (c, full) [if full == 0 then emp else c|->]\nput(x) [x|->] { with buf when (full == 0) { c = x; full = 1; } } [emp]\nget(y;) [emp] { with buf when (full != 0) { y = c; full = 0; } } [y|->]\nmain() { local x, y; x = new(); put(x) || get(y;); dispose(y); }",
-        NOT_BUILT,
+        "accepted\nprocedure put\nadd\nenter\nsplit s2 0\nthen\nadd\nassign\nassign\nexit\nelse\ncell 1\ngive\nreturn\nend\nelse\nadd\nadd\nabsurd\nprocedure get\nenter\nsplit s2 0\nthen\nadd\nabsurd\nelse\nadd\nadd\nassign\nassign\nexit\nthen\ngive\nreturn\ncell 1\nend\nprocedure main\nnew\nfork\ncell 1\ngive\nadd\ndispose 2\nreturn\nend\n",
     ),
     (
         b"f(x) [if x == nil then x == _y else x|->tl:_y] { }",
-        NOT_BUILT,
+        "failed f at 1:50 Leak\nvars x = s0\napart s0 != nil\natoms 1: s0|->tl:s1\ntaken\nwant emp\n",
     ),
     (
         b"rev(o; i) [list(i)] {\n  local t;\n  o = nil;\n  while (i != nil) [list(o) * list(i)] {\n    t = i->tl;\n    i->tl = o;\n    o = i;\n    i = t;\n  }\n} [list(o)]\n",
-        NOT_BUILT,
+        "accepted\nprocedure rev\nadd\nassign\nassign\nloop\nempty\nexact 1\naround\nadd\nadd\nadd\nunroll 3\nlook 4\nmutate 4\nassign\nassign\nagain\nhead 4\nexact 2\nexact 5\nend\nadd\nadd\nadd\ndrop 3\nreturn\nexact 2\nend\n",
     ),
     (
         b"resource mm (f) [list(f)]\npeek(x;) { x = f; }",
@@ -390,7 +455,7 @@ pub const LANGUAGE: [(&[u8], &str); 13] = [
     ),
     (
         b"resource mm (f) [list(f)]\npeek(x;) { with mm when (true) { x = f; } }\nlook(x;) [f == nil] { x = f; }",
-        NOT_BUILT,
+        "accepted\nprocedure peek\nenter\nadd\nassign\nexit\nexact 1\ngive\nreturn\nend\nprocedure look\nadd\nassign\nreturn\nend\n",
     ),
     (
         b"resource r (v) []\na() { with r when (true) { v = nil; } }\nb() { with r when (true) { a(); } }",
@@ -402,24 +467,63 @@ pub const LANGUAGE: [(&[u8], &str); 13] = [
     ),
     (
         b"f(x; y) { x = y; }\np(a, b;) { f(a; nil) || f(b; nil); }",
-        NOT_BUILT,
-    ),
-];
-
-/// The files of examples/, and their answers.
-pub const EXAMPLES: [(&[u8], &str); 4] = [
-    (b"set(x) [x|->] { x->tl = 3; } [x|->tl:3]\n", SET_PROOF),
-    (
-        b"swap(x, y) [x|->tl:y * y|->tl:x] {\n  x->tl = x;\n  y->tl = y;\n  x->hd = y;\n  y->hd = x;\n} [x|->tl:x,hd:y * y|->hd:x]\n",
-        "accepted\nprocedure swap\nadd\nadd\nmutate 1\nmutate 2\nmutate 1\nmutate 2\nreturn\ncell 1\ncell 2\nend\n",
+        "accepted\nprocedure f\nassign\nreturn\nend\nprocedure p\nfork\ngive\nreturn\nend\n",
     ),
     (
-        b"leak(x, y) [x|-> * y|->] {\n  y->tl = x;\n} [y|->tl:x]\n",
-        "failed leak\n",
+        b"push(top; value) [list(top)] {\n  local cell;\n  cell = new();\n  cell->hd = value;\n  cell->tl = top;\n  top = cell;\n} [list(top)]\n",
+        "accepted\nprocedure push\nadd\nnew\nmutate 2\nmutate 2\nassign\nreturn\nhead 2\nexact 1\nend\n",
     ),
     (
-        b"twice(x) [x|-> * x|->] { } [x|->hd:1]\n",
-        "accepted\nprocedure twice\nadd\nadd\nabsurd\n",
+        b"push(top; value) [list(top)] {\n  local cell;\n  cell = new();\n  cell->hd = value;\n  cell->tl = nil;\n  top = cell;\n} [list(top)]\n",
+        "failed push at 7:1 Leak\nvars top = s2, value = s1, cell = s2\napart s0 != nil, s2 != nil\natoms 1: ls(s0,nil)\ntaken 2: s2|->hd:s1,tl:nil\nwant emp\n",
+    ),
+    (
+        b"clear(top;) [list(top)] {\n  local cell;\n  while (top != nil) [list(top)] {\n    cell = top;\n    top = cell->tl;\n    dispose(cell);\n  }\n} [top == nil]\n",
+        "accepted\nprocedure clear\nadd\nloop\nexact 1\naround\nadd\nadd\nassign\nunroll 2\nlook 3\ndispose 3\nagain\nexact 4\nend\nadd\nadd\ndrop 2\nreturn\nsame\nend\n",
+    ),
+    (
+        b"clear(top;) [list(top)] {\n  local cell;\n  while (top != nil) {\n    cell = top;\n    top = cell->tl;\n    dispose(cell);\n  }\n} [top == nil]\n",
+        "failed clear at 5:5 NoCell\nvars top = s1, cell = s1\napart s1 != nil\natoms\ntaken\nwant cell s1\n",
+    ),
+    (
+        b"resource stack (top) [list(top)]\npush(value) {\n  local cell;\n  cell = new();\n  cell->hd = value;\n  with stack when (true) { cell->tl = top; top = cell; }\n}\n",
+        "accepted\nprocedure push\nnew\nmutate 1\nenter\nadd\nmutate 1\nassign\nexit\nhead 1\nexact 2\ngive\nreturn\nend\n",
+    ),
+    (
+        b"resource stack (top) [list(top)]\npush(value) {\n  local cell;\n  cell = new();\n  with stack when (true) { cell->tl = top; top = cell; }\n  cell->hd = value;\n}\n",
+        "failed push at 6:3 NoCell\nvars value = s0, cell = s1\napart s1 != nil\natoms\ntaken\nwant cell s1\n",
+    ),
+    (
+        b"resource stack (top) [list(top)]\npush(value) {\n  local cell;\n  cell = new();\n  cell->hd = value;\n  with stack when (true) { cell->tl = top; top = cell; }\n}\npop(value;) {\n  local cell;\n  with stack when (top != nil) { cell = top; top = cell->tl; }\n  value = cell->hd;\n  dispose(cell);\n}\nmain(value;) { push(1) || pop(value;); }\n",
+        "accepted\nprocedure push\nnew\nmutate 1\nenter\nadd\nmutate 1\nassign\nexit\nhead 1\nexact 2\ngive\nreturn\nend\nprocedure pop\nenter\nadd\nadd\nassign\nunroll 1\nlook 2\nexit\nexact 3\ngive\nlook 2\ndispose 2\nreturn\nend\nprocedure main\nfork\ngive\nreturn\nend\n",
+    ),
+    (
+        b"walk(x) [list(x)] {\n  local t;\n  t = x;\n  while (t != nil) [ls(x,t) * list(t)] { t = t->tl; }\n} [list(x)]\n",
+        "failed walk at 4:3 Leak\nvars x = s0, t = s0\napart s1 != nil, s1 != s0\natoms 2: ls(s0,s1), 4: s1|->tl:s0\ntaken 5: ls(s0,nil)\nwant emp\n",
+    ),
+    (
+        b"f(x) [] { x->tl = 3; } []",
+        "failed f at 1:11 NoCell\nvars x = s0\napart\natoms\ntaken\nwant cell s0\n",
+    ),
+    (
+        b"f(x) [x|->tl:3] { } [x|->tl:4]",
+        "failed f at 1:19 NotEqual\nvars x = s0\napart s0 != nil\natoms 1: s0|->tl:3\ntaken\nwant 3 == 4\n",
+    ),
+    (
+        b"f(x,y) [] { } [x != y]",
+        "failed f at 1:13 NotDifferent\nvars x = s0, y = s1\napart\natoms\ntaken\nwant s0 != s1\n",
+    ),
+    (
+        b"f(x) [] { } [list(x)]",
+        "failed f at 1:11 NoAtom\nvars x = s0\napart s0 != nil\natoms\ntaken\nwant ls(s0,nil)\n",
+    ),
+    (
+        b"f(x) [x|->] { } []",
+        "failed f at 1:15 Leak\nvars x = s0\napart s0 != nil\natoms 1: s0|->\ntaken\nwant emp\n",
+    ),
+    (
+        b"f(x, y, z) [x != y * x != z * ls(x,y)] { } [ls(x,z)]",
+        "failed f at 1:42 EndNotAllocated\nvars x = s0, y = s1, z = s2\napart s1 != s0, s2 != s0\natoms 1: ls(s0,s1)\ntaken\nwant ls(s0,s2)\n",
     ),
 ];
 
@@ -435,7 +539,7 @@ pub const COUNTS: [((&str, &str, &str, &str), (u32, u32), &str, &str); 8] = [
     (
         ("f(", "p", ",", ") { p0 = nil; }"),
         (256, 257),
-        NOT_BUILT,
+        "accepted\nprocedure f\nassign\nassign\nreturn\nend\n",
         "26 TooMany at 1:1173",
     ),
     (
@@ -453,7 +557,7 @@ pub const COUNTS: [((&str, &str, &str, &str), (u32, u32), &str, &str); 8] = [
     (
         ("", "resource r", "()[]\n", "()[]"),
         (64, 65),
-        NOT_BUILT,
+        "accepted\n",
         "26 TooMany at 65:1",
     ),
     (
@@ -465,13 +569,13 @@ pub const COUNTS: [((&str, &str, &str, &str), (u32, u32), &str, &str); 8] = [
     (
         ("resource r (", "p", ",", ") []"),
         (256, 257),
-        NOT_BUILT,
+        "accepted\n",
         "26 TooMany at 1:1183",
     ),
     (
         ("resource a (x) [] resource r (", "p", ",", ") []"),
         (255, 256),
-        NOT_BUILT,
+        "accepted\n",
         "26 TooMany at 1:1196",
     ),
 ];
@@ -482,7 +586,7 @@ pub const NESTS: [((&str, &str, &str, &str), (u32, u32), &str, &str); 3] = [
     (
         ("f() [", "if nil == nil then emp else ", "", "emp] { }"),
         (63, 64),
-        NOT_BUILT,
+        "accepted\nprocedure f\nthen\nreturn\nend\n",
         "11 TooDeep at 1:1789",
     ),
     (
@@ -494,7 +598,7 @@ pub const NESTS: [((&str, &str, &str, &str), (u32, u32), &str, &str); 3] = [
     (
         ("f(x) {", "if (x==x) ", "", "{ } }"),
         (63, 64),
-        NOT_BUILT,
+        "accepted\nprocedure f\nthen\nthen\nthen\nthen\nthen\nthen\nthen\nthen\nthen\nthen\nthen\nthen\nthen\nthen\nthen\nthen\nthen\nthen\nthen\nthen\nthen\nthen\nthen\nthen\nthen\nthen\nthen\nthen\nthen\nthen\nthen\nthen\nthen\nthen\nthen\nthen\nthen\nthen\nthen\nthen\nthen\nthen\nthen\nthen\nthen\nthen\nthen\nthen\nthen\nthen\nthen\nthen\nthen\nthen\nthen\nthen\nthen\nthen\nthen\nthen\nthen\nthen\nthen\nreturn\nend\n",
         "11 TooDeep at 1:647",
     ),
 ];

@@ -10,12 +10,13 @@ use Rattle.sf_base.specs.declared.place.Place.{Place}
 use Rattle.sf_core.specs.declared.command.Expr.{Expr}
 use Rattle.sf_core.specs.declared.command.Expr.TheVariants.{Var as Variable, Nil as ENil, Int as EInt}
 use Rattle.sf_core.specs.declared.command.Occurrence.{Occurrence}
-use Rattle.sf_core.specs.Program.Syntax.{Call, Command, call, fork, Procedure}
+use Rattle.sf_core.specs.Program.Syntax.{Assertion, Call, Command, call, fork, Procedure}
 use Rattle.sf_sym.specs.declared.term.Term.{Term}
 use Rattle.sf_sym.specs.declared.term.Term.TheVariants.{Nil, Int}
 use Rattle.sf_sym.specs.Goal.{Item, gave, Goal, one_goal}
 use Rattle.sf_sym.specs.State.{State, term, term_at, with_symbols}
 use Rattle.sf_calls.specs.Changes.{changed}
+use Rattle.sf_calls.specs.Sets.{Sets}
 use Rattle.sf_rules.specs.Few.{if_few}
 use Rattle.sf_rules.specs.Setting.{Setting}
 use Rattle.sf_rules.specs.Words.{to_add, to_take}
@@ -50,12 +51,14 @@ abbrev pub term_after : State → List (Var × Term) → Call → Expr → Term
 term_after s set c = term_by (callee_term (term_at (set_vars set s.vars)) c (map (term s.vars) c.values))
 
 -- call: the precondition is due, then what the call may change is unknown, and the postcondition is assumed
-abbrev pub called : Setting → State → Place → Call → List Item → Procedure → Option (List Goal)
-called d s p c rest g =
-    let set = fresh_for s.next_sym (changed d.sets c) in
+abbrev pub called_with : Sets → State → Place → Call → (pre post : Assertion) → List Item → Option (List Goal)
+called_with sets s p c pre post rest =
+    let set = fresh_for s.next_sym (changed sets c) in
     if_few (length set) (one_goal (with_symbols (length set) s)
-    (to_take c.place (term_before s c) (d.ordered g.pre)
-    ++ (gave p set [] ∷ (to_add p (term_after s set c) (d.ordered g.post) ++ rest))))
+    (to_take c.place (term_before s c) pre ++ (gave p set [] ∷ (to_add p (term_after s set c) post ++ rest))))
+
+abbrev pub called : Setting → State → Place → Call → List Item → Procedure → Option (List Goal)
+called d s p c rest g = called_with d.sets s p c (d.ordered g.pre) (d.ordered g.post) rest
 
 abbrev pub call_row : Setting → State → Command → List Item → Option (List Goal)
 call_row d s (call p c) rest =
@@ -64,15 +67,20 @@ call_row d s _ rest = None
 
 -- fork: both preconditions are due, then what the calls may change is unknown, and both postconditions are assumed,
 -- each with what its own call may have changed
+abbrev pub forked_with : Sets → State → Place → (c e : Call) → (pre post : Assertion) → (pre_too post_too : Assertion)
+    → List Item → Option (List Goal)
+forked_with sets s p c e pre post pre_too post_too rest =
+    let first = fresh_for s.next_sym (changed sets c) in
+    let second = fresh_for (s.next_sym + length first) (changed sets e) in
+    if_few (length (first ++ second)) (one_goal (with_symbols (length (first ++ second)) s)
+    (to_take c.place (term_before s c) pre
+    ++ (to_take e.place (term_before s e) pre_too
+    ++ (gave p (first ++ second) [] ∷ (to_add p (term_after s first c) post
+    ++ (to_add p (term_after s second e) post_too ++ rest))))))
+
 abbrev pub forked : Setting → State → Place → (one two : Call) → List Item → (g h : Procedure) → Option (List Goal)
 forked d s p c e rest g h =
-    let first = fresh_for s.next_sym (changed d.sets c) in
-    let second = fresh_for (s.next_sym + length first) (changed d.sets e) in
-    if_few (length (first ++ second)) (one_goal (with_symbols (length (first ++ second)) s)
-    (to_take c.place (term_before s c) (d.ordered g.pre)
-    ++ (to_take e.place (term_before s e) (d.ordered h.pre)
-    ++ (gave p (first ++ second) [] ∷ (to_add p (term_after s first c) (d.ordered g.post)
-    ++ (to_add p (term_after s second e) (d.ordered h.post) ++ rest))))))
+    forked_with d.sets s p c e (d.ordered g.pre) (d.ordered g.post) (d.ordered h.pre) (d.ordered h.post) rest
 
 abbrev pub fork_row : Setting → State → Command → List Item → Option (List Goal)
 fork_row d s (fork p c e) rest =

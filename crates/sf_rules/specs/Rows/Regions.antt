@@ -9,7 +9,7 @@ use Rattle.sf_base.specs.declared.ids.Var.TheVariants.{Shared}
 use Rattle.sf_base.specs.declared.place.Place.{Place}
 use Rattle.sf_core.specs.declared.assertion.Test.{Test}
 use Rattle.sf_core.specs.declared.command.Expr.{Expr}
-use Rattle.sf_core.specs.Program.Syntax.{Command, with, Block, Resource}
+use Rattle.sf_core.specs.Program.Syntax.{Assertion, Command, with, Block, Resource}
 use Rattle.sf_sym.specs.Goal.{Item, gave, exit, Goal, one_goal, to_run}
 use Rattle.sf_sym.specs.State.{State, term}
 use Rattle.sf_rules.specs.Few.{if_few}
@@ -23,14 +23,18 @@ variables_from r i [] = []
 variables_from r i (name ∷ names) = Shared r i ∷ variables_from r (suc i) names
 
 -- enter: the resource's variables are there, with unknown values; its invariant and the condition are assumed
+abbrev pub entered_with : State → Place → List Var → (invariant : Assertion) → Test Expr → List Item
+    → Option (List Goal)
+entered_with s p xs invariant t inside =
+    let now = with_fresh xs s in
+    if_few (length xs) (one_goal now
+    (to_add p (term now.vars) invariant ++ (to_add_test p (term now.vars) t ++ inside)))
+
 abbrev pub entered : Setting → State → Place → ResId → Test Expr → Block → List Item → Resource
     → Option (List Goal)
 entered d s p r t body rest of =
-    let xs = variables_from r 0 of.variables in
-    let now = with_fresh xs s in
-    if_few (length xs) (one_goal now
-    (to_add p (term now.vars) (d.ordered of.invariant)
-    ++ (to_add_test p (term now.vars) t ++ (to_run body ++ (exit p r ∷ rest)))))
+    entered_with s p (variables_from r 0 of.variables) (d.ordered of.invariant) t
+    (to_run body ++ (exit p r ∷ rest))
 
 abbrev pub enter_row : Setting → State → Command → List Item → Option (List Goal)
 enter_row d s (with p r t body) rest =

@@ -2,7 +2,6 @@
 -- Berdine, Calcagno, O'Hearn, "Symbolic Execution with Separation Logic" (2005) and "Smallfoot" (2005); O'Hearn
 -- (2007) for regions and parallel calls.
 use Rattle.std.specs.Prelude.{cond, Option, None, List}
-use Rattle.sf_consume.specs.Subtract.{bind_step, same_step, apart_step, cell_step, empty_step, exact_step, head_step, join_step, node_step}
 use Rattle.sf_rules.specs.Rows.Add.{assume_row}
 use Rattle.sf_sym.specs.declared.tag.Tag.{Tag}
 use Rattle.sf_sym.specs.declared.tag.Tag.TheVariants as t
@@ -15,7 +14,7 @@ use Rattle.sf_normal.specs.Knowledge.{absurd_row, drop_row, force_row, split_row
 use Rattle.sf_rules.specs.Rows.Front.{at_command, at_add, at_take, at_gave, at_head, at_again, at_exit, at_return, at_end}
 use Rattle.sf_rules.specs.Rows.Loops.{loop_row, around_row, again_row}
 use Rattle.sf_rules.specs.Rows.Regions.{enter_row, exit_row}
-use Rattle.sf_rules.specs.Rows.Take.{take_row}
+use Rattle.sf_rules.specs.Rows.Take.{subtract_row}
 use Rattle.sf_rules.specs.Setting.{Setting}
 use Rattle.sf_rules.specs.Table.{has_numbers}
 
@@ -45,15 +44,15 @@ row_of d g t.Return = at_return (return_row g.state) g.todo
 row_of d g t.Give = at_gave (give_row g.state) g.todo
 row_of d g t.End = at_end (end_row g.state) g.todo
 row_of d g t.Add = at_add (assume_row g.state) g.todo
-row_of d g t.Bind = at_take (take_row bind_step g.state) g.todo
-row_of d g t.Same = at_take (take_row same_step g.state) g.todo
-row_of d g t.Apart = at_take (take_row apart_step g.state) g.todo
-row_of d g (t.Cell a) = at_take (take_row (cell_step a) g.state) g.todo
-row_of d g t.Empty = at_take (take_row empty_step g.state) g.todo
-row_of d g (t.Exact a) = at_take (take_row (exact_step a) g.state) g.todo
-row_of d g (t.Head a) = at_take (take_row (head_step a) g.state) g.todo
-row_of d g (t.Join a) = at_take (take_row (join_step a) g.state) g.todo
-row_of d g (t.Node a) = at_take (take_row (node_step a) g.state) g.todo
+row_of d g t.Bind = at_take (subtract_row t.Bind g.state) g.todo
+row_of d g t.Same = at_take (subtract_row t.Same g.state) g.todo
+row_of d g t.Apart = at_take (subtract_row t.Apart g.state) g.todo
+row_of d g (t.Cell a) = at_take (subtract_row (t.Cell a) g.state) g.todo
+row_of d g t.Empty = at_take (subtract_row t.Empty g.state) g.todo
+row_of d g (t.Exact a) = at_take (subtract_row (t.Exact a) g.state) g.todo
+row_of d g (t.Head a) = at_take (subtract_row (t.Head a) g.state) g.todo
+row_of d g (t.Join a) = at_take (subtract_row (t.Join a) g.state) g.todo
+row_of d g (t.Node a) = at_take (subtract_row (t.Node a) g.state) g.todo
 
 -- the goals that are left by a tag at a goal, or None where there is no row
 abbrev pub row : Setting → Goal → Tag → Option (List Goal)

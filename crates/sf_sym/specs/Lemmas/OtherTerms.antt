@@ -137,12 +137,19 @@ module _ {E F : Type 0} (to : E → F) where
         made-more (OccursIn that) (OccursInOne (choose p t this that)) y (λ x i. inr (inr i)) (level-made y that o)
 
 -- what an existential stands for was made of what it stood for
-bindings-made : (to : Term → Term) (bindings : List (Option Term)) (n : ℕ) (t : Term)
+pub bindings-made : (to : Term → Term) (bindings : List (Option Term)) (n : ℕ) (t : Term)
     → get_or (map (option_map to) bindings) n None ≡ Some t
     → (u : Term) × (get_or bindings n None ≡ Some u) × (t ≡ to u)
 bindings-made to [] n t e = absurd (cc)
 bindings-made to (b ∷ bs) zero t e = option_map-some to b t e
 bindings-made to (b ∷ bs) (suc n) t e = bindings-made to bs n t e
+
+-- and it stands for what is made of what it stood for
+pub bindings-there : (to : Term → Term) (bindings : List (Option Term)) (n : ℕ) (t : Term)
+    → get_or bindings n None ≡ Some t → get_or (map (option_map to) bindings) n None ≡ Some (to t)
+bindings-there to [] n t e = absurd (cc)
+bindings-there to (b ∷ bs) zero t e = ap (option_map to) e
+bindings-there to (b ∷ bs) (suc n) t e = bindings-there to bs n t e
 
 -- Terms of the same values
 module _ (w : ℕ → Value) (to : Term → Term) (same : (t : Term) → term_value w (to t) ≡ term_value w t) where

@@ -60,7 +60,7 @@ other_symbols_are_free v w goal e free taken below s h =
 
 -- a term that takes a symbol's place has its value
 module _ (w : ℕ → Value) (n : ℕ) (by : Term) (same : w n ≡ term_value w by) where
-  put-value : (t : Term) → term_value w (put_for n by t) ≡ term_value w t
+  pub put-value : (t : Term) → term_value w (put_for n by t) ≡ term_value w t
   put-value Nil = refl
   put-value (Int i) = refl
   put-value (Sym m) = go (m == n) refl
@@ -70,11 +70,11 @@ module _ (w : ℕ → Value) (n : ℕ) (by : Term) (same : w n ≡ term_value w 
       go false i = refl
 
 -- the symbol that goes has the value of the term that takes its place
-abbrev HasItsValue : (ℕ → Value) → Option (ℕ × Term) → Type 0
+abbrev pub HasItsValue : (ℕ → Value) → Option (ℕ × Term) → Type 0
 HasItsValue w None = ⊥
 HasItsValue w (Some r) = w r.0 ≡ term_value w r.1
 
-goes-value : (w : ℕ → Value) (t u : Term) → same_term t u ≡ false → term_value w t ≡ term_value w u
+pub goes-value : (w : ℕ → Value) (t u : Term) → same_term t u ≡ false → term_value w t ≡ term_value w u
     → HasItsValue w (which_goes t u)
 goes-value w Nil Nil s e = absurd (cc)
 goes-value w Nil (Int j) s e = term-constants w Nil (Int j) refl e

@@ -2,4 +2,5 @@ use Rattle.sf_cli.proofs.Accepted.{accepted-sound}
 use Rattle.sf_cli.proofs.laws.accepted_files_are_sound.Goals as goal
 
 pub returns : goal.returns
-returns c = accepted-sound c.each_file_is_shallow.ensures c.elaborated_is_formed.ensures c.verdicts_prove.ensures c.proved_programs_are_sound.ensures
+returns c = accepted-sound c.each_file_is_shallow.ensures c.elaborated_is_formed.ensures c.taken_tags_prove.ensures
+    c.proofs_are_sound.ensures

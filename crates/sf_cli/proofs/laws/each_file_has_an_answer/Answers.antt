@@ -10,5 +10,6 @@ returns c = some-answer (record {
   formed = c.elaborated_is_formed.ensures;
   variables = c.each_program_has_an_answer.ensures;
   orders = c.undetermined_annotations_have_place.ensures;
-  verdicts = c.verdict_exists.ensures;
+  settings = c.setting_exists.ensures;
+  verdicts = c.programs_have_verdicts.ensures;
 })

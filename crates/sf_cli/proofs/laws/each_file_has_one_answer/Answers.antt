@@ -9,5 +9,6 @@ returns c = answer-once (record {
   names = c.each_file_is_one-2.ensures;
   breaches = c.each_program_has_one_answer.ensures;
   orders = c.never_taken_is_undetermined.ensures;
-  verdicts = c.verdict_is_unique.ensures;
+  settings = c.setting_is_unique.ensures;
+  verdicts = c.verdicts_are_unique.ensures;
 })

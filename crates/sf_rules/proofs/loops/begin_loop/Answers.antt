@@ -1,4 +1,4 @@
-use Rattle.std.proofs.Common.{◌≡◌, List, ◌∷◌, ◌++◌, rules, ap, ◌∙◌}
+use Rattle.std.proofs.Common.{◌≡◌, List, ◌∷◌, rules, ap, ◌∙◌}
 use Rattle.sf_core.specs.declared.command.Command.{Command as CodeCommand}
 use Rattle.sf_core.specs.Program.Syntax.{Command}
 use Rattle.sf_core.specs.Program.View.{assertion_of, block_of, command_of}

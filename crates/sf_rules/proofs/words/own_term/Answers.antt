@@ -1,4 +1,4 @@
-use Rattle.std.proofs.Common.{◌≡◌, ◌-◌, ◌∙◌, sym, ap, length}
+use Rattle.std.proofs.Common.{◌-◌, ◌∙◌, sym, length}
 use Rattle.sf_sym.specs.State.{term_at}
 use Rattle.sf_rules.proofs.OwnTerms.{after_references, found_at, none_at, of_none, of_reference, of_value}
 use Rattle.sf_rules.proofs.words.own_term.Goals as goal

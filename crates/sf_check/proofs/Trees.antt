@@ -1,0 +1,56 @@
+-- Proofs of the goals of a list, one by one.
+-- Names: `proofs-LAW` speaks of those of a list, `proof-LAW` of that of one goal.
+use Rattle.std.proofs.Common.{◌≡◌, List, [], ◌∷◌, ◌++◌, refl, sym, ap, ◌∙◌, subst, append_assoc}
+use Rattle.sf_sym.specs.declared.tag.Tag.{Tag}
+use Rattle.sf_sym.specs.Goal.{Goal}
+use Rattle.sf_rules.specs.Proving.{Proof, Proofs, no_more, and, preorder, preorders}
+use Rattle.sf_rules.specs.Setting.{Setting}
+
+-- proofs of equal lists of goals have the same tags
+proofs-same : (d : Setting) (gs hs : List Goal) → gs ≡ hs → (ps : Proofs d gs)
+    → (qs : Proofs d hs) × (preorders qs ≡ preorders ps)
+proofs-same d gs hs e ps = subst (λ zs. (qs : Proofs d zs) × (preorders qs ≡ preorders ps)) e (ps, refl)
+
+-- the same of one goal
+proof-same : (d : Setting) (g h : Goal) → g ≡ h → (p : Proof d g) → (q : Proof d h) × (preorder q ≡ preorder p)
+proof-same d g h e p = subst (λ z. (q : Proof d z) × (preorder q ≡ preorder p)) e (p, refl)
+
+-- proofs of no goals have no tags
+pub proofs-none : (d : Setting) (gs : List Goal) → gs ≡ [] → (ps : Proofs d gs) → preorders ps ≡ []
+proofs-none d gs n (no_more e) = refl
+proofs-none d gs n (and goal others e p ps) = absurd (cc)
+
+joined : (ts us vs ws : List Tag) → us ≡ vs ++ ws → ts ++ us ≡ (ts ++ vs) ++ ws
+joined ts us vs ws e = ap (λ zs. ts ++ zs) e ∙ sym (append_assoc ts vs ws)
+
+-- proofs of two lists of goals one after the other are proofs of each
+pub proofs-split : (d : Setting) (gs hs : List Goal) (ps : Proofs d (gs ++ hs))
+    → (qs : Proofs d gs) × (rs : Proofs d hs) × (preorders ps ≡ preorders qs ++ preorders rs)
+proofs-split d [] hs ps = (no_more refl, ps, refl)
+proofs-split d (g ∷ gs) hs (no_more e) = absurd (cc)
+proofs-split d (g ∷ gs) hs (and goal others e p ps) =
+    let same : others ≡ gs ++ hs = cc in
+    let head : g ∷ gs ≡ goal ∷ gs = cc in
+    let moved = proofs-same d others (gs ++ hs) same ps in
+    let parts = proofs-split d gs hs moved.0 in
+    let tags : preorders ps ≡ preorders parts.0 ++ preorders parts.1 = cc in (
+      and goal gs head p parts.0,
+      parts.1,
+      joined (preorder p) (preorders ps) (preorders parts.0) (preorders parts.1) tags,
+    )
+
+-- nothing after tags leaves them as they are
+append_nothing : (ts us : List Tag) → us ≡ [] → ts ++ us ≡ ts
+append_nothing [] us e = e
+append_nothing (t ∷ ts) us e = ap (λ vs. t ∷ vs) (append_nothing ts us e)
+
+-- a proof of the one goal of a list
+pub proof-one : (d : Setting) (g : Goal) (gs : List Goal) → gs ≡ g ∷ [] → (ps : Proofs d gs)
+    → (p : Proof d g) × (preorders ps ≡ preorder p)
+proof-one d g gs e (no_more n) = absurd (cc)
+proof-one d g gs e (and goal others k p ps) =
+    let same : goal ≡ g = cc in
+    let none : others ≡ [] = cc in
+    let moved = proof-same d goal g same p in
+    let alone = append_nothing (preorder p) (preorders ps) (proofs-none d others none ps) in
+    (moved.0, cc)

@@ -1,0 +1,183 @@
+//! A check of tags, one after the other, over the whole table of rules.
+
+ghost use Rattle.std.specs.Prelude.{◌≡◌, ◌∷◌, ◌⊎◌, [], IfErr, IfOk, MatchResult, None, Some, cond, ℕ};
+ghost use Rattle.std.specs.List.{slice_get};
+ghost use Rattle.sf_rules.specs.Proving.{Proves};
+ghost use Rattle.sf_check.specs.Accepted.{arranged_in, tags_in};
+ghost use Rattle.sf_check.specs.Internal.Stands.{open_goals, stand_of};
+ghost use Rattle.sf_check.specs.declared.refusal.CheckFault.TheVariants.{OutOfMemory, Refused as IsRefused};
+ghost use Rattle.sf_check.specs.declared.refusal.Refusal.{Refusal as RefusalOf};
+ghost use Rattle.sf_check.specs.Proven.{Proven};
+ghost use Rattle.sf_check.specs.Refusal.{IfRefused, Refused};
+ghost use Rattle.sf_check.specs.Stand.{begin, is_finished, taken, taken_at};
+ghost use Rattle.sf_precise.specs.Order.{IsOrdering};
+ghost use Rattle.sf_rules.specs.Setting.{Setting, setting_of};
+ghost use Rattle.sf_sym.specs.Goal.{goal_of};
+
+use crate::laws::proven_from_truncation;
+use crate::proof::Proof;
+use crate::refusal::{CheckFault, Refusal};
+use sf_base::ProcId;
+use sf_precise::Arranged;
+use sf_rules::{Children, RuleFault, apply_row, first_goal};
+use sf_sym::{Goal, Tag};
+use std::alloc::{AllocError, Global};
+
+/// How far tags have come.
+#[derive(Drop)]
+struct Stand<'a> {
+    /// The open goals, the next last.
+    goals: Vec<Goal<'a>>,
+    /// How many procedures have begun.
+    begun: usize,
+}
+
+impl<'a> Stand<'a> {
+    /// Whether all is proved: no goal is open, and no procedure is left.
+    fn is_finished(&self, arranged: &Arranged) -> bool
+        ghost d: { Setting }
+        requires setting { d ≡ setting_of d.ordered arranged.now }
+        ensures { result ≡ is_finished d (stand_of self.now) }
+    {
+        self.goals.is_empty() && self.begun >= arranged.program.procedures.len()
+    }
+
+    /// With no goal open, begins the next procedure. `false` exactly where the tag isn't that
+    /// procedure's; an `Err` means out of memory.
+    fn begin(&mut self, alloc: Global, arranged: &'a Arranged, tag: Tag) -> Result<bool, AllocError>
+        ghost d: { Setting }
+        requires ordered { IsOrdering d.ordered }
+        requires setting { d ≡ setting_of d.ordered arranged.now }
+        requires none_open { self.old.goals.items ≡ [] }
+        ensures { IfOk result (λ is_taken.
+            begin d self.old.begun (slice_get d.program.procedures self.old.begun) tag
+            ≡ cond is_taken (Some (stand_of self.new)) None) }
+    {
+        if self.begun >= arranged.program.procedures.len() {
+            return Ok(false);
+        }
+        let next = ProcId(self.begun as u32);
+        if tag != Tag::Procedure(next) {
+            return Ok(false);
+        }
+        self.goals.push(first_goal(alloc, arranged, next)?)?;
+        self.begun += 1;
+        Ok(true)
+    }
+
+    /// Puts the children of a goal before the other goals. `false` exactly where the tag has no row
+    /// at the goal; an `Err` means out of memory.
+    fn put_children(
+        &mut self,
+        alloc: Global,
+        arranged: &'a Arranged,
+        goal: Goal<'a>,
+        tag: Tag,
+    ) -> Result<bool, AllocError>
+        ghost d: { Setting }
+        requires ordered { IsOrdering d.ordered }
+        requires setting { d ≡ setting_of d.ordered arranged.now }
+        ensures { IfOk result (λ is_taken.
+            taken_at d self.old.begun (goal_of goal.entry ∷ open_goals self.old.goals.items) tag
+            ≡ cond is_taken (Some (stand_of self.new)) None) }
+    {
+        match apply_row(alloc, arranged, goal, tag) {
+            Ok(Children::None) => {}
+            Ok(Children::One(child)) => self.goals.push(child)?,
+            Ok(Children::Two(first, second)) => {
+                self.goals.push(second)?;
+                self.goals.push(first)?;
+            }
+            Err(RuleFault::NotARule) => return Ok(false),
+            Err(RuleFault::OutOfMemory) => return Err(AllocError),
+        }
+        Ok(true)
+    }
+
+    /// Takes the next tag. `false` exactly where it can't be taken; an `Err` means out of memory.
+    fn take(&mut self, alloc: Global, arranged: &'a Arranged, tag: Tag) -> Result<bool, AllocError>
+        ghost d: { Setting }
+        requires ordered { IsOrdering d.ordered }
+        requires setting { d ≡ setting_of d.ordered arranged.now }
+        ensures { IfOk result (λ is_taken. taken d (stand_of self.old) tag
+            ≡ cond is_taken (Some (stand_of self.new)) None) }
+    {
+        match self.goals.pop() {
+            Some(goal) => self.put_children(alloc, arranged, goal, tag),
+            None => self.begin(alloc, arranged, tag),
+        }
+    }
+}
+
+/// Takes the tags one after the other. An `Err` says that they don't prove the program, or that
+/// memory ran out.
+fn take_all<'a>(alloc: Global, arranged: &'a Arranged, tags: &[Tag]) -> Result<(), CheckFault>
+    ghost d: { Setting }
+    requires ordered { IsOrdering d.ordered }
+    requires setting { d ≡ setting_of d.ordered arranged.now }
+    ensures ok { IfOk result (λ _. Proves d tags.now) }
+    ensures err { IfErr result (λ e. IfRefused e (Refused d tags.now)) }
+{
+    let mut stand = Stand {
+        goals: Vec::new(alloc),
+        begun: 0,
+    };
+    for (number, tag) in tags.iter().enumerate() {
+        if stand.is_finished(arranged) {
+            return Err(CheckFault::Refused(number, Refusal::Leftover));
+        }
+        if !stand.take(alloc, arranged, *tag)? {
+            return Err(CheckFault::Refused(number, Refusal::NotARule));
+        }
+    }
+    if !stand.is_finished(arranged) {
+        return Err(CheckFault::Refused(tags.len(), Refusal::Unfinished));
+    }
+    Ok(())
+}
+
+/// Whether the tags prove the program: the proof exactly where they do, and else exactly where and
+/// why they are refused. Instead of either answer memory may have run out.
+pub fn check<'a>(
+    alloc: Global,
+    arranged: &'a Arranged,
+    tags: Vec<Tag>,
+) -> Result<Proof<'a>, CheckFault>
+    ghost d: { Setting }
+    requires ordered { IsOrdering d.ordered }
+    requires setting { d ≡ setting_of d.ordered arranged.now }
+    ensures proves { IfOk result (λ _. Proves d tags.items) }
+    ensures arranged { IfOk result (λ proof. arranged_in proof ≡ arranged.now) }
+    ensures tags { IfOk result (λ proof. tags_in proof ≡ tags.items) }
+    ensures refused { IfErr result (λ e. IfRefused e (Refused d tags.items)) }
+    ensures only_proved { Proves d tags.items
+        → MatchResult result (λ _. Unit {0}) (λ e. e ≡ OutOfMemory) }
+    ensures only_refused { (number : ℕ) (why : RefusalOf) → Refused d tags.items number why
+        → MatchResult result (λ _. ⊥) (λ e. (e ≡ IsRefused number why) ⊎ (e ≡ OutOfMemory)) }
+{
+    take_all(alloc, arranged, &tags)?;
+    Ok(Proof { arranged, tags })
+}
+
+impl<'a> Proof<'a> {
+    /// The program that is proved.
+    pub fn arranged(&self) -> &'a Arranged
+        ensures { result.now ≡ arranged_in self.now }
+    {
+        self.arranged
+    }
+
+    /// The tags that prove it.
+    pub fn tags(&self) -> &[Tag]
+        ensures { result.now ≡ tags_in self.now }
+    {
+        &self.tags
+    }
+
+    /// The tags prove the program.
+    pub fn proves(&self)
+        ensures { Proven (arranged_in self.now) (tags_in self.now) }
+    {
+        proven_from_truncation();
+    }
+}

@@ -1,0 +1,6 @@
+pub mod Splitting
+pub mod Naming
+pub mod Walking
+pub mod Once
+pub mod Spelling
+pub mod Back

@@ -1,0 +1,182 @@
+//! What no clause says: what texts written by hand read as, with ample memory.
+
+use crate::{Lined, ProofFault, proof_text, read};
+use sf_base::ProcId;
+use sf_core::{Links, Program};
+use sf_sym::{Tag, Term};
+use std::alloc::{AllocError, Global};
+
+/// A program without procedures.
+fn empty(alloc: Global) -> Program {
+    let fields = Vec::new(alloc);
+    let links = Links::among(&fields);
+    Program {
+        fields,
+        resources: Vec::new(alloc),
+        procedures: Vec::new(alloc),
+        links,
+    }
+}
+
+/// Whether the text reads as these tags on these lines.
+fn reads_as(alloc: Global, text: &[u8], tags: &[Tag], lines: &[u32]) -> bool {
+    match read(alloc, &empty(alloc), text) {
+        Ok(
+            Lined {
+                tags: found,
+                lines: numbers,
+            },
+        ) => found.as_slice() == tags && numbers.as_slice() == lines,
+        Err(_) => false,
+    }
+}
+
+/// Why the text is refused, if it is.
+fn refusal(alloc: Global, text: &[u8]) -> Option<ProofFault> {
+    match read(alloc, &empty(alloc), text) {
+        Ok(_) => None,
+        Err(fault) => Some(fault),
+    }
+}
+
+#[test]
+fn texts_read_as_their_tags(rt: HostRuntime) {
+    let most = Term::Sym(4_294_967_295);
+    let cases: [(&[u8], &[Tag], &[u32]); 11] = [
+        (b"accepted", &[], &[]),
+        (b" \taccepted\t \r", &[], &[]),
+        (b"accepted\nend", &[Tag::End], &[2]),
+        (b"accepted\r\nend\r\n", &[Tag::End], &[2]),
+        (
+            b"accepted\n\n \t\n\r\nadd\n\n end \t\n\n",
+            &[Tag::Add, Tag::End],
+            &[5, 7],
+        ),
+        (
+            b"accepted\n\tsplit  s00\tnil \nsplit -0 s4294967295",
+            &[
+                Tag::Split(Term::Sym(0), Term::Nil),
+                Tag::Split(Term::Int(0), most),
+            ],
+            &[2, 3],
+        ),
+        (
+            b"accepted\nsplit -9223372036854775808 9223372036854775807",
+            &[Tag::Split(Term::Int(i64::MIN), Term::Int(i64::MAX))],
+            &[2],
+        ),
+        (
+            b"accepted\ncell 004294967295",
+            &[Tag::Cell(4_294_967_295)],
+            &[2],
+        ),
+        (
+            b"accepted\nprocedure nobody",
+            &[Tag::Procedure(ProcId(0))],
+            &[2],
+        ),
+        (
+            b"accepted\ndrop 1\nforce 2\nunroll 3\nlook 4\nmutate 5\ndispose 6\nexact 7\nhead 8\njoin 9\nnode 10",
+            &[
+                Tag::Drop(1),
+                Tag::Force(2),
+                Tag::Unroll(3),
+                Tag::Look(4),
+                Tag::Mutate(5),
+                Tag::Dispose(6),
+                Tag::Exact(7),
+                Tag::Head(8),
+                Tag::Join(9),
+                Tag::Node(10),
+            ],
+            &[2, 3, 4, 5, 6, 7, 8, 9, 10, 11],
+        ),
+        (
+            b"accepted\nabsurd\nassign\nnew\nthen\nelse\nloop\naround\nagain\ncall\nfork\nenter\nexit\nreturn\ngive\nbind\nsame\napart\nempty",
+            &[
+                Tag::Absurd,
+                Tag::Assign,
+                Tag::New,
+                Tag::Then,
+                Tag::Else,
+                Tag::Loop,
+                Tag::Around,
+                Tag::Again,
+                Tag::Call,
+                Tag::Fork,
+                Tag::Enter,
+                Tag::Exit,
+                Tag::Return,
+                Tag::Give,
+                Tag::Bind,
+                Tag::Same,
+                Tag::Apart,
+                Tag::Empty,
+            ],
+            &[
+                2, 3, 4, 5, 6, 7, 8, 9, 10, 11, 12, 13, 14, 15, 16, 17, 18, 19,
+            ],
+        ),
+    ];
+    for (text, tags, lines) in cases {
+        assert!(rt; reads_as(rt.alloc(), text, tags, lines));
+    }
+}
+
+#[test]
+fn the_first_line_that_is_none_is_named(rt: HostRuntime) {
+    let cases: [(&[u8], u32); 29] = [
+        (b"", 1),
+        (b"\n", 1),
+        (b"\naccepted", 1),
+        (b"acceptedend", 1),
+        (b"accepted end", 1),
+        (b"Accepted", 1),
+        (b"accepted\r\r", 1),
+        (b"accepted\r ", 1),
+        (b"end\nfoo", 1),
+        (b"accepted\naccepted", 2),
+        (b"accepted\n\n\nfoo\nbar", 4),
+        (b"accepted\nend\nEnd", 3),
+        (b"accepted\nend end", 2),
+        (b"accepted\nend 1", 2),
+        (b"accepted\ncell", 2),
+        (b"accepted\ncell 1 2", 2),
+        (b"accepted\ncell x", 2),
+        (b"accepted\ncell -1", 2),
+        (b"accepted\ncell +1", 2),
+        (b"accepted\ncell 4294967296", 2),
+        (b"accepted\ncell 1\r\r\nend", 2),
+        (b"accepted\nsplit s0", 2),
+        (b"accepted\nsplit s0 s1 s2", 2),
+        (b"accepted\nsplit s0 s4294967296", 2),
+        (b"accepted\nsplit nil 9223372036854775808", 2),
+        (b"accepted\nsplit nil NULL", 2),
+        (b"accepted\nprocedure", 2),
+        (b"accepted\nprocedure nil", 2),
+        (b"accepted\nprocedure _f", 2),
+    ];
+    for (text, line) in cases {
+        assert!(rt; refusal(rt.alloc(), text) == Some(ProofFault::BadLine(line)));
+    }
+}
+
+#[test]
+fn names_have_a_limit(rt: HostRuntime) -> Result<(), AllocError> {
+    let mut text = Vec::from_slice(rt.alloc(), b"accepted\nprocedure ")?;
+    for _ in 0..64 {
+        text.push(b'a')?;
+    }
+    assert!(rt; refusal(rt.alloc(), text.as_slice()).is_none());
+    text.push(b'a')?;
+    assert!(rt; refusal(rt.alloc(), text.as_slice()) == Some(ProofFault::BadLine(2)));
+    Ok(())
+}
+
+#[test]
+fn what_is_written_is_read_back(rt: HostRuntime) -> Result<(), AllocError> {
+    let tags = [Tag::Split(Term::Int(-7), Term::Nil), Tag::Join(4), Tag::End];
+    let text = proof_text(rt.alloc(), &empty(rt.alloc()), &tags)?;
+    assert!(rt; reads_as(rt.alloc(), text.as_slice(), &tags, &[2, 3, 4]));
+    Ok(())
+}

@@ -1,0 +1,6 @@
+pub mod Names
+pub mod Pieces
+pub mod Listed
+pub mod Wanted
+pub mod Failure
+pub mod Laws

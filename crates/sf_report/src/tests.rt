@@ -1,0 +1,143 @@
+//! What no clause says: how texts look that were written by hand. The program has no names; texts
+//! with names are tried where programs are read.
+
+use crate::{Stuck, failed, too_large};
+use sf_base::{Place, ProcId};
+use sf_core::{Conjunct, Links, Operand, Program, Test};
+use sf_sym::{Atom, Goal, Item, Pending, State, Term};
+use std::alloc::{AllocError, Global};
+
+/// A program without anything.
+fn empty(alloc: Global) -> Program {
+    let fields = Vec::new(alloc);
+    let links = Links::among(&fields);
+    Program {
+        fields,
+        resources: Vec::new(alloc),
+        procedures: Vec::new(alloc),
+        links,
+    }
+}
+
+/// Hands the part of that number over, if it is there.
+fn hand_over(s: &mut State, a: u32) -> Result<(), AllocError> {
+    if s.atom(a).is_some() {
+        s.hand_over_atom(a)?;
+    }
+    Ok(())
+}
+
+/// A state with three parts of the heap, of which the last and the first were handed over, and with
+/// one of its pairs twice.
+fn state(alloc: Global, p: &Program) -> Result<State, AllocError> {
+    let mut s = State::new(alloc, p.links, Vec::new(alloc), 3);
+    s.assume_apart(Term::Sym(0), Term::Sym(2))?;
+    s.assume_apart(Term::Nil, Term::Sym(1))?;
+    s.assume_apart(Term::Sym(1), Term::Nil)?;
+    s.assume_apart(Term::Sym(0), Term::Int(-7))?;
+    s.add_atom(Atom::Ls(Term::Sym(0), Term::Nil))?;
+    s.add_atom(Atom::Tree(Term::Int(5)))?;
+    s.add_atom(Atom::Ls(Term::Sym(1), Term::Sym(2)))?;
+    hand_over(&mut s, 3)?;
+    hand_over(&mut s, 1)?;
+    Ok(s)
+}
+
+/// The lines of that state.
+const LINES: &str =
+    "vars\napart s0 != -7, s1 != nil, s2 != s0\natoms 2: tree(5)\ntaken 1: ls(s0,nil), 3: ls(s1,s2)\n";
+
+/// Whether that is the text of the goal with that state and only that to do.
+fn says(
+    alloc: Global,
+    item: Item,
+    kind: Stuck,
+    first: &str,
+    want: &str,
+) -> Result<bool, AllocError> {
+    let p = empty(alloc);
+    let mut todo = Vec::new(alloc);
+    todo.push(item)?;
+    let goal = Goal {
+        state: state(alloc, &p)?,
+        todo,
+    };
+    let text = failed(alloc, &p, ProcId(0), &goal, kind)?;
+    let mut expected = Vec::from_slice(alloc, first.as_bytes())?;
+    expected.extend_from_slice(LINES.as_bytes())?;
+    expected.extend_from_slice(want.as_bytes())?;
+    Ok(text.as_slice() == expected.as_slice())
+}
+
+/// A conjunct that is still to be shown, at that place.
+fn take<'a>(alloc: Global, place: Place, c: Conjunct<Term>) -> Result<Item<'a>, AllocError> {
+    let mut conjuncts = Vec::new(alloc);
+    conjuncts.push(c)?;
+    let mut bindings = Vec::new(alloc);
+    bindings.push(Some(Term::Int(12)))?;
+    Ok(Item::Take(place, Pending::new(conjuncts, bindings), &[]))
+}
+
+#[test]
+fn what_is_left_at_the_end_is_told(rt: HostRuntime) -> Result<(), AllocError> {
+    let place = Place {
+        line: 7,
+        column: 30,
+    };
+    assert!(rt;
+        says(
+            rt.alloc(),
+            Item::End(place),
+            Stuck::Leak,
+            "failed  at 7:30 Leak\n",
+            "want emp\n",
+        )?
+    );
+    Ok(())
+}
+
+#[test]
+fn what_is_wanted_is_told(rt: HostRuntime) -> Result<(), AllocError> {
+    let alloc = rt.alloc();
+    let at = Place { line: 1, column: 2 };
+    let bound: Operand<Term> = Operand::Exists(0);
+    let two: Operand<Term> = Operand::Known(Term::Sym(2));
+    let equal = take(alloc, at, Conjunct::Holds(at, Test::Equal(bound, two)))?;
+    assert!(rt;
+        says(
+            alloc,
+            equal,
+            Stuck::NotEqual,
+            "failed  at 1:2 NotEqual\n",
+            "want 12 == s2\n"
+        )?
+    );
+    let differ = take(alloc, at, Conjunct::Holds(at, Test::Differ(two, bound)))?;
+    assert!(rt;
+        says(
+            alloc,
+            differ,
+            Stuck::NotDifferent,
+            "failed  at 1:2 NotDifferent\n",
+            "want s2 != 12\n"
+        )?
+    );
+    let cell = take(alloc, at, Conjunct::Points(at, two, Vec::new(alloc)))?;
+    assert!(rt;
+        says(
+            alloc,
+            cell,
+            Stuck::NoAtom,
+            "failed  at 1:2 NoAtom\n",
+            "want s2|->\n"
+        )?
+    );
+    Ok(())
+}
+
+#[test]
+fn too_many_tags_are_told_in_one_line(rt: HostRuntime) -> Result<(), AllocError> {
+    let text = too_large(rt.alloc(), &empty(rt.alloc()), ProcId(0))?;
+    assert!(rt; text.as_slice() == b"failed  at 1:1 TooLarge\n".as_slice());
+    Ok(())
+}

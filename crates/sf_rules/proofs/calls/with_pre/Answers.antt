@@ -1,0 +1,20 @@
+use Rattle.std.proofs.Common.{◌≡◌, List, ◌++◌, map, ap, sym, ◌∙◌, rules}
+use Rattle.sf_base.specs.declared.ids.Var.{Var}
+use Rattle.sf_core.specs.Program.View.{assertion_of, call_of}
+use Rattle.sf_sym.specs.declared.term.Term.{Term}
+use Rattle.sf_sym.specs.Goal.{todo_of}
+use Rattle.sf_sym.specs.State.{term, term_at}
+use Rattle.sf_rules.specs.Rows.Calls.{callee_term, term_by}
+use Rattle.sf_rules.specs.Words.{to_take}
+use Rattle.sf_rules.proofs.calls.with_pre.Goals as goal
+
+pub returns : goal.returns
+returns c =
+    let call = call_of c.args.call.now in
+    let vars : c.vars-2.result.now ≡ c.args.state.now.vars = c.vars-2.ensures in
+    let values : c.deref-2.result.now ≡ map (term c.args.state.now.vars) call.values =
+    c.deref-2.ensures.value ∙ c.in_ok-values.ensures
+    ∙ (λ i. map (term (c.vars.ensures i)) (c.deref.ensures.value i)) in
+    c.in_ok-todo.ensures
+    ∙ (λ i. to_take c.args.call.now.place (term_by (callee_term (term_at (vars i)) call (values i)))
+    (assertion_of c.args.pre.now) ++ todo_of c.args.todo.items)

@@ -1,0 +1,44 @@
+-- First: the goal with which the proof of a procedure begins.
+-- Berdine, Calcagno, O'Hearn, "Smallfoot" (2005): the precondition is assumed, the body run, the postcondition due.
+use Rattle.std.specs.Prelude.{ℕ, ◌+◌, ◌-◌, List, [], ◌∷◌, ◌++◌, get_or, length}
+use Rattle.std.specs.List.{flat_map, slice_get}
+use Rattle.std.specs.Option.{option_map, unwrap_or}
+use Rattle.sf_base.specs.declared.ids.ProcId.{ProcId}
+use Rattle.sf_base.specs.declared.ids.ResId.{ResId}
+use Rattle.sf_base.specs.declared.ids.Var.{Var}
+use Rattle.sf_core.specs.Program.Syntax.{Procedure, Program, Resource}
+use Rattle.sf_sym.specs.declared.term.Term.{Term}
+use Rattle.sf_sym.specs.Goal.{Goal, return, to_run}
+use Rattle.sf_sym.specs.State.{State, first_state, term}
+use Rattle.sf_sym.specs.Variables.{with_fresh}
+use Rattle.sf_rules.specs.Rows.Regions.{variables_from}
+use Rattle.sf_rules.specs.Setting.{Setting}
+use Rattle.sf_rules.specs.Table.{links_of, nils, symbols}
+use Rattle.sf_rules.specs.Words.{to_add}
+
+-- the variables of a resource of the program
+abbrev pub variables_of : Program → ResId → List Var
+variables_of p r =
+    unwrap_or (option_map (λ (of : Resource). variables_from r 0 of.variables) (slice_get p.resources r.0)) []
+
+-- the terms of its own variables at first: a symbol for each parameter, nil for each local
+abbrev pub own_vars : Procedure → List (Var × Term)
+own_vars g =
+    symbols 0 (g.references + g.values)
+    ++ nils (g.references + g.values) (length g.names - (g.references + g.values))
+
+-- the first state: a symbol, too, for each variable of the resources that it holds, and no cell
+abbrev pub state_by : Program → (held : List ResId) → Procedure → State
+state_by p held g =
+    with_fresh (flat_map (variables_of p) held) (first_state (links_of p) (own_vars g) (g.references + g.values))
+
+abbrev pub first_state_of : Setting → ProcId → Procedure → State
+first_state_of d f g = state_by d.program (get_or d.sets.holds f.0 []) g
+
+-- the first goal of that procedure, which has that number
+abbrev pub first_goal : Setting → ProcId → Procedure → Goal
+first_goal d f g = record {
+  state = first_state_of d f g;
+  todo = to_add g.place (term (first_state_of d f g).vars) (d.ordered g.pre)
+      ++ (to_run g.body ++ (return g.end (d.ordered g.post) ∷ []));
+}

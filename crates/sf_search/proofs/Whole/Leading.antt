@@ -1,0 +1,71 @@
+-- Searches and stacks of goals.
+-- Names: `leads-LAW` of what a search has chosen so far.
+use Rattle.std.proofs.Common.{◌≡◌, ℕ, zero, suc, ◌<◌, Option, Some, None, IfSome, List, [], ◌∷◌, ◌++◌, length, drop, map, refl, sym, ap, subst, append_assoc, arith}
+use Rattle.std.proofs.lemmas.List.{append-nil, reverse-append}
+use Rattle.std.proofs.lemmas.Option.{same_Some}
+use Rattle.std.specs.List.{slice_get}
+use Rattle.sf_rules.specs.Internal.Subgoals.{stack_of}
+use Rattle.sf_rules.specs.Rows.Whole.{row}
+use Rattle.sf_rules.specs.Setting.{Setting}
+use Rattle.sf_search.specs.Strategy.{chooses, takes}
+use Rattle.sf_base.specs.declared.limits.TheConstants.{PROCEDURE_TAGS}
+use Rattle.sf_search.specs.declared.verdicts.SearchFault.{SearchFault}
+use Rattle.sf_search.specs.declared.verdicts.SearchFault.TheVariants.{Stuck, TooLarge, NoRow, OutOfMemory}
+use Rattle.sf_search.specs.Whole.Ends.{EndsAs, FollowsAs}
+use Rattle.sf_search.specs.Whole.Judge.{Chosen, Outcome, no_row}
+use Rattle.sf_sym.specs.declared.tag.Tag.{Tag}
+use Rattle.sf_sym.specs.declared.goal.Goal.{Goal as CodeGoal}
+use Rattle.sf_sym.specs.Goal.{Goal, goal_of}
+
+-- what a search has chosen so far: whatever it chooses from here on, it chose from there
+abbrev pub Leads : Setting → (from to : List Goal) → List Tag → Type 0
+Leads d from to tags = (rest : List Tag) (o : Outcome) → Chosen d to rest o → Chosen d from (tags ++ rest) o
+
+pub leads_on : (d : Setting) (from gs : List Goal) (g : Goal) (tags : List Tag) (tag : Tag) (left : List Goal)
+    → Leads d from (g ∷ gs) tags → chooses g ≡ takes tag → row d g tag ≡ Some left
+    → Leads d from (left ++ gs) (tags ++ tag ∷ [])
+leads_on d from gs g tags tag left l c r =
+    λ rest o h. subst (λ ts. Chosen d from ts o) (sym (append_assoc tags (tag ∷ []) rest))
+    (l (tag ∷ rest) o (c, left, r, h))
+
+pub leads_end : (d : Setting) (from gs : List Goal) (tags : List Tag) (o : Outcome) → Leads d from gs tags
+    → Chosen d gs [] o → Chosen d from tags o
+leads_end d from gs tags o l h = subst (λ ts. Chosen d from ts o) (append-nil tags) (l [] o h)
+
+-- one more goal on a stack
+pub stack_push : (xs : List CodeGoal) (g : CodeGoal) → stack_of (xs ++ g ∷ []) ≡ goal_of g ∷ stack_of xs
+stack_push xs g = ap (map goal_of) (reverse-append xs (g ∷ []))
+
+-- none
+pub no_goals : (xs : List CodeGoal) → length xs ≡ 0 → stack_of xs ≡ []
+no_goals [] e = refl
+no_goals (x ∷ xs) e = absurd (omega (arith, e))
+
+-- where a tag leads no further the search ends so
+pub leads_fault : (d : Setting) (first g : Goal) (gs : List Goal) (tags : List Tag) (tag : Tag) (e : SearchFault)
+    → Leads d (first ∷ []) (g ∷ gs) tags → chooses g ≡ takes tag → length tags < PROCEDURE_TAGS
+    → FollowsAs d g tag (length tags) e → EndsAs d first e
+leads_fault d first g gs tags tag (Stuck h kind before) l c w f = absurd f
+leads_fault d first g gs tags tag TooLarge l c w f = absurd f
+leads_fault d first g gs tags tag (NoRow before) l c w f = (
+  tags,
+  sym f.0,
+  record { chosen = leads_end d (first ∷ []) (g ∷ gs) tags no_row l (tag, c, f.1); within = w },
+)
+leads_fault d first g gs tags tag OutOfMemory l c w f = tt
+
+-- what is so of a thing that may be there
+pub some_weaker : {X : Type 0} (P Q : X → Type 0) (o : Option X) → ((x : X) → P x → Q x) → IfSome o P → IfSome o Q
+some_weaker P Q None h k = tt
+some_weaker P Q (Some x) h k = h x k
+
+-- the procedure of that number
+pub at_index : {X : Type 0} (xs : List X) (i : ℕ) → i < length xs
+    → (x : X) × (slice_get xs i ≡ Some x) × (drop i xs ≡ x ∷ drop (suc i) xs)
+at_index [] i l = absurd (omega (arith, l))
+at_index (x ∷ xs) zero l = (x, refl, refl)
+at_index (x ∷ xs) (suc i) l = at_index xs i (omega (arith, l))
+
+pub some_at : {X : Type 0} (P : X → Type 0) (o : Option X) (x : X) → o ≡ Some x → IfSome o P → P x
+some_at P None x e h = absurd (cc)
+some_at P (Some y) x e h = subst P (same_Some y x e) h

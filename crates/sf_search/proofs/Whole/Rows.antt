@@ -1,0 +1,262 @@
+-- A tag that the strategy takes has a row.
+-- Names: `good-LAW` of choices whose tag has a row.
+use Rattle.std.proofs.Common.{◌≡◌, ℕ, ◌+◌, ◌<◌, Bool, true, false, ◌&&◌, ◌||◌, not, cond, nat_lt, Option, Some, None, List, [], ◌∷◌, ◌++◌, is_some, length, refl, sym, ap, ap₂, ◌∙◌, subst, arith, get_or}
+use Rattle.std.proofs.lemmas.Bool.{and_parts, or_parts, ltb-false}
+use Rattle.std.proofs.lemmas.Option.{same_Some}
+use Rattle.std.specs.List.{AllByRecursion, slice_get}
+use Rattle.std.specs.Option.{option_and_then, option_map}
+use Rattle.sf_base.specs.declared.ids.FieldId.{FieldId}
+use Rattle.sf_core.specs.declared.fields.Links.{Links}
+use Rattle.sf_core.specs.declared.assertion.Test.{Test}
+use Rattle.sf_core.specs.declared.assertion.Test.TheVariants.{True, Equal, Differ}
+use Rattle.sf_core.specs.Program.Formed.{TestWithin}
+use Rattle.sf_normal.specs.Knowledge.{split_row, unroll_one, unrolled_segment, unrolled_tree}
+use Rattle.sf_rules.specs.Rows.Whole.{row, row_of}
+use Rattle.sf_rules.specs.Setting.{Setting}
+use Rattle.sf_search.proofs.Whole.Found.{FoundAt, all-append, all-at, cell-of_atom, found-among, found-at, found-forced, found-none}
+use Rattle.sf_search.specs.Strategy.{Choice, Kind, at_cell, at_test, chooses, forced_ends, found_or, lowest, lowest_forced, opened, opened_by, opened_first, or_else, segment_at, split_by, split_found, split_or, stays, takes, takes_if, tree_at, undecided_ends, which}
+use Rattle.sf_search.specs.Whole.Shape.{HasLinks, HasShape}
+use Rattle.sf_sym.specs.Below.{AllInAtom, AllInAtoms, AreBelow, IsBelow, is_below}
+use Rattle.sf_sym.specs.Cells.{atom_at, cell_at, fields_at, without}
+use Rattle.sf_sym.specs.declared.atom.Atom.{Atom}
+use Rattle.sf_sym.specs.declared.atom.Atom.TheVariants.{Points, Ls, Tree}
+use Rattle.sf_sym.specs.declared.atom.Numbered.{Numbered}
+use Rattle.sf_sym.specs.declared.tag.Tag.{Tag}
+use Rattle.sf_sym.specs.declared.tag.Tag.TheVariants as t
+use Rattle.sf_sym.specs.declared.term.Term.{Term}
+use Rattle.sf_sym.specs.declared.term.Term.TheVariants.{Nil, Int, Sym}
+use Rattle.sf_sym.specs.Decided.{is_false, is_true}
+use Rattle.sf_sym.specs.Goal.{Goal}
+use Rattle.sf_sym.specs.Known.{ends, is_nothing}
+use Rattle.sf_sym.specs.Lemmas.{same_term_is}
+use Rattle.sf_sym.specs.State.{State}
+use Rattle.sf_sym.specs.Tests.{allocated, differs, is_absurd, is_constant, parts, same_term}
+
+-- a choice whose tag has a row among these
+abbrev pub Good : (Tag → Option (List Goal)) → Choice → Type 0
+Good R (takes tag) = is_some (R tag) ≡ true
+Good R (stays kind) = Unit {0}
+
+-- a choice that may be there
+abbrev pub GoodIf : (Tag → Option (List Goal)) → Option Choice → Type 0
+GoodIf R None = Unit {0}
+GoodIf R (Some c) = Good R c
+
+module _ (R : Tag → Option (List Goal)) where
+  pub good-or : (o : Option Choice) (c : Choice) → GoodIf R o → (o ≡ None → Good R c) → Good R (or_else o c)
+  good-or None c a b = b refl
+  good-or (Some x) c a b = a
+
+  pub good-if : (b : Bool) (tag : Tag) → (b ≡ true → is_some (R tag) ≡ true) → GoodIf R (takes_if b tag)
+  good-if true tag h = h refl
+  good-if false tag h = tt
+
+  pub good-map : {X : Type 0} (make : X → Tag) (o : Option X) → ((x : X) → o ≡ Some x → is_some (R (make x)) ≡ true)
+      → GoodIf R (option_map (λ x. takes (make x)) o)
+  good-map make None h = tt
+  good-map make (Some x) h = h x refl
+
+  pub good-found : {X : Type 0} (found : ℕ → Choice) (c : Choice) (o : Option (ℕ × X))
+      → ((p : ℕ × X) → o ≡ Some p → Good R (found p.0)) → Good R c → Good R (found_or found c o)
+  good-found found c None h k = k
+  good-found found c (Some p) h k = h p refl
+
+some-if : {X : Type 0} (b : Bool) (x : X) → b ≡ true → is_some (cond b (Some x) None) ≡ true
+some-if true x e = refl
+some-if false x e = absurd (cc)
+
+if-some : {X : Type 0} (b : Bool) (x y : X) → cond b (Some x) None ≡ Some y → (b ≡ true) × (x ≡ y)
+if-some true x y e = (refl, same_Some x y e)
+if-some false x y e = absurd (cc)
+
+if-none : {X : Type 0} (b : Bool) (x : X) → cond b (Some x) None ≡ None → b ≡ false
+if-none true x e = absurd (cc)
+if-none false x e = refl
+
+else-some : {X : Type 0} (b : Bool) (x y : X) → cond b None (Some x) ≡ Some y → (b ≡ false) × (x ≡ y)
+else-some true x y e = absurd (cc)
+else-some false x y e = (refl, same_Some x y e)
+
+three : (a b c : Bool) → a ≡ false → b ≡ true → c ≡ true → not a && (b && c) ≡ true
+three true b c e f h = absurd (cc)
+three false true true e f h = refl
+three false true false e f h = absurd (cc)
+three false false c e f h = absurd (cc)
+
+is-true : (b : Bool) → (b ≡ false → ⊥) → b ≡ true
+is-true true h = refl
+is-true false h = absurd (h refl)
+
+-- the ends of an atom have what each of its terms has, and nil
+ends-all : (P : Term → Type 0) (x : Atom) (e : Term × Term) → P Nil → AllInAtom P x → ends x ≡ Some e
+    → P e.0 × P e.1
+ends-all P (Points t fields) e n a i = absurd (cc)
+ends-all P (Ls t u) e n a i = subst (λ (p : Term × Term). P p.0 × P p.1) (same_Some (t, u) e i) a
+ends-all P (Tree t) e n a i = subst (λ (p : Term × Term). P p.0 × P p.1) (same_Some (t, Nil) e i) (a, n)
+
+undecided-is : (s : State) (x : Atom) (e : Term × Term) → undecided_ends s x ≡ Some e
+    → (ends x ≡ Some e) × (same_term e.0 e.1 ≡ false)
+undecided-is s x e i = go (ends x) i
+  where
+    go : (o : Option (Term × Term))
+        → option_and_then (λ p. cond (same_term p.0 p.1 || differs s p.0 p.1) None (Some p)) o ≡ Some e
+        → (o ≡ Some e) × (same_term e.0 e.1 ≡ false)
+    go None j = absurd (cc)
+    go (Some p) j =
+        let w = else-some (same_term p.0 p.1 || differs s p.0 p.1) p e j in (
+          ap Some w.1,
+          subst (λ (q : Term × Term). same_term q.0 q.1 ≡ false) w.1
+              (or_parts (same_term p.0 p.1) (differs s p.0 p.1) w.0).0,
+        )
+
+pub segment-is : (u : Term) (x : Atom) (w : Term) → segment_at u x ≡ Some w → x ≡ Ls u w
+segment-is u (Points v fields) w e = absurd (cc)
+segment-is u (Ls v y) w e =
+    let c = if-some (same_term v u) y w e in
+    ap₂ (λ (a b : Term). Ls a b) (same_term_is v u c.0) c.1
+segment-is u (Tree v) w e = absurd (cc)
+
+tree-is : (u : Term) (x y : Atom) → tree_at u x ≡ Some y → x ≡ Tree u
+tree-is u (Points v fields) y e = absurd (cc)
+tree-is u (Ls v w) y e = absurd (cc)
+tree-is u (Tree v) y e = ap Tree (same_term_is v u (if-some (same_term v u) (Tree v) y e).0)
+
+both-some : {X Y : Type 0} (f : X → Y) (b : Bool) (o : Option X) → b ≡ true → is_some o ≡ true
+    → is_some (cond b (option_map f o) None) ≡ true
+both-some f true None e h = absurd (cc)
+both-some f true (Some x) e h = refl
+both-some f false o e h = absurd (cc)
+
+segment-unrolls : (o : Option FieldId) (t u : Term) (s : State) → is_some o ≡ true
+    → is_some (unrolled_segment o t u s) ≡ true
+segment-unrolls None t u s e = absurd (cc)
+segment-unrolls (Some f) t u s e = refl
+
+tree-unrolls : (o p : Option FieldId) (t : Term) (s : State) → is_some o ≡ true → is_some p ≡ true
+    → is_some (unrolled_tree o p t s) ≡ true
+tree-unrolls None p t s e h = absurd (cc)
+tree-unrolls (Some f) None t s e h = absurd (cc)
+tree-unrolls (Some f) (Some k) t s e h = refl
+
+-- an atom whose ends differ is unrolled
+atom-unrolls : (g : Goal) (a : ℕ) (x : Atom) (u w : Term) → ends x ≡ Some (u, w) → differs g.state u w ≡ true
+    → HasLinks g.state.links x → is_some (unroll_one g a x) ≡ true
+atom-unrolls g a (Points t fields) u w e d h = absurd (cc)
+atom-unrolls g a (Ls t v) u w e d h =
+    let p = same_Some (t, v) (u, w) e in
+    both-some _ (differs g.state t v) _ (ap (λ (q : Term × Term). differs g.state q.0 q.1) p ∙ d)
+    (segment-unrolls g.state.links.tl t v _ h)
+atom-unrolls g a (Tree t) u w e d h =
+    let p = same_Some (t, Nil) (u, w) e in
+    both-some _ (differs g.state t Nil) _ (ap (λ (q : Term × Term). differs g.state q.0 q.1) p ∙ d)
+    (tree-unrolls g.state.links.l g.state.links.r t _ h.0 h.1)
+
+-- no atom of the goal is nothing
+abbrev pub NoneIsNothing : Goal → Type 0
+NoneIsNothing g = lowest (which is_nothing) g.state.atoms ≡ None
+
+module _ (d : Setting) (g : Goal) (shape : HasShape d g) where
+  pub good-split : (t u : Term) → same_term t u ≡ false → IsBelow g.state.next_sym t → IsBelow g.state.next_sym u
+      → is_some (split_row g t u) ≡ true
+  good-split t u e a b =
+      some-if (not (same_term t u) && (is_below g.state.next_sym t && is_below g.state.next_sym u)) _
+      (three (same_term t u) (is_below g.state.next_sym t) (is_below g.state.next_sym u) e a b)
+
+  atoms-below : AllInAtoms (IsBelow g.state.next_sym) (parts g.state)
+  atoms-below =
+      all-append (λ (a : Numbered). AllInAtom (IsBelow g.state.next_sym) a.atom) g.state.atoms g.state.taken
+      shape.below.state.atoms shape.below.state.taken
+
+  pub good-split_or : (kind : Kind) → Good (row_of d g) (split_or g.state kind)
+  good-split_or kind = go (lowest (undecided_ends g.state) (parts g.state)) refl
+    where
+      go : (o : Option (ℕ × (Term × Term))) → lowest (undecided_ends g.state) (parts g.state) ≡ o
+          → Good (row_of d g) (split_found kind o)
+      go None i = tt
+      go (Some p) i =
+          let w = found-among (undecided_ends g.state) (parts g.state) p i in
+          let u = undecided-is g.state w.1.atom p.1 w.3 in
+          let b = ends-all (IsBelow g.state.next_sym) w.1.atom p.1 refl
+          (all-at (λ (a : Numbered). AllInAtom (IsBelow g.state.next_sym) a.atom) (parts g.state) w.0 w.1
+          atoms-below w.2)
+          u.0 in
+          good-split p.1.0 p.1.1 u.1 b.0 b.1
+
+  -- what a found atom is opened by
+  opened-good : (none : NoneIsNothing g) (a : ℕ) (x : Atom) (k : ℕ) (u w : Term)
+      → atom_at g.state.atoms a ≡ Some x
+      → slice_get g.state.atoms k ≡ Some (record { number = a; atom = x }) → ends x ≡ Some (u, w)
+      → same_term u w ≡ is_nothing x → Good (row_of d g) (opened_by g.state u w a)
+  opened-good none a x k u w at there e same = go (differs g.state u w) refl
+    where
+      nothing : is_nothing x ≡ false
+      nothing =
+          if-none (is_nothing x) x
+          (found-none (which is_nothing) g.state.atoms k (record { number = a; atom = x }) none there)
+
+      below : IsBelow g.state.next_sym u × IsBelow g.state.next_sym w
+      below =
+          ends-all (IsBelow g.state.next_sym) x (u, w) refl
+          (all-at (λ (y : Numbered). AllInAtom (IsBelow g.state.next_sym) y.atom) g.state.atoms k
+          (record { number = a; atom = x }) shape.below.state.atoms there) e
+
+      go : (b : Bool) → differs g.state u w ≡ b → Good (row_of d g) (cond b (takes (t.Unroll a)) (takes (t.Split u
+          w)))
+      go true h =
+          ap (λ o. is_some (option_and_then (unroll_one g a) o)) at
+          ∙ atom-unrolls g a x u w e h
+          (all-at (λ (y : Numbered). HasLinks g.state.links y.atom) g.state.atoms k (record { number = a; atom = x })
+          shape.links there)
+      go false h = good-split u w (same ∙ nothing) below.0 below.1
+
+  good-opened : NoneIsNothing g → (u : Term) → GoodIf (row_of d g) (opened g.state u)
+  good-opened none u =
+      go (lowest (segment_at u) g.state.atoms) (lowest (tree_at u) g.state.atoms) refl refl
+    where
+      go : (o : Option (ℕ × Term)) (p : Option (ℕ × Atom)) → lowest (segment_at u) g.state.atoms ≡ o
+          → lowest (tree_at u) g.state.atoms ≡ p → GoodIf (row_of d g) (opened_first g.state u o p)
+      go (Some q) p i j =
+          let w = found-at (segment_at u) g.state.atoms shape.rising q.0 q.1 i in
+          let is = segment-is u w.atom q.1 w.is in
+          opened-good none q.0 w.atom w.place u q.1 w.at w.there (ap ends is) (sym (ap is_nothing is))
+      go None (Some q) i j =
+          let w = found-at (tree_at u) g.state.atoms shape.rising q.0 q.1 j in
+          let is = tree-is u w.atom q.1 w.is in
+          opened-good none q.0 w.atom w.place u Nil w.at w.there (ap ends is) (sym (ap is_nothing is))
+      go None None i j = tt
+
+  -- the lowest cell is the atom of its number
+  pub cell-found : (u : Term) (q : ℕ × List (FieldId × Term)) → lowest (λ x. fields_at x u) g.state.atoms ≡ Some q
+      → cell_at g.state.atoms q.0 u ≡ Some q.1
+  cell-found u q i =
+      let w = found-at (λ x. fields_at x u) g.state.atoms shape.rising q.0 q.1 i in
+      cell-of_atom g.state.atoms q.0 w.atom u w.at ∙ w.is
+
+  pub good-at_cell : NoneIsNothing g → (u : Term) (found : ℕ → Choice) (kind : Kind)
+      → ((a : ℕ) (fields : List (FieldId × Term)) → cell_at g.state.atoms a u ≡ Some fields
+      → Good (row_of d g) (found a))
+      → Good (row_of d g) (at_cell g.state u found kind)
+  good-at_cell none u found kind h =
+      good-found (row_of d g) found (or_else (opened g.state u) (split_or g.state kind))
+      (lowest (λ x. fields_at x u) g.state.atoms) (λ q i. h q.0 q.1 (cell-found u q i))
+      (good-or (row_of d g) (opened g.state u) (split_or g.state kind) (good-opened none u)
+      (λ e. good-split_or kind))
+
+  -- by a test, where each branch has a row that is there when the test is decided so
+  pub good-at_test : (test : Test Term) → TestWithin (IsBelow g.state.next_sym) test
+      → (is_true g.state test ≡ true → is_some (row_of d g t.Then) ≡ true)
+      → (is_false g.state test ≡ true → is_some (row_of d g t.Else) ≡ true)
+      → Good (row_of d g) (at_test g.state test)
+  good-at_test test below this that = go (is_true g.state test) (is_false g.state test) refl refl
+    where
+      split : (x : Test Term) → TestWithin (IsBelow g.state.next_sym) x → is_true g.state x ≡ false
+          → is_false g.state x ≡ false → Good (row_of d g) (split_by x)
+      split True b i j = absurd (cc)
+      split (Equal u v) b i j = good-split u v i b.0 b.1
+      split (Differ u v) b i j = good-split u v j b.0 b.1
+
+      go : (b c : Bool) → is_true g.state test ≡ b → is_false g.state test ≡ c
+          → Good (row_of d g) (cond b (takes t.Then) (cond c (takes t.Else) (split_by test)))
+      go true c i j = this i
+      go false true i j = that j
+      go false false i j = split test below i j

@@ -1,0 +1,14 @@
+use Rattle.std.proofs.Common.{ap, sym, subst, ◌∙◌}
+use Rattle.std.specs.Option.{option_map}
+use Rattle.sf_sym.specs.Numbers.{AreRising, numbers}
+use Rattle.sf_search.specs.Strategy.{lowest, tree_at}
+use Rattle.sf_search.proofs.Lowest.{number_first}
+use Rattle.sf_search.proofs.choices.atoms.lowest_tree.Goals as goal
+
+pub returns-then-is_tree_at : goal.returns-then-is_tree_at
+returns-then-is_tree_at c =
+    sym (ap (option_map (λ p. p.0))
+    (c.loop-first.invariant.same ∙ ap (lowest (tree_at c.args.t)) c.in-Some.ensures.cases.0)
+    ∙ number_first (tree_at c.args.t) c.in-Some.first.now c.in-Some.rest.now
+    (subst (λ xs. AreRising (numbers xs)) c.in-Some.ensures.cases.0 c.loop-first.invariant.rising)
+    (sym c.is_tree_at.ensures ∙ c.if-is_tree_at.true))

@@ -1,0 +1,4 @@
+pub mod Judge
+pub mod Ends
+pub mod Shape
+pub mod Laws

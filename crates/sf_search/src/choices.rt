@@ -1,0 +1,23 @@
+//! The strategy: the tag that a search takes at a goal, by what is known and then by what is in
+//! front.
+//!
+//! - `choice`: what the strategy does at a goal.
+//! - `atoms`: the lowest atom that is as wanted, and what is done where there is none.
+//! - `branches`: choices, by their test.
+//! - `commands`: commands.
+//! - `given`: what is to be assumed.
+//! - `wanted`: what is to be shown.
+//! - `whole`: all of it.
+
+mod atoms;
+mod branches;
+mod choice;
+mod commands;
+mod given;
+#[cfg(test)]
+mod tests;
+mod wanted;
+mod whole;
+
+pub use choice::{Choice, Kind};
+pub use whole::choose;

@@ -1,0 +1,204 @@
+//! The lowest atom of which something is so, and what is done where a cell is wanted and there is
+//! none.
+
+ghost use Rattle.std.specs.Prelude.{◌≡◌, is_some};
+ghost use Rattle.std.specs.Option.{option_map};
+ghost use Rattle.sf_consume.specs.Subtract.{is_same_shape};
+ghost use Rattle.sf_search.specs.Internal.Choosing.{choice_of, kind_of};
+ghost use Rattle.sf_search.specs.Strategy.{lower, lowest, opened, opened_by, or_else, segment_at, split_or, tree_at, undecided_ends, which};
+ghost use Rattle.sf_sym.specs.Cells.{fields_at};
+ghost use Rattle.sf_sym.specs.Tests.{parts};
+
+use crate::choices::choice::{Choice, Kind};
+use sf_consume::is_same_shape;
+use sf_sym::{Atom, Numbered, State, Tag, Term};
+
+/// The number of the lowest cell at the term.
+pub(crate) fn lowest_cell(state: &State, t: Term) -> Option<u32>
+    ensures { result ≡ option_map (λ f. f.0) (lowest (λ x. fields_at x t) state.now.atoms) }
+{
+    state.is_numbered();
+    let mut left = state.atoms();
+    while let Some((first, rest)) = left.split_first() {
+        if is_cell_at(&first.atom, t) {
+            return Some(first.number);
+        }
+        left = rest;
+    }
+    None
+}
+
+/// Whether it is a cell at the term.
+fn is_cell_at(atom: &Atom, t: Term) -> bool
+    ensures { result ≡ is_some (fields_at atom.now t) }
+{
+    match atom {
+        Atom::Points(root, _) => root.is(t),
+        Atom::Ls(..) | Atom::Tree(_) => false,
+    }
+}
+
+/// The number of the lowest segment from the term, and its end.
+pub(crate) fn lowest_segment(state: &State, t: Term) -> Option<(u32, Term)>
+    ensures { result ≡ lowest (segment_at t) state.now.atoms }
+{
+    state.is_numbered();
+    let mut left = state.atoms();
+    while let Some((first, rest)) = left.split_first() {
+        if let Some(end) = segment_at(&first.atom, t) {
+            return Some((first.number, end));
+        }
+        left = rest;
+    }
+    None
+}
+
+/// The end of a segment from the term.
+fn segment_at(atom: &Atom, t: Term) -> Option<Term>
+    ensures { result ≡ segment_at t atom.now }
+{
+    match atom {
+        Atom::Ls(root, end) if root.is(t) => Some(*end),
+        Atom::Points(..) | Atom::Ls(..) | Atom::Tree(_) => None,
+    }
+}
+
+/// The number of the lowest tree with that root.
+fn lowest_tree(state: &State, t: Term) -> Option<u32>
+    ensures { result ≡ option_map (λ f. f.0) (lowest (tree_at t) state.now.atoms) }
+{
+    state.is_numbered();
+    let mut left = state.atoms();
+    while let Some((first, rest)) = left.split_first() {
+        if is_tree_at(&first.atom, t) {
+            return Some(first.number);
+        }
+        left = rest;
+    }
+    None
+}
+
+/// Whether it is a tree with that root.
+fn is_tree_at(atom: &Atom, t: Term) -> bool
+    ensures { result ≡ is_some (tree_at t atom.now) }
+{
+    match atom {
+        Atom::Tree(root) => root.is(t),
+        Atom::Points(..) | Atom::Ls(..) => false,
+    }
+}
+
+/// The number of the lowest atom that is that segment or tree.
+pub(crate) fn lowest_shape(state: &State, wanted: &Atom) -> Option<u32>
+    ensures { result ≡ option_map (λ f. f.0)
+        (lowest (which (λ x. is_same_shape x wanted.now)) state.now.atoms) }
+{
+    state.is_numbered();
+    let mut left = state.atoms();
+    while let Some((first, rest)) = left.split_first() {
+        if is_same_shape(&first.atom, wanted) {
+            return Some(first.number);
+        }
+        left = rest;
+    }
+    None
+}
+
+/// Where a goal would be stuck: the ends of the lowest atom or taken atom of which it isn't known
+/// whether it is empty are split, and without one the goal is stuck for that reason.
+pub(crate) fn split_or(state: &State, kind: Kind) -> Choice
+    ensures { choice_of result ≡ split_or state.now (kind_of kind) }
+{
+    match lowest_undecided(state) {
+        Some((_, (t, u))) => Choice::Takes(Tag::Split(t, u)),
+        None => Choice::Stays(kind),
+    }
+}
+
+/// The lowest atom or taken atom of which it isn't known whether it is empty: its number and its
+/// ends.
+#[tactic(auto, using(crate::proofs::Lowest::lowest_append))]
+fn lowest_undecided(state: &State) -> Option<(u32, (Term, Term))>
+    ensures { result ≡ lowest (undecided_ends state.now) (parts state.now) }
+{
+    lower(
+        lowest_undecided_of(state, state.atoms()),
+        lowest_undecided_of(state, state.taken()),
+    )
+}
+
+/// The same among these atoms.
+#[tactic(auto, using(crate::proofs::Lowest::lower_assoc))]
+fn lowest_undecided_of(state: &State, atoms: &[Numbered]) -> Option<(u32, (Term, Term))>
+    ensures { result ≡ lowest (undecided_ends state.now) atoms.now }
+{
+    let mut best = None;
+    let mut left = atoms;
+    while let Some((first, rest)) = left.split_first() {
+        if let Some(ends) = undecided_ends(state, &first.atom) {
+            best = lower(best, Some((first.number, ends)));
+        }
+        left = rest;
+    }
+    best
+}
+
+/// What has the lower number, of two things that are there or not.
+fn lower(
+    a: Option<(u32, (Term, Term))>,
+    b: Option<(u32, (Term, Term))>,
+) -> Option<(u32, (Term, Term))>
+    ensures { result ≡ lower a b }
+{
+    match (a, b) {
+        (Some(x), Some(y)) => if y.0 < x.0 { Some(y) } else { Some(x) }
+        (Some(x), None) => Some(x),
+        (None, y) => y,
+    }
+}
+
+/// The ends of a segment or tree of which it isn't known whether it is empty.
+fn undecided_ends(state: &State, atom: &Atom) -> Option<(Term, Term)>
+    ensures { result ≡ undecided_ends state.now atom.now }
+{
+    let (t, u) = atom.ends()?;
+    if t.is(u) || state.differs(t, u) {
+        None
+    } else {
+        Some((t, u))
+    }
+}
+
+/// Where a cell at the term is wanted and there is none: a part of the heap that may begin with one
+/// is opened, and without one the goal would be stuck for that reason.
+pub(crate) fn without_cell(state: &State, t: Term, kind: Kind) -> Choice
+    ensures { choice_of result ≡ or_else (opened state.now t) (split_or state.now (kind_of kind)) }
+{
+    match opened(state, t) {
+        Some(choice) => choice,
+        None => split_or(state, kind),
+    }
+}
+
+/// The lowest segment from the term is opened, or else the lowest tree there.
+fn opened(state: &State, t: Term) -> Option<Choice>
+    ensures { option_map choice_of result ≡ opened state.now t }
+{
+    if let Some((a, end)) = lowest_segment(state, t) {
+        return Some(opened_by(state, t, end, a));
+    }
+    let a = lowest_tree(state, t)?;
+    Some(opened_by(state, t, Term::Nil, a))
+}
+
+/// A segment or tree with these ends is unrolled where it surely isn't empty, and else its ends are
+/// split.
+fn opened_by(state: &State, t: Term, u: Term, a: u32) -> Choice
+    ensures { choice_of result ≡ opened_by state.now t u a }
+{
+    if state.differs(t, u) {
+        Choice::Takes(Tag::Unroll(a))
+    } else {
+        Choice::Takes(Tag::Split(t, u))
+    }
+}

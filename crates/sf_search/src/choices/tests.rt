@@ -1,0 +1,379 @@
+//! What the strategy does at small goals, by a table.
+
+use crate::choices::{Choice, Kind, choose};
+use Choice::{Stays, Takes};
+use Front::{Dispose, Finish, Wanted};
+use Part::{AnyCell, Apart, Cell, Ls, Same, Tree, TwiceCell};
+use sf_base::{FieldId, Place, Var};
+use sf_core::{Command, Conjunct, Expr, Links, Occurrence, Operand, Test};
+use sf_sym::{Atom, FieldTerms, Goal, Item, Pending, State, Tag, Term};
+use std::alloc::{AllocError, Global};
+
+const NIL: Term = Term::Nil;
+
+const X: Term = Term::Sym(0);
+
+const Y: Term = Term::Sym(1);
+
+const Z: Term = Term::Sym(2);
+
+const SEVEN: Term = Term::Int(7);
+
+const NEXT: FieldId = FieldId(0);
+
+const LEFT: FieldId = FieldId(1);
+
+const RIGHT: FieldId = FieldId(2);
+
+const HERE: Place = Place { line: 1, column: 1 };
+
+/// A part of the heap, as an atom or as a wanted conjunct, or a wanted test.
+#[derive(Clone, Copy)]
+enum Part {
+    /// A cell with that term in its field `tl`.
+    Cell(Term, Term),
+    /// A segment.
+    Ls(Term, Term),
+    /// A tree.
+    Tree(Term),
+    /// A wanted cell, with an existential in its field `tl`.
+    AnyCell(Term),
+    /// A wanted cell, with one existential in its fields `tl` and `l`.
+    TwiceCell(Term),
+    /// A wanted equality.
+    Same(Term, Term),
+    /// A wanted inequality.
+    Apart(Term, Term),
+}
+
+/// What is in front.
+#[derive(Clone, Copy)]
+enum Front {
+    /// The end of all.
+    Finish,
+    /// A part that is to be shown.
+    Wanted(Part),
+    /// The cell at the variable, which has the term X, is to go.
+    Dispose,
+}
+
+/// A goal, by its pairs that differ, its atoms, and those of the taken ones that come before them;
+/// and what is done.
+#[derive(Clone, Copy)]
+struct Row<'a> {
+    apart: &'a [(Term, Term)],
+    taken: &'a [Part],
+    atoms: &'a [Part],
+    front: Front,
+    choice: Choice,
+}
+
+fn when<'a>(
+    apart: &'a [(Term, Term)],
+    taken: &'a [Part],
+    atoms: &'a [Part],
+    front: Front,
+    choice: Choice,
+) -> Row<'a> {
+    Row {
+        apart,
+        taken,
+        atoms,
+        front,
+        choice,
+    }
+}
+
+/// The state of a row.
+fn state(alloc: Global, row: Row) -> Result<State, AllocError> {
+    let links = Links {
+        tl: Some(NEXT),
+        l: Some(LEFT),
+        r: Some(RIGHT),
+    };
+    let mut s = State::new(alloc, links, Vec::new(alloc), 3);
+    s.set_var(Var::Own(0), X)?;
+    for pair in row.apart {
+        s.assume_apart(pair.0, pair.1)?;
+    }
+    for part in row.taken {
+        let number = add(alloc, &mut s, *part)?;
+        if s.atom(number).is_some() {
+            s.hand_over_atom(number)?;
+        }
+    }
+    for part in row.atoms {
+        add(alloc, &mut s, *part)?;
+    }
+    Ok(s)
+}
+
+/// One more atom, and its number.
+fn add(alloc: Global, s: &mut State, part: Part) -> Result<u32, AllocError> {
+    let number = s.next_atom();
+    if number > 1000 {
+        return Err(AllocError);
+    }
+    let atom = match part {
+        Cell(t, u) => {
+            let mut fields = FieldTerms::new(alloc);
+            fields.put(NEXT, u)?;
+            Atom::Points(t, fields)
+        }
+        Ls(t, u) => Atom::Ls(t, u),
+        Tree(t) => Atom::Tree(t),
+        AnyCell(_) | TwiceCell(_) | Same(..) | Apart(..) => return Err(AllocError),
+    };
+    s.add_atom(atom)?;
+    Ok(number)
+}
+
+/// A part as a wanted conjunct.
+fn wanted(alloc: Global, part: Part) -> Result<Conjunct<Term>, AllocError> {
+    let mut fields = Vec::new(alloc);
+    match part {
+        Cell(t, u) => {
+            fields.push((NEXT, Operand::Known(u)))?;
+            Ok(Conjunct::Points(HERE, Operand::Known(t), fields))
+        }
+        AnyCell(t) => {
+            fields.push((NEXT, Operand::Exists(0)))?;
+            Ok(Conjunct::Points(HERE, Operand::Known(t), fields))
+        }
+        TwiceCell(t) => {
+            fields.push((NEXT, Operand::Exists(0)))?;
+            fields.push((LEFT, Operand::Exists(0)))?;
+            Ok(Conjunct::Points(HERE, Operand::Known(t), fields))
+        }
+        Ls(t, u) => Ok(Conjunct::Segment(HERE, NEXT, Operand::Known(t), Operand::Known(u))),
+        Tree(t) => Ok(Conjunct::Tree(HERE, LEFT, RIGHT, Operand::Known(t))),
+        Same(t, u) => {
+            let test = Test::Equal(Operand::Known(t), Operand::Known(u));
+            Ok(Conjunct::Holds(HERE, test))
+        }
+        Apart(t, u) => {
+            let test = Test::Differ(Operand::Known(t), Operand::Known(u));
+            Ok(Conjunct::Holds(HERE, test))
+        }
+    }
+}
+
+/// One wanted conjunct, with one existential that has no term.
+fn wants(alloc: Global, part: Part) -> Result<Pending, AllocError> {
+    let mut conjuncts = Vec::new(alloc);
+    conjuncts.push(wanted(alloc, part)?)?;
+    let mut bindings = Vec::new(alloc);
+    bindings.push(None)?;
+    Ok(Pending::new(conjuncts, bindings))
+}
+
+/// What is in front as an item.
+fn item<'a>(alloc: Global, front: Front, commands: &'a [Command]) -> Result<Item<'a>, AllocError> {
+    match front {
+        Finish => Ok(Item::End(HERE)),
+        Dispose => Ok(Item::Run(commands)),
+        Wanted(part) => Ok(Item::Take(HERE, wants(alloc, part)?, &[])),
+    }
+}
+
+/// The cell at the variable is to go.
+fn disposal(alloc: Global) -> Result<Vec<Command>, AllocError> {
+    let x = Occurrence {
+        var: Var::Own(0),
+        place: HERE,
+    };
+    let mut commands = Vec::new(alloc);
+    commands.push(Command::Dispose(HERE, Expr::Var(x)))?;
+    Ok(commands)
+}
+
+/// What the strategy does at the goal of a row, where a run in front is of these commands.
+fn chosen(alloc: Global, row: Row, commands: &[Command]) -> Result<Choice, AllocError> {
+    let state = state(alloc, row)?;
+    let mut todo = Vec::new(alloc);
+    todo.push(item(alloc, row.front, commands)?)?;
+    choose(alloc, &Goal { state, todo })
+}
+
+#[test]
+fn the_strategy_takes_the_first_rule_that_applies(rt: HostRuntime) -> Result<(), AllocError> {
+    let rows = [
+        when(&[], &[], &[], Finish, Takes(Tag::End)),
+        when(&[], &[], &[Cell(X, NIL)], Finish, Stays(Kind::Leak)),
+        when(
+            &[],
+            &[],
+            &[Cell(X, NIL), Cell(X, NIL)],
+            Finish,
+            Takes(Tag::Absurd),
+        ),
+        when(&[], &[], &[Ls(X, NIL)], Finish, Takes(Tag::Split(X, NIL))),
+        when(
+            &[],
+            &[],
+            &[Ls(X, NIL), Tree(Y)],
+            Finish,
+            Takes(Tag::Split(X, NIL)),
+        ),
+        when(
+            &[],
+            &[Tree(Y)],
+            &[Ls(X, NIL)],
+            Finish,
+            Takes(Tag::Split(Y, NIL)),
+        ),
+        when(
+            &[],
+            &[],
+            &[Cell(Y, NIL), Ls(X, X), Tree(NIL)],
+            Finish,
+            Takes(Tag::Drop(2)),
+        ),
+        when(
+            &[],
+            &[],
+            &[Ls(NIL, Y), Ls(X, X)],
+            Finish,
+            Takes(Tag::Drop(2)),
+        ),
+        when(
+            &[],
+            &[],
+            &[Ls(NIL, Y), Tree(SEVEN)],
+            Finish,
+            Takes(Tag::Absurd),
+        ),
+        when(
+            &[],
+            &[],
+            &[Cell(X, NIL), Ls(X, Y)],
+            Finish,
+            Takes(Tag::Force(2)),
+        ),
+        when(&[], &[], &[Cell(X, NIL)], Dispose, Takes(Tag::Dispose(1))),
+        when(&[], &[], &[], Dispose, Stays(Kind::NoCell)),
+        when(&[], &[], &[Tree(X)], Dispose, Takes(Tag::Split(X, NIL))),
+        when(
+            &[(X, Y)],
+            &[],
+            &[Tree(Z), Ls(X, Y)],
+            Dispose,
+            Takes(Tag::Unroll(2)),
+        ),
+        when(&[], &[], &[], Wanted(Same(X, X)), Takes(Tag::Same)),
+        when(&[], &[], &[], Wanted(Same(X, Y)), Stays(Kind::NotEqual)),
+        when(
+            &[],
+            &[],
+            &[Cell(X, NIL)],
+            Wanted(Apart(X, NIL)),
+            Takes(Tag::Apart),
+        ),
+        when(
+            &[],
+            &[],
+            &[],
+            Wanted(Apart(X, NIL)),
+            Stays(Kind::NotDifferent),
+        ),
+        when(
+            &[],
+            &[],
+            &[Cell(X, SEVEN)],
+            Wanted(Cell(X, SEVEN)),
+            Takes(Tag::Cell(1)),
+        ),
+        when(
+            &[],
+            &[],
+            &[Cell(X, SEVEN)],
+            Wanted(AnyCell(X)),
+            Takes(Tag::Cell(1)),
+        ),
+        when(
+            &[],
+            &[],
+            &[Cell(X, SEVEN)],
+            Wanted(TwiceCell(X)),
+            Stays(Kind::NotEqual),
+        ),
+        when(
+            &[],
+            &[],
+            &[Cell(X, NIL)],
+            Wanted(Cell(X, SEVEN)),
+            Stays(Kind::NotEqual),
+        ),
+        when(
+            &[],
+            &[],
+            &[Cell(X, NIL)],
+            Wanted(Cell(Y, SEVEN)),
+            Stays(Kind::NoAtom),
+        ),
+        when(&[], &[], &[], Wanted(Ls(X, X)), Takes(Tag::Empty)),
+        when(
+            &[],
+            &[],
+            &[Cell(Y, X), Ls(X, NIL)],
+            Wanted(Ls(X, NIL)),
+            Takes(Tag::Exact(2)),
+        ),
+        when(
+            &[],
+            &[],
+            &[Cell(X, Y)],
+            Wanted(Ls(X, Y)),
+            Takes(Tag::Split(X, Y)),
+        ),
+        when(
+            &[],
+            &[],
+            &[Cell(X, Y)],
+            Wanted(Ls(X, NIL)),
+            Takes(Tag::Head(1)),
+        ),
+        when(
+            &[(X, NIL), (X, Y)],
+            &[],
+            &[Ls(X, Y)],
+            Wanted(Ls(X, NIL)),
+            Takes(Tag::Join(1)),
+        ),
+        when(
+            &[(X, Z), (X, Y)],
+            &[],
+            &[Ls(X, Y)],
+            Wanted(Ls(X, Z)),
+            Stays(Kind::EndNotAllocated),
+        ),
+        when(
+            &[(X, Z)],
+            &[],
+            &[Ls(X, Y)],
+            Wanted(Ls(X, Z)),
+            Takes(Tag::Split(X, Y)),
+        ),
+        when(
+            &[(X, NIL)],
+            &[],
+            &[],
+            Wanted(Ls(X, NIL)),
+            Stays(Kind::NoAtom),
+        ),
+        when(
+            &[],
+            &[],
+            &[Cell(X, NIL)],
+            Wanted(Tree(X)),
+            Takes(Tag::Node(1)),
+        ),
+        when(&[], &[], &[], Wanted(Tree(X)), Takes(Tag::Split(X, NIL))),
+        when(&[(X, NIL)], &[], &[], Wanted(Tree(X)), Stays(Kind::NoAtom)),
+    ];
+    let commands = disposal(rt.alloc())?;
+    for (i, r) in rows.iter().enumerate() {
+        assert_eq!(rt; chosen(rt.alloc(), *r, &commands)?, r.choice, "row {i}");
+    }
+    Ok(())
+}

@@ -1,0 +1,194 @@
+//! What is to be shown.
+
+ghost use Rattle.std.specs.Prelude.{◌≡◌, IfOk};
+ghost use Rattle.std.specs.Option.{option_map};
+ghost use Rattle.sf_consume.specs.Subtract.{wanted_shape};
+ghost use Rattle.sf_core.specs.Program.View.{conjunct_of};
+ghost use Rattle.sf_search.specs.Internal.Choosing.{choice_of};
+ghost use Rattle.sf_search.specs.Strategy.{at_equality, at_inequality, at_list, at_points, at_tree, at_want, at_wanted, at_wanted_cell, begins_with, exact_atom, joins};
+ghost use Rattle.sf_sym.specs.Pending.{pending_of};
+
+use crate::choices::atoms::{lowest_cell, lowest_segment, lowest_shape, split_or, without_cell};
+use crate::choices::branches::at_choice;
+use crate::choices::choice::{Choice, Kind};
+use sf_consume::{binds, both, fits_cell, is_empty, is_same, wanted_shape};
+use sf_core::{Conjunct, Operand, Test};
+use sf_sym::{Pending, State, Tag, Term, term_of};
+use std::alloc::{AllocError, Global};
+
+/// What the strategy does at conjuncts to show. An `Err` means out of memory.
+pub(crate) fn at_want(alloc: Global, state: &State, want: &Pending) -> Result<Choice, AllocError>
+    ensures { IfOk result (λ c. choice_of c ≡ at_want state.now (pending_of want.now)) }
+{
+    match want.first() {
+        Some(c) => at_wanted(alloc, state, want.bindings(), c),
+        None => Ok(split_or(state, Kind::NoAtom)),
+    }
+}
+
+/// What it does at one wanted conjunct. An `Err` means out of memory.
+fn at_wanted(
+    alloc: Global,
+    state: &State,
+    bindings: &[Option<Term>],
+    c: &Conjunct<Term>,
+) -> Result<Choice, AllocError>
+    ensures { IfOk result
+        (λ r. choice_of r ≡ at_wanted state.now bindings.now (conjunct_of c.now)) }
+{
+    match c {
+        Conjunct::Holds(_, Test::True) => Ok(split_or(state, Kind::NotEqual)),
+        Conjunct::Holds(_, Test::Equal(..)) => Ok(at_equality(state, bindings, c)),
+        Conjunct::Holds(_, Test::Differ(x, y)) => Ok(at_inequality(state, bindings, *x, *y)),
+        Conjunct::Points(_, x, _) => { at_points(alloc, state, bindings, c, term_of(bindings, x)) }
+        Conjunct::Segment(_, _, x, y) => Ok(at_list(state, bindings, c, both(bindings, *x, *y))),
+        Conjunct::Tree(_, _, _, x) => Ok(at_tree(state, bindings, c, term_of(bindings, x))),
+        Conjunct::If(_, test, _, _) => Ok(at_choice(state, bindings, test)),
+    }
+}
+
+/// At an equality: an existential gets a term, or the terms are one.
+fn at_equality(state: &State, bindings: &[Option<Term>], c: &Conjunct<Term>) -> Choice
+    ensures { choice_of result ≡ at_equality state.now bindings.now (conjunct_of c.now) }
+{
+    if binds(bindings, c) {
+        return Choice::Takes(Tag::Bind);
+    }
+    if is_same(bindings, c) {
+        return Choice::Takes(Tag::Same);
+    }
+    split_or(state, Kind::NotEqual)
+}
+
+/// At an inequality: the terms surely differ.
+fn at_inequality(
+    state: &State,
+    bindings: &[Option<Term>],
+    x: Operand<Term>,
+    y: Operand<Term>,
+) -> Choice
+    ensures { choice_of result ≡ at_inequality state.now bindings.now x y }
+{
+    match both(bindings, x, y) {
+        Some((t, u)) if state.differs(t, u) => Choice::Takes(Tag::Apart),
+        _ => split_or(state, Kind::NotDifferent),
+    }
+}
+
+/// At a wanted cell whose root has that term, if it has one. An `Err` means out of memory.
+fn at_points(
+    alloc: Global,
+    state: &State,
+    bindings: &[Option<Term>],
+    c: &Conjunct<Term>,
+    root: Option<Term>,
+) -> Result<Choice, AllocError>
+    ensures { IfOk result (λ r. choice_of r
+        ≡ at_points state.now bindings.now (conjunct_of c.now) root) }
+{
+    match root {
+        Some(t) => at_wanted_cell(alloc, state, bindings, c, t),
+        None => Ok(split_or(state, Kind::NoAtom)),
+    }
+}
+
+/// At a wanted cell at that term: the lowest one there, if it fits. An `Err` means out of memory.
+#[tactic(auto, using(crate::proofs::Lowest::cell_there, crate::proofs::Lowest::no_cell_there))]
+fn at_wanted_cell(
+    alloc: Global,
+    state: &State,
+    bindings: &[Option<Term>],
+    c: &Conjunct<Term>,
+    t: Term,
+) -> Result<Choice, AllocError>
+    ensures { IfOk result (λ r. choice_of r
+        ≡ at_wanted_cell state.now bindings.now (conjunct_of c.now) t) }
+{
+    let Some(a) = lowest_cell(state, t) else {
+        return Ok(without_cell(state, t, Kind::NoAtom));
+    };
+    if fits_cell(alloc, state, bindings, c, a)? {
+        Ok(Choice::Takes(Tag::Cell(a)))
+    } else {
+        Ok(split_or(state, Kind::NotEqual))
+    }
+}
+
+/// At a wanted list between these terms, if both ends have one.
+fn at_list(
+    state: &State,
+    bindings: &[Option<Term>],
+    c: &Conjunct<Term>,
+    ends: Option<(Term, Term)>,
+) -> Choice
+    ensures { choice_of result ≡ at_list state.now bindings.now (conjunct_of c.now) ends }
+{
+    let Some((t, u)) = ends else {
+        return split_or(state, Kind::NoAtom);
+    };
+    if is_empty(bindings, c) {
+        return Choice::Takes(Tag::Empty);
+    }
+    if let Some(choice) = exact(state, bindings, c) {
+        return choice;
+    }
+    if !state.differs(t, u) {
+        return Choice::Takes(Tag::Split(t, u));
+    }
+    if let Some(a) = lowest_cell(state, t) {
+        return Choice::Takes(Tag::Head(a));
+    }
+    match joins(state, t, u) {
+        Some(choice) => choice,
+        None => split_or(state, Kind::NoAtom),
+    }
+}
+
+/// At a wanted tree whose root has that term, if it has one.
+fn at_tree(
+    state: &State,
+    bindings: &[Option<Term>],
+    c: &Conjunct<Term>,
+    root: Option<Term>,
+) -> Choice
+    ensures { choice_of result ≡ at_tree state.now bindings.now (conjunct_of c.now) root }
+{
+    let Some(t) = root else {
+        return split_or(state, Kind::NoAtom);
+    };
+    if is_empty(bindings, c) {
+        return Choice::Takes(Tag::Empty);
+    }
+    if let Some(choice) = exact(state, bindings, c) {
+        return choice;
+    }
+    if let Some(a) = lowest_cell(state, t) {
+        return Choice::Takes(Tag::Node(a));
+    }
+    if !state.differs(t, Term::Nil) {
+        return Choice::Takes(Tag::Split(t, Term::Nil));
+    }
+    split_or(state, Kind::NoAtom)
+}
+
+/// The lowest atom that is the wanted segment or tree.
+fn exact(state: &State, bindings: &[Option<Term>], c: &Conjunct<Term>) -> Option<Choice>
+    ensures { option_map choice_of result
+        ≡ exact_atom state.now (wanted_shape bindings.now (conjunct_of c.now)) }
+{
+    let wanted = wanted_shape(bindings, c)?;
+    let a = lowest_shape(state, &wanted)?;
+    Some(Choice::Takes(Tag::Exact(a)))
+}
+
+/// The lowest segment from the first term is joined, where the second can't be inside it.
+fn joins(state: &State, t: Term, u: Term) -> Option<Choice>
+    ensures { option_map choice_of result ≡ joins state.now t u }
+{
+    let (a, _) = lowest_segment(state, t)?;
+    if u.is_constant() || state.allocated(u, Some(a)) {
+        Some(Choice::Takes(Tag::Join(a)))
+    } else {
+        Some(split_or(state, Kind::EndNotAllocated))
+    }
+}

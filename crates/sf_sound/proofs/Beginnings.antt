@@ -1,0 +1,459 @@
+-- The first goal of a procedure holds wherever its frame may begin, and suits it; so where it claims what is to do,
+-- the body is safe.
+-- Names: `own-LAW` of the procedure's own variables, `first-LAW` of its first goal, `body-safe`.
+use Rattle.std.specs.List.{AllByRecursion}
+use Rattle.std.specs.Prelude.{◌⊎◌, ◌<◌, ◌≤◌, ◌+◌, ◌-◌, ◌||◌, ◌&&◌, Contains, flat_map, is_some, length, not, slice_get, get_or}
+use Rattle.std.specs.Option.{unwrap_or, option_map}
+use Rattle.std.proofs.Common.{◌≡◌, ℕ, zero, suc, Bool, true, false, Option, Some, None, List, [], ◌∷◌, ◌++◌, All, refl, sym, ap, ◌∙◌, subst, subst₂, inl, inr, arith}
+use Rattle.std.proofs.lemmas.Bool.Decides.{nat_tests}
+use Rattle.std.proofs.lemmas.Bool.{or_left, or_right}
+use Rattle.std.proofs.lemmas.List.Elements.{All-contains, Contains-append_cases}
+use Rattle.std.proofs.lemmas.Option.{slice_get-get_or, slice_get_within}
+use Rattle.sf_base.proofs.Elements.{all_by-append, contains-cons, contains-nil}
+use Rattle.sf_base.proofs.HeapSplits.{star-of}
+use Rattle.sf_base.proofs.MapSplits.{empty-holds, empty_map, splits-empty_left, splits-empty_right}
+use Rattle.sf_base.proofs.Members.{contains-flat_map, contains-flat_map_from}
+use Rattle.sf_base.specs.declared.ids.ProcId.{ProcId}
+use Rattle.sf_base.specs.declared.ids.ResId.{ResId}
+use Rattle.sf_base.specs.declared.ids.Var.{Var}
+use Rattle.sf_base.specs.declared.ids.Var.TheVariants.{Own, Shared}
+use Rattle.sf_base.specs.declared.value.Value.{Value}
+use Rattle.sf_base.specs.declared.value.Value.TheVariants.{Nil as nil}
+use Rattle.sf_base.specs.HeapStore.{Cell}
+use Rattle.sf_base.specs.Variables.{same_var}
+use Rattle.sf_calls.specs.declared.breach.Breach.TheVariants.{NotHeld}
+use Rattle.sf_calls.specs.Around.{IsHeld}
+use Rattle.sf_calls.specs.Assigned.{MayChange}
+use Rattle.sf_calls.specs.Breaks.{OccursAt}
+use Rattle.sf_calls.specs.Conditions.{Free, FreeIn, IsShared}
+use Rattle.sf_calls.specs.Lemmas.Sites.{among_at}
+use Rattle.sf_calls.specs.Outside.{IsAmong}
+use Rattle.sf_calls.specs.Reaches.{directly, through}
+use Rattle.sf_core.specs.declared.command.Expr.{Expr}
+use Rattle.sf_core.specs.declared.command.Expr.TheVariants.{Var as Variable, Nil as ENil, Int as EInt}
+use Rattle.sf_core.specs.declared.command.Occurrence.{Occurrence}
+use Rattle.sf_core.specs.Machine.Config.{items}
+use Rattle.sf_core.specs.Machine.HeldBy.{HeldBy}
+use Rattle.sf_core.specs.Machine.Step.{procedure_at}
+use Rattle.sf_core.specs.Program.Formed.{BlockWithin, CommandWithin, ExprWithin, IsSettable, variable_count}
+use Rattle.sf_core.specs.Program.Heads.{call_occurrences, head_calls, head_occurrences, head_regions, occurrences_at}
+use Rattle.sf_core.specs.Program.Syntax.{Assertion, Block, done, then, Call, Command, assign, look_up, mutate, new, dispose, if, while, call, fork, with, Procedure, Program, Resource}
+use Rattle.sf_rules.specs.Rows.Regions.{variables_from}
+use Rattle.sf_rules.specs.Setting.{Setting}
+use Rattle.sf_rules.specs.Table.{links_of, nils, symbols}
+use Rattle.sf_rules.specs.Words.{pending_assertion}
+use Rattle.sf_safe.specs.Contract.{IsVariableOf}
+use Rattle.sf_safe.specs.Lemmas.{local-weaken}
+use Rattle.sf_safe.specs.Local.{Begins, Ends, Local, value_in}
+use Rattle.sf_safe.specs.LocalSafe.{LocalSafe}
+use Rattle.sf_sound.proofs.Annotated.{HaveValues, usable-assumed}
+use Rattle.sf_sound.proofs.Bodies.{HasScope, IsSane, annotation-post, annotation-pre, block-suits, calls-no_region, entered-decides, free-there, is_entered, not-entered}
+use Rattle.sf_sound.proofs.Keeping.{BlockTouches, CommandTouches, Keeping, Kept, Touches, has-some, keep, left-tokens_items, left-variables_items, left_tokens, left_variables, none-of, nothing_gone, nothing_lost, of-is, some-has, touches-items}
+use Rattle.sf_sound.proofs.Regions.{of-contains}
+use Rattle.sf_sound.proofs.Standing.{body-assuming, body-does, body-run, items-none, owed-run, steps-run}
+use Rattle.sf_sound.proofs.States.{StateSuits, items-add, items-run, renewed, renewed-vars, state-fresh, suits-of, terms-below, terms-values}
+use Rattle.sf_sound.proofs.Words.{adding-assuming, adding-does, body-holds}
+use Rattle.sf_sym.specs.Lemmas.Adding.{adding-holds}
+use Rattle.sf_sound.specs.Internal.Claims.{Satisfies}
+use Rattle.sf_rules.specs.First.{first_goal, first_state_of, own_vars, variables_of}
+use Rattle.sf_sound.specs.Internal.Suits.{Claim, Domain, HasDomain, IsPassed, IsPlain, Suits}
+use Rattle.sf_sym.specs.Below.{AreBelow, IsBelow}
+use Rattle.sf_sym.specs.declared.term.Term.{Term}
+use Rattle.sf_sym.specs.declared.term.Term.TheVariants.{Nil, Sym}
+use Rattle.sf_sym.specs.Goal.{Item, return, to_run}
+use Rattle.sf_sym.specs.Holds.{term_value, Agrees}
+use Rattle.sf_sym.specs.HoldsIn.{HoldsIn}
+use Rattle.sf_sym.specs.Lemmas.Below.{below-symbol}
+use Rattle.sf_sym.specs.Pending.{Pending}
+use Rattle.sf_sym.specs.Ready.{AreInOrder, is_listed}
+use Rattle.sf_sym.specs.State.{State, first_state, term}
+use Rattle.sf_sym.specs.Variables.{comes_before}
+
+-- OWN VARIABLES
+module _ (P : Var × Term → Type 0) where
+  symbols-all : (from count : ℕ) → ((i : ℕ) → from ≤ i → i < from + count → P (Own i, Sym i))
+      → AllByRecursion P (symbols from count)
+  symbols-all from zero h = tt
+  symbols-all from (suc count) h = (
+    h from (omega arith) (omega arith),
+    symbols-all (suc from) count (λ i a b. h i (omega (arith, a)) (omega (arith, b))),
+  )
+
+  nils-all : (from count : ℕ) → ((i : ℕ) → from ≤ i → i < from + count → P (Own i, Nil))
+      → AllByRecursion P (nils from count)
+  nils-all from zero h = tt
+  nils-all from (suc count) h = (
+    h from (omega arith) (omega arith),
+    nils-all (suc from) count (λ i a b. h i (omega (arith, a)) (omega (arith, b))),
+  )
+
+-- in order
+own-before : (i j : ℕ) → i < j → comes_before (Own i) (Own j) ≡ true
+own-before i j l = grind (arith, nat_tests, l)
+
+nils-order : (from count : ℕ) → AreInOrder (nils from count)
+nils-order from zero = tt
+nils-order from (suc count) = (
+  nils-all (λ (v : Var × Term). comes_before (Own from) v.0 ≡ true) (suc from) count
+      (λ i a b. own-before from i (omega (arith, a))),
+  nils-order (suc from) count,
+)
+
+symbols-order : (from count rest : ℕ) → AreInOrder (symbols from count ++ nils (from + count) rest)
+symbols-order from zero rest = nils-order (from + 0) rest
+symbols-order from (suc count) rest = (
+  all_by-append (λ (v : Var × Term). comes_before (Own from) v.0 ≡ true) (symbols (suc from) count)
+      (nils (from + suc count) rest)
+      (symbols-all (λ (v : Var × Term). comes_before (Own from) v.0 ≡ true) (suc from) count
+      (λ i a b. own-before from i (omega (arith, a))))
+      (nils-all (λ (v : Var × Term). comes_before (Own from) v.0 ≡ true) (from + suc count) rest
+      (λ i a b. own-before from i (omega (arith, a)))),
+  subst (λ k. AreInOrder (symbols (suc from) count ++ nils k rest))
+      (let e : suc from + count ≡ from + suc count = omega arith in e) (symbols-order (suc from) count rest),
+)
+
+-- listed
+nils-listed : (from count i : ℕ) → from ≤ i → i < from + count → is_listed (nils from count) (Own i) ≡ true
+nils-listed from zero i a b = absurd (omega (arith, a, b))
+nils-listed from (suc count) i a b =
+    go (same_var (Own from) (Own i)) refl (λ n. nils-listed (suc from) count i n (omega (arith, b)))
+  where
+    go : (c : Bool) → same_var (Own from) (Own i) ≡ c
+        → (suc from ≤ i → is_listed (nils (suc from) count) (Own i) ≡ true)
+        → same_var (Own from) (Own i) || is_listed (nils (suc from) count) (Own i) ≡ true
+    go true e r = or_left (same_var (Own from) (Own i)) (is_listed (nils (suc from) count) (Own i)) e
+    go false e r = or_right (same_var (Own from) (Own i)) (is_listed (nils (suc from) count) (Own i))
+        (r (let n : suc from ≤ i = grind (arith, nat_tests) in n))
+
+own-listed : (from count rest i : ℕ) → from ≤ i → i < from + count + rest
+    → is_listed (symbols from count ++ nils (from + count) rest) (Own i) ≡ true
+own-listed from zero rest i a b = nils-listed (from + 0) rest i (omega (arith, a)) (omega (arith, b))
+own-listed from (suc count) rest i a b =
+    go (same_var (Own from) (Own i)) refl (λ n. subst
+    (λ k. is_listed (symbols (suc from) count ++ nils k rest) (Own i) ≡ true)
+    (let e : suc from + count ≡ from + suc count = omega arith in e)
+    (own-listed (suc from) count rest i n (omega (arith, b))))
+  where
+    go : (c : Bool) → same_var (Own from) (Own i) ≡ c
+        → (suc from ≤ i → is_listed (symbols (suc from) count ++ nils (from + suc count) rest) (Own i) ≡ true)
+        → same_var (Own from) (Own i) || is_listed (symbols (suc from) count ++ nils (from + suc count) rest) (Own i)
+        ≡ true
+    go true e r = or_left (same_var (Own from) (Own i)) _ e
+    go false e r = or_right (same_var (Own from) (Own i))
+        (is_listed (symbols (suc from) count ++ nils (from + suc count) rest) (Own i))
+        (r (let n : suc from ≤ i = grind (arith, nat_tests) in n))
+
+-- WHAT A BODY SETS it is one that it may set, or a resource's
+references-settable : (p : Program) (g : Procedure) (refs : List Occurrence) (x : Var)
+    → ((y : Occurrence) → Contains refs y → IsSettable p g y.var) → IsAmong x refs → IsSettable p g x
+references-settable p g [] x h a = absurd a
+references-settable p g (y ∷ ys) x h (inl e) =
+    subst (IsSettable p g) e (h y ((contains-cons y ys y).1 (inl refl)))
+references-settable p g (y ∷ ys) x h (inr a) =
+    references-settable p g ys x (λ z i. h z ((contains-cons y ys z).1 (inr i))) a
+
+changed-settable : (p : Program) (g : Procedure) (c : Call) (x : Var) → All (λ y. IsSettable p g y.var) c.references
+    → MayChange p c x → IsSettable p g x ⊎ IsShared x
+changed-settable p g c x w (inl a) =
+    inl (references-settable p g c.references x
+    (λ y i. All-contains (λ (y : Occurrence). IsSettable p g y.var) c.references y w i) a)
+changed-settable p g c x w (inr free) = inr free.0
+
+mutual
+  command-settable : (p : Program) (g : Procedure) (c : Command) (x : Var) → CommandWithin p g c
+      → CommandTouches p c x → IsSettable p g x ⊎ IsShared x
+  command-settable p g (assign q y e) x w t = inl (subst (IsSettable p g) t w.0)
+  command-settable p g (look_up q y e field) x w t = inl (subst (IsSettable p g) t w.0)
+  command-settable p g (mutate q e field v) x w t = absurd t
+  command-settable p g (new q y) x w t = inl (subst (IsSettable p g) t w)
+  command-settable p g (dispose q e) x w t = absurd t
+  command-settable p g (if q test this that) x w (inl t) = block-settable p g this x w.1 t
+  command-settable p g (if q test this that) x w (inr t) = block-settable p g that x w.2 t
+  command-settable p g (while q test invariant body) x w t = block-settable p g body x w.2 t
+  command-settable p g (call q c) x w t = changed-settable p g c x w.references t
+  command-settable p g (fork q c e) x w (inl t) = changed-settable p g c x w.0.references t
+  command-settable p g (fork q c e) x w (inr t) = changed-settable p g e x w.1.references t
+  command-settable p g (with q r test body) x w t = block-settable p g body x w.2 t
+
+  block-settable : (p : Program) (g : Procedure) (b : Block) (x : Var) → BlockWithin p g b → BlockTouches p b x
+      → IsSettable p g x ⊎ IsShared x
+  block-settable p g done x w t = absurd t
+  block-settable p g (then c b) x w (inl t) = command-settable p g c x w.0 t
+  block-settable p g (then c b) x w (inr t) = block-settable p g b x w.1 t
+
+-- an assertion that may stand where fewer variables are there
+plain-more : (d : Setting) (V W : Var → Type 0) (a : Assertion) → ((x : Var) → V x → W x) → IsPlain d V a
+    → IsPlain d W a
+plain-more d V W a h u = record { variables = λ x o. h x (u.variables x o); closed = u.closed; formed = u.formed }
+
+-- WHAT IS FREE IS HELD what occurs at a command occurs in it itself, or in one of its calls
+occurs-at : (c : Command) (y : Occurrence) → Contains (occurrences_at c) y → OccursAt y c
+occurs-at c y k = elim (Contains-append_cases (head_occurrences c) _ y k) [
+  | inl h ↦ inl h
+  | inr h ↦ inr (contains-flat_map_from call_occurrences (head_calls c) y h)
+]
+
+module _ (d : Setting) (sane : IsSane d) (f : ProcId) (r : ResId) (i : ℕ) (n : HeldBy d.program f r → ⊥) where
+  -- what the contract doesn't hold, and no region around enters, isn't held
+  unheld : (entered : List ResId) → (Contains entered r → ⊥) → IsHeld d.program f entered r → ⊥
+  unheld entered out (inl h) = n h
+  unheld entered out (inr c) = out c
+
+  free-not_held : FreeIn d.program f (Shared r i) → ⊥
+  free-not_held (directly (h, there, inl o)) =
+      n (record { procedure = h; there = there; variable = i; occurs = inl o })
+  free-not_held (directly (h, there, inr (inl o))) =
+      n (record { procedure = h; there = there; variable = i; occurs = inr o })
+  free-not_held (directly (h, there, inr (inr (s, m, (out, a))))) =
+      let y = among_at (Shared r i) (occurrences_at s.command) a in
+      sane.unbroken f h there s m (NotHeld y.0.place (Shared r i)) (
+        unheld (head_regions s.command ++ s.entered) out,
+        inl (subst (λ (z : Occurrence). OccursAt z s.command) (λ j. record { var = y.2 j; place = y.0.place })
+            (occurs-at s.command y.0 y.1)),
+      )
+  free-not_held (through g (h, there, (s, m, (out, (k, at, e)))) free) =
+      sane.unbroken f h there s m (NotHeld k.place (Shared r i)) (
+        unheld (head_regions s.command ++ s.entered)
+            (λ c. elim (Contains-append_cases (head_regions s.command) s.entered r c) [
+              | inl j ↦ calls-no_region s.command k r at j
+              | inr j ↦ out j
+            ]),
+        inr (k, at, (refl, subst (λ z. Free d.program z (Shared r i)) (sym e) (tt, free))),
+      )
+
+module _ (d : Setting) (sane : IsSane d) (f : ProcId) (g : Procedure)
+    (there : procedure_at d.program f ≡ Some g) where
+  abbrev p : Program
+  p = d.program
+
+  abbrev n0 : ℕ
+  n0 = g.references + g.values
+
+  abbrev s0 : State
+  s0 = first_state (links_of p) (own_vars g) n0
+
+  abbrev xs : List Var
+  xs = flat_map (variables_of d.program) (get_or d.sets.holds f.0 [])
+
+  abbrev first : State
+  first = first_state_of d f g
+
+  enough : n0 ≤ length g.names
+  enough = let w = (sane.formed.procedures f.0 g there).declared in omega (arith, w)
+
+  -- the resources that are held
+  abbrev held_list : List ResId
+  held_list = get_or d.sets.holds f.0 []
+
+  held-list : slice_get d.sets.holds f.0 ≡ Some held_list
+  held-list = slice_get-get_or d.sets.holds f.0 []
+      (subst (λ k. f.0 < k) (sym sane.sets.holds.each) (slice_get_within p.procedures f.0 g there))
+
+  -- a variable that is free is one of a resource that is held
+  free-held : (r : ResId) (i : ℕ) → Free p f (Shared r i) → Contains xs (Shared r i)
+  free-held r i free =
+      contains-flat_map (variables_of p) held_list r (Shared r i) (go (is_entered held_list r) refl)
+      (named (slice_get p.resources r.0) refl (free-there d sane r i f free.1))
+    where
+      go : (b : Bool) → is_entered held_list r ≡ b → Contains held_list r
+      go true e = (entered-decides held_list r).0 e
+      go false e = absurd (free-not_held d sane f r i
+          (λ h. not-entered held_list r e (((sane.sets.holds.is f held_list held-list).members r).1 h)) free.1)
+
+      named : (o : Option Resource) → slice_get p.resources r.0 ≡ o → i < variable_count (slice_get p.resources r.0)
+          → Contains (unwrap_or (option_map (λ (of : Resource). variables_from r 0 of.variables)
+          (slice_get p.resources r.0)) [])
+          (Shared r i)
+      named None e l = absurd (let m : i < 0 = subst (λ z. i < variable_count z) e l in omega (arith, m))
+      named (Some of) e l =
+          subst (λ z. Contains (unwrap_or (option_map (λ (of : Resource). variables_from r 0 of.variables) z) [])
+          (Shared r i)) (sym e)
+          (of-contains r of.variables (Shared r i) (of-is r (length of.variables) (Shared r i)
+          (refl, subst (λ z. i < variable_count z) e l)))
+
+  module _ (l : Local) (values : ℕ → Value) (b : Begins p f g values l) where
+    abbrev D : Domain
+    D = record { has = λ x. is_some (l.values x); holds = λ r. is_some (l.tokens r) }
+
+    has : HasDomain D l
+    has = record { variables = λ x. refl; tokens = λ r. refl }
+
+    scope : HasScope d sane f g there [] D
+    scope x (inl i) = has-some l x (b.owns.variables.each x i)
+    scope x (inr (r, i, e)) = absurd (contains-nil r i)
+
+    in-scope : (x : Var) → IsPassed d f g x → D.has x ≡ true
+    in-scope (Own i) h = has-some l (Own i) (b.owns.variables.each (Own i) (let e = enough in omega (arith, h, e)))
+    in-scope (Shared r i) h = has-some l (Shared r i) (b.owns.variables.each (Shared r i) h)
+
+    -- the variables that the state knows before those of resources come up
+    abbrev own_domain : Domain
+    own_domain = record { has = λ x. is_listed (own_vars g) x; holds = λ r. false }
+
+    before : StateSuits d own_domain s0
+    before = record {
+      below = record {
+        vars = all_by-append (λ (v : Var × Term). IsBelow n0 v.1) (symbols 0 n0) (nils n0 (length g.names - n0))
+            (symbols-all (λ (v : Var × Term). IsBelow n0 v.1) 0 n0
+            (λ i a c. below-symbol n0 i (omega (arith, c))))
+            (nils-all (λ (v : Var × Term). IsBelow n0 v.1) n0 (length g.names - n0) (λ i a c. refl));
+        apart = tt;
+        atoms = tt;
+        taken = tt;
+      };
+      order = subst (λ k. AreInOrder (symbols 0 n0 ++ nils k (length g.names - n0)))
+          (let e : 0 + n0 ≡ n0 = omega arith in e) (symbols-order 0 n0 (length g.names - n0));
+      fields = tt;
+      links = refl;
+      listed = λ x e. e;
+    }
+
+    known : (x : Var) → D.has x ≡ true → (is_listed (own_vars g) x ≡ true) ⊎ Contains xs x
+    known x e = go x (b.owns.variables.only x (some-has l x e))
+      where
+        go : (x : Var) → IsVariableOf p f g x → (is_listed (own_vars g) x ≡ true) ⊎ Contains xs x
+        go (Own i) h = inl (subst (λ k. is_listed (symbols 0 n0 ++ nils k (length g.names - n0)) (Own i) ≡ true)
+            (let e : 0 + n0 ≡ n0 = omega arith in e)
+            (own-listed 0 n0 (length g.names - n0) i (omega arith) (let m = enough in omega (arith, h, m))))
+        go (Shared r i) h = inr (free-held r i h)
+
+    state : StateSuits d D first
+    state = state-fresh d own_domain D s0 xs before known
+
+    -- values of the symbols: those of the parameters
+    abbrev w0 : ℕ → Value
+    w0 i = value_in l (Own i)
+
+    agrees : (x : Var) (t : Term) → value_in l x ≡ term_value w0 t → Agrees w0 l.values (x, t)
+    agrees x t e v i = sym (ap (λ o. unwrap_or o nil) i) ∙ e
+
+    held-before : HoldsIn w0 (record { state = s0; todo = [] }) l.values empty_map empty_map
+    held-before = record {
+      vars = all_by-append (Agrees w0 l.values) (symbols 0 n0) (nils n0 (length g.names - n0))
+          (symbols-all (Agrees w0 l.values) 0 n0 (λ i a c. agrees (Own i) (Sym i) refl))
+          (nils-all (Agrees w0 l.values) n0 (length g.names - n0)
+          (λ i a c. agrees (Own i) Nil (b.locals i a (let m = enough in omega (arith, c, m)))));
+      apart = tt;
+      disjoint = (splits-empty_right {X = Cell} {map = empty_map} empty-holds).apart;
+      there = star-of (splits-empty_left empty-holds) empty-holds empty-holds;
+      gone = empty-holds;
+    }
+
+    below : AreBelow (record { state = s0; todo = [] })
+    below = record { state = before.below; todo = tt }
+
+    abbrev w : ℕ → Value
+    w = renewed s0 [] below before.order xs w0 l l empty_map empty_map held-before (λ x i. refl)
+
+    vars : AllByRecursion (Agrees w l.values) first.vars
+    vars = renewed-vars s0 [] below before.order xs w0 l l empty_map empty_map held-before (λ x i. refl)
+
+    abbrev to : Expr → Term
+    to = term first.vars
+
+    abbrev ending : List Item
+    ending = return g.end (d.ordered g.post) ∷ []
+
+    abbrev pre : Pending
+    pre = pending_assertion to (d.ordered g.pre)
+
+    seen : HaveValues (IsPassed d f g) w to (value_in l)
+    seen e i = terms-values d D first state w l has vars e (more e i)
+      where
+        more : (e : Expr) → ExprWithin (IsPassed d f g) e → ExprWithin (λ x. D.has x ≡ true) e
+        more (Variable x) i = in-scope x.var i
+        more ENil i = tt
+        more (EInt k) i = tt
+
+    first-holds : HoldsIn w (first_goal d f g) l.values l.cells empty_map
+    first-holds = record {
+      vars = vars;
+      apart = tt;
+      disjoint = (splits-empty_right {map = l.cells} empty-holds).apart;
+      there = star-of (splits-empty_left empty-holds) empty-holds
+          (adding-holds w g.place pre (to_run g.body ++ ending) l.cells
+          (body-holds w (to_run g.body ++ ending) l.cells (body-run g.body ending tt)
+          (usable-assumed d (IsPassed d f g) g.pre (annotation-pre d sane f g there) w to (value_in l) l.cells seen
+          b.pre)));
+      gone = empty-holds;
+    }
+
+    first-suits : Suits d D (first_goal d f g)
+    first-suits =
+        suits-of d D first (first_goal d f g).todo state
+        (items-add d D first.next_sym (IsPassed d f g) g.place to (d.ordered g.pre) (to_run g.body ++ ending)
+        (annotation-pre d sane f g there).plain (terms-below d D first state)
+        (items-run d D first.next_sym g.body ending
+        (block-suits d sane f g there [] D g.body (λ t i. i) (sane.formed.procedures f.0 g there).body scope)
+        (record {
+          below = (tt, tt);
+          formed = (tt, tt);
+          suits = plain-more d (IsPassed d f g) (λ x. D.has x ≡ true) (d.ordered g.post) in-scope
+              (annotation-post d sane f g there).plain;
+        })))
+        (inl (
+          adding-assuming g.place pre (to_run g.body ++ ending)
+              (body-assuming (to_run g.body ++ ending) (body-run g.body ending tt)),
+          refl,
+        ))
+
+    -- where the first goal claims what is to do, the body is safe
+    runs : Claim d (first_goal d f g) → (n : ℕ) → LocalSafe p n (Satisfies (d.ordered g.post)) (items g.body) l
+    runs claim n =
+        subst (λ ss. LocalSafe p n (Satisfies (d.ordered g.post)) ss l) (items-none g.body)
+        (subst₂ (λ e ss. LocalSafe p n e ss l) (owed-run g.body ending) (steps-run g.body ending)
+        (body-does p n w (to_run g.body ++ ending) l (body-run g.body ending tt)
+        (adding-does p n w g.place pre (to_run g.body ++ ending) l
+        (claim n w D l empty_map first-suits has first-holds))))
+
+    abbrev A : Var → Type 0
+    A x = BlockTouches p g.body x
+
+    -- what is kept at the end is what a frame has that ends
+    ends : (m : Local) → Satisfies (d.ordered g.post) m
+        → Kept A (left_variables p (items g.body)) (left_tokens (items g.body)) l m → Ends p f values m
+    ends m holds kept = record {
+      procedure = g;
+      there = there;
+      owns = record {
+        variables = record {
+          each = λ x i. some-has m x (same x ∙ has-some l x (b.owns.variables.each x i));
+          only = λ x h. b.owns.variables.only x (some-has l x (sym (same x) ∙ has-some m x h));
+        };
+        outside = λ r. none-of (m.tokens r) (kept.tokens r ∙ ap (λ z. not (z r) && is_some (l.tokens r)) lost
+            ∙ ap is_some (b.owns.outside r));
+        parameters = λ i h.
+            ap (λ o. unwrap_or o nil)
+            (kept.same (Own (g.references + i)) (ap (λ z. z (Own (g.references + i))) none) (λ t. unset i h t))
+            ∙ b.owns.parameters i h;
+      };
+      post = ((annotation-post d sane f g there).means (value_in m) m.cells).1 holds;
+    }
+      where
+        none : left_variables p (items g.body) ≡ nothing_gone
+        none = ap (left_variables p) (sym (items-none g.body)) ∙ left-variables_items p g.body []
+
+        lost : left_tokens (items g.body) ≡ nothing_lost
+        lost = ap left_tokens (sym (items-none g.body)) ∙ left-tokens_items g.body []
+
+        same : (x : Var) → is_some (m.values x) ≡ is_some (l.values x)
+        same x = kept.domain x ∙ ap (λ z. not (z x) && is_some (l.values x)) none
+
+        unset : (i : ℕ) → i < g.values → BlockTouches p g.body (Own (g.references + i)) → ⊥
+        unset i h t =
+            elim (block-settable p g g.body (Own (g.references + i)) (sane.formed.procedures f.0 g there).body t) [
+              | inl s ↦ (let k = s.1 (omega (arith, h)) in omega (arith, k))
+              | inr s ↦ s
+            ]
+
+    pub body-safe : Claim d (first_goal d f g) → (n : ℕ) → LocalSafe p n (Ends p f values) (items g.body) l
+    body-safe claim n =
+        local-weaken p n (Keeping p A (Satisfies (d.ordered g.post)) (items g.body) l) (Ends p f values)
+        (items g.body) l
+        (λ m (e, k). ends m e k) (keep p A n (Satisfies (d.ordered g.post)) (items g.body) l touches (runs claim n))
+      where
+        touches : (x : Var) → Touches p (items g.body) x → BlockTouches p g.body x
+        touches x t = elim (touches-items p g.body [] x (subst (λ ss. Touches p ss x) (sym (items-none g.body)) t)) [
+          | inl y ↦ y
+          | inr y ↦ absurd y
+        ]

@@ -1,0 +1,227 @@
+-- What goals with a command in front claim: the event finds what it needs, and the goal that is left claims the rest.
+-- Names: `COMMAND-claims` of that command's row.
+use Rattle.std.specs.List.{AllByRecursion}
+use Rattle.std.proofs.Common.{◌≡◌, ℕ, zero, suc, true, false, Some, None, List, [], ◌∷◌, ◌++◌, sym, ap, subst, subst₂, inl, inr}
+use Rattle.sf_base.proofs.MapSplits.{empty-is}
+use Rattle.sf_base.specs.declared.ids.FieldId.{FieldId}
+use Rattle.sf_base.specs.declared.place.Place.{Place}
+use Rattle.sf_base.specs.declared.value.Value.{Value}
+use Rattle.sf_base.specs.declared.value.Value.TheVariants.{Loc as loc}
+use Rattle.sf_base.specs.HeapStore.{Heap, put_field}
+use Rattle.sf_core.specs.declared.assertion.Test.{Test}
+use Rattle.sf_core.specs.declared.command.Expr.{Expr}
+use Rattle.sf_core.specs.declared.command.Occurrence.{Occurrence}
+use Rattle.sf_core.specs.Machine.Config.{items}
+use Rattle.sf_core.specs.Program.Syntax.{Block, Command, assign, look_up, mutate, new, dispose, if}
+use Rattle.sf_rules.specs.LawsOfCommands.{before_command, AssignFollowsEvent, LookFollowsEvent, MutateFollowsEvent, NewFollowsEvent, DisposeFollowsEvent, ThenFollowsTest, ElseFollowsTest}
+use Rattle.sf_rules.specs.Rows.Branches.{then_row, else_row}
+use Rattle.sf_rules.specs.Rows.Commands.{assign_row, look_row, mutate_row, new_row, dispose_row}
+use Rattle.sf_rules.specs.Setting.{Setting}
+use Rattle.sf_safe.specs.Local.{Local, look, put_local, put_variable}
+use Rattle.sf_safe.specs.LocalSafe.{LocalSafe}
+use Rattle.sf_sound.proofs.CommandChildren.{IsOrdered, Stays, assign-stays, branch-stays, dispose-stays, look-stays, mutate-stays, new-stays}
+use Rattle.sf_sound.proofs.Standing.{body-does, body-run, domain-has, domain-in, domain-put, domain-test, form-command, items-formed_run, known-expr, known-test, next-suits, owed-run, ready, steps-run, suits-run}
+use Rattle.sf_sound.specs.Internal.Claims.{Does, Owed, steps}
+use Rattle.sf_sym.specs.Formed.{ItemFormed}
+use Rattle.sf_sound.specs.Internal.Suits.{Claim, Domain, HasDomain, IsBody, Suits, TodoSuits}
+use Rattle.sf_sym.specs.Goal.{Item, run, Goal, to_run}
+use Rattle.sf_sym.specs.Holds.{AtomsHold}
+use Rattle.sf_sym.specs.HoldsIn.{HoldsIn}
+use Rattle.sf_sym.specs.Laws.{Follows, SomeOf}
+use Rattle.sf_sym.specs.State.{State}
+
+-- one of the goals has the property that one of them has, and those that all have
+pub record Picked (P Q R S : Goal → Type 0) : Type 0 where
+  pub goal : Goal
+  pub one : P goal
+  pub first : Q goal
+  pub second : R goal
+  pub third : S goal
+
+pub pick : (P Q R S : Goal → Type 0) (left : List Goal) → SomeOf P left → AllByRecursion Q left
+    → AllByRecursion R left → AllByRecursion S left → Picked P Q R S
+pick P Q R S [] p q r s = absurd p
+pick P Q R S (g ∷ gs) (inl p) q r s = record { goal = g; one = p; first = q.0; second = r.0; third = s.0 }
+pick P Q R S (g ∷ gs) (inr p) q r s = pick P Q R S gs p q.1 r.1 s.1
+
+-- a goal with a command in front, and a goal that its row leaves, which has that to do
+module _ (d : Setting) (D : Domain) (s : State) (c : Command) (rest todo : List Item) (child : Goal)
+    (u : Suits d D (before_command s c rest)) (f : Follows (before_command s c rest) child)
+    (st : Stays s todo child) (formed : AllByRecursion (ItemFormed s.links) todo) (body : IsBody todo)
+    (suits : TodoSuits d D todo) where
+  child-suits : Suits d D child
+  child-suits = next-suits d D s child.state c rest child.todo u f st.ordered.vars st.ordered.fields st.listed
+      st.taken
+      (subst (AllByRecursion (ItemFormed s.links)) (sym st.to_do) formed) (subst IsBody (sym st.to_do) body)
+      (subst (TodoSuits d D) (sym st.to_do) suits)
+
+  -- where that goal holds after the event, the machine goes on
+  pub goes-on : (n : ℕ) (w : ℕ → Value) (l : Local) (taken : Heap) → Claim d child → HasDomain D l
+      → HoldsIn w child l.values l.cells taken → LocalSafe d.program n (Owed todo) (steps todo) l
+  goes-on n w l taken claim has holds =
+      body-does d.program n w todo l body
+      (subst (λ z. Does d.program n w z l) st.to_do (claim n w D l taken child-suits has holds))
+
+module _ (d : Setting) (s : State) (rest : List Item) (left : List Goal) (claims : AllByRecursion
+    (Claim d) left) where
+  ordered : (D : Domain) (c : Command) → Suits d D (before_command s c rest) → IsOrdered s
+  ordered D c u = record { vars = u.order; fields = u.fields }
+
+  pub assign-claims : AssignFollowsEvent → (p : Place) (x : Occurrence) (e : Expr)
+      → assign_row s (assign p x e) rest ≡ Some left → Claim d (before_command s (assign p x e) rest)
+  unfolding AssignFollowsEvent
+  assign-claims law p x e row zero w D l taken u has holds = tt
+  assign-claims law p x e row (suc n) w D l taken u has holds =
+      let c = assign p x e in
+      let r = law s rest left p x e (ready d D s c rest u) row in
+      let m = pick _ _ _ _ left (r.after w l.values l.cells taken holds) r.follow
+      (assign-stays s rest left p x e (ordered D c u) row) claims in
+      let after = m.one (known-expr D l has s.vars u.listed e u.todo.0.1) in (
+        domain-has D l has x.var u.todo.0.0,
+        domain-in D l has e u.todo.0.1,
+        goes-on d D s c rest rest m.goal u m.first m.second u.formed.1 (form-command s c rest u.form).0 u.todo.1 n
+            after.values (put_variable x.var (look l e) l) taken m.third
+            (domain-put D l x.var (look l e) u.todo.0.0 has) after.holds,
+      )
+
+  pub look-claims : LookFollowsEvent → (p : Place) (x : Occurrence) (e : Expr) (f : FieldId) (a : ℕ)
+      → look_row a s (look_up p x e f) rest ≡ Some left → Claim d (before_command s (look_up p x e f) rest)
+  unfolding LookFollowsEvent
+  look-claims law p x e f a row zero w D l taken u has holds = tt
+  look-claims law p x e f a row (suc n) w D l taken u has holds =
+      let c = look_up p x e f in
+      let r = law s rest left p x e f a (ready d D s c rest u) row in
+      let m = pick _ _ _ _ left (r.after w l.values l.cells taken holds) r.follow
+      (look-stays s rest left p x e f a (ordered D c u) row) claims in
+      let found = m.one (known-expr D l has s.vars u.listed e u.todo.0.1) in
+      let after = found.follows in (
+        domain-has D l has x.var u.todo.0.0,
+        record {
+          location = found.location;
+          cell = found.cell;
+          reads = domain-in D l has e u.todo.0.1;
+          finds = found.finds;
+        },
+        goes-on d D s c rest rest m.goal u m.first m.second u.formed.1 (form-command s c rest u.form).0 u.todo.1 n
+            after.values (put_variable x.var (found.cell f.0) l) taken m.third
+            (domain-put D l x.var (found.cell f.0) u.todo.0.0 has) after.holds,
+      )
+
+  pub mutate-claims : MutateFollowsEvent → (p : Place) (e : Expr) (f : FieldId) (v : Expr) (a : ℕ)
+      → mutate_row a s (mutate p e f v) rest ≡ Some left → Claim d (before_command s (mutate p e f v) rest)
+  unfolding MutateFollowsEvent
+  mutate-claims law p e f v a row zero w D l taken u has holds = tt
+  mutate-claims law p e f v a row (suc n) w D l taken u has holds =
+      let c = mutate p e f v in
+      let r = law s rest left p e f v a (ready d D s c rest u) row in
+      let m = pick _ _ _ _ left (r.after w l.values l.cells taken holds) r.follow
+      (mutate-stays s rest left p e f v a (ordered D c u) row) claims in
+      let found = m.one (known-expr D l has s.vars u.listed e u.todo.0.0)
+      (known-expr D l has s.vars u.listed v u.todo.0.1) in
+      let after = found.follows in (
+        domain-in D l has v u.todo.0.1,
+        record {
+          location = found.location;
+          cell = found.cell;
+          reads = domain-in D l has e u.todo.0.0;
+          finds = found.finds;
+        },
+        goes-on d D s c rest rest m.goal u m.first m.second u.formed.1 (form-command s c rest u.form).0 u.todo.1 n
+            after.values (put_local found.location (Some (put_field found.cell f.0 (look l v))) l) taken m.third
+            (record { variables = has.variables; tokens = has.tokens }) after.holds,
+      )
+
+  pub dispose-claims : DisposeFollowsEvent → (p : Place) (e : Expr) (a : ℕ)
+      → dispose_row a s (dispose p e) rest ≡ Some left → Claim d (before_command s (dispose p e) rest)
+  unfolding DisposeFollowsEvent
+  dispose-claims law p e a row zero w D l taken u has holds = tt
+  dispose-claims law p e a row (suc n) w D l taken u has holds =
+      let c = dispose p e in
+      let r = law s rest left p e a (ready d D s c rest u) row in
+      let m = pick _ _ _ _ left (r.after w l.values l.cells taken holds) r.follow
+      (dispose-stays s rest left p e a (ordered D c u) row) claims in
+      let found = m.one (known-expr D l has s.vars u.listed e u.todo.0) in
+      let after = found.follows in (
+        record {
+          location = found.location;
+          cell = found.cell;
+          reads = domain-in D l has e u.todo.0;
+          finds = found.finds;
+        },
+        goes-on d D s c rest rest m.goal u m.first m.second u.formed.1 (form-command s c rest u.form).0 u.todo.1 n
+            after.values (put_local found.location None l) taken m.third
+            (record { variables = has.variables; tokens = has.tokens }) after.holds,
+      )
+
+  -- nothing was handed over, so it lacks the new cell
+  lacks : (w : ℕ → Value) (l : Local) (taken : Heap) (c : Command)
+      → HoldsIn w (before_command s c rest) l.values l.cells taken → s.taken ≡ [] → (location : ℕ)
+      → taken location ≡ None
+  lacks w l taken c holds e location =
+      ap (λ m. m location) (empty-is (subst (λ z. AtomsHold w s.links z taken) e holds.gone))
+
+  pub new-claims : NewFollowsEvent → (p : Place) (x : Occurrence) → new_row s (new p x) rest ≡ Some left
+      → Claim d (before_command s (new p x) rest)
+  unfolding NewFollowsEvent
+  new-claims law p x row zero w D l taken u has holds = tt
+  new-claims law p x row (suc n) w D l taken u has holds =
+      let c = new p x in
+      let form = form-command s c rest u.form in
+      let r = law s rest left p x (ready d D s c rest u) row in
+      let m = pick _ _ _ _ left (r.after w l.values l.cells taken holds) r.follow
+      (new-stays s rest left p x (ordered D c u) row) claims in (
+        domain-has D l has x.var u.todo.0,
+        λ location cell i free.
+            let after = m.one location cell free (lacks w l taken c holds form.1 location) in
+            goes-on d D s c rest rest m.goal u m.first m.second u.formed.1 form.0 u.todo.1 n after.values
+            (put_variable x.var (loc location) (put_local location (Some cell) l)) taken m.third
+            (domain-put D (put_local location (Some cell) l) x.var (loc location) u.todo.0
+            (record { variables = has.variables; tokens = has.tokens })) after.holds,
+      )
+
+  -- a branch goes on as the machine does
+  branch-on : (D : Domain) (n : ℕ) (w : ℕ → Value) (l : Local) (taken : Heap) (c : Command) (b : Block) (child : Goal)
+      → (u : Suits d D (before_command s c rest)) → Follows (before_command s c rest) child
+      → Stays s (to_run b ++ rest) child → TodoSuits d D (to_run b ++ rest) → Claim d child → HasDomain D l
+      → HoldsIn w child l.values l.cells taken
+      → LocalSafe d.program n (Owed rest) (items b ++ steps rest) l
+  branch-on D n w l taken c b child u follows stays suits claim has holds =
+      subst₂ (λ e ss. LocalSafe d.program n e ss l) (owed-run b rest) (steps-run b rest)
+      (goes-on d D s c rest (to_run b ++ rest) child u follows stays (items-formed_run s.links b rest u.formed.1)
+      (body-run b rest (form-command s c rest u.form).0) suits n w l taken claim has holds)
+
+  pub then-claims : ThenFollowsTest → (p : Place) (t : Test Expr) (this that : Block)
+      → then_row s (run (if p t this that) ∷ rest) ≡ Some left
+      → Claim d (before_command s (if p t this that) rest)
+  unfolding ThenFollowsTest
+  then-claims law p t this that row zero w D l taken u has holds = tt
+  then-claims law p t this that row (suc n) w D l taken u has holds =
+      let c = if p t this that in
+      let r = law s rest left p t this that (ready d D s c rest u) row in
+      let m = pick _ _ _ _ left (r.after w l.values l.cells taken holds) r.follow
+      (branch-stays true s rest left p t this that (ordered D c u) row) claims in
+      let (is, after) = m.one (known-test D l has s.vars u.listed t u.todo.0.0) in
+      record {
+        reads = domain-test D l has t u.todo.0.0;
+        this = λ i. branch-on D n after.values l taken c this m.goal u m.first m.second
+            (suits-run d D this rest u.todo.0.1 u.todo.1) m.third has after.holds;
+        that = λ i. absurd (i is);
+      }
+
+  pub else-claims : ElseFollowsTest → (p : Place) (t : Test Expr) (this that : Block)
+      → else_row s (run (if p t this that) ∷ rest) ≡ Some left
+      → Claim d (before_command s (if p t this that) rest)
+  unfolding ElseFollowsTest
+  else-claims law p t this that row zero w D l taken u has holds = tt
+  else-claims law p t this that row (suc n) w D l taken u has holds =
+      let c = if p t this that in
+      let r = law s rest left p t this that (ready d D s c rest u) row in
+      let m = pick _ _ _ _ left (r.after w l.values l.cells taken holds) r.follow
+      (branch-stays false s rest left p t this that (ordered D c u) row) claims in
+      let (is, after) = m.one (known-test D l has s.vars u.listed t u.todo.0.0) in
+      record {
+        reads = domain-test D l has t u.todo.0.0;
+        this = λ i. absurd (is i);
+        that = λ i. branch-on D n after.values l taken c that m.goal u m.first m.second
+            (suits-run d D that rest u.todo.0.2 u.todo.1) m.third has after.holds;
+      }

@@ -1,0 +1,333 @@
+-- Well-formed assertions may stand in goals: their existentials are their own and counted, their segments and trees
+-- go along the program's links, and no existential is made twice.
+-- Names: `PART-exists` of which existentials occur, `PART-formed` of conjuncts, `plain-of`.
+use Rattle.std.specs.List.{AllByRecursion, IsDistinct}
+use Rattle.std.specs.Prelude.{◌⊎◌, ◌<◌, ◌≤◌, ◌||◌, ◌&&◌, Contains, length, nat_le, nat_lt, replicate}
+use Rattle.std.specs.Str.{bytes_eq}
+use Rattle.std.proofs.Common.{◌≡◌, ℕ, zero, suc, ◌+◌, Bool, true, false, cond, get_or, map, Option, Some, None, List, [], ◌∷◌, refl, sym, ap, ap₂, ◌∙◌, subst, inl, inr, arith}
+use Rattle.std.proofs.lemmas.Bool.{or_cases}
+use Rattle.std.proofs.lemmas.Bool.Decides.{nat_tests}
+use Rattle.std.proofs.lemmas.List.{length-replicate}
+use Rattle.std.proofs.lemmas.List.Elements.{All-contains}
+use Rattle.std.proofs.lemmas.Map.Keys.{IsDistinct-head, IsDistinct-tail}
+use Rattle.std.proofs.lemmas.Option.{none-some, same_Some}
+use Rattle.sf_base.proofs.Elements.{contains-cons}
+use Rattle.sf_base.proofs.Equality.{bytes_eq-same, bytes_eq-self}
+use Rattle.sf_base.proofs.Lists.{replicate-default}
+use Rattle.sf_base.specs.declared.ids.FieldId.{FieldId}
+use Rattle.sf_base.specs.declared.ids.Var.{Var}
+use Rattle.sf_core.specs.Assertions.Occurs.{OccursIn, OccursInAll, OccursInFields, OccursInOne, OccursInTest, VarOccursIn}
+use Rattle.sf_core.specs.Assertions.Scopes.{is_made_by, overlap}
+use Rattle.sf_core.specs.declared.assertion.Operand.{Operand}
+use Rattle.sf_core.specs.declared.assertion.Operand.TheVariants.{Known, Exists}
+use Rattle.sf_core.specs.declared.assertion.Scope.{Scope}
+use Rattle.sf_core.specs.declared.assertion.Test.{Test}
+use Rattle.sf_core.specs.declared.assertion.Test.TheVariants.{True, Equal, Differ}
+use Rattle.sf_core.specs.declared.command.Expr.{Expr}
+use Rattle.sf_core.specs.declared.fields.Links.{Links}
+use Rattle.sf_core.specs.Program.Formed.{AssertionWithin, ConjunctWithin, ConjunctsWithin, FieldsWithin, LevelWithin, OperandWithin, TestWithin, conjunct_scopes, conjuncts_scopes, is_made, level_scopes}
+use Rattle.sf_core.specs.Program.Links.{left_name, next_name, right_name}
+use Rattle.sf_core.specs.Program.Named.{IsFirstNamed}
+use Rattle.sf_core.specs.Program.Syntax.{Assertion, Conjunct, holds, points, segment, tree, choose, Conjuncts, none, also, Level, level}
+use Rattle.sf_rules.specs.Setting.{Setting}
+use Rattle.sf_rules.specs.Table.{links_of, number_of}
+use Rattle.sf_sym.specs.Formed.{AllFormed, IsCounted, IsScoped, LevelFormed, OneFormed}
+use Rattle.sf_sound.specs.Internal.Suits.{IsPlain}
+use Rattle.sf_sym.specs.declared.term.Term.{Term}
+use Rattle.sf_sym.specs.Mapped.{conjunct_with, conjuncts_with, level_with, operand_with, test_with}
+use Rattle.sf_sym.specs.Pending.{conjuncts_of}
+
+-- THE FIELD OF A NAME
+number-named : (names : List (List ℕ)) (name : List ℕ) (from k : ℕ) → IsFirstNamed names name (Some k)
+    → number_of names name from ≡ Some (record { 0 = from + k })
+number-named [] name from k h = absurd (none-some name h.0)
+number-named (x ∷ xs) name from zero h =
+    ap (λ b. cond b (Some (record { 0 = from })) (number_of xs name (suc from)))
+    (subst (λ z. bytes_eq x z ≡ true) (same_Some x name h.0) (bytes_eq-self x))
+    ∙ ap (λ n. Some (record { 0 = n })) (let z : from ≡ from + 0 = omega arith in z)
+number-named (x ∷ xs) name from (suc k) h =
+    go (bytes_eq x name) refl (number-named xs name (suc from) k (h.0, λ j l. h.1 (suc j) (omega (arith, l))))
+  where
+    go : (b : Bool) → bytes_eq x name ≡ b → number_of xs name (suc from) ≡ Some (record { 0 = suc from + k })
+        → cond b (Some (record { 0 = from })) (number_of xs name (suc from)) ≡ Some (record { 0 = from + suc k })
+    go true e r = absurd (h.1 0 (omega arith) (ap Some (bytes_eq-same x name e)))
+    go false e r = r ∙ ap (λ n. Some (record { 0 = n })) (let z : suc from + k ≡ from + suc k = omega arith in z)
+
+field-named : (names : List (List ℕ)) (name : List ℕ) (f : FieldId) → IsFirstNamed names name (Some f.0)
+    → number_of names name 0 ≡ Some f
+field-named names name f h =
+    number-named names name 0 f.0 h ∙ ap (λ n. Some (record { 0 = n })) (let z : 0 + f.0 ≡ f.0 = omega arith in z)
+
+-- WHICH EXISTENTIALS OCCUR: those that the levels around make
+module _ (fields : List (List ℕ)) (V : Var → Type 0) (n : ℕ) where
+  operand-exists : (made : List Scope) (x : Operand Expr) → OperandWithin V made x → Exists n ≡ x
+      → is_made made n ≡ true
+  operand-exists made (Known e) w i = absurd (cc)
+  operand-exists made (Exists m) w i = let same : n ≡ m = cc in subst (λ k. is_made made k ≡ true) (sym same) w
+
+  two-exist : (made : List Scope) (x y : Operand Expr) → OperandWithin V made x → OperandWithin V made y
+      → (Exists n ≡ x) ⊎ (Exists n ≡ y) → is_made made n ≡ true
+  two-exist made x y w v (inl i) = operand-exists made x w i
+  two-exist made x y w v (inr i) = operand-exists made y v i
+
+  test-exists : (made : List Scope) (t : Test (Operand Expr)) → TestWithin (OperandWithin V made) t
+      → OccursInTest t (Exists n) → is_made made n ≡ true
+  test-exists made True w o = absurd o
+  test-exists made (Equal x y) w o = two-exist made x y w.0 w.1 o
+  test-exists made (Differ x y) w o = two-exist made x y w.0 w.1 o
+
+  fields-exist : (made : List Scope) (fs : List (FieldId × Operand Expr))
+      → FieldsWithin fields (OperandWithin V made) fs → OccursInFields fs (Exists n) → is_made made n ≡ true
+  fields-exist made [] w o = absurd o
+  fields-exist made (f ∷ fs) w (inl i) = operand-exists made f.1 w.1 i
+  fields-exist made (f ∷ fs) w (inr o) = fields-exist made fs w.3 o
+
+  mutual
+    level-exists : (made : List Scope) (a : Level Expr) → LevelWithin fields V made a → OccursIn a (Exists n)
+        → is_made made n ≡ true
+    level-exists made (level here cs) w o =
+        elim (or_cases (is_made_by here n) (is_made made n) (conjuncts-exist (here ∷ made) cs w o.0)) [
+          | inl i ↦ absurd (let j : is_made_by here n ≡ false = o.1 in cc)
+          | inr i ↦ i
+        ]
+
+    conjuncts-exist : (made : List Scope) (cs : Conjuncts Expr) → ConjunctsWithin fields V made cs
+        → OccursInAll cs (Exists n) → is_made made n ≡ true
+    conjuncts-exist made none w o = absurd o
+    conjuncts-exist made (also c cs) w (inl o) = conjunct-exists made c w.0 o
+    conjuncts-exist made (also c cs) w (inr o) = conjuncts-exist made cs w.1 o
+
+    conjunct-exists : (made : List Scope) (c : Conjunct Expr) → ConjunctWithin fields V made c
+        → OccursInOne c (Exists n) → is_made made n ≡ true
+    conjunct-exists made (holds q t) w o = test-exists made t w o
+    conjunct-exists made (points q x fs) w (inl i) = operand-exists made x w.0 i
+    conjunct-exists made (points q x fs) w (inr o) = fields-exist made fs w.1 o
+    conjunct-exists made (segment q next x y) w o = two-exist made x y w.1 w.2 o
+    conjunct-exists made (tree q left right x) w o = operand-exists made x w.2 o
+    conjunct-exists made (choose q t this that) w (inl o) = test-exists made t w.0 o
+    conjunct-exists made (choose q t this that) w (inr (inl o)) = level-exists made this w.1 o
+    conjunct-exists made (choose q t this that) w (inr (inr o)) = level-exists made that w.2 o
+
+-- SCOPES that come after others are among all
+mutual
+  level-more : {E : Type 0} (a : Level E) (rest : List Scope) (s : Scope) → Contains rest s
+      → Contains (level_scopes a rest) s
+  level-more (level here cs) rest s c =
+      (contains-cons here (conjuncts_scopes cs rest) s).1 (inr (conjuncts-more cs rest s c))
+
+  conjuncts-more : {E : Type 0} (cs : Conjuncts E) (rest : List Scope) (s : Scope) → Contains rest s
+      → Contains (conjuncts_scopes cs rest) s
+  conjuncts-more none rest s c = c
+  conjuncts-more (also d ds) rest s c = conjunct-more d (conjuncts_scopes ds rest) s (conjuncts-more ds rest s c)
+
+  conjunct-more : {E : Type 0} (d : Conjunct E) (rest : List Scope) (s : Scope) → Contains rest s
+      → Contains (conjunct_scopes d rest) s
+  conjunct-more (holds q t) rest s c = c
+  conjunct-more (points q x fs) rest s c = c
+  conjunct-more (segment q next x y) rest s c = c
+  conjunct-more (tree q left right x) rest s c = c
+  conjunct-more (choose q t this that) rest s c =
+      level-more this (level_scopes that rest) s (level-more that rest s c)
+
+-- they are the same with other things in place of what has a value
+mutual
+  level-scopes_with : {E F : Type 0} (to : E → F) (a : Level E) (rest : List Scope)
+      → level_scopes (level_with to a) rest ≡ level_scopes a rest
+  level-scopes_with to (level here cs) rest = ap (λ ss. here ∷ ss) (conjuncts-scopes_with to cs rest)
+
+  conjuncts-scopes_with : {E F : Type 0} (to : E → F) (cs : Conjuncts E) (rest : List Scope)
+      → conjuncts_scopes (conjuncts_with to cs) rest ≡ conjuncts_scopes cs rest
+  conjuncts-scopes_with to none rest = refl
+  conjuncts-scopes_with to (also c cs) rest =
+      ap (λ ss. conjunct_scopes (conjunct_with to c) ss) (conjuncts-scopes_with to cs rest)
+      ∙ conjunct-scopes_with to c (conjuncts_scopes cs rest)
+
+  conjunct-scopes_with : {E F : Type 0} (to : E → F) (c : Conjunct E) (rest : List Scope)
+      → conjunct_scopes (conjunct_with to c) rest ≡ conjunct_scopes c rest
+  conjunct-scopes_with to (holds q t) rest = refl
+  conjunct-scopes_with to (points q x fs) rest = refl
+  conjunct-scopes_with to (segment q next x y) rest = refl
+  conjunct-scopes_with to (tree q left right x) rest = refl
+  conjunct-scopes_with to (choose q t this that) rest =
+      ap (λ ss. level_scopes (level_with to this) ss) (level-scopes_with to that rest)
+      ∙ level-scopes_with to this (level_scopes that rest)
+
+-- an existential that occurs with other things in place did so before
+module _ {E F : Type 0} (to : E → F) (n : ℕ) where
+  operand-was : (x : Operand E) → Exists n ≡ operand_with to x → Exists n ≡ x
+  operand-was (Known e) i = absurd (cc)
+  operand-was (Exists m) i = let same : n ≡ m = cc in ap Exists same
+
+  two-were : (x y : Operand E) → (Exists n ≡ operand_with to x) ⊎ (Exists n ≡ operand_with to y)
+      → (Exists n ≡ x) ⊎ (Exists n ≡ y)
+  two-were x y (inl i) = inl (operand-was x i)
+  two-were x y (inr i) = inr (operand-was y i)
+
+  test-was : (t : Test (Operand E)) → OccursInTest (test_with to t) (Exists n) → OccursInTest t (Exists n)
+  test-was True o = o
+  test-was (Equal x y) o = two-were x y o
+  test-was (Differ x y) o = two-were x y o
+
+  fields-were : (fs : List (FieldId × Operand E)) → OccursInFields (map (λ f. (f.0, operand_with to f.1)) fs)
+      (Exists n)
+      → OccursInFields fs (Exists n)
+  fields-were [] o = o
+  fields-were (f ∷ fs) (inl i) = inl (operand-was f.1 i)
+  fields-were (f ∷ fs) (inr o) = inr (fields-were fs o)
+
+  mutual
+    level-was : (a : Level E) → OccursIn (level_with to a) (Exists n) → OccursIn a (Exists n)
+    level-was (level here cs) o = (conjuncts-were cs o.0, o.1)
+
+    conjuncts-were : (cs : Conjuncts E) → OccursInAll (conjuncts_with to cs) (Exists n) → OccursInAll cs (Exists n)
+    conjuncts-were none o = o
+    conjuncts-were (also c cs) (inl o) = inl (conjunct-was c o)
+    conjuncts-were (also c cs) (inr o) = inr (conjuncts-were cs o)
+
+    conjunct-was : (c : Conjunct E) → OccursInOne (conjunct_with to c) (Exists n) → OccursInOne c (Exists n)
+    conjunct-was (holds q t) o = test-was t o
+    conjunct-was (points q x fs) (inl i) = inl (operand-was x i)
+    conjunct-was (points q x fs) (inr o) = inr (fields-were fs o)
+    conjunct-was (segment q next x y) o = two-were x y o
+    conjunct-was (tree q left right x) o = operand-was x o
+    conjunct-was (choose q t this that) (inl o) = inl (test-was t o)
+    conjunct-was (choose q t this that) (inr (inl o)) = inr (inl (level-was this o))
+    conjunct-was (choose q t this that) (inr (inr o)) = inr (inr (level-was that o))
+
+-- CONJUNCTS THAT MAY STAND IN A GOAL
+module _ (fields : List (List ℕ)) (V : Var → Type 0) (to : Expr → Term) (links : Links) (count : ℕ)
+    (next_is : (f : FieldId) → IsFirstNamed fields next_name (Some f.0) → links.tl ≡ Some f)
+    (left_is : (f : FieldId) → IsFirstNamed fields left_name (Some f.0) → links.l ≡ Some f)
+    (right_is : (f : FieldId) → IsFirstNamed fields right_name (Some f.0) → links.r ≡ Some f) where
+  -- all existentials that these scopes make are counted
+  abbrev Counts : List Scope → Type 0
+  Counts made = (n : ℕ) → is_made made n ≡ true → n < count
+
+  abbrev Within : List Scope → Type 0
+  Within scopes = (s : Scope) → Contains scopes s → s.first + s.count ≤ count
+
+  counts-more : (here : Scope) (made : List Scope) → here.first + here.count ≤ count → Counts made
+      → Counts (here ∷ made)
+  counts-more here made h c n e = elim (or_cases (is_made_by here n) (is_made made n) e) [
+    | inl i ↦ within here n h i
+    | inr i ↦ c n i
+  ]
+    where
+      within : (s : Scope) (n : ℕ) → s.first + s.count ≤ count
+          → nat_le s.first n && nat_lt n (s.first + s.count) ≡ true
+          → n < count
+      within s n h i = grind (arith, nat_tests)
+
+  operand-counted : (made : List Scope) (x : Operand Expr) → Counts made → OperandWithin V made x
+      → IsCounted count (operand_with to x)
+  operand-counted made (Known e) c w = tt
+  operand-counted made (Exists n) c w = c n w
+
+  test-counted : (made : List Scope) (t : Test (Operand Expr)) → Counts made → TestWithin (OperandWithin V made) t
+      → TestWithin (IsCounted count) (test_with to t)
+  test-counted made True c w = tt
+  test-counted made (Equal x y) c w = (operand-counted made x c w.0, operand-counted made y c w.1)
+  test-counted made (Differ x y) c w = (operand-counted made x c w.0, operand-counted made y c w.1)
+
+  fields-counted : (made : List Scope) (fs : List (FieldId × Operand Expr)) → Counts made
+      → FieldsWithin fields (OperandWithin V made) fs
+      → AllByRecursion (λ (f : FieldId × Operand Term). IsCounted count f.1) (map (λ f.
+      (f.0, operand_with to f.1)) fs)
+  fields-counted made [] c w = tt
+  fields-counted made (f ∷ fs) c w = (operand-counted made f.1 c w.1, fields-counted made fs c w.3)
+
+  mutual
+    level-formed : (made : List Scope) (a : Level Expr) (rest : List Scope) → Counts made
+        → Within (level_scopes a rest) → LevelWithin fields V made a → LevelFormed links count (level_with to a)
+    level-formed made (level here cs) rest c h w =
+        conjuncts-formed (here ∷ made) cs rest
+        (counts-more here made (h here ((contains-cons here (conjuncts_scopes cs rest) here).1 (inl refl))) c)
+        (λ s i. h s ((contains-cons here (conjuncts_scopes cs rest) s).1 (inr i))) w
+
+    conjuncts-formed : (made : List Scope) (cs : Conjuncts Expr) (rest : List Scope) → Counts made
+        → Within (conjuncts_scopes cs rest) → ConjunctsWithin fields V made cs
+        → AllFormed links count (conjuncts_with to cs)
+    conjuncts-formed made none rest c h w = tt
+    conjuncts-formed made (also d ds) rest c h w = (
+      conjunct-formed made d (conjuncts_scopes ds rest) c h w.0,
+      conjuncts-formed made ds rest c (λ s i. h s (conjunct-more d (conjuncts_scopes ds rest) s i)) w.1,
+    )
+
+    conjunct-formed : (made : List Scope) (d : Conjunct Expr) (rest : List Scope) → Counts made
+        → Within (conjunct_scopes d rest) → ConjunctWithin fields V made d
+        → OneFormed links count (conjunct_with to d)
+    conjunct-formed made (holds q t) rest c h w = test-counted made t c w
+    conjunct-formed made (points q x fs) rest c h w = (operand-counted made x c w.0, fields-counted made fs c w.1)
+    conjunct-formed made (segment q next x y) rest c h w =
+        (next_is next w.0, operand-counted made x c w.1, operand-counted made y c w.2)
+    conjunct-formed made (tree q left right x) rest c h w =
+        (left_is left w.0, right_is right w.1, operand-counted made x c w.2)
+    conjunct-formed made (choose q t this that) rest c h w = (
+      test-counted made t c w.0,
+      level-formed made this (level_scopes that rest) c h w.1,
+      level-formed made that rest c (λ s i. h s (level-more this (level_scopes that rest) s i)) w.2,
+    )
+
+-- two scopes that don't overlap make no existential both
+apart-one : (s t : Scope) (n : ℕ) → overlap s t ≡ false → is_made_by s n ≡ true → is_made_by t n ≡ false
+apart-one s t n e i = grind (arith, nat_tests)
+
+apart-all : (s : Scope) (ss : List Scope) (n : ℕ) → AllByRecursion (λ t. overlap s t ≡ false) ss
+    → is_made_by s n ≡ true → is_made ss n ≡ false
+apart-all s [] n a i = refl
+apart-all s (t ∷ ts) n a i =
+    ap₂ ◌||◌ (apart-one s t n a.0 i) (apart-all s ts n a.1 i)
+
+-- A WELL-FORMED ASSERTION
+abbrev no_term : Option Term
+no_term = None
+
+module _ (d : Setting) (V W : Var → Type 0) (a : Assertion) (w : AssertionWithin d.program.fields V a) where
+  -- none of its existentials has a term
+  abbrev unbound : List (Option Term)
+  unbound = replicate (length a.names) None
+
+  bindings-none : (n : ℕ) (t : Term) → get_or unbound n None ≡ Some t → ⊥
+  bindings-none n t e = none-some t (sym (replicate-default None (length a.names) n) ∙ e)
+
+  module _ (to : Expr → Term) where
+    scoped-level : (l : Level Expr) → LevelWithin d.program.fields V [] l → IsDistinct overlap (level_scopes l [])
+        → IsScoped (record { conjuncts = conjuncts_with to (conjuncts_of l); bindings = unbound })
+    scoped-level (level here cs) within distinct =
+        let same = conjuncts-scopes_with to cs [] in
+        record {
+          distinct = subst (IsDistinct overlap) (sym same) (IsDistinct-tail overlap here
+              (conjuncts_scopes cs []) distinct);
+          occurring = λ n o.
+              ap (λ ss. is_made ss n) same
+              ∙ apart-all here (conjuncts_scopes cs []) n
+              (IsDistinct-head overlap here (conjuncts_scopes cs []) distinct)
+              (elim (or_cases (is_made_by here n) (is_made [] n)
+              (conjuncts-exist d.program.fields V n (here ∷ []) cs within (conjuncts-were to n cs o)))
+              [ inl i ↦ i | inr i ↦ absurd (cc) ]);
+          bound = λ n t e. absurd (bindings-none n t e);
+        }
+
+    formed-level : (l : Level Expr) → LevelWithin d.program.fields V [] l
+        → ((s : Scope) → Contains (level_scopes l []) s → s.first + s.count ≤ length a.names)
+        → AllFormed (links_of d.program) (length unbound)
+        (conjuncts_with to (conjuncts_of l))
+    formed-level (level here cs) within named =
+        level-formed d.program.fields V to (links_of d.program) (length unbound)
+        (λ f i. field-named d.program.fields next_name f i) (λ f i. field-named d.program.fields left_name f i)
+        (λ f i. field-named d.program.fields right_name f i) [] (level here cs) [] (λ n e. absurd (cc))
+        (λ s i. subst (λ k. s.first + s.count ≤ k) (sym (length-replicate (length a.names) no_term))
+        (named s i)) within
+
+  -- it may stand in a goal, whatever the terms of its expressions are
+  pub plain-of : ((x : Var) → VarOccursIn a.level x → W x) → IsPlain d W a
+  plain-of occurs = record {
+    variables = occurs;
+    closed = λ n o. absurd (let i = level-exists d.program.fields V n [] a.level w.annotation.within o in cc);
+    formed = λ to. (
+      formed-level to a.level w.annotation.within
+          (λ s i. All-contains (λ (s : Scope). s.first + s.count ≤ length a.names)
+          (level_scopes a.level []) s w.named i),
+      scoped-level to a.level w.annotation.within w.annotation.disjoint,
+    );
+  }

@@ -1,0 +1,209 @@
+-- What goals claim that other goals follow: goals with other terms of the same values, or with a conjunct assumed or
+-- shown.
+-- Names: `PART-with` of what other terms leave as it is, `restated-claims`, `assumed-claims`, `shown-claims`.
+use Rattle.std.specs.List.{AllByRecursion}
+use Rattle.std.proofs.Common.{◌≡◌, ℕ, true, List, [], ◌∷◌, ◌++◌, map, sym, ◌∙◌, subst, inl, inr}
+use Rattle.sf_base.proofs.HeapSplits.{star-drop_right, star-empty_right, star-of}
+use Rattle.sf_base.proofs.MapSplits.{splits-assoc_left}
+use Rattle.sf_base.specs.declared.ids.Var.{Var}
+use Rattle.sf_base.specs.declared.place.Place.{Place}
+use Rattle.sf_consume.specs.Wants.{still_wanted}
+use Rattle.sf_produce.specs.Laws.{HoldsAssumed, assuming}
+use Rattle.sf_rules.specs.LawsOfConjuncts.{LeftToShow, showing}
+use Rattle.sf_rules.specs.Setting.{Setting}
+use Rattle.sf_sound.proofs.Carried.{does-restated}
+use Rattle.sf_sound.proofs.CommandChildren.{IsOrdered}
+use Rattle.sf_sound.proofs.Commands.{pick}
+use Rattle.sf_sound.proofs.StateChildren.{AllStay, StateStays}
+use Rattle.sf_sound.proofs.Subtracting.{Lists}
+use Rattle.sf_sound.proofs.Words.{adding-assuming, adding-does, adding-suits, showing-holds, taking-does, taking-showing, taking-suits}
+use Rattle.sf_sound.specs.Internal.Claims.{Does, with_cells}
+use Rattle.sf_sound.specs.Internal.Suits.{Claim, Domain, HasForm, IsAssuming, IsBody, IsShowing, Suits, TodoSuits}
+use Rattle.sf_sym.specs.Below.{AreBelow}
+use Rattle.sf_sym.specs.declared.term.Term.{Term}
+use Rattle.sf_sym.specs.Equalities.{item_with}
+use Rattle.sf_sym.specs.Formed.{AreFormed}
+use Rattle.sf_sym.specs.Goal.{Item, run, add, take, gave, head, again, exit, return, end, Goal, taking}
+use Rattle.sf_sym.specs.Laws.{Follows, HoldsAsBefore, KeptWith}
+use Rattle.sf_sym.specs.Lemmas.Below.{below-value}
+use Rattle.sf_sym.specs.Lemmas.Restated.{same-items}
+use Rattle.sf_sym.specs.Pending.{Pending}
+use Rattle.sf_sym.specs.Ready.{AreInOrder, is_listed}
+use Rattle.sf_sym.specs.State.{State}
+
+-- WHAT OTHER TERMS LEAVE AS IT IS
+module _ (to : Term → Term) where
+  body-with : (todo : List Item) → IsBody todo → IsBody (map (item_with to) todo)
+  body-with [] b = b
+  body-with (run c ∷ rest) b = body-with rest b
+  body-with (exit q r ∷ rest) b = body-with rest b
+  body-with (again q invariant ∷ rest) b = b
+  body-with (return q post ∷ rest) b = b
+  body-with (add q given ∷ rest) b = b
+  body-with (take q want names ∷ rest) b = b
+  body-with (gave q set removed ∷ rest) b = b
+  body-with (head q test invariant body ∷ rest) b = b
+  body-with (end q ∷ rest) b = b
+
+  assuming-with : (todo : List Item) → IsAssuming todo → IsAssuming (map (item_with to) todo)
+  assuming-with [] b = b
+  assuming-with (add q given ∷ rest) b = assuming-with rest b
+  assuming-with (run c ∷ rest) b = body-with rest b
+  assuming-with (exit q r ∷ rest) b = body-with rest b
+  assuming-with (again q invariant ∷ rest) b = b
+  assuming-with (return q post ∷ rest) b = b
+  assuming-with (take q want names ∷ rest) b = b
+  assuming-with (gave q set removed ∷ rest) b = b
+  assuming-with (head q test invariant body ∷ rest) b = b
+  assuming-with (end q ∷ rest) b = b
+
+  showing-with : (todo : List Item) → IsShowing todo → IsShowing (map (item_with to) todo)
+  showing-with [] b = b
+  showing-with (take q want names ∷ rest) b = showing-with rest b
+  showing-with (gave q set removed ∷ rest) b = assuming-with rest b
+  showing-with (head q test invariant body ∷ rest) b = body-with rest b
+  showing-with (end q ∷ rest) b = b
+  showing-with (run c ∷ rest) b = b
+  showing-with (add q given ∷ rest) b = b
+  showing-with (exit q r ∷ rest) b = b
+  showing-with (again q invariant ∷ rest) b = b
+  showing-with (return q post ∷ rest) b = b
+
+  names-with : (P : Var → Type 0) (set : List (Var × Term)) → AllByRecursion (λ (x : Var × Term). P x.0) set
+      → AllByRecursion (λ (x : Var × Term). P x.0) (map (λ x. (x.0, to x.1)) set)
+  names-with P [] a = tt
+  names-with P (x ∷ xs) a = (a.0, names-with P xs a.1)
+
+  todo-with : (d : Setting) (todo : List Item) (D : Domain) → TodoSuits d D todo
+      → TodoSuits d D (map (item_with to) todo)
+  todo-with d [] D s = s
+  todo-with d (run c ∷ rest) D s = (s.0, todo-with d rest D s.1)
+  todo-with d (add q given ∷ rest) D s = todo-with d rest D s
+  todo-with d (take q want names ∷ rest) D s = todo-with d rest D s
+  todo-with d (gave q set removed ∷ rest) D s =
+      (names-with (λ x. D.has x ≡ true) set s.0, s.1, todo-with d rest D s.2)
+  todo-with d (head q test invariant body ∷ rest) D s = (s.0, todo-with d rest D s.1)
+  todo-with d (again q invariant ∷ rest) D s = s
+  todo-with d (exit q r ∷ rest) D s = (s.0, s.1, todo-with d rest _ s.2)
+  todo-with d (return q post ∷ rest) D s = s
+  todo-with d (end q ∷ rest) D s = s
+
+-- A GOAL THAT FOLLOWS
+module _ (d : Setting) (D : Domain) (goal child : Goal) (u : Suits d D goal) (f : Follows goal child)
+    (o : IsOrdered child.state)
+    (listed : (x : Var) → is_listed goal.state.vars x ≡ true → is_listed child.state.vars x ≡ true) where
+  -- it suits the frame where what is to do does
+  pub follows-suits : HasForm child → TodoSuits d D child.todo → Suits d D child
+  follows-suits form todo = record {
+    below = f.below;
+    order = o.vars;
+    fields = o.fields;
+    links = f.links ∙ u.links;
+    listed = λ x e. listed x (u.listed x e);
+    formed = f.formed u.formed;
+    form = form;
+    todo = todo;
+  }
+
+  -- so it does with other terms
+  restated-suits : (goal.state.taken ≡ [] → child.state.taken ≡ []) → (to : Term → Term)
+      → child.todo ≡ map (item_with to) goal.todo → Suits d D child
+  restated-suits taken to is = follows-suits (form u.form)
+      (subst (TodoSuits d D) (sym is) (todo-with to d goal.todo D u.todo))
+    where
+      form : HasForm goal → HasForm child
+      form (inl i) = inl (subst IsAssuming (sym is) (assuming-with to goal.todo i.0), taken i.1)
+      form (inr i) = inr (subst IsShowing (sym is) (showing-with to goal.todo i))
+
+-- what is known is worked out, and all that is to do is stated again
+pub restated-claims : (d : Setting) (goal : Goal) (left : List Goal)
+    → (AreBelow goal → KeptWith goal left HoldsAsBefore) → (IsOrdered goal.state → AllStay goal.state left)
+    → AllByRecursion (Claim d) left → Claim d goal
+restated-claims d goal left law stays claims n w D l taken u has h =
+    let k = law u.below in
+    let m = pick (HoldsAsBefore w goal l.values l.cells taken) (Follows goal) (λ g. StateStays goal.state g.state)
+    (Claim d) left (k.hold w l.values l.cells taken h) k.follow
+    (stays (record { vars = u.order; fields = u.fields })) claims in
+    let r = m.one.todo in
+    does-restated goal.state.next_sym w m.one.still.values r.to
+    (λ t b. r.same t ∙ sym (below-value goal.state.next_sym m.one.still.values w m.one.still.same t b)) d.program n
+    goal.todo l u.below.todo
+    (subst (λ z. Does d.program n m.one.still.values z l) r.is
+    (m.third n m.one.still.values D l taken (restated-suits d D goal m.goal u m.first m.second.ordered
+    m.second.listed m.second.taken r.to r.is) has
+    m.one.still.holds))
+
+-- a conjunct is assumed
+pub assumed-claims : (d : Setting) (s : State) (q : Place) (given : Pending) (rest : List Item) (left : List Goal)
+    → (AreBelow (assuming s q given rest) → AreFormed (assuming s q given rest)
+    → KeptWith (assuming s q given rest) left (HoldsAssumed q rest))
+    → (IsOrdered s → AllStay s left) → AllByRecursion (Claim d) left → Claim d (assuming s q given rest)
+assumed-claims d s q given rest left law stays claims n w D l taken u has h =
+    let goal = assuming s q given rest in
+    let k = law u.below u.formed in
+    let m = pick (HoldsAssumed q rest w goal l.values l.cells taken) (Follows goal) (λ g. StateStays s g.state)
+    (Claim d) left (k.hold w l.values l.cells taken h) k.follow
+    (stays (record { vars = u.order; fields = u.fields })) claims in
+    let r = m.one.restated in
+    let form : IsAssuming rest × (s.taken ≡ []) = elim u.form [ inl i ↦ i | inr i ↦ absurd i ] in
+    let suits = follows-suits d D goal m.goal u m.first m.second.ordered m.second.listed
+    (inl (
+      subst IsAssuming (sym m.one.todo) (adding-assuming q m.one.left m.one.others
+          (subst IsAssuming (sym r.is) (assuming-with r.to rest form.0))),
+      m.second.taken form.1,
+    ))
+    (subst (TodoSuits d D) (sym m.one.todo) (adding-suits d D q m.one.left m.one.others
+    (subst (TodoSuits d D) (sym r.is) (todo-with r.to d rest D u.todo)))) in
+    does-restated s.next_sym w m.one.still.values r.to
+    (λ t b. r.same t ∙ sym (below-value s.next_sym m.one.still.values w m.one.still.same t b)) d.program n rest l
+    u.below.todo.1
+    (subst (λ z. Does d.program n m.one.still.values z l) r.is
+    (adding-does d.program n m.one.still.values q m.one.left m.one.others l
+    (subst (λ z. Does d.program n m.one.still.values z l) m.one.todo
+    (m.third n m.one.still.values D l taken suits has m.one.still.holds))))
+
+-- a conjunct is shown: a part is handed over, and what is shown of the rest is shown with that part
+pub shown-claims : (d : Setting) (s : State) (q : Place) (want : Pending) (names : List (List ℕ)) (rest : List Item)
+    (left : List Goal)
+    → (AreBelow (showing s q want names rest) → AreFormed (showing s q want names rest)
+    → LeftToShow s q want names rest left)
+    → AllByRecursion (λ (g : Goal). Lists s g.state) left → AllByRecursion (Claim d) left
+    → Claim d (showing s q want names rest)
+shown-claims d s q want names rest left law lists claims n w D l taken u has h =
+    let goal = showing s q want names rest in
+    let k = law u.below u.formed in
+    let child : Goal = record { state = k.after.state; todo = taking q (still_wanted k.after) names ++ rest } in
+    let claim = (subst (AllByRecursion (Claim d)) k.is claims).0 in
+    let list = (subst (AllByRecursion (λ (g : Goal). Lists s g.state)) k.is lists).0 in
+    let form : IsShowing rest = elim u.form [ inl i ↦ absurd i.0 | inr i ↦ i ] in
+    let suits = follows-suits d D goal child u k.follow
+    (record { vars = subst AreInOrder (sym list.vars) u.order; fields = list.fields u.fields })
+    (λ x e. subst (λ vs. is_listed vs x ≡ true) (sym list.vars) e)
+    (inr (taking-showing q (still_wanted k.after) names rest form))
+    (taking-suits d D q (still_wanted k.after) names rest u.todo) in
+    let hands = k.subtracts.hands w l.values l.cells taken (record {
+      vars = h.vars;
+      apart = h.apart;
+      disjoint = h.disjoint;
+      there = star-empty_right (star-drop_right h.there);
+      gone = h.gone;
+    }) in
+    let shown = taking-does d.program n hands.values q (still_wanted k.after) names rest (with_cells hands.rest l)
+    (claim n hands.values D (with_cells hands.rest l) hands.gone suits
+    (record { variables = has.variables; tokens = has.tokens })
+    (record {
+      vars = hands.holds.vars;
+      apart = hands.holds.apart;
+      disjoint = hands.holds.disjoint;
+      there = showing-holds hands.values child.todo hands.rest
+          (taking-showing q (still_wanted k.after) names rest form) (star-drop_right hands.holds.there);
+      gone = hands.holds.gone;
+    })) in
+    let parts = splits-assoc_left {b = shown.left} {c = shown.right} shown.splits hands.splits in
+    let wants = hands.wants shown.first.0 shown.left _ parts.0
+    (record { bound = shown.first.1; satisfied = shown.first.2 }) in
+    star-of parts.1 (shown.first.0, wants.bound, wants.satisfied)
+    (does-restated s.next_sym w hands.values (λ t. t)
+    (λ t b. sym (below-value s.next_sym hands.values w hands.same t b)) d.program n rest
+    (with_cells shown.right l) u.below.todo.1
+    (subst (λ z. Does d.program n hands.values z (with_cells shown.right l)) (sym (same-items rest)) shown.second))

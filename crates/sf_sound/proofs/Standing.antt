@@ -1,0 +1,178 @@
+-- A goal that suits a frame: what its form says of what is to do, which variables are known, and that what is left of
+-- it suits the frame too.
+-- Names: `body-LAW` of commands up to an end, `domain-LAW` of what a frame has, `known-LAW` of expressions and tests,
+-- `next-suits` of what comes after a command.
+use Rattle.std.specs.List.{AllByRecursion}
+use Rattle.std.specs.Prelude.{is_some}
+use Rattle.std.proofs.Common.{◌≡◌, ℕ, Bool, true, false, cond, Some, List, [], ◌∷◌, ◌++◌, refl, sym, ap, ◌∙◌, subst, inl, inr}
+use Rattle.sf_base.proofs.Variables.{same_var-decides}
+use Rattle.sf_base.specs.declared.ids.Var.{Var}
+use Rattle.sf_base.specs.declared.value.Value.{Value}
+use Rattle.sf_base.specs.Variables.{same_var}
+use Rattle.sf_core.specs.declared.assertion.Test.{Test}
+use Rattle.sf_core.specs.declared.assertion.Test.TheVariants.{True, Equal, Differ}
+use Rattle.sf_core.specs.declared.command.Expr.{Expr}
+use Rattle.sf_core.specs.declared.command.Expr.TheVariants.{Var as Variable, Nil, Int}
+use Rattle.sf_core.specs.declared.fields.Links.{Links}
+use Rattle.sf_core.specs.Machine.Config.{command, items}
+use Rattle.sf_core.specs.Program.Syntax.{Block, done, then, Command, Program}
+use Rattle.sf_rules.specs.LawsOfCommands.{IsTestKnown, before_command}
+use Rattle.sf_rules.specs.Setting.{Setting}
+use Rattle.sf_safe.specs.Local.{HasIn, HasInTest, HasVar, Local, put_variable}
+use Rattle.sf_safe.specs.LocalSafe.{LocalSafe}
+use Rattle.sf_sound.proofs.Keeping.{Kept, nothing_gone, nothing_lost, some-has}
+use Rattle.sf_sound.specs.Internal.Claims.{Does, Owed, steps}
+use Rattle.sf_sym.specs.Formed.{ItemFormed}
+use Rattle.sf_sound.specs.Internal.Suits.{BlockSuits, Domain, HasDomain, HasForm, IsAssuming, IsBody, Reads, ReadsTest, Suits, TodoSuits}
+use Rattle.sf_sym.specs.declared.atom.Numbered.{Numbered}
+use Rattle.sf_sym.specs.declared.term.Term.{Term}
+use Rattle.sf_sym.specs.Goal.{Item, run, add, take, gave, head, again, exit, return, end, to_run}
+use Rattle.sf_sym.specs.Laws.{Follows}
+use Rattle.sf_sym.specs.Ready.{AreInOrder, BeginsWithNoAdd, HasOrder, IsKnown, IsReady, is_listed}
+use Rattle.sf_sym.specs.State.{State}
+
+-- THE FORM
+pub body-assuming : (todo : List Item) → IsBody todo → IsAssuming todo
+body-assuming [] b = b
+body-assuming (run c ∷ rest) b = b
+body-assuming (exit q r ∷ rest) b = b
+body-assuming (again q invariant ∷ rest) b = b
+body-assuming (return q post ∷ rest) b = b
+body-assuming (add q given ∷ rest) b = absurd b
+body-assuming (take q want names ∷ rest) b = absurd b
+body-assuming (gave q set removed ∷ rest) b = absurd b
+body-assuming (head q test invariant body ∷ rest) b = absurd b
+body-assuming (end q ∷ rest) b = absurd b
+
+pub body-no_add : (todo : List Item) → IsBody todo → BeginsWithNoAdd todo
+body-no_add [] b = absurd b
+body-no_add (run c ∷ rest) b = tt
+body-no_add (exit q r ∷ rest) b = tt
+body-no_add (again q invariant ∷ rest) b = tt
+body-no_add (return q post ∷ rest) b = tt
+body-no_add (add q given ∷ rest) b = b
+body-no_add (take q want names ∷ rest) b = tt
+body-no_add (gave q set removed ∷ rest) b = tt
+body-no_add (head q test invariant body ∷ rest) b = tt
+body-no_add (end q ∷ rest) b = tt
+
+-- what is done of commands up to an end is what the machine does of it
+pub body-does : (p : Program) (n : ℕ) (w : ℕ → Value) (todo : List Item) (l : Local) → IsBody todo
+    → Does p n w todo l → LocalSafe p n (Owed todo) (steps todo) l
+body-does p n w [] l b d = absurd b
+body-does p n w (run c ∷ rest) l b d = d
+body-does p n w (exit q r ∷ rest) l b d = d
+body-does p n w (again q invariant ∷ rest) l b d = d
+body-does p n w (return q post ∷ rest) l b d = d
+body-does p n w (add q given ∷ rest) l b d = absurd b
+body-does p n w (take q want names ∷ rest) l b d = absurd b
+body-does p n w (gave q set removed ∷ rest) l b d = absurd b
+body-does p n w (head q test invariant body ∷ rest) l b d = absurd b
+body-does p n w (end q ∷ rest) l b d = absurd b
+
+-- a block comes before it
+pub body-run : (b : Block) (rest : List Item) → IsBody rest → IsBody (to_run b ++ rest)
+body-run done rest i = i
+body-run (then c b) rest i = body-run b rest i
+
+pub steps-run : (b : Block) (rest : List Item) → steps (to_run b ++ rest) ≡ items b ++ steps rest
+steps-run done rest = refl
+steps-run (then c b) rest = ap (λ ss. command c ∷ ss) (steps-run b rest)
+
+pub items-none : (b : Block) → items b ++ [] ≡ items b
+items-none done = refl
+items-none (then c b) = ap (λ ss. command c ∷ ss) (items-none b)
+
+pub owed-run : (b : Block) (rest : List Item) → Owed (to_run b ++ rest) ≡ Owed rest
+owed-run done rest = refl
+owed-run (then c b) rest = owed-run b rest
+
+pub suits-run : (d : Setting) (D : Domain) (b : Block) (rest : List Item) → BlockSuits d D b → TodoSuits d D rest
+    → TodoSuits d D (to_run b ++ rest)
+suits-run d D done rest s t = t
+suits-run d D (then c b) rest s t = (s.0, suits-run d D b rest s.1 t)
+
+-- a command is followed by commands up to an end, and nothing is handed over
+pub form-command : (s : State) (c : Command) (rest : List Item) → HasForm (before_command s c rest)
+    → IsBody rest × (s.taken ≡ [])
+form-command s c rest (inl f) = f
+form-command s c rest (inr f) = absurd f
+
+-- WHAT A FRAME HAS
+pub domain-has : (D : Domain) (l : Local) → HasDomain D l → (x : Var) → D.has x ≡ true → HasVar l x
+domain-has D l h x e = some-has l x (h.variables x ∙ e)
+
+-- a frame of which nothing is gone
+pub domain-kept : (D : Domain) (A : Var → Type 0) (l m : Local) → HasDomain D l
+    → Kept A nothing_gone nothing_lost l m → HasDomain D m
+domain-kept D A l m h k = record {
+  variables = λ x. k.domain x ∙ h.variables x;
+  tokens = λ r. k.tokens r ∙ h.tokens r;
+}
+
+pub domain-put : (D : Domain) (l : Local) (x : Var) (v : Value) → D.has x ≡ true → HasDomain D l
+    → HasDomain D (put_variable x v l)
+domain-put D l x v e h = record { variables = λ y. go y (same_var y x) refl; tokens = h.tokens }
+  where
+    go : (y : Var) (b : Bool) → same_var y x ≡ b
+        → is_some (cond (same_var y x) (Some v) (l.values y)) ≡ D.has y
+    go y true i =
+        ap (λ b. is_some (cond b (Some v) (l.values y))) i ∙ sym (ap D.has ((same_var-decides y x).0 i) ∙ e)
+    go y false i = ap (λ b. is_some (cond b (Some v) (l.values y))) i ∙ h.variables y
+
+pub domain-in : (D : Domain) (l : Local) → HasDomain D l → (e : Expr) → Reads D e → HasIn l e
+domain-in D l h (Variable x) r = domain-has D l h x.var r
+domain-in D l h Nil r = tt
+domain-in D l h (Int i) r = tt
+
+pub domain-test : (D : Domain) (l : Local) → HasDomain D l → (t : Test Expr) → ReadsTest D t → HasInTest l t
+domain-test D l h True r = tt
+domain-test D l h (Equal x y) r = (domain-in D l h x r.0, domain-in D l h y r.1)
+domain-test D l h (Differ x y) r = (domain-in D l h x r.0, domain-in D l h y r.1)
+
+-- WHAT IS KNOWN
+module _ (D : Domain) (l : Local) (h : HasDomain D l) (vars : List (Var × Term))
+    (listed : (x : Var) → D.has x ≡ true → is_listed vars x ≡ true) where
+  pub known-expr : (e : Expr) → Reads D e → IsKnown vars l.values e
+  known-expr (Variable x) r = (listed x.var r, h.variables x.var ∙ r)
+  known-expr Nil r = tt
+  known-expr (Int i) r = tt
+
+  pub known-test : (t : Test Expr) → ReadsTest D t → IsTestKnown vars l.values t
+  known-test True r = tt
+  known-test (Equal x y) r = (known-expr x r.0, known-expr y r.1)
+  known-test (Differ x y) r = (known-expr x r.0, known-expr y r.1)
+
+-- WHAT IS LEFT a goal with a command in front is ready for it
+pub ready : (d : Setting) (D : Domain) (s : State) (c : Command) (rest : List Item)
+    → Suits d D (before_command s c rest) → IsReady (before_command s c rest) rest
+ready d D s c rest u = record {
+  below = u.below;
+  vars = u.order;
+  fields = u.fields;
+  after = body-no_add rest (form-command s c rest u.form).0;
+}
+
+-- what comes after a command suits the frame
+pub next-suits : (d : Setting) (D : Domain) (s s2 : State) (c : Command) (rest todo : List Item)
+    → Suits d D (before_command s c rest) → Follows (before_command s c rest) (record { state = s2; todo = todo })
+    → AreInOrder s2.vars → AllByRecursion (λ (a : Numbered). HasOrder a.atom) s2.atoms
+    → ((x : Var) → is_listed s.vars x ≡ true → is_listed s2.vars x ≡ true) → s2.taken ≡ s.taken
+    → AllByRecursion (ItemFormed s.links) todo → IsBody todo → TodoSuits d D todo
+    → Suits d D (record { state = s2; todo = todo })
+next-suits d D s s2 c rest todo u f order fields listed taken formed body suits = record {
+  below = f.below;
+  order = order;
+  fields = fields;
+  links = f.links ∙ u.links;
+  listed = λ x e. listed x (u.listed x e);
+  formed = subst (λ k. AllByRecursion (ItemFormed k) todo) (sym f.links) formed;
+  form = inl (body-assuming todo body, taken ∙ (form-command s c rest u.form).1);
+  todo = suits;
+}
+
+-- commands have no conjuncts
+pub items-formed_run : (links : Links) (b : Block) (rest : List Item) → AllByRecursion (ItemFormed links) rest
+    → AllByRecursion (ItemFormed links) (to_run b ++ rest)
+items-formed_run links done rest f = f
+items-formed_run links (then c b) rest f = (tt, items-formed_run links b rest f)
