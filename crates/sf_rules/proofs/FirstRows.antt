@@ -76,7 +76,7 @@ few_held p rs formed rising below =
 
 -- the variables of one resource more
 module _ (p : Program) (r : ResId) (rest left : List ResId) (all found : List Var)
-  (e : all ≡ found ++ flat_map (variables_of p) left) (l : left ≡ r ∷ rest) where
+    (e : all ≡ found ++ flat_map (variables_of p) left) (l : left ≡ r ∷ rest) where
   one_more : all ≡ found ++ (variables_of p r ++ flat_map (variables_of p) rest)
   one_more = e ∙ ap (λ rs. found ++ flat_map (variables_of p) rs) l
       ∙ ap (λ ys. found ++ ys) (flat_map-cons (variables_of p) r rest)

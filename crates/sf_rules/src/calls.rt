@@ -78,7 +78,14 @@ pub(crate) fn call<'a>(
             let Some(contract) = contract_of(arranged, call.callee) else {
                 return Ok(None);
             };
-            call_one(alloc, &arranged.calls, Goal { state, todo }, *place, call, contract)
+            call_one(
+                alloc,
+                &arranged.calls,
+                Goal { state, todo },
+                *place,
+                call,
+                contract,
+            )
         }
         Command::Assign(..) | Command::LookUp(..) | Command::Mutate(..) => Ok(None),
         Command::New(..) | Command::Dispose(..) | Command::If(..) => Ok(None),
@@ -140,7 +147,14 @@ pub(crate) fn fork<'a>(
                 return Ok(None);
             };
             let goal = Goal { state, todo };
-            call_two(alloc, &arranged.calls, goal, *place, (left, one), (right, two))
+            call_two(
+                alloc,
+                &arranged.calls,
+                goal,
+                *place,
+                (left, one),
+                (right, two),
+            )
         }
         Command::Assign(..) | Command::LookUp(..) | Command::Mutate(..) => Ok(None),
         Command::New(..) | Command::Dispose(..) | Command::If(..) => Ok(None),
@@ -275,11 +289,7 @@ fn with_post<'a>(
 }
 
 /// The terms of a call's values. An `Err` means out of memory.
-fn values_of(
-    alloc: Global,
-    vars: &[(Var, Term)],
-    values: &[Expr],
-) -> Result<Vec<Term>, AllocError>
+fn values_of(alloc: Global, vars: &[(Var, Term)], values: &[Expr]) -> Result<Vec<Term>, AllocError>
     ensures { IfOk result (λ terms. terms.items ≡ map (term vars.now) values.now) }
 {
     let mut terms = Vec::with_capacity(alloc, values.len())?;
