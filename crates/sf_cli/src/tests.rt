@@ -3,7 +3,6 @@
 mod examples;
 mod numbers;
 mod orders;
-mod proofs;
 mod sets;
 mod tables;
 mod verdicts;
