@@ -29,3 +29,10 @@ pub mod Standing
 pub mod VariableTerms
 pub mod Keeping
 pub mod Pair
+pub mod SmallPrograms
+pub mod Running
+pub mod AsWritten
+pub mod Races
+pub mod SharedWriters
+pub mod Writers
+pub mod Buffer

@@ -1,8 +1,11 @@
-//! An example. The function does nothing; its contract is the result.
+//! Examples. Each function does nothing; its contract is the result.
 
 ghost use Rattle.sf_sound.specs.Examples.{PairIsSound};
+ghost use Rattle.sf_sound.specs.ExamplesOfRaces.{SharedWritersRace, WritersHaveNoProof};
+ghost use Rattle.sf_sound.specs.ExamplesOfRegions.{BufferIsSound};
 
 use crate::laws::proofs_are_sound;
+use sf_calls::laws::sets_exist;
 use sf_precise::laws::ordering_exists;
 
 /// A program with parallel calls that keeps all that the theorem asks and that tags prove by the rows
@@ -11,5 +14,35 @@ pub fn pair_is_sound()
     ensures { PairIsSound }
 {
     proofs_are_sound();
+    ordering_exists();
+}
+
+/// The buffer with one place: one task puts its cell into it and another one gets the cell, each in
+/// a region of the buffer's resource. Tags prove the program, so it is sound: whoever gets the cell
+/// owns it and may dispose of it, in whatever order the tasks come.
+pub fn buffer_is_sound()
+    ensures { BufferIsSound }
+{
+    proofs_are_sound();
+    ordering_exists();
+}
+
+/// Two tasks that write one cell. Their program keeps all that the theorem asks, but one event
+/// leads from a start to a race: so by the theorem no tags prove it, in whatever order they come
+/// and however many they are.
+pub fn writers_have_no_proof()
+    ensures { WritersHaveNoProof }
+{
+    proofs_are_sound();
+    ordering_exists();
+    sets_exist();
+}
+
+/// Two tasks that write one variable. Tags prove their program, and it keeps all that the theorem
+/// asks but one condition on variables, that parallel calls share none that either may change; and
+/// one event leads from a start to a race. So without that condition the theorem would be false.
+pub fn shared_writers_race()
+    ensures { SharedWritersRace }
+{
     ordering_exists();
 }

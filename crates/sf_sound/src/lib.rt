@@ -1,11 +1,12 @@
 //! What a proof promises: a program whose tags prove it is sound.
 //!
 //! - `laws`: the theorem.
-//! - `examples`: a program that is proved, and so is sound.
+//! - `examples`: programs that are proved, and so are sound; one that no tags prove; and one that
+//!   tags prove and that isn't sound, since it breaks a condition on variables.
 #![tactic(auto)]
 
 mod examples;
 mod laws;
 
-pub use examples::pair_is_sound;
+pub use examples::{buffer_is_sound, pair_is_sound, shared_writers_race, writers_have_no_proof};
 pub use laws::proofs_are_sound;

@@ -1,0 +1,131 @@
+-- The contracts of small programs: nothing, and one cell. They are well-formed, determined, in
+-- order as they stand, and mention no variable of a resource. And sets with no member or one.
+-- Names: `emp-LAW` and `cell-LAW` speak of the two contracts, `set-LAW` of sets.
+use Rattle.std.specs.Prelude.{◌≡◌, ◌≤◌, ◌<◌, ◌+◌, ℕ, zero, suc, List, [], ◌∷◌, Some, slice_get}
+use Rattle.std.specs.List.{All, IsDistinct}
+use Rattle.std.proofs.Common.{ap, arith, inl, inr, refl, subst, sym, ◌∙◌}
+use Rattle.std.proofs.lemmas.List.Elements.{All-cons, All-nil}
+use Rattle.sf_base.proofs.Elements.{contains-cons, contains-nil}
+use Rattle.sf_base.specs.declared.ids.ProcId.{ProcId}
+use Rattle.sf_base.specs.declared.ids.ResId.{ResId}
+use Rattle.sf_base.specs.declared.ids.Var.{Var}
+use Rattle.sf_base.specs.declared.ids.Var.TheVariants.{Own, Shared}
+use Rattle.sf_calls.specs.Reaches.{Reaches, directly, through}
+use Rattle.sf_calls.specs.Sets.{IsFamily, IsSetOf}
+use Rattle.sf_core.specs.Assertions.Determined.{Determined, plain, take, all_taken}
+use Rattle.sf_core.specs.Assertions.Occurs.{VarOccursIn}
+use Rattle.sf_core.specs.Assertions.Scopes.{overlap}
+use Rattle.sf_core.specs.declared.assertion.Scope.{Scope}
+use Rattle.sf_core.specs.declared.command.Expr.{Expr}
+use Rattle.sf_core.specs.declared.command.Occurrence.{Occurrence}
+use Rattle.sf_core.specs.Machine.Examples.{emp, one_cell_at, own_one, at_own}
+use Rattle.sf_core.specs.Program.Formed.{AssertionWithin, ExprWithin}
+use Rattle.sf_core.specs.Program.Syntax.{Procedure}
+use Rattle.sf_precise.specs.Order.{IsOrderOf}
+
+-- of each of two procedures, and of each of three
+pub of-two : (P : Procedure → Type 0) (a b : Procedure) → P a → P b → (k : ℕ) (h : Procedure)
+    → slice_get (a ∷ b ∷ []) k ≡ Some h → P h
+of-two P a b p q zero h e = let i : a ≡ h = cc in subst P i p
+of-two P a b p q (suc zero) h e = let i : b ≡ h = cc in subst P i q
+of-two P a b p q (suc (suc k)) h e = absurd (cc)
+
+pub of-three : (P : Procedure → Type 0) (a b c : Procedure) → P a → P b → P c → (k : ℕ) (h : Procedure)
+    → slice_get (a ∷ b ∷ c ∷ []) k ≡ Some h → P h
+of-three P a b c p q r zero h e = let i : a ≡ h = cc in subst P i p
+of-three P a b c p q r (suc k) h e = of-two P b c q r k h e
+
+-- the scope that makes no existential, alone
+abbrev pub no_scope : Scope
+no_scope = record { first = 0; count = 0 }
+
+alone : IsDistinct overlap (no_scope ∷ [])
+unfolding IsDistinct
+alone = (tt, tt)
+
+pub none-named : All (λ (s : Scope). s.first + s.count ≤ 0) (no_scope ∷ [])
+none-named =
+    All-cons (λ (s : Scope). s.first + s.count ≤ 0) no_scope [] (omega arith)
+    (All-nil (λ (s : Scope). s.first + s.count ≤ 0))
+
+-- nothing
+pub emp-within : (V : Var → Type 0) (fields : List (List ℕ)) → AssertionWithin fields V emp
+emp-within V fields =
+    let nesting : 1 ≤ 64 = omega arith in
+    record {
+      annotation = record { within = tt; disjoint = alone; depth = nesting };
+      named = none-named;
+      names = refl;
+    }
+
+pub emp-determined : Determined emp.level
+emp-determined = all_taken refl
+
+pub emp-ordered : IsOrderOf emp emp
+emp-ordered = record { names = refl; level = (_, refl, refl) }
+
+pub emp-no_var : (x : Var) → VarOccursIn emp.level x → ⊥
+emp-no_var x o = o.2.0
+
+-- one cell
+pub cell-within : (V : Var → Type 0) (fields : List (List ℕ)) (e : Expr) → ExprWithin V e
+    → AssertionWithin fields V (one_cell_at e)
+cell-within V fields e w =
+    let nesting : 1 ≤ 64 = omega arith in
+    record {
+      annotation = record { within = ((w, tt), tt); disjoint = alone; depth = nesting };
+      named = none-named;
+      names = refl;
+    }
+
+pub cell-determined : (e : Expr) → Determined (one_cell_at e).level
+cell-determined e = take _ _ (inl (refl, refl)) (plain tt) (all_taken refl)
+
+pub cell-ordered : (e : Expr) → IsOrderOf (one_cell_at e) (one_cell_at e)
+cell-ordered e = record { names = refl; level = (_, refl, (_, _, inl (plain tt, refl, refl), refl, refl)) }
+
+not-own : (n : ℕ) (r : ResId) (i : ℕ) → Own n ≡ Shared r i → ⊥
+not-own n r i e = absurd (cc)
+
+pub cell-no_shared : (n : ℕ) (r : ResId) (i : ℕ) → VarOccursIn (one_cell_at (own_one n)).level (Shared r i) → ⊥
+cell-no_shared n r i (at, e, (inl (inl k), o)) =
+    let j : at ≡ at_own n = cc in not-own n r i (sym (ap (λ (z : Occurrence). z.var) j) ∙ e)
+cell-no_shared n r i (at, e, (inl (inr k), o)) = k
+cell-no_shared n r i (at, e, (inr k, o)) = k
+
+-- what holds wherever a set begins holds wherever it is reached
+pub everywhere : {A Q : Type 0} {Seed : A → Type 0} {Step : A → A → Type 0} → ((a : A) → Seed a → Q) → (a : A)
+    → Reaches Seed Step a → Q
+everywhere h a (directly s) = h a s
+everywhere h a (through b step r) = everywhere h b r
+
+-- a set with no member, and with one
+pub set-nothing : {A : Type 0} (Before : A → A → Type 0) (P : A → Type 0) → ((a : A) → P a → ⊥) → IsSetOf Before P []
+set-nothing Before P never = record {
+  ordered = λ i j d before inside. absurd (omega (arith, inside));
+  members = λ a. (λ c. absurd (contains-nil a c), λ p. absurd (never a p));
+}
+
+pub set-single : {A : Type 0} (Before : A → A → Type 0) (P : A → Type 0) (x : A) → P x → ((a : A) → P a → x ≡ a)
+    → IsSetOf Before P (x ∷ [])
+set-single Before P x has only = record {
+  ordered = λ i j d before inside. absurd (omega (arith, before, inside));
+  members = λ a. (
+    λ c. elim ((contains-cons x [] a).0 c) [ inl e ↦ subst P e has | inr n ↦ absurd (contains-nil a n) ],
+    λ p. (contains-cons x [] a).1 (inl (only a p)),
+  );
+}
+
+-- a family in which each of three procedures has that set
+pub set-of_three : {A : Type 0} (Before : A → A → Type 0) (P : ProcId → A → Type 0) (xs : List A)
+    → ((f : ProcId) → f.0 < 3 → IsSetOf Before (P f) xs) → IsFamily (IsSetOf Before) P 3 (xs ∷ xs ∷ xs ∷ [])
+set-of_three {A} Before P xs sets = record { each = refl; is = go }
+  where
+    at : (k : ℕ) (ys : List A) → slice_get (xs ∷ xs ∷ xs ∷ []) k ≡ Some ys → (ys ≡ xs) × (k < 3)
+    at zero ys e = (cc, omega arith)
+    at (suc zero) ys e = (cc, omega arith)
+    at (suc (suc zero)) ys e = (cc, omega arith)
+    at (suc (suc (suc k))) ys e = absurd (cc)
+
+    go : (f : ProcId) (ys : List A) → slice_get (xs ∷ xs ∷ xs ∷ []) f.0 ≡ Some ys → IsSetOf Before (P f) ys
+    go f ys e = let h = at f.0 ys e in subst (IsSetOf Before (P f)) (sym h.0) (sets f h.1)
