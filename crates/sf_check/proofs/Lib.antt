@@ -1,4 +1,3 @@
-pub mod Stacks
 pub mod Trees
 pub mod Taking
 pub mod Finishing

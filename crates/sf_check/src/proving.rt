@@ -1,4 +1,4 @@
-//! A check of tags, one after the other, over the whole table of rules.
+//! A check of tags, one after the other.
 
 ghost use Rattle.std.specs.Prelude.{◌≡◌, ◌∷◌, ◌⊎◌, [], IfErr, IfOk, MatchResult, None, Some, cond, ℕ};
 ghost use Rattle.std.specs.List.{slice_get};

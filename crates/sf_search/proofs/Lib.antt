@@ -1,15 +1,3 @@
-pub mod Chosen
-pub mod Assumable
-pub mod Leaves
-pub mod Counts
-pub mod Possible
-pub mod Added
-pub mod Known
-pub mod Trees
-pub mod Choosing
-pub mod Judging
-pub mod Judged
-pub mod BuiltGoals
 pub mod Lowest
 pub mod Views
 pub mod Whole

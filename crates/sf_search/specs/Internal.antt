@@ -1,4 +1,1 @@
-pub mod Choices
 pub mod Choosing
-pub mod Known
-pub mod Numbers

@@ -1,4 +1,4 @@
-//! The search for a proof by the whole table, procedure by procedure.
+//! The search for a proof, procedure by procedure.
 
 ghost use Rattle.std.specs.Prelude.{◌≡◌, ◌++◌, ◌<◌, ◌≤◌, ◌∷◌, [], IfErr, IfOk, IfSome, List, OnOk, Some, length};
 ghost use Rattle.sf_base.specs.declared.limits.TheConstants.{FILE_TAGS as FILE_LIMIT};
