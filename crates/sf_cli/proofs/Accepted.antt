@@ -14,8 +14,8 @@ use Rattle.sf_parse.specs.Laws.{EachFileIsShallow}
 use Rattle.sf_precise.specs.Annotations.{annotations_in}
 use Rattle.sf_rules.specs.Setting.{IsSettingOf, Setting}
 use Rattle.sf_safe.specs.Law.{IsSound}
-use Rattle.sf_search.specs.Whole.Judge.{Verdict, proof, fails, Judge}
-use Rattle.sf_search.specs.Whole.Laws.{TakenTagsProve}
+use Rattle.sf_search.specs.Judge.{Verdict, proof, fails, Judge}
+use Rattle.sf_search.specs.Laws.{TakenTagsProve}
 use Rattle.sf_sound.specs.Proofs.{ProofsAreSound}
 use Rattle.sf_sym.specs.declared.tag.Tag.{Tag}
 use Rattle.sf_cli.specs.Answer.{VerdictAnswer, ProgramAnswer, OrderAnswer, FileAnswer, MayBe, AcceptedBytes, Accepted, Reply, refused, admitted, answer, unread}

@@ -19,8 +19,8 @@ use Rattle.sf_precise.specs.Annotations.{annotations_in}
 use Rattle.sf_proof.specs.ProofText.{proof_text}
 use Rattle.sf_rules.specs.LawsOfSettings.{SettingExists}
 use Rattle.sf_rules.specs.Setting.{IsSettingOf, Setting}
-use Rattle.sf_search.specs.Whole.Judge.{Verdict, proof, fails, Judge}
-use Rattle.sf_search.specs.Whole.Laws.{ProgramsHaveVerdicts}
+use Rattle.sf_search.specs.Judge.{Verdict, proof, fails, Judge}
+use Rattle.sf_search.specs.Laws.{ProgramsHaveVerdicts}
 use Rattle.sf_vars.specs.Laws.{EachProgramHasAnAnswer}
 use Rattle.sf_cli.proofs.Accepted.{accepted-formed}
 use Rattle.sf_cli.specs.Answer.{Answer, FileAnswer, OrderAnswer, ProgramAnswer, admitted, cause_text, refused}

@@ -21,8 +21,8 @@ use Rattle.sf_precise.specs.Laws.{NeverTakenIsUndetermined}
 use Rattle.sf_precise.specs.Annotations.{annotations_in, IsFirstPlace, NeverTakenIn}
 use Rattle.sf_rules.specs.LawsOfSettings.{SettingIsUnique}
 use Rattle.sf_rules.specs.Setting.{Setting}
-use Rattle.sf_search.specs.Whole.Judge.{Judge, Verdict, proof, fails}
-use Rattle.sf_search.specs.Whole.Laws.{VerdictsAreUnique}
+use Rattle.sf_search.specs.Judge.{Judge, Verdict, proof, fails}
+use Rattle.sf_search.specs.Laws.{VerdictsAreUnique}
 use Rattle.sf_vars.specs.Laws.{EachProgramHasOneAnswer}
 use Rattle.sf_cli.specs.Answer.{VerdictAnswer, ProgramAnswer, OrderAnswer, FileAnswer, refused, admitted}
 use Rattle.sf_cli.specs.declared.refusal.Refusal.{Refusal}

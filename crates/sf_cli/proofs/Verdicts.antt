@@ -3,8 +3,8 @@ use Rattle.std.proofs.Common.{◌≡◌, ℕ, Option, Some, None, refl}
 use Rattle.sf_base.specs.declared.ids.ProcId.{ProcId}
 use Rattle.sf_core.specs.Program.Syntax.{Program}
 use Rattle.sf_rules.specs.Setting.{IsSettingOf, Setting}
-use Rattle.sf_search.specs.Whole.Ends.{FailsFor}
-use Rattle.sf_search.specs.Whole.Judge.{Cause, Judge, Verdict, fails}
+use Rattle.sf_search.specs.Ends.{FailsFor}
+use Rattle.sf_search.specs.Judge.{Cause, Judge, Verdict, fails}
 use Rattle.sf_cli.specs.Answer.{cause_text, ProgramAnswer, VerdictAnswer}
 use Rattle.sf_cli.specs.Words.{Text}
 

@@ -12,7 +12,7 @@ use Rattle.sf_report.specs.declared.stuck.Stuck.{Stuck}
 use Rattle.sf_report.specs.declared.stuck.Stuck.TheVariants.{NoCell, NotEqual, NotDifferent, NoAtom, Leak, EndNotAllocated}
 use Rattle.sf_report.specs.Failure.{failure_text, too_large_text}
 use Rattle.sf_search.specs.Strategy.{Kind, no_cell, not_equal, not_different, no_atom, leak, end_not_allocated}
-use Rattle.sf_search.specs.Whole.Judge.{Cause, stuck_at, too_large, without_row, Verdict, proof, fails, Judge}
+use Rattle.sf_search.specs.Judge.{Cause, stuck_at, too_large, without_row, Verdict, proof, fails, Judge}
 use Rattle.sf_base.specs.declared.ids.ProcId.{ProcId}
 use Rattle.sf_core.specs.Program.Named.{name_of}
 use Rattle.sf_proof.specs.ProofText.{proof_text}

@@ -10,8 +10,8 @@ ghost use Rattle.sf_cli.specs.declared.refusal.Refusal.TheVariants.{OutOfMemory}
 ghost use Rattle.sf_precise.specs.Order.{IsOrdering};
 ghost use Rattle.sf_rules.specs.Setting.{Setting, setting_of};
 ghost use Rattle.sf_search.specs.Internal.Choosing.{kind_of};
-ghost use Rattle.sf_search.specs.Whole.Ends.{cause_of};
-ghost use Rattle.sf_search.specs.Whole.Judge.{Cause, Judge, proof};
+ghost use Rattle.sf_search.specs.Ends.{cause_of};
+ghost use Rattle.sf_search.specs.Judge.{Cause, Judge, proof};
 ghost use Rattle.sf_cli.specs.Words.{Text, order_of};
 ghost use Rattle.sf_cli.specs.WordsOf.{order_in, words_of};
 

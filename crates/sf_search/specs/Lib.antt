@@ -1,3 +1,6 @@
-pub mod Internal
 pub mod Strategy
-pub mod Whole
+pub mod Judge
+pub mod Ends
+pub mod Shape
+pub mod Laws
+pub mod Internal

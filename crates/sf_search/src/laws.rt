@@ -1,40 +1,40 @@
 //! Laws of the search. Each function is a law: calling it gives its fact to the caller's proof, and
 //! does nothing.
 
-ghost use Rattle.sf_search.specs.Whole.Laws.{ProgramsHaveVerdicts, SearchExists, SearchIsUnique, TakenTagsHaveRows, TakenTagsProve, VerdictsAreUnique};
+ghost use Rattle.sf_search.specs.Laws.{ProgramsHaveVerdicts, SearchExists, SearchIsUnique, TakenTagsHaveRows, TakenTagsProve, VerdictsAreUnique};
 
 /// The search from a goal comes to something.
-#[tactic(auto, using(crate::proofs::Whole::Ending::search_exists))]
+#[tactic(auto, using(crate::proofs::Ending::search_exists))]
 pub fn search_exists()
     ensures { SearchExists }
 {}
 
 /// It comes to one thing alone.
-#[tactic(auto, using(crate::proofs::Whole::Once::search_is_unique))]
+#[tactic(auto, using(crate::proofs::Once::search_is_unique))]
 pub fn search_is_unique()
     ensures { SearchIsUnique }
 {}
 
 /// Each program has a verdict.
-#[tactic(auto, using(crate::proofs::Whole::Ending::programs_have_verdicts))]
+#[tactic(auto, using(crate::proofs::Ending::programs_have_verdicts))]
 pub fn programs_have_verdicts()
     ensures { ProgramsHaveVerdicts }
 {}
 
 /// A program has at most one verdict.
-#[tactic(auto, using(crate::proofs::Whole::Once::verdicts_are_unique))]
+#[tactic(auto, using(crate::proofs::Once::verdicts_are_unique))]
 pub fn verdicts_are_unique()
     ensures { VerdictsAreUnique }
 {}
 
 /// The tags of a verdict that is a proof prove the program.
-#[tactic(auto, using(crate::proofs::Whole::Trees::taken_tags_prove))]
+#[tactic(auto, using(crate::proofs::Trees::taken_tags_prove))]
 pub fn taken_tags_prove()
     ensures { TakenTagsProve }
 {}
 
 /// The strategy takes no tag without a row, at goals as programs have them.
-#[tactic(auto, using(crate::proofs::Whole::Taken::taken_tags_have_rows))]
+#[tactic(auto, using(crate::proofs::Taken::taken_tags_have_rows))]
 pub fn taken_tags_have_rows()
     ensures { TakenTagsHaveRows }
 {}

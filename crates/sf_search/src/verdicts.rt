@@ -10,8 +10,8 @@ ghost use Rattle.sf_rules.specs.Internal.Children.{children_of};
 ghost use Rattle.sf_rules.specs.Internal.Subgoals.{stack_of};
 ghost use Rattle.sf_rules.specs.Rows.Whole.{row};
 ghost use Rattle.sf_rules.specs.Setting.{Setting, setting_of};
-ghost use Rattle.sf_search.specs.Whole.Ends.{EndsAs, FailsAs, FollowsAs, failure};
-ghost use Rattle.sf_search.specs.Whole.Judge.{Judge, Search, proof, proved};
+ghost use Rattle.sf_search.specs.Ends.{EndsAs, FailsAs, FollowsAs, failure};
+ghost use Rattle.sf_search.specs.Judge.{Judge, Search, proof, proved};
 ghost use Rattle.sf_sym.specs.Goal.{Goal as AnyGoal, goal_of};
 ghost use Rattle.sf_sym.specs.declared.tag.Tag.TheVariants.{Procedure};
 

@@ -4,8 +4,8 @@ use Rattle.sf_core.specs.Program.ProgramView.{program_of}
 use Rattle.sf_rules.specs.LawsOfSettings.{ArrangedHasSetting}
 use Rattle.sf_rules.specs.Setting.{setting_of}
 use Rattle.sf_search.specs.declared.verdicts.VerifyFault.{VerifyFault}
-use Rattle.sf_search.specs.Whole.Ends.{cause_of, FailsAs}
-use Rattle.sf_search.specs.Whole.Judge.{proof}
+use Rattle.sf_search.specs.Ends.{cause_of, FailsAs}
+use Rattle.sf_search.specs.Judge.{proof}
 use Rattle.sf_cli.proofs.Ordering.{is_ordering, ordered}
 use Rattle.sf_cli.proofs.Verdicts.{failed-answer, judged-answer}
 use Rattle.sf_cli.proofs.reply.answer_to_program.Goals as goal

@@ -1,4 +1,4 @@
-use Rattle.sf_search.specs.Whole.Laws.{TakenTagsProve}
+use Rattle.sf_search.specs.Laws.{TakenTagsProve}
 use Rattle.sf_cli.proofs.reply.say_proof.Goals as goal
 
 -- the tags of a verdict prove the program, so the checker accepts them

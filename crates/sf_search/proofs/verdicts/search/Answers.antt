@@ -2,9 +2,9 @@ use Rattle.std.proofs.Common.{◌≡◌, subst}
 use Rattle.std.proofs.lemmas.Result.{IfErr-weaker, IfOk-weaker}
 use Rattle.std.specs.List.{slice_get}
 use Rattle.sf_rules.specs.First.{first_goal}
-use Rattle.sf_search.proofs.Whole.Leading.{some_weaker}
-use Rattle.sf_search.specs.Whole.Ends.{EndsAs}
-use Rattle.sf_search.specs.Whole.Judge.{Search, proved}
+use Rattle.sf_search.proofs.Leading.{some_weaker}
+use Rattle.sf_search.specs.Ends.{EndsAs}
+use Rattle.sf_search.specs.Judge.{Search, proved}
 use Rattle.sf_sym.specs.Goal.{goal_of}
 use Rattle.sf_search.proofs.verdicts.search.Goals as goal
 

@@ -1,10 +1,10 @@
 use Rattle.std.proofs.Common.{◌≡◌, ◌+◌, ◌<◌, ◌≤◌, ◌∙◌, [], drop, length, sym, subst, arith, rules}
 use Rattle.std.specs.List.{slice_get}
 use Rattle.sf_rules.specs.First.{first_goal}
-use Rattle.sf_search.proofs.Whole.Judging.{drop_all, judged_all, judged_fault, judged_next, judged_over, setting_length}
-use Rattle.sf_search.proofs.Whole.Leading.{at_index, some_at}
-use Rattle.sf_search.specs.Whole.Ends.{EndsAs, FailsAs}
-use Rattle.sf_search.specs.Whole.Judge.{Search, proved}
+use Rattle.sf_search.proofs.Judging.{drop_all, judged_all, judged_fault, judged_next, judged_over, setting_length}
+use Rattle.sf_search.proofs.Leading.{at_index, some_at}
+use Rattle.sf_search.specs.Ends.{EndsAs, FailsAs}
+use Rattle.sf_search.specs.Judge.{Search, proved}
 use Rattle.sf_search.proofs.verdicts.verify.Goals as goal
 
 pub returns-in-Err-clause-err : goal.returns-in-Err-clause-err

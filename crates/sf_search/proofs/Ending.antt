@@ -8,8 +8,8 @@ use Rattle.sf_rules.specs.Rows.Whole.{row}
 use Rattle.sf_rules.specs.Setting.{Setting}
 use Rattle.sf_search.specs.Strategy.{Choice, chooses, stays, takes}
 use Rattle.sf_rules.specs.First.{first_goal}
-use Rattle.sf_search.specs.Whole.Judge.{Chosen, JudgeFrom, Outcome, Search, Verdict, WithinLimit, fails, large, no_row, proof, proved, stuck, stuck_at, too_large, with_prefix, without_row}
-use Rattle.sf_search.specs.Whole.Laws.{ProgramsHaveVerdicts, SearchExists}
+use Rattle.sf_search.specs.Judge.{Chosen, JudgeFrom, Outcome, Search, Verdict, WithinLimit, fails, large, no_row, proof, proved, stuck, stuck_at, too_large, with_prefix, without_row}
+use Rattle.sf_search.specs.Laws.{ProgramsHaveVerdicts, SearchExists}
 use Rattle.sf_sym.specs.declared.tag.Tag.{Tag}
 use Rattle.sf_sym.specs.declared.tag.Tag.TheVariants.{Procedure as Begin}
 use Rattle.sf_sym.specs.Goal.{Goal}

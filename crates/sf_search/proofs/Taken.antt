@@ -30,11 +30,11 @@ use Rattle.sf_rules.specs.Rows.Regions.{entered, variables_from}
 use Rattle.sf_rules.specs.Rows.Take.{subtract_row}
 use Rattle.sf_rules.specs.Rows.Whole.{row, row_of}
 use Rattle.sf_rules.specs.Setting.{Setting}
-use Rattle.sf_search.proofs.Whole.Found.{found-at, found-forced}
-use Rattle.sf_search.proofs.Whole.Rows.{Good, GoodIf, NoneIsNothing, cell-found, good-at_cell, good-at_test, good-if, good-map, good-or, good-split, good-split_or, segment-is}
+use Rattle.sf_search.proofs.Found.{found-at, found-forced}
+use Rattle.sf_search.proofs.Rows.{Good, GoodIf, NoneIsNothing, cell-found, good-at_cell, good-at_test, good-if, good-map, good-or, good-split, good-split_or, segment-is}
 use Rattle.sf_search.specs.Strategy.{at_choice, at_command, at_end, at_equality, at_first_wanted, at_given, at_inequality, at_items, at_known, at_list, at_points, at_tree, at_wanted, begins_with, chooses, end_not_allocated, exact_atom, forced_ends, has_step, joins, leak, lowest, lowest_forced, no_atom, not_different, not_equal, segment_at, split_or, takes, takes_if, which}
-use Rattle.sf_search.specs.Whole.Laws.{TakenTagsHaveRows}
-use Rattle.sf_search.specs.Whole.Shape.{HasShape}
+use Rattle.sf_search.specs.Laws.{TakenTagsHaveRows}
+use Rattle.sf_search.specs.Shape.{HasShape}
 use Rattle.sf_sym.specs.Below.{AllInPending, AllPaired, IsBelow}
 use Rattle.sf_sym.specs.Cells.{cell_at, fields_at, handed}
 use Rattle.sf_sym.specs.Decided.{command_test, is_false, is_true, term_of, test_of_terms, two_terms}

@@ -13,9 +13,9 @@ use Rattle.sf_core.specs.Program.Formed.{TestWithin}
 use Rattle.sf_normal.specs.Knowledge.{split_row, unroll_one, unrolled_segment, unrolled_tree}
 use Rattle.sf_rules.specs.Rows.Whole.{row, row_of}
 use Rattle.sf_rules.specs.Setting.{Setting}
-use Rattle.sf_search.proofs.Whole.Found.{FoundAt, all-append, all-at, cell-of_atom, found-among, found-at, found-forced, found-none}
+use Rattle.sf_search.proofs.Found.{FoundAt, all-append, all-at, cell-of_atom, found-among, found-at, found-forced, found-none}
 use Rattle.sf_search.specs.Strategy.{Choice, Kind, at_cell, at_test, chooses, forced_ends, found_or, lowest, lowest_forced, opened, opened_by, opened_first, or_else, segment_at, split_by, split_found, split_or, stays, takes, takes_if, tree_at, undecided_ends, which}
-use Rattle.sf_search.specs.Whole.Shape.{HasLinks, HasShape}
+use Rattle.sf_search.specs.Shape.{HasLinks, HasShape}
 use Rattle.sf_sym.specs.Below.{AllInAtom, AllInAtoms, AreBelow, IsBelow, is_below}
 use Rattle.sf_sym.specs.Cells.{atom_at, cell_at, fields_at, without}
 use Rattle.sf_sym.specs.declared.atom.Atom.{Atom}

@@ -7,8 +7,8 @@ use Rattle.sf_rules.specs.Rows.Whole.{row}
 use Rattle.sf_rules.specs.Setting.{Setting}
 use Rattle.sf_search.specs.Strategy.{Choice, Kind, chooses, stays, takes}
 use Rattle.sf_rules.specs.First.{first_goal}
-use Rattle.sf_search.specs.Whole.Judge.{Chosen, Continues, JudgedAfter, JudgeFrom, Outcome, Search, Verdict, WithinLimit, fails, large, no_row, proof, proved, stuck, with_prefix}
-use Rattle.sf_search.specs.Whole.Laws.{SearchIsUnique, VerdictsAreUnique}
+use Rattle.sf_search.specs.Judge.{Chosen, Continues, JudgedAfter, JudgeFrom, Outcome, Search, Verdict, WithinLimit, fails, large, no_row, proof, proved, stuck, with_prefix}
+use Rattle.sf_search.specs.Laws.{SearchIsUnique, VerdictsAreUnique}
 use Rattle.sf_sym.specs.declared.tag.Tag.{Tag}
 use Rattle.sf_sym.specs.declared.tag.Tag.TheVariants.{Procedure as Begin}
 use Rattle.sf_sym.specs.Goal.{Goal}

@@ -4,9 +4,9 @@ use Rattle.std.specs.Prelude.{◌≡◌, List, Some}
 use Rattle.sf_rules.specs.Rows.Whole.{row}
 use Rattle.sf_rules.specs.Setting.{Setting}
 use Rattle.sf_search.specs.Strategy.{chooses, takes}
-use Rattle.sf_search.specs.Whole.Judge.{Judge, Outcome, Search, Verdict, proof}
+use Rattle.sf_search.specs.Judge.{Judge, Outcome, Search, Verdict, proof}
 use Rattle.sf_rules.specs.Proving.{Proves}
-use Rattle.sf_search.specs.Whole.Shape.{HasShape}
+use Rattle.sf_search.specs.Shape.{HasShape}
 use Rattle.sf_sym.specs.declared.tag.Tag.{Tag}
 use Rattle.sf_sym.specs.Goal.{Goal}
 

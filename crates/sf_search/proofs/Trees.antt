@@ -4,8 +4,8 @@ use Rattle.std.proofs.Common.{◌≡◌, ℕ, suc, ◌+◌, inl, inr, List, [], 
 use Rattle.sf_core.specs.Program.Syntax.{Procedure}
 use Rattle.sf_rules.specs.Setting.{Setting}
 use Rattle.sf_rules.specs.First.{first_goal}
-use Rattle.sf_search.specs.Whole.Judge.{Continues, Chosen, JudgedAfter, JudgeFrom, Outcome, Search, Verdict, fails, large, no_row, proof, proved, stuck, with_prefix}
-use Rattle.sf_search.specs.Whole.Laws.{TakenTagsProve}
+use Rattle.sf_search.specs.Judge.{Continues, Chosen, JudgedAfter, JudgeFrom, Outcome, Search, Verdict, fails, large, no_row, proof, proved, stuck, with_prefix}
+use Rattle.sf_search.specs.Laws.{TakenTagsProve}
 use Rattle.sf_rules.specs.Proving.{Proof, by, Proofs, no_more, and, preorder, preorders, ProvesFrom}
 use Rattle.sf_sym.specs.declared.tag.Tag.{Tag}
 use Rattle.sf_sym.specs.declared.tag.Tag.TheVariants.{Procedure as Begin}

@@ -11,8 +11,8 @@ use Rattle.sf_search.specs.Strategy.{chooses, takes}
 use Rattle.sf_base.specs.declared.limits.TheConstants.{PROCEDURE_TAGS}
 use Rattle.sf_search.specs.declared.verdicts.SearchFault.{SearchFault}
 use Rattle.sf_search.specs.declared.verdicts.SearchFault.TheVariants.{Stuck, TooLarge, NoRow, OutOfMemory}
-use Rattle.sf_search.specs.Whole.Ends.{EndsAs, FollowsAs}
-use Rattle.sf_search.specs.Whole.Judge.{Chosen, Outcome, no_row}
+use Rattle.sf_search.specs.Ends.{EndsAs, FollowsAs}
+use Rattle.sf_search.specs.Judge.{Chosen, Outcome, no_row}
 use Rattle.sf_sym.specs.declared.tag.Tag.{Tag}
 use Rattle.sf_sym.specs.declared.goal.Goal.{Goal as CodeGoal}
 use Rattle.sf_sym.specs.Goal.{Goal, goal_of}

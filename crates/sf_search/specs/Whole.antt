@@ -1,4 +1,0 @@
-pub mod Judge
-pub mod Ends
-pub mod Shape
-pub mod Laws
