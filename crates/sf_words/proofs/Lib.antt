@@ -1,0 +1,13 @@
+pub mod Numbers
+pub mod Screening
+pub mod Rows
+pub mod Sorts
+pub mod Values
+pub mod Rules
+pub mod Steps
+pub mod Walks
+pub mod Levels
+pub mod Program
+pub mod Bundles
+pub mod Answered
+pub mod Spelled

@@ -1,0 +1,37 @@
+use Rattle.std.proofs.Common.{◌∙◌, List, ap, ap₂, codes, sym}
+use Rattle.clap.proofs.WalkLemmas.{raw_values-rows}
+use Rattle.clap.specs.Words.{found_of, rows_of}
+use Rattle.sf_words.proofs.Rows.{texts-rows}
+use Rattle.sf_words.specs.Internal.Forms.{operands_id, values_at}
+use Rattle.sf_words.specs.Internal.Found.{order_found, texts_under}
+use Rattle.sf_words.specs.Words.{Text, demo_of, recheck_of, run_of, steps_of, verify_of, waits_of, workers_of}
+use Rattle.sf_words.proofs.given.order.Goals as goal
+
+pub returns-in-verify : goal.returns-in-verify
+returns-in-verify c =
+    let found = found_of c.args.matches.now in
+    let operands = texts-rows operands_id (rows_of found) c.get_strs-operands.result _ c.get_strs-operands.ensures (raw_values-rows found operands_id) in
+    let workers = texts-rows (codes "workers") (rows_of found) c.get_strs.result _ c.get_strs.ensures (raw_values-rows found (codes "workers")) in
+    c.verify.ensures ∙ ap₂ (λ (x y : List Text). verify_of x (workers_of y)) operands workers ∙ sym (ap (λ (n : Text). order_found n (rows_of found)) c.in-verify.is)
+
+pub returns-in-recheck : goal.returns-in-recheck
+returns-in-recheck c =
+    let found = found_of c.args.matches.now in
+    let operands = texts-rows operands_id (rows_of found) c.get_strs-operands.result _ c.get_strs-operands.ensures (raw_values-rows found operands_id) in
+    c.recheck.ensures ∙ ap recheck_of operands ∙ sym (ap (λ (n : Text). order_found n (rows_of found)) c.in-recheck.is)
+
+pub returns-in-run : goal.returns-in-run
+returns-in-run c =
+    let found = found_of c.args.matches.now in
+    let operands = texts-rows operands_id (rows_of found) c.get_strs-operands.result _ c.get_strs-operands.ensures (raw_values-rows found operands_id) in
+    let steps = texts-rows (codes "steps") (rows_of found) c.get_strs-in-run.result _ c.get_strs-in-run.ensures (raw_values-rows found (codes "steps")) in
+    let waits = texts-rows (codes "waits") (rows_of found) c.get_strs-in-run-2.result _ c.get_strs-in-run-2.ensures (raw_values-rows found (codes "waits")) in
+    c.run.ensures ∙ ap₂ (λ (x y : List Text). run_of x (steps_of y) (waits_of (texts_under c.get_strs-in-run-2.result))) operands steps
+    ∙ ap (λ (x : List Text). run_of (values_at operands_id (rows_of found)) (steps_of (values_at (codes "steps") (rows_of found))) (waits_of x)) waits
+    ∙ sym (ap (λ (n : Text). order_found n (rows_of found)) c.in-run.is)
+
+pub returns-in-demo : goal.returns-in-demo
+returns-in-demo c =
+    let found = found_of c.args.matches.now in
+    let operands = texts-rows operands_id (rows_of found) c.get_strs-operands.result _ c.get_strs-operands.ensures (raw_values-rows found operands_id) in
+    c.demo.ensures ∙ ap demo_of operands ∙ sym (ap (λ (n : Text). order_found n (rows_of found)) c.in-demo.is)

@@ -1,0 +1,4 @@
+pub mod Words
+pub mod WordsOf
+pub mod Laws
+pub mod Internal
