@@ -9,7 +9,7 @@
 
 pub mod laws;
 mod proof;
-pub mod proving;
+mod proving;
 mod refusal;
 
 pub use proof::Proof;

@@ -5,9 +5,9 @@
 //! - `laws`: a program has exactly one verdict, and one that is a proof proves it.
 #![tactic(auto)]
 
-pub mod choices;
+mod choices;
 mod laws;
-pub mod verdicts;
+mod verdicts;
 
 pub use choices::{Choice, Kind, choose};
 pub use laws::{
