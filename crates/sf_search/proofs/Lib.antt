@@ -6,5 +6,8 @@ pub mod Ending
 pub mod Found
 pub mod Rows
 pub mod Taken
+pub mod Settled
+pub mod Fewer
+pub mod Kept
 pub mod Leading
 pub mod Judging

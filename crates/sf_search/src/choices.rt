@@ -6,6 +6,7 @@
 //! - `branches`: choices, by their test.
 //! - `commands`: commands.
 //! - `given`: what is to be assumed.
+//! - `settled`: what is known of the next goal's state.
 //! - `wanted`: what is to be shown.
 //! - `whole`: all of it.
 
@@ -14,10 +15,13 @@ mod branches;
 mod choice;
 mod commands;
 mod given;
+mod settled;
 #[cfg(test)]
 mod tests;
 mod wanted;
 mod whole;
 
 pub use choice::{Choice, Kind};
+pub(crate) use settled::keeps_settled;
 pub use whole::choose;
+pub(crate) use whole::choose_in_front;

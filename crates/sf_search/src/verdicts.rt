@@ -1,6 +1,6 @@
 //! The search for a proof, procedure by procedure.
 
-ghost use Rattle.std.specs.Prelude.{◌≡◌, ◌++◌, ◌<◌, ◌≤◌, ◌∷◌, [], IfErr, IfOk, IfSome, List, OnOk, Some, length};
+ghost use Rattle.std.specs.Prelude.{◌≡◌, ◌++◌, ◌<◌, ◌≤◌, ◌∷◌, [], IfErr, IfOk, IfSome, List, OnOk, Some, length, true};
 ghost use Rattle.sf_base.specs.declared.limits.TheConstants.{FILE_TAGS as FILE_LIMIT};
 ghost use Rattle.std.specs.List.{slice_get};
 ghost use Rattle.sf_base.specs.Results.{Appends};
@@ -10,12 +10,15 @@ ghost use Rattle.sf_rules.specs.Internal.Children.{children_of};
 ghost use Rattle.sf_rules.specs.Internal.Subgoals.{stack_of};
 ghost use Rattle.sf_rules.specs.Rows.Whole.{row};
 ghost use Rattle.sf_rules.specs.Setting.{Setting, setting_of};
+ghost use Rattle.sf_search.specs.Internal.Choosing.{choice_of};
+ghost use Rattle.sf_search.specs.Internal.Settled.{IsSettled};
+ghost use Rattle.sf_search.specs.Strategy.{chooses};
 ghost use Rattle.sf_search.specs.Ends.{EndsAs, FailsAs, FollowsAs, failure};
 ghost use Rattle.sf_search.specs.Judge.{Judge, Search, proof, proved};
 ghost use Rattle.sf_sym.specs.Goal.{Goal as AnyGoal, goal_of};
 ghost use Rattle.sf_sym.specs.declared.tag.Tag.TheVariants.{Procedure};
 
-use crate::choices::{Choice, Kind, choose};
+use crate::choices::{Choice, Kind, choose, choose_in_front, keeps_settled};
 use sf_base::ProcId;
 use sf_base::limits::{FILE_TAGS, PROCEDURE_TAGS};
 use sf_precise::Arranged;
@@ -114,8 +117,10 @@ fn search_from<'a>(
     let mut tags = Vec::new(alloc);
     let mut stack = Vec::new(alloc);
     stack.push(first)?;
+    // Whether the tests of the next goal's state are known to find nothing.
+    let mut settled = false;
     while let Some(goal) = stack.pop() {
-        let tag = match choose(alloc, &goal)? {
+        let tag = match choose_knowing(alloc, &goal, settled)? {
             Choice::Takes(tag) => tag,
             Choice::Stays(kind) => return Err(SearchFault::Stuck(goal, kind, tags.len())),
         };
@@ -126,8 +131,22 @@ fn search_from<'a>(
             Ok(()) => {}
             Err(fault) => return Err(fault),
         }
+        settled = keeps_settled(tag);
     }
     Ok(tags)
+}
+
+/// What the strategy does at the goal, whose state may be known to be settled. An `Err` means out of
+/// memory.
+fn choose_knowing(alloc: Global, goal: &Goal, settled: bool) -> Result<Choice, AllocError>
+    requires { settled ≡ true → IsSettled goal.now.state }
+    ensures { IfOk result (λ c. choice_of c ≡ chooses (goal_of goal.now)) }
+{
+    if settled {
+        choose_in_front(alloc, goal)
+    } else {
+        choose(alloc, goal)
+    }
 }
 
 /// Takes the tag at a goal: what it leaves goes on the stack, and the tag after the tags.

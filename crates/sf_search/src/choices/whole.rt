@@ -3,6 +3,7 @@
 ghost use Rattle.std.specs.Prelude.{◌≡◌, ◌++◌, IfOk, List, false};
 ghost use Rattle.std.specs.Option.{option_map};
 ghost use Rattle.sf_search.specs.Internal.Choosing.{at_first, at_state, choice_of};
+ghost use Rattle.sf_search.specs.Internal.Settled.{IsSettled};
 ghost use Rattle.sf_search.specs.Strategy.{Choice as AnyChoice, at_end, at_items, chooses, or_else};
 ghost use Rattle.sf_sym.specs.Goal.{Item as Thing, goal_of, items_of, todo_of};
 ghost use Rattle.sf_sym.specs.Internal.Items.{is_nothing};
@@ -25,6 +26,16 @@ pub fn choose(alloc: Global, goal: &Goal) -> Result<Choice, AllocError>
     if let Some(choice) = at_state(&goal.state) {
         return Ok(choice);
     }
+    at_items(alloc, &goal.state, goal.todo.as_slice())
+}
+
+/// The same at a goal of which it is known that by its state alone nothing is done: no part of the
+/// heap is compared with another.
+#[tactic(auto, using(crate::proofs::Settled::settled_chooses))]
+pub(crate) fn choose_in_front(alloc: Global, goal: &Goal) -> Result<Choice, AllocError>
+    requires { IsSettled goal.now.state }
+    ensures { IfOk result (λ c. choice_of c ≡ chooses (goal_of goal.now)) }
+{
     at_items(alloc, &goal.state, goal.todo.as_slice())
 }
 
