@@ -6,6 +6,7 @@ pub mod Ending
 pub mod Found
 pub mod Rows
 pub mod Taken
+pub mod Rowless
 pub mod Settled
 pub mod Fewer
 pub mod Kept

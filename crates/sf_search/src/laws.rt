@@ -1,7 +1,7 @@
 //! Laws of the search. Each function is a law: calling it gives its fact to the caller's proof, and
 //! does nothing.
 
-ghost use Rattle.sf_search.specs.Laws.{ProgramsHaveVerdicts, SearchExists, SearchIsUnique, TakenTagsHaveRows, TakenTagsProve, VerdictsAreUnique};
+ghost use Rattle.sf_search.specs.Laws.{GoalsWithoutRowLackShape, ProgramsHaveVerdicts, SearchExists, SearchIsUnique, TakenTagsHaveRows, TakenTagsProve, VerdictsAreUnique};
 
 /// The search from a goal comes to something.
 #[tactic(auto, using(crate::proofs::Ending::search_exists))]
@@ -37,4 +37,11 @@ pub fn taken_tags_prove()
 #[tactic(auto, using(crate::proofs::Taken::taken_tags_have_rows))]
 pub fn taken_tags_have_rows()
     ensures { TakenTagsHaveRows }
+{}
+
+/// So where a search ends at a tag without a row, its tags have led to a goal that isn't as goals of
+/// programs are: numbers ran out, it needs 1,024 symbols at once, or no program has such a goal.
+#[tactic(auto, using(crate::proofs::Rowless::goals_without_row_lack_shape))]
+pub fn goals_without_row_lack_shape()
+    ensures { GoalsWithoutRowLackShape }
 {}
