@@ -5,7 +5,6 @@ use Rattle.std.proofs.lemmas.Bool.Decides.{Decides-eqb}
 use Rattle.std.proofs.lemmas.Option.{same_Some}
 use Rattle.std.specs.List.{AllByRecursion, slice_get}
 use Rattle.std.specs.Option.{option_map}
-use Rattle.sf_base.specs.declared.ids.FieldId.{FieldId}
 use Rattle.sf_search.proofs.Lowest.{above-all, forced-above, lower-first, lowest_first, lowest_other}
 use Rattle.sf_search.specs.Strategy.{forced_ends, lower, lowest, lowest_forced}
 use Rattle.sf_sym.specs.Cells.{atom_at, cell_at, fields_at}

@@ -14,7 +14,7 @@ use Rattle.sf_search.specs.Internal.Choosing.{kind_of}
 use Rattle.sf_search.specs.Strategy.{Kind}
 use Rattle.sf_search.specs.Ends.{EndsAs, FailsAs, FailsFor, cause_of, failure}
 use Rattle.sf_rules.specs.First.{first_goal}
-use Rattle.sf_search.specs.Judge.{Cause, Judge, JudgedAfter, JudgeFrom, Outcome, Search, Verdict, fails, large, no_row, proof, proved, stuck, stuck_at, too_large, with_prefix, without_row}
+use Rattle.sf_search.specs.Judge.{Judge, JudgedAfter, JudgeFrom, Outcome, Search, Verdict, fails, large, no_row, proof, proved, stuck, stuck_at, too_large, with_prefix, without_row}
 use Rattle.sf_sym.specs.declared.tag.Tag.{Tag}
 use Rattle.sf_sym.specs.declared.tag.Tag.TheVariants as t
 use Rattle.sf_sym.specs.Goal.{Goal, goal_of}

@@ -8,14 +8,12 @@ use Rattle.std.specs.Option.{option_and_then, option_map}
 use Rattle.std.specs.Prelude.{set}
 use Rattle.sf_base.proofs.Options.{option_map-some}
 use Rattle.sf_base.specs.declared.ids.FieldId.{FieldId}
-use Rattle.sf_base.specs.declared.ids.ResId.{ResId}
 use Rattle.sf_base.specs.declared.ids.Var.{Var}
-use Rattle.sf_base.specs.declared.place.Place.{Place}
 use Rattle.sf_calls.specs.Changes.{changes_in}
 use Rattle.sf_consume.specs.Subtract.{apart_step, bind_step, binding, both, cell_step, empty_step, equality, exact_step, exact_there, first_by, first_fit, Fit, fit_fields, fitting, handed_cell, head_step, head_there, inequality, is_same_shape, join_step, join_there, joined, link, list_from, node_step, node_there, removed, removed_if, same_step, Step, subtracted, tree_from, Want, wanted_cell, wanted_ends, wanted_list, wanted_shape, wanted_tree}
 use Rattle.sf_consume.specs.declared.wanted.WantedList.{WantedList}
 use Rattle.sf_consume.specs.Wants.{wanting}
-use Rattle.sf_core.specs.Program.Syntax.{Assertion, Command, assign, look_up, mutate, new, dispose, if, while, call, fork, with, Conjunct, Conjuncts, none, also, Procedure}
+use Rattle.sf_core.specs.Program.Syntax.{Command, assign, look_up, mutate, dispose, if, while, call, fork, with, Conjunct, Conjuncts, none, also, Procedure}
 use Rattle.sf_rules.specs.Lemmas.{few-left}
 use Rattle.sf_rules.specs.Rows.Branches.{branch_row, chosen}
 use Rattle.sf_rules.specs.Rows.Calls.{called, call_row, forked, fork_row, give_row}
@@ -41,7 +39,7 @@ use Rattle.sf_sym.specs.declared.tag.Tag.TheVariants as t
 use Rattle.sf_sym.specs.declared.term.Term.{Term}
 use Rattle.sf_sym.specs.declared.term.Term.TheVariants.{Sym}
 use Rattle.sf_sym.specs.Fields.{field_term, put_term}
-use Rattle.sf_sym.specs.Goal.{Goal, Item, run, add, take, gave, head, again, exit, return, end, one_goal}
+use Rattle.sf_sym.specs.Goal.{Goal, Item, run, add, take, gave, head, again, exit, return, one_goal}
 use Rattle.sf_sym.specs.Pending.{Pending}
 use Rattle.sf_sym.specs.State.{State, term, with_symbols}
 use Rattle.sf_sym.specs.Tests.{differs, same_term}

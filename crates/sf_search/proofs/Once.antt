@@ -1,13 +1,13 @@
 -- A search has one end, and a program one verdict.
 -- Names: `chosen-LAW` of tags that are taken, `judge-LAW` of verdicts.
-use Rattle.std.proofs.Common.{◌≡◌, ℕ, suc, ◌+◌, ◌≤◌, ◌<◌, ◌⊎◌, inl, inr, Option, Some, None, List, [], ◌∷◌, ◌++◌, length, refl, sym, ap, ap₂, ◌∙◌, subst, arith}
+use Rattle.std.proofs.Common.{◌≡◌, ℕ, suc, ◌+◌, ◌≤◌, ◌<◌, inl, inr, Some, None, List, [], ◌∷◌, ◌++◌, length, refl, sym, ap, ap₂, ◌∙◌, subst, arith}
 use Rattle.sf_base.specs.declared.limits.TheConstants.{PROCEDURE_TAGS}
 use Rattle.sf_core.specs.Program.Syntax.{Procedure}
 use Rattle.sf_rules.specs.Rows.Whole.{row}
 use Rattle.sf_rules.specs.Setting.{Setting}
-use Rattle.sf_search.specs.Strategy.{Choice, Kind, chooses, stays, takes}
+use Rattle.sf_search.specs.Strategy.{Kind, chooses, stays, takes}
 use Rattle.sf_rules.specs.First.{first_goal}
-use Rattle.sf_search.specs.Judge.{Chosen, Continues, JudgedAfter, JudgeFrom, Outcome, Search, Verdict, WithinLimit, fails, large, no_row, proof, proved, stuck, with_prefix}
+use Rattle.sf_search.specs.Judge.{Chosen, Continues, JudgedAfter, JudgeFrom, Outcome, Search, Verdict, WithinLimit, large, no_row, proved, stuck, with_prefix}
 use Rattle.sf_search.specs.Laws.{SearchIsUnique, VerdictsAreUnique}
 use Rattle.sf_sym.specs.declared.tag.Tag.{Tag}
 use Rattle.sf_sym.specs.declared.tag.Tag.TheVariants.{Procedure as Begin}

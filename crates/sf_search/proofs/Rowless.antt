@@ -1,5 +1,5 @@
 -- Where a search ends at a tag without a row, it has come to a goal that isn't as goals of programs are.
-use Rattle.std.proofs.Common.{◌≡◌, Some, None, List, [], ◌∷◌, ◌++◌, refl}
+use Rattle.std.proofs.Common.{List, [], ◌∷◌, ◌++◌, refl}
 use Rattle.sf_rules.specs.Setting.{Setting}
 use Rattle.sf_search.proofs.Taken.{taken_tags_have_rows}
 use Rattle.sf_search.specs.Judge.{Chosen, no_row}

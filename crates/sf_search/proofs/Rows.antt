@@ -1,36 +1,35 @@
 -- A tag that the strategy takes has a row.
 -- Names: `good-LAW` of choices whose tag has a row.
-use Rattle.std.proofs.Common.{◌≡◌, ℕ, ◌+◌, ◌<◌, Bool, true, false, ◌&&◌, ◌||◌, not, cond, nat_lt, Option, Some, None, List, [], ◌∷◌, ◌++◌, is_some, length, refl, sym, ap, ap₂, ◌∙◌, subst, arith, get_or}
-use Rattle.std.proofs.lemmas.Bool.{and_parts, or_parts, ltb-false}
+use Rattle.std.proofs.Common.{◌≡◌, ℕ, Bool, true, false, ◌&&◌, ◌||◌, not, cond, Option, Some, None, List, is_some, refl, sym, ap, ap₂, ◌∙◌, subst}
+use Rattle.std.proofs.lemmas.Bool.{or_parts}
 use Rattle.std.proofs.lemmas.Option.{same_Some}
-use Rattle.std.specs.List.{AllByRecursion, slice_get}
+use Rattle.std.specs.List.{slice_get}
 use Rattle.std.specs.Option.{option_and_then, option_map}
 use Rattle.sf_base.specs.declared.ids.FieldId.{FieldId}
-use Rattle.sf_core.specs.declared.fields.Links.{Links}
 use Rattle.sf_core.specs.declared.assertion.Test.{Test}
 use Rattle.sf_core.specs.declared.assertion.Test.TheVariants.{True, Equal, Differ}
 use Rattle.sf_core.specs.Program.Formed.{TestWithin}
 use Rattle.sf_normal.specs.Knowledge.{split_row, unroll_one, unrolled_segment, unrolled_tree}
-use Rattle.sf_rules.specs.Rows.Whole.{row, row_of}
+use Rattle.sf_rules.specs.Rows.Whole.{row_of}
 use Rattle.sf_rules.specs.Setting.{Setting}
-use Rattle.sf_search.proofs.Found.{FoundAt, all-append, all-at, cell-of_atom, found-among, found-at, found-forced, found-none}
-use Rattle.sf_search.specs.Strategy.{Choice, Kind, at_cell, at_test, chooses, forced_ends, found_or, lowest, lowest_forced, opened, opened_by, opened_first, or_else, segment_at, split_by, split_found, split_or, stays, takes, takes_if, tree_at, undecided_ends, which}
+use Rattle.sf_search.proofs.Found.{all-append, all-at, cell-of_atom, found-among, found-at, found-none}
+use Rattle.sf_search.specs.Strategy.{Choice, Kind, at_cell, at_test, found_or, lowest, opened, opened_by, opened_first, or_else, segment_at, split_by, split_found, split_or, stays, takes, takes_if, tree_at, undecided_ends, which}
 use Rattle.sf_search.specs.Shape.{HasLinks, HasShape}
-use Rattle.sf_sym.specs.Below.{AllInAtom, AllInAtoms, AreBelow, IsBelow, is_below}
-use Rattle.sf_sym.specs.Cells.{atom_at, cell_at, fields_at, without}
+use Rattle.sf_sym.specs.Below.{AllInAtom, AllInAtoms, IsBelow, is_below}
+use Rattle.sf_sym.specs.Cells.{atom_at, cell_at, fields_at}
 use Rattle.sf_sym.specs.declared.atom.Atom.{Atom}
 use Rattle.sf_sym.specs.declared.atom.Atom.TheVariants.{Points, Ls, Tree}
 use Rattle.sf_sym.specs.declared.atom.Numbered.{Numbered}
 use Rattle.sf_sym.specs.declared.tag.Tag.{Tag}
 use Rattle.sf_sym.specs.declared.tag.Tag.TheVariants as t
 use Rattle.sf_sym.specs.declared.term.Term.{Term}
-use Rattle.sf_sym.specs.declared.term.Term.TheVariants.{Nil, Int, Sym}
+use Rattle.sf_sym.specs.declared.term.Term.TheVariants.{Nil}
 use Rattle.sf_sym.specs.Decided.{is_false, is_true}
 use Rattle.sf_sym.specs.Goal.{Goal}
 use Rattle.sf_sym.specs.Known.{ends, is_nothing}
 use Rattle.sf_sym.specs.Lemmas.{same_term_is}
 use Rattle.sf_sym.specs.State.{State}
-use Rattle.sf_sym.specs.Tests.{allocated, differs, is_absurd, is_constant, parts, same_term}
+use Rattle.sf_sym.specs.Tests.{differs, parts, same_term}
 
 -- a choice whose tag has a row among these
 abbrev pub Good : (Tag → Option (List Goal)) → Choice → Type 0

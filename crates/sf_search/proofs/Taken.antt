@@ -1,10 +1,10 @@
 -- A tag that the strategy takes has a row: by what is in front.
 -- Names: `good-LAW` of choices whose tag has a row, `LAW-some` of rows that are there.
-use Rattle.std.proofs.Common.{◌≡◌, ℕ, suc, ◌+◌, ◌<◌, Bool, true, false, ◌&&◌, ◌||◌, not, cond, nat_lt, Option, Some, None, List, [], ◌∷◌, ◌++◌, is_some, length, map, refl, sym, ap, ap₂, ◌∙◌, subst, arith, get_or, inl, inr, ◌⊎◌, length-append}
+use Rattle.std.proofs.Common.{◌≡◌, ℕ, suc, ◌+◌, ◌<◌, Bool, true, false, ◌||◌, not, cond, Option, Some, None, List, [], ◌∷◌, ◌++◌, is_some, length, refl, sym, ap, ap₂, ◌∙◌, subst, inl, inr, length-append}
 use Rattle.std.proofs.lemmas.Bool.Decides.{Decides-eqb, Decides-int_eq}
 use Rattle.std.proofs.lemmas.Bool.{lt-ltb}
 use Rattle.std.proofs.lemmas.Option.{same_Some}
-use Rattle.std.specs.List.{AllByRecursion, slice_get}
+use Rattle.std.specs.List.{slice_get}
 use Rattle.std.specs.Option.{option_and_then, option_map}
 use Rattle.sf_base.specs.declared.ids.FieldId.{FieldId}
 use Rattle.sf_base.specs.declared.ids.ResId.{ResId}
@@ -21,7 +21,7 @@ use Rattle.sf_core.specs.declared.assertion.Test.TheVariants.{True, Equal, Diffe
 use Rattle.sf_core.specs.declared.command.Expr.{Expr}
 use Rattle.sf_core.specs.declared.command.Expr.TheVariants.{Var as Variable, Nil as ENil, Int as EInt}
 use Rattle.sf_core.specs.Program.Formed.{TestWithin}
-use Rattle.sf_core.specs.Program.Syntax.{Block, Call, Command, assign, look_up, mutate, new, dispose, if, while, call, fork, with, Conjunct, holds, points, segment, tree, choose, Conjuncts, none, also, Procedure, Resource}
+use Rattle.sf_core.specs.Program.Syntax.{Command, assign, look_up, mutate, new, dispose, if, while, call, fork, with, Conjunct, holds, points, segment, tree, choose, Conjuncts, none, also}
 use Rattle.sf_rules.specs.Few.{if_few}
 use Rattle.sf_produce.specs.Add.{operands}
 use Rattle.sf_rules.specs.Rows.Calls.{called, forked}

@@ -1,6 +1,6 @@
 -- Judge: what the strategy comes to for a whole program, by the rows of the table.
 -- Berdine, Calcagno, O'Hearn, "Smallfoot" (2005): proof search by symbolic execution, in this project's own profile.
-use Rattle.std.specs.Prelude.{◌≡◌, ℕ, suc, ◌+◌, ◌≤◌, ◌<◌, Option, Some, None, List, [], ◌∷◌, ◌++◌, length, ◌⊎◌}
+use Rattle.std.specs.Prelude.{◌≡◌, ℕ, suc, ◌+◌, ◌≤◌, ◌<◌, Some, None, List, [], ◌∷◌, ◌++◌, length, ◌⊎◌}
 use Rattle.sf_base.specs.declared.ids.ProcId.{ProcId}
 use Rattle.sf_base.specs.declared.limits.TheConstants.{PROCEDURE_TAGS, FILE_TAGS}
 use Rattle.sf_core.specs.Program.Syntax.{Procedure}

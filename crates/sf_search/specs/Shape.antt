@@ -1,6 +1,6 @@
 -- Which goals have a row for each tag that the strategy takes: those that are as goals of programs are.
 -- Ordinary: what a goal's definition leaves open and every row keeps.
-use Rattle.std.specs.Prelude.{◌≡◌, ℕ, ◌+◌, ◌<◌, Bool, false, true, Option, Some, List, [], ◌∷◌, is_some, length}
+use Rattle.std.specs.Prelude.{◌≡◌, ◌+◌, ◌<◌, Bool, false, true, Some, List, [], ◌∷◌, is_some, length}
 use Rattle.std.specs.List.{AllByRecursion, slice_get}
 use Rattle.sf_calls.specs.Changes.{changed, changes_in}
 use Rattle.sf_consume.specs.Subtract.{new_symbols}

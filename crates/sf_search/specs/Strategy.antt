@@ -2,7 +2,6 @@
 -- Berdine, Calcagno, O'Hearn, "Smallfoot" (2005): proof search by symbolic execution, in this project's own profile.
 use Rattle.std.specs.Prelude.{ℕ, Bool, ◌&&◌, ◌||◌, not, cond, is_some, nat_lt, Option, Some, None, List, [], ◌∷◌}
 use Rattle.std.specs.Option.{option_map, option_and_then}
-use Rattle.sf_base.specs.declared.ids.FieldId.{FieldId}
 use Rattle.sf_consume.specs.Subtract.{bind_step, both, cell_step, empty_step, is_same_shape, same_step, wanted_shape, Step}
 use Rattle.sf_core.specs.declared.assertion.Operand.{Operand}
 use Rattle.sf_core.specs.declared.assertion.Test.{Test}

@@ -1,4 +1,4 @@
-use Rattle.std.proofs.Common.{◌≡◌, ◌+◌, ◌<◌, ◌≤◌, ◌∙◌, [], drop, length, sym, subst, arith, rules}
+use Rattle.std.proofs.Common.{◌+◌, ◌<◌, ◌≤◌, length, sym, subst, arith, rules}
 use Rattle.std.specs.List.{slice_get}
 use Rattle.sf_rules.specs.First.{first_goal}
 use Rattle.sf_search.proofs.Judging.{drop_all, judged_all, judged_fault, judged_next, judged_over, setting_length}
