@@ -1,8 +1,10 @@
 -- What the rows of loops and of ends leave, by what the code puts before what is left to do.
-use Rattle.std.proofs.Common.{◌≡◌, Bool, true, cond, nat_lt, List, [], ◌∷◌, ◌++◌, length, Some, None, Vec, Global, map, sym, ap, ◌∙◌}
+use Rattle.std.specs.List.{list_any}
+use Rattle.std.proofs.Common.{◌≡◌, Bool, true, ◌||◌, cond, nat_lt, List, [], ◌∷◌, ◌++◌, length, Some, None, Vec, Global, map, refl, sym, ap, ◌∙◌}
 use Rattle.std.specs.Borrow.{Bor}
 use Rattle.sf_base.specs.declared.ids.Var.{Var}
 use Rattle.sf_base.specs.declared.place.Place.{Place}
+use Rattle.sf_base.specs.Variables.{same_var}
 use Rattle.sf_core.specs.declared.assertion.Test.{Test}
 use Rattle.sf_core.specs.declared.assertion.Assertion.{Assertion as CodeAssertion}
 use Rattle.sf_core.specs.declared.command.Command.{Command as CodeCommand, While}
@@ -18,9 +20,9 @@ use Rattle.sf_sym.specs.declared.term.Term.{Term}
 use Rattle.sf_sym.specs.Goal.{Goal, Item, adding, again, end, head, items_of, return, run, taking, to_run, todo_of}
 use Rattle.sf_sym.specs.Lemmas.{todo_of_push}
 use Rattle.sf_sym.specs.Pending.{Pending}
+use Rattle.sf_sym.specs.Ready.{is_listed}
 use Rattle.sf_sym.specs.State.{State, term}
 use Rattle.sf_sym.specs.Variables.{with_fresh}
-use Rattle.sf_calls.specs.Changes.{changes_in}
 use Rattle.sf_rules.specs.Rows.Ends as ends
 use Rattle.sf_rules.specs.Rows.Front.{at_again, at_command, at_head, at_return}
 use Rattle.sf_rules.specs.Rows.Loops as loops
@@ -120,18 +122,23 @@ pub loop_view : (p : Place) (t : Test Expr) (a : CodeAssertion) (body : Vec Code
     → command_of (While p t a body) ≡ while p t (assertion_of a) (block (map command_of body.items))
 loop_view p t a body = ap command_of (sym (rolls-While p t a body)) ∙ fold-roll-Command Command command_step _
 
--- both goals that are left of a loop, where its body changes those variables
+-- whether a variable has a term, by looking at each of them
+pub listed_any : (vars : List (Var × Term)) (x : Var) → list_any (λ v. same_var v.0 x) vars ≡ is_listed vars x
+listed_any [] x = refl
+listed_any (v ∷ vs) x = ap (λ b. same_var v.0 x || b) (listed_any vs x)
+
+-- both goals that are left of a loop, where its body leaves those variables unknown
 pub around_left : (d : Setting) (s : State) (p : Place) (x : Test Expr) (a : Assertion) (body : Block)
-    (changes : List Var) (rest items : List Item) (once after : Goal) → items ≡ head p x a body ∷ rest
-    → changes ≡ changes_in d.sets body → nat_lt (length changes) 1024 ≡ true
-    → once ≡ loops.body_once d (with_fresh changes s) p x a body
-    → after ≡ loops.after_loop d (with_fresh changes s) p x a rest
+    (unknown : List Var) (rest items : List Item) (once after : Goal) → items ≡ head p x a body ∷ rest
+    → unknown ≡ loops.unknown_in d s body → nat_lt (length unknown) 1024 ≡ true
+    → once ≡ loops.body_once d (with_fresh unknown s) p x a body
+    → after ≡ loops.after_loop d (with_fresh unknown s) p x a rest
     → Some (once ∷ after ∷ []) ≡ at_head (loops.around_row d s) items
-around_left d s p x a body changes rest items once after i c few o e =
-    let both : Some (once ∷ after ∷ []) ≡ Some (loops.body_once d (with_fresh changes s) p x a body
-    ∷ loops.after_loop d (with_fresh changes s) p x a rest ∷ []) = λ j. Some (o j ∷ e j ∷ []) in
+around_left d s p x a body unknown rest items once after i c few o e =
+    let both : Some (once ∷ after ∷ []) ≡ Some (loops.body_once d (with_fresh unknown s) p x a body
+    ∷ loops.after_loop d (with_fresh unknown s) p x a rest ∷ []) = λ j. Some (o j ∷ e j ∷ []) in
     both
-    ∙ sym (ap (λ (b : Bool). cond b (Some (loops.body_once d (with_fresh changes s) p x a body
-    ∷ loops.after_loop d (with_fresh changes s) p x a rest ∷ [])) None) few)
+    ∙ sym (ap (λ (b : Bool). cond b (Some (loops.body_once d (with_fresh unknown s) p x a body
+    ∷ loops.after_loop d (with_fresh unknown s) p x a rest ∷ [])) None) few)
     ∙ ap (λ (xs : List Var). loops.around_with d xs s p x a body rest) c
     ∙ sym (ap (at_head (loops.around_row d s)) i)

@@ -1,6 +1,6 @@
 -- The examples of rows: each computes.
 use Rattle.std.proofs.Common.{refl}
-use Rattle.sf_rules.specs.Examples.{SplitReplacesTheGreater, UnrolledListHasACell, JoinGoesOn, JoinNeedsItsEnd, GivenIsGone, LoopsGoOnceAround, ForksLeaveFiveItems}
+use Rattle.sf_rules.specs.Examples.{SplitReplacesTheGreater, UnrolledListHasACell, JoinGoesOn, JoinNeedsItsEnd, GivenIsGone, LoopsGiveNoTerms, LoopsGoOnceAround, ForksLeaveFiveItems}
 
 pub split_replaces_the_greater : SplitReplacesTheGreater
 unfolding SplitReplacesTheGreater
@@ -25,6 +25,10 @@ given_is_gone d = refl
 pub loops_go_once_around : LoopsGoOnceAround
 unfolding LoopsGoOnceAround
 loops_go_once_around = refl
+
+pub loops_give_no_terms : LoopsGiveNoTerms
+unfolding LoopsGiveNoTerms
+loops_give_no_terms = refl
 
 pub forks_leave_five_items : ForksLeaveFiveItems
 unfolding ForksLeaveFiveItems

@@ -1,13 +1,13 @@
 -- Examples of rows on small goals: what the whole table leaves of each.
 -- The goals are in the manner of Berdine, Calcagno, O'Hearn, "Symbolic Execution with Separation Logic" (2005).
 use Rattle.std.specs.Prelude.{◌≡◌, List, [], ◌∷◌, Some, None, codes}
-use Rattle.sf_base.specs.declared.ids.Var.TheVariants.{Own}
+use Rattle.sf_base.specs.declared.ids.Var.TheVariants.{Own, Shared}
 use Rattle.sf_core.specs.declared.assertion.Operand.TheVariants.{Known}
 use Rattle.sf_core.specs.declared.assertion.Test.TheVariants.{True, Differ}
 use Rattle.sf_core.specs.Assertions.Examples.{place, tl}
 use Rattle.sf_core.specs.Machine.Examples.{emp, one_cell, own_one, procedure}
 use Rattle.sf_core.specs.declared.command.Expr.TheVariants.{Nil as ENil}
-use Rattle.sf_core.specs.Program.Syntax.{Block, Call, Conjuncts, none, also, holds, points, segment, assign, done, then, fork, Program}
+use Rattle.sf_core.specs.Program.Syntax.{Block, Call, Command, Conjuncts, none, also, holds, points, segment, assign, done, then, fork, with, Program}
 use Rattle.sf_sym.specs.declared.atom.Atom.TheVariants.{Points, Ls}
 use Rattle.sf_sym.specs.declared.atom.Numbered.{Numbered}
 use Rattle.sf_sym.specs.declared.tag.Tag.TheVariants as t
@@ -105,6 +105,23 @@ LoopsGoOnceAround =
     ≡ Some (goal_at (record around_now { atoms = [] })
     (run (assign place (record { var = Own 0; place = place }) ENil) ∷ again place emp ∷ [])
     ∷ goal_at around_now
+    (add place (record { conjuncts = also (holds place (Differ (Known Nil) (Known Nil))) none; bindings = [] })
+    ∷ end place ∷ [])
+    ∷ [])
+
+-- with r when (true) v = nil, where v is a variable of r
+abbrev pub region_changing_v : Command
+region_changing_v = with place (record { 0 = 0 }) True
+    (then (assign place (record { var = Shared (record { 0 = 0 }) 0; place = place }) ENil) done)
+
+-- around: a loop `while (true) [emp] { with r when (true) v = nil; }`. Outside of the region v has no
+-- term, and the loop gives it none, so that the next symbol is the one that it was
+unfoldable pub LoopsGiveNoTerms : Type 0
+LoopsGiveNoTerms =
+    row (plain no_program)
+    (goal_at (state_with list_at_one) (head place True emp (then region_changing_v done) ∷ end place ∷ [])) t.Around
+    ≡ Some (goal_at (state_with []) (run region_changing_v ∷ again place emp ∷ [])
+    ∷ goal_at (state_with list_at_one)
     (add place (record { conjuncts = also (holds place (Differ (Known Nil) (Known Nil))) none; bindings = [] })
     ∷ end place ∷ [])
     ∷ [])

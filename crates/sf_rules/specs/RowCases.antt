@@ -6,7 +6,7 @@ use Rattle.sf_base.specs.declared.ids.FieldId.{FieldId}
 use Rattle.sf_base.specs.declared.ids.ResId.{ResId}
 use Rattle.sf_base.specs.declared.ids.Var.{Var}
 use Rattle.sf_base.specs.declared.place.Place.{Place}
-use Rattle.sf_calls.specs.Changes.{changed, changes_in}
+use Rattle.sf_calls.specs.Changes.{changed}
 use Rattle.sf_core.specs.declared.assertion.Test.{Test}
 use Rattle.sf_core.specs.declared.command.Expr.{Expr}
 use Rattle.sf_core.specs.declared.command.Occurrence.{Occurrence}
@@ -16,7 +16,7 @@ use Rattle.sf_rules.specs.Rows.Add.{assume_row}
 use Rattle.sf_rules.specs.Rows.Branches.{branch_row}
 use Rattle.sf_rules.specs.Rows.Calls.{term_after, term_before}
 use Rattle.sf_rules.specs.Rows.Commands.{assign_row, look_row, mutate_row, new_row, dispose_row}
-use Rattle.sf_rules.specs.Rows.Loops.{after_loop, body_once}
+use Rattle.sf_rules.specs.Rows.Loops.{after_loop, body_once, unknown_in}
 use Rattle.sf_rules.specs.Rows.Regions.{variables_from}
 use Rattle.sf_rules.specs.Rows.Take.{subtract_row}
 use Rattle.sf_rules.specs.Rows.Whole.{row}
@@ -109,7 +109,7 @@ pub data Rows (d : Setting) (g : Goal) (left : List Goal) : Type 0 where
   -- a loop whose invariant was handed over: the body once, and what comes after the loop
   by_around : (p : Place) (t : Test Expr) (invariant : Assertion) (body : Block) (rest : List Item)
       → g.todo ≡ head p t invariant body ∷ rest
-      → (let now = with_fresh (changes_in d.sets body) g.state in
+      → (let now = with_fresh (unknown_in d g.state body) g.state in
       left ≡ body_once d now p t invariant body ∷ after_loop d now p t invariant rest ∷ [])
       → Rows d g left
   -- the end of its body: the invariant is due

@@ -1,6 +1,6 @@
 //! Examples of rows of the whole table. Each function does nothing; its contract is the result.
 
-ghost use Rattle.sf_rules.specs.Examples.{ForksLeaveFiveItems, GivenIsGone, JoinGoesOn, JoinNeedsItsEnd, LoopsGoOnceAround, SplitReplacesTheGreater, UnrolledListHasACell};
+ghost use Rattle.sf_rules.specs.Examples.{ForksLeaveFiveItems, GivenIsGone, JoinGoesOn, JoinNeedsItsEnd, LoopsGiveNoTerms, LoopsGoOnceAround, SplitReplacesTheGreater, UnrolledListHasACell};
 
 /// Of two symbols that are split the greater goes, or they differ.
 #[tactic(auto, using(crate::proofs::SmallRows::split_replaces_the_greater))]
@@ -36,6 +36,12 @@ pub fn given_is_gone()
 #[tactic(auto, using(crate::proofs::SmallRows::loops_go_once_around))]
 pub fn loops_go_once_around()
     ensures { LoopsGoOnceAround }
+{}
+
+/// A loop gives no term to what only a region inside of it reaches.
+#[tactic(auto, using(crate::proofs::SmallRows::loops_give_no_terms))]
+pub fn loops_give_no_terms()
+    ensures { LoopsGiveNoTerms }
 {}
 
 /// Two parallel calls leave five things to do.

@@ -1,7 +1,9 @@
 //! Rows of loops and of ends: loop, around, again, return, end.
 
 ghost use Rattle.std.specs.Prelude.{◌≡◌, ◌++◌, ◌∷◌, [], IfOk, IsTrue};
+ghost use Rattle.std.specs.List.{filter, list_any};
 ghost use Rattle.std.specs.Option.{option_map};
+ghost use Rattle.sf_base.specs.Variables.{same_var};
 ghost use Rattle.sf_core.specs.declared.command.Expr.TheVariants.{Nil as ENil};
 ghost use Rattle.sf_core.specs.Program.View.{assertion_of, block_of};
 ghost use Rattle.sf_precise.specs.Order.{IsOrdering};
@@ -14,6 +16,7 @@ ghost use Rattle.sf_rules.specs.Table.{has_numbers};
 ghost use Rattle.sf_rules.specs.Words.{negation, pending_assertion};
 ghost use Rattle.sf_sym.specs.Goal.{end, goal_of, taking, todo_of};
 ghost use Rattle.sf_sym.specs.Pending.{pending_of};
+ghost use Rattle.sf_sym.specs.Ready.{is_listed};
 ghost use Rattle.sf_sym.specs.State.{term};
 
 use crate::children::Children;
@@ -72,7 +75,8 @@ pub(crate) fn begin_loop<'a>(
     }
 }
 
-/// around: what the body may change is unknown. First the body once, second what comes after the loop.
+/// around: what the body may change is unknown, where it has a term. First the body once, second what
+/// comes after the loop.
 pub(crate) fn around<'a>(
     alloc: Global,
     calls: &Calls,
@@ -93,13 +97,30 @@ pub(crate) fn around<'a>(
         return Ok(None);
     };
     let changes = calls.assigned(alloc, l.body)?;
-    if changes.as_slice().len() >= 1024 {
+    let unknown = listed_of(alloc, state.vars(), changes.as_slice())?;
+    if unknown.len() >= 1024 {
         return Ok(None);
     }
-    state.set_fresh(changes.as_slice())?;
+    state.set_fresh(&unknown)?;
     let once = body_once(alloc, state.copy(alloc)?, &l)?;
     let after = after_loop(alloc, state, todo, &l)?;
     Ok(Some(Children::Two(once, after)))
+}
+
+/// Those of the variables that have a term, in the same order. An `Err` means out of memory.
+fn listed_of(alloc: Global, vars: &[(Var, Term)], xs: &[Var]) -> Result<Vec<Var>, AllocError>
+    ensures { IfOk result (λ listed. listed.items ≡ filter (is_listed vars.now) xs.now) }
+{
+    let mut listed = Vec::from_slice(alloc, xs)?;
+    listed.retain(|x| is_listed(vars, *x));
+    Ok(listed)
+}
+
+/// Whether the variable has a term.
+fn is_listed(vars: &[(Var, Term)], x: Var) -> bool
+    ensures { result ≡ list_any (λ v. same_var v.0 x) vars.now }
+{
+    vars.iter().any(|v| v.0.is_same(x))
 }
 
 /// The body once, from the invariant alone and where the test is true. An `Err` means out of memory.

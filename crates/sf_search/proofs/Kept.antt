@@ -9,7 +9,6 @@ use Rattle.std.specs.Prelude.{set}
 use Rattle.sf_base.proofs.Options.{option_map-some}
 use Rattle.sf_base.specs.declared.ids.FieldId.{FieldId}
 use Rattle.sf_base.specs.declared.ids.Var.{Var}
-use Rattle.sf_calls.specs.Changes.{changes_in}
 use Rattle.sf_consume.specs.Subtract.{apart_step, bind_step, binding, both, cell_step, empty_step, equality, exact_step, exact_there, first_by, first_fit, Fit, fit_fields, fitting, handed_cell, head_step, head_there, inequality, is_same_shape, join_step, join_there, joined, link, list_from, node_step, node_there, removed, removed_if, same_step, Step, subtracted, tree_from, Want, wanted_cell, wanted_ends, wanted_list, wanted_shape, wanted_tree}
 use Rattle.sf_consume.specs.declared.wanted.WantedList.{WantedList}
 use Rattle.sf_consume.specs.Wants.{wanting}
@@ -20,7 +19,7 @@ use Rattle.sf_rules.specs.Rows.Calls.{called, call_row, forked, fork_row, give_r
 use Rattle.sf_rules.specs.Rows.Commands.{assign_row, dispose_row, looked, look_row, mutate_row, with_var}
 use Rattle.sf_rules.specs.Rows.Front.{at_command, at_again, at_exit, at_gave, at_head, at_return, at_take}
 use Rattle.sf_rules.specs.Rows.Ends.{return_row}
-use Rattle.sf_rules.specs.Rows.Loops.{after_loop, again_row, around_row, body_once, loop_row}
+use Rattle.sf_rules.specs.Rows.Loops.{after_loop, again_row, around_row, body_once, loop_row, unknown_in}
 use Rattle.sf_rules.specs.Rows.Regions.{entered, enter_row, exit_row}
 use Rattle.sf_rules.specs.Rows.Take.{subtract_row}
 use Rattle.sf_rules.specs.Rows.Whole.{row, row_of}
@@ -241,7 +240,7 @@ module _ (d : Setting) (s : State) (left : List Goal) where
 
   around-kept : (todo : List Item) → at_head (around_row d s) todo ≡ Some left → Kept s left
   around-kept (head p test invariant body ∷ rest) e =
-      let now = with_fresh (changes_in d.sets body) s in (
+      let now = with_fresh (unknown_in d s body) s in (
         body_once d now p test invariant body,
         after_loop d now p test invariant rest ∷ [],
         sym (same_Some (body_once d now p test invariant body ∷ after_loop d now p test invariant rest ∷ []) left

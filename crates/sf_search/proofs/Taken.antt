@@ -1,10 +1,11 @@
 -- A tag that the strategy takes has a row: by what is in front.
 -- Names: `good-LAW` of choices whose tag has a row, `LAW-some` of rows that are there.
-use Rattle.std.proofs.Common.{◌≡◌, ℕ, suc, ◌+◌, ◌<◌, Bool, true, false, ◌||◌, not, cond, Option, Some, None, List, [], ◌∷◌, ◌++◌, is_some, length, refl, sym, ap, ap₂, ◌∙◌, subst, inl, inr, length-append}
+use Rattle.std.proofs.Common.{◌≡◌, ℕ, suc, ◌+◌, ◌<◌, Bool, true, false, ◌||◌, not, cond, Option, Some, None, List, [], ◌∷◌, ◌++◌, is_some, length, refl, sym, ap, ap₂, ◌∙◌, subst, arith, inl, inr, length-append}
 use Rattle.std.proofs.lemmas.Bool.Decides.{Decides-eqb, Decides-int_eq}
 use Rattle.std.proofs.lemmas.Bool.{lt-ltb}
 use Rattle.std.proofs.lemmas.Option.{same_Some}
-use Rattle.std.specs.List.{slice_get}
+use Rattle.std.proofs.lemmas.List.Sums.{count_by-le-length, length-filter}
+use Rattle.std.specs.List.{filter, slice_get}
 use Rattle.std.specs.Option.{option_and_then, option_map}
 use Rattle.sf_base.specs.declared.ids.FieldId.{FieldId}
 use Rattle.sf_base.specs.declared.ids.ResId.{ResId}
@@ -26,6 +27,7 @@ use Rattle.sf_rules.specs.Few.{if_few}
 use Rattle.sf_produce.specs.Add.{operands}
 use Rattle.sf_rules.specs.Rows.Calls.{called, forked}
 use Rattle.sf_rules.specs.Rows.Commands.{looked}
+use Rattle.sf_rules.specs.Rows.Loops.{unknown_in}
 use Rattle.sf_rules.specs.Rows.Regions.{entered, variables_from}
 use Rattle.sf_rules.specs.Rows.Take.{subtract_row}
 use Rattle.sf_rules.specs.Rows.Whole.{row, row_of}
@@ -50,6 +52,7 @@ use Rattle.sf_sym.specs.declared.term.Term.TheVariants.{Nil, Int, Sym}
 use Rattle.sf_sym.specs.Fields.{field_term}
 use Rattle.sf_sym.specs.Goal.{Goal, Item, run, add, take, gave, head, again, exit, return, end, one_goal}
 use Rattle.sf_sym.specs.Pending.{Pending}
+use Rattle.sf_sym.specs.Ready.{is_listed}
 use Rattle.sf_sym.specs.State.{State, term, term_at}
 use Rattle.sf_sym.specs.Tests.{allocated, differs, is_absurd, is_constant, same_term}
 use Rattle.sf_sym.specs.Variables.{fresh_for}
@@ -532,7 +535,10 @@ good-items d s (take p want names ∷ rest) shape nothing =
     good-want d s rest p names want.bindings want.conjuncts shape nothing
 good-items d s (gave p set removed ∷ rest) shape nothing = refl
 good-items d s (head p test invariant body ∷ rest) shape nothing =
-    few-some (length (changes_in d.sets body)) _ shape.front refl
+    few-some (length (unknown_in d s body)) _ (few (is_listed s.vars) (changes_in d.sets body) shape.front) refl
+  where
+    few : (p : Var → Bool) (xs : List Var) → length xs < 1024 → length (filter p xs) < 1024
+    few p xs l = omega (arith, l, length-filter p xs, count_by-le-length p xs)
 good-items d s (again p invariant ∷ rest) shape nothing = refl
 good-items d s (exit p r ∷ rest) shape nothing =
     there _ (slice_get d.program.resources r.0) shape.front (λ of. refl)

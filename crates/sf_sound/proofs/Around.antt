@@ -1,11 +1,13 @@
 -- What a goal at the head of a loop claims: given the invariant back, the loop runs for any number of events.
 -- Names: `around-claims`. The one induction on the number of events is here.
-use Rattle.std.specs.List.{AllByRecursion}
+use Rattle.std.specs.List.{AllByRecursion, filter}
 use Rattle.std.specs.Prelude.{◌⊎◌, is_some, not, Contains}
 use Rattle.std.specs.Option.{unwrap_or}
-use Rattle.std.proofs.Common.{◌≡◌, ℕ, zero, suc, true, ◌&&◌, List, [], ◌∷◌, ◌++◌, refl, sym, ap, ◌∙◌, subst, subst₂, inl, inr, arith}
+use Rattle.std.proofs.Common.{◌≡◌, ℕ, zero, suc, Bool, true, false, ◌&&◌, List, [], ◌∷◌, ◌++◌, refl, sym, ap, ◌∙◌, subst, subst₂, inl, inr, arith}
+use Rattle.sf_base.proofs.Elements.{contains-cons, contains-cons_if_first, contains-cons_if_rest, contains-nil}
 use Rattle.sf_base.proofs.HeapSplits.{star-drop_right, star-of}
 use Rattle.sf_base.proofs.MapSplits.{empty-holds, empty_map, splits-comm, splits-empty_left, splits-empty_right, splits-of_empty_right}
+use Rattle.sf_base.proofs.Options.{is_some-false}
 use Rattle.sf_base.specs.declared.ids.Var.{Var}
 use Rattle.sf_base.specs.declared.place.Place.{Place}
 use Rattle.sf_base.specs.declared.value.Value.{Value}
@@ -19,7 +21,7 @@ use Rattle.sf_core.specs.declared.command.Expr.{Expr}
 use Rattle.sf_core.specs.declared.command.Expr.TheVariants.{Nil as ENil}
 use Rattle.sf_core.specs.Machine.Config.{Item as Step, command, items}
 use Rattle.sf_core.specs.Program.Syntax.{Assertion, Block, while}
-use Rattle.sf_rules.specs.Rows.Loops.{after_loop, body_once}
+use Rattle.sf_rules.specs.Rows.Loops.{after_loop, body_once, unknown_in}
 use Rattle.sf_rules.specs.Setting.{Setting}
 use Rattle.sf_rules.specs.Words.{negation, pending_assertion, to_add, to_add_test}
 use Rattle.sf_safe.specs.Lemmas.{Beside, local-append, local-frame}
@@ -41,8 +43,18 @@ use Rattle.sf_sym.specs.Goal.{Item, head, again, Goal, to_run}
 use Rattle.sf_sym.specs.Holds.{AddsHold, Agrees, Differ}
 use Rattle.sf_sym.specs.HoldsIn.{HoldsIn}
 use Rattle.sf_sym.specs.Lemmas.Below.{below-more, items-weaker}
+use Rattle.sf_sym.specs.Ready.{is_listed}
 use Rattle.sf_sym.specs.State.{State, term}
 use Rattle.sf_sym.specs.Variables.{with_fresh}
+
+-- what passes a test is among those that do
+filter-contains : {X : Type 0} (p : X → Bool) (xs : List X) (x : X) → Contains xs x → p x ≡ true
+    → Contains (filter p xs) x
+filter-contains p [] x c e = absurd (contains-nil x c)
+filter-contains p (y ∷ ys) x c e = elim ((contains-cons y ys x).0 c) [
+  | inl same ↦ contains-cons_if_first (p y) y x (filter p ys) (ap p same ∙ e) same
+  | inr i ↦ contains-cons_if_rest (p y) y x (filter p ys) (filter-contains p ys x i e)
+]
 
 -- just these cells, beside whatever else a frame has
 abbrev only_cells : Heap → Local
@@ -57,8 +69,12 @@ module _ (d : Setting) (s : State) (q : Place) (t : Test Expr) (invariant : Asse
     abbrev changes : List Var
     changes = changes_in d.sets body
 
+    -- those that have a term, which get fresh symbols
+    abbrev unknown : List Var
+    unknown = unknown_in d s body
+
     abbrev now : State
-    now = with_fresh changes s
+    now = with_fresh unknown s
 
     abbrev to : Expr → Term
     to = term now.vars
@@ -69,12 +85,12 @@ module _ (d : Setting) (s : State) (q : Place) (t : Test Expr) (invariant : Asse
     module _ (once : Claim d (body_once d now q t invariant body)) (after : Claim d
         (after_loop d now q t invariant rest))
         (D : Domain) (u : Suits d D goal) (w : ℕ → Value) (l : Local) (taken : Heap)
-        (h : HoldsIn w goal l.values l.cells taken) where
+        (has : HasDomain D l) (h : HoldsIn w goal l.values l.cells taken) where
       abbrev V : Var → Type 0
       V x = D.has x ≡ true
 
       fresh : StateSuits d D now
-      fresh = state-fresh d D D s changes (state-of d D goal u) (λ x e. inl e)
+      fresh = state-fresh d D D s unknown (state-of d D goal u) (λ x e. inl e)
 
       form : IsBody rest
       form = elim u.form [ inl f ↦ absurd f.0 | inr f ↦ f ]
@@ -125,14 +141,25 @@ module _ (d : Setting) (s : State) (q : Place) (t : Test Expr) (invariant : Asse
         holds : Satisfies invariant (with_cells part m)
 
       module _ (m : Local) (at : AtHead m) where
+        -- what isn't made unknown has its value still: of the frame's variables the body doesn't change it, and the
+        -- frame has no others
+        stays : (x : Var) → (Contains unknown x → ⊥) → m.values x ≡ l.values x
+        stays x out = go (D.has x) refl
+          where
+            go : (b : Bool) → D.has x ≡ b → m.values x ≡ l.values x
+            go true e = at.same x (λ c. out (filter-contains (is_listed s.vars) changes x c (u.listed x e)))
+            go false e =
+                is_some-false (m.values x) (at.domain.variables x ∙ e)
+                ∙ sym (is_some-false (l.values x) (has.variables x ∙ e))
+
         abbrev v : ℕ → Value
-        v = renewed s goal.todo u.below u.order changes w l m l.cells taken h at.same
+        v = renewed s goal.todo u.below u.order unknown w l m l.cells taken h stays
 
         vars : AllByRecursion (Agrees v m.values) now.vars
-        vars = renewed-vars s goal.todo u.below u.order changes w l m l.cells taken h at.same
+        vars = renewed-vars s goal.todo u.below u.order unknown w l m l.cells taken h stays
 
         apart : AllByRecursion (Differ v) s.apart
-        apart = renewed-apart s goal.todo u.below u.order changes w l m l.cells taken h at.same
+        apart = renewed-apart s goal.todo u.below u.order unknown w l m l.cells taken h stays
 
         values : HaveValues V v to (value_in m)
         values = terms-values d D now fresh v m at.domain vars
@@ -183,7 +210,7 @@ module _ (d : Setting) (s : State) (q : Place) (t : Test Expr) (invariant : Asse
               apart = apart;
               disjoint = (splits-empty_right {map = m.cells} empty-holds).apart;
               there = star-of (splits-comm at.splits)
-                  (renewed-atoms s goal.todo u.below u.order changes w l m l.cells taken h at.same l.cells
+                  (renewed-atoms s goal.todo u.below u.order unknown w l m l.cells taken h stays l.cells
                   (star-drop_right h.there))
                   (assumed (negation ENil t) rest (negated t u.todo.0.0) true_ form);
               gone = empty-holds;
@@ -265,7 +292,7 @@ module _ (d : Setting) (s : State) (q : Place) (t : Test Expr) (invariant : Asse
     pub around-claims : Claim d (body_once d now q t invariant body) → Claim d (after_loop d now q t invariant rest)
         → Claim d goal
     around-claims once after n w D l taken u has h = λ part whole holds splits.
-        runs once after D u w l taken h n (with_cells whole l) (record {
+        runs once after D u w l taken has h n (with_cells whole l) (record {
           domain = record { variables = has.variables; tokens = has.tokens };
           same = λ x i. refl;
           part = part;

@@ -2,6 +2,7 @@
 -- Berdine, Calcagno, O'Hearn, "Smallfoot" (2005): an invariant is handed over, and taken up again by the body and by
 -- what comes after the loop.
 use Rattle.std.specs.Prelude.{Option, Some, None, List, [], ◌∷◌, ◌++◌, length}
+use Rattle.std.specs.List.{filter}
 use Rattle.sf_base.specs.declared.ids.Var.{Var}
 use Rattle.sf_base.specs.declared.place.Place.{Place}
 use Rattle.sf_core.specs.declared.assertion.Test.{Test}
@@ -14,6 +15,7 @@ use Rattle.sf_calls.specs.Changes.{changes_in}
 use Rattle.sf_rules.specs.Setting.{Setting}
 use Rattle.sf_rules.specs.Few.{if_few}
 use Rattle.sf_rules.specs.Words.{negation, to_add, to_add_test, to_take}
+use Rattle.sf_sym.specs.Ready.{is_listed}
 use Rattle.sf_sym.specs.Variables.{with_fresh}
 
 -- loop: the invariant is due, and then the loop begins
@@ -38,17 +40,24 @@ after_loop d s p t invariant rest = record {
       ++ (to_add_test p (term s.vars) (negation ENil t) ++ rest);
 }
 
--- around: what the body may change is unknown. First the body once, second what comes after the loop
-abbrev pub around_with : Setting → (changes : List Var) → State → Place → Test Expr → (invariant : Assertion) → Block
-    → List Item → Option (List Goal)
-around_with d changes s p t invariant body rest =
-    let now = with_fresh changes s in
-    if_few (length changes)
+-- the variables that a loop's body leaves unknown in that state, in order of number: of those that
+-- it may change the ones that have a term there. A variable that is in reach only inside a region of
+-- the body has none
+abbrev pub unknown_in : Setting → State → Block → List Var
+unknown_in d s body = filter (is_listed s.vars) (changes_in d.sets body)
+
+-- around: these variables are unknown. First the body once, second what comes after the loop
+abbrev pub around_with : Setting → (unknown : List Var) → State → Place → Test Expr
+    → (invariant : Assertion) → Block → List Item → Option (List Goal)
+around_with d unknown s p t invariant body rest =
+    let now = with_fresh unknown s in
+    if_few (length unknown)
     (Some (body_once d now p t invariant body ∷ after_loop d now p t invariant rest ∷ []))
 
-abbrev pub around_row : Setting → State → Place → Test Expr → (invariant : Assertion) → Block → List Item
-    → Option (List Goal)
-around_row d s p t invariant body rest = around_with d (changes_in d.sets body) s p t invariant body rest
+-- around: what the body leaves unknown gets fresh symbols
+abbrev pub around_row : Setting → State → Place → Test Expr → (invariant : Assertion) → Block
+    → List Item → Option (List Goal)
+around_row d s p t invariant body rest = around_with d (unknown_in d s body) s p t invariant body rest
 
 -- again: the invariant is due, and nothing may be left
 abbrev pub again_row : Setting → State → Place → (invariant : Assertion) → List Item → Option (List Goal)
