@@ -1,6 +1,6 @@
 -- A file has an answer: each layer has one of its own, and with them one of the cases of an answer is there.
 -- Names: some-*, what is found at each step of the way.
-use Rattle.std.proofs.Common.{◌≡◌, ◌⊎◌, ℕ, List, Option, Some, None, inl, inr, refl, sym, subst}
+use Rattle.std.proofs.Common.{◌≡◌, ◌⊎◌, ℕ, List, Option, Some, None, codes, inl, inr, refl, sym, subst}
 use Rattle.std.specs.List.{All}
 use Rattle.sf_ast.specs.Surface.{Item}
 use Rattle.sf_calls.specs.FirstBreach.{Conditions}
@@ -23,15 +23,21 @@ use Rattle.sf_search.specs.Judge.{Verdict, proof, fails, Judge}
 use Rattle.sf_search.specs.Laws.{ProgramsHaveVerdicts}
 use Rattle.sf_vars.specs.Laws.{EachProgramHasAnAnswer}
 use Rattle.sf_cli.proofs.Accepted.{accepted-formed}
-use Rattle.sf_cli.specs.Answer.{Answer, FileAnswer, OrderAnswer, ProgramAnswer, admitted, cause_text, refused}
+use Rattle.sf_check.specs.Laws.{ProvesOrRefused}
+use Rattle.sf_proof.specs.declared.lined.Lined.{Lined}
+use Rattle.sf_proof.specs.Laws.{EachTextReadsOnce}
+use Rattle.sf_proof.specs.Reading.{IsLined}
+use Rattle.sf_cli.specs.Answer.{Answer, FileAnswer, Names, OrderAnswer, ProgramAnswer, RecheckAnswer, admitted, cause_text, file_refused, rechecked, refused}
 use Rattle.sf_cli.specs.declared.refusal.Refusal.{Refusal}
 use Rattle.sf_cli.specs.declared.refusal.Refusal.TheVariants.{At}
 use Rattle.sf_cli.specs.declared.refusal.RefusalKind.TheVariants.{Undetermined}
 use Rattle.sf_cli.specs.FileFault.{FileFault, in_grammar, in_names, in_order, in_tokens, in_variables, unfit, unread}
-use Rattle.sf_cli.specs.Laws.{EachCommandHasAnAnswer, EachFileHasAnAnswer}
+use Rattle.sf_cli.specs.Laws.{EachCommandHasAnAnswer, EachFileHasAnAnswer, EachProofHasAnAnswer}
 use Rattle.sf_cli.specs.Reads.{Reads}
 use Rattle.sf_cli.specs.Refusals.{of_grammar, of_names, of_tokens, of_variables, refusal_text}
-use Rattle.sf_cli.specs.Words.{Text, Order, verify, order_of, usage_text}
+use Rattle.sf_cli.specs.Rechecked.{ProofAnswer, accepted, in_tags, in_text, rejected}
+use Rattle.sf_cli.specs.Rejections.{of_tags, of_text, rejection_text}
+use Rattle.sf_cli.specs.Words.{Text, Order, order_of, recheck, usage_text, verify}
 
 -- what the layers below say: that each has an answer, and that what is read is in order
 pub record Answers : Type 0 where
@@ -106,13 +112,73 @@ some-answer l bytes = elim ((l.tokens bytes).some) [
   | inr e ↦ some-refusal bytes (of_tokens e.0) (unread (in_tokens e.0 e.1 refl))
 ]
 
--- so has a command, where the file that it names is there
-pub some-command : EachFileHasAnAnswer → EachCommandHasAnAnswer
-some-command each files words there = go (order_of words) refl
+-- what the layers below say of proofs
+pub record ProofAnswers : Type 0 where
+  pub shallow : EachFileIsShallow
+  pub formed : ElaboratedIsFormed
+  pub settings : SettingExists
+  pub texts : EachTextReadsOnce
+  pub refusals : ProvesOrRefused
+
+-- the text of a proof has an answer, where it reads as tags
+some-tags : ProofAnswers → (p : Program) (d : Setting) → IsSettingOf p d → (given : Text) (lined : Lined)
+    → IsLined p given lined → (text : Text) × (status : ℕ) × ProofAnswer p given text status
+unfolding ProvesOrRefused
+some-tags l p d own given lined reads = elim (l.refusals d lined.tags) [
+  | inl h ↦ (
+    codes "accepted\n",
+    0,
+    accepted (record { setting = d; own = own; lined = lined; reads = reads; proves = h }) refl refl,
+  )
+  | inr h ↦ (
+    rejection_text (of_tags lined.lines h.0 h.1),
+    4,
+    rejected (of_tags lined.lines h.0 h.1) (in_tags d lined h.0 h.1 own reads h.2 refl) refl refl,
+  )
+]
+
+-- the text of a proof has an answer
+pub some-proof : ProofAnswers → EachProofHasAnAnswer
+unfolding SettingExists EachTextReadsOnce
+some-proof l bytes p a given =
+    let own = l.settings p (accepted-formed l.shallow l.formed bytes p a.reads) in
+    elim ((l.texts p given).some) [
+      | inl h ↦ some-tags l p own.0 own.1 given h.0 h.1
+      | inr h ↦ (rejection_text (of_text h.0), 4, rejected (of_text h.0) (in_text h.0 h.1 refl) refl refl)
+    ]
+
+-- so has a file with it, where that is there
+some-recheck : EachProofHasAnAnswer → (files : Files) (bytes name given : Text) → files name ≡ Some given
+    → (text : Text) (status : ℕ) → FileAnswer bytes text status
+    → (said : Text) × (code : ℕ) × RecheckAnswer (Some files) bytes name said code
+some-recheck each files bytes name given there text status (refused r f t s) =
+    (refusal_text r, 3, file_refused r f refl refl)
+some-recheck each files bytes name given there text status (admitted p a k) =
+    let found = each bytes p a given in (found.0, found.1, rechecked p a (given, there, found.2))
+
+-- so has a command, where the files that it names are there
+pub some-command : EachFileHasAnAnswer → EachProofHasAnAnswer → EachCommandHasAnAnswer
+some-command each proofs files words there = go (order_of words) refl
   where
     go : (o : Option Order) → order_of words ≡ o → (text : Text) × (status : ℕ) × Answer files words text status
-    go None e = (usage_text, 2, subst (λ (o : Option Order). OrderAnswer files o usage_text 2) (sym e) (refl, refl))
-    go (Some (verify name)) e =
-        let found = there name e in
-        let a = each found.0 in
-        (a.0, a.1, subst (λ (o : Option Order). OrderAnswer files o a.0 a.1) (sym e) (found.0, found.1, a.2))
+    go None e = (
+      usage_text,
+      2,
+      subst (λ (o : Option Order). OrderAnswer (Some files) o usage_text 2) (sym e) (refl, refl),
+    )
+    go (Some (verify file)) e =
+        let found = there file (subst (λ (o : Option Order). Names o file) (sym e) refl) in
+        let a = each found.0 in (
+          a.0,
+          a.1,
+          subst (λ (o : Option Order). OrderAnswer (Some files) o a.0 a.1) (sym e) (found.0, found.1, a.2),
+        )
+    go (Some (recheck file name)) e =
+        let found = there file (subst (λ (o : Option Order). Names o file) (sym e) (inl refl)) in
+        let given = there name (subst (λ (o : Option Order). Names o name) (sym e) (inr refl)) in
+        let b = each found.0 in
+        let a = some-recheck proofs files found.0 name given.0 given.1 b.0 b.1 b.2 in (
+          a.0,
+          a.1,
+          subst (λ (o : Option Order). OrderAnswer (Some files) o a.0 a.1) (sym e) (found.0, found.1, a.2),
+        )

@@ -1,10 +1,11 @@
--- Laws that follow from another law alone, each under its function's name.
+-- Laws that follow from other laws of this crate alone, each under its function's name.
 use Rattle.sf_cli.proofs.AnAnswer.{some-command}
 use Rattle.sf_cli.proofs.OneAnswer.{answer-command}
-use Rattle.sf_cli.specs.Laws.{EachCommandHasAnAnswer, EachCommandHasOneAnswer, EachFileHasAnAnswer, EachFileHasOneAnswer}
+use Rattle.sf_cli.specs.Laws.{EachCommandHasAnAnswer, EachCommandHasOneAnswer, EachFileHasAnAnswer, EachFileHasOneAnswer, EachFileIsDecided, EachProofHasAnAnswer, EachProofHasOneAnswer}
 
-pub each_command_has_an_answer : EachFileHasAnAnswer → EachCommandHasAnAnswer
+pub each_command_has_an_answer : EachFileHasAnAnswer → EachProofHasAnAnswer → EachCommandHasAnAnswer
 each_command_has_an_answer = some-command
 
-pub each_command_has_one_answer : EachFileHasOneAnswer → EachCommandHasOneAnswer
+pub each_command_has_one_answer : EachFileIsDecided → EachFileHasOneAnswer → EachProofHasOneAnswer
+    → EachCommandHasOneAnswer
 each_command_has_one_answer = answer-command

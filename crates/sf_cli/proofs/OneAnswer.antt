@@ -1,5 +1,5 @@
 -- A file has at most one answer: its reading, its faults and the verdict are each determined, and no two of them meet.
--- Names: reads-*, fault-*, answer-*.
+-- Names: reads-*, fault-*, answer-*, proof-*.
 use Rattle.std.proofs.Common.{◌≡◌, ℕ, List, Option, Some, None, sym, ap, ◌∙◌, subst}
 use Rattle.std.proofs.lemmas.List.Elements.{All-contains}
 use Rattle.std.specs.List.{All}
@@ -24,15 +24,23 @@ use Rattle.sf_rules.specs.Setting.{Setting}
 use Rattle.sf_search.specs.Judge.{Judge, Verdict, proof, fails}
 use Rattle.sf_search.specs.Laws.{VerdictsAreUnique}
 use Rattle.sf_vars.specs.Laws.{EachProgramHasOneAnswer}
-use Rattle.sf_cli.specs.Answer.{VerdictAnswer, ProgramAnswer, OrderAnswer, FileAnswer, refused, admitted}
+use Rattle.sf_check.specs.Laws.{ProvesNotRefused, RefusedOnce}
+use Rattle.sf_check.specs.Refusal.{Refused}
+use Rattle.sf_io.specs.Shelf.{Files}
+use Rattle.sf_proof.specs.declared.lined.Lined.{Lined}
+use Rattle.sf_proof.specs.Laws.{EachTextReadsOnce}
+use Rattle.sf_cli.specs.Answer.{FileAnswer, OrderAnswer, ProgramAnswer, RecheckAnswer, VerdictAnswer, admitted, file_refused, rechecked, refused}
+use Rattle.sf_cli.specs.declared.rejection.Rejection.{Rejection}
 use Rattle.sf_cli.specs.declared.refusal.Refusal.{Refusal}
 use Rattle.sf_cli.specs.declared.refusal.Refusal.TheVariants.{At}
 use Rattle.sf_cli.specs.declared.refusal.RefusalKind.TheVariants.{Undetermined}
 use Rattle.sf_cli.specs.FileFault.{ReadFault, in_tokens, in_grammar, in_names, ProgramFault, in_variables, in_order, FileFault, unread, unfit, Admits}
-use Rattle.sf_cli.specs.Laws.{EachCommandHasOneAnswer, EachFileHasOneAnswer, EachFileIsOneProgram}
+use Rattle.sf_cli.specs.Laws.{EachCommandHasOneAnswer, EachFileHasOneAnswer, EachFileIsDecided, EachFileIsOneProgram, EachProofHasOneAnswer}
 use Rattle.sf_cli.specs.Reads.{Reads}
 use Rattle.sf_cli.specs.Refusals.{of_tokens, of_grammar, of_names, of_variables, refusal_text}
-use Rattle.sf_cli.specs.Words.{Text, Order, verify, order_of}
+use Rattle.sf_cli.specs.Rechecked.{IsProof, ProofAnswer, ProofFault, accepted, in_tags, in_text, rejected}
+use Rattle.sf_cli.specs.Rejections.{of_tags, of_text, rejection_text}
+use Rattle.sf_cli.specs.Words.{Text, Order, order_of, recheck, verify}
 
 -- what the layers below say of their own answers
 pub record Layers : Type 0 where
@@ -42,8 +50,19 @@ pub record Layers : Type 0 where
   pub names : EachTreeIsOne
   pub breaches : EachProgramHasOneAnswer
   pub orders : NeverTakenIsUndetermined
+
+-- what they say of verdicts
+pub record VerdictLayers : Type 0 where
+  pub files : EachFileIsDecided
   pub settings : SettingIsUnique
   pub verdicts : VerdictsAreUnique
+
+-- what the layers below say of proofs
+pub record ProofLayers : Type 0 where
+  pub settings : SettingIsUnique
+  pub texts : EachTextReadsOnce
+  pub refusals : RefusedOnce
+  pub apart : ProvesNotRefused
 
 -- the same tokens are the same tree
 reads-tree : EachFileIsOne → (bytes : Text) (ts us : List Token) (one two : List Item) → ts ≡ us → IsFile ts one → IsFile us two → one ≡ two
@@ -121,6 +140,14 @@ answer-fault l bytes r s (unfit p t h) (unread i) = absurd (reads-apart l bytes 
 answer-fault l bytes r s (unfit p t h) (unfit q u i) =
     fault-program l p r s h (subst (λ (z : Program). ProgramFault z s) (sym (reads-once l bytes p q t u)) i)
 
+-- so a file is one program with which nothing is wrong, or is refused for one cause, and not both
+pub answer-decided : Layers → EachFileIsDecided
+answer-decided l bytes = record {
+  programs = λ p q a b. reads-once l bytes p q a.reads b.reads;
+  causes = answer-fault l bytes;
+  apart = answer-apart l bytes;
+}
+
 -- one verdict is printed in one way
 answer-printed : (p : Program) (v w : Verdict) (text other : Text) (status code : ℕ) → v ≡ w → VerdictAnswer p v text status → VerdictAnswer p w other code → (text ≡ other) × (status ≡ code)
 answer-printed p v w text other status code e a b = go v (subst (λ (z : Verdict). VerdictAnswer p z other code) (sym e) b) a
@@ -130,7 +157,7 @@ answer-printed p v w text other status code e a b = go v (subst (λ (z : Verdict
     go (fails f why) y x = (x.0 ∙ sym y.0, x.1 ∙ sym y.1)
 
 -- a program has one answer
-answer-program : Layers → (p : Program) (text other : Text) (status code : ℕ) → ProgramAnswer p text status
+answer-program : VerdictLayers → (p : Program) (text other : Text) (status code : ℕ) → ProgramAnswer p text status
     → ProgramAnswer p other code → (text ≡ other) × (status ≡ code)
 unfolding SettingIsUnique VerdictsAreUnique
 answer-program l p text other status code a b =
@@ -140,19 +167,82 @@ answer-program l p text other status code a b =
     (subst (λ (d : Setting). Judge d b.verdict) (sym same) b.judged)) a.said b.said
 
 -- a file has one answer
-pub answer-once : Layers → EachFileHasOneAnswer
-answer-once l bytes text other status code (refused r f t s) (refused q g u v) = (t ∙ ap refusal_text (answer-fault l bytes r q f g) ∙ sym u, s ∙ sym v)
-answer-once l bytes text other status code (refused r f t s) (admitted p a k) = absurd (answer-apart l bytes p r a f)
-answer-once l bytes text other status code (admitted p a k) (refused r f t s) = absurd (answer-apart l bytes p r a f)
+pub answer-once : VerdictLayers → EachFileHasOneAnswer
+answer-once l bytes text other status code (refused r f t s) (refused q g u v) =
+    (t ∙ ap refusal_text ((l.files bytes).causes r q f g) ∙ sym u, s ∙ sym v)
+answer-once l bytes text other status code (refused r f t s) (admitted p a k) = absurd ((l.files bytes).apart p r a f)
+answer-once l bytes text other status code (admitted p a k) (refused r f t s) = absurd ((l.files bytes).apart p r a f)
 answer-once l bytes text other status code (admitted p a k) (admitted q b m) =
-    answer-program l p text other status code k (subst (λ (z : Program). ProgramAnswer z other code) (sym (reads-once l bytes p q a.reads b.reads)) m)
+    answer-program l p text other status code k
+    (subst (λ (z : Program). ProgramAnswer z other code) (sym ((l.files bytes).programs p q a b)) m)
+
+-- tags that are refused aren't a proof, whatever text they were read from
+proof-apart : ProofLayers → (p : Program) (given : Text) (r : Rejection) → IsProof p given → ProofFault p given r → ⊥
+unfolding EachTextReadsOnce SettingIsUnique ProvesNotRefused
+proof-apart l p given r i (in_text fault h k) = (l.texts p given).apart i.lined fault i.reads h
+proof-apart l p given r i (in_tags d lined number why own reads h k) =
+    let same : d ≡ i.setting = l.settings p d i.setting own i.own in
+    let read : lined ≡ i.lined = (l.texts p given).lined lined i.lined reads i.reads in
+    l.apart i.setting i.lined.tags number why i.proves
+    (subst (λ (z : Lined). Refused i.setting z.tags number why) read
+    (subst (λ (z : Setting). Refused z lined.tags number why) same h))
+
+-- the text of a proof is refused for one cause
+proof-fault : ProofLayers → (p : Program) (given : Text) (r s : Rejection) → ProofFault p given r
+    → ProofFault p given s → r ≡ s
+unfolding EachTextReadsOnce SettingIsUnique RefusedOnce
+proof-fault l p given r s (in_text e h k) (in_text f i m) =
+    k ∙ ap of_text ((l.texts p given).faults e f h i) ∙ sym m
+proof-fault l p given r s (in_text e h k) (in_tags d lined n why own reads i m) =
+    absurd ((l.texts p given).apart lined e reads h)
+proof-fault l p given r s (in_tags d lined n why own reads h k) (in_text e i m) =
+    absurd ((l.texts p given).apart lined e reads i)
+proof-fault l p given r s (in_tags d lined n why own reads h k) (in_tags c other m because its read i j) =
+    let same : c ≡ d = l.settings p c d its own in
+    let texts : other ≡ lined = (l.texts p given).lined other lined read reads in
+    let moved : Refused d lined.tags m because = subst (λ (z : Lined). Refused d z.tags m because) texts
+    (subst (λ (z : Setting). Refused z other.tags m because) same i) in
+    let one = l.refusals d lined.tags n m why because h moved in
+    k ∙ ap (λ (z : ℕ). of_tags lined.lines z why) one.0 ∙ ap (of_tags lined.lines m) one.1
+    ∙ sym (j ∙ ap (λ (z : Lined). of_tags z.lines m because) texts)
+
+-- the text of a proof has one answer
+pub proof-once : ProofLayers → EachProofHasOneAnswer
+proof-once l p given text other status code (accepted i t s) (accepted j u v) = (t ∙ sym u, s ∙ sym v)
+proof-once l p given text other status code (accepted i t s) (rejected r h u v) = absurd (proof-apart l p given r i h)
+proof-once l p given text other status code (rejected r h t s) (accepted i u v) = absurd (proof-apart l p given r i h)
+proof-once l p given text other status code (rejected r h t s) (rejected q i u v) =
+    (t ∙ ap rejection_text (proof-fault l p given r q h i) ∙ sym u, s ∙ sym v)
+
+-- so has what is said of it for a file's bytes, over the same files
+recheck-once : EachFileIsDecided → EachProofHasOneAnswer → (files : Files) (bytes name text other : Text) (status code : ℕ)
+    → RecheckAnswer (Some files) bytes name text status → RecheckAnswer (Some files) bytes name other code
+    → (text ≡ other) × (status ≡ code)
+recheck-once l one files bytes name text other status code (file_refused r f t s) (file_refused q g u v) =
+    (t ∙ ap refusal_text ((l bytes).causes r q f g) ∙ sym u, s ∙ sym v)
+recheck-once l one files bytes name text other status code (file_refused r f t s) (rechecked p a k) =
+    absurd ((l bytes).apart p r a f)
+recheck-once l one files bytes name text other status code (rechecked p a k) (file_refused r f t s) =
+    absurd ((l bytes).apart p r a f)
+recheck-once l one files bytes name text other status code (rechecked p a (given, may, k))
+    (rechecked q b (found, has, m)) =
+    let same : found ≡ given = some-once (files name) found given has may in
+    let program : q ≡ p = (l bytes).programs q p b a in
+    one p given text other status code k
+    (subst (λ (z : Program). ProofAnswer z given other code) program
+    (subst (λ (z : Text). ProofAnswer q z other code) same m))
 
 -- a command has one answer over the same files
-pub answer-command : EachFileHasOneAnswer → EachCommandHasOneAnswer
-answer-command one files words text other status code a b = go (order_of words) a b
+pub answer-command : EachFileIsDecided → EachFileHasOneAnswer → EachProofHasOneAnswer → EachCommandHasOneAnswer
+answer-command l one proofs files words text other status code a b = go (order_of words) a b
   where
-    go : (o : Option Order) → OrderAnswer files o text status → OrderAnswer files o other code → (text ≡ other) × (status ≡ code)
+    go : (o : Option Order) → OrderAnswer (Some files) o text status → OrderAnswer (Some files) o other code
+        → (text ≡ other) × (status ≡ code)
     go None x y = (x.0 ∙ sym y.0, x.1 ∙ sym y.1)
-    go (Some (verify name)) x y =
-        let same : x.0 ≡ y.0 = some-once (files name) x.0 y.0 x.1 y.1 in
-        one x.0 text other status code x.2 (subst (λ (z : Text). FileAnswer z other code) (sym same) y.2)
+    go (Some (verify file)) (bytes, may, x) (found, has, y) =
+        let same : found ≡ bytes = some-once (files file) found bytes has may in
+        one bytes text other status code x (subst (λ (z : Text). FileAnswer z other code) same y)
+    go (Some (recheck file name)) (bytes, may, x) (found, has, y) =
+        let same : found ≡ bytes = some-once (files file) found bytes has may in
+        recheck-once l proofs files bytes name text other status code x
+        (subst (λ (z : Text). RecheckAnswer (Some files) z name other code) same y)

@@ -30,6 +30,12 @@ use Rattle.sf_precise.specs.Taken.{IfUndetermined}
 use Rattle.sf_vars.specs.declared.fault.VarFault.{VarFault}
 use Rattle.sf_vars.specs.declared.fault.VarFault.TheVariants as v
 use Rattle.sf_vars.specs.Faults.{IsFirstFault}
+use Rattle.sf_proof.specs.declared.fault.ProofFault.{ProofFault as TextFault}
+use Rattle.sf_proof.specs.declared.fault.ProofFault.TheVariants as f
+use Rattle.sf_proof.specs.Reading.{IsFault as IsTextFault}
+use Rattle.sf_cli.specs.declared.rejection.Rejection.TheVariants.{OutOfMemory as Unknown}
+use Rattle.sf_cli.specs.Rechecked.{ProofFault, in_text}
+use Rattle.sf_cli.specs.Rejections.{of_text}
 use Rattle.sf_cli.specs.declared.refusal.Refusal.{Refusal}
 use Rattle.sf_cli.specs.declared.refusal.Refusal.TheVariants.{OutOfMemory}
 use Rattle.sf_cli.specs.FileFault.{ReadFault, in_tokens, in_grammar, in_names, ProgramFault, in_variables, in_order}
@@ -37,7 +43,8 @@ use Rattle.sf_cli.specs.Refusals.{of_tokens, of_grammar, of_names, of_variables,
 use Rattle.sf_cli.specs.Words.{Text}
 
 -- an answer that is that refusal
-pub refused-by : {X : Type 0} (r : Result X Refusal) (P : Refusal → Type 0) (s : Refusal) → IsErrAnd r (λ e. e ≡ s) → (s ≢ OutOfMemory → P s) → IfErr r (λ e. e ≢ OutOfMemory → P e)
+pub refused-by : {X E : Type 0} {none : E} (r : Result X E) (P : E → Type 0) (s : E) → IsErrAnd r (λ e. e ≡ s)
+    → (s ≢ none → P s) → IfErr r (λ e. e ≢ none → P e)
 refused-by (Ok x) P s h f = tt
 refused-by (Err e) P s h f = λ m. subst P (sym h) (f (λ z. m (h ∙ z)))
 
@@ -78,3 +85,9 @@ determined-all law [] [] h = All-nil (λ a. Determined a.level)
 determined-all law [] (u ∷ us) h = absurd h
 determined-all law (a ∷ rest) [] h = absurd h
 determined-all law (a ∷ rest) (u ∷ us) h = All-cons (λ x. Determined x.level) a rest (law a.level u.level h.0.level).0 (determined-all law rest us h.1)
+
+-- the text of a proof, for a fault of the text
+pub refused-text : (p : Program) (proof : Text) (e : TextFault) → (e ≡ f.OutOfMemory) ⊎ IsTextFault p proof e
+    → of_text e ≢ Unknown → ProofFault p proof (of_text e)
+refused-text p proof e (inl m) k = absurd (k (ap of_text m))
+refused-text p proof e (inr h) k = in_text e h refl

@@ -18,7 +18,8 @@ use Rattle.sf_core.specs.Program.Named.{name_of}
 use Rattle.sf_proof.specs.ProofText.{proof_text}
 use Rattle.sf_safe.specs.Law.{IsSound}
 use Rattle.sf_cli.specs.declared.refusal.Refusal.{Refusal}
-use Rattle.sf_cli.specs.Words.{Text, Order, verify, order_of, usage_text}
+use Rattle.sf_cli.specs.Rechecked.{ProofAnswer}
+use Rattle.sf_cli.specs.Words.{Text, Order, recheck, verify, order_of, usage_text}
 
 -- why a search is stuck, as it is printed
 abbrev pub printed : Kind → Stuck
@@ -56,60 +57,99 @@ pub data FileAnswer (bytes text : Text) (status : ℕ) : Type 0 where
       → FileAnswer bytes text status
   admitted : (p : Program) → Admits bytes p → ProgramAnswer p text status → FileAnswer bytes text status
 
--- the answer to a command, where the file that it names is there
-abbrev pub OrderAnswer : Files → Option Order → Text → (status : ℕ) → Type 0
-OrderAnswer files None text status = (text ≡ usage_text) × (status ≡ 2)
-OrderAnswer files (Some (verify name)) text status =
-    (bytes : Text) × (files name ≡ Some bytes) × FileAnswer bytes text status
+-- the file of that name may have these bytes: where the shelf tells its files it has just them, and else any
+abbrev pub MayHave : Option Files → (name bytes : Text) → Type 0
+MayHave None name bytes = Unit {0}
+MayHave (Some files) name bytes = files name ≡ Some bytes
+
+-- the answer to the text of a proof that has this name, for a program with which nothing is wrong
+abbrev pub ProofFileAnswer : Option Files → Program → (proof_name : Text) → Text → (status : ℕ) → Type 0
+ProofFileAnswer told p proof_name text status = (given : Text) × MayHave told proof_name given × ProofAnswer p given text status
+
+-- the same for a program's file of these bytes: the file is refused, or it is the answer to that text
+pub data RecheckAnswer (told : Option Files) (bytes proof_name text : Text) (status : ℕ) : Type 0 where
+  file_refused : (r : Refusal) → FileFault bytes r → text ≡ refusal_text r → status ≡ 3
+      → RecheckAnswer told bytes proof_name text status
+  rechecked : (p : Program) → Admits bytes p → ProofFileAnswer told p proof_name text status
+      → RecheckAnswer told bytes proof_name text status
+
+-- the file of the program
+abbrev pub program_file : Order → Text
+program_file (verify file) = file
+program_file (recheck file proof_name) = file
+
+-- the answer to an order, for a program's file of these bytes
+abbrev pub AnswerFor : Option Files → Order → (bytes : Text) → Text → (status : ℕ) → Type 0
+AnswerFor told (verify file) bytes text status = FileAnswer bytes text status
+AnswerFor told (recheck file proof_name) bytes text status = RecheckAnswer told bytes proof_name text status
+
+-- the answer to an order, or to words that are none, where the files that it names are there
+abbrev pub OrderAnswer : Option Files → Option Order → Text → (status : ℕ) → Type 0
+OrderAnswer told None text status = (text ≡ usage_text) × (status ≡ 2)
+OrderAnswer told (Some order) text status =
+    (bytes : Text) × MayHave told (program_file order) bytes × AnswerFor told order bytes text status
+
+-- the answer over the files of a shelf
+abbrev pub Answers : Option Files → (words : List Text) → Text → (status : ℕ) → Type 0
+Answers told words text status = OrderAnswer told (order_of words) text status
 
 -- Answer: that text and that status are the answer to those words over those files
 abbrev pub Answer : Files → (words : List Text) → Text → (status : ℕ) → Type 0
-Answer files words text status = OrderAnswer files (order_of words) text status
+Answer files words text status = Answers (Some files) words text status
 
--- the words name that file
-abbrev pub NamesFile : List Text → Text → Type 0
-NamesFile words name = order_of words ≡ Some (verify name)
+-- the order names that file
+abbrev pub Names : Option Order → Text → Type 0
+Names None name = ⊥
+Names (Some (verify file)) name = name ≡ file
+Names (Some (recheck file proof_name)) name = (name ≡ file) ⊎ (name ≡ proof_name)
+
+-- the order names that file as the program's
+abbrev pub NamesProgram : Option Order → Text → Type 0
+NamesProgram None name = ⊥
+NamesProgram (Some order) name = name ≡ program_file order
+
+-- these bytes are those of a program with which nothing is wrong
+abbrev pub AreAdmitted : (bytes : Text) → Type 0
+AreAdmitted bytes = (p : Program) × Admits bytes p
+
+-- the file of that name may be that of a program with which nothing is wrong
+abbrev pub MayBeAdmitted : Option Files → (name : Text) → Type 0
+MayBeAdmitted told name = (bytes : Text) × MayHave told name bytes × AreAdmitted bytes
+
+-- the work comes to that file: it is the program's, or a proof's of a program with which nothing is wrong
+abbrev pub Reaches : Option Files → Option Order → Text → Type 0
+Reaches told None name = ⊥
+Reaches told (Some (verify file)) name = name ≡ file
+Reaches told (Some (recheck file proof_name)) name = (name ≡ file) ⊎ ((name ≡ proof_name) × MayBeAdmitted told file)
 
 -- what is said of a file that can't be read
 abbrev pub read_fault_text : Text → Text
 read_fault_text name = codes "read fault: " ++ name ++ codes "\n"
 
--- the files may be these: where the shelf tells its files they are just those, and else any
-abbrev pub MayBe : Option Files → Files → Type 0
-MayBe None files = Unit {0}
-MayBe (Some told) files = files ≡ told
-
--- the answer over the files of a shelf
-abbrev pub Answers : Option Files → (words : List Text) → Text → (status : ℕ) → Type 0
-Answers told words text status = (files : Files) × MayBe told files × Answer files words text status
-
--- the answer to that file's bytes, over the files of a shelf
-abbrev pub AnswersFile : Option Files → (name : Text) → Text → (status : ℕ) → Type 0
-AnswersFile told name text status =
-    (files : Files) × MayBe told files × (bytes : Text) × (files name ≡ Some bytes) × FileAnswer bytes text status
-
--- the words name a file of that name, its count of faults increased, and the text says so
-pub record Unread (before after : Text → ℕ) (words : List Text) (text : Text) : Type 0 where
+-- the work came to a file of that name, its count of faults increased, and the text says so
+pub record Unread (told : Option Files) (before after : Text → ℕ) (order : Option Order) (text : Text) : Type 0 where
   pub name : Text
-  pub named : NamesFile words name
+  pub reached : Reaches told order name
   pub increased : Increased (before name) (after name)
   pub text_is : text ≡ read_fault_text name
 
--- what the command may say: an answer with its status, or that its file can't be read
-pub data Reply (told : Option Files) (before after : Text → ℕ) (words : List Text) (text : Text) (status : ℕ)
+-- what the command may say: an answer with its status, or that a file can't be read
+pub data Reply (told : Option Files) (before after : Text → ℕ) (order : Option Order) (text : Text) (status : ℕ)
     : Type 0 where
-  answer : status < 7 → Answers told words text status → Reply told before after words text status
-  unread : status ≡ 7 → Unread before after words text → Reply told before after words text status
+  answer : status < 7 → OrderAnswer told order text status → Reply told before after order text status
+  unread : status ≡ 7 → Unread told before after order text → Reply told before after order text status
 
 -- a prefix of something that the command may say was written
-abbrev pub WroteReplyPrefix : Option Files → (before after : Text → ℕ) → List Text → (old new : Option Text) → Type 0
-WroteReplyPrefix told before after words old new =
-    (text : Text) × (status : ℕ) × Reply told before after words text status × WrotePrefix old new text
+abbrev pub WroteReplyPrefix : Option Files → (before after : Text → ℕ) → Option Order → (old new : Option Text)
+    → Type 0
+WroteReplyPrefix told before after order old new =
+    (text : Text) × (status : ℕ) × Reply told before after order text status × WrotePrefix old new text
 
 -- nothing was written, or a prefix of something that the command may say
-abbrev pub WroteNothingOrPrefix : Option Files → (before after : Text → ℕ) → List Text → (old new : Option Text) → Type 0
-WroteNothingOrPrefix told before after words old new =
-    (new ≡ old) ⊎ WroteReplyPrefix told before after words old new
+abbrev pub WroteNothingOrPrefix : Option Files → (before after : Text → ℕ) → Option Order
+    → (old new : Option Text) → Type 0
+WroteNothingOrPrefix told before after order old new =
+    (new ≡ old) ⊎ WroteReplyPrefix told before after order old new
 
 -- these bytes are those of a program that is sound
 pub record AcceptedBytes (bytes : Text) : Type 0 where
@@ -117,13 +157,12 @@ pub record AcceptedBytes (bytes : Text) : Type 0 where
   pub admits : Admits bytes program
   pub sound : IsSound program
 
--- the words name a file that is there, its answer has status 0 and is that text, and the program that it reads as is sound
+-- the words are an order whose program's file is there, its answer has status 0 and is that text, and the program that
+-- the file reads as is sound
 pub record Accepted (told : Option Files) (words : List Text) (text : Text) : Type 0 where
-  pub files : Files
-  pub may_be : MayBe told files
-  pub name : Text
-  pub named : NamesFile words name
+  pub order : Order
+  pub are : order_of words ≡ Some order
   pub bytes : Text
-  pub there : files name ≡ Some bytes
-  pub answer : FileAnswer bytes text 0
+  pub may_have : MayHave told (program_file order) bytes
+  pub answer : AnswerFor told order bytes text 0
   pub accepted : AcceptedBytes bytes

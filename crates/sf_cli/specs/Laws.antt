@@ -3,13 +3,25 @@
 use Rattle.std.specs.Prelude.{◌≡◌, ℕ, List, Some}
 use Rattle.sf_core.specs.Program.Syntax.{Program}
 use Rattle.sf_io.specs.Shelf.{Files}
-use Rattle.sf_cli.specs.Answer.{AcceptedBytes, Answer, FileAnswer, NamesFile}
+use Rattle.sf_cli.specs.Answer.{AcceptedBytes, Answer, FileAnswer, Names}
+use Rattle.sf_cli.specs.FileFault.{Admits, FileFault}
+use Rattle.sf_cli.specs.declared.refusal.Refusal.{Refusal}
+use Rattle.sf_cli.specs.Rechecked.{ProofAnswer}
 use Rattle.sf_cli.specs.Reads.{Reads}
-use Rattle.sf_cli.specs.Words.{Text}
+use Rattle.sf_cli.specs.Words.{Text, order_of}
 
 -- bytes read as at most one program
 abbrev pub EachFileIsOneProgram : Type 0
 EachFileIsOneProgram = (bytes : Text) (p q : Program) → Reads bytes p → Reads bytes q → p ≡ q
+
+-- a file is one program with which nothing is wrong, or is refused for one cause, and not both
+pub record IsDecided (bytes : Text) : Type 0 where
+  pub programs : (p q : Program) → Admits bytes p → Admits bytes q → p ≡ q
+  pub causes : (r s : Refusal) → FileFault bytes r → FileFault bytes s → r ≡ s
+  pub apart : (p : Program) (r : Refusal) → Admits bytes p → FileFault bytes r → ⊥
+
+abbrev pub EachFileIsDecided : Type 0
+EachFileIsDecided = (bytes : Text) → IsDecided bytes
 
 -- a file has at most one answer
 abbrev pub EachFileHasOneAnswer : Type 0
@@ -21,19 +33,38 @@ EachFileHasOneAnswer =
 abbrev pub EachFileHasAnAnswer : Type 0
 EachFileHasAnAnswer = (bytes : Text) → (text : Text) × (status : ℕ) × FileAnswer bytes text status
 
+-- the text of a proof has at most one answer
+abbrev pub EachProofHasOneAnswer : Type 0
+EachProofHasOneAnswer =
+    (p : Program) (proof text other : Text) (status code : ℕ) → ProofAnswer p proof text status
+    → ProofAnswer p proof other code → (text ≡ other) × (status ≡ code)
+
+-- the text of a proof has an answer, for a file's program with which nothing is wrong
+abbrev pub EachProofHasAnAnswer : Type 0
+EachProofHasAnAnswer =
+    (bytes : Text) (p : Program) → Admits bytes p → (proof : Text)
+    → (text : Text) × (status : ℕ) × ProofAnswer p proof text status
+
 -- words have at most one answer over the same files
 abbrev pub EachCommandHasOneAnswer : Type 0
 EachCommandHasOneAnswer =
     (files : Files) (words : List Text) (text other : Text) (status code : ℕ)
     → Answer files words text status → Answer files words other code → (text ≡ other) × (status ≡ code)
 
--- words have an answer over files, where the file that they name is there
+-- words have an answer over files, where the files that they name are there
 abbrev pub EachCommandHasAnAnswer : Type 0
 EachCommandHasAnAnswer =
     (files : Files) (words : List Text)
-    → ((name : Text) → NamesFile words name → (bytes : Text) × (files name ≡ Some bytes))
+    → ((name : Text) → Names (order_of words) name → (bytes : Text) × (files name ≡ Some bytes))
     → (text : Text) × (status : ℕ) × Answer files words text status
 
 -- bytes whose answer has status 0, whichever they are, read as a program that is sound
 abbrev pub AcceptedFilesAreSound : Type 0
 AcceptedFilesAreSound = (bytes text : Text) → FileAnswer bytes text 0 → AcceptedBytes bytes
+
+-- a file for which the text of a proof is answered with status 0, whatever bytes that text is, is that of a program
+-- which is sound
+abbrev pub AcceptedProofsAreSound : Type 0
+AcceptedProofsAreSound =
+    (bytes : Text) (p : Program) → Admits bytes p → (proof text : Text) → ProofAnswer p proof text 0
+    → AcceptedBytes bytes

@@ -1,8 +1,10 @@
 pub mod Words
 pub mod WordsOf
 pub mod Refusals
+pub mod Rejections
 pub mod Reads
 pub mod FileFault
+pub mod Rechecked
 pub mod Answer
 pub mod Internal
 pub mod Laws

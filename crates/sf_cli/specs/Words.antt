@@ -10,6 +10,7 @@ Text = List ℕ
 -- a command with its words
 pub data Order : Type 0 where
   verify : (file : Text) → Order
+  recheck : (file proof : Text) → Order
 
 -- a word that may name a file: it isn't empty and doesn't begin with `-`
 abbrev pub names_a_file : Text → Bool
@@ -21,10 +22,17 @@ abbrev pub order_of_two : Text → Text → Option Order
 order_of_two command file =
     cond (bytes_eq command (codes "verify") && names_a_file file) (Some (verify file)) None
 
+-- three words: `recheck`, a file's name and that of the text of its proof
+abbrev pub order_of_three : Text → Text → Text → Option Order
+order_of_three command file proof =
+    cond (bytes_eq command (codes "recheck") && (names_a_file file && names_a_file proof))
+    (Some (recheck file proof)) None
+
 -- the command that the words are, if they are one
 abbrev pub order_of : List Text → Option Order
 order_of (command ∷ file ∷ []) = order_of_two command file
-order_of (command ∷ file ∷ word ∷ words) = None
+order_of (command ∷ file ∷ proof ∷ []) = order_of_three command file proof
+order_of (command ∷ file ∷ proof ∷ word ∷ words) = None
 order_of (command ∷ []) = None
 order_of [] = None
 

@@ -1,11 +1,14 @@
-//! Laws of answers. Each function is a law: calling it gives its fact to the caller's proof, and does nothing.
+//! Laws of answers. Each function is a law: calling it gives its fact to the caller's proof, and
+//! does nothing.
 
-ghost use Rattle.sf_cli.specs.Laws.{AcceptedFilesAreSound, EachCommandHasAnAnswer, EachCommandHasOneAnswer, EachFileHasAnAnswer, EachFileHasOneAnswer, EachFileIsOneProgram};
+ghost use Rattle.sf_cli.specs.Laws.{AcceptedFilesAreSound, AcceptedProofsAreSound, EachCommandHasAnAnswer, EachCommandHasOneAnswer, EachFileHasAnAnswer, EachFileHasOneAnswer, EachFileIsDecided, EachFileIsOneProgram, EachProofHasAnAnswer, EachProofHasOneAnswer};
 
+use sf_check::laws::{proves_not_refused, proves_or_refused, refused_once};
 use sf_elab::laws::elaborated_is_formed;
 use sf_lex::laws::each_file_reads_once;
 use sf_parse::laws::each_file_is_shallow;
 use sf_precise::laws::{never_taken_is_undetermined, undetermined_annotations_have_place};
+use sf_proof::laws::each_text_reads_once;
 use sf_rules::laws::{setting_exists, setting_is_unique};
 use sf_search::{programs_have_verdicts, taken_tags_prove, verdicts_are_unique};
 use sf_sound::proofs_are_sound;
@@ -20,9 +23,9 @@ pub fn each_file_is_one_program()
     sf_elab::laws::each_file_is_one();
 }
 
-/// Each file has at most one answer: the layers below have one each at most, and no two of their causes hold together.
-pub fn each_file_has_one_answer()
-    ensures { EachFileHasOneAnswer }
+/// A file is one program with which nothing is wrong, or is refused for one cause, and not both.
+pub fn each_file_is_decided()
+    ensures { EachFileIsDecided }
 {
     each_file_reads_once();
     sf_parse::laws::each_file_is_one();
@@ -30,8 +33,25 @@ pub fn each_file_has_one_answer()
     sf_elab::laws::each_file_is_one();
     each_program_has_one_answer();
     never_taken_is_undetermined();
+}
+
+/// Each file has at most one answer.
+pub fn each_file_has_one_answer()
+    ensures { EachFileHasOneAnswer }
+{
+    each_file_is_decided();
     setting_is_unique();
     verdicts_are_unique();
+}
+
+/// The text of a proof has at most one answer.
+pub fn each_proof_has_one_answer()
+    ensures { EachProofHasOneAnswer }
+{
+    setting_is_unique();
+    each_text_reads_once();
+    refused_once();
+    proves_not_refused();
 }
 
 /// Each file has an answer: it is refused for some cause, or there is a verdict on it.
@@ -49,12 +69,24 @@ pub fn each_file_has_an_answer()
     programs_have_verdicts();
 }
 
-/// Words have an answer over files, where the file that they name is there.
+/// The text of a proof has an answer, for a file's program with which nothing is wrong.
+pub fn each_proof_has_an_answer()
+    ensures { EachProofHasAnAnswer }
+{
+    each_file_is_shallow();
+    elaborated_is_formed();
+    setting_exists();
+    each_text_reads_once();
+    proves_or_refused();
+}
+
+/// Words have an answer over files, where the files that they name are there.
 #[tactic(auto, using(crate::proofs::AnswerLaws::each_command_has_an_answer))]
 pub fn each_command_has_an_answer()
     ensures { EachCommandHasAnAnswer }
 {
     each_file_has_an_answer();
+    each_proof_has_an_answer();
 }
 
 /// Words have at most one answer over the same files.
@@ -62,7 +94,9 @@ pub fn each_command_has_an_answer()
 pub fn each_command_has_one_answer()
     ensures { EachCommandHasOneAnswer }
 {
+    each_file_is_decided();
     each_file_has_one_answer();
+    each_proof_has_one_answer();
 }
 
 /// Whatever bytes are answered with status 0 are those of a sound program.
@@ -72,5 +106,14 @@ pub fn accepted_files_are_sound()
     each_file_is_shallow();
     elaborated_is_formed();
     taken_tags_prove();
+    proofs_are_sound();
+}
+
+/// Whatever bytes are accepted as a proof of a file, it is that of a sound program.
+pub fn accepted_proofs_are_sound()
+    ensures { AcceptedProofsAreSound }
+{
+    each_file_is_shallow();
+    elaborated_is_formed();
     proofs_are_sound();
 }

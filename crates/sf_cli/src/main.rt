@@ -5,6 +5,8 @@
 //! - `reply`: what the command says, and its status
 //! - `reading`: from a file's bytes to a program with which nothing is wrong
 //! - `refusal`: why a file is refused, and the line that says so
+//! - `recheck`: what is said of the text of a proof
+//! - `rejection`: why such a text is refused, and the line that says so
 //! - `laws`: laws of answers
 #![tactic(auto)]
 
@@ -14,7 +16,9 @@ ghost use Rattle.sf_cli.specs.WordsOf.{words_of};
 
 mod laws;
 mod reading;
+mod recheck;
 mod refusal;
+mod rejection;
 mod reply;
 #[cfg(test)]
 mod tests;

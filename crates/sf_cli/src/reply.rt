@@ -3,7 +3,7 @@
 ghost use Rattle.std.specs.Prelude.{◌≡◌, ◌≢◌, ◌<◌, ◌≤◌, ◌-◌, ◌^◌, ◌++◌, List, Some, IfOk, IsErrOf, codes};
 ghost use Rattle.sf_core.specs.Program.ProgramView.{program_of};
 ghost use Rattle.sf_io.specs.Increased.{Increased};
-ghost use Rattle.sf_cli.specs.Answer.{AnswersFile, FileAnswer, NamesFile, ProgramAnswer, Reply, VerdictAnswer, cause_text, printed, read_fault_text};
+ghost use Rattle.sf_cli.specs.Answer.{AreAdmitted, FileAnswer, NamesProgram, ProgramAnswer, ProofFileAnswer, Reaches, RecheckAnswer, Reply, VerdictAnswer, cause_text, printed, read_fault_text};
 ghost use Rattle.sf_cli.specs.Internal.Fetched.{Fetched};
 ghost use Rattle.sf_cli.specs.Refusals.{refusal_text};
 ghost use Rattle.sf_cli.specs.declared.refusal.Refusal.TheVariants.{OutOfMemory};
@@ -12,14 +12,15 @@ ghost use Rattle.sf_rules.specs.Setting.{Setting, setting_of};
 ghost use Rattle.sf_search.specs.Internal.Choosing.{kind_of};
 ghost use Rattle.sf_search.specs.Ends.{cause_of};
 ghost use Rattle.sf_search.specs.Judge.{Cause, Judge, proof};
-ghost use Rattle.sf_cli.specs.Words.{Text, order_of};
+ghost use Rattle.sf_cli.specs.Words.{Text, order_of, recheck, verify};
 ghost use Rattle.sf_cli.specs.WordsOf.{order_in, words_of};
 
 use crate::reading::admit;
+use crate::recheck::answer_to_proof;
 use crate::refusal::{Refusal, refusal_text};
 use crate::words::{Order, USAGE, read_order};
 use sf_base::ProcId;
-use sf_base::limits::FILE_BYTES;
+use sf_base::limits::{FILE_BYTES, PROOF_BYTES};
 use sf_check::{CheckFault, check};
 use sf_core::Program;
 use sf_io::{FetchFault, Shelf};
@@ -41,7 +42,7 @@ pub struct Said {
 }
 
 /// That text, with that status.
-fn say(alloc: Global, text: &str, status: u8) -> Result<Said, AllocError>
+pub(crate) fn say(alloc: Global, text: &str, status: u8) -> Result<Said, AllocError>
     ensures { IfOk result (λ said. (said.text.items ≡ text.now) × (said.status ≡ status)) }
 {
     Ok(Said {
@@ -179,41 +180,122 @@ fn fetch_up_to<S: Shelf>(
     Ok(bytes)
 }
 
-/// The answer to a file's name.
-fn answer_to_file<S: Shelf>(alloc: Global, name: &str, shelf: &mut S) -> Result<Said, AllocError>
+/// What the command says to `verify` of the file of that name.
+fn verify_file<S: Shelf>(alloc: Global, file: &str, shelf: &mut S) -> Result<Said, AllocError>
     ensures status { IfOk result (λ said. said.status < 8) }
-    ensures answered { IfOk result (λ said. said.status < 7
-        → AnswersFile (S.files shelf.old) name.now said.text.items said.status) }
-    ensures unread { IfOk result (λ said. said.status ≡ 7
-        → Increased (S.faults shelf.old name.now) (S.faults shelf.new name.now)
-        × (said.text.items ≡ read_fault_text name.now)) }
+    ensures said { IfOk result (λ said.
+        Reply (S.files shelf.old) (S.faults shelf.old) (S.faults shelf.new) (Some (verify file.now))
+        said.text.items said.status) }
     ensures files { S.files shelf.new ≡ S.files shelf.old }
-    ensures others { (other : Text) → other ≢ name.now
+    ensures others { (other : Text) → other ≢ file.now
         → S.faults shelf.new other ≡ S.faults shelf.old other }
     ensures counts { (any : Text) → S.faults shelf.old any ≤ S.faults shelf.new any }
 {
-    match fetch_up_to(alloc, name, FILE_BYTES, shelf) {
+    match fetch_up_to(alloc, file, FILE_BYTES, shelf) {
         Ok(bytes) => answer_to_bytes(alloc, bytes.as_slice()),
-        Err(FetchFault::Failed) => say_of(alloc, "read fault: ", name.as_bytes(), 7),
+        Err(FetchFault::Failed) => say_of(alloc, "read fault: ", file.as_bytes(), 7),
         Err(FetchFault::OutOfMemory) => Err(AllocError),
     }
 }
 
-/// What the command says to words that are that command.
-fn follow<S: Shelf>(alloc: Global, order: Order, shelf: &mut S) -> Result<Said, AllocError>
+/// What is said of the text of a proof that the file of that name has, for a program with which
+/// nothing is wrong.
+fn recheck_program<S: Shelf>(
+    alloc: Global,
+    arranged: &Arranged,
+    proof: &str,
+    shelf: &mut S,
+) -> Result<Said, AllocError>
     ensures status { IfOk result (λ said. said.status < 8) }
-    ensures said { IfOk result (λ said. (words : List Text)
-        → order_of words ≡ order_in (Some order.entry)
-        → Reply (S.files shelf.old) (S.faults shelf.old) (S.faults shelf.new) words
+    ensures answered { IfOk result (λ said. said.status < 7
+        → ProofFileAnswer (S.files shelf.old) (program_of arranged.now.program) proof.now
         said.text.items said.status) }
+    ensures unread { IfOk result (λ said. said.status ≡ 7
+        → Increased (S.faults shelf.old proof.now) (S.faults shelf.new proof.now)
+        × (said.text.items ≡ read_fault_text proof.now)) }
     ensures files { S.files shelf.new ≡ S.files shelf.old }
-    ensures others { (words : List Text) (other : Text)
-        → order_of words ≡ order_in (Some order.entry) → (NamesFile words other → ⊥)
+    ensures others { (other : Text) → other ≢ proof.now
         → S.faults shelf.new other ≡ S.faults shelf.old other }
     ensures counts { (any : Text) → S.faults shelf.old any ≤ S.faults shelf.new any }
 {
+    match fetch_up_to(alloc, proof, PROOF_BYTES, shelf) {
+        Ok(text) => answer_to_proof(alloc, arranged, text.as_slice()),
+        Err(FetchFault::Failed) => say_of(alloc, "read fault: ", proof.as_bytes(), 7),
+        Err(FetchFault::OutOfMemory) => Err(AllocError),
+    }
+}
+
+/// What is said of the text of a proof that the file of that name has, for a program's file of
+/// these bytes. The proof's file is left alone where the program's is refused.
+fn recheck_bytes<S: Shelf>(
+    alloc: Global,
+    bytes: &[u8],
+    proof: &str,
+    shelf: &mut S,
+) -> Result<Said, AllocError>
+    ensures status { IfOk result (λ said. said.status < 8) }
+    ensures answered { IfOk result (λ said. said.status < 7
+        → RecheckAnswer (S.files shelf.old) bytes.now proof.now said.text.items said.status) }
+    ensures unread { IfOk result (λ said. said.status ≡ 7 → AreAdmitted bytes.now
+        × Increased (S.faults shelf.old proof.now) (S.faults shelf.new proof.now)
+        × (said.text.items ≡ read_fault_text proof.now)) }
+    ensures files { S.files shelf.new ≡ S.files shelf.old }
+    ensures others { (other : Text) → ((other ≡ proof.now) × AreAdmitted bytes.now → ⊥)
+        → S.faults shelf.new other ≡ S.faults shelf.old other }
+    ensures refused { IfOk result (λ said. said.status ≡ 3
+        → (any : Text) → S.faults shelf.new any ≡ S.faults shelf.old any) }
+    ensures counts { (any : Text) → S.faults shelf.old any ≤ S.faults shelf.new any }
+{
+    match admit(alloc, bytes) {
+        Ok(arranged) => recheck_program(alloc, &arranged, proof, shelf),
+        Err(refusal) => say_refusal(alloc, &refusal),
+    }
+}
+
+/// What the command says to `recheck` of the files of these names.
+fn recheck_file<S: Shelf>(
+    alloc: Global,
+    file: &str,
+    proof: &str,
+    shelf: &mut S,
+) -> Result<Said, AllocError>
+    ensures status { IfOk result (λ said. said.status < 8) }
+    ensures said { IfOk result (λ said.
+        Reply (S.files shelf.old) (S.faults shelf.old) (S.faults shelf.new)
+        (Some (recheck file.now proof.now)) said.text.items said.status) }
+    ensures files { S.files shelf.new ≡ S.files shelf.old }
+    ensures others { (other : Text)
+        → (Reaches (S.files shelf.old) (Some (recheck file.now proof.now)) other → ⊥)
+        → S.faults shelf.new other ≡ S.faults shelf.old other }
+    ensures refused { IfOk result (λ said. said.status ≡ 3 → (other : Text) → other ≢ file.now
+        → S.faults shelf.new other ≡ S.faults shelf.old other) }
+    ensures counts { (any : Text) → S.faults shelf.old any ≤ S.faults shelf.new any }
+{
+    match fetch_up_to(alloc, file, FILE_BYTES, shelf) {
+        Ok(bytes) => recheck_bytes(alloc, bytes.as_slice(), proof, shelf),
+        Err(FetchFault::Failed) => say_of(alloc, "read fault: ", file.as_bytes(), 7),
+        Err(FetchFault::OutOfMemory) => Err(AllocError),
+    }
+}
+
+/// What the command says to an order.
+fn follow<S: Shelf>(alloc: Global, order: Order, shelf: &mut S) -> Result<Said, AllocError>
+    ensures status { IfOk result (λ said. said.status < 8) }
+    ensures said { IfOk result (λ said.
+        Reply (S.files shelf.old) (S.faults shelf.old) (S.faults shelf.new)
+        (order_in (Some order.entry)) said.text.items said.status) }
+    ensures files { S.files shelf.new ≡ S.files shelf.old }
+    ensures others { (other : Text)
+        → (Reaches (S.files shelf.old) (order_in (Some order.entry)) other → ⊥)
+        → S.faults shelf.new other ≡ S.faults shelf.old other }
+    ensures refused { IfOk result (λ said. said.status ≡ 3 → (other : Text)
+        → (NamesProgram (order_in (Some order.entry)) other → ⊥)
+        → S.faults shelf.new other ≡ S.faults shelf.old other) }
+    ensures counts { (any : Text) → S.faults shelf.old any ≤ S.faults shelf.new any }
+{
     match order {
-        Order::Verify(name) => answer_to_file(alloc, name, shelf),
+        Order::Verify(file) => verify_file(alloc, file, shelf),
+        Order::Recheck(file, proof) => recheck_file(alloc, file, proof, shelf),
     }
 }
 
@@ -221,11 +303,15 @@ fn follow<S: Shelf>(alloc: Global, order: Order, shelf: &mut S) -> Result<Said, 
 pub fn respond<S: Shelf>(alloc: Global, words: &[&str], shelf: &mut S) -> Result<Said, AllocError>
     ensures status { IfOk result (λ said. said.status < 8) }
     ensures said { IfOk result (λ said.
-        Reply (S.files shelf.old) (S.faults shelf.old) (S.faults shelf.new) (words_of words.now)
-        said.text.items said.status) }
+        Reply (S.files shelf.old) (S.faults shelf.old) (S.faults shelf.new)
+        (order_of (words_of words.now)) said.text.items said.status) }
     ensures files { S.files shelf.new ≡ S.files shelf.old }
-    ensures others { (other : Text) → (NamesFile (words_of words.now) other → ⊥)
+    ensures others { (other : Text)
+        → (Reaches (S.files shelf.old) (order_of (words_of words.now)) other → ⊥)
         → S.faults shelf.new other ≡ S.faults shelf.old other }
+    ensures refused { IfOk result (λ said. said.status ≡ 3 → (other : Text)
+        → (NamesProgram (order_of (words_of words.now)) other → ⊥)
+        → S.faults shelf.new other ≡ S.faults shelf.old other) }
     ensures counts { (any : Text) → S.faults shelf.old any ≤ S.faults shelf.new any }
 {
     match read_order(words) {

@@ -1,15 +1,19 @@
 //! The command as a whole, over a shelf and a sink in memory. The answers were worked out by hand.
 
+mod compared;
 mod examples;
 mod numbers;
 mod orders;
+mod proofs;
 mod sets;
 mod tables;
 mod verdicts;
 
 use crate::top::smallfoot;
 use crate::words::USAGE;
+use compared::{FAILED, PROVED};
 use examples::EXAMPLES;
+use proofs::{ACCEPTED, CALL_PROOFS, LOOP_PROOFS, REFUSED, RESOURCE_PROOFS, TEXTS, TREE_PROOFS};
 use sf_io::{MemShelf, MemSink, OpenGate};
 use std::alloc::Global;
 use std::process::Abort;
@@ -124,12 +128,82 @@ fn programs_have_their_verdicts(rt: HostRuntime) -> Result<(), Fail> {
 }
 
 #[test]
+fn answers_are_those_of_another_implementation(rt: HostRuntime) -> Result<(), Fail> {
+    are_answered(&rt, rt.alloc(), &PROVED)?;
+    are_answered(&rt, rt.alloc(), &FAILED)
+}
+
+#[test]
 fn files_are_refused_at_their_first_fault(rt: HostRuntime) -> Result<(), Fail> {
     are_refused(&rt, rt.alloc(), &BAD_WORDS)?;
     are_refused(&rt, rt.alloc(), &BAD_GRAMMAR)?;
     are_refused(&rt, rt.alloc(), &BAD_NAMES)?;
     are_refused(&rt, rt.alloc(), &BROKEN_CONDITIONS)?;
     are_refused(&rt, rt.alloc(), &UNDETERMINED)
+}
+
+/// `recheck` says what is beside them of the files and the texts of their proofs.
+fn are_rechecked<R: Threads + Wait + Sync + Abort>(
+    rt: &R,
+    alloc: Global,
+    cases: &[(&[u8], &str, &str)],
+) -> Result<(), Fail> {
+    for (file, proof, answer) in cases {
+        let mut shelf = MemShelf::new(alloc);
+        shelf.add("p.sf", file)?;
+        shelf.add("p.proof", proof.as_bytes())?;
+        let words = ["recheck", "p.sf", "p.proof"];
+        let status = if answer.starts_with("accepted") { 0 } else { 4 };
+        says(rt, alloc, &words, &mut shelf, (answer, status))?;
+    }
+    Ok(())
+}
+
+#[test]
+fn proofs_have_their_answers(rt: HostRuntime) -> Result<(), Fail> {
+    are_rechecked(&rt, rt.alloc(), &TREE_PROOFS)?;
+    are_rechecked(&rt, rt.alloc(), &LOOP_PROOFS)?;
+    are_rechecked(&rt, rt.alloc(), &RESOURCE_PROOFS)?;
+    are_rechecked(&rt, rt.alloc(), &CALL_PROOFS)?;
+    are_rechecked(&rt, rt.alloc(), &TEXTS)?;
+    are_rechecked(&rt, rt.alloc(), &ACCEPTED)?;
+    are_rechecked(&rt, rt.alloc(), &REFUSED)
+}
+
+#[test]
+fn a_proof_may_be_too_long(rt: HostRuntime) -> Result<(), Fail> {
+    let alloc = rt.alloc();
+    let mut shelf = MemShelf::new(alloc);
+    shelf.add("set.sf", SET)?;
+    let long = vec![in alloc; b' '; 33_554_433]?;
+    shelf.add("long", long.as_slice())?;
+    let words = ["recheck", "set.sf", "long"];
+    let answer = ("proof refused: line 1 kind 51\n", 4);
+    says(&rt, alloc, &words, &mut shelf, answer)
+}
+
+#[test]
+fn a_proof_is_fetched_after_its_file(rt: HostRuntime) -> Result<(), Fail> {
+    let alloc = rt.alloc();
+    let mut shelf = MemShelf::new(alloc);
+    shelf.add("set.sf", SET)?;
+    shelf.add("bad.sf", b"f() { @ }")?;
+    let cases = [
+        (["recheck", "set.sf", "none"], ("read fault: none\n", 7)),
+        (["recheck", "none.sf", "none"], ("read fault: none.sf\n", 7)),
+        (
+            ["recheck", "bad.sf", "none"],
+            ("file refused: 1 BadByte at 1:7\n", 3),
+        ),
+        (
+            ["recheck", "set.sf", "set.sf"],
+            ("proof refused: line 1 kind 50\n", 4),
+        ),
+    ];
+    for (words, answer) in cases {
+        says(&rt, alloc, &words, &mut shelf, answer)?;
+    }
+    Ok(())
 }
 
 #[test]

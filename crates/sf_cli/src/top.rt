@@ -3,11 +3,11 @@
 ghost use Rattle.std.specs.Prelude.{◌≡◌, ◌≢◌, ◌≤◌, ◌<◌, ◌⊎◌, List};
 ghost use Rattle.sf_io.specs.Increased.{Increased};
 ghost use Rattle.sf_io.specs.Sink.{with_bytes, WrotePrefix};
-ghost use Rattle.sf_cli.specs.Answer.{Accepted, Answers, NamesFile, Unread, WroteNothingOrPrefix, WroteReplyPrefix};
-ghost use Rattle.sf_cli.specs.Words.{Text};
+ghost use Rattle.sf_cli.specs.Answer.{Accepted, Answers, NamesProgram, Reaches, Unread, WroteNothingOrPrefix, WroteReplyPrefix};
+ghost use Rattle.sf_cli.specs.Words.{Text, order_of};
 ghost use Rattle.sf_cli.specs.WordsOf.{words_of};
 
-use crate::laws::accepted_files_are_sound;
+use crate::laws::{accepted_files_are_sound, accepted_proofs_are_sound};
 use crate::reply::{Said, respond};
 use sf_io::{Gate, Shelf, Sink, SinkFault, put_all};
 use std::alloc::Global;
@@ -42,8 +42,9 @@ fn tell<K: Sink>(sink: &mut K, said: &Said) -> u8
 /// The words are those after the program's name. Files come from the shelf, the answer goes to the
 /// sink, whole or, at status 8 or 9, no further than some prefix of it. The statuses are 0 where
 /// the program is proved, 1 where a procedure fails, 2 where the words are no command, 3 where the
-/// file is refused, 7 where the shelf failed, 8 where the sink did, and 9 where memory ran out. Where
-/// no count of faults increases, the answer is the one that is due, whole, or memory ran out.
+/// file is refused, 4 where the text of a proof is, 7 where the shelf failed, 8 where the sink did,
+/// and 9 where memory ran out. Where no count of faults increases, the answer is the one that is
+/// due, whole, or memory ran out.
 ///
 /// The runtime and the gate are for commands that run programs in threads, which aren't here yet: no
 /// thread is started and nothing waits.
@@ -59,20 +60,21 @@ pub fn smallfoot<'a, R: Threads + Wait + Sync, S: Shelf, K: Sink, G: Gate>(
     ensures answers { result < 7 → (text : Text)
         × (K.written sink.new ≡ with_bytes (K.written sink.old) text)
         × Answers (S.files shelf.old) (words_of words.now) text result }
-    // The file that the words name couldn't be read: its count of faults increased.
+    // A file that the work came to couldn't be read: its count of faults increased.
     ensures unread { result ≡ 7 → (text : Text)
         × (K.written sink.new ≡ with_bytes (K.written sink.old) text)
-        × Unread (S.faults shelf.old) (S.faults shelf.new) (words_of words.now) text }
+        × Unread (S.files shelf.old) (S.faults shelf.old) (S.faults shelf.new)
+        (order_of (words_of words.now)) text }
     // The sink's count of faults increased, and the bytes put are a prefix of what may be said.
     ensures unwritten { result ≡ 8 → Increased (K.faults sink.old) (K.faults sink.new) }
     ensures prefix { result ≡ 8 → WroteReplyPrefix
-        (S.files shelf.old) (S.faults shelf.old) (S.faults shelf.new) (words_of words.now)
-        (K.written sink.old) (K.written sink.new) }
+        (S.files shelf.old) (S.faults shelf.old) (S.faults shelf.new)
+        (order_of (words_of words.now)) (K.written sink.old) (K.written sink.new) }
     // Memory ran out: the bytes put are none, or a prefix of what may be said.
     ensures out_of_memory { result ≡ 9 → WroteNothingOrPrefix
-        (S.files shelf.old) (S.faults shelf.old) (S.faults shelf.new) (words_of words.now)
-        (K.written sink.old) (K.written sink.new) }
-    ensures statuses { (result ≤ 3) ⊎ ((7 ≤ result) × (result ≤ 9)) }
+        (S.files shelf.old) (S.faults shelf.old) (S.faults shelf.new)
+        (order_of (words_of words.now)) (K.written sink.old) (K.written sink.new) }
+    ensures statuses { (result ≤ 4) ⊎ ((7 ≤ result) × (result ≤ 9)) }
     // Over a shelf or a sink that never counts a fault there is none.
     ensures no_read_fault { ((name : Text) → S.faults shelf.new name ≡ 0) → result ≢ 7 }
     ensures no_write_fault { K.faults sink.new ≡ 0 → result ≢ 8 }
@@ -84,9 +86,14 @@ pub fn smallfoot<'a, R: Threads + Wait + Sync, S: Shelf, K: Sink, G: Gate>(
     ensures accepted { result ≡ 0 → (text : Text)
         × (K.written sink.new ≡ with_bytes (K.written sink.old) text)
         × Accepted (S.files shelf.old) (words_of words.now) text }
-    // No file changes, and no count falls; that of a name increases only where the words name it.
+    // No file changes, and no count falls; that of a name increases only where the work comes to it:
+    // a proof's only where the program's file isn't refused.
     ensures counts { (any : Text) → S.faults shelf.old any ≤ S.faults shelf.new any }
-    ensures others { (other : Text) → (NamesFile (words_of words.now) other → ⊥)
+    ensures others { (other : Text)
+        → (Reaches (S.files shelf.old) (order_of (words_of words.now)) other → ⊥)
+        → S.faults shelf.new other ≡ S.faults shelf.old other }
+    ensures refused { result ≡ 3 → (other : Text)
+        → (NamesProgram (order_of (words_of words.now)) other → ⊥)
         → S.faults shelf.new other ≡ S.faults shelf.old other }
     ensures sink_counts { K.faults sink.old ≤ K.faults sink.new }
     ensures files { S.files shelf.new ≡ S.files shelf.old }
@@ -94,6 +101,7 @@ pub fn smallfoot<'a, R: Threads + Wait + Sync, S: Shelf, K: Sink, G: Gate>(
     let _ = rt;
     let _ = gate;
     accepted_files_are_sound();
+    accepted_proofs_are_sound();
     match respond(alloc, words, shelf) {
         Ok(said) => tell(sink, &said),
         Err(_) => OUT_OF_MEMORY,

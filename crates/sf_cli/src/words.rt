@@ -14,6 +14,8 @@ pub const USAGE: &str = "usage: smallfoot verify FILE [--workers K]
 pub enum Order<'a> {
     /// Read a file, search for its proof, have it checked, and print it.
     Verify(&'a str),
+    /// Read a file, and check the text of a proof of it.
+    Recheck(&'a str, &'a str),
 }
 
 /// Whether a word may name a file: it isn't empty and doesn't begin with `-`.
@@ -32,6 +34,10 @@ pub fn read_order<'a>(words: &[&'a str]) -> Option<Order<'a>>
 {
     match words {
         [command, file] if *command == "verify" && names_a_file(file) => Some(Order::Verify(file)),
+        [command, file, proof]
+            if *command == "recheck" && names_a_file(file) && names_a_file(proof) => {
+            Some(Order::Recheck(file, proof))
+        }
         _ => None,
     }
 }

@@ -604,7 +604,7 @@ pub const NESTS: [((&str, &str, &str, &str), (u32, u32), &str, &str); 3] = [
 ];
 
 /// Words that are no command.
-pub const NO_COMMANDS: [&[&str]; 10] = [
+pub const NO_COMMANDS: [&[&str]; 12] = [
     &[],
     &["verify"],
     &["verify", "a", "b"],
@@ -613,6 +613,8 @@ pub const NO_COMMANDS: [&[&str]; 10] = [
     &["verify", "--help"],
     &["--help"],
     &["Verify", "p.sf"],
-    &["recheck", "a", "b"],
+    &["recheck", "a"],
+    &["recheck", "a", "-b"],
+    &["recheck", "a", "b", "c"],
     &["p.sf", "verify"],
 ];

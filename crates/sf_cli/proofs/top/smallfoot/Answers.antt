@@ -1,6 +1,7 @@
 use Rattle.std.proofs.Common.{◌≡◌, ◌<◌, sym, ◌∙◌, arith}
 use Rattle.sf_cli.proofs.Accepted.{accepted-reply}
 use Rattle.sf_cli.proofs.Complete.{complete-reply, complete-status}
+use Rattle.sf_cli.specs.Words.{order_of}
 use Rattle.sf_cli.specs.WordsOf.{words_of}
 use Rattle.sf_cli.proofs.top.smallfoot.Goals as goal
 
@@ -10,12 +11,23 @@ returns-in-Ok-clause-accepted g c = λ zero.
     let whole = c.tell.ensures.whole small in (
       c.in-Ok.said.text.items,
       whole.1,
-      accepted-reply c.accepted_files_are_sound.ensures (g.S.Shelf.files c.args.shelf.now) (g.S.Shelf.faults c.args.shelf.now) (g.S.Shelf.faults c.respond.new.shelf) (words_of c.args.words.now)
-          c.in-Ok.said.text.items c.in-Ok.said.status (sym whole.0 ∙ zero) c.in-Ok.ensures.said,
+      accepted-reply c.accepted_files_are_sound.ensures c.accepted_proofs_are_sound.ensures
+          (g.S.Shelf.files c.args.shelf.now) (g.S.Shelf.faults c.args.shelf.now) (g.S.Shelf.faults c.respond.new.shelf)
+          (words_of c.args.words.now) c.in-Ok.said.text.items c.in-Ok.said.status (sym whole.0 ∙ zero)
+          c.in-Ok.ensures.said,
     )
+
+pub returns-in-Ok-clause-refused : goal.returns-in-Ok-clause-refused
+returns-in-Ok-clause-refused g c = λ three.
+    let small : c.tell.result < 8 = omega (arith, three) in
+    let whole = c.tell.ensures.whole small in
+    c.in-Ok.ensures.refused (sym whole.0 ∙ three)
 
 pub returns-in-Ok-clause-complete : goal.returns-in-Ok-clause-complete
 returns-in-Ok-clause-complete g c = λ shelf sink.
-    let small : c.in-Ok.said.status < 7 = complete-reply (g.S.Shelf.files c.args.shelf.now) (g.S.Shelf.faults c.args.shelf.now) (g.S.Shelf.faults c.respond.new.shelf) (words_of c.args.words.now)
-    c.in-Ok.said.text.items c.in-Ok.said.status c.in-Ok.ensures.said shelf in
-    complete-status c.tell.result c.in-Ok.said.status (λ below. (c.tell.ensures.whole below).0) small (λ e. sink (c.tell.ensures.failed e)) c.tell.ensures.last
+    let small : c.in-Ok.said.status < 7 =
+    complete-reply (g.S.Shelf.files c.args.shelf.now) (g.S.Shelf.faults c.args.shelf.now)
+    (g.S.Shelf.faults c.respond.new.shelf) (order_of (words_of c.args.words.now)) c.in-Ok.said.text.items
+    c.in-Ok.said.status c.in-Ok.ensures.said shelf in
+    complete-status c.tell.result c.in-Ok.said.status (λ below. (c.tell.ensures.whole below).0) small
+    (λ e. sink (c.tell.ensures.failed e)) c.tell.ensures.last
