@@ -1,4 +1,14 @@
+pub mod Answered
+pub mod Drops
+pub mod Knowing
+pub mod Views
 pub mod Walking
 pub mod Parts
 pub mod Trees
 pub mod Pigeons
+pub mod Sums
+pub mod Meaning
+pub mod Ready
+pub mod Takings
+pub mod Taken
+pub mod Feet

@@ -1,2 +1,4 @@
+pub mod Known
 pub mod Places
+pub mod Taking
 pub mod Walks

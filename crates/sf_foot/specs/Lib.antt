@@ -1,1 +1,4 @@
+pub mod Footprint
 pub mod Internal
+pub mod Starting
+pub mod Variables

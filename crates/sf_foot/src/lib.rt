@@ -1,6 +1,23 @@
 //! The footprints of assertions in heaps.
 //!
-//! - `walks`: the cells that a segment has, by following its field.
+//! - `vars`: the values of variables.
+//! - `known`: the values of the existentials that are known, level by level.
+//! - `walks`: the cells that a segment or a tree has, by following its fields.
+//! - `taking`: conjunct by conjunct, which cells an assertion takes.
+//! - `finding`: the footprint of an assertion.
+//! - `start`: what a run starts with, and what it ends with.
+//!
+//! `specs/` says what the value of a variable is (Variables), what a footprint is (Footprint), and
+//! with which variables and cells a procedure starts (Starting).
 #![tactic(auto)]
 
+mod finding;
+mod known;
+mod start;
+mod taking;
+mod vars;
 mod walks;
+
+pub use finding::footprint;
+pub use start::{Finish, Start};
+pub use vars::Vars;

@@ -4,6 +4,7 @@ ghost use Rattle.std.specs.Prelude.{◌≡◌, ◌↔◌, ◌<◌, ◌++◌, len
 ghost use Rattle.std.specs.FinMap as map;
 ghost use Rattle.sf_foot.specs.Internal.Walks.{SegmentWalk, TreesWalk, WalksOn};
 
+use crate::known::is_same;
 use sf_base::{FieldId, Value};
 use sf_heap::Heap;
 use std::alloc::{AllocError, Global};
@@ -19,7 +20,8 @@ pub(crate) fn walk_segment(
 ) -> Result<bool, AllocError>
     ensures yes { IfOk result (λ b. IsTrue b
         → WalksOn (SegmentWalk heap.now next to from) found.old.items found.new.items) }
-    ensures no { IfOk result (λ b. b ≡ false → ((ls : List ℕ) → SegmentWalk heap.now next to from ls
+    ensures no { IfOk result (λ b. b ≡ false
+        → ((ls : List ℕ) → SegmentWalk heap.now next to from ls
         → map.len heap.now < length (found.old.items ++ ls))) }
 {
     let mut at = from;
@@ -53,7 +55,8 @@ pub(crate) fn walk_tree(
     ensures yes { IfOk result (λ b. IsTrue b
         → WalksOn (TreesWalk heap.now left right (root ∷ [])) found.old.items found.new.items) }
     ensures no { IfOk result (λ b. b ≡ false → ((ls : List ℕ)
-        → TreesWalk heap.now left right (root ∷ []) ls → map.len heap.now < length (found.old.items ++ ls))) }
+        → TreesWalk heap.now left right (root ∷ []) ls
+        → map.len heap.now < length (found.old.items ++ ls))) }
 {
     let mut roots = vec![in alloc; root]?;
     'walk: while let Some(at) = roots.pop() {
@@ -73,11 +76,4 @@ pub(crate) fn walk_tree(
         roots.push(cell.get(left))?;
     }
     Ok(true)
-}
-
-/// Whether the two are one value.
-fn is_same(a: Value, b: Value) -> bool
-    ensures { IsTrue result ↔ (a ≡ b) }
-{
-    a == b
 }
