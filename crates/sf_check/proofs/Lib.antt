@@ -1,4 +1,3 @@
-pub mod Trees
 pub mod Taking
 pub mod Finishing
 pub mod Refusing

@@ -11,7 +11,7 @@ use Rattle.sf_sym.specs.declared.term.Term.{Term}
 use Rattle.sf_sym.specs.declared.term.Term.TheVariants.{Nil, Sym}
 use Rattle.std.proofs.lemmas.Bool.Decides.{nat_tests}
 use Rattle.sf_sym.specs.Variables.{AreInOrder, IsBeforeAll}
-use Rattle.sf_rules.specs.Table.{nils, number_of, symbols}
+use Rattle.sf_rules.specs.First.{nils, number_of, symbols}
 
 pub nils_push : (from n m : ℕ) → m ≡ from + n → nils from (suc n) ≡ nils from n ++ (Own m, Nil) ∷ []
 nils_push from zero m e = let same : m ≡ from = omega (arith, e) in rw same refl

@@ -3,11 +3,9 @@ pub mod Branching
 pub mod CallRows
 pub mod Looping
 pub mod Items
-pub mod Numbers
 pub mod FirstRows
 pub mod Firsts
 pub mod RegionRows
-pub mod WholeTable
 pub mod SmallRows
 pub mod CommandLaws
 pub mod BranchLaws

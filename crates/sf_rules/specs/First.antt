@@ -1,20 +1,49 @@
 -- First: the goal with which the proof of a procedure begins.
 -- Berdine, Calcagno, O'Hearn, "Smallfoot" (2005): the precondition is assumed, the body run, the postcondition due.
-use Rattle.std.specs.Prelude.{ℕ, ◌+◌, ◌-◌, List, [], ◌∷◌, ◌++◌, get_or, length}
+use Rattle.std.specs.Prelude.{ℕ, zero, suc, ◌+◌, ◌-◌, cond, Option, Some, None, List, [], ◌∷◌, ◌++◌, codes, get_or, length}
 use Rattle.std.specs.List.{flat_map, slice_get}
 use Rattle.std.specs.Option.{option_map, unwrap_or}
+use Rattle.std.specs.Str.{bytes_eq}
+use Rattle.sf_base.specs.declared.ids.FieldId.{FieldId}
 use Rattle.sf_base.specs.declared.ids.ProcId.{ProcId}
 use Rattle.sf_base.specs.declared.ids.ResId.{ResId}
 use Rattle.sf_base.specs.declared.ids.Var.{Var}
+use Rattle.sf_base.specs.declared.ids.Var.TheVariants.{Own}
+use Rattle.sf_core.specs.declared.fields.Links.{Links}
 use Rattle.sf_core.specs.Program.Syntax.{Procedure, Program, Resource}
 use Rattle.sf_sym.specs.declared.term.Term.{Term}
+use Rattle.sf_sym.specs.declared.term.Term.TheVariants.{Nil, Sym}
 use Rattle.sf_sym.specs.Goal.{Goal, return, to_run}
 use Rattle.sf_sym.specs.State.{State, first_state, term}
 use Rattle.sf_sym.specs.Variables.{with_fresh}
 use Rattle.sf_rules.specs.Rows.Regions.{variables_from}
 use Rattle.sf_rules.specs.Setting.{Setting}
-use Rattle.sf_rules.specs.Table.{links_of, nils, symbols}
 use Rattle.sf_rules.specs.Words.{to_add}
+
+-- the place of a name in a list
+abbrev pub number_of : List (List ℕ) → List ℕ → ℕ → Option FieldId
+number_of [] name from = None
+number_of (x ∷ xs) name from =
+    cond (bytes_eq x name) (Some (record { 0 = from })) (number_of xs name (suc from))
+
+-- the fields that segments and trees go by
+abbrev pub links_of : Program → Links
+links_of p =
+    record {
+      tl = number_of p.fields (codes "tl") 0;
+      l = number_of p.fields (codes "l") 0;
+      r = number_of p.fields (codes "r") 0;
+    }
+
+-- a fresh symbol for each of that many variables, in order
+abbrev pub symbols : (from count : ℕ) → List (Var × Term)
+symbols from zero = []
+symbols from (suc count) = (Own from, Sym from) ∷ symbols (suc from) count
+
+-- nil for each of that many locals
+abbrev pub nils : (from count : ℕ) → List (Var × Term)
+nils from zero = []
+nils from (suc count) = (Own from, Nil) ∷ nils (suc from) count
 
 -- the variables of a resource of the program
 abbrev pub variables_of : Program → ResId → List Var

@@ -1,5 +1,3 @@
-pub mod Subgoals
-pub mod Cells
 pub mod Front
 pub mod Children
 pub mod Terms

@@ -1,68 +1,66 @@
--- Lemmas on proofs, rows, cells, conjuncts and levels that the proofs of the crates above cite. Each states
--- what it says; none is a definition.
+-- Lemmas on proofs, rows and levels that the proofs of the crates above cite. Each states what it says;
+-- none is a definition.
 -- Ordinary: proofs are finite trees, and those of a list of goals are those of its parts.
-use Rattle.std.proofs.Common.{◌≡◌, ℕ, Bool, true, false, cond, nat_lt, Option, Some, None, List, [], ◌∷◌, ◌++◌, map, reverse, refl, sym, ap, ◌∙◌, subst, append_assoc}
-use Rattle.std.proofs.lemmas.List.{reverse-append}
-use Rattle.sf_core.specs.declared.assertion.Conjunct.{Conjunct as CodeConjunct}
+use Rattle.std.proofs.Common.{◌≡◌, ℕ, Bool, true, false, cond, nat_lt, Option, Some, None, List, [], ◌∷◌, ◌++◌, map, refl, sym, ap, ◌∙◌, subst, append_assoc}
 use Rattle.sf_core.specs.declared.assertion.Conjunct.TheFolds.{fold_out-Level}
 use Rattle.sf_core.specs.declared.assertion.Level.{Level as CodeLevel, out-Level}
 use Rattle.sf_core.specs.declared.command.Expr.{Expr}
-use Rattle.sf_core.specs.Program.Syntax.{Conjunct, also, Level, level}
+use Rattle.sf_core.specs.Program.Syntax.{Conjunct, Level, level}
 use Rattle.sf_core.specs.Program.View.{conjunct_of, conjuncts, level_of, conjunct_step, level_step}
-use Rattle.sf_sym.specs.declared.term.Term.{Term}
 use Rattle.sf_sym.specs.declared.tag.Tag.{Tag}
 use Rattle.sf_sym.specs.Goal.{Goal}
 use Rattle.sf_rules.specs.Few.{if_few}
-use Rattle.sf_rules.specs.Proves.{Proof, Proofs, no_more, and, preorder, preorders}
+use Rattle.sf_rules.specs.Proving.{Proof, Proofs, no_more, and, preorder, preorders}
+use Rattle.sf_rules.specs.Setting.{Setting}
 
--- proofs of equal goals have the same tags
-pub proofs-same : (gs hs : List Goal) → gs ≡ hs → (ps : Proofs gs)
-    → (qs : Proofs hs) × (preorders qs ≡ preorders ps)
-proofs-same gs hs e ps = subst (λ zs. (qs : Proofs zs) × (preorders qs ≡ preorders ps)) e (ps, refl)
+-- proofs of equal lists of goals have the same tags
+proofs-same : (d : Setting) (gs hs : List Goal) → gs ≡ hs → (ps : Proofs d gs)
+    → (qs : Proofs d hs) × (preorders qs ≡ preorders ps)
+proofs-same d gs hs e ps = subst (λ zs. (qs : Proofs d zs) × (preorders qs ≡ preorders ps)) e (ps, refl)
 
 -- the same of one goal
-pub proof-same : (g h : Goal) → g ≡ h → (p : Proof g) → (q : Proof h) × (preorder q ≡ preorder p)
-proof-same g h e p = subst (λ z. (q : Proof z) × (preorder q ≡ preorder p)) e (p, refl)
+proof-same : (d : Setting) (g h : Goal) → g ≡ h → (p : Proof d g) → (q : Proof d h) × (preorder q ≡ preorder p)
+proof-same d g h e p = subst (λ z. (q : Proof d z) × (preorder q ≡ preorder p)) e (p, refl)
+
+-- proofs of no goals have no tags
+pub proofs-none : (d : Setting) (gs : List Goal) → gs ≡ [] → (ps : Proofs d gs) → preorders ps ≡ []
+proofs-none d gs n (no_more e) = refl
+proofs-none d gs n (and goal others e p ps) = absurd (cc)
+
+joined : (ts us vs ws : List Tag) → us ≡ vs ++ ws → ts ++ us ≡ (ts ++ vs) ++ ws
+joined ts us vs ws e = ap (λ zs. ts ++ zs) e ∙ sym (append_assoc ts vs ws)
 
 -- proofs of two lists of goals one after the other are proofs of each
-pub proofs-split : (gs hs : List Goal) (ps : Proofs (gs ++ hs))
-    → (qs : Proofs gs) × (rs : Proofs hs) × (preorders qs ++ preorders rs ≡ preorders ps)
-proofs-split [] hs ps = (no_more refl, ps, refl)
-proofs-split (g ∷ gs) hs (no_more e) = absurd (cc)
-proofs-split (g ∷ gs) hs (and goal others e p ps) =
+pub proofs-split : (d : Setting) (gs hs : List Goal) (ps : Proofs d (gs ++ hs))
+    → (qs : Proofs d gs) × (rs : Proofs d hs) × (preorders ps ≡ preorders qs ++ preorders rs)
+proofs-split d [] hs ps = (no_more refl, ps, refl)
+proofs-split d (g ∷ gs) hs (no_more e) = absurd (cc)
+proofs-split d (g ∷ gs) hs (and goal others e p ps) =
     let same : others ≡ gs ++ hs = cc in
     let head : g ∷ gs ≡ goal ∷ gs = cc in
-    let moved = proofs-same others (gs ++ hs) same ps in
-    let parts = proofs-split gs hs moved.0 in (
+    let moved = proofs-same d others (gs ++ hs) same ps in
+    let parts = proofs-split d gs hs moved.0 in
+    let tags : preorders ps ≡ preorders parts.0 ++ preorders parts.1 = cc in (
       and goal gs head p parts.0,
       parts.1,
-      append_assoc (preorder p) (preorders parts.0) (preorders parts.1)
-          ∙ ap (λ ts. preorder p ++ ts) (parts.2 ∙ moved.1),
+      joined (preorder p) (preorders ps) (preorders parts.0) (preorders parts.1) tags,
     )
 
-no_tags : (gs : List Goal) (ps : Proofs gs) → gs ≡ [] → preorders ps ≡ []
-no_tags gs (no_more e) n = refl
-no_tags gs (and goal others e p ps) n = absurd (cc)
-
+-- nothing after tags leaves them as they are
 append_nothing : (ts us : List Tag) → us ≡ [] → ts ++ us ≡ ts
 append_nothing [] us e = e
 append_nothing (t ∷ ts) us e = ap (λ vs. t ∷ vs) (append_nothing ts us e)
 
 -- a proof of the one goal of a list
-pub one_proof : (g : Goal) (gs : List Goal) → gs ≡ g ∷ [] → (ps : Proofs gs)
-    → (p : Proof g) × (preorder p ≡ preorders ps)
-one_proof g gs e (no_more n) = absurd (cc)
-one_proof g gs e (and goal others k p ps) =
+pub proof-one : (d : Setting) (g : Goal) (gs : List Goal) → gs ≡ g ∷ [] → (ps : Proofs d gs)
+    → (p : Proof d g) × (preorders ps ≡ preorder p)
+proof-one d g gs e (no_more n) = absurd (cc)
+proof-one d g gs e (and goal others k p ps) =
     let same : goal ≡ g = cc in
     let none : others ≡ [] = cc in
-    let moved = proof-same goal g same p in
-    (moved.0, moved.1 ∙ sym (append_nothing (preorder p) (preorders ps) (no_tags others ps none)))
-
--- the next conjunct of the code is the last
-pub last_conjunct : (xs : List (CodeConjunct Term)) (c : CodeConjunct Term)
-    → conjuncts (map (conjunct_of {E = Term}) (reverse (xs ++ c ∷ [])))
-    ≡ also (conjunct_of {E = Term} c) (conjuncts (map (conjunct_of {E = Term}) (reverse xs)))
-last_conjunct xs c = ap (λ ys. conjuncts (map (conjunct_of {E = Term}) ys)) (reverse-append xs (c ∷ []))
+    let moved = proof-same d goal g same p in
+    let alone = append_nothing (preorder p) (preorders ps) (proofs-none d others none ps) in
+    (moved.0, cc)
 
 -- a level of the code is its scope and its conjuncts
 pub level_of-out : (l : CodeLevel Expr)

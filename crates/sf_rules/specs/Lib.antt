@@ -1,6 +1,3 @@
-pub mod Table
-pub mod Proves
-pub mod Built
 pub mod Internal
 pub mod Lemmas
 pub mod Few
@@ -9,7 +6,6 @@ pub mod Proving
 pub mod Setting
 pub mod Words
 pub mod Rows
-pub mod Laws
 pub mod Examples
 pub mod LawsOfCommands
 pub mod LawsOfConjuncts

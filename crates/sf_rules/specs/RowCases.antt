@@ -16,12 +16,12 @@ use Rattle.sf_rules.specs.Rows.Add.{assume_row}
 use Rattle.sf_rules.specs.Rows.Branches.{branch_row}
 use Rattle.sf_rules.specs.Rows.Calls.{term_after, term_before}
 use Rattle.sf_rules.specs.Rows.Commands.{assign_row, look_row, mutate_row, new_row, dispose_row}
+use Rattle.sf_rules.specs.Rows.Ends.{is_empty}
 use Rattle.sf_rules.specs.Rows.Loops.{after_loop, body_once, unknown_in}
 use Rattle.sf_rules.specs.Rows.Regions.{variables_from}
 use Rattle.sf_rules.specs.Rows.Take.{subtract_row}
 use Rattle.sf_rules.specs.Rows.Whole.{row}
 use Rattle.sf_rules.specs.Setting.{Setting}
-use Rattle.sf_rules.specs.Table.{is_empty}
 use Rattle.sf_rules.specs.Words.{to_add, to_add_test, to_take}
 use Rattle.sf_sym.specs.declared.tag.Tag.{Tag}
 use Rattle.sf_sym.specs.declared.term.Term.{Term}

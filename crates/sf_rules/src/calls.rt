@@ -11,7 +11,7 @@ ghost use Rattle.sf_rules.specs.Internal.Children.{children_of};
 ghost use Rattle.sf_rules.specs.Rows.Calls.{call_row, called_with, fork_row, forked_with, give_row, term_after, term_before};
 ghost use Rattle.sf_rules.specs.Rows.Front.{at_command, at_gave};
 ghost use Rattle.sf_rules.specs.Setting.{Setting, setting_of};
-ghost use Rattle.sf_rules.specs.Table.{has_numbers};
+ghost use Rattle.sf_rules.specs.Few.{has_numbers};
 ghost use Rattle.sf_rules.specs.Words.{to_add, to_take};
 ghost use Rattle.sf_sym.specs.Goal.{todo_of};
 ghost use Rattle.sf_sym.specs.State.{term};

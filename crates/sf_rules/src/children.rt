@@ -6,7 +6,7 @@ ghost use Rattle.sf_precise.specs.Order.{IsOrdering};
 ghost use Rattle.sf_rules.specs.Internal.Children.{children_of};
 ghost use Rattle.sf_rules.specs.Rows.Whole.{row, row_of};
 ghost use Rattle.sf_rules.specs.Setting.{Setting, setting_of};
-ghost use Rattle.sf_rules.specs.Table.{has_numbers};
+ghost use Rattle.sf_rules.specs.Few.{has_numbers};
 ghost use Rattle.sf_rules.specs.declared.children.RuleFault.TheVariants.{NotARule};
 ghost use Rattle.sf_sym.specs.Goal.{goal_of};
 
@@ -15,11 +15,10 @@ use crate::calls::{call, fork, give};
 use crate::commands::{assign, dispose, look, mutate, new};
 use crate::loops::{again, around, begin_loop, end, return_from};
 use crate::regions::{enter, exit};
-use crate::rules::has_numbers;
 use crate::subtracting::{assume, show};
 use sf_normal::{absurd, drop, force, split, unroll};
 use sf_precise::Arranged;
-use sf_sym::{Goal, Tag};
+use sf_sym::{Goal, State, Tag};
 use std::alloc::{AllocError, Global};
 
 /// What a row leaves to be proved.
@@ -91,6 +90,13 @@ pub fn apply_row<'a>(
         Some(left) => Ok(left),
         None => Err(RuleFault::NotARule),
     }
+}
+
+/// Whether new numbers can't run out.
+fn has_numbers(state: &State) -> bool
+    ensures { result ≡ has_numbers state.now }
+{
+    state.next_sym() <= u32::MAX - 1023 && state.next_atom() <= u32::MAX - 1023
 }
 
 /// What the tag's row leaves, where numbers can't run out. `None` exactly where there is no row.

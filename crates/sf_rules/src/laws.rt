@@ -1,7 +1,7 @@
-//! What the table has to do with the whole table of rules, and what the rows of commands and of conjuncts do to what a
-//! goal stands for. Each function is a law: calling it gives its fact to the caller's proof, and does nothing.
+//! What is in front of each row of the table, and what the rows of commands and of conjuncts do to what
+//! a goal stands for. Each function is a law: calling it gives its fact to the caller's proof, and does
+//! nothing.
 
-ghost use Rattle.sf_rules.specs.Laws.{BuiltRowsAreRows};
 ghost use Rattle.sf_rules.specs.LawsOfSettings.{ArrangedHasSetting, SettingExists, SettingIsUnique};
 ghost use Rattle.sf_rules.specs.RowCases.{RowsHaveCases};
 ghost use Rattle.sf_rules.specs.LawsOfConjuncts.{AssumeKeepsGoals, AssumedBranchKeepsGoals, ShownBranchLeavesRest, SubtractionLeavesRest};
@@ -14,13 +14,7 @@ use sf_precise::laws::{
 };
 use sf_produce::laws::add_keeps_goals;
 
-/// Each row that there is code for is a row of the whole table, whatever the program is.
-#[tactic(auto, using(crate::proofs::WholeTable::built_rows_are_rows))]
-pub fn built_rows_are_rows()
-    ensures { BuiltRowsAreRows }
-{}
-
-/// Each row of the whole table has something in front and leaves goals as one of its cases says.
+/// Each row of the table has something in front and leaves goals as one of its cases says.
 #[tactic(auto, using(crate::proofs::RowInversion::rows_have_cases))]
 pub fn rows_have_cases()
     ensures { RowsHaveCases }

@@ -12,7 +12,7 @@ ghost use Rattle.sf_rules.specs.Rows.Ends.{end_row, return_row};
 ghost use Rattle.sf_rules.specs.Rows.Front.{at_again, at_command, at_end, at_head, at_return};
 ghost use Rattle.sf_rules.specs.Rows.Loops.{after_loop, again_row, around_row, body_once, loop_row};
 ghost use Rattle.sf_rules.specs.Setting.{Setting};
-ghost use Rattle.sf_rules.specs.Table.{has_numbers};
+ghost use Rattle.sf_rules.specs.Few.{has_numbers};
 ghost use Rattle.sf_rules.specs.Words.{negation, pending_assertion};
 ghost use Rattle.sf_sym.specs.Goal.{end, goal_of, taking, todo_of};
 ghost use Rattle.sf_sym.specs.Pending.{pending_of};

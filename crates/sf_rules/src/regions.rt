@@ -11,7 +11,7 @@ ghost use Rattle.sf_rules.specs.Internal.Children.{children_of};
 ghost use Rattle.sf_rules.specs.Rows.Front.{at_command, at_exit};
 ghost use Rattle.sf_rules.specs.Rows.Regions.{enter_row, entered_with, exit_row, variables_from};
 ghost use Rattle.sf_rules.specs.Setting.{Setting, setting_of};
-ghost use Rattle.sf_rules.specs.Table.{has_numbers};
+ghost use Rattle.sf_rules.specs.Few.{has_numbers};
 ghost use Rattle.sf_sym.specs.Goal.{todo_of};
 
 use crate::children::Children;

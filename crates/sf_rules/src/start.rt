@@ -1,40 +1,24 @@
 //! The first goal of a procedure.
 
-ghost use Rattle.std.specs.Prelude.{◌≡◌, ◌++◌, ◌-◌, ◌<◌, ◌≤◌, ◌^◌, ◌∷◌, [], All, AllPairs, IfOk, IfSome, get_or, length};
+ghost use Rattle.std.specs.Prelude.{◌≡◌, ◌++◌, ◌-◌, ◌<◌, ◌≤◌, ◌^◌, [], All, AllPairs, IfOk, IfSome, get_or, length};
 ghost use Rattle.std.specs.List.{flat_map, slice_get};
 ghost use Rattle.sf_precise.specs.Order.{IsOrdering};
 ghost use Rattle.sf_core.specs.Program.Formed.{ProcedureWithin};
-ghost use Rattle.sf_core.specs.Program.View.{assertion_of, block_of, procedure_of};
+ghost use Rattle.sf_core.specs.Program.View.{procedure_of};
 ghost use Rattle.sf_core.specs.Program.ProgramView.{program_of};
-ghost use Rattle.sf_sym.specs.Goal.{goal_of, return, to_run, todo_of};
-ghost use Rattle.sf_rules.specs.First.{first_goal as first_of, state_by, variables_of};
+ghost use Rattle.sf_sym.specs.Goal.{goal_of};
+ghost use Rattle.sf_rules.specs.First.{first_goal, links_of, nils, state_by, symbols, variables_of};
 ghost use Rattle.sf_calls.specs.Sets.{IsEarlierResource};
 ghost use Rattle.sf_rules.specs.Setting.{Setting, setting_of};
-ghost use Rattle.sf_rules.specs.Table.{first_goal, links_of, nils, symbols, to_add};
 
 use crate::regions::add_variables;
-use crate::terms::pending_assertion;
 use crate::words::{Terms, with_assumed};
 use sf_base::{ProcId, ResId, Var};
 use sf_calls::laws::{held_resources_are_there, sets_from_truncation};
 use sf_core::{Links, Proc, Program};
 use sf_precise::Arranged;
-use sf_sym::{Goal, Item, State, Term, with_add};
+use sf_sym::{Goal, Item, State, Term};
 use std::alloc::{AllocError, Global};
-
-/// The first goal of a procedure of the program. An `Err` means out of memory.
-pub fn start_goal<'a>(alloc: Global, p: &'a Program, f: &'a Proc) -> Result<Goal<'a>, AllocError>
-    requires { ProcedureWithin (program_of p.now) (procedure_of f.now) }
-    ensures { IfOk result (λ g. goal_of g ≡ first_goal (program_of p.now) (procedure_of f.now)) }
-{
-    let parameters = f.references + f.values;
-    let vars = first_vars(alloc, parameters, f.names.len() as u32)?;
-    let todo = first_items(alloc, &vars, f)?;
-    Ok(Goal {
-        state: State::new(alloc, links_of(p), vars, parameters),
-        todo,
-    })
-}
 
 /// The first goal of the procedure of that number. There is such a procedure. An `Err` means out of
 /// memory.
@@ -48,7 +32,7 @@ pub fn first_goal<'a>(
     requires setting { d ≡ setting_of d.ordered arranged.now }
     requires there { f.0 < length arranged.now.program.procedures.items }
     ensures { IfOk result (λ first. IfSome (slice_get d.program.procedures f.0)
-        (λ g. goal_of first ≡ first_of d f g)) }
+        (λ g. goal_of first ≡ first_goal d f g)) }
 {
     let procedure = arranged.program.proc(f);
     let state = first_state(alloc, arranged, f, procedure)?;
@@ -139,21 +123,4 @@ fn with_nils(mut vars: Vec<(Var, Term)>, from: u32, to: u32) -> Result<Vec<(Var,
         vars.push((Var::Own(i), Term::Nil))?;
     }
     Ok(vars)
-}
-
-/// What there is to do at first: assume the precondition, run the body, return.
-fn first_items<'a>(
-    alloc: Global,
-    vars: &[(Var, Term)],
-    f: &'a Proc,
-) -> Result<Vec<Item<'a>>, AllocError>
-    ensures { IfOk result (λ todo. todo_of todo.items
-        ≡ to_add f.now.place vars.now (assertion_of f.now.pre) ++ to_run (block_of f.now.body.items)
-        ++ (return f.now.end (assertion_of f.now.post) ∷ [])) }
-{
-    let mut todo = Vec::with_capacity(alloc, 3)?;
-    todo.push(Item::Return(f.end, &f.post))?;
-    todo.push(Item::Run(&f.body))?;
-    let given = pending_assertion(alloc, vars, &f.pre)?;
-    Ok(with_add(todo, f.place, given)?)
 }

@@ -8,7 +8,7 @@ ghost use Rattle.sf_rules.specs.Internal.Children.{children_of};
 ghost use Rattle.sf_rules.specs.Rows.Add.{assume_row};
 ghost use Rattle.sf_rules.specs.Rows.Front.{at_add, at_take};
 ghost use Rattle.sf_rules.specs.Rows.Take.{subtract_row};
-ghost use Rattle.sf_rules.specs.Table.{has_numbers};
+ghost use Rattle.sf_rules.specs.Few.{has_numbers};
 ghost use Rattle.sf_sym.specs.Goal.{todo_of};
 ghost use Rattle.sf_sym.specs.Pending.{existentials_in, one_if_existential, pending_of};
 

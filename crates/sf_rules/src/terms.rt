@@ -1,17 +1,15 @@
 //! Expressions and assertions with the terms that the variables have now.
 
 ghost use Rattle.std.specs.Prelude.{◌≡◌, IfOk, None, map, replicate};
-ghost use Rattle.sf_core.specs.Program.View.{assertion_of, conjunct_of, conjuncts, level_of};
-ghost use Rattle.sf_sym.specs.Pending.{pending_of};
+ghost use Rattle.sf_core.specs.Program.View.{conjunct_of, conjuncts, level_of};
 ghost use Rattle.sf_rules.specs.Internal.Terms.{terms_of};
-ghost use Rattle.sf_rules.specs.Table.{pending_assertion};
 ghost use Rattle.sf_sym.specs.Mapped.{conjunct_with, conjuncts_with, level_with, operand_with, test_with};
 ghost use Rattle.sf_sym.specs.State.{term, term_at};
 
-use crate::words::{Terms, pending};
+use crate::words::Terms;
 use sf_base::{FieldId, Var};
-use sf_core::{Assertion, Conjunct, Expr, Level, Operand, Test};
-use sf_sym::{Pending, Term};
+use sf_core::{Conjunct, Expr, Level, Operand, Test};
+use sf_sym::Term;
 use std::alloc::{AllocError, Global};
 
 /// The term of an expression.
@@ -37,19 +35,6 @@ pub(crate) fn term_at(vars: &[(Var, Term)], x: Var) -> Term
         left = rest;
     }
     Term::Nil
-}
-
-/// The conjuncts of an assertion with the terms that its variables have now.
-pub(crate) fn pending_assertion(
-    alloc: Global,
-    vars: &[(Var, Term)],
-    a: &Assertion,
-) -> Result<Pending, AllocError>
-    ensures { IfOk result (λ given. pending_of given
-        ≡ pending_assertion vars.now (assertion_of a.now)) }
-{
-    let given = pending(alloc, Terms::Of(vars), a)?;
-    Ok(given)
 }
 
 /// That many existentials without a term.

@@ -24,7 +24,7 @@ use Rattle.sf_rules.specs.Rows.Regions.{entered, enter_row, exit_row}
 use Rattle.sf_rules.specs.Rows.Take.{subtract_row}
 use Rattle.sf_rules.specs.Rows.Whole.{row, row_of}
 use Rattle.sf_rules.specs.Setting.{Setting}
-use Rattle.sf_rules.specs.Table.{has_numbers}
+use Rattle.sf_rules.specs.Few.{has_numbers}
 use Rattle.sf_search.proofs.Fewer.{all-fewer, cell-atom, fewer_settled, handed-settled, none-fewer, without-fewer}
 use Rattle.sf_search.proofs.Settled.{settled-by, settled-same, stripped, written-stripped}
 use Rattle.sf_search.specs.Internal.Settled.{IsFirstSettled, IsSettled, keeps_settled}

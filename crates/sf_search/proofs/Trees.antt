@@ -1,7 +1,8 @@
 -- Tags that the strategy takes are those of proofs.
 -- Names: `proofs-LAW` of proofs of goals, `chosen-LAW` of tags that are taken, `judge-LAW` of verdicts.
-use Rattle.std.proofs.Common.{◌≡◌, ℕ, suc, ◌+◌, inl, inr, List, [], ◌∷◌, ◌++◌, length, refl, sym, ap, ◌∙◌, subst, append_assoc}
+use Rattle.std.proofs.Common.{◌≡◌, ℕ, suc, ◌+◌, inl, inr, List, [], ◌∷◌, ◌++◌, length, refl, sym, ap, ◌∙◌}
 use Rattle.sf_core.specs.Program.Syntax.{Procedure}
+use Rattle.sf_rules.specs.Lemmas.{proof-one, proofs-split}
 use Rattle.sf_rules.specs.Setting.{Setting}
 use Rattle.sf_rules.specs.First.{first_goal}
 use Rattle.sf_search.specs.Judge.{Continues, Chosen, JudgedAfter, JudgeFrom, Outcome, Search, Verdict, fails, large, no_row, proof, proved, stuck, with_prefix}
@@ -12,48 +13,6 @@ use Rattle.sf_sym.specs.declared.tag.Tag.TheVariants.{Procedure as Begin}
 use Rattle.sf_sym.specs.Goal.{Goal}
 
 module _ (d : Setting) where
-  -- proofs of equal goals have the same tags
-  proofs-same : (gs hs : List Goal) → gs ≡ hs → (ps : Proofs d gs)
-      → (qs : Proofs d hs) × (preorders qs ≡ preorders ps)
-  proofs-same gs hs e ps = subst (λ zs. (qs : Proofs d zs) × (preorders qs ≡ preorders ps)) e (ps, refl)
-
-  proof-same : (g h : Goal) → g ≡ h → (p : Proof d g) → (q : Proof d h) × (preorder q ≡ preorder p)
-  proof-same g h e p = subst (λ z. (q : Proof d z) × (preorder q ≡ preorder p)) e (p, refl)
-
-  -- proofs of two lists of goals one after the other are proofs of each
-  proofs-split : (gs hs : List Goal) (ps : Proofs d (gs ++ hs))
-      → (qs : Proofs d gs) × (rs : Proofs d hs) × (preorders qs ++ preorders rs ≡ preorders ps)
-  proofs-split [] hs ps = (no_more refl, ps, refl)
-  proofs-split (g ∷ gs) hs (no_more e) = absurd (cc)
-  proofs-split (g ∷ gs) hs (and goal others e p ps) =
-      let same : others ≡ gs ++ hs = cc in
-      let head : g ∷ gs ≡ goal ∷ gs = cc in
-      let moved = proofs-same others (gs ++ hs) same ps in
-      let parts = proofs-split gs hs moved.0 in (
-        and goal gs head p parts.0,
-        parts.1,
-        append_assoc (preorder p) (preorders parts.0) (preorders parts.1)
-            ∙ ap (λ ts. preorder p ++ ts) (parts.2 ∙ moved.1),
-      )
-
-  no-tags : (gs : List Goal) (ps : Proofs d gs) → gs ≡ [] → preorders ps ≡ []
-  no-tags gs (no_more e) n = refl
-  no-tags gs (and goal others e p ps) n = absurd (cc)
-
-  append-nothing : (ts us : List Tag) → us ≡ [] → ts ++ us ≡ ts
-  append-nothing [] us e = e
-  append-nothing (t ∷ ts) us e = ap (λ vs. t ∷ vs) (append-nothing ts us e)
-
-  -- a proof of the one goal of a list
-  one-proof : (g : Goal) (gs : List Goal) → gs ≡ g ∷ [] → (ps : Proofs d gs)
-      → (p : Proof d g) × (preorder p ≡ preorders ps)
-  one-proof g gs e (no_more n) = absurd (cc)
-  one-proof g gs e (and goal others k p ps) =
-      let same : goal ≡ g = cc in
-      let none : others ≡ [] = cc in
-      let moved = proof-same goal g same p in
-      (moved.0, moved.1 ∙ sym (append-nothing (preorder p) (preorders ps) (no-tags others ps none)))
-
   -- tags that the strategy takes up to the end are the preorder of proofs
   chosen-proofs : (gs : List Goal) (tags : List Tag) → Chosen d gs tags proved
       → (ps : Proofs d gs) × (preorders ps ≡ tags)
@@ -62,15 +21,15 @@ module _ (d : Setting) where
   chosen-proofs (g ∷ gs) [] c = absurd c
   chosen-proofs (g ∷ gs) (t ∷ ts) c =
       let rest = chosen-proofs (c.1 ++ gs) ts c.3 in
-      let parts = proofs-split c.1 gs rest.0 in
-      (and g gs refl (by t c.1 c.2 parts.0) parts.1, ap (λ us. t ∷ us) (parts.2 ∙ rest.1))
+      let parts = proofs-split d c.1 gs rest.0 in
+      (and g gs refl (by t c.1 c.2 parts.0) parts.1, ap (λ us. t ∷ us) (sym parts.2 ∙ rest.1))
 
   -- the tags of a search that ends well are those of a proof of its goal
   search-proof : (g : Goal) (tags : List Tag) → Search d g tags proved → (p : Proof d g) × (preorder p ≡ tags)
   search-proof g tags s =
       let all = chosen-proofs (g ∷ []) tags s.chosen in
-      let one = one-proof g (g ∷ []) refl all.0 in
-      (one.0, one.1 ∙ all.1)
+      let one = proof-one d g (g ∷ []) refl all.0 in
+      (one.0, sym one.1 ∙ all.1)
 
   proved-verdict : (f : ℕ) (x : Procedure) (xs : List Procedure) (tags own : List Tag) (w : Verdict)
       → (others : Verdict → Type 0) → others w → proof tags ≡ with_prefix (Begin (record { 0 = f }) ∷ own) w

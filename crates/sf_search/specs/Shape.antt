@@ -8,7 +8,7 @@ use Rattle.sf_core.specs.declared.fields.Links.{Links}
 use Rattle.sf_core.specs.Program.Syntax.{Call, Command, assign, look_up, mutate, new, dispose, if, while, call, fork, with, Conjuncts, none, also, Resource}
 use Rattle.sf_produce.specs.Add.{operands}
 use Rattle.sf_rules.specs.Setting.{Setting}
-use Rattle.sf_rules.specs.Table.{has_numbers}
+use Rattle.sf_rules.specs.Few.{has_numbers}
 use Rattle.sf_sym.specs.Below.{AreBelow}
 use Rattle.sf_sym.specs.declared.atom.Atom.{Atom}
 use Rattle.sf_sym.specs.declared.atom.Atom.TheVariants.{Points, Ls, Tree}

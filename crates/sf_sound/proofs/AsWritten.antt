@@ -17,7 +17,7 @@ use Rattle.sf_rules.specs.Rows.Front.{at_command, at_exit}
 use Rattle.sf_rules.specs.Rows.Regions.{enter_row, entered, entered_with, exit_row, variables_from}
 use Rattle.sf_rules.specs.Rows.Whole.{row, row_of}
 use Rattle.sf_rules.specs.Setting.{Setting}
-use Rattle.sf_rules.specs.Table.{has_numbers}
+use Rattle.sf_rules.specs.Few.{has_numbers}
 use Rattle.sf_rules.specs.Words.{to_add, to_take}
 use Rattle.sf_sound.proofs.Running.{Shown, run, run-shown, shown-nothing, shown-procedure}
 use Rattle.sf_sym.specs.declared.tag.Tag.{Tag}

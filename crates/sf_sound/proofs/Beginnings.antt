@@ -40,7 +40,6 @@ use Rattle.sf_core.specs.Program.Heads.{call_occurrences, head_calls, head_occur
 use Rattle.sf_core.specs.Program.Syntax.{Assertion, Block, done, then, Call, Command, assign, look_up, mutate, new, dispose, if, while, call, fork, with, Procedure, Program, Resource}
 use Rattle.sf_rules.specs.Rows.Regions.{variables_from}
 use Rattle.sf_rules.specs.Setting.{Setting}
-use Rattle.sf_rules.specs.Table.{links_of, nils, symbols}
 use Rattle.sf_rules.specs.Words.{pending_assertion}
 use Rattle.sf_safe.specs.Contract.{IsVariableOf}
 use Rattle.sf_safe.specs.Lemmas.{local-weaken}
@@ -55,7 +54,7 @@ use Rattle.sf_sound.proofs.States.{StateSuits, items-add, items-run, renewed, re
 use Rattle.sf_sound.proofs.Words.{adding-assuming, adding-does, body-holds}
 use Rattle.sf_sym.specs.Lemmas.Adding.{adding-holds}
 use Rattle.sf_sound.specs.Internal.Claims.{Satisfies}
-use Rattle.sf_rules.specs.First.{first_goal, first_state_of, own_vars, variables_of}
+use Rattle.sf_rules.specs.First.{first_goal, first_state_of, links_of, nils, own_vars, symbols, variables_of}
 use Rattle.sf_sound.specs.Internal.Suits.{Claim, Domain, HasDomain, IsPassed, IsPlain, Suits}
 use Rattle.sf_sym.specs.Below.{AreBelow, IsBelow}
 use Rattle.sf_sym.specs.declared.term.Term.{Term}

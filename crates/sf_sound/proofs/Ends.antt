@@ -8,7 +8,7 @@ use Rattle.sf_base.specs.declared.value.Value.{Value}
 use Rattle.sf_base.specs.HeapStore.{Heap, IsEmpty, ◌⋆◌}
 use Rattle.sf_core.specs.Program.Syntax.{Assertion, Program}
 use Rattle.sf_rules.specs.Setting.{Setting}
-use Rattle.sf_rules.specs.Table.{is_empty}
+use Rattle.sf_rules.specs.Rows.Ends.{is_empty}
 use Rattle.sf_rules.specs.Words.{pending_assertion, to_take}
 use Rattle.sf_safe.specs.Local.{Local, value_in}
 use Rattle.sf_safe.specs.LocalSafe.{LocalSafe}

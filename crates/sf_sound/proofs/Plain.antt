@@ -30,7 +30,7 @@ use Rattle.sf_core.specs.Program.Links.{left_name, next_name, right_name}
 use Rattle.sf_core.specs.Program.Named.{IsFirstNamed}
 use Rattle.sf_core.specs.Program.Syntax.{Assertion, Conjunct, holds, points, segment, tree, choose, Conjuncts, none, also, Level, level}
 use Rattle.sf_rules.specs.Setting.{Setting}
-use Rattle.sf_rules.specs.Table.{links_of, number_of}
+use Rattle.sf_rules.specs.First.{links_of, number_of}
 use Rattle.sf_sym.specs.Formed.{AllFormed, IsCounted, IsScoped, LevelFormed, OneFormed}
 use Rattle.sf_sound.specs.Internal.Suits.{IsPlain}
 use Rattle.sf_sym.specs.declared.term.Term.{Term}

@@ -13,7 +13,7 @@ use Rattle.sf_core.specs.declared.command.Expr.{Expr}
 use Rattle.sf_core.specs.declared.command.Expr.TheVariants.{Var as Variable, Nil, Int}
 use Rattle.sf_core.specs.Program.Syntax.{Assertion, Block, done, then}
 use Rattle.sf_rules.specs.Setting.{Setting}
-use Rattle.sf_rules.specs.Table.{links_of}
+use Rattle.sf_rules.specs.First.{links_of}
 use Rattle.sf_rules.specs.Words.{pending_assertion, to_add, to_take}
 use Rattle.sf_safe.specs.Local.{Local, value_in}
 use Rattle.sf_sound.proofs.Annotated.{HaveValues, pending-all}

@@ -22,7 +22,7 @@ use Rattle.sf_core.specs.declared.command.Expr.TheVariants.{Var as Variable, Nil
 use Rattle.sf_core.specs.declared.fields.Links.{Links}
 use Rattle.sf_core.specs.Program.Formed.{ExprWithin, TestWithin}
 use Rattle.sf_rules.specs.Setting.{Setting}
-use Rattle.sf_rules.specs.Table.{links_of}
+use Rattle.sf_rules.specs.First.{links_of}
 use Rattle.sf_rules.specs.Words.{negation, test_conjuncts, to_add_test}
 use Rattle.sf_sound.proofs.Annotated.{HaveValues}
 use Rattle.sf_sound.proofs.States.{ItemsSuit}

@@ -2,6 +2,7 @@
 -- Berdine, Calcagno, O'Hearn, "Symbolic Execution with Separation Logic" (2005) and "Smallfoot" (2005); O'Hearn
 -- (2007) for regions and parallel calls.
 use Rattle.std.specs.Prelude.{cond, Option, None, List}
+use Rattle.sf_rules.specs.Few.{has_numbers}
 use Rattle.sf_rules.specs.Rows.Add.{assume_row}
 use Rattle.sf_sym.specs.declared.tag.Tag.{Tag}
 use Rattle.sf_sym.specs.declared.tag.Tag.TheVariants as t
@@ -16,7 +17,6 @@ use Rattle.sf_rules.specs.Rows.Loops.{loop_row, around_row, again_row}
 use Rattle.sf_rules.specs.Rows.Regions.{enter_row, exit_row}
 use Rattle.sf_rules.specs.Rows.Take.{subtract_row}
 use Rattle.sf_rules.specs.Setting.{Setting}
-use Rattle.sf_rules.specs.Table.{has_numbers}
 
 -- the rows of the table; `procedure` begins a proof and has none
 abbrev pub row_of : Setting → Goal → Tag → Option (List Goal)

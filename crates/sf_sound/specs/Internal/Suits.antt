@@ -24,7 +24,7 @@ use Rattle.sf_core.specs.declared.command.Expr.TheVariants.{Var as Variable, Nil
 use Rattle.sf_core.specs.Machine.Step.{procedure_at}
 use Rattle.sf_core.specs.Program.Syntax.{Assertion, Block, done, then, Call, Command, assign, look_up, mutate, new, dispose, if, while, call, fork, with, Procedure, Resource}
 use Rattle.sf_rules.specs.Setting.{Setting}
-use Rattle.sf_rules.specs.Table.{links_of}
+use Rattle.sf_rules.specs.First.{links_of}
 use Rattle.sf_rules.specs.Words.{pending_assertion}
 use Rattle.sf_safe.specs.Local.{Fits, Local}
 use Rattle.sf_sound.specs.Internal.Claims.{Does}

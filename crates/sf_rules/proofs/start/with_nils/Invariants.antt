@@ -1,5 +1,5 @@
 use Rattle.std.proofs.Common.{◌≡◌, ◌++◌, ◌-◌}
-use Rattle.sf_rules.specs.Table.{nils}
+use Rattle.sf_rules.specs.First.{nils}
 use Rattle.sf_rules.proofs.start.with_nils.Given as goal
 
 abbrev pub invariant-loop-i : goal.invariant-loop-i

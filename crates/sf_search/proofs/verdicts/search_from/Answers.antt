@@ -1,6 +1,6 @@
 use Rattle.std.proofs.Common.{◌≡◌, ◌+◌, ◌<◌, ◌∙◌, ap, sym, subst, [], ◌∷◌, ◌++◌, length, arith, refl, rules, length-append}
 use Rattle.sf_base.specs.declared.limits.TheConstants.{PROCEDURE_TAGS}
-use Rattle.sf_rules.specs.Internal.Subgoals.{stack_of}
+use Rattle.sf_rules.specs.Internal.Children.{stack_of}
 use Rattle.sf_search.proofs.Leading.{Leads, leads_on, leads_end, leads_fault, no_goals, stack_push}
 use Rattle.sf_search.proofs.Kept.{first_settled}
 use Rattle.sf_search.specs.Internal.Choosing.{choice_of, kind_of}

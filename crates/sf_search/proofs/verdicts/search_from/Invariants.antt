@@ -1,6 +1,6 @@
 use Rattle.std.proofs.Common.{◌≤◌, ◌-◌, [], ◌∷◌, length}
 use Rattle.sf_base.specs.declared.limits.TheConstants.{PROCEDURE_TAGS}
-use Rattle.sf_rules.specs.Internal.Subgoals.{stack_of}
+use Rattle.sf_rules.specs.Internal.Children.{stack_of}
 use Rattle.sf_search.proofs.Leading.{Leads}
 use Rattle.sf_search.specs.Internal.Settled.{IsFirstSettled}
 use Rattle.sf_sym.specs.Goal.{goal_of}
