@@ -19,12 +19,12 @@ use Rattle.sf_search.specs.Judge.{Verdict, proof, fails, Judge}
 use Rattle.sf_search.specs.Laws.{TakenTagsProve}
 use Rattle.sf_sound.specs.Proofs.{ProofsAreSound}
 use Rattle.sf_sym.specs.declared.tag.Tag.{Tag}
-use Rattle.sf_cli.specs.Answer.{Accepted, AcceptedBytes, FileAnswer, OrderAnswer, RecheckAnswer, Reply, VerdictAnswer, admitted, answer, file_refused, rechecked, refused, unread}
+use Rattle.sf_cli.specs.Answer.{Accepted, AcceptedBytes, by_proof, by_search, FileAnswer, OrderAnswer, RecheckAnswer, Reply, VerdictAnswer, admitted, answer, file_refused, rechecked, refused, unread}
 use Rattle.sf_cli.specs.FileFault.{Admits}
 use Rattle.sf_cli.specs.Laws.{AcceptedFilesAreSound, AcceptedProofsAreSound}
 use Rattle.sf_cli.specs.Reads.{Reads}
 use Rattle.sf_cli.specs.Rechecked.{accepted, rejected}
-use Rattle.sf_cli.specs.Words.{Text, Order, order_of, recheck, verify}
+use Rattle.sf_words.specs.Words.{Text, Order, demo, order_of, recheck, run, verify}
 
 -- a program that is read is in order
 pub accepted-formed : EachFileIsShallow → ElaboratedIsFormed → (bytes : Text) (p : Program) → Reads bytes p → IsFormed p
@@ -83,22 +83,12 @@ accepted-order files proofs told words text a = go (order_of words) refl a
   where
     go : (o : Option Order) → order_of words ≡ o → OrderAnswer told o text 0 → Accepted told words text
     go None e x = absurd (omega (arith, x.1))
-    go (Some (verify file)) e (bytes, may, k) = record {
-      order = verify file;
-      are = e;
-      bytes = bytes;
-      may_have = may;
-      answer = k;
-      accepted = files bytes text k;
-    }
-    go (Some (recheck file name)) e (bytes, may, k) = record {
-      order = recheck file name;
-      are = e;
-      bytes = bytes;
-      may_have = may;
-      answer = k;
-      accepted = accepted-recheck proofs told bytes name text k;
-    }
+    go (Some (verify file workers)) e (bytes, may, k) =
+        by_search file workers e bytes may k (files bytes text k)
+    go (Some (recheck file name)) e (bytes, may, k) =
+        by_proof file name e bytes may k (accepted-recheck proofs told bytes name text k)
+    go (Some (run file entry state steps waits)) e x = absurd (omega (arith, x.1))
+    go (Some (demo procedures)) e x = absurd (omega (arith, x.1))
 
 -- what is said with status 0 promises it
 pub accepted-reply : AcceptedFilesAreSound → AcceptedProofsAreSound → (told : Option Files)

@@ -37,7 +37,8 @@ use Rattle.sf_cli.specs.Reads.{Reads}
 use Rattle.sf_cli.specs.Refusals.{of_grammar, of_names, of_tokens, of_variables, refusal_text}
 use Rattle.sf_cli.specs.Rechecked.{ProofAnswer, accepted, in_tags, in_text, rejected}
 use Rattle.sf_cli.specs.Rejections.{of_tags, of_text, rejection_text}
-use Rattle.sf_cli.specs.Words.{Text, Order, order_of, recheck, usage_text, verify}
+use Rattle.sf_words.specs.Words.{Text, Order, demo, order_of, recheck, run, verify}
+use Rattle.sf_cli.specs.Usage.{usage_text}
 
 -- what the layers below say: that each has an answer, and that what is read is in order
 pub record Answers : Type 0 where
@@ -160,13 +161,15 @@ some-recheck each files bytes name given there text status (admitted p a k) =
 pub some-command : EachFileHasAnAnswer → EachProofHasAnAnswer → EachCommandHasAnAnswer
 some-command each proofs files words there = go (order_of words) refl
   where
+    said : (o : Option Order) → order_of words ≡ o → OrderAnswer (Some files) o usage_text 2
+        → (text : Text) × (status : ℕ) × Answer files words text status
+    said o e a = (usage_text, 2, subst (λ (o : Option Order). OrderAnswer (Some files) o usage_text 2) (sym e) a)
+
     go : (o : Option Order) → order_of words ≡ o → (text : Text) × (status : ℕ) × Answer files words text status
-    go None e = (
-      usage_text,
-      2,
-      subst (λ (o : Option Order). OrderAnswer (Some files) o usage_text 2) (sym e) (refl, refl),
-    )
-    go (Some (verify file)) e =
+    go None e = said None e (refl, refl)
+    go (Some (run file entry state steps waits)) e = said (Some (run file entry state steps waits)) e (refl, refl)
+    go (Some (demo procedures)) e = said (Some (demo procedures)) e (refl, refl)
+    go (Some (verify file workers)) e =
         let found = there file (subst (λ (o : Option Order). Names o file) (sym e) refl) in
         let a = each found.0 in (
           a.0,

@@ -5,7 +5,7 @@ use Rattle.std.proofs.lemmas.Bool.{cases_lt}
 use Rattle.sf_io.specs.Increased.{Increased}
 use Rattle.sf_io.specs.Shelf.{Files}
 use Rattle.sf_cli.specs.Answer.{Reply, answer, unread}
-use Rattle.sf_cli.specs.Words.{Order, Text}
+use Rattle.sf_words.specs.Words.{Order, Text}
 
 -- what is said is an answer
 pub complete-reply : (told : Option Files) (before after : Text → ℕ) (order : Option Order) (text : Text) (status : ℕ)

@@ -40,7 +40,7 @@ use Rattle.sf_cli.specs.Reads.{Reads}
 use Rattle.sf_cli.specs.Refusals.{of_tokens, of_grammar, of_names, of_variables, refusal_text}
 use Rattle.sf_cli.specs.Rechecked.{IsProof, ProofAnswer, ProofFault, accepted, in_tags, in_text, rejected}
 use Rattle.sf_cli.specs.Rejections.{of_tags, of_text, rejection_text}
-use Rattle.sf_cli.specs.Words.{Text, Order, order_of, recheck, verify}
+use Rattle.sf_words.specs.Words.{Text, Order, demo, order_of, recheck, run, verify}
 
 -- what the layers below say of their own answers
 pub record Layers : Type 0 where
@@ -239,10 +239,12 @@ answer-command l one proofs files words text other status code a b = go (order_o
     go : (o : Option Order) → OrderAnswer (Some files) o text status → OrderAnswer (Some files) o other code
         → (text ≡ other) × (status ≡ code)
     go None x y = (x.0 ∙ sym y.0, x.1 ∙ sym y.1)
-    go (Some (verify file)) (bytes, may, x) (found, has, y) =
+    go (Some (verify file workers)) (bytes, may, x) (found, has, y) =
         let same : found ≡ bytes = some-once (files file) found bytes has may in
         one bytes text other status code x (subst (λ (z : Text). FileAnswer z other code) same y)
     go (Some (recheck file name)) (bytes, may, x) (found, has, y) =
         let same : found ≡ bytes = some-once (files file) found bytes has may in
         recheck-once l proofs files bytes name text other status code x
         (subst (λ (z : Text). RecheckAnswer (Some files) z name other code) same y)
+    go (Some (run file entry state steps waits)) x y = (x.0 ∙ sym y.0, x.1 ∙ sym y.1)
+    go (Some (demo procedures)) x y = (x.0 ∙ sym y.0, x.1 ∙ sym y.1)

@@ -40,7 +40,7 @@ use Rattle.sf_cli.specs.declared.refusal.Refusal.{Refusal}
 use Rattle.sf_cli.specs.declared.refusal.Refusal.TheVariants.{OutOfMemory}
 use Rattle.sf_cli.specs.FileFault.{ReadFault, in_tokens, in_grammar, in_names, ProgramFault, in_variables, in_order}
 use Rattle.sf_cli.specs.Refusals.{of_tokens, of_grammar, of_names, of_variables, of_order}
-use Rattle.sf_cli.specs.Words.{Text}
+use Rattle.sf_words.specs.Words.{Text}
 
 -- an answer that is that refusal
 pub refused-by : {X E : Type 0} {none : E} (r : Result X E) (P : E → Type 0) (s : E) → IsErrAnd r (λ e. e ≡ s)

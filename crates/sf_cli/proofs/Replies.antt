@@ -22,7 +22,8 @@ use Rattle.sf_cli.specs.FileFault.{FileFault, unread, unfit, in_tokens, in_gramm
 use Rattle.sf_cli.specs.Reads.{Reads}
 use Rattle.sf_cli.specs.Internal.Fetched.{IsUpTo, Fetched}
 use Rattle.sf_cli.specs.Rechecked.{ProofAnswer, accepted, in_tags, in_text, rejected}
-use Rattle.sf_cli.specs.Words.{Text, Order, recheck, usage_text, verify}
+use Rattle.sf_words.specs.Words.{Text, Order, recheck, verify}
+use Rattle.sf_cli.specs.Usage.{usage_text}
 use Rattle.sf_proof.specs.declared.fault.ProofFault.TheVariants as f
 use Rattle.sf_search.specs.Judge.{Verdict, fails, proof}
 
@@ -131,7 +132,7 @@ pub proof-status : (p : Program) (given text : Text) (status : ℕ) → ProofAns
 proof-status p given text status (accepted i t s) = (omega (arith, s), λ three. omega (arith, s, three))
 proof-status p given text status (rejected r h t s) = (omega (arith, s), λ three. omega (arith, s, three))
 
--- words that are no command are answered with the usage
+-- words that are no command, or one that isn't followed yet, are answered with the usage
 pub reply-usage : (told : Option Files) (before after : Text → ℕ) (order : Option Order) (text : Text) (status : ℕ)
     → order ≡ None → text ≡ usage_text → status ≡ 2 → Reply told before after order text status
 reply-usage told before after order text status n t s = answer (omega (arith, s)) (usage order n)
@@ -140,11 +141,16 @@ reply-usage told before after order text status n t s = answer (omega (arith, s)
     usage None e = (t, s)
     usage (Some o) e = absurd (cc)
 
+pub reply-later : (told : Option Files) (before after : Text → ℕ) (order : Order) (text : Text) (status : ℕ)
+    → OrderAnswer told (Some order) text 2 → status ≡ 2 → Reply told before after (Some order) text status
+reply-later told before after order text status a s =
+    answer (omega (arith, s)) (subst (λ (n : ℕ). OrderAnswer told (Some order) text n) (sym s) a)
+
 -- a file that is verified is answered with what is due to it
-pub reply-verify : (told : Option Files) (before after : Text → ℕ) (file out text : Text) (status : ℕ)
+pub reply-verify : (told : Option Files) (before after : Text → ℕ) (file out text : Text) (workers status : ℕ)
     → Fetched FILE_BYTES told file out → FileAnswer out text status
-    → Reply told before after (Some (verify file)) text status
-reply-verify told before after file out text status f a =
+    → Reply told before after (Some (verify file workers)) text status
+reply-verify told before after file out text workers status f a =
     answer (file-status out text status a) (f.bytes, f.may_have, fetched-answer out f.bytes text status f.is a)
 
 -- a file that the work came to can't be read

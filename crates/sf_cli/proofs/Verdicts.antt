@@ -6,7 +6,7 @@ use Rattle.sf_rules.specs.Setting.{IsSettingOf, Setting}
 use Rattle.sf_search.specs.Ends.{FailsFor}
 use Rattle.sf_search.specs.Judge.{Cause, Judge, Verdict, fails}
 use Rattle.sf_cli.specs.Answer.{cause_text, ProgramAnswer, VerdictAnswer}
-use Rattle.sf_cli.specs.Words.{Text}
+use Rattle.sf_words.specs.Words.{Text}
 
 pub judged-answer : (p : Program) (d : Setting) (v : Verdict) (text : Text) (status : ℕ) → IsSettingOf p d → Judge d v
     → VerdictAnswer p v text status → ProgramAnswer p text status

@@ -19,7 +19,8 @@ use Rattle.sf_proof.specs.ProofText.{proof_text}
 use Rattle.sf_safe.specs.Law.{IsSound}
 use Rattle.sf_cli.specs.declared.refusal.Refusal.{Refusal}
 use Rattle.sf_cli.specs.Rechecked.{ProofAnswer}
-use Rattle.sf_cli.specs.Words.{Text, Order, recheck, verify, order_of, usage_text}
+use Rattle.sf_words.specs.Words.{Text, Order, demo, order_of, recheck, run, verify}
+use Rattle.sf_cli.specs.Usage.{usage_text}
 
 -- why a search is stuck, as it is printed
 abbrev pub printed : Kind → Stuck
@@ -73,21 +74,20 @@ pub data RecheckAnswer (told : Option Files) (bytes proof_name text : Text) (sta
   rechecked : (p : Program) → Admits bytes p → ProofFileAnswer told p proof_name text status
       → RecheckAnswer told bytes proof_name text status
 
--- the file of the program
-abbrev pub program_file : Order → Text
-program_file (verify file) = file
-program_file (recheck file proof_name) = file
+-- the words are answered with the usage
+abbrev pub IsUsage : Text → (status : ℕ) → Type 0
+IsUsage text status = (text ≡ usage_text) × (status ≡ 2)
 
--- the answer to an order, for a program's file of these bytes
-abbrev pub AnswerFor : Option Files → Order → (bytes : Text) → Text → (status : ℕ) → Type 0
-AnswerFor told (verify file) bytes text status = FileAnswer bytes text status
-AnswerFor told (recheck file proof_name) bytes text status = RecheckAnswer told bytes proof_name text status
-
--- the answer to an order, or to words that are none, where the files that it names are there
+-- the answer to an order, or to words that are none, where the files that it names are there; `run` and `demo` aren't
+-- followed yet, and are answered as words that are none
 abbrev pub OrderAnswer : Option Files → Option Order → Text → (status : ℕ) → Type 0
-OrderAnswer told None text status = (text ≡ usage_text) × (status ≡ 2)
-OrderAnswer told (Some order) text status =
-    (bytes : Text) × MayHave told (program_file order) bytes × AnswerFor told order bytes text status
+OrderAnswer told None text status = IsUsage text status
+OrderAnswer told (Some (verify file workers)) text status =
+    (bytes : Text) × MayHave told file bytes × FileAnswer bytes text status
+OrderAnswer told (Some (recheck file proof_name)) text status =
+    (bytes : Text) × MayHave told file bytes × RecheckAnswer told bytes proof_name text status
+OrderAnswer told (Some (run file entry state steps waits)) text status = IsUsage text status
+OrderAnswer told (Some (demo procedures)) text status = IsUsage text status
 
 -- the answer over the files of a shelf
 abbrev pub Answers : Option Files → (words : List Text) → Text → (status : ℕ) → Type 0
@@ -99,14 +99,15 @@ Answer files words text status = Answers (Some files) words text status
 
 -- the order names that file
 abbrev pub Names : Option Order → Text → Type 0
-Names None name = ⊥
-Names (Some (verify file)) name = name ≡ file
+Names (Some (verify file workers)) name = name ≡ file
 Names (Some (recheck file proof_name)) name = (name ≡ file) ⊎ (name ≡ proof_name)
+Names _ name = ⊥
 
 -- the order names that file as the program's
 abbrev pub NamesProgram : Option Order → Text → Type 0
-NamesProgram None name = ⊥
-NamesProgram (Some order) name = name ≡ program_file order
+NamesProgram (Some (verify file workers)) name = name ≡ file
+NamesProgram (Some (recheck file proof_name)) name = name ≡ file
+NamesProgram _ name = ⊥
 
 -- these bytes are those of a program with which nothing is wrong
 abbrev pub AreAdmitted : (bytes : Text) → Type 0
@@ -118,9 +119,9 @@ MayBeAdmitted told name = (bytes : Text) × MayHave told name bytes × AreAdmitt
 
 -- the work comes to that file: it is the program's, or a proof's of a program with which nothing is wrong
 abbrev pub Reaches : Option Files → Option Order → Text → Type 0
-Reaches told None name = ⊥
-Reaches told (Some (verify file)) name = name ≡ file
+Reaches told (Some (verify file workers)) name = name ≡ file
 Reaches told (Some (recheck file proof_name)) name = (name ≡ file) ⊎ ((name ≡ proof_name) × MayBeAdmitted told file)
+Reaches told _ name = ⊥
 
 -- what is said of a file that can't be read
 abbrev pub read_fault_text : Text → Text
@@ -159,10 +160,9 @@ pub record AcceptedBytes (bytes : Text) : Type 0 where
 
 -- the words are an order whose program's file is there, its answer has status 0 and is that text, and the program that
 -- the file reads as is sound
-pub record Accepted (told : Option Files) (words : List Text) (text : Text) : Type 0 where
-  pub order : Order
-  pub are : order_of words ≡ Some order
-  pub bytes : Text
-  pub may_have : MayHave told (program_file order) bytes
-  pub answer : AnswerFor told order bytes text 0
-  pub accepted : AcceptedBytes bytes
+pub data Accepted (told : Option Files) (words : List Text) (text : Text) : Type 0 where
+  by_search : (file : Text) (workers : ℕ) → order_of words ≡ Some (verify file workers) → (bytes : Text)
+      → MayHave told file bytes → FileAnswer bytes text 0 → AcceptedBytes bytes → Accepted told words text
+  by_proof : (file name : Text) → order_of words ≡ Some (recheck file name) → (bytes : Text)
+      → MayHave told file bytes → RecheckAnswer told bytes name text 0 → AcceptedBytes bytes
+      → Accepted told words text

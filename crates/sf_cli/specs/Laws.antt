@@ -8,7 +8,7 @@ use Rattle.sf_cli.specs.FileFault.{Admits, FileFault}
 use Rattle.sf_cli.specs.declared.refusal.Refusal.{Refusal}
 use Rattle.sf_cli.specs.Rechecked.{ProofAnswer}
 use Rattle.sf_cli.specs.Reads.{Reads}
-use Rattle.sf_cli.specs.Words.{Text, order_of}
+use Rattle.sf_words.specs.Words.{Text, order_of}
 
 -- bytes read as at most one program
 abbrev pub EachFileIsOneProgram : Type 0

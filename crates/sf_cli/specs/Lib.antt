@@ -1,5 +1,4 @@
-pub mod Words
-pub mod WordsOf
+pub mod Usage
 pub mod Refusals
 pub mod Rejections
 pub mod Reads

@@ -7,7 +7,7 @@ use Rattle.sf_elab.specs.Files.Elaborated.{Elaborates}
 use Rattle.sf_lex.specs.declared.token.Token.{Token}
 use Rattle.sf_lex.specs.Reading.{AreTokens}
 use Rattle.sf_parse.specs.Parsing.{IsFile}
-use Rattle.sf_cli.specs.Words.{Text}
+use Rattle.sf_words.specs.Words.{Text}
 
 -- Reads: the bytes are tokens, the tokens are a file, and the file is that program
 pub record Reads (bytes : Text) (p : Program) : Type 0 where

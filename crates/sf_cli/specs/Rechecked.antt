@@ -11,7 +11,7 @@ use Rattle.sf_rules.specs.Proving.{Proves}
 use Rattle.sf_rules.specs.Setting.{IsSettingOf, Setting}
 use Rattle.sf_cli.specs.declared.rejection.Rejection.{Rejection}
 use Rattle.sf_cli.specs.Rejections.{of_tags, of_text, rejection_text}
-use Rattle.sf_cli.specs.Words.{Text}
+use Rattle.sf_words.specs.Words.{Text}
 
 -- the text reads as tags that prove the program, by the least sets of its calls and with its annotations in order
 pub record IsProof (p : Program) (proof : Text) : Type 0 where

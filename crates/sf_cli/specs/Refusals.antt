@@ -17,7 +17,7 @@ use Rattle.sf_cli.specs.declared.refusal.Refusal.{Refusal}
 use Rattle.sf_cli.specs.declared.refusal.Refusal.TheVariants.{At, Named, OutOfMemory}
 use Rattle.sf_cli.specs.declared.refusal.RefusalKind.{RefusalKind}
 use Rattle.sf_cli.specs.declared.refusal.RefusalKind.TheVariants as k
-use Rattle.sf_cli.specs.Words.{Text}
+use Rattle.sf_words.specs.Words.{Text}
 
 -- what is refused for a fault of tokens
 abbrev pub of_tokens : LexFault → Refusal

@@ -9,7 +9,7 @@ use Rattle.sf_cli.specs.declared.rejection.Rejection.{Rejection}
 use Rattle.sf_cli.specs.declared.rejection.Rejection.TheVariants.{At, OutOfMemory}
 use Rattle.sf_cli.specs.declared.rejection.RejectionKind.{RejectionKind}
 use Rattle.sf_cli.specs.declared.rejection.RejectionKind.TheVariants as k
-use Rattle.sf_cli.specs.Words.{Text}
+use Rattle.sf_words.specs.Words.{Text}
 
 -- what is refused for a fault of the text: a text that is too long, at its first line
 abbrev pub of_text : ProofFault → Rejection

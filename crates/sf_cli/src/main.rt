@@ -1,7 +1,7 @@
 //! The command `smallfoot`: it proves a program, or says what can't be shown of it.
 //!
 //! - `top`: the call that does all of it
-//! - `words`: which command the words are
+//! - `usage`: what is said of words that are no command
 //! - `reply`: what the command says, and its status
 //! - `reading`: from a file's bytes to a program with which nothing is wrong
 //! - `refusal`: why a file is refused, and the line that says so
@@ -12,7 +12,7 @@
 
 ghost use Rattle.std.specs.Prelude.{◌≡◌, map, IfOk};
 ghost use Rattle.std.specs.String.{string_bytes};
-ghost use Rattle.sf_cli.specs.WordsOf.{words_of};
+ghost use Rattle.sf_words.specs.WordsOf.{words_of};
 
 mod laws;
 mod reading;
@@ -23,7 +23,7 @@ mod reply;
 #[cfg(test)]
 mod tests;
 mod top;
-mod words;
+mod usage;
 
 use crate::top::{OUT_OF_MEMORY, smallfoot};
 use sf_io::{FileShelf, OpenGate, StdSink};

@@ -1,36 +1,38 @@
 //! What the command says, and with which status.
 
 ghost use Rattle.std.specs.Prelude.{◌≡◌, ◌≢◌, ◌<◌, ◌≤◌, ◌-◌, ◌^◌, ◌++◌, List, Some, IfOk, IsErrOf, codes};
+ghost use Rattle.sf_check.specs.Accepted.{tags_in};
 ghost use Rattle.sf_core.specs.Program.ProgramView.{program_of};
 ghost use Rattle.sf_io.specs.Increased.{Increased};
 ghost use Rattle.sf_cli.specs.Answer.{AreAdmitted, FileAnswer, NamesProgram, ProgramAnswer, ProofFileAnswer, Reaches, RecheckAnswer, Reply, VerdictAnswer, cause_text, printed, read_fault_text};
 ghost use Rattle.sf_cli.specs.Internal.Fetched.{Fetched};
 ghost use Rattle.sf_cli.specs.Refusals.{refusal_text};
 ghost use Rattle.sf_cli.specs.declared.refusal.Refusal.TheVariants.{OutOfMemory};
-ghost use Rattle.sf_precise.specs.Order.{IsOrdering};
-ghost use Rattle.sf_rules.specs.Setting.{Setting, setting_of};
 ghost use Rattle.sf_search.specs.Internal.Choosing.{kind_of};
 ghost use Rattle.sf_search.specs.Ends.{cause_of};
-ghost use Rattle.sf_search.specs.Judge.{Cause, Judge, proof};
-ghost use Rattle.sf_cli.specs.Words.{Text, order_of, recheck, verify};
-ghost use Rattle.sf_cli.specs.WordsOf.{order_in, words_of};
+ghost use Rattle.sf_search.specs.Judge.{Cause, proof};
+ghost use Rattle.sf_words.specs.Words.{Text, order_of, recheck, verify};
+ghost use Rattle.sf_words.specs.WordsOf.{order_as, words_of};
 
 use crate::reading::admit;
 use crate::recheck::answer_to_proof;
 use crate::refusal::{Refusal, refusal_text};
-use crate::words::{Order, USAGE, read_order};
+use crate::usage::USAGE;
 use sf_base::ProcId;
 use sf_base::limits::{FILE_BYTES, PROOF_BYTES};
-use sf_check::{CheckFault, check};
+use sf_check::Proof;
 use sf_core::Program;
-use sf_io::{FetchFault, Shelf};
+use sf_io::{FetchFault, Gate, Shelf};
 use sf_precise::Arranged;
 use sf_proof::proof_text;
 use sf_report::{Stuck, failed, too_large};
 use sf_rules::laws::arranged_has_setting;
-use sf_search::{Kind, SearchFault, VerifyFault, taken_tags_prove, verify};
-use sf_sym::Tag;
+use sf_search::{Kind, SearchFault, VerifyFault};
+use sf_verify::verify;
+use sf_words::{Order, WordFault, read};
 use std::alloc::{AllocError, Global};
+use std::sync::Wait;
+use std::thread::Threads;
 
 /// What is said, and the status that goes with it.
 #[derive(Debug, Drop)]
@@ -62,17 +64,22 @@ fn say_of(alloc: Global, text: &str, name: &[u8], status: u8) -> Result<Said, Al
     Ok(Said { text: line, status })
 }
 
-/// The answer to a program with which nothing is wrong: the verdict on it, printed. The tags that
-/// the search found are accepted by the checker before they are printed. An `Err` means that memory
-/// ran out.
-fn answer_to_program(alloc: Global, arranged: &Arranged) -> Result<Said, AllocError>
+/// The answer to a program with which nothing is wrong: the verdict on it, printed. The proof that
+/// is printed is one that the checker has accepted. An `Err` means that memory ran out.
+fn answer_to_program<R: Threads + Wait + Sync, G: Gate>(
+    rt: &R,
+    alloc: Global,
+    arranged: &Arranged,
+    workers: u32,
+    gate: &G,
+) -> Result<Said, AllocError>
     ensures { IfOk result (λ said.
         ProgramAnswer (program_of arranged.now.program) said.text.items said.status) }
 {
     arranged_has_setting();
     let p = &arranged.program;
-    match verify(alloc, arranged) {
-        Ok(tags) => say_proof(alloc, arranged, tags),
+    match verify(rt, alloc, arranged, workers, gate) {
+        Ok(found) => say_proof(alloc, p, &found),
         Err(VerifyFault::Failed(f, why)) => say_failure(alloc, p, f, &why),
         Err(VerifyFault::OutOfMemory) => Err(AllocError),
     }
@@ -117,24 +124,15 @@ fn say_failure(
     }
 }
 
-/// A proof, printed, once the checker has accepted it.
-fn say_proof(alloc: Global, arranged: &Arranged, tags: Vec<Tag>) -> Result<Said, AllocError>
-    ghost d: { Setting }
-    requires ordered { IsOrdering d.ordered }
-    requires setting { d ≡ setting_of d.ordered arranged.now }
-    requires judged { Judge d (proof tags.items) }
-    ensures { IfOk result (λ said. VerdictAnswer (program_of arranged.now.program)
-        (proof tags.items) said.text.items said.status) }
+/// A proof, printed. An `Err` means that memory ran out.
+fn say_proof(alloc: Global, p: &Program, found: &Proof<'_>) -> Result<Said, AllocError>
+    ensures { IfOk result (λ said. VerdictAnswer (program_of p.now) (proof (tags_in found.now))
+        said.text.items said.status) }
 {
-    taken_tags_prove();
-    match check(alloc, arranged, tags) {
-        Ok(proof) => Ok(Said {
-            text: proof_text(alloc, &arranged.program, proof.tags())?,
-            status: 0,
-        }),
-        Err(CheckFault::Refused(..)) => unreachable!(),
-        Err(CheckFault::OutOfMemory) => Err(AllocError),
-    }
+    Ok(Said {
+        text: proof_text(alloc, p, found.tags())?,
+        status: 0,
+    })
 }
 
 /// That a file is refused, and why. An `Err` says that memory ran out, which is also
@@ -150,11 +148,17 @@ fn say_refusal(alloc: Global, refusal: &Refusal) -> Result<Said, AllocError>
 }
 
 /// The answer to a file's bytes, of which those past the limit don't matter.
-fn answer_to_bytes(alloc: Global, bytes: &[u8]) -> Result<Said, AllocError>
+fn answer_to_bytes<R: Threads + Wait + Sync, G: Gate>(
+    rt: &R,
+    alloc: Global,
+    bytes: &[u8],
+    workers: u32,
+    gate: &G,
+) -> Result<Said, AllocError>
     ensures { IfOk result (λ said. FileAnswer bytes.now said.text.items said.status) }
 {
     match admit(alloc, bytes) {
-        Ok(arranged) => answer_to_program(alloc, &arranged),
+        Ok(arranged) => answer_to_program(rt, alloc, &arranged, workers, gate),
         Err(refusal) => say_refusal(alloc, &refusal),
     }
 }
@@ -181,18 +185,25 @@ fn fetch_up_to<S: Shelf>(
 }
 
 /// What the command says to `verify` of the file of that name.
-fn verify_file<S: Shelf>(alloc: Global, file: &str, shelf: &mut S) -> Result<Said, AllocError>
+fn verify_file<R: Threads + Wait + Sync, S: Shelf, G: Gate>(
+    rt: &R,
+    alloc: Global,
+    file: &str,
+    workers: u32,
+    shelf: &mut S,
+    gate: &G,
+) -> Result<Said, AllocError>
     ensures status { IfOk result (λ said. said.status < 8) }
     ensures said { IfOk result (λ said.
-        Reply (S.files shelf.old) (S.faults shelf.old) (S.faults shelf.new) (Some (verify file.now))
-        said.text.items said.status) }
+        Reply (S.files shelf.old) (S.faults shelf.old) (S.faults shelf.new)
+        (Some (verify file.now workers)) said.text.items said.status) }
     ensures files { S.files shelf.new ≡ S.files shelf.old }
     ensures others { (other : Text) → other ≢ file.now
         → S.faults shelf.new other ≡ S.faults shelf.old other }
     ensures counts { (any : Text) → S.faults shelf.old any ≤ S.faults shelf.new any }
 {
     match fetch_up_to(alloc, file, FILE_BYTES, shelf) {
-        Ok(bytes) => answer_to_bytes(alloc, bytes.as_slice()),
+        Ok(bytes) => answer_to_bytes(rt, alloc, bytes.as_slice(), workers, gate),
         Err(FetchFault::Failed) => say_of(alloc, "read fault: ", file.as_bytes(), 7),
         Err(FetchFault::OutOfMemory) => Err(AllocError),
     }
@@ -278,44 +289,58 @@ fn recheck_file<S: Shelf>(
     }
 }
 
-/// What the command says to an order.
-fn follow<S: Shelf>(alloc: Global, order: Order, shelf: &mut S) -> Result<Said, AllocError>
+/// What the command says to an order: `run` and `demo` aren't followed yet.
+fn follow<R: Threads + Wait + Sync, S: Shelf, G: Gate>(
+    rt: &R,
+    alloc: Global,
+    order: Order<'_>,
+    shelf: &mut S,
+    gate: &G,
+) -> Result<Said, AllocError>
     ensures status { IfOk result (λ said. said.status < 8) }
     ensures said { IfOk result (λ said.
         Reply (S.files shelf.old) (S.faults shelf.old) (S.faults shelf.new)
-        (order_in (Some order.entry)) said.text.items said.status) }
+        (Some (order_as order.entry)) said.text.items said.status) }
     ensures files { S.files shelf.new ≡ S.files shelf.old }
     ensures others { (other : Text)
-        → (Reaches (S.files shelf.old) (order_in (Some order.entry)) other → ⊥)
+        → (Reaches (S.files shelf.old) (Some (order_as order.entry)) other → ⊥)
         → S.faults shelf.new other ≡ S.faults shelf.old other }
     ensures refused { IfOk result (λ said. said.status ≡ 3 → (other : Text)
-        → (NamesProgram (order_in (Some order.entry)) other → ⊥)
+        → (NamesProgram (Some (order_as order.entry)) other → ⊥)
         → S.faults shelf.new other ≡ S.faults shelf.old other) }
     ensures counts { (any : Text) → S.faults shelf.old any ≤ S.faults shelf.new any }
 {
     match order {
-        Order::Verify(file) => verify_file(alloc, file, shelf),
-        Order::Recheck(file, proof) => recheck_file(alloc, file, proof, shelf),
+        Order::Verify { file, workers } => verify_file(rt, alloc, file, workers, shelf, gate),
+        Order::Recheck { file, proof } => recheck_file(alloc, file, proof, shelf),
+        Order::Run { .. } | Order::Demo { .. } => say(alloc, USAGE, 2),
     }
 }
 
 /// What the command says to its words. An `Err` says that memory ran out.
-pub fn respond<S: Shelf>(alloc: Global, words: &[&str], shelf: &mut S) -> Result<Said, AllocError>
+pub fn respond<'a, R: Threads + Wait + Sync, S: Shelf, G: Gate>(
+    rt: &R,
+    alloc: Global,
+    words: &'a [&'a str],
+    shelf: &mut S,
+    gate: &G,
+) -> Result<Said, AllocError>
     ensures status { IfOk result (λ said. said.status < 8) }
     ensures said { IfOk result (λ said.
         Reply (S.files shelf.old) (S.faults shelf.old) (S.faults shelf.new)
-        (order_of (words_of words.now)) said.text.items said.status) }
+        (order_of (words_of words.entry.now)) said.text.items said.status) }
     ensures files { S.files shelf.new ≡ S.files shelf.old }
     ensures others { (other : Text)
-        → (Reaches (S.files shelf.old) (order_of (words_of words.now)) other → ⊥)
+        → (Reaches (S.files shelf.old) (order_of (words_of words.entry.now)) other → ⊥)
         → S.faults shelf.new other ≡ S.faults shelf.old other }
     ensures refused { IfOk result (λ said. said.status ≡ 3 → (other : Text)
-        → (NamesProgram (order_of (words_of words.now)) other → ⊥)
+        → (NamesProgram (order_of (words_of words.entry.now)) other → ⊥)
         → S.faults shelf.new other ≡ S.faults shelf.old other) }
     ensures counts { (any : Text) → S.faults shelf.old any ≤ S.faults shelf.new any }
 {
-    match read_order(words) {
-        None => say(alloc, USAGE, 2),
-        Some(order) => follow(alloc, order, shelf),
+    match read(alloc, words) {
+        Ok(order) => follow(rt, alloc, order, shelf, gate),
+        Err(WordFault::Usage) => say(alloc, USAGE, 2),
+        Err(WordFault::OutOfMemory) => Err(AllocError),
     }
 }

@@ -10,7 +10,7 @@ mod tables;
 mod verdicts;
 
 use crate::top::smallfoot;
-use crate::words::USAGE;
+use crate::usage::USAGE;
 use compared::{FAILED, PROVED};
 use examples::EXAMPLES;
 use proofs::{ACCEPTED, CALL_PROOFS, LOOP_PROOFS, REFUSED, RESOURCE_PROOFS, TEXTS, TREE_PROOFS};
@@ -21,8 +21,8 @@ use std::sync::Wait;
 use std::test::Fail;
 use std::thread::Threads;
 use tables::{
-    ANSWERS, BAD_GRAMMAR, BAD_NAMES, BAD_WORDS, BROKEN_CONDITIONS, COUNTS, IN_ORDER, LANGUAGE,
-    NESTS, NO_COMMANDS, SET, SET_PROOF, UNDETERMINED,
+    ANSWERS, BAD_GRAMMAR, BAD_NAMES, BAD_WORDS, BROKEN_CONDITIONS, COMMANDS, COUNTS, IN_ORDER,
+    LANGUAGE, NESTS, NO_COMMANDS, SET, SET_PROOF, UNDETERMINED,
 };
 use verdicts::{CALLS, CHOICES, EXISTENTIALS, LISTS, LOOPS, PARALLEL, RECURSION, RESOURCES, TREES};
 
@@ -213,6 +213,17 @@ fn words_that_are_no_command_are_answered_with_the_usage(rt: HostRuntime) -> Res
     shelf.add("p.sf", SET)?;
     for words in NO_COMMANDS {
         says(&rt, alloc, words, &mut shelf, (USAGE, 2))?;
+    }
+    Ok(())
+}
+
+#[test]
+fn words_stand_in_any_order_that_the_usage_allows(rt: HostRuntime) -> Result<(), Fail> {
+    let alloc = rt.alloc();
+    let mut shelf = MemShelf::new(alloc);
+    shelf.add("p.sf", SET)?;
+    for words in COMMANDS {
+        says(&rt, alloc, words, &mut shelf, (SET_PROOF, 0))?;
     }
     Ok(())
 }

@@ -4,8 +4,8 @@ ghost use Rattle.std.specs.Prelude.{◌≡◌, ◌≢◌, ◌≤◌, ◌<◌, �
 ghost use Rattle.sf_io.specs.Increased.{Increased};
 ghost use Rattle.sf_io.specs.Sink.{with_bytes, WrotePrefix};
 ghost use Rattle.sf_cli.specs.Answer.{Accepted, Answers, NamesProgram, Reaches, Unread, WroteNothingOrPrefix, WroteReplyPrefix};
-ghost use Rattle.sf_cli.specs.Words.{Text, order_of};
-ghost use Rattle.sf_cli.specs.WordsOf.{words_of};
+ghost use Rattle.sf_words.specs.Words.{Text, order_of};
+ghost use Rattle.sf_words.specs.WordsOf.{words_of};
 
 use crate::laws::{accepted_files_are_sound, accepted_proofs_are_sound};
 use crate::reply::{Said, respond};
@@ -46,8 +46,8 @@ fn tell<K: Sink>(sink: &mut K, said: &Said) -> u8
 /// and 9 where memory ran out. Where no count of faults increases, the answer is the one that is
 /// due, whole, or memory ran out.
 ///
-/// The runtime and the gate are for commands that run programs in threads, which aren't here yet: no
-/// thread is started and nothing waits.
+/// Whatever the number of workers and the gate, the answer is the same. So far no thread is started
+/// and nothing waits.
 pub fn smallfoot<'a, R: Threads + Wait + Sync, S: Shelf, K: Sink, G: Gate>(
     rt: &R,
     alloc: Global,
@@ -98,11 +98,9 @@ pub fn smallfoot<'a, R: Threads + Wait + Sync, S: Shelf, K: Sink, G: Gate>(
     ensures sink_counts { K.faults sink.old ≤ K.faults sink.new }
     ensures files { S.files shelf.new ≡ S.files shelf.old }
 {
-    let _ = rt;
-    let _ = gate;
     accepted_files_are_sound();
     accepted_proofs_are_sound();
-    match respond(alloc, words, shelf) {
+    match respond(rt, alloc, words, shelf, gate) {
         Ok(said) => tell(sink, &said),
         Err(_) => OUT_OF_MEMORY,
     }

@@ -1,6 +1,6 @@
 use Rattle.std.proofs.Common.{◌≡◌, map, take}
 use Rattle.std.specs.String.{string_bytes}
-use Rattle.sf_cli.specs.WordsOf.{words_of}
+use Rattle.sf_words.specs.WordsOf.{words_of}
 use Rattle.sf_cli.proofs.borrowed.Given as goal
 
 -- the texts are those of the words so far

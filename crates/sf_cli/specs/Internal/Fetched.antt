@@ -3,7 +3,7 @@
 use Rattle.std.specs.Prelude.{◌≡◌, ℕ, ◌<◌, ◌⊎◌, Option, length}
 use Rattle.sf_io.specs.Shelf.{Files}
 use Rattle.sf_cli.specs.Answer.{MayHave}
-use Rattle.sf_cli.specs.Words.{Text}
+use Rattle.sf_words.specs.Words.{Text}
 
 -- all of the file, or more than it may have of one that has more
 abbrev pub IsUpTo : (limit : ℕ) (file out : Text) → Type 0

@@ -604,7 +604,7 @@ pub const NESTS: [((&str, &str, &str, &str), (u32, u32), &str, &str); 3] = [
 ];
 
 /// Words that are no command.
-pub const NO_COMMANDS: [&[&str]; 12] = [
+pub const NO_COMMANDS: [&[&str]; 19] = [
     &[],
     &["verify"],
     &["verify", "a", "b"],
@@ -616,5 +616,21 @@ pub const NO_COMMANDS: [&[&str]; 12] = [
     &["recheck", "a"],
     &["recheck", "a", "-b"],
     &["recheck", "a", "b", "c"],
-    &["p.sf", "verify"],
+    &["recheck", "a", "b", "--workers", "1"],
+    &["verify", "p.sf", "--workers", "0"],
+    &["verify", "p.sf", "--workers", "+2"],
+    &["verify", "p.sf", "--workers", "1", "--workers", "1"],
+    &["verify", "p.sf", "--workers"],
+    &["verify", "--", "--workers", "1"],
+    &["run", "p.sf", "set", "state"],
+    &["demo", "2"],
+];
+
+/// Words that have the field written in p.sf proved.
+pub const COMMANDS: [&[&str]; 5] = [
+    &["verify", "p.sf"],
+    &["verify", "p.sf", "--workers", "4"],
+    &["verify", "--workers=64", "p.sf"],
+    &["verify", "--", "p.sf"],
+    &["verify", "--workers", "01", "--", "p.sf"],
 ];

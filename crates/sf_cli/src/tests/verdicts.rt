@@ -49,7 +49,11 @@ pub const TREES: [(&[u8], &str); 4] = [
 ];
 
 /// Loops and their invariants.
-pub const LOOPS: [(&[u8], &str); 4] = [
+pub const LOOPS: [(&[u8], &str); 5] = [
+    (
+        b"resource r (v) [list(v)] f() { while (true) { with r when (true) { if (v == nil) v = nil; } } }",
+        "accepted\nprocedure f\nloop\naround\nenter\nadd\nsplit s0 nil\ndrop 1\nthen\nassign\nexit\nempty\ngive\nagain\nend\nelse\nexit\nexact 1\ngive\nagain\nend\nadd\nabsurd\n",
+    ),
     (
         b"drain(x) [list(x)] { local t; while (x != nil) [list(x)] { t = x; x = t->tl; dispose(t); } }",
         "accepted\nprocedure drain\nadd\nassign\nloop\nexact 1\naround\nadd\nadd\nassign\nunroll 2\nlook 3\ndispose 3\nagain\nexact 4\nend\nadd\nadd\ndrop 2\nreturn\nend\n",

@@ -5,9 +5,9 @@ use Rattle.sf_cli.specs.Answer.{refused, admitted}
 use Rattle.sf_cli.proofs.reply.answer_to_bytes.Goals as goal
 
 pub returns-in-Ok : goal.returns-in-Ok
-returns-in-Ok c =
+returns-in-Ok g c =
     IfOk-weaker c.answer_to_program.result _ _ (λ said k. admitted (program_of c.in-Ok.arranged.program) c.in-Ok.ensures.admitted k) c.answer_to_program.ensures
 
 pub returns-in-Err : goal.returns-in-Err
-returns-in-Err c =
+returns-in-Err g c =
     ok-both c.say_refusal.result _ _ _ (λ said s n. refused c.in-Err.refusal (c.in-Err.ensures.refused n) s.0 s.1) c.say_refusal.ensures.said c.say_refusal.ensures.cause

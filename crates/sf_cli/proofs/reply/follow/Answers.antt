@@ -1,15 +1,15 @@
 use Rattle.std.proofs.Common.{◌≡◌, Some, rules}
 use Rattle.std.proofs.lemmas.Result.{IfOk-weaker}
 use Rattle.sf_cli.proofs.Replies.{not-program}
-use Rattle.sf_cli.specs.Words.{recheck}
-use Rattle.sf_cli.specs.WordsOf.{order_in}
+use Rattle.sf_words.specs.Words.{recheck}
+use Rattle.sf_words.specs.WordsOf.{order_as}
 use Rattle.sf_cli.proofs.reply.follow.Goals as goal
 
 pub returns-in-Recheck-clause-refused : goal.returns-in-Recheck-clause-refused
 returns-in-Recheck-clause-refused g c =
-    let is : order_in (Some c.args.order) ≡ Some (recheck c.in-Recheck.file.now c.in-Recheck.proof.now) =
+    let is : Some (order_as c.args.order) ≡ Some (recheck c.in-Recheck.file.now c.in-Recheck.proof.now) =
     search rules in
     IfOk-weaker c.recheck_file.result _ _
     (λ said k three other n. k three other
-    (not-program (order_in (Some c.args.order)) c.in-Recheck.file.now c.in-Recheck.proof.now other is n))
+    (not-program (Some (order_as c.args.order)) c.in-Recheck.file.now c.in-Recheck.proof.now other is n))
     c.recheck_file.ensures.refused

@@ -5,7 +5,7 @@ use Rattle.sf_base.specs.declared.limits.TheConstants.{FILE_BYTES}
 use Rattle.sf_cli.proofs.Replies.{ok-reply, reaches-proof, reply-unread}
 use Rattle.sf_cli.specs.Answer.{read_fault_text}
 use Rattle.sf_cli.specs.Internal.Fetched.{Fetched}
-use Rattle.sf_cli.specs.Words.{Text, recheck}
+use Rattle.sf_words.specs.Words.{Text, recheck}
 use Rattle.sf_cli.proofs.reply.recheck_file.Goals as goal
 
 pub returns-in-Ok-clause-said : goal.returns-in-Ok-clause-said

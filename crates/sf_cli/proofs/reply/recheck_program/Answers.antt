@@ -4,7 +4,7 @@ use Rattle.sf_base.specs.declared.limits.TheConstants.{PROOF_BYTES}
 use Rattle.sf_core.specs.Program.ProgramView.{program_of}
 use Rattle.sf_cli.proofs.Replies.{fetched-proof_file, proof-status}
 use Rattle.sf_cli.specs.Internal.Fetched.{Fetched}
-use Rattle.sf_cli.specs.Words.{Text}
+use Rattle.sf_words.specs.Words.{Text}
 use Rattle.sf_cli.proofs.reply.recheck_program.Goals as goal
 
 pub returns-in-Ok-clause-status : goal.returns-in-Ok-clause-status

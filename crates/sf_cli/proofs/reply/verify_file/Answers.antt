@@ -5,7 +5,7 @@ use Rattle.sf_base.specs.declared.limits.TheConstants.{FILE_BYTES}
 use Rattle.sf_cli.proofs.Replies.{file-status, reply-unread, reply-verify}
 use Rattle.sf_cli.specs.Answer.{read_fault_text}
 use Rattle.sf_cli.specs.Internal.Fetched.{Fetched}
-use Rattle.sf_cli.specs.Words.{Text, verify}
+use Rattle.sf_words.specs.Words.{Text, verify}
 use Rattle.std.proofs.Common.{Some, ap, ◌<◌}
 use Rattle.sf_cli.proofs.reply.verify_file.Goals as goal
 
@@ -23,11 +23,11 @@ returns-in-Ok-clause-said g c =
     subst (λ (z : Text). Fetched FILE_BYTES told file z) (sym c.as_slice.ensures.value) c.in-Ok.ensures.fetched in
     IfOk-weaker c.answer_to_bytes.result _ _
     (λ said k. reply-verify told (g.S.Shelf.faults c.args.shelf.now) (g.S.Shelf.faults c.fetch_up_to.new.shelf) file
-    c.as_slice.result.now said.text.items said.status fetched k) c.answer_to_bytes.ensures
+    c.as_slice.result.now said.text.items c.args.workers said.status fetched k) c.answer_to_bytes.ensures
 
 pub returns-in-Err-Failed-clause-said : goal.returns-in-Err-Failed-clause-said
 returns-in-Err-Failed-clause-said g c =
     IfOk-weaker c.say_of.result _ _
     (λ said k. reply-unread (g.S.Shelf.files c.args.shelf.now) (g.S.Shelf.faults c.args.shelf.now)
-    (g.S.Shelf.faults c.fetch_up_to.new.shelf) (Some (verify c.args.file.now)) c.args.file.now said.text.items said.status refl
+    (g.S.Shelf.faults c.fetch_up_to.new.shelf) (Some (verify c.args.file.now c.args.workers)) c.args.file.now said.text.items said.status refl
     (c.in-Err-Failed.ensures.failed (ap Err c.in-Err-Failed.field-0-is)) (k.0 ∙ ap read_fault_text c.as_bytes.ensures.value) k.1) c.say_of.ensures

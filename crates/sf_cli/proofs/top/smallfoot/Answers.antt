@@ -1,8 +1,8 @@
 use Rattle.std.proofs.Common.{◌≡◌, ◌<◌, sym, ◌∙◌, arith}
 use Rattle.sf_cli.proofs.Accepted.{accepted-reply}
 use Rattle.sf_cli.proofs.Complete.{complete-reply, complete-status}
-use Rattle.sf_cli.specs.Words.{order_of}
-use Rattle.sf_cli.specs.WordsOf.{words_of}
+use Rattle.sf_words.specs.Words.{order_of}
+use Rattle.sf_words.specs.WordsOf.{words_of}
 use Rattle.sf_cli.proofs.top.smallfoot.Goals as goal
 
 pub returns-in-Ok-clause-accepted : goal.returns-in-Ok-clause-accepted
