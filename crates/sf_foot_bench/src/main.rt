@@ -1,0 +1,79 @@
+//! Finds the footprint of a large assertion in a large heap, and prints how many locations it has:
+//! the first word names the case, and the second says how many cells there are. `bench/run`
+//! measures it.
+//!
+//! - `heaps`: the heaps.
+//! - `assertions`: what is looked for in them.
+#![tactic(auto)]
+
+mod assertions;
+mod heaps;
+
+use crate::assertions::{cells, list, tree};
+use crate::heaps::{chained, listed, rooted};
+use sf_base::Value;
+use sf_core::Assertion;
+use sf_foot::{Vars, footprint};
+use sf_heap::Heap;
+use sf_precise::order;
+use std::alloc::{AllocError, Global};
+use std::process::ExitCode;
+use std::{env, io};
+
+/// The case and the number of cells, which are the words; without them a small list.
+fn wanted(rt: &HostRuntime) -> io::Result<(String, u32)> {
+    let mut words = env::args(rt)?;
+    let case = match words.nth(1) {
+        Some(word) => word,
+        None => String::from_str(rt.alloc(), "ordered")?,
+    };
+    let count = match words.next() {
+        Some(word) => word.as_str().parse::<u32>().unwrap_or(10),
+        None => 10,
+    };
+    Ok((case, count))
+}
+
+/// The heap of a case and the assertion that is looked for.
+fn made(alloc: Global, case: &str, count: u32) -> Result<(Heap, Assertion), AllocError> {
+    match case {
+        "random" => Ok((listed(alloc, count, 531_441)?, list(alloc)?)),
+        "balanced" => Ok((rooted(alloc, count)?, tree(alloc)?)),
+        "chain" => Ok((chained(alloc, count)?, tree(alloc)?)),
+        "cells" => Ok((listed(alloc, count, 1)?, cells(alloc, count)?)),
+        _ => Ok((listed(alloc, count, 1)?, list(alloc)?)),
+    }
+}
+
+/// How many locations the footprint has, if there is one. The variable 0 is the location 1.
+fn found(alloc: Global, heap: &Heap, a: &Assertion) -> Result<Option<usize>, AllocError> {
+    let Ok(ordered) = order(alloc, a) else {
+        return Ok(None);
+    };
+    let vars = Vars {
+        own: vec![in alloc; Value::Loc(1)]?,
+        shared: Vec::new(alloc),
+    };
+    let at = footprint(alloc, &ordered, &vars, heap)?;
+    Ok(at.map(|locations| locations.len()))
+}
+
+fn main(rt: HostRuntime) -> ExitCode {
+    let Ok((case, count)) = wanted(&rt) else {
+        return ExitCode::from(1);
+    };
+    let Ok((heap, a)) = made(rt.alloc(), case.as_str(), count) else {
+        return ExitCode::from(1);
+    };
+    // With no case of that name only the heap is made.
+    if case.as_str() == "heap" {
+        return ExitCode::from(0);
+    }
+    let Ok(locations) = found(rt.alloc(), &heap, &a) else {
+        return ExitCode::from(1);
+    };
+    match println!(rt; "{locations:?}") {
+        Ok(()) => ExitCode::from(0),
+        Err(_) => ExitCode::from(1),
+    }
+}
