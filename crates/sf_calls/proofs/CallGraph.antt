@@ -21,9 +21,9 @@ use Rattle.sf_calls.specs.Internal.Visited.{IsCaller, AreCallers}
 use Rattle.sf_calls.specs.Internal.Summaries.{IsSummaryOf, AreSummaries, has_calls_inside, left_out_has_calls_inside}
 use Rattle.sf_calls.specs.Outside.{CallsIn}
 use Rattle.sf_calls.specs.Internal.Tests.{callees_in}
-use Rattle.sf_calls.proofs.Decided.{callees_in_are, entered_is}
-use Rattle.sf_calls.proofs.Listing.{calls_anyway}
-use Rattle.sf_calls.proofs.Searches.{proc}
+use Rattle.sf_calls.specs.Lemmas.Decided.{callees_in_are, entered_is}
+use Rattle.sf_calls.specs.Lemmas.Listing.{calls_anyway}
+use Rattle.sf_calls.specs.Lemmas.Searches.{proc}
 use Rattle.sf_calls.specs.Lemmas.Within.{callees_within}
 
 -- empty rows have no caller

@@ -3,3 +3,4 @@ pub mod Order
 pub mod Laws
 pub mod Annotations
 pub mod Internal
+pub mod Lemmas

@@ -24,7 +24,7 @@ use Rattle.sf_calls.specs.FirstBreach.{Conditions}
 use Rattle.sf_calls.specs.Outside.{OccursOutside}
 use Rattle.sf_calls.specs.Lemmas.Sites.{at_one}
 use Rattle.sf_calls.specs.Reaches.{directly, through}
-use Rattle.sf_calls.proofs.Closing.{first_breach_is_broken}
+use Rattle.sf_calls.specs.Lemmas.Broken.{first_broken}
 use Rattle.sf_core.specs.Assertions.Occurs.{VarOccursIn}
 use Rattle.sf_core.specs.Assertions.Sat.{Sat}
 use Rattle.sf_core.specs.declared.command.Expr.TheVariants.{Int}
@@ -288,7 +288,7 @@ conditions-fills f b s m k = elim ((contains-cons (outside entering) (in_lock fi
 ]
 
 conditions : Conditions filling_twice
-conditions = (first_breach_is_broken filling_twice formed).unbroken (λ f b breaks. go f b breaks)
+conditions = (first_broken filling_twice formed).unbroken (λ f b breaks. go f b breaks)
   where
     go : (f : ProcId) (b : Breach) → Breaks filling_twice f b → ⊥
     go f b (h, there, (s, m, k)) = elim (which f.0 h there) [

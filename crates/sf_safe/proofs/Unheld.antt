@@ -22,7 +22,7 @@ use Rattle.sf_calls.specs.Conditions.{Free, FreeIn}
 use Rattle.sf_calls.specs.FirstBreach.{Conditions}
 use Rattle.sf_calls.specs.Outside.{CallsIn, OccursOutside}
 use Rattle.sf_calls.specs.Reaches.{directly, through}
-use Rattle.sf_calls.proofs.Closing.{first_breach_is_broken}
+use Rattle.sf_calls.specs.Lemmas.Broken.{first_broken}
 use Rattle.sf_calls.specs.Lemmas.Sites.{among_at}
 
 -- what occurs at a command occurs in it itself, or in one of its calls
@@ -95,7 +95,7 @@ module _ (p : Program) (f : ProcId) (r : ResId) (i : ℕ) where
   unheld-is_not_free formed conditions n (shared_, m) = go m
     where
       broken : (h : Procedure) → slice_get p.procedures f.0 ≡ Some h → Broken h.body → ⊥
-      broken h there b = (first_breach_is_broken p formed).kept conditions f (NotHeld b.0 x) (h, there, b.1)
+      broken h there b = (first_broken p formed).kept conditions f (NotHeld b.0 x) (h, there, b.1)
 
       go : FreeIn p f x → ⊥
       go (directly (h, there, inl o)) =

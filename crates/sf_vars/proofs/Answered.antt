@@ -19,9 +19,9 @@ use Rattle.sf_calls.specs.Assigned.{MayChange}
 use Rattle.sf_calls.specs.Breaks.{BreaksAt, Breaks, IsAgain}
 use Rattle.sf_calls.specs.FirstBreach.{Conditions, FirstBreach}
 use Rattle.sf_calls.specs.Sets.{Sets, AreSetsOf}
-use Rattle.sf_calls.proofs.Broken.{first_broken}
-use Rattle.sf_calls.proofs.Least.{takes_within}
-use Rattle.sf_calls.proofs.SetsThere.{sets_there}
+use Rattle.sf_calls.specs.Lemmas.Broken.{first_broken}
+use Rattle.sf_calls.specs.Lemmas.Least.{takes_within}
+use Rattle.sf_calls.specs.Lemmas.SetsThere.{sets_there}
 use Rattle.sf_vars.specs.declared.fault.VarFault.{VarFault}
 use Rattle.sf_vars.specs.Faults.{IsVariableName, IsBreachName, IsFirstFault, told_by}
 use Rattle.sf_vars.specs.Laws.{EachProgramHasAnAnswer}

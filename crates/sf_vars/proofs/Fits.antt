@@ -11,8 +11,8 @@ use Rattle.sf_core.specs.Machine.HeldBy.{HeldBy}
 use Rattle.sf_core.specs.Program.Syntax.{Call, Command, assign, look_up, mutate, new, dispose, if, while, call, fork, with, Block, done, then, Procedure, Program}
 use Rattle.sf_calls.specs.Conditions.{Takes, Free}
 use Rattle.sf_calls.specs.Sets.{Sets, AreSetsOf, IsResSet, IsVarSet}
-use Rattle.sf_calls.proofs.InFile.{free_within}
-use Rattle.sf_calls.proofs.Least.{holds_within}
+use Rattle.sf_calls.specs.Lemmas.InFile.{free_within}
+use Rattle.sf_calls.specs.Lemmas.Least.{holds_within}
 use Rattle.sf_calls.specs.Lemmas.Within.{callee_within}
 use Rattle.sf_vars.specs.Internal.Search.{HasSets, BlockFits, CommandFits, free_of, takes_of, holds_of}
 

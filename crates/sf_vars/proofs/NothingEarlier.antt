@@ -17,10 +17,10 @@ use Rattle.sf_calls.specs.declared.breach.Breach.{Breach}
 use Rattle.sf_calls.specs.Breaks.{BreaksAt}
 use Rattle.sf_calls.specs.First.{IsFirst}
 use Rattle.sf_calls.specs.FirstBreach.{Question, occurs, frees, enters, takes, repeats, passes, shares, breach_of, IsBroken, IsNo, told, resources_from, variables_from, call_uses, call_takes, repeats_after, fork_shares, uses_questions, enters_questions, repeats_questions, passes_questions, shares_questions, head_questions, site_questions, questions_from, FirstBreach}
-use Rattle.sf_calls.proofs.Broken.{asked_break, break_asked}
-use Rattle.sf_calls.proofs.Firsts.{first-found, none-of}
-use Rattle.sf_calls.proofs.InOrder.{Ordered, ordered_append}
-use Rattle.sf_calls.proofs.Searches.{proc}
+use Rattle.sf_calls.specs.Lemmas.Broken.{asked_break, break_asked}
+use Rattle.sf_calls.specs.Lemmas.Firsts.{first-found, none-of}
+use Rattle.sf_calls.specs.Lemmas.InOrder.{Ordered, ordered_append}
+use Rattle.sf_calls.specs.Lemmas.Searches.{proc}
 use Rattle.sf_vars.specs.Earlier.{kind_of, IsEarlierBreach, IsLocated, Located}
 use Rattle.sf_vars.specs.Laws.{NothingComesEarlier}
 use Rattle.sf_vars.proofs.Meets.{FirstOf}

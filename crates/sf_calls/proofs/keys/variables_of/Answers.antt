@@ -5,7 +5,7 @@ use Rattle.sf_core.specs.Program.View.{resource_of}
 use Rattle.sf_core.specs.Program.ProgramView.{program_of}
 use Rattle.sf_calls.specs.Internal.Gathers.{IsUpTo}
 use Rattle.sf_calls.specs.Sets.{IsSetOf, IsEarlier}
-use Rattle.sf_calls.proofs.InOrder.{next_variables, no_variables, variables_bound}
+use Rattle.sf_calls.specs.Lemmas.InOrder.{next_variables, no_variables, variables_bound}
 use Rattle.sf_calls.proofs.keys.variables_of.Goals as goal
 
 pub loop-i-init : goal.loop-i-init

@@ -8,9 +8,9 @@ use Rattle.sf_calls.specs.Conditions.{Free, FreeIn}
 use Rattle.sf_calls.specs.Internal.Visited.{AreRows}
 use Rattle.sf_calls.specs.Internal.Gathers.{IsUpTo}
 use Rattle.sf_calls.specs.Sets.{IsEarlier}
-use Rattle.sf_calls.proofs.Least.{free_apart, free_both}
-use Rattle.sf_calls.proofs.Rows.{family_of, rows_read}
-use Rattle.sf_calls.proofs.InOrder.{all_shared}
+use Rattle.sf_calls.specs.Lemmas.Least.{free_apart, free_both}
+use Rattle.sf_calls.specs.Lemmas.Rows.{family_of, rows_read}
+use Rattle.sf_calls.specs.Lemmas.InOrder.{all_shared}
 use Rattle.sf_calls.proofs.reaching.free_sets.Goals as goal
 
 pub sets-requires : goal.sets-requires

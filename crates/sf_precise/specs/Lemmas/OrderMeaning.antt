@@ -16,7 +16,7 @@ use Rattle.sf_core.specs.Assertions.InOrder.{InOrder, IsNext, IsInOrder, is_know
 use Rattle.sf_core.specs.Assertions.Sat.{Sat, SatAll, SatOne}
 use Rattle.sf_core.specs.Program.Syntax.{Conjunct, holds, points, segment, tree, choose, Level, level, Conjuncts, none, also}
 use Rattle.sf_precise.specs.Order.{IsFirstReady, IsOrder, IsOrderFrom, IsOrderInside, IsOrderWithin}
-use Rattle.sf_precise.proofs.Agree.{first-leaves}
+use Rattle.sf_precise.specs.Lemmas.Agree.{first-leaves}
 
 module _ {E : Type 0} (v : E → Value) where
   mutual

@@ -13,7 +13,7 @@ use Rattle.sf_core.specs.Assertions.Occurs.{OccursIn, OccursInAll, OccursInOne}
 use Rattle.sf_core.specs.Program.Syntax.{Conjunct, holds, points, segment, tree, choose, Level, level, Conjuncts, none, also}
 use Rattle.sf_precise.specs.Order.{IsOrder, IsOrderInside, IsOrderWithin}
 use Rattle.sf_precise.specs.Internal.Prepared.{HasOrderInside}
-use Rattle.sf_precise.proofs.Agree.{first-leaves, leaves-occurs_one, leaves-occurs_rest}
+use Rattle.sf_precise.specs.Lemmas.Agree.{first-leaves, leaves-occurs_one, leaves-occurs_rest}
 
 module _ {E : Type 0} where
   -- conjuncts in order have an order

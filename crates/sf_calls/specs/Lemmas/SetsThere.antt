@@ -9,11 +9,11 @@ use Rattle.sf_core.specs.Program.Syntax.{Program}
 use Rattle.sf_calls.specs.Conditions.{Free, Takes}
 use Rattle.sf_calls.specs.Laws.{SetsExist}
 use Rattle.sf_calls.specs.Sets.{IsEarlier, IsEarlierResource, IsFamily, IsResSet, IsVarSet}
-use Rattle.sf_calls.proofs.Decidable.{IsDecidable, set_there}
-use Rattle.sf_calls.proofs.InFile.{free_there, resources_ordered, resources_there, variables_ordered}
-use Rattle.sf_calls.proofs.Least.{holds_within, takes_within}
-use Rattle.sf_calls.proofs.Searches.{proc}
-use Rattle.sf_calls.proofs.SetsDecidable.{free_decidable, holds_decidable, takes_decidable}
+use Rattle.sf_calls.specs.Lemmas.Decidable.{IsDecidable, set_there}
+use Rattle.sf_calls.specs.Lemmas.InFile.{free_there, resources_ordered, resources_there, variables_ordered}
+use Rattle.sf_calls.specs.Lemmas.Least.{holds_within, takes_within}
+use Rattle.sf_calls.specs.Lemmas.Searches.{proc}
+use Rattle.sf_calls.specs.Lemmas.SetsDecidable.{free_decidable, holds_decidable, takes_decidable}
 
 -- where each procedure has its set, so many procedures have theirs, from that number on
 sets_from : {A : Type 0} (Is : (A → Type 0) → List A → Type 0) (P : ProcId → A → Type 0)

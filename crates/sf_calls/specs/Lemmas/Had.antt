@@ -2,7 +2,7 @@
 -- Names: `had_PART` says that what is built of PART follows from its truncation.
 use Rattle.std.proofs.Common.{◌↔◌, List, AllPairs, inl, inr}
 use Rattle.std.proofs.Math.Logic.{∥∥₁_elim, ∥∥₁_map}
-use Rattle.sf_calls.proofs.Decidable.{IsDecidable}
+use Rattle.sf_calls.specs.Lemmas.Decidable.{IsDecidable}
 
 -- a type that follows from its truncation
 abbrev pub IsHad : Type 0 → Type 0

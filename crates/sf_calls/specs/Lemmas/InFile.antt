@@ -12,9 +12,9 @@ use Rattle.sf_core.specs.Program.Syntax.{Program, Resource}
 use Rattle.sf_calls.specs.Conditions.{Free}
 use Rattle.sf_calls.specs.FirstBreach.{resources_from, shared_from, variables_from}
 use Rattle.sf_calls.specs.Sets.{IsEarlier, IsEarlierResource}
-use Rattle.sf_calls.proofs.Decided.{resource}
-use Rattle.sf_calls.proofs.InOrder.{Ordered, ordered_append}
-use Rattle.sf_calls.proofs.Least.{free_apart}
+use Rattle.sf_calls.specs.Lemmas.Decided.{resource}
+use Rattle.sf_calls.specs.Lemmas.InOrder.{Ordered, ordered_append}
+use Rattle.sf_calls.specs.Lemmas.Least.{free_apart}
 
 pub resource_apart : (r q : ResId) → IsEarlierResource r q → IsEarlierResource q r → ⊥
 resource_apart r q h k = absurd (omega (arith, h, k))

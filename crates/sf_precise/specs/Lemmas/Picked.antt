@@ -6,9 +6,9 @@ use Rattle.sf_core.specs.Program.Syntax.{Assertion}
 use Rattle.sf_precise.specs.Laws.{OrderingExists}
 use Rattle.sf_precise.specs.Order.{IsOrderOf}
 use Rattle.sf_precise.specs.Taken.{NeverTakenAt}
-use Rattle.sf_precise.proofs.Branches.{never-undetermined, ordered-determined}
-use Rattle.sf_precise.proofs.OrderMeaning.{level-one}
-use Rattle.sf_precise.proofs.OrdersExist.{determined-order, determined-or_place}
+use Rattle.sf_precise.specs.Lemmas.Branches.{never-undetermined, ordered-determined}
+use Rattle.sf_precise.specs.Lemmas.OrderMeaning.{level-one}
+use Rattle.sf_precise.specs.Lemmas.OrdersExist.{determined-order, determined-or_place}
 
 -- an assertion in order, if it is determined
 abbrev picked : (a : Assertion) → Determined a.level ⊎ ((q : Place) × NeverTakenAt a.level q) → Assertion

@@ -11,10 +11,10 @@ use Rattle.sf_core.specs.Program.Syntax.{Conjunct, holds, points, segment, tree,
 use Rattle.sf_precise.specs.Order.{IsFirstReady}
 use Rattle.sf_precise.specs.Internal.Outer.{outer_of}
 use Rattle.sf_precise.specs.Taken.{IsAmong}
-use Rattle.sf_precise.proofs.Agree.{first-leaves}
-use Rattle.sf_precise.proofs.Greedy.{ready-plain, taken-branches, taken-supplied}
-use Rattle.sf_precise.proofs.NeverTaken.{leaves-within}
-use Rattle.sf_precise.proofs.Ready.{In, in-outer, outer-in}
+use Rattle.sf_precise.specs.Lemmas.Agree.{first-leaves}
+use Rattle.sf_precise.specs.Lemmas.Greedy.{ready-plain, taken-branches, taken-supplied}
+use Rattle.sf_precise.specs.Lemmas.NeverTaken.{leaves-within}
+use Rattle.sf_precise.specs.Lemmas.Ready.{In, in-outer, outer-in}
 
 -- it holds, or it does not
 abbrev pub IsDecided : Type 0 → Type 0

@@ -21,8 +21,8 @@ use Rattle.sf_calls.specs.Outside.{owner, IsAmong, IsOutside, OccursOutside, Cal
 use Rattle.sf_calls.specs.declared.summary.Summary.{Summary}
 use Rattle.sf_calls.specs.Internal.Summaries.{IsSummaryOf}
 use Rattle.sf_calls.specs.Sets.{IsEarlier, IsVarSet}
-use Rattle.sf_calls.proofs.Decided.{entered_is}
-use Rattle.sf_calls.proofs.InOrder.{set_same}
+use Rattle.sf_calls.specs.Lemmas.Decided.{entered_is}
+use Rattle.sf_calls.specs.Lemmas.InOrder.{set_same}
 use Rattle.sf_calls.specs.Lemmas.Sites.{among_at, among_of, listed_somewhere}
 
 -- a variable of a resource that is not entered

@@ -17,9 +17,9 @@ use Rattle.sf_precise.specs.Order.{IsOrder, IsOrderFrom}
 use Rattle.sf_precise.specs.Internal.Prepared.{IsBranch, IsPrepared, IsSuppliedLevel, joined}
 use Rattle.sf_precise.specs.Taken.{IfUndetermined, NeverTakenFrom}
 use Rattle.sf_precise.specs.Internal.Waits.{known_outside}
-use Rattle.sf_precise.proofs.Agree.{agree-is_order, agree-order}
-use Rattle.sf_precise.proofs.Greedy.{order-has, order-stands, taken-branches, taken-supplied}
-use Rattle.sf_precise.proofs.NeverTaken.{never-no_order}
+use Rattle.sf_precise.specs.Lemmas.Agree.{agree-is_order, agree-order}
+use Rattle.sf_precise.specs.Lemmas.Greedy.{order-has, order-stands, taken-branches, taken-supplied}
+use Rattle.sf_precise.specs.Lemmas.NeverTaken.{never-no_order}
 
 inside-outside : (made : Scope) (known : ℕ → Bool) (n : ℕ) → known_inside made known n ≡ true
     → known_outside (Some made) n ≡ true

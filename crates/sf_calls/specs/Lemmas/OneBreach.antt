@@ -1,8 +1,8 @@
 -- A program has one first breach, or none; and there is one proof at most that it has none.
 use Rattle.sf_calls.specs.FirstBreach.{IsNo, told, questions_from}
 use Rattle.sf_calls.specs.Laws.{ConditionsFromTruncation, FirstBreachIsUnique}
-use Rattle.sf_calls.proofs.Firsts.{first-unique, none-once}
-use Rattle.sf_calls.proofs.Had.{had_once}
+use Rattle.sf_calls.specs.Lemmas.Firsts.{first-unique, none-once}
+use Rattle.sf_calls.specs.Lemmas.Had.{had_once}
 
 pub one_breach : FirstBreachIsUnique
 one_breach p = first-unique (IsNo p) told (questions_from p 0 p.procedures)

@@ -15,7 +15,7 @@ use Rattle.sf_base.specs.First.{is_before}
 use Rattle.sf_precise.specs.Annotations.{AreOrdersOf, IsFirstPlace, NeverTakenIn, earlier_of}
 use Rattle.sf_precise.specs.Order.{IsOrderOf}
 use Rattle.sf_precise.specs.Taken.{IsFirstNeverTaken, NeverTakenAt}
-use Rattle.sf_precise.proofs.Branches.{never-undetermined}
+use Rattle.sf_precise.specs.Lemmas.Branches.{never-undetermined}
 
 never-one : {E : Type 0} (known : _) (all cs : Conjuncts E) (p q : Place) → IsFirstNeverTaken known all cs p
     → IsFirstNeverTaken known all cs q → p ≡ q

@@ -21,10 +21,10 @@ use Rattle.sf_calls.specs.Around.{Shares}
 use Rattle.sf_calls.specs.FirstBreach.{resources_from, variables_from, Question, occurs, frees, enters, takes, repeats, passes, shares, breach_of, IsBroken, IsNo, told, call_uses, call_takes, repeats_after, fork_shares, uses_questions, enters_questions, repeats_questions, passes_questions, shares_questions, head_questions, site_questions, questions_from}
 use Rattle.sf_calls.specs.Laws.{FirstBreachIsBroken}
 use Rattle.sf_calls.specs.Outside.{IsAmong}
-use Rattle.sf_calls.proofs.Firsts.{first-found, none-of, of-none}
-use Rattle.sf_calls.proofs.InFile.{free_there, resources_there}
-use Rattle.sf_calls.proofs.Least.{takes_within}
-use Rattle.sf_calls.proofs.Searches.{proc}
+use Rattle.sf_calls.specs.Lemmas.Firsts.{first-found, none-of, of-none}
+use Rattle.sf_calls.specs.Lemmas.InFile.{free_there, resources_there}
+use Rattle.sf_calls.specs.Lemmas.Least.{takes_within}
+use Rattle.sf_calls.specs.Lemmas.Searches.{proc}
 
 -- one more reference was passed
 pub among-push_cases : (x : Var) (ys : List Occurrence) (y : Occurrence) → IsAmong x (ys ++ y ∷ [])

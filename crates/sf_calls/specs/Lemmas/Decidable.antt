@@ -6,7 +6,7 @@ use Rattle.std.specs.Bool.{Decides}
 use Rattle.std.proofs.lemmas.Option.{same_Some, none-some}
 use Rattle.sf_base.proofs.Elements.{contains-nil, contains-cons}
 use Rattle.sf_calls.specs.Sets.{IsSetOf}
-use Rattle.sf_calls.proofs.InOrder.{Ordered, pairs_ordered}
+use Rattle.sf_calls.specs.Lemmas.InOrder.{Ordered, pairs_ordered}
 
 -- it is so, or it isn't
 abbrev pub IsDecidable : Type 0 → Type 0

@@ -12,11 +12,11 @@ use Rattle.sf_core.proofs.Assertions.Orders.{order-first, order-stuck}
 use Rattle.sf_precise.specs.Annotations.{IsFirstPlace, NeverTakenIn, earlier_of}
 use Rattle.sf_precise.specs.Order.{IsOrder, IsOrderOfLevel, IsOrderWithin}
 use Rattle.sf_precise.specs.Taken.{IsAmong, IsFirstNeverTaken, NeverTakenAt, Takes, known_by, place_at}
-use Rattle.sf_precise.proofs.Agree.{first-leaves}
-use Rattle.sf_precise.proofs.Greedy.{taken-branches}
-use Rattle.sf_precise.proofs.NeverTaken.{among-leaves, known-then_one, leaves-is, leaves-within, stuck-first, takes-one, then_one}
-use Rattle.sf_precise.proofs.Annotated.{place-determined, place-fault, place-none}
-use Rattle.sf_precise.proofs.TakenDecided.{count, first-decided, leaves-fewer}
+use Rattle.sf_precise.specs.Lemmas.Agree.{first-leaves}
+use Rattle.sf_precise.specs.Lemmas.Greedy.{taken-branches}
+use Rattle.sf_precise.specs.Lemmas.NeverTaken.{among-leaves, known-then_one, leaves-is, leaves-within, stuck-first, takes-one, then_one}
+use Rattle.sf_precise.specs.Lemmas.Annotated.{place-determined, place-fault, place-none}
+use Rattle.sf_precise.specs.Lemmas.TakenDecided.{count, first-decided, leaves-fewer}
 
 module _ {E : Type 0} where
   -- a conjunct, its branches in order

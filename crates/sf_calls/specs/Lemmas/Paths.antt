@@ -4,7 +4,7 @@
 use Rattle.std.proofs.Common.{◌≡◌, ◌⊎◌, List, [], ◌∷◌, Contains, refl, sym, inl, inr, subst}
 use Rattle.sf_base.proofs.Elements.{contains-nil, contains-cons}
 use Rattle.sf_calls.specs.Reaches.{Reaches, directly, through}
-use Rattle.sf_calls.proofs.Decidable.{IsDecidable, decidable_like, decidable_both, decidable_one, decidable_some}
+use Rattle.sf_calls.specs.Lemmas.Decidable.{IsDecidable, decidable_like, decidable_both, decidable_one, decidable_some}
 
 -- from the one to the other by one step at most, or by way of those elements
 abbrev Path : {A : Type 0} → (A → A → Type 0) → List A → A → A → Type 0

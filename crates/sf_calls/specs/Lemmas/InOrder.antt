@@ -15,7 +15,7 @@ use Rattle.sf_core.specs.Program.Syntax.{Program, Resource}
 use Rattle.sf_calls.specs.Conditions.{IsShared}
 use Rattle.sf_calls.specs.Internal.Gathers.{IsUpTo}
 use Rattle.sf_calls.specs.Sets.{IsSetOf, IsEarlier, IsEarlierResource}
-use Rattle.sf_calls.proofs.Decided.{resource}
+use Rattle.sf_calls.specs.Lemmas.Decided.{resource}
 
 -- one more element, after the others
 pub set_push : {A : Type 0} (B : A → A → Type 0) (P Q : A → Type 0) (xs : List A) (y : A) → IsSetOf B P xs

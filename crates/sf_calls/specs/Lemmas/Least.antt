@@ -13,7 +13,7 @@ use Rattle.sf_calls.specs.Laws.{TakesIsLeast, FreeIsLeast}
 use Rattle.sf_calls.specs.Reaches.{Reaches, directly, through}
 use Rattle.sf_calls.specs.Outside.{owner}
 use Rattle.sf_calls.specs.Internal.Gathers.{IsUpTo}
-use Rattle.sf_calls.proofs.Rows.{reaches_within}
+use Rattle.sf_calls.specs.Lemmas.Rows.{reaches_within}
 use Rattle.sf_calls.specs.Lemmas.Within.{entered_within, level_within, block_within}
 
 -- what is taken is there

@@ -34,7 +34,7 @@ use Rattle.sf_calls.specs.Outside.{EntersIn, OccursOutside}
 use Rattle.sf_calls.specs.Sets.{IsEarlier, IsEarlierResource, IsSetOf, IsResSet, IsFamily}
 use Rattle.sf_base.specs.Variables.{same_var}
 use Rattle.sf_base.proofs.Variables.{resource-decides, same_var-decides}
-use Rattle.sf_calls.proofs.Decided.{entered_is}
+use Rattle.sf_calls.specs.Lemmas.Decided.{entered_is}
 
 -- a test of each entry visited the procedures that have what it decides
 zip_visited : {B : Type 0} (R : Procedure → B → Type 0) (t : B → Bool) (P : Procedure → Type 0)

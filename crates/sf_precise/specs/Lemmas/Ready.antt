@@ -20,7 +20,7 @@ use Rattle.sf_precise.specs.Order.{IsOrderInside, IsOrderWithin}
 use Rattle.sf_precise.specs.Internal.Outer.{existential, field_existentials, outer_of, outer_of_all, outer_of_level, test_existentials}
 use Rattle.sf_precise.specs.Internal.Prepared.{IsPrepared}
 use Rattle.sf_precise.specs.Internal.Waits.{need_of, unknown_among, waits_for}
-use Rattle.sf_precise.proofs.Greedy.{order-has, ready-plain, taken-supplied}
+use Rattle.sf_precise.specs.Lemmas.Greedy.{order-has, ready-plain, taken-supplied}
 
 -- the number occurs in the list
 abbrev pub In : List ℕ → ℕ → Type 0

@@ -18,12 +18,12 @@ use Rattle.sf_calls.specs.Outside.{CallsIn, EntersIn, OccursOutside, owner}
 use Rattle.sf_calls.specs.Internal.Listed.{entered_in, is_entered, shared_in, shared_in_levels}
 use Rattle.sf_calls.specs.Internal.Tests.{callees_in}
 use Rattle.sf_calls.specs.Internal.Summaries.{has, speaks_of}
-use Rattle.sf_calls.proofs.Decidable.{IsDecidable, decidable_both, decidable_by, listed, listed_is, passes, passes_is}
-use Rattle.sf_calls.proofs.Decided.{callees_in_are, entered_is}
-use Rattle.sf_calls.proofs.Listing.{entered_are, mentioned_are, in_contract_are}
-use Rattle.sf_calls.proofs.Paths.{decidable_reaches}
-use Rattle.sf_calls.proofs.Rows.{Speaks, speaks_is, has_is as list_has_is}
-use Rattle.sf_calls.proofs.Searches.{proc}
+use Rattle.sf_calls.specs.Lemmas.Decidable.{IsDecidable, decidable_both, decidable_by, listed, listed_is, passes, passes_is}
+use Rattle.sf_calls.specs.Lemmas.Decided.{callees_in_are, entered_is}
+use Rattle.sf_calls.specs.Lemmas.Listing.{entered_are, mentioned_are, in_contract_are}
+use Rattle.sf_calls.specs.Lemmas.Paths.{decidable_reaches}
+use Rattle.sf_calls.specs.Lemmas.Rows.{Speaks, speaks_is, has_is as list_has_is}
+use Rattle.sf_calls.specs.Lemmas.Searches.{proc}
 
 -- one procedure
 same_procedure : (f g : ProcId) → IsDecidable (f ≡ g)
