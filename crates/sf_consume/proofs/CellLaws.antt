@@ -15,7 +15,7 @@ use Rattle.sf_core.specs.Assertions.Sat.{HasFields, Seg, cell, Tree as IsTree, n
 use Rattle.sf_core.specs.declared.assertion.Operand.{Operand}
 use Rattle.sf_core.specs.Program.Syntax.{Conjunct, points, segment, tree, Conjuncts, also}
 use Rattle.sf_consume.proofs.Fitting.{FitBelow, fit-all, link-is}
-use Rattle.sf_consume.proofs.Handing.{both-are, by_first, state-below, state-handed, state-joins, state-out, wanting_first, wants-other}
+use Rattle.sf_consume.proofs.Handing.{both-are, by_first, by_list, state-below, state-handed, state-joins, state-out, wanting_first, wants-other}
 use Rattle.sf_consume.proofs.WantedFirst.{cell-is, list-is, tree-is}
 use Rattle.sf_consume.specs.declared.wanted.WantedList.{WantedList}
 use Rattle.sf_consume.specs.declared.wanted.WantedTree.{WantedTree}
@@ -235,28 +235,23 @@ head-one a s bindings k cs t u fields formed from to differ found =
 
 pub head_keeps_wants : HeadKeepsWants
 unfolding HeadKeepsWants
-head_keeps_wants a = by_first (head_step a) (λ s bindings c cs after formed row.
-    option_and_then_some (λ k. option_and_then (head_there a s bindings k cs) (both bindings k.from k.to)) (wanted_list c)
-    after row
-    (λ k wanted there. subst (λ d. IsFormed (wanting_first s bindings d cs)
-    → Subtracts (wanting_first s bindings d cs) after) (sym (list-is c k wanted))
-    (λ formed. option_and_then_some (head_there a s bindings k cs) (both bindings k.from k.to) after there
-    (λ e terms at. go s bindings k cs after e.0 e.1 formed (both-are bindings k.from k.to e terms)
-    (differs s e.0 e.1) refl (cell_at s.atoms a e.0) refl at)) formed))
+head_keeps_wants a = by_list (head_there a) (λ s bindings k cs after ends formed from to there.
+    go s bindings k cs after ends.0 ends.1 formed from to (differs s ends.0 ends.1) refl (cell_at s.atoms a ends.0) refl
+    there)
   where
     go : (s : State) (bindings : List (Option Term)) (k : WantedList) (cs : Conjuncts Term) (after : Want) (t u : Term)
         → IsFormed (wanting_first s bindings (segment k.place k.next k.from k.to) cs)
-        → (term_of bindings k.from ≡ Some t) × (term_of bindings k.to ≡ Some u)
+        → term_of bindings k.from ≡ Some t → term_of bindings k.to ≡ Some u
         → (b : Bool) → differs s t u ≡ b → (o : Option (List (FieldId × Term))) → cell_at s.atoms a t ≡ o
         →
         cond b (option_map (λ fields. let l = link (first_fit s fields bindings) k.next in
         removed (handed_cell s t a l.0) bindings (also (list_from k l.1 u) cs)) o) None ≡ Some after
         → Subtracts (wanting_first s bindings (segment k.place k.next k.from k.to) cs) after
-    go s bindings k cs after t u formed terms false i o j e = absurd (cc)
-    go s bindings k cs after t u formed terms true i None j e = absurd (cc)
-    go s bindings k cs after t u formed terms true i (Some fields) j e =
+    go s bindings k cs after t u formed from to false i o j e = absurd (cc)
+    go s bindings k cs after t u formed from to true i None j e = absurd (cc)
+    go s bindings k cs after t u formed from to true i (Some fields) j e =
         subst (Subtracts (wanting_first s bindings (segment k.place k.next k.from k.to) cs)) (same_Some _ after e)
-        (head-one a s bindings k cs t u fields formed terms.0 terms.1 i j)
+        (head-one a s bindings k cs t u fields formed from to i j)
 
 -- Node
 node-one : (a : ℕ) (s : State) (bindings : List (Option Term)) (k : WantedTree) (cs : Conjuncts Term) (t : Term)

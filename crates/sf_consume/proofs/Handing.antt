@@ -2,7 +2,7 @@
 -- Names: `state-LAW` of a state alone, `wants-LAW` of what is wanted.
 use Rattle.std.specs.Option.{option_and_then, option_map}
 use Rattle.std.proofs.Common.{◌≡◌, ℕ, ◌≤◌, List, Option, Some, None, refl, sym, ap, ◌∙◌, subst, inr, arith}
-use Rattle.std.proofs.lemmas.Option.{same_Some}
+use Rattle.std.proofs.lemmas.Option.{option_and_then_some, same_Some}
 use Rattle.sf_base.proofs.HeapSplits.{star-drop_right, star-empty_right, star-of}
 use Rattle.sf_base.proofs.MapSplits.{empty_map, empty-holds, splits-assoc_right, splits-comm, splits-empty_left, splits-empty_right, splits-of_empty_left, splits-union, union}
 use Rattle.sf_base.specs.declared.ids.Var.{Var}
@@ -13,9 +13,11 @@ use Rattle.sf_core.specs.Assertions.Occurs.{OccursInAll}
 use Rattle.sf_core.specs.Assertions.Sat.{SatOne, operand}
 use Rattle.sf_core.specs.declared.assertion.Operand.{Operand}
 use Rattle.sf_core.specs.declared.assertion.Operand.TheVariants.{Known, Exists}
-use Rattle.sf_core.specs.Program.Syntax.{Conjunct, Conjuncts, none, also}
+use Rattle.sf_core.specs.Program.Syntax.{Conjunct, segment, Conjuncts, none, also}
+use Rattle.sf_consume.proofs.WantedFirst.{list-is}
+use Rattle.sf_consume.specs.declared.wanted.WantedList.{WantedList}
 use Rattle.sf_consume.specs.Laws.{alone, Subtracts, KeepsWants}
-use Rattle.sf_consume.specs.Subtract.{Step, Want, both, first_by, removed}
+use Rattle.sf_consume.specs.Subtract.{Step, Want, both, first_by, removed, wanted_list}
 use Rattle.sf_consume.specs.Wants.{IsFormed, Wants}
 use Rattle.sf_sym.specs.Lemmas.AtomLists.{atoms-one_more, atoms-out, without-all}
 use Rattle.sf_sym.specs.Lemmas.Below.{below-more, below-value, state-weaker}
@@ -62,6 +64,26 @@ both-are bindings x y e row = go (term_of bindings x) (term_of bindings y) row
     go (Some t) None row = absurd (cc)
     go (Some t) (Some u) row =
         let same = same_Some (t, u) e row in (ap (λ z. Some z.0) same, ap (λ z. Some z.1) same)
+
+-- the law of a row of wanted lists, where it is shown of a list whose ends have terms
+pub by_list : (there : State → List (Option Term) → WantedList → Conjuncts Term → Term × Term → Option Want)
+    →
+    ((s : State) (bindings : List (Option Term)) (k : WantedList) (cs : Conjuncts Term) (after : Want) (ends : Term × Term)
+    → IsFormed (wanting_first s bindings (segment k.place k.next k.from k.to) cs)
+    → term_of bindings k.from ≡ Some ends.0 → term_of bindings k.to ≡ Some ends.1
+    → there s bindings k cs ends ≡ Some after
+    → Subtracts (wanting_first s bindings (segment k.place k.next k.from k.to) cs) after)
+    → KeepsWants (λ s bindings c cs.
+    option_and_then (λ k. option_and_then (there s bindings k cs) (both bindings k.from k.to)) (wanted_list c))
+by_list there law = by_first _ (λ s bindings c cs after formed row.
+    option_and_then_some (λ k. option_and_then (there s bindings k cs) (both bindings k.from k.to)) (wanted_list c)
+    after row
+    (λ k wanted at_list. subst (λ d. IsFormed (wanting_first s bindings d cs)
+    → Subtracts (wanting_first s bindings d cs) after) (sym (list-is c k wanted))
+    (λ formed. option_and_then_some (there s bindings k cs) (both bindings k.from k.to) after at_list
+    (λ ends terms at_ends.
+    let (from, to) = both-are bindings k.from k.to ends terms in
+    law s bindings k cs after ends formed from to at_ends)) formed))
 
 -- Wanted heaps what is wanted with some values of the symbols is wanted with others that are the
 -- same below the next symbol

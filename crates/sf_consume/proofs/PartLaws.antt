@@ -16,8 +16,7 @@ use Rattle.sf_core.proofs.Assertions.Segments.{loc-same, seg-append}
 use Rattle.sf_core.specs.Assertions.Sat.{SatOne, Seg, Tree as IsTree, operand}
 use Rattle.sf_core.specs.declared.fields.Links.{Links}
 use Rattle.sf_core.specs.Program.Syntax.{Conjunct, holds, points, segment, tree, choose, Conjuncts, also}
-use Rattle.sf_consume.proofs.Handing.{Out, both-are, by_first, formed-rest, state-below, state-handed, state-joins, state-out, wanting_first}
-use Rattle.sf_consume.proofs.WantedFirst.{list-is}
+use Rattle.sf_consume.proofs.Handing.{Out, both-are, by_first, by_list, formed-rest, state-below, state-handed, state-joins, state-out, wanting_first}
 use Rattle.sf_consume.specs.declared.wanted.WantedList.{WantedList}
 use Rattle.sf_consume.specs.Laws.{alone, Subtracts, ExactKeepsWants, JoinKeepsWants}
 use Rattle.sf_consume.specs.Subtract.{Want, both, exact_step, exact_there, is_same_shape, join_step, join_there, joined, list_from, removed, wanted_list, wanted_shape}
@@ -243,28 +242,22 @@ joined-is s a t u (Tree v) m e = absurd (cc)
 
 pub join_keeps_wants : JoinKeepsWants
 unfolding JoinKeepsWants
-join_keeps_wants a = by_first (join_step a) (λ s bindings c cs after formed row.
-    option_and_then_some (λ k. option_and_then (join_there a s bindings k cs) (both bindings k.from k.to)) (wanted_list c)
-    after row
-    (λ k wanted there. subst (λ d. IsFormed (wanting_first s bindings d cs)
-    → Subtracts (wanting_first s bindings d cs) after) (sym (list-is c k wanted))
-    (λ formed. option_and_then_some (join_there a s bindings k cs) (both bindings k.from k.to) after there
-    (λ e terms at. option_and_then_some
-    (λ x. option_map (λ v. removed (handed s a x) bindings (also (list_from k v e.1) cs)) (joined s a e.0 e.1 x))
-    (atom_at s.atoms a) after at
-    (λ x found left. go s bindings k cs after e.0 e.1 x formed (both-are bindings k.from k.to e terms) found
-    (joined s a e.0 e.1 x) refl left))) formed))
+join_keeps_wants a = by_list (join_there a) (λ s bindings k cs after ends formed from to there.
+    option_and_then_some
+    (λ x. option_map (λ v. removed (handed s a x) bindings (also (list_from k v ends.1) cs)) (joined s a ends.0 ends.1 x))
+    (atom_at s.atoms a) after there
+    (λ x found left. go s bindings k cs after ends.0 ends.1 x formed from to found (joined s a ends.0 ends.1 x) refl left))
   where
     go : (s : State) (bindings : List (Option Term)) (k : WantedList) (cs : Conjuncts Term) (after : Want) (t u : Term)
         (x : Atom)
         → IsFormed (wanting_first s bindings (segment k.place k.next k.from k.to) cs)
-        → (term_of bindings k.from ≡ Some t) × (term_of bindings k.to ≡ Some u) → atom_at s.atoms a ≡ Some x
+        → term_of bindings k.from ≡ Some t → term_of bindings k.to ≡ Some u → atom_at s.atoms a ≡ Some x
         → (o : Option Term) → joined s a t u x ≡ o
         → option_map (λ v. removed (handed s a x) bindings (also (list_from k v u) cs)) o ≡ Some after
         → Subtracts (wanting_first s bindings (segment k.place k.next k.from k.to) cs) after
-    go s bindings k cs after t u x formed terms found None i e = absurd (cc)
-    go s bindings k cs after t u x formed terms found (Some m) i e =
+    go s bindings k cs after t u x formed from to found None i e = absurd (cc)
+    go s bindings k cs after t u x formed from to found (Some m) i e =
         let (is, known) = joined-is s a t u x m i in
         subst (Subtracts (wanting_first s bindings (segment k.place k.next k.from k.to) cs))
         (ap (λ z. removed (handed s a z) bindings (also (list_from k m u) cs)) (sym is) ∙ same_Some _ after e)
-        (join-one a s bindings k cs t u m formed terms.0 terms.1 (found ∙ ap Some is) known)
+        (join-one a s bindings k cs t u m formed from to (found ∙ ap Some is) known)

@@ -1,7 +1,7 @@
 -- Unroll: a segment or tree whose ends differ begins with a cell, and fresh symbols have the values of its links.
 -- Names: `kind_child` is the goal that is left for a segment or a tree, `KIND-LAW` speaks of it.
 use Rattle.std.specs.Option.{option_map}
-use Rattle.std.proofs.Common.{◌≡◌, ℕ, ◌+◌, Bool, true, false, cond, List, [], ◌∷◌, Option, Some, None, refl, sym, ◌∙◌, subst, arith}
+use Rattle.std.proofs.Common.{◌≡◌, ℕ, ◌+◌, Bool, true, false, cond, List, [], ◌∷◌, ◌++◌, Option, Some, None, refl, sym, ◌∙◌, subst, arith}
 use Rattle.std.proofs.lemmas.Option.{option_and_then_some}
 use Rattle.sf_base.proofs.HeapSplits.{star-assoc_right, star-comm, star-map_left, star-map_right, star-of}
 use Rattle.sf_base.proofs.MapSplits.{splits-comm}
@@ -22,14 +22,15 @@ use Rattle.sf_sym.specs.Lemmas.FreshGoals.{adds-stay, apart-stays, later, later-
 use Rattle.sf_sym.specs.Lemmas.FreshValues.{value-below, value-here, value-same, with_value}
 use Rattle.sf_sym.specs.Lemmas.Decided.{differ-in}
 use Rattle.sf_sym.specs.Below.{AllInAtom, AreBelow, IsBelow, SameBelow}
-use Rattle.sf_sym.specs.Cells.{atom_at, with_atom, with_cell, without}
+use Rattle.sf_sym.specs.Cells.{apart_from_nil, atom_at, with_atom, with_cell, without}
 use Rattle.sf_sym.specs.declared.atom.Atom.{Atom}
 use Rattle.sf_sym.specs.declared.atom.Atom.TheVariants.{Points, Ls, Tree}
+use Rattle.sf_sym.specs.declared.atom.Numbered.{Numbered}
 use Rattle.sf_sym.specs.declared.term.Term.{Term}
 use Rattle.sf_sym.specs.declared.term.Term.TheVariants.{Nil, Sym}
 use Rattle.sf_sym.specs.Fields.{put_term}
 use Rattle.sf_sym.specs.Goal.{Goal, at_state}
-use Rattle.sf_sym.specs.Holds.{term_value, SegAlong, TreeAlong, AtomHolds}
+use Rattle.sf_sym.specs.Holds.{term_value, SegAlong, TreeAlong, AtomHolds, AtomsHold}
 use Rattle.sf_sym.specs.HoldsIn.{HoldsIn}
 use Rattle.sf_sym.specs.Laws.{Follows, HoldsAsBefore, HoldsStill, KeptWith}
 use Rattle.sf_sym.specs.State.{State, with_symbols}
@@ -53,6 +54,29 @@ tree_child goal a t left right =
     at_state goal
     (with_atom (Tree two) (with_atom (Tree one)
     (with_cell (with_symbols 2 (state_without goal a)) t (put_term left one (put_term right two [])))))
+
+-- A goal at whose term there is a cell: it holds with other atoms and further symbols, and the term not nil
+module _ (goal : Goal) (t : Term) (below : AreBelow goal) (w v : ℕ → Value) (same : SameBelow goal.state.next_sym v w)
+    (e : Var → Option Value) (free taken : Heap) (h : HoldsIn w goal e free taken) where
+  still-holds : (location : ℕ) → term_value v t ≡ loc location → (symbols number : ℕ) (atoms : List Numbered)
+      → AtomsHold v goal.state.links atoms h.there.left
+      → HoldsStill w goal e free taken (at_state goal (record goal.state {
+        apart = goal.state.apart ++ apart_from_nil t;
+        atoms = atoms;
+        next_sym = symbols;
+        next_atom = number;
+      }))
+  still-holds location root symbols number atoms hold = record {
+    values = v;
+    same = same;
+    holds = record {
+      vars = vars-stay w v goal below same e free taken h;
+      apart = apart-stays w v goal below same e free taken h t location root;
+      disjoint = h.disjoint;
+      there = star-of h.there.splits hold (adds-stay w v goal below same e free taken h);
+      gone = taken-stay w v goal below same e free taken h;
+    };
+  }
 
 -- the goal that is left for a segment
 segment-follows : (goal : Goal) (a : ℕ) (t u : Term) (next : FieldId) → AreBelow goal
@@ -102,22 +126,11 @@ segment-holds goal a t u next below b c at tl d w e free taken h =
     subst (λ z. SegAlong z (v n) (term_value v u) head.rest) (sym tl)
     (subst (λ y. SegAlong (Some next) y (term_value v u) head.rest) (sym rest)
     (subst (λ y. SegAlong (Some next) x y head.rest) (below-value n v w same u c) head.behind)) in
-    record {
-      values = v;
-      same = same;
-      holds = record {
-        vars = vars-stay w v goal below same e free taken h;
-        apart = apart-stays w v goal below same e free taken h t head.location root;
-        disjoint = h.disjoint;
-        there = star-of h.there.splits
-            (atoms-one_more v links _ _ h.there.left
-            (star-map_right (λ part s. atoms-one_more v links (without goal.state.atoms a) _ part s)
-            (star-assoc_right (star-of o.splits (star-of (splits-comm head.splits) behind cell)
-            (others-stay w v goal below same e free taken h a o.right o.second)))))
-            (adds-stay w v goal below same e free taken h);
-        gone = taken-stay w v goal below same e free taken h;
-      };
-    }
+    still-holds goal t below w v same e free taken h head.location root _ _ _
+    (atoms-one_more v links _ _ h.there.left
+    (star-map_right (λ part s. atoms-one_more v links (without goal.state.atoms a) _ part s)
+    (star-assoc_right (star-of o.splits (star-of (splits-comm head.splits) behind cell)
+    (others-stay w v goal below same e free taken h a o.right o.second)))))
 
 segment_kept : (goal : Goal) (a : ℕ) (t u : Term) (left : List Goal) → AreBelow goal
     → atom_at goal.state.atoms a ≡ Some (Ls t u)
@@ -201,24 +214,13 @@ tree-holds goal a t left right below b at l r d w e free taken h =
     ⋆ (AtomHolds v links (Tree (Sym n)) ⋆ AtomHolds v links (Points t cells))) o.left =
     star-assoc_right (star-map_left (λ part s. star-comm s)
     (star-comm (star-of root.splits cell (star-of root.apart first second)))) in
-    record {
-      values = v;
-      same = same;
-      holds = record {
-        vars = vars-stay w v goal below same e free taken h;
-        apart = apart-stays w v goal below same e free taken h t root.location is;
-        disjoint = h.disjoint;
-        there = star-of h.there.splits
-            (atoms-one_more v links _ _ h.there.left
-            (star-map_right (λ part s. atoms-one_more v links _ _ part
-            (star-map_right (λ inner r. atoms-one_more v links (without goal.state.atoms a) _ inner r)
-            (star-assoc_right s)))
-            (star-assoc_right (star-of o.splits three
-            (others-stay w v goal below same e free taken h a o.right o.second)))))
-            (adds-stay w v goal below same e free taken h);
-        gone = taken-stay w v goal below same e free taken h;
-      };
-    }
+    still-holds goal t below w v same e free taken h root.location is _ _ _
+    (atoms-one_more v links _ _ h.there.left
+    (star-map_right (λ part s. atoms-one_more v links _ _ part
+    (star-map_right (λ inner r. atoms-one_more v links (without goal.state.atoms a) _ inner r)
+    (star-assoc_right s)))
+    (star-assoc_right (star-of o.splits three
+    (others-stay w v goal below same e free taken h a o.right o.second)))))
 
 tree_kept : (goal : Goal) (a : ℕ) (t : Term) (left : List Goal) → AreBelow goal
     → atom_at goal.state.atoms a ≡ Some (Tree t)

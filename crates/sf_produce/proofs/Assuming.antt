@@ -1,7 +1,7 @@
 -- The first conjunct is assumed: its part of the heap goes to the atoms, and its test is true.
 -- Names: `first-LAW` of the first conjunct's part, `others-LAW` of those behind it, `plain-LAW` of a goal with the same state,
 -- `more-LAW` of one with one atom more, `assumed-LAW` of what holds then, `KIND-kept` of the row at such a conjunct.
-use Rattle.std.proofs.Common.{◌≡◌, ℕ, ◌+◌, List, [], ◌∷◌, ◌++◌, Option, Some, refl, sym, ap, ◌∙◌, subst, subst₂, inl, inr, arith}
+use Rattle.std.proofs.Common.{◌≡◌, ℕ, ◌+◌, List, [], ◌∷◌, ◌++◌, length, Option, Some, refl, sym, ap, ◌∙◌, subst, subst₂, inl, inr, arith}
 use Rattle.std.specs.List.{AllByRecursion, IsDistinct}
 use Rattle.std.specs.Option.{option_map}
 use Rattle.std.specs.Prelude.{map}
@@ -12,6 +12,7 @@ use Rattle.sf_base.specs.declared.ids.Var.{Var}
 use Rattle.sf_base.specs.declared.place.Place.{Place}
 use Rattle.sf_base.specs.declared.value.Value.{Value}
 use Rattle.sf_base.specs.HeapStore.{Heap, IsEmpty, ◌⋆◌}
+use Rattle.sf_core.specs.Assertions.Occurs.{OccursInOne}
 use Rattle.sf_core.specs.Assertions.Sat.{SatAll, SatOne}
 use Rattle.sf_core.specs.declared.assertion.Operand.{Operand}
 use Rattle.sf_core.specs.declared.assertion.Test.TheVariants.{True, Equal, Differ as Unequal}
@@ -19,8 +20,8 @@ use Rattle.sf_core.specs.Assertions.Scopes.{overlap}
 use Rattle.sf_core.specs.declared.assertion.Scope.{Scope}
 use Rattle.sf_core.specs.Program.Formed.{conjunct_scopes, conjuncts_scopes, is_made}
 use Rattle.sf_core.specs.Program.Syntax.{Conjunct, holds, points, segment, tree, choose, Conjuncts, none, also}
-use Rattle.sf_produce.proofs.Meeting.{Leads, leads-same, leads-trans, met-fields, met-one, met-two, term-keeps, with_bindings}
-use Rattle.sf_produce.specs.Add.{add_first, added, goal_after, met, met_both, met_fields}
+use Rattle.sf_produce.proofs.Meeting.{Leads, MeetsBoth, leads-same, leads-trans, met-fields, met-one, met-two, term-keeps, with_bindings}
+use Rattle.sf_produce.specs.Add.{MetBoth, add_first, added, goal_after, met, met_both, met_fields}
 use Rattle.sf_produce.specs.Laws.{AddKeepsGoals, HoldsAssumed}
 use Rattle.sf_sym.specs.Below.{AllInAtom, AllInItem, AllInPairs, AreBelow, IsBelow}
 use Rattle.sf_sym.specs.Cells.{apart_from_nil, with_atom, with_cell}
@@ -286,68 +287,81 @@ module _ (s : State) (p : Place) (cs : Conjuncts Term) (bindings : List (Option 
       assumed-same s p (holds q True) cs bindings rest w s e free taken
       (plain-holds s p (holds q True) cs bindings rest w e free taken h f (λ part d. d.0)))
 
+  -- two operands of the first conjunct have their terms, and these are below the next symbol
+  record BothMet (c : Conjunct Term) (x y : Operand Term) (m : MetBoth) : Type 0 where
+    meets : MeetsBoth p (also c cs) rest s bindings x y m
+    one_below : IsBelow m.state.next_sym m.one
+    two_below : IsBelow m.state.next_sym m.two
+
+  both-met : (c : Conjunct Term) (x y : Operand Term) → AreBelow (goal_with_first c)
+      → IsCounted (length bindings) x → IsCounted (length bindings) y → OccursInOne c x → OccursInOne c y
+      → BothMet c x y (met_both s bindings x y)
+  both-met c x y below counted also_counted here there =
+      let m = met_both s bindings x y in
+      let k = met-two p (also c cs) rest s bindings x y below counted also_counted (inl here) (inl there) in
+      let within = k.grows.leads.follow.below.todo.0 in
+      record {
+        meets = k;
+        one_below = operand-below m.state.next_sym m.bindings (also c cs) x m.one within (inl here) k.one;
+        two_below = operand-below m.state.next_sym m.bindings (also c cs) y m.two within (inl there) k.two;
+      }
+
+  -- the row at a test of two operands, by what the goal is once it is assumed of their terms
+  test-kept : (c : Conjunct Term) (x y : Operand Term) (assumed_of : Term → Term → Goal → Goal)
+      → ((ss : List Scope) → conjunct_scopes c ss ≡ ss)
+      → ((t u : Term) (goal : Goal) → AreBelow goal → IsBelow goal.state.next_sym t → IsBelow goal.state.next_sym u
+      → Follows goal (assumed_of t u goal))
+      → ((now : State) (bound : List (Option Term)) (t u : Term) → term_of bound x ≡ Some t → term_of bound y ≡ Some u
+      → (w : ℕ → Value) (e : Var → Option Value) (free taken : Heap)
+      → HoldsIn w (with_bindings p (also c cs) rest now bound) e free taken
+      → HoldsAssumed p rest w (with_bindings p (also c cs) rest now bound) e free taken
+      (assumed_of t u (goal_after now p cs bound rest)))
+      → (m : MetBoth) → BothMet c x y m → Some (assumed_of m.one m.two (goal_after m.state p cs m.bindings rest) ∷ []) ≡ Some left
+      → KeptWith (goal_with_first c) left (HoldsAssumed p rest)
+  test-kept c x y assumed_of plain follows holds_then m k row =
+      let leads = k.meets.grows.leads in
+      let after = goal_after m.state p cs m.bindings rest in
+      let first = plain-follows m.state p c cs m.bindings rest plain leads.follow.below in
+      let two = with_bindings p (also c cs) rest m.state m.bindings in
+      assumed-after p rest (goal_with_first c) two (assumed_of m.one m.two after) left leads row
+      (follows-trans two after (assumed_of m.one m.two after) first
+      (follows m.one m.two after first.below k.one_below k.two_below))
+      (holds_then m.state m.bindings m.one m.two k.meets.one k.meets.two)
+
   equal-kept : (q : Place) (x y : Operand Term) → FirstKept (holds q (Equal x y))
   equal-kept q x y below formed row =
       let c = holds q (Equal x y) in
-      let m = met_both s bindings x y in
-      let k = met-two p (also c cs) rest s bindings x y below formed.0.0.0.0 formed.0.0.0.1 (inl (inl refl))
-      (inl (inr refl)) in
-      let two = with_bindings p (also c cs) rest m.state m.bindings in
-      let plain = plain-follows m.state p c cs m.bindings rest (λ ss. refl) k.grows.leads.follow.below in
-      let one_below = operand-below m.state.next_sym m.bindings (also c cs) x m.one
-      k.grows.leads.follow.below.todo.0 (inl (inl refl)) k.one in
-      let two_below = operand-below m.state.next_sym m.bindings (also c cs) y m.two
-      k.grows.leads.follow.below.todo.0 (inl (inr refl)) k.two in
-      assumed-after p rest (goal_with_first c) two
-      (assumed_equal m.one m.two (goal_after m.state p cs m.bindings rest)) left k.grows.leads row
-      (follows-trans two (goal_after m.state p cs m.bindings rest)
-      (assumed_equal m.one m.two (goal_after m.state p cs m.bindings rest)) plain
-      (follows-equal m.one m.two (goal_after m.state p cs m.bindings rest) plain.below one_below two_below))
-      (equal-assumed m.state p q x y cs m.bindings rest m.one m.two k.one k.two)
+      test-kept c x y assumed_equal (λ ss. refl) follows-equal
+      (λ now bound t u one two. equal-assumed now p q x y cs bound rest t u one two) (met_both s bindings x y)
+      (both-met c x y below formed.0.0.0.0 formed.0.0.0.1 (inl refl) (inr refl)) row
 
   apart-kept : (q : Place) (x y : Operand Term) → FirstKept (holds q (Unequal x y))
   apart-kept q x y below formed row =
       let c = holds q (Unequal x y) in
-      let m = met_both s bindings x y in
-      let k = met-two p (also c cs) rest s bindings x y below formed.0.0.0.0 formed.0.0.0.1 (inl (inl refl))
-      (inl (inr refl)) in
-      let two = with_bindings p (also c cs) rest m.state m.bindings in
-      let plain = plain-follows m.state p c cs m.bindings rest (λ ss. refl) k.grows.leads.follow.below in
-      let one_below = operand-below m.state.next_sym m.bindings (also c cs) x m.one
-      k.grows.leads.follow.below.todo.0 (inl (inl refl)) k.one in
-      let two_below = operand-below m.state.next_sym m.bindings (also c cs) y m.two
-      k.grows.leads.follow.below.todo.0 (inl (inr refl)) k.two in
-      assumed-after p rest (goal_with_first c) two
-      (assumed_apart m.one m.two (goal_after m.state p cs m.bindings rest)) left k.grows.leads row
-      (follows-trans two (goal_after m.state p cs m.bindings rest)
-      (assumed_apart m.one m.two (goal_after m.state p cs m.bindings rest)) plain
-      (follows-apart m.one m.two (goal_after m.state p cs m.bindings rest) plain.below one_below two_below))
-      (apart-assumed m.state p q x y cs m.bindings rest m.one m.two k.one k.two)
+      test-kept c x y assumed_apart (λ ss. refl) follows-apart
+      (λ now bound t u one two. apart-assumed now p q x y cs bound rest t u one two) (met_both s bindings x y)
+      (both-met c x y below formed.0.0.0.0 formed.0.0.0.1 (inl refl) (inr refl)) row
 
   segment-kept : (q : Place) (next : FieldId) (x y : Operand Term) → FirstKept (segment q next x y)
   segment-kept q next x y below formed row =
       let c = segment q next x y in
       let m = met_both s bindings x y in
-      let k = met-two p (also c cs) rest s bindings x y below formed.0.0.0.1 formed.0.0.0.2 (inl (inl refl))
-      (inl (inr refl)) in
-      let after = k.grows.leads.follow in
-      let along : m.state.links.tl ≡ Some next = ap (λ l. l.tl) after.links ∙ formed.0.0.0.0 in
-      let one_below = operand-below m.state.next_sym m.bindings (also c cs) x m.one after.below.todo.0
-      (inl (inl refl)) k.one in
-      let two_below = operand-below m.state.next_sym m.bindings (also c cs) y m.two after.below.todo.0
-      (inl (inr refl)) k.two in
+      let k = both-met c x y below formed.0.0.0.1 formed.0.0.0.2 (inl refl) (inr refl) in
+      let leads = k.meets.grows.leads in
+      let along : m.state.links.tl ≡ Some next = ap (λ l. l.tl) leads.follow.links ∙ formed.0.0.0.0 in
       assumed-after p rest (goal_with_first c) (with_bindings p (also c cs) rest m.state m.bindings)
-      (goal_after (with_atom (Ls m.one m.two) m.state) p cs m.bindings rest) left k.grows.leads row
-      (more-follows m.state p c cs m.bindings rest (λ ss. refl) m.state.apart (Ls m.one m.two) after.below
-      after.below.state.apart (one_below, two_below))
+      (goal_after (with_atom (Ls m.one m.two) m.state) p cs m.bindings rest) left leads row
+      (more-follows m.state p c cs m.bindings rest (λ ss. refl) m.state.apart (Ls m.one m.two) leads.follow.below
+      leads.follow.below.state.apart (k.one_below, k.two_below))
       (λ w e free taken h.
       let f = first-out m.state p c cs m.bindings rest w e free taken h in
       assumed-same m.state p c cs m.bindings rest w (with_atom (Ls m.one m.two) m.state) e free taken
       (more-holds m.state p c cs m.bindings rest (λ ss. refl) m.state.apart (Ls m.one m.two) w e free taken h f
       h.apart
       (λ part d. subst (λ z. SegAlong z (term_value w m.one) (term_value w m.two) part) (sym along)
-      (subst₂ (λ a b. SegAlong (Some next) a b part) (operand-is w f.some m.bindings x m.one f.bound k.one)
-      (operand-is w f.some m.bindings y m.two f.bound k.two) d))))
+      (subst₂ (λ a b. SegAlong (Some next) a b part)
+      (operand-is w f.some m.bindings x m.one f.bound k.meets.one)
+      (operand-is w f.some m.bindings y m.two f.bound k.meets.two) d))))
 
   tree-kept : (q : Place) (l r : FieldId) (x : Operand Term) → FirstKept (tree q l r x)
   tree-kept q l r x below formed row =
