@@ -24,8 +24,6 @@ mod parts;
 mod pure;
 mod ready;
 mod rows;
-#[cfg(test)]
-mod tests;
 mod wanted;
 
 pub use differing::{Misfit, first_misfit};

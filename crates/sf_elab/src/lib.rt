@@ -36,6 +36,3 @@ mod texts;
 
 pub use elaboration::elaborate;
 pub use fault::NameFault;
-
-#[cfg(test)]
-mod tests;

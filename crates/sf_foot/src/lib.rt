@@ -21,6 +21,3 @@ mod walks;
 pub use finding::footprint;
 pub use start::{Finish, Start};
 pub use vars::Vars;
-
-#[cfg(test)]
-mod tests;

@@ -23,6 +23,3 @@ pub use fault::LexFault;
 pub use scan::tokens;
 pub use token::{Kind, Token, Tokens};
 pub use whole::{is_name, number};
-
-#[cfg(test)]
-mod tests;

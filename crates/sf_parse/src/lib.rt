@@ -39,6 +39,3 @@ mod stop;
 
 pub use fault::ParseFault;
 pub use file::parse;
-
-#[cfg(test)]
-mod tests;

@@ -28,6 +28,3 @@ pub use arranged::Arranged;
 pub use arranging::arrange;
 pub use fault::OrderFault;
 pub use ordering::order;
-
-#[cfg(test)]
-mod tests;

@@ -21,6 +21,3 @@ pub use fault::ProofFault;
 pub use lined::Lined;
 pub use reading::read;
 pub use text::{proof_text, put, put_term};
-
-#[cfg(test)]
-mod tests;

@@ -19,6 +19,3 @@ mod wanted;
 
 pub use failure::{failed, too_large};
 pub use stuck::Stuck;
-
-#[cfg(test)]
-mod tests;

@@ -16,8 +16,6 @@ mod choice;
 mod commands;
 mod given;
 mod settled;
-#[cfg(test)]
-mod tests;
 mod wanted;
 mod whole;
 

@@ -24,6 +24,3 @@ mod walk;
 
 pub use condition::conditions;
 pub use fault::VarFault;
-
-#[cfg(test)]
-mod tests;

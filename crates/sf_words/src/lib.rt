@@ -22,6 +22,3 @@ mod screen;
 
 pub use order::{Order, WordFault};
 pub use reading::read;
-
-#[cfg(test)]
-mod tests;

@@ -1,5 +1,5 @@
 use Rattle.std.proofs.Common.{◌+◌}
-use Rattle.sf_parse.proofs.tests.+rules.Given as goal
+use Rattle.sf_reading_tests.proofs.files.+rules.Given as goal
 
 abbrev pub decreases-ends_of_rule : goal.decreases-ends_of_rule
 decreases-ends_of_rule l = l.fuel + l.fuel

@@ -1,9 +1,9 @@
 //! Orders of small assertions, found by hand, and of a long one. Each conjunct is named by the
 //! column of its place.
 
-use crate::{OrderFault, order};
 use sf_base::{FieldId, Place};
 use sf_core::{Assertion, Conjunct, Expr, Level, Operand, Scope, Test};
+use sf_precise::{OrderFault, order};
 use std::alloc::{AllocError, Global};
 use std::test::Fail;
 

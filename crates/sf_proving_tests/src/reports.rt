@@ -1,9 +1,9 @@
 //! What no clause says: how texts look that were written by hand. The program has no names; texts
 //! with names are tried where programs are read.
 
-use crate::{Stuck, failed, too_large};
 use sf_base::{Place, ProcId};
 use sf_core::{Conjunct, Links, Operand, Program, Test};
+use sf_report::{Stuck, failed, too_large};
 use sf_sym::{Atom, Goal, Item, Pending, State, Term};
 use std::alloc::{AllocError, Global};
 

@@ -1,9 +1,9 @@
-//! The public call once, with ample memory. What programs break is tested in sf_cli, where they are
+//! `conditions` once, with ample memory. What programs break is tested in sf_cli, where they are
 //! read from texts.
 
-use crate::conditions;
 use sf_calls::reach;
 use sf_core::{Links, Program};
+use sf_vars::conditions;
 use std::test::Fail;
 
 #[test]

@@ -1,4 +1,6 @@
-use crate::{Order, WordFault, read};
+//! The words of a command, and the first one that is at fault.
+
+use sf_words::{Order, WordFault, read};
 
 #[test]
 fn words_are_their_orders(rt: HostRuntime) {

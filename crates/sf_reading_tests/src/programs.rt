@@ -1,13 +1,13 @@
-//! The public call, with ample memory.
+//! `elaborate`, with ample memory.
 
 ghost use Rattle.std.specs.Prelude.{◌≤◌, map};
 ghost use Rattle.sf_ast.specs.Depth.{items_depth};
 ghost use Rattle.sf_ast.specs.View.{item_of};
 ghost use Rattle.sf_base.specs.declared.limits.TheConstants.{NESTING};
 
-use crate::elaborate;
 use sf_ast::{File, Item, SurfaceNames, Word};
 use sf_base::Place;
+use sf_elab::elaborate;
 use std::alloc::{AllocError, Global};
 use std::test::Fail;
 

@@ -1,8 +1,8 @@
 //! What no clause says: what texts written by hand read as, with ample memory.
 
-use crate::{Lined, ProofFault, proof_text, read};
 use sf_base::ProcId;
 use sf_core::{Links, Program};
+use sf_proof::{Lined, ProofFault, proof_text, read};
 use sf_sym::{Tag, Term};
 use std::alloc::{AllocError, Global};
 

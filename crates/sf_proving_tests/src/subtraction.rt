@@ -6,8 +6,8 @@ ghost use Rattle.sf_consume.specs.Subtract.{new_symbols};
 ghost use Rattle.sf_core.specs.Program.Syntax.{also, none};
 ghost use Rattle.sf_core.specs.Program.View.{conjunct_of};
 
-use crate::{ConsumeFault, subtract};
 use sf_base::{FieldId, Place};
+use sf_consume::{ConsumeFault, subtract};
 use sf_core::{Conjunct, Links, Operand, Test};
 use sf_sym::{Atom, FieldTerms, Pending, State, Tag, Term};
 use std::alloc::{AllocError, Global};

@@ -1,5 +1,7 @@
-use crate::{Kind, LexFault, Token, tokens};
+//! Bytes that are tokens, and bytes at which a token fails.
+
 use sf_base::Place;
+use sf_lex::{Kind, LexFault, Token, tokens};
 use std::alloc::{AllocError, Global};
 
 /// The place in that line and column.

@@ -2,9 +2,9 @@
 //! and the left one of trees, and the second the right one. The variable 0 is the location 1, and
 //! the variable 1 the location 5.
 
-use crate::{Vars, footprint};
 use sf_base::{FieldId, Place, Value, Var};
 use sf_core::{Assertion, Conjunct, Expr, Level, Occurrence, Operand, Scope, Test};
+use sf_foot::{Vars, footprint};
 use sf_heap::{Cell, Heap, Locations};
 use sf_precise::order;
 use std::alloc::{AllocError, Global};

@@ -1,7 +1,9 @@
-use crate::{ParseFault, parse};
+//! Files that are read, and files that are refused at their first token that fits nothing.
+
 use sf_ast::{File, Item, SurfaceCommand};
 use sf_base::Place;
 use sf_lex::{LexFault, Token, tokens};
+use sf_parse::{ParseFault, parse};
 use std::alloc::{AllocError, Global};
 
 /// What becomes of a file's bytes.

@@ -1,11 +1,11 @@
 //! What the strategy does at small goals, by a table.
 
-use crate::choices::{Choice, Kind, choose};
 use Choice::{Stays, Takes};
 use Front::{Dispose, Finish, Wanted};
 use Part::{AnyCell, Apart, Cell, Ls, Same, Tree, TwiceCell};
 use sf_base::{FieldId, Place, Var};
 use sf_core::{Command, Conjunct, Expr, Links, Occurrence, Operand, Test};
+use sf_search::{Choice, Kind, choose};
 use sf_sym::{Atom, FieldTerms, Goal, Item, Pending, State, Tag, Term};
 use std::alloc::{AllocError, Global};
 

@@ -1,0 +1,23 @@
+//! Tests of what orders, takes, searches and prints, by the public calls of their crates. They are
+//! in a crate of their own so that the crates that they test needn't be proved once more with them.
+//!
+//! - `orders`: conjuncts in the order in which they can be taken.
+//! - `footprints`: locations that satisfy an assertion.
+//! - `subtraction`: the tags that hand over.
+//! - `choices`: the tag that a search takes.
+//! - `proofs`: the text of a proof, written and read.
+//! - `reports`: what is printed of a goal that has no proof.
+#![tactic(auto)]
+
+#[cfg(test)]
+mod choices;
+#[cfg(test)]
+mod footprints;
+#[cfg(test)]
+mod orders;
+#[cfg(test)]
+mod proofs;
+#[cfg(test)]
+mod reports;
+#[cfg(test)]
+mod subtraction;
