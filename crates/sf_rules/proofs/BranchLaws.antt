@@ -98,44 +98,31 @@ module _ (s : State) (rest : List Item) (p : Place) (test : Test Expr) (this tha
     };
   }
 
+  -- the row of a test that is decided so, where what its decision says is true of the values
+  branch-executed : (left : List Goal) (decided : Bool) (Says : (Var → Option Value) → Type 0)
+      → ((w : ℕ → Value) (e : Var → Option Value) (free taken : Heap)
+      → HoldsIn w (before_command s (if p test this that) rest) e free taken → IsTestKnown s.vars e test
+      → decided ≡ true → Says e)
+      → cond decided (one_goal s (to_run c ++ rest)) None ≡ Some left
+      → Executed (before_command s (if p test this that) rest) left
+      (λ w e free taken child. IsTestKnown s.vars e test
+      → Says e × HoldsStill w (before_command s (if p test this that) rest) e free taken child)
+  branch-executed left false Says is row = absurd (cc)
+  branch-executed left true Says is row =
+      executed-one (before_command s (if p test this that) rest) (record { state = s; todo = to_run c ++ rest }) left _
+      row branch-follows
+      (λ w e free taken h k. (is w e free taken h k refl, branch-holds w e free taken h))
+
 pub then_follows_test : ThenFollowsTest
 unfolding ThenFollowsTest
 then_follows_test s rest left p test this that ready row =
-    go (is_true s (command_test (term s.vars) test)) refl row
-  where
-    go : (b : Bool) → is_true s (command_test (term s.vars) test) ≡ b
-        → cond b (one_goal s (to_run this ++ rest)) None ≡ Some left
-        → Executed (before_command s (if p test this that) rest) left
-        (λ w e free taken child. IsTestKnown s.vars e test
-        → IsTrueOf (value_at e) test
-        × HoldsStill w (before_command s (if p test this that) rest) e free taken child)
-    go false d e = absurd (cc)
-    go true d e =
-        executed-one (before_command s (if p test this that) rest)
-        (record { state = s; todo = to_run this ++ rest }) left _ e
-        (branch-follows s rest p test this that this ready)
-        (λ w f free taken h k. (
-          test-true w (before_command s (if p test this that) rest) f free taken h test k d,
-          branch-holds s rest p test this that this ready w f free taken h,
-        ))
+    branch-executed s rest p test this that this ready left (is_true s (command_test (term s.vars) test))
+    (λ e. IsTrueOf (value_at e) test)
+    (λ w e free taken h k d. test-true w (before_command s (if p test this that) rest) e free taken h test k d) row
 
 pub else_follows_test : ElseFollowsTest
 unfolding ElseFollowsTest
 else_follows_test s rest left p test this that ready row =
-    go (is_false s (command_test (term s.vars) test)) refl row
-  where
-    go : (b : Bool) → is_false s (command_test (term s.vars) test) ≡ b
-        → cond b (one_goal s (to_run that ++ rest)) None ≡ Some left
-        → Executed (before_command s (if p test this that) rest) left
-        (λ w e free taken child. IsTestKnown s.vars e test
-        → (IsTrueOf (value_at e) test → ⊥)
-        × HoldsStill w (before_command s (if p test this that) rest) e free taken child)
-    go false d e = absurd (cc)
-    go true d e =
-        executed-one (before_command s (if p test this that) rest)
-        (record { state = s; todo = to_run that ++ rest }) left _ e
-        (branch-follows s rest p test this that that ready)
-        (λ w f free taken h k. (
-          test-false w (before_command s (if p test this that) rest) f free taken h test k d,
-          branch-holds s rest p test this that that ready w f free taken h,
-        ))
+    branch-executed s rest p test this that that ready left (is_false s (command_test (term s.vars) test))
+    (λ e. IsTrueOf (value_at e) test → ⊥)
+    (λ w e free taken h k d. test-false w (before_command s (if p test this that) rest) e free taken h test k d) row

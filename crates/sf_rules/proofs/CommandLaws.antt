@@ -15,6 +15,7 @@ use Rattle.sf_base.specs.HeapStore.{Cell, Heap, IsEmpty, IsOne, Splits, put_fiel
 use Rattle.sf_core.specs.Assertions.Sat.{HasFields}
 use Rattle.sf_core.specs.declared.command.Expr.{Expr}
 use Rattle.sf_core.specs.declared.command.Occurrence.{Occurrence}
+use Rattle.sf_core.specs.Machine.Step.{Finds}
 use Rattle.sf_core.specs.Program.Syntax.{Command, assign, look_up, mutate, new, dispose}
 use Rattle.sf_rules.specs.LawsOfCommands.{Executed, FindsCell, before_command, heap_with, AssignFollowsEvent, LookFollowsEvent, MutateFollowsEvent, NewFollowsEvent, DisposeFollowsEvent}
 use Rattle.sf_rules.specs.Rows.Commands.{looked, with_var}
@@ -25,7 +26,7 @@ use Rattle.sf_sym.specs.Lemmas.FreshGoals.{agree, apart-stays, atoms-stay, later
 use Rattle.sf_sym.specs.Lemmas.FreshValues.{value-below, value-here, with_value}
 use Rattle.sf_sym.specs.Lemmas.KnownValues.{known-value, set-agrees, set-all, term-all}
 use Rattle.sf_sym.specs.Lemmas.OtherValues.{Same, fields-other_values, pairs-other_values}
-use Rattle.sf_sym.specs.Below.{AllInAtom, AllPaired, IsBelow, SameBelow}
+use Rattle.sf_sym.specs.Below.{AllInAtom, AllInAtoms, AllPaired, AreBelow, IsBelow, SameBelow}
 use Rattle.sf_sym.specs.Cells.{atom_at, cell_at, with_cell, with_fields, without}
 use Rattle.sf_sym.specs.declared.atom.Atom.TheVariants.{Points}
 use Rattle.sf_sym.specs.declared.atom.Numbered.{Numbered}
@@ -36,8 +37,9 @@ use Rattle.sf_sym.specs.Goal.{Item, run, add, take, gave, head, again, exit, ret
 use Rattle.sf_sym.specs.Holds.{term_value, AtomsHold, AddsHold}
 use Rattle.sf_sym.specs.HoldsIn.{HoldsIn}
 use Rattle.sf_sym.specs.Laws.{Follows, HoldsStill}
-use Rattle.sf_sym.specs.Ready.{BeginsWithNoAdd, HasOrder, IsKnown, IsReady, value_at, with_variable}
+use Rattle.sf_sym.specs.Ready.{AreInOrder, BeginsWithNoAdd, HasOrder, IsKnown, IsReady, value_at, with_variable}
 use Rattle.sf_sym.specs.State.{State, term, with_symbols}
+use Rattle.sf_sym.specs.Variables.{set_var}
 
 -- nothing is assumed at once, so no heap is needed for it
 no-add : (w : ℕ → Value) (items : List Item) (heap : Heap) → BeginsWithNoAdd items → IsEmpty heap
@@ -68,28 +70,31 @@ executed-one goal child left After e follows holds =
       after = λ w e free taken h. inl (holds w e free taken h);
     })
 
--- the cell of a number, and its part of what is there
-record Out (w : ℕ → Value) (s : State) (free : Heap) (a : ℕ) (t : Term) (fields : List (FieldId × Term))
-    : Type 0 where
+-- the cell of a number at a root, and its part of what is there
+record Out (w : ℕ → Value) (s : State) (e : Var → Option Value) (free : Heap) (a : ℕ) (root : Expr)
+    (fields : List (FieldId × Term)) : Type 0 where
   location : ℕ
   here : Cell
   part : Heap
   others : Heap
-  is : term_value w t ≡ loc location
+  is : term_value w (term s.vars root) ≡ loc location
   splits : Splits free part others
   one : IsOne location here part
   has : HasFields (term_value w) fields here
   beside : AtomsHold w s.links (without s.atoms a) others
   there : free location ≡ Some here
+  finds : IsKnown s.vars e root → Finds (value_at e) free root location here
 
 cell-out : (w : ℕ → Value) (s : State) (c : Command) (rest : List Item) (e : Var → Option Value)
-    (free taken : Heap) (a : ℕ) (t : Term) (fields : List (FieldId × Term))
-    → HoldsIn w (before_command s c rest) e free taken → cell_at s.atoms a t ≡ Some fields
-    → Out w s free a t fields
-cell-out w s c rest e free taken a t fields h found =
-    let o = atoms-out w s.links s.atoms a (Points t fields) free (at-cell s.atoms a t fields found)
+    (free taken : Heap) (a : ℕ) (root : Expr) (fields : List (FieldId × Term))
+    → HoldsIn w (before_command s c rest) e free taken → cell_at s.atoms a (term s.vars root) ≡ Some fields
+    → Out w s e free a root fields
+cell-out w s c rest e free taken a root fields h is_there =
+    let t = term s.vars root in
+    let o = atoms-out w s.links s.atoms a (Points t fields) free (at-cell s.atoms a t fields is_there)
     (star-drop_right h.there) in
     let (location, here, is, one, has) = o.first in
+    let there = one-in one o.splits in
     record {
       location = location;
       here = here;
@@ -100,7 +105,70 @@ cell-out w s c rest e free taken a t fields h found =
       one = one;
       has = has;
       beside = o.second;
-      there = one-in one o.splits;
+      there = there;
+      finds = λ known. record { is = sym (known-value w e s.vars h.vars root known) ∙ is; there = there };
+    }
+
+-- the event finds that cell, so what is said of what it finds is said of this one
+found-cell : {w : ℕ → Value} {s : State} {e : Var → Option Value} {free : Heap} {a : ℕ} {root : Expr}
+    {fields : List (FieldId × Term)} {Then : ℕ → Cell → Type 0} (o : Out w s e free a root fields)
+    → IsKnown s.vars e root → Then o.location o.here → FindsCell e free root Then
+found-cell o known then = record { location = o.location; cell = o.here; finds = o.finds known; follows = then }
+
+-- Of a command whose goal has the same symbols after it
+module _ (s : State) (c : Command) (rest : List Item) where
+  -- with other variables and atoms, of terms that are below the next symbol
+  command-follows : (vars : List (Var × Term)) (atoms : List Numbered) → AreBelow (before_command s c rest)
+      → AllPaired (IsBelow s.next_sym) vars → AllInAtoms (IsBelow s.next_sym) atoms
+      → Follows (before_command s c rest) (record { state = record s { vars = vars; atoms = atoms }; todo = rest })
+  command-follows vars atoms below vars_below atoms_below = record {
+    below = record {
+      state = record {
+        vars = vars_below;
+        apart = below.state.apart;
+        atoms = atoms_below;
+        taken = below.state.taken;
+      };
+      todo = below.todo.1;
+    };
+    symbols = omega arith;
+    links = refl;
+    formed = λ f. f.1;
+  }
+
+  module _ (w : ℕ → Value) (e : Var → Option Value) (free taken : Heap) (after : BeginsWithNoAdd rest)
+      (h : HoldsIn w (before_command s c rest) e free taken) where
+    -- once a variable is set
+    set-holds : (x : Var) (v : Value) (t : Term) → AreInOrder s.vars → v ≡ term_value w t
+        → HoldsStill w (before_command s c rest) (with_variable x v e) free taken
+        (record { state = with_var x t s; todo = rest })
+    set-holds x v t order is = record {
+      values = w;
+      same = λ m d. refl;
+      holds = record {
+        vars = set-agrees w e x v s.vars t order is h.vars;
+        apart = h.apart;
+        disjoint = h.disjoint;
+        there = beside-none w rest free after (star-drop_right h.there);
+        gone = h.gone;
+      };
+    }
+
+    -- once a cell that is there becomes another, or is gone
+    change-holds : (location : ℕ) (here : Cell) (cell : Option Cell) (atoms : List Numbered)
+        → free location ≡ Some here → AtomsHold w s.links atoms (heap_with location cell free)
+        → HoldsStill w (before_command s c rest) e (heap_with location cell free) taken
+        (record { state = record s { atoms = atoms }; todo = rest })
+    change-holds location here cell atoms there hold = record {
+      values = w;
+      same = λ m d. refl;
+      holds = record {
+        vars = h.vars;
+        apart = h.apart;
+        disjoint = (cell-change_left location here cell (splits-union h.disjoint) there).apart;
+        there = beside-none w rest (heap_with location cell free) after hold;
+        gone = h.gone;
+      };
     }
 
 -- the terms of expressions are below the next symbol
@@ -125,37 +193,16 @@ cell-order (x ∷ xs) a t fields o e = go (x.number == a) e (λ i. cell-order xs
 pub assign_follows_event : AssignFollowsEvent
 unfolding AssignFollowsEvent
 assign_follows_event s rest left p x value ready row =
+    let c = assign p x value in
     let b = ready.below in
     let t = term s.vars value in
-    executed-one (before_command s (assign p x value) rest)
-    (record { state = with_var x.var t s; todo = rest }) left _ row
-    (record {
-      below = record {
-        state = record {
-          vars = set-all (IsBelow s.next_sym) x.var t s.vars
-              (term-below s.next_sym s.vars b.state.vars value) b.state.vars;
-          apart = b.state.apart;
-          atoms = b.state.atoms;
-          taken = b.state.taken;
-        };
-        todo = b.todo.1;
-      };
-      symbols = omega arith;
-      links = refl;
-      formed = λ f. f.1;
-    })
-    (λ w e free taken h known. record {
-      values = w;
-      same = λ m d. refl;
-      holds = record {
-        vars = set-agrees w e x.var (value_at e value) s.vars t ready.vars
-            (sym (known-value w e s.vars h.vars value known)) h.vars;
-        apart = h.apart;
-        disjoint = h.disjoint;
-        there = beside-none w rest free ready.after (star-drop_right h.there);
-        gone = h.gone;
-      };
-    })
+    executed-one (before_command s c rest) (record { state = with_var x.var t s; todo = rest }) left _ row
+    (command-follows s c rest (set_var x.var t s.vars) s.atoms b
+    (set-all (IsBelow s.next_sym) x.var t s.vars (term-below s.next_sym s.vars b.state.vars value) b.state.vars)
+    b.state.atoms)
+    (λ w e free taken h known.
+    set-holds s c rest w e free taken ready.after h x.var (value_at e value) t ready.vars
+    (sym (known-value w e s.vars h.vars value known)))
 
 -- DISPOSE
 
@@ -171,45 +218,19 @@ dispose_follows_event s rest left p root a ready row = go (cell_at s.atoms a (te
         (heap_with location None free) taken child))
     go None found e = absurd (cc)
     go (Some fields) found e =
+        let c = dispose p root in
         let b = ready.below in
-        executed-one (before_command s (dispose p root) rest)
-        (record { state = record s { atoms = without s.atoms a }; todo = rest }) left _ e
-        (record {
-          below = record {
-            state = record {
-              vars = b.state.vars;
-              apart = b.state.apart;
-              atoms = without-all (AllInAtom (IsBelow s.next_sym)) s.atoms a b.state.atoms;
-              taken = b.state.taken;
-            };
-            todo = b.todo.1;
-          };
-          symbols = omega arith;
-          links = refl;
-          formed = λ f. f.1;
-        })
+        let atoms = without s.atoms a in
+        executed-one (before_command s c rest) (record { state = record s { atoms = atoms }; todo = rest }) left _ e
+        (command-follows s c rest s.vars atoms b b.state.vars
+        (without-all (AllInAtom (IsBelow s.next_sym)) s.atoms a b.state.atoms))
         (λ w e free taken h known.
-        let o = cell-out w s (dispose p root) rest e free taken a (term s.vars root) fields h found in
+        let o = cell-out w s c rest e free taken a root fields h found in
         let after = cell-change_left o.location o.here None o.splits o.one.here in
         let gone = splits-of_empty_left (one-remove_cell o.one) after in
-        record {
-          location = o.location;
-          cell = o.here;
-          finds = record { is = sym (known-value w e s.vars h.vars root known) ∙ o.is; there = o.there };
-          follows = record {
-            values = w;
-            same = λ m d. refl;
-            holds = record {
-              vars = h.vars;
-              apart = h.apart;
-              disjoint =
-                  (cell-change_left o.location o.here None (splits-union h.disjoint) o.there).apart;
-              there = beside-none w rest (heap_with o.location None free) ready.after
-                  (subst (AtomsHold w s.links (without s.atoms a)) (sym gone) o.beside);
-              gone = h.gone;
-            };
-          };
-        })
+        found-cell o known
+        (change-holds s c rest w e free taken ready.after h o.location o.here None atoms o.there
+        (subst (AtomsHold w s.links atoms) (sym gone) o.beside)))
 
 -- MUTATE
 
@@ -231,60 +252,31 @@ mutate_follows_event s rest left p root field value a ready row =
         (heap_with location (Some (put_field cell field.0 (value_at e value))) free) taken child))
     go None found e = absurd (cc)
     go (Some fields) found e =
+        let c = mutate p root field value in
         let b = ready.below in
         let t = term s.vars root in
         let u = term s.vars value in
         let at = at-cell s.atoms a t fields found in
         let old = at-all (AllInAtom (IsBelow s.next_sym)) s.atoms a (Points t fields) at b.state.atoms in
-        executed-one (before_command s (mutate p root field value) rest)
-        (record { state = record s { atoms = with_fields s.atoms a t (put_term field u fields) }; todo = rest })
-        left _ e
-        (record {
-          below = record {
-            state = record {
-              vars = b.state.vars;
-              apart = b.state.apart;
-              atoms = with_fields-all (AllInAtom (IsBelow s.next_sym)) s.atoms a t (put_term field u fields)
-                  b.state.atoms (
-                    old.0,
-                    put-all (IsBelow s.next_sym) field u fields
-                        (term-below s.next_sym s.vars b.state.vars value) old.1,
-                  );
-              taken = b.state.taken;
-            };
-            todo = b.todo.1;
-          };
-          symbols = omega arith;
-          links = refl;
-          formed = λ f. f.1;
-        })
+        let atoms = with_fields s.atoms a t (put_term field u fields) in
+        executed-one (before_command s c rest) (record { state = record s { atoms = atoms }; todo = rest }) left _ e
+        (command-follows s c rest s.vars atoms b b.state.vars
+        (with_fields-all (AllInAtom (IsBelow s.next_sym)) s.atoms a t (put_term field u fields) b.state.atoms (
+          old.0,
+          put-all (IsBelow s.next_sym) field u fields (term-below s.next_sym s.vars b.state.vars value) old.1,
+        )))
         (λ w e free taken h known also_known.
-        let o = cell-out w s (mutate p root field value) rest e free taken a t fields h found in
+        let o = cell-out w s c rest e free taken a root fields h found in
         let is = known-value w e s.vars h.vars value also_known in
         let cell : Cell = put_field o.here field.0 (value_at e value) in
         let fits = subst (λ z. HasFields (term_value w) (put_term field u fields) (put_field o.here field.0 z)) is
         (put-written (term_value w) field u fields o.here (cell-order s.atoms a t fields ready.fields at) o.has) in
-        record {
-          location = o.location;
-          cell = o.here;
-          finds = record { is = sym (known-value w e s.vars h.vars root known) ∙ o.is; there = o.there };
-          follows = record {
-            values = w;
-            same = λ m d. refl;
-            holds = record {
-              vars = h.vars;
-              apart = h.apart;
-              disjoint =
-                  (cell-change_left o.location o.here (Some cell) (splits-union h.disjoint) o.there).apart;
-              there = beside-none w rest (heap_with o.location (Some cell) free) ready.after
-                  (atoms-in_place w s.links s.atoms a (Points t fields) t (put_term field u fields)
-                  (heap_with o.location (Some cell) free) at
-                  (star-of (cell-change_left o.location o.here (Some cell) o.splits o.one.here)
-                  (o.location, cell, o.is, one-put_cell cell o.one, fits) o.beside));
-              gone = h.gone;
-            };
-          };
-        })
+        found-cell o known
+        (change-holds s c rest w e free taken ready.after h o.location o.here (Some cell) atoms o.there
+        (atoms-in_place w s.links s.atoms a (Points t fields) t (put_term field u fields)
+        (heap_with o.location (Some cell) free) at
+        (star-of (cell-change_left o.location o.here (Some cell) o.splits o.one.here)
+        (o.location, cell, o.is, one-put_cell cell o.one, fits) o.beside))))
 
 -- NEW
 
@@ -350,46 +342,21 @@ look-known : (s : State) (rest : List Item) (left : List Goal) (p : Place) (x : 
     → (u : Term) → field_term fields field ≡ Some u
     → one_goal (with_var x.var u s) rest ≡ Some left → Looks s rest p x root field left
 look-known s rest left p x root field a ready fields found u is e =
+    let c = look_up p x root field in
     let b = ready.below in
     let t = term s.vars root in
     let old = at-all (AllInAtom (IsBelow s.next_sym)) s.atoms a (Points t fields) (at-cell s.atoms a t fields found)
     b.state.atoms in
-    executed-one (before_command s (look_up p x root field) rest)
-    (record { state = with_var x.var u s; todo = rest }) left _ e
-    (record {
-      below = record {
-        state = record {
-          vars = set-all (IsBelow s.next_sym) x.var u s.vars
-              (field-all (IsBelow s.next_sym) fields field u is old.1) b.state.vars;
-          apart = b.state.apart;
-          atoms = b.state.atoms;
-          taken = b.state.taken;
-        };
-        todo = b.todo.1;
-      };
-      symbols = omega arith;
-      links = refl;
-      formed = λ f. f.1;
-    })
+    executed-one (before_command s c rest) (record { state = with_var x.var u s; todo = rest }) left _ e
+    (command-follows s c rest (set_var x.var u s.vars) s.atoms b
+    (set-all (IsBelow s.next_sym) x.var u s.vars (field-all (IsBelow s.next_sym) fields field u is old.1)
+    b.state.vars)
+    b.state.atoms)
     (λ w e free taken h known.
-    let o = cell-out w s (look_up p x root field) rest e free taken a t fields h found in
-    record {
-      location = o.location;
-      cell = o.here;
-      finds = record { is = sym (known-value w e s.vars h.vars root known) ∙ o.is; there = o.there };
-      follows = record {
-        values = w;
-        same = λ m d. refl;
-        holds = record {
-          vars = set-agrees w e x.var (o.here field.0) s.vars u ready.vars
-              (field-value (term_value w) fields field u o.here is o.has) h.vars;
-          apart = h.apart;
-          disjoint = h.disjoint;
-          there = beside-none w rest free ready.after (star-drop_right h.there);
-          gone = h.gone;
-        };
-      };
-    })
+    let o = cell-out w s c rest e free taken a root fields h found in
+    found-cell o known
+    (set-holds s c rest w e free taken ready.after h x.var (o.here field.0) u ready.vars
+    (field-value (term_value w) fields field u o.here is o.has)))
 
 -- a field that isn't known gets a fresh symbol first
 look-fresh : (s : State) (rest : List Item) (left : List Goal) (p : Place) (x : Occurrence) (root : Expr)
@@ -432,41 +399,37 @@ look-fresh s rest left p x root field a ready fields found e =
       formed = λ f. f.1;
     })
     (λ w e free taken h known.
-    let o = cell-out w s (look_up p x root field) rest e free taken a t fields h found in
+    let o = cell-out w s (look_up p x root field) rest e free taken a root fields h found in
     let y = o.here field.0 in
     let v = with_value n y w in
     let same : SameBelow n v w = λ m i. value-below n y w m i in
     let is : v n ≡ y = value-here n y w in
     let stays = agree w v goal b same e free taken h in
-    record {
-      location = o.location;
-      cell = o.here;
-      finds = record { is = sym (known-value w e s.vars h.vars root known) ∙ o.is; there = o.there };
-      follows = record {
-        values = v;
-        same = same;
-        holds = record {
-          vars = set-agrees v e x.var y s.vars (Sym n) ready.vars (sym is)
-              (vars-stay w v goal b same e free taken h);
-          apart = pairs-other_values w v s.apart
-              (pairs-weaker (IsBelow n) (Same w v) stays s.apart b.state.apart) h.apart;
-          disjoint = h.disjoint;
-          there = beside-none v rest free ready.after
-              (atoms-in_place v s.links s.atoms a (Points t fields) t put free at
-              (star-of o.splits (
-                o.location,
-                o.here,
-                sym (stays t old.0) ∙ o.is,
-                o.one,
-                put-known (term_value v) field (Sym n) fields o.here (sym is)
-                    (fields-other_values w v fields o.here
-                    (paired-weaker (IsBelow n) (Same w v) stays fields old.1) o.has),
-              )
-              (others-stay w v goal b same e free taken h a o.others o.beside)));
-          gone = taken-stay w v goal b same e free taken h;
-        };
+    found-cell o known
+    (record {
+      values = v;
+      same = same;
+      holds = record {
+        vars = set-agrees v e x.var y s.vars (Sym n) ready.vars (sym is)
+            (vars-stay w v goal b same e free taken h);
+        apart = pairs-other_values w v s.apart
+            (pairs-weaker (IsBelow n) (Same w v) stays s.apart b.state.apart) h.apart;
+        disjoint = h.disjoint;
+        there = beside-none v rest free ready.after
+            (atoms-in_place v s.links s.atoms a (Points t fields) t put free at
+            (star-of o.splits (
+              o.location,
+              o.here,
+              sym (stays t old.0) ∙ o.is,
+              o.one,
+              put-known (term_value v) field (Sym n) fields o.here (sym is)
+                  (fields-other_values w v fields o.here
+                  (paired-weaker (IsBelow n) (Same w v) stays fields old.1) o.has),
+            )
+            (others-stay w v goal b same e free taken h a o.others o.beside)));
+        gone = taken-stay w v goal b same e free taken h;
       };
-    })
+    }))
 
 pub look_follows_event : LookFollowsEvent
 unfolding LookFollowsEvent

@@ -1,10 +1,8 @@
 -- What the rows of critical regions leave, by what the code puts before what is left to do.
-use Rattle.std.proofs.Common.{◌≡◌, ℕ, suc, ◌<◌, ◌^◌, false, nat_lt, List, [], ◌∷◌, ◌++◌, get_or, length, map, IfSome, Option, Some, None, Vec, Global, refl, sym, ap, ◌∙◌, arith}
+use Rattle.std.proofs.Common.{◌≡◌, ℕ, suc, ◌<◌, false, nat_lt, List, [], ◌∷◌, ◌++◌, length, map, IfSome, Option, Some, None, Vec, Global, refl, sym, ap, ◌∙◌}
 use Rattle.std.specs.Borrow.{Bor}
 use Rattle.std.specs.List.{slice_get}
 use Rattle.std.specs.Option.{option_and_then}
-use Rattle.std.proofs.lemmas.List.Sums.{get_or-le-sum_by}
-use Rattle.std.proofs.lemmas.Option.{get_or_from_slice_get, slice_get_within}
 use Rattle.sf_base.proofs.Options.{some-holds}
 use Rattle.sf_base.specs.declared.ids.ResId.{ResId}
 use Rattle.sf_base.specs.declared.ids.Var.{Var}
@@ -14,8 +12,7 @@ use Rattle.sf_core.specs.declared.command.Command.{Command as CodeCommand, With}
 use Rattle.sf_core.specs.declared.command.Command.TheVariants.{rolls-With}
 use Rattle.sf_core.specs.declared.command.Command.TheFolds.{fold-roll-Command}
 use Rattle.sf_core.specs.declared.command.Expr.{Expr}
-use Rattle.sf_core.specs.Program.Formed.{IsFormed}
-use Rattle.sf_core.specs.Program.Syntax.{Assertion, Block, Command, Program, Resource, with}
+use Rattle.sf_core.specs.Program.Syntax.{Assertion, Block, Command, Resource, with}
 use Rattle.sf_core.specs.declared.program.Resource.{Resource as CodeResource}
 use Rattle.sf_core.specs.Program.ProgramView.{program_of}
 use Rattle.sf_core.specs.Program.View.{assertion_of, block, command_of, command_step, resource_of}
@@ -39,16 +36,6 @@ use Rattle.sf_rules.proofs.Looping.{pushed}
 pub length_variables : (r : ResId) (i : ℕ) (names : List (List ℕ)) → length (variables_from r i names) ≡ length names
 length_variables r i [] = refl
 length_variables r i (name ∷ names) = ap suc (length_variables r (suc i) names)
-
--- how many variables a resource has is within the limit
-pub few_variables : (p : Program) (k : ℕ) (r : Resource) → IsFormed p → slice_get p.resources k ≡ Some r
-    → length r.variables < 2 ^ 32
-few_variables p k r formed at =
-    let le = get_or-le-sum_by (λ (q : Resource). length q.variables) p.resources k r
-    (slice_get_within p.resources k r at) in
-    let here : get_or p.resources k r ≡ r = get_or_from_slice_get p.resources k r r at in
-    let all = formed.variables in
-    omega (arith, rw here at le, all)
 
 -- what a resource has, in order
 pub region_is : (d : Setting) (a : Arranged) (r : ResId) (x : CodeResource) (names : List (List ℕ))

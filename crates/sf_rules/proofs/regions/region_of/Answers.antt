@@ -3,7 +3,8 @@ use Rattle.std.proofs.lemmas.Bool.Decides.{nat_tests}
 use Rattle.sf_base.proofs.Lookup.{get-read_map}
 use Rattle.sf_core.specs.Program.ProgramView.{program_of}
 use Rattle.sf_core.specs.Program.View.{assertion_of, resource_of}
-use Rattle.sf_rules.proofs.RegionRows.{few_variables, region_is}
+use Rattle.sf_calls.specs.Lemmas.InOrder.{variables_bound}
+use Rattle.sf_rules.proofs.RegionRows.{region_is}
 use Rattle.sf_rules.proofs.regions.region_of.Goals as goal
 
 pub returns-clause-some : goal.returns-clause-some
@@ -22,7 +23,7 @@ returns-clause-few g c =
     let is = found.0 in
     let below : c.args.r.0 < length c.deref.result.now = grind (arith, nat_tests) in
     let same = ap length c.deref-2.ensures.value in
-    let few = few_variables (program_of c.args.arranged.now.program) c.args.r.0
+    let few = variables_bound (program_of c.args.arranged.now.program) c.args.r.0
     (resource_of c.in_ok-resource.resource.now) c.args.arranged.now.program.formed
     (get-read_map resource_of c.args.arranged.now.program.resources.items c.deref.result.now c.args.r.0
     c.in_ok-resource.resource.now c.deref.ensures.value below found.1) in

@@ -10,7 +10,7 @@ use Rattle.sf_core.specs.Program.ProgramView.{program_of}
 use Rattle.sf_core.specs.Program.View.{resource_of}
 use Rattle.sf_rules.specs.First.{variables_of}
 use Rattle.sf_rules.proofs.FirstRows.{few_held, more_variables, no_variables}
-use Rattle.sf_rules.proofs.RegionRows.{few_variables}
+use Rattle.sf_calls.specs.Lemmas.InOrder.{variables_bound}
 use Rattle.sf_rules.proofs.start.variables_of_all.Goals as goal
 
 pub add_variables-requires : goal.add_variables-requires
@@ -19,7 +19,7 @@ add_variables-requires c =
     let is = found.0 in
     let below : c.in-Some.r.now.0 < length c.deref.result.now = grind (arith, nat_tests) in
     let same = ap length c.deref-in-Some-get.ensures.value in
-    let few = few_variables (program_of c.args.p.now) c.in-Some.r.now.0 (resource_of c.in-Some-get.resource.now)
+    let few = variables_bound (program_of c.args.p.now) c.in-Some.r.now.0 (resource_of c.in-Some-get.resource.now)
     c.args.p.now.formed
     (get-read_map resource_of c.args.p.now.resources.items c.deref.result.now c.in-Some.r.now.0
     c.in-Some-get.resource.now c.deref.ensures.value below found.1) in
