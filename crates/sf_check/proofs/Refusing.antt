@@ -29,37 +29,23 @@ walk d (tag ∷ tags) before s e =
     go (taken d s tag) refl (λ t i. walk d tags (before ++ tag ∷ []) t
     (after-append d before start (tag ∷ []) s e ∙ after-next d s tag [] t i))
   where
+    stops : (b : Bool) → is_finished d s ≡ b → taken d s tag ≡ None
+        → StopsAt d (before ++ tag ∷ tags) (length before) b
+    stops b i none = record {
+      before = before;
+      tag = tag;
+      rest = tags;
+      stand = s;
+      are = refl;
+      counted = refl;
+      taken_before = e;
+      not_taken = none;
+      is = i;
+    }
+
     stopped : taken d s tag ≡ None → (b : Bool) → is_finished d s ≡ b → IsRefused d (before ++ tag ∷ tags)
-    stopped none true i = (
-      length before,
-      Leftover,
-      record {
-        before = before;
-        tag = tag;
-        rest = tags;
-        stand = s;
-        are = refl;
-        counted = refl;
-        taken_before = e;
-        not_taken = none;
-        is = i;
-      },
-    )
-    stopped none false i = (
-      length before,
-      NotARule,
-      record {
-        before = before;
-        tag = tag;
-        rest = tags;
-        stand = s;
-        are = refl;
-        counted = refl;
-        taken_before = e;
-        not_taken = none;
-        is = i;
-      },
-    )
+    stopped none true i = (length before, Leftover, stops true i none)
+    stopped none false i = (length before, NotARule, stops false i none)
 
     go : (o : Option Stand) → taken d s tag ≡ o
         → ((t : Stand) → taken d s tag ≡ Some t

@@ -11,6 +11,7 @@ use Rattle.std.proofs.lemmas.List.Elements.{All-contains, Contains-append_cases}
 use Rattle.std.proofs.lemmas.Option.{slice_get-get_or, slice_get_within}
 use Rattle.sf_base.proofs.Elements.{all_by-append, contains-cons, contains-nil}
 use Rattle.sf_base.proofs.HeapSplits.{star-of}
+use Rattle.sf_base.proofs.Options.{is_some-false}
 use Rattle.sf_base.proofs.MapSplits.{empty-holds, empty_map, splits-empty_left, splits-empty_right}
 use Rattle.sf_base.proofs.Members.{contains-flat_map, contains-flat_map_from}
 use Rattle.sf_base.specs.declared.ids.ProcId.{ProcId}
@@ -47,7 +48,7 @@ use Rattle.sf_safe.specs.Local.{Begins, Ends, Local, value_in}
 use Rattle.sf_safe.specs.LocalSafe.{LocalSafe}
 use Rattle.sf_sound.proofs.Annotated.{HaveValues, usable-assumed}
 use Rattle.sf_sound.proofs.Bodies.{HasScope, IsSane, annotation-post, annotation-pre, block-suits, calls-no_region, entered-decides, free-there, is_entered, not-entered}
-use Rattle.sf_sound.proofs.Keeping.{BlockTouches, CommandTouches, Keeping, Kept, Touches, has-some, keep, left-tokens_items, left-variables_items, left_tokens, left_variables, none-of, nothing_gone, nothing_lost, of-is, some-has, touches-items}
+use Rattle.sf_sound.proofs.Keeping.{BlockTouches, CommandTouches, Keeping, Kept, Touches, has-some, keep, left-tokens_items, left-variables_items, left_tokens, left_variables, nothing_gone, nothing_lost, of-is, some-has, touches-items}
 use Rattle.sf_sound.proofs.Regions.{of-contains}
 use Rattle.sf_sound.proofs.Standing.{body-assuming, body-does, body-run, items-none, owed-run, steps-run}
 use Rattle.sf_sound.proofs.States.{StateSuits, items-add, items-run, renewed, renewed-vars, state-fresh, suits-of, terms-below, terms-values}
@@ -419,7 +420,7 @@ module _ (d : Setting) (sane : IsSane d) (f : ProcId) (g : Procedure)
           each = λ x i. some-has m x (same x ∙ has-some l x (b.owns.variables.each x i));
           only = λ x h. b.owns.variables.only x (some-has l x (sym (same x) ∙ has-some m x h));
         };
-        outside = λ r. none-of (m.tokens r) (kept.tokens r ∙ ap (λ z. not (z r) && is_some (l.tokens r)) lost
+        outside = λ r. is_some-false (m.tokens r) (kept.tokens r ∙ ap (λ z. not (z r) && is_some (l.tokens r)) lost
             ∙ ap is_some (b.owns.outside r));
         parameters = λ i h.
             ap (λ o. unwrap_or o nil)

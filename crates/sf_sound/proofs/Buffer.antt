@@ -35,7 +35,7 @@ use Rattle.sf_precise.specs.Annotations.{annotations_in}
 use Rattle.sf_precise.specs.Laws.{OrderingExists}
 use Rattle.sf_precise.specs.Order.{IsOrderOf, IsOrdering}
 use Rattle.sf_sound.proofs.AsWritten.{IsAsWritten, procedure-proved}
-use Rattle.sf_sound.proofs.SmallPrograms.{cell-determined, cell-no_shared, cell-ordered, cell-within, emp-determined, emp-no_var, emp-ordered, emp-within, everywhere, of-three, set-nothing, set-of_three, set-single}
+use Rattle.sf_sound.proofs.SmallPrograms.{cell-determined, cell-no_shared, cell-ordered, cell-within, emp-determined, emp-no_var, emp-ordered, emp-within, everywhere, of-three, set-nothing, set-of_each, set-single}
 use Rattle.sf_sound.proofs.Races.{sound-by}
 use Rattle.sf_sound.specs.ExamplesOfRegions.{BufferIsSound, buf, buffer, buffer_tags, buffered, c, full, get, gets_y, no_scope, passes_on, put, puts_x}
 use Rattle.sf_sound.specs.Proofs.{ProofsAreSound}
@@ -352,11 +352,11 @@ own_sets = record {
 
 are-sets : AreSetsOf buffer own_sets
 are-sets = record {
-  takes = set-of_three IsEarlierResource (Takes buffer) (lock ∷ [])
+  takes = set-of_each IsEarlierResource (Takes buffer) 3 (lock ∷ [])
       (λ f l. set-single IsEarlierResource (Takes buffer f) lock (all-take f l) (takes-lock f));
-  holds = set-of_three IsEarlierResource (HeldBy buffer) []
+  holds = set-of_each IsEarlierResource (HeldBy buffer) 3 []
       (λ f l. set-nothing IsEarlierResource (HeldBy buffer f) (holds-none f));
-  free = set-of_three IsEarlier (Free buffer) [] (λ f l. set-nothing IsEarlier (Free buffer f) (free-none f));
+  free = set-of_each IsEarlier (Free buffer) 3 [] (λ f l. set-nothing IsEarlier (Free buffer f) (free-none f));
 }
 
 -- The conditions on variables: what is inside the regions is held, and the calls share nothing

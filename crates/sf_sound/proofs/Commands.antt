@@ -1,20 +1,22 @@
 -- What goals with a command in front claim: the event finds what it needs, and the goal that is left claims the rest.
 -- Names: `COMMAND-claims` of that command's row.
 use Rattle.std.specs.List.{AllByRecursion}
-use Rattle.std.proofs.Common.{◌≡◌, ℕ, zero, suc, true, false, Some, None, List, [], ◌∷◌, ◌++◌, sym, ap, subst, subst₂, inl, inr}
+use Rattle.std.proofs.Common.{◌≡◌, ℕ, zero, suc, Bool, true, false, cond, Option, Some, None, List, [], ◌∷◌, ◌++◌, sym, ap, subst, subst₂, inl, inr}
 use Rattle.sf_base.proofs.MapSplits.{empty-is}
 use Rattle.sf_base.specs.declared.ids.FieldId.{FieldId}
+use Rattle.sf_base.specs.declared.ids.Var.{Var}
 use Rattle.sf_base.specs.declared.place.Place.{Place}
 use Rattle.sf_base.specs.declared.value.Value.{Value}
 use Rattle.sf_base.specs.declared.value.Value.TheVariants.{Loc as loc}
 use Rattle.sf_base.specs.HeapStore.{Heap, put_field}
+use Rattle.sf_core.specs.Assertions.Sat.{IsTrueOf}
 use Rattle.sf_core.specs.declared.assertion.Test.{Test}
 use Rattle.sf_core.specs.declared.command.Expr.{Expr}
 use Rattle.sf_core.specs.declared.command.Occurrence.{Occurrence}
 use Rattle.sf_core.specs.Machine.Config.{items}
 use Rattle.sf_core.specs.Program.Syntax.{Block, Command, assign, look_up, mutate, new, dispose, if}
-use Rattle.sf_rules.specs.LawsOfCommands.{before_command, AssignFollowsEvent, LookFollowsEvent, MutateFollowsEvent, NewFollowsEvent, DisposeFollowsEvent, ThenFollowsTest, ElseFollowsTest}
-use Rattle.sf_rules.specs.Rows.Branches.{then_row, else_row}
+use Rattle.sf_rules.specs.LawsOfCommands.{before_command, Executed, IsTestKnown, AssignFollowsEvent, LookFollowsEvent, MutateFollowsEvent, NewFollowsEvent, DisposeFollowsEvent, ThenFollowsTest, ElseFollowsTest}
+use Rattle.sf_rules.specs.Rows.Branches.{branch_row, then_row, else_row}
 use Rattle.sf_rules.specs.Rows.Commands.{assign_row, look_row, mutate_row, new_row, dispose_row}
 use Rattle.sf_rules.specs.Setting.{Setting}
 use Rattle.sf_safe.specs.Local.{Local, look, put_local, put_variable}
@@ -27,7 +29,8 @@ use Rattle.sf_sound.specs.Internal.Suits.{Claim, Domain, HasDomain, IsBody, Suit
 use Rattle.sf_sym.specs.Goal.{Item, run, Goal, to_run}
 use Rattle.sf_sym.specs.Holds.{AtomsHold}
 use Rattle.sf_sym.specs.HoldsIn.{HoldsIn}
-use Rattle.sf_sym.specs.Laws.{Follows, SomeOf}
+use Rattle.sf_sym.specs.Laws.{Follows, HoldsStill, SomeOf}
+use Rattle.sf_sym.specs.Ready.{IsReady, value_at}
 use Rattle.sf_sym.specs.State.{State}
 
 -- one of the goals has the property that one of them has, and those that all have
@@ -190,23 +193,39 @@ module _ (d : Setting) (s : State) (rest : List Item) (left : List Goal) (claims
       (goes-on d D s c rest (to_run b ++ rest) child u follows stays (items-formed_run s.links b rest u.formed.1)
       (body-run b rest (form-command s c rest u.form).0) suits n w l taken claim has holds)
 
+  -- a row that leaves the branch of the test's value: what it says of the test holds, and the branch goes on
+  branch-goes : (so : Bool) (Says : (Var → Option Value) → Type 0) (p : Place) (t : Test Expr) (this that : Block)
+      → (IsReady (before_command s (if p t this that) rest) rest
+      → Executed (before_command s (if p t this that) rest) left
+      (λ w e free taken child. IsTestKnown s.vars e t
+      → Says e × HoldsStill w (before_command s (if p t this that) rest) e free taken child))
+      → branch_row so s (run (if p t this that) ∷ rest) ≡ Some left
+      → (n : ℕ) (w : ℕ → Value) (D : Domain) (l : Local) (taken : Heap)
+      → (u : Suits d D (before_command s (if p t this that) rest)) → HasDomain D l
+      → HoldsIn w (before_command s (if p t this that) rest) l.values l.cells taken
+      → TodoSuits d D (to_run (cond so this that) ++ rest)
+      → Says l.values × LocalSafe d.program n (Owed rest) (items (cond so this that) ++ steps rest) l
+  branch-goes so Says p t this that law row n w D l taken u has holds suits =
+      let c = if p t this that in
+      let r = law (ready d D s c rest u) in
+      let m = pick _ _ _ _ left (r.after w l.values l.cells taken holds) r.follow
+      (branch-stays so s rest left p t this that (ordered D c u) row) claims in
+      let (is, after) = m.one (known-test D l has s.vars u.listed t u.todo.0.0) in (
+        is,
+        branch-on D n after.values l taken c (cond so this that) m.goal u m.first m.second suits m.third has
+            after.holds,
+      )
+
   pub then-claims : ThenFollowsTest → (p : Place) (t : Test Expr) (this that : Block)
       → then_row s (run (if p t this that) ∷ rest) ≡ Some left
       → Claim d (before_command s (if p t this that) rest)
   unfolding ThenFollowsTest
   then-claims law p t this that row zero w D l taken u has holds = tt
   then-claims law p t this that row (suc n) w D l taken u has holds =
-      let c = if p t this that in
-      let r = law s rest left p t this that (ready d D s c rest u) row in
-      let m = pick _ _ _ _ left (r.after w l.values l.cells taken holds) r.follow
-      (branch-stays true s rest left p t this that (ordered D c u) row) claims in
-      let (is, after) = m.one (known-test D l has s.vars u.listed t u.todo.0.0) in
-      record {
-        reads = domain-test D l has t u.todo.0.0;
-        this = λ i. branch-on D n after.values l taken c this m.goal u m.first m.second
-            (suits-run d D this rest u.todo.0.1 u.todo.1) m.third has after.holds;
-        that = λ i. absurd (i is);
-      }
+      let (is, on) = branch-goes true (λ e. IsTrueOf (value_at e) t) p t this that
+      (λ r. law s rest left p t this that r row) row n w D l taken u has holds
+      (suits-run d D this rest u.todo.0.1 u.todo.1) in
+      record { reads = domain-test D l has t u.todo.0.0; this = λ i. on; that = λ i. absurd (i is) }
 
   pub else-claims : ElseFollowsTest → (p : Place) (t : Test Expr) (this that : Block)
       → else_row s (run (if p t this that) ∷ rest) ≡ Some left
@@ -214,14 +233,7 @@ module _ (d : Setting) (s : State) (rest : List Item) (left : List Goal) (claims
   unfolding ElseFollowsTest
   else-claims law p t this that row zero w D l taken u has holds = tt
   else-claims law p t this that row (suc n) w D l taken u has holds =
-      let c = if p t this that in
-      let r = law s rest left p t this that (ready d D s c rest u) row in
-      let m = pick _ _ _ _ left (r.after w l.values l.cells taken holds) r.follow
-      (branch-stays false s rest left p t this that (ordered D c u) row) claims in
-      let (is, after) = m.one (known-test D l has s.vars u.listed t u.todo.0.0) in
-      record {
-        reads = domain-test D l has t u.todo.0.0;
-        this = λ i. absurd (is i);
-        that = λ i. branch-on D n after.values l taken c that m.goal u m.first m.second
-            (suits-run d D that rest u.todo.0.2 u.todo.1) m.third has after.holds;
-      }
+      let (is, on) = branch-goes false (λ e. IsTrueOf (value_at e) t → ⊥) p t this that
+      (λ r. law s rest left p t this that r row) row n w D l taken u has holds
+      (suits-run d D that rest u.todo.0.2 u.todo.1) in
+      record { reads = domain-test D l has t u.todo.0.0; this = λ i. absurd (is i); that = λ i. on }

@@ -13,6 +13,7 @@ use Rattle.sf_base.specs.declared.ids.Var.{Var}
 use Rattle.sf_base.specs.declared.ids.Var.TheVariants.{Own, Shared}
 use Rattle.sf_base.specs.declared.value.Value.{Value}
 use Rattle.sf_base.specs.declared.value.Value.TheVariants.{Loc as loc}
+use Rattle.sf_base.proofs.Options.{is_some-false}
 use Rattle.sf_base.proofs.MapSplits.{splits-at_left, splits-at_right, splits-comm, splits-lacks_whole}
 use Rattle.sf_base.specs.HeapStore.{Apart, Cell, Map, Splits}
 use Rattle.sf_base.specs.Variables.{same_var}
@@ -125,10 +126,6 @@ bool-same true b f g = sym (f refl)
 bool-same false true f g = g refl
 bool-same false false f g = refl
 
-pub none-of : {X : Type 0} (o : Option X) → is_some o ≡ false → o ≡ None
-none-of None e = refl
-none-of (Some x) e = absurd (cc)
-
 pub just-same : (V : Var → Type 0) (a b : Local) → HasJustVars V a → HasJustVars V b → (x : Var)
     → is_some (a.values x) ≡ is_some (b.values x)
 just-same V a b i j x =
@@ -141,7 +138,7 @@ just-none V a i x n = go (is_some (a.values x)) refl
   where
     go : (b : Bool) → is_some (a.values x) ≡ b → a.values x ≡ None
     go true e = absurd (n (i.only x (some-has a x e)))
-    go false e = none-of (a.values x) e
+    go false e = is_some-false (a.values x) e
 
 -- cells are nothing to it
 kept-cells : (A : Var → Type 0) (l m : Local) (location : ℕ) (c : Option Cell)
@@ -245,12 +242,12 @@ module _ (p : Program) (A : Var → Type 0) (gone : Var → Bool) (lost : ResId 
       go : (x : Var) → gone x ≡ false → (A x → ⊥) → (o : Bool) → is_of r (size p r) x ≡ o
           → after.values x ≡ l.values x
       go x g a true e =
-          none-of (after.values x)
+          is_some-false (after.values x)
           (k.domain x ∙ ap (λ b. not (b || gone x) && is_some (both.values x)) e)
-          ∙ sym (none-of (l.values x) (some-apart x q.values (share-some p r share s x ∙ e)))
+          ∙ sym (is_some-false (l.values x) (some-apart x q.values (share-some p r share s x ∙ e)))
       go x g a false e =
           k.same x (ap (λ b. b || gone x) e ∙ g) a
-          ∙ splits-at_left x q.values (none-of (share.values x) (share-some p r share s x ∙ e))
+          ∙ splits-at_left x q.values (is_some-false (share.values x) (share-some p r share s x ∙ e))
 
   -- what is left isn't there any more
   kept-leave : (l share kept after : Local) → IsShare p r share → LocalParts l share kept
@@ -264,7 +261,7 @@ module _ (p : Program) (A : Var → Type 0) (gone : Var → Bool) (lost : ResId 
         (sym (some-splits q.values x ∙ ap (λ b. b || is_some (kept.values x)) (share-some p r share s x)));
     same = λ x g a. let e = or-false (is_of r (size p r) x) (gone x) g in
         k.same x e.1 a
-        ∙ sym (splits-at_right x q.values (none-of (share.values x) (share-some p r share s x ∙ e.0)));
+        ∙ sym (splits-at_right x q.values (is_some-false (share.values x) (share-some p r share s x ∙ e.0)));
     tokens = λ t.
         leave-bool (t.0 == r.0) (lost t) (is_some (kept.tokens t)) (is_some (after.tokens t))
         (λ o. some-apart t (splits-comm q.tokens) (share-token p r share s t ∙ o)) (k.tokens t)

@@ -9,6 +9,7 @@ use Rattle.std.proofs.lemmas.Bool.Decides.{Decides-eqb, nat_tests}
 use Rattle.std.proofs.lemmas.Option.{same_Some, slice_get_within}
 use Rattle.sf_base.proofs.Elements.{contains-cons}
 use Rattle.sf_base.proofs.HeapSplits.{star-drop_right, star-of}
+use Rattle.sf_base.proofs.Options.{is_some-false}
 use Rattle.sf_base.proofs.MapSplits.{empty-holds, empty_map, splits-at_left, splits-empty_right, splits-has_right}
 use Rattle.sf_base.specs.declared.ids.ResId.{ResId}
 use Rattle.sf_base.specs.declared.ids.Var.{Var}
@@ -31,7 +32,7 @@ use Rattle.sf_rules.specs.Words.{pending_assertion, to_add, to_add_test}
 use Rattle.sf_safe.specs.Local.{IsShare, Local, LocalParts, look, value_in}
 use Rattle.sf_safe.specs.LocalSafe.{LocalSafe}
 use Rattle.sf_sound.proofs.Annotated.{HaveValues, usable-assumed, usable-same}
-use Rattle.sf_sound.proofs.Keeping.{none-of, of-decides, of-is, share-some, share-token, size, some-apart, some-has, some-splits}
+use Rattle.sf_sound.proofs.Keeping.{of-decides, of-is, share-some, share-token, size, some-apart, some-has, some-splits}
 use Rattle.sf_sound.proofs.Standing.{body-assuming, body-does, body-run, domain-test, form-command, owed-run, steps-run}
 use Rattle.sf_sound.proofs.States.{StateSuits, items-add, items-of, items-run, renewed, renewed-apart, renewed-atoms, renewed-vars, state-fresh, state-of, suits-of, terms-below, terms-values}
 use Rattle.sf_sound.proofs.Tests.{items-test, pending_test, test-holds, test-within}
@@ -230,7 +231,7 @@ module _ (d : Setting) (s : State) (q : Place) (r : ResId) (t : Test Expr) (body
         let has_both = domain share both f parts in
         let lacking = lacks share both f parts in
         let same : (x : Var) → (Contains xs x → ⊥) → both.values x ≡ l.values x =
-        λ x m. splits-at_left x parts.values (none-of (share.values x)
+        λ x m. splits-at_left x parts.values (is_some-false (share.values x)
         (share-some d.program r share f x ∙ ap (λ k. is_of r k x) size_is
         ∙ not-true (is_of r count x) (λ e. m (contains x e)))) in
         let v = renewed s goal.todo u.below u.order xs w l both l.cells taken holds same in

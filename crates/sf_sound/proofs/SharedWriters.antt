@@ -34,7 +34,7 @@ use Rattle.sf_precise.specs.Annotations.{annotations_in}
 use Rattle.sf_precise.specs.Laws.{OrderingExists}
 use Rattle.sf_precise.specs.Order.{IsOrdering}
 use Rattle.sf_sound.proofs.AsWritten.{IsAsWritten, procedure-proved}
-use Rattle.sf_sound.proofs.SmallPrograms.{emp-determined, emp-no_var, emp-ordered, emp-within, everywhere, of-three, set-nothing, set-of_three}
+use Rattle.sf_sound.proofs.SmallPrograms.{emp-determined, emp-no_var, emp-ordered, emp-within, everywhere, of-three, set-nothing, set-of_each}
 use Rattle.sf_sound.proofs.Races.{forks-deep, none-there, one-kept, one-no_more, race-of, race-unsound}
 use Rattle.sf_sound.specs.ExamplesOfRaces.{RacesAtFork, SharedWritersRace, passes_x, sets, sets_too, sets_twice, shared_writers, shared_writers_tags}
 use Rattle.sf_rules.specs.Proving.{Proves}
@@ -181,11 +181,11 @@ no_sets = record { takes = [] ∷ [] ∷ [] ∷ []; holds = [] ∷ [] ∷ [] ∷
 
 are-sets : AreSetsOf shared_writers no_sets
 are-sets = record {
-  takes = set-of_three IsEarlierResource (Takes shared_writers) []
+  takes = set-of_each IsEarlierResource (Takes shared_writers) 3 []
       (λ f l. set-nothing IsEarlierResource (Takes shared_writers f) (takes-none f));
-  holds = set-of_three IsEarlierResource (HeldBy shared_writers) []
+  holds = set-of_each IsEarlierResource (HeldBy shared_writers) 3 []
       (λ f l. set-nothing IsEarlierResource (HeldBy shared_writers f) (no-resource f));
-  free = set-of_three IsEarlier (Free shared_writers) []
+  free = set-of_each IsEarlier (Free shared_writers) 3 []
       (λ f l. set-nothing IsEarlier (Free shared_writers f) (free-none f));
 }
 

@@ -1,10 +1,12 @@
 -- The contracts of small programs: nothing, and one cell. They are well-formed, determined, in
 -- order as they stand, and mention no variable of a resource. And sets with no member or one.
 -- Names: `emp-LAW` and `cell-LAW` speak of the two contracts, `set-LAW` of sets.
-use Rattle.std.specs.Prelude.{◌≡◌, ◌≤◌, ◌<◌, ◌+◌, ℕ, zero, suc, List, [], ◌∷◌, Some, slice_get}
+use Rattle.std.specs.Prelude.{◌≡◌, ◌≤◌, ◌<◌, ◌+◌, ℕ, zero, suc, List, [], ◌∷◌, Some, replicate, slice_get}
 use Rattle.std.specs.List.{All, IsDistinct}
 use Rattle.std.proofs.Common.{ap, arith, inl, inr, refl, subst, sym, ◌∙◌}
 use Rattle.std.proofs.lemmas.List.Elements.{All-cons, All-nil}
+use Rattle.std.proofs.lemmas.List.{length-replicate}
+use Rattle.std.proofs.lemmas.Option.{none-some}
 use Rattle.sf_base.proofs.Elements.{contains-cons, contains-nil}
 use Rattle.sf_base.specs.declared.ids.ProcId.{ProcId}
 use Rattle.sf_base.specs.declared.ids.ResId.{ResId}
@@ -39,7 +41,7 @@ of-three P a b c p q r (suc k) h e = of-two P b c q r k h e
 abbrev pub no_scope : Scope
 no_scope = record { first = 0; count = 0 }
 
-alone : IsDistinct overlap (no_scope ∷ [])
+pub alone : IsDistinct overlap (no_scope ∷ [])
 unfolding IsDistinct
 alone = (tt, tt)
 
@@ -116,16 +118,15 @@ set-single Before P x has only = record {
   );
 }
 
--- a family in which each of three procedures has that set
-pub set-of_three : {A : Type 0} (Before : A → A → Type 0) (P : ProcId → A → Type 0) (xs : List A)
-    → ((f : ProcId) → f.0 < 3 → IsSetOf Before (P f) xs) → IsFamily (IsSetOf Before) P 3 (xs ∷ xs ∷ xs ∷ [])
-set-of_three {A} Before P xs sets = record { each = refl; is = go }
+-- a family in which each of so many procedures has that set
+pub set-of_each : {A : Type 0} (Before : A → A → Type 0) (P : ProcId → A → Type 0) (n : ℕ) (xs : List A)
+    → ((f : ProcId) → f.0 < n → IsSetOf Before (P f) xs) → IsFamily (IsSetOf Before) P n (replicate n xs)
+set-of_each {A} Before P n xs sets = record { each = length-replicate n xs; is = go }
   where
-    at : (k : ℕ) (ys : List A) → slice_get (xs ∷ xs ∷ xs ∷ []) k ≡ Some ys → (ys ≡ xs) × (k < 3)
-    at zero ys e = (cc, omega arith)
-    at (suc zero) ys e = (cc, omega arith)
-    at (suc (suc zero)) ys e = (cc, omega arith)
-    at (suc (suc (suc k))) ys e = absurd (cc)
+    at : (m k : ℕ) (ys : List A) → slice_get (replicate m xs) k ≡ Some ys → (ys ≡ xs) × (k < m)
+    at zero k ys e = absurd (none-some ys e)
+    at (suc m) zero ys e = (cc, omega arith)
+    at (suc m) (suc k) ys e = let h = at m k ys e in let less = h.1 in (h.0, omega (arith, less))
 
-    go : (f : ProcId) (ys : List A) → slice_get (xs ∷ xs ∷ xs ∷ []) f.0 ≡ Some ys → IsSetOf Before (P f) ys
-    go f ys e = let h = at f.0 ys e in subst (IsSetOf Before (P f)) (sym h.0) (sets f h.1)
+    go : (f : ProcId) (ys : List A) → slice_get (replicate n xs) f.0 ≡ Some ys → IsSetOf Before (P f) ys
+    go f ys e = let h = at n f.0 ys e in subst (IsSetOf Before (P f)) (sym h.0) (sets f h.1)

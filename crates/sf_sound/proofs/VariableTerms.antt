@@ -96,11 +96,12 @@ all-listed_here (x ∷ xs) vs y e = elim (or_cases (same_var x.0 y) (is_listed x
 ]
 
 -- one is removed
-before-remove : (y x : Var) (vs : List (Var × Term)) → BeforeAll y vs → BeforeAll y (remove_var x vs)
-before-remove y x [] a = tt
-before-remove y x (v ∷ vs) a = go (same_var v.0 x) (before-remove y x vs a.1)
+pub remove-all : (P : Var × Term → Type 0) (x : Var) (vs : List (Var × Term)) → AllByRecursion P vs
+    → AllByRecursion P (remove_var x vs)
+remove-all P x [] a = tt
+remove-all P x (v ∷ vs) a = go (same_var v.0 x) (remove-all P x vs a.1)
   where
-    go : (s : Bool) → BeforeAll y (remove_var x vs) → BeforeAll y (cond s vs (v ∷ remove_var x vs))
+    go : (s : Bool) → AllByRecursion P (remove_var x vs) → AllByRecursion P (cond s vs (v ∷ remove_var x vs))
     go true r = a.1
     go false r = (a.0, r)
 
@@ -110,7 +111,7 @@ remove-order x (v ∷ vs) o = go (same_var v.0 x) (remove-order x vs o.1)
   where
     go : (s : Bool) → AreInOrder (remove_var x vs) → AreInOrder (cond s vs (v ∷ remove_var x vs))
     go true r = o.1
-    go false r = (before-remove v.0 x vs o.0, r)
+    go false r = (remove-all (λ (w : Var × Term). comes_before v.0 w.0 ≡ true) x vs o.0, r)
 
 pub remove-listed : (x : Var) (vs : List (Var × Term)) (y : Var) → same_var x y ≡ false → is_listed vs y ≡ true
     → is_listed (remove_var x vs) y ≡ true
@@ -129,15 +130,6 @@ remove-listed x (v ∷ vs) y n e = go (same_var v.0 x) refl (remove-listed x vs 
       | inl here ↦ or_left (same_var v.0 y) (is_listed (remove_var x vs) y) here
       | inr there ↦ or_right (same_var v.0 y) (is_listed (remove_var x vs) y) (r there)
     ]
-
-pub remove-all : (P : Var × Term → Type 0) (x : Var) (vs : List (Var × Term)) → AllByRecursion P vs
-    → AllByRecursion P (remove_var x vs)
-remove-all P x [] a = tt
-remove-all P x (v ∷ vs) a = go (same_var v.0 x) (remove-all P x vs a.1)
-  where
-    go : (s : Bool) → AllByRecursion P (remove_var x vs) → AllByRecursion P (cond s vs (v ∷ remove_var x vs))
-    go true r = a.1
-    go false r = (a.0, r)
 
 -- several are removed
 pub remove_all-order : (xs : List Var) (vs : List (Var × Term)) → AreInOrder vs → AreInOrder (remove_vars xs vs)
