@@ -7,7 +7,7 @@ abbrev mutual
   -- the levels below the assertion that a conjunct occurs in
   pub conjunct_depth : Conjunct → ℕ
   conjunct_depth (emp p) = 0
-  conjunct_depth (group p a) = assertion_depth a
+  conjunct_depth (group a) = assertion_depth a
   conjunct_depth (choose p t a b) = max (assertion_depth a) (assertion_depth b)
   conjunct_depth (choose_round p t a b) = max (assertion_depth a) (assertion_depth b)
   conjunct_depth (equal x y) = 0
@@ -48,7 +48,7 @@ abbrev mutual
   command_depth (with p r t c) = 1 + command_depth c
   command_depth (call c) = 1
   command_depth (fork c d) = 1
-  command_depth (block p cs) = 1 + commands_depth cs
+  command_depth (block p cs q) = 1 + commands_depth cs
 
   -- those of the deepest command
   pub commands_depth : Commands → ℕ
@@ -62,7 +62,7 @@ abbrev mutual
   invariant_depth (if p t c d) = max (invariant_depth c) (invariant_depth d)
   invariant_depth (while p t n c) = max (maybe_depth n) (invariant_depth c)
   invariant_depth (with p r t c) = invariant_depth c
-  invariant_depth (block p cs) = invariants_depth cs
+  invariant_depth (block p cs q) = invariants_depth cs
   invariant_depth (assign x e) = 0
   invariant_depth (look_up x e f) = 0
   invariant_depth (new x) = 0

@@ -51,5 +51,5 @@ of_while p t n c = ap command_of (sym (v.rolls-While p t n c)) ∙ fold-roll-Sur
 pub of_with : (p : Place) (r : Word) (t : SurfaceTest SurfaceExpr) (c : Box SurfaceCommand) → command_of (v.With p r t c) ≡ s.with p r t (command_of c.value)
 of_with p r t c = ap command_of (sym (v.rolls-With p r t c)) ∙ fold-roll-SurfaceCommand s.Command command_step _
 
-pub of_block : (p : Place) (cs : Vec SurfaceCommand) → command_of (v.Block p cs) ≡ s.block p (commands (map command_of cs.items))
-of_block p cs = ap command_of (sym (v.rolls-Block p cs)) ∙ fold-roll-SurfaceCommand s.Command command_step _
+pub of_block : (p : Place) (cs : Vec SurfaceCommand) (q : Place) → command_of (v.Block p cs q) ≡ s.block p (commands (map command_of cs.items)) q
+of_block p cs q = ap command_of (sym (v.rolls-Block p cs q)) ∙ fold-roll-SurfaceCommand s.Command command_step _

@@ -17,7 +17,7 @@ mutual
   -- one conjunct: its tests and values, and the assertions in it
   pub data Conjunct : Type 0 where
     emp : Place → Conjunct
-    group : Place → Assertion → Conjunct
+    group : Assertion → Conjunct
     choose : Place → SurfaceTest SurfaceOperand → (then otherwise : Assertion) → Conjunct
     choose_round : Place → SurfaceTest SurfaceOperand → (then otherwise : Assertion) → Conjunct
     equal : (left right : SurfaceOperand) → Conjunct
@@ -63,7 +63,7 @@ mutual
     with : Place → Word → SurfaceTest SurfaceExpr → Command → Command
     call : Call → Command
     fork : (left right : Call) → Command
-    block : Place → Commands → Command
+    block : (opens : Place) → Commands → (closes : Place) → Command
 
   -- a list of commands
   pub data Commands : Type 0 where

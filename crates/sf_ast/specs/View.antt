@@ -36,7 +36,7 @@ conjuncts x (y ∷ ys) = s.star x (conjuncts y ys)
 -- one conjunct, the assertions in it being read already
 abbrev pub conjunct_step : SurfaceConjunct-F s.Conjunct s.Assertion → s.Conjunct
 conjunct_step (o.Emp p) = s.emp p
-conjunct_step (o.Group p x) = s.group p x
+conjunct_step (o.Group x) = s.group x
 conjunct_step (o.If p t x y) = s.choose p t x y
 conjunct_step (o.IfRound p t x y) = s.choose_round p t x y
 conjunct_step (o.Equal x y) = s.equal x y
@@ -96,7 +96,7 @@ command_step (c.While p t n x) = s.while p t (option_map annotation_of n) x.valu
 command_step (c.With p r t x) = s.with p r t x.value
 command_step (c.Call x) = s.call (call_of x)
 command_step (c.Fork x y) = s.fork (call_of x) (call_of y)
-command_step (c.Block p xs) = s.block p (commands xs.items)
+command_step (c.Block p xs q) = s.block p (commands xs.items) q
 
 -- a command of the code
 abbrev pub command_of : SurfaceCommand → s.Command

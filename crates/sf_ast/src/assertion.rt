@@ -10,14 +10,15 @@ pub struct SurfaceField {
     pub value: SurfaceOperand,
 }
 
-/// One conjunct. A place is that of its first token; where there is none, its first part has it.
+/// One conjunct. A place is that of its first token; where there is none, its first part has it, or,
+/// of a group, nobody asks for it.
 #[cycle(assertion)]
 #[derive(Debug, Drop)]
 pub enum SurfaceConjunct {
     /// `emp`
     Emp(Place),
     /// `( A )`
-    Group(Place, SurfaceAssertion),
+    Group(SurfaceAssertion),
     /// `if B then A else A`
     If(Place, SurfaceTest<SurfaceOperand>, SurfaceAssertion, SurfaceAssertion),
     /// `if ( B ) then A else A`

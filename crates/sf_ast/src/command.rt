@@ -47,6 +47,6 @@ pub enum SurfaceCommand {
     Call(SurfaceCall),
     /// `f(x; E) || g(y; F) ;`
     Fork(SurfaceCall, SurfaceCall),
-    /// `{ C C }`
-    Block(Place, Vec<SurfaceCommand>),
+    /// `{ C C }`, and where its `}` is
+    Block(Place, Vec<SurfaceCommand>, Place),
 }

@@ -82,7 +82,7 @@ abbrev mutual
   IsPartOf d (if p t c b) = (d ≡ if p t c b) ⊎ (IsPartOf d c ⊎ IsPartOf d b)
   IsPartOf d (while p t n c) = (d ≡ while p t n c) ⊎ IsPartOf d c
   IsPartOf d (with p r t c) = (d ≡ with p r t c) ⊎ IsPartOf d c
-  IsPartOf d (block p cs) = (d ≡ block p cs) ⊎ IsPartOfAll d cs
+  IsPartOf d (block p cs q) = (d ≡ block p cs q) ⊎ IsPartOfAll d cs
   IsPartOf d c = d ≡ c
 
   -- it is one of those commands, or inside one

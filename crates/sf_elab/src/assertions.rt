@@ -340,7 +340,7 @@ fn add_conjunct(
 {
     match c {
         SurfaceConjunct::Emp(_) => Ok(()),
-        SurfaceConjunct::Group(_, all) => add_conjuncts(alloc, env, levels, all, done, found),
+        SurfaceConjunct::Group(all) => add_conjuncts(alloc, env, levels, all, done, found),
         SurfaceConjunct::If(p, condition, this, that)
         | SurfaceConjunct::IfRound(p, condition, this, that) => {
             let test = test(env, levels, condition, found)?;

@@ -335,7 +335,7 @@ fn add_command(
         SurfaceCommand::With(p, resource, test, body) => {
             push(with(alloc, env, *p, *resource, test, body, found)?, done)
         }
-        SurfaceCommand::Block(_, commands) => add_commands(alloc, env, commands, done, found),
+        SurfaceCommand::Block(_, commands, _) => add_commands(alloc, env, commands, done, found),
     }
 }
 
@@ -481,7 +481,7 @@ fn add_set_in(c: &SurfaceCommand, words: &mut Vec<Word>) -> Result<(), AllocErro
             add_all(references_in(&left.arguments), words)?;
             add_all(references_in(&right.arguments), words)
         }
-        SurfaceCommand::Block(_, commands) => add_set_in_all(commands, words),
+        SurfaceCommand::Block(_, commands, _) => add_set_in_all(commands, words),
     }
 }
 

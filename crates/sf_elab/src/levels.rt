@@ -70,7 +70,7 @@ fn add_conjunct(c: &SurfaceConjunct, words: &mut Vec<Word>) -> Result<(), AllocE
 {
     match c {
         SurfaceConjunct::Emp(_) => Ok(()),
-        SurfaceConjunct::Group(_, inside) => add_words(inside, words),
+        SurfaceConjunct::Group(inside) => add_words(inside, words),
         SurfaceConjunct::If(_, test, _, _) | SurfaceConjunct::IfRound(_, test, _, _) => {
             add_test(test, words)
         }

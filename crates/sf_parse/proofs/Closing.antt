@@ -1,6 +1,5 @@
 -- The laws of the crate, under the names of their functions in src/laws.rt.
 use Rattle.std.proofs.Common.{sym, ◌∙◌, []}
-use Rattle.sf_parse.specs.Parsing.{token_left}
 use Rattle.sf_parse.proofs.Grammar.OnceFiles.{items_once}
 use Rattle.sf_parse.specs.Laws.{EachFileIsOne, EachFileIsShallow, AnswerIsUnique, LevelsAreDepths, ShallowTreesAreWithin, TheVerdictIsExact}
 use Rattle.sf_parse.proofs.Grammar.Depths.{items_levels_whole, items_shallow, items_within, levels_within}
@@ -9,7 +8,7 @@ use Rattle.sf_parse.proofs.Grammar.Nearest.{items_nearest}
 use Rattle.sf_parse.proofs.Machine.Law.{exact}
 
 pub each_file_is_one : EachFileIsOne
-each_file_is_one ts one two f g = items_once (token_left ts) 0 one two f.places g.places f.within g.within (sym f.spells ∙ g.spells)
+each_file_is_one ts one two f g = items_once 0 one two f.within g.within (sym f.spells ∙ g.spells)
 
 pub each_file_is_shallow : EachFileIsShallow
 each_file_is_shallow ts tree f = items_within tree [] f.within

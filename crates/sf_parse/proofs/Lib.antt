@@ -1,5 +1,4 @@
 pub mod Grammar
 pub mod Machine
-pub mod Placed
 pub mod Parser
 pub mod Closing

@@ -9,4 +9,3 @@ pub mod Choices
 pub mod Lists
 pub mod Views
 pub mod Conjuncts
-pub mod Sides

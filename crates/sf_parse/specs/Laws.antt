@@ -6,7 +6,7 @@ use Rattle.sf_base.specs.declared.limits.TheConstants.{NESTING}
 use Rattle.sf_base.specs.declared.place.Place.{Place}
 use Rattle.sf_ast.specs.Depth.{items_depth}
 use Rattle.sf_ast.specs.Surface.{Item}
-use Rattle.sf_lex.specs.declared.token.Kind.{Kind}
+use Rattle.sf_parse.specs.Leaf.{Leaf}
 use Rattle.sf_lex.specs.declared.token.Token.{Token}
 use Rattle.sf_parse.specs.declared.fault.ParseFault.{ParseFault}
 use Rattle.sf_parse.specs.Depths.{items_levels}
@@ -17,26 +17,26 @@ use Rattle.sf_parse.specs.Nesting.{ItemsWithin}
 use Rattle.sf_parse.specs.Parsing.{CanBegin, CanBeginAny, IsFile, IsFault}
 
 -- the verdict over a whole file, with nothing free of the limit on nesting
-abbrev pub verdict_of : List Kind → Verdict
+abbrev pub verdict_of : List Leaf → Verdict
 verdict_of ts = verdict 0 ts (some_items ∷ [])
 
 -- the tokens of a file within the limit
-pub record Spelled (ts : List Kind) : Type 0 where
+pub record Spelled (ts : List Leaf) : Type 0 where
   pub tree : List Item
   pub spells : ts ≡ items tree []
   pub within : ItemsWithin tree 0 []
 
 -- accepted are exactly the files; else the fault is at the first token that does not go on
-pub record IsExact (ts : List Kind) : Type 0 where
+pub record IsExact (ts : List Leaf) : Type 0 where
   pub file : Spelled ts → verdict_of ts ≡ accepted
   pub accepts : verdict_of ts ≡ accepted → Spelled ts
-  pub wrong : (front : List Kind) (t : Kind) (back : List Kind) → ts ≡ front ++ t ∷ back → verdict_of ts ≡ unexpected (suc (length back)) → CanBegin front × (CanBeginAny (front ++ t ∷ []) → ⊥)
+  pub wrong : (front : List Leaf) (t : Leaf) (back : List Leaf) → ts ≡ front ++ t ∷ back → verdict_of ts ≡ unexpected (suc (length back)) → CanBegin front × (CanBeginAny (front ++ t ∷ []) → ⊥)
   pub ends : verdict_of ts ≡ unexpected 0 → CanBegin ts × (Spelled ts → ⊥)
-  pub deeper : (front : List Kind) (t : Kind) (back : List Kind) → ts ≡ front ++ t ∷ back → verdict_of ts ≡ too_deep (suc (length back)) → CanBegin front × CanBeginAny (front ++ t ∷ []) × (CanBegin (front ++ t ∷ []) → ⊥)
+  pub deeper : (front : List Leaf) (t : Leaf) (back : List Leaf) → ts ≡ front ++ t ∷ back → verdict_of ts ≡ too_deep (suc (length back)) → CanBegin front × CanBeginAny (front ++ t ∷ []) × (CanBegin (front ++ t ∷ []) → ⊥)
 
 -- the machine's verdict is exact over all tokens
 abbrev pub TheVerdictIsExact : Type 0
-TheVerdictIsExact = (ts : List Kind) → IsExact ts
+TheVerdictIsExact = (ts : List Leaf) → IsExact ts
 
 -- tokens are at most one file: its tree, with the places of its nodes
 abbrev pub EachFileIsOne : Type 0

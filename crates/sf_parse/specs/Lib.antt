@@ -1,8 +1,8 @@
+pub mod Leaf
 pub mod Grammar
 pub mod Nesting
 pub mod Nearest
 pub mod Depths
-pub mod Placed
 pub mod Parsing
 pub mod Laws
 pub mod Internal

@@ -3,13 +3,13 @@
 -- Ordinary: the nearest `if` takes an `else`, as in Aho, Sethi, Ullman, "Compilers" (1986), section 4.3.
 use Rattle.std.specs.Prelude.{List, [], ◌∷◌, Option, Some, None}
 use Rattle.sf_ast.specs.Surface as s
-use Rattle.sf_lex.specs.declared.token.Kind.TheVariants as k
+use Rattle.sf_parse.specs.Leaf as k
 use Rattle.sf_parse.specs.Nesting.{Follows, IsClosed}
 
 abbrev mutual
   -- a conjunct whose assertions are read so
   pub ConjunctNearest : s.Conjunct → Type 0
-  ConjunctNearest (s.group p a) = AssertionNearest a
+  ConjunctNearest (s.group a) = AssertionNearest a
   ConjunctNearest (s.choose p b x y) = AssertionNearest x × AssertionNearest y
   ConjunctNearest (s.choose_round p b x y) = AssertionNearest x × AssertionNearest y
   ConjunctNearest (s.emp p) = Unit {0}
@@ -43,7 +43,7 @@ abbrev mutual
   CommandNearest (s.if p b c e) = CommandNearest c × CommandNearest e × Follows c (k.Else ∷ [])
   CommandNearest (s.while p b x c) = MaybeNearest x × CommandNearest c
   CommandNearest (s.with p x b c) = CommandNearest c
-  CommandNearest (s.block p cs) = CommandsNearest cs
+  CommandNearest (s.block p cs q) = CommandsNearest cs
   CommandNearest (s.assign x a) = Unit {0}
   CommandNearest (s.look_up x a f) = Unit {0}
   CommandNearest (s.new x) = Unit {0}

@@ -6,9 +6,9 @@ ghost use Rattle.sf_ast.specs.View.{annotation_of};
 ghost use Rattle.sf_parse.specs.Grammar.{maybe_annotation, annotation};
 ghost use Rattle.sf_parse.specs.Internal.Machine as m;
 ghost use Rattle.sf_parse.specs.Nesting.{MaybeWithin, NoteWithin};
-ghost use Rattle.sf_parse.specs.Parsing.{kinds};
-ghost use Rattle.sf_parse.specs.Placed.{MaybeNoteAt, NoteAt};
-ghost use Rattle.sf_parse.specs.Internal.Parser.{Placed, FailsAt, Accepts};
+ghost use Rattle.sf_parse.specs.Leaf as k;
+ghost use Rattle.sf_parse.specs.Leaf.{leaves};
+ghost use Rattle.sf_parse.specs.Internal.Parser.{FailsAt, Accepts};
 
 use crate::assertion::assertion;
 use crate::front::eat;
@@ -22,11 +22,9 @@ use std::alloc::Global;
 /// A note after its opening bracket.
 #[tactic(auto, using(crate::proofs::Parser::Conjuncts::behind))]
 fn inside(alloc: Global, tokens: &[Token]) -> Result<(SurfaceNote, &[Token]), Stop>
-    ensures spelled { IfOk result (λ r. Kind.OpenSquare ∷ kinds tokens.now
-        ≡ annotation (annotation_of r.0) (kinds r.1.now)) }
-    ensures within { IfOk result (λ r. NoteWithin (annotation_of r.0) 0 (kinds r.1.now)) }
-    ensures places { IfOk result (λ r.
-        Placed (λ at b. NoteAt at (annotation_of r.0) b) tokens.now r.1.now) }
+    ensures spelled { IfOk result (λ r. k.OpenSquare ∷ leaves tokens.now
+        ≡ annotation (annotation_of r.0) (leaves r.1.now)) }
+    ensures within { IfOk result (λ r. NoteWithin (annotation_of r.0) 0 (leaves r.1.now)) }
     ensures taken { IfOk result (λ r.
         Accepts (m.maybe_assertion ∷ m.exact m.close_square ∷ []) tokens.now r.1.now) }
     ensures fault { IfErr result (λ e.
@@ -48,10 +46,8 @@ fn inside(alloc: Global, tokens: &[Token]) -> Result<(SurfaceNote, &[Token]), St
 /// A note.
 pub fn annotation(alloc: Global, tokens: &[Token]) -> Result<(SurfaceNote, &[Token]), Stop>
     ensures spelled { IfOk result (λ r.
-        kinds tokens.now ≡ annotation (annotation_of r.0) (kinds r.1.now)) }
-    ensures within { IfOk result (λ r. NoteWithin (annotation_of r.0) 0 (kinds r.1.now)) }
-    ensures places { IfOk result (λ r.
-        Placed (λ at b. NoteAt at (annotation_of r.0) b) tokens.now r.1.now) }
+        leaves tokens.now ≡ annotation (annotation_of r.0) (leaves r.1.now)) }
+    ensures within { IfOk result (λ r. NoteWithin (annotation_of r.0) 0 (leaves r.1.now)) }
     ensures taken { IfOk result (λ r.
         Accepts (m.exact m.open_square ∷ m.maybe_assertion ∷ m.exact m.close_square
         ∷ []) tokens.now r.1.now) }
@@ -69,12 +65,10 @@ pub fn maybe_annotation(
     alloc: Global,
     tokens: &[Token],
 ) -> Result<(Option<SurfaceNote>, &[Token]), Stop>
-    ensures spelled { IfOk result (λ r. kinds tokens.now
-        ≡ maybe_annotation (option_map annotation_of r.0) (kinds r.1.now)) }
+    ensures spelled { IfOk result (λ r. leaves tokens.now
+        ≡ maybe_annotation (option_map annotation_of r.0) (leaves r.1.now)) }
     ensures within { IfOk result (λ r.
-        MaybeWithin (option_map annotation_of r.0) 0 (kinds r.1.now)) }
-    ensures places { IfOk result (λ r.
-        Placed (λ at b. MaybeNoteAt at (option_map annotation_of r.0) b) tokens.now r.1.now) }
+        MaybeWithin (option_map annotation_of r.0) 0 (leaves r.1.now)) }
     ensures taken { IfOk result (λ r. Accepts (m.maybe_annotation ∷ []) tokens.now r.1.now) }
     ensures fault { IfErr result (λ e. FailsAt e (m.maybe_annotation ∷ []) tokens.now) }
 {

@@ -3,13 +3,12 @@
 ghost use Rattle.std.specs.Prelude.{◌≡◌, ◌<◌, ◌-◌, ◌∷◌, ℕ, [], IfErr, IfOk, map};
 ghost use Rattle.sf_ast.specs.Surface.{Conjunct};
 ghost use Rattle.sf_ast.specs.View.{assertion_of, conjunct_of, conjuncts};
-ghost use Rattle.sf_lex.specs.declared.token.Token.{Token};
 ghost use Rattle.sf_parse.specs.Grammar.{assertion, conjunct};
 ghost use Rattle.sf_parse.specs.Internal.Machine as m;
 ghost use Rattle.sf_parse.specs.Nesting.{AssertionWithin, ConjunctWithin};
-ghost use Rattle.sf_parse.specs.Parsing.{kinds};
-ghost use Rattle.sf_parse.specs.Placed.{AssertionAt, ConjunctAt, PlaceAt};
-ghost use Rattle.sf_parse.specs.Internal.Parser.{Agree, Ends, NotStar, Placed, FailsAt, Accepts};
+ghost use Rattle.sf_parse.specs.Leaf as k;
+ghost use Rattle.sf_parse.specs.Leaf.{leaves};
+ghost use Rattle.sf_parse.specs.Internal.Parser.{Ends, NotStar, FailsAt, Accepts};
 
 use crate::condition::operand_test;
 use crate::conjunct::{predicate, relation};
@@ -43,11 +42,9 @@ pub fn assertion(
     tokens: &[Token],
 ) -> Result<(SurfaceAssertion, &[Token]), Stop>
     ensures spelled { IfOk result (λ r.
-        kinds tokens.now ≡ assertion (assertion_of r.0) (kinds r.1.now)) }
-    ensures within { IfOk result (λ r. AssertionWithin (assertion_of r.0) 0 depth (kinds r.1.now)) }
-    ensures ended { IfOk result (λ r. NotStar (kinds r.1.now)) }
-    ensures places { IfOk result (λ r.
-        Placed (λ at b. AssertionAt at (assertion_of r.0) b) tokens.now r.1.now) }
+        leaves tokens.now ≡ assertion (assertion_of r.0) (leaves r.1.now)) }
+    ensures within { IfOk result (λ r. AssertionWithin (assertion_of r.0) 0 depth (leaves r.1.now)) }
+    ensures ended { IfOk result (λ r. NotStar (leaves r.1.now)) }
     ensures taken { IfOk result (λ r. Accepts (m.assertion depth ∷ []) tokens.now r.1.now) }
     ensures fault { IfErr result (λ e. FailsAt e (m.assertion depth ∷ []) tokens.now) }
 {
@@ -70,16 +67,12 @@ fn more_conjuncts(
 ) -> Result<(Vec<SurfaceConjunct>, &[Token]), Stop>
     requires { 0 < depth }
     ensures spelled { IfOk result (λ r. (c : Conjunct)
-        → conjunct c (kinds tokens.now)
-        ≡ assertion (conjuncts c (map conjunct_of r.0.items)) (kinds r.1.now)) }
-    ensures within { IfOk result (λ r. (c : Conjunct) → ConjunctWithin c 0 depth (kinds tokens.now)
-        → Ends c (kinds tokens.now)
-        → AssertionWithin (conjuncts c (map conjunct_of r.0.items)) 0 depth (kinds r.1.now)) }
-    ensures ended { IfOk result (λ r. NotStar (kinds r.1.now)) }
-    ensures places { IfOk result (λ r. (at : ℕ → Token) → Agree at tokens.now → (c : Conjunct)
-        → ConjunctAt at c (kinds tokens.now)
-        → AssertionAt at (conjuncts c (map conjunct_of r.0.items)) (kinds r.1.now)
-        × Agree at r.1.now) }
+        → conjunct c (leaves tokens.now)
+        ≡ assertion (conjuncts c (map conjunct_of r.0.items)) (leaves r.1.now)) }
+    ensures within { IfOk result (λ r. (c : Conjunct) → ConjunctWithin c 0 depth (leaves tokens.now)
+        → Ends c (leaves tokens.now)
+        → AssertionWithin (conjuncts c (map conjunct_of r.0.items)) 0 depth (leaves r.1.now)) }
+    ensures ended { IfOk result (λ r. NotStar (leaves r.1.now)) }
     ensures taken { IfOk result (λ r. Accepts (m.more_conjuncts depth ∷ []) tokens.now r.1.now) }
     ensures fault { IfErr result (λ e. FailsAt e (m.more_conjuncts depth ∷ []) tokens.now) }
 {
@@ -103,21 +96,19 @@ fn conjunct(
 ) -> Result<(SurfaceConjunct, &[Token]), Stop>
     requires { 0 < depth }
     ensures spelled { IfOk result (λ r.
-        kinds tokens.now ≡ conjunct (conjunct_of r.0) (kinds r.1.now)) }
-    ensures within { IfOk result (λ r. ConjunctWithin (conjunct_of r.0) 0 depth (kinds r.1.now)) }
-    ensures ended { IfOk result (λ r. Ends (conjunct_of r.0) (kinds r.1.now)) }
-    ensures places { IfOk result (λ r.
-        Placed (λ at b. ConjunctAt at (conjunct_of r.0) b) tokens.now r.1.now) }
+        leaves tokens.now ≡ conjunct (conjunct_of r.0) (leaves r.1.now)) }
+    ensures within { IfOk result (λ r. ConjunctWithin (conjunct_of r.0) 0 depth (leaves r.1.now)) }
+    ensures ended { IfOk result (λ r. Ends (conjunct_of r.0) (leaves r.1.now)) }
     ensures taken { IfOk result (λ r. Accepts (m.conjunct depth ∷ []) tokens.now r.1.now) }
     ensures fault { IfErr result (λ e. FailsAt e (m.conjunct depth ∷ []) tokens.now) }
 {
     if let Some((left, rest)) = eat_operand(tokens) {
         return relation(alloc, left, rest);
     }
-    if let Some((place, rest)) = eat(tokens, Kind::OpenRound) {
+    if let Some((_, rest)) = eat(tokens, Kind::OpenRound) {
         let (inner, rest) = assertion(alloc, depth - 1, rest)?;
         let (_, rest) = expect(rest, Kind::CloseRound)?;
-        return Ok((SurfaceConjunct::Group(place, inner), rest));
+        return Ok((SurfaceConjunct::Group(inner), rest));
     }
     if let Some((place, rest)) = eat(tokens, Kind::If) {
         return choice(alloc, depth - 1, place, rest);
@@ -135,13 +126,10 @@ fn choice(
     tokens: &[Token],
 ) -> Result<(SurfaceConjunct, &[Token]), Stop>
     ensures spelled { IfOk result (λ r.
-        Kind.If ∷ kinds tokens.now ≡ conjunct (conjunct_of r.0) (kinds r.1.now)) }
+        k.If place ∷ leaves tokens.now ≡ conjunct (conjunct_of r.0) (leaves r.1.now)) }
     ensures within { IfOk result (λ r. (d : ℕ) → d - 1 ≡ depth
-        → ConjunctWithin (conjunct_of r.0) 0 d (kinds r.1.now)) }
-    ensures ended { IfOk result (λ r. NotStar (kinds r.1.now)) }
-    ensures places { IfOk result (λ r. (at : ℕ → Token) → Agree at tokens.now
-        → PlaceAt at place (Kind.If ∷ kinds tokens.now)
-        → ConjunctAt at (conjunct_of r.0) (kinds r.1.now) × Agree at r.1.now) }
+        → ConjunctWithin (conjunct_of r.0) 0 d (leaves r.1.now)) }
+    ensures ended { IfOk result (λ r. NotStar (leaves r.1.now)) }
     ensures taken { IfOk result (λ r. Accepts (m.choice_predicted depth) tokens.now r.1.now) }
     ensures fault { IfErr result (λ e. FailsAt e (m.choice_predicted depth) tokens.now) }
 {
@@ -163,19 +151,15 @@ fn branches(
     depth: usize,
     tokens: &[Token],
 ) -> Result<(SurfaceAssertion, SurfaceAssertion, &[Token]), Stop>
-    ensures spelled { IfOk result (λ r. kinds tokens.now ≡ Kind.Then
-        ∷ assertion (assertion_of r.0) (Kind.Else
-        ∷ assertion (assertion_of r.1) (kinds r.2.now))) }
+    ensures spelled { IfOk result (λ r. leaves tokens.now ≡ k.Then
+        ∷ assertion (assertion_of r.0) (k.Else
+        ∷ assertion (assertion_of r.1) (leaves r.2.now))) }
     ensures first_within { IfOk result (λ r.
-        AssertionWithin (assertion_of r.0) 0 depth (Kind.Else
-        ∷ assertion (assertion_of r.1) (kinds r.2.now))) }
+        AssertionWithin (assertion_of r.0) 0 depth (k.Else
+        ∷ assertion (assertion_of r.1) (leaves r.2.now))) }
     ensures second_within { IfOk result (λ r.
-        AssertionWithin (assertion_of r.1) 0 depth (kinds r.2.now)) }
-    ensures ended { IfOk result (λ r. NotStar (kinds r.2.now)) }
-    ensures places { IfOk result (λ r.
-        Placed (λ at b.
-        AssertionAt at (assertion_of r.0) (Kind.Else ∷ assertion (assertion_of r.1) b)
-        × AssertionAt at (assertion_of r.1) b) tokens.now r.2.now) }
+        AssertionWithin (assertion_of r.1) 0 depth (leaves r.2.now)) }
+    ensures ended { IfOk result (λ r. NotStar (leaves r.2.now)) }
     ensures taken { IfOk result (λ r. Accepts (m.branches_predicted depth) tokens.now r.2.now) }
     ensures fault { IfErr result (λ e. FailsAt e (m.branches_predicted depth) tokens.now) }
 {

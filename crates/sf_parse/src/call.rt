@@ -3,14 +3,16 @@
 ghost use Rattle.std.specs.Prelude.{◌≡◌, ◌∷◌, [], Bool, List, false, true, map};
 ghost use Rattle.std.specs.Prelude.{IfErr, IfOk, MatchOption};
 ghost use Rattle.sf_ast.specs.View.{arguments_of};
-ghost use Rattle.sf_lex.specs.declared.token.Kind.TheVariants.{CloseRound, Comma};
+ghost use Rattle.sf_ast.specs.View.{call_of};
+ghost use Rattle.sf_lex.specs.declared.token.Kind.TheVariants.{Comma};
 ghost use Rattle.sf_parse.specs.Internal.Given.{NoMore, all_names, is_name, predicted_behind};
+ghost use Rattle.sf_parse.specs.Grammar as g;
 ghost use Rattle.sf_parse.specs.Grammar.{arguments, maybe_exprs, more_exprs};
 ghost use Rattle.sf_parse.specs.Internal.Machine as m;
 ghost use Rattle.sf_parse.specs.Internal.Machine.{Predicted, verdict};
-ghost use Rattle.sf_parse.specs.Parsing.{kinds};
-ghost use Rattle.sf_parse.specs.Placed.{ArgumentsAt, MaybeExprsAt, MoreExprsAt};
-ghost use Rattle.sf_parse.specs.Internal.Parser.{NotNext, Placed, FailsAt, Accepts};
+ghost use Rattle.sf_parse.specs.Leaf as k;
+ghost use Rattle.sf_parse.specs.Leaf.{leaves};
+ghost use Rattle.sf_parse.specs.Internal.Parser.{NotNext, FailsAt, Accepts};
 
 use crate::front::{eat, eat_expression};
 use crate::leaf::expect;
@@ -23,14 +25,12 @@ use std::alloc::{AllocError, Global};
 /// Expressions after a first one, each after its comma.
 #[tactic(auto, using(crate::proofs::Parser::Arguments::given))]
 fn more_expressions(alloc: Global, tokens: &[Token]) -> Result<(Vec<SurfaceExpr>, &[Token]), Stop>
-    ensures spelled { IfOk result (λ r. kinds tokens.now ≡ more_exprs r.0.items (kinds r.1.now)) }
-    ensures places { IfOk result (λ r.
-        Placed (λ at b. MoreExprsAt at r.0.items b) tokens.now r.1.now) }
-    ensures ended { IfOk result (λ r. NotNext Comma (kinds r.1.now)) }
+    ensures spelled { IfOk result (λ r. leaves tokens.now ≡ more_exprs r.0.items (leaves r.1.now)) }
+    ensures ended { IfOk result (λ r. NotNext Comma (leaves r.1.now)) }
     ensures taken { IfOk result (λ r. Accepts (m.more_expressions ∷ []) tokens.now r.1.now) }
     ensures taken_rest { IfOk result (λ r. (b : Bool) (st : List Predicted)
-        → verdict 0 (kinds tokens.now) (m.rest b ∷ st)
-        ≡ verdict 0 (kinds r.1.now) (m.rest (all_names b r.0.items) ∷ st)) }
+        → verdict 0 (leaves tokens.now) (m.rest b ∷ st)
+        ≡ verdict 0 (leaves r.1.now) (m.rest (all_names b r.0.items) ∷ st)) }
     ensures fault { IfErr result (λ e. FailsAt e (m.more_expressions ∷ []) tokens.now) }
     ensures fault_rest { IfErr result (λ e. (b : Bool) → FailsAt e (m.rest b ∷ []) tokens.now) }
 {
@@ -49,14 +49,12 @@ fn more_expressions(alloc: Global, tokens: &[Token]) -> Result<(Vec<SurfaceExpr>
 /// Expressions, or none.
 #[tactic(auto, using(crate::proofs::Parser::Arguments::given))]
 fn maybe_expressions(alloc: Global, tokens: &[Token]) -> Result<(Vec<SurfaceExpr>, &[Token]), Stop>
-    ensures spelled { IfOk result (λ r. kinds tokens.now ≡ maybe_exprs r.0.items (kinds r.1.now)) }
-    ensures places { IfOk result (λ r.
-        Placed (λ at b. MaybeExprsAt at r.0.items b) tokens.now r.1.now) }
-    ensures ended { IfOk result (λ r. NoMore r.0.items (kinds r.1.now)) }
+    ensures spelled { IfOk result (λ r. leaves tokens.now ≡ maybe_exprs r.0.items (leaves r.1.now)) }
+    ensures ended { IfOk result (λ r. NoMore r.0.items (leaves r.1.now)) }
     ensures taken { IfOk result (λ r. Accepts (m.maybe_expressions ∷ []) tokens.now r.1.now) }
     ensures taken_arguments { IfOk result (λ r. (st : List Predicted)
-        → verdict 0 (kinds tokens.now) (m.maybe_arguments ∷ st)
-        ≡ verdict 0 (kinds r.1.now) (predicted_behind r.0.items ∷ st)) }
+        → verdict 0 (leaves tokens.now) (m.maybe_arguments ∷ st)
+        ≡ verdict 0 (leaves r.1.now) (predicted_behind r.0.items ∷ st)) }
     ensures fault { IfErr result (λ e. FailsAt e (m.maybe_expressions ∷ []) tokens.now) }
     ensures fault_arguments { IfErr result (λ e. FailsAt e (m.maybe_arguments ∷ []) tokens.now) }
 {
@@ -101,9 +99,7 @@ fn names_of(alloc: Global, values: &[SurfaceExpr]) -> Result<Option<Vec<Word>>, 
 #[tactic(auto, using(crate::proofs::Parser::Arguments::given))]
 fn arguments(alloc: Global, tokens: &[Token]) -> Result<(SurfaceArguments, &[Token]), Stop>
     ensures spelled { IfOk result (λ r.
-        kinds tokens.now ≡ arguments (arguments_of r.0) (kinds r.1.now)) }
-    ensures places { IfOk result (λ r.
-        Placed (λ at b. ArgumentsAt at (arguments_of r.0) b) tokens.now r.1.now) }
+        leaves tokens.now ≡ arguments (arguments_of r.0) (leaves r.1.now)) }
     ensures taken { IfOk result (λ r. Accepts (m.maybe_arguments ∷ []) tokens.now r.1.now) }
     ensures fault { IfErr result (λ e. FailsAt e (m.maybe_arguments ∷ []) tokens.now) }
 {
@@ -120,12 +116,8 @@ fn arguments(alloc: Global, tokens: &[Token]) -> Result<(SurfaceArguments, &[Tok
 
 /// A call after its `(`.
 pub fn call(alloc: Global, name: Word, tokens: &[Token]) -> Result<(SurfaceCall, &[Token]), Stop>
-    ensures name { IfOk result (λ r. r.0.name ≡ name) }
-    ensures spelled { IfOk result (λ r. kinds tokens.now
-        ≡ arguments (arguments_of r.0.arguments) (CloseRound ∷ kinds r.1.now)) }
-    ensures places { IfOk result (λ r.
-        Placed (λ at b.
-        ArgumentsAt at (arguments_of r.0.arguments) (CloseRound ∷ b)) tokens.now r.1.now) }
+    ensures spelled { IfOk result (λ r. k.Name name ∷ k.OpenRound ∷ leaves tokens.now
+        ≡ g.call (call_of r.0) (leaves r.1.now)) }
     ensures taken { IfOk result (λ r.
         Accepts (m.maybe_arguments ∷ m.exact m.close_round ∷ []) tokens.now r.1.now) }
     ensures fault { IfErr result (λ e.

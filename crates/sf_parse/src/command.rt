@@ -3,20 +3,19 @@
 ghost use Rattle.std.specs.Prelude.{◌≡◌, ◌<◌, ◌-◌, ◌∷◌, [], false, map, IfErr, IfOk};
 ghost use Rattle.sf_ast.specs.Surface as s;
 ghost use Rattle.sf_ast.specs.View.{command_of, commands, annotation_of};
-ghost use Rattle.sf_lex.specs.declared.token.Kind.TheVariants as k;
+ghost use Rattle.sf_parse.specs.Leaf as k;
 ghost use Rattle.sf_parse.specs.Grammar as g;
 ghost use Rattle.sf_parse.specs.Grammar.{command, expr};
-ghost use Rattle.sf_parse.specs.Internal.Heads.{IsFlat, PlacedBehind, command_next};
+ghost use Rattle.sf_parse.specs.Internal.Heads.{IsFlat, command_next};
 ghost use Rattle.sf_parse.specs.Internal.Machine as m;
 ghost use Rattle.sf_parse.specs.Nesting.{CommandWithin, CommandsWithin, Follows};
-ghost use Rattle.sf_parse.specs.Parsing.{kinds};
-ghost use Rattle.sf_parse.specs.Placed.{CommandAt, CommandsAt, ExprAt, PlaceAt, TestAt};
-ghost use Rattle.sf_parse.specs.Internal.Parser.{Placed, FailsAt, Accepts};
+ghost use Rattle.sf_parse.specs.Leaf.{leaves};
+ghost use Rattle.sf_parse.specs.Internal.Parser.{FailsAt, Accepts};
 ghost use Rattle.std.specs.Option.{option_map};
 
 use crate::annotation::maybe_annotation;
 use crate::condition::test;
-use crate::front::{eat, eat_expression, eat_word};
+use crate::front::{eat, eat_expression, eat_name};
 use crate::leaf::{expect, name};
 use crate::memory::add;
 use crate::plain::{disposed, mutated, named};
@@ -28,7 +27,7 @@ use std::alloc::{AllocError, Global};
 
 /// Whether a command begins.
 fn begins_command(tokens: &[Token]) -> bool
-    ensures { result ≡ command_next (kinds tokens.now) }
+    ensures { result ≡ command_next (leaves tokens.now) }
 {
     match tokens {
         [token, ..] => matches!(
@@ -61,10 +60,8 @@ fn no_level(tokens: &[Token]) -> Stop
 
 /// `( B )`
 fn round_test(tokens: &[Token]) -> Result<(SurfaceTest<SurfaceExpr>, &[Token]), Stop>
-    ensures spelled { IfOk result (λ r. kinds tokens.now ≡ k.OpenRound
-        ∷ g.test expr r.0 (k.CloseRound ∷ kinds r.1.now)) }
-    ensures places { IfOk result (λ r.
-        Placed (λ at b. TestAt at expr (ExprAt at) r.0 (k.CloseRound ∷ b)) tokens.now r.1.now) }
+    ensures spelled { IfOk result (λ r. leaves tokens.now ≡ k.OpenRound
+        ∷ g.test expr r.0 (k.CloseRound ∷ leaves r.1.now)) }
     ensures taken { IfOk result (λ r.
         Accepts (m.exact m.open_round ∷ m.test ∷ m.exact m.close_round ∷ []) tokens.now r.1.now) }
     ensures fault { IfErr result
@@ -79,11 +76,8 @@ fn round_test(tokens: &[Token]) -> Result<(SurfaceTest<SurfaceExpr>, &[Token]), 
 /// `E -> f = F ;` after its first expression.
 fn value_first(object: SurfaceExpr, tokens: &[Token]) -> Result<(SurfaceCommand, &[Token]), Stop>
     ensures spelled { IfOk result (λ r.
-        expr object ∷ kinds tokens.now ≡ command (command_of r.0) (kinds r.1.now)) }
+        expr object ∷ leaves tokens.now ≡ command (command_of r.0) (leaves r.1.now)) }
     ensures flat { IfOk result (λ r. IsFlat (command_of r.0)) }
-    ensures places { IfOk result (λ r.
-        PlacedBehind (λ at b. ExprAt at object b)
-        (λ at b. CommandAt at (command_of r.0) b) tokens.now r.1.now) }
     ensures taken { IfOk result (λ r.
         Accepts (m.exact m.an_arrow ∷ m.mutated_predicted) tokens.now r.1.now) }
     ensures fault { IfErr result (λ e.
@@ -162,12 +156,9 @@ fn if_command(
 ) -> Result<(SurfaceCommand, &[Token]), Stop>
     requires { 0 < depth }
     ensures spelled { IfOk result (λ r.
-        k.If ∷ kinds tokens.now ≡ command (command_of r.0) (kinds r.1.now)) }
-    ensures within { IfOk result (λ r. CommandWithin (command_of r.0) 0 depth (kinds r.1.now)) }
-    ensures follows { IfOk result (λ r. Follows (command_of r.0) (kinds r.1.now)) }
-    ensures places { IfOk result (λ r.
-        PlacedBehind (λ at b. PlaceAt at place (k.If ∷ b))
-        (λ at b. CommandAt at (command_of r.0) b) tokens.now r.1.now) }
+        k.If place ∷ leaves tokens.now ≡ command (command_of r.0) (leaves r.1.now)) }
+    ensures within { IfOk result (λ r. CommandWithin (command_of r.0) 0 depth (leaves r.1.now)) }
+    ensures follows { IfOk result (λ r. Follows (command_of r.0) (leaves r.1.now)) }
     ensures taken { IfOk result (λ r. Accepts (m.if_predicted depth) tokens.now r.1.now) }
     ensures fault { IfErr result (λ e. FailsAt e (m.if_predicted depth) tokens.now) }
 {
@@ -191,12 +182,9 @@ fn while_command(
 ) -> Result<(SurfaceCommand, &[Token]), Stop>
     requires { 0 < depth }
     ensures spelled { IfOk result (λ r.
-        k.While ∷ kinds tokens.now ≡ command (command_of r.0) (kinds r.1.now)) }
-    ensures within { IfOk result (λ r. CommandWithin (command_of r.0) 0 depth (kinds r.1.now)) }
-    ensures follows { IfOk result (λ r. Follows (command_of r.0) (kinds r.1.now)) }
-    ensures places { IfOk result (λ r.
-        PlacedBehind (λ at b. PlaceAt at place (k.While ∷ b))
-        (λ at b. CommandAt at (command_of r.0) b) tokens.now r.1.now) }
+        k.While place ∷ leaves tokens.now ≡ command (command_of r.0) (leaves r.1.now)) }
+    ensures within { IfOk result (λ r. CommandWithin (command_of r.0) 0 depth (leaves r.1.now)) }
+    ensures follows { IfOk result (λ r. Follows (command_of r.0) (leaves r.1.now)) }
     ensures taken { IfOk result (λ r. Accepts (m.while_predicted depth) tokens.now r.1.now) }
     ensures fault { IfErr result (λ e. FailsAt e (m.while_predicted depth) tokens.now) }
 {
@@ -217,12 +205,9 @@ fn with_command(
 ) -> Result<(SurfaceCommand, &[Token]), Stop>
     requires { 0 < depth }
     ensures spelled { IfOk result (λ r.
-        k.With ∷ kinds tokens.now ≡ command (command_of r.0) (kinds r.1.now)) }
-    ensures within { IfOk result (λ r. CommandWithin (command_of r.0) 0 depth (kinds r.1.now)) }
-    ensures follows { IfOk result (λ r. Follows (command_of r.0) (kinds r.1.now)) }
-    ensures places { IfOk result (λ r.
-        PlacedBehind (λ at b. PlaceAt at place (k.With ∷ b))
-        (λ at b. CommandAt at (command_of r.0) b) tokens.now r.1.now) }
+        k.With place ∷ leaves tokens.now ≡ command (command_of r.0) (leaves r.1.now)) }
+    ensures within { IfOk result (λ r. CommandWithin (command_of r.0) 0 depth (leaves r.1.now)) }
+    ensures follows { IfOk result (λ r. Follows (command_of r.0) (leaves r.1.now)) }
     ensures taken { IfOk result (λ r. Accepts (m.with_predicted depth) tokens.now r.1.now) }
     ensures fault { IfErr result (λ e. FailsAt e (m.with_predicted depth) tokens.now) }
 {
@@ -244,20 +229,17 @@ fn block(
 ) -> Result<(SurfaceCommand, &[Token]), Stop>
     requires { 0 < depth }
     ensures spelled { IfOk result (λ r.
-        k.OpenBrace ∷ kinds tokens.now ≡ command (command_of r.0) (kinds r.1.now)) }
-    ensures within { IfOk result (λ r. CommandWithin (command_of r.0) 0 depth (kinds r.1.now)) }
-    ensures follows { IfOk result (λ r. Follows (command_of r.0) (kinds r.1.now)) }
-    ensures places { IfOk result (λ r.
-        PlacedBehind (λ at b. PlaceAt at place (k.OpenBrace ∷ b))
-        (λ at b. CommandAt at (command_of r.0) b) tokens.now r.1.now) }
+        k.OpenBrace place ∷ leaves tokens.now ≡ command (command_of r.0) (leaves r.1.now)) }
+    ensures within { IfOk result (λ r. CommandWithin (command_of r.0) 0 depth (leaves r.1.now)) }
+    ensures follows { IfOk result (λ r. Follows (command_of r.0) (leaves r.1.now)) }
     ensures taken { IfOk result (λ r.
         Accepts (m.commands (depth - 1) ∷ m.exact m.close_brace ∷ []) tokens.now r.1.now) }
     ensures fault { IfErr result
         (λ e. FailsAt e (m.commands (depth - 1) ∷ m.exact m.close_brace ∷ []) tokens.now) }
 {
     let (inner, rest) = commands(alloc, depth - 1, tokens)?;
-    let (_, rest) = expect(rest, Kind::CloseBrace)?;
-    Ok((SurfaceCommand::Block(place, inner), rest))
+    let (close, rest) = expect(rest, Kind::CloseBrace)?;
+    Ok((SurfaceCommand::Block(place, inner, close), rest))
 }
 
 /// One command of at most that many levels.
@@ -269,18 +251,16 @@ fn command(
     tokens: &[Token],
 ) -> Result<(SurfaceCommand, &[Token]), Stop>
     ensures spelled { IfOk result (λ r.
-        kinds tokens.now ≡ command (command_of r.0) (kinds r.1.now)) }
-    ensures within { IfOk result (λ r. CommandWithin (command_of r.0) 0 depth (kinds r.1.now)) }
-    ensures follows { IfOk result (λ r. Follows (command_of r.0) (kinds r.1.now)) }
-    ensures places { IfOk result (λ r.
-        Placed (λ at b. CommandAt at (command_of r.0) b) tokens.now r.1.now) }
+        leaves tokens.now ≡ command (command_of r.0) (leaves r.1.now)) }
+    ensures within { IfOk result (λ r. CommandWithin (command_of r.0) 0 depth (leaves r.1.now)) }
+    ensures follows { IfOk result (λ r. Follows (command_of r.0) (leaves r.1.now)) }
     ensures taken { IfOk result (λ r. Accepts (m.command depth ∷ []) tokens.now r.1.now) }
     ensures fault { IfErr result (λ e. FailsAt e (m.command depth ∷ []) tokens.now) }
 {
     if depth == 0 {
         return Err(no_level(tokens));
     }
-    if let Some((first, rest)) = eat_word(tokens, Kind::Name) {
+    if let Some((first, rest)) = eat_name(tokens) {
         return named(alloc, first, rest);
     }
     if let Some((place, rest)) = eat(tokens, Kind::Dispose) {
@@ -312,14 +292,11 @@ pub fn commands(
     depth: usize,
     tokens: &[Token],
 ) -> Result<(Vec<SurfaceCommand>, &[Token]), Stop>
-    ensures spelled { IfOk result (λ r. kinds tokens.now
-        ≡ g.commands (commands (map command_of r.0.items)) (kinds r.1.now)) }
+    ensures spelled { IfOk result (λ r. leaves tokens.now
+        ≡ g.commands (commands (map command_of r.0.items)) (leaves r.1.now)) }
     ensures within { IfOk result (λ r.
-        CommandsWithin (commands (map command_of r.0.items)) 0 depth (kinds r.1.now)) }
-    ensures ended { IfOk result (λ r. command_next (kinds r.1.now) ≡ false) }
-    ensures places { IfOk result (λ r.
-        Placed (λ at b.
-        CommandsAt at (commands (map command_of r.0.items)) b) tokens.now r.1.now) }
+        CommandsWithin (commands (map command_of r.0.items)) 0 depth (leaves r.1.now)) }
+    ensures ended { IfOk result (λ r. command_next (leaves r.1.now) ≡ false) }
     ensures taken { IfOk result (λ r. Accepts (m.commands depth ∷ []) tokens.now r.1.now) }
     ensures fault { IfErr result (λ e. FailsAt e (m.commands depth ∷ []) tokens.now) }
 {

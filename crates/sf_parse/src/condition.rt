@@ -3,9 +3,8 @@
 ghost use Rattle.std.specs.Prelude.{◌≡◌, ◌∷◌, [], IfErr, IfOk};
 ghost use Rattle.sf_parse.specs.Grammar.{expr, operand, test};
 ghost use Rattle.sf_parse.specs.Internal.Machine as m;
-ghost use Rattle.sf_parse.specs.Parsing.{kinds};
-ghost use Rattle.sf_parse.specs.Placed.{ExprAt, OperandAt, TestAt};
-ghost use Rattle.sf_parse.specs.Internal.Parser.{Placed, FailsAt, Accepts};
+ghost use Rattle.sf_parse.specs.Leaf.{leaves};
+ghost use Rattle.sf_parse.specs.Internal.Parser.{FailsAt, Accepts};
 
 use crate::front::eat;
 use crate::leaf::{expression, operand};
@@ -16,9 +15,7 @@ use sf_lex::{Kind, Token};
 /// A test over expressions.
 #[tactic(auto, using(crate::proofs::Parser::Choices::choices))]
 pub fn test(tokens: &[Token]) -> Result<(SurfaceTest<SurfaceExpr>, &[Token]), Stop>
-    ensures spelled { IfOk result (λ r. kinds tokens.now ≡ test expr r.0 (kinds r.1.now)) }
-    ensures places { IfOk result (λ r.
-        Placed (λ at b. TestAt at expr (ExprAt at) r.0 b) tokens.now r.1.now) }
+    ensures spelled { IfOk result (λ r. leaves tokens.now ≡ test expr r.0 (leaves r.1.now)) }
     ensures taken { IfOk result (λ r. Accepts (m.test ∷ []) tokens.now r.1.now) }
     ensures fault { IfErr result (λ e. FailsAt e (m.test ∷ []) tokens.now) }
 {
@@ -40,9 +37,7 @@ pub fn test(tokens: &[Token]) -> Result<(SurfaceTest<SurfaceExpr>, &[Token]), St
 /// A test over operands.
 #[tactic(auto, using(crate::proofs::Parser::Choices::choices))]
 pub fn operand_test(tokens: &[Token]) -> Result<(SurfaceTest<SurfaceOperand>, &[Token]), Stop>
-    ensures spelled { IfOk result (λ r. kinds tokens.now ≡ test operand r.0 (kinds r.1.now)) }
-    ensures places { IfOk result (λ r.
-        Placed (λ at b. TestAt at operand (OperandAt at) r.0 b) tokens.now r.1.now) }
+    ensures spelled { IfOk result (λ r. leaves tokens.now ≡ test operand r.0 (leaves r.1.now)) }
     ensures taken { IfOk result (λ r. Accepts (m.operand_test ∷ []) tokens.now r.1.now) }
     ensures fault { IfErr result (λ e. FailsAt e (m.operand_test ∷ []) tokens.now) }
 {

@@ -2,13 +2,12 @@
 
 ghost use Rattle.std.specs.Prelude.{◌≡◌, ◌∷◌, ℕ, [], false, IfErr, IfOk};
 ghost use Rattle.sf_ast.specs.View.{conjunct_of};
-ghost use Rattle.sf_lex.specs.declared.token.Token.{Token};
 ghost use Rattle.sf_parse.specs.Grammar.{conjunct, operand};
 ghost use Rattle.sf_parse.specs.Internal.Heads.{IsFlatConjunct};
 ghost use Rattle.sf_parse.specs.Internal.Machine as m;
-ghost use Rattle.sf_parse.specs.Parsing.{kinds};
-ghost use Rattle.sf_parse.specs.Placed.{ConjunctAt, OperandAt};
-ghost use Rattle.sf_parse.specs.Internal.Parser.{Accepts, Agree, FailsAt, NotNext, Placed};
+ghost use Rattle.sf_parse.specs.Leaf as k;
+ghost use Rattle.sf_parse.specs.Leaf.{leaves};
+ghost use Rattle.sf_parse.specs.Internal.Parser.{Accepts, FailsAt, NotNext};
 ghost use Rattle.sf_parse.specs.Internal.Parser.{operand_next};
 
 use crate::fields::maybe_fields;
@@ -22,10 +21,8 @@ use std::alloc::Global;
 /// `( E )`
 fn one_operand(tokens: &[Token]) -> Result<(SurfaceOperand, &[Token]), Stop>
     ensures spelled { IfOk result (λ r.
-        kinds tokens.now ≡ Kind.OpenRound ∷ operand r.0 ∷ Kind.CloseRound
-        ∷ kinds r.1.now) }
-    ensures places { IfOk result (λ r.
-        Placed (λ at b. OperandAt at r.0 (Kind.CloseRound ∷ b)) tokens.now r.1.now) }
+        leaves tokens.now ≡ k.OpenRound ∷ operand r.0 ∷ k.CloseRound
+        ∷ leaves r.1.now) }
     ensures taken { IfOk result (λ r.
         Accepts (m.exact m.open_round ∷ m.operand ∷ m.exact m.close_round
         ∷ []) tokens.now r.1.now) }
@@ -41,11 +38,8 @@ fn one_operand(tokens: &[Token]) -> Result<(SurfaceOperand, &[Token]), Stop>
 
 /// `( E , F )`
 fn two_operands(tokens: &[Token]) -> Result<(SurfaceOperand, SurfaceOperand, &[Token]), Stop>
-    ensures spelled { IfOk result (λ r. kinds tokens.now ≡ Kind.OpenRound ∷ operand r.0 ∷ Kind.Comma
-        ∷ operand r.1 ∷ Kind.CloseRound ∷ kinds r.2.now) }
-    ensures places { IfOk result (λ r.
-        Placed (λ at b. OperandAt at r.0 (Kind.Comma ∷ operand r.1 ∷ Kind.CloseRound ∷ b)
-        × OperandAt at r.1 (Kind.CloseRound ∷ b)) tokens.now r.2.now) }
+    ensures spelled { IfOk result (λ r. leaves tokens.now ≡ k.OpenRound ∷ operand r.0 ∷ k.Comma
+        ∷ operand r.1 ∷ k.CloseRound ∷ leaves r.2.now) }
     ensures taken { IfOk result (λ r. Accepts m.pair_predicted tokens.now r.2.now) }
     ensures fault { IfErr result (λ e. FailsAt e m.pair_predicted tokens.now) }
 {
@@ -64,12 +58,9 @@ pub fn relation(
     left: SurfaceOperand,
     tokens: &[Token],
 ) -> Result<(SurfaceConjunct, &[Token]), Stop>
-    ensures spelled { IfOk result (λ r. operand left ∷ kinds tokens.now
-        ≡ conjunct (conjunct_of r.0) (kinds r.1.now)) }
+    ensures spelled { IfOk result (λ r. operand left ∷ leaves tokens.now
+        ≡ conjunct (conjunct_of r.0) (leaves r.1.now)) }
     ensures flat { IfOk result (λ r. IsFlatConjunct (conjunct_of r.0)) }
-    ensures places { IfOk result (λ r. (at : ℕ → Token) → Agree at tokens.now
-        → OperandAt at left (kinds tokens.now)
-        → ConjunctAt at (conjunct_of r.0) (kinds r.1.now) × Agree at r.1.now) }
     ensures taken { IfOk result (λ r. Accepts (m.relation ∷ []) tokens.now r.1.now) }
     ensures fault { IfErr result (λ e. FailsAt e (m.relation ∷ []) tokens.now) }
 {
@@ -91,14 +82,12 @@ pub fn relation(
 /// `emp`, a segment, a list or a tree.
 #[tactic(auto, using(crate::proofs::Parser::Choices::choices))]
 pub fn predicate(tokens: &[Token]) -> Result<(SurfaceConjunct, &[Token]), Stop>
-    requires no_operand { operand_next (kinds tokens.now) ≡ false }
-    requires no_group { NotNext Kind.OpenRound (kinds tokens.now) }
-    requires no_choice { NotNext Kind.If (kinds tokens.now) }
+    requires no_operand { operand_next (leaves tokens.now) ≡ false }
+    requires no_group { NotNext Kind.OpenRound (leaves tokens.now) }
+    requires no_choice { NotNext Kind.If (leaves tokens.now) }
     ensures spelled { IfOk result (λ r.
-        kinds tokens.now ≡ conjunct (conjunct_of r.0) (kinds r.1.now)) }
+        leaves tokens.now ≡ conjunct (conjunct_of r.0) (leaves r.1.now)) }
     ensures flat { IfOk result (λ r. IsFlatConjunct (conjunct_of r.0)) }
-    ensures places { IfOk result (λ r.
-        Placed (λ at b. ConjunctAt at (conjunct_of r.0) b) tokens.now r.1.now) }
     ensures taken { IfOk result (λ r. (d : ℕ) → Accepts (m.conjunct d ∷ []) tokens.now r.1.now) }
     ensures fault { IfErr result (λ e. (d : ℕ) → FailsAt e (m.conjunct d ∷ []) tokens.now) }
 {

@@ -3,11 +3,10 @@
 ghost use Rattle.std.specs.Prelude.{◌≡◌, ◌∷◌, [], IfErr, IfOk};
 ghost use Rattle.sf_parse.specs.Grammar.{field, maybe_fields, more_fields};
 ghost use Rattle.sf_parse.specs.Internal.Machine as m;
-ghost use Rattle.sf_parse.specs.Parsing.{kinds};
-ghost use Rattle.sf_parse.specs.Placed.{FieldAt, MaybeFieldsAt, MoreFieldsAt};
-ghost use Rattle.sf_parse.specs.Internal.Parser.{Placed, FailsAt, Accepts};
+ghost use Rattle.sf_parse.specs.Leaf.{leaves};
+ghost use Rattle.sf_parse.specs.Internal.Parser.{FailsAt, Accepts};
 
-use crate::front::{eat, eat_word};
+use crate::front::{eat, eat_name};
 use crate::leaf::{expect, name, operand};
 use crate::memory::{add, with_first};
 use crate::stop::Stop;
@@ -17,8 +16,7 @@ use std::alloc::Global;
 
 /// A field, its colon and its value.
 fn field(tokens: &[Token]) -> Result<(SurfaceField, &[Token]), Stop>
-    ensures spelled { IfOk result (λ r. kinds tokens.now ≡ field r.0 (kinds r.1.now)) }
-    ensures places { IfOk result (λ r. Placed (λ at b. FieldAt at r.0 b) tokens.now r.1.now) }
+    ensures spelled { IfOk result (λ r. leaves tokens.now ≡ field r.0 (leaves r.1.now)) }
     ensures taken { IfOk result (λ r.
         Accepts (m.exact m.a_name ∷ m.exact m.a_colon ∷ m.operand ∷ []) tokens.now r.1.now) }
     ensures fault { IfErr result
@@ -33,9 +31,7 @@ fn field(tokens: &[Token]) -> Result<(SurfaceField, &[Token]), Stop>
 /// Fields after a first one, each after its comma.
 #[tactic(auto, using(crate::proofs::Parser::Choices::choices))]
 fn more_fields(alloc: Global, tokens: &[Token]) -> Result<(Vec<SurfaceField>, &[Token]), Stop>
-    ensures spelled { IfOk result (λ r. kinds tokens.now ≡ more_fields r.0.items (kinds r.1.now)) }
-    ensures places { IfOk result (λ r.
-        Placed (λ at b. MoreFieldsAt at r.0.items b) tokens.now r.1.now) }
+    ensures spelled { IfOk result (λ r. leaves tokens.now ≡ more_fields r.0.items (leaves r.1.now)) }
     ensures taken { IfOk result (λ r. Accepts (m.more_fields ∷ []) tokens.now r.1.now) }
     ensures fault { IfErr result (λ e. FailsAt e (m.more_fields ∷ []) tokens.now) }
 {
@@ -52,13 +48,11 @@ fn more_fields(alloc: Global, tokens: &[Token]) -> Result<(Vec<SurfaceField>, &[
 /// Fields, or none.
 #[tactic(auto, using(crate::proofs::Parser::Choices::choices))]
 pub fn maybe_fields(alloc: Global, tokens: &[Token]) -> Result<(Vec<SurfaceField>, &[Token]), Stop>
-    ensures spelled { IfOk result (λ r. kinds tokens.now ≡ maybe_fields r.0.items (kinds r.1.now)) }
-    ensures places { IfOk result (λ r.
-        Placed (λ at b. MaybeFieldsAt at r.0.items b) tokens.now r.1.now) }
+    ensures spelled { IfOk result (λ r. leaves tokens.now ≡ maybe_fields r.0.items (leaves r.1.now)) }
     ensures taken { IfOk result (λ r. Accepts (m.maybe_fields ∷ []) tokens.now r.1.now) }
     ensures fault { IfErr result (λ e. FailsAt e (m.maybe_fields ∷ []) tokens.now) }
 {
-    let Some(_) = eat_word(tokens, Kind::Name) else {
+    let Some(_) = eat_name(tokens) else {
         return Ok((Vec::new(alloc), tokens));
     };
     let (first, rest) = field(tokens)?;

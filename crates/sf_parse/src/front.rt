@@ -3,9 +3,10 @@
 ghost use Rattle.std.specs.Prelude.{◌≡◌, ◌∷◌, false, IfSome, MatchOption};
 ghost use Rattle.sf_parse.specs.Grammar.{expr, operand};
 ghost use Rattle.sf_parse.specs.Internal.Heads.{conjunct_next};
-ghost use Rattle.sf_parse.specs.Parsing.{kinds};
-ghost use Rattle.sf_parse.specs.Placed.{ExprAt, OperandAt, PlaceAt, WordAt};
-ghost use Rattle.sf_parse.specs.Internal.Parser.{NotNext, Placed, expression_next, operand_next};
+ghost use Rattle.sf_parse.specs.Leaf as k;
+ghost use Rattle.sf_parse.specs.Leaf.{leaf, leaves};
+ghost use Rattle.sf_parse.specs.Internal.Parser.{IsMark, NotNext, expression_next, mark};
+ghost use Rattle.sf_parse.specs.Internal.Parser.{operand_next};
 
 use sf_ast::{SurfaceExpr, SurfaceOperand, Word};
 use sf_base::Place;
@@ -13,9 +14,7 @@ use sf_lex::{Kind, Token};
 
 /// Where a token's text is.
 fn word_of(token: &Token) -> Word
-    ensures start { result.start ≡ token.now.start }
-    ensures end { result.end ≡ token.now.end }
-    ensures place { result.place ≡ token.now.place }
+    ensures { result ≡ k.word_of token.now }
 {
     Word {
         start: token.start,
@@ -24,17 +23,15 @@ fn word_of(token: &Token) -> Word
     }
 }
 
-/// A word of that kind, and the tokens after it.
-pub fn eat_word(tokens: &[Token], kind: Kind) -> Option<(Word, &[Token])>
-    ensures spelled { MatchOption result (NotNext kind (kinds tokens.now))
-        (λ r. kinds tokens.now ≡ kind ∷ kinds r.1.now) }
-    ensures places { IfSome result (λ r.
-        Placed (λ at b. WordAt at r.0 (kind ∷ b)) tokens.now r.1.now) }
+/// The next token where it is of that kind, and those after it.
+fn eat_token(tokens: &[Token], kind: Kind) -> Option<(Token, &[Token])>
+    ensures kind { MatchOption result (NotNext kind (leaves tokens.now)) (λ r. r.0.kind ≡ kind) }
+    ensures spelled { IfSome result (λ r. leaves tokens.now ≡ leaf r.0 ∷ leaves r.1.now) }
 {
     match tokens {
         [token, rest @ ..] => {
             if token.kind == kind {
-                Some((word_of(token), rest))
+                Some((*token, rest))
             } else {
                 None
             }
@@ -43,22 +40,30 @@ pub fn eat_word(tokens: &[Token], kind: Kind) -> Option<(Word, &[Token])>
     }
 }
 
-/// The place of a token of that kind, and the tokens after it.
-pub fn eat(tokens: &[Token], kind: Kind) -> Option<(Place, &[Token])>
-    ensures spelled { MatchOption result (NotNext kind (kinds tokens.now))
-        (λ r. kinds tokens.now ≡ kind ∷ kinds r.1.now) }
-    ensures places { IfSome result (λ r.
-        Placed (λ at b. PlaceAt at r.0 (kind ∷ b)) tokens.now r.1.now) }
+/// A name, and the tokens after it.
+pub fn eat_name(tokens: &[Token]) -> Option<(Word, &[Token])>
+    ensures spelled { MatchOption result (NotNext Kind.Name (leaves tokens.now))
+        (λ r. leaves tokens.now ≡ k.Name r.0 ∷ leaves r.1.now) }
 {
-    let (word, rest) = eat_word(tokens, kind)?;
-    Some((word.place, rest))
+    let (token, rest) = eat_token(tokens, Kind::Name)?;
+    Some((word_of(&token), rest))
+}
+
+/// The place of a token of that kind, and the tokens after it.
+#[tactic(auto, using(crate::proofs::Parser::Fronts::fronts))]
+pub fn eat(tokens: &[Token], kind: Kind) -> Option<(Place, &[Token])>
+    requires { IsMark kind }
+    ensures spelled { MatchOption result (NotNext kind (leaves tokens.now))
+        (λ r. leaves tokens.now ≡ mark kind r.0 ∷ leaves r.1.now) }
+{
+    let (token, rest) = eat_token(tokens, kind)?;
+    Some((token.place, rest))
 }
 
 /// An expression, and the tokens after it.
 pub fn eat_expression(tokens: &[Token]) -> Option<(SurfaceExpr, &[Token])>
-    ensures spelled { MatchOption result (expression_next (kinds tokens.now) ≡ false)
-        (λ r. kinds tokens.now ≡ expr r.0 ∷ kinds r.1.now) }
-    ensures places { IfSome result (λ r. Placed (λ at b. ExprAt at r.0 b) tokens.now r.1.now) }
+    ensures spelled { MatchOption result (expression_next (leaves tokens.now) ≡ false)
+        (λ r. leaves tokens.now ≡ expr r.0 ∷ leaves r.1.now) }
 {
     match tokens {
         [token, rest @ ..] => match token.kind {
@@ -73,22 +78,21 @@ pub fn eat_expression(tokens: &[Token]) -> Option<(SurfaceExpr, &[Token])>
 }
 
 /// An operand, and the tokens after it.
-#[tactic(auto, using(crate::proofs::Parser::Fronts::leaves))]
+#[tactic(auto, using(crate::proofs::Parser::Fronts::fronts))]
 pub fn eat_operand(tokens: &[Token]) -> Option<(SurfaceOperand, &[Token])>
-    ensures spelled { MatchOption result (operand_next (kinds tokens.now) ≡ false)
-        (λ r. kinds tokens.now ≡ operand r.0 ∷ kinds r.1.now) }
-    ensures places { IfSome result (λ r. Placed (λ at b. OperandAt at r.0 b) tokens.now r.1.now) }
+    ensures spelled { MatchOption result (operand_next (leaves tokens.now) ≡ false)
+        (λ r. leaves tokens.now ≡ operand r.0 ∷ leaves r.1.now) }
 {
     if let Some((known, rest)) = eat_expression(tokens) {
         return Some((SurfaceOperand::Known(known), rest));
     }
-    let (word, rest) = eat_word(tokens, Kind::Existential)?;
-    Some((SurfaceOperand::Existential(word), rest))
+    let (token, rest) = eat_token(tokens, Kind::Existential)?;
+    Some((SurfaceOperand::Existential(word_of(&token)), rest))
 }
 
 /// Whether a conjunct begins.
 pub fn begins_conjunct(tokens: &[Token]) -> bool
-    ensures { result ≡ conjunct_next (kinds tokens.now) }
+    ensures { result ≡ conjunct_next (leaves tokens.now) }
 {
     match tokens {
         [token, ..] => matches!(

@@ -5,21 +5,19 @@ ghost use Rattle.std.specs.Option.{option_map};
 ghost use Rattle.sf_ast.specs.Surface as s;
 ghost use Rattle.sf_ast.specs.View.{item_of, names_of, annotation_of, parameters_of};
 ghost use Rattle.sf_base.specs.declared.limits.TheConstants.{NESTING};
-ghost use Rattle.sf_lex.specs.declared.token.Kind.TheVariants as k;
-ghost use Rattle.sf_parse.specs.Internal.Bodies.{BodyAt, BodyWithin, body, procedure_with};
+ghost use Rattle.sf_parse.specs.Leaf as k;
+ghost use Rattle.sf_parse.specs.Internal.Bodies.{BodyWithin, body, procedure_with};
 ghost use Rattle.sf_parse.specs.Grammar as g;
 ghost use Rattle.sf_parse.specs.Grammar.{item};
-ghost use Rattle.sf_parse.specs.Internal.Heads.{PlacedBehind};
 ghost use Rattle.sf_parse.specs.Internal.Machine as m;
 ghost use Rattle.sf_parse.specs.Internal.Machine.{Predicted, verdict};
 ghost use Rattle.sf_parse.specs.Nesting.{ItemWithin, ItemsWithin};
-ghost use Rattle.sf_parse.specs.Parsing.{kinds};
-ghost use Rattle.sf_parse.specs.Placed.{ItemAt, ItemsAt, LocalsAt, PlaceAt, WordAt};
-ghost use Rattle.sf_parse.specs.Internal.Parser.{Placed, FailsAt, Accepts};
+ghost use Rattle.sf_parse.specs.Leaf.{leaves};
+ghost use Rattle.sf_parse.specs.Internal.Parser.{FailsAt, Accepts};
 
 use crate::annotation::{annotation, maybe_annotation};
 use crate::command::commands;
-use crate::front::{eat, eat_word};
+use crate::front::{eat, eat_name};
 use crate::leaf::{expect, name};
 use crate::memory::add;
 use crate::names::{maybe_names, more_names, names, parameters};
@@ -50,9 +48,7 @@ pub struct Body {
 #[tactic(auto, using(crate::proofs::Parser::ItemHeads::item_heads))]
 fn locals(alloc: Global, tokens: &[Token]) -> Result<(Vec<SurfaceNames>, &[Token]), Stop>
     ensures spelled { IfOk result (λ r.
-        kinds tokens.now ≡ g.locals (map names_of r.0.items) (kinds r.1.now)) }
-    ensures places { IfOk result (λ r.
-        Placed (λ at b. LocalsAt at (map names_of r.0.items) b) tokens.now r.1.now) }
+        leaves tokens.now ≡ g.locals (map names_of r.0.items) (leaves r.1.now)) }
     ensures taken { IfOk result (λ r. Accepts (m.locals ∷ []) tokens.now r.1.now) }
     ensures fault { IfErr result (λ e. FailsAt e (m.locals ∷ []) tokens.now) }
 {
@@ -69,9 +65,8 @@ fn locals(alloc: Global, tokens: &[Token]) -> Result<(Vec<SurfaceNames>, &[Token
 
 /// A procedure's body.
 fn procedure_body(alloc: Global, tokens: &[Token]) -> Result<(Body, &[Token]), Stop>
-    ensures spelled { IfOk result (λ r. kinds tokens.now ≡ body r.0 (kinds r.1.now)) }
-    ensures within { IfOk result (λ r. BodyWithin r.0 (kinds r.1.now)) }
-    ensures places { IfOk result (λ r. Placed (λ at b. BodyAt at r.0 b) tokens.now r.1.now) }
+    ensures spelled { IfOk result (λ r. leaves tokens.now ≡ body r.0 (leaves r.1.now)) }
+    ensures within { IfOk result (λ r. BodyWithin r.0 (leaves r.1.now)) }
     ensures taken { IfOk result (λ r.
         Accepts (m.exact m.open_brace ∷ m.locals ∷ m.commands NESTING ∷ m.exact m.close_brace
         ∷ []) tokens.now r.1.now) }
@@ -121,12 +116,9 @@ fn procedure_of(
 
 /// A procedure after its `(`.
 fn procedure(alloc: Global, first: Word, tokens: &[Token]) -> Result<(Item, &[Token]), Stop>
-    ensures spelled { IfOk result (λ r. k.Name ∷ k.OpenRound ∷ kinds tokens.now
-        ≡ item (item_of r.0) (kinds r.1.now)) }
-    ensures within { IfOk result (λ r. ItemWithin (item_of r.0) 0 (kinds r.1.now)) }
-    ensures places { IfOk result (λ r.
-        PlacedBehind (λ at b. WordAt at first (k.Name ∷ k.OpenRound ∷ b))
-        (λ at b. ItemAt at (item_of r.0) b) tokens.now r.1.now) }
+    ensures spelled { IfOk result (λ r. k.Name first ∷ k.OpenRound ∷ leaves tokens.now
+        ≡ item (item_of r.0) (leaves r.1.now)) }
+    ensures within { IfOk result (λ r. ItemWithin (item_of r.0) 0 (leaves r.1.now)) }
     ensures taken { IfOk result (λ r. Accepts m.procedure_predicted tokens.now r.1.now) }
     ensures fault { IfErr result (λ e. FailsAt e m.procedure_predicted tokens.now) }
 {
@@ -141,11 +133,8 @@ fn procedure(alloc: Global, first: Word, tokens: &[Token]) -> Result<(Item, &[To
 /// Fields after the first one's name.
 fn fields(alloc: Global, first: Word, tokens: &[Token]) -> Result<(Item, &[Token]), Stop>
     ensures spelled { IfOk result (λ r.
-        k.Name ∷ kinds tokens.now ≡ item (item_of r.0) (kinds r.1.now)) }
-    ensures within { IfOk result (λ r. ItemWithin (item_of r.0) 0 (kinds r.1.now)) }
-    ensures places { IfOk result (λ r.
-        PlacedBehind (λ at b. WordAt at first (k.Name ∷ b))
-        (λ at b. ItemAt at (item_of r.0) b) tokens.now r.1.now) }
+        k.Name first ∷ leaves tokens.now ≡ item (item_of r.0) (leaves r.1.now)) }
+    ensures within { IfOk result (λ r. ItemWithin (item_of r.0) 0 (leaves r.1.now)) }
     ensures taken { IfOk result (λ r.
         Accepts (m.more_names ∷ m.exact m.semicolon ∷ []) tokens.now r.1.now) }
     ensures fault { IfErr result (λ e.
@@ -159,11 +148,8 @@ fn fields(alloc: Global, first: Word, tokens: &[Token]) -> Result<(Item, &[Token
 /// A resource after its own word.
 fn resource(alloc: Global, place: Place, tokens: &[Token]) -> Result<(Item, &[Token]), Stop>
     ensures spelled { IfOk result (λ r.
-        k.Resource ∷ kinds tokens.now ≡ item (item_of r.0) (kinds r.1.now)) }
-    ensures within { IfOk result (λ r. ItemWithin (item_of r.0) 0 (kinds r.1.now)) }
-    ensures places { IfOk result (λ r.
-        PlacedBehind (λ at b. PlaceAt at place (k.Resource ∷ b))
-        (λ at b. ItemAt at (item_of r.0) b) tokens.now r.1.now) }
+        k.Resource place ∷ leaves tokens.now ≡ item (item_of r.0) (leaves r.1.now)) }
+    ensures within { IfOk result (λ r. ItemWithin (item_of r.0) 0 (leaves r.1.now)) }
     ensures taken { IfOk result (λ r. Accepts m.resource_predicted tokens.now r.1.now) }
     ensures fault { IfErr result (λ e. FailsAt e m.resource_predicted tokens.now) }
 {
@@ -187,11 +173,8 @@ fn resource(alloc: Global, place: Place, tokens: &[Token]) -> Result<(Item, &[To
 #[tactic(auto, using(crate::proofs::Parser::ItemHeads::item_heads))]
 fn named_item(alloc: Global, first: Word, tokens: &[Token]) -> Result<(Item, &[Token]), Stop>
     ensures spelled { IfOk result (λ r.
-        k.Name ∷ kinds tokens.now ≡ item (item_of r.0) (kinds r.1.now)) }
-    ensures within { IfOk result (λ r. ItemWithin (item_of r.0) 0 (kinds r.1.now)) }
-    ensures places { IfOk result (λ r.
-        PlacedBehind (λ at b. WordAt at first (k.Name ∷ b))
-        (λ at b. ItemAt at (item_of r.0) b) tokens.now r.1.now) }
+        k.Name first ∷ leaves tokens.now ≡ item (item_of r.0) (leaves r.1.now)) }
+    ensures within { IfOk result (λ r. ItemWithin (item_of r.0) 0 (leaves r.1.now)) }
     ensures taken { IfOk result (λ r. Accepts (m.item_named ∷ []) tokens.now r.1.now) }
     ensures fault { IfErr result (λ e. FailsAt e (m.item_named ∷ []) tokens.now) }
 {
@@ -205,16 +188,14 @@ fn named_item(alloc: Global, first: Word, tokens: &[Token]) -> Result<(Item, &[T
 #[tactic(auto, using(crate::proofs::Parser::ItemHeads::item_heads))]
 fn item(alloc: Global, tokens: &[Token]) -> Result<(Item, &[Token]), Stop>
     requires { 0 < length tokens.now }
-    ensures spelled { IfOk result (λ r. kinds tokens.now ≡ item (item_of r.0) (kinds r.1.now)) }
-    ensures within { IfOk result (λ r. ItemWithin (item_of r.0) 0 (kinds r.1.now)) }
-    ensures places { IfOk result (λ r.
-        Placed (λ at b. ItemAt at (item_of r.0) b) tokens.now r.1.now) }
+    ensures spelled { IfOk result (λ r. leaves tokens.now ≡ item (item_of r.0) (leaves r.1.now)) }
+    ensures within { IfOk result (λ r. ItemWithin (item_of r.0) 0 (leaves r.1.now)) }
     ensures taken { IfOk result (λ r. (st : List Predicted)
-        → verdict 0 (kinds tokens.now) (m.items ∷ st)
-        ≡ verdict 0 (kinds r.1.now) (m.items ∷ st)) }
+        → verdict 0 (leaves tokens.now) (m.items ∷ st)
+        ≡ verdict 0 (leaves r.1.now) (m.items ∷ st)) }
     ensures fault { IfErr result (λ e. FailsAt e (m.items ∷ []) tokens.now) }
 {
-    if let Some((first, rest)) = eat_word(tokens, Kind::Name) {
+    if let Some((first, rest)) = eat_name(tokens) {
         return named_item(alloc, first, rest);
     }
     let Some((place, rest)) = eat(tokens, Kind::Resource) else {
@@ -226,10 +207,8 @@ fn item(alloc: Global, tokens: &[Token]) -> Result<(Item, &[Token]), Stop>
 /// The items of a file.
 pub fn items(alloc: Global, tokens: &[Token]) -> Result<Vec<Item>, Stop>
     ensures spelled { IfOk result (λ found.
-        kinds tokens.now ≡ g.items (map item_of found.items) []) }
+        leaves tokens.now ≡ g.items (map item_of found.items) []) }
     ensures within { IfOk result (λ found. ItemsWithin (map item_of found.items) 0 []) }
-    ensures places { IfOk result (λ found.
-        Placed (λ at b. ItemsAt at (map item_of found.items) b) tokens.now []) }
     ensures fault { IfErr result (λ e. FailsAt e (m.items ∷ []) tokens.now) }
 {
     let mut found = Vec::new(alloc);

@@ -4,11 +4,10 @@ ghost use Rattle.std.specs.Prelude.{◌≡◌, ◌∷◌, [], IfErr, IfOk};
 ghost use Rattle.sf_ast.specs.View.{names_of, parameters_of};
 ghost use Rattle.sf_parse.specs.Grammar.{maybe_names, more_names, names, parameters};
 ghost use Rattle.sf_parse.specs.Internal.Machine as m;
-ghost use Rattle.sf_parse.specs.Parsing.{kinds};
-ghost use Rattle.sf_parse.specs.Placed.{MaybeNamesAt, MoreNamesAt, NamesAt, ParametersAt};
-ghost use Rattle.sf_parse.specs.Internal.Parser.{Placed, FailsAt, Accepts};
+ghost use Rattle.sf_parse.specs.Leaf.{leaves};
+ghost use Rattle.sf_parse.specs.Internal.Parser.{FailsAt, Accepts};
 
-use crate::front::{eat, eat_word};
+use crate::front::{eat, eat_name};
 use crate::leaf::name;
 use crate::memory::{add, with_first};
 use crate::stop::Stop;
@@ -19,9 +18,7 @@ use std::alloc::Global;
 /// Names after a first one, each after its comma.
 #[tactic(auto, using(crate::proofs::Parser::Choices::choices))]
 pub fn more_names(alloc: Global, tokens: &[Token]) -> Result<(Vec<Word>, &[Token]), Stop>
-    ensures spelled { IfOk result (λ r. kinds tokens.now ≡ more_names r.0.items (kinds r.1.now)) }
-    ensures places { IfOk result (λ r.
-        Placed (λ at b. MoreNamesAt at r.0.items b) tokens.now r.1.now) }
+    ensures spelled { IfOk result (λ r. leaves tokens.now ≡ more_names r.0.items (leaves r.1.now)) }
     ensures taken { IfOk result (λ r. Accepts (m.more_names ∷ []) tokens.now r.1.now) }
     ensures fault { IfErr result (λ e. FailsAt e (m.more_names ∷ []) tokens.now) }
 {
@@ -37,9 +34,7 @@ pub fn more_names(alloc: Global, tokens: &[Token]) -> Result<(Vec<Word>, &[Token
 
 /// One name or more.
 pub fn names(alloc: Global, tokens: &[Token]) -> Result<(SurfaceNames, &[Token]), Stop>
-    ensures spelled { IfOk result (λ r. kinds tokens.now ≡ names (names_of r.0) (kinds r.1.now)) }
-    ensures places { IfOk result (λ r.
-        Placed (λ at b. NamesAt at (names_of r.0) b) tokens.now r.1.now) }
+    ensures spelled { IfOk result (λ r. leaves tokens.now ≡ names (names_of r.0) (leaves r.1.now)) }
     ensures taken { IfOk result (λ r.
         Accepts (m.exact m.a_name ∷ m.more_names ∷ []) tokens.now r.1.now) }
     ensures fault { IfErr result (λ e.
@@ -53,13 +48,11 @@ pub fn names(alloc: Global, tokens: &[Token]) -> Result<(SurfaceNames, &[Token])
 /// Names, or none.
 #[tactic(auto, using(crate::proofs::Parser::Choices::choices))]
 pub fn maybe_names(alloc: Global, tokens: &[Token]) -> Result<(Vec<Word>, &[Token]), Stop>
-    ensures spelled { IfOk result (λ r. kinds tokens.now ≡ maybe_names r.0.items (kinds r.1.now)) }
-    ensures places { IfOk result (λ r.
-        Placed (λ at b. MaybeNamesAt at r.0.items b) tokens.now r.1.now) }
+    ensures spelled { IfOk result (λ r. leaves tokens.now ≡ maybe_names r.0.items (leaves r.1.now)) }
     ensures taken { IfOk result (λ r. Accepts (m.maybe_names ∷ []) tokens.now r.1.now) }
     ensures fault { IfErr result (λ e. FailsAt e (m.maybe_names ∷ []) tokens.now) }
 {
-    let Some((first, rest)) = eat_word(tokens, Kind::Name) else {
+    let Some((first, rest)) = eat_name(tokens) else {
         return Ok((Vec::new(alloc), tokens));
     };
     let (found, rest) = more_names(alloc, rest)?;
@@ -70,9 +63,7 @@ pub fn maybe_names(alloc: Global, tokens: &[Token]) -> Result<(Vec<Word>, &[Toke
 #[tactic(auto, using(crate::proofs::Parser::Choices::choices))]
 pub fn parameters(alloc: Global, tokens: &[Token]) -> Result<(SurfaceParameters, &[Token]), Stop>
     ensures spelled { IfOk result (λ r.
-        kinds tokens.now ≡ parameters (parameters_of r.0) (kinds r.1.now)) }
-    ensures places { IfOk result (λ r.
-        Placed (λ at b. ParametersAt at (parameters_of r.0) b) tokens.now r.1.now) }
+        leaves tokens.now ≡ parameters (parameters_of r.0) (leaves r.1.now)) }
     ensures taken { IfOk result (λ r.
         Accepts (m.maybe_names ∷ m.maybe_values ∷ []) tokens.now r.1.now) }
     ensures fault { IfErr result (λ e. FailsAt e (m.maybe_names ∷ m.maybe_values ∷ []) tokens.now) }

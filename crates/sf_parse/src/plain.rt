@@ -2,14 +2,13 @@
 
 ghost use Rattle.std.specs.Prelude.{◌≡◌, ◌∷◌, [], IfErr, IfOk};
 ghost use Rattle.sf_ast.specs.View.{call_of, command_of};
-ghost use Rattle.sf_lex.specs.declared.token.Kind.TheVariants as k;
+ghost use Rattle.sf_parse.specs.Leaf as k;
 ghost use Rattle.sf_parse.specs.Grammar as g;
 ghost use Rattle.sf_parse.specs.Grammar.{command, expr};
-ghost use Rattle.sf_parse.specs.Internal.Heads.{IsFlat, PlacedBehind};
+ghost use Rattle.sf_parse.specs.Internal.Heads.{IsFlat};
 ghost use Rattle.sf_parse.specs.Internal.Machine as m;
-ghost use Rattle.sf_parse.specs.Parsing.{kinds};
-ghost use Rattle.sf_parse.specs.Placed.{CallAt, CommandAt, ExprAt, PlaceAt, WordAt};
-ghost use Rattle.sf_parse.specs.Internal.Parser.{Placed, FailsAt, Accepts};
+ghost use Rattle.sf_parse.specs.Leaf.{leaves};
+ghost use Rattle.sf_parse.specs.Internal.Parser.{FailsAt, Accepts};
 
 use crate::call::call;
 use crate::front::eat;
@@ -22,12 +21,9 @@ use std::alloc::Global;
 
 /// `E -> f = F ;` after its arrow.
 pub fn mutated(object: SurfaceExpr, tokens: &[Token]) -> Result<(SurfaceCommand, &[Token]), Stop>
-    ensures spelled { IfOk result (λ r. expr object ∷ k.Arrow ∷ kinds tokens.now
-        ≡ command (command_of r.0) (kinds r.1.now)) }
+    ensures spelled { IfOk result (λ r. expr object ∷ k.Arrow ∷ leaves tokens.now
+        ≡ command (command_of r.0) (leaves r.1.now)) }
     ensures flat { IfOk result (λ r. IsFlat (command_of r.0)) }
-    ensures places { IfOk result (λ r.
-        PlacedBehind (λ at b. ExprAt at object (k.Arrow ∷ b))
-        (λ at b. CommandAt at (command_of r.0) b) tokens.now r.1.now) }
     ensures taken { IfOk result (λ r. Accepts m.mutated_predicted tokens.now r.1.now) }
     ensures fault { IfErr result (λ e. FailsAt e m.mutated_predicted tokens.now) }
 {
@@ -45,12 +41,9 @@ fn looked_up(
     value: SurfaceExpr,
     tokens: &[Token],
 ) -> Result<(SurfaceCommand, &[Token]), Stop>
-    ensures spelled { IfOk result (λ r. k.Name ∷ k.Equals ∷ expr value ∷ kinds tokens.now
-        ≡ command (command_of r.0) (kinds r.1.now)) }
+    ensures spelled { IfOk result (λ r. k.Name target ∷ k.Equals ∷ expr value ∷ leaves tokens.now
+        ≡ command (command_of r.0) (leaves r.1.now)) }
     ensures flat { IfOk result (λ r. IsFlat (command_of r.0)) }
-    ensures places { IfOk result (λ r.
-        PlacedBehind (λ at b. WordAt at target (k.Name ∷ k.Equals ∷ expr value ∷ b)
-        × ExprAt at value b) (λ at b. CommandAt at (command_of r.0) b) tokens.now r.1.now) }
     ensures taken { IfOk result (λ r. Accepts (m.look_up_or_end ∷ []) tokens.now r.1.now) }
     ensures fault { IfErr result (λ e. FailsAt e (m.look_up_or_end ∷ []) tokens.now) }
 {
@@ -67,12 +60,9 @@ fn looked_up(
 
 /// `x = new ( ) ;` after its `new`.
 fn made(target: Word, tokens: &[Token]) -> Result<(SurfaceCommand, &[Token]), Stop>
-    ensures spelled { IfOk result (λ r. k.Name ∷ k.Equals ∷ k.New ∷ kinds tokens.now
-        ≡ command (command_of r.0) (kinds r.1.now)) }
+    ensures spelled { IfOk result (λ r. k.Name target ∷ k.Equals ∷ k.New ∷ leaves tokens.now
+        ≡ command (command_of r.0) (leaves r.1.now)) }
     ensures flat { IfOk result (λ r. IsFlat (command_of r.0)) }
-    ensures places { IfOk result (λ r.
-        PlacedBehind (λ at b. WordAt at target (k.Name ∷ k.Equals ∷ k.New ∷ b))
-        (λ at b. CommandAt at (command_of r.0) b) tokens.now r.1.now) }
     ensures taken { IfOk result (λ r.
         Accepts (m.exact m.open_round ∷ m.exact m.close_round ∷ m.exact m.semicolon
         ∷ []) tokens.now r.1.now) }
@@ -89,12 +79,9 @@ fn made(target: Word, tokens: &[Token]) -> Result<(SurfaceCommand, &[Token]), St
 /// A command after its `x =`.
 #[tactic(auto, using(crate::proofs::Parser::Heads::heads))]
 fn assigned(target: Word, tokens: &[Token]) -> Result<(SurfaceCommand, &[Token]), Stop>
-    ensures spelled { IfOk result (λ r. k.Name ∷ k.Equals ∷ kinds tokens.now
-        ≡ command (command_of r.0) (kinds r.1.now)) }
+    ensures spelled { IfOk result (λ r. k.Name target ∷ k.Equals ∷ leaves tokens.now
+        ≡ command (command_of r.0) (leaves r.1.now)) }
     ensures flat { IfOk result (λ r. IsFlat (command_of r.0)) }
-    ensures places { IfOk result (λ r.
-        PlacedBehind (λ at b. WordAt at target (k.Name ∷ k.Equals ∷ b))
-        (λ at b. CommandAt at (command_of r.0) b) tokens.now r.1.now) }
     ensures taken { IfOk result (λ r. Accepts (m.assigned ∷ []) tokens.now r.1.now) }
     ensures fault { IfErr result (λ e. FailsAt e (m.assigned ∷ []) tokens.now) }
 {
@@ -108,9 +95,7 @@ fn assigned(target: Word, tokens: &[Token]) -> Result<(SurfaceCommand, &[Token])
 /// The second call of a fork, after the `||`.
 fn forked(alloc: Global, tokens: &[Token]) -> Result<(SurfaceCall, &[Token]), Stop>
     ensures spelled { IfOk result (λ r.
-        kinds tokens.now ≡ g.call (call_of r.0) (k.Semicolon ∷ kinds r.1.now)) }
-    ensures places { IfOk result (λ r.
-        Placed (λ at b. CallAt at (call_of r.0) (k.Semicolon ∷ b)) tokens.now r.1.now) }
+        leaves tokens.now ≡ g.call (call_of r.0) (k.Semicolon ∷ leaves r.1.now)) }
     ensures taken { IfOk result (λ r. Accepts m.forked_predicted tokens.now r.1.now) }
     ensures fault { IfErr result (λ e. FailsAt e m.forked_predicted tokens.now) }
 {
@@ -128,12 +113,9 @@ fn called(
     procedure: Word,
     tokens: &[Token],
 ) -> Result<(SurfaceCommand, &[Token]), Stop>
-    ensures spelled { IfOk result (λ r. k.Name ∷ k.OpenRound ∷ kinds tokens.now
-        ≡ command (command_of r.0) (kinds r.1.now)) }
+    ensures spelled { IfOk result (λ r. k.Name procedure ∷ k.OpenRound ∷ leaves tokens.now
+        ≡ command (command_of r.0) (leaves r.1.now)) }
     ensures flat { IfOk result (λ r. IsFlat (command_of r.0)) }
-    ensures places { IfOk result (λ r.
-        PlacedBehind (λ at b. WordAt at procedure (k.Name ∷ k.OpenRound ∷ b))
-        (λ at b. CommandAt at (command_of r.0) b) tokens.now r.1.now) }
     ensures taken { IfOk result (λ r.
         Accepts (m.maybe_arguments ∷ m.exact m.close_round ∷ m.after_call
         ∷ []) tokens.now r.1.now) }
@@ -160,11 +142,8 @@ pub fn named(
     tokens: &[Token],
 ) -> Result<(SurfaceCommand, &[Token]), Stop>
     ensures spelled { IfOk result (λ r.
-        k.Name ∷ kinds tokens.now ≡ command (command_of r.0) (kinds r.1.now)) }
+        k.Name first ∷ leaves tokens.now ≡ command (command_of r.0) (leaves r.1.now)) }
     ensures flat { IfOk result (λ r. IsFlat (command_of r.0)) }
-    ensures places { IfOk result (λ r.
-        PlacedBehind (λ at b. WordAt at first (k.Name ∷ b))
-        (λ at b. CommandAt at (command_of r.0) b) tokens.now r.1.now) }
     ensures taken { IfOk result (λ r. Accepts (m.named ∷ []) tokens.now r.1.now) }
     ensures fault { IfErr result (λ e. FailsAt e (m.named ∷ []) tokens.now) }
 {
@@ -184,11 +163,8 @@ pub fn named(
 #[tactic(auto, using(crate::proofs::Parser::Heads::heads))]
 pub fn disposed(place: Place, tokens: &[Token]) -> Result<(SurfaceCommand, &[Token]), Stop>
     ensures spelled { IfOk result (λ r.
-        k.Dispose ∷ kinds tokens.now ≡ command (command_of r.0) (kinds r.1.now)) }
+        k.Dispose place ∷ leaves tokens.now ≡ command (command_of r.0) (leaves r.1.now)) }
     ensures flat { IfOk result (λ r. IsFlat (command_of r.0)) }
-    ensures places { IfOk result (λ r.
-        PlacedBehind (λ at b. PlaceAt at place (k.Dispose ∷ b))
-        (λ at b. CommandAt at (command_of r.0) b) tokens.now r.1.now) }
     ensures taken { IfOk result (λ r. Accepts (m.disposed ∷ []) tokens.now r.1.now) }
     ensures fault { IfErr result (λ e. FailsAt e (m.disposed ∷ []) tokens.now) }
 {

@@ -52,7 +52,7 @@ mutual
   conjunct_within : {fields : List (List ℕ)} {V : Var → Type 0} {i : Env} → Sees fields V i → (made : List Scope) (l : Levels) → AreMade made l.reach → (x : s.Conjunct) → AreReached i.bytes l.reach (words_in_conjunct x) → conjunct_faults i x ≡ []
       → ConjunctsWithin fields V made (conjuncts (conjunct_of i l x))
   conjunct_within see made l m (s.emp p) r h = tt
-  conjunct_within see made l m (s.group p a) r h = conjuncts_within see made l m a r h
+  conjunct_within see made l m (s.group a) r h = conjuncts_within see made l m a r h
   conjunct_within {i = i} see made l m (s.choose p t a b) r h =
       let all = none_three (test_faults (operand_faults i) t) (assertion_faults i a) (assertion_faults i b) h in
       let n : Levels = after_level i.bytes l a in (

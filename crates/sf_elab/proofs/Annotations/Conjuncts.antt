@@ -83,7 +83,7 @@ kept_by_all bytes r l (w ∷ ws) p = kept_by_all bytes r (meet bytes l w) ws (ke
 mutual
   same_reach_one : (bytes : List ℕ) (l : Levels) (d : surface.Conjunct) → Levels.reach (after_conjunct bytes l d) ≡ l.reach
   same_reach_one bytes l (surface.emp p) = refl
-  same_reach_one bytes l (surface.group p a) = same_reach bytes l a
+  same_reach_one bytes l (surface.group a) = same_reach bytes l a
   same_reach_one bytes l (surface.choose p t a b) = refl
   same_reach_one bytes l (surface.choose_round p t a b) = refl
   same_reach_one bytes l (surface.equal x y) = refl

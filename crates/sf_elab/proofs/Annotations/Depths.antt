@@ -23,7 +23,7 @@ conjuncts_joined (x ∷ xs) ys = omega (arith, conjuncts_joined xs ys)
 mutual
   conjunct_no_deeper : (i : Env) (l : Levels) (x : s.Conjunct) → conjuncts_depth (conjuncts (conjunct_of i l x)) ≤ d.conjunct_depth x
   conjunct_no_deeper i l (s.emp p) = omega arith
-  conjunct_no_deeper i l (s.group p a) = omega (arith, conjuncts_no_deeper i l a)
+  conjunct_no_deeper i l (s.group a) = omega (arith, conjuncts_no_deeper i l a)
   conjunct_no_deeper i l (s.choose p t a b) =
       omega (arith, conjuncts_no_deeper i (opened i.bytes l a) a, conjuncts_no_deeper i (opened i.bytes (after_level i.bytes l a) b) b)
   conjunct_no_deeper i l (s.choose_round p t a b) =
@@ -62,7 +62,7 @@ mutual
   command_no_deeper i (s.with p r t x) = omega (arith, command_no_deeper i x)
   command_no_deeper i (s.call x) = omega arith
   command_no_deeper i (s.fork x y) = omega arith
-  command_no_deeper i (s.block p xs) = omega (arith, commands_no_deeper i xs)
+  command_no_deeper i (s.block p xs q) = omega (arith, commands_no_deeper i xs)
 
   pub commands_no_deeper : (i : Env) (xs : s.Commands) → block_depth (block (commands_of i xs)) ≤ d.commands_depth xs
   commands_no_deeper i s.done = omega arith

@@ -101,7 +101,7 @@ both_grown bytes l m a b e g h =
 mutual
   conjunct_grown : (bytes : List ℕ) (l : Levels) (d : s.Conjunct) → IsGrown l.names (Levels.names (after_conjunct bytes l d))
   conjunct_grown bytes l (s.emp p) = same_names l.names
-  conjunct_grown bytes l (s.group p a) = after_grown bytes l a
+  conjunct_grown bytes l (s.group a) = after_grown bytes l a
   conjunct_grown bytes l (s.choose p t a b) =
       let m : Levels = after_level bytes l a in
       both_grown bytes l m a b refl (after_grown bytes (opened bytes l a) a) (after_grown bytes (opened bytes m b) b)

@@ -59,7 +59,7 @@ scopes_joined (x ∷ xs) ys rest = ap (conjunct_scopes x) (scopes_joined xs ys r
 mutual
   counts_one : (i : Env) (l : Levels) (d : s.Conjunct) (rest : List Scope) (to : ℕ) → Counts (length (Levels.names (after_conjunct i.bytes l d))) rest to → Counts (length l.names) (conjuncts_scopes (conjuncts (conjunct_of i l d)) rest) to
   counts_one i l (s.emp p) rest to h = h
-  counts_one i l (s.group p a) rest to h = counts_all i l a rest to h
+  counts_one i l (s.group a) rest to h = counts_all i l a rest to h
   counts_one i l (s.choose p t a b) rest to h =
       level_counts i.bytes l a _ to (counts_all i (opened i.bytes l a) a _ to (level_counts i.bytes (after_level i.bytes l a) b _ to (counts_all i (opened i.bytes (after_level i.bytes l a) b) b rest to h)))
   counts_one i l (s.choose_round p t a b) rest to h =

@@ -32,7 +32,7 @@ mutual
   setter (call one) w h = (call one, refl, h)
   setter (fork one other) w h =
       (fork one other, refl, Contains-append_cases (references_in one.arguments) (references_in other.arguments) w h)
-  setter (block p cs) w h = let part = setter_in cs w h in (part.0, inr part.1, part.2)
+  setter (block p cs q) w h = let part = setter_in cs w h in (part.0, inr part.1, part.2)
 
   setter_in : (cs : Commands) (w : Word) → Contains (set_in_all cs) w
       → (d : Command) × IsPartOfAll d cs × Sets d w
@@ -67,8 +67,8 @@ mutual
       either (subst (λ z. Sets z w) i s)
       (λ k. Contains-append_left (references_in one.arguments) (references_in other.arguments) w k)
       (λ k. Contains-append_right (references_in one.arguments) (references_in other.arguments) w k)
-  collected (block p cs) w d (inl i) s = absurd (subst (λ z. Sets z w) i s)
-  collected (block p cs) w d (inr i) s = collected_in cs w d i s
+  collected (block p cs q) w d (inl i) s = absurd (subst (λ z. Sets z w) i s)
+  collected (block p cs q) w d (inr i) s = collected_in cs w d i s
 
   collected_in : (cs : Commands) (w : Word) (d : Command) → IsPartOfAll d cs → Sets d w
       → Contains (set_in_all cs) w

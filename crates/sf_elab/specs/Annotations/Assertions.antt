@@ -83,7 +83,7 @@ abbrev mutual
   -- a conjunct: none of `emp`, and those inside parentheses
   pub conjunct_of : Env → Levels → Conjunct → List (c.Conjunct Expr)
   conjunct_of s l (emp p) = []
-  conjunct_of s l (group p a) = conjuncts_of s l a
+  conjunct_of s l (group a) = conjuncts_of s l a
   conjunct_of s l (choose p t a b) = choice_of s l p t a b (conjuncts_of s (opened s.bytes l a) a) (conjuncts_of s (opened s.bytes (after_level s.bytes l a) b) b) ∷ []
   conjunct_of s l (choose_round p t a b) = choice_of s l p t a b (conjuncts_of s (opened s.bytes l a) a) (conjuncts_of s (opened s.bytes (after_level s.bytes l a) b) b) ∷ []
   conjunct_of s l (equal x y) = c.holds (operand_place x) (Equal (operand_of s l x) (operand_of s l y)) ∷ []
@@ -108,7 +108,7 @@ abbrev mutual
   -- in a conjunct: in its operands and fields, in its branches, and for lack of the fields that it follows
   pub conjunct_faults : Env → Conjunct → List Fault
   conjunct_faults s (emp p) = []
-  conjunct_faults s (group p a) = assertion_faults s a
+  conjunct_faults s (group a) = assertion_faults s a
   conjunct_faults s (choose p t a b) = test_faults (operand_faults s) t ++ assertion_faults s a ++ assertion_faults s b
   conjunct_faults s (choose_round p t a b) = test_faults (operand_faults s) t ++ assertion_faults s a ++ assertion_faults s b
   conjunct_faults s (equal x y) = operand_faults s x ++ operand_faults s y

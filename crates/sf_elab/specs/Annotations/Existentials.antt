@@ -35,7 +35,7 @@ abbrev mutual
   -- in a conjunct
   pub words_in_conjunct : Conjunct → List Word
   words_in_conjunct (emp p) = []
-  words_in_conjunct (group p a) = words_in a
+  words_in_conjunct (group a) = words_in a
   words_in_conjunct (choose p t a b) = words_in_test t
   words_in_conjunct (choose_round p t a b) = words_in_test t
   words_in_conjunct (equal x y) = words_in_operand x ++ words_in_operand y
@@ -83,7 +83,7 @@ abbrev mutual
   -- a choice leaves the numbers of its branches taken, and nothing of them in reach
   pub after_conjunct : List ℕ → Levels → Conjunct → Levels
   after_conjunct bytes l (emp p) = l
-  after_conjunct bytes l (group p a) = after bytes l a
+  after_conjunct bytes l (group a) = after bytes l a
   after_conjunct bytes l (choose p t a b) =
       let m = closed l (after bytes (opened bytes l a) a) in
       closed m (after bytes (opened bytes m b) b)

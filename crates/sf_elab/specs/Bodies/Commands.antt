@@ -68,7 +68,7 @@ abbrev mutual
   command_of s (with p r t d) = c.with p (resource_named s r) (test_of (expr_of s) t) (v.block (command_of s d)) ∷ []
   command_of s (call d) = c.call d.name.place (call_of s d) ∷ []
   command_of s (fork d b) = c.fork d.name.place (call_of s d) (call_of s b) ∷ []
-  command_of s (block p ds) = commands_of s ds
+  command_of s (block p ds q) = commands_of s ds
 
   -- several, one after the other
   pub commands_of : Env → Commands → List c.Command
@@ -91,7 +91,7 @@ abbrev mutual
   command_faults s (with p r t d) = resource_faults s r ++ test_faults (expr_faults s) t ++ command_faults s d
   command_faults s (call d) = call_faults s d
   command_faults s (fork d b) = call_faults s d ++ call_faults s b
-  command_faults s (block p ds) = commands_faults s ds
+  command_faults s (block p ds q) = commands_faults s ds
 
   -- in each of several
   pub commands_faults : Env → Commands → List Fault
@@ -114,7 +114,7 @@ abbrev mutual
   set_in (with p r t d) = set_in d
   set_in (call d) = references_in d.arguments
   set_in (fork d b) = references_in d.arguments ++ references_in b.arguments
-  set_in (block p ds) = set_in_all ds
+  set_in (block p ds q) = set_in_all ds
 
   -- in each of several
   pub set_in_all : Commands → List Word

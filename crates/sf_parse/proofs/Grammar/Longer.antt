@@ -5,29 +5,29 @@ use Rattle.sf_ast.specs.declared.assertion.SurfaceField.{SurfaceField}
 use Rattle.sf_ast.specs.declared.word.SurfaceTest.{SurfaceTest}
 use Rattle.sf_ast.specs.declared.word.SurfaceTest.TheVariants as t
 use Rattle.sf_ast.specs.Surface as s
-use Rattle.sf_lex.specs.declared.token.Kind.{Kind}
-use Rattle.sf_lex.specs.declared.token.Kind.TheVariants as k
+use Rattle.sf_parse.specs.Leaf.{Leaf}
+use Rattle.sf_parse.specs.Leaf as k
 use Rattle.sf_lex.specs.declared.token.Token.{Token}
 use Rattle.sf_parse.specs.Grammar as g
-use Rattle.sf_parse.specs.Parsing.{kinds}
+use Rattle.sf_parse.specs.Leaf.{leaf, leaves}
 
-pub test_longer : {E : Type 0} (kind : E → Kind) (b : SurfaceTest E) (r : List Kind) → length r < length (g.test kind b r)
-test_longer kind (t.True p) r = omega arith
-test_longer kind (t.Equal x y) r = omega arith
-test_longer kind (t.Differ x y) r = omega arith
+pub test_longer : {E : Type 0} (side : E → Leaf) (b : SurfaceTest E) (r : List Leaf) → length r < length (g.test side b r)
+test_longer side (t.True p) r = omega arith
+test_longer side (t.Equal x y) r = omega arith
+test_longer side (t.Differ x y) r = omega arith
 
-pub more_fields_longer : (fs : List SurfaceField) (r : List Kind) → length r ≤ length (g.more_fields fs r)
+pub more_fields_longer : (fs : List SurfaceField) (r : List Leaf) → length r ≤ length (g.more_fields fs r)
 more_fields_longer [] r = omega arith
 more_fields_longer (f ∷ fs) r = omega (arith, more_fields_longer fs r)
 
-pub maybe_fields_longer : (fs : List SurfaceField) (r : List Kind) → length r ≤ length (g.maybe_fields fs r)
+pub maybe_fields_longer : (fs : List SurfaceField) (r : List Leaf) → length r ≤ length (g.maybe_fields fs r)
 maybe_fields_longer [] r = omega arith
 maybe_fields_longer (f ∷ fs) r = omega (arith, more_fields_longer fs r)
 
 mutual
-  pub conjunct_longer : (c : s.Conjunct) (r : List Kind) → length r < length (g.conjunct c r)
+  pub conjunct_longer : (c : s.Conjunct) (r : List Leaf) → length r < length (g.conjunct c r)
   conjunct_longer (s.emp p) r = omega arith
-  conjunct_longer (s.group p a) r = omega (arith, assertion_longer a (k.CloseRound ∷ r))
+  conjunct_longer (s.group a) r = omega (arith, assertion_longer a (k.CloseRound ∷ r))
   conjunct_longer (s.choose p b x y) r =
       omega (arith, test_longer g.operand b (k.Then ∷ g.assertion x (k.Else ∷ g.assertion y r)), assertion_longer x (k.Else ∷ g.assertion y r), assertion_longer y r)
   conjunct_longer (s.choose_round p b x y) r =
@@ -40,10 +40,10 @@ mutual
   conjunct_longer (s.list p x) r = omega arith
   conjunct_longer (s.tree p x) r = omega arith
 
-  pub assertion_longer : (a : s.Assertion) (r : List Kind) → length r < length (g.assertion a r)
+  pub assertion_longer : (a : s.Assertion) (r : List Leaf) → length r < length (g.assertion a r)
   assertion_longer (s.only c) r = conjunct_longer c r
   assertion_longer (s.star c a) r = omega (arith, conjunct_longer c (k.Star ∷ g.assertion a r), assertion_longer a r)
 
--- fewer kinds are fewer tokens
-pub fewer : (ts us : List Token) → length (kinds ts) < length (kinds us) → length ts < length us
-fewer ts us h = omega (arith, length-map ts (λ (t : Token). t.kind), length-map us (λ (t : Token). t.kind))
+-- fewer leaves are fewer tokens
+pub fewer : (ts us : List Token) → length (leaves ts) < length (leaves us) → length ts < length us
+fewer ts us h = omega (arith, length-map ts leaf, length-map us leaf)

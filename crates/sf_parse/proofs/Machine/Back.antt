@@ -7,49 +7,43 @@ use Rattle.sf_ast.specs.declared.word.SurfaceOperand.{SurfaceOperand}
 use Rattle.sf_ast.specs.declared.word.SurfaceOperand.TheVariants as v
 use Rattle.sf_ast.specs.declared.word.Word.{Word}
 use Rattle.sf_ast.specs.Surface as s
-use Rattle.sf_lex.specs.declared.token.Kind.{Kind}
-use Rattle.sf_lex.specs.declared.token.Kind.TheVariants as k
+use Rattle.sf_parse.specs.Leaf.{Leaf}
+use Rattle.sf_parse.specs.Leaf as k
 use Rattle.sf_parse.specs.Grammar as g
 use Rattle.sf_parse.specs.Internal.Heads.{IsFlat}
 use Rattle.sf_parse.specs.Internal.Machine as m
-use Rattle.sf_parse.specs.Internal.Machine.{Predicted, Choice, take, skip, refuse, Next, goes, bad, deep, leveled, chosen, choice, is_free, step, or_skip, terminal_kind, on_exact, on_expression, on_operand, on_conjunct, on_command}
+use Rattle.sf_parse.specs.Internal.Machine.{Predicted, Choice, take, skip, refuse, Next, goes, bad, deep, leveled, chosen, choice, is_free, step, or_skip, terminal_leaf, on_exact, on_expression, on_operand, on_conjunct, on_command}
 use Rattle.sf_parse.specs.Nesting.{has_level, NotElse, Follows, ConjunctWithin, AssertionWithin, MaybeWithin, CommandWithin, CommandsWithin}
 use Rattle.sf_parse.specs.Internal.Parser.{Ends}
 use Rattle.sf_parse.proofs.Machine.Means.{Spells, Means, MeansNext}
 
-pub a_place : Place
-a_place = record { line = 1; column = 1 }
-
-pub a_word : Word
-a_word = record { start = 0; end = 0; place = a_place }
-
 -- an expression's first token
-pub record ExprBack (n : ℕ) (u : Kind) (ss st : List Predicted) (ts : List Kind) : Type 0 where
+pub record ExprBack (n : ℕ) (u : Leaf) (ss st : List Predicted) (ts : List Leaf) : Type 0 where
   pub expr : SurfaceExpr
   pub is : u ≡ g.expr expr
   pub more : Means n (ss ++ st) ts
 
-pub expr_back : (n : ℕ) (u : Kind) (ss st : List Predicted) (w : Next) (ts : List Kind) → MeansNext n (chosen (on_expression u ss) true st w) ts → ExprBack n u ss st ts
-expr_back n k.Name ss st w ts m = record { expr = e.Name a_word; is = refl; more = m }
-expr_back n k.Nil ss st w ts m = record { expr = e.Nil a_place; is = refl; more = m }
-expr_back n k.Null ss st w ts m = record { expr = e.Null a_place; is = refl; more = m }
-expr_back n k.Number ss st w ts m = record { expr = e.Number (pos 0) a_place; is = refl; more = m }
+pub expr_back : (n : ℕ) (u : Leaf) (ss st : List Predicted) (w : Next) (ts : List Leaf) → MeansNext n (chosen (on_expression u ss) true st w) ts → ExprBack n u ss st ts
+expr_back n (k.Name x) ss st w ts m = record { expr = e.Name x; is = refl; more = m }
+expr_back n (k.Nil p) ss st w ts m = record { expr = e.Nil p; is = refl; more = m }
+expr_back n (k.Null p) ss st w ts m = record { expr = e.Null p; is = refl; more = m }
+expr_back n (k.Number i p) ss st w ts m = record { expr = e.Number i p; is = refl; more = m }
 expr_back n _ ss st w ts m = absurd m
 
-pub record OperandBack (n : ℕ) (u : Kind) (ss st : List Predicted) (ts : List Kind) : Type 0 where
+pub record OperandBack (n : ℕ) (u : Leaf) (ss st : List Predicted) (ts : List Leaf) : Type 0 where
   pub expr : SurfaceOperand
   pub is : u ≡ g.operand expr
   pub more : Means n (ss ++ st) ts
 
-known_back : (n : ℕ) (u : Kind) (ss st : List Predicted) (ts : List Kind) → ExprBack n u ss st ts → OperandBack n u ss st ts
+known_back : (n : ℕ) (u : Leaf) (ss st : List Predicted) (ts : List Leaf) → ExprBack n u ss st ts → OperandBack n u ss st ts
 known_back n u ss st ts m = record { expr = v.Known m.expr; is = m.is; more = m.more }
 
-pub operand_back : (n : ℕ) (u : Kind) (ss st : List Predicted) (w : Next) (ts : List Kind) → MeansNext n (chosen (on_operand u ss) true st w) ts → OperandBack n u ss st ts
-operand_back n k.Existential ss st w ts m = record { expr = v.Existential a_word; is = refl; more = m }
+pub operand_back : (n : ℕ) (u : Leaf) (ss st : List Predicted) (w : Next) (ts : List Leaf) → MeansNext n (chosen (on_operand u ss) true st w) ts → OperandBack n u ss st ts
+operand_back n (k.Existential x) ss st w ts m = record { expr = v.Existential x; is = refl; more = m }
 operand_back n u ss st w ts m = known_back n u ss st ts (expr_back n u ss st w ts m)
 
 -- what may be left out is there, with a level, or is left out
-pub or_skip_back : (n : ℕ) (c : Choice) (f : Bool) (st : List Predicted) (w : Next) (ts : List Kind) → MeansNext n (chosen (or_skip c) f st w) ts → ((f ≡ true) × MeansNext n (chosen c true st w) ts) ⊎ MeansNext n w ts
+pub or_skip_back : (n : ℕ) (c : Choice) (f : Bool) (st : List Predicted) (w : Next) (ts : List Leaf) → MeansNext n (chosen (or_skip c) f st w) ts → ((f ≡ true) × MeansNext n (chosen c true st w) ts) ⊎ MeansNext n w ts
 or_skip_back n (take ss) true st w ts m = inl (refl, m)
 or_skip_back n (take ss) false st w ts m = absurd m
 or_skip_back n skip f st w ts m = inr m
@@ -61,30 +55,30 @@ Accepts (take ss) = Unit {0}
 Accepts skip = ⊥
 Accepts refuse = Unit {0}
 
-pub accepts_back : (n : ℕ) (c : Choice) (f : Bool) (st : List Predicted) (w : Next) (ts : List Kind) → Accepts c → MeansNext n (chosen c f st w) ts → (f ≡ true) × MeansNext n (chosen c true st w) ts
+pub accepts_back : (n : ℕ) (c : Choice) (f : Bool) (st : List Predicted) (w : Next) (ts : List Leaf) → Accepts c → MeansNext n (chosen c f st w) ts → (f ≡ true) × MeansNext n (chosen c true st w) ts
 accepts_back n (take ss) true st w ts h m = (refl, m)
 accepts_back n (take ss) false st w ts h m = absurd m
 accepts_back n skip f st w ts h m = absurd h
 accepts_back n refuse f st w ts h m = absurd m
 
-pub command_accepts : (d : ℕ) (u : Kind) (ss : List Predicted) → Accepts (on_command d u ss)
-command_accepts d k.Name ss = tt
+pub command_accepts : (d : ℕ) (u : Leaf) (ss : List Predicted) → Accepts (on_command d u ss)
+command_accepts d (k.Name _) ss = tt
 command_accepts d _ ss = tt
 
-pub conjunct_accepts : (d : ℕ) (u : Kind) (ss : List Predicted) → Accepts (on_conjunct d u ss)
-conjunct_accepts d k.Emp ss = tt
+pub conjunct_accepts : (d : ℕ) (u : Leaf) (ss : List Predicted) → Accepts (on_conjunct d u ss)
+conjunct_accepts d (k.Emp _) ss = tt
 conjunct_accepts d _ ss = tt
 
 -- a conjunct's first token
-pub record ConjunctBack (n d : ℕ) (u : Kind) (ss st : List Predicted) (ts : List Kind) : Type 0 where
+pub record ConjunctBack (n d : ℕ) (u : Leaf) (ss st : List Predicted) (ts : List Leaf) : Type 0 where
   pub conjunct : s.Conjunct
-  pub rest : List Kind
+  pub rest : List Leaf
   pub spells : u ∷ ts ≡ g.conjunct conjunct rest
   pub within : ConjunctWithin conjunct n d rest
   pub ends : Ends conjunct rest
   pub more : Means n (ss ++ st) rest
 
-relation_back : (n d : ℕ) (u : Kind) (ss st : List Predicted) (ts : List Kind) (x : SurfaceOperand) → u ≡ g.operand x → Means n (m.relation ∷ (ss ++ st)) ts → ConjunctBack n d u ss st ts
+relation_back : (n d : ℕ) (u : Leaf) (ss st : List Predicted) (ts : List Leaf) (x : SurfaceOperand) → u ≡ g.operand x → Means n (m.relation ∷ (ss ++ st)) ts → ConjunctBack n d u ss st ts
 relation_back n d u ss st ts x h (r, p, more) = relation_cases p more
   where
     relation_cases : Spells n m.relation ts r → Means n (ss ++ st) r → ConjunctBack n d u ss st ts
@@ -92,82 +86,82 @@ relation_back n d u ss st ts x h (r, p, more) = relation_cases p more
     relation_cases (inr (inl q)) more = record { conjunct = s.differ x q.0; rest = r; spells = cc; within = tt; ends = tt; more = more }
     relation_cases (inr (inr q)) more = record { conjunct = s.points x q.0; rest = r; spells = cc; within = tt; ends = tt; more = more }
 
-group_back : (n d : ℕ) (ss st : List Predicted) (ts : List Kind) → Means n (m.assertion (d - 1) ∷ m.exact m.close_round ∷ (ss ++ st)) ts → ConjunctBack n d k.OpenRound ss st ts
+group_back : (n d : ℕ) (ss st : List Predicted) (ts : List Leaf) → Means n (m.assertion (d - 1) ∷ m.exact m.close_round ∷ (ss ++ st)) ts → ConjunctBack n d k.OpenRound ss st ts
 group_back n d ss st ts (r1, a, (r2, c, more)) =
-    let is : k.OpenRound ∷ ts ≡ g.conjunct (s.group a_place a.0) r2 = rw (← c) (ap (λ z. k.OpenRound ∷ z) a.1) in
-    record { conjunct = s.group a_place a.0; rest = r2; spells = is; within = subst (λ z. AssertionWithin a.0 n (d - 1) z) c a.2; ends = tt; more = more }
+    let is : k.OpenRound ∷ ts ≡ g.conjunct (s.group a.0) r2 = rw (← c.1) (ap (λ z. k.OpenRound ∷ z) a.1) in
+    record { conjunct = s.group a.0; rest = r2; spells = is; within = subst (λ z. AssertionWithin a.0 n (d - 1) z) c.1 a.2; ends = tt; more = more }
 
-choose_back : (n d : ℕ) (ss st : List Predicted) (ts : List Kind) → Means n (m.if_test ∷ m.exact m.then_word ∷ m.assertion (d - 1) ∷ m.exact m.else_word ∷ m.assertion (d - 1) ∷ (ss ++ st)) ts → ConjunctBack n d k.If ss st ts
-choose_back n d ss st ts (r1, b, (r2, c, (r3, x, (r4, q, (r5, y, more))))) = test_cases b
+choose_back : (n d : ℕ) (p : Place) (ss st : List Predicted) (ts : List Leaf) → Means n (m.if_test ∷ m.exact m.then_word ∷ m.assertion (d - 1) ∷ m.exact m.else_word ∷ m.assertion (d - 1) ∷ (ss ++ st)) ts → ConjunctBack n d (k.If p) ss st ts
+choose_back n d p ss st ts (r1, b, (r2, c, (r3, x, (r4, q, (r5, y, more))))) = test_cases b
   where
     tail : r2 ≡ g.assertion x.0 (k.Else ∷ g.assertion y.0 r5)
-    tail = x.1 ∙ ap (λ z. g.assertion x.0 z) (q ∙ ap (λ z. k.Else ∷ z) y.1)
+    tail = x.1 ∙ ap (λ z. g.assertion x.0 z) (q.1 ∙ ap (λ z. k.Else ∷ z) y.1)
 
     whole : r1 ≡ k.Then ∷ g.assertion x.0 (k.Else ∷ g.assertion y.0 r5)
-    whole = c ∙ ap (λ z. k.Then ∷ z) tail
+    whole = c.1 ∙ ap (λ z. k.Then ∷ z) tail
 
     first : AssertionWithin x.0 n (d - 1) (k.Else ∷ g.assertion y.0 r5)
-    first = subst (λ z. AssertionWithin x.0 n (d - 1) z) (q ∙ ap (λ z. k.Else ∷ z) y.1) x.2
+    first = subst (λ z. AssertionWithin x.0 n (d - 1) z) (q.1 ∙ ap (λ z. k.Else ∷ z) y.1) x.2
 
-    test_cases : Spells n m.if_test ts r1 → ConjunctBack n d k.If ss st ts
+    test_cases : Spells n m.if_test ts r1 → ConjunctBack n d (k.If p) ss st ts
     test_cases (inl h) = record {
-      conjunct = s.choose a_place h.0 x.0 y.0;
+      conjunct = s.choose p h.0 x.0 y.0;
       rest = r5;
-      spells = ap (λ z. k.If ∷ z) (h.1 ∙ ap (λ z. g.test g.operand h.0 z) whole);
+      spells = ap (λ z. k.If p ∷ z) (h.1 ∙ ap (λ z. g.test g.operand h.0 z) whole);
       within = (first, y.2);
       ends = y.3;
       more = more;
     }
     test_cases (inr h) = record {
-      conjunct = s.choose_round a_place h.0 x.0 y.0;
+      conjunct = s.choose_round p h.0 x.0 y.0;
       rest = r5;
-      spells = ap (λ z. k.If ∷ z) (h.1 ∙ ap (λ z. k.OpenRound ∷ g.test g.operand h.0 (k.CloseRound ∷ z)) whole);
+      spells = ap (λ z. k.If p ∷ z) (h.1 ∙ ap (λ z. k.OpenRound ∷ g.test g.operand h.0 (k.CloseRound ∷ z)) whole);
       within = (first, y.2);
       ends = y.3;
       more = more;
     }
 
-pub conjunct_back : (n d : ℕ) (u : Kind) (ss st : List Predicted) (w : Next) (ts : List Kind) → MeansNext n (chosen (on_conjunct d u ss) true st w) ts → ConjunctBack n d u ss st ts
-conjunct_back n d k.Emp ss st w ts q = record { conjunct = s.emp a_place; rest = ts; spells = refl; within = tt; ends = tt; more = q }
+pub conjunct_back : (n d : ℕ) (u : Leaf) (ss st : List Predicted) (w : Next) (ts : List Leaf) → MeansNext n (chosen (on_conjunct d u ss) true st w) ts → ConjunctBack n d u ss st ts
+conjunct_back n d (k.Emp p) ss st w ts q = record { conjunct = s.emp p; rest = ts; spells = refl; within = tt; ends = tt; more = q }
 conjunct_back n d k.OpenRound ss st w ts q = group_back n d ss st ts q
-conjunct_back n d k.If ss st w ts q = choose_back n d ss st ts q
-conjunct_back n d k.Ls ss st w ts (r1, a, (r2, x, (r3, b, (r4, y, (r5, c, more))))) = record { conjunct = s.ls a_place x.0 y.0; rest = r5; spells = cc; within = tt; ends = tt; more = more }
-conjunct_back n d k.Lseg ss st w ts (r1, a, (r2, x, (r3, b, (r4, y, (r5, c, more))))) = record { conjunct = s.lseg a_place x.0 y.0; rest = r5; spells = cc; within = tt; ends = tt; more = more }
-conjunct_back n d k.List ss st w ts (r1, a, (r2, x, (r3, c, more))) = record { conjunct = s.list a_place x.0; rest = r3; spells = cc; within = tt; ends = tt; more = more }
-conjunct_back n d k.Tree ss st w ts (r1, a, (r2, x, (r3, c, more))) = record { conjunct = s.tree a_place x.0; rest = r3; spells = cc; within = tt; ends = tt; more = more }
+conjunct_back n d (k.If p) ss st w ts q = choose_back n d p ss st ts q
+conjunct_back n d (k.Ls p) ss st w ts (r1, a, (r2, x, (r3, b, (r4, y, (r5, c, more))))) = record { conjunct = s.ls p x.0 y.0; rest = r5; spells = cc; within = tt; ends = tt; more = more }
+conjunct_back n d (k.Lseg p) ss st w ts (r1, a, (r2, x, (r3, b, (r4, y, (r5, c, more))))) = record { conjunct = s.lseg p x.0 y.0; rest = r5; spells = cc; within = tt; ends = tt; more = more }
+conjunct_back n d (k.List p) ss st w ts (r1, a, (r2, x, (r3, c, more))) = record { conjunct = s.list p x.0; rest = r3; spells = cc; within = tt; ends = tt; more = more }
+conjunct_back n d (k.Tree p) ss st w ts (r1, a, (r2, x, (r3, c, more))) = record { conjunct = s.tree p x.0; rest = r3; spells = cc; within = tt; ends = tt; more = more }
 conjunct_back n d u ss st w ts q =
     let o = operand_back n u (m.relation ∷ ss) st w ts q in
     relation_back n d u ss st ts o.expr o.is o.more
 
 -- a command's first token
-pub record CommandBack (n d : ℕ) (u : Kind) (ss st : List Predicted) (ts : List Kind) : Type 0 where
+pub record CommandBack (n d : ℕ) (u : Leaf) (ss st : List Predicted) (ts : List Leaf) : Type 0 where
   pub command : s.Command
-  pub rest : List Kind
+  pub rest : List Leaf
   pub spells : u ∷ ts ≡ g.command command rest
   pub within : has_level n (suc (length ts)) d ≡ true → CommandWithin command n d rest
   pub follows : Follows command rest
   pub more : Means n (ss ++ st) rest
 
 -- the level of a command is that of its first token
-level_of : (n d : ℕ) (u : Kind) (ts : List Kind) (whole : List Kind) → u ∷ ts ≡ whole → has_level n (suc (length ts)) d ≡ true → has_level n (length whole) d ≡ true
+level_of : (n d : ℕ) (u : Leaf) (ts : List Leaf) (whole : List Leaf) → u ∷ ts ≡ whole → has_level n (suc (length ts)) d ≡ true → has_level n (length whole) d ≡ true
 level_of n d u ts whole e h = subst (λ z. has_level n (length z) d ≡ true) e h
 
-flat_within : (c : s.Command) (n d : ℕ) (r : List Kind) → IsFlat c → has_level n (length (g.command c r)) d ≡ true → CommandWithin c n d r
+flat_within : (c : s.Command) (n d : ℕ) (r : List Leaf) → IsFlat c → has_level n (length (g.command c r)) d ≡ true → CommandWithin c n d r
 flat_within (s.if_alone p b c) n d r f h = absurd f
 flat_within (s.if p b c e) n d r f h = absurd f
 flat_within (s.while p b x c) n d r f h = absurd f
 flat_within (s.with p x b c) n d r f h = absurd f
-flat_within (s.block p cs) n d r f h = absurd f
+flat_within (s.block p cs o) n d r f h = absurd f
 flat_within _ n d r f h = h
 
-flat_follows : (c : s.Command) (r : List Kind) → IsFlat c → Follows c r
+flat_follows : (c : s.Command) (r : List Leaf) → IsFlat c → Follows c r
 flat_follows (s.if_alone p b c) r f = absurd f
 flat_follows (s.if p b c e) r f = absurd f
 flat_follows (s.while p b x c) r f = absurd f
 flat_follows (s.with p x b c) r f = absurd f
 flat_follows _ r f = tt
 
-flat_back : (n d : ℕ) (u : Kind) (ss st : List Predicted) (ts : List Kind) (c : s.Command) (r : List Kind) → IsFlat c → u ∷ ts ≡ g.command c r → Means n (ss ++ st) r → CommandBack n d u ss st ts
+flat_back : (n d : ℕ) (u : Leaf) (ss st : List Predicted) (ts : List Leaf) (c : s.Command) (r : List Leaf) → IsFlat c → u ∷ ts ≡ g.command c r → Means n (ss ++ st) r → CommandBack n d u ss st ts
 flat_back n d u ss st ts c r f is more = record {
   command = c;
   rest = r;
@@ -178,7 +172,7 @@ flat_back n d u ss st ts c r f is more = record {
 }
 
 -- what follows the `else` of a command may follow it
-pub follows_else : (c : s.Command) (r q : List Kind) → Follows c (k.Else ∷ r) → Follows c (k.Else ∷ q)
+pub follows_else : (c : s.Command) (r q : List Leaf) → Follows c (k.Else ∷ r) → Follows c (k.Else ∷ q)
 follows_else (s.if_alone p b c) r q f = f
 follows_else (s.if p b c d) r q f = follows_else d r q f
 follows_else (s.while p b x c) r q f = follows_else c r q f
@@ -191,21 +185,21 @@ follows_else (s.dispose p a) r q f = tt
 follows_else (s.dispose_round p a) r q f = tt
 follows_else (s.call c) r q f = tt
 follows_else (s.fork c b) r q f = tt
-follows_else (s.block p cs) r q f = tt
+follows_else (s.block p cs o) r q f = tt
 
-if_back : (n d : ℕ) (ss st : List Predicted) (ts : List Kind) → Means n (m.exact m.open_round ∷ m.test ∷ m.exact m.close_round ∷ m.command (d - 1) ∷ m.branch (d - 1) ∷ (ss ++ st)) ts → CommandBack n d k.If ss st ts
-if_back n d ss st ts (r1, a, (r2, b, (r3, q, (r4, c, (r5, x, more))))) = branch_cases x more
+if_back : (n d : ℕ) (p : Place) (ss st : List Predicted) (ts : List Leaf) → Means n (m.exact m.open_round ∷ m.test ∷ m.exact m.close_round ∷ m.command (d - 1) ∷ m.branch (d - 1) ∷ (ss ++ st)) ts → CommandBack n d (k.If p) ss st ts
+if_back n d p ss st ts (r1, a, (r2, b, (r3, q, (r4, c, (r5, x, more))))) = branch_cases x more
   where
-    whole : (z : List Kind) → r4 ≡ z → k.If ∷ ts ≡ k.If ∷ k.OpenRound ∷ g.test g.expr b.0 (k.CloseRound ∷ g.command c.0 z)
-    whole z h = ap (λ y. k.If ∷ y) (a ∙ ap (λ y. k.OpenRound ∷ y) (b.1 ∙ ap (λ y. g.test g.expr b.0 y) (q ∙ ap (λ y. k.CloseRound ∷ y) (c.1 ∙ ap (λ y. g.command c.0 y) h))))
+    whole : (z : List Leaf) → r4 ≡ z → k.If p ∷ ts ≡ k.If p ∷ k.OpenRound ∷ g.test g.expr b.0 (k.CloseRound ∷ g.command c.0 z)
+    whole z h = ap (λ y. k.If p ∷ y) (a.1 ∙ ap (λ y. k.OpenRound ∷ y) (b.1 ∙ ap (λ y. g.test g.expr b.0 y) (q.1 ∙ ap (λ y. k.CloseRound ∷ y) (c.1 ∙ ap (λ y. g.command c.0 y) h))))
 
-    branch_cases : Spells n (m.branch (d - 1)) r4 r5 → Means n (ss ++ st) r5 → CommandBack n d k.If ss st ts
+    branch_cases : Spells n (m.branch (d - 1)) r4 r5 → Means n (ss ++ st) r5 → CommandBack n d (k.If p) ss st ts
     branch_cases (inl (y, h, w, f)) more = record {
-      command = s.if a_place b.0 c.0 y;
+      command = s.if p b.0 c.0 y;
       rest = r5;
       spells = whole (k.Else ∷ g.command y r5) h;
       within = λ lv. (
-        level_of n d k.If ts (g.command (s.if a_place b.0 c.0 y) r5) (whole (k.Else ∷ g.command y r5) h) lv,
+        level_of n d (k.If p) ts (g.command (s.if p b.0 c.0 y) r5) (whole (k.Else ∷ g.command y r5) h) lv,
         subst (λ z. CommandWithin c.0 n (d - 1) z) h c.2,
         w,
         follows_else c.0 (g.command y r5) [] (subst (λ z. Follows c.0 z) h c.3),
@@ -214,66 +208,66 @@ if_back n d ss st ts (r1, a, (r2, b, (r3, q, (r4, c, (r5, x, more))))) = branch_
       more = more;
     }
     branch_cases (inr h) more = record {
-      command = s.if_alone a_place b.0 c.0;
+      command = s.if_alone p b.0 c.0;
       rest = r5;
       spells = whole r5 h.1;
-      within = λ lv. (level_of n d k.If ts (g.command (s.if_alone a_place b.0 c.0) r5) (whole r5 h.1) lv, subst (λ z. CommandWithin c.0 n (d - 1) z) h.1 c.2);
+      within = λ lv. (level_of n d (k.If p) ts (g.command (s.if_alone p b.0 c.0) r5) (whole r5 h.1) lv, subst (λ z. CommandWithin c.0 n (d - 1) z) h.1 c.2);
       follows = subst (λ z. NotElse z) h.1 h.0;
       more = more;
     }
 
-while_back : (n d : ℕ) (ss st : List Predicted) (ts : List Kind) → Means n (m.exact m.open_round ∷ m.test ∷ m.exact m.close_round ∷ m.maybe_annotation ∷ m.command (d - 1) ∷ (ss ++ st)) ts → CommandBack n d k.While ss st ts
-while_back n d ss st ts (r1, a, (r2, b, (r3, q, (r4, x, (r5, c, more))))) =
-    let whole : k.While ∷ ts ≡ g.command (s.while a_place b.0 x.0 c.0) r5 =
-    ap (λ y. k.While ∷ y) (a ∙ ap (λ y. k.OpenRound ∷ y) (b.1 ∙ ap (λ y. g.test g.expr b.0 y) (q ∙ ap (λ y. k.CloseRound ∷ y) (x.1 ∙ ap (λ y. g.maybe_annotation x.0 y) c.1)))) in
+while_back : (n d : ℕ) (p : Place) (ss st : List Predicted) (ts : List Leaf) → Means n (m.exact m.open_round ∷ m.test ∷ m.exact m.close_round ∷ m.maybe_annotation ∷ m.command (d - 1) ∷ (ss ++ st)) ts → CommandBack n d (k.While p) ss st ts
+while_back n d p ss st ts (r1, a, (r2, b, (r3, q, (r4, x, (r5, c, more))))) =
+    let whole : k.While p ∷ ts ≡ g.command (s.while p b.0 x.0 c.0) r5 =
+    ap (λ y. k.While p ∷ y) (a.1 ∙ ap (λ y. k.OpenRound ∷ y) (b.1 ∙ ap (λ y. g.test g.expr b.0 y) (q.1 ∙ ap (λ y. k.CloseRound ∷ y) (x.1 ∙ ap (λ y. g.maybe_annotation x.0 y) c.1)))) in
     record {
-      command = s.while a_place b.0 x.0 c.0;
+      command = s.while p b.0 x.0 c.0;
       rest = r5;
       spells = whole;
-      within = λ lv. (level_of n d k.While ts (g.command (s.while a_place b.0 x.0 c.0) r5) whole lv, subst (λ z. MaybeWithin x.0 n z) c.1 x.2, c.2);
+      within = λ lv. (level_of n d (k.While p) ts (g.command (s.while p b.0 x.0 c.0) r5) whole lv, subst (λ z. MaybeWithin x.0 n z) c.1 x.2, c.2);
       follows = c.3;
       more = more;
     }
 
-with_back : (n d : ℕ) (ss st : List Predicted) (ts : List Kind) → Means n (m.exact m.a_name ∷ m.exact m.when_word ∷ m.exact m.open_round ∷ m.test ∷ m.exact m.close_round ∷ m.command (d - 1) ∷ (ss ++ st)) ts → CommandBack n d k.With ss st ts
-with_back n d ss st ts (r0, o, (r1, a, (r2, b, (r3, t, (r4, q, (r5, c, more)))))) =
-    let whole : k.With ∷ ts ≡ g.command (s.with a_place a_word t.0 c.0) r5 =
-    ap (λ y. k.With ∷ y) (o ∙ ap (λ y. k.Name ∷ y) (a ∙ ap (λ y. k.When ∷ y) (b ∙ ap (λ y. k.OpenRound ∷ y) (t.1 ∙ ap (λ y. g.test g.expr t.0 y) (q ∙ ap (λ y. k.CloseRound ∷ y) c.1))))) in
+with_back : (n d : ℕ) (p : Place) (ss st : List Predicted) (ts : List Leaf) → Means n (m.exact m.a_name ∷ m.exact m.when_word ∷ m.exact m.open_round ∷ m.test ∷ m.exact m.close_round ∷ m.command (d - 1) ∷ (ss ++ st)) ts → CommandBack n d (k.With p) ss st ts
+with_back n d p ss st ts (r0, o, (r1, a, (r2, b, (r3, t, (r4, q, (r5, c, more)))))) =
+    let whole : k.With p ∷ ts ≡ g.command (s.with p o.0 t.0 c.0) r5 =
+    ap (λ y. k.With p ∷ y) (o.1 ∙ ap (λ y. k.Name o.0 ∷ y) (a.1 ∙ ap (λ y. k.When ∷ y) (b.1 ∙ ap (λ y. k.OpenRound ∷ y) (t.1 ∙ ap (λ y. g.test g.expr t.0 y) (q.1 ∙ ap (λ y. k.CloseRound ∷ y) c.1))))) in
     record {
-      command = s.with a_place a_word t.0 c.0;
+      command = s.with p o.0 t.0 c.0;
       rest = r5;
       spells = whole;
-      within = λ lv. (level_of n d k.With ts (g.command (s.with a_place a_word t.0 c.0) r5) whole lv, c.2);
+      within = λ lv. (level_of n d (k.With p) ts (g.command (s.with p o.0 t.0 c.0) r5) whole lv, c.2);
       follows = c.3;
       more = more;
     }
 
-block_back : (n d : ℕ) (ss st : List Predicted) (ts : List Kind) → Means n (m.commands (d - 1) ∷ m.exact m.close_brace ∷ (ss ++ st)) ts → CommandBack n d k.OpenBrace ss st ts
-block_back n d ss st ts (r1, c, (r2, q, more)) =
-    let whole : k.OpenBrace ∷ ts ≡ g.command (s.block a_place c.0) r2 = ap (λ y. k.OpenBrace ∷ y) (c.1 ∙ ap (λ y. g.commands c.0 y) q) in
+block_back : (n d : ℕ) (p : Place) (ss st : List Predicted) (ts : List Leaf) → Means n (m.commands (d - 1) ∷ m.exact m.close_brace ∷ (ss ++ st)) ts → CommandBack n d (k.OpenBrace p) ss st ts
+block_back n d p ss st ts (r1, c, (r2, q, more)) =
+    let whole : k.OpenBrace p ∷ ts ≡ g.command (s.block p c.0 q.0.place) r2 = ap (λ y. k.OpenBrace p ∷ y) (c.1 ∙ ap (λ y. g.commands c.0 y) q.1) in
     record {
-      command = s.block a_place c.0;
+      command = s.block p c.0 q.0.place;
       rest = r2;
       spells = whole;
-      within = λ lv. (level_of n d k.OpenBrace ts (g.command (s.block a_place c.0) r2) whole lv, subst (λ z. CommandsWithin c.0 n (d - 1) z) q c.2);
+      within = λ lv. (level_of n d (k.OpenBrace p) ts (g.command (s.block p c.0 q.0.place) r2) whole lv, subst (λ z. CommandsWithin c.0 n (d - 1) z) q.1 c.2);
       follows = tt;
       more = more;
     }
 
-disposed_back : (n d : ℕ) (ss st : List Predicted) (ts r : List Kind) → Spells n m.disposed ts r → Means n (ss ++ st) r → CommandBack n d k.Dispose ss st ts
-disposed_back n d ss st ts r (inl (x, h)) more = flat_back n d k.Dispose ss st ts (s.dispose_round a_place x) r tt (ap (λ y. k.Dispose ∷ y) h) more
-disposed_back n d ss st ts r (inr (x, h)) more = flat_back n d k.Dispose ss st ts (s.dispose a_place x) r tt (ap (λ y. k.Dispose ∷ y) h) more
+disposed_back : (n d : ℕ) (p : Place) (ss st : List Predicted) (ts r : List Leaf) → Spells n m.disposed ts r → Means n (ss ++ st) r → CommandBack n d (k.Dispose p) ss st ts
+disposed_back n d p ss st ts r (inl (x, h)) more = flat_back n d (k.Dispose p) ss st ts (s.dispose_round p x) r tt (ap (λ y. k.Dispose p ∷ y) h) more
+disposed_back n d p ss st ts r (inr (x, h)) more = flat_back n d (k.Dispose p) ss st ts (s.dispose p x) r tt (ap (λ y. k.Dispose p ∷ y) h) more
 
-mutate_back : (n d : ℕ) (u : Kind) (ss st : List Predicted) (ts : List Kind) (x : SurfaceExpr) → u ≡ g.expr x → Means n (m.exact m.an_arrow ∷ m.exact m.a_name ∷ m.exact m.equals ∷ m.expression ∷ m.exact m.semicolon ∷ (ss ++ st)) ts → CommandBack n d u ss st ts
-mutate_back n d u ss st ts x h (r1, a, (r2, b, (r3, c, (r4, y, (r5, q, more))))) = flat_back n d u ss st ts (s.mutate x a_word y.0) r5 tt (cc) more
+mutate_back : (n d : ℕ) (u : Leaf) (ss st : List Predicted) (ts : List Leaf) (x : SurfaceExpr) → u ≡ g.expr x → Means n (m.exact m.an_arrow ∷ m.exact m.a_name ∷ m.exact m.equals ∷ m.expression ∷ m.exact m.semicolon ∷ (ss ++ st)) ts → CommandBack n d u ss st ts
+mutate_back n d u ss st ts x h (r1, a, (r2, b, (r3, c, (r4, y, (r5, q, more))))) = flat_back n d u ss st ts (s.mutate x b.0 y.0) r5 tt (cc) more
 
-pub command_back : (n d : ℕ) (u : Kind) (ss st : List Predicted) (w : Next) (ts : List Kind) → MeansNext n (chosen (on_command d u ss) true st w) ts → CommandBack n d u ss st ts
-command_back n d k.Name ss st w ts (r, c, more) = flat_back n d k.Name ss st ts c.0 r c.1 c.2 more
-command_back n d k.Dispose ss st w ts (r, c, more) = disposed_back n d ss st ts r c more
-command_back n d k.If ss st w ts q = if_back n d ss st ts q
-command_back n d k.While ss st w ts q = while_back n d ss st ts q
-command_back n d k.With ss st w ts q = with_back n d ss st ts q
-command_back n d k.OpenBrace ss st w ts q = block_back n d ss st ts q
+pub command_back : (n d : ℕ) (u : Leaf) (ss st : List Predicted) (w : Next) (ts : List Leaf) → MeansNext n (chosen (on_command d u ss) true st w) ts → CommandBack n d u ss st ts
+command_back n d (k.Name x) ss st w ts (r, c, more) = flat_back n d (k.Name x) ss st ts (c x).0 r (c x).1 (c x).2 more
+command_back n d (k.Dispose p) ss st w ts (r, c, more) = disposed_back n d p ss st ts r c more
+command_back n d (k.If p) ss st w ts q = if_back n d p ss st ts q
+command_back n d (k.While p) ss st w ts q = while_back n d p ss st ts q
+command_back n d (k.With p) ss st w ts q = with_back n d p ss st ts q
+command_back n d (k.OpenBrace p) ss st w ts q = block_back n d p ss st ts q
 command_back n d u ss st w ts q =
     let o = expr_back n u (m.exact m.an_arrow ∷ m.exact m.a_name ∷ m.exact m.equals ∷ m.expression ∷ m.exact m.semicolon ∷ ss) st w ts q in
     mutate_back n d u ss st ts o.expr o.is o.more

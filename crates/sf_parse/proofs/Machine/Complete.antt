@@ -3,77 +3,72 @@ use Rattle.std.proofs.Common.{◌≤◌, ℕ, suc, List, [], ◌∷◌, length, 
 use Rattle.sf_ast.specs.declared.word.SurfaceExpr.TheVariants as e
 use Rattle.sf_ast.specs.declared.word.SurfaceOperand.TheVariants as v
 use Rattle.sf_ast.specs.declared.word.SurfaceTest.TheVariants as t
+use Rattle.sf_base.specs.declared.place.Place.{Place}
+use Rattle.sf_ast.specs.declared.word.Word.{Word}
 use Rattle.sf_ast.specs.Surface as s
-use Rattle.sf_lex.specs.declared.token.Kind.{Kind}
-use Rattle.sf_lex.specs.declared.token.Kind.TheVariants as k
+use Rattle.sf_parse.specs.Leaf.{Leaf}
+use Rattle.sf_parse.specs.Leaf as k
 use Rattle.sf_parse.specs.Internal.Machine as m
-use Rattle.sf_parse.specs.Internal.Machine.{Predicted, terminal_kind}
+use Rattle.sf_parse.specs.Internal.Machine.{Predicted, terminal_leaf}
 use Rattle.sf_parse.specs.Internal.Parser.{NotStar}
-use Rattle.sf_parse.proofs.Machine.Back.{a_place, a_word}
 use Rattle.sf_parse.proofs.Machine.HasLevel.{level_in}
 use Rattle.sf_parse.proofs.Machine.Means.{Spells, Means}
 
+-- some place, and some word
+abbrev pub a_place : Place
+a_place = record { line = 1; column = 1 }
+
+abbrev pub a_word : Word
+a_word = record { start = 0; end = 0; place = a_place }
+
 -- the shortest tokens of one thing owed, and then these
-abbrev pub completed : Predicted → List Kind → List Kind
-completed (m.exact u) r = terminal_kind u ∷ r
-completed m.expression r = k.Nil ∷ r
-completed m.operand r = k.Nil ∷ r
+abbrev pub completed : Predicted → List Leaf → List Leaf
+completed (m.exact u) r = terminal_leaf u a_word ∷ r
+completed m.expression r = k.Nil a_place ∷ r
+completed m.operand r = k.Nil a_place ∷ r
 completed m.equality r = k.EqualEqual ∷ r
-completed m.test r = k.True ∷ r
-completed m.operand_test r = k.True ∷ r
-completed m.if_test r = k.True ∷ r
+completed m.test r = k.True a_place ∷ r
+completed m.operand_test r = k.True a_place ∷ r
+completed m.if_test r = k.True a_place ∷ r
 completed m.more_names r = r
 completed m.maybe_names r = r
 completed m.maybe_values r = r
 completed m.maybe_arguments r = r
 completed (m.rest b) r = r
-completed (m.next b) r = k.Nil ∷ r
+completed (m.next b) r = k.Nil a_place ∷ r
 completed m.maybe_expressions r = r
 completed m.more_expressions r = r
 completed m.relation r = k.PointsTo ∷ r
 completed m.maybe_fields r = r
 completed m.more_fields r = r
-completed (m.conjunct d) r = k.Emp ∷ r
+completed (m.conjunct d) r = k.Emp a_place ∷ r
 completed (m.more_conjuncts d) r = r
-completed (m.assertion d) r = k.Emp ∷ r
+completed (m.assertion d) r = k.Emp a_place ∷ r
 completed m.maybe_assertion r = r
 completed m.maybe_annotation r = r
-completed m.named r = k.Equals ∷ k.Nil ∷ k.Semicolon ∷ r
-completed m.assigned r = k.Nil ∷ k.Semicolon ∷ r
+completed m.named r = k.Equals ∷ k.Nil a_place ∷ k.Semicolon ∷ r
+completed m.assigned r = k.Nil a_place ∷ k.Semicolon ∷ r
 completed m.look_up_or_end r = k.Semicolon ∷ r
 completed m.after_call r = k.Semicolon ∷ r
-completed m.disposed r = k.Nil ∷ k.Semicolon ∷ r
-completed (m.command d) r = k.Name ∷ k.Equals ∷ k.Nil ∷ k.Semicolon ∷ r
+completed m.disposed r = k.Nil a_place ∷ k.Semicolon ∷ r
+completed (m.command d) r = k.Name a_word ∷ k.Equals ∷ k.Nil a_place ∷ k.Semicolon ∷ r
 completed (m.commands d) r = r
-completed (m.branch d) r = k.Else ∷ k.Name ∷ k.Equals ∷ k.Nil ∷ k.Semicolon ∷ r
+completed (m.branch d) r = k.Else ∷ k.Name a_word ∷ k.Equals ∷ k.Nil a_place ∷ k.Semicolon ∷ r
 completed m.locals r = r
 completed m.item_named r = k.Semicolon ∷ r
 completed m.items r = r
 
 -- those of a stack
-abbrev pub complete : List Predicted → List Kind
+abbrev pub complete : List Predicted → List Leaf
 complete [] = []
 complete (o ∷ st) = completed o (complete st)
 
-terminal_not_star : (u : m.Terminal) (r : List Kind) → NotStar (terminal_kind u ∷ r)
-terminal_not_star m.a_name r = tt
-terminal_not_star m.an_arrow r = tt
-terminal_not_star m.equals r = tt
-terminal_not_star m.semicolon r = tt
-terminal_not_star m.open_round r = tt
-terminal_not_star m.close_round r = tt
-terminal_not_star m.open_square r = tt
-terminal_not_star m.close_square r = tt
-terminal_not_star m.open_brace r = tt
-terminal_not_star m.close_brace r = tt
-terminal_not_star m.a_colon r = tt
-terminal_not_star m.a_comma r = tt
-terminal_not_star m.then_word r = tt
-terminal_not_star m.else_word r = tt
-terminal_not_star m.when_word r = tt
+terminal_not_star : (u : m.Terminal) (x : Word) (r : List Leaf) → NotStar (terminal_leaf u x ∷ r)
+terminal_not_star m.a_name x r = tt
+terminal_not_star _ x r = tt
 
-completed_not_star : (o : Predicted) (r : List Kind) → NotStar r → NotStar (completed o r)
-completed_not_star (m.exact u) r h = terminal_not_star u r
+completed_not_star : (o : Predicted) (r : List Leaf) → NotStar r → NotStar (completed o r)
+completed_not_star (m.exact u) r h = terminal_not_star u a_word r
 completed_not_star m.more_names r h = h
 completed_not_star m.maybe_names r h = h
 completed_not_star m.maybe_values r h = h
@@ -95,8 +90,8 @@ not_star : (st : List Predicted) → NotStar (complete st)
 not_star [] = tt
 not_star (o ∷ st) = completed_not_star o (complete st) (not_star st)
 
-spells : (n : ℕ) (o : Predicted) (r : List Kind) → NotStar r → length (completed o r) ≤ n → Spells n o (completed o r) r
-spells n (m.exact u) r star h = refl
+spells : (n : ℕ) (o : Predicted) (r : List Leaf) → NotStar r → length (completed o r) ≤ n → Spells n o (completed o r) r
+spells n (m.exact u) r star h = (a_word, refl)
 spells n m.expression r star h = (e.Nil a_place, refl)
 spells n m.operand r star h = (v.Known (e.Nil a_place), refl)
 spells n m.equality r star h = inl refl
@@ -119,8 +114,8 @@ spells n (m.more_conjuncts d) r star h = inl (star, refl)
 spells n (m.assertion d) r star h = (s.only (s.emp a_place), refl, (level_in n (suc (length r)) d h, tt), star)
 spells n m.maybe_assertion r star h = inl refl
 spells n m.maybe_annotation r star h = (None, refl, tt)
-spells n m.named r star h = (s.assign a_word (e.Nil a_place), tt, refl)
-spells n m.assigned r star h = (s.assign a_word (e.Nil a_place), tt, refl)
+spells n m.named r star h = λ x. (s.assign x (e.Nil a_place), tt, refl)
+spells n m.assigned r star h = λ x. (s.assign x (e.Nil a_place), tt, refl)
 spells n m.look_up_or_end r star h = inl refl
 spells n m.after_call r star h = inl refl
 spells n m.disposed r star h = inr (e.Nil a_place, refl)
@@ -128,10 +123,10 @@ spells n (m.command d) r star h = (s.assign a_word (e.Nil a_place), refl, level_
 spells n (m.commands d) r star h = (s.done, refl, tt)
 spells n (m.branch d) r star h = inl (s.assign a_word (e.Nil a_place), refl, level_in n (suc (suc (suc (suc (length r))))) d (omega arith), tt)
 spells n m.locals r star h = ([], refl)
-spells n m.item_named r star h = (s.fields (record { first = a_word; more = [] }), refl, tt)
+spells n m.item_named r star h = λ x. (s.fields (record { first = x; more = [] }), refl, tt)
 spells n m.items r star h = ([], refl, tt)
 
-shorter : (o : Predicted) (r : List Kind) → length r ≤ length (completed o r)
+shorter : (o : Predicted) (r : List Leaf) → length r ≤ length (completed o r)
 shorter m.more_names r = omega arith
 shorter m.maybe_names r = omega arith
 shorter m.maybe_values r = omega arith

@@ -1,8 +1,8 @@
 -- What the machine chooses at a token that may begin a conjunct or a command: it takes what is there where one begins, and else
 -- refuses, whatever is to come after it.
 use Rattle.std.proofs.Common.{◌≡◌, ◌-◌, ℕ, List, [], ◌∷◌, ◌++◌, Bool, true, false, refl, sym, ◌∙◌, append_assoc}
-use Rattle.sf_lex.specs.declared.token.Kind.{Kind}
-use Rattle.sf_lex.specs.declared.token.Kind.TheVariants as k
+use Rattle.sf_parse.specs.Leaf.{Leaf}
+use Rattle.sf_parse.specs.Leaf as k
 use Rattle.sf_parse.specs.Internal.Heads.{command_next, conjunct_next}
 use Rattle.sf_parse.specs.Internal.Machine as m
 use Rattle.sf_parse.specs.Internal.Machine.{Predicted, Choice, take, refuse, on_command, on_conjunct}
@@ -12,31 +12,31 @@ pub data Decided (begins : Bool) (choice : List Predicted → Choice) : Type 0 w
   takes : (xs : List Predicted) → begins ≡ true → ((ss : List Predicted) → choice ss ≡ take (xs ++ ss)) → Decided begins choice
   refuses : begins ≡ false → ((ss : List Predicted) → choice ss ≡ refuse) → Decided begins choice
 
-pub conjunct_decided : (d : ℕ) (t : Kind) (r : List Kind) → Decided (conjunct_next (t ∷ r)) (on_conjunct d t)
-conjunct_decided d k.Emp r = takes [] refl (λ ss. refl)
+pub conjunct_decided : (d : ℕ) (t : Leaf) (r : List Leaf) → Decided (conjunct_next (t ∷ r)) (on_conjunct d t)
+conjunct_decided d (k.Emp _) r = takes [] refl (λ ss. refl)
 conjunct_decided d k.OpenRound r = takes (m.assertion (d - 1) ∷ m.exact m.close_round ∷ []) refl (λ ss. refl)
-conjunct_decided d k.If r = takes (m.choice_predicted (d - 1)) refl (λ ss. refl)
-conjunct_decided d k.Ls r = takes m.pair_predicted refl (λ ss. refl)
-conjunct_decided d k.Lseg r = takes m.pair_predicted refl (λ ss. refl)
-conjunct_decided d k.List r = takes (m.exact m.open_round ∷ m.operand ∷ m.exact m.close_round ∷ []) refl (λ ss. refl)
-conjunct_decided d k.Tree r = takes (m.exact m.open_round ∷ m.operand ∷ m.exact m.close_round ∷ []) refl (λ ss. refl)
-conjunct_decided d k.Name r = takes (m.relation ∷ []) refl (λ ss. refl)
-conjunct_decided d k.Nil r = takes (m.relation ∷ []) refl (λ ss. refl)
-conjunct_decided d k.Null r = takes (m.relation ∷ []) refl (λ ss. refl)
-conjunct_decided d k.Number r = takes (m.relation ∷ []) refl (λ ss. refl)
-conjunct_decided d k.Existential r = takes (m.relation ∷ []) refl (λ ss. refl)
+conjunct_decided d (k.If _) r = takes (m.choice_predicted (d - 1)) refl (λ ss. refl)
+conjunct_decided d (k.Ls _) r = takes m.pair_predicted refl (λ ss. refl)
+conjunct_decided d (k.Lseg _) r = takes m.pair_predicted refl (λ ss. refl)
+conjunct_decided d (k.List _) r = takes (m.exact m.open_round ∷ m.operand ∷ m.exact m.close_round ∷ []) refl (λ ss. refl)
+conjunct_decided d (k.Tree _) r = takes (m.exact m.open_round ∷ m.operand ∷ m.exact m.close_round ∷ []) refl (λ ss. refl)
+conjunct_decided d (k.Name _) r = takes (m.relation ∷ []) refl (λ ss. refl)
+conjunct_decided d (k.Nil _) r = takes (m.relation ∷ []) refl (λ ss. refl)
+conjunct_decided d (k.Null _) r = takes (m.relation ∷ []) refl (λ ss. refl)
+conjunct_decided d (k.Number _ _) r = takes (m.relation ∷ []) refl (λ ss. refl)
+conjunct_decided d (k.Existential _) r = takes (m.relation ∷ []) refl (λ ss. refl)
 conjunct_decided d _ r = refuses refl (λ ss. refl)
 
-pub command_decided : (d : ℕ) (t : Kind) (r : List Kind) → Decided (command_next (t ∷ r)) (on_command d t)
-command_decided d k.Name r = takes (m.named ∷ []) refl (λ ss. refl)
-command_decided d k.Nil r = takes (m.exact m.an_arrow ∷ m.mutated_predicted) refl (λ ss. refl)
-command_decided d k.Null r = takes (m.exact m.an_arrow ∷ m.mutated_predicted) refl (λ ss. refl)
-command_decided d k.Number r = takes (m.exact m.an_arrow ∷ m.mutated_predicted) refl (λ ss. refl)
-command_decided d k.Dispose r = takes (m.disposed ∷ []) refl (λ ss. refl)
-command_decided d k.If r = takes (m.if_predicted d) refl (λ ss. refl)
-command_decided d k.While r = takes (m.while_predicted d) refl (λ ss. refl)
-command_decided d k.With r = takes (m.with_predicted d) refl (λ ss. refl)
-command_decided d k.OpenBrace r = takes (m.commands (d - 1) ∷ m.exact m.close_brace ∷ []) refl (λ ss. refl)
+pub command_decided : (d : ℕ) (t : Leaf) (r : List Leaf) → Decided (command_next (t ∷ r)) (on_command d t)
+command_decided d (k.Name _) r = takes (m.named ∷ []) refl (λ ss. refl)
+command_decided d (k.Nil _) r = takes (m.exact m.an_arrow ∷ m.mutated_predicted) refl (λ ss. refl)
+command_decided d (k.Null _) r = takes (m.exact m.an_arrow ∷ m.mutated_predicted) refl (λ ss. refl)
+command_decided d (k.Number _ _) r = takes (m.exact m.an_arrow ∷ m.mutated_predicted) refl (λ ss. refl)
+command_decided d (k.Dispose _) r = takes (m.disposed ∷ []) refl (λ ss. refl)
+command_decided d (k.If _) r = takes (m.if_predicted d) refl (λ ss. refl)
+command_decided d (k.While _) r = takes (m.while_predicted d) refl (λ ss. refl)
+command_decided d (k.With _) r = takes (m.with_predicted d) refl (λ ss. refl)
+command_decided d (k.OpenBrace _) r = takes (m.commands (d - 1) ∷ m.exact m.close_brace ∷ []) refl (λ ss. refl)
 command_decided d _ r = refuses refl (λ ss. refl)
 
 -- so it refuses where nothing begins

@@ -6,22 +6,21 @@ use Rattle.std.proofs.lemmas.List.{append-nil, map-append, length-map}
 use Rattle.sf_base.proofs.Lists.{cons-same}
 use Rattle.sf_base.specs.declared.place.Place.{Place}
 use Rattle.sf_ast.specs.Surface.{Item}
-use Rattle.sf_lex.specs.declared.token.Kind.{Kind}
 use Rattle.sf_lex.specs.declared.token.Token.{Token}
 use Rattle.sf_parse.specs.declared.fault.ParseFault.{ParseFault}
 use Rattle.sf_parse.specs.declared.fault.ParseFault.TheVariants.{Unexpected, TooDeep, OutOfMemory}
-use Rattle.sf_parse.specs.Internal.Faults.{place_left, Says}
+use Rattle.sf_parse.specs.Internal.Faults.{no_token, token_left, place_left, Says}
 use Rattle.sf_parse.specs.Grammar.{items}
 use Rattle.sf_parse.specs.Laws.{verdict_of, Spelled}
 use Rattle.sf_parse.specs.Internal.Machine as m
 use Rattle.sf_parse.specs.Internal.Machine.{Predicted, Choice, take, skip, refuse, Next, goes, bad, deep, chosen, choice, is_free, step, Verdict, accepted, unexpected, too_deep, at_end, may_end, after, verdict}
 use Rattle.sf_parse.specs.Nesting.{ItemsWithin}
-use Rattle.sf_parse.specs.Parsing.{kinds, no_token, token_left, IsFile, CanBegin, CanBeginAny, IsUnexpected, IsTooDeep, IsFault}
+use Rattle.sf_parse.specs.Leaf.{Leaf, leaf, leaves}
+use Rattle.sf_parse.specs.Parsing.{IsFile, CanBegin, CanBeginAny, IsUnexpected, IsTooDeep, IsFault}
 use Rattle.sf_parse.proofs.Machine.Exactly.{fault_of, fault_le}
 use Rattle.sf_parse.proofs.Machine.Free.{chosen_goes}
 use Rattle.sf_parse.proofs.Machine.HasLevel.{level_more}
 use Rattle.sf_parse.proofs.Machine.Law.{exact, file_accepted, accepted_file, refuses}
-use Rattle.sf_parse.proofs.Placed.PlacingFiles.{file_placed}
 
 -- the more tokens are free of the limit, the more goes on
 free_more : (s : Predicted) (n p l : ℕ) → n ≤ p → is_free s n l ≡ true → is_free s p l ≡ true
@@ -30,12 +29,12 @@ free_more (m.commands d) n p l h e = level_more n p l d h e
 free_more (m.assertion d) n p l h e = level_more n p l d h e
 free_more _ n p l h e = refl
 
-step_more : (n p l : ℕ) (st st2 : List Predicted) (t : Kind) → n ≤ p → step n l st t ≡ goes st2 → step p l st t ≡ goes st2
+step_more : (n p l : ℕ) (st st2 : List Predicted) (t : Leaf) → n ≤ p → step n l st t ≡ goes st2 → step p l st t ≡ goes st2
 step_more n p l [] st2 t h e = absurd cc
 step_more n p l (s ∷ st) st2 t h e =
     chosen_goes (choice s t) (is_free s n l) (is_free s p l) st st2 (step n l st t) (step p l st t) (free_more s n p l h) (step_more n p l st st2 t h) e
 
-pub accepted_more : (n p : ℕ) (ts : List Kind) (st : List Predicted) → n ≤ p → verdict n ts st ≡ accepted → verdict p ts st ≡ accepted
+pub accepted_more : (n p : ℕ) (ts : List Leaf) (st : List Predicted) → n ≤ p → verdict n ts st ≡ accepted → verdict p ts st ≡ accepted
 accepted_more n p [] st h e = e
 accepted_more n p (t ∷ ts) st h e = go (step n (suc (length ts)) st t) refl (λ st2. accepted_more n p ts st2 h) e
   where
@@ -45,17 +44,17 @@ accepted_more n p (t ∷ ts) st h e = go (step n (suc (length ts)) st t) refl (�
     go deep is f e = absurd cc
 
 -- a file that is within the limit but for n tokens is so but for more
-within_more : (n p : ℕ) (ts : List Kind) (tree : List Item) → n ≤ p → ts ≡ items tree [] → ItemsWithin tree n [] → (other : List Item) × (ts ≡ items other []) × ItemsWithin other p []
+within_more : (n p : ℕ) (ts : List Leaf) (tree : List Item) → n ≤ p → ts ≡ items tree [] → ItemsWithin tree n [] → (other : List Item) × (ts ≡ items other []) × ItemsWithin other p []
 within_more n p ts tree h is w = accepted_file p ts (accepted_more n p ts (m.items ∷ []) h (file_accepted n ts tree is w))
 
 -- what can begin longer can begin so
-begins_shorter : (front : List Kind) (t : Kind) (more : List Kind) → CanBegin (front ++ t ∷ more) → CanBegin (front ++ t ∷ [])
+begins_shorter : (front : List Leaf) (t : Leaf) (more : List Leaf) → CanBegin (front ++ t ∷ more) → CanBegin (front ++ t ∷ [])
 begins_shorter front t more q =
     let is : (front ++ t ∷ []) ++ (more ++ q.back) ≡ items q.tree [] = append_assoc front (t ∷ []) (more ++ q.back) ∙ sym (append_assoc front (t ∷ more) q.back) ∙ q.spells in
     let f = within_more (length q.back) (length (more ++ q.back)) ((front ++ t ∷ []) ++ (more ++ q.back)) q.tree (omega (arith, length-append more q.back)) is q.within in
     record { back = more ++ q.back; tree = f.0; spells = f.1; within = f.2 }
 
-begins_any : (front : List Kind) → CanBegin front → CanBeginAny front
+begins_any : (front : List Leaf) → CanBegin front → CanBeginAny front
 begins_any front q =
     let f = within_more (length q.back) (length (front ++ q.back)) (front ++ q.back) q.tree (omega (arith, length-append front q.back)) q.spells q.within in
     record { back = q.back; tree = f.0; spells = f.1; within = f.2 }
@@ -102,14 +101,14 @@ token_there front t back =
     let n : length (front ++ t ∷ back) - suc (length back) ≡ length front = omega (arith, length-append front (t ∷ back)) in
     rw n (get_or-append_seam front t back no_token)
 
--- the kinds on either side of a token
-kinds_split : (ts front : List Token) (t : Token) (back : List Token) → ts ≡ front ++ t ∷ back → kinds ts ≡ kinds front ++ t.kind ∷ kinds back
-kinds_split ts front t back is = ap kinds is ∙ map-append (λ (x : Token). x.kind) front (t ∷ back)
+-- the leaves on either side of a token
+kinds_split : (ts front : List Token) (t : Token) (back : List Token) → ts ≡ front ++ t ∷ back → leaves ts ≡ leaves front ++ leaf t ∷ leaves back
+kinds_split ts front t back is = ap leaves is ∙ map-append leaf front (t ∷ back)
 
-kinds_length : (ts : List Token) → length (kinds ts) ≡ length ts
-kinds_length ts = length-map ts (λ (x : Token). x.kind)
+kinds_length : (ts : List Token) → length (leaves ts) ≡ length ts
+kinds_length ts = length-map ts leaf
 
-never_zero : (ts : List Kind) (st : List Predicted) → verdict 0 ts st ≡ too_deep 0 → ⊥
+never_zero : (ts : List Leaf) (st : List Predicted) → verdict 0 ts st ≡ too_deep 0 → ⊥
 never_zero [] st h = end (may_end st) h
   where
     end : (b : Bool) → at_end b ≡ too_deep 0 → ⊥
@@ -123,17 +122,17 @@ never_zero (t ∷ ts) st h = go (step 0 (suc (length ts)) st t) (never_zero ts) 
     go deep f h = let q : suc (length ts) ≡ 0 = cc in omega arith
 
 -- what the machine does with a file's tokens
-pub data Halt (ks : List Kind) : Type 0 where
+pub data Halt (ks : List Leaf) : Type 0 where
   whole : verdict_of ks ≡ accepted → Halt ks
   ends : verdict_of ks ≡ unexpected 0 → Halt ks
-  here : (front : List Kind) (t : Kind) (back : List Kind) (b : Bool) → ks ≡ front ++ t ∷ back → verdict_of ks ≡ fault_of b (suc (length back)) → Halt ks
+  here : (front : List Leaf) (t : Leaf) (back : List Leaf) (b : Bool) → ks ≡ front ++ t ∷ back → verdict_of ks ≡ fault_of b (suc (length back)) → Halt ks
 
-halt_here : (ks : List Kind) (n : ℕ) (b : Bool) → verdict_of ks ≡ fault_of b (suc n) → Halt ks
+halt_here : (ks : List Leaf) (n : ℕ) (b : Bool) → verdict_of ks ≡ fault_of b (suc n) → Halt ks
 halt_here ks n b e =
     let s = split_at ks n (fault_le ks (m.items ∷ []) b (suc n) e) in
     here s.front s.one s.back b s.is (e ∙ ap (λ i. fault_of b (suc i)) (sym s.left))
 
-halt : (ks : List Kind) → Halt ks
+halt : (ks : List Leaf) → Halt ks
 halt ks = go (verdict_of ks) refl
   where
     go : (v : Verdict) → verdict_of ks ≡ v → Halt ks
@@ -144,28 +143,28 @@ halt ks = go (verdict_of ks) refl
     go (too_deep (suc n)) e = halt_here ks n false e
 
 -- the tokens before a fault begin a file
-begins_before : (ks front : List Kind) (t : Kind) (back : List Kind) (b : Bool) → ks ≡ front ++ t ∷ back → verdict_of ks ≡ fault_of b (suc (length back)) → CanBegin front
+begins_before : (ks front : List Leaf) (t : Leaf) (back : List Leaf) (b : Bool) → ks ≡ front ++ t ∷ back → verdict_of ks ≡ fault_of b (suc (length back)) → CanBegin front
 begins_before ks front t back true is e = ((exact ks).wrong front t back is e).0
 begins_before ks front t back false is e = ((exact ks).deeper front t back is e).0
 
 -- and with the next token they begin none
-begins_no_further : (ks front : List Kind) (t : Kind) (back : List Kind) (b : Bool) (more : List Kind) → ks ≡ front ++ t ∷ back → verdict_of ks ≡ fault_of b (suc (length back)) → CanBegin (front ++ t ∷ more) → ⊥
+begins_no_further : (ks front : List Leaf) (t : Leaf) (back : List Leaf) (b : Bool) (more : List Leaf) → ks ≡ front ++ t ∷ back → verdict_of ks ≡ fault_of b (suc (length back)) → CanBegin (front ++ t ∷ more) → ⊥
 begins_no_further ks front t back b more is e q =
     refuses (length q.back) front t back (more ++ q.back) b (inr (omega (arith, length-append more q.back))) (ap verdict_of (sym is) ∙ e) q.tree
     (append_assoc front (t ∷ []) (more ++ q.back) ∙ sym (append_assoc front (t ∷ more) q.back) ∙ q.spells) q.within
 
 -- accepted tokens begin a file
-begins_whole : (ks : List Kind) → verdict_of ks ≡ accepted → CanBegin ks
+begins_whole : (ks : List Leaf) → verdict_of ks ≡ accepted → CanBegin ks
 begins_whole ks e =
     let f = accepted_file 0 ks e in record { back = []; tree = f.0; spells = append-nil ks ∙ f.1; within = f.2 }
 
 -- the machine stops at a token with which the tokens before it no longer begin a file
-fails_there : (ks front : List Kind) (t : Kind) (back : List Kind) → ks ≡ front ++ t ∷ back → CanBegin front → (CanBegin (front ++ t ∷ []) → ⊥) → (b : Bool) × (verdict_of ks ≡ fault_of b (suc (length back)))
+fails_there : (ks front : List Leaf) (t : Leaf) (back : List Leaf) → ks ≡ front ++ t ∷ back → CanBegin front → (CanBegin (front ++ t ∷ []) → ⊥) → (b : Bool) × (verdict_of ks ≡ fault_of b (suc (length back)))
 fails_there ks front t back is can none = go (halt ks)
   where
-    compared : (f : List Kind) (x : Kind) (c : List Kind) (b : Bool) → ks ≡ f ++ x ∷ c → verdict_of ks ≡ fault_of b (suc (length c)) → Splits f x c front t back → (b : Bool) × (verdict_of ks ≡ fault_of b (suc (length back)))
+    compared : (f : List Leaf) (x : Leaf) (c : List Leaf) (b : Bool) → ks ≡ f ++ x ∷ c → verdict_of ks ≡ fault_of b (suc (length c)) → Splits f x c front t back → (b : Bool) × (verdict_of ks ≡ fault_of b (suc (length back)))
     compared f x c b own e (earlier more h i) = absurd (begins_no_further ks f x c b more own e (subst CanBegin h can))
-    compared f x c b own e (same h i j) = (b, e ∙ ap (λ (z : List Kind). fault_of b (suc (length z))) j)
+    compared f x c b own e (same h i j) = (b, e ∙ ap (λ (z : List Leaf). fault_of b (suc (length z))) j)
     compared f x c b own e (later more h i) = absurd (none (begins_shorter front t more (subst CanBegin h (begins_before ks f x c b own e))))
 
     go : Halt ks → (b : Bool) × (verdict_of ks ≡ fault_of b (suc (length back)))
@@ -174,7 +173,7 @@ fails_there ks front t back is can none = go (halt ks)
     go (here f x c b own e) = compared f x c b own e (splits f x c front t back (sym own ∙ is))
 
 -- and at the end, where they only begin one
-fails_at_end : (ks : List Kind) → CanBegin ks → (Spelled ks → ⊥) → verdict_of ks ≡ unexpected 0
+fails_at_end : (ks : List Leaf) → CanBegin ks → (Spelled ks → ⊥) → verdict_of ks ≡ unexpected 0
 fails_at_end ks can none = go (halt ks)
   where
     go : Halt ks → verdict_of ks ≡ unexpected 0
@@ -185,57 +184,57 @@ fails_at_end ks can none = go (halt ks)
 place_there : (ts front : List Token) (t : Token) (back : List Token) (n : ℕ) → ts ≡ front ++ t ∷ back → length back ≡ n → (token_left ts (suc n)).place ≡ t.place
 place_there ts front t back n is left = rw (is, ← left) (ap (λ (x : Token). x.place) (token_there front t back))
 
-unexpected_is : (end : Place) (ts : List Token) (p : Place) (n : ℕ) → verdict_of (kinds ts) ≡ unexpected n → p ≡ place_left end ts n → IsFault end ts (Unexpected p)
+unexpected_is : (end : Place) (ts : List Token) (p : Place) (n : ℕ) → verdict_of (leaves ts) ≡ unexpected n → p ≡ place_left end ts n → IsFault end ts (Unexpected p)
 unexpected_is end ts p zero e at =
-    let q = (exact (kinds ts)).ends e in
+    let q = (exact (leaves ts)).ends e in
     inr (record { there = at; begins = q.0; no_file = λ tree is w. q.1 (record { tree = tree; spells = is; within = w }) })
 unexpected_is end ts p (suc n) e at =
-    let le : suc n ≤ length (kinds ts) = fault_le (kinds ts) (m.items ∷ []) true (suc n) e in
+    let le : suc n ≤ length (leaves ts) = fault_le (leaves ts) (m.items ∷ []) true (suc n) e in
     let s = split_at ts n (omega (arith, kinds_length ts)) in
-    let v : verdict_of (kinds ts) ≡ unexpected (suc (length (kinds s.back))) = e ∙ ap (λ (i : ℕ). unexpected (suc i)) (sym (kinds_length s.back ∙ s.left)) in
-    let q = (exact (kinds ts)).wrong (kinds s.front) s.one.kind (kinds s.back) (kinds_split ts s.front s.one s.back s.is) v in
+    let v : verdict_of (leaves ts) ≡ unexpected (suc (length (leaves s.back))) = e ∙ ap (λ (i : ℕ). unexpected (suc i)) (sym (kinds_length s.back ∙ s.left)) in
+    let q = (exact (leaves ts)).wrong (leaves s.front) (leaf s.one) (leaves s.back) (kinds_split ts s.front s.one s.back s.is) v in
     inl (record { front = s.front; token = s.one; back = s.back; split = s.is; there = at ∙ place_there ts s.front s.one s.back n s.is s.left; begins = q.0; no_further = q.1 })
 
-too_deep_is : (end : Place) (ts : List Token) (p : Place) (n : ℕ) → verdict_of (kinds ts) ≡ too_deep n → p ≡ place_left end ts n → IsFault end ts (TooDeep p)
-too_deep_is end ts p zero e at = absurd (never_zero (kinds ts) (m.items ∷ []) e)
+too_deep_is : (end : Place) (ts : List Token) (p : Place) (n : ℕ) → verdict_of (leaves ts) ≡ too_deep n → p ≡ place_left end ts n → IsFault end ts (TooDeep p)
+too_deep_is end ts p zero e at = absurd (never_zero (leaves ts) (m.items ∷ []) e)
 too_deep_is end ts p (suc n) e at =
-    let le : suc n ≤ length (kinds ts) = fault_le (kinds ts) (m.items ∷ []) false (suc n) e in
+    let le : suc n ≤ length (leaves ts) = fault_le (leaves ts) (m.items ∷ []) false (suc n) e in
     let s = split_at ts n (omega (arith, kinds_length ts)) in
-    let v : verdict_of (kinds ts) ≡ too_deep (suc (length (kinds s.back))) = e ∙ ap (λ (i : ℕ). too_deep (suc i)) (sym (kinds_length s.back ∙ s.left)) in
-    let q = (exact (kinds ts)).deeper (kinds s.front) s.one.kind (kinds s.back) (kinds_split ts s.front s.one s.back s.is) v in
+    let v : verdict_of (leaves ts) ≡ too_deep (suc (length (leaves s.back))) = e ∙ ap (λ (i : ℕ). too_deep (suc i)) (sym (kinds_length s.back ∙ s.left)) in
+    let q = (exact (leaves ts)).deeper (leaves s.front) (leaf s.one) (leaves s.back) (kinds_split ts s.front s.one s.back s.is) v in
     record { front = s.front; token = s.one; back = s.back; split = s.is; there = at ∙ place_there ts s.front s.one s.back n s.is s.left; begins = q.0; begins_deeper = q.1; no_further = q.2 }
 
 -- what the verdict says is the fault
-pub says_fault : (end : Place) (ts : List Token) (f : ParseFault) → Says end ts f (verdict_of (kinds ts)) → IsFault end ts f
+pub says_fault : (end : Place) (ts : List Token) (f : ParseFault) → Says end ts f (verdict_of (leaves ts)) → IsFault end ts f
 says_fault end ts (Unexpected p) h = unexpected_is end ts p h.0 h.1 h.2
 says_fault end ts (TooDeep p) h = too_deep_is end ts p h.0 h.1 h.2
 says_fault end ts OutOfMemory h = absurd h
 
-unexpected_says : (end : Place) (ts : List Token) (p : Place) → IsUnexpected ts p → Says end ts (Unexpected p) (verdict_of (kinds ts))
+unexpected_says : (end : Place) (ts : List Token) (p : Place) → IsUnexpected ts p → Says end ts (Unexpected p) (verdict_of (leaves ts))
 unexpected_says end ts p q =
     let is = kinds_split ts q.front q.token q.back q.split in
-    let s = fails_there (kinds ts) (kinds q.front) q.token.kind (kinds q.back) is q.begins (λ c. q.no_further (begins_any (kinds q.front ++ q.token.kind ∷ []) c)) in
+    let s = fails_there (leaves ts) (leaves q.front) (leaf q.token) (leaves q.back) is q.begins (λ c. q.no_further (begins_any (leaves q.front ++ leaf q.token ∷ []) c)) in
     go is s.0 s.1
   where
-    go : kinds ts ≡ kinds q.front ++ q.token.kind ∷ kinds q.back → (b : Bool) → verdict_of (kinds ts) ≡ fault_of b (suc (length (kinds q.back))) → Says end ts (Unexpected p) (verdict_of (kinds ts))
-    go is true e = (suc (length (kinds q.back)), e, q.there ∙ sym (place_there ts q.front q.token q.back (length (kinds q.back)) q.split (sym (kinds_length q.back))))
-    go is false e = absurd (q.no_further ((exact (kinds ts)).deeper (kinds q.front) q.token.kind (kinds q.back) is e).1)
+    go : leaves ts ≡ leaves q.front ++ leaf q.token ∷ leaves q.back → (b : Bool) → verdict_of (leaves ts) ≡ fault_of b (suc (length (leaves q.back))) → Says end ts (Unexpected p) (verdict_of (leaves ts))
+    go is true e = (suc (length (leaves q.back)), e, q.there ∙ sym (place_there ts q.front q.token q.back (length (leaves q.back)) q.split (sym (kinds_length q.back))))
+    go is false e = absurd (q.no_further ((exact (leaves ts)).deeper (leaves q.front) (leaf q.token) (leaves q.back) is e).1)
 
-too_deep_says : (end : Place) (ts : List Token) (p : Place) → IsTooDeep ts p → Says end ts (TooDeep p) (verdict_of (kinds ts))
+too_deep_says : (end : Place) (ts : List Token) (p : Place) → IsTooDeep ts p → Says end ts (TooDeep p) (verdict_of (leaves ts))
 too_deep_says end ts p q =
     let is = kinds_split ts q.front q.token q.back q.split in
-    let s = fails_there (kinds ts) (kinds q.front) q.token.kind (kinds q.back) is q.begins q.no_further in
+    let s = fails_there (leaves ts) (leaves q.front) (leaf q.token) (leaves q.back) is q.begins q.no_further in
     go is s.0 s.1
   where
-    go : kinds ts ≡ kinds q.front ++ q.token.kind ∷ kinds q.back → (b : Bool) → verdict_of (kinds ts) ≡ fault_of b (suc (length (kinds q.back))) → Says end ts (TooDeep p) (verdict_of (kinds ts))
-    go is true e = absurd (((exact (kinds ts)).wrong (kinds q.front) q.token.kind (kinds q.back) is e).1 q.begins_deeper)
-    go is false e = (suc (length (kinds q.back)), e, q.there ∙ sym (place_there ts q.front q.token q.back (length (kinds q.back)) q.split (sym (kinds_length q.back))))
+    go : leaves ts ≡ leaves q.front ++ leaf q.token ∷ leaves q.back → (b : Bool) → verdict_of (leaves ts) ≡ fault_of b (suc (length (leaves q.back))) → Says end ts (TooDeep p) (verdict_of (leaves ts))
+    go is true e = absurd (((exact (leaves ts)).wrong (leaves q.front) (leaf q.token) (leaves q.back) is e).1 q.begins_deeper)
+    go is false e = (suc (length (leaves q.back)), e, q.there ∙ sym (place_there ts q.front q.token q.back (length (leaves q.back)) q.split (sym (kinds_length q.back))))
 
 -- and the fault is what the verdict says
-pub fault_says : (end : Place) (ts : List Token) (f : ParseFault) → IsFault end ts f → Says end ts f (verdict_of (kinds ts))
+pub fault_says : (end : Place) (ts : List Token) (f : ParseFault) → IsFault end ts f → Says end ts f (verdict_of (leaves ts))
 fault_says end ts (Unexpected p) h = elim h [
   | inl q ↦ unexpected_says end ts p q
-  | inr q ↦ (0, fails_at_end (kinds ts) q.begins (λ f. q.no_file f.tree f.spells f.within), q.there)
+  | inr q ↦ (0, fails_at_end (leaves ts) q.begins (λ f. q.no_file f.tree f.spells f.within), q.there)
 ]
 fault_says end ts (TooDeep p) h = too_deep_says end ts p h
 fault_says end ts OutOfMemory h = absurd h
@@ -250,7 +249,7 @@ says_once end ts v OutOfMemory g h i = absurd h
 says_once end ts v f OutOfMemory h i = absurd i
 
 pub faults_once : (end : Place) (ts : List Token) (f g : ParseFault) → IsFault end ts f → IsFault end ts g → f ≡ g
-faults_once end ts f g h i = says_once end ts (verdict_of (kinds ts)) f g (fault_says end ts f h) (fault_says end ts g i)
+faults_once end ts f g h i = says_once end ts (verdict_of (leaves ts)) f g (fault_says end ts f h) (fault_says end ts g i)
 
 accepted_says_none : (end : Place) (ts : List Token) (v : Verdict) (f : ParseFault) → v ≡ accepted → Says end ts f v → ⊥
 accepted_says_none end ts v (Unexpected p) e h = cc (e, h.1)
@@ -260,13 +259,13 @@ accepted_says_none end ts v OutOfMemory e h = h
 -- a file has no fault
 pub files_without_fault : (end : Place) (ts : List Token) (tree : List Item) (f : ParseFault) → IsFile ts tree → IsFault end ts f → ⊥
 files_without_fault end ts tree f file h =
-    accepted_says_none end ts (verdict_of (kinds ts)) f ((exact (kinds ts)).file (record { tree = tree; spells = file.spells; within = file.within })) (fault_says end ts f h)
+    accepted_says_none end ts (verdict_of (leaves ts)) f ((exact (leaves ts)).file (record { tree = tree; spells = file.spells; within = file.within })) (fault_says end ts f h)
 
 -- tokens are a file, or have a fault
 pub file_or_fault : (end : Place) (ts : List Token) → ((tree : List Item) × IsFile ts tree) ⊎ ((f : ParseFault) × IsFault end ts f)
-file_or_fault end ts = go (verdict_of (kinds ts)) refl
+file_or_fault end ts = go (verdict_of (leaves ts)) refl
   where
-    go : (v : Verdict) → verdict_of (kinds ts) ≡ v → ((tree : List Item) × IsFile ts tree) ⊎ ((f : ParseFault) × IsFault end ts f)
-    go accepted e = inl (file_placed ts ((exact (kinds ts)).accepts e))
+    go : (v : Verdict) → verdict_of (leaves ts) ≡ v → ((tree : List Item) × IsFile ts tree) ⊎ ((f : ParseFault) × IsFault end ts f)
+    go accepted e = let f = (exact (leaves ts)).accepts e in inl (f.tree, record { spells = f.spells; within = f.within })
     go (unexpected n) e = inr (Unexpected (place_left end ts n), says_fault end ts (Unexpected (place_left end ts n)) (n, e, refl))
     go (too_deep n) e = inr (TooDeep (place_left end ts n), says_fault end ts (TooDeep (place_left end ts n)) (n, e, refl))

@@ -1,6 +1,7 @@
 -- What the grammar has, the machine accepts.
-use Rattle.std.proofs.Common.{◌≡◌, ℕ, List, [], ◌∷◌, ◌-◌, length, Bool, true, false, Option, Some, None, refl, ◌∙◌}
+use Rattle.std.proofs.Common.{◌≡◌, ℕ, ℤ, List, [], ◌∷◌, ◌-◌, length, Bool, true, false, Option, Some, None, refl, ◌∙◌}
 use Rattle.sf_base.specs.declared.limits.TheConstants.{NESTING}
+use Rattle.sf_base.specs.declared.place.Place.{Place}
 use Rattle.sf_ast.specs.declared.assertion.SurfaceField.{SurfaceField}
 use Rattle.sf_ast.specs.declared.word.SurfaceExpr.{SurfaceExpr}
 use Rattle.sf_ast.specs.declared.word.SurfaceExpr.TheVariants as e
@@ -10,8 +11,8 @@ use Rattle.sf_ast.specs.declared.word.SurfaceTest.{SurfaceTest}
 use Rattle.sf_ast.specs.declared.word.SurfaceTest.TheVariants as t
 use Rattle.sf_ast.specs.declared.word.Word.{Word}
 use Rattle.sf_ast.specs.Surface as s
-use Rattle.sf_lex.specs.declared.token.Kind.{Kind}
-use Rattle.sf_lex.specs.declared.token.Kind.TheVariants as k
+use Rattle.sf_parse.specs.Leaf.{Leaf}
+use Rattle.sf_parse.specs.Leaf as k
 use Rattle.sf_parse.specs.Grammar as g
 use Rattle.sf_parse.specs.Internal.Machine as m
 use Rattle.sf_parse.specs.Internal.Machine.{Predicted, verdict}
@@ -19,102 +20,103 @@ use Rattle.sf_parse.specs.Nesting.{IsClosed, HasLevel, ConjunctWithin, Assertion
 use Rattle.sf_parse.specs.Internal.Parser.{NotStar, Ends}
 
 -- what holds of the four first tokens of an expression holds of each
-pub by_expr : (x : SurfaceExpr) (P : Kind → Type 0) → P k.Name → P k.Nil → P k.Null → P k.Number → P (g.expr x)
-by_expr (e.Name x) P a b c d = a
-by_expr (e.Nil p) P a b c d = b
-by_expr (e.Null p) P a b c d = c
-by_expr (e.Number x p) P a b c d = d
+pub by_expr : (x : SurfaceExpr) (P : Leaf → Type 0) → ((w : Word) → P (k.Name w)) → ((p : Place) → P (k.Nil p)) → ((p : Place) → P (k.Null p)) → ((i : ℤ) (p : Place) → P (k.Number i p)) → P (g.expr x)
+by_expr (e.Name x) P a b c d = a x
+by_expr (e.Nil p) P a b c d = b p
+by_expr (e.Null p) P a b c d = c p
+by_expr (e.Number i p) P a b c d = d i p
 
 -- and of an operand
-pub by_operand : (x : SurfaceOperand) (P : Kind → Type 0) → P k.Name → P k.Nil → P k.Null → P k.Number → P k.Existential → P (g.operand x)
+pub by_operand : (x : SurfaceOperand) (P : Leaf → Type 0) → ((w : Word) → P (k.Name w)) → ((p : Place) → P (k.Nil p)) → ((p : Place) → P (k.Null p)) → ((i : ℤ) (p : Place) → P (k.Number i p)) → ((w : Word) → P (k.Existential w))
+    → P (g.operand x)
 by_operand (v.Known x) P a b c d f = by_expr x P a b c d
-by_operand (v.Existential x) P a b c d f = f
+by_operand (v.Existential x) P a b c d f = f x
 
-pub expr_goes : (n : ℕ) (x : SurfaceExpr) (r : List Kind) (st : List Predicted) → verdict n (g.expr x ∷ r) (m.expression ∷ st) ≡ verdict n r st
-expr_goes n x r st = by_expr x (λ u. verdict n (u ∷ r) (m.expression ∷ st) ≡ verdict n r st) refl refl refl refl
+pub expr_goes : (n : ℕ) (x : SurfaceExpr) (r : List Leaf) (st : List Predicted) → verdict n (g.expr x ∷ r) (m.expression ∷ st) ≡ verdict n r st
+expr_goes n x r st = by_expr x (λ u. verdict n (u ∷ r) (m.expression ∷ st) ≡ verdict n r st) (λ w. refl) (λ p. refl) (λ p. refl) (λ i p. refl)
 
-pub operand_goes : (n : ℕ) (x : SurfaceOperand) (r : List Kind) (st : List Predicted) → verdict n (g.operand x ∷ r) (m.operand ∷ st) ≡ verdict n r st
-operand_goes n x r st = by_operand x (λ u. verdict n (u ∷ r) (m.operand ∷ st) ≡ verdict n r st) refl refl refl refl refl
+pub operand_goes : (n : ℕ) (x : SurfaceOperand) (r : List Leaf) (st : List Predicted) → verdict n (g.operand x ∷ r) (m.operand ∷ st) ≡ verdict n r st
+operand_goes n x r st = by_operand x (λ u. verdict n (u ∷ r) (m.operand ∷ st) ≡ verdict n r st) (λ w. refl) (λ p. refl) (λ p. refl) (λ i p. refl) (λ w. refl)
 
-pub test_goes : (n : ℕ) (b : SurfaceTest SurfaceExpr) (r : List Kind) (st : List Predicted) → verdict n (g.test g.expr b r) (m.test ∷ st) ≡ verdict n r st
+pub test_goes : (n : ℕ) (b : SurfaceTest SurfaceExpr) (r : List Leaf) (st : List Predicted) → verdict n (g.test g.expr b r) (m.test ∷ st) ≡ verdict n r st
 test_goes n (t.True p) r st = refl
 test_goes n (t.Equal x y) r st =
-    let h = expr_goes n y r st in by_expr x (λ u. verdict n (u ∷ k.EqualEqual ∷ g.expr y ∷ r) (m.test ∷ st) ≡ verdict n r st) h h h h
+    let h = expr_goes n y r st in by_expr x (λ u. verdict n (u ∷ k.EqualEqual ∷ g.expr y ∷ r) (m.test ∷ st) ≡ verdict n r st) (λ w. h) (λ p. h) (λ p. h) (λ i p. h)
 test_goes n (t.Differ x y) r st =
-    let h = expr_goes n y r st in by_expr x (λ u. verdict n (u ∷ k.NotEqual ∷ g.expr y ∷ r) (m.test ∷ st) ≡ verdict n r st) h h h h
+    let h = expr_goes n y r st in by_expr x (λ u. verdict n (u ∷ k.NotEqual ∷ g.expr y ∷ r) (m.test ∷ st) ≡ verdict n r st) (λ w. h) (λ p. h) (λ p. h) (λ i p. h)
 
-operand_test_goes : (n : ℕ) (b : SurfaceTest SurfaceOperand) (r : List Kind) (st : List Predicted) → verdict n (g.test g.operand b r) (m.operand_test ∷ st) ≡ verdict n r st
+operand_test_goes : (n : ℕ) (b : SurfaceTest SurfaceOperand) (r : List Leaf) (st : List Predicted) → verdict n (g.test g.operand b r) (m.operand_test ∷ st) ≡ verdict n r st
 operand_test_goes n (t.True p) r st = refl
 operand_test_goes n (t.Equal x y) r st =
-    let h = operand_goes n y r st in by_operand x (λ u. verdict n (u ∷ k.EqualEqual ∷ g.operand y ∷ r) (m.operand_test ∷ st) ≡ verdict n r st) h h h h h
+    let h = operand_goes n y r st in by_operand x (λ u. verdict n (u ∷ k.EqualEqual ∷ g.operand y ∷ r) (m.operand_test ∷ st) ≡ verdict n r st) (λ w. h) (λ p. h) (λ p. h) (λ i p. h) (λ w. h)
 operand_test_goes n (t.Differ x y) r st =
-    let h = operand_goes n y r st in by_operand x (λ u. verdict n (u ∷ k.NotEqual ∷ g.operand y ∷ r) (m.operand_test ∷ st) ≡ verdict n r st) h h h h h
+    let h = operand_goes n y r st in by_operand x (λ u. verdict n (u ∷ k.NotEqual ∷ g.operand y ∷ r) (m.operand_test ∷ st) ≡ verdict n r st) (λ w. h) (λ p. h) (λ p. h) (λ i p. h) (λ w. h)
 
-bare_test_goes : (n : ℕ) (b : SurfaceTest SurfaceOperand) (r : List Kind) (st : List Predicted) → verdict n (g.test g.operand b r) (m.if_test ∷ st) ≡ verdict n r st
+bare_test_goes : (n : ℕ) (b : SurfaceTest SurfaceOperand) (r : List Leaf) (st : List Predicted) → verdict n (g.test g.operand b r) (m.if_test ∷ st) ≡ verdict n r st
 bare_test_goes n (t.True p) r st = refl
 bare_test_goes n (t.Equal x y) r st =
-    let h = operand_goes n y r st in by_operand x (λ u. verdict n (u ∷ k.EqualEqual ∷ g.operand y ∷ r) (m.if_test ∷ st) ≡ verdict n r st) h h h h h
+    let h = operand_goes n y r st in by_operand x (λ u. verdict n (u ∷ k.EqualEqual ∷ g.operand y ∷ r) (m.if_test ∷ st) ≡ verdict n r st) (λ w. h) (λ p. h) (λ p. h) (λ i p. h) (λ w. h)
 bare_test_goes n (t.Differ x y) r st =
-    let h = operand_goes n y r st in by_operand x (λ u. verdict n (u ∷ k.NotEqual ∷ g.operand y ∷ r) (m.if_test ∷ st) ≡ verdict n r st) h h h h h
+    let h = operand_goes n y r st in by_operand x (λ u. verdict n (u ∷ k.NotEqual ∷ g.operand y ∷ r) (m.if_test ∷ st) ≡ verdict n r st) (λ w. h) (λ p. h) (λ p. h) (λ i p. h) (λ w. h)
 
 -- names, where what follows does without more of them
-pub more_names_go : (n : ℕ) (xs : List Word) (r : List Kind) (st : List Predicted) → verdict n r (m.more_names ∷ st) ≡ verdict n r st → verdict n (g.more_names xs r) (m.more_names ∷ st) ≡ verdict n r st
+pub more_names_go : (n : ℕ) (xs : List Word) (r : List Leaf) (st : List Predicted) → verdict n r (m.more_names ∷ st) ≡ verdict n r st → verdict n (g.more_names xs r) (m.more_names ∷ st) ≡ verdict n r st
 more_names_go n [] r st h = h
 more_names_go n (x ∷ xs) r st h = more_names_go n xs r st h
 
-pub maybe_names_go : (n : ℕ) (xs : List Word) (r : List Kind) (st : List Predicted) → verdict n r (m.maybe_names ∷ st) ≡ verdict n r st → verdict n r (m.more_names ∷ st) ≡ verdict n r st → verdict n (g.maybe_names xs r) (m.maybe_names ∷ st) ≡ verdict n r st
+pub maybe_names_go : (n : ℕ) (xs : List Word) (r : List Leaf) (st : List Predicted) → verdict n r (m.maybe_names ∷ st) ≡ verdict n r st → verdict n r (m.more_names ∷ st) ≡ verdict n r st → verdict n (g.maybe_names xs r) (m.maybe_names ∷ st) ≡ verdict n r st
 maybe_names_go n [] r st h i = h
 maybe_names_go n (x ∷ xs) r st h i = more_names_go n xs r st i
 
-pub parameters_go : (n : ℕ) (ps : s.Parameters) (r : List Kind) (st : List Predicted) → verdict n (g.parameters ps (k.CloseRound ∷ r)) (m.maybe_names ∷ m.maybe_values ∷ m.exact m.close_round ∷ st) ≡ verdict n r st
+pub parameters_go : (n : ℕ) (ps : s.Parameters) (r : List Leaf) (st : List Predicted) → verdict n (g.parameters ps (k.CloseRound ∷ r)) (m.maybe_names ∷ m.maybe_values ∷ m.exact m.close_round ∷ st) ≡ verdict n r st
 parameters_go n (s.only_values xs) r st = maybe_names_go n xs (k.CloseRound ∷ r) (m.maybe_values ∷ m.exact m.close_round ∷ st) refl refl
 parameters_go n (s.references_and_values xs ys) r st =
     maybe_names_go n xs (k.Semicolon ∷ g.maybe_names ys (k.CloseRound ∷ r)) (m.maybe_values ∷ m.exact m.close_round ∷ st) refl refl
     ∙ maybe_names_go n ys (k.CloseRound ∷ r) (m.exact m.close_round ∷ st) refl refl
 
-more_exprs_go : (n : ℕ) (xs : List SurfaceExpr) (r : List Kind) (st : List Predicted) → verdict n (g.more_exprs xs (k.CloseRound ∷ r)) (m.more_expressions ∷ st) ≡ verdict n (k.CloseRound ∷ r) st
+more_exprs_go : (n : ℕ) (xs : List SurfaceExpr) (r : List Leaf) (st : List Predicted) → verdict n (g.more_exprs xs (k.CloseRound ∷ r)) (m.more_expressions ∷ st) ≡ verdict n (k.CloseRound ∷ r) st
 more_exprs_go n [] r st = refl
 more_exprs_go n (x ∷ xs) r st = expr_goes n x (g.more_exprs xs (k.CloseRound ∷ r)) (m.more_expressions ∷ st) ∙ more_exprs_go n xs r st
 
-maybe_exprs_go : (n : ℕ) (xs : List SurfaceExpr) (r : List Kind) (st : List Predicted) → verdict n (g.maybe_exprs xs (k.CloseRound ∷ r)) (m.maybe_expressions ∷ st) ≡ verdict n (k.CloseRound ∷ r) st
+maybe_exprs_go : (n : ℕ) (xs : List SurfaceExpr) (r : List Leaf) (st : List Predicted) → verdict n (g.maybe_exprs xs (k.CloseRound ∷ r)) (m.maybe_expressions ∷ st) ≡ verdict n (k.CloseRound ∷ r) st
 maybe_exprs_go n [] r st = refl
 maybe_exprs_go n (x ∷ xs) r st =
     let h = more_exprs_go n xs r st in
-    by_expr x (λ u. verdict n (u ∷ g.more_exprs xs (k.CloseRound ∷ r)) (m.maybe_expressions ∷ st) ≡ verdict n (k.CloseRound ∷ r) st) h h h h
+    by_expr x (λ u. verdict n (u ∷ g.more_exprs xs (k.CloseRound ∷ r)) (m.maybe_expressions ∷ st) ≡ verdict n (k.CloseRound ∷ r) st) (λ w. h) (λ p. h) (λ p. h) (λ i p. h)
 
 -- values after a first one, whether or not all so far could be references
-rest_goes : (n : ℕ) (b : Bool) (xs : List SurfaceExpr) (r : List Kind) (st : List Predicted) → verdict n (g.more_exprs xs (k.CloseRound ∷ r)) (m.rest b ∷ st) ≡ verdict n (k.CloseRound ∷ r) st
+rest_goes : (n : ℕ) (b : Bool) (xs : List SurfaceExpr) (r : List Leaf) (st : List Predicted) → verdict n (g.more_exprs xs (k.CloseRound ∷ r)) (m.rest b ∷ st) ≡ verdict n (k.CloseRound ∷ r) st
 rest_goes n true [] r st = refl
 rest_goes n false [] r st = refl
 rest_goes n true (x ∷ xs) r st =
     let h = rest_goes n false xs r st in
-    by_expr x (λ u. verdict n (k.Comma ∷ u ∷ g.more_exprs xs (k.CloseRound ∷ r)) (m.rest true ∷ st) ≡ verdict n (k.CloseRound ∷ r) st) (rest_goes n true xs r st) h h h
+    by_expr x (λ u. verdict n (k.Comma ∷ u ∷ g.more_exprs xs (k.CloseRound ∷ r)) (m.rest true ∷ st) ≡ verdict n (k.CloseRound ∷ r) st) (λ w. rest_goes n true xs r st) (λ p. h) (λ p. h) (λ i p. h)
 rest_goes n false (x ∷ xs) r st =
     let h = rest_goes n false xs r st in
-    by_expr x (λ u. verdict n (k.Comma ∷ u ∷ g.more_exprs xs (k.CloseRound ∷ r)) (m.rest false ∷ st) ≡ verdict n (k.CloseRound ∷ r) st) h h h h
+    by_expr x (λ u. verdict n (k.Comma ∷ u ∷ g.more_exprs xs (k.CloseRound ∷ r)) (m.rest false ∷ st) ≡ verdict n (k.CloseRound ∷ r) st) (λ w. h) (λ p. h) (λ p. h) (λ i p. h)
 
 -- references after a first one
-references_go : (n : ℕ) (ns : List Word) (xs : List SurfaceExpr) (r : List Kind) (st : List Predicted) → verdict n (g.more_names ns (k.Semicolon ∷ g.maybe_exprs xs (k.CloseRound ∷ r))) (m.rest true ∷ st) ≡ verdict n (k.CloseRound ∷ r) st
+references_go : (n : ℕ) (ns : List Word) (xs : List SurfaceExpr) (r : List Leaf) (st : List Predicted) → verdict n (g.more_names ns (k.Semicolon ∷ g.maybe_exprs xs (k.CloseRound ∷ r))) (m.rest true ∷ st) ≡ verdict n (k.CloseRound ∷ r) st
 references_go n [] xs r st = maybe_exprs_go n xs r st
 references_go n (x ∷ ns) xs r st = references_go n ns xs r st
 
-pub arguments_go : (n : ℕ) (a : s.Arguments) (r : List Kind) (st : List Predicted) → verdict n (g.arguments a (k.CloseRound ∷ r)) (m.maybe_arguments ∷ m.exact m.close_round ∷ st) ≡ verdict n r st
+pub arguments_go : (n : ℕ) (a : s.Arguments) (r : List Leaf) (st : List Predicted) → verdict n (g.arguments a (k.CloseRound ∷ r)) (m.maybe_arguments ∷ m.exact m.close_round ∷ st) ≡ verdict n r st
 arguments_go n (s.values []) r st = refl
 arguments_go n (s.values (x ∷ xs)) r st =
     let h = rest_goes n false xs r (m.exact m.close_round ∷ st) in
-    by_expr x (λ u. verdict n (u ∷ g.more_exprs xs (k.CloseRound ∷ r)) (m.maybe_arguments ∷ m.exact m.close_round ∷ st) ≡ verdict n r st) (rest_goes n true xs r (m.exact m.close_round ∷ st)) h h h
+    by_expr x (λ u. verdict n (u ∷ g.more_exprs xs (k.CloseRound ∷ r)) (m.maybe_arguments ∷ m.exact m.close_round ∷ st) ≡ verdict n r st) (λ w. rest_goes n true xs r (m.exact m.close_round ∷ st)) (λ p. h) (λ p. h) (λ i p. h)
 arguments_go n (s.both [] xs) r st = maybe_exprs_go n xs r (m.exact m.close_round ∷ st)
 arguments_go n (s.both (x ∷ ns) xs) r st = references_go n ns xs r (m.exact m.close_round ∷ st)
 
 -- what may come after a conjunct, and after an assertion
-abbrev pub AfterConjunct : List Kind → Type 0
+abbrev pub AfterConjunct : List Leaf → Type 0
 AfterConjunct (k.Star ∷ r) = Unit {0}
 AfterConjunct (k.CloseRound ∷ r) = Unit {0}
 AfterConjunct (k.CloseSquare ∷ r) = Unit {0}
 AfterConjunct (k.Else ∷ r) = Unit {0}
 AfterConjunct _ = ⊥
 
-no_fields : (n : ℕ) (r : List Kind) (st : List Predicted) → AfterConjunct r → verdict n r (m.maybe_fields ∷ st) ≡ verdict n r st
+no_fields : (n : ℕ) (r : List Leaf) (st : List Predicted) → AfterConjunct r → verdict n r (m.maybe_fields ∷ st) ≡ verdict n r st
 no_fields n [] st h = absurd h
 no_fields n (k.Star ∷ r) st h = refl
 no_fields n (k.CloseRound ∷ r) st h = refl
@@ -122,7 +124,7 @@ no_fields n (k.CloseSquare ∷ r) st h = refl
 no_fields n (k.Else ∷ r) st h = refl
 no_fields n (_ ∷ r) st h = absurd h
 
-no_more_fields : (n : ℕ) (r : List Kind) (st : List Predicted) → AfterConjunct r → verdict n r (m.more_fields ∷ st) ≡ verdict n r st
+no_more_fields : (n : ℕ) (r : List Leaf) (st : List Predicted) → AfterConjunct r → verdict n r (m.more_fields ∷ st) ≡ verdict n r st
 no_more_fields n [] st h = absurd h
 no_more_fields n (k.Star ∷ r) st h = refl
 no_more_fields n (k.CloseRound ∷ r) st h = refl
@@ -130,72 +132,72 @@ no_more_fields n (k.CloseSquare ∷ r) st h = refl
 no_more_fields n (k.Else ∷ r) st h = refl
 no_more_fields n (_ ∷ r) st h = absurd h
 
-no_more_conjuncts : (n d : ℕ) (r : List Kind) (st : List Predicted) → NotStar r → verdict n r (m.more_conjuncts d ∷ st) ≡ verdict n r st
+no_more_conjuncts : (n d : ℕ) (r : List Leaf) (st : List Predicted) → NotStar r → verdict n r (m.more_conjuncts d ∷ st) ≡ verdict n r st
 no_more_conjuncts n d [] st h = refl
 no_more_conjuncts n d (k.Star ∷ r) st h = absurd h
 no_more_conjuncts n d (_ ∷ r) st h = refl
 
-more_fields_go : (n : ℕ) (fs : List SurfaceField) (r : List Kind) (st : List Predicted) → AfterConjunct r → verdict n (g.more_fields fs r) (m.more_fields ∷ st) ≡ verdict n r st
+more_fields_go : (n : ℕ) (fs : List SurfaceField) (r : List Leaf) (st : List Predicted) → AfterConjunct r → verdict n (g.more_fields fs r) (m.more_fields ∷ st) ≡ verdict n r st
 more_fields_go n [] r st h = no_more_fields n r st h
 more_fields_go n (f ∷ fs) r st h = operand_goes n f.value (g.more_fields fs r) (m.more_fields ∷ st) ∙ more_fields_go n fs r st h
 
-maybe_fields_go : (n : ℕ) (fs : List SurfaceField) (r : List Kind) (st : List Predicted) → AfterConjunct r → verdict n (g.maybe_fields fs r) (m.maybe_fields ∷ st) ≡ verdict n r st
+maybe_fields_go : (n : ℕ) (fs : List SurfaceField) (r : List Leaf) (st : List Predicted) → AfterConjunct r → verdict n (g.maybe_fields fs r) (m.maybe_fields ∷ st) ≡ verdict n r st
 maybe_fields_go n [] r st h = no_fields n r st h
 maybe_fields_go n (f ∷ fs) r st h = operand_goes n f.value (g.more_fields fs r) (m.more_fields ∷ st) ∙ more_fields_go n fs r st h
 
 -- an assertion begins with its first conjunct
-first_conjunct : (n : ℕ) (c : s.Conjunct) (d : ℕ) (r : List Kind) (st : List Predicted) → HasLevel n (length (g.conjunct c r)) d → verdict n (g.conjunct c r) (m.assertion d ∷ st) ≡ verdict n (g.conjunct c r) (m.conjunct d ∷ m.more_conjuncts d ∷ st)
+first_conjunct : (n : ℕ) (c : s.Conjunct) (d : ℕ) (r : List Leaf) (st : List Predicted) → HasLevel n (length (g.conjunct c r)) d → verdict n (g.conjunct c r) (m.assertion d ∷ st) ≡ verdict n (g.conjunct c r) (m.conjunct d ∷ m.more_conjuncts d ∷ st)
 first_conjunct n (s.emp p) d r st h = rw h refl
-first_conjunct n (s.group p a) d r st h = rw h refl
+first_conjunct n (s.group a) d r st h = rw h refl
 first_conjunct n (s.choose p b x y) d r st h = rw h refl
 first_conjunct n (s.choose_round p b x y) d r st h = rw h refl
 first_conjunct n (s.equal x y) d r st h =
-    by_operand x (λ u. verdict n (u ∷ k.EqualEqual ∷ g.operand y ∷ r) (m.assertion d ∷ st) ≡ verdict n (u ∷ k.EqualEqual ∷ g.operand y ∷ r) (m.conjunct d ∷ m.more_conjuncts d ∷ st)) (rw h refl) (rw h refl) (rw h refl) (rw h refl) (rw h refl)
+    by_operand x (λ u. verdict n (u ∷ k.EqualEqual ∷ g.operand y ∷ r) (m.assertion d ∷ st) ≡ verdict n (u ∷ k.EqualEqual ∷ g.operand y ∷ r) (m.conjunct d ∷ m.more_conjuncts d ∷ st)) (λ w. rw h refl) (λ p. rw h refl) (λ p. rw h refl) (λ i p. rw h refl) (λ w. rw h refl)
 first_conjunct n (s.differ x y) d r st h =
-    by_operand x (λ u. verdict n (u ∷ k.NotEqual ∷ g.operand y ∷ r) (m.assertion d ∷ st) ≡ verdict n (u ∷ k.NotEqual ∷ g.operand y ∷ r) (m.conjunct d ∷ m.more_conjuncts d ∷ st)) (rw h refl) (rw h refl) (rw h refl) (rw h refl) (rw h refl)
+    by_operand x (λ u. verdict n (u ∷ k.NotEqual ∷ g.operand y ∷ r) (m.assertion d ∷ st) ≡ verdict n (u ∷ k.NotEqual ∷ g.operand y ∷ r) (m.conjunct d ∷ m.more_conjuncts d ∷ st)) (λ w. rw h refl) (λ p. rw h refl) (λ p. rw h refl) (λ i p. rw h refl) (λ w. rw h refl)
 first_conjunct n (s.points x fs) d r st h =
-    by_operand x (λ u. verdict n (u ∷ k.PointsTo ∷ g.maybe_fields fs r) (m.assertion d ∷ st) ≡ verdict n (u ∷ k.PointsTo ∷ g.maybe_fields fs r) (m.conjunct d ∷ m.more_conjuncts d ∷ st)) (rw h refl) (rw h refl) (rw h refl) (rw h refl) (rw h refl)
+    by_operand x (λ u. verdict n (u ∷ k.PointsTo ∷ g.maybe_fields fs r) (m.assertion d ∷ st) ≡ verdict n (u ∷ k.PointsTo ∷ g.maybe_fields fs r) (m.conjunct d ∷ m.more_conjuncts d ∷ st)) (λ w. rw h refl) (λ p. rw h refl) (λ p. rw h refl) (λ i p. rw h refl) (λ w. rw h refl)
 first_conjunct n (s.ls p x y) d r st h = rw h refl
 first_conjunct n (s.lseg p x y) d r st h = rw h refl
 first_conjunct n (s.list p x) d r st h = rw h refl
 first_conjunct n (s.tree p x) d r st h = rw h refl
 
 -- a note's assertion too
-first_in_annotation : (n : ℕ) (c : s.Conjunct) (r : List Kind) (st : List Predicted) → verdict n (g.conjunct c r) (m.maybe_assertion ∷ st) ≡ verdict n (g.conjunct c r) (m.conjunct NESTING ∷ m.more_conjuncts NESTING ∷ st)
+first_in_annotation : (n : ℕ) (c : s.Conjunct) (r : List Leaf) (st : List Predicted) → verdict n (g.conjunct c r) (m.maybe_assertion ∷ st) ≡ verdict n (g.conjunct c r) (m.conjunct NESTING ∷ m.more_conjuncts NESTING ∷ st)
 first_in_annotation n (s.emp p) r st = refl
-first_in_annotation n (s.group p a) r st = refl
+first_in_annotation n (s.group a) r st = refl
 first_in_annotation n (s.choose p b x y) r st = refl
 first_in_annotation n (s.choose_round p b x y) r st = refl
 first_in_annotation n (s.equal x y) r st =
-    by_operand x (λ u. verdict n (u ∷ k.EqualEqual ∷ g.operand y ∷ r) (m.maybe_assertion ∷ st) ≡ verdict n (u ∷ k.EqualEqual ∷ g.operand y ∷ r) (m.conjunct NESTING ∷ m.more_conjuncts NESTING ∷ st)) refl refl refl refl refl
+    by_operand x (λ u. verdict n (u ∷ k.EqualEqual ∷ g.operand y ∷ r) (m.maybe_assertion ∷ st) ≡ verdict n (u ∷ k.EqualEqual ∷ g.operand y ∷ r) (m.conjunct NESTING ∷ m.more_conjuncts NESTING ∷ st)) (λ w. refl) (λ p. refl) (λ p. refl) (λ i p. refl) (λ w. refl)
 first_in_annotation n (s.differ x y) r st =
-    by_operand x (λ u. verdict n (u ∷ k.NotEqual ∷ g.operand y ∷ r) (m.maybe_assertion ∷ st) ≡ verdict n (u ∷ k.NotEqual ∷ g.operand y ∷ r) (m.conjunct NESTING ∷ m.more_conjuncts NESTING ∷ st)) refl refl refl refl refl
+    by_operand x (λ u. verdict n (u ∷ k.NotEqual ∷ g.operand y ∷ r) (m.maybe_assertion ∷ st) ≡ verdict n (u ∷ k.NotEqual ∷ g.operand y ∷ r) (m.conjunct NESTING ∷ m.more_conjuncts NESTING ∷ st)) (λ w. refl) (λ p. refl) (λ p. refl) (λ i p. refl) (λ w. refl)
 first_in_annotation n (s.points x fs) r st =
-    by_operand x (λ u. verdict n (u ∷ k.PointsTo ∷ g.maybe_fields fs r) (m.maybe_assertion ∷ st) ≡ verdict n (u ∷ k.PointsTo ∷ g.maybe_fields fs r) (m.conjunct NESTING ∷ m.more_conjuncts NESTING ∷ st)) refl refl refl refl refl
+    by_operand x (λ u. verdict n (u ∷ k.PointsTo ∷ g.maybe_fields fs r) (m.maybe_assertion ∷ st) ≡ verdict n (u ∷ k.PointsTo ∷ g.maybe_fields fs r) (m.conjunct NESTING ∷ m.more_conjuncts NESTING ∷ st)) (λ w. refl) (λ p. refl) (λ p. refl) (λ i p. refl) (λ w. refl)
 first_in_annotation n (s.ls p x y) r st = refl
 first_in_annotation n (s.lseg p x y) r st = refl
 first_in_annotation n (s.list p x) r st = refl
 first_in_annotation n (s.tree p x) r st = refl
 
-pub closed_ends : (c : s.Conjunct) (r : List Kind) → IsClosed c → Ends c r
+pub closed_ends : (c : s.Conjunct) (r : List Leaf) → IsClosed c → Ends c r
 closed_ends (s.choose p b x y) r h = absurd h
 closed_ends (s.choose_round p b x y) r h = absurd h
 closed_ends _ r h = tt
 
-pub closed_before_star : (c : s.Conjunct) (r : List Kind) → Ends c (k.Star ∷ r) → IsClosed c
+pub closed_before_star : (c : s.Conjunct) (r : List Leaf) → Ends c (k.Star ∷ r) → IsClosed c
 closed_before_star (s.choose p b x y) r h = absurd h
 closed_before_star (s.choose_round p b x y) r h = absurd h
 closed_before_star _ r h = tt
 
-pub ends_before : (c : s.Conjunct) (r : List Kind) → NotStar r → Ends c r
+pub ends_before : (c : s.Conjunct) (r : List Leaf) → NotStar r → Ends c r
 ends_before (s.choose p b x y) r h = h
 ends_before (s.choose_round p b x y) r h = h
 ends_before _ r h = tt
 
 mutual
-  conjunct_goes : (n : ℕ) (c : s.Conjunct) (d : ℕ) (r : List Kind) (st : List Predicted) → ConjunctWithin c n d r → AfterConjunct r → Ends c r → verdict n (g.conjunct c r) (m.conjunct d ∷ st) ≡ verdict n r st
+  conjunct_goes : (n : ℕ) (c : s.Conjunct) (d : ℕ) (r : List Leaf) (st : List Predicted) → ConjunctWithin c n d r → AfterConjunct r → Ends c r → verdict n (g.conjunct c r) (m.conjunct d ∷ st) ≡ verdict n r st
   conjunct_goes n (s.emp p) d r st w a f = refl
-  conjunct_goes n (s.group p x) d r st w a f = assertion_goes n x (d - 1) (k.CloseRound ∷ r) (m.exact m.close_round ∷ st) w tt tt
+  conjunct_goes n (s.group x) d r st w a f = assertion_goes n x (d - 1) (k.CloseRound ∷ r) (m.exact m.close_round ∷ st) w tt tt
   conjunct_goes n (s.choose p b x y) d r st w a f =
       bare_test_goes n b (k.Then ∷ g.assertion x (k.Else ∷ g.assertion y r)) (m.exact m.then_word ∷ m.assertion (d - 1) ∷ m.exact m.else_word ∷ m.assertion (d - 1) ∷ st)
       ∙ assertion_goes n x (d - 1) (k.Else ∷ g.assertion y r) (m.exact m.else_word ∷ m.assertion (d - 1) ∷ st) w.0 tt tt
@@ -205,11 +207,11 @@ mutual
       ∙ assertion_goes n x (d - 1) (k.Else ∷ g.assertion y r) (m.exact m.else_word ∷ m.assertion (d - 1) ∷ st) w.0 tt tt
       ∙ assertion_goes n y (d - 1) r st w.1 a f
   conjunct_goes n (s.equal x y) d r st w a f =
-      let h = operand_goes n y r st in by_operand x (λ u. verdict n (u ∷ k.EqualEqual ∷ g.operand y ∷ r) (m.conjunct d ∷ st) ≡ verdict n r st) h h h h h
+      let h = operand_goes n y r st in by_operand x (λ u. verdict n (u ∷ k.EqualEqual ∷ g.operand y ∷ r) (m.conjunct d ∷ st) ≡ verdict n r st) (λ w. h) (λ p. h) (λ p. h) (λ i p. h) (λ w. h)
   conjunct_goes n (s.differ x y) d r st w a f =
-      let h = operand_goes n y r st in by_operand x (λ u. verdict n (u ∷ k.NotEqual ∷ g.operand y ∷ r) (m.conjunct d ∷ st) ≡ verdict n r st) h h h h h
+      let h = operand_goes n y r st in by_operand x (λ u. verdict n (u ∷ k.NotEqual ∷ g.operand y ∷ r) (m.conjunct d ∷ st) ≡ verdict n r st) (λ w. h) (λ p. h) (λ p. h) (λ i p. h) (λ w. h)
   conjunct_goes n (s.points x fs) d r st w a f =
-      let h = maybe_fields_go n fs r st a in by_operand x (λ u. verdict n (u ∷ k.PointsTo ∷ g.maybe_fields fs r) (m.conjunct d ∷ st) ≡ verdict n r st) h h h h h
+      let h = maybe_fields_go n fs r st a in by_operand x (λ u. verdict n (u ∷ k.PointsTo ∷ g.maybe_fields fs r) (m.conjunct d ∷ st) ≡ verdict n r st) (λ w. h) (λ p. h) (λ p. h) (λ i p. h) (λ w. h)
   conjunct_goes n (s.ls p x y) d r st w a f =
       operand_goes n x (k.Comma ∷ g.operand y ∷ k.CloseRound ∷ r) (m.exact m.a_comma ∷ m.operand ∷ m.exact m.close_round ∷ st) ∙ operand_goes n y (k.CloseRound ∷ r) (m.exact m.close_round ∷ st)
   conjunct_goes n (s.lseg p x y) d r st w a f =
@@ -217,7 +219,7 @@ mutual
   conjunct_goes n (s.list p x) d r st w a f = operand_goes n x (k.CloseRound ∷ r) (m.exact m.close_round ∷ st)
   conjunct_goes n (s.tree p x) d r st w a f = operand_goes n x (k.CloseRound ∷ r) (m.exact m.close_round ∷ st)
 
-  assertion_goes : (n : ℕ) (a : s.Assertion) (d : ℕ) (r : List Kind) (st : List Predicted) → AssertionWithin a n d r → AfterConjunct r → NotStar r → verdict n (g.assertion a r) (m.assertion d ∷ st) ≡ verdict n r st
+  assertion_goes : (n : ℕ) (a : s.Assertion) (d : ℕ) (r : List Leaf) (st : List Predicted) → AssertionWithin a n d r → AfterConjunct r → NotStar r → verdict n (g.assertion a r) (m.assertion d ∷ st) ≡ verdict n r st
   assertion_goes n (s.only c) d r st w a f =
       first_conjunct n c d r st w.0 ∙ conjunct_goes n c d r (m.more_conjuncts d ∷ st) w.1 a (ends_before c r f) ∙ no_more_conjuncts n d r st f
   assertion_goes n (s.star c x) d r st w a f =
@@ -226,13 +228,13 @@ mutual
       ∙ rest_of_assertion n x d r st w.3 a f
 
   -- what comes after a `*`
-  rest_of_assertion : (n : ℕ) (a : s.Assertion) (d : ℕ) (r : List Kind) (st : List Predicted) → RestWithin a n d r → AfterConjunct r → NotStar r → verdict n (g.assertion a r) (m.conjunct d ∷ m.more_conjuncts d ∷ st) ≡ verdict n r st
+  rest_of_assertion : (n : ℕ) (a : s.Assertion) (d : ℕ) (r : List Leaf) (st : List Predicted) → RestWithin a n d r → AfterConjunct r → NotStar r → verdict n (g.assertion a r) (m.conjunct d ∷ m.more_conjuncts d ∷ st) ≡ verdict n r st
   rest_of_assertion n (s.only c) d r st w a f = conjunct_goes n c d r (m.more_conjuncts d ∷ st) w a (ends_before c r f) ∙ no_more_conjuncts n d r st f
   rest_of_assertion n (s.star c x) d r st w a f =
       conjunct_goes n c d (k.Star ∷ g.assertion x r) (m.more_conjuncts d ∷ st) w.0 tt (closed_ends c (k.Star ∷ g.assertion x r) w.1)
       ∙ rest_of_assertion n x d r st w.2 a f
 
-in_annotation : (n : ℕ) (a : s.Assertion) (r : List Kind) (st : List Predicted) → AssertionWithin a n NESTING (k.CloseSquare ∷ r) → verdict n (g.assertion a (k.CloseSquare ∷ r)) (m.maybe_assertion ∷ m.exact m.close_square ∷ st) ≡ verdict n r st
+in_annotation : (n : ℕ) (a : s.Assertion) (r : List Leaf) (st : List Predicted) → AssertionWithin a n NESTING (k.CloseSquare ∷ r) → verdict n (g.assertion a (k.CloseSquare ∷ r)) (m.maybe_assertion ∷ m.exact m.close_square ∷ st) ≡ verdict n r st
 in_annotation n (s.only c) r st w =
     first_in_annotation n c (k.CloseSquare ∷ r) (m.exact m.close_square ∷ st)
     ∙ conjunct_goes n c NESTING (k.CloseSquare ∷ r) (m.more_conjuncts NESTING ∷ m.exact m.close_square ∷ st) w.1 tt (ends_before c (k.CloseSquare ∷ r) tt)
@@ -242,11 +244,11 @@ in_annotation n (s.star c x) r st w =
     ∙ rest_of_assertion n x NESTING (k.CloseSquare ∷ r) (m.exact m.close_square ∷ st) w.3 tt tt
 
 -- a note after its opening bracket
-pub annotation_goes : (n : ℕ) (x : s.Note) (r : List Kind) (st : List Predicted) → NoteWithin x n r → verdict n (g.annotation x r) (m.exact m.open_square ∷ m.maybe_assertion ∷ m.exact m.close_square ∷ st) ≡ verdict n r st
+pub annotation_goes : (n : ℕ) (x : s.Note) (r : List Leaf) (st : List Predicted) → NoteWithin x n r → verdict n (g.annotation x r) (m.exact m.open_square ∷ m.maybe_assertion ∷ m.exact m.close_square ∷ st) ≡ verdict n r st
 annotation_goes n s.blank r st w = refl
 annotation_goes n (s.filled a) r st w = in_annotation n a r st w
 
-pub maybe_annotation_goes : (n : ℕ) (x : Option s.Note) (r : List Kind) (st : List Predicted) → MaybeWithin x n r → verdict n r (m.maybe_annotation ∷ st) ≡ verdict n r st → verdict n (g.maybe_annotation x r) (m.maybe_annotation ∷ st) ≡ verdict n r st
+pub maybe_annotation_goes : (n : ℕ) (x : Option s.Note) (r : List Leaf) (st : List Predicted) → MaybeWithin x n r → verdict n r (m.maybe_annotation ∷ st) ≡ verdict n r st → verdict n (g.maybe_annotation x r) (m.maybe_annotation ∷ st) ≡ verdict n r st
 maybe_annotation_goes n None r st w h = h
 maybe_annotation_goes n (Some s.blank) r st w h = refl
 maybe_annotation_goes n (Some (s.filled a)) r st w h = in_annotation n a r st w

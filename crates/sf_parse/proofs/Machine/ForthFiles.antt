@@ -1,12 +1,13 @@
 -- What the grammar has, the machine accepts: commands, items and files.
-use Rattle.std.proofs.Common.{◌≡◌, ℕ, suc, List, [], ◌∷◌, ◌-◌, length, refl, ◌∙◌}
+use Rattle.std.proofs.Common.{◌≡◌, ℕ, ℤ, suc, List, [], ◌∷◌, ◌-◌, length, refl, ◌∙◌}
 use Rattle.sf_base.specs.declared.limits.TheConstants.{NESTING}
+use Rattle.sf_base.specs.declared.place.Place.{Place}
 use Rattle.sf_ast.specs.declared.word.SurfaceExpr.{SurfaceExpr}
 use Rattle.sf_ast.specs.declared.word.SurfaceExpr.TheVariants as e
 use Rattle.sf_ast.specs.declared.word.Word.{Word}
 use Rattle.sf_ast.specs.Surface as s
-use Rattle.sf_lex.specs.declared.token.Kind.{Kind}
-use Rattle.sf_lex.specs.declared.token.Kind.TheVariants as k
+use Rattle.sf_parse.specs.Leaf.{Leaf}
+use Rattle.sf_parse.specs.Leaf as k
 use Rattle.sf_parse.specs.Grammar as g
 use Rattle.sf_parse.specs.Internal.Machine as m
 use Rattle.sf_parse.specs.Internal.Machine.{Predicted, verdict}
@@ -14,7 +15,7 @@ use Rattle.sf_parse.specs.Nesting.{NotElse, Follows, HasLevel, NoteWithin, Comma
 use Rattle.sf_parse.proofs.Machine.Back.{follows_else}
 use Rattle.sf_parse.proofs.Machine.Forth.{by_expr, expr_goes, test_goes, more_names_go, maybe_names_go, parameters_go, arguments_go, annotation_goes, maybe_annotation_goes}
 
-pub follows_any : (c : s.Command) (r : List Kind) → NotElse r → Follows c r
+pub follows_any : (c : s.Command) (r : List Leaf) → NotElse r → Follows c r
 follows_any (s.if_alone p b c) r h = h
 follows_any (s.if p b c d) r h = follows_any d r h
 follows_any (s.while p b x c) r h = follows_any c r h
@@ -22,64 +23,64 @@ follows_any (s.with p x b c) r h = follows_any c r h
 follows_any _ r h = tt
 
 -- what is so of each token that may begin a command, whatever comes after it, is so of each command
-by_command : (P : List Kind → Type 0) → ((r : List Kind) → P (k.Name ∷ r)) → ((r : List Kind) → P (k.Nil ∷ r)) → ((r : List Kind) → P (k.Null ∷ r)) → ((r : List Kind) → P (k.Number ∷ r))
-    → ((r : List Kind) → P (k.Dispose ∷ r)) → ((r : List Kind) → P (k.If ∷ r)) → ((r : List Kind) → P (k.While ∷ r)) → ((r : List Kind) → P (k.With ∷ r)) → ((r : List Kind) → P (k.OpenBrace ∷ r))
-    → (c : s.Command) (r : List Kind) → P (g.command c r)
+by_command : (P : List Leaf → Type 0) → ((w : Word) (r : List Leaf) → P (k.Name w ∷ r)) → ((p : Place) (r : List Leaf) → P (k.Nil p ∷ r)) → ((p : Place) (r : List Leaf) → P (k.Null p ∷ r)) → ((i : ℤ) (p : Place) (r : List Leaf) → P (k.Number i p ∷ r))
+    → ((p : Place) (r : List Leaf) → P (k.Dispose p ∷ r)) → ((p : Place) (r : List Leaf) → P (k.If p ∷ r)) → ((p : Place) (r : List Leaf) → P (k.While p ∷ r)) → ((p : Place) (r : List Leaf) → P (k.With p ∷ r)) → ((p : Place) (r : List Leaf) → P (k.OpenBrace p ∷ r))
+    → (c : s.Command) (r : List Leaf) → P (g.command c r)
 by_command P name nil null number dispose if_word while_word with_word brace (s.mutate a f b) r =
-    by_expr a (λ u. P (u ∷ k.Arrow ∷ k.Name ∷ k.Equals ∷ g.expr b ∷ k.Semicolon ∷ r)) (name _) (nil _) (null _) (number _)
-by_command P name nil null number dispose if_word while_word with_word brace (s.assign x a) r = name _
-by_command P name nil null number dispose if_word while_word with_word brace (s.look_up x a f) r = name _
-by_command P name nil null number dispose if_word while_word with_word brace (s.new x) r = name _
-by_command P name nil null number dispose if_word while_word with_word brace (s.dispose p a) r = dispose _
-by_command P name nil null number dispose if_word while_word with_word brace (s.dispose_round p a) r = dispose _
-by_command P name nil null number dispose if_word while_word with_word brace (s.if_alone p b c) r = if_word _
-by_command P name nil null number dispose if_word while_word with_word brace (s.if p b c d) r = if_word _
-by_command P name nil null number dispose if_word while_word with_word brace (s.while p b x c) r = while_word _
-by_command P name nil null number dispose if_word while_word with_word brace (s.with p x b c) r = with_word _
-by_command P name nil null number dispose if_word while_word with_word brace (s.call c) r = name _
-by_command P name nil null number dispose if_word while_word with_word brace (s.fork c d) r = name _
-by_command P name nil null number dispose if_word while_word with_word brace (s.block p cs) r = brace _
+    by_expr a (λ u. P (u ∷ k.Arrow ∷ k.Name f ∷ k.Equals ∷ g.expr b ∷ k.Semicolon ∷ r)) (λ w. name w _) (λ p. nil p _) (λ p. null p _) (λ i p. number i p _)
+by_command P name nil null number dispose if_word while_word with_word brace (s.assign x a) r = name x _
+by_command P name nil null number dispose if_word while_word with_word brace (s.look_up x a f) r = name x _
+by_command P name nil null number dispose if_word while_word with_word brace (s.new x) r = name x _
+by_command P name nil null number dispose if_word while_word with_word brace (s.dispose p a) r = dispose p _
+by_command P name nil null number dispose if_word while_word with_word brace (s.dispose_round p a) r = dispose p _
+by_command P name nil null number dispose if_word while_word with_word brace (s.if_alone p b c) r = if_word p _
+by_command P name nil null number dispose if_word while_word with_word brace (s.if p b c d) r = if_word p _
+by_command P name nil null number dispose if_word while_word with_word brace (s.while p b n c) r = while_word p _
+by_command P name nil null number dispose if_word while_word with_word brace (s.with p x b c) r = with_word p _
+by_command P name nil null number dispose if_word while_word with_word brace (s.call c) r = name c.name _
+by_command P name nil null number dispose if_word while_word with_word brace (s.fork c d) r = name c.name _
+by_command P name nil null number dispose if_word while_word with_word brace (s.block p cs q) r = brace p _
 
-no_else_front : (c : s.Command) (r : List Kind) → NotElse (g.command c r)
-no_else_front = by_command NotElse (λ r. tt) (λ r. tt) (λ r. tt) (λ r. tt) (λ r. tt) (λ r. tt) (λ r. tt) (λ r. tt) (λ r. tt)
+no_else_front : (c : s.Command) (r : List Leaf) → NotElse (g.command c r)
+no_else_front = by_command NotElse (λ w r. tt) (λ p r. tt) (λ p r. tt) (λ i p r. tt) (λ p r. tt) (λ p r. tt) (λ p r. tt) (λ p r. tt) (λ p r. tt)
 
-pub no_else_fronts : (cs : s.Commands) (r : List Kind) → NotElse r → NotElse (g.commands cs r)
+pub no_else_fronts : (cs : s.Commands) (r : List Leaf) → NotElse r → NotElse (g.commands cs r)
 no_else_fronts s.done r h = h
 no_else_fronts (s.then c cs) r h = no_else_front c (g.commands cs r)
 
 -- a command begins no note
-no_annotation : (n : ℕ) (c : s.Command) (r : List Kind) (st : List Predicted) → verdict n (g.command c r) (m.maybe_annotation ∷ st) ≡ verdict n (g.command c r) st
+no_annotation : (n : ℕ) (c : s.Command) (r : List Leaf) (st : List Predicted) → verdict n (g.command c r) (m.maybe_annotation ∷ st) ≡ verdict n (g.command c r) st
 no_annotation n c r st =
-    by_command (λ z. verdict n z (m.maybe_annotation ∷ st) ≡ verdict n z st) (λ z. refl) (λ z. refl) (λ z. refl) (λ z. refl) (λ z. refl) (λ z. refl) (λ z. refl) (λ z. refl) (λ z. refl) c r
+    by_command (λ z. verdict n z (m.maybe_annotation ∷ st) ≡ verdict n z st) (λ w r. refl) (λ p r. refl) (λ p r. refl) (λ i p r. refl) (λ p r. refl) (λ p r. refl) (λ p r. refl) (λ p r. refl) (λ p r. refl) c r
 
 -- the first of several commands
-one_of_many : (n : ℕ) (c : s.Command) (d : ℕ) (r : List Kind) (st : List Predicted) → verdict n (g.command c r) (m.commands d ∷ st) ≡ verdict n (g.command c r) (m.command d ∷ m.commands d ∷ st)
+one_of_many : (n : ℕ) (c : s.Command) (d : ℕ) (r : List Leaf) (st : List Predicted) → verdict n (g.command c r) (m.commands d ∷ st) ≡ verdict n (g.command c r) (m.command d ∷ m.commands d ∷ st)
 one_of_many n c d r st =
-    by_command (λ z. verdict n z (m.commands d ∷ st) ≡ verdict n z (m.command d ∷ m.commands d ∷ st)) (λ z. refl) (λ z. refl) (λ z. refl) (λ z. refl) (λ z. refl) (λ z. refl) (λ z. refl) (λ z. refl) (λ z. refl) c r
+    by_command (λ z. verdict n z (m.commands d ∷ st) ≡ verdict n z (m.command d ∷ m.commands d ∷ st)) (λ w r. refl) (λ p r. refl) (λ p r. refl) (λ i p r. refl) (λ p r. refl) (λ p r. refl) (λ p r. refl) (λ p r. refl) (λ p r. refl) c r
 
-no_branch : (n : ℕ) (d : ℕ) (r : List Kind) (st : List Predicted) → NotElse r → verdict n r (m.branch d ∷ st) ≡ verdict n r st
+no_branch : (n : ℕ) (d : ℕ) (r : List Leaf) (st : List Predicted) → NotElse r → verdict n r (m.branch d ∷ st) ≡ verdict n r st
 no_branch n d [] st h = refl
 no_branch n d (k.Else ∷ r) st h = absurd h
 no_branch n d (_ ∷ r) st h = refl
 
-mutate_goes : (n : ℕ) (a b : SurfaceExpr) (d : ℕ) (r : List Kind) (st : List Predicted) → HasLevel n (suc (suc (suc (suc (suc (suc (length r))))))) d → verdict n (g.expr a ∷ k.Arrow ∷ k.Name ∷ k.Equals ∷ g.expr b ∷ k.Semicolon ∷ r) (m.command d ∷ st) ≡ verdict n r st
-mutate_goes n (e.Name x) b d r st w = rw w (expr_goes n b (k.Semicolon ∷ r) (m.exact m.semicolon ∷ st))
-mutate_goes n (e.Nil p) b d r st w = rw w (expr_goes n b (k.Semicolon ∷ r) (m.exact m.semicolon ∷ st))
-mutate_goes n (e.Null p) b d r st w = rw w (expr_goes n b (k.Semicolon ∷ r) (m.exact m.semicolon ∷ st))
-mutate_goes n (e.Number x p) b d r st w = rw w (expr_goes n b (k.Semicolon ∷ r) (m.exact m.semicolon ∷ st))
+mutate_goes : (n : ℕ) (a : SurfaceExpr) (y : Word) (b : SurfaceExpr) (d : ℕ) (r : List Leaf) (st : List Predicted) → HasLevel n (suc (suc (suc (suc (suc (suc (length r))))))) d → verdict n (g.expr a ∷ k.Arrow ∷ k.Name y ∷ k.Equals ∷ g.expr b ∷ k.Semicolon ∷ r) (m.command d ∷ st) ≡ verdict n r st
+mutate_goes n (e.Name x) y b d r st w = rw w (expr_goes n b (k.Semicolon ∷ r) (m.exact m.semicolon ∷ st))
+mutate_goes n (e.Nil p) y b d r st w = rw w (expr_goes n b (k.Semicolon ∷ r) (m.exact m.semicolon ∷ st))
+mutate_goes n (e.Null p) y b d r st w = rw w (expr_goes n b (k.Semicolon ∷ r) (m.exact m.semicolon ∷ st))
+mutate_goes n (e.Number x p) y b d r st w = rw w (expr_goes n b (k.Semicolon ∷ r) (m.exact m.semicolon ∷ st))
 
-assigned_goes : (n : ℕ) (a : SurfaceExpr) (r : List Kind) (st : List Predicted) → verdict n (g.expr a ∷ r) (m.assigned ∷ st) ≡ verdict n r (m.look_up_or_end ∷ st)
-assigned_goes n a r st = by_expr a (λ u. verdict n (u ∷ r) (m.assigned ∷ st) ≡ verdict n r (m.look_up_or_end ∷ st)) refl refl refl refl
+assigned_goes : (n : ℕ) (a : SurfaceExpr) (r : List Leaf) (st : List Predicted) → verdict n (g.expr a ∷ r) (m.assigned ∷ st) ≡ verdict n r (m.look_up_or_end ∷ st)
+assigned_goes n a r st = by_expr a (λ u. verdict n (u ∷ r) (m.assigned ∷ st) ≡ verdict n r (m.look_up_or_end ∷ st)) (λ w. refl) (λ p. refl) (λ p. refl) (λ i p. refl)
 
-disposed_goes : (n : ℕ) (a : SurfaceExpr) (r : List Kind) (st : List Predicted) → verdict n (g.expr a ∷ r) (m.disposed ∷ st) ≡ verdict n r (m.exact m.semicolon ∷ st)
-disposed_goes n a r st = by_expr a (λ u. verdict n (u ∷ r) (m.disposed ∷ st) ≡ verdict n r (m.exact m.semicolon ∷ st)) refl refl refl refl
+disposed_goes : (n : ℕ) (a : SurfaceExpr) (r : List Leaf) (st : List Predicted) → verdict n (g.expr a ∷ r) (m.disposed ∷ st) ≡ verdict n r (m.exact m.semicolon ∷ st)
+disposed_goes n a r st = by_expr a (λ u. verdict n (u ∷ r) (m.disposed ∷ st) ≡ verdict n r (m.exact m.semicolon ∷ st)) (λ w. refl) (λ p. refl) (λ p. refl) (λ i p. refl)
 
 mutual
-  command_goes : (n : ℕ) (c : s.Command) (d : ℕ) (r : List Kind) (st : List Predicted) → CommandWithin c n d r → Follows c r → verdict n (g.command c r) (m.command d ∷ st) ≡ verdict n r st
+  command_goes : (n : ℕ) (c : s.Command) (d : ℕ) (r : List Leaf) (st : List Predicted) → CommandWithin c n d r → Follows c r → verdict n (g.command c r) (m.command d ∷ st) ≡ verdict n r st
   command_goes n (s.assign x a) d r st w f = rw w (assigned_goes n a (k.Semicolon ∷ r) st)
-  command_goes n (s.look_up x a y) d r st w f = rw w (assigned_goes n a (k.Arrow ∷ k.Name ∷ k.Semicolon ∷ r) st)
+  command_goes n (s.look_up x a y) d r st w f = rw w (assigned_goes n a (k.Arrow ∷ k.Name y ∷ k.Semicolon ∷ r) st)
   command_goes n (s.new x) d r st w f = rw w refl
-  command_goes n (s.mutate a y b) d r st w f = mutate_goes n a b d r st w
+  command_goes n (s.mutate a y b) d r st w f = mutate_goes n a y b d r st w
   command_goes n (s.dispose p a) d r st w f = rw w (disposed_goes n a (k.Semicolon ∷ r) st)
   command_goes n (s.dispose_round p a) d r st w f = rw w (expr_goes n a (k.CloseRound ∷ k.Semicolon ∷ r) (m.exact m.close_round ∷ m.exact m.semicolon ∷ st))
   command_goes n (s.if_alone p b c) d r st w f =
@@ -96,26 +97,26 @@ mutual
   command_goes n (s.call c) d r st w f = rw w (arguments_go n c.arguments (k.Semicolon ∷ r) (m.after_call ∷ st))
   command_goes n (s.fork c x) d r st w f =
       rw w (arguments_go n c.arguments (k.Bars ∷ g.call x (k.Semicolon ∷ r)) (m.after_call ∷ st) ∙ arguments_go n x.arguments (k.Semicolon ∷ r) (m.exact m.semicolon ∷ st))
-  command_goes n (s.block p cs) d r st w f = rw w.0 (commands_go n cs (d - 1) (k.CloseBrace ∷ r) (m.exact m.close_brace ∷ st) w.1 tt ∙ refl)
+  command_goes n (s.block p cs o) d r st w f = rw w.0 (commands_go n cs (d - 1) (k.CloseBrace o ∷ r) (m.exact m.close_brace ∷ st) w.1 tt ∙ refl)
 
-  commands_go : (n : ℕ) (cs : s.Commands) (d : ℕ) (r : List Kind) (st : List Predicted) → CommandsWithin cs n d r → NotElse r → verdict n (g.commands cs r) (m.commands d ∷ st) ≡ verdict n r (m.commands d ∷ st)
+  commands_go : (n : ℕ) (cs : s.Commands) (d : ℕ) (r : List Leaf) (st : List Predicted) → CommandsWithin cs n d r → NotElse r → verdict n (g.commands cs r) (m.commands d ∷ st) ≡ verdict n r (m.commands d ∷ st)
   commands_go n s.done d r st w h = refl
   commands_go n (s.then c cs) d r st w h =
       one_of_many n c d (g.commands cs r) st ∙ command_goes n c d (g.commands cs r) (m.commands d ∷ st) w.0 (follows_any c (g.commands cs r) (no_else_fronts cs r h)) ∙ commands_go n cs d r st w.1 h
 
 -- a body after its `local`s
-no_local : (n : ℕ) (c : s.Command) (r : List Kind) (st : List Predicted) → verdict n (g.command c r) (m.locals ∷ st) ≡ verdict n (g.command c r) st
+no_local : (n : ℕ) (c : s.Command) (r : List Leaf) (st : List Predicted) → verdict n (g.command c r) (m.locals ∷ st) ≡ verdict n (g.command c r) st
 no_local n c r st =
-    by_command (λ z. verdict n z (m.locals ∷ st) ≡ verdict n z st) (λ z. refl) (λ z. refl) (λ z. refl) (λ z. refl) (λ z. refl) (λ z. refl) (λ z. refl) (λ z. refl) (λ z. refl) c r
+    by_command (λ z. verdict n z (m.locals ∷ st) ≡ verdict n z st) (λ w r. refl) (λ p r. refl) (λ p r. refl) (λ i p r. refl) (λ p r. refl) (λ p r. refl) (λ p r. refl) (λ p r. refl) (λ p r. refl) c r
 
-no_locals : (n : ℕ) (cs : s.Commands) (r : List Kind) (st : List Predicted) → verdict n (g.commands cs (k.CloseBrace ∷ r)) (m.locals ∷ st) ≡ verdict n (g.commands cs (k.CloseBrace ∷ r)) st
-no_locals n s.done r st = refl
-no_locals n (s.then c cs) r st = no_local n c (g.commands cs (k.CloseBrace ∷ r)) st
+no_locals : (n : ℕ) (cs : s.Commands) (p : Place) (r : List Leaf) (st : List Predicted) → verdict n (g.commands cs (k.CloseBrace p ∷ r)) (m.locals ∷ st) ≡ verdict n (g.commands cs (k.CloseBrace p ∷ r)) st
+no_locals n s.done p r st = refl
+no_locals n (s.then c cs) p r st = no_local n c (g.commands cs (k.CloseBrace p ∷ r)) st
 
-locals_go : (n : ℕ) (ls : List s.Names) (cs : s.Commands) (r : List Kind) (st : List Predicted) → verdict n (g.locals ls (g.commands cs (k.CloseBrace ∷ r))) (m.locals ∷ st) ≡ verdict n (g.commands cs (k.CloseBrace ∷ r)) st
-locals_go n [] cs r st = no_locals n cs r st
-locals_go n (x ∷ ls) cs r st =
-    more_names_go n x.more (k.Semicolon ∷ g.locals ls (g.commands cs (k.CloseBrace ∷ r))) (m.exact m.semicolon ∷ m.locals ∷ st) refl ∙ locals_go n ls cs r st
+locals_go : (n : ℕ) (ls : List s.Names) (cs : s.Commands) (p : Place) (r : List Leaf) (st : List Predicted) → verdict n (g.locals ls (g.commands cs (k.CloseBrace p ∷ r))) (m.locals ∷ st) ≡ verdict n (g.commands cs (k.CloseBrace p ∷ r)) st
+locals_go n [] cs p r st = no_locals n cs p r st
+locals_go n (x ∷ ls) cs p r st =
+    more_names_go n x.more (k.Semicolon ∷ g.locals ls (g.commands cs (k.CloseBrace p ∷ r))) (m.exact m.semicolon ∷ m.locals ∷ st) refl ∙ locals_go n ls cs p r st
 
 -- an item begins no note
 no_annotation_items : (n : ℕ) (is : List s.Item) (st : List Predicted) → verdict n (g.items is []) (m.maybe_annotation ∷ st) ≡ verdict n (g.items is []) st
@@ -124,23 +125,23 @@ no_annotation_items n (s.fields x ∷ is) st = refl
 no_annotation_items n (s.resource x ∷ is) st = refl
 no_annotation_items n (s.procedure x ∷ is) st = refl
 
-fields_go : (n : ℕ) (xs : List Word) (r : List Kind) (st : List Predicted) → verdict n (g.more_names xs (k.Semicolon ∷ r)) (m.item_named ∷ st) ≡ verdict n r st
+fields_go : (n : ℕ) (xs : List Word) (r : List Leaf) (st : List Predicted) → verdict n (g.more_names xs (k.Semicolon ∷ r)) (m.item_named ∷ st) ≡ verdict n r st
 fields_go n [] r st = refl
 fields_go n (x ∷ xs) r st = more_names_go n xs (k.Semicolon ∷ r) (m.exact m.semicolon ∷ st) refl
 
-resource_goes : (n : ℕ) (x : s.Resource) (r : List Kind) (st : List Predicted) → NoteWithin x.invariant n r → verdict n (g.resource x r) (m.items ∷ st) ≡ verdict n r (m.items ∷ st)
+resource_goes : (n : ℕ) (x : s.Resource) (r : List Leaf) (st : List Predicted) → NoteWithin x.invariant n r → verdict n (g.resource x r) (m.items ∷ st) ≡ verdict n r (m.items ∷ st)
 resource_goes n x r st w =
     maybe_names_go n x.variables (k.CloseRound ∷ g.annotation x.invariant r) (m.exact m.close_round ∷ m.exact m.open_square ∷ m.maybe_assertion ∷ m.exact m.close_square ∷ m.items ∷ st) refl refl
     ∙ annotation_goes n x.invariant r (m.items ∷ st) w
 
-procedure_goes : (n : ℕ) (f : s.Procedure) (r : List Kind) (st : List Predicted) → ItemWithin (s.procedure f) n r → verdict n r (m.maybe_annotation ∷ m.items ∷ st) ≡ verdict n r (m.items ∷ st) → verdict n (g.procedure f r) (m.items ∷ st) ≡ verdict n r (m.items ∷ st)
+procedure_goes : (n : ℕ) (f : s.Procedure) (r : List Leaf) (st : List Predicted) → ItemWithin (s.procedure f) n r → verdict n r (m.maybe_annotation ∷ m.items ∷ st) ≡ verdict n r (m.items ∷ st) → verdict n (g.procedure f r) (m.items ∷ st) ≡ verdict n r (m.items ∷ st)
 procedure_goes n f r st w h =
-    parameters_go n f.parameters (g.maybe_annotation f.pre (k.OpenBrace ∷ g.locals f.locals (g.commands f.body (k.CloseBrace ∷ g.maybe_annotation f.post r))))
+    parameters_go n f.parameters (g.maybe_annotation f.pre (k.OpenBrace f.opens ∷ g.locals f.locals (g.commands f.body (k.CloseBrace f.closes ∷ g.maybe_annotation f.post r))))
     (m.maybe_annotation ∷ m.exact m.open_brace ∷ m.locals ∷ m.commands NESTING ∷ m.exact m.close_brace ∷ m.maybe_annotation ∷ m.items ∷ st)
-    ∙ maybe_annotation_goes n f.pre (k.OpenBrace ∷ g.locals f.locals (g.commands f.body (k.CloseBrace ∷ g.maybe_annotation f.post r)))
+    ∙ maybe_annotation_goes n f.pre (k.OpenBrace f.opens ∷ g.locals f.locals (g.commands f.body (k.CloseBrace f.closes ∷ g.maybe_annotation f.post r)))
     (m.exact m.open_brace ∷ m.locals ∷ m.commands NESTING ∷ m.exact m.close_brace ∷ m.maybe_annotation ∷ m.items ∷ st) w.0 refl
-    ∙ locals_go n f.locals f.body (g.maybe_annotation f.post r) (m.commands NESTING ∷ m.exact m.close_brace ∷ m.maybe_annotation ∷ m.items ∷ st)
-    ∙ commands_go n f.body NESTING (k.CloseBrace ∷ g.maybe_annotation f.post r) (m.exact m.close_brace ∷ m.maybe_annotation ∷ m.items ∷ st) w.1 tt
+    ∙ locals_go n f.locals f.body f.closes (g.maybe_annotation f.post r) (m.commands NESTING ∷ m.exact m.close_brace ∷ m.maybe_annotation ∷ m.items ∷ st)
+    ∙ commands_go n f.body NESTING (k.CloseBrace f.closes ∷ g.maybe_annotation f.post r) (m.exact m.close_brace ∷ m.maybe_annotation ∷ m.items ∷ st) w.1 tt
     ∙ maybe_annotation_goes n f.post r (m.items ∷ st) w.2 h
 
 -- a file is accepted

@@ -1,6 +1,6 @@
 -- What the machine does at one token where some tokens are free of the limit on nesting, and where none is.
 use Rattle.std.proofs.Common.{◌≡◌, ◌≤◌, ◌<◌, ℕ, suc, List, [], ◌∷◌, ◌++◌, Bool, true, false, refl, sym, ap, subst, ◌∙◌, arith}
-use Rattle.sf_lex.specs.declared.token.Kind.{Kind}
+use Rattle.sf_parse.specs.Leaf.{Leaf}
 use Rattle.sf_parse.specs.Internal.Machine as m
 use Rattle.sf_parse.specs.Internal.Machine.{Predicted, Choice, take, skip, refuse, Next, goes, bad, deep, leveled, chosen, choice, is_free, step}
 use Rattle.sf_parse.proofs.Machine.HasLevel.{level_in, level_over, level_frees}
@@ -30,7 +30,7 @@ chosen_goes skip f g st st2 w v free more e = more e
 chosen_goes refuse f g st st2 w v free more e = absurd cc
 
 -- what goes on without freedom goes on with it
-pub step_goes : (n l m : ℕ) (st st2 : List Predicted) (t : Kind) → step 0 (suc l) st t ≡ goes st2 → step n m st t ≡ goes st2
+pub step_goes : (n l m : ℕ) (st st2 : List Predicted) (t : Leaf) → step 0 (suc l) st t ≡ goes st2 → step n m st t ≡ goes st2
 step_goes n l m [] st2 t e = absurd cc
 step_goes n l m (s ∷ st) st2 t e =
     chosen_goes (choice s t) (is_free s 0 (suc l)) (is_free s n m) st st2 (step 0 (suc l) st t) (step n m st t) (free_frees s n l m) (step_goes n l m st st2 t) e
@@ -42,7 +42,7 @@ chosen_bad skip f g st w v more e = more e
 chosen_bad refuse f g st w v more e = refl
 
 -- a token that is bad is bad with freedom too
-pub step_bad : (n l m : ℕ) (st : List Predicted) (t : Kind) → step 0 (suc l) st t ≡ bad → step n m st t ≡ bad
+pub step_bad : (n l m : ℕ) (st : List Predicted) (t : Leaf) → step 0 (suc l) st t ≡ bad → step n m st t ≡ bad
 step_bad n l m [] t e = refl
 step_bad n l m (s ∷ st) t e = chosen_bad (choice s t) (is_free s 0 (suc l)) (is_free s n m) st (step 0 (suc l) st t) (step n m st t) (step_bad n l m st t) e
 
@@ -53,7 +53,7 @@ chosen_deep skip f g st w v free more e = more e
 chosen_deep refuse f g st w v free more e = absurd cc
 
 -- one that is too deep is so where freedom does not reach
-pub step_deep_over : (n l m : ℕ) (st : List Predicted) (t : Kind) → n < m → step 0 (suc l) st t ≡ deep → step n m st t ≡ deep
+pub step_deep_over : (n l m : ℕ) (st : List Predicted) (t : Leaf) → n < m → step 0 (suc l) st t ≡ deep → step n m st t ≡ deep
 step_deep_over n l m [] t h e = absurd cc
 step_deep_over n l m (s ∷ st) t h e =
     chosen_deep (choice s t) (is_free s 0 (suc l)) (is_free s n m) st (step 0 (suc l) st t) (step n m st t) (λ f. free_over s n l m f h) (step_deep_over n l m st t h) e
@@ -65,14 +65,14 @@ chosen_deep_in skip f st w v more e = more e
 chosen_deep_in refuse f st w v more e = absurd cc
 
 -- and goes on where it does
-pub step_deep_in : (l : ℕ) (st : List Predicted) (t : Kind) → step 0 (suc l) st t ≡ deep → (st2 : List Predicted) × (step 0 0 st t ≡ goes st2)
+pub step_deep_in : (l : ℕ) (st : List Predicted) (t : Leaf) → step 0 (suc l) st t ≡ deep → (st2 : List Predicted) × (step 0 0 st t ≡ goes st2)
 step_deep_in l [] t e = absurd cc
 step_deep_in l (s ∷ st) t e =
     let k = chosen_deep_in (choice s t) (is_free s 0 (suc l)) st (step 0 (suc l) st t) (step 0 0 st t) (step_deep_in l st t) e in
     (k.0, subst (λ f. chosen (choice s t) f st (step 0 0 st t) ≡ goes k.0) (sym (free_in s 0 0 (omega arith))) k.1)
 
 -- where all is free it does not matter how much is
-pub step_free : (n m : ℕ) (st : List Predicted) (t : Kind) → m ≤ n → step n m st t ≡ step 0 0 st t
+pub step_free : (n m : ℕ) (st : List Predicted) (t : Leaf) → m ≤ n → step n m st t ≡ step 0 0 st t
 step_free n m [] t h = refl
 step_free n m (s ∷ st) t h =
     let more : step n m st t ≡ step 0 0 st t = step_free n m st t h in

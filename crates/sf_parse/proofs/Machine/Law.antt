@@ -3,7 +3,7 @@ use Rattle.std.proofs.Common.{◌≡◌, ◌<◌, ℕ, suc, List, [], ◌∷◌,
 use Rattle.std.proofs.lemmas.List.{append-nil}
 use Rattle.sf_ast.specs.Surface as s
 use Rattle.sf_ast.specs.Surface.{Item}
-use Rattle.sf_lex.specs.declared.token.Kind.{Kind}
+use Rattle.sf_parse.specs.Leaf.{Leaf}
 use Rattle.sf_parse.specs.Grammar.{items}
 use Rattle.sf_parse.specs.Laws.{TheVerdictIsExact}
 use Rattle.sf_parse.specs.Internal.Machine as m
@@ -16,18 +16,18 @@ use Rattle.sf_parse.proofs.Machine.Means.{Spells, Means, MeansNext}
 use Rattle.sf_parse.proofs.Machine.OwedBack.{step_back}
 
 -- a file, from what the stack with which the machine begins spells
-file_of : (n : ℕ) (ts : List Kind) → Means n (m.items ∷ []) ts → (tree : List Item) × (ts ≡ items tree []) × ItemsWithin tree n []
+file_of : (n : ℕ) (ts : List Leaf) → Means n (m.items ∷ []) ts → (tree : List Item) × (ts ≡ items tree []) × ItemsWithin tree n []
 file_of n ts q = (q.1.0, subst (λ z. ts ≡ items q.1.0 z) q.2 q.1.1, subst (λ z. ItemsWithin q.1.0 n z) q.2 q.1.2)
 
-can_begin : (front : List Kind) → GoesOn (m.items ∷ []) front → CanBegin front
+can_begin : (front : List Leaf) → GoesOn (m.items ∷ []) front → CanBegin front
 can_begin front q =
     let f = file_of (length q.0) (front ++ q.0) (q.1 (length q.0) (omega arith)) in
     record { back = q.0; tree = f.0; spells = f.1; within = f.2 }
 
-pub file_accepted : (n : ℕ) (ts : List Kind) (tree : List Item) → ts ≡ items tree [] → ItemsWithin tree n [] → verdict n ts (m.items ∷ []) ≡ accepted
+pub file_accepted : (n : ℕ) (ts : List Leaf) (tree : List Item) → ts ≡ items tree [] → ItemsWithin tree n [] → verdict n ts (m.items ∷ []) ≡ accepted
 file_accepted n ts tree is w = ap (λ z. verdict n z (m.items ∷ [])) is ∙ items_go n tree w
 
-pub refuses : (n : ℕ) (front : List Kind) (t : Kind) (back other : List Kind) (b : Bool) → (b ≡ true) ⊎ (n < suc (length other)) → verdict 0 (front ++ t ∷ back) (m.items ∷ []) ≡ fault_of b (suc (length back))
+pub refuses : (n : ℕ) (front : List Leaf) (t : Leaf) (back other : List Leaf) (b : Bool) → (b ≡ true) ⊎ (n < suc (length other)) → verdict 0 (front ++ t ∷ back) (m.items ∷ []) ≡ fault_of b (suc (length back))
     → (tree : List Item) → (front ++ t ∷ []) ++ other ≡ items tree [] → ItemsWithin tree n [] → ⊥
 refuses n front t back other b z e tree is w =
     stuck front t back other (m.items ∷ []) b n z e (file_accepted n (front ++ t ∷ other) tree (sym (append_assoc front (t ∷ []) other) ∙ is) w)
@@ -70,7 +70,7 @@ at_end_accepted true h = refl
 at_end_accepted false h = absurd cc
 
 -- what is accepted is spelled
-accepted_means : (n : ℕ) (ts : List Kind) (st : List Predicted) → verdict n ts st ≡ accepted → Means n st ts
+accepted_means : (n : ℕ) (ts : List Leaf) (st : List Predicted) → verdict n ts st ≡ accepted → Means n st ts
 accepted_means n [] st h = ended n st (at_end_accepted (may_end st) h)
 accepted_means n (t ∷ ts) st h = go (step n (suc (length ts)) st t) refl (accepted_means n ts) h
   where
@@ -80,7 +80,7 @@ accepted_means n (t ∷ ts) st h = go (step n (suc (length ts)) st t) refl (acce
     go deep is f h = absurd cc
 
 -- what is accepted is a file
-pub accepted_file : (n : ℕ) (ts : List Kind) → verdict n ts (m.items ∷ []) ≡ accepted → (tree : List Item) × (ts ≡ items tree []) × ItemsWithin tree n []
+pub accepted_file : (n : ℕ) (ts : List Leaf) → verdict n ts (m.items ∷ []) ≡ accepted → (tree : List Item) × (ts ≡ items tree []) × ItemsWithin tree n []
 accepted_file n ts e = file_of n ts (accepted_means n ts (m.items ∷ []) e)
 
 pub exact : TheVerdictIsExact

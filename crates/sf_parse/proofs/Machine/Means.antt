@@ -7,18 +7,18 @@ use Rattle.sf_ast.specs.declared.word.SurfaceOperand.{SurfaceOperand}
 use Rattle.sf_ast.specs.declared.word.SurfaceTest.{SurfaceTest}
 use Rattle.sf_ast.specs.declared.word.Word.{Word}
 use Rattle.sf_ast.specs.Surface as s
-use Rattle.sf_lex.specs.declared.token.Kind.{Kind}
-use Rattle.sf_lex.specs.declared.token.Kind.TheVariants as k
+use Rattle.sf_parse.specs.Leaf.{Leaf}
+use Rattle.sf_parse.specs.Leaf as k
 use Rattle.sf_parse.specs.Grammar as g
 use Rattle.sf_parse.specs.Internal.Heads.{IsFlat}
 use Rattle.sf_parse.specs.Internal.Machine as m
-use Rattle.sf_parse.specs.Internal.Machine.{Predicted, terminal_kind}
+use Rattle.sf_parse.specs.Internal.Machine.{Predicted, terminal_leaf}
 use Rattle.sf_parse.specs.Nesting.{NotElse, Follows, ConjunctWithin, AssertionWithin, RestWithin, MaybeWithin, CommandWithin, CommandsWithin, ItemWithin, ItemsWithin}
 use Rattle.sf_parse.specs.Internal.Parser.{NotStar, Ends}
 
 -- what one thing owed spells, with the tokens after it
-abbrev pub Spells : ℕ → Predicted → List Kind → List Kind → Type 0
-Spells n (m.exact u) ts r = ts ≡ terminal_kind u ∷ r
+abbrev pub Spells : ℕ → Predicted → List Leaf → List Leaf → Type 0
+Spells n (m.exact u) ts r = (x : Word) × (ts ≡ terminal_leaf u x ∷ r)
 Spells n m.expression ts r = (x : SurfaceExpr) × (ts ≡ g.expr x ∷ r)
 Spells n m.operand ts r = (x : SurfaceOperand) × (ts ≡ g.operand x ∷ r)
 Spells n m.equality ts r = (ts ≡ k.EqualEqual ∷ r) ⊎ (ts ≡ k.NotEqual ∷ r)
@@ -30,7 +30,7 @@ Spells n m.maybe_names ts r = (xs : List Word) × (ts ≡ g.maybe_names xs r)
 Spells n m.maybe_values ts r = (ts ≡ r) ⊎ ((xs : List Word) × (ts ≡ k.Semicolon ∷ g.maybe_names xs r))
 Spells n m.maybe_arguments ts r = (a : s.Arguments) × (ts ≡ g.arguments a r)
 Spells n (m.rest b) ts r = ((xs : List SurfaceExpr) × (ts ≡ g.more_exprs xs r)) ⊎ ((b ≡ true) × (ns : List Word) × (xs : List SurfaceExpr) × (ts ≡ g.more_names ns (k.Semicolon ∷ g.maybe_exprs xs r)))
-Spells n (m.next b) ts r = ((x : SurfaceExpr) × (xs : List SurfaceExpr) × (ts ≡ g.expr x ∷ g.more_exprs xs r)) ⊎ ((b ≡ true) × (ns : List Word) × (xs : List SurfaceExpr) × (ts ≡ k.Name ∷ g.more_names ns (k.Semicolon ∷ g.maybe_exprs xs r)))
+Spells n (m.next b) ts r = ((x : SurfaceExpr) × (xs : List SurfaceExpr) × (ts ≡ g.expr x ∷ g.more_exprs xs r)) ⊎ ((b ≡ true) × (y : Word) × (ns : List Word) × (xs : List SurfaceExpr) × (ts ≡ k.Name y ∷ g.more_names ns (k.Semicolon ∷ g.maybe_exprs xs r)))
 Spells n m.maybe_expressions ts r = (xs : List SurfaceExpr) × (ts ≡ g.maybe_exprs xs r)
 Spells n m.more_expressions ts r = (xs : List SurfaceExpr) × (ts ≡ g.more_exprs xs r)
 Spells n m.relation ts r = ((x : SurfaceOperand) × (ts ≡ k.EqualEqual ∷ g.operand x ∷ r)) ⊎ ((x : SurfaceOperand) × (ts ≡ k.NotEqual ∷ g.operand x ∷ r)) ⊎ ((fs : List SurfaceField) × (ts ≡ k.PointsTo ∷ g.maybe_fields fs r))
@@ -41,24 +41,24 @@ Spells n (m.more_conjuncts d) ts r = (NotStar ts × (ts ≡ r)) ⊎ ((a : s.Asse
 Spells n (m.assertion d) ts r = (a : s.Assertion) × (ts ≡ g.assertion a r) × AssertionWithin a n d r × NotStar r
 Spells n m.maybe_assertion ts r = (ts ≡ r) ⊎ ((a : s.Assertion) × (ts ≡ g.assertion a r) × AssertionWithin a n NESTING r × NotStar r)
 Spells n m.maybe_annotation ts r = (x : Option s.Note) × (ts ≡ g.maybe_annotation x r) × MaybeWithin x n r
-Spells n m.named ts r = (c : s.Command) × IsFlat c × (k.Name ∷ ts ≡ g.command c r)
-Spells n m.assigned ts r = (c : s.Command) × IsFlat c × (k.Name ∷ k.Equals ∷ ts ≡ g.command c r)
-Spells n m.look_up_or_end ts r = (ts ≡ k.Semicolon ∷ r) ⊎ (ts ≡ k.Arrow ∷ k.Name ∷ k.Semicolon ∷ r)
-Spells n m.after_call ts r = (ts ≡ k.Semicolon ∷ r) ⊎ ((a : s.Arguments) × (ts ≡ k.Bars ∷ k.Name ∷ k.OpenRound ∷ g.arguments a (k.CloseRound ∷ k.Semicolon ∷ r)))
+Spells n m.named ts r = (x : Word) → (c : s.Command) × IsFlat c × (k.Name x ∷ ts ≡ g.command c r)
+Spells n m.assigned ts r = (x : Word) → (c : s.Command) × IsFlat c × (k.Name x ∷ k.Equals ∷ ts ≡ g.command c r)
+Spells n m.look_up_or_end ts r = (ts ≡ k.Semicolon ∷ r) ⊎ ((f : Word) × (ts ≡ k.Arrow ∷ k.Name f ∷ k.Semicolon ∷ r))
+Spells n m.after_call ts r = (ts ≡ k.Semicolon ∷ r) ⊎ ((x : s.Call) × (ts ≡ k.Bars ∷ g.call x (k.Semicolon ∷ r)))
 Spells n m.disposed ts r = ((x : SurfaceExpr) × (ts ≡ k.OpenRound ∷ g.expr x ∷ k.CloseRound ∷ k.Semicolon ∷ r)) ⊎ ((x : SurfaceExpr) × (ts ≡ g.expr x ∷ k.Semicolon ∷ r))
 Spells n (m.command d) ts r = (c : s.Command) × (ts ≡ g.command c r) × CommandWithin c n d r × Follows c r
 Spells n (m.commands d) ts r = (cs : s.Commands) × (ts ≡ g.commands cs r) × CommandsWithin cs n d r
 Spells n (m.branch d) ts r = ((c : s.Command) × (ts ≡ k.Else ∷ g.command c r) × CommandWithin c n d r × Follows c r) ⊎ (NotElse ts × (ts ≡ r))
 Spells n m.locals ts r = (nss : List s.Names) × (ts ≡ g.locals nss r)
-Spells n m.item_named ts r = (i : s.Item) × (k.Name ∷ ts ≡ g.item i r) × ItemWithin i n r
+Spells n m.item_named ts r = (x : Word) → (i : s.Item) × (k.Name x ∷ ts ≡ g.item i r) × ItemWithin i n r
 Spells n m.items ts r = (is : List s.Item) × (ts ≡ g.items is r) × ItemsWithin is n r
 
 -- what a stack spells
-abbrev pub Means : ℕ → List Predicted → List Kind → Type 0
+abbrev pub Means : ℕ → List Predicted → List Leaf → Type 0
 Means n [] ts = ts ≡ []
-Means n (s ∷ st) ts = (r : List Kind) × Spells n s ts r × Means n st r
+Means n (s ∷ st) ts = (r : List Leaf) × Spells n s ts r × Means n st r
 
-abbrev pub MeansNext : ℕ → m.Next → List Kind → Type 0
+abbrev pub MeansNext : ℕ → m.Next → List Leaf → Type 0
 MeansNext n (m.goes st) ts = Means n st ts
 MeansNext n m.bad ts = ⊥
 MeansNext n m.deep ts = ⊥

@@ -1,98 +1,99 @@
 -- Which way the machine goes at a token that was looked at: what need not come.
 use Rattle.std.proofs.Common.{◌≡◌, ℕ, List, [], ◌∷◌, ◌++◌, length, false, refl, ◌∙◌}
-use Rattle.sf_lex.specs.declared.token.Kind.{Kind}
-use Rattle.sf_lex.specs.declared.token.Kind.TheVariants as k
+use Rattle.sf_parse.specs.Leaf.{Leaf}
+use Rattle.sf_lex.specs.declared.token.Kind.TheVariants as tk
+use Rattle.sf_parse.specs.Leaf as k
 use Rattle.sf_lex.specs.declared.token.Token.{Token}
 use Rattle.sf_parse.specs.Internal.Heads.{conjunct_next}
 use Rattle.sf_parse.specs.declared.stop.Stop.{Stop}
 use Rattle.sf_parse.specs.declared.stop.Stop.TheVariants.{Unexpected, TooDeep, OutOfMemory}
 use Rattle.sf_parse.specs.Internal.Machine as m
 use Rattle.sf_parse.specs.Internal.Machine.{Predicted, verdict, unexpected}
-use Rattle.sf_parse.specs.Parsing.{kinds}
+use Rattle.sf_parse.specs.Leaf.{leaves}
 use Rattle.sf_parse.specs.Internal.Parser.{NotNext, FailsAt, operand_next}
 use Rattle.sf_parse.proofs.Machine.Decided.{conjunct_decided, refused}
 use Rattle.sf_parse.proofs.Parser.Fronts.{left_of}
 
-pub no_more_names : (ts : List Kind) (st : List Predicted) → NotNext k.Comma ts → verdict 0 ts (m.more_names ∷ st) ≡ verdict 0 ts st
+pub no_more_names : (ts : List Leaf) (st : List Predicted) → NotNext tk.Comma ts → verdict 0 ts (m.more_names ∷ st) ≡ verdict 0 ts st
 no_more_names [] st h = refl
-no_more_names (k.Comma ∷ r) st h = absurd (h r refl)
+no_more_names (k.Comma ∷ r) st h = absurd (h refl)
 no_more_names (t ∷ r) st h = refl
 
-pub no_names : (ts : List Kind) (st : List Predicted) → NotNext k.Name ts → verdict 0 ts (m.maybe_names ∷ st) ≡ verdict 0 ts st
+pub no_names : (ts : List Leaf) (st : List Predicted) → NotNext tk.Name ts → verdict 0 ts (m.maybe_names ∷ st) ≡ verdict 0 ts st
 no_names [] st h = refl
-no_names (k.Name ∷ r) st h = absurd (h r refl)
+no_names (k.Name _ ∷ r) st h = absurd (h refl)
 no_names (t ∷ r) st h = refl
 
-pub no_values : (ts : List Kind) (st : List Predicted) → NotNext k.Semicolon ts → verdict 0 ts (m.maybe_values ∷ st) ≡ verdict 0 ts st
+pub no_values : (ts : List Leaf) (st : List Predicted) → NotNext tk.Semicolon ts → verdict 0 ts (m.maybe_values ∷ st) ≡ verdict 0 ts st
 no_values [] st h = refl
-no_values (k.Semicolon ∷ r) st h = absurd (h r refl)
+no_values (k.Semicolon ∷ r) st h = absurd (h refl)
 no_values (t ∷ r) st h = refl
 
-pub no_true : (ts : List Kind) (st : List Predicted) → NotNext k.True ts → verdict 0 ts (m.test ∷ st) ≡ verdict 0 ts (m.expression ∷ m.equality ∷ m.expression ∷ st)
+pub no_true : (ts : List Leaf) (st : List Predicted) → NotNext tk.True ts → verdict 0 ts (m.test ∷ st) ≡ verdict 0 ts (m.expression ∷ m.equality ∷ m.expression ∷ st)
 no_true [] st h = refl
-no_true (k.True ∷ r) st h = absurd (h r refl)
-no_true (k.Name ∷ r) st h = refl
+no_true (k.True _ ∷ r) st h = absurd (h refl)
+no_true (k.Name _ ∷ r) st h = refl
 no_true (t ∷ r) st h = refl
 
-pub no_true_operand : (ts : List Kind) (st : List Predicted) → NotNext k.True ts → verdict 0 ts (m.operand_test ∷ st) ≡ verdict 0 ts (m.operand ∷ m.equality ∷ m.operand ∷ st)
+pub no_true_operand : (ts : List Leaf) (st : List Predicted) → NotNext tk.True ts → verdict 0 ts (m.operand_test ∷ st) ≡ verdict 0 ts (m.operand ∷ m.equality ∷ m.operand ∷ st)
 no_true_operand [] st h = refl
-no_true_operand (k.True ∷ r) st h = absurd (h r refl)
+no_true_operand (k.True _ ∷ r) st h = absurd (h refl)
 no_true_operand (t ∷ r) st h = refl
 
-pub no_equality : (ts : List Token) (st : List Predicted) → NotNext k.EqualEqual (kinds ts) → NotNext k.NotEqual (kinds ts) → verdict 0 (kinds ts) (m.equality ∷ st) ≡ unexpected (length ts)
-no_equality ts st h i = left_of ts (m.equality ∷ st) (go (kinds ts) h i)
+pub no_equality : (ts : List Token) (st : List Predicted) → NotNext tk.EqualEqual (leaves ts) → NotNext tk.NotEqual (leaves ts) → verdict 0 (leaves ts) (m.equality ∷ st) ≡ unexpected (length ts)
+no_equality ts st h i = left_of ts (m.equality ∷ st) (go (leaves ts) h i)
   where
-    go : (us : List Kind) → NotNext k.EqualEqual us → NotNext k.NotEqual us → verdict 0 us (m.equality ∷ st) ≡ unexpected (length us)
+    go : (us : List Leaf) → NotNext tk.EqualEqual us → NotNext tk.NotEqual us → verdict 0 us (m.equality ∷ st) ≡ unexpected (length us)
     go [] h i = refl
-    go (k.EqualEqual ∷ r) h i = absurd (h r refl)
-    go (k.NotEqual ∷ r) h i = absurd (i r refl)
+    go (k.EqualEqual ∷ r) h i = absurd (h refl)
+    go (k.NotEqual ∷ r) h i = absurd (i refl)
     go (t ∷ r) h i = refl
 
-pub no_fields : (ts : List Kind) (st : List Predicted) → NotNext k.Name ts → verdict 0 ts (m.maybe_fields ∷ st) ≡ verdict 0 ts st
+pub no_fields : (ts : List Leaf) (st : List Predicted) → NotNext tk.Name ts → verdict 0 ts (m.maybe_fields ∷ st) ≡ verdict 0 ts st
 no_fields [] st h = refl
-no_fields (k.Name ∷ r) st h = absurd (h r refl)
+no_fields (k.Name _ ∷ r) st h = absurd (h refl)
 no_fields (t ∷ r) st h = refl
 
-pub no_more_fields : (ts : List Kind) (st : List Predicted) → NotNext k.Comma ts → verdict 0 ts (m.more_fields ∷ st) ≡ verdict 0 ts st
+pub no_more_fields : (ts : List Leaf) (st : List Predicted) → NotNext tk.Comma ts → verdict 0 ts (m.more_fields ∷ st) ≡ verdict 0 ts st
 no_more_fields [] st h = refl
-no_more_fields (k.Comma ∷ r) st h = absurd (h r refl)
+no_more_fields (k.Comma ∷ r) st h = absurd (h refl)
 no_more_fields (t ∷ r) st h = refl
 
-pub no_relation : (ts : List Token) (st : List Predicted) → NotNext k.EqualEqual (kinds ts) → NotNext k.NotEqual (kinds ts) → NotNext k.PointsTo (kinds ts) → verdict 0 (kinds ts) (m.relation ∷ st) ≡ unexpected (length ts)
-no_relation ts st h i j = left_of ts (m.relation ∷ st) (go (kinds ts) h i j)
+pub no_relation : (ts : List Token) (st : List Predicted) → NotNext tk.EqualEqual (leaves ts) → NotNext tk.NotEqual (leaves ts) → NotNext tk.PointsTo (leaves ts) → verdict 0 (leaves ts) (m.relation ∷ st) ≡ unexpected (length ts)
+no_relation ts st h i j = left_of ts (m.relation ∷ st) (go (leaves ts) h i j)
   where
-    go : (us : List Kind) → NotNext k.EqualEqual us → NotNext k.NotEqual us → NotNext k.PointsTo us → verdict 0 us (m.relation ∷ st) ≡ unexpected (length us)
+    go : (us : List Leaf) → NotNext tk.EqualEqual us → NotNext tk.NotEqual us → NotNext tk.PointsTo us → verdict 0 us (m.relation ∷ st) ≡ unexpected (length us)
     go [] h i j = refl
-    go (k.EqualEqual ∷ r) h i j = absurd (h r refl)
-    go (k.NotEqual ∷ r) h i j = absurd (i r refl)
-    go (k.PointsTo ∷ r) h i j = absurd (j r refl)
+    go (k.EqualEqual ∷ r) h i j = absurd (h refl)
+    go (k.NotEqual ∷ r) h i j = absurd (i refl)
+    go (k.PointsTo ∷ r) h i j = absurd (j refl)
     go (t ∷ r) h i j = refl
 
-pub conjunct_fails : (d : ℕ) (ts : List Kind) (st : List Predicted) → conjunct_next ts ≡ false → verdict 0 ts (m.conjunct d ∷ st) ≡ unexpected (length ts)
+pub conjunct_fails : (d : ℕ) (ts : List Leaf) (st : List Predicted) → conjunct_next ts ≡ false → verdict 0 ts (m.conjunct d ∷ st) ≡ unexpected (length ts)
 conjunct_fails d [] st h = refl
 conjunct_fails d (t ∷ r) st h = rw (refused (conjunct_decided d t r) h []) refl
 
-none_begins : (ts : List Kind) → operand_next ts ≡ false → NotNext k.OpenRound ts → NotNext k.If ts → NotNext k.Emp ts → NotNext k.Ls ts → NotNext k.Lseg ts → NotNext k.List ts → NotNext k.Tree ts → conjunct_next ts ≡ false
+none_begins : (ts : List Leaf) → operand_next ts ≡ false → NotNext tk.OpenRound ts → NotNext tk.If ts → NotNext tk.Emp ts → NotNext tk.Ls ts → NotNext tk.Lseg ts → NotNext tk.List ts → NotNext tk.Tree ts → conjunct_next ts ≡ false
 none_begins [] o a b c e f g h = refl
-none_begins (k.OpenRound ∷ r) o a b c e f g h = absurd (a r refl)
-none_begins (k.If ∷ r) o a b c e f g h = absurd (b r refl)
-none_begins (k.Emp ∷ r) o a b c e f g h = absurd (c r refl)
-none_begins (k.Ls ∷ r) o a b c e f g h = absurd (e r refl)
-none_begins (k.Lseg ∷ r) o a b c e f g h = absurd (f r refl)
-none_begins (k.List ∷ r) o a b c e f g h = absurd (g r refl)
-none_begins (k.Tree ∷ r) o a b c e f g h = absurd (h r refl)
+none_begins (k.OpenRound ∷ r) o a b c e f g h = absurd (a refl)
+none_begins (k.If _ ∷ r) o a b c e f g h = absurd (b refl)
+none_begins (k.Emp _ ∷ r) o a b c e f g h = absurd (c refl)
+none_begins (k.Ls _ ∷ r) o a b c e f g h = absurd (e refl)
+none_begins (k.Lseg _ ∷ r) o a b c e f g h = absurd (f refl)
+none_begins (k.List _ ∷ r) o a b c e f g h = absurd (g refl)
+none_begins (k.Tree _ ∷ r) o a b c e f g h = absurd (h refl)
 none_begins (t ∷ r) o a b c e f g h = o
 
-pub no_conjunct : (d : ℕ) (ts : List Token) (st : List Predicted) → operand_next (kinds ts) ≡ false → NotNext k.OpenRound (kinds ts) → NotNext k.If (kinds ts) → NotNext k.Emp (kinds ts) → NotNext k.Ls (kinds ts) → NotNext k.Lseg (kinds ts) → NotNext k.List (kinds ts) → NotNext k.Tree (kinds ts) → verdict 0 (kinds ts) (m.conjunct d ∷ st) ≡ unexpected (length ts)
-no_conjunct d ts st o a b c e f g h = left_of ts (m.conjunct d ∷ st) (conjunct_fails d (kinds ts) st (none_begins (kinds ts) o a b c e f g h))
+pub no_conjunct : (d : ℕ) (ts : List Token) (st : List Predicted) → operand_next (leaves ts) ≡ false → NotNext tk.OpenRound (leaves ts) → NotNext tk.If (leaves ts) → NotNext tk.Emp (leaves ts) → NotNext tk.Ls (leaves ts) → NotNext tk.Lseg (leaves ts) → NotNext tk.List (leaves ts) → NotNext tk.Tree (leaves ts) → verdict 0 (leaves ts) (m.conjunct d ∷ st) ≡ unexpected (length ts)
+no_conjunct d ts st o a b c e f g h = left_of ts (m.conjunct d ∷ st) (conjunct_fails d (leaves ts) st (none_begins (leaves ts) o a b c e f g h))
 
-pub no_annotation : (ts : List Kind) (st : List Predicted) → NotNext k.OpenSquare ts → verdict 0 ts (m.maybe_annotation ∷ st) ≡ verdict 0 ts st
+pub no_annotation : (ts : List Leaf) (st : List Predicted) → NotNext tk.OpenSquare ts → verdict 0 ts (m.maybe_annotation ∷ st) ≡ verdict 0 ts st
 no_annotation [] st h = refl
-no_annotation (k.OpenSquare ∷ r) st h = absurd (h r refl)
+no_annotation (k.OpenSquare ∷ r) st h = absurd (h refl)
 no_annotation (t ∷ r) st h = refl
 
 -- a fault of what is read next is a fault of the whole
-pub fails_as : (e : Stop) (ss more below : List Predicted) (ts us : List Token) → ((st : List Predicted) → verdict 0 (kinds ts) (ss ++ st) ≡ verdict 0 (kinds us) (more ++ (below ++ st))) → FailsAt e more us → FailsAt e ss ts
+pub fails_as : (e : Stop) (ss more below : List Predicted) (ts us : List Token) → ((st : List Predicted) → verdict 0 (leaves ts) (ss ++ st) ≡ verdict 0 (leaves us) (more ++ (below ++ st))) → FailsAt e more us → FailsAt e ss ts
 fails_as (Unexpected n) ss more below ts us same h = λ st. same st ∙ h (below ++ st)
 fails_as (TooDeep n) ss more below ts us same h = λ st. same st ∙ h (below ++ st)
 fails_as OutOfMemory ss more below ts us same h = tt

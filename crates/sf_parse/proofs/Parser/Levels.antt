@@ -4,19 +4,20 @@ use Rattle.std.proofs.lemmas.List.{length-map}
 use Rattle.sf_ast.specs.declared.word.SurfaceExpr.{SurfaceExpr}
 use Rattle.sf_ast.specs.declared.word.SurfaceExpr.TheVariants as e
 use Rattle.sf_ast.specs.declared.word.SurfaceTest.{SurfaceTest}
+use Rattle.sf_ast.specs.declared.word.Word.{Word}
 use Rattle.sf_ast.specs.Surface as s
 use Rattle.sf_ast.specs.View.{commands}
 use Rattle.sf_base.specs.declared.place.Place.{Place}
-use Rattle.sf_lex.specs.declared.token.Kind.{Kind}
-use Rattle.sf_lex.specs.declared.token.Kind.TheVariants as k
+use Rattle.sf_parse.specs.Leaf.{Leaf}
+use Rattle.sf_lex.specs.declared.token.Kind.TheVariants as tk
+use Rattle.sf_parse.specs.Leaf as k
 use Rattle.sf_lex.specs.declared.token.Token.{Token}
 use Rattle.sf_parse.specs.Grammar as g
 use Rattle.sf_parse.specs.Internal.Heads.{command_next}
 use Rattle.sf_parse.specs.Internal.Machine as m
 use Rattle.sf_parse.specs.Internal.Machine.{Predicted, after, leveled, verdict, unexpected, too_deep}
 use Rattle.sf_parse.specs.Nesting.{has_level, Follows, CommandWithin, CommandsWithin}
-use Rattle.sf_parse.specs.Parsing.{kinds}
-use Rattle.sf_parse.specs.Placed.{CommandAt, CommandsAt}
+use Rattle.sf_parse.specs.Leaf.{leaf, leaves}
 use Rattle.sf_parse.specs.Internal.Parser.{NotNext, expression_next}
 use Rattle.sf_parse.proofs.Machine.Decided.{command_decided, in_parts, refused, taken}
 use Rattle.sf_parse.proofs.Machine.Back.{follows_else}
@@ -24,95 +25,95 @@ use Rattle.sf_parse.proofs.Parser.Fronts.{left_of}
 use Rattle.sf_parse.proofs.Machine.HasLevel.{no_level, some_level}
 
 -- where no level is left
-level_fails : (ts : List Kind) (st : List Predicted) → command_next ts ≡ true → verdict 0 ts (m.command 0 ∷ st) ≡ too_deep (length ts)
+level_fails : (ts : List Leaf) (st : List Predicted) → command_next ts ≡ true → verdict 0 ts (m.command 0 ∷ st) ≡ too_deep (length ts)
 level_fails [] st h = absurd cc
 level_fails (t ∷ r) st h = rw ((taken (command_decided 0 t r) h).1 [], no_level (length r)) refl
 
-pub fails_at_level : (ts : List Token) (st : List Predicted) → command_next (kinds ts) ≡ true → verdict 0 (kinds ts) (m.command 0 ∷ st) ≡ too_deep (length ts)
-fails_at_level ts st h = level_fails (kinds ts) st h ∙ ap too_deep (length-map ts (λ (t : Token). t.kind))
+pub fails_at_level : (ts : List Token) (st : List Predicted) → command_next (leaves ts) ≡ true → verdict 0 (leaves ts) (m.command 0 ∷ st) ≡ too_deep (length ts)
+fails_at_level ts st h = level_fails (leaves ts) st h ∙ ap too_deep (length-map ts leaf)
 
-command_fails : (d : ℕ) (ts : List Kind) (st : List Predicted) → command_next ts ≡ false → verdict 0 ts (m.command d ∷ st) ≡ unexpected (length ts)
+command_fails : (d : ℕ) (ts : List Leaf) (st : List Predicted) → command_next ts ≡ false → verdict 0 ts (m.command d ∷ st) ≡ unexpected (length ts)
 command_fails d [] st h = refl
 command_fails d (t ∷ r) st h = rw (refused (command_decided d t r) h []) refl
 
 -- where no command begins
-pub fails_at_command : (d : ℕ) (ts : List Token) (st : List Predicted) → command_next (kinds ts) ≡ false → verdict 0 (kinds ts) (m.command d ∷ st) ≡ unexpected (length ts)
-fails_at_command d ts st h = left_of ts (m.command d ∷ st) (command_fails d (kinds ts) st h)
+pub fails_at_command : (d : ℕ) (ts : List Token) (st : List Predicted) → command_next (leaves ts) ≡ false → verdict 0 (leaves ts) (m.command d ∷ st) ≡ unexpected (length ts)
+fails_at_command d ts st h = left_of ts (m.command d ∷ st) (command_fails d (leaves ts) st h)
 
-none_next : (ts : List Kind) → NotNext k.Name ts → NotNext k.Dispose ts → NotNext k.If ts → NotNext k.While ts → NotNext k.With ts → NotNext k.OpenBrace ts → expression_next ts ≡ false → command_next ts ≡ false
+none_next : (ts : List Leaf) → NotNext tk.Name ts → NotNext tk.Dispose ts → NotNext tk.If ts → NotNext tk.While ts → NotNext tk.With ts → NotNext tk.OpenBrace ts → expression_next ts ≡ false → command_next ts ≡ false
 none_next [] a b c d f i j = refl
-none_next (k.Name ∷ r) a b c d f i j = absurd (a r refl)
-none_next (k.Dispose ∷ r) a b c d f i j = absurd (b r refl)
-none_next (k.If ∷ r) a b c d f i j = absurd (c r refl)
-none_next (k.While ∷ r) a b c d f i j = absurd (d r refl)
-none_next (k.With ∷ r) a b c d f i j = absurd (f r refl)
-none_next (k.OpenBrace ∷ r) a b c d f i j = absurd (i r refl)
+none_next (k.Name _ ∷ r) a b c d f i j = absurd (a refl)
+none_next (k.Dispose _ ∷ r) a b c d f i j = absurd (b refl)
+none_next (k.If _ ∷ r) a b c d f i j = absurd (c refl)
+none_next (k.While _ ∷ r) a b c d f i j = absurd (d refl)
+none_next (k.With _ ∷ r) a b c d f i j = absurd (f refl)
+none_next (k.OpenBrace _ ∷ r) a b c d f i j = absurd (i refl)
 none_next (t ∷ r) a b c d f i j = j
 
-pub no_command : (ts : List Token) → NotNext k.Name (kinds ts) → NotNext k.Dispose (kinds ts) → NotNext k.If (kinds ts) → NotNext k.While (kinds ts) → NotNext k.With (kinds ts) → NotNext k.OpenBrace (kinds ts)
-    → expression_next (kinds ts) ≡ false → command_next (kinds ts) ≡ false
-no_command ts a b c d f i j = none_next (kinds ts) a b c d f i j
+pub no_command : (ts : List Token) → NotNext tk.Name (leaves ts) → NotNext tk.Dispose (leaves ts) → NotNext tk.If (leaves ts) → NotNext tk.While (leaves ts) → NotNext tk.With (leaves ts) → NotNext tk.OpenBrace (leaves ts)
+    → expression_next (leaves ts) ≡ false → command_next (leaves ts) ≡ false
+no_command ts a b c d f i j = none_next (leaves ts) a b c d f i j
 
 -- with a level left
-pub accepts_named : (d : ℕ) (ts r : List Token) (st : List Predicted) → 0 < d → kinds ts ≡ k.Name ∷ kinds r → verdict 0 (kinds ts) (m.command d ∷ st) ≡ verdict 0 (kinds r) (m.named ∷ st)
-accepts_named zero ts r st lv h = absurd (omega arith)
-accepts_named (suc d) ts r st lv h = rw h refl
+pub accepts_named : (d : ℕ) (x : Word) (ts r : List Token) (st : List Predicted) → 0 < d → leaves ts ≡ k.Name x ∷ leaves r → verdict 0 (leaves ts) (m.command d ∷ st) ≡ verdict 0 (leaves r) (m.named ∷ st)
+accepts_named zero x ts r st lv h = absurd (omega arith)
+accepts_named (suc d) x ts r st lv h = rw h refl
 
-pub accepts_disposed : (d : ℕ) (ts r : List Token) (st : List Predicted) → 0 < d → kinds ts ≡ k.Dispose ∷ kinds r → verdict 0 (kinds ts) (m.command d ∷ st) ≡ verdict 0 (kinds r) (m.disposed ∷ st)
-accepts_disposed zero ts r st lv h = absurd (omega arith)
-accepts_disposed (suc d) ts r st lv h = rw h refl
+pub accepts_disposed : (d : ℕ) (p : Place) (ts r : List Token) (st : List Predicted) → 0 < d → leaves ts ≡ k.Dispose p ∷ leaves r → verdict 0 (leaves ts) (m.command d ∷ st) ≡ verdict 0 (leaves r) (m.disposed ∷ st)
+accepts_disposed zero p ts r st lv h = absurd (omega arith)
+accepts_disposed (suc d) p ts r st lv h = rw h refl
 
-pub accepts_if : (d : ℕ) (ts r : List Token) (st : List Predicted) → 0 < d → kinds ts ≡ k.If ∷ kinds r
-    → verdict 0 (kinds ts) (m.command d ∷ st) ≡ verdict 0 (kinds r) (m.exact m.open_round ∷ m.test ∷ m.exact m.close_round ∷ m.command (d - 1) ∷ m.branch (d - 1) ∷ st)
-accepts_if zero ts r st lv h = absurd (omega arith)
-accepts_if (suc d) ts r st lv h = rw h refl
+pub accepts_if : (d : ℕ) (p : Place) (ts r : List Token) (st : List Predicted) → 0 < d → leaves ts ≡ k.If p ∷ leaves r
+    → verdict 0 (leaves ts) (m.command d ∷ st) ≡ verdict 0 (leaves r) (m.exact m.open_round ∷ m.test ∷ m.exact m.close_round ∷ m.command (d - 1) ∷ m.branch (d - 1) ∷ st)
+accepts_if zero p ts r st lv h = absurd (omega arith)
+accepts_if (suc d) p ts r st lv h = rw h refl
 
-pub accepts_while : (d : ℕ) (ts r : List Token) (st : List Predicted) → 0 < d → kinds ts ≡ k.While ∷ kinds r
-    → verdict 0 (kinds ts) (m.command d ∷ st) ≡ verdict 0 (kinds r) (m.exact m.open_round ∷ m.test ∷ m.exact m.close_round ∷ m.maybe_annotation ∷ m.command (d - 1) ∷ st)
-accepts_while zero ts r st lv h = absurd (omega arith)
-accepts_while (suc d) ts r st lv h = rw h refl
+pub accepts_while : (d : ℕ) (p : Place) (ts r : List Token) (st : List Predicted) → 0 < d → leaves ts ≡ k.While p ∷ leaves r
+    → verdict 0 (leaves ts) (m.command d ∷ st) ≡ verdict 0 (leaves r) (m.exact m.open_round ∷ m.test ∷ m.exact m.close_round ∷ m.maybe_annotation ∷ m.command (d - 1) ∷ st)
+accepts_while zero p ts r st lv h = absurd (omega arith)
+accepts_while (suc d) p ts r st lv h = rw h refl
 
-pub accepts_with : (d : ℕ) (ts r : List Token) (st : List Predicted) → 0 < d → kinds ts ≡ k.With ∷ kinds r
-    → verdict 0 (kinds ts) (m.command d ∷ st) ≡ verdict 0 (kinds r) (m.exact m.a_name ∷ m.exact m.when_word ∷ m.exact m.open_round ∷ m.test ∷ m.exact m.close_round ∷ m.command (d - 1) ∷ st)
-accepts_with zero ts r st lv h = absurd (omega arith)
-accepts_with (suc d) ts r st lv h = rw h refl
+pub accepts_with : (d : ℕ) (p : Place) (ts r : List Token) (st : List Predicted) → 0 < d → leaves ts ≡ k.With p ∷ leaves r
+    → verdict 0 (leaves ts) (m.command d ∷ st) ≡ verdict 0 (leaves r) (m.exact m.a_name ∷ m.exact m.when_word ∷ m.exact m.open_round ∷ m.test ∷ m.exact m.close_round ∷ m.command (d - 1) ∷ st)
+accepts_with zero p ts r st lv h = absurd (omega arith)
+accepts_with (suc d) p ts r st lv h = rw h refl
 
-pub accepts_block : (d : ℕ) (ts r : List Token) (st : List Predicted) → 0 < d → kinds ts ≡ k.OpenBrace ∷ kinds r → verdict 0 (kinds ts) (m.command d ∷ st) ≡ verdict 0 (kinds r) (m.commands (d - 1) ∷ m.exact m.close_brace ∷ st)
-accepts_block zero ts r st lv h = absurd (omega arith)
-accepts_block (suc d) ts r st lv h = rw h refl
+pub accepts_block : (d : ℕ) (p : Place) (ts r : List Token) (st : List Predicted) → 0 < d → leaves ts ≡ k.OpenBrace p ∷ leaves r → verdict 0 (leaves ts) (m.command d ∷ st) ≡ verdict 0 (leaves r) (m.commands (d - 1) ∷ m.exact m.close_brace ∷ st)
+accepts_block zero p ts r st lv h = absurd (omega arith)
+accepts_block (suc d) p ts r st lv h = rw h refl
 
-pub accepts_value : (d : ℕ) (x : SurfaceExpr) (ts r : List Token) (st : List Predicted) → 0 < d → NotNext k.Name (kinds ts) → kinds ts ≡ g.expr x ∷ kinds r
-    → verdict 0 (kinds ts) (m.command d ∷ st) ≡ verdict 0 (kinds r) (m.exact m.an_arrow ∷ m.exact m.a_name ∷ m.exact m.equals ∷ m.expression ∷ m.exact m.semicolon ∷ st)
+pub accepts_value : (d : ℕ) (x : SurfaceExpr) (ts r : List Token) (st : List Predicted) → 0 < d → NotNext tk.Name (leaves ts) → leaves ts ≡ g.expr x ∷ leaves r
+    → verdict 0 (leaves ts) (m.command d ∷ st) ≡ verdict 0 (leaves r) (m.exact m.an_arrow ∷ m.exact m.a_name ∷ m.exact m.equals ∷ m.expression ∷ m.exact m.semicolon ∷ st)
 accepts_value zero x ts r st lv no_name h = absurd (omega arith)
-accepts_value (suc d) (e.Name x) ts r st lv no_name h = absurd (no_name (kinds r) h)
+accepts_value (suc d) (e.Name x) ts r st lv no_name h = absurd (subst (λ z. NotNext tk.Name z) h no_name refl)
 accepts_value (suc d) (e.Nil p) ts r st lv no_name h = rw h refl
 accepts_value (suc d) (e.Null p) ts r st lv no_name h = rw h refl
 accepts_value (suc d) (e.Number x p) ts r st lv no_name h = rw h refl
 
 -- what need not come
-commands_over : (d : ℕ) (ts : List Kind) (st : List Predicted) → command_next ts ≡ false → verdict 0 ts (m.commands d ∷ st) ≡ verdict 0 ts st
+commands_over : (d : ℕ) (ts : List Leaf) (st : List Predicted) → command_next ts ≡ false → verdict 0 ts (m.commands d ∷ st) ≡ verdict 0 ts st
 commands_over d [] st h = refl
 commands_over d (t ∷ r) st h = rw (refused (command_decided d t r) h (m.commands d ∷ [])) refl
 
-pub no_commands : (d : ℕ) (ts : List Token) (st : List Predicted) → command_next (kinds ts) ≡ false → verdict 0 (kinds ts) (m.commands d ∷ st) ≡ verdict 0 (kinds ts) st
-no_commands d ts st h = commands_over d (kinds ts) st h
+pub no_commands : (d : ℕ) (ts : List Token) (st : List Predicted) → command_next (leaves ts) ≡ false → verdict 0 (leaves ts) (m.commands d ∷ st) ≡ verdict 0 (leaves ts) st
+no_commands d ts st h = commands_over d (leaves ts) st h
 
-commands_go_on : (d : ℕ) (ts : List Kind) (st : List Predicted) → command_next ts ≡ true → verdict 0 ts (m.commands d ∷ st) ≡ verdict 0 ts (m.command d ∷ m.commands d ∷ st)
+commands_go_on : (d : ℕ) (ts : List Leaf) (st : List Predicted) → command_next ts ≡ true → verdict 0 ts (m.commands d ∷ st) ≡ verdict 0 ts (m.command d ∷ m.commands d ∷ st)
 commands_go_on d [] st h = absurd cc
 commands_go_on d (t ∷ r) st h =
     let o = taken (command_decided d t r) h in
     rw (o.1 (m.commands d ∷ []), o.1 []) (ap (λ (z : List Predicted). after (λ s. verdict 0 r s) (suc (length r)) (leveled (has_level 0 (suc (length r)) d) z)) (in_parts o.0 (m.commands d ∷ []) st))
 
-pub another_command : (d : ℕ) (ts : List Token) (st : List Predicted) → command_next (kinds ts) ≡ true → verdict 0 (kinds ts) (m.commands d ∷ st) ≡ verdict 0 (kinds ts) (m.command d ∷ m.commands d ∷ st)
-another_command d ts st h = commands_go_on d (kinds ts) st h
+pub another_command : (d : ℕ) (ts : List Token) (st : List Predicted) → command_next (leaves ts) ≡ true → verdict 0 (leaves ts) (m.commands d ∷ st) ≡ verdict 0 (leaves ts) (m.command d ∷ m.commands d ∷ st)
+another_command d ts st h = commands_go_on d (leaves ts) st h
 
-branch_over : (d : ℕ) (ts : List Kind) (st : List Predicted) → NotNext k.Else ts → verdict 0 ts (m.branch d ∷ st) ≡ verdict 0 ts st
+branch_over : (d : ℕ) (ts : List Leaf) (st : List Predicted) → NotNext tk.Else ts → verdict 0 ts (m.branch d ∷ st) ≡ verdict 0 ts st
 branch_over d [] st h = refl
-branch_over d (k.Else ∷ r) st h = absurd (h r refl)
+branch_over d (k.Else ∷ r) st h = absurd (h refl)
 branch_over d (t ∷ r) st h = refl
 
-pub no_branch : (d : ℕ) (ts : List Token) (st : List Predicted) → NotNext k.Else (kinds ts) → verdict 0 (kinds ts) (m.branch d ∷ st) ≡ verdict 0 (kinds ts) st
-no_branch d ts st h = branch_over d (kinds ts) st h
+pub no_branch : (d : ℕ) (ts : List Token) (st : List Predicted) → NotNext tk.Else (leaves ts) → verdict 0 (leaves ts) (m.branch d ∷ st) ≡ verdict 0 (leaves ts) st
+no_branch d ts st h = branch_over d (leaves ts) st h
 
 pub ruleset levels = (
   fails_at_level,
@@ -131,21 +132,17 @@ pub ruleset levels = (
 )
 
 -- an `if` with an `else`
-pub if_within : (p : Place) (b : SurfaceTest SurfaceExpr) (c x : s.Command) (d : ℕ) (us vs r : List Kind) → 0 < d → us ≡ k.Else ∷ vs → vs ≡ g.command x r → CommandWithin c 0 (d - 1) us → Follows c us → CommandWithin x 0 (d - 1) r
+pub if_within : (p : Place) (b : SurfaceTest SurfaceExpr) (c x : s.Command) (d : ℕ) (us vs r : List Leaf) → 0 < d → us ≡ k.Else ∷ vs → vs ≡ g.command x r → CommandWithin c 0 (d - 1) us → Follows c us → CommandWithin x 0 (d - 1) r
     → CommandWithin (s.if p b c x) 0 d r
 if_within p b c x d us vs r lv h i w f v =
-    let whole : us ≡ k.Else ∷ g.command x r = h ∙ ap (λ (z : List Kind). k.Else ∷ z) i in
-    (some_level 0 _ d lv, subst (λ (z : List Kind). CommandWithin c 0 (d - 1) z) whole w, v, follows_else c vs [] (subst (λ (z : List Kind). Follows c z) h f))
+    let whole : us ≡ k.Else ∷ g.command x r = h ∙ ap (λ (z : List Leaf). k.Else ∷ z) i in
+    (some_level 0 _ d lv, subst (λ (z : List Leaf). CommandWithin c 0 (d - 1) z) whole w, v, follows_else c vs [] (subst (λ (z : List Leaf). Follows c z) h f))
 
 -- one more at the end
-pub commands_push : (cs : List s.Command) (c : s.Command) (r : List Kind) → g.commands (commands (cs ++ c ∷ [])) r ≡ g.commands (commands cs) (g.command c r)
+pub commands_push : (cs : List s.Command) (c : s.Command) (r : List Leaf) → g.commands (commands (cs ++ c ∷ [])) r ≡ g.commands (commands cs) (g.command c r)
 commands_push [] c r = refl
 commands_push (x ∷ xs) c r = ap (g.command x) (commands_push xs c r)
 
-pub within_push : (cs : List s.Command) (c : s.Command) (d : ℕ) (r : List Kind) → CommandsWithin (commands cs) 0 d (g.command c r) → CommandWithin c 0 d r → CommandsWithin (commands (cs ++ c ∷ [])) 0 d r
+pub within_push : (cs : List s.Command) (c : s.Command) (d : ℕ) (r : List Leaf) → CommandsWithin (commands cs) 0 d (g.command c r) → CommandWithin c 0 d r → CommandsWithin (commands (cs ++ c ∷ [])) 0 d r
 within_push [] c d r all one = (one, tt)
-within_push (x ∷ xs) c d r all one = (subst (λ (z : List Kind). CommandWithin x 0 d z) (sym (commands_push xs c r)) all.0, within_push xs c d r all.1 one)
-
-pub commands_at_push : (at : ℕ → Token) (cs : List s.Command) (c : s.Command) (r : List Kind) → CommandsAt at (commands cs) (g.command c r) → CommandAt at c r → CommandsAt at (commands (cs ++ c ∷ [])) r
-commands_at_push at [] c r all one = (one, tt)
-commands_at_push at (x ∷ xs) c r all one = (subst (λ (z : List Kind). CommandAt at x z) (sym (commands_push xs c r)) all.0, commands_at_push at xs c r all.1 one)
+within_push (x ∷ xs) c d r all one = (subst (λ (z : List Leaf). CommandWithin x 0 d z) (sym (commands_push xs c r)) all.0, within_push xs c d r all.1 one)

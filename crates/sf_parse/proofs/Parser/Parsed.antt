@@ -6,37 +6,22 @@ use Rattle.sf_ast.specs.Surface.{Item}
 use Rattle.sf_lex.specs.declared.token.Token.{Token}
 use Rattle.sf_parse.specs.declared.fault.ParseFault.TheVariants as p
 use Rattle.sf_parse.specs.declared.stop.Stop.TheVariants as t
-use Rattle.sf_parse.specs.Internal.Faults.{place_left}
+use Rattle.sf_parse.specs.Internal.Faults.{no_token, token_left, place_left}
 use Rattle.sf_parse.specs.Grammar.{items}
 use Rattle.sf_parse.specs.Internal.Machine as m
 use Rattle.sf_parse.specs.Nesting.{ItemsWithin}
-use Rattle.sf_parse.specs.Parsing.{kinds, no_token, token_left, IsFile, IsFault}
-use Rattle.sf_parse.specs.Placed.{ItemsAt}
-use Rattle.sf_parse.specs.Internal.Parser.{Agree, Placed, FailsAt}
+use Rattle.sf_parse.specs.Leaf.{leaf, leaves}
+use Rattle.sf_parse.specs.Parsing.{IsFault}
+use Rattle.sf_parse.specs.Internal.Parser.{FailsAt}
 use Rattle.sf_parse.proofs.Machine.Exactly.{fault_le}
-use Rattle.sf_parse.proofs.Machine.Faults.{token_there, says_fault}
-
--- each token is the one with which so many are left
-agree_behind : (front ts : List Token) → Agree (token_left (front ++ ts)) ts
-agree_behind front [] = tt
-agree_behind front (t ∷ ts) = (
-  ap (λ (n : ℕ). token_left (front ++ t ∷ ts) (suc n)) (length-map ts (λ (x : Token). x.kind)) ∙ token_there front t ts,
-  subst (λ (z : List Token). Agree (token_left z) ts) (append_assoc front (t ∷ []) ts) (agree_behind (front ++ t ∷ []) ts),
-)
-
-pub agree_all : (ts : List Token) → Agree (token_left ts) ts
-agree_all ts = agree_behind [] ts
-
--- a file is found
-pub file_found : (ts : List Token) (tree : List Item) → kinds ts ≡ items tree [] → ItemsWithin tree 0 [] → Placed (λ at b. ItemsAt at tree b) ts [] → IsFile ts tree
-file_found ts tree is w stand = record { spells = is; within = w; places = (stand (token_left ts) (agree_all ts)).0 }
+use Rattle.sf_parse.proofs.Machine.Faults.{says_fault}
 
 -- no more tokens are left than there are
 pub left_within : (ts : List Token) (n : ℕ) → FailsAt (t.Unexpected n) (m.items ∷ []) ts → n ≤ length ts
-left_within ts n h = let le : n ≤ length (kinds ts) = fault_le (kinds ts) (m.items ∷ []) true n (h []) in omega (arith, length-map ts (λ (x : Token). x.kind))
+left_within ts n h = let le : n ≤ length (leaves ts) = fault_le (leaves ts) (m.items ∷ []) true n (h []) in omega (arith, length-map ts leaf)
 
 pub deep_within : (ts : List Token) (n : ℕ) → FailsAt (t.TooDeep n) (m.items ∷ []) ts → n ≤ length ts
-deep_within ts n h = let le : n ≤ length (kinds ts) = fault_le (kinds ts) (m.items ∷ []) false n (h []) in omega (arith, length-map ts (λ (x : Token). x.kind))
+deep_within ts n h = let le : n ≤ length (leaves ts) = fault_le (leaves ts) (m.items ∷ []) false n (h []) in omega (arith, length-map ts leaf)
 
 -- the fault where reading stops
 pub unexpected_there : (end : Place) (ts : List Token) (n : ℕ) (place : Place) → FailsAt (t.Unexpected n) (m.items ∷ []) ts → place ≡ place_left end ts n → IsFault end ts (p.Unexpected place)

@@ -15,8 +15,8 @@ use Rattle.sf_ast.specs.View.{conjuncts, conjunct_of, assertion_of, conjunct_ste
 pub view_emp : (p : Place) → conjunct_of (Emp p) ≡ s.emp p
 view_emp p = ap conjunct_of (sym (rolls-Emp p)) ∙ fold-roll-SurfaceConjunct s.Conjunct s.Assertion conjunct_step assertion_step _
 
-pub view_group : (p : Place) (a : SurfaceAssertion) → conjunct_of (Group p a) ≡ s.group p (assertion_of a)
-view_group p a = ap conjunct_of (sym (rolls-Group p a)) ∙ fold-roll-SurfaceConjunct s.Conjunct s.Assertion conjunct_step assertion_step _
+pub view_group : (a : SurfaceAssertion) → conjunct_of (Group a) ≡ s.group (assertion_of a)
+view_group a = ap conjunct_of (sym (rolls-Group a)) ∙ fold-roll-SurfaceConjunct s.Conjunct s.Assertion conjunct_step assertion_step _
 
 pub view_choose : (p : Place) (t : SurfaceTest SurfaceOperand) (a b : SurfaceAssertion) → conjunct_of (If p t a b) ≡ s.choose p t (assertion_of a) (assertion_of b)
 view_choose p t a b = ap conjunct_of (sym (rolls-If p t a b)) ∙ fold-roll-SurfaceConjunct s.Conjunct s.Assertion conjunct_step assertion_step _

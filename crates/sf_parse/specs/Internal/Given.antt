@@ -3,8 +3,8 @@
 use Rattle.std.specs.Prelude.{◌≡◌, List, [], ◌∷◌, Bool, true, false, ◌&&◌}
 use Rattle.sf_ast.specs.declared.word.SurfaceExpr.{SurfaceExpr}
 use Rattle.sf_ast.specs.declared.word.SurfaceExpr.TheVariants as e
-use Rattle.sf_lex.specs.declared.token.Kind.{Kind}
-use Rattle.sf_lex.specs.declared.token.Kind.TheVariants as k
+use Rattle.sf_parse.specs.Leaf.{Leaf}
+use Rattle.sf_lex.specs.declared.token.Kind.TheVariants.{Comma}
 use Rattle.sf_parse.specs.Internal.Machine as m
 use Rattle.sf_parse.specs.Internal.Machine.{Predicted}
 use Rattle.sf_parse.specs.Internal.Parser.{NotNext, expression_next}
@@ -25,6 +25,6 @@ predicted_behind [] = m.maybe_arguments
 predicted_behind (x ∷ xs) = m.rest (all_names (is_name x) xs)
 
 -- no further expression comes
-abbrev pub NoMore : List SurfaceExpr → List Kind → Type 0
+abbrev pub NoMore : List SurfaceExpr → List Leaf → Type 0
 NoMore [] r = expression_next r ≡ false
-NoMore (x ∷ xs) r = NotNext k.Comma r
+NoMore (x ∷ xs) r = NotNext Comma r

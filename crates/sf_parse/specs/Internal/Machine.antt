@@ -3,8 +3,9 @@
 -- Ordinary: predictive parsing with a stack, as in Aho, Sethi, Ullman, "Compilers" (1986), section 4.4.
 use Rattle.std.specs.Prelude.{ℕ, suc, ◌-◌, ◌++◌, List, [], ◌∷◌, length, Bool, true, false}
 use Rattle.sf_base.specs.declared.limits.TheConstants.{NESTING}
-use Rattle.sf_lex.specs.declared.token.Kind.{Kind}
-use Rattle.sf_lex.specs.declared.token.Kind.TheVariants as k
+use Rattle.sf_ast.specs.declared.word.Word.{Word}
+use Rattle.sf_parse.specs.Leaf.{Leaf}
+use Rattle.sf_parse.specs.Leaf as k
 use Rattle.sf_parse.specs.Nesting.{has_level}
 
 -- a token that is owed as it is
@@ -122,27 +123,27 @@ or_skip (take ss) = take ss
 or_skip skip = skip
 or_skip refuse = skip
 
--- the kind of an exact token
-abbrev pub terminal_kind : Terminal → Kind
-terminal_kind a_name = k.Name
-terminal_kind an_arrow = k.Arrow
-terminal_kind equals = k.Equals
-terminal_kind semicolon = k.Semicolon
-terminal_kind open_round = k.OpenRound
-terminal_kind close_round = k.CloseRound
-terminal_kind open_square = k.OpenSquare
-terminal_kind close_square = k.CloseSquare
-terminal_kind open_brace = k.OpenBrace
-terminal_kind close_brace = k.CloseBrace
-terminal_kind a_colon = k.Colon
-terminal_kind a_comma = k.Comma
-terminal_kind then_word = k.Then
-terminal_kind else_word = k.Else
-terminal_kind when_word = k.When
+-- the leaf of an exact token, where it has that text
+abbrev pub terminal_leaf : Terminal → Word → Leaf
+terminal_leaf a_name w = k.Name w
+terminal_leaf an_arrow w = k.Arrow
+terminal_leaf equals w = k.Equals
+terminal_leaf semicolon w = k.Semicolon
+terminal_leaf open_round w = k.OpenRound
+terminal_leaf close_round w = k.CloseRound
+terminal_leaf open_square w = k.OpenSquare
+terminal_leaf close_square w = k.CloseSquare
+terminal_leaf open_brace w = k.OpenBrace w.place
+terminal_leaf close_brace w = k.CloseBrace w.place
+terminal_leaf a_colon w = k.Colon
+terminal_leaf a_comma w = k.Comma
+terminal_leaf then_word w = k.Then
+terminal_leaf else_word w = k.Else
+terminal_leaf when_word w = k.When
 
 -- that token alone
-abbrev pub on_exact : Terminal → Kind → Choice
-on_exact a_name k.Name = take []
+abbrev pub on_exact : Terminal → Leaf → Choice
+on_exact a_name (k.Name _) = take []
 on_exact an_arrow k.Arrow = take []
 on_exact equals k.Equals = take []
 on_exact semicolon k.Semicolon = take []
@@ -150,8 +151,8 @@ on_exact open_round k.OpenRound = take []
 on_exact close_round k.CloseRound = take []
 on_exact open_square k.OpenSquare = take []
 on_exact close_square k.CloseSquare = take []
-on_exact open_brace k.OpenBrace = take []
-on_exact close_brace k.CloseBrace = take []
+on_exact open_brace (k.OpenBrace _) = take []
+on_exact close_brace (k.CloseBrace _) = take []
 on_exact a_colon k.Colon = take []
 on_exact a_comma k.Comma = take []
 on_exact then_word k.Then = take []
@@ -160,181 +161,181 @@ on_exact when_word k.When = take []
 on_exact u t = refuse
 
 -- a token that is an expression, and what is owed after it
-abbrev pub on_expression : Kind → List Predicted → Choice
-on_expression k.Name ss = take ss
-on_expression k.Nil ss = take ss
-on_expression k.Null ss = take ss
-on_expression k.Number ss = take ss
+abbrev pub on_expression : Leaf → List Predicted → Choice
+on_expression (k.Name _) ss = take ss
+on_expression (k.Nil _) ss = take ss
+on_expression (k.Null _) ss = take ss
+on_expression (k.Number _ _) ss = take ss
 on_expression t ss = refuse
 
 -- a token that is an operand, and what is owed after it
-abbrev pub on_operand : Kind → List Predicted → Choice
-on_operand k.Existential ss = take ss
+abbrev pub on_operand : Leaf → List Predicted → Choice
+on_operand (k.Existential _) ss = take ss
 on_operand t ss = on_expression t ss
 
 -- `==` or `!=`
-abbrev pub on_equality : Kind → Choice
+abbrev pub on_equality : Leaf → Choice
 on_equality k.EqualEqual = take []
 on_equality k.NotEqual = take []
 on_equality t = refuse
 
 -- a test over expressions
-abbrev pub on_test : Kind → Choice
-on_test k.True = take []
+abbrev pub on_test : Leaf → Choice
+on_test (k.True _) = take []
 on_test t = on_expression t (equality ∷ expression ∷ [])
 
 -- a test over operands
-abbrev pub on_operand_test : Kind → Choice
-on_operand_test k.True = take []
+abbrev pub on_operand_test : Leaf → Choice
+on_operand_test (k.True _) = take []
 on_operand_test t = on_operand t (equality ∷ operand ∷ [])
 
 -- a test after the `if` of an assertion
-abbrev pub on_if_test : Kind → Choice
+abbrev pub on_if_test : Leaf → Choice
 on_if_test k.OpenRound = take (operand_test ∷ exact close_round ∷ [])
 on_if_test t = on_operand_test t
 
 -- names after a first one
-abbrev pub on_more_names : Kind → Choice
+abbrev pub on_more_names : Leaf → Choice
 on_more_names k.Comma = take (exact a_name ∷ more_names ∷ [])
 on_more_names t = skip
 
 -- names, or none
-abbrev pub on_maybe_names : Kind → Choice
-on_maybe_names k.Name = take (more_names ∷ [])
+abbrev pub on_maybe_names : Leaf → Choice
+on_maybe_names (k.Name _) = take (more_names ∷ [])
 on_maybe_names t = skip
 
 -- value parameters after a `;`, or none
-abbrev pub on_maybe_values : Kind → Choice
+abbrev pub on_maybe_values : Leaf → Choice
 on_maybe_values k.Semicolon = take (maybe_names ∷ [])
 on_maybe_values t = skip
 
 -- an expression after a comma in a call
-abbrev pub on_next : Bool → Kind → Choice
-on_next b k.Name = take (rest b ∷ [])
+abbrev pub on_next : Bool → Leaf → Choice
+on_next b (k.Name _) = take (rest b ∷ [])
 on_next b t = on_expression t (rest false ∷ [])
 
 -- what comes after the `(` of a call
-abbrev pub on_maybe_arguments : Kind → Choice
+abbrev pub on_maybe_arguments : Leaf → Choice
 on_maybe_arguments k.Semicolon = take (maybe_expressions ∷ [])
 on_maybe_arguments t = or_skip (on_next true t)
 
 -- what comes after an expression in a call
-abbrev pub on_rest : Bool → Kind → Choice
+abbrev pub on_rest : Bool → Leaf → Choice
 on_rest b k.Comma = take (next b ∷ [])
 on_rest true k.Semicolon = take (maybe_expressions ∷ [])
 on_rest b t = skip
 
 -- expressions, or none
-abbrev pub on_maybe_expressions : Kind → Choice
+abbrev pub on_maybe_expressions : Leaf → Choice
 on_maybe_expressions t = or_skip (on_expression t (more_expressions ∷ []))
 
 -- expressions after a first one
-abbrev pub on_more_expressions : Kind → Choice
+abbrev pub on_more_expressions : Leaf → Choice
 on_more_expressions k.Comma = take (expression ∷ more_expressions ∷ [])
 on_more_expressions t = skip
 
 -- what comes after the first operand of a conjunct
-abbrev pub on_relation : Kind → Choice
+abbrev pub on_relation : Leaf → Choice
 on_relation k.EqualEqual = take (operand ∷ [])
 on_relation k.NotEqual = take (operand ∷ [])
 on_relation k.PointsTo = take (maybe_fields ∷ [])
 on_relation t = refuse
 
 -- fields, or none
-abbrev pub on_maybe_fields : Kind → Choice
-on_maybe_fields k.Name = take (exact a_colon ∷ operand ∷ more_fields ∷ [])
+abbrev pub on_maybe_fields : Leaf → Choice
+on_maybe_fields (k.Name _) = take (exact a_colon ∷ operand ∷ more_fields ∷ [])
 on_maybe_fields t = skip
 
 -- fields after a first one
-abbrev pub on_more_fields : Kind → Choice
+abbrev pub on_more_fields : Leaf → Choice
 on_more_fields k.Comma = take (exact a_name ∷ exact a_colon ∷ operand ∷ more_fields ∷ [])
 on_more_fields t = skip
 
 -- a conjunct, and what is owed after it
-abbrev pub on_conjunct : ℕ → Kind → List Predicted → Choice
-on_conjunct d k.Emp ss = take ss
+abbrev pub on_conjunct : ℕ → Leaf → List Predicted → Choice
+on_conjunct d (k.Emp _) ss = take ss
 on_conjunct d k.OpenRound ss = take (assertion (d - 1) ∷ exact close_round ∷ ss)
-on_conjunct d k.If ss = take (choice_predicted (d - 1) ++ ss)
-on_conjunct d k.Ls ss = take (pair_predicted ++ ss)
-on_conjunct d k.Lseg ss = take (pair_predicted ++ ss)
-on_conjunct d k.List ss = take (exact open_round ∷ operand ∷ exact close_round ∷ ss)
-on_conjunct d k.Tree ss = take (exact open_round ∷ operand ∷ exact close_round ∷ ss)
+on_conjunct d (k.If _) ss = take (choice_predicted (d - 1) ++ ss)
+on_conjunct d (k.Ls _) ss = take (pair_predicted ++ ss)
+on_conjunct d (k.Lseg _) ss = take (pair_predicted ++ ss)
+on_conjunct d (k.List _) ss = take (exact open_round ∷ operand ∷ exact close_round ∷ ss)
+on_conjunct d (k.Tree _) ss = take (exact open_round ∷ operand ∷ exact close_round ∷ ss)
 on_conjunct d t ss = on_operand t (relation ∷ ss)
 
 -- conjuncts after a first one
-abbrev pub on_more_conjuncts : ℕ → Kind → Choice
+abbrev pub on_more_conjuncts : ℕ → Leaf → Choice
 on_more_conjuncts d k.Star = take (conjunct d ∷ more_conjuncts d ∷ [])
 on_more_conjuncts d t = skip
 
 -- a note, or none
-abbrev pub on_maybe_annotation : Kind → Choice
+abbrev pub on_maybe_annotation : Leaf → Choice
 on_maybe_annotation k.OpenSquare = take (maybe_assertion ∷ exact close_square ∷ [])
 on_maybe_annotation t = skip
 
 -- what comes after the name that begins a command
-abbrev pub on_named : Kind → Choice
+abbrev pub on_named : Leaf → Choice
 on_named k.Equals = take (assigned ∷ [])
 on_named k.Arrow = take mutated_predicted
 on_named k.OpenRound = take (maybe_arguments ∷ exact close_round ∷ after_call ∷ [])
 on_named t = refuse
 
 -- what comes after the `=` there
-abbrev pub on_assigned : Kind → Choice
+abbrev pub on_assigned : Leaf → Choice
 on_assigned k.New = take (exact open_round ∷ exact close_round ∷ exact semicolon ∷ [])
 on_assigned t = on_expression t (look_up_or_end ∷ [])
 
 -- what comes after the expression there
-abbrev pub on_look_up_or_end : Kind → Choice
+abbrev pub on_look_up_or_end : Leaf → Choice
 on_look_up_or_end k.Semicolon = take []
 on_look_up_or_end k.Arrow = take (exact a_name ∷ exact semicolon ∷ [])
 on_look_up_or_end t = refuse
 
 -- what comes after a call
-abbrev pub on_after_call : Kind → Choice
+abbrev pub on_after_call : Leaf → Choice
 on_after_call k.Semicolon = take []
 on_after_call k.Bars = take forked_predicted
 on_after_call t = refuse
 
 -- what comes after `dispose`
-abbrev pub on_disposed : Kind → Choice
+abbrev pub on_disposed : Leaf → Choice
 on_disposed k.OpenRound = take (expression ∷ exact close_round ∷ exact semicolon ∷ [])
 on_disposed t = on_expression t (exact semicolon ∷ [])
 
 -- a command, and what is owed after it
-abbrev pub on_command : ℕ → Kind → List Predicted → Choice
-on_command d k.Name ss = take (named ∷ ss)
-on_command d k.Dispose ss = take (disposed ∷ ss)
-on_command d k.If ss = take (if_predicted d ++ ss)
-on_command d k.While ss = take (while_predicted d ++ ss)
-on_command d k.With ss = take (with_predicted d ++ ss)
-on_command d k.OpenBrace ss = take (commands (d - 1) ∷ exact close_brace ∷ ss)
+abbrev pub on_command : ℕ → Leaf → List Predicted → Choice
+on_command d (k.Name _) ss = take (named ∷ ss)
+on_command d (k.Dispose _) ss = take (disposed ∷ ss)
+on_command d (k.If _) ss = take (if_predicted d ++ ss)
+on_command d (k.While _) ss = take (while_predicted d ++ ss)
+on_command d (k.With _) ss = take (with_predicted d ++ ss)
+on_command d (k.OpenBrace _) ss = take (commands (d - 1) ∷ exact close_brace ∷ ss)
 on_command d t ss = on_expression t (exact an_arrow ∷ mutated_predicted ++ ss)
 
 -- the `else` of an `if`, or none
-abbrev pub on_branch : ℕ → Kind → Choice
+abbrev pub on_branch : ℕ → Leaf → Choice
 on_branch d k.Else = take (command d ∷ [])
 on_branch d t = skip
 
 -- the `local`s of a body
-abbrev pub on_locals : Kind → Choice
+abbrev pub on_locals : Leaf → Choice
 on_locals k.Local = take (exact a_name ∷ more_names ∷ exact semicolon ∷ locals ∷ [])
 on_locals t = skip
 
 -- what comes after the name that begins an item
-abbrev pub on_item_named : Kind → Choice
+abbrev pub on_item_named : Leaf → Choice
 on_item_named k.Comma = take (exact a_name ∷ more_names ∷ exact semicolon ∷ [])
 on_item_named k.Semicolon = take []
 on_item_named k.OpenRound = take procedure_predicted
 on_item_named t = refuse
 
 -- items
-abbrev pub on_items : Kind → Choice
-on_items k.Name = take (item_named ∷ items ∷ [])
-on_items k.Resource = take (resource_predicted ++ items ∷ [])
+abbrev pub on_items : Leaf → Choice
+on_items (k.Name _) = take (item_named ∷ items ∷ [])
+on_items (k.Resource _) = take (resource_predicted ++ items ∷ [])
 on_items t = refuse
 
 -- what comes of one thing that is owed at one token
-abbrev pub choice : Predicted → Kind → Choice
+abbrev pub choice : Predicted → Leaf → Choice
 choice (exact u) t = on_exact u t
 choice expression t = on_expression t []
 choice operand t = on_operand t []
@@ -395,7 +396,7 @@ chosen skip free st without = without
 chosen refuse free st without = bad
 
 -- the topmost that takes the token takes it
-abbrev pub step : (n left : ℕ) → List Predicted → Kind → Next
+abbrev pub step : (n left : ℕ) → List Predicted → Leaf → Next
 step n left [] t = bad
 step n left (s ∷ st) t = chosen (choice s t) (is_free s n left) st (step n left st t)
 
@@ -447,6 +448,6 @@ after f left bad = unexpected left
 after f left deep = too_deep left
 
 -- the verdict over tokens where that is owed
-abbrev pub verdict : ℕ → List Kind → List Predicted → Verdict
+abbrev pub verdict : ℕ → List Leaf → List Predicted → Verdict
 verdict n [] st = at_end (may_end st)
 verdict n (t ∷ ts) st = after (λ s. verdict n ts s) (suc (length ts)) (step n (suc (length ts)) st t)

@@ -6,9 +6,8 @@ use Rattle.sf_parse.specs.Grammar.{conjunct, assertion}
 use Rattle.sf_parse.specs.Internal.Machine as m
 use Rattle.sf_parse.specs.Internal.Machine.{Predicted, verdict}
 use Rattle.sf_parse.specs.Nesting.{ConjunctWithin, AssertionWithin}
-use Rattle.sf_parse.specs.Parsing.{kinds}
-use Rattle.sf_parse.specs.Placed.{ConjunctAt, AssertionAt}
-use Rattle.sf_parse.specs.Internal.Parser.{Agree, last_of, Ends}
+use Rattle.sf_parse.specs.Leaf.{leaves}
+use Rattle.sf_parse.specs.Internal.Parser.{last_of, Ends}
 use Rattle.sf_parse.proofs.assertion.+assertion.Given as goal
 
 abbrev pub decreases-assertion : goal.decreases-assertion
@@ -28,11 +27,10 @@ decreases-conjunct l = 5 * l.depth - 2
 
 abbrev pub invariant-more_conjuncts-loop-after : goal.invariant-more_conjuncts-loop-after
 invariant-more_conjuncts-loop-after l = record {
-  spelled : (c : Conjunct) → conjunct c (kinds l.tokens) ≡ assertion (conjuncts c (map conjunct_of l.found.items)) (kinds l.rest);
-  within : (c : Conjunct) → ConjunctWithin c 0 l.depth (kinds l.tokens) → Ends c (kinds l.tokens) → AssertionWithin (conjuncts c (map conjunct_of l.found.items)) 0 l.depth (kinds l.rest);
-  ended : (c : Conjunct) → Ends c (kinds l.tokens) → Ends (last_of (conjuncts c (map conjunct_of l.found.items))) (kinds l.rest);
-  places : (at : ℕ → Token) → Agree at l.tokens → (c : Conjunct) → ConjunctAt at c (kinds l.tokens) → AssertionAt at (conjuncts c (map conjunct_of l.found.items)) (kinds l.rest) × Agree at l.rest;
-  taken : (st : List Predicted) → verdict 0 (kinds l.tokens) (m.more_conjuncts l.depth ∷ st) ≡ verdict 0 (kinds l.rest) (m.more_conjuncts l.depth ∷ st);
+  spelled : (c : Conjunct) → conjunct c (leaves l.tokens) ≡ assertion (conjuncts c (map conjunct_of l.found.items)) (leaves l.rest);
+  within : (c : Conjunct) → ConjunctWithin c 0 l.depth (leaves l.tokens) → Ends c (leaves l.tokens) → AssertionWithin (conjuncts c (map conjunct_of l.found.items)) 0 l.depth (leaves l.rest);
+  ended : (c : Conjunct) → Ends c (leaves l.tokens) → Ends (last_of (conjuncts c (map conjunct_of l.found.items))) (leaves l.rest);
+  taken : (st : List Predicted) → verdict 0 (leaves l.tokens) (m.more_conjuncts l.depth ∷ st) ≡ verdict 0 (leaves l.rest) (m.more_conjuncts l.depth ∷ st);
 }
 
 abbrev pub decreases-more_conjuncts-loop-after : goal.decreases-more_conjuncts-loop-after

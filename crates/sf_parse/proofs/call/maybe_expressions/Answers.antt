@@ -6,9 +6,3 @@ use Rattle.sf_parse.proofs.call.maybe_expressions.Goals as goal
 
 pub returns-in_err-found-clause-fault_arguments : goal.returns-in_err-found-clause-fault_arguments
 returns-in_err-found-clause-fault_arguments c = grind (arith, common_steps, accepts_first, c.in_err-found.ensures.fault_rest (is_name c.in-Some.first))
-
-pub returns-clause-places : goal.returns-clause-places
-returns-clause-places c = λ at agree.
-    let a = c.in-Some.ensures.places at agree in
-    let b = c.in_ok-found.ensures.places at a.1 in
-    rw (c.in_ok-with_first.ensures, ← c.in_ok-found.ensures.spelled) ((a.0, b.0), b.1)

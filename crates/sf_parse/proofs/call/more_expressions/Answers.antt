@@ -1,13 +1,12 @@
 use Rattle.std.proofs.Common.{◌≡◌, List, ◌∷◌, ◌∙◌, ap, subst, sym}
-use Rattle.sf_lex.specs.declared.token.Kind.{Kind}
-use Rattle.sf_lex.specs.declared.token.Kind.TheVariants as k
+use Rattle.sf_parse.specs.Leaf.{Leaf}
+use Rattle.sf_parse.specs.Leaf as k
 use Rattle.sf_parse.specs.Internal.Given.{all_names}
 use Rattle.sf_parse.specs.Grammar.{expr, more_exprs}
 use Rattle.sf_parse.specs.Internal.Machine as m
 use Rattle.sf_parse.specs.Internal.Machine.{verdict}
-use Rattle.sf_parse.specs.Parsing.{kinds}
-use Rattle.sf_parse.specs.Placed.{MoreExprsAt}
-use Rattle.sf_parse.proofs.Parser.Arguments.{accepts_next, accepts_more, all_names_push, more_exprs_push, more_exprs_at_push}
+use Rattle.sf_parse.specs.Leaf.{leaves}
+use Rattle.sf_parse.proofs.Parser.Arguments.{accepts_next, accepts_more, all_names_push, more_exprs_push}
 use Rattle.sf_parse.proofs.call.more_expressions.Goals as goal
 
 pub loop-after-preserved : goal.loop-after-preserved
@@ -17,15 +16,11 @@ loop-after-preserved c =
     let ts = c.loop-after.rest.now in
     let us = c.in-Some.after.now in
     let r = c.in-Some-eat_expression.after.now in
-    let here : kinds ts ≡ k.Comma ∷ expr x ∷ kinds r = c.in-Some.ensures.spelled ∙ ap (λ (z : List Kind). k.Comma ∷ z) c.in-Some-eat_expression.ensures.spelled in
+    let here : leaves ts ≡ k.Comma ∷ expr x ∷ leaves r = c.in-Some.ensures.spelled ∙ ap (λ (z : List Leaf). k.Comma ∷ z) c.in-Some-eat_expression.ensures.spelled in
     rw c.in_ok-add.ensures record {
-      spelled = c.loop-after.invariant.spelled ∙ ap (more_exprs xs) here ∙ sym (more_exprs_push xs x (kinds r));
-      places = λ at agree.
-          let a = c.loop-after.invariant.places at agree in
-          let b = c.in-Some-eat_expression.ensures.places at (c.in-Some.ensures.places at a.1).1 in
-          (more_exprs_at_push at xs x (kinds r) (subst (λ (z : List Kind). MoreExprsAt at xs z) here a.0) b.0, b.1);
+      spelled = c.loop-after.invariant.spelled ∙ ap (more_exprs xs) here ∙ sym (more_exprs_push xs x (leaves r));
       taken = λ st. c.loop-after.invariant.taken st ∙ accepts_more x ts us r st c.in-Some.ensures.spelled c.in-Some-eat_expression.ensures.spelled;
       taken_rest = λ b st.
           c.loop-after.invariant.taken_rest b st ∙ accepts_next x (all_names b xs) ts us r st c.in-Some.ensures.spelled c.in-Some-eat_expression.ensures.spelled
-          ∙ ap (λ z. verdict 0 (kinds r) (m.rest z ∷ st)) (sym (all_names_push b xs x));
+          ∙ ap (λ z. verdict 0 (leaves r) (m.rest z ∷ st)) (sym (all_names_push b xs x));
     }

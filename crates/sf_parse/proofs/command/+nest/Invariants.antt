@@ -4,9 +4,7 @@ use Rattle.sf_parse.specs.Grammar as g
 use Rattle.sf_parse.specs.Internal.Machine as m
 use Rattle.sf_parse.specs.Internal.Machine.{Predicted, verdict}
 use Rattle.sf_parse.specs.Nesting.{CommandsWithin}
-use Rattle.sf_parse.specs.Parsing.{kinds}
-use Rattle.sf_parse.specs.Placed.{CommandsAt}
-use Rattle.sf_parse.specs.Internal.Parser.{Placed}
+use Rattle.sf_parse.specs.Leaf.{leaves}
 use Rattle.sf_parse.proofs.command.+nest.Given as goal
 
 abbrev pub decreases-if_command : goal.decreases-if_command
@@ -29,10 +27,9 @@ decreases-commands l = l.depth + l.depth + l.depth + 2
 
 abbrev pub invariant-commands-loop-alloc : goal.invariant-commands-loop-alloc
 invariant-commands-loop-alloc l = record {
-  spelled : kinds l.tokens ≡ g.commands (commands (map command_of l.found.items)) (kinds l.rest);
-  within : CommandsWithin (commands (map command_of l.found.items)) 0 l.depth (kinds l.rest);
-  places : Placed (λ at b. CommandsAt at (commands (map command_of l.found.items)) b) l.tokens l.rest;
-  taken : (st : List Predicted) → verdict 0 (kinds l.tokens) (m.commands l.depth ∷ st) ≡ verdict 0 (kinds l.rest) (m.commands l.depth ∷ st);
+  spelled : leaves l.tokens ≡ g.commands (commands (map command_of l.found.items)) (leaves l.rest);
+  within : CommandsWithin (commands (map command_of l.found.items)) 0 l.depth (leaves l.rest);
+  taken : (st : List Predicted) → verdict 0 (leaves l.tokens) (m.commands l.depth ∷ st) ≡ verdict 0 (leaves l.rest) (m.commands l.depth ∷ st);
 }
 
 abbrev pub decreases-commands-loop-alloc : goal.decreases-commands-loop-alloc

@@ -8,9 +8,3 @@ pub returns-in_err-first-clause-fault : goal.returns-in_err-first-clause-fault
 returns-in_err-first-clause-fault c =
     let p = err_from_is_err_and c.from_residual.result c.from_residual.ensures.1 in
     rw (p.1, p.2) (fails_as c.in_err-first.field-0.0 (m.maybe_fields ∷ []) (m.exact m.a_name ∷ m.exact m.a_colon ∷ m.operand ∷ []) (m.more_fields ∷ []) c.args.tokens.now c.args.tokens.now (λ st. rw c.in-Some.ensures.spelled refl) c.in_err-first.ensures.fault)
-
-pub returns-clause-places : goal.returns-clause-places
-returns-clause-places c = λ at agree.
-    let a = c.in_ok-first.ensures.places at agree in
-    let b = c.in_ok-found.ensures.places at a.1 in
-    rw (c.in_ok-with_first.ensures, ← c.in_ok-found.ensures.spelled) ((a.0, b.0), b.1)

@@ -3,18 +3,15 @@ use Rattle.sf_ast.specs.View.{item_of}
 use Rattle.sf_parse.specs.Internal.Machine as m
 use Rattle.sf_parse.specs.Internal.Machine.{Predicted, verdict}
 use Rattle.sf_parse.specs.Nesting.{ItemsWithin}
-use Rattle.sf_parse.specs.Parsing.{kinds}
-use Rattle.sf_parse.specs.Placed.{ItemsAt}
+use Rattle.sf_parse.specs.Leaf.{leaves}
 use Rattle.sf_parse.specs.Grammar as g
-use Rattle.sf_parse.specs.Internal.Parser.{Placed}
 use Rattle.sf_parse.proofs.item.items.Given as goal
 
 abbrev pub invariant-loop-rest : goal.invariant-loop-rest
 invariant-loop-rest l = record {
-  spelled : kinds l.tokens ≡ g.items (map item_of l.found.items) (kinds l.rest);
-  within : ItemsWithin (map item_of l.found.items) 0 (kinds l.rest);
-  places : Placed (λ at b. ItemsAt at (map item_of l.found.items) b) l.tokens l.rest;
-  taken : (st : List Predicted) → verdict 0 (kinds l.tokens) (m.items ∷ st) ≡ verdict 0 (kinds l.rest) (m.items ∷ st);
+  spelled : leaves l.tokens ≡ g.items (map item_of l.found.items) (leaves l.rest);
+  within : ItemsWithin (map item_of l.found.items) 0 (leaves l.rest);
+  taken : (st : List Predicted) → verdict 0 (leaves l.tokens) (m.items ∷ st) ≡ verdict 0 (leaves l.rest) (m.items ∷ st);
 }
 
 abbrev pub decreases-loop-rest : goal.decreases-loop-rest

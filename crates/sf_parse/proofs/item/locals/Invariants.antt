@@ -3,16 +3,13 @@ use Rattle.sf_ast.specs.View.{names_of}
 use Rattle.sf_parse.specs.Grammar as g
 use Rattle.sf_parse.specs.Internal.Machine as m
 use Rattle.sf_parse.specs.Internal.Machine.{Predicted, verdict}
-use Rattle.sf_parse.specs.Parsing.{kinds}
-use Rattle.sf_parse.specs.Placed.{LocalsAt}
-use Rattle.sf_parse.specs.Internal.Parser.{Placed}
+use Rattle.sf_parse.specs.Leaf.{leaves}
 use Rattle.sf_parse.proofs.item.locals.Given as goal
 
 abbrev pub invariant-loop-after : goal.invariant-loop-after
 invariant-loop-after l = record {
-  spelled : kinds l.tokens ≡ g.locals (map names_of l.found.items) (kinds l.rest);
-  places : Placed (λ at b. LocalsAt at (map names_of l.found.items) b) l.tokens l.rest;
-  taken : (st : List Predicted) → verdict 0 (kinds l.tokens) (m.locals ∷ st) ≡ verdict 0 (kinds l.rest) (m.locals ∷ st);
+  spelled : leaves l.tokens ≡ g.locals (map names_of l.found.items) (leaves l.rest);
+  taken : (st : List Predicted) → verdict 0 (leaves l.tokens) (m.locals ∷ st) ≡ verdict 0 (leaves l.rest) (m.locals ∷ st);
 }
 
 abbrev pub decreases-loop-after : goal.decreases-loop-after

@@ -2,16 +2,13 @@ use Rattle.std.proofs.Common.{◌≡◌, List, ◌∷◌, length}
 use Rattle.sf_parse.specs.Grammar.{more_names}
 use Rattle.sf_parse.specs.Internal.Machine as m
 use Rattle.sf_parse.specs.Internal.Machine.{Predicted, verdict}
-use Rattle.sf_parse.specs.Parsing.{kinds}
-use Rattle.sf_parse.specs.Placed.{MoreNamesAt}
-use Rattle.sf_parse.specs.Internal.Parser.{Placed}
+use Rattle.sf_parse.specs.Leaf.{leaves}
 use Rattle.sf_parse.proofs.names.more_names.Given as goal
 
 abbrev pub invariant-loop-after : goal.invariant-loop-after
 invariant-loop-after l = record {
-  spelled : kinds l.tokens ≡ more_names l.found.items (kinds l.rest);
-  places : Placed (λ at b. MoreNamesAt at l.found.items b) l.tokens l.rest;
-  taken : (st : List Predicted) → verdict 0 (kinds l.tokens) (m.more_names ∷ st) ≡ verdict 0 (kinds l.rest) (m.more_names ∷ st);
+  spelled : leaves l.tokens ≡ more_names l.found.items (leaves l.rest);
+  taken : (st : List Predicted) → verdict 0 (leaves l.tokens) (m.more_names ∷ st) ≡ verdict 0 (leaves l.rest) (m.more_names ∷ st);
 }
 
 abbrev pub decreases-loop-after : goal.decreases-loop-after
