@@ -23,7 +23,7 @@ use Rattle.sf_sym.specs.Lemmas.{points_at, same_term_is}
 use Rattle.sf_sym.specs.State.{State}
 use Rattle.sf_sym.specs.Tests.{allocated, allocates, has_cell, has_repeat, is_constant, is_impossible, is_left_out, parts, root, same_term}
 
-or-still : (a b : Bool) → a ≡ false → b ≡ false → a || b ≡ false
+pub or-still : (a b : Bool) → a ≡ false → b ≡ false → a || b ≡ false
 or-still a b e f = ap₂ (λ x y. x || y) e f
 
 and-still : (a b : Bool) → (a && b ≡ false) → (c : Bool) → (c ≡ true → a ≡ true) → c && b ≡ false
@@ -87,7 +87,7 @@ repeat-fewer apart _ _ (left_out y xs ys f) e =
     repeat-fewer apart xs ys f (or_parts (list_any p ys && has_cell apart y.atom) (has_repeat apart ys) e).1
 
 module _ {X : Type 0} where
-  lower-none : (a b : Option (ℕ × X)) → lower a b ≡ None → (a ≡ None) × (b ≡ None)
+  pub lower-none : (a b : Option (ℕ × X)) → lower a b ≡ None → (a ≡ None) × (b ≡ None)
   lower-none None b e = (refl, e)
   lower-none (Some a) None e = absurd (cc)
   lower-none (Some a) (Some b) e = go _ e
@@ -167,14 +167,14 @@ fewer_settled s now apart atoms taken known =
     }
 
 -- One element at the end
-any-moved : (p : Numbered → Bool) (before : List Numbered) (x : Numbered) (zs : List Numbered)
+pub any-moved : (p : Numbered → Bool) (before : List Numbered) (x : Numbered) (zs : List Numbered)
     → list_any p (before ++ x ∷ zs) ≡ list_any p (before ++ (zs ++ x ∷ []))
 any-moved p [] x [] = refl
 any-moved p [] x (z ∷ zs) =
     or-left_comm (p x) (p z) (list_any p zs) ∙ ap (λ b. p z || b) (any-moved p [] x zs)
 any-moved p (y ∷ before) x zs = ap (λ b. p y || b) (any-moved p before x zs)
 
-same-turned : (u v : Term) → same_term u v ≡ same_term v u
+pub same-turned : (u v : Term) → same_term u v ≡ same_term v u
 same-turned u v = go (same_term u v) (same_term v u) refl refl
   where
     go : (a b : Bool) → same_term u v ≡ a → same_term v u ≡ b → a ≡ b
@@ -198,7 +198,7 @@ turned p q a b x z r e =
     ∙ sym (ap (λ c. c || (a && x || r)) (and-or_distrib_right q b z))
 
 -- one atom may be first or last
-repeat-last : (apart : List (Term × Term)) (x : Numbered) (zs : List Numbered)
+pub repeat-last : (apart : List (Term × Term)) (x : Numbered) (zs : List Numbered)
     → has_repeat apart (x ∷ zs) ≡ has_repeat apart (zs ++ x ∷ [])
 repeat-last apart x [] = refl
 repeat-last apart x (z ∷ zs) =
@@ -209,7 +209,7 @@ repeat-last apart x (z ∷ zs) =
     ∙ ap₂ (λ a b. a && has_cell apart z.atom || b)
     (any-moved (λ b. allocates apart (root z.atom) b.atom) [] x zs) (repeat-last apart x zs)
 
-repeat-moved : (apart : List (Term × Term)) (before : List Numbered) (x : Numbered) (zs : List Numbered)
+pub repeat-moved : (apart : List (Term × Term)) (before : List Numbered) (x : Numbered) (zs : List Numbered)
     → has_repeat apart (before ++ x ∷ zs) ≡ has_repeat apart (before ++ (zs ++ x ∷ []))
 repeat-moved apart [] x zs = repeat-last apart x zs
 repeat-moved apart (y ∷ before) x zs =

@@ -82,7 +82,7 @@ seen s now root f a x None e known =
     (settled-same r.0 (with_var x fresh r.0) refl refl refl
     (written (with_symbols 1 s) r.0 root f fresh a r.1 before))
 
-if-so : (b : Bool) (o : Option (List Goal)) (left : List Goal) → cond b o None ≡ Some left → o ≡ Some left
+pub if-so : (b : Bool) (o : Option (List Goal)) (left : List Goal) → cond b o None ≡ Some left → o ≡ Some left
 if-so true o left e = e
 if-so false o left e = absurd (cc)
 
@@ -351,7 +351,7 @@ row_of-kept d g t.New left k e = absurd (cc)
 row_of-kept d g t.End left k e = absurd (cc)
 row_of-kept d g t.Add left k e = absurd (cc)
 
-unsettled : (gs : List Goal) → IsFirstSettled false gs
+pub unsettled : (gs : List Goal) → IsFirstSettled false gs
 unsettled [] = tt
 unsettled (g ∷ gs) = λ i. absurd (cc)
 
@@ -363,5 +363,6 @@ first_settled d g gs tag left chosen e = go (keeps_settled tag) refl
     go : (b : Bool) → keeps_settled tag ≡ b → IsFirstSettled b (left ++ gs)
     go true k =
         let kept = row_of-kept d g tag left k (if-so (has_numbers g.state) (row_of d g tag) left e) in
-        subst (λ zs. IsFirstSettled true (zs ++ gs)) (sym kept.2) (λ i. kept.3 (settled-by g tag chosen k))
+        subst (λ zs. IsFirstSettled true (zs ++ gs)) (sym kept.2) (λ i. kept.3
+        (settled-by keeps_settled refl (λ a. refl) (λ a. refl) g tag chosen k))
     go false k = unsettled (left ++ gs)

@@ -9,6 +9,8 @@ pub mod Taken
 pub mod Rowless
 pub mod Settled
 pub mod Fewer
+pub mod Grown
+pub mod Growing
 pub mod Kept
 pub mod Leading
 pub mod Judging

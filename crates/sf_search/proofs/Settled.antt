@@ -19,7 +19,7 @@ use Rattle.sf_sym.specs.Known.{is_nothing}
 use Rattle.sf_sym.specs.Lemmas.{points_at}
 use Rattle.sf_sym.specs.State.{State}
 use Rattle.sf_sym.specs.Tests.{allocated, allocates, has_cell, has_repeat, is_absurd, is_constant, is_impossible, is_left_out, parts, root, same_term}
-use Rattle.sf_search.specs.Internal.Settled.{IsSettled, keeps_settled}
+use Rattle.sf_search.specs.Internal.Settled.{IsSettled}
 use Rattle.sf_search.specs.Strategy.{at_items, chooses, forced_ends, lower, lowest, lowest_forced, or_else, takes, takes_if, which}
 
 -- an atom without its fields
@@ -150,24 +150,26 @@ written-stripped (x ∷ xs) a u fields fs e =
         (sym (points_at x.atom u fields i))
     go false h others i = ap (λ ys. stripped x ∷ ys) (others i)
 
--- where the strategy takes such a tag the state is settled
-pub settled-by : (g : Goal) (tag : Tag) → chooses g ≡ takes tag → keeps_settled tag ≡ true → IsSettled g.state
-settled-by g tag chosen keeps =
+-- where the strategy takes a tag other than these three the state is settled; `other` tells those from them
+pub settled-by : (other : Tag → Bool) → other t.Absurd ≡ false → ((a : ℕ) → other (t.Drop a) ≡ false)
+    → ((a : ℕ) → other (t.Force a) ≡ false) → (g : Goal) (tag : Tag) → chooses g ≡ takes tag → other tag ≡ true
+    → IsSettled g.state
+settled-by other absurd-tag drop-tag force-tag g tag chosen so =
     go (is_absurd g.state) refl (lowest (which is_nothing) g.state.atoms) refl (lowest_forced g.state g.state.atoms)
     refl chosen
   where
-    not-by : (other : Tag) → keeps_settled other ≡ false → takes other ≡ takes tag → ⊥
-    not-by other none e = let same : other ≡ tag = cc in
-        let kept : keeps_settled other ≡ true = subst (λ z. keeps_settled z ≡ true) (sym same) keeps in absurd (cc)
+    not-by : (this : Tag) → other this ≡ false → takes this ≡ takes tag → ⊥
+    not-by this none e = let same : this ≡ tag = cc in
+        let one : other this ≡ true = subst (λ z. other z ≡ true) (sym same) so in absurd (cc)
 
     go : (b : Bool) → is_absurd g.state ≡ b → (o : Option (ℕ × Atom)) → lowest (which is_nothing) g.state.atoms ≡ o
         → (p : Option (ℕ × (Term × Term))) → lowest_forced g.state g.state.atoms ≡ p
         → or_else (takes_if b t.Absurd) (or_else (option_map (λ f. takes (t.Drop f.0)) o)
         (or_else (option_map (λ f. takes (t.Force f.0)) p) (at_items g.state g.todo))) ≡ takes tag
         → IsSettled g.state
-    go true e o i p j c = absurd (not-by t.Absurd refl c)
-    go false e (Some x) i p j c = absurd (not-by (t.Drop x.0) refl c)
-    go false e None i (Some x) j c = absurd (not-by (t.Force x.0) refl c)
+    go true e o i p j c = absurd (not-by t.Absurd absurd-tag c)
+    go false e (Some x) i p j c = absurd (not-by (t.Drop x.0) (drop-tag x.0) c)
+    go false e None i (Some x) j c = absurd (not-by (t.Force x.0) (force-tag x.0) c)
     go false e None i None j c = record { possible = e; none_empty = i; none_forced = j }
 
 -- there what is in front decides

@@ -6,6 +6,7 @@
 //! - `branches`: choices, by their test.
 //! - `commands`: commands.
 //! - `given`: what is to be assumed.
+//! - `growth`: what comes to a state behind the rest.
 //! - `settled`: what is known of the next goal's state.
 //! - `wanted`: what is to be shown.
 //! - `whole`: all of it.
@@ -15,11 +16,13 @@ mod branches;
 mod choice;
 mod commands;
 mod given;
+mod growth;
 mod settled;
 mod wanted;
 mod whole;
 
 pub use choice::{Choice, Kind};
+pub(crate) use growth::{grows_settled, staying};
 pub(crate) use settled::keeps_settled;
 pub use whole::choose;
 pub(crate) use whole::choose_in_front;

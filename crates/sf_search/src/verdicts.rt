@@ -10,6 +10,7 @@ ghost use Rattle.sf_rules.specs.Internal.Children.{children_of, stack_of};
 ghost use Rattle.sf_rules.specs.Rows.Whole.{row};
 ghost use Rattle.sf_rules.specs.Setting.{Setting, setting_of};
 ghost use Rattle.sf_search.specs.Internal.Choosing.{choice_of};
+ghost use Rattle.sf_search.specs.Internal.Growth.{leaves_settled};
 ghost use Rattle.sf_search.specs.Internal.Settled.{IsSettled};
 ghost use Rattle.sf_search.specs.Strategy.{chooses};
 ghost use Rattle.sf_search.specs.Ends.{EndsAs, FailsAs, FollowsAs, failure};
@@ -17,7 +18,9 @@ ghost use Rattle.sf_search.specs.Judge.{Judge, Search, proof, proved};
 ghost use Rattle.sf_sym.specs.Goal.{Goal as AnyGoal, goal_of};
 ghost use Rattle.sf_sym.specs.declared.tag.Tag.TheVariants.{Procedure};
 
-use crate::choices::{Choice, Kind, choose, choose_in_front, keeps_settled};
+use crate::choices::{
+    Choice, Kind, choose, choose_in_front, grows_settled, keeps_settled, staying,
+};
 use sf_base::ProcId;
 use sf_base::limits::{FILE_TAGS, PROCEDURE_TAGS};
 use sf_precise::Arranged;
@@ -128,11 +131,10 @@ fn search_from<'a>(
         if tags.len() == PROCEDURE_TAGS {
             return Err(SearchFault::TooLarge);
         }
-        match follow(alloc, arranged, &mut stack, &mut tags, goal, tag) {
-            Ok(()) => {}
+        settled = match follow(alloc, arranged, &mut stack, &mut tags, goal, tag) {
+            Ok(known) => known,
             Err(fault) => return Err(fault),
-        }
-        settled = keeps_settled(tag);
+        };
     }
     Ok(tags)
 }
@@ -150,7 +152,8 @@ fn choose_knowing(alloc: Global, goal: &Goal, settled: bool) -> Result<Choice, A
     }
 }
 
-/// Takes the tag at a goal: what it leaves goes on the stack, and the tag after the tags.
+/// Takes the tag at a goal: what it leaves goes on the stack, and the tag after the tags. Where the
+/// goal's state was settled, the answer says whether that of the next goal is known to be.
 fn follow<'a>(
     alloc: Global,
     arranged: &'a Arranged,
@@ -158,21 +161,25 @@ fn follow<'a>(
     tags: &mut Vec<Tag>,
     goal: Goal<'a>,
     tag: Tag,
-) -> Result<(), SearchFault<'a>>
+) -> Result<bool, SearchFault<'a>>
     ghost d: { Setting }
     requires ordered { IsOrdering d.ordered }
     requires setting { d ≡ setting_of d.ordered arranged.now }
-    ensures left { OnOk result ((left : List AnyGoal) × (row d (goal_of goal.entry) tag ≡ Some left)
-        × (stack_of stack.new.items ≡ left ++ stack_of stack.old.items)) }
+    ensures left { IfOk result (λ settled. (left : List AnyGoal)
+        × (row d (goal_of goal.entry) tag ≡ Some left)
+        × (stack_of stack.new.items ≡ left ++ stack_of stack.old.items)
+        × (settled ≡ leaves_settled tag goal.entry.state left)) }
     ensures tags { Appends result tags.old.items tags.new.items (tag ∷ []) }
     ensures err { IfErr result
         (λ e. FollowsAs d (goal_of goal.entry) tag (length tags.old.items) e) }
 {
+    let staying = staying(tag, &goal.state);
     match apply_row(alloc, arranged, goal, tag) {
         Ok(left) => {
+            let settled = keeps_settled(tag) || grows_settled(staying, &left);
             push_children(stack, left)?;
             tags.push(tag)?;
-            Ok(())
+            Ok(settled)
         }
         Err(RuleFault::NotARule) => Err(SearchFault::NoRow(tags.len())),
         Err(RuleFault::OutOfMemory) => Err(SearchFault::OutOfMemory),

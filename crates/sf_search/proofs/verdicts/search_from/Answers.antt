@@ -2,9 +2,10 @@ use Rattle.std.proofs.Common.{◌≡◌, ◌+◌, ◌<◌, ◌∙◌, ap, sym, s
 use Rattle.sf_base.specs.declared.limits.TheConstants.{PROCEDURE_TAGS}
 use Rattle.sf_rules.specs.Internal.Children.{stack_of}
 use Rattle.sf_search.proofs.Leading.{Leads, leads_on, leads_end, leads_fault, no_goals, stack_push}
-use Rattle.sf_search.proofs.Kept.{first_settled}
+use Rattle.sf_search.proofs.Growing.{first_left_settled}
 use Rattle.sf_search.specs.Internal.Choosing.{choice_of, kind_of}
-use Rattle.sf_search.specs.Internal.Settled.{IsFirstSettled, keeps_settled}
+use Rattle.sf_search.specs.Internal.Growth.{leaves_settled}
+use Rattle.sf_search.specs.Internal.Settled.{IsFirstSettled}
 use Rattle.sf_search.specs.Judge.{large, proved, stuck}
 use Rattle.sf_sym.specs.Goal.{goal_of}
 use Rattle.sf_search.proofs.verdicts.search_from.Goals as goal
@@ -29,9 +30,9 @@ loop-goal-preserved g c =
           (sym c.in_ok-tag.ensures ∙ ap choice_of c.in-Takes.is) left.1));
       count = omega (arith, longer, below);
       settled =
-          subst (λ b. IsFirstSettled b (stack_of c.follow.new.stack.items)) (sym c.keeps_settled-settled.ensures)
-          (subst (IsFirstSettled (keeps_settled c.in-Takes.tag)) (sym left.2)
-          (first_settled g.d (goal_of c.in-Some.goal) (stack_of c.pop.new.self.items) c.in-Takes.tag left.0
+          subst (λ b. IsFirstSettled b (stack_of c.follow.new.stack.items)) (sym left.3)
+          (subst (IsFirstSettled (leaves_settled c.in-Takes.tag c.in-Some.goal.state left.0)) (sym left.2)
+          (first_left_settled g.d (goal_of c.in-Some.goal) (stack_of c.pop.new.self.items) c.in-Takes.tag left.0
           (sym c.in_ok-tag.ensures ∙ ap choice_of c.in-Takes.is) left.1));
     }
 

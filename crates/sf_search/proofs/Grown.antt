@@ -1,0 +1,317 @@
+-- A state with pairs and parts behind the others, none of them at a place of those: what is settled stays so.
+-- Names: `pair-LAW` of one pair more, `part-LAW` of one part more, `LAW-settled` of states.
+use Rattle.std.proofs.Common.{◌≡◌, ℕ, Bool, true, false, ◌&&◌, ◌||◌, not, cond, nat_le, nat_lt, Option, Some, None, List, [], ◌∷◌, ◌++◌, length, take, drop, map, refl, sym, ap, ap₂, ◌∙◌, subst, append_assoc}
+use Rattle.std.specs.List.{AllByRecursion, list_all, list_any}
+use Rattle.std.specs.Option.{option_map}
+use Rattle.std.proofs.lemmas.Bool.{and_parts, or_parts}
+use Rattle.std.proofs.lemmas.Bool.Decides.{Decides-eqb}
+use Rattle.std.proofs.lemmas.List.{append-nil}
+use Rattle.std.proofs.lemmas.List.Folds.{list_any-append}
+use Rattle.std.proofs.Math.Seq.{drop-append_seam, take-append_seam}
+use Rattle.sf_search.proofs.Fewer.{any-moved, lower-none, or-still, repeat-last, repeat-moved, same-turned}
+use Rattle.sf_search.proofs.Lowest.{lowest_append}
+use Rattle.sf_search.proofs.Settled.{forced-stripped, settled-same, stripped}
+use Rattle.sf_search.specs.declared.choices.growth.Size.{Size}
+use Rattle.sf_search.specs.Internal.Growth.{are_alone, has_settled_growth, is_alone, is_free, is_free_pair, is_settled_growth, is_unused}
+use Rattle.sf_search.specs.Internal.Settled.{IsSettled}
+use Rattle.sf_search.specs.Strategy.{forced_ends, lower, lowest_forced, which}
+use Rattle.sf_sym.specs.declared.atom.Atom.{Atom}
+use Rattle.sf_sym.specs.declared.atom.Atom.TheVariants.{Points, Ls, Tree}
+use Rattle.sf_sym.specs.declared.atom.Numbered.{Numbered}
+use Rattle.sf_sym.specs.declared.term.Term.{Term}
+use Rattle.sf_sym.specs.declared.term.Term.TheVariants.{Nil, Int, Sym}
+use Rattle.sf_sym.specs.Known.{is_nothing}
+use Rattle.sf_sym.specs.State.{State}
+use Rattle.sf_sym.specs.Tests.{allocated, allocates, differs_at_once, has_cell, has_repeat, is_constant, is_impossible, is_integer_tree, is_left_out, is_pair, parts, root, same_term}
+
+-- Truth values
+or-none : (b : Bool) → b || false ≡ b
+or-none true = refl
+or-none false = refl
+
+and-none : (b : Bool) → b && false ≡ false
+and-none true = refl
+and-none false = refl
+
+not-so : (b : Bool) → not b ≡ true → b ≡ false
+not-so true e = absurd (cc)
+not-so false e = refl
+
+no-pair : (a b c d : Bool) → a ≡ false → d ≡ false → a && b || c && d ≡ false
+no-pair a b c d e f = ap₂ (λ x y. x && b || c && y) e f ∙ and-none c
+
+-- Lists of parts
+-- a part begins at the term
+abbrev begins : Term → Numbered → Bool
+begins t a = same_term (root a.atom) t
+
+any-less : (p q : Numbered → Bool) → ((a : Numbered) → q a ≡ false → p a ≡ false) → (xs : List Numbered)
+    → list_any q xs ≡ false → list_any p xs ≡ false
+any-less p q less [] e = refl
+any-less p q less (x ∷ xs) e =
+    let both = or_parts (q x) (list_any q xs) e in
+    or-still (p x) (list_any p xs) (less x both.0) (any-less p q less xs both.1)
+
+any-last : (p : Numbered → Bool) (xs : List Numbered) (x : Numbered)
+    → list_any p (xs ++ x ∷ []) ≡ (list_any p xs || p x)
+any-last p xs x = list_any-append p xs (x ∷ []) ∙ ap (λ b. list_any p xs || b) (or-none (p x))
+
+-- where neither list begins at a term, both together don't
+free-parts : (atoms taken : List Numbered) (t : Term) → is_free atoms taken t ≡ true
+    → list_any (begins t) (atoms ++ taken) ≡ false
+free-parts atoms taken t e =
+    let both = and_parts (is_unused atoms t) (is_unused taken t) e in
+    list_any-append (begins t) atoms taken
+    ∙ or-still (list_any (begins t) atoms) (list_any (begins t) taken)
+    (not-so (list_any (begins t) atoms) both.0) (not-so (list_any (begins t) taken) both.1)
+
+-- One pair more
+-- the parts have a cell by these pairs where they have one by those
+abbrev SameCells : (apart now : List (Term × Term)) → List Numbered → Type 0
+SameCells apart now = AllByRecursion (λ a. has_cell now a.atom ≡ has_cell apart a.atom)
+
+pair-at_once : (apart : List (Term × Term)) (q : Term × Term) (t u : Term) → same_term t q.0 ≡ false
+    → same_term t q.1 ≡ false → differs_at_once (apart ++ q ∷ []) t u ≡ differs_at_once apart t u
+pair-at_once apart q t u e f =
+    ap (λ b. is_constant t && is_constant u && not (same_term t u) || b)
+    (list_any-append (is_pair t u) apart (q ∷ [])
+    ∙ ap (λ b. list_any (is_pair t u) apart || (b || false))
+    (no-pair (same_term q.0 t) (same_term q.1 u) (same_term q.0 u) (same_term q.1 t) (same-turned q.0 t ∙ e)
+    (same-turned q.1 t ∙ f))
+    ∙ or-none (list_any (is_pair t u) apart))
+
+pair-cell : (apart : List (Term × Term)) (q : Term × Term) (a : Atom) → same_term (root a) q.0 ≡ false
+    → same_term (root a) q.1 ≡ false → has_cell (apart ++ q ∷ []) a ≡ has_cell apart a
+pair-cell apart q (Points t fields) e f = refl
+pair-cell apart q (Ls t u) e f = pair-at_once apart q t u e f
+pair-cell apart q (Tree t) e f = pair-at_once apart q t Nil e f
+
+pair-cells : (apart : List (Term × Term)) (q : Term × Term) (xs : List Numbered)
+    → list_any (begins q.0) xs ≡ false → list_any (begins q.1) xs ≡ false → SameCells apart (apart ++ q ∷ []) xs
+pair-cells apart q [] e f = tt
+pair-cells apart q (x ∷ xs) e f =
+    let one = or_parts (begins q.0 x) (list_any (begins q.0) xs) e in
+    let two = or_parts (begins q.1 x) (list_any (begins q.1) xs) f in
+    (pair-cell apart q x.atom one.0 two.0, pair-cells apart q xs one.1 two.1)
+
+module _ (apart now : List (Term × Term)) where
+  any-alike : (p q : Numbered → Bool)
+      → ((a : Numbered) → has_cell now a.atom ≡ has_cell apart a.atom → p a ≡ q a) → (xs : List Numbered)
+      → SameCells apart now xs → list_any p xs ≡ list_any q xs
+  any-alike p q same [] all = refl
+  any-alike p q same (x ∷ xs) all = ap₂ (λ a b. a || b) (same x all.0) (any-alike p q same xs all.1)
+
+  repeat-alike : (xs : List Numbered) → SameCells apart now xs → has_repeat now xs ≡ has_repeat apart xs
+  repeat-alike [] all = refl
+  repeat-alike (x ∷ xs) all = ap₂ (λ a b. a || b)
+      (ap₂ (λ a b. a && b)
+      (any-alike (λ b. allocates now (root x.atom) b.atom) (λ b. allocates apart (root x.atom) b.atom)
+      (λ b same. ap (λ c. same_term (root b.atom) (root x.atom) && c) same) xs all.1)
+      all.0)
+      (repeat-alike xs all.1)
+
+-- one more pair of two terms at which no part begins
+pair-settled : (s : State) (q : Term × Term) → is_free_pair s.atoms s.taken q ≡ true → IsSettled s
+    → IsSettled (record s { apart = s.apart ++ q ∷ [] })
+pair-settled s q free known =
+    let now : State = record s { apart = s.apart ++ q ∷ [] } in
+    let apart-so = and_parts (not (same_term q.0 q.1)) (is_free s.atoms s.taken q.0 && is_free s.atoms s.taken q.1) free in
+    let both = and_parts (is_free s.atoms s.taken q.0) (is_free s.atoms s.taken q.1) apart-so.1 in
+    let cells = pair-cells s.apart q (parts s) (free-parts s.atoms s.taken q.0 both.0)
+    (free-parts s.atoms s.taken q.1 both.1) in
+    record {
+      possible =
+          ap₂ (λ a b. a || b)
+          (ap₂ (λ a b. a || b)
+          (list_any-append (λ p. same_term p.0 p.1) s.apart (q ∷ [])
+          ∙ ap (λ b. list_any (λ p. same_term p.0 p.1) s.apart || (b || false))
+          (not-so (same_term q.0 q.1) apart-so.0) ∙ or-none (list_any (λ p. same_term p.0 p.1) s.apart))
+          (any-alike s.apart now.apart (λ a. is_impossible now.apart a.atom) (λ a. is_impossible s.apart a.atom)
+          (λ a same. ap (λ c. is_constant (root a.atom) && c || is_integer_tree a.atom) same) (parts s) cells))
+          (repeat-alike s.apart now.apart (parts s) cells)
+          ∙ known.possible;
+      none_empty = known.none_empty;
+      none_forced =
+          sym (forced-stripped now now (λ u o. refl) s.atoms)
+          ∙ forced-stripped s now
+          (λ u o. any-alike s.apart now.apart (λ a. not (is_left_out o a.number) && allocates now.apart u a.atom)
+          (λ a. not (is_left_out o a.number) && allocates s.apart u a.atom)
+          (λ a same. ap (λ c. not (is_left_out o a.number) && (same_term (root a.atom) u && c)) same) (parts s) cells)
+          s.atoms ∙ known.none_forced;
+    }
+
+-- One part more
+part-tree : (a : Atom) → is_constant (root a) ≡ false → is_integer_tree a ≡ false
+part-tree (Points t fields) e = refl
+part-tree (Ls t u) e = refl
+part-tree (Tree Nil) e = refl
+part-tree (Tree (Int i)) e = absurd (cc)
+part-tree (Tree (Sym n)) e = refl
+
+module _ (s : State) (x : Numbered) (constant : is_constant (root x.atom) ≡ false)
+    (something : is_nothing x.atom ≡ false)
+    (unused : list_any (λ a. same_term (root a.atom) (root x.atom)) (parts s) ≡ false) where
+  part-added : State
+  part-added = record s { atoms = s.atoms ++ x ∷ [] }
+
+  part-regrouped : (f : List Numbered → Bool)
+      → ((bs zs : List Numbered) → f (bs ++ x ∷ zs) ≡ f (bs ++ (zs ++ x ∷ [])))
+      → f ((s.atoms ++ x ∷ []) ++ s.taken) ≡ f (parts s ++ x ∷ [])
+  part-regrouped f turn =
+      ap f (append_assoc s.atoms (x ∷ []) s.taken) ∙ turn s.atoms s.taken
+      ∙ ap f (sym (append_assoc s.atoms s.taken (x ∷ [])))
+
+  part-any : (p : Numbered → Bool) → list_any p ((s.atoms ++ x ∷ []) ++ s.taken) ≡ (list_any p (parts s) || p x)
+  part-any p = part-regrouped (list_any p) (λ bs zs. any-moved p bs x zs) ∙ any-last p (parts s) x
+
+  -- nothing else has a cell there
+  part-no_other : (p : Numbered → Bool)
+      → list_any (λ a. p a && allocates s.apart (root x.atom) a.atom) (parts s) ≡ false
+  part-no_other p =
+      any-less (λ a. p a && allocates s.apart (root x.atom) a.atom) (begins (root x.atom))
+      (λ a e. ap (λ b. p a && (b && has_cell s.apart a.atom)) e ∙ and-none (p a)) (parts s) unused
+
+  part-repeat : has_repeat s.apart ((s.atoms ++ x ∷ []) ++ s.taken) ≡ has_repeat s.apart (parts s)
+  part-repeat =
+      part-regrouped (has_repeat s.apart) (λ bs zs. repeat-moved s.apart bs x zs)
+      ∙ sym (repeat-last s.apart x (parts s))
+      ∙ ap (λ b. b && has_cell s.apart x.atom || has_repeat s.apart (parts s)) (part-no_other (λ a. true))
+
+  part-impossible : is_impossible s.apart x.atom ≡ false
+  part-impossible =
+      ap (λ b. b && has_cell s.apart x.atom || is_integer_tree x.atom) constant ∙ part-tree x.atom constant
+
+  -- elsewhere there is a cell where there was one
+  part-elsewhere : (u : Term) (o : Option ℕ) → same_term u (root x.atom) ≡ false
+      → allocated (record s { atoms = s.atoms ++ x ∷ [] }) u o ≡ allocated s u o
+  part-elsewhere u o e =
+      part-any (λ a. not (is_left_out o a.number) && allocates s.apart u a.atom)
+      ∙ ap (λ b. allocated s u o || b)
+      (ap (λ b. not (is_left_out o x.number) && (b && has_cell s.apart x.atom)) (same-turned (root x.atom) u ∙ e)
+      ∙ and-none (not (is_left_out o x.number)))
+      ∙ or-none (allocated s u o)
+
+  part-ends : (n : ℕ) (a : Atom) → same_term (root a) (root x.atom) ≡ false
+      → forced_ends (record s { atoms = s.atoms ++ x ∷ [] }) n a ≡ forced_ends s n a
+  part-ends n (Points u fields) e = refl
+  part-ends n (Ls u v) e =
+      ap (λ b. cond (not (same_term u v) && (is_constant u || b)) (Some (u, v)) None)
+      (part-elsewhere u (Some n) e)
+  part-ends n (Tree u) e =
+      ap (λ b. cond (not (same_term u Nil) && (is_constant u || b)) (Some (u, Nil)) None)
+      (part-elsewhere u (Some n) e)
+
+  -- nothing else has a cell at its root
+  part-own : allocated (record s { atoms = s.atoms ++ x ∷ [] }) (root x.atom) (Some x.number) ≡ false
+  part-own =
+      part-any (λ a. not (is_left_out (Some x.number) a.number) && allocates s.apart (root x.atom) a.atom)
+      ∙ ap₂ (λ a b. a || b) (part-no_other (λ a. not (is_left_out (Some x.number) a.number)))
+      (ap (λ b. not b && allocates s.apart (root x.atom) x.atom) ((Decides-eqb x.number x.number).1 refl))
+
+  part-unforced : (a : Atom) → is_constant (root a) ≡ false
+      → allocated (record s { atoms = s.atoms ++ x ∷ [] }) (root a) (Some x.number) ≡ false
+      → forced_ends (record s { atoms = s.atoms ++ x ∷ [] }) x.number a ≡ None
+  part-unforced (Points u fields) e f = refl
+  part-unforced (Ls u v) e f =
+      ap₂ (λ c b. cond (not (same_term u v) && (c || b)) (Some (u, v)) None) e f
+      ∙ ap (λ b. cond b (Some (u, v)) None) (and-none (not (same_term u v)))
+  part-unforced (Tree u) e f =
+      ap₂ (λ c b. cond (not (same_term u Nil) && (c || b)) (Some (u, Nil)) None) e f
+      ∙ ap (λ b. cond b (Some (u, Nil)) None) (and-none (not (same_term u Nil)))
+
+  part-forced : (zs : List Numbered) → list_any (λ a. same_term (root a.atom) (root x.atom)) zs ≡ false
+      → lowest_forced s zs ≡ None → lowest_forced (record s { atoms = s.atoms ++ x ∷ [] }) (zs ++ x ∷ []) ≡ None
+  part-forced [] e f =
+      ap (λ o. lower (option_map (λ y. (x.number, y)) o) None) (part-unforced x.atom constant part-own)
+  part-forced (z ∷ zs) e f =
+      let here = or_parts (begins (root x.atom) z) (list_any (begins (root x.atom)) zs) e in
+      let both = lower-none (option_map (λ y. (z.number, y)) (forced_ends s z.number z.atom)) (lowest_forced s zs) f in
+      ap₂ lower (ap (option_map (λ y. (z.number, y))) (part-ends z.number z.atom here.0) ∙ both.0)
+      (part-forced zs here.1 both.1)
+
+  part-settled : list_any (λ a. same_term (root a.atom) (root x.atom)) s.atoms ≡ false → IsSettled s
+      → IsSettled (record s { atoms = s.atoms ++ x ∷ [] })
+  part-settled among known = record {
+    possible =
+        ap₂ (λ a b. list_any (λ p. same_term p.0 p.1) s.apart || a || b)
+        (part-any (λ a. is_impossible s.apart a.atom)
+        ∙ ap (λ b. list_any (λ a. is_impossible s.apart a.atom) (parts s) || b) part-impossible
+        ∙ or-none (list_any (λ a. is_impossible s.apart a.atom) (parts s)))
+        part-repeat
+        ∙ known.possible;
+    none_empty =
+        lowest_append (which is_nothing) s.atoms (x ∷ [])
+        ∙ ap₂ lower known.none_empty
+        (ap (λ b. lower (option_map (λ (y : Atom). (x.number, y)) (cond b (Some x.atom) None)) None) something);
+    none_forced = part-forced s.atoms among known.none_forced;
+  }
+
+-- Many of them
+pairs-settled : (s : State) (qs : List (Term × Term)) → list_all (is_free_pair s.atoms s.taken) qs ≡ true
+    → IsSettled s → IsSettled (record s { apart = s.apart ++ qs })
+pairs-settled s [] free known =
+    subst (λ ps. IsSettled (record s { apart = ps })) (sym (append-nil s.apart)) known
+pairs-settled s (q ∷ qs) free known =
+    let both = and_parts (is_free_pair s.atoms s.taken q) (list_all (is_free_pair s.atoms s.taken) qs) free in
+    subst (λ ps. IsSettled (record s { apart = ps })) (append_assoc s.apart (q ∷ []) qs)
+    (pairs-settled (record s { apart = s.apart ++ q ∷ [] }) qs both.1 (pair-settled s q both.0 known))
+
+-- what is alone among others is so among these and one more that is elsewhere
+still-alone : (atoms taken : List Numbered) (x : Numbered) (xs : List Numbered)
+    → list_any (begins (root x.atom)) xs ≡ false → are_alone atoms taken xs ≡ true
+    → are_alone (atoms ++ x ∷ []) taken xs ≡ true
+still-alone atoms taken x [] e f = refl
+still-alone atoms taken x (y ∷ ys) e f =
+    let here = or_parts (begins (root x.atom) y) (list_any (begins (root x.atom)) ys) e in
+    let both = and_parts (is_alone atoms taken ys y) (are_alone atoms taken ys) f in
+    ap₂ (λ a b. a && b)
+    (ap (λ b. not (is_constant (root y.atom)) && (not (is_nothing y.atom)
+    && ((not b && is_unused taken (root y.atom)) && is_unused ys (root y.atom))))
+    (any-last (begins (root y.atom)) atoms x
+    ∙ ap (λ b. list_any (begins (root y.atom)) atoms || b) (same-turned (root x.atom) (root y.atom) ∙ here.0)
+    ∙ or-none (list_any (begins (root y.atom)) atoms))
+    ∙ both.0)
+    (still-alone atoms taken x ys here.1 both.1)
+
+parts-settled : (s : State) (xs : List Numbered) → are_alone s.atoms s.taken xs ≡ true → IsSettled s
+    → IsSettled (record s { atoms = s.atoms ++ xs })
+parts-settled s [] alone known =
+    subst (λ ys. IsSettled (record s { atoms = ys })) (sym (append-nil s.atoms)) known
+parts-settled s (x ∷ xs) alone known =
+    let free = is_free s.atoms s.taken (root x.atom) in
+    let both = and_parts (is_alone s.atoms s.taken xs x) (are_alone s.atoms s.taken xs) alone in
+    let symbol = and_parts (not (is_constant (root x.atom)))
+    (not (is_nothing x.atom) && (is_free s.atoms s.taken (root x.atom) && is_unused xs (root x.atom))) both.0 in
+    let some = and_parts (not (is_nothing x.atom))
+    (is_free s.atoms s.taken (root x.atom) && is_unused xs (root x.atom)) symbol.1 in
+    let places = and_parts (is_free s.atoms s.taken (root x.atom)) (is_unused xs (root x.atom)) some.1 in
+    let among = and_parts (is_unused s.atoms (root x.atom)) (is_unused s.taken (root x.atom)) places.0 in
+    subst (λ ys. IsSettled (record s { atoms = ys })) (append_assoc s.atoms (x ∷ []) xs)
+    (parts-settled (record s { atoms = s.atoms ++ x ∷ [] }) xs
+    (still-alone s.atoms s.taken x xs (not-so (list_any (begins (root x.atom)) xs) places.1) both.1)
+    (part-settled s x (not-so (is_constant (root x.atom)) symbol.0) (not-so (is_nothing x.atom) some.0)
+    (free-parts s.atoms s.taken (root x.atom) places.0)
+    (not-so (list_any (begins (root x.atom)) s.atoms) among.0) known))
+
+-- a state that is settled but for what came to it, by the test of that
+pub grown-settled : (s now : State) (n : Size) (xs : List Numbered) (qs : List (Term × Term))
+    → now.atoms ≡ s.atoms ++ xs → now.apart ≡ s.apart ++ qs → now.taken ≡ s.taken → length s.atoms ≡ n.atoms
+    → length s.apart ≡ n.pairs → has_settled_growth n now ≡ true → IsSettled s → IsSettled now
+grown-settled s now n xs qs atoms apart taken count pairs so known =
+    let rest = and_parts
+    (nat_le n.atoms (length now.atoms) && nat_le n.pairs (length now.apart)
+    && (nat_lt n.atoms (length now.atoms) || nat_lt n.pairs (length now.apart)))
+    (is_settled_growth n now) so in
+    let tests = and_parts (list_all (is_free_pair (take n.atoms now.atoms) now.taken) (drop n.pairs now.apart))
+    (are_alone (take n.atoms now.atoms) now.taken (drop n.atoms now.atoms)) rest.1 in
+    let front : take n.atoms now.atoms ≡ s.atoms = ap₂ take (sym count) atoms ∙ take-append_seam s.atoms xs in
+    let came : drop n.atoms now.atoms ≡ xs = ap₂ drop (sym count) atoms ∙ drop-append_seam s.atoms xs in
+    let differ : drop n.pairs now.apart ≡ qs = ap₂ drop (sym pairs) apart ∙ drop-append_seam s.apart qs in
+    let with-pairs = pairs-settled s qs
+    (sym (ap₂ (λ a b. list_all (is_free_pair a now.taken) b) front differ
+    ∙ ap (λ t. list_all (is_free_pair s.atoms t) qs) taken) ∙ tests.0) known in
+    let with-parts = parts-settled (record s { apart = s.apart ++ qs }) xs
+    (sym (ap₂ (λ a b. are_alone a now.taken b) front came ∙ ap (λ t. are_alone s.atoms t xs) taken) ∙ tests.1)
+    with-pairs in
+    settled-same (record s { apart = s.apart ++ qs; atoms = s.atoms ++ xs }) now apart (ap (map stripped) atoms)
+    (ap (map stripped) taken) with-parts
