@@ -4,7 +4,6 @@ use Rattle.std.proofs.Common.{◌≡◌, ℕ, suc, ◌+◌, ◌<◌, Bool, true,
 use Rattle.std.proofs.lemmas.Bool.Decides.{Decides-eqb, Decides-int_eq}
 use Rattle.std.proofs.lemmas.Bool.{lt-ltb}
 use Rattle.std.proofs.lemmas.Option.{same_Some}
-use Rattle.std.proofs.lemmas.List.Sums.{count_by-le-length, length-filter}
 use Rattle.std.specs.List.{filter, slice_get}
 use Rattle.std.specs.Option.{option_and_then, option_map}
 use Rattle.sf_base.specs.declared.ids.FieldId.{FieldId}
@@ -33,6 +32,7 @@ use Rattle.sf_rules.specs.Rows.Take.{subtract_row}
 use Rattle.sf_rules.specs.Rows.Whole.{row, row_of}
 use Rattle.sf_rules.specs.Setting.{Setting}
 use Rattle.sf_search.proofs.Found.{found-at, found-forced}
+use Rattle.sf_search.proofs.FreshVariables.{few-filtered, fresh-length, term-below, variables-length}
 use Rattle.sf_search.proofs.Rows.{Good, GoodIf, NoneIsNothing, cell-found, good-at_cell, good-at_test, good-if, good-map, good-or, good-split, good-split_or, segment-is}
 use Rattle.sf_search.specs.Strategy.{at_choice, at_command, at_end, at_equality, at_first_wanted, at_given, at_inequality, at_items, at_known, at_list, at_points, at_tree, at_wanted, begins_with, chooses, end_not_allocated, exact_atom, forced_ends, has_step, joins, leak, lowest, lowest_forced, no_atom, not_different, not_equal, segment_at, split_or, takes, takes_if, which}
 use Rattle.sf_search.specs.Laws.{TakenTagsHaveRows}
@@ -58,27 +58,12 @@ use Rattle.sf_sym.specs.Tests.{allocated, differs, is_absurd, is_constant, same_
 use Rattle.sf_sym.specs.Variables.{fresh_for}
 
 -- Terms that are below
--- of a variable
-var-below : (n : ℕ) (vars : List (Var × Term)) (x : Var) → AllPaired (IsBelow n) vars → IsBelow n (term_at vars x)
-var-below n [] x all = refl
-var-below n (v ∷ vs) x all = go (same_var v.0 x) (var-below n vs x all.1)
-  where
-    go : (b : Bool) → IsBelow n (term_at vs x) → IsBelow n (cond b v.1 (term_at vs x))
-    go true rest = all.0
-    go false rest = rest
-
--- of an expression
-term-below : (n : ℕ) (vars : List (Var × Term)) (e : Expr) → AllPaired (IsBelow n) vars → IsBelow n (term vars e)
-term-below n vars (Variable x) all = var-below n vars x.var all
-term-below n vars ENil all = refl
-term-below n vars (EInt i) all = refl
-
 -- of a command's test
 command-below : (n : ℕ) (vars : List (Var × Term)) (test : Test Expr) → AllPaired (IsBelow n) vars
     → TestWithin (IsBelow n) (command_test (term vars) test)
 command-below n vars True all = tt
-command-below n vars (Equal e f) all = (term-below n vars e all, term-below n vars f all)
-command-below n vars (Differ e f) all = (term-below n vars e all, term-below n vars f all)
+command-below n vars (Equal e f) all = (term-below n vars all e, term-below n vars all f)
+command-below n vars (Differ e f) all = (term-below n vars all e, term-below n vars all f)
 
 -- of an operand that has a term
 operand-below : (P : Term → Type 0) (p : Pending) → AllInPending P p → (x : Operand Term) (u : Term)
@@ -120,14 +105,6 @@ there f (Some x) e h = h x
 cond-some : {X : Type 0} (b : Bool) (x : X) → b ≡ true → is_some (cond b (Some x) None) ≡ true
 cond-some true x e = refl
 cond-some false x e = absurd (cc)
-
-fresh-length : (n : ℕ) (xs : List Var) → length (fresh_for n xs) ≡ length xs
-fresh-length n [] = refl
-fresh-length n (x ∷ xs) = ap suc (fresh-length (suc n) xs)
-
-variables-length : (r : ResId) (i : ℕ) (names : List (List ℕ)) → length (variables_from r i names) ≡ length names
-variables-length r i [] = refl
-variables-length r i (x ∷ xs) = ap suc (variables-length r (suc i) xs)
 
 look-some : (s : State) (u : Term) (f : FieldId) (a : ℕ) (x : Var) (rest : List Item) (fields : List (FieldId × Term))
     → cell_at s.atoms a u ≡ Some fields → (o : Option Term)
@@ -535,10 +512,7 @@ good-items d s (take p want names ∷ rest) shape nothing =
     good-want d s rest p names want.bindings want.conjuncts shape nothing
 good-items d s (gave p set removed ∷ rest) shape nothing = refl
 good-items d s (head p test invariant body ∷ rest) shape nothing =
-    few-some (length (unknown_in d s body)) _ (few (is_listed s.vars) (changes_in d.sets body) shape.front) refl
-  where
-    few : (p : Var → Bool) (xs : List Var) → length xs < 1024 → length (filter p xs) < 1024
-    few p xs l = omega (arith, l, length-filter p xs, count_by-le-length p xs)
+    few-some (length (unknown_in d s body)) _ (few-filtered (is_listed s.vars) (changes_in d.sets body) shape.front) refl
 good-items d s (again p invariant ∷ rest) shape nothing = refl
 good-items d s (exit p r ∷ rest) shape nothing =
     there _ (slice_get d.program.resources r.0) shape.front (λ of. refl)

@@ -2,5 +2,7 @@ pub mod Strategy
 pub mod Judge
 pub mod Ends
 pub mod Shape
+pub mod Shaped
+pub mod ShapeLaws
 pub mod Laws
 pub mod Internal

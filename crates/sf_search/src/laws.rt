@@ -1,7 +1,17 @@
 //! Laws of the search. Each function is a law: calling it gives its fact to the caller's proof, and
 //! does nothing.
 
+ghost use Rattle.sf_search.specs.ShapeLaws.{ArrangedHasRows, ArrangedIsSetUp, GoalsAreShaped, GoalsHaveShape, SearchesHaveRows, VerdictsHaveRows};
 ghost use Rattle.sf_search.specs.Laws.{GoalsWithoutRowLackShape, ProgramsHaveVerdicts, SearchExists, SearchIsUnique, TakenTagsHaveRows, TakenTagsProve, VerdictsAreUnique};
+
+use sf_calls::laws::{
+    changes_are_assigned, conditions_from_truncation, first_breach_is_broken,
+    held_resources_are_there,
+};
+use sf_precise::laws::{
+    determined_has_order, never_taken_is_undetermined, undetermined_has_place,
+};
+use sf_rules::laws::{arranged_has_setting, rows_have_cases};
 
 /// The search from a goal comes to something.
 #[tactic(auto, using(crate::proofs::Ending::search_exists))]
@@ -45,3 +55,81 @@ pub fn taken_tags_have_rows()
 pub fn goals_without_row_lack_shape()
     ensures { GoalsWithoutRowLackShape }
 {}
+
+/// Each goal of a program's procedure is shaped: it speaks of symbols below its next one only, its
+/// atoms' numbers rise, its segments and trees have their fields, and what it has to do fits, up to
+/// its end. After so many tags it has at most 1,023 symbols and atoms more for each than the first
+/// goal.
+pub fn goals_are_shaped()
+    ensures { GoalsAreShaped }
+{
+    rows_have_cases();
+    changes_are_assigned();
+    first_breach_is_broken();
+    held_resources_are_there();
+    undetermined_has_place();
+    never_taken_is_undetermined();
+    determined_has_order();
+}
+
+/// So up to as many tags as a procedure may have, each goal has the shape for which the strategy
+/// takes no tag without a row.
+pub fn goals_have_shape()
+    ensures { GoalsHaveShape }
+{
+    rows_have_cases();
+    changes_are_assigned();
+    first_breach_is_broken();
+    held_resources_are_there();
+    undetermined_has_place();
+    never_taken_is_undetermined();
+    determined_has_order();
+}
+
+/// So no search of a program's procedure ends at a tag without a row.
+pub fn searches_have_rows()
+    ensures { SearchesHaveRows }
+{
+    rows_have_cases();
+    changes_are_assigned();
+    first_breach_is_broken();
+    held_resources_are_there();
+    undetermined_has_place();
+    never_taken_is_undetermined();
+    determined_has_order();
+}
+
+/// And no program fails for want of a row.
+pub fn verdicts_have_rows()
+    ensures { VerdictsHaveRows }
+{
+    rows_have_cases();
+    changes_are_assigned();
+    first_breach_is_broken();
+    held_resources_are_there();
+    undetermined_has_place();
+    never_taken_is_undetermined();
+    determined_has_order();
+}
+
+/// What the code has arranged is such a program.
+pub fn arranged_is_set_up()
+    ensures { ArrangedIsSetUp }
+{
+    conditions_from_truncation();
+    arranged_has_setting();
+}
+
+/// So `search` and `verify` never answer `NoRow`.
+pub fn arranged_has_rows()
+    ensures { ArrangedHasRows }
+{
+    arranged_is_set_up();
+    rows_have_cases();
+    changes_are_assigned();
+    first_breach_is_broken();
+    held_resources_are_there();
+    undetermined_has_place();
+    never_taken_is_undetermined();
+    determined_has_order();
+}
