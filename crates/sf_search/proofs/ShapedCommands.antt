@@ -17,7 +17,7 @@ use Rattle.sf_search.proofs.FittingStates.{StateShaped, cell-shaped, fields-shap
 use Rattle.sf_search.proofs.FreshVariables.{term-below}
 use Rattle.sf_search.proofs.ShapedGoals.{AllKeep, Keeps, Rises, keeps-goal, one-keeps, rest-below, rises-none, state-shaped}
 use Rattle.sf_search.specs.Shaped.{BlockFits, IsShaped}
-use Rattle.sf_sym.specs.Below.{AllInAtom, AllPaired, IsBelow}
+use Rattle.sf_sym.specs.Below.{AllInAtom, IsBelow}
 use Rattle.sf_sym.specs.Cells.{cell_at, with_cell, with_fields, without}
 use Rattle.sf_sym.specs.Decided.{command_test, is_decided}
 use Rattle.sf_sym.specs.declared.atom.Atom.TheVariants.{Points}

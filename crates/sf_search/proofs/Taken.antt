@@ -1,16 +1,14 @@
 -- A tag that the strategy takes has a row: by what is in front.
 -- Names: `good-LAW` of choices whose tag has a row, `LAW-some` of rows that are there.
-use Rattle.std.proofs.Common.{◌≡◌, ℕ, suc, ◌+◌, ◌<◌, Bool, true, false, ◌||◌, not, cond, Option, Some, None, List, [], ◌∷◌, ◌++◌, is_some, length, refl, sym, ap, ap₂, ◌∙◌, subst, arith, inl, inr, length-append}
+use Rattle.std.proofs.Common.{◌≡◌, ℕ, ◌+◌, ◌<◌, Bool, true, false, ◌||◌, not, cond, Option, Some, None, List, [], ◌∷◌, ◌++◌, is_some, length, refl, sym, ap, ap₂, ◌∙◌, subst, inl, inr, length-append}
 use Rattle.std.proofs.lemmas.Bool.Decides.{Decides-eqb, Decides-int_eq}
 use Rattle.std.proofs.lemmas.Bool.{lt-ltb}
 use Rattle.std.proofs.lemmas.Option.{same_Some}
-use Rattle.std.specs.List.{filter, slice_get}
+use Rattle.std.specs.List.{slice_get}
 use Rattle.std.specs.Option.{option_and_then, option_map}
 use Rattle.sf_base.specs.declared.ids.FieldId.{FieldId}
-use Rattle.sf_base.specs.declared.ids.ResId.{ResId}
 use Rattle.sf_base.specs.declared.ids.Var.{Var}
 use Rattle.sf_base.specs.declared.place.Place.{Place}
-use Rattle.sf_base.specs.Variables.{same_var}
 use Rattle.sf_calls.specs.Changes.{changed, changes_in}
 use Rattle.sf_consume.specs.Subtract.{Step, apart_step, bind_step, binding, both, cell_step, empty_step, equality, exact_step, exact_there, fitting, head_step, head_there, is_same_shape, join_step, join_there, joined, list_from, new_symbols, node_step, node_there, removed, removed_if, same_step, step_of, stepped, subtracted, wanted_cell, wanted_ends, wanted_shape}
 use Rattle.sf_core.specs.Assertions.Occurs.{OccursInAll, OccursInTest}
@@ -19,7 +17,6 @@ use Rattle.sf_core.specs.declared.assertion.Operand.TheVariants.{Known, Exists}
 use Rattle.sf_core.specs.declared.assertion.Test.{Test}
 use Rattle.sf_core.specs.declared.assertion.Test.TheVariants.{True, Equal, Differ}
 use Rattle.sf_core.specs.declared.command.Expr.{Expr}
-use Rattle.sf_core.specs.declared.command.Expr.TheVariants.{Var as Variable, Nil as ENil, Int as EInt}
 use Rattle.sf_core.specs.Program.Formed.{TestWithin}
 use Rattle.sf_core.specs.Program.Syntax.{Command, assign, look_up, mutate, new, dispose, if, while, call, fork, with, Conjunct, holds, points, segment, tree, choose, Conjuncts, none, also}
 use Rattle.sf_rules.specs.Few.{if_few}
@@ -53,7 +50,7 @@ use Rattle.sf_sym.specs.Fields.{field_term}
 use Rattle.sf_sym.specs.Goal.{Goal, Item, run, add, take, gave, head, again, exit, return, end, one_goal}
 use Rattle.sf_sym.specs.Pending.{Pending}
 use Rattle.sf_sym.specs.Ready.{is_listed}
-use Rattle.sf_sym.specs.State.{State, term, term_at}
+use Rattle.sf_sym.specs.State.{State, term}
 use Rattle.sf_sym.specs.Tests.{allocated, differs, is_absurd, is_constant, same_term}
 use Rattle.sf_sym.specs.Variables.{fresh_for}
 

@@ -8,9 +8,7 @@ use sf_calls::laws::{
     changes_are_assigned, conditions_from_truncation, first_breach_is_broken,
     held_resources_are_there,
 };
-use sf_precise::laws::{
-    determined_has_order, never_taken_is_undetermined, undetermined_has_place,
-};
+use sf_precise::laws::{determined_has_order, never_taken_is_undetermined, undetermined_has_place};
 use sf_rules::laws::{arranged_has_setting, rows_have_cases};
 
 /// The search from a goal comes to something.
