@@ -1,0 +1,101 @@
+-- Which procedure has a name first, and whether it holds a resource.
+-- Names: `named-LAW`, `holds-LAW`, `entry-LAW`.
+use Rattle.std.proofs.Common.{◌≡◌, ◌≢◌, ◌<◌, ◌≤◌, ◌⊎◌, ◌==◌, ℕ, Bool, true, false, List, [], ◌∷◌, Some, None, Option, length, map, refl, ap, sym, ◌∙◌, subst, arith, inl, inr, Result, slice_get}
+use Rattle.std.specs.Prelude.{IfErr, IfOk}
+use Rattle.std.proofs.lemmas.Bool.{cases_lt, eqb-true}
+use Rattle.std.proofs.lemmas.Simd.{map-map}
+use Rattle.sf_base.specs.Results.{Decides}
+use Rattle.sf_base.specs.declared.ids.ProcId.{ProcId}
+use Rattle.sf_base.specs.declared.ids.ResId.{ResId}
+use Rattle.sf_base.proofs.Decisions.{decides}
+use Rattle.sf_base.proofs.Elements.{contains-cons, contains-nil}
+use Rattle.sf_calls.specs.Sets.{IsResSet}
+use Rattle.sf_core.specs.Machine.HeldBy.{HeldBy}
+use Rattle.sf_core.specs.declared.program.Proc.{Proc}
+use Rattle.sf_core.specs.Program.Named.{IsFirstNamed}
+use Rattle.sf_core.specs.Program.Syntax.{Procedure, Program}
+use Rattle.sf_core.specs.Program.View.{procedure_of}
+use Rattle.sf_state.specs.declared.fault.StartFault.{StartFault}
+use Rattle.sf_state.specs.declared.fault.StartFault.TheVariants as fault
+use Rattle.sf_state.specs.Entering.{HoldsNone, IsEntry, IsEntryFault, IsHolding, procedure_names}
+use Rattle.sf_state.specs.Lines.{Text}
+
+-- the names of the code's procedures are those of the definitions'
+pub named-view : (procedures : List Proc) (name : Text) (o : Option ℕ)
+    → IsFirstNamed (map (λ f. f.name) procedures) name o
+    → IsFirstNamed (map (λ g. g.name) (map procedure_of procedures)) name o
+named-view procedures name o h = subst (λ ns. IsFirstNamed ns name o)
+    (sym (map-map (λ (g : Procedure). g.name) procedure_of procedures)) h
+
+-- one number at most has a name first
+pub named-once : (names : List Text) (name : Text) (j k : ℕ) → IsFirstNamed names name (Some j)
+    → IsFirstNamed names name (Some k) → j ≡ k
+named-once names name j k a b = go (cases_lt j k)
+  where
+    go : ((j < k) ⊎ (k ≤ j)) → j ≡ k
+    go (inl h) = absurd (b.1 j h a.0)
+    go (inr h) = and (cases_lt k j)
+      where
+        and : ((k < j) ⊎ (j ≤ k)) → j ≡ k
+        and (inl g) = absurd (a.1 k g b.0)
+        and (inr g) = omega arith
+
+-- nothing in the set is held
+pub holds-none : (p : Program) (f : ProcId) (xs : List ResId) → IsResSet (HeldBy p f) xs → (length xs == 0) ≡ true
+    → HoldsNone p f
+holds-none p f [] s e = λ r h. contains-nil r ((s.members r).1 h)
+holds-none p f (x ∷ xs) s e = let z : length (x ∷ xs) ≡ 0 = eqb-true (length (x ∷ xs)) 0 e in absurd (omega arith)
+
+-- or something is
+pub holds-one : (p : Program) (f : ProcId) (xs : List ResId) → IsResSet (HeldBy p f) xs → (length xs == 0) ≡ false
+    → (r : ResId) × HeldBy p f r
+holds-one p f [] s e = absurd cc
+holds-one p f (x ∷ xs) s e = (x, (s.members x).0 ((contains-cons x xs x).1 (inl refl)))
+
+entries-one : (p : Program) (name : Text) (f g : ProcId) → IsEntry p name f → IsEntry p name g → f ≡ g
+entries-one p name f g a b =
+    let e : f.0 ≡ g.0 = named-once (procedure_names p) name f.0 g.0 a.named b.named in
+    λ i. record { 0 = e i }
+
+faults-one : (p : Program) (name : Text) (e f : StartFault) → IsEntryFault p name e → IsEntryFault p name f → e ≡ f
+faults-one p name (fault.Unknown m) (fault.Unknown n) a b = ap fault.Unknown (a.0 ∙ sym b.0)
+faults-one p name (fault.FreeEntry m) (fault.FreeEntry n) a b = ap fault.FreeEntry (a.0 ∙ sym b.0)
+faults-one p name (fault.Unknown m) (fault.FreeEntry n) a b = absurd (a.1 b.1.procedure.0 b.1.named.0)
+faults-one p name (fault.FreeEntry m) (fault.Unknown n) a b = absurd (b.1 a.1.procedure.0 a.1.named.0)
+faults-one p name (fault.BadLine n) f a b = absurd a
+faults-one p name (fault.Twice n) f a b = absurd a
+faults-one p name (fault.Missing n) f a b = absurd a
+faults-one p name (fault.Unmet n) f a b = absurd a
+faults-one p name (fault.LeftOver n) f a b = absurd a
+faults-one p name fault.TooLong f a b = absurd a
+faults-one p name fault.OutOfMemory f a b = absurd a
+faults-one p name e (fault.BadLine n) a b = absurd b
+faults-one p name e (fault.Twice n) a b = absurd b
+faults-one p name e (fault.Missing n) a b = absurd b
+faults-one p name e (fault.Unmet n) a b = absurd b
+faults-one p name e (fault.LeftOver n) a b = absurd b
+faults-one p name e fault.TooLong a b = absurd b
+faults-one p name e fault.OutOfMemory a b = absurd b
+
+never-both : (p : Program) (name : Text) (f : ProcId) (e : StartFault) → IsEntry p name f → IsEntryFault p name e → ⊥
+never-both p name f (fault.Unknown n) a b = b.1 f.0 a.named.0
+never-both p name f (fault.FreeEntry n) a b =
+    let e : b.1.procedure.0 ≡ f.0 =
+    named-once (procedure_names p) name b.1.procedure.0 f.0 b.1.named a.named in
+    let same : b.1.procedure ≡ f = λ i. record { 0 = e i } in
+    a.free b.1.resource (subst (λ g. HeldBy p g b.1.resource) same b.1.held)
+never-both p name f (fault.BadLine n) a b = b
+never-both p name f (fault.Twice n) a b = b
+never-both p name f (fault.Missing n) a b = b
+never-both p name f (fault.Unmet n) a b = b
+never-both p name f (fault.LeftOver n) a b = b
+never-both p name f fault.TooLong a b = b
+never-both p name f fault.OutOfMemory a b = b
+
+-- a name is an entry, or has one fault
+pub entry-decides : (p : Program) (name : Text) (result : Result ProcId StartFault) → IfOk result (IsEntry p name)
+    → IfErr result (λ e. (e ≡ fault.OutOfMemory) ⊎ IsEntryFault p name e)
+    → Decides result (λ f. f) (IsEntry p name) (IsEntryFault p name) fault.OutOfMemory
+entry-decides p name result found refused =
+    decides result (λ f. f) (IsEntry p name) (IsEntryFault p name) fault.OutOfMemory
+    (entries-one p name) (faults-one p name) (never-both p name) found refused

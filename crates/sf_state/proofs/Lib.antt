@@ -1,0 +1,6 @@
+pub mod Splitting
+pub mod Together
+pub mod Keeping
+pub mod Reading
+pub mod AllValues
+pub mod FirstNamed

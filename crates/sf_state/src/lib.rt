@@ -1,0 +1,28 @@
+//! The text of a state, both ways.
+//!
+//! - `lines`: the lines of a text, and the words of a line.
+//! - `names`: the names in a state's text.
+//! - `values`: which value a word writes.
+//! - `fields`: what the words of a cell's fields say.
+//! - `entering`: the procedure that a run starts with.
+//! - `line`: what a line says.
+//! - `saying`: the reading of a line.
+//! - `given`: what the lines have given so far.
+//! - `state`: the variables and cells that a text gives.
+//! - `fault`: why a procedure and a text are no start.
+#![tactic(auto)]
+
+mod entering;
+mod fault;
+mod fields;
+mod given;
+mod line;
+mod lines;
+mod names;
+mod saying;
+mod state;
+mod values;
+
+pub use entering::entry;
+pub use fault::StartFault;
+pub use state::{State, read_state};
