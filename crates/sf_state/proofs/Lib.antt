@@ -4,3 +4,4 @@ pub mod Keeping
 pub mod Reading
 pub mod AllValues
 pub mod FirstNamed
+pub mod Written

@@ -4,5 +4,6 @@ pub mod Values
 pub mod Says
 pub mod Refused
 pub mod Stated
+pub mod StateText
 pub mod Entering
 pub mod Internal

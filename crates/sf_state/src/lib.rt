@@ -9,6 +9,7 @@
 //! - `saying`: the reading of a line.
 //! - `given`: what the lines have given so far.
 //! - `state`: the variables and cells that a text gives.
+//! - `text`: the text of a state as it is written.
 //! - `fault`: why a procedure and a text are no start.
 #![tactic(auto)]
 
@@ -21,8 +22,10 @@ mod lines;
 mod names;
 mod saying;
 mod state;
+mod text;
 mod values;
 
 pub use entering::entry;
 pub use fault::StartFault;
 pub use state::{State, read_state};
+pub use text::state_text;
