@@ -144,7 +144,7 @@ mutual
       let both = none_both (call_faults i x) (call_faults i y) h in
       let set = set_both p f i (references_in x.arguments) (references_in y.arguments) m in
       ((call_within see x set.0 both.0, call_within see y set.1 both.1), tt)
-  command_within see (s.block q xs) m h k = commands_within see xs m h k
+  command_within see (s.block q xs o) m h k = commands_within see xs m h k
 
   -- commands without faults are in order
   pub commands_within : {p : c.Program} {f : c.Procedure} {i : Env} → SeesProgram p f i → (xs : s.Commands) → MayAllBeSet p f i (set_in_all xs) → commands_faults i xs ≡ [] → d.invariants_depth xs ≤ NESTING → BlockWithin p f (block (commands_of i xs))
