@@ -1,0 +1,131 @@
+-- Where a run begins: the entry's frame, and the variables that come up.
+-- Names: `entry_LAW` speaks of the frame, `table_LAW` of the variables of resources, `store_LAW` of all.
+use Rattle.std.specs.Prelude.{◌≡◌, ℕ, zero, suc, ◌+◌, ◌-◌, ◌<◌, ◌≤◌, ◌==◌, Bool, true, false, ◌&&◌, ◌||◌, ltb, List, [], ◌∷◌, ◌++◌, length, get_or, slice_get, Some}
+use Rattle.std.proofs.Common.{sym, ap, ◌∙◌, refl, subst, inl, inr, arith, length-append}
+use Rattle.std.proofs.lemmas.Bool.{cases_lt}
+use Rattle.std.proofs.lemmas.Bool.Decides.{nat_tests}
+use Rattle.sf_base.proofs.Lookup.{get-push_before, get-push_last}
+use Rattle.sf_base.specs.declared.ids.ProcId.{ProcId}
+use Rattle.sf_base.specs.declared.ids.Var.{Var}
+use Rattle.sf_base.specs.declared.ids.Var.TheVariants.{Own as own_variable, Shared as shared_variable}
+use Rattle.sf_base.specs.declared.ids.ResId.{ResId}
+use Rattle.sf_base.specs.HeapStore.{Slot, shared, own, same_slot}
+use Rattle.sf_core.specs.declared.command.Command.{Command as CodeCommand}
+use Rattle.sf_core.specs.declared.program.Proc.{Proc}
+use Rattle.sf_core.specs.Machine.Config.{Item, Frame, items}
+use Rattle.sf_core.specs.Machine.Start.{entry_slot, entry_frame}
+use Rattle.sf_core.specs.Program.View.{block_of, command_of, procedure_of}
+use Rattle.sf_machine.specs.declared.frame.Frame.{Frame as CodeFrame}
+use Rattle.sf_machine.specs.declared.frame.Room.{Room as CodeRoom}
+use Rattle.sf_machine.specs.declared.spot.Spot.{Spot}
+use Rattle.sf_machine.specs.declared.spot.Spot.TheVariants.{Own}
+use Rattle.sf_machine.specs.Internal.Entries.{AreEntrySpots}
+use Rattle.sf_machine.specs.Internal.Resources.{in_resource, in_resources}
+use Rattle.sf_machine.specs.Internal.Spots.{slot_of}
+use Rattle.sf_machine.specs.Internal.Tasks.{block_items, frame_of, own_slot_in, slots_in, todo_of}
+use Rattle.sf_machine.proofs.Stacks.{own_slot_none}
+
+-- no slots
+pub entry_none : AreEntrySpots 0 []
+entry_none = record { length = refl; at = λ k l. absurd (omega (arith, l)) }
+
+-- one slot more
+pub entry_more : (n : ℕ) (spots new : List Spot) → AreEntrySpots n spots → new ≡ spots ++ Own 0 n ∷ []
+    → AreEntrySpots (n + 1) new
+entry_more n spots new h e = subst (AreEntrySpots (n + 1)) (sym e) (record { length = count; at = at })
+  where
+    count : length (spots ++ Own 0 n ∷ []) ≡ n + 1
+    count = omega (arith, length-append spots (Own 0 n ∷ []), h.length)
+
+    at : (k : ℕ) → k < n + 1 → slice_get (spots ++ Own 0 n ∷ []) k ≡ Some (Own 0 k)
+    at k l = elim (cases_lt k n) [
+      | inl b ↦ get-push_before spots (Own 0 n) k (omega (arith, b, h.length)) ∙ h.at k b
+      | inr m ↦
+          let last : k ≡ length spots = omega (arith, m, l, h.length) in
+          let same : k ≡ n = omega (arith, m, l) in
+          ap (slice_get (spots ++ Own 0 n ∷ [])) last ∙ get-push_last spots (Own 0 n)
+          ∙ ap (λ z. Some (Own 0 z)) (sym same)
+    ]
+
+-- a reference names what its slot is
+entry_reference : (ss : List Spot) (room : CodeRoom) (i : ℕ) (s : Spot) → slice_get ss i ≡ Some s
+    → own_slot_in ss room i ≡ slot_of s
+entry_reference [] room i s e = cc
+entry_reference (t ∷ ts) room zero s e = ap slot_of (let same : t ≡ s = cc in same)
+entry_reference (t ∷ ts) room (suc i) s e = entry_reference ts room i s e
+
+-- the entry's variables name their own slots
+pub entry_slots : (ss : List Spot) (room : CodeRoom) (n : ℕ) → AreEntrySpots n ss → room.event ≡ 0
+    → room.first ≡ n → (x : Var) → slots_in ss room x ≡ entry_slot x
+entry_slots ss room n h e f (shared_variable r i) = refl
+entry_slots ss room n h e f (own_variable i) = elim (cases_lt i n) [
+  | inl b ↦ entry_reference ss room i (Own 0 i) (h.at i b)
+  | inr m ↦
+      let past : length ss ≤ i = omega (arith, m, h.length) in
+      let place : room.first + (i - length ss) ≡ i = omega (arith, m, f, h.length) in
+      own_slot_none ss room i past ∙ (λ k. own (e k) (place k))
+]
+
+-- the commands of a block, each as one thing to do
+pub items_block : (cs : List CodeCommand) → block_items cs ≡ items (block_of cs)
+items_block [] = refl
+items_block (c ∷ cs) = ap (λ (z : List Item). Rattle.sf_core.specs.Machine.Config.command (command_of c) ∷ z) (items_block cs)
+
+-- the entry's frame
+pub entry_is : (f : ProcId) (g : Proc) (frame : CodeFrame) → frame.procedure ≡ f
+    → AreEntrySpots g.references frame.references.items → frame.room.event ≡ 0
+    → frame.room.first ≡ g.references → frame.room.count ≡ length g.names.items - g.references
+    → todo_of frame.todo.items ≡ block_items g.body.items → frame_of frame ≡ entry_frame f (procedure_of g)
+entry_is f g frame e h ev first count todo = λ i. record {
+  fixed = record {
+    procedure = e i;
+    slots = λ x. entry_slots frame.references.items frame.room g.references h ev first x i;
+    room = record { event = ev i; first = first i; count = count i };
+  };
+  todo = (todo ∙ items_block g.body.items) i;
+}
+
+-- a row with one variable more
+pub table_row : (r i : ℕ) (q : ResId) (slot : Slot) → q.0 ≡ r
+    → in_resource r (i + 1) slot ≡ (same_slot slot (shared q i) || in_resource r i slot)
+table_row r i q (own e j) same = refl
+table_row r i q (shared s j) same =
+    let number : (s.0 == r) ≡ (s.0 == q.0) = ap (λ z. s.0 == z) (sym same) in
+    let more : ltb j (i + 1) ≡ ((j == i) || ltb j i) = grind (arith, nat_tests) in
+    split (s.0 == r) (s.0 == q.0) (ltb j (i + 1)) (j == i) (ltb j i) number more
+  where
+    split : (a b d e f : Bool) → a ≡ b → d ≡ (e || f) → (a && d) ≡ ((b && e) || (a && f))
+    split true b d e f h k = k ∙ ap (λ z. (z && e) || f) h
+    split false b d e f h k = ap (λ z. (z && e) || false) h
+
+-- a row of none
+pub table_row_none : (r : ℕ) (slot : Slot) → in_resource r 0 slot ≡ false
+table_row_none r (own e j) = refl
+table_row_none r (shared s j) = grind (arith, nat_tests)
+
+-- a table with one row more
+pub table_more : (counts : List ℕ) (r : ℕ) (slot : Slot) → in_resources counts (r + 1) slot
+    ≡ (in_resource r (get_or counts r 0) slot || in_resources counts r slot)
+table_more counts r (own e j) = refl
+table_more counts r (shared s j) =
+    let more : ltb s.0 (r + 1) ≡ ((s.0 == r) || ltb s.0 r) = grind (arith, nat_tests) in
+    let other : (s.0 == r) ≡ true → ltb s.0 r ≡ false = λ h. grind (arith, nat_tests) in
+    let row : (s.0 == r) ≡ true → ltb j (get_or counts r 0) ≡ ltb j (get_or counts s.0 0) =
+    λ h. ap (λ z. ltb j (get_or counts z 0)) (let same : r ≡ s.0 = grind (arith, nat_tests) in same) in
+    split (ltb s.0 (r + 1)) (s.0 == r) (ltb s.0 r) (ltb j (get_or counts s.0 0)) (ltb j (get_or counts r 0))
+    more other row
+  where
+    or_false : (x : Bool) → (x || false) ≡ x
+    or_false true = refl
+    or_false false = refl
+
+    split : (a b d x y : Bool) → a ≡ (b || d) → (b ≡ true → d ≡ false) → (b ≡ true → y ≡ x)
+        → (a && x) ≡ ((b && y) || (d && x))
+    split a true d x y e n h =
+        ap (λ z. z && x) e ∙ sym (ap (λ z. y || (z && x)) (n refl) ∙ or_false y ∙ h refl)
+    split a false d x y e n h = ap (λ z. z && x) e
+
+-- a table of no rows
+pub table_none : (counts : List ℕ) (slot : Slot) → in_resources counts 0 slot ≡ false
+table_none counts (own e j) = refl
+table_none counts (shared s j) = grind (arith, nat_tests)

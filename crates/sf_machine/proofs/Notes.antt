@@ -1,0 +1,111 @@
+-- What is noted in a list of things.
+-- Names: `noted_LAW` speaks of what was added, `room_LAW` of the slots of a room.
+use Rattle.std.specs.Prelude.{◌≡◌, ◌⊎◌, ◌↔◌, ℕ, ◌+◌, ◌≤◌, ◌<◌, true, List, [], ◌∷◌, ◌++◌}
+use Rattle.std.proofs.Common.{true≢false, sym, ap, subst, inl, inr, arith}
+use Rattle.std.proofs.lemmas.Bool.{cases_eq}
+use Rattle.std.proofs.lemmas.Bool.Decides.{nat_tests}
+use Rattle.sf_base.specs.declared.ids.Thing.{Thing as CodeThing}
+use Rattle.sf_base.specs.HeapStore.{Slot, shared, own}
+use Rattle.sf_core.specs.Machine.Config.{in_room}
+use Rattle.sf_core.specs.Machine.Enabled.{Thing, variable, cell, IsInRoom}
+use Rattle.sf_core.proofs.Machine.InOrder.Names.{in_room-own}
+use Rattle.sf_machine.specs.Accessing.{thing_of, IsListed}
+use Rattle.sf_machine.specs.Internal.Noting.{Notes}
+use Rattle.sf_machine.specs.Internal.Tasks.{first_slots}
+
+-- a list with one thing more
+listed_snoc : (xs : List CodeThing) (x : CodeThing) (t : Thing)
+    → IsListed (xs ++ x ∷ []) t ↔ (IsListed xs t ⊎ (t ≡ thing_of x))
+listed_snoc [] x t = (
+  λ h. elim h [ inl e ↦ inr e | inr n ↦ absurd n ],
+  λ h. elim h [ inl n ↦ absurd n | inr e ↦ inl e ],
+)
+listed_snoc (y ∷ ys) x t = (
+  λ h. elim h [
+    | inl e ↦ inl (inl e)
+    | inr k ↦ elim ((listed_snoc ys x t).0 k) [ inl l ↦ inl (inr l) | inr e ↦ inr e ]
+  ],
+  λ h. elim h [
+    | inl k ↦ elim k [ inl e ↦ inl e | inr l ↦ inr ((listed_snoc ys x t).1 (inl l)) ]
+    | inr e ↦ inr ((listed_snoc ys x t).1 (inr e))
+  ],
+)
+
+-- one thing more
+pub noted_at : (old new : List CodeThing) (x : CodeThing) (a : Thing) → new ≡ old ++ x ∷ [] → thing_of x ≡ a
+    → Notes old new (λ t. t ≡ a)
+noted_at old new x a e h = λ t.
+    subst (λ z. IsListed z t ↔ (IsListed old t ⊎ (t ≡ a))) (sym e)
+    (subst (λ z. IsListed (old ++ x ∷ []) t ↔ (IsListed old t ⊎ (t ≡ z))) h (listed_snoc old x t))
+
+-- nothing more
+pub noted_none : (old : List CodeThing) (P : Thing → Type 0) → ((t : Thing) → P t → ⊥) → Notes old old P
+noted_none old P n = λ t. (λ h. inl h, λ h. elim h [ inl k ↦ k | inr p ↦ absurd (n t p) ])
+
+-- some things, and then others
+pub noted_then : (a b c : List CodeThing) (P Q : Thing → Type 0) → Notes a b P → Notes b c Q
+    → Notes a c (λ t. P t ⊎ Q t)
+noted_then a b c P Q n k = λ t. (
+  λ h. elim ((k t).0 h) [
+    | inl l ↦ elim ((n t).0 l) [ inl o ↦ inl o | inr p ↦ inr (inl p) ]
+    | inr q ↦ inr (inr q)
+  ],
+  λ h. elim h [
+    | inl o ↦ (k t).1 (inl ((n t).1 (inl o)))
+    | inr s ↦ elim s [ inl p ↦ (k t).1 (inl ((n t).1 (inr p))) | inr q ↦ (k t).1 (inr q) ]
+  ],
+)
+
+-- the same things, told otherwise
+pub noted_by : (a b : List CodeThing) (P Q : Thing → Type 0) → Notes a b P → ((t : Thing) → P t ↔ Q t)
+    → Notes a b Q
+noted_by a b P Q n k = λ t. (
+  λ h. elim ((n t).0 h) [ inl o ↦ inl o | inr p ↦ inr ((k t).0 p) ],
+  λ h. elim h [ inl o ↦ (n t).1 (inl o) | inr q ↦ (n t).1 (inr ((k t).1 q)) ],
+)
+
+-- a slot of a room is one of a larger one
+pub room_keeps : (event first i : ℕ) (slot : Slot) → in_room (first_slots event first i) slot ≡ true
+    → in_room (first_slots event first (i + 1)) slot ≡ true
+room_keeps event first i (shared r k) h = absurd (true≢false (sym h))
+room_keeps event first i (own e k) h = grind (arith, nat_tests)
+
+-- a slot of the larger one is in the other, or the last
+pub room_splits : (event first i : ℕ) (slot : Slot) → in_room (first_slots event first (i + 1)) slot ≡ true
+    → (in_room (first_slots event first i) slot ≡ true) ⊎ (slot ≡ own event (first + i))
+room_splits event first i (shared r k) h = absurd (true≢false (sym h))
+room_splits event first i (own e k) h =
+    let here : e ≡ event = grind (arith, nat_tests) in
+    elim (cases_eq k (first + i)) [
+      | inl s ↦ inr (λ j. own (here j) (s j))
+      | inr n ↦ inl (grind (arith, nat_tests))
+    ]
+
+-- no slot is in a room of none
+pub room_nowhere : (event first : ℕ) (slot : Slot) → in_room (first_slots event first 0) slot ≡ true → ⊥
+room_nowhere event first (shared r k) h = true≢false (sym h)
+room_nowhere event first (own e k) h =
+    let low : first ≤ k = grind (arith, nat_tests) in
+    let high : k < first + 0 = grind (arith, nat_tests) in
+    absurd (omega (arith, low, high))
+
+-- no slot is among none
+pub room_none : (event first : ℕ) (t : Thing) → IsInRoom (first_slots event first 0) t → ⊥
+room_none event first (variable slot) h = room_nowhere event first slot h
+room_none event first (cell location) h = h
+
+-- and one slot more
+pub room_more : (event first i : ℕ) (t : Thing)
+    → (IsInRoom (first_slots event first i) t ⊎ (t ≡ variable (own event (first + i))))
+    ↔ IsInRoom (first_slots event first (i + 1)) t
+room_more event first i (variable slot) = (
+  λ h. elim h [
+    | inl k ↦ room_keeps event first i slot k
+    | inr e ↦
+        let same : slot ≡ own event (first + i) = cc in
+        subst (λ z. in_room (first_slots event first (i + 1)) z ≡ true) (sym same)
+        (in_room-own event first (i + 1) i (omega arith))
+  ],
+  λ h. elim (room_splits event first i slot h) [ inl k ↦ inl k | inr e ↦ inr (ap variable e) ],
+)
+room_more event first i (cell location) = (λ h. elim h [ inl k ↦ k | inr e ↦ absurd (cc) ], λ h. absurd h)

@@ -1,0 +1,193 @@
+-- The variables that come up where a run begins.
+-- Names: `count_LAW` speaks of how many variables a resource has, `store_LAW` of the store that comes up.
+use Rattle.std.specs.Prelude.{◌≡◌, ℕ, zero, suc, ◌+◌, ◌-◌, ◌<◌, ◌≤◌, ◌==◌, Bool, true, false, ◌&&◌, cond, leb, ltb, nat_lt, List, [], ◌∷◌, map, length, get_or, slice_get, slice_index_or, Option, Some, None}
+use Rattle.std.specs.List.{sum_by, list_any}
+use Rattle.std.specs.Option.{unwrap_or}
+use Rattle.std.specs.Ordering.{nat_cmp, is_eq}
+use Rattle.std.specs.BTreeMap.{BTreeMap, is_at}
+use Rattle.std.specs.Map.{lookup}
+use Rattle.std.specs.BTreeSet.{BTreeSet, contains}
+use Rattle.std.proofs.Common.{true≢false, sym, ap, ap₂, ◌∙◌, refl, arith}
+use Rattle.std.proofs.lemmas.Bool.{and_parts}
+use Rattle.std.proofs.lemmas.Bool.Decides.{Decides-ltb, nat_tests}
+use Rattle.std.proofs.lemmas.List.{length-map}
+use Rattle.std.proofs.lemmas.List.Sums.{get_or-le-sum_by}
+use Rattle.std.proofs.lemmas.Option.{unwrap_or-slice_get, slice_get_within}
+use Rattle.sf_base.specs.declared.ids.ProcId.{ProcId}
+use Rattle.sf_base.specs.declared.ids.ResId.{ResId}
+use Rattle.sf_base.specs.declared.ids.Var.TheVariants.{Shared as shared_variable}
+use Rattle.sf_base.specs.declared.path.Turn.{Turn}
+use Rattle.sf_base.specs.declared.value.Value.{Value}
+use Rattle.sf_base.specs.declared.value.Value.TheVariants.{Nil as nil}
+use Rattle.sf_base.specs.HeapStore.{Heap, Slot, shared, own, Store}
+use Rattle.sf_core.specs.declared.program.Resource.{Resource as CodeResource}
+use Rattle.sf_core.specs.Machine.Config.{Config, Frame, runs, in_room}
+use Rattle.sf_core.specs.Machine.Start.{Start, entry_frame, initial_config, IsKept}
+use Rattle.sf_core.specs.Machine.Step.{index_of}
+use Rattle.sf_core.specs.Program.Syntax.{Procedure, Program, Resource}
+use Rattle.sf_core.specs.Program.View.{resource_of}
+use Rattle.sf_foot.specs.declared.vars.Vars.{Vars}
+use Rattle.sf_foot.specs.Starting.{store_of}
+use Rattle.sf_foot.specs.Variables.{value_of, values_or_none}
+use Rattle.sf_heap.specs.Cells.{Cells, heap_of}
+use Rattle.sf_machine.specs.declared.config.Config.{Config as CodeConfig}
+use Rattle.sf_machine.specs.declared.frame.Frame.{Frame as CodeFrame}
+use Rattle.sf_machine.specs.Configs.{config_of, held_of}
+use Rattle.sf_machine.specs.Internal.Resources.{counts_of, in_resources, var_at}
+use Rattle.sf_machine.specs.Internal.Stores.{store_of as code_store}
+use Rattle.sf_machine.specs.Internal.Tasks.{first_slots, frame_of, frames_of}
+use Rattle.sf_machine.proofs.Spots.{number_test}
+
+-- a resource has few variables
+pub few_at : (rs : List CodeResource) (k : ℕ) (r : CodeResource) → k < length rs
+    → sum_by (λ (of : Resource). length of.variables) (map resource_of rs) ≤ 256 → slice_get rs k ≡ Some r
+    → length r.variables.items ≤ 256
+few_at rs k r l few e =
+    let most = get_or-le-sum_by (λ (of : Resource). length of.variables) (map resource_of rs) k (resource_of r)
+    (omega (arith, l, length-map rs resource_of)) in
+    let same : get_or (map resource_of rs) k (resource_of r) ≡ resource_of r = read_map rs k r e in
+    let count = ap (λ (z : Resource). length z.variables) same in
+    omega (arith, most, few, count)
+  where
+    read_map : (rs : List CodeResource) (k : ℕ) (r : CodeResource) → slice_get rs k ≡ Some r
+        → get_or (map resource_of rs) k (resource_of r) ≡ resource_of r
+    read_map [] k r e = refl
+    read_map (x ∷ xs) zero r e = ap resource_of (let same : x ≡ r = cc in same)
+    read_map (x ∷ xs) (suc k) r e = read_map xs k r e
+
+-- how many variables the resource of a number has
+count_at : (rs : List Resource) (k : ℕ) (of : Resource) → slice_get rs k ≡ Some of
+    → get_or (map (λ (r : Resource). length r.variables) rs) k 0 ≡ length of.variables
+count_at [] k of e = cc
+count_at (x ∷ xs) zero of e = ap (λ (z : Resource). length z.variables) (let same : x ≡ of = cc in same)
+count_at (x ∷ xs) (suc k) of e = count_at xs k of e
+
+-- and in the code
+pub counted : (rs : List CodeResource) (k : ℕ) (r : CodeResource) → slice_get rs k ≡ Some r
+    → get_or (counts_of rs) k 0 ≡ length r.variables.items
+counted [] k r e = cc
+counted (x ∷ xs) zero r e = ap (λ (z : CodeResource). length z.variables.items) (let same : x ≡ r = cc in same)
+counted (x ∷ xs) (suc k) r e = counted xs k r e
+
+-- below their count there is a resource
+resource_at : (rs : List Resource) (k : ℕ) → k < length rs → (of : Resource) × (slice_get rs k ≡ Some of)
+resource_at [] k l = absurd (omega (arith, l))
+resource_at (x ∷ xs) zero l = (x, refl)
+resource_at (x ∷ xs) (suc k) l = resource_at xs k (omega (arith, l))
+
+-- the counts of the code are those of the definitions
+pub counts_same : (rs : List CodeResource) → counts_of rs ≡ map (λ (r : Resource). length r.variables) (map resource_of rs)
+counts_same [] = refl
+counts_same (x ∷ xs) = ap (λ (z : List ℕ). length x.variables.items ∷ z) (counts_same xs)
+
+-- the entry's own variables come up
+pub store_own : (values : List Value) (n e i : ℕ)
+    → cond (in_room (first_slots 0 0 n) (own e i)) (Some (get_or values (index_of (own e i) - 0) nil)) None
+    ≡ cond ((e == 0) && nat_lt i n) (Some (slice_index_or values i nil)) None
+store_own values n e i =
+    let within : (leb 0 i && ltb i (0 + n)) ≡ ltb i n = grind (arith, nat_tests) in
+    let place : i - 0 ≡ i = omega arith in
+    λ k. cond ((e == 0) && within k) (Some (get_or values (place k) nil)) None
+
+module _ (p : Program) (f : ProcId) (g : Procedure) (vars : Vars) (heap : Heap) (config : Config)
+    (start : Start p f (store_of g vars) heap config) where
+  -- a variable of a resource that is counted is kept
+  kept_there : (n : ℕ) (r : ResId) (i : ℕ) → n ≡ length p.resources
+      → in_resources (map (λ (r : Resource). length r.variables) p.resources) n (shared r i) ≡ true
+      → IsKept p start.procedure (shared r i)
+  kept_there n r i e h =
+      let parts = and_parts (ltb r.0 n) (ltb i (get_or (map (λ (r : Resource). length r.variables) p.resources) r.0 0)) h in
+      let below : r.0 < n = (Decides-ltb r.0 n).0 parts.0 in
+      let within = (Decides-ltb i (get_or (map (λ (r : Resource). length r.variables) p.resources) r.0 0)).0 parts.1 in
+      let of = resource_at p.resources r.0 (omega (arith, below, e)) in
+      let count = count_at p.resources r.0 of.0 of.1 in
+      (of.0, of.1, omega (arith, within, count))
+
+  -- one that is kept is counted
+  kept_counted : (n : ℕ) (r : ResId) (i : ℕ) → n ≡ length p.resources → IsKept p start.procedure (shared r i)
+      → in_resources (map (λ (r : Resource). length r.variables) p.resources) n (shared r i) ≡ true
+  kept_counted n r i e k =
+      let below : r.0 < n = omega (arith, e, slice_get_within p.resources r.0 k.0 k.1) in
+      let count = count_at p.resources r.0 k.0 k.1 in
+      let within : i < get_or (map (λ (r : Resource). length r.variables) p.resources) r.0 0 =
+      omega (arith, count, k.2) in
+      ap₂ (λ a b. a && b) ((Decides-ltb r.0 n).1 below)
+      ((Decides-ltb i (get_or (map (λ (r : Resource). length r.variables) p.resources) r.0 0)).1 within)
+
+  -- the variables of resources come up
+  pub store_shared : (n : ℕ) (r : ResId) (i : ℕ) → n ≡ length p.resources
+      → cond (in_resources (map (λ (r : Resource). length r.variables) p.resources) n (shared r i))
+      (Some (value_of vars (shared_variable r i))) None ≡ store_of g vars (shared r i)
+  store_shared n r i e =
+      go (in_resources (map (λ (r : Resource). length r.variables) p.resources) n (shared r i)) refl
+      (store_of g vars (shared r i)) refl
+    where
+      go : (b : Bool) → in_resources (map (λ (r : Resource). length r.variables) p.resources) n (shared r i) ≡ b
+          → (o : Option Value) → store_of g vars (shared r i) ≡ o
+          → cond b (Some (value_of vars (shared_variable r i))) None ≡ o
+      go true h o s =
+          let k = start.kept (shared r i) (kept_there n r i e h) in
+          let value : value_of vars (shared_variable r i) ≡ k.0 =
+          sym (unwrap_or-slice_get (values_or_none (slice_get vars.shared.items r.0)) i nil)
+          ∙ ap (λ (z : Option Value). unwrap_or z nil) k.1 in
+          ap Some value ∙ sym k.1 ∙ s
+      go false h None s = refl
+      go false h (Some v) s =
+          absurd (true≢false (sym (kept_counted n r i e (start.no_more (shared r i) v s)) ∙ h))
+
+  -- all variables come up
+  pub store_all : (n m : ℕ) (counts : List ℕ) (added opened fresh : Store) → n ≡ length g.names
+      → m ≡ length p.resources → counts ≡ map (λ (r : Resource). length r.variables) p.resources
+      → ((slot : Slot) → fresh slot ≡ None)
+      → ((slot : Slot) → opened slot ≡ cond (in_room (first_slots 0 0 n) slot)
+      (Some (get_or vars.own.items (index_of slot - 0) nil)) (fresh slot))
+      → ((slot : Slot) → added slot ≡ cond (in_resources counts m slot) (Some (value_of vars (var_at slot)))
+      (opened slot))
+      → (slot : Slot) → added slot ≡ store_of g vars slot
+  store_all n m counts added opened fresh e k same none opens add (own d i) =
+      add (own d i) ∙ opens (own d i)
+      ∙ ap (λ z. cond (in_room (first_slots 0 0 n) (own d i)) (Some (get_or vars.own.items (i - 0) nil)) z)
+      (none (own d i))
+      ∙ store_own vars.own.items n d i
+      ∙ ap (λ z. cond ((d == 0) && nat_lt i z) (Some (slice_index_or vars.own.items i nil)) None) e
+  store_all n m counts added opened fresh e k same none opens add (shared r i) =
+      add (shared r i)
+      ∙ ap (λ z. cond (in_resources counts m (shared r i)) (Some (value_of vars (shared_variable r i))) z)
+      (opens (shared r i) ∙ none (shared r i))
+      ∙ ap (λ z. cond (in_resources z m (shared r i)) (Some (value_of vars (shared_variable r i))) None) same
+      ∙ store_shared m r i k
+
+-- nobody holds anything where the map is empty
+pub held_none : (m : BTreeMap ℕ (List Turn)) → m.entries ≡ [] → (r : ResId) → held_of m r ≡ None
+held_none m e r = ap (λ es. lookup (is_at (nat_cmp r.0)) es) e
+
+-- the first number that is used
+pub used_first : (old new : BTreeSet ℕ) → old.keys ≡ []
+    → ((q : ℕ) → contains nat_cmp new q ≡ cond (is_eq (nat_cmp 0 q)) true (contains nat_cmp old q)) → (n : ℕ)
+    → contains nat_cmp new n ≡ (n == 0)
+used_first old new e h n =
+    let none : contains nat_cmp old n ≡ false = ap (λ ks. list_any (is_at (nat_cmp n)) ks) e in
+    h n ∙ (λ k. cond (number_test 0 n k) true (none k)) ∙ chosen (n == 0)
+  where
+    chosen : (b : Bool) → cond b true false ≡ b
+    chosen true = refl
+    chosen false = refl
+
+-- the stack of a task without frames below
+pub tasks_first : (f : CodeFrame) (g : Frame) (below : List CodeFrame) → frame_of f ≡ g → below ≡ []
+    → runs (frame_of f ∷ frames_of below) ≡ runs (g ∷ [])
+tasks_first f g below e h = λ i. runs (e i ∷ frames_of (h i))
+
+-- a configuration of these parts is the one in which a procedure starts
+pub begins_as : (f : ProcId) (g : Procedure) (vars : Vars) (heap : Cells) (c : CodeConfig)
+    → heap_of c.common.heap ≡ heap_of heap
+    → ((slot : Slot) → code_store c.common.store slot ≡ store_of g vars slot)
+    → ((r : ResId) → held_of c.common.held r ≡ None)
+    → ((n : ℕ) → contains nat_cmp c.used n ≡ (n == 0))
+    → (config_of c).tasks ≡ runs (entry_frame f g ∷ [])
+    → config_of c ≡ initial_config f g (store_of g vars) (heap_of heap)
+begins_as f g vars heap c a s h u t = λ i. record {
+  common = record { heap = a i; store = λ slot. s slot i; held = λ r. h r i };
+  used = λ n. u n i;
+  tasks = t i;
+}

@@ -1,0 +1,8 @@
+-- What stands between the code and the machine of the definitions.
+pub mod Entries
+pub mod Nexts
+pub mod Noting
+pub mod Resources
+pub mod Spots
+pub mod Stores
+pub mod Tasks

@@ -1,0 +1,5 @@
+pub mod Accessing
+pub mod Beginning
+pub mod Configs
+pub mod Internal
+pub mod Reached
