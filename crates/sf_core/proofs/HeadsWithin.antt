@@ -1,9 +1,9 @@
 -- What the heads of a well-formed body have is there: variables that the body may read, calls that fit,
 -- resources of the file.
 -- Names: `PART-within` says that what occurs in PART may be read.
-use Rattle.std.proofs.Common.{◌≡◌, ◌<◌, List, [], ◌∷◌, ◌++◌, length, Contains, All, ℕ, refl, inl, inr, subst}
+use Rattle.std.proofs.Common.{◌<◌, List, [], ◌∷◌, ◌++◌, length, Contains, All, ℕ, refl, inl, inr, subst}
 use Rattle.std.specs.List.{flat_map}
-use Rattle.std.proofs.lemmas.List.Elements.{Contains-append_cases, Contains-append_left, Contains-append_right, All-head, All-tail}
+use Rattle.std.proofs.lemmas.List.Elements.{Contains-append_cases, All-head, All-tail}
 use Rattle.sf_base.proofs.Elements.{contains-nil, contains-single, contains-cons}
 use Rattle.sf_base.specs.declared.ids.FieldId.{FieldId}
 use Rattle.sf_base.specs.declared.ids.ResId.{ResId}

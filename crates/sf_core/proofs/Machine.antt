@@ -12,3 +12,4 @@ pub mod InOrder
 pub mod RaceFree
 pub mod Laws
 pub mod Examples
+pub mod NumberedRuns

@@ -1,6 +1,6 @@
 -- The occurrences that are listed of a level are those that occur in it.
 -- Names: `PART-is` says it of a PART.
-use Rattle.std.proofs.Common.{◌≡◌, ◌⊎◌, ◌↔◌, List, [], ◌∷◌, ◌++◌, Contains, sym, ap}
+use Rattle.std.proofs.Common.{◌≡◌, ◌↔◌, List, [], ◌∷◌, Contains, sym, ap}
 use Rattle.std.specs.List.{flat_map}
 use Rattle.sf_base.proofs.Elements.{contains-append, contains-nil, contains-none, contains-single, contains-single_of}
 use Rattle.sf_base.specs.declared.ids.FieldId.{FieldId}

@@ -1,4 +1,5 @@
--- The machine: its configurations and steps, what is bad, where a procedure starts, and what is good.
+-- The machine: its configurations and steps, what is bad, where a procedure starts, what is good, and runs whose
+-- events take their numbers from supplies.
 -- One module for each.
 pub mod Config
 pub mod Next
@@ -10,5 +11,11 @@ pub mod HeldBy
 pub mod Start
 pub mod Good
 pub mod InOrder
+pub mod Supplies
+pub mod Numbered
+pub mod SpentSteps
+pub mod SpentWaits
+pub mod Alone
 pub mod Laws
 pub mod Examples
+pub mod NumberedExamples

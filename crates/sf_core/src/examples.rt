@@ -2,3 +2,4 @@
 
 pub mod assertions;
 pub mod machine;
+pub mod numbered;
