@@ -4,6 +4,7 @@ use Rattle.std.specs.List.{list_all, range_with_len}
 use Rattle.std.specs.Option.{option_and_then, option_map, option_zip}
 use Rattle.std.specs.Str.{bytes_eq}
 use Rattle.sf_base.specs.declared.ids.ProcId.{ProcId}
+use Rattle.sf_lines.specs.Lines.{lines, words}
 use Rattle.sf_core.specs.Program.Named.{name_of}
 use Rattle.sf_core.specs.Program.Syntax.{Program}
 use Rattle.sf_sym.specs.declared.tag.Tag.{Tag}
@@ -13,7 +14,7 @@ use Rattle.sf_proof.specs.declared.entry.Entry.TheVariants.{Nothing, Says, Bad}
 use Rattle.sf_proof.specs.Laws.{AreWritable, IsFirstOfItsName, IsTermOfCode, IsWritable, WrittenTagsReadBack}
 use Rattle.sf_proof.specs.ProofText.{Text, atom_text, lines_of, procedure_text, proof_text, split_text, tag_text, term_text}
 use Rattle.sf_proof.specs.Reading.{entry, entry_after, entry_of, numbers_from, numbers_in, tags_from, tags_in}
-use Rattle.sf_proof.specs.Words.{lines, natural_of, procedure_named, split_by, tag_alone, tag_of_procedure, tag_with, tag_with_atom, tag_with_two, term_of, words}
+use Rattle.sf_proof.specs.Words.{natural_of, procedure_named, split_by, tag_alone, tag_of_procedure, tag_with, tag_with_atom, tag_with_two, term_of}
 use Rattle.sf_proof.proofs.Spelling.{IsPlain, decimal-plain, inline-append, is_inline, lines-before, name-plain, natural-decimal, plain-inline, term-back, term-plain, words-before, words-plain}
 
 -- a written line: nothing in it ends a line, and it says the tag

@@ -1,4 +1,3 @@
-pub mod Splitting
 pub mod Naming
 pub mod Walking
 pub mod Once

@@ -3,6 +3,7 @@ use Rattle.std.proofs.Common.{◌≡◌, ◌<◌, ◌≤◌, ℕ, suc, length, R
 use Rattle.std.proofs.lemmas.Bool.{cases_lt}
 use Rattle.sf_base.specs.Results.{Decides}
 use Rattle.sf_base.specs.declared.limits.TheConstants.{PROOF_BYTES}
+use Rattle.sf_lines.specs.Lines.{lines}
 use Rattle.sf_core.specs.Program.Syntax.{Program}
 use Rattle.sf_proof.specs.declared.lined.Lined.{Lined}
 use Rattle.sf_proof.specs.declared.fault.ProofFault.{ProofFault}
@@ -11,7 +12,6 @@ use Rattle.sf_proof.specs.Internal.Walk.{IsRead, reading}
 use Rattle.sf_proof.specs.Laws.{EachTextReadsOnce}
 use Rattle.sf_proof.specs.ProofText.{Text}
 use Rattle.sf_proof.specs.Reading.{IsFault, IsFirstBadLine, IsLined}
-use Rattle.sf_proof.specs.Words.{lines}
 use Rattle.sf_proof.proofs.Walking.{reads_bad, reads_lined}
 
 lined-one : (p : Program) (text : Text) (l m : Lined) → IsLined p text l → IsLined p text m → l ≡ m

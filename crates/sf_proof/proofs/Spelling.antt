@@ -14,11 +14,12 @@ use Rattle.std.specs.Str.Parse.{digits_value, signed_digits_value}
 use Rattle.sf_lex.specs.Lexeme.{is_digit, is_letter, is_number, is_some_of, is_word_byte, word_kind}
 use Rattle.sf_lex.specs.Piece.{fits}
 use Rattle.sf_lex.specs.Whole.{is_name, is_name_kind, number_of}
+use Rattle.sf_lines.specs.Lines.{is_some_text, is_space, lines, words}
 use Rattle.sf_sym.specs.declared.term.Term.{Term}
 use Rattle.sf_sym.specs.declared.term.Term.TheVariants.{Nil, Int, Sym}
 use Rattle.sf_proof.specs.Laws.{IsTermOfCode}
 use Rattle.sf_proof.specs.ProofText.{Text, term_text}
-use Rattle.sf_proof.specs.Words.{is_some_text, is_space, lines, natural_of, symbol_of, term_of, words}
+use Rattle.sf_proof.specs.Words.{natural_of, symbol_of, term_of}
 
 -- a byte that is no blank and no control character
 abbrev pub is_visible : ℕ → Bool

@@ -1,6 +1,7 @@
 -- What is read line by line is what is defined: all tags, or the first line that isn't in order.
 use Rattle.std.proofs.Common.{◌≡◌, ◌<◌, ◌≤◌, ◌+◌, ◌≢◌, ℕ, zero, suc, List, [], ◌∷◌, length, Some, Result, Ok, Err, refl, ap, sym, ◌∙◌, arith, append_assoc, slice_get}
 use Rattle.sf_base.specs.declared.limits.TheConstants.{PROOF_BYTES}
+use Rattle.sf_lines.specs.Lines.{lines}
 use Rattle.sf_core.specs.Program.Syntax.{Program}
 use Rattle.sf_proof.specs.declared.entry.Entry.{Entry}
 use Rattle.sf_proof.specs.declared.entry.Entry.TheVariants.{Nothing, Says, Bad}
@@ -8,7 +9,6 @@ use Rattle.sf_proof.specs.declared.lined.Lined.{Lined}
 use Rattle.sf_proof.specs.ProofText.{Text}
 use Rattle.sf_proof.specs.Reading.{IsBadLine, IsFirstBadLine, IsLined, entry, numbers_from, tags_from}
 use Rattle.sf_proof.specs.Internal.Walk.{found_in, lined_before, read_after, read_on, reading}
-use Rattle.sf_proof.specs.Words.{lines}
 
 -- before what is before the rest
 pub read-after-after : (a b : Lined) (r : Result Lined ℕ) → read_after (lined_before a b) r

@@ -3,6 +3,7 @@
 use Rattle.std.specs.Prelude.{◌≡◌, ℕ, zero, suc, ◌<◌, ◌≤◌, ◌++◌, Bool, false, if◌then◌else◌, Option, Some, None, List, [], ◌∷◌, codes, length, slice_get}
 use Rattle.std.specs.Str.{bytes_eq}
 use Rattle.sf_base.specs.declared.limits.TheConstants.{PROOF_BYTES}
+use Rattle.sf_lines.specs.Lines.{lines, words}
 use Rattle.sf_core.specs.Program.Syntax.{Program}
 use Rattle.sf_sym.specs.declared.tag.Tag.{Tag}
 use Rattle.sf_proof.specs.declared.entry.Entry.{Entry}
@@ -11,7 +12,7 @@ use Rattle.sf_proof.specs.declared.lined.Lined.{Lined}
 use Rattle.sf_proof.specs.declared.fault.ProofFault.{ProofFault}
 use Rattle.sf_proof.specs.declared.fault.ProofFault.TheVariants.{BadLine, TooLong, OutOfMemory}
 use Rattle.sf_proof.specs.ProofText.{Text}
-use Rattle.sf_proof.specs.Words.{lines, words, tag_of}
+use Rattle.sf_proof.specs.Words.{tag_of}
 
 -- the words of the first line are the verdict's
 abbrev pub is_verdict : List Text → Bool

@@ -1,10 +1,9 @@
--- The lines of a text, the words of a line, and the tag that words say.
--- Ordinary: fields between blanks, as The Open Group's shell splits them ("Field Splitting", 2018).
-use Rattle.std.specs.Prelude.{ℕ, ◌==◌, ◌&&◌, ◌||◌, ◌^◌, Bool, true, false, nat_lt, if◌then◌else◌, Option, Some, None, List, [], ◌∷◌, codes, map}
-use Rattle.std.specs.List.{filter, position_or_len, slice_split}
+-- The tag that the words of a line say.
+-- Ordinary: a table of keywords, as of the mnemonics of an assembler.
+use Rattle.std.specs.Prelude.{ℕ, ◌==◌, ◌&&◌, ◌^◌, nat_lt, if◌then◌else◌, Option, Some, None, List, [], ◌∷◌, codes}
+use Rattle.std.specs.List.{position_or_len}
 use Rattle.std.specs.Option.{option_and_then, option_map, option_or, option_zip}
 use Rattle.std.specs.Str.{bytes_eq}
-use Rattle.std.specs.Str.Lines.{strip_carriage_return}
 use Rattle.std.specs.Str.Parse.{digits_value}
 use Rattle.sf_base.specs.declared.ids.ProcId.{ProcId}
 use Rattle.sf_lex.specs.Lexeme.{is_digit, is_some_of}
@@ -15,23 +14,6 @@ use Rattle.sf_sym.specs.declared.tag.Tag.TheVariants as t
 use Rattle.sf_sym.specs.declared.term.Term.{Term}
 use Rattle.sf_sym.specs.declared.term.Term.TheVariants.{Nil, Int, Sym}
 use Rattle.sf_proof.specs.ProofText.{Text}
-
--- the lines of a text: what is between its line feeds, without the carriage return at the end of one
-abbrev pub lines : Text → List Text
-lines text = map strip_carriage_return (slice_split (λ b. b == 10) text)
-
--- space or tab
-abbrev pub is_space : ℕ → Bool
-is_space b = (b == 32) || (b == 9)
-
--- a text of one byte or more
-abbrev pub is_some_text : Text → Bool
-is_some_text [] = false
-is_some_text (b ∷ bs) = true
-
--- the words of a line: what is between its spaces and tabs, where that is some text
-abbrev pub words : Text → List Text
-words line = filter is_some_text (slice_split is_space line)
 
 -- the number of 32 bits that a word of digits writes
 abbrev pub natural_of : Text → Option ℕ

@@ -5,52 +5,20 @@ ghost use Rattle.std.specs.List.{prefix_len};
 ghost use Rattle.std.specs.Str.Lines.{strip_carriage_return};
 ghost use Rattle.sf_base.specs.Results.{Decides};
 ghost use Rattle.sf_base.specs.declared.limits.TheConstants.{PROOF_BYTES};
+ghost use Rattle.sf_lines.specs.Lines.{bytes_left, lines, lines_left};
 ghost use Rattle.sf_core.specs.Program.ProgramView.{program_of};
-ghost use Rattle.sf_proof.specs.Internal.Walk.{IsRead, bytes_left, lines_left, reading};
+ghost use Rattle.sf_proof.specs.Internal.Walk.{IsRead, reading};
 ghost use Rattle.sf_proof.specs.Reading.{IsFault, IsLined};
-ghost use Rattle.sf_proof.specs.Words.{lines};
 
 use crate::entry::Entry;
 use crate::fault::ProofFault;
 use crate::lined::Lined;
-use crate::words::{entry, from_index};
+use crate::words::entry;
 use sf_base::Sequence;
 use sf_base::limits::PROOF_BYTES;
 use sf_core::Program;
+use sf_lines::next_line;
 use std::alloc::Global;
-
-/// The line without the carriage return at its end.
-fn without_return(line: &[u8]) -> &[u8]
-    ensures { result.now ≡ strip_carriage_return line.now }
-{
-    match line {
-        [front @ .., b'\r'] => front,
-        _ => line,
-    }
-}
-
-/// How many bytes come before the first line feed.
-fn line_length(text: &[u8]) -> usize
-    ensures length { result ≡ prefix_len (λ b. not (b == 10)) text.now }
-    ensures within { result ≤ length text.now }
-{
-    text.iter().take_while(|byte| **byte != b'\n').count()
-}
-
-/// The first line of a text, and what comes after its line feed, if it has one.
-fn next_line(text: &[u8]) -> (&[u8], Option<&[u8]>)
-    ensures lines { lines text.now ≡ result.0.now ∷ lines_left result.1 }
-    ensures shorter { bytes_left result.1 ≤ length text.now }
-{
-    let end = line_length(text);
-    if end == text.len() {
-        return (without_return(text), None);
-    }
-    (
-        without_return(&text[..end]),
-        Some(from_index(text, end + 1)),
-    )
-}
 
 impl Lined {
     ghost use Rattle.std.specs.Prelude.{◌<◌};

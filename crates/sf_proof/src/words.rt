@@ -1,61 +1,19 @@
-//! The words of a line, and what they say.
+//! What the words of a line say.
 
 ghost use Rattle.std.specs.Prelude.{◌≡◌, ◌∷◌, ◌≤◌, [], drop, length, not, MatchOption};
 ghost use Rattle.std.specs.List.{position_or_len, prefix_len};
 ghost use Rattle.std.specs.Str.{bytes_eq};
+ghost use Rattle.sf_lines.specs.Lines.{is_space, words};
 ghost use Rattle.sf_core.specs.Program.ProgramView.{program_of};
 ghost use Rattle.sf_proof.specs.Reading.{entry, entry_after, entry_of, is_verdict};
-ghost use Rattle.sf_proof.specs.Words.{is_space, natural_of, procedure_named, symbol_of, tag_alone, tag_of, tag_of_procedure, tag_with, tag_with_atom, tag_with_two, term_of, words};
+ghost use Rattle.sf_proof.specs.Words.{natural_of, procedure_named, symbol_of, tag_alone, tag_of, tag_of_procedure, tag_with, tag_with_atom, tag_with_two, term_of};
 
 use crate::entry::Entry;
 use sf_base::ProcId;
 use sf_core::{Proc, Program};
 use sf_lex::{is_name, number};
+use sf_lines::next_word;
 use sf_sym::{Tag, Term};
-
-/// Whether it separates words.
-fn is_space(byte: u8) -> bool
-    ensures { result ≡ is_space byte }
-{
-    byte == b' ' || byte == b'\t'
-}
-
-/// How many bytes come before the first that separates no words.
-fn spaces(line: &[u8]) -> usize
-    ensures length { result ≡ prefix_len is_space line.now }
-    ensures within { result ≤ length line.now }
-{
-    line.iter().take_while(|byte| is_space(**byte)).count()
-}
-
-/// How many bytes come before the first that separates words.
-fn word_length(line: &[u8]) -> usize
-    ensures length { result ≡ prefix_len (λ b. not (is_space b)) line.now }
-    ensures within { result ≤ length line.now }
-{
-    line.iter().take_while(|byte| !is_space(**byte)).count()
-}
-
-/// The bytes from there on.
-pub fn from_index(bytes: &[u8], index: usize) -> &[u8]
-    requires { index ≤ length bytes.now }
-    ensures { result.now ≡ drop index bytes.now }
-{
-    &bytes[index..]
-}
-
-/// The first word of a line and what comes after it. `None` where the line has no word.
-fn next_word(line: &[u8]) -> Option<(&[u8], &[u8])>
-    ensures { MatchOption result (words line.now ≡ [])
-        (λ next. words line.now ≡ next.0.now ∷ words next.1.now) }
-{
-    let rest = from_index(line, spaces(line));
-    let end = word_length(rest);
-    if end == 0 {
-        return None;
-    }
-    Some((&rest[..end], from_index(rest, end)))
-}
 
 /// The number of 32 bits that a word of digits writes.
 fn natural(word: &[u8]) -> Option<u32>

@@ -1,6 +1,6 @@
 -- The values that lines give to all variables.
 -- Names: `given-LAW`.
-use Rattle.std.proofs.Common.{◌≡◌, ◌<◌, ◌≤◌, ◌+◌, ◌⊎◌, ℕ, zero, suc, Bool, true, false, cond, nat_lt, List, [], ◌∷◌, Some, None, Option, length, map, refl, ap, sym, ◌∙◌, subst, arith, slice_get, inl, inr}
+use Rattle.std.proofs.Common.{◌≡◌, ◌<◌, ◌≤◌, ◌+◌, ◌⊎◌, ℕ, suc, cond, List, [], ◌∷◌, Some, None, Option, length, map, refl, ap, sym, ◌∙◌, arith, slice_get, inl, inr}
 use Rattle.std.specs.BTreeMap.{get}
 use Rattle.std.specs.Option.{option_or}
 use Rattle.std.specs.Ordering.{nat_cmp}
@@ -12,7 +12,7 @@ use Rattle.sf_state.specs.declared.fault.StartFault.{StartFault}
 use Rattle.sf_state.specs.declared.fault.StartFault.TheVariants.{OutOfMemory, TooLong}
 use Rattle.sf_state.specs.declared.given.Given.{Given}
 use Rattle.sf_state.specs.Internal.Keeping.{Keeps}
-use Rattle.sf_state.specs.Lines.{Text}
+use Rattle.sf_lines.specs.Lines.{Text}
 use Rattle.sf_state.specs.Refused.{first_refusal, value_given}
 use Rattle.sf_state.specs.Stated.{Gives, lines_refusal, missing_from, text_refusal, values_given}
 use Rattle.sf_state.specs.Says.{entries_of}

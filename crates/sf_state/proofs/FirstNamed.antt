@@ -1,6 +1,6 @@
 -- Which procedure has a name first, and whether it holds a resource.
 -- Names: `named-LAW`, `holds-LAW`, `entry-LAW`.
-use Rattle.std.proofs.Common.{◌≡◌, ◌≢◌, ◌<◌, ◌≤◌, ◌⊎◌, ◌==◌, ℕ, Bool, true, false, List, [], ◌∷◌, Some, None, Option, length, map, refl, ap, sym, ◌∙◌, subst, arith, inl, inr, Result, slice_get}
+use Rattle.std.proofs.Common.{◌≡◌, ◌<◌, ◌≤◌, ◌⊎◌, ◌==◌, ℕ, true, false, List, [], ◌∷◌, Some, Option, length, map, refl, ap, sym, ◌∙◌, subst, arith, inl, inr, Result}
 use Rattle.std.specs.Prelude.{IfErr, IfOk}
 use Rattle.std.proofs.lemmas.Bool.{cases_lt, eqb-true}
 use Rattle.std.proofs.lemmas.Simd.{map-map}
@@ -17,8 +17,8 @@ use Rattle.sf_core.specs.Program.Syntax.{Procedure, Program}
 use Rattle.sf_core.specs.Program.View.{procedure_of}
 use Rattle.sf_state.specs.declared.fault.StartFault.{StartFault}
 use Rattle.sf_state.specs.declared.fault.StartFault.TheVariants as fault
-use Rattle.sf_state.specs.Entering.{HoldsNone, IsEntry, IsEntryFault, IsHolding, procedure_names}
-use Rattle.sf_state.specs.Lines.{Text}
+use Rattle.sf_state.specs.Entering.{HoldsNone, IsEntry, IsEntryFault, procedure_names}
+use Rattle.sf_lines.specs.Lines.{Text}
 
 -- the names of the code's procedures are those of the definitions'
 pub named-view : (procedures : List Proc) (name : Text) (o : Option ℕ)

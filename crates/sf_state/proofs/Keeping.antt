@@ -1,8 +1,7 @@
 -- What is kept once one line more is taken.
 -- Names: `keeps-LAW` of all that is kept, `value-`, `cell-`, `count-` of its parts.
-use Rattle.std.proofs.Common.{◌≡◌, ◌<◌, ◌≢◌, ◌+◌, ◌==◌, ◌++◌, ℕ, Bool, true, false, cond, List, [], ◌∷◌, Some, None, Option, length, map, refl, ap, sym, ◌∙◌, subst, arith, slice_get, slice_index_or, set, is_some, nat_lt}
-use Rattle.std.specs.BTreeMap.{btree_map_len, get, is_at, BTreeMap}
-use Rattle.std.specs.List.{count_by}
+use Rattle.std.proofs.Common.{◌≡◌, ◌<◌, ◌≢◌, ◌+◌, ◌==◌, ◌++◌, ℕ, Bool, true, false, cond, List, [], ◌∷◌, Some, None, Option, length, refl, ap, sym, ◌∙◌, subst, arith, slice_get, slice_index_or, set, is_some, nat_lt}
+use Rattle.std.specs.BTreeMap.{btree_map_len, get, is_at}
 use Rattle.std.specs.Option.{option_map, option_or}
 use Rattle.std.specs.Ordering.{nat_cmp}
 use Rattle.std.proofs.lemmas.Bool.{eq-eqb, eqb-true, lt-ltb}
@@ -14,12 +13,12 @@ use Rattle.sf_base.proofs.Lookup.{get-read, get-set_other, get-set_same}
 use Rattle.sf_base.proofs.Numbers.{at-is}
 use Rattle.sf_base.proofs.Options.{is_some-false, option_map-none, option_or-assoc, some-once}
 use Rattle.sf_state.specs.declared.line.Entry.{Entry}
-use Rattle.sf_state.specs.declared.line.Entry.TheVariants.{Nothing, Bad, Unknown, Variable, Cell}
+use Rattle.sf_state.specs.declared.line.Entry.TheVariants.{Nothing, Variable, Cell}
 use Rattle.sf_state.specs.declared.fault.StartFault.TheVariants.{Twice, TooLong}
 use Rattle.sf_state.specs.declared.fields.Setting.{Setting}
 use Rattle.sf_state.specs.declared.given.Given.{Given}
 use Rattle.sf_state.specs.Internal.Keeping.{Keeps}
-use Rattle.sf_state.specs.Lines.{Text}
+use Rattle.sf_lines.specs.Lines.{Text}
 use Rattle.sf_state.specs.Refused.{cell_count, cell_given, cell_in, cell_name, cell_refusal, cell_values, is_cell, name_at, refusal, set_again, value_given, value_in}
 
 or-none : {X : Type 0} (o : Option X) → option_or o None ≡ o

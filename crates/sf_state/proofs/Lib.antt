@@ -1,4 +1,3 @@
-pub mod Splitting
 pub mod Together
 pub mod Keeping
 pub mod Reading

@@ -1,12 +1,12 @@
 -- How lines are read one after the other.
 -- Names: `reading-LAW`.
-use Rattle.std.proofs.Common.{◌≡◌, ◌+◌, ◌++◌, ◌⊎◌, ℕ, suc, List, [], ◌∷◌, Some, None, length, refl, ap, sym, ◌∙◌, subst, arith, append_assoc, append-nil, length-append, inl, inr}
+use Rattle.std.proofs.Common.{◌≡◌, ◌+◌, ◌++◌, ℕ, suc, List, [], ◌∷◌, Some, None, length, refl, ap, sym, ◌∙◌, subst, arith, append_assoc, append-nil, length-append}
 use Rattle.std.specs.Option.{option_or}
 use Rattle.sf_state.specs.declared.line.Entry.{Entry}
 use Rattle.sf_state.specs.declared.fault.StartFault.{StartFault}
 use Rattle.sf_state.specs.declared.given.Given.{Given}
 use Rattle.sf_state.specs.Internal.Keeping.{Keeps, Reading}
-use Rattle.sf_state.specs.Lines.{Text, lines}
+use Rattle.sf_lines.specs.Lines.{Text, lines}
 use Rattle.sf_state.specs.Refused.{first_refusal, refusal}
 use Rattle.sf_state.specs.Says.{entries_from, entries_of, says}
 

@@ -1,6 +1,6 @@
 -- What parts of a line say together.
 -- Names: `both-LAW`.
-use Rattle.std.proofs.Common.{◌≡◌, List, [], ◌∷◌, ◌++◌, refl, ap, sym, append_assoc, append-nil}
+use Rattle.std.proofs.Common.{◌≡◌, [], refl, ap, sym, append_assoc, append-nil}
 use Rattle.sf_state.specs.declared.fields.Fields.{Fields}
 use Rattle.sf_state.specs.declared.fields.Fields.TheVariants.{Bad, Unknown, Are}
 use Rattle.sf_state.specs.Says.{both}

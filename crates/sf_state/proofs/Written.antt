@@ -1,10 +1,10 @@
 -- The lines that are left to be written, the first of them apart.
 -- Names: `more`, after what is written.
-use Rattle.std.proofs.Common.{◌≡◌, ◌<◌, ◌+◌, ◌++◌, ℕ, suc, List, [], ◌∷◌, length, drop, refl, ap, ◌∙◌, slice_index_or, arith}
+use Rattle.std.proofs.Common.{◌≡◌, ◌<◌, ◌+◌, ◌++◌, ℕ, suc, List, [], length, drop, ap, ◌∙◌, slice_index_or, arith}
 use Rattle.std.proofs.Math.Seq.{drop-cons}
 use Rattle.sf_base.specs.declared.value.Value.{Value}
 use Rattle.sf_base.specs.declared.value.Value.TheVariants.{Nil as nil}
-use Rattle.sf_state.specs.Lines.{Text}
+use Rattle.sf_lines.specs.Lines.{Text}
 use Rattle.sf_state.specs.Refused.{name_at}
 use Rattle.sf_state.specs.StateText.{field_text, field_texts, variable_line, variable_lines}
 

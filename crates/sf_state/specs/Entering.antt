@@ -1,6 +1,6 @@
 -- Which procedure an entry is, and why a name is none.
 -- O'Hearn (2007); Brookes (2007): a program starts while no resource is held.
-use Rattle.std.specs.Prelude.{◌≡◌, List, Option, Some, None, map}
+use Rattle.std.specs.Prelude.{◌≡◌, List, Some, None, map}
 use Rattle.sf_base.specs.declared.ids.ProcId.{ProcId}
 use Rattle.sf_base.specs.declared.ids.ResId.{ResId}
 use Rattle.sf_core.specs.Machine.HeldBy.{HeldBy}
@@ -8,7 +8,7 @@ use Rattle.sf_core.specs.Program.Named.{IsFirstNamed}
 use Rattle.sf_core.specs.Program.Syntax.{Program}
 use Rattle.sf_state.specs.declared.fault.StartFault.{StartFault}
 use Rattle.sf_state.specs.declared.fault.StartFault.TheVariants as fault
-use Rattle.sf_state.specs.Lines.{Text}
+use Rattle.sf_lines.specs.Lines.{Text}
 
 -- the names of the procedures
 abbrev pub procedure_names : Program → List Text

@@ -1,4 +1,4 @@
-pub mod Lines
+pub mod Words
 pub mod Names
 pub mod Values
 pub mod Says

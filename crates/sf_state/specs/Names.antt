@@ -7,7 +7,7 @@ use Rattle.std.specs.Str.{bytes_eq}
 use Rattle.sf_base.specs.declared.ids.FieldId.{FieldId}
 use Rattle.sf_lex.specs.Whole.{is_name}
 use Rattle.sf_core.specs.Program.Syntax.{Procedure, Program, Resource}
-use Rattle.sf_state.specs.Lines.{Text, split_once}
+use Rattle.sf_lines.specs.Lines.{Text, split_once}
 
 -- the name of a resource's variable
 abbrev pub qualified : Text → Text → Text

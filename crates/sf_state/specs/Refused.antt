@@ -12,7 +12,7 @@ use Rattle.sf_state.specs.declared.line.Entry.TheVariants.{Nothing, Bad, Unknown
 use Rattle.sf_state.specs.declared.fault.StartFault.{StartFault}
 use Rattle.sf_state.specs.declared.fault.StartFault.TheVariants as fault
 use Rattle.sf_state.specs.declared.fields.Setting.{Setting}
-use Rattle.sf_state.specs.Lines.{Text}
+use Rattle.sf_lines.specs.Lines.{Text}
 
 -- the value that a line gives to the variable of that number
 abbrev pub value_in : ℕ → Entry → Option Value

@@ -9,7 +9,8 @@ use Rattle.sf_state.specs.declared.line.Entry.{Entry}
 use Rattle.sf_state.specs.declared.line.Entry.TheVariants as entry
 use Rattle.sf_state.specs.declared.fields.Fields.{Fields}
 use Rattle.sf_state.specs.declared.fields.Fields.TheVariants as fields
-use Rattle.sf_state.specs.Lines.{Text, begins, lines, only, split_once, words}
+use Rattle.sf_lines.specs.Lines.{Text, lines, only, split_once, words}
+use Rattle.sf_state.specs.Words.{begins}
 use Rattle.sf_state.specs.Names.{field_named, is_target, place_of}
 use Rattle.sf_state.specs.Values.{location_from, value_from}
 

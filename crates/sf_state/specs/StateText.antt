@@ -1,10 +1,10 @@
 -- The text of a state as it is written: a line for each variable, and then one for each cell.
 -- Numbers are decimal, as The Open Group's "printf" prints them (2018).
-use Rattle.std.specs.Prelude.{ℕ, suc, ◌++◌, Option, Some, None, List, [], ◌∷◌, codes, decimal, slice_index_or}
+use Rattle.std.specs.Prelude.{ℕ, suc, ◌++◌, Option, Some, None, List, [], ◌∷◌, codes, slice_index_or}
 use Rattle.std.specs.Fmt.{signed_decimal}
 use Rattle.sf_base.specs.declared.value.Value.{Value}
 use Rattle.sf_base.specs.declared.value.Value.TheVariants.{Nil as nil, Int as int, Loc as loc}
-use Rattle.sf_state.specs.Lines.{Text}
+use Rattle.sf_lines.specs.Lines.{Text}
 use Rattle.sf_state.specs.Refused.{cell_name}
 
 -- a value

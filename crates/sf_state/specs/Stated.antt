@@ -10,7 +10,7 @@ use Rattle.sf_state.specs.declared.fault.StartFault.{StartFault}
 use Rattle.sf_state.specs.declared.fault.StartFault.TheVariants as fault
 use Rattle.sf_state.specs.declared.line.Entry.{Entry}
 use Rattle.sf_state.specs.declared.state.State.{State}
-use Rattle.sf_state.specs.Lines.{Text}
+use Rattle.sf_lines.specs.Lines.{Text}
 use Rattle.sf_state.specs.Refused.{cell_given, cell_values, first_refusal, name_at, value_given}
 use Rattle.sf_state.specs.Says.{entries_of}
 

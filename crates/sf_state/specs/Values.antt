@@ -1,6 +1,6 @@
 -- Which value a word writes.
 -- Ordinary: constants of this language, and locations by their numbers.
-use Rattle.std.specs.Prelude.{ℕ, ◌^◌, ◌&&◌, ◌||◌, Bool, nat_lt, nat_le, if◌then◌else◌, Option, Some, None, List, [], ◌∷◌, codes, ◌==◌}
+use Rattle.std.specs.Prelude.{ℕ, ◌&&◌, ◌||◌, Bool, nat_lt, nat_le, if◌then◌else◌, Option, Some, None, [], ◌∷◌, codes, ◌==◌}
 use Rattle.std.specs.Option.{option_map, option_or}
 use Rattle.std.specs.Str.{bytes_eq}
 use Rattle.std.specs.Str.Parse.{digits_value}
@@ -9,7 +9,7 @@ use Rattle.sf_base.specs.declared.value.Value.{Value}
 use Rattle.sf_base.specs.declared.value.Value.TheVariants.{Nil as nil, Int as int, Loc as loc}
 use Rattle.sf_lex.specs.Lexeme.{is_digit, is_some_of}
 use Rattle.sf_lex.specs.Whole.{number_of}
-use Rattle.sf_state.specs.Lines.{Text}
+use Rattle.sf_lines.specs.Lines.{Text}
 
 -- the number is that of a location: from 1 on, and below the limit
 abbrev pub is_location : ℕ → Bool

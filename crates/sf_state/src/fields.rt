@@ -2,15 +2,15 @@
 
 ghost use Rattle.std.specs.Prelude.{◌≡◌, IfOk, OnOk, MatchOption, Some, None};
 ghost use Rattle.sf_core.specs.Program.ProgramView.{program_of};
-ghost use Rattle.sf_state.specs.Lines.{words};
+ghost use Rattle.sf_lines.specs.Lines.{words};
 ghost use Rattle.sf_state.specs.Says.{both, field_said, fields_said, set_field, setting_of};
 
-use crate::lines::{next_word, split_once};
 use crate::names::field_named;
 use crate::values::value;
 use sf_base::{FieldId, Name, Sequence, Value};
 use sf_core::Program;
 use sf_lex::is_name;
+use sf_lines::{next_word, split_once};
 use std::alloc::{AllocError, Global};
 
 /// A field with its value.

@@ -7,7 +7,7 @@ ghost use Rattle.std.specs.BTreeMap as map;
 ghost use Rattle.sf_core.specs.Program.ProgramView.{program_of};
 ghost use Rattle.sf_state.specs.declared.line.Entry.{Entry as E};
 ghost use Rattle.sf_state.specs.declared.line.Entry.TheVariants as e;
-ghost use Rattle.sf_state.specs.Lines.{Text};
+ghost use Rattle.sf_lines.specs.Lines.{Text};
 ghost use Rattle.sf_state.specs.Internal.Keeping.{AllTaken, IsPlaced, Keeps, Taken};
 ghost use Rattle.sf_state.specs.Says.{entries_of, says};
 ghost use Rattle.sf_state.specs.Refused.{cell_name, cell_values, name_at, is_set, set_again, values_after};
@@ -15,7 +15,6 @@ ghost use Rattle.sf_state.specs.Refused.{cell_name, cell_values, name_at, is_set
 use crate::fault::StartFault;
 use crate::fields::Setting;
 use crate::line::Entry;
-use crate::lines::next_line;
 use crate::names::name_at;
 use crate::saying::says;
 use itoa::Buffer;
@@ -23,6 +22,7 @@ use sf_base::limits::STATE_CELLS;
 use sf_base::{FieldId, Name, Value};
 use sf_core::Program;
 use sf_heap::Cell;
+use sf_lines::next_line;
 use std::alloc::{AllocError, Global};
 use std::collections::BTreeMap;
 

@@ -1,6 +1,6 @@
 //! The text of a state, both ways.
 //!
-//! - `lines`: the lines of a text, and the words of a line.
+//! - `words`: what a word begins with.
 //! - `names`: the names in a state's text.
 //! - `values`: which value a word writes.
 //! - `fields`: what the words of a cell's fields say.
@@ -18,12 +18,12 @@ mod fault;
 mod fields;
 mod given;
 mod line;
-mod lines;
 mod names;
 mod saying;
 mod state;
 mod text;
 mod values;
+mod words;
 
 pub use entering::entry;
 pub use fault::StartFault;

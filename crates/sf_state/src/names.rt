@@ -9,10 +9,10 @@ ghost use Rattle.sf_core.specs.Program.View.{procedure_of, resource_of};
 ghost use Rattle.sf_state.specs.Refused.{name_at};
 ghost use Rattle.sf_state.specs.Names.{field_named, is_target, names_of, names_of_resource, parameters, place_of, qualified};
 
-use crate::lines::split_once;
 use sf_base::{FieldId, Name};
 use sf_core::{Proc, Program, Resource};
 use sf_lex::is_name;
+use sf_lines::split_once;
 use std::alloc::{AllocError, Global};
 
 /// How many names come before the first that is this one, which are all where there is none.

@@ -3,17 +3,18 @@
 ghost use Rattle.std.specs.Prelude.{◌≡◌, ℕ, IfOk, length};
 ghost use Rattle.sf_state.specs.Internal.Keeping.{IsPlaced};
 ghost use Rattle.sf_core.specs.Program.ProgramView.{program_of};
-ghost use Rattle.sf_state.specs.Lines.{only, split_once, words};
+ghost use Rattle.sf_lines.specs.Lines.{only, split_once, words};
 ghost use Rattle.sf_state.specs.Says.{cell_said, cell_with, is_finished, said, says, variable_said};
 ghost use Rattle.sf_state.specs.Values.{location_from};
 
 use crate::fields::{Fields, fields_in};
 use crate::line::Entry;
-use crate::lines::{begins, next_word, only_word, split_once};
 use crate::names::{is_target, place_of};
 use crate::values::{location, value};
+use crate::words::begins;
 use sf_base::Name;
 use sf_core::Program;
+use sf_lines::{next_word, only_word, split_once};
 use std::alloc::{AllocError, Global};
 
 /// A cell at that location.

@@ -1,7 +1,6 @@
 -- How the reader goes through a text, line by line, up to the first that isn't in order.
 -- Ordinary: a function on the lines that are left.
-use Rattle.std.specs.Prelude.{◌≡◌, ◌≢◌, ℕ, suc, ◌+◌, ◌++◌, Option, Some, None, Result, Ok, Err, List, [], ◌∷◌, length}
-use Rattle.std.specs.Borrow.{Bor}
+use Rattle.std.specs.Prelude.{◌≡◌, ◌≢◌, ℕ, suc, ◌++◌, Result, Ok, Err, List, [], ◌∷◌}
 use Rattle.sf_core.specs.Program.Syntax.{Program}
 use Rattle.sf_proof.specs.declared.entry.Entry.{Entry}
 use Rattle.sf_proof.specs.declared.entry.Entry.TheVariants.{Bad}
@@ -10,7 +9,6 @@ use Rattle.sf_proof.specs.declared.fault.ProofFault.{ProofFault}
 use Rattle.sf_proof.specs.declared.fault.ProofFault.TheVariants.{BadLine, TooLong, OutOfMemory}
 use Rattle.sf_proof.specs.ProofText.{Text}
 use Rattle.sf_proof.specs.Reading.{entry, tags_in, numbers_in}
-use Rattle.sf_proof.specs.Words.{lines}
 
 -- these before those
 abbrev pub lined_before : Lined → Lined → Lined
@@ -34,16 +32,6 @@ read_on before e more = read_after (found_in before e) more
 abbrev pub reading : Program → (before : ℕ) → List Text → Result Lined ℕ
 reading p k [] = Ok (record { tags = []; lines = [] })
 reading p k (line ∷ more) = read_on k (entry p k line) (reading p (suc k) more)
-
--- the lines of what is left of a text, if something is
-abbrev pub lines_left : Option (Bor Text) → List Text
-lines_left None = []
-lines_left (Some rest) = lines rest.now
-
--- how many bytes are left, and one more for the line that is
-abbrev pub bytes_left : Option (Bor Text) → ℕ
-bytes_left None = 0
-bytes_left (Some rest) = length rest.now + 1
 
 -- the call keeps what is said on the line of that number, and refuses a line that is none
 abbrev pub KeepsEntry : Result (Unit {0}) ProofFault → (old new : Lined) → (number : ℕ) → Entry → Type 0

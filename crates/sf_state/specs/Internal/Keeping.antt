@@ -1,6 +1,6 @@
 -- What is kept of the lines that were read.
 -- Ordinary: tables, and the list of entries that they stand for.
-use Rattle.std.specs.Prelude.{◌≡◌, ◌⊎◌, ℕ, ◌+◌, ◌<◌, ◌++◌, List, [], ◌∷◌, Option, Some, None, Result, Ok, Err, length, map, slice_get, Vec}
+use Rattle.std.specs.Prelude.{◌≡◌, ◌⊎◌, ℕ, ◌<◌, ◌++◌, List, [], ◌∷◌, Option, Some, None, Result, Ok, Err, length, map, slice_get, Vec}
 use Rattle.std.specs.BTreeMap.{btree_map_len, get}
 use Rattle.std.specs.Option.{option_map}
 use Rattle.std.specs.Ordering.{nat_cmp}
@@ -11,7 +11,7 @@ use Rattle.sf_state.specs.declared.fault.StartFault.TheVariants.{OutOfMemory}
 use Rattle.std.specs.declared.alloc.Global.{Global}
 use Rattle.sf_base.specs.declared.value.Value.{Value}
 use Rattle.sf_state.specs.declared.given.Given.{Given}
-use Rattle.sf_state.specs.Lines.{Text}
+use Rattle.sf_lines.specs.Lines.{Text}
 use Rattle.sf_state.specs.Refused.{cell_count, cell_given, cell_values, first_refusal, refusal, value_given}
 use Rattle.sf_state.specs.Stated.{missing_from}
 use Rattle.sf_state.specs.Says.{entries_from, entries_of}

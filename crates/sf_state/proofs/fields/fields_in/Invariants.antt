@@ -1,6 +1,6 @@
 use Rattle.std.proofs.Common.{◌≡◌, length}
 use Rattle.sf_core.specs.Program.ProgramView.{program_of}
-use Rattle.sf_state.specs.Lines.{words}
+use Rattle.sf_lines.specs.Lines.{words}
 use Rattle.sf_state.specs.Says.{both, fields_said}
 use Rattle.sf_state.proofs.fields.fields_in.Given as goal
 

@@ -1,7 +1,7 @@
 use Rattle.std.proofs.Common.{ap, sym, ◌∙◌, ◌∷◌, [], ◌+◌, drop, arith}
-use Rattle.sf_state.specs.Lines.{lines}
-use Rattle.sf_state.proofs.Splitting.{first_line, last_line}
-use Rattle.sf_state.proofs.lines.next_line.Goals as goal
+use Rattle.sf_lines.specs.Lines.{lines}
+use Rattle.sf_lines.proofs.Splitting.{first_line, last_line}
+use Rattle.sf_lines.proofs.lines.next_line.Goals as goal
 
 pub returns-then-end-text-clause-lines : goal.returns-then-end-text-clause-lines
 returns-then-end-text-clause-lines c =
