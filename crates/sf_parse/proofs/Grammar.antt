@@ -4,4 +4,3 @@ pub mod OnceFiles
 pub mod Depths
 pub mod Longer
 pub mod CommandsLonger
-pub mod Nearest

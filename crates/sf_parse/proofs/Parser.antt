@@ -7,5 +7,4 @@ pub mod ItemHeads
 pub mod Parsed
 pub mod Choices
 pub mod Lists
-pub mod Views
 pub mod Conjuncts

@@ -1,7 +1,7 @@
 -- Laws of reading a file: the machine's verdict is the grammar's, tokens are one file at most and no deeper than the limit, and
--- they have one answer, that they are a file or a fault. What is within the limit is said once more by how deep it is.
+-- they have one answer, that they are a file or a fault. Where no token is free of the limit, it is one on the depth of a tree.
 -- Ordinary: the viable prefix property, as in Aho, Sethi, Ullman, "Compilers" (1986), section 4.1.
-use Rattle.std.specs.Prelude.{◌≡◌, ◌≤◌, ◌↔◌, ◌⊎◌, ℕ, suc, List, [], ◌∷◌, ◌++◌, length}
+use Rattle.std.specs.Prelude.{◌≡◌, ◌≤◌, ◌↔◌, ◌⊎◌, suc, List, [], ◌∷◌, ◌++◌, length}
 use Rattle.sf_base.specs.declared.limits.TheConstants.{NESTING}
 use Rattle.sf_base.specs.declared.place.Place.{Place}
 use Rattle.sf_ast.specs.Depth.{items_depth}
@@ -9,7 +9,6 @@ use Rattle.sf_ast.specs.Surface.{Item}
 use Rattle.sf_parse.specs.Leaf.{Leaf}
 use Rattle.sf_lex.specs.declared.token.Token.{Token}
 use Rattle.sf_parse.specs.declared.fault.ParseFault.{ParseFault}
-use Rattle.sf_parse.specs.Depths.{items_levels}
 use Rattle.sf_parse.specs.Grammar.{items}
 use Rattle.sf_parse.specs.Internal.Machine.{Verdict, accepted, unexpected, too_deep, verdict, items as some_items}
 use Rattle.sf_parse.specs.Nearest.{IsNearest}
@@ -24,6 +23,7 @@ verdict_of ts = verdict 0 ts (some_items ∷ [])
 pub record Spelled (ts : List Leaf) : Type 0 where
   pub tree : List Item
   pub spells : ts ≡ items tree []
+  pub nearest : IsNearest tree
   pub within : ItemsWithin tree 0 []
 
 -- accepted are exactly the files; else the fault is at the first token that does not go on
@@ -46,16 +46,9 @@ EachFileIsOne = (ts : List Token) (one two : List Item) → IsFile ts one → Is
 abbrev pub EachFileIsShallow : Type 0
 EachFileIsShallow = (ts : List Token) (tree : List Item) → IsFile ts tree → items_depth tree ≤ NESTING
 
--- a tree is within the limit, with n tokens free of it, exactly where each `else` belongs to the nearest `if`,
--- an assertion's branches reach as far to the right as they can, and nothing that begins before the last n
--- tokens is deeper than the limit
+-- where no token is free of the limit, a tree is within it exactly where its depth is
 abbrev pub ShallowTreesAreWithin : Type 0
-ShallowTreesAreWithin = (tree : List Item) (n : ℕ)
-    → ItemsWithin tree n [] ↔ (IsNearest tree × (items_levels tree n [] ≤ NESTING))
-
--- where no token is free, the levels are the depth of the tree
-abbrev pub LevelsAreDepths : Type 0
-LevelsAreDepths = (tree : List Item) → items_levels tree 0 [] ≡ items_depth tree
+ShallowTreesAreWithin = (tree : List Item) → ItemsWithin tree 0 [] ↔ (items_depth tree ≤ NESTING)
 
 -- tokens have one answer: they are a file, with the places of its nodes, or have a fault, which is one alone, and never both
 pub record HasOneAnswer (end : Place) (ts : List Token) : Type 0 where

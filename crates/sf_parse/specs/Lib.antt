@@ -2,7 +2,6 @@ pub mod Leaf
 pub mod Grammar
 pub mod Nesting
 pub mod Nearest
-pub mod Depths
 pub mod Parsing
 pub mod Laws
 pub mod Internal

@@ -1,10 +1,29 @@
--- Which of several readings is meant, said without levels: each `else` belongs to the nearest `if`, and what comes after the
--- `if` of an assertion reaches as far to the right as it can.
+-- Which of several readings is meant: each `else` belongs to the nearest `if`, and what comes after the `if` of an assertion
+-- reaches as far to the right as it can.
 -- Ordinary: the nearest `if` takes an `else`, as in Aho, Sethi, Ullman, "Compilers" (1986), section 4.3.
 use Rattle.std.specs.Prelude.{List, [], ◌∷◌, Option, Some, None}
 use Rattle.sf_ast.specs.Surface as s
+use Rattle.sf_parse.specs.Leaf.{Leaf}
 use Rattle.sf_parse.specs.Leaf as k
-use Rattle.sf_parse.specs.Nesting.{Follows, IsClosed}
+
+-- no `else` comes next
+abbrev pub NotElse : List Leaf → Type 0
+NotElse (k.Else ∷ r) = ⊥
+NotElse _ = Unit {0}
+
+-- an `else` after a command belongs to the nearest `if` in it that has none
+abbrev pub Follows : s.Command → List Leaf → Type 0
+Follows (s.if_alone p b c) r = NotElse r
+Follows (s.if p b c d) r = Follows d r
+Follows (s.while p b n c) r = Follows c r
+Follows (s.with p x b c) r = Follows c r
+Follows _ r = Unit {0}
+
+-- a conjunct that reaches as far to the right as it can has no other one after it
+abbrev pub IsClosed : s.Conjunct → Type 0
+IsClosed (s.choose p b x y) = ⊥
+IsClosed (s.choose_round p b x y) = ⊥
+IsClosed _ = Unit {0}
 
 abbrev mutual
   -- a conjunct whose assertions are read so
@@ -12,14 +31,7 @@ abbrev mutual
   ConjunctNearest (s.group a) = AssertionNearest a
   ConjunctNearest (s.choose p b x y) = AssertionNearest x × AssertionNearest y
   ConjunctNearest (s.choose_round p b x y) = AssertionNearest x × AssertionNearest y
-  ConjunctNearest (s.emp p) = Unit {0}
-  ConjunctNearest (s.equal x y) = Unit {0}
-  ConjunctNearest (s.differ x y) = Unit {0}
-  ConjunctNearest (s.points x fs) = Unit {0}
-  ConjunctNearest (s.ls p x y) = Unit {0}
-  ConjunctNearest (s.lseg p x y) = Unit {0}
-  ConjunctNearest (s.list p x) = Unit {0}
-  ConjunctNearest (s.tree p x) = Unit {0}
+  ConjunctNearest _ = Unit {0}
 
   -- an assertion: an `if` in it is the last conjunct, since what comes after would belong to its branch
   pub AssertionNearest : s.Assertion → Type 0
@@ -44,14 +56,7 @@ abbrev mutual
   CommandNearest (s.while p b x c) = MaybeNearest x × CommandNearest c
   CommandNearest (s.with p x b c) = CommandNearest c
   CommandNearest (s.block p cs q) = CommandsNearest cs
-  CommandNearest (s.assign x a) = Unit {0}
-  CommandNearest (s.look_up x a f) = Unit {0}
-  CommandNearest (s.new x) = Unit {0}
-  CommandNearest (s.mutate a f b) = Unit {0}
-  CommandNearest (s.dispose p a) = Unit {0}
-  CommandNearest (s.dispose_round p a) = Unit {0}
-  CommandNearest (s.call c) = Unit {0}
-  CommandNearest (s.fork c e) = Unit {0}
+  CommandNearest _ = Unit {0}
 
   -- each of these commands
   pub CommandsNearest : s.Commands → Type 0

@@ -1,30 +1,11 @@
--- Which of several readings is meant, and how deep commands and assertions are nested.
--- Ordinary: the nearest `if` takes an `else`, as in Aho, Sethi, Ullman, "Compilers" (1986), section 4.3.
+-- How deep commands and assertions are nested, where so many of the last tokens are free of the limit.
+-- Ordinary: the height of a syntax tree, as in Aho, Sethi, Ullman, "Compilers" (1986), chapter 2.
 use Rattle.std.specs.Prelude.{◌≡◌, ℕ, zero, suc, ◌-◌, Bool, true, nat_le, List, [], ◌∷◌, length, Option, Some, None}
 use Rattle.sf_base.specs.declared.limits.TheConstants.{NESTING}
 use Rattle.sf_ast.specs.Surface as s
 use Rattle.sf_parse.specs.Leaf.{Leaf}
 use Rattle.sf_parse.specs.Leaf as k
 use Rattle.sf_parse.specs.Grammar.{conjunct, assertion, maybe_annotation, command, commands, items, locals}
-
--- no `else` comes next
-abbrev pub NotElse : List Leaf → Type 0
-NotElse (k.Else ∷ r) = ⊥
-NotElse _ = Unit {0}
-
--- an `else` after a command belongs to the nearest `if` in it that has none
-abbrev pub Follows : s.Command → List Leaf → Type 0
-Follows (s.if_alone p b c) r = NotElse r
-Follows (s.if p b c d) r = Follows d r
-Follows (s.while p b n c) r = Follows c r
-Follows (s.with p x b c) r = Follows c r
-Follows _ r = Unit {0}
-
--- a conjunct that reaches as far to the right as it can has no other one after it
-abbrev pub IsClosed : s.Conjunct → Type 0
-IsClosed (s.choose p b x y) = ⊥
-IsClosed (s.choose_round p b x y) = ⊥
-IsClosed _ = Unit {0}
 
 -- one of d levels is left for what begins with so many tokens left; what begins with at most n tokens left needs none
 abbrev pub has_level : (n left d : ℕ) → Bool
@@ -36,30 +17,22 @@ abbrev pub HasLevel : (n left d : ℕ) → Type 0
 HasLevel n left d = has_level n left d ≡ true
 
 abbrev mutual
-  -- the assertions in a conjunct have at most d - 1 levels, and their branches reach as far to the right as they can
+  -- the assertions in a conjunct have at most d - 1 levels
   pub ConjunctWithin : s.Conjunct → (n d : ℕ) → List Leaf → Type 0
   ConjunctWithin (s.group a) n d r = AssertionWithin a n (d - 1) (k.CloseRound ∷ r)
   ConjunctWithin (s.choose p b x y) n d r = AssertionWithin x n (d - 1) (k.Else ∷ assertion y r) × AssertionWithin y n (d - 1) r
   ConjunctWithin (s.choose_round p b x y) n d r = AssertionWithin x n (d - 1) (k.Else ∷ assertion y r) × AssertionWithin y n (d - 1) r
-  ConjunctWithin (s.emp p) n d r = Unit {0}
-  ConjunctWithin (s.equal x y) n d r = Unit {0}
-  ConjunctWithin (s.differ x y) n d r = Unit {0}
-  ConjunctWithin (s.points x fs) n d r = Unit {0}
-  ConjunctWithin (s.ls p x y) n d r = Unit {0}
-  ConjunctWithin (s.lseg p x y) n d r = Unit {0}
-  ConjunctWithin (s.list p x) n d r = Unit {0}
-  ConjunctWithin (s.tree p x) n d r = Unit {0}
+  ConjunctWithin _ n d r = Unit {0}
 
-  -- an assertion has at most d levels, its own the first, where it begins with more than n tokens left; its branches reach as far
-  -- to the right as they can: a conjunct with another one after it is closed
+  -- an assertion has at most d levels, its own the first, where it begins with more than n tokens left
   pub AssertionWithin : s.Assertion → (n d : ℕ) → List Leaf → Type 0
   AssertionWithin (s.only c) n d r = HasLevel n (length (conjunct c r)) d × ConjunctWithin c n d r
-  AssertionWithin (s.star c a) n d r = HasLevel n (length (conjunct c (k.Star ∷ assertion a r))) d × ConjunctWithin c n d (k.Star ∷ assertion a r) × IsClosed c × RestWithin a n d r
+  AssertionWithin (s.star c a) n d r = HasLevel n (length (conjunct c (k.Star ∷ assertion a r))) d × ConjunctWithin c n d (k.Star ∷ assertion a r) × RestWithin a n d r
 
   -- so has what comes after a `*`, which begins no assertion
   pub RestWithin : s.Assertion → (n d : ℕ) → List Leaf → Type 0
   RestWithin (s.only c) n d r = ConjunctWithin c n d r
-  RestWithin (s.star c a) n d r = ConjunctWithin c n d (k.Star ∷ assertion a r) × IsClosed c × RestWithin a n d r
+  RestWithin (s.star c a) n d r = ConjunctWithin c n d (k.Star ∷ assertion a r) × RestWithin a n d r
 
 -- the assertion of a note has a level of its own
 abbrev pub NoteWithin : s.Note → (n : ℕ) → List Leaf → Type 0
@@ -72,29 +45,21 @@ MaybeWithin None n r = Unit {0}
 MaybeWithin (Some x) n r = NoteWithin x n r
 
 abbrev mutual
-  -- a command has at most d levels, its own the first, where it begins with more than n tokens left; each `else` belongs to the nearest `if`
+  -- a command has at most d levels, its own the first, where it begins with more than n tokens left
   pub CommandWithin : s.Command → (n d : ℕ) → List Leaf → Type 0
-  CommandWithin (s.assign x a) n d r = HasLevel n (length (command (s.assign x a) r)) d
-  CommandWithin (s.look_up x a f) n d r = HasLevel n (length (command (s.look_up x a f) r)) d
-  CommandWithin (s.new x) n d r = HasLevel n (length (command (s.new x) r)) d
-  CommandWithin (s.mutate a f b) n d r = HasLevel n (length (command (s.mutate a f b) r)) d
-  CommandWithin (s.dispose p a) n d r = HasLevel n (length (command (s.dispose p a) r)) d
-  CommandWithin (s.dispose_round p a) n d r = HasLevel n (length (command (s.dispose_round p a) r)) d
-  CommandWithin (s.call c) n d r = HasLevel n (length (command (s.call c) r)) d
-  CommandWithin (s.fork c e) n d r = HasLevel n (length (command (s.fork c e) r)) d
   CommandWithin (s.if_alone p b c) n d r = HasLevel n (length (command (s.if_alone p b c) r)) d × CommandWithin c n (d - 1) r
-  CommandWithin (s.if p b c e) n d r = HasLevel n (length (command (s.if p b c e) r)) d × CommandWithin c n (d - 1) (k.Else ∷ command e r) × CommandWithin e n (d - 1) r × Follows c (k.Else ∷ [])
+  CommandWithin (s.if p b c e) n d r = HasLevel n (length (command (s.if p b c e) r)) d × CommandWithin c n (d - 1) (k.Else ∷ command e r) × CommandWithin e n (d - 1) r
   CommandWithin (s.while p b x c) n d r = HasLevel n (length (command (s.while p b x c) r)) d × MaybeWithin x n (command c r) × CommandWithin c n (d - 1) r
   CommandWithin (s.with p x b c) n d r = HasLevel n (length (command (s.with p x b c) r)) d × CommandWithin c n (d - 1) r
   CommandWithin (s.block p cs q) n d r = HasLevel n (length (command (s.block p cs q) r)) d × CommandsWithin cs n (d - 1) (k.CloseBrace q ∷ r)
+  CommandWithin c n d r = HasLevel n (length (command c r)) d
 
   -- so has each of these commands
   pub CommandsWithin : s.Commands → (n d : ℕ) → List Leaf → Type 0
   CommandsWithin s.done n d r = Unit {0}
   CommandsWithin (s.then c cs) n d r = CommandWithin c n d (commands cs r) × CommandsWithin cs n d r
 
--- the notes and the body of an item, whose commands have the first level; each `else` belongs to the nearest `if`, and the
--- branches of assertions reach as far to the right as they can
+-- the notes and the body of an item, whose commands have the first level
 abbrev pub ItemWithin : s.Item → (n : ℕ) → List Leaf → Type 0
 ItemWithin (s.fields ns) n r = Unit {0}
 ItemWithin (s.resource x) n r = NoteWithin x.invariant n r
@@ -103,7 +68,7 @@ ItemWithin (s.procedure f) n r =
     × CommandsWithin f.body n NESTING (k.CloseBrace f.closes ∷ maybe_annotation f.post r)
     × MaybeWithin f.post n r
 
--- those of all items: within the limit, each `else` to the nearest `if`, branches as far to the right as they can
+-- those of all items
 abbrev pub ItemsWithin : List s.Item → (n : ℕ) → List Leaf → Type 0
 ItemsWithin [] n r = Unit {0}
 ItemsWithin (i ∷ is) n r = ItemWithin i n (items is r) × ItemsWithin is n r

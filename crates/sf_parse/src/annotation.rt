@@ -5,6 +5,7 @@ ghost use Rattle.std.specs.Option.{option_map};
 ghost use Rattle.sf_ast.specs.View.{annotation_of};
 ghost use Rattle.sf_parse.specs.Grammar.{maybe_annotation, annotation};
 ghost use Rattle.sf_parse.specs.Internal.Machine as m;
+ghost use Rattle.sf_parse.specs.Nearest.{MaybeNearest, NoteNearest};
 ghost use Rattle.sf_parse.specs.Nesting.{MaybeWithin, NoteWithin};
 ghost use Rattle.sf_parse.specs.Leaf as k;
 ghost use Rattle.sf_parse.specs.Leaf.{leaves};
@@ -24,6 +25,7 @@ use std::alloc::Global;
 fn inside(alloc: Global, tokens: &[Token]) -> Result<(SurfaceNote, &[Token]), Stop>
     ensures spelled { IfOk result (λ r. k.OpenSquare ∷ leaves tokens.now
         ≡ annotation (annotation_of r.0) (leaves r.1.now)) }
+    ensures nearest { IfOk result (λ r. NoteNearest (annotation_of r.0)) }
     ensures within { IfOk result (λ r. NoteWithin (annotation_of r.0) 0 (leaves r.1.now)) }
     ensures taken { IfOk result (λ r.
         Accepts (m.maybe_assertion ∷ m.exact m.close_square ∷ []) tokens.now r.1.now) }
@@ -47,6 +49,7 @@ fn inside(alloc: Global, tokens: &[Token]) -> Result<(SurfaceNote, &[Token]), St
 pub fn annotation(alloc: Global, tokens: &[Token]) -> Result<(SurfaceNote, &[Token]), Stop>
     ensures spelled { IfOk result (λ r.
         leaves tokens.now ≡ annotation (annotation_of r.0) (leaves r.1.now)) }
+    ensures nearest { IfOk result (λ r. NoteNearest (annotation_of r.0)) }
     ensures within { IfOk result (λ r. NoteWithin (annotation_of r.0) 0 (leaves r.1.now)) }
     ensures taken { IfOk result (λ r.
         Accepts (m.exact m.open_square ∷ m.maybe_assertion ∷ m.exact m.close_square
@@ -67,6 +70,7 @@ pub fn maybe_annotation(
 ) -> Result<(Option<SurfaceNote>, &[Token]), Stop>
     ensures spelled { IfOk result (λ r. leaves tokens.now
         ≡ maybe_annotation (option_map annotation_of r.0) (leaves r.1.now)) }
+    ensures nearest { IfOk result (λ r. MaybeNearest (option_map annotation_of r.0)) }
     ensures within { IfOk result (λ r.
         MaybeWithin (option_map annotation_of r.0) 0 (leaves r.1.now)) }
     ensures taken { IfOk result (λ r. Accepts (m.maybe_annotation ∷ []) tokens.now r.1.now) }

@@ -5,6 +5,7 @@ ghost use Rattle.sf_ast.specs.Surface.{Conjunct};
 ghost use Rattle.sf_ast.specs.View.{assertion_of, conjunct_of, conjuncts};
 ghost use Rattle.sf_parse.specs.Grammar.{assertion, conjunct};
 ghost use Rattle.sf_parse.specs.Internal.Machine as m;
+ghost use Rattle.sf_parse.specs.Nearest.{AssertionNearest, ConjunctNearest};
 ghost use Rattle.sf_parse.specs.Nesting.{AssertionWithin, ConjunctWithin};
 ghost use Rattle.sf_parse.specs.Leaf as k;
 ghost use Rattle.sf_parse.specs.Leaf.{leaves};
@@ -43,6 +44,7 @@ pub fn assertion(
 ) -> Result<(SurfaceAssertion, &[Token]), Stop>
     ensures spelled { IfOk result (λ r.
         leaves tokens.now ≡ assertion (assertion_of r.0) (leaves r.1.now)) }
+    ensures nearest { IfOk result (λ r. AssertionNearest (assertion_of r.0)) }
     ensures within { IfOk result (λ r. AssertionWithin (assertion_of r.0) 0 depth (leaves r.1.now)) }
     ensures ended { IfOk result (λ r. NotStar (leaves r.1.now)) }
     ensures taken { IfOk result (λ r. Accepts (m.assertion depth ∷ []) tokens.now r.1.now) }
@@ -69,8 +71,10 @@ fn more_conjuncts(
     ensures spelled { IfOk result (λ r. (c : Conjunct)
         → conjunct c (leaves tokens.now)
         ≡ assertion (conjuncts c (map conjunct_of r.0.items)) (leaves r.1.now)) }
-    ensures within { IfOk result (λ r. (c : Conjunct) → ConjunctWithin c 0 depth (leaves tokens.now)
+    ensures nearest { IfOk result (λ r. (c : Conjunct) → ConjunctNearest c
         → Ends c (leaves tokens.now)
+        → AssertionNearest (conjuncts c (map conjunct_of r.0.items))) }
+    ensures within { IfOk result (λ r. (c : Conjunct) → ConjunctWithin c 0 depth (leaves tokens.now)
         → AssertionWithin (conjuncts c (map conjunct_of r.0.items)) 0 depth (leaves r.1.now)) }
     ensures ended { IfOk result (λ r. NotStar (leaves r.1.now)) }
     ensures taken { IfOk result (λ r. Accepts (m.more_conjuncts depth ∷ []) tokens.now r.1.now) }
@@ -97,6 +101,7 @@ fn conjunct(
     requires { 0 < depth }
     ensures spelled { IfOk result (λ r.
         leaves tokens.now ≡ conjunct (conjunct_of r.0) (leaves r.1.now)) }
+    ensures nearest { IfOk result (λ r. ConjunctNearest (conjunct_of r.0)) }
     ensures within { IfOk result (λ r. ConjunctWithin (conjunct_of r.0) 0 depth (leaves r.1.now)) }
     ensures ended { IfOk result (λ r. Ends (conjunct_of r.0) (leaves r.1.now)) }
     ensures taken { IfOk result (λ r. Accepts (m.conjunct depth ∷ []) tokens.now r.1.now) }
@@ -127,6 +132,7 @@ fn choice(
 ) -> Result<(SurfaceConjunct, &[Token]), Stop>
     ensures spelled { IfOk result (λ r.
         k.If place ∷ leaves tokens.now ≡ conjunct (conjunct_of r.0) (leaves r.1.now)) }
+    ensures nearest { IfOk result (λ r. ConjunctNearest (conjunct_of r.0)) }
     ensures within { IfOk result (λ r. (d : ℕ) → d - 1 ≡ depth
         → ConjunctWithin (conjunct_of r.0) 0 d (leaves r.1.now)) }
     ensures ended { IfOk result (λ r. NotStar (leaves r.1.now)) }
@@ -154,6 +160,8 @@ fn branches(
     ensures spelled { IfOk result (λ r. leaves tokens.now ≡ k.Then
         ∷ assertion (assertion_of r.0) (k.Else
         ∷ assertion (assertion_of r.1) (leaves r.2.now))) }
+    ensures first_nearest { IfOk result (λ r. AssertionNearest (assertion_of r.0)) }
+    ensures second_nearest { IfOk result (λ r. AssertionNearest (assertion_of r.1)) }
     ensures first_within { IfOk result (λ r.
         AssertionWithin (assertion_of r.0) 0 depth (k.Else
         ∷ assertion (assertion_of r.1) (leaves r.2.now))) }

@@ -8,7 +8,8 @@ ghost use Rattle.sf_parse.specs.Grammar as g;
 ghost use Rattle.sf_parse.specs.Grammar.{command, expr};
 ghost use Rattle.sf_parse.specs.Internal.Heads.{IsFlat, command_next};
 ghost use Rattle.sf_parse.specs.Internal.Machine as m;
-ghost use Rattle.sf_parse.specs.Nesting.{CommandWithin, CommandsWithin, Follows};
+ghost use Rattle.sf_parse.specs.Nearest.{CommandNearest, CommandsNearest, Follows};
+ghost use Rattle.sf_parse.specs.Nesting.{CommandWithin, CommandsWithin};
 ghost use Rattle.sf_parse.specs.Leaf.{leaves};
 ghost use Rattle.sf_parse.specs.Internal.Parser.{FailsAt, Accepts};
 ghost use Rattle.std.specs.Option.{option_map};
@@ -157,6 +158,7 @@ fn if_command(
     requires { 0 < depth }
     ensures spelled { IfOk result (λ r.
         k.If place ∷ leaves tokens.now ≡ command (command_of r.0) (leaves r.1.now)) }
+    ensures nearest { IfOk result (λ r. CommandNearest (command_of r.0)) }
     ensures within { IfOk result (λ r. CommandWithin (command_of r.0) 0 depth (leaves r.1.now)) }
     ensures follows { IfOk result (λ r. Follows (command_of r.0) (leaves r.1.now)) }
     ensures taken { IfOk result (λ r. Accepts (m.if_predicted depth) tokens.now r.1.now) }
@@ -183,6 +185,7 @@ fn while_command(
     requires { 0 < depth }
     ensures spelled { IfOk result (λ r.
         k.While place ∷ leaves tokens.now ≡ command (command_of r.0) (leaves r.1.now)) }
+    ensures nearest { IfOk result (λ r. CommandNearest (command_of r.0)) }
     ensures within { IfOk result (λ r. CommandWithin (command_of r.0) 0 depth (leaves r.1.now)) }
     ensures follows { IfOk result (λ r. Follows (command_of r.0) (leaves r.1.now)) }
     ensures taken { IfOk result (λ r. Accepts (m.while_predicted depth) tokens.now r.1.now) }
@@ -206,6 +209,7 @@ fn with_command(
     requires { 0 < depth }
     ensures spelled { IfOk result (λ r.
         k.With place ∷ leaves tokens.now ≡ command (command_of r.0) (leaves r.1.now)) }
+    ensures nearest { IfOk result (λ r. CommandNearest (command_of r.0)) }
     ensures within { IfOk result (λ r. CommandWithin (command_of r.0) 0 depth (leaves r.1.now)) }
     ensures follows { IfOk result (λ r. Follows (command_of r.0) (leaves r.1.now)) }
     ensures taken { IfOk result (λ r. Accepts (m.with_predicted depth) tokens.now r.1.now) }
@@ -230,6 +234,7 @@ fn block(
     requires { 0 < depth }
     ensures spelled { IfOk result (λ r.
         k.OpenBrace place ∷ leaves tokens.now ≡ command (command_of r.0) (leaves r.1.now)) }
+    ensures nearest { IfOk result (λ r. CommandNearest (command_of r.0)) }
     ensures within { IfOk result (λ r. CommandWithin (command_of r.0) 0 depth (leaves r.1.now)) }
     ensures follows { IfOk result (λ r. Follows (command_of r.0) (leaves r.1.now)) }
     ensures taken { IfOk result (λ r.
@@ -252,6 +257,7 @@ fn command(
 ) -> Result<(SurfaceCommand, &[Token]), Stop>
     ensures spelled { IfOk result (λ r.
         leaves tokens.now ≡ command (command_of r.0) (leaves r.1.now)) }
+    ensures nearest { IfOk result (λ r. CommandNearest (command_of r.0)) }
     ensures within { IfOk result (λ r. CommandWithin (command_of r.0) 0 depth (leaves r.1.now)) }
     ensures follows { IfOk result (λ r. Follows (command_of r.0) (leaves r.1.now)) }
     ensures taken { IfOk result (λ r. Accepts (m.command depth ∷ []) tokens.now r.1.now) }
@@ -294,6 +300,8 @@ pub fn commands(
 ) -> Result<(Vec<SurfaceCommand>, &[Token]), Stop>
     ensures spelled { IfOk result (λ r. leaves tokens.now
         ≡ g.commands (commands (map command_of r.0.items)) (leaves r.1.now)) }
+    ensures nearest { IfOk result (λ r.
+        CommandsNearest (commands (map command_of r.0.items))) }
     ensures within { IfOk result (λ r.
         CommandsWithin (commands (map command_of r.0.items)) 0 depth (leaves r.1.now)) }
     ensures ended { IfOk result (λ r. command_next (leaves r.1.now) ≡ false) }

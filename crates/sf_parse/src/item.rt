@@ -6,11 +6,12 @@ ghost use Rattle.sf_ast.specs.Surface as s;
 ghost use Rattle.sf_ast.specs.View.{item_of, names_of, annotation_of, parameters_of};
 ghost use Rattle.sf_base.specs.declared.limits.TheConstants.{NESTING};
 ghost use Rattle.sf_parse.specs.Leaf as k;
-ghost use Rattle.sf_parse.specs.Internal.Bodies.{BodyWithin, body, procedure_with};
+ghost use Rattle.sf_parse.specs.Internal.Bodies.{BodyNearest, BodyWithin, body, procedure_with};
 ghost use Rattle.sf_parse.specs.Grammar as g;
 ghost use Rattle.sf_parse.specs.Grammar.{item};
 ghost use Rattle.sf_parse.specs.Internal.Machine as m;
 ghost use Rattle.sf_parse.specs.Internal.Machine.{Predicted, verdict};
+ghost use Rattle.sf_parse.specs.Nearest.{IsNearest, ItemNearest};
 ghost use Rattle.sf_parse.specs.Nesting.{ItemWithin, ItemsWithin};
 ghost use Rattle.sf_parse.specs.Leaf.{leaves};
 ghost use Rattle.sf_parse.specs.Internal.Parser.{FailsAt, Accepts};
@@ -66,6 +67,7 @@ fn locals(alloc: Global, tokens: &[Token]) -> Result<(Vec<SurfaceNames>, &[Token
 /// A procedure's body.
 fn procedure_body(alloc: Global, tokens: &[Token]) -> Result<(Body, &[Token]), Stop>
     ensures spelled { IfOk result (λ r. leaves tokens.now ≡ body r.0 (leaves r.1.now)) }
+    ensures nearest { IfOk result (λ r. BodyNearest r.0) }
     ensures within { IfOk result (λ r. BodyWithin r.0 (leaves r.1.now)) }
     ensures taken { IfOk result (λ r.
         Accepts (m.exact m.open_brace ∷ m.locals ∷ m.commands NESTING ∷ m.exact m.close_brace
@@ -118,6 +120,7 @@ fn procedure_of(
 fn procedure(alloc: Global, first: Word, tokens: &[Token]) -> Result<(Item, &[Token]), Stop>
     ensures spelled { IfOk result (λ r. k.Name first ∷ k.OpenRound ∷ leaves tokens.now
         ≡ item (item_of r.0) (leaves r.1.now)) }
+    ensures nearest { IfOk result (λ r. ItemNearest (item_of r.0)) }
     ensures within { IfOk result (λ r. ItemWithin (item_of r.0) 0 (leaves r.1.now)) }
     ensures taken { IfOk result (λ r. Accepts m.procedure_predicted tokens.now r.1.now) }
     ensures fault { IfErr result (λ e. FailsAt e m.procedure_predicted tokens.now) }
@@ -134,6 +137,7 @@ fn procedure(alloc: Global, first: Word, tokens: &[Token]) -> Result<(Item, &[To
 fn fields(alloc: Global, first: Word, tokens: &[Token]) -> Result<(Item, &[Token]), Stop>
     ensures spelled { IfOk result (λ r.
         k.Name first ∷ leaves tokens.now ≡ item (item_of r.0) (leaves r.1.now)) }
+    ensures nearest { IfOk result (λ r. ItemNearest (item_of r.0)) }
     ensures within { IfOk result (λ r. ItemWithin (item_of r.0) 0 (leaves r.1.now)) }
     ensures taken { IfOk result (λ r.
         Accepts (m.more_names ∷ m.exact m.semicolon ∷ []) tokens.now r.1.now) }
@@ -149,6 +153,7 @@ fn fields(alloc: Global, first: Word, tokens: &[Token]) -> Result<(Item, &[Token
 fn resource(alloc: Global, place: Place, tokens: &[Token]) -> Result<(Item, &[Token]), Stop>
     ensures spelled { IfOk result (λ r.
         k.Resource place ∷ leaves tokens.now ≡ item (item_of r.0) (leaves r.1.now)) }
+    ensures nearest { IfOk result (λ r. ItemNearest (item_of r.0)) }
     ensures within { IfOk result (λ r. ItemWithin (item_of r.0) 0 (leaves r.1.now)) }
     ensures taken { IfOk result (λ r. Accepts m.resource_predicted tokens.now r.1.now) }
     ensures fault { IfErr result (λ e. FailsAt e m.resource_predicted tokens.now) }
@@ -174,6 +179,7 @@ fn resource(alloc: Global, place: Place, tokens: &[Token]) -> Result<(Item, &[To
 fn named_item(alloc: Global, first: Word, tokens: &[Token]) -> Result<(Item, &[Token]), Stop>
     ensures spelled { IfOk result (λ r.
         k.Name first ∷ leaves tokens.now ≡ item (item_of r.0) (leaves r.1.now)) }
+    ensures nearest { IfOk result (λ r. ItemNearest (item_of r.0)) }
     ensures within { IfOk result (λ r. ItemWithin (item_of r.0) 0 (leaves r.1.now)) }
     ensures taken { IfOk result (λ r. Accepts (m.item_named ∷ []) tokens.now r.1.now) }
     ensures fault { IfErr result (λ e. FailsAt e (m.item_named ∷ []) tokens.now) }
@@ -189,6 +195,7 @@ fn named_item(alloc: Global, first: Word, tokens: &[Token]) -> Result<(Item, &[T
 fn item(alloc: Global, tokens: &[Token]) -> Result<(Item, &[Token]), Stop>
     requires { 0 < length tokens.now }
     ensures spelled { IfOk result (λ r. leaves tokens.now ≡ item (item_of r.0) (leaves r.1.now)) }
+    ensures nearest { IfOk result (λ r. ItemNearest (item_of r.0)) }
     ensures within { IfOk result (λ r. ItemWithin (item_of r.0) 0 (leaves r.1.now)) }
     ensures taken { IfOk result (λ r. (st : List Predicted)
         → verdict 0 (leaves tokens.now) (m.items ∷ st)
@@ -208,6 +215,7 @@ fn item(alloc: Global, tokens: &[Token]) -> Result<(Item, &[Token]), Stop>
 pub fn items(alloc: Global, tokens: &[Token]) -> Result<Vec<Item>, Stop>
     ensures spelled { IfOk result (λ found.
         leaves tokens.now ≡ g.items (map item_of found.items) []) }
+    ensures nearest { IfOk result (λ found. IsNearest (map item_of found.items)) }
     ensures within { IfOk result (λ found. ItemsWithin (map item_of found.items) 0 []) }
     ensures fault { IfErr result (λ e. FailsAt e (m.items ∷ []) tokens.now) }
 {

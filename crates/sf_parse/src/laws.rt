@@ -1,7 +1,7 @@
 //! Laws of reading a file. Each function does nothing; its contract is the law.
 
 ghost use Rattle.sf_parse.specs.Laws.{AnswerIsUnique, EachFileIsOne, EachFileIsShallow};
-ghost use Rattle.sf_parse.specs.Laws.{LevelsAreDepths, ShallowTreesAreWithin, TheVerdictIsExact};
+ghost use Rattle.sf_parse.specs.Laws.{ShallowTreesAreWithin, TheVerdictIsExact};
 
 /// What is predicted decides exactly as the grammar does: which tokens are a file, and where the
 /// others go wrong.
@@ -22,17 +22,10 @@ pub fn each_file_is_shallow()
     ensures { EachFileIsShallow }
 {}
 
-/// A tree is within the limit, with some last tokens free of it, exactly where each `else` and each
-/// branch of an assertion has its place and nothing that begins before these is nested deeper.
+/// With no token free of the limit, a tree is within it exactly where its depth is.
 #[tactic(auto, using(crate::proofs::Closing::shallow_trees_are_within))]
 pub fn shallow_trees_are_within()
     ensures { ShallowTreesAreWithin }
-{}
-
-/// With no token free of the limit, levels are the depth of the tree.
-#[tactic(auto, using(crate::proofs::Closing::levels_are_depths))]
-pub fn levels_are_depths()
-    ensures { LevelsAreDepths }
 {}
 
 /// Tokens have one answer: they are a file, or they have a fault, and one alone.

@@ -14,7 +14,7 @@ pub more_names_longer : (xs : List Word) (r : List Leaf) → length r ≤ length
 more_names_longer [] r = omega arith
 more_names_longer (x ∷ xs) r = omega (arith, more_names_longer xs r)
 
-maybe_names_longer : (xs : List Word) (r : List Leaf) → length r ≤ length (g.maybe_names xs r)
+pub maybe_names_longer : (xs : List Word) (r : List Leaf) → length r ≤ length (g.maybe_names xs r)
 maybe_names_longer [] r = omega arith
 maybe_names_longer (x ∷ xs) r = omega (arith, more_names_longer xs r)
 
@@ -33,7 +33,7 @@ arguments_longer (s.both ns xs) r = omega (arith, maybe_names_longer ns (k.Semic
 call_longer : (c : s.Call) (r : List Leaf) → length r < length (g.call c r)
 call_longer c r = omega (arith, arguments_longer c.arguments (k.CloseRound ∷ r))
 
-annotation_longer : (x : s.Note) (r : List Leaf) → length r < length (g.annotation x r)
+pub annotation_longer : (x : s.Note) (r : List Leaf) → length r < length (g.annotation x r)
 annotation_longer s.blank r = omega arith
 annotation_longer (s.filled a) r = omega (arith, assertion_longer a (k.CloseSquare ∷ r))
 
@@ -57,7 +57,7 @@ mutual
   command_longer (s.fork c d) r = omega (arith, call_longer c (k.Bars ∷ g.call d (k.Semicolon ∷ r)), call_longer d (k.Semicolon ∷ r))
   command_longer (s.block p cs o) r = omega (arith, commands_longer cs (k.CloseBrace o ∷ r))
 
-  commands_longer : (cs : s.Commands) (r : List Leaf) → length r ≤ length (g.commands cs r)
+  pub commands_longer : (cs : s.Commands) (r : List Leaf) → length r ≤ length (g.commands cs r)
   commands_longer s.done r = omega arith
   commands_longer (s.then c cs) r = omega (arith, command_longer c (g.commands cs r), commands_longer cs r)
 
@@ -65,11 +65,11 @@ mutual
 pub fewer_behind_command : (c : s.Command) (ts r : List Token) → leaves ts ≡ g.command c (leaves r) → length r < length ts
 fewer_behind_command c ts r h = fewer r ts (rw h (command_longer c (leaves r)))
 
-locals_longer : (ls : List s.Names) (r : List Leaf) → length r ≤ length (g.locals ls r)
+pub locals_longer : (ls : List s.Names) (r : List Leaf) → length r ≤ length (g.locals ls r)
 locals_longer [] r = omega arith
 locals_longer (x ∷ ls) r = omega (arith, more_names_longer x.more (k.Semicolon ∷ g.locals ls r), locals_longer ls r)
 
-parameters_longer : (ps : s.Parameters) (r : List Leaf) → length r ≤ length (g.parameters ps r)
+pub parameters_longer : (ps : s.Parameters) (r : List Leaf) → length r ≤ length (g.parameters ps r)
 parameters_longer (s.only_values xs) r = maybe_names_longer xs r
 parameters_longer (s.references_and_values xs ys) r = omega (arith, maybe_names_longer xs (k.Semicolon ∷ g.maybe_names ys r), maybe_names_longer ys r)
 
@@ -84,7 +84,7 @@ procedure_longer f r =
       maybe_annotation_longer f.post r,
     )
 
-item_longer : (i : s.Item) (r : List Leaf) → length r < length (g.item i r)
+pub item_longer : (i : s.Item) (r : List Leaf) → length r < length (g.item i r)
 item_longer (s.fields ns) r = omega (arith, more_names_longer ns.more (k.Semicolon ∷ r))
 item_longer (s.resource x) r = omega (arith, maybe_names_longer x.variables (k.CloseRound ∷ g.annotation x.invariant r), annotation_longer x.invariant r)
 item_longer (s.procedure f) r = procedure_longer f r

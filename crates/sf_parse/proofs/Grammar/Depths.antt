@@ -1,6 +1,6 @@
--- What is read so that each `else` belongs to the nearest `if` is within the limit exactly where what begins in the prefix is no
--- deeper; and the levels of a whole file are its depth.
-use Rattle.std.proofs.Common.{◌≡◌, ◌≤◌, ◌<◌, ◌+◌, ◌-◌, ◌∙◌, ℕ, zero, suc, List, [], ◌∷◌, length, Bool, true, false, nat_le, if◌then◌else◌, Option, Some, None, max, refl, ap, ap₂, sym, subst, arith}
+-- A tree is within the limit where it is no deeper, and where it has no more tokens than are free of the limit; and with no
+-- token free, what is within the limit is no deeper.
+use Rattle.std.proofs.Common.{◌≤◌, ◌<◌, ◌+◌, ◌-◌, ℕ, zero, suc, List, [], ◌∷◌, length, Option, Some, None, max, arith}
 use Rattle.std.proofs.lemmas.Bool.Decides.{nat_tests}
 use Rattle.std.proofs.Math.Nat.{max-le}
 use Rattle.sf_base.proofs.Numbers.{max-left, max-right}
@@ -9,333 +9,217 @@ use Rattle.sf_ast.specs.Depth.{conjunct_depth, assertion_depth, annotation_depth
 use Rattle.sf_ast.specs.Surface as s
 use Rattle.sf_parse.specs.Leaf.{Leaf}
 use Rattle.sf_parse.specs.Leaf as k
-use Rattle.sf_parse.specs.Depths.{levels, conjunct_levels, conjuncts_levels, assertion_levels, annotation_levels, maybe_levels, inner_levels, commands_levels, command_levels, invariant_levels, invariants_levels, item_levels, items_levels}
 use Rattle.sf_parse.specs.Grammar as g
-use Rattle.sf_parse.specs.Nearest.{ConjunctNearest, AssertionNearest, NoteNearest, MaybeNearest, CommandNearest, CommandsNearest, ItemNearest, IsNearest}
 use Rattle.sf_parse.specs.Nesting.{HasLevel, ConjunctWithin, AssertionWithin, RestWithin, NoteWithin, MaybeWithin, CommandWithin, CommandsWithin, ItemWithin, ItemsWithin}
-use Rattle.sf_parse.proofs.Grammar.CommandsLonger.{command_longer, maybe_annotation_longer}
+use Rattle.sf_parse.proofs.Grammar.CommandsLonger.{command_longer, commands_longer, maybe_names_longer, maybe_annotation_longer, locals_longer, parameters_longer, item_longer}
 use Rattle.sf_parse.proofs.Grammar.Longer.{test_longer, conjunct_longer, assertion_longer}
+use Rattle.sf_parse.proofs.Machine.HasLevel.{level_in, some_level}
 
--- what has a level, and below it no more than are left, is no deeper than the levels
-level_up : (n left below d : ℕ) → HasLevel n left d → below ≤ d - 1 → levels n left below ≤ d
-level_up n left below zero h b = subst (λ (t : Bool). (if t then 0 else 1 + below) ≤ 0) (sym h) (omega arith)
-level_up n left below (suc d) h b = go (nat_le left n)
-  where
-    go : (t : Bool) → (if t then 0 else 1 + below) ≤ suc d
-    go true = omega arith
-    go false = omega arith
+-- so many tokens are free of the limit, or it is no deeper than d
+pub data Fits (n left d depth : ℕ) : Type 0 where
+  free : left ≤ n → Fits n left d depth
+  shallow : depth ≤ d → Fits n left d depth
 
--- what is no deeper has a level
-level_down : (n left below d : ℕ) → levels n left below ≤ d → HasLevel n left d
-level_down n left below zero h = go (nat_le left n) refl h
-  where
-    go : (t : Bool) → nat_le left n ≡ t → (if t then 0 else 1 + below) ≤ 0 → nat_le left n ≡ true
-    go true e h = e
-    go false e h = absurd (omega arith)
-level_down n left below (suc d) h = refl
+-- so is a part of it
+part : {n left d depth : ℕ} (less e under : ℕ) → Fits n left d depth → less ≤ left → (depth ≤ d → under ≤ e) → Fits n less e under
+part less e under (free h) le f = free (omega arith)
+part less e under (shallow h) le f = shallow (f h)
 
-le_of : (a b : ℕ) → nat_le a b ≡ true → a ≤ b
-le_of a b e = grind (arith, nat_tests)
+level : {n left d : ℕ} (depth : ℕ) → Fits n left d (1 + depth) → HasLevel n left d
+level {n} {left} {d} depth (free h) = level_in n left d h
+level {n} {left} {d} depth (shallow h) = some_level n left d (omega arith)
 
--- and below it no more than are left, where there is nothing below what begins after the prefix
-below_down : (n left below d : ℕ) → (left ≤ n → below ≤ 0) → levels n left below ≤ d → below ≤ d - 1
-below_down n left below d free h = go (nat_le left n) refl h
-  where
-    go : (t : Bool) → nat_le left n ≡ t → (if t then 0 else 1 + below) ≤ d → below ≤ d - 1
-    go true e h = omega (arith, free (le_of left n e))
-    go false e h = omega arith
-
--- what begins after the prefix has no level
-level_free : (n left below : ℕ) → left ≤ n → levels n left below ≤ 0
-level_free n left below h =
-    let e : nat_le left n ≡ true = grind (arith, nat_tests) in
-    subst (λ (t : Bool). (if t then 0 else 1 + below) ≤ 0) (sym e) (omega arith)
-
-conjunct_free : (c : s.Conjunct) (n : ℕ) (r : List Leaf) → length (g.conjunct c r) ≤ n → conjunct_levels c n r ≤ 0
-conjunct_free (s.group a) n r h = level_free n (length (g.assertion a (k.CloseRound ∷ r))) _ (omega arith)
-conjunct_free (s.choose p b x y) n r h =
-    max-le (level_free n (length (g.assertion x (k.Else ∷ g.assertion y r))) _ (omega (arith, test_longer g.operand b (k.Then ∷ g.assertion x (k.Else ∷ g.assertion y r)))))
-    (level_free n (length (g.assertion y r)) _ (omega (arith, test_longer g.operand b (k.Then ∷ g.assertion x (k.Else ∷ g.assertion y r)), assertion_longer x (k.Else ∷ g.assertion y r))))
-conjunct_free (s.choose_round p b x y) n r h =
-    max-le (level_free n (length (g.assertion x (k.Else ∷ g.assertion y r))) _ (omega (arith, test_longer g.operand b (k.CloseRound ∷ k.Then ∷ g.assertion x (k.Else ∷ g.assertion y r)))))
-    (level_free n (length (g.assertion y r)) _ (omega (arith, test_longer g.operand b (k.CloseRound ∷ k.Then ∷ g.assertion x (k.Else ∷ g.assertion y r)), assertion_longer x (k.Else ∷ g.assertion y r))))
-conjunct_free _ n r h = omega arith
-
-conjuncts_free : (a : s.Assertion) (n : ℕ) (r : List Leaf) → length (g.assertion a r) ≤ n → conjuncts_levels a n r ≤ 0
-conjuncts_free (s.only c) n r h = conjunct_free c n r h
-conjuncts_free (s.star c a) n r h = max-le (conjunct_free c n (k.Star ∷ g.assertion a r) h) (conjuncts_free a n r (omega (arith, conjunct_longer c (k.Star ∷ g.assertion a r))))
-
-commands_free : (cs : s.Commands) (n : ℕ) (r : List Leaf) → length (g.commands cs r) ≤ n → commands_levels cs n r ≤ 0
-commands_free s.done n r h = omega arith
-commands_free (s.then c cs) n r h = max-le (level_free n (length (g.command c (g.commands cs r))) _ h) (commands_free cs n r (omega (arith, command_longer c (g.commands cs r))))
-
-inner_free : (c : s.Command) (n : ℕ) (r : List Leaf) → length (g.command c r) ≤ n → inner_levels c n r ≤ 0
-inner_free (s.if_alone p b c) n r h = level_free n (length (g.command c r)) _ (omega (arith, test_longer g.expr b (k.CloseRound ∷ g.command c r)))
-inner_free (s.if p b c e) n r h =
-    max-le (level_free n (length (g.command c (k.Else ∷ g.command e r))) _ (omega (arith, test_longer g.expr b (k.CloseRound ∷ g.command c (k.Else ∷ g.command e r)))))
-    (level_free n (length (g.command e r)) _ (omega (arith, test_longer g.expr b (k.CloseRound ∷ g.command c (k.Else ∷ g.command e r)), command_longer c (k.Else ∷ g.command e r))))
-inner_free (s.while p b x c) n r h =
-    level_free n (length (g.command c r)) _ (omega (arith, test_longer g.expr b (k.CloseRound ∷ g.maybe_annotation x (g.command c r)), maybe_annotation_longer x (g.command c r)))
-inner_free (s.with p x b c) n r h = level_free n (length (g.command c r)) _ (omega (arith, test_longer g.expr b (k.CloseRound ∷ g.command c r)))
-inner_free (s.block p cs o) n r h = commands_free cs n (k.CloseBrace o ∷ r) (omega arith)
-inner_free _ n r h = omega arith
+behind_star : (c : s.Conjunct) (a : s.Assertion) (n d : ℕ) (r : List Leaf) → Fits n (length (g.assertion (s.star c a) r)) d (assertion_depth (s.star c a)) → Fits n (length (g.assertion a r)) d (assertion_depth a)
+behind_star c a n d r h = part _ d (assertion_depth a) h (omega (arith, conjunct_longer c (k.Star ∷ g.assertion a r))) (λ e. max-right (1 + conjunct_depth c) _ d e)
 
 mutual
-  -- what is within the limit is no deeper
-  conjunct_within : (c : s.Conjunct) (n d : ℕ) (r : List Leaf) → ConjunctWithin c n d r → conjunct_levels c n r ≤ d - 1
-  conjunct_within (s.group a) n d r w = assertion_within a n (d - 1) (k.CloseRound ∷ r) w
-  conjunct_within (s.choose p b x y) n d r w = max-le (assertion_within x n (d - 1) (k.Else ∷ g.assertion y r) w.0) (assertion_within y n (d - 1) r w.1)
-  conjunct_within (s.choose_round p b x y) n d r w = max-le (assertion_within x n (d - 1) (k.Else ∷ g.assertion y r) w.0) (assertion_within y n (d - 1) r w.1)
-  conjunct_within _ n d r w = omega arith
+  conjunct_fits : (c : s.Conjunct) (n d : ℕ) (r : List Leaf) → Fits n (length (g.conjunct c r)) (d - 1) (conjunct_depth c) → ConjunctWithin c n d r
+  conjunct_fits (s.group a) n d r h = assertion_fits a n (d - 1) (k.CloseRound ∷ r) (part _ (d - 1) (assertion_depth a) h (omega arith) (λ e. e))
+  conjunct_fits (s.choose p b x y) n d r h =
+      let test = test_longer g.operand b (k.Then ∷ g.assertion x (k.Else ∷ g.assertion y r)) in (
+        assertion_fits x n (d - 1) (k.Else ∷ g.assertion y r) (part _ (d - 1) (assertion_depth x) h (omega (arith, test)) (λ e. max-left _ (assertion_depth y) (d - 1) e)),
+        assertion_fits y n (d - 1) r (part _ (d - 1) (assertion_depth y) h (omega (arith, test, assertion_longer x (k.Else ∷ g.assertion y r))) (λ e. max-right (assertion_depth x) _ (d - 1) e)),
+      )
+  conjunct_fits (s.choose_round p b x y) n d r h =
+      let test = test_longer g.operand b (k.CloseRound ∷ k.Then ∷ g.assertion x (k.Else ∷ g.assertion y r)) in (
+        assertion_fits x n (d - 1) (k.Else ∷ g.assertion y r) (part _ (d - 1) (assertion_depth x) h (omega (arith, test)) (λ e. max-left _ (assertion_depth y) (d - 1) e)),
+        assertion_fits y n (d - 1) r (part _ (d - 1) (assertion_depth y) h (omega (arith, test, assertion_longer x (k.Else ∷ g.assertion y r))) (λ e. max-right (assertion_depth x) _ (d - 1) e)),
+      )
+  conjunct_fits _ n d r h = tt
 
-  assertion_within : (a : s.Assertion) (n d : ℕ) (r : List Leaf) → AssertionWithin a n d r → assertion_levels a n r ≤ d
-  assertion_within (s.only c) n d r w = level_up n (length (g.conjunct c r)) _ d w.0 (conjunct_within c n d r w.1)
-  assertion_within (s.star c a) n d r w =
-      level_up n (length (g.conjunct c (k.Star ∷ g.assertion a r))) _ d w.0 (max-le (conjunct_within c n d (k.Star ∷ g.assertion a r) w.1) (rest_within a n d r w.3))
+  assertion_fits : (a : s.Assertion) (n d : ℕ) (r : List Leaf) → Fits n (length (g.assertion a r)) d (assertion_depth a) → AssertionWithin a n d r
+  assertion_fits (s.only c) n d r h = (level (conjunct_depth c) h, conjunct_fits c n d r (part _ (d - 1) (conjunct_depth c) h (omega arith) (λ e. omega arith)))
+  assertion_fits (s.star c a) n d r h =
+      let first = part (length (g.conjunct c (k.Star ∷ g.assertion a r))) d (1 + conjunct_depth c) h (omega arith) (λ e. max-left _ (assertion_depth a) d e) in
+      (level (conjunct_depth c) first, conjunct_fits c n d (k.Star ∷ g.assertion a r) (part _ (d - 1) (conjunct_depth c) first (omega arith) (λ e. omega arith)), rest_fits a n d r (behind_star c a n d r h))
 
-  rest_within : (a : s.Assertion) (n d : ℕ) (r : List Leaf) → RestWithin a n d r → conjuncts_levels a n r ≤ d - 1
-  rest_within (s.only c) n d r w = conjunct_within c n d r w
-  rest_within (s.star c a) n d r w = max-le (conjunct_within c n d (k.Star ∷ g.assertion a r) w.0) (rest_within a n d r w.2)
+  rest_fits : (a : s.Assertion) (n d : ℕ) (r : List Leaf) → Fits n (length (g.assertion a r)) d (assertion_depth a) → RestWithin a n d r
+  rest_fits (s.only c) n d r h = conjunct_fits c n d r (part _ (d - 1) (conjunct_depth c) h (omega arith) (λ e. omega arith))
+  rest_fits (s.star c a) n d r h =
+      let first = part (length (g.conjunct c (k.Star ∷ g.assertion a r))) d (1 + conjunct_depth c) h (omega arith) (λ e. max-left _ (assertion_depth a) d e) in
+      (conjunct_fits c n d (k.Star ∷ g.assertion a r) (part _ (d - 1) (conjunct_depth c) first (omega arith) (λ e. omega arith)), rest_fits a n d r (behind_star c a n d r h))
 
-annotation_within : (x : s.Note) (n : ℕ) (r : List Leaf) → NoteWithin x n r → annotation_levels x n r ≤ NESTING
-annotation_within s.blank n r w = omega arith
-annotation_within (s.filled a) n r w = assertion_within a n NESTING (k.CloseSquare ∷ r) w
+annotation_fits : (x : s.Note) (n : ℕ) (r : List Leaf) → Fits n (length (g.annotation x r)) NESTING (annotation_depth x) → NoteWithin x n r
+annotation_fits s.blank n r h = tt
+annotation_fits (s.filled a) n r h = assertion_fits a n NESTING (k.CloseSquare ∷ r) (part _ NESTING (assertion_depth a) h (omega arith) (λ e. e))
 
-maybe_within : (x : Option s.Note) (n : ℕ) (r : List Leaf) → MaybeWithin x n r → maybe_levels x n r ≤ NESTING
-maybe_within None n r w = omega arith
-maybe_within (Some x) n r w = annotation_within x n r w
+maybe_fits : (x : Option s.Note) (n : ℕ) (r : List Leaf) → Fits n (length (g.maybe_annotation x r)) NESTING (maybe_depth x) → MaybeWithin x n r
+maybe_fits None n r h = tt
+maybe_fits (Some x) n r h = annotation_fits x n r h
 
-has_level_of : (c : s.Command) (n d : ℕ) (r : List Leaf) → CommandWithin c n d r → HasLevel n (length (g.command c r)) d
-has_level_of (s.if_alone p b c) n d r w = w.0
-has_level_of (s.if p b c e) n d r w = w.0
-has_level_of (s.while p b x c) n d r w = w.0
-has_level_of (s.with p x b c) n d r w = w.0
-has_level_of (s.block p cs o) n d r w = w.0
-has_level_of _ n d r w = w
-
-above : (c : s.Command) (n d : ℕ) (r : List Leaf) → CommandWithin c n d r → inner_levels c n r ≤ d - 1 → command_levels c n r ≤ d
-above c n d r w i = level_up n (length (g.command c r)) (inner_levels c n r) d (has_level_of c n d r w) i
-
-mutual
-  inner_within : (c : s.Command) (n d : ℕ) (r : List Leaf) → CommandWithin c n d r → inner_levels c n r ≤ d - 1
-  inner_within (s.if_alone p b c) n d r w = above c n (d - 1) r w.1 (inner_within c n (d - 1) r w.1)
-  inner_within (s.if p b c e) n d r w =
-      max-le (above c n (d - 1) (k.Else ∷ g.command e r) w.1 (inner_within c n (d - 1) (k.Else ∷ g.command e r) w.1)) (above e n (d - 1) r w.2 (inner_within e n (d - 1) r w.2))
-  inner_within (s.while p b x c) n d r w = above c n (d - 1) r w.2 (inner_within c n (d - 1) r w.2)
-  inner_within (s.with p x b c) n d r w = above c n (d - 1) r w.1 (inner_within c n (d - 1) r w.1)
-  inner_within (s.block p cs o) n d r w = commands_within cs n (d - 1) (k.CloseBrace o ∷ r) w.1
-  inner_within _ n d r w = omega arith
-
-  commands_within : (cs : s.Commands) (n d : ℕ) (r : List Leaf) → CommandsWithin cs n d r → commands_levels cs n r ≤ d
-  commands_within s.done n d r w = omega arith
-  commands_within (s.then c cs) n d r w = max-le (above c n d (g.commands cs r) w.0 (inner_within c n d (g.commands cs r) w.0)) (commands_within cs n d r w.1)
+-- a command's levels, and those of the invariants in it
+abbrev FitBoth : (n left d depth below : ℕ) → Type 0
+FitBoth n left d depth below = Fits n left d depth × Fits n left NESTING below
 
 mutual
-  -- nor are the invariants in commands
-  invariant_within : (c : s.Command) (n d : ℕ) (r : List Leaf) → CommandWithin c n d r → invariant_levels c n r ≤ NESTING
-  invariant_within (s.if_alone p b c) n d r w = invariant_within c n (d - 1) r w.1
-  invariant_within (s.if p b c e) n d r w = max-le (invariant_within c n (d - 1) (k.Else ∷ g.command e r) w.1) (invariant_within e n (d - 1) r w.2)
-  invariant_within (s.while p b x c) n d r w = max-le (maybe_within x n (g.command c r) w.1) (invariant_within c n (d - 1) r w.2)
-  invariant_within (s.with p x b c) n d r w = invariant_within c n (d - 1) r w.1
-  invariant_within (s.block p cs o) n d r w = invariants_within cs n (d - 1) (k.CloseBrace o ∷ r) w.1
-  invariant_within _ n d r w = omega arith
+  command_fits : (c : s.Command) (n d : ℕ) (r : List Leaf) → FitBoth n (length (g.command c r)) d (command_depth c) (invariant_depth c) → CommandWithin c n d r
+  command_fits (s.if_alone p b c) n d r h =
+      let test = test_longer g.expr b (k.CloseRound ∷ g.command c r) in
+      (level (command_depth c) h.0, command_fits c n (d - 1) r (part _ (d - 1) (command_depth c) h.0 (omega (arith, test)) (λ e. omega arith), part _ NESTING (invariant_depth c) h.1 (omega (arith, test)) (λ e. e)))
+  command_fits (s.if p b c x) n d r h =
+      let test = test_longer g.expr b (k.CloseRound ∷ g.command c (k.Else ∷ g.command x r)) in
+      let below : (e : 1 + max (command_depth c) (command_depth x) ≤ d) → max (command_depth c) (command_depth x) ≤ d - 1 = λ e. omega arith in
+      let longer = command_longer c (k.Else ∷ g.command x r) in (
+        level (max (command_depth c) (command_depth x)) h.0,
+        command_fits c n (d - 1) (k.Else ∷ g.command x r) (
+          part _ (d - 1) (command_depth c) h.0 (omega (arith, test)) (λ e. max-left _ (command_depth x) (d - 1) (below e)),
+          part _ NESTING (invariant_depth c) h.1 (omega (arith, test)) (λ e. max-left _ (invariant_depth x) NESTING e),
+        ),
+        command_fits x n (d - 1) r (
+          part _ (d - 1) (command_depth x) h.0 (omega (arith, test, longer)) (λ e. max-right (command_depth c) _ (d - 1) (below e)),
+          part _ NESTING (invariant_depth x) h.1 (omega (arith, test, longer)) (λ e. max-right (invariant_depth c) _ NESTING e),
+        ),
+      )
+  command_fits (s.while p b x c) n d r h =
+      let test = test_longer g.expr b (k.CloseRound ∷ g.maybe_annotation x (g.command c r)) in
+      let longer = maybe_annotation_longer x (g.command c r) in (
+        level (command_depth c) h.0,
+        maybe_fits x n (g.command c r) (part _ NESTING (maybe_depth x) h.1 (omega (arith, test)) (λ e. max-left _ (invariant_depth c) NESTING e)),
+        command_fits c n (d - 1) r (
+          part _ (d - 1) (command_depth c) h.0 (omega (arith, test, longer)) (λ e. omega arith),
+          part _ NESTING (invariant_depth c) h.1 (omega (arith, test, longer)) (λ e. max-right (maybe_depth x) _ NESTING e),
+        ),
+      )
+  command_fits (s.with p x b c) n d r h =
+      let test = test_longer g.expr b (k.CloseRound ∷ g.command c r) in
+      (level (command_depth c) h.0, command_fits c n (d - 1) r (part _ (d - 1) (command_depth c) h.0 (omega (arith, test)) (λ e. omega arith), part _ NESTING (invariant_depth c) h.1 (omega (arith, test)) (λ e. e)))
+  command_fits (s.block p cs q) n d r h =
+      (level (commands_depth cs) h.0, commands_fits cs n (d - 1) (k.CloseBrace q ∷ r) (part _ (d - 1) (commands_depth cs) h.0 (omega arith) (λ e. omega arith), part _ NESTING (invariants_depth cs) h.1 (omega arith) (λ e. e)))
+  command_fits (s.assign x a) n d r h = level 0 h.0
+  command_fits _ n d r h = level 0 h.0
 
-  invariants_within : (cs : s.Commands) (n d : ℕ) (r : List Leaf) → CommandsWithin cs n d r → invariants_levels cs n r ≤ NESTING
-  invariants_within s.done n d r w = omega arith
-  invariants_within (s.then c cs) n d r w = max-le (invariant_within c n d (g.commands cs r) w.0) (invariants_within cs n d r w.1)
-
-item_within : (i : s.Item) (n : ℕ) (r : List Leaf) → ItemWithin i n r → item_levels i n r ≤ NESTING
-item_within (s.fields ns) n r w = omega arith
-item_within (s.resource x) n r w = annotation_within x.invariant n r w
-item_within (s.procedure f) n r w =
-    max-le (max-le (commands_within f.body n NESTING _ w.1) (invariants_within f.body n NESTING _ w.1)) (max-le (maybe_within f.pre n _ w.0) (maybe_within f.post n r w.2))
-
-pub levels_within : (is : List s.Item) (n : ℕ) (r : List Leaf) → ItemsWithin is n r → items_levels is n r ≤ NESTING
-levels_within [] n r w = omega arith
-levels_within (i ∷ is) n r w = max-le (item_within i n (g.items is r) w.0) (levels_within is n r w.1)
-
-mutual
-  -- what is read so and no deeper is within the limit
-  conjunct_shallow : (c : s.Conjunct) (n d : ℕ) (r : List Leaf) → ConjunctNearest c → conjunct_levels c n r ≤ d - 1 → ConjunctWithin c n d r
-  conjunct_shallow (s.group a) n d r m h = assertion_shallow a n (d - 1) (k.CloseRound ∷ r) m h
-  conjunct_shallow (s.choose p b x y) n d r m h = (
-    assertion_shallow x n (d - 1) (k.Else ∷ g.assertion y r) m.0 (max-left _ (assertion_levels y n r) (d - 1) h),
-    assertion_shallow y n (d - 1) r m.1 (max-right (assertion_levels x n (k.Else ∷ g.assertion y r)) _ (d - 1) h),
-  )
-  conjunct_shallow (s.choose_round p b x y) n d r m h = (
-    assertion_shallow x n (d - 1) (k.Else ∷ g.assertion y r) m.0 (max-left _ (assertion_levels y n r) (d - 1) h),
-    assertion_shallow y n (d - 1) r m.1 (max-right (assertion_levels x n (k.Else ∷ g.assertion y r)) _ (d - 1) h),
-  )
-  conjunct_shallow (s.emp p) n d r m h = tt
-  conjunct_shallow (s.equal x y) n d r m h = tt
-  conjunct_shallow (s.differ x y) n d r m h = tt
-  conjunct_shallow (s.points x fs) n d r m h = tt
-  conjunct_shallow (s.ls p x y) n d r m h = tt
-  conjunct_shallow (s.lseg p x y) n d r m h = tt
-  conjunct_shallow (s.list p x) n d r m h = tt
-  conjunct_shallow (s.tree p x) n d r m h = tt
-
-  assertion_shallow : (a : s.Assertion) (n d : ℕ) (r : List Leaf) → AssertionNearest a → assertion_levels a n r ≤ d → AssertionWithin a n d r
-  assertion_shallow (s.only c) n d r m h =
-      let left = length (g.conjunct c r) in
-      (level_down n left (conjunct_levels c n r) d h, conjunct_shallow c n d r m (below_down n left (conjunct_levels c n r) d (conjunct_free c n r) h))
-  assertion_shallow (s.star c a) n d r m h =
-      let left = length (g.conjunct c (k.Star ∷ g.assertion a r)) in
-      let under : max (conjunct_levels c n (k.Star ∷ g.assertion a r)) (conjuncts_levels a n r) ≤ d - 1 =
-      below_down n left (max (conjunct_levels c n (k.Star ∷ g.assertion a r)) (conjuncts_levels a n r)) d (conjuncts_free (s.star c a) n r) h in (
-        level_down n left (max (conjunct_levels c n (k.Star ∷ g.assertion a r)) (conjuncts_levels a n r)) d h,
-        conjunct_shallow c n d (k.Star ∷ g.assertion a r) m.0 (max-left _ (conjuncts_levels a n r) (d - 1) under),
-        m.1,
-        rest_shallow a n d r m.2 (max-right (conjunct_levels c n (k.Star ∷ g.assertion a r)) _ (d - 1) under),
+  commands_fits : (cs : s.Commands) (n d : ℕ) (r : List Leaf) → FitBoth n (length (g.commands cs r)) d (commands_depth cs) (invariants_depth cs) → CommandsWithin cs n d r
+  commands_fits s.done n d r h = tt
+  commands_fits (s.then c cs) n d r h =
+      let longer = command_longer c (g.commands cs r) in (
+        command_fits c n d (g.commands cs r) (part _ d (command_depth c) h.0 (omega arith) (λ e. max-left _ (commands_depth cs) d e), part _ NESTING (invariant_depth c) h.1 (omega arith) (λ e. max-left _ (invariants_depth cs) NESTING e)),
+        commands_fits cs n d r (part _ d (commands_depth cs) h.0 (omega (arith, longer)) (λ e. max-right (command_depth c) _ d e), part _ NESTING (invariants_depth cs) h.1 (omega (arith, longer)) (λ e. max-right (invariant_depth c) _ NESTING e)),
       )
 
-  rest_shallow : (a : s.Assertion) (n d : ℕ) (r : List Leaf) → AssertionNearest a → conjuncts_levels a n r ≤ d - 1 → RestWithin a n d r
-  rest_shallow (s.only c) n d r m h = conjunct_shallow c n d r m h
-  rest_shallow (s.star c a) n d r m h = (
-    conjunct_shallow c n d (k.Star ∷ g.assertion a r) m.0 (max-left _ (conjuncts_levels a n r) (d - 1) h),
-    m.1,
-    rest_shallow a n d r m.2 (max-right (conjunct_levels c n (k.Star ∷ g.assertion a r)) _ (d - 1) h),
-  )
-
-annotation_shallow : (x : s.Note) (n : ℕ) (r : List Leaf) → NoteNearest x → annotation_levels x n r ≤ NESTING → NoteWithin x n r
-annotation_shallow s.blank n r m h = tt
-annotation_shallow (s.filled a) n r m h = assertion_shallow a n NESTING (k.CloseSquare ∷ r) m h
-
-maybe_shallow : (x : Option s.Note) (n : ℕ) (r : List Leaf) → MaybeNearest x → maybe_levels x n r ≤ NESTING → MaybeWithin x n r
-maybe_shallow None n r m h = tt
-maybe_shallow (Some x) n r m h = annotation_shallow x n r m h
-
-first_level : (c : s.Command) (n d : ℕ) (r : List Leaf) → command_levels c n r ≤ d → HasLevel n (length (g.command c r)) d
-first_level c n d r h = level_down n (length (g.command c r)) (inner_levels c n r) d h
-
-under_it : (c : s.Command) (n d : ℕ) (r : List Leaf) → command_levels c n r ≤ d → inner_levels c n r ≤ d - 1
-under_it c n d r h = below_down n (length (g.command c r)) (inner_levels c n r) d (inner_free c n r) h
-
-mutual
-  command_shallow : (c : s.Command) (n d : ℕ) (r : List Leaf) → CommandNearest c → command_levels c n r ≤ d → invariant_levels c n r ≤ NESTING → CommandWithin c n d r
-  command_shallow (s.if_alone p b c) n d r m h i = (first_level (s.if_alone p b c) n d r h, command_shallow c n (d - 1) r m (under_it (s.if_alone p b c) n d r h) i)
-  command_shallow (s.if p b c e) n d r m h i =
-      let both : max (command_levels c n (k.Else ∷ g.command e r)) (command_levels e n r) ≤ d - 1 = under_it (s.if p b c e) n d r h in (
-        first_level (s.if p b c e) n d r h,
-        command_shallow c n (d - 1) (k.Else ∷ g.command e r) m.0 (max-left _ (command_levels e n r) (d - 1) both) (max-left _ (invariant_levels e n r) NESTING i),
-        command_shallow e n (d - 1) r m.1 (max-right (command_levels c n (k.Else ∷ g.command e r)) _ (d - 1) both) (max-right (invariant_levels c n (k.Else ∷ g.command e r)) _ NESTING i),
-        m.2,
-      )
-  command_shallow (s.while p b x c) n d r m h i = (
-    first_level (s.while p b x c) n d r h,
-    maybe_shallow x n (g.command c r) m.0 (max-left _ (invariant_levels c n r) NESTING i),
-    command_shallow c n (d - 1) r m.1 (under_it (s.while p b x c) n d r h) (max-right (maybe_levels x n (g.command c r)) _ NESTING i),
-  )
-  command_shallow (s.with p x b c) n d r m h i = (first_level (s.with p x b c) n d r h, command_shallow c n (d - 1) r m (under_it (s.with p x b c) n d r h) i)
-  command_shallow (s.block p cs o) n d r m h i = (first_level (s.block p cs o) n d r h, commands_shallow cs n (d - 1) (k.CloseBrace o ∷ r) m (under_it (s.block p cs o) n d r h) i)
-  command_shallow (s.assign x a) n d r m h i = first_level (s.assign x a) n d r h
-  command_shallow (s.look_up x a f) n d r m h i = first_level (s.look_up x a f) n d r h
-  command_shallow (s.new x) n d r m h i = first_level (s.new x) n d r h
-  command_shallow (s.mutate a f b) n d r m h i = first_level (s.mutate a f b) n d r h
-  command_shallow (s.dispose p a) n d r m h i = first_level (s.dispose p a) n d r h
-  command_shallow (s.dispose_round p a) n d r m h i = first_level (s.dispose_round p a) n d r h
-  command_shallow (s.call c) n d r m h i = first_level (s.call c) n d r h
-  command_shallow (s.fork c e) n d r m h i = first_level (s.fork c e) n d r h
-
-  commands_shallow : (cs : s.Commands) (n d : ℕ) (r : List Leaf) → CommandsNearest cs → commands_levels cs n r ≤ d → invariants_levels cs n r ≤ NESTING → CommandsWithin cs n d r
-  commands_shallow s.done n d r m h i = tt
-  commands_shallow (s.then c cs) n d r m h i = (
-    command_shallow c n d (g.commands cs r) m.0 (max-left _ (commands_levels cs n r) d h) (max-left _ (invariants_levels cs n r) NESTING i),
-    commands_shallow cs n d r m.1 (max-right (command_levels c n (g.commands cs r)) _ d h) (max-right (invariant_levels c n (g.commands cs r)) _ NESTING i),
-  )
-
-item_shallow : (i : s.Item) (n : ℕ) (r : List Leaf) → ItemNearest i → item_levels i n r ≤ NESTING → ItemWithin i n r
-item_shallow (s.fields ns) n r m h = tt
-item_shallow (s.resource x) n r m h = annotation_shallow x.invariant n r m h
-item_shallow (s.procedure f) n r m h =
-    let post = k.CloseBrace f.closes ∷ g.maybe_annotation f.post r in
-    let pre = k.OpenBrace f.opens ∷ g.locals f.locals (g.commands f.body post) in
-    let body = max-left (max (commands_levels f.body n post) (invariants_levels f.body n post)) (max (maybe_levels f.pre n pre) (maybe_levels f.post n r)) NESTING h in
-    let annotations = max-right (max (commands_levels f.body n post) (invariants_levels f.body n post)) (max (maybe_levels f.pre n pre) (maybe_levels f.post n r)) NESTING h in (
-      maybe_shallow f.pre n pre m.0 (max-left (maybe_levels f.pre n pre) (maybe_levels f.post n r) NESTING annotations),
-      commands_shallow f.body n NESTING post m.1 (max-left (commands_levels f.body n post) (invariants_levels f.body n post) NESTING body) (max-right (commands_levels f.body n post) (invariants_levels f.body n post) NESTING body),
-      maybe_shallow f.post n r m.2 (max-right (maybe_levels f.pre n pre) (maybe_levels f.post n r) NESTING annotations),
+item_fits : (i : s.Item) (n : ℕ) (r : List Leaf) → Fits n (length (g.item i r)) NESTING (item_depth i) → ItemWithin i n r
+item_fits (s.fields ns) n r h = tt
+item_fits (s.resource x) n r h =
+    annotation_fits x.invariant n r (part _ NESTING (annotation_depth x.invariant) h (omega (arith, maybe_names_longer x.variables (k.CloseRound ∷ g.annotation x.invariant r))) (λ e. e))
+item_fits (s.procedure f) n r h =
+    let close = k.CloseBrace f.closes ∷ g.maybe_annotation f.post r in
+    let opening = k.OpenBrace f.opens ∷ g.locals f.locals (g.commands f.body close) in
+    let first = parameters_longer f.parameters (k.CloseRound ∷ g.maybe_annotation f.pre opening) in
+    let second = maybe_annotation_longer f.pre opening in
+    let third = locals_longer f.locals (g.commands f.body close) in
+    let body = max (commands_depth f.body) (invariants_depth f.body) in
+    let notes = max (maybe_depth f.pre) (maybe_depth f.post) in (
+      maybe_fits f.pre n opening (part _ NESTING (maybe_depth f.pre) h (omega (arith, first)) (λ e. max-left _ (maybe_depth f.post) NESTING (max-right body _ NESTING e))),
+      commands_fits f.body n NESTING close (
+        part _ NESTING (commands_depth f.body) h (omega (arith, first, second, third)) (λ e. max-left _ (invariants_depth f.body) NESTING (max-left _ notes NESTING e)),
+        part _ NESTING (invariants_depth f.body) h (omega (arith, first, second, third)) (λ e. max-right (commands_depth f.body) _ NESTING (max-left _ notes NESTING e)),
+      ),
+      maybe_fits f.post n r (part _ NESTING (maybe_depth f.post) h (omega (arith, first, second, third, commands_longer f.body close)) (λ e. max-right (maybe_depth f.pre) _ NESTING (max-right body _ NESTING e))),
     )
 
-pub items_shallow : (is : List s.Item) (n : ℕ) (r : List Leaf) → IsNearest is → items_levels is n r ≤ NESTING → ItemsWithin is n r
-items_shallow [] n r m h = tt
-items_shallow (i ∷ is) n r m h = (
-  item_shallow i n (g.items is r) m.0 (max-left (item_levels i n (g.items is r)) (items_levels is n r) NESTING h),
-  items_shallow is n r m.1 (max-right (item_levels i n (g.items is r)) (items_levels is n r) NESTING h),
+items_fit : (is : List s.Item) (n : ℕ) (r : List Leaf) → Fits n (length (g.items is r)) NESTING (items_depth is) → ItemsWithin is n r
+items_fit [] n r h = tt
+items_fit (i ∷ is) n r h = (
+  item_fits i n (g.items is r) (part _ NESTING (item_depth i) h (omega arith) (λ e. max-left _ (items_depth is) NESTING e)),
+  items_fit is n r (part _ NESTING (items_depth is) h (omega (arith, item_longer i (g.items is r))) (λ e. max-right (item_depth i) _ NESTING e)),
 )
 
--- with no tokens after the prefix the levels are those of the tree
-level_whole : (left below : ℕ) → 0 < left → levels 0 left below ≡ 1 + below
-level_whole left below h =
-    let e : nat_le left 0 ≡ false = grind (arith, nat_tests) in
-    ap (λ (t : Bool). if t then 0 else 1 + below) e
+-- what is no deeper than the limit is within it
+pub items_within : (is : List s.Item) (r : List Leaf) → items_depth is ≤ NESTING → ItemsWithin is 0 r
+items_within is r h = items_fit is 0 r (shallow h)
 
-assertion_whole : (a : s.Assertion) (r : List Leaf) → 1 + conjuncts_levels a 0 r ≡ assertion_depth a → assertion_levels a 0 r ≡ assertion_depth a
-assertion_whole a r e = level_whole (length (g.assertion a r)) (conjuncts_levels a 0 r) (omega (arith, assertion_longer a r)) ∙ e
+-- so is what is wholly free of it
+pub items_free : (is : List s.Item) (n : ℕ) (r : List Leaf) → length (g.items is r) ≤ n → ItemsWithin is n r
+items_free is n r h = items_fit is n r (free h)
 
-command_whole : (c : s.Command) (r : List Leaf) → 1 + inner_levels c 0 r ≡ command_depth c → command_levels c 0 r ≡ command_depth c
-command_whole c r e = level_whole (length (g.command c r)) (inner_levels c 0 r) (omega (arith, command_longer c r)) ∙ e
-
-mutual
-  conjunct_levels_whole : (c : s.Conjunct) (r : List Leaf) → conjunct_levels c 0 r ≡ conjunct_depth c
-  conjunct_levels_whole (s.group a) r = assertion_whole a (k.CloseRound ∷ r) (conjuncts_levels_whole a (k.CloseRound ∷ r))
-  conjunct_levels_whole (s.choose p b x y) r =
-      ap₂ max (assertion_whole x (k.Else ∷ g.assertion y r) (conjuncts_levels_whole x (k.Else ∷ g.assertion y r))) (assertion_whole y r (conjuncts_levels_whole y r))
-  conjunct_levels_whole (s.choose_round p b x y) r =
-      ap₂ max (assertion_whole x (k.Else ∷ g.assertion y r) (conjuncts_levels_whole x (k.Else ∷ g.assertion y r))) (assertion_whole y r (conjuncts_levels_whole y r))
-  conjunct_levels_whole _ r = refl
-
-  conjuncts_levels_whole : (a : s.Assertion) (r : List Leaf) → 1 + conjuncts_levels a 0 r ≡ assertion_depth a
-  conjuncts_levels_whole (s.only c) r = ap (λ (i : ℕ). 1 + i) (conjunct_levels_whole c r)
-  conjuncts_levels_whole (s.star c a) r = omega (arith, conjunct_levels_whole c (k.Star ∷ g.assertion a r), conjuncts_levels_whole a r)
-
-annotation_levels_whole : (x : s.Note) (r : List Leaf) → annotation_levels x 0 r ≡ annotation_depth x
-annotation_levels_whole s.blank r = refl
-annotation_levels_whole (s.filled a) r = assertion_whole a (k.CloseSquare ∷ r) (conjuncts_levels_whole a (k.CloseSquare ∷ r))
-
-maybe_levels_whole : (x : Option s.Note) (r : List Leaf) → maybe_levels x 0 r ≡ maybe_depth x
-maybe_levels_whole None r = refl
-maybe_levels_whole (Some x) r = annotation_levels_whole x r
+-- where no token is free, what has a level has some
+some_levels : (left d : ℕ) → 0 < left → HasLevel 0 left d → 0 < d
+some_levels left zero some h = absurd (grind (arith, nat_tests))
+some_levels left (suc d) some h = omega arith
 
 mutual
-  inner_levels_whole : (c : s.Command) (r : List Leaf) → 1 + inner_levels c 0 r ≡ command_depth c
-  inner_levels_whole (s.if_alone p b c) r = ap (λ (i : ℕ). 1 + i) (command_whole c r (inner_levels_whole c r))
-  inner_levels_whole (s.if p b c e) r =
-      ap₂ (λ (i j : ℕ). 1 + max i j) (command_whole c (k.Else ∷ g.command e r) (inner_levels_whole c (k.Else ∷ g.command e r))) (command_whole e r (inner_levels_whole e r))
-  inner_levels_whole (s.while p b x c) r = ap (λ (i : ℕ). 1 + i) (command_whole c r (inner_levels_whole c r))
-  inner_levels_whole (s.with p x b c) r = ap (λ (i : ℕ). 1 + i) (command_whole c r (inner_levels_whole c r))
-  inner_levels_whole (s.block p cs o) r = ap (λ (i : ℕ). 1 + i) (commands_levels_whole cs (k.CloseBrace o ∷ r))
-  inner_levels_whole _ r = refl
+  conjunct_shallow : (c : s.Conjunct) (d : ℕ) (r : List Leaf) → ConjunctWithin c 0 d r → conjunct_depth c ≤ d - 1
+  conjunct_shallow (s.group a) d r w = assertion_shallow a (d - 1) (k.CloseRound ∷ r) w
+  conjunct_shallow (s.choose p b x y) d r w = max-le (assertion_shallow x (d - 1) (k.Else ∷ g.assertion y r) w.0) (assertion_shallow y (d - 1) r w.1)
+  conjunct_shallow (s.choose_round p b x y) d r w = max-le (assertion_shallow x (d - 1) (k.Else ∷ g.assertion y r) w.0) (assertion_shallow y (d - 1) r w.1)
+  conjunct_shallow _ d r w = omega arith
 
-  commands_levels_whole : (cs : s.Commands) (r : List Leaf) → commands_levels cs 0 r ≡ commands_depth cs
-  commands_levels_whole s.done r = refl
-  commands_levels_whole (s.then c cs) r = ap₂ max (command_whole c (g.commands cs r) (inner_levels_whole c (g.commands cs r))) (commands_levels_whole cs r)
+  assertion_shallow : (a : s.Assertion) (d : ℕ) (r : List Leaf) → AssertionWithin a 0 d r → assertion_depth a ≤ d
+  assertion_shallow (s.only c) d r w = omega (arith, conjunct_shallow c d r w.1, some_levels _ d (omega (arith, conjunct_longer c r)) w.0)
+  assertion_shallow (s.star c a) d r w =
+      let some = some_levels _ d (omega (arith, conjunct_longer c (k.Star ∷ g.assertion a r))) w.0 in
+      max-le (omega (arith, conjunct_shallow c d (k.Star ∷ g.assertion a r) w.1, some)) (rest_shallow a d r w.2 some)
+
+  rest_shallow : (a : s.Assertion) (d : ℕ) (r : List Leaf) → RestWithin a 0 d r → 0 < d → assertion_depth a ≤ d
+  rest_shallow (s.only c) d r w some = omega (arith, conjunct_shallow c d r w)
+  rest_shallow (s.star c a) d r w some = max-le (omega (arith, conjunct_shallow c d (k.Star ∷ g.assertion a r) w.0)) (rest_shallow a d r w.1 some)
+
+annotation_shallow : (x : s.Note) (r : List Leaf) → NoteWithin x 0 r → annotation_depth x ≤ NESTING
+annotation_shallow s.blank r w = omega arith
+annotation_shallow (s.filled a) r w = assertion_shallow a NESTING (k.CloseSquare ∷ r) w
+
+maybe_shallow : (x : Option s.Note) (r : List Leaf) → MaybeWithin x 0 r → maybe_depth x ≤ NESTING
+maybe_shallow None r w = omega arith
+maybe_shallow (Some x) r w = annotation_shallow x r w
+
+-- a command that has a level has some
+has_some : (c : s.Command) (d : ℕ) (r : List Leaf) → HasLevel 0 (length (g.command c r)) d → 0 < d
+has_some c d r h = some_levels _ d (omega (arith, command_longer c r)) h
 
 mutual
-  invariant_levels_whole : (c : s.Command) (r : List Leaf) → invariant_levels c 0 r ≡ invariant_depth c
-  invariant_levels_whole (s.if_alone p b c) r = invariant_levels_whole c r
-  invariant_levels_whole (s.if p b c e) r = ap₂ max (invariant_levels_whole c (k.Else ∷ g.command e r)) (invariant_levels_whole e r)
-  invariant_levels_whole (s.while p b x c) r = ap₂ max (maybe_levels_whole x (g.command c r)) (invariant_levels_whole c r)
-  invariant_levels_whole (s.with p x b c) r = invariant_levels_whole c r
-  invariant_levels_whole (s.block p cs o) r = invariants_levels_whole cs (k.CloseBrace o ∷ r)
-  invariant_levels_whole _ r = refl
+  command_shallow : (c : s.Command) (d : ℕ) (r : List Leaf) → CommandWithin c 0 d r → command_depth c ≤ d
+  command_shallow (s.if_alone p b c) d r w = omega (arith, command_shallow c (d - 1) r w.1, has_some (s.if_alone p b c) d r w.0)
+  command_shallow (s.if p b c x) d r w =
+      let both : max (command_depth c) (command_depth x) ≤ d - 1 = max-le (command_shallow c (d - 1) (k.Else ∷ g.command x r) w.1) (command_shallow x (d - 1) r w.2) in
+      omega (arith, both, has_some (s.if p b c x) d r w.0)
+  command_shallow (s.while p b x c) d r w = omega (arith, command_shallow c (d - 1) r w.2, has_some (s.while p b x c) d r w.0)
+  command_shallow (s.with p x b c) d r w = omega (arith, command_shallow c (d - 1) r w.1, has_some (s.with p x b c) d r w.0)
+  command_shallow (s.block p cs q) d r w = omega (arith, commands_shallow cs (d - 1) (k.CloseBrace q ∷ r) w.1, has_some (s.block p cs q) d r w.0)
+  command_shallow (s.assign x a) d r w = has_some (s.assign x a) d r w
+  command_shallow c d r w = has_some c d r w
 
-  invariants_levels_whole : (cs : s.Commands) (r : List Leaf) → invariants_levels cs 0 r ≡ invariants_depth cs
-  invariants_levels_whole s.done r = refl
-  invariants_levels_whole (s.then c cs) r = ap₂ max (invariant_levels_whole c (g.commands cs r)) (invariants_levels_whole cs r)
+  commands_shallow : (cs : s.Commands) (d : ℕ) (r : List Leaf) → CommandsWithin cs 0 d r → commands_depth cs ≤ d
+  commands_shallow s.done d r w = omega arith
+  commands_shallow (s.then c cs) d r w = max-le (command_shallow c d (g.commands cs r) w.0) (commands_shallow cs d r w.1)
 
-item_levels_whole : (i : s.Item) (r : List Leaf) → item_levels i 0 r ≡ item_depth i
-item_levels_whole (s.fields ns) r = refl
-item_levels_whole (s.resource x) r = annotation_levels_whole x.invariant r
-item_levels_whole (s.procedure f) r =
-    let post = k.CloseBrace f.closes ∷ g.maybe_annotation f.post r in
-    let pre = k.OpenBrace f.opens ∷ g.locals f.locals (g.commands f.body post) in
-    ap₂ max (ap₂ max (commands_levels_whole f.body post) (invariants_levels_whole f.body post)) (ap₂ max (maybe_levels_whole f.pre pre) (maybe_levels_whole f.post r))
+mutual
+  invariant_shallow : (c : s.Command) (d : ℕ) (r : List Leaf) → CommandWithin c 0 d r → invariant_depth c ≤ NESTING
+  invariant_shallow (s.if_alone p b c) d r w = invariant_shallow c (d - 1) r w.1
+  invariant_shallow (s.if p b c x) d r w = max-le (invariant_shallow c (d - 1) (k.Else ∷ g.command x r) w.1) (invariant_shallow x (d - 1) r w.2)
+  invariant_shallow (s.while p b x c) d r w = max-le (maybe_shallow x (g.command c r) w.1) (invariant_shallow c (d - 1) r w.2)
+  invariant_shallow (s.with p x b c) d r w = invariant_shallow c (d - 1) r w.1
+  invariant_shallow (s.block p cs q) d r w = invariants_shallow cs (d - 1) (k.CloseBrace q ∷ r) w.1
+  invariant_shallow _ d r w = omega arith
 
-pub items_levels_whole : (is : List s.Item) (r : List Leaf) → items_levels is 0 r ≡ items_depth is
-items_levels_whole [] r = refl
-items_levels_whole (i ∷ is) r = ap₂ max (item_levels_whole i (g.items is r)) (items_levels_whole is r)
+  invariants_shallow : (cs : s.Commands) (d : ℕ) (r : List Leaf) → CommandsWithin cs 0 d r → invariants_depth cs ≤ NESTING
+  invariants_shallow s.done d r w = omega arith
+  invariants_shallow (s.then c cs) d r w = max-le (invariant_shallow c d (g.commands cs r) w.0) (invariants_shallow cs d r w.1)
 
--- a file within the limit keeps what its type asks
-pub items_within : (is : List s.Item) (r : List Leaf) → ItemsWithin is 0 r → items_depth is ≤ NESTING
-items_within is r w = subst (λ (i : ℕ). i ≤ NESTING) (items_levels_whole is r) (levels_within is 0 r w)
+item_shallow : (i : s.Item) (r : List Leaf) → ItemWithin i 0 r → item_depth i ≤ NESTING
+item_shallow (s.fields ns) r w = omega arith
+item_shallow (s.resource x) r w = annotation_shallow x.invariant r w
+item_shallow (s.procedure f) r w = max-le (max-le (commands_shallow f.body NESTING _ w.1) (invariants_shallow f.body NESTING _ w.1)) (max-le (maybe_shallow f.pre _ w.0) (maybe_shallow f.post r w.2))
+
+-- where no token is free of the limit, what is within it is no deeper
+pub items_shallow : (is : List s.Item) (r : List Leaf) → ItemsWithin is 0 r → items_depth is ≤ NESTING
+items_shallow [] r w = omega arith
+items_shallow (i ∷ is) r w = max-le (item_shallow i (g.items is r) w.0) (items_shallow is r w.1)

@@ -1,5 +1,5 @@
 -- Tokens spell one tree alone: names, expressions, tests, what calls are given, and fields.
-use Rattle.std.proofs.Common.{◌≡◌, List, [], ◌∷◌, Bool, true, false, refl, ap, sym, ◌∙◌, subst}
+use Rattle.std.proofs.Common.{◌≡◌, List, [], ◌∷◌, true, false, refl, ap, sym, ◌∙◌, subst}
 use Rattle.sf_base.proofs.Lists.{cons-same}
 use Rattle.sf_base.specs.declared.place.Place.{Place}
 use Rattle.sf_ast.specs.declared.assertion.SurfaceField.{SurfaceField}

@@ -1,19 +1,18 @@
 -- Tokens spell one file alone.
-use Rattle.std.proofs.Common.{◌≡◌, ◌-◌, ℕ, List, [], ◌∷◌, Option, Some, None, refl, ap, sym, ◌∙◌, subst}
+use Rattle.std.proofs.Common.{◌≡◌, List, [], ◌∷◌, Option, Some, None, refl, ap, sym, ◌∙◌, subst}
 use Rattle.sf_base.proofs.Lists.{cons-same}
 use Rattle.sf_base.specs.declared.place.Place.{Place}
-use Rattle.sf_base.specs.declared.limits.TheConstants.{NESTING}
 use Rattle.sf_ast.specs.declared.word.Word.{Word}
 use Rattle.sf_ast.specs.Surface as s
 use Rattle.sf_parse.specs.Leaf.{Leaf}
 use Rattle.sf_parse.specs.Leaf as k
 use Rattle.sf_parse.specs.Grammar as g
-use Rattle.sf_parse.specs.Nesting.{NotElse, Follows, CommandWithin, CommandsWithin, NoteWithin, MaybeWithin, ItemWithin, ItemsWithin}
+use Rattle.sf_parse.specs.Nearest.{NotElse, Follows, CommandNearest, CommandsNearest, NoteNearest, MaybeNearest, ItemNearest, IsNearest}
 use Rattle.sf_parse.proofs.Machine.Back.{follows_else}
 use Rattle.sf_parse.proofs.Machine.Forth.{by_expr, by_operand}
 use Rattle.sf_parse.proofs.Machine.ForthFiles.{follows_any, no_else_fronts}
 use Rattle.sf_parse.proofs.Grammar.Once.{Same, expr_once, test_once, more_names_once, maybe_names_once, parameters_once, call_once}
-use Rattle.sf_parse.proofs.Grammar.OnceAssertions.{rest_within, assertion_once}
+use Rattle.sf_parse.proofs.Grammar.OnceAssertions.{assertion_once}
 
 -- which command the first tokens begin
 data Shape : Type 0 where
@@ -130,22 +129,22 @@ assertion_not_close (s.star c a) r q f = subst (λ z. NotClose z) f (conjunct_no
 abbrev NoNote : List Leaf → Type 0
 NoNote r = (u : List Leaf) → r ≡ k.OpenSquare ∷ u → ⊥
 
-annotation_once : (n : ℕ) (x y : s.Note) (r q : List Leaf) → NoteWithin x n r → NoteWithin y n q → g.annotation x r ≡ g.annotation y q → Same x y r q
-annotation_once n s.blank s.blank r q v w f = (refl, (let t : r ≡ q = cc in t))
-annotation_once n s.blank (s.filled a) r q v w f = let wrong : g.assertion a (k.CloseSquare ∷ q) ≡ k.CloseSquare ∷ r = cc in absurd (assertion_not_close a (k.CloseSquare ∷ q) r wrong)
-annotation_once n (s.filled a) s.blank r q v w f = let wrong : g.assertion a (k.CloseSquare ∷ r) ≡ k.CloseSquare ∷ q = cc in absurd (assertion_not_close a (k.CloseSquare ∷ r) q wrong)
-annotation_once n (s.filled a) (s.filled b) r q v w f =
-    let o = assertion_once a b n NESTING (k.CloseSquare ∷ r) (k.CloseSquare ∷ q) (rest_within a n NESTING _ v) (rest_within b n NESTING _ w) tt tt tt tt cc in
+annotation_once : (x y : s.Note) (r q : List Leaf) → NoteNearest x → NoteNearest y → g.annotation x r ≡ g.annotation y q → Same x y r q
+annotation_once s.blank s.blank r q v w f = (refl, (let t : r ≡ q = cc in t))
+annotation_once s.blank (s.filled a) r q v w f = let wrong : g.assertion a (k.CloseSquare ∷ q) ≡ k.CloseSquare ∷ r = cc in absurd (assertion_not_close a (k.CloseSquare ∷ q) r wrong)
+annotation_once (s.filled a) s.blank r q v w f = let wrong : g.assertion a (k.CloseSquare ∷ r) ≡ k.CloseSquare ∷ q = cc in absurd (assertion_not_close a (k.CloseSquare ∷ r) q wrong)
+annotation_once (s.filled a) (s.filled b) r q v w f =
+    let o = assertion_once a b (k.CloseSquare ∷ r) (k.CloseSquare ∷ q) v w tt tt tt tt cc in
     let last : k.CloseSquare ∷ r ≡ k.CloseSquare ∷ q = o.1 in
     (ap s.filled o.0, (let t : r ≡ q = cc in t))
 
-maybe_annotation_once : (n : ℕ) (x y : Option s.Note) (r q : List Leaf) → MaybeWithin x n r → MaybeWithin y n q → NoNote r → NoNote q → g.maybe_annotation x r ≡ g.maybe_annotation y q → Same x y r q
-maybe_annotation_once n None None r q v w a b f = (refl, f)
-maybe_annotation_once n None (Some s.blank) r q v w a b f = absurd (a (k.CloseSquare ∷ q) f)
-maybe_annotation_once n None (Some (s.filled y)) r q v w a b f = absurd (a (g.assertion y (k.CloseSquare ∷ q)) f)
-maybe_annotation_once n (Some s.blank) None r q v w a b f = absurd (b (k.CloseSquare ∷ r) (sym f))
-maybe_annotation_once n (Some (s.filled x)) None r q v w a b f = absurd (b (g.assertion x (k.CloseSquare ∷ r)) (sym f))
-maybe_annotation_once n (Some x) (Some y) r q v w a b f = let o = annotation_once n x y r q v w f in (ap Some o.0, o.1)
+maybe_annotation_once : (x y : Option s.Note) (r q : List Leaf) → MaybeNearest x → MaybeNearest y → NoNote r → NoNote q → g.maybe_annotation x r ≡ g.maybe_annotation y q → Same x y r q
+maybe_annotation_once None None r q v w a b f = (refl, f)
+maybe_annotation_once None (Some s.blank) r q v w a b f = absurd (a (k.CloseSquare ∷ q) f)
+maybe_annotation_once None (Some (s.filled y)) r q v w a b f = absurd (a (g.assertion y (k.CloseSquare ∷ q)) f)
+maybe_annotation_once (Some s.blank) None r q v w a b f = absurd (b (k.CloseSquare ∷ r) (sym f))
+maybe_annotation_once (Some (s.filled x)) None r q v w a b f = absurd (b (g.assertion x (k.CloseSquare ∷ r)) (sym f))
+maybe_annotation_once (Some x) (Some y) r q v w a b f = let o = annotation_once x y r q v w f in (ap Some o.0, o.1)
 
 else_wrong : (r q : List Leaf) → NotElse r → r ≡ k.Else ∷ q → ⊥
 else_wrong r q h e = subst (λ z. NotElse z) e h
@@ -154,97 +153,97 @@ no_bracket : (c : s.Command) (r : List Leaf) → NoNote (g.command c r)
 no_bracket c r u f = begins_command c r (k.OpenSquare ∷ u) f refl
 
 mutual
-  command_once : (c x : s.Command) (n d : ℕ) (r q : List Leaf) → CommandWithin c n d r → CommandWithin x n d q → Follows c r → Follows x q → g.command c r ≡ g.command x q → Same c x r q
-  command_once (s.assign x a) (s.assign y b) n d r q v w j l f =
+  command_once : (c x : s.Command) (r q : List Leaf) → CommandNearest c → CommandNearest x → Follows c r → Follows x q → g.command c r ≡ g.command x q → Same c x r q
+  command_once (s.assign x a) (s.assign y b) r q v w j l f =
       let value : a ≡ b = expr_once a b cc in
       ((let t : s.assign x a ≡ s.assign y b = cc in t), (let t : r ≡ q = cc in t))
-  command_once (s.look_up x a z) (s.look_up y b u) n d r q v w j l f =
+  command_once (s.look_up x a z) (s.look_up y b u) r q v w j l f =
       let value : a ≡ b = expr_once a b cc in
       ((let t : s.look_up x a z ≡ s.look_up y b u = cc in t), (let t : r ≡ q = cc in t))
-  command_once (s.new x) (s.new y) n d r q v w j l f = ((let t : s.new x ≡ s.new y = cc in t), (let t : r ≡ q = cc in t))
-  command_once (s.mutate a x b) (s.mutate e y u) n d r q v w j l f =
+  command_once (s.new x) (s.new y) r q v w j l f = ((let t : s.new x ≡ s.new y = cc in t), (let t : r ≡ q = cc in t))
+  command_once (s.mutate a x b) (s.mutate e y u) r q v w j l f =
       let first : a ≡ e = expr_once a e cc in
       let value : b ≡ u = expr_once b u cc in
       ((let t : s.mutate a x b ≡ s.mutate e y u = cc in t), (let t : r ≡ q = cc in t))
-  command_once (s.dispose p a) (s.dispose o b) n d r q v w j l f =
+  command_once (s.dispose p a) (s.dispose o b) r q v w j l f =
       let value : a ≡ b = expr_once a b cc in
       ((let t : s.dispose p a ≡ s.dispose o b = cc in t), (let t : r ≡ q = cc in t))
-  command_once (s.dispose_round p a) (s.dispose_round o b) n d r q v w j l f =
+  command_once (s.dispose_round p a) (s.dispose_round o b) r q v w j l f =
       let value : a ≡ b = expr_once a b cc in
       ((let t : s.dispose_round p a ≡ s.dispose_round o b = cc in t), (let t : r ≡ q = cc in t))
-  command_once (s.if_alone p b c) (s.if_alone o e x) n d r q v w j l f =
+  command_once (s.if_alone p b c) (s.if_alone o e x) r q v w j l f =
       let m = test_once b e (k.CloseRound ∷ g.command c r) (k.CloseRound ∷ g.command x q) cc in
       let behind : k.CloseRound ∷ g.command c r ≡ k.CloseRound ∷ g.command x q = m.1 in
-      let u = command_once c x n (d - 1) r q v.1 w.1 (follows_any c r j) (follows_any x q l) cc in
+      let u = command_once c x r q v w (follows_any c r j) (follows_any x q l) cc in
       let place : p ≡ o = cc in
       (ap (λ z. s.if_alone z b c) place ∙ ap (λ z. s.if_alone o z c) m.0 ∙ ap (s.if_alone o e) u.0, u.1)
-  command_once (s.if_alone p b c) (s.if o e x y) n d r q v w j l f =
+  command_once (s.if_alone p b c) (s.if o e x y) r q v w j l f =
       let m = test_once b e (k.CloseRound ∷ g.command c r) (k.CloseRound ∷ g.command x (k.Else ∷ g.command y q)) cc in
       let behind : k.CloseRound ∷ g.command c r ≡ k.CloseRound ∷ g.command x (k.Else ∷ g.command y q) = m.1 in
-      let u = command_once c x n (d - 1) r (k.Else ∷ g.command y q) v.1 w.1 (follows_any c r j) (follows_else x [] (g.command y q) w.3) cc in
+      let u = command_once c x r (k.Else ∷ g.command y q) v w.0 (follows_any c r j) (follows_else x [] (g.command y q) w.2) cc in
       absurd (else_wrong r (g.command y q) j u.1)
-  command_once (s.if o e x y) (s.if_alone p b c) n d r q v w j l f =
+  command_once (s.if o e x y) (s.if_alone p b c) r q v w j l f =
       let m = test_once e b (k.CloseRound ∷ g.command x (k.Else ∷ g.command y r)) (k.CloseRound ∷ g.command c q) cc in
       let behind : k.CloseRound ∷ g.command x (k.Else ∷ g.command y r) ≡ k.CloseRound ∷ g.command c q = m.1 in
-      let u = command_once x c n (d - 1) (k.Else ∷ g.command y r) q v.1 w.1 (follows_else x [] (g.command y r) v.3) (follows_any c q l) cc in
+      let u = command_once x c (k.Else ∷ g.command y r) q v.0 w (follows_else x [] (g.command y r) v.2) (follows_any c q l) cc in
       absurd (else_wrong q (g.command y r) l (sym u.1))
-  command_once (s.if p b c a) (s.if o e x y) n d r q v w j l f =
+  command_once (s.if p b c a) (s.if o e x y) r q v w j l f =
       let m = test_once b e (k.CloseRound ∷ g.command c (k.Else ∷ g.command a r)) (k.CloseRound ∷ g.command x (k.Else ∷ g.command y q)) cc in
       let behind : k.CloseRound ∷ g.command c (k.Else ∷ g.command a r) ≡ k.CloseRound ∷ g.command x (k.Else ∷ g.command y q) = m.1 in
-      let u = command_once c x n (d - 1) (k.Else ∷ g.command a r) (k.Else ∷ g.command y q) v.1 w.1 (follows_else c [] (g.command a r) v.3) (follows_else x [] (g.command y q) w.3) cc in
+      let u = command_once c x (k.Else ∷ g.command a r) (k.Else ∷ g.command y q) v.0 w.0 (follows_else c [] (g.command a r) v.2) (follows_else x [] (g.command y q) w.2) cc in
       let middle : k.Else ∷ g.command a r ≡ k.Else ∷ g.command y q = u.1 in
-      let z = command_once a y n (d - 1) r q v.2 w.2 j l cc in
+      let z = command_once a y r q v.1 w.1 j l cc in
       let place : p ≡ o = cc in
       (ap (λ t. s.if t b c a) place ∙ ap (λ t. s.if o t c a) m.0 ∙ ap (λ t. s.if o e t a) u.0 ∙ ap (s.if o e x) z.0, z.1)
-  command_once (s.while p b x c) (s.while o e y a) n d r q v w j l f =
+  command_once (s.while p b x c) (s.while o e y a) r q v w j l f =
       let m = test_once b e (k.CloseRound ∷ g.maybe_annotation x (g.command c r)) (k.CloseRound ∷ g.maybe_annotation y (g.command a q)) cc in
       let behind : k.CloseRound ∷ g.maybe_annotation x (g.command c r) ≡ k.CloseRound ∷ g.maybe_annotation y (g.command a q) = m.1 in
-      let u = maybe_annotation_once n x y (g.command c r) (g.command a q) v.1 w.1 (no_bracket c r) (no_bracket a q) cc in
-      let z = command_once c a n (d - 1) r q v.2 w.2 j l u.1 in
+      let u = maybe_annotation_once x y (g.command c r) (g.command a q) v.0 w.0 (no_bracket c r) (no_bracket a q) cc in
+      let z = command_once c a r q v.1 w.1 j l u.1 in
       let place : p ≡ o = cc in
       (ap (λ t. s.while t b x c) place ∙ ap (λ t. s.while o t x c) m.0 ∙ ap (λ t. s.while o e t c) u.0 ∙ ap (s.while o e y) z.0, z.1)
-  command_once (s.with p x b c) (s.with o y e a) n d r q v w j l f =
+  command_once (s.with p x b c) (s.with o y e a) r q v w j l f =
       let m = test_once b e (k.CloseRound ∷ g.command c r) (k.CloseRound ∷ g.command a q) cc in
       let behind : k.CloseRound ∷ g.command c r ≡ k.CloseRound ∷ g.command a q = m.1 in
-      let z = command_once c a n (d - 1) r q v.1 w.1 j l cc in
+      let z = command_once c a r q v w j l cc in
       let place : p ≡ o = cc in
       let name : x ≡ y = cc in
       (ap (λ t. s.with t x b c) place ∙ ap (λ t. s.with o t b c) name ∙ ap (λ t. s.with o y t c) m.0 ∙ ap (s.with o y e) z.0, z.1)
-  command_once (s.call c) (s.call x) n d r q v w j l f =
+  command_once (s.call c) (s.call x) r q v w j l f =
       let u = call_once c x (k.Semicolon ∷ r) (k.Semicolon ∷ q) f in
       let last : k.Semicolon ∷ r ≡ k.Semicolon ∷ q = u.1 in
       (ap s.call u.0, (let t : r ≡ q = cc in t))
-  command_once (s.call c) (s.fork x y) n d r q v w j l f =
+  command_once (s.call c) (s.fork x y) r q v w j l f =
       let u = call_once c x (k.Semicolon ∷ r) (k.Bars ∷ g.call y (k.Semicolon ∷ q)) f in
       let last : k.Semicolon ∷ r ≡ k.Bars ∷ g.call y (k.Semicolon ∷ q) = u.1 in
       absurd cc
-  command_once (s.fork x y) (s.call c) n d r q v w j l f =
+  command_once (s.fork x y) (s.call c) r q v w j l f =
       let u = call_once x c (k.Bars ∷ g.call y (k.Semicolon ∷ r)) (k.Semicolon ∷ q) f in
       let last : k.Bars ∷ g.call y (k.Semicolon ∷ r) ≡ k.Semicolon ∷ q = u.1 in
       absurd cc
-  command_once (s.fork c a) (s.fork x y) n d r q v w j l f =
+  command_once (s.fork c a) (s.fork x y) r q v w j l f =
       let u = call_once c x (k.Bars ∷ g.call a (k.Semicolon ∷ r)) (k.Bars ∷ g.call y (k.Semicolon ∷ q)) f in
       let middle : k.Bars ∷ g.call a (k.Semicolon ∷ r) ≡ k.Bars ∷ g.call y (k.Semicolon ∷ q) = u.1 in
       let z = call_once a y (k.Semicolon ∷ r) (k.Semicolon ∷ q) cc in
       let last : k.Semicolon ∷ r ≡ k.Semicolon ∷ q = z.1 in
       (ap (λ t. s.fork t a) u.0 ∙ ap (s.fork x) z.0, (let t : r ≡ q = cc in t))
-  command_once (s.block p cs i) (s.block o xs h) n d r q v w j l f =
-      let u = commands_once cs xs i h n (d - 1) r q v.1 w.1 cc in
+  command_once (s.block p cs i) (s.block o xs h) r q v w j l f =
+      let u = commands_once cs xs i h r q v w cc in
       let last : k.CloseBrace i ∷ r ≡ k.CloseBrace h ∷ q = u.1 in
       let inner : cs ≡ xs = u.0 in
       ((let t : s.block p cs i ≡ s.block o xs h = cc in t), (let t : r ≡ q = cc in t))
-  command_once c x n d r q v w j l f = let wrong : class c ≡ class x = one_class c x r q f in absurd cc
+  command_once c x r q v w j l f = let wrong : class c ≡ class x = one_class c x r q f in absurd cc
 
   -- commands that a `}` ends
-  commands_once : (cs xs : s.Commands) (i h : Place) (n d : ℕ) (r q : List Leaf) → CommandsWithin cs n d (k.CloseBrace i ∷ r) → CommandsWithin xs n d (k.CloseBrace h ∷ q) → g.commands cs (k.CloseBrace i ∷ r) ≡ g.commands xs (k.CloseBrace h ∷ q)
+  commands_once : (cs xs : s.Commands) (i h : Place) (r q : List Leaf) → CommandsNearest cs → CommandsNearest xs → g.commands cs (k.CloseBrace i ∷ r) ≡ g.commands xs (k.CloseBrace h ∷ q)
       → Same cs xs (k.CloseBrace i ∷ r) (k.CloseBrace h ∷ q)
-  commands_once s.done s.done i h n d r q v w f = (refl, f)
-  commands_once s.done (s.then x xs) i h n d r q v w f = absurd (begins_command x (g.commands xs (k.CloseBrace h ∷ q)) (k.CloseBrace i ∷ r) (sym f) refl)
-  commands_once (s.then c cs) s.done i h n d r q v w f = absurd (begins_command c (g.commands cs (k.CloseBrace i ∷ r)) (k.CloseBrace h ∷ q) f refl)
-  commands_once (s.then c cs) (s.then x xs) i h n d r q v w f =
-      let u = command_once c x n d (g.commands cs (k.CloseBrace i ∷ r)) (g.commands xs (k.CloseBrace h ∷ q)) v.0 w.0
+  commands_once s.done s.done i h r q v w f = (refl, f)
+  commands_once s.done (s.then x xs) i h r q v w f = absurd (begins_command x (g.commands xs (k.CloseBrace h ∷ q)) (k.CloseBrace i ∷ r) (sym f) refl)
+  commands_once (s.then c cs) s.done i h r q v w f = absurd (begins_command c (g.commands cs (k.CloseBrace i ∷ r)) (k.CloseBrace h ∷ q) f refl)
+  commands_once (s.then c cs) (s.then x xs) i h r q v w f =
+      let u = command_once c x (g.commands cs (k.CloseBrace i ∷ r)) (g.commands xs (k.CloseBrace h ∷ q)) v.0 w.0
       (follows_any c _ (no_else_fronts cs (k.CloseBrace i ∷ r) tt)) (follows_any x _ (no_else_fronts xs (k.CloseBrace h ∷ q) tt)) f in
-      let z = commands_once cs xs i h n d r q v.1 w.1 u.1 in
+      let z = commands_once cs xs i h r q v.1 w.1 u.1 in
       (ap (λ t. s.then t cs) u.0 ∙ ap (s.then x) z.0, z.1)
 
 names_once : (x y : s.Names) (r q : List Leaf) → g.names x (k.Semicolon ∷ r) ≡ g.names y (k.Semicolon ∷ q) → Same x y r q
@@ -271,11 +270,11 @@ names_no_call : (xs : List Word) (r u : List Leaf) → g.more_names xs (k.Semico
 names_no_call [] r u f = cc
 names_no_call (x ∷ xs) r u f = cc
 
-resource_once : (n : ℕ) (x y : s.Resource) (r q : List Leaf) → NoteWithin x.invariant n r → NoteWithin y.invariant n q → g.resource x r ≡ g.resource y q → Same x y r q
-resource_once n x y r q v w f =
+resource_once : (x y : s.Resource) (r q : List Leaf) → NoteNearest x.invariant → NoteNearest y.invariant → g.resource x r ≡ g.resource y q → Same x y r q
+resource_once x y r q v w f =
     let o = maybe_names_once x.variables y.variables (k.CloseRound ∷ g.annotation x.invariant r) (k.CloseRound ∷ g.annotation y.invariant q) tt tt tt tt cc in
     let behind : k.CloseRound ∷ g.annotation x.invariant r ≡ k.CloseRound ∷ g.annotation y.invariant q = o.1 in
-    let m = annotation_once n x.invariant y.invariant r q v w cc in
+    let m = annotation_once x.invariant y.invariant r q v w cc in
     let make : Place → Word → List Word → s.Note → s.Resource = λ a b c d. record { place = a; name = b; variables = c; invariant = d } in
     let place : x.place ≡ y.place = cc in
     let name : x.name ≡ y.name = cc in
@@ -289,15 +288,15 @@ from_close f r = k.CloseBrace f.closes ∷ g.maybe_annotation f.post r
 abbrev from_open : s.Procedure → List Leaf → List Leaf
 from_open f r = k.OpenBrace f.opens ∷ g.locals f.locals (g.commands f.body (from_close f r))
 
-procedure_once : (n : ℕ) (x y : s.Procedure) (r q : List Leaf) → ItemWithin (s.procedure x) n r → ItemWithin (s.procedure y) n q → NoNote r → NoNote q → g.procedure x r ≡ g.procedure y q → Same x y r q
-procedure_once n x y r q v w a b f =
+procedure_once : (x y : s.Procedure) (r q : List Leaf) → ItemNearest (s.procedure x) → ItemNearest (s.procedure y) → NoNote r → NoNote q → g.procedure x r ≡ g.procedure y q → Same x y r q
+procedure_once x y r q v w a b f =
     let ps = parameters_once x.parameters y.parameters (g.maybe_annotation x.pre (from_open x r)) (g.maybe_annotation y.pre (from_open y q)) cc in
-    let pre = maybe_annotation_once n x.pre y.pre (from_open x r) (from_open y q) v.0 w.0 (λ u e. let t : from_open x r ≡ k.OpenSquare ∷ u = e in cc) (λ u e. let t : from_open y q ≡ k.OpenSquare ∷ u = e in cc) ps.1 in
+    let pre = maybe_annotation_once x.pre y.pre (from_open x r) (from_open y q) v.0 w.0 (λ u e. let t : from_open x r ≡ k.OpenSquare ∷ u = e in cc) (λ u e. let t : from_open y q ≡ k.OpenSquare ∷ u = e in cc) ps.1 in
     let opened : k.OpenBrace x.opens ∷ g.locals x.locals (g.commands x.body (from_close x r)) ≡ k.OpenBrace y.opens ∷ g.locals y.locals (g.commands y.body (from_close y q)) = pre.1 in
     let ls = locals_once x.locals y.locals x.body y.body x.closes y.closes (g.maybe_annotation x.post r) (g.maybe_annotation y.post q) cc in
-    let body = commands_once x.body y.body x.closes y.closes n NESTING (g.maybe_annotation x.post r) (g.maybe_annotation y.post q) v.1 w.1 ls.1 in
+    let body = commands_once x.body y.body x.closes y.closes (g.maybe_annotation x.post r) (g.maybe_annotation y.post q) v.1 w.1 ls.1 in
     let last : k.CloseBrace x.closes ∷ g.maybe_annotation x.post r ≡ k.CloseBrace y.closes ∷ g.maybe_annotation y.post q = body.1 in
-    let post = maybe_annotation_once n x.post y.post r q v.2 w.2 a b cc in
+    let post = maybe_annotation_once x.post y.post r q v.2 w.2 a b cc in
     let name : x.name ≡ y.name = cc in
     let opens : x.opens ≡ y.opens = cc in
     let closes : x.closes ≡ y.closes = cc in
@@ -314,18 +313,18 @@ procedure_once n x y r q v w a b f =
       post.1,
     )
 
-item_once : (n : ℕ) (x y : s.Item) (r q : List Leaf) → ItemWithin x n r → ItemWithin y n q → NoNote r → NoNote q → g.item x r ≡ g.item y q → Same x y r q
-item_once n (s.fields x) (s.fields y) r q v w a b f = let o = names_once x y r q f in (ap s.fields o.0, o.1)
-item_once n (s.resource x) (s.resource y) r q v w a b f = let o = resource_once n x y r q v w f in (ap s.resource o.0, o.1)
-item_once n (s.procedure x) (s.procedure y) r q v w a b f = let o = procedure_once n x y r q v w a b f in (ap s.procedure o.0, o.1)
-item_once n (s.fields x) (s.procedure y) r q v w a b f =
+item_once : (x y : s.Item) (r q : List Leaf) → ItemNearest x → ItemNearest y → NoNote r → NoNote q → g.item x r ≡ g.item y q → Same x y r q
+item_once (s.fields x) (s.fields y) r q v w a b f = let o = names_once x y r q f in (ap s.fields o.0, o.1)
+item_once (s.resource x) (s.resource y) r q v w a b f = let o = resource_once x y r q v w f in (ap s.resource o.0, o.1)
+item_once (s.procedure x) (s.procedure y) r q v w a b f = let o = procedure_once x y r q v w a b f in (ap s.procedure o.0, o.1)
+item_once (s.fields x) (s.procedure y) r q v w a b f =
     let wrong : g.more_names x.more (k.Semicolon ∷ r) ≡ k.OpenRound ∷ g.parameters y.parameters (k.CloseRound ∷ g.maybe_annotation y.pre (from_open y q)) = cc in absurd (names_no_call x.more r _ wrong)
-item_once n (s.procedure y) (s.fields x) r q v w a b f =
+item_once (s.procedure y) (s.fields x) r q v w a b f =
     let wrong : g.more_names x.more (k.Semicolon ∷ q) ≡ k.OpenRound ∷ g.parameters y.parameters (k.CloseRound ∷ g.maybe_annotation y.pre (from_open y r)) = cc in absurd (names_no_call x.more q _ wrong)
-item_once n (s.fields x) (s.resource y) r q v w a b f = absurd cc
-item_once n (s.resource y) (s.fields x) r q v w a b f = absurd cc
-item_once n (s.procedure x) (s.resource y) r q v w a b f = absurd cc
-item_once n (s.resource y) (s.procedure x) r q v w a b f = absurd cc
+item_once (s.fields x) (s.resource y) r q v w a b f = absurd cc
+item_once (s.resource y) (s.fields x) r q v w a b f = absurd cc
+item_once (s.procedure x) (s.resource y) r q v w a b f = absurd cc
+item_once (s.resource y) (s.procedure x) r q v w a b f = absurd cc
 
 items_no_annotation : (is : List s.Item) → NoNote (g.items is [])
 items_no_annotation [] u f = cc
@@ -338,10 +337,10 @@ item_some (s.fields x) r f = cc
 item_some (s.resource x) r f = cc
 item_some (s.procedure x) r f = cc
 
-pub items_once : (n : ℕ) (is js : List s.Item) → ItemsWithin is n [] → ItemsWithin js n [] → g.items is [] ≡ g.items js [] → is ≡ js
-items_once n [] [] v w f = refl
-items_once n [] (y ∷ js) v w f = absurd (item_some y (g.items js []) (sym f))
-items_once n (x ∷ is) [] v w f = absurd (item_some x (g.items is []) f)
-items_once n (x ∷ is) (y ∷ js) v w f =
-    let o = item_once n x y (g.items is []) (g.items js []) v.0 w.0 (items_no_annotation is) (items_no_annotation js) f in
-    cons-same x y is js o.0 (items_once n is js v.1 w.1 o.1)
+pub items_once : (is js : List s.Item) → IsNearest is → IsNearest js → g.items is [] ≡ g.items js [] → is ≡ js
+items_once [] [] v w f = refl
+items_once [] (y ∷ js) v w f = absurd (item_some y (g.items js []) (sym f))
+items_once (x ∷ is) [] v w f = absurd (item_some x (g.items is []) f)
+items_once (x ∷ is) (y ∷ js) v w f =
+    let o = item_once x y (g.items is []) (g.items js []) v.0 w.0 (items_no_annotation is) (items_no_annotation js) f in
+    cons-same x y is js o.0 (items_once is js v.1 w.1 o.1)

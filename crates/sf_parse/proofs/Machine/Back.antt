@@ -1,11 +1,10 @@
 -- One token back: where the machine takes a token and what is then owed spells the rest, what was owed spells all.
-use Rattle.std.proofs.Common.{◌≡◌, ℕ, suc, pos, List, [], ◌∷◌, ◌++◌, ◌-◌, length, Bool, true, false, ◌⊎◌, inl, inr, refl, ap, subst, ◌∙◌}
+use Rattle.std.proofs.Common.{◌≡◌, ℕ, suc, List, [], ◌∷◌, ◌++◌, ◌-◌, length, Bool, true, false, ◌⊎◌, inl, inr, refl, ap, subst, ◌∙◌}
 use Rattle.sf_base.specs.declared.place.Place.{Place}
 use Rattle.sf_ast.specs.declared.word.SurfaceExpr.{SurfaceExpr}
 use Rattle.sf_ast.specs.declared.word.SurfaceExpr.TheVariants as e
 use Rattle.sf_ast.specs.declared.word.SurfaceOperand.{SurfaceOperand}
 use Rattle.sf_ast.specs.declared.word.SurfaceOperand.TheVariants as v
-use Rattle.sf_ast.specs.declared.word.Word.{Word}
 use Rattle.sf_ast.specs.Surface as s
 use Rattle.sf_parse.specs.Leaf.{Leaf}
 use Rattle.sf_parse.specs.Leaf as k
@@ -13,7 +12,8 @@ use Rattle.sf_parse.specs.Grammar as g
 use Rattle.sf_parse.specs.Internal.Heads.{IsFlat}
 use Rattle.sf_parse.specs.Internal.Machine as m
 use Rattle.sf_parse.specs.Internal.Machine.{Predicted, Choice, take, skip, refuse, Next, goes, bad, deep, leveled, chosen, choice, is_free, step, or_skip, terminal_leaf, on_exact, on_expression, on_operand, on_conjunct, on_command}
-use Rattle.sf_parse.specs.Nesting.{has_level, NotElse, Follows, ConjunctWithin, AssertionWithin, MaybeWithin, CommandWithin, CommandsWithin}
+use Rattle.sf_parse.specs.Nearest.{NotElse, Follows, ConjunctNearest, CommandNearest}
+use Rattle.sf_parse.specs.Nesting.{has_level, ConjunctWithin, AssertionWithin, MaybeWithin, CommandWithin, CommandsWithin}
 use Rattle.sf_parse.specs.Internal.Parser.{Ends}
 use Rattle.sf_parse.proofs.Machine.Means.{Spells, Means, MeansNext}
 
@@ -75,6 +75,7 @@ pub record ConjunctBack (n d : ℕ) (u : Leaf) (ss st : List Predicted) (ts : Li
   pub rest : List Leaf
   pub spells : u ∷ ts ≡ g.conjunct conjunct rest
   pub within : ConjunctWithin conjunct n d rest
+  pub nearest : ConjunctNearest conjunct
   pub ends : Ends conjunct rest
   pub more : Means n (ss ++ st) rest
 
@@ -82,14 +83,14 @@ relation_back : (n d : ℕ) (u : Leaf) (ss st : List Predicted) (ts : List Leaf)
 relation_back n d u ss st ts x h (r, p, more) = relation_cases p more
   where
     relation_cases : Spells n m.relation ts r → Means n (ss ++ st) r → ConjunctBack n d u ss st ts
-    relation_cases (inl q) more = record { conjunct = s.equal x q.0; rest = r; spells = cc; within = tt; ends = tt; more = more }
-    relation_cases (inr (inl q)) more = record { conjunct = s.differ x q.0; rest = r; spells = cc; within = tt; ends = tt; more = more }
-    relation_cases (inr (inr q)) more = record { conjunct = s.points x q.0; rest = r; spells = cc; within = tt; ends = tt; more = more }
+    relation_cases (inl q) more = record { conjunct = s.equal x q.0; rest = r; spells = cc; within = tt; nearest = tt; ends = tt; more = more }
+    relation_cases (inr (inl q)) more = record { conjunct = s.differ x q.0; rest = r; spells = cc; within = tt; nearest = tt; ends = tt; more = more }
+    relation_cases (inr (inr q)) more = record { conjunct = s.points x q.0; rest = r; spells = cc; within = tt; nearest = tt; ends = tt; more = more }
 
 group_back : (n d : ℕ) (ss st : List Predicted) (ts : List Leaf) → Means n (m.assertion (d - 1) ∷ m.exact m.close_round ∷ (ss ++ st)) ts → ConjunctBack n d k.OpenRound ss st ts
 group_back n d ss st ts (r1, a, (r2, c, more)) =
     let is : k.OpenRound ∷ ts ≡ g.conjunct (s.group a.0) r2 = rw (← c.1) (ap (λ z. k.OpenRound ∷ z) a.1) in
-    record { conjunct = s.group a.0; rest = r2; spells = is; within = subst (λ z. AssertionWithin a.0 n (d - 1) z) c.1 a.2; ends = tt; more = more }
+    record { conjunct = s.group a.0; rest = r2; spells = is; within = subst (λ z. AssertionWithin a.0 n (d - 1) z) c.1 a.2; nearest = a.4; ends = tt; more = more }
 
 choose_back : (n d : ℕ) (p : Place) (ss st : List Predicted) (ts : List Leaf) → Means n (m.if_test ∷ m.exact m.then_word ∷ m.assertion (d - 1) ∷ m.exact m.else_word ∷ m.assertion (d - 1) ∷ (ss ++ st)) ts → ConjunctBack n d (k.If p) ss st ts
 choose_back n d p ss st ts (r1, b, (r2, c, (r3, x, (r4, q, (r5, y, more))))) = test_cases b
@@ -109,6 +110,7 @@ choose_back n d p ss st ts (r1, b, (r2, c, (r3, x, (r4, q, (r5, y, more))))) = t
       rest = r5;
       spells = ap (λ z. k.If p ∷ z) (h.1 ∙ ap (λ z. g.test g.operand h.0 z) whole);
       within = (first, y.2);
+      nearest = (x.4, y.4);
       ends = y.3;
       more = more;
     }
@@ -117,18 +119,19 @@ choose_back n d p ss st ts (r1, b, (r2, c, (r3, x, (r4, q, (r5, y, more))))) = t
       rest = r5;
       spells = ap (λ z. k.If p ∷ z) (h.1 ∙ ap (λ z. k.OpenRound ∷ g.test g.operand h.0 (k.CloseRound ∷ z)) whole);
       within = (first, y.2);
+      nearest = (x.4, y.4);
       ends = y.3;
       more = more;
     }
 
 pub conjunct_back : (n d : ℕ) (u : Leaf) (ss st : List Predicted) (w : Next) (ts : List Leaf) → MeansNext n (chosen (on_conjunct d u ss) true st w) ts → ConjunctBack n d u ss st ts
-conjunct_back n d (k.Emp p) ss st w ts q = record { conjunct = s.emp p; rest = ts; spells = refl; within = tt; ends = tt; more = q }
+conjunct_back n d (k.Emp p) ss st w ts q = record { conjunct = s.emp p; rest = ts; spells = refl; within = tt; nearest = tt; ends = tt; more = q }
 conjunct_back n d k.OpenRound ss st w ts q = group_back n d ss st ts q
 conjunct_back n d (k.If p) ss st w ts q = choose_back n d p ss st ts q
-conjunct_back n d (k.Ls p) ss st w ts (r1, a, (r2, x, (r3, b, (r4, y, (r5, c, more))))) = record { conjunct = s.ls p x.0 y.0; rest = r5; spells = cc; within = tt; ends = tt; more = more }
-conjunct_back n d (k.Lseg p) ss st w ts (r1, a, (r2, x, (r3, b, (r4, y, (r5, c, more))))) = record { conjunct = s.lseg p x.0 y.0; rest = r5; spells = cc; within = tt; ends = tt; more = more }
-conjunct_back n d (k.List p) ss st w ts (r1, a, (r2, x, (r3, c, more))) = record { conjunct = s.list p x.0; rest = r3; spells = cc; within = tt; ends = tt; more = more }
-conjunct_back n d (k.Tree p) ss st w ts (r1, a, (r2, x, (r3, c, more))) = record { conjunct = s.tree p x.0; rest = r3; spells = cc; within = tt; ends = tt; more = more }
+conjunct_back n d (k.Ls p) ss st w ts (r1, a, (r2, x, (r3, b, (r4, y, (r5, c, more))))) = record { conjunct = s.ls p x.0 y.0; rest = r5; spells = cc; within = tt; nearest = tt; ends = tt; more = more }
+conjunct_back n d (k.Lseg p) ss st w ts (r1, a, (r2, x, (r3, b, (r4, y, (r5, c, more))))) = record { conjunct = s.lseg p x.0 y.0; rest = r5; spells = cc; within = tt; nearest = tt; ends = tt; more = more }
+conjunct_back n d (k.List p) ss st w ts (r1, a, (r2, x, (r3, c, more))) = record { conjunct = s.list p x.0; rest = r3; spells = cc; within = tt; nearest = tt; ends = tt; more = more }
+conjunct_back n d (k.Tree p) ss st w ts (r1, a, (r2, x, (r3, c, more))) = record { conjunct = s.tree p x.0; rest = r3; spells = cc; within = tt; nearest = tt; ends = tt; more = more }
 conjunct_back n d u ss st w ts q =
     let o = operand_back n u (m.relation ∷ ss) st w ts q in
     relation_back n d u ss st ts o.expr o.is o.more
@@ -140,6 +143,7 @@ pub record CommandBack (n d : ℕ) (u : Leaf) (ss st : List Predicted) (ts : Lis
   pub spells : u ∷ ts ≡ g.command command rest
   pub within : has_level n (suc (length ts)) d ≡ true → CommandWithin command n d rest
   pub follows : Follows command rest
+  pub nearest : CommandNearest command
   pub more : Means n (ss ++ st) rest
 
 -- the level of a command is that of its first token
@@ -161,6 +165,14 @@ flat_follows (s.while p b x c) r f = absurd f
 flat_follows (s.with p x b c) r f = absurd f
 flat_follows _ r f = tt
 
+pub flat_nearest : (c : s.Command) → IsFlat c → CommandNearest c
+flat_nearest (s.if_alone p b c) f = absurd f
+flat_nearest (s.if p b c e) f = absurd f
+flat_nearest (s.while p b x c) f = absurd f
+flat_nearest (s.with p x b c) f = absurd f
+flat_nearest (s.block p cs o) f = absurd f
+flat_nearest _ f = tt
+
 flat_back : (n d : ℕ) (u : Leaf) (ss st : List Predicted) (ts : List Leaf) (c : s.Command) (r : List Leaf) → IsFlat c → u ∷ ts ≡ g.command c r → Means n (ss ++ st) r → CommandBack n d u ss st ts
 flat_back n d u ss st ts c r f is more = record {
   command = c;
@@ -168,6 +180,7 @@ flat_back n d u ss st ts c r f is more = record {
   spells = is;
   within = λ h. flat_within c n d r f (level_of n d u ts (g.command c r) is h);
   follows = flat_follows c r f;
+  nearest = flat_nearest c f;
   more = more;
 }
 
@@ -194,7 +207,7 @@ if_back n d p ss st ts (r1, a, (r2, b, (r3, q, (r4, c, (r5, x, more))))) = branc
     whole z h = ap (λ y. k.If p ∷ y) (a.1 ∙ ap (λ y. k.OpenRound ∷ y) (b.1 ∙ ap (λ y. g.test g.expr b.0 y) (q.1 ∙ ap (λ y. k.CloseRound ∷ y) (c.1 ∙ ap (λ y. g.command c.0 y) h))))
 
     branch_cases : Spells n (m.branch (d - 1)) r4 r5 → Means n (ss ++ st) r5 → CommandBack n d (k.If p) ss st ts
-    branch_cases (inl (y, h, w, f)) more = record {
+    branch_cases (inl (y, h, w, f, m)) more = record {
       command = s.if p b.0 c.0 y;
       rest = r5;
       spells = whole (k.Else ∷ g.command y r5) h;
@@ -202,9 +215,9 @@ if_back n d p ss st ts (r1, a, (r2, b, (r3, q, (r4, c, (r5, x, more))))) = branc
         level_of n d (k.If p) ts (g.command (s.if p b.0 c.0 y) r5) (whole (k.Else ∷ g.command y r5) h) lv,
         subst (λ z. CommandWithin c.0 n (d - 1) z) h c.2,
         w,
-        follows_else c.0 (g.command y r5) [] (subst (λ z. Follows c.0 z) h c.3),
       );
       follows = f;
+      nearest = (c.4, m, follows_else c.0 (g.command y r5) [] (subst (λ z. Follows c.0 z) h c.3));
       more = more;
     }
     branch_cases (inr h) more = record {
@@ -213,6 +226,7 @@ if_back n d p ss st ts (r1, a, (r2, b, (r3, q, (r4, c, (r5, x, more))))) = branc
       spells = whole r5 h.1;
       within = λ lv. (level_of n d (k.If p) ts (g.command (s.if_alone p b.0 c.0) r5) (whole r5 h.1) lv, subst (λ z. CommandWithin c.0 n (d - 1) z) h.1 c.2);
       follows = subst (λ z. NotElse z) h.1 h.0;
+      nearest = c.4;
       more = more;
     }
 
@@ -226,6 +240,7 @@ while_back n d p ss st ts (r1, a, (r2, b, (r3, q, (r4, x, (r5, c, more))))) =
       spells = whole;
       within = λ lv. (level_of n d (k.While p) ts (g.command (s.while p b.0 x.0 c.0) r5) whole lv, subst (λ z. MaybeWithin x.0 n z) c.1 x.2, c.2);
       follows = c.3;
+      nearest = (x.3, c.4);
       more = more;
     }
 
@@ -239,6 +254,7 @@ with_back n d p ss st ts (r0, o, (r1, a, (r2, b, (r3, t, (r4, q, (r5, c, more)))
       spells = whole;
       within = λ lv. (level_of n d (k.With p) ts (g.command (s.with p o.0 t.0 c.0) r5) whole lv, c.2);
       follows = c.3;
+      nearest = c.4;
       more = more;
     }
 
@@ -251,6 +267,7 @@ block_back n d p ss st ts (r1, c, (r2, q, more)) =
       spells = whole;
       within = λ lv. (level_of n d (k.OpenBrace p) ts (g.command (s.block p c.0 q.0.place) r2) whole lv, subst (λ z. CommandsWithin c.0 n (d - 1) z) q.1 c.2);
       follows = tt;
+      nearest = c.3;
       more = more;
     }
 

@@ -2,7 +2,7 @@
 use Rattle.std.proofs.Common.{◌≡◌, ◌≤◌, ◌<◌, ℕ, suc, List, [], ◌∷◌, ◌++◌, length, Bool, true, false, ◌⊎◌, inl, inr, refl, sym, subst, ◌∙◌, arith, length-append}
 use Rattle.sf_parse.specs.Leaf.{Leaf}
 use Rattle.sf_parse.specs.Internal.Machine.{Predicted, Next, goes, bad, deep, step, Verdict, accepted, unexpected, too_deep, at_end, may_end, after, verdict}
-use Rattle.sf_parse.proofs.Machine.Complete.{complete, completes}
+use Rattle.sf_parse.proofs.Machine.Complete.{completion}
 use Rattle.sf_parse.proofs.Machine.Free.{step_goes, step_bad, step_deep_over, step_deep_in, step_free}
 use Rattle.sf_parse.proofs.Machine.Means.{Means, MeansNext}
 use Rattle.sf_parse.proofs.Machine.OwedBack.{step_back}
@@ -59,7 +59,7 @@ viable_step front back t st b deep is f e = absurd (not_fault false b (length ba
 
 -- the front can go on
 pub viable : (front back : List Leaf) (st : List Predicted) (b : Bool) → verdict 0 (front ++ back) st ≡ fault_of b (length back) → GoesOn st front
-viable [] back st b e = (complete st, λ n h. completes n st h)
+viable [] back st b e = let c = completion st in (c.tokens, λ n h. c.means n h)
 viable (t ∷ front) back st b e = viable_step front back t st b (step 0 (suc (length (front ++ back))) st t) refl (λ st2 h. viable front back st2 b h) e
 
 -- with the next token it can't, where that token is held to the limit
@@ -97,11 +97,12 @@ deep_here : (t : Leaf) (back : List Leaf) (st : List Predicted) (x : Next) → s
 deep_here t back st (goes st2) is e = let q = fault_le back st2 false (suc (length back)) e in absurd (omega arith)
 deep_here t back st bad is e = absurd cc
 deep_here t back st deep is e =
-    let q = step_deep_in (length back) st t is in (
-      complete q.0,
-      λ n h. step_back n st t (complete q.0) (
-          let a : step n (suc (length (complete q.0))) st t ≡ goes q.0 = step_free n (suc (length (complete q.0))) st t h ∙ q.1 in
-          subst (λ (x : Next). MeansNext n x (complete q.0)) (sym a) (completes n q.0 (omega arith))),
+    let q = step_deep_in (length back) st t is in
+    let c = completion q.0 in (
+      c.tokens,
+      λ n h. step_back n st t c.tokens (
+          let a : step n (suc (length c.tokens)) st t ≡ goes q.0 = step_free n (suc (length c.tokens)) st t h ∙ q.1 in
+          subst (λ (x : Next). MeansNext n x c.tokens) (sym a) (c.means n (omega arith))),
     )
 
 deep_step : (front : List Leaf) (t0 t : Leaf) (back : List Leaf) (st : List Predicted) (x : Next) → step 0 (suc (length (front ++ t ∷ back))) st t0 ≡ x

@@ -14,9 +14,11 @@ use Rattle.sf_parse.specs.Grammar.{items}
 use Rattle.sf_parse.specs.Laws.{verdict_of, Spelled}
 use Rattle.sf_parse.specs.Internal.Machine as m
 use Rattle.sf_parse.specs.Internal.Machine.{Predicted, Choice, take, skip, refuse, Next, goes, bad, deep, chosen, choice, is_free, step, Verdict, accepted, unexpected, too_deep, at_end, may_end, after, verdict}
+use Rattle.sf_parse.specs.Nearest.{IsNearest}
 use Rattle.sf_parse.specs.Nesting.{ItemsWithin}
 use Rattle.sf_parse.specs.Leaf.{Leaf, leaf, leaves}
 use Rattle.sf_parse.specs.Parsing.{IsFile, CanBegin, CanBeginAny, IsUnexpected, IsTooDeep, IsFault}
+use Rattle.sf_parse.proofs.Grammar.Depths.{items_shallow, items_within}
 use Rattle.sf_parse.proofs.Machine.Exactly.{fault_of, fault_le}
 use Rattle.sf_parse.proofs.Machine.Free.{chosen_goes}
 use Rattle.sf_parse.proofs.Machine.HasLevel.{level_more}
@@ -44,20 +46,18 @@ accepted_more n p (t ∷ ts) st h e = go (step n (suc (length ts)) st t) refl (�
     go deep is f e = absurd cc
 
 -- a file that is within the limit but for n tokens is so but for more
-within_more : (n p : ℕ) (ts : List Leaf) (tree : List Item) → n ≤ p → ts ≡ items tree [] → ItemsWithin tree n [] → (other : List Item) × (ts ≡ items other []) × ItemsWithin other p []
-within_more n p ts tree h is w = accepted_file p ts (accepted_more n p ts (m.items ∷ []) h (file_accepted n ts tree is w))
+within_more : (n p : ℕ) (ts : List Leaf) (tree : List Item) → n ≤ p → ts ≡ items tree [] → IsNearest tree → ItemsWithin tree n [] → (other : List Item) × (ts ≡ items other []) × ItemsWithin other p [] × IsNearest other
+within_more n p ts tree h is near w = accepted_file p ts (accepted_more n p ts (m.items ∷ []) h (file_accepted n ts tree is near w))
 
 -- what can begin longer can begin so
 begins_shorter : (front : List Leaf) (t : Leaf) (more : List Leaf) → CanBegin (front ++ t ∷ more) → CanBegin (front ++ t ∷ [])
 begins_shorter front t more q =
     let is : (front ++ t ∷ []) ++ (more ++ q.back) ≡ items q.tree [] = append_assoc front (t ∷ []) (more ++ q.back) ∙ sym (append_assoc front (t ∷ more) q.back) ∙ q.spells in
-    let f = within_more (length q.back) (length (more ++ q.back)) ((front ++ t ∷ []) ++ (more ++ q.back)) q.tree (omega (arith, length-append more q.back)) is q.within in
-    record { back = more ++ q.back; tree = f.0; spells = f.1; within = f.2 }
+    let f = within_more (length q.back) (length (more ++ q.back)) ((front ++ t ∷ []) ++ (more ++ q.back)) q.tree (omega (arith, length-append more q.back)) is q.nearest q.within in
+    record { back = more ++ q.back; tree = f.0; spells = f.1; nearest = f.3; within = f.2 }
 
 begins_any : (front : List Leaf) → CanBegin front → CanBeginAny front
-begins_any front q =
-    let f = within_more (length q.back) (length (front ++ q.back)) (front ++ q.back) q.tree (omega (arith, length-append front q.back)) q.spells q.within in
-    record { back = q.back; tree = f.0; spells = f.1; within = f.2 }
+begins_any front q = record { back = q.back; tree = q.tree; spells = q.spells; nearest = q.nearest }
 
 -- two splits of one list: the first comes earlier, they are the same, or the second does
 pub data Splits {A : Type 0} (f : List A) (x : A) (b g : List A) (y : A) (c : List A) : Type 0 where
@@ -151,12 +151,12 @@ begins_before ks front t back false is e = ((exact ks).deeper front t back is e)
 begins_no_further : (ks front : List Leaf) (t : Leaf) (back : List Leaf) (b : Bool) (more : List Leaf) → ks ≡ front ++ t ∷ back → verdict_of ks ≡ fault_of b (suc (length back)) → CanBegin (front ++ t ∷ more) → ⊥
 begins_no_further ks front t back b more is e q =
     refuses (length q.back) front t back (more ++ q.back) b (inr (omega (arith, length-append more q.back))) (ap verdict_of (sym is) ∙ e) q.tree
-    (append_assoc front (t ∷ []) (more ++ q.back) ∙ sym (append_assoc front (t ∷ more) q.back) ∙ q.spells) q.within
+    (append_assoc front (t ∷ []) (more ++ q.back) ∙ sym (append_assoc front (t ∷ more) q.back) ∙ q.spells) q.nearest q.within
 
 -- accepted tokens begin a file
 begins_whole : (ks : List Leaf) → verdict_of ks ≡ accepted → CanBegin ks
 begins_whole ks e =
-    let f = accepted_file 0 ks e in record { back = []; tree = f.0; spells = append-nil ks ∙ f.1; within = f.2 }
+    let f = accepted_file 0 ks e in record { back = []; tree = f.0; spells = append-nil ks ∙ f.1; nearest = f.3; within = f.2 }
 
 -- the machine stops at a token with which the tokens before it no longer begin a file
 fails_there : (ks front : List Leaf) (t : Leaf) (back : List Leaf) → ks ≡ front ++ t ∷ back → CanBegin front → (CanBegin (front ++ t ∷ []) → ⊥) → (b : Bool) × (verdict_of ks ≡ fault_of b (suc (length back)))
@@ -181,13 +181,17 @@ fails_at_end ks can none = go (halt ks)
     go (ends e) = e
     go (here f x c b own e) = absurd (begins_no_further ks f x c b c own e (subst CanBegin own can))
 
+-- a file is spelled
+spelled : (ts : List Token) (tree : List Item) → IsFile ts tree → Spelled (leaves ts)
+spelled ts tree f = record { tree = tree; spells = f.spells; nearest = f.nearest; within = items_within tree [] f.shallow }
+
 place_there : (ts front : List Token) (t : Token) (back : List Token) (n : ℕ) → ts ≡ front ++ t ∷ back → length back ≡ n → (token_left ts (suc n)).place ≡ t.place
 place_there ts front t back n is left = rw (is, ← left) (ap (λ (x : Token). x.place) (token_there front t back))
 
 unexpected_is : (end : Place) (ts : List Token) (p : Place) (n : ℕ) → verdict_of (leaves ts) ≡ unexpected n → p ≡ place_left end ts n → IsFault end ts (Unexpected p)
 unexpected_is end ts p zero e at =
     let q = (exact (leaves ts)).ends e in
-    inr (record { there = at; begins = q.0; no_file = λ tree is w. q.1 (record { tree = tree; spells = is; within = w }) })
+    inr (record { there = at; begins = q.0; no_file = λ tree f. q.1 (spelled ts tree f) })
 unexpected_is end ts p (suc n) e at =
     let le : suc n ≤ length (leaves ts) = fault_le (leaves ts) (m.items ∷ []) true (suc n) e in
     let s = split_at ts n (omega (arith, kinds_length ts)) in
@@ -234,7 +238,7 @@ too_deep_says end ts p q =
 pub fault_says : (end : Place) (ts : List Token) (f : ParseFault) → IsFault end ts f → Says end ts f (verdict_of (leaves ts))
 fault_says end ts (Unexpected p) h = elim h [
   | inl q ↦ unexpected_says end ts p q
-  | inr q ↦ (0, fails_at_end (leaves ts) q.begins (λ f. q.no_file f.tree f.spells f.within), q.there)
+  | inr q ↦ (0, fails_at_end (leaves ts) q.begins (λ f. q.no_file f.tree (record { spells = f.spells; nearest = f.nearest; shallow = items_shallow f.tree [] f.within })), q.there)
 ]
 fault_says end ts (TooDeep p) h = too_deep_says end ts p h
 fault_says end ts OutOfMemory h = absurd h
@@ -259,13 +263,13 @@ accepted_says_none end ts v OutOfMemory e h = h
 -- a file has no fault
 pub files_without_fault : (end : Place) (ts : List Token) (tree : List Item) (f : ParseFault) → IsFile ts tree → IsFault end ts f → ⊥
 files_without_fault end ts tree f file h =
-    accepted_says_none end ts (verdict_of (leaves ts)) f ((exact (leaves ts)).file (record { tree = tree; spells = file.spells; within = file.within })) (fault_says end ts f h)
+    accepted_says_none end ts (verdict_of (leaves ts)) f ((exact (leaves ts)).file (spelled ts tree file)) (fault_says end ts f h)
 
 -- tokens are a file, or have a fault
 pub file_or_fault : (end : Place) (ts : List Token) → ((tree : List Item) × IsFile ts tree) ⊎ ((f : ParseFault) × IsFault end ts f)
 file_or_fault end ts = go (verdict_of (leaves ts)) refl
   where
     go : (v : Verdict) → verdict_of (leaves ts) ≡ v → ((tree : List Item) × IsFile ts tree) ⊎ ((f : ParseFault) × IsFault end ts f)
-    go accepted e = let f = (exact (leaves ts)).accepts e in inl (f.tree, record { spells = f.spells; within = f.within })
+    go accepted e = let f = (exact (leaves ts)).accepts e in inl (f.tree, record { spells = f.spells; nearest = f.nearest; shallow = items_shallow f.tree [] f.within })
     go (unexpected n) e = inr (Unexpected (place_left end ts n), says_fault end ts (Unexpected (place_left end ts n)) (n, e, refl))
     go (too_deep n) e = inr (TooDeep (place_left end ts n), says_fault end ts (TooDeep (place_left end ts n)) (n, e, refl))

@@ -16,7 +16,8 @@ use Rattle.sf_parse.specs.Leaf as k
 use Rattle.sf_parse.specs.Grammar as g
 use Rattle.sf_parse.specs.Internal.Machine as m
 use Rattle.sf_parse.specs.Internal.Machine.{Predicted, verdict}
-use Rattle.sf_parse.specs.Nesting.{IsClosed, HasLevel, ConjunctWithin, AssertionWithin, RestWithin, NoteWithin, MaybeWithin}
+use Rattle.sf_parse.specs.Nearest.{IsClosed, ConjunctNearest, AssertionNearest, NoteNearest, MaybeNearest}
+use Rattle.sf_parse.specs.Nesting.{HasLevel, ConjunctWithin, AssertionWithin, RestWithin, NoteWithin, MaybeWithin}
 use Rattle.sf_parse.specs.Internal.Parser.{NotStar, Ends}
 
 -- what holds of the four first tokens of an expression holds of each
@@ -195,60 +196,60 @@ ends_before (s.choose_round p b x y) r h = h
 ends_before _ r h = tt
 
 mutual
-  conjunct_goes : (n : ℕ) (c : s.Conjunct) (d : ℕ) (r : List Leaf) (st : List Predicted) → ConjunctWithin c n d r → AfterConjunct r → Ends c r → verdict n (g.conjunct c r) (m.conjunct d ∷ st) ≡ verdict n r st
-  conjunct_goes n (s.emp p) d r st w a f = refl
-  conjunct_goes n (s.group x) d r st w a f = assertion_goes n x (d - 1) (k.CloseRound ∷ r) (m.exact m.close_round ∷ st) w tt tt
-  conjunct_goes n (s.choose p b x y) d r st w a f =
+  conjunct_goes : (n : ℕ) (c : s.Conjunct) (d : ℕ) (r : List Leaf) (st : List Predicted) → ConjunctNearest c → ConjunctWithin c n d r → AfterConjunct r → Ends c r → verdict n (g.conjunct c r) (m.conjunct d ∷ st) ≡ verdict n r st
+  conjunct_goes n (s.emp p) d r st near w a f = refl
+  conjunct_goes n (s.group x) d r st near w a f = assertion_goes n x (d - 1) (k.CloseRound ∷ r) (m.exact m.close_round ∷ st) near w tt tt
+  conjunct_goes n (s.choose p b x y) d r st near w a f =
       bare_test_goes n b (k.Then ∷ g.assertion x (k.Else ∷ g.assertion y r)) (m.exact m.then_word ∷ m.assertion (d - 1) ∷ m.exact m.else_word ∷ m.assertion (d - 1) ∷ st)
-      ∙ assertion_goes n x (d - 1) (k.Else ∷ g.assertion y r) (m.exact m.else_word ∷ m.assertion (d - 1) ∷ st) w.0 tt tt
-      ∙ assertion_goes n y (d - 1) r st w.1 a f
-  conjunct_goes n (s.choose_round p b x y) d r st w a f =
+      ∙ assertion_goes n x (d - 1) (k.Else ∷ g.assertion y r) (m.exact m.else_word ∷ m.assertion (d - 1) ∷ st) near.0 w.0 tt tt
+      ∙ assertion_goes n y (d - 1) r st near.1 w.1 a f
+  conjunct_goes n (s.choose_round p b x y) d r st near w a f =
       operand_test_goes n b (k.CloseRound ∷ k.Then ∷ g.assertion x (k.Else ∷ g.assertion y r)) (m.exact m.close_round ∷ m.exact m.then_word ∷ m.assertion (d - 1) ∷ m.exact m.else_word ∷ m.assertion (d - 1) ∷ st)
-      ∙ assertion_goes n x (d - 1) (k.Else ∷ g.assertion y r) (m.exact m.else_word ∷ m.assertion (d - 1) ∷ st) w.0 tt tt
-      ∙ assertion_goes n y (d - 1) r st w.1 a f
-  conjunct_goes n (s.equal x y) d r st w a f =
+      ∙ assertion_goes n x (d - 1) (k.Else ∷ g.assertion y r) (m.exact m.else_word ∷ m.assertion (d - 1) ∷ st) near.0 w.0 tt tt
+      ∙ assertion_goes n y (d - 1) r st near.1 w.1 a f
+  conjunct_goes n (s.equal x y) d r st near w a f =
       let h = operand_goes n y r st in by_operand x (λ u. verdict n (u ∷ k.EqualEqual ∷ g.operand y ∷ r) (m.conjunct d ∷ st) ≡ verdict n r st) (λ w. h) (λ p. h) (λ p. h) (λ i p. h) (λ w. h)
-  conjunct_goes n (s.differ x y) d r st w a f =
+  conjunct_goes n (s.differ x y) d r st near w a f =
       let h = operand_goes n y r st in by_operand x (λ u. verdict n (u ∷ k.NotEqual ∷ g.operand y ∷ r) (m.conjunct d ∷ st) ≡ verdict n r st) (λ w. h) (λ p. h) (λ p. h) (λ i p. h) (λ w. h)
-  conjunct_goes n (s.points x fs) d r st w a f =
+  conjunct_goes n (s.points x fs) d r st near w a f =
       let h = maybe_fields_go n fs r st a in by_operand x (λ u. verdict n (u ∷ k.PointsTo ∷ g.maybe_fields fs r) (m.conjunct d ∷ st) ≡ verdict n r st) (λ w. h) (λ p. h) (λ p. h) (λ i p. h) (λ w. h)
-  conjunct_goes n (s.ls p x y) d r st w a f =
+  conjunct_goes n (s.ls p x y) d r st near w a f =
       operand_goes n x (k.Comma ∷ g.operand y ∷ k.CloseRound ∷ r) (m.exact m.a_comma ∷ m.operand ∷ m.exact m.close_round ∷ st) ∙ operand_goes n y (k.CloseRound ∷ r) (m.exact m.close_round ∷ st)
-  conjunct_goes n (s.lseg p x y) d r st w a f =
+  conjunct_goes n (s.lseg p x y) d r st near w a f =
       operand_goes n x (k.Comma ∷ g.operand y ∷ k.CloseRound ∷ r) (m.exact m.a_comma ∷ m.operand ∷ m.exact m.close_round ∷ st) ∙ operand_goes n y (k.CloseRound ∷ r) (m.exact m.close_round ∷ st)
-  conjunct_goes n (s.list p x) d r st w a f = operand_goes n x (k.CloseRound ∷ r) (m.exact m.close_round ∷ st)
-  conjunct_goes n (s.tree p x) d r st w a f = operand_goes n x (k.CloseRound ∷ r) (m.exact m.close_round ∷ st)
+  conjunct_goes n (s.list p x) d r st near w a f = operand_goes n x (k.CloseRound ∷ r) (m.exact m.close_round ∷ st)
+  conjunct_goes n (s.tree p x) d r st near w a f = operand_goes n x (k.CloseRound ∷ r) (m.exact m.close_round ∷ st)
 
-  assertion_goes : (n : ℕ) (a : s.Assertion) (d : ℕ) (r : List Leaf) (st : List Predicted) → AssertionWithin a n d r → AfterConjunct r → NotStar r → verdict n (g.assertion a r) (m.assertion d ∷ st) ≡ verdict n r st
-  assertion_goes n (s.only c) d r st w a f =
-      first_conjunct n c d r st w.0 ∙ conjunct_goes n c d r (m.more_conjuncts d ∷ st) w.1 a (ends_before c r f) ∙ no_more_conjuncts n d r st f
-  assertion_goes n (s.star c x) d r st w a f =
+  assertion_goes : (n : ℕ) (a : s.Assertion) (d : ℕ) (r : List Leaf) (st : List Predicted) → AssertionNearest a → AssertionWithin a n d r → AfterConjunct r → NotStar r → verdict n (g.assertion a r) (m.assertion d ∷ st) ≡ verdict n r st
+  assertion_goes n (s.only c) d r st near w a f =
+      first_conjunct n c d r st w.0 ∙ conjunct_goes n c d r (m.more_conjuncts d ∷ st) near w.1 a (ends_before c r f) ∙ no_more_conjuncts n d r st f
+  assertion_goes n (s.star c x) d r st near w a f =
       first_conjunct n c d (k.Star ∷ g.assertion x r) st w.0
-      ∙ conjunct_goes n c d (k.Star ∷ g.assertion x r) (m.more_conjuncts d ∷ st) w.1 tt (closed_ends c (k.Star ∷ g.assertion x r) w.2)
-      ∙ rest_of_assertion n x d r st w.3 a f
+      ∙ conjunct_goes n c d (k.Star ∷ g.assertion x r) (m.more_conjuncts d ∷ st) near.0 w.1 tt (closed_ends c (k.Star ∷ g.assertion x r) near.1)
+      ∙ rest_of_assertion n x d r st near.2 w.2 a f
 
   -- what comes after a `*`
-  rest_of_assertion : (n : ℕ) (a : s.Assertion) (d : ℕ) (r : List Leaf) (st : List Predicted) → RestWithin a n d r → AfterConjunct r → NotStar r → verdict n (g.assertion a r) (m.conjunct d ∷ m.more_conjuncts d ∷ st) ≡ verdict n r st
-  rest_of_assertion n (s.only c) d r st w a f = conjunct_goes n c d r (m.more_conjuncts d ∷ st) w a (ends_before c r f) ∙ no_more_conjuncts n d r st f
-  rest_of_assertion n (s.star c x) d r st w a f =
-      conjunct_goes n c d (k.Star ∷ g.assertion x r) (m.more_conjuncts d ∷ st) w.0 tt (closed_ends c (k.Star ∷ g.assertion x r) w.1)
-      ∙ rest_of_assertion n x d r st w.2 a f
+  rest_of_assertion : (n : ℕ) (a : s.Assertion) (d : ℕ) (r : List Leaf) (st : List Predicted) → AssertionNearest a → RestWithin a n d r → AfterConjunct r → NotStar r → verdict n (g.assertion a r) (m.conjunct d ∷ m.more_conjuncts d ∷ st) ≡ verdict n r st
+  rest_of_assertion n (s.only c) d r st near w a f = conjunct_goes n c d r (m.more_conjuncts d ∷ st) near w a (ends_before c r f) ∙ no_more_conjuncts n d r st f
+  rest_of_assertion n (s.star c x) d r st near w a f =
+      conjunct_goes n c d (k.Star ∷ g.assertion x r) (m.more_conjuncts d ∷ st) near.0 w.0 tt (closed_ends c (k.Star ∷ g.assertion x r) near.1)
+      ∙ rest_of_assertion n x d r st near.2 w.1 a f
 
-in_annotation : (n : ℕ) (a : s.Assertion) (r : List Leaf) (st : List Predicted) → AssertionWithin a n NESTING (k.CloseSquare ∷ r) → verdict n (g.assertion a (k.CloseSquare ∷ r)) (m.maybe_assertion ∷ m.exact m.close_square ∷ st) ≡ verdict n r st
-in_annotation n (s.only c) r st w =
+in_annotation : (n : ℕ) (a : s.Assertion) (r : List Leaf) (st : List Predicted) → AssertionNearest a → AssertionWithin a n NESTING (k.CloseSquare ∷ r) → verdict n (g.assertion a (k.CloseSquare ∷ r)) (m.maybe_assertion ∷ m.exact m.close_square ∷ st) ≡ verdict n r st
+in_annotation n (s.only c) r st near w =
     first_in_annotation n c (k.CloseSquare ∷ r) (m.exact m.close_square ∷ st)
-    ∙ conjunct_goes n c NESTING (k.CloseSquare ∷ r) (m.more_conjuncts NESTING ∷ m.exact m.close_square ∷ st) w.1 tt (ends_before c (k.CloseSquare ∷ r) tt)
-in_annotation n (s.star c x) r st w =
+    ∙ conjunct_goes n c NESTING (k.CloseSquare ∷ r) (m.more_conjuncts NESTING ∷ m.exact m.close_square ∷ st) near w.1 tt (ends_before c (k.CloseSquare ∷ r) tt)
+in_annotation n (s.star c x) r st near w =
     first_in_annotation n c (k.Star ∷ g.assertion x (k.CloseSquare ∷ r)) (m.exact m.close_square ∷ st)
-    ∙ conjunct_goes n c NESTING (k.Star ∷ g.assertion x (k.CloseSquare ∷ r)) (m.more_conjuncts NESTING ∷ m.exact m.close_square ∷ st) w.1 tt (closed_ends c (k.Star ∷ g.assertion x (k.CloseSquare ∷ r)) w.2)
-    ∙ rest_of_assertion n x NESTING (k.CloseSquare ∷ r) (m.exact m.close_square ∷ st) w.3 tt tt
+    ∙ conjunct_goes n c NESTING (k.Star ∷ g.assertion x (k.CloseSquare ∷ r)) (m.more_conjuncts NESTING ∷ m.exact m.close_square ∷ st) near.0 w.1 tt (closed_ends c (k.Star ∷ g.assertion x (k.CloseSquare ∷ r)) near.1)
+    ∙ rest_of_assertion n x NESTING (k.CloseSquare ∷ r) (m.exact m.close_square ∷ st) near.2 w.2 tt tt
 
 -- a note after its opening bracket
-pub annotation_goes : (n : ℕ) (x : s.Note) (r : List Leaf) (st : List Predicted) → NoteWithin x n r → verdict n (g.annotation x r) (m.exact m.open_square ∷ m.maybe_assertion ∷ m.exact m.close_square ∷ st) ≡ verdict n r st
-annotation_goes n s.blank r st w = refl
-annotation_goes n (s.filled a) r st w = in_annotation n a r st w
+pub annotation_goes : (n : ℕ) (x : s.Note) (r : List Leaf) (st : List Predicted) → NoteNearest x → NoteWithin x n r → verdict n (g.annotation x r) (m.exact m.open_square ∷ m.maybe_assertion ∷ m.exact m.close_square ∷ st) ≡ verdict n r st
+annotation_goes n s.blank r st near w = refl
+annotation_goes n (s.filled a) r st near w = in_annotation n a r st near w
 
-pub maybe_annotation_goes : (n : ℕ) (x : Option s.Note) (r : List Leaf) (st : List Predicted) → MaybeWithin x n r → verdict n r (m.maybe_annotation ∷ st) ≡ verdict n r st → verdict n (g.maybe_annotation x r) (m.maybe_annotation ∷ st) ≡ verdict n r st
-maybe_annotation_goes n None r st w h = h
-maybe_annotation_goes n (Some s.blank) r st w h = refl
-maybe_annotation_goes n (Some (s.filled a)) r st w h = in_annotation n a r st w
+pub maybe_annotation_goes : (n : ℕ) (x : Option s.Note) (r : List Leaf) (st : List Predicted) → MaybeNearest x → MaybeWithin x n r → verdict n r (m.maybe_annotation ∷ st) ≡ verdict n r st → verdict n (g.maybe_annotation x r) (m.maybe_annotation ∷ st) ≡ verdict n r st
+maybe_annotation_goes n None r st near w h = h
+maybe_annotation_goes n (Some s.blank) r st near w h = refl
+maybe_annotation_goes n (Some (s.filled a)) r st near w h = in_annotation n a r st near w

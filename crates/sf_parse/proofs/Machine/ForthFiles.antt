@@ -11,7 +11,8 @@ use Rattle.sf_parse.specs.Leaf as k
 use Rattle.sf_parse.specs.Grammar as g
 use Rattle.sf_parse.specs.Internal.Machine as m
 use Rattle.sf_parse.specs.Internal.Machine.{Predicted, verdict}
-use Rattle.sf_parse.specs.Nesting.{NotElse, Follows, HasLevel, NoteWithin, CommandWithin, CommandsWithin, ItemWithin, ItemsWithin}
+use Rattle.sf_parse.specs.Nearest.{NotElse, Follows, NoteNearest, CommandNearest, CommandsNearest, ItemNearest, IsNearest}
+use Rattle.sf_parse.specs.Nesting.{HasLevel, NoteWithin, CommandWithin, CommandsWithin, ItemWithin, ItemsWithin}
 use Rattle.sf_parse.proofs.Machine.Back.{follows_else}
 use Rattle.sf_parse.proofs.Machine.Forth.{by_expr, expr_goes, test_goes, more_names_go, maybe_names_go, parameters_go, arguments_go, annotation_goes, maybe_annotation_goes}
 
@@ -76,33 +77,33 @@ disposed_goes : (n : ℕ) (a : SurfaceExpr) (r : List Leaf) (st : List Predicted
 disposed_goes n a r st = by_expr a (λ u. verdict n (u ∷ r) (m.disposed ∷ st) ≡ verdict n r (m.exact m.semicolon ∷ st)) (λ w. refl) (λ p. refl) (λ p. refl) (λ i p. refl)
 
 mutual
-  command_goes : (n : ℕ) (c : s.Command) (d : ℕ) (r : List Leaf) (st : List Predicted) → CommandWithin c n d r → Follows c r → verdict n (g.command c r) (m.command d ∷ st) ≡ verdict n r st
-  command_goes n (s.assign x a) d r st w f = rw w (assigned_goes n a (k.Semicolon ∷ r) st)
-  command_goes n (s.look_up x a y) d r st w f = rw w (assigned_goes n a (k.Arrow ∷ k.Name y ∷ k.Semicolon ∷ r) st)
-  command_goes n (s.new x) d r st w f = rw w refl
-  command_goes n (s.mutate a y b) d r st w f = mutate_goes n a y b d r st w
-  command_goes n (s.dispose p a) d r st w f = rw w (disposed_goes n a (k.Semicolon ∷ r) st)
-  command_goes n (s.dispose_round p a) d r st w f = rw w (expr_goes n a (k.CloseRound ∷ k.Semicolon ∷ r) (m.exact m.close_round ∷ m.exact m.semicolon ∷ st))
-  command_goes n (s.if_alone p b c) d r st w f =
+  command_goes : (n : ℕ) (c : s.Command) (d : ℕ) (r : List Leaf) (st : List Predicted) → CommandNearest c → CommandWithin c n d r → Follows c r → verdict n (g.command c r) (m.command d ∷ st) ≡ verdict n r st
+  command_goes n (s.assign x a) d r st near w f = rw w (assigned_goes n a (k.Semicolon ∷ r) st)
+  command_goes n (s.look_up x a y) d r st near w f = rw w (assigned_goes n a (k.Arrow ∷ k.Name y ∷ k.Semicolon ∷ r) st)
+  command_goes n (s.new x) d r st near w f = rw w refl
+  command_goes n (s.mutate a y b) d r st near w f = mutate_goes n a y b d r st w
+  command_goes n (s.dispose p a) d r st near w f = rw w (disposed_goes n a (k.Semicolon ∷ r) st)
+  command_goes n (s.dispose_round p a) d r st near w f = rw w (expr_goes n a (k.CloseRound ∷ k.Semicolon ∷ r) (m.exact m.close_round ∷ m.exact m.semicolon ∷ st))
+  command_goes n (s.if_alone p b c) d r st near w f =
       rw w.0 (test_goes n b (k.CloseRound ∷ g.command c r) (m.exact m.close_round ∷ m.command (d - 1) ∷ m.branch (d - 1) ∷ st)
-      ∙ command_goes n c (d - 1) r (m.branch (d - 1) ∷ st) w.1 (follows_any c r f) ∙ no_branch n (d - 1) r st f)
-  command_goes n (s.if p b c x) d r st w f =
+      ∙ command_goes n c (d - 1) r (m.branch (d - 1) ∷ st) near w.1 (follows_any c r f) ∙ no_branch n (d - 1) r st f)
+  command_goes n (s.if p b c x) d r st near w f =
       rw w.0 (test_goes n b (k.CloseRound ∷ g.command c (k.Else ∷ g.command x r)) (m.exact m.close_round ∷ m.command (d - 1) ∷ m.branch (d - 1) ∷ st)
-      ∙ command_goes n c (d - 1) (k.Else ∷ g.command x r) (m.branch (d - 1) ∷ st) w.1 (follows_else c [] (g.command x r) w.3) ∙ command_goes n x (d - 1) r st w.2 f)
-  command_goes n (s.while p b x c) d r st w f =
+      ∙ command_goes n c (d - 1) (k.Else ∷ g.command x r) (m.branch (d - 1) ∷ st) near.0 w.1 (follows_else c [] (g.command x r) near.2) ∙ command_goes n x (d - 1) r st near.1 w.2 f)
+  command_goes n (s.while p b x c) d r st near w f =
       rw w.0 (test_goes n b (k.CloseRound ∷ g.maybe_annotation x (g.command c r)) (m.exact m.close_round ∷ m.maybe_annotation ∷ m.command (d - 1) ∷ st)
-      ∙ maybe_annotation_goes n x (g.command c r) (m.command (d - 1) ∷ st) w.1 (no_annotation n c r (m.command (d - 1) ∷ st)) ∙ command_goes n c (d - 1) r st w.2 f)
-  command_goes n (s.with p x b c) d r st w f =
-      rw w.0 (test_goes n b (k.CloseRound ∷ g.command c r) (m.exact m.close_round ∷ m.command (d - 1) ∷ st) ∙ command_goes n c (d - 1) r st w.1 f)
-  command_goes n (s.call c) d r st w f = rw w (arguments_go n c.arguments (k.Semicolon ∷ r) (m.after_call ∷ st))
-  command_goes n (s.fork c x) d r st w f =
+      ∙ maybe_annotation_goes n x (g.command c r) (m.command (d - 1) ∷ st) near.0 w.1 (no_annotation n c r (m.command (d - 1) ∷ st)) ∙ command_goes n c (d - 1) r st near.1 w.2 f)
+  command_goes n (s.with p x b c) d r st near w f =
+      rw w.0 (test_goes n b (k.CloseRound ∷ g.command c r) (m.exact m.close_round ∷ m.command (d - 1) ∷ st) ∙ command_goes n c (d - 1) r st near w.1 f)
+  command_goes n (s.call c) d r st near w f = rw w (arguments_go n c.arguments (k.Semicolon ∷ r) (m.after_call ∷ st))
+  command_goes n (s.fork c x) d r st near w f =
       rw w (arguments_go n c.arguments (k.Bars ∷ g.call x (k.Semicolon ∷ r)) (m.after_call ∷ st) ∙ arguments_go n x.arguments (k.Semicolon ∷ r) (m.exact m.semicolon ∷ st))
-  command_goes n (s.block p cs o) d r st w f = rw w.0 (commands_go n cs (d - 1) (k.CloseBrace o ∷ r) (m.exact m.close_brace ∷ st) w.1 tt ∙ refl)
+  command_goes n (s.block p cs o) d r st near w f = rw w.0 (commands_go n cs (d - 1) (k.CloseBrace o ∷ r) (m.exact m.close_brace ∷ st) near w.1 tt ∙ refl)
 
-  commands_go : (n : ℕ) (cs : s.Commands) (d : ℕ) (r : List Leaf) (st : List Predicted) → CommandsWithin cs n d r → NotElse r → verdict n (g.commands cs r) (m.commands d ∷ st) ≡ verdict n r (m.commands d ∷ st)
-  commands_go n s.done d r st w h = refl
-  commands_go n (s.then c cs) d r st w h =
-      one_of_many n c d (g.commands cs r) st ∙ command_goes n c d (g.commands cs r) (m.commands d ∷ st) w.0 (follows_any c (g.commands cs r) (no_else_fronts cs r h)) ∙ commands_go n cs d r st w.1 h
+  commands_go : (n : ℕ) (cs : s.Commands) (d : ℕ) (r : List Leaf) (st : List Predicted) → CommandsNearest cs → CommandsWithin cs n d r → NotElse r → verdict n (g.commands cs r) (m.commands d ∷ st) ≡ verdict n r (m.commands d ∷ st)
+  commands_go n s.done d r st near w h = refl
+  commands_go n (s.then c cs) d r st near w h =
+      one_of_many n c d (g.commands cs r) st ∙ command_goes n c d (g.commands cs r) (m.commands d ∷ st) near.0 w.0 (follows_any c (g.commands cs r) (no_else_fronts cs r h)) ∙ commands_go n cs d r st near.1 w.1 h
 
 -- a body after its `local`s
 no_local : (n : ℕ) (c : s.Command) (r : List Leaf) (st : List Predicted) → verdict n (g.command c r) (m.locals ∷ st) ≡ verdict n (g.command c r) st
@@ -129,24 +130,24 @@ fields_go : (n : ℕ) (xs : List Word) (r : List Leaf) (st : List Predicted) →
 fields_go n [] r st = refl
 fields_go n (x ∷ xs) r st = more_names_go n xs (k.Semicolon ∷ r) (m.exact m.semicolon ∷ st) refl
 
-resource_goes : (n : ℕ) (x : s.Resource) (r : List Leaf) (st : List Predicted) → NoteWithin x.invariant n r → verdict n (g.resource x r) (m.items ∷ st) ≡ verdict n r (m.items ∷ st)
-resource_goes n x r st w =
+resource_goes : (n : ℕ) (x : s.Resource) (r : List Leaf) (st : List Predicted) → NoteNearest x.invariant → NoteWithin x.invariant n r → verdict n (g.resource x r) (m.items ∷ st) ≡ verdict n r (m.items ∷ st)
+resource_goes n x r st near w =
     maybe_names_go n x.variables (k.CloseRound ∷ g.annotation x.invariant r) (m.exact m.close_round ∷ m.exact m.open_square ∷ m.maybe_assertion ∷ m.exact m.close_square ∷ m.items ∷ st) refl refl
-    ∙ annotation_goes n x.invariant r (m.items ∷ st) w
+    ∙ annotation_goes n x.invariant r (m.items ∷ st) near w
 
-procedure_goes : (n : ℕ) (f : s.Procedure) (r : List Leaf) (st : List Predicted) → ItemWithin (s.procedure f) n r → verdict n r (m.maybe_annotation ∷ m.items ∷ st) ≡ verdict n r (m.items ∷ st) → verdict n (g.procedure f r) (m.items ∷ st) ≡ verdict n r (m.items ∷ st)
-procedure_goes n f r st w h =
+procedure_goes : (n : ℕ) (f : s.Procedure) (r : List Leaf) (st : List Predicted) → ItemNearest (s.procedure f) → ItemWithin (s.procedure f) n r → verdict n r (m.maybe_annotation ∷ m.items ∷ st) ≡ verdict n r (m.items ∷ st) → verdict n (g.procedure f r) (m.items ∷ st) ≡ verdict n r (m.items ∷ st)
+procedure_goes n f r st near w h =
     parameters_go n f.parameters (g.maybe_annotation f.pre (k.OpenBrace f.opens ∷ g.locals f.locals (g.commands f.body (k.CloseBrace f.closes ∷ g.maybe_annotation f.post r))))
     (m.maybe_annotation ∷ m.exact m.open_brace ∷ m.locals ∷ m.commands NESTING ∷ m.exact m.close_brace ∷ m.maybe_annotation ∷ m.items ∷ st)
     ∙ maybe_annotation_goes n f.pre (k.OpenBrace f.opens ∷ g.locals f.locals (g.commands f.body (k.CloseBrace f.closes ∷ g.maybe_annotation f.post r)))
-    (m.exact m.open_brace ∷ m.locals ∷ m.commands NESTING ∷ m.exact m.close_brace ∷ m.maybe_annotation ∷ m.items ∷ st) w.0 refl
+    (m.exact m.open_brace ∷ m.locals ∷ m.commands NESTING ∷ m.exact m.close_brace ∷ m.maybe_annotation ∷ m.items ∷ st) near.0 w.0 refl
     ∙ locals_go n f.locals f.body f.closes (g.maybe_annotation f.post r) (m.commands NESTING ∷ m.exact m.close_brace ∷ m.maybe_annotation ∷ m.items ∷ st)
-    ∙ commands_go n f.body NESTING (k.CloseBrace f.closes ∷ g.maybe_annotation f.post r) (m.exact m.close_brace ∷ m.maybe_annotation ∷ m.items ∷ st) w.1 tt
-    ∙ maybe_annotation_goes n f.post r (m.items ∷ st) w.2 h
+    ∙ commands_go n f.body NESTING (k.CloseBrace f.closes ∷ g.maybe_annotation f.post r) (m.exact m.close_brace ∷ m.maybe_annotation ∷ m.items ∷ st) near.1 w.1 tt
+    ∙ maybe_annotation_goes n f.post r (m.items ∷ st) near.2 w.2 h
 
 -- a file is accepted
-pub items_go : (n : ℕ) (is : List s.Item) → ItemsWithin is n [] → verdict n (g.items is []) (m.items ∷ []) ≡ m.accepted
-items_go n [] w = refl
-items_go n (s.fields x ∷ is) w = fields_go n x.more (g.items is []) (m.items ∷ []) ∙ items_go n is w.1
-items_go n (s.resource x ∷ is) w = resource_goes n x (g.items is []) [] w.0 ∙ items_go n is w.1
-items_go n (s.procedure f ∷ is) w = procedure_goes n f (g.items is []) [] w.0 (no_annotation_items n is (m.items ∷ [])) ∙ items_go n is w.1
+pub items_go : (n : ℕ) (is : List s.Item) → IsNearest is → ItemsWithin is n [] → verdict n (g.items is []) (m.items ∷ []) ≡ m.accepted
+items_go n [] near w = refl
+items_go n (s.fields x ∷ is) near w = fields_go n x.more (g.items is []) (m.items ∷ []) ∙ items_go n is near.1 w.1
+items_go n (s.resource x ∷ is) near w = resource_goes n x (g.items is []) [] near.0 w.0 ∙ items_go n is near.1 w.1
+items_go n (s.procedure f ∷ is) near w = procedure_goes n f (g.items is []) [] near.0 w.0 (no_annotation_items n is (m.items ∷ [])) ∙ items_go n is near.1 w.1

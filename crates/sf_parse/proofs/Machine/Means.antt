@@ -13,7 +13,8 @@ use Rattle.sf_parse.specs.Grammar as g
 use Rattle.sf_parse.specs.Internal.Heads.{IsFlat}
 use Rattle.sf_parse.specs.Internal.Machine as m
 use Rattle.sf_parse.specs.Internal.Machine.{Predicted, terminal_leaf}
-use Rattle.sf_parse.specs.Nesting.{NotElse, Follows, ConjunctWithin, AssertionWithin, RestWithin, MaybeWithin, CommandWithin, CommandsWithin, ItemWithin, ItemsWithin}
+use Rattle.sf_parse.specs.Nearest.{NotElse, Follows, ConjunctNearest, AssertionNearest, MaybeNearest, CommandNearest, CommandsNearest, ItemNearest, IsNearest}
+use Rattle.sf_parse.specs.Nesting.{ConjunctWithin, AssertionWithin, RestWithin, MaybeWithin, CommandWithin, CommandsWithin, ItemWithin, ItemsWithin}
 use Rattle.sf_parse.specs.Internal.Parser.{NotStar, Ends}
 
 -- what one thing owed spells, with the tokens after it
@@ -36,22 +37,22 @@ Spells n m.more_expressions ts r = (xs : List SurfaceExpr) × (ts ≡ g.more_exp
 Spells n m.relation ts r = ((x : SurfaceOperand) × (ts ≡ k.EqualEqual ∷ g.operand x ∷ r)) ⊎ ((x : SurfaceOperand) × (ts ≡ k.NotEqual ∷ g.operand x ∷ r)) ⊎ ((fs : List SurfaceField) × (ts ≡ k.PointsTo ∷ g.maybe_fields fs r))
 Spells n m.maybe_fields ts r = (fs : List SurfaceField) × (ts ≡ g.maybe_fields fs r)
 Spells n m.more_fields ts r = (fs : List SurfaceField) × (ts ≡ g.more_fields fs r)
-Spells n (m.conjunct d) ts r = (c : s.Conjunct) × (ts ≡ g.conjunct c r) × ConjunctWithin c n d r × Ends c r
-Spells n (m.more_conjuncts d) ts r = (NotStar ts × (ts ≡ r)) ⊎ ((a : s.Assertion) × (ts ≡ k.Star ∷ g.assertion a r) × RestWithin a n d r × NotStar r)
-Spells n (m.assertion d) ts r = (a : s.Assertion) × (ts ≡ g.assertion a r) × AssertionWithin a n d r × NotStar r
-Spells n m.maybe_assertion ts r = (ts ≡ r) ⊎ ((a : s.Assertion) × (ts ≡ g.assertion a r) × AssertionWithin a n NESTING r × NotStar r)
-Spells n m.maybe_annotation ts r = (x : Option s.Note) × (ts ≡ g.maybe_annotation x r) × MaybeWithin x n r
+Spells n (m.conjunct d) ts r = (c : s.Conjunct) × (ts ≡ g.conjunct c r) × ConjunctWithin c n d r × Ends c r × ConjunctNearest c
+Spells n (m.more_conjuncts d) ts r = (NotStar ts × (ts ≡ r)) ⊎ ((a : s.Assertion) × (ts ≡ k.Star ∷ g.assertion a r) × RestWithin a n d r × NotStar r × AssertionNearest a)
+Spells n (m.assertion d) ts r = (a : s.Assertion) × (ts ≡ g.assertion a r) × AssertionWithin a n d r × NotStar r × AssertionNearest a
+Spells n m.maybe_assertion ts r = (ts ≡ r) ⊎ ((a : s.Assertion) × (ts ≡ g.assertion a r) × AssertionWithin a n NESTING r × NotStar r × AssertionNearest a)
+Spells n m.maybe_annotation ts r = (x : Option s.Note) × (ts ≡ g.maybe_annotation x r) × MaybeWithin x n r × MaybeNearest x
 Spells n m.named ts r = (x : Word) → (c : s.Command) × IsFlat c × (k.Name x ∷ ts ≡ g.command c r)
 Spells n m.assigned ts r = (x : Word) → (c : s.Command) × IsFlat c × (k.Name x ∷ k.Equals ∷ ts ≡ g.command c r)
 Spells n m.look_up_or_end ts r = (ts ≡ k.Semicolon ∷ r) ⊎ ((f : Word) × (ts ≡ k.Arrow ∷ k.Name f ∷ k.Semicolon ∷ r))
 Spells n m.after_call ts r = (ts ≡ k.Semicolon ∷ r) ⊎ ((x : s.Call) × (ts ≡ k.Bars ∷ g.call x (k.Semicolon ∷ r)))
 Spells n m.disposed ts r = ((x : SurfaceExpr) × (ts ≡ k.OpenRound ∷ g.expr x ∷ k.CloseRound ∷ k.Semicolon ∷ r)) ⊎ ((x : SurfaceExpr) × (ts ≡ g.expr x ∷ k.Semicolon ∷ r))
-Spells n (m.command d) ts r = (c : s.Command) × (ts ≡ g.command c r) × CommandWithin c n d r × Follows c r
-Spells n (m.commands d) ts r = (cs : s.Commands) × (ts ≡ g.commands cs r) × CommandsWithin cs n d r
-Spells n (m.branch d) ts r = ((c : s.Command) × (ts ≡ k.Else ∷ g.command c r) × CommandWithin c n d r × Follows c r) ⊎ (NotElse ts × (ts ≡ r))
+Spells n (m.command d) ts r = (c : s.Command) × (ts ≡ g.command c r) × CommandWithin c n d r × Follows c r × CommandNearest c
+Spells n (m.commands d) ts r = (cs : s.Commands) × (ts ≡ g.commands cs r) × CommandsWithin cs n d r × CommandsNearest cs
+Spells n (m.branch d) ts r = ((c : s.Command) × (ts ≡ k.Else ∷ g.command c r) × CommandWithin c n d r × Follows c r × CommandNearest c) ⊎ (NotElse ts × (ts ≡ r))
 Spells n m.locals ts r = (nss : List s.Names) × (ts ≡ g.locals nss r)
-Spells n m.item_named ts r = (x : Word) → (i : s.Item) × (k.Name x ∷ ts ≡ g.item i r) × ItemWithin i n r
-Spells n m.items ts r = (is : List s.Item) × (ts ≡ g.items is r) × ItemsWithin is n r
+Spells n m.item_named ts r = (x : Word) → (i : s.Item) × (k.Name x ∷ ts ≡ g.item i r) × ItemWithin i n r × ItemNearest i
+Spells n m.items ts r = (is : List s.Item) × (ts ≡ g.items is r) × ItemsWithin is n r × IsNearest is
 
 -- what a stack spells
 abbrev pub Means : ℕ → List Predicted → List Leaf → Type 0

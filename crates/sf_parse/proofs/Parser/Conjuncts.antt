@@ -13,7 +13,8 @@ use Rattle.sf_parse.specs.Grammar as g
 use Rattle.sf_parse.specs.Internal.Heads.{IsFlatConjunct, conjunct_next}
 use Rattle.sf_parse.specs.Internal.Machine as m
 use Rattle.sf_parse.specs.Internal.Machine.{Predicted, on_conjunct, verdict, unexpected, too_deep}
-use Rattle.sf_parse.specs.Nesting.{IsClosed, ConjunctWithin, AssertionWithin, RestWithin}
+use Rattle.sf_parse.specs.Nearest.{IsClosed, ConjunctNearest, AssertionNearest}
+use Rattle.sf_parse.specs.Nesting.{ConjunctWithin, AssertionWithin, RestWithin}
 use Rattle.sf_parse.specs.Leaf.{leaf, leaves}
 use Rattle.sf_parse.specs.Internal.Parser.{NotNext, last_of, NotStar, Ends}
 use Rattle.sf_parse.proofs.Machine.Decided.{Decided, takes, refuses, conjunct_decided, in_parts, refused, taken}
@@ -80,6 +81,12 @@ flat_within (s.choose p b x y) d r h = absurd h
 flat_within (s.choose_round p b x y) d r h = absurd h
 flat_within _ d r h = tt
 
+pub flat_nearest : (c : s.Conjunct) → IsFlatConjunct c → ConjunctNearest c
+flat_nearest (s.group a) h = absurd h
+flat_nearest (s.choose p b x y) h = absurd h
+flat_nearest (s.choose_round p b x y) h = absurd h
+flat_nearest _ h = tt
+
 pub flat_ends : (c : s.Conjunct) (r : List Leaf) → IsFlatConjunct c → Ends c r
 flat_ends (s.choose p b x y) r h = absurd h
 flat_ends (s.choose_round p b x y) r h = absurd h
@@ -90,18 +97,22 @@ pub assertion_push : (c : s.Conjunct) (xs : List s.Conjunct) (y : s.Conjunct) (r
 assertion_push c [] y r = refl
 assertion_push c (x ∷ xs) y r = ap (λ (z : List Leaf). g.conjunct c (k.Star ∷ z)) (assertion_push x xs y r)
 
-pub rest_push : (c : s.Conjunct) (xs : List s.Conjunct) (y : s.Conjunct) (d : ℕ) (r : List Leaf) → RestWithin (conjuncts c xs) 0 d (k.Star ∷ g.conjunct y r) → IsClosed (last_of (conjuncts c xs)) → ConjunctWithin y 0 d r → RestWithin (conjuncts c (xs ++ y ∷ [])) 0 d r
-rest_push c [] y d r all closed one = (all, closed, one)
-rest_push c (x ∷ xs) y d r all closed one =
-    (subst (λ (z : List Leaf). ConjunctWithin c 0 d (k.Star ∷ z)) (sym (assertion_push x xs y r)) all.0, all.1, rest_push x xs y d r all.2 closed one)
+rest_push : (c : s.Conjunct) (xs : List s.Conjunct) (y : s.Conjunct) (d : ℕ) (r : List Leaf) → RestWithin (conjuncts c xs) 0 d (k.Star ∷ g.conjunct y r) → ConjunctWithin y 0 d r → RestWithin (conjuncts c (xs ++ y ∷ [])) 0 d r
+rest_push c [] y d r all one = (all, one)
+rest_push c (x ∷ xs) y d r all one =
+    (subst (λ (z : List Leaf). ConjunctWithin c 0 d (k.Star ∷ z)) (sym (assertion_push x xs y r)) all.0, rest_push x xs y d r all.1 one)
 
-pub within_push : (c : s.Conjunct) (xs : List s.Conjunct) (y : s.Conjunct) (d : ℕ) (r : List Leaf) → 0 < d → AssertionWithin (conjuncts c xs) 0 d (k.Star ∷ g.conjunct y r) → IsClosed (last_of (conjuncts c xs)) → ConjunctWithin y 0 d r → AssertionWithin (conjuncts c (xs ++ y ∷ [])) 0 d r
-within_push c [] y d r lv all closed one = (all.0, all.1, closed, one)
-within_push c (x ∷ xs) y d r lv all closed one =
-    (some_level 0 (length (g.conjunct c (k.Star ∷ g.assertion (conjuncts x (xs ++ y ∷ [])) r))) d lv, subst (λ (z : List Leaf). ConjunctWithin c 0 d (k.Star ∷ z)) (sym (assertion_push x xs y r)) all.1, all.2, rest_push x xs y d r all.3 closed one)
+pub within_push : (c : s.Conjunct) (xs : List s.Conjunct) (y : s.Conjunct) (d : ℕ) (r : List Leaf) → 0 < d → AssertionWithin (conjuncts c xs) 0 d (k.Star ∷ g.conjunct y r) → ConjunctWithin y 0 d r → AssertionWithin (conjuncts c (xs ++ y ∷ [])) 0 d r
+within_push c [] y d r lv all one = (all.0, all.1, one)
+within_push c (x ∷ xs) y d r lv all one =
+    (some_level 0 (length (g.conjunct c (k.Star ∷ g.assertion (conjuncts x (xs ++ y ∷ [])) r))) d lv, subst (λ (z : List Leaf). ConjunctWithin c 0 d (k.Star ∷ z)) (sym (assertion_push x xs y r)) all.1, rest_push x xs y d r all.2 one)
+
+pub nearest_push : (c : s.Conjunct) (xs : List s.Conjunct) (y : s.Conjunct) → AssertionNearest (conjuncts c xs) → IsClosed (last_of (conjuncts c xs)) → ConjunctNearest y → AssertionNearest (conjuncts c (xs ++ y ∷ []))
+nearest_push c [] y all closed one = (all, closed, one)
+nearest_push c (x ∷ xs) y all closed one = (all.0, all.1, nearest_push x xs y all.2 closed one)
 
 pub last_push : (c : s.Conjunct) (xs : List s.Conjunct) (y : s.Conjunct) → last_of (conjuncts c (xs ++ y ∷ [])) ≡ y
 last_push c [] y = refl
 last_push c (x ∷ xs) y = last_push x xs y
 
-pub ruleset behind = (too_deep_here, unexpected_here, first_conjunct, no_more_conjuncts, not_star, operand_first, bare_test, some_assertion, flat_within, flat_ends)
+pub ruleset behind = (too_deep_here, unexpected_here, first_conjunct, no_more_conjuncts, not_star, operand_first, bare_test, some_assertion, flat_within, flat_nearest, flat_ends)

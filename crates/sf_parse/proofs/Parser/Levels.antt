@@ -16,11 +16,12 @@ use Rattle.sf_parse.specs.Grammar as g
 use Rattle.sf_parse.specs.Internal.Heads.{command_next}
 use Rattle.sf_parse.specs.Internal.Machine as m
 use Rattle.sf_parse.specs.Internal.Machine.{Predicted, after, leveled, verdict, unexpected, too_deep}
-use Rattle.sf_parse.specs.Nesting.{has_level, Follows, CommandWithin, CommandsWithin}
+use Rattle.sf_parse.specs.Nearest.{Follows, CommandNearest, CommandsNearest}
+use Rattle.sf_parse.specs.Nesting.{has_level, CommandWithin, CommandsWithin}
 use Rattle.sf_parse.specs.Leaf.{leaf, leaves}
 use Rattle.sf_parse.specs.Internal.Parser.{NotNext, expression_next}
 use Rattle.sf_parse.proofs.Machine.Decided.{command_decided, in_parts, refused, taken}
-use Rattle.sf_parse.proofs.Machine.Back.{follows_else}
+use Rattle.sf_parse.proofs.Machine.Back.{flat_nearest, follows_else}
 use Rattle.sf_parse.proofs.Parser.Fronts.{left_of}
 use Rattle.sf_parse.proofs.Machine.HasLevel.{no_level, some_level}
 
@@ -129,14 +130,17 @@ pub ruleset levels = (
   no_commands,
   another_command,
   no_branch,
+  flat_nearest,
 )
 
 -- an `if` with an `else`
-pub if_within : (p : Place) (b : SurfaceTest SurfaceExpr) (c x : s.Command) (d : ℕ) (us vs r : List Leaf) → 0 < d → us ≡ k.Else ∷ vs → vs ≡ g.command x r → CommandWithin c 0 (d - 1) us → Follows c us → CommandWithin x 0 (d - 1) r
-    → CommandWithin (s.if p b c x) 0 d r
-if_within p b c x d us vs r lv h i w f v =
+pub if_within : (p : Place) (b : SurfaceTest SurfaceExpr) (c x : s.Command) (d : ℕ) (us vs r : List Leaf) → 0 < d → us ≡ k.Else ∷ vs → vs ≡ g.command x r → CommandWithin c 0 (d - 1) us → CommandWithin x 0 (d - 1) r → CommandWithin (s.if p b c x) 0 d r
+if_within p b c x d us vs r lv h i w v =
     let whole : us ≡ k.Else ∷ g.command x r = h ∙ ap (λ (z : List Leaf). k.Else ∷ z) i in
-    (some_level 0 _ d lv, subst (λ (z : List Leaf). CommandWithin c 0 (d - 1) z) whole w, v, follows_else c vs [] (subst (λ (z : List Leaf). Follows c z) h f))
+    (some_level 0 _ d lv, subst (λ (z : List Leaf). CommandWithin c 0 (d - 1) z) whole w, v)
+
+pub if_nearest : (p : Place) (b : SurfaceTest SurfaceExpr) (c x : s.Command) (us vs : List Leaf) → us ≡ k.Else ∷ vs → CommandNearest c → Follows c us → CommandNearest x → CommandNearest (s.if p b c x)
+if_nearest p b c x us vs h m f o = (m, o, follows_else c vs [] (subst (λ (z : List Leaf). Follows c z) h f))
 
 -- one more at the end
 pub commands_push : (cs : List s.Command) (c : s.Command) (r : List Leaf) → g.commands (commands (cs ++ c ∷ [])) r ≡ g.commands (commands cs) (g.command c r)
@@ -146,3 +150,7 @@ commands_push (x ∷ xs) c r = ap (g.command x) (commands_push xs c r)
 pub within_push : (cs : List s.Command) (c : s.Command) (d : ℕ) (r : List Leaf) → CommandsWithin (commands cs) 0 d (g.command c r) → CommandWithin c 0 d r → CommandsWithin (commands (cs ++ c ∷ [])) 0 d r
 within_push [] c d r all one = (one, tt)
 within_push (x ∷ xs) c d r all one = (subst (λ (z : List Leaf). CommandWithin x 0 d z) (sym (commands_push xs c r)) all.0, within_push xs c d r all.1 one)
+
+pub nearest_push : (cs : List s.Command) (c : s.Command) → CommandsNearest (commands cs) → CommandNearest c → CommandsNearest (commands (cs ++ c ∷ []))
+nearest_push [] c all one = (one, tt)
+nearest_push (x ∷ xs) c all one = (all.0, nearest_push xs c all.1 one)

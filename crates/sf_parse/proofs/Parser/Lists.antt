@@ -1,10 +1,9 @@
 -- One more at the end of a list, as it is spelled and where it is.
-use Rattle.std.proofs.Common.{◌≡◌, ℕ, List, [], ◌∷◌, ◌++◌, refl, ap, subst, sym}
+use Rattle.std.proofs.Common.{◌≡◌, List, [], ◌∷◌, ◌++◌, refl, ap}
 use Rattle.sf_ast.specs.declared.assertion.SurfaceField.{SurfaceField}
 use Rattle.sf_ast.specs.declared.word.Word.{Word}
 use Rattle.sf_parse.specs.Leaf.{Leaf}
 use Rattle.sf_parse.specs.Leaf as k
-use Rattle.sf_lex.specs.declared.token.Token.{Token}
 use Rattle.sf_parse.specs.Grammar as g
 
 pub more_names_push : (xs : List Word) (x : Word) (r : List Leaf) → g.more_names (xs ++ x ∷ []) r ≡ g.more_names xs (k.Comma ∷ k.Name x ∷ r)

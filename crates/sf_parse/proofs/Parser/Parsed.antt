@@ -1,15 +1,12 @@
 -- What the answer of a whole file is, from what its items give.
-use Rattle.std.proofs.Common.{◌≡◌, ◌≤◌, ◌<◌, ◌-◌, ℕ, zero, suc, List, [], ◌∷◌, ◌++◌, length, get_or, true, false, refl, ap, subst, ◌∙◌, arith, append_assoc}
+use Rattle.std.proofs.Common.{◌≡◌, ◌≤◌, ◌<◌, ◌-◌, ℕ, zero, suc, List, [], ◌∷◌, length, get_or, true, false, refl, ap, ◌∙◌, arith}
 use Rattle.std.proofs.lemmas.List.{get_or_default, length-map}
 use Rattle.sf_base.specs.declared.place.Place.{Place}
-use Rattle.sf_ast.specs.Surface.{Item}
 use Rattle.sf_lex.specs.declared.token.Token.{Token}
 use Rattle.sf_parse.specs.declared.fault.ParseFault.TheVariants as p
 use Rattle.sf_parse.specs.declared.stop.Stop.TheVariants as t
 use Rattle.sf_parse.specs.Internal.Faults.{no_token, token_left, place_left}
-use Rattle.sf_parse.specs.Grammar.{items}
 use Rattle.sf_parse.specs.Internal.Machine as m
-use Rattle.sf_parse.specs.Nesting.{ItemsWithin}
 use Rattle.sf_parse.specs.Leaf.{leaf, leaves}
 use Rattle.sf_parse.specs.Parsing.{IsFault}
 use Rattle.sf_parse.specs.Internal.Parser.{FailsAt}

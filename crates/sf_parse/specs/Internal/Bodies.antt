@@ -1,6 +1,6 @@
 -- A procedure's body, as the code has it: what it spells, how deep it is nested.
 -- The language is that of Berdine, Calcagno and O'Hearn, "Smallfoot" (2005), in this project's own profile.
-use Rattle.std.specs.Prelude.{ℕ, List, ◌∷◌, map, Option}
+use Rattle.std.specs.Prelude.{List, ◌∷◌, map, Option}
 use Rattle.sf_base.specs.declared.limits.TheConstants.{NESTING}
 use Rattle.sf_ast.specs.declared.word.Word.{Word}
 use Rattle.sf_ast.specs.Surface as s
@@ -9,6 +9,7 @@ use Rattle.sf_parse.specs.Leaf.{Leaf}
 use Rattle.sf_parse.specs.Leaf as k
 use Rattle.sf_parse.specs.declared.item.Body.{Body}
 use Rattle.sf_parse.specs.Grammar as g
+use Rattle.sf_parse.specs.Nearest.{CommandsNearest}
 use Rattle.sf_parse.specs.Nesting.{CommandsWithin}
 
 -- its names
@@ -26,6 +27,10 @@ body b r = k.OpenBrace b.open ∷ g.locals (locals_of b) (g.commands (commands_o
 -- its commands have the first level
 abbrev pub BodyWithin : Body → List Leaf → Type 0
 BodyWithin b r = CommandsWithin (commands_of b) 0 NESTING (k.CloseBrace b.close ∷ r)
+
+-- each `else` in it belongs to the nearest `if`
+abbrev pub BodyNearest : Body → Type 0
+BodyNearest b = CommandsNearest (commands_of b)
 
 -- the procedure that has it
 abbrev pub procedure_with : Word → s.Parameters → Option s.Note → Body → Option s.Note → s.Procedure

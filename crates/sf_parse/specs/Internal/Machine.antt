@@ -173,83 +173,15 @@ abbrev pub on_operand : Leaf → List Predicted → Choice
 on_operand (k.Existential _) ss = take ss
 on_operand t ss = on_expression t ss
 
--- `==` or `!=`
-abbrev pub on_equality : Leaf → Choice
-on_equality k.EqualEqual = take []
-on_equality k.NotEqual = take []
-on_equality t = refuse
-
--- a test over expressions
-abbrev pub on_test : Leaf → Choice
-on_test (k.True _) = take []
-on_test t = on_expression t (equality ∷ expression ∷ [])
-
 -- a test over operands
 abbrev pub on_operand_test : Leaf → Choice
 on_operand_test (k.True _) = take []
 on_operand_test t = on_operand t (equality ∷ operand ∷ [])
 
--- a test after the `if` of an assertion
-abbrev pub on_if_test : Leaf → Choice
-on_if_test k.OpenRound = take (operand_test ∷ exact close_round ∷ [])
-on_if_test t = on_operand_test t
-
--- names after a first one
-abbrev pub on_more_names : Leaf → Choice
-on_more_names k.Comma = take (exact a_name ∷ more_names ∷ [])
-on_more_names t = skip
-
--- names, or none
-abbrev pub on_maybe_names : Leaf → Choice
-on_maybe_names (k.Name _) = take (more_names ∷ [])
-on_maybe_names t = skip
-
--- value parameters after a `;`, or none
-abbrev pub on_maybe_values : Leaf → Choice
-on_maybe_values k.Semicolon = take (maybe_names ∷ [])
-on_maybe_values t = skip
-
 -- an expression after a comma in a call
 abbrev pub on_next : Bool → Leaf → Choice
 on_next b (k.Name _) = take (rest b ∷ [])
 on_next b t = on_expression t (rest false ∷ [])
-
--- what comes after the `(` of a call
-abbrev pub on_maybe_arguments : Leaf → Choice
-on_maybe_arguments k.Semicolon = take (maybe_expressions ∷ [])
-on_maybe_arguments t = or_skip (on_next true t)
-
--- what comes after an expression in a call
-abbrev pub on_rest : Bool → Leaf → Choice
-on_rest b k.Comma = take (next b ∷ [])
-on_rest true k.Semicolon = take (maybe_expressions ∷ [])
-on_rest b t = skip
-
--- expressions, or none
-abbrev pub on_maybe_expressions : Leaf → Choice
-on_maybe_expressions t = or_skip (on_expression t (more_expressions ∷ []))
-
--- expressions after a first one
-abbrev pub on_more_expressions : Leaf → Choice
-on_more_expressions k.Comma = take (expression ∷ more_expressions ∷ [])
-on_more_expressions t = skip
-
--- what comes after the first operand of a conjunct
-abbrev pub on_relation : Leaf → Choice
-on_relation k.EqualEqual = take (operand ∷ [])
-on_relation k.NotEqual = take (operand ∷ [])
-on_relation k.PointsTo = take (maybe_fields ∷ [])
-on_relation t = refuse
-
--- fields, or none
-abbrev pub on_maybe_fields : Leaf → Choice
-on_maybe_fields (k.Name _) = take (exact a_colon ∷ operand ∷ more_fields ∷ [])
-on_maybe_fields t = skip
-
--- fields after a first one
-abbrev pub on_more_fields : Leaf → Choice
-on_more_fields k.Comma = take (exact a_name ∷ exact a_colon ∷ operand ∷ more_fields ∷ [])
-on_more_fields t = skip
 
 -- a conjunct, and what is owed after it
 abbrev pub on_conjunct : ℕ → Leaf → List Predicted → Choice
@@ -262,45 +194,6 @@ on_conjunct d (k.List _) ss = take (exact open_round ∷ operand ∷ exact close
 on_conjunct d (k.Tree _) ss = take (exact open_round ∷ operand ∷ exact close_round ∷ ss)
 on_conjunct d t ss = on_operand t (relation ∷ ss)
 
--- conjuncts after a first one
-abbrev pub on_more_conjuncts : ℕ → Leaf → Choice
-on_more_conjuncts d k.Star = take (conjunct d ∷ more_conjuncts d ∷ [])
-on_more_conjuncts d t = skip
-
--- a note, or none
-abbrev pub on_maybe_annotation : Leaf → Choice
-on_maybe_annotation k.OpenSquare = take (maybe_assertion ∷ exact close_square ∷ [])
-on_maybe_annotation t = skip
-
--- what comes after the name that begins a command
-abbrev pub on_named : Leaf → Choice
-on_named k.Equals = take (assigned ∷ [])
-on_named k.Arrow = take mutated_predicted
-on_named k.OpenRound = take (maybe_arguments ∷ exact close_round ∷ after_call ∷ [])
-on_named t = refuse
-
--- what comes after the `=` there
-abbrev pub on_assigned : Leaf → Choice
-on_assigned k.New = take (exact open_round ∷ exact close_round ∷ exact semicolon ∷ [])
-on_assigned t = on_expression t (look_up_or_end ∷ [])
-
--- what comes after the expression there
-abbrev pub on_look_up_or_end : Leaf → Choice
-on_look_up_or_end k.Semicolon = take []
-on_look_up_or_end k.Arrow = take (exact a_name ∷ exact semicolon ∷ [])
-on_look_up_or_end t = refuse
-
--- what comes after a call
-abbrev pub on_after_call : Leaf → Choice
-on_after_call k.Semicolon = take []
-on_after_call k.Bars = take forked_predicted
-on_after_call t = refuse
-
--- what comes after `dispose`
-abbrev pub on_disposed : Leaf → Choice
-on_disposed k.OpenRound = take (expression ∷ exact close_round ∷ exact semicolon ∷ [])
-on_disposed t = on_expression t (exact semicolon ∷ [])
-
 -- a command, and what is owed after it
 abbrev pub on_command : ℕ → Leaf → List Predicted → Choice
 on_command d (k.Name _) ss = take (named ∷ ss)
@@ -311,65 +204,100 @@ on_command d (k.With _) ss = take (with_predicted d ++ ss)
 on_command d (k.OpenBrace _) ss = take (commands (d - 1) ∷ exact close_brace ∷ ss)
 on_command d t ss = on_expression t (exact an_arrow ∷ mutated_predicted ++ ss)
 
--- the `else` of an `if`, or none
-abbrev pub on_branch : ℕ → Leaf → Choice
-on_branch d k.Else = take (command d ∷ [])
-on_branch d t = skip
-
--- the `local`s of a body
-abbrev pub on_locals : Leaf → Choice
-on_locals k.Local = take (exact a_name ∷ more_names ∷ exact semicolon ∷ locals ∷ [])
-on_locals t = skip
-
--- what comes after the name that begins an item
-abbrev pub on_item_named : Leaf → Choice
-on_item_named k.Comma = take (exact a_name ∷ more_names ∷ exact semicolon ∷ [])
-on_item_named k.Semicolon = take []
-on_item_named k.OpenRound = take procedure_predicted
-on_item_named t = refuse
-
--- items
-abbrev pub on_items : Leaf → Choice
-on_items (k.Name _) = take (item_named ∷ items ∷ [])
-on_items (k.Resource _) = take (resource_predicted ++ items ∷ [])
-on_items t = refuse
-
 -- what comes of one thing that is owed at one token
 abbrev pub choice : Predicted → Leaf → Choice
 choice (exact u) t = on_exact u t
 choice expression t = on_expression t []
 choice operand t = on_operand t []
-choice equality t = on_equality t
-choice test t = on_test t
+-- `==` or `!=`
+choice equality k.EqualEqual = take []
+choice equality k.NotEqual = take []
+choice equality t = refuse
+-- a test over expressions
+choice test (k.True _) = take []
+choice test t = on_expression t (equality ∷ expression ∷ [])
 choice operand_test t = on_operand_test t
-choice if_test t = on_if_test t
-choice more_names t = on_more_names t
-choice maybe_names t = on_maybe_names t
-choice maybe_values t = on_maybe_values t
-choice maybe_arguments t = on_maybe_arguments t
-choice (rest b) t = on_rest b t
+-- a test after the `if` of an assertion
+choice if_test k.OpenRound = take (operand_test ∷ exact close_round ∷ [])
+choice if_test t = on_operand_test t
+-- names after a first one
+choice more_names k.Comma = take (exact a_name ∷ more_names ∷ [])
+choice more_names t = skip
+-- names, or none
+choice maybe_names (k.Name _) = take (more_names ∷ [])
+choice maybe_names t = skip
+-- value parameters after a `;`, or none
+choice maybe_values k.Semicolon = take (maybe_names ∷ [])
+choice maybe_values t = skip
+-- what comes after the `(` of a call
+choice maybe_arguments k.Semicolon = take (maybe_expressions ∷ [])
+choice maybe_arguments t = or_skip (on_next true t)
+-- what comes after an expression in a call
+choice (rest b) k.Comma = take (next b ∷ [])
+choice (rest true) k.Semicolon = take (maybe_expressions ∷ [])
+choice (rest b) t = skip
 choice (next b) t = on_next b t
-choice maybe_expressions t = on_maybe_expressions t
-choice more_expressions t = on_more_expressions t
-choice relation t = on_relation t
-choice maybe_fields t = on_maybe_fields t
-choice more_fields t = on_more_fields t
+-- expressions, or none
+choice maybe_expressions t = or_skip (on_expression t (more_expressions ∷ []))
+-- expressions after a first one
+choice more_expressions k.Comma = take (expression ∷ more_expressions ∷ [])
+choice more_expressions t = skip
+-- what comes after the first operand of a conjunct
+choice relation k.EqualEqual = take (operand ∷ [])
+choice relation k.NotEqual = take (operand ∷ [])
+choice relation k.PointsTo = take (maybe_fields ∷ [])
+choice relation t = refuse
+-- fields, or none
+choice maybe_fields (k.Name _) = take (exact a_colon ∷ operand ∷ more_fields ∷ [])
+choice maybe_fields t = skip
+-- fields after a first one
+choice more_fields k.Comma = take (exact a_name ∷ exact a_colon ∷ operand ∷ more_fields ∷ [])
+choice more_fields t = skip
 choice (conjunct d) t = on_conjunct d t []
-choice (more_conjuncts d) t = on_more_conjuncts d t
+-- conjuncts after a first one
+choice (more_conjuncts d) k.Star = take (conjunct d ∷ more_conjuncts d ∷ [])
+choice (more_conjuncts d) t = skip
 choice (assertion d) t = on_conjunct d t (more_conjuncts d ∷ [])
 choice maybe_assertion t = or_skip (on_conjunct NESTING t (more_conjuncts NESTING ∷ []))
-choice maybe_annotation t = on_maybe_annotation t
-choice named t = on_named t
-choice assigned t = on_assigned t
-choice look_up_or_end t = on_look_up_or_end t
-choice after_call t = on_after_call t
-choice disposed t = on_disposed t
+-- a note, or none
+choice maybe_annotation k.OpenSquare = take (maybe_assertion ∷ exact close_square ∷ [])
+choice maybe_annotation t = skip
+-- what comes after the name that begins a command
+choice named k.Equals = take (assigned ∷ [])
+choice named k.Arrow = take mutated_predicted
+choice named k.OpenRound = take (maybe_arguments ∷ exact close_round ∷ after_call ∷ [])
+choice named t = refuse
+-- what comes after the `=` there
+choice assigned k.New = take (exact open_round ∷ exact close_round ∷ exact semicolon ∷ [])
+choice assigned t = on_expression t (look_up_or_end ∷ [])
+-- what comes after the expression there
+choice look_up_or_end k.Semicolon = take []
+choice look_up_or_end k.Arrow = take (exact a_name ∷ exact semicolon ∷ [])
+choice look_up_or_end t = refuse
+-- what comes after a call
+choice after_call k.Semicolon = take []
+choice after_call k.Bars = take forked_predicted
+choice after_call t = refuse
+-- what comes after `dispose`
+choice disposed k.OpenRound = take (expression ∷ exact close_round ∷ exact semicolon ∷ [])
+choice disposed t = on_expression t (exact semicolon ∷ [])
 choice (command d) t = on_command d t []
 choice (commands d) t = or_skip (on_command d t (commands d ∷ []))
-choice (branch d) t = on_branch d t
-choice locals t = on_locals t
-choice item_named t = on_item_named t
-choice items t = on_items t
+-- the `else` of an `if`, or none
+choice (branch d) k.Else = take (command d ∷ [])
+choice (branch d) t = skip
+-- the `local`s of a body
+choice locals k.Local = take (exact a_name ∷ more_names ∷ exact semicolon ∷ locals ∷ [])
+choice locals t = skip
+-- what comes after the name that begins an item
+choice item_named k.Comma = take (exact a_name ∷ more_names ∷ exact semicolon ∷ [])
+choice item_named k.Semicolon = take []
+choice item_named k.OpenRound = take procedure_predicted
+choice item_named t = refuse
+-- items
+choice items (k.Name _) = take (item_named ∷ items ∷ [])
+choice items (k.Resource _) = take (resource_predicted ++ items ∷ [])
+choice items t = refuse
 
 -- a command or an assertion takes a level, unless it begins with at most n tokens left
 abbrev pub is_free : Predicted → (n left : ℕ) → Bool

@@ -1,20 +1,18 @@
 use Rattle.std.proofs.Common.{◌≡◌, ◌<◌, List, [], ◌∷◌, ◌++◌, map, length, ap, sym, subst, refl, arith, ◌∙◌}
 use Rattle.std.proofs.lemmas.List.{map_push}
-use Rattle.std.proofs.lemmas.Result.{IfOk-weaker}
-use Rattle.sf_ast.specs.View.{conjuncts, conjunct_of, assertion_of}
+use Rattle.sf_ast.specs.View.{conjuncts, conjunct_of}
 use Rattle.sf_parse.specs.Leaf.{Leaf}
 use Rattle.sf_parse.specs.Leaf as k
-use Rattle.sf_parse.specs.Grammar.{assertion, conjunct, operand, test}
+use Rattle.sf_parse.specs.Grammar.{assertion, conjunct}
 use Rattle.sf_parse.specs.Internal.Machine as m
 use Rattle.sf_parse.specs.Internal.Machine.{verdict}
 use Rattle.sf_parse.specs.Nesting.{AssertionWithin}
 use Rattle.sf_parse.specs.Leaf.{leaves}
 use Rattle.sf_parse.specs.Internal.Parser.{last_of, Ends}
-use Rattle.sf_parse.proofs.Parser.Conjuncts.{assertion_push, within_push, last_push}
+use Rattle.sf_parse.proofs.Parser.Conjuncts.{assertion_push, within_push, nearest_push, last_push}
 use Rattle.sf_parse.proofs.Machine.Forth.{closed_before_star}
 use Rattle.sf_parse.proofs.Machine.HasLevel.{some_level}
 use Rattle.sf_parse.proofs.Grammar.Longer.{conjunct_longer, fewer}
-use Rattle.sf_parse.proofs.Parser.Views.{view_assertion, view_group, view_choose, view_choose_round}
 use Rattle.sf_parse.proofs.assertion.+assertion.Goals as goal
 
 pub more_conjuncts-loop-after-init : goal.more_conjuncts-loop-after-init
@@ -22,7 +20,8 @@ more_conjuncts-loop-after-init t c =
     let some : 0 < c.args.depth = omega (arith, c.requires) in
     rw c.new-found.ensures.items record {
       spelled = λ x. refl;
-      within = λ x within ends. (some_level 0 _ c.args.depth some, within);
+      nearest = λ x near ends. near;
+      within = λ x within. (some_level 0 _ c.args.depth some, within);
       ended = λ x ends. ends;
       taken = λ st. refl;
     }
@@ -45,9 +44,10 @@ more_conjuncts-loop-after-preserved t c =
     let pushed : map conjunct_of c.add.new.found.items ≡ xs ++ y ∷ [] = rw c.in_ok-add.ensures (map_push conjunct_of c.loop-after.found.items c.in_ok-one.one) in
     rw pushed record {
       spelled = λ x. c.loop-after.invariant.spelled x ∙ ap (assertion (conjuncts x xs)) here ∙ sym (assertion_push x xs y r);
-      within = λ x within ends.
+      nearest = λ x near ends.
           let closed = closed_before_star (last_of (conjuncts x xs)) (conjunct y r) (subst (λ (z : List Leaf). Ends (last_of (conjuncts x xs)) z) here (c.loop-after.invariant.ended x ends)) in
-          within_push x xs y c.args.depth r some (subst (λ (z : List Leaf). AssertionWithin (conjuncts x xs) 0 c.args.depth z) here (c.loop-after.invariant.within x within ends)) closed c.in_ok-one.ensures.within;
+          nearest_push x xs y (c.loop-after.invariant.nearest x near ends) closed c.in_ok-one.ensures.nearest;
+      within = λ x within. within_push x xs y c.args.depth r some (subst (λ (z : List Leaf). AssertionWithin (conjuncts x xs) 0 c.args.depth z) here (c.loop-after.invariant.within x within)) c.in_ok-one.ensures.within;
       ended = λ x ends. rw (last_push x xs y) c.in_ok-one.ensures.ended;
       taken = λ st. c.loop-after.invariant.taken st ∙ rw c.in-Some.ensures.spelled (c.in_ok-one.ensures.taken (m.more_conjuncts c.args.depth ∷ st));
     }

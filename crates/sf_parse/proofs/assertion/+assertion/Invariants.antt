@@ -1,10 +1,10 @@
-use Rattle.std.proofs.Common.{◌≡◌, ℕ, ◌+◌, ◌*◌, ◌-◌, ◌∷◌, List, map, length}
+use Rattle.std.proofs.Common.{◌≡◌, ◌+◌, ◌*◌, ◌-◌, ◌∷◌, List, map, length}
 use Rattle.sf_ast.specs.Surface.{Conjunct}
 use Rattle.sf_ast.specs.View.{conjuncts, conjunct_of}
-use Rattle.sf_lex.specs.declared.token.Token.{Token}
 use Rattle.sf_parse.specs.Grammar.{conjunct, assertion}
 use Rattle.sf_parse.specs.Internal.Machine as m
 use Rattle.sf_parse.specs.Internal.Machine.{Predicted, verdict}
+use Rattle.sf_parse.specs.Nearest.{ConjunctNearest, AssertionNearest}
 use Rattle.sf_parse.specs.Nesting.{ConjunctWithin, AssertionWithin}
 use Rattle.sf_parse.specs.Leaf.{leaves}
 use Rattle.sf_parse.specs.Internal.Parser.{last_of, Ends}
@@ -28,7 +28,8 @@ decreases-conjunct l = 5 * l.depth - 2
 abbrev pub invariant-more_conjuncts-loop-after : goal.invariant-more_conjuncts-loop-after
 invariant-more_conjuncts-loop-after l = record {
   spelled : (c : Conjunct) → conjunct c (leaves l.tokens) ≡ assertion (conjuncts c (map conjunct_of l.found.items)) (leaves l.rest);
-  within : (c : Conjunct) → ConjunctWithin c 0 l.depth (leaves l.tokens) → Ends c (leaves l.tokens) → AssertionWithin (conjuncts c (map conjunct_of l.found.items)) 0 l.depth (leaves l.rest);
+  nearest : (c : Conjunct) → ConjunctNearest c → Ends c (leaves l.tokens) → AssertionNearest (conjuncts c (map conjunct_of l.found.items));
+  within : (c : Conjunct) → ConjunctWithin c 0 l.depth (leaves l.tokens) → AssertionWithin (conjuncts c (map conjunct_of l.found.items)) 0 l.depth (leaves l.rest);
   ended : (c : Conjunct) → Ends c (leaves l.tokens) → Ends (last_of (conjuncts c (map conjunct_of l.found.items))) (leaves l.rest);
   taken : (st : List Predicted) → verdict 0 (leaves l.tokens) (m.more_conjuncts l.depth ∷ st) ≡ verdict 0 (leaves l.rest) (m.more_conjuncts l.depth ∷ st);
 }

@@ -3,6 +3,7 @@ use Rattle.sf_ast.specs.View.{command_of, commands}
 use Rattle.sf_parse.specs.Grammar as g
 use Rattle.sf_parse.specs.Internal.Machine as m
 use Rattle.sf_parse.specs.Internal.Machine.{Predicted, verdict}
+use Rattle.sf_parse.specs.Nearest.{CommandsNearest}
 use Rattle.sf_parse.specs.Nesting.{CommandsWithin}
 use Rattle.sf_parse.specs.Leaf.{leaves}
 use Rattle.sf_parse.proofs.command.+nest.Given as goal
@@ -29,6 +30,7 @@ abbrev pub invariant-commands-loop-alloc : goal.invariant-commands-loop-alloc
 invariant-commands-loop-alloc l = record {
   spelled : leaves l.tokens ≡ g.commands (commands (map command_of l.found.items)) (leaves l.rest);
   within : CommandsWithin (commands (map command_of l.found.items)) 0 l.depth (leaves l.rest);
+  nearest : CommandsNearest (commands (map command_of l.found.items));
   taken : (st : List Predicted) → verdict 0 (leaves l.tokens) (m.commands l.depth ∷ st) ≡ verdict 0 (leaves l.rest) (m.commands l.depth ∷ st);
 }
 

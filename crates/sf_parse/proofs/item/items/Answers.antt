@@ -6,7 +6,7 @@ use Rattle.sf_parse.specs.Grammar as g
 use Rattle.sf_parse.specs.Nesting.{ItemsWithin}
 use Rattle.sf_parse.specs.Leaf.{leaves}
 use Rattle.sf_parse.proofs.Grammar.CommandsLonger.{fewer_behind_item}
-use Rattle.sf_parse.proofs.Parser.ItemLists.{items_push, items_within_push}
+use Rattle.sf_parse.proofs.Parser.ItemLists.{items_push, items_within_push, items_nearest_push}
 use Rattle.sf_parse.proofs.item.items.Goals as goal
 
 pub loop-rest-smaller : goal.loop-rest-smaller
@@ -21,5 +21,6 @@ loop-rest-preserved c =
     record {
       spelled = rw e (c.loop-rest.invariant.spelled ∙ ap (λ (z : List Leaf). g.items is z) c.in_ok-one.ensures.spelled ∙ sym (items_push is i r));
       within = rw e (items_within_push is i r (subst (λ (z : List Leaf). ItemsWithin is 0 z) c.in_ok-one.ensures.spelled c.loop-rest.invariant.within) c.in_ok-one.ensures.within);
+      nearest = rw e (items_nearest_push is i c.loop-rest.invariant.nearest c.in_ok-one.ensures.nearest);
       taken = λ st. c.loop-rest.invariant.taken st ∙ c.in_ok-one.ensures.taken st;
     }

@@ -1,4 +1,4 @@
-use Rattle.std.proofs.Common.{◌≡◌, List, [], ◌∷◌, ◌++◌, ◌∙◌, map, ap, sym, subst}
+use Rattle.std.proofs.Common.{◌≡◌, List, [], ◌∷◌, ◌++◌, ◌∙◌, map, ap, sym}
 use Rattle.std.proofs.lemmas.List.{map_push}
 use Rattle.sf_ast.specs.View.{names_of}
 use Rattle.sf_parse.specs.Leaf.{Leaf}
