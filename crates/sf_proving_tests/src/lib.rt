@@ -7,6 +7,7 @@
 //! - `choices`: the tag that a search takes.
 //! - `proofs`: the text of a proof, written and read.
 //! - `reports`: what is printed of a goal that has no proof.
+//! - `programs`: programs for tests that don't ask what is in them.
 #![tactic(auto)]
 
 #[cfg(test)]
@@ -15,6 +16,8 @@ mod choices;
 mod footprints;
 #[cfg(test)]
 mod orders;
+#[cfg(test)]
+mod programs;
 #[cfg(test)]
 mod proofs;
 #[cfg(test)]

@@ -1,22 +1,10 @@
 //! What no clause says: what texts written by hand read as, with ample memory.
 
+use crate::programs::empty;
 use sf_base::ProcId;
-use sf_core::{Links, Program};
 use sf_proof::{Lined, ProofFault, proof_text, read};
 use sf_sym::{Tag, Term};
 use std::alloc::{AllocError, Global};
-
-/// A program without procedures.
-fn empty(alloc: Global) -> Program {
-    let fields = Vec::new(alloc);
-    let links = Links::among(&fields);
-    Program {
-        fields,
-        resources: Vec::new(alloc),
-        procedures: Vec::new(alloc),
-        links,
-    }
-}
 
 /// Whether the text reads as these tags on these lines.
 fn reads_as(alloc: Global, text: &[u8], tags: &[Tag], lines: &[u32]) -> bool {

@@ -1,23 +1,12 @@
 //! What no clause says: how texts look that were written by hand. The program has no names; texts
 //! with names are tried where programs are read.
 
+use crate::programs::empty;
 use sf_base::{Place, ProcId};
-use sf_core::{Conjunct, Links, Operand, Program, Test};
+use sf_core::{Conjunct, Operand, Program, Test};
 use sf_report::{Stuck, failed, too_large};
 use sf_sym::{Atom, Goal, Item, Pending, State, Term};
 use std::alloc::{AllocError, Global};
-
-/// A program without anything.
-fn empty(alloc: Global) -> Program {
-    let fields = Vec::new(alloc);
-    let links = Links::among(&fields);
-    Program {
-        fields,
-        resources: Vec::new(alloc),
-        procedures: Vec::new(alloc),
-        links,
-    }
-}
 
 /// Hands the part of that number over, if it is there.
 fn hand_over(s: &mut State, a: u32) -> Result<(), AllocError> {

@@ -1,0 +1,16 @@
+//! Programs for tests that don't ask what is in them.
+
+use sf_core::{Links, Program};
+use std::alloc::Global;
+
+/// A program without anything.
+pub(crate) fn empty(alloc: Global) -> Program {
+    let fields = Vec::new(alloc);
+    let links = Links::among(&fields);
+    Program {
+        fields,
+        resources: Vec::new(alloc),
+        procedures: Vec::new(alloc),
+        links,
+    }
+}
