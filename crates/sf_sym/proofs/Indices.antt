@@ -1,15 +1,16 @@
 -- Atoms by their numbers: where the code finds one, the definitions find it.
 -- Names: `at-LAW` speaks of the atom at an index.
-use Rattle.std.proofs.Common.{◌≡◌, ℕ, suc, ◌==◌, ◌<◌, ◌+◌, Bool, true, false, cond, Option, Some, None, List, [], ◌∷◌, ◌++◌, length, get_or, slice_set, is_some, refl, sym, ap, ◌∙◌, subst, arith}
+use Rattle.std.proofs.Common.{◌≡◌, ℕ, suc, ◌==◌, ◌<◌, ◌+◌, Bool, true, false, cond, Option, Some, None, List, [], ◌∷◌, length, get_or, slice_set, is_some, refl, sym, ap, ◌∙◌, subst, arith}
 use Rattle.std.specs.List.{remove}
 use Rattle.std.specs.Option.{option_and_then, option_map}
 use Rattle.std.proofs.lemmas.Bool.Decides.{Decides-eqb}
+use Rattle.std.proofs.lemmas.Option.{option_and_then_some, same_Some}
 use Rattle.sf_base.specs.declared.ids.FieldId.{FieldId}
 use Rattle.sf_sym.specs.declared.atom.Atom.{Atom}
 use Rattle.sf_sym.specs.declared.atom.Atom.TheVariants.{Points}
 use Rattle.sf_sym.specs.declared.atom.Numbered.{Numbered}
 use Rattle.sf_sym.specs.declared.term.Term.{Term}
-use Rattle.sf_sym.specs.Cells.{after_hand_over, atom_at, cell_at, fields_at, state_after_write, with_fields, without}
+use Rattle.sf_sym.specs.Cells.{atom_at, cell_at, fields_at, state_after_write, with_fields, without}
 use Rattle.sf_sym.specs.Fields.{put_term}
 use Rattle.sf_sym.specs.Internal.Indices.{index_from}
 use Rattle.sf_sym.specs.Lemmas.{points_at, same_term_is}
@@ -105,38 +106,34 @@ cell_parts x root t fields is e =
     let both = cell-step root t fields (same_term root t) (same_term_is root t) here in
     (both.0, ap (λ y. fields_at y t) is ∙ both.1)
 
-module _ (s : State) (a k : ℕ) (x : Numbered) (t : Term) where
-  -- a field of the cell is written where the cell is
-  pub written_at : (f : FieldId) (u root : Term) (fields new : List (FieldId × Term))
-      → Some k ≡ index_from 0 s.atoms a → x ≡ get_or s.atoms k x → x.atom ≡ Points root fields
-      → is_some (cell_at s.atoms a t) ≡ true → new ≡ put_term f u fields
-      → state_after_write s t f u a
-      ≡ Some (record s { atoms = slice_set s.atoms k (record { number = x.number; atom = Points root new }) })
-  written_at f u root fields new e is cell some p =
-      let at = is_at a k s.atoms (sym e) in
-      let found = cell_found a k x s.atoms t e is in
-      let parts = cell_parts x.atom root t fields cell (ap is_some found ∙ some) in
-      let number : x.number ≡ a = ap (λ y. y.number) is ∙ at.number x in
-      ap (option_map (λ fields. record s { atoms = with_fields s.atoms a t (put_term f u fields) }))
-      (sym found ∙ parts.1)
-      ∙ ap (λ xs. Some (record s { atoms = xs }))
-      (at.written t (put_term f u fields)
-      ∙ ap (λ y. slice_set s.atoms k y)
-      (λ i. record { number = sym number i; atom = Points (sym parts.0 i) (sym p i) }))
+-- a field of the cell is written where the cell is
+pub written_at : (a k : ℕ) (x : Numbered) (xs : List Numbered) (t root : Term) (f : FieldId) (u : Term)
+    (fields known new : List (FieldId × Term)) → Some k ≡ index_from 0 xs a → x ≡ get_or xs k x
+    → x.atom ≡ Points root known → cell_at xs a t ≡ Some fields → new ≡ put_term f u known
+    → slice_set xs k (record { number = x.number; atom = Points root new }) ≡ with_fields xs a t (put_term f u fields)
+written_at a k x xs t root f u fields known new e is cell there p =
+    let at = is_at a k xs (sym e) in
+    let found : fields_at x.atom t ≡ Some fields = cell_found a k x xs t e is ∙ there in
+    let parts = cell_parts x.atom root t known cell (ap is_some found) in
+    let same : known ≡ fields = same_Some known fields (sym parts.1 ∙ found) in
+    let put : new ≡ put_term f u fields = p ∙ ap (put_term f u) same in
+    let number : x.number ≡ a = ap (λ y. y.number) is ∙ at.number x in
+    ap (λ y. slice_set xs k y) (λ i. record { number = number i; atom = Points (parts.0 i) (put i) })
+    ∙ sym (at.written t (put_term f u fields))
 
-  -- the cell goes from where it is
-  pub handed_over_at : (taken : List Numbered) (atoms : List Numbered)
-      → Some k ≡ index_from 0 s.atoms a → x ≡ get_or s.atoms k x
-      → atoms ≡ remove s.atoms k → taken ≡ s.taken ++ x ∷ []
-      → (fields : List (FieldId × Term)) → cell_at s.atoms a t ≡ Some fields
-      → record s { atoms = atoms; taken = taken } ≡ after_hand_over s t fields a
-  handed_over_at taken atoms e is p q fields c =
-      let at = is_at a k s.atoms (sym e) in
-      let cell : x.atom ≡ Points t fields = points_at x.atom t fields (cell_found a k x s.atoms t e is ∙ c) in
-      let number : x.number ≡ a = ap (λ y. y.number) is ∙ at.number x in
-      ap (λ xs. record s { atoms = xs; taken = taken }) (p ∙ sym at.removed)
-      ∙ ap (λ xs. record s { atoms = without s.atoms a; taken = xs })
-      (q ∙ ap (λ y. s.taken ++ y ∷ []) (λ i. record { number = number i; atom = cell i }))
+-- so the state is the one after the write
+pub written : (s : State) (atoms : List Numbered) (a : ℕ) (t : Term) (f : FieldId) (u : Term)
+    → is_some (cell_at s.atoms a t) ≡ true
+    → ((fields : List (FieldId × Term)) → cell_at s.atoms a t ≡ Some fields
+    → atoms ≡ with_fields s.atoms a t (put_term f u fields))
+    → state_after_write s t f u a ≡ Some (record s { atoms = atoms })
+written s atoms a t f u there after = go (cell_at s.atoms a t) refl there
+  where
+    go : (o : Option (List (FieldId × Term))) → cell_at s.atoms a t ≡ o → is_some o ≡ true
+        → option_map (λ fields. record s { atoms = with_fields s.atoms a t (put_term f u fields) }) o
+        ≡ Some (record s { atoms = atoms })
+    go None e some = absurd (cc)
+    go (Some fields) e some = ap (λ xs. Some (record s { atoms = xs })) (sym (after fields e))
 
 -- no atom of that number, by its index
 pub no_atom : (a i : ℕ) (xs : List Numbered) → index_from i xs a ≡ None → atom_at xs a ≡ None
@@ -189,3 +186,10 @@ pub cell_of_atom : (a : ℕ) (xs : List Numbered) (t : Term)
 cell_of_atom a [] t = refl
 cell_of_atom a (x ∷ xs) t =
     cell-of-step x.atom (cell_at xs a t) (atom_at xs a) t (x.number == a) (cell_of_atom a xs t)
+
+-- so the atom of a cell's number is that cell
+pub atom_of_cell : (a : ℕ) (xs : List Numbered) (t : Term) (fields : List (FieldId × Term))
+    → cell_at xs a t ≡ Some fields → atom_at xs a ≡ Some (Points t fields)
+atom_of_cell a xs t fields e =
+    option_and_then_some (λ x. fields_at x t) (atom_at xs a) fields (sym (cell_of_atom a xs t) ∙ e)
+    (λ x there is. there ∙ ap Some (points_at x t fields is))

@@ -8,3 +8,4 @@ pub mod VariableLists
 pub mod Items
 pub mod NumberLists
 pub mod OwnRoots
+pub mod Searched

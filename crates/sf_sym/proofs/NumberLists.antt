@@ -1,16 +1,20 @@
 -- The numbers of a state's atoms, where one comes, goes, or is handed over.
 -- Names: `all-LAW` speaks of what holds of each element, `rising-LAW` and `different-LAW` of such lists of numbers,
 -- `numbers-LAW` of the numbers of a list of atoms, `numbered-EVENT` of all numbers after an event.
-use Rattle.std.proofs.Common.{◌≡◌, ◌≢◌, ℕ, zero, suc, ◌+◌, ◌<◌, true, is_some, Option, None, Some, List, [], ◌∷◌, ◌++◌, length, get_or, map, slice_set, refl, sym, ap, ◌∙◌, subst, arith}
+use Rattle.std.proofs.Common.{◌≡◌, ◌≢◌, ℕ, zero, suc, ◌+◌, ◌<◌, ◌==◌, Bool, true, false, cond, is_some, Option, None, Some, List, [], ◌∷◌, ◌++◌, length, get_or, map, refl, sym, ap, ◌∙◌, subst, arith}
 use Rattle.std.specs.List.{AllByRecursion, remove}
 use Rattle.std.specs.Option.{option_and_then}
 use Rattle.std.proofs.lemmas.List.{length-map, map-append}
+use Rattle.std.proofs.lemmas.Bool.Decides.{Decides-eqb}
 use Rattle.sf_base.proofs.Elements.{all_by-append}
+use Rattle.sf_base.specs.declared.ids.FieldId.{FieldId}
 use Rattle.sf_sym.specs.declared.atom.Atom.{Atom}
+use Rattle.sf_sym.specs.declared.atom.Atom.TheVariants.{Points}
 use Rattle.sf_sym.specs.declared.atom.Numbered.{Numbered}
 use Rattle.sf_sym.specs.declared.term.Term.{Term}
-use Rattle.sf_sym.specs.Cells.{atom_at, cell_at, fields_at, without}
+use Rattle.sf_sym.specs.Cells.{atom_at, cell_at, fields_at, with_fields, without}
 use Rattle.sf_sym.specs.Equalities.{numbered_with}
+use Rattle.sf_sym.specs.Fields.{put_term}
 use Rattle.sf_sym.specs.Internal.Indices.{index_from}
 use Rattle.sf_sym.proofs.Indices.{cell_of_atom, is_at, no_atom, nothing_without}
 use Rattle.sf_sym.specs.Numbers.{AreDifferent, AreNumbered, AreRising, numbers}
@@ -147,11 +151,16 @@ numbers-at [] k d lt = absurd (omega (arith, lt))
 numbers-at (x ∷ xs) zero d lt = refl
 numbers-at (x ∷ xs) (suc k) d lt = numbers-at xs k d (omega (arith, lt))
 
-pub numbers-set : (xs : List Numbered) (k : ℕ) (y d : Numbered) → y.number ≡ (get_or xs k d).number
-    → numbers (slice_set xs k y) ≡ numbers xs
-numbers-set [] k y d e = refl
-numbers-set (x ∷ xs) zero y d e = ap (λ n. n ∷ numbers xs) e
-numbers-set (x ∷ xs) (suc k) y d e = ap (λ ns. x.number ∷ ns) (numbers-set xs k y d e)
+pub numbers-fields : (xs : List Numbered) (a : ℕ) (t : Term) (fields : List (FieldId × Term))
+    → numbers (with_fields xs a t fields) ≡ numbers xs
+numbers-fields [] a t fields = refl
+numbers-fields (x ∷ xs) a t fields = go (x.number == a) refl (numbers-fields xs a t fields)
+  where
+    go : (b : Bool) → x.number == a ≡ b → numbers (with_fields xs a t fields) ≡ numbers xs
+        → numbers (cond b (record { number = a; atom = Points t fields } ∷ xs) (x ∷ with_fields xs a t fields))
+        ≡ x.number ∷ numbers xs
+    go true e rest = ap (λ n. n ∷ numbers xs) (sym ((Decides-eqb x.number a).0 e))
+    go false e rest = ap (λ ns. x.number ∷ ns) rest
 
 pub numbers-with : (to : Term → Term) (xs : List Numbered) → numbers (map (numbered_with to) xs) ≡ numbers xs
 numbers-with to [] = refl
@@ -174,26 +183,18 @@ module _ (atoms taken new : List Numbered) (next : ℕ)
       subst (λ ns. AreNumbered ns (numbers taken) next) (sym (ap numbers e ∙ numbers-remove atoms k lt))
       (numbered-removed (numbers atoms) (numbers taken) next numbered k (omega (arith, length-map atoms (λ (a : Numbered). a.number), lt)))
 
-  -- and where one is handed over
-  pub numbered-hand_over : (more : List Numbered) (k : ℕ) (x : Numbered) → k < length atoms
-      → new ≡ remove atoms k → x ≡ get_or atoms k x → more ≡ taken ++ x ∷ []
-      → AreNumbered (numbers new) (numbers more) next
-  numbered-hand_over more k x lt e is f =
-      let within : k < length (numbers atoms) = omega (arith, length-map atoms (λ (a : Numbered). a.number), lt) in
-      let one : get_or (numbers atoms) k x.number ≡ x.number =
-      numbers-at atoms k x lt ∙ sym (ap (λ (a : Numbered). a.number) is) in
-      subst (λ ns. AreNumbered (numbers new) ns next)
-      (sym (ap numbers f ∙ numbers-append taken x ∙ ap (λ n. numbers taken ++ n ∷ []) (sym one)))
-      (subst (λ ns. AreNumbered ns (numbers taken ++ get_or (numbers atoms) k x.number ∷ []) next)
-      (sym (ap numbers e ∙ numbers-remove atoms k lt))
-      (numbered-handed (numbers atoms) (numbers taken) next numbered k x.number within))
-
-  -- and where one is another with its number
-  pub numbered-set : (k : ℕ) (x y : Numbered) → x ≡ get_or atoms k x → y.number ≡ x.number
-      → AreNumbered (numbers (slice_set atoms k y)) (numbers taken) next
-  numbered-set k x y is number =
-      subst (λ ns. AreNumbered ns (numbers taken) next)
-      (sym (numbers-set atoms k y x (number ∙ ap (λ (a : Numbered). a.number) is))) numbered
+  -- and where a field of a cell is written
+  pub numbered-written : (a : ℕ) (t : Term) (f : FieldId) (u : Term) → is_some (cell_at atoms a t) ≡ true
+      → ((fields : List (FieldId × Term)) → cell_at atoms a t ≡ Some fields
+      → new ≡ with_fields atoms a t (put_term f u fields)) → AreNumbered (numbers new) (numbers taken) next
+  numbered-written a t f u there after = go (cell_at atoms a t) refl there
+    where
+      go : (o : Option (List (FieldId × Term))) → cell_at atoms a t ≡ o → is_some o ≡ true
+          → AreNumbered (numbers new) (numbers taken) next
+      go None e some = absurd (cc)
+      go (Some fields) e some =
+          subst (λ ns. AreNumbered ns (numbers taken) next)
+          (sym (ap numbers (after fields e) ∙ numbers-fields atoms a t (put_term f u fields))) numbered
 
   -- and where all have other terms
   pub numbered-map : (to : Term → Term) (more : List Numbered) → new ≡ map (numbered_with to) atoms

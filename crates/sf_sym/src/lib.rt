@@ -5,6 +5,7 @@
 //! - `atom`: the parts of a heap, as a state knows them.
 //! - `fields`: the terms of a cell's fields.
 //! - `roots`: whether no two atoms of a state begin at one symbol.
+//! - `parts`: the parts of a state's heap, and how one is found and goes.
 //! - `state`: states, and the primitive changes of them.
 //! - `known`: the tests of a state.
 //! - `decided`: which terms operands have.
@@ -29,6 +30,7 @@ mod fields;
 mod goal;
 mod known;
 pub mod laws;
+mod parts;
 mod pending;
 mod replace;
 mod roots;

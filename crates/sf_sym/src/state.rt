@@ -5,7 +5,6 @@ ghost use Rattle.std.specs.Option.{option_map};
 ghost use Rattle.sf_base.specs.declared.ids.FieldId.{FieldId as FieldNumber};
 ghost use Rattle.sf_sym.specs.Cells.{after_hand_over, apart_from_nil, atom_at, cell_at, fields_at, handed, state_after_write, with_atom, with_cell, without};
 ghost use Rattle.sf_sym.specs.Equalities.{put_for, state_with, with_pair};
-ghost use Rattle.sf_sym.specs.Internal.Indices.{index_from};
 ghost use Rattle.sf_sym.specs.Numbers.{AreNumbered, numbers};
 ghost use Rattle.sf_sym.specs.State.{first_state, term_at, with_symbols};
 ghost use Rattle.sf_sym.specs.Variables.{AreInOrder, remove_vars, set_var, set_vars, with_fresh};
@@ -15,6 +14,7 @@ ghost use Rattle.sf_sym.specs.declared.term.Term.TheVariants.{Sym};
 
 use crate::atom::{Atom, Numbered, copy_all};
 use crate::fields::FieldTerms;
+use crate::parts::Parts;
 use crate::replace::Replacement;
 use crate::term::Term;
 use crate::vars::{VarTerms, term_at};
@@ -30,7 +30,7 @@ pub struct State {
     links: Links,
     vars: VarTerms,
     apart: Vec<(Term, Term)>,
-    atoms: Vec<Numbered>,
+    atoms: Parts,
     taken: Vec<Numbered>,
     next_sym: u32,
     next_atom: u32,
@@ -43,9 +43,9 @@ impl Model for State {
 
     ghost use Rattle.sf_sym.specs.Numbers.{AreNumbered, numbers};
 
-    ghost invariant = { λ s. AreNumbered (numbers s.atoms.items) (numbers s.taken.items) s.next_atom };
+    ghost invariant = { λ s. AreNumbered (numbers s.atoms) (numbers s.taken.items) s.next_atom };
 
-    ghost view = { λ s. state_of s.links s.vars s.apart.items s.atoms.items s.taken.items s.next_sym
+    ghost view = { λ s. state_of s.links s.vars s.apart.items s.atoms s.taken.items s.next_sym
         s.next_atom };
 }
 
@@ -60,7 +60,7 @@ impl State {
             links,
             vars: VarTerms::from_vec(vars),
             apart: Vec::new(alloc),
-            atoms: Vec::new(alloc),
+            atoms: Parts::new(alloc),
             taken: Vec::new(alloc),
             next_sym,
             next_atom: 1,
@@ -75,7 +75,7 @@ impl State {
             links: self.links,
             vars: self.vars.copy(alloc)?,
             apart: Vec::from_slice(alloc, &self.apart)?,
-            atoms: copy_all(alloc, &self.atoms)?,
+            atoms: self.atoms.copy(alloc)?,
             taken: copy_all(alloc, &self.taken)?,
             next_sym: self.next_sym,
             next_atom: self.next_atom,
@@ -84,7 +84,7 @@ impl State {
 
     /// What its lists allocate by.
     pub(crate) fn alloc(&self) -> Global {
-        *self.atoms.allocator()
+        self.atoms.alloc()
     }
 
     /// The fields by which segments and trees go.
@@ -145,19 +145,18 @@ impl State {
     }
 
     /// The known fields of the atom of that number, where it is a cell at that term.
+    #[tactic(auto, using(crate::proofs::Indices::cell_of_atom))]
     pub fn cell(&self, a: u32, root: Term) -> Option<&[(FieldId, Term)]>
         ensures { option_map (λ x. x.now) result ≡ cell_at self.now.atoms a root }
     {
-        let i = index_of(self.atoms.as_slice(), a)?;
-        self.atoms[i].atom.fields_at(root)
+        self.atoms.atom(a)?.fields_at(root)
     }
 
     /// The atom of that number.
     pub fn atom(&self, a: u32) -> Option<&Atom>
         ensures { option_map (λ x. x.now) result ≡ atom_at self.now.atoms a }
     {
-        let i = index_of(self.atoms.as_slice(), a)?;
-        Some(&self.atoms[i].atom)
+        self.atoms.atom(a)
     }
 
     /// The term of a variable, `Nil` where it has none.
@@ -269,7 +268,7 @@ impl State {
         ensures atom { result ≡ atom_at self.old.atoms a }
         ensures others { self.new ≡ record self.old { atoms = without self.old.atoms a } }
     {
-        take_out(&mut self.atoms, a)
+        self.atoms.take_out(a)
     }
 
     /// One more cell: it has the next number, and a symbol at which it is differs from nil. An `Err`
@@ -280,12 +279,11 @@ impl State {
         ensures err { OnErr result (self.new ≡ self.old) }
     {
         self.apart.reserve(1)?;
-        self.atoms.reserve(1)?;
-        put_apart_from_nil(&mut self.apart, root);
-        self.atoms.push_reserved(Numbered {
+        self.atoms.push(Numbered {
             number: self.next_atom,
             atom: Atom::Points(root, fields),
-        });
+        })?;
+        put_apart_from_nil(&mut self.apart, root);
         self.next_atom += 1;
         Ok(())
     }
@@ -305,7 +303,7 @@ impl State {
     {
         self.vars.replace(r);
         r.in_pairs(&mut self.apart);
-        r.in_atoms(&mut self.atoms);
+        self.atoms.replace(r);
         r.in_atoms(&mut self.taken);
     }
 
@@ -316,14 +314,7 @@ impl State {
         ensures ok { OnOk result (state_after_write self.old root f u a ≡ Some self.new) }
         ensures err { OnErr result (self.new ≡ self.old) }
     {
-        let Some(i) = index_of(self.atoms.as_slice(), a) else {
-            unreachable!();
-        };
-        match &mut self.atoms[i].atom {
-            Atom::Points(_, fields) => fields.put(f, u)?,
-            Atom::Ls(..) => unreachable!(),
-            Atom::Tree(_) => unreachable!(),
-        }
+        self.atoms.write_field(a, root, f, u)?;
         Ok(())
     }
 
@@ -348,7 +339,7 @@ impl State {
         ensures err { OnErr result (self.new ≡ self.old) }
     {
         self.taken.reserve(1)?;
-        let Some(atom) = take_out(&mut self.atoms, a) else {
+        let Some(atom) = self.atoms.take_out(a) else {
             unreachable!();
         };
         self.taken.push_reserved(Numbered { number: a, atom });
@@ -370,7 +361,7 @@ impl State {
         ensures err { OnErr result (self.new ≡ self.old) }
     {
         self.taken.reserve(1)?;
-        take_out(&mut self.atoms, a);
+        self.atoms.take_out(a);
         self.taken.push_reserved(Numbered {
             number: a,
             atom: Atom::Points(root, fields),
@@ -388,24 +379,9 @@ impl State {
             → self.new ≡ after_hand_over self.old root fields a) }
         ensures err { OnErr result (self.new ≡ self.old) }
     {
-        let Some(i) = index_of(self.atoms.as_slice(), a) else {
-            unreachable!();
-        };
-        self.taken.reserve(1)?;
-        let atom = self.atoms.remove(i);
-        self.taken.push_reserved(atom);
+        self.hand_over_atom(a)?;
         Ok(())
     }
-}
-
-/// Takes the first atom of that number out, if one is there.
-fn take_out(atoms: &mut Vec<Numbered>, a: u32) -> Option<Atom>
-    ensures atom { result ≡ atom_at atoms.old.items a }
-    ensures others { atoms.new.items ≡ without atoms.old.items a }
-{
-    let i = index_of(atoms.as_slice(), a)?;
-    let Numbered { number: _, atom } = atoms.remove(i);
-    Some(atom)
 }
 
 /// One more pair, if the term is a symbol: it differs from nil. There is room for the pair.
@@ -416,21 +392,4 @@ fn put_apart_from_nil(apart: &mut Vec<(Term, Term)>, t: Term)
     if let Term::Sym(_) = t {
         apart.push_reserved((t, Term::Nil));
     }
-}
-
-/// The index of the first atom of that number.
-fn index_of(atoms: &[Numbered], a: u32) -> Option<usize>
-    ensures place { result ≡ index_from 0 atoms.now a }
-    ensures within { IfSome result (λ i. i < length atoms.now) }
-{
-    let mut i = 0;
-    let mut left = atoms;
-    while let Some((first, rest)) = left.split_first() {
-        if first.number == a {
-            return Some(i);
-        }
-        i += 1;
-        left = rest;
-    }
-    None
 }

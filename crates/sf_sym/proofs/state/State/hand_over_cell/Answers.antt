@@ -9,13 +9,13 @@ use Rattle.sf_sym.proofs.state.State.hand_over_cell.Goals as goal
 pub invariant_of-self-2 : goal.invariant_of-self-2
 invariant_of-self-2 c =
     let inside = c.self.inside in
-    let there : is_some (atom_at inside.atoms.items c.args.a) ≡ true =
-    cell_is_atom c.args.a inside.atoms.items c.args.root
+    let there : is_some (atom_at inside.atoms c.args.a) ≡ true =
+    cell_is_atom c.args.a inside.atoms c.args.root
     (subst (λ s. is_some (cell_at s.atoms c.args.a c.args.root) ≡ true) (sym c.self.view_is) c.requires) in
     let x : Numbered = record { number = c.args.a; atom = Points c.args.root c.args.fields } in
     let taken : c.push_reserved.new.self.items ≡ inside.taken.items ++ x ∷ [] = search rules in
-    subst (λ ys. AreNumbered (numbers c.take_out.new.atoms.items) (numbers ys) inside.next_atom) (sym taken)
+    subst (λ ys. AreNumbered (numbers c.take_out.new.self) (numbers ys) inside.next_atom) (sym taken)
     (subst (λ xs. AreNumbered (numbers xs) (numbers (inside.taken.items ++ x ∷ [])) inside.next_atom)
     (sym c.take_out.ensures.others)
-    (numbered-given c.args.a inside.atoms.items inside.taken.items inside.next_atom x refl there
+    (numbered-given c.args.a inside.atoms inside.taken.items inside.next_atom x refl there
     c.self.invariant))

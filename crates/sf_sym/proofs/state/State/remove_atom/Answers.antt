@@ -8,4 +8,4 @@ invariant_of-self c =
     let inside = c.self.inside in
     subst (λ xs. AreNumbered (numbers xs) (numbers inside.taken.items) inside.next_atom)
     (sym c.take_out.ensures.others)
-    (numbered-without c.args.a inside.atoms.items inside.taken.items inside.next_atom c.self.invariant)
+    (numbered-without c.args.a inside.atoms inside.taken.items inside.next_atom c.self.invariant)

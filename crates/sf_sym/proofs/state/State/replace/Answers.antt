@@ -8,10 +8,7 @@ pub invariant_of-self : goal.invariant_of-self
 invariant_of-self c =
     let inside = c.self.inside in
     let to = put_for c.args.r.symbol c.args.r.by in
-    let atoms = vec-whole inside.atoms c.in_atoms.new.atoms
+    let taken = vec-whole inside.taken c.in_atoms.new.atoms
     (omega (arith, c.in_atoms.auto.atoms, ap length c.deref_mut-2.ensures.value))
     ∙ c.in_atoms.ensures ∙ ap (map (numbered_with to)) c.deref_mut-2.ensures.value in
-    let taken = vec-whole inside.taken c.in_atoms-2.new.atoms
-    (omega (arith, c.in_atoms-2.auto.atoms, ap length c.deref_mut-3.ensures.value))
-    ∙ c.in_atoms-2.ensures ∙ ap (map (numbered_with to)) c.deref_mut-3.ensures.value in
-    numbered-map inside.atoms.items inside.taken.items _ inside.next_atom c.self.invariant to _ atoms taken
+    numbered-map inside.atoms inside.taken.items _ inside.next_atom c.self.invariant to _ c.replace-2.ensures taken
