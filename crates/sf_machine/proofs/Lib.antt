@@ -1,8 +1,11 @@
 pub mod Beginnings
+pub mod Calls
 pub mod Enabling
+pub mod HeapChanges
 pub mod NextTodo
 pub mod Notes
 pub mod Opened
 pub mod Spots
 pub mod Stacks
 pub mod Tables
+pub mod Wide

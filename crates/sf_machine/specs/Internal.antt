@@ -1,4 +1,6 @@
 -- What stands between the code and the machine of the definitions.
+pub mod Calls
+pub mod Effects
 pub mod Entries
 pub mod Nexts
 pub mod Noting

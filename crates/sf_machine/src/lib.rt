@@ -9,6 +9,9 @@
 //! - `config`: configurations.
 //! - `resources`, `entry`, `beginning`: the configuration in which a procedure starts.
 //! - `accessed`, `noting`, `accessing`: what the next step of a task reads and writes.
+//! - `event`: events, and what a step answers.
+//! - `effect`, `cells`, `applying`: what an event makes of what all tasks share.
+//! - `calling`: the frames of callees, and their values.
 //!
 //! `specs/` says which configuration of the definitions a `Config` is (Configs), with which one a
 //! procedure starts (Beginning), which ones a running program has (Reached), and what is said of a
@@ -17,9 +20,14 @@
 
 mod accessed;
 mod accessing;
+mod applying;
 mod beginning;
+mod calling;
+mod cells;
 mod config;
+mod effect;
 mod entry;
+mod event;
 mod following;
 mod frame;
 mod noting;
@@ -34,3 +42,4 @@ pub use accessed::Accesses;
 pub use accessing::accesses;
 pub use beginning::begin;
 pub use config::Config;
+pub use event::{Event, Stepped};

@@ -1,0 +1,116 @@
+//! What an event makes of what all tasks share.
+
+ghost use Rattle.std.specs.Prelude.{◌≡◌, ◌==◌, true, cond, Some, None, is_some, OnOk, OnErr};
+ghost use Rattle.sf_base.specs.declared.ids.ResId.{ResId as R};
+ghost use Rattle.sf_base.specs.HeapStore.{Slot, same_slot};
+ghost use Rattle.sf_machine.specs.Configs.{common_of, held_of};
+ghost use Rattle.sf_machine.specs.Events.{event_of};
+ghost use Rattle.sf_machine.specs.Internal.Effects.{applied, opened_store, IsClearStore, IsSameCommon, Suits};
+ghost use Rattle.sf_machine.specs.Internal.Spots.{slot_of};
+ghost use Rattle.sf_machine.specs.Internal.Stores.{store_of};
+
+use crate::cells::{make_cell, put_field, remove_cell};
+use crate::config::Common;
+use crate::effect::{Effect, Opening};
+use crate::event::Event;
+use crate::rooms::{close, open};
+use crate::spot::Spot;
+use crate::store::Store;
+use sf_base::{ResId, TaskPath, Value};
+use std::alloc::AllocError;
+use std::collections::BTreeMap;
+
+/// Makes of what is shared what an event does. An `Err` says that memory ran out, and nothing is
+/// changed.
+pub(crate) fn apply(common: &mut Common, event: &Event, effect: Effect) -> Result<(), AllocError>
+    requires { Suits (event_of event.now) effect (common_of common.old) }
+    ensures ok { OnOk result (IsSameCommon (common_of common.new)
+        (applied (event_of event.now) effect (common_of common.old))) }
+    ensures err { OnErr result (IsSameCommon (common_of common.new) (common_of common.old)) }
+{
+    match effect {
+        Effect::Nothing => Ok(()),
+        Effect::Set(spot, value) => {
+            set(&mut common.store, spot, value);
+            Ok(())
+        }
+        Effect::Put(at, field, value) => {
+            put_field(common.alloc, &mut common.heap, at, field, value)
+        }
+        Effect::Make(spot) => make(common, event, spot),
+        Effect::Remove(at) => {
+            remove_cell(&mut common.heap, at);
+            Ok(())
+        }
+        Effect::Hold(r) => hold(&mut common.held, r, event.task),
+        Effect::Free(r) => {
+            free(&mut common.held, r);
+            Ok(())
+        }
+        Effect::Open(opening) => open(&mut common.store, opening.room, &opening.values),
+        Effect::OpenBoth(one, two) => open_both(&mut common.store, &one, &two),
+        Effect::Close(room) => {
+            close(&mut common.store, room);
+            Ok(())
+        }
+    }
+}
+
+/// Makes the cell of an event, whose location a variable gets.
+fn make(common: &mut Common, event: &Event, spot: Spot) -> Result<(), AllocError>
+    requires { Suits (event_of event.now) (Effect.Make spot) (common_of common.old) }
+    ensures ok { OnOk result (IsSameCommon (common_of common.new)
+        (applied (event_of event.now) (Effect.Make spot) (common_of common.old))) }
+    ensures err { OnErr result (IsSameCommon (common_of common.new) (common_of common.old)) }
+{
+    make_cell(common.alloc, &mut common.heap, event.at, &event.fields)?;
+    set(&mut common.store, spot, Value::Loc(event.at));
+    Ok(())
+}
+
+/// Opens two rooms.
+fn open_both(store: &mut Store, one: &Opening, two: &Opening) -> Result<(), AllocError>
+    requires first { IsClearStore one.now (store_of store.old) }
+    requires second { IsClearStore two.now (opened_store one.now (store_of store.old)) }
+    ensures ok { OnOk result ((slot : Slot) → store_of store.new slot
+        ≡ opened_store two.now (opened_store one.now (store_of store.old)) slot) }
+    ensures err { OnErr result ((slot : Slot) → store_of store.new slot ≡ store_of store.old slot) }
+{
+    open(store, one.room, &one.values)?;
+    if open(store, two.room, &two.values).is_err() {
+        close(store, one.room);
+        return Err(AllocError);
+    }
+    Ok(())
+}
+
+/// A variable that is there gets a value.
+fn set(store: &mut Store, spot: Spot, value: Value)
+    requires { is_some (store_of store.old (slot_of spot)) ≡ true }
+    ensures { (other : Slot) → store_of store.new other
+        ≡ cond (same_slot other (slot_of spot)) (Some value) (store_of store.old other) }
+{
+    let _ = store.put(spot, value);
+}
+
+/// The resource is held by that task from now on. An `Err` says that memory ran out, and nothing is
+/// changed.
+#[tactic(auto, using(crate::proofs::Spots::number_test))]
+fn hold(held: &mut BTreeMap<u32, TaskPath>, r: ResId, task: TaskPath) -> Result<(), AllocError>
+    ensures ok { OnOk result
+        ((q : R) → held_of held.new q ≡ cond (q.0 == r.0) (Some task) (held_of held.old q)) }
+    ensures err { OnErr result ((q : R) → held_of held.new q ≡ held_of held.old q) }
+{
+    match held.insert(r.0, task) {
+        Ok(_) => Ok(()),
+        Err(_) => Err(AllocError),
+    }
+}
+
+/// The resource is free from now on.
+#[tactic(auto, using(crate::proofs::Spots::number_test))]
+fn free(held: &mut BTreeMap<u32, TaskPath>, r: ResId)
+    ensures { (q : R) → held_of held.new q ≡ cond (q.0 == r.0) None (held_of held.old q) }
+{
+    let _ = held.remove(&r.0);
+}
