@@ -5,6 +5,7 @@ pub mod HeapChanges
 pub mod NextTodo
 pub mod Notes
 pub mod Opened
+pub mod Performed
 pub mod Spots
 pub mod Stacks
 pub mod Tables

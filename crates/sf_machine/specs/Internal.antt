@@ -4,6 +4,7 @@ pub mod Effects
 pub mod Entries
 pub mod Nexts
 pub mod Noting
+pub mod Performing
 pub mod Resources
 pub mod Spots
 pub mod Stores

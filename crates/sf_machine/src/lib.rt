@@ -12,6 +12,7 @@
 //! - `event`: events, and what a step answers.
 //! - `effect`, `cells`, `applying`: what an event makes of what all tasks share.
 //! - `calling`: the frames of callees, and their values.
+//! - `performing`: what an event makes of a configuration.
 //!
 //! `specs/` says which configuration of the definitions a `Config` is (Configs), with which one a
 //! procedure starts (Beginning), which ones a running program has (Reached), and what is said of a
@@ -31,6 +32,7 @@ mod event;
 mod following;
 mod frame;
 mod noting;
+mod performing;
 mod resources;
 mod rooms;
 mod spot;

@@ -1,0 +1,64 @@
+//! What was planned, made of a configuration.
+
+ghost use Rattle.std.specs.Prelude.{◌≡◌, false, OnOk, OnErr};
+ghost use Rattle.std.specs.BTreeSet.{contains};
+ghost use Rattle.std.specs.Ordering.{nat_cmp};
+ghost use Rattle.sf_core.specs.Machine.Config.{adds};
+ghost use Rattle.sf_machine.specs.Configs.{common_of, config_of};
+ghost use Rattle.sf_machine.specs.Events.{event_of};
+ghost use Rattle.sf_machine.specs.Internal.Effects.{applied, Suits};
+ghost use Rattle.sf_machine.specs.Internal.Performing.{performed};
+
+use crate::applying::apply;
+use crate::config::{Common, Config};
+use crate::effect::Effect;
+use crate::event::Event;
+use crate::task::Change;
+use std::alloc::AllocError;
+use std::collections::BTreeSet;
+
+/// Makes of a configuration what an event does, whose number is new. An `Err` says that memory ran
+/// out, and nothing is changed.
+pub(crate) fn perform<'p>(
+    c: &mut Config<'p>,
+    event: &Event,
+    effect: Effect,
+    change: Change<'p>,
+) -> Result<(), AllocError>
+    requires fresh { (config_of c.old).used event.now.number ≡ false }
+    requires suits { Suits (event_of event.now) effect (common_of c.old.common) }
+    ensures ok { OnOk result (config_of c.new
+        ≡ performed (event_of event.now) effect change.entry (config_of c.old)) }
+    ensures err { OnErr result (config_of c.new ≡ config_of c.old) }
+{
+    let path = event.task.turns();
+    c.tasks.reserve_at(path)?;
+    act(&mut c.common, &mut c.used, event, effect)?;
+    c.tasks.change_at(path, change);
+    Ok(())
+}
+
+/// Makes of what is shared what an event does, and its number used. An `Err` says that memory ran out,
+/// and nothing is changed.
+fn act(
+    common: &mut Common,
+    used: &mut BTreeSet<u64>,
+    event: &Event,
+    effect: Effect,
+) -> Result<(), AllocError>
+    requires fresh { contains nat_cmp used.old event.now.number ≡ false }
+    requires suits { Suits (event_of event.now) effect (common_of common.old) }
+    ensures ok { OnOk result
+        (common_of common.new ≡ applied (event_of event.now) effect (common_of common.old)) }
+    ensures ok_used { OnOk result
+        (contains nat_cmp used.new ≡ adds event.now.number (contains nat_cmp used.old)) }
+    ensures err { OnErr result (common_of common.new ≡ common_of common.old) }
+    ensures err_used { OnErr result (contains nat_cmp used.new ≡ contains nat_cmp used.old) }
+{
+    used.insert(event.number)?;
+    if let Err(error) = apply(common, event, effect) {
+        used.remove(&event.number);
+        return Err(error);
+    }
+    Ok(())
+}
