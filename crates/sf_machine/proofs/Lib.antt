@@ -1,12 +1,17 @@
 pub mod Beginnings
 pub mod Calls
+pub mod Causes
 pub mod Enabling
 pub mod HeapChanges
 pub mod NextTodo
 pub mod Notes
 pub mod Opened
 pub mod Performed
+pub mod Plans
+pub mod Ready
 pub mod Spots
 pub mod Stacks
+pub mod Steps
 pub mod Tables
+pub mod Views
 pub mod Wide

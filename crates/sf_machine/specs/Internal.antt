@@ -5,6 +5,7 @@ pub mod Entries
 pub mod Nexts
 pub mod Noting
 pub mod Performing
+pub mod Plans
 pub mod Resources
 pub mod Spots
 pub mod Stores

@@ -1,4 +1,5 @@
 pub mod Accessing
+pub mod Answers
 pub mod Beginning
 pub mod Configs
 pub mod Events

@@ -12,11 +12,13 @@
 //! - `event`: events, and what a step answers.
 //! - `effect`, `cells`, `applying`: what an event makes of what all tasks share.
 //! - `calling`: the frames of callees, and their values.
+//! - `plan`: what the event of a command would make of a configuration, or why it is none.
 //! - `performing`: what an event makes of a configuration.
+//! - `stepping`: the step. `laws`: that each answer of it comes exactly where its cause is.
 //!
 //! `specs/` says which configuration of the definitions a `Config` is (Configs), with which one a
-//! procedure starts (Beginning), which ones a running program has (Reached), and what is said of a
-//! step's reads and writes (Accessing).
+//! procedure starts (Beginning), which ones a running program has (Reached), what is said of a step's
+//! reads and writes (Accessing), and what a step answers (Answers).
 #![tactic(auto)]
 
 mod accessed;
@@ -31,11 +33,14 @@ mod entry;
 mod event;
 mod following;
 mod frame;
+mod laws;
 mod noting;
 mod performing;
+mod plan;
 mod resources;
 mod rooms;
 mod spot;
+mod stepping;
 mod store;
 mod task;
 mod values;
@@ -45,3 +50,5 @@ pub use accessing::accesses;
 pub use beginning::begin;
 pub use config::Config;
 pub use event::{Event, Stepped};
+pub use laws::{answers_are_exclusive, refused_events_do_not_step};
+pub use stepping::step;

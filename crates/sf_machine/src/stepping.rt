@@ -1,0 +1,68 @@
+//! The step.
+
+ghost use Rattle.std.specs.Prelude.{◌≡◌, length, IfOk, OnErr};
+ghost use Rattle.sf_core.specs.Machine.Step.{Step};
+ghost use Rattle.sf_core.specs.Program.ProgramView.{program_of};
+ghost use Rattle.sf_machine.specs.Answers.{Answers};
+ghost use Rattle.sf_machine.specs.Configs.{config_of};
+ghost use Rattle.sf_machine.specs.Events.{event_of};
+ghost use Rattle.sf_machine.specs.Reached.{IsReached};
+ghost use Rattle.sf_machine.specs.Internal.Plans.{PlansEvent};
+
+use crate::config::Config;
+use crate::effect::Effect;
+use crate::event::{Event, Stepped};
+use crate::following::{Next, next_of};
+use crate::frame::GoOn;
+use crate::performing::perform;
+use crate::plan::{Plan, plan_command};
+use crate::task::Change;
+use sf_core::Program;
+use std::alloc::AllocError;
+
+/// Makes the step of an event. `Moved` comes exactly where there is a next configuration for the
+/// event, and then it is that one; every other answer says why there is none, and leaves the
+/// configuration as it was. So does an `Err`, which says that memory ran out.
+pub fn step<'p>(p: &'p Program, c: &mut Config<'p>, e: &Event) -> Result<Stepped, AllocError>
+    requires reached { IsReached (program_of p.now) (config_of c.old) }
+    requires fields { length e.now.fields ≡ length p.now.fields.items }
+    ensures answers { IfOk result
+        (Answers (program_of p.now) (event_of e.now) (config_of c.old)) }
+    ensures moved { IfOk result (λ s. s ≡ Stepped.Moved
+        → Step (program_of p.now) (event_of e.now) (config_of c.old) (config_of c.new)) }
+    ensures unchanged { IfOk result
+        (λ s. (s ≡ Stepped.Moved → ⊥) → config_of c.new ≡ config_of c.old) }
+    ensures err { OnErr result (config_of c.new ≡ config_of c.old) }
+{
+    match plan(p, c, e)? {
+        Plan::Refused(why) => Ok(why),
+        Plan::Acts(effect, change) => {
+            perform(c, e, effect, change)?;
+            Ok(Stepped::Moved)
+        }
+    }
+}
+
+/// What an event would make of a configuration, or why it is none.
+fn plan<'p>(p: &'p Program, c: &Config<'p>, e: &Event) -> Result<Plan<'p>, AllocError>
+    requires { IsReached (program_of p.now) (config_of c.now) }
+    ensures { IfOk result (PlansEvent (program_of p.now) (event_of e.now) (config_of c.now)) }
+{
+    let Some(task) = c.tasks.at(e.task.turns()) else {
+        return Ok(Plan::Refused(Stepped::NoTask));
+    };
+    let next = next_of(task, e.task.len() == 0);
+    if let Next::Nothing = next {
+        return Ok(Plan::Refused(Stepped::NoTask));
+    }
+    if c.used.contains(&e.number) {
+        return Ok(Plan::Refused(Stepped::Stale));
+    }
+    match next {
+        Next::Does(frame, command) => plan_command(p, &c.common, e, frame, command),
+        Next::Leaves(r) => Ok(Plan::Acts(Effect::Free(r), Change::GoOn(GoOn::after()))),
+        Next::Returns(room) => Ok(Plan::Acts(Effect::Close(room), Change::Return)),
+        Next::Joins => Ok(Plan::Acts(Effect::Nothing, Change::Join)),
+        Next::Nothing => Ok(Plan::Refused(Stepped::NoTask)),
+    }
+}
