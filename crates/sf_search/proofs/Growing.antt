@@ -24,11 +24,11 @@ use Rattle.sf_rules.specs.Rows.Front.{at_add, at_command}
 use Rattle.sf_rules.specs.Rows.Whole.{row, row_of}
 use Rattle.sf_rules.specs.Setting.{Setting}
 use Rattle.sf_search.proofs.Fewer.{all-fewer, fewer_settled, without-fewer}
-use Rattle.sf_search.proofs.Grown.{grown-settled}
+use Rattle.sf_search.proofs.Grown.{end-known, grown-roots, grown-settled}
 use Rattle.sf_search.proofs.Kept.{first_settled, if-so, unsettled}
 use Rattle.sf_search.proofs.Settled.{settled-by}
 use Rattle.sf_search.specs.declared.choices.growth.Size.{Size}
-use Rattle.sf_search.specs.Internal.Growth.{grows_settled, has_settled_growth, is_settled_growth, leaves_settled, staying}
+use Rattle.sf_search.specs.Internal.Growth.{BeginBelow, IsFirstBelow, RootsBelow, grows_settled, has_settled_growth, is_settled_growth, known_end, leaves_roots, leaves_settled, roots_came, staying}
 use Rattle.sf_search.specs.Internal.Settled.{IsFirstSettled, IsSettled, keeps_settled}
 use Rattle.sf_search.specs.Strategy.{chooses, takes}
 use Rattle.sf_sym.specs.Cells.{atom_at, apart_from_nil, with_atom, with_cell, without}
@@ -198,13 +198,18 @@ added-grows s p b (tree q left right x) cs rest g e =
 added-grows s p b (choose q test this that) cs rest g e = absurd (cc)
 
 -- What is left
--- a goal is left first, and is settled where the state was and the growth is
-abbrev GrowsTo : State → Size → List Goal → Type 0
-GrowsTo s n left = (h : Goal) × (others : List Goal) × (left ≡ h ∷ others)
-    × (has_settled_growth n h.state ≡ true → IsSettled s → IsSettled h.state)
+-- where the parts begin below that number, and the growth is settled, the state is settled where that one was, and its
+-- parts begin below the number that is worked out
+abbrev GrownFrom : State → Size → State → Type 0
+GrownFrom s n now = RootsBelow n.roots s.atoms s.taken → has_settled_growth n now ≡ true
+    → (IsSettled s → IsSettled now) × RootsBelow (roots_came n now) now.atoms now.taken
 
-abbrev size : State → Size
-size s = record { atoms = length s.atoms; pairs = length s.apart }
+-- a goal is left first, of whose state that is so
+abbrev GrowsTo : State → Size → List Goal → Type 0
+GrowsTo s n left = (h : Goal) × (others : List Goal) × (left ≡ h ∷ others) × GrownFrom s n h.state
+
+abbrev size : Option ℕ → State → Size
+size roots s = record { atoms = length s.atoms; pairs = length s.apart; roots = roots }
 
 -- where nothing came there is no growth
 none-came : (k m : ℕ) (n : Size) → k ≡ n.atoms → m ≡ n.pairs → nat_lt n.atoms k || nat_lt n.pairs m ≡ false
@@ -214,9 +219,9 @@ none-came k m n e f =
     not-less : (a : ℕ) → nat_lt a a ≡ false
     not-less a = search (arith)
 
-no-growth : (s now : State) → AsMany s now → has_settled_growth (size s) now ≡ true → ⊥
-no-growth s now many so =
-    let n = size s in
+no-growth : (roots : Option ℕ) (s now : State) → AsMany s now → has_settled_growth (size roots s) now ≡ true → ⊥
+no-growth roots s now many so =
+    let n = size roots s in
     let a = and_parts
     (nat_le n.atoms (length now.atoms) && nat_le n.pairs (length now.apart)
     && (nat_lt n.atoms (length now.atoms) || nat_lt n.pairs (length now.apart)))
@@ -226,39 +231,41 @@ no-growth s now many so =
     let never = none-came (length now.atoms) (length now.apart) n many.atoms many.apart in
     let one : true ≡ false = sym c.1 ∙ never in absurd (cc)
 
-grown-to : (s now : State) → Grown s now → has_settled_growth (size s) now ≡ true → IsSettled s → IsSettled now
-grown-to s now grown =
-    grown-settled s now (size s) grown.came grown.differ grown.atoms grown.apart grown.taken refl refl
+grown-to : (roots : Option ℕ) (s now : State) → Grown s now → GrownFrom s (size roots s) now
+grown-to roots s now grown = λ below so. (
+  grown-settled s now (size roots s) grown.came grown.differ grown.atoms grown.taken refl below grown.apart refl so,
+  grown-roots s now (size roots s) grown.came grown.differ grown.atoms grown.taken refl below,
+)
 
-grows-to : (s now : State) → Grows s now → has_settled_growth (size s) now ≡ true → IsSettled s → IsSettled now
-grows-to s now (inl many) so = absurd (no-growth s now many so)
-grows-to s now (inr grown) so = grown-to s now grown so
+grows-to : (roots : Option ℕ) (s now : State) → Grows s now → GrownFrom s (size roots s) now
+grows-to roots s now (inl many) = λ below so. absurd (no-growth roots s now many so)
+grows-to roots s now (inr grown) = grown-to roots s now grown
 
-add-grows : (s : State) (todo : List Item) (left : List Goal) → at_add (assume_row s) todo ≡ Some left
-    → GrowsTo s (size s) left
-add-grows s (add p given ∷ rest) left e =
+add-grows : (roots : Option ℕ) (s : State) (todo : List Item) (left : List Goal) → at_add (assume_row s) todo ≡ Some left
+    → GrowsTo s (size roots s) left
+add-grows roots s (add p given ∷ rest) left e =
     let r = option_map-some (λ g. g ∷ []) (add_first s p given.bindings given.conjuncts rest) left
     (few-left _ _ left e) in
-    (r.0, [], r.2, grows-to s r.0.state (go given.conjuncts r.1))
+    (r.0, [], r.2, grows-to roots s r.0.state (go given.conjuncts r.1))
   where
     go : (cs : Conjuncts Term) {g : Goal} → add_first s p given.bindings cs rest ≡ Some g → Grows s g.state
     go none i = absurd (cc)
     go (also c cs) {g} i = added-grows s p given.bindings c cs rest g i
-add-grows s _ left e = absurd (cc)
+add-grows roots s _ left e = absurd (cc)
 
-new-grows : (s : State) (todo : List Item) (left : List Goal) → at_command (new_row s) todo ≡ Some left
-    → GrowsTo s (size s) left
-new-grows s (run (new p x) ∷ rest) left e =
+new-grows : (roots : Option ℕ) (s : State) (todo : List Item) (left : List Goal) → at_command (new_row s) todo ≡ Some left
+    → GrowsTo s (size roots s) left
+new-grows roots s (run (new p x) ∷ rest) left e =
     let fresh = Sym s.next_sym in
     let before = with_var x.var fresh (with_symbols 1 s) in
     let h : Goal = record { state = with_cell before fresh []; todo = rest } in (
       h,
       [],
       sym (same_Some (h ∷ []) left e),
-      grown-to s h.state
+      grown-to roots s h.state
           (then-grown s before h.state (record { atoms = refl; apart = refl; taken = refl }) (cell-grown before fresh [])),
     )
-new-grows s _ left e = absurd (cc)
+new-grows roots s _ left e = absurd (cc)
 
 -- an atom that is there is one of so many
 length-without : (xs : List Numbered) (a : ℕ) (x : Atom) → atom_at xs a ≡ Some x → suc (length (without xs a)) ≡ length xs
@@ -305,9 +312,26 @@ unrolled-grown links (Tree t) s now e = go links.l links.r e
         (atom-grown (Tree one) b))
         (atom-grown (Tree two) c))
 
-unroll-grows : (g : Goal) (a : ℕ) (left : List Goal) → unroll_row g a ≡ Some left
-    → GrowsTo g.state (record { atoms = length g.state.atoms - 1; pairs = length g.state.apart }) left
-unroll-grows g a left e =
+-- what is left begins where it began
+begin-without : (end a : ℕ) (xs : List Numbered) → BeginBelow end xs → BeginBelow end (without xs a)
+begin-without end a [] all = tt
+begin-without end a (x ∷ xs) all = go (x.number == a) (begin-without end a xs all.1)
+  where
+    go : (b : Bool) → BeginBelow end (without xs a) → BeginBelow end (cond b xs (x ∷ without xs a))
+    go true rest = all.1
+    go false rest = (all.0, rest)
+
+roots-without : (roots : Option ℕ) (a : ℕ) (atoms taken : List Numbered) → RootsBelow roots atoms taken
+    → RootsBelow roots (without atoms a) taken
+roots-without None a atoms taken below = tt
+roots-without (Some end) a atoms taken below = (begin-without end a atoms below.0, below.1)
+
+abbrev less : Option ℕ → State → Size
+less roots s = record { atoms = length s.atoms - 1; pairs = length s.apart; roots = roots }
+
+unroll-grows : (roots : Option ℕ) (g : Goal) (a : ℕ) (left : List Goal) → unroll_row g a ≡ Some left
+    → GrowsTo g.state (less roots g.state) left
+unroll-grows roots g a left e =
     option_and_then_some (unroll_one g a) (atom_at g.state.atoms a) left e
     (λ x there i. option_and_then_some _ (ends x) left i
     (λ ends j k. go x there (differs g.state ends.0 ends.1) k))
@@ -317,54 +341,103 @@ unroll-grows g a left e =
 
     go : (x : Atom) → atom_at g.state.atoms a ≡ Some x → (b : Bool)
         → cond b (option_map (λ now. at_state g now ∷ []) (unrolled g.state.links x s)) None ≡ Some left
-        → GrowsTo g.state (record { atoms = length g.state.atoms - 1; pairs = length g.state.apart }) left
+        → GrowsTo g.state (less roots g.state) left
     go x there true i =
         let r = option_map-some (λ now. at_state g now ∷ []) (unrolled g.state.links x s) left i in
         let grown = unrolled-grown g.state.links x s r.0 r.1 in
         let fewer = length-without g.state.atoms a x there in
-        let count : length (without g.state.atoms a) ≡ length g.state.atoms - 1 = omega (arith, fewer) in (
+        let count : length (without g.state.atoms a) ≡ length g.state.atoms - 1 = omega (arith, fewer) in
+        let n = less roots g.state in (
           at_state g r.0,
           [],
           r.2,
-          λ so known. grown-settled s r.0 (record { atoms = length g.state.atoms - 1; pairs = length g.state.apart })
-              grown.came grown.differ grown.atoms grown.apart grown.taken count refl so
-              (fewer_settled g.state s refl (without-fewer g.state.atoms a) (all-fewer g.state.taken) known),
+          λ below so.
+              let here = roots-without roots a g.state.atoms g.state.taken below in (
+                λ known. grown-settled s r.0 n grown.came grown.differ grown.atoms grown.taken count here grown.apart refl so
+                    (fewer_settled g.state s refl (without-fewer g.state.atoms a) (all-fewer g.state.taken) known),
+                grown-roots s r.0 n grown.came grown.differ grown.atoms grown.taken count here,
+              ),
         )
     go x there false i = absurd (cc)
 
 -- The whole table
-row_of-grows : (d : Setting) (g : Goal) (tag : Tag) (left : List Goal) (n : Size) → staying tag g.state ≡ Some n
-    → row_of d g tag ≡ Some left → GrowsTo g.state n left
-row_of-grows d g t.Add left n k e =
-    subst (λ z. GrowsTo g.state z left) (same_Some (size g.state) n k) (add-grows g.state g.todo left e)
-row_of-grows d g t.New left n k e =
-    subst (λ z. GrowsTo g.state z left) (same_Some (size g.state) n k) (new-grows g.state g.todo left e)
-row_of-grows d g (t.Unroll a) left n k e =
-    subst (λ z. GrowsTo g.state z left)
-    (same_Some (record { atoms = length g.state.atoms - 1; pairs = length g.state.apart }) n k)
-    (unroll-grows g a left e)
-row_of-grows d g _ left n k e = absurd (cc)
+row_of-grows : (d : Setting) (g : Goal) (tag : Tag) (roots : Option ℕ) (left : List Goal) (n : Size)
+    → staying tag roots g.state ≡ Some n → row_of d g tag ≡ Some left → GrowsTo g.state n left
+row_of-grows d g t.Add roots left n k e =
+    let end = known_end roots g.state in
+    subst (λ z. GrowsTo g.state z left) (same_Some (size end g.state) n k) (add-grows end g.state g.todo left e)
+row_of-grows d g t.New roots left n k e =
+    let end = known_end roots g.state in
+    subst (λ z. GrowsTo g.state z left) (same_Some (size end g.state) n k) (new-grows end g.state g.todo left e)
+row_of-grows d g (t.Unroll a) roots left n k e =
+    let end = known_end roots g.state in
+    subst (λ z. GrowsTo g.state z left) (same_Some (less end g.state) n k) (unroll-grows end g a left e)
+row_of-grows d g _ roots left n k e = absurd (cc)
 
--- after a tag that the strategy takes the next goal is settled, where that is said
-pub first_left_settled : (d : Setting) (g : Goal) (gs : List Goal) (tag : Tag) (left : List Goal)
-    → chooses g ≡ takes tag → row d g tag ≡ Some left
-    → IsFirstSettled (leaves_settled tag g.state left) (left ++ gs)
-first_left_settled d g gs tag left chosen e = go (keeps_settled tag) refl (staying tag g.state) refl
-  where
-    known : (n : Size) → staying tag g.state ≡ Some n → IsSettled g.state
-    known n k =
-        settled-by (λ z. is_some (staying z g.state)) refl (λ a. refl) (λ a. refl) g tag chosen (ap is_some k)
+-- what stays has the number that is known
+staying-roots : (tag : Tag) (roots : Option ℕ) (s : State) (n : Size) → staying tag roots s ≡ Some n
+    → n.roots ≡ known_end roots s
+staying-roots t.Add roots s n k = ap (λ z. z.roots) (sym (same_Some (size (known_end roots s) s) n k))
+staying-roots t.New roots s n k = ap (λ z. z.roots) (sym (same_Some (size (known_end roots s) s) n k))
+staying-roots (t.Unroll a) roots s n k = ap (λ z. z.roots) (sym (same_Some (less (known_end roots s) s) n k))
+staying-roots _ roots s n k = absurd (cc)
 
-    grows : (n : Size) → staying tag g.state ≡ Some n → (b : Bool) → grows_settled (Some n) left ≡ b
-        → IsFirstSettled b (left ++ gs)
-    grows n k false f = unsettled (left ++ gs)
-    grows n k true f =
-        let r = row_of-grows d g tag left n k (if-so (has_numbers g.state) (row_of d g tag) left e) in
-        let so : has_settled_growth n r.0.state ≡ true = sym (ap (grows_settled (Some n)) r.2) ∙ f in
-        subst (λ zs. IsFirstSettled true (zs ++ gs)) (sym r.2) (λ i. r.3 so (known n k))
+-- nothing is said of the first goal
+no-roots : (gs : List Goal) → IsFirstBelow None gs
+no-roots [] = tt
+no-roots (g ∷ gs) = tt
 
-    go : (b : Bool) → keeps_settled tag ≡ b → (o : Option Size) → staying tag g.state ≡ o
-        → IsFirstSettled (b || grows_settled o left) (left ++ gs)
-    go true k o i = subst (λ b. IsFirstSettled b (left ++ gs)) k (first_settled d g gs tag left chosen e)
-    go false k None i = unsettled (left ++ gs)
-    go false k (Some n) i = grows n i (grows_settled (Some n) left) refl
+module _ (d : Setting) (g : Goal) (gs : List Goal) (tag : Tag) (roots : Option ℕ) (left : List Goal)
+    (below : RootsBelow roots g.state.atoms g.state.taken) (chosen : chooses g ≡ takes tag)
+    (e : row d g tag ≡ Some left) where
+  -- a goal is left first, of whose state that is so
+  left-grows : (n : Size) → staying tag roots g.state ≡ Some n
+      → (h : Goal) × (others : List Goal) × (left ≡ h ∷ others)
+      × (has_settled_growth n h.state ≡ true
+      → (IsSettled g.state → IsSettled h.state) × RootsBelow (roots_came n h.state) h.state.atoms h.state.taken)
+  left-grows n k =
+      let r = row_of-grows d g tag roots left n k (if-so (has_numbers g.state) (row_of d g tag) left e) in
+      let here = subst (λ o. RootsBelow o g.state.atoms g.state.taken) (sym (staying-roots tag roots g.state n k))
+      (end-known roots g.state below) in
+      (r.0, r.1, r.2, r.3 here)
+
+  -- after a tag that the strategy takes the next goal is settled, where that is said
+  pub first_left_settled : IsFirstSettled (leaves_settled tag (staying tag roots g.state) left) (left ++ gs)
+  first_left_settled = go (keeps_settled tag) refl (staying tag roots g.state) refl
+    where
+      known : (n : Size) → staying tag roots g.state ≡ Some n → IsSettled g.state
+      known n k =
+          settled-by (λ z. is_some (staying z roots g.state)) refl (λ a. refl) (λ a. refl) g tag chosen (ap is_some k)
+
+      grows : (n : Size) → staying tag roots g.state ≡ Some n → (b : Bool) → grows_settled (Some n) left ≡ b
+          → IsFirstSettled b (left ++ gs)
+      grows n k false f = unsettled (left ++ gs)
+      grows n k true f =
+          let r = left-grows n k in
+          let so : has_settled_growth n r.0.state ≡ true = sym (ap (grows_settled (Some n)) r.2) ∙ f in
+          subst (λ zs. IsFirstSettled true (zs ++ gs)) (sym r.2) (λ i. (r.3 so).0 (known n k))
+
+      go : (b : Bool) → keeps_settled tag ≡ b → (o : Option Size) → staying tag roots g.state ≡ o
+          → IsFirstSettled (b || grows_settled o left) (left ++ gs)
+      go true k o i = subst (λ b. IsFirstSettled b (left ++ gs)) k (first_settled d g gs tag left chosen e)
+      go false k None i = unsettled (left ++ gs)
+      go false k (Some n) i = grows n i (grows_settled (Some n) left) refl
+
+  -- and its parts begin at symbols below a number, where one is told
+  pub first_left_below : IsFirstBelow (leaves_roots (staying tag roots g.state) left) (left ++ gs)
+  first_left_below = go (staying tag roots g.state) refl
+    where
+      grows : (n : Size) → staying tag roots g.state ≡ Some n → IsFirstBelow (leaves_roots (Some n) left) (left ++ gs)
+      grows n k =
+          let r = left-grows n k in
+          subst (λ zs. IsFirstBelow (leaves_roots (Some n) zs) (zs ++ gs)) (sym r.2)
+          (when r.0.state (has_settled_growth n r.0.state) (λ so. (r.3 so).1))
+        where
+          when : (now : State) (b : Bool) → (b ≡ true → RootsBelow (roots_came n now) now.atoms now.taken)
+              → RootsBelow (cond b (roots_came n now) None) now.atoms now.taken
+          when now true so = so refl
+          when now false so = tt
+
+      go : (o : Option Size) → staying tag roots g.state ≡ o → IsFirstBelow (leaves_roots o left) (left ++ gs)
+      go None i = no-roots (left ++ gs)
+      go (Some n) i = grows n i

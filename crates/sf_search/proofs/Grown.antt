@@ -1,18 +1,21 @@
 -- A state with pairs and parts behind the others, none of them at a place of those: what is settled stays so.
--- Names: `pair-LAW` of one pair more, `part-LAW` of one part more, `LAW-settled` of states.
-use Rattle.std.proofs.Common.{◌≡◌, ℕ, Bool, true, false, ◌&&◌, ◌||◌, not, cond, nat_le, nat_lt, Option, Some, None, List, [], ◌∷◌, ◌++◌, length, take, drop, map, refl, sym, ap, ap₂, ◌∙◌, subst, append_assoc}
+-- Names: `pair-LAW` of one pair more, `part-LAW` of one part more, `LAW-settled` of states, `end-LAW` of a number above
+-- the symbols at which parts begin, `clear-LAW` of a term at which none begins by it.
+use Rattle.std.proofs.Common.{◌≡◌, ℕ, ◌+◌, ◌≤◌, ◌==◌, Bool, true, false, ◌&&◌, ◌||◌, not, cond, nat_le, nat_lt, Option, Some, None, List, [], ◌∷◌, ◌++◌, length, take, drop, map, refl, sym, ap, ap₂, ◌∙◌, subst, append_assoc, arith}
 use Rattle.std.specs.List.{AllByRecursion, list_all, list_any}
-use Rattle.std.specs.Option.{option_map}
+use Rattle.std.specs.Option.{option_and_then, option_map}
 use Rattle.std.proofs.lemmas.Bool.{and_parts, or_parts}
-use Rattle.std.proofs.lemmas.Bool.Decides.{Decides-eqb}
+use Rattle.std.proofs.lemmas.Bool.Decides.{Decides-eqb, nat_tests}
 use Rattle.std.proofs.lemmas.List.{append-nil}
+use Rattle.std.proofs.lemmas.Option.{option_and_then_some, same_Some}
 use Rattle.std.proofs.lemmas.List.Folds.{list_any-append}
 use Rattle.std.proofs.Math.Seq.{drop-append_seam, take-append_seam}
+use Rattle.sf_base.proofs.Elements.{all_by-append}
 use Rattle.sf_search.proofs.Fewer.{any-moved, lower-none, or-still, repeat-last, repeat-moved, same-turned}
 use Rattle.sf_search.proofs.Lowest.{lowest_append}
 use Rattle.sf_search.proofs.Settled.{forced-stripped, settled-same, stripped}
 use Rattle.sf_search.specs.declared.choices.growth.Size.{Size}
-use Rattle.sf_search.specs.Internal.Growth.{are_alone, has_settled_growth, is_alone, is_free, is_free_pair, is_settled_growth, is_unused}
+use Rattle.sf_search.specs.Internal.Growth.{BeginBelow, RootsBelow, are_alone, end_of, has_settled_growth, is_alone, is_clear, is_free, is_free_before, is_free_pair, is_settled_growth, is_symbol_below, is_unused, known_end, next_end, roots_came}
 use Rattle.sf_search.specs.Internal.Settled.{IsSettled}
 use Rattle.sf_search.specs.Strategy.{forced_ends, lower, lowest_forced, which}
 use Rattle.sf_sym.specs.declared.atom.Atom.{Atom}
@@ -111,7 +114,7 @@ module _ (apart now : List (Term × Term)) where
       (repeat-alike xs all.1)
 
 -- one more pair of two terms at which no part begins
-pair-settled : (s : State) (q : Term × Term) → is_free_pair s.atoms s.taken q ≡ true → IsSettled s
+pair-settled : (s : State) (q : Term × Term) → is_free_pair (is_free s.atoms s.taken) q ≡ true → IsSettled s
     → IsSettled (record s { apart = s.apart ++ q ∷ [] })
 pair-settled s q free known =
     let now : State = record s { apart = s.apart ++ q ∷ [] } in
@@ -247,23 +250,23 @@ module _ (s : State) (x : Numbered) (constant : is_constant (root x.atom) ≡ fa
   }
 
 -- Many of them
-pairs-settled : (s : State) (qs : List (Term × Term)) → list_all (is_free_pair s.atoms s.taken) qs ≡ true
+pairs-settled : (s : State) (qs : List (Term × Term)) → list_all (is_free_pair (is_free s.atoms s.taken)) qs ≡ true
     → IsSettled s → IsSettled (record s { apart = s.apart ++ qs })
 pairs-settled s [] free known =
     subst (λ ps. IsSettled (record s { apart = ps })) (sym (append-nil s.apart)) known
 pairs-settled s (q ∷ qs) free known =
-    let both = and_parts (is_free_pair s.atoms s.taken q) (list_all (is_free_pair s.atoms s.taken) qs) free in
+    let both = and_parts (is_free_pair (is_free s.atoms s.taken) q) (list_all (is_free_pair (is_free s.atoms s.taken)) qs) free in
     subst (λ ps. IsSettled (record s { apart = ps })) (append_assoc s.apart (q ∷ []) qs)
     (pairs-settled (record s { apart = s.apart ++ q ∷ [] }) qs both.1 (pair-settled s q both.0 known))
 
 -- what is alone among others is so among these and one more that is elsewhere
 still-alone : (atoms taken : List Numbered) (x : Numbered) (xs : List Numbered)
-    → list_any (begins (root x.atom)) xs ≡ false → are_alone atoms taken xs ≡ true
-    → are_alone (atoms ++ x ∷ []) taken xs ≡ true
+    → list_any (begins (root x.atom)) xs ≡ false → are_alone (is_free atoms taken) xs ≡ true
+    → are_alone (is_free (atoms ++ x ∷ []) taken) xs ≡ true
 still-alone atoms taken x [] e f = refl
 still-alone atoms taken x (y ∷ ys) e f =
     let here = or_parts (begins (root x.atom) y) (list_any (begins (root x.atom)) ys) e in
-    let both = and_parts (is_alone atoms taken ys y) (are_alone atoms taken ys) f in
+    let both = and_parts (is_alone (is_free atoms taken) ys y) (are_alone (is_free atoms taken) ys) f in
     ap₂ (λ a b. a && b)
     (ap (λ b. not (is_constant (root y.atom)) && (not (is_nothing y.atom)
     && ((not b && is_unused taken (root y.atom)) && is_unused ys (root y.atom))))
@@ -273,13 +276,13 @@ still-alone atoms taken x (y ∷ ys) e f =
     ∙ both.0)
     (still-alone atoms taken x ys here.1 both.1)
 
-parts-settled : (s : State) (xs : List Numbered) → are_alone s.atoms s.taken xs ≡ true → IsSettled s
+parts-settled : (s : State) (xs : List Numbered) → are_alone (is_free s.atoms s.taken) xs ≡ true → IsSettled s
     → IsSettled (record s { atoms = s.atoms ++ xs })
 parts-settled s [] alone known =
     subst (λ ys. IsSettled (record s { atoms = ys })) (sym (append-nil s.atoms)) known
 parts-settled s (x ∷ xs) alone known =
     let free = is_free s.atoms s.taken (root x.atom) in
-    let both = and_parts (is_alone s.atoms s.taken xs x) (are_alone s.atoms s.taken xs) alone in
+    let both = and_parts (is_alone (is_free s.atoms s.taken) xs x) (are_alone (is_free s.atoms s.taken) xs) alone in
     let symbol = and_parts (not (is_constant (root x.atom)))
     (not (is_nothing x.atom) && (is_free s.atoms s.taken (root x.atom) && is_unused xs (root x.atom))) both.0 in
     let some = and_parts (not (is_nothing x.atom))
@@ -293,25 +296,161 @@ parts-settled s (x ∷ xs) alone known =
     (free-parts s.atoms s.taken (root x.atom) places.0)
     (not-so (list_any (begins (root x.atom)) s.atoms) among.0) known))
 
--- a state that is settled but for what came to it, by the test of that
-pub grown-settled : (s now : State) (n : Size) (xs : List Numbered) (qs : List (Term × Term))
-    → now.atoms ≡ s.atoms ++ xs → now.apart ≡ s.apart ++ qs → now.taken ≡ s.taken → length s.atoms ≡ n.atoms
-    → length s.apart ≡ n.pairs → has_settled_growth n now ≡ true → IsSettled s → IsSettled now
-grown-settled s now n xs qs atoms apart taken count pairs so known =
-    let rest = and_parts
-    (nat_le n.atoms (length now.atoms) && nat_le n.pairs (length now.apart)
-    && (nat_lt n.atoms (length now.atoms) || nat_lt n.pairs (length now.apart)))
-    (is_settled_growth n now) so in
-    let tests = and_parts (list_all (is_free_pair (take n.atoms now.atoms) now.taken) (drop n.pairs now.apart))
-    (are_alone (take n.atoms now.atoms) now.taken (drop n.atoms now.atoms)) rest.1 in
-    let front : take n.atoms now.atoms ≡ s.atoms = ap₂ take (sym count) atoms ∙ take-append_seam s.atoms xs in
-    let came : drop n.atoms now.atoms ≡ xs = ap₂ drop (sym count) atoms ∙ drop-append_seam s.atoms xs in
-    let differ : drop n.pairs now.apart ≡ qs = ap₂ drop (sym pairs) apart ∙ drop-append_seam s.apart qs in
-    let with-pairs = pairs-settled s qs
-    (sym (ap₂ (λ a b. list_all (is_free_pair a now.taken) b) front differ
-    ∙ ap (λ t. list_all (is_free_pair s.atoms t) qs) taken) ∙ tests.0) known in
-    let with-parts = parts-settled (record s { apart = s.apart ++ qs }) xs
-    (sym (ap₂ (λ a b. are_alone a now.taken b) front came ∙ ap (λ t. are_alone s.atoms t xs) taken) ∙ tests.1)
-    with-pairs in
-    settled-same (record s { apart = s.apart ++ qs; atoms = s.atoms ++ xs }) now apart (ap (map stripped) atoms)
-    (ap (map stripped) taken) with-parts
+-- What is known to be free by one test is so by a wider one
+module _ (free wider : Term → Bool) (is-free : (t : Term) → free t ≡ true → wider t ≡ true) where
+  wider-pair : (q : Term × Term) → is_free_pair free q ≡ true → is_free_pair wider q ≡ true
+  wider-pair q e =
+      let a = and_parts (not (same_term q.0 q.1)) (free q.0 && free q.1) e in
+      let b = and_parts (free q.0) (free q.1) a.1 in
+      ap₂ (λ x y. x && y) a.0 (ap₂ (λ x y. x && y) (is-free q.0 b.0) (is-free q.1 b.1))
+
+  wider-pairs : (qs : List (Term × Term)) → list_all (is_free_pair free) qs ≡ true
+      → list_all (is_free_pair wider) qs ≡ true
+  wider-pairs [] e = refl
+  wider-pairs (q ∷ qs) e =
+      let a = and_parts (is_free_pair free q) (list_all (is_free_pair free) qs) e in
+      ap₂ (λ x y. x && y) (wider-pair q a.0) (wider-pairs qs a.1)
+
+  wider-part : (xs : List Numbered) (x : Numbered) → is_alone free xs x ≡ true → is_alone wider xs x ≡ true
+  wider-part xs x e =
+      let a = and_parts (not (is_constant (root x.atom)))
+      (not (is_nothing x.atom) && (free (root x.atom) && is_unused xs (root x.atom))) e in
+      let b = and_parts (not (is_nothing x.atom)) (free (root x.atom) && is_unused xs (root x.atom)) a.1 in
+      let c = and_parts (free (root x.atom)) (is_unused xs (root x.atom)) b.1 in
+      ap₂ (λ x y. x && y) a.0 (ap₂ (λ x y. x && y) b.0 (ap₂ (λ x y. x && y) (is-free (root x.atom) c.0) c.1))
+
+  wider-parts : (xs : List Numbered) → are_alone free xs ≡ true → are_alone wider xs ≡ true
+  wider-parts [] e = refl
+  wider-parts (x ∷ xs) e =
+      let a = and_parts (is_alone free xs x) (are_alone free xs) e in
+      ap₂ (λ x y. x && y) (wider-part xs x a.0) (wider-parts xs a.1)
+
+-- Symbols at which parts begin
+-- a symbol below a number isn't one from there on, nor a constant
+clear-other : (end : ℕ) (t u : Term) → is_symbol_below end t ≡ true → is_clear (Some end) u ≡ true
+    → same_term t u ≡ false
+clear-other end Nil u e f = absurd (cc)
+clear-other end (Int i) u e f = absurd (cc)
+clear-other end (Sym k) Nil e f = refl
+clear-other end (Sym k) (Int i) e f = refl
+clear-other end (Sym k) (Sym m) e f = other e f
+  where
+    other : nat_lt k end ≡ true → nat_le end m ≡ true → (k == m) ≡ false
+    other a b = grind (arith, nat_tests)
+
+clear-unused : (end : ℕ) (t : Term) (xs : List Numbered) → BeginBelow end xs → is_clear (Some end) t ≡ true
+    → list_any (begins t) xs ≡ false
+clear-unused end t [] all e = refl
+clear-unused end t (x ∷ xs) all e =
+    or-still (begins t x) (list_any (begins t) xs) (clear-other end (root x.atom) t all.0 e)
+    (clear-unused end t xs all.1 e)
+
+clear-free : (roots : Option ℕ) (atoms taken : List Numbered) → RootsBelow roots atoms taken → (t : Term)
+    → is_free_before roots atoms taken t ≡ true → is_free atoms taken t ≡ true
+clear-free None atoms taken below t e = e
+clear-free (Some end) atoms taken below t e = go (is_clear (Some end) t) refl e
+  where
+    go : (b : Bool) → is_clear (Some end) t ≡ b → b || is_free atoms taken t ≡ true → is_free atoms taken t ≡ true
+    go true i j =
+        ap₂ (λ x y. not x && not y) (clear-unused end t atoms below.0 i) (clear-unused end t taken below.1 i)
+    go false i j = j
+
+below-more : (m n : ℕ) (t : Term) → m ≤ n → is_symbol_below m t ≡ true → is_symbol_below n t ≡ true
+below-more m n Nil le e = absurd (cc)
+below-more m n (Int i) le e = absurd (cc)
+below-more m n (Sym k) le e = more e
+  where
+    more : nat_lt k m ≡ true → nat_lt k n ≡ true
+    more a = grind (arith, nat_tests)
+
+begin-more : (m n : ℕ) (xs : List Numbered) → m ≤ n → BeginBelow m xs → BeginBelow n xs
+begin-more m n [] le all = tt
+begin-more m n (x ∷ xs) le all = (below-more m n (root x.atom) le all.0, begin-more m n xs le all.1)
+
+-- a number above one more symbol
+end-next : (from end : ℕ) (t : Term) → next_end from t ≡ Some end → (from ≤ end) × (is_symbol_below end t ≡ true)
+end-next from end Nil e = absurd (cc)
+end-next from end (Int i) e = absurd (cc)
+end-next from end (Sym k) e = go (nat_le from k) refl e
+  where
+    go : (b : Bool) → nat_le from k ≡ b → cond b (Some (k + 1)) (Some from) ≡ Some end
+        → (from ≤ end) × (nat_lt k end ≡ true)
+    go true i j = let same : k + 1 ≡ end = same_Some (k + 1) end j in
+        (grind (arith, nat_tests), grind (arith, nat_tests))
+    go false i j = let same : from ≡ end = same_Some from end j in
+        (omega (arith, same), grind (arith, nat_tests))
+
+-- and above those of all parts
+end-all : (from end : ℕ) (xs : List Numbered) → end_of from xs ≡ Some end → (from ≤ end) × BeginBelow end xs
+end-all from end [] e = let same : from ≡ end = same_Some from end e in (omega (arith, same), tt)
+end-all from end (x ∷ xs) e =
+    option_and_then_some (λ m. end_of m xs) (next_end from (root x.atom)) end e (λ m i j.
+    let one = end-next from m (root x.atom) i in
+    let more = end-all m end xs j in
+    (omega (arith, one.0, more.0), (below-more m end (root x.atom) more.0 one.1, more.1)))
+
+pub end-known : (roots : Option ℕ) (s : State) → RootsBelow roots s.atoms s.taken
+    → RootsBelow (known_end roots s) s.atoms s.taken
+end-known (Some end) s below = below
+end-known None s below = go (known_end None s) refl
+  where
+    go : (o : Option ℕ) → known_end None s ≡ o → RootsBelow o s.atoms s.taken
+    go None e = tt
+    go (Some end) e =
+        option_and_then_some (λ m. end_of m s.taken) (end_of 0 s.atoms) end e (λ m i j.
+        let one = end-all 0 m s.atoms i in
+        let two = end-all m end s.taken j in
+        (begin-more m end s.atoms two.0 one.1, two.1))
+
+-- and above those of parts behind others
+pub end-came : (roots : Option ℕ) (atoms taken xs : List Numbered) → RootsBelow roots atoms taken
+    → RootsBelow (option_and_then (λ end. end_of end xs) roots) (atoms ++ xs) taken
+end-came None atoms taken xs below = tt
+end-came (Some from) atoms taken xs below = go (end_of from xs) refl
+  where
+    go : (o : Option ℕ) → end_of from xs ≡ o → RootsBelow o (atoms ++ xs) taken
+    go None e = tt
+    go (Some end) e = let all = end-all from end xs e in (
+      all_by-append (λ (a : Numbered). is_symbol_below end (root a.atom) ≡ true) atoms xs
+          (begin-more from end atoms all.0 below.0) all.1,
+      begin-more from end taken all.0 below.1,
+    )
+
+-- what came, where the parts and the pairs are those of a state with some behind them
+module _ (s now : State) (n : Size) (xs : List Numbered) (qs : List (Term × Term)) (atoms : now.atoms ≡ s.atoms ++ xs)
+    (taken : now.taken ≡ s.taken) (count : length s.atoms ≡ n.atoms) (below : RootsBelow n.roots s.atoms s.taken) where
+  came-behind : drop n.atoms now.atoms ≡ xs
+  came-behind = ap₂ drop (sym count) atoms ∙ drop-append_seam s.atoms xs
+
+  -- its parts begin at symbols below the number that is worked out
+  pub grown-roots : RootsBelow (roots_came n now) now.atoms now.taken
+  grown-roots =
+      subst (λ ys. RootsBelow (option_and_then (λ end. end_of end ys) n.roots) now.atoms now.taken) (sym came-behind)
+      (subst (λ ys. RootsBelow (option_and_then (λ end. end_of end xs) n.roots) ys now.taken) (sym atoms)
+      (subst (RootsBelow (option_and_then (λ end. end_of end xs) n.roots) (s.atoms ++ xs)) (sym taken)
+      (end-came n.roots s.atoms s.taken xs below)))
+
+  -- and it is settled as that state, by the test of what came
+  pub grown-settled : now.apart ≡ s.apart ++ qs → length s.apart ≡ n.pairs → has_settled_growth n now ≡ true
+      → IsSettled s → IsSettled now
+  grown-settled apart pairs so known =
+      let before = is_free_before n.roots (take n.atoms now.atoms) now.taken in
+      let rest = and_parts
+      (nat_le n.atoms (length now.atoms) && nat_le n.pairs (length now.apart)
+      && (nat_lt n.atoms (length now.atoms) || nat_lt n.pairs (length now.apart)))
+      (is_settled_growth n now) so in
+      let tests = and_parts (list_all (is_free_pair before) (drop n.pairs now.apart))
+      (are_alone before (drop n.atoms now.atoms)) rest.1 in
+      let front : take n.atoms now.atoms ≡ s.atoms = ap₂ take (sym count) atoms ∙ take-append_seam s.atoms xs in
+      let differ : drop n.pairs now.apart ≡ qs = ap₂ drop (sym pairs) apart ∙ drop-append_seam s.apart qs in
+      let free : (t : Term) → before t ≡ true → is_free s.atoms s.taken t ≡ true =
+      λ t e. clear-free n.roots s.atoms s.taken below t
+      (sym (ap₂ (λ a b. is_free_before n.roots a b t) front taken) ∙ e) in
+      let with-pairs = pairs-settled s qs
+      (wider-pairs before (is_free s.atoms s.taken) free qs
+      (sym (ap (list_all (is_free_pair before)) differ) ∙ tests.0)) known in
+      let with-parts = parts-settled (record s { apart = s.apart ++ qs }) xs
+      (wider-parts before (is_free s.atoms s.taken) free xs
+      (sym (ap (are_alone before) came-behind) ∙ tests.1)) with-pairs in
+      settled-same (record s { apart = s.apart ++ qs; atoms = s.atoms ++ xs }) now apart (ap (map stripped) atoms)
+      (ap (map stripped) taken) with-parts

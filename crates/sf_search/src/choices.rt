@@ -22,7 +22,7 @@ mod wanted;
 mod whole;
 
 pub use choice::{Choice, Kind};
-pub(crate) use growth::{grows_settled, staying};
+pub(crate) use growth::{grows_settled, leaves_roots, staying};
 pub(crate) use settled::keeps_settled;
 pub use whole::choose;
 pub(crate) use whole::choose_in_front;

@@ -10,7 +10,7 @@ ghost use Rattle.sf_rules.specs.Internal.Children.{children_of, stack_of};
 ghost use Rattle.sf_rules.specs.Rows.Whole.{row};
 ghost use Rattle.sf_rules.specs.Setting.{Setting, setting_of};
 ghost use Rattle.sf_search.specs.Internal.Choosing.{choice_of};
-ghost use Rattle.sf_search.specs.Internal.Growth.{leaves_settled};
+ghost use Rattle.sf_search.specs.Internal.Growth.{leaves_roots, leaves_settled, staying};
 ghost use Rattle.sf_search.specs.Internal.Settled.{IsSettled};
 ghost use Rattle.sf_search.specs.Strategy.{chooses};
 ghost use Rattle.sf_search.specs.Ends.{EndsAs, FailsAs, FollowsAs, failure};
@@ -19,7 +19,7 @@ ghost use Rattle.sf_sym.specs.Goal.{Goal as AnyGoal, goal_of};
 ghost use Rattle.sf_sym.specs.declared.tag.Tag.TheVariants.{Procedure};
 
 use crate::choices::{
-    Choice, Kind, choose, choose_in_front, grows_settled, keeps_settled, staying,
+    Choice, Kind, choose, choose_in_front, grows_settled, keeps_settled, leaves_roots, staying,
 };
 use sf_base::ProcId;
 use sf_base::limits::{FILE_TAGS, PROCEDURE_TAGS};
@@ -87,6 +87,15 @@ impl<'a> From<AllocError> for VerifyFault<'a> {
     }
 }
 
+/// What is known of the next goal's state.
+#[derive(Clone, Copy)]
+struct Known {
+    /// Whether the tests of the state are known to find nothing.
+    settled: bool,
+    /// A number above all symbols at which its parts begin, if all begin at symbols.
+    roots: Option<u64>,
+}
+
 /// The tags of a proof of the procedure of that number, without its `procedure` tag. There is such
 /// a procedure. An `Err` says how the search ended.
 pub fn search<'a>(
@@ -122,18 +131,28 @@ fn search_from<'a>(
     let mut tags = Vec::new(alloc);
     let mut stack = Vec::new(alloc);
     stack.push(first)?;
-    // Whether the tests of the next goal's state are known to find nothing.
-    let mut settled = false;
+    let mut known = Known {
+        settled: false,
+        roots: None,
+    };
     while let Some(goal) = stack.pop() {
-        let tag = match choose_knowing(alloc, &goal, settled)? {
+        let tag = match choose_knowing(alloc, &goal, known.settled)? {
             Choice::Takes(tag) => tag,
             Choice::Stays(kind) => return Err(SearchFault::Stuck(goal, kind, tags.len())),
         };
         if tags.len() == PROCEDURE_TAGS {
             return Err(SearchFault::TooLarge);
         }
-        settled = match follow(alloc, arranged, &mut stack, &mut tags, goal, tag) {
-            Ok(known) => known,
+        known = match follow(
+            alloc,
+            arranged,
+            &mut stack,
+            &mut tags,
+            goal,
+            tag,
+            known.roots,
+        ) {
+            Ok(next) => next,
             Err(fault) => return Err(fault),
         };
     }
@@ -154,7 +173,8 @@ fn choose_knowing(alloc: Global, goal: &Goal, settled: bool) -> Result<Choice, A
 }
 
 /// Takes the tag at a goal: what it leaves goes on the stack, and the tag after the tags. Where the
-/// goal's state was settled, the answer says whether that of the next goal is known to be.
+/// goal's state was settled and all its parts begin below a number that may be known, the answer says
+/// what is known of the next goal's state.
 fn follow<'a>(
     alloc: Global,
     arranged: &'a Arranged,
@@ -162,25 +182,30 @@ fn follow<'a>(
     tags: &mut Vec<Tag>,
     goal: Goal<'a>,
     tag: Tag,
-) -> Result<bool, SearchFault<'a>>
+    roots: Option<u64>,
+) -> Result<Known, SearchFault<'a>>
     ghost d: { Setting }
     requires ordered { IsOrdering d.ordered }
     requires setting { d ≡ setting_of d.ordered arranged.now }
-    ensures left { IfOk result (λ settled. (left : List AnyGoal)
+    ensures left { IfOk result (λ known. (left : List AnyGoal)
         × (row d (goal_of goal.entry) tag ≡ Some left)
         × (stack_of stack.new.items ≡ left ++ stack_of stack.old.items)
-        × (settled ≡ leaves_settled tag goal.entry.state left)) }
+        × (known.settled ≡ leaves_settled tag (staying tag roots goal.entry.state) left)
+        × (known.roots ≡ leaves_roots (staying tag roots goal.entry.state) left)) }
     ensures tags { Appends result tags.old.items tags.new.items (tag ∷ []) }
     ensures err { IfErr result
         (λ e. FollowsAs d (goal_of goal.entry) tag (length tags.old.items) e) }
 {
-    let staying = staying(tag, &goal.state);
+    let staying = staying(tag, roots, &goal.state);
     match apply_row(alloc, arranged, goal, tag) {
         Ok(left) => {
-            let settled = keeps_settled(tag) || grows_settled(staying, &left);
+            let known = Known {
+                settled: keeps_settled(tag) || grows_settled(staying, &left),
+                roots: leaves_roots(staying, &left),
+            };
             push_children(stack, left)?;
             tags.push(tag)?;
-            Ok(settled)
+            Ok(known)
         }
         Err(RuleFault::NotARule) => Err(SearchFault::NoRow(tags.len())),
         Err(RuleFault::OutOfMemory) => Err(SearchFault::OutOfMemory),

@@ -1,12 +1,14 @@
 -- What a tag puts behind the parts and pairs that a state had, and where that leaves a settled state settled: where none
 -- of it is at a place of the others.
 -- Ordinary: whether a term is among the roots of a list.
-use Rattle.std.specs.Prelude.{◌-◌, Bool, true, false, ◌&&◌, ◌||◌, not, nat_le, nat_lt, Option, Some, None, List, [], ◌∷◌, length, take, drop}
-use Rattle.std.specs.List.{list_all, list_any}
+use Rattle.std.specs.Prelude.{◌≡◌, ℕ, ◌+◌, ◌-◌, Bool, true, false, ◌&&◌, ◌||◌, not, cond, nat_le, nat_lt, Option, Some, None, List, [], ◌∷◌, length, take, drop}
+use Rattle.std.specs.List.{AllByRecursion, list_all, list_any}
+use Rattle.std.specs.Option.{option_and_then}
 use Rattle.sf_sym.specs.declared.atom.Numbered.{Numbered}
 use Rattle.sf_sym.specs.declared.tag.Tag.{Tag}
 use Rattle.sf_sym.specs.declared.tag.Tag.TheVariants.{Add, New, Unroll}
 use Rattle.sf_sym.specs.declared.term.Term.{Term}
+use Rattle.sf_sym.specs.declared.term.Term.TheVariants.{Nil, Int, Sym}
 use Rattle.sf_sym.specs.Goal.{Goal}
 use Rattle.sf_sym.specs.Known.{is_nothing}
 use Rattle.sf_sym.specs.State.{State}
@@ -14,12 +16,29 @@ use Rattle.sf_sym.specs.Tests.{is_constant, root, same_term}
 use Rattle.sf_search.specs.declared.choices.growth.Size.{Size}
 use Rattle.sf_search.specs.Internal.Settled.{keeps_settled}
 
+-- a number above the symbol, and no less than that one, if it is a symbol
+abbrev pub next_end : (from : ℕ) → Term → Option ℕ
+next_end from Nil = None
+next_end from (Int i) = None
+next_end from (Sym n) = cond (nat_le from n) (Some (n + 1)) (Some from)
+
+-- a number above the symbols at which parts begin, and no less than that one, if all begin at symbols
+abbrev pub end_of : (from : ℕ) → List Numbered → Option ℕ
+end_of from [] = Some from
+end_of from (x ∷ xs) = option_and_then (λ end. end_of end xs) (next_end from (root x.atom))
+
+-- such a number for the parts of a state, that which is known or one that is found
+abbrev pub known_end : Option ℕ → State → Option ℕ
+known_end (Some end) s = Some end
+known_end None s = option_and_then (λ end. end_of end s.taken) (end_of 0 s.atoms)
+
 -- how many parts and how many pairs stay in front, where a tag may put others behind them
-abbrev pub staying : Tag → State → Option Size
-staying Add s = Some (record { atoms = length s.atoms; pairs = length s.apart })
-staying New s = Some (record { atoms = length s.atoms; pairs = length s.apart })
-staying (Unroll a) s = Some (record { atoms = length s.atoms - 1; pairs = length s.apart })
-staying _ s = None
+abbrev pub staying : Tag → (roots : Option ℕ) → State → Option Size
+staying Add roots s = Some (record { atoms = length s.atoms; pairs = length s.apart; roots = known_end roots s })
+staying New roots s = Some (record { atoms = length s.atoms; pairs = length s.apart; roots = known_end roots s })
+staying (Unroll a) roots s =
+    Some (record { atoms = length s.atoms - 1; pairs = length s.apart; roots = known_end roots s })
+staying _ roots s = None
 
 -- none of the parts begins at the term
 abbrev pub is_unused : List Numbered → Term → Bool
@@ -29,26 +48,37 @@ is_unused parts t = not (list_any (λ a. same_term (root a.atom) t) parts)
 abbrev pub is_free : (atoms taken : List Numbered) → Term → Bool
 is_free atoms taken t = is_unused atoms t && is_unused taken t
 
--- the pair is of two terms, and no part begins at either
-abbrev pub is_free_pair : (atoms taken : List Numbered) → Term × Term → Bool
-is_free_pair atoms taken p = not (same_term p.0 p.1) && (is_free atoms taken p.0 && is_free atoms taken p.1)
+-- no part begins at the term, where all begin at symbols below a number that is known
+abbrev pub is_clear : (roots : Option ℕ) → Term → Bool
+is_clear None t = false
+is_clear (Some end) Nil = true
+is_clear (Some end) (Int i) = true
+is_clear (Some end) (Sym n) = nat_le end n
 
--- the part isn't empty, and is at a symbol at which no other begins, be it a later one
-abbrev pub is_alone : (atoms taken later : List Numbered) → Numbered → Bool
-is_alone atoms taken later x =
+-- no part in front begins at the term, as is known or by a look at them
+abbrev pub is_free_before : (roots : Option ℕ) → (atoms taken : List Numbered) → Term → Bool
+is_free_before roots atoms taken t = is_clear roots t || is_free atoms taken t
+
+-- the pair is of two terms, and both are free
+abbrev pub is_free_pair : (free : Term → Bool) → Term × Term → Bool
+is_free_pair free p = not (same_term p.0 p.1) && (free p.0 && free p.1)
+
+-- the part isn't empty, and is at a symbol that is free and at which no later part begins
+abbrev pub is_alone : (free : Term → Bool) → (later : List Numbered) → Numbered → Bool
+is_alone free later x =
     not (is_constant (root x.atom)) && (not (is_nothing x.atom)
-    && (is_free atoms taken (root x.atom) && is_unused later (root x.atom)))
+    && (free (root x.atom) && is_unused later (root x.atom)))
 
--- so are all of these, behind those
-abbrev pub are_alone : (atoms taken : List Numbered) → List Numbered → Bool
-are_alone atoms taken [] = true
-are_alone atoms taken (x ∷ xs) = is_alone atoms taken xs x && are_alone atoms taken xs
+-- so are all of these
+abbrev pub are_alone : (free : Term → Bool) → List Numbered → Bool
+are_alone free [] = true
+are_alone free (x ∷ xs) = is_alone free xs x && are_alone free xs
 
 -- of what is behind so many parts and pairs none is at a place of the others
 abbrev pub is_settled_growth : Size → State → Bool
 is_settled_growth n s =
-    list_all (is_free_pair (take n.atoms s.atoms) s.taken) (drop n.pairs s.apart)
-    && are_alone (take n.atoms s.atoms) s.taken (drop n.atoms s.atoms)
+    list_all (is_free_pair (is_free_before n.roots (take n.atoms s.atoms) s.taken)) (drop n.pairs s.apart)
+    && are_alone (is_free_before n.roots (take n.atoms s.atoms) s.taken) (drop n.atoms s.atoms)
 
 -- something is behind so many parts and pairs, and none of it is at a place of the others
 abbrev pub has_settled_growth : Size → State → Bool
@@ -63,6 +93,36 @@ grows_settled None left = false
 grows_settled (Some n) [] = false
 grows_settled (Some n) (g ∷ gs) = has_settled_growth n g.state
 
--- after the tag at a settled state the first of these goals is known to be settled
-abbrev pub leaves_settled : Tag → State → List Goal → Bool
-leaves_settled tag s left = keeps_settled tag || grows_settled (staying tag s) left
+-- after the tag at a settled state, of which so much stays, the first of these goals is known to be settled
+abbrev pub leaves_settled : Tag → (staying : Option Size) → List Goal → Bool
+leaves_settled tag staying left = keeps_settled tag || grows_settled staying left
+
+-- a number above the symbols at which the parts in front begin, and those behind them
+abbrev pub roots_came : Size → State → Option ℕ
+roots_came n s = option_and_then (λ end. end_of end (drop n.atoms s.atoms)) n.roots
+
+-- such a number for the first goal that a tag leaves, where its growth is settled
+abbrev pub leaves_roots : Option Size → List Goal → Option ℕ
+leaves_roots None left = None
+leaves_roots (Some n) [] = None
+leaves_roots (Some n) (g ∷ gs) = cond (has_settled_growth n g.state) (roots_came n g.state) None
+
+-- the term is a symbol below that number
+abbrev pub is_symbol_below : ℕ → Term → Bool
+is_symbol_below end Nil = false
+is_symbol_below end (Int i) = false
+is_symbol_below end (Sym n) = nat_lt n end
+
+-- the parts begin at symbols below that number
+abbrev pub BeginBelow : ℕ → List Numbered → Type 0
+BeginBelow end parts = AllByRecursion (λ (a : Numbered). is_symbol_below end (root a.atom) ≡ true) parts
+
+-- so do those that are there and those that were handed over, where one is known
+abbrev pub RootsBelow : Option ℕ → (atoms taken : List Numbered) → Type 0
+RootsBelow None atoms taken = Unit {0}
+RootsBelow (Some end) atoms taken = BeginBelow end atoms × BeginBelow end taken
+
+-- and those of the first of the open goals
+abbrev pub IsFirstBelow : Option ℕ → List Goal → Type 0
+IsFirstBelow roots [] = Unit {0}
+IsFirstBelow roots (g ∷ gs) = RootsBelow roots g.state.atoms g.state.taken
