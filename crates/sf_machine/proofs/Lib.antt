@@ -8,6 +8,7 @@ pub mod Notes
 pub mod Opened
 pub mod Performed
 pub mod Plans
+pub mod Reaching
 pub mod Ready
 pub mod Spots
 pub mod Stacks

@@ -5,6 +5,7 @@ ghost use Rattle.sf_core.specs.Program.ProgramView.{program_of};
 ghost use Rattle.sf_foot.specs.Starting.{StartsWith};
 ghost use Rattle.sf_machine.specs.Beginning.{Begins};
 ghost use Rattle.sf_machine.specs.Configs.{config_of};
+ghost use Rattle.sf_machine.specs.Reached.{IsReached};
 
 use crate::config::{Common, Config};
 use crate::entry::entry_frame;
@@ -28,8 +29,9 @@ pub fn begin<'p>(
     start: Start,
 ) -> Result<Config<'p>, AllocError>
     requires { StartsWith (program_of p.now) f start.vars start.heap start.parts.items }
-    ensures { IfOk result
+    ensures begins { IfOk result
         (λ c. Begins (program_of p.now) f start.vars start.heap (config_of c)) }
+    ensures reached { IfOk result (λ c. IsReached (program_of p.now) (config_of c)) }
 {
     let procedure = p.proc(f);
     let frame = entry_frame(alloc, f, procedure)?;

@@ -30,6 +30,7 @@ pub fn step<'p>(p: &'p Program, c: &mut Config<'p>, e: &Event) -> Result<Stepped
         (Answers (program_of p.now) (event_of e.now) (config_of c.old)) }
     ensures moved { IfOk result (λ s. s ≡ Stepped.Moved
         → Step (program_of p.now) (event_of e.now) (config_of c.old) (config_of c.new)) }
+    ensures reached { IsReached (program_of p.now) (config_of c.new) }
     ensures unchanged { IfOk result
         (λ s. (s ≡ Stepped.Moved → ⊥) → config_of c.new ≡ config_of c.old) }
     ensures err { OnErr result (config_of c.new ≡ config_of c.old) }

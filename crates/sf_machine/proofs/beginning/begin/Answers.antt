@@ -16,11 +16,12 @@ use Rattle.sf_machine.specs.Internal.Resources.{counts_of}
 use Rattle.sf_machine.specs.Internal.Stores.{store_of as code_store}
 use Rattle.sf_machine.specs.Internal.Tasks.{first_slots}
 use Rattle.sf_machine.specs.declared.task.Task.TheVariants.{Runs}
+use Rattle.sf_machine.proofs.Reaching.{reached_begin}
 use Rattle.sf_machine.proofs.Tables.{begins_as, counts_same, held_none, store_all, tasks_first, used_first}
 use Rattle.sf_machine.proofs.beginning.begin.Goals as goal
 
-pub returns : goal.returns
-returns c =
+pub returns-clause-begins : goal.returns-clause-begins
+returns-clause-begins c =
     let p = program_of c.args.p.now in
     let g = procedure_of c.proc-procedure.result.now in
     let same : c.requires.procedure ≡ g =
@@ -55,3 +56,7 @@ returns c =
           (tasks_first c.in_ok-frame.frame (entry_frame c.args.f g) c.new-2.result.items c.in_ok-frame.ensures
           c.new-2.ensures.items);
     }
+
+pub returns-clause-reached : goal.returns-clause-reached
+returns-clause-reached c = reached_begin (program_of c.args.p.now) c.args.f c.args.start.vars c.args.start.heap
+    c.args.start.parts.items _ c.requires (returns-clause-begins c)

@@ -1,10 +1,11 @@
-use Rattle.std.proofs.Common.{sym, subst}
+use Rattle.std.proofs.Common.{refl, sym, subst}
 use Rattle.sf_core.specs.Machine.Config.{Config}
 use Rattle.sf_core.specs.Machine.Step.{Step}
 use Rattle.sf_core.specs.Program.ProgramView.{program_of}
 use Rattle.sf_machine.specs.Configs.{config_of}
 use Rattle.sf_machine.specs.Events.{event_of}
 use Rattle.sf_machine.specs.Internal.Performing.{performed}
+use Rattle.sf_machine.proofs.Reaching.{reached_step}
 use Rattle.sf_machine.proofs.Steps.{planned_steps}
 use Rattle.sf_machine.proofs.stepping.step.Goals as goal
 
@@ -24,3 +25,7 @@ returns-in_ok-perform-in-Acts-clause-moved c =
     (sym c.in_ok-perform-in-Acts.ensures.ok)
     (planned_steps (program_of c.args.p.now) (event_of c.args.e.now) (config_of c.args.c.now) c.in-Acts.effect
     c.in-Acts.change planned)
+
+pub returns-in_ok-perform-in-Acts-clause-reached : goal.returns-in_ok-perform-in-Acts-clause-reached
+returns-in_ok-perform-in-Acts-clause-reached c = reached_step (program_of c.args.p.now) (event_of c.args.e.now)
+    (config_of c.args.c.now) _ c.requires.reached (returns-in_ok-perform-in-Acts-clause-moved c refl)
