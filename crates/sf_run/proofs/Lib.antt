@@ -1,0 +1,7 @@
+pub mod Outcomes
+pub mod Bodies
+pub mod Lone
+pub mod Units
+pub mod Regions
+pub mod Progress
+pub mod Closing
