@@ -1,11 +1,11 @@
 -- A state with pairs and parts behind the others, none of them at a place of those: what is settled stays so.
--- Names: `pair-LAW` of one pair more, `part-LAW` of one part more, `LAW-settled` of states, `end-LAW` of a number above
+-- Names: `pair-LAW` of one pair more, `part-LAW` and `bare-LAW` of one part more, `LAW-settled` of states, `end-LAW` of a number above
 -- the symbols at which parts begin, `clear-LAW` of a term at which none begins by it.
 use Rattle.std.proofs.Common.{◌≡◌, ℕ, ◌+◌, ◌≤◌, ◌==◌, Bool, true, false, ◌&&◌, ◌||◌, not, cond, nat_le, nat_lt, Option, Some, None, List, [], ◌∷◌, ◌++◌, length, take, drop, map, refl, sym, ap, ap₂, ◌∙◌, subst, append_assoc, arith}
 use Rattle.std.specs.List.{AllByRecursion, list_all, list_any}
 use Rattle.std.specs.Option.{option_and_then, option_map}
 use Rattle.std.proofs.lemmas.Bool.{and_parts, or_parts}
-use Rattle.std.proofs.lemmas.Bool.Decides.{Decides-eqb, nat_tests}
+use Rattle.std.proofs.lemmas.Bool.Decides.{Decides-eqb, Decides-int_eq, nat_tests}
 use Rattle.std.proofs.lemmas.List.{append-nil}
 use Rattle.std.proofs.lemmas.Option.{option_and_then_some, same_Some}
 use Rattle.std.proofs.lemmas.List.Folds.{list_any-append}
@@ -15,7 +15,7 @@ use Rattle.sf_search.proofs.Fewer.{any-moved, lower-none, or-still, repeat-last,
 use Rattle.sf_search.proofs.Lowest.{lowest_append}
 use Rattle.sf_search.proofs.Settled.{forced-stripped, settled-same, stripped}
 use Rattle.sf_search.specs.declared.choices.growth.Size.{Size}
-use Rattle.sf_search.specs.Internal.Growth.{BeginBelow, RootsBelow, are_alone, end_of, has_settled_growth, is_alone, is_clear, is_free, is_free_before, is_free_pair, is_settled_growth, is_symbol_below, is_unused, known_end, next_end, roots_came}
+use Rattle.sf_search.specs.Internal.Growth.{BeginBelow, RootsBelow, are_alone, end_of, has_settled_growth, is_alone, is_bare, is_clear, is_free, is_free_before, is_free_pair, is_settled_growth, is_symbol_below, is_unused, known_end, next_end, roots_came}
 use Rattle.sf_search.specs.Internal.Settled.{IsSettled}
 use Rattle.sf_search.specs.Strategy.{forced_ends, lower, lowest_forced, which}
 use Rattle.sf_sym.specs.declared.atom.Atom.{Atom}
@@ -151,12 +151,7 @@ part-tree (Tree Nil) e = refl
 part-tree (Tree (Int i)) e = absurd (cc)
 part-tree (Tree (Sym n)) e = refl
 
-module _ (s : State) (x : Numbered) (constant : is_constant (root x.atom) ≡ false)
-    (something : is_nothing x.atom ≡ false)
-    (unused : list_any (λ a. same_term (root a.atom) (root x.atom)) (parts s) ≡ false) where
-  part-added : State
-  part-added = record s { atoms = s.atoms ++ x ∷ [] }
-
+module _ (s : State) (x : Numbered) where
   part-regrouped : (f : List Numbered → Bool)
       → ((bs zs : List Numbered) → f (bs ++ x ∷ zs) ≡ f (bs ++ (zs ++ x ∷ [])))
       → f ((s.atoms ++ x ∷ []) ++ s.taken) ≡ f (parts s ++ x ∷ [])
@@ -167,6 +162,23 @@ module _ (s : State) (x : Numbered) (constant : is_constant (root x.atom) ≡ fa
   part-any : (p : Numbered → Bool) → list_any p ((s.atoms ++ x ∷ []) ++ s.taken) ≡ (list_any p (parts s) || p x)
   part-any p = part-regrouped (list_any p) (λ bs zs. any-moved p bs x zs) ∙ any-last p (parts s) x
 
+  part-unforced : (a : Atom) → is_constant (root a) ≡ false
+      → allocated (record s { atoms = s.atoms ++ x ∷ [] }) (root a) (Some x.number) ≡ false
+      → forced_ends (record s { atoms = s.atoms ++ x ∷ [] }) x.number a ≡ None
+  part-unforced (Points u fields) e f = refl
+  part-unforced (Ls u v) e f =
+      ap₂ (λ c b. cond (not (same_term u v) && (c || b)) (Some (u, v)) None) e f
+      ∙ ap (λ b. cond b (Some (u, v)) None) (and-none (not (same_term u v)))
+  part-unforced (Tree u) e f =
+      ap₂ (λ c b. cond (not (same_term u Nil) && (c || b)) (Some (u, Nil)) None) e f
+      ∙ ap (λ b. cond b (Some (u, Nil)) None) (and-none (not (same_term u Nil)))
+
+module _ (s : State) (x : Numbered) (constant : is_constant (root x.atom) ≡ false)
+    (something : is_nothing x.atom ≡ false)
+    (unused : list_any (λ a. same_term (root a.atom) (root x.atom)) (parts s) ≡ false) where
+  part-added : State
+  part-added = record s { atoms = s.atoms ++ x ∷ [] }
+
   -- nothing else has a cell there
   part-no_other : (p : Numbered → Bool)
       → list_any (λ a. p a && allocates s.apart (root x.atom) a.atom) (parts s) ≡ false
@@ -176,7 +188,7 @@ module _ (s : State) (x : Numbered) (constant : is_constant (root x.atom) ≡ fa
 
   part-repeat : has_repeat s.apart ((s.atoms ++ x ∷ []) ++ s.taken) ≡ has_repeat s.apart (parts s)
   part-repeat =
-      part-regrouped (has_repeat s.apart) (λ bs zs. repeat-moved s.apart bs x zs)
+      part-regrouped s x (has_repeat s.apart) (λ bs zs. repeat-moved s.apart bs x zs)
       ∙ sym (repeat-last s.apart x (parts s))
       ∙ ap (λ b. b && has_cell s.apart x.atom || has_repeat s.apart (parts s)) (part-no_other (λ a. true))
 
@@ -188,7 +200,7 @@ module _ (s : State) (x : Numbered) (constant : is_constant (root x.atom) ≡ fa
   part-elsewhere : (u : Term) (o : Option ℕ) → same_term u (root x.atom) ≡ false
       → allocated (record s { atoms = s.atoms ++ x ∷ [] }) u o ≡ allocated s u o
   part-elsewhere u o e =
-      part-any (λ a. not (is_left_out o a.number) && allocates s.apart u a.atom)
+      part-any s x (λ a. not (is_left_out o a.number) && allocates s.apart u a.atom)
       ∙ ap (λ b. allocated s u o || b)
       (ap (λ b. not (is_left_out o x.number) && (b && has_cell s.apart x.atom)) (same-turned (root x.atom) u ∙ e)
       ∙ and-none (not (is_left_out o x.number)))
@@ -207,25 +219,14 @@ module _ (s : State) (x : Numbered) (constant : is_constant (root x.atom) ≡ fa
   -- nothing else has a cell at its root
   part-own : allocated (record s { atoms = s.atoms ++ x ∷ [] }) (root x.atom) (Some x.number) ≡ false
   part-own =
-      part-any (λ a. not (is_left_out (Some x.number) a.number) && allocates s.apart (root x.atom) a.atom)
+      part-any s x (λ a. not (is_left_out (Some x.number) a.number) && allocates s.apart (root x.atom) a.atom)
       ∙ ap₂ (λ a b. a || b) (part-no_other (λ a. not (is_left_out (Some x.number) a.number)))
       (ap (λ b. not b && allocates s.apart (root x.atom) x.atom) ((Decides-eqb x.number x.number).1 refl))
-
-  part-unforced : (a : Atom) → is_constant (root a) ≡ false
-      → allocated (record s { atoms = s.atoms ++ x ∷ [] }) (root a) (Some x.number) ≡ false
-      → forced_ends (record s { atoms = s.atoms ++ x ∷ [] }) x.number a ≡ None
-  part-unforced (Points u fields) e f = refl
-  part-unforced (Ls u v) e f =
-      ap₂ (λ c b. cond (not (same_term u v) && (c || b)) (Some (u, v)) None) e f
-      ∙ ap (λ b. cond b (Some (u, v)) None) (and-none (not (same_term u v)))
-  part-unforced (Tree u) e f =
-      ap₂ (λ c b. cond (not (same_term u Nil) && (c || b)) (Some (u, Nil)) None) e f
-      ∙ ap (λ b. cond b (Some (u, Nil)) None) (and-none (not (same_term u Nil)))
 
   part-forced : (zs : List Numbered) → list_any (λ a. same_term (root a.atom) (root x.atom)) zs ≡ false
       → lowest_forced s zs ≡ None → lowest_forced (record s { atoms = s.atoms ++ x ∷ [] }) (zs ++ x ∷ []) ≡ None
   part-forced [] e f =
-      ap (λ o. lower (option_map (λ y. (x.number, y)) o) None) (part-unforced x.atom constant part-own)
+      ap (λ o. lower (option_map (λ y. (x.number, y)) o) None) (part-unforced s x x.atom constant part-own)
   part-forced (z ∷ zs) e f =
       let here = or_parts (begins (root x.atom) z) (list_any (begins (root x.atom)) zs) e in
       let both = lower-none (option_map (λ y. (z.number, y)) (forced_ends s z.number z.atom)) (lowest_forced s zs) f in
@@ -237,7 +238,7 @@ module _ (s : State) (x : Numbered) (constant : is_constant (root x.atom) ≡ fa
   part-settled among known = record {
     possible =
         ap₂ (λ a b. list_any (λ p. same_term p.0 p.1) s.apart || a || b)
-        (part-any (λ a. is_impossible s.apart a.atom)
+        (part-any s x (λ a. is_impossible s.apart a.atom)
         ∙ ap (λ b. list_any (λ a. is_impossible s.apart a.atom) (parts s) || b) part-impossible
         ∙ or-none (list_any (λ a. is_impossible s.apart a.atom) (parts s)))
         part-repeat
@@ -248,6 +249,101 @@ module _ (s : State) (x : Numbered) (constant : is_constant (root x.atom) ≡ fa
         (ap (λ b. lower (option_map (λ (y : Atom). (x.number, y)) (cond b (Some x.atom) None)) None) something);
     none_forced = part-forced s.atoms among known.none_forced;
   }
+
+-- One part more at a place of others, where nothing has a cell
+same-self : (t : Term) → same_term t t ≡ true
+same-self Nil = refl
+same-self (Int i) = (Decides-int_eq i i).1 refl
+same-self (Sym n) = (Decides-eqb n n).1 refl
+
+module _ (s : State) (x : Numbered) (constant : is_constant (root x.atom) ≡ false)
+    (something : is_nothing x.atom ≡ false)
+    (bare : allocated (record s { atoms = s.atoms ++ x ∷ [] }) (root x.atom) None ≡ false) where
+  bare-parts : (list_any (λ a. allocates s.apart (root x.atom) a.atom) (parts s) ≡ false)
+      × (allocates s.apart (root x.atom) x.atom ≡ false)
+  bare-parts =
+      or_parts (list_any (λ a. allocates s.apart (root x.atom) a.atom) (parts s))
+      (allocates s.apart (root x.atom) x.atom)
+      (sym (part-any s x (λ a. allocates s.apart (root x.atom) a.atom)) ∙ bare)
+
+  -- it has no cell itself
+  bare-cell : has_cell s.apart x.atom ≡ false
+  bare-cell = sym (ap (λ b. b && has_cell s.apart x.atom) (same-self (root x.atom))) ∙ bare-parts.1
+
+  -- so there is a cell where there was one
+  bare-elsewhere : (u : Term) (o : Option ℕ)
+      → allocated (record s { atoms = s.atoms ++ x ∷ [] }) u o ≡ allocated s u o
+  bare-elsewhere u o =
+      part-any s x (λ a. not (is_left_out o a.number) && allocates s.apart u a.atom)
+      ∙ ap (λ b. allocated s u o || b)
+      (ap (λ b. not (is_left_out o x.number) && (same_term (root x.atom) u && b)) bare-cell
+      ∙ ap (λ b. not (is_left_out o x.number) && b) (and-none (same_term (root x.atom) u))
+      ∙ and-none (not (is_left_out o x.number)))
+      ∙ or-none (allocated s u o)
+
+  bare-own : allocated (record s { atoms = s.atoms ++ x ∷ [] }) (root x.atom) (Some x.number) ≡ false
+  bare-own =
+      bare-elsewhere (root x.atom) (Some x.number)
+      ∙ any-less (λ a. not (is_left_out (Some x.number) a.number) && allocates s.apart (root x.atom) a.atom)
+      (λ a. allocates s.apart (root x.atom) a.atom)
+      (λ a e. ap (λ b. not (is_left_out (Some x.number) a.number) && b) e
+      ∙ and-none (not (is_left_out (Some x.number) a.number))) (parts s) bare-parts.0
+
+  bare-ends : (n : ℕ) (a : Atom) → forced_ends (record s { atoms = s.atoms ++ x ∷ [] }) n a ≡ forced_ends s n a
+  bare-ends n (Points u fields) = refl
+  bare-ends n (Ls u v) =
+      ap (λ b. cond (not (same_term u v) && (is_constant u || b)) (Some (u, v)) None) (bare-elsewhere u (Some n))
+  bare-ends n (Tree u) =
+      ap (λ b. cond (not (same_term u Nil) && (is_constant u || b)) (Some (u, Nil)) None)
+      (bare-elsewhere u (Some n))
+
+  bare-forced : (zs : List Numbered) → lowest_forced s zs ≡ None
+      → lowest_forced (record s { atoms = s.atoms ++ x ∷ [] }) (zs ++ x ∷ []) ≡ None
+  bare-forced [] f =
+      ap (λ o. lower (option_map (λ y. (x.number, y)) o) None) (part-unforced s x x.atom constant bare-own)
+  bare-forced (z ∷ zs) f =
+      let both = lower-none (option_map (λ y. (z.number, y)) (forced_ends s z.number z.atom)) (lowest_forced s zs) f in
+      ap₂ lower (ap (option_map (λ y. (z.number, y))) (bare-ends z.number z.atom) ∙ both.0) (bare-forced zs both.1)
+
+  bare-repeat : has_repeat s.apart ((s.atoms ++ x ∷ []) ++ s.taken) ≡ has_repeat s.apart (parts s)
+  bare-repeat =
+      part-regrouped s x (has_repeat s.apart) (λ bs zs. repeat-moved s.apart bs x zs)
+      ∙ sym (repeat-last s.apart x (parts s))
+      ∙ ap (λ b. b && has_cell s.apart x.atom || has_repeat s.apart (parts s)) bare-parts.0
+
+  bare-impossible : is_impossible s.apart x.atom ≡ false
+  bare-impossible =
+      ap (λ b. b && has_cell s.apart x.atom || is_integer_tree x.atom) constant ∙ part-tree x.atom constant
+
+  bare-settled : IsSettled s → IsSettled (record s { atoms = s.atoms ++ x ∷ [] })
+  bare-settled known = record {
+    possible =
+        ap₂ (λ a b. list_any (λ p. same_term p.0 p.1) s.apart || a || b)
+        (part-any s x (λ a. is_impossible s.apart a.atom)
+        ∙ ap (λ b. list_any (λ a. is_impossible s.apart a.atom) (parts s) || b) bare-impossible
+        ∙ or-none (list_any (λ a. is_impossible s.apart a.atom) (parts s)))
+        bare-repeat
+        ∙ known.possible;
+    none_empty =
+        lowest_append (which is_nothing) s.atoms (x ∷ [])
+        ∙ ap₂ lower known.none_empty
+        (ap (λ b. lower (option_map (λ (y : Atom). (x.number, y)) (cond b (Some x.atom) None)) None) something);
+    none_forced = bare-forced s.atoms known.none_forced;
+  }
+
+-- the one part that came is such a one, by a test of the state that has it
+one-bare : (s now : State) (xs : List Numbered) → now.atoms ≡ s.atoms ++ xs → now.apart ≡ s.apart
+    → now.taken ≡ s.taken → is_bare now xs ≡ true → IsSettled s → IsSettled (record s { atoms = s.atoms ++ xs })
+one-bare s now [] atoms apart taken e known = absurd (cc)
+one-bare s now (x ∷ y ∷ zs) atoms apart taken e known = absurd (cc)
+one-bare s now (x ∷ []) atoms apart taken e known =
+    let symbol = and_parts (not (is_constant (root x.atom)))
+    (not (is_nothing x.atom) && not (allocated now (root x.atom) None)) e in
+    let some = and_parts (not (is_nothing x.atom)) (not (allocated now (root x.atom) None)) symbol.1 in
+    let same : allocated (record s { atoms = s.atoms ++ x ∷ [] }) (root x.atom) None ≡ allocated now (root x.atom) None =
+    λ i. list_any (λ a. allocates (sym apart i) (root x.atom) a.atom) (sym atoms i ++ sym taken i) in
+    bare-settled s x (not-so (is_constant (root x.atom)) symbol.0) (not-so (is_nothing x.atom) some.0)
+    (same ∙ not-so (allocated now (root x.atom) None) some.1) known
 
 -- Many of them
 pairs-settled : (s : State) (qs : List (Term × Term)) → list_all (is_free_pair (is_free s.atoms s.taken)) qs ≡ true
@@ -440,7 +536,7 @@ module _ (s now : State) (n : Size) (xs : List Numbered) (qs : List (Term × Ter
       && (nat_lt n.atoms (length now.atoms) || nat_lt n.pairs (length now.apart)))
       (is_settled_growth n now) so in
       let tests = and_parts (list_all (is_free_pair before) (drop n.pairs now.apart))
-      (are_alone before (drop n.atoms now.atoms)) rest.1 in
+      (are_alone before (drop n.atoms now.atoms) || is_bare now (drop n.atoms now.atoms)) rest.1 in
       let front : take n.atoms now.atoms ≡ s.atoms = ap₂ take (sym count) atoms ∙ take-append_seam s.atoms xs in
       let differ : drop n.pairs now.apart ≡ qs = ap₂ drop (sym pairs) apart ∙ drop-append_seam s.apart qs in
       let free : (t : Term) → before t ≡ true → is_free s.atoms s.taken t ≡ true =
@@ -449,8 +545,20 @@ module _ (s now : State) (n : Size) (xs : List Numbered) (qs : List (Term × Ter
       let with-pairs = pairs-settled s qs
       (wider-pairs before (is_free s.atoms s.taken) free qs
       (sym (ap (list_all (is_free_pair before)) differ) ∙ tests.0)) known in
-      let with-parts = parts-settled (record s { apart = s.apart ++ qs }) xs
-      (wider-parts before (is_free s.atoms s.taken) free xs
-      (sym (ap (are_alone before) came-behind) ∙ tests.1)) with-pairs in
+      let with-parts = many before free with-pairs (are_alone before (drop n.atoms now.atoms)) refl
+      (is_bare now (drop n.atoms now.atoms)) refl tests.1 in
       settled-same (record s { apart = s.apart ++ qs; atoms = s.atoms ++ xs }) now apart (ap (map stripped) atoms)
       (ap (map stripped) taken) with-parts
+    where
+      many : (before : Term → Bool) → ((t : Term) → before t ≡ true → is_free s.atoms s.taken t ≡ true)
+          → IsSettled (record s { apart = s.apart ++ qs })
+          → (a : Bool) → are_alone before (drop n.atoms now.atoms) ≡ a
+          → (b : Bool) → is_bare now (drop n.atoms now.atoms) ≡ b → a || b ≡ true
+          → IsSettled (record s { apart = s.apart ++ qs; atoms = s.atoms ++ xs })
+      many before free known true alone b bare e =
+          parts-settled (record s { apart = s.apart ++ qs }) xs
+          (wider-parts before (is_free s.atoms s.taken) free xs (sym (ap (are_alone before) came-behind) ∙ alone)) known
+      many before free known false alone true bare e =
+          one-bare (record s { apart = s.apart ++ qs }) now xs atoms apart taken
+          (sym (ap (is_bare now) came-behind) ∙ bare) known
+      many before free known false alone false bare e = absurd (cc)

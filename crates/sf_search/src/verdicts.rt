@@ -199,9 +199,10 @@ fn follow<'a>(
     let staying = staying(tag, roots, &goal.state);
     match apply_row(alloc, arranged, goal, tag) {
         Ok(left) => {
+            let grown = grows_settled(staying, &left);
             let known = Known {
-                settled: keeps_settled(tag) || grows_settled(staying, &left),
-                roots: leaves_roots(staying, &left),
+                settled: keeps_settled(tag) || grown,
+                roots: leaves_roots(grown, staying, &left),
             };
             push_children(stack, left)?;
             tags.push(tag)?;

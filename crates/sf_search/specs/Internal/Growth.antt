@@ -12,7 +12,7 @@ use Rattle.sf_sym.specs.declared.term.Term.TheVariants.{Nil, Int, Sym}
 use Rattle.sf_sym.specs.Goal.{Goal}
 use Rattle.sf_sym.specs.Known.{is_nothing}
 use Rattle.sf_sym.specs.State.{State}
-use Rattle.sf_sym.specs.Tests.{is_constant, root, same_term}
+use Rattle.sf_sym.specs.Tests.{allocated, is_constant, root, same_term}
 use Rattle.sf_search.specs.declared.choices.growth.Size.{Size}
 use Rattle.sf_search.specs.Internal.Settled.{keeps_settled}
 
@@ -74,11 +74,19 @@ abbrev pub are_alone : (free : Term → Bool) → List Numbered → Bool
 are_alone free [] = true
 are_alone free (x ∷ xs) = is_alone free xs x && are_alone free xs
 
--- of what is behind so many parts and pairs none is at a place of the others
+-- it is one part, not empty and at a symbol, where neither it nor another has a cell
+abbrev pub is_bare : State → List Numbered → Bool
+is_bare s [] = false
+is_bare s (x ∷ y ∷ zs) = false
+is_bare s (x ∷ []) =
+    not (is_constant (root x.atom)) && (not (is_nothing x.atom) && not (allocated s (root x.atom) None))
+
+-- of what is behind so many parts and pairs none is at a place of the others, but for one part where nothing has a cell
 abbrev pub is_settled_growth : Size → State → Bool
 is_settled_growth n s =
     list_all (is_free_pair (is_free_before n.roots (take n.atoms s.atoms) s.taken)) (drop n.pairs s.apart)
-    && are_alone (is_free_before n.roots (take n.atoms s.atoms) s.taken) (drop n.atoms s.atoms)
+    && (are_alone (is_free_before n.roots (take n.atoms s.atoms) s.taken) (drop n.atoms s.atoms)
+    || is_bare s (drop n.atoms s.atoms))
 
 -- something is behind so many parts and pairs, and none of it is at a place of the others
 abbrev pub has_settled_growth : Size → State → Bool

@@ -5,7 +5,7 @@
 ghost use Rattle.std.specs.Prelude.{◌≡◌, ◌≤◌, length};
 ghost use Rattle.std.specs.List.{list_all, list_any};
 ghost use Rattle.sf_rules.specs.Internal.Children.{children_of};
-ghost use Rattle.sf_search.specs.Internal.Growth.{are_alone, end_of, grows_settled, has_settled_growth, is_alone, is_clear, is_free, is_free_before, is_free_pair, is_settled_growth, is_unused, known_end, leaves_roots, next_end, roots_came, staying};
+ghost use Rattle.sf_search.specs.Internal.Growth.{are_alone, end_of, grows_settled, has_settled_growth, is_alone, is_bare, is_clear, is_free, is_free_before, is_free_pair, is_settled_growth, is_unused, known_end, leaves_roots, next_end, roots_came, staying};
 ghost use Rattle.sf_sym.specs.Tests.{root, same_term};
 
 use sf_rules::Children;
@@ -100,14 +100,15 @@ pub(crate) fn grows_settled(staying: Option<Size>, left: &Children) -> bool
 
 /// A number above the symbols at which the parts of the first of the goals that are left begin, where
 /// it is settled by what came to its state and one was known before.
-pub(crate) fn leaves_roots(staying: Option<Size>, left: &Children) -> Option<u64>
+pub(crate) fn leaves_roots(grown: bool, staying: Option<Size>, left: &Children) -> Option<u64>
+    requires { grown ≡ grows_settled staying (children_of left.now) }
     ensures { result ≡ leaves_roots staying (children_of left.now) }
 {
     let size = staying?;
     match left {
         Children::None => None,
         Children::One(goal) | Children::Two(goal, _) => {
-            if has_settled_growth(size, &goal.state) {
+            if grown {
                 roots_came(size, &goal.state)
             } else {
                 None
@@ -146,7 +147,7 @@ fn is_settled_growth(before: Size, state: &State) -> bool
     let (_, new_pairs) = state.apart().split_at(before.pairs);
     let roots = before.roots;
     are_free_pairs(roots, atoms, state.taken(), new_pairs)
-        && are_alone(roots, atoms, state.taken(), new_atoms)
+        && (are_alone(roots, atoms, state.taken(), new_atoms) || is_bare(state, new_atoms))
 }
 
 /// Whether each of the pairs is of two terms, and no part begins at either.
@@ -173,6 +174,20 @@ fn are_alone(roots: Option<u64>, atoms: &[Numbered], taken: &[Numbered], new: &[
         left = rest;
     }
     true
+}
+
+/// Whether it is one part, not empty and at a symbol, where neither it nor another has a cell.
+fn is_bare(state: &State, new: &[Numbered]) -> bool
+    ensures { result ≡ is_bare state.now new.now }
+{
+    let Some((part, rest)) = new.split_first() else {
+        return false;
+    };
+    if rest.split_first().is_some() {
+        return false;
+    }
+    let root = part.atom.root();
+    !root.is_constant() && !part.atom.is_nothing() && !state.allocated(root, None)
 }
 
 /// Whether the part isn't empty, and is at a symbol at which no other begins, be it a later one.
