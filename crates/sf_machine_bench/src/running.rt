@@ -1,0 +1,68 @@
+//! The events.
+
+ghost use Rattle.std.specs.Prelude.{◌≡◌, length};
+ghost use Rattle.sf_core.specs.Program.ProgramView.{program_of};
+ghost use Rattle.sf_machine.specs.Configs.{config_of};
+ghost use Rattle.sf_machine.specs.Reached.{IsReached};
+
+use sf_base::{TaskPath, Turn};
+use sf_core::Program;
+use sf_heap::Cell;
+use sf_machine::{Config, Event, Stepped, step};
+use std::alloc::{AllocError, Global};
+
+/// Makes so many events, and answers how many were made: fewer where nothing goes on.
+pub fn run<'p>(
+    alloc: Global,
+    p: &'p Program,
+    mut c: Config<'p>,
+    count: u64,
+) -> Result<u64, AllocError>
+    requires { IsReached (program_of p.now) (config_of c) }
+{
+    let mut event = Event {
+        task: TaskPath::entry(),
+        number: 0,
+        at: 0,
+        fields: Cell::new(alloc, p.fields.len())?,
+    };
+    for made in 0..count {
+        event.number = made + 1;
+        event.at = made + 1;
+        if !goes_on(p, &mut c, &mut event)? {
+            return Ok(made);
+        }
+    }
+    Ok(count)
+}
+
+/// Makes an event of the entry's task, or of one of its children.
+fn goes_on<'p>(p: &'p Program, c: &mut Config<'p>, event: &mut Event) -> Result<bool, AllocError>
+    requires reached { IsReached (program_of p.now) (config_of c.old) }
+    requires fields { length event.old.fields ≡ length p.now.fields.items }
+    ensures reached { IsReached (program_of p.now) (config_of c.new) }
+    ensures fields { event.new.fields ≡ event.old.fields }
+{
+    event.task = TaskPath::entry();
+    if moves(p, c, event)? {
+        return Ok(true);
+    }
+    event.task = TaskPath::entry().child(Turn::Left);
+    if moves(p, c, event)? {
+        return Ok(true);
+    }
+    event.task = TaskPath::entry().child(Turn::Right);
+    moves(p, c, event)
+}
+
+/// Whether the event is made.
+fn moves<'p>(p: &'p Program, c: &mut Config<'p>, event: &Event) -> Result<bool, AllocError>
+    requires reached { IsReached (program_of p.now) (config_of c.old) }
+    requires fields { length event.now.fields ≡ length p.now.fields.items }
+    ensures { IsReached (program_of p.now) (config_of c.new) }
+{
+    match step(p, c, event)? {
+        Stepped::Moved => Ok(true),
+        _ => Ok(false),
+    }
+}
