@@ -4,3 +4,15 @@ pub mod Reading
 pub mod AllValues
 pub mod FirstNamed
 pub mod Written
+pub mod Without
+pub mod Turns
+pub mod Bounds
+pub mod StateOnce
+pub mod Raising
+pub mod Marks
+pub mod Mentions
+pub mod Placed
+pub mod NextFound
+pub mod Beginning
+pub mod Deciding
+pub mod StateShape

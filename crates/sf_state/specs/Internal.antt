@@ -1,1 +1,5 @@
 pub mod Keeping
+pub mod Placing
+pub mod Found
+pub mod FirstUnit
+pub mod Beginning

@@ -6,4 +6,5 @@ pub mod Refused
 pub mod Stated
 pub mod StateText
 pub mod Entering
+pub mod Starts
 pub mod Internal

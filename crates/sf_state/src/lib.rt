@@ -9,6 +9,10 @@
 //! - `saying`: the reading of a line.
 //! - `given`: what the lines have given so far.
 //! - `state`: the variables and cells that a text gives.
+//! - `placing`: these cells in a heap, and these values as those of variables.
+//! - `finding`: the footprints of a start's assertions, one after the other.
+//! - `unit`: the first unit of a start.
+//! - `start`: the start that a text gives.
 //! - `text`: the text of a state as it is written.
 //! - `fault`: why a procedure and a text are no start.
 #![tactic(auto)]
@@ -16,16 +20,24 @@
 mod entering;
 mod fault;
 mod fields;
+mod finding;
 mod given;
 mod line;
 mod names;
+mod placing;
 mod saying;
+mod start;
 mod state;
 mod text;
+mod unit;
 mod values;
 mod words;
 
 pub use entering::entry;
 pub use fault::StartFault;
+pub use start::read;
 pub use state::{State, read_state};
 pub use text::state_text;
+
+#[cfg(test)]
+mod tests;

@@ -49,7 +49,12 @@ fn all_given(
 }
 
 /// The variables with these names, and the cells, that a text within the limit gives.
-fn read_named(alloc: Global, p: &Program, names: &[Name], text: &[u8]) -> Result<State, StartFault>
+pub(crate) fn read_named(
+    alloc: Global,
+    p: &Program,
+    names: &[Name],
+    text: &[u8],
+) -> Result<State, StartFault>
     requires { length text.now ≤ STATE_BYTES }
     ensures { IsStated (program_of p.now).fields names.now text.now result }
 {

@@ -1,0 +1,89 @@
+-- The set of the locations that were taken, and the lists of them.
+-- Names: `marks-LAW`.
+use Rattle.std.proofs.Common.{◌≡◌, ◌≢◌, ◌⊎◌, ◌<◌, ◌≤◌, ◌+◌, ◌||◌, ℕ, zero, suc, Bool, true, false, cond, nat_eq, nat_cmp, List, ◌∷◌, All, Contains, Some, length, take, drop, drop-cons, get_or, refl, sym, ap, ◌∙◌, subst, inl, inr, arith}
+use Rattle.std.specs.BTreeMap.{is_at}
+use Rattle.std.specs.BTreeSet.{BTreeSet, contains}
+use Rattle.std.specs.List.Sorted.{IsStrictlyIncreasing}
+use Rattle.std.specs.Set.{is_member}
+use Rattle.std.proofs.lemmas.Bool.{cases_eq, cases_lt, false≢true}
+use Rattle.std.proofs.lemmas.Bool.Decides.{nat_tests}
+use Rattle.std.proofs.lemmas.List.{get_or-take}
+use Rattle.sf_base.proofs.Numbers.{at-self, at-other}
+use Rattle.std.proofs.lemmas.List.{length-take}
+use Rattle.std.proofs.lemmas.Option.{get_or_from_slice_get, slice_get-get_or}
+use Rattle.sf_state.specs.Internal.Found.{IsLeast}
+use Rattle.sf_state.proofs.Raising.{read-at}
+
+-- one more that is added is one fewer that is left
+pub marks-more : (taken new : BTreeSet ℕ) (x : ℕ) (rest : List ℕ) (q : ℕ)
+    → contains nat_cmp new q ≡ cond (is_at (nat_cmp x) q) true (contains nat_cmp taken q)
+    → (contains nat_cmp new q || is_member nat_eq rest q) ≡ (contains nat_cmp taken q || is_member nat_eq (x ∷ rest) q)
+marks-more taken new x rest q e = ap (λ b. b || is_member nat_eq rest q) e ∙ step (cases_eq q x)
+  where
+    same : (k y : ℕ) → k ≡ y → nat_eq k y ≡ true
+    same k y f = grind (arith, nat_tests)
+
+    other : (k y : ℕ) → k ≢ y → nat_eq k y ≡ false
+    other k y f = grind (arith, nat_tests)
+
+    first : (a b : Bool) → true ≡ (a || (true || b))
+    first true b = refl
+    first false b = refl
+
+    step : (q ≡ x) ⊎ (q ≢ x) → (cond (is_at (nat_cmp x) q) true (contains nat_cmp taken q) || is_member nat_eq rest q)
+        ≡ (contains nat_cmp taken q || (nat_eq q x || is_member nat_eq rest q))
+    step (inl f) = ap (λ b. cond b true (contains nat_cmp taken q) || is_member nat_eq rest q)
+        (ap (λ k. is_at (nat_cmp x) k) f ∙ at-self x)
+        ∙ first (contains nat_cmp taken q) (is_member nat_eq rest q)
+        ∙ ap (λ b. contains nat_cmp taken q || (b || is_member nat_eq rest q)) (sym (same q x f))
+    step (inr f) = ap (λ b. cond b true (contains nat_cmp taken q) || is_member nat_eq rest q)
+        (at-other x q (λ g. f (sym g)))
+        ∙ ap (λ b. contains nat_cmp taken q || (b || is_member nat_eq rest q)) (sym (other q x f))
+
+-- what is left begins with the next
+pub marks-next : (at : List ℕ) (i x : ℕ) (q : ℕ) → i < length at → x ≡ get_or at i x
+    → is_member nat_eq (drop i at) q ≡ is_member nat_eq (x ∷ drop (i + 1) at) q
+marks-next at i x q h e = ap (λ xs. is_member nat_eq xs q)
+    (drop-cons at i x h ∙ ap (λ y. y ∷ drop (suc i) at) (sym e)
+    ∙ ap (λ k. x ∷ drop k at) (let one : suc i ≡ i + 1 = omega arith in one))
+
+-- numbers that rise rise further on
+rising-further : (xs : List ℕ) (i j : ℕ) → IsStrictlyIncreasing xs → i ≤ j → j < length xs
+    → get_or xs i 0 ≤ get_or xs j 0
+rising-further xs i zero r h below = subst (λ k. get_or xs i 0 ≤ get_or xs k 0) same (omega arith)
+  where
+    same : i ≡ zero
+    same = omega (arith, h)
+rising-further xs i (suc j) r h below = go (λ more. rising-further xs i j r more (omega (arith, below))) (cases_lt j i)
+  where
+    next : j + 1 ≡ suc j
+    next = omega arith
+
+    step : get_or xs j 0 < get_or xs (suc j) 0
+    step = subst (λ k. get_or xs j 0 < get_or xs k 0) next (r j (omega (arith, below)))
+
+    go : (i ≤ j → get_or xs i 0 ≤ get_or xs j 0) → ((j < i) ⊎ (i ≤ j)) → get_or xs i 0 ≤ get_or xs (suc j) 0
+    go further (inl less) = let same : i ≡ suc j = omega (arith, less, h) in
+        subst (λ k. get_or xs i 0 ≤ get_or xs k 0) same (omega arith)
+    go further (inr more) = let before = further more in omega (arith, before, step)
+
+-- the first that isn't in the set is the least
+pub marks-least : (taken : BTreeSet ℕ) (at xs : List ℕ) (i : ℕ) → xs ≡ at → IsStrictlyIncreasing at → i < length xs
+    → All (λ q. contains nat_cmp taken q ≡ true) (take i xs) → contains nat_cmp taken (get_or xs i 0) ≡ false
+    → IsLeast (λ l. Contains at l × (contains nat_cmp taken l ≡ false)) (get_or xs i 0)
+marks-least taken at xs i same rises below before here = record {
+  here = (subst (λ ys. Contains ys (get_or xs i 0)) same (i, below, sym (read-at xs i 0 below)), here);
+  least = λ k h. least k (subst (λ ys. Contains ys k) (sym same) h.0) h.1;
+}
+  where
+    least : (k : ℕ) → Contains xs k → contains nat_cmp taken k ≡ false → get_or xs i 0 ≤ k
+    least k c out = go (cases_lt c.0 i)
+      where
+        place : get_or xs c.0 0 ≡ k
+        place = get_or_from_slice_get xs c.0 k 0 (slice_get-get_or xs c.0 k c.1 ∙ ap Some c.2)
+
+        go : ((c.0 < i) ⊎ (i ≤ c.0)) → get_or xs i 0 ≤ k
+        go (inl less) = absurd (false≢true (sym out ∙ subst (λ q. contains nat_cmp taken q ≡ true)
+            (get_or-take i xs c.0 k less ∙ c.2) (before c.0 k (omega (arith, less, below, length-take i xs)))))
+        go (inr more) = subst (λ q. get_or xs i 0 ≤ q) place
+            (rising-further xs i c.0 (subst IsStrictlyIncreasing (sym same) rises) more c.1)

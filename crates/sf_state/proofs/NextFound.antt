@@ -1,0 +1,223 @@
+-- The next footprint that is looked for, and what the ones so far are.
+-- Names: `ordered-LAW` for assertions in order; `found-CASE` for what comes of the next one.
+use Rattle.std.proofs.Common.{◌≡◌, ◌<◌, ◌≤◌, ◌+◌, ◌||◌, ℕ, zero, suc, Bool, true, false, nat_eq, nat_cmp, List, [], ◌∷◌, ◌++◌, Option, Some, None, All, Contains, length, take, slice_get, refl, sym, ap, ◌∙◌, subst, inl, inr, arith, append-nil}
+use Rattle.std.specs.BTreeSet.{contains}
+use Rattle.std.specs.List.{AllByRecursion, AllZip, IsDistinct, concat}
+use Rattle.std.specs.List.Sorted.{IsStrictlyIncreasing}
+use Rattle.std.specs.Option.{IfSome, option_map}
+use Rattle.std.specs.Ordering.{eq_by_cmp}
+use Rattle.std.specs.Set.{is_member}
+use Rattle.std.proofs.lemmas.Bool.{false≢true, or_cases}
+use Rattle.std.proofs.lemmas.List.{length-map, take_all, take_more}
+use Rattle.std.proofs.lemmas.Option.{get_or_from_slice_get, slice_get-map, slice_get_within}
+use Rattle.std.proofs.lemmas.List.Elements.{All-contains}
+use Rattle.std.proofs.lemmas.List.Folds.{concat-append, list_any-append}
+use Rattle.std.proofs.lemmas.Map.Keys.{IsDistinct-from_sorted, sorted_from_strictly_increasing}
+use Rattle.std.proofs.lemmas.Slice.Zip.{all_zipped_more}
+use Rattle.sf_base.specs.declared.ids.Var.{Var}
+use Rattle.sf_base.specs.declared.value.Value.{Value}
+use Rattle.sf_base.specs.declared.value.Value.TheVariants.{Nil as nil}
+use Rattle.sf_base.specs.HeapStore.{Heap}
+use Rattle.sf_base.proofs.Elements.{all_by-append, contains-cons}
+use Rattle.sf_base.proofs.Numbers.{at-is}
+use Rattle.sf_core.specs.Assertions.Laws.{DeterminedHasOneFootprint}
+use Rattle.sf_core.specs.Assertions.Precise.{IsPrecise}
+use Rattle.sf_core.specs.Assertions.Sat.{Sat, value}
+use Rattle.sf_core.specs.Program.Syntax.{Assertion, Procedure, Program, Resource}
+use Rattle.sf_heap.specs.Cells.{Cells, HasCell, heap_of}
+use Rattle.sf_foot.specs.Footprint.{HasNoFootprint, IsFootprint}
+use Rattle.sf_precise.specs.Laws.{OrderedIsDetermined, OrderKeepsMeaning}
+use Rattle.sf_precise.specs.Order.{IsOrderOf}
+use Rattle.sf_state.specs.declared.finding.Found.{Found}
+use Rattle.sf_state.specs.Internal.Found.{AreFound}
+use Rattle.sf_state.specs.Starts.{IsUnmet, assertions_of, without}
+use Rattle.sf_state.proofs.Turns.{turns-from_parts}
+use Rattle.sf_state.proofs.Without.{member-decides, no_foot-left, no_foot-overlap}
+
+-- an assertion that has an order is precise
+pub ordered-precise : OrderedIsDetermined → DeterminedHasOneFootprint → (a o : Assertion) (vars : Var → Value)
+    → IsOrderOf a o → IsPrecise (Sat a.level (value vars) (λ n. nil))
+unfolding DeterminedHasOneFootprint
+ordered-precise determined one a o vars ord = one a.level vars (λ n. nil) (determined a.level o.level ord.level).0
+
+-- its footprints are those of its order
+ordered-foot : OrderKeepsMeaning → (a o : Assertion) (vars : Var → Value) (heap : Heap) (ls : List ℕ) → IsOrderOf a o
+    → IsFootprint o.level vars heap ls → IsFootprint a.level vars heap ls
+ordered-foot keeps a o vars heap ls ord f = record {
+  part = f.part;
+  foot = record {
+    rest = f.foot.rest;
+    splits = f.foot.splits;
+    sat = (keeps a.level o.level vars (λ n. nil) f.part ord.level).1 f.foot.sat;
+  };
+  at = f.at;
+}
+
+ordered-none : OrderKeepsMeaning → (a o : Assertion) (vars : Var → Value) (heap : Heap) → IsOrderOf a o
+    → HasNoFootprint o.level vars heap → HasNoFootprint a.level vars heap
+ordered-none keeps a o vars heap ord none part f = none part (record {
+  rest = f.rest;
+  splits = f.splits;
+  sat = (keeps a.level o.level vars (λ n. nil) part ord.level).0 f.sat;
+})
+
+-- there is none in the whole heap
+pub found-none : OrderKeepsMeaning → (a o : Assertion) (vars : Var → Value) (heap : Cells) (taken : List ℕ)
+    → IsOrderOf a o → HasNoFootprint o.level vars (heap_of heap) → HasNoFootprint a.level vars (without taken (heap_of heap))
+found-none keeps a o vars heap taken ord none =
+    no_foot-left a.level vars (heap_of heap) taken (ordered-none keeps a o vars (heap_of heap) ord none)
+
+-- it has a cell of an earlier one
+pub found-overlap : OrderKeepsMeaning → OrderedIsDetermined → DeterminedHasOneFootprint → (a o : Assertion)
+    (before : List Assertion) (vars : Var → Value) (heap : Cells) (old : Found) (ls at : List ℕ) → IsOrderOf a o
+    → AreFound before vars heap old → IsFootprint o.level vars (heap_of heap) ls → at ≡ ls
+    → (l : ℕ) × Contains at l × (contains nat_cmp old.taken l ≡ true)
+    → HasNoFootprint a.level vars (without (concat old.parts.items) (heap_of heap))
+found-overlap keeps determined one a o before vars heap old ls at ord found f same both =
+    no_foot-overlap a.level vars (heap_of heap) (concat old.parts.items) ls both.0
+    (ordered-precise determined one a o vars ord) (ordered-foot keeps a o vars (heap_of heap) ls ord f)
+    (subst (λ xs. Contains xs both.0) same both.1) (sym (found.marks both.0) ∙ both.2)
+
+-- two lists without repeats that have no number together
+distinct-append : (xs ys : List ℕ) → IsDistinct nat_eq xs → IsDistinct nat_eq ys
+    → ((l : ℕ) → Contains xs l → is_member nat_eq ys l ≡ false) → IsDistinct nat_eq (xs ++ ys)
+unfolding IsDistinct
+distinct-append [] ys d e out = e
+distinct-append (x ∷ xs) ys d e out = (
+  all_by-append (λ y. nat_eq x y ≡ false) xs ys d.0 (none ys (out x ((contains-cons x xs x).1 (inl refl)))),
+  distinct-append xs ys d.1 e (λ l c. out l ((contains-cons x xs l).1 (inr c))),
+)
+  where
+    first : (b c : Bool) → (b || c) ≡ false → b ≡ false
+    first true c h = h
+    first false c h = refl
+
+    rest : (b c : Bool) → (b || c) ≡ false → c ≡ false
+    rest true c h = absurd (false≢true (sym h))
+    rest false c h = h
+
+    none : (zs : List ℕ) → is_member nat_eq zs x ≡ false → AllByRecursion (λ y. nat_eq x y ≡ false) zs
+    none [] h = tt
+    none (z ∷ zs) h = (first (nat_eq x z) (is_member nat_eq zs x) h, none zs (rest (nat_eq x z) (is_member nat_eq zs x) h))
+
+distinct-rising : (xs : List ℕ) → IsStrictlyIncreasing xs → IsDistinct nat_eq xs
+distinct-rising xs r = subst (λ (e : ℕ → ℕ → Bool). IsDistinct e xs) same
+    (IsDistinct-from_sorted nat_cmp xs (sorted_from_strictly_increasing xs r))
+  where
+    same : eq_by_cmp nat_cmp ≡ nat_eq
+    same = λ i x y. at-is x y i
+
+-- it has none, and is found too
+pub found-more : OrderKeepsMeaning → (a o : Assertion) (before : List Assertion) (vars : Var → Value) (heap : Cells)
+    (old new : Found) (ls at : List ℕ) → IsOrderOf a o → AreFound before vars heap old
+    → IsFootprint o.level vars (heap_of heap) ls → All (HasCell heap) ls → at ≡ ls → IsStrictlyIncreasing ls
+    → All (λ l. contains nat_cmp old.taken l ≡ false) at → new.parts.items ≡ old.parts.items ++ ls ∷ []
+    → ((q : ℕ) → contains nat_cmp new.taken q ≡ (contains nat_cmp old.taken q || is_member nat_eq at q))
+    → AreFound (before ++ a ∷ []) vars heap new
+found-more keeps a o before vars heap old new ls at ord found f has same rises out parts marks = record {
+  footprints = subst (λ ps. AllZip (λ a ls. IsFootprint a.level vars (heap_of heap) ls) (before ++ a ∷ []) ps) (sym parts)
+      (all_zipped_more (λ (b : Assertion) ms. IsFootprint b.level vars (heap_of heap) ms) before old.parts.items a ls
+      found.footprints (ordered-foot keeps a o vars (heap_of heap) ls ord f));
+  distinct = subst (IsDistinct nat_eq) (sym whole)
+      (distinct-append (concat old.parts.items) ls found.distinct (distinct-rising ls rises) apart);
+  there = λ l e. elim (or_cases (is_member nat_eq (concat old.parts.items) l) (is_member nat_eq ls l) (sym (members l) ∙ e)) [
+    | inl h ↦ found.there l h
+    | inr h ↦ All-contains (HasCell heap) ls l has ((member-decides ls l).0 h)
+  ];
+  marks = λ l. marks l ∙ ap (λ b. b || is_member nat_eq at l) (found.marks l)
+      ∙ ap (λ xs. is_member nat_eq (concat old.parts.items) l || is_member nat_eq xs l) same ∙ sym (members l);
+}
+  where
+    whole : concat new.parts.items ≡ concat old.parts.items ++ ls
+    whole = ap concat parts ∙ concat-append old.parts.items (ls ∷ [])
+        ∙ ap (λ xs. concat old.parts.items ++ xs) (append-nil ls)
+
+    members : (l : ℕ) → is_member nat_eq (concat new.parts.items) l
+        ≡ (is_member nat_eq (concat old.parts.items) l || is_member nat_eq ls l)
+    members l = ap (λ xs. is_member nat_eq xs l) whole ∙ list_any-append (nat_eq l) (concat old.parts.items) ls
+
+    apart : (l : ℕ) → Contains (concat old.parts.items) l → is_member nat_eq ls l ≡ false
+    apart l c = go (is_member nat_eq ls l) refl
+      where
+        go : (b : Bool) → is_member nat_eq ls l ≡ b → is_member nat_eq ls l ≡ false
+        go false e = e
+        go true e = absurd (false≢true (sym (All-contains (λ q. contains nat_cmp old.taken q ≡ false) at l out
+            (subst (λ xs. Contains xs l) (sym same) ((member-decides ls l).0 e)))
+            ∙ found.marks l ∙ (member-decides (concat old.parts.items) l).1 c))
+
+-- of the assertions of a start the next one is unmet
+pub found-unmet : (p : Program) (g : Procedure) (vars : Var → Value) (heap : Cells) (found : Found) (k : ℕ)
+    (a : Assertion) → AreFound (take k (assertions_of p g)) vars heap found → slice_get (assertions_of p g) k ≡ Some a
+    → HasNoFootprint a.level vars (without (concat found.parts.items) (heap_of heap))
+    → IsUnmet vars (heap_of heap) (assertions_of p g) k
+found-unmet p g vars heap found k a are there none = record {
+  parts = found.parts.items;
+  earlier = turns-from_parts vars (heap_of heap) (take k (assertions_of p g)) found.parts.items are.footprints
+      are.distinct;
+  assertion = a;
+  there = there;
+  none = none;
+}
+
+-- what holds where something is there follows for it alone
+pub some-then : {X : Type 0} (P R : X → Type 0) (o : Option X) → IfSome o P → ((x : X) → o ≡ Some x → P x → R x)
+    → IfSome o R
+some-then P R None h f = tt
+some-then P R (Some x) h f = f x refl h
+
+-- something is at a place within a list
+pub there-at : {X : Type 0} (xs : List X) (k : ℕ) → k < length xs → (x : X) × (slice_get xs k ≡ Some x)
+there-at [] k h = absurd (omega (arith, h))
+there-at (x ∷ xs) zero h = (x, refl)
+there-at (x ∷ xs) (suc k) h = there-at xs k (omega (arith, h))
+
+-- nothing is found yet
+pub found-nothing : (vars : Var → Value) (heap : Cells) (found : Found) → found.parts.items ≡ []
+    → ((l : ℕ) → contains nat_cmp found.taken l ≡ false) → AreFound [] vars heap found
+unfolding IsDistinct
+found-nothing vars heap found e marks = record {
+  footprints = subst (λ ps. AllZip (λ (a : Assertion) ls. IsFootprint a.level vars (heap_of heap) ls) [] ps) (sym e) tt;
+  distinct = subst (λ ps. IsDistinct nat_eq (concat ps)) (sym e) tt;
+  there = λ l h. absurd (false≢true (sym (ap (λ ps. is_member nat_eq (concat ps) l) e) ∙ h));
+  marks = λ l. marks l ∙ sym (ap (λ ps. is_member nat_eq (concat ps) l) e);
+}
+
+-- the invariant of the resource of a number is the assertion after that number
+invariant-there : (p : Program) (g : Procedure) (r : ℕ) (h : Resource) → slice_get p.resources r ≡ Some h
+    → slice_get (assertions_of p g) (suc r) ≡ Some h.invariant
+invariant-there p g r h e = slice_get-map (λ (x : Resource). x.invariant) p.resources r
+    ∙ ap (option_map (λ (x : Resource). x.invariant)) e
+
+-- one more is taken
+take-next : {X : Type 0} (xs : List X) (k : ℕ) (x : X) → slice_get xs k ≡ Some x
+    → take (k + 1) xs ≡ take k xs ++ x ∷ []
+take-next xs k x e = take_more xs k x (slice_get_within xs k x e)
+    ∙ ap (λ y. take k xs ++ y ∷ []) (get_or_from_slice_get xs k x x e)
+
+add-one : (r : ℕ) → r + 1 ≡ suc r
+add-one r = omega arith
+
+-- the invariant of the next resource is unmet
+pub next-unmet : (p : Program) (g : Procedure) (vars : Var → Value) (heap : Cells) (found : Found) (r : ℕ) (h : Resource)
+    → AreFound (take (r + 1) (assertions_of p g)) vars heap found → slice_get p.resources r ≡ Some h
+    → HasNoFootprint h.invariant.level vars (without (concat found.parts.items) (heap_of heap))
+    → IsUnmet vars (heap_of heap) (assertions_of p g) (suc r)
+next-unmet p g vars heap found r h are e none =
+    found-unmet p g vars heap found (suc r) h.invariant
+    (subst (λ k. AreFound (take k (assertions_of p g)) vars heap found) (add-one r) are) (invariant-there p g r h e) none
+
+-- or it is found
+pub next-found : (p : Program) (g : Procedure) (vars : Var → Value) (heap : Cells) (new : Found) (r : ℕ) (h : Resource)
+    → AreFound (take (r + 1) (assertions_of p g) ++ h.invariant ∷ []) vars heap new → slice_get p.resources r ≡ Some h
+    → AreFound (take (r + 1 + 1) (assertions_of p g)) vars heap new
+next-found p g vars heap new r h are e =
+    subst (λ xs. AreFound xs vars heap new)
+    (sym (take-next (assertions_of p g) (r + 1) h.invariant
+    (ap (slice_get (assertions_of p g)) (add-one r) ∙ invariant-there p g r h e))) are
+
+-- at the end all are
+pub found-all : (p : Program) (g : Procedure) (vars : Var → Value) (heap : Cells) (found : Found) (r : ℕ)
+    → length p.resources ≤ r → AreFound (take (r + 1) (assertions_of p g)) vars heap found
+    → AreFound (assertions_of p g) vars heap found
+found-all p g vars heap found r h are = subst (λ xs. AreFound xs vars heap found)
+    (take_all (r + 1) (assertions_of p g) (omega (arith, h, length-map p.resources (λ (x : Resource). x.invariant)))) are

@@ -1,0 +1,45 @@
+-- The footprints that were found for the first assertions, and what comes of the next one.
+-- Ordinary: footprints in a whole heap that are disjoint, for footprints each in what the earlier ones leave.
+use Rattle.std.specs.Prelude.{◌≡◌, ◌⊎◌, ◌≤◌, ℕ, ◌++◌, Bool, true, false, nat_eq, List, [], ◌∷◌, Ok, Err, Result}
+use Rattle.std.specs.BTreeSet.{contains}
+use Rattle.std.specs.FinMap.{contains_key}
+use Rattle.std.specs.List.{AllZip, IsDistinct, concat}
+use Rattle.std.specs.Ordering.{nat_cmp}
+use Rattle.std.specs.Set.{is_member}
+use Rattle.std.specs.declared.alloc.AllocError.{AllocError}
+use Rattle.sf_base.specs.declared.ids.Var.{Var}
+use Rattle.sf_base.specs.declared.value.Value.{Value}
+use Rattle.sf_core.specs.Program.Syntax.{Assertion, Procedure, Program}
+use Rattle.sf_heap.specs.Cells.{Cells, heap_of}
+use Rattle.sf_foot.specs.Footprint.{HasNoFootprint, IsFootprint}
+use Rattle.sf_state.specs.declared.fault.StartFault.{StartFault}
+use Rattle.sf_state.specs.declared.fault.StartFault.TheVariants as fault
+use Rattle.sf_state.specs.declared.finding.Found.{Found}
+use Rattle.sf_state.specs.Starts.{IsUnmet, assertion_name, assertions_of, without}
+
+-- these assertions have those footprints in the heap, which are disjoint
+pub record AreFound (assertions : List Assertion) (vars : Var → Value) (heap : Cells) (found : Found) : Type 0 where
+  pub footprints : AllZip (λ a ls. IsFootprint a.level vars (heap_of heap) ls) assertions found.parts.items
+  pub distinct : IsDistinct nat_eq (concat found.parts.items)
+  pub there : (l : ℕ) → is_member nat_eq (concat found.parts.items) l ≡ true → contains_key heap l ≡ true
+  pub marks : (l : ℕ) → contains nat_cmp found.taken l ≡ is_member nat_eq (concat found.parts.items) l
+
+-- the assertion after them has a footprint in what they leave, and was found too; or it has none; or memory runs out
+abbrev pub AlsoFound : (before : List Assertion) → Assertion → (Var → Value) → Cells → (old new : Found)
+    → Result Bool AllocError → Type 0
+AlsoFound before a vars heap old new (Ok true) = AreFound (before ++ a ∷ []) vars heap new
+AlsoFound before a vars heap old new (Ok false) =
+    HasNoFootprint a.level vars (without (concat old.parts.items) (heap_of heap))
+AlsoFound before a vars heap old new (Err e) = Unit {0}
+
+-- all assertions of a start were found, or the call says which is unmet, or memory ran out
+abbrev pub AllFound : Program → Procedure → (Var → Value) → Cells → Result Found StartFault → Type 0
+AllFound p g vars heap (Ok found) = AreFound (assertions_of p g) vars heap found
+AllFound p g vars heap (Err e) = (e ≡ fault.OutOfMemory)
+    ⊎ ((number : ℕ) × (e ≡ fault.Unmet (assertion_name p number))
+    × IsUnmet vars (heap_of heap) (assertions_of p g) number)
+
+-- it is the least of those numbers
+pub record IsLeast (P : ℕ → Type 0) (number : ℕ) : Type 0 where
+  pub here : P number
+  pub least : (other : ℕ) → P other → number ≤ other

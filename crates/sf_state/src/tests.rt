@@ -1,0 +1,243 @@
+//! What no clause says: what texts written by hand give, with ample memory. The fields are `hd` and
+//! `tl`, and the variables `p`, `q` and `r.v`.
+
+use crate::state::read_named;
+use crate::{StartFault, State, state_text};
+use sf_base::{FieldId, Name, Place, Value};
+use sf_core::{Assertion, Level, Links, Proc, Program, Scope};
+use sf_heap::{Cell, Heap, Locations};
+use std::alloc::{AllocError, Global};
+use std::test::Fail;
+
+/// A program with two fields and nothing else.
+fn program(alloc: Global) -> Result<Program, AllocError> {
+    let fields = vec![in alloc; Name::new(alloc, b"hd")?, Name::new(alloc, b"tl")?]?;
+    let links = Links::among(&fields);
+    Ok(Program {
+        fields,
+        resources: Vec::new(alloc),
+        procedures: Vec::new(alloc),
+        links,
+    })
+}
+
+/// What the text gives.
+fn read(alloc: Global, text: &[u8]) -> Result<State, StartFault> {
+    let p = program(alloc)?;
+    let names = vec![in alloc;
+        Name::new(alloc, b"p")?,
+        Name::new(alloc, b"q")?,
+        Name::new(alloc, b"r.v")?,
+    ]?;
+    if text.len() > 1000 {
+        return Err(StartFault::TooLong);
+    }
+    read_named(alloc, &p, &names, text)
+}
+
+/// Whether the text gives these values and cells.
+fn gives(alloc: Global, text: &[u8], values: &[Value], cells: &[(u64, Value, Value)]) -> bool {
+    match read(alloc, text) {
+        Ok(state) => {
+            state.values.as_slice() == values
+                && state.cells.len() == cells.len()
+                && has_all(&state, cells)
+        }
+        Err(_) => false,
+    }
+}
+
+/// Whether these cells are among those.
+fn has_all(state: &State, cells: &[(u64, Value, Value)]) -> bool {
+    for (at, first, second) in cells {
+        match state.cells.get(at) {
+            Some(cell) => {
+                if cell.get(FieldId(0)) != *first || cell.get(FieldId(1)) != *second {
+                    return false;
+                }
+            }
+            None => return false,
+        }
+    }
+    true
+}
+
+/// What a text is refused for.
+#[derive(Clone, Copy)]
+enum Because<'a> {
+    Bad(u32),
+    Again(&'a [u8]),
+    Absent(&'a [u8]),
+    Nowhere(&'a [u8]),
+}
+
+/// Whether the text is refused for that.
+fn is_refused(alloc: Global, text: &[u8], because: Because<'_>) -> bool {
+    match (read(alloc, text), because) {
+        (Err(StartFault::BadLine(line)), Because::Bad(n)) => line == n,
+        (Err(StartFault::Twice(name)), Because::Again(text)) => name.as_bytes() == text,
+        (Err(StartFault::Missing(name)), Because::Absent(text)) => name.as_bytes() == text,
+        (Err(StartFault::Unknown(name)), Because::Nowhere(text)) => name.as_bytes() == text,
+        _ => false,
+    }
+}
+
+const NIL: Value = Value::Nil;
+
+#[test]
+fn texts_are_read_leniently(rt: HostRuntime) {
+    let most = 4_611_686_018_427_387_903;
+    let nils: &[Value] = &[NIL, NIL, NIL];
+    let cases: [(&[u8], &[Value], &[(u64, Value, Value)]); 8] = [
+        (b"p=nil\nq=nil\nr.v=nil", nils, &[]),
+        (
+            b"finished\np = NULL\n  q\t= nil \r\n\tr.v =nil\r\n\n \t\n",
+            nils,
+            &[],
+        ),
+        (
+            b" \tfinished \r\np = @1\nq = -007\nr.v = 00\n@1",
+            &[Value::Loc(1), Value::Int(-7), Value::Int(0)],
+            &[(1, NIL, NIL)],
+        ),
+        (
+            b"# a = comment\n\t # @0\nr.v=nil\nq=nil\np=nil\n#",
+            nils,
+            &[],
+        ),
+        (
+            b"@2 tl=@1 hd=5\n@01\thd=NULL \np=@2\nq=@00001\nr.v=@9\n",
+            &[Value::Loc(2), Value::Loc(1), Value::Loc(9)],
+            &[(1, NIL, NIL), (2, Value::Int(5), Value::Loc(1))],
+        ),
+        (
+            b"p=nil\nq=nil\nr.v=@4611686018427387903\n@4611686018427387903",
+            &[NIL, NIL, Value::Loc(most)],
+            &[(most, NIL, NIL)],
+        ),
+        (
+            b"p=9223372036854775807\nq=-9223372036854775808\nr.v=nil",
+            &[Value::Int(i64::MAX), Value::Int(i64::MIN), NIL],
+            &[],
+        ),
+        (
+            b"p=nil\nq=nil\nr.v=nil\n@7 tl=@7\n@3 hd=-1",
+            nils,
+            &[(3, Value::Int(-1), NIL), (7, NIL, Value::Loc(7))],
+        ),
+    ];
+    for (text, values, cells) in cases {
+        assert!(rt; gives(rt.alloc(), text, values, cells));
+    }
+}
+
+#[test]
+fn lines_without_a_form_are_refused(rt: HostRuntime) {
+    let cases: [(&[u8], u32); 20] = [
+        (b"p = nil / @7", 1),
+        (b"p = @0", 1),
+        (b"p = @4611686018427387904", 1),
+        (b"p = @-1", 1),
+        (b"p = 9223372036854775808", 1),
+        (b"p = +1", 1),
+        (b"p = Nil", 1),
+        (b"p =", 1),
+        (b"= 1", 1),
+        (b"p = 1 2", 1),
+        (b"p == 1", 1),
+        (b"p = 1\r\r", 1),
+        (b"r . v = 1", 1),
+        (b"r.v.w = 1", 1),
+        (b"nil = 1", 1),
+        (b"\nfinished", 2),
+        (b"@1 hd = 1", 1),
+        (b"@1 hd", 1),
+        (b"@0", 1),
+        (b"@7 data=1 hd=@0", 1),
+    ];
+    for (text, line) in cases {
+        assert!(rt; is_refused(rt.alloc(), text, Because::Bad(line)));
+    }
+}
+
+#[test]
+fn the_first_refusal_is_told(rt: HostRuntime) {
+    let cases: [(&[u8], Because<'static>); 16] = [
+        (b"", Because::Absent(b"p")),
+        (b"q = 1\np = 2\n", Because::Absent(b"r.v")),
+        (b"x = 1", Because::Nowhere(b"x")),
+        (b"v = 1", Because::Nowhere(b"v")),
+        (b"r.w = 1", Because::Nowhere(b"r.w")),
+        (b"@1 data=1", Because::Nowhere(b"data")),
+        (b"p = 1\nq = 1\np = 1", Because::Again(b"p")),
+        (b"r.v = 1\nr.v = 2", Because::Again(b"r.v")),
+        (b"@07\n@7 hd=1 hd=2", Because::Again(b"@7")),
+        (b"@7 hd=1 tl=2 tl=3 hd=4", Because::Again(b"tl")),
+        (b"@7 hd=1 hd=2 data=1", Because::Nowhere(b"data")),
+        (b"p = 1\np = 1\nx = 1\n?", Because::Again(b"p")),
+        (b"x = 1\np = 1\np = 1\n?", Because::Nowhere(b"x")),
+        (b"p = 1\n?\nx = 1", Because::Bad(2)),
+        (b"@1\n@1\n@0", Because::Again(b"@1")),
+        (b"p = @1\n@1\n", Because::Absent(b"q")),
+    ];
+    for (text, because) in cases {
+        assert!(rt; is_refused(rt.alloc(), text, because));
+    }
+}
+
+const AT: Place = Place { line: 1, column: 1 };
+
+/// The assertion `emp`.
+fn nothing(alloc: Global) -> Assertion {
+    Assertion {
+        names: Vec::new(alloc),
+        level: Level {
+            made: Scope { first: 0, count: 0 },
+            conjuncts: Vec::new(alloc),
+        },
+    }
+}
+
+/// A procedure with a reference, a value and a local.
+fn procedure(alloc: Global) -> Result<Proc, AllocError> {
+    Ok(Proc {
+        name: Name::new(alloc, b"f")?,
+        place: AT,
+        names: vec![in alloc;
+            Name::new(alloc, b"p")?,
+            Name::new(alloc, b"q")?,
+            Name::new(alloc, b"i")?,
+        ]?,
+        references: 1,
+        values: 1,
+        locals: 1,
+        pre: nothing(alloc),
+        post: nothing(alloc),
+        body: Vec::new(alloc),
+        end: AT,
+    })
+}
+
+#[test]
+fn a_state_is_written_in_canonical_order(rt: HostRuntime) -> Result<(), Fail> {
+    let alloc = rt.alloc();
+    let mut heap = Heap::new(alloc);
+    let second = Cell::from_values(vec![in alloc; Value::Int(-5), NIL]?);
+    heap.put(12, Box::new(alloc, second)?)?;
+    let first = Cell::from_values(vec![in alloc; NIL, Value::Loc(12)]?);
+    heap.put(3, Box::new(alloc, first)?)?;
+    let at = Locations::from_vec(vec![in alloc; 12, 3]?);
+    let values = [Value::Loc(3), Value::Int(7)];
+    let text = state_text(
+        alloc,
+        &program(alloc)?,
+        &procedure(alloc)?,
+        &values,
+        &heap,
+        &at,
+    )?;
+    assert!(rt;
+        text.as_slice() == b"p = @3\nq = 7\n@3 hd=nil tl=@12\n@12 hd=-5 tl=nil\n".as_slice()
+    );
+    Ok(())
+}
