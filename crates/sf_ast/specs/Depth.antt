@@ -1,22 +1,14 @@
 -- How deep the commands and assertions of a file are nested.
 -- Ordinary: the height of a syntax tree, as in Aho, Sethi, Ullman, "Compilers" (1986), chapter 2.
 use Rattle.std.specs.Prelude.{ℕ, ◌+◌, max, List, [], ◌∷◌, Option, Some, None}
-use Rattle.sf_ast.specs.Surface.{Conjunct, emp, group, choose, choose_round, equal, differ, points, ls, lseg, list, tree, Assertion, only, star, Note, blank, filled, Command, assign, look_up, new, mutate, dispose, dispose_round, if_alone, if, while, with, call, fork, block, Commands, done, then, Item, fields, resource, procedure}
+use Rattle.sf_ast.specs.Surface.{Conjunct, group, choose, Assertion, only, star, Note, blank, filled, Command, if_alone, if, while, with, block, Commands, done, then, Item, fields, resource, procedure}
 
 abbrev mutual
   -- the levels below the assertion that a conjunct occurs in
   pub conjunct_depth : Conjunct → ℕ
-  conjunct_depth (emp p) = 0
   conjunct_depth (group a) = assertion_depth a
-  conjunct_depth (choose p t a b) = max (assertion_depth a) (assertion_depth b)
-  conjunct_depth (choose_round p t a b) = max (assertion_depth a) (assertion_depth b)
-  conjunct_depth (equal x y) = 0
-  conjunct_depth (differ x y) = 0
-  conjunct_depth (points x fs) = 0
-  conjunct_depth (ls p x y) = 0
-  conjunct_depth (lseg p x y) = 0
-  conjunct_depth (list p x) = 0
-  conjunct_depth (tree p x) = 0
+  conjunct_depth (choose p k t a b) = max (assertion_depth a) (assertion_depth b)
+  conjunct_depth _ = 0
 
   -- the levels of an assertion: its own, and those below it
   pub assertion_depth : Assertion → ℕ
@@ -36,19 +28,12 @@ maybe_depth (Some n) = annotation_depth n
 abbrev mutual
   -- the levels of a command, its own the first
   pub command_depth : Command → ℕ
-  command_depth (assign x e) = 1
-  command_depth (look_up x e f) = 1
-  command_depth (new x) = 1
-  command_depth (mutate e f g) = 1
-  command_depth (dispose p e) = 1
-  command_depth (dispose_round p e) = 1
   command_depth (if_alone p t c) = 1 + command_depth c
   command_depth (if p t c d) = 1 + max (command_depth c) (command_depth d)
   command_depth (while p t n c) = 1 + command_depth c
   command_depth (with p r t c) = 1 + command_depth c
-  command_depth (call c) = 1
-  command_depth (fork c d) = 1
   command_depth (block p cs q) = 1 + commands_depth cs
+  command_depth _ = 1
 
   -- those of the deepest command
   pub commands_depth : Commands → ℕ
@@ -63,14 +48,7 @@ abbrev mutual
   invariant_depth (while p t n c) = max (maybe_depth n) (invariant_depth c)
   invariant_depth (with p r t c) = invariant_depth c
   invariant_depth (block p cs q) = invariants_depth cs
-  invariant_depth (assign x e) = 0
-  invariant_depth (look_up x e f) = 0
-  invariant_depth (new x) = 0
-  invariant_depth (mutate e f g) = 0
-  invariant_depth (dispose p e) = 0
-  invariant_depth (dispose_round p e) = 0
-  invariant_depth (call c) = 0
-  invariant_depth (fork c d) = 0
+  invariant_depth _ = 0
 
   -- those of the deepest invariant in commands
   pub invariants_depth : Commands → ℕ

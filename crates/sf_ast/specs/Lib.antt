@@ -1,4 +1,3 @@
 pub mod Surface
 pub mod View
 pub mod Depth
-pub mod Lemmas

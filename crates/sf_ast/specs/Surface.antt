@@ -1,6 +1,6 @@
 -- The surface tree as the definitions see it: lists and trees in place of the code's vectors and boxes.
 -- The language is that of Berdine, Calcagno and O'Hearn, "Smallfoot" (2005), in this project's own profile.
-use Rattle.std.specs.Prelude.{List, Option}
+use Rattle.std.specs.Prelude.{Bool, List, Option}
 use Rattle.sf_base.specs.declared.place.Place.{Place}
 use Rattle.sf_ast.specs.declared.assertion.SurfaceField.{SurfaceField}
 use Rattle.sf_ast.specs.declared.word.SurfaceExpr.{SurfaceExpr}
@@ -14,17 +14,15 @@ pub record Names : Type 0 where
   pub more : List Word
 
 mutual
-  -- one conjunct: its tests and values, and the assertions in it
+  -- one conjunct: its tests and values, and the assertions in it; whether a test is in round brackets, whether `ls` is written `lseg`
   pub data Conjunct : Type 0 where
     emp : Place → Conjunct
     group : Assertion → Conjunct
-    choose : Place → SurfaceTest SurfaceOperand → (then otherwise : Assertion) → Conjunct
-    choose_round : Place → SurfaceTest SurfaceOperand → (then otherwise : Assertion) → Conjunct
+    choose : Place → (round : Bool) → SurfaceTest SurfaceOperand → (then otherwise : Assertion) → Conjunct
     equal : (left right : SurfaceOperand) → Conjunct
     differ : (left right : SurfaceOperand) → Conjunct
     points : SurfaceOperand → List SurfaceField → Conjunct
-    ls : Place → (from to : SurfaceOperand) → Conjunct
-    lseg : Place → (from to : SurfaceOperand) → Conjunct
+    ls : Place → (long : Bool) → (from to : SurfaceOperand) → Conjunct
     list : Place → SurfaceOperand → Conjunct
     tree : Place → SurfaceOperand → Conjunct
 
@@ -55,8 +53,7 @@ mutual
     look_up : Word → SurfaceExpr → Word → Command
     new : Word → Command
     mutate : SurfaceExpr → Word → SurfaceExpr → Command
-    dispose : Place → SurfaceExpr → Command
-    dispose_round : Place → SurfaceExpr → Command
+    dispose : Place → (round : Bool) → SurfaceExpr → Command
     if_alone : Place → SurfaceTest SurfaceExpr → Command → Command
     if : Place → SurfaceTest SurfaceExpr → (then otherwise : Command) → Command
     while : Place → SurfaceTest SurfaceExpr → Option Note → Command → Command

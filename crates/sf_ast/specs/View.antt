@@ -37,13 +37,11 @@ conjuncts x (y ∷ ys) = s.star x (conjuncts y ys)
 abbrev pub conjunct_step : SurfaceConjunct-F s.Conjunct s.Assertion → s.Conjunct
 conjunct_step (o.Emp p) = s.emp p
 conjunct_step (o.Group x) = s.group x
-conjunct_step (o.If p t x y) = s.choose p t x y
-conjunct_step (o.IfRound p t x y) = s.choose_round p t x y
+conjunct_step (o.If p b t x y) = s.choose p b t x y
 conjunct_step (o.Equal x y) = s.equal x y
 conjunct_step (o.Differ x y) = s.differ x y
 conjunct_step (o.Points x fs) = s.points x fs.items
-conjunct_step (o.Ls p x y) = s.ls p x y
-conjunct_step (o.Lseg p x y) = s.lseg p x y
+conjunct_step (o.Ls p b x y) = s.ls p b x y
 conjunct_step (o.List p x) = s.list p x
 conjunct_step (o.Tree p x) = s.tree p x
 
@@ -88,8 +86,7 @@ command_step (c.Assign x e) = s.assign x e
 command_step (c.LookUp x e f) = s.look_up x e f
 command_step (c.New x) = s.new x
 command_step (c.Mutate e f g) = s.mutate e f g
-command_step (c.Dispose p e) = s.dispose p e
-command_step (c.DisposeRound p e) = s.dispose_round p e
+command_step (c.Dispose p b e) = s.dispose p b e
 command_step (c.IfAlone p t x) = s.if_alone p t x.value
 command_step (c.If p t x y) = s.if p t x.value y.value
 command_step (c.While p t n x) = s.while p t (option_map annotation_of n) x.value

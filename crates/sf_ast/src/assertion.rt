@@ -19,20 +19,16 @@ pub enum SurfaceConjunct {
     Emp(Place),
     /// `( A )`
     Group(SurfaceAssertion),
-    /// `if B then A else A`
-    If(Place, SurfaceTest<SurfaceOperand>, SurfaceAssertion, SurfaceAssertion),
-    /// `if ( B ) then A else A`
-    IfRound(Place, SurfaceTest<SurfaceOperand>, SurfaceAssertion, SurfaceAssertion),
+    /// `if B then A else A`, and whether B is in round brackets
+    If(Place, bool, SurfaceTest<SurfaceOperand>, SurfaceAssertion, SurfaceAssertion),
     /// `E == F`
     Equal(SurfaceOperand, SurfaceOperand),
     /// `E != F`
     Differ(SurfaceOperand, SurfaceOperand),
     /// `E |-> f:F, g:G`
     Points(SurfaceOperand, Vec<SurfaceField>),
-    /// `ls(E, F)`
-    Ls(Place, SurfaceOperand, SurfaceOperand),
-    /// `lseg(E, F)`
-    Lseg(Place, SurfaceOperand, SurfaceOperand),
+    /// `ls(E, F)`, and whether it is written `lseg(E, F)`
+    Ls(Place, bool, SurfaceOperand, SurfaceOperand),
     /// `list(E)`
     List(Place, SurfaceOperand),
     /// `tree(E)`

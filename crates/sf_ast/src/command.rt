@@ -31,10 +31,8 @@ pub enum SurfaceCommand {
     New(Word),
     /// `E -> f = F ;`
     Mutate(SurfaceExpr, Word, SurfaceExpr),
-    /// `dispose E ;`
-    Dispose(Place, SurfaceExpr),
-    /// `dispose ( E ) ;`
-    DisposeRound(Place, SurfaceExpr),
+    /// `dispose E ;`, and whether E is in round brackets
+    Dispose(Place, bool, SurfaceExpr),
     /// `if ( B ) C`
     IfAlone(Place, SurfaceTest<SurfaceExpr>, Box<SurfaceCommand>),
     /// `if ( B ) C else C`

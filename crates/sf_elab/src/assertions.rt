@@ -341,8 +341,7 @@ fn add_conjunct(
     match c {
         SurfaceConjunct::Emp(_) => Ok(()),
         SurfaceConjunct::Group(all) => add_conjuncts(alloc, env, levels, all, done, found),
-        SurfaceConjunct::If(p, condition, this, that)
-        | SurfaceConjunct::IfRound(p, condition, this, that) => {
+        SurfaceConjunct::If(p, _, condition, this, that) => {
             let test = test(env, levels, condition, found)?;
             let this = branch(alloc, env, levels, this, found)?;
             let that = branch(alloc, env, levels, that, found)?;
@@ -359,9 +358,7 @@ fn add_conjunct(
         SurfaceConjunct::Points(x, fields) => {
             push(points(alloc, env, levels, x, fields, found)?, done)
         }
-        SurfaceConjunct::Ls(p, x, y) | SurfaceConjunct::Lseg(p, x, y) => {
-            push(between(env, levels, *p, x, y, found)?, done)
-        }
+        SurfaceConjunct::Ls(p, _, x, y) => push(between(env, levels, *p, x, y, found)?, done),
         SurfaceConjunct::List(p, x) => push(list(env, levels, *p, x, found)?, done),
         SurfaceConjunct::Tree(p, x) => push(tree(env, levels, *p, x, found)?, done),
     }

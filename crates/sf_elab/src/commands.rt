@@ -314,9 +314,7 @@ fn add_command(
         SurfaceCommand::LookUp(x, e, f) => push(look_up(env, *x, *e, *f, found)?, done),
         SurfaceCommand::New(x) => push(new_cell(env, *x, found)?, done),
         SurfaceCommand::Mutate(e, f, v) => push(mutate(env, *e, *f, *v, found)?, done),
-        SurfaceCommand::Dispose(p, e) | SurfaceCommand::DisposeRound(p, e) => {
-            push(dispose(env, *p, *e, found)?, done)
-        }
+        SurfaceCommand::Dispose(p, _, e) => push(dispose(env, *p, *e, found)?, done),
         SurfaceCommand::Call(one) => push(single(alloc, env, one, found)?, done),
         SurfaceCommand::Fork(left, right) => push(fork(alloc, env, left, right, found)?, done),
         SurfaceCommand::IfAlone(p, test, one) => push(
@@ -466,9 +464,7 @@ fn add_set_in(c: &SurfaceCommand, words: &mut Vec<Word>) -> Result<(), AllocErro
     match c {
         SurfaceCommand::Assign(x, _) | SurfaceCommand::LookUp(x, _, _) | SurfaceCommand::New(x) =>
             add_word(*x, words),
-        SurfaceCommand::Mutate(_, _, _)
-        | SurfaceCommand::Dispose(_, _)
-        | SurfaceCommand::DisposeRound(_, _) => Ok(()),
+        SurfaceCommand::Mutate(_, _, _) | SurfaceCommand::Dispose(_, _, _) => Ok(()),
         SurfaceCommand::IfAlone(_, _, body)
         | SurfaceCommand::While(_, _, _, body)
         | SurfaceCommand::With(_, _, _, body) => add_set_in(body, words),

@@ -71,13 +71,10 @@ fn add_conjunct(c: &SurfaceConjunct, words: &mut Vec<Word>) -> Result<(), AllocE
     match c {
         SurfaceConjunct::Emp(_) => Ok(()),
         SurfaceConjunct::Group(inside) => add_words(inside, words),
-        SurfaceConjunct::If(_, test, _, _) | SurfaceConjunct::IfRound(_, test, _, _) => {
-            add_test(test, words)
-        }
+        SurfaceConjunct::If(_, _, test, _, _) => add_test(test, words),
         SurfaceConjunct::Equal(x, y)
         | SurfaceConjunct::Differ(x, y)
-        | SurfaceConjunct::Ls(_, x, y)
-        | SurfaceConjunct::Lseg(_, x, y) => add_both(x, y, words),
+        | SurfaceConjunct::Ls(_, _, x, y) => add_both(x, y, words),
         SurfaceConjunct::Points(x, fields) => {
             add_operand(x, words)?;
             add_fields(fields, words)

@@ -1,6 +1,5 @@
-pub mod Once
-pub mod OnceAssertions
-pub mod OnceFiles
+pub mod Reader
+pub mod OneTree
 pub mod Depths
 pub mod Longer
 pub mod CommandsLonger

@@ -1,6 +1,6 @@
 pub mod Means
 pub mod HasLevel
-pub mod Free
+pub mod Happens
 pub mod Back
 pub mod OwedBack
 pub mod Complete

@@ -1,11 +1,9 @@
 -- The grammar: for each tree the leaves of its tokens, and then those of what follows it. One case a production.
 -- The language is that of Berdine, Calcagno and O'Hearn, "Smallfoot" (2005), in this project's own profile.
-use Rattle.std.specs.Prelude.{List, [], ◌∷◌, Option, Some, None}
+use Rattle.std.specs.Prelude.{Bool, true, false, List, [], ◌∷◌, Option, Some, None}
 use Rattle.sf_ast.specs.declared.assertion.SurfaceField.{SurfaceField}
 use Rattle.sf_ast.specs.declared.word.SurfaceExpr.{SurfaceExpr}
-use Rattle.sf_ast.specs.declared.word.SurfaceExpr.TheVariants as e
 use Rattle.sf_ast.specs.declared.word.SurfaceOperand.{SurfaceOperand}
-use Rattle.sf_ast.specs.declared.word.SurfaceOperand.TheVariants as v
 use Rattle.sf_ast.specs.declared.word.SurfaceTest.{SurfaceTest}
 use Rattle.sf_ast.specs.declared.word.SurfaceTest.TheVariants as t
 use Rattle.sf_ast.specs.declared.word.Word.{Word}
@@ -32,12 +30,9 @@ abbrev pub parameters : s.Parameters → List Leaf → List Leaf
 parameters (s.only_values xs) r = maybe_names xs r
 parameters (s.references_and_values xs ys) r = maybe_names xs (k.Semicolon ∷ maybe_names ys r)
 
--- expr = name | "nil" | "NULL" | number
+-- expr = name | "nil" | "NULL" | number, one token each
 abbrev pub expr : SurfaceExpr → Leaf
-expr (e.Name x) = k.Name x
-expr (e.Nil p) = k.Nil p
-expr (e.Null p) = k.Null p
-expr (e.Number n p) = k.Number n p
+expr x = k.Expr x
 
 -- { "," expr }
 abbrev pub more_exprs : List SurfaceExpr → List Leaf → List Leaf
@@ -58,10 +53,9 @@ arguments (s.both ns xs) r = maybe_names ns (k.Semicolon ∷ maybe_exprs xs r)
 abbrev pub call : s.Call → List Leaf → List Leaf
 call c r = k.Name c.name ∷ k.OpenRound ∷ arguments c.arguments (k.CloseRound ∷ r)
 
--- aexpr = expr | existential
+-- aexpr = expr | existential, one token each
 abbrev pub operand : SurfaceOperand → Leaf
-operand (v.Known x) = expr x
-operand (v.Existential x) = k.Existential x
+operand x = k.Operand x
 
 -- test = "true" | expr "==" expr | expr "!=" expr, over expressions or over operands
 abbrev pub test : {E : Type 0} → (E → Leaf) → SurfaceTest E → List Leaf → List Leaf
@@ -83,6 +77,11 @@ abbrev pub maybe_fields : List SurfaceField → List Leaf → List Leaf
 maybe_fields [] r = r
 maybe_fields (f ∷ fs) r = field f (more_fields fs r)
 
+-- inner, or "(" inner ")"
+abbrev pub bracketed : (round : Bool) → (List Leaf → List Leaf) → List Leaf → List Leaf
+bracketed false inner r = inner r
+bracketed true inner r = k.OpenRound ∷ inner (k.CloseRound ∷ r)
+
 abbrev mutual
   -- simple = "emp" | "(" assertion ")" | "if" ( "(" atest ")" | atest ) "then" assertion "else" assertion
   --        | aexpr "==" aexpr | aexpr "!=" aexpr | aexpr "|->" [ name ":" aexpr { "," name ":" aexpr } ]
@@ -90,13 +89,11 @@ abbrev mutual
   pub conjunct : s.Conjunct → List Leaf → List Leaf
   conjunct (s.emp p) r = k.Emp p ∷ r
   conjunct (s.group a) r = k.OpenRound ∷ assertion a (k.CloseRound ∷ r)
-  conjunct (s.choose p b x y) r = k.If p ∷ test operand b (k.Then ∷ assertion x (k.Else ∷ assertion y r))
-  conjunct (s.choose_round p b x y) r = k.If p ∷ k.OpenRound ∷ test operand b (k.CloseRound ∷ k.Then ∷ assertion x (k.Else ∷ assertion y r))
+  conjunct (s.choose p round b x y) r = k.If p ∷ bracketed round (test operand b) (k.Then ∷ assertion x (k.Else ∷ assertion y r))
   conjunct (s.equal x y) r = operand x ∷ k.EqualEqual ∷ operand y ∷ r
   conjunct (s.differ x y) r = operand x ∷ k.NotEqual ∷ operand y ∷ r
   conjunct (s.points x fs) r = operand x ∷ k.PointsTo ∷ maybe_fields fs r
-  conjunct (s.ls p x y) r = k.Ls p ∷ k.OpenRound ∷ operand x ∷ k.Comma ∷ operand y ∷ k.CloseRound ∷ r
-  conjunct (s.lseg p x y) r = k.Lseg p ∷ k.OpenRound ∷ operand x ∷ k.Comma ∷ operand y ∷ k.CloseRound ∷ r
+  conjunct (s.ls p long x y) r = k.Ls p long ∷ k.OpenRound ∷ operand x ∷ k.Comma ∷ operand y ∷ k.CloseRound ∷ r
   conjunct (s.list p x) r = k.List p ∷ k.OpenRound ∷ operand x ∷ k.CloseRound ∷ r
   conjunct (s.tree p x) r = k.Tree p ∷ k.OpenRound ∷ operand x ∷ k.CloseRound ∷ r
 
@@ -125,8 +122,7 @@ abbrev mutual
   command (s.look_up x a f) r = k.Name x ∷ k.Equals ∷ expr a ∷ k.Arrow ∷ k.Name f ∷ k.Semicolon ∷ r
   command (s.new x) r = k.Name x ∷ k.Equals ∷ k.New ∷ k.OpenRound ∷ k.CloseRound ∷ k.Semicolon ∷ r
   command (s.mutate a f b) r = expr a ∷ k.Arrow ∷ k.Name f ∷ k.Equals ∷ expr b ∷ k.Semicolon ∷ r
-  command (s.dispose p a) r = k.Dispose p ∷ expr a ∷ k.Semicolon ∷ r
-  command (s.dispose_round p a) r = k.Dispose p ∷ k.OpenRound ∷ expr a ∷ k.CloseRound ∷ k.Semicolon ∷ r
+  command (s.dispose p round a) r = k.Dispose p ∷ bracketed round (λ q. expr a ∷ q) (k.Semicolon ∷ r)
   command (s.if_alone p b c) r = k.If p ∷ k.OpenRound ∷ test expr b (k.CloseRound ∷ command c r)
   command (s.if p b c d) r = k.If p ∷ k.OpenRound ∷ test expr b (k.CloseRound ∷ command c (k.Else ∷ command d r))
   command (s.while p b n c) r = k.While p ∷ k.OpenRound ∷ test expr b (k.CloseRound ∷ maybe_annotation n (command c r))

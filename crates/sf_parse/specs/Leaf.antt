@@ -1,8 +1,12 @@
--- A token as the grammar sees it: what it is, and what a tree keeps of it. Of a word that is its text and its place, of a
--- number what it writes and its place, of others their place or nothing.
+-- A token as the grammar sees it: what it is, and what a tree keeps of it. Of an operand that is all that a tree has for it,
+-- of others their place or nothing.
 -- The tokens of Berdine, Calcagno and O'Hearn, "Smallfoot" (2005), in this project's own profile.
-use Rattle.std.specs.Prelude.{ℤ, List as Seq, map}
+use Rattle.std.specs.Prelude.{Bool, true, false, ℤ, List as Seq, map}
 use Rattle.sf_base.specs.declared.place.Place.{Place}
+use Rattle.sf_ast.specs.declared.word.SurfaceExpr.{SurfaceExpr}
+use Rattle.sf_ast.specs.declared.word.SurfaceExpr.TheVariants as e
+use Rattle.sf_ast.specs.declared.word.SurfaceOperand.{SurfaceOperand}
+use Rattle.sf_ast.specs.declared.word.SurfaceOperand.TheVariants as v
 use Rattle.sf_ast.specs.declared.word.Word.{Word}
 use Rattle.sf_lex.specs.declared.token.Kind.{Kind}
 use Rattle.sf_lex.specs.declared.token.Kind.TheVariants as t
@@ -10,20 +14,15 @@ use Rattle.sf_lex.specs.declared.token.Token.{Token}
 
 -- a token, with what a tree keeps of it
 pub data Leaf : Type 0 where
-  Name : Word → Leaf
-  Existential : Word → Leaf
-  Number : ℤ → Place → Leaf
-  Null : Place → Leaf
+  Operand : SurfaceOperand → Leaf
   Dispose : Place → Leaf
   Else : Leaf
   Emp : Place → Leaf
   If : Place → Leaf
   List : Place → Leaf
   Local : Leaf
-  Ls : Place → Leaf
-  Lseg : Place → Leaf
+  Ls : Place → (long : Bool) → Leaf
   New : Leaf
-  Nil : Place → Leaf
   Resource : Place → Leaf
   Then : Leaf
   Tree : Place → Leaf
@@ -48,22 +47,29 @@ pub data Leaf : Type 0 where
   PointsTo : Leaf
   Bars : Leaf
 
+-- the leaf of an expression, and of a name
+abbrev pub Expr : SurfaceExpr → Leaf
+Expr x = Operand (v.Known x)
+
+abbrev pub Name : Word → Leaf
+Name w = Expr (e.Name w)
+
 -- the leaf of a token of that kind that writes that number and has that text
 abbrev pub leaf_of : Kind → ℤ → Word → Leaf
 leaf_of t.Name n w = Name w
-leaf_of t.Existential n w = Existential w
-leaf_of t.Number n w = Number n w.place
-leaf_of t.Null n w = Null w.place
+leaf_of t.Existential n w = Operand (v.Existential w)
+leaf_of t.Number n w = Expr (e.Number n w.place)
+leaf_of t.Null n w = Expr (e.Null w.place)
 leaf_of t.Dispose n w = Dispose w.place
 leaf_of t.Else n w = Else
 leaf_of t.Emp n w = Emp w.place
 leaf_of t.If n w = If w.place
 leaf_of t.List n w = List w.place
 leaf_of t.Local n w = Local
-leaf_of t.Ls n w = Ls w.place
-leaf_of t.Lseg n w = Lseg w.place
+leaf_of t.Ls n w = Ls w.place false
+leaf_of t.Lseg n w = Ls w.place true
 leaf_of t.New n w = New
-leaf_of t.Nil n w = Nil w.place
+leaf_of t.Nil n w = Expr (e.Nil w.place)
 leaf_of t.Resource n w = Resource w.place
 leaf_of t.Then n w = Then
 leaf_of t.Tree n w = Tree w.place
@@ -90,20 +96,20 @@ leaf_of t.Bars n w = Bars
 
 -- the kind of its token
 abbrev pub kind : Leaf → Kind
-kind (Name w) = t.Name
-kind (Existential w) = t.Existential
-kind (Number n p) = t.Number
-kind (Null p) = t.Null
+kind (Operand (v.Known (e.Name w))) = t.Name
+kind (Operand (v.Known (e.Nil p))) = t.Nil
+kind (Operand (v.Known (e.Null p))) = t.Null
+kind (Operand (v.Known (e.Number n p))) = t.Number
+kind (Operand (v.Existential w)) = t.Existential
 kind (Dispose p) = t.Dispose
 kind Else = t.Else
 kind (Emp p) = t.Emp
 kind (If p) = t.If
 kind (List p) = t.List
 kind Local = t.Local
-kind (Ls p) = t.Ls
-kind (Lseg p) = t.Lseg
+kind (Ls p false) = t.Ls
+kind (Ls p true) = t.Lseg
 kind New = t.New
-kind (Nil p) = t.Nil
 kind (Resource p) = t.Resource
 kind Then = t.Then
 kind (Tree p) = t.Tree

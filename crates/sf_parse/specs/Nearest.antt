@@ -21,16 +21,14 @@ Follows _ r = Unit {0}
 
 -- a conjunct that reaches as far to the right as it can has no other one after it
 abbrev pub IsClosed : s.Conjunct → Type 0
-IsClosed (s.choose p b x y) = ⊥
-IsClosed (s.choose_round p b x y) = ⊥
+IsClosed (s.choose p round b x y) = ⊥
 IsClosed _ = Unit {0}
 
 abbrev mutual
   -- a conjunct whose assertions are read so
   pub ConjunctNearest : s.Conjunct → Type 0
   ConjunctNearest (s.group a) = AssertionNearest a
-  ConjunctNearest (s.choose p b x y) = AssertionNearest x × AssertionNearest y
-  ConjunctNearest (s.choose_round p b x y) = AssertionNearest x × AssertionNearest y
+  ConjunctNearest (s.choose p round b x y) = AssertionNearest x × AssertionNearest y
   ConjunctNearest _ = Unit {0}
 
   -- an assertion: an `if` in it is the last conjunct, since what comes after would belong to its branch

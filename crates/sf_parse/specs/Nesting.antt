@@ -20,8 +20,7 @@ abbrev mutual
   -- the assertions in a conjunct have at most d - 1 levels
   pub ConjunctWithin : s.Conjunct → (n d : ℕ) → List Leaf → Type 0
   ConjunctWithin (s.group a) n d r = AssertionWithin a n (d - 1) (k.CloseRound ∷ r)
-  ConjunctWithin (s.choose p b x y) n d r = AssertionWithin x n (d - 1) (k.Else ∷ assertion y r) × AssertionWithin y n (d - 1) r
-  ConjunctWithin (s.choose_round p b x y) n d r = AssertionWithin x n (d - 1) (k.Else ∷ assertion y r) × AssertionWithin y n (d - 1) r
+  ConjunctWithin (s.choose p round b x y) n d r = AssertionWithin x n (d - 1) (k.Else ∷ assertion y r) × AssertionWithin y n (d - 1) r
   ConjunctWithin _ n d r = Unit {0}
 
   -- an assertion has at most d levels, its own the first, where it begins with more than n tokens left

@@ -143,11 +143,17 @@ fn choice(
         let (test, rest) = operand_test(rest)?;
         let (_, rest) = expect(rest, Kind::CloseRound)?;
         let (then, otherwise, rest) = branches(alloc, depth, rest)?;
-        return Ok((SurfaceConjunct::IfRound(place, test, then, otherwise), rest));
+        return Ok((
+            SurfaceConjunct::If(place, true, test, then, otherwise),
+            rest,
+        ));
     }
     let (test, rest) = operand_test(tokens)?;
     let (then, otherwise, rest) = branches(alloc, depth, rest)?;
-    Ok((SurfaceConjunct::If(place, test, then, otherwise), rest))
+    Ok((
+        SurfaceConjunct::If(place, false, test, then, otherwise),
+        rest,
+    ))
 }
 
 /// The two branches after a test, each of at most that many levels.

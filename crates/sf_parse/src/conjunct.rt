@@ -96,11 +96,11 @@ pub fn predicate(tokens: &[Token]) -> Result<(SurfaceConjunct, &[Token]), Stop>
     }
     if let Some((place, rest)) = eat(tokens, Kind::Ls) {
         let (from, to, rest) = two_operands(rest)?;
-        return Ok((SurfaceConjunct::Ls(place, from, to), rest));
+        return Ok((SurfaceConjunct::Ls(place, false, from, to), rest));
     }
     if let Some((place, rest)) = eat(tokens, Kind::Lseg) {
         let (from, to, rest) = two_operands(rest)?;
-        return Ok((SurfaceConjunct::Lseg(place, from, to), rest));
+        return Ok((SurfaceConjunct::Ls(place, true, from, to), rest));
     }
     if let Some((place, rest)) = eat(tokens, Kind::List) {
         let (value, rest) = one_operand(rest)?;

@@ -172,9 +172,9 @@ pub fn disposed(place: Place, tokens: &[Token]) -> Result<(SurfaceCommand, &[Tok
         let (value, rest) = expression(rest)?;
         let (_, rest) = expect(rest, Kind::CloseRound)?;
         let (_, rest) = expect(rest, Kind::Semicolon)?;
-        return Ok((SurfaceCommand::DisposeRound(place, value), rest));
+        return Ok((SurfaceCommand::Dispose(place, true, value), rest));
     }
     let (value, rest) = expression(tokens)?;
     let (_, rest) = expect(rest, Kind::Semicolon)?;
-    Ok((SurfaceCommand::Dispose(place, value), rest))
+    Ok((SurfaceCommand::Dispose(place, false, value), rest))
 }

@@ -53,17 +53,7 @@ mutual
       → ConjunctsWithin fields V made (conjuncts (conjunct_of i l x))
   conjunct_within see made l m (s.emp p) r h = tt
   conjunct_within see made l m (s.group a) r h = conjuncts_within see made l m a r h
-  conjunct_within {i = i} see made l m (s.choose p t a b) r h =
-      let all = none_three (test_faults (operand_faults i) t) (assertion_faults i a) (assertion_faults i b) h in
-      let n : Levels = after_level i.bytes l a in (
-        (
-          operand_test_within see made l m t r all.0,
-          conjuncts_within see (made_by i.bytes l a ∷ made) (opened i.bytes l a) (level_made i.bytes l a made m) a (level_reached i.bytes l a) all.1,
-          conjuncts_within see (made_by i.bytes n b ∷ made) (opened i.bytes n b) (level_made i.bytes n b made m) b (level_reached i.bytes n b) all.2,
-        ),
-        tt,
-      )
-  conjunct_within {i = i} see made l m (s.choose_round p t a b) r h =
+  conjunct_within {i = i} see made l m (s.choose p k t a b) r h =
       let all = none_three (test_faults (operand_faults i) t) (assertion_faults i a) (assertion_faults i b) h in
       let n : Levels = after_level i.bytes l a in (
         (
@@ -83,11 +73,7 @@ mutual
       let both = none_both (operand_faults i x) (values_faults i [] fs) h in
       let words = reached_both i.bytes l.reach (words_in_operand x) (words_in_fields fs) r in
       ((operand_within see made l m x words.0 both.0, values_within see made l m [] fs words.1 both.1), tt)
-  conjunct_within {i = i} see made l m (s.ls p x y) r h =
-      let all = none_three (segment_faults i p) (operand_faults i x) (operand_faults i y) h in
-      let ends = both_operands see made l m x y r all.1 all.2 in
-      ((link_named see Next p all.0, ends.0, ends.1), tt)
-  conjunct_within {i = i} see made l m (s.lseg p x y) r h =
+  conjunct_within {i = i} see made l m (s.ls p k x y) r h =
       let all = none_three (segment_faults i p) (operand_faults i x) (operand_faults i y) h in
       let ends = both_operands see made l m x y r all.1 all.2 in
       ((link_named see Next p all.0, ends.0, ends.1), tt)

@@ -82,17 +82,8 @@ kept_by_all bytes r l (w ∷ ws) p = kept_by_all bytes r (meet bytes l w) ws (ke
 
 mutual
   same_reach_one : (bytes : List ℕ) (l : Levels) (d : surface.Conjunct) → Levels.reach (after_conjunct bytes l d) ≡ l.reach
-  same_reach_one bytes l (surface.emp p) = refl
   same_reach_one bytes l (surface.group a) = same_reach bytes l a
-  same_reach_one bytes l (surface.choose p t a b) = refl
-  same_reach_one bytes l (surface.choose_round p t a b) = refl
-  same_reach_one bytes l (surface.equal x y) = refl
-  same_reach_one bytes l (surface.differ x y) = refl
-  same_reach_one bytes l (surface.points x fs) = refl
-  same_reach_one bytes l (surface.ls p x y) = refl
-  same_reach_one bytes l (surface.lseg p x y) = refl
-  same_reach_one bytes l (surface.list p x) = refl
-  same_reach_one bytes l (surface.tree p x) = refl
+  same_reach_one bytes l _ = refl
 
   -- reading a level leaves what is in reach
   pub same_reach : (bytes : List ℕ) (l : Levels) (a : surface.Assertion) → Levels.reach (after bytes l a) ≡ l.reach

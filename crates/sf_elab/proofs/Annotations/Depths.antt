@@ -22,19 +22,10 @@ conjuncts_joined (x ∷ xs) ys = omega (arith, conjuncts_joined xs ys)
 
 mutual
   conjunct_no_deeper : (i : Env) (l : Levels) (x : s.Conjunct) → conjuncts_depth (conjuncts (conjunct_of i l x)) ≤ d.conjunct_depth x
-  conjunct_no_deeper i l (s.emp p) = omega arith
   conjunct_no_deeper i l (s.group a) = omega (arith, conjuncts_no_deeper i l a)
-  conjunct_no_deeper i l (s.choose p t a b) =
+  conjunct_no_deeper i l (s.choose p k t a b) =
       omega (arith, conjuncts_no_deeper i (opened i.bytes l a) a, conjuncts_no_deeper i (opened i.bytes (after_level i.bytes l a) b) b)
-  conjunct_no_deeper i l (s.choose_round p t a b) =
-      omega (arith, conjuncts_no_deeper i (opened i.bytes l a) a, conjuncts_no_deeper i (opened i.bytes (after_level i.bytes l a) b) b)
-  conjunct_no_deeper i l (s.equal x y) = omega arith
-  conjunct_no_deeper i l (s.differ x y) = omega arith
-  conjunct_no_deeper i l (s.points x fs) = omega arith
-  conjunct_no_deeper i l (s.ls p x y) = omega arith
-  conjunct_no_deeper i l (s.lseg p x y) = omega arith
-  conjunct_no_deeper i l (s.list p x) = omega arith
-  conjunct_no_deeper i l (s.tree p x) = omega arith
+  conjunct_no_deeper i l _ = omega arith
 
   conjuncts_no_deeper : (i : Env) (l : Levels) (a : s.Assertion) → suc (conjuncts_depth (conjuncts (conjuncts_of i l a))) ≤ d.assertion_depth a
   conjuncts_no_deeper i l (s.only x) = omega (arith, conjunct_no_deeper i l x)
@@ -50,19 +41,12 @@ block_joined (x ∷ xs) ys = omega (arith, block_joined xs ys)
 
 mutual
   command_no_deeper : (i : Env) (x : s.Command) → block_depth (block (command_of i x)) ≤ d.command_depth x
-  command_no_deeper i (s.assign x e) = omega arith
-  command_no_deeper i (s.look_up x e f) = omega arith
-  command_no_deeper i (s.new x) = omega arith
-  command_no_deeper i (s.mutate e f g) = omega arith
-  command_no_deeper i (s.dispose p e) = omega arith
-  command_no_deeper i (s.dispose_round p e) = omega arith
   command_no_deeper i (s.if_alone p t x) = omega (arith, command_no_deeper i x)
   command_no_deeper i (s.if p t x y) = omega (arith, command_no_deeper i x, command_no_deeper i y)
   command_no_deeper i (s.while p t n x) = omega (arith, command_no_deeper i x)
   command_no_deeper i (s.with p r t x) = omega (arith, command_no_deeper i x)
-  command_no_deeper i (s.call x) = omega arith
-  command_no_deeper i (s.fork x y) = omega arith
   command_no_deeper i (s.block p xs q) = omega (arith, commands_no_deeper i xs)
+  command_no_deeper i _ = omega arith
 
   pub commands_no_deeper : (i : Env) (xs : s.Commands) → block_depth (block (commands_of i xs)) ≤ d.commands_depth xs
   commands_no_deeper i s.done = omega arith

@@ -100,21 +100,11 @@ both_grown bytes l m a b e g h =
 
 mutual
   conjunct_grown : (bytes : List ℕ) (l : Levels) (d : s.Conjunct) → IsGrown l.names (Levels.names (after_conjunct bytes l d))
-  conjunct_grown bytes l (s.emp p) = same_names l.names
   conjunct_grown bytes l (s.group a) = after_grown bytes l a
-  conjunct_grown bytes l (s.choose p t a b) =
+  conjunct_grown bytes l (s.choose p k t a b) =
       let m : Levels = after_level bytes l a in
       both_grown bytes l m a b refl (after_grown bytes (opened bytes l a) a) (after_grown bytes (opened bytes m b) b)
-  conjunct_grown bytes l (s.choose_round p t a b) =
-      let m : Levels = after_level bytes l a in
-      both_grown bytes l m a b refl (after_grown bytes (opened bytes l a) a) (after_grown bytes (opened bytes m b) b)
-  conjunct_grown bytes l (s.equal x y) = same_names l.names
-  conjunct_grown bytes l (s.differ x y) = same_names l.names
-  conjunct_grown bytes l (s.points x fs) = same_names l.names
-  conjunct_grown bytes l (s.ls p x y) = same_names l.names
-  conjunct_grown bytes l (s.lseg p x y) = same_names l.names
-  conjunct_grown bytes l (s.list p x) = same_names l.names
-  conjunct_grown bytes l (s.tree p x) = same_names l.names
+  conjunct_grown bytes l _ = same_names l.names
 
   after_grown : (bytes : List ℕ) (l : Levels) (a : s.Assertion) → IsGrown l.names (Levels.names (after bytes l a))
   after_grown bytes l (s.only d) = conjunct_grown bytes l d

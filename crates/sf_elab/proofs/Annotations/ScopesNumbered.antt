@@ -58,19 +58,10 @@ scopes_joined (x ∷ xs) ys rest = ap (conjunct_scopes x) (scopes_joined xs ys r
 
 mutual
   counts_one : (i : Env) (l : Levels) (d : s.Conjunct) (rest : List Scope) (to : ℕ) → Counts (length (Levels.names (after_conjunct i.bytes l d))) rest to → Counts (length l.names) (conjuncts_scopes (conjuncts (conjunct_of i l d)) rest) to
-  counts_one i l (s.emp p) rest to h = h
   counts_one i l (s.group a) rest to h = counts_all i l a rest to h
-  counts_one i l (s.choose p t a b) rest to h =
+  counts_one i l (s.choose p k t a b) rest to h =
       level_counts i.bytes l a _ to (counts_all i (opened i.bytes l a) a _ to (level_counts i.bytes (after_level i.bytes l a) b _ to (counts_all i (opened i.bytes (after_level i.bytes l a) b) b rest to h)))
-  counts_one i l (s.choose_round p t a b) rest to h =
-      level_counts i.bytes l a _ to (counts_all i (opened i.bytes l a) a _ to (level_counts i.bytes (after_level i.bytes l a) b _ to (counts_all i (opened i.bytes (after_level i.bytes l a) b) b rest to h)))
-  counts_one i l (s.equal x y) rest to h = h
-  counts_one i l (s.differ x y) rest to h = h
-  counts_one i l (s.points x fs) rest to h = h
-  counts_one i l (s.ls p x y) rest to h = h
-  counts_one i l (s.lseg p x y) rest to h = h
-  counts_one i l (s.list p x) rest to h = h
-  counts_one i l (s.tree p x) rest to h = h
+  counts_one i l _ rest to h = h
 
   counts_all : (i : Env) (l : Levels) (a : s.Assertion) (rest : List Scope) (to : ℕ) → Counts (length (Levels.names (after i.bytes l a))) rest to → Counts (length l.names) (conjuncts_scopes (conjuncts (conjuncts_of i l a)) rest) to
   counts_all i l (s.only d) rest to h = counts_one i l d rest to h

@@ -124,8 +124,7 @@ mutual
   command_within {p} {f} {i} see (s.mutate e g x) m h k =
       let all = none_three (expr_faults i e) (field_faults i g) (expr_faults i x) h in
       ((expr_within see.names e all.0, field_within see.names g all.1, expr_within see.names x all.2), tt)
-  command_within see (s.dispose q e) m h k = (expr_within see.names e h, tt)
-  command_within see (s.dispose_round q e) m h k = (expr_within see.names e h, tt)
+  command_within see (s.dispose q b e) m h k = (expr_within see.names e h, tt)
   command_within {p} {f} {i} see (s.if_alone q t x) m h k =
       let both = none_both (test_faults (expr_faults i) t) (command_faults i x) h in
       ((condition_within see t both.0, command_within see x m both.1 k, tt), tt)

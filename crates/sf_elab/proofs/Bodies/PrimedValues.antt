@@ -7,7 +7,7 @@ use Rattle.std.specs.Str.{bytes_eq}
 use Rattle.sf_base.proofs.Elements.{contains-nil, contains-single, contains-single_of}
 use Rattle.sf_base.proofs.Sums.{either}
 use Rattle.sf_ast.specs.declared.word.Word.{Word}
-use Rattle.sf_ast.specs.Surface.{Command, assign, look_up, new, mutate, dispose, dispose_round, if_alone, if, while, with, call, fork, block, Commands, done, then, Procedure}
+use Rattle.sf_ast.specs.Surface.{Command, assign, look_up, new, mutate, dispose, if_alone, if, while, with, call, fork, block, Commands, done, then, Procedure}
 use Rattle.sf_elab.specs.Bodies.Commands.{references_in, set_in, set_in_all}
 use Rattle.sf_elab.specs.Laws.{IsPartOf, IsPartOfAll, PrimedValuesAreSet, Sets}
 use Rattle.sf_elab.specs.Bodies.Procedures.{is_primed}
@@ -20,8 +20,7 @@ mutual
   setter (look_up x e f) w h = (look_up x e f, refl, contains-single x w h)
   setter (new x) w h = (new x, refl, contains-single x w h)
   setter (mutate e f v) w h = absurd (contains-nil w h)
-  setter (dispose p e) w h = absurd (contains-nil w h)
-  setter (dispose_round p e) w h = absurd (contains-nil w h)
+  setter (dispose p k e) w h = absurd (contains-nil w h)
   setter (if_alone p t c) w h = let part = setter c w h in (part.0, inr part.1, part.2)
   setter (if p t c b) w h =
       either (Contains-append_cases (set_in c) (set_in b) w h)
@@ -49,8 +48,7 @@ mutual
   collected (look_up x e f) w d i s = contains-single_of x w (subst (λ z. Sets z w) i s)
   collected (new x) w d i s = contains-single_of x w (subst (λ z. Sets z w) i s)
   collected (mutate e f v) w d i s = absurd (subst (λ z. Sets z w) i s)
-  collected (dispose p e) w d i s = absurd (subst (λ z. Sets z w) i s)
-  collected (dispose_round p e) w d i s = absurd (subst (λ z. Sets z w) i s)
+  collected (dispose p k e) w d i s = absurd (subst (λ z. Sets z w) i s)
   collected (if_alone p t c) w d (inl i) s = absurd (subst (λ z. Sets z w) i s)
   collected (if_alone p t c) w d (inr i) s = collected c w d i s
   collected (if p t c b) w d (inl i) s = absurd (subst (λ z. Sets z w) i s)

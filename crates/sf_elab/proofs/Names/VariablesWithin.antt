@@ -50,9 +50,7 @@ occurrence_within {fields} {V} {i} see w h =
 
 pub expr_within : {fields : List (List ℕ)} {V : Var → Type 0} {i : Env} → Sees fields V i → (x : SurfaceExpr) → expr_faults i x ≡ [] → ExprWithin V (expr_of i x)
 expr_within see (e.Name w) h = occurrence_within see w h
-expr_within see (e.Nil p) h = tt
-expr_within see (e.Null p) h = tt
-expr_within see (e.Number n p) h = tt
+expr_within see _ h = tt
 
 pub test_within : {E F : Type 0} (P : F → Type 0) (side : E → F) (faults : E → List Fault) → ((x : E) → faults x ≡ [] → P (side x)) → (t : SurfaceTest E) → test_faults faults t ≡ [] → TestWithin P (test_of side t)
 test_within P side faults one (t.True p) h = tt

@@ -8,7 +8,7 @@ use Rattle.sf_ast.specs.declared.assertion.SurfaceField.{SurfaceField}
 use Rattle.sf_ast.specs.declared.word.SurfaceOperand.{SurfaceOperand}
 use Rattle.sf_ast.specs.declared.word.SurfaceOperand.TheVariants as o
 use Rattle.sf_ast.specs.declared.word.SurfaceTest.{SurfaceTest}
-use Rattle.sf_ast.specs.Surface.{Conjunct, emp, group, choose, choose_round, equal, differ, points, ls, lseg, list, tree, Assertion, only, star, Note, blank, filled}
+use Rattle.sf_ast.specs.Surface.{Conjunct, emp, group, choose, equal, differ, points, ls, list, tree, Assertion, only, star, Note, blank, filled}
 use Rattle.sf_core.specs.declared.assertion.Operand.{Operand}
 use Rattle.sf_core.specs.declared.assertion.Operand.TheVariants.{Known, Exists}
 use Rattle.sf_core.specs.declared.assertion.Test.TheVariants.{Equal, Differ}
@@ -84,13 +84,11 @@ abbrev mutual
   pub conjunct_of : Env → Levels → Conjunct → List (c.Conjunct Expr)
   conjunct_of s l (emp p) = []
   conjunct_of s l (group a) = conjuncts_of s l a
-  conjunct_of s l (choose p t a b) = choice_of s l p t a b (conjuncts_of s (opened s.bytes l a) a) (conjuncts_of s (opened s.bytes (after_level s.bytes l a) b) b) ∷ []
-  conjunct_of s l (choose_round p t a b) = choice_of s l p t a b (conjuncts_of s (opened s.bytes l a) a) (conjuncts_of s (opened s.bytes (after_level s.bytes l a) b) b) ∷ []
+  conjunct_of s l (choose p k t a b) = choice_of s l p t a b (conjuncts_of s (opened s.bytes l a) a) (conjuncts_of s (opened s.bytes (after_level s.bytes l a) b) b) ∷ []
   conjunct_of s l (equal x y) = c.holds (operand_place x) (Equal (operand_of s l x) (operand_of s l y)) ∷ []
   conjunct_of s l (differ x y) = c.holds (operand_place x) (Differ (operand_of s l x) (operand_of s l y)) ∷ []
   conjunct_of s l (points x fs) = c.points (operand_place x) (operand_of s l x) (values_of s l fs) ∷ []
-  conjunct_of s l (ls p x y) = c.segment p (link_of s Next) (operand_of s l x) (operand_of s l y) ∷ []
-  conjunct_of s l (lseg p x y) = c.segment p (link_of s Next) (operand_of s l x) (operand_of s l y) ∷ []
+  conjunct_of s l (ls p k x y) = c.segment p (link_of s Next) (operand_of s l x) (operand_of s l y) ∷ []
   conjunct_of s l (list p x) = c.segment p (link_of s Next) (operand_of s l x) (Known Nil) ∷ []
   conjunct_of s l (tree p x) = c.tree p (link_of s Left) (link_of s Right) (operand_of s l x) ∷ []
 
@@ -109,13 +107,11 @@ abbrev mutual
   pub conjunct_faults : Env → Conjunct → List Fault
   conjunct_faults s (emp p) = []
   conjunct_faults s (group a) = assertion_faults s a
-  conjunct_faults s (choose p t a b) = test_faults (operand_faults s) t ++ assertion_faults s a ++ assertion_faults s b
-  conjunct_faults s (choose_round p t a b) = test_faults (operand_faults s) t ++ assertion_faults s a ++ assertion_faults s b
+  conjunct_faults s (choose p k t a b) = test_faults (operand_faults s) t ++ assertion_faults s a ++ assertion_faults s b
   conjunct_faults s (equal x y) = operand_faults s x ++ operand_faults s y
   conjunct_faults s (differ x y) = operand_faults s x ++ operand_faults s y
   conjunct_faults s (points x fs) = operand_faults s x ++ values_faults s [] fs
-  conjunct_faults s (ls p x y) = segment_faults s p ++ operand_faults s x ++ operand_faults s y
-  conjunct_faults s (lseg p x y) = segment_faults s p ++ operand_faults s x ++ operand_faults s y
+  conjunct_faults s (ls p k x y) = segment_faults s p ++ operand_faults s x ++ operand_faults s y
   conjunct_faults s (list p x) = segment_faults s p ++ operand_faults s x
   conjunct_faults s (tree p x) = tree_faults s p ++ operand_faults s x
 

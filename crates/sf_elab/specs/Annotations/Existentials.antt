@@ -8,7 +8,7 @@ use Rattle.sf_ast.specs.declared.word.SurfaceOperand.TheVariants as o
 use Rattle.sf_ast.specs.declared.word.SurfaceTest.{SurfaceTest}
 use Rattle.sf_ast.specs.declared.word.SurfaceTest.TheVariants as t
 use Rattle.sf_ast.specs.declared.word.Word.{Word}
-use Rattle.sf_ast.specs.Surface.{Conjunct, emp, group, choose, choose_round, equal, differ, points, ls, lseg, list, tree, Assertion, only, star}
+use Rattle.sf_ast.specs.Surface.{Conjunct, emp, group, choose, equal, differ, points, ls, list, tree, Assertion, only, star}
 use Rattle.sf_core.specs.declared.assertion.Scope.{Scope}
 use Rattle.sf_elab.specs.declared.levels.Levels.{Levels}
 use Rattle.sf_elab.specs.Names.Table.{has}
@@ -36,13 +36,11 @@ abbrev mutual
   pub words_in_conjunct : Conjunct → List Word
   words_in_conjunct (emp p) = []
   words_in_conjunct (group a) = words_in a
-  words_in_conjunct (choose p t a b) = words_in_test t
-  words_in_conjunct (choose_round p t a b) = words_in_test t
+  words_in_conjunct (choose p k t a b) = words_in_test t
   words_in_conjunct (equal x y) = words_in_operand x ++ words_in_operand y
   words_in_conjunct (differ x y) = words_in_operand x ++ words_in_operand y
   words_in_conjunct (points x fs) = words_in_operand x ++ words_in_fields fs
-  words_in_conjunct (ls p x y) = words_in_operand x ++ words_in_operand y
-  words_in_conjunct (lseg p x y) = words_in_operand x ++ words_in_operand y
+  words_in_conjunct (ls p k x y) = words_in_operand x ++ words_in_operand y
   words_in_conjunct (list p x) = words_in_operand x
   words_in_conjunct (tree p x) = words_in_operand x
 
@@ -82,21 +80,11 @@ made_by bytes l a = record { first = length l.names; count = length (opened byte
 abbrev mutual
   -- a choice leaves the numbers of its branches taken, and nothing of them in reach
   pub after_conjunct : List ℕ → Levels → Conjunct → Levels
-  after_conjunct bytes l (emp p) = l
   after_conjunct bytes l (group a) = after bytes l a
-  after_conjunct bytes l (choose p t a b) =
+  after_conjunct bytes l (choose p k t a b) =
       let m = closed l (after bytes (opened bytes l a) a) in
       closed m (after bytes (opened bytes m b) b)
-  after_conjunct bytes l (choose_round p t a b) =
-      let m = closed l (after bytes (opened bytes l a) a) in
-      closed m (after bytes (opened bytes m b) b)
-  after_conjunct bytes l (equal x y) = l
-  after_conjunct bytes l (differ x y) = l
-  after_conjunct bytes l (points x fs) = l
-  after_conjunct bytes l (ls p x y) = l
-  after_conjunct bytes l (lseg p x y) = l
-  after_conjunct bytes l (list p x) = l
-  after_conjunct bytes l (tree p x) = l
+  after_conjunct bytes l _ = l
 
   -- one conjunct after the other
   pub after : List ℕ → Levels → Assertion → Levels

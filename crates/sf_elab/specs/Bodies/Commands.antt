@@ -4,7 +4,7 @@
 use Rattle.std.specs.Prelude.{◌==◌, ◌&&◌, Bool, not, cond, List, [], ◌∷◌, ◌++◌, map, length}
 use Rattle.sf_ast.specs.declared.word.SurfaceExpr.{SurfaceExpr}
 use Rattle.sf_ast.specs.declared.word.Word.{Word}
-use Rattle.sf_ast.specs.Surface.{Arguments, values, both, Call, Command, assign, look_up, new, mutate, dispose, dispose_round, if_alone, if, while, with, call, fork, block, Commands, done, then}
+use Rattle.sf_ast.specs.Surface.{Arguments, values, both, Call, Command, assign, look_up, new, mutate, dispose, if_alone, if, while, with, call, fork, block, Commands, done, then}
 use Rattle.sf_core.specs.Program.Syntax as c
 use Rattle.sf_core.specs.Program.View as v
 use Rattle.sf_elab.specs.declared.fault.Fault.{Fault}
@@ -60,8 +60,7 @@ abbrev mutual
   command_of s (look_up x e f) = c.look_up x.place (occurrence s x) (expr_of s e) (field_of s f) ∷ []
   command_of s (new x) = c.new x.place (occurrence s x) ∷ []
   command_of s (mutate e f d) = c.mutate (expr_place e) (expr_of s e) (field_of s f) (expr_of s d) ∷ []
-  command_of s (dispose p e) = c.dispose p (expr_of s e) ∷ []
-  command_of s (dispose_round p e) = c.dispose p (expr_of s e) ∷ []
+  command_of s (dispose p k e) = c.dispose p (expr_of s e) ∷ []
   command_of s (if_alone p t d) = c.if p (test_of (expr_of s) t) (v.block (command_of s d)) c.done ∷ []
   command_of s (if p t d b) = c.if p (test_of (expr_of s) t) (v.block (command_of s d)) (v.block (command_of s b)) ∷ []
   command_of s (while p t n d) = c.while p (test_of (expr_of s) t) (maybe_of s n) (v.block (command_of s d)) ∷ []
@@ -83,8 +82,7 @@ abbrev mutual
   command_faults s (look_up x e f) = variable_faults s x ++ expr_faults s e ++ field_faults s f
   command_faults s (new x) = variable_faults s x
   command_faults s (mutate e f d) = expr_faults s e ++ field_faults s f ++ expr_faults s d
-  command_faults s (dispose p e) = expr_faults s e
-  command_faults s (dispose_round p e) = expr_faults s e
+  command_faults s (dispose p k e) = expr_faults s e
   command_faults s (if_alone p t d) = test_faults (expr_faults s) t ++ command_faults s d
   command_faults s (if p t d b) = test_faults (expr_faults s) t ++ command_faults s d ++ command_faults s b
   command_faults s (while p t n d) = test_faults (expr_faults s) t ++ maybe_faults s n ++ command_faults s d
@@ -105,9 +103,6 @@ abbrev mutual
   set_in (assign x e) = x ∷ []
   set_in (look_up x e f) = x ∷ []
   set_in (new x) = x ∷ []
-  set_in (mutate e f d) = []
-  set_in (dispose p e) = []
-  set_in (dispose_round p e) = []
   set_in (if_alone p t d) = set_in d
   set_in (if p t d b) = set_in d ++ set_in b
   set_in (while p t n d) = set_in d
@@ -115,6 +110,7 @@ abbrev mutual
   set_in (call d) = references_in d.arguments
   set_in (fork d b) = references_in d.arguments ++ references_in b.arguments
   set_in (block p ds q) = set_in_all ds
+  set_in _ = []
 
   -- in each of several
   pub set_in_all : Commands → List Word

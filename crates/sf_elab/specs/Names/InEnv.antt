@@ -64,9 +64,7 @@ expr_of s (e.Number n p) = Int n
 -- what is wrong with it
 abbrev pub expr_faults : Env → SurfaceExpr → List Fault
 expr_faults s (e.Name w) = variable_faults s w
-expr_faults s (e.Nil p) = []
-expr_faults s (e.Null p) = []
-expr_faults s (e.Number n p) = []
+expr_faults s _ = []
 
 -- where its first token is
 abbrev pub expr_place : SurfaceExpr → Place

@@ -1,5 +1,5 @@
 -- What spells a command or an item is longer than what comes after it.
-use Rattle.std.proofs.Common.{◌≡◌, ◌≤◌, ◌<◌, List, [], ◌∷◌, length, Option, Some, None, arith}
+use Rattle.std.proofs.Common.{◌≡◌, ◌≤◌, ◌<◌, List, [], ◌∷◌, length, Option, Some, None, true, false, arith}
 use Rattle.sf_ast.specs.declared.word.SurfaceExpr.{SurfaceExpr}
 use Rattle.sf_ast.specs.declared.word.Word.{Word}
 use Rattle.sf_ast.specs.Surface as s
@@ -43,12 +43,8 @@ maybe_annotation_longer (Some x) r = omega (arith, annotation_longer x r)
 
 mutual
   pub command_longer : (c : s.Command) (r : List Leaf) → length r < length (g.command c r)
-  command_longer (s.assign x a) r = omega arith
-  command_longer (s.look_up x a f) r = omega arith
-  command_longer (s.new x) r = omega arith
-  command_longer (s.mutate a f b) r = omega arith
-  command_longer (s.dispose p a) r = omega arith
-  command_longer (s.dispose_round p a) r = omega arith
+  command_longer (s.dispose p true a) r = omega arith
+  command_longer (s.dispose p false a) r = omega arith
   command_longer (s.if_alone p b c) r = omega (arith, test_longer g.expr b (k.CloseRound ∷ g.command c r), command_longer c r)
   command_longer (s.if p b c d) r = omega (arith, test_longer g.expr b (k.CloseRound ∷ g.command c (k.Else ∷ g.command d r)), command_longer c (k.Else ∷ g.command d r), command_longer d r)
   command_longer (s.while p b n c) r = omega (arith, test_longer g.expr b (k.CloseRound ∷ g.maybe_annotation n (g.command c r)), maybe_annotation_longer n (g.command c r), command_longer c r)
@@ -56,6 +52,7 @@ mutual
   command_longer (s.call c) r = omega (arith, call_longer c (k.Semicolon ∷ r))
   command_longer (s.fork c d) r = omega (arith, call_longer c (k.Bars ∷ g.call d (k.Semicolon ∷ r)), call_longer d (k.Semicolon ∷ r))
   command_longer (s.block p cs o) r = omega (arith, commands_longer cs (k.CloseBrace o ∷ r))
+  command_longer _ r = omega arith
 
   pub commands_longer : (cs : s.Commands) (r : List Leaf) → length r ≤ length (g.commands cs r)
   commands_longer s.done r = omega arith

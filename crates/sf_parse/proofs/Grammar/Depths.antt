@@ -12,7 +12,7 @@ use Rattle.sf_parse.specs.Leaf as k
 use Rattle.sf_parse.specs.Grammar as g
 use Rattle.sf_parse.specs.Nesting.{HasLevel, ConjunctWithin, AssertionWithin, RestWithin, NoteWithin, MaybeWithin, CommandWithin, CommandsWithin, ItemWithin, ItemsWithin}
 use Rattle.sf_parse.proofs.Grammar.CommandsLonger.{command_longer, commands_longer, maybe_names_longer, maybe_annotation_longer, locals_longer, parameters_longer, item_longer}
-use Rattle.sf_parse.proofs.Grammar.Longer.{test_longer, conjunct_longer, assertion_longer}
+use Rattle.sf_parse.proofs.Grammar.Longer.{test_longer, if_test_longer, conjunct_longer, assertion_longer}
 use Rattle.sf_parse.proofs.Machine.HasLevel.{level_in, some_level}
 
 -- so many tokens are free of the limit, or it is no deeper than d
@@ -35,13 +35,8 @@ behind_star c a n d r h = part _ d (assertion_depth a) h (omega (arith, conjunct
 mutual
   conjunct_fits : (c : s.Conjunct) (n d : ℕ) (r : List Leaf) → Fits n (length (g.conjunct c r)) (d - 1) (conjunct_depth c) → ConjunctWithin c n d r
   conjunct_fits (s.group a) n d r h = assertion_fits a n (d - 1) (k.CloseRound ∷ r) (part _ (d - 1) (assertion_depth a) h (omega arith) (λ e. e))
-  conjunct_fits (s.choose p b x y) n d r h =
-      let test = test_longer g.operand b (k.Then ∷ g.assertion x (k.Else ∷ g.assertion y r)) in (
-        assertion_fits x n (d - 1) (k.Else ∷ g.assertion y r) (part _ (d - 1) (assertion_depth x) h (omega (arith, test)) (λ e. max-left _ (assertion_depth y) (d - 1) e)),
-        assertion_fits y n (d - 1) r (part _ (d - 1) (assertion_depth y) h (omega (arith, test, assertion_longer x (k.Else ∷ g.assertion y r))) (λ e. max-right (assertion_depth x) _ (d - 1) e)),
-      )
-  conjunct_fits (s.choose_round p b x y) n d r h =
-      let test = test_longer g.operand b (k.CloseRound ∷ k.Then ∷ g.assertion x (k.Else ∷ g.assertion y r)) in (
+  conjunct_fits (s.choose p round b x y) n d r h =
+      let test = if_test_longer round b (k.Then ∷ g.assertion x (k.Else ∷ g.assertion y r)) in (
         assertion_fits x n (d - 1) (k.Else ∷ g.assertion y r) (part _ (d - 1) (assertion_depth x) h (omega (arith, test)) (λ e. max-left _ (assertion_depth y) (d - 1) e)),
         assertion_fits y n (d - 1) r (part _ (d - 1) (assertion_depth y) h (omega (arith, test, assertion_longer x (k.Else ∷ g.assertion y r))) (λ e. max-right (assertion_depth x) _ (d - 1) e)),
       )
@@ -159,8 +154,7 @@ some_levels left (suc d) some h = omega arith
 mutual
   conjunct_shallow : (c : s.Conjunct) (d : ℕ) (r : List Leaf) → ConjunctWithin c 0 d r → conjunct_depth c ≤ d - 1
   conjunct_shallow (s.group a) d r w = assertion_shallow a (d - 1) (k.CloseRound ∷ r) w
-  conjunct_shallow (s.choose p b x y) d r w = max-le (assertion_shallow x (d - 1) (k.Else ∷ g.assertion y r) w.0) (assertion_shallow y (d - 1) r w.1)
-  conjunct_shallow (s.choose_round p b x y) d r w = max-le (assertion_shallow x (d - 1) (k.Else ∷ g.assertion y r) w.0) (assertion_shallow y (d - 1) r w.1)
+  conjunct_shallow (s.choose p round b x y) d r w = max-le (assertion_shallow x (d - 1) (k.Else ∷ g.assertion y r) w.0) (assertion_shallow y (d - 1) r w.1)
   conjunct_shallow _ d r w = omega arith
 
   assertion_shallow : (a : s.Assertion) (d : ℕ) (r : List Leaf) → AssertionWithin a 0 d r → assertion_depth a ≤ d

@@ -11,11 +11,11 @@ use Rattle.sf_parse.specs.Leaf as k
 use Rattle.sf_parse.specs.Grammar as g
 use Rattle.sf_parse.specs.Internal.Heads.{IsFlat}
 use Rattle.sf_parse.specs.Internal.Machine as m
-use Rattle.sf_parse.specs.Internal.Machine.{Predicted, Choice, take, skip, refuse, Next, goes, bad, deep, leveled, chosen, choice, is_free, step, or_skip, terminal_leaf, on_exact, on_expression, on_operand, on_conjunct, on_command}
+use Rattle.sf_parse.specs.Internal.Machine.{Predicted, Choice, take, skip, refuse, or_skip, terminal_leaf, on_exact, on_expression, on_operand, on_conjunct, on_command}
 use Rattle.sf_parse.specs.Nearest.{NotElse, Follows, ConjunctNearest, CommandNearest}
 use Rattle.sf_parse.specs.Nesting.{has_level, ConjunctWithin, AssertionWithin, MaybeWithin, CommandWithin, CommandsWithin}
 use Rattle.sf_parse.specs.Internal.Parser.{Ends}
-use Rattle.sf_parse.proofs.Machine.Means.{Spells, Means, MeansNext}
+use Rattle.sf_parse.proofs.Machine.Means.{Spells, Means, MeansChosen}
 
 -- an expression's first token
 pub record ExprBack (n : ℕ) (u : Leaf) (ss st : List Predicted) (ts : List Leaf) : Type 0 where
@@ -23,11 +23,8 @@ pub record ExprBack (n : ℕ) (u : Leaf) (ss st : List Predicted) (ts : List Lea
   pub is : u ≡ g.expr expr
   pub more : Means n (ss ++ st) ts
 
-pub expr_back : (n : ℕ) (u : Leaf) (ss st : List Predicted) (w : Next) (ts : List Leaf) → MeansNext n (chosen (on_expression u ss) true st w) ts → ExprBack n u ss st ts
-expr_back n (k.Name x) ss st w ts m = record { expr = e.Name x; is = refl; more = m }
-expr_back n (k.Nil p) ss st w ts m = record { expr = e.Nil p; is = refl; more = m }
-expr_back n (k.Null p) ss st w ts m = record { expr = e.Null p; is = refl; more = m }
-expr_back n (k.Number i p) ss st w ts m = record { expr = e.Number i p; is = refl; more = m }
+pub expr_back : (n : ℕ) (u : Leaf) (ss st : List Predicted) (w : Type 0) (ts : List Leaf) → MeansChosen n (on_expression u ss) true st w ts → ExprBack n u ss st ts
+expr_back n (k.Operand (v.Known x)) ss st w ts m = record { expr = x; is = refl; more = m }
 expr_back n _ ss st w ts m = absurd m
 
 pub record OperandBack (n : ℕ) (u : Leaf) (ss st : List Predicted) (ts : List Leaf) : Type 0 where
@@ -35,15 +32,12 @@ pub record OperandBack (n : ℕ) (u : Leaf) (ss st : List Predicted) (ts : List 
   pub is : u ≡ g.operand expr
   pub more : Means n (ss ++ st) ts
 
-known_back : (n : ℕ) (u : Leaf) (ss st : List Predicted) (ts : List Leaf) → ExprBack n u ss st ts → OperandBack n u ss st ts
-known_back n u ss st ts m = record { expr = v.Known m.expr; is = m.is; more = m.more }
-
-pub operand_back : (n : ℕ) (u : Leaf) (ss st : List Predicted) (w : Next) (ts : List Leaf) → MeansNext n (chosen (on_operand u ss) true st w) ts → OperandBack n u ss st ts
-operand_back n (k.Existential x) ss st w ts m = record { expr = v.Existential x; is = refl; more = m }
-operand_back n u ss st w ts m = known_back n u ss st ts (expr_back n u ss st w ts m)
+pub operand_back : (n : ℕ) (u : Leaf) (ss st : List Predicted) (w : Type 0) (ts : List Leaf) → MeansChosen n (on_operand u ss) true st w ts → OperandBack n u ss st ts
+operand_back n (k.Operand x) ss st w ts m = record { expr = x; is = refl; more = m }
+operand_back n _ ss st w ts m = absurd m
 
 -- what may be left out is there, with a level, or is left out
-pub or_skip_back : (n : ℕ) (c : Choice) (f : Bool) (st : List Predicted) (w : Next) (ts : List Leaf) → MeansNext n (chosen (or_skip c) f st w) ts → ((f ≡ true) × MeansNext n (chosen c true st w) ts) ⊎ MeansNext n w ts
+pub or_skip_back : (n : ℕ) (c : Choice) (f : Bool) (st : List Predicted) (w : Type 0) (ts : List Leaf) → MeansChosen n (or_skip c) f st w ts → ((f ≡ true) × MeansChosen n c true st w ts) ⊎ w
 or_skip_back n (take ss) true st w ts m = inl (refl, m)
 or_skip_back n (take ss) false st w ts m = absurd m
 or_skip_back n skip f st w ts m = inr m
@@ -55,14 +49,14 @@ Accepts (take ss) = Unit {0}
 Accepts skip = ⊥
 Accepts refuse = Unit {0}
 
-pub accepts_back : (n : ℕ) (c : Choice) (f : Bool) (st : List Predicted) (w : Next) (ts : List Leaf) → Accepts c → MeansNext n (chosen c f st w) ts → (f ≡ true) × MeansNext n (chosen c true st w) ts
+pub accepts_back : (n : ℕ) (c : Choice) (f : Bool) (st : List Predicted) (w : Type 0) (ts : List Leaf) → Accepts c → MeansChosen n c f st w ts → (f ≡ true) × MeansChosen n c true st w ts
 accepts_back n (take ss) true st w ts h m = (refl, m)
 accepts_back n (take ss) false st w ts h m = absurd m
 accepts_back n skip f st w ts h m = absurd h
 accepts_back n refuse f st w ts h m = absurd m
 
 pub command_accepts : (d : ℕ) (u : Leaf) (ss : List Predicted) → Accepts (on_command d u ss)
-command_accepts d (k.Name _) ss = tt
+command_accepts d (k.Operand (v.Known (e.Name _))) ss = tt
 command_accepts d _ ss = tt
 
 pub conjunct_accepts : (d : ℕ) (u : Leaf) (ss : List Predicted) → Accepts (on_conjunct d u ss)
@@ -93,43 +87,24 @@ group_back n d ss st ts (r1, a, (r2, c, more)) =
     record { conjunct = s.group a.0; rest = r2; spells = is; within = subst (λ z. AssertionWithin a.0 n (d - 1) z) c.1 a.2; nearest = a.4; ends = tt; more = more }
 
 choose_back : (n d : ℕ) (p : Place) (ss st : List Predicted) (ts : List Leaf) → Means n (m.if_test ∷ m.exact m.then_word ∷ m.assertion (d - 1) ∷ m.exact m.else_word ∷ m.assertion (d - 1) ∷ (ss ++ st)) ts → ConjunctBack n d (k.If p) ss st ts
-choose_back n d p ss st ts (r1, b, (r2, c, (r3, x, (r4, q, (r5, y, more))))) = test_cases b
-  where
-    tail : r2 ≡ g.assertion x.0 (k.Else ∷ g.assertion y.0 r5)
-    tail = x.1 ∙ ap (λ z. g.assertion x.0 z) (q.1 ∙ ap (λ z. k.Else ∷ z) y.1)
-
-    whole : r1 ≡ k.Then ∷ g.assertion x.0 (k.Else ∷ g.assertion y.0 r5)
-    whole = c.1 ∙ ap (λ z. k.Then ∷ z) tail
-
-    first : AssertionWithin x.0 n (d - 1) (k.Else ∷ g.assertion y.0 r5)
-    first = subst (λ z. AssertionWithin x.0 n (d - 1) z) (q.1 ∙ ap (λ z. k.Else ∷ z) y.1) x.2
-
-    test_cases : Spells n m.if_test ts r1 → ConjunctBack n d (k.If p) ss st ts
-    test_cases (inl h) = record {
-      conjunct = s.choose p h.0 x.0 y.0;
+choose_back n d p ss st ts (r1, b, (r2, c, (r3, x, (r4, q, (r5, y, more))))) =
+    let middle : r3 ≡ k.Else ∷ g.assertion y.0 r5 = q.1 ∙ ap (λ z. k.Else ∷ z) y.1 in
+    let whole : r1 ≡ k.Then ∷ g.assertion x.0 (k.Else ∷ g.assertion y.0 r5) = c.1 ∙ ap (λ z. k.Then ∷ z) (x.1 ∙ ap (λ z. g.assertion x.0 z) middle) in
+    record {
+      conjunct = s.choose p b.0 b.1 x.0 y.0;
       rest = r5;
-      spells = ap (λ z. k.If p ∷ z) (h.1 ∙ ap (λ z. g.test g.operand h.0 z) whole);
-      within = (first, y.2);
-      nearest = (x.4, y.4);
-      ends = y.3;
-      more = more;
-    }
-    test_cases (inr h) = record {
-      conjunct = s.choose_round p h.0 x.0 y.0;
-      rest = r5;
-      spells = ap (λ z. k.If p ∷ z) (h.1 ∙ ap (λ z. k.OpenRound ∷ g.test g.operand h.0 (k.CloseRound ∷ z)) whole);
-      within = (first, y.2);
+      spells = ap (λ z. k.If p ∷ z) (b.2 ∙ ap (λ z. g.bracketed b.0 (g.test g.operand b.1) z) whole);
+      within = (subst (λ z. AssertionWithin x.0 n (d - 1) z) middle x.2, y.2);
       nearest = (x.4, y.4);
       ends = y.3;
       more = more;
     }
 
-pub conjunct_back : (n d : ℕ) (u : Leaf) (ss st : List Predicted) (w : Next) (ts : List Leaf) → MeansNext n (chosen (on_conjunct d u ss) true st w) ts → ConjunctBack n d u ss st ts
+pub conjunct_back : (n d : ℕ) (u : Leaf) (ss st : List Predicted) (w : Type 0) (ts : List Leaf) → MeansChosen n (on_conjunct d u ss) true st w ts → ConjunctBack n d u ss st ts
 conjunct_back n d (k.Emp p) ss st w ts q = record { conjunct = s.emp p; rest = ts; spells = refl; within = tt; nearest = tt; ends = tt; more = q }
 conjunct_back n d k.OpenRound ss st w ts q = group_back n d ss st ts q
 conjunct_back n d (k.If p) ss st w ts q = choose_back n d p ss st ts q
-conjunct_back n d (k.Ls p) ss st w ts (r1, a, (r2, x, (r3, b, (r4, y, (r5, c, more))))) = record { conjunct = s.ls p x.0 y.0; rest = r5; spells = cc; within = tt; nearest = tt; ends = tt; more = more }
-conjunct_back n d (k.Lseg p) ss st w ts (r1, a, (r2, x, (r3, b, (r4, y, (r5, c, more))))) = record { conjunct = s.lseg p x.0 y.0; rest = r5; spells = cc; within = tt; nearest = tt; ends = tt; more = more }
+conjunct_back n d (k.Ls p long) ss st w ts (r1, a, (r2, x, (r3, b, (r4, y, (r5, c, more))))) = record { conjunct = s.ls p long x.0 y.0; rest = r5; spells = cc; within = tt; nearest = tt; ends = tt; more = more }
 conjunct_back n d (k.List p) ss st w ts (r1, a, (r2, x, (r3, c, more))) = record { conjunct = s.list p x.0; rest = r3; spells = cc; within = tt; nearest = tt; ends = tt; more = more }
 conjunct_back n d (k.Tree p) ss st w ts (r1, a, (r2, x, (r3, c, more))) = record { conjunct = s.tree p x.0; rest = r3; spells = cc; within = tt; nearest = tt; ends = tt; more = more }
 conjunct_back n d u ss st w ts q =
@@ -190,15 +165,7 @@ follows_else (s.if_alone p b c) r q f = f
 follows_else (s.if p b c d) r q f = follows_else d r q f
 follows_else (s.while p b x c) r q f = follows_else c r q f
 follows_else (s.with p x b c) r q f = follows_else c r q f
-follows_else (s.assign x a) r q f = tt
-follows_else (s.look_up x a y) r q f = tt
-follows_else (s.new x) r q f = tt
-follows_else (s.mutate a x b) r q f = tt
-follows_else (s.dispose p a) r q f = tt
-follows_else (s.dispose_round p a) r q f = tt
-follows_else (s.call c) r q f = tt
-follows_else (s.fork c b) r q f = tt
-follows_else (s.block p cs o) r q f = tt
+follows_else _ r q f = tt
 
 if_back : (n d : ℕ) (p : Place) (ss st : List Predicted) (ts : List Leaf) → Means n (m.exact m.open_round ∷ m.test ∷ m.exact m.close_round ∷ m.command (d - 1) ∷ m.branch (d - 1) ∷ (ss ++ st)) ts → CommandBack n d (k.If p) ss st ts
 if_back n d p ss st ts (r1, a, (r2, b, (r3, q, (r4, c, (r5, x, more))))) = branch_cases x more
@@ -232,8 +199,7 @@ if_back n d p ss st ts (r1, a, (r2, b, (r3, q, (r4, c, (r5, x, more))))) = branc
 
 while_back : (n d : ℕ) (p : Place) (ss st : List Predicted) (ts : List Leaf) → Means n (m.exact m.open_round ∷ m.test ∷ m.exact m.close_round ∷ m.maybe_annotation ∷ m.command (d - 1) ∷ (ss ++ st)) ts → CommandBack n d (k.While p) ss st ts
 while_back n d p ss st ts (r1, a, (r2, b, (r3, q, (r4, x, (r5, c, more))))) =
-    let whole : k.While p ∷ ts ≡ g.command (s.while p b.0 x.0 c.0) r5 =
-    ap (λ y. k.While p ∷ y) (a.1 ∙ ap (λ y. k.OpenRound ∷ y) (b.1 ∙ ap (λ y. g.test g.expr b.0 y) (q.1 ∙ ap (λ y. k.CloseRound ∷ y) (x.1 ∙ ap (λ y. g.maybe_annotation x.0 y) c.1)))) in
+    let whole : k.While p ∷ ts ≡ g.command (s.while p b.0 x.0 c.0) r5 = cc in
     record {
       command = s.while p b.0 x.0 c.0;
       rest = r5;
@@ -246,8 +212,7 @@ while_back n d p ss st ts (r1, a, (r2, b, (r3, q, (r4, x, (r5, c, more))))) =
 
 with_back : (n d : ℕ) (p : Place) (ss st : List Predicted) (ts : List Leaf) → Means n (m.exact m.a_name ∷ m.exact m.when_word ∷ m.exact m.open_round ∷ m.test ∷ m.exact m.close_round ∷ m.command (d - 1) ∷ (ss ++ st)) ts → CommandBack n d (k.With p) ss st ts
 with_back n d p ss st ts (r0, o, (r1, a, (r2, b, (r3, t, (r4, q, (r5, c, more)))))) =
-    let whole : k.With p ∷ ts ≡ g.command (s.with p o.0 t.0 c.0) r5 =
-    ap (λ y. k.With p ∷ y) (o.1 ∙ ap (λ y. k.Name o.0 ∷ y) (a.1 ∙ ap (λ y. k.When ∷ y) (b.1 ∙ ap (λ y. k.OpenRound ∷ y) (t.1 ∙ ap (λ y. g.test g.expr t.0 y) (q.1 ∙ ap (λ y. k.CloseRound ∷ y) c.1))))) in
+    let whole : k.With p ∷ ts ≡ g.command (s.with p o.0 t.0 c.0) r5 = cc in
     record {
       command = s.with p o.0 t.0 c.0;
       rest = r5;
@@ -271,16 +236,12 @@ block_back n d p ss st ts (r1, c, (r2, q, more)) =
       more = more;
     }
 
-disposed_back : (n d : ℕ) (p : Place) (ss st : List Predicted) (ts r : List Leaf) → Spells n m.disposed ts r → Means n (ss ++ st) r → CommandBack n d (k.Dispose p) ss st ts
-disposed_back n d p ss st ts r (inl (x, h)) more = flat_back n d (k.Dispose p) ss st ts (s.dispose_round p x) r tt (ap (λ y. k.Dispose p ∷ y) h) more
-disposed_back n d p ss st ts r (inr (x, h)) more = flat_back n d (k.Dispose p) ss st ts (s.dispose p x) r tt (ap (λ y. k.Dispose p ∷ y) h) more
-
 mutate_back : (n d : ℕ) (u : Leaf) (ss st : List Predicted) (ts : List Leaf) (x : SurfaceExpr) → u ≡ g.expr x → Means n (m.exact m.an_arrow ∷ m.exact m.a_name ∷ m.exact m.equals ∷ m.expression ∷ m.exact m.semicolon ∷ (ss ++ st)) ts → CommandBack n d u ss st ts
 mutate_back n d u ss st ts x h (r1, a, (r2, b, (r3, c, (r4, y, (r5, q, more))))) = flat_back n d u ss st ts (s.mutate x b.0 y.0) r5 tt (cc) more
 
-pub command_back : (n d : ℕ) (u : Leaf) (ss st : List Predicted) (w : Next) (ts : List Leaf) → MeansNext n (chosen (on_command d u ss) true st w) ts → CommandBack n d u ss st ts
-command_back n d (k.Name x) ss st w ts (r, c, more) = flat_back n d (k.Name x) ss st ts (c x).0 r (c x).1 (c x).2 more
-command_back n d (k.Dispose p) ss st w ts (r, c, more) = disposed_back n d p ss st ts r c more
+pub command_back : (n d : ℕ) (u : Leaf) (ss st : List Predicted) (w : Type 0) (ts : List Leaf) → MeansChosen n (on_command d u ss) true st w ts → CommandBack n d u ss st ts
+command_back n d (k.Operand (v.Known (e.Name x))) ss st w ts (r, c, more) = flat_back n d (k.Name x) ss st ts (c x).0 r (c x).1 (c x).2 more
+command_back n d (k.Dispose p) ss st w ts (r, (b, x, is), more) = flat_back n d (k.Dispose p) ss st ts (s.dispose p b x) r tt (ap (λ y. k.Dispose p ∷ y) is) more
 command_back n d (k.If p) ss st w ts q = if_back n d p ss st ts q
 command_back n d (k.While p) ss st w ts q = while_back n d p ss st ts q
 command_back n d (k.With p) ss st w ts q = with_back n d p ss st ts q

@@ -1,6 +1,8 @@
 -- What the machine chooses at a token that may begin a conjunct or a command: it takes what is there where one begins, and else
 -- refuses, whatever is to come after it.
 use Rattle.std.proofs.Common.{◌≡◌, ◌-◌, ℕ, List, [], ◌∷◌, ◌++◌, Bool, true, false, refl, sym, ◌∙◌, append_assoc}
+use Rattle.sf_ast.specs.declared.word.SurfaceExpr.TheVariants as e
+use Rattle.sf_ast.specs.declared.word.SurfaceOperand.TheVariants as v
 use Rattle.sf_parse.specs.Leaf.{Leaf}
 use Rattle.sf_parse.specs.Leaf as k
 use Rattle.sf_parse.specs.Internal.Heads.{command_next, conjunct_next}
@@ -16,22 +18,15 @@ pub conjunct_decided : (d : ℕ) (t : Leaf) (r : List Leaf) → Decided (conjunc
 conjunct_decided d (k.Emp _) r = takes [] refl (λ ss. refl)
 conjunct_decided d k.OpenRound r = takes (m.assertion (d - 1) ∷ m.exact m.close_round ∷ []) refl (λ ss. refl)
 conjunct_decided d (k.If _) r = takes (m.choice_predicted (d - 1)) refl (λ ss. refl)
-conjunct_decided d (k.Ls _) r = takes m.pair_predicted refl (λ ss. refl)
-conjunct_decided d (k.Lseg _) r = takes m.pair_predicted refl (λ ss. refl)
+conjunct_decided d (k.Ls _ _) r = takes m.pair_predicted refl (λ ss. refl)
 conjunct_decided d (k.List _) r = takes (m.exact m.open_round ∷ m.operand ∷ m.exact m.close_round ∷ []) refl (λ ss. refl)
 conjunct_decided d (k.Tree _) r = takes (m.exact m.open_round ∷ m.operand ∷ m.exact m.close_round ∷ []) refl (λ ss. refl)
-conjunct_decided d (k.Name _) r = takes (m.relation ∷ []) refl (λ ss. refl)
-conjunct_decided d (k.Nil _) r = takes (m.relation ∷ []) refl (λ ss. refl)
-conjunct_decided d (k.Null _) r = takes (m.relation ∷ []) refl (λ ss. refl)
-conjunct_decided d (k.Number _ _) r = takes (m.relation ∷ []) refl (λ ss. refl)
-conjunct_decided d (k.Existential _) r = takes (m.relation ∷ []) refl (λ ss. refl)
+conjunct_decided d (k.Operand _) r = takes (m.relation ∷ []) refl (λ ss. refl)
 conjunct_decided d _ r = refuses refl (λ ss. refl)
 
 pub command_decided : (d : ℕ) (t : Leaf) (r : List Leaf) → Decided (command_next (t ∷ r)) (on_command d t)
-command_decided d (k.Name _) r = takes (m.named ∷ []) refl (λ ss. refl)
-command_decided d (k.Nil _) r = takes (m.exact m.an_arrow ∷ m.mutated_predicted) refl (λ ss. refl)
-command_decided d (k.Null _) r = takes (m.exact m.an_arrow ∷ m.mutated_predicted) refl (λ ss. refl)
-command_decided d (k.Number _ _) r = takes (m.exact m.an_arrow ∷ m.mutated_predicted) refl (λ ss. refl)
+command_decided d (k.Operand (v.Known (e.Name _))) r = takes (m.named ∷ []) refl (λ ss. refl)
+command_decided d (k.Operand (v.Known _)) r = takes (m.exact m.an_arrow ∷ m.mutated_predicted) refl (λ ss. refl)
 command_decided d (k.Dispose _) r = takes (m.disposed ∷ []) refl (λ ss. refl)
 command_decided d (k.If _) r = takes (m.if_predicted d) refl (λ ss. refl)
 command_decided d (k.While _) r = takes (m.while_predicted d) refl (λ ss. refl)

@@ -1,11 +1,12 @@
 -- Where the machine stops, the tokens before can go on, and with the next one they can't.
-use Rattle.std.proofs.Common.{◌≡◌, ◌≤◌, ◌<◌, ℕ, suc, List, [], ◌∷◌, ◌++◌, length, Bool, true, false, ◌⊎◌, inl, inr, refl, sym, subst, ◌∙◌, arith, length-append}
+use Rattle.std.proofs.Common.{◌≡◌, ◌≤◌, ◌<◌, ℕ, suc, List, [], ◌∷◌, ◌++◌, length, Bool, true, false, ◌⊎◌, inl, inr, sym, ap, ◌∙◌, arith, length-append}
 use Rattle.sf_parse.specs.Leaf.{Leaf}
-use Rattle.sf_parse.specs.Internal.Machine.{Predicted, Next, goes, bad, deep, step, Verdict, accepted, unexpected, too_deep, at_end, may_end, after, verdict}
+use Rattle.sf_parse.specs.Internal.Machine.{Predicted, levels_of, Verdict, accepted, unexpected, too_deep, at_end, may_end, verdict}
 use Rattle.sf_parse.proofs.Machine.Complete.{completion}
-use Rattle.sf_parse.proofs.Machine.Free.{step_goes, step_bad, step_deep_over, step_deep_in, step_free}
-use Rattle.sf_parse.proofs.Machine.Means.{Means, MeansNext}
-use Rattle.sf_parse.proofs.Machine.OwedBack.{step_back}
+use Rattle.sf_parse.proofs.Machine.HasLevel.{level_frees, level_over, level_in}
+use Rattle.sf_parse.proofs.Machine.Happens.{Happens, takes, exceeds, refuses, happens, on_takes, on_exceeds, on_refuses}
+use Rattle.sf_parse.proofs.Machine.Means.{Means}
+use Rattle.sf_parse.proofs.Machine.OwedBack.{step_back, next_means}
 
 -- what is wrong, with so many tokens left
 abbrev pub fault_of : Bool → ℕ → Verdict
@@ -30,12 +31,12 @@ fault_at _ _ i l e = absurd cc
 
 pub fault_le : (ts : List Leaf) (st : List Predicted) (b : Bool) (i : ℕ) → verdict 0 ts st ≡ fault_of b i → i ≤ length ts
 fault_le [] st b i e = let h = at_end_fault (may_end st) b i e in omega arith
-fault_le (t ∷ ts) st b i e = go (step 0 (suc (length ts)) st t) (fault_le ts) e
+fault_le (t ∷ ts) st b i e = go (happens 0 (suc (length ts)) st t) (fault_le ts)
   where
-    go : (x : Next) → ((st : List Predicted) (b : Bool) (i : ℕ) → verdict 0 ts st ≡ fault_of b i → i ≤ length ts) → after (λ s. verdict 0 ts s) (suc (length ts)) x ≡ fault_of b i → i ≤ suc (length ts)
-    go (goes st2) f h = let q = f st2 b i h in omega arith
-    go bad f h = let q = fault_at true b i (suc (length ts)) h in omega arith
-    go deep f h = let q = fault_at false b i (suc (length ts)) h in omega arith
+    go : Happens 0 (suc (length ts)) st t → ((st : List Predicted) (b : Bool) (i : ℕ) → verdict 0 ts st ≡ fault_of b i → i ≤ length ts) → i ≤ suc (length ts)
+    go (takes s st2 is h) more = let q = more st2 b i (sym (on_takes 0 ts st st2 t s is h) ∙ e) in omega arith
+    go (exceeds s st2 is h) more = let q = fault_at false b i (suc (length ts)) (sym (on_exceeds 0 ts st st2 t s is h) ∙ e) in omega arith
+    go (refuses is) more = let q = fault_at true b i (suc (length ts)) (sym (on_refuses 0 ts st t is) ∙ e) in omega arith
 
 -- some tokens complete this front
 abbrev pub GoesOn : List Predicted → List Leaf → Type 0
@@ -44,81 +45,63 @@ GoesOn st front = (other : List Leaf) × ((n : ℕ) → length other ≤ n → M
 long : (front back : List Leaf) → length back < suc (length (front ++ back))
 long front back = omega (arith, length-append front back)
 
-viable_step : (front back : List Leaf) (t : Leaf) (st : List Predicted) (b : Bool) (x : Next) → step 0 (suc (length (front ++ back))) st t ≡ x
-    → ((st2 : List Predicted) → verdict 0 (front ++ back) st2 ≡ fault_of b (length back) → GoesOn st2 front)
-    → after (λ s. verdict 0 (front ++ back) s) (suc (length (front ++ back))) x ≡ fault_of b (length back) → GoesOn st (t ∷ front)
-viable_step front back t st b (goes st2) is f e =
-    let q = f st2 e in (
-      q.0,
-      λ n h. step_back n st t (front ++ q.0) (
-          let a : step n (suc (length (front ++ q.0))) st t ≡ goes st2 = step_goes n (length (front ++ back)) (suc (length (front ++ q.0))) st st2 t is in
-          subst (λ (x : Next). MeansNext n x (front ++ q.0)) (sym a) (q.1 n h)),
-    )
-viable_step front back t st b bad is f e = absurd (not_fault true b (length back) (suc (length (front ++ back))) (long front back) e)
-viable_step front back t st b deep is f e = absurd (not_fault false b (length back) (suc (length (front ++ back))) (long front back) e)
-
 -- the front can go on
 pub viable : (front back : List Leaf) (st : List Predicted) (b : Bool) → verdict 0 (front ++ back) st ≡ fault_of b (length back) → GoesOn st front
 viable [] back st b e = let c = completion st in (c.tokens, λ n h. c.means n h)
-viable (t ∷ front) back st b e = viable_step front back t st b (step 0 (suc (length (front ++ back))) st t) refl (λ st2 h. viable front back st2 b h) e
+viable (t ∷ front) back st b e = go (happens 0 (suc (length (front ++ back))) st t) (λ st2 h. viable front back st2 b h)
+  where
+    go : Happens 0 (suc (length (front ++ back))) st t → ((st2 : List Predicted) → verdict 0 (front ++ back) st2 ≡ fault_of b (length back) → GoesOn st2 front) → GoesOn st (t ∷ front)
+    go (takes s st2 is f) more =
+        let q = more st2 (sym (on_takes 0 (front ++ back) st st2 t s is f) ∙ e) in
+        (q.0, λ n h. step_back n st t (front ++ q.0) (next_means n st t (front ++ q.0) s st2 is (level_frees n (length (front ++ back)) (suc (length (front ++ q.0))) (levels_of s) f) (q.1 n h)))
+    go (exceeds s st2 is f) more = absurd (not_fault false b (length back) (suc (length (front ++ back))) (long front back) (sym (on_exceeds 0 (front ++ back) st st2 t s is f) ∙ e))
+    go (refuses is) more = absurd (not_fault true b (length back) (suc (length (front ++ back))) (long front back) (sym (on_refuses 0 (front ++ back) st t is) ∙ e))
 
 -- with the next token it can't, where that token is held to the limit
-stuck_here : (t : Leaf) (back other : List Leaf) (st : List Predicted) (b : Bool) (n : ℕ) (x : Next) → step 0 (suc (length back)) st t ≡ x
-    → after (λ s. verdict 0 back s) (suc (length back)) x ≡ fault_of b (suc (length back)) → (b ≡ true) ⊎ (n < suc (length other)) → verdict n (t ∷ other) st ≡ accepted → ⊥
-stuck_here t back other st b n (goes st2) is e z h = let q = fault_le back st2 b (suc (length back)) e in omega arith
-stuck_here t back other st b n bad is e z h =
-    let a : step n (suc (length other)) st t ≡ bad = step_bad n (length back) (suc (length other)) st t is in
-    let g : unexpected (suc (length other)) ≡ accepted = subst (λ (x : Next). after (λ s. verdict n other s) (suc (length other)) x ≡ accepted) a h in
-    cc
-stuck_here t back other st b n deep is e (inl z) h = let g : too_deep (suc (length back)) ≡ unexpected (suc (length back)) = subst (λ (c : Bool). too_deep (suc (length back)) ≡ fault_of c (suc (length back))) z e in cc
-stuck_here t back other st b n deep is e (inr z) h =
-    let d : step n (suc (length other)) st t ≡ deep = step_deep_over n (length back) (suc (length other)) st t z is in
-    let g : too_deep (suc (length other)) ≡ accepted = subst (λ (x : Next). after (λ s. verdict n other s) (suc (length other)) x ≡ accepted) d h in
-    cc
-
-stuck_step : (front : List Leaf) (t0 t : Leaf) (back other : List Leaf) (st : List Predicted) (b : Bool) (n : ℕ) (x : Next) → step 0 (suc (length (front ++ t ∷ back))) st t0 ≡ x
-    → ((st2 : List Predicted) → verdict 0 (front ++ t ∷ back) st2 ≡ fault_of b (suc (length back)) → verdict n (front ++ t ∷ other) st2 ≡ accepted → ⊥)
-    → after (λ s. verdict 0 (front ++ t ∷ back) s) (suc (length (front ++ t ∷ back))) x ≡ fault_of b (suc (length back)) → verdict n (t0 ∷ (front ++ t ∷ other)) st ≡ accepted → ⊥
-stuck_step front t0 t back other st b n (goes st2) is f e h =
-    let a : step n (suc (length (front ++ t ∷ other))) st t0 ≡ goes st2 = step_goes n (length (front ++ t ∷ back)) (suc (length (front ++ t ∷ other))) st st2 t0 is in
-    f st2 e (subst (λ (x : Next). after (λ s. verdict n (front ++ t ∷ other) s) (suc (length (front ++ t ∷ other))) x ≡ accepted) a h)
-stuck_step front t0 t back other st b n bad is f e h = not_fault true b (suc (length back)) (suc (length (front ++ t ∷ back))) (long front (t ∷ back)) e
-stuck_step front t0 t back other st b n deep is f e h = not_fault false b (suc (length back)) (suc (length (front ++ t ∷ back))) (long front (t ∷ back)) e
+stuck_here : (t : Leaf) (back other : List Leaf) (st : List Predicted) (b : Bool) (n : ℕ) → (b ≡ true) ⊎ (n < suc (length other)) → verdict 0 (t ∷ back) st ≡ fault_of b (suc (length back)) → verdict n (t ∷ other) st ≡ accepted → ⊥
+stuck_here t back other st b n z e h = go (happens 0 (suc (length back)) st t) z
+  where
+    go : Happens 0 (suc (length back)) st t → (b ≡ true) ⊎ (n < suc (length other)) → ⊥
+    go (takes s st2 is f) z = let q = fault_le back st2 b (suc (length back)) (sym (on_takes 0 back st st2 t s is f) ∙ e) in omega arith
+    go (exceeds s st2 is f) (inl z) =
+        let g : too_deep (suc (length back)) ≡ unexpected (suc (length back)) = sym (on_exceeds 0 back st st2 t s is f) ∙ e ∙ ap (λ (c : Bool). fault_of c (suc (length back))) z in cc
+    go (exceeds s st2 is f) (inr z) = let g : too_deep (suc (length other)) ≡ accepted = sym (on_exceeds n other st st2 t s is (level_over n (length back) (suc (length other)) (levels_of s) f z)) ∙ h in cc
+    go (refuses is) z = let g : unexpected (suc (length other)) ≡ accepted = sym (on_refuses n other st t is) ∙ h in cc
 
 pub stuck : (front : List Leaf) (t : Leaf) (back other : List Leaf) (st : List Predicted) (b : Bool) (n : ℕ) → (b ≡ true) ⊎ (n < suc (length other))
     → verdict 0 (front ++ t ∷ back) st ≡ fault_of b (suc (length back)) → verdict n (front ++ t ∷ other) st ≡ accepted → ⊥
-stuck [] t back other st b n z e h = stuck_here t back other st b n (step 0 (suc (length back)) st t) refl e z h
-stuck (t0 ∷ front) t back other st b n z e h =
-    stuck_step front t0 t back other st b n (step 0 (suc (length (front ++ t ∷ back))) st t0) refl (λ st2 e2 h2. stuck front t back other st2 b n z e2 h2) e h
+stuck [] t back other st b n z e h = stuck_here t back other st b n z e h
+stuck (t0 ∷ front) t back other st b n z e h = go (happens 0 (suc (length (front ++ t ∷ back))) st t0) (λ st2 e2 h2. stuck front t back other st2 b n z e2 h2)
+  where
+    go : Happens 0 (suc (length (front ++ t ∷ back))) st t0 → ((st2 : List Predicted) → verdict 0 (front ++ t ∷ back) st2 ≡ fault_of b (suc (length back)) → verdict n (front ++ t ∷ other) st2 ≡ accepted → ⊥) → ⊥
+    go (takes s st2 is f) more =
+        let free = level_frees n (length (front ++ t ∷ back)) (suc (length (front ++ t ∷ other))) (levels_of s) f in
+        more st2 (sym (on_takes 0 (front ++ t ∷ back) st st2 t0 s is f) ∙ e) (sym (on_takes n (front ++ t ∷ other) st st2 t0 s is free) ∙ h)
+    go (exceeds s st2 is f) more = not_fault false b (suc (length back)) (suc (length (front ++ t ∷ back))) (long front (t ∷ back)) (sym (on_exceeds 0 (front ++ t ∷ back) st st2 t0 s is f) ∙ e)
+    go (refuses is) more = not_fault true b (suc (length back)) (suc (length (front ++ t ∷ back))) (long front (t ∷ back)) (sym (on_refuses 0 (front ++ t ∷ back) st t0 is) ∙ e)
 
--- a token that is only too deep goes on where depth is free
-deep_here : (t : Leaf) (back : List Leaf) (st : List Predicted) (x : Next) → step 0 (suc (length back)) st t ≡ x → after (λ s. verdict 0 back s) (suc (length back)) x ≡ too_deep (suc (length back))
-    → (other : List Leaf) × ((n : ℕ) → suc (length other) ≤ n → Means n st (t ∷ other))
-deep_here t back st (goes st2) is e = let q = fault_le back st2 false (suc (length back)) e in absurd (omega arith)
-deep_here t back st bad is e = absurd cc
-deep_here t back st deep is e =
-    let q = step_deep_in (length back) st t is in
-    let c = completion q.0 in (
-      c.tokens,
-      λ n h. step_back n st t c.tokens (
-          let a : step n (suc (length c.tokens)) st t ≡ goes q.0 = step_free n (suc (length c.tokens)) st t h ∙ q.1 in
-          subst (λ (x : Next). MeansNext n x c.tokens) (sym a) (c.means n (omega arith))),
-    )
+-- some tokens complete this front and the next token, where depth is free from that token on
+abbrev GoesDeeper : List Predicted → List Leaf → Leaf → Type 0
+GoesDeeper st front t = (other : List Leaf) × ((n : ℕ) → suc (length other) ≤ n → Means n st (front ++ t ∷ other))
 
-deep_step : (front : List Leaf) (t0 t : Leaf) (back : List Leaf) (st : List Predicted) (x : Next) → step 0 (suc (length (front ++ t ∷ back))) st t0 ≡ x
-    → ((st2 : List Predicted) → verdict 0 (front ++ t ∷ back) st2 ≡ too_deep (suc (length back)) → (other : List Leaf) × ((n : ℕ) → suc (length other) ≤ n → Means n st2 (front ++ t ∷ other)))
-    → after (λ s. verdict 0 (front ++ t ∷ back) s) (suc (length (front ++ t ∷ back))) x ≡ too_deep (suc (length back)) → (other : List Leaf) × ((n : ℕ) → suc (length other) ≤ n → Means n st (t0 ∷ (front ++ t ∷ other)))
-deep_step front t0 t back st (goes st2) is f e =
-    let q = f st2 e in (
-      q.0,
-      λ n h. step_back n st t0 (front ++ t ∷ q.0) (
-          let a : step n (suc (length (front ++ t ∷ q.0))) st t0 ≡ goes st2 = step_goes n (length (front ++ t ∷ back)) (suc (length (front ++ t ∷ q.0))) st st2 t0 is in
-          subst (λ (x : Next). MeansNext n x (front ++ t ∷ q.0)) (sym a) (q.1 n h)),
-    )
-deep_step front t0 t back st bad is f e = absurd (not_fault true false (suc (length back)) (suc (length (front ++ t ∷ back))) (long front (t ∷ back)) e)
-deep_step front t0 t back st deep is f e = absurd (not_fault false false (suc (length back)) (suc (length (front ++ t ∷ back))) (long front (t ∷ back)) e)
+-- a token that is only too deep goes on there
+deep_here : (t : Leaf) (back : List Leaf) (st : List Predicted) → verdict 0 (t ∷ back) st ≡ too_deep (suc (length back)) → GoesDeeper st [] t
+deep_here t back st e = go (happens 0 (suc (length back)) st t)
+  where
+    go : Happens 0 (suc (length back)) st t → GoesDeeper st [] t
+    go (takes s st2 is f) = let q = fault_le back st2 false (suc (length back)) (sym (on_takes 0 back st st2 t s is f) ∙ e) in absurd (omega arith)
+    go (exceeds s st2 is f) =
+        let c = completion st2 in
+        (c.tokens, λ n h. step_back n st t c.tokens (next_means n st t c.tokens s st2 is (level_in n (suc (length c.tokens)) (levels_of s) h) (c.means n (omega arith))))
+    go (refuses is) = let g : unexpected (suc (length back)) ≡ too_deep (suc (length back)) = sym (on_refuses 0 back st t is) ∙ e in absurd cc
 
-pub deep_any : (front : List Leaf) (t : Leaf) (back : List Leaf) (st : List Predicted) → verdict 0 (front ++ t ∷ back) st ≡ too_deep (suc (length back))
-    → (other : List Leaf) × ((n : ℕ) → suc (length other) ≤ n → Means n st (front ++ t ∷ other))
-deep_any [] t back st e = deep_here t back st (step 0 (suc (length back)) st t) refl e
-deep_any (t0 ∷ front) t back st e = deep_step front t0 t back st (step 0 (suc (length (front ++ t ∷ back))) st t0) refl (λ st2 h. deep_any front t back st2 h) e
+pub deep_any : (front : List Leaf) (t : Leaf) (back : List Leaf) (st : List Predicted) → verdict 0 (front ++ t ∷ back) st ≡ too_deep (suc (length back)) → GoesDeeper st front t
+deep_any [] t back st e = deep_here t back st e
+deep_any (t0 ∷ front) t back st e = go (happens 0 (suc (length (front ++ t ∷ back))) st t0) (λ st2 h. deep_any front t back st2 h)
+  where
+    go : Happens 0 (suc (length (front ++ t ∷ back))) st t0 → ((st2 : List Predicted) → verdict 0 (front ++ t ∷ back) st2 ≡ too_deep (suc (length back)) → GoesDeeper st2 front t) → GoesDeeper st (t0 ∷ front) t
+    go (takes s st2 is f) more =
+        let q = more st2 (sym (on_takes 0 (front ++ t ∷ back) st st2 t0 s is f) ∙ e) in
+        (q.0, λ n h. step_back n st t0 (front ++ t ∷ q.0) (next_means n st t0 (front ++ t ∷ q.0) s st2 is (level_frees n (length (front ++ t ∷ back)) (suc (length (front ++ t ∷ q.0))) (levels_of s) f) (q.1 n h)))
+    go (exceeds s st2 is f) more = absurd (not_fault false false (suc (length back)) (suc (length (front ++ t ∷ back))) (long front (t ∷ back)) (sym (on_exceeds 0 (front ++ t ∷ back) st st2 t0 s is f) ∙ e))
+    go (refuses is) more = absurd (not_fault true false (suc (length back)) (suc (length (front ++ t ∷ back))) (long front (t ∷ back)) (sym (on_refuses 0 (front ++ t ∷ back) st t0 is) ∙ e))

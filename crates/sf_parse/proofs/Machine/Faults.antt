@@ -13,37 +13,26 @@ use Rattle.sf_parse.specs.Internal.Faults.{no_token, token_left, place_left, Say
 use Rattle.sf_parse.specs.Grammar.{items}
 use Rattle.sf_parse.specs.Laws.{verdict_of, Spelled}
 use Rattle.sf_parse.specs.Internal.Machine as m
-use Rattle.sf_parse.specs.Internal.Machine.{Predicted, Choice, take, skip, refuse, Next, goes, bad, deep, chosen, choice, is_free, step, Verdict, accepted, unexpected, too_deep, at_end, may_end, after, verdict}
+use Rattle.sf_parse.specs.Internal.Machine.{Predicted, levels_of, Verdict, accepted, unexpected, too_deep, at_end, may_end, verdict}
 use Rattle.sf_parse.specs.Nearest.{IsNearest}
 use Rattle.sf_parse.specs.Nesting.{ItemsWithin}
 use Rattle.sf_parse.specs.Leaf.{Leaf, leaf, leaves}
 use Rattle.sf_parse.specs.Parsing.{IsFile, CanBegin, CanBeginAny, IsUnexpected, IsTooDeep, IsFault}
 use Rattle.sf_parse.proofs.Grammar.Depths.{items_shallow, items_within}
 use Rattle.sf_parse.proofs.Machine.Exactly.{fault_of, fault_le}
-use Rattle.sf_parse.proofs.Machine.Free.{chosen_goes}
 use Rattle.sf_parse.proofs.Machine.HasLevel.{level_more}
-use Rattle.sf_parse.proofs.Machine.Law.{exact, file_accepted, accepted_file, refuses}
+use Rattle.sf_parse.proofs.Machine.Happens.{Happens, takes, exceeds, refuses, happens, on_takes, on_exceeds, on_refuses}
+use Rattle.sf_parse.proofs.Machine.Law.{exact, file_accepted, accepted_file, refused}
 
--- the more tokens are free of the limit, the more goes on
-free_more : (s : Predicted) (n p l : ℕ) → n ≤ p → is_free s n l ≡ true → is_free s p l ≡ true
-free_more (m.command d) n p l h e = level_more n p l d h e
-free_more (m.commands d) n p l h e = level_more n p l d h e
-free_more (m.assertion d) n p l h e = level_more n p l d h e
-free_more _ n p l h e = refl
-
-step_more : (n p l : ℕ) (st st2 : List Predicted) (t : Leaf) → n ≤ p → step n l st t ≡ goes st2 → step p l st t ≡ goes st2
-step_more n p l [] st2 t h e = absurd cc
-step_more n p l (s ∷ st) st2 t h e =
-    chosen_goes (choice s t) (is_free s n l) (is_free s p l) st st2 (step n l st t) (step p l st t) (free_more s n p l h) (step_more n p l st st2 t h) e
-
+-- the more tokens are free of the limit, the more is accepted
 pub accepted_more : (n p : ℕ) (ts : List Leaf) (st : List Predicted) → n ≤ p → verdict n ts st ≡ accepted → verdict p ts st ≡ accepted
 accepted_more n p [] st h e = e
-accepted_more n p (t ∷ ts) st h e = go (step n (suc (length ts)) st t) refl (λ st2. accepted_more n p ts st2 h) e
+accepted_more n p (t ∷ ts) st h e = go (happens n (suc (length ts)) st t) (λ st2. accepted_more n p ts st2 h)
   where
-    go : (x : Next) → step n (suc (length ts)) st t ≡ x → ((st2 : List Predicted) → verdict n ts st2 ≡ accepted → verdict p ts st2 ≡ accepted) → after (λ s. verdict n ts s) (suc (length ts)) x ≡ accepted → verdict p (t ∷ ts) st ≡ accepted
-    go (goes st2) is f e = rw (step_more n p (suc (length ts)) st st2 t h is) (f st2 e)
-    go bad is f e = absurd cc
-    go deep is f e = absurd cc
+    go : Happens n (suc (length ts)) st t → ((st2 : List Predicted) → verdict n ts st2 ≡ accepted → verdict p ts st2 ≡ accepted) → verdict p (t ∷ ts) st ≡ accepted
+    go (takes s st2 is f) more = on_takes p ts st st2 t s is (level_more n p (suc (length ts)) (levels_of s) h f) ∙ more st2 (sym (on_takes n ts st st2 t s is f) ∙ e)
+    go (exceeds s st2 is f) more = absurd (cc (on_exceeds n ts st st2 t s is f, e))
+    go (refuses is) more = absurd (cc (on_refuses n ts st t is, e))
 
 -- a file that is within the limit but for n tokens is so but for more
 within_more : (n p : ℕ) (ts : List Leaf) (tree : List Item) → n ≤ p → ts ≡ items tree [] → IsNearest tree → ItemsWithin tree n [] → (other : List Item) × (ts ≡ items other []) × ItemsWithin other p [] × IsNearest other
@@ -114,12 +103,12 @@ never_zero [] st h = end (may_end st) h
     end : (b : Bool) → at_end b ≡ too_deep 0 → ⊥
     end true h = cc
     end false h = cc
-never_zero (t ∷ ts) st h = go (step 0 (suc (length ts)) st t) (never_zero ts) h
+never_zero (t ∷ ts) st h = go (happens 0 (suc (length ts)) st t) (never_zero ts)
   where
-    go : (x : Next) → ((st : List Predicted) → verdict 0 ts st ≡ too_deep 0 → ⊥) → after (λ s. verdict 0 ts s) (suc (length ts)) x ≡ too_deep 0 → ⊥
-    go (goes st2) f h = f st2 h
-    go bad f h = cc
-    go deep f h = let q : suc (length ts) ≡ 0 = cc in omega arith
+    go : Happens 0 (suc (length ts)) st t → ((st : List Predicted) → verdict 0 ts st ≡ too_deep 0 → ⊥) → ⊥
+    go (takes s st2 is f) more = more st2 (sym (on_takes 0 ts st st2 t s is f) ∙ h)
+    go (exceeds s st2 is f) more = let q : suc (length ts) ≡ 0 = cc (on_exceeds 0 ts st st2 t s is f, h) in omega arith
+    go (refuses is) more = cc (on_refuses 0 ts st t is, h)
 
 -- what the machine does with a file's tokens
 pub data Halt (ks : List Leaf) : Type 0 where
@@ -150,7 +139,7 @@ begins_before ks front t back false is e = ((exact ks).deeper front t back is e)
 -- and with the next token they begin none
 begins_no_further : (ks front : List Leaf) (t : Leaf) (back : List Leaf) (b : Bool) (more : List Leaf) → ks ≡ front ++ t ∷ back → verdict_of ks ≡ fault_of b (suc (length back)) → CanBegin (front ++ t ∷ more) → ⊥
 begins_no_further ks front t back b more is e q =
-    refuses (length q.back) front t back (more ++ q.back) b (inr (omega (arith, length-append more q.back))) (ap verdict_of (sym is) ∙ e) q.tree
+    refused (length q.back) front t back (more ++ q.back) b (inr (omega (arith, length-append more q.back))) (ap verdict_of (sym is) ∙ e) q.tree
     (append_assoc front (t ∷ []) (more ++ q.back) ∙ sym (append_assoc front (t ∷ more) q.back) ∙ q.spells) q.nearest q.within
 
 -- accepted tokens begin a file

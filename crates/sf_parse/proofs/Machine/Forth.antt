@@ -1,12 +1,10 @@
 -- What the grammar has, the machine accepts.
-use Rattle.std.proofs.Common.{◌≡◌, ℕ, ℤ, List, [], ◌∷◌, ◌-◌, length, Bool, true, false, Option, Some, None, refl, ◌∙◌}
+use Rattle.std.proofs.Common.{◌≡◌, ℕ, List, [], ◌∷◌, ◌++◌, ◌-◌, length, Bool, true, false, Option, Some, None, refl, ◌∙◌}
 use Rattle.sf_base.specs.declared.limits.TheConstants.{NESTING}
-use Rattle.sf_base.specs.declared.place.Place.{Place}
 use Rattle.sf_ast.specs.declared.assertion.SurfaceField.{SurfaceField}
 use Rattle.sf_ast.specs.declared.word.SurfaceExpr.{SurfaceExpr}
 use Rattle.sf_ast.specs.declared.word.SurfaceExpr.TheVariants as e
 use Rattle.sf_ast.specs.declared.word.SurfaceOperand.{SurfaceOperand}
-use Rattle.sf_ast.specs.declared.word.SurfaceOperand.TheVariants as v
 use Rattle.sf_ast.specs.declared.word.SurfaceTest.{SurfaceTest}
 use Rattle.sf_ast.specs.declared.word.SurfaceTest.TheVariants as t
 use Rattle.sf_ast.specs.declared.word.Word.{Word}
@@ -20,45 +18,16 @@ use Rattle.sf_parse.specs.Nearest.{IsClosed, ConjunctNearest, AssertionNearest, 
 use Rattle.sf_parse.specs.Nesting.{HasLevel, ConjunctWithin, AssertionWithin, RestWithin, NoteWithin, MaybeWithin}
 use Rattle.sf_parse.specs.Internal.Parser.{NotStar, Ends}
 
--- what holds of the four first tokens of an expression holds of each
-pub by_expr : (x : SurfaceExpr) (P : Leaf → Type 0) → ((w : Word) → P (k.Name w)) → ((p : Place) → P (k.Nil p)) → ((p : Place) → P (k.Null p)) → ((i : ℤ) (p : Place) → P (k.Number i p)) → P (g.expr x)
-by_expr (e.Name x) P a b c d = a x
-by_expr (e.Nil p) P a b c d = b p
-by_expr (e.Null p) P a b c d = c p
-by_expr (e.Number i p) P a b c d = d i p
-
--- and of an operand
-pub by_operand : (x : SurfaceOperand) (P : Leaf → Type 0) → ((w : Word) → P (k.Name w)) → ((p : Place) → P (k.Nil p)) → ((p : Place) → P (k.Null p)) → ((i : ℤ) (p : Place) → P (k.Number i p)) → ((w : Word) → P (k.Existential w))
-    → P (g.operand x)
-by_operand (v.Known x) P a b c d f = by_expr x P a b c d
-by_operand (v.Existential x) P a b c d f = f x
-
-pub expr_goes : (n : ℕ) (x : SurfaceExpr) (r : List Leaf) (st : List Predicted) → verdict n (g.expr x ∷ r) (m.expression ∷ st) ≡ verdict n r st
-expr_goes n x r st = by_expr x (λ u. verdict n (u ∷ r) (m.expression ∷ st) ≡ verdict n r st) (λ w. refl) (λ p. refl) (λ p. refl) (λ i p. refl)
-
-pub operand_goes : (n : ℕ) (x : SurfaceOperand) (r : List Leaf) (st : List Predicted) → verdict n (g.operand x ∷ r) (m.operand ∷ st) ≡ verdict n r st
-operand_goes n x r st = by_operand x (λ u. verdict n (u ∷ r) (m.operand ∷ st) ≡ verdict n r st) (λ w. refl) (λ p. refl) (λ p. refl) (λ i p. refl) (λ w. refl)
-
 pub test_goes : (n : ℕ) (b : SurfaceTest SurfaceExpr) (r : List Leaf) (st : List Predicted) → verdict n (g.test g.expr b r) (m.test ∷ st) ≡ verdict n r st
 test_goes n (t.True p) r st = refl
-test_goes n (t.Equal x y) r st =
-    let h = expr_goes n y r st in by_expr x (λ u. verdict n (u ∷ k.EqualEqual ∷ g.expr y ∷ r) (m.test ∷ st) ≡ verdict n r st) (λ w. h) (λ p. h) (λ p. h) (λ i p. h)
-test_goes n (t.Differ x y) r st =
-    let h = expr_goes n y r st in by_expr x (λ u. verdict n (u ∷ k.NotEqual ∷ g.expr y ∷ r) (m.test ∷ st) ≡ verdict n r st) (λ w. h) (λ p. h) (λ p. h) (λ i p. h)
+test_goes n _ r st = refl
 
-operand_test_goes : (n : ℕ) (b : SurfaceTest SurfaceOperand) (r : List Leaf) (st : List Predicted) → verdict n (g.test g.operand b r) (m.operand_test ∷ st) ≡ verdict n r st
-operand_test_goes n (t.True p) r st = refl
-operand_test_goes n (t.Equal x y) r st =
-    let h = operand_goes n y r st in by_operand x (λ u. verdict n (u ∷ k.EqualEqual ∷ g.operand y ∷ r) (m.operand_test ∷ st) ≡ verdict n r st) (λ w. h) (λ p. h) (λ p. h) (λ i p. h) (λ w. h)
-operand_test_goes n (t.Differ x y) r st =
-    let h = operand_goes n y r st in by_operand x (λ u. verdict n (u ∷ k.NotEqual ∷ g.operand y ∷ r) (m.operand_test ∷ st) ≡ verdict n r st) (λ w. h) (λ p. h) (λ p. h) (λ i p. h) (λ w. h)
-
-bare_test_goes : (n : ℕ) (b : SurfaceTest SurfaceOperand) (r : List Leaf) (st : List Predicted) → verdict n (g.test g.operand b r) (m.if_test ∷ st) ≡ verdict n r st
-bare_test_goes n (t.True p) r st = refl
-bare_test_goes n (t.Equal x y) r st =
-    let h = operand_goes n y r st in by_operand x (λ u. verdict n (u ∷ k.EqualEqual ∷ g.operand y ∷ r) (m.if_test ∷ st) ≡ verdict n r st) (λ w. h) (λ p. h) (λ p. h) (λ i p. h) (λ w. h)
-bare_test_goes n (t.Differ x y) r st =
-    let h = operand_goes n y r st in by_operand x (λ u. verdict n (u ∷ k.NotEqual ∷ g.operand y ∷ r) (m.if_test ∷ st) ≡ verdict n r st) (λ w. h) (λ p. h) (λ p. h) (λ i p. h) (λ w. h)
+-- a test after the `if` of an assertion, in round brackets or not
+if_test_goes : (n : ℕ) (round : Bool) (b : SurfaceTest SurfaceOperand) (r : List Leaf) (st : List Predicted) → verdict n (g.bracketed round (g.test g.operand b) r) (m.if_test ∷ st) ≡ verdict n r st
+if_test_goes n true (t.True p) r st = refl
+if_test_goes n true _ r st = refl
+if_test_goes n false (t.True p) r st = refl
+if_test_goes n false _ r st = refl
 
 -- names, where what follows does without more of them
 pub more_names_go : (n : ℕ) (xs : List Word) (r : List Leaf) (st : List Predicted) → verdict n r (m.more_names ∷ st) ≡ verdict n r st → verdict n (g.more_names xs r) (m.more_names ∷ st) ≡ verdict n r st
@@ -77,24 +46,20 @@ parameters_go n (s.references_and_values xs ys) r st =
 
 more_exprs_go : (n : ℕ) (xs : List SurfaceExpr) (r : List Leaf) (st : List Predicted) → verdict n (g.more_exprs xs (k.CloseRound ∷ r)) (m.more_expressions ∷ st) ≡ verdict n (k.CloseRound ∷ r) st
 more_exprs_go n [] r st = refl
-more_exprs_go n (x ∷ xs) r st = expr_goes n x (g.more_exprs xs (k.CloseRound ∷ r)) (m.more_expressions ∷ st) ∙ more_exprs_go n xs r st
+more_exprs_go n (x ∷ xs) r st = more_exprs_go n xs r st
 
 maybe_exprs_go : (n : ℕ) (xs : List SurfaceExpr) (r : List Leaf) (st : List Predicted) → verdict n (g.maybe_exprs xs (k.CloseRound ∷ r)) (m.maybe_expressions ∷ st) ≡ verdict n (k.CloseRound ∷ r) st
 maybe_exprs_go n [] r st = refl
-maybe_exprs_go n (x ∷ xs) r st =
-    let h = more_exprs_go n xs r st in
-    by_expr x (λ u. verdict n (u ∷ g.more_exprs xs (k.CloseRound ∷ r)) (m.maybe_expressions ∷ st) ≡ verdict n (k.CloseRound ∷ r) st) (λ w. h) (λ p. h) (λ p. h) (λ i p. h)
+maybe_exprs_go n (x ∷ xs) r st = more_exprs_go n xs r st
 
 -- values after a first one, whether or not all so far could be references
 rest_goes : (n : ℕ) (b : Bool) (xs : List SurfaceExpr) (r : List Leaf) (st : List Predicted) → verdict n (g.more_exprs xs (k.CloseRound ∷ r)) (m.rest b ∷ st) ≡ verdict n (k.CloseRound ∷ r) st
 rest_goes n true [] r st = refl
 rest_goes n false [] r st = refl
-rest_goes n true (x ∷ xs) r st =
-    let h = rest_goes n false xs r st in
-    by_expr x (λ u. verdict n (k.Comma ∷ u ∷ g.more_exprs xs (k.CloseRound ∷ r)) (m.rest true ∷ st) ≡ verdict n (k.CloseRound ∷ r) st) (λ w. rest_goes n true xs r st) (λ p. h) (λ p. h) (λ i p. h)
-rest_goes n false (x ∷ xs) r st =
-    let h = rest_goes n false xs r st in
-    by_expr x (λ u. verdict n (k.Comma ∷ u ∷ g.more_exprs xs (k.CloseRound ∷ r)) (m.rest false ∷ st) ≡ verdict n (k.CloseRound ∷ r) st) (λ w. h) (λ p. h) (λ p. h) (λ i p. h)
+rest_goes n true (e.Name x ∷ xs) r st = rest_goes n true xs r st
+rest_goes n true (_ ∷ xs) r st = rest_goes n false xs r st
+rest_goes n false (e.Name x ∷ xs) r st = rest_goes n false xs r st
+rest_goes n false (_ ∷ xs) r st = rest_goes n false xs r st
 
 -- references after a first one
 references_go : (n : ℕ) (ns : List Word) (xs : List SurfaceExpr) (r : List Leaf) (st : List Predicted) → verdict n (g.more_names ns (k.Semicolon ∷ g.maybe_exprs xs (k.CloseRound ∷ r))) (m.rest true ∷ st) ≡ verdict n (k.CloseRound ∷ r) st
@@ -103,9 +68,8 @@ references_go n (x ∷ ns) xs r st = references_go n ns xs r st
 
 pub arguments_go : (n : ℕ) (a : s.Arguments) (r : List Leaf) (st : List Predicted) → verdict n (g.arguments a (k.CloseRound ∷ r)) (m.maybe_arguments ∷ m.exact m.close_round ∷ st) ≡ verdict n r st
 arguments_go n (s.values []) r st = refl
-arguments_go n (s.values (x ∷ xs)) r st =
-    let h = rest_goes n false xs r (m.exact m.close_round ∷ st) in
-    by_expr x (λ u. verdict n (u ∷ g.more_exprs xs (k.CloseRound ∷ r)) (m.maybe_arguments ∷ m.exact m.close_round ∷ st) ≡ verdict n r st) (λ w. rest_goes n true xs r (m.exact m.close_round ∷ st)) (λ p. h) (λ p. h) (λ i p. h)
+arguments_go n (s.values (e.Name x ∷ xs)) r st = rest_goes n true xs r (m.exact m.close_round ∷ st)
+arguments_go n (s.values (_ ∷ xs)) r st = rest_goes n false xs r (m.exact m.close_round ∷ st)
 arguments_go n (s.both [] xs) r st = maybe_exprs_go n xs r (m.exact m.close_round ∷ st)
 arguments_go n (s.both (x ∷ ns) xs) r st = references_go n ns xs r (m.exact m.close_round ∷ st)
 
@@ -140,85 +104,43 @@ no_more_conjuncts n d (_ ∷ r) st h = refl
 
 more_fields_go : (n : ℕ) (fs : List SurfaceField) (r : List Leaf) (st : List Predicted) → AfterConjunct r → verdict n (g.more_fields fs r) (m.more_fields ∷ st) ≡ verdict n r st
 more_fields_go n [] r st h = no_more_fields n r st h
-more_fields_go n (f ∷ fs) r st h = operand_goes n f.value (g.more_fields fs r) (m.more_fields ∷ st) ∙ more_fields_go n fs r st h
+more_fields_go n (f ∷ fs) r st h = more_fields_go n fs r st h
 
 maybe_fields_go : (n : ℕ) (fs : List SurfaceField) (r : List Leaf) (st : List Predicted) → AfterConjunct r → verdict n (g.maybe_fields fs r) (m.maybe_fields ∷ st) ≡ verdict n r st
 maybe_fields_go n [] r st h = no_fields n r st h
-maybe_fields_go n (f ∷ fs) r st h = operand_goes n f.value (g.more_fields fs r) (m.more_fields ∷ st) ∙ more_fields_go n fs r st h
+maybe_fields_go n (f ∷ fs) r st h = more_fields_go n fs r st h
 
 -- an assertion begins with its first conjunct
 first_conjunct : (n : ℕ) (c : s.Conjunct) (d : ℕ) (r : List Leaf) (st : List Predicted) → HasLevel n (length (g.conjunct c r)) d → verdict n (g.conjunct c r) (m.assertion d ∷ st) ≡ verdict n (g.conjunct c r) (m.conjunct d ∷ m.more_conjuncts d ∷ st)
 first_conjunct n (s.emp p) d r st h = rw h refl
-first_conjunct n (s.group a) d r st h = rw h refl
-first_conjunct n (s.choose p b x y) d r st h = rw h refl
-first_conjunct n (s.choose_round p b x y) d r st h = rw h refl
-first_conjunct n (s.equal x y) d r st h =
-    by_operand x (λ u. verdict n (u ∷ k.EqualEqual ∷ g.operand y ∷ r) (m.assertion d ∷ st) ≡ verdict n (u ∷ k.EqualEqual ∷ g.operand y ∷ r) (m.conjunct d ∷ m.more_conjuncts d ∷ st)) (λ w. rw h refl) (λ p. rw h refl) (λ p. rw h refl) (λ i p. rw h refl) (λ w. rw h refl)
-first_conjunct n (s.differ x y) d r st h =
-    by_operand x (λ u. verdict n (u ∷ k.NotEqual ∷ g.operand y ∷ r) (m.assertion d ∷ st) ≡ verdict n (u ∷ k.NotEqual ∷ g.operand y ∷ r) (m.conjunct d ∷ m.more_conjuncts d ∷ st)) (λ w. rw h refl) (λ p. rw h refl) (λ p. rw h refl) (λ i p. rw h refl) (λ w. rw h refl)
-first_conjunct n (s.points x fs) d r st h =
-    by_operand x (λ u. verdict n (u ∷ k.PointsTo ∷ g.maybe_fields fs r) (m.assertion d ∷ st) ≡ verdict n (u ∷ k.PointsTo ∷ g.maybe_fields fs r) (m.conjunct d ∷ m.more_conjuncts d ∷ st)) (λ w. rw h refl) (λ p. rw h refl) (λ p. rw h refl) (λ i p. rw h refl) (λ w. rw h refl)
-first_conjunct n (s.ls p x y) d r st h = rw h refl
-first_conjunct n (s.lseg p x y) d r st h = rw h refl
-first_conjunct n (s.list p x) d r st h = rw h refl
-first_conjunct n (s.tree p x) d r st h = rw h refl
+first_conjunct n _ d r st h = rw h refl
 
 -- a note's assertion too
 first_in_annotation : (n : ℕ) (c : s.Conjunct) (r : List Leaf) (st : List Predicted) → verdict n (g.conjunct c r) (m.maybe_assertion ∷ st) ≡ verdict n (g.conjunct c r) (m.conjunct NESTING ∷ m.more_conjuncts NESTING ∷ st)
 first_in_annotation n (s.emp p) r st = refl
-first_in_annotation n (s.group a) r st = refl
-first_in_annotation n (s.choose p b x y) r st = refl
-first_in_annotation n (s.choose_round p b x y) r st = refl
-first_in_annotation n (s.equal x y) r st =
-    by_operand x (λ u. verdict n (u ∷ k.EqualEqual ∷ g.operand y ∷ r) (m.maybe_assertion ∷ st) ≡ verdict n (u ∷ k.EqualEqual ∷ g.operand y ∷ r) (m.conjunct NESTING ∷ m.more_conjuncts NESTING ∷ st)) (λ w. refl) (λ p. refl) (λ p. refl) (λ i p. refl) (λ w. refl)
-first_in_annotation n (s.differ x y) r st =
-    by_operand x (λ u. verdict n (u ∷ k.NotEqual ∷ g.operand y ∷ r) (m.maybe_assertion ∷ st) ≡ verdict n (u ∷ k.NotEqual ∷ g.operand y ∷ r) (m.conjunct NESTING ∷ m.more_conjuncts NESTING ∷ st)) (λ w. refl) (λ p. refl) (λ p. refl) (λ i p. refl) (λ w. refl)
-first_in_annotation n (s.points x fs) r st =
-    by_operand x (λ u. verdict n (u ∷ k.PointsTo ∷ g.maybe_fields fs r) (m.maybe_assertion ∷ st) ≡ verdict n (u ∷ k.PointsTo ∷ g.maybe_fields fs r) (m.conjunct NESTING ∷ m.more_conjuncts NESTING ∷ st)) (λ w. refl) (λ p. refl) (λ p. refl) (λ i p. refl) (λ w. refl)
-first_in_annotation n (s.ls p x y) r st = refl
-first_in_annotation n (s.lseg p x y) r st = refl
-first_in_annotation n (s.list p x) r st = refl
-first_in_annotation n (s.tree p x) r st = refl
+first_in_annotation n _ r st = refl
 
 pub closed_ends : (c : s.Conjunct) (r : List Leaf) → IsClosed c → Ends c r
-closed_ends (s.choose p b x y) r h = absurd h
-closed_ends (s.choose_round p b x y) r h = absurd h
+closed_ends (s.choose p round b x y) r h = absurd h
 closed_ends _ r h = tt
 
 pub closed_before_star : (c : s.Conjunct) (r : List Leaf) → Ends c (k.Star ∷ r) → IsClosed c
-closed_before_star (s.choose p b x y) r h = absurd h
-closed_before_star (s.choose_round p b x y) r h = absurd h
+closed_before_star (s.choose p round b x y) r h = absurd h
 closed_before_star _ r h = tt
 
 pub ends_before : (c : s.Conjunct) (r : List Leaf) → NotStar r → Ends c r
-ends_before (s.choose p b x y) r h = h
-ends_before (s.choose_round p b x y) r h = h
+ends_before (s.choose p round b x y) r h = h
 ends_before _ r h = tt
 
 mutual
   conjunct_goes : (n : ℕ) (c : s.Conjunct) (d : ℕ) (r : List Leaf) (st : List Predicted) → ConjunctNearest c → ConjunctWithin c n d r → AfterConjunct r → Ends c r → verdict n (g.conjunct c r) (m.conjunct d ∷ st) ≡ verdict n r st
-  conjunct_goes n (s.emp p) d r st near w a f = refl
   conjunct_goes n (s.group x) d r st near w a f = assertion_goes n x (d - 1) (k.CloseRound ∷ r) (m.exact m.close_round ∷ st) near w tt tt
-  conjunct_goes n (s.choose p b x y) d r st near w a f =
-      bare_test_goes n b (k.Then ∷ g.assertion x (k.Else ∷ g.assertion y r)) (m.exact m.then_word ∷ m.assertion (d - 1) ∷ m.exact m.else_word ∷ m.assertion (d - 1) ∷ st)
+  conjunct_goes n (s.choose p round b x y) d r st near w a f =
+      if_test_goes n round b (k.Then ∷ g.assertion x (k.Else ∷ g.assertion y r)) (m.branches_predicted (d - 1) ++ st)
       ∙ assertion_goes n x (d - 1) (k.Else ∷ g.assertion y r) (m.exact m.else_word ∷ m.assertion (d - 1) ∷ st) near.0 w.0 tt tt
       ∙ assertion_goes n y (d - 1) r st near.1 w.1 a f
-  conjunct_goes n (s.choose_round p b x y) d r st near w a f =
-      operand_test_goes n b (k.CloseRound ∷ k.Then ∷ g.assertion x (k.Else ∷ g.assertion y r)) (m.exact m.close_round ∷ m.exact m.then_word ∷ m.assertion (d - 1) ∷ m.exact m.else_word ∷ m.assertion (d - 1) ∷ st)
-      ∙ assertion_goes n x (d - 1) (k.Else ∷ g.assertion y r) (m.exact m.else_word ∷ m.assertion (d - 1) ∷ st) near.0 w.0 tt tt
-      ∙ assertion_goes n y (d - 1) r st near.1 w.1 a f
-  conjunct_goes n (s.equal x y) d r st near w a f =
-      let h = operand_goes n y r st in by_operand x (λ u. verdict n (u ∷ k.EqualEqual ∷ g.operand y ∷ r) (m.conjunct d ∷ st) ≡ verdict n r st) (λ w. h) (λ p. h) (λ p. h) (λ i p. h) (λ w. h)
-  conjunct_goes n (s.differ x y) d r st near w a f =
-      let h = operand_goes n y r st in by_operand x (λ u. verdict n (u ∷ k.NotEqual ∷ g.operand y ∷ r) (m.conjunct d ∷ st) ≡ verdict n r st) (λ w. h) (λ p. h) (λ p. h) (λ i p. h) (λ w. h)
-  conjunct_goes n (s.points x fs) d r st near w a f =
-      let h = maybe_fields_go n fs r st a in by_operand x (λ u. verdict n (u ∷ k.PointsTo ∷ g.maybe_fields fs r) (m.conjunct d ∷ st) ≡ verdict n r st) (λ w. h) (λ p. h) (λ p. h) (λ i p. h) (λ w. h)
-  conjunct_goes n (s.ls p x y) d r st near w a f =
-      operand_goes n x (k.Comma ∷ g.operand y ∷ k.CloseRound ∷ r) (m.exact m.a_comma ∷ m.operand ∷ m.exact m.close_round ∷ st) ∙ operand_goes n y (k.CloseRound ∷ r) (m.exact m.close_round ∷ st)
-  conjunct_goes n (s.lseg p x y) d r st near w a f =
-      operand_goes n x (k.Comma ∷ g.operand y ∷ k.CloseRound ∷ r) (m.exact m.a_comma ∷ m.operand ∷ m.exact m.close_round ∷ st) ∙ operand_goes n y (k.CloseRound ∷ r) (m.exact m.close_round ∷ st)
-  conjunct_goes n (s.list p x) d r st near w a f = operand_goes n x (k.CloseRound ∷ r) (m.exact m.close_round ∷ st)
-  conjunct_goes n (s.tree p x) d r st near w a f = operand_goes n x (k.CloseRound ∷ r) (m.exact m.close_round ∷ st)
+  conjunct_goes n (s.points x fs) d r st near w a f = maybe_fields_go n fs r st a
+  conjunct_goes n _ d r st near w a f = refl
 
   assertion_goes : (n : ℕ) (a : s.Assertion) (d : ℕ) (r : List Leaf) (st : List Predicted) → AssertionNearest a → AssertionWithin a n d r → AfterConjunct r → NotStar r → verdict n (g.assertion a r) (m.assertion d ∷ st) ≡ verdict n r st
   assertion_goes n (s.only c) d r st near w a f =

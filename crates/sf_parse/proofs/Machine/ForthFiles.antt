@@ -1,8 +1,7 @@
 -- What the grammar has, the machine accepts: commands, items and files.
-use Rattle.std.proofs.Common.{◌≡◌, ℕ, ℤ, suc, List, [], ◌∷◌, ◌-◌, length, refl, ◌∙◌}
+use Rattle.std.proofs.Common.{◌≡◌, ℕ, List, [], ◌∷◌, ◌-◌, true, false, refl, ◌∙◌}
 use Rattle.sf_base.specs.declared.limits.TheConstants.{NESTING}
 use Rattle.sf_base.specs.declared.place.Place.{Place}
-use Rattle.sf_ast.specs.declared.word.SurfaceExpr.{SurfaceExpr}
 use Rattle.sf_ast.specs.declared.word.SurfaceExpr.TheVariants as e
 use Rattle.sf_ast.specs.declared.word.Word.{Word}
 use Rattle.sf_ast.specs.Surface as s
@@ -12,9 +11,9 @@ use Rattle.sf_parse.specs.Grammar as g
 use Rattle.sf_parse.specs.Internal.Machine as m
 use Rattle.sf_parse.specs.Internal.Machine.{Predicted, verdict}
 use Rattle.sf_parse.specs.Nearest.{NotElse, Follows, NoteNearest, CommandNearest, CommandsNearest, ItemNearest, IsNearest}
-use Rattle.sf_parse.specs.Nesting.{HasLevel, NoteWithin, CommandWithin, CommandsWithin, ItemWithin, ItemsWithin}
+use Rattle.sf_parse.specs.Nesting.{NoteWithin, CommandWithin, CommandsWithin, ItemWithin, ItemsWithin}
 use Rattle.sf_parse.proofs.Machine.Back.{follows_else}
-use Rattle.sf_parse.proofs.Machine.Forth.{by_expr, expr_goes, test_goes, more_names_go, maybe_names_go, parameters_go, arguments_go, annotation_goes, maybe_annotation_goes}
+use Rattle.sf_parse.proofs.Machine.Forth.{test_goes, more_names_go, maybe_names_go, parameters_go, arguments_go, annotation_goes, maybe_annotation_goes}
 
 pub follows_any : (c : s.Command) (r : List Leaf) → NotElse r → Follows c r
 follows_any (s.if_alone p b c) r h = h
@@ -23,27 +22,9 @@ follows_any (s.while p b x c) r h = follows_any c r h
 follows_any (s.with p x b c) r h = follows_any c r h
 follows_any _ r h = tt
 
--- what is so of each token that may begin a command, whatever comes after it, is so of each command
-by_command : (P : List Leaf → Type 0) → ((w : Word) (r : List Leaf) → P (k.Name w ∷ r)) → ((p : Place) (r : List Leaf) → P (k.Nil p ∷ r)) → ((p : Place) (r : List Leaf) → P (k.Null p ∷ r)) → ((i : ℤ) (p : Place) (r : List Leaf) → P (k.Number i p ∷ r))
-    → ((p : Place) (r : List Leaf) → P (k.Dispose p ∷ r)) → ((p : Place) (r : List Leaf) → P (k.If p ∷ r)) → ((p : Place) (r : List Leaf) → P (k.While p ∷ r)) → ((p : Place) (r : List Leaf) → P (k.With p ∷ r)) → ((p : Place) (r : List Leaf) → P (k.OpenBrace p ∷ r))
-    → (c : s.Command) (r : List Leaf) → P (g.command c r)
-by_command P name nil null number dispose if_word while_word with_word brace (s.mutate a f b) r =
-    by_expr a (λ u. P (u ∷ k.Arrow ∷ k.Name f ∷ k.Equals ∷ g.expr b ∷ k.Semicolon ∷ r)) (λ w. name w _) (λ p. nil p _) (λ p. null p _) (λ i p. number i p _)
-by_command P name nil null number dispose if_word while_word with_word brace (s.assign x a) r = name x _
-by_command P name nil null number dispose if_word while_word with_word brace (s.look_up x a f) r = name x _
-by_command P name nil null number dispose if_word while_word with_word brace (s.new x) r = name x _
-by_command P name nil null number dispose if_word while_word with_word brace (s.dispose p a) r = dispose p _
-by_command P name nil null number dispose if_word while_word with_word brace (s.dispose_round p a) r = dispose p _
-by_command P name nil null number dispose if_word while_word with_word brace (s.if_alone p b c) r = if_word p _
-by_command P name nil null number dispose if_word while_word with_word brace (s.if p b c d) r = if_word p _
-by_command P name nil null number dispose if_word while_word with_word brace (s.while p b n c) r = while_word p _
-by_command P name nil null number dispose if_word while_word with_word brace (s.with p x b c) r = with_word p _
-by_command P name nil null number dispose if_word while_word with_word brace (s.call c) r = name c.name _
-by_command P name nil null number dispose if_word while_word with_word brace (s.fork c d) r = name c.name _
-by_command P name nil null number dispose if_word while_word with_word brace (s.block p cs q) r = brace p _
-
 no_else_front : (c : s.Command) (r : List Leaf) → NotElse (g.command c r)
-no_else_front = by_command NotElse (λ w r. tt) (λ p r. tt) (λ p r. tt) (λ i p r. tt) (λ p r. tt) (λ p r. tt) (λ p r. tt) (λ p r. tt) (λ p r. tt)
+no_else_front (s.new x) r = tt
+no_else_front _ r = tt
 
 pub no_else_fronts : (cs : s.Commands) (r : List Leaf) → NotElse r → NotElse (g.commands cs r)
 no_else_fronts s.done r h = h
@@ -51,39 +32,26 @@ no_else_fronts (s.then c cs) r h = no_else_front c (g.commands cs r)
 
 -- a command begins no note
 no_annotation : (n : ℕ) (c : s.Command) (r : List Leaf) (st : List Predicted) → verdict n (g.command c r) (m.maybe_annotation ∷ st) ≡ verdict n (g.command c r) st
-no_annotation n c r st =
-    by_command (λ z. verdict n z (m.maybe_annotation ∷ st) ≡ verdict n z st) (λ w r. refl) (λ p r. refl) (λ p r. refl) (λ i p r. refl) (λ p r. refl) (λ p r. refl) (λ p r. refl) (λ p r. refl) (λ p r. refl) c r
+no_annotation n (s.new x) r st = refl
+no_annotation n _ r st = refl
 
 -- the first of several commands
 one_of_many : (n : ℕ) (c : s.Command) (d : ℕ) (r : List Leaf) (st : List Predicted) → verdict n (g.command c r) (m.commands d ∷ st) ≡ verdict n (g.command c r) (m.command d ∷ m.commands d ∷ st)
-one_of_many n c d r st =
-    by_command (λ z. verdict n z (m.commands d ∷ st) ≡ verdict n z (m.command d ∷ m.commands d ∷ st)) (λ w r. refl) (λ p r. refl) (λ p r. refl) (λ i p r. refl) (λ p r. refl) (λ p r. refl) (λ p r. refl) (λ p r. refl) (λ p r. refl) c r
+one_of_many n (s.mutate (e.Name x) f b) d r st = refl
+one_of_many n (s.mutate _ f b) d r st = refl
+one_of_many n _ d r st = refl
 
 no_branch : (n : ℕ) (d : ℕ) (r : List Leaf) (st : List Predicted) → NotElse r → verdict n r (m.branch d ∷ st) ≡ verdict n r st
 no_branch n d [] st h = refl
 no_branch n d (k.Else ∷ r) st h = absurd h
 no_branch n d (_ ∷ r) st h = refl
 
-mutate_goes : (n : ℕ) (a : SurfaceExpr) (y : Word) (b : SurfaceExpr) (d : ℕ) (r : List Leaf) (st : List Predicted) → HasLevel n (suc (suc (suc (suc (suc (suc (length r))))))) d → verdict n (g.expr a ∷ k.Arrow ∷ k.Name y ∷ k.Equals ∷ g.expr b ∷ k.Semicolon ∷ r) (m.command d ∷ st) ≡ verdict n r st
-mutate_goes n (e.Name x) y b d r st w = rw w (expr_goes n b (k.Semicolon ∷ r) (m.exact m.semicolon ∷ st))
-mutate_goes n (e.Nil p) y b d r st w = rw w (expr_goes n b (k.Semicolon ∷ r) (m.exact m.semicolon ∷ st))
-mutate_goes n (e.Null p) y b d r st w = rw w (expr_goes n b (k.Semicolon ∷ r) (m.exact m.semicolon ∷ st))
-mutate_goes n (e.Number x p) y b d r st w = rw w (expr_goes n b (k.Semicolon ∷ r) (m.exact m.semicolon ∷ st))
-
-assigned_goes : (n : ℕ) (a : SurfaceExpr) (r : List Leaf) (st : List Predicted) → verdict n (g.expr a ∷ r) (m.assigned ∷ st) ≡ verdict n r (m.look_up_or_end ∷ st)
-assigned_goes n a r st = by_expr a (λ u. verdict n (u ∷ r) (m.assigned ∷ st) ≡ verdict n r (m.look_up_or_end ∷ st)) (λ w. refl) (λ p. refl) (λ p. refl) (λ i p. refl)
-
-disposed_goes : (n : ℕ) (a : SurfaceExpr) (r : List Leaf) (st : List Predicted) → verdict n (g.expr a ∷ r) (m.disposed ∷ st) ≡ verdict n r (m.exact m.semicolon ∷ st)
-disposed_goes n a r st = by_expr a (λ u. verdict n (u ∷ r) (m.disposed ∷ st) ≡ verdict n r (m.exact m.semicolon ∷ st)) (λ w. refl) (λ p. refl) (λ p. refl) (λ i p. refl)
-
 mutual
   command_goes : (n : ℕ) (c : s.Command) (d : ℕ) (r : List Leaf) (st : List Predicted) → CommandNearest c → CommandWithin c n d r → Follows c r → verdict n (g.command c r) (m.command d ∷ st) ≡ verdict n r st
-  command_goes n (s.assign x a) d r st near w f = rw w (assigned_goes n a (k.Semicolon ∷ r) st)
-  command_goes n (s.look_up x a y) d r st near w f = rw w (assigned_goes n a (k.Arrow ∷ k.Name y ∷ k.Semicolon ∷ r) st)
-  command_goes n (s.new x) d r st near w f = rw w refl
-  command_goes n (s.mutate a y b) d r st near w f = mutate_goes n a y b d r st w
-  command_goes n (s.dispose p a) d r st near w f = rw w (disposed_goes n a (k.Semicolon ∷ r) st)
-  command_goes n (s.dispose_round p a) d r st near w f = rw w (expr_goes n a (k.CloseRound ∷ k.Semicolon ∷ r) (m.exact m.close_round ∷ m.exact m.semicolon ∷ st))
+  command_goes n (s.mutate (e.Name x) y b) d r st near w f = rw w refl
+  command_goes n (s.mutate _ y b) d r st near w f = rw w refl
+  command_goes n (s.dispose p true a) d r st near w f = rw w refl
+  command_goes n (s.dispose p false a) d r st near w f = rw w refl
   command_goes n (s.if_alone p b c) d r st near w f =
       rw w.0 (test_goes n b (k.CloseRound ∷ g.command c r) (m.exact m.close_round ∷ m.command (d - 1) ∷ m.branch (d - 1) ∷ st)
       ∙ command_goes n c (d - 1) r (m.branch (d - 1) ∷ st) near w.1 (follows_any c r f) ∙ no_branch n (d - 1) r st f)
@@ -99,6 +67,7 @@ mutual
   command_goes n (s.fork c x) d r st near w f =
       rw w (arguments_go n c.arguments (k.Bars ∷ g.call x (k.Semicolon ∷ r)) (m.after_call ∷ st) ∙ arguments_go n x.arguments (k.Semicolon ∷ r) (m.exact m.semicolon ∷ st))
   command_goes n (s.block p cs o) d r st near w f = rw w.0 (commands_go n cs (d - 1) (k.CloseBrace o ∷ r) (m.exact m.close_brace ∷ st) near w.1 tt ∙ refl)
+  command_goes n _ d r st near w f = rw w refl
 
   commands_go : (n : ℕ) (cs : s.Commands) (d : ℕ) (r : List Leaf) (st : List Predicted) → CommandsNearest cs → CommandsWithin cs n d r → NotElse r → verdict n (g.commands cs r) (m.commands d ∷ st) ≡ verdict n r (m.commands d ∷ st)
   commands_go n s.done d r st near w h = refl
@@ -107,8 +76,8 @@ mutual
 
 -- a body after its `local`s
 no_local : (n : ℕ) (c : s.Command) (r : List Leaf) (st : List Predicted) → verdict n (g.command c r) (m.locals ∷ st) ≡ verdict n (g.command c r) st
-no_local n c r st =
-    by_command (λ z. verdict n z (m.locals ∷ st) ≡ verdict n z st) (λ w r. refl) (λ p r. refl) (λ p r. refl) (λ i p r. refl) (λ p r. refl) (λ p r. refl) (λ p r. refl) (λ p r. refl) (λ p r. refl) c r
+no_local n (s.new x) r st = refl
+no_local n _ r st = refl
 
 no_locals : (n : ℕ) (cs : s.Commands) (p : Place) (r : List Leaf) (st : List Predicted) → verdict n (g.commands cs (k.CloseBrace p ∷ r)) (m.locals ∷ st) ≡ verdict n (g.commands cs (k.CloseBrace p ∷ r)) st
 no_locals n s.done p r st = refl

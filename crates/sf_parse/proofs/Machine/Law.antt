@@ -1,21 +1,22 @@
 -- The machine's verdict is exactly that of the grammar.
-use Rattle.std.proofs.Common.{◌≡◌, ◌<◌, ℕ, suc, List, [], ◌∷◌, ◌++◌, length, Bool, true, false, None, ◌⊎◌, inl, inr, refl, sym, ap, subst, ◌∙◌, arith, append_assoc, length-append}
+use Rattle.std.proofs.Common.{◌≡◌, ◌<◌, ℕ, suc, List, [], ◌∷◌, ◌++◌, length, Bool, true, false, ◌⊎◌, inl, inr, refl, sym, ap, subst, ◌∙◌, arith, append_assoc, length-append}
 use Rattle.std.proofs.lemmas.List.{append-nil}
-use Rattle.sf_ast.specs.Surface as s
 use Rattle.sf_ast.specs.Surface.{Item}
 use Rattle.sf_parse.specs.Leaf.{Leaf}
 use Rattle.sf_parse.specs.Grammar.{items}
 use Rattle.sf_parse.specs.Laws.{TheVerdictIsExact}
 use Rattle.sf_parse.specs.Internal.Machine as m
-use Rattle.sf_parse.specs.Internal.Machine.{Predicted, Next, goes, bad, deep, step, accepted, unexpected, too_deep, at_end, may_end, both, is_optional, after, verdict}
+use Rattle.sf_parse.specs.Internal.Machine.{Predicted, accepted, unexpected, too_deep, at_end, may_end, both, is_optional, verdict}
 use Rattle.sf_parse.specs.Nearest.{IsNearest}
 use Rattle.sf_parse.specs.Nesting.{ItemsWithin}
 use Rattle.sf_parse.specs.Parsing.{CanBegin}
 use Rattle.sf_parse.proofs.Grammar.Depths.{items_free}
+use Rattle.sf_parse.proofs.Machine.Complete.{skipped}
 use Rattle.sf_parse.proofs.Machine.Exactly.{GoesOn, fault_of, viable, stuck, deep_any}
 use Rattle.sf_parse.proofs.Machine.ForthFiles.{items_go}
-use Rattle.sf_parse.proofs.Machine.Means.{Spells, Means, MeansNext}
-use Rattle.sf_parse.proofs.Machine.OwedBack.{step_back}
+use Rattle.sf_parse.proofs.Machine.Means.{Spells, Means}
+use Rattle.sf_parse.proofs.Machine.Happens.{Happens, takes, exceeds, refuses, happens, on_takes, on_exceeds, on_refuses}
+use Rattle.sf_parse.proofs.Machine.OwedBack.{step_back, next_means}
 
 -- a file, from what the stack with which the machine begins spells
 file_of : (n : ℕ) (ts : List Leaf) → Means n (m.items ∷ []) ts → (tree : List Item) × (ts ≡ items tree []) × ItemsWithin tree n [] × IsNearest tree
@@ -29,30 +30,15 @@ can_begin front q =
 pub file_accepted : (n : ℕ) (ts : List Leaf) (tree : List Item) → ts ≡ items tree [] → IsNearest tree → ItemsWithin tree n [] → verdict n ts (m.items ∷ []) ≡ accepted
 file_accepted n ts tree is near w = ap (λ z. verdict n z (m.items ∷ [])) is ∙ items_go n tree near w
 
-pub refuses : (n : ℕ) (front : List Leaf) (t : Leaf) (back other : List Leaf) (b : Bool) → (b ≡ true) ⊎ (n < suc (length other)) → verdict 0 (front ++ t ∷ back) (m.items ∷ []) ≡ fault_of b (suc (length back))
+pub refused : (n : ℕ) (front : List Leaf) (t : Leaf) (back other : List Leaf) (b : Bool) → (b ≡ true) ⊎ (n < suc (length other)) → verdict 0 (front ++ t ∷ back) (m.items ∷ []) ≡ fault_of b (suc (length back))
     → (tree : List Item) → (front ++ t ∷ []) ++ other ≡ items tree [] → IsNearest tree → ItemsWithin tree n [] → ⊥
-refuses n front t back other b z e tree is near w =
+refused n front t back other b z e tree is near w =
     stuck front t back other (m.items ∷ []) b n z e (file_accepted n (front ++ t ∷ other) tree (sym (append_assoc front (t ∷ []) other) ∙ is) near w)
 
 -- what need not come is spelled by nothing
 optional_spells : (n : ℕ) (o : Predicted) → is_optional o ≡ true → Spells n o [] []
-optional_spells n m.more_names h = ([], refl)
-optional_spells n m.maybe_names h = ([], refl)
-optional_spells n m.maybe_values h = inl refl
-optional_spells n m.maybe_arguments h = (s.values [], refl)
-optional_spells n (m.rest b) h = inl ([], refl)
-optional_spells n m.maybe_expressions h = ([], refl)
-optional_spells n m.more_expressions h = ([], refl)
-optional_spells n m.maybe_fields h = ([], refl)
-optional_spells n m.more_fields h = ([], refl)
-optional_spells n (m.more_conjuncts d) h = inl (tt, refl)
-optional_spells n m.maybe_assertion h = inl refl
-optional_spells n m.maybe_annotation h = (None, refl, tt, tt)
-optional_spells n (m.commands d) h = (s.done, refl, tt, tt)
 optional_spells n (m.branch d) h = inr (tt, refl)
-optional_spells n m.locals h = ([], refl)
-optional_spells n m.items h = ([], refl, tt, tt)
-optional_spells n _ h = absurd cc
+optional_spells n o h = skipped n o [] tt h
 
 both_left : (a b : Bool) → both a b ≡ true → a ≡ true
 both_left true b h = refl
@@ -74,12 +60,12 @@ at_end_accepted false h = absurd cc
 -- what is accepted is spelled
 accepted_means : (n : ℕ) (ts : List Leaf) (st : List Predicted) → verdict n ts st ≡ accepted → Means n st ts
 accepted_means n [] st h = ended n st (at_end_accepted (may_end st) h)
-accepted_means n (t ∷ ts) st h = go (step n (suc (length ts)) st t) refl (accepted_means n ts) h
+accepted_means n (t ∷ ts) st h = go (happens n (suc (length ts)) st t) (accepted_means n ts)
   where
-    go : (x : Next) → step n (suc (length ts)) st t ≡ x → ((st2 : List Predicted) → verdict n ts st2 ≡ accepted → Means n st2 ts) → after (λ s. verdict n ts s) (suc (length ts)) x ≡ accepted → Means n st (t ∷ ts)
-    go (goes st2) is f h = step_back n st t ts (subst (λ (x : Next). MeansNext n x ts) (sym is) (f st2 h))
-    go bad is f h = absurd cc
-    go deep is f h = absurd cc
+    go : Happens n (suc (length ts)) st t → ((st2 : List Predicted) → verdict n ts st2 ≡ accepted → Means n st2 ts) → Means n st (t ∷ ts)
+    go (takes s st2 e f) more = step_back n st t ts (next_means n st t ts s st2 e f (more st2 (sym (on_takes n ts st st2 t s e f) ∙ h)))
+    go (exceeds s st2 e f) more = absurd (cc (on_exceeds n ts st st2 t s e f, h))
+    go (refuses e) more = absurd (cc (on_refuses n ts st t e, h))
 
 -- what is accepted is a file
 pub accepted_file : (n : ℕ) (ts : List Leaf) → verdict n ts (m.items ∷ []) ≡ accepted → (tree : List Item) × (ts ≡ items tree []) × ItemsWithin tree n [] × IsNearest tree
@@ -91,7 +77,7 @@ exact ts = record {
   accepts = λ e. let f = accepted_file 0 ts e in record { tree = f.0; spells = f.1; nearest = f.3; within = f.2 };
   wrong = λ front t back is e.
       let v : verdict 0 (front ++ t ∷ back) (m.items ∷ []) ≡ unexpected (suc (length back)) = subst (λ z. verdict 0 z (m.items ∷ []) ≡ unexpected (suc (length back))) is e in
-      (can_begin front (viable front (t ∷ back) (m.items ∷ []) true v), λ q. refuses (length (items q.tree [])) front t back q.back true (inl refl) v q.tree q.spells q.nearest (items_free q.tree (length (items q.tree [])) [] (omega arith)));
+      (can_begin front (viable front (t ∷ back) (m.items ∷ []) true v), λ q. refused (length (items q.tree [])) front t back q.back true (inl refl) v q.tree q.spells q.nearest (items_free q.tree (length (items q.tree [])) [] (omega arith)));
   ends = λ e.
       let v : verdict 0 (ts ++ []) (m.items ∷ []) ≡ unexpected 0 = subst (λ z. verdict 0 z (m.items ∷ []) ≡ unexpected 0) (sym (append-nil ts)) e in
       (can_begin ts (viable ts [] (m.items ∷ []) true v), λ f. let g : verdict 0 ts (m.items ∷ []) ≡ accepted = file_accepted 0 ts f.tree f.spells f.nearest f.within in let h : unexpected 0 ≡ accepted = sym e ∙ g in cc);
@@ -102,6 +88,6 @@ exact ts = record {
       let f = file_of n (front ++ t ∷ d.0) (d.1 n (omega (arith, length-append front (t ∷ []), length-append (front ++ t ∷ []) d.0))) in (
         can_begin front (viable front (t ∷ back) (m.items ∷ []) false v),
         record { back = d.0; tree = f.0; spells = append_assoc front (t ∷ []) d.0 ∙ f.1; nearest = f.3 },
-        λ q. refuses (length q.back) front t back q.back false (inr (omega arith)) v q.tree q.spells q.nearest q.within,
+        λ q. refused (length q.back) front t back q.back false (inr (omega arith)) v q.tree q.spells q.nearest q.within,
       );
 }

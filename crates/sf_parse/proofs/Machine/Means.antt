@@ -1,5 +1,5 @@
 -- What a stack stands for: the tokens that each thing owed spells, one after the other.
-use Rattle.std.proofs.Common.{◌≡◌, ℕ, List, [], ◌∷◌, true, Option, ◌⊎◌}
+use Rattle.std.proofs.Common.{◌≡◌, ℕ, suc, List, [], ◌∷◌, ◌++◌, length, Bool, true, false, Option, ◌⊎◌}
 use Rattle.sf_base.specs.declared.limits.TheConstants.{NESTING}
 use Rattle.sf_ast.specs.declared.assertion.SurfaceField.{SurfaceField}
 use Rattle.sf_ast.specs.declared.word.SurfaceExpr.{SurfaceExpr}
@@ -25,7 +25,7 @@ Spells n m.operand ts r = (x : SurfaceOperand) × (ts ≡ g.operand x ∷ r)
 Spells n m.equality ts r = (ts ≡ k.EqualEqual ∷ r) ⊎ (ts ≡ k.NotEqual ∷ r)
 Spells n m.test ts r = (b : SurfaceTest SurfaceExpr) × (ts ≡ g.test g.expr b r)
 Spells n m.operand_test ts r = (b : SurfaceTest SurfaceOperand) × (ts ≡ g.test g.operand b r)
-Spells n m.if_test ts r = ((b : SurfaceTest SurfaceOperand) × (ts ≡ g.test g.operand b r)) ⊎ ((b : SurfaceTest SurfaceOperand) × (ts ≡ k.OpenRound ∷ g.test g.operand b (k.CloseRound ∷ r)))
+Spells n m.if_test ts r = (round : Bool) × (b : SurfaceTest SurfaceOperand) × (ts ≡ g.bracketed round (g.test g.operand b) r)
 Spells n m.more_names ts r = (xs : List Word) × (ts ≡ g.more_names xs r)
 Spells n m.maybe_names ts r = (xs : List Word) × (ts ≡ g.maybe_names xs r)
 Spells n m.maybe_values ts r = (ts ≡ r) ⊎ ((xs : List Word) × (ts ≡ k.Semicolon ∷ g.maybe_names xs r))
@@ -46,7 +46,7 @@ Spells n m.named ts r = (x : Word) → (c : s.Command) × IsFlat c × (k.Name x 
 Spells n m.assigned ts r = (x : Word) → (c : s.Command) × IsFlat c × (k.Name x ∷ k.Equals ∷ ts ≡ g.command c r)
 Spells n m.look_up_or_end ts r = (ts ≡ k.Semicolon ∷ r) ⊎ ((f : Word) × (ts ≡ k.Arrow ∷ k.Name f ∷ k.Semicolon ∷ r))
 Spells n m.after_call ts r = (ts ≡ k.Semicolon ∷ r) ⊎ ((x : s.Call) × (ts ≡ k.Bars ∷ g.call x (k.Semicolon ∷ r)))
-Spells n m.disposed ts r = ((x : SurfaceExpr) × (ts ≡ k.OpenRound ∷ g.expr x ∷ k.CloseRound ∷ k.Semicolon ∷ r)) ⊎ ((x : SurfaceExpr) × (ts ≡ g.expr x ∷ k.Semicolon ∷ r))
+Spells n m.disposed ts r = (round : Bool) × (x : SurfaceExpr) × (ts ≡ g.bracketed round (λ q. g.expr x ∷ q) (k.Semicolon ∷ r))
 Spells n (m.command d) ts r = (c : s.Command) × (ts ≡ g.command c r) × CommandWithin c n d r × Follows c r × CommandNearest c
 Spells n (m.commands d) ts r = (cs : s.Commands) × (ts ≡ g.commands cs r) × CommandsWithin cs n d r × CommandsNearest cs
 Spells n (m.branch d) ts r = ((c : s.Command) × (ts ≡ k.Else ∷ g.command c r) × CommandWithin c n d r × Follows c r × CommandNearest c) ⊎ (NotElse ts × (ts ≡ r))
@@ -59,7 +59,14 @@ abbrev pub Means : ℕ → List Predicted → List Leaf → Type 0
 Means n [] ts = ts ≡ []
 Means n (s ∷ st) ts = (r : List Leaf) × Spells n s ts r × Means n st r
 
-abbrev pub MeansNext : ℕ → m.Next → List Leaf → Type 0
-MeansNext n (m.goes st) ts = Means n st ts
-MeansNext n m.bad ts = ⊥
-MeansNext n m.deep ts = ⊥
+-- what is chosen at one token spells the tokens after it; where that is to do without, this holds
+abbrev pub MeansChosen : ℕ → m.Choice → (free : Bool) → List Predicted → (without : Type 0) → List Leaf → Type 0
+MeansChosen n (m.take ss) true st w ts = Means n (ss ++ st) ts
+MeansChosen n (m.take ss) false st w ts = ⊥
+MeansChosen n m.skip free st w ts = w
+MeansChosen n m.refuse free st w ts = ⊥
+
+-- the whole stack does so
+abbrev pub MeansNext : ℕ → List Predicted → Leaf → List Leaf → Type 0
+MeansNext n [] t ts = ⊥
+MeansNext n (s ∷ st) t ts = MeansChosen n (m.choice s t) (m.is_free s n (suc (length ts))) st (MeansNext n st t ts) ts

@@ -1,11 +1,12 @@
 -- One token back, for each thing that may be owed, and for a whole stack.
-use Rattle.std.proofs.Common.{◌≡◌, ℕ, suc, List, [], ◌∷◌, length, Bool, true, false, Some, None, ◌⊎◌, inl, inr, refl, ap, subst, ◌∙◌}
+use Rattle.std.proofs.Common.{◌≡◌, ℕ, suc, List, [], ◌∷◌, ◌++◌, length, Bool, true, false, Some, None, ◌⊎◌, inl, inr, refl, ap, subst, ◌∙◌}
 use Rattle.sf_base.specs.declared.limits.TheConstants.{NESTING}
 use Rattle.sf_base.specs.declared.place.Place.{Place}
 use Rattle.sf_ast.specs.declared.assertion.SurfaceField.{SurfaceField}
 use Rattle.sf_ast.specs.declared.word.SurfaceExpr.{SurfaceExpr}
 use Rattle.sf_ast.specs.declared.word.SurfaceExpr.TheVariants as e
 use Rattle.sf_ast.specs.declared.word.SurfaceOperand.{SurfaceOperand}
+use Rattle.sf_ast.specs.declared.word.SurfaceOperand.TheVariants as v
 use Rattle.sf_ast.specs.declared.word.SurfaceTest.{SurfaceTest}
 use Rattle.sf_ast.specs.declared.word.SurfaceTest.TheVariants as t
 use Rattle.sf_ast.specs.declared.word.Word.{Word}
@@ -14,12 +15,12 @@ use Rattle.sf_parse.specs.Leaf.{Leaf}
 use Rattle.sf_parse.specs.Leaf as k
 use Rattle.sf_parse.specs.Grammar as g
 use Rattle.sf_parse.specs.Internal.Machine as m
-use Rattle.sf_parse.specs.Internal.Machine.{Predicted, Choice, take, skip, refuse, Next, goes, bad, deep, leveled, chosen, choice, is_free, step, or_skip, terminal_leaf, on_exact, on_expression, on_operand, on_operand_test, on_next, on_conjunct, on_command}
+use Rattle.sf_parse.specs.Internal.Machine.{Predicted, Choice, take, skip, refuse, goes, chosen, choice, is_free, step, or_skip, terminal_leaf, on_exact, on_expression, on_operand, on_operand_test, on_next, on_conjunct, on_command}
 use Rattle.sf_parse.specs.Nearest.{ConjunctNearest, AssertionNearest, NoteNearest, CommandNearest}
 use Rattle.sf_parse.specs.Nesting.{has_level, ConjunctWithin, AssertionWithin, RestWithin, NoteWithin, MaybeWithin, CommandWithin, CommandsWithin, ItemWithin}
 use Rattle.sf_parse.specs.Internal.Parser.{NotStar, Ends}
 use Rattle.sf_parse.proofs.Machine.Forth.{closed_before_star}
-use Rattle.sf_parse.proofs.Machine.Means.{Spells, Means, MeansNext}
+use Rattle.sf_parse.proofs.Machine.Means.{Spells, Means, MeansChosen, MeansNext}
 use Rattle.sf_parse.proofs.Machine.Back.{expr_back, operand_back, or_skip_back, accepts_back, command_accepts, conjunct_accepts, conjunct_back, command_back}
 
 -- some word there
@@ -34,8 +35,8 @@ record ExactBack (n : ℕ) (terminal : m.Terminal) (u : Leaf) (st : List Predict
   is : u ≡ terminal_leaf terminal text
   more : Means n st ts
 
-exact_back : (n : ℕ) (terminal : m.Terminal) (u : Leaf) (st : List Predicted) (w : Next) (ts : List Leaf) → MeansNext n (chosen (on_exact terminal u) true st w) ts → ExactBack n terminal u st ts
-exact_back n m.a_name (k.Name x) st w ts q = record { text = x; is = refl; more = q }
+exact_back : (n : ℕ) (terminal : m.Terminal) (u : Leaf) (st : List Predicted) (w : Type 0) (ts : List Leaf) → MeansChosen n (on_exact terminal u) true st w ts → ExactBack n terminal u st ts
+exact_back n m.a_name (k.Operand (v.Known (e.Name x))) st w ts q = record { text = x; is = refl; more = q }
 exact_back n m.an_arrow k.Arrow st w ts q = record { text = a_word; is = refl; more = q }
 exact_back n m.equals k.Equals st w ts q = record { text = a_word; is = refl; more = q }
 exact_back n m.semicolon k.Semicolon st w ts q = record { text = a_word; is = refl; more = q }
@@ -53,8 +54,8 @@ exact_back n m.when_word k.When st w ts q = record { text = a_word; is = refl; m
 exact_back n _ _ st w ts q = absurd q
 
 -- what comes next where the topmost is done without
-abbrev Without : ℕ → List Predicted → Leaf → Next → List Leaf → Type 0
-Without n st u w ts = MeansNext n w ts → Means n st (u ∷ ts)
+abbrev Without : ℕ → List Predicted → Leaf → Type 0 → List Leaf → Type 0
+Without n st u w ts = w → Means n st (u ∷ ts)
 
 -- two values with `==` or `!=` between them are a test
 compared : {E : Type 0} (side : E → Leaf) (n : ℕ) (u : Leaf) (ts r1 r2 : List Leaf) (x y : E) → u ≡ side x → Spells n m.equality ts r1 → r1 ≡ side y ∷ r2 → (b : SurfaceTest E) × (u ∷ ts ≡ g.test side b r2)
@@ -67,15 +68,15 @@ compared_values n st u ts x h (r1, q, (r2, y, more)) = (r2, compared g.expr n u 
 compared_operands : (n : ℕ) (st : List Predicted) (u : Leaf) (ts : List Leaf) (x : SurfaceOperand) → u ≡ g.operand x → Means n (m.equality ∷ m.operand ∷ st) ts → Means n (m.operand_test ∷ st) (u ∷ ts)
 compared_operands n st u ts x h (r1, q, (r2, y, more)) = (r2, compared g.operand n u ts r1 r2 x y.0 h q y.1, more)
 
-operand_test_back : (n : ℕ) (st : List Predicted) (u : Leaf) (w : Next) (ts : List Leaf) → MeansNext n (chosen (on_operand_test u) true st w) ts → Means n (m.operand_test ∷ st) (u ∷ ts)
+operand_test_back : (n : ℕ) (st : List Predicted) (u : Leaf) (w : Type 0) (ts : List Leaf) → MeansChosen n (on_operand_test u) true st w ts → Means n (m.operand_test ∷ st) (u ∷ ts)
 operand_test_back n st (k.True p) w ts q = (ts, (t.True p, refl), q)
 operand_test_back n st u w ts q = let o = operand_back n u (m.equality ∷ m.operand ∷ []) st w ts q in compared_operands n st u ts o.expr o.is o.more
 
 bare_test : (n : ℕ) (st : List Predicted) (ts : List Leaf) → Means n (m.operand_test ∷ st) ts → Means n (m.if_test ∷ st) ts
-bare_test n st ts (r, b, more) = (r, inl b, more)
+bare_test n st ts (r, b, more) = (r, (false, b.0, b.1), more)
 
 round_test : (n : ℕ) (st : List Predicted) (ts : List Leaf) → Means n (m.operand_test ∷ m.exact m.close_round ∷ st) ts → Means n (m.if_test ∷ st) (k.OpenRound ∷ ts)
-round_test n st ts (r1, b, (r2, c, more)) = (r2, inr (b.0, ap (λ z. k.OpenRound ∷ z) (b.1 ∙ ap (λ z. g.test g.operand b.0 z) c.1)), more)
+round_test n st ts (r1, b, (r2, c, more)) = (r2, (true, b.0, ap (λ z. k.OpenRound ∷ z) (b.1 ∙ ap (λ z. g.test g.operand b.0 z) c.1)), more)
 
 one_more_name : (n : ℕ) (st : List Predicted) (ts : List Leaf) → Means n (m.exact m.a_name ∷ m.more_names ∷ st) ts → Means n (m.more_names ∷ st) (k.Comma ∷ ts)
 one_more_name n st ts (r1, a, (r2, xs, more)) = (r2, (a.0 ∷ xs.0, ap (λ z. k.Comma ∷ z) (a.1 ∙ ap (λ z. k.Name a.0 ∷ z) xs.1)), more)
@@ -88,8 +89,8 @@ next_value : (n : ℕ) (b : Bool) (u : Leaf) (x : SurfaceExpr) (ts r : List Leaf
 next_value n b u x ts r h (inl q) = let xs = q.0 in let is : ts ≡ g.more_exprs xs r = q.1 in inl (x, xs, (let whole : u ∷ ts ≡ g.expr x ∷ g.more_exprs xs r = cc in whole))
 next_value n b u x ts r h (inr q) = let wrong : false ≡ true = q.0 in absurd cc
 
-next_back : (n : ℕ) (b : Bool) (st : List Predicted) (u : Leaf) (w : Next) (ts : List Leaf) → MeansNext n (chosen (on_next b u) true st w) ts → Means n (m.next b ∷ st) (u ∷ ts)
-next_back n b st (k.Name x) w ts (r, q, more) = (r, next_name n b x ts r q, more)
+next_back : (n : ℕ) (b : Bool) (st : List Predicted) (u : Leaf) (w : Type 0) (ts : List Leaf) → MeansChosen n (on_next b u) true st w ts → Means n (m.next b ∷ st) (u ∷ ts)
+next_back n b st (k.Operand (v.Known (e.Name x))) w ts (r, q, more) = (r, next_name n b x ts r q, more)
 next_back n b st u w ts q =
     let o = expr_back n u (m.rest false ∷ []) st w ts q in
     (o.more.0, next_value n b u o.expr ts o.more.0 o.is o.more.1, o.more.2)
@@ -98,7 +99,7 @@ as_arguments : (n : ℕ) (ts r : List Leaf) → Spells n (m.next true) ts r → 
 as_arguments n ts r (inl q) = (s.values (q.0 ∷ q.1), q.2)
 as_arguments n ts r (inr q) = (s.both (q.1 ∷ q.2) q.3, q.4)
 
-arguments_back : (n : ℕ) (st : List Predicted) (u : Leaf) (w : Next) (ts : List Leaf) → Without n st u w ts → ((true ≡ true) × MeansNext n (chosen (on_next true u) true st w) ts) ⊎ MeansNext n w ts → Means n (m.maybe_arguments ∷ st) (u ∷ ts)
+arguments_back : (n : ℕ) (st : List Predicted) (u : Leaf) (w : Type 0) (ts : List Leaf) → Without n st u w ts → ((true ≡ true) × MeansChosen n (on_next true u) true st w ts) ⊎ w → Means n (m.maybe_arguments ∷ st) (u ∷ ts)
 arguments_back n st u w ts f (inl q) = let o = next_back n true st u w ts q.1 in (o.0, as_arguments n (u ∷ ts) o.0 o.1, o.2)
 arguments_back n st u w ts f (inr q) = (u ∷ ts, (s.values [], refl), f q)
 
@@ -109,7 +110,7 @@ rest_comma n b ts r (inr q) = inr (q.0, q.1 ∷ q.2, q.3, ap (λ z. k.Comma ∷ 
 first_of_more : (n : ℕ) (st : List Predicted) (u : Leaf) (x : SurfaceExpr) (ts : List Leaf) → u ≡ g.expr x → Means n (m.more_expressions ∷ st) ts → Means n (m.maybe_expressions ∷ st) (u ∷ ts)
 first_of_more n st u x ts h (r, q, more) = let xs = q.0 in let is : ts ≡ g.more_exprs xs r = q.1 in (r, (x ∷ xs, (let whole : u ∷ ts ≡ g.expr x ∷ g.more_exprs xs r = cc in whole)), more)
 
-maybe_expressions_back : (n : ℕ) (st : List Predicted) (u : Leaf) (w : Next) (ts : List Leaf) → Without n st u w ts → ((true ≡ true) × MeansNext n (chosen (on_expression u (m.more_expressions ∷ [])) true st w) ts) ⊎ MeansNext n w ts → Means n (m.maybe_expressions ∷ st) (u ∷ ts)
+maybe_expressions_back : (n : ℕ) (st : List Predicted) (u : Leaf) (w : Type 0) (ts : List Leaf) → Without n st u w ts → ((true ≡ true) × MeansChosen n (on_expression u (m.more_expressions ∷ [])) true st w ts) ⊎ w → Means n (m.maybe_expressions ∷ st) (u ∷ ts)
 maybe_expressions_back n st u w ts f (inl q) = let o = expr_back n u (m.more_expressions ∷ []) st w ts q.1 in first_of_more n st u o.expr ts o.is o.more
 maybe_expressions_back n st u w ts f (inr q) = (u ∷ ts, ([], refl), f q)
 
@@ -141,7 +142,7 @@ assertion_of n d st u ts lv c r is w near e (q, mc, more) =
     let whole : u ∷ ts ≡ g.assertion o.0 q = is ∙ o.1 in
     (q, (o.0, whole, leveled_assertion n d o.0 q (subst (λ z. has_level n (length z) d ≡ true) whole lv) o.2, o.3, o.4), more)
 
-conjunct_predicted : (n d : ℕ) (st : List Predicted) (u : Leaf) (w : Next) (ts : List Leaf) → MeansNext n (chosen (on_conjunct d u []) true st w) ts → Means n (m.conjunct d ∷ st) (u ∷ ts)
+conjunct_predicted : (n d : ℕ) (st : List Predicted) (u : Leaf) (w : Type 0) (ts : List Leaf) → MeansChosen n (on_conjunct d u []) true st w ts → Means n (m.conjunct d ∷ st) (u ∷ ts)
 conjunct_predicted n d st u w ts q = let o = conjunct_back n d u [] st w ts q in (o.rest, (o.conjunct, o.spells, o.within, o.ends, o.nearest), o.more)
 
 more_conjuncts_star : (n d : ℕ) (st : List Predicted) (ts : List Leaf) → Means n (m.conjunct d ∷ m.more_conjuncts d ∷ st) ts → Means n (m.more_conjuncts d ∷ st) (k.Star ∷ ts)
@@ -149,7 +150,7 @@ more_conjuncts_star n d st ts (r1, c, (r2, mc, more)) =
     let o = with_more n d c.0 r1 r2 c.2 c.4 c.3 mc in
     (r2, inr (o.0, ap (λ z. k.Star ∷ z) (c.1 ∙ o.1), o.2, o.3, o.4), more)
 
-assertion_back : (n d : ℕ) (st : List Predicted) (u : Leaf) (w : Next) (ts : List Leaf) → (has_level n (suc (length ts)) d ≡ true) × MeansNext n (chosen (on_conjunct d u (m.more_conjuncts d ∷ [])) true st w) ts → Means n (m.assertion d ∷ st) (u ∷ ts)
+assertion_back : (n d : ℕ) (st : List Predicted) (u : Leaf) (w : Type 0) (ts : List Leaf) → (has_level n (suc (length ts)) d ≡ true) × MeansChosen n (on_conjunct d u (m.more_conjuncts d ∷ [])) true st w ts → Means n (m.assertion d ∷ st) (u ∷ ts)
 assertion_back n d st u w ts q =
     let o = conjunct_back n d u (m.more_conjuncts d ∷ []) st w ts q.1 in
     assertion_of n d st u ts q.0 o.conjunct o.rest o.spells o.within o.nearest o.ends o.more
@@ -157,7 +158,7 @@ assertion_back n d st u w ts q =
 an_assertion : (n : ℕ) (st : List Predicted) (ts : List Leaf) → Means n (m.assertion NESTING ∷ st) ts → Means n (m.maybe_assertion ∷ st) ts
 an_assertion n st ts (r, a, more) = (r, inr a, more)
 
-maybe_assertion_back : (n : ℕ) (st : List Predicted) (u : Leaf) (w : Next) (ts : List Leaf) → Without n st u w ts → ((true ≡ true) × MeansNext n (chosen (on_conjunct NESTING u (m.more_conjuncts NESTING ∷ [])) true st w) ts) ⊎ MeansNext n w ts → Means n (m.maybe_assertion ∷ st) (u ∷ ts)
+maybe_assertion_back : (n : ℕ) (st : List Predicted) (u : Leaf) (w : Type 0) (ts : List Leaf) → Without n st u w ts → ((true ≡ true) × MeansChosen n (on_conjunct NESTING u (m.more_conjuncts NESTING ∷ [])) true st w ts) ⊎ w → Means n (m.maybe_assertion ∷ st) (u ∷ ts)
 maybe_assertion_back n st u w ts f (inl q) = an_assertion n st (u ∷ ts) (assertion_back n NESTING st u w ts (refl, q.1))
 maybe_assertion_back n st u w ts f (inr q) = (u ∷ ts, inl refl, f q)
 
@@ -197,20 +198,18 @@ arrow_end n st ts (r1, a, (r2, b, more)) = (r2, inr (a.0, cc), more)
 second_call : (n : ℕ) (st : List Predicted) (ts : List Leaf) → Means n (m.exact m.a_name ∷ m.exact m.open_round ∷ m.maybe_arguments ∷ m.exact m.close_round ∷ m.exact m.semicolon ∷ st) ts → Means n (m.after_call ∷ st) (k.Bars ∷ ts)
 second_call n st ts (r1, a, (r2, b, (r3, x, (r4, c, (r5, d, more))))) =
     let call : s.Call = record { name = a.0; arguments = x.0 } in
-    let whole : k.Bars ∷ ts ≡ k.Bars ∷ g.call call (k.Semicolon ∷ r5) =
-    ap (λ z. k.Bars ∷ z) (a.1 ∙ ap (λ z. k.Name a.0 ∷ z) (b.1 ∙ ap (λ z. k.OpenRound ∷ z) (x.1 ∙ ap (λ z. g.arguments x.0 z) (c.1 ∙ ap (λ z. k.CloseRound ∷ z) d.1)))) in
-    (r5, inr (call, whole), more)
+    (r5, inr (call, (let whole : k.Bars ∷ ts ≡ k.Bars ∷ g.call call (k.Semicolon ∷ r5) = cc in whole)), more)
 
 round_disposed : (n : ℕ) (st : List Predicted) (ts : List Leaf) → Means n (m.expression ∷ m.exact m.close_round ∷ m.exact m.semicolon ∷ st) ts → Means n (m.disposed ∷ st) (k.OpenRound ∷ ts)
-round_disposed n st ts (r1, x, (r2, b, (r3, c, more))) = (r3, inl (x.0, cc), more)
+round_disposed n st ts (r1, x, (r2, b, (r3, c, more))) = (r3, (true, x.0, cc), more)
 
-command_predicted : (n d : ℕ) (st : List Predicted) (u : Leaf) (w : Next) (ts : List Leaf) → (has_level n (suc (length ts)) d ≡ true) × MeansNext n (chosen (on_command d u []) true st w) ts → Means n (m.command d ∷ st) (u ∷ ts)
+command_predicted : (n d : ℕ) (st : List Predicted) (u : Leaf) (w : Type 0) (ts : List Leaf) → (has_level n (suc (length ts)) d ≡ true) × MeansChosen n (on_command d u []) true st w ts → Means n (m.command d ∷ st) (u ∷ ts)
 command_predicted n d st u w ts q = let o = command_back n d u [] st w ts q.1 in (o.rest, (o.command, o.spells, o.within q.0, o.follows, o.nearest), o.more)
 
 then_commands : (n d : ℕ) (st : List Predicted) (u : Leaf) (ts : List Leaf) (c : s.Command) (r : List Leaf) → u ∷ ts ≡ g.command c r → CommandWithin c n d r → CommandNearest c → Means n (m.commands d ∷ st) r → Means n (m.commands d ∷ st) (u ∷ ts)
 then_commands n d st u ts c r is w near (q, cs, more) = (q, (s.then c cs.0, is ∙ ap (λ z. g.command c z) cs.1, (subst (λ z. CommandWithin c n d z) cs.1 w, cs.2), (near, cs.3)), more)
 
-commands_back : (n d : ℕ) (st : List Predicted) (u : Leaf) (w : Next) (ts : List Leaf) → Without n st u w ts → ((has_level n (suc (length ts)) d ≡ true) × MeansNext n (chosen (on_command d u (m.commands d ∷ [])) true st w) ts) ⊎ MeansNext n w ts → Means n (m.commands d ∷ st) (u ∷ ts)
+commands_back : (n d : ℕ) (st : List Predicted) (u : Leaf) (w : Type 0) (ts : List Leaf) → Without n st u w ts → ((has_level n (suc (length ts)) d ≡ true) × MeansChosen n (on_command d u (m.commands d ∷ [])) true st w ts) ⊎ w → Means n (m.commands d ∷ st) (u ∷ ts)
 commands_back n d st u w ts f (inl q) = let o = command_back n d u (m.commands d ∷ []) st w ts q.1 in then_commands n d st u ts o.command o.rest o.spells (o.within q.0) o.nearest o.more
 commands_back n d st u w ts f (inr q) = (u ∷ ts, (s.done, refl, tt, tt), f q)
 
@@ -219,8 +218,7 @@ else_there n d st ts (r, c, more) = (r, inl (c.0, ap (λ z. k.Else ∷ z) c.1, c
 
 a_local : (n : ℕ) (st : List Predicted) (ts : List Leaf) → Means n (m.exact m.a_name ∷ m.more_names ∷ m.exact m.semicolon ∷ m.locals ∷ st) ts → Means n (m.locals ∷ st) (k.Local ∷ ts)
 a_local n st ts (r1, a, (r2, xs, (r3, b, (r4, ls, more)))) =
-    let whole : k.Local ∷ ts ≡ k.Local ∷ k.Name a.0 ∷ g.more_names xs.0 (k.Semicolon ∷ g.locals ls.0 r4) =
-    ap (λ z. k.Local ∷ z) (a.1 ∙ ap (λ z. k.Name a.0 ∷ z) (xs.1 ∙ ap (λ z. g.more_names xs.0 z) (b.1 ∙ ap (λ z. k.Semicolon ∷ z) ls.1))) in
+    let whole : k.Local ∷ ts ≡ k.Local ∷ k.Name a.0 ∷ g.more_names xs.0 (k.Semicolon ∷ g.locals ls.0 r4) = cc in
     let one : s.Names = record { first = a.0; more = xs.0 } in
     (r4, (one ∷ ls.0, whole), more)
 
@@ -240,11 +238,9 @@ a_procedure : (n : ℕ) (st : List Predicted) (ts : List Leaf)
 a_procedure n st ts (r1, xs, (r2, ys, (r3, a, (r4, pre, (r5, b, (r6, ls, (r7, body, (r8, c, (r9, post, more))))))))) =
     let ps = parameters_of n ts r1 r2 xs.0 xs.1 ys in
     let last : r7 ≡ k.CloseBrace c.0.place ∷ g.maybe_annotation post.0 r9 = c.1 ∙ ap (λ z. k.CloseBrace c.0.place ∷ z) post.1 in
-    let inside : r4 ≡ k.OpenBrace b.0.place ∷ g.locals ls.0 (g.commands body.0 (k.CloseBrace c.0.place ∷ g.maybe_annotation post.0 r9)) =
-    b.1 ∙ ap (λ z. k.OpenBrace b.0.place ∷ z) (ls.1 ∙ ap (λ z. g.locals ls.0 z) (body.1 ∙ ap (λ z. g.commands body.0 z) last)) in
+    let inside : r4 ≡ k.OpenBrace b.0.place ∷ g.locals ls.0 (g.commands body.0 (k.CloseBrace c.0.place ∷ g.maybe_annotation post.0 r9)) = cc in
     let f : Word → s.Procedure = λ x. record { name = x; parameters = ps.0; pre = pre.0; opens = b.0.place; locals = ls.0; body = body.0; closes = c.0.place; post = post.0 } in
-    let whole : (x : Word) → k.Name x ∷ k.OpenRound ∷ ts ≡ g.procedure (f x) r9 = λ x.
-    ap (λ z. k.Name x ∷ k.OpenRound ∷ z) (ps.1 ∙ ap (λ z. g.parameters ps.0 z) (a.1 ∙ ap (λ z. k.CloseRound ∷ z) (pre.1 ∙ ap (λ z. g.maybe_annotation pre.0 z) inside))) in
+    let whole : (x : Word) → k.Name x ∷ k.OpenRound ∷ ts ≡ g.procedure (f x) r9 = λ x. cc (ps.1, a.1, pre.1, inside) in
     (r9, λ x. (s.procedure (f x), whole x, (subst (λ z. MaybeWithin pre.0 n z) inside pre.2, subst (λ z. CommandsWithin body.0 n NESTING z) last body.2, post.2), (pre.3, body.3, post.3)), more)
 
 an_item : (n : ℕ) (st : List Predicted) (x : Word) (ts : List Leaf) → Means n (m.item_named ∷ m.items ∷ st) ts → Means n (m.items ∷ st) (k.Name x ∷ ts)
@@ -260,11 +256,10 @@ a_resource n st p ts (r0, a, (r1, b, (r2, xs, (r3, c, (r4, o, q))))) =
     let is = x.5.1 in
     let last : k.OpenSquare ∷ r4 ≡ g.annotation x.1 (g.items is.0 x.5.0) = x.2 ∙ ap (λ z. g.annotation x.1 z) is.1 in
     let i : s.Resource = record { place = p; name = a.0; variables = xs.0; invariant = x.1 } in
-    let whole : k.Resource p ∷ ts ≡ g.resource i (g.items is.0 x.5.0) =
-    ap (λ z. k.Resource p ∷ z) (a.1 ∙ ap (λ z. k.Name a.0 ∷ z) (b.1 ∙ ap (λ z. k.OpenRound ∷ z) (xs.1 ∙ ap (λ z. g.maybe_names xs.0 z) (c.1 ∙ ap (λ z. k.CloseRound ∷ z) (o.1 ∙ last))))) in
+    let whole : k.Resource p ∷ ts ≡ g.resource i (g.items is.0 x.5.0) = cc in
     (x.5.0, (s.resource i ∷ is.0, whole, (subst (λ z. NoteWithin x.1 n z) is.1 x.3, is.2), (x.4, is.3)), x.5.2)
 
-predicted_back : (n : ℕ) (o : Predicted) (st : List Predicted) (u : Leaf) (w : Next) (ts : List Leaf) → Without n st u w ts → MeansNext n (chosen (choice o u) (is_free o n (suc (length ts))) st w) ts → Means n (o ∷ st) (u ∷ ts)
+predicted_back : (n : ℕ) (o : Predicted) (st : List Predicted) (u : Leaf) (w : Type 0) (ts : List Leaf) → Without n st u w ts → MeansChosen n (choice o u) (is_free o n (suc (length ts))) st w ts → Means n (o ∷ st) (u ∷ ts)
 predicted_back n (m.exact x) st u w ts f q = let o = exact_back n x u st w ts q in (ts, (o.text, ap (λ z. z ∷ ts) o.is), o.more)
 predicted_back n m.expression st u w ts f q = let o = expr_back n u [] st w ts q in (ts, (o.expr, ap (λ z. z ∷ ts) o.is), o.more)
 predicted_back n m.operand st u w ts f q = let o = operand_back n u [] st w ts q in (ts, (o.expr, ap (λ z. z ∷ ts) o.is), o.more)
@@ -278,7 +273,7 @@ predicted_back n m.if_test st k.OpenRound w ts f q = round_test n st ts q
 predicted_back n m.if_test st u w ts f q = bare_test n st (u ∷ ts) (operand_test_back n st u w ts q)
 predicted_back n m.more_names st k.Comma w ts f q = one_more_name n st ts q
 predicted_back n m.more_names st u w ts f q = (u ∷ ts, ([], refl), f q)
-predicted_back n m.maybe_names st (k.Name x) w ts f (r, xs, more) = (r, (x ∷ xs.0, ap (λ z. k.Name x ∷ z) xs.1), more)
+predicted_back n m.maybe_names st (k.Operand (v.Known (e.Name x))) w ts f (r, xs, more) = (r, (x ∷ xs.0, ap (λ z. k.Name x ∷ z) xs.1), more)
 predicted_back n m.maybe_names st u w ts f q = (u ∷ ts, ([], refl), f q)
 predicted_back n m.maybe_values st k.Semicolon w ts f (r, xs, more) = (r, inr (xs.0, ap (λ z. k.Semicolon ∷ z) xs.1), more)
 predicted_back n m.maybe_values st u w ts f q = (u ∷ ts, inl refl, f q)
@@ -295,7 +290,7 @@ predicted_back n m.relation st k.EqualEqual w ts f (r, x, more) = (r, inl (x.0, 
 predicted_back n m.relation st k.NotEqual w ts f (r, x, more) = (r, inr (inl (x.0, ap (λ z. k.NotEqual ∷ z) x.1)), more)
 predicted_back n m.relation st k.PointsTo w ts f (r, x, more) = (r, inr (inr (x.0, ap (λ z. k.PointsTo ∷ z) x.1)), more)
 predicted_back n m.relation st _ w ts f q = absurd q
-predicted_back n m.maybe_fields st (k.Name y) w ts f q = let o = a_field n st y ts q in (o.0, (o.1 ∷ o.2, o.3), o.4)
+predicted_back n m.maybe_fields st (k.Operand (v.Known (e.Name y))) w ts f q = let o = a_field n st y ts q in (o.0, (o.1 ∷ o.2, o.3), o.4)
 predicted_back n m.maybe_fields st u w ts f q = (u ∷ ts, ([], refl), f q)
 predicted_back n m.more_fields st k.Comma w ts f q = one_more_field n st ts q
 predicted_back n m.more_fields st u w ts f q = (u ∷ ts, ([], refl), f q)
@@ -327,7 +322,7 @@ predicted_back n m.disposed st u w ts f q =
     let first : u ≡ g.expr o.expr = o.is in
     let last : ts ≡ k.Semicolon ∷ o.more.0 = o.more.1.1 in
     let whole : u ∷ ts ≡ g.expr o.expr ∷ k.Semicolon ∷ o.more.0 = cc in
-    (o.more.0, inr (o.expr, whole), o.more.2)
+    (o.more.0, (false, o.expr, whole), o.more.2)
 predicted_back n (m.command d) st u w ts f q = command_predicted n d st u w ts (accepts_back n (on_command d u []) (has_level n (suc (length ts)) d) st w ts (command_accepts d u []) q)
 predicted_back n (m.commands d) st u w ts f q = commands_back n d st u w ts f (or_skip_back n (on_command d u (m.commands d ∷ [])) (has_level n (suc (length ts)) d) st w ts q)
 predicted_back n (m.branch d) st k.Else w ts f q = else_there n d st ts q
@@ -338,11 +333,25 @@ predicted_back n m.item_named st k.Comma w ts f q = some_fields n st ts q
 predicted_back n m.item_named st k.Semicolon w ts f q = (ts, λ x. (s.fields (record { first = x; more = [] }), refl, tt, tt), q)
 predicted_back n m.item_named st k.OpenRound w ts f q = a_procedure n st ts q
 predicted_back n m.item_named st _ w ts f q = absurd q
-predicted_back n m.items st (k.Name x) w ts f q = an_item n st x ts q
+predicted_back n m.items st (k.Operand (v.Known (e.Name x))) w ts f q = an_item n st x ts q
 predicted_back n m.items st (k.Resource p) w ts f q = a_resource n st p ts q
 predicted_back n m.items st _ w ts f q = absurd q
 
 -- where what is owed after a token spells the rest, the stack spells all
-pub step_back : (n : ℕ) (st : List Predicted) (u : Leaf) (ts : List Leaf) → MeansNext n (step n (suc (length ts)) st u) ts → Means n st (u ∷ ts)
+pub step_back : (n : ℕ) (st : List Predicted) (u : Leaf) (ts : List Leaf) → MeansNext n st u ts → Means n st (u ∷ ts)
 step_back n [] u ts q = absurd q
-step_back n (o ∷ st) u ts q = predicted_back n o st u (step n (suc (length ts)) st u) ts (step_back n st u ts) q
+step_back n (o ∷ st) u ts q = predicted_back n o st u (MeansNext n st u ts) ts (step_back n st u ts) q
+
+chosen_means : (n : ℕ) (c : Choice) (o : Predicted) (st : List Predicted) (u : Leaf) (ts : List Leaf) (s : Predicted) (st2 : List Predicted) → chosen c o st (step st u) ≡ goes s st2 → is_free s n (suc (length ts)) ≡ true → Means n st2 ts
+    → (step st u ≡ goes s st2 → MeansNext n st u ts) → MeansChosen n c (is_free o n (suc (length ts))) st (MeansNext n st u ts) ts
+chosen_means n (take ss) o st u ts s st2 e h q more =
+    let by : o ≡ s = cc in
+    let stack : ss ++ st ≡ st2 = cc in
+    rw (by, h, stack) q
+chosen_means n skip o st u ts s st2 e h q more = more e
+chosen_means n refuse o st u ts s st2 e h q more = absurd cc
+
+-- it does so where the machine takes the token
+pub next_means : (n : ℕ) (st : List Predicted) (u : Leaf) (ts : List Leaf) (s : Predicted) (st2 : List Predicted) → step st u ≡ goes s st2 → is_free s n (suc (length ts)) ≡ true → Means n st2 ts → MeansNext n st u ts
+next_means n [] u ts s st2 e h q = absurd cc
+next_means n (o ∷ st) u ts s st2 e h q = chosen_means n (choice o u) o st u ts s st2 e h q (λ i. next_means n st u ts s st2 i h q)

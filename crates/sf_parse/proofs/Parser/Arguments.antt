@@ -3,6 +3,7 @@ use Rattle.std.proofs.Common.{◌≡◌, ◌<◌, ℕ, suc, List, [], ◌∷◌,
 use Rattle.std.proofs.Math.Seq.{drop-cons}
 use Rattle.sf_ast.specs.declared.word.SurfaceExpr.{SurfaceExpr}
 use Rattle.sf_ast.specs.declared.word.SurfaceExpr.TheVariants as e
+use Rattle.sf_ast.specs.declared.word.SurfaceOperand.TheVariants as v
 use Rattle.sf_ast.specs.declared.word.Word.{Word}
 use Rattle.sf_parse.specs.Leaf.{Leaf}
 use Rattle.sf_lex.specs.declared.token.Kind.TheVariants as tk
@@ -14,26 +15,18 @@ use Rattle.sf_parse.specs.Internal.Machine as m
 use Rattle.sf_parse.specs.Internal.Machine.{Predicted, verdict, unexpected}
 use Rattle.sf_parse.specs.Leaf.{leaves}
 use Rattle.sf_parse.specs.Internal.Parser.{NotNext, expression_next}
-use Rattle.sf_parse.proofs.Machine.Forth.{expr_goes}
 use Rattle.sf_parse.proofs.Parser.Fronts.{left_of, fails_at_expression}
 
 -- after a comma in a call
 next_goes : (x : SurfaceExpr) (b : Bool) (r : List Leaf) (st : List Predicted) → verdict 0 (g.expr x ∷ r) (m.next b ∷ st) ≡ verdict 0 r (m.rest (b && is_name x) ∷ st)
 next_goes (e.Name x) true r st = refl
 next_goes (e.Name x) false r st = refl
-next_goes (e.Nil p) true r st = refl
-next_goes (e.Nil p) false r st = refl
-next_goes (e.Null p) true r st = refl
-next_goes (e.Null p) false r st = refl
-next_goes (e.Number x p) true r st = refl
-next_goes (e.Number x p) false r st = refl
+next_goes _ true r st = refl
+next_goes _ false r st = refl
 
 next_fails : (b : Bool) (ts : List Leaf) (st : List Predicted) → expression_next ts ≡ false → verdict 0 ts (m.next b ∷ st) ≡ unexpected (length ts)
 next_fails b [] st h = refl
-next_fails b (k.Name _ ∷ r) st h = absurd cc
-next_fails b (k.Nil _ ∷ r) st h = absurd cc
-next_fails b (k.Null _ ∷ r) st h = absurd cc
-next_fails b (k.Number _ _ ∷ r) st h = absurd cc
+next_fails b (k.Operand (v.Known _) ∷ r) st h = absurd cc
 next_fails b (t ∷ r) st h = refl
 
 rest_comma : (b : Bool) (r : List Leaf) (st : List Predicted) → verdict 0 (k.Comma ∷ r) (m.rest b ∷ st) ≡ verdict 0 r (m.next b ∷ st)
@@ -53,10 +46,7 @@ rest_over false (t ∷ r) st h i = refl
 
 arguments_over : (ts : List Leaf) (st : List Predicted) → expression_next ts ≡ false → NotNext tk.Semicolon ts → verdict 0 ts (m.maybe_arguments ∷ st) ≡ verdict 0 ts st
 arguments_over [] st h i = refl
-arguments_over (k.Name _ ∷ r) st h i = absurd cc
-arguments_over (k.Nil _ ∷ r) st h i = absurd cc
-arguments_over (k.Null _ ∷ r) st h i = absurd cc
-arguments_over (k.Number _ _ ∷ r) st h i = absurd cc
+arguments_over (k.Operand (v.Known _) ∷ r) st h i = absurd cc
 arguments_over (k.Semicolon ∷ r) st h i = absurd (i refl)
 arguments_over (t ∷ r) st h i = refl
 
@@ -67,7 +57,7 @@ accepts_next x b ts us r st h i =
 
 pub accepts_more : (x : SurfaceExpr) (ts us r : List Token) (st : List Predicted) → leaves ts ≡ k.Comma ∷ leaves us → leaves us ≡ g.expr x ∷ leaves r → verdict 0 (leaves ts) (m.more_expressions ∷ st) ≡ verdict 0 (leaves r) (m.more_expressions ∷ st)
 accepts_more x ts us r st h i =
-    ap (λ (z : List Leaf). verdict 0 z (m.more_expressions ∷ st)) (h ∙ ap (λ (z : List Leaf). k.Comma ∷ z) i) ∙ expr_goes 0 x (leaves r) (m.more_expressions ∷ st)
+    ap (λ (z : List Leaf). verdict 0 z (m.more_expressions ∷ st)) (h ∙ ap (λ (z : List Leaf). k.Comma ∷ z) i)
 
 pub fails_at_more : (ts us : List Token) (st : List Predicted) → leaves ts ≡ k.Comma ∷ leaves us → expression_next (leaves us) ≡ false → verdict 0 (leaves ts) (m.more_expressions ∷ st) ≡ unexpected (length us)
 fails_at_more ts us st h i = ap (λ (z : List Leaf). verdict 0 z (m.more_expressions ∷ st)) h ∙ fails_at_expression us (m.more_expressions ∷ st) i
@@ -100,23 +90,15 @@ no_name_at xs i d lt h = ap (all_names true) (drop-cons xs i d lt) ∙ ap (λ (b
 -- the first expression of a call
 pub accepts_first : (x : SurfaceExpr) (ts r : List Token) (st : List Predicted) → leaves ts ≡ g.expr x ∷ leaves r → verdict 0 (leaves ts) (m.maybe_arguments ∷ st) ≡ verdict 0 (leaves r) (m.rest (is_name x) ∷ st)
 accepts_first (e.Name x) ts r st h = rw h refl
-accepts_first (e.Nil p) ts r st h = rw h refl
-accepts_first (e.Null p) ts r st h = rw h refl
-accepts_first (e.Number x p) ts r st h = rw h refl
+accepts_first _ ts r st h = rw h refl
 
 -- that of those after a `;`
 pub accepts_value : (x : SurfaceExpr) (ts r : List Token) (st : List Predicted) → leaves ts ≡ g.expr x ∷ leaves r → verdict 0 (leaves ts) (m.maybe_expressions ∷ st) ≡ verdict 0 (leaves r) (m.more_expressions ∷ st)
-accepts_value (e.Name x) ts r st h = rw h refl
-accepts_value (e.Nil p) ts r st h = rw h refl
-accepts_value (e.Null p) ts r st h = rw h refl
-accepts_value (e.Number x p) ts r st h = rw h refl
+accepts_value x ts r st h = rw h refl
 
 values_over : (ts : List Leaf) (st : List Predicted) → expression_next ts ≡ false → verdict 0 ts (m.maybe_expressions ∷ st) ≡ verdict 0 ts st
 values_over [] st h = refl
-values_over (k.Name _ ∷ r) st h = absurd cc
-values_over (k.Nil _ ∷ r) st h = absurd cc
-values_over (k.Null _ ∷ r) st h = absurd cc
-values_over (k.Number _ _ ∷ r) st h = absurd cc
+values_over (k.Operand (v.Known _) ∷ r) st h = absurd cc
 values_over (t ∷ r) st h = refl
 
 pub no_values : (ts : List Token) (st : List Predicted) → expression_next (leaves ts) ≡ false → verdict 0 (leaves ts) (m.maybe_expressions ∷ st) ≡ verdict 0 (leaves ts) st

@@ -1,5 +1,7 @@
 -- Which way the machine goes at a token that was looked at: what need not come.
-use Rattle.std.proofs.Common.{◌≡◌, ℕ, List, [], ◌∷◌, ◌++◌, length, false, refl, ◌∙◌}
+use Rattle.std.proofs.Common.{◌≡◌, ℕ, List, [], ◌∷◌, ◌++◌, length, true, false, refl, ◌∙◌}
+use Rattle.sf_ast.specs.declared.word.SurfaceExpr.TheVariants as e
+use Rattle.sf_ast.specs.declared.word.SurfaceOperand.TheVariants as v
 use Rattle.sf_parse.specs.Leaf.{Leaf}
 use Rattle.sf_lex.specs.declared.token.Kind.TheVariants as tk
 use Rattle.sf_parse.specs.Leaf as k
@@ -21,7 +23,7 @@ no_more_names (t ∷ r) st h = refl
 
 pub no_names : (ts : List Leaf) (st : List Predicted) → NotNext tk.Name ts → verdict 0 ts (m.maybe_names ∷ st) ≡ verdict 0 ts st
 no_names [] st h = refl
-no_names (k.Name _ ∷ r) st h = absurd (h refl)
+no_names (k.Operand (v.Known (e.Name _)) ∷ r) st h = absurd (h refl)
 no_names (t ∷ r) st h = refl
 
 pub no_values : (ts : List Leaf) (st : List Predicted) → NotNext tk.Semicolon ts → verdict 0 ts (m.maybe_values ∷ st) ≡ verdict 0 ts st
@@ -32,7 +34,7 @@ no_values (t ∷ r) st h = refl
 pub no_true : (ts : List Leaf) (st : List Predicted) → NotNext tk.True ts → verdict 0 ts (m.test ∷ st) ≡ verdict 0 ts (m.expression ∷ m.equality ∷ m.expression ∷ st)
 no_true [] st h = refl
 no_true (k.True _ ∷ r) st h = absurd (h refl)
-no_true (k.Name _ ∷ r) st h = refl
+no_true (k.Operand (v.Known _) ∷ r) st h = refl
 no_true (t ∷ r) st h = refl
 
 pub no_true_operand : (ts : List Leaf) (st : List Predicted) → NotNext tk.True ts → verdict 0 ts (m.operand_test ∷ st) ≡ verdict 0 ts (m.operand ∷ m.equality ∷ m.operand ∷ st)
@@ -51,7 +53,7 @@ no_equality ts st h i = left_of ts (m.equality ∷ st) (go (leaves ts) h i)
 
 pub no_fields : (ts : List Leaf) (st : List Predicted) → NotNext tk.Name ts → verdict 0 ts (m.maybe_fields ∷ st) ≡ verdict 0 ts st
 no_fields [] st h = refl
-no_fields (k.Name _ ∷ r) st h = absurd (h refl)
+no_fields (k.Operand (v.Known (e.Name _)) ∷ r) st h = absurd (h refl)
 no_fields (t ∷ r) st h = refl
 
 pub no_more_fields : (ts : List Leaf) (st : List Predicted) → NotNext tk.Comma ts → verdict 0 ts (m.more_fields ∷ st) ≡ verdict 0 ts st
@@ -78,8 +80,8 @@ none_begins [] o a b c e f g h = refl
 none_begins (k.OpenRound ∷ r) o a b c e f g h = absurd (a refl)
 none_begins (k.If _ ∷ r) o a b c e f g h = absurd (b refl)
 none_begins (k.Emp _ ∷ r) o a b c e f g h = absurd (c refl)
-none_begins (k.Ls _ ∷ r) o a b c e f g h = absurd (e refl)
-none_begins (k.Lseg _ ∷ r) o a b c e f g h = absurd (f refl)
+none_begins (k.Ls _ false ∷ r) o a b c e f g h = absurd (e refl)
+none_begins (k.Ls _ true ∷ r) o a b c e f g h = absurd (f refl)
 none_begins (k.List _ ∷ r) o a b c e f g h = absurd (g refl)
 none_begins (k.Tree _ ∷ r) o a b c e f g h = absurd (h refl)
 none_begins (t ∷ r) o a b c e f g h = o

@@ -18,7 +18,6 @@ use Rattle.sf_parse.specs.Nesting.{ConjunctWithin, AssertionWithin, RestWithin}
 use Rattle.sf_parse.specs.Leaf.{leaf, leaves}
 use Rattle.sf_parse.specs.Internal.Parser.{NotNext, last_of, NotStar, Ends}
 use Rattle.sf_parse.proofs.Machine.Decided.{Decided, takes, refuses, conjunct_decided, in_parts, refused, taken}
-use Rattle.sf_parse.proofs.Machine.Forth.{by_operand}
 use Rattle.sf_parse.proofs.Parser.Fronts.{left_of}
 use Rattle.sf_parse.proofs.Machine.HasLevel.{no_level, some_level}
 
@@ -66,7 +65,7 @@ some_assertion (t ∷ r) st h = refl
 
 -- a conjunct that begins with an operand
 pub operand_first : (d : ℕ) (x : SurfaceOperand) (ts r : List Token) (st : List Predicted) → leaves ts ≡ g.operand x ∷ leaves r → verdict 0 (leaves ts) (m.conjunct d ∷ st) ≡ verdict 0 (leaves r) (m.relation ∷ st)
-operand_first d x ts r st h = rw h (by_operand x (λ u. verdict 0 (u ∷ leaves r) (m.conjunct d ∷ st) ≡ verdict 0 (leaves r) (m.relation ∷ st)) (λ w. refl) (λ p. refl) (λ p. refl) (λ n p. refl) (λ w. refl))
+operand_first d x ts r st h = rw h refl
 
 -- a test with no round brackets
 pub bare_test : (ts : List Leaf) (st : List Predicted) → NotNext tk.OpenRound ts → verdict 0 ts (m.if_test ∷ st) ≡ verdict 0 ts (m.operand_test ∷ st)
@@ -77,19 +76,16 @@ bare_test (t ∷ r) st h = refl
 -- what is flat is within any level, and nothing in it reaches on
 pub flat_within : (c : s.Conjunct) (d : ℕ) (r : List Leaf) → IsFlatConjunct c → ConjunctWithin c 0 d r
 flat_within (s.group a) d r h = absurd h
-flat_within (s.choose p b x y) d r h = absurd h
-flat_within (s.choose_round p b x y) d r h = absurd h
+flat_within (s.choose p round b x y) d r h = absurd h
 flat_within _ d r h = tt
 
 pub flat_nearest : (c : s.Conjunct) → IsFlatConjunct c → ConjunctNearest c
 flat_nearest (s.group a) h = absurd h
-flat_nearest (s.choose p b x y) h = absurd h
-flat_nearest (s.choose_round p b x y) h = absurd h
+flat_nearest (s.choose p round b x y) h = absurd h
 flat_nearest _ h = tt
 
 pub flat_ends : (c : s.Conjunct) (r : List Leaf) → IsFlatConjunct c → Ends c r
-flat_ends (s.choose p b x y) r h = absurd h
-flat_ends (s.choose_round p b x y) r h = absurd h
+flat_ends (s.choose p round b x y) r h = absurd h
 flat_ends _ r h = tt
 
 -- one more conjunct

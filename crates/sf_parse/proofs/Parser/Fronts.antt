@@ -2,7 +2,9 @@
 use Rattle.std.proofs.Common.{◌≡◌, ℤ, pos, List, [], ◌∷◌, length, false, refl, ap, sym, subst, ◌∙◌}
 use Rattle.std.proofs.lemmas.List.{length-map}
 use Rattle.sf_ast.specs.declared.word.SurfaceExpr.{SurfaceExpr}
+use Rattle.sf_ast.specs.declared.word.SurfaceExpr.TheVariants as e
 use Rattle.sf_ast.specs.declared.word.SurfaceOperand.{SurfaceOperand}
+use Rattle.sf_ast.specs.declared.word.SurfaceOperand.TheVariants as v
 use Rattle.sf_base.specs.declared.place.Place.{Place}
 use Rattle.sf_ast.specs.declared.word.Word.{Word}
 use Rattle.sf_lex.specs.declared.token.Kind.{Kind}
@@ -14,7 +16,6 @@ use Rattle.sf_parse.specs.Internal.Machine as m
 use Rattle.sf_parse.specs.Internal.Machine.{Predicted, Terminal, terminal_leaf, verdict, unexpected}
 use Rattle.sf_parse.specs.Leaf.{Leaf, leaf_of, kind, word_of, leaf, leaves}
 use Rattle.sf_parse.specs.Internal.Parser.{NotNext, IsMark, IsTerminal, mark, terminal_of, expression_next, operand_next}
-use Rattle.sf_parse.proofs.Machine.Forth.{expr_goes, operand_goes}
 
 -- a count of leaves is one of tokens
 pub left_of : (ts : List Token) (ss : List Predicted) → verdict 0 (leaves ts) ss ≡ unexpected (length (leaves ts)) → verdict 0 (leaves ts) ss ≡ unexpected (length ts)
@@ -31,7 +32,7 @@ terminal_goes _ w r st = refl
 
 terminal_fails : (u : Terminal) (w : Word) (ts : List Leaf) (st : List Predicted) → NotNext (kind (terminal_leaf u w)) ts → verdict 0 ts (m.exact u ∷ st) ≡ unexpected (length ts)
 terminal_fails u w [] st h = refl
-terminal_fails m.a_name w (k.Name _ ∷ r) st h = absurd (h refl)
+terminal_fails m.a_name w (k.Operand (v.Known (e.Name _)) ∷ r) st h = absurd (h refl)
 terminal_fails m.an_arrow w (k.Arrow ∷ r) st h = absurd (h refl)
 terminal_fails m.equals w (k.Equals ∷ r) st h = absurd (h refl)
 terminal_fails m.semicolon w (k.Semicolon ∷ r) st h = absurd (h refl)
@@ -50,25 +51,19 @@ terminal_fails u w (t ∷ r) st h = refl
 
 expression_fails : (ts : List Leaf) (st : List Predicted) → expression_next ts ≡ false → verdict 0 ts (m.expression ∷ st) ≡ unexpected (length ts)
 expression_fails [] st h = refl
-expression_fails (k.Name _ ∷ r) st h = absurd cc
-expression_fails (k.Nil _ ∷ r) st h = absurd cc
-expression_fails (k.Null _ ∷ r) st h = absurd cc
-expression_fails (k.Number _ _ ∷ r) st h = absurd cc
+expression_fails (k.Operand (v.Known _) ∷ r) st h = absurd cc
 expression_fails (t ∷ r) st h = refl
 
 operand_fails : (ts : List Leaf) (st : List Predicted) → operand_next ts ≡ false → verdict 0 ts (m.operand ∷ st) ≡ unexpected (length ts)
 operand_fails [] st h = refl
-operand_fails (k.Name _ ∷ r) st h = absurd cc
-operand_fails (k.Nil _ ∷ r) st h = absurd cc
-operand_fails (k.Null _ ∷ r) st h = absurd cc
-operand_fails (k.Number _ _ ∷ r) st h = absurd cc
-operand_fails (k.Existential _ ∷ r) st h = absurd cc
+operand_fails (k.Operand _ ∷ r) st h = absurd cc
 operand_fails (t ∷ r) st h = refl
 
 no_operand : (ts : List Leaf) → expression_next ts ≡ false → NotNext tk.Existential ts → operand_next ts ≡ false
 no_operand [] e h = refl
-no_operand (k.Existential _ ∷ r) e h = absurd (h refl)
-no_operand (t ∷ r) e h = e
+no_operand (k.Operand (v.Known _) ∷ r) e h = absurd cc
+no_operand (k.Operand (v.Existential _) ∷ r) e h = absurd (h refl)
+no_operand (t ∷ r) e h = refl
 
 -- a token of which a tree keeps no more than its place
 pub mark_there : (u : Kind) (t : Token) → IsMark u → t.kind ≡ u → leaf t ≡ mark u t.place
@@ -96,14 +91,14 @@ fails_at_name ts st h = left_of ts (m.exact m.a_name ∷ st) (terminal_fails m.a
 
 -- an expression is there, or none
 pub accepts_expression : (x : SurfaceExpr) (ts r : List Token) (st : List Predicted) → leaves ts ≡ g.expr x ∷ leaves r → verdict 0 (leaves ts) (m.expression ∷ st) ≡ verdict 0 (leaves r) st
-accepts_expression x ts r st h = rw h (expr_goes 0 x (leaves r) st)
+accepts_expression x ts r st h = rw h refl
 
 pub fails_at_expression : (ts : List Token) (st : List Predicted) → expression_next (leaves ts) ≡ false → verdict 0 (leaves ts) (m.expression ∷ st) ≡ unexpected (length ts)
 fails_at_expression ts st h = left_of ts (m.expression ∷ st) (expression_fails (leaves ts) st h)
 
 -- an operand is there, or none
 pub accepts_operand : (x : SurfaceOperand) (ts r : List Token) (st : List Predicted) → leaves ts ≡ g.operand x ∷ leaves r → verdict 0 (leaves ts) (m.operand ∷ st) ≡ verdict 0 (leaves r) st
-accepts_operand x ts r st h = rw h (operand_goes 0 x (leaves r) st)
+accepts_operand x ts r st h = rw h refl
 
 pub fails_at_operand : (ts : List Token) (st : List Predicted) → operand_next (leaves ts) ≡ false → verdict 0 (leaves ts) (m.operand ∷ st) ≡ unexpected (length ts)
 fails_at_operand ts st h = left_of ts (m.operand ∷ st) (operand_fails (leaves ts) st h)

@@ -1,5 +1,6 @@
 -- Which way the machine goes after the first tokens of a command or an item.
 use Rattle.std.proofs.Common.{◌≡◌, List, [], ◌∷◌, length, refl}
+use Rattle.sf_ast.specs.declared.word.SurfaceOperand.TheVariants as v
 use Rattle.sf_parse.specs.Leaf.{Leaf}
 use Rattle.sf_lex.specs.declared.token.Kind.TheVariants as tk
 use Rattle.sf_parse.specs.Leaf as k
@@ -41,11 +42,13 @@ no_named ts st h i j = left_of ts (m.named ∷ st) (named_fails (leaves ts) st h
 pub no_new : (ts : List Leaf) (st : List Predicted) → NotNext tk.New ts → verdict 0 ts (m.assigned ∷ st) ≡ verdict 0 ts (m.expression ∷ m.look_up_or_end ∷ st)
 no_new [] st h = refl
 no_new (k.New ∷ r) st h = absurd (h refl)
+no_new (k.Operand (v.Known _) ∷ r) st h = refl
 no_new (t ∷ r) st h = refl
 
 pub no_round : (ts : List Leaf) (st : List Predicted) → NotNext tk.OpenRound ts → verdict 0 ts (m.disposed ∷ st) ≡ verdict 0 ts (m.expression ∷ m.exact m.semicolon ∷ st)
 no_round [] st h = refl
 no_round (k.OpenRound ∷ r) st h = absurd (h refl)
+no_round (k.Operand (v.Known _) ∷ r) st h = refl
 no_round (t ∷ r) st h = refl
 
 pub ruleset heads = (no_look_up, no_after_call, no_named, no_new, no_round)

@@ -1,6 +1,8 @@
 -- Which way the machine goes at a `local` and at an item.
 use Rattle.std.proofs.Common.{◌≡◌, ◌<◌, List, [], ◌∷◌, length, refl, arith}
 use Rattle.std.proofs.lemmas.List.{length-map}
+use Rattle.sf_ast.specs.declared.word.SurfaceExpr.TheVariants as e
+use Rattle.sf_ast.specs.declared.word.SurfaceOperand.TheVariants as v
 use Rattle.sf_parse.specs.Leaf.{Leaf}
 use Rattle.sf_lex.specs.declared.token.Kind.TheVariants as tk
 use Rattle.sf_parse.specs.Leaf as k
@@ -23,7 +25,7 @@ no_open (t ∷ r) st h = refl
 
 items_stop : (ts : List Leaf) (st : List Predicted) → 0 < length ts → NotNext tk.Name ts → NotNext tk.Resource ts → verdict 0 ts (m.items ∷ st) ≡ unexpected (length ts)
 items_stop [] st some h i = absurd (omega arith)
-items_stop (k.Name _ ∷ r) st some h i = absurd (h refl)
+items_stop (k.Operand (v.Known (e.Name _)) ∷ r) st some h i = absurd (h refl)
 items_stop (k.Resource _ ∷ r) st some h i = absurd (i refl)
 items_stop (t ∷ r) st some h i = refl
 

@@ -3,6 +3,7 @@ use Rattle.std.proofs.Common.{◌≡◌, ◌<◌, ◌-◌, ℕ, zero, suc, List,
 use Rattle.std.proofs.lemmas.List.{length-map}
 use Rattle.sf_ast.specs.declared.word.SurfaceExpr.{SurfaceExpr}
 use Rattle.sf_ast.specs.declared.word.SurfaceExpr.TheVariants as e
+use Rattle.sf_ast.specs.declared.word.SurfaceOperand.TheVariants as v
 use Rattle.sf_ast.specs.declared.word.SurfaceTest.{SurfaceTest}
 use Rattle.sf_ast.specs.declared.word.Word.{Word}
 use Rattle.sf_ast.specs.Surface as s
@@ -15,7 +16,7 @@ use Rattle.sf_lex.specs.declared.token.Token.{Token}
 use Rattle.sf_parse.specs.Grammar as g
 use Rattle.sf_parse.specs.Internal.Heads.{command_next}
 use Rattle.sf_parse.specs.Internal.Machine as m
-use Rattle.sf_parse.specs.Internal.Machine.{Predicted, after, leveled, verdict, unexpected, too_deep}
+use Rattle.sf_parse.specs.Internal.Machine.{Predicted, leveled, verdict, unexpected, too_deep}
 use Rattle.sf_parse.specs.Nearest.{Follows, CommandNearest, CommandsNearest}
 use Rattle.sf_parse.specs.Nesting.{has_level, CommandWithin, CommandsWithin}
 use Rattle.sf_parse.specs.Leaf.{leaf, leaves}
@@ -43,7 +44,7 @@ fails_at_command d ts st h = left_of ts (m.command d ∷ st) (command_fails d (l
 
 none_next : (ts : List Leaf) → NotNext tk.Name ts → NotNext tk.Dispose ts → NotNext tk.If ts → NotNext tk.While ts → NotNext tk.With ts → NotNext tk.OpenBrace ts → expression_next ts ≡ false → command_next ts ≡ false
 none_next [] a b c d f i j = refl
-none_next (k.Name _ ∷ r) a b c d f i j = absurd (a refl)
+none_next (k.Operand (v.Known (e.Name _)) ∷ r) a b c d f i j = absurd (a refl)
 none_next (k.Dispose _ ∷ r) a b c d f i j = absurd (b refl)
 none_next (k.If _ ∷ r) a b c d f i j = absurd (c refl)
 none_next (k.While _ ∷ r) a b c d f i j = absurd (d refl)
@@ -87,9 +88,7 @@ pub accepts_value : (d : ℕ) (x : SurfaceExpr) (ts r : List Token) (st : List P
     → verdict 0 (leaves ts) (m.command d ∷ st) ≡ verdict 0 (leaves r) (m.exact m.an_arrow ∷ m.exact m.a_name ∷ m.exact m.equals ∷ m.expression ∷ m.exact m.semicolon ∷ st)
 accepts_value zero x ts r st lv no_name h = absurd (omega arith)
 accepts_value (suc d) (e.Name x) ts r st lv no_name h = absurd (subst (λ z. NotNext tk.Name z) h no_name refl)
-accepts_value (suc d) (e.Nil p) ts r st lv no_name h = rw h refl
-accepts_value (suc d) (e.Null p) ts r st lv no_name h = rw h refl
-accepts_value (suc d) (e.Number x p) ts r st lv no_name h = rw h refl
+accepts_value (suc d) _ ts r st lv no_name h = rw h refl
 
 -- what need not come
 commands_over : (d : ℕ) (ts : List Leaf) (st : List Predicted) → command_next ts ≡ false → verdict 0 ts (m.commands d ∷ st) ≡ verdict 0 ts st
@@ -103,7 +102,7 @@ commands_go_on : (d : ℕ) (ts : List Leaf) (st : List Predicted) → command_ne
 commands_go_on d [] st h = absurd cc
 commands_go_on d (t ∷ r) st h =
     let o = taken (command_decided d t r) h in
-    rw (o.1 (m.commands d ∷ []), o.1 []) (ap (λ (z : List Predicted). after (λ s. verdict 0 r s) (suc (length r)) (leveled (has_level 0 (suc (length r)) d) z)) (in_parts o.0 (m.commands d ∷ []) st))
+    rw (o.1 (m.commands d ∷ []), o.1 []) (ap (λ (z : List Predicted). leveled (has_level 0 (suc (length r)) d) (suc (length r)) (verdict 0 r z)) (in_parts o.0 (m.commands d ∷ []) st))
 
 pub another_command : (d : ℕ) (ts : List Token) (st : List Predicted) → command_next (leaves ts) ≡ true → verdict 0 (leaves ts) (m.commands d ∷ st) ≡ verdict 0 (leaves ts) (m.command d ∷ m.commands d ∷ st)
 another_command d ts st h = commands_go_on d (leaves ts) st h

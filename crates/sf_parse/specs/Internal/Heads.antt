@@ -27,8 +27,7 @@ command_next r = expression_next r
 -- a conjunct with no assertion in it
 abbrev pub IsFlatConjunct : s.Conjunct → Type 0
 IsFlatConjunct (s.group a) = ⊥
-IsFlatConjunct (s.choose p b x y) = ⊥
-IsFlatConjunct (s.choose_round p b x y) = ⊥
+IsFlatConjunct (s.choose p round b x y) = ⊥
 IsFlatConjunct _ = Unit {0}
 
 -- a conjunct comes next
@@ -36,8 +35,7 @@ abbrev pub conjunct_next : List Leaf → Bool
 conjunct_next (k.Emp _ ∷ r) = true
 conjunct_next (k.OpenRound ∷ r) = true
 conjunct_next (k.If _ ∷ r) = true
-conjunct_next (k.Ls _ ∷ r) = true
-conjunct_next (k.Lseg _ ∷ r) = true
+conjunct_next (k.Ls _ _ ∷ r) = true
 conjunct_next (k.List _ ∷ r) = true
 conjunct_next (k.Tree _ ∷ r) = true
 conjunct_next r = operand_next r

@@ -1,8 +1,10 @@
 -- What may still come, as a stack of what is owed.
 -- A law, `the_verdict_is_exact`, says that its verdict is the grammar's.
 -- Ordinary: predictive parsing with a stack, as in Aho, Sethi, Ullman, "Compilers" (1986), section 4.4.
-use Rattle.std.specs.Prelude.{ℕ, suc, ◌-◌, ◌++◌, List, [], ◌∷◌, length, Bool, true, false}
+use Rattle.std.specs.Prelude.{ℕ, zero, suc, ◌-◌, ◌++◌, List, [], ◌∷◌, length, Bool, true, false}
 use Rattle.sf_base.specs.declared.limits.TheConstants.{NESTING}
+use Rattle.sf_ast.specs.declared.word.SurfaceExpr.TheVariants as e
+use Rattle.sf_ast.specs.declared.word.SurfaceOperand.TheVariants as v
 use Rattle.sf_ast.specs.declared.word.Word.{Word}
 use Rattle.sf_parse.specs.Leaf.{Leaf}
 use Rattle.sf_parse.specs.Leaf as k
@@ -143,7 +145,7 @@ terminal_leaf when_word w = k.When
 
 -- that token alone
 abbrev pub on_exact : Terminal → Leaf → Choice
-on_exact a_name (k.Name _) = take []
+on_exact a_name (k.Operand (v.Known (e.Name _))) = take []
 on_exact an_arrow k.Arrow = take []
 on_exact equals k.Equals = take []
 on_exact semicolon k.Semicolon = take []
@@ -162,16 +164,13 @@ on_exact u t = refuse
 
 -- a token that is an expression, and what is owed after it
 abbrev pub on_expression : Leaf → List Predicted → Choice
-on_expression (k.Name _) ss = take ss
-on_expression (k.Nil _) ss = take ss
-on_expression (k.Null _) ss = take ss
-on_expression (k.Number _ _) ss = take ss
+on_expression (k.Operand (v.Known _)) ss = take ss
 on_expression t ss = refuse
 
 -- a token that is an operand, and what is owed after it
 abbrev pub on_operand : Leaf → List Predicted → Choice
-on_operand (k.Existential _) ss = take ss
-on_operand t ss = on_expression t ss
+on_operand (k.Operand _) ss = take ss
+on_operand t ss = refuse
 
 -- a test over operands
 abbrev pub on_operand_test : Leaf → Choice
@@ -180,7 +179,7 @@ on_operand_test t = on_operand t (equality ∷ operand ∷ [])
 
 -- an expression after a comma in a call
 abbrev pub on_next : Bool → Leaf → Choice
-on_next b (k.Name _) = take (rest b ∷ [])
+on_next b (k.Operand (v.Known (e.Name _))) = take (rest b ∷ [])
 on_next b t = on_expression t (rest false ∷ [])
 
 -- a conjunct, and what is owed after it
@@ -188,15 +187,14 @@ abbrev pub on_conjunct : ℕ → Leaf → List Predicted → Choice
 on_conjunct d (k.Emp _) ss = take ss
 on_conjunct d k.OpenRound ss = take (assertion (d - 1) ∷ exact close_round ∷ ss)
 on_conjunct d (k.If _) ss = take (choice_predicted (d - 1) ++ ss)
-on_conjunct d (k.Ls _) ss = take (pair_predicted ++ ss)
-on_conjunct d (k.Lseg _) ss = take (pair_predicted ++ ss)
+on_conjunct d (k.Ls _ _) ss = take (pair_predicted ++ ss)
 on_conjunct d (k.List _) ss = take (exact open_round ∷ operand ∷ exact close_round ∷ ss)
 on_conjunct d (k.Tree _) ss = take (exact open_round ∷ operand ∷ exact close_round ∷ ss)
 on_conjunct d t ss = on_operand t (relation ∷ ss)
 
 -- a command, and what is owed after it
 abbrev pub on_command : ℕ → Leaf → List Predicted → Choice
-on_command d (k.Name _) ss = take (named ∷ ss)
+on_command d (k.Operand (v.Known (e.Name _))) ss = take (named ∷ ss)
 on_command d (k.Dispose _) ss = take (disposed ∷ ss)
 on_command d (k.If _) ss = take (if_predicted d ++ ss)
 on_command d (k.While _) ss = take (while_predicted d ++ ss)
@@ -224,7 +222,7 @@ choice if_test t = on_operand_test t
 choice more_names k.Comma = take (exact a_name ∷ more_names ∷ [])
 choice more_names t = skip
 -- names, or none
-choice maybe_names (k.Name _) = take (more_names ∷ [])
+choice maybe_names (k.Operand (v.Known (e.Name _))) = take (more_names ∷ [])
 choice maybe_names t = skip
 -- value parameters after a `;`, or none
 choice maybe_values k.Semicolon = take (maybe_names ∷ [])
@@ -248,7 +246,7 @@ choice relation k.NotEqual = take (operand ∷ [])
 choice relation k.PointsTo = take (maybe_fields ∷ [])
 choice relation t = refuse
 -- fields, or none
-choice maybe_fields (k.Name _) = take (exact a_colon ∷ operand ∷ more_fields ∷ [])
+choice maybe_fields (k.Operand (v.Known (e.Name _))) = take (exact a_colon ∷ operand ∷ more_fields ∷ [])
 choice maybe_fields t = skip
 -- fields after a first one
 choice more_fields k.Comma = take (exact a_name ∷ exact a_colon ∷ operand ∷ more_fields ∷ [])
@@ -295,38 +293,36 @@ choice item_named k.Semicolon = take []
 choice item_named k.OpenRound = take procedure_predicted
 choice item_named t = refuse
 -- items
-choice items (k.Name _) = take (item_named ∷ items ∷ [])
+choice items (k.Operand (v.Known (e.Name _))) = take (item_named ∷ items ∷ [])
 choice items (k.Resource _) = take (resource_predicted ++ items ∷ [])
 choice items t = refuse
 
--- a command or an assertion takes a level, unless it begins with at most n tokens left
+-- how many levels are left for it; what takes none has one
+abbrev pub levels_of : Predicted → ℕ
+levels_of (command d) = d
+levels_of (commands d) = d
+levels_of (assertion d) = d
+levels_of _ = suc zero
+
+-- there is one for what begins with so many tokens left, where n are free of the limit
 abbrev pub is_free : Predicted → (n left : ℕ) → Bool
-is_free (command d) n left = has_level n left d
-is_free (commands d) n left = has_level n left d
-is_free (assertion d) n left = has_level n left d
-is_free _ n left = true
+is_free s n left = has_level n left (levels_of s)
 
--- what comes of a stack at one token
+-- what comes of a stack at one token: that thing takes it, and this is owed then; or none does
 pub data Next : Type 0 where
-  goes : List Predicted → Next
+  goes : Predicted → List Predicted → Next
   bad : Next
-  deep : Next
-
--- a stack, if there is a level for it
-abbrev pub leveled : Bool → List Predicted → Next
-leveled true st = goes st
-leveled false st = deep
 
 -- what comes of a choice
-abbrev pub chosen : Choice → (free : Bool) → List Predicted → Next → Next
-chosen (take ss) free st without = leveled free (ss ++ st)
-chosen skip free st without = without
-chosen refuse free st without = bad
+abbrev pub chosen : Choice → Predicted → List Predicted → Next → Next
+chosen (take ss) s st without = goes s (ss ++ st)
+chosen skip s st without = without
+chosen refuse s st without = bad
 
 -- the topmost that takes the token takes it
-abbrev pub step : (n left : ℕ) → List Predicted → Leaf → Next
-step n left [] t = bad
-step n left (s ∷ st) t = chosen (choice s t) (is_free s n left) st (step n left st t)
+abbrev pub step : List Predicted → Leaf → Next
+step [] t = bad
+step (s ∷ st) t = chosen (choice s t) s st (step st t)
 
 -- whether it need not come at the end of the file
 abbrev pub is_optional : Predicted → Bool
@@ -369,13 +365,17 @@ abbrev pub at_end : Bool → Verdict
 at_end true = accepted
 at_end false = unexpected 0
 
+-- a verdict, if there is a level for it
+abbrev pub leveled : Bool → (left : ℕ) → Verdict → Verdict
+leveled true left v = v
+leveled false left v = too_deep left
+
 -- the verdict after one token
-abbrev pub after : (List Predicted → Verdict) → ℕ → Next → Verdict
-after f left (goes st) = f st
-after f left bad = unexpected left
-after f left deep = too_deep left
+abbrev pub after : (n left : ℕ) → (List Predicted → Verdict) → Next → Verdict
+after n left f (goes s st) = leveled (is_free s n left) left (f st)
+after n left f bad = unexpected left
 
 -- the verdict over tokens where that is owed
 abbrev pub verdict : ℕ → List Leaf → List Predicted → Verdict
 verdict n [] st = at_end (may_end st)
-verdict n (t ∷ ts) st = after (λ s. verdict n ts s) (suc (length ts)) (step n (suc (length ts)) st t)
+verdict n (t ∷ ts) st = after n (suc (length ts)) (λ s. verdict n ts s) (step st t)

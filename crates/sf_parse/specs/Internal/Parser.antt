@@ -2,6 +2,7 @@
 -- Ordinary: predictive parsing by recursive descent, as in Aho, Sethi, Ullman, "Compilers" (1986), section 4.4.
 use Rattle.std.specs.Prelude.{◌≡◌, ◌≢◌, ℤ, pos, List, [], ◌∷◌, ◌++◌, Bool, true, false}
 use Rattle.sf_base.specs.declared.place.Place.{Place}
+use Rattle.sf_ast.specs.declared.word.SurfaceOperand.TheVariants as v
 use Rattle.sf_ast.specs.declared.word.Word.{Word}
 use Rattle.sf_ast.specs.Surface as s
 use Rattle.sf_lex.specs.declared.token.Kind.{Kind}
@@ -31,16 +32,13 @@ NotNext u (t ∷ r) = kind t ≢ u
 
 -- an expression comes next
 abbrev pub expression_next : List Leaf → Bool
-expression_next (k.Name _ ∷ r) = true
-expression_next (k.Nil _ ∷ r) = true
-expression_next (k.Null _ ∷ r) = true
-expression_next (k.Number _ _ ∷ r) = true
+expression_next (k.Operand (v.Known _) ∷ r) = true
 expression_next _ = false
 
 -- an operand comes next
 abbrev pub operand_next : List Leaf → Bool
-operand_next (k.Existential _ ∷ r) = true
-operand_next r = expression_next r
+operand_next (k.Operand _ ∷ r) = true
+operand_next r = false
 
 -- the leaf of a token of that kind at that place, where a tree keeps no more of it
 abbrev pub mark : Kind → Place → Leaf
@@ -79,8 +77,7 @@ NotStar _ = Unit {0}
 
 -- a conjunct that is not closed has no `*` after it
 abbrev pub Ends : s.Conjunct → List Leaf → Type 0
-Ends (s.choose p b x y) r = NotStar r
-Ends (s.choose_round p b x y) r = NotStar r
+Ends (s.choose p round b x y) r = NotStar r
 Ends _ r = Unit {0}
 
 -- the last conjunct of an assertion
