@@ -125,36 +125,25 @@ pub record CommandBack (n d : ℕ) (u : Leaf) (ss st : List Predicted) (ts : Lis
 level_of : (n d : ℕ) (u : Leaf) (ts : List Leaf) (whole : List Leaf) → u ∷ ts ≡ whole → has_level n (suc (length ts)) d ≡ true → has_level n (length whole) d ≡ true
 level_of n d u ts whole e h = subst (λ z. has_level n (length z) d ≡ true) e h
 
-flat_within : (c : s.Command) (n d : ℕ) (r : List Leaf) → IsFlat c → has_level n (length (g.command c r)) d ≡ true → CommandWithin c n d r
-flat_within (s.if_alone p b c) n d r f h = absurd f
-flat_within (s.if p b c e) n d r f h = absurd f
-flat_within (s.while p b x c) n d r f h = absurd f
-flat_within (s.with p x b c) n d r f h = absurd f
-flat_within (s.block p cs o) n d r f h = absurd f
-flat_within _ n d r f h = h
-
-flat_follows : (c : s.Command) (r : List Leaf) → IsFlat c → Follows c r
-flat_follows (s.if_alone p b c) r f = absurd f
-flat_follows (s.if p b c e) r f = absurd f
-flat_follows (s.while p b x c) r f = absurd f
-flat_follows (s.with p x b c) r f = absurd f
-flat_follows _ r f = tt
+-- a command with none in it has its own level alone, and nothing may go wrong with an `else`
+flat_command : (c : s.Command) (n d : ℕ) (r : List Leaf) → IsFlat c → (has_level n (length (g.command c r)) d ≡ true → CommandWithin c n d r) × Follows c r × CommandNearest c
+flat_command (s.if_alone p b c) n d r f = absurd f
+flat_command (s.if p b c e) n d r f = absurd f
+flat_command (s.while p b x c) n d r f = absurd f
+flat_command (s.with p x b c) n d r f = absurd f
+flat_command (s.block p cs o) n d r f = absurd f
+flat_command _ n d r f = ((λ h. h), tt, tt)
 
 pub flat_nearest : (c : s.Command) → IsFlat c → CommandNearest c
-flat_nearest (s.if_alone p b c) f = absurd f
-flat_nearest (s.if p b c e) f = absurd f
-flat_nearest (s.while p b x c) f = absurd f
-flat_nearest (s.with p x b c) f = absurd f
-flat_nearest (s.block p cs o) f = absurd f
-flat_nearest _ f = tt
+flat_nearest c f = (flat_command c 0 0 [] f).2
 
 flat_back : (n d : ℕ) (u : Leaf) (ss st : List Predicted) (ts : List Leaf) (c : s.Command) (r : List Leaf) → IsFlat c → u ∷ ts ≡ g.command c r → Means n (ss ++ st) r → CommandBack n d u ss st ts
 flat_back n d u ss st ts c r f is more = record {
   command = c;
   rest = r;
   spells = is;
-  within = λ h. flat_within c n d r f (level_of n d u ts (g.command c r) is h);
-  follows = flat_follows c r f;
+  within = λ h. (flat_command c n d r f).0 (level_of n d u ts (g.command c r) is h);
+  follows = (flat_command c n d r f).1;
   nearest = flat_nearest c f;
   more = more;
 }

@@ -81,21 +81,14 @@ AfterConjunct (k.CloseSquare ∷ r) = Unit {0}
 AfterConjunct (k.Else ∷ r) = Unit {0}
 AfterConjunct _ = ⊥
 
-no_fields : (n : ℕ) (r : List Leaf) (st : List Predicted) → AfterConjunct r → verdict n r (m.maybe_fields ∷ st) ≡ verdict n r st
+-- no field does
+no_fields : (n : ℕ) (r : List Leaf) (st : List Predicted) → AfterConjunct r → (verdict n r (m.maybe_fields ∷ st) ≡ verdict n r st) × (verdict n r (m.more_fields ∷ st) ≡ verdict n r st)
 no_fields n [] st h = absurd h
-no_fields n (k.Star ∷ r) st h = refl
-no_fields n (k.CloseRound ∷ r) st h = refl
-no_fields n (k.CloseSquare ∷ r) st h = refl
-no_fields n (k.Else ∷ r) st h = refl
+no_fields n (k.Star ∷ r) st h = (refl, refl)
+no_fields n (k.CloseRound ∷ r) st h = (refl, refl)
+no_fields n (k.CloseSquare ∷ r) st h = (refl, refl)
+no_fields n (k.Else ∷ r) st h = (refl, refl)
 no_fields n (_ ∷ r) st h = absurd h
-
-no_more_fields : (n : ℕ) (r : List Leaf) (st : List Predicted) → AfterConjunct r → verdict n r (m.more_fields ∷ st) ≡ verdict n r st
-no_more_fields n [] st h = absurd h
-no_more_fields n (k.Star ∷ r) st h = refl
-no_more_fields n (k.CloseRound ∷ r) st h = refl
-no_more_fields n (k.CloseSquare ∷ r) st h = refl
-no_more_fields n (k.Else ∷ r) st h = refl
-no_more_fields n (_ ∷ r) st h = absurd h
 
 no_more_conjuncts : (n d : ℕ) (r : List Leaf) (st : List Predicted) → NotStar r → verdict n r (m.more_conjuncts d ∷ st) ≡ verdict n r st
 no_more_conjuncts n d [] st h = refl
@@ -103,11 +96,11 @@ no_more_conjuncts n d (k.Star ∷ r) st h = absurd h
 no_more_conjuncts n d (_ ∷ r) st h = refl
 
 more_fields_go : (n : ℕ) (fs : List SurfaceField) (r : List Leaf) (st : List Predicted) → AfterConjunct r → verdict n (g.more_fields fs r) (m.more_fields ∷ st) ≡ verdict n r st
-more_fields_go n [] r st h = no_more_fields n r st h
+more_fields_go n [] r st h = (no_fields n r st h).1
 more_fields_go n (f ∷ fs) r st h = more_fields_go n fs r st h
 
 maybe_fields_go : (n : ℕ) (fs : List SurfaceField) (r : List Leaf) (st : List Predicted) → AfterConjunct r → verdict n (g.maybe_fields fs r) (m.maybe_fields ∷ st) ≡ verdict n r st
-maybe_fields_go n [] r st h = no_fields n r st h
+maybe_fields_go n [] r st h = (no_fields n r st h).0
 maybe_fields_go n (f ∷ fs) r st h = more_fields_go n fs r st h
 
 -- an assertion begins with its first conjunct

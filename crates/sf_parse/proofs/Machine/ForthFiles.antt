@@ -75,13 +75,10 @@ mutual
       one_of_many n c d (g.commands cs r) st ∙ command_goes n c d (g.commands cs r) (m.commands d ∷ st) near.0 w.0 (follows_any c (g.commands cs r) (no_else_fronts cs r h)) ∙ commands_go n cs d r st near.1 w.1 h
 
 -- a body after its `local`s
-no_local : (n : ℕ) (c : s.Command) (r : List Leaf) (st : List Predicted) → verdict n (g.command c r) (m.locals ∷ st) ≡ verdict n (g.command c r) st
-no_local n (s.new x) r st = refl
-no_local n _ r st = refl
-
 no_locals : (n : ℕ) (cs : s.Commands) (p : Place) (r : List Leaf) (st : List Predicted) → verdict n (g.commands cs (k.CloseBrace p ∷ r)) (m.locals ∷ st) ≡ verdict n (g.commands cs (k.CloseBrace p ∷ r)) st
 no_locals n s.done p r st = refl
-no_locals n (s.then c cs) p r st = no_local n c (g.commands cs (k.CloseBrace p ∷ r)) st
+no_locals n (s.then (s.new x) cs) p r st = refl
+no_locals n (s.then _ cs) p r st = refl
 
 locals_go : (n : ℕ) (ls : List s.Names) (cs : s.Commands) (p : Place) (r : List Leaf) (st : List Predicted) → verdict n (g.locals ls (g.commands cs (k.CloseBrace p ∷ r))) (m.locals ∷ st) ≡ verdict n (g.commands cs (k.CloseBrace p ∷ r)) st
 locals_go n [] cs p r st = no_locals n cs p r st
@@ -92,8 +89,7 @@ locals_go n (x ∷ ls) cs p r st =
 no_annotation_items : (n : ℕ) (is : List s.Item) (st : List Predicted) → verdict n (g.items is []) (m.maybe_annotation ∷ st) ≡ verdict n (g.items is []) st
 no_annotation_items n [] st = refl
 no_annotation_items n (s.fields x ∷ is) st = refl
-no_annotation_items n (s.resource x ∷ is) st = refl
-no_annotation_items n (s.procedure x ∷ is) st = refl
+no_annotation_items n (_ ∷ is) st = refl
 
 fields_go : (n : ℕ) (xs : List Word) (r : List Leaf) (st : List Predicted) → verdict n (g.more_names xs (k.Semicolon ∷ r)) (m.item_named ∷ st) ≡ verdict n r st
 fields_go n [] r st = refl
