@@ -101,6 +101,17 @@ impl Heap {
         }
     }
 
+    /// The locations of the cells. An `Err` says that memory ran out.
+    pub fn locations(&self) -> Result<Locations, AllocError>
+        ensures { IfOk result (λ at. AreAt at self.now) }
+    {
+        let mut numbers = Vec::with_capacity(self.alloc, self.entries.len())?;
+        for entry in &self.entries {
+            numbers.push(entry.at)?;
+        }
+        Ok(Locations::from_vec(numbers))
+    }
+
     /// Takes the cell at a location out, or answers `None` exactly where there is none.
     pub fn take(&mut self, at: u64) -> Option<Box<Cell>>
         ensures value { option_map (λ b. b.value) result ≡ map.get self.old at }

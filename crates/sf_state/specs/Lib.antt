@@ -7,4 +7,5 @@ pub mod Stated
 pub mod StateText
 pub mod Entering
 pub mod Starts
+pub mod Finishing
 pub mod Internal

@@ -26,6 +26,7 @@ fn holds_none(p: &Arranged, f: ProcId) -> bool
 /// The entry of that name, or why there is none.
 fn find_entry(alloc: Global, p: &Arranged, name: &str) -> Result<ProcId, StartFault>
     ensures found { IfOk result (IsEntry (program_of p.now.program) name.now) }
+    ensures within { IfOk result (λ f. f.0 < length p.now.program.procedures.items) }
     ensures refused { IfErr result (λ e. (e ≡ StartFault.OutOfMemory)
         ⊎ IsEntryFault (program_of p.now.program) name.now e) }
 {
@@ -48,8 +49,9 @@ fn find_entry(alloc: Global, p: &Arranged, name: &str) -> Result<ProcId, StartFa
 /// and `FreeEntry` exactly where the variables of a resource occur in its pre or post; or memory
 /// runs out.
 pub fn entry(alloc: Global, p: &Arranged, name: &str) -> Result<ProcId, StartFault>
-    ensures { Decides result (λ f. f) (IsEntry (program_of p.now.program) name.now)
+    ensures decides { Decides result (λ f. f) (IsEntry (program_of p.now.program) name.now)
         (IsEntryFault (program_of p.now.program) name.now) StartFault.OutOfMemory }
+    ensures within { IfOk result (λ f. f.0 < length p.now.program.procedures.items) }
 {
     find_entry(alloc, p, name)
 }

@@ -14,6 +14,7 @@
 //! - `unit`: the first unit of a start.
 //! - `start`: the start that a text gives.
 //! - `text`: the text of a state as it is written.
+//! - `finish`: the text of what a run ends with.
 //! - `fault`: why a procedure and a text are no start.
 #![tactic(auto)]
 
@@ -21,6 +22,7 @@ mod entering;
 mod fault;
 mod fields;
 mod finding;
+mod finish;
 mod given;
 mod line;
 mod names;
@@ -35,6 +37,7 @@ mod words;
 
 pub use entering::entry;
 pub use fault::StartFault;
+pub use finish::write;
 pub use start::read;
 pub use state::{State, read_state};
 pub use text::state_text;
