@@ -5,3 +5,4 @@ pub mod Units
 pub mod Regions
 pub mod Progress
 pub mod Closing
+pub mod Searching

@@ -1,3 +1,4 @@
 pub mod Sequential
 pub mod Lone
 pub mod Laws
+pub mod Internal
