@@ -2,6 +2,7 @@ pub mod Beginnings
 pub mod Calls
 pub mod Causes
 pub mod Enabling
+pub mod Endings
 pub mod HeapChanges
 pub mod NextTodo
 pub mod Notes

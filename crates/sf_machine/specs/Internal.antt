@@ -1,3 +1,4 @@
+pub mod Endings
 -- What stands between the code and the machine of the definitions.
 pub mod Calls
 pub mod Effects

@@ -2,6 +2,7 @@ pub mod Accessing
 pub mod Answers
 pub mod Beginning
 pub mod Configs
+pub mod Ending
 pub mod Events
 pub mod Internal
 pub mod Reached

@@ -14,11 +14,12 @@
 //! - `calling`: the frames of callees, and their values.
 //! - `plan`: what the event of a command would make of a configuration, or why it is none.
 //! - `performing`: what an event makes of a configuration.
+//! - `finishing`: whether a run has ended, and what it ends with.
 //! - `stepping`: the step. `laws`: that each answer of it comes exactly where its cause is.
 //!
 //! `specs/` says which configuration of the definitions a `Config` is (Configs), with which one a
 //! procedure starts (Beginning), which ones a running program has (Reached), what is said of a step's
-//! reads and writes (Accessing), and what a step answers (Answers).
+//! reads and writes (Accessing), what a step answers (Answers), and what a run ends with (Ending).
 #![tactic(auto)]
 
 mod accessed;
@@ -31,6 +32,7 @@ mod config;
 mod effect;
 mod entry;
 mod event;
+mod finishing;
 mod following;
 mod frame;
 mod laws;

@@ -28,7 +28,7 @@ pub(crate) fn add_resources(store: &mut Store, p: &Program, vars: &Vars) -> Resu
 
 /// How many variables the resource of that number has.
 #[tactic(auto, using(crate::proofs::Tables::counted))]
-fn variable_count(p: &Program, r: usize) -> u32
+pub(crate) fn variable_count(p: &Program, r: usize) -> u32
     requires { r < length p.now.resources.items }
     ensures count { result ≡ get_or (counts_of p.now.resources.items) r 0 }
     ensures few { r < 2 ^ 32 }

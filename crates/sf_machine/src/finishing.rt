@@ -1,0 +1,112 @@
+//! The end of a run.
+
+ghost use Rattle.std.specs.Prelude.{◌≡◌, ◌↔◌, ◌+◌, ◌<◌, [], length, Some, IfOk, IsTrue};
+ghost use Rattle.sf_base.specs.HeapStore.{own, shared};
+ghost use Rattle.sf_core.specs.Machine.Enabled.{HasEnded};
+ghost use Rattle.sf_core.specs.Machine.Step.{procedure_at};
+ghost use Rattle.sf_core.specs.Program.Syntax.{Procedure};
+ghost use Rattle.sf_core.specs.Program.ProgramView.{program_of};
+ghost use Rattle.sf_machine.specs.Configs.{config_of};
+ghost use Rattle.sf_machine.specs.Ending.{Ends};
+ghost use Rattle.sf_machine.specs.Internal.Endings.{AreRows, AreValues};
+ghost use Rattle.sf_machine.specs.Internal.Resources.{counts_of};
+ghost use Rattle.sf_machine.specs.Internal.Stores.{store_of};
+
+use crate::config::{Common, Config};
+use crate::resources::variable_count;
+use crate::spot::Spot;
+use crate::store::Store;
+use crate::task::Task;
+use sf_base::{ProcId, ResId, Value};
+use sf_core::Program;
+use sf_foot::{Finish, Vars};
+use std::alloc::{AllocError, Global};
+
+impl<'p> Config<'p> {
+    /// Whether the entry's task has ended.
+    pub fn has_ended(&self) -> bool
+        ensures { IsTrue result ↔ HasEnded [] (config_of self.now).tasks }
+    {
+        match &self.tasks {
+            Task::Over => true,
+            Task::Runs(frame, below) => {
+                below.as_slice().is_empty() && frame.todo.as_slice().is_empty()
+            }
+            Task::Waits(_, _, _, _) => false,
+        }
+    }
+
+    /// What a run of procedure `f` ends with: the values of its references and values and of the
+    /// variables of the resources, and the cells, which move and aren't copied. An `Err` says that
+    /// memory ran out.
+    pub fn finish(self, alloc: Global, p: &Program, f: ProcId) -> Result<Finish, AllocError>
+        requires { f.0 < length p.now.procedures.items }
+        ensures { IfOk result (λ finish. Ends (program_of p.now) f (config_of self.entry)
+            finish.vars finish.heap) }
+    {
+        let count = parameter_count(p, f);
+        let own = own_values(alloc, &self.common.store, count)?;
+        let shared = values_of_resources(alloc, &self.common.store, p)?;
+        let Config { common, .. } = self;
+        let Common { heap, .. } = common;
+        Ok(Finish {
+            vars: Vars { own, shared },
+            heap,
+        })
+    }
+}
+
+/// How many references and values a procedure has.
+fn parameter_count(p: &Program, f: ProcId) -> u32
+    requires { f.0 < length p.now.procedures.items }
+    ensures { (g : Procedure) → procedure_at (program_of p.now) f ≡ Some g
+        → result ≡ g.references + g.values }
+{
+    let procedure = p.proc(f);
+    procedure.references + procedure.values
+}
+
+/// The values of the variables of each resource.
+fn values_of_resources(
+    alloc: Global,
+    store: &Store,
+    p: &Program,
+) -> Result<Vec<Vec<Value>>, AllocError>
+    ensures { IfOk result (λ rows. AreRows (store_of store.now) (counts_of p.now.resources.items)
+        (length p.now.resources.items) rows.items) }
+{
+    let mut rows = Vec::with_capacity(alloc, p.resources.len())?;
+    for r in 0..p.resources.len() {
+        let count = variable_count(p, r);
+        let values = shared_values(alloc, store, ResId(r as u32), count)?;
+        rows.push(values)?;
+    }
+    Ok(rows)
+}
+
+/// The values of the entry's first variables.
+fn own_values(alloc: Global, store: &Store, count: u32) -> Result<Vec<Value>, AllocError>
+    ensures { IfOk result (λ values. AreValues (store_of store.now) (λ k. own 0 k) count values.items) }
+{
+    let mut values = Vec::with_capacity(alloc, count as usize)?;
+    for i in 0..count {
+        values.push(store.get(Spot::Own(0, i as u64)))?;
+    }
+    Ok(values)
+}
+
+/// The values of the first variables of a resource.
+fn shared_values(
+    alloc: Global,
+    store: &Store,
+    r: ResId,
+    count: u32,
+) -> Result<Vec<Value>, AllocError>
+    ensures { IfOk result (λ values. AreValues (store_of store.now) (shared r) count values.items) }
+{
+    let mut values = Vec::with_capacity(alloc, count as usize)?;
+    for i in 0..count {
+        values.push(store.get(Spot::Shared(r, i)))?;
+    }
+    Ok(values)
+}
