@@ -6,3 +6,4 @@ pub mod Regions
 pub mod Progress
 pub mod Closing
 pub mod Searching
+pub mod Turns

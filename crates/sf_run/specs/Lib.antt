@@ -1,4 +1,5 @@
 pub mod Sequential
 pub mod Lone
 pub mod Laws
+pub mod Running
 pub mod Internal

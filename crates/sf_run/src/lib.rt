@@ -2,16 +2,21 @@
 //!
 //! - `laws`: what such a run comes to is one thing, and comes of each proved program.
 //! - `sequential`: whether a parallel call can be reached.
+//! - `stop`: what a run may use, and why it stops. `running`: the run.
 //!
-//! `specs/` says from which procedures no parallel call can be reached (Sequential), and what is kept
-//! of a configuration with one task (Lone).
+//! `specs/` says from which procedures no parallel call can be reached (Sequential), what is kept of a
+//! configuration with one task (Lone), and what a run answers (Running).
 #![tactic(auto)]
 
 mod laws;
+mod running;
 mod sequential;
+mod stop;
 
 pub use laws::{
     bases_are_free, lone_tasks_find_regions_free, lone_tasks_progress, outcomes_are_unique,
     outcomes_exist, sequential_runs_are_lone, units_stay_free,
 };
+pub use running::run;
 pub use sequential::is_sequential;
+pub use stop::{Budget, Stop};
