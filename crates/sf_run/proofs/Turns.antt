@@ -30,7 +30,6 @@ use Rattle.sf_machine.specs.declared.event.Stepped.TheVariants.{Moved, Waiting}
 use Rattle.sf_machine.specs.Answers.{Answers, AnswersAreExclusive, RefusedEventsDoNotStep}
 use Rattle.sf_machine.specs.Beginning.{Begins}
 use Rattle.sf_machine.specs.Events.{event_of}
-use Rattle.sf_machine.proofs.Causes.{answers_are_exclusive, refused_events_do_not_step}
 use Rattle.sf_run.specs.Internal.Turns.{GoesOn, Halts, HaltsAtLast, IsAlone, IsBlank, IsTurn, outcome_of}
 use Rattle.sf_run.specs.declared.running.Halt.{Halt}
 use Rattle.sf_run.specs.declared.running.Halt.TheVariants.{Ended, Waiting as Waits}
@@ -119,21 +118,22 @@ answer-waits p unit c q free going (at, shut) =
     }
 
 -- a task that hasn't ended and doesn't move waits for a condition
-pub answer-alone : (p : Program) (unit : ℕ) (c : Config) (why : Stepped) → IsAlone p unit c
+pub answer-alone : AnswersAreExclusive → RefusedEventsDoNotStep → (p : Program) (unit : ℕ) (c : Config)
+    (why : Stepped) → IsAlone p unit c
     → (HasEnded [] c.tasks → ⊥) → Answers p (event_alone unit) c why → why ≢ Moved
     → (q : ResId) × WaitsAlone c q × (why ≡ Waiting q)
 unfolding AnswersAreExclusive RefusedEventsDoNotStep LoneTasksProgress
-answer-alone p unit c why a going said still =
+answer-alone exclusive refused p unit c why a going said still =
     elim (lone_tasks_progress p a.procedure a.store a.heap a.start c a.events unit a.formed a.conditions a.sequential
     a.starts a.reached (a.sound a.procedure a.store a.heap a.start c a.events a.starts a.reached) a.free) [
       | inl h ↦ absurd (going h)
       | inr (inl (q, w)) ↦ (
         q,
         w,
-        answers_are_exclusive p (event_alone unit) c why (Waiting q) said
+        exclusive p (event_alone unit) c why (Waiting q) said
             (answer-waits p unit c q a.free going w),
       )
-      | inr (inr (d, s)) ↦ absurd (refused_events_do_not_step p (event_alone unit) c d why said still s)
+      | inr (inr (d, s)) ↦ absurd (refused p (event_alone unit) c d why said still s)
     ]
 
 -- where it has ended, that is what it comes to
@@ -141,10 +141,11 @@ pub ended-turn : (p : Program) (unit : ℕ) (c : Config) → HasEnded [] c.tasks
 ended-turn p unit c h us = inl (h, refl)
 
 -- where the step answers that it waits, so is that
-pub waiting-turn : (p : Program) (unit : ℕ) (c d : Config) (why : Stepped) (r : ResId) → IsAlone p unit c
+pub waiting-turn : AnswersAreExclusive → RefusedEventsDoNotStep → (p : Program) (unit : ℕ) (c d : Config)
+    (why : Stepped) (r : ResId) → IsAlone p unit c
     → (HasEnded [] c.tasks → ⊥) → Answers p (event_alone unit) c why → why ≡ Waiting r → Halts p unit c d (Waits r)
-waiting-turn p unit c d why r a going said is us =
-    let found = answer-alone p unit c why a going said (λ e. waiting-moved (sym is ∙ e)) in
+waiting-turn exclusive refused p unit c d why r a going said is us =
+    let found = answer-alone exclusive refused p unit c why a going said (λ e. waiting-moved (sym is ∙ e)) in
     let both : Waiting r ≡ Waiting found.0 = sym is ∙ found.2 in
     let same : r ≡ found.0 = cc in
     inr (going, inl (found.0, found.1, ap waiting same))
@@ -153,11 +154,12 @@ waiting-turn p unit c d why r a going said is us =
     waiting-moved e = cc
 
 -- it answers nothing else
-pub other-turn : (p : Program) (unit : ℕ) (c : Config) (why : Stepped) → IsAlone p unit c
+pub other-turn : AnswersAreExclusive → RefusedEventsDoNotStep → (p : Program) (unit : ℕ) (c : Config)
+    (why : Stepped) → IsAlone p unit c
     → (HasEnded [] c.tasks → ⊥) → Answers p (event_alone unit) c why → why ≢ Moved
     → ((r : ResId) → why ≢ Waiting r) → ⊥
-other-turn p unit c why a going said still never =
-    let found = answer-alone p unit c why a going said still in
+other-turn exclusive refused p unit c why a going said still never =
+    let found = answer-alone exclusive refused p unit c why a going said still in
     never found.0 found.2
 
 -- where it moves, it goes on

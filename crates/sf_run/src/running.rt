@@ -17,7 +17,9 @@ use sf_base::{ProcId, ResId, TaskPath};
 use sf_core::Program;
 use sf_foot::{Finish, Start};
 use sf_heap::Cell;
-use sf_machine::{Config, Event, Stepped, begin, step};
+use sf_machine::{
+    Config, Event, Stepped, answers_are_exclusive, begin, refused_events_do_not_step, step,
+};
 use std::alloc::{AllocError, Global};
 
 /// Why the entry's task makes no further event.
@@ -127,6 +129,8 @@ fn turn<'p>(p: &'p Program, c: &mut Config<'p>, e: &Event) -> Result<Option<Halt
     if c.has_ended() {
         return Ok(Some(Halt::Ended));
     }
+    answers_are_exclusive();
+    refused_events_do_not_step();
     match step(p, c, e)? {
         Stepped::Moved => Ok(None),
         Stepped::Waiting(r) => Ok(Some(Halt::Waiting(r))),

@@ -7,7 +7,8 @@ use Rattle.sf_run.proofs.Turns.{event-turn, moved-turn, other-turn, waiting-turn
 use Rattle.sf_run.proofs.running.turn.Goals as goal
 
 pub unreachable-requires : goal.unreachable-requires
-unreachable-requires c = other-turn (program_of c.args.p.now) c.args.e.now.number (config_of c.args.c.now)
+unreachable-requires c = other-turn c.answers_are_exclusive.ensures c.refused_events_do_not_step.ensures
+    (program_of c.args.p.now) c.args.e.now.number (config_of c.args.c.now)
     c.in_ok-step.field-0 c.requires.alone
     (λ h. true≢false (sym (c.has_ended.ensures.1 h) ∙ c.if-has_ended.false))
     (subst (λ (ev : Event). Answers (program_of c.args.p.now) ev (config_of c.args.c.now) c.in_ok-step.field-0)
@@ -23,7 +24,8 @@ returns-in-Moved-clause-moves c = λ e. moved-turn (program_of c.args.p.now) c.a
     (c.in_ok-step.ensures.moved c.in-Moved.is))
 
 pub returns-in-Waiting-clause-halts : goal.returns-in-Waiting-clause-halts
-returns-in-Waiting-clause-halts c = waiting-turn (program_of c.args.p.now) c.args.e.now.number
+returns-in-Waiting-clause-halts c = waiting-turn c.answers_are_exclusive.ensures
+    c.refused_events_do_not_step.ensures (program_of c.args.p.now) c.args.e.now.number
     (config_of c.args.c.now) (config_of c.step.new.c) c.in_ok-step.field-0 c.in-Waiting.r c.requires.alone
     (λ h. true≢false (sym (c.has_ended.ensures.1 h) ∙ c.if-has_ended.false))
     (subst (λ (ev : Event). Answers (program_of c.args.p.now) ev (config_of c.args.c.now) c.in_ok-step.field-0)
