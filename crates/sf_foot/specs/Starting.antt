@@ -51,9 +51,10 @@ IsMentioned vars heap location = (contains_key heap location ≡ true)
     ⊎ ((at : ℕ) × (here : FieldValues) × (field : ℕ) × (get heap at ≡ Some here)
     × (slice_index_or here field nil ≡ loc location)))
 
--- each location that is mentioned is below the unit, which is at most 2^62
+-- each location that is mentioned is below the unit, which is from 1 to 2^62
 abbrev pub IsFreshFrom : Vars → Cells → ℕ → Type 0
-IsFreshFrom vars heap unit = (unit ≤ 2 ^ 62) × ((location : ℕ) → IsMentioned vars heap location → location < unit)
+IsFreshFrom vars heap unit = ((0 < unit) × (unit ≤ 2 ^ 62))
+    × ((location : ℕ) → IsMentioned vars heap location → location < unit)
 
 -- the least unit from which on no location is mentioned; 1 where none is
 abbrev pub IsFirstUnit : Vars → Cells → ℕ → Type 0
@@ -67,4 +68,4 @@ IsDisjointUnion-prop heap parts =
 
 -- and so does that a unit is fresh
 pub IsFreshFrom-prop : (vars : Vars) (heap : Cells) (unit : ℕ) → IsProp (IsFreshFrom vars heap unit)
-IsFreshFrom-prop vars heap unit = ×_prop le_prop (Π_prop (λ l. →_prop le_prop))
+IsFreshFrom-prop vars heap unit = ×_prop (×_prop le_prop le_prop) (Π_prop (λ l. →_prop le_prop))

@@ -159,7 +159,7 @@ plain_mentions vars heap location n m e (inr (inr (at, here, field, there, held)
 pub plain_unit : (vars : Vars) (heap : Cells) → vars.own.items ≡ [] → vars.shared.items ≡ [] → heap ≡ empty
     → IsFirstUnit vars heap 1
 plain_unit vars heap n m e =
-    ((omega arith, λ location there. absurd (plain_mentions vars heap location n m e there)), inl refl)
+    (((omega arith, omega arith), λ location there. absurd (plain_mentions vars heap location n m e there)), inl refl)
 
 -- a list without elements
 plain_none : (ls ms : List ℕ) → ((l : ℕ) → Contains ls l ↔ Contains ms l) → ms ≡ [] → ls ≡ []

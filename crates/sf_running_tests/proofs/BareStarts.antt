@@ -187,7 +187,7 @@ module _ (p : Program) (f : ProcId) (g : Procedure) (vars : Vars) (heap : Cells)
 -- its first unit is 1
 pub bare_unit : (vars : Vars) (heap : Cells) → vars.own.items ≡ [] → vars.shared.items ≡ [] → heap ≡ empty
     → IsFirstUnit vars heap 1
-bare_unit vars heap no_own no_shared no_cells = ((omega arith, λ l m. absurd (nowhere l m)), inl refl)
+bare_unit vars heap no_own no_shared no_cells = (((omega arith, omega arith), λ l m. absurd (nowhere l m)), inl refl)
   where
     nowhere : (l : ℕ) → IsMentioned vars heap l → ⊥
     nowhere l (inl h) = true≢false (sym h ∙ ap is_some (bare_cells heap no_cells l))

@@ -83,7 +83,8 @@ pub unit-first : (vars : Vars) (heap : Cells) (at : List ℕ) (a b c : ℕ) → 
     → AreInBounds (IsMentioned vars heap) → Raises (IsValueIn vars.own.items) 1 a → Raises (InShared vars) a b
     → Raises (IsOfOne (IsInCell heap) at) b c → IsFirstUnit vars heap c
 unit-first vars heap at a b c all bounds r s t =
-    ((within all_of.is, λ l m. all_of.above l (mentioned-where vars heap at l all m)), least all_of.is)
+    (((positive all_of.is, within all_of.is), λ l m. all_of.above l (mentioned-where vars heap at l all m)),
+    least all_of.is)
   where
     all_of : Raises (λ l. (IsValueIn vars.own.items l ⊎ InShared vars l) ⊎ IsOfOne (IsInCell heap) at l) 1 c
     all_of = raises-then (λ l. IsValueIn vars.own.items l ⊎ InShared vars l) (IsOfOne (IsInCell heap) at) 1 b c
@@ -94,6 +95,11 @@ unit-first vars heap at a b c all bounds r s t =
     mentioned l (inl (inl v)) = mentioned-own vars heap l v
     mentioned l (inl (inr v)) = mentioned-shared vars heap l v
     mentioned l (inr m) = mentioned-cells vars heap at l all m
+
+    positive : ((c ≡ 1) ⊎ ((l : ℕ) × ((IsValueIn vars.own.items l ⊎ InShared vars l) ⊎ IsOfOne (IsInCell heap) at l)
+        × (c ≡ l + 1))) → 0 < c
+    positive (inl e) = omega (arith, e)
+    positive (inr x) = omega (arith, x.2)
 
     within : (c ≡ 1) ⊎ ((l : ℕ) × ((IsValueIn vars.own.items l ⊎ InShared vars l) ⊎ IsOfOne (IsInCell heap) at l)
         × (c ≡ l + 1)) → c ≤ 2 ^ 62
