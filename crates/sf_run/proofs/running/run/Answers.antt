@@ -1,20 +1,27 @@
-use Rattle.std.proofs.Common.{arith}
-use Rattle.std.proofs.lemmas.List.{length-map}
-use Rattle.std.proofs.lemmas.Option.{slice_get_within}
-use Rattle.sf_core.specs.Program.ProgramView.{program_of}
-use Rattle.sf_core.specs.Program.View.{procedure_of}
-use Rattle.sf_machine.specs.Configs.{config_of}
-use Rattle.sf_run.proofs.Turns.{begin-turn}
+use Rattle.std.proofs.Common.{IfErr, IfOk, subst, sym}
+use Rattle.sf_core.specs.Program.Syntax.{Program}
+use Rattle.sf_foot.specs.Starting.{StartsWith}
+use Rattle.sf_run.specs.Running.{EndsWith, Stops}
+use Rattle.sf_run.specs.Sequential.{IsSequential}
 use Rattle.sf_run.proofs.running.run.Goals as goal
 
-pub run_alone-requires-clause-alone : goal.run_alone-requires-clause-alone
-run_alone-requires-clause-alone c = begin-turn (program_of c.args.p.now) c.args.f c.args.start.vars
-    c.args.start.heap c.args.start.parts.items c.args.start.unit (config_of c.in_ok-config.config)
-    c.args.p.now.formed c.requires.conditions c.requires.sound c.requires.sequential c.requires.starts
-    c.requires.unit c.in_ok-config.ensures.begins
+pub run_sound-requires-clause-starts : goal.run_sound-requires-clause-starts
+run_sound-requires-clause-starts g c =
+    subst (λ (p : Program). StartsWith p c.args.f c.args.start.vars c.args.start.heap c.args.start.parts.items)
+    (sym c.proved_program-p.ensures.program) c.requires.starts
 
-pub finish-requires : goal.finish-requires
-finish-requires c =
-    let below = slice_get_within (program_of c.args.p.now).procedures c.args.f.0 c.requires.starts.procedure
-    c.requires.starts.there in
-    omega (arith, below, length-map c.args.p.now.procedures.items procedure_of)
+pub run_sound-requires-clause-sequential : goal.run_sound-requires-clause-sequential
+run_sound-requires-clause-sequential g c =
+    subst (λ (p : Program). IsSequential p c.args.f) (sym c.proved_program-p.ensures.program) c.requires.sequential
+
+pub returns-clause-ends : goal.returns-clause-ends
+returns-clause-ends g c =
+    subst (λ (p : Program). IfOk c.run_sound.result
+    (EndsWith p c.args.f c.args.start.vars c.args.start.heap c.args.start.unit c.args.budget.steps))
+    c.proved_program-p.ensures.program c.run_sound.ensures.ends
+
+pub returns-clause-stops : goal.returns-clause-stops
+returns-clause-stops g c =
+    subst (λ (p : Program). IfErr c.run_sound.result
+    (Stops p c.args.f c.args.start.vars c.args.start.heap c.args.start.unit c.args.budget))
+    c.proved_program-p.ensures.program c.run_sound.ensures.stops
