@@ -83,9 +83,11 @@ unit-all : {X : Type 0} (M : X → ℕ → Type 0) → ((x : X) (a : ℕ) → (b
 unit-all M raise [] a = (a, raises-none (IsOfOne M []) a (λ l m. contains-nil m.0 m.1))
 unit-all {X} M raise (x ∷ xs) a =
     let r = raise x a in
-    let s = unit-all M raise xs r.0 in
-    (s.0, raises-same (λ l. M x l ⊎ IsOfOne M xs l) (IsOfOne M (x ∷ xs)) a s.0 to from
-    (raises-then (M x) (IsOfOne M xs) a r.0 s.0 r.1 s.1))
+    let s = unit-all M raise xs r.0 in (
+      s.0,
+      raises-same (λ l. M x l ⊎ IsOfOne M xs l) (IsOfOne M (x ∷ xs)) a s.0 to from
+          (raises-then (M x) (IsOfOne M xs) a r.0 s.0 r.1 s.1),
+    )
   where
     to : (l : ℕ) → M x l ⊎ IsOfOne M xs l → IsOfOne M (x ∷ xs) l
     to l (inl m) = (x, (contains-cons x xs x).1 (inl refl), m)
@@ -102,19 +104,24 @@ unit-cell heap place a = go (get heap place) refl (unit-one place a)
   where
     go : (o : Option FieldValues) → get heap place ≡ o → (b : ℕ) × Raises (λ m. m ≡ place) a b
         → (b : ℕ) × Raises (IsInCell heap place) a b
-    go None e r = (r.0, raises-same (λ m. m ≡ place) (IsInCell heap place) a r.0 (λ l m. inl m) (λ l m. elim m [
-      | inl f ↦ f
-      | inr h ↦ absurd (none-some h.0 (sym e ∙ h.1))
-    ]) r.1)
+    go None e r = (
+      r.0,
+      raises-same (λ m. m ≡ place) (IsInCell heap place) a r.0 (λ l m. inl m) (λ l m. elim m [
+        | inl f ↦ f
+        | inr h ↦ absurd (none-some h.0 (sym e ∙ h.1))
+      ]) r.1,
+    )
     go (Some here) e r =
-        let s = unit-all IsLocation unit-value here r.0 in
-        (s.0, raises-same (λ l. (l ≡ place) ⊎ IsValueIn here l) (IsInCell heap place) a s.0 (λ l m. elim m [
-          | inl f ↦ inl f
-          | inr v ↦ inr (here, e, v)
-        ]) (λ l m. elim m [
-          | inl f ↦ inl f
-          | inr h ↦ inr (subst (λ vs. IsValueIn vs l) (same_Some h.0 here (sym h.1 ∙ e)) h.2)
-        ]) (raises-then (λ l. l ≡ place) (IsValueIn here) a r.0 s.0 r.1 s.1))
+        let s = unit-all IsLocation unit-value here r.0 in (
+          s.0,
+          raises-same (λ l. (l ≡ place) ⊎ IsValueIn here l) (IsInCell heap place) a s.0 (λ l m. elim m [
+            | inl f ↦ inl f
+            | inr v ↦ inr (here, e, v)
+          ]) (λ l m. elim m [
+            | inl f ↦ inl f
+            | inr h ↦ inr (subst (λ vs. IsValueIn vs l) (same_Some h.0 here (sym h.1 ∙ e)) h.2)
+          ]) (raises-then (λ l. l ≡ place) (IsValueIn here) a r.0 s.0 r.1 s.1),
+        )
 
 -- variables and cells within bounds have a first unit
 unit-exists : (vars : Vars) (heap : Cells) → AreInBounds (IsMentioned vars heap) → (unit : ℕ) × IsFirstUnit vars heap unit
@@ -169,15 +176,18 @@ make-values names number (Some v ∷ given) e =
 
 -- a vector of a list that isn't too long
 make-vec : {X : Type 0} (xs : List X) → length xs < 2 ^ 63 → (v : Vec X Global) × (v.items ≡ xs)
-make-vec xs small = (record {
-  ptr = null_ptr;
-  len = length xs;
-  cap = length xs;
-  alloc = record { memory = ? };
-  items = xs;
-  ok = (refl, omega arith);
-  small = small;
-}, refl)
+make-vec xs small = (
+  record {
+    ptr = null_ptr;
+    len = length xs;
+    cap = length xs;
+    alloc = record { memory = ? };
+    items = xs;
+    ok = (refl, omega arith);
+    small = small;
+  },
+  refl,
+)
 
 -- the lists of the values of each resource's variables, as vectors
 make-vecs : (lists : List (List Value)) (most : ℕ) → most < 2 ^ 63 → ((xs : List Value) → Contains lists xs → length xs ≤ most)
@@ -363,11 +373,13 @@ turns-decided vars (a ∷ notes) heap tell =
     go (inr none) others = inr (0, record { parts = []; earlier = refl; assertion = a; there = refl; none = none })
     go (inl f) others = elim (others f.0) [
       | inl g ↦ inl (
-          f.0 ∷ g.0,
-          (f.1, subst (λ (h : Heap). HaveFootprints vars h notes g.0) (removed-heap f.0 heap) g.1),
-          (f.2, g.2),
-        )
-      | inr u ↦ inr (suc u.0, record {
+        f.0 ∷ g.0,
+        (f.1, subst (λ (h : Heap). HaveFootprints vars h notes g.0) (removed-heap f.0 heap) g.1),
+        (f.2, g.2),
+      )
+      | inr u ↦ inr (
+        suc u.0,
+        record {
           parts = f.0 ∷ u.1.parts;
           earlier = (f.1, subst (λ (h : Heap). HaveFootprints vars h (take u.0 notes) u.1.parts) (removed-heap f.0 heap) u.1.earlier);
           assertion = u.1.assertion;
@@ -375,7 +387,8 @@ turns-decided vars (a ∷ notes) heap tell =
           none = subst (λ (h : Heap). HasNoFootprint u.1.assertion.level vars h)
               (ap (without (concat u.1.parts)) (removed-heap f.0 heap)
               ∙ sym (without-append f.0 (concat u.1.parts) (heap_of heap))) u.1.none;
-        })
+        },
+      )
     ]
 
 -- where footprints in turn are in the whole heap
@@ -535,14 +548,14 @@ module _ (p : Program) (f : ProcId) (g : Procedure) (text : Text) (vars : Vars) 
       )
       go (inl t) = elim (turns-left heap (concat t.0)) [
         | inl l ↦ inr (
-            fault.LeftOver l.0,
-            left_over l.0 refl (record {
-              vars = vars;
-              heap = heap;
-              state = state;
-              why = record { parts = t.0; all = t.1; there = l.1; least = l.2 };
-            }),
-          )
+          fault.LeftOver l.0,
+          left_over l.0 refl (record {
+            vars = vars;
+            heap = heap;
+            state = state;
+            why = record { parts = t.0; all = t.1; there = l.1; least = l.2 };
+          }),
+        )
         | inr empty ↦
             let unit = unit-exists vars heap (state-bounds p g text vars heap state) in
             inl (t.0, unit.0, record { state = state; starts = start-made t.0 t.1 t.2 empty; first_unit = unit.1 })
