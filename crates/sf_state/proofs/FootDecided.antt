@@ -42,21 +42,21 @@ use Rattle.sf_foot.proofs.Sums.{have-among}
 
 -- two values are one, or they aren't
 same-int : (i j : ℤ) → (i ≡ j) ⊎ (i ≢ j)
-same-int (pos m) (pos n) = elim (cases_eq m n) [ | inl e ↦ inl (ap pos e) | inr o ↦ inr (λ e. o (cc)) ]
+same-int (pos m) (pos n) = elim (cases_eq m n) [ inl e ↦ inl (ap pos e) | inr o ↦ inr (λ e. o (cc)) ]
 same-int (pos m) (negsuc n) = inr (λ e. cc)
 same-int (negsuc m) (pos n) = inr (λ e. cc)
-same-int (negsuc m) (negsuc n) = elim (cases_eq m n) [ | inl e ↦ inl (ap negsuc e) | inr o ↦ inr (λ e. o (cc)) ]
+same-int (negsuc m) (negsuc n) = elim (cases_eq m n) [ inl e ↦ inl (ap negsuc e) | inr o ↦ inr (λ e. o (cc)) ]
 
 same-value : (v w : Value) → (v ≡ w) ⊎ (v ≢ w)
 same-value nil nil = inl refl
 same-value nil (int j) = inr (λ e. cc)
 same-value nil (loc n) = inr (λ e. cc)
 same-value (int i) nil = inr (λ e. cc)
-same-value (int i) (int j) = elim (same-int i j) [ | inl e ↦ inl (ap int e) | inr o ↦ inr (λ e. o (cc)) ]
+same-value (int i) (int j) = elim (same-int i j) [ inl e ↦ inl (ap int e) | inr o ↦ inr (λ e. o (cc)) ]
 same-value (int i) (loc n) = inr (λ e. cc)
 same-value (loc m) nil = inr (λ e. cc)
 same-value (loc m) (int j) = inr (λ e. cc)
-same-value (loc m) (loc n) = elim (cases_eq m n) [ | inl e ↦ inl (ap loc e) | inr o ↦ inr (λ e. o (cc)) ]
+same-value (loc m) (loc n) = elim (cases_eq m n) [ inl e ↦ inl (ap loc e) | inr o ↦ inr (λ e. o (cc)) ]
 
 -- values of existentials that are these, for what is known
 abbrev Agree : (ℕ → Bool) → (ℕ → Value) → (ℕ → Value) → Type 0
@@ -109,15 +109,15 @@ module _ {E : Type 0} (val : E → Value) where
       ⊎ Refuted (λ some. w ≡ operand val some x) known v
   learn-known known v x w k in_known = elim (same-value w (operand val v x)) [
     | inl e ↦ inl (record {
-        values = v;
-        keeps = λ n h. refl;
-        holds = λ some a. e
-            ∙ sym (known-operand known v some x (agree-first known (itself x) v some a) k);
-        only = λ some a p n h. elim (or_cases (known n) (is_existential n x) h) [
-          | inl i ↦ a n i
-          | inr i ↦ a n (in_known n i)
-        ];
-      })
+      values = v;
+      keeps = λ n h. refl;
+      holds = λ some a. e
+          ∙ sym (known-operand known v some x (agree-first known (itself x) v some a) k);
+      only = λ some a p n h. elim (or_cases (known n) (is_existential n x) h) [
+        | inl i ↦ a n i
+        | inr i ↦ a n (in_known n i)
+      ];
+    })
     | inr o ↦ inr (λ some a p. o (p ∙ known-operand known v some x a k))
   ]
 
@@ -168,7 +168,7 @@ module _ {E : Type 0} (val : E → Value) where
     values = v;
     keeps = λ n h. refl;
     holds = λ some a. tt;
-    only = λ some a p n h. elim (or_cases (known n) false h) [ | inl i ↦ a n i | inr i ↦ absurd (false≢true i) ];
+    only = λ some a p n h. elim (or_cases (known n) false h) [ inl i ↦ a n i | inr i ↦ absurd (false≢true i) ];
   })
   learn-fields known v (f ∷ fs) here = first (learn-operand known v f.1 (here f.0.0))
       (λ w. learn-fields (plus known (itself f.1)) w fs here)
@@ -188,19 +188,19 @@ module _ {E : Type 0} (val : E → Value) where
       first (inl g) rest = elim (rest g.values) [
         | inr fails ↦ inr (λ some a p. fails some (g.only some a p.0) p.1)
         | inl h ↦ inl (record {
-            values = h.values;
-            keeps = agree-then known (plus known (itself f.1)) v g.values h.values
-                (plus-first known (itself f.1)) g.keeps h.keeps;
-            holds = λ some a.
-                let b : Agree (plus (plus known (itself f.1)) (in_fields fs)) h.values some =
-                λ n e. a n (sym (same n) ∙ e) in (
-                  g.holds some (agree-then (plus known (itself f.1))
-                      (plus (plus known (itself f.1)) (in_fields fs)) g.values h.values some
-                      (plus-first (plus known (itself f.1)) (in_fields fs)) h.keeps b),
-                  h.holds some b,
-                );
-            only = λ some a p n e. h.only some (g.only some a p.0) p.1 n (same n ∙ e);
-          })
+          values = h.values;
+          keeps = agree-then known (plus known (itself f.1)) v g.values h.values
+              (plus-first known (itself f.1)) g.keeps h.keeps;
+          holds = λ some a.
+              let b : Agree (plus (plus known (itself f.1)) (in_fields fs)) h.values some =
+              λ n e. a n (sym (same n) ∙ e) in (
+                g.holds some (agree-then (plus known (itself f.1))
+                    (plus (plus known (itself f.1)) (in_fields fs)) g.values h.values some
+                    (plus-first (plus known (itself f.1)) (in_fields fs)) h.keeps b),
+                h.holds some b,
+              );
+          only = λ some a p n e. h.only some (g.only some a p.0) p.1 n (same n ∙ e);
+        })
       ]
 
 -- A heap with finitely many cells
@@ -353,7 +353,7 @@ module _ (heap : Cells) where
     nothing n = false
 
     plus-nothing : (known : ℕ → Bool) (n : ℕ) → plus known nothing n ≡ true → known n ≡ true
-    plus-nothing known n e = elim (or_cases (known n) false e) [ | inl i ↦ i | inr i ↦ absurd (false≢true i) ]
+    plus-nothing known n e = elim (or_cases (known n) false e) [ inl i ↦ i | inr i ↦ absurd (false≢true i) ]
 
     agree-nothing : (known : ℕ → Bool) (v some : ℕ → Value) → Agree known v some → Agree (plus known nothing) v some
     agree-nothing known v some a n e = a n (plus-nothing known n e)
@@ -826,8 +826,11 @@ footprint-decided heap vars (level made cs) o =
         too-long heap [] ls tt (have-level heap (value vars) (level made cs) (λ n. nil) ls t)
         (h (λ n. nil) ls (λ n e. refl) t) d))
     go (inl g) = elim (distinct-decided g.locations) [
-      | inl d ↦ inl (g.locations, taken-footprint heap vars (level made cs) g.locations
-          (g.all (λ n. nil) (λ n e. sym (g.keeps n (plus-nothing heap (value vars) (λ n. not (is_made_by made n)) n e)))) d)
+      | inl d ↦ inl (
+        g.locations,
+        taken-footprint heap vars (level made cs) g.locations
+            (g.all (λ n. nil) (λ n e. sym (g.keeps n (plus-nothing heap (value vars) (λ n. not (is_made_by made n)) n e)))) d,
+      )
       | inr repeats ↦ inr (none-longer heap vars (level made cs) (λ ls t d.
           repeats (subst Distinct (g.only (λ n. nil) ls (λ n e. refl) t).0 d)))
     ]

@@ -229,9 +229,9 @@ placed-from form all before (x ∷ names) e apart d s = (
       (λ y i j. elim (Contains-append_cases before (x ∷ []) y i) [
         | inl k ↦ apart y k (contains-rest x names y j)
         | inr k ↦ elim ((contains-cons x [] y).0 k) [
-            | inl same ↦ d.0 (subst (Contains names) (sym same) j)
-            | inr c ↦ contains-nil y c
-          ]
+          | inl same ↦ d.0 (subst (Contains names) (sym same) j)
+          | inr c ↦ contains-nil y c
+        ]
       ]) d.1 (λ y c. s y (contains-rest x names y c))),
 )
   where

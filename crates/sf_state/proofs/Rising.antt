@@ -46,12 +46,12 @@ first-same : (x y : ℕ) (xs ys : List ℕ) → AllPairs (λ a b. a < b) (x ∷ 
 first-same x y xs ys r s i j = elim ((contains-cons y ys x).0 i) [
   | inl e ↦ sym e
   | inr h ↦ elim ((contains-cons x xs y).0 j) [
-      | inl f ↦ f
-      | inr k ↦
-          let less : y < x = All-contains (λ b. y < b) ys x (pairs-head (λ a b. a < b) y ys s) h in
-          let more : x < y = All-contains (λ b. x < b) xs y (pairs-head (λ a b. a < b) x xs r) k in
-          absurd (omega (arith, less, more))
-    ]
+    | inl f ↦ f
+    | inr k ↦
+        let less : y < x = All-contains (λ b. y < b) ys x (pairs-head (λ a b. a < b) y ys s) h in
+        let more : x < y = All-contains (λ b. x < b) xs y (pairs-head (λ a b. a < b) x xs r) k in
+        absurd (omega (arith, less, more))
+  ]
 ]
 
 rest-same : (x y : ℕ) (xs ys : List ℕ) → AllPairs (λ a b. a < b) (x ∷ xs) → x ≡ y
