@@ -11,6 +11,7 @@ use Rattle.std.proofs.lemmas.Bool.{cases_lt, eq-eqb, eqb-true, false≢true}
 use Rattle.std.proofs.lemmas.Cmp.{nat_cmp_total}
 use Rattle.std.proofs.lemmas.List.{length-append, length-drop, length-map, length-take}
 use Rattle.std.proofs.lemmas.List.Elements.{All-contains, Contains-append_cases, Contains-append_left, Contains-append_right}
+use Rattle.std.proofs.lemmas.List.Sums.{sum_by-cons}
 use Rattle.std.proofs.lemmas.List.Kept.{AllPairs-from_increasing}
 use Rattle.std.proofs.lemmas.Option.{none-some, same_Some}
 use Rattle.sf_base.specs.declared.ids.ProcId.{ProcId}
@@ -181,7 +182,7 @@ make-vec xs small = (
     ptr = null_ptr;
     len = length xs;
     cap = length xs;
-    alloc = record { memory = ? };
+    alloc = record { memory = record { seal = tt } };
     items = xs;
     ok = (refl, omega arith);
     small = small;
@@ -223,6 +224,7 @@ names-count : (rs : List Resource) → length (flat_map names_of_resource rs) �
 names-count [] = refl
 names-count (r ∷ rs) = length-append (names_of_resource r) (flat_map names_of_resource rs)
     ∙ ap₂ ◌+◌ (length-map r.variables (qualified r.name)) (names-count rs)
+    ∙ sym (sum_by-cons (λ (q : Resource). length q.variables) r rs)
 
 given-count : (es : List Entry) (number : ℕ) (names : List Text) → length (values_given es number names) ≡ length names
 given-count es number [] = refl
@@ -255,45 +257,50 @@ names-few p f g formed there =
     let variables = formed.variables in
     omega (arith, own, shared, whole, few, variables)
 
--- a text that isn't refused gives a state
-state-exists : (p : Program) (f : ProcId) (g : Procedure) (text : Text) → IsFormed p → slice_get p.procedures f.0 ≡ Some g
-    → text_refusal p.fields (names_of p g) text ≡ None
+-- a text that isn't refused gives a state: with these values
+state-with : (p : Program) (f : ProcId) (g : Procedure) (text : Text) (values : List Value) → IsFormed p
+    → slice_get p.procedures f.0 ≡ Some g → text_refusal p.fields (names_of p g) text ≡ None
+    → map Some values ≡ values_given (entries_of p.fields (names_of p g) text) 0 (names_of p g)
     → (vars : Vars) × (heap : Cells) × GivesState p g text vars heap
-state-exists p f g text formed there accepted =
-    let es : List Entry = entries_of p.fields (names_of p g) text in
-    let lines = lines-accepted p.fields (names_of p g) text accepted in
-    let missing = none-missing (first_refusal p.fields (names_of p g) [] (entries_of p.fields (names_of p g) text))
-    (missing_from (names_of p g) 0 (values_given (entries_of p.fields (names_of p g) text) 0 (names_of p g))) lines in
-    let values = make-values (names_of p g) 0
-    (values_given (entries_of p.fields (names_of p g) text) 0 (names_of p g)) missing in
-    let size : length values.0 ≡ length (names_of p g) = sym (length-map values.0 Some) ∙ ap length values.1
+state-with p f g text values formed there accepted given =
+    let size : length values ≡ length (names_of p g) = sym (length-map values Some) ∙ ap length given
     ∙ given-count (entries_of p.fields (names_of p g) text) 0 (names_of p g) in
     let few = names-few p f g formed there in
-    let n : ℕ = g.references + g.values in
-    let taken = length-take (g.references + g.values) values.0 in
-    let dropped = length-drop (g.references + g.values) values.0 in
-    let own = make-vec (take (g.references + g.values) values.0) (omega (arith, taken, size, few)) in
-    let lists = make-vecs (by_resource p.resources (drop (g.references + g.values) values.0))
+    let taken = length-take (g.references + g.values) values in
+    let dropped = length-drop (g.references + g.values) values in
+    let own = make-vec (take (g.references + g.values) values) (omega (arith, taken, size, few)) in
+    let lists = make-vecs (by_resource p.resources (drop (g.references + g.values) values))
     (OWN_VARIABLES + RESOURCE_VARIABLES) (omega arith) (λ xs c.
-    let short = resource-short p.resources (drop (g.references + g.values) values.0) xs c in
+    let short = resource-short p.resources (drop (g.references + g.values) values) xs c in
     omega (arith, short, dropped, size, few)) in
     let count : length lists.0 ≡ length p.resources = sym (length-map lists.0 (λ (v : Vec Value Global). v.items))
-    ∙ ap length lists.1 ∙ resource-count p.resources (drop (g.references + g.values) values.0) in
+    ∙ ap length lists.1 ∙ resource-count p.resources (drop (g.references + g.values) values) in
     let resources = formed.resource_count in
     let shared = make-vec lists.0 (omega (arith, count, resources)) in (
       record { own = own.0; shared = shared.0 },
       make-cells (length p.fields) (entries_of p.fields (names_of p g) text),
       record {
         accepted = accepted;
-        values = values.0;
+        values = values;
         gives = record {
-          values_are = values.1;
+          values_are = given;
           cells_are = made-cells (length p.fields) (entries_of p.fields (names_of p g) text);
         };
         own = own.1;
         shared = ap (map (λ (v : Vec Value Global). v.items)) shared.1 ∙ lists.1;
       },
     )
+
+state-exists : (p : Program) (f : ProcId) (g : Procedure) (text : Text) → IsFormed p → slice_get p.procedures f.0 ≡ Some g
+    → text_refusal p.fields (names_of p g) text ≡ None
+    → (vars : Vars) × (heap : Cells) × GivesState p g text vars heap
+state-exists p f g text formed there accepted =
+    let missing = none-missing (first_refusal p.fields (names_of p g) [] (entries_of p.fields (names_of p g) text))
+    (missing_from (names_of p g) 0 (values_given (entries_of p.fields (names_of p g) text) 0 (names_of p g)))
+    (lines-accepted p.fields (names_of p g) text accepted) in
+    let values = make-values (names_of p g) 0
+    (values_given (entries_of p.fields (names_of p g) text) 0 (names_of p g)) missing in
+    state-with p f g text values.0 formed there accepted values.1
 
 -- cells without those at these locations
 removed : List ℕ → Cells → Cells
@@ -416,15 +423,15 @@ turns-parts vars heap (a ∷ notes) (ls ∷ ps) f = (
 -- each of their locations has a cell
 turns-there : (vars : Var → Value) (heap : Heap) (notes : List Assertion) (ps : List (List ℕ))
     → HaveFootprints vars heap notes ps → (l : ℕ) → Contains (concat ps) l → heap l ≢ None
-turns-there vars heap [] [] f l c = absurd (contains-nil l c)
-turns-there vars heap [] (ls ∷ ps) f l c = absurd cc
-turns-there vars heap (a ∷ notes) [] f l c = absurd f
+turns-there vars heap [] [] f l c e = contains-nil l c
+turns-there vars heap [] (ls ∷ ps) f l c e = absurd cc
+turns-there vars heap (a ∷ notes) [] f l c e = absurd f
 turns-there vars heap (a ∷ notes) (ls ∷ ps) f l c e = elim (Contains-append_cases ls (concat ps) l c) [
   | inl i ↦ (f.0.at l).1 i (first (f.0.part l) (f.0.foot.rest l) (sym (f.0.foot.splits.is l) ∙ e))
   | inr i ↦ turns-there vars (without ls heap) notes ps f.1 l i (gone (is_member nat_eq ls l) refl)
 ]
   where
-    first : (o q : Option _) → option_or o q ≡ None → o ≡ None
+    first : {X : Type 0} (o q : Option X) → option_or o q ≡ None → o ≡ None
     first None q h = refl
     first (Some x) q h = absurd cc
 
