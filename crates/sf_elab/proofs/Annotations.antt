@@ -1,9 +1,8 @@
 -- What is known of levels, their existentials, and what assertions elaborate to.
 -- One module for each subject.
 pub mod AssertionsWithin
-pub mod Conjuncts
 pub mod Depths
-pub mod Existentials
+pub mod Flats
 pub mod ExistentialsMade
 pub mod Scopes
 pub mod ScopesNumbered

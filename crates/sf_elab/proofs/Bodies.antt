@@ -3,4 +3,3 @@
 pub mod Beginnings
 pub mod CommandsWithin
 pub mod PrimedValues
-pub mod CommandLists

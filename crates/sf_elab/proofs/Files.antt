@@ -2,5 +2,3 @@
 -- One module for each subject.
 pub mod FirstFaults
 pub mod FormedPrograms
-pub mod Wholes
-pub mod Closing

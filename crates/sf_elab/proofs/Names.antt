@@ -10,4 +10,3 @@ pub mod TableLaws
 pub mod Tables
 pub mod UniqueNames
 pub mod VariablesWithin
-pub mod Views

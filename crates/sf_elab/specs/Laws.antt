@@ -6,7 +6,7 @@ use Rattle.sf_base.specs.First.{IsFirstAmong}
 use Rattle.sf_base.specs.declared.limits.TheConstants.{NESTING}
 use Rattle.sf_ast.specs.Depth.{items_depth}
 use Rattle.sf_ast.specs.Surface as Surface
-use Rattle.sf_ast.specs.Surface.{Assertion, Command, assign, look_up, new, if_alone, if, while, with, call, fork, block, Commands, done, then, Item}
+use Rattle.sf_ast.specs.Surface.{Command, assign, look_up, new, if_alone, if, while, with, call, fork, block, Commands, done, then, Item}
 use Rattle.sf_ast.specs.declared.word.Word.{Word}
 use Rattle.sf_core.specs.Program.Formed.{IsFormed}
 use Rattle.sf_core.specs.Program.Syntax.{Procedure, Resource, Program}
@@ -14,7 +14,8 @@ use Rattle.sf_elab.specs.declared.fault.Fault.{Fault}
 use Rattle.sf_elab.specs.declared.fault.NameFault.{NameFault}
 use Rattle.sf_elab.specs.Files.Elaborated.{elaborated, faults, Elaborates, FirstFault}
 use Rattle.sf_elab.specs.declared.levels.Levels.{Levels}
-use Rattle.sf_elab.specs.Annotations.Existentials.{words_in, opened, after_level}
+use Rattle.sf_elab.specs.Annotations.Existentials.{opened, names_after_level}
+use Rattle.sf_elab.specs.Annotations.Flat.{Flats, words_in}
 use Rattle.sf_elab.specs.Files.Faults.{is_earlier}
 use Rattle.sf_elab.specs.Bodies.Commands.{references_in}
 use Rattle.sf_elab.specs.Bodies.Procedures.{is_among, is_primed}
@@ -55,16 +56,14 @@ pub record NamesAreUnique : Type 0 where
 -- levels are scopes of existentials
 pub record LevelsAreScopes : Type 0 where
   -- in reach inside a level is what was in reach before it or occurs in that level itself
-  pub in_reach : (bytes : List ℕ) (l : Levels) (a : Assertion) (name : List ℕ) → has name (opened bytes l a).reach ≡ (has name l.reach || is_among bytes (words_in a) name)
+  pub in_reach : (bytes : List ℕ) (l : Levels) (a : Flats) (name : List ℕ) → has name (opened bytes l a).reach ≡ (has name l.reach || is_among bytes (words_in a) name)
   -- what was in reach keeps its number
-  pub kept : (bytes : List ℕ) (l : Levels) (a : Assertion) (name : List ℕ) (n : ℕ) → find name l.reach ≡ Some n → find name (opened bytes l a).reach ≡ Some n
+  pub kept : (bytes : List ℕ) (l : Levels) (a : Flats) (name : List ℕ) (n : ℕ) → find name l.reach ≡ Some n → find name (opened bytes l a).reach ≡ Some n
   -- what is new has a number that was not taken, and its name is at that place of all names, so no two have one number
-  pub new : (bytes : List ℕ) (l : Levels) (a : Assertion) (name : List ℕ) (n : ℕ) → has name l.reach ≡ false → find name (opened bytes l a).reach ≡ Some n
+  pub new : (bytes : List ℕ) (l : Levels) (a : Flats) (name : List ℕ) (n : ℕ) → has name l.reach ≡ false → find name (opened bytes l a).reach ≡ Some n
       → (length l.names ≤ n) × (slice_get (opened bytes l a).names n ≡ Some name)
-  -- once the level was read, what was in reach before it is in reach again, and nothing else
-  pub left : (bytes : List ℕ) (l : Levels) (a : Assertion) → (after_level bytes l a).reach ≡ l.reach
-  -- and the numbers of the level stay taken, each by its name
-  pub taken : (bytes : List ℕ) (l : Levels) (a : Assertion) → (more : List (List ℕ)) × ((after_level bytes l a).names ≡ (opened bytes l a).names ++ more)
+  -- once the level was read, its numbers stay taken, each by its name
+  pub taken : (bytes : List ℕ) (l : Levels) (a : Flats) → (more : List (List ℕ)) × (names_after_level bytes l a ≡ (opened bytes l a).names ++ more)
 
 -- the command itself sets the word, or passes it as a reference, whatever is inside it
 abbrev pub Sets : Command → Word → Type 0

@@ -1,14 +1,13 @@
 //! The assertions of a file, numbered.
 
-ghost use Rattle.std.specs.Prelude.{◌≡◌, ◌∷◌, ◌++◌, ◌-◌, [], map, IfOk, OnOk};
+ghost use Rattle.std.specs.Prelude.{◌≡◌, ◌++◌, ◌-◌, [], map, IfOk, OnOk};
 ghost use Rattle.sf_base.specs.Results.{Appends};
-ghost use Rattle.sf_ast.specs.View.{assertion_of as surface_assertion, conjunct_of as surface_conjunct, annotation_of as surface_annotation};
+ghost use Rattle.sf_ast.specs.View.{annotation_of as surface_annotation};
 ghost use Rattle.sf_core.specs.Program.View as core;
-ghost use Rattle.sf_elab.specs.Annotations.Assertions.{operand_of, operand_faults, operand_place, values_of, values_faults, link_of, segment_faults, tree_faults, conjunct_of, conjuncts_of, level_of, conjunct_faults, assertion_faults, annotation_of, annotation_faults, maybe_of, maybe_faults};
-ghost use Rattle.sf_elab.specs.Annotations.Existentials.{after, after_conjunct, after_level};
-ghost use Rattle.sf_core.specs.declared.assertion.Operand.TheVariants.{Known};
-ghost use Rattle.sf_core.specs.declared.command.Expr.TheVariants.{Nil};
-ghost use Rattle.sf_core.specs.Program.Syntax.{level, none, holds, points as cell, segment, tree};
+ghost use Rattle.sf_elab.specs.Annotations.Assertions.{operand_of, operand_faults, values_of, values_faults, link_of, segment_faults, tree_faults, conjunct_of, conjuncts_of, level_of, conjunct_faults, level_faults, annotation_of, annotation_faults, maybe_of, maybe_faults};
+ghost use Rattle.sf_elab.specs.Annotations.Existentials.{taking, names_after, names_after_all, names_after_level};
+ghost use Rattle.sf_elab.specs.Annotations.Flat.{flats, flat_of};
+ghost use Rattle.sf_core.specs.Program.Syntax.{level, none, points as cell, segment, tree};
 ghost use Rattle.sf_elab.specs.declared.fault.Fault.TheVariants.{Twice};
 ghost use Rattle.sf_elab.specs.declared.fault.Link.TheVariants.{Next, Left, Right};
 ghost use Rattle.sf_elab.specs.Files.Faults.{link_name, where_};
@@ -17,14 +16,13 @@ ghost use Rattle.sf_elab.specs.Names.Texts.{text as word_text};
 ghost use Rattle.std.specs.Option.{option_map};
 ghost use Rattle.sf_elab.specs.Names.InEnv.{env_of, test_of, test_faults, field_of, field_faults};
 
-use crate::env::{Env, expr_place, report_if};
+use crate::env::{Env, report_if};
 use crate::fault::{Fault, Link};
+use crate::flat::{Flat, level as flat_level};
 use crate::levels::Levels;
 use crate::table::Table;
 use crate::texts::text;
-use sf_ast::{
-    SurfaceAssertion, SurfaceConjunct, SurfaceField, SurfaceNote, SurfaceOperand, SurfaceTest,
-};
+use sf_ast::{SurfaceField, SurfaceNote, SurfaceOperand, SurfaceTest};
 use sf_base::{FieldId, Place};
 use sf_core::{Assertion, Conjunct, Expr, Level, Operand, Scope, Test};
 use std::alloc::{AllocError, Global};
@@ -37,16 +35,6 @@ pub fn link_name(link: Link) -> &'static [u8]
         Link::Next => b"tl",
         Link::Left => b"l",
         Link::Right => b"r",
-    }
-}
-
-/// Where the first token of an operand is.
-fn operand_place(x: &SurfaceOperand) -> Place
-    ensures { result ≡ operand_place x.now }
-{
-    match x {
-        SurfaceOperand::Known(e) => expr_place(*e),
-        SurfaceOperand::Existential(word) => word.place,
     }
 }
 
@@ -209,35 +197,18 @@ fn scope(first: u32, end: u32) -> Scope
     }
 }
 
-/// A test among the conjuncts, with the left one of its sides.
-fn compared(
-    env: &Env<'_>,
-    levels: &Levels,
-    left: &SurfaceOperand,
-    sides: &SurfaceTest<SurfaceOperand>,
-    found: &mut Vec<Fault>,
-) -> Result<Conjunct<Expr>, AllocError>
-    ensures same { IfOk result (λ c. core.conjunct_of c
-        ≡ holds (operand_place left.now)
-        (test_of (operand_of (env_of env.now) levels.now) sides.now)) }
-    ensures faults { Appends result found.old.items found.new.items
-        (test_faults (operand_faults (env_of env.now)) sides.now) }
-{
-    let test = test(env, levels, sides, found)?;
-    Ok(Conjunct::Holds(operand_place(left), test))
-}
-
 /// A cell.
 fn points(
     alloc: Global,
     env: &Env<'_>,
     levels: &Levels,
+    place: Place,
     x: &SurfaceOperand,
     fields: &[SurfaceField],
     found: &mut Vec<Fault>,
 ) -> Result<Conjunct<Expr>, AllocError>
     ensures same { IfOk result (λ c. core.conjunct_of c
-        ≡ cell (operand_place x.now) (operand_of (env_of env.now) levels.now x.now)
+        ≡ cell place (operand_of (env_of env.now) levels.now x.now)
         (values_of (env_of env.now) levels.now fields.now)) }
     ensures faults { Appends result found.old.items found.new.items
         (operand_faults (env_of env.now) x.now
@@ -245,10 +216,10 @@ fn points(
 {
     let at = operand(env, levels, x, found)?;
     let values = values(alloc, env, levels, fields, found)?;
-    Ok(Conjunct::Points(operand_place(x), at, values))
+    Ok(Conjunct::Points(place, at, values))
 }
 
-/// A segment between two operands.
+/// A segment.
 fn between(
     env: &Env<'_>,
     levels: &Levels,
@@ -268,26 +239,6 @@ fn between(
     let next = next(env, place, found)?;
     let (left, right) = sides(env, levels, x, y, found)?;
     Ok(Conjunct::Segment(place, next, left, right))
-}
-
-/// A whole list.
-fn list(
-    env: &Env<'_>,
-    levels: &Levels,
-    place: Place,
-    x: &SurfaceOperand,
-    found: &mut Vec<Fault>,
-) -> Result<Conjunct<Expr>, AllocError>
-    ensures same { IfOk result (λ c. core.conjunct_of c
-        ≡ segment place (link_of (env_of env.now) Next)
-        (operand_of (env_of env.now) levels.now x.now) (Known Nil)) }
-    ensures faults { Appends result found.old.items found.new.items
-        (segment_faults (env_of env.now) place
-        ++ operand_faults (env_of env.now) x.now) }
-{
-    let next = next(env, place, found)?;
-    let first = operand(env, levels, x, found)?;
-    Ok(Conjunct::Segment(place, next, first, Operand::Known(Expr::Nil)))
 }
 
 /// A tree.
@@ -310,107 +261,84 @@ fn tree(
     Ok(Conjunct::Tree(place, left, right, root))
 }
 
-/// Appends a conjunct that was made.
-fn push(one: Conjunct<Expr>, done: &mut Vec<Conjunct<Expr>>) -> Result<(), AllocError>
-    ensures { Appends result (map core.conjunct_of done.old.items)
-        (map core.conjunct_of done.new.items)
-        (core.conjunct_of one ∷ []) }
-{
-    done.push(one)?;
-    Ok(())
-}
-
-/// Appends a conjunct, or those in its parentheses.
+/// A conjunct of a level that was entered.
 #[cycle(levels)]
-fn add_conjunct(
+fn conjunct(
     alloc: Global,
     env: &Env<'_>,
     levels: &mut Levels,
-    c: &SurfaceConjunct,
-    done: &mut Vec<Conjunct<Expr>>,
+    c: &Flat,
     found: &mut Vec<Fault>,
-) -> Result<(), AllocError>
-    ensures conjuncts { Appends result (map core.conjunct_of done.old.items)
-        (map core.conjunct_of done.new.items)
-        (conjunct_of (env_of env.now) levels.old (surface_conjunct c.now)) }
+) -> Result<Conjunct<Expr>, AllocError>
+    ensures same { IfOk result
+        (λ x. core.conjunct_of x ≡ conjunct_of (env_of env.now) levels.old (flat_of c.now)) }
     ensures levels { OnOk result (levels.new
-        ≡ after_conjunct env.now.bytes.now levels.old (surface_conjunct c.now)) }
+        ≡ taking levels.old (names_after env.now.bytes.now levels.old (flat_of c.now))) }
     ensures faults { Appends result found.old.items found.new.items
-        (conjunct_faults (env_of env.now) (surface_conjunct c.now)) }
+        (conjunct_faults (env_of env.now) (flat_of c.now)) }
 {
     match c {
-        SurfaceConjunct::Emp(_) => Ok(()),
-        SurfaceConjunct::Group(all) => add_conjuncts(alloc, env, levels, all, done, found),
-        SurfaceConjunct::If(p, _, condition, this, that) => {
+        Flat::Test(p, sides) => {
+            let test = test(env, levels, sides, found)?;
+            Ok(Conjunct::Holds(*p, test))
+        }
+        Flat::Points(p, x, fields) => points(alloc, env, levels, *p, x, fields, found),
+        Flat::Segment(p, x, y) => between(env, levels, *p, x, y, found),
+        Flat::Tree(p, x) => tree(env, levels, *p, x, found),
+        Flat::If(p, condition, this, that) => {
             let test = test(env, levels, condition, found)?;
-            let this = branch(alloc, env, levels, this, found)?;
-            let that = branch(alloc, env, levels, that, found)?;
-            push(Conjunct::If(*p, test, this, that), done)
+            let this = level(alloc, env, levels, this, found)?;
+            let that = level(alloc, env, levels, that, found)?;
+            Ok(Conjunct::If(*p, test, this, that))
         }
-        SurfaceConjunct::Equal(x, y) => {
-            let test = SurfaceTest::Equal(*x, *y);
-            push(compared(env, levels, x, &test, found)?, done)
-        }
-        SurfaceConjunct::Differ(x, y) => {
-            let test = SurfaceTest::Differ(*x, *y);
-            push(compared(env, levels, x, &test, found)?, done)
-        }
-        SurfaceConjunct::Points(x, fields) => {
-            push(points(alloc, env, levels, x, fields, found)?, done)
-        }
-        SurfaceConjunct::Ls(p, _, x, y) => push(between(env, levels, *p, x, y, found)?, done),
-        SurfaceConjunct::List(p, x) => push(list(env, levels, *p, x, found)?, done),
-        SurfaceConjunct::Tree(p, x) => push(tree(env, levels, *p, x, found)?, done),
     }
 }
 
-/// Appends the conjuncts of a level that was entered.
+/// The conjuncts of a level that was entered.
 #[cycle(levels)]
-fn add_conjuncts(
+fn conjuncts(
     alloc: Global,
     env: &Env<'_>,
     levels: &mut Levels,
-    level: &SurfaceAssertion,
-    done: &mut Vec<Conjunct<Expr>>,
+    all: &[Flat],
     found: &mut Vec<Fault>,
-) -> Result<(), AllocError>
-    ensures conjuncts { Appends result (map core.conjunct_of done.old.items)
-        (map core.conjunct_of done.new.items)
-        (conjuncts_of (env_of env.now) levels.old (surface_assertion level.now)) }
-    ensures levels { OnOk result
-        (levels.new ≡ after env.now.bytes.now levels.old (surface_assertion level.now)) }
+) -> Result<Vec<Conjunct<Expr>>, AllocError>
+    ensures same { IfOk result (λ v. map core.conjunct_of v.items
+        ≡ conjuncts_of (env_of env.now) levels.old (flats (map flat_of all.now))) }
+    ensures levels { OnOk result (levels.new ≡ taking levels.old
+        (names_after_all env.now.bytes.now levels.old (flats (map flat_of all.now)))) }
     ensures faults { Appends result found.old.items found.new.items
-        (assertion_faults (env_of env.now) (surface_assertion level.now)) }
+        (level_faults (env_of env.now) (flats (map flat_of all.now))) }
 {
-    add_conjunct(alloc, env, levels, &level.first, done, found)?;
-    for c in &level.more {
-        add_conjunct(alloc, env, levels, c, done, found)?;
+    let mut done = Vec::new(alloc);
+    for c in all {
+        let one = conjunct(alloc, env, levels, c, found)?;
+        done.push(one)?;
     }
-    Ok(())
+    Ok(done)
 }
 
 /// A level, with the existentials that it makes.
 #[cycle(levels)]
-fn branch(
+fn level(
     alloc: Global,
     env: &Env<'_>,
     levels: &mut Levels,
-    level: &SurfaceAssertion,
+    all: &[Flat],
     found: &mut Vec<Fault>,
 ) -> Result<Level<Expr>, AllocError>
     ensures same { IfOk result (λ x. core.level_of x
-        ≡ level_of (env_of env.now) levels.old (surface_assertion level.now)) }
-    ensures levels { OnOk result (levels.new
-        ≡ after_level env.now.bytes.now levels.old (surface_assertion level.now)) }
+        ≡ level_of (env_of env.now) levels.old (flats (map flat_of all.now))) }
+    ensures levels { OnOk result (levels.new ≡ taking levels.old
+        (names_after_level env.now.bytes.now levels.old (flats (map flat_of all.now)))) }
     ensures faults { Appends result found.old.items found.new.items
-        (assertion_faults (env_of env.now) (surface_assertion level.now)) }
+        (level_faults (env_of env.now) (flats (map flat_of all.now))) }
 {
     let outside = levels.reach.len();
     let first = levels.names.len();
-    levels.enter(alloc, env.bytes, level)?;
+    levels.enter(alloc, env.bytes, all)?;
     let made = scope(first, levels.names.len());
-    let mut conjuncts = Vec::new(alloc);
-    add_conjuncts(alloc, env, levels, level, &mut conjuncts, found)?;
+    let conjuncts = conjuncts(alloc, env, levels, all, found)?;
     levels.reach.truncate(outside);
     Ok(Level { made, conjuncts })
 }
@@ -431,7 +359,8 @@ pub fn annotation(
         None => Ok(empty(alloc)),
         Some(assertion) => {
             let mut levels = Levels::new(alloc);
-            let level = branch(alloc, env, &mut levels, assertion, found)?;
+            let all = flat_level(alloc, assertion)?;
+            let level = level(alloc, env, &mut levels, &all, found)?;
             Ok(Assertion {
                 names: levels.names.into_vec(),
                 level,

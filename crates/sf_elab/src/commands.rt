@@ -124,35 +124,50 @@ fn call(
     })
 }
 
-/// An assignment.
+/// Appends a command that was made.
+fn push(one: Command, done: &mut Vec<Command>) -> Result<(), AllocError>
+    ensures { Appends result (map core.command_of done.old.items)
+        (map core.command_of done.new.items)
+        (core.command_of one ∷ []) }
+{
+    done.push(one)?;
+    Ok(())
+}
+
+/// Appends an assignment.
 fn assign(
     env: &Env<'_>,
     x: Word,
     e: SurfaceExpr,
+    done: &mut Vec<Command>,
     found: &mut Vec<Fault>,
-) -> Result<Command, AllocError>
-    ensures same { IfOk result (λ one. core.command_of one
-        ≡ syntax.assign x.place (occurrence (env_of env.now) x) (expr_of (env_of env.now) e)) }
+) -> Result<(), AllocError>
+    ensures commands { Appends result (map core.command_of done.old.items)
+        (map core.command_of done.new.items)
+        (syntax.assign x.place (occurrence (env_of env.now) x) (expr_of (env_of env.now) e)
+        ∷ []) }
     ensures faults { Appends result found.old.items found.new.items
         (variable_faults (env_of env.now) x
         ++ expr_faults (env_of env.now) e) }
 {
     let var = env.occurrence(x, found)?;
     let e = env.expr(e, found)?;
-    Ok(Command::Assign(x.place, var, e))
+    push(Command::Assign(x.place, var, e), done)
 }
 
-/// A look-up.
+/// Appends a look-up.
 fn look_up(
     env: &Env<'_>,
     x: Word,
     e: SurfaceExpr,
     field: Word,
+    done: &mut Vec<Command>,
     found: &mut Vec<Fault>,
-) -> Result<Command, AllocError>
-    ensures same { IfOk result (λ one. core.command_of one
-        ≡ syntax.look_up x.place (occurrence (env_of env.now) x) (expr_of (env_of env.now) e)
-        (field_of (env_of env.now) field)) }
+) -> Result<(), AllocError>
+    ensures commands { Appends result (map core.command_of done.old.items)
+        (map core.command_of done.new.items)
+        (syntax.look_up x.place (occurrence (env_of env.now) x) (expr_of (env_of env.now) e)
+        (field_of (env_of env.now) field) ∷ []) }
     ensures faults { Appends result found.old.items found.new.items
         (variable_faults (env_of env.now) x
         ++ expr_faults (env_of env.now) e ++ field_faults (env_of env.now) field) }
@@ -160,90 +175,104 @@ fn look_up(
     let var = env.occurrence(x, found)?;
     let e = env.expr(e, found)?;
     let field = env.field(field, found)?;
-    Ok(Command::LookUp(x.place, var, e, field))
+    push(Command::LookUp(x.place, var, e, field), done)
 }
 
-/// A `new`.
-fn new_cell(env: &Env<'_>, x: Word, found: &mut Vec<Fault>) -> Result<Command, AllocError>
-    ensures same { IfOk result (λ one. core.command_of one
-        ≡ syntax.new x.place (occurrence (env_of env.now) x)) }
+/// Appends a `new`.
+fn new_cell(
+    env: &Env<'_>,
+    x: Word,
+    done: &mut Vec<Command>,
+    found: &mut Vec<Fault>,
+) -> Result<(), AllocError>
+    ensures commands { Appends result (map core.command_of done.old.items)
+        (map core.command_of done.new.items)
+        (syntax.new x.place (occurrence (env_of env.now) x) ∷ []) }
     ensures faults { Appends result found.old.items found.new.items
         (variable_faults (env_of env.now) x) }
 {
     let var = env.occurrence(x, found)?;
-    Ok(Command::New(x.place, var))
+    push(Command::New(x.place, var), done)
 }
 
-/// A mutation.
+/// Appends a mutation.
 fn mutate(
     env: &Env<'_>,
     e: SurfaceExpr,
     field: Word,
     value: SurfaceExpr,
+    done: &mut Vec<Command>,
     found: &mut Vec<Fault>,
-) -> Result<Command, AllocError>
-    ensures same { IfOk result (λ one. core.command_of one
-        ≡ syntax.mutate (place_of_expr e) (expr_of (env_of env.now) e)
-        (field_of (env_of env.now) field) (expr_of (env_of env.now) value)) }
+) -> Result<(), AllocError>
+    ensures commands { Appends result (map core.command_of done.old.items)
+        (map core.command_of done.new.items)
+        (syntax.mutate (place_of_expr e) (expr_of (env_of env.now) e)
+        (field_of (env_of env.now) field) (expr_of (env_of env.now) value) ∷ []) }
     ensures faults { Appends result found.old.items found.new.items (expr_faults (env_of env.now) e
         ++ field_faults (env_of env.now) field ++ expr_faults (env_of env.now) value) }
 {
     let cell = env.expr(e, found)?;
     let field = env.field(field, found)?;
     let value = env.expr(value, found)?;
-    Ok(Command::Mutate(expr_place(e), cell, field, value))
+    push(Command::Mutate(expr_place(e), cell, field, value), done)
 }
 
-/// A `dispose`.
+/// Appends a `dispose`.
 fn dispose(
     env: &Env<'_>,
     place: Place,
     e: SurfaceExpr,
+    done: &mut Vec<Command>,
     found: &mut Vec<Fault>,
-) -> Result<Command, AllocError>
-    ensures same { IfOk result
-        (λ one. core.command_of one ≡ syntax.dispose place (expr_of (env_of env.now) e)) }
+) -> Result<(), AllocError>
+    ensures commands { Appends result (map core.command_of done.old.items)
+        (map core.command_of done.new.items)
+        (syntax.dispose place (expr_of (env_of env.now) e) ∷ []) }
     ensures faults { Appends result found.old.items found.new.items
         (expr_faults (env_of env.now) e) }
 {
     let e = env.expr(e, found)?;
-    Ok(Command::Dispose(place, e))
+    push(Command::Dispose(place, e), done)
 }
 
-/// A call alone.
+/// Appends a call alone.
 fn single(
     alloc: Global,
     env: &Env<'_>,
     one: &SurfaceCall,
+    done: &mut Vec<Command>,
     found: &mut Vec<Fault>,
-) -> Result<Command, AllocError>
-    ensures same { IfOk result (λ c. core.command_of c
-        ≡ syntax.call one.now.name.place (call_of (env_of env.now) (surface_call one.now))) }
+) -> Result<(), AllocError>
+    ensures commands { Appends result (map core.command_of done.old.items)
+        (map core.command_of done.new.items)
+        (syntax.call one.now.name.place (call_of (env_of env.now) (surface_call one.now)) ∷ []) }
     ensures faults { Appends result found.old.items found.new.items
         (call_faults (env_of env.now) (surface_call one.now)) }
 {
     let made = call(alloc, env, one, found)?;
-    Ok(Command::Call(one.name.place, made))
+    push(Command::Call(one.name.place, made), done)
 }
 
-/// Two calls side by side.
+/// Appends two calls side by side.
 fn fork(
     alloc: Global,
     env: &Env<'_>,
     left: &SurfaceCall,
     right: &SurfaceCall,
+    done: &mut Vec<Command>,
     found: &mut Vec<Fault>,
-) -> Result<Command, AllocError>
-    ensures same { IfOk result (λ c. core.command_of c
-        ≡ syntax.fork left.now.name.place (call_of (env_of env.now) (surface_call left.now))
-        (call_of (env_of env.now) (surface_call right.now))) }
+) -> Result<(), AllocError>
+    ensures commands { Appends result (map core.command_of done.old.items)
+        (map core.command_of done.new.items)
+        (syntax.fork left.now.name.place (call_of (env_of env.now) (surface_call left.now))
+        (call_of (env_of env.now) (surface_call right.now)) ∷ []) }
     ensures faults { Appends result found.old.items found.new.items
         (call_faults (env_of env.now) (surface_call left.now)
         ++ call_faults (env_of env.now) (surface_call right.now)) }
 {
     let one = call(alloc, env, left, found)?;
     let other = call(alloc, env, right, found)?;
-    Ok(Command::Fork(left.name.place, one, other))
+    push(Command::Fork(left.name.place, one, other), done)
 }
 
 /// The test of a loop and its invariant.
@@ -284,16 +313,6 @@ fn region(
     Ok((resource, test))
 }
 
-/// Appends a command that was made.
-fn push(one: Command, done: &mut Vec<Command>) -> Result<(), AllocError>
-    ensures { Appends result (map core.command_of done.old.items)
-        (map core.command_of done.new.items)
-        (core.command_of one ∷ []) }
-{
-    done.push(one)?;
-    Ok(())
-}
-
 /// Appends a command, or those in its braces.
 #[cycle(commands)]
 fn add_command(
@@ -310,17 +329,14 @@ fn add_command(
         (command_faults (env_of env.now) (surface_command c.now)) }
 {
     match c {
-        SurfaceCommand::Assign(x, e) => push(assign(env, *x, *e, found)?, done),
-        SurfaceCommand::LookUp(x, e, f) => push(look_up(env, *x, *e, *f, found)?, done),
-        SurfaceCommand::New(x) => push(new_cell(env, *x, found)?, done),
-        SurfaceCommand::Mutate(e, f, v) => push(mutate(env, *e, *f, *v, found)?, done),
-        SurfaceCommand::Dispose(p, _, e) => push(dispose(env, *p, *e, found)?, done),
-        SurfaceCommand::Call(one) => push(single(alloc, env, one, found)?, done),
-        SurfaceCommand::Fork(left, right) => push(fork(alloc, env, left, right, found)?, done),
-        SurfaceCommand::IfAlone(p, test, one) => push(
-            if_alone(alloc, env, *p, test, one, found)?,
-            done,
-        ),
+        SurfaceCommand::Assign(x, e) => assign(env, *x, *e, done, found),
+        SurfaceCommand::LookUp(x, e, f) => look_up(env, *x, *e, *f, done, found),
+        SurfaceCommand::New(x) => new_cell(env, *x, done, found),
+        SurfaceCommand::Mutate(e, f, v) => mutate(env, *e, *f, *v, done, found),
+        SurfaceCommand::Dispose(p, _, e) => dispose(env, *p, *e, done, found),
+        SurfaceCommand::Call(one) => single(alloc, env, one, done, found),
+        SurfaceCommand::Fork(left, right) => fork(alloc, env, left, right, done, found),
+        SurfaceCommand::IfAlone(p, test, one) => if_alone(alloc, env, *p, test, one, done, found),
         SurfaceCommand::If(p, test, this, that) => {
             let test = env.test(test, found)?;
             let this = inside(alloc, env, this, found)?;
@@ -328,16 +344,16 @@ fn add_command(
             push(Command::If(*p, test, this, that), done)
         }
         SurfaceCommand::While(p, test, invariant, body) => {
-            push(repeat(alloc, env, *p, test, invariant, body, found)?, done)
+            repeat(alloc, env, *p, test, invariant, body, done, found)
         }
         SurfaceCommand::With(p, resource, test, body) => {
-            push(with(alloc, env, *p, *resource, test, body, found)?, done)
+            with(alloc, env, *p, *resource, test, body, done, found)
         }
         SurfaceCommand::Block(_, commands, _) => add_commands(alloc, env, commands, done, found),
     }
 }
 
-/// An `if` without its other branch.
+/// Appends an `if` without its other branch.
 #[cycle(commands)]
 fn if_alone(
     alloc: Global,
@@ -345,21 +361,24 @@ fn if_alone(
     place: Place,
     test: &SurfaceTest<SurfaceExpr>,
     this: &SurfaceCommand,
+    done: &mut Vec<Command>,
     found: &mut Vec<Fault>,
-) -> Result<Command, AllocError>
-    ensures same { IfOk result (λ c. core.command_of c
-        ≡ syntax.if place (test_of (expr_of (env_of env.now)) test.now)
-        (core.block (command_of (env_of env.now) (surface_command this.now))) syntax.done) }
+) -> Result<(), AllocError>
+    ensures commands { Appends result (map core.command_of done.old.items)
+        (map core.command_of done.new.items)
+        (syntax.if place (test_of (expr_of (env_of env.now)) test.now)
+        (core.block (command_of (env_of env.now) (surface_command this.now))) syntax.done
+        ∷ []) }
     ensures faults { Appends result found.old.items found.new.items
         (test_faults (expr_faults (env_of env.now)) test.now
         ++ command_faults (env_of env.now) (surface_command this.now)) }
 {
     let test = env.test(test, found)?;
     let this = inside(alloc, env, this, found)?;
-    Ok(Command::If(place, test, this, Vec::new(alloc)))
+    push(Command::If(place, test, this, Vec::new(alloc)), done)
 }
 
-/// A loop.
+/// Appends a loop.
 #[cycle(commands)]
 fn repeat(
     alloc: Global,
@@ -368,12 +387,14 @@ fn repeat(
     test: &SurfaceTest<SurfaceExpr>,
     invariant: &Option<SurfaceNote>,
     body: &SurfaceCommand,
+    done: &mut Vec<Command>,
     found: &mut Vec<Fault>,
-) -> Result<Command, AllocError>
-    ensures same { IfOk result (λ c. core.command_of c
-        ≡ syntax.while place (test_of (expr_of (env_of env.now)) test.now)
+) -> Result<(), AllocError>
+    ensures commands { Appends result (map core.command_of done.old.items)
+        (map core.command_of done.new.items)
+        (syntax.while place (test_of (expr_of (env_of env.now)) test.now)
         (maybe_of (env_of env.now) (option_map surface_annotation invariant.now))
-        (core.block (command_of (env_of env.now) (surface_command body.now)))) }
+        (core.block (command_of (env_of env.now) (surface_command body.now))) ∷ []) }
     ensures faults { Appends result found.old.items found.new.items
         (test_faults (expr_faults (env_of env.now)) test.now
         ++ maybe_faults (env_of env.now) (option_map surface_annotation invariant.now)
@@ -381,10 +402,10 @@ fn repeat(
 {
     let (test, invariant) = head(alloc, env, test, invariant, found)?;
     let body = inside(alloc, env, body, found)?;
-    Ok(Command::While(place, test, invariant, body))
+    push(Command::While(place, test, invariant, body), done)
 }
 
-/// A region of a resource.
+/// Appends a region of a resource.
 #[cycle(commands)]
 fn with(
     alloc: Global,
@@ -393,12 +414,14 @@ fn with(
     resource: Word,
     test: &SurfaceTest<SurfaceExpr>,
     body: &SurfaceCommand,
+    done: &mut Vec<Command>,
     found: &mut Vec<Fault>,
-) -> Result<Command, AllocError>
-    ensures same { IfOk result (λ c. core.command_of c
-        ≡ syntax.with place (resource_named (env_of env.now) resource)
+) -> Result<(), AllocError>
+    ensures commands { Appends result (map core.command_of done.old.items)
+        (map core.command_of done.new.items)
+        (syntax.with place (resource_named (env_of env.now) resource)
         (test_of (expr_of (env_of env.now)) test.now)
-        (core.block (command_of (env_of env.now) (surface_command body.now)))) }
+        (core.block (command_of (env_of env.now) (surface_command body.now))) ∷ []) }
     ensures faults { Appends result found.old.items found.new.items
         (resource_faults (env_of env.now) resource
         ++ test_faults (expr_faults (env_of env.now)) test.now
@@ -406,7 +429,7 @@ fn with(
 {
     let (resource, test) = region(env, resource, test, found)?;
     let body = inside(alloc, env, body, found)?;
-    Ok(Command::With(place, resource, test, body))
+    push(Command::With(place, resource, test, body), done)
 }
 
 /// The commands that one command is.

@@ -13,13 +13,13 @@ pub fn first_fault_is_first()
 {}
 
 /// A file is one program or has one first fault, and not both.
-#[tactic(auto, using(crate::proofs::Files::Closing::each_file_is_one))]
+#[tactic(auto, using(crate::proofs::Files::FirstFaults::each_file_is_one))]
 pub fn each_file_is_one()
     ensures { EachFileIsOne }
 {}
 
-/// A level has in reach what is around it and what occurs in it, under new numbers; after it only
-/// what was there before is in reach.
+/// A level has in reach what is around it and what occurs in it, under new numbers, which stay taken
+/// after it.
 #[tactic(auto, using(crate::proofs::Annotations::Scopes::levels_are_scopes))]
 pub fn levels_are_scopes()
     ensures { LevelsAreScopes }

@@ -12,6 +12,7 @@
 //! - `declared`: what the names of a file stand for.
 //! - `declarations`: what the items of a file declare.
 //! - `env`: what names stand for at some place of a file, and the expressions there.
+//! - `flat`: assertions made flat.
 //! - `levels`: which existentials a level of an assertion makes.
 //! - `assertions`: assertions, numbered.
 //! - `commands`: commands, numbered.
@@ -28,6 +29,7 @@ mod elaboration;
 mod env;
 mod fault;
 mod first_fault;
+mod flat;
 pub mod laws;
 mod levels;
 mod procedures;

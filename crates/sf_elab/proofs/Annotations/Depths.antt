@@ -4,36 +4,54 @@ use Rattle.sf_ast.specs.declared.word.Word.{Word}
 use Rattle.sf_ast.specs.Depth as d
 use Rattle.sf_ast.specs.Surface as s
 use Rattle.sf_base.specs.declared.place.Place.{Place}
-use Rattle.sf_core.specs.declared.command.Expr.{Expr}
 use Rattle.sf_core.specs.declared.command.Expr.TheVariants.{Var as Variable}
-use Rattle.sf_core.specs.Program.Formed.{level_depth, conjuncts_depth, block_depth}
+use Rattle.sf_core.specs.Program.Formed.{level_depth, conjuncts_depth, conjunct_depth, block_depth}
 use Rattle.sf_core.specs.Program.Syntax as c
 use Rattle.sf_core.specs.Program.View.{conjuncts, block}
 use Rattle.sf_elab.specs.declared.levels.Levels.{Levels}
 use Rattle.sf_elab.specs.Annotations.Assertions.{conjunct_of, conjuncts_of, level_of}
 use Rattle.sf_elab.specs.Bodies.Commands.{command_of, commands_of}
-use Rattle.sf_elab.specs.Annotations.Existentials.{opened, after_conjunct, after_level}
+use Rattle.sf_elab.specs.Annotations.Existentials.{opened, taking, names_after, names_after_level}
+use Rattle.sf_elab.specs.Annotations.Flat as f
 use Rattle.sf_elab.specs.Names.InEnv.{Env}
 use Rattle.sf_elab.specs.Bodies.Procedures.{first_assignments, own_at}
 
-conjuncts_joined : (xs ys : List (c.Conjunct Expr)) → conjuncts_depth (conjuncts (xs ++ ys)) ≡ max (conjuncts_depth (conjuncts xs)) (conjuncts_depth (conjuncts ys))
-conjuncts_joined [] ys = omega arith
-conjuncts_joined (x ∷ xs) ys = omega (arith, conjuncts_joined xs ys)
+-- how deep levels are nested in a flat one
+abbrev mutual
+  flat_depth : f.Flat → ℕ
+  flat_depth (f.choose p t a b) = suc (max (flats_depth a) (flats_depth b))
+  flat_depth _ = 0
+
+  flats_depth : f.Flats → ℕ
+  flats_depth f.none = 0
+  flats_depth (f.also c cs) = max (flat_depth c) (flats_depth cs)
+
+flats_joined : (xs ys : List f.Flat) → flats_depth (f.flats (xs ++ ys)) ≡ max (flats_depth (f.flats xs)) (flats_depth (f.flats ys))
+flats_joined [] ys = omega arith
+flats_joined (x ∷ xs) ys = omega (arith, flats_joined xs ys)
 
 mutual
-  conjunct_no_deeper : (i : Env) (l : Levels) (x : s.Conjunct) → conjuncts_depth (conjuncts (conjunct_of i l x)) ≤ d.conjunct_depth x
-  conjunct_no_deeper i l (s.group a) = omega (arith, conjuncts_no_deeper i l a)
-  conjunct_no_deeper i l (s.choose p k t a b) =
-      omega (arith, conjuncts_no_deeper i (opened i.bytes l a) a, conjuncts_no_deeper i (opened i.bytes (after_level i.bytes l a) b) b)
+  flat_no_deeper : (c : s.Conjunct) → flats_depth (f.flats (f.flat c)) ≤ d.conjunct_depth c
+  flat_no_deeper (s.group a) = omega (arith, all_no_deeper a)
+  flat_no_deeper (s.choose p k t a b) = omega (arith, all_no_deeper a, all_no_deeper b)
+  flat_no_deeper _ = omega arith
+
+  all_no_deeper : (a : s.Assertion) → suc (flats_depth (f.level_in a)) ≤ d.assertion_depth a
+  all_no_deeper (s.only c) = omega (arith, flat_no_deeper c)
+  all_no_deeper (s.star c a) = omega (arith, flats_joined (f.flat c) (f.flat_all a), flat_no_deeper c, all_no_deeper a)
+
+mutual
+  conjunct_no_deeper : (i : Env) (l : Levels) (c : f.Flat) → conjunct_depth (conjunct_of i l c) ≤ flat_depth c
+  conjunct_no_deeper i l (f.choose p t a b) =
+      omega (arith, conjuncts_no_deeper i (opened i.bytes l a) a, conjuncts_no_deeper i (opened i.bytes (taking l (names_after_level i.bytes l a)) b) b)
   conjunct_no_deeper i l _ = omega arith
 
-  conjuncts_no_deeper : (i : Env) (l : Levels) (a : s.Assertion) → suc (conjuncts_depth (conjuncts (conjuncts_of i l a))) ≤ d.assertion_depth a
-  conjuncts_no_deeper i l (s.only x) = omega (arith, conjunct_no_deeper i l x)
-  conjuncts_no_deeper i l (s.star x a) =
-      omega (arith, conjuncts_joined (conjunct_of i l x) (conjuncts_of i (after_conjunct i.bytes l x) a), conjunct_no_deeper i l x, conjuncts_no_deeper i (after_conjunct i.bytes l x) a)
+  conjuncts_no_deeper : (i : Env) (l : Levels) (cs : f.Flats) → conjuncts_depth (conjuncts (conjuncts_of i l cs)) ≤ flats_depth cs
+  conjuncts_no_deeper i l f.none = omega arith
+  conjuncts_no_deeper i l (f.also c cs) = omega (arith, conjunct_no_deeper i l c, conjuncts_no_deeper i (taking l (names_after i.bytes l c)) cs)
 
-pub level_no_deeper : (i : Env) (l : Levels) (a : s.Assertion) → level_depth (level_of i l a) ≤ d.assertion_depth a
-level_no_deeper i l a = conjuncts_no_deeper i (opened i.bytes l a) a
+pub level_no_deeper : (i : Env) (l : Levels) (a : s.Assertion) → level_depth (level_of i l (f.level_in a)) ≤ d.assertion_depth a
+level_no_deeper i l a = omega (arith, conjuncts_no_deeper i (opened i.bytes l (f.level_in a)) (f.level_in a), all_no_deeper a)
 
 block_joined : (xs ys : List c.Command) → block_depth (block (xs ++ ys)) ≡ max (block_depth (block xs)) (block_depth (block ys))
 block_joined [] ys = omega arith

@@ -61,21 +61,14 @@ module _ (bytes : List ℕ) (primed : Word → Bool) (ws : List Word) (i : ℕ) 
   -- what the body sees
   pub values_more : (t u : Table Var) → u ≡ body_values bytes primed (length before) (length names) (w ∷ []) t
       → body_values bytes primed (length now) (length more) (drop (i + 1) ws) u ≡ body_values bytes primed (length before) (length names) (drop i ws) t
-  values_more t u e =
-      ap (λ n. body_values bytes primed n (length more) (drop (i + 1) ws) u) one_more
-      ∙ ap (body_values bytes primed (length before + 1) (length more) (drop (i + 1) ws)) e
-      ∙ values_one bytes primed (length before) (length names) (length more) w (drop (i + 1) ws) t names_more
-      ∙ ap (λ vs. body_values bytes primed (length before) (length names) vs t) (sym next)
+  values_more t u e = let one = one_more in let all = values_one bytes primed (length before) (length names) (length more) w (drop (i + 1) ws) t names_more in cc
 
   -- how it begins
   pub first_more : (at : Place) (cs ds : List c.Command) → ds ≡ cs ++ first_assignments primed at (length before) (length names) (w ∷ [])
       → ds ++ first_assignments primed at (length now) (length more) (drop (i + 1) ws) ≡ cs ++ first_assignments primed at (length before) (length names) (drop i ws)
   first_more at cs ds e =
-      ap (λ n. ds ++ first_assignments primed at n (length more) (drop (i + 1) ws)) one_more
-      ∙ ap (λ bs. bs ++ first_assignments primed at (length before + 1) (length more) (drop (i + 1) ws)) e
-      ∙ append_assoc cs (first_assignments primed at (length before) (length names) (w ∷ [])) (first_assignments primed at (length before + 1) (length more) (drop (i + 1) ws))
-      ∙ ap (λ bs. cs ++ bs) (first_one primed at (length before) (length names) (length more) w (drop (i + 1) ws) names_more)
-      ∙ ap (λ vs. cs ++ first_assignments primed at (length before) (length names) vs) (sym next)
+      ap (λ bs. bs ++ first_assignments primed at (length now) (length more) (drop (i + 1) ws)) e ∙ append_assoc cs (first_assignments primed at (length before) (length names) (w ∷ [])) _
+      ∙ ap (λ bs. cs ++ bs) (let one = one_more in let all = first_one primed at (length before) (length names) (length more) w (drop (i + 1) ws) names_more in cc)
 
   -- the names
   pub primed_more : more ++ map (prime bytes) (filter primed (drop (i + 1) ws)) ≡ names ++ map (prime bytes) (filter primed (drop i ws))
@@ -98,12 +91,7 @@ body_sees_all bytes f primed references values locals first second names t u v s
     let all : primed ≡ is_primed bytes f = λ i x. same x i in
     let one : length first ≡ length (references_of f.parameters) = ap length (a ∙ r) in
     let two : length second ≡ parameter_count f = ap length b ∙ length-append first values ∙ ap (λ m. m + length values) one ∙ ap (λ ws. length (references_of f.parameters) + length ws) w in
-    let start : t ≡ numbered bytes Own 0 (references_of f.parameters) [] = h ∙ ap (λ ws. numbered bytes Own 0 ws []) r in
-    let middle : u ≡ body_values bytes (is_primed bytes f) (length (references_of f.parameters)) (declared_count f) (values_of f.parameters) (numbered bytes Own 0 (references_of f.parameters) []) =
-    j ∙ ap (λ (g : Word → Bool). body_values bytes g (length first) (length names) values t) all ∙ ap (λ m. body_values bytes (is_primed bytes f) m (length names) values t) one
-    ∙ ap (λ m. body_values bytes (is_primed bytes f) (length (references_of f.parameters)) m values t) n ∙ ap (λ ws. body_values bytes (is_primed bytes f) (length (references_of f.parameters)) (declared_count f) ws t) w
-    ∙ ap (body_values bytes (is_primed bytes f) (length (references_of f.parameters)) (declared_count f) (values_of f.parameters)) start in
-    k ∙ ap (λ m. numbered bytes Own m locals u) two ∙ ap (λ ws. numbered bytes Own (parameter_count f) ws u) l ∙ ap (numbered bytes Own (parameter_count f) (local_words f.locals)) middle
+    cc
 
 -- the names of all own variables, once those of parameters and locals are there
 pub names_are_all : (bytes : List ℕ) (f : Procedure) (primed : Word → Bool) (values : List Word) (before now : List (List ℕ)) → ((w : Word) → primed w ≡ is_primed bytes f w) → values ≡ values_of f.parameters
@@ -111,8 +99,7 @@ pub names_are_all : (bytes : List ℕ) (f : Procedure) (primed : Word → Bool) 
     → now ≡ before ++ map (prime bytes) (filter primed values) → now ≡ own_names bytes f
 names_are_all bytes f primed values before now same w b n =
     let all : primed ≡ is_primed bytes f = λ i x. same x i in
-    n ∙ ap (λ (g : Word → Bool). before ++ map (prime bytes) (filter g values)) all ∙ ap (λ ws. before ++ map (prime bytes) (filter (is_primed bytes f) ws)) w
-    ∙ ap (λ ns. ns ++ map (prime bytes) (filter (is_primed bytes f) (values_of f.parameters))) b
+    cc
 
 -- how the body begins, once its values are declared
 pub first_are_all : (bytes : List ℕ) (f : Procedure) (primed : Word → Bool) (at : Place) (references values first : List Word) (names : List (List ℕ)) (before now : List c.Command) → ((w : Word) → primed w ≡ is_primed bytes f w)
@@ -120,14 +107,12 @@ pub first_are_all : (bytes : List ℕ) (f : Procedure) (primed : Word → Bool) 
     → now ≡ first_assignments (is_primed bytes f) at (length (references_of f.parameters)) (declared_count f) (values_of f.parameters)
 first_are_all bytes f primed at references values first names before now same r w n a b e =
     let all : primed ≡ is_primed bytes f = λ i x. same x i in
-    e ∙ ap (λ cs. cs ++ first_assignments primed at (length first) (length names) values) b ∙ ap (λ (g : Word → Bool). first_assignments g at (length first) (length names) values) all
-    ∙ ap (λ m. first_assignments (is_primed bytes f) at m (length names) values) (ap length (a ∙ r)) ∙ ap (λ m. first_assignments (is_primed bytes f) at (length (references_of f.parameters)) m values) n
-    ∙ ap (first_assignments (is_primed bytes f) at (length (references_of f.parameters)) (declared_count f)) w
+    let one : length first ≡ length (references_of f.parameters) = ap length (a ∙ r) in
+    cc
 
 -- what is wrong with locals that are declared after the parameters
 pub local_faults_are : (bytes : List ℕ) (f : Procedure) (words locals : List Word) (own : Table Var) → words ≡ references_of f.parameters ++ values_of f.parameters → locals ≡ local_words f.locals → own ≡ parameters_of bytes f
     → numbered_faults bytes OWN_VARIABLES Own (length words) locals own ≡ local_faults bytes f
 local_faults_are bytes f words locals own w l o =
     let count : length words ≡ parameter_count f = ap length w ∙ length-append (references_of f.parameters) (values_of f.parameters) in
-    ap (λ n. numbered_faults bytes OWN_VARIABLES Own n locals own) count ∙ ap (λ ws. numbered_faults bytes OWN_VARIABLES Own (parameter_count f) ws own) l
-    ∙ ap (numbered_faults bytes OWN_VARIABLES Own (parameter_count f) (local_words f.locals)) o
+    cc

@@ -9,7 +9,7 @@ use Rattle.sf_elab.specs.declared.fault.Fault.{Fault}
 use Rattle.sf_elab.specs.declared.fault.NameFault.{NameFault}
 use Rattle.sf_elab.specs.Files.Elaborated.{elaborated, faults, Elaborates, FirstFault}
 use Rattle.sf_elab.specs.Files.Faults.{place_of, kind_of, is_earlier, named_fault}
-use Rattle.sf_elab.specs.Laws.{FirstIsFirst}
+use Rattle.sf_elab.specs.Laws.{EachFileIsOne, FirstIsFirst}
 
 -- the order of three numbers
 abbrev by_numbers : (l c k m d j : ℕ) → Bool
@@ -37,7 +37,7 @@ first_among all fault f =
     (first-contained is_earlier all fault f, λ other m. first-first is_earlier in_order all fault other f m)
 
 -- a file has a program or a first fault
-pub one_or_other : (bytes : List ℕ) (is : List Item)
+one_or_other : (bytes : List ℕ) (is : List Item)
     → ((p : Program) × Elaborates bytes is p) ⊎ ((e : NameFault) × FirstFault bytes is e)
 one_or_other bytes is = go (first-exists is_earlier in_order (faults bytes is))
   where
@@ -58,6 +58,14 @@ pub same_faults : (bytes : List ℕ) (is : List Item) (e g : NameFault) → Firs
 same_faults bytes is e g f h =
     f.named ∙ ap (named_fault bytes) (first-unique is_earlier (faults bytes is) f.fault h.fault f.first h.first)
     ∙ sym h.named
+
+pub each_file_is_one : EachFileIsOne
+each_file_is_one = record {
+  some = one_or_other;
+  not_both = never_both;
+  one_program = λ bytes is p q f g. f.same ∙ sym g.same;
+  one_fault = λ bytes is e g f h. same_faults bytes is e g f h;
+}
 
 -- one more fault, after those of which the first is known
 pub earlier_found : (found : Option Fault) (first fault result : Fault) → found ≡ Some first

@@ -21,12 +21,13 @@ use Rattle.sf_elab.specs.Names.Table.{find}
 use Rattle.sf_elab.specs.Names.Texts.{text}
 use Rattle.sf_elab.proofs.Annotations.AssertionsWithin.{annotation_within, maybe_within}
 use Rattle.sf_elab.proofs.Bodies.CommandsWithin.{SeesProgram, MayAllBeSet, blocks_joined, commands_within}
+use Rattle.sf_elab.proofs.Names.Among.{each_among}
 use Rattle.sf_elab.proofs.Names.DeclaredThings.{IsShared, resources_many, resource_from, procedure_from, resources_there, shared_there, procedures_there}
 use Rattle.sf_elab.proofs.Annotations.Depths.{body_no_deeper}
 use Rattle.sf_elab.proofs.Names.Limits.{resources_few, procedures_few, fields_few, all_shared_few, own_few}
 use Rattle.sf_elab.proofs.Names.NamedFields.{fields_named}
 use Rattle.sf_elab.proofs.Names.NoFaults.{none_both, none_three, none_four, none_five, none_at}
-use Rattle.sf_elab.proofs.Names.OwnVariables.{names_many, finds_parameters, finds_body, each_among, first_within}
+use Rattle.sf_elab.proofs.Names.OwnVariables.{names_many, finds_parameters, finds_body, first_within}
 use Rattle.sf_elab.proofs.Names.TableLaws.{Finds, finds_none, finds_numbered}
 use Rattle.sf_elab.proofs.Names.VariablesWithin.{Sees, seen_otherwise}
 

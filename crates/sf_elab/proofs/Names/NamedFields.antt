@@ -2,26 +2,21 @@
 use Rattle.std.proofs.Common.{◌≡◌, ◌≢◌, ◌<◌, ◌+◌, ℕ, Bool, true, false, cond, List, [], ◌∷◌, ◌++◌, map, length, slice_get, codes, Option, Some, None, is_some, refl, sym, ◌∙◌, ap, subst, arith}
 use Rattle.std.proofs.lemmas.Option.{slice_get_within}
 use Rattle.std.proofs.lemmas.List.{append_assoc, length-append, append-nil}
-use Rattle.std.specs.Option.{option_map}
+use Rattle.std.specs.Option.{option_map, option_or}
 use Rattle.std.specs.Str.{bytes_eq}
 use Rattle.sf_base.proofs.Lookup.{get-push_before, get-push_last, get-push_other}
-use Rattle.sf_base.proofs.Equality.{bytes_eq-same, bytes_eq-self, bytes_eq-other}
+use Rattle.sf_base.proofs.Equality.{bytes_eq-same, bytes_eq-other}
 use Rattle.sf_ast.specs.declared.word.Word.{Word}
 use Rattle.sf_base.specs.declared.ids.FieldId.{FieldId}
 use Rattle.sf_core.specs.Program.Named.{IsFirstNamed}
 use Rattle.sf_elab.specs.Names.Declarations.{numbered, usual_fields, nth_field, field_table, field_names}
-use Rattle.sf_elab.specs.Names.Table.{Table, find, has, declare}
+use Rattle.sf_elab.specs.Names.Table.{Table, find, declare}
 use Rattle.sf_elab.specs.Names.Texts.{text}
+use Rattle.sf_elab.proofs.Names.TableLaws.{find_declared}
 
 -- each name stands for the first of those of that name, and for none where there is none
 abbrev pub AreNamed : List (List ℕ) → Table FieldId → Type 0
 AreNamed names t = (name : List ℕ) → IsFirstNamed names name (option_map (λ (f : FieldId). f.0) (find name t))
-
--- another name is found as before
-other_found : (names : List (List ℕ)) (n name : List ℕ) (o : Option ℕ) → n ≢ name → IsFirstNamed names name o → IsFirstNamed (names ++ n ∷ []) name o
-other_found names n name None apart h = λ k e. h k (get-push_other names n name k e apart)
-other_found names n name (Some k) apart h =
-    (get-push_before names n k (slice_get_within names k name h.0) ∙ h.0, λ j below e. h.1 j below (get-push_other names n name j e apart))
 
 -- one that is there is found as before
 first_found : (names : List (List ℕ)) (n name : List ℕ) (k : ℕ) → IsFirstNamed names name (Some k) → IsFirstNamed (names ++ n ∷ []) name (Some k)
@@ -33,57 +28,22 @@ first_found names n name k h =
 last_found : (names : List (List ℕ)) (n : List ℕ) → IsFirstNamed names n None → IsFirstNamed (names ++ n ∷ []) n (Some (length names))
 last_found names n h = (get-push_last names n, λ j below e. h j (sym (get-push_before names n j below) ∙ e))
 
-find_other : (name n : List ℕ) (f : FieldId) (t : Table FieldId) → name ≢ n → find name (t ++ (n, f) ∷ []) ≡ find name t
-find_other name n f [] apart = go (bytes_eq name n) refl
-  where
-    go : (b : Bool) → bytes_eq name n ≡ b → cond b (Some f) None ≡ None
-    go true e = absurd (apart (bytes_eq-same name n e))
-    go false e = refl
-find_other name n f (e ∷ t) apart = ap (cond (bytes_eq name e.0) (Some e.1)) (find_other name n f t apart)
-
-find_last : (n : List ℕ) (f : FieldId) (t : Table FieldId) → find n t ≡ None → find n (t ++ (n, f) ∷ []) ≡ Some f
-find_last n f [] h = rw (bytes_eq-self n) refl
-find_last n f (e ∷ t) h = go (bytes_eq n e.0) h (find_last n f t)
-  where
-    go : (b : Bool) → cond b (Some e.1) (find n t) ≡ None → (find n t ≡ None → find n (t ++ (n, f) ∷ []) ≡ Some f) → cond b (Some e.1) (find n (t ++ (n, f) ∷ [])) ≡ Some f
-    go true k rest = absurd cc
-    go false k rest = rest k
-
-find_declared : (name n : List ℕ) (f : FieldId) (t : Table FieldId) → name ≢ n → find name (declare n f t) ≡ find name t
-find_declared name n f t apart = go (has n t)
-  where
-    go : (b : Bool) → find name (cond b t (t ++ (n, f) ∷ [])) ≡ find name t
-    go true = refl
-    go false = find_other name n f t apart
-
-there_already : (n : List ℕ) (f g : FieldId) (t : Table FieldId) → find n t ≡ Some g → find n (declare n f t) ≡ Some g
-there_already n f g t h = let has_it : has n t ≡ true = ap is_some h in rw has_it h
-
-there_now : (n : List ℕ) (f : FieldId) (t : Table FieldId) → find n t ≡ None → find n (declare n f t) ≡ Some f
-there_now n f t h = let lacks : has n t ≡ false = ap is_some h in rw lacks (find_last n f t h)
-
 -- the number of what was found
 abbrev number_found : Option FieldId → Option ℕ
 number_found o = option_map (λ (f : FieldId). f.0) o
 
-same_named : (names : List (List ℕ)) (n : List ℕ) (f : FieldId) (t : Table FieldId) (o : Option FieldId) → f.0 ≡ length names → find n t ≡ o → IsFirstNamed names n (number_found o) → IsFirstNamed (names ++ n ∷ []) n (number_found (find n (declare n f t)))
-same_named names n f t None q e h =
-    let found : IsFirstNamed (names ++ n ∷ []) n (Some f.0) = subst (λ k. IsFirstNamed (names ++ n ∷ []) n (Some k)) (sym q) (last_found names n h) in
-    subst (λ (o : Option FieldId). IsFirstNamed (names ++ n ∷ []) n (number_found o)) (sym (there_now n f t e)) found
-same_named names n f t (Some g) q e h =
-    subst (λ (o : Option FieldId). IsFirstNamed (names ++ n ∷ []) n (number_found o)) (sym (there_already n f g t e)) (first_found names n n g.0 h)
-
 -- one more is declared
 declared_named : (names : List (List ℕ)) (n : List ℕ) (f : FieldId) (t : Table FieldId) → f.0 ≡ length names → AreNamed names t → AreNamed (names ++ n ∷ []) (declare n f t)
-declared_named names n f t q h name = go (bytes_eq n name) refl
+declared_named names n f t q h name =
+    subst (λ (o : Option FieldId). IsFirstNamed (names ++ n ∷ []) name (number_found o)) (sym (find_declared name n f t)) (go (find name t) (bytes_eq name n) refl (h name))
   where
-    go : (b : Bool) → bytes_eq n name ≡ b → IsFirstNamed (names ++ n ∷ []) name (number_found (find name (declare n f t)))
-    go true e =
-        subst (λ m. IsFirstNamed (names ++ n ∷ []) m (number_found (find m (declare n f t)))) (bytes_eq-same n name e) (same_named names n f t (find n t) q refl (h n))
-    go false e =
-        let apart : n ≢ name = bytes_eq-other n name e in
-        subst (λ (o : Option FieldId). IsFirstNamed (names ++ n ∷ []) name (number_found o)) (sym (find_declared name n f t (λ same. apart (sym same))))
-        (other_found names n name (number_found (find name t)) apart (h name))
+    go : (o : Option FieldId) (b : Bool) → bytes_eq name n ≡ b → IsFirstNamed names name (number_found o) → IsFirstNamed (names ++ n ∷ []) name (number_found (option_or o (cond b (Some f) None)))
+    go (Some g) b e k = first_found names n name g.0 k
+    go None true e k =
+        let same : name ≡ n = bytes_eq-same name n e in
+        let last : IsFirstNamed (names ++ n ∷ []) n (Some (length names)) = last_found names n (subst (λ m. IsFirstNamed names m None) same k) in
+        rw (same, q) last
+    go None false e k = λ i there. k i (get-push_other names n name i there (λ same. bytes_eq-other name n e (sym same)))
 
 none_named : AreNamed [] []
 none_named name = λ k e. absurd cc

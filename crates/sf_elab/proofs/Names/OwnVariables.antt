@@ -1,10 +1,7 @@
 -- The own variables of a procedure: what its names stand for in its pre and post and in its body, and how the body begins.
 use Rattle.std.proofs.Common.{◌≡◌, ◌≤◌, ◌<◌, ◌+◌, ℕ, Bool, true, false, cond, List, [], ◌∷◌, ◌++◌, map, length, refl, arith}
-use Rattle.std.proofs.lemmas.Bool.{or_left, or_right}
 use Rattle.std.proofs.lemmas.List.{length-map, length-append}
-use Rattle.std.specs.List.{filter, AllByRecursion}
-use Rattle.std.specs.Str.{bytes_eq}
-use Rattle.sf_base.proofs.Equality.{bytes_eq-self}
+use Rattle.std.specs.List.{filter}
 use Rattle.sf_ast.specs.declared.word.Word.{Word}
 use Rattle.sf_ast.specs.Surface.{Procedure}
 use Rattle.sf_base.specs.declared.ids.Var.{Var}
@@ -15,7 +12,7 @@ use Rattle.sf_core.specs.Program.Formed.{IsInBody, IsSettable, BlockWithin}
 use Rattle.sf_core.specs.Program.Syntax as c
 use Rattle.sf_core.specs.Program.View.{block}
 use Rattle.sf_elab.specs.Names.Declarations.{references_of, values_of, numbered}
-use Rattle.sf_elab.specs.Bodies.Procedures.{local_words, is_among, is_primed, parameters_of, parameter_count, declared_count, body_values, body_variables, own_names, own_at, first_assignments}
+use Rattle.sf_elab.specs.Bodies.Procedures.{local_words, is_primed, parameters_of, parameter_count, declared_count, body_values, body_variables, own_names, own_at, first_assignments}
 use Rattle.sf_elab.specs.Names.Table.{Table, declare}
 use Rattle.sf_elab.specs.Names.Texts.{text}
 use Rattle.sf_elab.proofs.Names.TableLaws.{Finds, finds_none, finds_declared, finds_numbered}
@@ -24,22 +21,24 @@ use Rattle.sf_elab.proofs.Names.TableLaws.{Finds, finds_none, finds_declared, fi
 abbrev pub primed_count : List ℕ → Procedure → ℕ
 primed_count bytes f = length (filter (is_primed bytes f) (values_of f.parameters))
 
-pub names_many : (bytes : List ℕ) (f : Procedure) → length (own_names bytes f) ≡ declared_count f + primed_count bytes f
-names_many bytes f =
+pub declared_many : (bytes : List ℕ) (f : Procedure) → length (map (text bytes) (references_of f.parameters) ++ map (text bytes) (values_of f.parameters) ++ map (text bytes) (local_words f.locals)) ≡ declared_count f
+declared_many bytes f =
     let references : List (List ℕ) = map (text bytes) (references_of f.parameters) in
     let values : List (List ℕ) = map (text bytes) (values_of f.parameters) in
-    let locals : List (List ℕ) = map (text bytes) (local_words f.locals) in
-    let primed : List (List ℕ) = map (λ w. text bytes w ++ 39 ∷ []) (filter (is_primed bytes f) (values_of f.parameters)) in
     omega (
       arith,
-      length-append (references ++ values ++ locals) primed,
-      length-append (references ++ values) locals,
+      length-append (references ++ values) (map (text bytes) (local_words f.locals)),
       length-append references values,
       length-map (references_of f.parameters) (text bytes),
       length-map (values_of f.parameters) (text bytes),
       length-map (local_words f.locals) (text bytes),
-      length-map (filter (is_primed bytes f) (values_of f.parameters)) (λ w. text bytes w ++ 39 ∷ []),
     )
+
+pub names_many : (bytes : List ℕ) (f : Procedure) → length (own_names bytes f) ≡ declared_count f + primed_count bytes f
+names_many bytes f =
+    let primed = filter (is_primed bytes f) (values_of f.parameters) in
+    let declared = map (text bytes) (references_of f.parameters) ++ map (text bytes) (values_of f.parameters) ++ map (text bytes) (local_words f.locals) in
+    omega (arith, length-append declared (map (λ w. text bytes w ++ 39 ∷ []) primed), declared_many bytes f, length-map primed (λ w. text bytes w ++ 39 ∷ []))
 
 -- what pre and post see
 pub finds_parameters : (P : List ℕ → Var → Type 0) (bytes : List ℕ) (f : Procedure) → ((name : List ℕ) (i : ℕ) → i < parameter_count f → P name (Own i)) → Finds P (parameters_of bytes f)
@@ -77,15 +76,6 @@ finds_body P bytes f references plain locals =
     (finds_values P bytes (is_primed bytes f) (length (references_of f.parameters)) (declared_count f) (values_of f.parameters) first
     (λ w i e l m. plain w i e m) (λ name i l m. locals name i (omega arith) m)
     (finds_numbered P bytes Own 0 (references_of f.parameters) [] (λ name i l m. references name i (omega arith)) (finds_none P)))
-
--- the text of one of those words is among them
-pub among_them : (bytes : List ℕ) (ws all : List Word) → AllByRecursion (λ w. is_among bytes all (text bytes w) ≡ true) ws → (v : Word) → AllByRecursion (λ w. is_among bytes (v ∷ all) (text bytes w) ≡ true) ws
-among_them bytes [] all h v = tt
-among_them bytes (w ∷ ws) all h v = (or_right (bytes_eq (text bytes w) (text bytes v)) (is_among bytes all (text bytes w)) h.0, among_them bytes ws all h.1 v)
-
-pub each_among : (bytes : List ℕ) (ws : List Word) → AllByRecursion (λ w. is_among bytes ws (text bytes w) ≡ true) ws
-each_among bytes [] = tt
-each_among bytes (w ∷ ws) = (or_left (bytes_eq (text bytes w) (text bytes w)) (is_among bytes ws (text bytes w)) (bytes_eq-self (text bytes w)), among_them bytes ws ws (each_among bytes ws) w)
 
 -- how the body begins
 pub first_within : (p : c.Program) (g : c.Procedure) (primed : Word → Bool) (at : Place) (k q : ℕ) (ws : List Word)

@@ -1,6 +1,7 @@
 -- Tables: what is found among names that were declared.
-use Rattle.std.proofs.Common.{◌≡◌, ◌⊎◌, inl, inr, ◌≤◌, ◌<◌, ◌+◌, ℕ, Bool, true, false, cond, List, [], ◌∷◌, ◌++◌, length, Some, is_some, refl, sym, subst, arith}
-use Rattle.std.proofs.lemmas.Option.{cond_some}
+use Rattle.std.proofs.Common.{◌≡◌, ◌⊎◌, inl, inr, ◌≤◌, ◌<◌, ◌+◌, ◌||◌, ℕ, Bool, true, false, cond, List, [], ◌∷◌, ◌++◌, length, Option, Some, None, is_some, refl, sym, ◌∙◌, ap, subst, arith}
+use Rattle.std.proofs.lemmas.Bool.{or_right}
+use Rattle.std.specs.Option.{option_or}
 use Rattle.std.specs.Str.{bytes_eq}
 use Rattle.sf_base.proofs.Equality.{bytes_eq-same, bytes_eq-self}
 use Rattle.sf_ast.specs.declared.word.Word.{Word}
@@ -8,53 +9,55 @@ use Rattle.sf_elab.specs.Names.Declarations.{numbered}
 use Rattle.sf_elab.specs.Names.Table.{Table, find, has, declare}
 use Rattle.sf_elab.specs.Names.Texts.{text}
 
--- what stands for a name once one more was declared
-found_pushed : {A : Type 0} (name n : List ℕ) (a : A) (t : Table A) (v : A) → find name (t ++ (n, a) ∷ []) ≡ Some v → (find name t ≡ Some v) ⊎ ((name ≡ n) × (a ≡ v))
-found_pushed name n a [] v h = let both = cond_some (bytes_eq name n) a v h in inr (bytes_eq-same name n both.0, both.1)
-found_pushed name n a (e ∷ t) v h = go (bytes_eq name e.0) h (found_pushed name n a t v)
+find_pushed : {A : Type 0} (name n : List ℕ) (a : A) (t : Table A) → find name (t ++ (n, a) ∷ []) ≡ option_or (find name t) (cond (bytes_eq name n) (Some a) None)
+find_pushed {A} name n a [] = refl
+find_pushed {A} name n a (e ∷ t) = go (bytes_eq name e.0) (find_pushed name n a t)
   where
-    go : (b : Bool) → cond b (Some e.1) (find name (t ++ (n, a) ∷ [])) ≡ Some v → (find name (t ++ (n, a) ∷ []) ≡ Some v → (find name t ≡ Some v) ⊎ ((name ≡ n) × (a ≡ v)))
-        → (cond b (Some e.1) (find name t) ≡ Some v) ⊎ ((name ≡ n) × (a ≡ v))
-    go true k rest = inl k
-    go false k rest = rest k
+    more : Option A
+    more = cond (bytes_eq name n) (Some a) None
 
-pub found_declared : {A : Type 0} (name n : List ℕ) (a : A) (t : Table A) (v : A) → find name (declare n a t) ≡ Some v → (find name t ≡ Some v) ⊎ ((name ≡ n) × (a ≡ v))
-found_declared name n a t v h = go (has n t) h
-  where
-    go : (b : Bool) → find name (cond b t (t ++ (n, a) ∷ [])) ≡ Some v → (find name t ≡ Some v) ⊎ ((name ≡ n) × (a ≡ v))
-    go true k = inl k
-    go false k = found_pushed name n a t v k
-
--- what has a name keeps it
-kept_pushed : {A : Type 0} (name n : List ℕ) (a : A) (t : Table A) → has name t ≡ true → has name (t ++ (n, a) ∷ []) ≡ true
-kept_pushed name n a [] h = absurd cc
-kept_pushed name n a (e ∷ t) h = go (bytes_eq name e.0) h (kept_pushed name n a t)
-  where
-    go : (b : Bool) → is_some (cond b (Some e.1) (find name t)) ≡ true → (has name t ≡ true → has name (t ++ (n, a) ∷ []) ≡ true) → is_some (cond b (Some e.1) (find name (t ++ (n, a) ∷ []))) ≡ true
-    go true k rest = refl
-    go false k rest = rest k
-
-pub kept_declared : {A : Type 0} (name n : List ℕ) (a : A) (t : Table A) → has name t ≡ true → has name (declare n a t) ≡ true
-kept_declared name n a t h = go (has n t)
-  where
-    go : (b : Bool) → has name (cond b t (t ++ (n, a) ∷ [])) ≡ true
-    go true = h
-    go false = kept_pushed name n a t h
-
-there_pushed : {A : Type 0} (n : List ℕ) (a : A) (t : Table A) → has n (t ++ (n, a) ∷ []) ≡ true
-there_pushed n a [] = rw (bytes_eq-self n) refl
-there_pushed n a (e ∷ t) = go (bytes_eq n e.0) (there_pushed n a t)
-  where
-    go : (b : Bool) → has n (t ++ (n, a) ∷ []) ≡ true → is_some (cond b (Some e.1) (find n (t ++ (n, a) ∷ []))) ≡ true
+    go : (b : Bool) → find name (t ++ (n, a) ∷ []) ≡ option_or (find name t) more → cond b (Some e.1) (find name (t ++ (n, a) ∷ [])) ≡ option_or (cond b (Some e.1) (find name t)) more
     go true rest = refl
     go false rest = rest
 
-pub there_declared : {A : Type 0} (n : List ℕ) (a : A) (t : Table A) → has n (declare n a t) ≡ true
-there_declared n a t = go (has n t) refl
+-- what a name stands for once one more is declared: what it stood for, and else the new one where it is that name
+pub find_declared : {A : Type 0} (name n : List ℕ) (a : A) (t : Table A) → find name (declare n a t) ≡ option_or (find name t) (cond (bytes_eq name n) (Some a) None)
+find_declared {A} name n a t = go (has n t) refl
   where
-    go : (b : Bool) → has n t ≡ b → has n (cond b t (t ++ (n, a) ∷ [])) ≡ true
-    go true h = h
-    go false h = there_pushed n a t
+    there : has n t ≡ true → (o : Option A) (b : Bool) → find name t ≡ o → bytes_eq name n ≡ b → o ≡ option_or o (cond b (Some a) None)
+    there h (Some v) b e q = refl
+    there h None false e q = refl
+    there h None true e q = let own : has name t ≡ true = subst (λ m. has m t ≡ true) (sym (bytes_eq-same name n q)) h in absurd (cc (ap is_some e))
+
+    go : (c : Bool) → has n t ≡ c → find name (cond c t (t ++ (n, a) ∷ [])) ≡ option_or (find name t) (cond (bytes_eq name n) (Some a) None)
+    go true h = there h (find name t) (bytes_eq name n) refl refl
+    go false h = find_pushed name n a t
+
+pub found_declared : {A : Type 0} (name n : List ℕ) (a : A) (t : Table A) (v : A) → find name (declare n a t) ≡ Some v → (find name t ≡ Some v) ⊎ ((name ≡ n) × (a ≡ v))
+found_declared {A} name n a t v h = go (find name t) (bytes_eq name n) refl refl (sym (find_declared name n a t) ∙ h)
+  where
+    go : (o : Option A) (b : Bool) → find name t ≡ o → bytes_eq name n ≡ b → option_or o (cond b (Some a) None) ≡ Some v → (find name t ≡ Some v) ⊎ ((name ≡ n) × (a ≡ v))
+    go (Some x) b e q k = inl (e ∙ k)
+    go None true e q k = inr (bytes_eq-same name n q, cc)
+    go None false e q k = absurd cc
+
+-- what was found is found, and what has a name keeps it
+pub found_still : {A : Type 0} (name n : List ℕ) (a : A) (t : Table A) (v : A) → find name t ≡ Some v → find name (declare n a t) ≡ Some v
+found_still name n a t v h = find_declared name n a t ∙ ap (λ o. option_or o (cond (bytes_eq name n) (Some a) None)) h
+
+pub has_declared : {A : Type 0} (name n : List ℕ) (a : A) (t : Table A) → has name (declare n a t) ≡ (has name t || bytes_eq name n)
+has_declared {A} name n a t = ap is_some (find_declared name n a t) ∙ go (find name t) (bytes_eq name n)
+  where
+    go : (o : Option A) (b : Bool) → is_some (option_or o (cond b (Some a) None)) ≡ (is_some o || b)
+    go (Some x) b = refl
+    go None true = refl
+    go None false = refl
+
+pub kept_declared : {A : Type 0} (name n : List ℕ) (a : A) (t : Table A) → has name t ≡ true → has name (declare n a t) ≡ true
+kept_declared name n a t h = has_declared name n a t ∙ ap (λ b. b || bytes_eq name n) h
+
+pub there_declared : {A : Type 0} (n : List ℕ) (a : A) (t : Table A) → has n (declare n a t) ≡ true
+there_declared n a t = has_declared n n a t ∙ or_right (has n t) (bytes_eq n n) (bytes_eq-self n)
 
 -- each name stands for something of that kind
 abbrev pub Finds : {A : Type 0} → (List ℕ → A → Type 0) → Table A → Type 0

@@ -1,11 +1,11 @@
 -- Names of a file without faults: no two of one kind are the same.
 use Rattle.std.proofs.Common.{◌≡◌, ◌⊎◌, inl, inr, ℕ, zero, suc, ◌+◌, Bool, true, false, cond, List, [], ◌∷◌, ◌++◌, map, take, length, codes, slice_get, Some, refl, sym, ◌∙◌, ap, subst, arith, append_assoc}
-use Rattle.std.proofs.lemmas.List.{append-nil, length-map, length-append}
+use Rattle.std.proofs.lemmas.List.{append-nil}
 use Rattle.std.proofs.Math.Seq.{take-append_seam}
 use Rattle.std.specs.List.{flat_map, filter}
-use Rattle.sf_base.proofs.Equality.{bytes_eq-other}
 use Rattle.sf_ast.specs.declared.word.Word.{Word}
 use Rattle.sf_ast.specs.Surface.{Resource, Procedure, Item}
+use Rattle.sf_base.specs.declared.ids.FieldId.{FieldId}
 use Rattle.sf_base.specs.declared.ids.ResId.{ResId}
 use Rattle.sf_base.specs.declared.ids.Var.{Var}
 use Rattle.sf_base.specs.declared.ids.Var.TheVariants.{Own}
@@ -18,7 +18,7 @@ use Rattle.sf_elab.specs.declared.fault.Fault.{Fault}
 use Rattle.sf_elab.specs.declared.fault.Fault.TheVariants.{Twice, OwnedTwice}
 use Rattle.sf_elab.specs.Bodies.Commands.{all_faults, commands_faults}
 use Rattle.sf_elab.specs.Annotations.Assertions.{maybe_faults}
-use Rattle.sf_elab.specs.Names.Declarations.{field_words, resources_in, procedures_in, references_of, values_of, numbered, beyond, numbered_faults, nth_field, usual_names, field_names, resource_name_faults, shared_by, owner_faults, shared_faults, all_shared_faults, header_of, procedure_name_faults, declared_by, declared_faults}
+use Rattle.sf_elab.specs.Names.Declarations.{field_words, resources_in, procedures_in, references_of, values_of, numbered, beyond, numbered_faults, nth_field, usual_names, usual_fields, field_names, resource_name_faults, shared_by, owner_faults, shared_faults, all_shared_faults, header_of, procedure_name_faults, declared_by, declared_faults}
 use Rattle.sf_elab.specs.Files.Elaborated.{resources_from, invariants_faults, elaborated, faults}
 use Rattle.sf_elab.specs.Files.Faults.{where_}
 use Rattle.sf_elab.specs.Laws.{AreDistinct, NamesAreUnique}
@@ -27,6 +27,7 @@ use Rattle.sf_elab.specs.Names.Table.{Table, has, declare}
 use Rattle.sf_elab.specs.Names.Texts.{text}
 use Rattle.sf_elab.proofs.Names.DeclaredThings.{procedure_from}
 use Rattle.sf_elab.proofs.Names.NoFaults.{none_both, none_three, none_four, none_five, none_where, none_at}
+use Rattle.sf_elab.proofs.Names.OwnVariables.{declared_many}
 use Rattle.sf_elab.proofs.Names.TableLaws.{kept_declared, there_declared}
 
 -- none of those names is known, and no two of them are the same
@@ -122,25 +123,11 @@ fresh_all_shared bytes d k before j (r ∷ rs) all h =
 -- the usual fields
 usual_distinct : AreDistinct usual_names
 usual_distinct =
-    let hd = codes "hd" in
-    let none : List ℕ → Type 0 = λ m. ⊥ in
-    let one : List ℕ → Type 0 = λ m. none m ⊎ (m ≡ hd) in
-    let two : List ℕ → Type 0 = λ m. one m ⊎ (m ≡ next_name) in
-    let three : List ℕ → Type 0 = λ m. two m ⊎ (m ≡ left_name) in
-    let right : Fresh three (right_name ∷ []) = fresh_one three right_name [] (λ k. elim k [
-      | inl k ↦ elim k [
-        | inl k ↦ elim k [ inl k ↦ k | inr e ↦ bytes_eq-other right_name hd refl e ]
-        | inr e ↦ bytes_eq-other right_name next_name refl e
-      ]
-      | inr e ↦ bytes_eq-other right_name left_name refl e
-    ]) (fresh_none (λ m. three m ⊎ (m ≡ right_name))) in
-    let left : Fresh two (left_name ∷ right_name ∷ []) = fresh_one two left_name (right_name ∷ []) (λ k. elim k [
-      | inl k ↦ elim k [ inl k ↦ k | inr e ↦ bytes_eq-other left_name hd refl e ]
-      | inr e ↦ bytes_eq-other left_name next_name refl e
-    ]) right in
-    let next : Fresh one (next_name ∷ left_name ∷ right_name ∷ []) =
-    fresh_one one next_name (left_name ∷ right_name ∷ []) (λ k. elim k [ inl k ↦ k | inr e ↦ bytes_eq-other next_name hd refl e ]) left in
-    (fresh_one none hd (next_name ∷ left_name ∷ right_name ∷ []) (λ k. k) next).apart
+    let one : Table FieldId = declare (codes "hd") (nth_field 0) [] in
+    let two : Table FieldId = declare next_name (nth_field 1) one in
+    let three : Table FieldId = declare left_name (nth_field 2) two in
+    (fresh_declared (codes "hd") (nth_field 0) [] (next_name ∷ left_name ∷ right_name ∷ []) refl (fresh_declared next_name (nth_field 1) one (left_name ∷ right_name ∷ []) refl
+    (fresh_declared left_name (nth_field 2) two (right_name ∷ []) refl (fresh_declared right_name (nth_field 3) three [] refl (fresh_none (Known usual_fields)))))).apart
 
 fields_distinct : (bytes : List ℕ) (ws : List Word) → numbered_faults bytes FIELDS nth_field 0 ws [] ≡ [] → AreDistinct (field_names bytes ws)
 fields_distinct bytes [] h = usual_distinct
@@ -161,15 +148,7 @@ own_distinct bytes f h j =
     let all = fresh_numbered bytes OWN_VARIABLES Own 0 (references_of f.parameters) [] (values ++ (locals ++ [])) both.0
     (fresh_numbered bytes OWN_VARIABLES Own (length (references_of f.parameters)) (values_of f.parameters) first (locals ++ []) both.1 behind) in
     let same : references ++ (values ++ (locals ++ [])) ≡ (references ++ values) ++ locals = ap (λ (x : List (List ℕ)). references ++ (values ++ x)) (append-nil locals) ∙ sym (append_assoc references values locals) in
-    let many : length (references_of f.parameters) + length (values_of f.parameters) + length (local_words f.locals) ≡ length ((references ++ values) ++ locals) = omega (
-      arith,
-      length-append (references ++ values) locals,
-      length-append references values,
-      length-map (references_of f.parameters) (text bytes),
-      length-map (values_of f.parameters) (text bytes),
-      length-map (local_words f.locals) (text bytes),
-    ) in
-    let part : take (length (references_of f.parameters) + length (values_of f.parameters) + length (local_words f.locals)) (own_names bytes f) ≡ (references ++ values) ++ locals = rw many (take-append_seam ((references ++ values) ++ locals) primed) in
+    let part : take (length (references_of f.parameters) + length (values_of f.parameters) + length (local_words f.locals)) (own_names bytes f) ≡ (references ++ values) ++ locals = rw (← declared_many bytes f) (take-append_seam ((references ++ values) ++ locals) primed) in
     subst AreDistinct (same ∙ sym part) all.apart
 
 -- what is declared has no faults

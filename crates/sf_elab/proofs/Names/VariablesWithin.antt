@@ -22,7 +22,7 @@ use Rattle.sf_elab.specs.declared.fault.Fault.{Fault}
 use Rattle.sf_elab.specs.declared.fault.Fault.TheVariants.{Unknown, Foreign, Twice}
 use Rattle.sf_elab.specs.declared.levels.Levels.{Levels}
 use Rattle.sf_elab.specs.Annotations.Assertions.{operand_of, operand_faults, values_of, values_faults}
-use Rattle.sf_elab.specs.Annotations.Existentials.{words_in_operand, words_in_test, words_in_fields}
+use Rattle.sf_elab.specs.Annotations.Flat.{words_in_operand, words_in_test, words_in_fields}
 use Rattle.sf_elab.specs.Files.Faults.{where_}
 use Rattle.sf_elab.specs.Names.InEnv.{Env, variable, otherwise, occurrence, variable_faults, expr_of, expr_faults, test_of, test_faults, field_of, field_faults}
 use Rattle.sf_elab.specs.Names.Table.{Table, find, has, declare}

@@ -1,6 +1,6 @@
 use Rattle.std.proofs.Common.{◌≡◌, drop, ◌++◌}
-use Rattle.sf_elab.specs.Annotations.Existentials.{words_in_fields}
-use Rattle.sf_elab.proofs.levels.add_fields.Given as goal
+use Rattle.sf_elab.specs.Annotations.Flat.{words_in_fields}
+use Rattle.sf_elab.proofs.flat.add_fields.Given as goal
 
 -- those so far and those of what is left are all
 abbrev pub invariant-loop-field : goal.invariant-loop-field
