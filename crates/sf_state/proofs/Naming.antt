@@ -20,7 +20,7 @@ use Rattle.sf_core.specs.Program.Syntax.{Procedure, Program, Resource}
 use Rattle.sf_state.specs.Names.{are_names, is_target, names_of, names_of_resource, parameters, place_of, qualified}
 use Rattle.sf_state.specs.Words.{begins}
 use Rattle.sf_state.specs.Written.{AreNames, HasNames}
-use Rattle.sf_state.proofs.Back.{ArePlaced, IsSpelled}
+use Rattle.sf_state.proofs.WrittenLines.{ArePlaced, IsSpelled}
 use Rattle.sf_state.proofs.Spelling.{IsPlain, all-append, all-more, is_visible, plain-append, split-sign}
 
 letter-visible : (b : ℕ) → is_letter b ≡ true → is_visible b ≡ true

@@ -27,7 +27,8 @@ use Rattle.sf_state.specs.Stated.{Gives, text_refusal}
 use Rattle.sf_state.specs.Starts.{GivesState, by_resource}
 use Rattle.sf_state.specs.StateText.{state_text, values_or_none}
 use Rattle.sf_state.specs.Written.{AreWritable, HasNames, IsWritable}
-use Rattle.sf_state.proofs.Back.{AreCells, AreWritten, EachWritable, IsCell, finished-back, text-back}
+use Rattle.sf_state.proofs.Back.{AreWritten, finished-back, text-back}
+use Rattle.sf_state.proofs.WrittenLines.{AreCells, EachWritable, IsCell}
 use Rattle.sf_state.proofs.Naming.{placed-fields, placed-names}
 use Rattle.sf_state.proofs.Once.{finish-keys}
 use Rattle.sf_state.proofs.Rising.{rising-keys, rising-same}
