@@ -24,3 +24,10 @@ pub mod Naming
 pub mod Once
 pub mod Returned
 pub mod Exists
+pub mod Learning
+pub mod Walked
+pub mod Taking
+pub mod UnitExists
+pub mod StateExists
+pub mod TurnsDecided
+pub mod WrittenLines
