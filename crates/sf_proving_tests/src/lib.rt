@@ -1,6 +1,8 @@
-//! Tests of what states, orders, takes, searches and prints, by the public calls of their crates. They are
-//! in a crate of their own so that the crates that they test needn't be proved once more with them.
+//! Tests of what states, orders, takes, searches and prints, by the public calls of their crates, and
+//! worked examples of the rows of subtraction. They are in a crate of their own so that the crates that
+//! they test needn't be proved once more with them, nor those above when an example comes.
 //!
+//! - `examples`: conditions of rows of subtraction, and why they are there.
 //! - `states`: what a state knows of terms.
 //! - `orders`: conjuncts in the order in which they can be taken.
 //! - `footprints`: locations that satisfy an assertion.
@@ -13,6 +15,7 @@
 
 #[cfg(test)]
 mod choices;
+pub mod examples;
 #[cfg(test)]
 mod footprints;
 #[cfg(test)]
