@@ -2,7 +2,7 @@
 -- Names: `LAW-fewer` of lists that lack some elements of others, `LAW-moved` of lists with one element at the end,
 -- `fewer_settled`, `handed-settled` of states.
 use Rattle.std.proofs.Common.{◌≡◌, ℕ, ◌==◌, Bool, true, false, ◌&&◌, ◌||◌, not, cond, Option, Some, None, List, [], ◌∷◌, ◌++◌, map, refl, sym, ap, ap₂, ◌∙◌, append_assoc}
-use Rattle.std.specs.List.{list_any}
+use Rattle.std.specs.List.{AllByRecursion, list_any}
 use Rattle.std.specs.Option.{option_map}
 use Rattle.std.proofs.lemmas.Bool.Decides.{Decides-eqb}
 use Rattle.std.proofs.lemmas.Bool.{or_parts}
@@ -21,7 +21,7 @@ use Rattle.sf_sym.specs.declared.term.Term.TheVariants.{Nil}
 use Rattle.sf_sym.specs.Known.{is_nothing}
 use Rattle.sf_sym.specs.Lemmas.{points_at, same_term_is}
 use Rattle.sf_sym.specs.State.{State}
-use Rattle.sf_sym.specs.Tests.{allocated, allocates, has_cell, has_repeat, is_constant, is_impossible, is_left_out, parts, root, same_term}
+use Rattle.sf_sym.specs.Tests.{allocated, allocates, has_cell, has_repeat, is_absurd, is_constant, is_impossible, is_left_out, parts, root, same_term}
 
 pub or-still : (a b : Bool) → a ≡ false → b ≡ false → a || b ≡ false
 or-still a b e f = ap₂ (λ x y. x || y) e f
@@ -58,12 +58,17 @@ without-fewer (x ∷ xs) a = go (x.number == a) (without-fewer xs a)
     go true f = left_out x xs xs (all-fewer xs)
     go false f = kept x (without xs a) xs f
 
-any-fewer : (p : Numbered → Bool) (xs ys : List Numbered) → Fewer xs ys → list_any p ys ≡ false → list_any p xs ≡ false
+pub any-fewer : (p : Numbered → Bool) (xs ys : List Numbered) → Fewer xs ys → list_any p ys ≡ false → list_any p xs ≡ false
 any-fewer p [] [] none e = e
 any-fewer p _ _ (kept x xs ys f) e =
     let both = or_parts (p x) (list_any p ys) e in
     or-still (p x) (list_any p xs) both.0 (any-fewer p xs ys f both.1)
 any-fewer p _ _ (left_out y xs ys f) e = any-fewer p xs ys f (or_parts (p y) (list_any p ys) e).1
+
+pub each-fewer : (P : Numbered → Type 0) (xs ys : List Numbered) → Fewer xs ys → AllByRecursion P ys → AllByRecursion P xs
+each-fewer P [] [] none h = tt
+each-fewer P _ _ (kept x xs ys f) h = (h.0, each-fewer P xs ys f h.1)
+each-fewer P _ _ (left_out y xs ys f) h = each-fewer P xs ys f h.1
 
 any-of_fewer : (p : Numbered → Bool) (xs ys : List Numbered) → Fewer xs ys → list_any p xs ≡ true
     → list_any p ys ≡ true
@@ -105,7 +110,7 @@ module _ {X : Type 0} where
   lowest-fewer f _ _ (left_out y xs ys g) e =
       lowest-fewer f xs ys g (lower-none (option_map (λ z. (y.number, z)) (f y.atom)) (lowest f ys) e).1
 
-  map-none : {Y : Type 0} (f : X → Y) (o : Option X) → option_map f o ≡ None → o ≡ None
+  pub map-none : {Y : Type 0} (f : X → Y) (o : Option X) → option_map f o ≡ None → o ≡ None
   map-none f None e = refl
   map-none f (Some x) e = absurd (cc)
 
@@ -140,25 +145,31 @@ forced-fewer s now less _ _ (left_out y xs ys g) e =
     forced-fewer s now less xs ys g
     (lower-none (option_map (λ z. (y.number, z)) (forced_ends s y.number y.atom)) (lowest_forced s ys) e).1
 
--- a state with the same pairs and fewer parts
+-- a state with the same pairs and fewer parts isn't absurd where the other isn't
+pub fewer_possible : (s now : State) → now.apart ≡ s.apart → Fewer now.atoms s.atoms → Fewer now.taken s.taken
+    → is_absurd s ≡ false → is_absurd now ≡ false
+fewer_possible s now apart atoms taken known =
+    let all = append-fewer now.atoms s.atoms now.taken s.taken atoms taken in
+    let pairs = or_parts (list_any (λ p. same_term p.0 p.1) s.apart
+    || list_any (λ a. is_impossible s.apart a.atom) (parts s)) (has_repeat s.apart (parts s)) known in
+    let first = or_parts (list_any (λ p. same_term p.0 p.1) s.apart)
+    (list_any (λ a. is_impossible s.apart a.atom) (parts s)) pairs.0 in
+    ap (λ ps. list_any (λ p. same_term p.0 p.1) ps || list_any (λ a. is_impossible ps a.atom) (parts now)
+    || has_repeat ps (parts now)) apart
+    ∙ or-still (list_any (λ p. same_term p.0 p.1) s.apart
+    || list_any (λ a. is_impossible s.apart a.atom) (parts now)) (has_repeat s.apart (parts now))
+    (or-still (list_any (λ p. same_term p.0 p.1) s.apart)
+    (list_any (λ a. is_impossible s.apart a.atom) (parts now)) first.0
+    (any-fewer (λ a. is_impossible s.apart a.atom) (parts now) (parts s) all first.1))
+    (repeat-fewer s.apart (parts now) (parts s) all pairs.1)
+
+-- and it is settled where the other is
 pub fewer_settled : (s now : State) → now.apart ≡ s.apart → Fewer now.atoms s.atoms → Fewer now.taken s.taken
     → IsSettled s → IsSettled now
 fewer_settled s now apart atoms taken known =
     let all = append-fewer now.atoms s.atoms now.taken s.taken atoms taken in
-    let pairs = or_parts (list_any (λ p. same_term p.0 p.1) s.apart
-    || list_any (λ a. is_impossible s.apart a.atom) (parts s)) (has_repeat s.apart (parts s)) known.possible in
-    let first = or_parts (list_any (λ p. same_term p.0 p.1) s.apart)
-    (list_any (λ a. is_impossible s.apart a.atom) (parts s)) pairs.0 in
     record {
-      possible =
-          ap (λ ps. list_any (λ p. same_term p.0 p.1) ps || list_any (λ a. is_impossible ps a.atom) (parts now)
-          || has_repeat ps (parts now)) apart
-          ∙ or-still (list_any (λ p. same_term p.0 p.1) s.apart
-          || list_any (λ a. is_impossible s.apart a.atom) (parts now)) (has_repeat s.apart (parts now))
-          (or-still (list_any (λ p. same_term p.0 p.1) s.apart)
-          (list_any (λ a. is_impossible s.apart a.atom) (parts now)) first.0
-          (any-fewer (λ a. is_impossible s.apart a.atom) (parts now) (parts s) all first.1))
-          (repeat-fewer s.apart (parts now) (parts s) all pairs.1);
+      possible = fewer_possible s now apart atoms taken known.possible;
       none_empty = lowest-fewer (which is_nothing) now.atoms s.atoms atoms known.none_empty;
       none_forced = forced-fewer s now
           (λ u o e. any-of_fewer (λ a. not (is_left_out o a.number) && allocates s.apart u a.atom) (parts now) (parts s)
@@ -217,13 +228,13 @@ repeat-moved apart (y ∷ before) x zs =
     (any-moved (λ b. allocates apart (root y.atom) b.atom) before x zs) (repeat-moved apart before x zs)
 
 -- the atom of that number, and the others
-record Found (xs : List Numbered) (a : ℕ) (x : Atom) : Type 0 where
-  before : List Numbered
-  after : List Numbered
-  is : xs ≡ before ++ (record { number = a; atom = x }) ∷ after
-  others : without xs a ≡ before ++ after
+pub record Found (xs : List Numbered) (a : ℕ) (x : Atom) : Type 0 where
+  pub before : List Numbered
+  pub after : List Numbered
+  pub is : xs ≡ before ++ (record { number = a; atom = x }) ∷ after
+  pub others : without xs a ≡ before ++ after
 
-found : (xs : List Numbered) (a : ℕ) (x : Atom) → atom_at xs a ≡ Some x → Found xs a x
+pub found : (xs : List Numbered) (a : ℕ) (x : Atom) → atom_at xs a ≡ Some x → Found xs a x
 found [] a x e = absurd (cc)
 found (y ∷ ys) a x e = go (y.number == a) refl (found ys a x) e
   where

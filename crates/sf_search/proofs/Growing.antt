@@ -4,7 +4,7 @@
 use Rattle.std.proofs.Common.{◌≡◌, ◌⊎◌, inl, inr, ℕ, suc, ◌+◌, ◌-◌, ◌==◌, Bool, true, false, ◌&&◌, ◌||◌, cond, get_or, is_some, nat_le, nat_lt, Option, Some, None, List, [], ◌∷◌, ◌++◌, length, refl, sym, ap, ap₂, ◌∙◌, subst, append_assoc, arith}
 use Rattle.std.proofs.lemmas.Bool.{and_parts}
 use Rattle.std.proofs.lemmas.List.{append-nil, length-map}
-use Rattle.std.proofs.lemmas.Option.{option_and_then_some, same_Some}
+use Rattle.std.proofs.lemmas.Option.{cond_some, option_and_then_some, same_Some}
 use Rattle.std.specs.Option.{option_map}
 use Rattle.sf_base.proofs.Options.{option_map-some}
 use Rattle.sf_base.specs.declared.ids.FieldId.{FieldId}
@@ -23,13 +23,15 @@ use Rattle.sf_rules.specs.Rows.Commands.{new_row, with_var}
 use Rattle.sf_rules.specs.Rows.Front.{at_add, at_command}
 use Rattle.sf_rules.specs.Rows.Whole.{row, row_of}
 use Rattle.sf_rules.specs.Setting.{Setting}
-use Rattle.sf_search.proofs.Fewer.{all-fewer, fewer_settled, without-fewer}
-use Rattle.sf_search.proofs.Grown.{end-known, grown-roots, grown-settled}
-use Rattle.sf_search.proofs.Kept.{first_settled, if-so, unsettled}
-use Rattle.sf_search.proofs.Settled.{settled-by}
+use Rattle.sf_search.proofs.Fewer.{all-fewer, fewer_possible, fewer_settled, without-fewer}
+use Rattle.sf_search.proofs.Grown.{grown-bare, grown-roots, grown-settled, known-end, known-more}
+use Rattle.sf_search.proofs.Kept.{first_settled, if-so, row_of-kept, unsettled}
+use Rattle.sf_search.proofs.Settled.{dropped_possible, settled-by}
+use Rattle.sf_search.proofs.Sole.{Numbers, unrolled-unused}
+use Rattle.sf_search.proofs.StillKnown.{known-stays, roots-without}
 use Rattle.sf_search.specs.declared.choices.growth.Size.{Size}
-use Rattle.sf_search.specs.Internal.Growth.{BeginBelow, IsFirstBelow, RootsBelow, grows_settled, has_settled_growth, is_settled_growth, known_end, leaves_roots, leaves_settled, roots_came, staying}
-use Rattle.sf_search.specs.Internal.Settled.{IsFirstSettled, IsSettled, keeps_settled}
+use Rattle.sf_search.specs.Internal.Growth.{IsFirstKnown, IsKnown, IsOpenedFree, came_bare, grown_bare, grown_roots, grows_settled, has_no_cells, has_settled_growth, is_settled_growth, known_end, leaves_bare, leaves_roots, leaves_settled, roots_came, staying}
+use Rattle.sf_search.specs.Internal.Settled.{IsFirstPossible, IsFirstSettled, IsSettled, keeps_settled, leaves_possible}
 use Rattle.sf_search.specs.Strategy.{chooses, takes}
 use Rattle.sf_sym.specs.Cells.{atom_at, apart_from_nil, with_atom, with_cell, without}
 use Rattle.sf_sym.specs.declared.atom.Atom.{Atom}
@@ -42,9 +44,9 @@ use Rattle.sf_sym.specs.declared.term.Term.TheVariants.{Nil, Sym}
 use Rattle.sf_sym.specs.Equalities.{assumed_apart, assumed_equal, numbered_with, put_for, which_goes, with_one}
 use Rattle.sf_sym.specs.Fields.{put_term}
 use Rattle.sf_sym.specs.Goal.{Goal, Item, at_state, run, add}
-use Rattle.sf_sym.specs.Known.{ends}
+use Rattle.sf_sym.specs.Known.{ends, is_nothing}
 use Rattle.sf_sym.specs.State.{State, with_symbols}
-use Rattle.sf_sym.specs.Tests.{differs, same_term}
+use Rattle.sf_sym.specs.Tests.{differs, root, same_term}
 
 -- the parts and the pairs of the one state are those of the other, with some behind them
 record Grown (s now : State) : Type 0 where
@@ -198,18 +200,18 @@ added-grows s p b (tree q left right x) cs rest g e =
 added-grows s p b (choose q test this that) cs rest g e = absurd (cc)
 
 -- What is left
--- where the parts begin below that number, and the growth is settled, the state is settled where that one was, and its
--- parts begin below the number that is worked out
+-- where that is known, and the growth is settled, the state is settled where that one was, and what is worked out is so
 abbrev GrownFrom : State → Size → State → Type 0
-GrownFrom s n now = RootsBelow n.roots s.atoms s.taken → has_settled_growth n now ≡ true
-    → (IsSettled s → IsSettled now) × RootsBelow (roots_came n now) now.atoms now.taken
+GrownFrom s n now = IsKnown n.roots n.bare s → has_settled_growth n now ≡ true
+    → (IsSettled s → IsSettled now) × IsKnown (roots_came n now) (came_bare n now) now
 
 -- a goal is left first, of whose state that is so
 abbrev GrowsTo : State → Size → List Goal → Type 0
 GrowsTo s n left = (h : Goal) × (others : List Goal) × (left ≡ h ∷ others) × GrownFrom s n h.state
 
-abbrev size : Option ℕ → State → Size
-size roots s = record { atoms = length s.atoms; pairs = length s.apart; roots = roots }
+abbrev size : Option ℕ → Bool → State → Size
+size roots bare s =
+    record { atoms = length s.atoms; pairs = length s.apart; roots = roots; bare = bare; opened = None }
 
 -- where nothing came there is no growth
 none-came : (k m : ℕ) (n : Size) → k ≡ n.atoms → m ≡ n.pairs → nat_lt n.atoms k || nat_lt n.pairs m ≡ false
@@ -219,9 +221,9 @@ none-came k m n e f =
     not-less : (a : ℕ) → nat_lt a a ≡ false
     not-less a = search (arith)
 
-no-growth : (roots : Option ℕ) (s now : State) → AsMany s now → has_settled_growth (size roots s) now ≡ true → ⊥
-no-growth roots s now many so =
-    let n = size roots s in
+no-growth : (roots : Option ℕ) (bare : Bool) (s now : State) → AsMany s now → has_settled_growth (size roots bare s) now ≡ true → ⊥
+no-growth roots bare s now many so =
+    let n = size roots bare s in
     let a = and_parts
     (nat_le n.atoms (length now.atoms) && nat_le n.pairs (length now.apart)
     && (nat_lt n.atoms (length now.atoms) || nat_lt n.pairs (length now.apart)))
@@ -231,41 +233,45 @@ no-growth roots s now many so =
     let never = none-came (length now.atoms) (length now.apart) n many.atoms many.apart in
     let one : true ≡ false = sym c.1 ∙ never in absurd (cc)
 
-grown-to : (roots : Option ℕ) (s now : State) → Grown s now → GrownFrom s (size roots s) now
-grown-to roots s now grown = λ below so. (
-  grown-settled s now (size roots s) grown.came grown.differ grown.atoms grown.taken refl below grown.apart refl so,
-  grown-roots s now (size roots s) grown.came grown.differ grown.atoms grown.taken refl below,
-)
+grown-to : (roots : Option ℕ) (bare : Bool) (s now : State) → Grown s now → GrownFrom s (size roots bare s) now
+grown-to roots bare s now grown = λ about so.
+    let n = size roots bare s in (
+      grown-settled s now n grown.came grown.differ grown.atoms grown.taken refl about tt grown.apart refl so,
+      (
+        grown-roots s now n grown.came grown.differ grown.atoms grown.taken refl about tt,
+        grown-bare s now n grown.came grown.differ grown.atoms grown.taken refl about tt,
+      ),
+    )
 
-grows-to : (roots : Option ℕ) (s now : State) → Grows s now → GrownFrom s (size roots s) now
-grows-to roots s now (inl many) = λ below so. absurd (no-growth roots s now many so)
-grows-to roots s now (inr grown) = grown-to roots s now grown
+grows-to : (roots : Option ℕ) (bare : Bool) (s now : State) → Grows s now → GrownFrom s (size roots bare s) now
+grows-to roots bare s now (inl many) = λ about so. absurd (no-growth roots bare s now many so)
+grows-to roots bare s now (inr grown) = grown-to roots bare s now grown
 
-add-grows : (roots : Option ℕ) (s : State) (todo : List Item) (left : List Goal) → at_add (assume_row s) todo ≡ Some left
-    → GrowsTo s (size roots s) left
-add-grows roots s (add p given ∷ rest) left e =
+add-grows : (roots : Option ℕ) (bare : Bool) (s : State) (todo : List Item) (left : List Goal) → at_add (assume_row s) todo ≡ Some left
+    → GrowsTo s (size roots bare s) left
+add-grows roots bare s (add p given ∷ rest) left e =
     let r = option_map-some (λ g. g ∷ []) (add_first s p given.bindings given.conjuncts rest) left
     (few-left _ _ left e) in
-    (r.0, [], r.2, grows-to roots s r.0.state (go given.conjuncts r.1))
+    (r.0, [], r.2, grows-to roots bare s r.0.state (go given.conjuncts r.1))
   where
     go : (cs : Conjuncts Term) {g : Goal} → add_first s p given.bindings cs rest ≡ Some g → Grows s g.state
     go none i = absurd (cc)
     go (also c cs) {g} i = added-grows s p given.bindings c cs rest g i
-add-grows roots s _ left e = absurd (cc)
+add-grows roots bare s _ left e = absurd (cc)
 
-new-grows : (roots : Option ℕ) (s : State) (todo : List Item) (left : List Goal) → at_command (new_row s) todo ≡ Some left
-    → GrowsTo s (size roots s) left
-new-grows roots s (run (new p x) ∷ rest) left e =
+new-grows : (roots : Option ℕ) (bare : Bool) (s : State) (todo : List Item) (left : List Goal) → at_command (new_row s) todo ≡ Some left
+    → GrowsTo s (size roots bare s) left
+new-grows roots bare s (run (new p x) ∷ rest) left e =
     let fresh = Sym s.next_sym in
     let before = with_var x.var fresh (with_symbols 1 s) in
     let h : Goal = record { state = with_cell before fresh []; todo = rest } in (
       h,
       [],
       sym (same_Some (h ∷ []) left e),
-      grown-to roots s h.state
+      grown-to roots bare s h.state
           (then-grown s before h.state (record { atoms = refl; apart = refl; taken = refl }) (cell-grown before fresh [])),
     )
-new-grows roots s _ left e = absurd (cc)
+new-grows roots bare s _ left e = absurd (cc)
 
 -- an atom that is there is one of so many
 length-without : (xs : List Numbered) (a : ℕ) (x : Atom) → atom_at xs a ≡ Some x → suc (length (without xs a)) ≡ length xs
@@ -312,132 +318,188 @@ unrolled-grown links (Tree t) s now e = go links.l links.r e
         (atom-grown (Tree one) b))
         (atom-grown (Tree two) c))
 
--- what is left begins where it began
-begin-without : (end a : ℕ) (xs : List Numbered) → BeginBelow end xs → BeginBelow end (without xs a)
-begin-without end a [] all = tt
-begin-without end a (x ∷ xs) all = go (x.number == a) (begin-without end a xs all.1)
-  where
-    go : (b : Bool) → BeginBelow end (without xs a) → BeginBelow end (cond b xs (x ∷ without xs a))
-    go true rest = all.1
-    go false rest = (all.0, rest)
+abbrev less : Option ℕ → ℕ → State → Size
+less roots a s = record {
+  atoms = length s.atoms - 1;
+  pairs = length s.apart;
+  roots = roots;
+  bare = false;
+  opened = option_map root (atom_at s.atoms a);
+}
 
-roots-without : (roots : Option ℕ) (a : ℕ) (atoms taken : List Numbered) → RootsBelow roots atoms taken
-    → RootsBelow roots (without atoms a) taken
-roots-without None a atoms taken below = tt
-roots-without (Some end) a atoms taken below = (begin-without end a atoms below.0, below.1)
+-- the part is unrolled where no other begins
+unrolled-free : (s : State) (a : ℕ) (x : Atom) (e : Term × Term) → IsSettled s → Numbers s
+    → atom_at s.atoms a ≡ Some x → ends x ≡ Some e → differs s e.0 e.1 ≡ true
+    → IsOpenedFree (option_map root (atom_at s.atoms a)) (without s.atoms a)
+unrolled-free s a x e known numbered there is apart =
+    subst (λ o. IsOpenedFree (option_map root o) (without s.atoms a)) (sym there)
+    (unrolled-unused s a x e known numbered there is apart)
 
-abbrev less : Option ℕ → State → Size
-less roots s = record { atoms = length s.atoms - 1; pairs = length s.apart; roots = roots }
-
-unroll-grows : (roots : Option ℕ) (g : Goal) (a : ℕ) (left : List Goal) → unroll_row g a ≡ Some left
-    → GrowsTo g.state (less roots g.state) left
-unroll-grows roots g a left e =
+unroll-grows : (roots : Option ℕ) (g : Goal) (a : ℕ) (left : List Goal) → IsSettled g.state → Numbers g.state
+    → unroll_row g a ≡ Some left → GrowsTo g.state (less roots a g.state) left
+unroll-grows roots g a left known numbered e =
     option_and_then_some (unroll_one g a) (atom_at g.state.atoms a) left e
     (λ x there i. option_and_then_some _ (ends x) left i
-    (λ ends j k. go x there (differs g.state ends.0 ends.1) k))
+    (λ ends j k. go x there ends j (differs g.state ends.0 ends.1) refl k))
   where
     s : State
     s = record g.state { atoms = without g.state.atoms a }
 
-    go : (x : Atom) → atom_at g.state.atoms a ≡ Some x → (b : Bool)
+    go : (x : Atom) → atom_at g.state.atoms a ≡ Some x → (e : Term × Term) → ends x ≡ Some e
+        → (b : Bool) → differs g.state e.0 e.1 ≡ b
         → cond b (option_map (λ now. at_state g now ∷ []) (unrolled g.state.links x s)) None ≡ Some left
-        → GrowsTo g.state (less roots g.state) left
-    go x there true i =
+        → GrowsTo g.state (less roots a g.state) left
+    go x there e is true apart i =
         let r = option_map-some (λ now. at_state g now ∷ []) (unrolled g.state.links x s) left i in
         let grown = unrolled-grown g.state.links x s r.0 r.1 in
         let fewer = length-without g.state.atoms a x there in
         let count : length (without g.state.atoms a) ≡ length g.state.atoms - 1 = omega (arith, fewer) in
-        let n = less roots g.state in (
+        let free = unrolled-free g.state a x e known numbered there is apart in
+        let n = less roots a g.state in (
           at_state g r.0,
           [],
           r.2,
-          λ below so.
-              let here = roots-without roots a g.state.atoms g.state.taken below in (
-                λ known. grown-settled s r.0 n grown.came grown.differ grown.atoms grown.taken count here grown.apart refl so
+          λ about so.
+              let here : IsKnown roots false s =
+              (roots-without roots a g.state.atoms g.state.taken about.0, λ never. absurd (cc)) in (
+                λ known. grown-settled s r.0 n grown.came grown.differ grown.atoms grown.taken count here free grown.apart
+                    refl so
                     (fewer_settled g.state s refl (without-fewer g.state.atoms a) (all-fewer g.state.taken) known),
-                grown-roots s r.0 n grown.came grown.differ grown.atoms grown.taken count here,
+                (
+                  grown-roots s r.0 n grown.came grown.differ grown.atoms grown.taken count here free,
+                  grown-bare s r.0 n grown.came grown.differ grown.atoms grown.taken count here free,
+                ),
               ),
         )
-    go x there false i = absurd (cc)
+    go x there e is false apart i = absurd (cc)
 
 -- The whole table
-row_of-grows : (d : Setting) (g : Goal) (tag : Tag) (roots : Option ℕ) (left : List Goal) (n : Size)
-    → staying tag roots g.state ≡ Some n → row_of d g tag ≡ Some left → GrowsTo g.state n left
-row_of-grows d g t.Add roots left n k e =
+row_of-grows : (d : Setting) (g : Goal) (tag : Tag) (roots : Option ℕ) (bare : Bool) (left : List Goal) (n : Size)
+    → IsSettled g.state → Numbers g.state → staying tag roots bare g.state ≡ Some n → row_of d g tag ≡ Some left → GrowsTo g.state n left
+row_of-grows d g t.Add roots bare left n known numbered k e =
     let end = known_end roots g.state in
-    subst (λ z. GrowsTo g.state z left) (same_Some (size end g.state) n k) (add-grows end g.state g.todo left e)
-row_of-grows d g t.New roots left n k e =
+    let none = bare || has_no_cells g.state in
+    subst (λ z. GrowsTo g.state z left) (same_Some (size end none g.state) n k)
+    (add-grows end none g.state g.todo left e)
+row_of-grows d g t.New roots bare left n known numbered k e =
     let end = known_end roots g.state in
-    subst (λ z. GrowsTo g.state z left) (same_Some (size end g.state) n k) (new-grows end g.state g.todo left e)
-row_of-grows d g (t.Unroll a) roots left n k e =
+    let none = bare || has_no_cells g.state in
+    subst (λ z. GrowsTo g.state z left) (same_Some (size end none g.state) n k)
+    (new-grows end none g.state g.todo left e)
+row_of-grows d g (t.Unroll a) roots bare left n known numbered k e =
     let end = known_end roots g.state in
-    subst (λ z. GrowsTo g.state z left) (same_Some (less end g.state) n k) (unroll-grows end g a left e)
-row_of-grows d g _ roots left n k e = absurd (cc)
+    subst (λ z. GrowsTo g.state z left) (same_Some (less end a g.state) n k)
+    (unroll-grows end g a left known numbered e)
+row_of-grows d g _ roots bare left n known numbered k e = absurd (cc)
 
--- what stays has the number that is known
-staying-roots : (tag : Tag) (roots : Option ℕ) (s : State) (n : Size) → staying tag roots s ≡ Some n
-    → n.roots ≡ known_end roots s
-staying-roots t.Add roots s n k = ap (λ z. z.roots) (sym (same_Some (size (known_end roots s) s) n k))
-staying-roots t.New roots s n k = ap (λ z. z.roots) (sym (same_Some (size (known_end roots s) s) n k))
-staying-roots (t.Unroll a) roots s n k = ap (λ z. z.roots) (sym (same_Some (less (known_end roots s) s) n k))
-staying-roots _ roots s n k = absurd (cc)
+-- what is known of what stays
+staying-known : (tag : Tag) (roots : Option ℕ) (bare : Bool) (s : State) (n : Size) → staying tag roots bare s ≡ Some n
+    → IsKnown roots bare s → IsKnown n.roots n.bare s
+staying-known t.Add roots bare s n k about =
+    subst (λ z. IsKnown z.roots z.bare s)
+    (same_Some (size (known_end roots s) (bare || has_no_cells s) s) n k) (known-more roots bare s about)
+staying-known t.New roots bare s n k about =
+    subst (λ z. IsKnown z.roots z.bare s)
+    (same_Some (size (known_end roots s) (bare || has_no_cells s) s) n k) (known-more roots bare s about)
+staying-known (t.Unroll a) roots bare s n k about =
+    let none : IsKnown (known_end roots s) false s = (known-end roots bare s about, λ never. absurd (cc)) in
+    subst (λ z. IsKnown z.roots z.bare s) (same_Some (less (known_end roots s) a s) n k) none
+staying-known _ roots bare s n k about = absurd (cc)
 
 -- nothing is said of the first goal
-no-roots : (gs : List Goal) → IsFirstBelow None gs
-no-roots [] = tt
-no-roots (g ∷ gs) = tt
+none-known : (gs : List Goal) → IsFirstKnown None false gs
+none-known [] = tt
+none-known (g ∷ gs) = (tt, λ never. absurd (cc))
 
-module _ (d : Setting) (g : Goal) (gs : List Goal) (tag : Tag) (roots : Option ℕ) (left : List Goal)
-    (below : RootsBelow roots g.state.atoms g.state.taken) (chosen : chooses g ≡ takes tag)
+module _ (d : Setting) (g : Goal) (gs : List Goal) (tag : Tag) (roots : Option ℕ) (bare : Bool) (left : List Goal)
+    (about : IsKnown roots bare g.state) (numbered : Numbers g.state) (chosen : chooses g ≡ takes tag)
     (e : row d g tag ≡ Some left) where
+  taken-row : row_of d g tag ≡ Some left
+  taken-row = if-so (has_numbers g.state) (row_of d g tag) left e
+
+  -- where something stays the state was settled
+  stays-settled : (n : Size) → staying tag roots bare g.state ≡ Some n → IsSettled g.state
+  stays-settled n k =
+      settled-by (λ z. is_some (staying z roots bare g.state)) refl (λ a. refl) (λ a. refl) g tag chosen (ap is_some k)
+
   -- a goal is left first, of whose state that is so
-  left-grows : (n : Size) → staying tag roots g.state ≡ Some n
+  left-grows : (n : Size) → staying tag roots bare g.state ≡ Some n
       → (h : Goal) × (others : List Goal) × (left ≡ h ∷ others)
       × (has_settled_growth n h.state ≡ true
-      → (IsSettled g.state → IsSettled h.state) × RootsBelow (roots_came n h.state) h.state.atoms h.state.taken)
+      → (IsSettled g.state → IsSettled h.state) × IsKnown (roots_came n h.state) (came_bare n h.state) h.state)
   left-grows n k =
-      let r = row_of-grows d g tag roots left n k (if-so (has_numbers g.state) (row_of d g tag) left e) in
-      let here = subst (λ o. RootsBelow o g.state.atoms g.state.taken) (sym (staying-roots tag roots g.state n k))
-      (end-known roots g.state below) in
-      (r.0, r.1, r.2, r.3 here)
+      let r = row_of-grows d g tag roots bare left n (stays-settled n k) numbered k taken-row in
+      (r.0, r.1, r.2, r.3 (staying-known tag roots bare g.state n k about))
 
   -- after a tag that the strategy takes the next goal is settled, where that is said
-  pub first_left_settled : IsFirstSettled (leaves_settled tag (staying tag roots g.state) left) (left ++ gs)
-  first_left_settled = go (keeps_settled tag) refl (staying tag roots g.state) refl
+  pub first_left_settled : IsFirstSettled (leaves_settled tag (staying tag roots bare g.state) left) (left ++ gs)
+  first_left_settled = go (keeps_settled tag) refl (staying tag roots bare g.state) refl
     where
-      known : (n : Size) → staying tag roots g.state ≡ Some n → IsSettled g.state
-      known n k =
-          settled-by (λ z. is_some (staying z roots g.state)) refl (λ a. refl) (λ a. refl) g tag chosen (ap is_some k)
-
-      grows : (n : Size) → staying tag roots g.state ≡ Some n → (b : Bool) → grows_settled (Some n) left ≡ b
+      grows : (n : Size) → staying tag roots bare g.state ≡ Some n → (b : Bool) → grows_settled (Some n) left ≡ b
           → IsFirstSettled b (left ++ gs)
       grows n k false f = unsettled (left ++ gs)
       grows n k true f =
           let r = left-grows n k in
           let so : has_settled_growth n r.0.state ≡ true = sym (ap (grows_settled (Some n)) r.2) ∙ f in
-          subst (λ zs. IsFirstSettled true (zs ++ gs)) (sym r.2) (λ i. (r.3 so).0 (known n k))
+          subst (λ zs. IsFirstSettled true (zs ++ gs)) (sym r.2) (λ i. (r.3 so).0 (stays-settled n k))
 
-      go : (b : Bool) → keeps_settled tag ≡ b → (o : Option Size) → staying tag roots g.state ≡ o
+      go : (b : Bool) → keeps_settled tag ≡ b → (o : Option Size) → staying tag roots bare g.state ≡ o
           → IsFirstSettled (b || grows_settled o left) (left ++ gs)
       go true k o i = subst (λ b. IsFirstSettled b (left ++ gs)) k (first_settled d g gs tag left chosen e)
       go false k None i = unsettled (left ++ gs)
       go false k (Some n) i = grows n i (grows_settled (Some n) left) refl
 
-  -- and its parts begin at symbols below a number, where one is told
-  pub first_left_below : IsFirstBelow (leaves_roots (staying tag roots g.state) left) (left ++ gs)
-  first_left_below = go (staying tag roots g.state) refl
+  -- it isn't absurd, where that is said
+  pub first_left_possible : IsFirstPossible (leaves_possible tag) (left ++ gs)
+  first_left_possible = go tag chosen taken-row
     where
-      grows : (n : Size) → staying tag roots g.state ≡ Some n → IsFirstBelow (leaves_roots (Some n) left) (left ++ gs)
+      unsaid : (zs : List Goal) → IsFirstPossible false zs
+      unsaid [] = tt
+      unsaid (z ∷ zs) = λ i. absurd (cc)
+
+      go : (z : Tag) → chooses g ≡ takes z → row_of d g z ≡ Some left → IsFirstPossible (leaves_possible z) (left ++ gs)
+      go (t.Drop a) chosen e =
+          option_and_then_some _ (atom_at g.state.atoms a) left e (λ x there i. dropped x i)
+        where
+          now : State
+          now = record g.state { atoms = without g.state.atoms a }
+
+          dropped : (x : Atom) → cond (is_nothing x) (Some (at_state g now ∷ [])) None ≡ Some left
+              → IsFirstPossible true (left ++ gs)
+          dropped x i =
+              let same = cond_some (is_nothing x) (at_state g now ∷ []) left i in
+              subst (λ zs. IsFirstPossible true (zs ++ gs)) same.1
+              (λ so. fewer_possible g.state now refl (without-fewer g.state.atoms a) (all-fewer g.state.taken)
+              (dropped_possible g a chosen))
+      go _ chosen e = unsaid (left ++ gs)
+
+  -- and what is told of its parts is so
+  pub first_left_known : IsFirstKnown (leaves_roots tag roots (staying tag roots bare g.state) left)
+      (leaves_bare tag bare (staying tag roots bare g.state) left) (left ++ gs)
+  first_left_known = keeps (keeps_settled tag) refl
+    where
+      when : (n : Size) (now : State) (b : Bool)
+          → (b ≡ true → IsKnown (roots_came n now) (came_bare n now) now)
+          → IsKnown (cond b (roots_came n now) None) (b && came_bare n now) now
+      when n now true so = so refl
+      when n now false so = (tt, λ never. absurd (cc))
+
+      grows : (n : Size) → staying tag roots bare g.state ≡ Some n
+          → IsFirstKnown (grown_roots (Some n) left) (grown_bare (Some n) left) (left ++ gs)
       grows n k =
           let r = left-grows n k in
-          subst (λ zs. IsFirstBelow (leaves_roots (Some n) zs) (zs ++ gs)) (sym r.2)
-          (when r.0.state (has_settled_growth n r.0.state) (λ so. (r.3 so).1))
-        where
-          when : (now : State) (b : Bool) → (b ≡ true → RootsBelow (roots_came n now) now.atoms now.taken)
-              → RootsBelow (cond b (roots_came n now) None) now.atoms now.taken
-          when now true so = so refl
-          when now false so = tt
+          subst (λ zs. IsFirstKnown (grown_roots (Some n) zs) (grown_bare (Some n) zs) (zs ++ gs)) (sym r.2)
+          (when n r.0.state (has_settled_growth n r.0.state) (λ so. (r.3 so).1))
 
-      go : (o : Option Size) → staying tag roots g.state ≡ o → IsFirstBelow (leaves_roots o left) (left ++ gs)
-      go None i = no-roots (left ++ gs)
+      go : (o : Option Size) → staying tag roots bare g.state ≡ o
+          → IsFirstKnown (grown_roots o left) (grown_bare o left) (left ++ gs)
+      go None i = none-known (left ++ gs)
       go (Some n) i = grows n i
+
+      keeps : (b : Bool) → keeps_settled tag ≡ b
+          → IsFirstKnown (cond b roots (grown_roots (staying tag roots bare g.state) left))
+          (cond b bare (grown_bare (staying tag roots bare g.state) left)) (left ++ gs)
+      keeps true k =
+          let kept = row_of-kept (IsKnown roots bare) (known-stays roots bare) d g tag left k taken-row in
+          subst (λ zs. IsFirstKnown roots bare (zs ++ gs)) (sym kept.2) (kept.3 about)
+      keeps false k = go (staying tag roots bare g.state) refl

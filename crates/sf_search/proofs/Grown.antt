@@ -1,7 +1,7 @@
 -- A state with pairs and parts behind the others, none of them at a place of those: what is settled stays so.
 -- Names: `pair-LAW` of one pair more, `part-LAW` and `bare-LAW` of one part more, `LAW-settled` of states, `end-LAW` of a number above
 -- the symbols at which parts begin, `clear-LAW` of a term at which none begins by it.
-use Rattle.std.proofs.Common.{◌≡◌, ℕ, ◌+◌, ◌≤◌, ◌==◌, Bool, true, false, ◌&&◌, ◌||◌, not, cond, nat_le, nat_lt, Option, Some, None, List, [], ◌∷◌, ◌++◌, length, take, drop, map, refl, sym, ap, ap₂, ◌∙◌, subst, append_assoc, arith}
+use Rattle.std.proofs.Common.{◌≡◌, ℕ, suc, ◌+◌, ◌≤◌, ◌==◌, Bool, true, false, ◌&&◌, ◌||◌, not, cond, nat_le, nat_lt, Option, Some, None, List, [], ◌∷◌, ◌++◌, length, take, drop, map, refl, sym, ap, ap₂, ◌∙◌, subst, append_assoc, arith}
 use Rattle.std.specs.List.{AllByRecursion, list_all, list_any}
 use Rattle.std.specs.Option.{option_and_then, option_map}
 use Rattle.std.proofs.lemmas.Bool.{and_parts, or_parts}
@@ -15,7 +15,7 @@ use Rattle.sf_search.proofs.Fewer.{any-moved, lower-none, or-still, repeat-last,
 use Rattle.sf_search.proofs.Lowest.{lowest_append}
 use Rattle.sf_search.proofs.Settled.{forced-stripped, settled-same, stripped}
 use Rattle.sf_search.specs.declared.choices.growth.Size.{Size}
-use Rattle.sf_search.specs.Internal.Growth.{BeginBelow, RootsBelow, are_alone, end_of, has_settled_growth, is_alone, is_bare, is_clear, is_free, is_free_before, is_free_pair, is_settled_growth, is_symbol_below, is_unused, known_end, next_end, roots_came}
+use Rattle.sf_search.specs.Internal.Growth.{BeginBelow, IsKnown, IsOpenedFree, RootsBelow, are_alone, came_bare, end_of, has_no_cells, has_points, has_settled_growth, is_alone, is_bare, is_clear, is_free, is_free_before, is_free_pair, is_opened, is_points, is_settled_growth, is_symbol_below, is_uncovered, is_unused, known_end, next_end, roots_came}
 use Rattle.sf_search.specs.Internal.Settled.{IsSettled}
 use Rattle.sf_search.specs.Strategy.{forced_ends, lower, lowest_forced, which}
 use Rattle.sf_sym.specs.declared.atom.Atom.{Atom}
@@ -24,6 +24,7 @@ use Rattle.sf_sym.specs.declared.atom.Numbered.{Numbered}
 use Rattle.sf_sym.specs.declared.term.Term.{Term}
 use Rattle.sf_sym.specs.declared.term.Term.TheVariants.{Nil, Int, Sym}
 use Rattle.sf_sym.specs.Known.{is_nothing}
+use Rattle.sf_sym.specs.Lemmas.{same_term_is}
 use Rattle.sf_sym.specs.State.{State}
 use Rattle.sf_sym.specs.Tests.{allocated, allocates, differs_at_once, has_cell, has_repeat, is_constant, is_impossible, is_integer_tree, is_left_out, is_pair, parts, root, same_term}
 
@@ -32,7 +33,7 @@ or-none : (b : Bool) → b || false ≡ b
 or-none true = refl
 or-none false = refl
 
-and-none : (b : Bool) → b && false ≡ false
+pub and-none : (b : Bool) → b && false ≡ false
 and-none true = refl
 and-none false = refl
 
@@ -45,10 +46,10 @@ no-pair a b c d e f = ap₂ (λ x y. x && b || c && y) e f ∙ and-none c
 
 -- Lists of parts
 -- a part begins at the term
-abbrev begins : Term → Numbered → Bool
+abbrev pub begins : Term → Numbered → Bool
 begins t a = same_term (root a.atom) t
 
-any-less : (p q : Numbered → Bool) → ((a : Numbered) → q a ≡ false → p a ≡ false) → (xs : List Numbered)
+pub any-less : (p q : Numbered → Bool) → ((a : Numbered) → q a ≡ false → p a ≡ false) → (xs : List Numbered)
     → list_any q xs ≡ false → list_any p xs ≡ false
 any-less p q less [] e = refl
 any-less p q less (x ∷ xs) e =
@@ -251,7 +252,7 @@ module _ (s : State) (x : Numbered) (constant : is_constant (root x.atom) ≡ fa
   }
 
 -- One part more at a place of others, where nothing has a cell
-same-self : (t : Term) → same_term t t ≡ true
+pub same-self : (t : Term) → same_term t t ≡ true
 same-self Nil = refl
 same-self (Int i) = (Decides-int_eq i i).1 refl
 same-self (Sym n) = (Decides-eqb n n).1 refl
@@ -331,19 +332,74 @@ module _ (s : State) (x : Numbered) (constant : is_constant (root x.atom) ≡ fa
     none_forced = bare-forced s.atoms known.none_forced;
   }
 
--- the one part that came is such a one, by a test of the state that has it
-one-bare : (s now : State) (xs : List Numbered) → now.atoms ≡ s.atoms ++ xs → now.apart ≡ s.apart
-    → now.taken ≡ s.taken → is_bare now xs ≡ true → IsSettled s → IsSettled (record s { atoms = s.atoms ++ xs })
-one-bare s now [] atoms apart taken e known = absurd (cc)
-one-bare s now (x ∷ y ∷ zs) atoms apart taken e known = absurd (cc)
-one-bare s now (x ∷ []) atoms apart taken e known =
-    let symbol = and_parts (not (is_constant (root x.atom)))
-    (not (is_nothing x.atom) && not (allocated now (root x.atom) None)) e in
-    let some = and_parts (not (is_nothing x.atom)) (not (allocated now (root x.atom) None)) symbol.1 in
-    let same : allocated (record s { atoms = s.atoms ++ x ∷ [] }) (root x.atom) None ≡ allocated now (root x.atom) None =
-    λ i. list_any (λ a. allocates (sym apart i) (root x.atom) a.atom) (sym atoms i ++ sym taken i) in
-    bare-settled s x (not-so (is_constant (root x.atom)) symbol.0) (not-so (is_nothing x.atom) some.0)
-    (same ∙ not-so (allocated now (root x.atom) None) some.1) known
+-- where no terms differ and no part is a cell, none has a cell at a symbol
+no-pairs : (ps : List (Term × Term)) → (length ps == 0) ≡ true → ps ≡ []
+no-pairs [] e = refl
+no-pairs (p ∷ ps) e = let none : suc (length ps) ≡ 0 = (Decides-eqb (suc (length ps)) 0).0 e in absurd (omega (arith, none))
+
+no-cell : (r : Term) (a : Atom) → is_constant r ≡ false → is_points a ≡ false → allocates [] r a ≡ false
+no-cell Nil a e f = absurd (cc)
+no-cell (Int i) a e f = absurd (cc)
+no-cell (Sym m) (Points t fields) e f = absurd (cc)
+no-cell (Sym m) (Ls Nil u) e f = refl
+no-cell (Sym m) (Ls (Int i) u) e f = refl
+no-cell (Sym m) (Ls (Sym k) u) e f = and-none (k == m)
+no-cell (Sym m) (Tree Nil) e f = refl
+no-cell (Sym m) (Tree (Int i)) e f = refl
+no-cell (Sym m) (Tree (Sym k)) e f = and-none (k == m)
+
+-- what is known of the parts of a state
+abbrev pub NoPoints : State → Type 0
+NoPoints s = (has_points s.atoms ≡ false) × (has_points s.taken ≡ false)
+
+pub no-points : (s : State) → has_no_cells s ≡ true → NoPoints s
+no-points s e =
+    let a = and_parts (length s.apart == 0) (not (has_points s.atoms) && not (has_points s.taken)) e in
+    let b = and_parts (not (has_points s.atoms)) (not (has_points s.taken)) a.1 in
+    (not-so (has_points s.atoms) b.0, not-so (has_points s.taken) b.1)
+
+-- the one part that came has no cell and is where none is, by a test of the state that has it
+module _ (s now : State) (bare : Bool) (apart : now.apart ≡ s.apart) (taken : now.taken ≡ s.taken)
+    (points : bare ≡ true → NoPoints s) where
+  uncovered : (x : Numbered) → now.atoms ≡ s.atoms ++ x ∷ [] → is_constant (root x.atom) ≡ false
+      → is_uncovered bare now x ≡ true
+      → allocated (record s { atoms = s.atoms ++ x ∷ [] }) (root x.atom) None ≡ false
+  uncovered x atoms constant e = go (bare && ((length now.apart == 0) && not (is_points x.atom))) refl e
+    where
+      new : State
+      new = record s { atoms = s.atoms ++ x ∷ [] }
+
+      go : (b : Bool) → bare && ((length now.apart == 0) && not (is_points x.atom)) ≡ b
+          → b || not (allocated now (root x.atom) None) ≡ true → allocated new (root x.atom) None ≡ false
+      go true so i =
+          let a = and_parts bare ((length now.apart == 0) && not (is_points x.atom)) so in
+          let b = and_parts (length now.apart == 0) (not (is_points x.atom)) a.1 in
+          let none = sym apart ∙ no-pairs now.apart b.0 in
+          let others = points a.0 in
+          let all : has_points (parts new) ≡ false =
+          part-any s x (λ a. is_points a.atom)
+          ∙ or-still (has_points (parts s)) (is_points x.atom)
+          (list_any-append (λ a. is_points a.atom) s.atoms s.taken
+          ∙ or-still (has_points s.atoms) (has_points s.taken) others.0 others.1)
+          (not-so (is_points x.atom) b.1) in
+          ap (λ ps. list_any (λ a. allocates ps (root x.atom) a.atom) (parts new)) none
+          ∙ any-less (λ a. allocates [] (root x.atom) a.atom) (λ a. is_points a.atom)
+          (λ a. no-cell (root x.atom) a.atom constant) (parts new) all
+      go false so i =
+          let same : allocated new (root x.atom) None ≡ allocated now (root x.atom) None =
+          λ i. list_any (λ a. allocates (sym apart i) (root x.atom) a.atom) (sym atoms i ++ sym taken i) in
+          same ∙ not-so (allocated now (root x.atom) None) i
+
+  one-bare : (xs : List Numbered) → now.atoms ≡ s.atoms ++ xs → is_bare bare now xs ≡ true → IsSettled s
+      → IsSettled (record s { atoms = s.atoms ++ xs })
+  one-bare [] atoms e known = absurd (cc)
+  one-bare (x ∷ y ∷ zs) atoms e known = absurd (cc)
+  one-bare (x ∷ []) atoms e known =
+      let symbol = and_parts (not (is_constant (root x.atom)))
+      (not (is_nothing x.atom) && is_uncovered bare now x) e in
+      let some = and_parts (not (is_nothing x.atom)) (is_uncovered bare now x) symbol.1 in
+      let constant = not-so (is_constant (root x.atom)) symbol.0 in
+      bare-settled s x constant (not-so (is_nothing x.atom) some.0) (uncovered x atoms constant some.1) known
 
 -- Many of them
 pairs-settled : (s : State) (qs : List (Term × Term)) → list_all (is_free_pair (is_free s.atoms s.taken)) qs ≡ true
@@ -441,15 +497,34 @@ clear-unused end t (x ∷ xs) all e =
     or-still (begins t x) (list_any (begins t) xs) (clear-other end (root x.atom) t all.0 e)
     (clear-unused end t xs all.1 e)
 
-clear-free : (roots : Option ℕ) (atoms taken : List Numbered) → RootsBelow roots atoms taken → (t : Term)
-    → is_free_before roots atoms taken t ≡ true → is_free atoms taken t ≡ true
-clear-free None atoms taken below t e = e
-clear-free (Some end) atoms taken below t e = go (is_clear (Some end) t) refl e
+-- none begins where a part was unrolled
+opened-unused : (opened : Option Term) (atoms taken : List Numbered) (t : Term) → IsOpenedFree opened atoms
+    → (is_opened opened t || is_unused atoms t) && is_unused taken t ≡ true → is_free atoms taken t ≡ true
+opened-unused None atoms taken t free e = e
+opened-unused (Some u) atoms taken t free e = go (same_term u t) refl e
   where
-    go : (b : Bool) → is_clear (Some end) t ≡ b → b || is_free atoms taken t ≡ true → is_free atoms taken t ≡ true
+    go : (b : Bool) → same_term u t ≡ b → (b || is_unused atoms t) && is_unused taken t ≡ true
+        → is_free atoms taken t ≡ true
     go true i j =
-        ap₂ (λ x y. not x && not y) (clear-unused end t atoms below.0 i) (clear-unused end t taken below.1 i)
+        let same : u ≡ t = same_term_is u t i in
+        ap₂ (λ x y. x && y) (subst (λ v. is_unused atoms v ≡ true) same free) j
     go false i j = j
+
+clear-free : (n : Size) (atoms taken : List Numbered) → RootsBelow n.roots atoms taken → IsOpenedFree n.opened atoms
+    → (t : Term) → is_free_before n atoms taken t ≡ true → is_free atoms taken t ≡ true
+clear-free n atoms taken below opened t e = go n.roots below e
+  where
+    more : (end : ℕ) → RootsBelow (Some end) atoms taken → (b : Bool) → is_clear (Some end) t ≡ b
+        → b || ((is_opened n.opened t || is_unused atoms t) && is_unused taken t) ≡ true → is_free atoms taken t ≡ true
+    more end below true i j =
+        ap₂ (λ x y. not x && not y) (clear-unused end t atoms below.0 i) (clear-unused end t taken below.1 i)
+    more end below false i j = opened-unused n.opened atoms taken t opened j
+
+    go : (roots : Option ℕ) → RootsBelow roots atoms taken
+        → is_clear roots t || ((is_opened n.opened t || is_unused atoms t) && is_unused taken t) ≡ true
+        → is_free atoms taken t ≡ true
+    go None below e = opened-unused n.opened atoms taken t opened e
+    go (Some end) below e = more end below (is_clear (Some end) t) refl e
 
 below-more : (m n : ℕ) (t : Term) → m ≤ n → is_symbol_below m t ≡ true → is_symbol_below n t ≡ true
 below-more m n Nil le e = absurd (cc)
@@ -459,7 +534,7 @@ below-more m n (Sym k) le e = more e
     more : nat_lt k m ≡ true → nat_lt k n ≡ true
     more a = grind (arith, nat_tests)
 
-begin-more : (m n : ℕ) (xs : List Numbered) → m ≤ n → BeginBelow m xs → BeginBelow n xs
+pub begin-more : (m n : ℕ) (xs : List Numbered) → m ≤ n → BeginBelow m xs → BeginBelow n xs
 begin-more m n [] le all = tt
 begin-more m n (x ∷ xs) le all = (below-more m n (root x.atom) le all.0, begin-more m n xs le all.1)
 
@@ -485,7 +560,7 @@ end-all from end (x ∷ xs) e =
     let more = end-all m end xs j in
     (omega (arith, one.0, more.0), (below-more m end (root x.atom) more.0 one.1, more.1)))
 
-pub end-known : (roots : Option ℕ) (s : State) → RootsBelow roots s.atoms s.taken
+end-known : (roots : Option ℕ) (s : State) → RootsBelow roots s.atoms s.taken
     → RootsBelow (known_end roots s) s.atoms s.taken
 end-known (Some end) s below = below
 end-known None s below = go (known_end None s) refl
@@ -497,6 +572,19 @@ end-known None s below = go (known_end None s) refl
         let one = end-all 0 m s.atoms i in
         let two = end-all m end s.taken j in
         (begin-more m end s.atoms two.0 one.1, two.1))
+
+-- what is known of a state and what is found of it
+pub known-more : (roots : Option ℕ) (bare : Bool) (s : State) → IsKnown roots bare s
+    → IsKnown (known_end roots s) (bare || has_no_cells s) s
+known-more roots bare s about = (end-known roots s about.0, go bare about.1)
+  where
+    go : (b : Bool) → (b ≡ true → has_no_cells s ≡ true) → b || has_no_cells s ≡ true → has_no_cells s ≡ true
+    go true so e = so refl
+    go false so e = e
+
+pub known-end : (roots : Option ℕ) (bare : Bool) (s : State) → IsKnown roots bare s
+    → RootsBelow (known_end roots s) s.atoms s.taken
+known-end roots bare s about = end-known roots s about.0
 
 -- and above those of parts behind others
 pub end-came : (roots : Option ℕ) (atoms taken xs : List Numbered) → RootsBelow roots atoms taken
@@ -514,7 +602,7 @@ end-came (Some from) atoms taken xs below = go (end_of from xs) refl
 
 -- what came, where the parts and the pairs are those of a state with some behind them
 module _ (s now : State) (n : Size) (xs : List Numbered) (qs : List (Term × Term)) (atoms : now.atoms ≡ s.atoms ++ xs)
-    (taken : now.taken ≡ s.taken) (count : length s.atoms ≡ n.atoms) (below : RootsBelow n.roots s.atoms s.taken) where
+    (taken : now.taken ≡ s.taken) (count : length s.atoms ≡ n.atoms) (about : IsKnown n.roots n.bare s) (opened : IsOpenedFree n.opened s.atoms) where
   came-behind : drop n.atoms now.atoms ≡ xs
   came-behind = ap₂ drop (sym count) atoms ∙ drop-append_seam s.atoms xs
 
@@ -524,41 +612,55 @@ module _ (s now : State) (n : Size) (xs : List Numbered) (qs : List (Term × Ter
       subst (λ ys. RootsBelow (option_and_then (λ end. end_of end ys) n.roots) now.atoms now.taken) (sym came-behind)
       (subst (λ ys. RootsBelow (option_and_then (λ end. end_of end xs) n.roots) ys now.taken) (sym atoms)
       (subst (RootsBelow (option_and_then (λ end. end_of end xs) n.roots) (s.atoms ++ xs)) (sym taken)
-      (end-came n.roots s.atoms s.taken xs below)))
+      (end-came n.roots s.atoms s.taken xs about.0)))
+
+  -- none of its parts is a cell, by the test of what came
+  pub grown-bare : came_bare n now ≡ true → has_no_cells now ≡ true
+  grown-bare e =
+      let a = and_parts n.bare ((length now.apart == 0) && not (has_points (drop n.atoms now.atoms))) e in
+      let b = and_parts (length now.apart == 0) (not (has_points (drop n.atoms now.atoms))) a.1 in
+      let others = no-points s (about.1 a.0) in
+      let came : has_points xs ≡ false =
+      sym (ap has_points came-behind) ∙ not-so (has_points (drop n.atoms now.atoms)) b.1 in
+      ap₂ (λ x y. x && y) b.0
+      (ap₂ (λ x y. not x && not y)
+      (ap has_points atoms ∙ list_any-append (λ a. is_points a.atom) s.atoms xs
+      ∙ or-still (has_points s.atoms) (has_points xs) others.0 came)
+      (ap has_points taken ∙ others.1))
 
   -- and it is settled as that state, by the test of what came
   pub grown-settled : now.apart ≡ s.apart ++ qs → length s.apart ≡ n.pairs → has_settled_growth n now ≡ true
       → IsSettled s → IsSettled now
   grown-settled apart pairs so known =
-      let before = is_free_before n.roots (take n.atoms now.atoms) now.taken in
+      let before = is_free_before n (take n.atoms now.atoms) now.taken in
       let rest = and_parts
       (nat_le n.atoms (length now.atoms) && nat_le n.pairs (length now.apart)
       && (nat_lt n.atoms (length now.atoms) || nat_lt n.pairs (length now.apart)))
       (is_settled_growth n now) so in
       let tests = and_parts (list_all (is_free_pair before) (drop n.pairs now.apart))
-      (are_alone before (drop n.atoms now.atoms) || is_bare now (drop n.atoms now.atoms)) rest.1 in
+      (are_alone before (drop n.atoms now.atoms) || is_bare n.bare now (drop n.atoms now.atoms)) rest.1 in
       let front : take n.atoms now.atoms ≡ s.atoms = ap₂ take (sym count) atoms ∙ take-append_seam s.atoms xs in
       let differ : drop n.pairs now.apart ≡ qs = ap₂ drop (sym pairs) apart ∙ drop-append_seam s.apart qs in
       let free : (t : Term) → before t ≡ true → is_free s.atoms s.taken t ≡ true =
-      λ t e. clear-free n.roots s.atoms s.taken below t
-      (sym (ap₂ (λ a b. is_free_before n.roots a b t) front taken) ∙ e) in
+      λ t e. clear-free n s.atoms s.taken about.0 opened t
+      (sym (ap₂ (λ a b. is_free_before n a b t) front taken) ∙ e) in
       let with-pairs = pairs-settled s qs
       (wider-pairs before (is_free s.atoms s.taken) free qs
       (sym (ap (list_all (is_free_pair before)) differ) ∙ tests.0)) known in
       let with-parts = many before free with-pairs (are_alone before (drop n.atoms now.atoms)) refl
-      (is_bare now (drop n.atoms now.atoms)) refl tests.1 in
+      (is_bare n.bare now (drop n.atoms now.atoms)) refl tests.1 in
       settled-same (record s { apart = s.apart ++ qs; atoms = s.atoms ++ xs }) now apart (ap (map stripped) atoms)
       (ap (map stripped) taken) with-parts
     where
       many : (before : Term → Bool) → ((t : Term) → before t ≡ true → is_free s.atoms s.taken t ≡ true)
           → IsSettled (record s { apart = s.apart ++ qs })
           → (a : Bool) → are_alone before (drop n.atoms now.atoms) ≡ a
-          → (b : Bool) → is_bare now (drop n.atoms now.atoms) ≡ b → a || b ≡ true
+          → (b : Bool) → is_bare n.bare now (drop n.atoms now.atoms) ≡ b → a || b ≡ true
           → IsSettled (record s { apart = s.apart ++ qs; atoms = s.atoms ++ xs })
       many before free known true alone b bare e =
           parts-settled (record s { apart = s.apart ++ qs }) xs
           (wider-parts before (is_free s.atoms s.taken) free xs (sym (ap (are_alone before) came-behind) ∙ alone)) known
       many before free known false alone true bare e =
-          one-bare (record s { apart = s.apart ++ qs }) now xs atoms apart taken
-          (sym (ap (is_bare now) came-behind) ∙ bare) known
+          one-bare (record s { apart = s.apart ++ qs }) now n.bare apart taken (λ b. no-points s (about.1 b)) xs atoms
+          (sym (ap (is_bare n.bare now) came-behind) ∙ bare) known
       many before free known false alone false bare e = absurd (cc)

@@ -10,8 +10,11 @@ pub mod Rowless
 pub mod Settled
 pub mod Fewer
 pub mod Grown
+pub mod Sole
 pub mod Growing
+pub mod KnownNext
 pub mod Kept
+pub mod StillKnown
 pub mod Leading
 pub mod Judging
 pub mod Universe

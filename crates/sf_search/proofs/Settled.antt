@@ -31,7 +31,7 @@ bare (Tree u) = Tree u
 abbrev pub stripped : Numbered → Numbered
 stripped x = record { number = x.number; atom = bare x.atom }
 
-bare_root : (a : Atom) → root (bare a) ≡ root a
+pub bare_root : (a : Atom) → root (bare a) ≡ root a
 bare_root (Points u fields) = refl
 bare_root (Ls u v) = refl
 bare_root (Tree u) = refl
@@ -56,7 +56,7 @@ bare_nothing (Points u fields) = refl
 bare_nothing (Ls u v) = refl
 bare_nothing (Tree u) = refl
 
-any-stripped : (p : Numbered → Bool) → ((x : Numbered) → p (stripped x) ≡ p x) → (xs : List Numbered)
+pub any-stripped : (p : Numbered → Bool) → ((x : Numbered) → p (stripped x) ≡ p x) → (xs : List Numbered)
     → list_any p (map stripped xs) ≡ list_any p xs
 any-stripped p same [] = refl
 any-stripped p same (x ∷ xs) = ap₂ (λ a b. a || b) (same x) (any-stripped p same xs)
@@ -184,3 +184,14 @@ settled_chooses g known =
     (at_items g.state g.todo))) known.none_empty
     ∙ ap (λ p. or_else (option_map (λ (f : ℕ × (Term × Term)). takes (t.Force f.0)) p) (at_items g.state g.todo))
     known.none_forced
+
+-- where it takes a drop the state isn't absurd
+pub dropped_possible : (g : Goal) (a : ℕ) → chooses g ≡ takes (t.Drop a) → is_absurd g.state ≡ false
+dropped_possible g a chosen = go (is_absurd g.state) refl chosen
+  where
+    go : (b : Bool) → is_absurd g.state ≡ b
+        → or_else (takes_if b t.Absurd) (or_else (option_map (λ f. takes (t.Drop f.0)) (lowest (which is_nothing) g.state.atoms))
+        (or_else (option_map (λ f. takes (t.Force f.0)) (lowest_forced g.state g.state.atoms)) (at_items g.state g.todo)))
+        ≡ takes (t.Drop a) → is_absurd g.state ≡ false
+    go true e c = absurd (cc)
+    go false e c = e

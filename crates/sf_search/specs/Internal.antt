@@ -1,3 +1,5 @@
 pub mod Choosing
 pub mod Growth
+pub mod Holding
+pub mod Knowing
 pub mod Settled

@@ -7,6 +7,7 @@
 //! - `commands`: commands.
 //! - `given`: what is to be assumed.
 //! - `growth`: what comes to a state behind the rest.
+//! - `holders`: what has a cell at a term.
 //! - `settled`: what is known of the next goal's state.
 //! - `wanted`: what is to be shown.
 //! - `whole`: all of it.
@@ -17,12 +18,13 @@ mod choice;
 mod commands;
 mod given;
 mod growth;
+mod holders;
 mod settled;
 mod wanted;
 mod whole;
 
 pub use choice::{Choice, Kind};
-pub(crate) use growth::{grows_settled, leaves_roots, staying};
-pub(crate) use settled::keeps_settled;
+pub(crate) use growth::{Size, grown_bare, grown_roots, grows_settled, staying};
+pub(crate) use settled::{keeps_settled, leaves_possible};
 pub use whole::choose;
-pub(crate) use whole::choose_in_front;
+pub(crate) use whole::{choose_in_front, choose_possible};

@@ -1,6 +1,6 @@
 //! The search for a proof, procedure by procedure.
 
-ghost use Rattle.std.specs.Prelude.{◌≡◌, ◌++◌, ◌<◌, ◌≤◌, ◌∷◌, [], IfErr, IfOk, IfSome, List, OnOk, Some, length, true};
+ghost use Rattle.std.specs.Prelude.{◌≡◌, ◌++◌, ◌<◌, ◌≤◌, ◌∷◌, [], IfErr, IfOk, IfSome, List, OnOk, Some, false, length, true};
 ghost use Rattle.sf_base.specs.declared.limits.TheConstants.{FILE_TAGS as FILE_LIMIT};
 ghost use Rattle.std.specs.List.{slice_get};
 ghost use Rattle.sf_base.specs.Results.{Appends};
@@ -10,16 +10,19 @@ ghost use Rattle.sf_rules.specs.Internal.Children.{children_of, stack_of};
 ghost use Rattle.sf_rules.specs.Rows.Whole.{row};
 ghost use Rattle.sf_rules.specs.Setting.{Setting, setting_of};
 ghost use Rattle.sf_search.specs.Internal.Choosing.{choice_of};
-ghost use Rattle.sf_search.specs.Internal.Growth.{leaves_roots, leaves_settled, staying};
+ghost use Rattle.sf_search.specs.Internal.Growth.{staying};
+ghost use Rattle.sf_search.specs.Internal.Knowing.{IsKnownAfter};
 ghost use Rattle.sf_search.specs.Internal.Settled.{IsSettled};
 ghost use Rattle.sf_search.specs.Strategy.{chooses};
 ghost use Rattle.sf_search.specs.Ends.{EndsAs, FailsAs, FollowsAs, failure};
 ghost use Rattle.sf_search.specs.Judge.{Judge, Search, proof, proved};
 ghost use Rattle.sf_sym.specs.Goal.{Goal as AnyGoal, goal_of};
+ghost use Rattle.sf_sym.specs.Tests.{is_absurd};
 ghost use Rattle.sf_sym.specs.declared.tag.Tag.TheVariants.{Procedure};
 
 use crate::choices::{
-    Choice, Kind, choose, choose_in_front, grows_settled, keeps_settled, leaves_roots, staying,
+    Choice, Kind, Size, choose, choose_in_front, choose_possible, grown_bare, grown_roots,
+    grows_settled, keeps_settled, leaves_possible, staying,
 };
 use sf_base::ProcId;
 use sf_base::limits::{FILE_TAGS, PROCEDURE_TAGS};
@@ -92,8 +95,12 @@ impl<'a> From<AllocError> for VerifyFault<'a> {
 struct Known {
     /// Whether the tests of the state are known to find nothing.
     settled: bool,
+    /// Whether it is known not to be absurd.
+    possible: bool,
     /// A number above all symbols at which its parts begin, if all begin at symbols.
     roots: Option<u64>,
+    /// Whether it is known that no terms differ and no part is a cell.
+    bare: bool,
 }
 
 /// The tags of a proof of the procedure of that number, without its `procedure` tag. There is such
@@ -133,25 +140,20 @@ fn search_from<'a>(
     stack.push(first)?;
     let mut known = Known {
         settled: false,
+        possible: false,
         roots: None,
+        bare: false,
     };
     while let Some(goal) = stack.pop() {
-        let tag = match choose_knowing(alloc, &goal, known.settled)? {
+        goal.state.is_numbered();
+        let tag = match choose_knowing(alloc, &goal, known)? {
             Choice::Takes(tag) => tag,
             Choice::Stays(kind) => return Err(SearchFault::Stuck(goal, kind, tags.len())),
         };
         if tags.len() == PROCEDURE_TAGS {
             return Err(SearchFault::TooLarge);
         }
-        known = match follow(
-            alloc,
-            arranged,
-            &mut stack,
-            &mut tags,
-            goal,
-            tag,
-            known.roots,
-        ) {
+        known = match follow(alloc, arranged, &mut stack, &mut tags, goal, tag, known) {
             Ok(next) => next,
             Err(fault) => return Err(fault),
         };
@@ -159,22 +161,25 @@ fn search_from<'a>(
     Ok(tags)
 }
 
-/// What the strategy does at the goal, whose state may be known to be settled. An `Err` means out of
+/// What the strategy does at the goal, of whose state something may be known. An `Err` means out of
 /// memory.
-fn choose_knowing(alloc: Global, goal: &Goal, settled: bool) -> Result<Choice, AllocError>
-    requires { settled ≡ true → IsSettled goal.now.state }
+fn choose_knowing(alloc: Global, goal: &Goal, known: Known) -> Result<Choice, AllocError>
+    requires settled { known.settled ≡ true → IsSettled goal.now.state }
+    requires possible { known.possible ≡ true → is_absurd goal.now.state ≡ false }
     ensures { IfOk result (λ c. choice_of c ≡ chooses (goal_of goal.now)) }
 {
-    if settled {
+    if known.settled {
         choose_in_front(alloc, goal)
+    } else if known.possible {
+        choose_possible(alloc, goal)
     } else {
         choose(alloc, goal)
     }
 }
 
-/// Takes the tag at a goal: what it leaves goes on the stack, and the tag after the tags. Where the
-/// goal's state was settled and all its parts begin below a number that may be known, the answer says
-/// what is known of the next goal's state.
+/// Takes the tag at a goal: what it leaves goes on the stack, and the tag after the tags. Where what
+/// is known of the goal's state is so, and the strategy takes the tag, the answer says what is known
+/// of the next goal's state.
 fn follow<'a>(
     alloc: Global,
     arranged: &'a Arranged,
@@ -182,34 +187,51 @@ fn follow<'a>(
     tags: &mut Vec<Tag>,
     goal: Goal<'a>,
     tag: Tag,
-    roots: Option<u64>,
+    known: Known,
 ) -> Result<Known, SearchFault<'a>>
     ghost d: { Setting }
     requires ordered { IsOrdering d.ordered }
     requires setting { d ≡ setting_of d.ordered arranged.now }
-    ensures left { IfOk result (λ known. (left : List AnyGoal)
+    ensures left { IfOk result (λ next. (left : List AnyGoal)
         × (row d (goal_of goal.entry) tag ≡ Some left)
         × (stack_of stack.new.items ≡ left ++ stack_of stack.old.items)
-        × (known.settled ≡ leaves_settled tag (staying tag roots goal.entry.state) left)
-        × (known.roots ≡ leaves_roots (staying tag roots goal.entry.state) left)) }
+        × IsKnownAfter tag known (staying tag known.roots known.bare goal.entry.state) left next) }
     ensures tags { Appends result tags.old.items tags.new.items (tag ∷ []) }
     ensures err { IfErr result
         (λ e. FollowsAs d (goal_of goal.entry) tag (length tags.old.items) e) }
 {
-    let staying = staying(tag, roots, &goal.state);
+    let staying = staying(tag, known.roots, known.bare, &goal.state);
     match apply_row(alloc, arranged, goal, tag) {
         Ok(left) => {
-            let grown = grows_settled(staying, &left);
-            let known = Known {
-                settled: keeps_settled(tag) || grown,
-                roots: leaves_roots(grown, staying, &left),
-            };
+            let next = known_after(tag, known, staying, &left);
             push_children(stack, left)?;
             tags.push(tag)?;
-            Ok(known)
+            Ok(next)
         }
         Err(RuleFault::NotARule) => Err(SearchFault::NoRow(tags.len())),
         Err(RuleFault::OutOfMemory) => Err(SearchFault::OutOfMemory),
+    }
+}
+
+/// What is known of the state of the first of the goals that a tag leaves.
+fn known_after(tag: Tag, known: Known, staying: Option<Size>, left: &Children) -> Known
+    ensures { IsKnownAfter tag known staying (children_of left.now) result }
+{
+    let possible = leaves_possible(tag);
+    if keeps_settled(tag) {
+        return Known {
+            settled: true,
+            possible,
+            roots: known.roots,
+            bare: known.bare,
+        };
+    }
+    let grown = grows_settled(staying, left);
+    Known {
+        settled: grown,
+        possible,
+        roots: grown_roots(grown, staying, left),
+        bare: grown_bare(grown, staying, left),
     }
 }
 

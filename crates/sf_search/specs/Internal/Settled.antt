@@ -29,6 +29,16 @@ keeps_settled End = false
 keeps_settled Add = false
 keeps_settled _ = true
 
+-- a tag that leaves a goal first whose state isn't absurd, where the strategy takes it
+abbrev pub leaves_possible : Tag → Bool
+leaves_possible (Drop a) = true
+leaves_possible _ = false
+
+-- the first of the open goals isn't absurd, where that is known
+abbrev pub IsFirstPossible : (known : Bool) → List Goal → Type 0
+IsFirstPossible known [] = Unit {0}
+IsFirstPossible known (g ∷ gs) = known ≡ true → is_absurd g.state ≡ false
+
 -- the first of the open goals is settled, where that is known
 abbrev pub IsFirstSettled : (known : Bool) → List Goal → Type 0
 IsFirstSettled known [] = Unit {0}

@@ -1,20 +1,33 @@
 //! The lowest atom of which something is so, and what is done where a cell is wanted and there is
 //! none.
 
-ghost use Rattle.std.specs.Prelude.{◌≡◌, is_some};
+ghost use Rattle.std.specs.Prelude.{◌≡◌, MatchResult, None, Some, is_some};
 ghost use Rattle.std.specs.Option.{option_map};
 ghost use Rattle.sf_consume.specs.Subtract.{is_same_shape};
 ghost use Rattle.sf_search.specs.Internal.Choosing.{choice_of, kind_of};
+ghost use Rattle.sf_search.specs.Internal.Settled.{IsSettled};
 ghost use Rattle.sf_search.specs.Strategy.{lower, lowest, opened, opened_by, or_else, segment_at, split_or, tree_at, undecided_ends, which};
 ghost use Rattle.sf_sym.specs.Cells.{fields_at};
 ghost use Rattle.sf_sym.specs.Tests.{parts};
 
 use crate::choices::choice::{Choice, Kind};
+use crate::choices::holders::{Holder, held_at, sole_cell};
 use sf_consume::is_same_shape;
 use sf_sym::{Atom, Numbered, State, Tag, Term};
 
 /// The number of the lowest cell at the term.
 pub(crate) fn lowest_cell(state: &State, t: Term) -> Option<u32>
+    requires { IsSettled state.now }
+    ensures { result ≡ option_map (λ f. f.0) (lowest (λ x. fields_at x t) state.now.atoms) }
+{
+    match sole_cell(state, t) {
+        Some(a) => Some(a),
+        None => first_cell(state, t),
+    }
+}
+
+/// The same by a look at the parts in order.
+fn first_cell(state: &State, t: Term) -> Option<u32>
     ensures { result ≡ option_map (λ f. f.0) (lowest (λ x. fields_at x t) state.now.atoms) }
 {
     state.is_numbered();
@@ -90,6 +103,18 @@ fn is_tree_at(atom: &Atom, t: Term) -> bool
 
 /// The number of the lowest atom that is that segment or tree.
 pub(crate) fn lowest_shape(state: &State, wanted: &Atom) -> Option<u32>
+    requires { IsSettled state.now }
+    ensures { result ≡ option_map (λ f. f.0)
+        (lowest (which (λ x. is_same_shape x wanted.now)) state.now.atoms) }
+{
+    match sole_cell(state, wanted.root()) {
+        Some(_) => None,
+        None => first_shape(state, wanted),
+    }
+}
+
+/// The same by a look at the parts in order.
+fn first_shape(state: &State, wanted: &Atom) -> Option<u32>
     ensures { result ≡ option_map (λ f. f.0)
         (lowest (which (λ x. is_same_shape x wanted.now)) state.now.atoms) }
 {
@@ -122,9 +147,24 @@ fn lowest_undecided(state: &State) -> Option<(u32, (Term, Term))>
     ensures { result ≡ lowest (undecided_ends state.now) (parts state.now) }
 {
     lower(
-        lowest_undecided_of(state, state.atoms()),
+        first_undecided(state),
         lowest_undecided_of(state, state.taken()),
     )
+}
+
+/// The same among the atoms that are there, which are in the order of their numbers.
+fn first_undecided(state: &State) -> Option<(u32, (Term, Term))>
+    ensures { result ≡ lowest (undecided_ends state.now) state.now.atoms }
+{
+    state.is_numbered();
+    let mut left = state.atoms();
+    while let Some((first, rest)) = left.split_first() {
+        if let Some(ends) = undecided_ends(state, &first.atom) {
+            return Some((first.number, ends));
+        }
+        left = rest;
+    }
+    None
 }
 
 /// The same among these atoms.
@@ -169,9 +209,28 @@ fn undecided_ends(state: &State, atom: &Atom) -> Option<(Term, Term)>
     }
 }
 
+/// The number of the lowest cell at the term. Where there is none the `Err` is what is done: a part of
+/// the heap that may begin with one is opened, and without one the goal would be stuck for that reason.
+pub(crate) fn at_cell(state: &State, t: Term, kind: Kind) -> Result<u32, Choice>
+    requires { IsSettled state.now }
+    ensures { MatchResult result
+        (λ a. Some a ≡ option_map (λ f. f.0) (lowest (λ x. fields_at x t) state.now.atoms))
+        (λ c. (None ≡ option_map (λ f. f.0) (lowest (λ x. fields_at x t) state.now.atoms))
+        × (choice_of c ≡ or_else (opened state.now t) (split_or state.now (kind_of kind)))) }
+{
+    match held_at(state, t) {
+        Some(Holder::Cell(a)) => Ok(a),
+        Some(Holder::Opened(a)) => Err(Choice::Takes(Tag::Unroll(a))),
+        None => match first_cell(state, t) {
+            Some(a) => Ok(a),
+            None => Err(without_cell(state, t, kind)),
+        },
+    }
+}
+
 /// Where a cell at the term is wanted and there is none: a part of the heap that may begin with one
 /// is opened, and without one the goal would be stuck for that reason.
-pub(crate) fn without_cell(state: &State, t: Term, kind: Kind) -> Choice
+fn without_cell(state: &State, t: Term, kind: Kind) -> Choice
     ensures { choice_of result ≡ or_else (opened state.now t) (split_or state.now (kind_of kind)) }
 {
     match opened(state, t) {

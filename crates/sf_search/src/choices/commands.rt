@@ -3,10 +3,11 @@
 ghost use Rattle.std.specs.Prelude.{◌≡◌};
 ghost use Rattle.sf_core.specs.Program.View.{command_of};
 ghost use Rattle.sf_search.specs.Internal.Choosing.{choice_of};
+ghost use Rattle.sf_search.specs.Internal.Settled.{IsSettled};
 ghost use Rattle.sf_search.specs.Strategy.{at_cell, at_command, no_cell, takes};
 ghost use Rattle.sf_sym.specs.declared.tag.Tag.TheVariants.{Dispose, Look, Mutate};
 
-use crate::choices::atoms::{lowest_cell, without_cell};
+use crate::choices::atoms::at_cell;
 use crate::choices::branches::at_test;
 use crate::choices::choice::{Choice, Kind};
 use sf_core::Command;
@@ -15,6 +16,7 @@ use sf_sym::{State, Tag, Term};
 
 /// What the strategy does at a command.
 pub(crate) fn at_command(state: &State, command: &Command) -> Choice
+    requires { IsSettled state.now }
     ensures { choice_of result ≡ at_command state.now (command_of command.now) }
 {
     match command {
@@ -34,32 +36,35 @@ pub(crate) fn at_command(state: &State, command: &Command) -> Choice
 /// A field of the lowest cell at the term is read.
 #[tactic(auto, using(crate::proofs::Lowest::cell_there, crate::proofs::Lowest::no_cell_there))]
 fn at_look_up(state: &State, t: Term) -> Choice
+    requires { IsSettled state.now }
     ensures { choice_of result ≡ at_cell state.now t (λ a. takes (Look a)) no_cell }
 {
-    match lowest_cell(state, t) {
-        Some(a) => Choice::Takes(Tag::Look(a)),
-        None => without_cell(state, t, Kind::NoCell),
+    match at_cell(state, t, Kind::NoCell) {
+        Ok(a) => Choice::Takes(Tag::Look(a)),
+        Err(choice) => choice,
     }
 }
 
 /// A field of the lowest cell at the term is written.
 #[tactic(auto, using(crate::proofs::Lowest::cell_there, crate::proofs::Lowest::no_cell_there))]
 fn at_mutation(state: &State, t: Term) -> Choice
+    requires { IsSettled state.now }
     ensures { choice_of result ≡ at_cell state.now t (λ a. takes (Mutate a)) no_cell }
 {
-    match lowest_cell(state, t) {
-        Some(a) => Choice::Takes(Tag::Mutate(a)),
-        None => without_cell(state, t, Kind::NoCell),
+    match at_cell(state, t, Kind::NoCell) {
+        Ok(a) => Choice::Takes(Tag::Mutate(a)),
+        Err(choice) => choice,
     }
 }
 
 /// The lowest cell at the term goes.
 #[tactic(auto, using(crate::proofs::Lowest::cell_there, crate::proofs::Lowest::no_cell_there))]
 fn at_disposal(state: &State, t: Term) -> Choice
+    requires { IsSettled state.now }
     ensures { choice_of result ≡ at_cell state.now t (λ a. takes (Dispose a)) no_cell }
 {
-    match lowest_cell(state, t) {
-        Some(a) => Choice::Takes(Tag::Dispose(a)),
-        None => without_cell(state, t, Kind::NoCell),
+    match at_cell(state, t, Kind::NoCell) {
+        Ok(a) => Choice::Takes(Tag::Dispose(a)),
+        Err(choice) => choice,
     }
 }

@@ -1,15 +1,18 @@
 //! What a tag puts behind the parts and pairs that a state had, and whether that leaves a settled
 //! state settled. A number above all symbols at which the parts begin is carried along, so that what
-//! begins at a later symbol needn't be compared with them.
+//! begins at a later symbol needn't be compared with them; nor need what begins where a part was
+//! unrolled, since no other began there.
 
 ghost use Rattle.std.specs.Prelude.{◌≡◌, ◌≤◌, length};
 ghost use Rattle.std.specs.List.{list_all, list_any};
+ghost use Rattle.std.specs.Option.{option_map};
 ghost use Rattle.sf_rules.specs.Internal.Children.{children_of};
-ghost use Rattle.sf_search.specs.Internal.Growth.{are_alone, end_of, grows_settled, has_settled_growth, is_alone, is_bare, is_clear, is_free, is_free_before, is_free_pair, is_settled_growth, is_unused, known_end, leaves_roots, next_end, roots_came, staying};
+ghost use Rattle.sf_search.specs.Internal.Growth.{are_alone, came_bare, end_of, grown_bare, grown_roots, grows_settled, has_no_cells, has_points, has_settled_growth, is_alone, is_bare, is_clear, is_free_before, is_free_pair, is_opened, is_points, is_settled_growth, is_uncovered, is_unused, known_end, next_end, roots_came, staying};
+ghost use Rattle.sf_sym.specs.Cells.{atom_at};
 ghost use Rattle.sf_sym.specs.Tests.{root, same_term};
 
 use sf_rules::Children;
-use sf_sym::{Numbered, State, Tag, Term};
+use sf_sym::{Atom, Numbered, State, Tag, Term};
 
 /// How many parts of the heap and how many pairs of terms that differ a state has, or had.
 #[derive(Clone, Copy)]
@@ -19,12 +22,16 @@ pub(crate) struct Size {
     /// A number above all symbols at which its parts begin, those that were handed over too; none
     /// where one begins at a constant.
     roots: Option<u64>,
+    /// Whether it is known that no terms differ and no part is a cell.
+    bare: bool,
+    /// The term at which a part was unrolled, where none of the others begins.
+    opened: Option<Term>,
 }
 
 /// How many parts of the heap and how many pairs stay in front, where the tag may put others behind
-/// them. A number above the symbols at which the parts begin may be known.
-pub(crate) fn staying(tag: Tag, roots: Option<u64>, state: &State) -> Option<Size>
-    ensures { result ≡ staying tag roots state.now }
+/// them. A number above the symbols at which the parts begin may be known, and that none is a cell.
+pub(crate) fn staying(tag: Tag, roots: Option<u64>, bare: bool, state: &State) -> Option<Size>
+    ensures { result ≡ staying tag roots bare state.now }
 {
     let atoms = state.atoms().len();
     let pairs = state.apart().len();
@@ -33,14 +40,49 @@ pub(crate) fn staying(tag: Tag, roots: Option<u64>, state: &State) -> Option<Siz
             atoms,
             pairs,
             roots: known_end(roots, state),
+            bare: bare || has_no_cells(state),
+            opened: None,
         }),
-        Tag::Unroll(_) => Some(Size {
+        Tag::Unroll(a) => Some(Size {
             atoms: atoms.saturating_sub(1),
             pairs,
             roots: known_end(roots, state),
+            bare: false,
+            opened: root_of(state, a),
         }),
         _ => None,
     }
+}
+
+/// Where the part of that number begins, if it is there.
+fn root_of(state: &State, a: u32) -> Option<Term>
+    ensures { result ≡ option_map root (atom_at state.now.atoms a) }
+{
+    match state.atom(a) {
+        Some(atom) => Some(atom.root()),
+        None => None,
+    }
+}
+
+/// Whether no terms are known to differ, and no part is a cell.
+fn has_no_cells(state: &State) -> bool
+    ensures { result ≡ has_no_cells state.now }
+{
+    state.apart().is_empty() && !has_points(state.atoms()) && !has_points(state.taken())
+}
+
+/// Whether one of the parts is a cell.
+fn has_points(parts: &[Numbered]) -> bool
+    ensures { result ≡ has_points parts.now }
+{
+    parts.iter().any(|a| is_points(&a.atom))
+}
+
+/// Whether the part is a cell.
+fn is_points(atom: &Atom) -> bool
+    ensures { result ≡ is_points atom.now }
+{
+    matches!(atom, Atom::Points(..))
 }
 
 /// A number above the symbols at which the state's parts begin, if all begin at symbols: that which
@@ -100,9 +142,9 @@ pub(crate) fn grows_settled(staying: Option<Size>, left: &Children) -> bool
 
 /// A number above the symbols at which the parts of the first of the goals that are left begin, where
 /// it is settled by what came to its state and one was known before.
-pub(crate) fn leaves_roots(grown: bool, staying: Option<Size>, left: &Children) -> Option<u64>
+pub(crate) fn grown_roots(grown: bool, staying: Option<Size>, left: &Children) -> Option<u64>
     requires { grown ≡ grows_settled staying (children_of left.now) }
-    ensures { result ≡ leaves_roots staying (children_of left.now) }
+    ensures { result ≡ grown_roots staying (children_of left.now) }
 {
     let size = staying?;
     match left {
@@ -126,6 +168,30 @@ fn roots_came(before: Size, state: &State) -> Option<u64>
     end_of(before.roots?, new_atoms)
 }
 
+/// Whether no terms differ and no part is a cell in the first of the goals that are left, where it is
+/// settled by what came to its state and none was one before.
+pub(crate) fn grown_bare(grown: bool, staying: Option<Size>, left: &Children) -> bool
+    requires { grown ≡ grows_settled staying (children_of left.now) }
+    ensures { result ≡ grown_bare staying (children_of left.now) }
+{
+    let Some(size) = staying else {
+        return false;
+    };
+    match left {
+        Children::None => false,
+        Children::One(goal) | Children::Two(goal, _) => grown && came_bare(size, &goal.state),
+    }
+}
+
+/// Whether no part of the state is a cell, where none was one before.
+fn came_bare(before: Size, state: &State) -> bool
+    requires { before.atoms ≤ length state.now.atoms }
+    ensures { result ≡ came_bare before state.now }
+{
+    let (_, new_atoms) = state.atoms().split_at(before.atoms);
+    before.bare && state.apart().is_empty() && !has_points(new_atoms)
+}
+
 /// Whether something came to the state behind so much of it, and none of that is at a place of the
 /// others. It goes over the parts once for each part or term that came.
 fn has_settled_growth(before: Size, state: &State) -> bool
@@ -145,30 +211,30 @@ fn is_settled_growth(before: Size, state: &State) -> bool
 {
     let (atoms, new_atoms) = state.atoms().split_at(before.atoms);
     let (_, new_pairs) = state.apart().split_at(before.pairs);
-    let roots = before.roots;
-    are_free_pairs(roots, atoms, state.taken(), new_pairs)
-        && (are_alone(roots, atoms, state.taken(), new_atoms) || is_bare(state, new_atoms))
+    are_free_pairs(before, atoms, state.taken(), new_pairs)
+        && (are_alone(before, atoms, state.taken(), new_atoms)
+            || is_bare(before.bare, state, new_atoms))
 }
 
 /// Whether each of the pairs is of two terms, and no part begins at either.
 fn are_free_pairs(
-    roots: Option<u64>,
+    before: Size,
     atoms: &[Numbered],
     taken: &[Numbered],
     pairs: &[(Term, Term)],
 ) -> bool
-    ensures { result ≡ list_all (is_free_pair (is_free_before roots atoms.now taken.now)) pairs.now }
+    ensures { result ≡ list_all (is_free_pair (is_free_before before atoms.now taken.now)) pairs.now }
 {
-    pairs.iter().all(|p| is_free_pair(roots, atoms, taken, *p))
+    pairs.iter().all(|p| is_free_pair(before, atoms, taken, *p))
 }
 
 /// Whether each of the new parts isn't empty and is at a symbol at which no other begins.
-fn are_alone(roots: Option<u64>, atoms: &[Numbered], taken: &[Numbered], new: &[Numbered]) -> bool
-    ensures { result ≡ are_alone (is_free_before roots atoms.now taken.now) new.now }
+fn are_alone(before: Size, atoms: &[Numbered], taken: &[Numbered], new: &[Numbered]) -> bool
+    ensures { result ≡ are_alone (is_free_before before atoms.now taken.now) new.now }
 {
     let mut left = new;
     while let Some((first, rest)) = left.split_first() {
-        if !is_alone(roots, atoms, taken, rest, first) {
+        if !is_alone(before, atoms, taken, rest, first) {
             return false;
         }
         left = rest;
@@ -177,8 +243,8 @@ fn are_alone(roots: Option<u64>, atoms: &[Numbered], taken: &[Numbered], new: &[
 }
 
 /// Whether it is one part, not empty and at a symbol, where neither it nor another has a cell.
-fn is_bare(state: &State, new: &[Numbered]) -> bool
-    ensures { result ≡ is_bare state.now new.now }
+fn is_bare(bare: bool, state: &State, new: &[Numbered]) -> bool
+    ensures { result ≡ is_bare bare state.now new.now }
 {
     let Some((part, rest)) = new.split_first() else {
         return false;
@@ -187,45 +253,60 @@ fn is_bare(state: &State, new: &[Numbered]) -> bool
         return false;
     }
     let root = part.atom.root();
-    !root.is_constant() && !part.atom.is_nothing() && !state.allocated(root, None)
+    !root.is_constant() && !part.atom.is_nothing() && is_uncovered(bare, state, part)
+}
+
+/// Whether neither the part nor another has a cell where it begins: where no other is a cell that is
+/// known, and else a look at them tells it.
+fn is_uncovered(bare: bool, state: &State, part: &Numbered) -> bool
+    ensures { result ≡ is_uncovered bare state.now part.now }
+{
+    bare && state.apart().is_empty() && !is_points(&part.atom)
+        || !state.allocated(part.atom.root(), None)
 }
 
 /// Whether the part isn't empty, and is at a symbol at which no other begins, be it a later one.
 fn is_alone(
-    roots: Option<u64>,
+    before: Size,
     atoms: &[Numbered],
     taken: &[Numbered],
     later: &[Numbered],
     part: &Numbered,
 ) -> bool
-    ensures { result ≡ is_alone (is_free_before roots atoms.now taken.now) later.now part.now }
+    ensures { result ≡ is_alone (is_free_before before atoms.now taken.now) later.now part.now }
 {
     let root = part.atom.root();
     !root.is_constant()
         && !part.atom.is_nothing()
-        && is_free_before(roots, atoms, taken, root)
+        && is_free_before(before, atoms, taken, root)
         && is_unused(later, root)
 }
 
 /// Whether the pair is of two terms, and no part begins at either.
-fn is_free_pair(
-    roots: Option<u64>,
-    atoms: &[Numbered],
-    taken: &[Numbered],
-    pair: (Term, Term),
-) -> bool
-    ensures { result ≡ is_free_pair (is_free_before roots atoms.now taken.now) pair }
+fn is_free_pair(before: Size, atoms: &[Numbered], taken: &[Numbered], pair: (Term, Term)) -> bool
+    ensures { result ≡ is_free_pair (is_free_before before atoms.now taken.now) pair }
 {
     !pair.0.is(pair.1)
-        && is_free_before(roots, atoms, taken, pair.0)
-        && is_free_before(roots, atoms, taken, pair.1)
+        && is_free_before(before, atoms, taken, pair.0)
+        && is_free_before(before, atoms, taken, pair.1)
 }
 
 /// Whether no part in front begins at the term: that is known, or a look at them tells it.
-fn is_free_before(roots: Option<u64>, atoms: &[Numbered], taken: &[Numbered], t: Term) -> bool
-    ensures { result ≡ is_free_before roots atoms.now taken.now t }
+fn is_free_before(before: Size, atoms: &[Numbered], taken: &[Numbered], t: Term) -> bool
+    ensures { result ≡ is_free_before before atoms.now taken.now t }
 {
-    is_clear(roots, t) || is_free(atoms, taken, t)
+    is_clear(before.roots, t)
+        || (is_opened(before.opened, t) || is_unused(atoms, t)) && is_unused(taken, t)
+}
+
+/// Whether it is the term at which a part was unrolled.
+fn is_opened(opened: Option<Term>, t: Term) -> bool
+    ensures { result ≡ is_opened opened t }
+{
+    match opened {
+        Some(u) => u.is(t),
+        None => false,
+    }
 }
 
 /// Whether it is known that no part begins at the term, where all begin at symbols below a number
@@ -238,13 +319,6 @@ fn is_clear(roots: Option<u64>, t: Term) -> bool
         (Some(_), Term::Nil | Term::Int(_)) => true,
         (Some(end), Term::Sym(n)) => end <= u64::from(n),
     }
-}
-
-/// Whether neither these parts nor the taken ones begin at the term.
-fn is_free(atoms: &[Numbered], taken: &[Numbered], t: Term) -> bool
-    ensures { result ≡ is_free atoms.now taken.now t }
-{
-    is_unused(atoms, t) && is_unused(taken, t)
 }
 
 /// Whether none of the parts begins at the term.

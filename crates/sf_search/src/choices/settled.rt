@@ -1,7 +1,7 @@
 //! What a search knows of the next goal's state without looking at it.
 
 ghost use Rattle.std.specs.Prelude.{◌≡◌};
-ghost use Rattle.sf_search.specs.Internal.Settled.{keeps_settled};
+ghost use Rattle.sf_search.specs.Internal.Settled.{keeps_settled, leaves_possible};
 
 use sf_sym::Tag;
 
@@ -15,4 +15,12 @@ pub(crate) fn keeps_settled(tag: Tag) -> bool
         Tag::Split(..) | Tag::Unroll(_) | Tag::New | Tag::End | Tag::Add => false,
         _ => true,
     }
+}
+
+/// Whether the tag, where the strategy takes it, leaves a goal first whose state isn't absurd: an
+/// empty part goes from one that isn't.
+pub(crate) fn leaves_possible(tag: Tag) -> bool
+    ensures { result ≡ leaves_possible tag }
+{
+    matches!(tag, Tag::Drop(_))
 }

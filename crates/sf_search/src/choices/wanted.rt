@@ -5,10 +5,11 @@ ghost use Rattle.std.specs.Option.{option_map};
 ghost use Rattle.sf_consume.specs.Subtract.{wanted_shape};
 ghost use Rattle.sf_core.specs.Program.View.{conjunct_of};
 ghost use Rattle.sf_search.specs.Internal.Choosing.{choice_of};
+ghost use Rattle.sf_search.specs.Internal.Settled.{IsSettled};
 ghost use Rattle.sf_search.specs.Strategy.{at_equality, at_inequality, at_list, at_points, at_tree, at_want, at_wanted, at_wanted_cell, begins_with, exact_atom, joins};
 ghost use Rattle.sf_sym.specs.Pending.{pending_of};
 
-use crate::choices::atoms::{lowest_cell, lowest_segment, lowest_shape, split_or, without_cell};
+use crate::choices::atoms::{at_cell, lowest_cell, lowest_segment, lowest_shape, split_or};
 use crate::choices::branches::at_choice;
 use crate::choices::choice::{Choice, Kind};
 use sf_consume::{binds, both, fits_cell, is_empty, is_same, wanted_shape};
@@ -18,6 +19,7 @@ use std::alloc::{AllocError, Global};
 
 /// What the strategy does at conjuncts to show. An `Err` means out of memory.
 pub(crate) fn at_want(alloc: Global, state: &State, want: &Pending) -> Result<Choice, AllocError>
+    requires { IsSettled state.now }
     ensures { IfOk result (λ c. choice_of c ≡ at_want state.now (pending_of want.now)) }
 {
     match want.first() {
@@ -33,6 +35,7 @@ fn at_wanted(
     bindings: &[Option<Term>],
     c: &Conjunct<Term>,
 ) -> Result<Choice, AllocError>
+    requires { IsSettled state.now }
     ensures { IfOk result
         (λ r. choice_of r ≡ at_wanted state.now bindings.now (conjunct_of c.now)) }
 {
@@ -83,6 +86,7 @@ fn at_points(
     c: &Conjunct<Term>,
     root: Option<Term>,
 ) -> Result<Choice, AllocError>
+    requires { IsSettled state.now }
     ensures { IfOk result (λ r. choice_of r
         ≡ at_points state.now bindings.now (conjunct_of c.now) root) }
 {
@@ -101,11 +105,13 @@ fn at_wanted_cell(
     c: &Conjunct<Term>,
     t: Term,
 ) -> Result<Choice, AllocError>
+    requires { IsSettled state.now }
     ensures { IfOk result (λ r. choice_of r
         ≡ at_wanted_cell state.now bindings.now (conjunct_of c.now) t) }
 {
-    let Some(a) = lowest_cell(state, t) else {
-        return Ok(without_cell(state, t, Kind::NoAtom));
+    let a = match at_cell(state, t, Kind::NoAtom) {
+        Ok(a) => a,
+        Err(choice) => return Ok(choice),
     };
     if fits_cell(alloc, state, bindings, c, a)? {
         Ok(Choice::Takes(Tag::Cell(a)))
@@ -121,6 +127,7 @@ fn at_list(
     c: &Conjunct<Term>,
     ends: Option<(Term, Term)>,
 ) -> Choice
+    requires { IsSettled state.now }
     ensures { choice_of result ≡ at_list state.now bindings.now (conjunct_of c.now) ends }
 {
     let Some((t, u)) = ends else {
@@ -151,6 +158,7 @@ fn at_tree(
     c: &Conjunct<Term>,
     root: Option<Term>,
 ) -> Choice
+    requires { IsSettled state.now }
     ensures { choice_of result ≡ at_tree state.now bindings.now (conjunct_of c.now) root }
 {
     let Some(t) = root else {
@@ -173,6 +181,7 @@ fn at_tree(
 
 /// The lowest atom that is the wanted segment or tree.
 fn exact(state: &State, bindings: &[Option<Term>], c: &Conjunct<Term>) -> Option<Choice>
+    requires { IsSettled state.now }
     ensures { option_map choice_of result
         ≡ exact_atom state.now (wanted_shape bindings.now (conjunct_of c.now)) }
 {

@@ -1,12 +1,13 @@
 //! The strategy at a goal.
 
-ghost use Rattle.std.specs.Prelude.{◌≡◌, ◌++◌, IfOk, List, false};
+ghost use Rattle.std.specs.Prelude.{◌≡◌, ◌++◌, IfNone, IfOk, List, false};
 ghost use Rattle.std.specs.Option.{option_map};
 ghost use Rattle.sf_search.specs.Internal.Choosing.{at_first, at_state, choice_of};
 ghost use Rattle.sf_search.specs.Internal.Settled.{IsSettled};
 ghost use Rattle.sf_search.specs.Strategy.{Choice as AnyChoice, at_end, at_items, chooses, or_else};
 ghost use Rattle.sf_sym.specs.Goal.{Item as Thing, goal_of, items_of, todo_of};
 ghost use Rattle.sf_sym.specs.Internal.Items.{is_nothing};
+ghost use Rattle.sf_sym.specs.Tests.{is_absurd};
 
 use crate::choices::atoms::split_or;
 use crate::choices::choice::{Choice, Kind};
@@ -21,6 +22,17 @@ use std::alloc::{AllocError, Global};
 /// then the lowest atom that can only be empty is so; then the item in front decides. An `Err`
 /// means out of memory, which is wanted for a wanted cell alone.
 pub fn choose(alloc: Global, goal: &Goal) -> Result<Choice, AllocError>
+    ensures { IfOk result (λ c. choice_of c ≡ chooses (goal_of goal.now)) }
+{
+    if goal.state.is_absurd() {
+        return Ok(Choice::Takes(Tag::Absurd));
+    }
+    choose_possible(alloc, goal)
+}
+
+/// The same at a goal whose state isn't absurd.
+pub(crate) fn choose_possible(alloc: Global, goal: &Goal) -> Result<Choice, AllocError>
+    requires { is_absurd goal.now.state ≡ false }
     ensures { IfOk result (λ c. choice_of c ≡ chooses (goal_of goal.now)) }
 {
     if let Some(choice) = at_state(&goal.state) {
@@ -39,14 +51,13 @@ pub(crate) fn choose_in_front(alloc: Global, goal: &Goal) -> Result<Choice, Allo
     at_items(alloc, &goal.state, goal.todo.as_slice())
 }
 
-/// What it does by what is known alone.
+/// What it does by what is known alone, where the state isn't absurd.
 #[tactic(auto, using(crate::proofs::Lowest::nothing_is_lowest, crate::proofs::Lowest::forced_is_lowest))]
 fn at_state(state: &State) -> Option<Choice>
-    ensures { (c : AnyChoice) → or_else (option_map choice_of result) c ≡ at_state state.now c }
+    requires { is_absurd state.now ≡ false }
+    ensures choice { (c : AnyChoice) → or_else (option_map choice_of result) c ≡ at_state state.now c }
+    ensures settled { IfNone result (IsSettled state.now) }
 {
-    if state.is_absurd() {
-        return Some(Choice::Takes(Tag::Absurd));
-    }
     state.is_numbered();
     if let Some(a) = state.droppable() {
         return Some(Choice::Takes(Tag::Drop(a)));
@@ -57,6 +68,7 @@ fn at_state(state: &State) -> Option<Choice>
 
 /// What it does by the item in front. An `Err` means out of memory.
 fn at_items(alloc: Global, state: &State, todo: &[Item]) -> Result<Choice, AllocError>
+    requires { IsSettled state.now }
     ensures { IfOk result (λ c. choice_of c ≡ at_items state.now (todo_of todo.now)) }
 {
     match peek_item(todo) {
@@ -67,6 +79,7 @@ fn at_items(alloc: Global, state: &State, todo: &[Item]) -> Result<Choice, Alloc
 
 /// What it does at an item that is something to do. An `Err` means out of memory.
 fn at_item(alloc: Global, state: &State, item: &Item) -> Result<Choice, AllocError>
+    requires { IsSettled state.now }
     ensures { IfOk result (λ c. (rest : List Thing) → is_nothing item.now ≡ false
         → choice_of c ≡ at_items state.now (items_of item.now ++ rest)) }
 {
@@ -85,6 +98,7 @@ fn at_item(alloc: Global, state: &State, item: &Item) -> Result<Choice, AllocErr
 
 /// What it does at commands: the first one decides.
 fn at_run(state: &State, commands: &[Command]) -> Choice
+    requires { IsSettled state.now }
     ensures { choice_of result ≡ at_first state.now commands.now }
 {
     match commands.split_first() {

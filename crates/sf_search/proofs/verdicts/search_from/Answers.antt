@@ -2,10 +2,9 @@ use Rattle.std.proofs.Common.{◌≡◌, ◌+◌, ◌<◌, ◌∙◌, ap, sym, s
 use Rattle.sf_base.specs.declared.limits.TheConstants.{PROCEDURE_TAGS}
 use Rattle.sf_rules.specs.Internal.Children.{stack_of}
 use Rattle.sf_search.proofs.Leading.{Leads, leads_on, leads_end, leads_fault, no_goals, stack_push}
-use Rattle.sf_search.proofs.Growing.{first_left_below, first_left_settled}
+use Rattle.sf_search.proofs.KnownNext.{known_of_first}
 use Rattle.sf_search.specs.Internal.Choosing.{choice_of, kind_of}
-use Rattle.sf_search.specs.Internal.Growth.{IsFirstBelow, leaves_roots, leaves_settled, staying}
-use Rattle.sf_search.specs.Internal.Settled.{IsFirstSettled}
+use Rattle.sf_search.specs.Internal.Knowing.{IsKnownOfFirst}
 use Rattle.sf_search.specs.Judge.{large, proved, stuck}
 use Rattle.sf_sym.specs.Goal.{goal_of}
 use Rattle.sf_search.proofs.verdicts.search_from.Goals as goal
@@ -16,8 +15,9 @@ loop-goal-preserved g c =
     let leads = subst (λ gs. Leads g.d (goal_of c.args.first ∷ []) gs c.loop-goal.tags.items) stack
     c.loop-goal.invariant.leads in
     let left = c.in-Ok.ensures.left in
-    let roots = subst (IsFirstBelow c.loop-goal.known.roots) stack c.loop-goal.invariant.roots in
-    let stays = staying c.in-Takes.tag c.loop-goal.known.roots c.in-Some.goal.state in
+    let known = subst (IsKnownOfFirst c.loop-goal.known) stack c.loop-goal.invariant.known in
+    let chosen = sym c.in_ok-tag.ensures ∙ ap choice_of c.in-Takes.is in
+    let next = left.3 in
     let longer : length c.follow.new.tags.items ≡ length c.loop-goal.tags.items + 1 =
     ap length c.in-Ok.ensures.tags ∙ length-append c.loop-goal.tags.items (c.in-Takes.tag ∷ []) in
     let below : length c.loop-goal.tags.items < PROCEDURE_TAGS = search (rules, arith) in
@@ -29,24 +29,23 @@ loop-goal-preserved g c =
           (sym left.2)
           (leads_on g.d (goal_of c.args.first ∷ []) (stack_of c.pop.new.self.items) (goal_of c.in-Some.goal)
           c.loop-goal.tags.items c.in-Takes.tag left.0 leads
-          (sym c.in_ok-tag.ensures ∙ ap choice_of c.in-Takes.is) left.1));
+          chosen left.1));
       count = omega (arith, longer, below);
-      settled =
-          subst (λ b. IsFirstSettled b (stack_of c.follow.new.stack.items)) (sym left.3)
-          (subst (IsFirstSettled (leaves_settled c.in-Takes.tag stays left.0)) (sym left.2)
-          (first_left_settled g.d (goal_of c.in-Some.goal) (stack_of c.pop.new.self.items) c.in-Takes.tag
-          c.loop-goal.known.roots left.0 roots (sym c.in_ok-tag.ensures ∙ ap choice_of c.in-Takes.is) left.1));
-      roots =
-          subst (λ o. IsFirstBelow o (stack_of c.follow.new.stack.items)) (sym left.4)
-          (subst (IsFirstBelow (leaves_roots stays left.0)) (sym left.2)
-          (first_left_below g.d (goal_of c.in-Some.goal) (stack_of c.pop.new.self.items) c.in-Takes.tag
-          c.loop-goal.known.roots left.0 roots (sym c.in_ok-tag.ensures ∙ ap choice_of c.in-Takes.is) left.1));
+      known =
+          subst (IsKnownOfFirst c.in-Ok.next) (sym left.2)
+          (known_of_first g.d (goal_of c.in-Some.goal) (stack_of c.pop.new.self.items) c.in-Takes.tag c.loop-goal.known
+          c.in-Ok.next left.0 known c.is_numbered.ensures chosen left.1 next);
     }
 
-pub choose_knowing-requires : goal.choose_knowing-requires
-choose_knowing-requires g c =
+pub choose_knowing-requires-clause-settled : goal.choose_knowing-requires-clause-settled
+choose_knowing-requires-clause-settled g c =
     let stack = ap stack_of c.in-Some.ensures.items ∙ stack_push c.pop.new.self.items c.in-Some.goal in
-    subst (IsFirstSettled c.loop-goal.known.settled) stack c.loop-goal.invariant.settled
+    (subst (IsKnownOfFirst c.loop-goal.known) stack c.loop-goal.invariant.known).settled
+
+pub choose_knowing-requires-clause-possible : goal.choose_knowing-requires-clause-possible
+choose_knowing-requires-clause-possible g c =
+    let stack = ap stack_of c.in-Some.ensures.items ∙ stack_push c.pop.new.self.items c.in-Some.goal in
+    (subst (IsKnownOfFirst c.loop-goal.known) stack c.loop-goal.invariant.known).possible
 
 pub returns-in-Stays-clause-err : goal.returns-in-Stays-clause-err
 returns-in-Stays-clause-err g c =

@@ -2,8 +2,7 @@ use Rattle.std.proofs.Common.{◌≤◌, ◌-◌, [], ◌∷◌, length}
 use Rattle.sf_base.specs.declared.limits.TheConstants.{PROCEDURE_TAGS}
 use Rattle.sf_rules.specs.Internal.Children.{stack_of}
 use Rattle.sf_search.proofs.Leading.{Leads}
-use Rattle.sf_search.specs.Internal.Growth.{IsFirstBelow}
-use Rattle.sf_search.specs.Internal.Settled.{IsFirstSettled}
+use Rattle.sf_search.specs.Internal.Knowing.{IsKnownOfFirst}
 use Rattle.sf_sym.specs.Goal.{goal_of}
 use Rattle.sf_search.proofs.verdicts.search_from.Given as goal
 
@@ -11,8 +10,7 @@ abbrev pub invariant-loop-goal : goal.invariant-loop-goal
 invariant-loop-goal g l = record {
   leads : Leads g.d (goal_of l.fn.first ∷ []) (stack_of l.stack.items) l.tags.items;
   count : length l.tags.items ≤ PROCEDURE_TAGS;
-  settled : IsFirstSettled l.known.settled (stack_of l.stack.items);
-  roots : IsFirstBelow l.known.roots (stack_of l.stack.items);
+  known : IsKnownOfFirst l.known (stack_of l.stack.items);
 }
 
 abbrev pub decreases-loop-goal : goal.decreases-loop-goal

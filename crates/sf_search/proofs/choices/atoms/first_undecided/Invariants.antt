@@ -1,13 +1,11 @@
 use Rattle.std.proofs.Common.{◌≡◌, length}
-use Rattle.sf_consume.specs.Subtract.{is_same_shape}
 use Rattle.sf_sym.specs.Numbers.{AreRising, numbers}
-use Rattle.sf_search.specs.Strategy.{lowest, which}
-use Rattle.sf_search.proofs.choices.atoms.lowest_shape.Given as goal
+use Rattle.sf_search.specs.Strategy.{lowest, undecided_ends}
+use Rattle.sf_search.proofs.choices.atoms.first_undecided.Given as goal
 
 abbrev pub invariant-loop-first : goal.invariant-loop-first
 invariant-loop-first l = record {
-  same : lowest (which (λ x. is_same_shape x l.wanted)) l.state.atoms ≡ lowest (which (λ x. is_same_shape x
-      l.wanted)) l.left;
+  same : lowest (undecided_ends l.state) l.state.atoms ≡ lowest (undecided_ends l.state) l.left;
   rising : AreRising (numbers l.left);
 }
 

@@ -4,7 +4,7 @@ use Rattle.sf_sym.specs.Cells.{fields_at}
 use Rattle.sf_sym.specs.Numbers.{AreRising, numbers}
 use Rattle.sf_search.specs.Strategy.{lowest}
 use Rattle.sf_search.proofs.Lowest.{number_first}
-use Rattle.sf_search.proofs.choices.atoms.lowest_cell.Goals as goal
+use Rattle.sf_search.proofs.choices.atoms.first_cell.Goals as goal
 
 pub returns-then-is_cell_at : goal.returns-then-is_cell_at
 returns-then-is_cell_at c =

@@ -4,7 +4,7 @@ use Rattle.sf_consume.specs.Subtract.{is_same_shape}
 use Rattle.sf_sym.specs.Numbers.{AreRising, numbers}
 use Rattle.sf_search.specs.Strategy.{lowest, which}
 use Rattle.sf_search.proofs.Lowest.{number_first}
-use Rattle.sf_search.proofs.choices.atoms.lowest_shape.Goals as goal
+use Rattle.sf_search.proofs.choices.atoms.first_shape.Goals as goal
 
 pub returns-then-is_same_shape : goal.returns-then-is_same_shape
 returns-then-is_same_shape c =

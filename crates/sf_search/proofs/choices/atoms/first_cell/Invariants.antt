@@ -2,7 +2,7 @@ use Rattle.std.proofs.Common.{◌≡◌, length}
 use Rattle.sf_sym.specs.Cells.{fields_at}
 use Rattle.sf_sym.specs.Numbers.{AreRising, numbers}
 use Rattle.sf_search.specs.Strategy.{lowest}
-use Rattle.sf_search.proofs.choices.atoms.lowest_cell.Given as goal
+use Rattle.sf_search.proofs.choices.atoms.first_cell.Given as goal
 
 abbrev pub invariant-loop-first : goal.invariant-loop-first
 invariant-loop-first l = record {
