@@ -1,5 +1,5 @@
 -- A value parameter is primed exactly where a command of the body sets its name or passes it as a reference.
-use Rattle.std.proofs.Common.{◌≡◌, ◌⊎◌, inl, inr, ℕ, Bool, true, List, [], ◌∷◌, ◌++◌, Contains, refl, sym, ap, subst}
+use Rattle.std.proofs.Common.{◌≡◌, inl, inr, Bool, true, Contains, refl, sym, subst}
 use Rattle.std.proofs.lemmas.List.Elements.{Contains-append_cases, Contains-append_left, Contains-append_right}
 use Rattle.std.proofs.lemmas.List.Folds.{Any-from_list_any, list_any-from_Any}
 use Rattle.std.proofs.lemmas.Slice.Eq.{bytes_eq-Decides}
@@ -7,7 +7,7 @@ use Rattle.std.specs.Str.{bytes_eq}
 use Rattle.sf_base.proofs.Elements.{contains-nil, contains-single, contains-single_of}
 use Rattle.sf_base.proofs.Sums.{either}
 use Rattle.sf_ast.specs.declared.word.Word.{Word}
-use Rattle.sf_ast.specs.Surface.{Command, assign, look_up, new, mutate, dispose, if_alone, if, while, with, call, fork, block, Commands, done, then, Procedure}
+use Rattle.sf_ast.specs.Surface.{Command, assign, look_up, new, mutate, dispose, if_alone, if, while, with, call, fork, block, Commands, done, then}
 use Rattle.sf_elab.specs.Bodies.Commands.{references_in, set_in, set_in_all}
 use Rattle.sf_elab.specs.Laws.{IsPartOf, IsPartOfAll, PrimedValuesAreSet, Sets}
 use Rattle.sf_elab.specs.Bodies.Procedures.{is_primed}
