@@ -1,16 +1,25 @@
 -- The laws of runs of one task, under the names of their functions in src/laws.rt.
-use Rattle.sf_run.specs.Laws.{BasesAreFree, LoneTasksFindRegionsFree, LoneTasksProgress, OutcomesAreUnique, OutcomesExist, SequentialRunsAreLone, UnitsStayFree}
+use Rattle.std.proofs.Common.{subst}
+use Rattle.sf_run.specs.Laws.{BasesAreFree, BeginningsAreStarts, EndsAreNumbered, EndsAreUnique, LoneTasksFindRegionsFree, LoneTasksProgress, NumberedRunsReach, OutcomesAreUnique, OutcomesExist, SequentialIsDecided, SequentialRunsAreLone, SpentRunsHaveUsedAll, StartsHaveOneOutcome, UnitsStayFree, WaitingRunsTryInVain}
 use Rattle.sf_core.proofs.Machine.InOrder.Starts.{start-in_order, reach-keeps}
-use Rattle.sf_core.specs.Machine.Supplies.{units}
+use Rattle.sf_core.specs.Machine.Alone.{finished, spent, waiting, Alone}
+use Rattle.sf_core.specs.Machine.Config.{Config}
+use Rattle.sf_core.specs.Machine.Supplies.{has, units}
 use Rattle.sf_core.specs.Program.Formed.{IsFormed}
 use Rattle.sf_core.specs.Program.Syntax.{Program}
 use Rattle.sf_calls.specs.FirstBreach.{Conditions}
 use Rattle.sf_calls.specs.Lemmas.Broken.{first_broken}
 use Rattle.sf_calls.specs.declared.breach.Breach.TheVariants.{Reentered}
+use Rattle.sf_foot.specs.Starting.{store_of}
+use Rattle.sf_heap.specs.Cells.{heap_of}
+use Rattle.sf_run.proofs.Beginnings.{begin-base, begin-one, begin-start, begin-starts}
+use Rattle.sf_run.proofs.Finishes.{ends-same}
 use Rattle.sf_run.proofs.Lone.{reach-lone, start-lone}
+use Rattle.sf_run.proofs.Numbering.{alone-numbered, end-numbered, reach-numbered, spent-spending, waiting-numbered}
 use Rattle.sf_run.proofs.Outcomes.{from-one}
 use Rattle.sf_run.proofs.Progress.{lone-outcome, lone-progress}
 use Rattle.sf_run.proofs.Regions.{NeverReenters, reach-apart, region-free, start-apart}
+use Rattle.sf_run.proofs.Telling.{tell-sequential}
 use Rattle.sf_run.proofs.Units.{start-free, step-free}
 
 pub outcomes_are_unique : OutcomesAreUnique
@@ -56,3 +65,55 @@ outcomes_exist p f store heap start base count formed holds n s good b =
     lone-outcome p s.procedure count base start formed (conditions-never p formed holds)
     (start-in_order p f store heap start formed s) (start-apart p f store heap start n s) good
     (start-free p f store heap start base s b)
+
+pub starts_have_one_outcome : StartsHaveOneOutcome
+unfolding StartsHaveOneOutcome OutcomesExist OutcomesAreUnique
+starts_have_one_outcome p f vars heap parts unit count formed holds sound n s fresh =
+    let found = outcomes_exist p f (store_of s.procedure vars) (heap_of heap) s.config unit count formed holds n
+    s.starts (λ events c r. sound f (store_of s.procedure vars) (heap_of heap) s.config c events s.starts r)
+    (begin-base p f vars heap parts s unit fresh) in
+    record {
+      out = found.0;
+      comes = record { start = s.config; begins = begin-start p f vars heap parts s; comes = found.1 };
+      only = λ other k. outcomes_are_unique p s.config unit count found.0 other found.1
+          (subst (λ (z : Config). Alone p z unit count other) (begin-one p f vars heap parts s k.start k.begins)
+          k.comes);
+    }
+
+pub ends_are_unique : EndsAreUnique
+unfolding EndsAreUnique
+ends_are_unique p f c vars other heap more a b = ends-same p f c vars other heap more a b
+
+pub beginnings_are_starts : BeginningsAreStarts
+unfolding BeginningsAreStarts
+beginnings_are_starts p f vars heap parts c s b =
+    (s.procedure, s.there, begin-starts p f vars heap parts s c b)
+
+pub numbered_runs_reach : NumberedRunsReach
+unfolding NumberedRunsReach
+numbered_runs_reach p start c base count events n =
+    reach-numbered p events start c (has (units base count)) n.supply n.run
+
+pub ends_are_numbered : EndsAreNumbered
+unfolding EndsAreNumbered
+ends_are_numbered p f store heap start c base count n s a =
+    end-numbered p start c base count
+    (alone-numbered p (units base count) start (finished c) (start-lone p f store heap start n s) a)
+
+pub spent_runs_have_used_all : SpentRunsHaveUsedAll
+unfolding SpentRunsHaveUsedAll
+spent_runs_have_used_all p f store heap start base count n s a =
+    spent-spending p start base count
+    (alone-numbered p (units base count) start spent (start-lone p f store heap start n s) a)
+
+pub waiting_runs_try_in_vain : WaitingRunsTryInVain
+unfolding WaitingRunsTryInVain LoneTasksFindRegionsFree
+waiting_runs_try_in_vain p f store heap start base count r formed holds n s a tries =
+    let k = alone-numbered p (units base count) start (waiting r) (start-lone p f store heap start n s) a in
+    waiting-numbered p start base count r k
+    (λ q w. lone_tasks_find_regions_free p f store heap start k.last k.events q formed holds n s
+    (reach-numbered p k.events start k.last (has (units base count)) (has k.left) k.run) w.0) tries
+
+pub sequential_is_decided : SequentialIsDecided
+unfolding SequentialIsDecided
+sequential_is_decided p f = tell-sequential p f

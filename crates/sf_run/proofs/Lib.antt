@@ -4,6 +4,11 @@ pub mod Lone
 pub mod Units
 pub mod Regions
 pub mod Progress
-pub mod Closing
 pub mod Searching
+pub mod Telling
+pub mod Numbering
+pub mod Beginnings
+pub mod Finishes
+pub mod Proved
+pub mod Closing
 pub mod Turns

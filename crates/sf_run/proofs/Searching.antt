@@ -26,7 +26,7 @@ use Rattle.sf_run.specs.Internal.Searches.{IsFork, HasFork, VisitsOrForks}
 use Rattle.sf_run.specs.Sequential.{ForksIn, Forks, ReachesFork, IsSequential}
 
 -- a parallel call has its two calls
-fork_has : (c : Command) → IsFork c → (e : Call × Call) × Contains (head_forks c) e
+pub fork_has : (c : Command) → IsFork c → (e : Call × Call) × Contains (head_forks c) e
 fork_has (fork place c d) h = ((c, d), (contains-cons (c, d) [] (c, d)).1 (inl refl))
 fork_has (assign place x e) h = absurd h
 fork_has (look_up place x e field) h = absurd h

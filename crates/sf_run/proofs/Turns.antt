@@ -22,7 +22,7 @@ use Rattle.sf_core.specs.Program.Formed.{IsFormed}
 use Rattle.sf_core.specs.Program.Syntax.{with, Procedure, Program}
 use Rattle.sf_core.proofs.Machine.Laws.{runs_compose}
 use Rattle.sf_foot.specs.declared.vars.Vars.{Vars}
-use Rattle.sf_foot.specs.Starting.{IsFirstUnit, IsMentioned, StartsWith, store_of}
+use Rattle.sf_foot.specs.Starting.{IsFreshFrom, StartsWith, store_of}
 use Rattle.sf_heap.specs.Cells.{Cells, FieldValues, cell_of, heap_of}
 use Rattle.sf_machine.specs.declared.event.Event.{Event as CodeEvent}
 use Rattle.sf_machine.specs.declared.event.Stepped.{Stepped}
@@ -36,6 +36,7 @@ use Rattle.sf_run.specs.declared.running.Halt.TheVariants.{Ended, Waiting as Wai
 use Rattle.sf_run.specs.Laws.{LoneTasksProgress}
 use Rattle.sf_run.specs.Lone.{IsFreeFrom}
 use Rattle.sf_run.specs.Sequential.{IsSequential}
+use Rattle.sf_run.proofs.Beginnings.{begin-base, begin-one}
 use Rattle.sf_run.proofs.Closing.{lone_tasks_progress}
 use Rattle.sf_run.proofs.Units.{start-free, step-free}
 use Rattle.sf_safe.specs.Law.{IsSound}
@@ -62,16 +63,9 @@ cell-turn fields count task values n entry e = record {
 -- where the start begins, the task is alone, and units are free from the first one on
 pub begin-turn : (p : Program) (f : ProcId) (vars : Vars) (heap : Cells) (parts : List (List ℕ)) (unit : ℕ)
     (c : Config) → IsFormed p → Conditions p → IsSound p → IsSequential p f → StartsWith p f vars heap parts
-    → IsFirstUnit vars heap unit → Begins p f vars heap c → IsAlone p unit c
-begin-turn p f vars heap parts unit c formed conditions sound sequential s first b =
-    let procedure : b.procedure ≡ s.procedure =
-    some-once (procedure_at p f) b.procedure s.procedure b.there s.there in
-    let starting : s.procedure ≡ (s.starts).procedure =
-    some-once (procedure_at p f) s.procedure (s.starts).procedure s.there (s.starts).there in
-    let same : c ≡ s.config =
-    b.is ∙ ap (λ (g : Procedure). initial_config f g (store_of g vars) (heap_of heap)) procedure
-    ∙ ap (λ (g : Procedure). initial_config f g (store_of s.procedure vars) (heap_of heap)) starting
-    ∙ sym (s.starts).is in
+    → IsFreshFrom vars heap unit → Begins p f vars heap c → IsAlone p unit c
+begin-turn p f vars heap parts unit c formed conditions sound sequential s fresh b =
+    let same : c ≡ s.config = begin-one p f vars heap parts s c b in
     record {
       procedure = f;
       store = store_of s.procedure vars;
@@ -85,24 +79,9 @@ begin-turn p f vars heap parts unit c formed conditions sound sequential s first
       starts = s.starts;
       reached = same;
       free = subst (IsFreeFrom unit) (sym same)
-          (start-free p f (store_of s.procedure vars) (heap_of heap) s.config unit s.starts (record {
-            above_start = positive first.1;
-            above_cells = λ k l. ap (λ (z : Config). z.common.heap k) (s.starts).is ∙ none k l;
-          }));
+          (start-free p f (store_of s.procedure vars) (heap_of heap) s.config unit s.starts
+          (begin-base p f vars heap parts s unit fresh));
     }
-  where
-    positive : ((unit ≡ 1) ⊎ ((location : ℕ) × IsMentioned vars heap location × (unit ≡ location + 1))) → 0 < unit
-    positive (inl e) = omega (arith, e)
-    positive (inr (l, m, e)) = omega (arith, e)
-
-    none : (k : ℕ) → unit ≤ k → heap_of heap k ≡ None
-    none k l = elim (some-or_none (get heap k)) [
-      | inl (here, e) ↦ absurd (below k l ((first.0).1 k (inl (ap is_some e))))
-      | inr e ↦ ap (option_map cell_of) e
-    ]
-      where
-        below : (k : ℕ) → unit ≤ k → k < unit → ⊥
-        below k l h = omega (arith, l, h)
 
 -- where it waits at a region, that is what the step answers
 answer-waits : (p : Program) (unit : ℕ) (c : Config) (q : ResId) → IsFreeFrom unit c → (HasEnded [] c.tasks → ⊥)

@@ -1,23 +1,32 @@
--- Laws of runs of one task: what they come to is one thing, and comes of each proved program.
+-- Laws of runs of one task: what they come to is one thing, comes of each proved program, and comes by a numbered run.
 -- Hoare, "An Axiomatic Basis for Computer Programming" (1969): sequential programs; Wright and Felleisen, "A
 -- Syntactic Approach to Type Soundness" (1994): each configuration has ended, or goes on.
-use Rattle.std.specs.Prelude.{◌≡◌, ◌⊎◌, ℕ, suc, List, [], None}
+use Rattle.std.specs.Prelude.{◌≡◌, ◌⊎◌, ℕ, suc, List, [], Some, None, map}
 use Rattle.sf_base.specs.declared.ids.ProcId.{ProcId}
 use Rattle.sf_base.specs.declared.ids.ResId.{ResId}
 use Rattle.sf_base.specs.HeapStore.{Heap, Store}
-use Rattle.sf_core.specs.Machine.Alone.{Outcome, WaitsAlone, event_alone, Alone}
+use Rattle.sf_core.specs.Machine.Alone.{Outcome, finished, spent, waiting, WaitsAlone, event_alone, Alone}
 use Rattle.sf_core.specs.Machine.Config.{Config}
 use Rattle.sf_core.specs.Machine.Enabled.{HasEnded}
 use Rattle.sf_core.specs.Machine.Good.{Good}
+use Rattle.sf_core.specs.Machine.Numbered.{Numbered}
 use Rattle.sf_core.specs.Machine.Reach.{Reach}
-use Rattle.sf_core.specs.Machine.SpentWaits.{IsAtRegion}
+use Rattle.sf_core.specs.Machine.SpentSteps.{SpentSteps}
+use Rattle.sf_core.specs.Machine.SpentWaits.{IsAtRegion, SpentWaits}
 use Rattle.sf_core.specs.Machine.Start.{Start}
-use Rattle.sf_core.specs.Machine.Step.{Event, Step}
+use Rattle.sf_core.specs.Machine.Step.{Event, procedure_at, Step}
 use Rattle.sf_core.specs.Program.Formed.{IsFormed}
-use Rattle.sf_core.specs.Program.Syntax.{Program}
+use Rattle.sf_core.specs.Program.Syntax.{Procedure, Program}
 use Rattle.sf_calls.specs.FirstBreach.{Conditions}
+use Rattle.sf_foot.specs.declared.vars.Vars.{Vars}
+use Rattle.sf_foot.specs.Starting.{IsFreshFrom, StartsWith, store_of}
+use Rattle.sf_heap.specs.Cells.{Cells, heap_of}
+use Rattle.sf_machine.specs.Beginning.{Begins}
+use Rattle.sf_machine.specs.Ending.{Ends}
 use Rattle.sf_run.specs.Lone.{IsLone, IsFreeFrom, IsBase}
+use Rattle.sf_run.specs.Running.{ComesTo}
 use Rattle.sf_run.specs.Sequential.{IsSequential}
+use Rattle.sf_safe.specs.Law.{IsSound}
 
 -- from each start and each supply of units comes at most one outcome
 unfoldable pub OutcomesAreUnique : Type 0
@@ -66,3 +75,65 @@ unfoldable pub OutcomesExist : Type 0
 OutcomesExist = (p : Program) (f : ProcId) (store : Store) (heap : Heap) (start : Config) (base count : ℕ)
     → IsFormed p → Conditions p → IsSequential p f → Start p f store heap start → StaysGood p start
     → IsBase base start → (out : Outcome) × Alone p start base count out
+
+-- what comes of the procedure from these variables and cells is one thing
+pub record HasOneOutcome (p : Program) (f : ProcId) (vars : Vars) (heap : Cells) (base count : ℕ) : Type 0 where
+  pub out : Outcome
+  pub comes : ComesTo p f vars heap base count out
+  pub only : (other : Outcome) → ComesTo p f vars heap base count other → out ≡ other
+
+-- in a sound program that meets the conditions on variables, so it is of each start, for each number of units
+unfoldable pub StartsHaveOneOutcome : Type 0
+StartsHaveOneOutcome = (p : Program) (f : ProcId) (vars : Vars) (heap : Cells) (parts : List (List ℕ))
+    (unit count : ℕ) → IsFormed p → Conditions p → IsSound p → IsSequential p f → StartsWith p f vars heap parts
+    → IsFreshFrom vars heap unit → HasOneOutcome p f vars heap unit count
+
+-- two ends are the same: in the values of variables and in the cells
+pub record EndsSame (vars other : Vars) (heap more : Cells) : Type 0 where
+  pub own : vars.own.items ≡ other.own.items
+  pub shared : map (λ vs. vs.items) vars.shared.items ≡ map (λ vs. vs.items) other.shared.items
+  pub cells : heap_of heap ≡ heap_of more
+
+-- a configuration has one end at most
+unfoldable pub EndsAreUnique : Type 0
+EndsAreUnique = (p : Program) (f : ProcId) (c : Config) (vars other : Vars) (heap more : Cells)
+    → Ends p f c vars heap → Ends p f c other more → EndsSame vars other heap more
+
+-- the configuration in which a procedure begins with variables and cells that are a start of it, is a start
+unfoldable pub BeginningsAreStarts : Type 0
+BeginningsAreStarts = (p : Program) (f : ProcId) (vars : Vars) (heap : Cells) (parts : List (List ℕ)) (c : Config)
+    → StartsWith p f vars heap parts → Begins p f vars heap c
+    → (g : Procedure) × (procedure_at p f ≡ Some g) × Start p f (store_of g vars) (heap_of heap) c
+
+-- what a numbered run reaches, its events lead to
+unfoldable pub NumberedRunsReach : Type 0
+NumberedRunsReach = (p : Program) (start c : Config) (base count : ℕ) (events : List Event)
+    → Numbered p start base count events c → Reach p start events c
+
+-- a numbered list of events leads there from the start, and there the entry has ended
+pub record IsNumberedEnd (p : Program) (start : Config) (base count : ℕ) (c : Config) : Type 0 where
+  pub events : List Event
+  pub numbered : Numbered p start base count events c
+  pub ended : HasEnded [] c.tasks
+
+-- where no parallel call can be reached, what a run ends in is that
+unfoldable pub EndsAreNumbered : Type 0
+EndsAreNumbered = (p : Program) (f : ProcId) (store : Store) (heap : Heap) (start c : Config) (base count : ℕ)
+    → IsSequential p f → Start p f store heap start → Alone p start base count (finished c)
+    → IsNumberedEnd p start base count c
+
+-- where it has used its units, it was given so many, had as many events, and would go on
+unfoldable pub SpentRunsHaveUsedAll : Type 0
+SpentRunsHaveUsedAll = (p : Program) (f : ProcId) (store : Store) (heap : Heap) (start : Config) (base count : ℕ)
+    → IsSequential p f → Start p f store heap start → Alone p start base count spent
+    → SpentSteps p start base count [] count
+
+-- where it waits for a condition, it tries the region in vain as often as one likes
+unfoldable pub WaitingRunsTryInVain : Type 0
+WaitingRunsTryInVain = (p : Program) (f : ProcId) (store : Store) (heap : Heap) (start : Config) (base count : ℕ)
+    (r : ResId) → IsFormed p → Conditions p → IsSequential p f → Start p f store heap start
+    → Alone p start base count (waiting r) → (tries : ℕ) → SpentWaits p start base count [] r tries
+
+-- a parallel call can be reached from a procedure, or none can
+unfoldable pub SequentialIsDecided : Type 0
+SequentialIsDecided = (p : Program) (f : ProcId) → IsSequential p f ⊎ (IsSequential p f → ⊥)

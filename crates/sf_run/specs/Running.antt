@@ -4,7 +4,10 @@ use Rattle.std.specs.Prelude.{◌≡◌, ℕ, []}
 use Rattle.sf_base.specs.declared.ids.ProcId.{ProcId}
 use Rattle.sf_core.specs.Machine.Alone.{Outcome, finished, spent, waiting, Alone}
 use Rattle.sf_core.specs.Machine.Config.{Config}
+use Rattle.sf_core.specs.Program.ProgramView.{program_of}
 use Rattle.sf_core.specs.Program.Syntax.{Program}
+use Rattle.sf_check.specs.Accepted.{arranged_in}
+use Rattle.sf_check.specs.declared.proof.Proof.{Proof}
 use Rattle.sf_foot.specs.declared.start.Finish.{Finish}
 use Rattle.sf_foot.specs.declared.vars.Vars.{Vars}
 use Rattle.sf_heap.specs.Cells.{Cells}
@@ -13,6 +16,10 @@ use Rattle.sf_machine.specs.Ending.{Ends}
 use Rattle.sf_run.specs.declared.stop.Budget.{Budget}
 use Rattle.sf_run.specs.declared.stop.Stop.{Stop}
 use Rattle.sf_run.specs.declared.stop.Stop.TheVariants.{Steps, Waits, OutOfMemory}
+
+-- the program that is proved
+abbrev pub program_in : Proof → Program
+program_in proof = program_of (arranged_in proof).program
 
 -- what comes of the procedure from these variables and cells, with so many units from a base on
 pub record ComesTo (p : Program) (f : ProcId) (vars : Vars) (heap : Cells) (base count : ℕ) (out : Outcome) :

@@ -2,12 +2,20 @@
 
 ghost use Rattle.sf_run.specs.Laws.{
   BasesAreFree,
+  BeginningsAreStarts,
+  EndsAreNumbered,
+  EndsAreUnique,
   LoneTasksFindRegionsFree,
   LoneTasksProgress,
+  NumberedRunsReach,
   OutcomesAreUnique,
   OutcomesExist,
+  SequentialIsDecided,
   SequentialRunsAreLone,
+  SpentRunsHaveUsedAll,
+  StartsHaveOneOutcome,
   UnitsStayFree,
+  WaitingRunsTryInVain,
 };
 
 /// From a start and a supply of units at most one outcome comes.
@@ -53,4 +61,56 @@ pub fn lone_tasks_progress()
 #[tactic(auto, using(crate::proofs::Closing::outcomes_exist))]
 pub fn outcomes_exist()
     ensures { OutcomesExist }
+{}
+
+/// In a sound program that meets the conditions on variables, exactly one outcome comes of each start,
+/// for each number of units.
+#[tactic(auto, using(crate::proofs::Closing::starts_have_one_outcome))]
+pub fn starts_have_one_outcome()
+    ensures { StartsHaveOneOutcome }
+{}
+
+/// What a configuration ends with is one thing: the values of variables, and the cells.
+#[tactic(auto, using(crate::proofs::Closing::ends_are_unique))]
+pub fn ends_are_unique()
+    ensures { EndsAreUnique }
+{}
+
+/// Where a procedure begins with variables and cells that are a start of it, is a start.
+#[tactic(auto, using(crate::proofs::Closing::beginnings_are_starts))]
+pub fn beginnings_are_starts()
+    ensures { BeginningsAreStarts }
+{}
+
+/// What a numbered run reaches, its events lead to.
+#[tactic(auto, using(crate::proofs::Closing::numbered_runs_reach))]
+pub fn numbered_runs_reach()
+    ensures { NumberedRunsReach }
+{}
+
+/// Where no parallel call can be reached, a run ends in what a numbered list of events leads to, and
+/// there the entry has ended.
+#[tactic(auto, using(crate::proofs::Closing::ends_are_numbered))]
+pub fn ends_are_numbered()
+    ensures { EndsAreNumbered }
+{}
+
+/// Where a run has used its units, after some numbered list the entry's task was given so many, has
+/// used as many, and would go on.
+#[tactic(auto, using(crate::proofs::Closing::spent_runs_have_used_all))]
+pub fn spent_runs_have_used_all()
+    ensures { SpentRunsHaveUsedAll }
+{}
+
+/// Where a run waits for a condition, after some numbered list the entry's task tries the region in
+/// vain, as often as one likes.
+#[tactic(auto, using(crate::proofs::Closing::waiting_runs_try_in_vain))]
+pub fn waiting_runs_try_in_vain()
+    ensures { WaitingRunsTryInVain }
+{}
+
+/// A parallel call can be reached from a procedure, or none can.
+#[tactic(auto, using(crate::proofs::Closing::sequential_is_decided))]
+pub fn sequential_is_decided()
+    ensures { SequentialIsDecided }
 {}

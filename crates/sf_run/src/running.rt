@@ -1,26 +1,33 @@
 //! The run of one task, which gives its events the units from the start's first one on.
 
 ghost use Rattle.std.specs.Prelude.{◌≡◌, ◌+◌, ◌^◌, ◌<◌, ◌≤◌, None, length, IfErr, IfOk, IfSome};
+ghost use Rattle.sf_base.specs.declared.limits.TheConstants.{STEPS, WAITS};
 ghost use Rattle.sf_calls.specs.FirstBreach.{Conditions};
 ghost use Rattle.sf_core.specs.Machine.Alone.{AloneFrom};
 ghost use Rattle.sf_core.specs.Machine.Supplies.{units};
 ghost use Rattle.sf_core.specs.Program.ProgramView.{program_of};
-ghost use Rattle.sf_foot.specs.Starting.{IsFirstUnit, StartsWith};
+ghost use Rattle.sf_foot.specs.Starting.{StartsWith};
 ghost use Rattle.sf_machine.specs.Configs.{config_of};
 ghost use Rattle.sf_run.specs.Internal.Turns.{GoesOn, Halts, HaltsAtLast, IsAlone, IsBlank, outcome_of};
-ghost use Rattle.sf_run.specs.Running.{EndsWith, Stops};
+ghost use Rattle.sf_run.specs.Running.{EndsWith, Stops, program_in};
 ghost use Rattle.sf_run.specs.Sequential.{IsSequential};
 ghost use Rattle.sf_safe.specs.Law.{IsSound};
 
 use crate::stop::{Budget, Stop};
 use sf_base::{ProcId, ResId, TaskPath};
+use sf_calls::laws::{conditions_from_truncation, sets_from_truncation};
+use sf_check::Proof;
 use sf_core::Program;
 use sf_foot::{Finish, Start};
 use sf_heap::Cell;
+use sf_io::Gate;
 use sf_machine::{
     Config, Event, Stepped, answers_are_exclusive, begin, refused_events_do_not_step, step,
 };
+use sf_precise::laws::{ordered_is_determined, orders_from_truncation};
+use sf_sound::proofs_are_sound;
 use std::alloc::{AllocError, Global};
+use std::thread::Threads;
 
 /// Why the entry's task makes no further event.
 #[derive(Clone, Copy)]
@@ -33,12 +40,53 @@ enum Halt {
     Waiting(ResId),
 }
 
-/// Runs procedure `f` of a sound program from a start of it, where no parallel call can be reached
+/// Runs procedure `f` of a proved program from a start of it, where no parallel call can be reached
 /// from `f`. An `Ok` has what the run ends with. `Steps` says that the task would go on and no unit
 /// is left. `Waits` says that it is at a region whose condition is false: no other task would make
 /// it true, so each try that the budget allows would be in vain. What comes of a start is one thing,
 /// so each of these answers comes only where it is that; an `Err` may also say that memory ran out.
-pub fn run(
+///
+/// So far there are no parallel calls to run, whatever the gate: no thread is started and nothing
+/// waits.
+pub fn run<R: Threads + Sync, G: Gate>(
+    _rt: &R,
+    alloc: Global,
+    proof: &Proof<'_>,
+    f: ProcId,
+    start: Start,
+    budget: Budget,
+    _gate: &G,
+) -> Result<Finish, Stop>
+    requires starts { StartsWith (program_in proof.now) f start.vars start.heap start.parts.items }
+    requires sequential { IsSequential (program_in proof.now) f }
+    requires steps { (1 ≤ budget.steps) × (budget.steps ≤ STEPS) }
+    requires waits { (1 ≤ budget.waits) × (budget.waits ≤ WAITS) }
+    ensures ends { IfOk result
+        (EndsWith (program_in proof.now) f start.vars start.heap start.unit budget.steps) }
+    ensures stops { IfErr result
+        (Stops (program_in proof.now) f start.vars start.heap start.unit budget) }
+{
+    let p = proved_program(proof);
+    run_sound(alloc, p, f, start, budget)
+}
+
+/// The program that is proved: so it is sound.
+fn proved_program<'a>(proof: &Proof<'a>) -> &'a Program
+    ensures program { program_of result.now ≡ program_in proof.now }
+    ensures conditions { Conditions (program_of result.now) }
+    ensures sound { IsSound (program_of result.now) }
+{
+    proofs_are_sound();
+    conditions_from_truncation();
+    sets_from_truncation();
+    orders_from_truncation();
+    ordered_is_determined();
+    proof.proves();
+    &proof.arranged().program
+}
+
+/// The same run, of a program that is sound.
+fn run_sound(
     alloc: Global,
     p: &Program,
     f: ProcId,
@@ -46,11 +94,10 @@ pub fn run(
     budget: Budget,
 ) -> Result<Finish, Stop>
     requires starts { StartsWith (program_of p.now) f start.vars start.heap start.parts.items }
-    requires unit { IsFirstUnit start.vars start.heap start.unit }
     requires conditions { Conditions (program_of p.now) }
     requires sound { IsSound (program_of p.now) }
     requires sequential { IsSequential (program_of p.now) f }
-    requires steps { budget.steps ≤ 2 ^ 48 }
+    requires steps { budget.steps ≤ STEPS }
     ensures ends { IfOk result
         (EndsWith (program_of p.now) f start.vars start.heap start.unit budget.steps) }
     ensures stops { IfErr result

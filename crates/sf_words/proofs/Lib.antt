@@ -11,3 +11,4 @@ pub mod Program
 pub mod Bundles
 pub mod Answered
 pub mod Spelled
+pub mod Ranges
