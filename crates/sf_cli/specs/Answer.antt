@@ -105,6 +105,10 @@ pub record IsRun (p : Program) (entry : Text) (f : ProcId) : Type 0 where
   pub is_entry : IsEntry p entry f
   pub sequential : IsSequential p f
 
+-- some procedure is
+abbrev pub HasRun : Program → (entry : Text) → Type 0
+HasRun p entry = (f : ProcId) × IsRun p entry f
+
 -- the answer to a run from the text of a state that has this name, for a program with which nothing is wrong: the
 -- answer to the program where its verdict is no proof; else, that there is no such entry; else, that a parallel call
 -- can be reached from it; else the answer to that text
@@ -175,7 +179,7 @@ MayBeAdmitted told name = (bytes : Text) × MayHave told name bytes × AreAdmitt
 
 -- these bytes are those of a program with which nothing is wrong, and a procedure of that name is run
 abbrev pub AreRun : (bytes entry : Text) → Type 0
-AreRun bytes entry = (p : Program) × Admits bytes p × (f : ProcId) × IsRun p entry f
+AreRun bytes entry = (p : Program) × Admits bytes p × HasRun p entry
 
 -- the file of that name may be that of a program of which that procedure is run
 abbrev pub MayBeRun : Option Files → (name entry : Text) → Type 0

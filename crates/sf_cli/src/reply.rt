@@ -6,6 +6,7 @@ ghost use Rattle.sf_core.specs.Program.ProgramView.{program_of};
 ghost use Rattle.sf_io.specs.Increased.{Increased};
 ghost use Rattle.sf_cli.specs.Answer.{AreAdmitted, FileAnswer, NamesProgram, ProgramAnswer, ProofFileAnswer, Reaches, RecheckAnswer, Reply, VerdictAnswer, cause_text, printed, read_fault_text};
 ghost use Rattle.sf_cli.specs.Internal.Fetched.{Fetched};
+ghost use Rattle.sf_cli.specs.Internal.Ranges.{HasNumbersInRange};
 ghost use Rattle.sf_cli.specs.Refusals.{refusal_text};
 ghost use Rattle.sf_cli.specs.declared.refusal.Refusal.TheVariants.{OutOfMemory};
 ghost use Rattle.sf_search.specs.Internal.Choosing.{kind_of};
@@ -299,6 +300,7 @@ fn follow<R: Threads + Wait + Sync, S: Shelf, G: Gate>(
     shelf: &mut S,
     gate: &G,
 ) -> Result<Said, AllocError>
+    requires { HasNumbersInRange (order_as order.entry) }
     ensures status { IfOk result (λ said. said.status < 8) }
     ensures said { IfOk result (λ said.
         Reply (S.files shelf.old) (S.faults shelf.old) (S.faults shelf.new)

@@ -1,16 +1,20 @@
 //! What the command says to `run`, in the order of its work: the verdict on the program, the entry,
 //! whether one task runs it, the text of the state, and what comes of that start.
 
-ghost use Rattle.std.specs.Prelude.{◌≡◌, ◌≢◌, ◌<◌, ◌≤◌, IfOk, length};
+ghost use Rattle.std.specs.Prelude.{◌≡◌, ◌≢◌, ◌<◌, ◌≤◌, Some, IfOk, length};
 ghost use Rattle.sf_base.specs.declared.limits.TheConstants.{STEPS, WAITS};
+ghost use Rattle.sf_check.specs.Accepted.{arranged_in};
 ghost use Rattle.sf_core.specs.Program.ProgramView.{program_of};
+ghost use Rattle.sf_foot.specs.Starting.{StartsWith};
 ghost use Rattle.sf_io.specs.Increased.{Increased};
-ghost use Rattle.sf_cli.specs.Answer.{AreRun, IsProved, IsRun, NamesProgram, Reaches, Reply, RunAnswer, RunFileAnswer, read_fault_text};
-ghost use Rattle.sf_cli.specs.Internal.Running.{IsInRange, ProvedRunAnswer, RunTextAnswer};
+ghost use Rattle.sf_cli.specs.Answer.{AreRun, HasRun, IsProved, MayHave, Reaches, Reply, RunAnswer, RunFileAnswer, read_fault_text};
+ghost use Rattle.sf_cli.specs.Internal.Printed.{IsOutcomeText};
 ghost use Rattle.sf_cli.specs.Ran.{StateAnswer};
+ghost use Rattle.sf_cli.specs.StartRefusals.{start_refusal_text};
 ghost use Rattle.sf_run.specs.Running.{program_in};
 ghost use Rattle.sf_run.specs.Sequential.{IsSequential};
-ghost use Rattle.sf_state.specs.Entering.{IsEntry};
+ghost use Rattle.sf_state.specs.Entering.{HoldsNone, IsEntry};
+ghost use Rattle.sf_state.specs.declared.fault.StartFault.TheVariants.{OutOfMemory};
 ghost use Rattle.sf_words.specs.Words.{Text, run};
 
 use crate::outcome::{say_finish, say_stop};
@@ -54,6 +58,13 @@ fn answer_to_start<R: Threads + Sync, G: Gate>(
     budget: Budget,
     gate: &G,
 ) -> Result<Said, AllocError>
+    requires there { f.0 < length (arranged_in proof.now).program.procedures.items }
+    requires starts { StartsWith (program_in proof.now) f start.vars start.heap start.parts.items }
+    requires sequential { IsSequential (program_in proof.now) f }
+    requires steps { (1 ≤ budget.steps) × (budget.steps ≤ STEPS) }
+    requires waits { (1 ≤ budget.waits) × (budget.waits ≤ WAITS) }
+    ensures { IfOk result (λ said. IsOutcomeText (program_in proof.now) f start.vars start.heap
+        start.unit budget.steps budget.waits said.text.items said.status) }
 {
     match run(rt, alloc, proof, f, start, budget, gate) {
         Ok(end) => say_finish(alloc, proof.arranged(), f, &end),
@@ -63,7 +74,11 @@ fn answer_to_start<R: Threads + Sync, G: Gate>(
 
 /// That there is no start, and why. An `Err` means that memory ran out, which is also the answer
 /// where that was the cause.
-fn say_no_start(alloc: Global, fault: &StartFault) -> Result<Said, AllocError> {
+fn say_no_start(alloc: Global, fault: &StartFault) -> Result<Said, AllocError>
+    ensures said { IfOk result (λ said. (said.text.items ≡ start_refusal_text fault.now)
+        × (said.status ≡ 5)) }
+    ensures cause { IfOk result (λ said. fault.now ≢ OutOfMemory) }
+{
     Ok(Said {
         text: start_refusal_text(alloc, fault)?,
         status: 5,
@@ -80,6 +95,13 @@ fn answer_to_state<R: Threads + Sync, G: Gate>(
     budget: Budget,
     gate: &G,
 ) -> Result<Said, AllocError>
+    requires there { f.0 < length (arranged_in proof.now).program.procedures.items }
+    requires free { HoldsNone (program_in proof.now) f }
+    requires sequential { IsSequential (program_in proof.now) f }
+    requires steps { (1 ≤ budget.steps) × (budget.steps ≤ STEPS) }
+    requires waits { (1 ≤ budget.waits) × (budget.waits ≤ WAITS) }
+    ensures { IfOk result (λ said. StateAnswer (program_in proof.now) f state.now
+        budget.steps budget.waits said.text.items said.status) }
 {
     match read(alloc, proof.arranged(), f, state) {
         Ok(start) => answer_to_start(rt, alloc, proof, f, start, budget, gate),
@@ -97,6 +119,24 @@ fn run_state_file<R: Threads + Sync, S: Shelf, G: Gate>(
     shelf: &mut S,
     gate: &G,
 ) -> Result<Said, AllocError>
+    requires there { f.0 < length (arranged_in proof.now).program.procedures.items }
+    requires free { HoldsNone (program_in proof.now) f }
+    requires sequential { IsSequential (program_in proof.now) f }
+    requires steps { (1 ≤ words.now.budget.steps) × (words.now.budget.steps ≤ STEPS) }
+    requires waits { (1 ≤ words.now.budget.waits) × (words.now.budget.waits ≤ WAITS) }
+    ensures status { IfOk result (λ said. said.status < 8) }
+    ensures answered { IfOk result (λ said. said.status < 7
+        → (given : Text) × MayHave (S.files shelf.old) words.now.state.now given
+        × StateAnswer (program_in proof.now) f given words.now.budget.steps words.now.budget.waits
+        said.text.items said.status) }
+    ensures unread { IfOk result (λ said. said.status ≡ 7
+        → Increased (S.faults shelf.old words.now.state.now) (S.faults shelf.new words.now.state.now)
+        × (said.text.items ≡ read_fault_text words.now.state.now)) }
+    ensures refused { IfOk result (λ said. said.status ≢ 3) }
+    ensures files { S.files shelf.new ≡ S.files shelf.old }
+    ensures others { (other : Text) → other ≢ words.now.state.now
+        → S.faults shelf.new other ≡ S.faults shelf.old other }
+    ensures counts { (any : Text) → S.faults shelf.old any ≤ S.faults shelf.new any }
 {
     match fetch_up_to(alloc, words.state, STATE_BYTES, shelf) {
         Ok(state) => answer_to_state(rt, alloc, proof, f, state.as_slice(), words.budget, gate),
@@ -116,6 +156,26 @@ fn run_entry<R: Threads + Sync, S: Shelf, G: Gate>(
     shelf: &mut S,
     gate: &G,
 ) -> Result<Said, AllocError>
+    requires there { f.0 < length (arranged_in proof.now).program.procedures.items }
+    requires proved { IsProved (program_in proof.now) }
+    requires entry { IsEntry (program_in proof.now) words.now.procedure.now f }
+    requires steps { (1 ≤ words.now.budget.steps) × (words.now.budget.steps ≤ STEPS) }
+    requires waits { (1 ≤ words.now.budget.waits) × (words.now.budget.waits ≤ WAITS) }
+    ensures status { IfOk result (λ said. said.status < 8) }
+    ensures answered { IfOk result (λ said. said.status < 7
+        → RunFileAnswer (S.files shelf.old) (program_in proof.now) words.now.procedure.now words.now.state.now
+        words.now.budget.steps words.now.budget.waits said.text.items said.status) }
+    ensures unread { IfOk result (λ said. said.status ≡ 7
+        → HasRun (program_in proof.now) words.now.procedure.now
+        × Increased (S.faults shelf.old words.now.state.now) (S.faults shelf.new words.now.state.now)
+        × (said.text.items ≡ read_fault_text words.now.state.now)) }
+    ensures files { S.files shelf.new ≡ S.files shelf.old }
+    ensures others { (other : Text)
+        → ((other ≡ words.now.state.now) × HasRun (program_in proof.now) words.now.procedure.now → ⊥)
+        → S.faults shelf.new other ≡ S.faults shelf.old other }
+    ensures refused { IfOk result (λ said. said.status ≡ 3
+        → (any : Text) → S.faults shelf.new any ≡ S.faults shelf.old any) }
+    ensures counts { (any : Text) → S.faults shelf.old any ≤ S.faults shelf.new any }
 {
     if is_sequential(alloc, &proof.arranged().program, f)? {
         run_state_file(rt, alloc, proof, f, words, shelf, gate)
@@ -134,6 +194,24 @@ fn run_proved<R: Threads + Sync, S: Shelf, G: Gate>(
     shelf: &mut S,
     gate: &G,
 ) -> Result<Said, AllocError>
+    requires proved { IsProved (program_in proof.now) }
+    requires steps { (1 ≤ words.now.budget.steps) × (words.now.budget.steps ≤ STEPS) }
+    requires waits { (1 ≤ words.now.budget.waits) × (words.now.budget.waits ≤ WAITS) }
+    ensures status { IfOk result (λ said. said.status < 8) }
+    ensures answered { IfOk result (λ said. said.status < 7
+        → RunFileAnswer (S.files shelf.old) (program_in proof.now) words.now.procedure.now words.now.state.now
+        words.now.budget.steps words.now.budget.waits said.text.items said.status) }
+    ensures unread { IfOk result (λ said. said.status ≡ 7
+        → HasRun (program_in proof.now) words.now.procedure.now
+        × Increased (S.faults shelf.old words.now.state.now) (S.faults shelf.new words.now.state.now)
+        × (said.text.items ≡ read_fault_text words.now.state.now)) }
+    ensures files { S.files shelf.new ≡ S.files shelf.old }
+    ensures others { (other : Text)
+        → ((other ≡ words.now.state.now) × HasRun (program_in proof.now) words.now.procedure.now → ⊥)
+        → S.faults shelf.new other ≡ S.faults shelf.old other }
+    ensures refused { IfOk result (λ said. said.status ≡ 3
+        → (any : Text) → S.faults shelf.new any ≡ S.faults shelf.old any) }
+    ensures counts { (any : Text) → S.faults shelf.old any ≤ S.faults shelf.new any }
 {
     match entry(alloc, proof.arranged(), words.procedure) {
         Ok(f) => run_entry(rt, alloc, proof, f, words, shelf, gate),
@@ -151,6 +229,23 @@ fn run_program<R: Threads + Wait + Sync, S: Shelf, G: Gate>(
     shelf: &mut S,
     gate: &G,
 ) -> Result<Said, AllocError>
+    requires steps { (1 ≤ words.now.budget.steps) × (words.now.budget.steps ≤ STEPS) }
+    requires waits { (1 ≤ words.now.budget.waits) × (words.now.budget.waits ≤ WAITS) }
+    ensures status { IfOk result (λ said. said.status < 8) }
+    ensures answered { IfOk result (λ said. said.status < 7
+        → RunFileAnswer (S.files shelf.old) (program_of arranged.now.program) words.now.procedure.now words.now.state.now
+        words.now.budget.steps words.now.budget.waits said.text.items said.status) }
+    ensures unread { IfOk result (λ said. said.status ≡ 7
+        → HasRun (program_of arranged.now.program) words.now.procedure.now
+        × Increased (S.faults shelf.old words.now.state.now) (S.faults shelf.new words.now.state.now)
+        × (said.text.items ≡ read_fault_text words.now.state.now)) }
+    ensures files { S.files shelf.new ≡ S.files shelf.old }
+    ensures others { (other : Text)
+        → ((other ≡ words.now.state.now) × HasRun (program_of arranged.now.program) words.now.procedure.now → ⊥)
+        → S.faults shelf.new other ≡ S.faults shelf.old other }
+    ensures refused { IfOk result (λ said. said.status ≡ 3
+        → (any : Text) → S.faults shelf.new any ≡ S.faults shelf.old any) }
+    ensures counts { (any : Text) → S.faults shelf.old any ≤ S.faults shelf.new any }
 {
     arranged_has_setting();
     match verify(rt, alloc, arranged, 1, gate) {
@@ -170,6 +265,23 @@ fn run_bytes<R: Threads + Wait + Sync, S: Shelf, G: Gate>(
     shelf: &mut S,
     gate: &G,
 ) -> Result<Said, AllocError>
+    requires steps { (1 ≤ words.now.budget.steps) × (words.now.budget.steps ≤ STEPS) }
+    requires waits { (1 ≤ words.now.budget.waits) × (words.now.budget.waits ≤ WAITS) }
+    ensures status { IfOk result (λ said. said.status < 8) }
+    ensures answered { IfOk result (λ said. said.status < 7
+        → RunAnswer (S.files shelf.old) bytes.now words.now.procedure.now words.now.state.now
+        words.now.budget.steps words.now.budget.waits said.text.items said.status) }
+    ensures unread { IfOk result (λ said. said.status ≡ 7
+        → AreRun bytes.now words.now.procedure.now
+        × Increased (S.faults shelf.old words.now.state.now) (S.faults shelf.new words.now.state.now)
+        × (said.text.items ≡ read_fault_text words.now.state.now)) }
+    ensures files { S.files shelf.new ≡ S.files shelf.old }
+    ensures others { (other : Text)
+        → ((other ≡ words.now.state.now) × AreRun bytes.now words.now.procedure.now → ⊥)
+        → S.faults shelf.new other ≡ S.faults shelf.old other }
+    ensures refused { IfOk result (λ said. said.status ≡ 3
+        → (any : Text) → S.faults shelf.new any ≡ S.faults shelf.old any) }
+    ensures counts { (any : Text) → S.faults shelf.old any ≤ S.faults shelf.new any }
 {
     match admit(alloc, bytes) {
         Ok(arranged) => run_program(rt, alloc, &arranged, words, shelf, gate),
@@ -186,6 +298,21 @@ pub fn run_file<R: Threads + Wait + Sync, S: Shelf, G: Gate>(
     shelf: &mut S,
     gate: &G,
 ) -> Result<Said, AllocError>
+    requires steps { (1 ≤ words.now.budget.steps) × (words.now.budget.steps ≤ STEPS) }
+    requires waits { (1 ≤ words.now.budget.waits) × (words.now.budget.waits ≤ WAITS) }
+    ensures status { IfOk result (λ said. said.status < 8) }
+    ensures said { IfOk result (λ said.
+        Reply (S.files shelf.old) (S.faults shelf.old) (S.faults shelf.new)
+        (Some (run file.now words.now.procedure.now words.now.state.now
+        words.now.budget.steps words.now.budget.waits)) said.text.items said.status) }
+    ensures files { S.files shelf.new ≡ S.files shelf.old }
+    ensures others { (other : Text)
+        → (Reaches (S.files shelf.old) (Some (run file.now words.now.procedure.now
+        words.now.state.now words.now.budget.steps words.now.budget.waits)) other → ⊥)
+        → S.faults shelf.new other ≡ S.faults shelf.old other }
+    ensures refused { IfOk result (λ said. said.status ≡ 3 → (other : Text) → other ≢ file.now
+        → S.faults shelf.new other ≡ S.faults shelf.old other) }
+    ensures counts { (any : Text) → S.faults shelf.old any ≤ S.faults shelf.new any }
 {
     match fetch_up_to(alloc, file, FILE_BYTES, shelf) {
         Ok(bytes) => run_bytes(rt, alloc, bytes.as_slice(), words, shelf, gate),

@@ -11,4 +11,3 @@ pub mod Program
 pub mod Bundles
 pub mod Answered
 pub mod Spelled
-pub mod Ranges

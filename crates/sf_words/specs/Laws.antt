@@ -21,16 +21,3 @@ CanBeMeant (demo procedures) = (1 ≤ procedures) × (procedures ≤ 1000)
 abbrev pub EachOrderIsSpelled : Type 0
 EachOrderIsSpelled =
     (order : Order) → CanBeMeant order → (words : List Text) × (order_of words ≡ Some order)
-
--- the numbers of an order are in their ranges
-abbrev pub HasNumbersInRange : Order → Type 0
-HasNumbersInRange (verify file workers) = (1 ≤ workers) × (workers ≤ 64)
-HasNumbersInRange (recheck file proof) = Unit {0}
-HasNumbersInRange (run file entry state steps waits) =
-    (1 ≤ steps) × (steps ≤ 281474976710656) × (1 ≤ waits) × (waits ≤ 16777216)
-HasNumbersInRange (demo procedures) = (1 ≤ procedures) × (procedures ≤ 1000)
-
--- so they are in each order that words are
-abbrev pub NumbersAreInRange : Type 0
-NumbersAreInRange =
-    (words : List Text) (order : Order) → order_of words ≡ Some order → HasNumbersInRange order

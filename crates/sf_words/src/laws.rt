@@ -1,6 +1,6 @@
 //! Laws of reading words. Each function does nothing; its contract is the law.
 
-ghost use Rattle.sf_words.specs.Laws.{EachOrderIsSpelled, NumbersAreInRange, WordsAreOneOrder};
+ghost use Rattle.sf_words.specs.Laws.{EachOrderIsSpelled, WordsAreOneOrder};
 
 /// Words are at most one order.
 pub fn words_are_one_order()
@@ -11,10 +11,4 @@ pub fn words_are_one_order()
 /// words.
 pub fn each_order_is_spelled()
     ensures { EachOrderIsSpelled }
-{}
-
-/// The numbers of an order that words are, are in their ranges.
-#[tactic(auto, using(crate::proofs::Ranges::numbers_are_in_range))]
-pub fn numbers_are_in_range()
-    ensures { NumbersAreInRange }
 {}

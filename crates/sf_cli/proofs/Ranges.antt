@@ -6,7 +6,7 @@ use Rattle.std.specs.Prelude.{IfSome, if◌then◌else◌, nat_le, option_and_th
 use Rattle.std.specs.Str.{bytes_eq}
 use Rattle.std.specs.Str.Parse.{digits_value}
 use Rattle.std.proofs.lemmas.Bool.Decides.{nat_tests}
-use Rattle.sf_words.specs.Laws.{HasNumbersInRange, NumbersAreInRange}
+use Rattle.sf_cli.specs.Internal.Ranges.{HasNumbersInRange}
 use Rattle.sf_words.specs.Words.{Given, Order, Text, chosen_of, demo, demo_given, demo_of, given, is_blank, is_numeral, no_options, number_of, order_of, order_of_command, recheck_given, recheck_of, run_given, run_of, run_options, steps_of, values_of, verify_given, verify_of, verify_options, waits_of, workers_of}
 
 -- it is a number from 1 to the most, or none
@@ -101,5 +101,5 @@ range-order (command ∷ words) =
     range-either IsRanged (list_any is_blank (command ∷ words)) None (order_of_command command words) tt
     (range-command command words)
 
-pub numbers_are_in_range : NumbersAreInRange
-numbers_are_in_range words order e = subst IsRanged e (range-order words)
+pub range-of : (words : List Text) (order : Order) → order_of words ≡ Some order → HasNumbersInRange order
+range-of words order e = subst IsRanged e (range-order words)
