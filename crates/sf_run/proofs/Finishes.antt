@@ -1,5 +1,5 @@
 -- That what a run ends with is one thing: its variables' values and its cells.
--- Names: `WHAT-same`.
+-- Names: `WHAT-same`, `WHAT-at` of one place.
 use Rattle.std.specs.Prelude.{◌≡◌, ℕ, zero, suc, ◌+◌, ◌<◌, List, [], ◌∷◌, Some, length, map, get_or, slice_get, Vec}
 use Rattle.std.specs.declared.alloc.Global.{Global}
 use Rattle.std.proofs.Common.{sym, ap, ◌∙◌, refl, subst, arith}
@@ -18,8 +18,13 @@ use Rattle.sf_foot.specs.declared.vars.Vars.{Vars}
 use Rattle.sf_foot.specs.Variables.{value_of, values_or_none}
 use Rattle.sf_heap.specs.Cells.{Cells}
 use Rattle.sf_machine.specs.Ending.{Ends}
-use Rattle.sf_machine.proofs.Endings.{slice_get_some}
 use Rattle.sf_run.specs.Laws.{EndsSame}
+
+-- a place of a list has an element
+element-at : {A : Type 0} (xs : List A) (k : ℕ) → k < length xs → (x : A) × (slice_get xs k ≡ Some x)
+element-at [] k l = absurd (omega (arith, l))
+element-at (x ∷ xs) zero l = (x, refl)
+element-at (x ∷ xs) (suc k) l = element-at xs k (omega (arith, l))
 
 -- values that are the same at each place
 values-same : (xs ys : List Value) → length xs ≡ length ys
@@ -79,7 +84,7 @@ module _ (p : Program) (f : ProcId) (c : Config) (vars other : Vars) (heap more 
   shared-same : map (λ vs. vs.items) vars.shared.items ≡ map (λ vs. vs.items) other.shared.items
   shared-same = rows-same vars.shared.items other.shared.items (a.resources ∙ sym b.resources)
       (λ k below.
-      let there = slice_get_some p.resources k (omega (arith, below, a.resources)) in
+      let there = element-at p.resources k (omega (arith, below, a.resources)) in
       row-same k there.0 there.1)
 
   pub ends-same : EndsSame vars other heap more

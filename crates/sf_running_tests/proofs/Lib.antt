@@ -1,1 +1,2 @@
-pub mod BareStarts
+pub mod Started
+pub mod Ordering

@@ -1,15 +1,18 @@
-//! Tests of states' texts and of the machine that runs, by the public calls of their crates. They
-//! are in a crate of their own so that the crates that they test needn't be proved once more with
-//! them.
+//! Tests of states' texts, of the machine that runs and of runs of one task, by the public calls of
+//! their crates. They are in a crate of their own so that the crates that they test needn't be proved
+//! once more with them.
 //!
+//! - `files`: programs from their texts, and starts of their procedures.
 //! - `states`: starts, why there is none, and what is written.
-//! - `starting`: the start of a procedure that asks for nothing.
 //! - `running`: programs, event by event.
+//! - `runs`: runs of one task.
 #![tactic(auto)]
 
 #[cfg(test)]
+mod files;
+#[cfg(test)]
 mod running;
 #[cfg(test)]
-mod starting;
+mod runs;
 #[cfg(test)]
 mod states;

@@ -1,14 +1,10 @@
 //! `read` and `write` of states' texts, for files that are read from their texts. The answers were worked out by
 //! hand.
 
-use sf_calls::reach;
-use sf_elab::elaborate;
+use crate::files::fitted;
 use sf_foot::{Finish, Start};
-use sf_lex::tokens;
-use sf_parse::parse;
-use sf_precise::{Arranged, arrange};
+use sf_precise::Arranged;
 use sf_state::{StartFault, entry, read, write};
-use sf_vars::conditions;
 use std::alloc::{AllocError, Global};
 use std::test::Fail;
 
@@ -23,29 +19,6 @@ wood(p) [tree(p)] { }
 bits(x; y) [if x == nil then emp else x|->tl:y] { }
 taken(x) [x|-> * a == nil] { }
 ";
-
-/// The program of a file, if nothing is wrong with it.
-fn fitted(alloc: Global, file: &[u8]) -> Option<Arranged> {
-    let Ok(words) = tokens(alloc, file) else {
-        return None;
-    };
-    let Ok(tree) = parse(alloc, &words) else {
-        return None;
-    };
-    let Ok(program) = elaborate(alloc, file, tree) else {
-        return None;
-    };
-    let Ok(calls) = reach(alloc, &program) else {
-        return None;
-    };
-    if let Err(_) = conditions(alloc, &program, &calls) {
-        return None;
-    }
-    match arrange(alloc, program, calls) {
-        Ok(arranged) => Some(arranged),
-        Err(_) => None,
-    }
-}
 
 /// The fault as it is printed.
 fn told(alloc: Global, fault: &StartFault) -> Result<String, AllocError> {

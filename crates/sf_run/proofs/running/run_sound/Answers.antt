@@ -5,13 +5,13 @@ use Rattle.sf_core.specs.Program.ProgramView.{program_of}
 use Rattle.sf_core.specs.Program.View.{procedure_of}
 use Rattle.sf_machine.specs.Configs.{config_of}
 use Rattle.sf_run.proofs.Turns.{begin-turn}
-use Rattle.sf_run.proofs.running.run.Goals as goal
+use Rattle.sf_run.proofs.running.run_sound.Goals as goal
 
 pub run_alone-requires-clause-alone : goal.run_alone-requires-clause-alone
 run_alone-requires-clause-alone c = begin-turn (program_of c.args.p.now) c.args.f c.args.start.vars
     c.args.start.heap c.args.start.parts.items c.args.start.unit (config_of c.in_ok-config.config)
     c.args.p.now.formed c.requires.conditions c.requires.sound c.requires.sequential c.requires.starts
-    c.requires.unit c.in_ok-config.ensures.begins
+    c.args.start.fresh c.in_ok-config.ensures.begins
 
 pub finish-requires : goal.finish-requires
 finish-requires c =

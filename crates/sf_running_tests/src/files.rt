@@ -1,0 +1,49 @@
+//! Programs from their texts, and starts of their procedures.
+
+ghost use Rattle.std.specs.Prelude.{IfSome};
+ghost use Rattle.sf_core.specs.Program.ProgramView.{program_of};
+ghost use Rattle.sf_foot.specs.Starting.{StartsWith};
+
+use sf_base::ProcId;
+use sf_calls::reach;
+use sf_elab::elaborate;
+use sf_foot::Start;
+use sf_lex::tokens;
+use sf_parse::parse;
+use sf_precise::{Arranged, arrange};
+use sf_state::{entry, read};
+use sf_vars::conditions;
+use std::alloc::Global;
+
+/// The program of a file, if nothing is wrong with it.
+pub(crate) fn fitted(alloc: Global, file: &[u8]) -> Option<Arranged> {
+    let words = tokens(alloc, file).ok()?;
+    let tree = parse(alloc, &words).ok()?;
+    let program = elaborate(alloc, file, tree).ok()?;
+    let calls = reach(alloc, &program).ok()?;
+    if let Err(_) = conditions(alloc, &program, &calls) {
+        return None;
+    }
+    arrange(alloc, program, calls).ok()
+}
+
+/// A procedure, and a start of it.
+#[derive(Drop)]
+pub(crate) struct Entered {
+    pub(crate) f: ProcId,
+    pub(crate) start: Start,
+}
+
+/// The procedure of that name with the start that the text gives, if it is one.
+pub(crate) fn start_of(alloc: Global, p: &Arranged, name: &str, text: &[u8]) -> Option<Entered>
+    ensures { IfSome result (λ e. StartsWith (program_of p.now.program) e.f e.start.vars e.start.heap
+        e.start.parts.items) }
+{
+    let Ok(f) = entry(alloc, p, name) else {
+        return None;
+    };
+    match read(alloc, p, f, text) {
+        Ok(start) => Some(Entered { f, start }),
+        Err(_) => None,
+    }
+}

@@ -1,0 +1,124 @@
+//! Runs of one task. What they end with, and how many events they have, is worked out by hand.
+
+ghost use Rattle.std.specs.Prelude.{◌≡◌, IfSome};
+ghost use Rattle.sf_check.specs.Accepted.{arranged_in};
+
+use crate::files::{fitted, start_of};
+use crate::running::{TURNED, TWO_CELLS};
+use sf_base::ProcId;
+use sf_base::limits::{STEPS, WAITS};
+use sf_check::{Proof, check};
+use sf_foot::Finish;
+use sf_io::OpenGate;
+use sf_precise::Arranged;
+use sf_run::{Budget, Stop, is_sequential, run};
+use sf_search::verify;
+use sf_state::write;
+use std::alloc::{AllocError, Global};
+use std::test::Fail;
+use std::thread::Threads;
+
+/// What a run answers: the text of what it ends with, or why it stops. A task is told by how many
+/// turns its path has.
+fn told(
+    alloc: Global,
+    p: &Arranged,
+    f: ProcId,
+    answer: Result<Finish, Stop>,
+) -> Result<Vec<u8>, AllocError> {
+    let line = match answer {
+        Ok(finish) => return write(alloc, p, f, &finish),
+        Err(Stop::Steps(task, used)) => format!(in alloc; "steps {} {used}", task.len())?,
+        Err(Stop::Waits(task, r, tries)) => {
+            format!(in alloc; "waits {} {} {tries}", task.len(), r.0)?
+        }
+        Err(Stop::OutOfMemory) => return Err(AllocError),
+    };
+    Vec::from_slice(alloc, line.as_bytes())
+}
+
+/// The proof of a program, if the strategy finds one.
+fn proof_of<'a>(alloc: Global, p: &'a Arranged) -> Option<Proof<'a>>
+    ensures { IfSome result (λ proof. arranged_in proof ≡ p.now) }
+{
+    match verify(alloc, p) {
+        Ok(tags) => check(alloc, p, tags).ok(),
+        Err(_) => None,
+    }
+}
+
+/// Whether a run may be given that.
+fn is_within(budget: Budget) -> bool {
+    let steps = 1 <= budget.steps && budget.steps <= STEPS;
+    steps && 1 <= budget.waits && budget.waits <= WAITS
+}
+
+/// A run: its procedure, the text of its start, and its budget.
+type Row<'a> = (&'a str, &'a [u8], Budget);
+
+/// What the run answers, of a procedure from which no parallel call can be reached, in a program that
+/// is proved.
+fn answer<R: Threads + Sync>(
+    rt: &R,
+    alloc: Global,
+    p: &Arranged,
+    row: Row<'_>,
+) -> Result<Option<Vec<u8>>, AllocError> {
+    let (name, text, budget) = row;
+    let gate = OpenGate;
+    let Some(proof) = proof_of(alloc, p) else {
+        return Ok(None);
+    };
+    let Some(entered) = start_of(alloc, p, name, text) else {
+        return Ok(None);
+    };
+    let f = entered.f;
+    if !is_within(budget) || !is_sequential(alloc, &p.program, f)? {
+        return Ok(None);
+    }
+    let answer = run(rt, alloc, &proof, f, entered.start, budget, &gate);
+    Ok(Some(told(alloc, p, f, answer)?))
+}
+
+/// So many events and tries.
+fn budget(steps: u64, waits: u32) -> Budget {
+    Budget { steps, waits }
+}
+
+/// A resource of free cells.
+const FREE_CELLS: &[u8] = b"
+    resource mm (f) [list(f)]
+    alloc(x;) [emp] {
+      with mm when (true) { if (f == nil) { x = new(); } else { x = f; f = x->tl; } }
+    } [x|->]";
+
+#[test]
+fn runs_answer_what_comes_of_their_starts(rt: HostRuntime) -> Result<(), Fail> {
+    let two = b"two(x;) { x = nil; x = 1; }";
+    let stay = b"resource r (v) [] stay() { with r when (v != v) { } }";
+    let turned = b"o = @2
+i = @1
+@1 hd=nil tl=nil l=nil r=nil
+@2 hd=nil tl=@1 l=nil r=nil
+";
+    let made = b"x = @3\nmm.f = nil\n@3 hd=nil tl=nil l=nil r=nil\n";
+    let cases: [(&[u8], Row<'_>, &[u8]); 6] = [
+        (two, ("two", b"x = nil", budget(1, 1)), b"steps 0 1"),
+        (two, ("two", b"x = nil", budget(2, 1)), b"x = 1\n"),
+        (stay, ("stay", b"r.v = nil", budget(9, 5)), b"waits 0 0 5"),
+        (TURNED, ("rev", TWO_CELLS, budget(12, 1)), b"steps 0 12"),
+        (TURNED, ("rev", TWO_CELLS, budget(13, 1)), turned),
+        (
+            FREE_CELLS,
+            ("alloc", b"x = nil\nmm.f = nil", budget(4, 1)),
+            made,
+        ),
+    ];
+    let alloc = rt.alloc();
+    for (file, row, text) in cases {
+        let p = fitted(alloc, file).expect(&rt, "a program");
+        let said = answer(&rt, alloc, &p, row)?.expect(&rt, "an answer");
+        assert!(rt; said.as_slice() == text);
+    }
+    Ok(())
+}
