@@ -48,7 +48,7 @@ rising-same [] (y ∷ ys) p q h = absurd (contains-nil y ((h y).1 (0, omega arit
 rising-same (x ∷ xs) [] p q h = absurd (contains-nil x ((h x).0 (0, omega arith, refl)))
 rising-same (x ∷ xs) (y ∷ ys) p q h =
     ap₂ (λ (a : ℕ) (as_ : List ℕ). a ∷ as_) same
-    (rising-same xs ys (pairs-tail _ x xs p) (pairs-tail _ y ys q) (λ l. (to l, from l)))
+    (rising-same xs ys (pairs-tail (λ a b. a < b) x xs p) (pairs-tail (λ a b. a < b) y ys q) (λ l. (to l, from l)))
   where
     above-x : (l : ℕ) → Contains xs l → x < l
     above-x l c = All-contains (λ z. x < z) xs l (pairs-head (λ a b. a < b) x xs p) c
@@ -86,54 +86,51 @@ record Found (heap : Heap) (n : ℕ) : Type 0 where
   rises : Rises locations
   all : (l : ℕ) → ((l < n) × (heap l ≢ None)) ↔ Contains locations l
 
+rising-more : (heap : Heap) (n : ℕ) → Found heap n → (o : Option Cell) → heap n ≡ o → Found heap (suc n)
+rising-more heap n before None e = record {
+  locations = before.locations;
+  rises = before.rises;
+  all = λ l. (to l, λ c. let h = (before.all l).1 c in (let less = h.0 in omega (arith, less), h.1));
+}
+  where
+    to : (l : ℕ) → (l < suc n) × (heap l ≢ None) → Contains before.locations l
+    to l h = elim (cases_lt l n) [
+      | inl less ↦ (before.all l).0 (less, h.1)
+      | inr more ↦
+        let within = h.0 in
+        let is : l ≡ n = omega (arith, more, within) in absurd (h.1 (ap heap is ∙ e))
+    ]
+rising-more heap n before (Some cell) e = record {
+  locations = before.locations ++ n ∷ [];
+  rises = all_pairs_push (λ x y. x < y) before.locations n before.rises below;
+  all = λ l. (to l, from l);
+}
+  where
+    below : (k d : ℕ) → k < length before.locations → get_or before.locations k d < n
+    below k d less = ((before.all (get_or before.locations k d)).1 (Contains-get_or before.locations k d less)).0
+
+    to : (l : ℕ) → (l < suc n) × (heap l ≢ None) → Contains (before.locations ++ n ∷ []) l
+    to l h = elim (cases_lt l n) [
+      | inl less ↦ Contains-append_left before.locations (n ∷ []) l ((before.all l).0 (less, h.1))
+      | inr more ↦
+        let within = h.0 in
+        let is : n ≡ l = omega (arith, more, within) in
+        subst (λ (z : ℕ). Contains (before.locations ++ n ∷ []) z) is (Contains-push before.locations n)
+    ]
+
+    from : (l : ℕ) → Contains (before.locations ++ n ∷ []) l → (l < suc n) × (heap l ≢ None)
+    from l c = elim (Contains-push_cases before.locations n l c) [
+      | inl m ↦ let h = (before.all l).1 m in (let less = h.0 in omega (arith, less), h.1)
+      | inr is ↦ (omega (arith, is), λ none. some-none cell (sym e ∙ ap heap is ∙ none))
+    ]
+
 rising-found : (heap : Heap) (n : ℕ) → Found heap n
 rising-found heap zero = record {
   locations = [];
   rises = λ i j d less below. absurd (omega (arith, less, below));
   all = λ l. (λ h. let none = h.0 in absurd (omega (arith, none)), λ c. absurd (contains-nil l c));
 }
-rising-found heap (suc n) = go (heap n) refl
-  where
-    before : Found heap n
-    before = rising-found heap n
-
-    go : (o : Option Cell) → heap n ≡ o → Found heap (suc n)
-    go None e = record {
-      locations = before.locations;
-      rises = before.rises;
-      all = λ l. (to l, λ c. let h = (before.all l).1 c in (let less = h.0 in omega (arith, less), h.1));
-    }
-      where
-        to : (l : ℕ) → (l < suc n) × (heap l ≢ None) → Contains before.locations l
-        to l h = elim (cases_lt l n) [
-          | inl less ↦ (before.all l).0 (less, h.1)
-          | inr more ↦
-            let within = h.0 in
-            let is : l ≡ n = omega (arith, more, within) in absurd (h.1 (ap heap is ∙ e))
-        ]
-    go (Some cell) e = record {
-      locations = before.locations ++ n ∷ [];
-      rises = all_pairs_push (λ x y. x < y) before.locations n before.rises below;
-      all = λ l. (to l, from l);
-    }
-      where
-        below : (k d : ℕ) → k < length before.locations → get_or before.locations k d < n
-        below k d less = ((before.all (get_or before.locations k d)).1 (Contains-get_or before.locations k d less)).0
-
-        to : (l : ℕ) → (l < suc n) × (heap l ≢ None) → Contains (before.locations ++ n ∷ []) l
-        to l h = elim (cases_lt l n) [
-          | inl less ↦ Contains-append_left before.locations (n ∷ []) l ((before.all l).0 (less, h.1))
-          | inr more ↦
-            let within = h.0 in
-            let is : n ≡ l = omega (arith, more, within) in
-            subst (λ (z : ℕ). Contains (before.locations ++ n ∷ []) z) is (Contains-push before.locations n)
-        ]
-
-        from : (l : ℕ) → Contains (before.locations ++ n ∷ []) l → (l < suc n) × (heap l ≢ None)
-        from l c = elim (Contains-push_cases before.locations n l c) [
-          | inl m ↦ let h = (before.all l).1 m in (let less = h.0 in omega (arith, less), h.1)
-          | inr is ↦ (omega (arith, is), λ none. some-none cell (sym e ∙ ap heap is ∙ none))
-        ]
+rising-found heap (suc n) = rising-more heap n (rising-found heap n) (heap n) refl
 
 -- ---- values and lines
 
