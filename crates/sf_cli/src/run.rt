@@ -66,9 +66,10 @@ fn answer_to_start<R: Threads + Sync, G: Gate>(
     ensures { IfOk result (λ said. IsOutcomeText (program_in proof.now) f start.vars start.heap
         start.unit budget.steps budget.waits said.text.items said.status) }
 {
+    let arranged = proof.arranged();
     match run(rt, alloc, proof, f, start, budget, gate) {
-        Ok(end) => say_finish(alloc, proof.arranged(), f, &end),
-        Err(stop) => say_stop(alloc, &proof.arranged().program, &stop),
+        Ok(end) => say_finish(alloc, arranged, f, &end),
+        Err(stop) => say_stop(alloc, &arranged.program, &stop),
     }
 }
 
@@ -103,7 +104,8 @@ fn answer_to_state<R: Threads + Sync, G: Gate>(
     ensures { IfOk result (λ said. StateAnswer (program_in proof.now) f state.now
         budget.steps budget.waits said.text.items said.status) }
 {
-    match read(alloc, proof.arranged(), f, state) {
+    let arranged = proof.arranged();
+    match read(alloc, arranged, f, state) {
         Ok(start) => answer_to_start(rt, alloc, proof, f, start, budget, gate),
         Err(fault) => say_no_start(alloc, &fault),
     }
@@ -177,7 +179,8 @@ fn run_entry<R: Threads + Sync, S: Shelf, G: Gate>(
         → (any : Text) → S.faults shelf.new any ≡ S.faults shelf.old any) }
     ensures counts { (any : Text) → S.faults shelf.old any ≤ S.faults shelf.new any }
 {
-    if is_sequential(alloc, &proof.arranged().program, f)? {
+    let arranged = proof.arranged();
+    if is_sequential(alloc, &arranged.program, f)? {
         run_state_file(rt, alloc, proof, f, words, shelf, gate)
     } else {
         say_refusal(alloc, &Refusal::At(RefusalKind::NotBuilt, FIRST_PLACE))
@@ -213,7 +216,8 @@ fn run_proved<R: Threads + Sync, S: Shelf, G: Gate>(
         → (any : Text) → S.faults shelf.new any ≡ S.faults shelf.old any) }
     ensures counts { (any : Text) → S.faults shelf.old any ≤ S.faults shelf.new any }
 {
-    match entry(alloc, proof.arranged(), words.procedure) {
+    let arranged = proof.arranged();
+    match entry(alloc, arranged, words.procedure) {
         Ok(f) => run_entry(rt, alloc, proof, f, words, shelf, gate),
         Err(fault) => say_no_start(alloc, &fault),
     }

@@ -320,18 +320,6 @@ fn a_state_is_fetched_once_it_is_due(rt: HostRuntime) -> Result<(), Fail> {
 }
 
 #[test]
-fn a_state_may_be_too_long(rt: HostRuntime) -> Result<(), Fail> {
-    let alloc = rt.alloc();
-    let mut shelf = MemShelf::new(alloc);
-    shelf.add("two.sf", TWO)?;
-    let long = vec![in alloc; b' '; 67_108_865]?;
-    shelf.add("long", long.as_slice())?;
-    let words = ["run", "two.sf", "two", "long"];
-    let answer = ("start refused: 77 TooLong\n", 5);
-    says(&rt, alloc, &words, &mut shelf, answer)
-}
-
-#[test]
 fn words_that_are_no_run_are_answered_with_the_usage(rt: HostRuntime) -> Result<(), Fail> {
     let alloc = rt.alloc();
     let mut shelf = MemShelf::new(alloc);
