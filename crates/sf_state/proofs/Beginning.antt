@@ -3,7 +3,7 @@
 use Rattle.std.proofs.Common.{◌≡◌, ◌≢◌, ◌<◌, ◌≤◌, ◌+◌, ◌==◌, ◌&&◌, ℕ, Bool, true, false, cond, nat_eq, nat_lt, nat_cmp, List, [], ◌∷◌, Option, Some, None, All, Contains, length, map, get_or, slice_get, is_some, refl, sym, ap, ◌∙◌, subst, arith, Vec, Global}
 use Rattle.std.specs.BTreeSet.{contains}
 use Rattle.std.specs.FinMap.{contains_key, get}
-use Rattle.std.specs.List.{concat}
+use Rattle.std.specs.List.{AllZip, IsDistinct, concat}
 use Rattle.std.specs.Option.{option_map, unwrap_or}
 use Rattle.std.specs.Set.{is_member}
 use Rattle.std.proofs.lemmas.Bool.{false≢true, lt-ltb, ltb-false, ltb-true}
@@ -25,6 +25,7 @@ use Rattle.sf_core.specs.Machine.Start.{Invariants, IsKept, entry_slot, initial_
 use Rattle.sf_core.specs.Program.Syntax.{Assertion, Procedure, Program, Resource}
 use Rattle.sf_heap.specs.Cells.{AreAt, Cells, cell_of, heap_of}
 use Rattle.sf_foot.specs.declared.vars.Vars.{Vars}
+use Rattle.sf_foot.specs.Footprint.{IsFootprint}
 use Rattle.sf_foot.specs.Starting.{StartsWith, store_of}
 use Rattle.sf_foot.specs.Variables.{value_of, values_or_none}
 use Rattle.sf_state.specs.declared.finding.Found.{Found}
@@ -143,14 +144,13 @@ begin-all as_found vars heap found at are all taken l =
     (are.there l)
 
 -- the procedure starts
-pub begin-starts : (p : Program) (f : ProcId) (g : Procedure) (vars : Vars) (heap : Cells) (found : Found)
+pub begin-starts : (p : Program) (f : ProcId) (g : Procedure) (vars : Vars) (heap : Cells) (parts : List (List ℕ))
     → slice_get p.procedures f.0 ≡ Some g → g.references + g.values ≤ length g.names → HoldsNone p f → Fits p g vars
-    → AreFound (assertions_of p g) (value_of vars) heap found
-    → ((l : ℕ) → contains_key heap l ≡ is_member nat_eq (concat found.parts.items) l)
-    → StartsWith p f vars heap found.parts.items
-begin-starts p f g vars heap found there enough free fits are all =
-    let turns = turns-from_parts (value_of vars) (heap_of heap) (assertions_of p g) found.parts.items are.footprints
-    are.distinct in
+    → AllZip (λ a ls. IsFootprint a.level (value_of vars) (heap_of heap) ls) (assertions_of p g) parts
+    → IsDistinct nat_eq (concat parts) → ((l : ℕ) → contains_key heap l ≡ is_member nat_eq (concat parts) l)
+    → StartsWith p f vars heap parts
+begin-starts p f g vars heap parts there enough free fits footprints distinct all =
+    let turns = turns-from_parts (value_of vars) (heap_of heap) (assertions_of p g) parts footprints distinct in
     record {
       procedure = g;
       config = initial_config f g (store_of g vars) (heap_of heap);
@@ -164,10 +164,10 @@ begin-starts p f g vars heap found there enough free fits are all =
         kept = store-kept p g vars fits;
         no_more = store-no_more p g vars fits;
         locals = store-locals p g vars fits;
-        pre = begin-pre found.parts.items turns (begin-empty heap found.parts.items all);
+        pre = begin-pre parts turns (begin-empty heap parts all);
       };
-      footprints = are.footprints;
-      union = (are.distinct, all);
+      footprints = footprints;
+      union = (distinct, all);
     }
   where
     values : value (value_of vars) ≡ evaluate entry_slot (store_of g vars)

@@ -45,7 +45,7 @@ related {A} R (w ∷ xs) (y ∷ ys) x z c = elim ((contains-cons w xs x).0 c) [
 ]
 
 -- the assertions of a start are annotations of the program, and so precise
-precise-notes : (p : Program) (f : ProcId) (g : Procedure) (a : Assertion) → slice_get p.procedures f.0 ≡ Some g
+pub precise-notes : (p : Program) (f : ProcId) (g : Procedure) (a : Assertion) → slice_get p.procedures f.0 ≡ Some g
     → Contains (assertions_of p g) a → Contains (annotations_in p) a
 precise-notes p f g a there c = elim ((contains-cons g.pre (map (λ (r : Resource). r.invariant) p.resources) a).0 c) [
   | inl e ↦ Contains-append_right (map (λ (r : Resource). r.invariant) p.resources) (flat_map notes_of p.procedures) a
@@ -62,7 +62,7 @@ precise-all p f g orders vars determined one ordered there a c =
     ordered-precise determined one a o.0 vars o.1
 
 -- the footprints of a start are those in turn
-start-turns : (p : Program) (f : ProcId) (g : Procedure) (vars : Vars) (heap : Cells) (parts : List (List ℕ))
+pub start-turns : (p : Program) (f : ProcId) (g : Procedure) (vars : Vars) (heap : Cells) (parts : List (List ℕ))
     → slice_get p.procedures f.0 ≡ Some g → StartsWith p f vars heap parts
     → HaveFootprints (value_of vars) (heap_of heap) (assertions_of p g) parts
 start-turns p f g vars heap parts there s =
@@ -80,7 +80,7 @@ same-state p g text vars heap reason state out =
     (subst (λ (h : Cells). reason (value_of out.vars) (heap_of h)) same.1 out.why)
 
 -- a start has no out
-start-no_fault : (p : Program) (f : ProcId) (g : Procedure) (text : Text) (vars : Vars) (heap : Cells)
+pub start-no_fault : (p : Program) (f : ProcId) (g : Procedure) (text : Text) (vars : Vars) (heap : Cells)
     (parts : List (List ℕ)) (unit : ℕ) (e : StartFault) → ((v : Var → Value) → ArePrecise v (assertions_of p g))
     → slice_get p.procedures f.0 ≡ Some g → IsStartText p f g text vars heap parts unit → IsStartFault p g text e → ⊥
 start-no_fault p f g text vars heap parts unit e precise there s (refused r) =
@@ -95,7 +95,7 @@ start-no_fault p f g text vars heap parts unit e precise there s (left_over l is
     (start-turns p f g vars heap parts there s.starts) (begin-leaves_none p f vars heap parts s.starts)
 
 -- a text has one out at most
-fault-once : (p : Program) (g : Procedure) (text : Text) (d e : StartFault)
+pub fault-once : (p : Program) (g : Procedure) (text : Text) (d e : StartFault)
     → ((v : Var → Value) → ArePrecise v (assertions_of p g)) → IsStartFault p g text d → IsStartFault p g text e
     → d ≡ e
 fault-once p g text d e precise (refused r) (refused q) = same_Some d e (sym r ∙ q)

@@ -52,12 +52,12 @@ pub holds-one : (p : Program) (f : ProcId) (xs : List ResId) → IsResSet (HeldB
 holds-one p f [] s e = absurd cc
 holds-one p f (x ∷ xs) s e = (x, (s.members x).0 ((contains-cons x xs x).1 (inl refl)))
 
-entries-one : (p : Program) (name : Text) (f g : ProcId) → IsEntry p name f → IsEntry p name g → f ≡ g
+pub entries-one : (p : Program) (name : Text) (f g : ProcId) → IsEntry p name f → IsEntry p name g → f ≡ g
 entries-one p name f g a b =
     let e : f.0 ≡ g.0 = named-once (procedure_names p) name f.0 g.0 a.named b.named in
     λ i. record { 0 = e i }
 
-faults-one : (p : Program) (name : Text) (e f : StartFault) → IsEntryFault p name e → IsEntryFault p name f → e ≡ f
+pub faults-one : (p : Program) (name : Text) (e f : StartFault) → IsEntryFault p name e → IsEntryFault p name f → e ≡ f
 faults-one p name (fault.Unknown m) (fault.Unknown n) a b = ap fault.Unknown (a.0 ∙ sym b.0)
 faults-one p name (fault.FreeEntry m) (fault.FreeEntry n) a b = ap fault.FreeEntry (a.0 ∙ sym b.0)
 faults-one p name (fault.Unknown m) (fault.FreeEntry n) a b = absurd (a.1 b.1.procedure.0 b.1.named.0)
@@ -77,7 +77,7 @@ faults-one p name e (fault.LeftOver n) a b = absurd b
 faults-one p name e fault.TooLong a b = absurd b
 faults-one p name e fault.OutOfMemory a b = absurd b
 
-never-both : (p : Program) (name : Text) (f : ProcId) (e : StartFault) → IsEntry p name f → IsEntryFault p name e → ⊥
+pub never-both : (p : Program) (name : Text) (f : ProcId) (e : StartFault) → IsEntry p name f → IsEntryFault p name e → ⊥
 never-both p name f (fault.Unknown n) a b = b.1 f.0 a.named.0
 never-both p name f (fault.FreeEntry n) a b =
     let e : b.1.procedure.0 ≡ f.0 =

@@ -16,3 +16,11 @@ pub mod NextFound
 pub mod Beginning
 pub mod Deciding
 pub mod StateShape
+pub mod Rising
+pub mod FootDecided
+pub mod Spelling
+pub mod Back
+pub mod Naming
+pub mod Once
+pub mod Returned
+pub mod Exists

@@ -82,9 +82,10 @@ mentioned-where vars heap at l all (inr (inr f)) =
 pub unit-first : (vars : Vars) (heap : Cells) (at : List ℕ) (a b c : ℕ) → AreAt at heap
     → AreInBounds (IsMentioned vars heap) → Raises (IsValueIn vars.own.items) 1 a → Raises (InShared vars) a b
     → Raises (IsOfOne (IsInCell heap) at) b c → IsFirstUnit vars heap c
-unit-first vars heap at a b c all bounds r s t =
-    (((positive all_of.is, within all_of.is), λ l m. all_of.above l (mentioned-where vars heap at l all m)),
-    least all_of.is)
+unit-first vars heap at a b c all bounds r s t = (
+  ((positive all_of.is, within all_of.is), λ l m. all_of.above l (mentioned-where vars heap at l all m)),
+  least all_of.is,
+)
   where
     all_of : Raises (λ l. (IsValueIn vars.own.items l ⊎ InShared vars l) ⊎ IsOfOne (IsInCell heap) at l) 1 c
     all_of = raises-then (λ l. IsValueIn vars.own.items l ⊎ InShared vars l) (IsOfOne (IsInCell heap) at) 1 b c

@@ -79,7 +79,7 @@ found-overlap keeps determined one a o before vars heap old ls at ord found f sa
     (subst (λ xs. Contains xs both.0) same both.1) (sym (found.marks both.0) ∙ both.2)
 
 -- two lists without repeats that have no number together
-distinct-append : (xs ys : List ℕ) → IsDistinct nat_eq xs → IsDistinct nat_eq ys
+pub distinct-append : (xs ys : List ℕ) → IsDistinct nat_eq xs → IsDistinct nat_eq ys
     → ((l : ℕ) → Contains xs l → is_member nat_eq ys l ≡ false) → IsDistinct nat_eq (xs ++ ys)
 unfolding IsDistinct
 distinct-append [] ys d e out = e

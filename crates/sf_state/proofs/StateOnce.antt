@@ -50,13 +50,22 @@ vars-once v w e f = λ i x. at x i
     at (Shared r k) = ap (λ vs. slice_index_or vs k nil)
         (listed v.shared.items r.0 ∙ ap (λ xs. values_listed (slice_get xs r.0)) f ∙ sym (listed w.shared.items r.0))
 
+-- the values of the variables are determined, as lists
+pub state-vars : (p : Program) (g : Procedure) (text : Text) (v w : Vars) (h k : Cells) → GivesState p g text v h
+    → GivesState p g text w k → (v.own.items ≡ w.own.items)
+    × (map (λ vs. vs.items) v.shared.items ≡ map (λ vs. vs.items) w.shared.items)
+state-vars p g text v w h k a b =
+    let same = values-once a.values b.values (a.gives.values_are ∙ sym b.gives.values_are) in (
+      a.own ∙ ap (take (g.references + g.values)) same ∙ sym b.own,
+      a.shared ∙ ap (λ vs. by_resource p.resources (drop (g.references + g.values) vs)) same ∙ sym b.shared,
+    )
+
 -- the variables and the cells are determined
 pub state-once : (p : Program) (g : Procedure) (text : Text) (v w : Vars) (h k : Cells) → GivesState p g text v h
     → GivesState p g text w k → (value_of v ≡ value_of w) × (h ≡ k)
 state-once p g text v w h k a b =
-    let same = values-once a.values b.values (a.gives.values_are ∙ sym b.gives.values_are) in (
-      vars-once v w (a.own ∙ ap (take (g.references + g.values)) same ∙ sym b.own)
-          (a.shared ∙ ap (λ vs. by_resource p.resources (drop (g.references + g.values) vs)) same ∙ sym b.shared),
+    let same = state-vars p g text v w h k a b in (
+      vars-once v w same.0 same.1,
       same_map nat_cmp_total nat_cmp-IsAntisymmetric h k
           (λ l. a.gives.cells_are l ∙ sym (b.gives.cells_are l)),
     )

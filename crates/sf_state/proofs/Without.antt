@@ -121,7 +121,7 @@ foot-left a vars heap taken ls f out = record {
 }
 
 -- a part of what is left that satisfies an assertion is one of the whole
-foot-whole : (a : Level Expr) (vars : Var → Value) (heap part : Heap) (taken : List ℕ)
+pub foot-whole : (a : Level Expr) (vars : Var → Value) (heap part : Heap) (taken : List ℕ)
     → Foot a (value vars) (without taken heap) part → Foot a (value vars) heap part
 foot-whole a vars heap part taken f = record {
   rest = with_back taken heap f.rest;

@@ -8,4 +8,6 @@ pub mod StateText
 pub mod Entering
 pub mod Starts
 pub mod Finishing
+pub mod Written
+pub mod Laws
 pub mod Internal

@@ -24,6 +24,7 @@ mod fields;
 mod finding;
 mod finish;
 mod given;
+pub mod laws;
 mod line;
 mod names;
 mod placing;

@@ -1,0 +1,500 @@
+-- Written states are read back: what each written line says, and that all of them are taken and give what was written.
+-- Names: `written-LAW` of a line, `entries-LAW` of all, `refused-LAW` that none is refused, `given-LAW` of what they give.
+use Rattle.std.proofs.Common.{◌≡◌, ◌<◌, ◌≤◌, ◌+◌, ◌++◌, ◌==◌, ℕ, zero, suc, Bool, true, false, cond, not, nat_lt, List, [], ◌∷◌, length, map, replicate, Contains, Option, Some, None, is_some, slice_index_or, slice_set, refl, ap, ap₂, sym, ◌∙◌, arith, subst, append_assoc, append-nil, codes, inl, inr}
+use Rattle.std.proofs.Math.Seq.{set-append_seam}
+use Rattle.std.proofs.lemmas.Bool.{eq-eqb, eqb-true, false≢true, lt-ltb}
+use Rattle.std.proofs.lemmas.List.{length-append}
+use Rattle.std.proofs.lemmas.List.Folds.{list_any-append}
+use Rattle.std.specs.List.{list_all}
+use Rattle.std.proofs.lemmas.List.Sums.{sum_by-append}
+use Rattle.std.specs.Option.{option_map, option_or}
+use Rattle.sf_base.specs.declared.limits.TheConstants.{STATE_BYTES, STATE_CELLS}
+use Rattle.sf_base.specs.declared.value.Value.{Value}
+use Rattle.sf_base.specs.declared.value.Value.TheVariants.{Nil as nil}
+use Rattle.sf_base.proofs.Elements.{contains-cons, contains-nil}
+use Rattle.sf_base.proofs.Numbers.{eqb-less}
+use Rattle.sf_base.proofs.Options.{option_or-assoc}
+use Rattle.sf_lex.specs.Whole.{is_name}
+use Rattle.sf_lines.specs.Lines.{Text, lines, only, split_once, words}
+use Rattle.sf_lines.proofs.Splitting.{words-space}
+use Rattle.sf_state.specs.declared.fault.StartFault.{StartFault}
+use Rattle.sf_state.specs.declared.fault.StartFault.TheVariants.{TooLong, Twice}
+use Rattle.sf_state.specs.declared.fields.Fields.TheVariants.{Are}
+use Rattle.sf_state.specs.declared.fields.Setting.{Setting}
+use Rattle.sf_state.specs.declared.line.Entry.{Entry}
+use Rattle.sf_state.specs.declared.line.Entry.TheVariants.{Nothing, Bad, Variable, Cell}
+use Rattle.sf_state.specs.Written.{IsWritable}
+use Rattle.sf_state.specs.Names.{field_at, is_target, place_of}
+use Rattle.sf_state.specs.Refused.{is_cell, cell_count, cell_given, cell_in, cell_name, cell_refusal, cell_values, first_refusal, is_set, name_at, refusal, set_again, value_given, value_in, values_after}
+use Rattle.sf_state.specs.Says.{assigned, both, cell_said, cell_with, entries_from, entries_of, field_said, fields_said, is_finished, named_value, named_value_in, said, says, set_field, set_variable, setting_of, variable_said, variable_with}
+use Rattle.sf_state.specs.Stated.{Gives, missing_from, text_refusal, values_given}
+use Rattle.sf_state.specs.StateText.{cell_line, cell_lines, field_text, field_texts, state_text, value_text, values_or_none, variable_line, variable_lines}
+use Rattle.sf_state.specs.Values.{is_location, location_from, value_from}
+use Rattle.sf_state.specs.Words.{begins}
+use Rattle.sf_state.proofs.AllValues.{text-short}
+use Rattle.sf_state.proofs.Keeping.{cell-push, count-push, value-push}
+use Rattle.sf_state.proofs.Spelling.{IsPlain, all-append, is_inline, is_visible, lines-before, location-back, location-plain, plain-append, plain-inline, split-sign, value-back, value-plain, words-before, words-plain}
+
+-- a name as it is written: it has a form, and nothing in it ends a word or is a sign
+pub record IsSpelled (form : Text → Bool) (name : Text) : Type 0 where
+  pub plain : IsPlain name
+  pub formed : form name ≡ true
+  pub no_sign : list_all (λ b. not (b == 61)) name ≡ true
+  pub no_comment : begins 35 name ≡ false
+  pub no_cell : begins 64 name ≡ false
+
+-- each of these is, and stands at its number among all
+abbrev pub ArePlaced : (form : Text → Bool) (all : List Text) (number : ℕ) → List Text → Type 0
+ArePlaced form all number [] = Unit {0}
+ArePlaced form all number (name ∷ more) = IsSpelled form name × (place_of all name ≡ Some number)
+    × ArePlaced form all (suc number) more
+
+-- each value among these can be written
+abbrev pub EachWritable : List Value → Type 0
+EachWritable values = (k : ℕ) → IsWritable (slice_index_or values k nil)
+
+-- a written line says that, on whichever line it stands
+record IsWritten (fields names : List Text) (line : Text) (e : Entry) : Type 0 where
+  inline : list_all is_inline line ≡ true
+  says : (k : ℕ) → says fields names k line ≡ e
+
+written-words : (fields names : List Text) (line : Text) (ws : List Text) (e : Entry) → words line ≡ ws
+    → is_finished (only ws) ≡ false → said fields names line ws ≡ e → (k : ℕ) → says fields names k line ≡ e
+written-words fields names line ws e w f s zero =
+    ap (λ xs. cond (is_finished (only xs)) Nothing (said fields names line xs)) w
+    ∙ ap (λ b. cond b Nothing (said fields names line ws)) f ∙ s
+written-words fields names line ws e w f s (suc k) = ap (said fields names line) w ∙ s
+
+-- a variable
+written-variable : (fields names : List Text) (name : Text) (number : ℕ) (v : Value) → IsSpelled is_target name
+    → place_of names name ≡ Some number → IsWritable v
+    → IsWritten fields names (name ++ codes " = " ++ value_text v) (Variable number v)
+written-variable fields names name number v s place h =
+    let plain = value-plain v h in
+    let whole : name ++ codes " = " ++ value_text v ≡ name ++ 32 ∷ 61 ∷ 32 ∷ value_text v =
+    append_assoc name (codes " = ") (value_text v) in
+    let spelled : words (name ++ codes " = " ++ value_text v) ≡ name ∷ (61 ∷ []) ∷ value_text v ∷ [] =
+    ap words whole ∙ words-before name (61 ∷ 32 ∷ value_text v) s.plain
+    ∙ ap (λ ws. name ∷ ws) (words-before (61 ∷ []) (value_text v) (record { some = refl; visible = refl })
+    ∙ ap (λ ws. (61 ∷ []) ∷ ws) (words-plain (value_text v) plain)) in
+    let parts : split_once 61 (name ++ codes " = " ++ value_text v) ≡ Some (name ++ 32 ∷ [], 32 ∷ value_text v) =
+    ap (split_once 61) (whole ∙ sym (append_assoc name (32 ∷ []) (61 ∷ 32 ∷ value_text v)))
+    ∙ split-sign 61 (name ++ 32 ∷ []) (32 ∷ value_text v)
+    (all-append (λ b. not (b == 61)) name (32 ∷ []) s.no_sign refl) in
+    let left : words (name ++ 32 ∷ []) ≡ name ∷ [] = words-before name [] s.plain in
+    let right : words (32 ∷ value_text v) ≡ value_text v ∷ [] =
+    words-space 32 (value_text v) refl ∙ words-plain (value_text v) plain in
+    let set : variable_said names (split_once 61 (name ++ codes " = " ++ value_text v)) ≡ Variable number v =
+    ap (variable_said names) parts ∙ ap₂ (λ a b. assigned names (only a) (only b)) left right
+    ∙ ap (variable_with names name) (value-back v h)
+    ∙ ap (λ b. cond b (set_variable name v (place_of names name)) Bad) s.formed ∙ ap (set_variable name v) place in
+    record {
+      inline = all-append is_inline (name ++ codes " = ") (value_text v)
+          (all-append is_inline name (codes " = ") (plain-inline name s.plain) refl)
+          (plain-inline (value_text v) plain);
+      says = written-words fields names (name ++ codes " = " ++ value_text v) (name ∷ (61 ∷ []) ∷ value_text v ∷ [])
+          (Variable number v) spelled refl (rw (s.no_comment, s.no_cell) set);
+    }
+
+-- the words of a cell's fields, the first of which has that number, and what they set
+abbrev field_words : (names : List Text) (number : ℕ) → List Value → List Text
+field_words [] number values = []
+field_words (name ∷ more) number values = (name ++ 61 ∷ value_text (slice_index_or values number nil))
+    ∷ field_words more (suc number) values
+
+abbrev setting_at : ℕ → List Value → Setting
+setting_at number values = record { field = field_at number; value = slice_index_or values number nil }
+
+abbrev settings_from : (names : List Text) (number : ℕ) → List Value → List Setting
+settings_from [] number values = []
+settings_from (name ∷ more) number values = setting_at number values ∷ settings_from more (suc number) values
+
+written-fields : (all names : List Text) (number : ℕ) (values : List Value) (w : Text) → IsPlain w
+    → ArePlaced is_name all number names → EachWritable values
+    → words (w ++ field_texts names number values) ≡ w ∷ field_words names number values
+written-fields all [] number values w p s h = ap words (append-nil w) ∙ words-plain w p
+written-fields all (name ∷ more) number values w p s h =
+    let v : Value = slice_index_or values number nil in
+    let plain = value-plain (slice_index_or values number nil) (h number) in
+    let shape : w ++ field_texts (name ∷ more) number values
+    ≡ w ++ 32 ∷ ((name ++ 61 ∷ value_text (slice_index_or values number nil)) ++ field_texts more (suc number) values) =
+    ap (λ x. w ++ 32 ∷ (x ++ field_texts more (suc number) values))
+    (append_assoc name (codes "=") (value_text (slice_index_or values number nil))) in
+    ap words shape
+    ∙ words-before w ((name ++ 61 ∷ value_text (slice_index_or values number nil)) ++ field_texts more (suc number) values) p
+    ∙ ap (λ ws. w ∷ ws) (written-fields all more (suc number) values
+    (name ++ 61 ∷ value_text (slice_index_or values number nil))
+    (plain-append name (61 ∷ value_text (slice_index_or values number nil)) s.0.plain
+    (all-append is_visible (61 ∷ []) (value_text (slice_index_or values number nil)) refl plain.visible)) s.2 h)
+
+-- the word of a field sets it
+written-setting : (all : List Text) (name : Text) (number : ℕ) (v : Value) → IsSpelled is_name name
+    → place_of all name ≡ Some number → IsWritable v → field_said all (setting_of (name ++ 61 ∷ value_text v))
+    ≡ Are (record { field = field_at number; value = v } ∷ [])
+written-setting all name number v s place h =
+    let setting : setting_of (name ++ 61 ∷ value_text v) ≡ Some (name, v) =
+    ap named_value_in (split-sign 61 name (value_text v) s.no_sign) ∙ ap (named_value name) (value-back v h)
+    ∙ ap (λ b. cond b (Some (name, v)) None) s.formed in
+    ap (field_said all) setting ∙ ap (λ o. set_field name v (option_map field_at o)) place
+
+written-settings : (all names : List Text) (number : ℕ) (values : List Value) → ArePlaced is_name all number names
+    → EachWritable values → fields_said all (field_words names number values) ≡ Are (settings_from names number values)
+written-settings all [] number values s h = refl
+written-settings all (name ∷ more) number values s h =
+    ap₂ both (written-setting all name number (slice_index_or values number nil) s.0 s.1 (h number))
+    (written-settings all more (suc number) values s.2 h)
+
+inline-fields : (all names : List Text) (number : ℕ) (values : List Value) → ArePlaced is_name all number names
+    → EachWritable values → list_all is_inline (field_texts names number values) ≡ true
+inline-fields all [] number values s h = refl
+inline-fields all (name ∷ more) number values s h =
+    let v : Value = slice_index_or values number nil in
+    all-append is_inline (field_text name (slice_index_or values number nil)) (field_texts more (suc number) values)
+    (all-append is_inline (codes " " ++ name ++ codes "=") (value_text (slice_index_or values number nil))
+    (all-append is_inline (codes " " ++ name) (codes "=") (all-append is_inline (codes " ") name refl
+    (plain-inline name s.0.plain)) refl)
+    (plain-inline (value_text (slice_index_or values number nil)) (value-plain (slice_index_or values number nil) (h number))))
+    (inline-fields all more (suc number) values s.2 h)
+
+not_finished : (l : ℕ) (ws : List Text) → is_finished (only (cell_name l ∷ ws)) ≡ false
+not_finished l [] = refl
+not_finished l (w ∷ ws) = refl
+
+-- a cell
+written-cell : (fields names : List Text) (l : ℕ) (values : List Value) → ArePlaced is_name fields 0 fields
+    → is_location l ≡ true → EachWritable values
+    → IsWritten fields names (cell_name l ++ field_texts fields 0 values) (Cell l (settings_from fields 0 values))
+written-cell fields names l values s there h =
+    let plain = location-plain l there in
+    record {
+      inline = all-append is_inline (cell_name l) (field_texts fields 0 values) (plain-inline (cell_name l) plain)
+          (inline-fields fields fields 0 values s h);
+      says = written-words fields names (cell_name l ++ field_texts fields 0 values)
+          (cell_name l ∷ field_words fields 0 values) (Cell l (settings_from fields 0 values))
+          (written-fields fields fields 0 values (cell_name l) plain s h)
+          (not_finished l (field_words fields 0 values))
+          (ap (λ o. cell_said fields o (field_words fields 0 values)) (location-back l there)
+          ∙ ap (cell_with l) (written-settings fields fields 0 values s h));
+    }
+
+-- what all lines say: first the variables, then the cells
+abbrev variable_entries : (names : List Text) (number : ℕ) → List Value → List Entry
+variable_entries [] number values = []
+variable_entries (name ∷ more) number values = Variable number (slice_index_or values number nil)
+    ∷ variable_entries more (suc number) values
+
+entries-variables : (fields all names : List Text) (number : ℕ) (values : List Value) (tail : Text) (es : List Entry)
+    → ArePlaced is_target all number names → EachWritable values
+    → ((k : ℕ) → entries_from fields all k (lines tail) ≡ es) → (k : ℕ)
+    → entries_from fields all k (lines (variable_lines names number values ++ tail))
+    ≡ variable_entries names number values ++ es
+entries-variables fields all [] number values tail es s h t k = t k
+entries-variables fields all (name ∷ more) number values tail es s h t k =
+    let v : Value = slice_index_or values number nil in
+    let w = written-variable fields all name number (slice_index_or values number nil) s.0 s.1 (h number) in
+    let line : Text = name ++ codes " = " ++ value_text (slice_index_or values number nil) in
+    let rest : Text = variable_lines more (suc number) values in
+    let cut : lines (variable_lines (name ∷ more) number values ++ tail)
+    ≡ (name ++ codes " = " ++ value_text (slice_index_or values number nil))
+    ∷ lines (variable_lines more (suc number) values ++ tail) =
+    ap lines (append_assoc (variable_line name (slice_index_or values number nil)) (variable_lines more (suc number) values) tail
+    ∙ append_assoc (name ++ codes " = " ++ value_text (slice_index_or values number nil)) (codes "\n")
+    (variable_lines more (suc number) values ++ tail))
+    ∙ lines-before (name ++ codes " = " ++ value_text (slice_index_or values number nil))
+    (variable_lines more (suc number) values ++ tail) w.inline in
+    ap (entries_from fields all k) cut
+    ∙ ap₂ ◌∷◌ (w.says k) (entries-variables fields all more (suc number) values tail es s.2 h t (suc k))
+
+-- A list of locations with their cells
+module _ (fields names : List Text) (cells : ℕ → Option (List Value)) where
+  -- a cell that is there, with a value for each field, can be written
+  pub record IsCell (l : ℕ) : Type 0 where
+    pub location : is_location l ≡ true
+    pub there : cells l ≡ Some (values_or_none (cells l))
+    pub size : length (values_or_none (cells l)) ≡ length fields
+    pub each : EachWritable (values_or_none (cells l))
+
+  -- each of these is, and no location is there twice
+  abbrev pub AreCells : List ℕ → Type 0
+  AreCells [] = Unit {0}
+  AreCells (l ∷ ls) = IsCell l × ((q : ℕ) → Contains ls q → (l == q) ≡ false) × AreCells ls
+
+  abbrev cell_entries : List ℕ → List Entry
+  cell_entries [] = Nothing ∷ []
+  cell_entries (l ∷ ls) = Cell l (settings_from fields 0 (values_or_none (cells l))) ∷ cell_entries ls
+
+  entries-cells : ArePlaced is_name fields 0 fields → (ls : List ℕ) → AreCells ls → (k : ℕ)
+      → entries_from fields names k (lines (cell_lines fields cells ls)) ≡ cell_entries ls
+  entries-cells s [] c zero = refl
+  entries-cells s [] c (suc k) = refl
+  entries-cells s (l ∷ ls) c k =
+      let w = written-cell fields names l (values_or_none (cells l)) s c.0.location c.0.each in
+      let cut : lines (cell_lines fields cells (l ∷ ls))
+      ≡ (cell_name l ++ field_texts fields 0 (values_or_none (cells l))) ∷ lines (cell_lines fields cells ls) =
+      ap lines (append_assoc (cell_name l ++ field_texts fields 0 (values_or_none (cells l))) (codes "\n")
+      (cell_lines fields cells ls))
+      ∙ lines-before (cell_name l ++ field_texts fields 0 (values_or_none (cells l))) (cell_lines fields cells ls) w.inline in
+      ap (entries_from fields names k) cut ∙ ap₂ ◌∷◌ (w.says k) (entries-cells s ls c.2 (suc k))
+
+-- nothing before gives one of the variables from that number on
+abbrev GivesNoneFrom : ℕ → List Entry → Type 0
+GivesNoneFrom number es = (k : ℕ) → number ≤ k → value_given es k ≡ None
+
+gives_none-next : (number : ℕ) (v : Value) (before : List Entry) → GivesNoneFrom number before
+    → GivesNoneFrom (suc number) (before ++ Variable number v ∷ [])
+gives_none-next number v before none k h = value-push before (Variable number v) k
+    ∙ ap₂ (λ o b. option_or o (cond b (Some v) None)) (none k (omega (arith, h))) (eqb-less number k (omega (arith, h)))
+
+-- no variable is refused
+refused-variables : (fields all names : List Text) (number : ℕ) (values : List Value) (before es : List Entry)
+    → GivesNoneFrom number before → first_refusal fields all before (variable_entries names number values ++ es)
+    ≡ first_refusal fields all (before ++ variable_entries names number values) es
+refused-variables fields all [] number values before es none =
+    ap (λ b. first_refusal fields all b es) (sym (append-nil before))
+refused-variables fields all (name ∷ more) number values before es none =
+    let v : Value = slice_index_or values number nil in
+    let same : number ≤ number = omega arith in
+    ap (λ o. option_or (cond (is_some o) (Some (Twice (name_at all number))) None)
+    (first_refusal fields all (before ++ Variable number (slice_index_or values number nil) ∷ [])
+    (variable_entries more (suc number) values ++ es))) (none number same)
+    ∙ refused-variables fields all more (suc number) values (before ++ Variable number (slice_index_or values number nil) ∷ [])
+    es (gives_none-next number (slice_index_or values number nil) before none)
+    ∙ ap (λ b. first_refusal fields all b es)
+    (append_assoc before (Variable number (slice_index_or values number nil) ∷ []) (variable_entries more (suc number) values))
+
+-- no field of a cell is set again
+refused-settings : (names : List Text) (number : ℕ) (values : List Value) (before : List Setting)
+    → ((k : ℕ) → number ≤ k → is_set before (field_at k) ≡ false)
+    → set_again before (settings_from names number values) ≡ None
+refused-settings [] number values before none = refl
+refused-settings (name ∷ more) number values before none =
+    let same : number ≤ number = omega arith in
+    ap (λ b. cond b (Some (field_at number))
+    (set_again (before ++ setting_at number values ∷ []) (settings_from more (suc number) values))) (none number same)
+    ∙ refused-settings more (suc number) values (before ++ setting_at number values ∷ []) next
+  where
+    next : (k : ℕ) → suc number ≤ k → is_set (before ++ setting_at number values ∷ []) (field_at k) ≡ false
+    next k h = list_any-append (λ (s : Setting). s.field.0 == k) before (setting_at number values ∷ [])
+        ∙ rw (none k (omega (arith, h)), eqb-less number k (omega (arith, h))) refl
+
+-- the values at these numbers, the first of which is that one
+abbrev read_from : (names : List Text) (number : ℕ) → List Value → List Value
+read_from [] number values = []
+read_from (name ∷ more) number values = slice_index_or values number nil ∷ read_from more (suc number) values
+
+index-seam : (done more : List Value) (v : Value) → slice_index_or (done ++ v ∷ more) (length done) nil ≡ v
+index-seam [] more v = refl
+index-seam (x ∷ done) more v = index-seam done more v
+
+length-next : (done : List Value) (v : Value) → length (done ++ v ∷ []) ≡ suc (length done)
+length-next done v = let n : length (done ++ v ∷ []) ≡ length done + length (v ∷ []) = length-append done (v ∷ []) in
+    omega (arith, n)
+
+read-more : (names : List Text) (number : ℕ) (done more : List Value) → number ≡ length done
+    → length more ≡ length names → read_from names number (done ++ more) ≡ more
+read-more [] number done [] n e = refl
+read-more [] number done (v ∷ more) n e = absurd (omega arith)
+read-more (name ∷ names) number done [] n e = absurd (omega arith)
+read-more (name ∷ names) number done (v ∷ more) n e =
+    ap₂ ◌∷◌ (ap (λ k. slice_index_or (done ++ v ∷ more) k nil) n ∙ index-seam done more v)
+    (ap (read_from names (suc number)) (sym (append_assoc done (v ∷ []) more))
+    ∙ read-more names (suc number) (done ++ v ∷ []) more (ap suc n ∙ sym (length-next done v)) (omega arith))
+
+read-all : (names : List Text) (values : List Value) → length values ≡ length names → read_from names 0 values ≡ values
+read-all names values e = read-more names 0 [] values refl e
+
+-- a cell's fields have the values that they are set to
+set-more : (names : List Text) (number : ℕ) (values done : List Value) → number ≡ length done
+    → values_after (done ++ replicate (length names) nil) (settings_from names number values)
+    ≡ done ++ read_from names number values
+set-more [] number values done n = refl
+set-more (name ∷ more) number values done n =
+    ap (λ vs. values_after vs (settings_from more (suc number) values))
+    (ap (λ k. slice_set (done ++ nil ∷ replicate (length more) nil) k (slice_index_or values number nil)) n
+    ∙ set-append_seam done nil (replicate (length more) nil) (slice_index_or values number nil)
+    ∙ sym (append_assoc done (slice_index_or values number nil ∷ []) (replicate (length more) nil)))
+    ∙ set-more more (suc number) values (done ++ slice_index_or values number nil ∷ [])
+    (ap suc n ∙ sym (length-next done (slice_index_or values number nil)))
+    ∙ append_assoc done (slice_index_or values number nil ∷ []) (read_from more (suc number) values)
+
+set-all : (names : List Text) (values : List Value) → length values ≡ length names
+    → cell_values (length names) (settings_from names 0 values) ≡ values
+set-all names values e = set-more names 0 values [] refl ∙ read-all names values e
+
+-- what lines give, and then others
+value-append : (a b : List Entry) (number : ℕ) → value_given (a ++ b) number
+    ≡ option_or (value_given a number) (value_given b number)
+value-append [] b number = refl
+value-append (e ∷ a) b number = ap (option_or (value_in number e)) (value-append a b number)
+    ∙ sym (option_or-assoc (value_in number e) (value_given a number) (value_given b number))
+
+cell-append : (a b : List Entry) (l : ℕ) → cell_given (a ++ b) l ≡ option_or (cell_given a l) (cell_given b l)
+cell-append [] b l = refl
+cell-append (e ∷ a) b l = ap (option_or (cell_in l e)) (cell-append a b l)
+    ∙ sym (option_or-assoc (cell_in l e) (cell_given a l) (cell_given b l))
+
+-- the variables have the values that were written
+given-variables : (names : List Text) (number : ℕ) (values : List Value) (es before rest : List Entry)
+    → es ≡ before ++ (variable_entries names number values ++ rest) → GivesNoneFrom number before
+    → values_given es number names ≡ map Some (read_from names number values)
+given-variables [] number values es before rest e none = refl
+given-variables (name ∷ more) number values es before rest e none = ap₂ ◌∷◌ here
+    (given-variables more (suc number) values es (before ++ Variable number (slice_index_or values number nil) ∷ []) rest
+    (e ∙ sym (append_assoc before (Variable number (slice_index_or values number nil) ∷ [])
+    (variable_entries more (suc number) values ++ rest)))
+    (gives_none-next number (slice_index_or values number nil) before none))
+  where
+    here : value_given es number ≡ Some (slice_index_or values number nil)
+    here = ap (λ xs. value_given xs number) e
+        ∙ value-append before (variable_entries (name ∷ more) number values ++ rest) number
+        ∙ ap (λ o. option_or o (value_given (variable_entries (name ∷ more) number values ++ rest) number))
+        (none number (omega arith))
+        ∙ ap (λ b. option_or (cond b (Some (slice_index_or values number nil)) None)
+        (value_given (variable_entries more (suc number) values ++ rest) number)) (eq-eqb number number refl)
+
+no_cells : (names : List Text) (number : ℕ) (values : List Value) (l : ℕ)
+    → cell_given (variable_entries names number values) l ≡ None
+no_cells [] number values l = refl
+no_cells (name ∷ more) number values l = no_cells more (suc number) values l
+
+no_count : (names : List Text) (number : ℕ) (values : List Value) → cell_count (variable_entries names number values) ≡ 0
+no_count [] number values = refl
+no_count (name ∷ more) number values = no_count more (suc number) values
+
+-- no variable is missing
+none_missing : (names : List Text) (number : ℕ) (values : List Value) → missing_from names number (map Some values) ≡ None
+none_missing names number [] = refl
+none_missing names number (v ∷ values) = none_missing names (suc number) values
+
+-- Cells that are written
+module _ (fields names : List Text) (cells : ℕ → Option (List Value)) where
+  abbrev entries_of_cells : List ℕ → List Entry
+  entries_of_cells ls = cell_entries fields names cells ls
+
+  abbrev settings_of : ℕ → List Setting
+  settings_of l = settings_from fields 0 (values_or_none (cells l))
+
+  -- no cell is refused
+  refused-cells : (ls : List ℕ) (before : List Entry) → AreCells fields names cells ls
+      → ((q : ℕ) → Contains ls q → cell_given before q ≡ None) → cell_count before + length ls ≤ STATE_CELLS
+      → first_refusal fields names before (entries_of_cells ls) ≡ None
+  refused-cells [] before c none few = refl
+  refused-cells (l ∷ ls) before c none few =
+      ap (λ o. option_or (cond (is_some o) (Some (Twice (cell_name l)))
+      (cell_refusal fields before (set_again [] (settings_of l))))
+      (first_refusal fields names (before ++ Cell l (settings_of l) ∷ []) (entries_of_cells ls)))
+      (none l ((contains-cons l ls l).1 (inl refl)))
+      ∙ ap (λ o. option_or (cell_refusal fields before o)
+      (first_refusal fields names (before ++ Cell l (settings_of l) ∷ []) (entries_of_cells ls)))
+      (refused-settings fields 0 (values_or_none (cells l)) [] (λ k h. refl))
+      ∙ ap (λ b. option_or (cond b None (Some TooLong))
+      (first_refusal fields names (before ++ Cell l (settings_of l) ∷ []) (entries_of_cells ls))) room
+      ∙ refused-cells ls (before ++ Cell l (settings_of l) ∷ []) c.2 next
+      (let n : cell_count (before ++ Cell l (settings_of l) ∷ []) ≡ cell_count before + 1 =
+      count-push before (Cell l (settings_of l)) in omega (arith, n, few))
+    where
+      room : nat_lt (cell_count before) STATE_CELLS ≡ true
+      room = lt-ltb (cell_count before) STATE_CELLS (omega (arith, few))
+
+      next : (q : ℕ) → Contains ls q → cell_given (before ++ Cell l (settings_of l) ∷ []) q ≡ None
+      next q i = cell-push before (Cell l (settings_of l)) q
+          ∙ ap₂ (λ o b. option_or o (cond b (Some (settings_of l)) None))
+          (none q ((contains-cons l ls q).1 (inr i))) (c.1 q i)
+
+  -- at each location is the cell that was written
+  given-cells : (ls : List ℕ) (l : ℕ) → AreCells fields names cells ls → ((Contains ls l → ⊥) → cells l ≡ None)
+      → cells l ≡ option_map (cell_values (length fields)) (cell_given (entries_of_cells ls) l)
+  given-cells [] l c out = out (contains-nil l)
+  given-cells (q ∷ ls) l c out = go (q == l) refl (given-cells ls l c.2)
+    where
+      go : (b : Bool) → (q == l) ≡ b
+          → (((Contains ls l → ⊥) → cells l ≡ None)
+          → cells l ≡ option_map (cell_values (length fields)) (cell_given (entries_of_cells ls) l))
+          → cells l ≡ option_map (cell_values (length fields))
+          (option_or (cond b (Some (settings_of q)) None) (cell_given (entries_of_cells ls) l))
+      go true e more =
+          let same : q ≡ l = eqb-true q l e in
+          sym (ap cells same) ∙ c.0.there ∙ sym (ap Some (set-all fields (values_or_none (cells q)) c.0.size))
+      go false e more = more (λ no. out (λ i. elim ((contains-cons q ls l).0 i) [
+        | inl same ↦ false≢true (sym e ∙ eq-eqb q l same)
+        | inr d ↦ no d
+      ]))
+
+  -- variables and cells that can be written, the cells at those locations
+  pub record AreWritten (values : List Value) (ls : List ℕ) : Type 0 where
+    pub fields_placed : ArePlaced is_name fields 0 fields
+    pub names_placed : ArePlaced is_target names 0 names
+    pub size : length values ≡ length names
+    pub each : EachWritable values
+    pub at : AreCells fields names cells ls
+    pub out : (l : ℕ) → (Contains ls l → ⊥) → cells l ≡ None
+    pub few : length ls ≤ STATE_CELLS
+
+  -- lines before them that give nothing, and are not refused
+  pub record AreNothing (before : List Entry) : Type 0 where
+    pub no_values : (k : ℕ) → value_given before k ≡ None
+    pub no_cell : (l : ℕ) → cell_given before l ≡ None
+    pub count : cell_count before ≡ 0
+    pub fine : (es : List Entry) → first_refusal fields names [] (before ++ es) ≡ first_refusal fields names before es
+
+  -- they are read back
+  pub written-back : (values : List Value) (ls : List ℕ) (text : Text) (before : List Entry) → AreWritten values ls
+      → AreNothing before → length text ≤ STATE_BYTES
+      → entries_of fields names text ≡ before ++ (variable_entries names 0 values ++ entries_of_cells ls)
+      → (text_refusal fields names text ≡ None) × Gives fields names text values cells
+  written-back values ls text before w nothing short e = (
+    text-short fields names text short
+        ∙ ap₂ option_or refused (ap (missing_from names 0) given ∙ none_missing names 0 values),
+    record {
+      values_are = sym given;
+      cells_are = λ l. given-cells ls l w.at (w.out l) ∙ ap (option_map (cell_values (length fields))) (sym (found l));
+    },
+  )
+    where
+      given : values_given (entries_of fields names text) 0 names ≡ map Some values
+      given = given-variables names 0 values (entries_of fields names text) before (entries_of_cells ls) e
+          (λ k h. nothing.no_values k) ∙ ap (map Some) (read-all names values w.size)
+
+      found : (l : ℕ) → cell_given (entries_of fields names text) l ≡ cell_given (entries_of_cells ls) l
+      found l = ap (λ es. cell_given es l) e
+          ∙ cell-append before (variable_entries names 0 values ++ entries_of_cells ls) l
+          ∙ ap (λ o. option_or o (cell_given (variable_entries names 0 values ++ entries_of_cells ls) l)) (nothing.no_cell l)
+          ∙ cell-append (variable_entries names 0 values) (entries_of_cells ls) l
+          ∙ ap (λ o. option_or o (cell_given (entries_of_cells ls) l)) (no_cells names 0 values l)
+
+      counted : cell_count (before ++ variable_entries names 0 values) ≡ 0
+      counted = sum_by-append (λ x. cond (is_cell x) 1 0) before (variable_entries names 0 values)
+          ∙ ap₂ ◌+◌ nothing.count (no_count names 0 values)
+
+      refused : first_refusal fields names [] (entries_of fields names text) ≡ None
+      refused = ap (first_refusal fields names []) e
+          ∙ nothing.fine (variable_entries names 0 values ++ entries_of_cells ls)
+          ∙ refused-variables fields names names 0 values before (entries_of_cells ls) (λ k h. nothing.no_values k)
+          ∙ refused-cells ls (before ++ variable_entries names 0 values) w.at
+          (λ q i. cell-append before (variable_entries names 0 values) q
+          ∙ ap₂ option_or (nothing.no_cell q) (no_cells names 0 values q)) (omega (arith, counted, w.few))
+
+  -- what the written text says, and the same after the line `finished`
+  entries-text : (values : List Value) (ls : List ℕ) → AreWritten values ls → (k : ℕ)
+      → entries_from fields names k (lines (state_text fields names values cells ls))
+      ≡ variable_entries names 0 values ++ entries_of_cells ls
+  entries-text values ls w k = entries-variables fields names names 0 values (cell_lines fields cells ls)
+      (entries_of_cells ls) w.names_placed w.each (entries-cells fields names cells w.fields_placed ls w.at) k
+
+  pub text-back : (values : List Value) (ls : List ℕ) → AreWritten values ls
+      → length (state_text fields names values cells ls) ≤ STATE_BYTES
+      → (text_refusal fields names (state_text fields names values cells ls) ≡ None)
+      × Gives fields names (state_text fields names values cells ls) values cells
+  text-back values ls w short = written-back values ls (state_text fields names values cells ls) [] w
+      (record { no_values = λ k. refl; no_cell = λ l. refl; count = refl; fine = λ es. refl }) short
+      (entries-text values ls w 0)
+
+  pub finished-back : (values : List Value) (ls : List ℕ) → AreWritten values ls
+      → length (codes "finished\n" ++ state_text fields names values cells ls) ≤ STATE_BYTES
+      → (text_refusal fields names (codes "finished\n" ++ state_text fields names values cells ls) ≡ None)
+      × Gives fields names (codes "finished\n" ++ state_text fields names values cells ls) values cells
+  finished-back values ls w short =
+      written-back values ls (codes "finished\n" ++ state_text fields names values cells ls) (Nothing ∷ []) w
+      (record { no_values = λ k. refl; no_cell = λ l. refl; count = refl; fine = λ es. refl }) short
+      (ap (entries_from fields names 0) (lines-before (codes "finished") (state_text fields names values cells ls) refl)
+      ∙ ap (λ es. Nothing ∷ es) (entries-text values ls w 1))
