@@ -1,22 +1,26 @@
 -- From what the parts of a run answer to what is said of it over the files of a shelf.
 -- Names: entry-*, ran-*, fetched-*, reply-*.
-use Rattle.std.proofs.Common.{◌≡◌, ◌≢◌, ◌∙◌, ◌⊎◌, ◌<◌, ◌≤◌, ℕ, Bool, true, false, List, Option, Some, None, ap, arith, get_or, inl, inr, length, nat_lt, refl, subst, sym}
+use Rattle.std.proofs.Common.{◌≡◌, ◌≢◌, ◌∙◌, ◌⊎◌, ◌<◌, ◌≤◌, ℕ, [], Bool, true, false, List, Option, Some, None, ap, arith, get_or, inl, inr, length, map, nat_lt, refl, subst, sym}
 use Rattle.std.proofs.lemmas.Bool.{ltb-true, ltb-false}
 use Rattle.std.proofs.lemmas.Bool.Decides.{nat_tests}
 use Rattle.std.proofs.lemmas.List.{length-map}
-use Rattle.std.proofs.lemmas.Option.{slice_get_cases}
+use Rattle.std.proofs.lemmas.Option.{get_or_from_slice_get, slice_get-map, slice_get_cases}
 use Rattle.std.specs.declared.result.Result.{Result}
 use Rattle.std.specs.declared.result.Result.TheVariants.{Ok, Err}
+use Rattle.std.specs.Option.{option_map}
 use Rattle.std.specs.Prelude.{IfOk, IfSome, if◌then◌else◌, slice_get}
 use Rattle.sf_base.proofs.Options.{some-holds, some-none}
 use Rattle.sf_base.specs.declared.ids.ProcId.{ProcId}
+use Rattle.sf_base.specs.declared.ids.ResId.{ResId}
 use Rattle.sf_base.specs.declared.limits.TheConstants.{FILE_BYTES, STATE_BYTES}
 use Rattle.sf_core.specs.Machine.Alone.{Outcome, finished, spent, waiting}
 use Rattle.sf_core.specs.Machine.Step.{procedure_at}
 use Rattle.sf_core.specs.Program.Formed.{IsFormed}
 use Rattle.sf_core.specs.Program.ProgramView.{program_of}
-use Rattle.sf_core.specs.Program.Syntax.{Procedure, Program}
-use Rattle.sf_core.specs.Program.View.{procedure_of}
+use Rattle.sf_core.specs.Program.Syntax.{Procedure, Program, Resource}
+use Rattle.sf_core.specs.Program.View.{procedure_of, resource_of}
+use Rattle.sf_core.specs.declared.program.Program.{Program as CodeProgram}
+use Rattle.sf_core.specs.declared.program.Resource.{Resource as CodeResource}
 use Rattle.sf_foot.specs.declared.start.Finish.{Finish}
 use Rattle.sf_foot.specs.declared.start.Start.{Start}
 use Rattle.sf_foot.specs.declared.vars.Vars.{Vars}
@@ -40,7 +44,7 @@ use Rattle.sf_cli.specs.Answer.{AreRun, HasRun, IsProved, IsRun, MayHave, Reache
 use Rattle.sf_cli.specs.declared.reply.Said.{Said}
 use Rattle.sf_cli.specs.Internal.Fetched.{IsUpTo, Fetched}
 use Rattle.sf_cli.specs.Internal.Printed.{IsOutcomeText, SaysFinish, stop_text}
-use Rattle.sf_cli.specs.Ran.{OutcomeAnswer, StateAnswer, no_start, ran, spent_steps_text, spent_waits_text}
+use Rattle.sf_cli.specs.Ran.{OutcomeAnswer, StateAnswer, no_start, ran, resource_name, spent_steps_text, spent_waits_text}
 use Rattle.sf_cli.specs.StartRefusals.{start_refusal_text}
 use Rattle.sf_words.specs.Words.{Text, Order, run}
 
@@ -64,6 +68,21 @@ entry-there a f less =
 pub entry-holds : (P Q : Procedure → Type 0) (o : Option Procedure) → ((g : Procedure) → P g → Q g) → IfSome o P → IfSome o Q
 entry-holds P Q None f h = tt
 entry-holds P Q (Some g) f h = f g h
+
+-- a reason that isn't want of memory
+pub entry-refused : (P : StartFault → Type 0) (e : StartFault) → (e ≡ fault.OutOfMemory) ⊎ P e
+    → e ≢ fault.OutOfMemory → P e
+entry-refused P e (inl m) n = absurd (n m)
+entry-refused P e (inr k) n = k
+
+-- the name of a resource that is there
+pub name-there : (p : CodeProgram) (r : ResId) (of : CodeResource) → slice_get p.resources.items r.0 ≡ Some of
+    → of.name ≡ resource_name (program_of p) r
+name-there p r of there =
+    sym (get_or_from_slice_get (map (λ (h : Resource). h.name) (program_of p).resources) r.0 of.name []
+    (slice_get-map (λ (h : Resource). h.name) (program_of p).resources r.0
+    ∙ ap (option_map (λ (h : Resource). h.name)) (slice_get-map resource_of p.resources.items r.0
+    ∙ ap (option_map resource_of) there)))
 
 -- ---- outcomes
 
@@ -111,12 +130,8 @@ pub ran-refused : (p : Program) (f : ProcId) (text : Text) (e : StartFault) (g :
     → slice_get p.procedures f.0 ≡ Some g
     → IfSome (slice_get p.procedures f.0) (λ g. DecidesStart p f g text (Err e)) → e ≢ fault.OutOfMemory
     → IsStartFault p g text e
-ran-refused p f text e g there h n = known
-    (some-holds (λ (g : Procedure). DecidesStart p f g text (Err e)) (slice_get p.procedures f.0) g there h).refused
-  where
-    known : (e ≡ fault.OutOfMemory) ⊎ IsStartFault p g text e → IsStartFault p g text e
-    known (inl m) = absurd (n m)
-    known (inr k) = k
+ran-refused p f text e g there h n = entry-refused (IsStartFault p g text) e
+    (some-holds (λ (g : Procedure). DecidesStart p f g text (Err e)) (slice_get p.procedures f.0) g there h).refused n
 
 -- what comes of the start of a text is the answer to it
 pub ran-answer : (p : Program) (f : ProcId) (g : Procedure) (given : Text) (start : Start) (steps waits : ℕ)
@@ -151,8 +166,8 @@ ran-status p f given steps waits text status (ran g vars heap parts unit out the
 fetched-long : (fields names : List Text) (text : Text) → STATE_BYTES < length text
     → text_refusal fields names text ≡ Some fault.TooLong
 fetched-long fields names text m =
-    ap (λ (b : Bool). if b then Some fault.TooLong else lines_refusal fields names (entries_of fields names text))
-    (grind (arith, nat_tests))
+    let long : nat_lt STATE_BYTES (length text) ≡ true = grind (arith, nat_tests) in
+    ap (λ (b : Bool). if b then Some fault.TooLong else lines_refusal fields names (entries_of fields names text)) long
 
 fetched-none : (o : Option StartFault) (f : StartFault) → o ≡ Some f → o ≡ None → ⊥
 fetched-none o f e n = some-none f (sym e ∙ n)
