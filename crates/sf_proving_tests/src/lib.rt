@@ -1,6 +1,7 @@
-//! Tests of what orders, takes, searches and prints, by the public calls of their crates. They are
+//! Tests of what states, orders, takes, searches and prints, by the public calls of their crates. They are
 //! in a crate of their own so that the crates that they test needn't be proved once more with them.
 //!
+//! - `states`: what a state knows of terms.
 //! - `orders`: conjuncts in the order in which they can be taken.
 //! - `footprints`: locations that satisfy an assertion.
 //! - `subtraction`: the tags that hand over.
@@ -22,5 +23,7 @@ mod programs;
 mod proofs;
 #[cfg(test)]
 mod reports;
+#[cfg(test)]
+mod states;
 #[cfg(test)]
 mod subtraction;

@@ -2,7 +2,7 @@
 -- Names: `WHAT-same`, `WHAT-at` of one place.
 use Rattle.std.specs.Prelude.{◌≡◌, ℕ, zero, suc, ◌+◌, ◌<◌, List, [], ◌∷◌, Some, length, map, get_or, slice_get, Vec}
 use Rattle.std.specs.declared.alloc.Global.{Global}
-use Rattle.std.proofs.Common.{sym, ap, ◌∙◌, refl, subst, arith}
+use Rattle.std.proofs.Common.{sym, ap, ◌∙◌, refl, arith}
 use Rattle.std.proofs.lemmas.List.{get_or_default, length-map, same_lists}
 use Rattle.sf_base.proofs.Options.{some-once}
 use Rattle.sf_base.specs.declared.ids.ProcId.{ProcId}
@@ -15,7 +15,7 @@ use Rattle.sf_core.specs.Machine.Step.{procedure_at}
 use Rattle.sf_core.specs.Program.Formed.{variable_count}
 use Rattle.sf_core.specs.Program.Syntax.{Procedure, Program, Resource}
 use Rattle.sf_foot.specs.declared.vars.Vars.{Vars}
-use Rattle.sf_foot.specs.Variables.{value_of, values_or_none}
+use Rattle.sf_foot.specs.Variables.{values_or_none}
 use Rattle.sf_heap.specs.Cells.{Cells}
 use Rattle.sf_machine.specs.Ending.{Ends}
 use Rattle.sf_run.specs.Laws.{EndsSame}

@@ -2,20 +2,19 @@
 -- Names: `WHAT-takes` of one event, `WHAT-numbered` of a run, `WHAT-spending` of the units that are used.
 use Rattle.std.specs.Prelude.{◌≡◌, ◌⊎◌, ℕ, zero, suc, ◌+◌, List, [], ◌∷◌, Some, None, length, replicate}
 use Rattle.std.specs.List.{AllByRecursion}
-use Rattle.std.proofs.Common.{sym, ap, ◌∙◌, refl, subst, inl, inr, arith}
+use Rattle.std.proofs.Common.{sym, ap, refl, subst, inl, inr, arith}
 use Rattle.std.proofs.lemmas.List.{length-replicate}
 use Rattle.sf_base.specs.declared.ids.ProcId.{ProcId}
 use Rattle.sf_base.specs.declared.ids.ResId.{ResId}
-use Rattle.sf_base.specs.HeapStore.{Heap, Store}
 use Rattle.sf_calls.specs.Reaches.{directly}
 use Rattle.sf_core.specs.Machine.Alone.{Outcome, finished, spent, waiting, WaitsAlone, event_alone, AloneFrom}
 use Rattle.sf_core.specs.Machine.Config.{Item, command, leave, Fixed, Frame, Task, runs, Config}
 use Rattle.sf_core.specs.Machine.Enabled.{HasEnded}
 use Rattle.sf_core.specs.Machine.Next.{frame_next, next}
-use Rattle.sf_core.specs.Machine.Numbered.{NumberedFrom, Numbered}
+use Rattle.sf_core.specs.Machine.Numbered.{NumberedFrom}
 use Rattle.sf_core.specs.Machine.Reach.{Reach}
-use Rattle.sf_core.specs.Machine.SpentSteps.{NeedsNoChild, Spending, SpendingFrom, SpentSteps}
-use Rattle.sf_core.specs.Machine.SpentWaits.{MayMiss, NoneBefore, SpentWaits}
+use Rattle.sf_core.specs.Machine.SpentSteps.{NeedsNoChild, SpendingFrom, SpentSteps}
+use Rattle.sf_core.specs.Machine.SpentWaits.{NoneBefore, SpentWaits}
 use Rattle.sf_core.specs.Machine.Step.{Event, TaskStep, procedure_at, Step}
 use Rattle.sf_core.specs.Machine.Supplies.{Supply, has, units, CommandTakes, NextTakes, Takes}
 use Rattle.sf_core.specs.Program.Syntax.{Command, assign, look_up, mutate, new, dispose, if, while, call, fork, with, Procedure, Program}

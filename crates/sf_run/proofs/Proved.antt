@@ -1,7 +1,7 @@
 -- That a program which tags prove is sound.
 -- Names: `proved-WHAT`.
 use Rattle.std.specs.Prelude.{List, [], ◌∷◌, map, Contains}
-use Rattle.std.proofs.Common.{ap, inl, inr, subst}
+use Rattle.std.proofs.Common.{inl, inr, subst}
 use Rattle.sf_base.proofs.Elements.{contains-cons, contains-nil}
 use Rattle.sf_calls.specs.Laws.{ConditionsFromTruncation, SetsFromTruncation}
 use Rattle.sf_check.specs.Proven.{Proven}

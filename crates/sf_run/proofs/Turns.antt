@@ -1,25 +1,22 @@
 -- That a run of one task goes on from one unit to the next, and what it comes to where it halts.
 -- Names: `WHAT-turn` of the loop's turns, `answer-WHAT` of what a step answers.
-use Rattle.std.specs.Prelude.{◌≡◌, ◌≢◌, ◌⊎◌, ℕ, zero, suc, ◌<◌, ◌≤◌, ◌+◌, List, [], ◌∷◌, ◌++◌, Option, Some, None, is_some, length, replicate}
-use Rattle.std.specs.FinMap.{get}
-use Rattle.std.specs.Option.{option_map}
+use Rattle.std.specs.Prelude.{◌≡◌, ◌≢◌, ℕ, zero, suc, ◌<◌, ◌≤◌, ◌+◌, List, [], ◌∷◌, ◌++◌, Option, Some, None, length, replicate}
 use Rattle.std.proofs.Common.{sym, ap, ◌∙◌, refl, subst, inl, inr, arith}
 use Rattle.sf_base.specs.declared.ids.ProcId.{ProcId}
 use Rattle.sf_base.specs.declared.ids.ResId.{ResId}
 use Rattle.std.proofs.lemmas.List.{length-replicate}
 use Rattle.sf_base.proofs.Lists.{replicate-default}
-use Rattle.sf_base.proofs.Options.{some-once, some-or_none}
+use Rattle.sf_base.proofs.Options.{some-or_none}
 use Rattle.sf_base.specs.declared.value.Value.TheVariants.{Nil as nil}
 use Rattle.sf_calls.specs.FirstBreach.{Conditions}
 use Rattle.sf_core.specs.Machine.Alone.{Outcome, waiting, WaitsAlone, event_alone, AloneFrom}
 use Rattle.sf_core.specs.Machine.Config.{command, Task, Path, Config}
 use Rattle.sf_core.specs.Machine.Enabled.{HasEnded}
 use Rattle.sf_core.specs.Machine.Laws.{RunsCompose}
-use Rattle.sf_core.specs.Machine.Start.{initial_config}
-use Rattle.sf_core.specs.Machine.Step.{Step, procedure_at, task_with}
+use Rattle.sf_core.specs.Machine.Step.{Step, task_with}
 use Rattle.sf_core.specs.Machine.Supplies.{units}
 use Rattle.sf_core.specs.Program.Formed.{IsFormed}
-use Rattle.sf_core.specs.Program.Syntax.{with, Procedure, Program}
+use Rattle.sf_core.specs.Program.Syntax.{with, Program}
 use Rattle.sf_core.proofs.Machine.Laws.{runs_compose}
 use Rattle.sf_foot.specs.declared.vars.Vars.{Vars}
 use Rattle.sf_foot.specs.Starting.{IsFreshFrom, StartsWith, store_of}

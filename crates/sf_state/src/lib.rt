@@ -16,6 +16,7 @@
 //! - `text`: the text of a state as it is written.
 //! - `finish`: the text of what a run ends with.
 //! - `fault`: why a procedure and a text are no start.
+//! - `laws`: entries, starts and texts are one each, and what is written is read back.
 #![tactic(auto)]
 
 mod entering;

@@ -1,0 +1,135 @@
+//! What a state knows of terms, and whether it can be at all, by a table.
+
+use Shape::{Cell, Ls, Tree};
+use sf_base::FieldId;
+use sf_core::Links;
+use sf_sym::{Atom, FieldTerms, State, Term};
+use std::alloc::{AllocError, Global};
+
+const NIL: Term = Term::Nil;
+
+const X: Term = Term::Sym(0);
+
+const Y: Term = Term::Sym(1);
+
+const FIVE: Term = Term::Int(5);
+
+/// An atom without its number.
+#[derive(Clone, Copy)]
+enum Shape {
+    Cell(Term),
+    Ls(Term, Term),
+    Tree(Term),
+}
+
+/// One more atom, and its number.
+fn add(alloc: Global, s: &mut State, shape: Shape) -> Result<u32, AllocError> {
+    let number = s.next_atom();
+    if number > 1000 {
+        return Err(AllocError);
+    }
+    s.add_atom(match shape {
+        Shape::Cell(t) => Atom::Points(t, FieldTerms::new(alloc)),
+        Shape::Ls(t, u) => Atom::Ls(t, u),
+        Shape::Tree(t) => Atom::Tree(t),
+    })?;
+    Ok(number)
+}
+
+/// The taken atoms have the first numbers.
+fn state(
+    alloc: Global,
+    apart: &[(Term, Term)],
+    kept: &[Shape],
+    taken: &[Shape],
+) -> Result<State, AllocError> {
+    let links = Links {
+        tl: Some(FieldId(0)),
+        l: Some(FieldId(1)),
+        r: Some(FieldId(2)),
+    };
+    let mut s = State::new(alloc, links, Vec::new(alloc), 2);
+    for pair in apart {
+        s.assume_apart(pair.0, pair.1)?;
+    }
+    for shape in taken {
+        let number = add(alloc, &mut s, *shape)?;
+        if s.atom(number).is_some() {
+            s.hand_over_atom(number)?;
+        }
+    }
+    for shape in kept {
+        add(alloc, &mut s, *shape)?;
+    }
+    Ok(s)
+}
+
+/// A state, and whether there X and Y differ, X and nil do, X is allocated, and it can't be.
+#[derive(Clone, Copy)]
+struct Row<'a> {
+    apart: &'a [(Term, Term)],
+    kept: &'a [Shape],
+    taken: &'a [Shape],
+    answers: [bool; 4],
+}
+
+fn known<'a>(
+    apart: &'a [(Term, Term)],
+    kept: &'a [Shape],
+    taken: &'a [Shape],
+    answers: [bool; 4],
+) -> Row<'a> {
+    Row {
+        apart,
+        kept,
+        taken,
+        answers,
+    }
+}
+
+#[test]
+fn states_answer_as_they_should(rt: HostRuntime) -> Result<(), AllocError> {
+    const NO: bool = false;
+    const YES: bool = true;
+    let rows = [
+        known(&[], &[], &[], [NO, NO, NO, NO]),
+        known(&[(Y, X)], &[], &[], [YES, NO, NO, NO]),
+        known(&[], &[Cell(X)], &[], [NO, YES, YES, NO]),
+        known(&[], &[Ls(X, NIL)], &[], [NO, NO, NO, NO]),
+        known(&[(X, NIL)], &[Ls(X, NIL)], &[], [NO, YES, YES, NO]),
+        known(&[(X, NIL)], &[Tree(X)], &[], [NO, YES, YES, NO]),
+        known(&[], &[Cell(X), Cell(Y)], &[], [YES, YES, YES, NO]),
+        known(&[], &[Cell(X)], &[Cell(Y)], [YES, YES, YES, NO]),
+        known(&[], &[Cell(X), Cell(X)], &[], [NO, YES, YES, YES]),
+        known(&[], &[Cell(X)], &[Cell(X)], [NO, YES, YES, YES]),
+        known(&[], &[Cell(X), Ls(X, Y)], &[], [NO, YES, YES, NO]),
+        known(&[(X, Y)], &[Cell(X), Ls(X, Y)], &[], [YES, YES, YES, YES]),
+        known(&[(NIL, NIL)], &[], &[], [NO, NO, NO, YES]),
+        known(&[], &[Ls(NIL, FIVE)], &[], [NO, NO, NO, YES]),
+        known(&[], &[Ls(FIVE, FIVE)], &[], [NO, NO, NO, NO]),
+        known(&[], &[], &[Tree(FIVE)], [NO, NO, NO, YES]),
+        known(&[], &[Tree(NIL)], &[], [NO, NO, NO, NO]),
+    ];
+    for (i, r) in rows.iter().enumerate() {
+        let s = state(rt.alloc(), r.apart, r.kept, r.taken)?;
+        let answers = [
+            s.differs(X, Y),
+            s.differs(NIL, X),
+            s.allocated(X, None),
+            s.is_absurd(),
+        ];
+        assert_eq!(rt; answers, r.answers, "row {i}");
+    }
+    Ok(())
+}
+
+#[test]
+fn an_atom_that_is_left_out_allocates_nothing(rt: HostRuntime) -> Result<(), AllocError> {
+    let s = state(rt.alloc(), &[], &[Cell(X)], &[Cell(Y)])?;
+    assert!(rt; s.allocated(X, Some(1)));
+    assert!(rt; !s.allocated(X, Some(2)));
+    assert!(rt; !s.allocated(Y, Some(1)));
+    assert!(rt; s.differs(NIL, FIVE));
+    assert!(rt; !s.differs(FIVE, FIVE));
+    Ok(())
+}
