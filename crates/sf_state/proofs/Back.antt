@@ -1,6 +1,6 @@
 -- Written states are read back: what each written line says, and that all of them are taken and give what was written.
 -- Names: `written-LAW` of a line, `entries-LAW` of all, `refused-LAW` that none is refused, `given-LAW` of what they give.
-use Rattle.std.proofs.Common.{◌≡◌, ◌<◌, ◌≤◌, ◌+◌, ◌++◌, ◌==◌, ℕ, zero, suc, Bool, true, false, cond, not, nat_lt, List, [], ◌∷◌, length, map, replicate, Contains, Option, Some, None, is_some, slice_index_or, slice_set, refl, ap, ap₂, sym, ◌∙◌, arith, subst, append_assoc, append-nil, codes, inl, inr}
+use Rattle.std.proofs.Common.{◌≡◌, ◌≤◌, ◌+◌, ◌++◌, ◌==◌, ℕ, zero, suc, Bool, true, false, cond, not, nat_lt, List, [], ◌∷◌, length, map, replicate, Contains, Option, Some, None, is_some, slice_index_or, slice_set, refl, ap, ap₂, sym, ◌∙◌, arith, append_assoc, append-nil, codes, inl, inr}
 use Rattle.std.proofs.Math.Seq.{set-append_seam}
 use Rattle.std.proofs.lemmas.Bool.{eq-eqb, eqb-true, false≢true, lt-ltb}
 use Rattle.std.proofs.lemmas.List.{length-append}
@@ -17,7 +17,6 @@ use Rattle.sf_base.proofs.Options.{option_or-assoc}
 use Rattle.sf_lex.specs.Whole.{is_name}
 use Rattle.sf_lines.specs.Lines.{Text, lines, only, split_once, words}
 use Rattle.sf_lines.proofs.Splitting.{words-space}
-use Rattle.sf_state.specs.declared.fault.StartFault.{StartFault}
 use Rattle.sf_state.specs.declared.fault.StartFault.TheVariants.{TooLong, Twice}
 use Rattle.sf_state.specs.declared.fields.Fields.TheVariants.{Are}
 use Rattle.sf_state.specs.declared.fields.Setting.{Setting}
@@ -25,11 +24,11 @@ use Rattle.sf_state.specs.declared.line.Entry.{Entry}
 use Rattle.sf_state.specs.declared.line.Entry.TheVariants.{Nothing, Bad, Variable, Cell}
 use Rattle.sf_state.specs.Written.{IsWritable}
 use Rattle.sf_state.specs.Names.{field_at, is_target, place_of}
-use Rattle.sf_state.specs.Refused.{is_cell, cell_count, cell_given, cell_in, cell_name, cell_refusal, cell_values, first_refusal, is_set, name_at, refusal, set_again, value_given, value_in, values_after}
+use Rattle.sf_state.specs.Refused.{is_cell, cell_count, cell_given, cell_in, cell_name, cell_refusal, cell_values, first_refusal, is_set, name_at, set_again, value_given, value_in, values_after}
 use Rattle.sf_state.specs.Says.{assigned, both, cell_said, cell_with, entries_from, entries_of, field_said, fields_said, is_finished, named_value, named_value_in, said, says, set_field, set_variable, setting_of, variable_said, variable_with}
 use Rattle.sf_state.specs.Stated.{Gives, missing_from, text_refusal, values_given}
-use Rattle.sf_state.specs.StateText.{cell_line, cell_lines, field_text, field_texts, state_text, value_text, values_or_none, variable_line, variable_lines}
-use Rattle.sf_state.specs.Values.{is_location, location_from, value_from}
+use Rattle.sf_state.specs.StateText.{cell_lines, field_text, field_texts, state_text, value_text, values_or_none, variable_line, variable_lines}
+use Rattle.sf_state.specs.Values.{is_location}
 use Rattle.sf_state.specs.Words.{begins}
 use Rattle.sf_state.proofs.AllValues.{text-short}
 use Rattle.sf_state.proofs.Keeping.{cell-push, count-push, value-push}

@@ -1,33 +1,31 @@
 -- Each text is a start of a procedure that holds no resource, or is refused: what is refused, and what starts, is decided.
 -- Names: `make-WHAT` for what is made, `unit-`, `state-`, `turns-LAW`.
-use Rattle.std.proofs.Common.{◌≡◌, ◌≢◌, ◌↔◌, ◌⊎◌, ◌<◌, ◌≤◌, ◌+◌, ◌*◌, ◌==◌, ◌||◌, ◌^◌, ℕ, zero, suc, Bool, true, false, cond, nat_eq, is_some, List, [], ◌∷◌, ◌++◌, Option, Some, None, Contains, length, map, min, take, drop, slice_get, refl, sym, ap, ap₂, ◌∙◌, subst, subst₂, inl, inr, arith, Vec, Global}
+use Rattle.std.proofs.Common.{◌≡◌, ◌≢◌, ◌⊎◌, ◌<◌, ◌≤◌, ◌+◌, ◌==◌, ◌||◌, ◌^◌, ℕ, suc, Bool, true, false, cond, nat_eq, is_some, List, [], ◌∷◌, Option, Some, None, Contains, length, map, take, drop, slice_get, refl, sym, ap, ap₂, ◌∙◌, subst, inl, inr, arith, Vec, Global}
 use denote.RawPtr.{null_ptr}
 use Rattle.std.specs.FinMap.{contains_key, empty, get, get-empty, get-insert, get-remove, insert, keys, remove}
-use Rattle.std.specs.List.{All, AllByRecursion, AllPairs, AllZip, IsDistinct, concat, flat_map, list_any, sum_by}
+use Rattle.std.specs.List.{AllByRecursion, AllPairs, AllZip, IsDistinct, concat, flat_map, list_any, sum_by}
 use Rattle.std.specs.Option.{option_map, option_or}
 use Rattle.std.specs.Ordering.{eq_by_cmp, nat_cmp}
 use Rattle.std.specs.Set.{is_member}
 use Rattle.std.proofs.lemmas.Bool.{cases_lt, eq-eqb, eqb-true, false≢true}
 use Rattle.std.proofs.lemmas.Cmp.{nat_cmp_total}
 use Rattle.std.proofs.lemmas.List.{length-append, length-drop, length-map, length-take}
-use Rattle.std.proofs.lemmas.List.Elements.{All-contains, Contains-append_cases, Contains-append_left, Contains-append_right}
+use Rattle.std.proofs.lemmas.List.Elements.{All-contains, Contains-append_cases}
 use Rattle.std.proofs.lemmas.List.Sums.{sum_by-cons}
 use Rattle.std.proofs.lemmas.List.Kept.{AllPairs-from_increasing}
 use Rattle.std.proofs.lemmas.Option.{none-some, same_Some}
 use Rattle.sf_base.specs.declared.ids.ProcId.{ProcId}
 use Rattle.sf_base.specs.declared.ids.Var.{Var}
-use Rattle.sf_base.specs.declared.limits.TheConstants.{OWN_VARIABLES, RESOURCES, RESOURCE_VARIABLES, STATE_BYTES}
+use Rattle.sf_base.specs.declared.limits.TheConstants.{OWN_VARIABLES, RESOURCE_VARIABLES, STATE_BYTES}
 use Rattle.sf_base.specs.declared.value.Value.{Value}
 use Rattle.sf_base.specs.declared.value.Value.TheVariants.{Nil as nil, Int as int, Loc as loc}
-use Rattle.sf_base.specs.HeapStore.{Heap, IsEmpty}
+use Rattle.sf_base.specs.HeapStore.{Heap}
 use Rattle.sf_base.proofs.Bools.{bool-same}
 use Rattle.sf_base.proofs.Elements.{contains-cons, contains-nil, contains-rest, pairs-head}
-use Rattle.sf_base.proofs.Lists.{cons-parts}
 use Rattle.sf_base.proofs.MapSplits.{map-same}
 use Rattle.sf_base.proofs.Numbers.{at-is}
 use Rattle.sf_base.proofs.Options.{is_some-false, is_some-map, some-or_none}
 use Rattle.sf_core.specs.Assertions.Determined.{Determined}
-use Rattle.sf_core.specs.Assertions.Sat.{value}
 use Rattle.sf_core.specs.Program.Formed.{IsFormed}
 use Rattle.sf_core.specs.declared.command.Expr.{Expr}
 use Rattle.sf_core.specs.Program.Syntax.{Assertion, Level, Procedure, Program, Resource}
@@ -46,19 +44,18 @@ use Rattle.sf_state.specs.declared.fault.StartFault.TheVariants as fault
 use Rattle.sf_state.specs.declared.line.Entry.{Entry}
 use Rattle.sf_state.specs.declared.line.Entry.TheVariants.{Nothing, Bad, Unknown, Variable, Cell}
 use Rattle.sf_state.specs.Entering.{HoldsNone}
-use Rattle.sf_state.specs.Internal.Beginning.{Fits}
 use Rattle.sf_state.specs.Internal.FirstUnit.{AreInBounds, IsInCell, IsLocation, IsOfOne, IsValueIn, Raises}
-use Rattle.sf_state.specs.Laws.{AreDetermined, StartExists}
+use Rattle.sf_state.specs.Laws.{StartExists}
 use Rattle.sf_state.specs.Names.{names_of, names_of_resource, parameters, qualified}
-use Rattle.sf_state.specs.Refused.{cell_given, cell_in, cell_values, first_refusal}
+use Rattle.sf_state.specs.Refused.{cell_given, cell_values, first_refusal}
 use Rattle.sf_state.specs.Says.{entries_of}
-use Rattle.sf_state.specs.Stated.{Gives, lines_refusal, missing_from, text_refusal, values_given}
-use Rattle.sf_state.specs.Starts.{GivesState, HaveFootprints, IsLeftOver, IsNoStart, IsStartFault, IsStartText, IsUnmet, assertion_name, assertions_of, by_resource, left_over, refused, unmet, without}
+use Rattle.sf_state.specs.Stated.{lines_refusal, missing_from, text_refusal, values_given}
+use Rattle.sf_state.specs.Starts.{GivesState, HaveFootprints, IsStartFault, IsStartText, IsUnmet, assertion_name, assertions_of, by_resource, left_over, refused, unmet, without}
 use Rattle.sf_state.proofs.AllValues.{text-long, text-short}
 use Rattle.sf_state.proofs.Beginning.{begin-starts}
 use Rattle.sf_state.proofs.Deciding.{precise-notes}
 use Rattle.sf_state.proofs.FootDecided.{IsFootprintOnce, footprint-decided}
-use Rattle.sf_state.proofs.Mentions.{InShared, unit-first}
+use Rattle.sf_state.proofs.Mentions.{unit-first}
 use Rattle.sf_state.proofs.NextFound.{distinct-append}
 use Rattle.sf_state.proofs.Once.{finish-keys}
 use Rattle.sf_state.proofs.Raising.{raises-none, raises-same, raises-then}

@@ -15,7 +15,7 @@ use Rattle.sf_base.specs.declared.ids.Var.{Var}
 use Rattle.sf_base.specs.declared.place.Place.{Place}
 use Rattle.sf_base.specs.declared.value.Value.{Value}
 use Rattle.sf_base.specs.declared.value.Value.TheVariants.{Nil as nil, Int as int, Loc as loc}
-use Rattle.sf_base.specs.HeapStore.{Cell, Heap}
+use Rattle.sf_base.specs.HeapStore.{Cell}
 use Rattle.sf_base.proofs.MapSplits.{rest_of, splits-rest}
 use Rattle.sf_core.specs.declared.assertion.Operand.{Operand}
 use Rattle.sf_core.specs.declared.assertion.Operand.TheVariants.{Known as Evaluates, Exists}
@@ -24,7 +24,7 @@ use Rattle.sf_core.specs.declared.assertion.Test.{Test}
 use Rattle.sf_core.specs.declared.assertion.Test.TheVariants.{True, Equal, Differ}
 use Rattle.sf_core.specs.declared.command.Expr.{Expr}
 use Rattle.sf_core.specs.Assertions.Determined.{IsKnown, is_existential, is_in_fields, is_learned, is_learned_in, known_after, known_inside}
-use Rattle.sf_core.specs.Assertions.InOrder.{InOrder, InOrderInside, IsInOrder, IsNext, IsSupplied, is_known}
+use Rattle.sf_core.specs.Assertions.InOrder.{InOrder, InOrderInside, IsInOrder, IsNext, is_known}
 use Rattle.sf_core.specs.Assertions.Occurs.{OccursIn, OccursInAll, OccursInFields, OccursInOne, OccursInTest}
 use Rattle.sf_core.specs.Assertions.Sat.{HasFields, IsTrueOf, SameOutside, operand, value}
 use Rattle.sf_core.specs.Assertions.Scopes.{is_made_by}

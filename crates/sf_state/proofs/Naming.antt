@@ -1,17 +1,17 @@
 -- The names of a program that has names: they are spelled so that they are read back, and stand at their numbers.
 -- Names: `spelled-LAW`, `differ-LAW`, `placed-LAW`.
-use Rattle.std.proofs.Common.{◌≡◌, ◌≤◌, ◌<◌, ◌+◌, ◌++◌, ◌==◌, ◌&&◌, ◌||◌, ℕ, zero, suc, Bool, true, false, cond, not, nat_lt, List, [], ◌∷◌, length, map, take, Contains, Option, Some, None, refl, ap, ap₂, sym, ◌∙◌, arith, subst, append_assoc, codes, slice_get, inl, inr}
+use Rattle.std.proofs.Common.{◌≡◌, ◌+◌, ◌++◌, ◌==◌, ◌&&◌, ◌||◌, ℕ, suc, Bool, true, false, cond, not, nat_lt, List, [], ◌∷◌, length, map, Contains, Some, None, refl, ap, ap₂, sym, ◌∙◌, arith, subst, append_assoc, codes, slice_get, inl, inr}
 use Rattle.std.specs.List.{flat_map, list_all, position_or_len}
 use Rattle.std.specs.Str.{bytes_eq}
 use Rattle.std.proofs.lemmas.Bool.{and_parts, false≢true, lt-ltb}
 use Rattle.std.proofs.lemmas.Bool.Decides.{nat_tests}
 use Rattle.std.proofs.lemmas.List.{length-append}
-use Rattle.std.proofs.lemmas.List.Elements.{Contains-append_cases, Contains-append_left, Contains-append_right}
+use Rattle.std.proofs.lemmas.List.Elements.{Contains-append_cases}
 use Rattle.std.proofs.lemmas.List.Folds.{list_all-append}
 use Rattle.std.proofs.lemmas.Option.{same_Some}
 use Rattle.sf_base.proofs.Elements.{contains-cons, contains-nil, contains-rest}
 use Rattle.sf_base.proofs.Equality.{bytes_eq-same, bytes_eq-self}
-use Rattle.sf_base.proofs.Members.{contains-flat_map, contains-flat_map_from, contains-map, contains-map_from}
+use Rattle.sf_base.proofs.Members.{contains-flat_map_from, contains-map, contains-map_from}
 use Rattle.sf_base.proofs.Prefixes.{prefix-more, prefix-none}
 use Rattle.sf_lex.specs.Lexeme.{is_letter, is_word_byte, word_kind}
 use Rattle.sf_lex.specs.Whole.{is_name, is_name_kind}

@@ -1,11 +1,10 @@
 -- Entries, starts and texts are at most one each, and entries and texts are there.
 -- Names: `SUBJECT_is_unique`, `SUBJECT_exists` for the laws; `start-LAW` for the parts of one.
-use Rattle.std.proofs.Common.{◌≡◌, ◌↔◌, ◌⊎◌, ◌<◌, ◌≤◌, ◌+◌, ◌==◌, ℕ, zero, suc, Bool, true, false, List, [], ◌∷◌, Option, Some, None, Contains, length, map, slice_get, take, drop, refl, sym, ap, ap₂, ◌∙◌, subst, subst₂, inl, inr, arith, nat_eq, slice_index_or}
+use Rattle.std.proofs.Common.{◌≡◌, ◌↔◌, ◌⊎◌, ◌<◌, ◌≤◌, ◌+◌, ◌==◌, ℕ, zero, suc, Bool, true, false, List, [], ◌∷◌, Some, None, length, slice_get, refl, sym, ap, ◌∙◌, subst, subst₂, inl, inr, arith, nat_eq, slice_index_or}
 use Rattle.std.specs.FinMap.{contains_key, contains_key-keys, get, keys}
-use Rattle.std.specs.List.{All, AllZip, list_any}
+use Rattle.std.specs.List.{AllZip, list_any}
 use Rattle.std.specs.Ordering.{eq_by_cmp, nat_cmp}
 use Rattle.std.specs.Str.{bytes_eq}
-use Rattle.std.proofs.lemmas.Bool.{cases_lt, eqb-true}
 use Rattle.std.proofs.lemmas.List.Elements.{All-contains}
 use Rattle.std.proofs.lemmas.List.{length-map}
 use Rattle.std.specs.Set.{is_member}
@@ -28,7 +27,7 @@ use Rattle.sf_core.specs.Assertions.Laws.{DeterminedHasOneFootprint}
 use Rattle.sf_core.specs.Assertions.Sat.{Sat, value}
 use Rattle.sf_core.specs.Program.Named.{IsFirstNamed}
 use Rattle.sf_core.specs.Program.Syntax.{Assertion, Procedure, Program}
-use Rattle.sf_heap.specs.Cells.{AreAt, Cells, FieldValues, HasCell, heap_of}
+use Rattle.sf_heap.specs.Cells.{AreAt, Cells, FieldValues, heap_of}
 use Rattle.sf_foot.specs.declared.vars.Vars.{Vars}
 use Rattle.sf_foot.specs.Footprint.{IsFootprint}
 use Rattle.sf_foot.specs.Starting.{IsFirstUnit, IsMentioned}
@@ -37,11 +36,11 @@ use Rattle.sf_lines.specs.Lines.{Text}
 use Rattle.sf_precise.specs.Annotations.{annotations_in}
 use Rattle.sf_state.specs.declared.fault.StartFault.{StartFault}
 use Rattle.sf_state.specs.declared.fault.StartFault.TheVariants as fault
-use Rattle.sf_state.specs.Entering.{HoldsNone, IsEntry, IsEntryFault, procedure_names}
-use Rattle.sf_state.specs.Finishing.{IsFinishText, values_of}
+use Rattle.sf_state.specs.Entering.{IsEntry, IsEntryFault, procedure_names}
+use Rattle.sf_state.specs.Finishing.{values_of}
 use Rattle.sf_state.specs.Laws.{AreDetermined, EntryExists, EntryIsUnique, FinishTextExists, FinishTextIsUnique, SameLocations, SameVars, StartIsUnique}
 use Rattle.sf_state.specs.Names.{names_of}
-use Rattle.sf_state.specs.Starts.{GivesState, IsStartFault, IsStartText, assertions_of, by_resource}
+use Rattle.sf_state.specs.Starts.{IsStartText, assertions_of}
 use Rattle.sf_state.specs.StateText.{state_text}
 use Rattle.sf_state.proofs.Deciding.{fault-once, precise-notes, start-no_fault}
 use Rattle.sf_state.proofs.FirstNamed.{entries-one, faults-one, holds-none, holds-one, never-both}

@@ -1,6 +1,6 @@
 -- What is written of variables and cells is read back as these.
 -- Names: `returned-LAW`, and the law.
-use Rattle.std.proofs.Common.{◌≡◌, ◌<◌, ◌≤◌, ◌+◌, ◌++◌, ℕ, zero, suc, Bool, true, false, is_some, List, [], ◌∷◌, Option, Some, None, Contains, length, map, min, take, drop, slice_get, slice_index_or, refl, sym, ap, ap₂, ◌∙◌, subst, arith, inl, inr, Vec, Global, codes}
+use Rattle.std.proofs.Common.{◌≡◌, ◌<◌, ◌+◌, ◌++◌, ℕ, zero, suc, Bool, true, false, is_some, List, [], ◌∷◌, Option, Some, None, Contains, length, map, take, drop, slice_get, refl, sym, ap, ap₂, ◌∙◌, subst, arith, inl, Vec, Global, codes}
 use Rattle.std.proofs.Math.Seq.{take-append_seam}
 use Rattle.std.specs.FinMap.{contains_key, entries, get, keys, len, len-entries}
 use Rattle.std.specs.List.{AllPairs, flat_map}
@@ -10,19 +10,17 @@ use Rattle.std.proofs.lemmas.List.{length-append, length-map, length-take-le}
 use Rattle.std.proofs.lemmas.List.Kept.{AllPairs-from_increasing}
 use Rattle.std.proofs.lemmas.List.Elements.{All-contains}
 use Rattle.sf_base.specs.declared.ids.ProcId.{ProcId}
-use Rattle.sf_base.specs.declared.limits.TheConstants.{STATE_BYTES, STATE_CELLS}
 use Rattle.sf_base.specs.declared.value.Value.{Value}
-use Rattle.sf_base.specs.declared.value.Value.TheVariants.{Nil as nil}
-use Rattle.sf_base.proofs.Elements.{contains-cons, contains-nil, contains-rest, pairs-head, pairs-tail}
+use Rattle.sf_base.proofs.Elements.{contains-cons, contains-rest, pairs-head, pairs-tail}
 use Rattle.sf_base.proofs.Lists.{cons-parts}
 use Rattle.sf_base.proofs.Numbers.{eqb-less}
-use Rattle.sf_base.proofs.Options.{is_some-false, some-or_none}
+use Rattle.sf_base.proofs.Options.{is_some-false}
 use Rattle.sf_core.specs.Program.Formed.{IsFormed}
 use Rattle.sf_core.specs.Program.Syntax.{Procedure, Program, Resource}
 use Rattle.sf_heap.specs.Cells.{AreAt, Cells, FieldValues}
 use Rattle.sf_foot.specs.declared.vars.Vars.{Vars}
 use Rattle.sf_lines.specs.Lines.{Text}
-use Rattle.sf_state.specs.Finishing.{IsFinishText, values_of}
+use Rattle.sf_state.specs.Finishing.{values_of}
 use Rattle.sf_state.specs.Laws.{ReadsBack, WrittenStatesReadBack}
 use Rattle.sf_state.specs.Names.{names_of, names_of_resource, parameters, qualified}
 use Rattle.sf_state.specs.Stated.{Gives, text_refusal}

@@ -1,6 +1,6 @@
 -- What is written is read back: the words, lines and values of written texts.
 -- Names: `words-LAW`, `lines-LAW`, `split-LAW` for where a text is cut; `LAW-plain`, `LAW-inline` for what a text has.
-use Rattle.std.proofs.Common.{◌≡◌, ◌<◌, ◌≤◌, ◌+◌, ◌^◌, ◌++◌, ◌==◌, ◌&&◌, ℕ, zero, suc, List, [], ◌∷◌, length, take, drop, true, false, Bool, cond, not, nat_lt, Some, None, refl, ap, sym, ◌∙◌, arith, map, ℤ, pos, negsuc, decimal}
+use Rattle.std.proofs.Common.{◌≡◌, ◌<◌, ◌+◌, ◌^◌, ◌++◌, ◌==◌, ◌&&◌, ℕ, zero, suc, List, [], ◌∷◌, length, drop, true, false, Bool, cond, not, nat_lt, Some, None, refl, ap, sym, ◌∙◌, arith, map, pos, negsuc, decimal}
 use Rattle.std.proofs.Math.Seq.{take-append_seam}
 use Rattle.std.proofs.lemmas.Bool.{and_parts, eqb-true, lt-ltb}
 use Rattle.std.proofs.lemmas.Bool.Decides.{nat_tests}
@@ -9,18 +9,15 @@ use Rattle.std.proofs.lemmas.List.{length-append}
 use Rattle.std.proofs.lemmas.List.Folds.{list_all-append}
 use Rattle.std.proofs.lemmas.List.Splits.{slice_split-cons_no, slice_split-cons_yes}
 use Rattle.std.proofs.lemmas.Str.Parse.{IsNumeralModel, numerals_by_value, tells_all_ascii_digits}
-use Rattle.std.specs.Fmt.{signed_decimal}
-use Rattle.std.specs.List.{filter, list_all, onto_first, prefix_len, slice_index, slice_split}
-use Rattle.std.specs.Option.{option_map, option_or}
+use Rattle.std.specs.List.{filter, list_all, onto_first, slice_index, slice_split}
 use Rattle.std.specs.Str.{all_ascii_digits, bytes_eq}
 use Rattle.std.specs.Str.Lines.{strip_carriage_return}
 use Rattle.std.specs.Str.Parse.{digits_value, signed_digits_value}
 use Rattle.sf_base.specs.declared.value.Value.{Value}
 use Rattle.sf_base.specs.declared.value.Value.TheVariants.{Nil as nil, Int as int, Loc as loc}
 use Rattle.sf_base.proofs.Prefixes.{prefix-more, prefix-none}
-use Rattle.sf_lex.specs.Lexeme.{is_digit, is_letter, is_number, is_some_of, is_word_byte, word_kind}
-use Rattle.sf_lex.specs.Piece.{fits}
-use Rattle.sf_lex.specs.Whole.{is_name, is_name_kind, number_of}
+use Rattle.sf_lex.specs.Lexeme.{is_digit, is_number, is_some_of}
+use Rattle.sf_lex.specs.Whole.{number_of}
 use Rattle.sf_lines.specs.Lines.{Text, bytes_before, is_some_text, is_space, lines, split_once, words}
 use Rattle.sf_state.specs.Written.{IsWritable}
 use Rattle.sf_state.specs.Refused.{cell_name}
