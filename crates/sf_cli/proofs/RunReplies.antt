@@ -39,7 +39,7 @@ use Rattle.sf_state.specs.Starts.{DecidesStart, IsStartFault, IsStartText, left_
 use Rattle.sf_state.specs.Stated.{lines_refusal, text_refusal}
 use Rattle.sf_state.specs.Says.{entries_of}
 use Rattle.sf_cli.proofs.EndTexts.{end-written}
-use Rattle.sf_cli.proofs.Replies.{fetched-admits, increased-later, long-fault, long-reads, reply-unread}
+use Rattle.sf_cli.proofs.Replies.{increased-later, long-fault, long-reads, reply-unread}
 use Rattle.sf_cli.specs.Answer.{AreRun, HasRun, IsProved, IsRun, MayHave, Reaches, Reply, RunAnswer, RunFileAnswer, admitted_run, answer, entered, no_entry, not_built, read_fault_text, refused_run, unproved}
 use Rattle.sf_cli.specs.declared.reply.Said.{Said}
 use Rattle.sf_cli.specs.Internal.Fetched.{IsUpTo, Fetched}

@@ -300,7 +300,7 @@ fn follow<R: Threads + Wait + Sync, S: Shelf, G: Gate>(
     shelf: &mut S,
     gate: &G,
 ) -> Result<Said, AllocError>
-    requires { HasNumbersInRange (order_as order.entry) }
+    requires { HasNumbersInRange (order_as order) }
     ensures status { IfOk result (λ said. said.status < 8) }
     ensures said { IfOk result (λ said.
         Reply (S.files shelf.old) (S.faults shelf.old) (S.faults shelf.new)

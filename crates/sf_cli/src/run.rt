@@ -225,7 +225,7 @@ fn run_proved<R: Threads + Sync, S: Shelf, G: Gate>(
 
 /// The answer to a run of a program with which nothing is wrong. The state's file is left alone
 /// where it has no proof.
-fn run_program<R: Threads + Wait + Sync, S: Shelf, G: Gate>(
+fn run_program<R: Threads + Wait + Sync, G: Gate, S: Shelf>(
     rt: &R,
     alloc: Global,
     arranged: &Arranged,
