@@ -40,7 +40,7 @@ use Rattle.sf_state.specs.Stated.{lines_refusal, text_refusal}
 use Rattle.sf_state.specs.Says.{entries_of}
 use Rattle.sf_cli.proofs.EndTexts.{end-written}
 use Rattle.sf_cli.proofs.Replies.{increased-later, long-fault, long-reads, reply-unread}
-use Rattle.sf_cli.specs.Answer.{AreRun, HasRun, IsProved, IsRun, MayHave, Reaches, Reply, RunAnswer, RunFileAnswer, admitted_run, answer, entered, no_entry, not_built, read_fault_text, refused_run, unproved}
+use Rattle.sf_cli.specs.Answer.{AreRun, HasRun, IsProved, IsRun, MayHave, NamesProgram, Reaches, Reply, RunAnswer, RunFileAnswer, admitted_run, answer, entered, no_entry, not_built, read_fault_text, refused_run, unproved}
 use Rattle.sf_cli.specs.declared.reply.Said.{Said}
 use Rattle.sf_cli.specs.Internal.Fetched.{IsUpTo, Fetched}
 use Rattle.sf_cli.specs.Internal.Printed.{IsOutcomeText, SaysFinish, stop_text}
@@ -257,3 +257,9 @@ reply-ok (Ok said) told now same before mid after file entry state_name out step
     reply-run told before mid after file entry state_name out said.text.items steps waits said.status h counts l
     (λ less. subst (λ (z : Option Files). RunAnswer z out entry state_name steps waits said.text.items said.status) same
     (a less)) u
+
+-- a name that isn't the program's in an order to run is another one than the program's there
+pub reply-not_program : (order : Option Order) (file entry state_name other : Text) (steps waits : ℕ)
+    → order ≡ Some (run file entry state_name steps waits) → (NamesProgram order other → ⊥) → other ≡ file → ⊥
+reply-not_program order file entry state_name other steps waits e h same =
+    h (subst (λ (o : Option Order). NamesProgram o other) (sym e) same)
