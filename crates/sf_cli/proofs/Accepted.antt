@@ -1,6 +1,6 @@
 -- What an answer of status 0 promises: the program that the bytes read as is sound.
 -- Names: accepted-*.
-use Rattle.std.proofs.Common.{◌≡◌, ℕ, Contains, List, Option, Some, None, arith, refl, subst, sym}
+use Rattle.std.proofs.Common.{◌≡◌, ◌<◌, ◌≤◌, ℕ, Contains, List, Option, Some, None, arith, inl, inr, refl, subst, sym}
 use Rattle.std.proofs.lemmas.List.Elements.{All-contains}
 use Rattle.std.specs.List.{All}
 use Rattle.sf_calls.specs.FirstBreach.{Conditions}
@@ -19,9 +19,9 @@ use Rattle.sf_search.specs.Judge.{Verdict, proof, fails, Judge}
 use Rattle.sf_search.specs.Laws.{TakenTagsProve}
 use Rattle.sf_sound.specs.Proofs.{ProofsAreSound}
 use Rattle.sf_sym.specs.declared.tag.Tag.{Tag}
-use Rattle.sf_cli.specs.Answer.{Accepted, AcceptedBytes, by_proof, by_search, FileAnswer, OrderAnswer, RecheckAnswer, Reply, VerdictAnswer, admitted, answer, file_refused, rechecked, refused, unread}
+use Rattle.sf_cli.specs.Answer.{Accepted, AcceptedBytes, FileAnswer, IsAccepting, IsProved, OrderAnswer, RecheckAnswer, Reply, RunAnswer, RunFileAnswer, VerdictAnswer, admitted, admitted_run, answer, by_proof, by_run, by_search, entered, file_refused, no_entry, not_built, rechecked, refused, refused_run, unproved, unread}
 use Rattle.sf_cli.specs.FileFault.{Admits}
-use Rattle.sf_cli.specs.Laws.{AcceptedFilesAreSound, AcceptedProofsAreSound}
+use Rattle.sf_cli.specs.Laws.{AcceptedFilesAreSound, AcceptedProofsAreSound, AcceptedRunsAreSound}
 use Rattle.sf_cli.specs.Reads.{Reads}
 use Rattle.sf_cli.specs.Rechecked.{accepted, rejected}
 use Rattle.sf_words.specs.Words.{Text, Order, demo, order_of, recheck, run, verify}
@@ -42,6 +42,14 @@ accepted-program law p tags d own formed conditions determined proves =
     (subst (λ (q : Program). AreSetsOf q d.sets) back own.sets)
     (λ a among. All-contains (λ (b : Assertion). Determined b.level) (annotations_in p) a determined
     (subst (λ (q : Program). Contains (annotations_in q) a) own.program among)) own.ordering proves)
+
+-- so is one with which nothing is wrong, and whose verdict is a proof
+pub accepted-judged : EachFileIsShallow → ElaboratedIsFormed → TakenTagsProve → ProofsAreSound → (bytes : Text)
+    (p : Program) → Admits bytes p → IsProved p → IsSound p
+unfolding TakenTagsProve
+accepted-judged shallow formed prove law bytes p a i =
+    accepted-program law p i.tags i.setting i.own (accepted-formed shallow formed bytes p a.reads) a.conditions
+    a.determined (prove i.setting i.tags i.judged)
 
 -- so is one with which nothing is wrong, of which these tags are a proof
 accepted-bytes : EachFileIsShallow → ElaboratedIsFormed → ProofsAreSound → (bytes : Text) (p : Program)
@@ -76,25 +84,93 @@ accepted-recheck : AcceptedProofsAreSound → (told : Option Files) (bytes name 
 accepted-recheck law told bytes name text (file_refused r f t s) = absurd (omega (arith, s))
 accepted-recheck law told bytes name text (rechecked p a (given, may, k)) = law bytes p a given text k
 
--- what the words' answer of status 0 promises
-accepted-order : AcceptedFilesAreSound → AcceptedProofsAreSound → (told : Option Files) (words : List Text)
-    (text : Text) → OrderAnswer told (order_of words) text 0 → Accepted told words text
-accepted-order files proofs told words text a = go (order_of words) refl a
+-- a run that is answered with a status that only comes where the program is proved promises it too
+accepted-run_file : (told : Option Files) (p : Program) (entry state_name text : Text) (steps waits status : ℕ)
+    → IsAccepting status → RunFileAnswer told p entry state_name steps waits text status → IsProved p
+accepted-run_file told p entry state_name text steps waits status s (unproved a one) = absurd (never s)
   where
-    go : (o : Option Order) → order_of words ≡ o → OrderAnswer told o text 0 → Accepted told words text
-    go None e x = absurd (omega (arith, x.1))
-    go (Some (verify file workers)) e (bytes, may, k) =
-        by_search file workers e bytes may k (files bytes text k)
-    go (Some (recheck file name)) e (bytes, may, k) =
-        by_proof file name e bytes may k (accepted-recheck proofs told bytes name text k)
-    go (Some (run file entry state steps waits)) e x = absurd (omega (arith, x.1))
-    go (Some (demo procedures)) e x = absurd (omega (arith, x.1))
+    never : IsAccepting status → ⊥
+    never (inl z) = omega (arith, z, one)
+    never (inr (inl z)) = omega (arith, z, one)
+    never (inr (inr z)) = omega (arith, z, one)
+accepted-run_file told p entry state_name text steps waits status s (no_entry e i x t five) = i
+accepted-run_file told p entry state_name text steps waits status s (not_built f i x n t three) = i
+accepted-run_file told p entry state_name text steps waits status s (entered f given i may k) = i.proved
 
--- what is said with status 0 promises it
-pub accepted-reply : AcceptedFilesAreSound → AcceptedProofsAreSound → (told : Option Files)
-    (before after : Text → ℕ) (words : List Text) (text : Text) (status : ℕ) → status ≡ 0
-    → Reply told before after (order_of words) text status → Accepted told words text
-accepted-reply files proofs told before after words text status z (unread s u) = absurd (omega (arith, z, s))
-accepted-reply files proofs told before after words text status z (answer l a) =
-    accepted-order files proofs told words text
-    (subst (λ (n : ℕ). OrderAnswer told (order_of words) text n) z a)
+pub accepted-run : EachFileIsShallow → ElaboratedIsFormed → TakenTagsProve → ProofsAreSound → AcceptedRunsAreSound
+accepted-run shallow formed prove law told bytes entry state_name text steps waits status s (refused_run r f t three) =
+    absurd (never s)
+  where
+    never : IsAccepting status → ⊥
+    never (inl z) = omega (arith, z, three)
+    never (inr (inl z)) = omega (arith, z, three)
+    never (inr (inr z)) = omega (arith, z, three)
+accepted-run shallow formed prove law told bytes entry state_name text steps waits status s (admitted_run p a k) =
+    record {
+      program = p;
+      admits = a;
+      sound = accepted-judged shallow formed prove law bytes p a
+          (accepted-run_file told p entry state_name text steps waits status s k);
+    }
+
+-- such a status is no fault of the sink
+pub accepting-small : (status : ℕ) → IsAccepting status → status < 8
+accepting-small status (inl z) = omega (arith, z)
+accepting-small status (inr (inl z)) = omega (arith, z)
+accepting-small status (inr (inr z)) = omega (arith, z)
+
+-- only a run is answered with 5 or 6
+accepted-zero : (status most : ℕ) → status ≤ most → most < 5 → IsAccepting status → status ≡ 0
+accepted-zero status most l m (inl z) = z
+accepted-zero status most l m (inr (inl z)) = absurd (omega (arith, l, m, z))
+accepted-zero status most l m (inr (inr z)) = absurd (omega (arith, l, m, z))
+
+accepted-verdict : (p : Program) (v : Verdict) (text : Text) (status : ℕ) → VerdictAnswer p v text status → status ≤ 4
+accepted-verdict p (proof tags) text status a = let is = a.1 in omega (arith, is)
+accepted-verdict p (fails f why) text status a = let is = a.1 in omega (arith, is)
+
+accepted-file : (bytes text : Text) (status : ℕ) → FileAnswer bytes text status → status ≤ 4
+accepted-file bytes text status (refused r f t s) = omega (arith, s)
+accepted-file bytes text status (admitted p a k) = accepted-verdict p k.verdict text status k.said
+
+accepted-checked : (told : Option Files) (bytes name text : Text) (status : ℕ)
+    → RecheckAnswer told bytes name text status → status ≤ 4
+accepted-checked told bytes name text status (file_refused r f t s) = omega (arith, s)
+accepted-checked told bytes name text status (rechecked p a (given, may, accepted i t s)) = omega (arith, s)
+accepted-checked told bytes name text status (rechecked p a (given, may, rejected r f t s)) = omega (arith, s)
+
+-- what the words' answer of such a status promises
+accepted-order : AcceptedFilesAreSound → AcceptedProofsAreSound → AcceptedRunsAreSound → (told : Option Files)
+    (words : List Text) (text : Text) (status : ℕ) → IsAccepting status → OrderAnswer told (order_of words) text status
+    → Accepted told words text status
+accepted-order files proofs runs told words text status s a = go (order_of words) refl a
+  where
+    zero-at : status ≤ 4 → status ≡ 0
+    zero-at l = accepted-zero status 4 l (omega arith) s
+
+    go : (o : Option Order) → order_of words ≡ o → OrderAnswer told o text status → Accepted told words text status
+    go None e x = let two = x.1 in let z = zero-at (omega (arith, two)) in absurd (omega (arith, two, z))
+    go (Some (verify file workers)) e (bytes, may, k) =
+        let z = zero-at (accepted-file bytes text status k) in
+        by_search file workers e bytes may k (files bytes text (subst (λ (n : ℕ). FileAnswer bytes text n) z k))
+    go (Some (recheck file name)) e (bytes, may, k) =
+        let z = zero-at (accepted-checked told bytes name text status k) in
+        by_proof file name e bytes may k
+        (accepted-recheck proofs told bytes name text (subst (λ (n : ℕ). RecheckAnswer told bytes name text n) z k))
+    go (Some (run file entry state steps waits)) e (bytes, may, k) =
+        by_run file entry state steps waits e bytes may k (runs told bytes entry state text steps waits status s k)
+    go (Some (demo procedures)) e x =
+        let two = x.1 in let z = zero-at (omega (arith, two)) in absurd (omega (arith, two, z))
+
+-- what is said with such a status promises it
+pub accepted-reply : AcceptedFilesAreSound → AcceptedProofsAreSound → AcceptedRunsAreSound → (told : Option Files)
+    (before after : Text → ℕ) (words : List Text) (text : Text) (status : ℕ) → IsAccepting status
+    → Reply told before after (order_of words) text status → Accepted told words text status
+accepted-reply files proofs runs told before after words text status s (unread seven u) = absurd (never s)
+  where
+    never : IsAccepting status → ⊥
+    never (inl z) = omega (arith, z, seven)
+    never (inr (inl z)) = omega (arith, z, seven)
+    never (inr (inr z)) = omega (arith, z, seven)
+accepted-reply files proofs runs told before after words text status s (answer l a) =
+    accepted-order files proofs runs told words text status s a

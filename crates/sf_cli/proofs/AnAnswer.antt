@@ -32,7 +32,7 @@ use Rattle.sf_cli.specs.declared.refusal.Refusal.{Refusal}
 use Rattle.sf_cli.specs.declared.refusal.Refusal.TheVariants.{At}
 use Rattle.sf_cli.specs.declared.refusal.RefusalKind.TheVariants.{Undetermined}
 use Rattle.sf_cli.specs.FileFault.{FileFault, in_grammar, in_names, in_order, in_tokens, in_variables, unfit, unread}
-use Rattle.sf_cli.specs.Laws.{EachCommandHasAnAnswer, EachFileHasAnAnswer, EachProofHasAnAnswer}
+use Rattle.sf_cli.specs.Laws.{EachCommandHasAnAnswer, EachFileHasAnAnswer, EachProofHasAnAnswer, EachRunHasAnAnswer}
 use Rattle.sf_cli.specs.Reads.{Reads}
 use Rattle.sf_cli.specs.Refusals.{of_grammar, of_names, of_tokens, of_variables, refusal_text}
 use Rattle.sf_cli.specs.Rechecked.{ProofAnswer, accepted, in_tags, in_text, rejected}
@@ -158,8 +158,8 @@ some-recheck each files bytes name given there text status (admitted p a k) =
     let found = each bytes p a given in (found.0, found.1, rechecked p a (given, there, found.2))
 
 -- so has a command, where the files that it names are there
-pub some-command : EachFileHasAnAnswer → EachProofHasAnAnswer → EachCommandHasAnAnswer
-some-command each proofs files words there = go (order_of words) refl
+pub some-command : EachFileHasAnAnswer → EachProofHasAnAnswer → EachRunHasAnAnswer → EachCommandHasAnAnswer
+some-command each proofs runs files words there = go (order_of words) refl
   where
     said : (o : Option Order) → order_of words ≡ o → OrderAnswer (Some files) o usage_text 2
         → (text : Text) × (status : ℕ) × Answer files words text status
@@ -167,7 +167,6 @@ some-command each proofs files words there = go (order_of words) refl
 
     go : (o : Option Order) → order_of words ≡ o → (text : Text) × (status : ℕ) × Answer files words text status
     go None e = said None e (refl, refl)
-    go (Some (run file entry state steps waits)) e = said (Some (run file entry state steps waits)) e (refl, refl)
     go (Some (demo procedures)) e = said (Some (demo procedures)) e (refl, refl)
     go (Some (verify file workers)) e =
         let found = there file (subst (λ (o : Option Order). Names o file) (sym e) refl) in
@@ -181,6 +180,14 @@ some-command each proofs files words there = go (order_of words) refl
         let given = there name (subst (λ (o : Option Order). Names o name) (sym e) (inr refl)) in
         let b = each found.0 in
         let a = some-recheck proofs files found.0 name given.0 given.1 b.0 b.1 b.2 in (
+          a.0,
+          a.1,
+          subst (λ (o : Option Order). OrderAnswer (Some files) o a.0 a.1) (sym e) (found.0, found.1, a.2),
+        )
+    go (Some (run file entry state steps waits)) e =
+        let found = there file (subst (λ (o : Option Order). Names o file) (sym e) (inl refl)) in
+        let given = there state (subst (λ (o : Option Order). Names o state) (sym e) (inr refl)) in
+        let a = runs files found.0 entry state given.0 steps waits given.1 in (
           a.0,
           a.1,
           subst (λ (o : Option Order). OrderAnswer (Some files) o a.0 a.1) (sym e) (found.0, found.1, a.2),

@@ -4,6 +4,12 @@ pub mod Replies
 pub mod OneAnswer
 pub mod Refused
 pub mod Accepted
+pub mod EndTexts
+pub mod OneRun
+pub mod ARun
+pub mod Endings
+pub mod Ranges
+pub mod RunReplies
 pub mod AnAnswer
 pub mod Complete
 pub mod AnswerLaws

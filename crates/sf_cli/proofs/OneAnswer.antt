@@ -29,13 +29,13 @@ use Rattle.sf_check.specs.Refusal.{Refused}
 use Rattle.sf_io.specs.Shelf.{Files}
 use Rattle.sf_proof.specs.declared.lined.Lined.{Lined}
 use Rattle.sf_proof.specs.Laws.{EachTextReadsOnce}
-use Rattle.sf_cli.specs.Answer.{FileAnswer, OrderAnswer, ProgramAnswer, RecheckAnswer, VerdictAnswer, admitted, file_refused, rechecked, refused}
+use Rattle.sf_cli.specs.Answer.{FileAnswer, OrderAnswer, ProgramAnswer, RecheckAnswer, RunAnswer, VerdictAnswer, admitted, file_refused, rechecked, refused}
 use Rattle.sf_cli.specs.declared.rejection.Rejection.{Rejection}
 use Rattle.sf_cli.specs.declared.refusal.Refusal.{Refusal}
 use Rattle.sf_cli.specs.declared.refusal.Refusal.TheVariants.{At}
 use Rattle.sf_cli.specs.declared.refusal.RefusalKind.TheVariants.{Undetermined}
 use Rattle.sf_cli.specs.FileFault.{ReadFault, in_tokens, in_grammar, in_names, ProgramFault, in_variables, in_order, FileFault, unread, unfit, Admits}
-use Rattle.sf_cli.specs.Laws.{EachCommandHasOneAnswer, EachFileHasOneAnswer, EachFileIsDecided, EachFileIsOneProgram, EachProofHasOneAnswer}
+use Rattle.sf_cli.specs.Laws.{EachCommandHasOneAnswer, EachFileHasOneAnswer, EachFileIsDecided, EachFileIsOneProgram, EachProofHasOneAnswer, EachRunHasOneAnswer}
 use Rattle.sf_cli.specs.Reads.{Reads}
 use Rattle.sf_cli.specs.Refusals.{of_tokens, of_grammar, of_names, of_variables, refusal_text}
 use Rattle.sf_cli.specs.Rechecked.{IsProof, ProofAnswer, ProofFault, accepted, in_tags, in_text, rejected}
@@ -157,7 +157,7 @@ answer-printed p v w text other status code e a b = go v (subst (λ (z : Verdict
     go (fails f why) y x = (x.0 ∙ sym y.0, x.1 ∙ sym y.1)
 
 -- a program has one answer
-answer-program : VerdictLayers → (p : Program) (text other : Text) (status code : ℕ) → ProgramAnswer p text status
+pub answer-program : VerdictLayers → (p : Program) (text other : Text) (status code : ℕ) → ProgramAnswer p text status
     → ProgramAnswer p other code → (text ≡ other) × (status ≡ code)
 unfolding SettingIsUnique VerdictsAreUnique
 answer-program l p text other status code a b =
@@ -233,8 +233,9 @@ recheck-once l one files bytes name text other status code (rechecked p a (given
     (subst (λ (z : Text). ProofAnswer q z other code) same m))
 
 -- a command has one answer over the same files
-pub answer-command : EachFileIsDecided → EachFileHasOneAnswer → EachProofHasOneAnswer → EachCommandHasOneAnswer
-answer-command l one proofs files words text other status code a b = go (order_of words) a b
+pub answer-command : EachFileIsDecided → EachFileHasOneAnswer → EachProofHasOneAnswer → EachRunHasOneAnswer
+    → EachCommandHasOneAnswer
+answer-command l one proofs runs files words text other status code a b = go (order_of words) a b
   where
     go : (o : Option Order) → OrderAnswer (Some files) o text status → OrderAnswer (Some files) o other code
         → (text ≡ other) × (status ≡ code)
@@ -246,5 +247,8 @@ answer-command l one proofs files words text other status code a b = go (order_o
         let same : found ≡ bytes = some-once (files file) found bytes has may in
         recheck-once l proofs files bytes name text other status code x
         (subst (λ (z : Text). RecheckAnswer (Some files) z name other code) same y)
-    go (Some (run file entry state steps waits)) x y = (x.0 ∙ sym y.0, x.1 ∙ sym y.1)
+    go (Some (run file entry state steps waits)) (bytes, may, x) (found, has, y) =
+        let same : found ≡ bytes = some-once (files file) found bytes has may in
+        runs files bytes entry state text other steps waits status code x
+        (subst (λ (z : Text). RunAnswer (Some files) z entry state steps waits other code) same y)
     go (Some (demo procedures)) x y = (x.0 ∙ sym y.0, x.1 ∙ sym y.1)

@@ -53,7 +53,7 @@ fetched-ok limit most m (Some all) name old out n t =
     told_file limit most m all name out (all name) refl (subst (λ (z : Text). IsSomeAnd (all name) (λ bytes. out ≡ z ++ take most bytes)) n t)
 
 -- what reads of bytes reads of no longer file than one may have
-long-reads : (bytes : Text) (p : Program) → Reads bytes p → FILE_BYTES < length bytes → ⊥
+pub long-reads : (bytes : Text) (p : Program) → Reads bytes p → FILE_BYTES < length bytes → ⊥
 long-reads bytes p r l = let short : length bytes ≤ FILE_BYTES = r.spelled.short in absurd (omega arith)
 
 -- a file that is too long has that fault and no other
@@ -68,7 +68,7 @@ long-token_fault bytes file l.OutOfMemory h m n = absurd h
 long-tokens : (bytes : Text) (ts : List Token) → AreTokens bytes ts → FILE_BYTES < length bytes → ⊥
 long-tokens bytes ts t m = let short : length bytes ≤ FILE_BYTES = t.short in absurd (omega arith)
 
-long-fault : (bytes file : Text) (r : Refusal) → FileFault bytes r → FILE_BYTES < length bytes → FILE_BYTES < length file → FileFault file r
+pub long-fault : (bytes file : Text) (r : Refusal) → FileFault bytes r → FILE_BYTES < length bytes → FILE_BYTES < length file → FileFault file r
 long-fault bytes file r (unread (in_tokens e h k)) m n = unread (in_tokens e (long-token_fault bytes file e h m n) k)
 long-fault bytes file r (unread (in_grammar ts e t h k)) m n = absurd (long-tokens bytes ts t m)
 long-fault bytes file r (unread (in_names ts tree e t f h k)) m n = absurd (long-tokens bytes ts t m)
@@ -161,7 +161,7 @@ reply-unread told before after order name text status reached increased is seven
     unread_file seven (record { name = name; reached = reached; increased = increased; text_is = is })
 
 -- a count that increased in a later call increased in both together
-increased-later : (before mid after : ℕ) → before ≤ mid → Increased mid after → Increased before after
+pub increased-later : (before mid after : ℕ) → before ≤ mid → Increased mid after → Increased before after
 increased-later before mid after l (inl m) = inl (omega (arith, l, m))
 increased-later before mid after l (inr m) = inr m
 

@@ -19,3 +19,10 @@ pub failed-answer : (p : Program) (d : Setting) (f : ProcId) (cause : Option Cau
 failed-answer p d f None text status own fault said = absurd fault
 failed-answer p d f (Some why) text status own fault said =
     judged-answer p d (fails f why) text status own fault (said why refl)
+
+-- a failure has status 1
+pub failed-status : (p : Program) (d : Setting) (f : ProcId) (cause : Option Cause) (text : Text) (status : ℕ)
+    → FailsFor d f cause
+    → ((why : Cause) → cause ≡ Some why → (text ≡ cause_text p f why) × (status ≡ 1)) → status ≡ 1
+failed-status p d f None text status fault said = absurd fault
+failed-status p d f (Some why) text status fault said = (said why refl).1

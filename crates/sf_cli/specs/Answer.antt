@@ -1,11 +1,23 @@
 -- Answer: the text and the status that the command gives to its words, over a map of files.
 -- The form of a command's answer is that of The Open Group, "Utility Conventions" (2018); the statuses are this project's own.
-use Rattle.std.specs.Prelude.{◌≡◌, ℕ, ◌<◌, ◌⊎◌, Option, Some, None, List, ◌++◌, codes}
-use Rattle.sf_core.specs.Program.Syntax.{Program}
+use Rattle.std.specs.Prelude.{◌≡◌, ℕ, ◌<◌, ◌⊎◌, Option, Some, None, List, [], ◌++◌, codes}
+use Rattle.sf_core.specs.Machine.Config.{Config}
+use Rattle.sf_core.specs.Machine.Enabled.{HasEnded}
+use Rattle.sf_core.specs.Machine.Numbered.{Numbered}
+use Rattle.sf_core.specs.Machine.Step.{Event, procedure_at}
+use Rattle.sf_core.specs.Program.Syntax.{Procedure, Program}
+use Rattle.sf_foot.specs.declared.vars.Vars.{Vars}
+use Rattle.sf_heap.specs.Cells.{Cells}
 use Rattle.sf_io.specs.Increased.{Increased}
 use Rattle.sf_io.specs.Shelf.{Files}
 use Rattle.sf_io.specs.Sink.{WrotePrefix}
+use Rattle.sf_lex.specs.Reading.{first_place}
+use Rattle.sf_machine.specs.Beginning.{Begins}
 use Rattle.sf_rules.specs.Setting.{IsSettingOf, Setting}
+use Rattle.sf_run.specs.Sequential.{IsSequential}
+use Rattle.sf_state.specs.Entering.{IsEntry, IsEntryFault}
+use Rattle.sf_state.specs.Starts.{IsStartText}
+use Rattle.sf_state.specs.declared.fault.StartFault.{StartFault}
 use Rattle.sf_cli.specs.FileFault.{FileFault, Admits}
 use Rattle.sf_cli.specs.Refusals.{refusal_text}
 use Rattle.sf_report.specs.declared.stuck.Stuck.{Stuck}
@@ -17,9 +29,14 @@ use Rattle.sf_base.specs.declared.ids.ProcId.{ProcId}
 use Rattle.sf_core.specs.Program.Named.{name_of}
 use Rattle.sf_proof.specs.ProofText.{proof_text}
 use Rattle.sf_safe.specs.Law.{IsSound}
+use Rattle.sf_sym.specs.declared.tag.Tag.{Tag}
 use Rattle.sf_cli.specs.declared.refusal.Refusal.{Refusal}
+use Rattle.sf_cli.specs.declared.refusal.Refusal.TheVariants.{At}
+use Rattle.sf_cli.specs.declared.refusal.RefusalKind.TheVariants.{NotBuilt}
+use Rattle.sf_cli.specs.Ran.{IsFinishedText, StateAnswer}
 use Rattle.sf_cli.specs.Rechecked.{ProofAnswer}
 use Rattle.sf_words.specs.Words.{Text, Order, demo, order_of, recheck, run, verify}
+use Rattle.sf_cli.specs.StartRefusals.{start_refusal_text}
 use Rattle.sf_cli.specs.Usage.{usage_text}
 
 -- why a search is stuck, as it is printed
@@ -74,19 +91,60 @@ pub data RecheckAnswer (told : Option Files) (bytes proof_name text : Text) (sta
   rechecked : (p : Program) → Admits bytes p → ProofFileAnswer told p proof_name text status
       → RecheckAnswer told bytes proof_name text status
 
+-- the verdict on the program is a proof
+pub record IsProved (p : Program) : Type 0 where
+  pub setting : Setting
+  pub own : IsSettingOf p setting
+  pub tags : List Tag
+  pub judged : Judge setting (proof tags)
+
+-- a procedure of that name is run: the program is proved, the procedure holds no resource, and no parallel call can be
+-- reached from it
+pub record IsRun (p : Program) (entry : Text) (f : ProcId) : Type 0 where
+  pub proved : IsProved p
+  pub is_entry : IsEntry p entry f
+  pub sequential : IsSequential p f
+
+-- some procedure is
+abbrev pub HasRun : Program → (entry : Text) → Type 0
+HasRun p entry = (f : ProcId) × IsRun p entry f
+
+-- the answer to a run from the text of a state that has this name, for a program with which nothing is wrong: the
+-- answer to the program where its verdict is no proof; else, that there is no such entry; else, that a parallel call
+-- can be reached from it; else the answer to that text
+pub data RunFileAnswer (told : Option Files) (p : Program) (entry state_name : Text) (steps waits : ℕ) (text : Text)
+    (status : ℕ) : Type 0 where
+  unproved : ProgramAnswer p text status → status ≡ 1 → RunFileAnswer told p entry state_name steps waits text status
+  no_entry : (e : StartFault) → IsProved p → IsEntryFault p entry e → text ≡ start_refusal_text e → status ≡ 5
+      → RunFileAnswer told p entry state_name steps waits text status
+  not_built : (f : ProcId) → IsProved p → IsEntry p entry f → (IsSequential p f → ⊥)
+      → text ≡ refusal_text (At NotBuilt first_place) → status ≡ 3
+      → RunFileAnswer told p entry state_name steps waits text status
+  entered : (f : ProcId) (given : Text) → IsRun p entry f → MayHave told state_name given
+      → StateAnswer p f given steps waits text status → RunFileAnswer told p entry state_name steps waits text status
+
+-- the same for a program's file of these bytes: the file is refused, or it is the answer to that run
+pub data RunAnswer (told : Option Files) (bytes entry state_name : Text) (steps waits : ℕ) (text : Text) (status : ℕ)
+    : Type 0 where
+  refused_run : (r : Refusal) → FileFault bytes r → text ≡ refusal_text r → status ≡ 3
+      → RunAnswer told bytes entry state_name steps waits text status
+  admitted_run : (p : Program) → Admits bytes p → RunFileAnswer told p entry state_name steps waits text status
+      → RunAnswer told bytes entry state_name steps waits text status
+
 -- the words are answered with the usage
 abbrev pub IsUsage : Text → (status : ℕ) → Type 0
 IsUsage text status = (text ≡ usage_text) × (status ≡ 2)
 
--- the answer to an order, or to words that are none, where the files that it names are there; `run` and `demo` aren't
--- followed yet, and are answered as words that are none
+-- the answer to an order, or to words that are none, where the files that it names are there; `demo` isn't followed
+-- yet, and is answered as words that are none
 abbrev pub OrderAnswer : Option Files → Option Order → Text → (status : ℕ) → Type 0
 OrderAnswer told None text status = IsUsage text status
 OrderAnswer told (Some (verify file workers)) text status =
     (bytes : Text) × MayHave told file bytes × FileAnswer bytes text status
 OrderAnswer told (Some (recheck file proof_name)) text status =
     (bytes : Text) × MayHave told file bytes × RecheckAnswer told bytes proof_name text status
-OrderAnswer told (Some (run file entry state steps waits)) text status = IsUsage text status
+OrderAnswer told (Some (run file entry state steps waits)) text status =
+    (bytes : Text) × MayHave told file bytes × RunAnswer told bytes entry state steps waits text status
 OrderAnswer told (Some (demo procedures)) text status = IsUsage text status
 
 -- the answer over the files of a shelf
@@ -101,12 +159,14 @@ Answer files words text status = Answers (Some files) words text status
 abbrev pub Names : Option Order → Text → Type 0
 Names (Some (verify file workers)) name = name ≡ file
 Names (Some (recheck file proof_name)) name = (name ≡ file) ⊎ (name ≡ proof_name)
+Names (Some (run file entry state steps waits)) name = (name ≡ file) ⊎ (name ≡ state)
 Names _ name = ⊥
 
 -- the order names that file as the program's
 abbrev pub NamesProgram : Option Order → Text → Type 0
 NamesProgram (Some (verify file workers)) name = name ≡ file
 NamesProgram (Some (recheck file proof_name)) name = name ≡ file
+NamesProgram (Some (run file entry state steps waits)) name = name ≡ file
 NamesProgram _ name = ⊥
 
 -- these bytes are those of a program with which nothing is wrong
@@ -117,10 +177,20 @@ AreAdmitted bytes = (p : Program) × Admits bytes p
 abbrev pub MayBeAdmitted : Option Files → (name : Text) → Type 0
 MayBeAdmitted told name = (bytes : Text) × MayHave told name bytes × AreAdmitted bytes
 
--- the work comes to that file: it is the program's, or a proof's of a program with which nothing is wrong
+-- these bytes are those of a program with which nothing is wrong, and a procedure of that name is run
+abbrev pub AreRun : (bytes entry : Text) → Type 0
+AreRun bytes entry = (p : Program) × Admits bytes p × HasRun p entry
+
+-- the file of that name may be that of a program of which that procedure is run
+abbrev pub MayBeRun : Option Files → (name entry : Text) → Type 0
+MayBeRun told name entry = (bytes : Text) × MayHave told name bytes × AreRun bytes entry
+
+-- the work comes to that file: it is the program's; or a proof's of a program with which nothing is wrong; or a
+-- state's, from which a procedure of such a program is run
 abbrev pub Reaches : Option Files → Option Order → Text → Type 0
 Reaches told (Some (verify file workers)) name = name ≡ file
 Reaches told (Some (recheck file proof_name)) name = (name ≡ file) ⊎ ((name ≡ proof_name) × MayBeAdmitted told file)
+Reaches told (Some (run file entry state steps waits)) name = (name ≡ file) ⊎ ((name ≡ state) × MayBeRun told file entry)
 Reaches told _ name = ⊥
 
 -- what is said of a file that can't be read
@@ -158,11 +228,50 @@ pub record AcceptedBytes (bytes : Text) : Type 0 where
   pub admits : Admits bytes program
   pub sound : IsSound program
 
--- the words are an order whose program's file is there, its answer has status 0 and is that text, and the program that
+-- what has this status only comes where the program is proved: 0, and of runs 5 and 6
+abbrev pub IsAccepting : (status : ℕ) → Type 0
+IsAccepting status = (status ≡ 0) ⊎ ((status ≡ 5) ⊎ (status ≡ 6))
+
+-- the words are an order whose program's file is there, its answer is that text with that status, and the program that
 -- the file reads as is sound
-pub data Accepted (told : Option Files) (words : List Text) (text : Text) : Type 0 where
+pub data Accepted (told : Option Files) (words : List Text) (text : Text) (status : ℕ) : Type 0 where
   by_search : (file : Text) (workers : ℕ) → order_of words ≡ Some (verify file workers) → (bytes : Text)
-      → MayHave told file bytes → FileAnswer bytes text 0 → AcceptedBytes bytes → Accepted told words text
+      → MayHave told file bytes → FileAnswer bytes text status → AcceptedBytes bytes
+      → Accepted told words text status
   by_proof : (file name : Text) → order_of words ≡ Some (recheck file name) → (bytes : Text)
-      → MayHave told file bytes → RecheckAnswer told bytes name text 0 → AcceptedBytes bytes
-      → Accepted told words text
+      → MayHave told file bytes → RecheckAnswer told bytes name text status → AcceptedBytes bytes
+      → Accepted told words text status
+  by_run : (file entry state : Text) (steps waits : ℕ) → order_of words ≡ Some (run file entry state steps waits)
+      → (bytes : Text) → MayHave told file bytes → RunAnswer told bytes entry state steps waits text status
+      → AcceptedBytes bytes → Accepted told words text status
+
+-- a run has ended with that text: it is the text of a configuration in which the entry has ended, and to which some
+-- list of events leads from the start that the state's text gives, each with its task's next unit as its number
+pub record EndedRun (told : Option Files) (file entry state_name : Text) (steps : ℕ) (text : Text) : Type 0 where
+  pub bytes : Text
+  pub may_have : MayHave told file bytes
+  pub program : Program
+  pub admits : Admits bytes program
+  pub f : ProcId
+  pub procedure : Procedure
+  pub there : procedure_at program f ≡ Some procedure
+  pub is_entry : IsEntry program entry f
+  pub given : Text
+  pub has : MayHave told state_name given
+  pub vars : Vars
+  pub heap : Cells
+  pub parts : List (List ℕ)
+  pub unit : ℕ
+  pub starts : IsStartText program f procedure given vars heap parts unit
+  pub start : Config
+  pub begins : Begins program f vars heap start
+  pub events : List Event
+  pub last : Config
+  pub numbered : Numbered program start unit steps events last
+  pub ended : HasEnded [] last.tasks
+  pub is : IsFinishedText program procedure last text
+
+-- what is said of an order with status 0: a run has ended with it
+abbrev pub Ended : Option Files → Option Order → Text → Type 0
+Ended told (Some (run file entry state steps waits)) text = EndedRun told file entry state steps text
+Ended told _ text = Unit {0}

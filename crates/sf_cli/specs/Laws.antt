@@ -1,14 +1,14 @@
 -- Laws of answers, stated.
 -- A definition by cases owes its reader that one case holds and no two do; an answer of status 0 promises that the program is sound.
-use Rattle.std.specs.Prelude.{◌≡◌, ℕ, List, Some}
+use Rattle.std.specs.Prelude.{◌≡◌, ℕ, List, Option, Some}
 use Rattle.sf_core.specs.Program.Syntax.{Program}
 use Rattle.sf_io.specs.Shelf.{Files}
-use Rattle.sf_cli.specs.Answer.{AcceptedBytes, Answer, FileAnswer, Names}
+use Rattle.sf_cli.specs.Answer.{AcceptedBytes, Answer, EndedRun, FileAnswer, IsAccepting, Names, OrderAnswer, RunAnswer}
 use Rattle.sf_cli.specs.FileFault.{Admits, FileFault}
 use Rattle.sf_cli.specs.declared.refusal.Refusal.{Refusal}
 use Rattle.sf_cli.specs.Rechecked.{ProofAnswer}
 use Rattle.sf_cli.specs.Reads.{Reads}
-use Rattle.sf_words.specs.Words.{Text, order_of}
+use Rattle.sf_words.specs.Words.{Text, order_of, run}
 
 -- bytes read as at most one program
 abbrev pub EachFileIsOneProgram : Type 0
@@ -45,6 +45,19 @@ EachProofHasAnAnswer =
     (bytes : Text) (p : Program) → Admits bytes p → (proof : Text)
     → (text : Text) × (status : ℕ) × ProofAnswer p proof text status
 
+-- a run of a file's program has at most one answer over the same files
+abbrev pub EachRunHasOneAnswer : Type 0
+EachRunHasOneAnswer =
+    (files : Files) (bytes entry state_name text other : Text) (steps waits status code : ℕ)
+    → RunAnswer (Some files) bytes entry state_name steps waits text status
+    → RunAnswer (Some files) bytes entry state_name steps waits other code → (text ≡ other) × (status ≡ code)
+
+-- it has an answer, where the state's file is there
+abbrev pub EachRunHasAnAnswer : Type 0
+EachRunHasAnAnswer =
+    (files : Files) (bytes entry state_name given : Text) (steps waits : ℕ) → files state_name ≡ Some given
+    → (text : Text) × (status : ℕ) × RunAnswer (Some files) bytes entry state_name steps waits text status
+
 -- words have at most one answer over the same files
 abbrev pub EachCommandHasOneAnswer : Type 0
 EachCommandHasOneAnswer =
@@ -68,3 +81,18 @@ abbrev pub AcceptedProofsAreSound : Type 0
 AcceptedProofsAreSound =
     (bytes : Text) (p : Program) → Admits bytes p → (proof text : Text) → ProofAnswer p proof text 0
     → AcceptedBytes bytes
+
+-- a file of which a run is answered with a status that only comes where the program is proved, whatever bytes the file
+-- has, is that of a program which is sound
+abbrev pub AcceptedRunsAreSound : Type 0
+AcceptedRunsAreSound =
+    (told : Option Files) (bytes entry state_name text : Text) (steps waits status : ℕ) → IsAccepting status
+    → RunAnswer told bytes entry state_name steps waits text status → AcceptedBytes bytes
+
+-- what is answered to a run with status 0 is the text of a configuration that a numbered list of events reaches from
+-- the start which was read, and in which the entry has ended
+abbrev pub FinishedRunsHaveEnded : Type 0
+FinishedRunsHaveEnded =
+    (told : Option Files) (file entry state_name text : Text) (steps waits : ℕ)
+    → OrderAnswer told (Some (run file entry state_name steps waits)) text 0
+    → EndedRun told file entry state_name steps text

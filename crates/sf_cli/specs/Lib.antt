@@ -4,6 +4,9 @@ pub mod Rejections
 pub mod Reads
 pub mod FileFault
 pub mod Rechecked
+pub mod StartRefusals
+pub mod EndText
+pub mod Ran
 pub mod Answer
 pub mod Internal
 pub mod Laws

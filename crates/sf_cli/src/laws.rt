@@ -1,7 +1,7 @@
 //! Laws of answers. Each function is a law: calling it gives its fact to the caller's proof, and
 //! does nothing.
 
-ghost use Rattle.sf_cli.specs.Laws.{AcceptedFilesAreSound, AcceptedProofsAreSound, EachCommandHasAnAnswer, EachCommandHasOneAnswer, EachFileHasAnAnswer, EachFileHasOneAnswer, EachFileIsDecided, EachFileIsOneProgram, EachProofHasAnAnswer, EachProofHasOneAnswer};
+ghost use Rattle.sf_cli.specs.Laws.{AcceptedFilesAreSound, AcceptedProofsAreSound, AcceptedRunsAreSound, EachCommandHasAnAnswer, EachCommandHasOneAnswer, EachFileHasAnAnswer, EachFileHasOneAnswer, EachFileIsDecided, EachFileIsOneProgram, EachProofHasAnAnswer, EachProofHasOneAnswer, EachRunHasAnAnswer, EachRunHasOneAnswer, FinishedRunsHaveEnded};
 
 use sf_check::laws::{proves_not_refused, proves_or_refused, refused_once};
 use sf_elab::laws::elaborated_is_formed;
@@ -10,8 +10,13 @@ use sf_parse::laws::each_file_is_shallow;
 use sf_precise::laws::{never_taken_is_undetermined, undetermined_annotations_have_place};
 use sf_proof::laws::each_text_reads_once;
 use sf_rules::laws::{setting_exists, setting_is_unique};
+use sf_run::{
+    bases_are_free, beginnings_are_starts, ends_are_numbered, outcomes_are_unique,
+    sequential_is_decided, starts_have_one_outcome, units_stay_free,
+};
 use sf_search::{programs_have_verdicts, taken_tags_prove, verdicts_are_unique};
 use sf_sound::proofs_are_sound;
+use sf_state::laws::{entry_exists, entry_is_unique, start_exists, start_is_unique};
 use sf_vars::laws::{each_program_has_an_answer, each_program_has_one_answer};
 
 /// Bytes read as at most one program.
@@ -80,6 +85,36 @@ pub fn each_proof_has_an_answer()
     proves_or_refused();
 }
 
+/// A run of a file's program has at most one answer over the same files.
+pub fn each_run_has_one_answer()
+    ensures { EachRunHasOneAnswer }
+{
+    each_file_is_decided();
+    setting_is_unique();
+    verdicts_are_unique();
+    entry_is_unique();
+    start_is_unique();
+    outcomes_are_unique();
+}
+
+/// A run of a file's program has an answer, where the state's file is there.
+pub fn each_run_has_an_answer()
+    ensures { EachRunHasAnAnswer }
+{
+    each_file_has_an_answer();
+    each_file_is_shallow();
+    elaborated_is_formed();
+    taken_tags_prove();
+    proofs_are_sound();
+    entry_exists();
+    sequential_is_decided();
+    start_exists();
+    starts_have_one_outcome();
+    beginnings_are_starts();
+    bases_are_free();
+    units_stay_free();
+}
+
 /// Words have an answer over files, where the files that they name are there.
 #[tactic(auto, using(crate::proofs::AnswerLaws::each_command_has_an_answer))]
 pub fn each_command_has_an_answer()
@@ -87,6 +122,7 @@ pub fn each_command_has_an_answer()
 {
     each_file_has_an_answer();
     each_proof_has_an_answer();
+    each_run_has_an_answer();
 }
 
 /// Words have at most one answer over the same files.
@@ -97,6 +133,7 @@ pub fn each_command_has_one_answer()
     each_file_is_decided();
     each_file_has_one_answer();
     each_proof_has_one_answer();
+    each_run_has_one_answer();
 }
 
 /// Whatever bytes are answered with status 0 are those of a sound program.
@@ -116,4 +153,23 @@ pub fn accepted_proofs_are_sound()
     each_file_is_shallow();
     elaborated_is_formed();
     proofs_are_sound();
+}
+
+/// Whatever bytes a file has of which a run is answered as one of a proved program, it is that of a
+/// sound program.
+pub fn accepted_runs_are_sound()
+    ensures { AcceptedRunsAreSound }
+{
+    each_file_is_shallow();
+    elaborated_is_formed();
+    taken_tags_prove();
+    proofs_are_sound();
+}
+
+/// What is answered to a run with status 0 is the text of an end of it.
+pub fn finished_runs_have_ended()
+    ensures { FinishedRunsHaveEnded }
+{
+    beginnings_are_starts();
+    ends_are_numbered();
 }

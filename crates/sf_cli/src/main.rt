@@ -7,6 +7,10 @@
 //! - `refusal`: why a file is refused, and the line that says so
 //! - `recheck`: what is said of the text of a proof
 //! - `rejection`: why such a text is refused, and the line that says so
+//! - `run`: what is said of a run, in the order of its work
+//! - `start_refusal`: why there is no start, and the line that says so
+//! - `outcome`: what comes of a run, printed
+//! - `writing`: what lines are put together from
 //! - `laws`: laws of answers
 #![tactic(auto)]
 
@@ -15,15 +19,19 @@ ghost use Rattle.std.specs.String.{string_bytes};
 ghost use Rattle.sf_words.specs.WordsOf.{words_of};
 
 mod laws;
+mod outcome;
 mod reading;
 mod recheck;
 mod refusal;
 mod rejection;
 mod reply;
+mod run;
+mod start_refusal;
 #[cfg(test)]
 mod tests;
 mod top;
 mod usage;
+mod writing;
 
 use crate::top::{OUT_OF_MEMORY, smallfoot};
 use sf_io::{FileShelf, OpenGate, StdSink};

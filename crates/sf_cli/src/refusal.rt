@@ -4,7 +4,7 @@ ghost use Rattle.std.specs.Prelude.{◌≡◌, ◌≢◌, ◌++◌, IfOk, OnOk};
 ghost use Rattle.sf_cli.specs.declared.refusal.Refusal.TheVariants.{OutOfMemory};
 ghost use Rattle.sf_cli.specs.Refusals.{kind_text, name_text, number_of, place_text, refusal_text, word_of};
 
-use itoa::Buffer;
+use crate::writing::{put, put_number};
 use sf_base::{Name, Place};
 use sf_elab::NameFault;
 use sf_lex::LexFault;
@@ -187,7 +187,7 @@ impl From<OrderFault> for Refusal {
 }
 
 /// The number and the word of a kind.
-fn number_and_word(kind: RefusalKind) -> (u32, &'static str)
+fn number_and_word(kind: RefusalKind) -> (u64, &'static str)
     ensures number { result.0 ≡ number_of kind }
     ensures word { result.1.now ≡ word_of kind }
 {
@@ -216,21 +216,12 @@ fn number_and_word(kind: RefusalKind) -> (u32, &'static str)
     }
 }
 
-/// Appends a text. An `Err` says that memory ran out.
-fn put(text: &mut Vec<u8>, more: &str) -> Result<(), AllocError>
-    ensures { OnOk result (text.new.items ≡ text.old.items ++ more.now) }
-{
-    text.extend_from_slice(more.as_bytes())?;
-    Ok(())
-}
-
 /// Appends the line up to its kind. An `Err` says that memory ran out.
 fn put_kind(text: &mut Vec<u8>, kind: RefusalKind) -> Result<(), AllocError>
     ensures { OnOk result (text.new.items ≡ text.old.items ++ kind_text kind) }
 {
     let (number, word) = number_and_word(kind);
-    put(text, "file refused: ")?;
-    put(text, Buffer::new().format(number))?;
+    put_number(text, "file refused: ", number)?;
     put(text, " ")?;
     put(text, word)
 }
@@ -239,10 +230,8 @@ fn put_kind(text: &mut Vec<u8>, kind: RefusalKind) -> Result<(), AllocError>
 fn put_place(text: &mut Vec<u8>, place: Place) -> Result<(), AllocError>
     ensures { OnOk result (text.new.items ≡ text.old.items ++ place_text place) }
 {
-    put(text, " at ")?;
-    put(text, Buffer::new().format(place.line))?;
-    put(text, ":")?;
-    put(text, Buffer::new().format(place.column))
+    put_number(text, " at ", u64::from(place.line))?;
+    put_number(text, ":", u64::from(place.column))
 }
 
 /// Appends the line up to its place. An `Err` says that memory ran out.

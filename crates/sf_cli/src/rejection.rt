@@ -4,7 +4,7 @@ ghost use Rattle.std.specs.Prelude.{◌≡◌, ◌≢◌, ◌++◌, IfOk, OnOk, 
 ghost use Rattle.sf_cli.specs.declared.rejection.Rejection.TheVariants.{OutOfMemory};
 ghost use Rattle.sf_cli.specs.Rejections.{kind_number, kind_of, line_of, of_tags, rejection_text};
 
-use itoa::Buffer;
+use crate::writing::{put, put_number};
 use sf_check::Refusal as TagRefusal;
 use sf_proof::ProofFault;
 use std::alloc::{AllocError, Global};
@@ -95,15 +95,6 @@ fn kind_number(kind: RejectionKind) -> u32
     }
 }
 
-/// Appends a text and a number. An `Err` says that memory ran out.
-fn put(text: &mut Vec<u8>, more: &str, number: u64) -> Result<(), AllocError>
-    ensures { OnOk result (text.new.items ≡ text.old.items ++ more.now ++ decimal number) }
-{
-    text.extend_from_slice(more.as_bytes())?;
-    text.extend_from_slice(Buffer::new().format(number).as_bytes())?;
-    Ok(())
-}
-
 /// The line that says why the text of a proof is refused. An `Err` says that memory ran out, which
 /// is also the answer where that was the cause.
 pub fn rejection_text(alloc: Global, rejection: Rejection) -> Result<Vec<u8>, AllocError>
@@ -113,9 +104,9 @@ pub fn rejection_text(alloc: Global, rejection: Rejection) -> Result<Vec<u8>, Al
     match rejection {
         Rejection::At(kind, line) => {
             let mut text = Vec::new(alloc);
-            put(&mut text, "proof refused: line ", line)?;
-            put(&mut text, " kind ", u64::from(kind_number(kind)))?;
-            text.extend_from_slice(b"\n")?;
+            put_number(&mut text, "proof refused: line ", line)?;
+            put_number(&mut text, " kind ", u64::from(kind_number(kind)))?;
+            put(&mut text, "\n")?;
             Ok(text)
         }
         Rejection::OutOfMemory => Err(AllocError),

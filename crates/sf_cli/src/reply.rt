@@ -6,6 +6,7 @@ ghost use Rattle.sf_core.specs.Program.ProgramView.{program_of};
 ghost use Rattle.sf_io.specs.Increased.{Increased};
 ghost use Rattle.sf_cli.specs.Answer.{AreAdmitted, FileAnswer, NamesProgram, ProgramAnswer, ProofFileAnswer, Reaches, RecheckAnswer, Reply, VerdictAnswer, cause_text, printed, read_fault_text};
 ghost use Rattle.sf_cli.specs.Internal.Fetched.{Fetched};
+ghost use Rattle.sf_cli.specs.Internal.Ranges.{HasNumbersInRange};
 ghost use Rattle.sf_cli.specs.Refusals.{refusal_text};
 ghost use Rattle.sf_cli.specs.declared.refusal.Refusal.TheVariants.{OutOfMemory};
 ghost use Rattle.sf_search.specs.Internal.Choosing.{kind_of};
@@ -17,6 +18,7 @@ ghost use Rattle.sf_words.specs.WordsOf.{order_as, words_of};
 use crate::reading::admit;
 use crate::recheck::answer_to_proof;
 use crate::refusal::{Refusal, refusal_text};
+use crate::run::{RunWords, run_file};
 use crate::usage::USAGE;
 use sf_base::ProcId;
 use sf_base::limits::{FILE_BYTES, PROOF_BYTES};
@@ -27,6 +29,7 @@ use sf_precise::Arranged;
 use sf_proof::proof_text;
 use sf_report::{Stuck, failed, too_large};
 use sf_rules::laws::arranged_has_setting;
+use sf_run::Budget;
 use sf_search::{Kind, SearchFault, VerifyFault};
 use sf_verify::verify;
 use sf_words::{Order, WordFault, read};
@@ -54,7 +57,7 @@ pub(crate) fn say(alloc: Global, text: &str, status: u8) -> Result<Said, AllocEr
 }
 
 /// That text, a name after it and a line feed, with that status.
-fn say_of(alloc: Global, text: &str, name: &[u8], status: u8) -> Result<Said, AllocError>
+pub(crate) fn say_of(alloc: Global, text: &str, name: &[u8], status: u8) -> Result<Said, AllocError>
     ensures { IfOk result (λ said. (said.text.items ≡ text.now ++ name.now ++ codes "\n")
         × (said.status ≡ status)) }
 {
@@ -101,7 +104,7 @@ fn printed(kind: Kind) -> Stuck
 
 /// That a procedure fails, and why. An `Err` means that memory ran out, which is also the answer
 /// where the search failed for that.
-fn say_failure(
+pub(crate) fn say_failure(
     alloc: Global,
     p: &Program,
     f: ProcId,
@@ -137,7 +140,7 @@ fn say_proof(alloc: Global, p: &Program, found: &Proof<'_>) -> Result<Said, Allo
 
 /// That a file is refused, and why. An `Err` says that memory ran out, which is also
 /// the answer where that was the cause.
-fn say_refusal(alloc: Global, refusal: &Refusal) -> Result<Said, AllocError>
+pub(crate) fn say_refusal(alloc: Global, refusal: &Refusal) -> Result<Said, AllocError>
     ensures said { IfOk result (λ said. (said.text.items ≡ refusal_text refusal.now) × (said.status ≡ 3)) }
     ensures cause { IfOk result (λ said. refusal.now ≢ OutOfMemory) }
 {
@@ -164,7 +167,7 @@ fn answer_to_bytes<R: Threads + Wait + Sync, G: Gate>(
 }
 
 /// All of a file's bytes; of a file of more bytes than the limit, one more than that.
-fn fetch_up_to<S: Shelf>(
+pub(crate) fn fetch_up_to<S: Shelf>(
     alloc: Global,
     name: &str,
     limit: usize,
@@ -289,7 +292,7 @@ fn recheck_file<S: Shelf>(
     }
 }
 
-/// What the command says to an order: `run` and `demo` aren't followed yet.
+/// What the command says to an order: `demo` isn't followed yet.
 fn follow<R: Threads + Wait + Sync, S: Shelf, G: Gate>(
     rt: &R,
     alloc: Global,
@@ -297,6 +300,7 @@ fn follow<R: Threads + Wait + Sync, S: Shelf, G: Gate>(
     shelf: &mut S,
     gate: &G,
 ) -> Result<Said, AllocError>
+    requires { HasNumbersInRange (order_as order) }
     ensures status { IfOk result (λ said. said.status < 8) }
     ensures said { IfOk result (λ said.
         Reply (S.files shelf.old) (S.faults shelf.old) (S.faults shelf.new)
@@ -313,7 +317,12 @@ fn follow<R: Threads + Wait + Sync, S: Shelf, G: Gate>(
     match order {
         Order::Verify { file, workers } => verify_file(rt, alloc, file, workers, shelf, gate),
         Order::Recheck { file, proof } => recheck_file(alloc, file, proof, shelf),
-        Order::Run { .. } | Order::Demo { .. } => say(alloc, USAGE, 2),
+        Order::Run { file, entry, state, steps, waits } => {
+            let budget = Budget { steps, waits };
+            let words = RunWords { procedure: entry, state, budget };
+            run_file(rt, alloc, file, &words, shelf, gate)
+        }
+        Order::Demo { .. } => say(alloc, USAGE, 2),
     }
 }
 

@@ -5,6 +5,7 @@ mod examples;
 mod numbers;
 mod orders;
 mod proofs;
+mod runs;
 mod sets;
 mod tables;
 mod verdicts;

@@ -3,11 +3,14 @@
 ghost use Rattle.std.specs.Prelude.{◌≡◌, ◌≢◌, ◌≤◌, ◌<◌, ◌⊎◌, List};
 ghost use Rattle.sf_io.specs.Increased.{Increased};
 ghost use Rattle.sf_io.specs.Sink.{with_bytes, WrotePrefix};
-ghost use Rattle.sf_cli.specs.Answer.{Accepted, Answers, NamesProgram, Reaches, Unread, WroteNothingOrPrefix, WroteReplyPrefix};
+ghost use Rattle.sf_cli.specs.Answer.{Accepted, Answers, Ended, IsAccepting, NamesProgram, Reaches, Unread, WroteNothingOrPrefix, WroteReplyPrefix};
 ghost use Rattle.sf_words.specs.Words.{Text, order_of};
 ghost use Rattle.sf_words.specs.WordsOf.{words_of};
 
-use crate::laws::{accepted_files_are_sound, accepted_proofs_are_sound};
+use crate::laws::{
+    accepted_files_are_sound, accepted_proofs_are_sound, accepted_runs_are_sound,
+    finished_runs_have_ended,
+};
 use crate::reply::{Said, respond};
 use sf_io::{Gate, Shelf, Sink, SinkFault, put_all};
 use std::alloc::Global;
@@ -41,13 +44,15 @@ fn tell<K: Sink>(sink: &mut K, said: &Said) -> u8
 ///
 /// The words are those after the program's name. Files come from the shelf, the answer goes to the
 /// sink, whole or, at status 8 or 9, no further than some prefix of it. The statuses are 0 where
-/// the program is proved, 1 where a procedure fails, 2 where the words are no command, 3 where the
-/// file is refused, 4 where the text of a proof is, 7 where the shelf failed, 8 where the sink did,
-/// and 9 where memory ran out. Where no count of faults increases, the answer is the one that is
+/// the program is proved, and a run of it has ended, 1 where a procedure fails, 2 where the words are
+/// no command, 3 where the file is refused, 4 where the text of a proof is, 5 where a run has no such
+/// start, 6 where it has spent its units or tries, 7 where the shelf failed, 8 where the sink did, and
+/// 9 where memory ran out. Where no count of faults increases, the answer is the one that is
 /// due, whole, or memory ran out.
 ///
 /// Whatever the number of workers and the gate, the answer is the same. So far no thread is started
-/// and nothing waits.
+/// and nothing waits; a run from whose entry a parallel call can be reached isn't built yet, and has
+/// its file refused.
 pub fn smallfoot<'a, R: Threads + Wait + Sync, S: Shelf, K: Sink, G: Gate>(
     rt: &R,
     alloc: Global,
@@ -74,7 +79,7 @@ pub fn smallfoot<'a, R: Threads + Wait + Sync, S: Shelf, K: Sink, G: Gate>(
     ensures out_of_memory { result ≡ 9 → WroteNothingOrPrefix
         (S.files shelf.old) (S.faults shelf.old) (S.faults shelf.new)
         (order_of (words_of words.now)) (K.written sink.old) (K.written sink.new) }
-    ensures statuses { (result ≤ 4) ⊎ ((7 ≤ result) × (result ≤ 9)) }
+    ensures statuses { result ≤ 9 }
     // Over a shelf or a sink that never counts a fault there is none.
     ensures no_read_fault { ((name : Text) → S.faults shelf.new name ≡ 0) → result ≢ 7 }
     ensures no_write_fault { K.faults sink.new ≡ 0 → result ≢ 8 }
@@ -82,12 +87,19 @@ pub fn smallfoot<'a, R: Threads + Wait + Sync, S: Shelf, K: Sink, G: Gate>(
     ensures complete { ((name : Text) → Increased (S.faults shelf.old name) (S.faults shelf.new name) → ⊥)
         → (Increased (K.faults sink.old) (K.faults sink.new) → ⊥)
         → (result < 7) ⊎ (result ≡ 9) }
-    // What is accepted is sound: whatever runs of it there are, each configuration is good.
-    ensures accepted { result ≡ 0 → (text : Text)
+    // What is accepted is sound: whatever runs of it there are, each configuration is good. Of a
+    // run that is also what has a start refused, or has spent its units or tries.
+    ensures accepted { IsAccepting result → (text : Text)
         × (K.written sink.new ≡ with_bytes (K.written sink.old) text)
-        × Accepted (S.files shelf.old) (words_of words.now) text }
+        × Accepted (S.files shelf.old) (words_of words.now) text result }
+    // A run that is finished has ended: what is put is the state that a numbered list of events
+    // reaches from the start which was read.
+    ensures ended { result ≡ 0 → (text : Text)
+        × (K.written sink.new ≡ with_bytes (K.written sink.old) text)
+        × Ended (S.files shelf.old) (order_of (words_of words.now)) text }
     // No file changes, and no count falls; that of a name increases only where the work comes to it:
-    // a proof's only where the program's file isn't refused.
+    // a proof's only where the program's file isn't refused, a state's only where one task runs an
+    // entry of a program that is proved.
     ensures counts { (any : Text) → S.faults shelf.old any ≤ S.faults shelf.new any }
     ensures others { (other : Text)
         → (Reaches (S.files shelf.old) (order_of (words_of words.now)) other → ⊥)
@@ -100,6 +112,8 @@ pub fn smallfoot<'a, R: Threads + Wait + Sync, S: Shelf, K: Sink, G: Gate>(
 {
     accepted_files_are_sound();
     accepted_proofs_are_sound();
+    accepted_runs_are_sound();
+    finished_runs_have_ended();
     match respond(rt, alloc, words, shelf, gate) {
         Ok(said) => tell(sink, &said),
         Err(_) => OUT_OF_MEMORY,

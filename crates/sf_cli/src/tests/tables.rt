@@ -604,7 +604,7 @@ pub const NESTS: [((&str, &str, &str, &str), (u32, u32), &str, &str); 3] = [
 ];
 
 /// Words that are no command.
-pub const NO_COMMANDS: [&[&str]; 19] = [
+pub const NO_COMMANDS: [&[&str]; 18] = [
     &[],
     &["verify"],
     &["verify", "a", "b"],
@@ -622,7 +622,6 @@ pub const NO_COMMANDS: [&[&str]; 19] = [
     &["verify", "p.sf", "--workers", "1", "--workers", "1"],
     &["verify", "p.sf", "--workers"],
     &["verify", "--", "--workers", "1"],
-    &["run", "p.sf", "set", "state"],
     &["demo", "2"],
 ];
 

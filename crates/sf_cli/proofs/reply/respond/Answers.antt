@@ -1,8 +1,10 @@
 use Rattle.std.proofs.Common.{Option, Some, subst, sym}
 use Rattle.std.proofs.lemmas.Result.{IfOk-weaker}
+use Rattle.sf_cli.proofs.Ranges.{range-of}
 use Rattle.sf_cli.proofs.Replies.{reply-usage}
 use Rattle.sf_cli.specs.Answer.{NamesProgram, Reaches, Reply}
 use Rattle.sf_words.specs.Words.{Order}
+use Rattle.sf_words.specs.WordsOf.{order_as, words_of}
 use Rattle.sf_cli.proofs.reply.respond.Goals as goal
 
 pub returns-in-Ok-clause-said : goal.returns-in-Ok-clause-said
@@ -21,3 +23,7 @@ returns-in-Ok-clause-refused g c =
     IfOk-weaker c.follow.result _ _
     (λ said k three other h. k three other
     (λ n. h (subst (λ (o : Option Order). NamesProgram o other) (sym c.in-Ok.ensures) n))) c.follow.ensures.refused
+
+pub follow-requires-after_bounds : goal.follow-requires-after_bounds
+follow-requires-after_bounds g c κs within =
+    range-of (words_of c.args.words.now) (order_as c.in-Ok.order) c.in-Ok.ensures

@@ -1,20 +1,35 @@
-use Rattle.std.proofs.Common.{◌≡◌, ◌<◌, sym, ◌∙◌, arith}
-use Rattle.sf_cli.proofs.Accepted.{accepted-reply}
+use Rattle.std.proofs.Common.{◌≡◌, ◌<◌, ◌∙◌, ℕ, arith, subst, sym}
+use Rattle.sf_cli.proofs.Accepted.{accepted-reply, accepting-small}
 use Rattle.sf_cli.proofs.Complete.{complete-reply, complete-status}
+use Rattle.sf_cli.proofs.Endings.{ended-reply}
+use Rattle.sf_cli.specs.Answer.{Accepted, IsAccepting}
 use Rattle.sf_words.specs.Words.{order_of}
 use Rattle.sf_words.specs.WordsOf.{words_of}
 use Rattle.sf_cli.proofs.top.smallfoot.Goals as goal
 
 pub returns-in-Ok-clause-accepted : goal.returns-in-Ok-clause-accepted
-returns-in-Ok-clause-accepted g c = λ zero.
+returns-in-Ok-clause-accepted g c = λ accepting.
+    let small : c.tell.result < 8 = accepting-small c.tell.result accepting in
+    let whole = c.tell.ensures.whole small in (
+      c.in-Ok.said.text.items,
+      whole.1,
+      subst (λ (n : ℕ). Accepted (g.S.Shelf.files c.args.shelf.now) (words_of c.args.words.now) c.in-Ok.said.text.items n)
+          (sym whole.0)
+          (accepted-reply c.accepted_files_are_sound.ensures c.accepted_proofs_are_sound.ensures
+          c.accepted_runs_are_sound.ensures (g.S.Shelf.files c.args.shelf.now) (g.S.Shelf.faults c.args.shelf.now)
+          (g.S.Shelf.faults c.respond.new.shelf) (words_of c.args.words.now) c.in-Ok.said.text.items
+          c.in-Ok.said.status (subst IsAccepting whole.0 accepting) c.in-Ok.ensures.said),
+    )
+
+pub returns-in-Ok-clause-ended : goal.returns-in-Ok-clause-ended
+returns-in-Ok-clause-ended g c = λ zero.
     let small : c.tell.result < 8 = omega (arith, zero) in
     let whole = c.tell.ensures.whole small in (
       c.in-Ok.said.text.items,
       whole.1,
-      accepted-reply c.accepted_files_are_sound.ensures c.accepted_proofs_are_sound.ensures
-          (g.S.Shelf.files c.args.shelf.now) (g.S.Shelf.faults c.args.shelf.now) (g.S.Shelf.faults c.respond.new.shelf)
-          (words_of c.args.words.now) c.in-Ok.said.text.items c.in-Ok.said.status (sym whole.0 ∙ zero)
-          c.in-Ok.ensures.said,
+      ended-reply c.finished_runs_have_ended.ensures (g.S.Shelf.files c.args.shelf.now)
+          (g.S.Shelf.faults c.args.shelf.now) (g.S.Shelf.faults c.respond.new.shelf) (order_of (words_of c.args.words.now))
+          c.in-Ok.said.text.items c.in-Ok.said.status (sym whole.0 ∙ zero) c.in-Ok.ensures.said,
     )
 
 pub returns-in-Ok-clause-refused : goal.returns-in-Ok-clause-refused

@@ -1,0 +1,193 @@
+-- A run has an answer, where the state's file is there: each layer has one of its own.
+-- Names: some-*, what is found at each step of the way; bound-*, that an end has finitely many cells.
+use Rattle.std.proofs.Common.{◌≡◌, ◌∙◌, ◌⊎◌, ◌<◌, ◌≤◌, ◌++◌, ℕ, zero, suc, List, Option, Some, None, ap, arith, codes, inl, inr, map, refl, subst, sym}
+use Rattle.std.specs.FinMap.{get}
+use Rattle.std.specs.List.{All}
+use Rattle.std.specs.Option.{option_map}
+use Rattle.std.specs.Prelude.{is_some, slice_get}
+use Rattle.std.proofs.lemmas.Option.{slice_get-map}
+use Rattle.sf_base.proofs.Options.{some-none, some-or_none}
+use Rattle.sf_base.specs.declared.ids.ProcId.{ProcId}
+use Rattle.sf_calls.specs.FirstBreach.{Conditions}
+use Rattle.sf_core.specs.Machine.Alone.{AloneFrom, Outcome, finished, spent, waiting}
+use Rattle.sf_core.specs.Machine.Config.{Config}
+use Rattle.sf_core.specs.Machine.Start.{Start}
+use Rattle.sf_core.specs.Machine.Step.{procedure_at}
+use Rattle.sf_core.specs.Machine.Supplies.{units}
+use Rattle.sf_core.specs.Program.Formed.{IsFormed}
+use Rattle.sf_core.specs.Program.Syntax.{Procedure, Program}
+use Rattle.sf_elab.specs.Laws.{ElaboratedIsFormed}
+use Rattle.sf_foot.specs.declared.vars.Vars.{Vars}
+use Rattle.sf_foot.specs.Starting.{IsFreshFrom, StartsWith}
+use Rattle.sf_heap.specs.Cells.{Cells, FieldValues, cell_of, heap_of}
+use Rattle.sf_io.specs.Shelf.{Files}
+use Rattle.sf_lex.specs.Reading.{first_place}
+use Rattle.sf_parse.specs.Laws.{EachFileIsShallow}
+use Rattle.sf_run.specs.Laws.{BasesAreFree, BeginningsAreStarts, SequentialIsDecided, StartsHaveOneOutcome, UnitsStayFree}
+use Rattle.sf_run.specs.Lone.{IsBase, IsFreeFrom}
+use Rattle.sf_run.specs.Running.{ComesTo}
+use Rattle.sf_run.specs.Sequential.{IsSequential}
+use Rattle.sf_safe.specs.Law.{IsSound}
+use Rattle.sf_search.specs.Judge.{Judge, Verdict, fails, proof}
+use Rattle.sf_search.specs.Laws.{TakenTagsProve}
+use Rattle.sf_sound.specs.Proofs.{ProofsAreSound}
+use Rattle.sf_state.specs.Entering.{HoldsNone, IsEntry, procedure_names}
+use Rattle.sf_state.specs.Laws.{AreDetermined, EntryExists, StartExists}
+use Rattle.sf_state.specs.Starts.{IsStartText}
+use Rattle.sf_cli.proofs.Accepted.{accepted-formed, accepted-judged}
+use Rattle.sf_cli.proofs.EndTexts.{end-there}
+use Rattle.sf_cli.specs.Answer.{FileAnswer, IsProved, ProgramAnswer, RunAnswer, RunFileAnswer, VerdictAnswer, admitted, admitted_run, entered, no_entry, not_built, refused, refused_run, unproved}
+use Rattle.sf_cli.specs.declared.refusal.Refusal.TheVariants.{At}
+use Rattle.sf_cli.specs.declared.refusal.RefusalKind.TheVariants.{NotBuilt}
+use Rattle.sf_cli.specs.FileFault.{Admits}
+use Rattle.sf_cli.specs.Laws.{EachFileHasAnAnswer, EachRunHasAnAnswer}
+use Rattle.sf_cli.specs.Ran.{OutcomeAnswer, StateAnswer, no_start, ran, spent_steps_text, spent_waits_text}
+use Rattle.sf_cli.specs.Refusals.{refusal_text}
+use Rattle.sf_cli.specs.StartRefusals.{start_refusal_text}
+use Rattle.sf_words.specs.Words.{Text}
+
+-- what the layers below say of runs
+pub record RunAnswers : Type 0 where
+  pub files : EachFileHasAnAnswer
+  pub shallow : EachFileIsShallow
+  pub formed : ElaboratedIsFormed
+  pub prove : TakenTagsProve
+  pub sound : ProofsAreSound
+  pub entries : EntryExists
+  pub decided : SequentialIsDecided
+  pub starts : StartExists
+  pub outcomes : StartsHaveOneOutcome
+  pub beginnings : BeginningsAreStarts
+  pub bases : BasesAreFree
+  pub free : UnitsStayFree
+
+-- ---- the cells at an end
+
+bound-same : (start c : Config) → finished c ≡ finished start → start ≡ c
+bound-same start c is = cc
+
+-- after a run by units that are free, some are
+bound-units : UnitsStayFree → (p : Program) (count base : ℕ) (start c : Config)
+    → AloneFrom p start (units base count) (finished c) → IsFreeFrom base start → (n : ℕ) × IsFreeFrom n c
+unfolding UnitsStayFree
+bound-units law p zero base start c (inl (e, is)) h = (base, subst (IsFreeFrom base) (bound-same start c is) h)
+bound-units law p zero base start c (inr (e, is)) h = absurd (cc)
+bound-units law p (suc count) base start c (inl (e, is)) h = (base, subst (IsFreeFrom base) (bound-same start c is) h)
+bound-units law p (suc count) base start c (inr (e, inl (r, w, is))) h = absurd (cc)
+bound-units law p (suc count) base start c (inr (e, inr (between, step, rest))) h =
+    bound-units law p count (suc base) between c rest (law p base start between h step)
+
+-- the locations of cells are below the first unit
+bound-cells : (vars : Vars) (heap : Cells) (unit k : ℕ) → IsFreshFrom vars heap unit → unit ≤ k → heap_of heap k ≡ None
+bound-cells vars heap unit k fresh above = go (get heap k) refl
+  where
+    go : (o : Option FieldValues) → get heap k ≡ o → option_map cell_of (get heap k) ≡ None
+    go None e = ap (option_map cell_of) e
+    go (Some values) e =
+        let less : k < unit = fresh.1 k (inl (ap is_some e)) in absurd (omega (arith, less, above))
+
+-- the end of a run has finitely many cells
+bound-end : RunAnswers → (p : Program) (f : ProcId) (vars : Vars) (heap : Cells) (parts : List (List ℕ))
+    (unit count : ℕ) (c : Config) → StartsWith p f vars heap parts → IsFreshFrom vars heap unit
+    → ComesTo p f vars heap unit count (finished c) → (n : ℕ) × IsFreeFrom n c
+unfolding BasesAreFree BeginningsAreStarts
+bound-end l p f vars heap parts unit count c starts fresh comes =
+    let (g, there, start) = l.beginnings p f vars heap parts comes.start starts comes.begins in
+    let base : IsBase unit comes.start = record {
+      above_start = fresh.0.0;
+      above_cells = λ k above. ap (λ (z : Config). z.common.heap k) start.is ∙ bound-cells vars heap unit k fresh above;
+    } in
+    bound-units l.free p count unit comes.start c comes.comes (l.bases p f _ (heap_of heap) comes.start unit start base)
+
+-- ---- the answer
+
+-- what comes of a run is printed
+some-outcome : RunAnswers → (p : Program) (f : ProcId) (g : Procedure) (vars : Vars) (heap : Cells)
+    (parts : List (List ℕ)) (unit steps waits : ℕ) (out : Outcome) → StartsWith p f vars heap parts
+    → IsFreshFrom vars heap unit → ComesTo p f vars heap unit steps out
+    → (text : Text) × (status : ℕ) × OutcomeAnswer p g steps waits out text status
+some-outcome l p f g vars heap parts unit steps waits (finished c) starts fresh comes =
+    let bound = bound-end l p f vars heap parts unit steps c starts fresh comes in
+    let end = end-there p g c bound.0 (λ k above. (bound.1 k above).1) in
+    (codes "finished\n" ++ end.0, 0, (record { state = end.0; ends = end.1; is = refl }, refl))
+some-outcome l p f g vars heap parts unit steps waits spent starts fresh comes =
+    (spent_steps_text steps, 6, (refl, refl))
+some-outcome l p f g vars heap parts unit steps waits (waiting r) starts fresh comes =
+    (spent_waits_text p r waits, 6, (refl, refl))
+
+-- a name that a procedure has is one of a procedure
+some-procedure : (p : Program) (entry : Text) (f : ProcId) → IsEntry p entry f
+    → (g : Procedure) × (procedure_at p f ≡ Some g)
+some-procedure p entry f h = elim (some-or_none (slice_get p.procedures f.0)) [
+  | inl found ↦ found
+  | inr none ↦ absurd (some-none entry (sym h.named.0 ∙ slice_get-map (λ (g : Procedure). g.name) p.procedures f.0
+    ∙ ap (option_map (λ (g : Procedure). g.name)) none))
+]
+
+-- the text of a state has an answer
+some-state : RunAnswers → (p : Program) (entry : Text) (f : ProcId) (given : Text) (steps waits : ℕ) → IsFormed p
+    → Conditions p → AreDetermined p → IsSound p → IsEntry p entry f → IsSequential p f
+    → (text : Text) × (status : ℕ) × StateAnswer p f given steps waits text status
+unfolding StartExists StartsHaveOneOutcome
+some-state l p entry f given steps waits formed conditions determined sound is sequential =
+    let (g, there) = some-procedure p entry f is in
+    elim (l.starts p f g given formed determined there is.free) [
+      | inl found ↦
+        let (vars, heap, parts, unit, start) = found in
+        let one = l.outcomes p f vars heap parts unit steps formed conditions sound sequential start.starts
+        start.first_unit.0 in
+        let said = some-outcome l p f g vars heap parts unit steps waits one.out start.starts start.first_unit.0 one.comes in
+        (said.0, said.1, ran g vars heap parts unit one.out there start one.comes said.2)
+      | inr fault ↦
+        (start_refusal_text fault.0, 5, no_start g fault.0 there fault.1 refl refl)
+    ]
+
+-- so has a run of a program that is proved
+some-proved : RunAnswers → (files : Files) (p : Program) (entry state_name given : Text) (steps waits : ℕ)
+    → files state_name ≡ Some given → IsFormed p → Conditions p → AreDetermined p → IsSound p → IsProved p
+    → (text : Text) × (status : ℕ) × RunFileAnswer (Some files) p entry state_name steps waits text status
+unfolding EntryExists SequentialIsDecided
+some-proved l files p entry state_name given steps waits there formed conditions determined sound proved =
+    elim (l.entries p entry formed) [
+      | inr fault ↦ (start_refusal_text fault.0, 5, no_entry fault.0 proved fault.1 refl refl)
+      | inl found ↦ elim (l.decided p found.0) [
+        | inr forks ↦
+          (refusal_text (At NotBuilt first_place), 3, not_built found.0 proved found.1 forks refl refl)
+        | inl sequential ↦
+          let said = some-state l p entry found.0 given steps waits formed conditions determined sound found.1 sequential in
+          (
+            said.0,
+            said.1,
+            entered found.0 given (record { proved = proved; is_entry = found.1; sequential = sequential }) there said.2,
+          )
+      ]
+    ]
+
+-- and so has one of a program with which nothing is wrong
+some-admitted : RunAnswers → (files : Files) (bytes : Text) (p : Program) (entry state_name given : Text)
+    (steps waits : ℕ) → files state_name ≡ Some given → Admits bytes p → (text : Text) (status : ℕ)
+    → ProgramAnswer p text status
+    → (said : Text) × (code : ℕ) × RunFileAnswer (Some files) p entry state_name steps waits said code
+some-admitted l files bytes p entry state_name given steps waits there a text status k =
+    go k.verdict k.judged k.said
+  where
+    go : (v : Verdict) → Judge k.setting v → VerdictAnswer p v text status
+        → (said : Text) × (code : ℕ) × RunFileAnswer (Some files) p entry state_name steps waits said code
+    go (fails f why) j said = (text, status, unproved k said.1)
+    go (proof tags) j said =
+        let proved : IsProved p = record { setting = k.setting; own = k.own; tags = tags; judged = j } in
+        some-proved l files p entry state_name given steps waits there
+        (accepted-formed l.shallow l.formed bytes p a.reads) a.conditions a.determined
+        (accepted-judged l.shallow l.formed l.prove l.sound bytes p a proved) proved
+
+-- a run has an answer, where the state's file is there
+pub some-run : RunAnswers → EachRunHasAnAnswer
+some-run l files bytes entry state_name given steps waits there =
+    let answer = l.files bytes in go answer.0 answer.1 answer.2
+  where
+    go : (text : Text) (status : ℕ) → FileAnswer bytes text status
+        → (said : Text) × (code : ℕ) × RunAnswer (Some files) bytes entry state_name steps waits said code
+    go text status (refused r f t s) = (refusal_text r, 3, refused_run r f refl refl)
+    go text status (admitted p a k) =
+        let said = some-admitted l files bytes p entry state_name given steps waits there a text status k in
+        (said.0, said.1, admitted_run p a said.2)

@@ -1,0 +1,265 @@
+-- From what the parts of a run answer to what is said of it over the files of a shelf.
+-- Names: entry-*, ran-*, fetched-*, reply-*.
+use Rattle.std.proofs.Common.{◌≡◌, ◌≢◌, ◌∙◌, ◌⊎◌, ◌<◌, ◌≤◌, ℕ, [], Bool, true, false, List, Option, Some, None, ap, arith, get_or, inl, inr, length, map, nat_lt, refl, subst, sym}
+use Rattle.std.proofs.lemmas.Bool.{ltb-true, ltb-false}
+use Rattle.std.proofs.lemmas.Bool.Decides.{nat_tests}
+use Rattle.std.proofs.lemmas.List.{length-map}
+use Rattle.std.proofs.lemmas.Option.{get_or_from_slice_get, slice_get-map, slice_get_cases}
+use Rattle.std.specs.declared.result.Result.{Result}
+use Rattle.std.specs.declared.result.Result.TheVariants.{Ok, Err}
+use Rattle.std.specs.Option.{option_map}
+use Rattle.std.specs.Prelude.{IfOk, IfSome, if◌then◌else◌, slice_get}
+use Rattle.sf_base.proofs.Options.{some-holds, some-none}
+use Rattle.sf_base.specs.declared.ids.ProcId.{ProcId}
+use Rattle.sf_base.specs.declared.ids.ResId.{ResId}
+use Rattle.sf_base.specs.declared.limits.TheConstants.{FILE_BYTES, STATE_BYTES}
+use Rattle.sf_core.specs.Machine.Alone.{Outcome, finished, spent, waiting}
+use Rattle.sf_core.specs.Machine.Step.{procedure_at}
+use Rattle.sf_core.specs.Program.Formed.{IsFormed}
+use Rattle.sf_core.specs.Program.ProgramView.{program_of}
+use Rattle.sf_core.specs.Program.Syntax.{Procedure, Program, Resource}
+use Rattle.sf_core.specs.Program.View.{procedure_of, resource_of}
+use Rattle.sf_core.specs.declared.program.Program.{Program as CodeProgram}
+use Rattle.sf_core.specs.declared.program.Resource.{Resource as CodeResource}
+use Rattle.sf_foot.specs.declared.start.Finish.{Finish}
+use Rattle.sf_foot.specs.declared.start.Start.{Start}
+use Rattle.sf_foot.specs.declared.vars.Vars.{Vars}
+use Rattle.sf_heap.specs.Cells.{Cells}
+use Rattle.sf_io.specs.Increased.{Increased}
+use Rattle.sf_io.specs.Shelf.{Files}
+use Rattle.sf_precise.specs.declared.arranged.Arranged.{Arranged}
+use Rattle.sf_run.specs.Running.{EndsWith, Stops}
+use Rattle.sf_run.specs.declared.stop.Budget.{Budget}
+use Rattle.sf_run.specs.declared.stop.Stop.{Stop}
+use Rattle.sf_run.specs.declared.stop.Stop.TheVariants.{Steps, Waits, OutOfMemory}
+use Rattle.sf_state.specs.declared.fault.StartFault.{StartFault}
+use Rattle.sf_state.specs.declared.fault.StartFault.TheVariants as fault
+use Rattle.sf_state.specs.Names.{names_of}
+use Rattle.sf_state.specs.Starts.{DecidesStart, IsStartFault, IsStartText, left_over, refused, unmet}
+use Rattle.sf_state.specs.Stated.{lines_refusal, text_refusal}
+use Rattle.sf_state.specs.Says.{entries_of}
+use Rattle.sf_cli.proofs.EndTexts.{end-written}
+use Rattle.sf_cli.proofs.Replies.{increased-later, long-fault, long-reads, reply-unread}
+use Rattle.sf_cli.specs.Answer.{AreRun, HasRun, IsProved, IsRun, MayHave, NamesProgram, Reaches, Reply, RunAnswer, RunFileAnswer, admitted_run, answer, entered, no_entry, not_built, read_fault_text, refused_run, unproved}
+use Rattle.sf_cli.specs.declared.reply.Said.{Said}
+use Rattle.sf_cli.specs.Internal.Fetched.{IsUpTo, Fetched}
+use Rattle.sf_cli.specs.Internal.Printed.{IsOutcomeText, SaysFinish, stop_text}
+use Rattle.sf_cli.specs.Ran.{OutcomeAnswer, StateAnswer, no_start, ran, resource_name, spent_steps_text, spent_waits_text}
+use Rattle.sf_cli.specs.StartRefusals.{start_refusal_text}
+use Rattle.sf_words.specs.Words.{Text, Order, run}
+
+-- ---- procedures
+
+-- a number of a procedure is that of one of the program
+pub entry-there : (a : Arranged) (f : ProcId) → f.0 < length a.program.procedures.items
+    → (g : Procedure) × (slice_get (program_of a.program).procedures f.0 ≡ Some g)
+entry-there a f less =
+    let procedures = (program_of a.program).procedures in
+    let found : (slice_get procedures f.0 ≡ slice_get procedures f.0) × (((g : Procedure) × (f.0 < length procedures)
+    × (slice_get procedures f.0 ≡ Some g) × (get_or procedures f.0 g ≡ g))
+    ⊎ ((length procedures ≤ f.0) × (slice_get procedures f.0 ≡ None))) = slice_get_cases procedures f.0 in
+    elim found.1 [
+      | inl h ↦ (h.0, h.2)
+      | inr h ↦
+        let more = h.0 in absurd (omega (arith, less, more, length-map a.program.procedures.items procedure_of))
+    ]
+
+-- what holds of a procedure holds of the one that is there
+pub entry-holds : (P Q : Procedure → Type 0) (o : Option Procedure) → ((g : Procedure) → P g → Q g) → IfSome o P → IfSome o Q
+entry-holds P Q None f h = tt
+entry-holds P Q (Some g) f h = f g h
+
+-- a reason that isn't want of memory
+pub entry-refused : (P : StartFault → Type 0) (e : StartFault) → (e ≡ fault.OutOfMemory) ⊎ P e
+    → e ≢ fault.OutOfMemory → P e
+entry-refused P e (inl m) n = absurd (n m)
+entry-refused P e (inr k) n = k
+
+-- the name of a resource that is there
+pub name-there : (p : CodeProgram) (r : ResId) (of : CodeResource) → slice_get p.resources.items r.0 ≡ Some of
+    → of.name ≡ resource_name (program_of p) r
+name-there p r of there =
+    sym (get_or_from_slice_get (map (λ (h : Resource). h.name) (program_of p).resources) r.0 of.name []
+    (slice_get-map (λ (h : Resource). h.name) (program_of p).resources r.0
+    ∙ ap (option_map (λ (h : Resource). h.name)) (slice_get-map resource_of p.resources.items r.0
+    ∙ ap (option_map resource_of) there)))
+
+-- ---- outcomes
+
+-- what a run ends with, printed
+pub ran-finished : (p : Program) (f : ProcId) (vars : Vars) (heap : Cells) (unit steps waits : ℕ) (end : Finish)
+    (text : Text) (status : ℕ) → IsFormed p → EndsWith p f vars heap unit steps end
+    → IfSome (slice_get p.procedures f.0) (λ g. SaysFinish p g end.vars end.heap text status)
+    → IsOutcomeText p f vars heap unit steps waits text status
+ran-finished p f vars heap unit steps waits end text status formed e said = λ g there.
+    let s = some-holds (λ (h : Procedure). SaysFinish p h end.vars end.heap text status) (slice_get p.procedures f.0) g
+    there said in
+    (
+      finished e.last,
+      e.comes,
+      (
+        record {
+          state = s.state;
+          ends = end-written p f g e.last end.vars end.heap s.state formed there e.ends s.ends;
+          is = s.is;
+        },
+        s.ok,
+      ),
+    )
+
+-- why it stops, printed
+pub ran-stopped : (p : Program) (f : ProcId) (vars : Vars) (heap : Cells) (unit : ℕ) (budget : Budget) (stop : Stop)
+    (text : Text) (status : ℕ) → Stops p f vars heap unit budget stop → stop ≢ OutOfMemory → text ≡ stop_text p stop
+    → status ≡ 6 → IsOutcomeText p f vars heap unit budget.steps budget.waits text status
+ran-stopped p f vars heap unit budget (Steps path used) text status (entry, all, comes) n t s =
+    λ g there. (spent, comes, (t ∙ ap spent_steps_text all, s))
+ran-stopped p f vars heap unit budget (Waits path r tries) text status (entry, all, comes) n t s =
+    λ g there. (waiting r, comes, (t ∙ ap (spent_waits_text p r) all, s))
+ran-stopped p f vars heap unit budget OutOfMemory text status h n t s = absurd (n refl)
+
+-- the start that a text gives
+pub ran-started : (p : Program) (f : ProcId) (text : Text) (start : Start) (g : Procedure)
+    → slice_get p.procedures f.0 ≡ Some g
+    → IfSome (slice_get p.procedures f.0) (λ g. DecidesStart p f g text (Ok start))
+    → IsStartText p f g text start.vars start.heap start.parts.items start.unit
+ran-started p f text start g there h =
+    (some-holds (λ (g : Procedure). DecidesStart p f g text (Ok start)) (slice_get p.procedures f.0) g there h).started
+
+-- why it gives none
+pub ran-refused : (p : Program) (f : ProcId) (text : Text) (e : StartFault) (g : Procedure)
+    → slice_get p.procedures f.0 ≡ Some g
+    → IfSome (slice_get p.procedures f.0) (λ g. DecidesStart p f g text (Err e)) → e ≢ fault.OutOfMemory
+    → IsStartFault p g text e
+ran-refused p f text e g there h n = entry-refused (IsStartFault p g text) e
+    (some-holds (λ (g : Procedure). DecidesStart p f g text (Err e)) (slice_get p.procedures f.0) g there h).refused n
+
+-- what comes of the start of a text is the answer to it
+pub ran-answer : (p : Program) (f : ProcId) (g : Procedure) (given : Text) (start : Start) (steps waits : ℕ)
+    (text : Text) (status : ℕ) → slice_get p.procedures f.0 ≡ Some g
+    → IsStartText p f g given start.vars start.heap start.parts.items start.unit
+    → IsOutcomeText p f start.vars start.heap start.unit steps waits text status
+    → StateAnswer p f given steps waits text status
+ran-answer p f g given start steps waits text status there starts outcome =
+    let (out, comes, said) = outcome g there in
+    ran g start.vars start.heap start.parts.items start.unit out there starts comes said
+
+-- its statuses
+ran-outcome_status : (p : Program) (g : Procedure) (steps waits : ℕ) (out : Outcome) (text : Text) (status : ℕ)
+    → OutcomeAnswer p g steps waits out text status → (status < 7) × (status ≢ 3)
+ran-outcome_status p g steps waits (finished c) text status a =
+    let is = a.1 in (omega (arith, is), λ three. omega (arith, is, three))
+ran-outcome_status p g steps waits spent text status a =
+    let is = a.1 in (omega (arith, is), λ three. omega (arith, is, three))
+ran-outcome_status p g steps waits (waiting r) text status a =
+    let is = a.1 in (omega (arith, is), λ three. omega (arith, is, three))
+
+pub ran-status : (p : Program) (f : ProcId) (given : Text) (steps waits : ℕ) (text : Text) (status : ℕ)
+    → StateAnswer p f given steps waits text status → (status < 7) × (status ≢ 3)
+ran-status p f given steps waits text status (no_start g e there x t s) =
+    (omega (arith, s), λ three. omega (arith, s, three))
+ran-status p f given steps waits text status (ran g vars heap parts unit out there x comes a) =
+    ran-outcome_status p g steps waits out text status a
+
+-- ---- what is fetched of a state
+
+-- a text that is too long is refused for that
+fetched-long : (fields names : List Text) (text : Text) → STATE_BYTES < length text
+    → text_refusal fields names text ≡ Some fault.TooLong
+fetched-long fields names text m =
+    let long : nat_lt STATE_BYTES (length text) ≡ true = grind (arith, nat_tests) in
+    ap (λ (b : Bool). if b then Some fault.TooLong else lines_refusal fields names (entries_of fields names text)) long
+
+fetched-none : (o : Option StartFault) (f : StartFault) → o ≡ Some f → o ≡ None → ⊥
+fetched-none o f e n = some-none f (sym e ∙ n)
+
+-- the answer to the first bytes of it is that to it
+fetched-state : (p : Program) (f : ProcId) (out given : Text) (steps waits : ℕ) (text : Text) (status : ℕ)
+    → IsUpTo STATE_BYTES given out → StateAnswer p f out steps waits text status
+    → StateAnswer p f given steps waits text status
+fetched-state p f out given steps waits text status (inl e) a =
+    subst (λ (z : Text). StateAnswer p f z steps waits text status) e a
+fetched-state p f out given steps waits text status (inr m) (no_start g e there (refused r) t s) =
+    no_start g e there (refused (fetched-long p.fields (names_of p g) given m.1
+    ∙ sym (fetched-long p.fields (names_of p g) out m.0) ∙ r)) t s
+fetched-state p f out given steps waits text status (inr m) (no_start g e there (unmet number is n) t s) =
+    absurd (fetched-none (text_refusal p.fields (names_of p g) out) fault.TooLong
+    (fetched-long p.fields (names_of p g) out m.0) n.state.accepted)
+fetched-state p f out given steps waits text status (inr m) (no_start g e there (left_over location is n) t s) =
+    absurd (fetched-none (text_refusal p.fields (names_of p g) out) fault.TooLong
+    (fetched-long p.fields (names_of p g) out m.0) n.state.accepted)
+fetched-state p f out given steps waits text status (inr m) (ran g vars heap parts unit last there x comes a) =
+    absurd (fetched-none (text_refusal p.fields (names_of p g) out) fault.TooLong
+    (fetched-long p.fields (names_of p g) out m.0) x.state.accepted)
+
+pub fetched-state_file : (told : Option Files) (p : Program) (f : ProcId) (name out : Text) (steps waits : ℕ)
+    (text : Text) (status : ℕ) → Fetched STATE_BYTES told name out → StateAnswer p f out steps waits text status
+    → (given : Text) × MayHave told name given × StateAnswer p f given steps waits text status
+fetched-state_file told p f name out steps waits text status h a =
+    (h.bytes, h.may_have, fetched-state p f out h.bytes steps waits text status h.is a)
+
+-- ---- replies
+
+-- the same of what is said of a run for what was fetched of the program's file
+fetched-run : (told : Option Files) (out bytes entry state_name text : Text) (steps waits status : ℕ)
+    → IsUpTo FILE_BYTES bytes out → RunAnswer told out entry state_name steps waits text status
+    → RunAnswer told bytes entry state_name steps waits text status
+fetched-run told out bytes entry state_name text steps waits status (inl e) a =
+    subst (λ (z : Text). RunAnswer told z entry state_name steps waits text status) e a
+fetched-run told out bytes entry state_name text steps waits status (inr m) (refused_run r f t s) =
+    refused_run r (long-fault out bytes r f m.0 m.1) t s
+fetched-run told out bytes entry state_name text steps waits status (inr m) (admitted_run p a k) =
+    absurd (long-reads out p a.reads m.0)
+
+fetched-runs : (out bytes entry : Text) → IsUpTo FILE_BYTES bytes out → AreRun out entry → AreRun bytes entry
+fetched-runs out bytes entry (inl e) a = subst (λ (z : Text). AreRun z entry) e a
+fetched-runs out bytes entry (inr m) a = absurd (long-reads out a.0 a.1.reads m.0)
+
+-- the work comes to a state's file where a procedure of what was fetched of the program's is run
+pub reply-reaches : (told : Option Files) (file entry state_name out other : Text) (steps waits : ℕ)
+    → Fetched FILE_BYTES told file out → (other ≡ state_name) × AreRun out entry
+    → Reaches told (Some (run file entry state_name steps waits)) other
+reply-reaches told file entry state_name out other steps waits h (e, a) =
+    inr (e, (h.bytes, h.may_have, fetched-runs out h.bytes entry h.is a))
+
+-- a run is answered with what is due to it, or the state's text can't be read
+reply-run : (told : Option Files) (before mid after : Text → ℕ) (file entry state_name out text : Text)
+    (steps waits status : ℕ) → Fetched FILE_BYTES told file out → ((any : Text) → before any ≤ mid any) → status < 8
+    → (status < 7 → RunAnswer told out entry state_name steps waits text status)
+    → (status ≡ 7 → AreRun out entry × Increased (mid state_name) (after state_name)
+    × (text ≡ read_fault_text state_name))
+    → Reply told before after (Some (run file entry state_name steps waits)) text status
+reply-run told before mid after file entry state_name out text steps waits status h counts l a u =
+    go (nat_lt status 7) refl
+  where
+    go : (b : Bool) → nat_lt status 7 ≡ b → Reply told before after (Some (run file entry state_name steps waits)) text status
+    go true e =
+        let less : status < 7 = ltb-true status 7 e in
+        answer less (h.bytes, h.may_have, fetched-run told out h.bytes entry state_name text steps waits status h.is (a less))
+    go false e =
+        let more : 7 ≤ status = ltb-false status 7 e in
+        let is : status ≡ 7 = omega (arith, l, more) in
+        let (runs, increased, said) = u is in
+        reply-unread told before after (Some (run file entry state_name steps waits)) state_name text status
+        (reply-reaches told file entry state_name out state_name steps waits h (refl, runs))
+        (increased-later (before state_name) (mid state_name) (after state_name) (counts state_name) increased) said is
+
+-- the same of an answer that may be that memory ran out; the shelf's files are those before
+pub reply-ok : {E : Type 0} (r : Result Said E) (told now : Option Files) → now ≡ told
+    → (before mid after : Text → ℕ) (file entry state_name out : Text) (steps waits : ℕ)
+    → Fetched FILE_BYTES told file out → ((any : Text) → before any ≤ mid any) → IfOk r (λ said. said.status < 8)
+    → IfOk r (λ said. said.status < 7
+    → RunAnswer now out entry state_name steps waits said.text.items said.status)
+    → IfOk r (λ said. said.status ≡ 7 → AreRun out entry × Increased (mid state_name) (after state_name)
+    × (said.text.items ≡ read_fault_text state_name))
+    → IfOk r (λ said. Reply told before after (Some (run file entry state_name steps waits)) said.text.items said.status)
+reply-ok (Err e) told now same before mid after file entry state_name out steps waits h counts l a u = tt
+reply-ok (Ok said) told now same before mid after file entry state_name out steps waits h counts l a u =
+    reply-run told before mid after file entry state_name out said.text.items steps waits said.status h counts l
+    (λ less. subst (λ (z : Option Files). RunAnswer z out entry state_name steps waits said.text.items said.status) same
+    (a less)) u
+
+-- a name that isn't the program's in an order to run is another one than the program's there
+pub reply-not_program : (order : Option Order) (file entry state_name other : Text) (steps waits : ℕ)
+    → order ≡ Some (run file entry state_name steps waits) → (NamesProgram order other → ⊥) → other ≡ file → ⊥
+reply-not_program order file entry state_name other steps waits e h same =
+    h (subst (λ (o : Option Order). NamesProgram o other) (sym e) same)

@@ -1,0 +1,30 @@
+use Rattle.std.proofs.Common.{arith, refl, subst, sym}
+use Rattle.std.proofs.lemmas.Result.{IfOk-weaker}
+use Rattle.sf_base.proofs.Results.{ok-both}
+use Rattle.sf_core.specs.Program.ProgramView.{program_of}
+use Rattle.sf_cli.specs.Answer.{admitted_run, refused_run}
+use Rattle.sf_cli.proofs.run.run_bytes.Goals as goal
+
+pub returns-in-Ok-clause-answered : goal.returns-in-Ok-clause-answered
+returns-in-Ok-clause-answered g c =
+    IfOk-weaker c.run_program.result _ _
+    (λ said k less. admitted_run (program_of c.in-Ok.arranged.program) c.in-Ok.ensures.admitted (k less))
+    c.run_program.ensures.answered
+
+pub returns-in-Ok-clause-unread : goal.returns-in-Ok-clause-unread
+returns-in-Ok-clause-unread g c =
+    IfOk-weaker c.run_program.result _ _
+    (λ said k seven. let u = k seven in
+    ((program_of c.in-Ok.arranged.program, c.in-Ok.ensures.admitted, u.0), u.1, u.2))
+    c.run_program.ensures.unread
+
+pub returns-in-Ok-clause-others : goal.returns-in-Ok-clause-others
+returns-in-Ok-clause-others g c = λ other h.
+    c.run_program.ensures.others other
+    (λ e. h (e.0, (program_of c.in-Ok.arranged.program, c.in-Ok.ensures.admitted, e.1)))
+
+pub returns-in-Err-clause-answered : goal.returns-in-Err-clause-answered
+returns-in-Err-clause-answered g c =
+    ok-both c.say_refusal.result _ _ _
+    (λ said s n less. refused_run c.in-Err.refusal (c.in-Err.ensures.refused n) s.0 s.1) c.say_refusal.ensures.said
+    c.say_refusal.ensures.cause

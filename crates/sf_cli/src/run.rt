@@ -1,0 +1,326 @@
+//! What the command says to `run`, in the order of its work: the verdict on the program, the entry,
+//! whether one task runs it, the text of the state, and what comes of that start.
+
+ghost use Rattle.std.specs.Prelude.{◌≡◌, ◌≢◌, ◌<◌, ◌≤◌, Some, IfOk, length};
+ghost use Rattle.sf_base.specs.declared.limits.TheConstants.{STEPS, WAITS};
+ghost use Rattle.sf_check.specs.Accepted.{arranged_in};
+ghost use Rattle.sf_core.specs.Program.ProgramView.{program_of};
+ghost use Rattle.sf_foot.specs.Starting.{StartsWith};
+ghost use Rattle.sf_io.specs.Increased.{Increased};
+ghost use Rattle.sf_cli.specs.Answer.{AreRun, HasRun, IsProved, MayHave, Reaches, Reply, RunAnswer, RunFileAnswer, read_fault_text};
+ghost use Rattle.sf_cli.specs.Internal.Printed.{IsOutcomeText};
+ghost use Rattle.sf_cli.specs.Ran.{StateAnswer};
+ghost use Rattle.sf_cli.specs.StartRefusals.{start_refusal_text};
+ghost use Rattle.sf_run.specs.Running.{program_in};
+ghost use Rattle.sf_run.specs.Sequential.{IsSequential};
+ghost use Rattle.sf_state.specs.Entering.{HoldsNone, IsEntry};
+ghost use Rattle.sf_state.specs.declared.fault.StartFault.TheVariants.{OutOfMemory};
+ghost use Rattle.sf_words.specs.Words.{Text, run};
+
+use crate::outcome::{say_finish, say_stop};
+use crate::reading::admit;
+use crate::refusal::{FIRST_PLACE, Refusal, RefusalKind};
+use crate::reply::{Said, fetch_up_to, say_failure, say_of, say_refusal};
+use crate::start_refusal::start_refusal_text;
+use sf_base::ProcId;
+use sf_base::limits::{FILE_BYTES, STATE_BYTES};
+use sf_check::Proof;
+use sf_foot::Start;
+use sf_io::{FetchFault, Gate, Shelf};
+use sf_precise::Arranged;
+use sf_rules::laws::arranged_has_setting;
+use sf_run::{Budget, is_sequential, run};
+use sf_search::VerifyFault;
+use sf_state::{StartFault, entry, read};
+use sf_verify::verify;
+use std::alloc::{AllocError, Global};
+use std::sync::Wait;
+use std::thread::Threads;
+
+/// What a run is asked for, beside the program's file.
+#[derive(Clone, Copy, Debug)]
+pub struct RunWords<'a> {
+    /// The name of the procedure that is run.
+    pub procedure: &'a str,
+    /// The name of the state's file.
+    pub state: &'a str,
+    /// What the run may use.
+    pub budget: Budget,
+}
+
+/// What comes of a start of procedure `f`, from which no parallel call can be reached.
+fn answer_to_start<R: Threads + Sync, G: Gate>(
+    rt: &R,
+    alloc: Global,
+    proof: &Proof<'_>,
+    f: ProcId,
+    start: Start,
+    budget: Budget,
+    gate: &G,
+) -> Result<Said, AllocError>
+    requires there { f.0 < length (arranged_in proof.now).program.procedures.items }
+    requires starts { StartsWith (program_in proof.now) f start.vars start.heap start.parts.items }
+    requires sequential { IsSequential (program_in proof.now) f }
+    requires steps { (1 ≤ budget.steps) × (budget.steps ≤ STEPS) }
+    requires waits { (1 ≤ budget.waits) × (budget.waits ≤ WAITS) }
+    ensures { IfOk result (λ said. IsOutcomeText (program_in proof.now) f start.vars start.heap
+        start.unit budget.steps budget.waits said.text.items said.status) }
+{
+    let arranged = proof.arranged();
+    match run(rt, alloc, proof, f, start, budget, gate) {
+        Ok(end) => say_finish(alloc, arranged, f, &end),
+        Err(stop) => say_stop(alloc, &arranged.program, &stop),
+    }
+}
+
+/// That there is no start, and why. An `Err` means that memory ran out, which is also the answer
+/// where that was the cause.
+fn say_no_start(alloc: Global, fault: &StartFault) -> Result<Said, AllocError>
+    ensures said { IfOk result (λ said. (said.text.items ≡ start_refusal_text fault.now)
+        × (said.status ≡ 5)) }
+    ensures cause { IfOk result (λ said. fault.now ≢ OutOfMemory) }
+{
+    Ok(Said {
+        text: start_refusal_text(alloc, fault)?,
+        status: 5,
+    })
+}
+
+/// The answer to a run of procedure `f` from the text of a state.
+fn answer_to_state<R: Threads + Sync, G: Gate>(
+    rt: &R,
+    alloc: Global,
+    proof: &Proof<'_>,
+    f: ProcId,
+    state: &[u8],
+    budget: Budget,
+    gate: &G,
+) -> Result<Said, AllocError>
+    requires there { f.0 < length (arranged_in proof.now).program.procedures.items }
+    requires free { HoldsNone (program_in proof.now) f }
+    requires sequential { IsSequential (program_in proof.now) f }
+    requires steps { (1 ≤ budget.steps) × (budget.steps ≤ STEPS) }
+    requires waits { (1 ≤ budget.waits) × (budget.waits ≤ WAITS) }
+    ensures { IfOk result (λ said. StateAnswer (program_in proof.now) f state.now
+        budget.steps budget.waits said.text.items said.status) }
+{
+    let arranged = proof.arranged();
+    match read(alloc, arranged, f, state) {
+        Ok(start) => answer_to_start(rt, alloc, proof, f, start, budget, gate),
+        Err(fault) => say_no_start(alloc, &fault),
+    }
+}
+
+/// The same from a state's file. A fetch that fails is said.
+fn run_state_file<R: Threads + Sync, S: Shelf, G: Gate>(
+    rt: &R,
+    alloc: Global,
+    proof: &Proof<'_>,
+    f: ProcId,
+    words: &RunWords<'_>,
+    shelf: &mut S,
+    gate: &G,
+) -> Result<Said, AllocError>
+    requires there { f.0 < length (arranged_in proof.now).program.procedures.items }
+    requires free { HoldsNone (program_in proof.now) f }
+    requires sequential { IsSequential (program_in proof.now) f }
+    requires steps { (1 ≤ words.now.budget.steps) × (words.now.budget.steps ≤ STEPS) }
+    requires waits { (1 ≤ words.now.budget.waits) × (words.now.budget.waits ≤ WAITS) }
+    ensures status { IfOk result (λ said. said.status < 8) }
+    ensures answered { IfOk result (λ said. said.status < 7
+        → (given : Text) × MayHave (S.files shelf.old) words.now.state.now given
+        × StateAnswer (program_in proof.now) f given words.now.budget.steps words.now.budget.waits
+        said.text.items said.status) }
+    ensures unread { IfOk result (λ said. said.status ≡ 7
+        → Increased (S.faults shelf.old words.now.state.now) (S.faults shelf.new words.now.state.now)
+        × (said.text.items ≡ read_fault_text words.now.state.now)) }
+    ensures refused { IfOk result (λ said. said.status ≢ 3) }
+    ensures files { S.files shelf.new ≡ S.files shelf.old }
+    ensures others { (other : Text) → other ≢ words.now.state.now
+        → S.faults shelf.new other ≡ S.faults shelf.old other }
+    ensures counts { (any : Text) → S.faults shelf.old any ≤ S.faults shelf.new any }
+{
+    match fetch_up_to(alloc, words.state, STATE_BYTES, shelf) {
+        Ok(state) => answer_to_state(rt, alloc, proof, f, state.as_slice(), words.budget, gate),
+        Err(FetchFault::Failed) => say_of(alloc, "read fault: ", words.state.as_bytes(), 7),
+        Err(FetchFault::OutOfMemory) => Err(AllocError),
+    }
+}
+
+/// The answer to a run of procedure `f`. The state's file is left alone where a parallel call can be
+/// reached from it: such a run isn't built yet.
+fn run_entry<R: Threads + Sync, S: Shelf, G: Gate>(
+    rt: &R,
+    alloc: Global,
+    proof: &Proof<'_>,
+    f: ProcId,
+    words: &RunWords<'_>,
+    shelf: &mut S,
+    gate: &G,
+) -> Result<Said, AllocError>
+    requires there { f.0 < length (arranged_in proof.now).program.procedures.items }
+    requires proved { IsProved (program_in proof.now) }
+    requires entry { IsEntry (program_in proof.now) words.now.procedure.now f }
+    requires steps { (1 ≤ words.now.budget.steps) × (words.now.budget.steps ≤ STEPS) }
+    requires waits { (1 ≤ words.now.budget.waits) × (words.now.budget.waits ≤ WAITS) }
+    ensures status { IfOk result (λ said. said.status < 8) }
+    ensures answered { IfOk result (λ said. said.status < 7
+        → RunFileAnswer (S.files shelf.old) (program_in proof.now) words.now.procedure.now words.now.state.now
+        words.now.budget.steps words.now.budget.waits said.text.items said.status) }
+    ensures unread { IfOk result (λ said. said.status ≡ 7
+        → HasRun (program_in proof.now) words.now.procedure.now
+        × Increased (S.faults shelf.old words.now.state.now) (S.faults shelf.new words.now.state.now)
+        × (said.text.items ≡ read_fault_text words.now.state.now)) }
+    ensures files { S.files shelf.new ≡ S.files shelf.old }
+    ensures others { (other : Text)
+        → ((other ≡ words.now.state.now) × HasRun (program_in proof.now) words.now.procedure.now → ⊥)
+        → S.faults shelf.new other ≡ S.faults shelf.old other }
+    ensures refused { IfOk result (λ said. said.status ≡ 3
+        → (any : Text) → S.faults shelf.new any ≡ S.faults shelf.old any) }
+    ensures counts { (any : Text) → S.faults shelf.old any ≤ S.faults shelf.new any }
+{
+    let arranged = proof.arranged();
+    if is_sequential(alloc, &arranged.program, f)? {
+        run_state_file(rt, alloc, proof, f, words, shelf, gate)
+    } else {
+        say_refusal(alloc, &Refusal::At(RefusalKind::NotBuilt, FIRST_PLACE))
+    }
+}
+
+/// The answer to a run of a program that is proved. The state's file is left alone where there is no
+/// such entry.
+fn run_proved<R: Threads + Sync, S: Shelf, G: Gate>(
+    rt: &R,
+    alloc: Global,
+    proof: &Proof<'_>,
+    words: &RunWords<'_>,
+    shelf: &mut S,
+    gate: &G,
+) -> Result<Said, AllocError>
+    requires proved { IsProved (program_in proof.now) }
+    requires steps { (1 ≤ words.now.budget.steps) × (words.now.budget.steps ≤ STEPS) }
+    requires waits { (1 ≤ words.now.budget.waits) × (words.now.budget.waits ≤ WAITS) }
+    ensures status { IfOk result (λ said. said.status < 8) }
+    ensures answered { IfOk result (λ said. said.status < 7
+        → RunFileAnswer (S.files shelf.old) (program_in proof.now) words.now.procedure.now words.now.state.now
+        words.now.budget.steps words.now.budget.waits said.text.items said.status) }
+    ensures unread { IfOk result (λ said. said.status ≡ 7
+        → HasRun (program_in proof.now) words.now.procedure.now
+        × Increased (S.faults shelf.old words.now.state.now) (S.faults shelf.new words.now.state.now)
+        × (said.text.items ≡ read_fault_text words.now.state.now)) }
+    ensures files { S.files shelf.new ≡ S.files shelf.old }
+    ensures others { (other : Text)
+        → ((other ≡ words.now.state.now) × HasRun (program_in proof.now) words.now.procedure.now → ⊥)
+        → S.faults shelf.new other ≡ S.faults shelf.old other }
+    ensures refused { IfOk result (λ said. said.status ≡ 3
+        → (any : Text) → S.faults shelf.new any ≡ S.faults shelf.old any) }
+    ensures counts { (any : Text) → S.faults shelf.old any ≤ S.faults shelf.new any }
+{
+    let arranged = proof.arranged();
+    match entry(alloc, arranged, words.procedure) {
+        Ok(f) => run_entry(rt, alloc, proof, f, words, shelf, gate),
+        Err(fault) => say_no_start(alloc, &fault),
+    }
+}
+
+/// The answer to a run of a program with which nothing is wrong. The state's file is left alone
+/// where it has no proof.
+fn run_program<R: Threads + Wait + Sync, G: Gate, S: Shelf>(
+    rt: &R,
+    alloc: Global,
+    arranged: &Arranged,
+    words: &RunWords<'_>,
+    shelf: &mut S,
+    gate: &G,
+) -> Result<Said, AllocError>
+    requires steps { (1 ≤ words.now.budget.steps) × (words.now.budget.steps ≤ STEPS) }
+    requires waits { (1 ≤ words.now.budget.waits) × (words.now.budget.waits ≤ WAITS) }
+    ensures status { IfOk result (λ said. said.status < 8) }
+    ensures answered { IfOk result (λ said. said.status < 7
+        → RunFileAnswer (S.files shelf.old) (program_of arranged.now.program) words.now.procedure.now words.now.state.now
+        words.now.budget.steps words.now.budget.waits said.text.items said.status) }
+    ensures unread { IfOk result (λ said. said.status ≡ 7
+        → HasRun (program_of arranged.now.program) words.now.procedure.now
+        × Increased (S.faults shelf.old words.now.state.now) (S.faults shelf.new words.now.state.now)
+        × (said.text.items ≡ read_fault_text words.now.state.now)) }
+    ensures files { S.files shelf.new ≡ S.files shelf.old }
+    ensures others { (other : Text)
+        → ((other ≡ words.now.state.now) × HasRun (program_of arranged.now.program) words.now.procedure.now → ⊥)
+        → S.faults shelf.new other ≡ S.faults shelf.old other }
+    ensures refused { IfOk result (λ said. said.status ≡ 3
+        → (any : Text) → S.faults shelf.new any ≡ S.faults shelf.old any) }
+    ensures counts { (any : Text) → S.faults shelf.old any ≤ S.faults shelf.new any }
+{
+    arranged_has_setting();
+    match verify(rt, alloc, arranged, 1, gate) {
+        Ok(proof) => run_proved(rt, alloc, &proof, words, shelf, gate),
+        Err(VerifyFault::Failed(f, why)) => say_failure(alloc, &arranged.program, f, &why),
+        Err(VerifyFault::OutOfMemory) => Err(AllocError),
+    }
+}
+
+/// The answer to a run of the program that a file of these bytes has. The state's file is left alone
+/// where that is refused.
+fn run_bytes<R: Threads + Wait + Sync, S: Shelf, G: Gate>(
+    rt: &R,
+    alloc: Global,
+    bytes: &[u8],
+    words: &RunWords<'_>,
+    shelf: &mut S,
+    gate: &G,
+) -> Result<Said, AllocError>
+    requires steps { (1 ≤ words.now.budget.steps) × (words.now.budget.steps ≤ STEPS) }
+    requires waits { (1 ≤ words.now.budget.waits) × (words.now.budget.waits ≤ WAITS) }
+    ensures status { IfOk result (λ said. said.status < 8) }
+    ensures answered { IfOk result (λ said. said.status < 7
+        → RunAnswer (S.files shelf.old) bytes.now words.now.procedure.now words.now.state.now
+        words.now.budget.steps words.now.budget.waits said.text.items said.status) }
+    ensures unread { IfOk result (λ said. said.status ≡ 7
+        → AreRun bytes.now words.now.procedure.now
+        × Increased (S.faults shelf.old words.now.state.now) (S.faults shelf.new words.now.state.now)
+        × (said.text.items ≡ read_fault_text words.now.state.now)) }
+    ensures files { S.files shelf.new ≡ S.files shelf.old }
+    ensures others { (other : Text)
+        → ((other ≡ words.now.state.now) × AreRun bytes.now words.now.procedure.now → ⊥)
+        → S.faults shelf.new other ≡ S.faults shelf.old other }
+    ensures refused { IfOk result (λ said. said.status ≡ 3
+        → (any : Text) → S.faults shelf.new any ≡ S.faults shelf.old any) }
+    ensures counts { (any : Text) → S.faults shelf.old any ≤ S.faults shelf.new any }
+{
+    match admit(alloc, bytes) {
+        Ok(arranged) => run_program(rt, alloc, &arranged, words, shelf, gate),
+        Err(refusal) => say_refusal(alloc, &refusal),
+    }
+}
+
+/// What the command says to `run` of the file of that name.
+pub fn run_file<R: Threads + Wait + Sync, S: Shelf, G: Gate>(
+    rt: &R,
+    alloc: Global,
+    file: &str,
+    words: &RunWords<'_>,
+    shelf: &mut S,
+    gate: &G,
+) -> Result<Said, AllocError>
+    requires steps { (1 ≤ words.now.budget.steps) × (words.now.budget.steps ≤ STEPS) }
+    requires waits { (1 ≤ words.now.budget.waits) × (words.now.budget.waits ≤ WAITS) }
+    ensures status { IfOk result (λ said. said.status < 8) }
+    ensures said { IfOk result (λ said.
+        Reply (S.files shelf.old) (S.faults shelf.old) (S.faults shelf.new)
+        (Some (run file.now words.now.procedure.now words.now.state.now
+        words.now.budget.steps words.now.budget.waits)) said.text.items said.status) }
+    ensures files { S.files shelf.new ≡ S.files shelf.old }
+    ensures others { (other : Text)
+        → (Reaches (S.files shelf.old) (Some (run file.now words.now.procedure.now
+        words.now.state.now words.now.budget.steps words.now.budget.waits)) other → ⊥)
+        → S.faults shelf.new other ≡ S.faults shelf.old other }
+    ensures refused { IfOk result (λ said. said.status ≡ 3 → (other : Text) → other ≢ file.now
+        → S.faults shelf.new other ≡ S.faults shelf.old other) }
+    ensures counts { (any : Text) → S.faults shelf.old any ≤ S.faults shelf.new any }
+{
+    match fetch_up_to(alloc, file, FILE_BYTES, shelf) {
+        Ok(bytes) => run_bytes(rt, alloc, bytes.as_slice(), words, shelf, gate),
+        Err(FetchFault::Failed) => say_of(alloc, "read fault: ", file.as_bytes(), 7),
+        Err(FetchFault::OutOfMemory) => Err(AllocError),
+    }
+}
