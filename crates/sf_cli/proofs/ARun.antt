@@ -121,7 +121,7 @@ some-procedure : (p : Program) (entry : Text) (f : ProcId) → IsEntry p entry f
 some-procedure p entry f h = elim (some-or_none (slice_get p.procedures f.0)) [
   | inl found ↦ found
   | inr none ↦ absurd (some-none entry (sym h.named.0 ∙ slice_get-map (λ (g : Procedure). g.name) p.procedures f.0
-    ∙ ap (option_map (λ (g : Procedure). g.name)) none))
+      ∙ ap (option_map (λ (g : Procedure). g.name)) none))
 ]
 
 -- the text of a state has an answer
@@ -133,13 +133,13 @@ some-state l p entry f given steps waits formed conditions determined sound is s
     let (g, there) = some-procedure p entry f is in
     elim (l.starts p f g given formed determined there is.free) [
       | inl found ↦
-        let (vars, heap, parts, unit, start) = found in
-        let one = l.outcomes p f vars heap parts unit steps formed conditions sound sequential start.starts
-        start.first_unit.0 in
-        let said = some-outcome l p f g vars heap parts unit steps waits one.out start.starts start.first_unit.0 one.comes in
-        (said.0, said.1, ran g vars heap parts unit one.out there start one.comes said.2)
+          let (vars, heap, parts, unit, start) = found in
+          let one = l.outcomes p f vars heap parts unit steps formed conditions sound sequential start.starts
+          start.first_unit.0 in
+          let said = some-outcome l p f g vars heap parts unit steps waits one.out start.starts start.first_unit.0 one.comes in
+          (said.0, said.1, ran g vars heap parts unit one.out there start one.comes said.2)
       | inr fault ↦
-        (start_refusal_text fault.0, 5, no_start g fault.0 there fault.1 refl refl)
+          (start_refusal_text fault.0, 5, no_start g fault.0 there fault.1 refl refl)
     ]
 
 -- so has a run of a program that is proved
@@ -152,14 +152,13 @@ some-proved l files p entry state_name given steps waits there formed conditions
       | inr fault ↦ (start_refusal_text fault.0, 5, no_entry fault.0 proved fault.1 refl refl)
       | inl found ↦ elim (l.decided p found.0) [
         | inr forks ↦
-          (refusal_text (At NotBuilt first_place), 3, not_built found.0 proved found.1 forks refl refl)
+            (refusal_text (At NotBuilt first_place), 3, not_built found.0 proved found.1 forks refl refl)
         | inl sequential ↦
-          let said = some-state l p entry found.0 given steps waits formed conditions determined sound found.1 sequential in
-          (
-            said.0,
-            said.1,
-            entered found.0 given (record { proved = proved; is_entry = found.1; sequential = sequential }) there said.2,
-          )
+            let said = some-state l p entry found.0 given steps waits formed conditions determined sound found.1 sequential in (
+              said.0,
+              said.1,
+              entered found.0 given (record { proved = proved; is_entry = found.1; sequential = sequential }) there said.2,
+            )
       ]
     ]
 

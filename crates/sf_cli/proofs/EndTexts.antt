@@ -97,8 +97,8 @@ rising-more heap n before None e = record {
     to l h = elim (cases_lt l n) [
       | inl less ↦ (before.all l).0 (less, h.1)
       | inr more ↦
-        let within = h.0 in
-        let is : l ≡ n = omega (arith, more, within) in absurd (h.1 (ap heap is ∙ e))
+          let within = h.0 in
+          let is : l ≡ n = omega (arith, more, within) in absurd (h.1 (ap heap is ∙ e))
     ]
 rising-more heap n before (Some cell) e = record {
   locations = before.locations ++ n ∷ [];
@@ -113,9 +113,9 @@ rising-more heap n before (Some cell) e = record {
     to l h = elim (cases_lt l n) [
       | inl less ↦ Contains-append_left before.locations (n ∷ []) l ((before.all l).0 (less, h.1))
       | inr more ↦
-        let within = h.0 in
-        let is : n ≡ l = omega (arith, more, within) in
-        subst (λ (z : ℕ). Contains (before.locations ++ n ∷ []) z) is (Contains-push before.locations n)
+          let within = h.0 in
+          let is : n ≡ l = omega (arith, more, within) in
+          subst (λ (z : ℕ). Contains (before.locations ++ n ∷ []) z) is (Contains-push before.locations n)
     ]
 
     from : (l : ℕ) → Contains (before.locations ++ n ∷ []) l → (l < suc n) × (heap l ≢ None)
@@ -160,7 +160,7 @@ values-shared : (store : Store) (rows : List (Vec Value Global)) (number : ℕ) 
     → length rows ≡ length rs
     → ((k : ℕ) (of : Resource) → slice_get rs k ≡ Some of → length (row (slice_get rows k)) ≡ length of.variables)
     → ((k j : ℕ) (of : Resource) (i : ℕ) → slice_get rs k ≡ Some of → i < length of.variables → j ≡ number + k
-      → slice_index_or (row (slice_get rows k)) i nil ≡ unwrap_or (store (shared (record { 0 = j }) i)) nil)
+    → slice_index_or (row (slice_get rows k)) i nil ≡ unwrap_or (store (shared (record { 0 = j }) i)) nil)
     → flat_map (λ (vs : Vec Value Global). vs.items) rows ≡ shared_values store number rs
 values-shared store [] number [] e sizes h = refl
 values-shared store [] number (r ∷ rs) e sizes h = absurd (omega (arith, e))
@@ -191,7 +191,7 @@ lines-fields (name ∷ more) number one other h =
 -- the lines of cells go by the values of their fields
 lines-cells : (fields : List Text) (one other : ℕ → Option (List Value)) (ls : List ℕ)
     → ((l i : ℕ) → i < length fields
-      → slice_index_or (values_or_none (one l)) i nil ≡ slice_index_or (values_or_none (other l)) i nil)
+    → slice_index_or (values_or_none (one l)) i nil ≡ slice_index_or (values_or_none (other l)) i nil)
     → cell_lines fields one ls ≡ cell_lines fields other ls
 lines-cells fields one other [] h = refl
 lines-cells fields one other (l ∷ ls) h =

@@ -116,8 +116,7 @@ run-state : RunLayers → (p : Program) (f : ProcId) (given : Text) (steps waits
 unfolding StartIsUnique
 run-state l p f given steps waits text other status code d (no_start g e there x t s) (no_start h q at y u v) =
     let same : h ≡ g = some-once (procedure_at p f) h g at there in
-    let once = l.starts p f g given d there in
-    (
+    let once = l.starts p f g given d there in (
       t ∙ ap start_refusal_text (once.faults e q x (subst (λ (z : Procedure). IsStartFault p z given q) same y)) ∙ sym u,
       s ∙ sym v,
     )

@@ -61,7 +61,7 @@ entry-there a f less =
     elim found.1 [
       | inl h ↦ (h.0, h.2)
       | inr h ↦
-        let more = h.0 in absurd (omega (arith, less, more, length-map a.program.procedures.items procedure_of))
+          let more = h.0 in absurd (omega (arith, less, more, length-map a.program.procedures.items procedure_of))
     ]
 
 -- what holds of a procedure holds of the one that is there
@@ -93,8 +93,7 @@ pub ran-finished : (p : Program) (f : ProcId) (vars : Vars) (heap : Cells) (unit
     → IsOutcomeText p f vars heap unit steps waits text status
 ran-finished p f vars heap unit steps waits end text status formed e said = λ g there.
     let s = some-holds (λ (h : Procedure). SaysFinish p h end.vars end.heap text status) (slice_get p.procedures f.0) g
-    there said in
-    (
+    there said in (
       finished e.last,
       e.comes,
       (

@@ -57,12 +57,7 @@ fn resource_name(p: &Program, r: ResId) -> &[u8]
 
 /// That the entry's task has tried a region of that resource so often in vain. An `Err` says that
 /// memory ran out.
-fn spent_waits_text(
-    alloc: Global,
-    p: &Program,
-    r: ResId,
-    tries: u32,
-) -> Result<Vec<u8>, AllocError>
+fn spent_waits_text(alloc: Global, p: &Program, r: ResId, tries: u32) -> Result<Vec<u8>, AllocError>
     ensures { IfOk result (λ text. text.items ≡ spent_waits_text (program_of p.now) r tries) }
 {
     let mut text = Vec::new(alloc);

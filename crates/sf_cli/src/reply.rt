@@ -317,9 +317,19 @@ fn follow<R: Threads + Wait + Sync, S: Shelf, G: Gate>(
     match order {
         Order::Verify { file, workers } => verify_file(rt, alloc, file, workers, shelf, gate),
         Order::Recheck { file, proof } => recheck_file(alloc, file, proof, shelf),
-        Order::Run { file, entry, state, steps, waits } => {
+        Order::Run {
+            file,
+            entry,
+            state,
+            steps,
+            waits,
+        } => {
             let budget = Budget { steps, waits };
-            let words = RunWords { procedure: entry, state, budget };
+            let words = RunWords {
+                procedure: entry,
+                state,
+                budget,
+            };
             run_file(rt, alloc, file, &words, shelf, gate)
         }
         Order::Demo { .. } => say(alloc, USAGE, 2),

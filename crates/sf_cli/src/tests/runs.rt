@@ -18,15 +18,20 @@ const VAC: &[u8] = b"v(x) [x|-> * x|->] { }";
 /// A procedure whose precondition has a variable of a resource.
 const FREE: &[u8] = b"resource a (v) [] f(x;) [v == nil] { }";
 /// A list is turned round.
-const REV: &[u8] = b"rev(o; i) [list(i)] {\n  local t;\n  o = nil;\n  while (i != nil) [list(o) * list(i)] {\n    t = i->tl;\n    i->tl = o;\n    o = i;\n    i = t;\n  }\n} [list(o)]\n";
+const REV: &[u8] =
+    b"rev(o; i) [list(i)] {\n  local t;\n  o = nil;\n  while (i != nil) [list(o) * list(i)] {\n    t = i->tl;\n    i->tl = o;\n    o = i;\n    i = t;\n  }\n} [list(o)]\n";
 /// A memory manager.
-const MM: &[u8] = b"resource mm (f) [list(f)]\nalloc(x;) [emp] {\n  with mm when (true) {\n    if (f == nil) { x = new(); } else { x = f; f = x->tl; }\n  }\n} [x|->]\ndealloc(y) [y|->] {\n  with mm when (true) { y->tl = f; f = y; }\n} [emp]\n";
+const MM: &[u8] =
+    b"resource mm (f) [list(f)]\nalloc(x;) [emp] {\n  with mm when (true) {\n    if (f == nil) { x = new(); } else { x = f; f = x->tl; }\n  }\n} [x|->]\ndealloc(y) [y|->] {\n  with mm when (true) { y->tl = f; f = y; }\n} [emp]\n";
 /// A tree is given up by two threads at once.
-const TREE: &[u8] = b"disp_tree(p) [tree(p)] {\n  local i, j;\n  if (p == nil) { } else {\n    i = p->l;\n    j = p->r;\n    disp_tree(i) || disp_tree(j);\n    dispose(p);\n  }\n} [emp]\n";
+const TREE: &[u8] =
+    b"disp_tree(p) [tree(p)] {\n  local i, j;\n  if (p == nil) { } else {\n    i = p->l;\n    j = p->r;\n    disp_tree(i) || disp_tree(j);\n    dispose(p);\n  }\n} [emp]\n";
 /// The same without its last command.
-const LEAK: &[u8] = b"disp_tree(p) [tree(p)] {\n  local i, j;\n  if (p == nil) { } else {\n    i = p->l;\n    j = p->r;\n    disp_tree(i) || disp_tree(j);\n  }\n} [emp]\n";
+const LEAK: &[u8] =
+    b"disp_tree(p) [tree(p)] {\n  local i, j;\n  if (p == nil) { } else {\n    i = p->l;\n    j = p->r;\n    disp_tree(i) || disp_tree(j);\n  }\n} [emp]\n";
 /// Calls, with fields of the file's own: a new cell, whose value is passed on.
-const CALLS: &[u8] = b"val, next;\nput(x; v) [emp] { x = new(); x->val = v; } [x|->val:v]\nboth(a; b) [b|->] { local t; put(t; 7); b->next = t; a = b; } [a|->next:_t * _t|->]\nagain(a; b) [b|->] { both(a; b); } [a|->next:_t * _t|->]\n";
+const CALLS: &[u8] =
+    b"val, next;\nput(x; v) [emp] { x = new(); x->val = v; } [x|->val:v]\nboth(a; b) [b|->] { local t; put(t; 7); b->next = t; a = b; } [a|->next:_t * _t|->]\nagain(a; b) [b|->] { both(a; b); } [a|->next:_t * _t|->]\n";
 
 /// What a run ends with, or why it stops.
 const OUTCOMES: [(&[u8], &[&str], &str, &str, u8); 14] = [
@@ -60,7 +65,16 @@ const OUTCOMES: [(&[u8], &[&str], &str, &str, u8); 14] = [
     ),
     (
         TWO,
-        &["run", "--steps=2", "p.sf", "--waits", "1", "--", "two", "state"],
+        &[
+            "run",
+            "--steps=2",
+            "p.sf",
+            "--waits",
+            "1",
+            "--",
+            "two",
+            "state",
+        ],
         "finished\n# any value\n\tx=-3\r\n",
         "finished\nx = 1\n",
         0,
@@ -280,7 +294,9 @@ const NO_RUNS: [&[&str]; 9] = [
     &["run", "p.sf", "two", "state", "--steps", "0"],
     &["run", "p.sf", "two", "state", "--steps", "281474976710657"],
     &["run", "p.sf", "two", "state", "--waits", "16777217"],
-    &["run", "p.sf", "two", "state", "--waits", "1", "--waits", "1"],
+    &[
+        "run", "p.sf", "two", "state", "--waits", "1", "--waits", "1",
+    ],
 ];
 
 /// `run` says what is beside them of the files and the states.

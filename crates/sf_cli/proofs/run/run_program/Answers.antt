@@ -37,8 +37,7 @@ returns-in-Ok-clause-answered g c =
 pub returns-in-Ok-clause-unread : goal.returns-in-Ok-clause-unread
 returns-in-Ok-clause-unread g c =
     IfOk-weaker c.run_proved.result _ _
-    (λ said k seven. let u = k seven in
-    (
+    (λ said k seven. let u = k seven in (
       subst (λ (a : Arranged). HasRun (program_of a.program) c.args.words.now.procedure.now) c.in-Ok.ensures.arranged u.0,
       u.1,
       u.2,
@@ -47,8 +46,11 @@ returns-in-Ok-clause-unread g c =
 pub returns-in-Ok-clause-others : goal.returns-in-Ok-clause-others
 returns-in-Ok-clause-others g c = λ other h.
     c.run_proved.ensures.others other
-    (λ e. h (e.0, subst (λ (a : Arranged). HasRun (program_of a.program) c.args.words.now.procedure.now)
-    c.in-Ok.ensures.arranged e.1))
+    (λ e. h (
+      e.0,
+      subst (λ (a : Arranged). HasRun (program_of a.program) c.args.words.now.procedure.now)
+          c.in-Ok.ensures.arranged e.1,
+    ))
 
 pub returns-in-Err-Failed-clause-status : goal.returns-in-Err-Failed-clause-status
 returns-in-Err-Failed-clause-status g c =
