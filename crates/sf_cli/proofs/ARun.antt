@@ -1,8 +1,7 @@
 -- A run has an answer, where the state's file is there: each layer has one of its own.
 -- Names: some-*, what is found at each step of the way; bound-*, that an end has finitely many cells.
-use Rattle.std.proofs.Common.{◌≡◌, ◌∙◌, ◌⊎◌, ◌<◌, ◌≤◌, ◌++◌, ℕ, zero, suc, List, Option, Some, None, ap, arith, codes, inl, inr, map, refl, subst, sym}
+use Rattle.std.proofs.Common.{◌≡◌, ◌∙◌, ◌<◌, ◌≤◌, ◌++◌, ℕ, zero, suc, List, Option, Some, None, ap, arith, codes, inl, inr, refl, subst, sym}
 use Rattle.std.specs.FinMap.{get}
-use Rattle.std.specs.List.{All}
 use Rattle.std.specs.Option.{option_map}
 use Rattle.std.specs.Prelude.{is_some, slice_get}
 use Rattle.std.proofs.lemmas.Option.{slice_get-map}
@@ -11,7 +10,6 @@ use Rattle.sf_base.specs.declared.ids.ProcId.{ProcId}
 use Rattle.sf_calls.specs.FirstBreach.{Conditions}
 use Rattle.sf_core.specs.Machine.Alone.{AloneFrom, Outcome, finished, spent, waiting}
 use Rattle.sf_core.specs.Machine.Config.{Config}
-use Rattle.sf_core.specs.Machine.Start.{Start}
 use Rattle.sf_core.specs.Machine.Step.{procedure_at}
 use Rattle.sf_core.specs.Machine.Supplies.{units}
 use Rattle.sf_core.specs.Program.Formed.{IsFormed}
@@ -31,9 +29,8 @@ use Rattle.sf_safe.specs.Law.{IsSound}
 use Rattle.sf_search.specs.Judge.{Judge, Verdict, fails, proof}
 use Rattle.sf_search.specs.Laws.{TakenTagsProve}
 use Rattle.sf_sound.specs.Proofs.{ProofsAreSound}
-use Rattle.sf_state.specs.Entering.{HoldsNone, IsEntry, procedure_names}
+use Rattle.sf_state.specs.Entering.{IsEntry}
 use Rattle.sf_state.specs.Laws.{AreDetermined, EntryExists, StartExists}
-use Rattle.sf_state.specs.Starts.{IsStartText}
 use Rattle.sf_cli.proofs.Accepted.{accepted-formed, accepted-judged}
 use Rattle.sf_cli.proofs.EndTexts.{end-there}
 use Rattle.sf_cli.specs.Answer.{FileAnswer, IsProved, ProgramAnswer, RunAnswer, RunFileAnswer, VerdictAnswer, admitted, admitted_run, entered, no_entry, not_built, refused, refused_run, unproved}

@@ -19,7 +19,7 @@ use Rattle.sf_search.specs.Judge.{Verdict, proof, fails, Judge}
 use Rattle.sf_search.specs.Laws.{TakenTagsProve}
 use Rattle.sf_sound.specs.Proofs.{ProofsAreSound}
 use Rattle.sf_sym.specs.declared.tag.Tag.{Tag}
-use Rattle.sf_cli.specs.Answer.{Accepted, AcceptedBytes, FileAnswer, IsAccepting, IsProved, OrderAnswer, RecheckAnswer, Reply, RunAnswer, RunFileAnswer, VerdictAnswer, admitted, admitted_run, answer, by_proof, by_run, by_search, entered, file_refused, no_entry, not_built, rechecked, refused, refused_run, unproved, unread}
+use Rattle.sf_cli.specs.Answer.{Accepted, AcceptedBytes, FileAnswer, IsAccepting, IsProved, OrderAnswer, RecheckAnswer, Reply, RunFileAnswer, VerdictAnswer, admitted, admitted_run, answer, by_proof, by_run, by_search, entered, file_refused, no_entry, not_built, rechecked, refused, refused_run, unproved, unread}
 use Rattle.sf_cli.specs.FileFault.{Admits}
 use Rattle.sf_cli.specs.Laws.{AcceptedFilesAreSound, AcceptedProofsAreSound, AcceptedRunsAreSound}
 use Rattle.sf_cli.specs.Reads.{Reads}

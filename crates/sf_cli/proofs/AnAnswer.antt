@@ -1,10 +1,8 @@
 -- A file has an answer: each layer has one of its own, and with them one of the cases of an answer is there.
 -- Names: some-*, what is found at each step of the way.
-use Rattle.std.proofs.Common.{◌≡◌, ◌⊎◌, ℕ, List, Option, Some, None, codes, inl, inr, refl, sym, subst}
-use Rattle.std.specs.List.{All}
+use Rattle.std.proofs.Common.{◌≡◌, ℕ, List, Option, Some, None, codes, inl, inr, refl, sym, subst}
 use Rattle.sf_ast.specs.Surface.{Item}
 use Rattle.sf_calls.specs.FirstBreach.{Conditions}
-use Rattle.sf_core.specs.Assertions.Determined.{Determined}
 use Rattle.sf_core.specs.Program.Formed.{IsFormed}
 use Rattle.sf_core.specs.Program.Syntax.{Program}
 use Rattle.sf_elab.specs.Laws.{ElaboratedIsFormed, EachFileIsOne as EachTreeIsOne}

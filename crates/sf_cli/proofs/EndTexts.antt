@@ -1,7 +1,7 @@
 -- The text of the configuration in which a run has ended: there is one at most, and one where the cells are finitely
 -- many; and what a run answers is written as it.
 -- Names: rising-*, values-*, lines-*, end-*.
-use Rattle.std.proofs.Common.{◌≡◌, ◌≢◌, ◌∙◌, ◌⊎◌, ◌↔◌, ◌+◌, ◌<◌, ◌≤◌, ◌++◌, ℕ, zero, suc, [], ◌∷◌, List, Option, Some, None, inl, inr, ap, ap₂, arith, codes, get_or, length, length-take, refl, subst, sym}
+use Rattle.std.proofs.Common.{◌≡◌, ◌≢◌, ◌∙◌, ◌↔◌, ◌+◌, ◌<◌, ◌≤◌, ◌++◌, ℕ, zero, suc, [], ◌∷◌, List, Option, Some, None, inl, inr, ap, ap₂, arith, codes, get_or, length, length-take, refl, subst, sym}
 use Rattle.std.specs.FinMap.{get}
 use Rattle.std.specs.List.{flat_map}
 use Rattle.std.specs.List.Sorted.{IsStrictlyIncreasing}
@@ -16,7 +16,6 @@ use Rattle.sf_base.proofs.Elements.{contains-cons, contains-nil, contains-rest, 
 use Rattle.sf_base.proofs.Options.{some-none, some-once}
 use Rattle.sf_base.specs.HeapStore.{Cell, Heap, Store, own, shared}
 use Rattle.sf_base.specs.declared.ids.ProcId.{ProcId}
-use Rattle.sf_base.specs.declared.ids.ResId.{ResId}
 use Rattle.sf_base.specs.declared.ids.Var.TheVariants.{Own, Shared}
 use Rattle.sf_base.specs.declared.value.Value.{Value}
 use Rattle.sf_base.specs.declared.value.Value.TheVariants.{Nil as nil}
@@ -26,7 +25,7 @@ use Rattle.sf_core.specs.Program.Formed.{IsFormed, variable_count}
 use Rattle.sf_core.specs.Program.Syntax.{Procedure, Program, Resource}
 use Rattle.sf_foot.specs.declared.vars.Vars.{Vars}
 use Rattle.sf_foot.specs.Variables.{values_or_none as row}
-use Rattle.sf_heap.specs.Cells.{Cells, cell_of, heap_of}
+use Rattle.sf_heap.specs.Cells.{Cells, cell_of}
 use Rattle.sf_machine.specs.Ending.{Ends}
 use Rattle.sf_state.specs.Finishing.{IsFinishText, values_of}
 use Rattle.sf_state.specs.Names.{names_of, parameters}

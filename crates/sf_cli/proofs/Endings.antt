@@ -1,7 +1,6 @@
 -- What a run of status 0 promises: its text is that of an end which a numbered list of events reaches.
 -- Names: ended-*.
 use Rattle.std.proofs.Common.{◌≡◌, ℕ, List, Option, Some, None, arith, refl, subst}
-use Rattle.std.specs.Prelude.{slice_get}
 use Rattle.sf_base.specs.declared.ids.ProcId.{ProcId}
 use Rattle.sf_core.specs.Machine.Alone.{Outcome, finished, spent, waiting}
 use Rattle.sf_core.specs.Program.Syntax.{Procedure, Program}
@@ -13,11 +12,11 @@ use Rattle.sf_run.specs.Laws.{BeginningsAreStarts, EndsAreNumbered}
 use Rattle.sf_run.specs.Running.{ComesTo}
 use Rattle.sf_core.specs.Machine.Step.{procedure_at}
 use Rattle.sf_state.specs.Starts.{IsStartText}
-use Rattle.sf_cli.specs.Answer.{Ended, EndedRun, IsRun, MayHave, OrderAnswer, Reply, RunAnswer, RunFileAnswer, admitted_run, answer, entered, no_entry, not_built, refused_run, unproved, unread}
+use Rattle.sf_cli.specs.Answer.{Ended, EndedRun, IsRun, MayHave, OrderAnswer, Reply, RunFileAnswer, admitted_run, answer, entered, no_entry, not_built, refused_run, unproved, unread}
 use Rattle.sf_cli.specs.FileFault.{Admits}
 use Rattle.sf_cli.specs.Laws.{FinishedRunsHaveEnded}
-use Rattle.sf_cli.specs.Ran.{OutcomeAnswer, StateAnswer, no_start, ran}
-use Rattle.sf_words.specs.Words.{Order, Text, demo, order_of, recheck, run, verify}
+use Rattle.sf_cli.specs.Ran.{OutcomeAnswer, no_start, ran}
+use Rattle.sf_words.specs.Words.{Order, Text, demo, recheck, run, verify}
 
 -- what comes of a start, where it is answered with status 0
 ended-outcome : BeginningsAreStarts → EndsAreNumbered → (told : Option Files) (file bytes entry state_name text : Text)

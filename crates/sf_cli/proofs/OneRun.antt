@@ -24,16 +24,14 @@ use Rattle.sf_rules.specs.Setting.{Setting}
 use Rattle.sf_run.specs.Laws.{OutcomesAreUnique}
 use Rattle.sf_run.specs.Running.{ComesTo}
 use Rattle.sf_run.specs.Sequential.{IsSequential}
-use Rattle.sf_search.specs.Judge.{Judge, Verdict, fails, proof}
+use Rattle.sf_search.specs.Judge.{Judge, Verdict, proof}
 use Rattle.sf_search.specs.Laws.{VerdictsAreUnique}
-use Rattle.sf_state.specs.Entering.{IsEntry}
-use Rattle.sf_state.specs.Laws.{AreDetermined, EntryIsUnique, SameVars, StartIsUnique, StartsOnce}
+use Rattle.sf_state.specs.Laws.{AreDetermined, EntryIsUnique, SameVars, StartIsUnique}
 use Rattle.sf_state.specs.Starts.{IsStartFault, IsStartText}
-use Rattle.sf_state.specs.declared.fault.StartFault.{StartFault}
 use Rattle.sf_cli.proofs.EndTexts.{end-once}
 use Rattle.sf_cli.proofs.OneAnswer.{VerdictLayers, answer-program}
-use Rattle.sf_cli.specs.Answer.{IsProved, ProgramAnswer, RunAnswer, RunFileAnswer, VerdictAnswer, admitted_run, entered, no_entry, not_built, refused_run, unproved}
-use Rattle.sf_cli.specs.Laws.{EachFileIsDecided, EachRunHasOneAnswer}
+use Rattle.sf_cli.specs.Answer.{IsProved, ProgramAnswer, RunFileAnswer, VerdictAnswer, admitted_run, entered, no_entry, not_built, refused_run, unproved}
+use Rattle.sf_cli.specs.Laws.{EachRunHasOneAnswer}
 use Rattle.sf_cli.specs.Ran.{OutcomeAnswer, StateAnswer, no_start, ran}
 use Rattle.sf_cli.specs.Refusals.{refusal_text}
 use Rattle.sf_cli.specs.StartRefusals.{start_refusal_text}

@@ -14,7 +14,6 @@ use Rattle.sf_base.specs.declared.ids.ProcId.{ProcId}
 use Rattle.sf_base.specs.declared.ids.ResId.{ResId}
 use Rattle.sf_base.specs.declared.limits.TheConstants.{FILE_BYTES, STATE_BYTES}
 use Rattle.sf_core.specs.Machine.Alone.{Outcome, finished, spent, waiting}
-use Rattle.sf_core.specs.Machine.Step.{procedure_at}
 use Rattle.sf_core.specs.Program.Formed.{IsFormed}
 use Rattle.sf_core.specs.Program.ProgramView.{program_of}
 use Rattle.sf_core.specs.Program.Syntax.{Procedure, Program, Resource}
@@ -40,12 +39,11 @@ use Rattle.sf_state.specs.Stated.{lines_refusal, text_refusal}
 use Rattle.sf_state.specs.Says.{entries_of}
 use Rattle.sf_cli.proofs.EndTexts.{end-written}
 use Rattle.sf_cli.proofs.Replies.{increased-later, long-fault, long-reads, reply-unread}
-use Rattle.sf_cli.specs.Answer.{AreRun, HasRun, IsProved, IsRun, MayHave, NamesProgram, Reaches, Reply, RunAnswer, RunFileAnswer, admitted_run, answer, entered, no_entry, not_built, read_fault_text, refused_run, unproved}
+use Rattle.sf_cli.specs.Answer.{AreRun, MayHave, NamesProgram, Reaches, Reply, RunAnswer, admitted_run, answer, read_fault_text, refused_run}
 use Rattle.sf_cli.specs.declared.reply.Said.{Said}
 use Rattle.sf_cli.specs.Internal.Fetched.{IsUpTo, Fetched}
 use Rattle.sf_cli.specs.Internal.Printed.{IsOutcomeText, SaysFinish, stop_text}
 use Rattle.sf_cli.specs.Ran.{OutcomeAnswer, StateAnswer, no_start, ran, resource_name, spent_steps_text, spent_waits_text}
-use Rattle.sf_cli.specs.StartRefusals.{start_refusal_text}
 use Rattle.sf_words.specs.Words.{Text, Order, run}
 
 -- ---- procedures

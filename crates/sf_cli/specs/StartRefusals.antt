@@ -1,6 +1,6 @@
 -- StartRefusals: the kinds of why a procedure and a text are no start, and the line that says which, and of what.
 -- This project's own kinds, as those of a file and of a proof.
-use Rattle.std.specs.Prelude.{ℕ, List, [], ◌++◌, codes, decimal}
+use Rattle.std.specs.Prelude.{ℕ, [], ◌++◌, codes, decimal}
 use Rattle.sf_state.specs.declared.fault.StartFault.{StartFault}
 use Rattle.sf_state.specs.declared.fault.StartFault.TheVariants as fault
 use Rattle.sf_words.specs.Words.{Text}

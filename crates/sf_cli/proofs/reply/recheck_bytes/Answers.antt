@@ -1,4 +1,4 @@
-use Rattle.std.proofs.Common.{arith, refl, subst, sym}
+use Rattle.std.proofs.Common.{arith}
 use Rattle.std.proofs.lemmas.Result.{IfOk-weaker}
 use Rattle.sf_base.proofs.Results.{ok-both}
 use Rattle.sf_core.specs.Program.ProgramView.{program_of}

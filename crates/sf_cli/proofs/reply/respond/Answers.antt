@@ -1,7 +1,6 @@
-use Rattle.std.proofs.Common.{Option, Some, subst, sym}
+use Rattle.std.proofs.Common.{Option, subst, sym}
 use Rattle.std.proofs.lemmas.Result.{IfOk-weaker}
 use Rattle.sf_cli.proofs.Ranges.{range-of}
-use Rattle.sf_cli.proofs.Replies.{reply-usage}
 use Rattle.sf_cli.specs.Answer.{NamesProgram, Reaches, Reply}
 use Rattle.sf_words.specs.Words.{Order}
 use Rattle.sf_words.specs.WordsOf.{order_as, words_of}

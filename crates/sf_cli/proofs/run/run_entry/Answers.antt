@@ -1,4 +1,4 @@
-use Rattle.std.proofs.Common.{◌≡◌, ◌<◌, ◌∙◌, length, subst, sym, true≢false}
+use Rattle.std.proofs.Common.{◌<◌, ◌∙◌, length, subst, sym, true≢false}
 use Rattle.std.proofs.lemmas.Result.{IfOk-weaker}
 use Rattle.sf_core.specs.Program.ProgramView.{program_of}
 use Rattle.sf_precise.specs.declared.arranged.Arranged.{Arranged}

@@ -1,4 +1,4 @@
-use Rattle.std.proofs.Common.{◌<◌, arith, refl, subst, sym}
+use Rattle.std.proofs.Common.{◌<◌, arith, subst, sym}
 use Rattle.std.proofs.lemmas.Result.{IfOk-weaker}
 use Rattle.sf_base.specs.declared.limits.TheConstants.{STATE_BYTES}
 use Rattle.sf_run.specs.Running.{program_in}

@@ -1,4 +1,4 @@
-use Rattle.std.proofs.Common.{◌≡◌, ◌<◌, ◌∙◌, ℕ, arith, subst, sym}
+use Rattle.std.proofs.Common.{◌<◌, ◌∙◌, ℕ, arith, subst, sym}
 use Rattle.sf_cli.proofs.Accepted.{accepted-reply, accepting-small}
 use Rattle.sf_cli.proofs.Complete.{complete-reply, complete-status}
 use Rattle.sf_cli.proofs.Endings.{ended-reply}
