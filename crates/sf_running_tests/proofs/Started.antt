@@ -6,7 +6,6 @@ use Rattle.sf_base.specs.declared.ids.ProcId.{ProcId}
 use Rattle.sf_core.specs.Program.Syntax.{Procedure, Program}
 use Rattle.sf_foot.specs.declared.start.Start.{Start}
 use Rattle.sf_foot.specs.Starting.{StartsWith}
-use Rattle.sf_lines.specs.Lines.{Text}
 use Rattle.sf_state.specs.Starts.{DecidesStart}
 
 -- a place of a list has an element
@@ -15,7 +14,7 @@ element-at [] k l = absurd (omega (arith, l))
 element-at (x ∷ xs) zero l = (x, refl)
 element-at (x ∷ xs) (suc k) l = element-at xs k (omega (arith, l))
 
-pub text-starts : (p : Program) (f : ProcId) (text : Text) (s : Start) → f.0 < length p.procedures
+pub text-starts : (p : Program) (f : ProcId) (text : List ℕ) (s : Start) → f.0 < length p.procedures
     → IfSome (slice_get p.procedures f.0) (λ g. DecidesStart p f g text (Ok s))
     → StartsWith p f s.vars s.heap s.parts.items
 text-starts p f text s below said =

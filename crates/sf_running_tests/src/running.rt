@@ -264,26 +264,25 @@ fn children_end_in_one_way_in_either_order(rt: HostRuntime) -> Result<(), Fail> 
     let entry = TaskPath::entry();
     let left = entry.child(Turn::Left);
     let right = entry.child(Turn::Right);
-    let orders: [[Move; 6]; 2] = [
-        [
-            (entry, 1),
-            (left, 2),
-            (left, 3),
-            (right, 4),
-            (right, 5),
-            (entry, 6),
-        ],
-        [
-            (entry, 1),
-            (right, 4),
-            (left, 2),
-            (right, 5),
-            (left, 3),
-            (entry, 6),
-        ],
+    let left_first: [Move; 6] = [
+        (entry, 1),
+        (left, 2),
+        (left, 3),
+        (right, 4),
+        (right, 5),
+        (entry, 6),
     ];
+    let in_turns: [Move; 6] = [
+        (entry, 1),
+        (right, 4),
+        (left, 2),
+        (right, 5),
+        (left, 3),
+        (entry, 6),
+    ];
+    let orders: [&[Move]; 2] = [&left_first, &in_turns];
     for events in orders {
-        let text = ended(alloc, &p, &events)?.expect(&rt, "an end");
+        let text = ended(alloc, &p, events)?.expect(&rt, "an end");
         assert!(rt; text.as_slice() == b"a = 1\nb = 2\n".as_slice());
     }
     Ok(())
