@@ -1,2 +1,7 @@
 pub mod Started
 pub mod Ordering
+pub mod Names
+pub mod NamesBehind
+pub mod NamesInTrees
+pub mod NamesOfPrograms
+pub mod NamesOfTokens

@@ -1,0 +1,27 @@
+//! Laws that join reading files with writing states. Each function only cites other laws; its contract
+//! is the law.
+
+ghost use Rattle.sf_running_tests.specs.Laws.{ProgramsThatAreReadHaveNames, WrittenStatesOfFilesReadBack};
+
+use sf_elab::laws::{elaborated_is_formed, names_are_unique};
+use sf_lex::laws::each_token_is_its_text;
+use sf_state::laws::written_states_read_back;
+
+/// The names of each program that a file is are names that a state's text can have, and those of one
+/// kind differ.
+pub fn programs_that_are_read_have_names()
+    ensures { ProgramsThatAreReadHaveNames }
+{
+    each_token_is_its_text();
+    names_are_unique();
+}
+
+/// What is written of variables and cells of a program that a file is, is read back as these, where
+/// values, cells and the text are within the limits.
+pub fn written_states_of_files_read_back()
+    ensures { WrittenStatesOfFilesReadBack }
+{
+    programs_that_are_read_have_names();
+    elaborated_is_formed();
+    written_states_read_back();
+}
