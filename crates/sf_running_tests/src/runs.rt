@@ -1,14 +1,16 @@
 //! Runs of one task. What they end with, and how many events they have, is worked out by hand.
 
-ghost use Rattle.std.specs.Prelude.{◌≡◌, IfSome};
+ghost use Rattle.std.specs.Prelude.{◌≡◌, ◌≤◌, ◌<◌, IfSome, IsTrue, length};
+ghost use Rattle.sf_base.specs.declared.limits.TheConstants.{STEPS as MOST_STEPS, WAITS as MOST_WAITS};
 ghost use Rattle.sf_check.specs.Accepted.{arranged_in};
+ghost use Rattle.sf_core.specs.Program.ProgramView.{program_of};
+ghost use Rattle.sf_foot.specs.Starting.{StartsWith};
+ghost use Rattle.sf_run.specs.Sequential.{IsSequential};
 
-use crate::files::{fitted, start_of};
+use crate::files::{Entered, fitted, start_of};
 use crate::running::{TURNED, TWO_CELLS};
-use sf_base::ProcId;
 use sf_base::limits::{STEPS, WAITS};
 use sf_check::{Proof, check};
-use sf_foot::Finish;
 use sf_io::OpenGate;
 use sf_precise::Arranged;
 use sf_run::{Budget, Stop, is_sequential, run};
@@ -18,21 +20,14 @@ use std::alloc::{AllocError, Global};
 use std::test::Fail;
 use std::thread::Threads;
 
-/// What a run answers: the text of what it ends with, or why it stops. A task is told by how many
-/// turns its path has.
-fn told(
-    alloc: Global,
-    p: &Arranged,
-    f: ProcId,
-    answer: Result<Finish, Stop>,
-) -> Result<Vec<u8>, AllocError> {
-    let line = match answer {
-        Ok(finish) => return write(alloc, p, f, &finish),
-        Err(Stop::Steps(task, used)) => format!(in alloc; "steps {} {used}", task.len())?,
-        Err(Stop::Waits(task, r, tries)) => {
-            format!(in alloc; "waits {} {} {tries}", task.len(), r.0)?
+/// Why a run stops. A task is told by how many turns its path has.
+fn told(alloc: Global, stop: &Stop) -> Result<Vec<u8>, AllocError> {
+    let line = match stop {
+        Stop::Steps(task, used) => format!(in alloc; "steps {} {}", task.len(), *used)?,
+        Stop::Waits(task, r, tries) => {
+            format!(in alloc; "waits {} {} {}", task.len(), r.0, *tries)?
         }
-        Err(Stop::OutOfMemory) => return Err(AllocError),
+        Stop::OutOfMemory => return Err(AllocError),
     };
     Vec::from_slice(alloc, line.as_bytes())
 }
@@ -48,9 +43,37 @@ fn proof_of<'a>(alloc: Global, p: &'a Arranged) -> Option<Proof<'a>>
 }
 
 /// Whether a run may be given that.
-fn is_within(budget: Budget) -> bool {
+fn is_within(budget: Budget) -> bool
+    ensures steps { IsTrue result → (1 ≤ budget.steps) × (budget.steps ≤ MOST_STEPS) }
+    ensures waits { IsTrue result → (1 ≤ budget.waits) × (budget.waits ≤ MOST_WAITS) }
+{
     let steps = 1 <= budget.steps && budget.steps <= STEPS;
     steps && 1 <= budget.waits && budget.waits <= WAITS
+}
+
+/// What the run answers: the text of what it ends with, or why it stops.
+fn run_text<R: Threads + Sync>(
+    rt: &R,
+    alloc: Global,
+    p: &Arranged,
+    proof: &Proof<'_>,
+    entered: Entered,
+    budget: Budget,
+) -> Result<Vec<u8>, AllocError>
+    requires proved { arranged_in proof.now ≡ p.now }
+    requires within { entered.f.0 < length p.now.program.procedures.items }
+    requires starts { StartsWith (program_of p.now.program) entered.f entered.start.vars
+        entered.start.heap entered.start.parts.items }
+    requires sequential { IsSequential (program_of p.now.program) entered.f }
+    requires steps { (1 ≤ budget.steps) × (budget.steps ≤ MOST_STEPS) }
+    requires waits { (1 ≤ budget.waits) × (budget.waits ≤ MOST_WAITS) }
+{
+    let gate = OpenGate;
+    let Entered { f, start } = entered;
+    match run(rt, alloc, proof, f, start, budget, &gate) {
+        Ok(finish) => write(alloc, p, f, &finish),
+        Err(stop) => told(alloc, &stop),
+    }
 }
 
 /// A run: its procedure, the text of its start, and its budget.
@@ -65,19 +88,20 @@ fn answer<R: Threads + Sync>(
     row: Row<'_>,
 ) -> Result<Option<Vec<u8>>, AllocError> {
     let (name, text, budget) = row;
-    let gate = OpenGate;
     let Some(proof) = proof_of(alloc, p) else {
         return Ok(None);
     };
     let Some(entered) = start_of(alloc, p, name, text) else {
         return Ok(None);
     };
-    let f = entered.f;
-    if !is_within(budget) || !is_sequential(alloc, &p.program, f)? {
+    if !is_within(budget) {
         return Ok(None);
     }
-    let answer = run(rt, alloc, &proof, f, entered.start, budget, &gate);
-    Ok(Some(told(alloc, p, f, answer)?))
+    if !is_sequential(alloc, &p.program, entered.f)? {
+        return Ok(None);
+    }
+    let text = run_text(rt, alloc, p, &proof, entered, budget)?;
+    Ok(Some(text))
 }
 
 /// So many events and tries.
