@@ -23,13 +23,13 @@ use Rattle.sf_core.specs.declared.command.Expr.{Expr}
 use Rattle.sf_core.specs.Assertions.InOrder.{IsInOrder}
 use Rattle.sf_core.specs.Assertions.Sat.{SameOutside, value}
 use Rattle.sf_core.specs.Assertions.Scopes.{is_made_by}
-use Rattle.sf_core.specs.Program.Syntax.{Conjuncts, level}
+use Rattle.sf_core.specs.Program.Syntax.{Conjuncts, Level, level}
 use Rattle.sf_heap.specs.Cells.{Cells, HasCell, cell_of, heap_of}
 use Rattle.sf_foot.specs.declared.known.Known.{Known}
 use Rattle.sf_foot.specs.Footprint.{HasNoFootprint, IsFootprint}
 use Rattle.sf_foot.specs.Internal.Known.{Agrees, IsWithin, is_told, told}
 use Rattle.sf_foot.specs.Internal.Places.{part_at}
-use Rattle.sf_foot.specs.Internal.Taking.{AllTake, AreReady, Overflows, Takes}
+use Rattle.sf_foot.specs.Internal.Taking.{AllTake, AreReady, LevelTakes, Overflows, Takes}
 use Rattle.sf_foot.proofs.Knowing.{agrees-before}
 use Rattle.sf_foot.proofs.Meaning.{have-all, have-level, level-from_sat, sat-from_level}
 use Rattle.sf_foot.proofs.Parts.{Distinct}
@@ -58,7 +58,7 @@ by_cmp = λ i x y. at x y i
     at x y = grind (arith, nat_tests)
 
 -- locations that differ, as std says it
-distinct-to : (xs : List ℕ) → Distinct xs → IsDistinct eqb xs
+pub distinct-to : (xs : List ℕ) → Distinct xs → IsDistinct eqb xs
 unfolding IsDistinct
 distinct-to [] d = tt
 distinct-to (x ∷ xs) d = (others x xs d.0, distinct-to xs d.1)
@@ -112,6 +112,37 @@ distinct-too_few found ls rises same h d =
 
 among : (found : List ℕ) (l : ℕ) → Contains found l → is_among l found ≡ true
 among found l c = (is_member-Decides Decides-eqb found l).1 c
+
+-- the locations that a level takes are those of a footprint where they differ, in whatever order they are named
+pub foot-taken : (heap : Cells) (vars : Var → Value) (a : Level Expr) (found ls : List ℕ)
+    → LevelTakes heap a (value vars) (λ n. nil) found → Distinct found → ((l : ℕ) → Contains ls l ↔ Contains found l)
+    → IsFootprint a vars (heap_of heap) ls
+foot-taken heap vars a found ls t d same = record {
+  part = part_at found (heap_of heap);
+  foot = record {
+    rest = rest_of (part_at found (heap_of heap)) (heap_of heap);
+    splits = splits-rest (λ q c e. inside (is_among q found) (heap_of heap q) c e);
+    sat = sat-from_level heap (value vars) a (λ n. nil) found t d;
+  };
+  at = λ l. (λ n. (same l).1 (from l n (is_among l found) refl), λ c e. to l (among found l ((same l).0 c)) e);
+}
+  where
+    inside : (t : Bool) (o : Option Cell) (c : Cell) → cond t o None ≡ Some c → o ≡ Some c
+    inside true o c e = e
+    inside false o c e = absurd (none-some c e)
+
+    from : (l : ℕ) → part_at found (heap_of heap) l ≢ None → (t : Bool) → is_among l found ≡ t → Contains found l
+    from l n true i = (is_member-Decides Decides-eqb found l).0 i
+    from l n false i = absurd (n (ap (λ (t : Bool). cond t (heap_of heap l) None) i))
+
+    use_cell : (o : Option _) → is_some o ≡ true → option_map cell_of o ≡ None → ⊥
+    use_cell None e f = false≢true e
+    use_cell (Some v) e f = none-some (cell_of v) (sym f)
+
+    to : (l : ℕ) → is_among l found ≡ true → part_at found (heap_of heap) l ≡ None → ⊥
+    to l i e = use_cell (get heap l)
+        (have-among heap found l (have-level heap (value vars) a (λ n. nil) found t) i)
+        (sym (ap (λ (t : Bool). cond t (heap_of heap l) None) i) ∙ e)
 
 -- A level whose conjuncts are taken in a heap
 module _ (heap : Cells) (vars : Var → Value) (made : Scope) (cs : Conjuncts Expr) (k : Known)
@@ -169,33 +200,9 @@ module _ (heap : Cells) (vars : Var → Value) (made : Scope) (cs : Conjuncts Ex
 
     -- else the locations that were found are those of the footprint
     pub foot-found : length found ≤ length ls → IsFootprint (level made cs) vars (heap_of heap) ls
-    foot-found h = record {
-      part = part_at found (heap_of heap);
-      foot = record {
-        rest = rest_of (part_at found (heap_of heap)) (heap_of heap);
-        splits = splits-rest (λ q c e. inside (is_among q found) (heap_of heap q) c e);
-        sat = sat-from_level heap (value vars) (level made cs) (λ n. nil) found
-            (values, begin-outside values (agrees-before p k after values t.grows values-agree), taken)
-            (distinct-enough found ls rises same h);
-      };
-      at = λ l. (λ n. (same l).1 (from l n (is_among l found) refl), λ c e. to l (among found l ((same l).0 c)) e);
-    }
-      where
-        inside : (t : Bool) (o : Option Cell) (c : Cell) → cond t o None ≡ Some c → o ≡ Some c
-        inside true o c e = e
-        inside false o c e = absurd (none-some c e)
-
-        from : (l : ℕ) → part_at found (heap_of heap) l ≢ None → (t : Bool) → is_among l found ≡ t → Contains found l
-        from l n true i = (is_member-Decides Decides-eqb found l).0 i
-        from l n false i = absurd (n (ap (λ (t : Bool). cond t (heap_of heap l) None) i))
-
-        use_cell : (o : Option _) → is_some o ≡ true → option_map cell_of o ≡ None → ⊥
-        use_cell None e f = false≢true e
-        use_cell (Some v) e f = none-some (cell_of v) (sym f)
-
-        to : (l : ℕ) → is_among l found ≡ true → part_at found (heap_of heap) l ≡ None → ⊥
-        to l i e = use_cell (get heap l) (have-among heap found l have i)
-            (sym (ap (λ (t : Bool). cond t (heap_of heap l) None) i) ∙ e)
+    foot-found h = foot-taken heap vars (level made cs) found ls
+        (values, begin-outside values (agrees-before p k after values t.grows values-agree), taken)
+        (distinct-enough found ls rises same h) same
 
     -- and each has a cell
     pub foot-there : (l : ℕ) → Contains ls l → HasCell heap l

@@ -12,3 +12,7 @@ pub mod Ready
 pub mod Takings
 pub mod Taken
 pub mod Feet
+pub mod Learning
+pub mod Walked
+pub mod Outcomes
+pub mod FootDecided

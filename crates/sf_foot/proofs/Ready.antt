@@ -89,14 +89,15 @@ module _ {E : Type 0} where
 
 -- What a conjunct needs
 module _ {E : Type 0} where
-  existential-is : (n : ℕ) (x : Operand E) → is_existential n x ≡ true → Exists n ≡ x
+  -- an existential that is an operand, or a value of fields
+  pub existential-is : (n : ℕ) (x : Operand E) → is_existential n x ≡ true → Exists n ≡ x
   existential-is n (Evaluates x) e = absurd (true≢false (sym e))
   existential-is n (Exists m) e = ap Exists (one m n e)
     where
       one : (m n : ℕ) → (m == n) ≡ true → n ≡ m
       one m n i = grind (arith, nat_tests)
 
-  occurs-fields : (n : ℕ) (fs : List (FieldId × Operand E)) → is_in_fields n fs ≡ true
+  pub occurs-fields : (n : ℕ) (fs : List (FieldId × Operand E)) → is_in_fields n fs ≡ true
       → OccursInFields fs (Exists n)
   occurs-fields n [] e = absurd (true≢false (sym e))
   occurs-fields n (f ∷ fs) e = either (or_cases (is_existential n f.1) (is_in_fields n fs) e)

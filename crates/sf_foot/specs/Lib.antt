@@ -1,4 +1,5 @@
 pub mod Footprint
 pub mod Internal
+pub mod Laws
 pub mod Starting
 pub mod Variables

@@ -6,13 +6,15 @@
 //! - `taking`: conjunct by conjunct, which cells an assertion takes.
 //! - `finding`: the footprint of an assertion.
 //! - `start`: what a run starts with, and what it ends with.
+//! - `laws`: whether an assertion has a footprint is decided.
 //!
-//! `specs/` says what the value of a variable is (Variables), what a footprint is (Footprint), and
-//! with which variables and cells a procedure starts (Starting).
+//! `specs/` says what the value of a variable is (Variables), what a footprint is (Footprint), with
+//! which variables and cells a procedure starts (Starting), and what holds of these (Laws).
 #![tactic(auto)]
 
 mod finding;
 mod known;
+pub mod laws;
 mod start;
 mod taking;
 mod vars;

@@ -17,11 +17,11 @@ use Rattle.sf_core.specs.Program.Formed.{IsFormed}
 use Rattle.sf_core.specs.Program.Syntax.{Assertion, Procedure, Program}
 use Rattle.sf_heap.specs.Cells.{Cells, cell_of, heap_of}
 use Rattle.sf_foot.specs.declared.vars.Vars.{Vars}
+use Rattle.sf_foot.specs.Laws.{FootprintIsDecided, HasFootprintOrNone}
 use Rattle.sf_foot.specs.Starting.{StartsWith}
 use Rattle.sf_foot.specs.Variables.{value_of}
 use Rattle.sf_lines.specs.Lines.{Text}
 use Rattle.sf_precise.specs.Annotations.{annotations_in}
-use Rattle.sf_precise.specs.Laws.{DeterminedHasOrder, OrderKeepsMeaning, OrderedIsDetermined}
 use Rattle.sf_state.specs.declared.fault.StartFault.{StartFault}
 use Rattle.sf_state.specs.declared.fault.StartFault.TheVariants as fault
 use Rattle.sf_state.specs.Entering.{HoldsNone}
@@ -34,7 +34,7 @@ use Rattle.sf_state.proofs.Deciding.{precise-notes}
 use Rattle.sf_state.proofs.StateShape.{state-bounds, state-fits}
 use Rattle.sf_state.proofs.Without.{member-decides, without-other}
 use Rattle.sf_state.proofs.StateExists.{state-exists}
-use Rattle.sf_state.proofs.TurnsDecided.{AllDistinct, FootOrNone, foot-decided, turns-decided, turns-distinct, turns-left, turns-parts, turns-there}
+use Rattle.sf_state.proofs.TurnsDecided.{AllDistinct, turns-decided, turns-distinct, turns-left, turns-parts, turns-there}
 use Rattle.sf_state.proofs.UnitExists.{unit-exists}
 
 -- Variables and cells of a procedure that holds no resource
@@ -65,7 +65,7 @@ module _ (p : Program) (f : ProcId) (g : Procedure) (text : Text) (vars : Vars) 
           ((member-decides (concat ps) l).0 m) (ap (option_map cell_of) (is_some-false (get heap l) h)))
 
   -- they start, or one of the two reasons holds
-  start-decided : ((a : Assertion) → Contains (assertions_of p g) a → (h : Cells) → FootOrNone a (value_of vars) (heap_of h))
+  start-decided : ((a : Assertion) → Contains (assertions_of p g) a → (h : Cells) → HasFootprintOrNone a.level (value_of vars) (heap_of h))
       → ((parts : List (List ℕ)) × (unit : ℕ) × IsStartText p f g text vars heap parts unit)
       ⊎ ((e : StartFault) × IsStartFault p g text e)
   start-decided tell = go (turns-decided (value_of vars) (assertions_of p g) heap tell)
@@ -93,13 +93,14 @@ module _ (p : Program) (f : ProcId) (g : Procedure) (text : Text) (vars : Vars) 
             inl (t.0, unit.0, record { state = state; starts = start-made t.0 t.1 t.2 empty; first_unit = unit.1 })
       ]
 
-pub start_exists : DeterminedHasOrder → OrderedIsDetermined → OrderKeepsMeaning → StartExists
-unfolding StartExists
-start_exists orders ordered keeps p f g text formed determined there free =
+pub start_exists : FootprintIsDecided → StartExists
+unfolding StartExists FootprintIsDecided
+start_exists decided p f g text formed determined there free =
     go (text_refusal p.fields (names_of p g) text) refl
   where
-    tell : (vars : Var → Value) (a : Assertion) → Contains (assertions_of p g) a → (h : Cells) → FootOrNone a vars (heap_of h)
-    tell vars a c h = foot-decided orders ordered keeps a vars h
+    tell : (vars : Var → Value) (a : Assertion) → Contains (assertions_of p g) a → (h : Cells)
+        → HasFootprintOrNone a.level vars (heap_of h)
+    tell vars a c h = decided a.level vars h
         (All-contains (λ (b : Assertion). Determined b.level) (annotations_in p) a determined (precise-notes p f g a there c))
 
     go : (o : Option StartFault) → text_refusal p.fields (names_of p g) text ≡ o

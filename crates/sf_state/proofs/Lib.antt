@@ -17,16 +17,12 @@ pub mod Beginning
 pub mod Deciding
 pub mod StateShape
 pub mod Rising
-pub mod FootDecided
 pub mod Spelling
 pub mod Back
 pub mod Naming
 pub mod Once
 pub mod Returned
 pub mod Exists
-pub mod Learning
-pub mod Walked
-pub mod Taking
 pub mod UnitExists
 pub mod StateExists
 pub mod TurnsDecided

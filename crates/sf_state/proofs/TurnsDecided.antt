@@ -1,8 +1,8 @@
 -- Assertions of which each has a footprint or none have footprints in turn, or one is the first that is unmet.
--- Names: `foot-LAW`, `turns-LAW`, `removed-LAW` for cells that are taken away.
-use Rattle.std.proofs.Common.{◌≡◌, ◌≢◌, ◌⊎◌, ◌<◌, ◌≤◌, ◌==◌, ◌||◌, ℕ, suc, Bool, true, false, cond, nat_eq, is_some, List, [], ◌∷◌, Option, Some, None, Contains, take, refl, sym, ap, ◌∙◌, subst, inl, inr, arith}
+-- Names: `turns-LAW`, `removed-LAW` for cells that are taken away.
+use Rattle.std.proofs.Common.{◌≡◌, ◌≢◌, ◌⊎◌, ◌<◌, ◌≤◌, ◌||◌, ℕ, suc, Bool, true, false, cond, nat_eq, is_some, List, [], ◌∷◌, Option, Some, None, Contains, take, refl, sym, ap, ◌∙◌, subst, inl, inr, arith}
 use Rattle.std.specs.FinMap.{get, get-remove, keys, remove}
-use Rattle.std.specs.List.{AllByRecursion, AllPairs, AllZip, IsDistinct, concat, list_any}
+use Rattle.std.specs.List.{AllPairs, AllZip, IsDistinct, concat}
 use Rattle.std.specs.Option.{option_map, option_or}
 use Rattle.std.specs.Set.{is_member}
 use Rattle.std.proofs.lemmas.Bool.{false≢true}
@@ -12,21 +12,15 @@ use Rattle.std.proofs.lemmas.List.Kept.{AllPairs-from_increasing}
 use Rattle.std.proofs.lemmas.Option.{none-some}
 use Rattle.sf_base.specs.declared.ids.Var.{Var}
 use Rattle.sf_base.specs.declared.value.Value.{Value}
-use Rattle.sf_base.specs.declared.value.Value.TheVariants.{Nil as nil}
 use Rattle.sf_base.specs.HeapStore.{Heap}
 use Rattle.sf_base.proofs.Elements.{contains-cons, contains-nil, contains-rest, pairs-head}
 use Rattle.sf_base.proofs.MapSplits.{map-same}
 use Rattle.sf_base.proofs.Options.{is_some-map, some-or_none}
-use Rattle.sf_core.specs.Assertions.Determined.{Determined}
-use Rattle.sf_core.specs.declared.command.Expr.{Expr}
-use Rattle.sf_core.specs.Program.Syntax.{Assertion, Level}
+use Rattle.sf_core.specs.Program.Syntax.{Assertion}
 use Rattle.sf_heap.specs.Cells.{Cells, FieldValues, cell_of, heap_of}
 use Rattle.sf_foot.specs.Footprint.{HasNoFootprint, IsFootprint}
-use Rattle.sf_foot.proofs.Parts.{Distinct}
-use Rattle.sf_precise.specs.Laws.{DeterminedHasOrder, OrderKeepsMeaning, OrderedIsDetermined}
-use Rattle.sf_precise.specs.Order.{IsOrderOfLevel}
+use Rattle.sf_foot.specs.Laws.{HasFootprintOrNone}
 use Rattle.sf_state.specs.Starts.{HaveFootprints, IsUnmet, without}
-use Rattle.sf_state.proofs.FootDecided.{IsFootprintOnce, footprint-decided}
 use Rattle.sf_state.proofs.NextFound.{distinct-append}
 use Rattle.sf_state.proofs.Once.{finish-keys}
 use Rattle.sf_state.proofs.Rising.{rising-keys}
@@ -55,47 +49,14 @@ removed-heap (l ∷ ls) heap = map-same _ _ (λ q. ap (option_map cell_of) (get-
     both true b o = refl
     both false b o = refl
 
--- a footprint of distinct locations, or that there is none
-abbrev pub FootOrNone : Assertion → (Var → Value) → Heap → Type 0
-FootOrNone a vars heap = ((ls : List ℕ) × IsFootprint a.level vars heap ls × Distinct ls) ⊎ HasNoFootprint a.level vars heap
-
--- a determined assertion has the one or the other
-pub foot-decided : DeterminedHasOrder → OrderedIsDetermined → OrderKeepsMeaning → (a : Assertion) (vars : Var → Value)
-    (heap : Cells) → Determined a.level → FootOrNone a vars (heap_of heap)
-foot-decided orders ordered keeps a vars heap d =
-    let o = orders a.level d in
-    go o.0 o.1 (footprint-decided heap vars o.0 (ordered a.level o.0 o.1).1)
-  where
-    go : (o : Level Expr) → IsOrderOfLevel a.level o
-        → ((ls : List ℕ) × IsFootprintOnce o vars heap ls) ⊎ HasNoFootprint o vars (heap_of heap)
-        → FootOrNone a vars (heap_of heap)
-    go o ord (inl f) = inl (
-      f.0,
-      record {
-        part = f.1.footprint.part;
-        foot = record {
-          rest = f.1.footprint.foot.rest;
-          splits = f.1.footprint.foot.splits;
-          sat = (keeps a.level o vars (λ n. nil) f.1.footprint.part ord).1 f.1.footprint.foot.sat;
-        };
-        at = f.1.footprint.at;
-      },
-      f.1.distinct,
-    )
-    go o ord (inr out) = inr (λ part f. out part (record {
-      rest = f.rest;
-      splits = f.splits;
-      sat = (keeps a.level o vars (λ n. nil) part ord).0 f.sat;
-    }))
-
 -- each of these locations differs from those after it, in each list
 abbrev pub AllDistinct : List (List ℕ) → Type 0
 AllDistinct [] = Unit {0}
-AllDistinct (ls ∷ ps) = Distinct ls × AllDistinct ps
+AllDistinct (ls ∷ ps) = IsDistinct nat_eq ls × AllDistinct ps
 
 -- assertions have footprints in turn, or one of them is the first that is unmet
 pub turns-decided : (vars : Var → Value) (notes : List Assertion) (heap : Cells)
-    → ((a : Assertion) → Contains notes a → (h : Cells) → FootOrNone a vars (heap_of h))
+    → ((a : Assertion) → Contains notes a → (h : Cells) → HasFootprintOrNone a.level vars (heap_of h))
     → ((ps : List (List ℕ)) × HaveFootprints vars (heap_of heap) notes ps × AllDistinct ps)
     ⊎ ((k : ℕ) × IsUnmet vars (heap_of heap) notes k)
 turns-decided vars [] heap tell = inl ([], refl, tt)
@@ -103,7 +64,7 @@ turns-decided vars (a ∷ notes) heap tell =
     go (tell a ((contains-cons a notes a).1 (inl refl)) heap)
     (λ ls. turns-decided vars notes (removed ls heap) (λ b c. tell b (contains-rest a notes b c)))
   where
-    go : FootOrNone a vars (heap_of heap)
+    go : HasFootprintOrNone a.level vars (heap_of heap)
         → ((ls : List ℕ) → ((ps : List (List ℕ)) × HaveFootprints vars (heap_of (removed ls heap)) notes ps × AllDistinct ps)
         ⊎ ((k : ℕ) × IsUnmet vars (heap_of (removed ls heap)) notes k))
         → ((ps : List (List ℕ)) × HaveFootprints vars (heap_of heap) (a ∷ notes) ps × AllDistinct ps)
@@ -170,26 +131,6 @@ turns-there vars heap (a ∷ notes) (ls ∷ ps) f l c e = elim (Contains-append_
     gone true m = without-taken ls heap l m
     gone false m = without-other ls heap l m ∙ e
 
-distinct-list : (ls : List ℕ) → Distinct ls → IsDistinct nat_eq ls
-unfolding IsDistinct
-distinct-list [] d = tt
-distinct-list (l ∷ ls) d = (others ls d.0, distinct-list ls d.1)
-  where
-    first : (a b : Bool) → a || b ≡ false → a ≡ false
-    first true b e = e
-    first false b e = refl
-
-    second : (a b : Bool) → a || b ≡ false → b ≡ false
-    second true b e = absurd (false≢true (sym e))
-    second false b e = e
-
-    others : (ms : List ℕ) → list_any (λ m. l == m) ms ≡ false → AllByRecursion (λ m. nat_eq l m ≡ false) ms
-    others [] e = tt
-    others (m ∷ ms) e = (
-      first (l == m) (list_any (λ m. l == m) ms) e,
-      others ms (second (l == m) (list_any (λ m. l == m) ms) e),
-    )
-
 -- and no two of their locations are one
 pub turns-distinct : (vars : Var → Value) (heap : Heap) (notes : List Assertion) (ps : List (List ℕ))
     → HaveFootprints vars heap notes ps → AllDistinct ps → IsDistinct nat_eq (concat ps)
@@ -198,7 +139,7 @@ turns-distinct vars heap [] [] f d = tt
 turns-distinct vars heap [] (ls ∷ ps) f d = absurd cc
 turns-distinct vars heap (a ∷ notes) [] f d = absurd f
 turns-distinct vars heap (a ∷ notes) (ls ∷ ps) f d =
-    distinct-append ls (concat ps) (distinct-list ls d.0) (turns-distinct vars (without ls heap) notes ps f.1 d.1)
+    distinct-append ls (concat ps) d.0 (turns-distinct vars (without ls heap) notes ps f.1 d.1)
     (λ l c. apart l c (is_member nat_eq (concat ps) l) refl)
   where
     apart : (l : ℕ) → Contains ls l → (b : Bool) → is_member nat_eq (concat ps) l ≡ b

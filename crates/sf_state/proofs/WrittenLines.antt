@@ -7,7 +7,6 @@ use Rattle.sf_base.specs.declared.value.Value.{Value}
 use Rattle.sf_base.specs.declared.value.Value.TheVariants.{Nil as nil}
 use Rattle.sf_lex.specs.Whole.{is_name}
 use Rattle.sf_lines.specs.Lines.{Text, lines, only, split_once, words}
-use Rattle.sf_lines.proofs.Splitting.{words-space}
 use Rattle.sf_state.specs.declared.fields.Fields.TheVariants.{Are}
 use Rattle.sf_state.specs.declared.fields.Setting.{Setting}
 use Rattle.sf_state.specs.declared.line.Entry.{Entry}
@@ -68,8 +67,7 @@ written-variable fields names name number v s place h =
     ∙ split-sign 61 (name ++ 32 ∷ []) (32 ∷ value_text v)
     (all-append (λ b. not (b == 61)) name (32 ∷ []) s.no_sign refl) in
     let left : words (name ++ 32 ∷ []) ≡ name ∷ [] = words-before name [] s.plain in
-    let right : words (32 ∷ value_text v) ≡ value_text v ∷ [] =
-    words-space 32 (value_text v) refl ∙ words-plain (value_text v) plain in
+    let right : words (32 ∷ value_text v) ≡ value_text v ∷ [] = words-plain (value_text v) plain in
     let set : variable_said names (split_once 61 (name ++ codes " = " ++ value_text v)) ≡ Variable number v =
     ap (variable_said names) parts ∙ ap₂ (λ a b. assigned names (only a) (only b)) left right
     ∙ ap (variable_with names name) (value-back v h)

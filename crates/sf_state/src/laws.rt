@@ -4,7 +4,7 @@ ghost use Rattle.sf_state.specs.Laws.{EntryExists, EntryIsUnique, FinishTextExis
 
 use sf_calls::laws::sets_exist;
 use sf_core::laws::assertions::determined_has_one_footprint;
-use sf_precise::laws::{determined_has_order, order_keeps_meaning, ordered_is_determined};
+use sf_foot::laws::footprint_is_decided;
 
 /// A name is that of one entry at most, or is refused for one reason at most, and not both.
 #[tactic(auto, using(crate::proofs::Once::entry_is_unique))]
@@ -49,7 +49,5 @@ pub fn written_states_read_back()
 pub fn start_exists()
     ensures { StartExists }
 {
-    determined_has_order();
-    ordered_is_determined();
-    order_keeps_meaning();
+    footprint_is_decided();
 }

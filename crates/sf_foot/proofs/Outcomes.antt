@@ -15,17 +15,19 @@ use Rattle.sf_core.specs.declared.assertion.Operand.TheVariants.{Known as Evalua
 use Rattle.sf_core.specs.declared.assertion.Scope.{Scope}
 use Rattle.sf_core.specs.declared.assertion.Test.{Test}
 use Rattle.sf_core.specs.declared.assertion.Test.TheVariants.{True, Equal, Differ}
-use Rattle.sf_core.specs.Assertions.Determined.{IsKnown, is_existential, is_in_fields, is_learned, is_learned_in, known_after, known_inside}
+use Rattle.sf_core.specs.Assertions.Determined.{IsKnown, is_existential, is_learned, is_learned_in, known_after, known_inside}
 use Rattle.sf_core.specs.Assertions.InOrder.{InOrder, InOrderInside, IsNext, is_known}
-use Rattle.sf_core.specs.Assertions.Occurs.{OccursIn, OccursInAll, OccursInFields, OccursInOne, OccursInTest}
+use Rattle.sf_core.specs.Assertions.Occurs.{OccursIn, OccursInAll, OccursInOne, OccursInTest}
 use Rattle.sf_core.specs.Assertions.Sat.{HasFields, IsTrueOf, SameOutside, operand}
 use Rattle.sf_core.specs.Assertions.Scopes.{is_made_by}
+use Rattle.sf_core.proofs.Assertions.Sat.{test-which}
 use Rattle.sf_core.specs.Program.Syntax.{Conjunct, holds, points, segment, tree, choose, Level, level, Conjuncts, none, also}
 use Rattle.sf_heap.specs.Cells.{Cells, FieldValues, cell_of}
 use Rattle.sf_foot.specs.Internal.Taking.{AllTake, LevelTakes, OneTakes}
 use Rattle.sf_foot.specs.Internal.Walks.{SegmentWalk, TreesWalk}
-use Rattle.sf_state.proofs.Learning.{Agree, Learned, Refuted, agree-first, agree-then, in_fields, itself, known-operand, learn-fields, learn-operand, plus, plus-first, same-value}
-use Rattle.sf_state.proofs.Walked.{Walked, walk-segment, walk-trees}
+use Rattle.sf_foot.proofs.Learning.{Agree, Learned, Refuted, agree-first, agree-then, in_fields, itself, known-operand, learn-fields, learn-operand, plus, plus-first}
+use Rattle.sf_foot.proofs.Ready.{existential-is, occurs-fields}
+use Rattle.sf_foot.proofs.Walked.{Walked, walk-segment, walk-trees}
 
 -- A heap with finitely many cells
 module _ (heap : Cells) where
@@ -156,15 +158,6 @@ module _ (heap : Cells) where
         let two = known-operand val known v some y a (k y (inr refl)) in
         (λ h e. h (sym one ∙ e ∙ two), λ h e. h (one ∙ e ∙ sym two))
 
-    test-decided : (v : ℕ → Value) (t : Test (Operand E))
-        → IsTrueOf (operand val v) t ⊎ (IsTrueOf (operand val v) t → ⊥)
-    test-decided v True = inl tt
-    test-decided v (Equal x y) = same-value (operand val v x) (operand val v y)
-    test-decided v (Differ x y) = elim (same-value (operand val v x) (operand val v y)) [
-      | inl e ↦ inr (λ n. n e)
-      | inr n ↦ inl n
-    ]
-
     take-test : (p : Place) (known : ℕ → Bool) (v : ℕ → Value) (t : Test (Operand E)) → IsNext known (holds p t)
         → Outcome (OneTakes heap (holds p t) val) known (known_after (holds p t) known) v
     take-test p known v True k = take-learned (λ some. Unit {0}) known (plus known nothing) v
@@ -174,7 +167,7 @@ module _ (heap : Cells) where
     take-test p known v (Differ x y) k = take-learned (λ some. IsTrueOf (operand val some) (Differ x y)) known
         (plus known nothing) v (learn-fixed (λ some. IsTrueOf (operand val some) (Differ x y)) known v
         (λ some a. (test-known known v some (Differ x y) both a).0) (λ some a. (test-known known v some (Differ x y) both a).1)
-        (test-decided v (Differ x y)))
+        (test-which (operand val v) (Differ x y)))
       where
         both : (z : Operand E) → (z ≡ x) ⊎ (z ≡ y) → IsKnown known z
         both z (inl e) = subst (IsKnown known) (sym e) k.0
@@ -273,25 +266,14 @@ module _ (heap : Cells) where
         (walk-trees heap left right (suc (len heap)) (operand val v x ∷ []))
 
     -- what becomes known by conjuncts occurs in them
-    in-one : (n : ℕ) (x : Operand E) → is_existential n x ≡ true → Exists n ≡ x
-    in-one n (Evaluates x) e = absurd (false≢true e)
-    in-one n (Exists m) e = ap Exists (sym (eqb-true m n e))
-
-    in-fields : (n : ℕ) (fs : List (FieldId × Operand E)) → is_in_fields n fs ≡ true → OccursInFields fs (Exists n)
-    in-fields n [] e = absurd (false≢true e)
-    in-fields n (f ∷ fs) e = elim (or_cases (is_existential n f.1) (is_in_fields n fs) e) [
-      | inl i ↦ inl (in-one n f.1 i)
-      | inr i ↦ inr (in-fields n fs i)
-    ]
-
     occurs-one : (c : Conjunct E) (n : ℕ) → is_learned c n ≡ true → OccursInOne c (Exists n)
     occurs-one (holds p True) n e = absurd (false≢true e)
     occurs-one (holds p (Equal x y)) n e = elim (or_cases (is_existential n x) (is_existential n y) e) [
-      | inl i ↦ inl (in-one n x i)
-      | inr i ↦ inr (in-one n y i)
+      | inl i ↦ inl (existential-is n x i)
+      | inr i ↦ inr (existential-is n y i)
     ]
     occurs-one (holds p (Differ x y)) n e = absurd (false≢true e)
-    occurs-one (points p x fs) n e = inr (in-fields n fs e)
+    occurs-one (points p x fs) n e = inr (occurs-fields n fs e)
     occurs-one (segment p next x y) n e = absurd (false≢true e)
     occurs-one (tree p left right x) n e = absurd (false≢true e)
     occurs-one (choose p t this that) n e = absurd (false≢true e)
@@ -447,7 +429,7 @@ module _ (heap : Cells) where
       take-one (choose p t this that) known v k = take-choice p t this that known v
           (supplied-test known t (λ n o. k.0 n (inl o)))
           (take-level this known v (λ n o. k.0 n (inr (inl o))) k.1)
-          (take-level that known v (λ n o. k.0 n (inr (inr o))) k.2) (test-decided v t)
+          (take-level that known v (λ n o. k.0 n (inr (inr o))) k.2) (test-which (operand val v) t)
 
       take-level : (a : Level E) (known : ℕ → Bool) (v : ℕ → Value) → ((n : ℕ) → OccursIn a (Exists n) → known n ≡ true)
           → InOrderInside known a → Outcome (LevelTakes heap a val) known (plus known nothing) v

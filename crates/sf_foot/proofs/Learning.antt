@@ -1,34 +1,16 @@
 -- What becomes known of existentials where an operand has a value, and where a cell's fields have theirs.
 -- Names: `learn-LAW`; `agree-LAW` of values that agree for what is known.
-use Rattle.std.proofs.Common.{◌≡◌, ◌≢◌, ◌⊎◌, ◌==◌, ◌||◌, ℕ, ℤ, pos, negsuc, Bool, true, false, cond, List, [], ◌∷◌, refl, sym, ap, ◌∙◌, inl, inr}
+use Rattle.std.proofs.Common.{◌≡◌, ◌⊎◌, ◌==◌, ◌||◌, ℕ, Bool, true, false, cond, List, [], ◌∷◌, refl, sym, ap, ◌∙◌, inl, inr}
 use Rattle.std.proofs.Math.Bool.{or_assoc}
-use Rattle.std.proofs.lemmas.Bool.{cases_eq, eq-eqb, eqb-true, false≢true, or_cases}
+use Rattle.std.proofs.lemmas.Bool.{eq-eqb, eqb-true, false≢true, or_cases}
 use Rattle.sf_base.specs.declared.ids.FieldId.{FieldId}
 use Rattle.sf_base.specs.declared.value.Value.{Value}
-use Rattle.sf_base.specs.declared.value.Value.TheVariants.{Nil as nil, Int as int, Loc as loc}
 use Rattle.sf_base.specs.HeapStore.{Cell}
 use Rattle.sf_core.specs.declared.assertion.Operand.{Operand}
 use Rattle.sf_core.specs.declared.assertion.Operand.TheVariants.{Known as Evaluates, Exists}
 use Rattle.sf_core.specs.Assertions.Determined.{IsKnown, is_existential, is_in_fields}
 use Rattle.sf_core.specs.Assertions.Sat.{HasFields, operand}
-
--- two values are one, or they aren't
-same-int : (i j : ℤ) → (i ≡ j) ⊎ (i ≢ j)
-same-int (pos m) (pos n) = elim (cases_eq m n) [ inl e ↦ inl (ap pos e) | inr o ↦ inr (λ e. o (cc)) ]
-same-int (pos m) (negsuc n) = inr (λ e. cc)
-same-int (negsuc m) (pos n) = inr (λ e. cc)
-same-int (negsuc m) (negsuc n) = elim (cases_eq m n) [ inl e ↦ inl (ap negsuc e) | inr o ↦ inr (λ e. o (cc)) ]
-
-pub same-value : (v w : Value) → (v ≡ w) ⊎ (v ≢ w)
-same-value nil nil = inl refl
-same-value nil (int j) = inr (λ e. cc)
-same-value nil (loc n) = inr (λ e. cc)
-same-value (int i) nil = inr (λ e. cc)
-same-value (int i) (int j) = elim (same-int i j) [ inl e ↦ inl (ap int e) | inr o ↦ inr (λ e. o (cc)) ]
-same-value (int i) (loc n) = inr (λ e. cc)
-same-value (loc m) nil = inr (λ e. cc)
-same-value (loc m) (int j) = inr (λ e. cc)
-same-value (loc m) (loc n) = elim (cases_eq m n) [ inl e ↦ inl (ap loc e) | inr o ↦ inr (λ e. o (cc)) ]
+use Rattle.sf_core.proofs.Assertions.Sat.{value-which}
 
 -- values of existentials that are these, for what is known
 abbrev pub Agree : (ℕ → Bool) → (ℕ → Value) → (ℕ → Value) → Type 0
@@ -79,7 +61,7 @@ module _ {E : Type 0} (val : E → Value) where
       → ((n : ℕ) → is_existential n x ≡ true → known n ≡ true)
       → Learned (λ some. w ≡ operand val some x) known (plus known (itself x)) v
       ⊎ Refuted (λ some. w ≡ operand val some x) known v
-  learn-known known v x w k in_known = elim (same-value w (operand val v x)) [
+  learn-known known v x w k in_known = elim (value-which w (operand val v x)) [
     | inl e ↦ inl (record {
       values = v;
       keeps = λ n h. refl;

@@ -8,7 +8,7 @@ use Rattle.sf_base.specs.declared.value.Value.{Value}
 use Rattle.sf_base.specs.declared.value.Value.TheVariants.{Nil as nil, Int as int, Loc as loc}
 use Rattle.sf_heap.specs.Cells.{Cells, FieldValues}
 use Rattle.sf_foot.specs.Internal.Walks.{SegmentWalk, end, cell, TreesWalk, none as no_roots, leaf, node}
-use Rattle.sf_state.proofs.Learning.{same-value}
+use Rattle.sf_core.proofs.Assertions.Sat.{value-which}
 
 -- a walk is the only one, or each is at least so long
 abbrev pub Walked : (walk : List ℕ → Type 0) (long : ℕ) → Type 0
@@ -71,7 +71,7 @@ module _ (heap : Cells) where
 
     pub walk-segment : (long : ℕ) (from : Value) → Walked (SegmentWalk heap next to from) long
     walk-segment zero from = inr (λ ms m. omega arith)
-    walk-segment (suc long) from = segment-step long (walk-segment long) from (same-value from to)
+    walk-segment (suc long) from = segment-step long (walk-segment long) from (value-which from to)
 
   module _ (left right : FieldId) where
     trees-end : (ms : List ℕ) → TreesWalk heap left right [] ms → ms ≡ []
