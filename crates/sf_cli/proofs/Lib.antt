@@ -8,7 +8,6 @@ pub mod EndTexts
 pub mod OneRun
 pub mod ARun
 pub mod Endings
-pub mod Ranges
 pub mod RunReplies
 pub mod AnAnswer
 pub mod Complete

@@ -1,5 +1,6 @@
 -- Answer: the text and the status that the command gives to its words, over a map of files.
--- The form of a command's answer is that of The Open Group, "Utility Conventions" (2018); the statuses are this project's own.
+-- The form of a command's answer is that of The Open Group, "Utility Conventions" (2018); the
+-- statuses are this project's own.
 use Rattle.std.specs.Prelude.{◌≡◌, ℕ, ◌<◌, ◌⊎◌, Option, Some, None, List, [], ◌++◌, codes}
 use Rattle.sf_core.specs.Machine.Config.{Config}
 use Rattle.sf_core.specs.Machine.Enabled.{HasEnded}
@@ -48,8 +49,8 @@ printed no_atom = NoAtom
 printed leak = Leak
 printed end_not_allocated = EndNotAllocated
 
--- why a procedure fails, printed: the goal at which its search is stuck, that its proof would be too large, or, where a
--- tag that the strategy takes has no row, its name alone
+-- why a procedure fails, printed: the goal at which its search is stuck, that its proof would be
+-- too large, or, where a tag that the strategy takes has no row, its name alone
 abbrev pub cause_text : Program → ProcId → Cause → Text
 cause_text p f (stuck_at goal kind before) = failure_text p f goal (printed kind)
 cause_text p f too_large = too_large_text p f
@@ -60,8 +61,8 @@ abbrev pub VerdictAnswer : Program → Verdict → Text → (status : ℕ) → T
 VerdictAnswer p (proof tags) text status = (text ≡ proof_text p tags) × (status ≡ 0)
 VerdictAnswer p (fails f why) text status = (text ≡ cause_text p f why) × (status ≡ 1)
 
--- the answer to a program with which nothing is wrong: the verdict on it, by the least sets of its calls and with its
--- annotations in order
+-- the answer to a program with which nothing is wrong: the verdict on it, by the least sets of its
+-- calls and with its annotations in order
 pub record ProgramAnswer (p : Program) (text : Text) (status : ℕ) : Type 0 where
   pub setting : Setting
   pub own : IsSettingOf p setting
@@ -75,7 +76,8 @@ pub data FileAnswer (bytes text : Text) (status : ℕ) : Type 0 where
       → FileAnswer bytes text status
   admitted : (p : Program) → Admits bytes p → ProgramAnswer p text status → FileAnswer bytes text status
 
--- the file of that name may have these bytes: where the shelf tells its files it has just them, and else any
+-- the file of that name may have these bytes: where the shelf tells its files it has just them, and
+-- else any
 abbrev pub MayHave : Option Files → (name bytes : Text) → Type 0
 MayHave None name bytes = Unit {0}
 MayHave (Some files) name bytes = files name ≡ Some bytes
@@ -84,7 +86,8 @@ MayHave (Some files) name bytes = files name ≡ Some bytes
 abbrev pub ProofFileAnswer : Option Files → Program → (proof_name : Text) → Text → (status : ℕ) → Type 0
 ProofFileAnswer told p proof_name text status = (given : Text) × MayHave told proof_name given × ProofAnswer p given text status
 
--- the same for a program's file of these bytes: the file is refused, or it is the answer to that text
+-- the same for a program's file of these bytes: the file is refused, or it is the answer to that
+-- text
 pub data RecheckAnswer (told : Option Files) (bytes proof_name text : Text) (status : ℕ) : Type 0 where
   file_refused : (r : Refusal) → FileFault bytes r → text ≡ refusal_text r → status ≡ 3
       → RecheckAnswer told bytes proof_name text status
@@ -98,8 +101,8 @@ pub record IsProved (p : Program) : Type 0 where
   pub tags : List Tag
   pub judged : Judge setting (proof tags)
 
--- a procedure of that name is run: the program is proved, the procedure holds no resource, and no parallel call can be
--- reached from it
+-- a procedure of that name is run: the program is proved, the procedure holds no resource, and no
+-- parallel call can be reached from it
 pub record IsRun (p : Program) (entry : Text) (f : ProcId) : Type 0 where
   pub proved : IsProved p
   pub is_entry : IsEntry p entry f
@@ -109,9 +112,9 @@ pub record IsRun (p : Program) (entry : Text) (f : ProcId) : Type 0 where
 abbrev pub HasRun : Program → (entry : Text) → Type 0
 HasRun p entry = (f : ProcId) × IsRun p entry f
 
--- the answer to a run from the text of a state that has this name, for a program with which nothing is wrong: the
--- answer to the program where its verdict is no proof; else, that there is no such entry; else, that a parallel call
--- can be reached from it; else the answer to that text
+-- the answer to a run from the text of a state that has this name, for a program with which nothing
+-- is wrong: the answer to the program where its verdict is no proof; else, that there is no such
+-- entry; else, that a parallel call can be reached from it; else the answer to that text
 pub data RunFileAnswer (told : Option Files) (p : Program) (entry state_name : Text) (steps waits : ℕ) (text : Text)
     (status : ℕ) : Type 0 where
   unproved : ProgramAnswer p text status → status ≡ 1 → RunFileAnswer told p entry state_name steps waits text status
@@ -123,7 +126,8 @@ pub data RunFileAnswer (told : Option Files) (p : Program) (entry state_name : T
   entered : (f : ProcId) (given : Text) → IsRun p entry f → MayHave told state_name given
       → StateAnswer p f given steps waits text status → RunFileAnswer told p entry state_name steps waits text status
 
--- the same for a program's file of these bytes: the file is refused, or it is the answer to that run
+-- the same for a program's file of these bytes: the file is refused, or it is the answer to that
+-- run
 pub data RunAnswer (told : Option Files) (bytes entry state_name : Text) (steps waits : ℕ) (text : Text) (status : ℕ)
     : Type 0 where
   refused_run : (r : Refusal) → FileFault bytes r → text ≡ refusal_text r → status ≡ 3
@@ -135,8 +139,8 @@ pub data RunAnswer (told : Option Files) (bytes entry state_name : Text) (steps 
 abbrev pub IsUsage : Text → (status : ℕ) → Type 0
 IsUsage text status = (text ≡ usage_text) × (status ≡ 2)
 
--- the answer to an order, or to words that are none, where the files that it names are there; `demo` isn't followed
--- yet, and is answered as words that are none
+-- the answer to an order, or to words that are none, where the files that it names are there;
+-- `demo` isn't followed yet, and is answered as words that are none
 abbrev pub OrderAnswer : Option Files → Option Order → Text → (status : ℕ) → Type 0
 OrderAnswer told None text status = IsUsage text status
 OrderAnswer told (Some (verify file workers)) text status =
@@ -177,7 +181,8 @@ AreAdmitted bytes = (p : Program) × Admits bytes p
 abbrev pub MayBeAdmitted : Option Files → (name : Text) → Type 0
 MayBeAdmitted told name = (bytes : Text) × MayHave told name bytes × AreAdmitted bytes
 
--- these bytes are those of a program with which nothing is wrong, and a procedure of that name is run
+-- these bytes are those of a program with which nothing is wrong, and a procedure of that name is
+-- run
 abbrev pub AreRun : (bytes entry : Text) → Type 0
 AreRun bytes entry = (p : Program) × Admits bytes p × HasRun p entry
 
@@ -185,8 +190,8 @@ AreRun bytes entry = (p : Program) × Admits bytes p × HasRun p entry
 abbrev pub MayBeRun : Option Files → (name entry : Text) → Type 0
 MayBeRun told name entry = (bytes : Text) × MayHave told name bytes × AreRun bytes entry
 
--- the work comes to that file: it is the program's; or a proof's of a program with which nothing is wrong; or a
--- state's, from which a procedure of such a program is run
+-- the work comes to that file: it is the program's; or a proof's of a program with which nothing is
+-- wrong; or a state's, from which a procedure of such a program is run
 abbrev pub Reaches : Option Files → Option Order → Text → Type 0
 Reaches told (Some (verify file workers)) name = name ≡ file
 Reaches told (Some (recheck file proof_name)) name = (name ≡ file) ⊎ ((name ≡ proof_name) × MayBeAdmitted told file)
@@ -232,8 +237,8 @@ pub record AcceptedBytes (bytes : Text) : Type 0 where
 abbrev pub IsAccepting : (status : ℕ) → Type 0
 IsAccepting status = (status ≡ 0) ⊎ ((status ≡ 5) ⊎ (status ≡ 6))
 
--- the words are an order whose program's file is there, its answer is that text with that status, and the program that
--- the file reads as is sound
+-- the words are an order whose program's file is there, its answer is that text with that status,
+-- and the program that the file reads as is sound
 pub data Accepted (told : Option Files) (words : List Text) (text : Text) (status : ℕ) : Type 0 where
   by_search : (file : Text) (workers : ℕ) → order_of words ≡ Some (verify file workers) → (bytes : Text)
       → MayHave told file bytes → FileAnswer bytes text status → AcceptedBytes bytes
@@ -245,8 +250,9 @@ pub data Accepted (told : Option Files) (words : List Text) (text : Text) (statu
       → (bytes : Text) → MayHave told file bytes → RunAnswer told bytes entry state steps waits text status
       → AcceptedBytes bytes → Accepted told words text status
 
--- a run has ended with that text: it is the text of a configuration in which the entry has ended, and to which some
--- list of events leads from the start that the state's text gives, each with its task's next unit as its number
+-- a run has ended with that text: it is the text of a configuration in which the entry has ended,
+-- and to which some list of events leads from the start that the state's text gives, each with its
+-- task's next unit as its number
 pub record EndedRun (told : Option Files) (file entry state_name : Text) (steps : ℕ) (text : Text) : Type 0 where
   pub bytes : Text
   pub may_have : MayHave told file bytes

@@ -24,7 +24,8 @@ shared_values store number (r ∷ rs) =
     values_by (λ i. unwrap_or (store (shared (record { 0 = number }) i)) nil) 0 r.variables
     ++ shared_values store (suc number) rs
 
--- the values of the entry's references and values, which are kept by the start's number, and of the resources' variables
+-- the values of the entry's references and values, which are kept by the start's number, and of the
+-- resources' variables
 abbrev pub values_in : Program → Procedure → Store → List Value
 values_in p g store = values_by (λ i. unwrap_or (store (own 0 i)) nil) 0 (parameters g)
     ++ shared_values store 0 p.resources
@@ -33,7 +34,8 @@ values_in p g store = values_by (λ i. unwrap_or (store (own 0 i)) nil) 0 (param
 abbrev pub cells_in : Program → Heap → ℕ → Option (List Value)
 cells_in p heap location = option_map (λ cell. values_by cell 0 p.fields) (heap location)
 
--- it is the text of the variables' values in that configuration and of all its cells, by rising location
+-- it is the text of the variables' values in that configuration and of all its cells, by rising
+-- location
 pub record IsEndText (p : Program) (g : Procedure) (c : Config) (text : Text) : Type 0 where
   pub locations : List ℕ
   pub rising : IsStrictlyIncreasing locations

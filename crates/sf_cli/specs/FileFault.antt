@@ -1,5 +1,6 @@
 -- FileFault: why a file is refused, the first cause in the order of work.
--- That is: its length and tokens, the grammar, names, the conditions on variables, that annotations are determined; each is its own crate's definition.
+-- That is: its length and tokens, the grammar, names, the conditions on variables, that annotations
+-- are determined; each is its own crate's definition.
 use Rattle.std.specs.Prelude.{◌≡◌, Some, List}
 use Rattle.std.specs.List.{All}
 use Rattle.sf_ast.specs.Surface.{Item}

@@ -1,5 +1,6 @@
 -- Laws of answers, stated.
--- A definition by cases owes its reader that one case holds and no two do; an answer of status 0 promises that the program is sound.
+-- A definition by cases owes its reader that one case holds and no two do; an answer of status 0
+-- promises that the program is sound.
 use Rattle.std.specs.Prelude.{◌≡◌, ℕ, List, Option, Some}
 use Rattle.sf_core.specs.Program.Syntax.{Program}
 use Rattle.sf_io.specs.Shelf.{Files}
@@ -75,22 +76,22 @@ EachCommandHasAnAnswer =
 abbrev pub AcceptedFilesAreSound : Type 0
 AcceptedFilesAreSound = (bytes text : Text) → FileAnswer bytes text 0 → AcceptedBytes bytes
 
--- a file for which the text of a proof is answered with status 0, whatever bytes that text is, is that of a program
--- which is sound
+-- a file for which the text of a proof is answered with status 0, whatever bytes that text is, is
+-- that of a program which is sound
 abbrev pub AcceptedProofsAreSound : Type 0
 AcceptedProofsAreSound =
     (bytes : Text) (p : Program) → Admits bytes p → (proof text : Text) → ProofAnswer p proof text 0
     → AcceptedBytes bytes
 
--- a file of which a run is answered with a status that only comes where the program is proved, whatever bytes the file
--- has, is that of a program which is sound
+-- a file of which a run is answered with a status that only comes where the program is proved,
+-- whatever bytes the file has, is that of a program which is sound
 abbrev pub AcceptedRunsAreSound : Type 0
 AcceptedRunsAreSound =
     (told : Option Files) (bytes entry state_name text : Text) (steps waits status : ℕ) → IsAccepting status
     → RunAnswer told bytes entry state_name steps waits text status → AcceptedBytes bytes
 
--- what is answered to a run with status 0 is the text of a configuration that a numbered list of events reaches from
--- the start which was read, and in which the entry has ended
+-- what is answered to a run with status 0 is the text of a configuration that a numbered list of
+-- events reaches from the start which was read, and in which the entry has ended
 abbrev pub FinishedRunsHaveEnded : Type 0
 FinishedRunsHaveEnded =
     (told : Option Files) (file entry state_name text : Text) (steps waits : ℕ)

@@ -1,4 +1,5 @@
--- Ran: what is said of a run of a procedure from the text of a state, where no parallel call can be reached from it.
+-- Ran: what is said of a run of a procedure from the text of a state, where no parallel call can be
+-- reached from it.
 -- The run of a sequential program: Hoare, "An Axiomatic Basis for Computer Programming" (1969).
 use Rattle.std.specs.Prelude.{◌≡◌, ℕ, ◌++◌, List, Some, codes, decimal, map}
 use Rattle.sf_base.specs.declared.ids.ProcId.{ProcId}
@@ -42,8 +43,8 @@ OutcomeAnswer p g steps waits (finished c) text status = IsFinishedText p g c te
 OutcomeAnswer p g steps waits spent text status = (text ≡ spent_steps_text steps) × (status ≡ 6)
 OutcomeAnswer p g steps waits (waiting r) text status = (text ≡ spent_waits_text p r waits) × (status ≡ 6)
 
--- the answer to a run of that procedure from the text of a state, with so many units and tries: the text is no start,
--- for one reason, or it is a start and this is what comes of it
+-- the answer to a run of that procedure from the text of a state, with so many units and tries: the
+-- text is no start, for one reason, or it is a start and this is what comes of it
 pub data StateAnswer (p : Program) (f : ProcId) (given : Text) (steps waits : ℕ) (text : Text) (status : ℕ)
     : Type 0 where
   no_start : (g : Procedure) (e : StartFault) → procedure_at p f ≡ Some g → IsStartFault p g given e

@@ -1,5 +1,7 @@
--- Reads: the program that a file's bytes are: its tokens, their tree, and the tree's names as numbers.
--- The language is that of Berdine, Calcagno and O'Hearn, "Smallfoot" (2005), in this project's own profile.
+-- Reads: the program that a file's bytes are: its tokens, their tree, and the tree's names as
+-- numbers.
+-- The language is that of Berdine, Calcagno and O'Hearn, "Smallfoot" (2005), in this project's own
+-- profile.
 use Rattle.std.specs.Prelude.{List}
 use Rattle.sf_ast.specs.Surface.{Item}
 use Rattle.sf_core.specs.Program.Syntax.{Program}

@@ -1,4 +1,5 @@
--- Refusals: the kinds of what is wrong with a file, and the line that says which, where, and by which name.
+-- Refusals: the kinds of what is wrong with a file, and the line that says which, where, and by
+-- which name.
 -- This project's own kinds; the form of the line is LINE:COLUMN, as compilers print places.
 use Rattle.std.specs.Prelude.{ℕ, [], ◌++◌, codes, decimal}
 use Rattle.sf_base.specs.declared.place.Place.{Place}

@@ -1,5 +1,7 @@
--- Rejections: the kinds of what is wrong with the text of a proof, and the line that says which, and where.
--- This project's own kinds; a place is the number of a line, as of any text that is read line by line.
+-- Rejections: the kinds of what is wrong with the text of a proof, and the line that says which,
+-- and where.
+-- This project's own kinds; a place is the number of a line, as of any text that is read line by
+-- line.
 use Rattle.std.specs.Prelude.{ℕ, suc, ◌-◌, List, [], ◌++◌, codes, decimal, length, slice_get, unwrap_or}
 use Rattle.sf_check.specs.declared.refusal.Refusal.{Refusal as TagRefusal}
 use Rattle.sf_check.specs.declared.refusal.Refusal.TheVariants as c
@@ -17,8 +19,8 @@ of_text (f.BadLine line) = At k.BadLine line
 of_text f.TooLong = At k.TooLong 1
 of_text f.OutOfMemory = OutOfMemory
 
--- the line that is named for the tag of that number, counted from 0: its own; past the last tag the line after the
--- last tag's, which is the second one where there is none
+-- the line that is named for the tag of that number, counted from 0: its own; past the last tag the
+-- line after the last tag's, which is the second one where there is none
 abbrev pub line_of : (lines : List ℕ) → (number : ℕ) → ℕ
 line_of lines number =
     unwrap_or (slice_get lines number) (suc (unwrap_or (slice_get lines (length lines - 1)) 1))

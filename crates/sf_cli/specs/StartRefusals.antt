@@ -1,4 +1,5 @@
--- StartRefusals: the kinds of why a procedure and a text are no start, and the line that says which, and of what.
+-- StartRefusals: the kinds of why a procedure and a text are no start, and the line that says
+-- which, and of what.
 -- This project's own kinds, as those of a file and of a proof.
 use Rattle.std.specs.Prelude.{ℕ, [], ◌++◌, codes, decimal}
 use Rattle.sf_state.specs.declared.fault.StartFault.{StartFault}

@@ -25,7 +25,8 @@ pub fn say_finish(
     end: &Finish,
 ) -> Result<Said, AllocError>
     requires { f.0 < length arranged.now.program.procedures.items }
-    ensures { IfOk result (λ said. IfSome (slice_get (program_of arranged.now.program).procedures f.0)
+    ensures { IfOk result (λ said.
+        IfSome (slice_get (program_of arranged.now.program).procedures f.0)
         (λ g. SaysFinish (program_of arranged.now.program) g end.now.vars end.now.heap
         said.text.items said.status)) }
 {
@@ -68,8 +69,8 @@ fn spent_waits_text(alloc: Global, p: &Program, r: ResId, tries: u32) -> Result<
     Ok(text)
 }
 
-/// Why a run stops before its end. An `Err` says that memory ran out, which is also the answer where
-/// it stopped for that.
+/// Why a run stops before its end. An `Err` says that memory ran out, which is also the answer
+/// where it stopped for that.
 pub fn say_stop(alloc: Global, p: &Program, stop: &Stop) -> Result<Said, AllocError>
     ensures said { IfOk result (λ said. (said.text.items ≡ stop_text (program_of p.now) stop.now)
         × (said.status ≡ 6)) }

@@ -6,13 +6,12 @@ ghost use Rattle.sf_core.specs.Program.ProgramView.{program_of};
 ghost use Rattle.sf_io.specs.Increased.{Increased};
 ghost use Rattle.sf_cli.specs.Answer.{AreAdmitted, FileAnswer, NamesProgram, ProgramAnswer, ProofFileAnswer, Reaches, RecheckAnswer, Reply, VerdictAnswer, cause_text, printed, read_fault_text};
 ghost use Rattle.sf_cli.specs.Internal.Fetched.{Fetched};
-ghost use Rattle.sf_cli.specs.Internal.Ranges.{HasNumbersInRange};
 ghost use Rattle.sf_cli.specs.Refusals.{refusal_text};
 ghost use Rattle.sf_cli.specs.declared.refusal.Refusal.TheVariants.{OutOfMemory};
 ghost use Rattle.sf_search.specs.Internal.Choosing.{kind_of};
 ghost use Rattle.sf_search.specs.Ends.{cause_of};
 ghost use Rattle.sf_search.specs.Judge.{Cause, proof};
-ghost use Rattle.sf_words.specs.Words.{Text, order_of, recheck, verify};
+ghost use Rattle.sf_words.specs.Words.{HasNumbersInRange, Text, order_of, recheck, verify};
 ghost use Rattle.sf_words.specs.WordsOf.{order_as, words_of};
 
 use crate::reading::admit;
@@ -141,7 +140,8 @@ fn say_proof(alloc: Global, p: &Program, found: &Proof<'_>) -> Result<Said, Allo
 /// That a file is refused, and why. An `Err` says that memory ran out, which is also
 /// the answer where that was the cause.
 pub(crate) fn say_refusal(alloc: Global, refusal: &Refusal) -> Result<Said, AllocError>
-    ensures said { IfOk result (λ said. (said.text.items ≡ refusal_text refusal.now) × (said.status ≡ 3)) }
+    ensures said { IfOk result (λ said. (said.text.items ≡ refusal_text refusal.now)
+        × (said.status ≡ 3)) }
     ensures cause { IfOk result (λ said. refusal.now ≢ OutOfMemory) }
 {
     Ok(Said {
@@ -174,7 +174,8 @@ pub(crate) fn fetch_up_to<S: Shelf>(
     shelf: &mut S,
 ) -> Result<Vec<u8>, FetchFault>
     requires { limit < 2 ^ 64 - 1 }
-    ensures fetched { IfOk result (λ bytes. Fetched limit (S.files shelf.old) name.now bytes.items) }
+    ensures fetched { IfOk result (λ bytes.
+        Fetched limit (S.files shelf.old) name.now bytes.items) }
     ensures failed { IsErrOf result FetchFault.Failed
         → Increased (S.faults shelf.old name.now) (S.faults shelf.new name.now) }
     ensures files { S.files shelf.new ≡ S.files shelf.old }

@@ -132,7 +132,8 @@ fn run_state_file<R: Threads + Sync, S: Shelf, G: Gate>(
         × StateAnswer (program_in proof.now) f given words.now.budget.steps words.now.budget.waits
         said.text.items said.status) }
     ensures unread { IfOk result (λ said. said.status ≡ 7
-        → Increased (S.faults shelf.old words.now.state.now) (S.faults shelf.new words.now.state.now)
+        → Increased (S.faults shelf.old words.now.state.now)
+        (S.faults shelf.new words.now.state.now)
         × (said.text.items ≡ read_fault_text words.now.state.now)) }
     ensures refused { IfOk result (λ said. said.status ≢ 3) }
     ensures files { S.files shelf.new ≡ S.files shelf.old }
@@ -147,8 +148,8 @@ fn run_state_file<R: Threads + Sync, S: Shelf, G: Gate>(
     }
 }
 
-/// The answer to a run of procedure `f`. The state's file is left alone where a parallel call can be
-/// reached from it: such a run isn't built yet.
+/// The answer to a run of procedure `f`. The state's file is left alone where a parallel call can
+/// be reached from it: such a run isn't built yet.
 fn run_entry<R: Threads + Sync, S: Shelf, G: Gate>(
     rt: &R,
     alloc: Global,
@@ -165,15 +166,18 @@ fn run_entry<R: Threads + Sync, S: Shelf, G: Gate>(
     requires waits { (1 ≤ words.now.budget.waits) × (words.now.budget.waits ≤ WAITS) }
     ensures status { IfOk result (λ said. said.status < 8) }
     ensures answered { IfOk result (λ said. said.status < 7
-        → RunFileAnswer (S.files shelf.old) (program_in proof.now) words.now.procedure.now words.now.state.now
-        words.now.budget.steps words.now.budget.waits said.text.items said.status) }
+        → RunFileAnswer (S.files shelf.old) (program_in proof.now) words.now.procedure.now
+        words.now.state.now words.now.budget.steps words.now.budget.waits
+        said.text.items said.status) }
     ensures unread { IfOk result (λ said. said.status ≡ 7
         → HasRun (program_in proof.now) words.now.procedure.now
-        × Increased (S.faults shelf.old words.now.state.now) (S.faults shelf.new words.now.state.now)
+        × Increased (S.faults shelf.old words.now.state.now)
+        (S.faults shelf.new words.now.state.now)
         × (said.text.items ≡ read_fault_text words.now.state.now)) }
     ensures files { S.files shelf.new ≡ S.files shelf.old }
     ensures others { (other : Text)
-        → ((other ≡ words.now.state.now) × HasRun (program_in proof.now) words.now.procedure.now → ⊥)
+        → ((other ≡ words.now.state.now)
+        × HasRun (program_in proof.now) words.now.procedure.now → ⊥)
         → S.faults shelf.new other ≡ S.faults shelf.old other }
     ensures refused { IfOk result (λ said. said.status ≡ 3
         → (any : Text) → S.faults shelf.new any ≡ S.faults shelf.old any) }
@@ -187,8 +191,8 @@ fn run_entry<R: Threads + Sync, S: Shelf, G: Gate>(
     }
 }
 
-/// The answer to a run of a program that is proved. The state's file is left alone where there is no
-/// such entry.
+/// The answer to a run of a program that is proved. The state's file is left alone where there is
+/// no such entry.
 fn run_proved<R: Threads + Sync, S: Shelf, G: Gate>(
     rt: &R,
     alloc: Global,
@@ -202,15 +206,18 @@ fn run_proved<R: Threads + Sync, S: Shelf, G: Gate>(
     requires waits { (1 ≤ words.now.budget.waits) × (words.now.budget.waits ≤ WAITS) }
     ensures status { IfOk result (λ said. said.status < 8) }
     ensures answered { IfOk result (λ said. said.status < 7
-        → RunFileAnswer (S.files shelf.old) (program_in proof.now) words.now.procedure.now words.now.state.now
-        words.now.budget.steps words.now.budget.waits said.text.items said.status) }
+        → RunFileAnswer (S.files shelf.old) (program_in proof.now) words.now.procedure.now
+        words.now.state.now words.now.budget.steps words.now.budget.waits
+        said.text.items said.status) }
     ensures unread { IfOk result (λ said. said.status ≡ 7
         → HasRun (program_in proof.now) words.now.procedure.now
-        × Increased (S.faults shelf.old words.now.state.now) (S.faults shelf.new words.now.state.now)
+        × Increased (S.faults shelf.old words.now.state.now)
+        (S.faults shelf.new words.now.state.now)
         × (said.text.items ≡ read_fault_text words.now.state.now)) }
     ensures files { S.files shelf.new ≡ S.files shelf.old }
     ensures others { (other : Text)
-        → ((other ≡ words.now.state.now) × HasRun (program_in proof.now) words.now.procedure.now → ⊥)
+        → ((other ≡ words.now.state.now)
+        × HasRun (program_in proof.now) words.now.procedure.now → ⊥)
         → S.faults shelf.new other ≡ S.faults shelf.old other }
     ensures refused { IfOk result (λ said. said.status ≡ 3
         → (any : Text) → S.faults shelf.new any ≡ S.faults shelf.old any) }
@@ -237,15 +244,18 @@ fn run_program<R: Threads + Wait + Sync, G: Gate, S: Shelf>(
     requires waits { (1 ≤ words.now.budget.waits) × (words.now.budget.waits ≤ WAITS) }
     ensures status { IfOk result (λ said. said.status < 8) }
     ensures answered { IfOk result (λ said. said.status < 7
-        → RunFileAnswer (S.files shelf.old) (program_of arranged.now.program) words.now.procedure.now words.now.state.now
-        words.now.budget.steps words.now.budget.waits said.text.items said.status) }
+        → RunFileAnswer (S.files shelf.old) (program_of arranged.now.program)
+        words.now.procedure.now words.now.state.now words.now.budget.steps words.now.budget.waits
+        said.text.items said.status) }
     ensures unread { IfOk result (λ said. said.status ≡ 7
         → HasRun (program_of arranged.now.program) words.now.procedure.now
-        × Increased (S.faults shelf.old words.now.state.now) (S.faults shelf.new words.now.state.now)
+        × Increased (S.faults shelf.old words.now.state.now)
+        (S.faults shelf.new words.now.state.now)
         × (said.text.items ≡ read_fault_text words.now.state.now)) }
     ensures files { S.files shelf.new ≡ S.files shelf.old }
     ensures others { (other : Text)
-        → ((other ≡ words.now.state.now) × HasRun (program_of arranged.now.program) words.now.procedure.now → ⊥)
+        → ((other ≡ words.now.state.now)
+        × HasRun (program_of arranged.now.program) words.now.procedure.now → ⊥)
         → S.faults shelf.new other ≡ S.faults shelf.old other }
     ensures refused { IfOk result (λ said. said.status ≡ 3
         → (any : Text) → S.faults shelf.new any ≡ S.faults shelf.old any) }
@@ -259,8 +269,8 @@ fn run_program<R: Threads + Wait + Sync, G: Gate, S: Shelf>(
     }
 }
 
-/// The answer to a run of the program that a file of these bytes has. The state's file is left alone
-/// where that is refused.
+/// The answer to a run of the program that a file of these bytes has. The state's file is left
+/// alone where that is refused.
 fn run_bytes<R: Threads + Wait + Sync, S: Shelf, G: Gate>(
     rt: &R,
     alloc: Global,
@@ -277,7 +287,8 @@ fn run_bytes<R: Threads + Wait + Sync, S: Shelf, G: Gate>(
         words.now.budget.steps words.now.budget.waits said.text.items said.status) }
     ensures unread { IfOk result (λ said. said.status ≡ 7
         → AreRun bytes.now words.now.procedure.now
-        × Increased (S.faults shelf.old words.now.state.now) (S.faults shelf.new words.now.state.now)
+        × Increased (S.faults shelf.old words.now.state.now)
+        (S.faults shelf.new words.now.state.now)
         × (said.text.items ≡ read_fault_text words.now.state.now)) }
     ensures files { S.files shelf.new ≡ S.files shelf.old }
     ensures others { (other : Text)

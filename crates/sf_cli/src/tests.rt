@@ -325,7 +325,8 @@ fn faults_of_the_shelf(rt: HostRuntime) -> Result<(), Fail> {
     Ok(())
 }
 
-/// What comes out of a sink that takes so many bytes at a call and fails at that call, and the status.
+/// What comes out of a sink that takes so many bytes at a call and fails at that call, and the
+/// status.
 fn put_into<R: Threads + Wait + Sync>(
     rt: &R,
     alloc: Global,

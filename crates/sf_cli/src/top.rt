@@ -44,15 +44,15 @@ fn tell<K: Sink>(sink: &mut K, said: &Said) -> u8
 ///
 /// The words are those after the program's name. Files come from the shelf, the answer goes to the
 /// sink, whole or, at status 8 or 9, no further than some prefix of it. The statuses are 0 where
-/// the program is proved, and a run of it has ended, 1 where a procedure fails, 2 where the words are
-/// no command, 3 where the file is refused, 4 where the text of a proof is, 5 where a run has no such
-/// start, 6 where it has spent its units or tries, 7 where the shelf failed, 8 where the sink did, and
-/// 9 where memory ran out. Where no count of faults increases, the answer is the one that is
-/// due, whole, or memory ran out.
+/// the program is proved, and a run of it has ended, 1 where a procedure fails, 2 where the words
+/// are no command, 3 where the file is refused, 4 where the text of a proof is, 5 where a run has
+/// no such start, 6 where it has spent its units or tries, 7 where the shelf failed, 8 where the
+/// sink did, and 9 where memory ran out. Where no count of faults increases, the answer is the one
+/// that is due, whole, or memory ran out.
 ///
 /// Whatever the number of workers and the gate, the answer is the same. So far no thread is started
-/// and nothing waits; a run from whose entry a parallel call can be reached isn't built yet, and has
-/// its file refused.
+/// and nothing waits; a run from whose entry a parallel call can be reached isn't built yet, and
+/// has its file refused.
 pub fn smallfoot<'a, R: Threads + Wait + Sync, S: Shelf, K: Sink, G: Gate>(
     rt: &R,
     alloc: Global,
@@ -84,7 +84,8 @@ pub fn smallfoot<'a, R: Threads + Wait + Sync, S: Shelf, K: Sink, G: Gate>(
     ensures no_read_fault { ((name : Text) → S.faults shelf.new name ≡ 0) → result ≢ 7 }
     ensures no_write_fault { K.faults sink.new ≡ 0 → result ≢ 8 }
     // Where no count increases in this call, the answer is whole, or memory ran out.
-    ensures complete { ((name : Text) → Increased (S.faults shelf.old name) (S.faults shelf.new name) → ⊥)
+    ensures complete { ((name : Text)
+        → Increased (S.faults shelf.old name) (S.faults shelf.new name) → ⊥)
         → (Increased (K.faults sink.old) (K.faults sink.new) → ⊥)
         → (result < 7) ⊎ (result ≡ 9) }
     // What is accepted is sound: whatever runs of it there are, each configuration is good. Of a
@@ -97,9 +98,9 @@ pub fn smallfoot<'a, R: Threads + Wait + Sync, S: Shelf, K: Sink, G: Gate>(
     ensures ended { result ≡ 0 → (text : Text)
         × (K.written sink.new ≡ with_bytes (K.written sink.old) text)
         × Ended (S.files shelf.old) (order_of (words_of words.now)) text }
-    // No file changes, and no count falls; that of a name increases only where the work comes to it:
-    // a proof's only where the program's file isn't refused, a state's only where one task runs an
-    // entry of a program that is proved.
+    // No file changes, and no count falls; that of a name increases only where the work comes to
+    // it: a proof's only where the program's file isn't refused, a state's only where one task runs
+    // an entry of a program that is proved.
     ensures counts { (any : Text) → S.faults shelf.old any ≤ S.faults shelf.new any }
     ensures others { (other : Text)
         → (Reaches (S.files shelf.old) (order_of (words_of words.now)) other → ⊥)

@@ -6,6 +6,7 @@ use Rattle.std.proofs.lemmas.List.Splits.{slice_split-cons_yes, slice_split-cons
 use Rattle.std.specs.List.{filter, prefix_len, slice_split, onto_first}
 use Rattle.std.specs.Str.Lines.{strip_carriage_return}
 use Rattle.sf_base.proofs.Prefixes.{prefix-more, prefix-none}
+use Rattle.sf_lines.specs.Lemmas.Written.{words-space}
 use Rattle.sf_lines.specs.Lines.{Text, is_some_text, is_space, lines, words}
 
 -- how a list is cut at the elements that pass: the longest front without one, and then other parts
@@ -46,11 +47,7 @@ cut p (x ∷ xs) = go (p x) refl (cut p xs)
     go true e rest = cut_here p x xs e
     go false e rest = cut_more p x xs e rest
 
--- a space before a line makes no word
-pub words-space : (b : ℕ) (bs : Text) → is_space b ≡ true → words (b ∷ bs) ≡ words bs
-words-space b bs e = rw e refl
-
--- nor do many
+-- spaces before a line make no words
 pub words-spaces : (line : Text) → words line ≡ words (drop (prefix_len is_space line) line)
 words-spaces [] = refl
 words-spaces (b ∷ bs) = go (is_space b) refl (words-spaces bs)

@@ -9,7 +9,7 @@ use Rattle.std.specs.Str.Lines.{strip_carriage_return}
 abbrev pub Text : Type 0
 Text = List ℕ
 
--- the lines of a text: what is between its line feeds, without the carriage return at the end of one
+-- the lines of a text: what is between its line feeds, without the carriage return at its end
 abbrev pub lines : Text → List Text
 lines text = map strip_carriage_return (slice_split (λ b. b == 10) text)
 

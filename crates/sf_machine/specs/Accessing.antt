@@ -19,8 +19,8 @@ abbrev pub IsListed : List CodeThing → Thing → Type 0
 IsListed [] thing = ⊥
 IsListed (x ∷ xs) thing = (thing ≡ thing_of x) ⊎ IsListed xs thing
 
--- the lists have exactly the things that the next step of the task at the path reads, and those that it writes,
--- where there is such a task and it is enabled; else both are empty
+-- the lists have exactly the things that the next step of the task at the path reads, and those
+-- that it writes, where there is such a task and it is enabled; else both are empty
 pub record AreAccesses (c : Config) (path : Path) (reads writes : List CodeThing) : Type 0 where
   pub read : (task : Task) → IsEnabled c path task → (thing : Thing)
       → IsListed reads thing ↔ Reads c.common.store (next task) thing

@@ -41,8 +41,9 @@ HasToWait r held is_false NoTask = ⊥
 HasToWait r held is_false Stale = ⊥
 HasToWait r held is_false TooDeep = ⊥
 
--- why the event of a command is none, though its number is new: a look-up, a mutation or a dispose finds no cell; a
--- `new` names 0 or a location that is there; a region waits; a fork has no turn left
+-- why the event of a command is none, though its number is new: a look-up, a mutation or a dispose
+-- finds no cell; a `new` names 0 or a location that is there; a region waits; a fork has no turn
+-- left
 abbrev pub CommandRefuses : Event → Common → Fixed → Command → Stepped → Type 0
 CommandRefuses ev s f (assign place x e) why = ⊥
 CommandRefuses ev s f (look_up place x e g) why = FindsNone (evaluate f.slots s.store) s.heap e why

@@ -1,4 +1,5 @@
--- What a run of a procedure ends with: the values of its parameters and of the resources' variables, and the cells.
+-- What a run of a procedure ends with: the values of its parameters and of the resources'
+-- variables, and the cells.
 -- O'Hearn (2007); Brookes (2007): the state at the end of a program with resources.
 use Rattle.std.specs.Prelude.{◌≡◌, ◌+◌, length, slice_get, Some, unwrap_or}
 use Rattle.sf_base.specs.declared.ids.ProcId.{ProcId}
@@ -14,7 +15,8 @@ use Rattle.sf_foot.specs.declared.vars.Vars.{Vars}
 use Rattle.sf_foot.specs.Variables.{value_of, values_or_none}
 use Rattle.sf_heap.specs.Cells.{Cells, heap_of}
 
--- these are the values of the procedure's parameters and of the resources' variables, no more, and the cells
+-- these are the values of the procedure's parameters and of the resources' variables, no more, and
+-- the cells
 pub record Ends (p : Program) (f : ProcId) (c : Config) (vars : Vars) (heap : Cells) : Type 0 where
   pub procedure : Procedure
   pub there : procedure_at p f ≡ Some procedure

@@ -17,8 +17,8 @@ use sf_core::{Command, Program};
 use std::alloc::AllocError;
 use std::collections::BTreeMap;
 
-/// What the next step of the task at a path reads and writes. Both lists are empty where there is no
-/// such task, or it has ended, or it has to wait for others.
+/// What the next step of the task at a path reads and writes. Both lists are empty where there is
+/// no such task, or it has ended, or it has to wait for others.
 pub fn accesses(p: &Program, c: &Config<'_>, task: TaskPath) -> Result<Accesses, AllocError>
     requires { IsReached (program_of p.now) (config_of c.now) }
     ensures { IfOk result (λ found. AreAccesses (config_of c.now) task

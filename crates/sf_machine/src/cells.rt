@@ -53,8 +53,8 @@ fn widened(
     Ok(Cell::from_values(wide))
 }
 
-/// Puts a cell with those fields at a location, which has none. An `Err` says that memory ran out, and
-/// nothing is changed.
+/// Puts a cell with those fields at a location, which has none. An `Err` says that memory ran out,
+/// and nothing is changed.
 pub(crate) fn make_cell(
     alloc: Global,
     heap: &mut Heap,

@@ -11,8 +11,8 @@ pub(crate) struct Opening {
     pub(crate) values: Vec<Value>,
 }
 
-/// What an event makes of what all tasks share: a variable or a field gets a value, a cell comes up or
-/// vanishes, a resource is held or free, rooms come up or vanish.
+/// What an event makes of what all tasks share: a variable or a field gets a value, a cell comes up
+/// or vanishes, a resource is held or free, rooms come up or vanish.
 #[derive(Drop)]
 pub(crate) enum Effect {
     Nothing,

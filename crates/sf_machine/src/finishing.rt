@@ -86,7 +86,8 @@ fn values_of_resources(
 
 /// The values of the entry's first variables.
 fn own_values(alloc: Global, store: &Store, count: u32) -> Result<Vec<Value>, AllocError>
-    ensures { IfOk result (λ values. AreValues (store_of store.now) (λ k. own 0 k) count values.items) }
+    ensures { IfOk result (λ values.
+        AreValues (store_of store.now) (λ k. own 0 k) count values.items) }
 {
     let mut values = Vec::with_capacity(alloc, count as usize)?;
     for i in 0..count {

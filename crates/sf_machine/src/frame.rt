@@ -82,7 +82,8 @@ impl<'p> Frame<'p> {
     #[tactic(auto, using(crate::proofs::Stacks::todo_snoc, crate::proofs::Stacks::frame_same,))]
     pub(crate) fn going_on(self, on: GoOn<'p>) -> Frame<'p>
         requires { HasTodoRoom self }
-        ensures todo { todo_of result.todo.items ≡ goes_on on.entry (todo_of self.entry.todo.items) }
+        ensures todo { todo_of result.todo.items
+            ≡ goes_on on.entry (todo_of self.entry.todo.items) }
         ensures fixed { fixed_of result ≡ fixed_of self.entry }
         ensures frame { frame_of result ≡ record {
           fixed = fixed_of self.entry;

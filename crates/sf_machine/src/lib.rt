@@ -18,8 +18,9 @@
 //! - `stepping`: the step. `laws`: that each answer of it comes exactly where its cause is.
 //!
 //! `specs/` says which configuration of the definitions a `Config` is (Configs), with which one a
-//! procedure starts (Beginning), which ones a running program has (Reached), what is said of a step's
-//! reads and writes (Accessing), what a step answers (Answers), and what a run ends with (Ending).
+//! procedure starts (Beginning), which ones a running program has (Reached), what is said of a
+//! step's reads and writes (Accessing), what a step answers (Answers), and what a run ends with
+//! (Ending).
 #![tactic(auto)]
 
 mod accessed;

@@ -71,7 +71,8 @@ fn note_two(things: &mut Vec<Thing>, frame: &Frame<'_>, x: Expr, y: Expr) -> Res
     requires first { AreFit (ReadsExpr (fixed_of frame.now).slots x) }
     requires second { AreFit (ReadsExpr (fixed_of frame.now).slots y) }
     ensures { OnOk result (Notes things.old.items things.new.items
-        (λ t. ReadsExpr (fixed_of frame.now).slots x t ⊎ ReadsExpr (fixed_of frame.now).slots y t)) }
+        (λ t. ReadsExpr (fixed_of frame.now).slots x t
+        ⊎ ReadsExpr (fixed_of frame.now).slots y t)) }
 {
     note_expr(things, frame, x)?;
     note_expr(things, frame, y)

@@ -38,8 +38,8 @@ pub(crate) fn perform<'p>(
     Ok(())
 }
 
-/// Makes of what is shared what an event does, and its number used. An `Err` says that memory ran out,
-/// and nothing is changed.
+/// Makes of what is shared what an event does, and its number used. An `Err` says that memory ran
+/// out, and nothing is changed.
 fn act(
     common: &mut Common,
     used: &mut BTreeSet<u64>,

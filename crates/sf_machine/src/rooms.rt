@@ -13,8 +13,8 @@ use crate::store::Store;
 use sf_base::Value;
 use std::alloc::AllocError;
 
-/// The slots of a room, which are absent, come up with these values, and nil in those after them. An
-/// `Err` says that memory ran out, and nothing is changed.
+/// The slots of a room, which are absent, come up with these values, and nil in those after them.
+/// An `Err` says that memory ran out, and nothing is changed.
 pub(crate) fn open(store: &mut Store, room: Room, values: &[Value]) -> Result<(), AllocError>
     requires fits { room.first + room.count ≤ 2 ^ 32 }
     requires absent { (slot : Slot) → in_room (room_of room) slot ≡ true

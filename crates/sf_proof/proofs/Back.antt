@@ -4,6 +4,8 @@ use Rattle.std.specs.List.{list_all, range_with_len}
 use Rattle.std.specs.Option.{option_and_then, option_map, option_zip}
 use Rattle.std.specs.Str.{bytes_eq}
 use Rattle.sf_base.specs.declared.ids.ProcId.{ProcId}
+use Rattle.sf_lines.specs.Lemmas.Tokens.{decimal-plain, name-plain}
+use Rattle.sf_lines.specs.Lemmas.Written.{IsPlain, all-append, is_inline, lines-before, plain-inline, words-before, words-plain}
 use Rattle.sf_lines.specs.Lines.{lines, words}
 use Rattle.sf_core.specs.Program.Named.{name_of}
 use Rattle.sf_core.specs.Program.Syntax.{Program}
@@ -15,7 +17,7 @@ use Rattle.sf_proof.specs.Laws.{AreWritable, IsFirstOfItsName, IsTermOfCode, IsW
 use Rattle.sf_proof.specs.ProofText.{Text, atom_text, lines_of, procedure_text, proof_text, split_text, tag_text, term_text}
 use Rattle.sf_proof.specs.Reading.{entry, entry_after, entry_of, numbers_from, numbers_in, tags_from, tags_in}
 use Rattle.sf_proof.specs.Words.{natural_of, procedure_named, split_by, tag_alone, tag_of_procedure, tag_with, tag_with_atom, tag_with_two, term_of}
-use Rattle.sf_proof.proofs.Spelling.{IsPlain, decimal-plain, inline-append, is_inline, lines-before, name-plain, natural-decimal, plain-inline, term-back, term-plain, words-before, words-plain}
+use Rattle.sf_proof.proofs.Spelling.{natural-decimal, term-back, term-plain}
 
 -- a written line: nothing in it ends a line, and it says the tag
 record IsWritten (p : Program) (line : Text) (tag : Tag) : Type 0 where
@@ -35,7 +37,7 @@ written-atom p w make a plain other is h =
     other
     ∙ ap (option_and_then (tag_with_atom w)) (natural-decimal a h) ∙ is a in
     record {
-      inline = inline-append (w ++ codes " ") (decimal a) (inline-append w (codes " ") (plain-inline w plain) refl)
+      inline = all-append is_inline (w ++ codes " ") (decimal a) (all-append is_inline w (codes " ") (plain-inline w plain) refl)
           (plain-inline (decimal a) (decimal-plain a wide));
       says = ap (entry_after p) spelled ∙ ap entry_of with;
     }
@@ -58,9 +60,9 @@ written-split p x y h k =
     ap (λ a. option_map split_by (option_zip a (term_of (term_text y)))) (term-back x h)
     ∙ ap (λ b. option_map split_by (option_zip (Some x) b)) (term-back y k) in
     record {
-      inline = inline-append (codes "split " ++ term_text x ++ codes " ") (term_text y)
-          (inline-append (codes "split " ++ term_text x) (codes " ")
-          (inline-append (codes "split ") (term_text x) refl (plain-inline (term_text x) one)) refl)
+      inline = all-append is_inline (codes "split " ++ term_text x ++ codes " ") (term_text y)
+          (all-append is_inline (codes "split " ++ term_text x) (codes " ")
+          (all-append is_inline (codes "split ") (term_text x) refl (plain-inline (term_text x) one)) refl)
           (plain-inline (term_text y) two);
       says = ap (entry_after p) spelled ∙ ap entry_of with;
     }
@@ -77,7 +79,7 @@ written-procedure p f h =
     ap (λ b. cond b (Some (t.Procedure (procedure_named p (name_of p f)))) None) h.name
     ∙ ap (λ g. Some (t.Procedure g)) h.first in
     record {
-      inline = inline-append (codes "procedure ") (name_of p f) refl (plain-inline (name_of p f) plain);
+      inline = all-append is_inline (codes "procedure ") (name_of p f) refl (plain-inline (name_of p f) plain);
       says = ap (entry_after p) spelled ∙ ap entry_of with;
     }
 

@@ -1,5 +1,6 @@
 -- Laws of a proof's text, in words of their own.
--- Ordinary: a format has one reading, and what is written is read back, as of any printer and its parser.
+-- Ordinary: a format has one reading, and what is written is read back, as of any printer and its
+-- parser.
 use Rattle.std.specs.Prelude.{◌≡◌, ◌<◌, ◌≤◌, ◌^◌, ◌⊎◌, true, List, [], ◌∷◌, length}
 use Rattle.std.specs.List.{range_with_len}
 use Rattle.sf_base.specs.declared.limits.TheConstants.{PROOF_BYTES}

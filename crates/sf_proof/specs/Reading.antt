@@ -1,5 +1,7 @@
--- How the text of a proof reads: the tags on its lines with the numbers of these lines, or why it doesn't.
--- Ordinary: a format of lines, read leniently: "be liberal in what you accept", Postel, RFC 761 (1980).
+-- How the text of a proof reads: the tags on its lines with the numbers of these lines, or why it
+-- doesn't.
+-- Ordinary: a format of lines, read leniently: "be liberal in what you accept", Postel, RFC 761
+-- (1980).
 use Rattle.std.specs.Prelude.{◌≡◌, ℕ, zero, suc, ◌<◌, ◌≤◌, ◌++◌, Bool, false, if◌then◌else◌, Option, Some, None, List, [], ◌∷◌, codes, length, slice_get}
 use Rattle.std.specs.Str.{bytes_eq}
 use Rattle.sf_base.specs.declared.limits.TheConstants.{PROOF_BYTES}
@@ -61,7 +63,8 @@ pub record IsBadLine (p : Program) (text : Text) (before : ℕ) : Type 0 where
   pub there : slice_get (lines text) before ≡ Some line
   pub bad : entry p before line ≡ Bad
 
--- the text is within its limit, each line is in order, and these are their tags and the numbers of their lines
+-- the text is within its limit, each line is in order, and these are their tags and the numbers of
+-- their lines
 pub record IsLined (p : Program) (text : Text) (lined : Lined) : Type 0 where
   pub short : length text ≤ PROOF_BYTES
   pub none_bad : (k : ℕ) → IsBadLine p text k → ⊥

@@ -30,7 +30,8 @@ abbrev pub term_of : Text → Option Term
 term_of word = if bytes_eq word (codes "nil") then Some Nil
     else option_or (symbol_of word) (option_map Int (number_of word))
 
--- the number of the first procedure of that name, and the first number of none where there is no such procedure
+-- the number of the first procedure of that name, and the first number of none where there is no
+-- such procedure
 abbrev pub procedure_named : Program → Text → ProcId
 procedure_named p name = record { 0 = position_or_len (λ f. bytes_eq f.name name) p.procedures }
 

@@ -1,5 +1,6 @@
 -- The text of a failed obligation: the goal at which a search had no rule.
--- Ordinary: a report of a proof state, one line each for what is known, what was handed over and what is wanted.
+-- Ordinary: a report of a proof state, one line each for what is known, what was handed over and
+-- what is wanted.
 use Rattle.std.specs.Prelude.{◌++◌, Option, Some, None, List, [], ◌∷◌, codes, slice_get}
 use Rattle.sf_base.specs.declared.ids.ProcId.{ProcId}
 use Rattle.sf_base.specs.declared.place.Place.{Place}
@@ -43,7 +44,8 @@ where_text p f place = codes "failed " ++ name_of p f ++ codes " at " ++ place_t
 abbrev pub head_text : Program → ProcId → Place → (why : Text) → Text
 head_text p f place why = where_text p f place ++ why ++ codes "\n"
 
--- what a state knows: the variables, the pairs that differ, the parts of the heap, and those that were handed over
+-- what a state knows: the variables, the pairs that differ, the parts of the heap, and those that
+-- were handed over
 abbrev pub state_text : Program → ProcId → State → Text
 state_text p f s =
     line_text (codes "vars") (value_text p f) s.vars

@@ -1,5 +1,6 @@
 -- How the text of a failure names variables and fields.
--- Ordinary: a resource's variable after the resource's name and a dot; what isn't there has no name.
+-- Ordinary: a resource's variable after the resource's name and a dot; what isn't there has no
+-- name.
 use Rattle.std.specs.Prelude.{ℕ, ◌++◌, get_or, Option, Some, None, List, [], codes, slice_get}
 use Rattle.sf_base.specs.declared.ids.FieldId.{FieldId}
 use Rattle.sf_base.specs.declared.ids.ProcId.{ProcId}

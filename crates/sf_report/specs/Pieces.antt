@@ -28,7 +28,8 @@ kind_text EndNotAllocated = codes "EndNotAllocated"
 abbrev pub place_text : Place → Text
 place_text place = decimal place.line ++ codes ":" ++ decimal place.column
 
--- how things are written one after the other, with one text before the first and another between them
+-- how things are written one after the other, with one text before the first and another between
+-- them
 abbrev pub joined : {X : Type 0} → (X → Text) → (before between : Text) → List X → Text
 joined write before between [] = []
 joined write before between (x ∷ xs) = before ++ write x ++ joined write between between xs

@@ -1,5 +1,6 @@
 -- What the text of a failure says is wanted: what the first thing to do asks for.
--- Berdine, Calcagno, O'Hearn, "Symbolic Execution with Separation Logic" (2005), section 5: what is left to show.
+-- Berdine, Calcagno, O'Hearn, "Symbolic Execution with Separation Logic" (2005), section 5: what is
+-- left to show.
 use Rattle.std.specs.Prelude.{◌++◌, get_or, Option, Some, None, List, [], ◌∷◌, codes}
 use Rattle.std.specs.Option.{option_and_then, option_or}
 use Rattle.sf_base.specs.declared.ids.FieldId.{FieldId}
@@ -71,7 +72,8 @@ abbrev pub there_text : Option Term → Text
 there_text None = codes "?"
 there_text (Some t) = term_text t
 
--- what meets in the first field of a wanted cell that doesn't fit the first cell there, or else another text
+-- what meets in the first field of a wanted cell that doesn't fit the first cell there, or else
+-- another text
 abbrev pub misfit_text : Option (Option Term × Term) → Text → Text
 misfit_text None text = text
 misfit_text (Some m) text = there_text m.0 ++ codes " == " ++ term_text m.1
@@ -83,7 +85,8 @@ misfit_at s bindings x fields =
     option_and_then (λ cell. first_misfit (first_fit s cell bindings) fields)
     (option_and_then (first_cell s.atoms) (term_of bindings x))
 
--- what the first conjunct wants: where two terms should be one in a cell, these two; else the conjunct
+-- what the first conjunct wants: where two terms should be one in a cell, these two; else the
+-- conjunct
 abbrev pub at_conjunct : Program → Stuck → State → Scope → Conjunct Term → Text
 at_conjunct p NotEqual s at (points q x fields) =
     misfit_text (misfit_at s at.bindings x fields) (conjunct_text p at (points q x fields))

@@ -1,6 +1,8 @@
--- Laws of runs of one task: what they come to is one thing, comes of each proved program, and comes by a numbered run.
--- Hoare, "An Axiomatic Basis for Computer Programming" (1969): sequential programs; Wright and Felleisen, "A
--- Syntactic Approach to Type Soundness" (1994): each configuration has ended, or goes on.
+-- Laws of runs of one task: what they come to is one thing, comes of each proved program, and comes
+-- by a numbered run.
+-- Hoare, "An Axiomatic Basis for Computer Programming" (1969): sequential programs; Wright and
+-- Felleisen, "A Syntactic Approach to Type Soundness" (1994): each configuration has ended, or goes
+-- on.
 use Rattle.std.specs.Prelude.{◌≡◌, ◌⊎◌, ℕ, suc, List, [], Some, None, map}
 use Rattle.sf_base.specs.declared.ids.ProcId.{ProcId}
 use Rattle.sf_base.specs.declared.ids.ResId.{ResId}
@@ -33,7 +35,8 @@ unfoldable pub OutcomesAreUnique : Type 0
 OutcomesAreUnique = (p : Program) (start : Config) (base count : ℕ) (one other : Outcome)
     → Alone p start base count one → Alone p start base count other → one ≡ other
 
--- where no parallel call can be reached from the entry, there is one task and it never makes another
+-- where no parallel call can be reached from the entry, there is one task and it never makes
+-- another
 unfoldable pub SequentialRunsAreLone : Type 0
 SequentialRunsAreLone = (p : Program) (f : ProcId) (store : Store) (heap : Heap) (start c : Config)
     (events : List Event) → IsSequential p f → Start p f store heap start → Reach p start events c → IsLone p c
@@ -48,8 +51,8 @@ unfoldable pub UnitsStayFree : Type 0
 UnitsStayFree = (p : Program) (unit : ℕ) (c d : Config) → IsFreeFrom unit c → Step p (event_alone unit) c d
     → IsFreeFrom (suc unit) d
 
--- in a program that meets the conditions on variables, no region is entered again inside of it: where a lone task
--- is at a region, its resource is free
+-- in a program that meets the conditions on variables, no region is entered again inside of it:
+-- where a lone task is at a region, its resource is free
 unfoldable pub LoneTasksFindRegionsFree : Type 0
 LoneTasksFindRegionsFree = (p : Program) (f : ProcId) (store : Store) (heap : Heap) (start c : Config)
     (events : List Event) (r : ResId) → IsFormed p → Conditions p → IsSequential p f
@@ -70,7 +73,8 @@ LoneTasksProgress = (p : Program) (f : ProcId) (store : Store) (heap : Heap) (st
 abbrev pub StaysGood : Program → Config → Type 0
 StaysGood p start = (events : List Event) (c : Config) → Reach p start events c → Good p c
 
--- each start from which only good configurations are reached has an outcome, for each number of units
+-- each start from which only good configurations are reached has an outcome, for each number of
+-- units
 unfoldable pub OutcomesExist : Type 0
 OutcomesExist = (p : Program) (f : ProcId) (store : Store) (heap : Heap) (start : Config) (base count : ℕ)
     → IsFormed p → Conditions p → IsSequential p f → Start p f store heap start → StaysGood p start
@@ -82,7 +86,8 @@ pub record HasOneOutcome (p : Program) (f : ProcId) (vars : Vars) (heap : Cells)
   pub comes : ComesTo p f vars heap base count out
   pub only : (other : Outcome) → ComesTo p f vars heap base count other → out ≡ other
 
--- in a sound program that meets the conditions on variables, so it is of each start, for each number of units
+-- in a sound program that meets the conditions on variables, so it is of each start, for each
+-- number of units
 unfoldable pub StartsHaveOneOutcome : Type 0
 StartsHaveOneOutcome = (p : Program) (f : ProcId) (vars : Vars) (heap : Cells) (parts : List (List ℕ))
     (unit count : ℕ) → IsFormed p → Conditions p → IsSound p → IsSequential p f → StartsWith p f vars heap parts
@@ -99,7 +104,8 @@ unfoldable pub EndsAreUnique : Type 0
 EndsAreUnique = (p : Program) (f : ProcId) (c : Config) (vars other : Vars) (heap more : Cells)
     → Ends p f c vars heap → Ends p f c other more → EndsSame vars other heap more
 
--- the configuration in which a procedure begins with variables and cells that are a start of it, is a start
+-- the configuration in which a procedure begins with variables and cells that are a start of it, is
+-- a start
 unfoldable pub BeginningsAreStarts : Type 0
 BeginningsAreStarts = (p : Program) (f : ProcId) (vars : Vars) (heap : Cells) (parts : List (List ℕ)) (c : Config)
     → StartsWith p f vars heap parts → Begins p f vars heap c

@@ -1,5 +1,7 @@
--- Lone: configurations with one task, which never makes another, and the units that its events may take.
--- Ordinary: the stack of a sequential program, each frame with the rest of its procedure's text to do.
+-- Lone: configurations with one task, which never makes another, and the units that its events may
+-- take.
+-- Ordinary: the stack of a sequential program, each frame with the rest of its procedure's text to
+-- do.
 use Rattle.std.specs.Prelude.{◌≡◌, ℕ, ◌<◌, ◌≤◌, false, List, [], ◌∷◌, Some, None, Contains}
 use Rattle.std.specs.List.{AllByRecursion}
 use Rattle.sf_base.specs.declared.ids.ResId.{ResId}
@@ -22,7 +24,8 @@ IsOfBody body (command c ∷ todo) =
     ((s : Site) → Contains (sites (inside todo) (then c done)) s → Contains (sites [] body) s) × IsOfBody body todo
 IsOfBody body (leave r ∷ todo) = IsOfBody body todo
 
--- the frame is of a procedure from which no parallel call can be reached, and what it has to do is of its body
+-- the frame is of a procedure from which no parallel call can be reached, and what it has to do is
+-- of its body
 pub record IsLoneFrame (p : Program) (f : Frame) : Type 0 where
   pub procedure : Procedure
   pub there : procedure_at p f.fixed.procedure ≡ Some procedure

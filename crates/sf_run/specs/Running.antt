@@ -35,7 +35,8 @@ pub record EndsWith (p : Program) (f : ProcId) (vars : Vars) (heap : Cells) (bas
   pub comes : ComesTo p f vars heap base count (finished last)
   pub ends : Ends p f last finish.vars finish.heap
 
--- why it stops: the entry's task has used all units, or it waits for a condition, which no try would find true
+-- why it stops: the entry's task has used all units, or it waits for a condition, which no try
+-- would find true
 abbrev pub Stops : Program → ProcId → Vars → Cells → (base : ℕ) → Budget → Stop → Type 0
 Stops p f vars heap base budget (Steps path used) =
     (path ≡ []) × (used ≡ budget.steps) × ComesTo p f vars heap base budget.steps spent

@@ -1,5 +1,6 @@
 -- Sequential: the procedures from which no parallel call can be reached.
--- Ordinary: reachability along calls, after Tarski, "A lattice-theoretical fixpoint theorem" (1955).
+-- Ordinary: reachability along calls, after Tarski, "A lattice-theoretical fixpoint theorem"
+-- (1955).
 use Rattle.std.specs.Prelude.{None, Contains}
 use Rattle.sf_base.specs.declared.ids.ProcId.{ProcId}
 use Rattle.sf_core.specs.Program.Heads.{Somewhere, head_forks}

@@ -49,8 +49,8 @@ pub fn lone_tasks_find_regions_free()
     ensures { LoneTasksFindRegionsFree }
 {}
 
-/// A lone task of a good configuration has ended, or is at a region whose condition is false, or has
-/// a step by each unit that is free.
+/// A lone task of a good configuration has ended, or is at a region whose condition is false, or
+/// has a step by each unit that is free.
 #[tactic(auto, using(crate::proofs::Closing::lone_tasks_progress))]
 pub fn lone_tasks_progress()
     ensures { LoneTasksProgress }
@@ -63,8 +63,8 @@ pub fn outcomes_exist()
     ensures { OutcomesExist }
 {}
 
-/// In a sound program that meets the conditions on variables, exactly one outcome comes of each start,
-/// for each number of units.
+/// In a sound program that meets the conditions on variables, exactly one outcome comes of each
+/// start, for each number of units.
 #[tactic(auto, using(crate::proofs::Closing::starts_have_one_outcome))]
 pub fn starts_have_one_outcome()
     ensures { StartsHaveOneOutcome }
@@ -88,8 +88,8 @@ pub fn numbered_runs_reach()
     ensures { NumberedRunsReach }
 {}
 
-/// Where no parallel call can be reached, a run ends in what a numbered list of events leads to, and
-/// there the entry has ended.
+/// Where no parallel call can be reached, a run ends in what a numbered list of events leads to,
+/// and there the entry has ended.
 #[tactic(auto, using(crate::proofs::Closing::ends_are_numbered))]
 pub fn ends_are_numbered()
     ensures { EndsAreNumbered }

@@ -43,8 +43,9 @@ enum Halt {
 /// Runs procedure `f` of a proved program from a start of it, where no parallel call can be reached
 /// from `f`. An `Ok` has what the run ends with. `Steps` says that the task would go on and no unit
 /// is left. `Waits` says that it is at a region whose condition is false: no other task would make
-/// it true, so each try that the budget allows would be in vain. What comes of a start is one thing,
-/// so each of these answers comes only where it is that; an `Err` may also say that memory ran out.
+/// it true, so each try that the budget allows would be in vain. What comes of a start is one
+/// thing, so each of these answers comes only where it is that; an `Err` may also say that memory
+/// ran out.
 ///
 /// So far there are no parallel calls to run, whatever the gate: no thread is started and nothing
 /// waits.
@@ -125,7 +126,8 @@ fn run_alone<'p>(
 ) -> Result<Halt, AllocError>
     requires alone { IsAlone (program_of p.now) first (config_of c.old) }
     requires room { first + count < 2 ^ 64 }
-    ensures { IfOk result (λ halt. AloneFrom (program_of p.now) (config_of c.old) (units first count)
+    ensures { IfOk result (λ halt.
+        AloneFrom (program_of p.now) (config_of c.old) (units first count)
         (outcome_of halt (config_of c.new))) }
 {
     let mut event = blank_event(alloc, p)?;

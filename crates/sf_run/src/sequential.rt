@@ -14,8 +14,8 @@ use sf_base::ProcId;
 use sf_core::{Command, Program, Site, sites};
 use std::alloc::{AllocError, Global};
 
-/// Whether no parallel call can be reached from a procedure: each procedure that is reached by calls
-/// is looked at once. An `Err` says that memory ran out.
+/// Whether no parallel call can be reached from a procedure: each procedure that is reached by
+/// calls is looked at once. An `Err` says that memory ran out.
 pub fn is_sequential(alloc: Global, p: &Program, f: ProcId) -> Result<bool, AllocError>
     requires { f.0 < length p.now.procedures.items }
     ensures { IfOk result (λ yes. IsTrue yes ↔ IsSequential (program_of p.now) f) }
@@ -41,7 +41,8 @@ fn none_visited(alloc: Global, count: usize) -> Result<Vec<bool>, AllocError>
     Ok(visited)
 }
 
-/// Visits the procedures that are called at those sites, up to a parallel call. Whether there is one.
+/// Visits the procedures that are called at those sites, up to a parallel call. Whether there is
+/// one.
 fn visit_callees(
     body: &[Site],
     visited: &mut Vec<bool>,

@@ -14,6 +14,7 @@ use Rattle.sf_base.proofs.Elements.{contains-cons, contains-nil}
 use Rattle.sf_base.proofs.Numbers.{eqb-less}
 use Rattle.sf_base.proofs.Options.{option_or-assoc}
 use Rattle.sf_lex.specs.Whole.{is_name}
+use Rattle.sf_lines.specs.Lemmas.Written.{lines-before}
 use Rattle.sf_lines.specs.Lines.{Text, lines}
 use Rattle.sf_state.specs.declared.fault.StartFault.TheVariants.{TooLong, Twice}
 use Rattle.sf_state.specs.declared.fields.Setting.{Setting}
@@ -26,7 +27,6 @@ use Rattle.sf_state.specs.Stated.{Gives, missing_from, text_refusal, values_give
 use Rattle.sf_state.specs.StateText.{cell_lines, state_text, values_or_none}
 use Rattle.sf_state.proofs.AllValues.{text-short}
 use Rattle.sf_state.proofs.Keeping.{cell-push, count-push, value-push}
-use Rattle.sf_state.proofs.Spelling.{lines-before}
 use Rattle.sf_state.proofs.WrittenLines.{AreCells, ArePlaced, EachWritable, cell_entries, entries-cells, entries-variables, setting_at, settings_from, variable_entries}
 
 -- nothing before gives one of the variables from that number on

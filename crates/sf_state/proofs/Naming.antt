@@ -13,30 +13,19 @@ use Rattle.sf_base.proofs.Elements.{contains-cons, contains-nil, contains-rest}
 use Rattle.sf_base.proofs.Equality.{bytes_eq-same, bytes_eq-self}
 use Rattle.sf_base.proofs.Members.{contains-flat_map_from, contains-map, contains-map_from}
 use Rattle.sf_base.proofs.Prefixes.{prefix-more, prefix-none}
-use Rattle.sf_lex.specs.Lexeme.{is_letter, is_word_byte, word_kind}
-use Rattle.sf_lex.specs.Whole.{is_name, is_name_kind}
+use Rattle.sf_lex.specs.Lexeme.{is_word_byte}
+use Rattle.sf_lex.specs.Whole.{is_name}
+use Rattle.sf_lines.specs.Lemmas.Tokens.{name-bytes, name-plain}
+use Rattle.sf_lines.specs.Lemmas.Written.{IsPlain, all-append, all-more, plain-append, split-sign}
 use Rattle.sf_lines.specs.Lines.{Text, split_once}
 use Rattle.sf_core.specs.Program.Syntax.{Procedure, Program, Resource}
 use Rattle.sf_state.specs.Names.{are_names, is_target, names_of, names_of_resource, parameters, place_of, qualified}
 use Rattle.sf_state.specs.Words.{begins}
 use Rattle.sf_state.specs.Written.{AreNames, HasNames}
 use Rattle.sf_state.proofs.WrittenLines.{ArePlaced, IsSpelled}
-use Rattle.sf_state.proofs.Spelling.{IsPlain, all-append, all-more, is_visible, plain-append, split-sign}
 
-letter-visible : (b : ℕ) → is_letter b ≡ true → is_visible b ≡ true
-letter-visible b e = grind (arith, nat_tests)
-
-word-visible : (b : ℕ) → is_word_byte b ≡ true → is_visible b ≡ true
-word-visible b e = grind (arith, nat_tests)
-
-letter-other : (b : ℕ) → is_letter b ≡ true → ((b == 35) ≡ false) × ((b == 64) ≡ false)
-letter-other b e = (grind (arith, nat_tests), grind (arith, nat_tests))
-
-letter-sign : (b : ℕ) → is_letter b ≡ true → (not (b == 61)) ≡ true
-letter-sign b e = grind (arith, nat_tests)
-
-letter-dot : (b : ℕ) → is_letter b ≡ true → (not (b == 46)) ≡ true
-letter-dot b e = grind (arith, nat_tests)
+word-other : (b : ℕ) → is_word_byte b ≡ true → ((b == 35) ≡ false) × ((b == 64) ≡ false)
+word-other b e = (grind (arith, nat_tests), grind (arith, nat_tests))
 
 word-sign : (b : ℕ) → is_word_byte b ≡ true → (not (b == 61)) ≡ true
 word-sign b e = grind (arith, nat_tests)
@@ -55,18 +44,14 @@ record HasForm (name : Text) : Type 0 where
 name-form : (name : Text) → is_name name ≡ true → HasForm name
 name-form [] h = absurd cc
 name-form (b ∷ bs) h =
-    let short = and_parts (is_letter b && list_all is_word_byte bs && is_name_kind (word_kind (b ∷ bs))) _ h in
-    let kind = and_parts (is_letter b && list_all is_word_byte bs) _ short.0 in
-    let parts = and_parts (is_letter b) (list_all is_word_byte bs) kind.0 in
+    let each = name-bytes (b ∷ bs) h in
+    let first = word-other b (and_parts (is_word_byte b) (list_all is_word_byte bs) each).0 in
     record {
-      plain = record {
-        some = refl;
-        visible = rw (letter-visible b parts.0) (all-more is_word_byte is_visible word-visible bs parts.1);
-      };
-      no_sign = rw (letter-sign b parts.0) (all-more is_word_byte (λ c. not (c == 61)) word-sign bs parts.1);
-      no_dot = rw (letter-dot b parts.0) (all-more is_word_byte (λ c. not (c == 46)) word-dot bs parts.1);
-      no_comment = (letter-other b parts.0).0;
-      no_cell = (letter-other b parts.0).1;
+      plain = name-plain (b ∷ bs) h;
+      no_sign = all-more is_word_byte (λ c. not (c == 61)) word-sign (b ∷ bs) each;
+      no_dot = all-more is_word_byte (λ c. not (c == 46)) word-dot (b ∷ bs) each;
+      no_comment = first.0;
+      no_cell = first.1;
     }
 
 -- a name is spelled as a field's name and as a variable's

@@ -6,6 +6,7 @@ use Rattle.std.specs.Option.{option_map}
 use Rattle.sf_base.specs.declared.value.Value.{Value}
 use Rattle.sf_base.specs.declared.value.Value.TheVariants.{Nil as nil}
 use Rattle.sf_lex.specs.Whole.{is_name}
+use Rattle.sf_lines.specs.Lemmas.Written.{IsPlain, all-append, is_inline, is_visible, lines-before, plain-append, plain-inline, split-sign, words-before, words-plain, words-space}
 use Rattle.sf_lines.specs.Lines.{Text, lines, only, split_once, words}
 use Rattle.sf_state.specs.declared.fields.Fields.TheVariants.{Are}
 use Rattle.sf_state.specs.declared.fields.Setting.{Setting}
@@ -18,7 +19,7 @@ use Rattle.sf_state.specs.Says.{assigned, both, cell_said, cell_with, entries_fr
 use Rattle.sf_state.specs.StateText.{cell_lines, field_text, field_texts, value_text, values_or_none, variable_line, variable_lines}
 use Rattle.sf_state.specs.Values.{is_location}
 use Rattle.sf_state.specs.Words.{begins}
-use Rattle.sf_state.proofs.Spelling.{IsPlain, all-append, is_inline, is_visible, lines-before, location-back, location-plain, plain-append, plain-inline, split-sign, value-back, value-plain, words-before, words-plain}
+use Rattle.sf_state.proofs.Spelling.{location-back, location-plain, value-back, value-plain}
 
 -- a name as it is written: it has a form, and nothing in it ends a word or is a sign
 pub record IsSpelled (form : Text → Bool) (name : Text) : Type 0 where

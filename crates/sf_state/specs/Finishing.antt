@@ -12,7 +12,8 @@ use Rattle.sf_lines.specs.Lines.{Text}
 use Rattle.sf_state.specs.Names.{names_of}
 use Rattle.sf_state.specs.StateText.{state_text}
 
--- the values of variables, in canonical order: the procedure's own, and those of each resource in file order
+-- the values of variables, in canonical order: the procedure's own, and those of each resource in
+-- file order
 abbrev pub values_of : Vars → List Value
 values_of vars = vars.own.items ++ flat_map (λ vs. vs.items) vars.shared.items
 

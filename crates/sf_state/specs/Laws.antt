@@ -1,5 +1,6 @@
 -- Laws of entries, of starts and of a state's text, in words of their own.
--- Ordinary: a format has one reading, and what is written is read back, as of any printer and its parser.
+-- Ordinary: a format has one reading, and what is written is read back, as of any printer and its
+-- parser.
 use Rattle.std.specs.Prelude.{◌≡◌, ◌↔◌, ◌⊎◌, ◌≤◌, ℕ, List, ◌++◌, Some, Contains, codes, length, map, slice_get}
 use Rattle.std.specs.List.{All, AllZip}
 use Rattle.sf_base.specs.declared.ids.ProcId.{ProcId}
@@ -45,8 +46,8 @@ pub record SameVars (v w : Vars) : Type 0 where
 abbrev pub SameLocations : List ℕ → List ℕ → Type 0
 SameLocations ls ms = (l : ℕ) → Contains ls l ↔ Contains ms l
 
--- the text is one start at most, its parts taken as sets of locations, or is refused for one reason at most, and not
--- both
+-- the text is one start at most, its parts taken as sets of locations, or is refused for one reason
+-- at most, and not both
 pub record StartsOnce (p : Program) (f : ProcId) (g : Procedure) (text : Text) : Type 0 where
   pub variables : (v w : Vars) (h k : Cells) (ps qs : List (List ℕ)) (t u : ℕ) → IsStartText p f g text v h ps t
       → IsStartText p f g text w k qs u → SameVars v w
@@ -82,7 +83,8 @@ unfoldable pub FinishTextExists : Type 0
 FinishTextExists = (p : Program) (g : Procedure) (vars : Vars) (heap : Cells)
     → (text : Text) × IsFinishText p g vars heap text
 
--- the text of such variables and cells reads as these, after the line `finished` too, where it is within the limit
+-- the text of such variables and cells reads as these, after the line `finished` too, where it is
+-- within the limit
 pub record ReadsBack (p : Program) (g : Procedure) (vars : Vars) (heap : Cells) (text : Text) : Type 0 where
   pub alone : length text ≤ STATE_BYTES → GivesState p g text vars heap
   pub after_finished : length (codes "finished\n" ++ text) ≤ STATE_BYTES

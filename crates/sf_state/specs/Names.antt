@@ -1,4 +1,5 @@
--- The names in a state's text, in canonical order: the entry's references, its values, the variables of resources.
+-- The names in a state's text, in canonical order: the entry's references, its values, the
+-- variables of resources.
 -- Ordinary: identifiers, those of a resource qualified by its name.
 use Rattle.std.specs.Prelude.{ℕ, ◌+◌, ◌||◌, ◌&&◌, Bool, false, Option, Some, None, List, ◌++◌, codes, map, take}
 use Rattle.std.specs.List.{flat_map, position}

@@ -83,8 +83,8 @@ abbrev pub cell_refusal : (fields : List Text) → (before : List Entry) → Opt
 cell_refusal fields before (Some field) = Some (fault.Twice (name_at fields field.0))
 cell_refusal fields before None = if nat_lt (cell_count before) STATE_CELLS then None else Some fault.TooLong
 
--- why a line is refused after those before it: it isn't in order, names what isn't there, gives something again, or
--- is one cell too many
+-- why a line is refused after those before it: it isn't in order, names what isn't there, gives
+-- something again, or is one cell too many
 abbrev pub refusal : (fields names : List Text) → (before : List Entry) → Entry → Option StartFault
 refusal fields names before Nothing = None
 refusal fields names before Bad = Some (fault.BadLine (length before + 1))

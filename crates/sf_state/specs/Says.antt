@@ -1,5 +1,6 @@
 -- What a line of a state's text says.
--- Ordinary: a format of lines, read leniently: "be liberal in what you accept", Postel, RFC 761 (1980).
+-- Ordinary: a format of lines, read leniently: "be liberal in what you accept", Postel, RFC 761
+-- (1980).
 use Rattle.std.specs.Prelude.{ℕ, zero, suc, ◌++◌, Bool, false, if◌then◌else◌, Option, Some, None, List, [], ◌∷◌, codes}
 use Rattle.std.specs.Str.{bytes_eq}
 use Rattle.sf_base.specs.declared.ids.FieldId.{FieldId}
@@ -38,7 +39,8 @@ abbrev pub field_said : (names : List Text) → Option (Text × Value) → Field
 field_said names None = fields.Bad
 field_said names (Some s) = set_field s.0 s.1 (field_named names s.0)
 
--- what two parts of a line say of them together: a part that isn't in order comes before an unknown name
+-- what two parts of a line say of them together: a part that isn't in order comes before an unknown
+-- name
 abbrev pub both : Fields → Fields → Fields
 both fields.Bad more = fields.Bad
 both (fields.Unknown name) fields.Bad = fields.Bad
@@ -86,8 +88,8 @@ abbrev pub variable_said : (names : List Text) → Option (Text × Text) → Ent
 variable_said names None = entry.Bad
 variable_said names (Some parts) = assigned names (only (words parts.0)) (only (words parts.1))
 
--- what a line says that has these words: one without words, and a comment, nothing; one that begins with `@` a
--- cell; others a variable. The names are those of the fields and of the variables
+-- what a line says that has these words: one without words, and a comment, nothing; one that begins
+-- with `@` a cell; others a variable. The names are those of the fields and of the variables
 abbrev pub said : (fields names : List Text) → Text → List Text → Entry
 said fields names line [] = entry.Nothing
 said fields names line (word ∷ more) =

@@ -27,8 +27,8 @@ abbrev pub by_resource : List Resource → List Value → List (List Value)
 by_resource [] values = []
 by_resource (r ∷ rs) values = take (length r.variables) values ∷ by_resource rs (drop (length r.variables) values)
 
--- the text isn't refused, and gives these cells and these values: in canonical order first those of the entry's
--- references and values, and then those of each resource's variables
+-- the text isn't refused, and gives these cells and these values: in canonical order first those of
+-- the entry's references and values, and then those of each resource's variables
 pub record GivesState (p : Program) (g : Procedure) (text : Text) (vars : Vars) (heap : Cells) : Type 0 where
   pub accepted : text_refusal p.fields (names_of p g) text ≡ None
   pub values : List Value
@@ -71,7 +71,8 @@ pub record IsLeftOver (vars : Var → Value) (heap : Heap) (assertions : List As
   pub there : without (concat parts) heap location ≢ None
   pub least : (l : ℕ) → without (concat parts) heap l ≢ None → location ≤ l
 
--- the text gives these variables and cells, with which the procedure starts; these are its parts and its first unit
+-- the text gives these variables and cells, with which the procedure starts; these are its parts
+-- and its first unit
 pub record IsStartText (p : Program) (f : ProcId) (g : Procedure) (text : Text) (vars : Vars) (heap : Cells)
     (parts : List (List ℕ)) (unit : ℕ) : Type 0 where
   pub state : GivesState p g text vars heap
@@ -95,8 +96,8 @@ pub data IsStartFault (p : Program) (g : Procedure) (text : Text) (f : StartFaul
       → IsNoStart p g text (λ vars heap. IsLeftOver vars heap (assertions_of p g) location)
       → IsStartFault p g text f
 
--- the call answers a start exactly where the text is one, and that it is none, for the one reason, exactly where it
--- is none for that; instead of either it may run out of memory
+-- the call answers a start exactly where the text is one, and that it is none, for the one reason,
+-- exactly where it is none for that; instead of either it may run out of memory
 pub record DecidesStart (p : Program) (f : ProcId) (g : Procedure) (text : Text) (result : Result Start StartFault)
     : Type 0 where
   pub started : IfOk result (λ s. IsStartText p f g text s.vars s.heap s.parts.items s.unit)

@@ -27,7 +27,8 @@ variable_lines (name ∷ more) number values = variable_line name (slice_index_o
 abbrev pub field_text : (name : Text) → Value → Text
 field_text name value = codes " " ++ name ++ codes "=" ++ value_text value
 
--- these fields of a cell, the first of which has that number, in declared order: one without a value is nil
+-- these fields of a cell, the first of which has that number, in declared order: one without a
+-- value is nil
 abbrev pub field_texts : (names : List Text) → (number : ℕ) → List Value → Text
 field_texts [] number values = []
 field_texts (name ∷ more) number values = field_text name (slice_index_or values number nil)

@@ -25,7 +25,8 @@ missing_from names number [] = None
 missing_from names number (None ∷ values) = Some (fault.Missing (name_at names number))
 missing_from names number (Some value ∷ values) = missing_from names (suc number) values
 
--- why a text of these lines is refused: its first line that is refused, or the first variable without a value
+-- why a text of these lines is refused: its first line that is refused, or the first variable
+-- without a value
 abbrev pub lines_refusal : (fields names : List Text) → List Entry → Option StartFault
 lines_refusal fields names es =
     option_or (first_refusal fields names [] es) (missing_from names 0 (values_given es 0 names))
@@ -42,8 +43,8 @@ pub record Gives (fields names : List Text) (text : Text) (values : List Value)
   pub cells_are : (location : ℕ) → cells location
       ≡ option_map (cell_values (length fields)) (cell_given (entries_of fields names text) location)
 
--- the call gives what the text says, where nothing in it is refused; or says why it is refused, or that memory ran
--- out
+-- the call gives what the text says, where nothing in it is refused; or says why it is refused, or
+-- that memory ran out
 abbrev pub IsStated : (fields names : List Text) → Text → Result State StartFault → Type 0
 IsStated fields names text (Ok state) = (text_refusal fields names text ≡ None)
     × Gives fields names text state.values.items (get nat_cmp state.cells)

@@ -1,4 +1,5 @@
--- Which states can be written so that they are read back: names that a reader takes, and values within the limits.
+-- Which states can be written so that they are read back: names that a reader takes, and values
+-- within the limits.
 -- Ordinary: the tokens of a format, and that no two things of one kind have one name.
 use Rattle.std.specs.Prelude.{◌≡◌, ◌≤◌, ◌+◌, ℕ, true, List, Some, Contains, length, map, slice_get}
 use Rattle.std.specs.FinMap.{get, len}
@@ -20,8 +21,8 @@ pub record AreNames (names : List Text) : Type 0 where
   pub named : (k : ℕ) (name : Text) → slice_get names k ≡ Some name → is_name name ≡ true
   pub differ : (j k : ℕ) (name : Text) → slice_get names j ≡ Some name → slice_get names k ≡ Some name → j ≡ k
 
--- the names of a program are names, and those of one kind differ: fields, resources, procedures, the variables of one
--- resource, and the references and values of one procedure
+-- the names of a program are names, and those of one kind differ: fields, resources, procedures,
+-- the variables of one resource, and the references and values of one procedure
 pub record HasNames (p : Program) : Type 0 where
   pub fields : AreNames p.fields
   pub resources : AreNames (map (λ r. r.name) p.resources)
@@ -41,8 +42,8 @@ pub record IsWritableCell (p : Program) (at : ℕ) (values : FieldValues) : Type
   pub size : length values ≡ length p.fields
   pub each : (v : Value) → Contains values v → IsWritable v
 
--- variables and cells that a text can have: a value for each variable of the procedure and of the resources, and
--- cells within the limit
+-- variables and cells that a text can have: a value for each variable of the procedure and of the
+-- resources, and cells within the limit
 pub record AreWritable (p : Program) (g : Procedure) (vars : Vars) (heap : Cells) : Type 0 where
   pub own : length vars.own.items ≡ g.references + g.values
   pub shared : map (λ vs. length vs.items) vars.shared.items ≡ map (λ r. length r.variables) p.resources

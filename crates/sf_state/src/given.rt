@@ -78,8 +78,8 @@ fn cell_name(alloc: Global, location: u64) -> Result<Name, AllocError>
 impl Given {
     /// Nothing is given yet of so many variables.
     pub(crate) fn new(alloc: Global, count: usize) -> Result<Given, AllocError>
-        ensures { IfOk result (λ given. (fields : List Text) (names : List Text) → length names ≡ count
-            → Keeps fields names given []) }
+        ensures { IfOk result (λ given. (fields : List Text) (names : List Text)
+            → length names ≡ count → Keeps fields names given []) }
     {
         Ok(Given {
             values: Vec::from_elem(alloc, None, count)?,
@@ -116,7 +116,8 @@ impl Given {
         location: u64,
         settings: &[Setting],
     ) -> Result<(), StartFault>
-        ensures { (names : List Text) (es : List E) → Keeps (program_of p.now).fields names self.old es
+        ensures { (names : List Text) (es : List E)
+            → Keeps (program_of p.now).fields names self.old es
             → Taken (program_of p.now).fields names result self.new es
             (e.Cell location settings.now) }
     {

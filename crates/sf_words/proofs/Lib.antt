@@ -10,4 +10,5 @@ pub mod Levels
 pub mod Program
 pub mod Bundles
 pub mod Answered
+pub mod Ranges
 pub mod Spelled

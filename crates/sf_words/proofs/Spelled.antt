@@ -8,6 +8,7 @@ use Rattle.std.proofs.lemmas.Bool.Decides.{nat_tests}
 use Rattle.std.proofs.lemmas.Int.Digits.{digits_value_push}
 use Rattle.std.proofs.lemmas.List.{length-append}
 use Rattle.std.proofs.lemmas.List.Folds.{list_all-append}
+use Rattle.sf_base.specs.declared.limits.TheConstants.{DEMO, STEPS, WAITS, WORKERS}
 use Rattle.sf_words.specs.Laws.{EachOrderIsSpelled}
 use Rattle.sf_words.specs.Words.{Text, dashes, demo, is_blank, number_of, order_of, recheck, run, run_of, verify}
 
@@ -56,38 +57,38 @@ long-full (a ∷ b ∷ rest) e = go (45 == a)
 
 -- ---- words for each order
 
-spelled-verify : (file : Text) (k : ℕ) (t : Numeral 15 k) → is_blank file ≡ false → 1 ≤ k → k ≤ 64
+spelled-verify : (file : Text) (k : ℕ) (t : Numeral 15 k) → is_blank file ≡ false → 1 ≤ k → k ≤ WORKERS
     → order_of (codes "verify" ∷ (codes "--workers=" ++ t.text) ∷ dashes ∷ file ∷ []) ≡ Some (verify file k)
 spelled-verify file k t e some few =
-    ap₂ (λ (b : Bool) (o : Option ℕ). cond (b || false) None (option_map (λ n. verify file n) o)) e (numeral-number 64 k t some few)
+    ap₂ (λ (b : Bool) (o : Option ℕ). cond (b || false) None (option_map (λ n. verify file n) o)) e (numeral-number WORKERS k t some few)
 
 spelled-recheck : (file proof : Text) → is_blank file ≡ false → is_blank proof ≡ false
     → order_of (codes "recheck" ∷ dashes ∷ file ∷ proof ∷ []) ≡ Some (recheck file proof)
 spelled-recheck file proof e f = ap₂ (λ (a b : Bool). cond (a || (b || false)) None (Some (recheck file proof))) e f
 
 spelled-run : (file entry state : Text) (n k : ℕ) (s : Numeral 15 n) (t : Numeral 15 k) → is_blank file ≡ false → is_blank entry ≡ false → is_blank state ≡ false
-    → 1 ≤ n → n ≤ 281474976710656 → 1 ≤ k → k ≤ 16777216
+    → 1 ≤ n → n ≤ STEPS → 1 ≤ k → k ≤ WAITS
     → order_of (codes "run" ∷ (codes "--steps=" ++ s.text) ∷ (codes "--waits=" ++ t.text) ∷ dashes ∷ file ∷ entry ∷ state ∷ []) ≡ Some (run file entry state n k)
 spelled-run file entry state n k s t e f g some few some_waits few_waits =
-    ap₂ (λ (a b : Bool). cond (a || (b || (is_blank state || false))) None (run_of (file ∷ entry ∷ state ∷ []) (number_of 281474976710656 s.text) (number_of 16777216 t.text))) e f
-    ∙ ap (λ (d : Bool). cond (d || false) None (run_of (file ∷ entry ∷ state ∷ []) (number_of 281474976710656 s.text) (number_of 16777216 t.text))) g
-    ∙ ap₂ (λ (x y : Option ℕ). run_of (file ∷ entry ∷ state ∷ []) x y) (numeral-number 281474976710656 n s some few) (numeral-number 16777216 k t some_waits few_waits)
+    ap₂ (λ (a b : Bool). cond (a || (b || (is_blank state || false))) None (run_of (file ∷ entry ∷ state ∷ []) (number_of STEPS s.text) (number_of WAITS t.text))) e f
+    ∙ ap (λ (d : Bool). cond (d || false) None (run_of (file ∷ entry ∷ state ∷ []) (number_of STEPS s.text) (number_of WAITS t.text))) g
+    ∙ ap₂ (λ (x y : Option ℕ). run_of (file ∷ entry ∷ state ∷ []) x y) (numeral-number STEPS n s some few) (numeral-number WAITS k t some_waits few_waits)
 
-spelled-demo : (n : ℕ) (t : Numeral 15 n) → 1 ≤ n → n ≤ 1000 → order_of (codes "demo" ∷ dashes ∷ t.text ∷ []) ≡ Some (demo n)
+spelled-demo : (n : ℕ) (t : Numeral 15 n) → 1 ≤ n → n ≤ DEMO → order_of (codes "demo" ∷ dashes ∷ t.text ∷ []) ≡ Some (demo n)
 spelled-demo n t some few =
-    ap₂ (λ (b : Bool) (o : Option ℕ). cond (b || false) None (option_map (λ x. demo x) o)) (long-full t.text t.wide) (numeral-number 1000 n t some few)
+    ap₂ (λ (b : Bool) (o : Option ℕ). cond (b || false) None (option_map (λ x. demo x) o)) (long-full t.text t.wide) (numeral-number DEMO n t some few)
 
 pub each_order_is_spelled : EachOrderIsSpelled
 each_order_is_spelled (verify file k) m =
-    let t = numeral 15 k (omega (arith, m.2)) in
-    (codes "verify" ∷ (codes "--workers=" ++ t.text) ∷ dashes ∷ file ∷ [], spelled-verify file k t m.0 m.1 m.2)
-each_order_is_spelled (recheck file proof) m = (codes "recheck" ∷ dashes ∷ file ∷ proof ∷ [], spelled-recheck file proof m.0 m.1)
+    let t = numeral 15 k (omega (arith, m.1.1)) in
+    (codes "verify" ∷ (codes "--workers=" ++ t.text) ∷ dashes ∷ file ∷ [], spelled-verify file k t m.0 m.1.0 m.1.1)
+each_order_is_spelled (recheck file proof) m = (codes "recheck" ∷ dashes ∷ file ∷ proof ∷ [], spelled-recheck file proof m.0.0 m.0.1)
 each_order_is_spelled (run file entry state n k) m =
-    let s = numeral 15 n (omega (arith, m.4)) in
-    let t = numeral 15 k (omega (arith, m.6)) in (
+    let s = numeral 15 n (omega (arith, m.1.1)) in
+    let t = numeral 15 k (omega (arith, m.1.3)) in (
       codes "run" ∷ (codes "--steps=" ++ s.text) ∷ (codes "--waits=" ++ t.text) ∷ dashes ∷ file ∷ entry ∷ state ∷ [],
-      spelled-run file entry state n k s t m.0 m.1 m.2 m.3 m.4 m.5 m.6,
+      spelled-run file entry state n k s t m.0.0 m.0.1 m.0.2 m.1.0 m.1.1 m.1.2 m.1.3,
     )
 each_order_is_spelled (demo n) m =
-    let t = numeral 15 n (omega (arith, m.1)) in
-    (codes "demo" ∷ dashes ∷ t.text ∷ [], spelled-demo n t m.0 m.1)
+    let t = numeral 15 n (omega (arith, m.1.1)) in
+    (codes "demo" ∷ dashes ∷ t.text ∷ [], spelled-demo n t m.1.0 m.1.1)

@@ -1,21 +1,24 @@
 -- Laws of the grammar, in words of their own.
 -- Ordinary: a command line means one thing, and everything that can be meant can be said.
-use Rattle.std.specs.Prelude.{◌≡◌, ◌≤◌, false, List, Some}
-use Rattle.sf_words.specs.Words.{Order, Text, demo, is_blank, order_of, recheck, run, verify}
+use Rattle.std.specs.Prelude.{◌≡◌, false, List, Some}
+use Rattle.sf_words.specs.Words.{HasNumbersInRange, Order, Text, demo, is_blank, order_of, recheck, run, verify}
 
 -- words are at most one order
 abbrev pub WordsAreOneOrder : Type 0
 WordsAreOneOrder = (words : List Text) (one other : Order) → order_of words ≡ Some one
     → order_of words ≡ Some other → one ≡ other
 
+-- no word of the order is blank
+abbrev pub HasNoBlankWord : Order → Type 0
+HasNoBlankWord (verify file workers) = is_blank file ≡ false
+HasNoBlankWord (recheck file proof) = (is_blank file ≡ false) × (is_blank proof ≡ false)
+HasNoBlankWord (run file entry state steps waits) =
+    (is_blank file ≡ false) × (is_blank entry ≡ false) × (is_blank state ≡ false)
+HasNoBlankWord (demo procedures) = Unit {0}
+
 -- an order that can be meant: no word of it is blank, and its numbers are in their ranges
 abbrev pub CanBeMeant : Order → Type 0
-CanBeMeant (verify file workers) = (is_blank file ≡ false) × (1 ≤ workers) × (workers ≤ 64)
-CanBeMeant (recheck file proof) = (is_blank file ≡ false) × (is_blank proof ≡ false)
-CanBeMeant (run file entry state steps waits) =
-    (is_blank file ≡ false) × (is_blank entry ≡ false) × (is_blank state ≡ false) × (1 ≤ steps)
-    × (steps ≤ 281474976710656) × (1 ≤ waits) × (waits ≤ 16777216)
-CanBeMeant (demo procedures) = (1 ≤ procedures) × (procedures ≤ 1000)
+CanBeMeant order = HasNoBlankWord order × HasNumbersInRange order
 
 -- each such order is spelled by some words
 abbrev pub EachOrderIsSpelled : Type 0

@@ -1,12 +1,13 @@
 -- The grammar of a command's words: which lists of words are an order, and which one.
 -- The form of such a text is that of The Open Group, "Utility Conventions" (2018).
-use Rattle.std.specs.Prelude.{ℕ, Bool, false, not, ◌&&◌, ◌||◌, if◌then◌else◌, Option, Some, None}
+use Rattle.std.specs.Prelude.{ℕ, ◌≤◌, Bool, false, not, ◌&&◌, ◌||◌, if◌then◌else◌, Option, Some, None}
 use Rattle.std.specs.Prelude.{List, [], ◌∷◌, ◌==◌, codes, length, nat_le}
 use Rattle.std.specs.Prelude.{option_and_then, option_map}
 use Rattle.std.specs.Char.{is_ascii_digit}
 use Rattle.std.specs.List.{after_first, before_first, list_all, list_any}
 use Rattle.std.specs.Str.{bytes_eq}
 use Rattle.std.specs.Str.Parse.{digits_value}
+use Rattle.sf_base.specs.declared.limits.TheConstants.{DEFAULT_STEPS, DEFAULT_WAITS, DEMO, STEPS, WAITS, WORKERS}
 
 -- a text as its bytes
 abbrev pub Text : Type 0
@@ -18,6 +19,14 @@ pub data Order : Type 0 where
   recheck : (file proof : Text) → Order
   run : (file entry state : Text) (steps waits : ℕ) → Order
   demo : (procedures : ℕ) → Order
+
+-- the numbers of an order are from 1 to their limits
+abbrev pub HasNumbersInRange : Order → Type 0
+HasNumbersInRange (verify file workers) = (1 ≤ workers) × (workers ≤ WORKERS)
+HasNumbersInRange (recheck file proof) = Unit {0}
+HasNumbersInRange (run file entry state steps waits) =
+    (1 ≤ steps) × (steps ≤ STEPS) × (1 ≤ waits) × (waits ≤ WAITS)
+HasNumbersInRange (demo procedures) = (1 ≤ procedures) × (procedures ≤ DEMO)
 
 -- ---- single words
 
@@ -160,7 +169,7 @@ run_of _ steps waits = None
 
 -- `demo N`
 abbrev pub demo_of : (operands : List Text) → Option Order
-demo_of (number ∷ []) = option_map (λ n. demo n) (number_of 1000 number)
+demo_of (number ∷ []) = option_map (λ n. demo n) (number_of DEMO number)
 demo_of _ = None
 
 -- the options of `verify`, of `run`, and of the others
@@ -175,13 +184,13 @@ no_options = []
 
 -- how many workers, events and tries there are, by the values of those options
 abbrev pub workers_of : List Text → Option ℕ
-workers_of = chosen_of 64 1
+workers_of = chosen_of WORKERS 1
 
 abbrev pub steps_of : List Text → Option ℕ
-steps_of = chosen_of 281474976710656 1000000
+steps_of = chosen_of STEPS DEFAULT_STEPS
 
 abbrev pub waits_of : List Text → Option ℕ
-waits_of = chosen_of 16777216 1000000
+waits_of = chosen_of WAITS DEFAULT_WAITS
 
 -- the order of each command by what its words give
 abbrev pub verify_given : Given → Option Order

@@ -43,8 +43,8 @@ fn run<'a>(
     steps: Option<&[&str]>,
     waits: Option<&[&str]>,
 ) -> Option<Order<'a>>
-    ensures { order_in result ≡ run_of (texts_under operands.entry) (steps_of (texts_under steps.entry))
-        (waits_of (texts_under waits.entry)) }
+    ensures { order_in result ≡ run_of (texts_under operands.entry)
+        (steps_of (texts_under steps.entry)) (waits_of (texts_under waits.entry)) }
 {
     match operands {
         Some([file, entry, state]) => {

@@ -2,7 +2,7 @@ ghost use Rattle.std.specs.Prelude.{◌≡◌, ◌⊎◌, [], IfOk, IfErr, Match
 ghost use Rattle.clap.specs.Words.{fault_of, subcommand_of, subcommand_rows_of};
 ghost use Rattle.sf_words.specs.Internal.Forms.{program_form};
 ghost use Rattle.sf_words.specs.Internal.Found.{fault_as, met_order};
-ghost use Rattle.sf_words.specs.Words.{order_of};
+ghost use Rattle.sf_words.specs.Words.{HasNumbersInRange, order_of};
 ghost use Rattle.sf_words.specs.WordsOf.{order_as, order_in, words_of};
 
 use crate::forms::program;
@@ -13,13 +13,14 @@ use clap::ArgMatches;
 use clap::error::ErrorKind;
 use std::alloc::Global;
 
-/// The order that the words are. `Usage` exactly where they are none; `OutOfMemory` says that
-/// memory ran out.
+/// The order that the words are, its numbers from 1 to their limits. `Usage` exactly where they are
+/// none; `OutOfMemory` says that memory ran out.
 pub fn read<'a>(alloc: Global, words: &'a [&'a str]) -> Result<Order<'a>, WordFault>
-    ensures { MatchResult result
+    ensures order { MatchResult result
         (λ order. order_of (words_of words.entry.now) ≡ Some (order_as order))
         (λ fault. (fault ≡ WordFault.OutOfMemory)
         ⊎ ((fault ≡ WordFault.Usage) × (order_of (words_of words.entry.now) ≡ None))) }
+    ensures numbers { IfOk result (λ order. HasNumbersInRange (order_as order)) }
 {
     if has_blank(words) {
         return Err(WordFault::Usage);

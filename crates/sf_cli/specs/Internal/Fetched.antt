@@ -1,5 +1,7 @@
--- What bytes that were fetched of a file tell of it, where there is a limit on how many it may have.
--- Ordinary: one byte more than the limit is asked for, so that a file that is too long is seen to be.
+-- What bytes that were fetched of a file tell of it, where there is a limit on how many it may
+-- have.
+-- Ordinary: one byte more than the limit is asked for, so that a file that is too long is seen to
+-- be.
 use Rattle.std.specs.Prelude.{◌≡◌, ℕ, ◌<◌, ◌⊎◌, Option, length}
 use Rattle.sf_io.specs.Shelf.{Files}
 use Rattle.sf_cli.specs.Answer.{MayHave}

@@ -27,7 +27,8 @@ stop_text p (Steps path used) = spent_steps_text used
 stop_text p (Waits path r tries) = spent_waits_text p r tries
 stop_text p OutOfMemory = []
 
--- what comes of procedure f from these variables and cells, with so many units from a base on, printed
+-- what comes of procedure f from these variables and cells, with so many units from a base on,
+-- printed
 abbrev pub IsOutcomeText : Program → ProcId → Vars → Cells → (base steps waits : ℕ) → Text → (status : ℕ) → Type 0
 IsOutcomeText p f vars heap base steps waits text status =
     (g : Procedure) → procedure_at p f ≡ Some g

@@ -6,8 +6,8 @@ use sf_core::{Command, Conjunct, Expr, Level, Occurrence, Proc, Program};
 use std::process::Abort;
 use std::test::Fail;
 
-/// Two of f's values are set or passed as references, so its body works on copies of them. In g an existential is
-/// made around a choice, and each branch makes its own.
+/// Two of f's values are set or passed as references, so its body works on copies of them. In g an
+/// existential is made around a choice, and each branch makes its own.
 const FILE: &str =
     "q, tl;\nf(x; y, z, u) { local t; u = nil; f(y; z, t, u); }\ng(x) [_a == x * if x == _a then _b == x * _y == x else _y == x] { x->tl = nil; }";
 

@@ -96,7 +96,8 @@ pub const CALL_PROOFS: [(&[u8], &str, &str); 2] = [
     ),
 ];
 
-/// How texts read: blanks, empty lines, carriage returns and zeros count for nothing, and the first fault is told.
+/// How texts read: blanks, empty lines, carriage returns and zeros count for nothing, and the first
+/// fault is told.
 pub const TEXTS: [(&[u8], &str, &str); 19] = [
     (
         b"set(x) [x|->] { x->tl = 3; } [x|->tl:3]",

@@ -10,7 +10,8 @@ use std::alloc::{AllocError, Global};
 use std::process::Abort;
 use std::test::Fail;
 
-/// `f` holds r, `g` takes it, and so does `e` by its call; v is free in `f`, and in `h` by its call.
+/// `f` holds r, `g` takes it, and so does `e` by its call; v is free in `f`, and in `h` by its
+/// call.
 const FILE: &[u8] = b"resource r (v) []
 f() [v == nil] { } [v == nil]
 g() { with r when (true) { f(); } }
@@ -24,7 +25,8 @@ const R: ResId = ResId(0);
 
 const V: Var = Var::Shared(R, 0);
 
-/// The procedure of that number takes and holds those resources, and those variables are free in it.
+/// The procedure of that number takes and holds those resources, and those variables are free in
+/// it.
 fn has<A: Abort>(
     rt: &A,
     arranged: &Arranged,

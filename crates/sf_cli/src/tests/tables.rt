@@ -527,8 +527,9 @@ pub const LANGUAGE: [(&[u8], &str); 27] = [
     ),
 ];
 
-/// Files of so many numbered things: a beginning, what comes before each number, what comes between two, and an end; how
-/// many are within the limit and how many are not, the answer within it, and the refusal beyond it.
+/// Files of so many numbered things: a beginning, what comes before each number, what comes between
+/// two, and an end; how many are within the limit and how many are not, the answer within it, and
+/// the refusal beyond it.
 pub const COUNTS: [((&str, &str, &str, &str), (u32, u32), &str, &str); 8] = [
     (
         ("f(", "p", ",", ") { }"),
@@ -580,8 +581,9 @@ pub const COUNTS: [((&str, &str, &str, &str), (u32, u32), &str, &str); 8] = [
     ),
 ];
 
-/// Files of things that are nested: a beginning, an opening, a closing, and an end; how many openings are within the limit
-/// and how many are not, the answer within it, and the refusal beyond it.
+/// Files of things that are nested: a beginning, an opening, a closing, and an end; how many
+/// openings are within the limit and how many are not, the answer within it, and the refusal beyond
+/// it.
 pub const NESTS: [((&str, &str, &str, &str), (u32, u32), &str, &str); 3] = [
     (
         ("f() [", "if nil == nil then emp else ", "", "emp] { }"),

@@ -30,8 +30,8 @@ HasCallees p (call place c) = c.callee.0 < length p.procedures
 HasCallees p (fork place c d) = (c.callee.0 < length p.procedures) × (d.callee.0 < length p.procedures)
 HasCallees p _ = Unit {0}
 
--- what the event of a command rests on: the variables that it writes are there, and so are the procedures that it
--- calls, and no variable is that has the event's number
+-- what the event of a command rests on: the variables that it writes are there, and so are the
+-- procedures that it calls, and no variable is that has the event's number
 pub record IsReady (p : Program) (ev : Event) (s : Common) (f : Fixed) (one : Command) : Type 0 where
   pub written : (slot : Slot) → CommandWrites f.slots s.store one (variable slot)
       → is_some (s.store slot) ≡ true
@@ -105,7 +105,8 @@ pub record IsCellAt (heap : Heap) (root : Value) (location : ℕ) : Type 0 where
   pub is : root ≡ loc location
   pub there : is_some (heap location) ≡ true
 
--- the event's number is new, and the effect and the change are what it makes of a task that is there
+-- the event's number is new, and the effect and the change are what it makes of a task that is
+-- there
 pub record IsPlanned (p : Program) (ev : Event) (c : Config) (effect : Effect) (change : Change) : Type 0 where
   pub fresh : c.used ev.number ≡ false
   pub task : Task

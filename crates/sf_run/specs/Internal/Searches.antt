@@ -22,7 +22,8 @@ abbrev pub HasFork : List Site → Type 0
 HasFork [] = ⊥
 HasFork (s ∷ ss) = IsFork s.command ⊎ HasFork ss
 
--- there is a parallel call; or there is none, and what is called at the sites is visited beside what was
+-- there is a parallel call; or there is none, and what is called at the sites is visited beside
+-- what was
 abbrev pub VisitsOrForks : (forks : Bool) → List Site → (before : List Bool) (queue : List ProcId)
     (after : List Bool) (longer : List ProcId) → Type 0
 VisitsOrForks true ss before queue after longer = HasFork ss

@@ -20,7 +20,8 @@ use Rattle.sf_run.specs.Lone.{IsFreeFrom}
 use Rattle.sf_run.specs.Sequential.{IsSequential}
 use Rattle.sf_safe.specs.Law.{IsSound}
 
--- the configuration is reached from a start of which no parallel call can be reached, and units are free
+-- the configuration is reached from a start of which no parallel call can be reached, and units are
+-- free
 pub record IsAlone (p : Program) (unit : ℕ) (c : Config) : Type 0 where
   pub procedure : ProcId
   pub store : Store
@@ -60,7 +61,8 @@ pub record GoesOn (p : Program) (unit : ℕ) (before after : Config) : Type 0 wh
   pub alone : IsAlone p (suc unit) after
   pub comes : (us : List ℕ) (out : Outcome) → AloneFrom p after us out → AloneFrom p before (unit ∷ us) out
 
--- before that unit, with so many in all: so many are left, and what comes with them, comes of the first configuration
+-- before that unit, with so many in all: so many are left, and what comes with them, comes of the
+-- first configuration
 pub record IsTurn (p : Program) (start : Config) (first count unit : ℕ) (c : Config) : Type 0 where
   pub left : ℕ
   pub all : unit + left ≡ first + count

@@ -15,7 +15,8 @@ use Rattle.sf_state.specs.declared.fault.StartFault.{StartFault}
 use Rattle.sf_state.specs.declared.fault.StartFault.TheVariants as fault
 use Rattle.sf_state.specs.Starts.{IsLeftOver, IsUnmet, assertion_name, assertions_of}
 
--- there is a value for each of the procedure's references and values, and for each variable of a resource
+-- there is a value for each of the procedure's references and values, and for each variable of a
+-- resource
 pub record Fits (p : Program) (g : Procedure) (vars : Vars) : Type 0 where
   pub own : length vars.own.items ≡ g.references + g.values
   pub shared : map (λ vs. length vs.items) vars.shared.items ≡ map (λ r. length r.variables) p.resources
@@ -26,7 +27,8 @@ IsBeginFault p g vars heap e =
     ((number : ℕ) × (e ≡ fault.Unmet (assertion_name p number)) × IsUnmet vars heap (assertions_of p g) number)
     ⊎ ((location : ℕ) × (e ≡ fault.LeftOver location) × IsLeftOver vars heap (assertions_of p g) location)
 
--- the call makes the start with these variables and cells, or says why there is none, or memory runs out
+-- the call makes the start with these variables and cells, or says why there is none, or memory
+-- runs out
 abbrev pub Begins : Program → ProcId → Procedure → Vars → Cells → Result Start StartFault → Type 0
 Begins p f g vars heap (Ok s) = (s.vars ≡ vars) × (s.heap ≡ heap) × StartsWith p f vars heap s.parts.items
     × IsFirstUnit vars heap s.unit

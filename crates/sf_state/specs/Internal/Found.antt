@@ -1,5 +1,6 @@
 -- The footprints that were found for the first assertions, and what comes of the next one.
--- Ordinary: footprints in a whole heap that are disjoint, for footprints each in what the earlier ones leave.
+-- Ordinary: footprints in a whole heap that are disjoint, for footprints each in what the earlier
+-- ones leave.
 use Rattle.std.specs.Prelude.{◌≡◌, ◌⊎◌, ◌≤◌, ℕ, ◌++◌, Bool, true, false, nat_eq, List, [], ◌∷◌, Ok, Err, Result}
 use Rattle.std.specs.BTreeSet.{contains}
 use Rattle.std.specs.FinMap.{contains_key}
@@ -24,7 +25,8 @@ pub record AreFound (assertions : List Assertion) (vars : Var → Value) (heap :
   pub there : (l : ℕ) → is_member nat_eq (concat found.parts.items) l ≡ true → contains_key heap l ≡ true
   pub marks : (l : ℕ) → contains nat_cmp found.taken l ≡ is_member nat_eq (concat found.parts.items) l
 
--- the assertion after them has a footprint in what they leave, and was found too; or it has none; or memory runs out
+-- the assertion after them has a footprint in what they leave, and was found too; or it has none;
+-- or memory runs out
 abbrev pub AlsoFound : (before : List Assertion) → Assertion → (Var → Value) → Cells → (old new : Found)
     → Result Bool AllocError → Type 0
 AlsoFound before a vars heap old new (Ok true) = AreFound (before ++ a ∷ []) vars heap new

@@ -44,7 +44,8 @@ abbrev pub AllTaken : (fields names : List Text) → Result Given StartFault →
 AllTaken fields names (Ok given) es = (first_refusal fields names [] es ≡ None) × Keeps fields names given es
 AllTaken fields names (Err f) es = (f ≡ OutOfMemory) ⊎ (first_refusal fields names [] es ≡ Some f)
 
--- in between: these lines are left, and what is kept is what the others give, of which none is refused
+-- in between: these lines are left, and what is kept is what the others give, of which none is
+-- refused
 pub record Reading (fields names : List Text) (text : Text) (before : ℕ) (left : List Text) (given : Given)
     : Type 0 where
   pub done : List Entry
@@ -54,7 +55,8 @@ pub record Reading (fields names : List Text) (text : Text) (before : ℕ) (left
   pub refusals : first_refusal fields names [] (entries_of fields names text)
       ≡ first_refusal fields names done (entries_from fields names before left)
 
--- all these variables have values, or the call says which is the first that has none, or memory runs out
+-- all these variables have values, or the call says which is the first that has none, or memory
+-- runs out
 abbrev pub AllGiven : (names : List Text) → List (Option Value) → Result (Vec Value Global) StartFault → Type 0
 AllGiven names given (Ok values) = (missing_from names 0 given ≡ None) × (map Some values.items ≡ given)
 AllGiven names given (Err f) = (f ≡ OutOfMemory) ⊎ (missing_from names 0 given ≡ Some f)

@@ -1,13 +1,17 @@
 -- The numbers of an order are in their ranges: those that are written are read only there, and those that are known
 -- where none are written are there.
-use Rattle.std.proofs.Common.{◌≡◌, ◌≤◌, ◌&&◌, ℕ, Bool, true, false, [], ◌∷◌, List, Option, Some, None, arith, codes, refl, subst}
+use Rattle.std.proofs.Common.{◌≡◌, ◌≤◌, ◌&&◌, ℕ, Bool, true, false, [], ◌∷◌, List, Option, Some, None, Result, Ok, Err, IfOk, arith, codes, refl, subst}
 use Rattle.std.specs.List.{list_any}
 use Rattle.std.specs.Prelude.{IfSome, if◌then◌else◌, nat_le, option_and_then, option_map}
 use Rattle.std.specs.Str.{bytes_eq}
 use Rattle.std.specs.Str.Parse.{digits_value}
 use Rattle.std.proofs.lemmas.Bool.Decides.{nat_tests}
-use Rattle.sf_cli.specs.Internal.Ranges.{HasNumbersInRange}
-use Rattle.sf_words.specs.Words.{Given, Order, Text, chosen_of, demo, demo_given, demo_of, given, is_blank, is_numeral, no_options, number_of, order_of, order_of_command, recheck_given, recheck_of, run_given, run_of, run_options, steps_of, values_of, verify_given, verify_of, verify_options, waits_of, workers_of}
+use Rattle.sf_base.specs.declared.limits.TheConstants.{DEFAULT_STEPS, DEFAULT_WAITS, DEMO, STEPS, WAITS, WORKERS}
+use Rattle.sf_words.specs.Words.{Given, HasNumbersInRange, Order, Text, chosen_of, demo, demo_given, demo_of, given, is_blank, is_numeral, no_options, number_of, order_of, order_of_command, recheck_given, recheck_of, run_given, run_of, run_options, steps_of, values_of, verify_given, verify_of, verify_options, waits_of, workers_of}
+use Rattle.sf_words.specs.WordsOf.{order_as}
+use Rattle.sf_words.specs.declared.order.Order.{Order as CodeOrder}
+use Rattle.sf_words.specs.declared.order.WordFault.{WordFault}
+use Rattle.sf_words.proofs.Answered.{Answers}
 
 -- it is a number from 1 to the most, or none
 abbrev IsUpTo : ℕ → Option ℕ → Type 0
@@ -42,7 +46,7 @@ range-chosen most default l m (text ∷ []) = range-number most text
 range-chosen most default l m (text ∷ other ∷ more) = tt
 
 -- each command
-range-verify : (operands : List Text) (workers : Option ℕ) → IsUpTo 64 workers → IsRanged (verify_of operands workers)
+range-verify : (operands : List Text) (workers : Option ℕ) → IsUpTo WORKERS workers → IsRanged (verify_of operands workers)
 range-verify [] workers h = tt
 range-verify (file ∷ []) None h = tt
 range-verify (file ∷ []) (Some k) h = h
@@ -54,7 +58,7 @@ range-recheck (file ∷ []) = tt
 range-recheck (file ∷ proof ∷ []) = tt
 range-recheck (file ∷ proof ∷ other ∷ more) = tt
 
-range-run : (operands : List Text) (steps waits : Option ℕ) → IsUpTo 281474976710656 steps → IsUpTo 16777216 waits
+range-run : (operands : List Text) (steps waits : Option ℕ) → IsUpTo STEPS steps → IsUpTo WAITS waits
     → IsRanged (run_of operands steps waits)
 range-run [] steps waits h k = tt
 range-run (file ∷ []) steps waits h k = tt
@@ -66,9 +70,9 @@ range-run (file ∷ entry ∷ state ∷ other ∷ more) steps waits h k = tt
 
 range-demo : (operands : List Text) → IsRanged (demo_of operands)
 range-demo [] = tt
-range-demo (number ∷ []) = go (number_of 1000 number) (range-number 1000 number)
+range-demo (number ∷ []) = go (number_of DEMO number) (range-number DEMO number)
   where
-    go : (o : Option ℕ) → IsUpTo 1000 o → IsRanged (option_map (λ n. demo n) o)
+    go : (o : Option ℕ) → IsUpTo DEMO o → IsRanged (option_map (λ n. demo n) o)
     go None h = tt
     go (Some n) h = h
 range-demo (number ∷ other ∷ more) = tt
@@ -83,15 +87,15 @@ range-command command words =
     range-either IsRanged (bytes_eq (codes "verify") command) _ _
     (range-then verify_given (given verify_options None words)
     (λ g. range-verify g.operands (workers_of (values_of (codes "workers") g.settings))
-    (range-chosen 64 1 (omega arith) (omega arith) (values_of (codes "workers") g.settings))))
+    (range-chosen WORKERS 1 (omega arith) (omega arith) (values_of (codes "workers") g.settings))))
     (range-either IsRanged (bytes_eq (codes "recheck") command) _ _
     (range-then recheck_given (given no_options None words) (λ g. range-recheck g.operands))
     (range-either IsRanged (bytes_eq (codes "run") command) _ _
     (range-then run_given (given run_options None words)
     (λ g. range-run g.operands (steps_of (values_of (codes "steps") g.settings))
     (waits_of (values_of (codes "waits") g.settings))
-    (range-chosen 281474976710656 1000000 (omega arith) (omega arith) (values_of (codes "steps") g.settings))
-    (range-chosen 16777216 1000000 (omega arith) (omega arith) (values_of (codes "waits") g.settings))))
+    (range-chosen STEPS DEFAULT_STEPS (omega arith) (omega arith) (values_of (codes "steps") g.settings))
+    (range-chosen WAITS DEFAULT_WAITS (omega arith) (omega arith) (values_of (codes "waits") g.settings))))
     (range-either IsRanged (bytes_eq (codes "demo") command) _ _
     (range-then demo_given (given no_options None words) (λ g. range-demo g.operands)) tt)))
 
@@ -101,5 +105,11 @@ range-order (command ∷ words) =
     range-either IsRanged (list_any is_blank (command ∷ words)) None (order_of_command command words) tt
     (range-command command words)
 
-pub range-of : (words : List Text) (order : Order) → order_of words ≡ Some order → HasNumbersInRange order
+range-of : (words : List Text) (order : Order) → order_of words ≡ Some order → HasNumbersInRange order
 range-of words order e = subst IsRanged e (range-order words)
+
+-- so are those of an order that is read
+pub range-read : (words : List Text) (r : Result CodeOrder WordFault) → Answers words r
+    → IfOk r (λ order. HasNumbersInRange (order_as order))
+range-read words (Ok order) e = range-of words (order_as order) e
+range-read words (Err fault) e = tt
