@@ -18,8 +18,8 @@ pub fn each_file_is_one()
     ensures { EachFileIsOne }
 {}
 
-/// A level has in reach what is around it and what occurs in it, under new numbers, which stay taken
-/// after it.
+/// A level has in reach what is around it and what occurs in it, under new numbers, which stay
+/// taken after it.
 #[tactic(auto, using(crate::proofs::Annotations::Scopes::levels_are_scopes))]
 pub fn levels_are_scopes()
     ensures { LevelsAreScopes }

@@ -57,7 +57,8 @@ impl Levels {
 
     /// Enters a level: all that it makes is in reach from its beginning.
     pub fn enter(&mut self, alloc: Global, bytes: &[u8], level: &[Flat]) -> Result<(), AllocError>
-        ensures { OnOk result (self.new ≡ opened bytes.now self.old (flats (map flat_of level.now))) }
+        ensures { OnOk result
+            (self.new ≡ opened bytes.now self.old (flats (map flat_of level.now))) }
     {
         let mut words = Vec::new(alloc);
         add_words(level, &mut words)?;

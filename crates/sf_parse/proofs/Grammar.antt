@@ -1,3 +1,4 @@
+pub mod Predicates
 pub mod Reader
 pub mod OneTree
 pub mod Depths

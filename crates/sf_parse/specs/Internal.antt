@@ -4,3 +4,4 @@ pub mod Given
 pub mod Heads
 pub mod Machine
 pub mod Parser
+pub mod Predicates

@@ -12,8 +12,8 @@ ghost use Rattle.sf_parse.specs.Leaf.{leaves};
 ghost use Rattle.sf_parse.specs.Internal.Parser.{Ends, NotStar, FailsAt, Accepts};
 
 use crate::condition::operand_test;
-use crate::conjunct::{predicate, relation};
-use crate::front::{begins_conjunct, eat, eat_operand};
+use crate::conjunct::{begins_conjunct, predicate, relation};
+use crate::front::{eat, eat_operand};
 use crate::leaf::expect;
 use crate::memory::{add, boxed};
 use crate::stop::Stop;
@@ -45,7 +45,8 @@ pub fn assertion(
     ensures spelled { IfOk result (λ r.
         leaves tokens.now ≡ assertion (assertion_of r.0) (leaves r.1.now)) }
     ensures nearest { IfOk result (λ r. AssertionNearest (assertion_of r.0)) }
-    ensures within { IfOk result (λ r. AssertionWithin (assertion_of r.0) 0 depth (leaves r.1.now)) }
+    ensures within { IfOk result (λ r.
+        AssertionWithin (assertion_of r.0) 0 depth (leaves r.1.now)) }
     ensures ended { IfOk result (λ r. NotStar (leaves r.1.now)) }
     ensures taken { IfOk result (λ r. Accepts (m.assertion depth ∷ []) tokens.now r.1.now) }
     ensures fault { IfErr result (λ e. FailsAt e (m.assertion depth ∷ []) tokens.now) }

@@ -49,7 +49,8 @@ fn more_expressions(alloc: Global, tokens: &[Token]) -> Result<(Vec<SurfaceExpr>
 /// Expressions, or none.
 #[tactic(auto, using(crate::proofs::Parser::Arguments::given))]
 fn maybe_expressions(alloc: Global, tokens: &[Token]) -> Result<(Vec<SurfaceExpr>, &[Token]), Stop>
-    ensures spelled { IfOk result (λ r. leaves tokens.now ≡ maybe_exprs r.0.items (leaves r.1.now)) }
+    ensures spelled { IfOk result (λ r.
+        leaves tokens.now ≡ maybe_exprs r.0.items (leaves r.1.now)) }
     ensures ended { IfOk result (λ r. NoMore r.0.items (leaves r.1.now)) }
     ensures taken { IfOk result (λ r. Accepts (m.maybe_expressions ∷ []) tokens.now r.1.now) }
     ensures taken_arguments { IfOk result (λ r. (st : List Predicted)

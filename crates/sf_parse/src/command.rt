@@ -16,7 +16,7 @@ ghost use Rattle.std.specs.Option.{option_map};
 
 use crate::annotation::maybe_annotation;
 use crate::condition::test;
-use crate::front::{eat, eat_expression, eat_name};
+use crate::front::{eat, eat_expression, word_of};
 use crate::leaf::{expect, name};
 use crate::memory::add;
 use crate::plain::{disposed, mutated, named};
@@ -266,28 +266,23 @@ fn command(
     if depth == 0 {
         return Err(no_level(tokens));
     }
-    if let Some((first, rest)) = eat_name(tokens) {
-        return named(alloc, first, rest);
+    let [token, rest @ ..] = tokens else {
+        return Err(Stop::Unexpected(tokens.len()));
+    };
+    match token.kind {
+        Kind::Name => named(alloc, word_of(token), rest),
+        Kind::Dispose => disposed(token.place, rest),
+        Kind::If => if_command(alloc, token.place, depth, rest),
+        Kind::While => while_command(alloc, token.place, depth, rest),
+        Kind::With => with_command(alloc, token.place, depth, rest),
+        Kind::OpenBrace => block(alloc, token.place, depth, rest),
+        _ => {
+            let Some((object, rest)) = eat_expression(tokens) else {
+                return Err(Stop::Unexpected(tokens.len()));
+            };
+            value_first(object, rest)
+        }
     }
-    if let Some((place, rest)) = eat(tokens, Kind::Dispose) {
-        return disposed(place, rest);
-    }
-    if let Some((place, rest)) = eat(tokens, Kind::If) {
-        return if_command(alloc, place, depth, rest);
-    }
-    if let Some((place, rest)) = eat(tokens, Kind::While) {
-        return while_command(alloc, place, depth, rest);
-    }
-    if let Some((place, rest)) = eat(tokens, Kind::With) {
-        return with_command(alloc, place, depth, rest);
-    }
-    if let Some((place, rest)) = eat(tokens, Kind::OpenBrace) {
-        return block(alloc, place, depth, rest);
-    }
-    if let Some((object, rest)) = eat_expression(tokens) {
-        return value_first(object, rest);
-    }
-    Err(Stop::Unexpected(tokens.len()))
 }
 
 /// As many commands as come.

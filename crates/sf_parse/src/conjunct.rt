@@ -3,7 +3,7 @@
 ghost use Rattle.std.specs.Prelude.{◌≡◌, ◌∷◌, ℕ, [], false, IfErr, IfOk};
 ghost use Rattle.sf_ast.specs.View.{conjunct_of};
 ghost use Rattle.sf_parse.specs.Grammar.{conjunct, operand};
-ghost use Rattle.sf_parse.specs.Internal.Heads.{IsFlatConjunct};
+ghost use Rattle.sf_parse.specs.Internal.Heads.{IsFlatConjunct, conjunct_next};
 ghost use Rattle.sf_parse.specs.Internal.Machine as m;
 ghost use Rattle.sf_parse.specs.Leaf as k;
 ghost use Rattle.sf_parse.specs.Leaf.{leaves};
@@ -23,12 +23,8 @@ fn one_operand(tokens: &[Token]) -> Result<(SurfaceOperand, &[Token]), Stop>
     ensures spelled { IfOk result (λ r.
         leaves tokens.now ≡ k.OpenRound ∷ operand r.0 ∷ k.CloseRound
         ∷ leaves r.1.now) }
-    ensures taken { IfOk result (λ r.
-        Accepts (m.exact m.open_round ∷ m.operand ∷ m.exact m.close_round
-        ∷ []) tokens.now r.1.now) }
-    ensures fault { IfErr result
-        (λ e. FailsAt e (m.exact m.open_round ∷ m.operand ∷ m.exact m.close_round
-        ∷ []) tokens.now) }
+    ensures taken { IfOk result (λ r. Accepts (m.operands_predicted 1) tokens.now r.1.now) }
+    ensures fault { IfErr result (λ e. FailsAt e (m.operands_predicted 1) tokens.now) }
 {
     let (_, rest) = expect(tokens, Kind::OpenRound)?;
     let (value, rest) = operand(rest)?;
@@ -40,8 +36,8 @@ fn one_operand(tokens: &[Token]) -> Result<(SurfaceOperand, &[Token]), Stop>
 fn two_operands(tokens: &[Token]) -> Result<(SurfaceOperand, SurfaceOperand, &[Token]), Stop>
     ensures spelled { IfOk result (λ r. leaves tokens.now ≡ k.OpenRound ∷ operand r.0 ∷ k.Comma
         ∷ operand r.1 ∷ k.CloseRound ∷ leaves r.2.now) }
-    ensures taken { IfOk result (λ r. Accepts m.pair_predicted tokens.now r.2.now) }
-    ensures fault { IfErr result (λ e. FailsAt e m.pair_predicted tokens.now) }
+    ensures taken { IfOk result (λ r. Accepts (m.operands_predicted 2) tokens.now r.2.now) }
+    ensures fault { IfErr result (λ e. FailsAt e (m.operands_predicted 2) tokens.now) }
 {
     let (_, rest) = expect(tokens, Kind::OpenRound)?;
     let (from, rest) = operand(rest)?;
@@ -79,6 +75,30 @@ pub fn relation(
     Err(Stop::Unexpected(tokens.len()))
 }
 
+/// Whether a conjunct begins.
+pub fn begins_conjunct(tokens: &[Token]) -> bool
+    ensures { result ≡ conjunct_next (leaves tokens.now) }
+{
+    match tokens {
+        [token, ..] => matches!(
+            token.kind,
+            Kind::Name
+                | Kind::Nil
+                | Kind::Null
+                | Kind::Number
+                | Kind::Existential
+                | Kind::Emp
+                | Kind::OpenRound
+                | Kind::If
+                | Kind::Ls
+                | Kind::Lseg
+                | Kind::List
+                | Kind::Tree
+        ),
+        _ => false,
+    }
+}
+
 /// `emp`, a segment, a list or a tree.
 #[tactic(auto, using(crate::proofs::Parser::Choices::choices))]
 pub fn predicate(tokens: &[Token]) -> Result<(SurfaceConjunct, &[Token]), Stop>
@@ -91,24 +111,27 @@ pub fn predicate(tokens: &[Token]) -> Result<(SurfaceConjunct, &[Token]), Stop>
     ensures taken { IfOk result (λ r. (d : ℕ) → Accepts (m.conjunct d ∷ []) tokens.now r.1.now) }
     ensures fault { IfErr result (λ e. (d : ℕ) → FailsAt e (m.conjunct d ∷ []) tokens.now) }
 {
-    if let Some((place, rest)) = eat(tokens, Kind::Emp) {
-        return Ok((SurfaceConjunct::Emp(place), rest));
+    let [token, rest @ ..] = tokens else {
+        return Err(Stop::Unexpected(tokens.len()));
+    };
+    match token.kind {
+        Kind::Emp => Ok((SurfaceConjunct::Emp(token.place), rest)),
+        Kind::Ls => {
+            let (from, to, rest) = two_operands(rest)?;
+            Ok((SurfaceConjunct::Ls(token.place, false, from, to), rest))
+        }
+        Kind::Lseg => {
+            let (from, to, rest) = two_operands(rest)?;
+            Ok((SurfaceConjunct::Ls(token.place, true, from, to), rest))
+        }
+        Kind::List => {
+            let (value, rest) = one_operand(rest)?;
+            Ok((SurfaceConjunct::List(token.place, value), rest))
+        }
+        Kind::Tree => {
+            let (value, rest) = one_operand(rest)?;
+            Ok((SurfaceConjunct::Tree(token.place, value), rest))
+        }
+        _ => Err(Stop::Unexpected(tokens.len())),
     }
-    if let Some((place, rest)) = eat(tokens, Kind::Ls) {
-        let (from, to, rest) = two_operands(rest)?;
-        return Ok((SurfaceConjunct::Ls(place, false, from, to), rest));
-    }
-    if let Some((place, rest)) = eat(tokens, Kind::Lseg) {
-        let (from, to, rest) = two_operands(rest)?;
-        return Ok((SurfaceConjunct::Ls(place, true, from, to), rest));
-    }
-    if let Some((place, rest)) = eat(tokens, Kind::List) {
-        let (value, rest) = one_operand(rest)?;
-        return Ok((SurfaceConjunct::List(place, value), rest));
-    }
-    if let Some((place, rest)) = eat(tokens, Kind::Tree) {
-        let (value, rest) = one_operand(rest)?;
-        return Ok((SurfaceConjunct::Tree(place, value), rest));
-    }
-    Err(Stop::Unexpected(tokens.len()))
 }

@@ -31,7 +31,8 @@ fn field(tokens: &[Token]) -> Result<(SurfaceField, &[Token]), Stop>
 /// Fields after a first one, each after its comma.
 #[tactic(auto, using(crate::proofs::Parser::Choices::choices))]
 fn more_fields(alloc: Global, tokens: &[Token]) -> Result<(Vec<SurfaceField>, &[Token]), Stop>
-    ensures spelled { IfOk result (λ r. leaves tokens.now ≡ more_fields r.0.items (leaves r.1.now)) }
+    ensures spelled { IfOk result (λ r.
+        leaves tokens.now ≡ more_fields r.0.items (leaves r.1.now)) }
     ensures taken { IfOk result (λ r. Accepts (m.more_fields ∷ []) tokens.now r.1.now) }
     ensures fault { IfErr result (λ e. FailsAt e (m.more_fields ∷ []) tokens.now) }
 {
@@ -48,7 +49,8 @@ fn more_fields(alloc: Global, tokens: &[Token]) -> Result<(Vec<SurfaceField>, &[
 /// Fields, or none.
 #[tactic(auto, using(crate::proofs::Parser::Choices::choices))]
 pub fn maybe_fields(alloc: Global, tokens: &[Token]) -> Result<(Vec<SurfaceField>, &[Token]), Stop>
-    ensures spelled { IfOk result (λ r. leaves tokens.now ≡ maybe_fields r.0.items (leaves r.1.now)) }
+    ensures spelled { IfOk result (λ r.
+        leaves tokens.now ≡ maybe_fields r.0.items (leaves r.1.now)) }
     ensures taken { IfOk result (λ r. Accepts (m.maybe_fields ∷ []) tokens.now r.1.now) }
     ensures fault { IfErr result (λ e. FailsAt e (m.maybe_fields ∷ []) tokens.now) }
 {

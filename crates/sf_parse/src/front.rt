@@ -2,7 +2,6 @@
 
 ghost use Rattle.std.specs.Prelude.{◌≡◌, ◌∷◌, false, IfSome, MatchOption};
 ghost use Rattle.sf_parse.specs.Grammar.{expr, operand};
-ghost use Rattle.sf_parse.specs.Internal.Heads.{conjunct_next};
 ghost use Rattle.sf_parse.specs.Leaf as k;
 ghost use Rattle.sf_parse.specs.Leaf.{leaf, leaves};
 ghost use Rattle.sf_parse.specs.Internal.Parser.{IsMark, NotNext, expression_next, mark};
@@ -13,7 +12,7 @@ use sf_base::Place;
 use sf_lex::{Kind, Token};
 
 /// Where a token's text is.
-fn word_of(token: &Token) -> Word
+pub fn word_of(token: &Token) -> Word
     ensures { result ≡ k.word_of token.now }
 {
     Word {
@@ -88,28 +87,4 @@ pub fn eat_operand(tokens: &[Token]) -> Option<(SurfaceOperand, &[Token])>
     }
     let (token, rest) = eat_token(tokens, Kind::Existential)?;
     Some((SurfaceOperand::Existential(word_of(&token)), rest))
-}
-
-/// Whether a conjunct begins.
-pub fn begins_conjunct(tokens: &[Token]) -> bool
-    ensures { result ≡ conjunct_next (leaves tokens.now) }
-{
-    match tokens {
-        [token, ..] => matches!(
-            token.kind,
-            Kind::Name
-                | Kind::Nil
-                | Kind::Null
-                | Kind::Number
-                | Kind::Existential
-                | Kind::Emp
-                | Kind::OpenRound
-                | Kind::If
-                | Kind::Ls
-                | Kind::Lseg
-                | Kind::List
-                | Kind::Tree
-        ),
-        _ => false,
-    }
 }

@@ -48,7 +48,8 @@ pub fn names(alloc: Global, tokens: &[Token]) -> Result<(SurfaceNames, &[Token])
 /// Names, or none.
 #[tactic(auto, using(crate::proofs::Parser::Choices::choices))]
 pub fn maybe_names(alloc: Global, tokens: &[Token]) -> Result<(Vec<Word>, &[Token]), Stop>
-    ensures spelled { IfOk result (λ r. leaves tokens.now ≡ maybe_names r.0.items (leaves r.1.now)) }
+    ensures spelled { IfOk result (λ r.
+        leaves tokens.now ≡ maybe_names r.0.items (leaves r.1.now)) }
     ensures taken { IfOk result (λ r. Accepts (m.maybe_names ∷ []) tokens.now r.1.now) }
     ensures fault { IfErr result (λ e. FailsAt e (m.maybe_names ∷ []) tokens.now) }
 {

@@ -16,6 +16,7 @@ use Rattle.sf_parse.specs.Internal.Parser.{NotStar, Ends}
 use Rattle.sf_parse.specs.Nearest.{NotElse, Follows, ConjunctNearest, AssertionNearest, NoteNearest, MaybeNearest, CommandNearest, CommandsNearest, ItemNearest, IsNearest}
 use Rattle.sf_parse.proofs.Grammar.CommandsLonger.{command_longer, commands_longer, more_names_longer, maybe_names_longer, maybe_annotation_longer, locals_longer, parameters_longer, item_longer}
 use Rattle.sf_parse.proofs.Grammar.Longer.{test_longer, if_test_longer, conjunct_longer, assertion_longer}
+use Rattle.sf_parse.proofs.Grammar.Predicates.{behind}
 use Rattle.sf_parse.proofs.Grammar.Reader as read
 use Rattle.sf_parse.proofs.Machine.Back.{follows_else}
 use Rattle.sf_parse.proofs.Machine.Forth.{AfterConjunct, closed_ends, ends_before}
@@ -112,7 +113,7 @@ mutual
       first_conjunct (suc n) (g.conjunct c rest) c rest (conjunct c (suc n) rest (omega arith) near.0 tt (closed_ends c rest near.1)) ∙ rw (assertion x n r (omega (arith, conjunct_longer c rest)) near.2 a f) refl
 
 -- what occurs in square brackets, after the opening one
-some_inside : (n : ℕ) (c : s.Conjunct) (r : List Leaf) → read.inside n (g.conjunct c r) ≡ (let a = read.assertion n (g.conjunct c r) in (s.filled a.0, read.behind a.1))
+some_inside : (n : ℕ) (c : s.Conjunct) (r : List Leaf) → read.inside n (g.conjunct c r) ≡ (let a = read.assertion n (g.conjunct c r) in (s.filled a.0, behind a.1))
 some_inside n (s.emp p) r = refl
 some_inside n _ r = refl
 
@@ -120,7 +121,7 @@ filled : (x : s.Assertion) (n : ℕ) (r : List Leaf) → 3 * length (g.assertion
 filled (s.only c) n r le near = some_inside n c (k.CloseSquare ∷ r) ∙ rw (assertion (s.only c) n (k.CloseSquare ∷ r) le near tt tt) refl
 filled (s.star c x) n r le near = some_inside n c (k.Star ∷ g.assertion x (k.CloseSquare ∷ r)) ∙ rw (assertion (s.star c x) n (k.CloseSquare ∷ r) le near tt tt) refl
 
-inside : (x : s.Note) (n : ℕ) (r : List Leaf) → 3 * length (g.annotation x r) ≤ n → NoteNearest x → read.inside n (read.behind (g.annotation x r)) ≡ (x, r)
+inside : (x : s.Note) (n : ℕ) (r : List Leaf) → 3 * length (g.annotation x r) ≤ n → NoteNearest x → read.inside n (behind (g.annotation x r)) ≡ (x, r)
 inside s.blank n r le near = refl
 inside (s.filled a) n r le near = filled a n r (omega arith) near
 

@@ -13,12 +13,8 @@ use Rattle.sf_ast.specs.declared.word.Word.{Word}
 use Rattle.sf_ast.specs.Surface as s
 use Rattle.sf_parse.specs.Leaf.{Leaf}
 use Rattle.sf_parse.specs.Leaf as k
+use Rattle.sf_parse.proofs.Grammar.Predicates.{behind, operand_in, predicate}
 use Rattle.sf_parse.proofs.Machine.Complete.{a_place, a_word}
-
--- what comes after the next token
-abbrev pub behind : List Leaf → List Leaf
-behind [] = []
-behind (t ∷ ts) = ts
 
 abbrev pub more_names : List Leaf → List Word × List Leaf
 more_names (k.Comma ∷ k.Operand (v.Known (e.Name x)) ∷ ts) = let xs = more_names ts in (x ∷ xs.0, xs.1)
@@ -59,10 +55,6 @@ abbrev pub expr_in : Leaf → SurfaceExpr
 expr_in (k.Operand (v.Known x)) = x
 expr_in _ = e.Nil a_place
 
-abbrev pub operand_in : Leaf → SurfaceOperand
-operand_in (k.Operand x) = x
-operand_in _ = v.Existential a_word
-
 -- after its first side
 abbrev pub compared : {E : Type 0} → (Leaf → E) → E → List Leaf → SurfaceTest E × List Leaf
 compared side x (k.EqualEqual ∷ y ∷ ts) = (t.Equal x (side y), ts)
@@ -100,11 +92,8 @@ abbrev mutual
       let y = assertion n (behind x.1) in
       (s.choose p b.0.0 b.0.1 x.0 y.0, y.1)
   conjunct (suc n) (k.Operand x ∷ ts) = relation x ts
-  conjunct (suc n) (k.Ls p long ∷ l ∷ x ∷ c ∷ y ∷ ts) = (s.ls p long (operand_in x) (operand_in y), behind ts)
-  conjunct (suc n) (k.List p ∷ l ∷ x ∷ ts) = (s.list p (operand_in x), behind ts)
-  conjunct (suc n) (k.Tree p ∷ l ∷ x ∷ ts) = (s.tree p (operand_in x), behind ts)
-  conjunct (suc n) (k.Emp p ∷ ts) = (s.emp p, ts)
-  conjunct _ ts = (s.emp a_place, ts)
+  conjunct (suc n) ts = predicate ts
+  conjunct zero ts = (s.emp a_place, ts)
 
   pub more_conjuncts : ℕ → s.Conjunct → List Leaf → s.Assertion × List Leaf
   more_conjuncts (suc n) c (k.Star ∷ ts) = let a = assertion n ts in (s.star c a.0, a.1)

@@ -15,13 +15,14 @@ use Rattle.sf_parse.specs.Leaf.{Leaf}
 use Rattle.sf_parse.specs.Leaf as k
 use Rattle.sf_parse.specs.Grammar as g
 use Rattle.sf_parse.specs.Internal.Machine as m
-use Rattle.sf_parse.specs.Internal.Machine.{Predicted, Choice, take, skip, refuse, goes, chosen, choice, is_free, step, or_skip, terminal_leaf, on_exact, on_expression, on_operand, on_operand_test, on_next, on_conjunct, on_command}
+use Rattle.sf_parse.specs.Internal.Machine.{Predicted, Choice, take, skip, refuse, goes, chosen, choice, is_free, step, or_skip, followed, terminal_leaf, on_exact, on_expression, on_operand, on_operand_test, on_next, on_conjunct, on_command}
 use Rattle.sf_parse.specs.Nearest.{ConjunctNearest, AssertionNearest, NoteNearest, CommandNearest}
 use Rattle.sf_parse.specs.Nesting.{has_level, ConjunctWithin, AssertionWithin, RestWithin, NoteWithin, MaybeWithin, CommandWithin, CommandsWithin, ItemWithin}
 use Rattle.sf_parse.specs.Internal.Parser.{NotStar, Ends}
+use Rattle.sf_parse.proofs.Machine.Decided.{command_decided, conjunct_decided}
 use Rattle.sf_parse.proofs.Machine.Forth.{closed_before_star}
 use Rattle.sf_parse.proofs.Machine.Means.{Spells, Means, MeansChosen, MeansNext}
-use Rattle.sf_parse.proofs.Machine.Back.{expr_back, operand_back, or_skip_back, accepts_back, command_accepts, conjunct_accepts, conjunct_back, command_back}
+use Rattle.sf_parse.proofs.Machine.Back.{expr_back, operand_back, or_skip_back, followed_back, decided_back, conjunct_back, command_back}
 
 -- some word there
 abbrev word_at : Place → Word
@@ -142,24 +143,25 @@ assertion_of n d st u ts lv c r is w near e (q, mc, more) =
     let whole : u ∷ ts ≡ g.assertion o.0 q = is ∙ o.1 in
     (q, (o.0, whole, leveled_assertion n d o.0 q (subst (λ z. has_level n (length z) d ≡ true) whole lv) o.2, o.3, o.4), more)
 
-conjunct_predicted : (n d : ℕ) (st : List Predicted) (u : Leaf) (w : Type 0) (ts : List Leaf) → MeansChosen n (on_conjunct d u []) true st w ts → Means n (m.conjunct d ∷ st) (u ∷ ts)
-conjunct_predicted n d st u w ts q = let o = conjunct_back n d u [] st w ts q in (o.rest, (o.conjunct, o.spells, o.within, o.ends, o.nearest), o.more)
+conjunct_predicted : (n d : ℕ) (st : List Predicted) (u : Leaf) (w : Type 0) (ts : List Leaf) → MeansChosen n (on_conjunct d u) true st w ts → Means n (m.conjunct d ∷ st) (u ∷ ts)
+conjunct_predicted n d st u w ts q = let o = conjunct_back n d u st w ts q in (o.rest, (o.conjunct, o.spells, o.within, o.ends, o.nearest), o.more)
 
 more_conjuncts_star : (n d : ℕ) (st : List Predicted) (ts : List Leaf) → Means n (m.conjunct d ∷ m.more_conjuncts d ∷ st) ts → Means n (m.more_conjuncts d ∷ st) (k.Star ∷ ts)
 more_conjuncts_star n d st ts (r1, c, (r2, mc, more)) =
     let o = with_more n d c.0 r1 r2 c.2 c.4 c.3 mc in
     (r2, inr (o.0, ap (λ z. k.Star ∷ z) (c.1 ∙ o.1), o.2, o.3, o.4), more)
 
-assertion_back : (n d : ℕ) (st : List Predicted) (u : Leaf) (w : Type 0) (ts : List Leaf) → (has_level n (suc (length ts)) d ≡ true) × MeansChosen n (on_conjunct d u (m.more_conjuncts d ∷ [])) true st w ts → Means n (m.assertion d ∷ st) (u ∷ ts)
+assertion_back : (n d : ℕ) (st : List Predicted) (u : Leaf) (w : Type 0) (ts : List Leaf) → (has_level n (suc (length ts)) d ≡ true) × MeansChosen n (on_conjunct d u) true (m.more_conjuncts d ∷ st) w ts → Means n (m.assertion d ∷ st) (u ∷ ts)
 assertion_back n d st u w ts q =
-    let o = conjunct_back n d u (m.more_conjuncts d ∷ []) st w ts q.1 in
+    let o = conjunct_back n d u (m.more_conjuncts d ∷ st) w ts q.1 in
     assertion_of n d st u ts q.0 o.conjunct o.rest o.spells o.within o.nearest o.ends o.more
 
 an_assertion : (n : ℕ) (st : List Predicted) (ts : List Leaf) → Means n (m.assertion NESTING ∷ st) ts → Means n (m.maybe_assertion ∷ st) ts
 an_assertion n st ts (r, a, more) = (r, inr a, more)
 
-maybe_assertion_back : (n : ℕ) (st : List Predicted) (u : Leaf) (w : Type 0) (ts : List Leaf) → Without n st u w ts → ((true ≡ true) × MeansChosen n (on_conjunct NESTING u (m.more_conjuncts NESTING ∷ [])) true st w ts) ⊎ w → Means n (m.maybe_assertion ∷ st) (u ∷ ts)
-maybe_assertion_back n st u w ts f (inl q) = an_assertion n st (u ∷ ts) (assertion_back n NESTING st u w ts (refl, q.1))
+maybe_assertion_back : (n : ℕ) (st : List Predicted) (u : Leaf) (w : Type 0) (ts : List Leaf) → Without n st u w ts → ((true ≡ true) × MeansChosen n (followed (on_conjunct NESTING u) (m.more_conjuncts NESTING ∷ [])) true st w ts) ⊎ w → Means n (m.maybe_assertion ∷ st) (u ∷ ts)
+maybe_assertion_back n st u w ts f (inl q) =
+    an_assertion n st (u ∷ ts) (assertion_back n NESTING st u w ts (refl, followed_back n (on_conjunct NESTING u) true (m.more_conjuncts NESTING ∷ []) st w ts q.1))
 maybe_assertion_back n st u w ts f (inr q) = (u ∷ ts, inl refl, f q)
 
 -- what occurs in square brackets
@@ -203,14 +205,16 @@ second_call n st ts (r1, a, (r2, b, (r3, x, (r4, c, (r5, d, more))))) =
 round_disposed : (n : ℕ) (st : List Predicted) (ts : List Leaf) → Means n (m.expression ∷ m.exact m.close_round ∷ m.exact m.semicolon ∷ st) ts → Means n (m.disposed ∷ st) (k.OpenRound ∷ ts)
 round_disposed n st ts (r1, x, (r2, b, (r3, c, more))) = (r3, (true, x.0, cc), more)
 
-command_predicted : (n d : ℕ) (st : List Predicted) (u : Leaf) (w : Type 0) (ts : List Leaf) → (has_level n (suc (length ts)) d ≡ true) × MeansChosen n (on_command d u []) true st w ts → Means n (m.command d ∷ st) (u ∷ ts)
-command_predicted n d st u w ts q = let o = command_back n d u [] st w ts q.1 in (o.rest, (o.command, o.spells, o.within q.0, o.follows, o.nearest), o.more)
+command_predicted : (n d : ℕ) (st : List Predicted) (u : Leaf) (w : Type 0) (ts : List Leaf) → (has_level n (suc (length ts)) d ≡ true) × MeansChosen n (on_command d u) true st w ts → Means n (m.command d ∷ st) (u ∷ ts)
+command_predicted n d st u w ts q = let o = command_back n d u st w ts q.1 in (o.rest, (o.command, o.spells, o.within q.0, o.follows, o.nearest), o.more)
 
 then_commands : (n d : ℕ) (st : List Predicted) (u : Leaf) (ts : List Leaf) (c : s.Command) (r : List Leaf) → u ∷ ts ≡ g.command c r → CommandWithin c n d r → CommandNearest c → Means n (m.commands d ∷ st) r → Means n (m.commands d ∷ st) (u ∷ ts)
 then_commands n d st u ts c r is w near (q, cs, more) = (q, (s.then c cs.0, is ∙ ap (λ z. g.command c z) cs.1, (subst (λ z. CommandWithin c n d z) cs.1 w, cs.2), (near, cs.3)), more)
 
-commands_back : (n d : ℕ) (st : List Predicted) (u : Leaf) (w : Type 0) (ts : List Leaf) → Without n st u w ts → ((has_level n (suc (length ts)) d ≡ true) × MeansChosen n (on_command d u (m.commands d ∷ [])) true st w ts) ⊎ w → Means n (m.commands d ∷ st) (u ∷ ts)
-commands_back n d st u w ts f (inl q) = let o = command_back n d u (m.commands d ∷ []) st w ts q.1 in then_commands n d st u ts o.command o.rest o.spells (o.within q.0) o.nearest o.more
+commands_back : (n d : ℕ) (st : List Predicted) (u : Leaf) (w : Type 0) (ts : List Leaf) → Without n st u w ts → ((has_level n (suc (length ts)) d ≡ true) × MeansChosen n (followed (on_command d u) (m.commands d ∷ [])) true st w ts) ⊎ w → Means n (m.commands d ∷ st) (u ∷ ts)
+commands_back n d st u w ts f (inl q) =
+    let o = command_back n d u (m.commands d ∷ st) w ts (followed_back n (on_command d u) true (m.commands d ∷ []) st w ts q.1) in
+    then_commands n d st u ts o.command o.rest o.spells (o.within q.0) o.nearest o.more
 commands_back n d st u w ts f (inr q) = (u ∷ ts, (s.done, refl, tt, tt), f q)
 
 else_there : (n d : ℕ) (st : List Predicted) (ts : List Leaf) → Means n (m.command d ∷ st) ts → Means n (m.branch d ∷ st) (k.Else ∷ ts)
@@ -298,8 +302,10 @@ predicted_back n (m.conjunct d) st u w ts f q = conjunct_predicted n d st u w ts
 predicted_back n (m.more_conjuncts d) st k.Star w ts f q = more_conjuncts_star n d st ts q
 predicted_back n (m.more_conjuncts d) st u w ts f q = (u ∷ ts, inl (tt, refl), f q)
 predicted_back n (m.assertion d) st u w ts f q =
-    assertion_back n d st u w ts (accepts_back n (on_conjunct d u (m.more_conjuncts d ∷ [])) (has_level n (suc (length ts)) d) st w ts (conjunct_accepts d u (m.more_conjuncts d ∷ [])) q)
-predicted_back n m.maybe_assertion st u w ts f q = maybe_assertion_back n st u w ts f (or_skip_back n (on_conjunct NESTING u (m.more_conjuncts NESTING ∷ [])) true st w ts q)
+    let more = m.more_conjuncts d ∷ [] in
+    let free = has_level n (suc (length ts)) d in
+    assertion_back n d st u w ts (decided_back n (on_conjunct d u) free (more ++ st) w ts (conjunct_decided d u ts) (followed_back n (on_conjunct d u) free more st w ts q))
+predicted_back n m.maybe_assertion st u w ts f q = maybe_assertion_back n st u w ts f (or_skip_back n (followed (on_conjunct NESTING u) (m.more_conjuncts NESTING ∷ [])) true st w ts q)
 predicted_back n m.maybe_annotation st k.OpenSquare w ts f q = let o = a_annotation n st ts q in (o.0, (Some o.1, o.2, o.3, o.4), o.5)
 predicted_back n m.maybe_annotation st u w ts f q = (u ∷ ts, (None, refl, tt, tt), f q)
 predicted_back n m.named st k.Equals w ts f q = assigned_there n st ts q
@@ -323,8 +329,8 @@ predicted_back n m.disposed st u w ts f q =
     let last : ts ≡ k.Semicolon ∷ o.more.0 = o.more.1.1 in
     let whole : u ∷ ts ≡ g.expr o.expr ∷ k.Semicolon ∷ o.more.0 = cc in
     (o.more.0, (false, o.expr, whole), o.more.2)
-predicted_back n (m.command d) st u w ts f q = command_predicted n d st u w ts (accepts_back n (on_command d u []) (has_level n (suc (length ts)) d) st w ts (command_accepts d u []) q)
-predicted_back n (m.commands d) st u w ts f q = commands_back n d st u w ts f (or_skip_back n (on_command d u (m.commands d ∷ [])) (has_level n (suc (length ts)) d) st w ts q)
+predicted_back n (m.command d) st u w ts f q = command_predicted n d st u w ts (decided_back n (on_command d u) (has_level n (suc (length ts)) d) st w ts (command_decided d u ts) q)
+predicted_back n (m.commands d) st u w ts f q = commands_back n d st u w ts f (or_skip_back n (followed (on_command d u) (m.commands d ∷ [])) (has_level n (suc (length ts)) d) st w ts q)
 predicted_back n (m.branch d) st k.Else w ts f q = else_there n d st ts q
 predicted_back n (m.branch d) st u w ts f q = (u ∷ ts, inr (tt, refl), f q)
 predicted_back n m.locals st k.Local w ts f q = a_local n st ts q

@@ -1,5 +1,5 @@
 -- Which way the machine goes at a token that was looked at: what need not come.
-use Rattle.std.proofs.Common.{◌≡◌, ℕ, List, [], ◌∷◌, ◌++◌, length, true, false, refl, ◌∙◌}
+use Rattle.std.proofs.Common.{◌≡◌, ℕ, List, [], ◌∷◌, ◌++◌, length, false, refl, ◌∙◌}
 use Rattle.sf_ast.specs.declared.word.SurfaceExpr.TheVariants as e
 use Rattle.sf_ast.specs.declared.word.SurfaceOperand.TheVariants as v
 use Rattle.sf_parse.specs.Leaf.{Leaf}
@@ -12,7 +12,7 @@ use Rattle.sf_parse.specs.declared.stop.Stop.TheVariants.{Unexpected, TooDeep, O
 use Rattle.sf_parse.specs.Internal.Machine as m
 use Rattle.sf_parse.specs.Internal.Machine.{Predicted, verdict, unexpected}
 use Rattle.sf_parse.specs.Leaf.{leaves}
-use Rattle.sf_parse.specs.Internal.Parser.{NotNext, FailsAt, operand_next}
+use Rattle.sf_parse.specs.Internal.Parser.{NotNext, FailsAt}
 use Rattle.sf_parse.proofs.Machine.Decided.{conjunct_decided, refused}
 use Rattle.sf_parse.proofs.Parser.Fronts.{left_of}
 
@@ -73,21 +73,10 @@ no_relation ts st h i j = left_of ts (m.relation ∷ st) (go (leaves ts) h i j)
 
 pub conjunct_fails : (d : ℕ) (ts : List Leaf) (st : List Predicted) → conjunct_next ts ≡ false → verdict 0 ts (m.conjunct d ∷ st) ≡ unexpected (length ts)
 conjunct_fails d [] st h = refl
-conjunct_fails d (t ∷ r) st h = rw (refused (conjunct_decided d t r) h []) refl
+conjunct_fails d (t ∷ r) st h = rw (refused (conjunct_decided d t r) h) refl
 
-none_begins : (ts : List Leaf) → operand_next ts ≡ false → NotNext tk.OpenRound ts → NotNext tk.If ts → NotNext tk.Emp ts → NotNext tk.Ls ts → NotNext tk.Lseg ts → NotNext tk.List ts → NotNext tk.Tree ts → conjunct_next ts ≡ false
-none_begins [] o a b c e f g h = refl
-none_begins (k.OpenRound ∷ r) o a b c e f g h = absurd (a refl)
-none_begins (k.If _ ∷ r) o a b c e f g h = absurd (b refl)
-none_begins (k.Emp _ ∷ r) o a b c e f g h = absurd (c refl)
-none_begins (k.Ls _ false ∷ r) o a b c e f g h = absurd (e refl)
-none_begins (k.Ls _ true ∷ r) o a b c e f g h = absurd (f refl)
-none_begins (k.List _ ∷ r) o a b c e f g h = absurd (g refl)
-none_begins (k.Tree _ ∷ r) o a b c e f g h = absurd (h refl)
-none_begins (t ∷ r) o a b c e f g h = o
-
-pub no_conjunct : (d : ℕ) (ts : List Token) (st : List Predicted) → operand_next (leaves ts) ≡ false → NotNext tk.OpenRound (leaves ts) → NotNext tk.If (leaves ts) → NotNext tk.Emp (leaves ts) → NotNext tk.Ls (leaves ts) → NotNext tk.Lseg (leaves ts) → NotNext tk.List (leaves ts) → NotNext tk.Tree (leaves ts) → verdict 0 (leaves ts) (m.conjunct d ∷ st) ≡ unexpected (length ts)
-no_conjunct d ts st o a b c e f g h = left_of ts (m.conjunct d ∷ st) (conjunct_fails d (leaves ts) st (none_begins (leaves ts) o a b c e f g h))
+pub no_conjunct : (d : ℕ) (ts : List Token) (st : List Predicted) → conjunct_next (leaves ts) ≡ false → verdict 0 (leaves ts) (m.conjunct d ∷ st) ≡ unexpected (length ts)
+no_conjunct d ts st h = left_of ts (m.conjunct d ∷ st) (conjunct_fails d (leaves ts) st h)
 
 pub no_annotation : (ts : List Leaf) (st : List Predicted) → NotNext tk.OpenSquare ts → verdict 0 ts (m.maybe_annotation ∷ st) ≡ verdict 0 ts st
 no_annotation [] st h = refl

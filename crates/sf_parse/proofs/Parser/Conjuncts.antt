@@ -1,5 +1,5 @@
 -- Which way the machine goes at a conjunct and after one, and one more conjunct at the end of an assertion.
-use Rattle.std.proofs.Common.{◌≡◌, ◌<◌, ℕ, zero, suc, List, [], ◌∷◌, ◌++◌, length, true, false, refl, ap, subst, sym, arith, ◌∙◌}
+use Rattle.std.proofs.Common.{◌≡◌, ◌<◌, ℕ, zero, suc, List, [], ◌∷◌, ◌++◌, length, true, false, refl, ap, subst, sym, arith, ◌∙◌, append_assoc}
 use Rattle.std.proofs.lemmas.List.{length-map}
 use Rattle.sf_base.specs.declared.limits.TheConstants.{NESTING}
 use Rattle.sf_ast.specs.Surface as s
@@ -17,21 +17,22 @@ use Rattle.sf_parse.specs.Nearest.{IsClosed, ConjunctNearest, AssertionNearest}
 use Rattle.sf_parse.specs.Nesting.{ConjunctWithin, AssertionWithin, RestWithin}
 use Rattle.sf_parse.specs.Leaf.{leaf, leaves}
 use Rattle.sf_parse.specs.Internal.Parser.{NotNext, last_of, NotStar, Ends}
-use Rattle.sf_parse.proofs.Machine.Decided.{Decided, takes, refuses, conjunct_decided, in_parts, refused, taken}
+use Rattle.sf_parse.proofs.Machine.Back.{flat_conjunct}
+use Rattle.sf_parse.proofs.Machine.Decided.{Decided, takes, refuses, conjunct_decided, refused, taken}
 use Rattle.sf_parse.proofs.Parser.Fronts.{left_of}
 use Rattle.sf_parse.proofs.Machine.HasLevel.{no_level, some_level}
 
 -- without a level
 deep : (ts : List Leaf) (st : List Predicted) → conjunct_next ts ≡ true → verdict 0 ts (m.assertion 0 ∷ st) ≡ too_deep (length ts)
 deep [] st h = absurd cc
-deep (t ∷ r) st h = rw ((taken (conjunct_decided 0 t r) h).1 (m.more_conjuncts 0 ∷ []), no_level (length r)) refl
+deep (t ∷ r) st h = rw ((taken (conjunct_decided 0 t r) h).1, no_level (length r)) refl
 
 pub too_deep_here : (ts : List Token) (st : List Predicted) → conjunct_next (leaves ts) ≡ true → verdict 0 (leaves ts) (m.assertion 0 ∷ st) ≡ too_deep (length ts)
 too_deep_here ts st h = deep (leaves ts) st h ∙ ap too_deep (length-map ts leaf)
 
 no_assertion : (d : ℕ) (ts : List Leaf) (st : List Predicted) → conjunct_next ts ≡ false → verdict 0 ts (m.assertion d ∷ st) ≡ unexpected (length ts)
 no_assertion d [] st h = refl
-no_assertion d (t ∷ r) st h = rw (refused (conjunct_decided d t r) h (m.more_conjuncts d ∷ [])) refl
+no_assertion d (t ∷ r) st h = rw (refused (conjunct_decided d t r) h) refl
 
 pub unexpected_here : (ts : List Token) (st : List Predicted) → conjunct_next (leaves ts) ≡ false → verdict 0 (leaves ts) (m.assertion 0 ∷ st) ≡ unexpected (length ts)
 unexpected_here ts st h = left_of ts (m.assertion 0 ∷ st) (no_assertion 0 (leaves ts) st h)
@@ -43,8 +44,8 @@ first_conjunct (suc d) [] st h = refl
 first_conjunct (suc d) (t ∷ r) st h = go (conjunct_decided (suc d) t r)
   where
     go : Decided (conjunct_next (t ∷ r)) (on_conjunct (suc d) t) → verdict 0 (t ∷ r) (m.assertion (suc d) ∷ st) ≡ verdict 0 (t ∷ r) (m.conjunct (suc d) ∷ m.more_conjuncts (suc d) ∷ st)
-    go (takes xs b e) = rw (e (m.more_conjuncts (suc d) ∷ []), e []) (ap (verdict 0 r) (in_parts xs (m.more_conjuncts (suc d) ∷ []) st))
-    go (refuses b e) = rw (e (m.more_conjuncts (suc d) ∷ []), e []) refl
+    go (takes xs b e) = rw e (ap (verdict 0 r) (append_assoc xs (m.more_conjuncts (suc d) ∷ []) st))
+    go (refuses b e) = rw e refl
 
 -- after a conjunct
 pub no_more_conjuncts : (d : ℕ) (ts : List Leaf) (st : List Predicted) → NotNext tk.Star ts → verdict 0 ts (m.more_conjuncts d ∷ st) ≡ verdict 0 ts st
@@ -75,18 +76,13 @@ bare_test (t ∷ r) st h = refl
 
 -- what is flat is within any level, and nothing in it reaches on
 pub flat_within : (c : s.Conjunct) (d : ℕ) (r : List Leaf) → IsFlatConjunct c → ConjunctWithin c 0 d r
-flat_within (s.group a) d r h = absurd h
-flat_within (s.choose p round b x y) d r h = absurd h
-flat_within _ d r h = tt
+flat_within c d r h = (flat_conjunct c 0 d r h).0
 
 pub flat_nearest : (c : s.Conjunct) → IsFlatConjunct c → ConjunctNearest c
-flat_nearest (s.group a) h = absurd h
-flat_nearest (s.choose p round b x y) h = absurd h
-flat_nearest _ h = tt
+flat_nearest c h = (flat_conjunct c 0 0 [] h).1
 
 pub flat_ends : (c : s.Conjunct) (r : List Leaf) → IsFlatConjunct c → Ends c r
-flat_ends (s.choose p round b x y) r h = absurd h
-flat_ends _ r h = tt
+flat_ends c r h = (flat_conjunct c 0 0 r h).2
 
 -- one more conjunct
 pub assertion_push : (c : s.Conjunct) (xs : List s.Conjunct) (y : s.Conjunct) (r : List Leaf) → g.assertion (conjuncts c (xs ++ y ∷ [])) r ≡ g.assertion (conjuncts c xs) (k.Star ∷ g.conjunct y r)

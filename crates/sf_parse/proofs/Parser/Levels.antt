@@ -1,11 +1,8 @@
 -- Which way the machine goes at a command, and what levels commands have.
-use Rattle.std.proofs.Common.{◌≡◌, ◌<◌, ◌-◌, ℕ, zero, suc, List, [], ◌∷◌, ◌++◌, length, true, false, refl, ap, sym, subst, ◌∙◌, arith}
+use Rattle.std.proofs.Common.{◌≡◌, ◌<◌, ◌-◌, ℕ, zero, suc, List, [], ◌∷◌, ◌++◌, length, true, false, refl, ap, sym, subst, ◌∙◌, arith, append_assoc}
 use Rattle.std.proofs.lemmas.List.{length-map}
 use Rattle.sf_ast.specs.declared.word.SurfaceExpr.{SurfaceExpr}
-use Rattle.sf_ast.specs.declared.word.SurfaceExpr.TheVariants as e
-use Rattle.sf_ast.specs.declared.word.SurfaceOperand.TheVariants as v
 use Rattle.sf_ast.specs.declared.word.SurfaceTest.{SurfaceTest}
-use Rattle.sf_ast.specs.declared.word.Word.{Word}
 use Rattle.sf_ast.specs.Surface as s
 use Rattle.sf_ast.specs.View.{commands}
 use Rattle.sf_base.specs.declared.place.Place.{Place}
@@ -16,12 +13,12 @@ use Rattle.sf_lex.specs.declared.token.Token.{Token}
 use Rattle.sf_parse.specs.Grammar as g
 use Rattle.sf_parse.specs.Internal.Heads.{command_next}
 use Rattle.sf_parse.specs.Internal.Machine as m
-use Rattle.sf_parse.specs.Internal.Machine.{Predicted, leveled, verdict, unexpected, too_deep}
+use Rattle.sf_parse.specs.Internal.Machine.{Predicted, Choice, take, skip, refuse, takes, on_command, step, chosen, after, leveled, verdict, unexpected, too_deep}
 use Rattle.sf_parse.specs.Nearest.{Follows, CommandNearest, CommandsNearest}
 use Rattle.sf_parse.specs.Nesting.{has_level, CommandWithin, CommandsWithin}
 use Rattle.sf_parse.specs.Leaf.{leaf, leaves}
-use Rattle.sf_parse.specs.Internal.Parser.{NotNext, expression_next}
-use Rattle.sf_parse.proofs.Machine.Decided.{command_decided, in_parts, refused, taken}
+use Rattle.sf_parse.specs.Internal.Parser.{NotNext}
+use Rattle.sf_parse.proofs.Machine.Decided.{command_decided, refused, taken}
 use Rattle.sf_parse.proofs.Machine.Back.{flat_nearest, follows_else}
 use Rattle.sf_parse.proofs.Parser.Fronts.{left_of}
 use Rattle.sf_parse.proofs.Machine.HasLevel.{no_level, some_level}
@@ -29,71 +26,37 @@ use Rattle.sf_parse.proofs.Machine.HasLevel.{no_level, some_level}
 -- where no level is left
 level_fails : (ts : List Leaf) (st : List Predicted) → command_next ts ≡ true → verdict 0 ts (m.command 0 ∷ st) ≡ too_deep (length ts)
 level_fails [] st h = absurd cc
-level_fails (t ∷ r) st h = rw ((taken (command_decided 0 t r) h).1 [], no_level (length r)) refl
+level_fails (t ∷ r) st h = rw ((taken (command_decided 0 t r) h).1, no_level (length r)) refl
 
 pub fails_at_level : (ts : List Token) (st : List Predicted) → command_next (leaves ts) ≡ true → verdict 0 (leaves ts) (m.command 0 ∷ st) ≡ too_deep (length ts)
 fails_at_level ts st h = level_fails (leaves ts) st h ∙ ap too_deep (length-map ts leaf)
 
 command_fails : (d : ℕ) (ts : List Leaf) (st : List Predicted) → command_next ts ≡ false → verdict 0 ts (m.command d ∷ st) ≡ unexpected (length ts)
 command_fails d [] st h = refl
-command_fails d (t ∷ r) st h = rw (refused (command_decided d t r) h []) refl
+command_fails d (t ∷ r) st h = rw (refused (command_decided d t r) h) refl
 
 -- where no command begins
 pub fails_at_command : (d : ℕ) (ts : List Token) (st : List Predicted) → command_next (leaves ts) ≡ false → verdict 0 (leaves ts) (m.command d ∷ st) ≡ unexpected (length ts)
 fails_at_command d ts st h = left_of ts (m.command d ∷ st) (command_fails d (leaves ts) st h)
 
-none_next : (ts : List Leaf) → NotNext tk.Name ts → NotNext tk.Dispose ts → NotNext tk.If ts → NotNext tk.While ts → NotNext tk.With ts → NotNext tk.OpenBrace ts → expression_next ts ≡ false → command_next ts ≡ false
-none_next [] a b c d f i j = refl
-none_next (k.Operand (v.Known (e.Name _)) ∷ r) a b c d f i j = absurd (a refl)
-none_next (k.Dispose _ ∷ r) a b c d f i j = absurd (b refl)
-none_next (k.If _ ∷ r) a b c d f i j = absurd (c refl)
-none_next (k.While _ ∷ r) a b c d f i j = absurd (d refl)
-none_next (k.With _ ∷ r) a b c d f i j = absurd (f refl)
-none_next (k.OpenBrace _ ∷ r) a b c d f i j = absurd (i refl)
-none_next (t ∷ r) a b c d f i j = j
+-- where one does, with a level left: what is owed then
+abbrev owed : Choice → List Predicted
+owed (take ss) = ss
+owed _ = []
 
-pub no_command : (ts : List Token) → NotNext tk.Name (leaves ts) → NotNext tk.Dispose (leaves ts) → NotNext tk.If (leaves ts) → NotNext tk.While (leaves ts) → NotNext tk.With (leaves ts) → NotNext tk.OpenBrace (leaves ts)
-    → expression_next (leaves ts) ≡ false → command_next (leaves ts) ≡ false
-no_command ts a b c d f i j = none_next (leaves ts) a b c d f i j
-
--- with a level left
-pub accepts_named : (d : ℕ) (x : Word) (ts r : List Token) (st : List Predicted) → 0 < d → leaves ts ≡ k.Name x ∷ leaves r → verdict 0 (leaves ts) (m.command d ∷ st) ≡ verdict 0 (leaves r) (m.named ∷ st)
-accepts_named zero x ts r st lv h = absurd (omega arith)
-accepts_named (suc d) x ts r st lv h = rw h refl
-
-pub accepts_disposed : (d : ℕ) (p : Place) (ts r : List Token) (st : List Predicted) → 0 < d → leaves ts ≡ k.Dispose p ∷ leaves r → verdict 0 (leaves ts) (m.command d ∷ st) ≡ verdict 0 (leaves r) (m.disposed ∷ st)
-accepts_disposed zero p ts r st lv h = absurd (omega arith)
-accepts_disposed (suc d) p ts r st lv h = rw h refl
-
-pub accepts_if : (d : ℕ) (p : Place) (ts r : List Token) (st : List Predicted) → 0 < d → leaves ts ≡ k.If p ∷ leaves r
-    → verdict 0 (leaves ts) (m.command d ∷ st) ≡ verdict 0 (leaves r) (m.exact m.open_round ∷ m.test ∷ m.exact m.close_round ∷ m.command (d - 1) ∷ m.branch (d - 1) ∷ st)
-accepts_if zero p ts r st lv h = absurd (omega arith)
-accepts_if (suc d) p ts r st lv h = rw h refl
-
-pub accepts_while : (d : ℕ) (p : Place) (ts r : List Token) (st : List Predicted) → 0 < d → leaves ts ≡ k.While p ∷ leaves r
-    → verdict 0 (leaves ts) (m.command d ∷ st) ≡ verdict 0 (leaves r) (m.exact m.open_round ∷ m.test ∷ m.exact m.close_round ∷ m.maybe_annotation ∷ m.command (d - 1) ∷ st)
-accepts_while zero p ts r st lv h = absurd (omega arith)
-accepts_while (suc d) p ts r st lv h = rw h refl
-
-pub accepts_with : (d : ℕ) (p : Place) (ts r : List Token) (st : List Predicted) → 0 < d → leaves ts ≡ k.With p ∷ leaves r
-    → verdict 0 (leaves ts) (m.command d ∷ st) ≡ verdict 0 (leaves r) (m.exact m.a_name ∷ m.exact m.when_word ∷ m.exact m.open_round ∷ m.test ∷ m.exact m.close_round ∷ m.command (d - 1) ∷ st)
-accepts_with zero p ts r st lv h = absurd (omega arith)
-accepts_with (suc d) p ts r st lv h = rw h refl
-
-pub accepts_block : (d : ℕ) (p : Place) (ts r : List Token) (st : List Predicted) → 0 < d → leaves ts ≡ k.OpenBrace p ∷ leaves r → verdict 0 (leaves ts) (m.command d ∷ st) ≡ verdict 0 (leaves r) (m.commands (d - 1) ∷ m.exact m.close_brace ∷ st)
-accepts_block zero p ts r st lv h = absurd (omega arith)
-accepts_block (suc d) p ts r st lv h = rw h refl
-
-pub accepts_value : (d : ℕ) (x : SurfaceExpr) (ts r : List Token) (st : List Predicted) → 0 < d → NotNext tk.Name (leaves ts) → leaves ts ≡ g.expr x ∷ leaves r
-    → verdict 0 (leaves ts) (m.command d ∷ st) ≡ verdict 0 (leaves r) (m.exact m.an_arrow ∷ m.exact m.a_name ∷ m.exact m.equals ∷ m.expression ∷ m.exact m.semicolon ∷ st)
-accepts_value zero x ts r st lv no_name h = absurd (omega arith)
-accepts_value (suc d) (e.Name x) ts r st lv no_name h = absurd (subst (λ z. NotNext tk.Name z) h no_name refl)
-accepts_value (suc d) _ ts r st lv no_name h = rw h refl
+pub accepts_command : (d : ℕ) (t : Leaf) (ts r : List Token) (st : List Predicted) → 0 < d → leaves ts ≡ t ∷ leaves r → takes (on_command d t) ≡ true → verdict 0 (leaves ts) (m.command d ∷ st) ≡ verdict 0 (leaves r) (owed (on_command d t) ++ st)
+accepts_command zero t ts r st lv h b = absurd (omega arith)
+accepts_command (suc d) t ts r st lv h b = rw h (go (on_command (suc d) t) b)
+  where
+    go : (c : Choice) → takes c ≡ true → after 0 (suc (length (leaves r))) (λ s. verdict 0 (leaves r) s) (chosen c (m.command (suc d)) st (step st t)) ≡ verdict 0 (leaves r) (owed c ++ st)
+    go (take ss) b = refl
+    go skip b = absurd cc
+    go refuse b = absurd cc
 
 -- what need not come
 commands_over : (d : ℕ) (ts : List Leaf) (st : List Predicted) → command_next ts ≡ false → verdict 0 ts (m.commands d ∷ st) ≡ verdict 0 ts st
 commands_over d [] st h = refl
-commands_over d (t ∷ r) st h = rw (refused (command_decided d t r) h (m.commands d ∷ [])) refl
+commands_over d (t ∷ r) st h = rw (refused (command_decided d t r) h) refl
 
 pub no_commands : (d : ℕ) (ts : List Token) (st : List Predicted) → command_next (leaves ts) ≡ false → verdict 0 (leaves ts) (m.commands d ∷ st) ≡ verdict 0 (leaves ts) st
 no_commands d ts st h = commands_over d (leaves ts) st h
@@ -102,7 +65,7 @@ commands_go_on : (d : ℕ) (ts : List Leaf) (st : List Predicted) → command_ne
 commands_go_on d [] st h = absurd cc
 commands_go_on d (t ∷ r) st h =
     let o = taken (command_decided d t r) h in
-    rw (o.1 (m.commands d ∷ []), o.1 []) (ap (λ (z : List Predicted). leveled (has_level 0 (suc (length r)) d) (suc (length r)) (verdict 0 r z)) (in_parts o.0 (m.commands d ∷ []) st))
+    rw o.1 (ap (λ (z : List Predicted). leveled (has_level 0 (suc (length r)) d) (suc (length r)) (verdict 0 r z)) (append_assoc o.0 (m.commands d ∷ []) st))
 
 pub another_command : (d : ℕ) (ts : List Token) (st : List Predicted) → command_next (leaves ts) ≡ true → verdict 0 (leaves ts) (m.commands d ∷ st) ≡ verdict 0 (leaves ts) (m.command d ∷ m.commands d ∷ st)
 another_command d ts st h = commands_go_on d (leaves ts) st h
@@ -118,14 +81,7 @@ no_branch d ts st h = branch_over d (leaves ts) st h
 pub ruleset levels = (
   fails_at_level,
   fails_at_command,
-  no_command,
-  accepts_named,
-  accepts_disposed,
-  accepts_if,
-  accepts_while,
-  accepts_with,
-  accepts_block,
-  accepts_value,
+  accepts_command,
   no_commands,
   another_command,
   no_branch,

@@ -1,10 +1,9 @@
--- What comes next, and what was begun where its first tokens are read.
+-- What comes next, read off the machine's table, and what was begun where its first tokens are read.
 -- Ordinary: left factoring, as in Aho, Sethi, Ullman, "Compilers" (1986), section 4.3.
-use Rattle.std.specs.Prelude.{List, ◌∷◌, Bool, true}
+use Rattle.std.specs.Prelude.{List, [], ◌∷◌, Bool, false}
 use Rattle.sf_ast.specs.Surface as s
 use Rattle.sf_parse.specs.Leaf.{Leaf}
-use Rattle.sf_parse.specs.Leaf as k
-use Rattle.sf_parse.specs.Internal.Parser.{expression_next, operand_next}
+use Rattle.sf_parse.specs.Internal.Machine.{takes, on_command, on_conjunct}
 
 -- a command with no command in it
 abbrev pub IsFlat : s.Command → Type 0
@@ -15,14 +14,10 @@ IsFlat (s.with p x b c) = ⊥
 IsFlat (s.block p cs q) = ⊥
 IsFlat _ = Unit {0}
 
--- a command comes next
+-- a command comes next, at whatever level
 abbrev pub command_next : List Leaf → Bool
-command_next (k.Dispose _ ∷ r) = true
-command_next (k.If _ ∷ r) = true
-command_next (k.While _ ∷ r) = true
-command_next (k.With _ ∷ r) = true
-command_next (k.OpenBrace _ ∷ r) = true
-command_next r = expression_next r
+command_next [] = false
+command_next (t ∷ r) = takes (on_command 0 t)
 
 -- a conjunct with no assertion in it
 abbrev pub IsFlatConjunct : s.Conjunct → Type 0
@@ -30,12 +25,7 @@ IsFlatConjunct (s.group a) = ⊥
 IsFlatConjunct (s.choose p round b x y) = ⊥
 IsFlatConjunct _ = Unit {0}
 
--- a conjunct comes next
+-- a conjunct comes next, at whatever level
 abbrev pub conjunct_next : List Leaf → Bool
-conjunct_next (k.Emp _ ∷ r) = true
-conjunct_next (k.OpenRound ∷ r) = true
-conjunct_next (k.If _ ∷ r) = true
-conjunct_next (k.Ls _ _ ∷ r) = true
-conjunct_next (k.List _ ∷ r) = true
-conjunct_next (k.Tree _ ∷ r) = true
-conjunct_next r = operand_next r
+conjunct_next [] = false
+conjunct_next (t ∷ r) = takes (on_conjunct 0 t)

@@ -1,13 +1,14 @@
 -- What may still come, as a stack of what is owed.
 -- A law, `the_verdict_is_exact`, says that its verdict is the grammar's.
 -- Ordinary: predictive parsing with a stack, as in Aho, Sethi, Ullman, "Compilers" (1986), section 4.4.
-use Rattle.std.specs.Prelude.{ℕ, zero, suc, ◌-◌, ◌++◌, List, [], ◌∷◌, length, Bool, true, false}
+use Rattle.std.specs.Prelude.{ℕ, zero, suc, ◌-◌, ◌++◌, List, [], ◌∷◌, length, Bool, true, false, Option, Some, None}
 use Rattle.sf_base.specs.declared.limits.TheConstants.{NESTING}
 use Rattle.sf_ast.specs.declared.word.SurfaceExpr.TheVariants as e
 use Rattle.sf_ast.specs.declared.word.SurfaceOperand.TheVariants as v
 use Rattle.sf_ast.specs.declared.word.Word.{Word}
 use Rattle.sf_parse.specs.Leaf.{Leaf}
 use Rattle.sf_parse.specs.Leaf as k
+use Rattle.sf_parse.specs.Internal.Predicates.{Predicate, predicate_of}
 use Rattle.sf_parse.specs.Nesting.{has_level}
 
 -- a token that is owed as it is
@@ -73,9 +74,15 @@ pub data Predicted : Type 0 where
   item_named : Predicted
   items : Predicted
 
--- `( E , F )`
-abbrev pub pair_predicted : List Predicted
-pair_predicted = exact open_round ∷ operand ∷ exact a_comma ∷ operand ∷ exact close_round ∷ []
+-- what comes after the first operand of a predicate, where it has so many more
+abbrev pub more_operands_predicted : ℕ → List Predicted
+more_operands_predicted zero = exact close_round ∷ []
+more_operands_predicted (suc n) = exact a_comma ∷ operand ∷ more_operands_predicted n
+
+-- what comes after the word of a predicate that has so many operands: none, `( E )`, `( E , F )`
+abbrev pub operands_predicted : ℕ → List Predicted
+operands_predicted zero = []
+operands_predicted (suc n) = exact open_round ∷ operand ∷ more_operands_predicted n
 
 -- what comes after the test of a conjunct's `if`, whose branches have at most d levels
 abbrev pub branches_predicted : ℕ → List Predicted
@@ -118,6 +125,17 @@ pub data Choice : Type 0 where
   take : List Predicted → Choice
   skip : Choice
   refuse : Choice
+
+-- it takes the token
+abbrev pub takes : Choice → Bool
+takes (take ss) = true
+takes _ = false
+
+-- after what is owed by it this is
+abbrev pub followed : Choice → List Predicted → Choice
+followed (take ss) st = take (ss ++ st)
+followed skip st = skip
+followed refuse st = refuse
 
 -- what need not come is done without
 abbrev pub or_skip : Choice → Choice
@@ -182,25 +200,27 @@ abbrev pub on_next : Bool → Leaf → Choice
 on_next b (k.Operand (v.Known (e.Name _))) = take (rest b ∷ [])
 on_next b t = on_expression t (rest false ∷ [])
 
--- a conjunct, and what is owed after it
-abbrev pub on_conjunct : ℕ → Leaf → List Predicted → Choice
-on_conjunct d (k.Emp _) ss = take ss
-on_conjunct d k.OpenRound ss = take (assertion (d - 1) ∷ exact close_round ∷ ss)
-on_conjunct d (k.If _) ss = take (choice_predicted (d - 1) ++ ss)
-on_conjunct d (k.Ls _ _) ss = take (pair_predicted ++ ss)
-on_conjunct d (k.List _) ss = take (exact open_round ∷ operand ∷ exact close_round ∷ ss)
-on_conjunct d (k.Tree _) ss = take (exact open_round ∷ operand ∷ exact close_round ∷ ss)
-on_conjunct d t ss = on_operand t (relation ∷ ss)
+-- a predicate, if there is one of that word
+abbrev pub on_predicate : Option Predicate → Choice
+on_predicate (Some p) = take (operands_predicted p.count)
+on_predicate None = refuse
 
--- a command, and what is owed after it
-abbrev pub on_command : ℕ → Leaf → List Predicted → Choice
-on_command d (k.Operand (v.Known (e.Name _))) ss = take (named ∷ ss)
-on_command d (k.Dispose _) ss = take (disposed ∷ ss)
-on_command d (k.If _) ss = take (if_predicted d ++ ss)
-on_command d (k.While _) ss = take (while_predicted d ++ ss)
-on_command d (k.With _) ss = take (with_predicted d ++ ss)
-on_command d (k.OpenBrace _) ss = take (commands (d - 1) ∷ exact close_brace ∷ ss)
-on_command d t ss = on_expression t (exact an_arrow ∷ mutated_predicted ++ ss)
+-- a conjunct
+abbrev pub on_conjunct : ℕ → Leaf → Choice
+on_conjunct d k.OpenRound = take (assertion (d - 1) ∷ exact close_round ∷ [])
+on_conjunct d (k.If _) = take (choice_predicted (d - 1))
+on_conjunct d (k.Operand _) = take (relation ∷ [])
+on_conjunct d t = on_predicate (predicate_of t)
+
+-- a command
+abbrev pub on_command : ℕ → Leaf → Choice
+on_command d (k.Operand (v.Known (e.Name _))) = take (named ∷ [])
+on_command d (k.Dispose _) = take (disposed ∷ [])
+on_command d (k.If _) = take (if_predicted d)
+on_command d (k.While _) = take (while_predicted d)
+on_command d (k.With _) = take (with_predicted d)
+on_command d (k.OpenBrace _) = take (commands (d - 1) ∷ exact close_brace ∷ [])
+on_command d t = on_expression t (exact an_arrow ∷ mutated_predicted)
 
 -- what comes of one thing that is owed at one token
 abbrev pub choice : Predicted → Leaf → Choice
@@ -251,12 +271,12 @@ choice maybe_fields t = skip
 -- fields after a first one
 choice more_fields k.Comma = take (exact a_name ∷ exact a_colon ∷ operand ∷ more_fields ∷ [])
 choice more_fields t = skip
-choice (conjunct d) t = on_conjunct d t []
+choice (conjunct d) t = on_conjunct d t
 -- conjuncts after a first one
 choice (more_conjuncts d) k.Star = take (conjunct d ∷ more_conjuncts d ∷ [])
 choice (more_conjuncts d) t = skip
-choice (assertion d) t = on_conjunct d t (more_conjuncts d ∷ [])
-choice maybe_assertion t = or_skip (on_conjunct NESTING t (more_conjuncts NESTING ∷ []))
+choice (assertion d) t = followed (on_conjunct d t) (more_conjuncts d ∷ [])
+choice maybe_assertion t = or_skip (followed (on_conjunct NESTING t) (more_conjuncts NESTING ∷ []))
 -- a note, or none
 choice maybe_annotation k.OpenSquare = take (maybe_assertion ∷ exact close_square ∷ [])
 choice maybe_annotation t = skip
@@ -279,8 +299,8 @@ choice after_call t = refuse
 -- what comes after `dispose`
 choice disposed k.OpenRound = take (expression ∷ exact close_round ∷ exact semicolon ∷ [])
 choice disposed t = on_expression t (exact semicolon ∷ [])
-choice (command d) t = on_command d t []
-choice (commands d) t = or_skip (on_command d t (commands d ∷ []))
+choice (command d) t = on_command d t
+choice (commands d) t = or_skip (followed (on_command d t) (commands d ∷ []))
 -- the `else` of an `if`, or none
 choice (branch d) k.Else = take (command d ∷ [])
 choice (branch d) t = skip
