@@ -24,6 +24,7 @@ use Rattle.sf_sym.specs.declared.term.Term.{Term}
 use Rattle.sf_sym.specs.Goal.{Goal, Item, gave, one_goal, run}
 use Rattle.sf_sym.specs.State.{State, with_symbols}
 use Rattle.sf_sym.specs.Variables.{fresh_for}
+use Rattle.sf_rules.specs.declared.few.TheConstants.{TOO_MANY}
 use Rattle.sf_rules.specs.Few.{if_few}
 use Rattle.sf_rules.specs.Rows.Calls.{call_row, called, called_with, fork_row, forked, forked_with, term_after, term_before}
 use Rattle.sf_rules.specs.Rows.Front.{at_command}
@@ -37,35 +38,35 @@ length_fresh n (x ∷ xs) = ap suc (length_fresh (suc n) xs)
 
 module _ (n : ℕ) (xs ys zs : List Var) (len : ℕ) (e : ys ≡ xs) (l : len ≡ length ys) where
   -- too many variables
-  pub fresh_many : 1024 ≤ len → nat_lt (length (fresh_for n xs)) 1024 ≡ false
+  pub fresh_many : TOO_MANY ≤ len → nat_lt (length (fresh_for n xs)) TOO_MANY ≡ false
   fresh_many many =
       let all : length (fresh_for n xs) ≡ len = length_fresh n xs ∙ ap length (sym e) ∙ sym l in
       grind (arith, nat_tests)
 
   -- few
-  pub fresh_few : (set : List (Var × Term)) → len < 1024 → set ≡ fresh_for n zs → zs ≡ ys
-      → (set ≡ fresh_for n xs) × (length set < 1024)
+  pub fresh_few : (set : List (Var × Term)) → len < TOO_MANY → set ≡ fresh_for n zs → zs ≡ ys
+      → (set ≡ fresh_for n xs) × (length set < TOO_MANY)
   fresh_few set few is same =
       let all : length set ≡ len = ap length is ∙ length_fresh n zs ∙ ap length same ∙ sym l in
       (is ∙ ap (fresh_for n) (same ∙ e), grind (arith, nat_tests))
 
 -- too many variables of two calls together
-pub both_many : (n : ℕ) (xs ys : List Var) → 1024 ≤ length xs + length ys
-    → nat_lt (length (fresh_for n xs ++ fresh_for (n + length (fresh_for n xs)) ys)) 1024 ≡ false
+pub both_many : (n : ℕ) (xs ys : List Var) → TOO_MANY ≤ length xs + length ys
+    → nat_lt (length (fresh_for n xs ++ fresh_for (n + length (fresh_for n xs)) ys)) TOO_MANY ≡ false
 both_many n xs ys many =
     let first = fresh_for n xs in
     let second = fresh_for (n + length first) ys in
     let sum : length (first ++ second) ≡ length first + length second = length-append first second in
     let one : length first ≡ length xs = length_fresh n xs in
     let two : length second ≡ length ys = length_fresh (n + length first) ys in
-    let all : 1024 ≤ length (first ++ second) = omega (arith, many, sum, one, two) in
+    let all : TOO_MANY ≤ length (first ++ second) = omega (arith, many, sum, one, two) in
     grind (arith, nat_tests)
 
 -- few of two calls
 pub both_few : (n m : ℕ) (xs ys vs ws us ts : List Var) (first second : List (Var × Term))
     → first ≡ fresh_for n us → us ≡ vs → vs ≡ xs → m ≡ n + length vs → second ≡ fresh_for m ts → ts ≡ ws → ws ≡ ys
-    → length vs + length ws < 1024
-    → (first ≡ fresh_for n xs) × (second ≡ fresh_for (n + length first) ys) × (length first + length second < 1024)
+    → length vs + length ws < TOO_MANY
+    → (first ≡ fresh_for n xs) × (second ≡ fresh_for (n + length first) ys) × (length first + length second < TOO_MANY)
 both_few n m xs ys vs ws us ts first second i a b e j f h few =
     let one : length first ≡ length vs = ap length i ∙ length_fresh n us ∙ ap length a in
     let two : length second ≡ length ws = ap length j ∙ length_fresh m ts ∙ ap length f in
@@ -108,13 +109,13 @@ pub fork_view : (p : Place) (c e : CodeCall) → command_of (Fork p c e) ≡ for
 fork_view p c e = ap command_of (sym (rolls-Fork p c e)) ∙ fold-roll-Command Command command_step _
 
 -- few symbols are needed
-pub are_few : (n : ℕ) (left : Option (List Goal)) → n < 1024 → left ≡ if_few n left
+pub are_few : (n : ℕ) (left : Option (List Goal)) → n < TOO_MANY → left ≡ if_few n left
 are_few n left few =
-    let less : nat_lt n 1024 ≡ true = grind (arith, nat_tests) in
+    let less : nat_lt n TOO_MANY ≡ true = grind (arith, nat_tests) in
     sym (ap (λ b. cond b left None) less)
 
 -- too many are
-pub are_many : (n : ℕ) (left : Option (List Goal)) → nat_lt n 1024 ≡ false → None ≡ if_few n left
+pub are_many : (n : ℕ) (left : Option (List Goal)) → nat_lt n TOO_MANY ≡ false → None ≡ if_few n left
 are_many n left many = sym (ap (λ b. cond b left None) many)
 
 module _ (sets : Sets) (s : State) (p : Place) (c : Call) (rest : List Item) where
@@ -127,7 +128,7 @@ module _ (sets : Sets) (s : State) (p : Place) (c : Call) (rest : List Item) whe
       one_goal (with_symbols (length set) s) (to_take c.place (term_before s c) pre ++ after set post)
 
   pub called_left : (set : List (Var × Term)) (pre post : Assertion) (now : State) (last mid todo : List Item)
-      → set ≡ fresh_for s.next_sym (changed sets c) → length set < 1024
+      → set ≡ fresh_for s.next_sym (changed sets c) → length set < TOO_MANY
       → last ≡ to_add p (term_after s set c) post ++ rest → mid ≡ gave p set [] ∷ last
       → todo ≡ to_take c.place (term_before s c) pre ++ mid → now ≡ with_symbols (length set) s
       → Some (record { state = now; todo = todo } ∷ []) ≡ called_with sets s p c pre post rest
@@ -138,7 +139,7 @@ module _ (sets : Sets) (s : State) (p : Place) (c : Call) (rest : List Item) whe
       ∙ are_few (length set) (made set pre post) few
       ∙ ap (λ xs. if_few (length xs) (made xs pre post)) e
 
-  pub called_many : nat_lt (length (fresh_for s.next_sym (changed sets c))) 1024 ≡ false → (pre post : Assertion)
+  pub called_many : nat_lt (length (fresh_for s.next_sym (changed sets c))) TOO_MANY ≡ false → (pre post : Assertion)
       → None ≡ called_with sets s p c pre post rest
   called_many many pre post =
       are_many (length (fresh_for s.next_sym (changed sets c))) (made (fresh_for s.next_sym (changed sets c)) pre post)
@@ -166,7 +167,7 @@ module _ (sets : Sets) (s : State) (p : Place) (c e : Call) (rest : List Item) w
 
     pub forked_left : (first second set : List (Var × Term)) (now : State) (one two mid three todo : List Item)
         → first ≡ fresh_for s.next_sym (changed sets c) → second ≡ then_second first
-        → length first + length second < 1024 → set ≡ first ++ second
+        → length first + length second < TOO_MANY → set ≡ first ++ second
         → one ≡ to_add p (term_after s second e) post_too ++ rest
         → two ≡ to_add p (term_after s first c) post ++ one → mid ≡ gave p set [] ∷ two
         → three ≡ to_take e.place (term_before s e) pre_too ++ mid
@@ -174,7 +175,7 @@ module _ (sets : Sets) (s : State) (p : Place) (c e : Call) (rest : List Item) w
         → Some (record { state = now; todo = todo } ∷ []) ≡ forked_with sets s p c e pre post pre_too post_too rest
     forked_left first second set now one two mid three todo is is_too few all o w m h t n =
         let sum : length (first ++ second) ≡ length first + length second = length-append first second in
-        let few_too : length (first ++ second) < 1024 = omega (arith, few, sum) in
+        let few_too : length (first ++ second) < TOO_MANY = omega (arith, few, sum) in
         let due : todo ≡ to_take c.place (term_before s c) pre ++ (to_take e.place (term_before s e) pre_too
         ++ after_both first second post post_too) =
         t ∙ ap (λ ys. to_take c.place (term_before s c) pre ++ ys)
@@ -188,7 +189,7 @@ module _ (sets : Sets) (s : State) (p : Place) (c e : Call) (rest : List Item) w
         ∙ ap (few_both first) is_too ∙ ap (λ xs. few_both xs (then_second xs)) is
 
     pub forked_many : nat_lt (length (fresh_for s.next_sym (changed sets c)
-        ++ then_second (fresh_for s.next_sym (changed sets c)))) 1024 ≡ false
+        ++ then_second (fresh_for s.next_sym (changed sets c)))) TOO_MANY ≡ false
         → None ≡ forked_with sets s p c e pre post pre_too post_too rest
     forked_many many =
         let first = fresh_for s.next_sym (changed sets c) in

@@ -23,6 +23,7 @@ use Rattle.sf_sym.specs.Pending.{Pending}
 use Rattle.sf_sym.specs.Ready.{is_listed}
 use Rattle.sf_sym.specs.State.{State, term}
 use Rattle.sf_sym.specs.Variables.{with_fresh}
+use Rattle.sf_rules.specs.declared.few.TheConstants.{TOO_MANY}
 use Rattle.sf_rules.specs.Rows.Ends as ends
 use Rattle.sf_rules.specs.Rows.Front.{at_again, at_command, at_head, at_return}
 use Rattle.sf_rules.specs.Rows.Loops as loops
@@ -130,7 +131,7 @@ listed_any (v ∷ vs) x = ap (λ b. same_var v.0 x || b) (listed_any vs x)
 -- both goals that are left of a loop, where its body leaves those variables unknown
 pub around_left : (d : Setting) (s : State) (p : Place) (x : Test Expr) (a : Assertion) (body : Block)
     (unknown : List Var) (rest items : List Item) (once after : Goal) → items ≡ head p x a body ∷ rest
-    → unknown ≡ loops.unknown_in d s body → nat_lt (length unknown) 1024 ≡ true
+    → unknown ≡ loops.unknown_in d s body → nat_lt (length unknown) TOO_MANY ≡ true
     → once ≡ loops.body_once d (with_fresh unknown s) p x a body
     → after ≡ loops.after_loop d (with_fresh unknown s) p x a rest
     → Some (once ∷ after ∷ []) ≡ at_head (loops.around_row d s) items

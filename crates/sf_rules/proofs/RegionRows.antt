@@ -24,6 +24,7 @@ use Rattle.sf_sym.specs.declared.term.Term.{Term}
 use Rattle.sf_sym.specs.Goal.{Goal, Item, exit, gave, one_goal, run, to_run, todo_of}
 use Rattle.sf_sym.specs.State.{State, term}
 use Rattle.sf_sym.specs.Variables.{with_fresh}
+use Rattle.sf_rules.specs.declared.few.TheConstants.{TOO_MANY}
 use Rattle.sf_rules.specs.Rows.Front.{at_command, at_exit}
 use Rattle.sf_rules.specs.Rows.Regions.{enter_row, entered, entered_with, exit_row, variables_from}
 use Rattle.sf_rules.specs.Setting.{Setting, setting_of}
@@ -74,7 +75,7 @@ module _ (s : State) (p : Place) (xs : List Var) (invariant : Assertion) (t : Te
       one_goal (with_fresh xs s)
       (to_add p (term (with_fresh xs s).vars) invariant ++ (to_add_test p (term (with_fresh xs s).vars) t ++ inside))
 
-  pub entered_left : (now : State) (vars : List (Var × Term)) (mid todo : List Item) → length xs < 1024
+  pub entered_left : (now : State) (vars : List (Var × Term)) (mid todo : List Item) → length xs < TOO_MANY
       → now ≡ with_fresh xs s → vars ≡ now.vars → mid ≡ to_add_test p (term vars) t ++ inside
       → todo ≡ to_add p (term vars) invariant ++ mid
       → Some (record { state = now; todo = todo } ∷ []) ≡ entered_with s p xs invariant t inside
@@ -86,7 +87,7 @@ module _ (s : State) (p : Place) (xs : List Var) (invariant : Assertion) (t : Te
       ∙ ap (λ vs. to_add p (term vs) invariant ++ (to_add_test p (term vs) t ++ inside)) same in
       (λ i. Some (record { state = n i; todo = due i } ∷ [])) ∙ are_few (length xs) inner few
 
-  pub entered_many : nat_lt (length xs) 1024 ≡ false → None ≡ entered_with s p xs invariant t inside
+  pub entered_many : nat_lt (length xs) TOO_MANY ≡ false → None ≡ entered_with s p xs invariant t inside
   entered_many many = are_many (length xs) inner many
 
 module _ (d : Setting) (s : State) (p : Place) (r : ResId) (rest items : List Item) where

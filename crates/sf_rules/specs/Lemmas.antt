@@ -9,6 +9,7 @@ use Rattle.sf_core.specs.Program.Syntax.{Conjunct, Level, level}
 use Rattle.sf_core.specs.Program.View.{conjunct_of, conjuncts, level_of, conjunct_step, level_step}
 use Rattle.sf_sym.specs.declared.tag.Tag.{Tag}
 use Rattle.sf_sym.specs.Goal.{Goal}
+use Rattle.sf_rules.specs.declared.few.TheConstants.{TOO_MANY}
 use Rattle.sf_rules.specs.Few.{if_few}
 use Rattle.sf_rules.specs.Proving.{Proof, Proofs, no_more, and, preorder, preorders}
 use Rattle.sf_rules.specs.Setting.{Setting}
@@ -70,7 +71,7 @@ level_of-out l = fold_out-Level Expr (Conjunct Expr) (Level Expr) conjunct_step 
 
 -- a row that needs few new symbols
 pub few-left : (count : ℕ) (o : Option (List Goal)) (left : List Goal) → if_few count o ≡ Some left → o ≡ Some left
-few-left count o left e = go (nat_lt count 1024) e
+few-left count o left e = go (nat_lt count TOO_MANY) e
   where
     go : (b : Bool) → cond b o None ≡ Some left → o ≡ Some left
     go true e = e

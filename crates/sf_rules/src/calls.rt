@@ -18,6 +18,7 @@ ghost use Rattle.sf_sym.specs.State.{term};
 ghost use Rattle.sf_sym.specs.Variables.{fresh_for};
 
 use crate::children::Children;
+use crate::few::TOO_MANY;
 use crate::front::{take_command, take_gave};
 use crate::terms::term_of;
 use crate::words::{Terms, with_assumed, with_wanted};
@@ -203,15 +204,16 @@ fn unknown_after(
     from: u32,
     call: &Call,
 ) -> Result<Option<Vec<(Var, Term)>>, AllocError>
-    requires { from + 1024 ≤ 2 ^ 32 }
+    requires { from + TOO_MANY ≤ 2 ^ 32 }
     ensures some { IfOk result (λ found. IfSome found (λ set.
         (set.items ≡ fresh_for from (changed calls.now (call_of call.now)))
-        × (length set.items < 1024))) }
+        × (length set.items < TOO_MANY))) }
     ensures none { IfOk result (λ found. IfNone found
-        (nat_lt (length (fresh_for from (changed calls.now (call_of call.now)))) 1024 ≡ false)) }
+        (nat_lt (length (fresh_for from (changed calls.now (call_of call.now)))) TOO_MANY
+        ≡ false)) }
 {
     let changed = calls.changed(alloc, call)?;
-    if changed.len() >= 1024 {
+    if changed.len() >= TOO_MANY {
         return Ok(None);
     }
     let set = fresh_for(alloc, from, &changed)?;
@@ -227,19 +229,19 @@ fn unknown_after_both(
     left: &Call,
     right: &Call,
 ) -> Result<Option<(Vec<(Var, Term)>, Vec<(Var, Term)>)>, AllocError>
-    requires { from + 1024 ≤ 2 ^ 32 }
+    requires { from + TOO_MANY ≤ 2 ^ 32 }
     ensures some { IfOk result (λ found. IfSome found (λ both.
         (both.0.items ≡ fresh_for from (changed calls.now (call_of left.now)))
         × (both.1.items ≡ fresh_for (from + length both.0.items) (changed calls.now (call_of right.now)))
-        × (length both.0.items + length both.1.items < 1024))) }
+        × (length both.0.items + length both.1.items < TOO_MANY))) }
     ensures none { IfOk result (λ found. IfNone found
         (nat_lt (length (fresh_for from (changed calls.now (call_of left.now))
         ++ fresh_for (from + length (fresh_for from (changed calls.now (call_of left.now))))
-        (changed calls.now (call_of right.now)))) 1024 ≡ false)) }
+        (changed calls.now (call_of right.now)))) TOO_MANY ≡ false)) }
 {
     let one = calls.changed(alloc, left)?;
     let two = calls.changed(alloc, right)?;
-    if one.len() >= 1024 || two.len() >= 1024 - one.len() {
+    if one.len() >= TOO_MANY || two.len() >= TOO_MANY - one.len() {
         return Ok(None);
     }
     let first = fresh_for(alloc, from, &one)?;

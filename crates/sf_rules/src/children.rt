@@ -13,6 +13,7 @@ ghost use Rattle.sf_sym.specs.Goal.{goal_of};
 use crate::branches::branch;
 use crate::calls::{call, fork, give};
 use crate::commands::{assign, dispose, look, mutate, new};
+use crate::few::TOO_MANY;
 use crate::loops::{again, around, begin_loop, end, return_from};
 use crate::regions::{enter, exit};
 use crate::subtracting::{assume, show};
@@ -96,7 +97,8 @@ pub fn apply_row<'a>(
 fn has_numbers(state: &State) -> bool
     ensures { result ≡ has_numbers state.now }
 {
-    state.next_sym() <= u32::MAX - 1023 && state.next_atom() <= u32::MAX - 1023
+    let highest = u32::MAX - (TOO_MANY as u32 - 1);
+    state.next_sym() <= highest && state.next_atom() <= highest
 }
 
 /// What the tag's row leaves, where numbers can't run out. `None` exactly where there is no row.

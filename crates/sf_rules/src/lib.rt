@@ -3,6 +3,7 @@
 //! - `terms`: expressions and assertions with the terms that the variables have now.
 //! - `words`: where the terms of an annotation's expressions are from, and annotations first of all
 //!   that there is to do.
+//! - `few`: how many new symbols at once are too many for a row.
 //! - `front`: what is in front of what there is to do.
 //! - `children`: what a tag leaves of a goal: the whole table.
 //! - `commands`: the rows of commands that touch a variable or a cell.
@@ -24,6 +25,7 @@ mod children;
 mod commands;
 mod decided;
 pub mod examples;
+pub mod few;
 mod front;
 pub mod laws;
 mod loops;

@@ -20,6 +20,7 @@ ghost use Rattle.sf_sym.specs.Ready.{is_listed};
 ghost use Rattle.sf_sym.specs.State.{term};
 
 use crate::children::Children;
+use crate::few::TOO_MANY;
 use crate::front::{Loop, take_again, take_command, take_end, take_head, take_return};
 use crate::words::{Terms, pending, with_test};
 use sf_base::{Name, Place, Var};
@@ -98,7 +99,7 @@ pub(crate) fn around<'a>(
     };
     let changes = calls.assigned(alloc, l.body)?;
     let unknown = listed_of(alloc, state.vars(), changes.as_slice())?;
-    if unknown.len() >= 1024 {
+    if unknown.len() >= TOO_MANY {
         return Ok(None);
     }
     state.set_fresh(&unknown)?;

@@ -15,6 +15,7 @@ ghost use Rattle.sf_rules.specs.Few.{has_numbers};
 ghost use Rattle.sf_sym.specs.Goal.{todo_of};
 
 use crate::children::Children;
+use crate::few::TOO_MANY;
 use crate::front::{take_command, take_exit};
 use crate::words::{Terms, with_assumed, with_test, with_wanted};
 use sf_base::{Name, Place, ResId, Var};
@@ -125,7 +126,7 @@ fn enter_region<'a>(
         ≡ entered_with goal.entry.state place (variables_from r 0 region.entry.names.now)
         (assertion_of region.entry.invariant.now) test.now (todo_of goal.entry.todo.items)) }
 {
-    if region.names.len() >= 1024 {
+    if region.names.len() >= TOO_MANY {
         return Ok(None);
     }
     let Goal { mut state, todo } = goal;

@@ -13,6 +13,7 @@ ghost use Rattle.sf_sym.specs.Goal.{todo_of};
 ghost use Rattle.sf_sym.specs.Pending.{existentials_in, one_if_existential, pending_of};
 
 use crate::children::Children;
+use crate::few::TOO_MANY;
 use crate::front::{take_add, take_take};
 use sf_base::FieldId;
 use sf_consume::{ConsumeFault, subtract};
@@ -31,7 +32,7 @@ pub(crate) fn assume<'a>(alloc: Global, goal: Goal<'a>) -> Result<Option<Childre
     let Some((place, given)) = take_add(&mut todo)? else {
         return Ok(None);
     };
-    if operands(&given) >= 1024 {
+    if operands(&given) >= TOO_MANY {
         return Ok(None);
     }
     match produce(alloc, Goal { state, todo }, place, given)? {
@@ -57,7 +58,7 @@ pub(crate) fn show<'a>(
     let Some((place, mut want, names)) = take_take(&mut todo)? else {
         return Ok(None);
     };
-    if new_symbols(&want) >= 1024 {
+    if new_symbols(&want) >= TOO_MANY {
         return Ok(None);
     }
     match subtract(alloc, &mut state, &mut want, &tag) {

@@ -28,6 +28,7 @@ use Rattle.sf_core.specs.declared.command.Occurrence.{Occurrence}
 use Rattle.sf_core.specs.Program.Formed.{AssertionWithin, BlockWithin, CallWithin, CommandWithin, HasCounts, IsFormed, IsInBody, IsParameter, IsSettable, ProcedureWithin, variable_count}
 use Rattle.sf_core.specs.Program.Heads.{Site, head_forks, head_sets, inner_sites, sites}
 use Rattle.sf_core.specs.Program.Syntax.{Assertion, Block, done, then, Call, Command, assign, look_up, mutate, new, dispose, if, while, call, fork, with, Procedure, Program, Resource}
+use Rattle.sf_rules.specs.declared.few.TheConstants.{TOO_MANY}
 use Rattle.sf_rules.specs.Setting.{Setting}
 use Rattle.sf_search.proofs.Universe.{IsInReach, distinct-append, distinct-ordered, few-in_reach}
 use Rattle.sf_search.specs.Shape.{CommandFits, IsThere}
@@ -191,7 +192,7 @@ module _ (d : Setting) (formed : IsFormed d.program) (sets : AreSetsOf d.program
       may_change-reach g c x (calls-within p g s.command (sites-within p g [] b w s k) c i) may
 
   changes-few : ChangesAreAssigned → (g : Procedure) → ProcedureWithin p g → (b : Block) → BlockWithin p g b
-      → length (changes_in d.sets b) < 1024
+      → length (changes_in d.sets b) < TOO_MANY
   changes-few assigned g within b w =
       let set = assigned p d.sets b sets (g, w) in
       let few = few-in_reach p (length g.names) (changes_in d.sets b)

@@ -11,6 +11,7 @@ use Rattle.sf_core.specs.declared.command.Expr.{Expr}
 use Rattle.sf_core.specs.declared.command.Expr.TheVariants.{Var as Variable, Nil as ENil, Int as EInt}
 use Rattle.sf_core.specs.declared.command.Occurrence.{Occurrence}
 use Rattle.sf_core.specs.Program.Syntax.{Call}
+use Rattle.sf_rules.specs.declared.few.TheConstants.{TOO_MANY}
 use Rattle.sf_rules.specs.Rows.Calls.{callee_term, own_term, term_after, term_before, term_by}
 use Rattle.sf_rules.specs.Rows.Regions.{variables_from}
 use Rattle.sf_sym.specs.Below.{AllPaired, IsBelow}
@@ -29,7 +30,7 @@ pub variables-length : (r : ResId) (i : ℕ) (names : List (List ℕ)) → lengt
 variables-length r i [] = refl
 variables-length r i (x ∷ xs) = ap suc (variables-length r (suc i) xs)
 
-pub few-filtered : (test : Var → Bool) (xs : List Var) → length xs < 1024 → length (filter test xs) < 1024
+pub few-filtered : (test : Var → Bool) (xs : List Var) → length xs < TOO_MANY → length (filter test xs) < TOO_MANY
 few-filtered test xs l = omega (arith, l, length-filter test xs, count_by-le-length test xs)
 
 -- FRESH SYMBOLS

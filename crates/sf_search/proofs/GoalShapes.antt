@@ -15,6 +15,7 @@ use Rattle.sf_core.specs.Program.ProgramView.{program_of}
 use Rattle.sf_core.specs.Program.Syntax.{Assertion, Procedure, Command, assign, look_up, mutate, new, dispose, if, while, call, fork, with, holds, points, segment, tree, choose, Conjuncts, none, also}
 use Rattle.sf_consume.specs.Subtract.{new_symbols}
 use Rattle.sf_precise.specs.Laws.{DeterminedHasOrder, NeverTakenIsUndetermined, UndeterminedHasPlace}
+use Rattle.sf_rules.specs.declared.few.TheConstants.{TOO_MANY}
 use Rattle.sf_rules.specs.First.{first_goal, links_of}
 use Rattle.sf_produce.specs.Add.{operands}
 use Rattle.sf_rules.specs.Few.{has_numbers}
@@ -134,7 +135,7 @@ front-fits d (run c ∷ rest) f = command c f.0
     command (with p r t body) w = w.0
 front-fits d (add p given ∷ rest) f = (f.0, few given.conjuncts f.1)
   where
-    few : (cs : Conjuncts Term) → ConjunctsFit (links_of d.program) cs → operands cs < 1024
+    few : (cs : Conjuncts Term) → ConjunctsFit (links_of d.program) cs → operands cs < TOO_MANY
     few none w = omega arith
     few (also (holds q t) cs) w = omega arith
     few (also (points q x fs) cs) w =
@@ -144,7 +145,7 @@ front-fits d (add p given ∷ rest) f = (f.0, few given.conjuncts f.1)
     few (also (choose q t this that) cs) w = omega arith
 front-fits d (take p want names ∷ rest) f = few want.conjuncts f.0
   where
-    few : (cs : Conjuncts Term) → ConjunctsFit (links_of d.program) cs → new_symbols cs < 1024
+    few : (cs : Conjuncts Term) → ConjunctsFit (links_of d.program) cs → new_symbols cs < TOO_MANY
     few none w = omega arith
     few (also (holds q t) cs) w = omega arith
     few (also (points q x fs) cs) w =
@@ -181,8 +182,8 @@ goals_have_shape laws d up f g there tags goal after within =
     let k = grown laws d up f g there tags goal after in
     let first = first-symbols d up.formed up.setting.sets laws.held f g there in
     shaped-shape d goal k.shaped
-    (ap₂ ◌&&◌ (le-leb goal.state.next_sym (2 ^ 32 - 1024) (omega (arith, k.symbols, first, within)))
-    (le-leb goal.state.next_atom (2 ^ 32 - 1024) (omega (arith, k.atoms, within))))
+    (ap₂ ◌&&◌ (le-leb goal.state.next_sym (2 ^ 32 - TOO_MANY) (omega (arith, k.symbols, first, within)))
+    (le-leb goal.state.next_atom (2 ^ 32 - TOO_MANY) (omega (arith, k.atoms, within))))
 
 -- SEARCHES
 module _ (d : Setting) (first : Goal) where

@@ -28,21 +28,23 @@ module _ {X : Type 0} where
   lower-first a (Some b) above =
       ap (λ t. cond t (Some b) (Some a)) (not-above b.0 a.0 (nat_lt b.0 a.0) (above b refl) refl)
 
+  -- the lower of two things that are above a number is above it
+  lower_above : (n m : ℕ) → n < m → (o : Option X) (p : Option (ℕ × X)) → ((c : ℕ × X) → p ≡ Some c → n < c.0)
+      → (b : ℕ × X) → lower (option_map (λ y. (m, y)) o) p ≡ Some b → n < b.0
+  lower_above n m l None p others b i = others b i
+  lower_above n m l (Some y) None others b i = rw (← ap (λ z. z.0) (same_Some (m, y) b i)) l
+  lower_above n m l (Some y) (Some c) others b i = step (nat_lt c.0 m) i
+    where
+      step : (t : Bool) → cond t (Some c) (Some (m, y)) ≡ Some b → n < b.0
+      step true j = rw (← ap (λ z. z.0) (same_Some c b j)) (others c refl)
+      step false j = rw (← ap (λ z. z.0) (same_Some (m, y) b j)) l
+
   -- what is found among atoms has a number above theirs
   pub above-all : (f : Atom → Option X) (n : ℕ) (xs : List Numbered) → AllByRecursion (λ m. n < m) (numbers xs)
       → (b : ℕ × X) → lowest f xs ≡ Some b → n < b.0
   above-all f n [] all b e = absurd (cc)
-  above-all f n (x ∷ xs) all b e = go (f x.atom) (lowest f xs) (above-all f n xs all.1) e
-    where
-      go : (o : Option X) (p : Option (ℕ × X)) → ((c : ℕ × X) → p ≡ Some c → n < c.0)
-          → lower (option_map (λ y. (x.number, y)) o) p ≡ Some b → n < b.0
-      go None p others i = others b i
-      go (Some y) None others i = rw (← ap (λ z. z.0) (same_Some (x.number, y) b i)) all.0
-      go (Some y) (Some c) others i = step (nat_lt c.0 x.number) i
-        where
-          step : (t : Bool) → cond t (Some c) (Some (x.number, y)) ≡ Some b → n < b.0
-          step true j = rw (← ap (λ z. z.0) (same_Some c b j)) (others c refl)
-          step false j = rw (← ap (λ z. z.0) (same_Some (x.number, y) b j)) all.0
+  above-all f n (x ∷ xs) all b e =
+      lower_above n x.number all.0 (f x.atom) (lowest f xs) (above-all f n xs all.1) b e
 
   -- the first of which something is so is the lowest
   pub lowest_first : (f : Atom → Option X) (a : Numbered) (xs : List Numbered) (x : X)
@@ -118,18 +120,7 @@ pub forced-above : (s : State) (n : ℕ) (xs : List Numbered) → AllByRecursion
     → (b : ℕ × (Term × Term)) → lowest_forced s xs ≡ Some b → n < b.0
 forced-above s n [] all b e = absurd (cc)
 forced-above s n (x ∷ xs) all b e =
-    go (forced_ends s x.number x.atom) (lowest_forced s xs) (forced-above s n xs all.1) e
-  where
-    go : (o : Option (Term × Term)) (p : Option (ℕ × (Term × Term)))
-        → ((c : ℕ × (Term × Term)) → p ≡ Some c → n < c.0)
-        → lower (option_map (λ y. (x.number, y)) o) p ≡ Some b → n < b.0
-    go None p others i = others b i
-    go (Some y) None others i = rw (← ap (λ z. z.0) (same_Some (x.number, y) b i)) all.0
-    go (Some y) (Some c) others i = step (nat_lt c.0 x.number) i
-      where
-        step : (t : Bool) → cond t (Some c) (Some (x.number, y)) ≡ Some b → n < b.0
-        step true j = rw (← ap (λ z. z.0) (same_Some c b j)) (others c refl)
-        step false j = rw (← ap (λ z. z.0) (same_Some (x.number, y) b j)) all.0
+    lower_above n x.number all.0 (forced_ends s x.number x.atom) (lowest_forced s xs) (forced-above s n xs all.1) b e
 
 -- the first forced atom is the lowest one
 pub forced_is_lowest : (s : State) (xs : List Numbered) → AreRising (numbers xs)

@@ -1,8 +1,9 @@
 -- What rows keep of a goal's shape, and how far they raise its numbers; and goals where terms are the same, or differ.
 -- Names: `keeps-LAW` of a goal that is kept, `COUNT-keep` of that many goals that are left, `WHAT-shaped`.
 use Rattle.std.specs.List.{AllByRecursion}
-use Rattle.std.proofs.Common.{◌≡◌, ℕ, ◌+◌, ◌≤◌, Bool, true, false, cond, Option, Some, None, List, [], ◌∷◌, refl, sym, subst, arith}
+use Rattle.std.proofs.Common.{◌≡◌, ℕ, ◌+◌, ◌-◌, ◌≤◌, Bool, true, false, cond, Option, Some, None, List, [], ◌∷◌, refl, sym, subst, arith}
 use Rattle.std.proofs.lemmas.Option.{same_Some}
+use Rattle.sf_rules.specs.declared.few.TheConstants.{TOO_MANY}
 use Rattle.sf_rules.specs.Setting.{Setting}
 use Rattle.sf_search.proofs.Fitting.{todo-fits_with}
 use Rattle.sf_search.proofs.FittingStates.{StateShaped, apart-shaped, replaced-fits}
@@ -29,8 +30,8 @@ goal-shaped d s todo h b f = record { below = record { state = h.below; todo = b
 -- the numbers of one state are no lower than the other's, and not much higher
 pub record Rises (s s2 : State) : Type 0 where
   pub kept : s.next_sym ≤ s2.next_sym
-  pub symbols : s2.next_sym ≤ s.next_sym + 1023
-  pub atoms : s2.next_atom ≤ s.next_atom + 1023
+  pub symbols : s2.next_sym ≤ s.next_sym + (TOO_MANY - 1)
+  pub atoms : s2.next_atom ≤ s.next_atom + (TOO_MANY - 1)
 
 pub rises-none : (s s2 : State) → s2.next_sym ≡ s.next_sym → s2.next_atom ≡ s.next_atom → Rises s s2
 rises-none s s2 e f = record { kept = omega arith; symbols = omega arith; atoms = omega arith }
@@ -38,8 +39,8 @@ rises-none s s2 e f = record { kept = omega arith; symbols = omega arith; atoms 
 -- a goal that a row leaves is shaped too, and its numbers aren't much higher
 pub record Keeps (d : Setting) (s : State) (child : Goal) : Type 0 where
   pub shaped : IsShaped d child
-  pub symbols : child.state.next_sym ≤ s.next_sym + 1023
-  pub atoms : child.state.next_atom ≤ s.next_atom + 1023
+  pub symbols : child.state.next_sym ≤ s.next_sym + (TOO_MANY - 1)
+  pub atoms : child.state.next_atom ≤ s.next_atom + (TOO_MANY - 1)
 
 abbrev pub AllKeep : Setting → State → List Goal → Type 0
 AllKeep d s left = AllByRecursion (Keeps d s) left
@@ -155,8 +156,8 @@ module _ (d : Setting) (t u : Term) (goal : Goal) where
         let n = equal-numbers in
         record {
           shaped = equal-shaped b c;
-          symbols = subst (λ m. m ≤ s.next_sym + 1023) (sym n.0) r.symbols;
-          atoms = subst (λ m. m ≤ s.next_atom + 1023) (sym n.1) r.atoms;
+          symbols = subst (λ m. m ≤ s.next_sym + (TOO_MANY - 1)) (sym n.0) r.symbols;
+          atoms = subst (λ m. m ≤ s.next_atom + (TOO_MANY - 1)) (sym n.1) r.atoms;
         }
 
     pub apart-keeps : (s : State) → IsBelow goal.state.next_sym t → IsBelow goal.state.next_sym u

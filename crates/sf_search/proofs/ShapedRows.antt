@@ -1,4 +1,4 @@
--- Every row keeps the shape of goals, and raises the numbers of symbols and atoms by less than 1,024.
+-- Every row keeps the shape of goals, and raises the numbers of symbols and atoms by less than `TOO_MANY`.
 -- Names: `ROW-keeps`, `rows-keep`.
 use Rattle.std.specs.List.{AllByRecursion, slice_get}
 use Rattle.std.proofs.Common.{◌≡◌, ℕ, ◌+◌, ◌<◌, is_some, Some, List, [], ◌∷◌, ◌++◌, length, refl, sym, ap, subst, arith, length-append}
@@ -13,6 +13,7 @@ use Rattle.sf_core.specs.declared.command.Expr.{Expr}
 use Rattle.sf_core.specs.declared.command.Expr.TheVariants.{Nil as ENil}
 use Rattle.sf_core.specs.Program.Syntax.{Assertion, Block, Call, while, call, fork, with, Procedure, Resource}
 use Rattle.sf_produce.specs.Add.{operands}
+use Rattle.sf_rules.specs.declared.few.TheConstants.{TOO_MANY}
 use Rattle.sf_rules.specs.Lemmas.{few-left}
 use Rattle.sf_rules.specs.RowCases.{Rows, RowsHaveCases, by_absurd, by_add, by_again, by_around, by_assign, by_call, by_choice, by_choice_assumed, by_choice_shown, by_dispose, by_drop, by_end, by_enter, by_exit, by_force, by_fork, by_give, by_look, by_loop, by_mutate, by_new, by_return, by_split, by_step, by_unroll, goal_of}
 use Rattle.sf_rules.specs.Rows.Calls.{term_after, term_before}
@@ -168,7 +169,7 @@ module _ (d : Setting) (s : State) (rest : List Item) (left : List Goal) where
         let item = run (call p c) in
         let set = fresh_for n (changed d.sets c) in
         let many : length set ≡ length (changed d.sets c) = fresh-length n (changed d.sets c) in
-        let few : length (changed d.sets c) < 1024 = h.todo.0.1 in
+        let few : length (changed d.sets c) < TOO_MANY = h.todo.0.1 in
         let s2 = with_symbols (length set) s in
         let k = symbols-shaped d s (shaped d s item rest left h) (length set) in
         let r : Rises s s2 = record {
@@ -210,7 +211,7 @@ module _ (d : Setting) (s : State) (rest : List Item) (left : List Goal) where
         let two_many : length second ≡ length (changed d.sets e) =
         fresh-length (n + length first) (changed d.sets e) in
         let both : length (first ++ second) ≡ length first + length second = length-append first second in
-        let few : length (changed d.sets c) + length (changed d.sets e) < 1024 = h.todo.0.2 in
+        let few : length (changed d.sets c) + length (changed d.sets e) < TOO_MANY = h.todo.0.2 in
         let most = n + length (first ++ second) in
         let s2 = with_symbols (length (first ++ second)) s in
         let k = symbols-shaped d s (shaped d s item rest left h) (length (first ++ second)) in
@@ -254,8 +255,8 @@ module _ (d : Setting) (s : State) (rest : List Item) (left : List Goal) where
         let now = with_fresh xs s in
         let k = fresh-shaped d s xs (shaped d s item rest left h) in
         let same = some-once (slice_get d.program.resources r.0) h.todo.0.0.0 of h.todo.0.0.1 there in
-        let few : length of.variables < 1024 =
-        subst (λ (z : Resource). length z.variables < 1024) same h.todo.0.0.2 in
+        let few : length of.variables < TOO_MANY =
+        subst (λ (z : Resource). length z.variables < TOO_MANY) same h.todo.0.0.2 in
         let many : length xs ≡ length of.variables = variables-length r 0 of.variables in
         let rises : Rises s now = record {
           kept = omega arith;

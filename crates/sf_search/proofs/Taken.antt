@@ -19,6 +19,7 @@ use Rattle.sf_core.specs.declared.assertion.Test.TheVariants.{True, Equal, Diffe
 use Rattle.sf_core.specs.declared.command.Expr.{Expr}
 use Rattle.sf_core.specs.Program.Formed.{TestWithin}
 use Rattle.sf_core.specs.Program.Syntax.{Command, assign, look_up, mutate, new, dispose, if, while, call, fork, with, Conjunct, holds, points, segment, tree, choose, Conjuncts, none, also}
+use Rattle.sf_rules.specs.declared.few.TheConstants.{TOO_MANY}
 use Rattle.sf_rules.specs.Few.{if_few}
 use Rattle.sf_produce.specs.Add.{operands}
 use Rattle.sf_rules.specs.Rows.Calls.{called, forked}
@@ -91,8 +92,8 @@ choice-below P p all (Differ y z) at x e =
 
 -- Rows that are there
 -- with few new symbols
-few-some : (n : ℕ) (o : Option (List Goal)) → n < 1024 → is_some o ≡ true → is_some (if_few n o) ≡ true
-few-some n o l h = ap (λ b. is_some (cond b o None)) (lt-ltb n 1024 l) ∙ h
+few-some : (n : ℕ) (o : Option (List Goal)) → n < TOO_MANY → is_some o ≡ true → is_some (if_few n o) ≡ true
+few-some n o l h = ap (λ b. is_some (cond b o None)) (lt-ltb n TOO_MANY l) ∙ h
 
 there : {X Y : Type 0} (f : X → Option Y) (o : Option X) → is_some o ≡ true → ((x : X) → is_some (f x) ≡ true)
     → is_some (option_and_then f o) ≡ true
@@ -136,14 +137,14 @@ module _ (d : Setting) (s : State) (rest : List Item) where
   good-command (call p c) shape nothing =
       there (called d s p c rest) (slice_get d.program.procedures c.callee.0) shape.front.0
       (λ g. few-some (length (fresh_for s.next_sym (changed d.sets c))) _
-      (subst (λ n. n < 1024) (sym (fresh-length s.next_sym (changed d.sets c))) shape.front.1) refl)
+      (subst (λ n. n < TOO_MANY) (sym (fresh-length s.next_sym (changed d.sets c))) shape.front.1) refl)
   good-command (fork p c e) shape nothing =
       there (λ g. option_and_then (forked d s p c e rest g) (slice_get d.program.procedures e.callee.0))
       (slice_get d.program.procedures c.callee.0) shape.front.0
       (λ g. there (forked d s p c e rest g) (slice_get d.program.procedures e.callee.0) shape.front.1
       (λ h. few-some (length (fresh_for s.next_sym (changed d.sets c)
       ++ fresh_for (s.next_sym + length (fresh_for s.next_sym (changed d.sets c))) (changed d.sets e))) _
-      (subst (λ n. n < 1024)
+      (subst (λ n. n < TOO_MANY)
       (sym (length-append (fresh_for s.next_sym (changed d.sets c))
       (fresh_for (s.next_sym + length (fresh_for s.next_sym (changed d.sets c))) (changed d.sets e))
       ∙ ap₂ (λ m n. m + n) (fresh-length s.next_sym (changed d.sets c))
@@ -152,7 +153,7 @@ module _ (d : Setting) (s : State) (rest : List Item) where
   good-command (with p r test body) shape nothing =
       ap (λ o. is_some (option_and_then (entered d s p r test body rest) o)) shape.front.1
       ∙ few-some (length (variables_from r 0 shape.front.0.variables)) _
-      (subst (λ n. n < 1024) (sym (variables-length r 0 shape.front.0.variables)) shape.front.2) refl
+      (subst (λ n. n < TOO_MANY) (sym (variables-length r 0 shape.front.0.variables)) shape.front.2) refl
 
 -- Choices among conjuncts
 good-choice : (d : Setting) (g : Goal) (shape : HasShape d g) (bindings : List (Option Term))
@@ -231,7 +232,7 @@ cell-any a s b c cs e = map-any _ _ (option_and_then (fitting a s b) (wanted_cel
 -- a row of subtraction is there where its step is
 take-some : (tag : Tag) (step : Step) → step_of tag ≡ Some step → (s : State) (p : Place) (b : List (Option Term))
     (c : Conjunct Term) (cs : Conjuncts Term) (names : List (List ℕ)) (rest : List Item)
-    → new_symbols (also c cs) < 1024 → is_some (step s b c cs) ≡ true
+    → new_symbols (also c cs) < TOO_MANY → is_some (step s b c cs) ≡ true
     → is_some (subtract_row tag s p (record { conjuncts = also c cs; bindings = b }) names rest) ≡ true
 take-some tag step e s p b c cs names rest l h =
     few-some (new_symbols (also c cs)) _ l

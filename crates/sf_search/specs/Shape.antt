@@ -7,6 +7,7 @@ use Rattle.sf_consume.specs.Subtract.{new_symbols}
 use Rattle.sf_core.specs.declared.fields.Links.{Links}
 use Rattle.sf_core.specs.Program.Syntax.{Call, Command, assign, look_up, mutate, new, dispose, if, while, call, fork, with, Conjuncts, none, also, Resource}
 use Rattle.sf_produce.specs.Add.{operands}
+use Rattle.sf_rules.specs.declared.few.TheConstants.{TOO_MANY}
 use Rattle.sf_rules.specs.Setting.{Setting}
 use Rattle.sf_rules.specs.Few.{has_numbers}
 use Rattle.sf_sym.specs.Below.{AreBelow}
@@ -36,11 +37,12 @@ CommandFits d (new p x) = Unit {0}
 CommandFits d (dispose p e) = Unit {0}
 CommandFits d (if p test this that) = Unit {0}
 CommandFits d (while p test invariant body) = Unit {0}
-CommandFits d (call p c) = IsThere d c × (length (changed d.sets c) < 1024)
+CommandFits d (call p c) = IsThere d c × (length (changed d.sets c) < TOO_MANY)
 CommandFits d (fork p c e) =
-    IsThere d c × IsThere d e × (length (changed d.sets c) + length (changed d.sets e) < 1024)
+    IsThere d c × IsThere d e × (length (changed d.sets c) + length (changed d.sets e) < TOO_MANY)
 CommandFits d (with p r test body) =
-    (of : Resource) × (slice_get d.program.resources r.0 ≡ Some of) × (length of.variables < 1024)
+    (of : Resource) × (slice_get d.program.resources r.0 ≡ Some of)
+    × (length of.variables < TOO_MANY)
 
 -- whether there are conjuncts
 abbrev pub are_some : Conjuncts Term → Bool
@@ -51,10 +53,11 @@ are_some (also c cs) = true
 abbrev pub FrontFits : Setting → List Item → Type 0
 FrontFits d [] = ⊥
 FrontFits d (run c ∷ rest) = CommandFits d c
-FrontFits d (add p given ∷ rest) = (are_some given.conjuncts ≡ true) × (operands given.conjuncts < 1024)
-FrontFits d (take p want names ∷ rest) = new_symbols want.conjuncts < 1024
+FrontFits d (add p given ∷ rest) =
+    (are_some given.conjuncts ≡ true) × (operands given.conjuncts < TOO_MANY)
+FrontFits d (take p want names ∷ rest) = new_symbols want.conjuncts < TOO_MANY
 FrontFits d (gave p set removed ∷ rest) = Unit {0}
-FrontFits d (head p test invariant body ∷ rest) = length (changes_in d.sets body) < 1024
+FrontFits d (head p test invariant body ∷ rest) = length (changes_in d.sets body) < TOO_MANY
 FrontFits d (again p invariant ∷ rest) = Unit {0}
 FrontFits d (exit p r ∷ rest) = is_some (slice_get d.program.resources r.0) ≡ true
 FrontFits d (return p post ∷ rest) = Unit {0}

@@ -1,7 +1,7 @@
 -- Laws of the goals of a program: each is shaped, and its numbers rise slowly, so the strategy's tags have rows; and no
 -- search ends at a tag without one.
 -- Ordinary: an invariant of the rows, and how often they are taken.
-use Rattle.std.specs.Prelude.{◌≡◌, ℕ, ◌+◌, ◌*◌, ◌≤◌, Some, List}
+use Rattle.std.specs.Prelude.{◌≡◌, ℕ, ◌+◌, ◌-◌, ◌*◌, ◌≤◌, Some, List}
 use Rattle.std.specs.List.{slice_get}
 use Rattle.sf_base.specs.declared.ids.ProcId.{ProcId}
 use Rattle.sf_base.specs.declared.limits.TheConstants.{PROCEDURE_TAGS}
@@ -10,6 +10,7 @@ use Rattle.sf_core.specs.Program.Formed.{IsFormed}
 use Rattle.sf_core.specs.Program.Syntax.{Assertion, Procedure}
 use Rattle.sf_precise.specs.declared.arranged.Arranged.{Arranged}
 use Rattle.sf_precise.specs.Order.{IsOrdering}
+use Rattle.sf_rules.specs.declared.few.TheConstants.{TOO_MANY}
 use Rattle.sf_rules.specs.First.{first_goal}
 use Rattle.sf_rules.specs.Setting.{IsSettingOf, Setting, setting_of}
 use Rattle.sf_search.specs.declared.verdicts.SearchFault.TheVariants.{NoRow}
@@ -27,12 +28,12 @@ pub record IsSetUp (d : Setting) : Type 0 where
   pub conditions : Conditions d.program
   pub setting : IsSettingOf d.program d
 
--- that many tags after its first goal, a goal of a procedure is shaped, and has at most 1,023 symbols and atoms more for
--- each of them
+-- that many tags after its first goal, a goal of a procedure is shaped, and has fewer than `TOO_MANY` symbols and atoms
+-- more for each of them
 pub record IsGrown (d : Setting) (first : Goal) (tags : ℕ) (goal : Goal) : Type 0 where
   pub shaped : IsShaped d goal
-  pub symbols : goal.state.next_sym ≤ first.state.next_sym + 1023 * tags
-  pub atoms : goal.state.next_atom ≤ first.state.next_atom + 1023 * tags
+  pub symbols : goal.state.next_sym ≤ first.state.next_sym + (TOO_MANY - 1) * tags
+  pub atoms : goal.state.next_atom ≤ first.state.next_atom + (TOO_MANY - 1) * tags
 
 unfoldable pub GoalsAreShaped : Type 0
 GoalsAreShaped =

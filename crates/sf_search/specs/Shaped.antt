@@ -7,6 +7,7 @@ use Rattle.sf_base.specs.declared.limits.TheConstants.{FIELDS}
 use Rattle.sf_calls.specs.Changes.{changes_in}
 use Rattle.sf_core.specs.declared.fields.Links.{Links}
 use Rattle.sf_core.specs.Program.Syntax.{Command, assign, look_up, mutate, new, dispose, if, while, call, fork, with, Block, done, then, Assertion, Conjunct, holds, points, segment, tree, choose, Level, level, Conjuncts, none, also}
+use Rattle.sf_rules.specs.declared.few.TheConstants.{TOO_MANY}
 use Rattle.sf_rules.specs.First.{links_of}
 use Rattle.sf_rules.specs.Rows.Whole.{row}
 use Rattle.sf_rules.specs.Setting.{Setting}
@@ -58,7 +59,7 @@ abbrev mutual
   WholeFits d (dispose p e) = Unit {0}
   WholeFits d (if p test this that) = BlockFits d this × BlockFits d that
   WholeFits d (while p test invariant body) =
-      AnnotationFits d invariant × (length (changes_in d.sets body) < 1024) × BlockFits d body
+      AnnotationFits d invariant × (length (changes_in d.sets body) < TOO_MANY) × BlockFits d body
   WholeFits d (call p c) = CommandFits d (call p c)
   WholeFits d (fork p c e) = CommandFits d (fork p c e)
   WholeFits d (with p r test body) = CommandFits d (with p r test body) × BlockFits d body
@@ -72,7 +73,7 @@ TodoFits d (add p given ∷ rest) =
 TodoFits d (take p want names ∷ rest) = ConjunctsFit (links_of d.program) want.conjuncts × TodoFits d rest
 TodoFits d (gave p set removed ∷ rest) = TodoFits d rest
 TodoFits d (head p test invariant body ∷ rest) =
-    AnnotationFits d invariant × (length (changes_in d.sets body) < 1024) × BlockFits d body × TodoFits d rest
+    AnnotationFits d invariant × (length (changes_in d.sets body) < TOO_MANY) × BlockFits d body × TodoFits d rest
 TodoFits d (again p invariant ∷ rest) = AnnotationFits d invariant
 TodoFits d (exit p r ∷ rest) = (is_some (slice_get d.program.resources r.0) ≡ true) × TodoFits d rest
 TodoFits d (return p post ∷ rest) = LevelFits (links_of d.program) post.level

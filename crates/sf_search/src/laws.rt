@@ -48,7 +48,7 @@ pub fn taken_tags_have_rows()
 {}
 
 /// So where a search ends at a tag without a row, its tags have led to a goal that isn't as goals of
-/// programs are: numbers ran out, it needs 1,024 symbols at once, or no program has such a goal.
+/// programs are: numbers ran out, it needs too many symbols at once, or no program has such a goal.
 #[tactic(auto, using(crate::proofs::Rowless::goals_without_row_lack_shape))]
 pub fn goals_without_row_lack_shape()
     ensures { GoalsWithoutRowLackShape }
@@ -56,8 +56,8 @@ pub fn goals_without_row_lack_shape()
 
 /// Each goal of a program's procedure is shaped: it speaks of symbols below its next one only, its
 /// atoms' numbers rise, its segments and trees have their fields, and what it has to do fits, up to
-/// its end. After so many tags it has at most 1,023 symbols and atoms more for each than the first
-/// goal.
+/// its end. After so many tags it has fewer than `TOO_MANY` symbols and atoms more for each than
+/// the first goal.
 pub fn goals_are_shaped()
     ensures { GoalsAreShaped }
 {

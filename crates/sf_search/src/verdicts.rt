@@ -40,9 +40,9 @@ pub enum SearchFault<'a> {
     TooLarge,
     /// The strategy takes a tag that has no row, after so many tags. It never comes of a procedure
     /// of a program (`arranged_has_rows`), but of a goal that isn't as goals of programs are
-    /// (`goals_without_row_lack_shape`): a symbol's or an atom's number is within 1,024 of 2^32, one
-    /// row would need 1,024 symbols, or the goal speaks of what no program has, as a procedure that
-    /// isn't there.
+    /// (`goals_without_row_lack_shape`): fewer than `TOO_MANY` numbers are left for symbols or for
+    /// atoms, one row would need as many symbols, or the goal speaks of what no program has, as a
+    /// procedure that isn't there.
     NoRow(usize),
     /// Out of memory.
     OutOfMemory,

@@ -7,6 +7,7 @@ use Rattle.sf_sym.specs.declared.term.Term.{Term}
 use Rattle.sf_sym.specs.Goal.{gave, todo_of}
 use Rattle.sf_sym.specs.State.{with_symbols}
 use Rattle.sf_sym.specs.Variables.{fresh_for}
+use Rattle.sf_rules.specs.declared.few.TheConstants.{TOO_MANY}
 use Rattle.sf_rules.specs.Rows.Calls.{term_after}
 use Rattle.sf_rules.specs.Words.{to_add}
 use Rattle.sf_rules.proofs.CallRows.{called_left}
@@ -21,7 +22,7 @@ returns c =
     let post = assertion_of c.args.contract.post.now in
     let rest = todo_of c.args.goal.todo.items in
     let found = some-holds _ c.in_ok-set.field-0 c.in-Some.set c.in-Some.is c.in_ok-set.ensures.some in
-    let few : length set < 1024 = found.1 in
+    let few : length set < TOO_MANY = found.1 in
     let count : c.len-count.result ≡ length set = search rules in
     called_left c.args.calls.now s c.args.place call rest set (assertion_of c.args.contract.pre.now) post
     c.add_symbols.new.self (todo_of c.in_ok-todo.todo.items) (todo_of c.push.new.self.items)

@@ -11,7 +11,7 @@ use Rattle.sf_rules.proofs.loops.around.Goals as goal
 
 pub returns : goal.returns
 returns g c =
-    let many = c.if-len-ge1024.false in
+    let many = c.if-len-ge-TOO_MANY.false in
     let unknown : c.in_ok-unknown.unknown.items
     ≡ unknown_in g.d c.args.goal.state (block_of c.in-Some.l.body.now) =
     search rules in
