@@ -3,11 +3,10 @@ use Rattle.std.proofs.Common.{◌≡◌, ◌≤◌, ◌<◌, List, [], ◌∷◌
 use Rattle.sf_ast.specs.declared.word.SurfaceExpr.{SurfaceExpr}
 use Rattle.sf_ast.specs.declared.word.Word.{Word}
 use Rattle.sf_ast.specs.Surface as s
-use Rattle.sf_parse.specs.Leaf.{Leaf}
+use Rattle.sf_parse.specs.Leaf.{Leaf, leaves}
 use Rattle.sf_parse.specs.Leaf as k
 use Rattle.sf_lex.specs.declared.token.Token.{Token}
 use Rattle.sf_parse.specs.Grammar as g
-use Rattle.sf_parse.specs.Leaf.{leaves}
 use Rattle.sf_parse.proofs.Grammar.Longer.{test_longer, assertion_longer, fewer}
 
 pub more_names_longer : (xs : List Word) (r : List Leaf) → length r ≤ length (g.more_names xs r)

@@ -6,11 +6,10 @@ use Rattle.sf_ast.specs.declared.word.SurfaceOperand.{SurfaceOperand}
 use Rattle.sf_ast.specs.declared.word.SurfaceTest.{SurfaceTest}
 use Rattle.sf_ast.specs.declared.word.SurfaceTest.TheVariants as t
 use Rattle.sf_ast.specs.Surface as s
-use Rattle.sf_parse.specs.Leaf.{Leaf}
+use Rattle.sf_parse.specs.Leaf.{Leaf, leaf, leaves}
 use Rattle.sf_parse.specs.Leaf as k
 use Rattle.sf_lex.specs.declared.token.Token.{Token}
 use Rattle.sf_parse.specs.Grammar as g
-use Rattle.sf_parse.specs.Leaf.{leaf, leaves}
 
 pub test_longer : {E : Type 0} (side : E → Leaf) (b : SurfaceTest E) (r : List Leaf) → length r < length (g.test side b r)
 test_longer side (t.True p) r = omega arith

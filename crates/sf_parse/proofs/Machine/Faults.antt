@@ -94,9 +94,6 @@ token_there front t back =
 kinds_split : (ts front : List Token) (t : Token) (back : List Token) → ts ≡ front ++ t ∷ back → leaves ts ≡ leaves front ++ leaf t ∷ leaves back
 kinds_split ts front t back is = ap leaves is ∙ map-append leaf front (t ∷ back)
 
-kinds_length : (ts : List Token) → length (leaves ts) ≡ length ts
-kinds_length ts = length-map ts leaf
-
 never_zero : (ts : List Leaf) (st : List Predicted) → verdict 0 ts st ≡ too_deep 0 → ⊥
 never_zero [] st h = end (may_end st) h
   where
@@ -183,8 +180,8 @@ unexpected_is end ts p zero e at =
     inr (record { there = at; begins = q.0; no_file = λ tree f. q.1 (spelled ts tree f) })
 unexpected_is end ts p (suc n) e at =
     let le : suc n ≤ length (leaves ts) = fault_le (leaves ts) (m.items ∷ []) true (suc n) e in
-    let s = split_at ts n (omega (arith, kinds_length ts)) in
-    let v : verdict_of (leaves ts) ≡ unexpected (suc (length (leaves s.back))) = e ∙ ap (λ (i : ℕ). unexpected (suc i)) (sym (kinds_length s.back ∙ s.left)) in
+    let s = split_at ts n (omega (arith, length-map ts leaf)) in
+    let v : verdict_of (leaves ts) ≡ unexpected (suc (length (leaves s.back))) = e ∙ ap (λ (i : ℕ). unexpected (suc i)) (sym (length-map s.back leaf ∙ s.left)) in
     let q = (exact (leaves ts)).wrong (leaves s.front) (leaf s.one) (leaves s.back) (kinds_split ts s.front s.one s.back s.is) v in
     inl (record { front = s.front; token = s.one; back = s.back; split = s.is; there = at ∙ place_there ts s.front s.one s.back n s.is s.left; begins = q.0; no_further = q.1 })
 
@@ -192,8 +189,8 @@ too_deep_is : (end : Place) (ts : List Token) (p : Place) (n : ℕ) → verdict_
 too_deep_is end ts p zero e at = absurd (never_zero (leaves ts) (m.items ∷ []) e)
 too_deep_is end ts p (suc n) e at =
     let le : suc n ≤ length (leaves ts) = fault_le (leaves ts) (m.items ∷ []) false (suc n) e in
-    let s = split_at ts n (omega (arith, kinds_length ts)) in
-    let v : verdict_of (leaves ts) ≡ too_deep (suc (length (leaves s.back))) = e ∙ ap (λ (i : ℕ). too_deep (suc i)) (sym (kinds_length s.back ∙ s.left)) in
+    let s = split_at ts n (omega (arith, length-map ts leaf)) in
+    let v : verdict_of (leaves ts) ≡ too_deep (suc (length (leaves s.back))) = e ∙ ap (λ (i : ℕ). too_deep (suc i)) (sym (length-map s.back leaf ∙ s.left)) in
     let q = (exact (leaves ts)).deeper (leaves s.front) (leaf s.one) (leaves s.back) (kinds_split ts s.front s.one s.back s.is) v in
     record { front = s.front; token = s.one; back = s.back; split = s.is; there = at ∙ place_there ts s.front s.one s.back n s.is s.left; begins = q.0; begins_deeper = q.1; no_further = q.2 }
 
@@ -210,7 +207,7 @@ unexpected_says end ts p q =
     go is s.0 s.1
   where
     go : leaves ts ≡ leaves q.front ++ leaf q.token ∷ leaves q.back → (b : Bool) → verdict_of (leaves ts) ≡ fault_of b (suc (length (leaves q.back))) → Says end ts (Unexpected p) (verdict_of (leaves ts))
-    go is true e = (suc (length (leaves q.back)), e, q.there ∙ sym (place_there ts q.front q.token q.back (length (leaves q.back)) q.split (sym (kinds_length q.back))))
+    go is true e = (suc (length (leaves q.back)), e, q.there ∙ sym (place_there ts q.front q.token q.back (length (leaves q.back)) q.split (sym (length-map q.back leaf))))
     go is false e = absurd (q.no_further ((exact (leaves ts)).deeper (leaves q.front) (leaf q.token) (leaves q.back) is e).1)
 
 too_deep_says : (end : Place) (ts : List Token) (p : Place) → IsTooDeep ts p → Says end ts (TooDeep p) (verdict_of (leaves ts))
@@ -221,7 +218,7 @@ too_deep_says end ts p q =
   where
     go : leaves ts ≡ leaves q.front ++ leaf q.token ∷ leaves q.back → (b : Bool) → verdict_of (leaves ts) ≡ fault_of b (suc (length (leaves q.back))) → Says end ts (TooDeep p) (verdict_of (leaves ts))
     go is true e = absurd (((exact (leaves ts)).wrong (leaves q.front) (leaf q.token) (leaves q.back) is e).1 q.begins_deeper)
-    go is false e = (suc (length (leaves q.back)), e, q.there ∙ sym (place_there ts q.front q.token q.back (length (leaves q.back)) q.split (sym (kinds_length q.back))))
+    go is false e = (suc (length (leaves q.back)), e, q.there ∙ sym (place_there ts q.front q.token q.back (length (leaves q.back)) q.split (sym (length-map q.back leaf))))
 
 -- and the fault is what the verdict says
 pub fault_says : (end : Place) (ts : List Token) (f : ParseFault) → IsFault end ts f → Says end ts f (verdict_of (leaves ts))

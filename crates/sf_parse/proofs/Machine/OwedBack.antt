@@ -19,6 +19,7 @@ use Rattle.sf_parse.specs.Internal.Machine.{Predicted, Choice, take, skip, refus
 use Rattle.sf_parse.specs.Nearest.{ConjunctNearest, AssertionNearest, NoteNearest, CommandNearest}
 use Rattle.sf_parse.specs.Nesting.{has_level, ConjunctWithin, AssertionWithin, RestWithin, NoteWithin, MaybeWithin, CommandWithin, CommandsWithin, ItemWithin}
 use Rattle.sf_parse.specs.Internal.Parser.{NotStar, Ends}
+use Rattle.sf_parse.proofs.Machine.Complete.{a_word}
 use Rattle.sf_parse.proofs.Machine.Decided.{command_decided, conjunct_decided}
 use Rattle.sf_parse.proofs.Machine.Forth.{closed_before_star}
 use Rattle.sf_parse.proofs.Machine.Means.{Spells, Means, MeansChosen, MeansNext}
@@ -27,9 +28,6 @@ use Rattle.sf_parse.proofs.Machine.Back.{expr_back, operand_back, or_skip_back, 
 -- some word there
 abbrev word_at : Place → Word
 word_at p = record { start = 0; end = 0; place = p }
-
-abbrev a_word : Word
-a_word = word_at (record { line = 1; column = 1 })
 
 record ExactBack (n : ℕ) (terminal : m.Terminal) (u : Leaf) (st : List Predicted) (ts : List Leaf) : Type 0 where
   text : Word
@@ -76,12 +74,6 @@ operand_test_back n st u w ts q = let o = operand_back n u (m.equality ∷ m.ope
 bare_test : (n : ℕ) (st : List Predicted) (ts : List Leaf) → Means n (m.operand_test ∷ st) ts → Means n (m.if_test ∷ st) ts
 bare_test n st ts (r, b, more) = (r, (false, b.0, b.1), more)
 
-round_test : (n : ℕ) (st : List Predicted) (ts : List Leaf) → Means n (m.operand_test ∷ m.exact m.close_round ∷ st) ts → Means n (m.if_test ∷ st) (k.OpenRound ∷ ts)
-round_test n st ts (r1, b, (r2, c, more)) = (r2, (true, b.0, ap (λ z. k.OpenRound ∷ z) (b.1 ∙ ap (λ z. g.test g.operand b.0 z) c.1)), more)
-
-one_more_name : (n : ℕ) (st : List Predicted) (ts : List Leaf) → Means n (m.exact m.a_name ∷ m.more_names ∷ st) ts → Means n (m.more_names ∷ st) (k.Comma ∷ ts)
-one_more_name n st ts (r1, a, (r2, xs, more)) = (r2, (a.0 ∷ xs.0, ap (λ z. k.Comma ∷ z) (a.1 ∙ ap (λ z. k.Name a.0 ∷ z) xs.1)), more)
-
 next_name : (n : ℕ) (b : Bool) (x : Word) (ts r : List Leaf) → Spells n (m.rest b) ts r → Spells n (m.next b) (k.Name x ∷ ts) r
 next_name n b x ts r (inl q) = inl (e.Name x, q.0, ap (λ z. k.Name x ∷ z) q.1)
 next_name n b x ts r (inr q) = inr (q.0, x, q.1, q.2, ap (λ z. k.Name x ∷ z) q.3)
@@ -115,15 +107,9 @@ maybe_expressions_back : (n : ℕ) (st : List Predicted) (u : Leaf) (w : Type 0)
 maybe_expressions_back n st u w ts f (inl q) = let o = expr_back n u (m.more_expressions ∷ []) st w ts q.1 in first_of_more n st u o.expr ts o.is o.more
 maybe_expressions_back n st u w ts f (inr q) = (u ∷ ts, ([], refl), f q)
 
-one_more_expression : (n : ℕ) (st : List Predicted) (ts : List Leaf) → Means n (m.expression ∷ m.more_expressions ∷ st) ts → Means n (m.more_expressions ∷ st) (k.Comma ∷ ts)
-one_more_expression n st ts (r1, x, (r2, xs, more)) = (r2, (x.0 ∷ xs.0, ap (λ z. k.Comma ∷ z) (x.1 ∙ ap (λ z. g.expr x.0 ∷ z) xs.1)), more)
-
 a_field : (n : ℕ) (st : List Predicted) (y : Word) (ts : List Leaf) → Means n (m.exact m.a_colon ∷ m.operand ∷ m.more_fields ∷ st) ts → (r : List Leaf) × (x : SurfaceField) × (fs : List SurfaceField) × (k.Name y ∷ ts ≡ g.field x (g.more_fields fs r)) × Means n st r
 a_field n st y ts (r1, a, (r2, x, (r3, fs, more))) =
     (r3, record { name = y; value = x.0 }, fs.0, ap (λ z. k.Name y ∷ z) (a.1 ∙ ap (λ z. k.Colon ∷ z) (x.1 ∙ ap (λ z. g.operand x.0 ∷ z) fs.1)), more)
-
-one_more_field : (n : ℕ) (st : List Predicted) (ts : List Leaf) → Means n (m.exact m.a_name ∷ m.exact m.a_colon ∷ m.operand ∷ m.more_fields ∷ st) ts → Means n (m.more_fields ∷ st) (k.Comma ∷ ts)
-one_more_field n st ts (r, a, more) = let o = a_field n st a.0 r more in (o.0, (o.1 ∷ o.2, ap (λ z. k.Comma ∷ z) (a.1 ∙ o.3)), o.4)
 
 -- a conjunct and those after it
 with_more : (n d : ℕ) (c : s.Conjunct) (r q : List Leaf) → ConjunctWithin c n d r → ConjunctNearest c → Ends c r → Spells n (m.more_conjuncts d) r q → (a : s.Assertion) × (g.conjunct c r ≡ g.assertion a q) × RestWithin a n d q × NotStar q × AssertionNearest a
@@ -172,38 +158,20 @@ bracketed n ts r q (inr h) c = (s.filled h.0, ap (λ z. k.OpenSquare ∷ z) (h.1
 a_annotation : (n : ℕ) (st : List Predicted) (ts : List Leaf) → Means n (m.maybe_assertion ∷ m.exact m.close_square ∷ st) ts → (r : List Leaf) × (x : s.Note) × (k.OpenSquare ∷ ts ≡ g.annotation x r) × NoteWithin x n r × NoteNearest x × Means n st r
 a_annotation n st ts (r1, a, (r2, c, more)) = let o = bracketed n ts r1 r2 a c.1 in (r2, o.0, o.1, o.2, o.3, more)
 
-assigned_there : (n : ℕ) (st : List Predicted) (ts : List Leaf) → Means n (m.assigned ∷ st) ts → Means n (m.named ∷ st) (k.Equals ∷ ts)
-assigned_there n st ts (r, c, more) = (r, c, more)
-
-arrow_there : (n : ℕ) (st : List Predicted) (ts : List Leaf) → Means n (m.exact m.a_name ∷ m.exact m.equals ∷ m.expression ∷ m.exact m.semicolon ∷ st) ts → Means n (m.named ∷ st) (k.Arrow ∷ ts)
-arrow_there n st ts (r1, a, (r2, b, (r3, y, (r4, c, more)))) = (r4, λ x. (s.mutate (e.Name x) a.0 y.0, tt, cc), more)
-
 called : (n : ℕ) (ts r1 r2 r3 : List Leaf) (a : s.Arguments) → ts ≡ g.arguments a r1 → r1 ≡ k.CloseRound ∷ r2 → Spells n m.after_call r2 r3 → Spells n m.named (k.OpenRound ∷ ts) r3
 called n ts r1 r2 r3 a h c (inl q) = λ x.
     (s.call (record { name = x; arguments = a }), tt, ap (λ z. k.Name x ∷ k.OpenRound ∷ z) (h ∙ ap (λ z. g.arguments a z) (c ∙ ap (λ z. k.CloseRound ∷ z) q)))
 called n ts r1 r2 r3 a h c (inr q) = λ x.
     (s.fork (record { name = x; arguments = a }) q.0, tt, ap (λ z. k.Name x ∷ k.OpenRound ∷ z) (h ∙ ap (λ z. g.arguments a z) (c ∙ ap (λ z. k.CloseRound ∷ z) q.1)))
 
-call_there : (n : ℕ) (st : List Predicted) (ts : List Leaf) → Means n (m.maybe_arguments ∷ m.exact m.close_round ∷ m.after_call ∷ st) ts → Means n (m.named ∷ st) (k.OpenRound ∷ ts)
-call_there n st ts (r1, a, (r2, b, (r3, c, more))) = (r3, called n ts r1 r2 r3 a.0 a.1 b.1 c, more)
-
 looked_up : (n : ℕ) (u : Leaf) (x : SurfaceExpr) (ts r : List Leaf) → u ≡ g.expr x → Spells n m.look_up_or_end ts r → Spells n m.assigned (u ∷ ts) r
 looked_up n u x ts r h (inl q) = λ y. (s.assign y x, tt, cc)
 looked_up n u x ts r h (inr q) = λ y. (s.look_up y x q.0, tt, cc)
-
-new_there : (n : ℕ) (st : List Predicted) (ts : List Leaf) → Means n (m.exact m.open_round ∷ m.exact m.close_round ∷ m.exact m.semicolon ∷ st) ts → Means n (m.assigned ∷ st) (k.New ∷ ts)
-new_there n st ts (r1, a, (r2, b, (r3, c, more))) = (r3, λ x. (s.new x, tt, cc), more)
-
-arrow_end : (n : ℕ) (st : List Predicted) (ts : List Leaf) → Means n (m.exact m.a_name ∷ m.exact m.semicolon ∷ st) ts → Means n (m.look_up_or_end ∷ st) (k.Arrow ∷ ts)
-arrow_end n st ts (r1, a, (r2, b, more)) = (r2, inr (a.0, cc), more)
 
 second_call : (n : ℕ) (st : List Predicted) (ts : List Leaf) → Means n (m.exact m.a_name ∷ m.exact m.open_round ∷ m.maybe_arguments ∷ m.exact m.close_round ∷ m.exact m.semicolon ∷ st) ts → Means n (m.after_call ∷ st) (k.Bars ∷ ts)
 second_call n st ts (r1, a, (r2, b, (r3, x, (r4, c, (r5, d, more))))) =
     let call : s.Call = record { name = a.0; arguments = x.0 } in
     (r5, inr (call, (let whole : k.Bars ∷ ts ≡ k.Bars ∷ g.call call (k.Semicolon ∷ r5) = cc in whole)), more)
-
-round_disposed : (n : ℕ) (st : List Predicted) (ts : List Leaf) → Means n (m.expression ∷ m.exact m.close_round ∷ m.exact m.semicolon ∷ st) ts → Means n (m.disposed ∷ st) (k.OpenRound ∷ ts)
-round_disposed n st ts (r1, x, (r2, b, (r3, c, more))) = (r3, (true, x.0, cc), more)
 
 command_predicted : (n d : ℕ) (st : List Predicted) (u : Leaf) (w : Type 0) (ts : List Leaf) → (has_level n (suc (length ts)) d ≡ true) × MeansChosen n (on_command d u) true st w ts → Means n (m.command d ∷ st) (u ∷ ts)
 command_predicted n d st u w ts q = let o = command_back n d u st w ts q.1 in (o.rest, (o.command, o.spells, o.within q.0, o.follows, o.nearest), o.more)
@@ -216,9 +184,6 @@ commands_back n d st u w ts f (inl q) =
     let o = command_back n d u (m.commands d ∷ st) w ts (followed_back n (on_command d u) true (m.commands d ∷ []) st w ts q.1) in
     then_commands n d st u ts o.command o.rest o.spells (o.within q.0) o.nearest o.more
 commands_back n d st u w ts f (inr q) = (u ∷ ts, (s.done, refl, tt, tt), f q)
-
-else_there : (n d : ℕ) (st : List Predicted) (ts : List Leaf) → Means n (m.command d ∷ st) ts → Means n (m.branch d ∷ st) (k.Else ∷ ts)
-else_there n d st ts (r, c, more) = (r, inl (c.0, ap (λ z. k.Else ∷ z) c.1, c.2, c.3, c.4), more)
 
 a_local : (n : ℕ) (st : List Predicted) (ts : List Leaf) → Means n (m.exact m.a_name ∷ m.more_names ∷ m.exact m.semicolon ∷ m.locals ∷ st) ts → Means n (m.locals ∷ st) (k.Local ∷ ts)
 a_local n st ts (r1, a, (r2, xs, (r3, b, (r4, ls, more)))) =
@@ -273,9 +238,9 @@ predicted_back n m.equality st _ w ts f q = absurd q
 predicted_back n m.test st (k.True p) w ts f q = (ts, (t.True p, refl), q)
 predicted_back n m.test st u w ts f q = let o = expr_back n u (m.equality ∷ m.expression ∷ []) st w ts q in compared_values n st u ts o.expr o.is o.more
 predicted_back n m.operand_test st u w ts f q = operand_test_back n st u w ts q
-predicted_back n m.if_test st k.OpenRound w ts f q = round_test n st ts q
+predicted_back n m.if_test st k.OpenRound w ts f (r1, b, (r2, c, more)) = (r2, (true, b.0, ap (λ z. k.OpenRound ∷ z) (b.1 ∙ ap (λ z. g.test g.operand b.0 z) c.1)), more)
 predicted_back n m.if_test st u w ts f q = bare_test n st (u ∷ ts) (operand_test_back n st u w ts q)
-predicted_back n m.more_names st k.Comma w ts f q = one_more_name n st ts q
+predicted_back n m.more_names st k.Comma w ts f (r1, a, (r2, xs, more)) = (r2, (a.0 ∷ xs.0, ap (λ z. k.Comma ∷ z) (a.1 ∙ ap (λ z. k.Name a.0 ∷ z) xs.1)), more)
 predicted_back n m.more_names st u w ts f q = (u ∷ ts, ([], refl), f q)
 predicted_back n m.maybe_names st (k.Operand (v.Known (e.Name x))) w ts f (r, xs, more) = (r, (x ∷ xs.0, ap (λ z. k.Name x ∷ z) xs.1), more)
 predicted_back n m.maybe_names st u w ts f q = (u ∷ ts, ([], refl), f q)
@@ -288,7 +253,7 @@ predicted_back n (m.rest true) st k.Semicolon w ts f (r, xs, more) = (r, inr (re
 predicted_back n (m.rest b) st u w ts f q = (u ∷ ts, inl ([], refl), f q)
 predicted_back n (m.next b) st u w ts f q = next_back n b st u w ts q
 predicted_back n m.maybe_expressions st u w ts f q = maybe_expressions_back n st u w ts f (or_skip_back n (on_expression u (m.more_expressions ∷ [])) true st w ts q)
-predicted_back n m.more_expressions st k.Comma w ts f q = one_more_expression n st ts q
+predicted_back n m.more_expressions st k.Comma w ts f (r1, x, (r2, xs, more)) = (r2, (x.0 ∷ xs.0, ap (λ z. k.Comma ∷ z) (x.1 ∙ ap (λ z. g.expr x.0 ∷ z) xs.1)), more)
 predicted_back n m.more_expressions st u w ts f q = (u ∷ ts, ([], refl), f q)
 predicted_back n m.relation st k.EqualEqual w ts f (r, x, more) = (r, inl (x.0, ap (λ z. k.EqualEqual ∷ z) x.1), more)
 predicted_back n m.relation st k.NotEqual w ts f (r, x, more) = (r, inr (inl (x.0, ap (λ z. k.NotEqual ∷ z) x.1)), more)
@@ -296,7 +261,7 @@ predicted_back n m.relation st k.PointsTo w ts f (r, x, more) = (r, inr (inr (x.
 predicted_back n m.relation st _ w ts f q = absurd q
 predicted_back n m.maybe_fields st (k.Operand (v.Known (e.Name y))) w ts f q = let o = a_field n st y ts q in (o.0, (o.1 ∷ o.2, o.3), o.4)
 predicted_back n m.maybe_fields st u w ts f q = (u ∷ ts, ([], refl), f q)
-predicted_back n m.more_fields st k.Comma w ts f q = one_more_field n st ts q
+predicted_back n m.more_fields st k.Comma w ts f (r, a, more) = let o = a_field n st a.0 r more in (o.0, (o.1 ∷ o.2, ap (λ z. k.Comma ∷ z) (a.1 ∙ o.3)), o.4)
 predicted_back n m.more_fields st u w ts f q = (u ∷ ts, ([], refl), f q)
 predicted_back n (m.conjunct d) st u w ts f q = conjunct_predicted n d st u w ts q
 predicted_back n (m.more_conjuncts d) st k.Star w ts f q = more_conjuncts_star n d st ts q
@@ -308,21 +273,21 @@ predicted_back n (m.assertion d) st u w ts f q =
 predicted_back n m.maybe_assertion st u w ts f q = maybe_assertion_back n st u w ts f (or_skip_back n (followed (on_conjunct NESTING u) (m.more_conjuncts NESTING ∷ [])) true st w ts q)
 predicted_back n m.maybe_annotation st k.OpenSquare w ts f q = let o = a_annotation n st ts q in (o.0, (Some o.1, o.2, o.3, o.4), o.5)
 predicted_back n m.maybe_annotation st u w ts f q = (u ∷ ts, (None, refl, tt, tt), f q)
-predicted_back n m.named st k.Equals w ts f q = assigned_there n st ts q
-predicted_back n m.named st k.Arrow w ts f q = arrow_there n st ts q
-predicted_back n m.named st k.OpenRound w ts f q = call_there n st ts q
+predicted_back n m.named st k.Equals w ts f (r, c, more) = (r, c, more)
+predicted_back n m.named st k.Arrow w ts f (r1, a, (r2, b, (r3, y, (r4, c, more)))) = (r4, λ x. (s.mutate (e.Name x) a.0 y.0, tt, cc), more)
+predicted_back n m.named st k.OpenRound w ts f (r1, a, (r2, b, (r3, c, more))) = (r3, called n ts r1 r2 r3 a.0 a.1 b.1 c, more)
 predicted_back n m.named st _ w ts f q = absurd q
-predicted_back n m.assigned st k.New w ts f q = new_there n st ts q
+predicted_back n m.assigned st k.New w ts f (r1, a, (r2, b, (r3, c, more))) = (r3, λ x. (s.new x, tt, cc), more)
 predicted_back n m.assigned st u w ts f q =
     let o = expr_back n u (m.look_up_or_end ∷ []) st w ts q in
     (o.more.0, looked_up n u o.expr ts o.more.0 o.is o.more.1, o.more.2)
 predicted_back n m.look_up_or_end st k.Semicolon w ts f q = (ts, inl refl, q)
-predicted_back n m.look_up_or_end st k.Arrow w ts f q = arrow_end n st ts q
+predicted_back n m.look_up_or_end st k.Arrow w ts f (r1, a, (r2, b, more)) = (r2, inr (a.0, cc), more)
 predicted_back n m.look_up_or_end st _ w ts f q = absurd q
 predicted_back n m.after_call st k.Semicolon w ts f q = (ts, inl refl, q)
 predicted_back n m.after_call st k.Bars w ts f q = second_call n st ts q
 predicted_back n m.after_call st _ w ts f q = absurd q
-predicted_back n m.disposed st k.OpenRound w ts f q = round_disposed n st ts q
+predicted_back n m.disposed st k.OpenRound w ts f (r1, x, (r2, b, (r3, c, more))) = (r3, (true, x.0, cc), more)
 predicted_back n m.disposed st u w ts f q =
     let o = expr_back n u (m.exact m.semicolon ∷ []) st w ts q in
     let first : u ≡ g.expr o.expr = o.is in
@@ -331,7 +296,7 @@ predicted_back n m.disposed st u w ts f q =
     (o.more.0, (false, o.expr, whole), o.more.2)
 predicted_back n (m.command d) st u w ts f q = command_predicted n d st u w ts (decided_back n (on_command d u) (has_level n (suc (length ts)) d) st w ts (command_decided d u ts) q)
 predicted_back n (m.commands d) st u w ts f q = commands_back n d st u w ts f (or_skip_back n (followed (on_command d u) (m.commands d ∷ [])) (has_level n (suc (length ts)) d) st w ts q)
-predicted_back n (m.branch d) st k.Else w ts f q = else_there n d st ts q
+predicted_back n (m.branch d) st k.Else w ts f (r, c, more) = (r, inl (c.0, ap (λ z. k.Else ∷ z) c.1, c.2, c.3, c.4), more)
 predicted_back n (m.branch d) st u w ts f q = (u ∷ ts, inr (tt, refl), f q)
 predicted_back n m.locals st k.Local w ts f q = a_local n st ts q
 predicted_back n m.locals st u w ts f q = (u ∷ ts, ([], refl), f q)

@@ -5,7 +5,7 @@ use Rattle.sf_ast.specs.declared.word.SurfaceExpr.{SurfaceExpr}
 use Rattle.sf_ast.specs.declared.word.SurfaceExpr.TheVariants as e
 use Rattle.sf_ast.specs.declared.word.SurfaceOperand.TheVariants as v
 use Rattle.sf_ast.specs.declared.word.Word.{Word}
-use Rattle.sf_parse.specs.Leaf.{Leaf}
+use Rattle.sf_parse.specs.Leaf.{Leaf, leaves}
 use Rattle.sf_lex.specs.declared.token.Kind.TheVariants as tk
 use Rattle.sf_parse.specs.Leaf as k
 use Rattle.sf_lex.specs.declared.token.Token.{Token}
@@ -13,7 +13,6 @@ use Rattle.sf_parse.specs.Internal.Given.{NoMore, all_names, is_name, predicted_
 use Rattle.sf_parse.specs.Grammar as g
 use Rattle.sf_parse.specs.Internal.Machine as m
 use Rattle.sf_parse.specs.Internal.Machine.{Predicted, verdict, unexpected}
-use Rattle.sf_parse.specs.Leaf.{leaves}
 use Rattle.sf_parse.specs.Internal.Parser.{NotNext, expression_next}
 use Rattle.sf_parse.proofs.Parser.Fronts.{left_of, fails_at_expression}
 

@@ -5,7 +5,7 @@ use Rattle.sf_base.specs.declared.limits.TheConstants.{NESTING}
 use Rattle.sf_ast.specs.Surface as s
 use Rattle.sf_ast.specs.View.{conjuncts}
 use Rattle.sf_ast.specs.declared.word.SurfaceOperand.{SurfaceOperand}
-use Rattle.sf_parse.specs.Leaf.{Leaf}
+use Rattle.sf_parse.specs.Leaf.{Leaf, leaf, leaves}
 use Rattle.sf_lex.specs.declared.token.Kind.TheVariants as tk
 use Rattle.sf_parse.specs.Leaf as k
 use Rattle.sf_lex.specs.declared.token.Token.{Token}
@@ -15,7 +15,6 @@ use Rattle.sf_parse.specs.Internal.Machine as m
 use Rattle.sf_parse.specs.Internal.Machine.{Predicted, on_conjunct, verdict, unexpected, too_deep}
 use Rattle.sf_parse.specs.Nearest.{IsClosed, ConjunctNearest, AssertionNearest}
 use Rattle.sf_parse.specs.Nesting.{ConjunctWithin, AssertionWithin, RestWithin}
-use Rattle.sf_parse.specs.Leaf.{leaf, leaves}
 use Rattle.sf_parse.specs.Internal.Parser.{NotNext, last_of, NotStar, Ends}
 use Rattle.sf_parse.proofs.Machine.Back.{flat_conjunct}
 use Rattle.sf_parse.proofs.Machine.Decided.{Decided, takes, refuses, conjunct_decided, refused, taken}

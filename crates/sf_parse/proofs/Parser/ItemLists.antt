@@ -1,13 +1,12 @@
 -- One more `local` or item at the end of a list, as it is spelled, where it is and how deep it is nested.
 use Rattle.std.proofs.Common.{◌≡◌, ◌<◌, List, [], ◌∷◌, ◌++◌, length, ap, sym, subst, refl, arith}
 use Rattle.sf_ast.specs.Surface as s
-use Rattle.sf_parse.specs.Leaf.{Leaf}
+use Rattle.sf_parse.specs.Leaf.{Leaf, leaves}
 use Rattle.sf_parse.specs.Leaf as k
 use Rattle.sf_lex.specs.declared.token.Token.{Token}
 use Rattle.sf_parse.specs.Grammar as g
 use Rattle.sf_parse.specs.Nearest.{ItemNearest, IsNearest}
 use Rattle.sf_parse.specs.Nesting.{ItemWithin, ItemsWithin}
-use Rattle.sf_parse.specs.Leaf.{leaves}
 use Rattle.sf_parse.proofs.Grammar.CommandsLonger.{more_names_longer}
 use Rattle.sf_parse.proofs.Grammar.Longer.{fewer}
 

@@ -6,7 +6,7 @@ use Rattle.sf_ast.specs.declared.word.SurfaceTest.{SurfaceTest}
 use Rattle.sf_ast.specs.Surface as s
 use Rattle.sf_ast.specs.View.{commands}
 use Rattle.sf_base.specs.declared.place.Place.{Place}
-use Rattle.sf_parse.specs.Leaf.{Leaf}
+use Rattle.sf_parse.specs.Leaf.{Leaf, leaf, leaves}
 use Rattle.sf_lex.specs.declared.token.Kind.TheVariants as tk
 use Rattle.sf_parse.specs.Leaf as k
 use Rattle.sf_lex.specs.declared.token.Token.{Token}
@@ -16,7 +16,6 @@ use Rattle.sf_parse.specs.Internal.Machine as m
 use Rattle.sf_parse.specs.Internal.Machine.{Predicted, Choice, take, skip, refuse, takes, on_command, step, chosen, after, leveled, verdict, unexpected, too_deep}
 use Rattle.sf_parse.specs.Nearest.{Follows, CommandNearest, CommandsNearest}
 use Rattle.sf_parse.specs.Nesting.{has_level, CommandWithin, CommandsWithin}
-use Rattle.sf_parse.specs.Leaf.{leaf, leaves}
 use Rattle.sf_parse.specs.Internal.Parser.{NotNext}
 use Rattle.sf_parse.proofs.Machine.Decided.{command_decided, refused, taken}
 use Rattle.sf_parse.proofs.Machine.Back.{flat_nearest, follows_else}

@@ -1,9 +1,8 @@
 use Rattle.std.proofs.Common.{◌≡◌, List, ◌∷◌, ◌∙◌, ap, map, sym}
 use Rattle.sf_ast.specs.declared.word.SurfaceExpr.TheVariants as e
-use Rattle.sf_parse.specs.Leaf.{Leaf}
+use Rattle.sf_parse.specs.Leaf.{Leaf, leaves}
 use Rattle.sf_parse.specs.Leaf as k
 use Rattle.sf_parse.specs.Grammar.{maybe_exprs}
-use Rattle.sf_parse.specs.Leaf.{leaves}
 use Rattle.sf_parse.proofs.Parser.Arguments.{names_spelled}
 use Rattle.sf_parse.proofs.call.arguments.Goals as goal
 

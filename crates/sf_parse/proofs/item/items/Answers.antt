@@ -1,10 +1,9 @@
 use Rattle.std.proofs.Common.{◌≡◌, List, [], ◌∷◌, ◌++◌, ◌∙◌, map, ap, sym, subst}
 use Rattle.std.proofs.lemmas.List.{map_push}
 use Rattle.sf_ast.specs.View.{item_of}
-use Rattle.sf_parse.specs.Leaf.{Leaf}
+use Rattle.sf_parse.specs.Leaf.{Leaf, leaves}
 use Rattle.sf_parse.specs.Grammar as g
 use Rattle.sf_parse.specs.Nesting.{ItemsWithin}
-use Rattle.sf_parse.specs.Leaf.{leaves}
 use Rattle.sf_parse.proofs.Grammar.CommandsLonger.{fewer_behind_item}
 use Rattle.sf_parse.proofs.Parser.ItemLists.{items_push, items_within_push, items_nearest_push}
 use Rattle.sf_parse.proofs.item.items.Goals as goal
