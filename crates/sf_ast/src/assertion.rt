@@ -10,8 +10,8 @@ pub struct SurfaceField {
     pub value: SurfaceOperand,
 }
 
-/// One conjunct. A place is that of its first token; where there is none, its first part has it, or,
-/// of a group, nobody asks for it.
+/// One conjunct. A place is that of its first token; where there is none, its first part has it,
+/// or, of a group, nobody asks for it.
 #[cycle(assertion)]
 #[derive(Debug, Drop)]
 pub enum SurfaceConjunct {

@@ -1,7 +1,7 @@
 //! The surface tree: a file as it is written, each node where it is.
 //!
-//! Names are not copied: the tree has the ends of their texts. It keeps whatever the spelling needs,
-//! so that the kinds of a file's tokens are a function of its tree.
+//! Names are not copied: the tree has the ends of their texts. It keeps whatever the spelling
+//! needs, so that the kinds of a file's tokens are a function of its tree.
 //!
 //! - `assertion`: assertions and their conjuncts.
 //! - `command`: commands and calls.

@@ -2,8 +2,8 @@
 -- Names: `first-LAW`. Where the order matters, what is before a thing is before whatever is not before that thing.
 use Rattle.std.specs.Prelude.{◌≡◌, Bool, true, false, List, [], ◌∷◌, ◌++◌, Contains, Option, Some, None}
 use Rattle.std.specs.List.{All}
-use Rattle.std.proofs.Common.{sym, ap, ◌∙◌, refl, subst, inl, inr, append_assoc, append-nil}
-use Rattle.std.proofs.lemmas.List.Elements.{All-append, All-cons, All-contains, All-head, All-nil, All-push, All-tail, All-weaker, Contains-append_cases, Contains-append_right}
+use Rattle.std.proofs.Common.{sym, ap, ◌∙◌, refl, subst, inl, append_assoc, append-nil}
+use Rattle.std.proofs.lemmas.List.Elements.{All-append, All-cons, All-contains, All-head, All-nil, All-push, All-tail, All-weaker, Contains-append_right}
 use Rattle.sf_base.specs.First.{IsFirstAmong, IsFirstOf}
 use Rattle.sf_base.proofs.Elements.{contains-cons}
 

@@ -1,6 +1,6 @@
 -- What lists that are made of others contain.
 -- Names: `contains-map` and `contains-flat_map` say what is there, `_from` where it comes from.
-use Rattle.std.specs.Prelude.{◌≡◌, ◌⊎◌, List, [], ◌∷◌, map, Contains}
+use Rattle.std.specs.Prelude.{◌≡◌, List, [], ◌∷◌, map, Contains}
 use Rattle.std.specs.List.{flat_map}
 use Rattle.std.proofs.Common.{inl, inr, refl, sym, ap, subst}
 use Rattle.std.proofs.lemmas.List.Elements.{Contains-append_cases, Contains-append_left, Contains-append_right}

@@ -6,8 +6,8 @@ ghost use Rattle.sf_base.specs.Results.{Appends};
 use std::alloc::{AllocFailed, Global};
 use std::marker::Model;
 
-/// A list whose elements are numbered from 0 on, in 32 bits. Contracts see the list. It has room for
-/// as many as 32 bits can number: a longer one is refused, as one past the memory is.
+/// A list whose elements are numbered from 0 on, in 32 bits. Contracts see the list. It has room
+/// for as many as 32 bits can number: a longer one is refused, as one past the memory is.
 #[derive(Debug, Drop)]
 pub struct Counted<T> {
     items: Vec<T>,
@@ -47,7 +47,8 @@ impl<T> Counted<T> {
         self.items.len() as u32
     }
 
-    /// Appends one. An `Err` says that memory or numbers ran out, hands it back and changes nothing.
+    /// Appends one. An `Err` says that memory or numbers ran out, hands it back and changes
+    /// nothing.
     pub fn push(&mut self, item: T) -> Result<(), AllocFailed<T>>
         ensures ok { Appends result self.old self.new (item ∷ []) }
         ensures err { OnErr result (self.new ≡ self.old) }

@@ -10,8 +10,8 @@
 //!
 //! `specs/` defines heaps, stores and the separating conjunction (HeapStore), the test of two
 //! variables (Variables), what comes first in a text or a list (First), and what clauses say of a
-//! call's result (Results). `proofs/` has the algebra of heaps that split (MapSplits, HeapSplits, HeapSums, StoreSplits) and, by subject, the lemmas that
-//! speak of std's types alone.
+//! call's result (Results). `proofs/` has the algebra of heaps that split (MapSplits, HeapSplits,
+//! HeapSums, StoreSplits) and, by subject, the lemmas that speak of std's types alone.
 #![tactic(auto)]
 
 mod counted;

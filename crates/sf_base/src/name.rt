@@ -7,8 +7,8 @@ use std::marker::Model;
 
 /// The name of something in a file. Contracts see its bytes.
 ///
-/// It holds bytes and no text: a file is read as bytes, and its names are ASCII words of it, so that
-/// none is tested again for being text.
+/// It holds bytes and no text: a file is read as bytes, and its names are ASCII words of it, so
+/// that none is tested again for being text.
 #[derive(Debug, Drop)]
 pub struct Name {
     bytes: Vec<u8>,

@@ -57,7 +57,8 @@ impl Calls {
     {
         &self.free[f.0 as usize]
     }
-    /// The variables that `free` has, by a procedure's number: none where there is no such procedure.
+    /// The variables that `free` has, by a procedure's number: none where there is no such
+    /// procedure.
     pub fn free_in(&self, f: ProcId) -> &[Var]
         ensures { result.now ≡ free_in self.now f }
     {

@@ -1,6 +1,6 @@
 //! That the sets are the least ones, that each program has them, that what first breaks a condition
-//! is unique, that what commands may change is what is assigned, and that such facts follow from their
-//! truncations. Each function does nothing; its contract is the law.
+//! is unique, that what commands may change is what is assigned, and that such facts follow from
+//! their truncations. Each function does nothing; its contract is the law.
 
 ghost use Rattle.sf_calls.specs.Laws.{ChangesAreAssigned, ConditionsFromTruncation, FirstBreachIsBroken, FirstBreachIsUnique, FreeIsLeast, HeldResourcesAreThere, SetsFromTruncation, SetsExist, TakesIsLeast};
 

@@ -2,8 +2,8 @@
 //!
 //! - `laws`: tags prove a program or are refused, in one way, and never both.
 //! - `proof`: a program with tags that prove it.
-//! - `proving`: a check of tags, one after the other; it makes a proof, or says which tag is refused
-//!   and why.
+//! - `proving`: a check of tags, one after the other; it makes a proof, or says which tag is
+//!   refused and why.
 //! - `refusal`: why tags are refused.
 #![tactic(auto)]
 

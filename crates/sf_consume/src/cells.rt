@@ -14,8 +14,8 @@ use sf_core::Operand;
 use sf_sym::{Pending, State, Term, term_of};
 use std::alloc::{AllocError, Global};
 
-/// cell: a wanted cell is that one, whose fields fit. `None` exactly where it isn't; an `Err` means out of
-/// memory. After either nothing has changed.
+/// cell: a wanted cell is that one, whose fields fit. `None` exactly where it isn't; an `Err` means
+/// out of memory. After either nothing has changed.
 pub(crate) fn cell(
     alloc: Global,
     state: &mut State,
@@ -42,8 +42,8 @@ pub(crate) fn cell(
     Ok(Some(()))
 }
 
-/// A wanted cell is that one: its root, and how its fields fit. `None` exactly where it isn't; an `Err` means
-/// out of memory.
+/// A wanted cell is that one: its root, and how its fields fit. `None` exactly where it isn't; an
+/// `Err` means out of memory.
 fn fitting(
     alloc: Global,
     state: &State,
@@ -55,7 +55,8 @@ fn fitting(
     requires { state.now.next_sym + existentials_in wanted.now < 2 ^ 32 }
     ensures fits { IfOk result (λ r. option_map (fitting_of bindings.now) r
         ≡ fitting a state.now bindings.now (root, wanted.now)) }
-    ensures there { IfOk result (λ r. IfSome r (λ x. is_some (cell_at state.now.atoms a x.0) ≡ true)) }
+    ensures there { IfOk result (λ r.
+        IfSome r (λ x. is_some (cell_at state.now.atoms a x.0) ≡ true)) }
 {
     let Some(t) = term_of(bindings, &root) else {
         return Ok(None);
@@ -69,15 +70,16 @@ fn fitting(
     Ok(Some((t, fit)))
 }
 
-/// The cell of that number at the root, of which nothing is compared yet. `None` exactly where there is none;
-/// an `Err` means out of memory.
+/// The cell of that number at the root, of which nothing is compared yet. `None` exactly where
+/// there is none; an `Err` means out of memory.
 fn first_fit(
     alloc: Global,
     state: &State,
     a: u32,
     root: Term,
 ) -> Result<Option<Fitting>, AllocError>
-    ensures fields { IfOk result (λ r. option_map (λ f. f.fields) r ≡ cell_at state.now.atoms a root) }
+    ensures fields { IfOk result (λ r.
+        option_map (λ f. f.fields) r ≡ cell_at state.now.atoms a root) }
     ensures symbols { IfOk result (λ r. IfSome r (λ f. f.next_sym ≡ state.now.next_sym)) }
     ensures changes { IfOk result (λ r. IfSome r (λ f. f.changes.items ≡ [])) }
 {
@@ -103,8 +105,8 @@ fn bind_all(want: &mut Pending, changes: &[(u32, Term)])
     }
 }
 
-/// head: a wanted segment whose ends differ begins with that cell. `None` exactly where it doesn't; an `Err`
-/// means out of memory. After either nothing has changed.
+/// head: a wanted segment whose ends differ begins with that cell. `None` exactly where it doesn't;
+/// an `Err` means out of memory. After either nothing has changed.
 pub(crate) fn head(
     alloc: Global,
     state: &mut State,
@@ -137,8 +139,8 @@ pub(crate) fn head(
     Ok(Some(()))
 }
 
-/// node: a wanted tree begins with that cell. `None` exactly where it doesn't; an `Err` means out of memory.
-/// After either nothing has changed.
+/// node: a wanted tree begins with that cell. `None` exactly where it doesn't; an `Err` means out
+/// of memory. After either nothing has changed.
 pub(crate) fn node(
     alloc: Global,
     state: &mut State,

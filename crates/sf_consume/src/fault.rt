@@ -3,7 +3,8 @@ use std::alloc::AllocError;
 /// Why a tag leaves nothing of a subtraction.
 #[derive(Clone, Copy, Debug, PartialEq, Eq, Drop)]
 pub enum ConsumeFault {
-    /// The tag has no row there: it isn't one of subtraction, or the condition of its row doesn't hold.
+    /// The tag has no row there: it isn't one of subtraction, or the condition of its row doesn't
+    /// hold.
     NotARule,
     /// Out of memory.
     OutOfMemory,

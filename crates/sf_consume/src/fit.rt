@@ -1,5 +1,5 @@
-//! How far the fields of a wanted cell fit a cell. Nothing of the state changes while they are compared: what
-//! existentials are to stand for is noted, and the cell's fields are a copy.
+//! How far the fields of a wanted cell fit a cell. Nothing of the state changes while they are
+//! compared: what existentials are to stand for is noted, and the cell's fields are a copy.
 
 ghost use Rattle.std.specs.Prelude.{◌≡◌, ◌+◌, ◌<◌, ◌≤◌, ◌^◌, get_or, IfOk, IfSome, None, List, Option};
 ghost use Rattle.std.specs.Option.{option_map};
@@ -25,8 +25,8 @@ pub(crate) struct Fitting {
     pub changes: Vec<(u32, Term)>,
 }
 
-/// Compares the wanted fields with those of a cell, in the order written. `None` exactly where one doesn't
-/// fit; an `Err` means out of memory.
+/// Compares the wanted fields with those of a cell, in the order written. `None` exactly where one
+/// doesn't fit; an `Err` means out of memory.
 pub(crate) fn fit_fields(
     bindings: &[Option<Term>],
     mut fit: Fitting,
@@ -96,8 +96,8 @@ fn fit_new(fit: Fitting, field: FieldId, n: u32) -> Result<Fitting, AllocError>
     Ok(fit)
 }
 
-/// The term of a field of the cell, which is a fresh symbol from now on where it isn't known. An `Err` means
-/// out of memory.
+/// The term of a field of the cell, which is a fresh symbol from now on where it isn't known. An
+/// `Err` means out of memory.
 pub(crate) fn link(mut fit: Fitting, field: FieldId) -> Result<(Fitting, Term), AllocError>
     requires { fit.next_sym + 1 < 2 ^ 32 }
     ensures linked { IfOk result (λ r. (bindings : List (Option TermOf))

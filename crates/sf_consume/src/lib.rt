@@ -1,5 +1,6 @@
-//! Subtraction: what is wanted is shown of a state, and its parts of the heap are handed over. The specs/ have
-//! the rows: what each leaves of a state and of what is wanted, and where there is none.
+//! Subtraction: what is wanted is shown of a state, and its parts of the heap are handed over. The
+//! specs/ have the rows: what each leaves of a state and of what is wanted, and where there is
+//! none.
 //!
 //! - `fault`: why a tag doesn't apply.
 //! - `fit`: how far the fields of a wanted cell fit a cell.

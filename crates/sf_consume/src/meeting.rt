@@ -1,5 +1,6 @@
-//! How far the fields of a wanted cell fit a cell, without changing anything: what existentials and unknown fields
-//! would stand for is noted. A symbol that would be new has its number among those, since there may be none left.
+//! How far the fields of a wanted cell fit a cell, without changing anything: what existentials and
+//! unknown fields would stand for is noted. A symbol that would be new has its number among those,
+//! since there may be none left.
 
 ghost use Rattle.std.specs.Prelude.{◌≡◌, IfOk, None, get_or, is_some};
 ghost use Rattle.std.specs.Option.{option_map};
@@ -91,8 +92,8 @@ pub(crate) fn fit_field(
 /// A wanted field that has a term has it in the cell.
 fn fit_known(seen: Seen<'_>, meeting: Meeting, field: FieldId, u: Met) -> Option<Meeting>
     ensures { option_map (fit_of seen.entry) result
-        ≡ fit_known (fit_of seen.entry meeting) (field_term (fit_of seen.entry meeting).fields field)
-        (met_term seen.entry.next u) }
+        ≡ fit_known (fit_of seen.entry meeting)
+        (field_term (fit_of seen.entry meeting).fields field) (met_term seen.entry.next u) }
 {
     match field_now(seen, &meeting.links, field) {
         Some(t) if is_same(seen.next, t, u) => Some(meeting),
@@ -103,15 +104,16 @@ fn fit_known(seen: Seen<'_>, meeting: Meeting, field: FieldId, u: Met) -> Option
 /// An existential without a term gets that of the field. An `Err` means out of memory.
 #[tactic(auto, using(crate::proofs::Meetings::met_more))]
 fn fit_new(seen: Seen<'_>, meeting: Meeting, field: FieldId, n: u32) -> Result<Meeting, AllocError>
-    ensures { IfOk result (λ after. fit_of seen.entry after ≡ fit_new (fit_of seen.entry meeting) field n) }
+    ensures { IfOk result (λ after.
+        fit_of seen.entry after ≡ fit_new (fit_of seen.entry meeting) field n) }
 {
     let (mut meeting, t) = link(seen, meeting, field)?;
     meeting.changes.push((n, t))?;
     Ok(meeting)
 }
 
-/// The term of a field of the cell, which is a new symbol from now on where it isn't known. An `Err` means out of
-/// memory.
+/// The term of a field of the cell, which is a new symbol from now on where it isn't known. An
+/// `Err` means out of memory.
 #[tactic(auto, using(crate::proofs::Meetings::link_more))]
 fn link(seen: Seen<'_>, mut meeting: Meeting, field: FieldId) -> Result<(Meeting, Met), AllocError>
     ensures { IfOk result (λ r. link_of seen.entry r ≡ link (fit_of seen.entry meeting) field) }
@@ -159,7 +161,8 @@ fn latest_link(next: u32, links: &[FieldId], field: FieldId, before: Option<Met>
 #[tactic(auto, using(crate::proofs::Changes::latest_is, crate::proofs::Changes::none_past_end))]
 pub(crate) fn term_at(seen: Seen<'_>, changes: &[(u32, Met)], n: u32) -> Option<Met>
     ensures { option_map (met_term seen.entry.next) result
-        ≡ get_or (after_changes (terms_of seen.entry.next changes.now) seen.entry.bindings.now) n None }
+        ≡ get_or (after_changes (terms_of seen.entry.next changes.now) seen.entry.bindings.now)
+        n None }
 {
     let before = match *seen.bindings.get(n as usize)? {
         Some(t) => Some(Met::Known(t)),

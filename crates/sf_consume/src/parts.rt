@@ -8,8 +8,8 @@ use crate::wanted::{as_list, both, list_from, wanted_shape};
 use sf_sym::{Atom, Pending, State, Term};
 use std::alloc::AllocError;
 
-/// exact: a wanted segment or tree is that atom. `None` exactly where it isn't; an `Err` means out of memory.
-/// After either nothing has changed.
+/// exact: a wanted segment or tree is that atom. `None` exactly where it isn't; an `Err` means out
+/// of memory. After either nothing has changed.
 pub(crate) fn exact(state: &mut State, want: &mut Pending, a: u32) -> Result<Option<()>, AllocError>
     ensures answers { IfOk result (AnswersBy (exact_step a) state.old state.new want.old want.new) }
     ensures err { OnErr result (state.new ≡ state.old) }
@@ -43,8 +43,9 @@ pub fn is_same_shape(x: &Atom, y: &Atom) -> bool
     }
 }
 
-/// join: a wanted segment begins with that segment; its end is a constant or a cell of another atom. `None`
-/// exactly where it isn't so; an `Err` means out of memory. After either nothing has changed.
+/// join: a wanted segment begins with that segment; its end is a constant or a cell of another
+/// atom. `None` exactly where it isn't so; an `Err` means out of memory. After either nothing has
+/// changed.
 pub(crate) fn join(state: &mut State, want: &mut Pending, a: u32) -> Result<Option<()>, AllocError>
     ensures answers { IfOk result (AnswersBy (join_step a) state.old state.new want.old want.new) }
     ensures err { OnErr result (state.new ≡ state.old) }

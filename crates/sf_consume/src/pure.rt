@@ -8,8 +8,8 @@ use crate::wanted::{as_equality, as_inequality, both, wanted_ends};
 use sf_core::Operand;
 use sf_sym::{Pending, State, Term, term_of};
 
-/// bind: one side of an equality is an existential without a term, and gets that of the other. `None` exactly
-/// where it isn't so.
+/// bind: one side of an equality is an existential without a term, and gets that of the other.
+/// `None` exactly where it isn't so.
 pub(crate) fn bind(state: &State, want: &mut Pending) -> Option<()>
     ensures answers { AnswersBy bind_step state.now state.now want.old want.new result }
 {
@@ -58,7 +58,8 @@ pub(crate) fn empty(state: &State, want: &mut Pending) -> Option<()>
     Some(())
 }
 
-/// One side of an equality is an existential without a term, and the other has one: its number, and that term.
+/// One side of an equality is an existential without a term, and the other has one: its number, and
+/// that term.
 pub(crate) fn binding(
     bindings: &[Option<Term>],
     x: Operand<Term>,

@@ -15,7 +15,8 @@ use std::alloc::{AllocError, Global};
 
 /// Whether bind has a row: an equality of which one side is an existential without a term.
 pub fn binds(bindings: &[Option<Term>], c: &Conjunct<Term>) -> bool
-    ensures { (s : AnyState) → result ≡ is_some (bind_step s bindings.now (conjunct_of c.now) none) }
+    ensures { (s : AnyState)
+        → result ≡ is_some (bind_step s bindings.now (conjunct_of c.now) none) }
 {
     match as_equality(c) {
         Some((x, y)) => binding(bindings, x, y).is_some(),
@@ -25,7 +26,8 @@ pub fn binds(bindings: &[Option<Term>], c: &Conjunct<Term>) -> bool
 
 /// Whether same has a row: an equality of one term with itself.
 pub fn is_same(bindings: &[Option<Term>], c: &Conjunct<Term>) -> bool
-    ensures { (s : AnyState) → result ≡ is_some (same_step s bindings.now (conjunct_of c.now) none) }
+    ensures { (s : AnyState)
+        → result ≡ is_some (same_step s bindings.now (conjunct_of c.now) none) }
 {
     let Some((x, y)) = as_equality(c) else {
         return false;
@@ -38,7 +40,8 @@ pub fn is_same(bindings: &[Option<Term>], c: &Conjunct<Term>) -> bool
 
 /// Whether empty has a row: a segment from a term to itself, or the tree of nil.
 pub fn is_empty(bindings: &[Option<Term>], c: &Conjunct<Term>) -> bool
-    ensures { (s : AnyState) → result ≡ is_some (empty_step s bindings.now (conjunct_of c.now) none) }
+    ensures { (s : AnyState)
+        → result ≡ is_some (empty_step s bindings.now (conjunct_of c.now) none) }
 {
     match wanted_ends(bindings, c) {
         Some((t, u)) => t.is(u),
@@ -46,8 +49,8 @@ pub fn is_empty(bindings: &[Option<Term>], c: &Conjunct<Term>) -> bool
     }
 }
 
-/// Whether cell has a row with the atom of that number: a wanted cell is that one, and its fields fit. An `Err`
-/// means out of memory.
+/// Whether cell has a row with the atom of that number: a wanted cell is that one, and its fields
+/// fit. An `Err` means out of memory.
 pub fn fits_cell(
     alloc: Global,
     state: &State,

@@ -13,8 +13,9 @@ use crate::pure::{apart, bind, empty, same};
 use sf_sym::{Pending, State, Tag};
 use std::alloc::{AllocError, Global};
 
-/// The step of subtraction that the tag names, at the first wanted conjunct. `NotARule` exactly where the tag
-/// isn't one of subtraction or the condition of its row doesn't hold. After an `Err` nothing has changed.
+/// The step of subtraction that the tag names, at the first wanted conjunct. `NotARule` exactly
+/// where the tag isn't one of subtraction or the condition of its row doesn't hold. After an `Err`
+/// nothing has changed.
 pub fn subtract(
     alloc: Global,
     state: &mut State,

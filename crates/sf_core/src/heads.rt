@@ -134,8 +134,8 @@ fn add_conjunct(c: &Conjunct<Expr>, found: &mut Vec<Occurrence>) -> Result<(), A
     }
 }
 
-/// Appends what occurs in a call: its references, and then its values. An `Err` means that memory ran
-/// out.
+/// Appends what occurs in a call: its references, and then its values. An `Err` means that memory
+/// ran out.
 pub fn add_call_occurrences(call: &Call, found: &mut Vec<Occurrence>) -> Result<(), AllocError>
     ensures { Appends result found.old.items found.new.items
         (call_occurrences (call_of call.now)) }
@@ -149,7 +149,8 @@ pub fn add_call_occurrences(call: &Call, found: &mut Vec<Occurrence>) -> Result<
 
 /// Appends what occurs in values.
 fn add_values(values: &[Expr], found: &mut Vec<Occurrence>) -> Result<(), AllocError>
-    ensures { Appends result found.old.items found.new.items (flat_map expr_occurrences values.now) }
+    ensures { Appends result found.old.items found.new.items
+        (flat_map expr_occurrences values.now) }
 {
     for e in values {
         add_expr(e, found)?;

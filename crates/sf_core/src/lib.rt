@@ -1,5 +1,5 @@
-//! The program, numbered: what every later crate reads, checks, proves and runs. Its specs/ have the
-//! definitions that the whole project rests on: the meaning of assertions, the machine and its
+//! The program, numbered: what every later crate reads, checks, proves and runs. Its specs/ have
+//! the definitions that the whole project rests on: the meaning of assertions, the machine and its
 //! steps, and what a good configuration is.
 //!
 //! - `assertion`: assertions as trees of conjuncts.

@@ -20,7 +20,8 @@ pub struct Proc {
     pub name: Name,
     /// The place of its name.
     pub place: Place,
-    /// The names of its own variables by number: references, values, declared locals, primed locals.
+    /// The names of its own variables by number: references, values, declared locals, primed
+    /// locals.
     pub names: Vec<Name>,
     /// How many of them are references.
     pub references: u32,
@@ -49,10 +50,10 @@ pub struct Resource {
     pub invariant: Assertion,
 }
 
-/// A whole file. Its numbers are those of things that are there, each call has its procedure's counts,
-/// no body sets a value parameter, a pre and a post mention no local and an invariant only variables of
-/// its resource, predicates have the fields that they follow, scopes number existentials in text order,
-/// and limits are met.
+/// A whole file. Its numbers are those of things that are there, each call has its procedure's
+/// counts, no body sets a value parameter, a pre and a post mention no local and an invariant only
+/// variables of its resource, predicates have the fields that they follow, scopes number
+/// existentials in text order, and limits are met.
 #[derive(Debug, Drop)]
 pub struct Program {
     /// The names of the fields by number.

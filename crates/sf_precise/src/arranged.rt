@@ -39,9 +39,9 @@ pub struct Arranged {
 }
 
 impl Arranged {
-    /// The variables that commands may change, each once and in order of number. The commands are those of
-    /// any block; of a block of the program `changes_are_assigned` of sf_calls says which they are. An
-    /// `Err` is out of memory, and comes for nothing else.
+    /// The variables that commands may change, each once and in order of number. The commands are
+    /// those of any block; of a block of the program `changes_are_assigned` of sf_calls says which
+    /// they are. An `Err` is out of memory, and comes for nothing else.
     pub fn assigned(&self, alloc: Global, body: &[Command]) -> Result<VarSet, AllocError>
         ensures { IfOk result (λ xs. xs ≡ changes_in self.now.calls (block_of body.now)) }
     {

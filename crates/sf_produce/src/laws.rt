@@ -1,5 +1,5 @@
-//! What assuming a conjunct keeps. Each function is a law: calling it gives its fact to the caller's proof, and does
-//! nothing.
+//! What assuming a conjunct keeps. Each function is a law: calling it gives its fact to the
+//! caller's proof, and does nothing.
 
 ghost use Rattle.sf_produce.specs.Laws.{AddKeepsGoals};
 

@@ -1,5 +1,5 @@
-//! Production: what is to be assumed becomes what is known. The specs/ have the row: what assuming the first
-//! conjunct leaves of a goal.
+//! Production: what is to be assumed becomes what is known. The specs/ have the row: what assuming
+//! the first conjunct leaves of a goal.
 //!
 //! - `operands`: operands that are met, and what existentials get by that.
 //! - `rows`: the row of what is assumed.

@@ -10,7 +10,8 @@ use sf_core::Operand;
 use sf_sym::{FieldTerms, Pending, State, Term, term_of};
 use std::alloc::{AllocError, Global};
 
-/// The term of an operand, which is a fresh symbol where it is an existential that is met for the first time.
+/// The term of an operand, which is a fresh symbol where it is an existential that is met for the
+/// first time.
 pub(crate) fn met(state: &mut State, given: &mut Pending, x: Operand<Term>) -> Term
     requires { state.old.next_sym + one_if_existential x < 2 ^ 32 }
     ensures met { met_of state.new given.new.bindings result ≡ met state.old given.old.bindings x }

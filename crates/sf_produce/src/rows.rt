@@ -14,8 +14,8 @@ use sf_core::{Conjunct, Operand, Test};
 use sf_sym::{Atom, Goal, Pending, Term, with_add};
 use std::alloc::{AllocError, Global};
 
-/// add: of a goal with these conjuncts to assume in front, the first is assumed. `None` exactly where there is none
-/// or it is a choice; an `Err` means out of memory.
+/// add: of a goal with these conjuncts to assume in front, the first is assumed. `None` exactly
+/// where there is none or it is a choice; an `Err` means out of memory.
 pub fn produce<'a>(
     alloc: Global,
     goal: Goal<'a>,
@@ -47,8 +47,9 @@ pub fn produce<'a>(
 
 /// The goal with those other conjuncts to assume first. An `Err` means out of memory.
 fn goal_after<'a>(goal: Goal<'a>, place: Place, given: Pending) -> Result<Goal<'a>, AllocError>
-    ensures { IfOk result (λ g. goal_of g ≡ goal_after goal.entry.state place (pending_of given).conjuncts
-        given.bindings (goal_of goal.entry).todo) }
+    ensures { IfOk result (λ g. goal_of g
+        ≡ goal_after goal.entry.state place (pending_of given).conjuncts given.bindings
+        (goal_of goal.entry).todo) }
 {
     let Goal { state, todo } = goal;
     let todo = with_add(todo, place, given)?;

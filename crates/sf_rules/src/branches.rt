@@ -15,8 +15,8 @@ use sf_core::{Command, Conjunct, Level};
 use sf_sym::{Goal, Item, Pending, State, Term, with_add, with_take};
 use std::alloc::AllocError;
 
-/// then where `so`, else: a choice goes where its test is decided so, and its branch for that takes its place.
-/// `None` exactly where there is no row; an `Err` means out of memory.
+/// then where `so`, else: a choice goes where its test is decided so, and its branch for that takes
+/// its place. `None` exactly where there is no row; an `Err` means out of memory.
 pub(crate) fn branch<'a>(so: bool, goal: Goal<'a>) -> Result<Option<Children<'a>>, AllocError>
     ensures { IfOk result (λ left. option_map children_of left
         ≡ branch_row so goal.entry.state (todo_of goal.entry.todo.items)) }
@@ -70,8 +70,8 @@ fn branch_of_command<'a>(
     }
 }
 
-/// The conjuncts with the branch for that of the first, a choice, in its place. `None` exactly where the first
-/// is none, or its test isn't decided so; an `Err` means out of memory.
+/// The conjuncts with the branch for that of the first, a choice, in its place. `None` exactly
+/// where the first is none, or its test isn't decided so; an `Err` means out of memory.
 fn chosen(so: bool, state: &State, mut given: Pending) -> Result<Option<Pending>, AllocError>
     ensures { IfOk result (λ r. option_map pending_of r
         ≡ chosen so state.now (pending_of given) (pending_of given).conjuncts) }

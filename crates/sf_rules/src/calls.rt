@@ -174,7 +174,8 @@ fn call_two<'a>(
 ) -> Result<Option<Children<'a>>, AllocError>
     requires { IsTrue (has_numbers goal.state) }
     ensures { IfOk result (λ goals. option_map children_of goals
-        ≡ forked_with calls.now goal.entry.state place (call_of left.entry.0.now) (call_of right.entry.0.now)
+        ≡ forked_with calls.now goal.entry.state place
+        (call_of left.entry.0.now) (call_of right.entry.0.now)
         (assertion_of left.entry.1.pre.now) (assertion_of left.entry.1.post.now)
         (assertion_of right.entry.1.pre.now) (assertion_of right.entry.1.post.now)
         (todo_of goal.entry.todo.items)) }
@@ -232,7 +233,8 @@ fn unknown_after_both(
     requires { from + TOO_MANY ≤ 2 ^ 32 }
     ensures some { IfOk result (λ found. IfSome found (λ both.
         (both.0.items ≡ fresh_for from (changed calls.now (call_of left.now)))
-        × (both.1.items ≡ fresh_for (from + length both.0.items) (changed calls.now (call_of right.now)))
+        × (both.1.items
+        ≡ fresh_for (from + length both.0.items) (changed calls.now (call_of right.now)))
         × (length both.0.items + length both.1.items < TOO_MANY))) }
     ensures none { IfOk result (λ found. IfNone found
         (nat_lt (length (fresh_for from (changed calls.now (call_of left.now))

@@ -112,7 +112,8 @@ fn row_of<'a>(
     requires ordered { IsOrdering d.ordered }
     requires setting { d ≡ setting_of d.ordered arranged.now }
     requires numbers { IsTrue (has_numbers goal.state) }
-    ensures { IfOk result (λ left. option_map children_of left ≡ row_of d (goal_of goal.entry) tag) }
+    ensures { IfOk result (λ left.
+        option_map children_of left ≡ row_of d (goal_of goal.entry) tag) }
 {
     match tag {
         Tag::Procedure(_) => Ok(None),

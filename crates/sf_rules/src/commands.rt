@@ -58,8 +58,8 @@ pub(crate) fn look<'a>(mut goal: Goal<'a>, a: u32) -> Result<Option<Children<'a>
     }
 }
 
-/// The variable has the term of that field of the cell of that number at the root, which is a fresh symbol where it
-/// isn't known. `None` exactly where there is no such cell.
+/// The variable has the term of that field of the cell of that number at the root, which is a fresh
+/// symbol where it isn't known. `None` exactly where there is no such cell.
 fn look_up<'a>(
     mut goal: Goal<'a>,
     a: u32,

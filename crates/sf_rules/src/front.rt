@@ -73,8 +73,8 @@ pub(crate) fn take_front<'a>(todo: &mut Vec<Item<'a>>) -> Result<Option<Front<'a
     }
 }
 
-/// Takes the command in front. `None` exactly where something else is, or nothing; an `Err` means out of
-/// memory.
+/// Takes the command in front. `None` exactly where something else is, or nothing; an `Err` means
+/// out of memory.
 pub(crate) fn take_command<'a>(todo: &mut Vec<Item<'a>>) -> Result<Option<&'a Command>, AllocError>
     ensures some { IfOk result (λ r. IfSome r (λ c. todo_of todo.old.items
         ≡ run (command_of c.now) ∷ todo_of todo.new.items)) }
@@ -92,8 +92,8 @@ pub(crate) fn take_command<'a>(todo: &mut Vec<Item<'a>>) -> Result<Option<&'a Co
     }
 }
 
-/// Takes the conjuncts to assume in front. `None` exactly where something else is, or nothing; an `Err`
-/// means out of memory.
+/// Takes the conjuncts to assume in front. `None` exactly where something else is, or nothing; an
+/// `Err` means out of memory.
 pub(crate) fn take_add<'a>(todo: &mut Vec<Item<'a>>) -> Result<Option<(Place, Pending)>, AllocError>
     ensures some { IfOk result (λ r. IfSome r (λ x. todo_of todo.old.items
         ≡ add x.0 (pending_of x.1) ∷ todo_of todo.new.items)) }
@@ -111,8 +111,8 @@ pub(crate) fn take_add<'a>(todo: &mut Vec<Item<'a>>) -> Result<Option<(Place, Pe
     }
 }
 
-/// Takes the conjuncts to show in front. `None` exactly where something else is, or nothing; an `Err`
-/// means out of memory.
+/// Takes the conjuncts to show in front. `None` exactly where something else is, or nothing; an
+/// `Err` means out of memory.
 pub(crate) fn take_take<'a>(
     todo: &mut Vec<Item<'a>>,
 ) -> Result<Option<(Place, Pending, &'a [Name])>, AllocError>
@@ -132,8 +132,8 @@ pub(crate) fn take_take<'a>(
     }
 }
 
-/// Takes the end of a loop's body in front. `None` exactly where something else is, or nothing; an `Err`
-/// means out of memory.
+/// Takes the end of a loop's body in front. `None` exactly where something else is, or nothing; an
+/// `Err` means out of memory.
 pub(crate) fn take_again<'a>(
     todo: &mut Vec<Item<'a>>,
 ) -> Result<Option<(Place, &'a Assertion)>, AllocError>
@@ -172,8 +172,8 @@ pub(crate) fn take_exit<'a>(todo: &mut Vec<Item<'a>>) -> Result<Option<(Place, R
     }
 }
 
-/// Takes the end of the procedure in front. `None` exactly where something else is, or nothing; an `Err`
-/// means out of memory.
+/// Takes the end of the procedure in front. `None` exactly where something else is, or nothing; an
+/// `Err` means out of memory.
 pub(crate) fn take_return<'a>(
     todo: &mut Vec<Item<'a>>,
 ) -> Result<Option<(Place, &'a Assertion)>, AllocError>
@@ -193,8 +193,8 @@ pub(crate) fn take_return<'a>(
     }
 }
 
-/// Takes what is said in front of what was taken: the variables that are set, and those that are removed. `None`
-/// exactly where something else is in front, or nothing; an `Err`
+/// Takes what is said in front of what was taken: the variables that are set, and those that are
+/// removed. `None` exactly where something else is in front, or nothing; an `Err`
 /// means out of memory.
 pub(crate) fn take_gave<'a>(
     todo: &mut Vec<Item<'a>>,
@@ -202,8 +202,8 @@ pub(crate) fn take_gave<'a>(
     ensures some { IfOk result (λ r. IfSome r (λ x. (p : PlaceOf)
         × (todo_of todo.old.items ≡ gave p x.0.items x.1.items ∷ todo_of todo.new.items))) }
     ensures none { IfOk result (λ r. IfNone r
-        ((row : PlaceOf → List (Variable × TermOf) → List Variable → List Thing → Option (List GoalOf))
-        → at_gave row (todo_of todo.old.items) ≡ None)) }
+        ((row : PlaceOf → List (Variable × TermOf) → List Variable → List Thing
+        → Option (List GoalOf)) → at_gave row (todo_of todo.old.items) ≡ None)) }
 {
     let Some(front) = take_front(todo)? else {
         return Ok(None);
@@ -228,8 +228,8 @@ pub(crate) struct Loop<'a> {
     pub body: &'a [Command],
 }
 
-/// Takes the loop in front whose invariant was handed over. `None` exactly where something else is, or nothing; an `Err`
-/// means out of memory.
+/// Takes the loop in front whose invariant was handed over. `None` exactly where something else is,
+/// or nothing; an `Err` means out of memory.
 pub(crate) fn take_head<'a>(todo: &mut Vec<Item<'a>>) -> Result<Option<Loop<'a>>, AllocError>
     ensures some { IfOk result (λ r. IfSome r (λ x. todo_of todo.old.items
         ≡ head x.place x.test.now (assertion_of x.invariant.now) (block_of x.body.now)
@@ -253,8 +253,8 @@ pub(crate) fn take_head<'a>(todo: &mut Vec<Item<'a>>) -> Result<Option<Loop<'a>>
     }
 }
 
-/// Takes the end of all, if it is in front: whether it was. `false` exactly where something else is in front, or
-/// nothing; an `Err` means out of memory.
+/// Takes the end of all, if it is in front: whether it was. `false` exactly where something else is
+/// in front, or nothing; an `Err` means out of memory.
 pub(crate) fn take_end(todo: &mut Vec<Item<'_>>) -> Result<bool, AllocError>
     ensures some { IfOk result (λ b. b ≡ true
         → (p : PlaceOf) × (todo_of todo.old.items ≡ end p ∷ todo_of todo.new.items)) }

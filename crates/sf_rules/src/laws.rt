@@ -1,6 +1,6 @@
-//! What is in front of each row of the table, and what the rows of commands and of conjuncts do to what
-//! a goal stands for. Each function is a law: calling it gives its fact to the caller's proof, and does
-//! nothing.
+//! What is in front of each row of the table, and what the rows of commands and of conjuncts do to
+//! what a goal stands for. Each function is a law: calling it gives its fact to the caller's proof,
+//! and does nothing.
 
 ghost use Rattle.sf_rules.specs.LawsOfSettings.{ArrangedHasSetting, SettingExists, SettingIsUnique};
 ghost use Rattle.sf_rules.specs.RowCases.{RowsHaveCases};
@@ -70,7 +70,8 @@ pub fn assume_keeps_goals()
     add_keeps_goals();
 }
 
-/// Wherever a goal holds with a choice to assume first, it holds with the branch in its place that its test decides.
+/// Wherever a goal holds with a choice to assume first, it holds with the branch in its place that
+/// its test decides.
 #[tactic(auto, using(crate::proofs::ConjunctLaws::assumed_branch_keeps_goals))]
 pub fn assumed_branch_keeps_goals()
     ensures { AssumedBranchKeepsGoals }

@@ -30,7 +30,8 @@ use sf_precise::{OrderFault, order};
 use sf_sym::{Goal, Item, Pending, State, Term, with_add, with_take};
 use std::alloc::{AllocError, Global};
 
-/// The conjuncts of an assertion, in order, with the terms that its variables have now. An `Err` means out of memory.
+/// The conjuncts of an assertion, in order, with the terms that its variables have now. An `Err`
+/// means out of memory.
 pub(crate) fn pending_in_order(
     alloc: Global,
     vars: &[(Var, Term)],
@@ -40,7 +41,8 @@ pub(crate) fn pending_in_order(
     requires { IsOrdering d.ordered }
     ensures pending { IfOk result (λ given. pending_of given
         ≡ pending_assertion (term vars.now) (d.ordered (assertion_of a.now))) }
-    ensures names { IfOk result (λ _. (d.ordered (assertion_of a.now)).names ≡ (assertion_of a.now).names) }
+    ensures names { IfOk result (λ _.
+        (d.ordered (assertion_of a.now)).names ≡ (assertion_of a.now).names) }
 {
     match order(alloc, a) {
         Ok(o) => pending(alloc, Terms::Of(vars), &o.assertion),
@@ -76,8 +78,8 @@ pub(crate) fn begin_loop<'a>(
     }
 }
 
-/// around: what the body may change is unknown, where it has a term. First the body once, second what
-/// comes after the loop.
+/// around: what the body may change is unknown, where it has a term. First the body once, second
+/// what comes after the loop.
 pub(crate) fn around<'a>(
     alloc: Global,
     calls: &Calls,
@@ -124,7 +126,8 @@ fn is_listed(vars: &[(Var, Term)], x: Var) -> bool
     vars.iter().any(|v| v.0.is_same(x))
 }
 
-/// The body once, from the invariant alone and where the test is true. An `Err` means out of memory.
+/// The body once, from the invariant alone and where the test is true. An `Err` means out of
+/// memory.
 fn body_once<'a>(alloc: Global, mut state: State, l: &Loop<'a>) -> Result<Goal<'a>, AllocError>
     ghost d: { Setting }
     requires { IsOrdering d.ordered }
@@ -142,8 +145,8 @@ fn body_once<'a>(alloc: Global, mut state: State, l: &Loop<'a>) -> Result<Goal<'
     Ok(Goal { state, todo })
 }
 
-/// What comes after the loop, from the invariant beside what was kept and where the test is false. An `Err` means out
-/// of memory.
+/// What comes after the loop, from the invariant beside what was kept and where the test is false.
+/// An `Err` means out of memory.
 fn after_loop<'a>(
     alloc: Global,
     mut state: State,

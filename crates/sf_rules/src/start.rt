@@ -68,7 +68,8 @@ fn first_state(
 fn held_variables(alloc: Global, arranged: &Arranged, f: ProcId) -> Result<Vec<Var>, AllocError>
     requires { f.0 < length arranged.now.program.procedures.items }
     ensures variables { IfOk result (λ xs. xs.items
-        ≡ flat_map (variables_of (program_of arranged.now.program)) (get_or arranged.now.calls.holds f.0 [])) }
+        ≡ flat_map (variables_of (program_of arranged.now.program))
+        (get_or arranged.now.calls.holds f.0 [])) }
     ensures few { IfOk result (λ xs. length xs.items < 2 ^ 20) }
 {
     sets_from_truncation();
@@ -80,7 +81,8 @@ fn held_variables(alloc: Global, arranged: &Arranged, f: ProcId) -> Result<Vec<V
 fn variables_of_all(alloc: Global, p: &Program, rs: &[ResId]) -> Result<Vec<Var>, AllocError>
     requires rising { AllPairs IsEarlierResource rs.now }
     requires there { All (λ r. r.0 < length (program_of p.now).resources) rs.now }
-    ensures variables { IfOk result (λ xs. xs.items ≡ flat_map (variables_of (program_of p.now)) rs.now) }
+    ensures variables { IfOk result (λ xs.
+        xs.items ≡ flat_map (variables_of (program_of p.now)) rs.now) }
     ensures few { IfOk result (λ xs. length xs.items < 2 ^ 20) }
 {
     let mut found = Vec::new(alloc);
@@ -101,7 +103,8 @@ fn links_of(p: &Program) -> Links
     p.links
 }
 
-/// The terms of a procedure's own variables at first: fresh symbols for the parameters, nil for the locals.
+/// The terms of a procedure's own variables at first: fresh symbols for the parameters, nil for the
+/// locals.
 fn first_vars(alloc: Global, parameters: u32, count: u32) -> Result<Vec<(Var, Term)>, AllocError>
     requires { parameters ≤ count }
     ensures { IfOk result (λ vars. vars.items

@@ -1,5 +1,5 @@
-//! Laws that join reading files with writing states. Each function only cites other laws; its contract
-//! is the law.
+//! Laws that join reading files with writing states. Each function only cites other laws; its
+//! contract is the law.
 
 ghost use Rattle.sf_running_tests.specs.Laws.{ProgramsThatAreReadHaveNames, WrittenStatesOfFilesReadBack};
 
@@ -7,8 +7,8 @@ use sf_elab::laws::{elaborated_is_formed, names_are_unique};
 use sf_lex::laws::each_token_is_its_text;
 use sf_state::laws::written_states_read_back;
 
-/// The names of each program that a file is are names that a state's text can have, and those of one
-/// kind differ.
+/// The names of each program that a file is are names that a state's text can have, and those of
+/// one kind differ.
 pub fn programs_that_are_read_have_names()
     ensures { ProgramsThatAreReadHaveNames }
 {

@@ -1,6 +1,6 @@
 //! Tests of states' texts, of the machine that runs and of runs of one task, by the public calls of
-//! their crates, and laws that join these crates. They are in a crate of their own so that the crates
-//! that they test needn't be proved once more with them.
+//! their crates, and laws that join these crates. They are in a crate of their own so that the
+//! crates that they test needn't be proved once more with them.
 //!
 //! - `laws`: that what is written of a run of a file's program is read back.
 //! - `files`: programs from their texts, and starts of their procedures.

@@ -79,8 +79,8 @@ fn run_text<R: Threads + Sync>(
 /// A run: its procedure, the text of its start, and its budget.
 type Row<'a> = (&'a str, &'a [u8], Budget);
 
-/// What the run answers, of a procedure from which no parallel call can be reached, in a program that
-/// is proved.
+/// What the run answers, of a procedure from which no parallel call can be reached, in a program
+/// that is proved.
 fn answer<R: Threads + Sync>(
     rt: &R,
     alloc: Global,

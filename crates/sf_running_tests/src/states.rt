@@ -1,5 +1,5 @@
-//! `read` and `write` of states' texts, for files that are read from their texts. The answers were worked out by
-//! hand.
+//! `read` and `write` of states' texts, for files that are read from their texts. The answers were
+//! worked out by hand.
 
 use crate::files::fitted;
 use sf_foot::{Finish, Start};

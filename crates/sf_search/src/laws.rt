@@ -47,8 +47,9 @@ pub fn taken_tags_have_rows()
     ensures { TakenTagsHaveRows }
 {}
 
-/// So where a search ends at a tag without a row, its tags have led to a goal that isn't as goals of
-/// programs are: numbers ran out, it needs too many symbols at once, or no program has such a goal.
+/// So where a search ends at a tag without a row, its tags have led to a goal that isn't as goals
+/// of programs are: numbers ran out, it needs too many symbols at once, or no program has such a
+/// goal.
 #[tactic(auto, using(crate::proofs::Rowless::goals_without_row_lack_shape))]
 pub fn goals_without_row_lack_shape()
     ensures { GoalsWithoutRowLackShape }

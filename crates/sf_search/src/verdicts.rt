@@ -177,9 +177,9 @@ fn choose_knowing(alloc: Global, goal: &Goal, known: Known) -> Result<Choice, Al
     }
 }
 
-/// Takes the tag at a goal: what it leaves goes on the stack, and the tag after the tags. Where what
-/// is known of the goal's state is so, and the strategy takes the tag, the answer says what is known
-/// of the next goal's state.
+/// Takes the tag at a goal: what it leaves goes on the stack, and the tag after the tags. Where
+/// what is known of the goal's state is so, and the strategy takes the tag, the answer says what is
+/// known of the next goal's state.
 fn follow<'a>(
     alloc: Global,
     arranged: &'a Arranged,

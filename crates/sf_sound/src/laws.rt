@@ -1,5 +1,5 @@
-//! What a proof promises. The function is a law: calling it gives its fact to the caller's proof, and
-//! does nothing.
+//! What a proof promises. The function is a law: calling it gives its fact to the caller's proof,
+//! and does nothing.
 
 ghost use Rattle.sf_sound.specs.Proofs.{ProofsAreSound};
 

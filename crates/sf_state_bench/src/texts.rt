@@ -21,8 +21,8 @@ fn put_cell(text: &mut Vec<u8>, at: u64, next: Option<u64>) -> Result<(), AllocE
     Ok(())
 }
 
-/// The cells in the order of the list, which goes each time so many locations further, and around at
-/// the end. It has all cells where the step has no divisor in common with their number.
+/// The cells in the order of the list, which goes each time so many locations further, and around
+/// at the end. It has all cells where the step has no divisor in common with their number.
 pub fn listed(alloc: Global, count: u32, step: u32) -> Result<Vec<u8>, AllocError> {
     let mut text = Vec::from_slice(alloc, b"p = @1\n")?;
     let mut here: u64 = 0;

@@ -12,8 +12,8 @@ use smallvec::SmallVec;
 use std::alloc::{AllocError, AllocFailed, Global};
 use std::marker::Model;
 
-/// The terms of the fields of a cell that are known, in declared order, each field once. Contracts see
-/// it as the list.
+/// The terms of the fields of a cell that are known, in declared order, each field once. Contracts
+/// see it as the list.
 #[derive(Drop)]
 pub struct FieldTerms {
     items: SmallVec<(FieldId, Term), 4>,

@@ -20,7 +20,8 @@ pub enum Item<'a> {
     /// Show these conjuncts and hand their parts of the heap over. The names are those of their
     /// existentials, by number.
     Take(Place, Pending, &'a [Name]),
-    /// What was taken is gone for good: these variables have these terms, and these ones are removed.
+    /// What was taken is gone for good: these variables have these terms, and these ones are
+    /// removed.
     Gave(Place, Vec<(Var, Term)>, Vec<Var>),
     /// A loop whose invariant was handed over: its test, its invariant and its body.
     Head(Place, &'a Test<Expr>, &'a Assertion, &'a [Command]),
@@ -44,10 +45,10 @@ pub struct Goal<'a> {
 }
 
 impl Goal<'_> {
-    /// Assumes that the two terms are the same: one that is a symbol is replaced by the other wherever it
-    /// occurs, of two symbols the greater. Two constants can't be the same, and then nil is to differ from
-    /// itself. Memory is wanted for that alone: an `Err` means that there is none, and then nothing
-    /// changes.
+    /// Assumes that the two terms are the same: one that is a symbol is replaced by the other
+    /// wherever it occurs, of two symbols the greater. Two constants can't be the same, and then
+    /// nil is to differ from itself. Memory is wanted for that alone: an `Err` means that there is
+    /// none, and then nothing changes.
     pub fn assume_equal(&mut self, t: Term, u: Term) -> Result<(), AllocError>
         ensures ok { OnOk result (goal_of self.new ≡ assumed_equal t u (goal_of self.old)) }
         ensures err { OnErr result (self.new ≡ self.old) }

@@ -1,5 +1,5 @@
-//! What the tests of a state tell of each store and heap of which a goal with that state holds. Each
-//! function is a law: calling it gives its fact to the caller's proof, and does nothing.
+//! What the tests of a state tell of each store and heap of which a goal with that state holds.
+//! Each function is a law: calling it gives its fact to the caller's proof, and does nothing.
 
 ghost use Rattle.sf_sym.specs.Laws.{AllocatedTermsAreLocations, AssumedTermsAreBelow, DifferingTermsDiffer, DifferingTermsMayBeAssumed, EqualTermsMayBeAssumed, HeldStatesAreNotAbsurd, HoldsOnTwoHeaps, OtherSymbolsAreFree, RestatedTermsAreSet};
 
@@ -21,8 +21,8 @@ pub fn held_states_are_not_absurd()
     ensures { HeldStatesAreNotAbsurd }
 {}
 
-/// A goal holds of a heap exactly where it holds of two parts of it: what is there, and what was handed
-/// over.
+/// A goal holds of a heap exactly where it holds of two parts of it: what is there, and what was
+/// handed over.
 #[tactic(auto, using(crate::specs::Lemmas::TwoHeaps::holds_on_two_heaps))]
 pub fn holds_on_two_heaps()
     ensures { HoldsOnTwoHeaps }
@@ -46,14 +46,15 @@ pub fn differing_terms_may_be_assumed()
     ensures { DifferingTermsMayBeAssumed }
 {}
 
-/// A goal still speaks of symbols below its next one only, where two terms of such symbols are assumed to
-/// be the same or to differ.
+/// A goal still speaks of symbols below its next one only, where two terms of such symbols are
+/// assumed to be the same or to differ.
 #[tactic(auto, using(crate::specs::Lemmas::TwoHeaps::assumed_terms_are_below))]
 pub fn assumed_terms_are_below()
     ensures { AssumedTermsAreBelow }
 {}
 
-/// Variables are to get terms of the same values where what is still to do is the same with other terms.
+/// Variables are to get terms of the same values where what is still to do is the same with other
+/// terms.
 #[tactic(auto, using(crate::specs::Lemmas::Restated::restated_terms_are_set))]
 pub fn restated_terms_are_set()
     ensures { RestatedTermsAreSet }

@@ -1,5 +1,6 @@
-//! Symbolic states and goals: what is known at a point of a procedure, and what is still to do there.
-//! The specs/ say which stores and heaps a goal stands for (`Holds`), and what the tests of a state are.
+//! Symbolic states and goals: what is known at a point of a procedure, and what is still to do
+//! there. The specs/ say which stores and heaps a goal stands for (`Holds`), and what the tests of
+//! a state are.
 //!
 //! - `term`: values as a state knows them.
 //! - `atom`: the parts of a heap, as a state knows them.

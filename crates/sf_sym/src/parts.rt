@@ -1,5 +1,5 @@
-//! The parts of a heap in order of their numbers: one is found by a binary search, and one that goes
-//! moves the fewer of the others, so that many that go from the front take little time.
+//! The parts of a heap in order of their numbers: one is found by a binary search, and one that
+//! goes moves the fewer of the others, so that many that go from the front take little time.
 
 ghost use Rattle.std.specs.Prelude.{◌≡◌, ◌<◌, ◌++◌, [], ◌∷◌, length, map, true, drop, is_some, slice_index_or, IfOk, IfSome, List, OnErr, OnOk};
 ghost use Rattle.std.specs.List.{remove};
@@ -117,8 +117,8 @@ impl Parts {
         Some(atom)
     }
 
-    /// Writes a field of the cell of that number at the root. An `Err` means out of memory, and then
-    /// nothing changes.
+    /// Writes a field of the cell of that number at the root. An `Err` means out of memory, and
+    /// then nothing changes.
     pub(crate) fn write_field(
         &mut self,
         a: u32,
@@ -144,7 +144,8 @@ impl Parts {
         Ok(())
     }
 
-    /// Takes the part at that index out; those before it move, or those behind it, whichever are fewer.
+    /// Takes the part at that index out; those before it move, or those behind it, whichever are
+    /// fewer.
     fn remove(&mut self, i: usize) -> Numbered
         requires { i < length self.old }
         ensures value { result ≡ slice_index_or self.old i result }

@@ -13,8 +13,8 @@ use sf_core::Conjunct;
 use std::alloc::{AllocError, Global};
 use std::marker::Model;
 
-/// Conjuncts with terms that are still to be assumed or to be shown, and what their existentials stand
-/// for so far. Contracts see it as the record `Given`.
+/// Conjuncts with terms that are still to be assumed or to be shown, and what their existentials
+/// stand for so far. Contracts see it as the record `Given`.
 #[derive(Drop)]
 pub struct Pending {
     // The next one last, so that taking it costs nothing.
@@ -72,7 +72,8 @@ impl Pending {
         self.bindings.as_slice()
     }
 
-    /// The existential of that number stands for the term from now on, if there is one of that number.
+    /// The existential of that number stands for the term from now on, if there is one of that
+    /// number.
     pub fn bind(&mut self, n: u32, t: Term)
         ensures conjuncts { self.new.conjuncts ≡ self.old.conjuncts }
         ensures bindings { self.new.bindings ≡ set self.old.bindings n (Some t) }
@@ -93,17 +94,19 @@ impl Pending {
         }
     }
 
-    /// Puts two conjuncts in place of the first, which is handed out. An `Err` means out of memory, and
-    /// then nothing changes.
+    /// Puts two conjuncts in place of the first, which is handed out. An `Err` means out of memory,
+    /// and then nothing changes.
     pub fn split_first(
         &mut self,
         one: Conjunct<Term>,
         two: Conjunct<Term>,
     ) -> Result<Conjunct<Term>, AllocError>
         requires { 0 < length self.old.conjuncts }
-        ensures taken { IfOk result (λ c. (first : ConjunctOf TermOf) (rest : List (ConjunctOf TermOf))
+        ensures taken { IfOk result (λ c.
+            (first : ConjunctOf TermOf) (rest : List (ConjunctOf TermOf))
             → self.old.conjuncts ≡ first ∷ rest → c ≡ first) }
-        ensures conjuncts { OnOk result ((first : ConjunctOf TermOf) (rest : List (ConjunctOf TermOf))
+        ensures conjuncts { OnOk result (
+            (first : ConjunctOf TermOf) (rest : List (ConjunctOf TermOf))
             → self.old.conjuncts ≡ first ∷ rest → self.new.conjuncts ≡ one ∷ two ∷ rest) }
         ensures bindings { self.new.bindings ≡ self.old.bindings }
         ensures err { OnErr result (self.new ≡ self.old) }
@@ -136,8 +139,8 @@ impl Pending {
         self.conjuncts.pop()
     }
 
-    /// Puts these conjuncts, in order, before the others. An `Err` means out of memory, and then nothing
-    /// changes.
+    /// Puts these conjuncts, in order, before the others. An `Err` means out of memory, and then
+    /// nothing changes.
     pub fn put_before(&mut self, mut first: Vec<Conjunct<Term>>) -> Result<(), AllocError>
         ensures conjuncts { OnOk result (self.new.conjuncts ≡ first.items ++ self.old.conjuncts) }
         ensures bindings { self.new.bindings ≡ self.old.bindings }

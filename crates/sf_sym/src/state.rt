@@ -23,8 +23,8 @@ use sf_core::Links;
 use std::alloc::{AllocError, Global};
 use std::marker::Model;
 
-/// What is known of the variables and of the heap at one point of a procedure. Contracts see it as the
-/// record `State`; what isn't listed there is how the code finds things.
+/// What is known of the variables and of the heap at one point of a procedure. Contracts see it as
+/// the record `State`; what isn't listed there is how the code finds things.
 #[derive(Drop)]
 pub struct State {
     links: Links,
@@ -50,8 +50,8 @@ impl Model for State {
 }
 
 impl State {
-    /// The state that knows these terms of the variables, which have the symbols below `next_sym`, and
-    /// nothing of the heap. The variables are in order, each once.
+    /// The state that knows these terms of the variables, which have the symbols below `next_sym`,
+    /// and nothing of the heap. The variables are in order, each once.
     pub fn new(alloc: Global, links: Links, vars: Vec<(Var, Term)>, next_sym: u32) -> State
         requires { AreInOrder vars.items }
         ensures { result ≡ first_state links vars.items next_sym }
@@ -115,7 +115,8 @@ impl State {
         self.atoms.as_slice()
     }
 
-    /// The parts that were handed over in the subtraction now under way, in the order in which they were.
+    /// The parts that were handed over in the subtraction now under way, in the order in which they
+    /// were.
     pub fn taken(&self) -> &[Numbered]
         ensures { result.now ≡ self.now.taken }
     {
@@ -136,8 +137,8 @@ impl State {
         self.next_atom
     }
 
-    /// The numbers of the atoms rise, the taken ones have others, and all are below the next one. Calling
-    /// it gives that to the caller's proof, and does nothing.
+    /// The numbers of the atoms rise, the taken ones have others, and all are below the next one.
+    /// Calling it gives that to the caller's proof, and does nothing.
     pub fn is_numbered(&self)
         ensures { AreNumbered (numbers self.now.atoms) (numbers self.now.taken) self.now.next_atom }
     {
@@ -205,8 +206,8 @@ impl State {
         Ok(())
     }
 
-    /// The variables with their terms as they are where those are set, one after the other; the state
-    /// keeps its own. An `Err` means out of memory.
+    /// The variables with their terms as they are where those are set, one after the other; the
+    /// state keeps its own. An `Err` means out of memory.
     pub fn vars_after(
         &self,
         alloc: Global,
@@ -218,7 +219,8 @@ impl State {
         Ok(vars)
     }
 
-    /// Gives each of the variables a fresh symbol. An `Err` means out of memory, and then nothing changes.
+    /// Gives each of the variables a fresh symbol. An `Err` means out of memory, and then nothing
+    /// changes.
     pub fn set_fresh(&mut self, xs: &[Var]) -> Result<(), AllocError>
         requires { self.old.next_sym + length xs.now < 2 ^ 32 }
         ensures ok { OnOk result (self.new ≡ with_fresh xs.now self.old) }
@@ -271,8 +273,8 @@ impl State {
         self.atoms.take_out(a)
     }
 
-    /// One more cell: it has the next number, and a symbol at which it is differs from nil. An `Err`
-    /// means out of memory, and then nothing changes.
+    /// One more cell: it has the next number, and a symbol at which it is differs from nil. An
+    /// `Err` means out of memory, and then nothing changes.
     pub fn add_cell(&mut self, root: Term, fields: FieldTerms) -> Result<(), AllocError>
         requires { self.old.next_atom + 1 < 2 ^ 32 }
         ensures ok { OnOk result (self.new ≡ with_cell self.old root fields) }
@@ -307,8 +309,8 @@ impl State {
         r.in_atoms(&mut self.taken);
     }
 
-    /// Writes a field of the cell of that number at the root. An `Err` means out of memory, and then
-    /// nothing changes.
+    /// Writes a field of the cell of that number at the root. An `Err` means out of memory, and
+    /// then nothing changes.
     pub fn write_field(&mut self, a: u32, root: Term, f: FieldId, u: Term) -> Result<(), AllocError>
         requires { is_some (cell_at self.old.atoms a root) ≡ true }
         ensures ok { OnOk result (state_after_write self.old root f u a ≡ Some self.new) }
@@ -318,8 +320,8 @@ impl State {
         Ok(())
     }
 
-    /// A copy of the fields of the atom of that number, where it is a cell at that term. An `Err` means out
-    /// of memory.
+    /// A copy of the fields of the atom of that number, where it is a cell at that term. An `Err`
+    /// means out of memory.
     #[tactic(auto, using(crate::proofs::Indices::cell_of_atom))]
     pub fn copy_cell(&self, a: u32, root: Term) -> Result<Option<FieldTerms>, AllocError>
         ensures { IfOk result (λ fields. fields ≡ cell_at self.now.atoms a root) }
@@ -330,8 +332,8 @@ impl State {
         }
     }
 
-    /// Hands the atom of that number over: it goes from the atoms to the taken ones. An `Err` means out of
-    /// memory, and then nothing changes.
+    /// Hands the atom of that number over: it goes from the atoms to the taken ones. An `Err` means
+    /// out of memory, and then nothing changes.
     pub fn hand_over_atom(&mut self, a: u32) -> Result<(), AllocError>
         requires { is_some (atom_at self.old.atoms a) ≡ true }
         ensures ok { OnOk result ((x : AtomOf) → atom_at self.old.atoms a ≡ Some x
@@ -346,8 +348,8 @@ impl State {
         Ok(())
     }
 
-    /// Hands the cell of that number at the root over with these fields, for which new symbols were used up
-    /// to that number. An `Err` means out of memory, and then nothing changes.
+    /// Hands the cell of that number at the root over with these fields, for which new symbols were
+    /// used up to that number. An `Err` means out of memory, and then nothing changes.
     pub fn hand_over_cell(
         &mut self,
         a: u32,
@@ -370,8 +372,8 @@ impl State {
         Ok(())
     }
 
-    /// Hands the cell of that number at the root over: it goes from the atoms to the taken ones. An `Err`
-    /// means out of memory, and then nothing changes.
+    /// Hands the cell of that number at the root over: it goes from the atoms to the taken ones. An
+    /// `Err` means out of memory, and then nothing changes.
     pub fn hand_over(&mut self, a: u32, root: Term) -> Result<(), AllocError>
         requires { is_some (cell_at self.old.atoms a root) ≡ true }
         ensures ok { OnOk result ((fields : List (FieldNumber × TermOf))

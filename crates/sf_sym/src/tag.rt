@@ -1,7 +1,8 @@
 use crate::term::Term;
 use sf_base::ProcId;
 
-/// One step of a proof: which rule is applied to the open goal. A number names an atom of its state.
+/// One step of a proof: which rule is applied to the open goal. A number names an atom of its
+/// state.
 #[derive(Clone, Copy, Debug, PartialEq, Eq)]
 pub enum Tag {
     /// Begin with the first goal of this procedure.

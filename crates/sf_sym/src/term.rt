@@ -2,7 +2,8 @@ ghost use Rattle.std.specs.Prelude.{◌≡◌};
 ghost use Rattle.sf_sym.specs.Below.{is_below};
 ghost use Rattle.sf_sym.specs.Tests.{is_constant, same_term};
 
-/// A value as a state knows it. Terms are ordered: nil, the integers by value, the symbols by number.
+/// A value as a state knows it. Terms are ordered: nil, the integers by value, the symbols by
+/// number.
 #[derive(Clone, Copy, Debug, Default, PartialEq, Eq, PartialOrd, Ord, Hash)]
 pub enum Term {
     /// No location and no number.

@@ -13,8 +13,8 @@ use sf_base::Var;
 use std::alloc::{AllocError, Global};
 use std::marker::Model;
 
-/// The terms of the variables in reach, in the order of the variables, each once. Contracts see it as
-/// the list.
+/// The terms of the variables in reach, in the order of the variables, each once. Contracts see it
+/// as the list.
 #[derive(Drop)]
 pub(crate) struct VarTerms {
     items: Vec<(Var, Term)>,
@@ -77,8 +77,8 @@ impl VarTerms {
         Ok(())
     }
 
-    /// The variables with their terms, where those are set, one after the other. An `Err` means out of
-    /// memory.
+    /// The variables with their terms, where those are set, one after the other. An `Err` means out
+    /// of memory.
     pub(crate) fn after(
         &self,
         alloc: Global,
@@ -91,8 +91,8 @@ impl VarTerms {
         Ok(vars.items)
     }
 
-    /// Sets each of the variables to a symbol, from that number on. An `Err` means out of memory, and
-    /// then nothing changes.
+    /// Sets each of the variables to a symbol, from that number on. An `Err` means out of memory,
+    /// and then nothing changes.
     pub(crate) fn set_fresh(&mut self, from: u32, xs: &[Var]) -> Result<(), AllocError>
         requires { from + length xs.now < 2 ^ 32 }
         ensures ok { OnOk result (self.new ≡ set_vars (fresh_for from xs.now) self.old) }

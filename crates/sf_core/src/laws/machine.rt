@@ -23,9 +23,9 @@ ghost use Rattle.sf_core.specs.Machine.Laws.{
   OrderedTasksStopOnlyThere,
 };
 
-/// A task's step changes the slots and cells that it writes, the rooms that a call or fork makes and
-/// the cell that a `new` makes, and nothing else; and the one resource that changes hands is that of
-/// the region that the task enters or leaves.
+/// A task's step changes the slots and cells that it writes, the rooms that a call or fork makes
+/// and the cell that a `new` makes, and nothing else; and the one resource that changes hands is
+/// that of the region that the task enters or leaves.
 #[tactic(auto, using(crate::proofs::Machine::Laws::steps_write_only_their_footprint))]
 pub fn steps_write_only_their_footprint()
     ensures { StepsWriteOnlyTheirFootprint }
@@ -138,29 +138,29 @@ pub fn reached_configs_are_in_order()
     ensures { ReachedConfigsAreInOrder }
 {}
 
-/// In a configuration in order the variables that the next step of a task reads or writes are in the
-/// store, so the value that counts where a slot is absent is never met.
+/// In a configuration in order the variables that the next step of a task reads or writes are in
+/// the store, so the value that counts where a slot is absent is never met.
 #[tactic(auto, using(crate::proofs::Machine::Laws::used_slots_are_there))]
 pub fn used_slots_are_there()
     ensures { UsedSlotsAreThere }
 {}
 
-/// In a configuration in order a task that leaves a region holds its resource, so the condition of an
-/// exit is always met.
+/// In a configuration in order a task that leaves a region holds its resource, so the condition of
+/// an exit is always met.
 #[tactic(auto, using(crate::proofs::Machine::Laws::exits_are_of_held_resources))]
 pub fn exits_are_of_held_resources()
     ensures { ExitsAreOfHeldResources }
 {}
 
-/// In a configuration in order only an absent cell, a condition that is false, or 63 turns at a fork
-/// keep a task from its step.
+/// In a configuration in order only an absent cell, a condition that is false, or 63 turns at a
+/// fork keep a task from its step.
 #[tactic(auto, using(crate::proofs::Machine::Laws::ordered_tasks_stop_only_there))]
 pub fn ordered_tasks_stop_only_there()
     ensures { OrderedTasksStopOnlyThere }
 {}
 
-/// From a configuration in order that isn't bad, steps of different tasks commute, unless they enter
-/// or leave one resource, or the second makes a cell that the first makes or writes.
+/// From a configuration in order that isn't bad, steps of different tasks commute, unless they
+/// enter or leave one resource, or the second makes a cell that the first makes or writes.
 #[tactic(auto, using(crate::proofs::Machine::Laws::race_free_steps_commute))]
 pub fn race_free_steps_commute()
     ensures { RaceFreeStepsCommute }

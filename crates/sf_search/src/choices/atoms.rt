@@ -209,8 +209,9 @@ fn undecided_ends(state: &State, atom: &Atom) -> Option<(Term, Term)>
     }
 }
 
-/// The number of the lowest cell at the term. Where there is none the `Err` is what is done: a part of
-/// the heap that may begin with one is opened, and without one the goal would be stuck for that reason.
+/// The number of the lowest cell at the term. Where there is none the `Err` is what is done: a part
+/// of the heap that may begin with one is opened, and without one the goal would be stuck for that
+/// reason.
 pub(crate) fn at_cell(state: &State, t: Term, kind: Kind) -> Result<u32, Choice>
     requires { IsSettled state.now }
     ensures { MatchResult result

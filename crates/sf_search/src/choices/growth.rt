@@ -1,7 +1,7 @@
 //! What a tag puts behind the parts and pairs that a state had, and whether that leaves a settled
-//! state settled. A number above all symbols at which the parts begin is carried along, so that what
-//! begins at a later symbol needn't be compared with them; nor need what begins where a part was
-//! unrolled, since no other began there.
+//! state settled. A number above all symbols at which the parts begin is carried along, so that
+//! what begins at a later symbol needn't be compared with them; nor need what begins where a part
+//! was unrolled, since no other began there.
 
 ghost use Rattle.std.specs.Prelude.{◌≡◌, ◌≤◌, length};
 ghost use Rattle.std.specs.List.{list_all, list_any};
@@ -99,8 +99,8 @@ fn known_end(roots: Option<u64>, state: &State) -> Option<u64>
     }
 }
 
-/// A number above the symbols at which these parts begin, and no less than that one, if all begin at
-/// symbols.
+/// A number above the symbols at which these parts begin, and no less than that one, if all begin
+/// at symbols.
 fn end_of(from: u64, parts: &[Numbered]) -> Option<u64>
     ensures { result ≡ end_of from parts.now }
 {
@@ -126,8 +126,8 @@ fn next_end(from: u64, t: Term) -> Option<u64>
     }
 }
 
-/// Whether the first of the goals that are left is settled by what came to its state, where that was
-/// settled before and so much of it stays in front.
+/// Whether the first of the goals that are left is settled by what came to its state, where that
+/// was settled before and so much of it stays in front.
 pub(crate) fn grows_settled(staying: Option<Size>, left: &Children) -> bool
     ensures { result ≡ grows_settled staying (children_of left.now) }
 {
@@ -140,8 +140,8 @@ pub(crate) fn grows_settled(staying: Option<Size>, left: &Children) -> bool
     }
 }
 
-/// A number above the symbols at which the parts of the first of the goals that are left begin, where
-/// it is settled by what came to its state and one was known before.
+/// A number above the symbols at which the parts of the first of the goals that are left begin,
+/// where it is settled by what came to its state and one was known before.
 pub(crate) fn grown_roots(grown: bool, staying: Option<Size>, left: &Children) -> Option<u64>
     requires { grown ≡ grows_settled staying (children_of left.now) }
     ensures { result ≡ grown_roots staying (children_of left.now) }
@@ -168,8 +168,8 @@ fn roots_came(before: Size, state: &State) -> Option<u64>
     end_of(before.roots?, new_atoms)
 }
 
-/// Whether no terms differ and no part is a cell in the first of the goals that are left, where it is
-/// settled by what came to its state and none was one before.
+/// Whether no terms differ and no part is a cell in the first of the goals that are left, where it
+/// is settled by what came to its state and none was one before.
 pub(crate) fn grown_bare(grown: bool, staying: Option<Size>, left: &Children) -> bool
     requires { grown ≡ grows_settled staying (children_of left.now) }
     ensures { result ≡ grown_bare staying (children_of left.now) }
@@ -223,7 +223,8 @@ fn are_free_pairs(
     taken: &[Numbered],
     pairs: &[(Term, Term)],
 ) -> bool
-    ensures { result ≡ list_all (is_free_pair (is_free_before before atoms.now taken.now)) pairs.now }
+    ensures { result
+        ≡ list_all (is_free_pair (is_free_before before atoms.now taken.now)) pairs.now }
 {
     pairs.iter().all(|p| is_free_pair(before, atoms, taken, *p))
 }
@@ -256,8 +257,8 @@ fn is_bare(bare: bool, state: &State, new: &[Numbered]) -> bool
     !root.is_constant() && !part.atom.is_nothing() && is_uncovered(bare, state, part)
 }
 
-/// Whether neither the part nor another has a cell where it begins: where no other is a cell that is
-/// known, and else a look at them tells it.
+/// Whether neither the part nor another has a cell where it begins: where no other is a cell that
+/// is known, and else a look at them tells it.
 fn is_uncovered(bare: bool, state: &State, part: &Numbered) -> bool
     ensures { result ≡ is_uncovered bare state.now part.now }
 {

@@ -1,6 +1,6 @@
-//! What has a cell at a term of a settled state. Nothing else begins there, so the first such part that
-//! is found tells what is there. It is looked for from both ends of the parts: mostly it came last, or
-//! what came before it is gone.
+//! What has a cell at a term of a settled state. Nothing else begins there, so the first such part
+//! that is found tells what is there. It is looked for from both ends of the parts: mostly it came
+//! last, or what came before it is gone.
 
 ghost use Rattle.std.specs.Prelude.{◌≡◌, IfSome};
 ghost use Rattle.sf_search.specs.Internal.Holding.{HoldsAt, IsOpened, IsSoleCell};
@@ -8,7 +8,8 @@ ghost use Rattle.sf_search.specs.Internal.Settled.{IsSettled};
 
 use sf_sym::{Atom, Numbered, State, Term};
 
-/// What has a cell at a term: a cell, or a segment or tree that surely isn't empty, with its number.
+/// What has a cell at a term: a cell, or a segment or tree that surely isn't empty, with its
+/// number.
 #[derive(Clone, Copy)]
 pub(crate) enum Holder {
     Cell(u32),

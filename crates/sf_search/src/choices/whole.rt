@@ -55,7 +55,8 @@ pub(crate) fn choose_in_front(alloc: Global, goal: &Goal) -> Result<Choice, Allo
 #[tactic(auto, using(crate::proofs::Lowest::nothing_is_lowest, crate::proofs::Lowest::forced_is_lowest))]
 fn at_state(state: &State) -> Option<Choice>
     requires { is_absurd state.now ≡ false }
-    ensures choice { (c : AnyChoice) → or_else (option_map choice_of result) c ≡ at_state state.now c }
+    ensures choice { (c : AnyChoice)
+        → or_else (option_map choice_of result) c ≡ at_state state.now c }
     ensures settled { IfNone result (IsSettled state.now) }
 {
     state.is_numbered();
