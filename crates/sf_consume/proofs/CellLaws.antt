@@ -15,12 +15,12 @@ use Rattle.sf_core.specs.Assertions.Sat.{HasFields, Seg, cell, Tree as IsTree, n
 use Rattle.sf_core.specs.declared.assertion.Operand.{Operand}
 use Rattle.sf_core.specs.Program.Syntax.{Conjunct, points, segment, tree, Conjuncts, also}
 use Rattle.sf_consume.proofs.Fitting.{FitBelow, fit-all, link-is}
-use Rattle.sf_consume.proofs.Handing.{both-are, by_first, by_list, state-below, state-handed, state-joins, state-out, wanting_first, wants-other}
-use Rattle.sf_consume.proofs.WantedFirst.{cell-is, list-is, tree-is}
+use Rattle.sf_consume.proofs.Handing.{by_first, by_list, state-below, state-handed, state-joins, state-out, wanting_first, wants-other}
+use Rattle.sf_consume.proofs.WantedFirst.{cell-is, tree-is}
 use Rattle.sf_consume.specs.declared.wanted.WantedList.{WantedList}
 use Rattle.sf_consume.specs.declared.wanted.WantedTree.{WantedTree}
 use Rattle.sf_consume.specs.Laws.{alone, Subtracts, CellKeepsWants, HeadKeepsWants, NodeKeepsWants}
-use Rattle.sf_consume.specs.Subtract.{Fit, Want, both, cell_step, first_fit, fit_fields, fitting, handed_cell, head_step, head_there, link, list_from, node_step, node_there, removed, tree_from, wanted_cell, wanted_list, wanted_tree}
+use Rattle.sf_consume.specs.Subtract.{Fit, Want, cell_step, first_fit, fit_fields, fitting, handed_cell, head_there, link, list_from, node_step, node_there, removed, tree_from, wanted_cell, wanted_tree}
 use Rattle.sf_consume.specs.Wants.{IsFormed, Wants}
 use Rattle.sf_sym.specs.Lemmas.Bindings.{operand-below, operand-is}
 use Rattle.sf_sym.specs.Formed.{AllFormed}

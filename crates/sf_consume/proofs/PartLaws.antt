@@ -1,7 +1,7 @@
 -- Exact and join: what is wanted is an atom that is a segment or a tree, or begins with one.
 -- Names: `ROW_keeps_wants` is the law of that row.
 use Rattle.std.specs.List.{list_any}
-use Rattle.std.specs.Option.{option_and_then, option_map}
+use Rattle.std.specs.Option.{option_map}
 use Rattle.std.proofs.Common.{◌≡◌, ℕ, ◌==◌, Bool, true, false, ◌&&◌, ◌||◌, cond, not, List, [], ◌∷◌, ◌++◌, Option, Some, None, length, refl, sym, ap, ◌∙◌, subst, subst₂, inl, inr, arith}
 use Rattle.std.proofs.lemmas.Bool.{or_cases}
 use Rattle.std.proofs.lemmas.Option.{cond_some, option_and_then_some, same_Some}
@@ -19,7 +19,7 @@ use Rattle.sf_core.specs.Program.Syntax.{Conjunct, holds, points, segment, tree,
 use Rattle.sf_consume.proofs.Handing.{Out, both-are, by_first, by_list, formed-rest, state-below, state-handed, state-joins, state-out, wanting_first}
 use Rattle.sf_consume.specs.declared.wanted.WantedList.{WantedList}
 use Rattle.sf_consume.specs.Laws.{alone, Subtracts, ExactKeepsWants, JoinKeepsWants}
-use Rattle.sf_consume.specs.Subtract.{Want, both, exact_step, exact_there, is_same_shape, join_step, join_there, joined, list_from, removed, wanted_list, wanted_shape}
+use Rattle.sf_consume.specs.Subtract.{Want, both, exact_step, exact_there, is_same_shape, join_there, joined, list_from, removed, wanted_shape}
 use Rattle.sf_consume.specs.Wants.{IsFormed}
 use Rattle.sf_sym.specs.Lemmas.Bindings.{operand-below, operand-is}
 use Rattle.sf_sym.specs.Formed.{OneFormed}

@@ -1,9 +1,8 @@
 -- A whole text that is a number: its digits are ASCII, and a numeral after its sign.
-use Rattle.std.proofs.Common.{◌≡◌, ◌<◌, ◌==◌, ℕ, List, [], ◌∷◌, length, true, false, Bool, cond, refl, ap, sym, arith, subst}
-use Rattle.std.proofs.lemmas.Bool.{and_parts, eqb-true}
+use Rattle.std.proofs.Common.{◌≡◌, ◌<◌, ◌==◌, ℕ, List, [], ◌∷◌, true, false, Bool, cond, refl, arith}
+use Rattle.std.proofs.lemmas.Bool.{and_parts}
 use Rattle.std.proofs.lemmas.Bool.Decides.{nat_tests}
 use Rattle.std.specs.List.{list_all}
-use Rattle.std.specs.Str.{IsAscii}
 use Rattle.std.specs.Str.Parse.{AllDigits, IsNumeral, without_leading_sign}
 use Rattle.std.specs.Char.{digit_value}
 use Rattle.sf_lex.specs.Lexeme.{is_digit, is_number, is_some_of}

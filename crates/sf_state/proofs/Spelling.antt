@@ -1,11 +1,9 @@
 -- What is written is read back: the locations and values of written texts.
-use Rattle.std.proofs.Common.{◌≡◌, ◌<◌, ◌^◌, ℕ, [], ◌∷◌, true, Some, None, refl, arith, decimal}
+use Rattle.std.proofs.Common.{◌≡◌, ◌<◌, ◌^◌, ℕ, [], ◌∷◌, true, Some, None, refl, arith}
 use Rattle.std.proofs.lemmas.Bool.Decides.{nat_tests}
 use Rattle.std.specs.Fmt.{signed_decimal}
-use Rattle.std.specs.Str.Parse.{digits_value}
 use Rattle.sf_base.specs.declared.value.Value.{Value}
 use Rattle.sf_base.specs.declared.value.Value.TheVariants.{Nil as nil, Int as int, Loc as loc}
-use Rattle.sf_lex.specs.Lexeme.{is_digit, is_some_of}
 use Rattle.sf_lines.specs.Lemmas.Tokens.{BeginsOtherwise, decimal-back, decimal-plain, otherwise-apart, signed-back, signed-other, signed-plain}
 use Rattle.sf_lines.specs.Lemmas.Written.{IsPlain}
 use Rattle.sf_lines.specs.Lines.{Text}

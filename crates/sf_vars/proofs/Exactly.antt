@@ -2,7 +2,6 @@
 use Rattle.std.proofs.Common.{◌≡◌, ◌∙◌, ℕ, List, Some, None, slice_get, ap, sym, subst}
 use Rattle.std.proofs.lemmas.Option.{none-some, same_Some}
 use Rattle.sf_base.specs.declared.ids.ProcId.{ProcId}
-use Rattle.sf_base.specs.declared.ids.ResId.{ResId}
 use Rattle.sf_base.specs.declared.ids.Var.{Var}
 use Rattle.sf_base.specs.declared.ids.Var.TheVariants.{Own, Shared}
 use Rattle.sf_core.specs.Program.Syntax.{Procedure, Program, Resource}
@@ -11,7 +10,7 @@ use Rattle.sf_calls.specs.declared.breach.Breach.TheVariants.{NotHeld, Reentered
 use Rattle.sf_calls.specs.FirstBreach.{Conditions}
 use Rattle.sf_calls.specs.Lemmas.OneBreach.{one_breach}
 use Rattle.sf_vars.specs.declared.fault.VarFault.{VarFault}
-use Rattle.sf_vars.specs.Faults.{IsVariableName, IsResourceName, IsBreachName, IsFirstFault, told_by}
+use Rattle.sf_vars.specs.Faults.{IsVariableName, IsBreachName, IsFirstFault, told_by}
 
 variable_name-once : (p : Program) (f : ProcId) (x : Var) (m n : List ℕ) → IsVariableName p f x m
     → IsVariableName p f x n → m ≡ n

@@ -6,9 +6,9 @@ use Rattle.sf_base.specs.declared.ids.ProcId.{ProcId}
 use Rattle.sf_base.specs.declared.ids.Var.{Var}
 use Rattle.sf_base.specs.declared.ids.Var.TheVariants.{Own, Shared}
 use Rattle.sf_base.specs.declared.limits.TheConstants.{RESOURCES}
-use Rattle.sf_core.specs.Program.Formed.{IsFormed, IsInBody, CallWithin, CommandWithin, BlockWithin}
+use Rattle.sf_core.specs.Program.Formed.{IsFormed, IsInBody, CommandWithin, BlockWithin}
 use Rattle.sf_core.specs.Machine.HeldBy.{HeldBy}
-use Rattle.sf_core.specs.Program.Syntax.{Call, Command, assign, look_up, mutate, new, dispose, if, while, call, fork, with, Block, done, then, Procedure, Program}
+use Rattle.sf_core.specs.Program.Syntax.{Command, assign, look_up, mutate, new, dispose, if, while, call, fork, with, Block, done, then, Procedure, Program}
 use Rattle.sf_calls.specs.Conditions.{Takes, Free}
 use Rattle.sf_calls.specs.Sets.{Sets, AreSetsOf, IsResSet, IsVarSet}
 use Rattle.sf_calls.specs.Lemmas.InFile.{free_within}

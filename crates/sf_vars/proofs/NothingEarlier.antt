@@ -12,11 +12,11 @@ use Rattle.sf_core.specs.declared.command.Occurrence.{Occurrence}
 use Rattle.sf_core.specs.Program.Formed.{IsFormed}
 use Rattle.sf_core.specs.Program.Heads.{Site, sites, head_calls, head_forks, head_occurrences, head_regions, call_occurrences}
 use Rattle.sf_core.specs.Program.Places.{place_of}
-use Rattle.sf_core.specs.Program.Syntax.{Call, Command, Procedure, Program}
+use Rattle.sf_core.specs.Program.Syntax.{Command, Procedure, Program}
 use Rattle.sf_calls.specs.declared.breach.Breach.{Breach}
 use Rattle.sf_calls.specs.Breaks.{BreaksAt}
 use Rattle.sf_calls.specs.First.{IsFirst}
-use Rattle.sf_calls.specs.FirstBreach.{Question, occurs, frees, enters, takes, repeats, passes, shares, breach_of, IsBroken, IsNo, told, resources_from, variables_from, call_uses, call_takes, repeats_after, fork_shares, uses_questions, enters_questions, repeats_questions, passes_questions, shares_questions, head_questions, site_questions, questions_from, FirstBreach}
+use Rattle.sf_calls.specs.FirstBreach.{Question, occurs, frees, enters, takes, repeats, passes, shares, breach_of, IsBroken, IsNo, told, resources_from, variables_from, call_uses, call_takes, repeats_after, fork_shares, uses_questions, enters_questions, repeats_questions, passes_questions, shares_questions, head_questions, site_questions, questions_from}
 use Rattle.sf_calls.specs.Lemmas.Broken.{asked_break, break_asked}
 use Rattle.sf_calls.specs.Lemmas.Firsts.{first-found, none-of}
 use Rattle.sf_calls.specs.Lemmas.InOrder.{Ordered, ordered_append}

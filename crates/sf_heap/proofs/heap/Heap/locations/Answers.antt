@@ -1,4 +1,4 @@
-use Rattle.std.proofs.Common.{◌∙◌, Contains, is_some, map, sym, ap, subst, arith}
+use Rattle.std.proofs.Common.{◌∙◌, Contains, is_some, sym, ap, subst, arith}
 use Rattle.std.proofs.lemmas.List.{take_all}
 use Rattle.std.specs.FinMap.{contains_key, get}
 use Rattle.sf_heap.specs.Internal.Moves.{places}
