@@ -1,9 +1,10 @@
-//! Tests of states' texts, of the machine that runs and of runs of one task, by the public calls of
-//! their crates, and laws that join these crates. They are in a crate of their own so that the
-//! crates that they test needn't be proved once more with them.
+//! Tests of heaps, of states' texts, of the machine that runs and of runs of one task, by the public
+//! calls of their crates, and laws that join these crates. They are in a crate of their own so that
+//! the crates that they test needn't be proved once more with them.
 //!
 //! - `laws`: that what is written of a run of a file's program is read back.
 //! - `files`: programs from their texts, and starts of their procedures.
+//! - `heaps`: cells that are put, taken, joined and parted off.
 //! - `states`: starts, why there is none, and what is written.
 //! - `running`: programs, event by event.
 //! - `runs`: runs of one task.
@@ -11,6 +12,8 @@
 
 #[cfg(test)]
 mod files;
+#[cfg(test)]
+mod heaps;
 pub mod laws;
 #[cfg(test)]
 mod running;
