@@ -6,6 +6,7 @@
 //! - `files`: programs from their texts, and starts of their procedures.
 //! - `shelves`: shelves that hand out files and sinks that take bytes, and a caller of any of them.
 //! - `heaps`: cells that are put, taken, joined and parted off.
+//! - `texts`: what the lines of a state's text give, or why not, and the text of a state.
 //! - `states`: starts, why there is none, and what is written.
 //! - `running`: programs, event by event.
 //! - `runs`: runs of one task.
@@ -24,3 +25,5 @@ mod runs;
 mod shelves;
 #[cfg(test)]
 mod states;
+#[cfg(test)]
+mod texts;
