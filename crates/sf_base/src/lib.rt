@@ -30,6 +30,3 @@ pub use path::{TaskPath, Turn};
 pub use place::Place;
 pub use sequence::Sequence;
 pub use value::Value;
-
-#[cfg(test)]
-mod tests;

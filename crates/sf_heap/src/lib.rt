@@ -17,6 +17,3 @@ mod moves;
 pub use cell::Cell;
 pub use heap::{Heap, HeapFault};
 pub use locations::Locations;
-
-#[cfg(test)]
-mod tests;

@@ -17,8 +17,6 @@ mod mem_sink;
 mod shelf;
 mod sink;
 mod std_sink;
-#[cfg(test)]
-mod tests;
 
 pub use file_shelf::FileShelf;
 pub use gate::{Gate, OpenGate, Point};

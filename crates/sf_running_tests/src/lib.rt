@@ -1,9 +1,12 @@
-//! Tests of states' texts, of the machine that runs and of runs of one task, by the public calls of
-//! their crates, and laws that join these crates. They are in a crate of their own so that the
-//! crates that they test needn't be proved once more with them.
+//! Tests of the outside, of heaps, of states' texts, of the machine that runs and of runs of one
+//! task, by the public calls of their crates, and laws that join these crates. They are in a crate
+//! of their own so that the crates that they test needn't be proved once more with them.
 //!
 //! - `laws`: that what is written of a run of a file's program is read back.
 //! - `files`: programs from their texts, and starts of their procedures.
+//! - `shelves`: shelves that hand out files and sinks that take bytes, and a caller of any of them.
+//! - `heaps`: cells that are put, taken, joined and parted off.
+//! - `texts`: what the lines of a state's text give, or why not, and the text of a state.
 //! - `states`: starts, why there is none, and what is written.
 //! - `running`: programs, event by event.
 //! - `runs`: runs of one task.
@@ -11,10 +14,16 @@
 
 #[cfg(test)]
 mod files;
+#[cfg(test)]
+mod heaps;
 pub mod laws;
 #[cfg(test)]
 mod running;
 #[cfg(test)]
 mod runs;
 #[cfg(test)]
+mod shelves;
+#[cfg(test)]
 mod states;
+#[cfg(test)]
+mod texts;

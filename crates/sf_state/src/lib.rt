@@ -43,6 +43,3 @@ pub use finish::write;
 pub use start::read;
 pub use state::{State, read_state};
 pub use text::state_text;
-
-#[cfg(test)]
-mod tests;

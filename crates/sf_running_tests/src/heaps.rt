@@ -1,7 +1,7 @@
 //! Each call that allocates succeeds where there is ample memory, and a heap is what was put in.
 
-use crate::{Cell, Heap, Locations};
 use sf_base::{FieldId, Value};
+use sf_heap::{Cell, Heap, Locations};
 use std::alloc::{AllocError, Global};
 use std::process::Abort;
 use std::test::Fail;

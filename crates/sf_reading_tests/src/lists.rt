@@ -1,6 +1,6 @@
-//! Each call that allocates succeeds where there is ample memory.
+//! Names and lists: each call that allocates succeeds where there is ample memory.
 
-use crate::{Counted, Name, Sequence};
+use sf_base::{Counted, Name, Sequence};
 use std::test::Fail;
 
 #[test]

@@ -1,17 +1,23 @@
-ghost use Rattle.std.specs.Prelude.{◌≡◌, ◌≢◌, ◌⊎◌, ℕ, List, ◌++◌, take, length, Option, IfSome, IsSomeAnd, IsOk};
+//! Shelves and sinks: what they hand out and take, where they fail, and that a caller who knows
+//! nothing of them but their traits can rely on these.
+
+ghost use Rattle.std.specs.Prelude.{◌≡◌, ◌≢◌, ◌⊎◌, ℕ, List, take, IfSome, IsSomeAnd};
 ghost use Rattle.sf_io.specs.Increased.{Increased};
 ghost use Rattle.sf_io.specs.Sink.{with_bytes, WrotePrefix};
 
-use super::*;
 use sf_base::TaskPath;
+use sf_io::{
+    FetchFault, FileShelf, Gate, MemShelf, MemSink, OpenGate, Point, Shelf, Sink, SinkFault,
+    StdSink, put_all,
+};
 use std::alloc::{AllocError, Global};
 use std::cell::{Cell, RefCell};
 use std::fmt::Display;
 use std::test::Fail;
 use std::{fs, io, process};
 
-// Puts the first bytes of a file: 0. Where it can't be read, its name: 7. A write fault is 8, and
-// 9 that memory ran out.
+/// Puts the first bytes of a file: 0. Where it can't be read, its name: 7. A write fault is 8, and
+/// 9 that memory ran out.
 fn copy<S: Shelf, K: Sink>(
     alloc: Global,
     shelf: &mut S,
@@ -45,7 +51,7 @@ fn copy<S: Shelf, K: Sink>(
     }
 }
 
-// What a fetch answers, and what is then in a list that began with `> `.
+/// What a fetch answers, and what is then in a list that began with `> `.
 fn fetched<S: Shelf>(
     alloc: Global,
     shelf: &mut S,
@@ -113,7 +119,7 @@ fn a_real_file_is_read_and_a_missing_one_is_a_fault(rt: HostRuntime) -> Result<(
     Ok(())
 }
 
-// What putting that text into a sink in memory answers, and the bytes that the sink has then.
+/// What putting that text into a sink in memory answers, and the bytes that the sink has then.
 fn put_in_memory(
     alloc: Global,
     most: usize,
@@ -144,8 +150,8 @@ fn a_sink_in_memory_takes_pieces_and_fails_where_planned(rt: HostRuntime) -> Res
     Ok(())
 }
 
-// The status of `copy` from a shelf with one file into a sink that takes four bytes at once and
-// fails at that call, and the bytes that the sink has then.
+/// The status of `copy` from a shelf with one file into a sink that takes four bytes at once and
+/// fails at that call, and the bytes that the sink has then.
 fn copied(alloc: Global, name: &str, failing: u64) -> Result<(u8, Vec<u8>), AllocError> {
     let mut shelf = MemShelf::new(alloc);
     shelf.add("a.sf", b"f() { }")?;
@@ -170,8 +176,8 @@ fn a_caller_of_any_shelf_and_sink_gets_each_status(rt: HostRuntime) -> Result<()
     Ok(())
 }
 
-// A terminal that takes so many bytes in one write, takes nothing at one write, and fails at
-// another.
+/// A terminal that takes so many bytes in one write, takes nothing at one write, and fails at
+/// another.
 #[derive(Drop)]
 struct Paper {
     bytes: RefCell<Vec<u8>>,
@@ -212,8 +218,8 @@ impl Print for Paper {
     }
 }
 
-// What putting that text into standard output answers, where that is such a terminal, and the bytes
-// that the terminal has then.
+/// What putting that text into standard output answers, where that is such a terminal, and the bytes
+/// that the terminal has then.
 fn printed(
     alloc: Global,
     most: usize,

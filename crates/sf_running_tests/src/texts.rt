@@ -1,43 +1,32 @@
 //! What no clause says: what texts written by hand give, with ample memory. The fields are `hd` and
 //! `tl`, and the variables `p`, `q` and `r.v`.
 
-use crate::state::read_named;
-use crate::{StartFault, State, state_text};
-use sf_base::{FieldId, Name, Place, Value};
-use sf_core::{Assertion, Level, Links, Proc, Program, Scope};
+use crate::files::fitted;
+use sf_base::{FieldId, Value};
 use sf_heap::{Cell, Heap, Locations};
+use sf_precise::Arranged;
+use sf_state::{StartFault, State, entry, read_state, state_text};
 use std::alloc::{AllocError, Global};
 use std::test::Fail;
 
-/// A program with two fields and nothing else.
-fn program(alloc: Global) -> Result<Program, AllocError> {
-    let fields = vec![in alloc; Name::new(alloc, b"hd")?, Name::new(alloc, b"tl")?]?;
-    let links = Links::among(&fields);
-    Ok(Program {
-        fields,
-        resources: Vec::new(alloc),
-        procedures: Vec::new(alloc),
-        links,
-    })
-}
+/// A procedure with a reference, a value and a local, beside a resource.
+const FILE: &[u8] = b"hd, tl; resource r (v) [] f(p; q) { local i; }";
 
 /// What the text gives.
-fn read(alloc: Global, text: &[u8]) -> Result<State, StartFault> {
-    let p = program(alloc)?;
-    let names = vec![in alloc;
-        Name::new(alloc, b"p")?,
-        Name::new(alloc, b"q")?,
-        Name::new(alloc, b"r.v")?,
-    ]?;
-    if text.len() > 1000 {
-        return Err(StartFault::TooLong);
-    }
-    read_named(alloc, &p, &names, text)
+fn read_text(alloc: Global, p: &Arranged, text: &[u8]) -> Result<State, StartFault> {
+    let f = entry(alloc, p, "f")?;
+    read_state(alloc, &p.program, f, text)
 }
 
 /// Whether the text gives these values and cells.
-fn gives(alloc: Global, text: &[u8], values: &[Value], cells: &[(u64, Value, Value)]) -> bool {
-    match read(alloc, text) {
+fn gives(
+    alloc: Global,
+    p: &Arranged,
+    text: &[u8],
+    values: &[Value],
+    cells: &[(u64, Value, Value)],
+) -> bool {
+    match read_text(alloc, p, text) {
         Ok(state) => {
             state.values.as_slice() == values
                 && state.cells.len() == cells.len()
@@ -72,8 +61,8 @@ enum Because<'a> {
 }
 
 /// Whether the text is refused for that.
-fn is_refused(alloc: Global, text: &[u8], because: Because<'_>) -> bool {
-    match (read(alloc, text), because) {
+fn is_refused(alloc: Global, p: &Arranged, text: &[u8], because: Because<'_>) -> bool {
+    match (read_text(alloc, p, text), because) {
         (Err(StartFault::BadLine(line)), Because::Bad(n)) => line == n,
         (Err(StartFault::Twice(name)), Because::Again(text)) => name.as_bytes() == text,
         (Err(StartFault::Missing(name)), Because::Absent(text)) => name.as_bytes() == text,
@@ -126,8 +115,10 @@ fn texts_are_read_leniently(rt: HostRuntime) {
             &[(3, Value::Int(-1), NIL), (7, NIL, Value::Loc(7))],
         ),
     ];
+    let alloc = rt.alloc();
+    let p = fitted(alloc, FILE).expect(&rt, "a program");
     for (text, values, cells) in cases {
-        assert!(rt; gives(rt.alloc(), text, values, cells));
+        assert!(rt; gives(alloc, &p, text, values, cells));
     }
 }
 
@@ -155,8 +146,10 @@ fn lines_without_a_form_are_refused(rt: HostRuntime) {
         (b"@0", 1),
         (b"@7 data=1 hd=@0", 1),
     ];
+    let alloc = rt.alloc();
+    let p = fitted(alloc, FILE).expect(&rt, "a program");
     for (text, line) in cases {
-        assert!(rt; is_refused(rt.alloc(), text, Because::Bad(line)));
+        assert!(rt; is_refused(alloc, &p, text, Because::Bad(line)));
     }
 }
 
@@ -180,42 +173,11 @@ fn the_first_refusal_is_told(rt: HostRuntime) {
         (b"@1\n@1\n@0", Because::Again(b"@1")),
         (b"p = @1\n@1\n", Because::Absent(b"q")),
     ];
+    let alloc = rt.alloc();
+    let p = fitted(alloc, FILE).expect(&rt, "a program");
     for (text, because) in cases {
-        assert!(rt; is_refused(rt.alloc(), text, because));
+        assert!(rt; is_refused(alloc, &p, text, because));
     }
-}
-
-const AT: Place = Place { line: 1, column: 1 };
-
-/// The assertion `emp`.
-fn nothing(alloc: Global) -> Assertion {
-    Assertion {
-        names: Vec::new(alloc),
-        level: Level {
-            made: Scope { first: 0, count: 0 },
-            conjuncts: Vec::new(alloc),
-        },
-    }
-}
-
-/// A procedure with a reference, a value and a local.
-fn procedure(alloc: Global) -> Result<Proc, AllocError> {
-    Ok(Proc {
-        name: Name::new(alloc, b"f")?,
-        place: AT,
-        names: vec![in alloc;
-            Name::new(alloc, b"p")?,
-            Name::new(alloc, b"q")?,
-            Name::new(alloc, b"i")?,
-        ]?,
-        references: 1,
-        values: 1,
-        locals: 1,
-        pre: nothing(alloc),
-        post: nothing(alloc),
-        body: Vec::new(alloc),
-        end: AT,
-    })
 }
 
 #[test]
@@ -228,14 +190,10 @@ fn a_state_is_written_in_canonical_order(rt: HostRuntime) -> Result<(), Fail> {
     heap.put(3, Box::new(alloc, first)?)?;
     let at = Locations::from_vec(vec![in alloc; 12, 3]?);
     let values = [Value::Loc(3), Value::Int(7)];
-    let text = state_text(
-        alloc,
-        &program(alloc)?,
-        &procedure(alloc)?,
-        &values,
-        &heap,
-        &at,
-    )?;
+    let p = fitted(alloc, b"hd, tl; f(p; q) { local i; }").expect(&rt, "a program");
+    let f = entry(alloc, &p, "f")?;
+    let g = p.program.proc(f);
+    let text = state_text(alloc, &p.program, g, &values, &heap, &at)?;
     assert!(rt;
         text.as_slice() == b"p = @3\nq = 7\n@3 hd=nil tl=@12\n@12 hd=-5 tl=nil\n".as_slice()
     );
