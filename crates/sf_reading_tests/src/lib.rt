@@ -1,6 +1,6 @@
 //! Tests of names and lists, and of what reads a file and the words of a command, by the public
-//! calls of their crates. They are in a crate of their own so that the crates that they test needn't
-//! be proved once more with them.
+//! calls of their crates. They are in a crate of their own so that the crates that they test
+//! needn't be proved once more with them.
 //!
 //! - `lists`: names and lists that grow.
 //! - `tokens`: bytes, or the first byte that begins no token.

@@ -218,8 +218,8 @@ impl Print for Paper {
     }
 }
 
-/// What putting that text into standard output answers, where that is such a terminal, and the bytes
-/// that the terminal has then.
+/// What putting that text into standard output answers, where that is such a terminal, and the
+/// bytes that the terminal has then.
 fn printed(
     alloc: Global,
     most: usize,
