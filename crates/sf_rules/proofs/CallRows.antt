@@ -1,5 +1,5 @@
 -- What the rows of calls leave, by what the code puts before what is left to do.
-use Rattle.std.proofs.Common.{◌≡◌, ◌⊎◌, ℕ, suc, ◌+◌, ◌<◌, ◌≤◌, Bool, true, false, cond, nat_lt, List, [], ◌∷◌, ◌++◌, get_or, length, IfSome, Option, Some, None, inl, inr, refl, sym, ap, ◌∙◌, arith}
+use Rattle.std.proofs.Common.{◌≡◌, ◌⊎◌, ℕ, suc, ◌+◌, ◌<◌, ◌≤◌, true, false, cond, nat_lt, List, [], ◌∷◌, ◌++◌, get_or, length, IfSome, Option, Some, None, inl, inr, refl, sym, ap, ◌∙◌, arith}
 use Rattle.std.specs.List.{slice_get}
 use Rattle.std.specs.Option.{option_and_then}
 use Rattle.std.proofs.lemmas.Bool.Decides.{nat_tests}
@@ -127,14 +127,13 @@ module _ (sets : Sets) (s : State) (p : Place) (c : Call) (rest : List Item) whe
   made set pre post =
       one_goal (with_symbols (length set) s) (to_take c.place (term_before s c) pre ++ after set post)
 
-  pub called_left : (set : List (Var × Term)) (pre post : Assertion) (now : State) (last mid todo : List Item)
-      → set ≡ fresh_for s.next_sym (changed sets c) → length set < TOO_MANY
-      → last ≡ to_add p (term_after s set c) post ++ rest → mid ≡ gave p set [] ∷ last
+  pub called_left : (set : List (Var × Term)) (pre post : Assertion) (now : State) (mid todo : List Item)
+      → set ≡ fresh_for s.next_sym (changed sets c) → length set < TOO_MANY → mid ≡ after set post
       → todo ≡ to_take c.place (term_before s c) pre ++ mid → now ≡ with_symbols (length set) s
       → Some (record { state = now; todo = todo } ∷ []) ≡ called_with sets s p c pre post rest
-  called_left set pre post now last mid todo e few l m t n =
+  called_left set pre post now mid todo e few m t n =
       let due : todo ≡ to_take c.place (term_before s c) pre ++ after set post =
-      t ∙ ap (λ ys. to_take c.place (term_before s c) pre ++ ys) (m ∙ ap (λ ys. gave p set [] ∷ ys) l) in
+      t ∙ ap (λ ys. to_take c.place (term_before s c) pre ++ ys) m in
       (λ i. Some (record { state = n i; todo = due i } ∷ []))
       ∙ are_few (length set) (made set pre post) few
       ∙ ap (λ xs. if_few (length xs) (made xs pre post)) e
@@ -165,25 +164,20 @@ module _ (sets : Sets) (s : State) (p : Place) (c e : Call) (rest : List Item) w
     abbrev pub then_second : List (Var × Term) → List (Var × Term)
     then_second first = fresh_for (s.next_sym + length first) (changed sets e)
 
-    pub forked_left : (first second set : List (Var × Term)) (now : State) (one two mid three todo : List Item)
+    pub forked_left : (first second : List (Var × Term)) (count : ℕ) (now : State) (mid three todo : List Item)
         → first ≡ fresh_for s.next_sym (changed sets c) → second ≡ then_second first
-        → length first + length second < TOO_MANY → set ≡ first ++ second
-        → one ≡ to_add p (term_after s second e) post_too ++ rest
-        → two ≡ to_add p (term_after s first c) post ++ one → mid ≡ gave p set [] ∷ two
-        → three ≡ to_take e.place (term_before s e) pre_too ++ mid
-        → todo ≡ to_take c.place (term_before s c) pre ++ three → now ≡ with_symbols (length set) s
+        → length first + length second < TOO_MANY → count ≡ length first + length second
+        → mid ≡ after_both first second post post_too → three ≡ to_take e.place (term_before s e) pre_too ++ mid
+        → todo ≡ to_take c.place (term_before s c) pre ++ three → now ≡ with_symbols count s
         → Some (record { state = now; todo = todo } ∷ []) ≡ forked_with sets s p c e pre post pre_too post_too rest
-    forked_left first second set now one two mid three todo is is_too few all o w m h t n =
+    forked_left first second count now mid three todo is is_too few k m h t n =
         let sum : length (first ++ second) ≡ length first + length second = length-append first second in
         let few_too : length (first ++ second) < TOO_MANY = omega (arith, few, sum) in
         let due : todo ≡ to_take c.place (term_before s c) pre ++ (to_take e.place (term_before s e) pre_too
         ++ after_both first second post post_too) =
         t ∙ ap (λ ys. to_take c.place (term_before s c) pre ++ ys)
-        (h ∙ ap (λ ys. to_take e.place (term_before s e) pre_too ++ ys)
-        (m ∙ ap (λ xs. gave p xs [] ∷ two) all ∙ ap (λ ys. gave p (first ++ second) [] ∷ ys)
-        (w ∙ ap (λ ys. to_add p (term_after s first c) post ++ ys) o))) in
-        let state : now ≡ with_symbols (length (first ++ second)) s =
-        n ∙ ap (λ xs. with_symbols (length xs) s) all in
+        (h ∙ ap (λ ys. to_take e.place (term_before s e) pre_too ++ ys) m) in
+        let state : now ≡ with_symbols (length (first ++ second)) s = n ∙ ap (λ x. with_symbols x s) (k ∙ sym sum) in
         (λ i. Some (record { state = state i; todo = due i } ∷ []))
         ∙ are_few (length (first ++ second)) (both first second) few_too
         ∙ ap (few_both first) is_too ∙ ap (λ xs. few_both xs (then_second xs)) is

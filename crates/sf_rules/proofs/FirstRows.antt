@@ -1,13 +1,12 @@
 -- The variables of what a procedure holds are few; the first goal by what the code puts there.
-use Rattle.std.proofs.Common.{append_assoc, ◌≡◌, ℕ, zero, suc, ◌+◌, ◌*◌, ◌<◌, ◌≤◌, ◌^◌, List, [], ◌∷◌, ◌++◌, All, AllPairs, get_or, length, map, IfSome, Option, Some, None, refl, sym, ap, ◌∙◌, subst, arith}
-use Rattle.std.specs.List.{flat_map, slice_get, sum_by}
+use Rattle.std.proofs.Common.{append_assoc, ◌≡◌, ℕ, zero, suc, ◌<◌, ◌≤◌, ◌^◌, List, [], ◌∷◌, ◌++◌, All, AllPairs, get_or, length, IfSome, Option, Some, None, refl, sym, ap, ◌∙◌, subst, arith}
+use Rattle.std.specs.List.{flat_map, slice_get}
 use Rattle.std.specs.Option.{option_map, unwrap_or}
 use Rattle.std.proofs.lemmas.List.Concat.{flat_map-cons, length-flat_map}
 use Rattle.std.proofs.lemmas.List.Elements.{Contains-get_or}
 use Rattle.std.proofs.lemmas.List.Sums.{sum_by-le}
 use Rattle.sf_base.proofs.Options.{some-holds}
 use Rattle.sf_base.specs.declared.ids.ProcId.{ProcId}
-use Rattle.sf_base.specs.declared.place.Place.{Place}
 use Rattle.sf_base.specs.declared.ids.ResId.{ResId}
 use Rattle.sf_base.specs.declared.ids.Var.{Var}
 use Rattle.sf_core.specs.Program.Formed.{IsFormed}

@@ -112,17 +112,16 @@ module _ (d : Setting) (s : State) (p : Place) (r : ResId) (rest items : List It
         ++ (gave p [] (variables_from r 0 of.variables) ∷ rest))
 
     pub exit_at : (of : Resource) (names : List (List ℕ)) (invariant : Assertion) (vars : List (Var × Term))
-        (xs : List Var) (mid todo : List Item)
+        (mid todo : List Item)
         → slice_get d.program.resources r.0 ≡ Some of → names ≡ of.variables → invariant ≡ d.ordered of.invariant
-        → vars ≡ s.vars → xs ≡ variables_from r 0 names → mid ≡ gave p [] xs ∷ rest
+        → vars ≡ s.vars → mid ≡ gave p [] (variables_from r 0 names) ∷ rest
         → todo ≡ to_take p (term vars) invariant ++ mid
         → Some (record { state = s; todo = todo } ∷ []) ≡ at_exit (exit_row d s) items
-    exit_at of names invariant vars xs mid todo there n v w x m e =
+    exit_at of names invariant vars mid todo there n v w m e =
         let due : todo ≡ to_take p (term s.vars) (d.ordered of.invariant)
         ++ (gave p [] (variables_from r 0 of.variables) ∷ rest) =
-        e ∙ ap (λ ys. to_take p (term vars) invariant ++ ys)
-        (m ∙ ap (λ ys. gave p [] ys ∷ rest) (x ∙ ap (variables_from r 0) n))
-        ∙ (λ j. to_take p (term (w j)) (v j) ++ (gave p [] (variables_from r 0 of.variables) ∷ rest)) in
+        e ∙ ap (λ ys. to_take p (term vars) invariant ++ ys) m
+        ∙ (λ j. to_take p (term (w j)) (v j) ++ (gave p [] (variables_from r 0 (n j)) ∷ rest)) in
         (λ j. Some (record { state = s; todo = due j } ∷ []))
         ∙ sym (ap (option_and_then left_by) there) ∙ sym (ap (at_exit (exit_row d s)) i)
 

@@ -5,12 +5,13 @@ ghost use Rattle.std.specs.Option.{option_map};
 ghost use Rattle.sf_core.specs.Program.View.{block_of, command_of};
 ghost use Rattle.sf_rules.specs.Internal.Children.{children_of};
 ghost use Rattle.sf_rules.specs.Rows.Branches.{branch_row, chosen};
-ghost use Rattle.sf_sym.specs.Goal.{run, to_run, todo_of};
+ghost use Rattle.sf_sym.specs.Goal.{add, run, take, to_run, todo_of};
 ghost use Rattle.sf_sym.specs.Pending.{pending_of};
 
 use crate::children::Children;
 use crate::decided::{command_test, is_decided, test_of_terms};
 use crate::front::{Front, take_front};
+use sf_base::{Name, Place};
 use sf_core::{Command, Conjunct, Level};
 use sf_sym::{Goal, Item, Pending, State, Term, with_add, with_take};
 use std::alloc::AllocError;
@@ -27,20 +28,8 @@ pub(crate) fn branch<'a>(so: bool, goal: Goal<'a>) -> Result<Option<Children<'a>
     };
     match front {
         Front::Command(c) => branch_of_command(so, state, todo, c),
-        Front::Add(place, given) => {
-            let Some(given) = chosen(so, &state, given)? else {
-                return Ok(None);
-            };
-            let todo = with_add(todo, place, given)?;
-            Ok(Some(Children::One(Goal { state, todo })))
-        }
-        Front::Take(place, want, names) => {
-            let Some(want) = chosen(so, &state, want)? else {
-                return Ok(None);
-            };
-            let todo = with_take(todo, place, want, names)?;
-            Ok(Some(Children::One(Goal { state, todo })))
-        }
+        Front::Add(place, given) => branch_of_add(so, state, todo, place, given),
+        Front::Take(place, want, names) => branch_of_take(so, state, todo, place, want, names),
         Front::Gave(..) | Front::Head(..) | Front::Again(..) => Ok(None),
         Front::Exit(..) | Front::Return(..) | Front::End(_) => Ok(None),
     }
@@ -56,18 +45,51 @@ fn branch_of_command<'a>(
     ensures { IfOk result (λ left. option_map children_of left
         ≡ branch_row so state (run (command_of c.now) ∷ todo_of todo.entry.items)) }
 {
-    match c {
-        Command::If(_, test, this, that) => {
-            if !is_decided(so, &state, &command_test(state.vars(), test)) {
-                return Ok(None);
-            }
-            todo.push(Item::Run(block(so, this, that)))?;
-            Ok(Some(Children::One(Goal { state, todo })))
-        }
-        Command::Assign(..) | Command::LookUp(..) | Command::Mutate(..) => Ok(None),
-        Command::New(..) | Command::Dispose(..) | Command::While(..) => Ok(None),
-        Command::Call(..) | Command::Fork(..) | Command::With(..) => Ok(None),
+    let Command::If(_, test, this, that) = c else {
+        return Ok(None);
+    };
+    if !is_decided(so, &state, &command_test(state.vars(), test)) {
+        return Ok(None);
     }
+    todo.push(Item::Run(block(so, this, that)))?;
+    Ok(Some(Children::One(Goal { state, todo })))
+}
+
+/// The same of conjuncts to assume in front of these items.
+fn branch_of_add<'a>(
+    so: bool,
+    state: State,
+    todo: Vec<Item<'a>>,
+    place: Place,
+    given: Pending,
+) -> Result<Option<Children<'a>>, AllocError>
+    ensures { IfOk result (λ left. option_map children_of left
+        ≡ branch_row so state (add place (pending_of given) ∷ todo_of todo.entry.items)) }
+{
+    let Some(given) = chosen(so, &state, given)? else {
+        return Ok(None);
+    };
+    let todo = with_add(todo, place, given)?;
+    Ok(Some(Children::One(Goal { state, todo })))
+}
+
+/// The same of conjuncts to show in front of these items.
+fn branch_of_take<'a>(
+    so: bool,
+    state: State,
+    todo: Vec<Item<'a>>,
+    place: Place,
+    want: Pending,
+    names: &'a [Name],
+) -> Result<Option<Children<'a>>, AllocError>
+    ensures { IfOk result (λ left. option_map children_of left
+        ≡ branch_row so state (take place (pending_of want) names.now ∷ todo_of todo.entry.items)) }
+{
+    let Some(want) = chosen(so, &state, want)? else {
+        return Ok(None);
+    };
+    let todo = with_take(todo, place, want, names)?;
+    Ok(Some(Children::One(Goal { state, todo })))
 }
 
 /// The conjuncts with the branch for that of the first, a choice, in its place. `None` exactly

@@ -1,6 +1,6 @@
 //! Rows of calls: call, fork, give.
 
-ghost use Rattle.std.specs.Prelude.{◌≡◌, ◌+◌, ◌++◌, ◌<◌, ◌≤◌, ◌^◌, IfNone, IfOk, IfSome, IsTrue, None, Some, false, length, map, nat_lt, true};
+ghost use Rattle.std.specs.Prelude.{◌≡◌, ◌+◌, ◌++◌, ◌∷◌, [], ◌<◌, ◌≤◌, ◌^◌, IfNone, IfOk, IfSome, IsTrue, None, Some, false, length, map, nat_lt, true};
 ghost use Rattle.std.specs.List.{slice_get};
 ghost use Rattle.std.specs.Option.{option_map};
 ghost use Rattle.sf_calls.specs.Changes.{changed};
@@ -13,7 +13,7 @@ ghost use Rattle.sf_rules.specs.Rows.Front.{at_command, at_gave};
 ghost use Rattle.sf_rules.specs.Setting.{Setting, setting_of};
 ghost use Rattle.sf_rules.specs.Few.{has_numbers};
 ghost use Rattle.sf_rules.specs.Words.{to_add, to_take};
-ghost use Rattle.sf_sym.specs.Goal.{todo_of};
+ghost use Rattle.sf_sym.specs.Goal.{gave, todo_of};
 ghost use Rattle.sf_sym.specs.State.{term};
 ghost use Rattle.sf_sym.specs.Variables.{fresh_for};
 
@@ -74,24 +74,20 @@ pub(crate) fn call<'a>(
     let Some(c) = take_command(&mut todo)? else {
         return Ok(None);
     };
-    match c {
-        Command::Call(place, call) => {
-            let Some(contract) = contract_of(arranged, call.callee) else {
-                return Ok(None);
-            };
-            call_one(
-                alloc,
-                &arranged.calls,
-                Goal { state, todo },
-                *place,
-                call,
-                contract,
-            )
-        }
-        Command::Assign(..) | Command::LookUp(..) | Command::Mutate(..) => Ok(None),
-        Command::New(..) | Command::Dispose(..) | Command::If(..) => Ok(None),
-        Command::While(..) | Command::Fork(..) | Command::With(..) => Ok(None),
-    }
+    let Command::Call(place, call) = c else {
+        return Ok(None);
+    };
+    let Some(contract) = contract_of(arranged, call.callee) else {
+        return Ok(None);
+    };
+    call_one(
+        alloc,
+        &arranged.calls,
+        Goal { state, todo },
+        *place,
+        call,
+        contract,
+    )
 }
 
 /// A call of a procedure with that contract.
@@ -114,8 +110,7 @@ fn call_one<'a>(
         return Ok(None);
     };
     let count = set.len() as u32;
-    let mut todo = with_post(alloc, todo, place, &state, &set, call, contract.post)?;
-    todo.push(Item::Gave(place, set, Vec::new(alloc)))?;
+    let todo = with_outcome(alloc, todo, place, &state, set, call, contract.post)?;
     let todo = with_pre(alloc, todo, &state, call, contract.pre)?;
     state.add_symbols(count);
     Ok(Some(Children::One(Goal { state, todo })))
@@ -139,28 +134,24 @@ pub(crate) fn fork<'a>(
     let Some(c) = take_command(&mut todo)? else {
         return Ok(None);
     };
-    match c {
-        Command::Fork(place, left, right) => {
-            let Some(one) = contract_of(arranged, left.callee) else {
-                return Ok(None);
-            };
-            let Some(two) = contract_of(arranged, right.callee) else {
-                return Ok(None);
-            };
-            let goal = Goal { state, todo };
-            call_two(
-                alloc,
-                &arranged.calls,
-                goal,
-                *place,
-                (left, one),
-                (right, two),
-            )
-        }
-        Command::Assign(..) | Command::LookUp(..) | Command::Mutate(..) => Ok(None),
-        Command::New(..) | Command::Dispose(..) | Command::If(..) => Ok(None),
-        Command::While(..) | Command::Call(..) | Command::With(..) => Ok(None),
-    }
+    let Command::Fork(place, left, right) = c else {
+        return Ok(None);
+    };
+    let Some(one) = contract_of(arranged, left.callee) else {
+        return Ok(None);
+    };
+    let Some(two) = contract_of(arranged, right.callee) else {
+        return Ok(None);
+    };
+    let goal = Goal { state, todo };
+    call_two(
+        alloc,
+        &arranged.calls,
+        goal,
+        *place,
+        (left, one),
+        (right, two),
+    )
 }
 
 /// Two calls at once, each of a procedure with its contract.
@@ -182,15 +173,11 @@ fn call_two<'a>(
 {
     let Goal { mut state, todo } = goal;
     let (one, two) = (left.0, right.0);
-    let Some((first, second)) = unknown_after_both(alloc, calls, state.next_sym(), one, two)? else {
+    let Some(set) = unknown_after_both(alloc, calls, state.next_sym(), one, two)? else {
         return Ok(None);
     };
-    let todo = with_post(alloc, todo, place, &state, &second, two, right.1.post)?;
-    let mut todo = with_post(alloc, todo, place, &state, &first, one, left.1.post)?;
-    let mut set = first;
-    set.extend_from_slice(&second)?;
-    let count = set.len() as u32;
-    todo.push(Item::Gave(place, set, Vec::new(alloc)))?;
+    let count = (set.0.len() + set.1.len()) as u32;
+    let todo = with_outcomes(alloc, todo, place, &state, set, left, right)?;
     let todo = with_pre(alloc, todo, &state, two, right.1.pre)?;
     let todo = with_pre(alloc, todo, &state, one, left.1.pre)?;
     state.add_symbols(count);
@@ -289,6 +276,66 @@ fn with_post<'a>(
     let after = state.vars_after(alloc, set)?;
     let terms = Terms::OfCallee(&after, call, &values);
     let todo = with_assumed(alloc, todo, place, terms, post)?;
+    Ok(todo)
+}
+
+/// Puts a call's outcome first: what it may change has these terms, and what its procedure promises
+/// is assumed. An `Err` means out of memory.
+fn with_outcome<'a>(
+    alloc: Global,
+    todo: Vec<Item<'a>>,
+    place: Place,
+    state: &State,
+    set: Vec<(Var, Term)>,
+    call: &Call,
+    post: &Assertion,
+) -> Result<Vec<Item<'a>>, AllocError>
+    ensures { IfOk result (λ r. todo_of r.items ≡ gave place set.items []
+        ∷ (to_add place (term_after state.now set.items (call_of call.now)) (assertion_of post.now)
+        ++ todo_of todo.entry.items)) }
+{
+    let mut todo = with_post(alloc, todo, place, state, &set, call, post)?;
+    todo.push(Item::Gave(place, set, Vec::new(alloc)))?;
+    Ok(todo)
+}
+
+/// Puts the outcome of two calls first: what each may change has these terms, and what both
+/// procedures promise is assumed. An `Err` means out of memory.
+fn with_outcomes<'a>(
+    alloc: Global,
+    todo: Vec<Item<'a>>,
+    place: Place,
+    state: &State,
+    set: (Vec<(Var, Term)>, Vec<(Var, Term)>),
+    left: (&Call, Contract<'_>),
+    right: (&Call, Contract<'_>),
+) -> Result<Vec<Item<'a>>, AllocError>
+    ensures { IfOk result (λ r. todo_of r.items ≡ gave place (set.0.items ++ set.1.items) []
+        ∷ (to_add place (term_after state.now set.0.items (call_of left.entry.0.now))
+        (assertion_of left.entry.1.post.now)
+        ++ (to_add place (term_after state.now set.1.items (call_of right.entry.0.now))
+        (assertion_of right.entry.1.post.now) ++ todo_of todo.entry.items))) }
+{
+    let (first, second) = set;
+    let todo = with_post(alloc, todo, place, state, &second, right.0, right.1.post)?;
+    let todo = with_post(alloc, todo, place, state, &first, left.0, left.1.post)?;
+    let todo = with_set(alloc, todo, place, first, &second)?;
+    Ok(todo)
+}
+
+/// Puts first that variables have these terms, and more have those. An `Err` means out of memory.
+fn with_set<'a>(
+    alloc: Global,
+    mut todo: Vec<Item<'a>>,
+    place: Place,
+    mut set: Vec<(Var, Term)>,
+    more: &[(Var, Term)],
+) -> Result<Vec<Item<'a>>, AllocError>
+    ensures { IfOk result (λ r. todo_of r.items
+        ≡ gave place (set.items ++ more.now) [] ∷ todo_of todo.entry.items) }
+{
+    set.extend_from_slice(more)?;
+    todo.push(Item::Gave(place, set, Vec::new(alloc)))?;
     Ok(todo)
 }
 

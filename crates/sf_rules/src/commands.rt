@@ -26,16 +26,12 @@ pub(crate) fn assign<'a>(mut goal: Goal<'a>) -> Result<Option<Children<'a>>, All
     let Some(c) = take_command(&mut goal.todo)? else {
         return Ok(None);
     };
-    match c {
-        Command::Assign(_, x, e) => {
-            let t = term_of(goal.state.vars(), e);
-            goal.state.set_var(x.var, t)?;
-            Ok(Some(Children::One(goal)))
-        }
-        Command::LookUp(..) | Command::Mutate(..) | Command::New(..) => Ok(None),
-        Command::Dispose(..) | Command::If(..) | Command::While(..) => Ok(None),
-        Command::Call(..) | Command::Fork(..) | Command::With(..) => Ok(None),
-    }
+    let Command::Assign(_, x, e) = c else {
+        return Ok(None);
+    };
+    let t = term_of(goal.state.vars(), e);
+    goal.state.set_var(x.var, t)?;
+    Ok(Some(Children::One(goal)))
 }
 
 /// look: the variable has the term of the cell's field.
@@ -47,15 +43,11 @@ pub(crate) fn look<'a>(mut goal: Goal<'a>, a: u32) -> Result<Option<Children<'a>
     let Some(c) = take_command(&mut goal.todo)? else {
         return Ok(None);
     };
-    match c {
-        Command::LookUp(_, x, e, f) => {
-            let root = term_of(goal.state.vars(), e);
-            look_up(goal, a, root, *f, x.var)
-        },
-        Command::Assign(..) | Command::Mutate(..) | Command::New(..) => Ok(None),
-        Command::Dispose(..) | Command::If(..) | Command::While(..) => Ok(None),
-        Command::Call(..) | Command::Fork(..) | Command::With(..) => Ok(None),
-    }
+    let Command::LookUp(_, x, e, f) = c else {
+        return Ok(None);
+    };
+    let root = term_of(goal.state.vars(), e);
+    look_up(goal, a, root, *f, x.var)
 }
 
 /// The variable has the term of that field of the cell of that number at the root, which is a fresh
@@ -96,20 +88,16 @@ pub(crate) fn mutate<'a>(mut goal: Goal<'a>, a: u32) -> Result<Option<Children<'
     let Some(c) = take_command(&mut goal.todo)? else {
         return Ok(None);
     };
-    match c {
-        Command::Mutate(_, e, f, v) => {
-            let root = term_of(goal.state.vars(), e);
-            let u = term_of(goal.state.vars(), v);
-            if goal.state.cell(a, root).is_none() {
-                return Ok(None);
-            }
-            goal.state.write_field(a, root, *f, u)?;
-            Ok(Some(Children::One(goal)))
-        }
-        Command::Assign(..) | Command::LookUp(..) | Command::New(..) => Ok(None),
-        Command::Dispose(..) | Command::If(..) | Command::While(..) => Ok(None),
-        Command::Call(..) | Command::Fork(..) | Command::With(..) => Ok(None),
+    let Command::Mutate(_, e, f, v) = c else {
+        return Ok(None);
+    };
+    let root = term_of(goal.state.vars(), e);
+    let u = term_of(goal.state.vars(), v);
+    if goal.state.cell(a, root).is_none() {
+        return Ok(None);
     }
+    goal.state.write_field(a, root, *f, u)?;
+    Ok(Some(Children::One(goal)))
 }
 
 /// new: the variable has a fresh symbol, and there is a cell of which no field is known.
@@ -121,17 +109,13 @@ pub(crate) fn new<'a>(alloc: Global, mut goal: Goal<'a>) -> Result<Option<Childr
     let Some(c) = take_command(&mut goal.todo)? else {
         return Ok(None);
     };
-    match c {
-        Command::New(_, x) => {
-            let t = goal.state.fresh_symbol();
-            goal.state.set_var(x.var, t)?;
-            goal.state.add_cell(t, FieldTerms::new(alloc))?;
-            Ok(Some(Children::One(goal)))
-        }
-        Command::Assign(..) | Command::LookUp(..) | Command::Mutate(..) => Ok(None),
-        Command::Dispose(..) | Command::If(..) | Command::While(..) => Ok(None),
-        Command::Call(..) | Command::Fork(..) | Command::With(..) => Ok(None),
-    }
+    let Command::New(_, x) = c else {
+        return Ok(None);
+    };
+    let t = goal.state.fresh_symbol();
+    goal.state.set_var(x.var, t)?;
+    goal.state.add_cell(t, FieldTerms::new(alloc))?;
+    Ok(Some(Children::One(goal)))
 }
 
 /// dispose: the cell goes.
@@ -142,17 +126,13 @@ pub(crate) fn dispose<'a>(mut goal: Goal<'a>, a: u32) -> Result<Option<Children<
     let Some(c) = take_command(&mut goal.todo)? else {
         return Ok(None);
     };
-    match c {
-        Command::Dispose(_, e) => {
-            let root = term_of(goal.state.vars(), e);
-            if goal.state.cell(a, root).is_none() {
-                return Ok(None);
-            }
-            goal.state.remove_atom(a);
-            Ok(Some(Children::One(goal)))
-        }
-        Command::Assign(..) | Command::LookUp(..) | Command::Mutate(..) => Ok(None),
-        Command::New(..) | Command::If(..) | Command::While(..) => Ok(None),
-        Command::Call(..) | Command::Fork(..) | Command::With(..) => Ok(None),
+    let Command::Dispose(_, e) = c else {
+        return Ok(None);
+    };
+    let root = term_of(goal.state.vars(), e);
+    if goal.state.cell(a, root).is_none() {
+        return Ok(None);
     }
+    goal.state.remove_atom(a);
+    Ok(Some(Children::One(goal)))
 }

@@ -1,7 +1,7 @@
 //! Rows of loops and of ends: loop, around, again, return, end.
 
-ghost use Rattle.std.specs.Prelude.{◌≡◌, ◌++◌, ◌∷◌, [], IfOk, IsTrue};
-ghost use Rattle.std.specs.List.{filter, list_any};
+ghost use Rattle.std.specs.Prelude.{◌≡◌, ◌<◌, ◌++◌, ◌∷◌, [], IfNone, IfOk, IfSome, IsTrue, false, length, nat_lt};
+ghost use Rattle.std.specs.List.{list_any};
 ghost use Rattle.std.specs.Option.{option_map};
 ghost use Rattle.sf_base.specs.Variables.{same_var};
 ghost use Rattle.sf_core.specs.declared.command.Expr.TheVariants.{Nil as ENil};
@@ -10,20 +10,20 @@ ghost use Rattle.sf_precise.specs.Order.{IsOrdering};
 ghost use Rattle.sf_rules.specs.Internal.Children.{children_of};
 ghost use Rattle.sf_rules.specs.Rows.Ends.{end_row, return_row};
 ghost use Rattle.sf_rules.specs.Rows.Front.{at_again, at_command, at_end, at_head, at_return};
-ghost use Rattle.sf_rules.specs.Rows.Loops.{after_loop, again_row, around_row, body_once, loop_row};
+ghost use Rattle.sf_rules.specs.Rows.Loops.{after_loop, again_row, around_row, body_once, loop_row, unknown_in};
 ghost use Rattle.sf_rules.specs.Setting.{Setting};
 ghost use Rattle.sf_rules.specs.Few.{has_numbers};
-ghost use Rattle.sf_rules.specs.Words.{negation, pending_assertion};
-ghost use Rattle.sf_sym.specs.Goal.{end, goal_of, taking, todo_of};
+ghost use Rattle.sf_rules.specs.Words.{negation, pending_assertion, to_add, to_add_test, to_take};
+ghost use Rattle.sf_sym.specs.Goal.{again, end, goal_of, to_run, todo_of};
 ghost use Rattle.sf_sym.specs.Pending.{pending_of};
-ghost use Rattle.sf_sym.specs.Ready.{is_listed};
 ghost use Rattle.sf_sym.specs.State.{term};
+ghost use Rattle.sf_sym.specs.Variables.{with_fresh};
 
 use crate::children::Children;
 use crate::few::TOO_MANY;
 use crate::front::{Loop, take_again, take_command, take_end, take_head, take_return};
-use crate::words::{Terms, pending, with_test};
-use sf_base::{Name, Place, Var};
+use crate::words::{Terms, pending, with_test, with_wanted};
+use sf_base::{Place, Var};
 use sf_calls::Calls;
 use sf_core::{Assertion, Command, Expr, Test};
 use sf_precise::{OrderFault, order};
@@ -65,17 +65,12 @@ pub(crate) fn begin_loop<'a>(
     let Some(c) = take_command(&mut todo)? else {
         return Ok(None);
     };
-    match c {
-        Command::While(place, test, invariant, body) => {
-            let want = pending_in_order(alloc, state.vars(), invariant)?;
-            todo.push(Item::Head(*place, test, invariant, body))?;
-            let todo = with_take(todo, *place, want, &invariant.names)?;
-            Ok(Some(Children::One(Goal { state, todo })))
-        }
-        Command::Assign(..) | Command::LookUp(..) | Command::Mutate(..) => Ok(None),
-        Command::New(..) | Command::Dispose(..) | Command::If(..) => Ok(None),
-        Command::Call(..) | Command::Fork(..) | Command::With(..) => Ok(None),
-    }
+    let Command::While(place, test, invariant, body) = c else {
+        return Ok(None);
+    };
+    todo.push(Item::Head(*place, test, invariant, body))?;
+    let todo = with_due(alloc, todo, *place, state.vars(), invariant)?;
+    Ok(Some(Children::One(Goal { state, todo })))
 }
 
 /// around: what the body may change is unknown, where it has a term. First the body once, second
@@ -92,31 +87,60 @@ pub(crate) fn around<'a>(
     ensures { IfOk result (λ left. option_map children_of left
         ≡ at_head (around_row d goal.entry.state) (todo_of goal.entry.todo.items)) }
 {
-    let Goal {
-        mut state,
-        mut todo,
-    } = goal;
+    let Goal { state, mut todo } = goal;
     let Some(l) = take_head(&mut todo)? else {
         return Ok(None);
     };
-    let changes = calls.assigned(alloc, l.body)?;
-    let unknown = listed_of(alloc, state.vars(), changes.as_slice())?;
-    if unknown.len() >= TOO_MANY {
+    let Some(state) = with_unknown(alloc, calls, state, l.body)? else {
         return Ok(None);
-    }
-    state.set_fresh(&unknown)?;
-    let once = body_once(alloc, state.copy(alloc)?, &l)?;
+    };
+    let once = body_once(alloc, &state, &l)?;
     let after = after_loop(alloc, state, todo, &l)?;
     Ok(Some(Children::Two(once, after)))
 }
 
-/// Those of the variables that have a term, in the same order. An `Err` means out of memory.
-fn listed_of(alloc: Global, vars: &[(Var, Term)], xs: &[Var]) -> Result<Vec<Var>, AllocError>
-    ensures { IfOk result (λ listed. listed.items ≡ filter (is_listed vars.now) xs.now) }
+/// The state in which the variables that a loop's body leaves unknown have fresh symbols. `None`
+/// exactly where they are too many; an `Err` means out of memory.
+fn with_unknown(
+    alloc: Global,
+    calls: &Calls,
+    mut state: State,
+    body: &[Command],
+) -> Result<Option<State>, AllocError>
+    ghost d: { Setting }
+    requires sets { d.sets ≡ calls.now }
+    requires numbers { IsTrue (has_numbers state) }
+    ensures some { IfOk result (λ r. IfSome r (λ s.
+        (length (unknown_in d state (block_of body.now)) < TOO_MANY)
+        × (s ≡ with_fresh (unknown_in d state (block_of body.now)) state))) }
+    ensures none { IfOk result (λ r. IfNone r
+        (nat_lt (length (unknown_in d state (block_of body.now))) TOO_MANY ≡ false)) }
 {
-    let mut listed = Vec::from_slice(alloc, xs)?;
-    listed.retain(|x| is_listed(vars, *x));
-    Ok(listed)
+    let unknown = unknown_in(alloc, calls, &state, body)?;
+    if unknown.len() >= TOO_MANY {
+        return Ok(None);
+    }
+    state.set_fresh(&unknown)?;
+    Ok(Some(state))
+}
+
+/// The variables that a loop's body leaves unknown in that state: those that it may change and that
+/// have a term. An `Err` means out of memory.
+fn unknown_in(
+    alloc: Global,
+    calls: &Calls,
+    state: &State,
+    body: &[Command],
+) -> Result<Vec<Var>, AllocError>
+    ghost d: { Setting }
+    requires { d.sets ≡ calls.now }
+    ensures { IfOk result (λ unknown. unknown.items ≡ unknown_in d state.now (block_of body.now)) }
+{
+    let changes = calls.assigned(alloc, body)?;
+    let vars = state.vars();
+    let mut unknown = Vec::from_slice(alloc, changes.as_slice())?;
+    unknown.retain(|x| is_listed(vars, *x));
+    Ok(unknown)
 }
 
 /// Whether the variable has a term.
@@ -128,21 +152,28 @@ fn is_listed(vars: &[(Var, Term)], x: Var) -> bool
 
 /// The body once, from the invariant alone and where the test is true. An `Err` means out of
 /// memory.
-fn body_once<'a>(alloc: Global, mut state: State, l: &Loop<'a>) -> Result<Goal<'a>, AllocError>
+fn body_once<'a>(alloc: Global, state: &State, l: &Loop<'a>) -> Result<Goal<'a>, AllocError>
     ghost d: { Setting }
     requires { IsOrdering d.ordered }
-    ensures { IfOk result (λ g. goal_of g ≡ body_once d state l.now.place l.now.test.now
+    ensures { IfOk result (λ g. goal_of g ≡ body_once d state.now l.now.place l.now.test.now
         (assertion_of l.now.invariant.now) (block_of l.now.body.now)) }
+{
+    let todo = body_and_again(alloc, l)?;
+    let todo = with_invariant(alloc, todo, state.vars(), l, l.test)?;
+    let mut state = state.copy(alloc)?;
+    state.clear_heap();
+    Ok(Goal { state, todo })
+}
+
+/// A loop's body, and then its end. An `Err` means out of memory.
+fn body_and_again<'a>(alloc: Global, l: &Loop<'a>) -> Result<Vec<Item<'a>>, AllocError>
+    ensures { IfOk result (λ todo. todo_of todo.items ≡ to_run (block_of l.now.body.now)
+        ++ (again l.now.place (assertion_of l.now.invariant.now) ∷ [])) }
 {
     let mut todo = Vec::with_capacity(alloc, 4)?;
     todo.push(Item::Again(l.place, l.invariant))?;
     todo.push(Item::Run(l.body))?;
-    let vars = state.vars();
-    let todo = with_test(alloc, todo, l.place, Terms::Of(vars), l.test)?;
-    let given = pending_in_order(alloc, vars, l.invariant)?;
-    let todo = with_add(todo, l.place, given)?;
-    state.clear_heap();
-    Ok(Goal { state, todo })
+    Ok(todo)
 }
 
 /// What comes after the loop, from the invariant beside what was kept and where the test is false.
@@ -158,12 +189,50 @@ fn after_loop<'a>(
     ensures { IfOk result (λ g. goal_of g ≡ after_loop d state l.now.place l.now.test.now
         (assertion_of l.now.invariant.now) (todo_of todo.entry.items)) }
 {
-    let vars = state.vars();
-    let todo = with_test(alloc, todo, l.place, Terms::Of(vars), &negation(l.test))?;
-    let given = pending_in_order(alloc, vars, l.invariant)?;
-    let todo = with_add(todo, l.place, given)?;
+    let todo = with_invariant(alloc, todo, state.vars(), l, &negation(l.test))?;
     state.clear_taken();
     Ok(Goal { state, todo })
+}
+
+/// Puts a loop's invariant first, in order, and after it that test, to assume both with the terms
+/// that their variables have now. An `Err` means out of memory.
+fn with_invariant<'a>(
+    alloc: Global,
+    todo: Vec<Item<'a>>,
+    vars: &[(Var, Term)],
+    l: &Loop<'_>,
+    test: &Test<Expr>,
+) -> Result<Vec<Item<'a>>, AllocError>
+    ghost d: { Setting }
+    requires { IsOrdering d.ordered }
+    ensures { IfOk result (λ r. todo_of r.items
+        ≡ to_add l.now.place (term vars.now) (d.ordered (assertion_of l.now.invariant.now))
+        ++ (to_add_test l.now.place (term vars.now) test.now ++ todo_of todo.entry.items)) }
+{
+    let todo = with_test(alloc, todo, l.place, Terms::Of(vars), test)?;
+    let given = pending_in_order(alloc, vars, l.invariant)?;
+    let todo = with_add(todo, l.place, given)?;
+    Ok(todo)
+}
+
+/// Puts a loop's invariant first, in order, to show with the terms that its variables have now. An
+/// `Err` means out of memory.
+fn with_due<'a>(
+    alloc: Global,
+    todo: Vec<Item<'a>>,
+    place: Place,
+    vars: &[(Var, Term)],
+    invariant: &'a Assertion,
+) -> Result<Vec<Item<'a>>, AllocError>
+    ghost d: { Setting }
+    requires { IsOrdering d.ordered }
+    ensures { IfOk result (λ r. todo_of r.items
+        ≡ to_take place (term vars.now) (d.ordered (assertion_of invariant.now))
+        ++ todo_of todo.entry.items) }
+{
+    let want = pending_in_order(alloc, vars, invariant)?;
+    let todo = with_take(todo, place, want, &invariant.names)?;
+    Ok(todo)
 }
 
 /// The negation of a test: of one that is always true, that nil differs from itself.
@@ -188,8 +257,8 @@ pub(crate) fn again<'a>(alloc: Global, goal: Goal<'a>) -> Result<Option<Children
     let Some((place, invariant)) = take_again(&mut todo)? else {
         return Ok(None);
     };
-    let want = pending_in_order(alloc, state.vars(), invariant)?;
-    let todo = shown_at_last(alloc, place, want, &invariant.names)?;
+    let todo = only_end(alloc, place)?;
+    let todo = with_due(alloc, todo, place, state.vars(), invariant)?;
     Ok(Some(Children::One(Goal { state, todo })))
 }
 
@@ -205,24 +274,18 @@ pub(crate) fn return_from<'a>(
     let Some((place, post)) = take_return(&mut todo)? else {
         return Ok(None);
     };
-    let want = pending(alloc, Terms::Of(state.vars()), post)?;
-    let todo = shown_at_last(alloc, place, want, &post.names)?;
+    let todo = only_end(alloc, place)?;
+    let todo = with_wanted(alloc, todo, place, Terms::Of(state.vars()), post)?;
     Ok(Some(Children::One(Goal { state, todo })))
 }
 
-/// Conjuncts to show, after which nothing may be left. An `Err` means out of memory.
-fn shown_at_last<'a>(
-    alloc: Global,
-    place: Place,
-    want: Pending,
-    names: &'a [Name],
-) -> Result<Vec<Item<'a>>, AllocError>
-    ensures { IfOk result (λ todo. todo_of todo.items
-        ≡ taking place (pending_of want) names.now ++ (end place ∷ [])) }
+/// Only the end of all. An `Err` means out of memory.
+fn only_end<'a>(alloc: Global, place: Place) -> Result<Vec<Item<'a>>, AllocError>
+    ensures { IfOk result (λ todo. todo_of todo.items ≡ end place ∷ []) }
 {
     let mut todo = Vec::with_capacity(alloc, 2)?;
     todo.push(Item::End(place))?;
-    with_take(todo, place, want, names)
+    Ok(todo)
 }
 
 /// end: no atom is left.

@@ -1,18 +1,18 @@
 //! Rows of critical regions: enter, exit.
 
-ghost use Rattle.std.specs.Prelude.{◌≡◌, ◌<◌, ◌^◌, IfNone, IfOk, IfSome, IsTrue, None, Some, length};
+ghost use Rattle.std.specs.Prelude.{◌≡◌, ◌++◌, ◌∷◌, [], ◌<◌, ◌^◌, IfNone, IfOk, IfSome, IsTrue, None, Some, length};
 ghost use Rattle.std.specs.List.{slice_get};
 ghost use Rattle.std.specs.Option.{option_map};
 ghost use Rattle.sf_base.specs.Results.{Appends};
 ghost use Rattle.sf_core.specs.Program.Syntax.{Resource as ResourceOf};
-ghost use Rattle.sf_core.specs.Program.View.{assertion_of};
+ghost use Rattle.sf_core.specs.Program.View.{assertion_of, block_of};
 ghost use Rattle.sf_precise.specs.Order.{IsOrdering};
 ghost use Rattle.sf_rules.specs.Internal.Children.{children_of};
 ghost use Rattle.sf_rules.specs.Rows.Front.{at_command, at_exit};
 ghost use Rattle.sf_rules.specs.Rows.Regions.{enter_row, entered_with, exit_row, variables_from};
 ghost use Rattle.sf_rules.specs.Setting.{Setting, setting_of};
 ghost use Rattle.sf_rules.specs.Few.{has_numbers};
-ghost use Rattle.sf_sym.specs.Goal.{todo_of};
+ghost use Rattle.sf_sym.specs.Goal.{exit, gave, to_run, todo_of};
 
 use crate::children::Children;
 use crate::few::TOO_MANY;
@@ -97,19 +97,29 @@ pub(crate) fn enter<'a>(
     let Some(c) = take_command(&mut todo)? else {
         return Ok(None);
     };
-    match c {
-        Command::With(place, r, test, body) => {
-            let Some(region) = region_of(arranged, *r) else {
-                return Ok(None);
-            };
-            todo.push(Item::Exit(*place, *r))?;
-            todo.push(Item::Run(body))?;
-            enter_region(alloc, Goal { state, todo }, *place, *r, test, region)
-        }
-        Command::Assign(..) | Command::LookUp(..) | Command::Mutate(..) => Ok(None),
-        Command::New(..) | Command::Dispose(..) | Command::If(..) => Ok(None),
-        Command::While(..) | Command::Call(..) | Command::Fork(..) => Ok(None),
-    }
+    let Command::With(place, r, test, body) = c else {
+        return Ok(None);
+    };
+    let Some(region) = region_of(arranged, *r) else {
+        return Ok(None);
+    };
+    let todo = with_body(todo, *place, *r, body)?;
+    enter_region(alloc, Goal { state, todo }, *place, *r, test, region)
+}
+
+/// Puts a region's body first, and after it the region's end. An `Err` means out of memory.
+fn with_body<'a>(
+    mut todo: Vec<Item<'a>>,
+    place: Place,
+    r: ResId,
+    body: &'a [Command],
+) -> Result<Vec<Item<'a>>, AllocError>
+    ensures { IfOk result (λ inside. todo_of inside.items
+        ≡ to_run (block_of body.now) ++ (exit place r ∷ todo_of todo.entry.items)) }
+{
+    todo.push(Item::Exit(place, r))?;
+    todo.push(Item::Run(body))?;
+    Ok(todo)
 }
 
 /// The entry into that region under that condition, where what is done inside stands first.
@@ -156,9 +166,26 @@ pub(crate) fn exit<'a>(
     let Some(region) = region_of(arranged, r) else {
         return Ok(None);
     };
-    let xs = variables_of(alloc, r, region.names)?;
-    todo.push(Item::Gave(place, Vec::new(alloc), xs))?;
+    let todo = with_removed(alloc, todo, place, r, region.names)?;
     let terms = Terms::Of(state.vars());
     let todo = with_wanted(alloc, todo, place, terms, region.invariant)?;
     Ok(Some(Children::One(Goal { state, todo })))
+}
+
+/// Puts first that the variables of a resource that has these names are removed. An `Err` means out
+/// of memory.
+fn with_removed<'a>(
+    alloc: Global,
+    mut todo: Vec<Item<'a>>,
+    place: Place,
+    r: ResId,
+    names: &[Name],
+) -> Result<Vec<Item<'a>>, AllocError>
+    requires { length names.now < 2 ^ 32 }
+    ensures { IfOk result (λ left. todo_of left.items
+        ≡ gave place [] (variables_from r 0 names.now) ∷ todo_of todo.entry.items) }
+{
+    let xs = variables_of(alloc, r, names)?;
+    todo.push(Item::Gave(place, Vec::new(alloc), xs))?;
+    Ok(todo)
 }

@@ -53,7 +53,8 @@ fn first_state(
     procedure: &Proc,
 ) -> Result<State, AllocError>
     requires there { f.0 < length arranged.now.program.procedures.items }
-    requires formed { ProcedureWithin (program_of arranged.now.program) (procedure_of procedure.now) }
+    requires formed { ProcedureWithin (program_of arranged.now.program)
+        (procedure_of procedure.now) }
     ensures { IfOk result (λ state. state ≡ state_by (program_of arranged.now.program)
         (get_or arranged.now.calls.holds f.0 []) (procedure_of procedure.now)) }
 {

@@ -1,17 +1,17 @@
 use Rattle.std.proofs.Common.{◌≡◌, ap, ◌∙◌, ◌∷◌, rules}
 use Rattle.std.proofs.lemmas.Result.{IfOk-weaker}
-use Rattle.sf_base.proofs.Options.{none-holds, some-holds}
+use Rattle.sf_base.proofs.Options.{some-holds}
 use Rattle.sf_core.specs.Program.Syntax.{Command}
 use Rattle.sf_core.specs.Program.View.{assertion_of, call_of, command_of}
 use Rattle.sf_sym.specs.Goal.{run, todo_of}
 use Rattle.sf_rules.specs.Internal.Children.{children_of}
 use Rattle.std.specs.Option.{option_map}
 use Rattle.sf_rules.specs.Setting.{Setting}
-use Rattle.sf_rules.proofs.CallRows.{call_absent, call_at, call_view}
+use Rattle.sf_rules.proofs.CallRows.{call_at, call_view}
 use Rattle.sf_rules.proofs.calls.call.Goals as goal
 
-pub returns-in-Call : goal.returns-in-Call
-returns-in-Call g c =
+pub returns : goal.returns
+returns g c =
     let rest = todo_of c.take_command.new.todo.items in
     let front : todo_of c.args.goal.todo.items ≡ run (command_of c.in-Some.c.now) ∷ rest = search rules in
     let first = front ∙ ap (λ (x : Command). run x ∷ rest)

@@ -1,4 +1,4 @@
-use Rattle.std.proofs.Common.{◌≡◌, List, ◌++◌, map, ap, sym, ◌∙◌, rules}
+use Rattle.std.proofs.Common.{◌≡◌, ◌++◌, map, ◌∙◌}
 use Rattle.sf_core.specs.Program.View.{assertion_of, call_of}
 use Rattle.sf_sym.specs.Goal.{todo_of}
 use Rattle.sf_sym.specs.State.{term, term_at}

@@ -1,7 +1,5 @@
-use Rattle.std.proofs.Common.{◌≡◌, List, ◌++◌, map, ap, sym, ◌∙◌, rules}
-use Rattle.sf_base.specs.declared.ids.Var.{Var}
+use Rattle.std.proofs.Common.{◌≡◌, ◌++◌, map, ◌∙◌}
 use Rattle.sf_core.specs.Program.View.{assertion_of, call_of}
-use Rattle.sf_sym.specs.declared.term.Term.{Term}
 use Rattle.sf_sym.specs.Goal.{todo_of}
 use Rattle.sf_sym.specs.State.{term, term_at}
 use Rattle.sf_rules.specs.Rows.Calls.{callee_term, term_by}

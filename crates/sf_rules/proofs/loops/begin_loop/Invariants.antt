@@ -1,4 +1,4 @@
 use Rattle.sf_rules.proofs.loops.begin_loop.Given as goal
 
-abbrev pub ghost-pending_in_order : goal.ghost-pending_in_order
-ghost-pending_in_order g a = g.d
+abbrev pub ghost-with_due : goal.ghost-with_due
+ghost-with_due g a = g.d

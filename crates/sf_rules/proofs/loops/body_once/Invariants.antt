@@ -1,4 +1,4 @@
 use Rattle.sf_rules.proofs.loops.body_once.Given as goal
 
-abbrev pub ghost-pending_in_order : goal.ghost-pending_in_order
-ghost-pending_in_order g a = g.d
+abbrev pub ghost-with_invariant : goal.ghost-with_invariant
+ghost-with_invariant g a = g.d

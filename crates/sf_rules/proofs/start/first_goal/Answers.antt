@@ -1,5 +1,4 @@
-use Rattle.std.proofs.Common.{◌≡◌, ap, ◌∙◌, rules}
-use Rattle.sf_core.specs.Program.View.{assertion_of, block_of, procedure_of}
+use Rattle.sf_core.specs.Program.View.{assertion_of, procedure_of}
 use Rattle.sf_sym.specs.Goal.{todo_of}
 use Rattle.sf_rules.proofs.FirstRows.{first_left}
 use Rattle.sf_rules.proofs.Items.{run_and_return}

@@ -1,4 +1,4 @@
-use Rattle.std.proofs.Common.{◌≡◌, ◌+◌, List, length, ap, ◌∙◌, rules, arith}
+use Rattle.std.proofs.Common.{◌+◌}
 use Rattle.sf_rules.proofs.Firsts.{own_firsts-order}
 use Rattle.sf_rules.proofs.start.first_state.Goals as goal
 

@@ -1,4 +1,4 @@
-use Rattle.std.proofs.Common.{append-nil, ◌≡◌, ◌<◌, ◌≤◌, List, [], ◌∷◌, ◌++◌, None, Some, length, sym, ap, ◌∙◌, rules, arith}
+use Rattle.std.proofs.Common.{append-nil, ◌≡◌, ◌<◌, List, [], ◌∷◌, ◌++◌, None, length, sym, ap, ◌∙◌, rules, arith}
 use Rattle.std.proofs.lemmas.Bool.Decides.{nat_tests}
 use Rattle.std.proofs.lemmas.List.{length-map}
 use Rattle.std.proofs.lemmas.List.{nil_from_length}

@@ -1,0 +1,4 @@
+use Rattle.sf_rules.proofs.loops.with_invariant.Given as goal
+
+abbrev pub ghost-pending_in_order : goal.ghost-pending_in_order
+ghost-pending_in_order g a = g.d
