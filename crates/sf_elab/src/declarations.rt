@@ -2,7 +2,7 @@
 
 ghost use Rattle.std.specs.Prelude.{◌≡◌, ◌++◌, ◌+◌, [], length, map, IfOk, OnOk};
 ghost use Rattle.sf_base.specs.Results.{Appends};
-ghost use Rattle.sf_ast.specs.View.{item_of, names_of, parameters_of, procedure_of, resource_of};
+ghost use Rattle.sf_ast.specs.View.{item_of, names_of, parameters_of, procedure_of};
 ghost use Rattle.sf_base.specs.declared.ids.Var.TheVariants.{Own};
 ghost use Rattle.sf_base.specs.declared.limits.TheConstants.{FIELDS, OWN_VARIABLES, RESOURCE_VARIABLES};
 ghost use Rattle.sf_elab.specs.declared.fault.Fault.TheVariants.{Twice};
@@ -18,7 +18,7 @@ use crate::env::report_if;
 use crate::fault::{Fault, Link};
 use crate::table::Table;
 use crate::texts::{name, text};
-use sf_ast::{Item, SurfaceNames, SurfaceParameters, SurfaceProcedure, SurfaceResource, Word};
+use sf_ast::{Item, SurfaceNames, SurfaceParameters, SurfaceProcedure, Word};
 use sf_base::limits::{FIELDS, OWN_VARIABLES, PROCEDURES, RESOURCE_VARIABLES, RESOURCES};
 use sf_base::{Counted, FieldId, Name, Place, ProcId, ResId, Var};
 use std::alloc::{AllocError, Global};

@@ -7,10 +7,10 @@ ghost use Rattle.sf_base.specs.declared.ids.Var.TheVariants.{Own};
 ghost use Rattle.sf_base.specs.declared.limits.TheConstants.{OWN_VARIABLES};
 ghost use Rattle.sf_core.specs.Program.View as core;
 ghost use Rattle.sf_elab.specs.Bodies.Commands.{all_faults, commands_faults, commands_of, set_in_all};
-ghost use Rattle.sf_elab.specs.Annotations.Assertions.{maybe_faults, maybe_of, annotation_faults, annotation_of};
+ghost use Rattle.sf_elab.specs.Annotations.Assertions.{maybe_faults, maybe_of, annotation_faults};
 ghost use Rattle.sf_elab.specs.Names.Declarations.{procedures_in, resources_in, numbered, numbered_faults, references_of, shared_by, values_of};
 ghost use Rattle.sf_elab.specs.Files.Elaborated.{invariants_faults, resources_from};
-ghost use Rattle.sf_elab.specs.Bodies.Procedures.{local_words, is_among, is_primed, parameters_of, parameter_count, declared_count, body_values, body_variables, own_names, first_assignments, outside_of, inside_of, procedure_of, parameter_faults, local_faults, procedure_faults, invariant_of, resource_of};
+ghost use Rattle.sf_elab.specs.Bodies.Procedures.{local_words, is_among, is_primed, parameters_of, declared_count, body_values, body_variables, own_names, first_assignments, outside_of, inside_of, procedure_of, parameter_faults, local_faults, procedure_faults, invariant_of, resource_of};
 ghost use Rattle.sf_elab.specs.Names.Table.{has};
 ghost use Rattle.sf_elab.specs.Names.Texts.{text as word_text};
 
