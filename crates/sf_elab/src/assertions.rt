@@ -1,8 +1,9 @@
 //! The assertions of a file, numbered.
 
-ghost use Rattle.std.specs.Prelude.{◌≡◌, ◌++◌, ◌-◌, [], map, IfOk, OnOk};
+ghost use Rattle.std.specs.Prelude.{◌≡◌, ◌∷◌, ◌++◌, ◌-◌, [], map, IfOk, OnOk};
 ghost use Rattle.sf_base.specs.Results.{Appends};
-ghost use Rattle.sf_ast.specs.View.{annotation_of as surface_annotation};
+ghost use Rattle.sf_ast.specs.View.{annotation_of as surface_annotation, assertion_of};
+ghost use Rattle.sf_ast.specs.Surface.{filled};
 ghost use Rattle.sf_core.specs.Program.View as core;
 ghost use Rattle.sf_elab.specs.Annotations.Assertions.{operand_of, operand_faults, values_of, values_faults, link_of, segment_faults, tree_faults, conjunct_of, conjuncts_of, level_of, conjunct_faults, level_faults, annotation_of, annotation_faults, maybe_of, maybe_faults};
 ghost use Rattle.sf_elab.specs.Annotations.Existentials.{taking, names_after, names_after_all, names_after_level};
@@ -22,7 +23,7 @@ use crate::flat::{Flat, level as flat_level};
 use crate::levels::Levels;
 use crate::table::Table;
 use crate::texts::text;
-use sf_ast::{SurfaceField, SurfaceNote, SurfaceOperand, SurfaceTest};
+use sf_ast::{SurfaceAssertion, SurfaceField, SurfaceNote, SurfaceOperand, SurfaceTest};
 use sf_base::{FieldId, Place};
 use sf_core::{Assertion, Conjunct, Expr, Level, Operand, Scope, Test};
 use std::alloc::{AllocError, Global};
@@ -129,6 +130,31 @@ fn field(
     Ok(number)
 }
 
+/// Appends a field of a cell with its value. What is wrong with it is noted, also where that field
+/// is given already.
+fn add_value(
+    alloc: Global,
+    env: &Env<'_>,
+    levels: &Levels,
+    one: &SurfaceField,
+    given: &mut Table<FieldId>,
+    done: &mut Vec<(FieldId, Operand<Expr>)>,
+    found: &mut Vec<Fault>,
+) -> Result<(), AllocError>
+    ensures same { Appends result done.old.items done.new.items
+        (values_of (env_of env.now) levels.now (one.now ∷ [])) }
+    ensures given { OnOk result (given.new
+        ≡ declare (word_text env.now.bytes.now one.now.name)
+        (field_of (env_of env.now) one.now.name) given.old) }
+    ensures faults { Appends result found.old.items found.new.items
+        (values_faults (env_of env.now) given.old (one.now ∷ [])) }
+{
+    let number = field(alloc, env, one, given, found)?;
+    let value = operand(env, levels, &one.value, found)?;
+    done.push((number, value))?;
+    Ok(())
+}
+
 /// The fields of a cell with their values.
 fn values(
     alloc: Global,
@@ -144,9 +170,7 @@ fn values(
     let mut given = Table::new(alloc);
     let mut done = Vec::new(alloc);
     for one in fields {
-        let number = field(alloc, env, one, &mut given, found)?;
-        let value = operand(env, levels, &one.value, found)?;
-        done.push((number, value))?;
+        add_value(alloc, env, levels, one, &mut given, &mut done, found)?;
     }
     Ok(done)
 }
@@ -343,6 +367,27 @@ fn level(
     Ok(Level { made, conjuncts })
 }
 
+/// A whole assertion, with all existentials that its levels make.
+fn whole(
+    alloc: Global,
+    env: &Env<'_>,
+    assertion: &SurfaceAssertion,
+    found: &mut Vec<Fault>,
+) -> Result<Assertion, AllocError>
+    ensures same { IfOk result (λ x. core.assertion_of x
+        ≡ annotation_of (env_of env.now) (filled (assertion_of assertion.now))) }
+    ensures faults { Appends result found.old.items found.new.items
+        (annotation_faults (env_of env.now) (filled (assertion_of assertion.now))) }
+{
+    let all = flat_level(alloc, assertion)?;
+    let mut levels = Levels::new(alloc);
+    let level = level(alloc, env, &mut levels, &all, found)?;
+    Ok(Assertion {
+        names: levels.names.into_vec(),
+        level,
+    })
+}
+
 /// What occurs in square brackets, as a whole assertion.
 pub fn annotation(
     alloc: Global,
@@ -357,15 +402,7 @@ pub fn annotation(
 {
     match &annotation.assertion {
         None => Ok(empty(alloc)),
-        Some(assertion) => {
-            let mut levels = Levels::new(alloc);
-            let all = flat_level(alloc, assertion)?;
-            let level = level(alloc, env, &mut levels, &all, found)?;
-            Ok(Assertion {
-                names: levels.names.into_vec(),
-                level,
-            })
-        }
+        Some(assertion) => whole(alloc, env, assertion, found),
     }
 }
 

@@ -1,6 +1,6 @@
 //! The commands of a file, numbered.
 
-ghost use Rattle.std.specs.Prelude.{◌≡◌, ◌∷◌, ◌++◌, ◌≤◌, [], map, length, is_some, IfOk};
+ghost use Rattle.std.specs.Prelude.{◌≡◌, ◌∷◌, ◌++◌, [], map, IfOk};
 ghost use Rattle.sf_base.specs.Results.{Appends};
 ghost use Rattle.std.specs.Option.{option_map};
 ghost use Rattle.sf_ast.specs.View.{arguments_of, call_of as surface_call, command_of as surface_command, commands as surface_commands, annotation_of as surface_annotation};
@@ -11,7 +11,6 @@ ghost use Rattle.sf_elab.specs.Bodies.Commands.{references_in, values_in, call_o
 ghost use Rattle.sf_elab.specs.Names.InEnv.{env_of, occurrence, variable_faults, expr_of, expr_faults, expr_place as place_of_expr, field_of, field_faults, test_of, test_faults, resource_named, resource_faults, header_named};
 
 use crate::assertions::maybe;
-use crate::declared::Header;
 use crate::env::{Env, expr_place, report_if};
 use crate::fault::Fault;
 use crate::texts::text;

@@ -2,7 +2,7 @@
 
 ghost use Rattle.std.specs.Prelude.{◌≡◌, ◌++◌, ◌+◌, [], length, map, IfOk, OnOk};
 ghost use Rattle.sf_base.specs.Results.{Appends};
-ghost use Rattle.sf_ast.specs.View.{item_of, names_of, parameters_of, procedure_of, resource_of};
+ghost use Rattle.sf_ast.specs.View.{item_of, names_of, parameters_of, procedure_of};
 ghost use Rattle.sf_base.specs.declared.ids.Var.TheVariants.{Own};
 ghost use Rattle.sf_base.specs.declared.limits.TheConstants.{FIELDS, OWN_VARIABLES, RESOURCE_VARIABLES};
 ghost use Rattle.sf_elab.specs.declared.fault.Fault.TheVariants.{Twice};
@@ -18,7 +18,7 @@ use crate::env::report_if;
 use crate::fault::{Fault, Link};
 use crate::table::Table;
 use crate::texts::{name, text};
-use sf_ast::{Item, SurfaceNames, SurfaceParameters, SurfaceProcedure, SurfaceResource, Word};
+use sf_ast::{Item, SurfaceNames, SurfaceParameters, SurfaceProcedure, Word};
 use sf_base::limits::{FIELDS, OWN_VARIABLES, PROCEDURES, RESOURCE_VARIABLES, RESOURCES};
 use sf_base::{Counted, FieldId, Name, Place, ProcId, ResId, Var};
 use std::alloc::{AllocError, Global};
@@ -243,36 +243,29 @@ pub fn field_names_of(alloc: Global, bytes: &[u8], items: &[Item]) -> Result<Vec
     field_names(alloc, bytes, &words)
 }
 
-/// The resources that the items declare.
-fn declared_resources(
+/// Declares the resources among the items, numbered from 0 on.
+fn declare_resources(
     alloc: Global,
     bytes: &[u8],
     items: &[Item],
+    resources: &mut Table<ResId>,
     found: &mut Vec<Fault>,
-) -> Result<Table<ResId>, AllocError>
-    ensures table { IfOk result
-        (λ t. t ≡ resource_table bytes.now 0 (resources_in (map item_of items.now)) []) }
+) -> Result<(), AllocError>
+    ensures table { OnOk result (resources.new
+        ≡ resource_table bytes.now 0 (resources_in (map item_of items.now)) resources.old) }
     ensures faults { Appends result found.old.items found.new.items
-        (resource_name_faults bytes.now 0 (resources_in (map item_of items.now)) []) }
+        (resource_name_faults bytes.now 0 (resources_in (map item_of items.now)) resources.old) }
 {
-    let mut resources = Table::new(alloc);
     let mut declared = Counted::new(alloc);
     for item in items {
         if let Item::Resource(resource) = item {
             let number = declared.len();
-            declare_name(
-                alloc,
-                bytes,
-                resource.name,
-                ResId(number),
-                &mut resources,
-                found,
-            )?;
+            declare_name(alloc, bytes, resource.name, ResId(number), resources, found)?;
             annotation_beyond(RESOURCES, number, resource.place, found)?;
             declared.push(resource.name)?;
         }
     }
-    Ok(resources)
+    Ok(())
 }
 
 /// Notes what is wrong with a variable of a resource: the resource has it already, or another one
@@ -357,30 +350,30 @@ pub fn declare<V: Copy>(
     table.declare(alloc, text(bytes, word), value)
 }
 
-/// The variables of all resources.
-fn declared_variables(
+/// Declares the variables of all resources among the items.
+fn declare_variables(
     alloc: Global,
     bytes: &[u8],
     items: &[Item],
+    all: &mut Table<Var>,
     found: &mut Vec<Fault>,
-) -> Result<Table<Var>, AllocError>
-    ensures table { IfOk result
-        (λ t. t ≡ shared_table bytes.now 0 (resources_in (map item_of items.now)) []) }
+) -> Result<(), AllocError>
+    ensures table { OnOk result
+        (all.new ≡ shared_table bytes.now 0 (resources_in (map item_of items.now)) all.old) }
     ensures faults { Appends result found.old.items found.new.items
-        (all_shared_faults bytes.now 0 0 (resources_in (map item_of items.now)) []) }
+        (all_shared_faults bytes.now 0 0 (resources_in (map item_of items.now)) all.old) }
 {
-    let mut all = Table::new(alloc);
     let mut resources = Counted::new(alloc);
     let mut declared = Counted::new(alloc);
     for item in items {
         if let Item::Resource(resource) = item {
             let k = resources.len();
             let words = &resource.variables;
-            declare_shared(alloc, bytes, k, words, &mut declared, &mut all, found)?;
+            declare_shared(alloc, bytes, k, words, &mut declared, all, found)?;
             resources.push(resource.name)?;
         }
     }
-    Ok(all)
+    Ok(())
 }
 
 /// What calls see of the procedure of that number.
@@ -394,30 +387,56 @@ fn header(number: u32, procedure: &SurfaceProcedure) -> Header
     }
 }
 
-/// The procedures that the items declare.
-fn declared_procedures(
+/// Declares the procedures among the items, numbered from 0 on.
+fn declare_procedures(
     alloc: Global,
     bytes: &[u8],
     items: &[Item],
+    procedures: &mut Table<Header>,
     found: &mut Vec<Fault>,
-) -> Result<Table<Header>, AllocError>
-    ensures table { IfOk result (λ t. t
-        ≡ procedure_table bytes.now 0 (procedures_in (map item_of items.now)) []) }
-    ensures faults { Appends result found.old.items found.new.items
-        (procedure_name_faults bytes.now 0 (procedures_in (map item_of items.now)) []) }
+) -> Result<(), AllocError>
+    ensures table { OnOk result (procedures.new
+        ≡ procedure_table bytes.now 0 (procedures_in (map item_of items.now)) procedures.old) }
+    ensures faults { Appends result found.old.items found.new.items (procedure_name_faults
+        bytes.now 0 (procedures_in (map item_of items.now)) procedures.old) }
 {
-    let mut procedures = Table::new(alloc);
     let mut declared = Counted::new(alloc);
     for item in items {
         if let Item::Procedure(procedure) = item {
             let number = declared.len();
             let header = header(number, procedure);
-            declare_name(alloc, bytes, procedure.name, header, &mut procedures, found)?;
+            declare_name(alloc, bytes, procedure.name, header, procedures, found)?;
             annotation_beyond(PROCEDURES, number, procedure.name.place, found)?;
             declared.push(procedure.name)?;
         }
     }
-    Ok(procedures)
+    Ok(())
+}
+
+/// Declares the resources with their variables, and the procedures, among the items.
+fn declare_items(
+    alloc: Global,
+    bytes: &[u8],
+    items: &[Item],
+    all: &mut Declared,
+    found: &mut Vec<Fault>,
+) -> Result<(), AllocError>
+    ensures fields { all.new.fields ≡ all.old.fields }
+    ensures resources { OnOk result (all.new.resources
+        ≡ resource_table bytes.now 0 (resources_in (map item_of items.now)) all.old.resources) }
+    ensures shared { OnOk result (all.new.shared
+        ≡ shared_table bytes.now 0 (resources_in (map item_of items.now)) all.old.shared) }
+    ensures procedures { OnOk result (all.new.procedures
+        ≡ procedure_table bytes.now 0 (procedures_in (map item_of items.now)) all.old.procedures) }
+    ensures faults { Appends result found.old.items found.new.items
+        (resource_name_faults bytes.now 0 (resources_in (map item_of items.now)) all.old.resources
+        ++ all_shared_faults bytes.now 0 0 (resources_in (map item_of items.now)) all.old.shared
+        ++ procedure_name_faults bytes.now 0 (procedures_in (map item_of items.now))
+        all.old.procedures) }
+{
+    declare_resources(alloc, bytes, items, &mut all.resources, found)?;
+    declare_variables(alloc, bytes, items, &mut all.shared, found)?;
+    declare_procedures(alloc, bytes, items, &mut all.procedures, found)
 }
 
 /// All that a file declares.
@@ -432,13 +451,12 @@ pub fn declared(
         (declared_faults bytes.now (map item_of items.now)) }
 {
     let fields = declared_fields(alloc, bytes, items, found)?;
-    let resources = declared_resources(alloc, bytes, items, found)?;
-    let shared = declared_variables(alloc, bytes, items, found)?;
-    let procedures = declared_procedures(alloc, bytes, items, found)?;
-    Ok(Declared {
+    let mut all = Declared {
         fields,
-        resources,
-        shared,
-        procedures,
-    })
+        resources: Table::new(alloc),
+        shared: Table::new(alloc),
+        procedures: Table::new(alloc),
+    };
+    declare_items(alloc, bytes, items, &mut all, found)?;
+    Ok(all)
 }

@@ -4,12 +4,12 @@ ghost use Rattle.std.specs.Prelude.{◌≡◌, ◌⊎◌, ◌++◌, map, IfErr, 
 ghost use Rattle.sf_base.specs.Results.{Appends, Decides};
 ghost use Rattle.sf_ast.specs.View.{item_of};
 ghost use Rattle.sf_core.specs.Program.Formed.{IsFormed};
-ghost use Rattle.sf_core.specs.Program.View.{procedure_of as core_procedure, program_with, resource_of};
+ghost use Rattle.sf_core.specs.Program.View.{program_with};
 ghost use Rattle.sf_core.specs.Program.ProgramView.{program_of};
 ghost use Rattle.sf_elab.specs.Bodies.Commands.{all_faults};
-ghost use Rattle.sf_elab.specs.Names.Declarations.{procedures_in, resources_in};
-ghost use Rattle.sf_elab.specs.Files.Elaborated.{Elaborates, FirstFault, elaborated, faults, invariants_faults, resources_from};
-ghost use Rattle.sf_elab.specs.Bodies.Procedures.{procedure_faults, procedure_of};
+ghost use Rattle.sf_elab.specs.Names.Declarations.{declared_by, procedures_in, resources_in};
+ghost use Rattle.sf_elab.specs.Files.Elaborated.{Elaborates, FirstFault, elaborated, faults, invariants_faults};
+ghost use Rattle.sf_elab.specs.Bodies.Procedures.{procedure_faults};
 
 use crate::declarations::{declared, field_names_of};
 use crate::declared::Declared;
@@ -29,26 +29,31 @@ struct Gathered {
     procedures: Vec<Proc>,
 }
 
-/// The resources and the procedures of a file whose names stand for that.
-fn things(
+/// What those items have, their names standing for what they declare.
+fn gather(
     alloc: Global,
     bytes: &[u8],
     names: &Declared,
     items: &[Item],
     found: &mut Vec<Fault>,
-) -> Result<(Vec<Resource>, Vec<Proc>), AllocError>
-    ensures resources { IfOk result (λ x. map resource_of x.0.items
-        ≡ resources_from bytes.now names.now 0 (resources_in (map item_of items.now))) }
-    ensures procedures { IfOk result (λ x. map core_procedure x.1.items
-        ≡ map (procedure_of bytes.now names.now) (procedures_in (map item_of items.now))) }
+) -> Result<Gathered, AllocError>
+    requires { names.now ≡ declared_by bytes.now (map item_of items.now) }
+    ensures program { IfOk result
+        (λ x. program_with x.fields.items x.resources.items x.procedures.items
+        ≡ elaborated bytes.now (map item_of items.now)) }
     ensures faults { Appends result found.old.items found.new.items
         (invariants_faults bytes.now names.now 0 (resources_in (map item_of items.now))
         ++ all_faults (procedure_faults bytes.now names.now)
         (procedures_in (map item_of items.now))) }
 {
+    let fields = field_names_of(alloc, bytes, items)?;
     let resources = resources(alloc, bytes, names, items, found)?;
     let procedures = procedures(alloc, bytes, names, items, found)?;
-    Ok((resources, procedures))
+    Ok(Gathered {
+        fields,
+        resources,
+        procedures,
+    })
 }
 
 /// What those items have, and all that is wrong.
@@ -64,14 +69,8 @@ fn parts(
     ensures faults { Appends result found.old.items found.new.items
         (faults bytes.now (map item_of items.now)) }
 {
-    let fields = field_names_of(alloc, bytes, items)?;
     let names = declared(alloc, bytes, items, found)?;
-    let (resources, procedures) = things(alloc, bytes, &names, items, found)?;
-    Ok(Gathered {
-        fields,
-        resources,
-        procedures,
-    })
+    gather(alloc, bytes, &names, items, found)
 }
 
 /// The program of those parts, which are in order.

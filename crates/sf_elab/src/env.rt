@@ -1,6 +1,6 @@
 //! What names stand for at some place of a file, and the expressions there.
 
-ghost use Rattle.std.specs.Prelude.{◌≡◌, is_some, not, IfOk};
+ghost use Rattle.std.specs.Prelude.{◌≡◌, IfOk};
 ghost use Rattle.sf_base.specs.Results.{Appends};
 ghost use Rattle.sf_elab.specs.Files.Faults.{where_};
 ghost use Rattle.sf_elab.specs.Names.InEnv.{env_of, variable, occurrence, variable_faults, expr_of, expr_faults, expr_place, test_of, test_faults, field_of, field_faults, resource_named, resource_faults};

@@ -4,12 +4,13 @@ ghost use Rattle.std.specs.Prelude.{◌≡◌, ◌∷◌, ◌++◌, ◌+◌, [],
 ghost use Rattle.sf_base.specs.Results.{Appends};
 ghost use Rattle.sf_ast.specs.View.{command_of as surface_command, commands as surface_commands, item_of, names_of, procedure_of as surface_procedure, resource_of as surface_resource};
 ghost use Rattle.sf_base.specs.declared.ids.Var.TheVariants.{Own};
+ghost use Rattle.sf_base.specs.declared.limits.TheConstants.{OWN_VARIABLES};
 ghost use Rattle.sf_core.specs.Program.View as core;
 ghost use Rattle.sf_elab.specs.Bodies.Commands.{all_faults, commands_faults, commands_of, set_in_all};
-ghost use Rattle.sf_elab.specs.Annotations.Assertions.{maybe_faults, maybe_of, annotation_faults, annotation_of};
-ghost use Rattle.sf_elab.specs.Names.Declarations.{procedures_in, resources_in, numbered, references_of, shared_by, values_of};
+ghost use Rattle.sf_elab.specs.Annotations.Assertions.{maybe_faults, maybe_of, annotation_faults};
+ghost use Rattle.sf_elab.specs.Names.Declarations.{procedures_in, resources_in, numbered, numbered_faults, references_of, shared_by, values_of};
 ghost use Rattle.sf_elab.specs.Files.Elaborated.{invariants_faults, resources_from};
-ghost use Rattle.sf_elab.specs.Bodies.Procedures.{local_words, is_among, is_primed, parameters_of, parameter_count, declared_count, body_values, body_variables, own_names, first_assignments, outside_of, inside_of, procedure_of, parameter_faults, local_faults, procedure_faults, invariant_of, resource_of};
+ghost use Rattle.sf_elab.specs.Bodies.Procedures.{local_words, is_among, is_primed, parameters_of, declared_count, body_values, body_variables, own_names, first_assignments, outside_of, inside_of, procedure_of, parameter_faults, local_faults, procedure_faults, invariant_of, resource_of};
 ghost use Rattle.sf_elab.specs.Names.Table.{has};
 ghost use Rattle.sf_elab.specs.Names.Texts.{text as word_text};
 
@@ -225,7 +226,31 @@ fn declared_names(
     Ok(done)
 }
 
-/// What a procedure's body sees and begins with. What is wrong with its variables was noted before.
+/// Declares own variables that the body sees as they are. What is wrong with them was noted before.
+fn declare_unprimed(
+    alloc: Global,
+    bytes: &[u8],
+    words: &[Word],
+    body: &mut Prologue,
+) -> Result<(), AllocError>
+    ensures declared { Appends result body.old.declared body.new.declared words.now }
+    ensures own { OnOk result (body.new.own
+        ≡ numbered bytes.now Own (length body.old.declared) words.now body.old.own) }
+    ensures names { body.new.names ≡ body.old.names }
+    ensures first { body.new.first ≡ body.old.first }
+{
+    let mut reported = Vec::new(alloc);
+    declare_own(
+        alloc,
+        bytes,
+        words,
+        &mut body.declared,
+        &mut body.own,
+        &mut reported,
+    )
+}
+
+/// What a procedure's body sees and begins with, where it sets those names.
 fn beginning(
     alloc: Global,
     bytes: &[u8],
@@ -244,49 +269,55 @@ fn beginning(
         (declared_count (surface_procedure f.now))
         (values_of (surface_procedure f.now).parameters)) }
 {
-    let mut reported = Vec::new(alloc);
+    let names = declared_names(alloc, bytes, f, locals)?;
     let mut body = Prologue {
         declared: Counted::new(alloc),
         own: Table::new(alloc),
-        names: declared_names(alloc, bytes, f, locals)?,
+        names,
         first: Vec::new(alloc),
     };
-    let references = references_of(&f.parameters);
-    declare_own(
-        alloc,
-        bytes,
-        references,
-        &mut body.declared,
-        &mut body.own,
-        &mut reported,
-    )?;
+    declare_unprimed(alloc, bytes, references_of(&f.parameters), &mut body)?;
     let values = values_of(&f.parameters);
     declare_values(alloc, bytes, set, f.open, values, &mut body)?;
-    declare_own(
-        alloc,
-        bytes,
-        locals,
-        &mut body.declared,
-        &mut body.own,
-        &mut reported,
-    )?;
+    declare_unprimed(alloc, bytes, locals, &mut body)?;
     Ok(body)
 }
 
-/// The commands of a procedure's body, after those with which it begins.
-fn commands(
+/// What a procedure's body sees and begins with.
+fn opening(
+    alloc: Global,
+    bytes: &[u8],
+    f: &SurfaceProcedure,
+    locals: &[Word],
+) -> Result<Prologue, AllocError>
+    requires { locals.now ≡ local_words (surface_procedure f.now).locals }
+    ensures own { IfOk result (λ x. x.own ≡ body_variables bytes.now (surface_procedure f.now)) }
+    ensures names { IfOk result (λ x. x.names ≡ own_names bytes.now (surface_procedure f.now)) }
+    ensures first { IfOk result (λ x. map core.command_of x.first.items
+        ≡ first_assignments (is_primed bytes.now (surface_procedure f.now)) f.now.open
+        (length (references_of (surface_procedure f.now).parameters))
+        (declared_count (surface_procedure f.now))
+        (values_of (surface_procedure f.now).parameters)) }
+{
+    let set = set_names(alloc, bytes, &f.body)?;
+    beginning(alloc, bytes, &set, f, locals)
+}
+
+/// Appends the commands of a procedure's body to those with which it begins.
+fn add_body(
     alloc: Global,
     bytes: &[u8],
     declared: &Declared,
-    own: &Table<Var>,
     f: &SurfaceProcedure,
-    first: Vec<Command>,
+    body: &mut Prologue,
     found: &mut Vec<Fault>,
-) -> Result<Vec<Command>, AllocError>
-    requires { own.now ≡ body_variables bytes.now (surface_procedure f.now) }
-    ensures same { IfOk result (λ v. map core.command_of v.items ≡ map core.command_of first.items
-        ++ commands_of (inside_of bytes.now declared.now (surface_procedure f.now))
+) -> Result<(), AllocError>
+    requires { body.old.own ≡ body_variables bytes.now (surface_procedure f.now) }
+    ensures commands { Appends result (map core.command_of body.old.first.items)
+        (map core.command_of body.new.first.items)
+        (commands_of (inside_of bytes.now declared.now (surface_procedure f.now))
         (surface_procedure f.now).body) }
+    ensures names { body.new.names ≡ body.old.names }
     ensures faults { Appends result found.old.items found.new.items
         (commands_faults (inside_of bytes.now declared.now (surface_procedure f.now))
         (surface_procedure f.now).body) }
@@ -294,12 +325,10 @@ fn commands(
     let env = Env {
         bytes,
         declared,
-        own,
+        own: &body.own,
         in_invariant: false,
     };
-    let mut done = first;
-    add_commands(alloc, &env, &f.body, &mut done, found)?;
-    Ok(done)
+    add_commands(alloc, &env, &f.body, &mut body.first, found)
 }
 
 /// A procedure's pre and post, which see its parameters.
@@ -346,6 +375,25 @@ struct Body {
     body: Vec<Command>,
 }
 
+/// Declares locals after the parameters, and says how many they are.
+fn declare_locals(
+    alloc: Global,
+    bytes: &[u8],
+    locals: &[Word],
+    mut parameters: Signature,
+    found: &mut Vec<Fault>,
+) -> Result<u32, AllocError>
+    ensures count { IfOk result (λ n. n ≡ length locals.now) }
+    ensures faults { Appends result found.old.items found.new.items
+        (numbered_faults bytes.now OWN_VARIABLES Own (length parameters.words) locals.now
+        parameters.own) }
+{
+    let count = parameters.words.len();
+    let own = &mut parameters.own;
+    declare_own(alloc, bytes, locals, &mut parameters.words, own, found)?;
+    Ok(parameters.words.len() - count)
+}
+
 /// A procedure's body, and the names of all its own variables.
 fn inside(
     alloc: Global,
@@ -369,20 +417,14 @@ fn inside(
         ++ commands_faults (inside_of bytes.now declared.now (surface_procedure f.now))
         (surface_procedure f.now).body) }
 {
-    let mut words = parameters.words;
-    let mut own = parameters.own;
-    let count = words.len();
-    let locals = local_words(alloc, &f.locals)?;
-    declare_own(alloc, bytes, &locals, &mut words, &mut own, found)?;
-    let set = set_names(alloc, bytes, &f.body)?;
-    let prologue = beginning(alloc, bytes, &set, f, &locals)?;
-    let first = prologue.first;
-    let names = prologue.names.into_vec();
-    let body = commands(alloc, bytes, declared, &prologue.own, f, first, found)?;
+    let words = local_words(alloc, &f.locals)?;
+    let locals = declare_locals(alloc, bytes, &words, parameters, found)?;
+    let mut prologue = opening(alloc, bytes, f, &words)?;
+    add_body(alloc, bytes, declared, f, &mut prologue, found)?;
     Ok(Body {
-        locals: words.len() - count,
-        names,
-        body,
+        locals,
+        names: prologue.names.into_vec(),
+        body: prologue.first,
     })
 }
 
@@ -443,6 +485,32 @@ fn variables(
     Ok(own)
 }
 
+/// The invariant of the resource of that number, which sees the resource's own variables.
+fn invariant(
+    alloc: Global,
+    bytes: &[u8],
+    declared: &Declared,
+    number: u32,
+    r: &SurfaceResource,
+    found: &mut Vec<Fault>,
+) -> Result<Assertion, AllocError>
+    ensures same { IfOk result (λ x. core.assertion_of x
+        ≡ (resource_of bytes.now declared.now number (surface_resource r.now)).invariant) }
+    ensures faults { Appends result found.old.items found.new.items
+        (annotation_faults
+        (invariant_of bytes.now declared.now number (surface_resource r.now))
+        (surface_resource r.now).invariant) }
+{
+    let own = variables(alloc, bytes, number, &r.variables)?;
+    let env = Env {
+        bytes,
+        declared,
+        own: &own,
+        in_invariant: true,
+    };
+    annotation(alloc, &env, &r.invariant, found)
+}
+
 /// The resource of that number.
 fn resource(
     alloc: Global,
@@ -459,14 +527,7 @@ fn resource(
         (invariant_of bytes.now declared.now number (surface_resource r.now))
         (surface_resource r.now).invariant) }
 {
-    let own = variables(alloc, bytes, number, &r.variables)?;
-    let env = Env {
-        bytes,
-        declared,
-        own: &own,
-        in_invariant: true,
-    };
-    let invariant = annotation(alloc, &env, &r.invariant, found)?;
+    let invariant = invariant(alloc, bytes, declared, number, r, found)?;
     let name = name(alloc, bytes, r.name)?;
     let variables = names(alloc, bytes, &r.variables)?;
     Ok(Resource {

@@ -1,5 +1,4 @@
-use Rattle.std.proofs.Common.{◌≡◌, ◌+◌, ◌++◌, ◌∙◌, ap, arith, append_assoc, length, map}
-use Rattle.std.proofs.lemmas.List.{length-append}
+use Rattle.std.proofs.Common.{◌++◌, ◌∙◌, ap, append_assoc, length, map}
 use Rattle.sf_ast.specs.View.{names_of, procedure_of}
 use Rattle.sf_core.specs.Program.View.{block}
 use Rattle.sf_elab.specs.Bodies.Commands.{commands_faults, commands_of}
@@ -9,20 +8,15 @@ use Rattle.sf_elab.proofs.procedures.inside.Goals as goal
 
 pub returns-clause-locals : goal.returns-clause-locals
 returns-clause-locals c =
-    let locals = c.deref-2.result.now in
-    let more : length c.declare_own.new.declared ≡ length c.args.parameters.words + length locals =
-    ap length c.in_ok-declare_own.ensures.declared ∙ length-append c.args.parameters.words locals in
-    let same : length locals ≡ length (local_words (map names_of c.args.f.now.locals.items)) =
-    ap length (c.deref-2.ensures.value ∙ c.in_ok-locals.ensures ∙ ap (λ xs. local_words (map names_of xs)) c.deref.ensures.value) in
-    omega (arith, c.len.ensures, c.len-count.ensures)
+    c.in_ok-locals.ensures.count ∙ ap length (c.deref-2.ensures.value ∙ c.in_ok-words.ensures ∙ ap (λ xs. local_words (map names_of xs)) c.deref.ensures.value)
 
 pub returns-clause-body : goal.returns-clause-body
 returns-clause-body c =
     let f = procedure_of c.args.f.now in
-    ap block (c.in_ok-body.ensures.same ∙ ap (λ xs. xs ++ commands_of (inside_of c.args.bytes.now c.args.declared.now f) f.body) c.in_ok-prologue.ensures.first)
+    ap block (c.in_ok-add_body.ensures.commands ∙ ap (λ xs. xs ++ commands_of (inside_of c.args.bytes.now c.args.declared.now f) f.body) c.in_ok-prologue.ensures.first)
 
 pub returns-clause-names : goal.returns-clause-names
-returns-clause-names c = c.into_vec-names.ensures ∙ c.in_ok-prologue.ensures.names
+returns-clause-names c = c.into_vec.ensures ∙ c.in_ok-add_body.ensures.names ∙ c.in_ok-prologue.ensures.names
 
 pub returns-clause-faults : goal.returns-clause-faults
 returns-clause-faults c =
@@ -31,6 +25,6 @@ returns-clause-faults c =
     let found = c.args.found.now.items in
     let others = commands_faults (inside_of bytes c.args.declared.now f) f.body in
     let own = local_faults_are bytes f c.args.parameters.words c.deref-2.result.now c.args.parameters.own c.requires.words
-    (c.deref-2.ensures.value ∙ c.in_ok-locals.ensures ∙ ap (λ xs. local_words (map names_of xs)) c.deref.ensures.value) c.requires.own in
-    c.in_ok-body.ensures.faults ∙ ap (λ xs. xs ++ others) (c.in_ok-declare_own.ensures.faults ∙ ap (λ xs. found ++ xs) own)
+    (c.deref-2.ensures.value ∙ c.in_ok-words.ensures ∙ ap (λ xs. local_words (map names_of xs)) c.deref.ensures.value) c.requires.own in
+    c.in_ok-add_body.ensures.faults ∙ ap (λ xs. xs ++ others) (c.in_ok-locals.ensures.faults ∙ ap (λ xs. found ++ xs) own)
     ∙ append_assoc found (local_faults bytes f) others
