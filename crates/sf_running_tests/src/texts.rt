@@ -6,7 +6,7 @@ use sf_base::{FieldId, Value};
 use sf_heap::{Cell, Heap, Locations};
 use sf_precise::Arranged;
 use sf_state::{StartFault, State, entry, read_state, state_text};
-use std::alloc::{AllocError, Global};
+use std::alloc::Global;
 use std::test::Fail;
 
 /// A procedure with a reference, a value and a local, beside a resource.
