@@ -1,5 +1,5 @@
 pub mod First
 pub mod HeapStore
-pub mod Internal
 pub mod Results
 pub mod Variables
+pub mod Checked

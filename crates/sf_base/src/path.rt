@@ -28,7 +28,7 @@ impl Model for TaskPath {
 
     ghost Value = { List Turn };
 
-    ghost use Rattle.sf_base.specs.Internal.TaskPath.{turns_of, path_of, IsPadded, path_of-turns_of};
+    ghost use Rattle.sf_base.specs.Checked.TaskPath.{turns_of, path_of, IsPadded, path_of-turns_of};
 
     ghost view = { turns_of };
 

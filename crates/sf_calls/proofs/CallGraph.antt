@@ -16,15 +16,15 @@ use Rattle.sf_core.specs.Program.Heads.{sites}
 use Rattle.sf_core.specs.Program.Syntax.{Procedure, Program}
 use Rattle.sf_calls.specs.Conditions.{Calls}
 use Rattle.sf_calls.specs.declared.summary.Summary.{Summary}
-use Rattle.sf_calls.specs.Internal.Listed.{is_entered}
-use Rattle.sf_calls.specs.Internal.Visited.{IsCaller, AreCallers}
-use Rattle.sf_calls.specs.Internal.Summaries.{IsSummaryOf, AreSummaries, has_calls_inside, left_out_has_calls_inside}
+use Rattle.sf_calls.specs.Checked.Listed.{is_entered}
+use Rattle.sf_calls.specs.Checked.Visited.{IsCaller, AreCallers}
+use Rattle.sf_calls.specs.Checked.Summaries.{IsSummaryOf, AreSummaries, has_calls_inside, left_out_has_calls_inside}
 use Rattle.sf_calls.specs.Outside.{CallsIn}
-use Rattle.sf_calls.specs.Internal.Tests.{callees_in}
-use Rattle.sf_calls.specs.Lemmas.Decided.{callees_in_are, entered_is}
-use Rattle.sf_calls.specs.Lemmas.Listing.{calls_anyway}
-use Rattle.sf_calls.specs.Lemmas.Searches.{proc}
-use Rattle.sf_calls.specs.Lemmas.Within.{callees_within}
+use Rattle.sf_calls.specs.Checked.Tests.{callees_in}
+use Rattle.sf_calls.specs.Checked.Lemmas.Decided.{callees_in_are, entered_is}
+use Rattle.sf_calls.specs.Checked.Lemmas.Listing.{calls_anyway}
+use Rattle.sf_calls.specs.Checked.Lemmas.Searches.{proc}
+use Rattle.sf_calls.specs.Checked.Lemmas.Within.{callees_within}
 
 -- empty rows have no caller
 pub no_caller : (rows : List (Vec ProcId Global)) → All (λ v. v.items ≡ []) rows → (f g : ProcId)

@@ -1,10 +1,10 @@
 -- The laws of the crate, under the names of their functions in src/laws.rt.
-use Rattle.sf_calls.specs.Lemmas.OneBreach.{conditions_had, one_breach}
-use Rattle.sf_calls.specs.Laws.{ConditionsFromTruncation, FirstBreachIsBroken, FirstBreachIsUnique, FreeIsLeast, SetsFromTruncation, SetsExist, TakesIsLeast}
-use Rattle.sf_calls.specs.Lemmas.Broken.{first_broken}
-use Rattle.sf_calls.specs.Lemmas.Least.{free_least, takes_least}
+use Rattle.sf_calls.specs.Checked.Lemmas.OneBreach.{conditions_had, one_breach}
+use Rattle.sf_calls.specs.Checked.Laws.{ConditionsFromTruncation, FirstBreachIsBroken, FirstBreachIsUnique, FreeIsLeast, SetsFromTruncation, SetsExist, TakesIsLeast}
+use Rattle.sf_calls.specs.Checked.Lemmas.Broken.{first_broken}
+use Rattle.sf_calls.specs.Checked.Lemmas.Least.{free_least, takes_least}
 use Rattle.sf_calls.proofs.SetsHad.{sets_had}
-use Rattle.sf_calls.specs.Lemmas.SetsThere.{sets_there}
+use Rattle.sf_calls.specs.Checked.Lemmas.SetsThere.{sets_there}
 
 pub conditions_from_truncation : ConditionsFromTruncation
 conditions_from_truncation = conditions_had

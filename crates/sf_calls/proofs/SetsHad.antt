@@ -10,14 +10,14 @@ use Rattle.sf_base.specs.declared.ids.ResId.{ResId}
 use Rattle.sf_base.specs.declared.ids.Var.{Var}
 use Rattle.sf_core.specs.Machine.HeldBy.{HeldBy}
 use Rattle.sf_calls.specs.Conditions.{Free, Takes}
-use Rattle.sf_calls.specs.Laws.{SetsFromTruncation}
+use Rattle.sf_calls.specs.Checked.Laws.{SetsFromTruncation}
 use Rattle.sf_calls.specs.Sets.{IsEarlier, IsEarlierResource, IsFamily, IsSetOf}
 use Rattle.sf_base.specs.Variables.{same_var}
-use Rattle.sf_calls.specs.Lemmas.Decidable.{IsDecidable, decidable_by}
+use Rattle.sf_calls.specs.Checked.Lemmas.Decidable.{IsDecidable, decidable_by}
 use Rattle.sf_base.proofs.Variables.{resource-decides, same_var-decides}
-use Rattle.sf_calls.specs.Lemmas.Gathered.{earlier_is}
-use Rattle.sf_calls.specs.Lemmas.Had.{IsHad, had_decidable, had_exactly, had_once, had_pairs}
-use Rattle.sf_calls.specs.Lemmas.SetsDecidable.{takes_decidable, holds_decidable, free_decidable}
+use Rattle.sf_calls.specs.Checked.Lemmas.Gathered.{earlier_is}
+use Rattle.sf_calls.specs.Checked.Lemmas.Had.{IsHad, had_decidable, had_exactly, had_once, had_pairs}
+use Rattle.sf_calls.specs.Checked.Lemmas.SetsDecidable.{takes_decidable, holds_decidable, free_decidable}
 
 -- that a list is such a set
 set_had : {A : Type 0} (same : A → A → Bool) → ((x y : A) → Decides (same x y) (x ≡ y))

@@ -7,7 +7,5 @@ pub mod Around
 pub mod First
 pub mod FirstBreach
 pub mod Breaks
-pub mod Laws
-pub mod Lemmas
 pub mod Reaches
-pub mod Internal
+pub mod Checked

@@ -3,8 +3,8 @@
 ghost use Rattle.std.specs.Prelude.{◌≡◌, ◌↔◌, ◌⊎◌, ◌<◌, length, All, Contains, IfOk, OnOk, true};
 ghost use Rattle.sf_base.specs.declared.ids.ProcId.{ProcId};
 ghost use Rattle.sf_core.specs.Program.ProgramView.{program_of};
-ghost use Rattle.sf_calls.specs.Internal.Visited.{IsCaller, AreCallers};
-ghost use Rattle.sf_calls.specs.Internal.Summaries.{AreSummaries, has_calls_inside, left_out_has_calls_inside};
+ghost use Rattle.sf_calls.specs.Checked.Visited.{IsCaller, AreCallers};
+ghost use Rattle.sf_calls.specs.Checked.Summaries.{AreSummaries, has_calls_inside, left_out_has_calls_inside};
 
 use crate::outside::callees_in;
 use crate::shared::is_entered;

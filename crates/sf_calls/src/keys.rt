@@ -5,7 +5,7 @@ ghost use Rattle.sf_base.specs.declared.ids.ResId.{ResId};
 ghost use Rattle.sf_base.specs.declared.ids.Var.{Var};
 ghost use Rattle.sf_core.specs.Program.Formed.{variable_count};
 ghost use Rattle.sf_core.specs.Program.ProgramView.{program_of};
-ghost use Rattle.sf_calls.specs.Internal.Gathers.{IsUpTo};
+ghost use Rattle.sf_calls.specs.Checked.Gathers.{IsUpTo};
 ghost use Rattle.sf_calls.specs.Sets.{IsEarlier, IsEarlierResource, IsSetOf};
 
 use sf_base::{ResId, Var};

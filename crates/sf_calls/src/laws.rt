@@ -2,7 +2,7 @@
 //! is unique, that what commands may change is what is assigned, and that such facts follow from
 //! their truncations. Each function does nothing; its contract is the law.
 
-ghost use Rattle.sf_calls.specs.Laws.{ChangesAreAssigned, ConditionsFromTruncation, FirstBreachIsBroken, FirstBreachIsUnique, FreeIsLeast, HeldResourcesAreThere, SetsFromTruncation, SetsExist, TakesIsLeast};
+ghost use Rattle.sf_calls.specs.Checked.Laws.{ChangesAreAssigned, ConditionsFromTruncation, FirstBreachIsBroken, FirstBreachIsUnique, FreeIsLeast, HeldResourcesAreThere, SetsFromTruncation, SetsExist, TakesIsLeast};
 
 /// What procedures take is closed under its rules, and contained in whatever is.
 #[tactic(auto, using(crate::proofs::Closing::takes_is_least))]

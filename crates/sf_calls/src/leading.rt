@@ -3,7 +3,7 @@
 ghost use Rattle.std.specs.Prelude.{◌≡◌, ◌↔◌, ◌<◌, ◌≤◌, ◌^◌, [], ◌∷◌, length, All, Contains, IfOk, OnOk, false, replicate};
 ghost use Rattle.sf_base.specs.declared.ids.ProcId.{ProcId};
 ghost use Rattle.sf_calls.specs.Reaches.{Reaches};
-ghost use Rattle.sf_calls.specs.Internal.Visited.{EachOnce, IsVisited, IsCaller, VisitsMore};
+ghost use Rattle.sf_calls.specs.Checked.Visited.{EachOnce, IsVisited, IsCaller, VisitsMore};
 
 use sf_base::ProcId;
 use std::alloc::{AllocError, Global};

@@ -1,7 +1,7 @@
 //! Whether a variable occurs in the arguments of a call.
 
 ghost use Rattle.std.specs.Prelude.{◌≡◌};
-ghost use Rattle.sf_calls.specs.Internal.Tests.{in_expr, in_references, in_values};
+ghost use Rattle.sf_calls.specs.Checked.Tests.{in_expr, in_references, in_values};
 
 use sf_base::Var;
 use sf_core::{Expr, Occurrence};

@@ -5,7 +5,7 @@ ghost use Rattle.sf_base.specs.Results.{Appends};
 ghost use Rattle.sf_core.specs.Program.Sites.{site_of};
 ghost use Rattle.sf_core.specs.Program.View.{command_of};
 ghost use Rattle.sf_calls.specs.Outside.{owner};
-ghost use Rattle.sf_calls.specs.Internal.Tests.{is_outside, callees_in, callees_of};
+ghost use Rattle.sf_calls.specs.Checked.Tests.{is_outside, callees_in, callees_of};
 
 use crate::shared::is_entered;
 use sf_base::{ProcId, ResId, Var};

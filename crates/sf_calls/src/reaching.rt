@@ -5,8 +5,8 @@ ghost use Rattle.sf_core.specs.Program.Formed.{variable_count};
 ghost use Rattle.sf_core.specs.Machine.HeldBy.{HeldBy};
 ghost use Rattle.sf_core.specs.Program.ProgramView.{program_of};
 ghost use Rattle.sf_calls.specs.Conditions.{Takes, Free};
-ghost use Rattle.sf_calls.specs.Internal.Summaries.{AreSummaries};
-ghost use Rattle.sf_calls.specs.Internal.Gathers.{IsUpTo};
+ghost use Rattle.sf_calls.specs.Checked.Summaries.{AreSummaries};
+ghost use Rattle.sf_calls.specs.Checked.Gathers.{IsUpTo};
 ghost use Rattle.sf_calls.specs.Sets.{AreSetsOf, IsFamily, IsResSet, IsVarSet, IsSetOf, IsEarlier, IsEarlierResource};
 
 use crate::calls::Calls;

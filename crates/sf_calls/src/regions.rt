@@ -5,7 +5,7 @@ ghost use Rattle.sf_base.specs.Results.{Appends};
 ghost use Rattle.sf_core.specs.Program.Heads.{head_calls};
 ghost use Rattle.sf_core.specs.Program.Sites.{site_of};
 ghost use Rattle.sf_core.specs.Program.View.{command_of};
-ghost use Rattle.sf_calls.specs.Internal.Listed.{entered_in, any_call, with_calls_in};
+ghost use Rattle.sf_calls.specs.Checked.Listed.{entered_in, any_call, with_calls_in};
 
 use crate::shared::add_region;
 use sf_base::ResId;

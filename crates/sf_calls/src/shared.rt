@@ -7,7 +7,7 @@ ghost use Rattle.sf_base.specs.Results.{Appends};
 ghost use Rattle.sf_core.specs.Program.Heads.{call_occurrences, head_calls, head_regions};
 ghost use Rattle.sf_core.specs.Program.Sites.{site_of};
 ghost use Rattle.sf_core.specs.Program.View.{command_of};
-ghost use Rattle.sf_calls.specs.Internal.Listed.{is_entered, kept, kept_of, shared_at, shared_in};
+ghost use Rattle.sf_calls.specs.Checked.Listed.{is_entered, kept, kept_of, shared_at, shared_in};
 
 use sf_base::{ResId, Var};
 use sf_core::{Command, Occurrence, Site, add_call_occurrences, add_head_occurrences};

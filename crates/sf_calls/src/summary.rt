@@ -3,7 +3,7 @@
 ghost use Rattle.std.specs.Prelude.{Contains, IfOk};
 ghost use Rattle.sf_core.specs.Program.View.{procedure_of};
 ghost use Rattle.sf_core.specs.Program.ProgramView.{program_of};
-ghost use Rattle.sf_calls.specs.Internal.Summaries.{AreSummaries, IsSummaryOf};
+ghost use Rattle.sf_calls.specs.Checked.Summaries.{AreSummaries, IsSummaryOf};
 ghost use Rattle.sf_calls.specs.Sets.{IsVarSet};
 
 use crate::assigned::insert_all;

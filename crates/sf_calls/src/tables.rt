@@ -4,8 +4,8 @@ ghost use Rattle.std.specs.Prelude.{◌≡◌, ◌<◌, ◌≤◌, ℕ, List, le
 ghost use Rattle.sf_core.specs.Machine.HeldBy.{HeldBy};
 ghost use Rattle.sf_core.specs.Program.ProgramView.{program_of};
 ghost use Rattle.sf_calls.specs.Conditions.{Enters, Mentions, Takes, FreeIn, IsShared};
-ghost use Rattle.sf_calls.specs.Internal.Visited.{AreRows, IsRow, chosen};
-ghost use Rattle.sf_calls.specs.Internal.Summaries.{AreSummaries, speaks_of};
+ghost use Rattle.sf_calls.specs.Checked.Visited.{AreRows, IsRow, chosen};
+ghost use Rattle.sf_calls.specs.Checked.Summaries.{AreSummaries, speaks_of};
 
 use crate::callers::{callers_after, callers_of};
 use crate::leading::leading;

@@ -2,7 +2,7 @@
 use Rattle.std.proofs.Common.{inl, inr}
 use Rattle.sf_check.proofs.Finishing.{proves-finishes, finishes-proves}
 use Rattle.sf_check.proofs.Refusing.{finishes-or_refused, refused-never, refused-once}
-use Rattle.sf_check.specs.Laws.{ProvesNotRefused, ProvesOrRefused, RefusedOnce}
+use Rattle.sf_check.specs.Checked.Laws.{ProvesNotRefused, ProvesOrRefused, RefusedOnce}
 
 pub proves_or_refused : ProvesOrRefused
 unfolding ProvesOrRefused

@@ -14,7 +14,7 @@ use Rattle.sf_rules.specs.Proving.{Proof, by, Proofs, no_more, and, preorder, pr
 use Rattle.sf_rules.specs.Setting.{Setting}
 use Rattle.sf_check.specs.Stand.{Stand, start, after, is_finished}
 use Rattle.sf_check.proofs.Taking.{begin-taken, begin-takes, child-taken, child-takes, after-first, after-next, finished-parts, finished-from}
-use Rattle.sf_rules.specs.Lemmas.{proofs-split, proof-one, proofs-none}
+use Rattle.sf_rules.specs.Checked.Lemmas.{proofs-split, proof-one, proofs-none}
 
 -- the tags are taken from that stand, and then all is proved
 abbrev pub Finishes : Setting → Stand → List Tag → Type 0

@@ -5,9 +5,9 @@ use Rattle.std.proofs.Math.Logic.{∥∥₁_elim}
 use Rattle.sf_core.specs.Program.ProgramView.{program_of}
 use Rattle.sf_core.specs.Program.Syntax.{Assertion}
 use Rattle.sf_precise.specs.declared.arranged.Arranged.{Arranged}
-use Rattle.sf_precise.specs.Laws.{OrderingExists}
+use Rattle.sf_precise.specs.Checked.Laws.{OrderingExists}
 use Rattle.sf_precise.specs.Order.{IsOrdering}
-use Rattle.sf_rules.specs.LawsOfSettings.{ArrangedHasSetting, SettingIsUnique}
+use Rattle.sf_rules.specs.Checked.LawsOfSettings.{ArrangedHasSetting, SettingIsUnique}
 use Rattle.sf_rules.specs.Proving.{Proves}
 use Rattle.sf_rules.specs.Setting.{Setting, setting_of}
 use Rattle.sf_sym.specs.declared.tag.Tag.{Tag}

@@ -1,6 +1,5 @@
-pub mod Internal
 pub mod Stand
 pub mod Refusal
 pub mod Proven
 pub mod Accepted
-pub mod Laws
+pub mod Checked

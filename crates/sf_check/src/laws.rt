@@ -1,6 +1,6 @@
 //! Laws of the checker. Each function does nothing; its contract is the law.
 
-ghost use Rattle.sf_check.specs.Laws.{ProvenFromTruncation, ProvesNotRefused, ProvesOrRefused, RefusedOnce};
+ghost use Rattle.sf_check.specs.Checked.Laws.{ProvenFromTruncation, ProvesNotRefused, ProvesOrRefused, RefusedOnce};
 
 use sf_precise::laws::ordering_exists;
 use sf_rules::laws::{arranged_has_setting, setting_is_unique};

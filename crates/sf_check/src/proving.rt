@@ -4,7 +4,7 @@ ghost use Rattle.std.specs.Prelude.{◌≡◌, ◌∷◌, ◌⊎◌, [], IfErr, 
 ghost use Rattle.std.specs.List.{slice_get};
 ghost use Rattle.sf_rules.specs.Proving.{Proves};
 ghost use Rattle.sf_check.specs.Accepted.{arranged_in, tags_in};
-ghost use Rattle.sf_check.specs.Internal.Stands.{open_goals, stand_of};
+ghost use Rattle.sf_check.specs.Checked.Stands.{open_goals, stand_of};
 ghost use Rattle.sf_check.specs.declared.refusal.CheckFault.TheVariants.{OutOfMemory, Refused as IsRefused};
 ghost use Rattle.sf_check.specs.declared.refusal.Refusal.{Refusal as RefusalOf};
 ghost use Rattle.sf_check.specs.Proven.{Proven};

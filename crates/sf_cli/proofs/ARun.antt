@@ -14,30 +14,30 @@ use Rattle.sf_core.specs.Machine.Step.{procedure_at}
 use Rattle.sf_core.specs.Machine.Supplies.{units}
 use Rattle.sf_core.specs.Program.Formed.{IsFormed}
 use Rattle.sf_core.specs.Program.Syntax.{Procedure, Program}
-use Rattle.sf_elab.specs.Laws.{ElaboratedIsFormed}
+use Rattle.sf_elab.specs.Checked.Laws.{ElaboratedIsFormed}
 use Rattle.sf_foot.specs.declared.vars.Vars.{Vars}
 use Rattle.sf_foot.specs.Starting.{IsFreshFrom, StartsWith}
 use Rattle.sf_heap.specs.Cells.{Cells, FieldValues, cell_of, heap_of}
 use Rattle.sf_io.specs.Shelf.{Files}
 use Rattle.sf_lex.specs.Reading.{first_place}
-use Rattle.sf_parse.specs.Laws.{EachFileIsShallow}
-use Rattle.sf_run.specs.Laws.{BasesAreFree, BeginningsAreStarts, SequentialIsDecided, StartsHaveOneOutcome, UnitsStayFree}
+use Rattle.sf_parse.specs.Checked.Laws.{EachFileIsShallow}
+use Rattle.sf_run.specs.Checked.Laws.{BasesAreFree, BeginningsAreStarts, SequentialIsDecided, StartsHaveOneOutcome, UnitsStayFree}
 use Rattle.sf_run.specs.Lone.{IsBase, IsFreeFrom}
 use Rattle.sf_run.specs.Running.{ComesTo}
 use Rattle.sf_run.specs.Sequential.{IsSequential}
 use Rattle.sf_safe.specs.Law.{IsSound}
 use Rattle.sf_search.specs.Judge.{Judge, Verdict, fails, proof}
-use Rattle.sf_search.specs.Laws.{TakenTagsProve}
+use Rattle.sf_search.specs.Checked.Laws.{TakenTagsProve}
 use Rattle.sf_sound.specs.Proofs.{ProofsAreSound}
 use Rattle.sf_state.specs.Entering.{IsEntry}
-use Rattle.sf_state.specs.Laws.{AreDetermined, EntryExists, StartExists}
+use Rattle.sf_state.specs.Checked.Laws.{AreDetermined, EntryExists, StartExists}
 use Rattle.sf_cli.proofs.Accepted.{accepted-formed, accepted-judged}
 use Rattle.sf_cli.proofs.EndTexts.{end-there}
 use Rattle.sf_cli.specs.Answer.{FileAnswer, IsProved, ProgramAnswer, RunAnswer, RunFileAnswer, VerdictAnswer, admitted, admitted_run, entered, no_entry, not_built, refused, refused_run, unproved}
 use Rattle.sf_cli.specs.declared.refusal.Refusal.TheVariants.{At}
 use Rattle.sf_cli.specs.declared.refusal.RefusalKind.TheVariants.{NotBuilt}
 use Rattle.sf_cli.specs.FileFault.{Admits}
-use Rattle.sf_cli.specs.Laws.{EachFileHasAnAnswer, EachRunHasAnAnswer}
+use Rattle.sf_cli.specs.Checked.Laws.{EachFileHasAnAnswer, EachRunHasAnAnswer}
 use Rattle.sf_cli.specs.Ran.{OutcomeAnswer, StateAnswer, no_start, ran, spent_steps_text, spent_waits_text}
 use Rattle.sf_cli.specs.Refusals.{refusal_text}
 use Rattle.sf_cli.specs.StartRefusals.{start_refusal_text}

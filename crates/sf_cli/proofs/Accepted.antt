@@ -8,20 +8,20 @@ use Rattle.sf_calls.specs.Sets.{AreSetsOf}
 use Rattle.sf_core.specs.Assertions.Determined.{Determined}
 use Rattle.sf_core.specs.Program.Formed.{IsFormed}
 use Rattle.sf_core.specs.Program.Syntax.{Assertion, Program}
-use Rattle.sf_elab.specs.Laws.{ElaboratedIsFormed}
+use Rattle.sf_elab.specs.Checked.Laws.{ElaboratedIsFormed}
 use Rattle.sf_io.specs.Shelf.{Files}
-use Rattle.sf_parse.specs.Laws.{EachFileIsShallow}
+use Rattle.sf_parse.specs.Checked.Laws.{EachFileIsShallow}
 use Rattle.sf_precise.specs.Annotations.{annotations_in}
 use Rattle.sf_rules.specs.Proving.{Proves}
 use Rattle.sf_rules.specs.Setting.{IsSettingOf, Setting}
 use Rattle.sf_safe.specs.Law.{IsSound}
 use Rattle.sf_search.specs.Judge.{Verdict, proof, fails, Judge}
-use Rattle.sf_search.specs.Laws.{TakenTagsProve}
+use Rattle.sf_search.specs.Checked.Laws.{TakenTagsProve}
 use Rattle.sf_sound.specs.Proofs.{ProofsAreSound}
 use Rattle.sf_sym.specs.declared.tag.Tag.{Tag}
 use Rattle.sf_cli.specs.Answer.{Accepted, AcceptedBytes, FileAnswer, IsAccepting, IsProved, OrderAnswer, RecheckAnswer, Reply, RunFileAnswer, VerdictAnswer, admitted, admitted_run, answer, by_proof, by_run, by_search, entered, file_refused, no_entry, not_built, rechecked, refused, refused_run, unproved, unread}
 use Rattle.sf_cli.specs.FileFault.{Admits}
-use Rattle.sf_cli.specs.Laws.{AcceptedFilesAreSound, AcceptedProofsAreSound, AcceptedRunsAreSound}
+use Rattle.sf_cli.specs.Checked.Laws.{AcceptedFilesAreSound, AcceptedProofsAreSound, AcceptedRunsAreSound}
 use Rattle.sf_cli.specs.Reads.{Reads}
 use Rattle.sf_cli.specs.Rechecked.{accepted, rejected}
 use Rattle.sf_words.specs.Words.{Text, Order, demo, order_of, recheck, run, verify}

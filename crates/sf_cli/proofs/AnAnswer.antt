@@ -5,32 +5,32 @@ use Rattle.sf_ast.specs.Surface.{Item}
 use Rattle.sf_calls.specs.FirstBreach.{Conditions}
 use Rattle.sf_core.specs.Program.Formed.{IsFormed}
 use Rattle.sf_core.specs.Program.Syntax.{Program}
-use Rattle.sf_elab.specs.Laws.{ElaboratedIsFormed, EachFileIsOne as EachTreeIsOne}
+use Rattle.sf_elab.specs.Checked.Laws.{ElaboratedIsFormed, EachFileIsOne as EachTreeIsOne}
 use Rattle.sf_io.specs.Shelf.{Files}
 use Rattle.sf_lex.specs.declared.token.Token.{Token}
-use Rattle.sf_lex.specs.Laws.{EachFileReadsOnce}
+use Rattle.sf_lex.specs.Checked.Laws.{EachFileReadsOnce}
 use Rattle.sf_lex.specs.Reading.{AreTokens, end_place}
-use Rattle.sf_parse.specs.Laws.{EachFileIsShallow, AnswerIsUnique}
+use Rattle.sf_parse.specs.Checked.Laws.{EachFileIsShallow, AnswerIsUnique}
 use Rattle.sf_parse.specs.Parsing.{IsFile}
-use Rattle.sf_precise.specs.Laws.{UndeterminedAnnotationsHavePlace}
+use Rattle.sf_precise.specs.Checked.Laws.{UndeterminedAnnotationsHavePlace}
 use Rattle.sf_precise.specs.Annotations.{annotations_in}
 use Rattle.sf_proof.specs.ProofText.{proof_text}
-use Rattle.sf_rules.specs.LawsOfSettings.{SettingExists}
+use Rattle.sf_rules.specs.Checked.LawsOfSettings.{SettingExists}
 use Rattle.sf_rules.specs.Setting.{IsSettingOf, Setting}
 use Rattle.sf_search.specs.Judge.{Verdict, proof, fails, Judge}
-use Rattle.sf_search.specs.Laws.{ProgramsHaveVerdicts}
-use Rattle.sf_vars.specs.Laws.{EachProgramHasAnAnswer}
+use Rattle.sf_search.specs.Checked.Laws.{ProgramsHaveVerdicts}
+use Rattle.sf_vars.specs.Checked.Laws.{EachProgramHasAnAnswer}
 use Rattle.sf_cli.proofs.Accepted.{accepted-formed}
-use Rattle.sf_check.specs.Laws.{ProvesOrRefused}
+use Rattle.sf_check.specs.Checked.Laws.{ProvesOrRefused}
 use Rattle.sf_proof.specs.declared.lined.Lined.{Lined}
-use Rattle.sf_proof.specs.Laws.{EachTextReadsOnce}
+use Rattle.sf_proof.specs.Checked.Laws.{EachTextReadsOnce}
 use Rattle.sf_proof.specs.Reading.{IsLined}
 use Rattle.sf_cli.specs.Answer.{Answer, FileAnswer, Names, OrderAnswer, ProgramAnswer, RecheckAnswer, admitted, cause_text, file_refused, rechecked, refused}
 use Rattle.sf_cli.specs.declared.refusal.Refusal.{Refusal}
 use Rattle.sf_cli.specs.declared.refusal.Refusal.TheVariants.{At}
 use Rattle.sf_cli.specs.declared.refusal.RefusalKind.TheVariants.{Undetermined}
 use Rattle.sf_cli.specs.FileFault.{FileFault, in_grammar, in_names, in_order, in_tokens, in_variables, unfit, unread}
-use Rattle.sf_cli.specs.Laws.{EachCommandHasAnAnswer, EachFileHasAnAnswer, EachProofHasAnAnswer, EachRunHasAnAnswer}
+use Rattle.sf_cli.specs.Checked.Laws.{EachCommandHasAnAnswer, EachFileHasAnAnswer, EachProofHasAnAnswer, EachRunHasAnAnswer}
 use Rattle.sf_cli.specs.Reads.{Reads}
 use Rattle.sf_cli.specs.Refusals.{of_grammar, of_names, of_tokens, of_variables, refusal_text}
 use Rattle.sf_cli.specs.Rechecked.{ProofAnswer, accepted, in_tags, in_text, rejected}

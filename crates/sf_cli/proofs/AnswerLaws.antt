@@ -1,7 +1,7 @@
 -- Laws that follow from other laws of this crate alone, each under its function's name.
 use Rattle.sf_cli.proofs.AnAnswer.{some-command}
 use Rattle.sf_cli.proofs.OneAnswer.{answer-command}
-use Rattle.sf_cli.specs.Laws.{EachCommandHasAnAnswer, EachCommandHasOneAnswer, EachFileHasAnAnswer, EachFileHasOneAnswer, EachFileIsDecided, EachProofHasAnAnswer, EachProofHasOneAnswer, EachRunHasAnAnswer, EachRunHasOneAnswer}
+use Rattle.sf_cli.specs.Checked.Laws.{EachCommandHasAnAnswer, EachCommandHasOneAnswer, EachFileHasAnAnswer, EachFileHasOneAnswer, EachFileIsDecided, EachProofHasAnAnswer, EachProofHasOneAnswer, EachRunHasAnAnswer, EachRunHasOneAnswer}
 
 pub each_command_has_an_answer : EachFileHasAnAnswer → EachProofHasAnAnswer → EachRunHasAnAnswer
     → EachCommandHasAnAnswer

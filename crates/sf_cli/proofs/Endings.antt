@@ -8,13 +8,13 @@ use Rattle.sf_foot.specs.declared.vars.Vars.{Vars}
 use Rattle.sf_foot.specs.Starting.{store_of}
 use Rattle.sf_heap.specs.Cells.{Cells, heap_of}
 use Rattle.sf_io.specs.Shelf.{Files}
-use Rattle.sf_run.specs.Laws.{BeginningsAreStarts, EndsAreNumbered}
+use Rattle.sf_run.specs.Checked.Laws.{BeginningsAreStarts, EndsAreNumbered}
 use Rattle.sf_run.specs.Running.{ComesTo}
 use Rattle.sf_core.specs.Machine.Step.{procedure_at}
 use Rattle.sf_state.specs.Starts.{IsStartText}
 use Rattle.sf_cli.specs.Answer.{Ended, EndedRun, IsRun, MayHave, OrderAnswer, Reply, RunFileAnswer, admitted_run, answer, entered, no_entry, not_built, refused_run, unproved, unread}
 use Rattle.sf_cli.specs.FileFault.{Admits}
-use Rattle.sf_cli.specs.Laws.{FinishedRunsHaveEnded}
+use Rattle.sf_cli.specs.Checked.Laws.{FinishedRunsHaveEnded}
 use Rattle.sf_cli.specs.Ran.{OutcomeAnswer, no_start, ran}
 use Rattle.sf_words.specs.Words.{Order, Text, demo, recheck, run, verify}
 

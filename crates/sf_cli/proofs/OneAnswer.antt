@@ -11,31 +11,31 @@ use Rattle.sf_calls.specs.FirstBreach.{Conditions}
 use Rattle.sf_core.specs.Assertions.Determined.{Determined}
 use Rattle.sf_core.specs.Program.Syntax.{Program}
 use Rattle.sf_elab.specs.Files.Elaborated.{Elaborates, FirstFault}
-use Rattle.sf_elab.specs.Laws.{EachFileIsOne as EachTreeIsOne}
+use Rattle.sf_elab.specs.Checked.Laws.{EachFileIsOne as EachTreeIsOne}
 use Rattle.sf_lex.specs.declared.token.Token.{Token}
-use Rattle.sf_lex.specs.Laws.{EachFileReadsOnce}
+use Rattle.sf_lex.specs.Checked.Laws.{EachFileReadsOnce}
 use Rattle.sf_lex.specs.Reading.{end_place}
-use Rattle.sf_parse.specs.Laws.{EachFileIsOne, AnswerIsUnique}
+use Rattle.sf_parse.specs.Checked.Laws.{EachFileIsOne, AnswerIsUnique}
 use Rattle.sf_parse.specs.Parsing.{IsFile, IsFault as IsGrammarFault}
-use Rattle.sf_precise.specs.Laws.{NeverTakenIsUndetermined}
+use Rattle.sf_precise.specs.Checked.Laws.{NeverTakenIsUndetermined}
 use Rattle.sf_precise.specs.Annotations.{annotations_in, IsFirstPlace, NeverTakenIn}
-use Rattle.sf_rules.specs.LawsOfSettings.{SettingIsUnique}
+use Rattle.sf_rules.specs.Checked.LawsOfSettings.{SettingIsUnique}
 use Rattle.sf_rules.specs.Setting.{Setting}
 use Rattle.sf_search.specs.Judge.{Judge, Verdict, proof, fails}
-use Rattle.sf_search.specs.Laws.{VerdictsAreUnique}
-use Rattle.sf_vars.specs.Laws.{EachProgramHasOneAnswer}
-use Rattle.sf_check.specs.Laws.{ProvesNotRefused, RefusedOnce}
+use Rattle.sf_search.specs.Checked.Laws.{VerdictsAreUnique}
+use Rattle.sf_vars.specs.Checked.Laws.{EachProgramHasOneAnswer}
+use Rattle.sf_check.specs.Checked.Laws.{ProvesNotRefused, RefusedOnce}
 use Rattle.sf_check.specs.Refusal.{Refused}
 use Rattle.sf_io.specs.Shelf.{Files}
 use Rattle.sf_proof.specs.declared.lined.Lined.{Lined}
-use Rattle.sf_proof.specs.Laws.{EachTextReadsOnce}
+use Rattle.sf_proof.specs.Checked.Laws.{EachTextReadsOnce}
 use Rattle.sf_cli.specs.Answer.{FileAnswer, OrderAnswer, ProgramAnswer, RecheckAnswer, RunAnswer, VerdictAnswer, admitted, file_refused, rechecked, refused}
 use Rattle.sf_cli.specs.declared.rejection.Rejection.{Rejection}
 use Rattle.sf_cli.specs.declared.refusal.Refusal.{Refusal}
 use Rattle.sf_cli.specs.declared.refusal.Refusal.TheVariants.{At}
 use Rattle.sf_cli.specs.declared.refusal.RefusalKind.TheVariants.{Undetermined}
 use Rattle.sf_cli.specs.FileFault.{ReadFault, in_tokens, in_grammar, in_names, ProgramFault, in_variables, in_order, FileFault, unread, unfit, Admits}
-use Rattle.sf_cli.specs.Laws.{EachCommandHasOneAnswer, EachFileHasOneAnswer, EachFileIsDecided, EachFileIsOneProgram, EachProofHasOneAnswer, EachRunHasOneAnswer}
+use Rattle.sf_cli.specs.Checked.Laws.{EachCommandHasOneAnswer, EachFileHasOneAnswer, EachFileIsDecided, EachFileIsOneProgram, EachProofHasOneAnswer, EachRunHasOneAnswer}
 use Rattle.sf_cli.specs.Reads.{Reads}
 use Rattle.sf_cli.specs.Refusals.{of_tokens, of_grammar, of_names, of_variables, refusal_text}
 use Rattle.sf_cli.specs.Rechecked.{IsProof, ProofAnswer, ProofFault, accepted, in_tags, in_text, rejected}

@@ -19,19 +19,19 @@ use Rattle.sf_foot.specs.Starting.{store_of}
 use Rattle.sf_foot.specs.Variables.{values_or_none}
 use Rattle.sf_heap.specs.Cells.{Cells, heap_of}
 use Rattle.sf_io.specs.Shelf.{Files}
-use Rattle.sf_rules.specs.LawsOfSettings.{SettingIsUnique}
+use Rattle.sf_rules.specs.Checked.LawsOfSettings.{SettingIsUnique}
 use Rattle.sf_rules.specs.Setting.{Setting}
-use Rattle.sf_run.specs.Laws.{OutcomesAreUnique}
+use Rattle.sf_run.specs.Checked.Laws.{OutcomesAreUnique}
 use Rattle.sf_run.specs.Running.{ComesTo}
 use Rattle.sf_run.specs.Sequential.{IsSequential}
 use Rattle.sf_search.specs.Judge.{Judge, Verdict, proof}
-use Rattle.sf_search.specs.Laws.{VerdictsAreUnique}
-use Rattle.sf_state.specs.Laws.{AreDetermined, EntryIsUnique, SameVars, StartIsUnique}
+use Rattle.sf_search.specs.Checked.Laws.{VerdictsAreUnique}
+use Rattle.sf_state.specs.Checked.Laws.{AreDetermined, EntryIsUnique, SameVars, StartIsUnique}
 use Rattle.sf_state.specs.Starts.{IsStartFault, IsStartText}
 use Rattle.sf_cli.proofs.EndTexts.{end-once}
 use Rattle.sf_cli.proofs.OneAnswer.{VerdictLayers, answer-program}
 use Rattle.sf_cli.specs.Answer.{IsProved, ProgramAnswer, RunFileAnswer, VerdictAnswer, admitted_run, entered, no_entry, not_built, refused_run, unproved}
-use Rattle.sf_cli.specs.Laws.{EachRunHasOneAnswer}
+use Rattle.sf_cli.specs.Checked.Laws.{EachRunHasOneAnswer}
 use Rattle.sf_cli.specs.Ran.{OutcomeAnswer, StateAnswer, no_start, ran}
 use Rattle.sf_cli.specs.Refusals.{refusal_text}
 use Rattle.sf_cli.specs.StartRefusals.{start_refusal_text}

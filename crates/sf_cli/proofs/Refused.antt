@@ -24,7 +24,7 @@ use Rattle.sf_parse.specs.declared.fault.ParseFault.TheVariants as g
 use Rattle.sf_parse.specs.Parsing.{IsFile, IsFault as IsGrammarFault}
 use Rattle.sf_precise.specs.declared.fault.OrderFault.{OrderFault}
 use Rattle.sf_precise.specs.declared.fault.OrderFault.TheVariants as o
-use Rattle.sf_precise.specs.Laws.{OrderedIsDetermined}
+use Rattle.sf_precise.specs.Checked.Laws.{OrderedIsDetermined}
 use Rattle.sf_precise.specs.Annotations.{annotations_in, IsFirstPlace, NeverTakenIn, AreOrdersOf}
 use Rattle.sf_precise.specs.Taken.{IfUndetermined}
 use Rattle.sf_vars.specs.declared.fault.VarFault.{VarFault}

@@ -20,7 +20,7 @@ use Rattle.sf_cli.specs.Answer.{unread as unread_file}
 use Rattle.sf_cli.specs.declared.refusal.Refusal.{Refusal}
 use Rattle.sf_cli.specs.FileFault.{FileFault, unread, unfit, in_tokens, in_grammar, in_names}
 use Rattle.sf_cli.specs.Reads.{Reads}
-use Rattle.sf_cli.specs.Internal.Fetched.{IsUpTo, Fetched}
+use Rattle.sf_cli.specs.Checked.Fetched.{IsUpTo, Fetched}
 use Rattle.sf_cli.specs.Rechecked.{ProofAnswer, accepted, in_tags, in_text, rejected}
 use Rattle.sf_words.specs.Words.{Text, Order, recheck, verify}
 use Rattle.sf_cli.specs.Usage.{usage_text}

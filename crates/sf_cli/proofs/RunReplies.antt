@@ -41,8 +41,8 @@ use Rattle.sf_cli.proofs.EndTexts.{end-written}
 use Rattle.sf_cli.proofs.Replies.{increased-later, long-fault, long-reads, reply-unread}
 use Rattle.sf_cli.specs.Answer.{AreRun, MayHave, NamesProgram, Reaches, Reply, RunAnswer, admitted_run, answer, read_fault_text, refused_run}
 use Rattle.sf_cli.specs.declared.reply.Said.{Said}
-use Rattle.sf_cli.specs.Internal.Fetched.{IsUpTo, Fetched}
-use Rattle.sf_cli.specs.Internal.Printed.{IsOutcomeText, SaysFinish, stop_text}
+use Rattle.sf_cli.specs.Checked.Fetched.{IsUpTo, Fetched}
+use Rattle.sf_cli.specs.Checked.Printed.{IsOutcomeText, SaysFinish, stop_text}
 use Rattle.sf_cli.specs.Ran.{OutcomeAnswer, StateAnswer, no_start, ran, resource_name, spent_steps_text, spent_waits_text}
 use Rattle.sf_words.specs.Words.{Text, Order, run}
 

@@ -8,5 +8,4 @@ pub mod StartRefusals
 pub mod EndText
 pub mod Ran
 pub mod Answer
-pub mod Internal
-pub mod Laws
+pub mod Checked

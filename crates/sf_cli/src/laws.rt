@@ -1,7 +1,7 @@
 //! Laws of answers. Each function is a law: calling it gives its fact to the caller's proof, and
 //! does nothing.
 
-ghost use Rattle.sf_cli.specs.Laws.{AcceptedFilesAreSound, AcceptedProofsAreSound, AcceptedRunsAreSound, EachCommandHasAnAnswer, EachCommandHasOneAnswer, EachFileHasAnAnswer, EachFileHasOneAnswer, EachFileIsDecided, EachFileIsOneProgram, EachProofHasAnAnswer, EachProofHasOneAnswer, EachRunHasAnAnswer, EachRunHasOneAnswer, FinishedRunsHaveEnded};
+ghost use Rattle.sf_cli.specs.Checked.Laws.{AcceptedFilesAreSound, AcceptedProofsAreSound, AcceptedRunsAreSound, EachCommandHasAnAnswer, EachCommandHasOneAnswer, EachFileHasAnAnswer, EachFileHasOneAnswer, EachFileIsDecided, EachFileIsOneProgram, EachProofHasAnAnswer, EachProofHasOneAnswer, EachRunHasAnAnswer, EachRunHasOneAnswer, FinishedRunsHaveEnded};
 
 use sf_check::laws::{proves_not_refused, proves_or_refused, refused_once};
 use sf_elab::laws::elaborated_is_formed;

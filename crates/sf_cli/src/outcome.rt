@@ -2,7 +2,7 @@
 
 ghost use Rattle.std.specs.Prelude.{◌≡◌, ◌≢◌, ◌<◌, ◌++◌, IfOk, IfSome, codes, length, slice_get};
 ghost use Rattle.sf_core.specs.Program.ProgramView.{program_of};
-ghost use Rattle.sf_cli.specs.Internal.Printed.{SaysFinish, stop_text};
+ghost use Rattle.sf_cli.specs.Checked.Printed.{SaysFinish, stop_text};
 ghost use Rattle.sf_cli.specs.Ran.{resource_name, spent_steps_text, spent_waits_text};
 ghost use Rattle.sf_run.specs.declared.stop.Stop.TheVariants.{OutOfMemory};
 

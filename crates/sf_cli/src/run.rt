@@ -8,7 +8,7 @@ ghost use Rattle.sf_core.specs.Program.ProgramView.{program_of};
 ghost use Rattle.sf_foot.specs.Starting.{StartsWith};
 ghost use Rattle.sf_io.specs.Increased.{Increased};
 ghost use Rattle.sf_cli.specs.Answer.{AreRun, HasRun, IsProved, MayHave, Reaches, Reply, RunAnswer, RunFileAnswer, read_fault_text};
-ghost use Rattle.sf_cli.specs.Internal.Printed.{IsOutcomeText};
+ghost use Rattle.sf_cli.specs.Checked.Printed.{IsOutcomeText};
 ghost use Rattle.sf_cli.specs.Ran.{StateAnswer};
 ghost use Rattle.sf_cli.specs.StartRefusals.{start_refusal_text};
 ghost use Rattle.sf_run.specs.Running.{program_in};

@@ -11,14 +11,14 @@ use Rattle.sf_core.specs.declared.assertion.Operand.TheVariants.{Known}
 use Rattle.sf_core.specs.declared.assertion.Test.{Test}
 use Rattle.sf_core.specs.Program.Syntax.{Conjunct, choose, Level, also}
 use Rattle.sf_consume.proofs.Handing.{hands_nothing}
-use Rattle.sf_consume.specs.Laws.{alone, BranchKeepsWants}
-use Rattle.sf_sym.specs.Lemmas.Bindings.{test-is}
-use Rattle.sf_sym.specs.Lemmas.Choices.{before-formed, before-occurs, before-sat, branch-formed, branch-occurs, level-sat}
+use Rattle.sf_consume.specs.Checked.Laws.{alone, BranchKeepsWants}
+use Rattle.sf_sym.specs.Checked.Lemmas.Bindings.{test-is}
+use Rattle.sf_sym.specs.Checked.Lemmas.Choices.{before-formed, before-occurs, before-sat, branch-formed, branch-occurs, level-sat}
 use Rattle.sf_sym.specs.Decided.{is_decided, test_of_terms}
 use Rattle.sf_sym.specs.declared.term.Term.{Term}
 use Rattle.sf_sym.specs.Holds.{term_value, IsBound}
 use Rattle.sf_sym.specs.HoldsIn.{HoldsIn}
-use Rattle.sf_sym.specs.Lemmas.Decided.{decided-false, decided-true}
+use Rattle.sf_sym.specs.Checked.Lemmas.Decided.{decided-false, decided-true}
 use Rattle.sf_sym.specs.Pending.{before, conjuncts_of}
 use Rattle.sf_sym.specs.State.{State}
 

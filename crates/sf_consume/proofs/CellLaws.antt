@@ -19,14 +19,14 @@ use Rattle.sf_consume.proofs.Handing.{by_first, by_list, state-below, state-hand
 use Rattle.sf_consume.proofs.WantedFirst.{cell-is, tree-is}
 use Rattle.sf_consume.specs.declared.wanted.WantedList.{WantedList}
 use Rattle.sf_consume.specs.declared.wanted.WantedTree.{WantedTree}
-use Rattle.sf_consume.specs.Laws.{alone, Subtracts, CellKeepsWants, HeadKeepsWants, NodeKeepsWants}
+use Rattle.sf_consume.specs.Checked.Laws.{alone, Subtracts, CellKeepsWants, HeadKeepsWants, NodeKeepsWants}
 use Rattle.sf_consume.specs.Subtract.{Fit, Want, cell_step, first_fit, fit_fields, fitting, handed_cell, head_there, link, list_from, node_step, node_there, removed, tree_from, wanted_cell, wanted_tree}
 use Rattle.sf_consume.specs.Wants.{IsFormed, Wants}
-use Rattle.sf_sym.specs.Lemmas.Bindings.{operand-below, operand-is}
+use Rattle.sf_sym.specs.Checked.Lemmas.Bindings.{operand-below, operand-is}
 use Rattle.sf_sym.specs.Formed.{AllFormed}
-use Rattle.sf_sym.specs.Lemmas.Decided.{differ-in}
-use Rattle.sf_sym.specs.Lemmas.AtomLists.{at-all, at-cell}
-use Rattle.sf_sym.specs.Lemmas.Below.{below-more, below-value}
+use Rattle.sf_sym.specs.Checked.Lemmas.Decided.{differ-in}
+use Rattle.sf_sym.specs.Checked.Lemmas.AtomLists.{at-all, at-cell}
+use Rattle.sf_sym.specs.Checked.Lemmas.Below.{below-more, below-value}
 use Rattle.sf_sym.specs.Below.{AllInAtom, AllPaired, IsBelow, SameBelow}
 use Rattle.sf_sym.specs.Cells.{cell_at}
 use Rattle.sf_sym.specs.Decided.{term_of}

@@ -19,12 +19,12 @@ use Rattle.sf_core.specs.Program.Syntax.{Conjuncts, level}
 use Rattle.sf_consume.proofs.CellLaws.{cell_keeps_wants, head_keeps_wants, node_keeps_wants}
 use Rattle.sf_consume.proofs.PartLaws.{exact_keeps_wants, join_keeps_wants}
 use Rattle.sf_consume.proofs.PureLaws.{apart_keeps_wants, bind_keeps_wants, empty_keeps_wants, same_keeps_wants}
-use Rattle.sf_consume.specs.Laws.{HandsOver, Subtracts, AssertionIsShown, AssertionIsWanted, BindKeepsWants, SameKeepsWants, ApartKeepsWants, CellKeepsWants, EmptyKeepsWants, ExactKeepsWants, HeadKeepsWants, JoinKeepsWants, NodeKeepsWants, NothingIsWanted, SubtractionKeepsWants, SubtractionsChain}
+use Rattle.sf_consume.specs.Checked.Laws.{HandsOver, Subtracts, AssertionIsShown, AssertionIsWanted, BindKeepsWants, SameKeepsWants, ApartKeepsWants, CellKeepsWants, EmptyKeepsWants, ExactKeepsWants, HeadKeepsWants, JoinKeepsWants, NodeKeepsWants, NothingIsWanted, SubtractionKeepsWants, SubtractionsChain}
 use Rattle.sf_consume.specs.Subtract.{Want}
 use Rattle.sf_sym.specs.declared.tag.Tag.TheVariants as tags
 use Rattle.sf_sym.specs.declared.term.Term.{Term}
 use Rattle.sf_sym.specs.Holds.{term_value, IsBound}
-use Rattle.sf_sym.specs.Lemmas.OtherTerms.{conjuncts-with}
+use Rattle.sf_sym.specs.Checked.Lemmas.OtherTerms.{conjuncts-with}
 use Rattle.sf_sym.specs.State.{term}
 
 -- where no existential has a term, any values will do

@@ -4,7 +4,7 @@ use Rattle.std.proofs.lemmas.Bool.Decides.{Decides-eqb}
 use Rattle.std.proofs.lemmas.Grind.{get_or-set_at}
 use Rattle.std.proofs.lemmas.List.{get_or-set_other, get_or_past, length-set}
 use Rattle.sf_sym.specs.declared.term.Term.{Term}
-use Rattle.sf_consume.specs.Internal.Fits.{after_changes, latest}
+use Rattle.sf_consume.specs.Checked.Fits.{after_changes, latest}
 
 -- one more change at the end
 pub after_more : (xs : List (ℕ × Term)) (n : ℕ) (t : Term) (bindings : List (Option Term))

@@ -11,13 +11,13 @@ use Rattle.sf_core.specs.Assertions.Sat.{HasFields, operand}
 use Rattle.sf_core.specs.declared.assertion.Operand.{Operand}
 use Rattle.sf_core.specs.declared.assertion.Operand.TheVariants.{Known, Exists}
 use Rattle.sf_consume.specs.Subtract.{Fit, fit_existential, fit_field, fit_fields, fit_known, fit_new, link, linked}
-use Rattle.sf_sym.specs.Lemmas.Bindings.{operand-is, set-all, set-here, set-keeps, set-length}
+use Rattle.sf_sym.specs.Checked.Lemmas.Bindings.{operand-is, set-all, set-here, set-keeps, set-length}
 use Rattle.sf_sym.specs.Formed.{IsCounted}
-use Rattle.sf_sym.specs.Lemmas.{same_term_is}
-use Rattle.sf_sym.specs.Lemmas.Below.{below-more, below-symbol, below-value, paired-weaker, put-all}
-use Rattle.sf_sym.specs.Lemmas.CellFields.{field-all, field-value, put-known}
-use Rattle.sf_sym.specs.Lemmas.FreshValues.{value-below, value-here, with_value}
-use Rattle.sf_sym.specs.Lemmas.OtherValues.{Same, fields-other_values}
+use Rattle.sf_sym.specs.Checked.Lemmas.{same_term_is}
+use Rattle.sf_sym.specs.Checked.Lemmas.Below.{below-more, below-symbol, below-value, paired-weaker, put-all}
+use Rattle.sf_sym.specs.Checked.Lemmas.CellFields.{field-all, field-value, put-known}
+use Rattle.sf_sym.specs.Checked.Lemmas.FreshValues.{value-below, value-here, with_value}
+use Rattle.sf_sym.specs.Checked.Lemmas.OtherValues.{Same, fields-other_values}
 use Rattle.sf_sym.specs.Below.{AllPaired, IsBelow, SameBelow}
 use Rattle.sf_sym.specs.Decided.{term_of}
 use Rattle.sf_sym.specs.declared.term.Term.{Term}

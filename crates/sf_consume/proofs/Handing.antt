@@ -16,13 +16,13 @@ use Rattle.sf_core.specs.declared.assertion.Operand.TheVariants.{Known, Exists}
 use Rattle.sf_core.specs.Program.Syntax.{Conjunct, segment, Conjuncts, none, also}
 use Rattle.sf_consume.proofs.WantedFirst.{list-is}
 use Rattle.sf_consume.specs.declared.wanted.WantedList.{WantedList}
-use Rattle.sf_consume.specs.Laws.{alone, Subtracts, KeepsWants}
+use Rattle.sf_consume.specs.Checked.Laws.{alone, Subtracts, KeepsWants}
 use Rattle.sf_consume.specs.Subtract.{Step, Want, both, first_by, removed, wanted_list}
 use Rattle.sf_consume.specs.Wants.{IsFormed, Wants}
-use Rattle.sf_sym.specs.Lemmas.AtomLists.{atoms-one_more, atoms-out, without-all}
-use Rattle.sf_sym.specs.Lemmas.Below.{below-more, below-value, state-weaker}
-use Rattle.sf_sym.specs.Lemmas.FreshGoals.{more-below}
-use Rattle.sf_sym.specs.Lemmas.OtherValues.{Same, goal-other_values}
+use Rattle.sf_sym.specs.Checked.Lemmas.AtomLists.{atoms-one_more, atoms-out, without-all}
+use Rattle.sf_sym.specs.Checked.Lemmas.Below.{below-more, below-value, state-weaker}
+use Rattle.sf_sym.specs.Checked.Lemmas.FreshGoals.{more-below}
+use Rattle.sf_sym.specs.Checked.Lemmas.OtherValues.{Same, goal-other_values}
 use Rattle.sf_sym.specs.Below.{AllInAtom, AllInState, IsBelow, SameBelow}
 use Rattle.sf_sym.specs.Cells.{atom_at, handed, without}
 use Rattle.sf_sym.specs.Decided.{term_of}

@@ -10,7 +10,7 @@ use Rattle.sf_sym.specs.Pending.{Given}
 use Rattle.sf_sym.specs.State.{State}
 use Rattle.sf_sym.specs.declared.term.Term.{Term}
 use Rattle.sf_consume.specs.declared.wanted.WantedTree.{WantedTree}
-use Rattle.sf_consume.specs.Internal.Fits.{want_of}
+use Rattle.sf_consume.specs.Checked.Fits.{want_of}
 use Rattle.sf_consume.specs.Subtract.{Fit, first_fit, handed_cell, link, node_step, node_there, removed, stepped, tree_from, wanted_tree}
 
 module _ (a : ℕ) (s new : State) (bindings : List (Option Term)) (w : WantedTree) (t : Term)

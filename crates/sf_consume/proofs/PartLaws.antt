@@ -18,17 +18,17 @@ use Rattle.sf_core.specs.declared.fields.Links.{Links}
 use Rattle.sf_core.specs.Program.Syntax.{Conjunct, holds, points, segment, tree, choose, Conjuncts, also}
 use Rattle.sf_consume.proofs.Handing.{Out, both-are, by_first, by_list, formed-rest, state-below, state-handed, state-joins, state-out, wanting_first}
 use Rattle.sf_consume.specs.declared.wanted.WantedList.{WantedList}
-use Rattle.sf_consume.specs.Laws.{alone, Subtracts, ExactKeepsWants, JoinKeepsWants}
+use Rattle.sf_consume.specs.Checked.Laws.{alone, Subtracts, ExactKeepsWants, JoinKeepsWants}
 use Rattle.sf_consume.specs.Subtract.{Want, both, exact_step, exact_there, is_same_shape, join_there, joined, list_from, removed, wanted_shape}
 use Rattle.sf_consume.specs.Wants.{IsFormed}
-use Rattle.sf_sym.specs.Lemmas.Bindings.{operand-below, operand-is}
+use Rattle.sf_sym.specs.Checked.Lemmas.Bindings.{operand-below, operand-is}
 use Rattle.sf_sym.specs.Formed.{OneFormed}
-use Rattle.sf_sym.specs.Lemmas.{same_term_is}
-use Rattle.sf_sym.specs.Lemmas.AtomLists.{at-all, without-any}
-use Rattle.sf_sym.specs.Lemmas.Parts.{atoms-located, located-left}
-use Rattle.sf_sym.specs.Lemmas.States.{holds-parts}
-use Rattle.sf_sym.specs.Lemmas.Terms.{term-constant_no_location}
-use Rattle.sf_sym.specs.Lemmas.TwoHeaps.{in-at}
+use Rattle.sf_sym.specs.Checked.Lemmas.{same_term_is}
+use Rattle.sf_sym.specs.Checked.Lemmas.AtomLists.{at-all, without-any}
+use Rattle.sf_sym.specs.Checked.Lemmas.Parts.{atoms-located, located-left}
+use Rattle.sf_sym.specs.Checked.Lemmas.States.{holds-parts}
+use Rattle.sf_sym.specs.Checked.Lemmas.Terms.{term-constant_no_location}
+use Rattle.sf_sym.specs.Checked.Lemmas.TwoHeaps.{in-at}
 use Rattle.sf_sym.specs.Below.{AllInAtom, IsBelow}
 use Rattle.sf_sym.specs.Cells.{atom_at, handed, without}
 use Rattle.sf_sym.specs.Decided.{term_of}

@@ -18,13 +18,13 @@ use Rattle.sf_core.specs.Program.Syntax.{Conjunct, holds, points, segment, tree,
 use Rattle.sf_consume.proofs.Bindings.{Binds, binds-either}
 use Rattle.sf_consume.proofs.Handing.{both-are, by_first, formed-rest, nothing_handed, wanting_first}
 use Rattle.sf_consume.proofs.WantedFirst.{equality-is, inequality-is}
-use Rattle.sf_consume.specs.Laws.{alone, Subtracts, BindKeepsWants, SameKeepsWants, ApartKeepsWants, EmptyKeepsWants}
+use Rattle.sf_consume.specs.Checked.Laws.{alone, Subtracts, BindKeepsWants, SameKeepsWants, ApartKeepsWants, EmptyKeepsWants}
 use Rattle.sf_consume.specs.Subtract.{Want, bind_step, same_step, apart_step, empty_step, binding, both, equality, inequality, removed, removed_if, wanted_ends}
 use Rattle.sf_consume.specs.Wants.{IsFormed}
-use Rattle.sf_sym.specs.Lemmas.Bindings.{operand-below, operand-is, set-all, set-here, set-keeps, set-length}
+use Rattle.sf_sym.specs.Checked.Lemmas.Bindings.{operand-below, operand-is, set-all, set-here, set-keeps, set-length}
 use Rattle.sf_sym.specs.Formed.{IsCounted, OneFormed, AllFormed}
-use Rattle.sf_sym.specs.Lemmas.{same_term_is}
-use Rattle.sf_sym.specs.Lemmas.Decided.{differ-in}
+use Rattle.sf_sym.specs.Checked.Lemmas.{same_term_is}
+use Rattle.sf_sym.specs.Checked.Lemmas.Decided.{differ-in}
 use Rattle.sf_sym.specs.Below.{IsBelow}
 use Rattle.sf_sym.specs.declared.term.Term.{Term}
 use Rattle.sf_sym.specs.declared.term.Term.TheVariants.{Nil}

@@ -1,6 +1,6 @@
 -- What is wanted with other terms of the same values.
-use Rattle.sf_consume.specs.Laws.{RestatedTermsAreWanted}
-use Rattle.sf_sym.specs.Lemmas.Restated.{bound-restated, sat-restated}
+use Rattle.sf_consume.specs.Checked.Laws.{RestatedTermsAreWanted}
+use Rattle.sf_sym.specs.Checked.Lemmas.Restated.{bound-restated, sat-restated}
 
 pub restated_terms_are_wanted : RestatedTermsAreWanted
 unfolding RestatedTermsAreWanted

@@ -1,5 +1,4 @@
 pub mod Subtract
 pub mod Misfit
 pub mod Wants
-pub mod Laws
-pub mod Internal
+pub mod Checked

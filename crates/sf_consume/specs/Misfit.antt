@@ -8,7 +8,7 @@ use Rattle.sf_core.specs.declared.assertion.Operand.TheVariants.{Known, Exists}
 use Rattle.sf_sym.specs.declared.term.Term.{Term}
 use Rattle.sf_sym.specs.Fields.{field_term}
 use Rattle.sf_consume.specs.declared.differing.Misfit.{Misfit}
-use Rattle.sf_consume.specs.Internal.Meeting.{met_term}
+use Rattle.sf_consume.specs.Checked.Meeting.{met_term}
 use Rattle.sf_consume.specs.Subtract.{Fit, fit_field}
 
 -- the term that a wanted field is to have, and None for an existential without a term

@@ -2,7 +2,7 @@
 
 ghost use Rattle.std.specs.Prelude.{◌≡◌, ◌+◌, ◌<◌, ◌≤◌, ◌^◌, IfNone, IfOk, IfSome, None, OnErr, Some, [], is_some, true};
 ghost use Rattle.std.specs.Option.{option_map};
-ghost use Rattle.sf_consume.specs.Internal.Fits.{AnswersBy, after_changes, fitting_of};
+ghost use Rattle.sf_consume.specs.Checked.Fits.{AnswersBy, after_changes, fitting_of};
 ghost use Rattle.sf_consume.specs.Subtract.{cell_step, fitting, head_step, new_symbols, node_step, stepped};
 ghost use Rattle.sf_sym.specs.Cells.{cell_at};
 ghost use Rattle.sf_sym.specs.Pending.{existentials_in, pending_of};

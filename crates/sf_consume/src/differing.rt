@@ -2,7 +2,7 @@
 
 ghost use Rattle.std.specs.Prelude.{◌≡◌, IfOk};
 ghost use Rattle.std.specs.Option.{option_map};
-ghost use Rattle.sf_consume.specs.Internal.Meeting.{first_fit_of, fit_of};
+ghost use Rattle.sf_consume.specs.Checked.Meeting.{first_fit_of, fit_of};
 ghost use Rattle.sf_consume.specs.Misfit.{first_misfit, meeting_at, misfit_of};
 
 use crate::meeting::{Meeting, Met, Seen, field_now, fit_field, term_at};

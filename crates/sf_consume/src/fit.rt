@@ -3,7 +3,7 @@
 
 ghost use Rattle.std.specs.Prelude.{◌≡◌, ◌+◌, ◌<◌, ◌≤◌, ◌^◌, get_or, IfOk, IfSome, None, List, Option};
 ghost use Rattle.std.specs.Option.{option_map};
-ghost use Rattle.sf_consume.specs.Internal.Fits.{after_changes, fit_of, latest, link_of};
+ghost use Rattle.sf_consume.specs.Checked.Fits.{after_changes, fit_of, latest, link_of};
 ghost use Rattle.sf_consume.specs.Subtract.{fit_existential, fit_field, fit_fields, fit_known, fit_new, link};
 ghost use Rattle.sf_sym.specs.Fields.{field_term};
 ghost use Rattle.sf_sym.specs.Pending.{existentials_in, one_if_existential};

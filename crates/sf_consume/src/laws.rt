@@ -4,7 +4,7 @@
 //! satisfies the assertion. Each function is a law: calling it gives its fact to the caller's
 //! proof, and does nothing.
 
-ghost use Rattle.sf_consume.specs.Laws.{ApartKeepsWants, AssertionIsShown, AssertionIsWanted, BindKeepsWants, BranchKeepsWants, CellKeepsWants, EmptyKeepsWants, ExactKeepsWants, HeadKeepsWants, JoinKeepsWants, NodeKeepsWants, NothingIsWanted, RestatedTermsAreWanted, SameKeepsWants, SubtractionKeepsWants, SubtractionsChain};
+ghost use Rattle.sf_consume.specs.Checked.Laws.{ApartKeepsWants, AssertionIsShown, AssertionIsWanted, BindKeepsWants, BranchKeepsWants, CellKeepsWants, EmptyKeepsWants, ExactKeepsWants, HeadKeepsWants, JoinKeepsWants, NodeKeepsWants, NothingIsWanted, RestatedTermsAreWanted, SameKeepsWants, SubtractionKeepsWants, SubtractionsChain};
 
 /// bind: the existential has the value of the other side.
 #[tactic(auto, using(crate::proofs::PureLaws::bind_keeps_wants))]

@@ -1,7 +1,7 @@
 //! Wanted segments and trees that are an atom, or begin with one.
 
 ghost use Rattle.std.specs.Prelude.{◌≡◌, IfNone, IfOk, IfSome, None, OnErr, Some};
-ghost use Rattle.sf_consume.specs.Internal.Fits.{AnswersBy};
+ghost use Rattle.sf_consume.specs.Checked.Fits.{AnswersBy};
 ghost use Rattle.sf_consume.specs.Subtract.{exact_step, is_same_shape, join_step, joined, stepped};
 
 use crate::wanted::{as_list, both, list_from, wanted_shape};

@@ -1,7 +1,7 @@
 //! Wanted equalities and inequalities, and what is wanted of no heap: these need no memory.
 
 ghost use Rattle.std.specs.Prelude.{◌≡◌, IfNone, IfSome, None, Some};
-ghost use Rattle.sf_consume.specs.Internal.Fits.{AnswersBy};
+ghost use Rattle.sf_consume.specs.Checked.Fits.{AnswersBy};
 ghost use Rattle.sf_consume.specs.Subtract.{apart_step, bind_step, binding, empty_step, one_binding, same_step, stepped, unbound};
 
 use crate::wanted::{as_equality, as_inequality, both, wanted_ends};

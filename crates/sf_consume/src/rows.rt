@@ -1,7 +1,7 @@
 //! The rows of subtraction by their tags.
 
 ghost use Rattle.std.specs.Prelude.{◌≡◌, ◌+◌, ◌<◌, ◌^◌, IfErr, None, OnErr, OnOk, Some};
-ghost use Rattle.sf_consume.specs.Internal.Fits.{want_of};
+ghost use Rattle.sf_consume.specs.Checked.Fits.{want_of};
 ghost use Rattle.sf_consume.specs.Subtract.{new_symbols, subtracted};
 ghost use Rattle.sf_consume.specs.declared.fault.ConsumeFault.TheVariants.{NotARule};
 ghost use Rattle.sf_sym.specs.Pending.{pending_of};

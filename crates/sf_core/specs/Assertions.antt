@@ -7,5 +7,3 @@ pub mod Determined
 pub mod InOrder
 pub mod Precise
 pub mod Shape
-pub mod Laws
-pub mod Examples

@@ -1,4 +1,4 @@
 pub mod Program
 pub mod Assertions
 pub mod Machine
-pub mod Internal
+pub mod Checked

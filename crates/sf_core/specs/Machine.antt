@@ -16,6 +16,3 @@ pub mod Numbered
 pub mod SpentSteps
 pub mod SpentWaits
 pub mod Alone
-pub mod Laws
-pub mod Examples
-pub mod NumberedExamples

@@ -3,7 +3,7 @@
 ghost use Rattle.std.specs.Prelude.{◌≡◌, ◌<◌, length, map, slice_get, Some, IfSome};
 ghost use Rattle.std.specs.Option.{option_map};
 ghost use Rattle.sf_core.specs.Program.Formed.{IsFormed};
-ghost use Rattle.sf_core.specs.Internal.FormedIsProp.{AreLinks-prop, IsFormed-prop};
+ghost use Rattle.sf_core.specs.Checked.FormedIsProp.{AreLinks-prop, IsFormed-prop};
 ghost use Rattle.sf_core.specs.Program.Links.{AreLinks, IsFieldNamed};
 ghost use Rattle.sf_core.specs.Program.Named.{IsFirstNamed, name_at};
 ghost use Rattle.sf_core.specs.Program.View.{procedure_of, program_with};

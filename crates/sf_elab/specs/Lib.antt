@@ -2,4 +2,4 @@ pub mod Names
 pub mod Files
 pub mod Annotations
 pub mod Bodies
-pub mod Laws
+pub mod Checked

@@ -1,6 +1,6 @@
 //! Laws of elaboration. Each function does nothing; its contract is the law.
 
-ghost use Rattle.sf_elab.specs.Laws.{EachFileIsOne, ElaboratedIsFormed, FirstIsFirst, LevelsAreScopes, NamesAreUnique, PrimedValuesAreSet};
+ghost use Rattle.sf_elab.specs.Checked.Laws.{EachFileIsOne, ElaboratedIsFormed, FirstIsFirst, LevelsAreScopes, NamesAreUnique, PrimedValuesAreSet};
 
 /// What a file without faults elaborates to is a program in order.
 pub fn elaborated_is_formed()

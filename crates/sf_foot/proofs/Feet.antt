@@ -27,9 +27,9 @@ use Rattle.sf_core.specs.Program.Syntax.{Conjuncts, Level, level}
 use Rattle.sf_heap.specs.Cells.{Cells, HasCell, cell_of, heap_of}
 use Rattle.sf_foot.specs.declared.known.Known.{Known}
 use Rattle.sf_foot.specs.Footprint.{HasNoFootprint, IsFootprint}
-use Rattle.sf_foot.specs.Internal.Known.{Agrees, IsWithin, is_told, told}
-use Rattle.sf_foot.specs.Internal.Places.{part_at}
-use Rattle.sf_foot.specs.Internal.Taking.{AllTake, AreReady, LevelTakes, Overflows, Takes}
+use Rattle.sf_foot.specs.Checked.Known.{Agrees, IsWithin, is_told, told}
+use Rattle.sf_foot.specs.Checked.Places.{part_at}
+use Rattle.sf_foot.specs.Checked.Taking.{AllTake, AreReady, LevelTakes, Overflows, Takes}
 use Rattle.sf_foot.proofs.Knowing.{agrees-before}
 use Rattle.sf_foot.proofs.Meaning.{have-all, have-level, level-from_sat, sat-from_level}
 use Rattle.sf_foot.proofs.Parts.{Distinct}

@@ -13,12 +13,12 @@ use Rattle.sf_core.specs.Assertions.InOrder.{IsInOrder}
 use Rattle.sf_core.specs.Assertions.Sat.{value}
 use Rattle.sf_core.specs.Assertions.Scopes.{is_made_by}
 use Rattle.sf_core.specs.Program.Syntax.{Level, level}
-use Rattle.sf_precise.specs.Laws.{DeterminedHasOrder, OrderKeepsMeaning, OrderedIsDetermined}
+use Rattle.sf_precise.specs.Checked.Laws.{DeterminedHasOrder, OrderKeepsMeaning, OrderedIsDetermined}
 use Rattle.sf_precise.specs.Order.{IsOrderOfLevel}
 use Rattle.sf_heap.specs.Cells.{Cells, heap_of}
 use Rattle.sf_foot.specs.Footprint.{HasNoFootprint}
-use Rattle.sf_foot.specs.Internal.Taking.{LevelTakes}
-use Rattle.sf_foot.specs.Laws.{FootprintIsDecided, HasFootprintOrNone}
+use Rattle.sf_foot.specs.Checked.Taking.{LevelTakes}
+use Rattle.sf_foot.specs.Checked.Laws.{FootprintIsDecided, HasFootprintOrNone}
 use Rattle.sf_foot.proofs.Feet.{distinct-to, foot-taken}
 use Rattle.sf_foot.proofs.Learning.{plus}
 use Rattle.sf_foot.proofs.Meaning.{have-level, level-from_sat}

@@ -17,7 +17,7 @@ use Rattle.sf_core.specs.Assertions.InOrder.{is_known}
 use Rattle.sf_core.specs.Assertions.Sat.{HasFields, operand}
 use Rattle.sf_core.specs.Assertions.Scopes.{is_made_by}
 use Rattle.sf_foot.specs.declared.known.Known.{Known}
-use Rattle.sf_foot.specs.Internal.Known.{Agrees, FieldsLeft, Grows, IsWithin, Learns, Refutes, is_told, told_of}
+use Rattle.sf_foot.specs.Checked.Known.{Agrees, FieldsLeft, Grows, IsWithin, Learns, Refutes, is_told, told_of}
 
 -- values that agree with more agree with less
 pub agrees-before : (p : ℕ → Bool) (a b : Known) (some : ℕ → Value) → Grows p a b → Agrees b some → Agrees a some

@@ -16,9 +16,9 @@ use Rattle.sf_core.specs.declared.assertion.Test.{Test}
 use Rattle.sf_core.specs.Assertions.Sat.{HasFields, IsTrueOf, Sat, SatAll, SatOne, Tree, operand}
 use Rattle.sf_core.specs.Program.Syntax.{Conjunct, holds, points, segment, tree, choose, Level, level, Conjuncts, none, also}
 use Rattle.sf_heap.specs.Cells.{Cells, FieldValues, cell_of, heap_of}
-use Rattle.sf_foot.specs.Internal.Places.{part_at}
-use Rattle.sf_foot.specs.Internal.Taking.{AllTake, LevelTakes, OneTakes}
-use Rattle.sf_foot.specs.Internal.Walks.{TreesWalk}
+use Rattle.sf_foot.specs.Checked.Places.{part_at}
+use Rattle.sf_foot.specs.Checked.Taking.{AllTake, LevelTakes, OneTakes}
+use Rattle.sf_foot.specs.Checked.Walks.{TreesWalk}
 use Rattle.sf_foot.proofs.Parts.{Distinct, IsWalked, part-splits, seg-from_walk, walk-from_seg}
 use Rattle.sf_foot.proofs.Pigeons.{AllHave, have-append, have-segment, have-trees}
 use Rattle.sf_foot.proofs.Sums.{distinct-left, distinct-right, part-append, part-both}

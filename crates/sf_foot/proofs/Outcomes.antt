@@ -23,8 +23,8 @@ use Rattle.sf_core.specs.Assertions.Scopes.{is_made_by}
 use Rattle.sf_core.proofs.Assertions.Sat.{test-which}
 use Rattle.sf_core.specs.Program.Syntax.{Conjunct, holds, points, segment, tree, choose, Level, level, Conjuncts, none, also}
 use Rattle.sf_heap.specs.Cells.{Cells, FieldValues, cell_of}
-use Rattle.sf_foot.specs.Internal.Taking.{AllTake, LevelTakes, OneTakes}
-use Rattle.sf_foot.specs.Internal.Walks.{SegmentWalk, TreesWalk}
+use Rattle.sf_foot.specs.Checked.Taking.{AllTake, LevelTakes, OneTakes}
+use Rattle.sf_foot.specs.Checked.Walks.{SegmentWalk, TreesWalk}
 use Rattle.sf_foot.proofs.Learning.{Agree, Learned, Refuted, agree-first, agree-then, in_fields, itself, known-operand, learn-fields, learn-operand, plus, plus-first}
 use Rattle.sf_foot.proofs.Ready.{existential-is, occurs-fields}
 use Rattle.sf_foot.proofs.Walked.{Walked, walk-segment, walk-trees}

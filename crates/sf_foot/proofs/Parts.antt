@@ -15,8 +15,8 @@ use Rattle.sf_base.proofs.HeapSplits.{one-in, one-is, one-single, put-elsewhere,
 use Rattle.sf_base.proofs.MapSplits.{empty_map, map-same, splits-has_left, splits-lacks_right, splits-comm, splits-assoc_right, splits-same_whole}
 use Rattle.sf_base.proofs.Options.{option_map-some}
 use Rattle.sf_heap.specs.Cells.{Cells, cell_of, heap_of}
-use Rattle.sf_foot.specs.Internal.Places.{part_at}
-use Rattle.sf_foot.specs.Internal.Walks.{SegmentWalk, end, cell}
+use Rattle.sf_foot.specs.Checked.Places.{part_at}
+use Rattle.sf_foot.specs.Checked.Walks.{SegmentWalk, end, cell}
 
 -- no number comes twice
 abbrev pub Distinct : List ℕ → Type 0

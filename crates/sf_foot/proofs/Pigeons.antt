@@ -9,7 +9,7 @@ use Rattle.std.proofs.lemmas.Cmp.{nat_cmp_total}
 use Rattle.sf_heap.specs.Cells.{Cells, HasCell}
 use Rattle.sf_base.specs.declared.ids.FieldId.{FieldId}
 use Rattle.sf_base.specs.declared.value.Value.{Value}
-use Rattle.sf_foot.specs.Internal.Walks.{SegmentWalk, end, cell, TreesWalk, none, leaf, node}
+use Rattle.sf_foot.specs.Checked.Walks.{SegmentWalk, end, cell, TreesWalk, none, leaf, node}
 use Rattle.sf_foot.proofs.Parts.{Distinct}
 
 -- each of the locations has a cell

@@ -17,8 +17,8 @@ use Rattle.sf_core.specs.Assertions.Occurs.{OccursInFields}
 use Rattle.sf_core.specs.Assertions.Scopes.{is_made_by}
 use Rattle.sf_core.specs.Program.Syntax.{Conjunct, holds, points, segment, tree, choose, Level, level, Conjuncts, none, also}
 use Rattle.sf_foot.specs.declared.known.Known.{Known}
-use Rattle.sf_foot.specs.Internal.Known.{Grows, IsWithin, is_told}
-use Rattle.sf_foot.specs.Internal.Taking.{AreReady, IsReadyNow, TestIsKnown}
+use Rattle.sf_foot.specs.Checked.Known.{Grows, IsWithin, is_told}
+use Rattle.sf_foot.specs.Checked.Taking.{AreReady, IsReadyNow, TestIsKnown}
 use Rattle.sf_foot.proofs.Knowing.{within-grows}
 
 -- sets with the same numbers are the same

@@ -13,7 +13,7 @@ use Rattle.sf_base.proofs.Sums.{either}
 use Rattle.sf_base.specs.HeapStore.{Apart, Cell, Heap, Splits}
 use Rattle.sf_base.proofs.MapSplits.{apart-none, splits-lacks_right, splits-same_whole}
 use Rattle.sf_heap.specs.Cells.{Cells, HasCell, cell_of, heap_of}
-use Rattle.sf_foot.specs.Internal.Places.{part_at}
+use Rattle.sf_foot.specs.Checked.Places.{part_at}
 use Rattle.sf_foot.proofs.Parts.{Distinct}
 use Rattle.sf_foot.proofs.Pigeons.{AllHave}
 

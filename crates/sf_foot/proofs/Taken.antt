@@ -9,7 +9,7 @@ use Rattle.sf_core.specs.Program.Syntax.{Conjuncts}
 use Rattle.sf_core.specs.Program.View.{conjunct_of, conjuncts}
 use Rattle.sf_heap.specs.Cells.{Cells}
 use Rattle.sf_foot.specs.declared.known.Known.{Known}
-use Rattle.sf_foot.specs.Internal.Taking.{AllTake, ConjunctsLeft, IsReadyNow, OneTakes, Overflows, Takes}
+use Rattle.sf_foot.specs.Checked.Taking.{AllTake, ConjunctsLeft, IsReadyNow, OneTakes, Overflows, Takes}
 use Rattle.sf_foot.proofs.Drops.{drop-item, drop-none}
 use Rattle.sf_foot.proofs.Ready.{ready-first}
 use Rattle.sf_foot.proofs.Takings.{left-end, left-more, left-stop}

@@ -23,9 +23,9 @@ use Rattle.sf_core.specs.Program.Syntax.{Conjunct, holds, points, segment, tree,
 use Rattle.sf_heap.specs.Cells.{Cells, FieldValues, cell_of}
 use Rattle.sf_foot.specs.declared.known.Known.{Known}
 use Rattle.sf_foot.specs.declared.known.Layer.{Layer}
-use Rattle.sf_foot.specs.Internal.Known.{Agrees, Grows, Learns, found_in, found_within, is_told, told, told_of}
-use Rattle.sf_foot.specs.Internal.Taking.{AllTake, ConjunctsLeft, LevelTakes, OneTakes, Overflows, Takes}
-use Rattle.sf_foot.specs.Internal.Walks.{SegmentWalk, TreesWalk, WalksOn, end, cell, none as no_roots, leaf, node}
+use Rattle.sf_foot.specs.Checked.Known.{Agrees, Grows, Learns, found_in, found_within, is_told, told, told_of}
+use Rattle.sf_foot.specs.Checked.Taking.{AllTake, ConjunctsLeft, LevelTakes, OneTakes, Overflows, Takes}
+use Rattle.sf_foot.specs.Checked.Walks.{SegmentWalk, TreesWalk, WalksOn, end, cell, none as no_roots, leaf, node}
 use Rattle.sf_foot.proofs.Knowing.{agrees-before, grows-none, grows-then, told-operand}
 use Rattle.sf_foot.proofs.Ready.{ready-rest}
 

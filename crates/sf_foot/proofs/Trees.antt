@@ -11,8 +11,8 @@ use Rattle.sf_base.proofs.HeapSplits.{one-in, one-single, single}
 use Rattle.sf_base.proofs.MapSplits.{empty_map, map-same, splits-comm, splits-assoc_left, splits-assoc_right, splits-empty_left, splits-empty_right, splits-has_left, splits-of_empty_left, union}
 use Rattle.sf_base.proofs.Options.{option_map-some}
 use Rattle.sf_heap.specs.Cells.{Cells, cell_of, heap_of}
-use Rattle.sf_foot.specs.Internal.Places.{part_at}
-use Rattle.sf_foot.specs.Internal.Walks.{TreesWalk, none, leaf, node}
+use Rattle.sf_foot.specs.Checked.Places.{part_at}
+use Rattle.sf_foot.specs.Checked.Walks.{TreesWalk, none, leaf, node}
 use Rattle.sf_foot.proofs.Parts.{Distinct, IsWalked, part-more, part-splits}
 
 -- one tree for each root, and all these disjoint

@@ -7,7 +7,7 @@ use Rattle.sf_base.specs.declared.ids.FieldId.{FieldId}
 use Rattle.sf_base.specs.declared.value.Value.{Value}
 use Rattle.sf_base.specs.declared.value.Value.TheVariants.{Nil as nil, Int as int, Loc as loc}
 use Rattle.sf_heap.specs.Cells.{Cells, FieldValues}
-use Rattle.sf_foot.specs.Internal.Walks.{SegmentWalk, end, cell, TreesWalk, none as no_roots, leaf, node}
+use Rattle.sf_foot.specs.Checked.Walks.{SegmentWalk, end, cell, TreesWalk, none as no_roots, leaf, node}
 use Rattle.sf_core.proofs.Assertions.Sat.{value-which}
 
 -- a walk is the only one, or each is at least so long

@@ -9,7 +9,7 @@ use Rattle.sf_base.specs.declared.ids.FieldId.{FieldId}
 use Rattle.sf_base.specs.declared.value.Value.{Value}
 use Rattle.sf_base.specs.declared.value.Value.TheVariants.{Nil as nil, Loc as loc}
 use Rattle.sf_heap.specs.Cells.{Cells, FieldValues}
-use Rattle.sf_foot.specs.Internal.Walks.{SegmentWalk, end, cell, TreesWalk, none, leaf, node, Walking, WalksOn}
+use Rattle.sf_foot.specs.Checked.Walks.{SegmentWalk, end, cell, TreesWalk, none, leaf, node, Walking, WalksOn}
 
 -- nothing was walked yet
 pub walking-start : (whole : List ℕ → Type 0) (old : List ℕ) → Walking whole whole old old

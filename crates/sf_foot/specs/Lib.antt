@@ -1,5 +1,4 @@
 pub mod Footprint
-pub mod Internal
-pub mod Laws
 pub mod Starting
 pub mod Variables
+pub mod Checked

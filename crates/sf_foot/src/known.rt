@@ -8,8 +8,8 @@ ghost use Rattle.sf_core.specs.Assertions.Determined.{is_existential, is_in_fiel
 ghost use Rattle.sf_core.specs.Assertions.Sat.{HasFields, IsTrueOf, operand, value};
 ghost use Rattle.sf_core.specs.Assertions.Scopes.{is_made_by};
 ghost use Rattle.sf_heap.specs.Cells.{cell_of};
-ghost use Rattle.sf_foot.specs.Internal.Known.{Agrees, IsWithin, Learns, Refutes, is_own, told, told_of};
-ghost use Rattle.sf_foot.specs.Internal.Taking.{TestIsKnown};
+ghost use Rattle.sf_foot.specs.Checked.Known.{Agrees, IsWithin, Learns, Refutes, is_own, told, told_of};
+ghost use Rattle.sf_foot.specs.Checked.Taking.{TestIsKnown};
 ghost use Rattle.sf_foot.specs.Variables.{value_of};
 ghost use Rattle.sf_foot.specs.declared.known.Layer.{Layer};
 

@@ -1,6 +1,6 @@
 //! A law of footprints. The function only cites other laws; its contract is the law.
 
-ghost use Rattle.sf_foot.specs.Laws.{FootprintIsDecided};
+ghost use Rattle.sf_foot.specs.Checked.Laws.{FootprintIsDecided};
 
 use sf_precise::laws::{determined_has_order, order_keeps_meaning, ordered_is_determined};
 

@@ -6,8 +6,8 @@ ghost use Rattle.sf_core.specs.Assertions.Determined.{is_in_fields, is_learned, 
 ghost use Rattle.sf_core.specs.Assertions.Sat.{IsTrueOf, operand, value};
 ghost use Rattle.sf_core.specs.Program.Syntax.{holds, points, segment, tree};
 ghost use Rattle.sf_core.specs.Program.View.{conjunct_of, conjuncts, level_of};
-ghost use Rattle.sf_foot.specs.Internal.Known.{Learns, Refutes};
-ghost use Rattle.sf_foot.specs.Internal.Taking.{AllTake, AreReady, BranchIsReady, IsReadyNow, LevelTakes, OneTakes, Overflows, Takes};
+ghost use Rattle.sf_foot.specs.Checked.Known.{Learns, Refutes};
+ghost use Rattle.sf_foot.specs.Checked.Taking.{AllTake, AreReady, BranchIsReady, IsReadyNow, LevelTakes, OneTakes, Overflows, Takes};
 ghost use Rattle.sf_foot.specs.Variables.{value_of};
 
 use crate::known::Known;

@@ -2,7 +2,7 @@
 
 ghost use Rattle.std.specs.Prelude.{◌≡◌, ◌↔◌, ◌<◌, ◌++◌, length, ℕ, List, [], ◌∷◌, false, IfOk, IsTrue};
 ghost use Rattle.std.specs.FinMap as map;
-ghost use Rattle.sf_foot.specs.Internal.Walks.{SegmentWalk, TreesWalk, WalksOn};
+ghost use Rattle.sf_foot.specs.Checked.Walks.{SegmentWalk, TreesWalk, WalksOn};
 
 use crate::known::is_same;
 use sf_base::{FieldId, Value};

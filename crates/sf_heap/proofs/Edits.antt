@@ -6,7 +6,7 @@ use Rattle.std.specs.Option.{is_some}
 use Rattle.std.proofs.lemmas.Bool.{false≢true}
 use Rattle.sf_heap.specs.Cells.{Cells, HasCell}
 use Rattle.sf_heap.specs.declared.heap.Entry.{Entry}
-use Rattle.sf_heap.specs.Internal.Entries.{AllAbove, AllBelow, Rises, IsAt, IsGap}
+use Rattle.sf_heap.specs.Checked.Entries.{AllAbove, AllBelow, Rises, IsAt, IsGap}
 use Rattle.sf_heap.proofs.Keys.{at-same}
 use Rattle.sf_heap.proofs.Entries.{map_of, get-map_of, found-above, found-below, found-one_more, Rises-less, Rises-more, map-more, map-less, map-other}
 use Rattle.sf_heap.proofs.Places.{get_or-at, remove-at, set-at, insert-gap}

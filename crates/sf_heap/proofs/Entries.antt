@@ -9,7 +9,7 @@ use Rattle.std.proofs.lemmas.Bool.{cases_eq}
 use Rattle.std.proofs.lemmas.Cmp.{nat_cmp_total}
 use Rattle.sf_heap.specs.Cells.{Cells, FieldValues}
 use Rattle.sf_heap.specs.declared.heap.Entry.{Entry}
-use Rattle.sf_heap.specs.Internal.Entries.{cells_of, found, AllAbove, AllBelow, Rises}
+use Rattle.sf_heap.specs.Checked.Entries.{cells_of, found, AllAbove, AllBelow, Rises}
 use Rattle.sf_heap.proofs.Keys.{at-same, at-other, same_cells}
 
 -- the finite map of the entries

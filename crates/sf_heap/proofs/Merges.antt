@@ -10,8 +10,8 @@ use Rattle.std.proofs.lemmas.List.Kept.{AllPairs-from_increasing}
 use Rattle.sf_base.specs.HeapStore.{Apart}
 use Rattle.sf_base.proofs.Elements.{contains-cons, contains-nil, contains-single}
 use Rattle.sf_heap.specs.declared.heap.Entry.{Entry}
-use Rattle.sf_heap.specs.Internal.Entries.{AllBelow, Rises, found}
-use Rattle.sf_heap.specs.Internal.Moves.{AreApart, EndsAt, IsParting, Merging, Parting, TakesGreatest, TakesLast, places}
+use Rattle.sf_heap.specs.Checked.Entries.{AllBelow, Rises, found}
+use Rattle.sf_heap.specs.Checked.Moves.{AreApart, EndsAt, IsParting, Merging, Parting, TakesGreatest, TakesLast, places}
 use Rattle.sf_heap.proofs.Keys.{at-same, at-other}
 use Rattle.sf_heap.proofs.Entries.{Rises-less, Rises-more, found-above, found-below, found-one_more}
 use Rattle.sf_heap.proofs.Splits.{Apart-both, Apart-front, Apart-front_right, Apart-none, found-append}

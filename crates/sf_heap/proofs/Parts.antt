@@ -8,8 +8,8 @@ use Rattle.sf_base.specs.HeapStore.{Apart, Splits}
 use Rattle.sf_base.proofs.Members.{contains-map, contains-map_from}
 use Rattle.sf_heap.specs.Cells.{AreAt, AreDisjoint, Cells, FieldValues, HasCell}
 use Rattle.sf_heap.specs.declared.heap.Entry.{Entry}
-use Rattle.sf_heap.specs.Internal.Entries.{found}
-use Rattle.sf_heap.specs.Internal.Moves.{IsParting}
+use Rattle.sf_heap.specs.Checked.Entries.{found}
+use Rattle.sf_heap.specs.Checked.Moves.{IsParting}
 use Rattle.sf_heap.proofs.Entries.{map_of, get-map_of}
 use Rattle.sf_heap.proofs.Merges.{found-places, places-found}
 

@@ -7,7 +7,7 @@ use Rattle.std.proofs.Math.Seq.{get_or-append_seam, set-append_seam}
 use Rattle.std.proofs.lemmas.Bool.Decides.{nat_tests}
 use Rattle.std.proofs.lemmas.Cmp.{ranked}
 use Rattle.sf_heap.specs.declared.heap.Entry.{Entry}
-use Rattle.sf_heap.specs.Internal.Entries.{AllAbove, Rises, IsAt, IsGap}
+use Rattle.sf_heap.specs.Checked.Entries.{AllAbove, Rises, IsAt, IsGap}
 
 -- entries that are all above are so at each place
 AllAbove-at : (at : ℕ) (es : List Entry) (i : ℕ) (d : Entry) → AllAbove at es → i < length es → at < (get_or es i d).at

@@ -7,8 +7,8 @@ use Rattle.std.specs.Ordering.{nat_cmp, eq_by_cmp}
 use Rattle.sf_base.specs.HeapStore.{Apart, Splits}
 use Rattle.sf_heap.specs.Cells.{AreDisjoint, Cells, cell_of, heap_of}
 use Rattle.sf_heap.specs.declared.heap.Entry.{Entry}
-use Rattle.sf_heap.specs.Internal.Entries.{found}
-use Rattle.sf_heap.specs.Internal.Moves.{AreApart, IsMerge}
+use Rattle.sf_heap.specs.Checked.Entries.{found}
+use Rattle.sf_heap.specs.Checked.Moves.{AreApart, IsMerge}
 use Rattle.sf_heap.proofs.Entries.{map_of, get-map_of}
 
 -- nothing is apart from anything

@@ -1,4 +1,4 @@
 pub mod Cells
 pub mod Faults
-pub mod Internal
 pub mod Lending
+pub mod Checked

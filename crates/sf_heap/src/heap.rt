@@ -5,7 +5,7 @@ ghost use Rattle.std.specs.FinMap as map;
 ghost use Rattle.std.specs.Option.{option_map, option_copied, option_copied_mut};
 ghost use Rattle.sf_heap.specs.Cells.{AreAt, AreDisjoint, HasCell, heap_of};
 ghost use Rattle.sf_base.specs.HeapStore.{Splits};
-ghost use Rattle.sf_heap.specs.Internal.Entries.{Rises, IsAt, IsGap};
+ghost use Rattle.sf_heap.specs.Checked.Entries.{Rises, IsAt, IsGap};
 
 use crate::cell::Cell;
 use crate::locations::Locations;
@@ -51,7 +51,7 @@ impl Model for Heap {
 
     ghost coded = { map.code coded_ℕ cell.the_row.coded };
 
-    ghost use Rattle.sf_heap.specs.Internal.Entries.{Rises, cells_of};
+    ghost use Rattle.sf_heap.specs.Checked.Entries.{Rises, cells_of};
 
     ghost view = { λ h. map.from_entries (cells_of h.entries.items) };
 
@@ -211,7 +211,7 @@ impl Heap {
 
 impl Entry {
     ghost use Rattle.std.specs.Borrow.{sem};
-    ghost use Rattle.sf_heap.specs.Internal.Lending.{LendsIts};
+    ghost use Rattle.sf_heap.specs.Checked.Lending.{LendsIts};
 
     /// The cell, to be written.
     fn cell_mut(&mut self) -> &mut Cell

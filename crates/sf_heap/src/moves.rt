@@ -3,8 +3,8 @@
 ghost use Rattle.std.specs.Prelude.{◌≡◌, ◌+◌, ◌≤◌, [], length, reverse, vec_len, IfNone, IfSome, All, IsTrue, is_some};
 ghost use Rattle.std.specs.List.Sorted.{IsStrictlyIncreasing};
 ghost use Rattle.std.specs.Vec.{vec_capacity};
-ghost use Rattle.sf_heap.specs.Internal.Entries.{Rises, found};
-ghost use Rattle.sf_heap.specs.Internal.Moves.{AreApart, EndsAt, TakesGreatest, IsMerge, IsParting};
+ghost use Rattle.sf_heap.specs.Checked.Entries.{Rises, found};
+ghost use Rattle.sf_heap.specs.Checked.Moves.{AreApart, EndsAt, TakesGreatest, IsMerge, IsParting};
 
 use crate::heap::Entry;
 

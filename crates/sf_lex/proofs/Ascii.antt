@@ -6,7 +6,7 @@ use Rattle.std.proofs.lemmas.Str.Ascii.{IsAscii-nil, IsAscii-cons}
 use Rattle.std.specs.Str.{IsAscii}
 use Rattle.std.specs.List.{prefix_len}
 use Rattle.sf_lex.specs.Lexeme.{is_digit}
-use Rattle.sf_lex.specs.Internal.Lexing.{number_length}
+use Rattle.sf_lex.specs.Checked.Lexing.{number_length}
 
 run_ascii : (p : ℕ → Bool) → ((b : ℕ) → p b ≡ true → b < 128) → (bs : List ℕ) → IsAscii (take (prefix_len p bs) bs)
 run_ascii p small [] = IsAscii-nil

@@ -1,6 +1,6 @@
 -- The laws of the crate, under the names of their functions in src/laws.rt.
 use Rattle.sf_lex.proofs.Once.{once}
-use Rattle.sf_lex.specs.Laws.{EachFileReadsOnce, EachTokenIsItsText}
+use Rattle.sf_lex.specs.Checked.Laws.{EachFileReadsOnce, EachTokenIsItsText}
 use Rattle.sf_lex.proofs.Texts.{texts-each}
 
 pub each_file_reads_once : EachFileReadsOnce

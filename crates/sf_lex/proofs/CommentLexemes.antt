@@ -7,7 +7,7 @@ use Rattle.std.specs.List.{slice_index}
 use Rattle.std.specs.Option.{option_map}
 use Rattle.sf_base.proofs.Options.{option_map-some, option_map-none}
 use Rattle.sf_lex.specs.declared.lexeme.Lexeme.TheVariants as f
-use Rattle.sf_lex.specs.Internal.Lexing.{IsNext, begins_comment, close_length}
+use Rattle.sf_lex.specs.Checked.Lexing.{IsNext, begins_comment, close_length}
 use Rattle.sf_lex.specs.Piece.{comment, has_close}
 use Rattle.sf_lex.specs.Reading.{IsOpenComment}
 

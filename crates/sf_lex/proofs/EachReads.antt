@@ -9,7 +9,7 @@ use Rattle.sf_lex.specs.declared.fault.LexFault.TheVariants.{BadByte, LongWord, 
 use Rattle.sf_lex.specs.declared.lexeme.Lexeme.{Lexeme}
 use Rattle.sf_lex.specs.declared.token.Kind.{Kind}
 use Rattle.sf_lex.specs.declared.token.Token.{Token}
-use Rattle.sf_lex.specs.Internal.Lexing.{IsNext, begins_comment, begins_number, bytes_of, close_length, lexeme_of, number_length, symbol_lexeme, word_length}
+use Rattle.sf_lex.specs.Checked.Lexing.{IsNext, begins_comment, begins_number, bytes_of, close_length, lexeme_of, number_length, symbol_lexeme, word_length}
 use Rattle.sf_lex.specs.Lexeme.{is_blank, is_letter}
 use Rattle.sf_lex.specs.Piece.{IsLexeme, is_bad_number, is_long_word, token}
 use Rattle.sf_lex.specs.Reading.{AreTokens, IsFault, IsFaultAt, first_place}

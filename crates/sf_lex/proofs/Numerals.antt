@@ -8,7 +8,7 @@ use Rattle.std.specs.Str.Parse.{AllDigits, IsNumeral, without_leading_sign}
 use Rattle.std.specs.Char.{digit_value}
 use Rattle.sf_base.proofs.Bools.{or-not_left, or-not_right}
 use Rattle.sf_lex.specs.Lexeme.{is_digit}
-use Rattle.sf_lex.specs.Internal.Lexing.{begins_number, number_length}
+use Rattle.sf_lex.specs.Checked.Lexing.{begins_number, number_length}
 
 digit_below_ten : (b : ℕ) → is_digit b ≡ true → digit_value b < 10
 digit_below_ten b e = grind (arith, nat_tests)

@@ -13,7 +13,7 @@ use Rattle.sf_lex.specs.declared.token.Token.{Token}
 use Rattle.sf_lex.specs.Lexeme.{is_blank, kind_of}
 use Rattle.sf_lex.specs.Piece.{Piece, blank, comment, token, text_of, spelled, has_close, is_long_word, is_bad_number, IsLexeme, IsPiece, ArePieces}
 use Rattle.sf_lex.specs.Reading.{AreTokens, IsFault, IsFaultAt, IsBadByte, IsLongWord, IsBadNumber, StopsAt, tokens_of, first_place, place_behind}
-use Rattle.sf_lex.specs.Laws.{EachFileReadsOnce}
+use Rattle.sf_lex.specs.Checked.Laws.{EachFileReadsOnce}
 use Rattle.sf_lex.proofs.CommentLexemes.{close_there}
 use Rattle.sf_lex.proofs.EachReads.{reads-some}
 

@@ -7,7 +7,7 @@ use Rattle.sf_lex.specs.declared.fault.LexFault.{LexFault}
 use Rattle.sf_lex.specs.declared.fault.LexFault.TheVariants.{BadByte, LongWord, OpenComment, BadNumber, LongFile, OutOfMemory}
 use Rattle.sf_lex.specs.declared.lexeme.Lexeme.{Lexeme}
 use Rattle.sf_lex.specs.declared.token.Token.{Token}
-use Rattle.sf_lex.specs.Internal.Lexing.{IsNext, lexeme_of, bytes_of, with_lexeme}
+use Rattle.sf_lex.specs.Checked.Lexing.{IsNext, lexeme_of, bytes_of, with_lexeme}
 use Rattle.sf_lex.specs.Piece.{Piece, blank, comment, token, text_of, spelled, IsPiece, ArePieces}
 use Rattle.sf_lex.specs.Reading.{AreTokens, IsFault, IsFaultAt, StopsAt, value_of, tokens_of, end_place, first_place, next_place, place_behind}
 

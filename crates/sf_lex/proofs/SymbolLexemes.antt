@@ -7,7 +7,7 @@ use Rattle.std.specs.Option.{option_map, option_or}
 use Rattle.sf_lex.specs.declared.lexeme.Lexeme.TheVariants as f
 use Rattle.sf_lex.specs.declared.token.Kind.{Kind}
 use Rattle.sf_lex.specs.declared.token.Kind.TheVariants as k
-use Rattle.sf_lex.specs.Internal.Lexing.{IsNext, begins_comment, begins_number, symbol_lexeme}
+use Rattle.sf_lex.specs.Checked.Lexing.{IsNext, begins_comment, begins_number, symbol_lexeme}
 use Rattle.sf_lex.specs.Lexeme.{is_blank, is_letter, is_digit, is_number, symbol_of_one, symbol_of_two, symbol_of_three, symbol_kind, kind_of}
 use Rattle.sf_lex.specs.Piece.{blank, token, IsLexeme, is_long_word, is_bad_number}
 use Rattle.sf_lex.specs.Reading.{value_of, IsBadByte}

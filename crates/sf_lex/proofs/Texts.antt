@@ -10,7 +10,7 @@ use Rattle.sf_lex.specs.declared.token.Token.{Token}
 use Rattle.sf_lex.specs.Lexeme.{is_letter, is_number, is_some_of, is_word_byte, kind_of, symbol_kind, word_kind}
 use Rattle.sf_lex.specs.Piece.{Piece, blank, comment, token, text_of, spelled, fits, is_bad_number, IsPiece, ArePieces}
 use Rattle.sf_lex.specs.Reading.{tokens_of, first_place, next_place, place_behind, value_of}
-use Rattle.sf_lex.specs.Laws.{AreTheirTexts, EachTokenIsItsText, IsItsText, text_at}
+use Rattle.sf_lex.specs.Checked.Laws.{AreTheirTexts, EachTokenIsItsText, IsItsText, text_at}
 use Rattle.sf_lex.proofs.Steps.{behind_append, text_some}
 use Rattle.sf_lex.proofs.SymbolLexemes.{symbol_no_number}
 

@@ -11,7 +11,7 @@ use Rattle.sf_base.proofs.Prefixes.{prefix-more, prefix-none, prefix-passes, pre
 use Rattle.sf_lex.specs.declared.lexeme.Lexeme.TheVariants as f
 use Rattle.sf_lex.specs.declared.token.Kind.{Kind}
 use Rattle.sf_lex.specs.declared.token.Kind.TheVariants as k
-use Rattle.sf_lex.specs.Internal.Lexing.{IsNext, begins_number, number_length, word_length}
+use Rattle.sf_lex.specs.Checked.Lexing.{IsNext, begins_number, number_length, word_length}
 use Rattle.sf_lex.specs.Lexeme.{is_letter, is_digit, is_word_byte, is_some_of, word_kind, symbol_kind, kind_of}
 use Rattle.sf_lex.specs.Piece.{token, IsLexeme, is_long_word, is_bad_number, fits}
 use Rattle.sf_lex.specs.Reading.{value_of, IsBadByte, IsLongWord, IsBadNumber}

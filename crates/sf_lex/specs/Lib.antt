@@ -2,5 +2,4 @@ pub mod Lexeme
 pub mod Piece
 pub mod Reading
 pub mod Whole
-pub mod Laws
-pub mod Internal
+pub mod Checked

@@ -1,6 +1,6 @@
 //! Laws of reading tokens. Each function does nothing; its contract is the law.
 
-ghost use Rattle.sf_lex.specs.Laws.{EachFileReadsOnce, EachTokenIsItsText};
+ghost use Rattle.sf_lex.specs.Checked.Laws.{EachFileReadsOnce, EachTokenIsItsText};
 
 /// Each file reads in exactly one way: as one list of tokens, or with one fault.
 pub fn each_file_reads_once()

@@ -2,7 +2,7 @@ ghost use Rattle.std.specs.Prelude.{◌≡◌, ◌<◌, ◌≤◌, ◌∷◌, tr
 ghost use Rattle.std.specs.List.{prefix_len};
 ghost use Rattle.std.specs.Str.{IsAscii};
 ghost use Rattle.std.specs.Str.Parse.{IsNumeral, without_leading_sign, signed_digits_value};
-ghost use Rattle.sf_lex.specs.Internal.Lexing.{IsNext, begins_comment, begins_number, close_length, number_length, word_length};
+ghost use Rattle.sf_lex.specs.Checked.Lexing.{IsNext, begins_comment, begins_number, close_length, number_length, word_length};
 ghost use Rattle.sf_lex.specs.Lexeme.{is_blank, is_digit, is_letter, is_word_byte};
 ghost use Rattle.sf_lex.specs.Piece.{fits, is_long_word};
 ghost use Rattle.sf_lex.specs.Reading.{IsFaultAt};

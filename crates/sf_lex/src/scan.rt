@@ -1,7 +1,7 @@
 ghost use Rattle.std.specs.Prelude.{◌≡◌, ◌≤◌, ◌<◌, ◌+◌, ◌-◌, ◌^◌, ◌⊎◌, length, IfOk, IfErr};
 ghost use Rattle.sf_base.specs.Results.{Decides};
 ghost use Rattle.sf_base.specs.declared.limits.TheConstants.{FILE_BYTES};
-ghost use Rattle.sf_lex.specs.Internal.Lexing.{bytes_of, with_lexeme};
+ghost use Rattle.sf_lex.specs.Checked.Lexing.{bytes_of, with_lexeme};
 ghost use Rattle.sf_lex.specs.Reading.{AreTokens, IsFault, end_place, first_place, next_place, place_behind};
 
 use crate::fault::LexFault;

@@ -1,6 +1,6 @@
 ghost use Rattle.std.specs.Prelude.{◌≡◌, ◌≤◌, drop, length, slice_index};
 ghost use Rattle.sf_lex.specs.Lexeme.{symbol_of_one, symbol_of_two, symbol_of_three};
-ghost use Rattle.sf_lex.specs.Internal.Lexing.{symbol_lexeme};
+ghost use Rattle.sf_lex.specs.Checked.Lexing.{symbol_lexeme};
 
 use crate::token::Kind;
 

@@ -6,7 +6,7 @@ use Rattle.std.proofs.lemmas.List.Splits.{slice_split-cons_yes, slice_split-cons
 use Rattle.std.specs.List.{filter, prefix_len, slice_split, onto_first}
 use Rattle.std.specs.Str.Lines.{strip_carriage_return}
 use Rattle.sf_base.proofs.Prefixes.{prefix-more, prefix-none}
-use Rattle.sf_lines.specs.Lemmas.Written.{words-space}
+use Rattle.sf_lines.specs.Checked.Lemmas.Written.{words-space}
 use Rattle.sf_lines.specs.Lines.{Text, is_some_text, is_space, lines, words}
 
 -- how a list is cut at the elements that pass: the longest front without one, and then other parts

@@ -1,2 +1,2 @@
-pub mod Lemmas
 pub mod Lines
+pub mod Checked

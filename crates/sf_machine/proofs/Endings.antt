@@ -33,13 +33,13 @@ use Rattle.sf_foot.specs.Variables.{value_of, values_or_none}
 use Rattle.sf_heap.specs.Cells.{Cells, heap_of}
 use Rattle.sf_machine.specs.declared.frame.Frame.{Frame as CodeFrame}
 use Rattle.sf_machine.specs.Ending.{Ends}
-use Rattle.sf_machine.specs.Internal.Resources.{counts_of}
+use Rattle.sf_machine.specs.Checked.Resources.{counts_of}
 use Rattle.sf_machine.proofs.NextTodo.{frames_alone}
 use Rattle.sf_machine.proofs.Tables.{counts_same}
 use Rattle.sf_machine.specs.declared.frame.Todo.{Todo}
 use Rattle.sf_machine.specs.declared.frame.Todo.TheVariants.{Commands, Leave}
-use Rattle.sf_machine.specs.Internal.Tasks.{frame_of, frames_of, items_of, todo_of}
-use Rattle.sf_machine.specs.Internal.Endings.{AreRows, AreValues}
+use Rattle.sf_machine.specs.Checked.Tasks.{frame_of, frames_of, items_of, todo_of}
+use Rattle.sf_machine.specs.Checked.Endings.{AreRows, AreValues}
 
 -- no values
 pub values_none : (store : Store) (slot : ℕ → Slot) → AreValues store slot 0 []

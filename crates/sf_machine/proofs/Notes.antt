@@ -10,8 +10,8 @@ use Rattle.sf_core.specs.Machine.Config.{in_room}
 use Rattle.sf_core.specs.Machine.Enabled.{Thing, variable, cell, IsInRoom}
 use Rattle.sf_core.proofs.Machine.InOrder.Names.{in_room-own}
 use Rattle.sf_machine.specs.Accessing.{thing_of, IsListed}
-use Rattle.sf_machine.specs.Internal.Noting.{Notes}
-use Rattle.sf_machine.specs.Internal.Tasks.{first_slots}
+use Rattle.sf_machine.specs.Checked.Noting.{Notes}
+use Rattle.sf_machine.specs.Checked.Tasks.{first_slots}
 
 -- a list with one thing more
 listed_snoc : (xs : List CodeThing) (x : CodeThing) (t : Thing)

@@ -9,7 +9,7 @@ use Rattle.sf_base.proofs.StoreSplits.{slot-same}
 use Rattle.sf_core.specs.Machine.Config.{in_room}
 use Rattle.sf_core.specs.Machine.Step.{index_of}
 use Rattle.sf_core.proofs.Machine.InOrder.Names.{in_room-own}
-use Rattle.sf_machine.specs.Internal.Tasks.{first_slots}
+use Rattle.sf_machine.specs.Checked.Tasks.{first_slots}
 use Rattle.sf_machine.proofs.Notes.{room_keeps, room_nowhere, room_splits}
 
 -- a room with one slot more

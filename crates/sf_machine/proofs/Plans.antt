@@ -38,10 +38,10 @@ use Rattle.sf_machine.specs.declared.spot.Spot.{Spot}
 use Rattle.sf_machine.specs.declared.task.Change.TheVariants.{GoOn as go_on, Call as calls, Fork as forks}
 use Rattle.sf_machine.specs.declared.task.Task.{Task as CodeTask}
 use Rattle.sf_machine.specs.Answers.{FindsNone}
-use Rattle.sf_machine.specs.Internal.Effects.{opened, opened_store, IsClearStore}
-use Rattle.sf_machine.specs.Internal.Plans.{IsCellAt, IsCellOf, PlansAssign, PlansCall, PlansDispose, PlansFork, PlansIf, PlansLookUp, PlansMutate, PlansNew, PlansWhile, PlansWith}
-use Rattle.sf_machine.specs.Internal.Spots.{slot_of}
-use Rattle.sf_machine.specs.Internal.Tasks.{block_items, frame_of, goes_on, rest_of, room_of, task_of}
+use Rattle.sf_machine.specs.Checked.Effects.{opened, opened_store, IsClearStore}
+use Rattle.sf_machine.specs.Checked.Plans.{IsCellAt, IsCellOf, PlansAssign, PlansCall, PlansDispose, PlansFork, PlansIf, PlansLookUp, PlansMutate, PlansNew, PlansWhile, PlansWith}
+use Rattle.sf_machine.specs.Checked.Spots.{slot_of}
+use Rattle.sf_machine.specs.Checked.Tasks.{block_items, frame_of, goes_on, rest_of, room_of, task_of}
 use Rattle.sf_machine.proofs.Beginnings.{items_block}
 
 -- what holds of a value that is there, and makes something else hold of it

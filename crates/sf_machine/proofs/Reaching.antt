@@ -5,7 +5,7 @@ use Rattle.std.proofs.Common.{sym, ap, ◌∙◌, refl}
 use Rattle.sf_base.proofs.Options.{some-once}
 use Rattle.sf_base.specs.declared.ids.ProcId.{ProcId}
 use Rattle.sf_core.specs.Machine.Config.{Config}
-use Rattle.sf_core.specs.Machine.Laws.{RunsCompose}
+use Rattle.sf_core.specs.Checked.Machine.Laws.{RunsCompose}
 use Rattle.sf_core.specs.Machine.Start.{initial_config}
 use Rattle.sf_core.specs.Machine.Step.{Event, Step, procedure_at}
 use Rattle.sf_core.specs.Program.Syntax.{Procedure, Program}

@@ -9,7 +9,7 @@ use Rattle.sf_base.proofs.Options.{is_some-false}
 use Rattle.sf_base.specs.HeapStore.{own}
 use Rattle.sf_core.specs.Machine.Config.{Item, command, in_room, Room, Fixed, Frame, Config, task_at}
 use Rattle.sf_core.specs.Machine.InOrder.{FrameIsFormed, IsInOrder, times_there}
-use Rattle.sf_core.specs.Machine.Laws.{UsedSlotsAreThere}
+use Rattle.sf_core.specs.Checked.Machine.Laws.{UsedSlotsAreThere}
 use Rattle.sf_core.specs.Machine.Step.{Event, task_with}
 use Rattle.sf_core.specs.Program.Formed.{HasCounts, CommandWithin}
 use Rattle.sf_core.specs.Program.Syntax.{Call, Command, assign, look_up, mutate, new, dispose, if, while, call, fork, with, Procedure, Program}
@@ -17,7 +17,7 @@ use Rattle.sf_core.proofs.Machine.InOrder.Names.{in_room-own}
 use Rattle.sf_core.proofs.Machine.InOrder.Slots.{fresh-slot}
 use Rattle.sf_core.proofs.Machine.InOrder.Trees.{each-at}
 use Rattle.sf_core.proofs.Machine.Laws.{used_slots_are_there}
-use Rattle.sf_machine.specs.Internal.Plans.{HasCallees, IsReady}
+use Rattle.sf_machine.specs.Checked.Plans.{HasCallees, IsReady}
 
 -- a slot that is there
 slot_there : {X : Type 0} (o : Option X) (v : X) → o ≡ Some v → is_some o ≡ true

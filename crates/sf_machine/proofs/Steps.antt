@@ -11,7 +11,7 @@ use Rattle.sf_base.specs.declared.path.Turn.TheVariants.{Left as left, Right as 
 use Rattle.sf_core.specs.Machine.Config.{Item, command, leave, Room, Fixed, Frame, Task, runs, waits, Path, Common, Config, task_at, put_task, IsCalled, IsOver}
 use Rattle.sf_core.specs.Machine.Enabled.{HasEnded}
 use Rattle.sf_core.specs.Machine.InOrder.{IsInOrder}
-use Rattle.sf_core.specs.Machine.Laws.{ExitsAreOfHeldResources}
+use Rattle.sf_core.specs.Checked.Machine.Laws.{ExitsAreOfHeldResources}
 use Rattle.sf_core.specs.Machine.Next.{Next, does, leaves, returns, joins, nothing, next}
 use Rattle.sf_core.specs.Machine.Step.{Event, Step, close_room, task_with}
 use Rattle.sf_core.specs.Program.Syntax.{Command, assign, look_up, mutate, new, dispose, if, while, call, fork, with, Procedure, Program}
@@ -30,10 +30,10 @@ use Rattle.sf_machine.specs.declared.plan.Plan.{Plan}
 use Rattle.sf_machine.specs.declared.plan.Plan.TheVariants.{Acts, Refused}
 use Rattle.sf_machine.specs.declared.task.Change.{Change}
 use Rattle.sf_machine.specs.declared.task.Change.TheVariants.{GoOn as go_on, Return, Join}
-use Rattle.sf_machine.specs.Internal.Nexts.{IsIdle, IsNext}
-use Rattle.sf_machine.specs.Internal.Performing.{performed}
-use Rattle.sf_machine.specs.Internal.Plans.{IsPlanned, Plans, PlansEvent}
-use Rattle.sf_machine.specs.Internal.Tasks.{at_path, goes_on, moved, rest_of, room_of}
+use Rattle.sf_machine.specs.Checked.Nexts.{IsIdle, IsNext}
+use Rattle.sf_machine.specs.Checked.Performing.{performed}
+use Rattle.sf_machine.specs.Checked.Plans.{IsPlanned, Plans, PlansEvent}
+use Rattle.sf_machine.specs.Checked.Tasks.{at_path, goes_on, moved, rest_of, room_of}
 use Rattle.sf_machine.proofs.Enabling.{busy_goes, done_goes}
 
 -- the task that is there changed is the changed task put there

@@ -33,9 +33,9 @@ use Rattle.sf_heap.specs.Cells.{Cells, heap_of}
 use Rattle.sf_machine.specs.declared.config.Config.{Config as CodeConfig}
 use Rattle.sf_machine.specs.declared.frame.Frame.{Frame as CodeFrame}
 use Rattle.sf_machine.specs.Configs.{config_of, held_of}
-use Rattle.sf_machine.specs.Internal.Resources.{counts_of, in_resources, var_at}
-use Rattle.sf_machine.specs.Internal.Stores.{store_of as code_store}
-use Rattle.sf_machine.specs.Internal.Tasks.{first_slots, frame_of, frames_of}
+use Rattle.sf_machine.specs.Checked.Resources.{counts_of, in_resources, var_at}
+use Rattle.sf_machine.specs.Checked.Stores.{store_of as code_store}
+use Rattle.sf_machine.specs.Checked.Tasks.{first_slots, frame_of, frames_of}
 use Rattle.sf_machine.proofs.Spots.{number_test}
 
 -- a resource has few variables

@@ -10,8 +10,8 @@ use Rattle.sf_core.specs.Machine.Config.{Common, Config, Path}
 use Rattle.sf_heap.specs.Cells.{heap_of}
 use Rattle.sf_machine.specs.declared.config.Common.{Common as CodeCommon}
 use Rattle.sf_machine.specs.declared.config.Config.{Config as CodeConfig}
-use Rattle.sf_machine.specs.Internal.Stores.{store_of}
-use Rattle.sf_machine.specs.Internal.Tasks.{task_of}
+use Rattle.sf_machine.specs.Checked.Stores.{store_of}
+use Rattle.sf_machine.specs.Checked.Tasks.{task_of}
 
 -- who holds a resource
 abbrev pub held_of : BTreeMap ℕ (List Turn) → ResId → Option Path

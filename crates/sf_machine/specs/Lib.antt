@@ -4,5 +4,5 @@ pub mod Beginning
 pub mod Configs
 pub mod Ending
 pub mod Events
-pub mod Internal
 pub mod Reached
+pub mod Checked

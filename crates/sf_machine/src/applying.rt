@@ -5,9 +5,9 @@ ghost use Rattle.sf_base.specs.declared.ids.ResId.{ResId as R};
 ghost use Rattle.sf_base.specs.HeapStore.{Slot, same_slot};
 ghost use Rattle.sf_machine.specs.Configs.{common_of, held_of};
 ghost use Rattle.sf_machine.specs.Events.{event_of};
-ghost use Rattle.sf_machine.specs.Internal.Effects.{applied, opened_store, IsClearStore, IsSameCommon, Suits};
-ghost use Rattle.sf_machine.specs.Internal.Spots.{slot_of};
-ghost use Rattle.sf_machine.specs.Internal.Stores.{store_of};
+ghost use Rattle.sf_machine.specs.Checked.Effects.{applied, opened_store, IsClearStore, IsSameCommon, Suits};
+ghost use Rattle.sf_machine.specs.Checked.Spots.{slot_of};
+ghost use Rattle.sf_machine.specs.Checked.Stores.{store_of};
 
 use crate::cells::{make_cell, put_field, remove_cell};
 use crate::config::Common;

@@ -8,9 +8,9 @@ ghost use Rattle.sf_core.specs.Program.Syntax.{Procedure};
 ghost use Rattle.sf_core.specs.Program.ProgramView.{program_of};
 ghost use Rattle.sf_machine.specs.Configs.{config_of};
 ghost use Rattle.sf_machine.specs.Ending.{Ends};
-ghost use Rattle.sf_machine.specs.Internal.Endings.{AreRows, AreValues};
-ghost use Rattle.sf_machine.specs.Internal.Resources.{counts_of};
-ghost use Rattle.sf_machine.specs.Internal.Stores.{store_of};
+ghost use Rattle.sf_machine.specs.Checked.Endings.{AreRows, AreValues};
+ghost use Rattle.sf_machine.specs.Checked.Resources.{counts_of};
+ghost use Rattle.sf_machine.specs.Checked.Stores.{store_of};
 
 use crate::config::{Common, Config};
 use crate::resources::variable_count;

@@ -6,8 +6,8 @@ ghost use Rattle.std.specs.Ordering.{nat_cmp};
 ghost use Rattle.sf_core.specs.Machine.Config.{adds};
 ghost use Rattle.sf_machine.specs.Configs.{common_of, config_of};
 ghost use Rattle.sf_machine.specs.Events.{event_of};
-ghost use Rattle.sf_machine.specs.Internal.Effects.{applied, Suits};
-ghost use Rattle.sf_machine.specs.Internal.Performing.{performed};
+ghost use Rattle.sf_machine.specs.Checked.Effects.{applied, Suits};
+ghost use Rattle.sf_machine.specs.Checked.Performing.{performed};
 
 use crate::applying::apply;
 use crate::config::{Common, Config};

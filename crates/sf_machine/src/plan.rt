@@ -11,9 +11,9 @@ ghost use Rattle.sf_core.specs.Program.View.{block_of, call_of, command_of};
 ghost use Rattle.sf_heap.specs.Cells.{heap_of};
 ghost use Rattle.sf_machine.specs.Configs.{common_of};
 ghost use Rattle.sf_machine.specs.Events.{event_of};
-ghost use Rattle.sf_machine.specs.Internal.Plans.{IsCellAt, IsCellOf, IsReady, Plans, PlansAssign, PlansCall, PlansDispose, PlansFork, PlansIf, PlansLookUp, PlansMutate, PlansNew, PlansWhile, PlansWith};
-ghost use Rattle.sf_machine.specs.Internal.Stores.{store_of};
-ghost use Rattle.sf_machine.specs.Internal.Tasks.{fixed_of, room_of, task_of};
+ghost use Rattle.sf_machine.specs.Checked.Plans.{IsCellAt, IsCellOf, IsReady, Plans, PlansAssign, PlansCall, PlansDispose, PlansFork, PlansIf, PlansLookUp, PlansMutate, PlansNew, PlansWhile, PlansWith};
+ghost use Rattle.sf_machine.specs.Checked.Stores.{store_of};
+ghost use Rattle.sf_machine.specs.Checked.Tasks.{fixed_of, room_of, task_of};
 
 use crate::calling::{callee_frame, opening, room_for};
 use crate::config::Common;

@@ -3,8 +3,8 @@
 ghost use Rattle.std.specs.Prelude.{◌≡◌, ◌<◌, ◌≤◌, ◌^◌, cond, Some, length, get_or, slice_get, OnOk};
 ghost use Rattle.sf_base.specs.HeapStore.{Slot};
 ghost use Rattle.sf_foot.specs.Variables.{value_of};
-ghost use Rattle.sf_machine.specs.Internal.Resources.{counts_of, in_resource, in_resources, var_at};
-ghost use Rattle.sf_machine.specs.Internal.Stores.{store_of};
+ghost use Rattle.sf_machine.specs.Checked.Resources.{counts_of, in_resource, in_resources, var_at};
+ghost use Rattle.sf_machine.specs.Checked.Stores.{store_of};
 
 use crate::spot::Spot;
 use crate::store::Store;

@@ -7,7 +7,7 @@ ghost use Rattle.sf_machine.specs.Answers.{Answers};
 ghost use Rattle.sf_machine.specs.Configs.{config_of};
 ghost use Rattle.sf_machine.specs.Events.{event_of};
 ghost use Rattle.sf_machine.specs.Reached.{IsReached};
-ghost use Rattle.sf_machine.specs.Internal.Plans.{PlansEvent};
+ghost use Rattle.sf_machine.specs.Checked.Plans.{PlansEvent};
 
 use crate::config::Config;
 use crate::effect::Effect;

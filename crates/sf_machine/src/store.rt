@@ -1,6 +1,6 @@
 //! The values of the variables of a running program.
 
-ghost use Rattle.sf_machine.specs.Internal.Spots.{KeysFit, KeysFit-prop};
+ghost use Rattle.sf_machine.specs.Checked.Spots.{KeysFit, KeysFit-prop};
 
 use crate::spot::Spot;
 use sf_base::Value;
@@ -18,8 +18,8 @@ impl Store {
     ghost use Rattle.std.specs.Prelude.{◌≡◌, None, Some, true, cond, is_some, unwrap_or, OnOk, OnErr};
     ghost use Rattle.sf_base.specs.declared.value.Value.TheVariants.{Nil as nil};
     ghost use Rattle.sf_base.specs.HeapStore.{Slot, same_slot};
-    ghost use Rattle.sf_machine.specs.Internal.Spots.{slot_of, SlotFits};
-    ghost use Rattle.sf_machine.specs.Internal.Stores.{store_of};
+    ghost use Rattle.sf_machine.specs.Checked.Spots.{slot_of, SlotFits};
+    ghost use Rattle.sf_machine.specs.Checked.Stores.{store_of};
 
     /// No variables.
     pub(crate) fn new(alloc: Global) -> Store

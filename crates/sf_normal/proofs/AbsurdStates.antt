@@ -2,10 +2,10 @@
 use Rattle.std.proofs.Common.{◌≡◌, Bool, true, false, cond, [], Some, None, refl, subst}
 use Rattle.std.proofs.lemmas.Option.{same_Some}
 use Rattle.sf_base.proofs.MapSplits.{union, splits-union}
-use Rattle.sf_normal.specs.Laws.{AbsurdKeepsGoals}
-use Rattle.sf_sym.specs.Lemmas.States.{held_states_are_not_absurd}
-use Rattle.sf_sym.specs.Lemmas.TwoHeaps.{in-at}
-use Rattle.sf_sym.specs.Laws.{HeldStatesAreNotAbsurd, HoldsAsBefore, KeptWith}
+use Rattle.sf_normal.specs.Checked.Laws.{AbsurdKeepsGoals}
+use Rattle.sf_sym.specs.Checked.Lemmas.States.{held_states_are_not_absurd}
+use Rattle.sf_sym.specs.Checked.Lemmas.TwoHeaps.{in-at}
+use Rattle.sf_sym.specs.Checked.Laws.{HeldStatesAreNotAbsurd, HoldsAsBefore, KeptWith}
 use Rattle.sf_sym.specs.Tests.{is_absurd}
 
 pub absurd_keeps_goals : AbsurdKeepsGoals

@@ -9,10 +9,10 @@ use Rattle.sf_base.specs.HeapStore.{Heap, IsEmpty}
 use Rattle.sf_core.proofs.Assertions.Segments.{seg-empty}
 use Rattle.sf_core.proofs.Assertions.Trees.{tree-from_nil}
 use Rattle.sf_core.specs.declared.fields.Links.{Links}
-use Rattle.sf_sym.specs.Lemmas.Keeping.{before-same, kept-one}
+use Rattle.sf_sym.specs.Checked.Lemmas.Keeping.{before-same, kept-one}
 use Rattle.sf_sym.specs.Known.{is_nothing}
-use Rattle.sf_normal.specs.Laws.{DropKeepsGoals}
-use Rattle.sf_sym.specs.Lemmas.AtomLists.{atoms-out, without-all}
+use Rattle.sf_normal.specs.Checked.Laws.{DropKeepsGoals}
+use Rattle.sf_sym.specs.Checked.Lemmas.AtomLists.{atoms-out, without-all}
 use Rattle.sf_sym.specs.Below.{AllInAtom, IsBelow}
 use Rattle.sf_sym.specs.Cells.{atom_at, without}
 use Rattle.sf_sym.specs.declared.atom.Atom.{Atom}
@@ -20,8 +20,8 @@ use Rattle.sf_sym.specs.declared.atom.Atom.TheVariants.{Points, Ls, Tree}
 use Rattle.sf_sym.specs.declared.term.Term.TheVariants.{Nil}
 use Rattle.sf_sym.specs.Goal.{at_state}
 use Rattle.sf_sym.specs.Holds.{term_value, SegAlong, TreeAlong, AtomHolds}
-use Rattle.sf_sym.specs.Laws.{HoldsAsBefore, KeptWith}
-use Rattle.sf_sym.specs.Lemmas.{same_term_is}
+use Rattle.sf_sym.specs.Checked.Laws.{HoldsAsBefore, KeptWith}
+use Rattle.sf_sym.specs.Checked.Lemmas.{same_term_is}
 
 seg_along-empty : (next : Option FieldId) (from to : Value) (heap : Heap) → from ≡ to
     → SegAlong next from to heap → IsEmpty heap

@@ -11,14 +11,14 @@ use Rattle.sf_base.specs.declared.value.Value.{Value}
 use Rattle.sf_base.specs.HeapStore.{Heap}
 use Rattle.sf_core.proofs.Assertions.Sat.{value-which}
 use Rattle.sf_core.specs.declared.fields.Links.{Links}
-use Rattle.sf_sym.specs.Lemmas.Keeping.{before-equal, follows-equal, kept-one}
+use Rattle.sf_sym.specs.Checked.Lemmas.Keeping.{before-equal, follows-equal, kept-one}
 use Rattle.sf_sym.specs.Known.{ends}
-use Rattle.sf_normal.specs.Laws.{ForceKeepsGoals}
-use Rattle.sf_sym.specs.Lemmas.AtomLists.{at-all, at-append, atoms-out, without-any}
-use Rattle.sf_sym.specs.Lemmas.Parts.{atoms-located, located-apart, seg_along-located, tree_along-located}
-use Rattle.sf_sym.specs.Lemmas.States.{holds-parts}
-use Rattle.sf_sym.specs.Lemmas.Terms.{term-constant_no_location}
-use Rattle.sf_sym.specs.Lemmas.TwoHeaps.{in-at}
+use Rattle.sf_normal.specs.Checked.Laws.{ForceKeepsGoals}
+use Rattle.sf_sym.specs.Checked.Lemmas.AtomLists.{at-all, at-append, atoms-out, without-any}
+use Rattle.sf_sym.specs.Checked.Lemmas.Parts.{atoms-located, located-apart, seg_along-located, tree_along-located}
+use Rattle.sf_sym.specs.Checked.Lemmas.States.{holds-parts}
+use Rattle.sf_sym.specs.Checked.Lemmas.Terms.{term-constant_no_location}
+use Rattle.sf_sym.specs.Checked.Lemmas.TwoHeaps.{in-at}
 use Rattle.sf_sym.specs.Below.{AllInAtom, IsBelow}
 use Rattle.sf_sym.specs.Cells.{atom_at, without}
 use Rattle.sf_sym.specs.declared.atom.Atom.{Atom}
@@ -30,7 +30,7 @@ use Rattle.sf_sym.specs.Equalities.{assumed_equal}
 use Rattle.sf_sym.specs.Goal.{Goal}
 use Rattle.sf_sym.specs.Holds.{term_value, AtomHolds}
 use Rattle.sf_sym.specs.HoldsIn.{HoldsIn}
-use Rattle.sf_sym.specs.Laws.{HoldsAsBefore, IsLocationIn, KeptWith}
+use Rattle.sf_sym.specs.Checked.Laws.{HoldsAsBefore, IsLocationIn, KeptWith}
 use Rattle.sf_sym.specs.Tests.{allocated, allocates, is_constant, is_left_out, parts, same_term}
 
 -- a segment or tree whose ends have different values has a cell at its root

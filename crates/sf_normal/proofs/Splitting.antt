@@ -7,14 +7,14 @@ use Rattle.sf_base.specs.declared.ids.Var.{Var}
 use Rattle.sf_base.specs.declared.value.Value.{Value}
 use Rattle.sf_base.specs.HeapStore.{Heap}
 use Rattle.sf_core.proofs.Assertions.Sat.{value-which}
-use Rattle.sf_sym.specs.Lemmas.Keeping.{before-equal, before-same, follows-equal}
-use Rattle.sf_normal.specs.Laws.{SplitKeepsGoals}
-use Rattle.sf_sym.specs.Lemmas.TwoHeaps.{assumed_terms_are_below, differing_terms_may_be_assumed}
+use Rattle.sf_sym.specs.Checked.Lemmas.Keeping.{before-equal, before-same, follows-equal}
+use Rattle.sf_normal.specs.Checked.Laws.{SplitKeepsGoals}
+use Rattle.sf_sym.specs.Checked.Lemmas.TwoHeaps.{assumed_terms_are_below, differing_terms_may_be_assumed}
 use Rattle.sf_sym.specs.Below.{is_below}
 use Rattle.sf_sym.specs.Equalities.{assumed_apart, assumed_equal, with_pair}
 use Rattle.sf_sym.specs.Holds.{term_value}
 use Rattle.sf_sym.specs.HoldsIn.{HoldsIn}
-use Rattle.sf_sym.specs.Laws.{AssumedTermsAreBelow, DifferingTermsMayBeAssumed, HoldsAsBefore, KeptWith, SomeOf}
+use Rattle.sf_sym.specs.Checked.Laws.{AssumedTermsAreBelow, DifferingTermsMayBeAssumed, HoldsAsBefore, KeptWith, SomeOf}
 use Rattle.sf_sym.specs.Tests.{same_term}
 
 pub split_keeps_goals : SplitKeepsGoals

@@ -12,15 +12,15 @@ use Rattle.sf_base.specs.declared.value.Value.TheVariants.{Loc as loc}
 use Rattle.sf_base.specs.HeapStore.{Heap, ◌⋆◌}
 use Rattle.sf_core.proofs.Assertions.Segments.{seg-head}
 use Rattle.sf_core.proofs.Assertions.Trees.{tree-root}
-use Rattle.sf_sym.specs.Lemmas.Keeping.{before-still, kept-one}
+use Rattle.sf_sym.specs.Checked.Lemmas.Keeping.{before-still, kept-one}
 use Rattle.sf_normal.specs.Knowledge.{unroll_one, unrolled_segment, unrolled_tree}
-use Rattle.sf_normal.specs.Laws.{UnrollKeepsGoals}
-use Rattle.sf_sym.specs.Lemmas.AtomLists.{at-all, atoms-one_more, atoms-out}
-use Rattle.sf_sym.specs.Lemmas.Below.{below-symbol, below-value, put-all}
-use Rattle.sf_sym.specs.Lemmas.CellFields.{put-known}
-use Rattle.sf_sym.specs.Lemmas.FreshGoals.{adds-stay, apart-stays, later, later-apart, later-others, later-taken, later-todo, later-vars, more-below, others-stay, taken-stay, vars-stay}
-use Rattle.sf_sym.specs.Lemmas.FreshValues.{value-below, value-here, value-same, with_value}
-use Rattle.sf_sym.specs.Lemmas.Decided.{differ-in}
+use Rattle.sf_normal.specs.Checked.Laws.{UnrollKeepsGoals}
+use Rattle.sf_sym.specs.Checked.Lemmas.AtomLists.{at-all, atoms-one_more, atoms-out}
+use Rattle.sf_sym.specs.Checked.Lemmas.Below.{below-symbol, below-value, put-all}
+use Rattle.sf_sym.specs.Checked.Lemmas.CellFields.{put-known}
+use Rattle.sf_sym.specs.Checked.Lemmas.FreshGoals.{adds-stay, apart-stays, later, later-apart, later-others, later-taken, later-todo, later-vars, more-below, others-stay, taken-stay, vars-stay}
+use Rattle.sf_sym.specs.Checked.Lemmas.FreshValues.{value-below, value-here, value-same, with_value}
+use Rattle.sf_sym.specs.Checked.Lemmas.Decided.{differ-in}
 use Rattle.sf_sym.specs.Below.{AllInAtom, AreBelow, IsBelow, SameBelow}
 use Rattle.sf_sym.specs.Cells.{apart_from_nil, atom_at, with_atom, with_cell, without}
 use Rattle.sf_sym.specs.declared.atom.Atom.{Atom}
@@ -32,7 +32,7 @@ use Rattle.sf_sym.specs.Fields.{put_term}
 use Rattle.sf_sym.specs.Goal.{Goal, at_state}
 use Rattle.sf_sym.specs.Holds.{term_value, SegAlong, TreeAlong, AtomHolds, AtomsHold}
 use Rattle.sf_sym.specs.HoldsIn.{HoldsIn}
-use Rattle.sf_sym.specs.Laws.{Follows, HoldsAsBefore, HoldsStill, KeptWith}
+use Rattle.sf_sym.specs.Checked.Laws.{Follows, HoldsAsBefore, HoldsStill, KeptWith}
 use Rattle.sf_sym.specs.State.{State, with_symbols}
 use Rattle.sf_sym.specs.Tests.{differs}
 

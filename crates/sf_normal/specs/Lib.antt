@@ -1,2 +1,2 @@
 pub mod Knowledge
-pub mod Laws
+pub mod Checked

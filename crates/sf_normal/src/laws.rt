@@ -3,7 +3,7 @@
 //! same values of the goal's symbols. Each function is a law: calling it gives its fact to the
 //! caller's proof, and does nothing.
 
-ghost use Rattle.sf_normal.specs.Laws.{AbsurdKeepsGoals, DropKeepsGoals, ForceKeepsGoals, SplitKeepsGoals, UnrollKeepsGoals};
+ghost use Rattle.sf_normal.specs.Checked.Laws.{AbsurdKeepsGoals, DropKeepsGoals, ForceKeepsGoals, SplitKeepsGoals, UnrollKeepsGoals};
 
 /// A state that is absurd has no values and heaps, so nothing is left to prove.
 #[tactic(auto, using(crate::proofs::AbsurdStates::absurd_keeps_goals))]

@@ -1,7 +1,7 @@
 -- The laws of the crate, under the names of their functions in src/laws.rt.
 use Rattle.std.proofs.Common.{sym, ◌∙◌, []}
 use Rattle.sf_parse.proofs.Grammar.OneTree.{items_once}
-use Rattle.sf_parse.specs.Laws.{EachFileIsOne, EachFileIsShallow, AnswerIsUnique, ShallowTreesAreWithin, TheVerdictIsExact}
+use Rattle.sf_parse.specs.Checked.Laws.{EachFileIsOne, EachFileIsShallow, AnswerIsUnique, ShallowTreesAreWithin, TheVerdictIsExact}
 use Rattle.sf_parse.proofs.Grammar.Depths.{items_shallow, items_within}
 use Rattle.sf_parse.proofs.Machine.Faults.{file_or_fault, faults_once, files_without_fault}
 use Rattle.sf_parse.proofs.Machine.Law.{exact}

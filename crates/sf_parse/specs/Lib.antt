@@ -3,5 +3,4 @@ pub mod Grammar
 pub mod Nesting
 pub mod Nearest
 pub mod Parsing
-pub mod Laws
-pub mod Internal
+pub mod Checked

@@ -4,12 +4,12 @@ ghost use Rattle.std.specs.Prelude.{◌≡◌, ◌∷◌, [], IfErr, IfOk};
 ghost use Rattle.std.specs.Option.{option_map};
 ghost use Rattle.sf_ast.specs.View.{annotation_of};
 ghost use Rattle.sf_parse.specs.Grammar.{maybe_annotation, annotation};
-ghost use Rattle.sf_parse.specs.Internal.Machine as m;
+ghost use Rattle.sf_parse.specs.Checked.Machine as m;
 ghost use Rattle.sf_parse.specs.Nearest.{MaybeNearest, NoteNearest};
 ghost use Rattle.sf_parse.specs.Nesting.{MaybeWithin, NoteWithin};
 ghost use Rattle.sf_parse.specs.Leaf as k;
 ghost use Rattle.sf_parse.specs.Leaf.{leaves};
-ghost use Rattle.sf_parse.specs.Internal.Parser.{FailsAt, Accepts};
+ghost use Rattle.sf_parse.specs.Checked.Parser.{FailsAt, Accepts};
 
 use crate::assertion::assertion;
 use crate::front::eat;

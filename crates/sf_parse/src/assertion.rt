@@ -4,12 +4,12 @@ ghost use Rattle.std.specs.Prelude.{◌≡◌, ◌<◌, ◌-◌, ◌∷◌, ℕ,
 ghost use Rattle.sf_ast.specs.Surface.{Conjunct};
 ghost use Rattle.sf_ast.specs.View.{assertion_of, conjunct_of, conjuncts};
 ghost use Rattle.sf_parse.specs.Grammar.{assertion, conjunct};
-ghost use Rattle.sf_parse.specs.Internal.Machine as m;
+ghost use Rattle.sf_parse.specs.Checked.Machine as m;
 ghost use Rattle.sf_parse.specs.Nearest.{AssertionNearest, ConjunctNearest};
 ghost use Rattle.sf_parse.specs.Nesting.{AssertionWithin, ConjunctWithin};
 ghost use Rattle.sf_parse.specs.Leaf as k;
 ghost use Rattle.sf_parse.specs.Leaf.{leaves};
-ghost use Rattle.sf_parse.specs.Internal.Parser.{Ends, NotStar, FailsAt, Accepts};
+ghost use Rattle.sf_parse.specs.Checked.Parser.{Ends, NotStar, FailsAt, Accepts};
 
 use crate::condition::operand_test;
 use crate::conjunct::{begins_conjunct, predicate, relation};

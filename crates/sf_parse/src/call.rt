@@ -5,14 +5,14 @@ ghost use Rattle.std.specs.Prelude.{IfErr, IfOk, MatchOption};
 ghost use Rattle.sf_ast.specs.View.{arguments_of};
 ghost use Rattle.sf_ast.specs.View.{call_of};
 ghost use Rattle.sf_lex.specs.declared.token.Kind.TheVariants.{Comma};
-ghost use Rattle.sf_parse.specs.Internal.Given.{NoMore, all_names, is_name, predicted_behind};
+ghost use Rattle.sf_parse.specs.Checked.Given.{NoMore, all_names, is_name, predicted_behind};
 ghost use Rattle.sf_parse.specs.Grammar as g;
 ghost use Rattle.sf_parse.specs.Grammar.{arguments, maybe_exprs, more_exprs};
-ghost use Rattle.sf_parse.specs.Internal.Machine as m;
-ghost use Rattle.sf_parse.specs.Internal.Machine.{Predicted, verdict};
+ghost use Rattle.sf_parse.specs.Checked.Machine as m;
+ghost use Rattle.sf_parse.specs.Checked.Machine.{Predicted, verdict};
 ghost use Rattle.sf_parse.specs.Leaf as k;
 ghost use Rattle.sf_parse.specs.Leaf.{leaves};
-ghost use Rattle.sf_parse.specs.Internal.Parser.{NotNext, FailsAt, Accepts};
+ghost use Rattle.sf_parse.specs.Checked.Parser.{NotNext, FailsAt, Accepts};
 
 use crate::front::{eat, eat_expression};
 use crate::leaf::expect;

@@ -6,12 +6,12 @@ ghost use Rattle.sf_ast.specs.View.{command_of, commands, annotation_of};
 ghost use Rattle.sf_parse.specs.Leaf as k;
 ghost use Rattle.sf_parse.specs.Grammar as g;
 ghost use Rattle.sf_parse.specs.Grammar.{command, expr};
-ghost use Rattle.sf_parse.specs.Internal.Heads.{IsFlat, command_next};
-ghost use Rattle.sf_parse.specs.Internal.Machine as m;
+ghost use Rattle.sf_parse.specs.Checked.Heads.{IsFlat, command_next};
+ghost use Rattle.sf_parse.specs.Checked.Machine as m;
 ghost use Rattle.sf_parse.specs.Nearest.{CommandNearest, CommandsNearest, Follows};
 ghost use Rattle.sf_parse.specs.Nesting.{CommandWithin, CommandsWithin};
 ghost use Rattle.sf_parse.specs.Leaf.{leaves};
-ghost use Rattle.sf_parse.specs.Internal.Parser.{FailsAt, Accepts};
+ghost use Rattle.sf_parse.specs.Checked.Parser.{FailsAt, Accepts};
 ghost use Rattle.std.specs.Option.{option_map};
 
 use crate::annotation::maybe_annotation;

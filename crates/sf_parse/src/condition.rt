@@ -2,9 +2,9 @@
 
 ghost use Rattle.std.specs.Prelude.{◌≡◌, ◌∷◌, [], IfErr, IfOk};
 ghost use Rattle.sf_parse.specs.Grammar.{expr, operand, test};
-ghost use Rattle.sf_parse.specs.Internal.Machine as m;
+ghost use Rattle.sf_parse.specs.Checked.Machine as m;
 ghost use Rattle.sf_parse.specs.Leaf.{leaves};
-ghost use Rattle.sf_parse.specs.Internal.Parser.{FailsAt, Accepts};
+ghost use Rattle.sf_parse.specs.Checked.Parser.{FailsAt, Accepts};
 
 use crate::front::eat;
 use crate::leaf::{expression, operand};

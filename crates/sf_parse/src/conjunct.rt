@@ -3,12 +3,12 @@
 ghost use Rattle.std.specs.Prelude.{◌≡◌, ◌∷◌, ℕ, [], false, IfErr, IfOk};
 ghost use Rattle.sf_ast.specs.View.{conjunct_of};
 ghost use Rattle.sf_parse.specs.Grammar.{conjunct, operand};
-ghost use Rattle.sf_parse.specs.Internal.Heads.{IsFlatConjunct, conjunct_next};
-ghost use Rattle.sf_parse.specs.Internal.Machine as m;
+ghost use Rattle.sf_parse.specs.Checked.Heads.{IsFlatConjunct, conjunct_next};
+ghost use Rattle.sf_parse.specs.Checked.Machine as m;
 ghost use Rattle.sf_parse.specs.Leaf as k;
 ghost use Rattle.sf_parse.specs.Leaf.{leaves};
-ghost use Rattle.sf_parse.specs.Internal.Parser.{Accepts, FailsAt, NotNext};
-ghost use Rattle.sf_parse.specs.Internal.Parser.{operand_next};
+ghost use Rattle.sf_parse.specs.Checked.Parser.{Accepts, FailsAt, NotNext};
+ghost use Rattle.sf_parse.specs.Checked.Parser.{operand_next};
 
 use crate::fields::maybe_fields;
 use crate::front::eat;

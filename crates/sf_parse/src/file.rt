@@ -3,10 +3,10 @@
 ghost use Rattle.std.specs.Prelude.{◌≡◌, ◌≤◌, ◌⊎◌, ◌∷◌, [], length, map, IfErr, IfOk};
 ghost use Rattle.sf_ast.specs.View.{item_of};
 ghost use Rattle.sf_base.specs.Results.{Decides};
-ghost use Rattle.sf_parse.specs.Internal.Faults.{place_left};
-ghost use Rattle.sf_parse.specs.Internal.Machine as m;
+ghost use Rattle.sf_parse.specs.Checked.Faults.{place_left};
+ghost use Rattle.sf_parse.specs.Checked.Machine as m;
 ghost use Rattle.sf_parse.specs.Parsing.{IsFault, IsFile};
-ghost use Rattle.sf_parse.specs.Internal.Parser.{FailsAt};
+ghost use Rattle.sf_parse.specs.Checked.Parser.{FailsAt};
 
 use crate::fault::ParseFault;
 use crate::item::items;

@@ -4,8 +4,8 @@ ghost use Rattle.std.specs.Prelude.{◌≡◌, ◌∷◌, false, IfSome, MatchOp
 ghost use Rattle.sf_parse.specs.Grammar.{expr, operand};
 ghost use Rattle.sf_parse.specs.Leaf as k;
 ghost use Rattle.sf_parse.specs.Leaf.{leaf, leaves};
-ghost use Rattle.sf_parse.specs.Internal.Parser.{IsMark, NotNext, expression_next, mark};
-ghost use Rattle.sf_parse.specs.Internal.Parser.{operand_next};
+ghost use Rattle.sf_parse.specs.Checked.Parser.{IsMark, NotNext, expression_next, mark};
+ghost use Rattle.sf_parse.specs.Checked.Parser.{operand_next};
 
 use sf_ast::{SurfaceExpr, SurfaceOperand, Word};
 use sf_base::Place;

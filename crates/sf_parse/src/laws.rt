@@ -1,7 +1,7 @@
 //! Laws of reading a file. Each function does nothing; its contract is the law.
 
-ghost use Rattle.sf_parse.specs.Laws.{AnswerIsUnique, EachFileIsOne, EachFileIsShallow};
-ghost use Rattle.sf_parse.specs.Laws.{ShallowTreesAreWithin, TheVerdictIsExact};
+ghost use Rattle.sf_parse.specs.Checked.Laws.{AnswerIsUnique, EachFileIsOne, EachFileIsShallow};
+ghost use Rattle.sf_parse.specs.Checked.Laws.{ShallowTreesAreWithin, TheVerdictIsExact};
 
 /// What is predicted decides exactly as the grammar does: which tokens are a file, and where the
 /// others go wrong.

@@ -3,11 +3,11 @@
 
 ghost use Rattle.std.specs.Prelude.{◌≡◌, ◌∷◌, [], IfErr, IfOk};
 ghost use Rattle.sf_parse.specs.Grammar.{expr, operand};
-ghost use Rattle.sf_parse.specs.Internal.Machine as m;
+ghost use Rattle.sf_parse.specs.Checked.Machine as m;
 ghost use Rattle.sf_parse.specs.Leaf as k;
 ghost use Rattle.sf_parse.specs.Leaf.{leaves};
-ghost use Rattle.sf_parse.specs.Internal.Parser.{Accepts, FailsAt, IsMark, IsTerminal};
-ghost use Rattle.sf_parse.specs.Internal.Parser.{mark, terminal_of};
+ghost use Rattle.sf_parse.specs.Checked.Parser.{Accepts, FailsAt, IsMark, IsTerminal};
+ghost use Rattle.sf_parse.specs.Checked.Parser.{mark, terminal_of};
 
 use crate::front::{eat, eat_expression, eat_name, eat_operand};
 use crate::stop::Stop;

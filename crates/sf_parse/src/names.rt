@@ -3,9 +3,9 @@
 ghost use Rattle.std.specs.Prelude.{◌≡◌, ◌∷◌, [], IfErr, IfOk};
 ghost use Rattle.sf_ast.specs.View.{names_of, parameters_of};
 ghost use Rattle.sf_parse.specs.Grammar.{maybe_names, more_names, names, parameters};
-ghost use Rattle.sf_parse.specs.Internal.Machine as m;
+ghost use Rattle.sf_parse.specs.Checked.Machine as m;
 ghost use Rattle.sf_parse.specs.Leaf.{leaves};
-ghost use Rattle.sf_parse.specs.Internal.Parser.{FailsAt, Accepts};
+ghost use Rattle.sf_parse.specs.Checked.Parser.{FailsAt, Accepts};
 
 use crate::front::{eat, eat_name};
 use crate::leaf::name;

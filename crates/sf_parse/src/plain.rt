@@ -5,10 +5,10 @@ ghost use Rattle.sf_ast.specs.View.{call_of, command_of};
 ghost use Rattle.sf_parse.specs.Leaf as k;
 ghost use Rattle.sf_parse.specs.Grammar as g;
 ghost use Rattle.sf_parse.specs.Grammar.{command, expr};
-ghost use Rattle.sf_parse.specs.Internal.Heads.{IsFlat};
-ghost use Rattle.sf_parse.specs.Internal.Machine as m;
+ghost use Rattle.sf_parse.specs.Checked.Heads.{IsFlat};
+ghost use Rattle.sf_parse.specs.Checked.Machine as m;
 ghost use Rattle.sf_parse.specs.Leaf.{leaves};
-ghost use Rattle.sf_parse.specs.Internal.Parser.{FailsAt, Accepts};
+ghost use Rattle.sf_parse.specs.Checked.Parser.{FailsAt, Accepts};
 
 use crate::call::call;
 use crate::front::eat;

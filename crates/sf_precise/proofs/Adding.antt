@@ -16,8 +16,8 @@ use Rattle.sf_base.proofs.Numbers.{one-not_zero}
 use Rattle.sf_precise.specs.declared.work.Work.{Work}
 use Rattle.sf_core.specs.declared.command.Expr.{Expr}
 use Rattle.sf_core.specs.Program.Syntax.{Conjunct}
-use Rattle.sf_precise.specs.Internal.Waits.{Job, job_of, jobs_of, need_of, rests_on, unknown_among, waits_for}
-use Rattle.sf_precise.specs.Internal.Work.{AddsJob, AddsWaits, IsWork, is_ready, is_served, none_taken, row}
+use Rattle.sf_precise.specs.Checked.Waits.{Job, job_of, jobs_of, need_of, rests_on, unknown_among, waits_for}
+use Rattle.sf_precise.specs.Checked.Work.{AddsJob, AddsWaits, IsWork, is_ready, is_served, none_taken, row}
 
 ready-before : (a b t s z e : Bool) → a ≡ b → t ≡ false → s ≡ false → e ≡ false
     → ((a && not t) || (z && e)) ≡ (b && not s)

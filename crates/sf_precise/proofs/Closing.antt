@@ -1,13 +1,13 @@
 -- The laws of the crate, under the names of their functions in src/laws.rt.
-use Rattle.sf_precise.specs.Lemmas.OrdersExist.{determined-order, determined-or_place, notes-or_place}
-use Rattle.sf_precise.specs.Laws.{DeterminedHasOrder, NeverTakenIsUndetermined, OrderIsUnique, OrderKeepsForm, OrderKeepsMeaning, OrderedIsDetermined, OrderingExists, OrdersFromTruncation, InOrderIsDetermined, TakenFixExistentials, UndeterminedHasPlace, UndeterminedAnnotationsHavePlace}
-use Rattle.sf_precise.specs.Lemmas.Branches.{never-undetermined, ordered-determined, ordered-stands}
+use Rattle.sf_precise.specs.Checked.Lemmas.OrdersExist.{determined-order, determined-or_place, notes-or_place}
+use Rattle.sf_precise.specs.Checked.Laws.{DeterminedHasOrder, NeverTakenIsUndetermined, OrderIsUnique, OrderKeepsForm, OrderKeepsMeaning, OrderedIsDetermined, OrderingExists, OrdersFromTruncation, InOrderIsDetermined, TakenFixExistentials, UndeterminedHasPlace, UndeterminedAnnotationsHavePlace}
+use Rattle.sf_precise.specs.Checked.Lemmas.Branches.{never-undetermined, ordered-determined, ordered-stands}
 use Rattle.std.specs.Prelude.{false}
 use Rattle.sf_precise.proofs.OrderForms.{assertion-within}
-use Rattle.sf_precise.specs.Lemmas.OrderMeaning.{level-one, level-sat, sat-level, stands-determined}
+use Rattle.sf_precise.specs.Checked.Lemmas.OrderMeaning.{level-one, level-sat, sat-level, stands-determined}
 use Rattle.sf_core.specs.Assertions.Sat.{value}
 use Rattle.sf_core.specs.Program.Formed.{IsInBody, IsOfResource, IsParameter}
-use Rattle.sf_precise.specs.Lemmas.Picked.{ordering-exists}
+use Rattle.sf_precise.specs.Checked.Lemmas.Picked.{ordering-exists}
 use Rattle.sf_precise.proofs.OrdersHad.{orders-had}
 use Rattle.sf_precise.proofs.TakenFixes.{takes-agree}
 

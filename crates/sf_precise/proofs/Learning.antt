@@ -21,9 +21,9 @@ use Rattle.sf_base.specs.declared.ids.FieldId.{FieldId}
 use Rattle.sf_core.specs.declared.assertion.Operand.{Operand}
 use Rattle.sf_core.specs.declared.command.Expr.{Expr}
 use Rattle.sf_precise.specs.declared.work.Work.{Work}
-use Rattle.sf_precise.specs.Internal.Outer.{existential, field_existentials}
-use Rattle.sf_precise.specs.Internal.Waits.{Job}
-use Rattle.sf_precise.specs.Internal.Work.{IsWork, Learns, Serves, WaitsWithin, is_ready, is_served, items_or_none, known_with, row, work_left}
+use Rattle.sf_precise.specs.Checked.Outer.{existential, field_existentials}
+use Rattle.sf_precise.specs.Checked.Waits.{Job}
+use Rattle.sf_precise.specs.Checked.Work.{IsWork, Learns, Serves, WaitsWithin, is_ready, is_served, items_or_none, known_with, row, work_left}
 
 -- work is the same where the same is known
 pub work-same : (jobs : List Job) (known more : ℕ → Bool) (taken : List Bool) (w : Work)

@@ -15,7 +15,7 @@ use Rattle.sf_core.specs.Assertions.Scopes.{overlap}
 use Rattle.sf_core.specs.Program.Formed.{AssertionWithin, ConjunctWithin, ConjunctsWithin, LevelWithin, conjunct_depth, conjunct_scopes, conjuncts_depth, conjuncts_scopes, level_depth, level_scopes}
 use Rattle.sf_core.specs.Program.Syntax.{Assertion, Conjunct, holds, points, segment, tree, choose, Level, level, Conjuncts, none, also}
 use Rattle.sf_precise.specs.Order.{IsOrder, IsOrderFrom, IsOrderInside, IsOrderWithin}
-use Rattle.sf_precise.specs.Lemmas.Agree.{first-leaves}
+use Rattle.sf_precise.specs.Checked.Lemmas.Agree.{first-leaves}
 
 -- of three lists the first two change places
 swap_first : {X : Type 0} (xs ys zs : List X) → IsPermutation (xs ++ (ys ++ zs)) (ys ++ (xs ++ zs))

@@ -11,12 +11,12 @@ use Rattle.sf_core.specs.declared.assertion.Test.{Test}
 use Rattle.sf_core.specs.declared.command.Expr.{Expr}
 use Rattle.sf_core.specs.Assertions.Determined.{known_after, known_inside}
 use Rattle.sf_core.specs.Program.Syntax.{Conjunct, holds, points, segment, tree, choose, Level, level, Conjuncts, none, also, Assertion}
-use Rattle.sf_calls.specs.Lemmas.Had.{IsHad, had_never, had_once}
-use Rattle.sf_precise.specs.Laws.{OrdersFromTruncation}
+use Rattle.sf_calls.specs.Checked.Lemmas.Had.{IsHad, had_never, had_once}
+use Rattle.sf_precise.specs.Checked.Laws.{OrdersFromTruncation}
 use Rattle.sf_precise.specs.Order.{IsFirstReady, IsOrder, IsOrderFrom, IsOrderInside, IsOrderOf, IsOrderWithin}
-use Rattle.sf_precise.specs.Lemmas.Agree.{first-leaves}
-use Rattle.sf_precise.specs.Lemmas.OrderMeaning.{first-one}
-use Rattle.sf_precise.specs.Lemmas.TakenDecided.{first-decided}
+use Rattle.sf_precise.specs.Checked.Lemmas.Agree.{first-leaves}
+use Rattle.sf_precise.specs.Checked.Lemmas.OrderMeaning.{first-one}
+use Rattle.sf_precise.specs.Checked.Lemmas.TakenDecided.{first-decided}
 
 -- two equations between parts of conjuncts are the same
 place-set : IsSet Place

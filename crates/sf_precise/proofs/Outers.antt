@@ -8,7 +8,7 @@ use Rattle.sf_core.specs.declared.command.Expr.{Expr}
 use Rattle.sf_core.specs.Assertions.Scopes.{is_made_by}
 use Rattle.sf_core.specs.Program.Syntax.{Conjunct}
 use Rattle.sf_core.specs.Program.View.{conjunct_of, conjuncts, level_of}
-use Rattle.sf_precise.specs.Internal.Outer.{outer_of, outer_of_all, outer_of_level}
+use Rattle.sf_precise.specs.Checked.Outer.{outer_of, outer_of_all, outer_of_level}
 use Rattle.sf_precise.proofs.Views.{view-level}
 
 -- those of each conjunct that the scope does not make are those of all of them

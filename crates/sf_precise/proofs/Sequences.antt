@@ -29,16 +29,16 @@ use Rattle.sf_core.specs.Program.Syntax.{Conjunct, holds, points, segment, tree,
 use Rattle.sf_core.specs.Program.View.{conjuncts}
 use Rattle.sf_precise.specs.declared.work.Work.{Work}
 use Rattle.sf_precise.specs.Order.{IsFirstReady, IsOrder, IsOrderWithin}
-use Rattle.sf_precise.specs.Internal.Outer.{existential, field_existentials}
-use Rattle.sf_precise.specs.Internal.Prepared.{IsPrepared}
+use Rattle.sf_precise.specs.Checked.Outer.{existential, field_existentials}
+use Rattle.sf_precise.specs.Checked.Prepared.{IsPrepared}
 use Rattle.sf_precise.specs.Taken.{IsAmong, IsFirstNeverTaken, Takes, known_by, place_at}
-use Rattle.sf_precise.specs.Internal.Waits.{Job, job_of, jobs_of, learned_from}
-use Rattle.sf_precise.specs.Internal.Work.{IsFirstLacking, IsWork, Learns, WaitsWithin, is_ready, is_served, known_with, none_taken}
-use Rattle.sf_precise.specs.Lemmas.Agree.{first-leaves}
-use Rattle.sf_precise.specs.Lemmas.Greedy.{within-learned}
+use Rattle.sf_precise.specs.Checked.Waits.{Job, job_of, jobs_of, learned_from}
+use Rattle.sf_precise.specs.Checked.Work.{IsFirstLacking, IsWork, Learns, WaitsWithin, is_ready, is_served, known_with, none_taken}
+use Rattle.sf_precise.specs.Checked.Lemmas.Agree.{first-leaves}
+use Rattle.sf_precise.specs.Checked.Lemmas.Greedy.{within-learned}
 use Rattle.sf_precise.proofs.Learning.{work-same}
-use Rattle.sf_precise.specs.Lemmas.NeverTaken.{known-then_one, stuck-first, takes-more, takes-one, then_one}
-use Rattle.sf_precise.specs.Lemmas.Ready.{job-ready, prepared-within, ready-job}
+use Rattle.sf_precise.specs.Checked.Lemmas.NeverTaken.{known-then_one, stuck-first, takes-more, takes-one, then_one}
+use Rattle.sf_precise.specs.Checked.Lemmas.Ready.{job-ready, prepared-within, ready-job}
 
 -- those that are not taken
 abbrev pub left : {X : Type 0} → List Bool → List X → List X

@@ -10,7 +10,7 @@ use Rattle.sf_base.proofs.Lookup.{get-middle}
 use Rattle.sf_base.proofs.Zips.{zip-at}
 use Rattle.sf_core.specs.Program.Syntax.{Assertion, Procedure, Program, Resource}
 use Rattle.sf_precise.specs.Annotations.{AreOrdersOf, annotations_in, loops_in, notes_of}
-use Rattle.sf_precise.specs.Internal.Starts.{starts_from}
+use Rattle.sf_precise.specs.Checked.Starts.{starts_from}
 use Rattle.sf_precise.specs.Order.{IsOrderOf}
 
 -- what is after the first of two lists, and what is in it

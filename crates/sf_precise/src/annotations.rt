@@ -7,7 +7,7 @@ ghost use Rattle.sf_core.specs.Program.Sites.{site_of};
 ghost use Rattle.sf_core.specs.Program.Heads.{head_invariants};
 ghost use Rattle.sf_core.specs.Program.ProgramView.{program_of};
 ghost use Rattle.sf_precise.specs.Annotations.{annotations_in, notes_of};
-ghost use Rattle.sf_precise.specs.Internal.Starts.{ends_from, starts_from};
+ghost use Rattle.sf_precise.specs.Checked.Starts.{ends_from, starts_from};
 
 use sf_core::{Assertion, Command, Proc, Program, Resource, Site, sites};
 use std::alloc::{AllocError, Global};

@@ -5,7 +5,7 @@ ghost use Rattle.sf_calls.specs.Changes.{changes_in};
 ghost use Rattle.sf_calls.specs.FirstBreach.{Conditions};
 ghost use Rattle.sf_calls.specs.Sets.{AreSetsOf};
 ghost use Rattle.sf_precise.specs.Annotations.{AreOrdersOf, annotations_in};
-ghost use Rattle.sf_precise.specs.Internal.Starts.{starts_from};
+ghost use Rattle.sf_precise.specs.Checked.Starts.{starts_from};
 ghost use Rattle.sf_precise.specs.Order.{IsOrderOf};
 
 use crate::laws::orders_from_truncation;

@@ -10,7 +10,7 @@ ghost use Rattle.sf_calls.specs.Sets.{AreSetsOf};
 ghost use Rattle.sf_precise.specs.declared.fault.OrderFault.TheVariants.{OutOfMemory, Undetermined};
 ghost use Rattle.sf_precise.specs.Annotations.{AreOrdersOf, IsFirstPlace, NeverTakenIn, earlier_of, annotations_in};
 ghost use Rattle.sf_precise.specs.Taken.{IfUndetermined};
-ghost use Rattle.sf_precise.specs.Internal.Starts.{starts_from};
+ghost use Rattle.sf_precise.specs.Checked.Starts.{starts_from};
 
 use crate::annotations::annotations_in;
 use crate::arranged::Arranged;

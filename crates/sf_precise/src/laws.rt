@@ -1,6 +1,6 @@
 //! Laws of orders. Each function does nothing; its contract is the law.
 
-ghost use Rattle.sf_precise.specs.Laws.{DeterminedHasOrder, UndeterminedHasPlace, UndeterminedAnnotationsHavePlace, TakenFixExistentials, NeverTakenIsUndetermined, OrderIsUnique, OrderKeepsForm, OrderKeepsMeaning, OrderedIsDetermined, OrdersFromTruncation, InOrderIsDetermined, OrderingExists};
+ghost use Rattle.sf_precise.specs.Checked.Laws.{DeterminedHasOrder, UndeterminedHasPlace, UndeterminedAnnotationsHavePlace, TakenFixExistentials, NeverTakenIsUndetermined, OrderIsUnique, OrderKeepsForm, OrderKeepsMeaning, OrderedIsDetermined, OrdersFromTruncation, InOrderIsDetermined, OrderingExists};
 
 /// An assertion has one order at most.
 #[tactic(auto, using(crate::proofs::Closing::order_is_unique))]

@@ -10,10 +10,10 @@ ghost use Rattle.sf_core.specs.Program.Syntax as s;
 ghost use Rattle.sf_core.specs.Program.View.{assertion_of, conjunct_of, level_of};
 ghost use Rattle.sf_precise.specs.declared.fault.OrderFault.TheVariants.{OutOfMemory, Undetermined};
 ghost use Rattle.sf_precise.specs.Order.{IsOrderFrom, IsOrderOf};
-ghost use Rattle.sf_precise.specs.Internal.Outer.{outer_of, outer_of_level};
-ghost use Rattle.sf_precise.specs.Internal.Prepared.{IsBranch, IsPrepared, joined};
+ghost use Rattle.sf_precise.specs.Checked.Outer.{outer_of, outer_of_level};
+ghost use Rattle.sf_precise.specs.Checked.Prepared.{IsBranch, IsPrepared, joined};
 ghost use Rattle.sf_precise.specs.Taken.{IfUndetermined, NeverTakenAt, NeverTakenFrom};
-ghost use Rattle.sf_precise.specs.Internal.Waits.{known_outside};
+ghost use Rattle.sf_precise.specs.Checked.Waits.{known_outside};
 
 use crate::fault::OrderFault;
 use crate::outer::{add_all_not_made, add_existential, add_of_fields, add_of_test};

@@ -3,7 +3,7 @@
 ghost use Rattle.std.specs.Prelude.{◌≡◌, ◌&&◌, not, filter, flat_map};
 ghost use Rattle.sf_base.specs.Results.{Appends};
 ghost use Rattle.sf_core.specs.Assertions.Scopes.{is_made_by};
-ghost use Rattle.sf_precise.specs.Internal.Outer.{existential, field_existentials, test_existentials};
+ghost use Rattle.sf_precise.specs.Checked.Outer.{existential, field_existentials, test_existentials};
 
 use sf_base::FieldId;
 use sf_core::{Expr, Operand, Scope, Test};

@@ -6,11 +6,11 @@ ghost use Rattle.std.specs.List.{AllZip};
 ghost use Rattle.std.specs.Ordering.{nat_cmp};
 ghost use Rattle.sf_core.specs.Program.View.{conjunct_of, conjuncts};
 ghost use Rattle.sf_precise.specs.Order.{IsOrder};
-ghost use Rattle.sf_precise.specs.Internal.Outer.{outer_of};
-ghost use Rattle.sf_precise.specs.Internal.Prepared.{IsPrepared};
+ghost use Rattle.sf_precise.specs.Checked.Outer.{outer_of};
+ghost use Rattle.sf_precise.specs.Checked.Prepared.{IsPrepared};
 ghost use Rattle.sf_precise.specs.Taken.{IfUndetermined, IsFirstNeverTaken, place_at};
-ghost use Rattle.sf_precise.specs.Internal.Waits.{jobs_of, known_outside};
-ghost use Rattle.sf_precise.specs.Internal.Work.{IsFirstLacking, IsWork, none_taken};
+ghost use Rattle.sf_precise.specs.Checked.Waits.{jobs_of, known_outside};
+ghost use Rattle.sf_precise.specs.Checked.Work.{IsFirstLacking, IsWork, none_taken};
 
 use crate::fault::{OrderFault, push};
 use crate::waits::demand_of;

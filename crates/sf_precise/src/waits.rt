@@ -3,8 +3,8 @@
 ghost use Rattle.std.specs.Prelude.{◌≡◌, IfOk};
 ghost use Rattle.sf_base.specs.Results.{Appends};
 ghost use Rattle.sf_core.specs.Program.View.{conjunct_of};
-ghost use Rattle.sf_precise.specs.Internal.Outer.{outer_of};
-ghost use Rattle.sf_precise.specs.Internal.Waits.{is_unknown, known_outside, need_of, rests_on, unknown_among, waits_for};
+ghost use Rattle.sf_precise.specs.Checked.Outer.{outer_of};
+ghost use Rattle.sf_precise.specs.Checked.Waits.{is_unknown, known_outside, need_of, rests_on, unknown_among, waits_for};
 
 use crate::outer::{add_existential, add_of_test, is_made_by};
 use sf_core::{Conjunct, Expr, Operand, Scope, Test};

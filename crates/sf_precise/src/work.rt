@@ -3,9 +3,9 @@
 
 ghost use Rattle.std.specs.Prelude.{◌≡◌, ◌<◌, ◌≤◌, ℕ, Bool, [], ◌∷◌, ◌++◌, length, All, Contains, IfOk, OnOk, IfSome, IfNone, false, true, slice_index_or};
 ghost use Rattle.sf_core.specs.Program.View.{conjunct_of};
-ghost use Rattle.sf_precise.specs.Internal.Outer.{existential, field_existentials};
-ghost use Rattle.sf_precise.specs.Internal.Waits.{equated, learned_from, Job};
-ghost use Rattle.sf_precise.specs.Internal.Work.{AddsJob, AddsWaits, IsWork, Learns, Serves, WaitsWithin, row};
+ghost use Rattle.sf_precise.specs.Checked.Outer.{existential, field_existentials};
+ghost use Rattle.sf_precise.specs.Checked.Waits.{equated, learned_from, Job};
+ghost use Rattle.sf_precise.specs.Checked.Work.{AddsJob, AddsWaits, IsWork, Learns, Serves, WaitsWithin, row};
 
 use crate::waits::Demand;
 use sf_base::FieldId;

@@ -22,7 +22,7 @@ use Rattle.sf_core.specs.Program.Formed.{conjunct_scopes, conjuncts_scopes, is_m
 use Rattle.sf_core.specs.Program.Syntax.{Conjunct, holds, points, segment, tree, choose, Conjuncts, none, also}
 use Rattle.sf_produce.proofs.Meeting.{Leads, MeetsBoth, leads-same, leads-trans, met-fields, met-one, met-two, term-keeps, with_bindings}
 use Rattle.sf_produce.specs.Add.{MetBoth, add_first, added, goal_after, met, met_both, met_fields}
-use Rattle.sf_produce.specs.Laws.{AddKeepsGoals, HoldsAssumed}
+use Rattle.sf_produce.specs.Checked.Laws.{AddKeepsGoals, HoldsAssumed}
 use Rattle.sf_sym.specs.Below.{AllInAtom, AllInItem, AllInPairs, AreBelow, IsBelow}
 use Rattle.sf_sym.specs.Cells.{apart_from_nil, with_atom, with_cell}
 use Rattle.sf_sym.specs.Decided.{term_of}
@@ -34,15 +34,15 @@ use Rattle.sf_sym.specs.Formed.{AreFormed, IsCounted, IsScoped, ItemFormed}
 use Rattle.sf_sym.specs.Goal.{Item, Goal, adding}
 use Rattle.sf_sym.specs.Holds.{term_value, AddsHold, AtomHolds, AtomsHold, Differ, IsBound, PendingHolds, SegAlong, TreeAlong}
 use Rattle.sf_sym.specs.HoldsIn.{HoldsIn}
-use Rattle.sf_sym.specs.Laws.{AssumedTermsAreBelow, DifferingTermsMayBeAssumed, EqualTermsMayBeAssumed, Follows, KeptWith}
-use Rattle.sf_sym.specs.Lemmas.Adding.{adding-all, adding-holds}
-use Rattle.sf_sym.specs.Lemmas.AtomLists.{atoms-one_more}
-use Rattle.sf_sym.specs.Lemmas.Bindings.{operand-below, operand-is}
-use Rattle.sf_sym.specs.Lemmas.Formed.{formed-adding}
-use Rattle.sf_sym.specs.Lemmas.FreshGoals.{from_nil-below, from_nil-differs, more-below}
-use Rattle.sf_sym.specs.Lemmas.Keeping.{follows-equal, follows-trans, kept-one, same-below}
-use Rattle.sf_sym.specs.Lemmas.Restated.{restated-adding, restated-equal, restated-same}
-use Rattle.sf_sym.specs.Lemmas.TwoHeaps.{assumed_terms_are_below, differing_terms_may_be_assumed, equal_terms_may_be_assumed}
+use Rattle.sf_sym.specs.Checked.Laws.{AssumedTermsAreBelow, DifferingTermsMayBeAssumed, EqualTermsMayBeAssumed, Follows, KeptWith}
+use Rattle.sf_sym.specs.Checked.Lemmas.Adding.{adding-all, adding-holds}
+use Rattle.sf_sym.specs.Checked.Lemmas.AtomLists.{atoms-one_more}
+use Rattle.sf_sym.specs.Checked.Lemmas.Bindings.{operand-below, operand-is}
+use Rattle.sf_sym.specs.Checked.Lemmas.Formed.{formed-adding}
+use Rattle.sf_sym.specs.Checked.Lemmas.FreshGoals.{from_nil-below, from_nil-differs, more-below}
+use Rattle.sf_sym.specs.Checked.Lemmas.Keeping.{follows-equal, follows-trans, kept-one, same-below}
+use Rattle.sf_sym.specs.Checked.Lemmas.Restated.{restated-adding, restated-equal, restated-same}
+use Rattle.sf_sym.specs.Checked.Lemmas.TwoHeaps.{assumed_terms_are_below, differing_terms_may_be_assumed, equal_terms_may_be_assumed}
 use Rattle.sf_sym.specs.Pending.{Pending}
 use Rattle.sf_sym.specs.State.{State}
 

@@ -16,7 +16,7 @@ use Rattle.sf_core.specs.declared.assertion.Operand.{Operand}
 use Rattle.sf_core.specs.declared.assertion.Operand.TheVariants.{Known, Exists}
 use Rattle.sf_core.specs.Program.Syntax.{Conjuncts}
 use Rattle.sf_produce.specs.Add.{Met, MetBoth, MetFields, met, met_both, met_existential, met_fields}
-use Rattle.sf_produce.specs.Laws.{assuming}
+use Rattle.sf_produce.specs.Checked.Laws.{assuming}
 use Rattle.sf_sym.specs.Below.{AllPaired, AreBelow, IsBelow, SameBelow}
 use Rattle.sf_sym.specs.Decided.{term_of}
 use Rattle.sf_sym.specs.declared.term.Term.{Term}
@@ -26,13 +26,13 @@ use Rattle.sf_sym.specs.Formed.{AllFormed, AreFormed, IsCounted}
 use Rattle.sf_sym.specs.Goal.{Item, Goal}
 use Rattle.sf_sym.specs.Holds.{term_value, IsBound}
 use Rattle.sf_sym.specs.HoldsIn.{HoldsIn}
-use Rattle.sf_sym.specs.Laws.{Follows, HoldsStill}
-use Rattle.sf_sym.specs.Lemmas.Below.{atoms-weaker, below-more, below-symbol, below-value, items-weaker, paired-weaker, pairs-weaker, put-all, state-weaker}
-use Rattle.sf_sym.specs.Lemmas.Bindings.{operand-below, operand-is, set-all, set-here, set-keeps, set-length, set-which}
-use Rattle.sf_sym.specs.Lemmas.CellFields.{put-known}
-use Rattle.sf_sym.specs.Lemmas.FreshValues.{value-below, value-here, with_value}
-use Rattle.sf_sym.specs.Lemmas.Keeping.{follows-trans, same-below, still-same}
-use Rattle.sf_sym.specs.Lemmas.OtherValues.{Same, adds-other_values, atoms-other_values, pairs-other_values, vars-other_values}
+use Rattle.sf_sym.specs.Checked.Laws.{Follows, HoldsStill}
+use Rattle.sf_sym.specs.Checked.Lemmas.Below.{atoms-weaker, below-more, below-symbol, below-value, items-weaker, paired-weaker, pairs-weaker, put-all, state-weaker}
+use Rattle.sf_sym.specs.Checked.Lemmas.Bindings.{operand-below, operand-is, set-all, set-here, set-keeps, set-length, set-which}
+use Rattle.sf_sym.specs.Checked.Lemmas.CellFields.{put-known}
+use Rattle.sf_sym.specs.Checked.Lemmas.FreshValues.{value-below, value-here, with_value}
+use Rattle.sf_sym.specs.Checked.Lemmas.Keeping.{follows-trans, same-below, still-same}
+use Rattle.sf_sym.specs.Checked.Lemmas.OtherValues.{Same, adds-other_values, atoms-other_values, pairs-other_values, vars-other_values}
 use Rattle.sf_sym.specs.State.{State, with_symbols}
 
 -- one goal follows another, and holds still wherever that one holds

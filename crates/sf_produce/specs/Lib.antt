@@ -1,3 +1,2 @@
 pub mod Add
-pub mod Laws
-pub mod Internal
+pub mod Checked

@@ -2,7 +2,7 @@
 
 ghost use Rattle.std.specs.Prelude.{◌≡◌, ◌+◌, ◌<◌, ◌≤◌, ◌^◌, [], IfOk};
 ghost use Rattle.sf_produce.specs.Add.{met, met_both, met_fields};
-ghost use Rattle.sf_produce.specs.Internal.Meeting.{both_of, fields_of, met_of};
+ghost use Rattle.sf_produce.specs.Checked.Meeting.{both_of, fields_of, met_of};
 ghost use Rattle.sf_sym.specs.Pending.{existentials_in, one_if_existential};
 
 use sf_base::FieldId;

@@ -4,8 +4,8 @@ use Rattle.std.specs.List.{list_all, range_with_len}
 use Rattle.std.specs.Option.{option_and_then, option_map, option_zip}
 use Rattle.std.specs.Str.{bytes_eq}
 use Rattle.sf_base.specs.declared.ids.ProcId.{ProcId}
-use Rattle.sf_lines.specs.Lemmas.Tokens.{decimal-plain, name-plain}
-use Rattle.sf_lines.specs.Lemmas.Written.{IsPlain, all-append, is_inline, lines-before, plain-inline, words-before, words-plain}
+use Rattle.sf_lines.specs.Checked.Lemmas.Tokens.{decimal-plain, name-plain}
+use Rattle.sf_lines.specs.Checked.Lemmas.Written.{IsPlain, all-append, is_inline, lines-before, plain-inline, words-before, words-plain}
 use Rattle.sf_lines.specs.Lines.{lines, words}
 use Rattle.sf_core.specs.Program.Named.{name_of}
 use Rattle.sf_core.specs.Program.Syntax.{Program}
@@ -13,7 +13,7 @@ use Rattle.sf_sym.specs.declared.tag.Tag.{Tag}
 use Rattle.sf_sym.specs.declared.tag.Tag.TheVariants as t
 use Rattle.sf_sym.specs.declared.term.Term.{Term}
 use Rattle.sf_proof.specs.declared.entry.Entry.TheVariants.{Nothing, Says, Bad}
-use Rattle.sf_proof.specs.Laws.{AreWritable, IsFirstOfItsName, IsTermOfCode, IsWritable, WrittenTagsReadBack}
+use Rattle.sf_proof.specs.Checked.Laws.{AreWritable, IsFirstOfItsName, IsTermOfCode, IsWritable, WrittenTagsReadBack}
 use Rattle.sf_proof.specs.ProofText.{Text, atom_text, lines_of, procedure_text, proof_text, split_text, tag_text, term_text}
 use Rattle.sf_proof.specs.Reading.{entry, entry_after, entry_of, numbers_from, numbers_in, tags_from, tags_in}
 use Rattle.sf_proof.specs.Words.{natural_of, procedure_named, split_by, tag_alone, tag_of_procedure, tag_with, tag_with_atom, tag_with_two, term_of}

@@ -8,8 +8,8 @@ use Rattle.sf_core.specs.Program.Syntax.{Program}
 use Rattle.sf_proof.specs.declared.lined.Lined.{Lined}
 use Rattle.sf_proof.specs.declared.fault.ProofFault.{ProofFault}
 use Rattle.sf_proof.specs.declared.fault.ProofFault.TheVariants.{BadLine, TooLong, OutOfMemory}
-use Rattle.sf_proof.specs.Internal.Walk.{IsRead, reading}
-use Rattle.sf_proof.specs.Laws.{EachTextReadsOnce}
+use Rattle.sf_proof.specs.Checked.Walk.{IsRead, reading}
+use Rattle.sf_proof.specs.Checked.Laws.{EachTextReadsOnce}
 use Rattle.sf_proof.specs.ProofText.{Text}
 use Rattle.sf_proof.specs.Reading.{IsFault, IsFirstBadLine, IsLined}
 use Rattle.sf_proof.proofs.Walking.{reads_bad, reads_lined}

@@ -2,11 +2,11 @@
 use Rattle.std.proofs.Common.{◌≡◌, ◌<◌, ◌^◌, nat_lt, Some, None, refl, arith, decimal, ℕ, [], ◌∷◌}
 use Rattle.std.proofs.lemmas.Bool.Decides.{nat_tests}
 use Rattle.std.specs.Fmt.{signed_decimal}
-use Rattle.sf_lines.specs.Lemmas.Tokens.{BeginsOtherwise, decimal-back, decimal-plain, otherwise-apart, signed-back, signed-other, signed-plain}
-use Rattle.sf_lines.specs.Lemmas.Written.{IsPlain}
+use Rattle.sf_lines.specs.Checked.Lemmas.Tokens.{BeginsOtherwise, decimal-back, decimal-plain, otherwise-apart, signed-back, signed-other, signed-plain}
+use Rattle.sf_lines.specs.Checked.Lemmas.Written.{IsPlain}
 use Rattle.sf_sym.specs.declared.term.Term.{Term}
 use Rattle.sf_sym.specs.declared.term.Term.TheVariants.{Nil, Int, Sym}
-use Rattle.sf_proof.specs.Laws.{IsTermOfCode}
+use Rattle.sf_proof.specs.Checked.Laws.{IsTermOfCode}
 use Rattle.sf_proof.specs.ProofText.{Text, term_text}
 use Rattle.sf_proof.specs.Words.{natural_of, symbol_of, term_of}
 

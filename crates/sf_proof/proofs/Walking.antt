@@ -8,7 +8,7 @@ use Rattle.sf_proof.specs.declared.entry.Entry.TheVariants.{Nothing, Says, Bad}
 use Rattle.sf_proof.specs.declared.lined.Lined.{Lined}
 use Rattle.sf_proof.specs.ProofText.{Text}
 use Rattle.sf_proof.specs.Reading.{IsBadLine, IsFirstBadLine, IsLined, entry, numbers_from, tags_from}
-use Rattle.sf_proof.specs.Internal.Walk.{found_in, lined_before, read_after, read_on, reading}
+use Rattle.sf_proof.specs.Checked.Walk.{found_in, lined_before, read_after, read_on, reading}
 
 -- before what is before the rest
 pub read-after-after : (a b : Lined) (r : Result Lined ℕ) → read_after (lined_before a b) r

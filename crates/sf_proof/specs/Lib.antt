@@ -1,5 +1,4 @@
 pub mod ProofText
 pub mod Words
 pub mod Reading
-pub mod Laws
-pub mod Internal
+pub mod Checked

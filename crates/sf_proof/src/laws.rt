@@ -1,6 +1,6 @@
 //! Laws of a proof's text. Each function does nothing; its contract is the law.
 
-ghost use Rattle.sf_proof.specs.Laws.{EachTextReadsOnce, WrittenTagsReadBack};
+ghost use Rattle.sf_proof.specs.Checked.Laws.{EachTextReadsOnce, WrittenTagsReadBack};
 
 /// Each byte string reads in exactly one way: as tags on lines, with the first line that isn't in
 /// order, or as too long.

@@ -7,7 +7,7 @@ ghost use Rattle.sf_base.specs.Results.{Decides};
 ghost use Rattle.sf_base.specs.declared.limits.TheConstants.{PROOF_BYTES};
 ghost use Rattle.sf_lines.specs.Lines.{bytes_left, lines, lines_left};
 ghost use Rattle.sf_core.specs.Program.ProgramView.{program_of};
-ghost use Rattle.sf_proof.specs.Internal.Walk.{IsRead, reading};
+ghost use Rattle.sf_proof.specs.Checked.Walk.{IsRead, reading};
 ghost use Rattle.sf_proof.specs.Reading.{IsFault, IsLined};
 
 use crate::entry::Entry;
@@ -22,7 +22,7 @@ use std::alloc::Global;
 
 impl Lined {
     ghost use Rattle.std.specs.Prelude.{◌<◌};
-    ghost use Rattle.sf_proof.specs.Internal.Walk.{KeepsEntry};
+    ghost use Rattle.sf_proof.specs.Checked.Walk.{KeepsEntry};
 
     /// Keeps what is said on the line of that number.
     fn keep(&mut self, number: u32, entry: Entry) -> Result<(), ProofFault>

@@ -9,10 +9,10 @@ use Rattle.sf_base.specs.declared.value.Value.{Value}
 use Rattle.sf_base.specs.declared.value.Value.TheVariants.{Nil as nil, Loc as loc}
 use Rattle.sf_base.specs.HeapStore.{Cell, Heap, IsEmpty, IsOne, Splits}
 use Rattle.sf_proving_tests.specs.Subtraction.{one, EndMayBeInsideAJoinedList, FieldMayBeAnother, ListMayHaveACell, ListWithACellMayBeEmpty}
-use Rattle.sf_consume.specs.Laws.{alone, HandsOver}
+use Rattle.sf_consume.specs.Checked.Laws.{alone, HandsOver}
 use Rattle.sf_consume.specs.Subtract.{Want}
 use Rattle.sf_core.proofs.Assertions.Segments.{loc-same, nil-not_loc, seg-empty, seg-first, seg-one}
-use Rattle.sf_core.specs.Assertions.Examples.{tl}
+use Rattle.sf_core.specs.Checked.Assertions.Examples.{tl}
 use Rattle.sf_core.specs.Assertions.Sat.{Seg, end}
 use Rattle.sf_sym.specs.Cells.{handed}
 use Rattle.sf_sym.specs.declared.atom.Atom.{Atom}

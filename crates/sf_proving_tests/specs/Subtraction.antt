@@ -1,9 +1,9 @@
 -- Examples of subtraction: where a row refuses what is wanted, and that what it would leave is wrong.
 -- Berdine, Calcagno, O'Hearn, "Symbolic Execution with Separation Logic" (2005), section 5.
 use Rattle.std.specs.Prelude.{◌≡◌, List, [], ◌∷◌, Some, None}
-use Rattle.sf_consume.specs.Laws.{Subtracts}
+use Rattle.sf_consume.specs.Checked.Laws.{Subtracts}
 use Rattle.sf_consume.specs.Subtract.{Step, Want, cell_step, empty_step, head_step, join_step, removed, stepped}
-use Rattle.sf_core.specs.Assertions.Examples.{place, tl, l, r}
+use Rattle.sf_core.specs.Checked.Assertions.Examples.{place, tl, l, r}
 use Rattle.sf_core.specs.declared.assertion.Operand.TheVariants.{Known}
 use Rattle.sf_core.specs.Program.Syntax.{Conjunct, none, also, points, segment}
 use Rattle.sf_sym.specs.Cells.{handed}

@@ -3,4 +3,4 @@ pub mod Pieces
 pub mod Listed
 pub mod Wanted
 pub mod Failure
-pub mod Laws
+pub mod Checked

@@ -4,7 +4,7 @@ ghost use Rattle.std.specs.Prelude.{◌≡◌, ◌++◌, codes, false, IfOk, Lis
 ghost use Rattle.sf_base.specs.Results.{Appends};
 ghost use Rattle.sf_core.specs.Program.ProgramView.{program_of};
 ghost use Rattle.sf_sym.specs.Goal.{Item as Thing, goal_of, items_of, todo_of};
-ghost use Rattle.sf_sym.specs.Internal.Items.{is_nothing};
+ghost use Rattle.sf_sym.specs.Checked.Items.{is_nothing};
 ghost use Rattle.sf_report.specs.Failure.{failure_text, first_place, front_place, procedure_place, state_text, too_large_text, want_line, where_text};
 ghost use Rattle.sf_report.specs.Pieces.{line_text, numbered_text};
 ghost use Rattle.sf_report.specs.Wanted.{want_text};

@@ -14,18 +14,18 @@ use Rattle.sf_core.specs.declared.assertion.Test.TheVariants.{True, Equal, Diffe
 use Rattle.sf_core.specs.declared.command.Expr.{Expr}
 use Rattle.sf_core.specs.Program.Syntax.{Block, done, then, if}
 use Rattle.sf_rules.proofs.CommandLaws.{beside-none, executed-one}
-use Rattle.sf_rules.specs.LawsOfCommands.{before_command, Executed, IsTestKnown, ThenFollowsTest, ElseFollowsTest}
+use Rattle.sf_rules.specs.Checked.LawsOfCommands.{before_command, Executed, IsTestKnown, ThenFollowsTest, ElseFollowsTest}
 use Rattle.sf_sym.specs.Formed.{ItemFormed}
-use Rattle.sf_sym.specs.Lemmas.Decided.{decided-false, decided-true}
-use Rattle.sf_sym.specs.Lemmas.Formed.{formed-run}
-use Rattle.sf_sym.specs.Lemmas.KnownValues.{known-value}
+use Rattle.sf_sym.specs.Checked.Lemmas.Decided.{decided-false, decided-true}
+use Rattle.sf_sym.specs.Checked.Lemmas.Formed.{formed-run}
+use Rattle.sf_sym.specs.Checked.Lemmas.KnownValues.{known-value}
 use Rattle.sf_sym.specs.Below.{AllInItem, IsBelow}
 use Rattle.sf_sym.specs.Decided.{command_test, is_false, is_true}
 use Rattle.sf_sym.specs.declared.term.Term.{Term}
 use Rattle.sf_sym.specs.Goal.{Item, Goal, one_goal, to_run}
 use Rattle.sf_sym.specs.Holds.{term_value}
 use Rattle.sf_sym.specs.HoldsIn.{HoldsIn}
-use Rattle.sf_sym.specs.Laws.{Follows, HoldsStill}
+use Rattle.sf_sym.specs.Checked.Laws.{Follows, HoldsStill}
 use Rattle.sf_sym.specs.Ready.{BeginsWithNoAdd, IsKnown, IsReady, value_at}
 use Rattle.sf_sym.specs.State.{State, term}
 

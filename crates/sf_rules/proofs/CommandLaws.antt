@@ -17,15 +17,15 @@ use Rattle.sf_core.specs.declared.command.Expr.{Expr}
 use Rattle.sf_core.specs.declared.command.Occurrence.{Occurrence}
 use Rattle.sf_core.specs.Machine.Step.{Finds}
 use Rattle.sf_core.specs.Program.Syntax.{Command, assign, look_up, mutate, new, dispose}
-use Rattle.sf_rules.specs.LawsOfCommands.{Executed, FindsCell, before_command, heap_with, AssignFollowsEvent, LookFollowsEvent, MutateFollowsEvent, NewFollowsEvent, DisposeFollowsEvent}
+use Rattle.sf_rules.specs.Checked.LawsOfCommands.{Executed, FindsCell, before_command, heap_with, AssignFollowsEvent, LookFollowsEvent, MutateFollowsEvent, NewFollowsEvent, DisposeFollowsEvent}
 use Rattle.sf_rules.specs.Rows.Commands.{looked, with_var}
-use Rattle.sf_sym.specs.Lemmas.AtomLists.{at-all, at-cell, atoms-in_place, atoms-one_more, atoms-out, with_fields-all, without-all}
-use Rattle.sf_sym.specs.Lemmas.Below.{below-symbol, paired-weaker, pairs-weaker, put-all}
-use Rattle.sf_sym.specs.Lemmas.CellFields.{field-all, field-value, put-known, put-written}
-use Rattle.sf_sym.specs.Lemmas.FreshGoals.{agree, apart-stays, atoms-stay, later, later-apart, later-taken, later-todo, later-vars, later-atoms, more-below, others-stay, taken-stay, vars-stay}
-use Rattle.sf_sym.specs.Lemmas.FreshValues.{value-below, value-here, with_value}
-use Rattle.sf_sym.specs.Lemmas.KnownValues.{known-value, set-agrees, set-all, term-all}
-use Rattle.sf_sym.specs.Lemmas.OtherValues.{Same, fields-other_values, pairs-other_values}
+use Rattle.sf_sym.specs.Checked.Lemmas.AtomLists.{at-all, at-cell, atoms-in_place, atoms-one_more, atoms-out, with_fields-all, without-all}
+use Rattle.sf_sym.specs.Checked.Lemmas.Below.{below-symbol, paired-weaker, pairs-weaker, put-all}
+use Rattle.sf_sym.specs.Checked.Lemmas.CellFields.{field-all, field-value, put-known, put-written}
+use Rattle.sf_sym.specs.Checked.Lemmas.FreshGoals.{agree, apart-stays, atoms-stay, later, later-apart, later-taken, later-todo, later-vars, later-atoms, more-below, others-stay, taken-stay, vars-stay}
+use Rattle.sf_sym.specs.Checked.Lemmas.FreshValues.{value-below, value-here, with_value}
+use Rattle.sf_sym.specs.Checked.Lemmas.KnownValues.{known-value, set-agrees, set-all, term-all}
+use Rattle.sf_sym.specs.Checked.Lemmas.OtherValues.{Same, fields-other_values, pairs-other_values}
 use Rattle.sf_sym.specs.Below.{AllInAtom, AllInAtoms, AllPaired, AreBelow, IsBelow, SameBelow}
 use Rattle.sf_sym.specs.Cells.{atom_at, cell_at, with_cell, with_fields, without}
 use Rattle.sf_sym.specs.declared.atom.Atom.TheVariants.{Points}
@@ -36,7 +36,7 @@ use Rattle.sf_sym.specs.Fields.{AreOrdered, field_term, put_term}
 use Rattle.sf_sym.specs.Goal.{Item, run, add, take, gave, head, again, exit, return, end, Goal, one_goal}
 use Rattle.sf_sym.specs.Holds.{term_value, AtomsHold, AddsHold}
 use Rattle.sf_sym.specs.HoldsIn.{HoldsIn}
-use Rattle.sf_sym.specs.Laws.{Follows, HoldsStill}
+use Rattle.sf_sym.specs.Checked.Laws.{Follows, HoldsStill}
 use Rattle.sf_sym.specs.Ready.{AreInOrder, BeginsWithNoAdd, HasOrder, IsKnown, IsReady, value_at, with_variable}
 use Rattle.sf_sym.specs.State.{State, term, with_symbols}
 use Rattle.sf_sym.specs.Variables.{set_var}

@@ -11,7 +11,7 @@ use Rattle.sf_base.specs.declared.ids.Var.{Var}
 use Rattle.sf_base.specs.declared.place.Place.{Place}
 use Rattle.sf_base.specs.declared.value.Value.{Value}
 use Rattle.sf_base.specs.HeapStore.{Heap}
-use Rattle.sf_consume.specs.Laws.{BranchKeepsWants, Subtracts, SubtractionKeepsWants}
+use Rattle.sf_consume.specs.Checked.Laws.{BranchKeepsWants, Subtracts, SubtractionKeepsWants}
 use Rattle.sf_consume.specs.Subtract.{Want, new_symbols, removed, subtracted}
 use Rattle.sf_consume.specs.Wants.{IsFormed, still_wanted, wanting}
 use Rattle.sf_core.specs.Assertions.Sat.{Sat, SatOne}
@@ -20,9 +20,9 @@ use Rattle.sf_core.specs.declared.assertion.Operand.TheVariants.{Known}
 use Rattle.sf_core.specs.declared.assertion.Test.{Test}
 use Rattle.sf_core.specs.Program.Syntax.{holds, points, segment, tree, choose, Level, Conjuncts, none, also}
 use Rattle.sf_produce.specs.Add.{add_row, operands}
-use Rattle.sf_produce.specs.Laws.{AddKeepsGoals, HoldsAssumed, assuming}
-use Rattle.sf_rules.specs.Lemmas.{few-left}
-use Rattle.sf_rules.specs.LawsOfConjuncts.{AssumeKeepsGoals, AssumedBranchKeepsGoals, LeftToShow, ShownBranchLeavesRest, SubtractionLeavesRest, showing}
+use Rattle.sf_produce.specs.Checked.Laws.{AddKeepsGoals, HoldsAssumed, assuming}
+use Rattle.sf_rules.specs.Checked.Lemmas.{few-left}
+use Rattle.sf_rules.specs.Checked.LawsOfConjuncts.{AssumeKeepsGoals, AssumedBranchKeepsGoals, LeftToShow, ShownBranchLeavesRest, SubtractionLeavesRest, showing}
 use Rattle.sf_rules.specs.Rows.Branches.{chosen}
 use Rattle.sf_sym.specs.Below.{AllInPending, AreBelow, IsBelow}
 use Rattle.sf_sym.specs.Decided.{is_decided, test_of_terms}
@@ -31,15 +31,15 @@ use Rattle.sf_sym.specs.Formed.{AreFormed, ItemFormed}
 use Rattle.sf_sym.specs.Goal.{Item, Goal, adding, one_goal, taking}
 use Rattle.sf_sym.specs.Holds.{term_value, IsBound, PendingHolds}
 use Rattle.sf_sym.specs.HoldsIn.{HoldsIn}
-use Rattle.sf_sym.specs.Laws.{Follows, KeptWith}
-use Rattle.sf_sym.specs.Lemmas.Adding.{adding-all, adding-holds, taking-all}
-use Rattle.sf_sym.specs.Lemmas.Below.{below-more, items-weaker}
-use Rattle.sf_sym.specs.Lemmas.Bindings.{test-is}
-use Rattle.sf_sym.specs.Lemmas.Choices.{before-formed, before-occurs, branch-assumed, branch-formed, branch-occurs, scoped-branch}
-use Rattle.sf_sym.specs.Lemmas.Decided.{decided-false, decided-true}
-use Rattle.sf_sym.specs.Lemmas.Formed.{formed-adding, formed-taking}
-use Rattle.sf_sym.specs.Lemmas.Keeping.{kept-one}
-use Rattle.sf_sym.specs.Lemmas.Restated.{restated-same}
+use Rattle.sf_sym.specs.Checked.Laws.{Follows, KeptWith}
+use Rattle.sf_sym.specs.Checked.Lemmas.Adding.{adding-all, adding-holds, taking-all}
+use Rattle.sf_sym.specs.Checked.Lemmas.Below.{below-more, items-weaker}
+use Rattle.sf_sym.specs.Checked.Lemmas.Bindings.{test-is}
+use Rattle.sf_sym.specs.Checked.Lemmas.Choices.{before-formed, before-occurs, branch-assumed, branch-formed, branch-occurs, scoped-branch}
+use Rattle.sf_sym.specs.Checked.Lemmas.Decided.{decided-false, decided-true}
+use Rattle.sf_sym.specs.Checked.Lemmas.Formed.{formed-adding, formed-taking}
+use Rattle.sf_sym.specs.Checked.Lemmas.Keeping.{kept-one}
+use Rattle.sf_sym.specs.Checked.Lemmas.Restated.{restated-same}
 use Rattle.sf_sym.specs.Pending.{Pending, before, conjuncts_of}
 use Rattle.sf_sym.specs.State.{State}
 

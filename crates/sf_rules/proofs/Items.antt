@@ -8,7 +8,7 @@ use Rattle.sf_core.specs.Program.View.{assertion_of, block_of, command_of, block
 use Rattle.sf_sym.specs.declared.goal.Item.{Item as CodeItem}
 use Rattle.sf_sym.specs.declared.goal.Item.TheVariants.{Run, Return}
 use Rattle.sf_sym.specs.Goal.{to_run, run, return, todo_of}
-use Rattle.sf_sym.specs.Lemmas.{todo_of_push}
+use Rattle.sf_sym.specs.Checked.Lemmas.{todo_of_push}
 
 pub to_run_of : (cs : List CodeCommand)
     → to_run (block (map command_of cs)) ≡ map (λ c. run (command_of c)) cs

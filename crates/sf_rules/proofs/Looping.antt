@@ -21,7 +21,7 @@ use Rattle.sf_sym.specs.declared.goal.Item.{Item as CodeItem}
 use Rattle.sf_sym.specs.declared.goal.Item.TheVariants.{Again, Run}
 use Rattle.sf_sym.specs.declared.term.Term.{Term}
 use Rattle.sf_sym.specs.Goal.{Goal, Item, adding, again, end, head, items_of, return, run, taking, to_run, todo_of}
-use Rattle.sf_sym.specs.Lemmas.{todo_of_push}
+use Rattle.sf_sym.specs.Checked.Lemmas.{todo_of_push}
 use Rattle.sf_sym.specs.Pending.{Pending}
 use Rattle.sf_sym.specs.Ready.{is_listed}
 use Rattle.sf_sym.specs.State.{State, term}

@@ -11,8 +11,8 @@ use Rattle.sf_core.specs.declared.assertion.Test.{Test}
 use Rattle.sf_core.specs.declared.command.Expr.{Expr}
 use Rattle.sf_core.specs.Program.Syntax.{Assertion, Block, Command, assign, look_up, mutate, new, dispose, if, while, call, fork, with, Procedure}
 use Rattle.sf_rules.specs.Few.{has_numbers}
-use Rattle.sf_rules.specs.Lemmas.{few-left}
-use Rattle.sf_rules.specs.RowCases.{Rows, by_absurd, by_drop, by_force, by_split, by_unroll, by_assign, by_look, by_mutate, by_new, by_dispose, by_choice, by_loop, by_call, by_fork, by_enter, by_add, by_choice_assumed, by_step, by_choice_shown, by_give, by_around, by_again, by_exit, by_return, by_end, RowsHaveCases}
+use Rattle.sf_rules.specs.Checked.Lemmas.{few-left}
+use Rattle.sf_rules.specs.Checked.RowCases.{Rows, by_absurd, by_drop, by_force, by_split, by_unroll, by_assign, by_look, by_mutate, by_new, by_dispose, by_choice, by_loop, by_call, by_fork, by_enter, by_add, by_choice_assumed, by_step, by_choice_shown, by_give, by_around, by_again, by_exit, by_return, by_end, RowsHaveCases}
 use Rattle.sf_rules.specs.Rows.Branches.{branch_row}
 use Rattle.sf_rules.specs.Rows.Calls.{called, call_row, forked, fork_row, give_row}
 use Rattle.sf_rules.specs.Rows.Commands.{assign_row, look_row, mutate_row, new_row, dispose_row}

@@ -12,14 +12,14 @@ use Rattle.sf_base.specs.declared.ids.ResId.{ResId}
 use Rattle.sf_base.specs.declared.ids.Var.{Var}
 use Rattle.sf_base.specs.declared.ids.Var.TheVariants.{Own, Shared}
 use Rattle.sf_base.specs.declared.place.Place.{Place}
-use Rattle.sf_calls.specs.Laws.{SetsExist, SetsFromTruncation}
+use Rattle.sf_calls.specs.Checked.Laws.{SetsExist, SetsFromTruncation}
 use Rattle.sf_calls.specs.Sets.{AreSetsOf, IsEarlier, IsEarlierResource, IsFamily, IsSetOf, Sets}
 use Rattle.sf_core.specs.Assertions.Determined.{Determined}
 use Rattle.sf_core.specs.Program.Syntax.{Assertion, Program}
-use Rattle.sf_precise.specs.Laws.{DeterminedHasOrder, NeverTakenIsUndetermined, OrderingExists, UndeterminedHasPlace}
+use Rattle.sf_precise.specs.Checked.Laws.{DeterminedHasOrder, NeverTakenIsUndetermined, OrderingExists, UndeterminedHasPlace}
 use Rattle.sf_precise.specs.Order.{IsOrdering}
 use Rattle.sf_precise.specs.Taken.{NeverTakenAt}
-use Rattle.sf_rules.specs.LawsOfSettings.{ArrangedHasSetting, SettingExists, SettingIsUnique}
+use Rattle.sf_rules.specs.Checked.LawsOfSettings.{ArrangedHasSetting, SettingExists, SettingIsUnique}
 
 -- Lists in order with the same members are one
 module _ {A : Type 0} (Before : A → A → Type 0) (one_way : (x y : A) → Before x y → Before y x → ⊥) where

@@ -1,6 +1,6 @@
 -- The examples of rows: each computes.
 use Rattle.std.proofs.Common.{refl}
-use Rattle.sf_rules.specs.Examples.{SplitReplacesTheGreater, UnrolledListHasACell, JoinGoesOn, JoinNeedsItsEnd, GivenIsGone, LoopsGiveNoTerms, LoopsGoOnceAround, ForksLeaveFiveItems}
+use Rattle.sf_rules.specs.Checked.Examples.{SplitReplacesTheGreater, UnrolledListHasACell, JoinGoesOn, JoinNeedsItsEnd, GivenIsGone, LoopsGiveNoTerms, LoopsGoOnceAround, ForksLeaveFiveItems}
 
 pub split_replaces_the_greater : SplitReplacesTheGreater
 unfolding SplitReplacesTheGreater

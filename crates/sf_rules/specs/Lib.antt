@@ -1,13 +1,7 @@
-pub mod Internal
-pub mod Lemmas
 pub mod Few
 pub mod First
 pub mod Proving
 pub mod Setting
 pub mod Words
 pub mod Rows
-pub mod Examples
-pub mod LawsOfCommands
-pub mod LawsOfConjuncts
-pub mod RowCases
-pub mod LawsOfSettings
+pub mod Checked

@@ -7,7 +7,7 @@ ghost use Rattle.sf_calls.specs.Changes.{changed};
 ghost use Rattle.sf_core.specs.Program.Syntax.{Procedure};
 ghost use Rattle.sf_core.specs.Program.View.{assertion_of, call_of};
 ghost use Rattle.sf_precise.specs.Order.{IsOrdering};
-ghost use Rattle.sf_rules.specs.Internal.Children.{children_of};
+ghost use Rattle.sf_rules.specs.Checked.Children.{children_of};
 ghost use Rattle.sf_rules.specs.Rows.Calls.{call_row, called_with, fork_row, forked_with, give_row, term_after, term_before};
 ghost use Rattle.sf_rules.specs.Rows.Front.{at_command, at_gave};
 ghost use Rattle.sf_rules.specs.Setting.{Setting, setting_of};

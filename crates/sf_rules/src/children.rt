@@ -3,7 +3,7 @@
 ghost use Rattle.std.specs.Prelude.{◌≡◌, ◌∷◌, [], IfErr, IfOk, IsTrue, None, Some, cond};
 ghost use Rattle.std.specs.Option.{option_map};
 ghost use Rattle.sf_precise.specs.Order.{IsOrdering};
-ghost use Rattle.sf_rules.specs.Internal.Children.{children_of};
+ghost use Rattle.sf_rules.specs.Checked.Children.{children_of};
 ghost use Rattle.sf_rules.specs.Rows.Whole.{row, row_of};
 ghost use Rattle.sf_rules.specs.Setting.{Setting, setting_of};
 ghost use Rattle.sf_rules.specs.Few.{has_numbers};

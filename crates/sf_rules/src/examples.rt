@@ -1,6 +1,6 @@
 //! Examples of rows of the whole table. Each function does nothing; its contract is the result.
 
-ghost use Rattle.sf_rules.specs.Examples.{ForksLeaveFiveItems, GivenIsGone, JoinGoesOn, JoinNeedsItsEnd, LoopsGiveNoTerms, LoopsGoOnceAround, SplitReplacesTheGreater, UnrolledListHasACell};
+ghost use Rattle.sf_rules.specs.Checked.Examples.{ForksLeaveFiveItems, GivenIsGone, JoinGoesOn, JoinNeedsItsEnd, LoopsGiveNoTerms, LoopsGoOnceAround, SplitReplacesTheGreater, UnrolledListHasACell};
 
 /// Of two symbols that are split the greater goes, or they differ.
 #[tactic(auto, using(crate::proofs::SmallRows::split_replaces_the_greater))]

@@ -11,7 +11,7 @@ ghost use Rattle.sf_base.specs.declared.place.Place.{Place as PlaceOf};
 ghost use Rattle.sf_sym.specs.Goal.{Goal as GoalOf, Item as Thing, add, again, end, exit, gave, head, return, run, take, todo_of};
 ghost use Rattle.sf_sym.specs.Pending.{Pending as Conditions, pending_of};
 ghost use Rattle.sf_sym.specs.declared.term.Term.{Term as TermOf};
-ghost use Rattle.sf_rules.specs.Internal.Front.{thing_of};
+ghost use Rattle.sf_rules.specs.Checked.Front.{thing_of};
 ghost use Rattle.sf_rules.specs.Rows.Front.{at_add, at_again, at_command, at_end, at_exit, at_gave, at_head, at_return, at_take};
 
 use sf_base::{Name, Place, ResId, Var};

@@ -2,10 +2,10 @@
 //! what a goal stands for. Each function is a law: calling it gives its fact to the caller's proof,
 //! and does nothing.
 
-ghost use Rattle.sf_rules.specs.LawsOfSettings.{ArrangedHasSetting, SettingExists, SettingIsUnique};
-ghost use Rattle.sf_rules.specs.RowCases.{RowsHaveCases};
-ghost use Rattle.sf_rules.specs.LawsOfConjuncts.{AssumeKeepsGoals, AssumedBranchKeepsGoals, ShownBranchLeavesRest, SubtractionLeavesRest};
-ghost use Rattle.sf_rules.specs.LawsOfCommands.{AssignFollowsEvent, DisposeFollowsEvent, ElseFollowsTest, LookFollowsEvent, MutateFollowsEvent, NewFollowsEvent, ThenFollowsTest};
+ghost use Rattle.sf_rules.specs.Checked.LawsOfSettings.{ArrangedHasSetting, SettingExists, SettingIsUnique};
+ghost use Rattle.sf_rules.specs.Checked.RowCases.{RowsHaveCases};
+ghost use Rattle.sf_rules.specs.Checked.LawsOfConjuncts.{AssumeKeepsGoals, AssumedBranchKeepsGoals, ShownBranchLeavesRest, SubtractionLeavesRest};
+ghost use Rattle.sf_rules.specs.Checked.LawsOfCommands.{AssignFollowsEvent, DisposeFollowsEvent, ElseFollowsTest, LookFollowsEvent, MutateFollowsEvent, NewFollowsEvent, ThenFollowsTest};
 
 use sf_calls::laws::{sets_exist, sets_from_truncation};
 use sf_consume::laws::{branch_keeps_wants, subtraction_keeps_wants};

@@ -7,7 +7,7 @@ ghost use Rattle.sf_base.specs.Variables.{same_var};
 ghost use Rattle.sf_core.specs.declared.command.Expr.TheVariants.{Nil as ENil};
 ghost use Rattle.sf_core.specs.Program.View.{assertion_of, block_of};
 ghost use Rattle.sf_precise.specs.Order.{IsOrdering};
-ghost use Rattle.sf_rules.specs.Internal.Children.{children_of};
+ghost use Rattle.sf_rules.specs.Checked.Children.{children_of};
 ghost use Rattle.sf_rules.specs.Rows.Ends.{end_row, return_row};
 ghost use Rattle.sf_rules.specs.Rows.Front.{at_again, at_command, at_end, at_head, at_return};
 ghost use Rattle.sf_rules.specs.Rows.Loops.{after_loop, again_row, around_row, body_once, loop_row, unknown_in};

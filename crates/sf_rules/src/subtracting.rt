@@ -4,7 +4,7 @@ ghost use Rattle.std.specs.Prelude.{◌≡◌, ◌+◌, ◌≤◌, IfOk, IsTrue,
 ghost use Rattle.std.specs.Option.{option_map};
 ghost use Rattle.sf_consume.specs.Subtract.{new_symbols};
 ghost use Rattle.sf_produce.specs.Add.{operands};
-ghost use Rattle.sf_rules.specs.Internal.Children.{children_of};
+ghost use Rattle.sf_rules.specs.Checked.Children.{children_of};
 ghost use Rattle.sf_rules.specs.Rows.Add.{assume_row};
 ghost use Rattle.sf_rules.specs.Rows.Front.{at_add, at_take};
 ghost use Rattle.sf_rules.specs.Rows.Take.{subtract_row};

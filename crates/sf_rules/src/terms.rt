@@ -2,7 +2,7 @@
 
 ghost use Rattle.std.specs.Prelude.{◌≡◌, IfOk, None, map, replicate};
 ghost use Rattle.sf_core.specs.Program.View.{conjunct_of, conjuncts, level_of};
-ghost use Rattle.sf_rules.specs.Internal.Terms.{terms_of};
+ghost use Rattle.sf_rules.specs.Checked.Terms.{terms_of};
 ghost use Rattle.sf_sym.specs.Mapped.{conjunct_with, conjuncts_with, level_with, operand_with, test_with};
 ghost use Rattle.sf_sym.specs.State.{term, term_at};
 

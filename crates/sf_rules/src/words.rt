@@ -3,7 +3,7 @@
 
 ghost use Rattle.std.specs.Prelude.{◌≡◌, ◌++◌, [], IfOk};
 ghost use Rattle.sf_core.specs.Program.View.{assertion_of, call_of};
-ghost use Rattle.sf_rules.specs.Internal.Terms.{terms_of};
+ghost use Rattle.sf_rules.specs.Checked.Terms.{terms_of};
 ghost use Rattle.sf_rules.specs.Rows.Calls.{callee_term, own_term};
 ghost use Rattle.sf_rules.specs.Words.{pending_assertion, test_conjuncts, to_add, to_add_test, to_take};
 ghost use Rattle.sf_sym.specs.Goal.{todo_of};

@@ -1,6 +1,6 @@
 -- The laws of runs of one task, under the names of their functions in src/laws.rt.
 use Rattle.std.proofs.Common.{subst}
-use Rattle.sf_run.specs.Laws.{BasesAreFree, BeginningsAreStarts, EndsAreNumbered, EndsAreUnique, LoneTasksFindRegionsFree, LoneTasksProgress, NumberedRunsReach, OutcomesAreUnique, OutcomesExist, SequentialIsDecided, SequentialRunsAreLone, SpentRunsHaveUsedAll, StartsHaveOneOutcome, UnitsStayFree, WaitingRunsTryInVain}
+use Rattle.sf_run.specs.Checked.Laws.{BasesAreFree, BeginningsAreStarts, EndsAreNumbered, EndsAreUnique, LoneTasksFindRegionsFree, LoneTasksProgress, NumberedRunsReach, OutcomesAreUnique, OutcomesExist, SequentialIsDecided, SequentialRunsAreLone, SpentRunsHaveUsedAll, StartsHaveOneOutcome, UnitsStayFree, WaitingRunsTryInVain}
 use Rattle.sf_core.proofs.Machine.InOrder.Starts.{start-in_order, reach-keeps}
 use Rattle.sf_core.specs.Machine.Alone.{finished, spent, waiting, Alone}
 use Rattle.sf_core.specs.Machine.Config.{Config}
@@ -8,7 +8,7 @@ use Rattle.sf_core.specs.Machine.Supplies.{has, units}
 use Rattle.sf_core.specs.Program.Formed.{IsFormed}
 use Rattle.sf_core.specs.Program.Syntax.{Program}
 use Rattle.sf_calls.specs.FirstBreach.{Conditions}
-use Rattle.sf_calls.specs.Lemmas.Broken.{first_broken}
+use Rattle.sf_calls.specs.Checked.Lemmas.Broken.{first_broken}
 use Rattle.sf_calls.specs.declared.breach.Breach.TheVariants.{Reentered}
 use Rattle.sf_foot.specs.Starting.{store_of}
 use Rattle.sf_heap.specs.Cells.{heap_of}

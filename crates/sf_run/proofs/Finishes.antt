@@ -18,7 +18,7 @@ use Rattle.sf_foot.specs.declared.vars.Vars.{Vars}
 use Rattle.sf_foot.specs.Variables.{values_or_none}
 use Rattle.sf_heap.specs.Cells.{Cells}
 use Rattle.sf_machine.specs.Ending.{Ends}
-use Rattle.sf_run.specs.Laws.{EndsSame}
+use Rattle.sf_run.specs.Checked.Laws.{EndsSame}
 
 -- a place of a list has an element
 element-at : {A : Type 0} (xs : List A) (k : ℕ) → k < length xs → (x : A) × (slice_get xs k ≡ Some x)

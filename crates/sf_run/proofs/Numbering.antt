@@ -18,8 +18,8 @@ use Rattle.sf_core.specs.Machine.SpentWaits.{NoneBefore, SpentWaits}
 use Rattle.sf_core.specs.Machine.Step.{Event, TaskStep, procedure_at, Step}
 use Rattle.sf_core.specs.Machine.Supplies.{Supply, has, units, CommandTakes, NextTakes, Takes}
 use Rattle.sf_core.specs.Program.Syntax.{Command, assign, look_up, mutate, new, dispose, if, while, call, fork, with, Procedure, Program}
-use Rattle.sf_run.specs.Internal.Searches.{IsFork}
-use Rattle.sf_run.specs.Laws.{IsNumberedEnd}
+use Rattle.sf_run.specs.Checked.Searches.{IsFork}
+use Rattle.sf_run.specs.Checked.Laws.{IsNumberedEnd}
 use Rattle.sf_run.specs.Lone.{inside, IsOfBody, IsLoneFrame, IsLone}
 use Rattle.sf_run.specs.Sequential.{IsSequential}
 use Rattle.sf_run.proofs.Bodies.{site-here}

@@ -3,7 +3,7 @@
 use Rattle.std.specs.Prelude.{List, [], ◌∷◌, map, Contains}
 use Rattle.std.proofs.Common.{inl, inr, subst}
 use Rattle.sf_base.proofs.Elements.{contains-cons, contains-nil}
-use Rattle.sf_calls.specs.Laws.{ConditionsFromTruncation, SetsFromTruncation}
+use Rattle.sf_calls.specs.Checked.Laws.{ConditionsFromTruncation, SetsFromTruncation}
 use Rattle.sf_check.specs.Proven.{Proven}
 use Rattle.sf_core.specs.Assertions.Determined.{Determined}
 use Rattle.sf_core.specs.Program.ProgramView.{program_of}
@@ -11,7 +11,7 @@ use Rattle.sf_core.specs.Program.Syntax.{Assertion}
 use Rattle.sf_core.specs.Program.View.{assertion_of}
 use Rattle.sf_precise.specs.Annotations.{AreOrdersOf, annotations_in}
 use Rattle.sf_precise.specs.declared.arranged.Arranged.{Arranged}
-use Rattle.sf_precise.specs.Laws.{OrderedIsDetermined, OrdersFromTruncation}
+use Rattle.sf_precise.specs.Checked.Laws.{OrderedIsDetermined, OrdersFromTruncation}
 use Rattle.sf_rules.specs.Setting.{setting_of}
 use Rattle.sf_safe.specs.Law.{IsSound}
 use Rattle.sf_sound.specs.Proofs.{ProofsAreSound}

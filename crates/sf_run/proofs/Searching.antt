@@ -15,14 +15,14 @@ use Rattle.sf_core.specs.Program.View.{command_of}
 use Rattle.sf_core.specs.Program.Heads.{Site, sites, head_forks}
 use Rattle.sf_core.specs.Program.Syntax.{Call, Command, assign, look_up, mutate, new, dispose, if, while, call, fork, with, Procedure, Program}
 use Rattle.sf_calls.specs.Conditions.{Calls}
-use Rattle.sf_calls.specs.Internal.Tests.{callees_of, callees_in}
-use Rattle.sf_calls.specs.Internal.Visited.{IsVisited, VisitsMore}
-use Rattle.sf_calls.specs.Lemmas.Decided.{callees_in_are}
-use Rattle.sf_calls.specs.Lemmas.Searches.{visited_none, visited_both}
-use Rattle.sf_calls.specs.Lemmas.Within.{callees_within}
+use Rattle.sf_calls.specs.Checked.Tests.{callees_of, callees_in}
+use Rattle.sf_calls.specs.Checked.Visited.{IsVisited, VisitsMore}
+use Rattle.sf_calls.specs.Checked.Lemmas.Decided.{callees_in_are}
+use Rattle.sf_calls.specs.Checked.Lemmas.Searches.{visited_none, visited_both}
+use Rattle.sf_calls.specs.Checked.Lemmas.Within.{callees_within}
 use Rattle.sf_calls.specs.Reaches.{directly, through}
 use Rattle.sf_calls.specs.Outside.{CallsIn}
-use Rattle.sf_run.specs.Internal.Searches.{IsFork, HasFork, VisitsOrForks}
+use Rattle.sf_run.specs.Checked.Searches.{IsFork, HasFork, VisitsOrForks}
 use Rattle.sf_run.specs.Sequential.{ForksIn, Forks, ReachesFork, IsSequential}
 
 -- a parallel call has its two calls

@@ -7,9 +7,9 @@ use Rattle.std.proofs.lemmas.Option.{same_Some, none-some, slice_get_within}
 use Rattle.sf_base.proofs.Elements.{contains-cons, contains-nil}
 use Rattle.sf_base.specs.declared.ids.ProcId.{ProcId}
 use Rattle.sf_calls.specs.Conditions.{Calls, Has}
-use Rattle.sf_calls.specs.Lemmas.Decidable.{IsDecidable, decidable_both, decidable_like, decidable_some}
-use Rattle.sf_calls.specs.Lemmas.Paths.{decidable_reaches}
-use Rattle.sf_calls.specs.Lemmas.Searches.{proc}
+use Rattle.sf_calls.specs.Checked.Lemmas.Decidable.{IsDecidable, decidable_both, decidable_like, decidable_some}
+use Rattle.sf_calls.specs.Checked.Lemmas.Paths.{decidable_reaches}
+use Rattle.sf_calls.specs.Checked.Lemmas.Searches.{proc}
 use Rattle.sf_calls.specs.Outside.{CallsIn}
 use Rattle.sf_core.specs.Program.Heads.{head_calls, head_forks, sites}
 use Rattle.sf_core.specs.Program.Syntax.{Block, Call, Procedure, Program}

@@ -12,7 +12,7 @@ use Rattle.sf_calls.specs.FirstBreach.{Conditions}
 use Rattle.sf_core.specs.Machine.Alone.{Outcome, waiting, WaitsAlone, event_alone, AloneFrom}
 use Rattle.sf_core.specs.Machine.Config.{command, Task, Path, Config}
 use Rattle.sf_core.specs.Machine.Enabled.{HasEnded}
-use Rattle.sf_core.specs.Machine.Laws.{RunsCompose}
+use Rattle.sf_core.specs.Checked.Machine.Laws.{RunsCompose}
 use Rattle.sf_core.specs.Machine.Step.{Step, task_with}
 use Rattle.sf_core.specs.Machine.Supplies.{units}
 use Rattle.sf_core.specs.Program.Formed.{IsFormed}
@@ -27,10 +27,10 @@ use Rattle.sf_machine.specs.declared.event.Stepped.TheVariants.{Moved, Waiting}
 use Rattle.sf_machine.specs.Answers.{Answers, AnswersAreExclusive, RefusedEventsDoNotStep}
 use Rattle.sf_machine.specs.Beginning.{Begins}
 use Rattle.sf_machine.specs.Events.{event_of}
-use Rattle.sf_run.specs.Internal.Turns.{GoesOn, Halts, HaltsAtLast, IsAlone, IsBlank, IsTurn, outcome_of}
+use Rattle.sf_run.specs.Checked.Turns.{GoesOn, Halts, HaltsAtLast, IsAlone, IsBlank, IsTurn, outcome_of}
 use Rattle.sf_run.specs.declared.running.Halt.{Halt}
 use Rattle.sf_run.specs.declared.running.Halt.TheVariants.{Ended, Waiting as Waits}
-use Rattle.sf_run.specs.Laws.{LoneTasksProgress}
+use Rattle.sf_run.specs.Checked.Laws.{LoneTasksProgress}
 use Rattle.sf_run.specs.Lone.{IsFreeFrom}
 use Rattle.sf_run.specs.Sequential.{IsSequential}
 use Rattle.sf_run.proofs.Beginnings.{begin-base, begin-one}

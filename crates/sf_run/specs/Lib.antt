@@ -1,5 +1,4 @@
 pub mod Sequential
 pub mod Lone
-pub mod Laws
 pub mod Running
-pub mod Internal
+pub mod Checked

@@ -1,6 +1,6 @@
 //! Laws of runs of one task. Each function does nothing; its contract is the law.
 
-ghost use Rattle.sf_run.specs.Laws.{
+ghost use Rattle.sf_run.specs.Checked.Laws.{
   BasesAreFree,
   BeginningsAreStarts,
   EndsAreNumbered,

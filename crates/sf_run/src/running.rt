@@ -8,7 +8,7 @@ ghost use Rattle.sf_core.specs.Machine.Supplies.{units};
 ghost use Rattle.sf_core.specs.Program.ProgramView.{program_of};
 ghost use Rattle.sf_foot.specs.Starting.{StartsWith};
 ghost use Rattle.sf_machine.specs.Configs.{config_of};
-ghost use Rattle.sf_run.specs.Internal.Turns.{GoesOn, Halts, HaltsAtLast, IsAlone, IsBlank, outcome_of};
+ghost use Rattle.sf_run.specs.Checked.Turns.{GoesOn, Halts, HaltsAtLast, IsAlone, IsBlank, outcome_of};
 ghost use Rattle.sf_run.specs.Running.{EndsWith, Stops, program_in};
 ghost use Rattle.sf_run.specs.Sequential.{IsSequential};
 ghost use Rattle.sf_safe.specs.Law.{IsSound};

@@ -2,12 +2,12 @@
 
 ghost use Rattle.std.specs.Prelude.{◌≡◌, ◌↔◌, ◌<◌, [], ◌∷◌, length, map, Contains, None, IfOk, IsTrue, OnOk, false, replicate};
 ghost use Rattle.sf_base.specs.declared.ids.ProcId.{ProcId};
-ghost use Rattle.sf_calls.specs.Internal.Tests.{callees_of, callees_in};
-ghost use Rattle.sf_calls.specs.Internal.Visited.{VisitsMore};
+ghost use Rattle.sf_calls.specs.Checked.Tests.{callees_of, callees_in};
+ghost use Rattle.sf_calls.specs.Checked.Visited.{VisitsMore};
 ghost use Rattle.sf_core.specs.Program.ProgramView.{program_of};
 ghost use Rattle.sf_core.specs.Program.Sites.{site_of};
 ghost use Rattle.sf_core.specs.Program.View.{command_of};
-ghost use Rattle.sf_run.specs.Internal.Searches.{IsFork, VisitsOrForks, listed};
+ghost use Rattle.sf_run.specs.Checked.Searches.{IsFork, VisitsOrForks, listed};
 ghost use Rattle.sf_run.specs.Sequential.{IsSequential};
 
 use sf_base::ProcId;

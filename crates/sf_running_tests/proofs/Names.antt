@@ -2,13 +2,13 @@
 use Rattle.std.proofs.Common.{sym, subst}
 use Rattle.std.specs.List.{AllByRecursion}
 use Rattle.sf_core.specs.Program.Formed.{IsFormed}
-use Rattle.sf_elab.specs.Laws.{ElaboratedIsFormed, NamesAreUnique}
-use Rattle.sf_lex.specs.Laws.{EachTokenIsItsText}
-use Rattle.sf_state.specs.Laws.{WrittenStatesReadBack}
+use Rattle.sf_elab.specs.Checked.Laws.{ElaboratedIsFormed, NamesAreUnique}
+use Rattle.sf_lex.specs.Checked.Laws.{EachTokenIsItsText}
+use Rattle.sf_state.specs.Checked.Laws.{WrittenStatesReadBack}
 use Rattle.sf_running_tests.proofs.NamesInTrees.{items-named}
 use Rattle.sf_running_tests.proofs.NamesOfPrograms.{program-named}
 use Rattle.sf_running_tests.proofs.NamesOfTokens.{FitsName, leaves-fit}
-use Rattle.sf_running_tests.specs.Laws.{ProgramsThatAreReadHaveNames, WrittenStatesOfFilesReadBack}
+use Rattle.sf_running_tests.specs.Checked.Laws.{ProgramsThatAreReadHaveNames, WrittenStatesOfFilesReadBack}
 
 pub programs_that_are_read_have_names : EachTokenIsItsText → NamesAreUnique → ProgramsThatAreReadHaveNames
 unfolding ProgramsThatAreReadHaveNames

@@ -10,7 +10,7 @@ use Rattle.sf_core.specs.Program.Syntax.{Procedure, Program, Resource}
 use Rattle.sf_elab.specs.Bodies.Procedures.{is_primed, local_words, own_names, procedure_of}
 use Rattle.sf_elab.specs.declared.declared.Declared.{Declared}
 use Rattle.sf_elab.specs.Files.Elaborated.{Elaborates, resources_from}
-use Rattle.sf_elab.specs.Laws.{AreDistinct, NamesAreUnique}
+use Rattle.sf_elab.specs.Checked.Laws.{AreDistinct, NamesAreUnique}
 use Rattle.sf_elab.specs.Names.Declarations.{declared_by, field_names, field_words, procedures_in, references_of, resources_in, values_of}
 use Rattle.sf_elab.specs.Names.Texts.{text}
 use Rattle.sf_lex.specs.Whole.{is_name}

@@ -7,7 +7,7 @@ use Rattle.sf_elab.specs.Names.Texts.{text}
 use Rattle.sf_lex.specs.declared.token.Kind.{Kind}
 use Rattle.sf_lex.specs.declared.token.Kind.TheVariants as k
 use Rattle.sf_lex.specs.declared.token.Token.{Token}
-use Rattle.sf_lex.specs.Laws.{AreTheirTexts, IsItsText, text_at}
+use Rattle.sf_lex.specs.Checked.Laws.{AreTheirTexts, IsItsText, text_at}
 use Rattle.sf_lex.specs.Lexeme.{is_letter, is_number, is_some_of, is_word_byte, kind_of, symbol_kind, word_kind}
 use Rattle.sf_lex.specs.Piece.{is_long_word}
 use Rattle.sf_lex.specs.Whole.{is_name}

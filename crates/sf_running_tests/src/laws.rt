@@ -1,7 +1,7 @@
 //! Laws that join reading files with writing states. Each function only cites other laws; its
 //! contract is the law.
 
-ghost use Rattle.sf_running_tests.specs.Laws.{ProgramsThatAreReadHaveNames, WrittenStatesOfFilesReadBack};
+ghost use Rattle.sf_running_tests.specs.Checked.Laws.{ProgramsThatAreReadHaveNames, WrittenStatesOfFilesReadBack};
 
 use sf_elab::laws::{elaborated_is_formed, names_are_unique};
 use sf_lex::laws::each_token_is_its_text;

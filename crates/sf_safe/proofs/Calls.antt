@@ -10,10 +10,10 @@ use Rattle.sf_base.proofs.MapSplits.{splits-lacks_right}
 use Rattle.sf_core.specs.Machine.Config.{Item, command, in_room, Frame, Task, runs, Common}
 use Rattle.sf_core.specs.Machine.Step.{Event, Does, arguments, close_room, open_room, room_for}
 use Rattle.sf_core.specs.Program.Syntax.{Call, call, Procedure, Program}
-use Rattle.sf_safe.specs.Own.{Own, Parts, HasSlot, everything, new_slots, without_room}
-use Rattle.sf_safe.specs.Contract.{Known, Ended, OwnsVariables, Returned}
-use Rattle.sf_safe.specs.Safe.{Safe, callee}
-use Rattle.sf_safe.specs.Internal.Invariant.{known, Callers, Running, Tree, Resources}
+use Rattle.sf_safe.specs.Checked.Own.{Own, Parts, HasSlot, everything, new_slots, without_room}
+use Rattle.sf_safe.specs.Checked.Contract.{Known, Ended, OwnsVariables, Returned}
+use Rattle.sf_safe.specs.Checked.Safe.{Safe, callee}
+use Rattle.sf_safe.specs.Checked.Invariant.{known, Callers, Running, Tree, Resources}
 use Rattle.sf_safe.specs.Law.{BodiesAreSafe}
 use Rattle.sf_safe.proofs.Events.{After}
 use Rattle.sf_safe.proofs.Owns.{Sums, front, group, opened, order, parts-comm, parts-of_nothing, parts-open_room, parts-without_room, two}

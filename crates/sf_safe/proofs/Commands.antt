@@ -15,9 +15,9 @@ use Rattle.sf_core.specs.declared.command.Occurrence.{Occurrence}
 use Rattle.sf_core.specs.Machine.Config.{Item, command, Frame, Task, Common, evaluate}
 use Rattle.sf_core.specs.Machine.Step.{Event, Does, task_with, Chooses}
 use Rattle.sf_core.specs.Program.Syntax.{assign, look_up, mutate, new, dispose, Program}
-use Rattle.sf_safe.specs.Own.{Own, Parts, everything, put_cell, put_slot}
-use Rattle.sf_safe.specs.Contract.{Known, see}
-use Rattle.sf_safe.specs.Safe.{Safe, Branches}
+use Rattle.sf_safe.specs.Checked.Own.{Own, Parts, everything, put_cell, put_slot}
+use Rattle.sf_safe.specs.Checked.Contract.{Known, see}
+use Rattle.sf_safe.specs.Checked.Safe.{Safe, Branches}
 use Rattle.sf_safe.proofs.Owns.{parts-new_cell, parts-put_cell, parts-put_slot}
 use Rattle.sf_safe.proofs.Seen.{seen-cell, seen-test, seen-value}
 

@@ -4,10 +4,10 @@ use Rattle.std.specs.Prelude.{◌≡◌, ℕ, suc, List, [], ◌∷◌}
 use Rattle.std.proofs.Common.{sym, subst}
 use Rattle.sf_core.specs.Machine.Config.{Item, Frame, Task, Common}
 use Rattle.sf_core.specs.Program.Syntax.{Program}
-use Rattle.sf_safe.specs.Own.{Own, Parts, everything}
-use Rattle.sf_safe.specs.Contract.{Known}
-use Rattle.sf_safe.specs.Safe.{Safe}
-use Rattle.sf_safe.specs.Internal.Invariant.{known, Running, Tree, Resources}
+use Rattle.sf_safe.specs.Checked.Own.{Own, Parts, everything}
+use Rattle.sf_safe.specs.Checked.Contract.{Known}
+use Rattle.sf_safe.specs.Checked.Safe.{Safe}
+use Rattle.sf_safe.specs.Checked.Invariant.{known, Running, Tree, Resources}
 use Rattle.sf_safe.proofs.Commands.{Moved}
 use Rattle.sf_safe.proofs.Owns.{Sums, front, group, opened, two}
 use Rattle.sf_safe.proofs.Trees.{fewer-callers}

@@ -22,9 +22,9 @@ use Rattle.sf_calls.specs.Breaks.{Breaks, BreaksAt, IsAgain}
 use Rattle.sf_calls.specs.Conditions.{Free, FreeIn, Mentions}
 use Rattle.sf_calls.specs.FirstBreach.{Conditions}
 use Rattle.sf_calls.specs.Outside.{OccursOutside}
-use Rattle.sf_calls.specs.Lemmas.Sites.{at_one}
+use Rattle.sf_calls.specs.Checked.Lemmas.Sites.{at_one}
 use Rattle.sf_calls.specs.Reaches.{directly, through}
-use Rattle.sf_calls.specs.Lemmas.Broken.{first_broken}
+use Rattle.sf_calls.specs.Checked.Lemmas.Broken.{first_broken}
 use Rattle.sf_core.specs.Assertions.Occurs.{VarOccursIn}
 use Rattle.sf_core.specs.Assertions.Sat.{Sat}
 use Rattle.sf_core.specs.declared.command.Expr.TheVariants.{Int}
@@ -33,18 +33,18 @@ use Rattle.sf_core.specs.declared.assertion.Test.TheVariants.{True}
 use Rattle.sf_core.specs.declared.command.Occurrence.{Occurrence}
 use Rattle.sf_core.proofs.Assertions.Scopes.{below-single, disjoint-single}
 use Rattle.sf_core.specs.Machine.Config.{command, evaluate, in_room, items, leave}
-use Rattle.sf_core.specs.Machine.Examples.{at_shared, calls, emp, guarding, hd, here, lock, shared_one}
+use Rattle.sf_core.specs.Checked.Machine.Examples.{at_shared, calls, emp, guarding, hd, here, lock, shared_one}
 use Rattle.sf_core.specs.Machine.HeldBy.{HeldBy}
 use Rattle.sf_core.specs.Machine.Start.{entry_slot}
 use Rattle.sf_core.specs.Machine.Step.{arguments, index_of, room_for}
 use Rattle.sf_core.specs.Program.Heads.{Site, call_occurrences, sites}
 use Rattle.sf_core.specs.Program.Formed.{AssertionWithin, CallWithin, IsFormed, IsOfResource, IsParameter, ProcedureWithin}
 use Rattle.sf_core.specs.Program.Syntax.{Call, Command, done, fork, mutate, then, with, Procedure, Resource}
-use Rattle.sf_safe.specs.Own.{Own, Parts, new_slots, nothing, put_cell, without_room}
-use Rattle.sf_safe.specs.Contract.{Ended, Entered, FreeShare, IsVariableOf, Known, OwnsVariables, Returned, see}
-use Rattle.sf_safe.specs.Examples.{FillingTwiceIsSound, fills, filling_twice, twice}
+use Rattle.sf_safe.specs.Checked.Own.{Own, Parts, new_slots, nothing, put_cell, without_room}
+use Rattle.sf_safe.specs.Checked.Contract.{Ended, Entered, FreeShare, IsVariableOf, Known, OwnsVariables, Returned, see}
+use Rattle.sf_safe.specs.Checked.Examples.{FillingTwiceIsSound, fills, filling_twice, twice}
 use Rattle.sf_safe.specs.Law.{BodiesAreSafe, SafeProgramsAreSound}
-use Rattle.sf_safe.specs.Safe.{Enters, Forks, Safe, callee}
+use Rattle.sf_safe.specs.Checked.Safe.{Enters, Forks, Safe, callee}
 use Rattle.sf_safe.proofs.Owns.{own-same, parts-comm, parts-nothing, parts-of_nothing, parts-put_cell}
 use Rattle.sf_safe.proofs.Sound.{safe_programs_are_sound}
 

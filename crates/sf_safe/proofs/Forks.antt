@@ -7,10 +7,10 @@ use Rattle.sf_base.specs.HeapStore.{Slot}
 use Rattle.sf_core.specs.Machine.Config.{Item, command, in_room, Frame, Task, runs, waits, Common, IsOver}
 use Rattle.sf_core.specs.Machine.Step.{Event, Does, arguments, open_room, room_for, room_count}
 use Rattle.sf_core.specs.Program.Syntax.{Call, fork, Procedure, Program}
-use Rattle.sf_safe.specs.Own.{Own, Parts, everything, new_slots, nothing}
-use Rattle.sf_safe.specs.Safe.{Safe, callee}
-use Rattle.sf_safe.specs.Contract.{Known}
-use Rattle.sf_safe.specs.Internal.Invariant.{known, Running, Tree, Resources}
+use Rattle.sf_safe.specs.Checked.Own.{Own, Parts, everything, new_slots, nothing}
+use Rattle.sf_safe.specs.Checked.Safe.{Safe, callee}
+use Rattle.sf_safe.specs.Checked.Contract.{Known}
+use Rattle.sf_safe.specs.Checked.Invariant.{known, Running, Tree, Resources}
 use Rattle.sf_safe.specs.Law.{BodiesAreSafe}
 use Rattle.sf_safe.proofs.Events.{After}
 use Rattle.sf_safe.proofs.Owns.{Sums, front, opened, order, parts-comm, parts-nothing, parts-open_room, two}

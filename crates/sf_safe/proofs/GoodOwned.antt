@@ -16,11 +16,11 @@ use Rattle.sf_base.specs.HeapStore.{Heap, IsEmpty, Slot, Splits}
 use Rattle.sf_base.proofs.MapSplits.{empty-holds, splits-assoc_right, splits-comm, splits-cross, splits-empty_right, splits-has_left}
 use Rattle.sf_base.proofs.StoreSplits.{resource-same}
 use Rattle.sf_calls.specs.Reaches.{directly}
-use Rattle.sf_calls.specs.Lemmas.Within.{level_within}
+use Rattle.sf_calls.specs.Checked.Lemmas.Within.{level_within}
 use Rattle.sf_core.specs.declared.command.Expr.{Expr}
 use Rattle.sf_core.specs.Assertions.Occurs.{VarOccursIn}
 use Rattle.sf_core.specs.Assertions.Sat.{Sat}
-use Rattle.sf_core.specs.Internal.GoodParts.{EndsWell, FramePart, InvariantPart, InvariantParts, RestPart, TaskParts}
+use Rattle.sf_core.specs.Checked.GoodParts.{EndsWell, FramePart, InvariantPart, InvariantParts, RestPart, TaskParts}
 use Rattle.sf_core.specs.Machine.Config.{Item, Frame, Task, runs, waits, Path, Common, Config, evaluate}
 use Rattle.sf_core.specs.Machine.Enabled.{HasEnded}
 use Rattle.sf_core.specs.Machine.Good.{Good}
@@ -30,10 +30,10 @@ use Rattle.sf_core.specs.Program.Formed.{IsFormed, IsOfResource, IsParameter}
 use Rattle.sf_core.specs.Program.Syntax.{Level, Procedure, Program, Resource}
 use Rattle.sf_core.proofs.Assertions.Sat.{sat-same_variables}
 use Rattle.sf_core.proofs.Machine.GoodParts.{good-by_parts}
-use Rattle.sf_safe.specs.Own.{Own, Parts, HasSlot, everything}
-use Rattle.sf_safe.specs.Contract.{Known, Ended, FreeShare, IsVariableOf}
-use Rattle.sf_safe.specs.Safe.{Safe}
-use Rattle.sf_safe.specs.Internal.Invariant.{known, HasFrame, IsOwned, Resources, ShareOf, Tree}
+use Rattle.sf_safe.specs.Checked.Own.{Own, Parts, HasSlot, everything}
+use Rattle.sf_safe.specs.Checked.Contract.{Known, Ended, FreeShare, IsVariableOf}
+use Rattle.sf_safe.specs.Checked.Safe.{Safe}
+use Rattle.sf_safe.specs.Checked.Invariant.{known, HasFrame, IsOwned, Resources, ShareOf, Tree}
 use Rattle.sf_safe.proofs.NeverBad.{never-bad}
 use Rattle.sf_safe.proofs.Owns.{opened, order, parts-comm, parts-of_nothing, parts-right, two}
 

@@ -12,10 +12,10 @@ use Rattle.sf_core.specs.Machine.Next.{frame_next}
 use Rattle.sf_core.specs.Machine.Reach.{Reach}
 use Rattle.sf_core.specs.Machine.Step.{Event, Goes, TaskStep, Step, arguments, open_room, room_for, room_count, index_of}
 use Rattle.sf_core.specs.Program.Syntax.{assign, look_up, mutate, new, dispose, if, while, call, fork, with, Procedure, Program}
-use Rattle.sf_safe.specs.Own.{Own, Parts, everything}
-use Rattle.sf_safe.specs.Contract.{Known}
-use Rattle.sf_safe.specs.Safe.{Safe}
-use Rattle.sf_safe.specs.Internal.Invariant.{known, Tree, Resources, HasFrame, IsMadeBefore, IsOwned}
+use Rattle.sf_safe.specs.Checked.Own.{Own, Parts, everything}
+use Rattle.sf_safe.specs.Checked.Contract.{Known}
+use Rattle.sf_safe.specs.Checked.Safe.{Safe}
+use Rattle.sf_safe.specs.Checked.Invariant.{known, Tree, Resources, HasFrame, IsMadeBefore, IsOwned}
 use Rattle.sf_safe.specs.Law.{BodiesAreSafe}
 use Rattle.sf_safe.proofs.Calls.{called, returned}
 use Rattle.sf_safe.proofs.Commands.{assigned, disposed, looked_up, made, mutated, tested, Moved}

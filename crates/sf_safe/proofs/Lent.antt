@@ -19,7 +19,7 @@ use Rattle.sf_calls.specs.Assigned.{MayChange}
 use Rattle.sf_calls.specs.Conditions.{Free}
 use Rattle.sf_calls.specs.Outside.{IsAmong}
 use Rattle.sf_calls.specs.Reaches.{directly}
-use Rattle.sf_calls.specs.Lemmas.Within.{level_within}
+use Rattle.sf_calls.specs.Checked.Lemmas.Within.{level_within}
 use Rattle.sf_core.specs.declared.command.Occurrence.{Occurrence}
 use Rattle.sf_core.specs.Assertions.Occurs.{VarOccursIn}
 use Rattle.sf_core.specs.Assertions.Sat.{Sat, value}
@@ -28,10 +28,10 @@ use Rattle.sf_core.specs.Machine.Step.{arguments, own_slot, procedure_at, room_c
 use Rattle.sf_core.specs.Program.Formed.{IsFormed, IsParameter}
 use Rattle.sf_core.specs.Program.Syntax.{Call, Procedure, Program}
 use Rattle.sf_core.proofs.Assertions.Sat.{sat-same_variables}
-use Rattle.sf_safe.specs.Own.{HasSlot, Own, Parts, new_slots}
-use Rattle.sf_safe.specs.Contract.{Ended, Entered, IsVariableOf, Known, Returned, see, value_of}
-use Rattle.sf_safe.specs.Local.{ComesBack, Fits, HasJustVars, Local, callee_value, own_value, value_in}
-use Rattle.sf_safe.specs.Safe.{callee}
+use Rattle.sf_safe.specs.Checked.Own.{HasSlot, Own, Parts, new_slots}
+use Rattle.sf_safe.specs.Checked.Contract.{Ended, Entered, IsVariableOf, Known, Returned, see, value_of}
+use Rattle.sf_safe.specs.Checked.Local.{ComesBack, Fits, HasJustVars, Local, callee_value, own_value, value_in}
+use Rattle.sf_safe.specs.Checked.Safe.{callee}
 use Rattle.sf_safe.proofs.Calls.{room-index}
 use Rattle.sf_safe.proofs.Views.{IsSeen}
 

@@ -12,7 +12,7 @@ use Rattle.sf_base.specs.declared.value.Value.{Value}
 use Rattle.sf_base.specs.declared.value.Value.TheVariants.{Nil as nil, Loc as loc}
 use Rattle.sf_base.specs.HeapStore.{Slot, put_field, shared}
 use Rattle.sf_base.proofs.MapSplits.{splits-has_left, splits-has_right}
-use Rattle.sf_calls.specs.Lemmas.Within.{level_within}
+use Rattle.sf_calls.specs.Checked.Lemmas.Within.{level_within}
 use Rattle.sf_core.specs.declared.command.Expr.{Expr}
 use Rattle.sf_core.specs.Assertions.Sat.{Sat}
 use Rattle.sf_core.specs.Machine.Config.{Item, command, evaluate, items, leave}
@@ -21,12 +21,12 @@ use Rattle.sf_core.specs.Machine.Step.{procedure_at, room_count}
 use Rattle.sf_core.specs.Program.Formed.{IsFormed, IsOfResource}
 use Rattle.sf_core.specs.Program.Syntax.{assign, look_up, mutate, new, dispose, if, while, call, fork, with, Procedure, Program}
 use Rattle.sf_core.proofs.Assertions.Sat.{sat-same_variables}
-use Rattle.sf_safe.specs.Own.{HasSlot, Own, put_cell, put_slot}
-use Rattle.sf_safe.specs.Contract.{Ended, FreeShare, IsFrameOf, IsVariableOf, Known, OwnsVariables, see, value_of}
-use Rattle.sf_safe.specs.Local.{Begins, ComesBack, Ends, HasVar, IsShare, Lends, Local, LocalParts, look, put_local, put_variable, value_in}
-use Rattle.sf_safe.specs.LocalSafe.{BodiesAreLocallySafe, HasCell, LocalSafe, LocallySafeProgramsAreSound}
+use Rattle.sf_safe.specs.Checked.Own.{HasSlot, Own, put_cell, put_slot}
+use Rattle.sf_safe.specs.Checked.Contract.{Ended, FreeShare, IsFrameOf, IsVariableOf, Known, OwnsVariables, see, value_of}
+use Rattle.sf_safe.specs.Checked.Local.{Begins, ComesBack, Ends, HasVar, IsShare, Lends, Local, LocalParts, look, put_local, put_variable, value_in}
+use Rattle.sf_safe.specs.Checked.LocalSafe.{BodiesAreLocallySafe, HasCell, LocalSafe, LocallySafeProgramsAreSound}
 use Rattle.sf_safe.specs.Law.{BodiesAreSafe, SafeProgramsAreSound}
-use Rattle.sf_safe.specs.Safe.{OwnsCell, Safe}
+use Rattle.sf_safe.specs.Checked.Safe.{OwnsCell, Safe}
 use Rattle.sf_safe.proofs.GoodOwned.{post-variable}
 use Rattle.sf_safe.proofs.Lent.{back-seen, back_view, begun-entered, comes-back, pre-variable}
 use Rattle.sf_safe.proofs.Sound.{safe_programs_are_sound}

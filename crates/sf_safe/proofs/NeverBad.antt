@@ -19,10 +19,10 @@ use Rattle.sf_core.specs.Machine.Config.{Item, command, leave, Frame, Task, runs
 use Rattle.sf_core.specs.Machine.Enabled.{IsBlocked, IsCellAt, IsInRoom, Reads, ReadsAll, ReadsExpr, ReadsTest, Thing, Writes, cell, variable}
 use Rattle.sf_core.specs.Machine.Next.{frame_next, next}
 use Rattle.sf_core.specs.Program.Syntax.{assign, look_up, mutate, new, dispose, if, while, call, fork, with, Program}
-use Rattle.sf_safe.specs.Own.{Own, Parts, HasAll, HasExpr, HasSlot, HasTest, everything}
-use Rattle.sf_safe.specs.Contract.{Known}
-use Rattle.sf_safe.specs.Safe.{Safe, OwnsCell}
-use Rattle.sf_safe.specs.Internal.Invariant.{known, IsOwned, Resources, Running, Tree}
+use Rattle.sf_safe.specs.Checked.Own.{Own, Parts, HasAll, HasExpr, HasSlot, HasTest, everything}
+use Rattle.sf_safe.specs.Checked.Contract.{Known}
+use Rattle.sf_safe.specs.Checked.Safe.{Safe, OwnsCell}
+use Rattle.sf_safe.specs.Checked.Invariant.{known, IsOwned, Resources, Running, Tree}
 use Rattle.sf_safe.proofs.Calls.{owned-room}
 use Rattle.sf_safe.proofs.Owns.{Sums, group, opened, order, parts-comm, single, two}
 use Rattle.sf_safe.proofs.Regions.{resources-take}

@@ -12,7 +12,7 @@ use Rattle.sf_base.proofs.HeapSums.{Splitting, Cut, Sums as SumsOf, ordered, sum
 use Rattle.sf_core.specs.Machine.Config.{Room, in_room, Common}
 use Rattle.sf_core.specs.Machine.Step.{open_room, index_of}
 use Rattle.sf_core.specs.Program.Syntax.{Program}
-use Rattle.sf_safe.specs.Own.{Own, Parts, HasSlot, everything, new_slots, nothing, put_cell, put_slot, without_room}
+use Rattle.sf_safe.specs.Checked.Own.{Own, Parts, HasSlot, everything, new_slots, nothing, put_cell, put_slot, without_room}
 
 -- what is owned is the same where its cells, slots and tokens are
 pub own-same : (one two : Own) → one.cells ≡ two.cells → one.slots ≡ two.slots → one.tokens ≡ two.tokens

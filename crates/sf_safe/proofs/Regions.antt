@@ -11,10 +11,10 @@ use Rattle.sf_core.specs.declared.command.Expr.{Expr}
 use Rattle.sf_core.specs.Machine.Config.{Item, command, leave, Frame, Task, Path, Common}
 use Rattle.sf_core.specs.Machine.Step.{Event, Does, set_holder, task_with}
 use Rattle.sf_core.specs.Program.Syntax.{Block, with, Program, Resource}
-use Rattle.sf_safe.specs.Own.{Own, Parts, everything, nothing}
-use Rattle.sf_safe.specs.Contract.{Known, FreeShare}
-use Rattle.sf_safe.specs.Safe.{Safe}
-use Rattle.sf_safe.specs.Internal.Invariant.{known, Running, Tree, ShareOf, Resources}
+use Rattle.sf_safe.specs.Checked.Own.{Own, Parts, everything, nothing}
+use Rattle.sf_safe.specs.Checked.Contract.{Known, FreeShare}
+use Rattle.sf_safe.specs.Checked.Safe.{Safe}
+use Rattle.sf_safe.specs.Checked.Invariant.{known, Running, Tree, ShareOf, Resources}
 use Rattle.sf_safe.proofs.Events.{After}
 use Rattle.sf_safe.proofs.Owns.{Sums, opened, order, parts-comm, parts-nothing, parts-of_nothing, parts-right, two}
 use Rattle.sf_safe.proofs.Seen.{seen-test}

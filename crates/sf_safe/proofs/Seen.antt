@@ -16,7 +16,7 @@ use Rattle.sf_core.specs.Assertions.Sat.{IsTrueOf}
 use Rattle.sf_core.specs.Machine.Config.{evaluate}
 use Rattle.sf_core.specs.Machine.Step.{arguments, Finds}
 use Rattle.sf_core.specs.Program.Syntax.{Call}
-use Rattle.sf_safe.specs.Own.{Own, Parts, HasAll, HasExpr, HasTest}
+use Rattle.sf_safe.specs.Checked.Own.{Own, Parts, HasAll, HasExpr, HasTest}
 
 module _ (slots : Var → Slot) (w u r : Own) (p : Parts w u r) where
   -- an expression has one value

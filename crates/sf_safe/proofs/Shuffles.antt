@@ -1,7 +1,7 @@
 -- The regroupings of the parts of a whole that events make, over plain variables.
 -- Names: after-EVENT, with the parts as they are after it.
 use Rattle.std.specs.Prelude.{[], ◌∷◌}
-use Rattle.sf_safe.specs.Own.{Own, Parts}
+use Rattle.sf_safe.specs.Checked.Own.{Own, Parts}
 use Rattle.sf_safe.proofs.Owns.{Sums, group, order}
 
 -- after a call: new slots m, what the callee is given u, what its caller keeps v, the lower frames' q

@@ -16,7 +16,7 @@ use Rattle.sf_base.specs.HeapStore.{Apart, Heap, IsEmpty, Slot, Splits, Store, o
 use Rattle.sf_base.proofs.MapSplits.{empty-is, map-same, only}
 use Rattle.sf_calls.specs.Conditions.{Free}
 use Rattle.sf_calls.specs.FirstBreach.{Conditions}
-use Rattle.sf_calls.specs.Lemmas.Within.{level_within}
+use Rattle.sf_calls.specs.Checked.Lemmas.Within.{level_within}
 use Rattle.sf_core.specs.Assertions.Occurs.{VarOccursIn}
 use Rattle.sf_core.specs.Assertions.Sat.{Sat}
 use Rattle.sf_core.specs.Machine.Config.{Config, evaluate}
@@ -24,9 +24,9 @@ use Rattle.sf_core.specs.Machine.Start.{Invariants, Start, entry_frame, entry_sl
 use Rattle.sf_core.specs.Program.Formed.{IsFormed, IsOfResource}
 use Rattle.sf_core.specs.Program.Syntax.{Procedure, Program, Resource}
 use Rattle.sf_core.proofs.Assertions.Sat.{sat-same_variables}
-use Rattle.sf_safe.specs.Own.{Own, Parts, everything, nothing}
-use Rattle.sf_safe.specs.Contract.{Known, Entered, FreeShare, IsFrameOf, IsVariableOf}
-use Rattle.sf_safe.specs.Internal.Invariant.{IsMadeBefore, IsOwned, Resources}
+use Rattle.sf_safe.specs.Checked.Own.{Own, Parts, everything, nothing}
+use Rattle.sf_safe.specs.Checked.Contract.{Known, Entered, FreeShare, IsFrameOf, IsVariableOf}
+use Rattle.sf_safe.specs.Checked.Invariant.{IsMadeBefore, IsOwned, Resources}
 use Rattle.sf_safe.specs.Law.{BodiesAreSafe}
 use Rattle.sf_safe.proofs.Owns.{own-same, parts-nothing}
 use Rattle.sf_safe.proofs.Unheld.{unheld-is_not_free}

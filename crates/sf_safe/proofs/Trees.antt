@@ -6,10 +6,10 @@ use Rattle.std.proofs.lemmas.Option.{same_Some}
 use Rattle.sf_base.specs.declared.path.Turn.TheVariants.{Left as left, Right as right}
 use Rattle.sf_core.specs.Machine.Config.{Item, command, leave, items, Frame, Task, runs, waits, Path, task_at, put_task}
 use Rattle.sf_core.specs.Program.Syntax.{assign, look_up, mutate, new, dispose, if, while, call, fork, with, Program}
-use Rattle.sf_safe.specs.Own.{Own, Parts, nothing}
-use Rattle.sf_safe.specs.Contract.{Known}
-use Rattle.sf_safe.specs.Safe.{Safe}
-use Rattle.sf_safe.specs.Internal.Invariant.{known, Callers, Running, Waiting, Tree}
+use Rattle.sf_safe.specs.Checked.Own.{Own, Parts, nothing}
+use Rattle.sf_safe.specs.Checked.Contract.{Known}
+use Rattle.sf_safe.specs.Checked.Safe.{Safe}
+use Rattle.sf_safe.specs.Checked.Invariant.{known, Callers, Running, Waiting, Tree}
 use Rattle.sf_safe.proofs.Owns.{and, parts-comm, parts-left, parts-nothing, parts-of_nothing, parts-right}
 
 module _ (p : Program) where

@@ -22,8 +22,8 @@ use Rattle.sf_calls.specs.Conditions.{Free, FreeIn}
 use Rattle.sf_calls.specs.FirstBreach.{Conditions}
 use Rattle.sf_calls.specs.Outside.{CallsIn, OccursOutside}
 use Rattle.sf_calls.specs.Reaches.{directly, through}
-use Rattle.sf_calls.specs.Lemmas.Broken.{first_broken}
-use Rattle.sf_calls.specs.Lemmas.Sites.{among_at}
+use Rattle.sf_calls.specs.Checked.Lemmas.Broken.{first_broken}
+use Rattle.sf_calls.specs.Checked.Lemmas.Sites.{among_at}
 
 -- what occurs at a command occurs in it itself, or in one of its calls
 occurs-at : (c : Command) (y : Occurrence) → Contains (occurrences_at c) y → OccursAt y c

@@ -20,8 +20,8 @@ use Rattle.sf_core.specs.Assertions.Sat.{IsTrueOf}
 use Rattle.sf_core.specs.Machine.Config.{evaluate}
 use Rattle.sf_core.specs.Machine.Step.{arguments}
 use Rattle.sf_core.specs.Program.Syntax.{Call}
-use Rattle.sf_safe.specs.Own.{HasAll, HasExpr, HasTest, Own, Parts, put_cell, put_slot}
-use Rattle.sf_safe.specs.Local.{HasIn, HasInAll, HasInTest, HasVar, Local, LocalParts, arguments_in, look, put_local, put_variable}
+use Rattle.sf_safe.specs.Checked.Own.{HasAll, HasExpr, HasTest, Own, Parts, put_cell, put_slot}
+use Rattle.sf_safe.specs.Checked.Local.{HasIn, HasInAll, HasInTest, HasVar, Local, LocalParts, arguments_in, look, put_local, put_variable}
 
 -- the share has just the slots of the variables that are seen, with their values, and the same cells and tokens;
 -- different variables that are seen have different slots

@@ -16,16 +16,16 @@ use Rattle.sf_base.proofs.StoreSplits.{slot-same}
 use Rattle.sf_calls.specs.Conditions.{Calls, Free, FreeIn, Mentions}
 use Rattle.sf_calls.specs.Reaches.{directly, through}
 use Rattle.sf_calls.specs.Outside.{CallsIn, OccursOutside}
-use Rattle.sf_calls.specs.Lemmas.Sites.{at_one}
+use Rattle.sf_calls.specs.Checked.Lemmas.Sites.{at_one}
 use Rattle.sf_core.specs.Assertions.Occurs.{VarOccursIn}
 use Rattle.sf_core.specs.Assertions.Sat.{Sat}
-use Rattle.sf_core.specs.Machine.Examples.{emp, one_in}
+use Rattle.sf_core.specs.Checked.Machine.Examples.{emp, one_in}
 use Rattle.sf_core.specs.Machine.Start.{entry_frame, entry_slot}
 use Rattle.sf_core.specs.Program.Heads.{sites}
 use Rattle.sf_core.specs.Program.Syntax.{Procedure}
-use Rattle.sf_safe.specs.Own.{HasSlot, Own}
-use Rattle.sf_safe.specs.Contract.{Entered, IsVariableOf, Known, see}
-use Rattle.sf_safe.specs.Examples.{WritingIsNotSafe, writes, writing}
+use Rattle.sf_safe.specs.Checked.Own.{HasSlot, Own}
+use Rattle.sf_safe.specs.Checked.Contract.{Entered, IsVariableOf, Known, see}
+use Rattle.sf_safe.specs.Checked.Examples.{WritingIsNotSafe, writes, writing}
 
 abbrev first : ProcId
 first = record { 0 = 0 }

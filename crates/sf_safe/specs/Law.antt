@@ -11,9 +11,9 @@ use Rattle.sf_core.specs.Machine.Start.{Start}
 use Rattle.sf_core.specs.Machine.Step.{Event, procedure_at}
 use Rattle.sf_core.specs.Program.Formed.{IsFormed}
 use Rattle.sf_core.specs.Program.Syntax.{Procedure, Program}
-use Rattle.sf_safe.specs.Own.{Own}
-use Rattle.sf_safe.specs.Contract.{Known, Entered}
-use Rattle.sf_safe.specs.Safe.{Safe}
+use Rattle.sf_safe.specs.Checked.Own.{Own}
+use Rattle.sf_safe.specs.Checked.Contract.{Known, Entered}
+use Rattle.sf_safe.specs.Checked.Safe.{Safe}
 
 -- each procedure's body is safe for every number of events, from whatever its frame may begin with
 abbrev pub BodiesAreSafe : Program → Type 0

@@ -1,10 +1,2 @@
-pub mod Own
-pub mod Contract
-pub mod Safe
 pub mod Law
-pub mod Examples
-pub mod Internal
-pub mod Local
-pub mod LocalSafe
-pub mod Lemmas
-pub mod Unbroken
+pub mod Checked

@@ -1,6 +1,6 @@
 //! Examples of safety, each the contract of a function that does nothing.
 
-ghost use Rattle.sf_safe.specs.Examples.{FillingTwiceIsSound, WritingIsNotSafe};
+ghost use Rattle.sf_safe.specs.Checked.Examples.{FillingTwiceIsSound, WritingIsNotSafe};
 
 /// A body that writes a cell which its precondition doesn't give it isn't safe for one event.
 #[tactic(auto, using(crate::proofs::Writing::writing_is_not_safe))]

@@ -3,7 +3,7 @@
 //! nothing.
 
 ghost use Rattle.sf_safe.specs.Law.{SafeProgramsAreSound};
-ghost use Rattle.sf_safe.specs.LocalSafe.{LocallySafeProgramsAreSound};
+ghost use Rattle.sf_safe.specs.Checked.LocalSafe.{LocallySafeProgramsAreSound};
 
 /// A program that is formed, meets the conditions on variables, and whose bodies are safe for every
 /// number of events from whatever satisfies their preconditions is sound: whatever procedure it

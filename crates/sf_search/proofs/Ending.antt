@@ -9,7 +9,7 @@ use Rattle.sf_rules.specs.Setting.{Setting}
 use Rattle.sf_search.specs.Strategy.{Choice, chooses, stays, takes}
 use Rattle.sf_rules.specs.First.{first_goal}
 use Rattle.sf_search.specs.Judge.{Chosen, JudgeFrom, Outcome, Search, Verdict, WithinLimit, fails, large, no_row, proof, proved, stuck, stuck_at, too_large, with_prefix, without_row}
-use Rattle.sf_search.specs.Laws.{ProgramsHaveVerdicts, SearchExists}
+use Rattle.sf_search.specs.Checked.Laws.{ProgramsHaveVerdicts, SearchExists}
 use Rattle.sf_sym.specs.declared.tag.Tag.{Tag}
 use Rattle.sf_sym.specs.declared.tag.Tag.TheVariants.{Procedure as Begin}
 use Rattle.sf_sym.specs.Goal.{Goal}

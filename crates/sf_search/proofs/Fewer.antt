@@ -10,7 +10,7 @@ use Rattle.std.proofs.Math.Bool.{and-or_distrib_right}
 use Rattle.sf_base.proofs.Bools.{or-left_comm, and-right_comm, or-or_comm}
 use Rattle.sf_base.specs.declared.ids.FieldId.{FieldId}
 use Rattle.sf_search.proofs.Settled.{bare, settled-same, stripped}
-use Rattle.sf_search.specs.Internal.Settled.{IsSettled}
+use Rattle.sf_search.specs.Checked.Settled.{IsSettled}
 use Rattle.sf_search.specs.Strategy.{forced_ends, lower, lowest, lowest_forced, which}
 use Rattle.sf_sym.specs.Cells.{atom_at, cell_at, fields_at, without}
 use Rattle.sf_sym.specs.declared.atom.Atom.{Atom}
@@ -19,7 +19,7 @@ use Rattle.sf_sym.specs.declared.atom.Numbered.{Numbered}
 use Rattle.sf_sym.specs.declared.term.Term.{Term}
 use Rattle.sf_sym.specs.declared.term.Term.TheVariants.{Nil}
 use Rattle.sf_sym.specs.Known.{is_nothing}
-use Rattle.sf_sym.specs.Lemmas.{points_at, same_term_is}
+use Rattle.sf_sym.specs.Checked.Lemmas.{points_at, same_term_is}
 use Rattle.sf_sym.specs.State.{State}
 use Rattle.sf_sym.specs.Tests.{allocated, allocates, has_cell, has_repeat, is_absurd, is_constant, is_impossible, is_left_out, parts, root, same_term}
 

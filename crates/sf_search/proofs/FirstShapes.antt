@@ -15,7 +15,7 @@ use Rattle.sf_base.specs.declared.ids.ProcId.{ProcId}
 use Rattle.sf_base.specs.declared.ids.ResId.{ResId}
 use Rattle.sf_base.specs.declared.ids.Var.{Var}
 use Rattle.sf_base.specs.declared.limits.TheConstants.{RESOURCES, RESOURCE_VARIABLES}
-use Rattle.sf_calls.specs.Laws.{HeldResourcesAreThere}
+use Rattle.sf_calls.specs.Checked.Laws.{HeldResourcesAreThere}
 use Rattle.sf_calls.specs.Sets.{AreSetsOf, IsEarlierResource}
 use Rattle.sf_core.specs.Program.Formed.{IsFormed}
 use Rattle.sf_core.specs.Program.Syntax.{Procedure, Resource}
@@ -32,7 +32,7 @@ use Rattle.sf_search.specs.Shaped.{BlockFits, IsShaped}
 use Rattle.sf_sym.specs.Below.{AllPaired, IsBelow}
 use Rattle.sf_sym.specs.declared.term.Term.{Term}
 use Rattle.sf_sym.specs.Goal.{return, to_run}
-use Rattle.sf_sym.specs.Lemmas.Below.{below-symbol}
+use Rattle.sf_sym.specs.Checked.Lemmas.Below.{below-symbol}
 use Rattle.sf_sym.specs.State.{first_state, term}
 
 -- RESOURCES THAT ARE HELD, by their numbers

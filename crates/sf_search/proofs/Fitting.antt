@@ -26,7 +26,7 @@ use Rattle.sf_sym.specs.Below.{AllInItem, AllInPending}
 use Rattle.sf_sym.specs.declared.term.Term.{Term}
 use Rattle.sf_sym.specs.Equalities.{item_with}
 use Rattle.sf_sym.specs.Goal.{Item, run, add, take, gave, head, again, exit, return, end, adding, taking, to_run, unless_none}
-use Rattle.sf_sym.specs.Lemmas.OtherTerms.{occurs-with}
+use Rattle.sf_sym.specs.Checked.Lemmas.OtherTerms.{occurs-with}
 use Rattle.sf_sym.specs.Mapped.{conjunct_with, conjuncts_with, level_with, operand_with}
 use Rattle.sf_sym.specs.Pending.{Pending, before, conjuncts_of}
 

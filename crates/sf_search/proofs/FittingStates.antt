@@ -18,9 +18,9 @@ use Rattle.sf_sym.specs.declared.atom.Atom.TheVariants.{Points, Ls, Tree}
 use Rattle.sf_sym.specs.declared.atom.Numbered.{Numbered}
 use Rattle.sf_sym.specs.declared.term.Term.{Term}
 use Rattle.sf_sym.specs.Equalities.{atom_with, numbered_with, state_with}
-use Rattle.sf_sym.specs.Lemmas.AtomLists.{with_fields-all, without-all}
-use Rattle.sf_sym.specs.Lemmas.Below.{below-more, state-weaker}
-use Rattle.sf_sym.specs.Lemmas.FreshGoals.{from_nil-below, more-below}
+use Rattle.sf_sym.specs.Checked.Lemmas.AtomLists.{with_fields-all, without-all}
+use Rattle.sf_sym.specs.Checked.Lemmas.Below.{below-more, state-weaker}
+use Rattle.sf_sym.specs.Checked.Lemmas.FreshGoals.{from_nil-below, more-below}
 use Rattle.sf_sym.specs.Numbers.{AreRising, numbers}
 use Rattle.sf_sym.specs.State.{State, with_symbols}
 

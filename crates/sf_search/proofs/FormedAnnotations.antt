@@ -23,7 +23,7 @@ use Rattle.sf_core.specs.declared.fields.Links.{Links}
 use Rattle.sf_core.specs.Program.Formed.{ConjunctWithin, ConjunctsWithin, FieldsWithin, LevelWithin, OperandWithin}
 use Rattle.sf_core.specs.Program.Links.{left_name, next_name, right_name}
 use Rattle.sf_core.specs.Program.Syntax.{Assertion, Conjunct, holds, points, segment, tree, choose, Conjuncts, none, also, Level, level, Program}
-use Rattle.sf_precise.specs.Laws.{DeterminedHasOrder, NeverTakenIsUndetermined, UndeterminedHasPlace}
+use Rattle.sf_precise.specs.Checked.Laws.{DeterminedHasOrder, NeverTakenIsUndetermined, UndeterminedHasPlace}
 use Rattle.sf_precise.specs.Order.{IsFirstReady, IsOrder, IsOrderFrom, IsOrderInside, IsOrderWithin, IsOrdering}
 use Rattle.sf_rules.specs.First.{links_of, number_of}
 use Rattle.sf_rules.specs.Setting.{Setting}

@@ -18,9 +18,9 @@ use Rattle.sf_base.specs.Variables.{same_var}
 use Rattle.sf_calls.specs.Assigned.{Assigned, MayChange}
 use Rattle.sf_calls.specs.Changes.{changed, changes_in, free_in}
 use Rattle.sf_calls.specs.Conditions.{Free, FreeIn}
-use Rattle.sf_calls.specs.Laws.{ChangesAreAssigned}
-use Rattle.sf_calls.specs.Lemmas.Sites.{among_at}
-use Rattle.sf_calls.specs.Lemmas.Within.{block_within, level_within}
+use Rattle.sf_calls.specs.Checked.Laws.{ChangesAreAssigned}
+use Rattle.sf_calls.specs.Checked.Lemmas.Sites.{among_at}
+use Rattle.sf_calls.specs.Checked.Lemmas.Within.{block_within, level_within}
 use Rattle.sf_calls.specs.Reaches.{directly, through}
 use Rattle.sf_calls.specs.Sets.{AreSetsOf}
 use Rattle.sf_core.proofs.HeadsWithin.{calls-within, settable-readable, sites-within}

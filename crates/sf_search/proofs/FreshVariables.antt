@@ -16,8 +16,8 @@ use Rattle.sf_rules.specs.Rows.Calls.{callee_term, own_term, term_after, term_be
 use Rattle.sf_rules.specs.Rows.Regions.{variables_from}
 use Rattle.sf_sym.specs.Below.{AllPaired, IsBelow}
 use Rattle.sf_sym.specs.declared.term.Term.{Term}
-use Rattle.sf_sym.specs.Lemmas.Below.{below-symbol}
-use Rattle.sf_sym.specs.Lemmas.KnownValues.{set-all, term-all}
+use Rattle.sf_sym.specs.Checked.Lemmas.Below.{below-symbol}
+use Rattle.sf_sym.specs.Checked.Lemmas.KnownValues.{set-all, term-all}
 use Rattle.sf_sym.specs.State.{State, term, term_at}
 use Rattle.sf_sym.specs.Variables.{fresh_for, remove_var, remove_vars, set_var, set_vars}
 

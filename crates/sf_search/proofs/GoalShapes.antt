@@ -7,21 +7,21 @@ use Rattle.std.proofs.lemmas.Bool.{le-leb}
 use Rattle.sf_base.proofs.Elements.{all_by-append, contains-cons, contains-nil}
 use Rattle.sf_base.specs.declared.ids.ProcId.{ProcId}
 use Rattle.sf_base.specs.declared.limits.TheConstants.{FIELDS}
-use Rattle.sf_calls.specs.Laws.{ChangesAreAssigned, ConditionsFromTruncation, FirstBreachIsBroken, HeldResourcesAreThere}
+use Rattle.sf_calls.specs.Checked.Laws.{ChangesAreAssigned, ConditionsFromTruncation, FirstBreachIsBroken, HeldResourcesAreThere}
 use Rattle.sf_calls.specs.declared.breach.Breach.TheVariants.{ParallelShares}
 use Rattle.sf_core.specs.Program.Formed.{IsFormed, IsInBody}
 use Rattle.sf_core.specs.Program.Heads.{sites}
 use Rattle.sf_core.specs.Program.ProgramView.{program_of}
 use Rattle.sf_core.specs.Program.Syntax.{Assertion, Procedure, Command, assign, look_up, mutate, new, dispose, if, while, call, fork, with, holds, points, segment, tree, choose, Conjuncts, none, also}
 use Rattle.sf_consume.specs.Subtract.{new_symbols}
-use Rattle.sf_precise.specs.Laws.{DeterminedHasOrder, NeverTakenIsUndetermined, UndeterminedHasPlace}
+use Rattle.sf_precise.specs.Checked.Laws.{DeterminedHasOrder, NeverTakenIsUndetermined, UndeterminedHasPlace}
 use Rattle.sf_rules.specs.declared.few.TheConstants.{TOO_MANY}
 use Rattle.sf_rules.specs.First.{first_goal, links_of}
 use Rattle.sf_produce.specs.Add.{operands}
 use Rattle.sf_rules.specs.Few.{has_numbers}
-use Rattle.sf_rules.specs.RowCases.{RowsHaveCases}
+use Rattle.sf_rules.specs.Checked.RowCases.{RowsHaveCases}
 use Rattle.sf_rules.specs.Rows.Whole.{row}
-use Rattle.sf_rules.specs.LawsOfSettings.{ArrangedHasSetting}
+use Rattle.sf_rules.specs.Checked.LawsOfSettings.{ArrangedHasSetting}
 use Rattle.sf_rules.specs.Setting.{Setting, setting_of}
 use Rattle.sf_search.proofs.FirstShapes.{first-shaped, first-symbols}
 use Rattle.sf_search.proofs.FormedAnnotations.{annotation-fits, level-fits_of}
@@ -31,10 +31,10 @@ use Rattle.sf_search.proofs.ShapedAdds.{few-existentials, few-one}
 use Rattle.sf_search.proofs.ShapedGoals.{AllKeep, Keeps}
 use Rattle.sf_search.proofs.ShapedRows.{ProgramFits, rows-keep}
 use Rattle.sf_search.specs.Judge.{Continues, JudgeFrom, Outcome, Search, Verdict, fails, large, no_row, proof, proved, stuck, with_prefix, without_row}
-use Rattle.sf_search.specs.Laws.{GoalsWithoutRowLackShape, LeadsTo}
+use Rattle.sf_search.specs.Checked.Laws.{GoalsWithoutRowLackShape, LeadsTo}
 use Rattle.sf_search.specs.Shape.{CommandFits, FrontFits, HasLinks, HasShape}
 use Rattle.sf_search.specs.Shaped.{AnnotationFits, BlockFits, ConjunctsFit, IsGoalAfter, IsShaped, LevelFits, TodoFits, WholeFits}
-use Rattle.sf_search.specs.ShapeLaws.{ArrangedHasRows, ArrangedIsSetUp, GoalsAreShaped, GoalsHaveShape, IsGrown, IsSetUp, SearchesHaveRows, VerdictsHaveRows}
+use Rattle.sf_search.specs.Checked.ShapeLaws.{ArrangedHasRows, ArrangedIsSetUp, GoalsAreShaped, GoalsHaveShape, IsGrown, IsSetUp, SearchesHaveRows, VerdictsHaveRows}
 use Rattle.sf_sym.specs.declared.atom.Numbered.{Numbered}
 use Rattle.sf_sym.specs.Goal.{Item, run, add, take, gave, head, again, exit, return, end, Goal}
 use Rattle.sf_sym.specs.declared.tag.Tag.{Tag}

@@ -17,7 +17,7 @@ use Rattle.sf_core.specs.Program.Syntax.{new, Conjunct, holds, points, segment, 
 use Rattle.sf_normal.specs.Knowledge.{unroll_one, unroll_row, unrolled}
 use Rattle.sf_produce.specs.Add.{added, add_first, goal_after, met, met_both, met_existential, met_fields}
 use Rattle.sf_rules.specs.Few.{has_numbers}
-use Rattle.sf_rules.specs.Lemmas.{few-left}
+use Rattle.sf_rules.specs.Checked.Lemmas.{few-left}
 use Rattle.sf_rules.specs.Rows.Add.{assume_row}
 use Rattle.sf_rules.specs.Rows.Commands.{new_row, with_var}
 use Rattle.sf_rules.specs.Rows.Front.{at_add, at_command}
@@ -30,8 +30,8 @@ use Rattle.sf_search.proofs.Settled.{dropped_possible, settled-by}
 use Rattle.sf_search.proofs.Sole.{Numbers, unrolled-unused}
 use Rattle.sf_search.proofs.StillKnown.{known-stays, roots-without}
 use Rattle.sf_search.specs.declared.choices.growth.Size.{Size}
-use Rattle.sf_search.specs.Internal.Growth.{IsFirstKnown, IsKnown, IsOpenedFree, came_bare, grown_bare, grown_roots, grows_settled, has_no_cells, has_settled_growth, is_settled_growth, known_end, leaves_bare, leaves_roots, leaves_settled, roots_came, staying}
-use Rattle.sf_search.specs.Internal.Settled.{IsFirstPossible, IsFirstSettled, IsSettled, keeps_settled, leaves_possible}
+use Rattle.sf_search.specs.Checked.Growth.{IsFirstKnown, IsKnown, IsOpenedFree, came_bare, grown_bare, grown_roots, grows_settled, has_no_cells, has_settled_growth, is_settled_growth, known_end, leaves_bare, leaves_roots, leaves_settled, roots_came, staying}
+use Rattle.sf_search.specs.Checked.Settled.{IsFirstPossible, IsFirstSettled, IsSettled, keeps_settled, leaves_possible}
 use Rattle.sf_search.specs.Strategy.{chooses, takes}
 use Rattle.sf_sym.specs.Cells.{atom_at, apart_from_nil, with_atom, with_cell, without}
 use Rattle.sf_sym.specs.declared.atom.Atom.{Atom}

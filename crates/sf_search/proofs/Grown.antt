@@ -15,8 +15,8 @@ use Rattle.sf_search.proofs.Fewer.{any-moved, lower-none, or-still, repeat-last,
 use Rattle.sf_search.proofs.Lowest.{lowest_append}
 use Rattle.sf_search.proofs.Settled.{forced-stripped, settled-same, stripped}
 use Rattle.sf_search.specs.declared.choices.growth.Size.{Size}
-use Rattle.sf_search.specs.Internal.Growth.{BeginBelow, IsKnown, IsOpenedFree, RootsBelow, are_alone, came_bare, end_of, has_no_cells, has_points, has_settled_growth, is_alone, is_bare, is_clear, is_free, is_free_before, is_free_pair, is_opened, is_points, is_settled_growth, is_symbol_below, is_uncovered, is_unused, known_end, next_end, roots_came}
-use Rattle.sf_search.specs.Internal.Settled.{IsSettled}
+use Rattle.sf_search.specs.Checked.Growth.{BeginBelow, IsKnown, IsOpenedFree, RootsBelow, are_alone, came_bare, end_of, has_no_cells, has_points, has_settled_growth, is_alone, is_bare, is_clear, is_free, is_free_before, is_free_pair, is_opened, is_points, is_settled_growth, is_symbol_below, is_uncovered, is_unused, known_end, next_end, roots_came}
+use Rattle.sf_search.specs.Checked.Settled.{IsSettled}
 use Rattle.sf_search.specs.Strategy.{forced_ends, lower, lowest_forced, which}
 use Rattle.sf_sym.specs.declared.atom.Atom.{Atom}
 use Rattle.sf_sym.specs.declared.atom.Atom.TheVariants.{Points, Ls, Tree}
@@ -24,7 +24,7 @@ use Rattle.sf_sym.specs.declared.atom.Numbered.{Numbered}
 use Rattle.sf_sym.specs.declared.term.Term.{Term}
 use Rattle.sf_sym.specs.declared.term.Term.TheVariants.{Nil, Int, Sym}
 use Rattle.sf_sym.specs.Known.{is_nothing}
-use Rattle.sf_sym.specs.Lemmas.{same_term_is}
+use Rattle.sf_sym.specs.Checked.Lemmas.{same_term_is}
 use Rattle.sf_sym.specs.State.{State}
 use Rattle.sf_sym.specs.Tests.{allocated, allocates, differs_at_once, has_cell, has_repeat, is_constant, is_impossible, is_integer_tree, is_left_out, is_pair, parts, root, same_term}
 

@@ -10,7 +10,7 @@ use Rattle.sf_precise.specs.declared.arranged.Arranged.{Arranged}
 use Rattle.sf_rules.specs.Setting.{Setting, setting_of}
 use Rattle.sf_search.specs.declared.verdicts.SearchFault.{SearchFault}
 use Rattle.sf_search.specs.declared.verdicts.SearchFault.TheVariants.{Stuck, TooLarge, NoRow, OutOfMemory}
-use Rattle.sf_search.specs.Internal.Choosing.{kind_of}
+use Rattle.sf_search.specs.Checked.Choosing.{kind_of}
 use Rattle.sf_search.specs.Strategy.{Kind}
 use Rattle.sf_search.specs.Ends.{EndsAs, FailsAs, FailsFor, cause_of, failure}
 use Rattle.sf_rules.specs.First.{first_goal}

@@ -13,7 +13,7 @@ use Rattle.sf_consume.specs.Subtract.{apart_step, bind_step, binding, both, cell
 use Rattle.sf_consume.specs.declared.wanted.WantedList.{WantedList}
 use Rattle.sf_consume.specs.Wants.{wanting}
 use Rattle.sf_core.specs.Program.Syntax.{Command, assign, look_up, mutate, dispose, if, while, call, fork, with, Conjunct, Conjuncts, none, also, Procedure}
-use Rattle.sf_rules.specs.Lemmas.{few-left}
+use Rattle.sf_rules.specs.Checked.Lemmas.{few-left}
 use Rattle.sf_rules.specs.Rows.Branches.{branch_row, chosen}
 use Rattle.sf_rules.specs.Rows.Calls.{called, call_row, forked, fork_row, give_row}
 use Rattle.sf_rules.specs.Rows.Commands.{assign_row, dispose_row, looked, look_row, mutate_row, with_var}
@@ -27,7 +27,7 @@ use Rattle.sf_rules.specs.Setting.{Setting}
 use Rattle.sf_rules.specs.Few.{has_numbers}
 use Rattle.sf_search.proofs.Fewer.{all-fewer, cell-atom, Fewer, fewer_settled, handed-settled, none-fewer, without-fewer}
 use Rattle.sf_search.proofs.Settled.{bare, settled-by, settled-same, stripped, written-stripped}
-use Rattle.sf_search.specs.Internal.Settled.{IsFirstSettled, IsSettled, keeps_settled}
+use Rattle.sf_search.specs.Checked.Settled.{IsFirstSettled, IsSettled, keeps_settled}
 use Rattle.sf_search.specs.Strategy.{chooses, takes}
 use Rattle.sf_sym.specs.Cells.{atom_at, cell_at, handed, state_after_write, with_fields, without}
 use Rattle.sf_sym.specs.Decided.{term_of}

@@ -6,9 +6,9 @@ use Rattle.sf_rules.specs.Setting.{Setting}
 use Rattle.sf_search.proofs.Growing.{first_left_known, first_left_possible, first_left_settled}
 use Rattle.sf_search.proofs.Sole.{Numbers}
 use Rattle.sf_search.specs.declared.verdicts.Known.{Known}
-use Rattle.sf_search.specs.Internal.Growth.{IsFirstKnown, leaves_roots, staying}
-use Rattle.sf_search.specs.Internal.Knowing.{IsKnownAfter, IsKnownOfFirst}
-use Rattle.sf_search.specs.Internal.Settled.{IsFirstPossible, IsFirstSettled}
+use Rattle.sf_search.specs.Checked.Growth.{IsFirstKnown, leaves_roots, staying}
+use Rattle.sf_search.specs.Checked.Knowing.{IsKnownAfter, IsKnownOfFirst}
+use Rattle.sf_search.specs.Checked.Settled.{IsFirstPossible, IsFirstSettled}
 use Rattle.sf_search.specs.Strategy.{chooses, takes}
 use Rattle.sf_sym.specs.declared.tag.Tag.{Tag}
 use Rattle.sf_sym.specs.Goal.{Goal}

@@ -8,7 +8,7 @@ use Rattle.sf_rules.specs.Setting.{Setting}
 use Rattle.sf_search.specs.Strategy.{Kind, chooses, stays, takes}
 use Rattle.sf_rules.specs.First.{first_goal}
 use Rattle.sf_search.specs.Judge.{Chosen, Continues, JudgedAfter, JudgeFrom, Outcome, Search, Verdict, WithinLimit, large, no_row, proved, stuck, with_prefix}
-use Rattle.sf_search.specs.Laws.{SearchIsUnique, VerdictsAreUnique}
+use Rattle.sf_search.specs.Checked.Laws.{SearchIsUnique, VerdictsAreUnique}
 use Rattle.sf_sym.specs.declared.tag.Tag.{Tag}
 use Rattle.sf_sym.specs.declared.tag.Tag.TheVariants.{Procedure as Begin}
 use Rattle.sf_sym.specs.Goal.{Goal}

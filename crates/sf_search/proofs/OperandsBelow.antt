@@ -11,7 +11,7 @@ use Rattle.sf_core.specs.declared.assertion.Operand.TheVariants.{Known, Exists}
 use Rattle.sf_sym.specs.Below.{IsBelow}
 use Rattle.sf_sym.specs.Decided.{term_of}
 use Rattle.sf_sym.specs.declared.term.Term.{Term}
-use Rattle.sf_sym.specs.Lemmas.Below.{below-more}
+use Rattle.sf_sym.specs.Checked.Lemmas.Below.{below-more}
 
 -- what existentials stand for is below
 abbrev pub Bound : ℕ → List (Option Term) → Type 0

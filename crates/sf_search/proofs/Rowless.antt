@@ -3,7 +3,7 @@ use Rattle.std.proofs.Common.{List, [], ◌∷◌, ◌++◌, refl}
 use Rattle.sf_rules.specs.Setting.{Setting}
 use Rattle.sf_search.proofs.Taken.{taken_tags_have_rows}
 use Rattle.sf_search.specs.Judge.{Chosen, no_row}
-use Rattle.sf_search.specs.Laws.{GoalsWithoutRowLackShape, LeadsTo, TakenTagsHaveRows}
+use Rattle.sf_search.specs.Checked.Laws.{GoalsWithoutRowLackShape, LeadsTo, TakenTagsHaveRows}
 use Rattle.sf_search.specs.Shape.{HasShape}
 use Rattle.sf_sym.specs.declared.tag.Tag.{Tag}
 use Rattle.sf_sym.specs.Goal.{Goal}

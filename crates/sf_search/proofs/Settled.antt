@@ -16,10 +16,10 @@ use Rattle.sf_sym.specs.declared.term.Term.TheVariants.{Nil}
 use Rattle.sf_sym.specs.Cells.{cell_at, fields_at, with_fields}
 use Rattle.sf_sym.specs.Goal.{Goal}
 use Rattle.sf_sym.specs.Known.{is_nothing}
-use Rattle.sf_sym.specs.Lemmas.{points_at}
+use Rattle.sf_sym.specs.Checked.Lemmas.{points_at}
 use Rattle.sf_sym.specs.State.{State}
 use Rattle.sf_sym.specs.Tests.{allocated, allocates, has_cell, has_repeat, is_absurd, is_constant, is_impossible, is_left_out, parts, root, same_term}
-use Rattle.sf_search.specs.Internal.Settled.{IsSettled}
+use Rattle.sf_search.specs.Checked.Settled.{IsSettled}
 use Rattle.sf_search.specs.Strategy.{at_items, chooses, forced_ends, lower, lowest, lowest_forced, or_else, takes, takes_if, which}
 
 -- an atom without its fields

@@ -27,7 +27,7 @@ use Rattle.sf_sym.specs.declared.term.Term.{Term}
 use Rattle.sf_sym.specs.declared.term.Term.TheVariants.{Sym}
 use Rattle.sf_sym.specs.Fields.{put_term}
 use Rattle.sf_sym.specs.Goal.{Item, add, Goal, adding}
-use Rattle.sf_sym.specs.Lemmas.Below.{below-more, below-symbol, items-weaker, paired-weaker, put-all}
+use Rattle.sf_sym.specs.Checked.Lemmas.Below.{below-more, below-symbol, items-weaker, paired-weaker, put-all}
 use Rattle.sf_sym.specs.Pending.{Pending, existentials_in, one_if_existential}
 use Rattle.sf_sym.specs.State.{State}
 

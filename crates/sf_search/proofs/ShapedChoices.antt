@@ -20,7 +20,7 @@ use Rattle.sf_sym.specs.Below.{AllInPending, IsBelow}
 use Rattle.sf_sym.specs.Decided.{is_decided, test_of_terms}
 use Rattle.sf_sym.specs.declared.term.Term.{Term}
 use Rattle.sf_sym.specs.Goal.{Item, add, take, Goal, adding, taking, one_goal}
-use Rattle.sf_sym.specs.Lemmas.Choices.{before-occurs, branch-occurs}
+use Rattle.sf_sym.specs.Checked.Lemmas.Choices.{before-occurs, branch-occurs}
 use Rattle.sf_sym.specs.Pending.{Pending, conjuncts_of, with_branch}
 use Rattle.sf_sym.specs.State.{State}
 

@@ -25,10 +25,10 @@ use Rattle.sf_sym.specs.declared.term.Term.{Term}
 use Rattle.sf_sym.specs.declared.term.Term.TheVariants.{Sym}
 use Rattle.sf_sym.specs.Fields.{field_term, put_term}
 use Rattle.sf_sym.specs.Goal.{Item, run, Goal, one_goal, to_run}
-use Rattle.sf_sym.specs.Lemmas.AtomLists.{at-all, at-cell}
-use Rattle.sf_sym.specs.Lemmas.Below.{below-symbol, put-all}
-use Rattle.sf_sym.specs.Lemmas.CellFields.{field-all}
-use Rattle.sf_sym.specs.Lemmas.KnownValues.{set-all}
+use Rattle.sf_sym.specs.Checked.Lemmas.AtomLists.{at-all, at-cell}
+use Rattle.sf_sym.specs.Checked.Lemmas.Below.{below-symbol, put-all}
+use Rattle.sf_sym.specs.Checked.Lemmas.CellFields.{field-all}
+use Rattle.sf_sym.specs.Checked.Lemmas.KnownValues.{set-all}
 use Rattle.sf_sym.specs.State.{State, term, with_symbols}
 
 -- the terms of a cell are below

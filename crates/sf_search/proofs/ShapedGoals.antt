@@ -12,8 +12,8 @@ use Rattle.sf_sym.specs.Below.{AllInItem, IsBelow}
 use Rattle.sf_sym.specs.declared.term.Term.{Term}
 use Rattle.sf_sym.specs.Equalities.{assumed_apart, assumed_equal, put_for, which_goes, with_one}
 use Rattle.sf_sym.specs.Goal.{Item, Goal, at_state}
-use Rattle.sf_sym.specs.Lemmas.Below.{below-more, items-weaker}
-use Rattle.sf_sym.specs.Lemmas.Keeping.{follows-equal}
+use Rattle.sf_sym.specs.Checked.Lemmas.Below.{below-more, items-weaker}
+use Rattle.sf_sym.specs.Checked.Lemmas.Keeping.{follows-equal}
 use Rattle.sf_sym.specs.State.{State}
 use Rattle.sf_sym.specs.Tests.{same_term}
 

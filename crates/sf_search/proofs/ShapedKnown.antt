@@ -24,8 +24,8 @@ use Rattle.sf_sym.specs.Equalities.{assumed_apart, assumed_equal}
 use Rattle.sf_sym.specs.Fields.{put_term}
 use Rattle.sf_sym.specs.Goal.{Goal, at_state}
 use Rattle.sf_sym.specs.Known.{ends, is_forced, is_nothing}
-use Rattle.sf_sym.specs.Lemmas.AtomLists.{at-all}
-use Rattle.sf_sym.specs.Lemmas.Below.{below-more, below-symbol, put-all}
+use Rattle.sf_sym.specs.Checked.Lemmas.AtomLists.{at-all}
+use Rattle.sf_sym.specs.Checked.Lemmas.Below.{below-more, below-symbol, put-all}
 use Rattle.sf_sym.specs.State.{State, with_symbols}
 use Rattle.sf_sym.specs.Tests.{differs, is_absurd, same_term}
 

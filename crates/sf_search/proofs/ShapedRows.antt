@@ -14,8 +14,8 @@ use Rattle.sf_core.specs.declared.command.Expr.TheVariants.{Nil as ENil}
 use Rattle.sf_core.specs.Program.Syntax.{Assertion, Block, Call, while, call, fork, with, Procedure, Resource}
 use Rattle.sf_produce.specs.Add.{operands}
 use Rattle.sf_rules.specs.declared.few.TheConstants.{TOO_MANY}
-use Rattle.sf_rules.specs.Lemmas.{few-left}
-use Rattle.sf_rules.specs.RowCases.{Rows, RowsHaveCases, by_absurd, by_add, by_again, by_around, by_assign, by_call, by_choice, by_choice_assumed, by_choice_shown, by_dispose, by_drop, by_end, by_enter, by_exit, by_force, by_fork, by_give, by_look, by_loop, by_mutate, by_new, by_return, by_split, by_step, by_unroll, goal_of}
+use Rattle.sf_rules.specs.Checked.Lemmas.{few-left}
+use Rattle.sf_rules.specs.Checked.RowCases.{Rows, RowsHaveCases, by_absurd, by_add, by_again, by_around, by_assign, by_call, by_choice, by_choice_assumed, by_choice_shown, by_dispose, by_drop, by_end, by_enter, by_exit, by_force, by_fork, by_give, by_look, by_loop, by_mutate, by_new, by_return, by_split, by_step, by_unroll, goal_of}
 use Rattle.sf_rules.specs.Rows.Calls.{term_after, term_before}
 use Rattle.sf_rules.specs.Rows.Loops.{after_loop, body_once, unknown_in}
 use Rattle.sf_rules.specs.Rows.Regions.{variables_from}

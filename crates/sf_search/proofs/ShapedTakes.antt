@@ -17,7 +17,7 @@ use Rattle.sf_core.specs.declared.assertion.Operand.TheVariants.{Known, Exists}
 use Rattle.sf_core.specs.declared.assertion.Test.TheVariants.{Equal, Differ}
 use Rattle.sf_core.specs.Program.Syntax.{Conjunct, holds, points, segment, tree, Conjuncts, none, also}
 use Rattle.sf_rules.specs.First.{links_of}
-use Rattle.sf_rules.specs.Lemmas.{few-left}
+use Rattle.sf_rules.specs.Checked.Lemmas.{few-left}
 use Rattle.sf_rules.specs.Rows.Take.{subtract_row}
 use Rattle.sf_rules.specs.Setting.{Setting}
 use Rattle.sf_search.proofs.Fitting.{taking-below, taking-fits}
@@ -37,9 +37,9 @@ use Rattle.sf_sym.specs.declared.term.Term.{Term}
 use Rattle.sf_sym.specs.declared.term.Term.TheVariants.{Sym}
 use Rattle.sf_sym.specs.Fields.{field_term}
 use Rattle.sf_sym.specs.Goal.{Item, take, Goal, one_goal, taking}
-use Rattle.sf_sym.specs.Lemmas.AtomLists.{at-all, at-cell}
-use Rattle.sf_sym.specs.Lemmas.Below.{below-more, below-symbol, paired-weaker, put-all}
-use Rattle.sf_sym.specs.Lemmas.CellFields.{field-all}
+use Rattle.sf_sym.specs.Checked.Lemmas.AtomLists.{at-all, at-cell}
+use Rattle.sf_sym.specs.Checked.Lemmas.Below.{below-more, below-symbol, paired-weaker, put-all}
+use Rattle.sf_sym.specs.Checked.Lemmas.CellFields.{field-all}
 use Rattle.sf_sym.specs.Pending.{Pending}
 use Rattle.sf_sym.specs.State.{State}
 use Rattle.sf_sym.specs.Tests.{differs, same_term}

@@ -10,8 +10,8 @@ use Rattle.std.proofs.lemmas.Option.{same_Some}
 use Rattle.sf_consume.specs.Subtract.{is_same_shape}
 use Rattle.sf_search.proofs.Fewer.{any-fewer, each-fewer, found, lower-none, map-none, or-still, repeat-last, repeat-moved, without-fewer}
 use Rattle.sf_search.proofs.Grown.{and-none, any-less, begins, same-self}
-use Rattle.sf_search.specs.Internal.Holding.{IsOpened, IsSoleCell}
-use Rattle.sf_search.specs.Internal.Settled.{IsSettled}
+use Rattle.sf_search.specs.Checked.Holding.{IsOpened, IsSoleCell}
+use Rattle.sf_search.specs.Checked.Settled.{IsSettled}
 use Rattle.sf_search.specs.Strategy.{forced_ends, lower, lowest, lowest_forced, opened_first, segment_at, takes, tree_at, which}
 use Rattle.sf_sym.specs.Cells.{atom_at, fields_at, without}
 use Rattle.sf_sym.specs.declared.atom.Atom.{Atom}
@@ -21,7 +21,7 @@ use Rattle.sf_sym.specs.declared.tag.Tag.TheVariants as t
 use Rattle.sf_sym.specs.declared.term.Term.{Term}
 use Rattle.sf_sym.specs.declared.term.Term.TheVariants.{Nil}
 use Rattle.sf_sym.specs.Known.{ends, is_nothing}
-use Rattle.sf_sym.specs.Lemmas.{same_term_is}
+use Rattle.sf_sym.specs.Checked.Lemmas.{same_term_is}
 use Rattle.sf_sym.specs.Numbers.{AreNumbered, AreRising, numbers}
 use Rattle.sf_sym.specs.State.{State}
 use Rattle.sf_sym.specs.Tests.{allocated, allocates, are_both_allocated, differs, differs_at_once, has_cell, has_repeat, is_constant, is_impossible, is_left_out, parts, root, same_term}

@@ -9,7 +9,7 @@ use Rattle.sf_search.proofs.Grown.{no-points}
 use Rattle.sf_search.proofs.Kept.{Stays}
 use Rattle.sf_search.proofs.Settled.{any-stripped, bare, bare_root, stripped}
 use Rattle.sf_search.proofs.Sole.{any-there, each-at}
-use Rattle.sf_search.specs.Internal.Growth.{BeginBelow, IsKnown, RootsBelow, has_no_cells, has_points, is_points, is_symbol_below}
+use Rattle.sf_search.specs.Checked.Growth.{BeginBelow, IsKnown, RootsBelow, has_no_cells, has_points, is_points, is_symbol_below}
 use Rattle.sf_sym.specs.Cells.{atom_at, without}
 use Rattle.sf_sym.specs.declared.atom.Atom.{Atom}
 use Rattle.sf_sym.specs.declared.atom.Atom.TheVariants.{Points, Ls, Tree}

@@ -33,7 +33,7 @@ use Rattle.sf_search.proofs.Found.{found-at, found-forced}
 use Rattle.sf_search.proofs.FreshVariables.{few-filtered, fresh-length, term-below, variables-length}
 use Rattle.sf_search.proofs.Rows.{Good, GoodIf, NoneIsNothing, cell-found, good-at_cell, good-at_test, good-if, good-map, good-or, good-split, good-split_or, segment-is}
 use Rattle.sf_search.specs.Strategy.{at_choice, at_command, at_end, at_equality, at_first_wanted, at_given, at_inequality, at_items, at_known, at_list, at_points, at_tree, at_wanted, begins_with, chooses, end_not_allocated, exact_atom, forced_ends, has_step, joins, leak, lowest, lowest_forced, no_atom, not_different, not_equal, segment_at, split_or, takes, takes_if, which}
-use Rattle.sf_search.specs.Laws.{TakenTagsHaveRows}
+use Rattle.sf_search.specs.Checked.Laws.{TakenTagsHaveRows}
 use Rattle.sf_search.specs.Shape.{HasShape}
 use Rattle.sf_sym.specs.Below.{AllInPending, AllPaired, IsBelow}
 use Rattle.sf_sym.specs.Cells.{cell_at, fields_at, handed}

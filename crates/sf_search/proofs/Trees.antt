@@ -2,11 +2,11 @@
 -- Names: `proofs-LAW` of proofs of goals, `chosen-LAW` of tags that are taken, `judge-LAW` of verdicts.
 use Rattle.std.proofs.Common.{◌≡◌, ℕ, suc, ◌+◌, inl, inr, List, [], ◌∷◌, ◌++◌, length, refl, sym, ap, ◌∙◌}
 use Rattle.sf_core.specs.Program.Syntax.{Procedure}
-use Rattle.sf_rules.specs.Lemmas.{proof-one, proofs-split}
+use Rattle.sf_rules.specs.Checked.Lemmas.{proof-one, proofs-split}
 use Rattle.sf_rules.specs.Setting.{Setting}
 use Rattle.sf_rules.specs.First.{first_goal}
 use Rattle.sf_search.specs.Judge.{Continues, Chosen, JudgedAfter, JudgeFrom, Outcome, Search, Verdict, fails, large, no_row, proof, proved, stuck, with_prefix}
-use Rattle.sf_search.specs.Laws.{TakenTagsProve}
+use Rattle.sf_search.specs.Checked.Laws.{TakenTagsProve}
 use Rattle.sf_rules.specs.Proving.{Proof, by, Proofs, no_more, and, preorder, preorders, ProvesFrom}
 use Rattle.sf_sym.specs.declared.tag.Tag.{Tag}
 use Rattle.sf_sym.specs.declared.tag.Tag.TheVariants.{Procedure as Begin}

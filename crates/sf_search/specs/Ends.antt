@@ -9,7 +9,7 @@ use Rattle.sf_search.specs.declared.verdicts.SearchFault.{SearchFault}
 use Rattle.sf_search.specs.declared.verdicts.SearchFault.TheVariants.{Stuck, TooLarge, NoRow, OutOfMemory}
 use Rattle.sf_search.specs.declared.verdicts.VerifyFault.{VerifyFault}
 use Rattle.sf_search.specs.declared.verdicts.VerifyFault.TheVariants.{Failed, OutOfMemory as NoMemory}
-use Rattle.sf_search.specs.Internal.Choosing.{kind_of}
+use Rattle.sf_search.specs.Checked.Choosing.{kind_of}
 use Rattle.sf_search.specs.Judge.{Cause, Judge, Search, fails, large, no_row, stuck, stuck_at, too_large, without_row}
 use Rattle.sf_sym.specs.declared.tag.Tag.{Tag}
 use Rattle.sf_sym.specs.Goal.{Goal, goal_of}

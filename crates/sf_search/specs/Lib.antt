@@ -3,6 +3,4 @@ pub mod Judge
 pub mod Ends
 pub mod Shape
 pub mod Shaped
-pub mod ShapeLaws
-pub mod Laws
-pub mod Internal
+pub mod Checked

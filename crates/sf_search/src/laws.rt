@@ -1,8 +1,8 @@
 //! Laws of the search. Each function is a law: calling it gives its fact to the caller's proof, and
 //! does nothing.
 
-ghost use Rattle.sf_search.specs.ShapeLaws.{ArrangedHasRows, ArrangedIsSetUp, GoalsAreShaped, GoalsHaveShape, SearchesHaveRows, VerdictsHaveRows};
-ghost use Rattle.sf_search.specs.Laws.{GoalsWithoutRowLackShape, ProgramsHaveVerdicts, SearchExists, SearchIsUnique, TakenTagsHaveRows, TakenTagsProve, VerdictsAreUnique};
+ghost use Rattle.sf_search.specs.Checked.ShapeLaws.{ArrangedHasRows, ArrangedIsSetUp, GoalsAreShaped, GoalsHaveShape, SearchesHaveRows, VerdictsHaveRows};
+ghost use Rattle.sf_search.specs.Checked.Laws.{GoalsWithoutRowLackShape, ProgramsHaveVerdicts, SearchExists, SearchIsUnique, TakenTagsHaveRows, TakenTagsProve, VerdictsAreUnique};
 
 use sf_calls::laws::{
     changes_are_assigned, conditions_from_truncation, first_breach_is_broken,

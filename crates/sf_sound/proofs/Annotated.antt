@@ -21,11 +21,11 @@ use Rattle.sf_core.specs.Program.Formed.{ExprWithin}
 use Rattle.sf_core.specs.Program.Syntax.{Assertion, Level, level}
 use Rattle.sf_rules.specs.Setting.{Setting}
 use Rattle.sf_rules.specs.Words.{pending_assertion}
-use Rattle.sf_sound.specs.Internal.Suits.{IsPlain, IsUsable}
+use Rattle.sf_sound.specs.Checked.Suits.{IsPlain, IsUsable}
 use Rattle.sf_sym.specs.Below.{AllInPending}
 use Rattle.sf_sym.specs.declared.term.Term.{Term}
 use Rattle.sf_sym.specs.Holds.{term_value, IsBound, PendingHolds}
-use Rattle.sf_sym.specs.Lemmas.OtherTerms.{conjuncts-with, occurs-with}
+use Rattle.sf_sym.specs.Checked.Lemmas.OtherTerms.{conjuncts-with, occurs-with}
 use Rattle.sf_sym.specs.Mapped.{conjuncts_with}
 use Rattle.sf_sym.specs.Pending.{conjuncts_of}
 

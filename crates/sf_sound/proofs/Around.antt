@@ -24,9 +24,9 @@ use Rattle.sf_core.specs.Program.Syntax.{Assertion, Block, while}
 use Rattle.sf_rules.specs.Rows.Loops.{after_loop, body_once, unknown_in}
 use Rattle.sf_rules.specs.Setting.{Setting}
 use Rattle.sf_rules.specs.Words.{negation, pending_assertion, to_add, to_add_test}
-use Rattle.sf_safe.specs.Lemmas.{Beside, local-append, local-frame}
-use Rattle.sf_safe.specs.Local.{Local, look, value_in}
-use Rattle.sf_safe.specs.LocalSafe.{LocalSafe}
+use Rattle.sf_safe.specs.Checked.Lemmas.{Beside, local-append, local-frame}
+use Rattle.sf_safe.specs.Checked.Local.{Local, look, value_in}
+use Rattle.sf_safe.specs.Checked.LocalSafe.{LocalSafe}
 use Rattle.sf_sound.proofs.Annotated.{HaveValues, usable-assumed}
 use Rattle.sf_sound.proofs.Assigned.{block-assigned}
 use Rattle.sf_sound.proofs.Keeping.{BlockTouches, Keeping, Kept, Touches, keep, left-tokens_items, left-variables_items, left_tokens, left_variables, nothing_gone, nothing_lost, touches-items}
@@ -34,15 +34,15 @@ use Rattle.sf_sound.proofs.Standing.{body-assuming, body-does, body-run, domain-
 use Rattle.sf_sound.proofs.States.{StateSuits, items-add, items-of, items-run, renewed, renewed-apart, renewed-atoms, renewed-vars, state-fresh, state-of, state-without, state-without_taken, suits-of, terms-below, terms-values}
 use Rattle.sf_sound.proofs.Tests.{items-test, negation-true, pending_test, test-holds, test-within}
 use Rattle.sf_sound.proofs.Words.{adding-assuming, adding-does, body-holds}
-use Rattle.sf_sym.specs.Lemmas.Adding.{adding-holds}
-use Rattle.sf_sound.specs.Internal.Claims.{Owed, Satisfies, steps, with_cells}
-use Rattle.sf_sound.specs.Internal.Suits.{Claim, Domain, HasDomain, IsBody, ReadsTest, Suits}
+use Rattle.sf_sym.specs.Checked.Lemmas.Adding.{adding-holds}
+use Rattle.sf_sound.specs.Checked.Claims.{Owed, Satisfies, steps, with_cells}
+use Rattle.sf_sound.specs.Checked.Suits.{Claim, Domain, HasDomain, IsBody, ReadsTest, Suits}
 use Rattle.sf_sym.specs.Below.{AllInItem, IsBelow}
 use Rattle.sf_sym.specs.declared.term.Term.{Term}
 use Rattle.sf_sym.specs.Goal.{Item, head, again, Goal, to_run}
 use Rattle.sf_sym.specs.Holds.{AddsHold, Agrees, Differ}
 use Rattle.sf_sym.specs.HoldsIn.{HoldsIn}
-use Rattle.sf_sym.specs.Lemmas.Below.{below-more, items-weaker}
+use Rattle.sf_sym.specs.Checked.Lemmas.Below.{below-more, items-weaker}
 use Rattle.sf_sym.specs.Ready.{is_listed}
 use Rattle.sf_sym.specs.State.{State, term}
 use Rattle.sf_sym.specs.Variables.{with_fresh}

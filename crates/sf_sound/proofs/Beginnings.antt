@@ -27,7 +27,7 @@ use Rattle.sf_calls.specs.Around.{IsHeld}
 use Rattle.sf_calls.specs.Assigned.{MayChange}
 use Rattle.sf_calls.specs.Breaks.{OccursAt}
 use Rattle.sf_calls.specs.Conditions.{Free, FreeIn, IsShared}
-use Rattle.sf_calls.specs.Lemmas.Sites.{among_at}
+use Rattle.sf_calls.specs.Checked.Lemmas.Sites.{among_at}
 use Rattle.sf_calls.specs.Outside.{IsAmong}
 use Rattle.sf_calls.specs.Reaches.{directly, through}
 use Rattle.sf_core.specs.declared.command.Expr.{Expr}
@@ -42,10 +42,10 @@ use Rattle.sf_core.specs.Program.Syntax.{Assertion, Block, done, then, Call, Com
 use Rattle.sf_rules.specs.Rows.Regions.{variables_from}
 use Rattle.sf_rules.specs.Setting.{Setting}
 use Rattle.sf_rules.specs.Words.{pending_assertion}
-use Rattle.sf_safe.specs.Contract.{IsVariableOf}
-use Rattle.sf_safe.specs.Lemmas.{local-weaken}
-use Rattle.sf_safe.specs.Local.{Begins, Ends, Local, value_in}
-use Rattle.sf_safe.specs.LocalSafe.{LocalSafe}
+use Rattle.sf_safe.specs.Checked.Contract.{IsVariableOf}
+use Rattle.sf_safe.specs.Checked.Lemmas.{local-weaken}
+use Rattle.sf_safe.specs.Checked.Local.{Begins, Ends, Local, value_in}
+use Rattle.sf_safe.specs.Checked.LocalSafe.{LocalSafe}
 use Rattle.sf_sound.proofs.Annotated.{HaveValues, usable-assumed}
 use Rattle.sf_sound.proofs.Bodies.{HasScope, IsSane, annotation-post, annotation-pre, block-suits, calls-no_region, entered-decides, free-there, is_entered, not-entered}
 use Rattle.sf_sound.proofs.Keeping.{BlockTouches, CommandTouches, Keeping, Kept, Touches, has-some, keep, left-tokens_items, left-variables_items, left_tokens, left_variables, nothing_gone, nothing_lost, of-is, some-has, touches-items}
@@ -53,17 +53,17 @@ use Rattle.sf_sound.proofs.Regions.{of-contains}
 use Rattle.sf_sound.proofs.Standing.{body-assuming, body-does, body-run, items-none, owed-run, steps-run}
 use Rattle.sf_sound.proofs.States.{StateSuits, items-add, items-run, renewed, renewed-vars, state-fresh, suits-of, terms-below, terms-values}
 use Rattle.sf_sound.proofs.Words.{adding-assuming, adding-does, body-holds}
-use Rattle.sf_sym.specs.Lemmas.Adding.{adding-holds}
-use Rattle.sf_sound.specs.Internal.Claims.{Satisfies}
+use Rattle.sf_sym.specs.Checked.Lemmas.Adding.{adding-holds}
+use Rattle.sf_sound.specs.Checked.Claims.{Satisfies}
 use Rattle.sf_rules.specs.First.{first_goal, first_state_of, links_of, nils, own_vars, symbols, variables_of}
-use Rattle.sf_sound.specs.Internal.Suits.{Claim, Domain, HasDomain, IsPassed, IsPlain, Suits}
+use Rattle.sf_sound.specs.Checked.Suits.{Claim, Domain, HasDomain, IsPassed, IsPlain, Suits}
 use Rattle.sf_sym.specs.Below.{AreBelow, IsBelow}
 use Rattle.sf_sym.specs.declared.term.Term.{Term}
 use Rattle.sf_sym.specs.declared.term.Term.TheVariants.{Nil, Sym}
 use Rattle.sf_sym.specs.Goal.{Item, return, to_run}
 use Rattle.sf_sym.specs.Holds.{term_value, Agrees}
 use Rattle.sf_sym.specs.HoldsIn.{HoldsIn}
-use Rattle.sf_sym.specs.Lemmas.Below.{below-symbol}
+use Rattle.sf_sym.specs.Checked.Lemmas.Below.{below-symbol}
 use Rattle.sf_sym.specs.Pending.{Pending}
 use Rattle.sf_sym.specs.Ready.{AreInOrder, is_listed}
 use Rattle.sf_sym.specs.State.{State, first_state, term}

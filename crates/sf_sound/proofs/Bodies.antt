@@ -17,9 +17,9 @@ use Rattle.sf_base.specs.declared.ids.Var.TheVariants.{Own, Shared}
 use Rattle.sf_calls.specs.Assigned.{MayChange}
 use Rattle.sf_calls.specs.Changes.{changed, free_in}
 use Rattle.sf_calls.specs.Conditions.{FreeIn, Mentions}
-use Rattle.sf_calls.specs.Laws.{ChangesAreAssigned}
-use Rattle.sf_calls.specs.Lemmas.Sites.{among_at, among_of}
-use Rattle.sf_calls.specs.Lemmas.Within.{block_within, level_within}
+use Rattle.sf_calls.specs.Checked.Laws.{ChangesAreAssigned}
+use Rattle.sf_calls.specs.Checked.Lemmas.Sites.{among_at, among_of}
+use Rattle.sf_calls.specs.Checked.Lemmas.Within.{block_within, level_within}
 use Rattle.sf_calls.specs.Reaches.{directly, through}
 use Rattle.sf_calls.specs.Sets.{AreSetsOf}
 use Rattle.sf_core.proofs.HeadsWithin.{call-within, calls-within, head-within}
@@ -35,14 +35,14 @@ use Rattle.sf_core.specs.Program.Formed.{AssertionWithin, BlockWithin, CallWithi
 use Rattle.sf_core.specs.Program.Heads.{Site, call_occurrences, expr_occurrences, head_calls, head_invariants, head_occurrences, head_regions, inner_sites, level_occurrences, occurrences_at, sites, test_occurrences}
 use Rattle.sf_core.specs.Program.Syntax.{Assertion, Block, done, then, Call, Command, assign, look_up, mutate, new, dispose, if, while, call, fork, with, Procedure, Program, Resource}
 use Rattle.sf_precise.specs.Annotations.{annotations_in, loops_in, notes_of}
-use Rattle.sf_precise.specs.Laws.{OrderKeepsForm, OrderKeepsMeaning, OrderedIsDetermined}
+use Rattle.sf_precise.specs.Checked.Laws.{OrderKeepsForm, OrderKeepsMeaning, OrderedIsDetermined}
 use Rattle.sf_precise.specs.Order.{IsOrderOf}
 use Rattle.sf_rules.specs.Setting.{Setting}
-use Rattle.sf_safe.specs.Contract.{IsVariableOf}
-use Rattle.sf_safe.specs.Unbroken.{Unbroken, unbroken-apart, unbroken-fits}
+use Rattle.sf_safe.specs.Checked.Contract.{IsVariableOf}
+use Rattle.sf_safe.specs.Checked.Unbroken.{Unbroken, unbroken-apart, unbroken-fits}
 use Rattle.sf_sound.proofs.Keeping.{of-is, size}
 use Rattle.sf_sound.proofs.Orders.{usable-of}
-use Rattle.sf_sound.specs.Internal.Suits.{BlockSuits, CallSuits, CommandSuits, Domain, IsPassed, IsUsable, Reads, ReadsAll, ReadsTest, ResourceSuits, is_of, with_resource}
+use Rattle.sf_sound.specs.Checked.Suits.{BlockSuits, CallSuits, CommandSuits, Domain, IsPassed, IsUsable, Reads, ReadsAll, ReadsTest, ResourceSuits, is_of, with_resource}
 
 -- what is known of a program and of how its annotations are put in order
 pub record IsSane (d : Setting) : Type 0 where

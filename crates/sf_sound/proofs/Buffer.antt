@@ -14,7 +14,7 @@ use Rattle.sf_calls.specs.Around.{IsHeld, Shares}
 use Rattle.sf_calls.specs.Assigned.{MayChange}
 use Rattle.sf_calls.specs.Conditions.{Enters, Free, Mentions, Takes}
 use Rattle.sf_calls.specs.FirstBreach.{Conditions}
-use Rattle.sf_calls.specs.Lemmas.Sites.{at_one}
+use Rattle.sf_calls.specs.Checked.Lemmas.Sites.{at_one}
 use Rattle.sf_calls.specs.Outside.{EntersIn, IsAmong, IsOutside, OccursOutside, owner}
 use Rattle.sf_calls.specs.Reaches.{directly, through}
 use Rattle.sf_calls.specs.Sets.{AreSetsOf, IsEarlier, IsEarlierResource, Sets}
@@ -26,18 +26,18 @@ use Rattle.sf_core.specs.declared.assertion.Scope.{Scope}
 use Rattle.sf_core.specs.declared.assertion.Test.TheVariants.{Equal}
 use Rattle.sf_core.specs.declared.command.Expr.TheVariants.{Var as Variable, Int}
 use Rattle.sf_core.specs.declared.command.Occurrence.{Occurrence}
-use Rattle.sf_core.specs.Machine.Examples.{at_own, emp, here, lock, one_cell, own_one}
+use Rattle.sf_core.specs.Checked.Machine.Examples.{at_own, emp, here, lock, one_cell, own_one}
 use Rattle.sf_core.specs.Machine.HeldBy.{HeldBy}
 use Rattle.sf_core.specs.Program.Formed.{AssertionWithin, CallWithin, ExprWithin, IsFormed, IsInBody, IsOfResource, IsSettable, ProcedureWithin}
 use Rattle.sf_core.specs.Program.Heads.{Site, head_regions, occurrences_at, sites}
 use Rattle.sf_core.specs.Program.Syntax.{also, choose, level, none, points, Assertion, Procedure, Resource}
 use Rattle.sf_precise.specs.Annotations.{annotations_in}
-use Rattle.sf_precise.specs.Laws.{OrderingExists}
+use Rattle.sf_precise.specs.Checked.Laws.{OrderingExists}
 use Rattle.sf_precise.specs.Order.{IsOrderOf, IsOrdering}
 use Rattle.sf_sound.proofs.AsWritten.{IsAsWritten, procedure-proved}
 use Rattle.sf_sound.proofs.SmallPrograms.{cell-determined, cell-no_shared, cell-ordered, cell-within, emp-determined, emp-no_var, emp-ordered, emp-within, everywhere, of-three, set-nothing, set-of_each, set-single}
 use Rattle.sf_sound.proofs.Races.{sound-by}
-use Rattle.sf_sound.specs.ExamplesOfRegions.{BufferIsSound, buf, buffer, buffer_tags, buffered, c, full, get, gets_y, no_scope, passes_on, put, puts_x}
+use Rattle.sf_sound.specs.Checked.ExamplesOfRegions.{BufferIsSound, buf, buffer, buffer_tags, buffered, c, full, get, gets_y, no_scope, passes_on, put, puts_x}
 use Rattle.sf_sound.specs.Proofs.{ProofsAreSound}
 use Rattle.sf_rules.specs.Proving.{Proves}
 use Rattle.sf_rules.specs.Setting.{IsSettingOf, Setting}

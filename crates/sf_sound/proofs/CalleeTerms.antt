@@ -24,19 +24,19 @@ use Rattle.sf_core.specs.Program.Syntax.{Call, Procedure}
 use Rattle.sf_rules.specs.Rows.Calls.{callee_term, own_term, term_after, term_before, term_by}
 use Rattle.sf_rules.specs.Setting.{Setting}
 use Rattle.sf_rules.specs.Words.{pending_assertion}
-use Rattle.sf_safe.specs.Local.{Lends, Local, arguments_in, callee_value, look, own_value, value_in}
+use Rattle.sf_safe.specs.Checked.Local.{Lends, Local, arguments_in, callee_value, look, own_value, value_in}
 use Rattle.sf_sound.proofs.Annotated.{HaveValues, usable-same, usable-shown}
 use Rattle.sf_sound.proofs.FreshTerms.{fresh-contains, fresh-listed, put-agrees, put-here}
 use Rattle.sf_sound.proofs.Keeping.{some-has}
 use Rattle.sf_sound.proofs.States.{StateSuits, terms-values}
 use Rattle.sf_sound.proofs.VariableTerms.{all-listed_here}
-use Rattle.sf_sound.specs.Internal.Claims.{put_values}
-use Rattle.sf_sound.specs.Internal.Suits.{CallSuits, Domain, HasDomain, IsPassed, Reads, ReadsAll}
+use Rattle.sf_sound.specs.Checked.Claims.{put_values}
+use Rattle.sf_sound.specs.Checked.Suits.{CallSuits, Domain, HasDomain, IsPassed, Reads, ReadsAll}
 use Rattle.sf_sym.specs.Below.{AllPaired, IsBelow}
 use Rattle.sf_sym.specs.declared.term.Term.{Term}
 use Rattle.sf_sym.specs.declared.term.Term.TheVariants.{Nil, Int}
 use Rattle.sf_sym.specs.Holds.{term_value, Agrees, PendingHolds}
-use Rattle.sf_sym.specs.Lemmas.KnownValues.{listed-value}
+use Rattle.sf_sym.specs.Checked.Lemmas.KnownValues.{listed-value}
 use Rattle.sf_sym.specs.Ready.{AreInOrder, is_listed}
 use Rattle.sf_sym.specs.State.{State, term, term_at}
 use Rattle.sf_sym.specs.Variables.{fresh_for, set_vars}

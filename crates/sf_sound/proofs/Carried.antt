@@ -8,15 +8,15 @@ use Rattle.sf_base.specs.declared.ids.Var.{Var}
 use Rattle.sf_base.specs.declared.value.Value.{Value}
 use Rattle.sf_core.specs.Machine.Config.{command, leave}
 use Rattle.sf_core.specs.Program.Syntax.{Program, while}
-use Rattle.sf_safe.specs.Local.{Local, put_variable}
-use Rattle.sf_safe.specs.LocalSafe.{LocalSafe}
-use Rattle.sf_sound.specs.Internal.Claims.{Does, Owed, put_values, steps, with_cells}
+use Rattle.sf_safe.specs.Checked.Local.{Local, put_variable}
+use Rattle.sf_safe.specs.Checked.LocalSafe.{LocalSafe}
+use Rattle.sf_sound.specs.Checked.Claims.{Does, Owed, put_values, steps, with_cells}
 use Rattle.sf_sym.specs.Below.{AllInItem, AllPaired, IsBelow}
 use Rattle.sf_sym.specs.declared.term.Term.{Term}
 use Rattle.sf_sym.specs.Equalities.{item_with}
 use Rattle.sf_sym.specs.Goal.{Item, run, add, take, gave, head, again, exit, return, end}
 use Rattle.sf_sym.specs.Holds.{term_value}
-use Rattle.sf_sym.specs.Lemmas.Restated.{adds-restated, pending-restated}
+use Rattle.sf_sym.specs.Checked.Lemmas.Restated.{adds-restated, pending-restated}
 
 -- what the machine does of it, and what is owed at its end, has no terms
 pub steps-with : (to : Term → Term) (todo : List Item) → steps (map (item_with to) todo) ≡ steps todo

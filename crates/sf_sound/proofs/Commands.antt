@@ -15,21 +15,21 @@ use Rattle.sf_core.specs.declared.command.Expr.{Expr}
 use Rattle.sf_core.specs.declared.command.Occurrence.{Occurrence}
 use Rattle.sf_core.specs.Machine.Config.{items}
 use Rattle.sf_core.specs.Program.Syntax.{Block, Command, assign, look_up, mutate, new, dispose, if}
-use Rattle.sf_rules.specs.LawsOfCommands.{before_command, Executed, IsTestKnown, AssignFollowsEvent, LookFollowsEvent, MutateFollowsEvent, NewFollowsEvent, DisposeFollowsEvent, ThenFollowsTest, ElseFollowsTest}
+use Rattle.sf_rules.specs.Checked.LawsOfCommands.{before_command, Executed, IsTestKnown, AssignFollowsEvent, LookFollowsEvent, MutateFollowsEvent, NewFollowsEvent, DisposeFollowsEvent, ThenFollowsTest, ElseFollowsTest}
 use Rattle.sf_rules.specs.Rows.Branches.{branch_row, then_row, else_row}
 use Rattle.sf_rules.specs.Rows.Commands.{assign_row, look_row, mutate_row, new_row, dispose_row}
 use Rattle.sf_rules.specs.Setting.{Setting}
-use Rattle.sf_safe.specs.Local.{Local, look, put_local, put_variable}
-use Rattle.sf_safe.specs.LocalSafe.{LocalSafe}
+use Rattle.sf_safe.specs.Checked.Local.{Local, look, put_local, put_variable}
+use Rattle.sf_safe.specs.Checked.LocalSafe.{LocalSafe}
 use Rattle.sf_sound.proofs.CommandChildren.{IsOrdered, Stays, assign-stays, branch-stays, dispose-stays, look-stays, mutate-stays, new-stays}
 use Rattle.sf_sound.proofs.Standing.{body-does, body-run, domain-has, domain-in, domain-put, domain-test, form-command, items-formed_run, known-expr, known-test, next-suits, owed-run, ready, steps-run, suits-run}
-use Rattle.sf_sound.specs.Internal.Claims.{Does, Owed, steps}
+use Rattle.sf_sound.specs.Checked.Claims.{Does, Owed, steps}
 use Rattle.sf_sym.specs.Formed.{ItemFormed}
-use Rattle.sf_sound.specs.Internal.Suits.{Claim, Domain, HasDomain, IsBody, Suits, TodoSuits}
+use Rattle.sf_sound.specs.Checked.Suits.{Claim, Domain, HasDomain, IsBody, Suits, TodoSuits}
 use Rattle.sf_sym.specs.Goal.{Item, run, Goal, to_run}
 use Rattle.sf_sym.specs.Holds.{AtomsHold}
 use Rattle.sf_sym.specs.HoldsIn.{HoldsIn}
-use Rattle.sf_sym.specs.Laws.{Follows, HoldsStill, SomeOf}
+use Rattle.sf_sym.specs.Checked.Laws.{Follows, HoldsStill, SomeOf}
 use Rattle.sf_sym.specs.Ready.{IsReady, value_at}
 use Rattle.sf_sym.specs.State.{State}
 

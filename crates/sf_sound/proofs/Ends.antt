@@ -10,13 +10,13 @@ use Rattle.sf_core.specs.Program.Syntax.{Assertion, Program}
 use Rattle.sf_rules.specs.Setting.{Setting}
 use Rattle.sf_rules.specs.Rows.Ends.{is_empty}
 use Rattle.sf_rules.specs.Words.{pending_assertion, to_take}
-use Rattle.sf_safe.specs.Local.{Local, value_in}
-use Rattle.sf_safe.specs.LocalSafe.{LocalSafe}
+use Rattle.sf_safe.specs.Checked.Local.{Local, value_in}
+use Rattle.sf_safe.specs.Checked.LocalSafe.{LocalSafe}
 use Rattle.sf_sound.proofs.Annotated.{plain-shown}
 use Rattle.sf_sound.proofs.States.{items-take, state-of, suits-of, terms-below, terms-values}
 use Rattle.sf_sound.proofs.Words.{showing-holds, taking-does, taking-showing}
-use Rattle.sf_sound.specs.Internal.Claims.{Does, Satisfies, with_cells}
-use Rattle.sf_sound.specs.Internal.Suits.{Claim, Domain, HasDomain, IsPlain, Suits}
+use Rattle.sf_sound.specs.Checked.Claims.{Does, Satisfies, with_cells}
+use Rattle.sf_sound.specs.Checked.Suits.{Claim, Domain, HasDomain, IsPlain, Suits}
 use Rattle.sf_sym.specs.declared.atom.Numbered.{Numbered}
 use Rattle.sf_sym.specs.Goal.{Item, again, return, end, Goal}
 use Rattle.sf_sym.specs.Holds.{AtomsHold}

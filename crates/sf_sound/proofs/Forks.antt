@@ -19,12 +19,12 @@ use Rattle.sf_calls.specs.Changes.{changed as changed_by}
 use Rattle.sf_core.specs.declared.command.Expr.{Expr}
 use Rattle.sf_core.specs.Machine.Step.{procedure_at}
 use Rattle.sf_core.specs.Program.Syntax.{Call, Procedure, fork}
-use Rattle.sf_rules.specs.LawsOfCommands.{before_command}
+use Rattle.sf_rules.specs.Checked.LawsOfCommands.{before_command}
 use Rattle.sf_rules.specs.Rows.Calls.{term_after, term_before}
 use Rattle.sf_rules.specs.Setting.{Setting}
 use Rattle.sf_rules.specs.Words.{pending_assertion, to_add, to_take}
-use Rattle.sf_safe.specs.Local.{ComesBack, HasVar, Local, LocalParts, arguments_in, callee_value, value_in}
-use Rattle.sf_safe.specs.LocalSafe.{LocalForks, LocalSafe}
+use Rattle.sf_safe.specs.Checked.Local.{ComesBack, HasVar, Local, LocalParts, arguments_in, callee_value, value_in}
+use Rattle.sf_safe.specs.Checked.LocalSafe.{LocalForks, LocalSafe}
 use Rattle.sf_sound.proofs.Annotated.{HaveValues, usable-assumed}
 use Rattle.sf_sound.proofs.CalleeTerms.{after-below, before-below, callee-values, is_lent, lent-changes, lent-lends, lent-pre, lent_part, set-value, values-known}
 use Rattle.sf_sound.proofs.Calls.{domain-all, holds-with, returned}
@@ -33,15 +33,15 @@ use Rattle.sf_sound.proofs.Keeping.{just-none}
 use Rattle.sf_sound.proofs.Standing.{body-assuming, body-does, form-command}
 use Rattle.sf_sound.proofs.States.{StateSuits, items-add, items-of, items-take, state-of, state-symbols, suits-of, terms-below}
 use Rattle.sf_sound.proofs.Words.{adding-assuming, adding-does, body-holds, showing-holds, taking-does, taking-showing}
-use Rattle.sf_sym.specs.Lemmas.Adding.{adding-holds}
-use Rattle.sf_sound.specs.Internal.Claims.{Does, Owed, put_values, steps, with_cells}
-use Rattle.sf_sound.specs.Internal.Suits.{CallSuits, Claim, Domain, HasDomain, IsBody, IsPassed, IsShowing, Suits}
+use Rattle.sf_sym.specs.Checked.Lemmas.Adding.{adding-holds}
+use Rattle.sf_sound.specs.Checked.Claims.{Does, Owed, put_values, steps, with_cells}
+use Rattle.sf_sound.specs.Checked.Suits.{CallSuits, Claim, Domain, HasDomain, IsBody, IsPassed, IsShowing, Suits}
 use Rattle.sf_sym.specs.Below.{AllPaired, IsBelow}
 use Rattle.sf_sym.specs.declared.term.Term.{Term}
 use Rattle.sf_sym.specs.Goal.{Item, gave, Goal}
 use Rattle.sf_sym.specs.Holds.{term_value, PendingHolds}
 use Rattle.sf_sym.specs.HoldsIn.{HoldsIn}
-use Rattle.sf_sym.specs.Lemmas.Below.{below-more, items-weaker, paired-weaker}
+use Rattle.sf_sym.specs.Checked.Lemmas.Below.{below-more, items-weaker, paired-weaker}
 use Rattle.sf_sym.specs.Pending.{Pending}
 use Rattle.sf_sym.specs.State.{State, term, term_at, with_symbols}
 use Rattle.sf_sym.specs.Variables.{fresh_for, set_vars}

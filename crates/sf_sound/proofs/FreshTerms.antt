@@ -10,17 +10,17 @@ use Rattle.sf_base.proofs.Variables.{same_var-decides}
 use Rattle.sf_base.specs.declared.ids.Var.{Var}
 use Rattle.sf_base.specs.declared.value.Value.{Value}
 use Rattle.sf_base.specs.Variables.{same_var}
-use Rattle.sf_safe.specs.Local.{Local, put_variable}
+use Rattle.sf_safe.specs.Checked.Local.{Local, put_variable}
 use Rattle.sf_sound.proofs.Keeping.{or-false}
 use Rattle.sf_sound.proofs.VariableTerms.{set-order}
-use Rattle.sf_sound.specs.Internal.Claims.{put_values}
+use Rattle.sf_sound.specs.Checked.Claims.{put_values}
 use Rattle.sf_sym.specs.Below.{AllPaired, IsBelow, SameBelow}
 use Rattle.sf_sym.specs.declared.term.Term.{Term}
 use Rattle.sf_sym.specs.declared.term.Term.TheVariants.{Sym}
 use Rattle.sf_sym.specs.Holds.{term_value, Agrees}
-use Rattle.sf_sym.specs.Lemmas.Below.{below-more, below-symbol, paired-weaker}
-use Rattle.sf_sym.specs.Lemmas.FreshValues.{value-below, value-here, with_value}
-use Rattle.sf_sym.specs.Lemmas.KnownValues.{set-agrees, set-all}
+use Rattle.sf_sym.specs.Checked.Lemmas.Below.{below-more, below-symbol, paired-weaker}
+use Rattle.sf_sym.specs.Checked.Lemmas.FreshValues.{value-below, value-here, with_value}
+use Rattle.sf_sym.specs.Checked.Lemmas.KnownValues.{set-agrees, set-all}
 use Rattle.sf_sym.specs.Ready.{AreInOrder, is_listed}
 use Rattle.sf_sym.specs.Variables.{fresh_for, set_var, set_vars}
 

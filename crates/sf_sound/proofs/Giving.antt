@@ -10,13 +10,13 @@ use Rattle.sf_base.specs.declared.place.Place.{Place}
 use Rattle.sf_base.specs.declared.value.Value.{Value}
 use Rattle.sf_base.specs.Variables.{same_var}
 use Rattle.sf_rules.specs.Setting.{Setting}
-use Rattle.sf_safe.specs.Local.{Local, put_variable}
+use Rattle.sf_safe.specs.Checked.Local.{Local, put_variable}
 use Rattle.sf_sound.proofs.FreshTerms.{put-agrees, set_all-all}
 use Rattle.sf_sound.proofs.Standing.{domain-put}
 use Rattle.sf_sound.proofs.States.{StateSuits, items-of, state-of, suits-of}
 use Rattle.sf_sound.proofs.VariableTerms.{all-listed, all-order, remove_all-all, remove_all-listed, remove_all-order}
-use Rattle.sf_sound.specs.Internal.Claims.{put_values, with_cells}
-use Rattle.sf_sound.specs.Internal.Suits.{Claim, Domain, HasDomain, IsAssuming}
+use Rattle.sf_sound.specs.Checked.Claims.{put_values, with_cells}
+use Rattle.sf_sound.specs.Checked.Suits.{Claim, Domain, HasDomain, IsAssuming}
 use Rattle.sf_sym.specs.Below.{IsBelow}
 use Rattle.sf_sym.specs.declared.term.Term.{Term}
 use Rattle.sf_sym.specs.Goal.{Item, gave, Goal}

@@ -21,10 +21,10 @@ use Rattle.sf_calls.specs.Assigned.{MayChange}
 use Rattle.sf_core.specs.Machine.Config.{Item, command, items, leave}
 use Rattle.sf_core.specs.Program.Formed.{IsOfResource, variable_count}
 use Rattle.sf_core.specs.Program.Syntax.{Block, done, then, Command, assign, look_up, mutate, new, dispose, if, while, call, fork, with, Program}
-use Rattle.sf_safe.specs.Lemmas.{local-weaken}
-use Rattle.sf_safe.specs.Local.{HasJustVars, HasVar, IsShare, Local, LocalParts, look, put_local, put_variable}
-use Rattle.sf_safe.specs.LocalSafe.{LocalSafe}
-use Rattle.sf_sound.specs.Internal.Suits.{is_of}
+use Rattle.sf_safe.specs.Checked.Lemmas.{local-weaken}
+use Rattle.sf_safe.specs.Checked.Local.{HasJustVars, HasVar, IsShare, Local, LocalParts, look, put_local, put_variable}
+use Rattle.sf_safe.specs.Checked.LocalSafe.{LocalSafe}
+use Rattle.sf_sound.specs.Checked.Suits.{is_of}
 
 -- WHAT STEPS MAY CHANGE
 abbrev mutual

@@ -6,15 +6,15 @@ use Rattle.sf_base.specs.declared.place.Place.{Place}
 use Rattle.sf_core.specs.declared.assertion.Test.{Test}
 use Rattle.sf_core.specs.declared.command.Expr.{Expr}
 use Rattle.sf_core.specs.Program.Syntax.{Assertion, Block, while}
-use Rattle.sf_rules.specs.LawsOfCommands.{before_command}
+use Rattle.sf_rules.specs.Checked.LawsOfCommands.{before_command}
 use Rattle.sf_rules.specs.Setting.{Setting}
 use Rattle.sf_rules.specs.Words.{pending_assertion, to_take}
-use Rattle.sf_safe.specs.Local.{value_in}
+use Rattle.sf_safe.specs.Checked.Local.{value_in}
 use Rattle.sf_sound.proofs.Annotated.{usable-shown}
 use Rattle.sf_sound.proofs.States.{items-of, items-take, state-of, suits-of, terms-below, terms-values}
 use Rattle.sf_sound.proofs.Standing.{form-command}
 use Rattle.sf_sound.proofs.Words.{showing-holds, taking-does, taking-showing}
-use Rattle.sf_sound.specs.Internal.Suits.{Claim}
+use Rattle.sf_sound.specs.Checked.Suits.{Claim}
 use Rattle.sf_sym.specs.Goal.{Item, head}
 use Rattle.sf_sym.specs.State.{State, term}
 

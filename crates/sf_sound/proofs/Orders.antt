@@ -12,11 +12,11 @@ use Rattle.sf_core.specs.Assertions.Sat.{value}
 use Rattle.sf_core.specs.declared.assertion.Operand.{Operand}
 use Rattle.sf_core.specs.Program.Formed.{AssertionWithin}
 use Rattle.sf_core.specs.Program.Syntax.{Assertion, Conjunct, holds, points, segment, tree, choose, Conjuncts, none, also, Level, level}
-use Rattle.sf_precise.specs.Laws.{OrderKeepsMeaning, OrderedIsDetermined}
+use Rattle.sf_precise.specs.Checked.Laws.{OrderKeepsMeaning, OrderedIsDetermined}
 use Rattle.sf_precise.specs.Order.{IsFirstReady, IsOrder, IsOrderFrom, IsOrderInside, IsOrderOf, IsOrderWithin}
 use Rattle.sf_rules.specs.Setting.{Setting}
 use Rattle.sf_sound.proofs.Plain.{plain-of}
-use Rattle.sf_sound.specs.Internal.Suits.{IsUsable}
+use Rattle.sf_sound.specs.Checked.Suits.{IsUsable}
 
 module _ {E : Type 0} (x : Operand E) where
   -- in the first that is ready, and in the others

@@ -14,7 +14,7 @@ use Rattle.sf_calls.specs.Assigned.{MayChange}
 use Rattle.sf_calls.specs.Around.{Shares}
 use Rattle.sf_calls.specs.Conditions.{Enters, Free, Mentions, Takes}
 use Rattle.sf_calls.specs.FirstBreach.{Conditions}
-use Rattle.sf_calls.specs.Lemmas.Sites.{at_one}
+use Rattle.sf_calls.specs.Checked.Lemmas.Sites.{at_one}
 use Rattle.sf_calls.specs.Outside.{EntersIn, IsAmong, IsOutside, OccursOutside, owner}
 use Rattle.sf_calls.specs.Sets.{AreSetsOf, IsEarlier, IsEarlierResource, Sets}
 use Rattle.sf_core.specs.Assertions.Determined.{Determined, plain, take, all_taken}
@@ -29,14 +29,14 @@ use Rattle.sf_core.specs.Program.Formed.{AssertionWithin, CallWithin, ExprWithin
 use Rattle.sf_core.specs.Program.Heads.{Site, head_regions, occurrences_at, sites}
 use Rattle.sf_core.specs.Program.Syntax.{Assertion, Procedure}
 use Rattle.sf_precise.specs.Annotations.{annotations_in}
-use Rattle.sf_precise.specs.Laws.{OrderingExists}
+use Rattle.sf_precise.specs.Checked.Laws.{OrderingExists}
 use Rattle.sf_precise.specs.Order.{IsOrderOf, IsOrdering}
 use Rattle.sf_rules.specs.Setting.{IsSettingOf, Setting}
 use Rattle.sf_sym.specs.declared.tag.Tag.TheVariants as t
 use Rattle.sf_sound.proofs.AsWritten.{IsAsWritten, procedure-proved}
 use Rattle.sf_sound.proofs.Races.{sound-by}
 use Rattle.sf_sound.proofs.SmallPrograms.{alone, everywhere, no_scope, none-named, of-two, set-nothing, set-of_each}
-use Rattle.sf_sound.specs.Examples.{PairIsSound, at_both, at_x, clear, clears, clears_both, hd, pair, pair_tags, place, x, y}
+use Rattle.sf_sound.specs.Checked.Examples.{PairIsSound, at_both, at_x, clear, clears, clears_both, hd, pair, pair_tags, place, x, y}
 use Rattle.sf_rules.specs.Proving.{Proves}
 use Rattle.sf_sound.specs.Proofs.{ProofsAreSound}
 

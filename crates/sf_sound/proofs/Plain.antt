@@ -32,7 +32,7 @@ use Rattle.sf_core.specs.Program.Syntax.{Assertion, Conjunct, holds, points, seg
 use Rattle.sf_rules.specs.Setting.{Setting}
 use Rattle.sf_rules.specs.First.{links_of, number_of}
 use Rattle.sf_sym.specs.Formed.{AllFormed, IsCounted, IsScoped, LevelFormed, OneFormed}
-use Rattle.sf_sound.specs.Internal.Suits.{IsPlain}
+use Rattle.sf_sound.specs.Checked.Suits.{IsPlain}
 use Rattle.sf_sym.specs.declared.term.Term.{Term}
 use Rattle.sf_sym.specs.Mapped.{conjunct_with, conjuncts_with, level_with, operand_with, test_with}
 use Rattle.sf_sym.specs.Pending.{conjuncts_of}

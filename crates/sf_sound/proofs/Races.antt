@@ -18,7 +18,7 @@ use Rattle.sf_calls.specs.Sets.{AreSetsOf}
 use Rattle.sf_core.specs.Assertions.Determined.{Determined}
 use Rattle.sf_core.specs.Machine.Config.{Config, Task}
 use Rattle.sf_core.specs.Machine.Enabled.{IsEnabled, Thing, Writes}
-use Rattle.sf_core.specs.Machine.Examples.{event, one_in}
+use Rattle.sf_core.specs.Checked.Machine.Examples.{event, one_in}
 use Rattle.sf_core.specs.Machine.Next.{next}
 use Rattle.sf_core.specs.Machine.Start.{IsKept, Start}
 use Rattle.sf_core.specs.Machine.Step.{Step}
@@ -28,7 +28,7 @@ use Rattle.sf_precise.specs.Annotations.{annotations_in}
 use Rattle.sf_rules.specs.Proving.{Proves}
 use Rattle.sf_rules.specs.Setting.{IsSettingOf, Setting}
 use Rattle.sf_safe.specs.Law.{IsSound}
-use Rattle.sf_sound.specs.ExamplesOfRaces.{RacesAtFork}
+use Rattle.sf_sound.specs.Checked.ExamplesOfRaces.{RacesAtFork}
 use Rattle.sf_sound.specs.Proofs.{ProofsAreSound}
 use Rattle.sf_sym.specs.declared.tag.Tag.{Tag}
 

@@ -23,8 +23,8 @@ use Rattle.sf_core.specs.Program.Syntax.{Resource}
 use Rattle.sf_rules.specs.Rows.Regions.{variables_from}
 use Rattle.sf_rules.specs.Setting.{Setting}
 use Rattle.sf_rules.specs.Words.{pending_assertion, to_take}
-use Rattle.sf_safe.specs.Local.{Local, look, value_in}
-use Rattle.sf_safe.specs.LocalSafe.{LocalLeaves, LocalSafe}
+use Rattle.sf_safe.specs.Checked.Local.{Local, look, value_in}
+use Rattle.sf_safe.specs.Checked.LocalSafe.{LocalLeaves, LocalSafe}
 use Rattle.sf_sound.proofs.Annotated.{usable-same, usable-shown}
 use Rattle.sf_sound.proofs.FreshTerms.{agrees-fewer}
 use Rattle.sf_sound.proofs.Keeping.{of-decides, of-is, some-has}
@@ -32,8 +32,8 @@ use Rattle.sf_sound.proofs.Standing.{body-assuming, body-does}
 use Rattle.sf_sound.proofs.Regions.{of-listed}
 use Rattle.sf_sound.proofs.States.{StateSuits, items-of, items-take, state-of, suits-of, terms-below, terms-values}
 use Rattle.sf_sound.proofs.Words.{body-empty, showing-holds, taking-does, taking-showing}
-use Rattle.sf_sound.specs.Internal.Claims.{Owed, steps, with_cells}
-use Rattle.sf_sound.specs.Internal.Suits.{Claim, Domain, HasDomain, IsBody, IsUsable, ResourceSuits, Suits, is_of, without_resource}
+use Rattle.sf_sound.specs.Checked.Claims.{Owed, steps, with_cells}
+use Rattle.sf_sound.specs.Checked.Suits.{Claim, Domain, HasDomain, IsBody, IsUsable, ResourceSuits, Suits, is_of, without_resource}
 use Rattle.sf_sym.specs.declared.term.Term.{Term}
 use Rattle.sf_sym.specs.Goal.{Item, exit, gave, Goal}
 use Rattle.sf_sym.specs.HoldsIn.{HoldsIn}

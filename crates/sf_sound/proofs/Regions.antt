@@ -25,27 +25,27 @@ use Rattle.sf_core.specs.declared.command.Expr.TheVariants.{Var as Variable, Nil
 use Rattle.sf_core.specs.Machine.Config.{items, leave}
 use Rattle.sf_core.specs.Program.Formed.{ExprWithin, variable_count}
 use Rattle.sf_core.specs.Program.Syntax.{Block, Resource, with}
-use Rattle.sf_rules.specs.LawsOfCommands.{before_command}
+use Rattle.sf_rules.specs.Checked.LawsOfCommands.{before_command}
 use Rattle.sf_rules.specs.Rows.Regions.{variables_from}
 use Rattle.sf_rules.specs.Setting.{Setting}
 use Rattle.sf_rules.specs.Words.{pending_assertion, to_add, to_add_test}
-use Rattle.sf_safe.specs.Local.{IsShare, Local, LocalParts, look, value_in}
-use Rattle.sf_safe.specs.LocalSafe.{LocalSafe}
+use Rattle.sf_safe.specs.Checked.Local.{IsShare, Local, LocalParts, look, value_in}
+use Rattle.sf_safe.specs.Checked.LocalSafe.{LocalSafe}
 use Rattle.sf_sound.proofs.Annotated.{HaveValues, usable-assumed, usable-same}
 use Rattle.sf_sound.proofs.Keeping.{of-decides, of-is, share-some, share-token, size, some-apart, some-has, some-splits}
 use Rattle.sf_sound.proofs.Standing.{body-assuming, body-does, body-run, domain-test, form-command, owed-run, steps-run}
 use Rattle.sf_sound.proofs.States.{StateSuits, items-add, items-of, items-run, renewed, renewed-apart, renewed-atoms, renewed-vars, state-fresh, state-of, suits-of, terms-below, terms-values}
 use Rattle.sf_sound.proofs.Tests.{items-test, pending_test, test-holds, test-within}
 use Rattle.sf_sound.proofs.Words.{adding-assuming, adding-does, body-holds}
-use Rattle.sf_sym.specs.Lemmas.Adding.{adding-holds}
-use Rattle.sf_sound.specs.Internal.Claims.{Owed, steps}
-use Rattle.sf_sound.specs.Internal.Suits.{BlockSuits, Claim, Domain, HasDomain, IsBody, IsUsable, LacksResource, ReadsTest, ResourceSuits, Suits, TodoSuits, is_of, with_resource, without_resource}
+use Rattle.sf_sym.specs.Checked.Lemmas.Adding.{adding-holds}
+use Rattle.sf_sound.specs.Checked.Claims.{Owed, steps}
+use Rattle.sf_sound.specs.Checked.Suits.{BlockSuits, Claim, Domain, HasDomain, IsBody, IsUsable, LacksResource, ReadsTest, ResourceSuits, Suits, TodoSuits, is_of, with_resource, without_resource}
 use Rattle.sf_sym.specs.Below.{AllInItem, IsBelow}
 use Rattle.sf_sym.specs.declared.term.Term.{Term}
 use Rattle.sf_sym.specs.Goal.{Item, exit, Goal, to_run}
 use Rattle.sf_sym.specs.Holds.{AddsHold, AtomsHold}
 use Rattle.sf_sym.specs.HoldsIn.{HoldsIn}
-use Rattle.sf_sym.specs.Lemmas.Below.{below-more, items-weaker}
+use Rattle.sf_sym.specs.Checked.Lemmas.Below.{below-more, items-weaker}
 use Rattle.sf_sym.specs.State.{State, term}
 use Rattle.sf_sym.specs.Variables.{with_fresh}
 

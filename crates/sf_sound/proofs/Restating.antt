@@ -8,8 +8,8 @@ use Rattle.sf_base.proofs.MapSplits.{splits-assoc_left}
 use Rattle.sf_base.specs.declared.ids.Var.{Var}
 use Rattle.sf_base.specs.declared.place.Place.{Place}
 use Rattle.sf_consume.specs.Wants.{still_wanted}
-use Rattle.sf_produce.specs.Laws.{HoldsAssumed, assuming}
-use Rattle.sf_rules.specs.LawsOfConjuncts.{LeftToShow, showing}
+use Rattle.sf_produce.specs.Checked.Laws.{HoldsAssumed, assuming}
+use Rattle.sf_rules.specs.Checked.LawsOfConjuncts.{LeftToShow, showing}
 use Rattle.sf_rules.specs.Setting.{Setting}
 use Rattle.sf_sound.proofs.Carried.{does-restated}
 use Rattle.sf_sound.proofs.CommandChildren.{IsOrdered}
@@ -17,16 +17,16 @@ use Rattle.sf_sound.proofs.Commands.{pick}
 use Rattle.sf_sound.proofs.StateChildren.{AllStay, StateStays}
 use Rattle.sf_sound.proofs.Subtracting.{Lists}
 use Rattle.sf_sound.proofs.Words.{adding-assuming, adding-does, adding-suits, showing-holds, taking-does, taking-showing, taking-suits}
-use Rattle.sf_sound.specs.Internal.Claims.{Does, with_cells}
-use Rattle.sf_sound.specs.Internal.Suits.{Claim, Domain, HasForm, IsAssuming, IsBody, IsShowing, Suits, TodoSuits}
+use Rattle.sf_sound.specs.Checked.Claims.{Does, with_cells}
+use Rattle.sf_sound.specs.Checked.Suits.{Claim, Domain, HasForm, IsAssuming, IsBody, IsShowing, Suits, TodoSuits}
 use Rattle.sf_sym.specs.Below.{AreBelow}
 use Rattle.sf_sym.specs.declared.term.Term.{Term}
 use Rattle.sf_sym.specs.Equalities.{item_with}
 use Rattle.sf_sym.specs.Formed.{AreFormed}
 use Rattle.sf_sym.specs.Goal.{Item, run, add, take, gave, head, again, exit, return, end, Goal, taking}
-use Rattle.sf_sym.specs.Laws.{Follows, HoldsAsBefore, KeptWith}
-use Rattle.sf_sym.specs.Lemmas.Below.{below-value}
-use Rattle.sf_sym.specs.Lemmas.Restated.{same-items}
+use Rattle.sf_sym.specs.Checked.Laws.{Follows, HoldsAsBefore, KeptWith}
+use Rattle.sf_sym.specs.Checked.Lemmas.Below.{below-value}
+use Rattle.sf_sym.specs.Checked.Lemmas.Restated.{same-items}
 use Rattle.sf_sym.specs.Pending.{Pending}
 use Rattle.sf_sym.specs.Ready.{AreInOrder, is_listed}
 use Rattle.sf_sym.specs.State.{State}

@@ -17,26 +17,26 @@ use Rattle.sf_base.specs.HeapStore.{own}
 use Rattle.sf_calls.specs.Conditions.{Enters, Free, Mentions, Takes}
 use Rattle.sf_calls.specs.declared.breach.Breach.TheVariants.{ParallelShares}
 use Rattle.sf_calls.specs.FirstBreach.{Conditions, FirstBreach}
-use Rattle.sf_calls.specs.Lemmas.Sites.{at_one}
+use Rattle.sf_calls.specs.Checked.Lemmas.Sites.{at_one}
 use Rattle.sf_calls.specs.Outside.{EntersIn, IsAmong, IsOutside, OccursOutside, owner}
 use Rattle.sf_calls.specs.Sets.{AreSetsOf, IsEarlier, IsEarlierResource, Sets}
 use Rattle.sf_core.specs.Assertions.Determined.{Determined}
 use Rattle.sf_core.specs.Assertions.Occurs.{VarOccursIn}
 use Rattle.sf_core.specs.declared.command.Occurrence.{Occurrence}
 use Rattle.sf_core.specs.Machine.Enabled.{variable}
-use Rattle.sf_core.specs.Machine.Examples.{at_own, emp, here, one_in}
+use Rattle.sf_core.specs.Checked.Machine.Examples.{at_own, emp, here, one_in}
 use Rattle.sf_core.specs.Machine.HeldBy.{HeldBy}
 use Rattle.sf_core.specs.Machine.Start.{Start, initial_config}
 use Rattle.sf_core.specs.Program.Formed.{CallWithin, ExprWithin, HasCounts, IsFormed, IsInBody, IsSettable, ProcedureWithin}
 use Rattle.sf_core.specs.Program.Heads.{Site, head_regions, occurrences_at, sites}
 use Rattle.sf_core.specs.Program.Syntax.{Assertion, Procedure}
 use Rattle.sf_precise.specs.Annotations.{annotations_in}
-use Rattle.sf_precise.specs.Laws.{OrderingExists}
+use Rattle.sf_precise.specs.Checked.Laws.{OrderingExists}
 use Rattle.sf_precise.specs.Order.{IsOrdering}
 use Rattle.sf_sound.proofs.AsWritten.{IsAsWritten, procedure-proved}
 use Rattle.sf_sound.proofs.SmallPrograms.{emp-determined, emp-no_var, emp-ordered, emp-within, everywhere, of-three, set-nothing, set-of_each}
 use Rattle.sf_sound.proofs.Races.{forks-deep, none-there, one-kept, one-no_more, race-of, race-unsound}
-use Rattle.sf_sound.specs.ExamplesOfRaces.{RacesAtFork, SharedWritersRace, passes_x, sets, sets_too, sets_twice, shared_writers, shared_writers_tags}
+use Rattle.sf_sound.specs.Checked.ExamplesOfRaces.{RacesAtFork, SharedWritersRace, passes_x, sets, sets_too, sets_twice, shared_writers, shared_writers_tags}
 use Rattle.sf_rules.specs.Proving.{Proves}
 use Rattle.sf_rules.specs.Setting.{IsSettingOf, Setting}
 use Rattle.sf_sym.specs.declared.tag.Tag.TheVariants as t

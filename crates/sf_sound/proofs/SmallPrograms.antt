@@ -20,7 +20,7 @@ use Rattle.sf_core.specs.Assertions.Scopes.{overlap}
 use Rattle.sf_core.specs.declared.assertion.Scope.{Scope}
 use Rattle.sf_core.specs.declared.command.Expr.{Expr}
 use Rattle.sf_core.specs.declared.command.Occurrence.{Occurrence}
-use Rattle.sf_core.specs.Machine.Examples.{emp, one_cell_at, own_one, at_own}
+use Rattle.sf_core.specs.Checked.Machine.Examples.{emp, one_cell_at, own_one, at_own}
 use Rattle.sf_core.specs.Program.Formed.{AssertionWithin, ExprWithin}
 use Rattle.sf_core.specs.Program.Syntax.{Procedure}
 use Rattle.sf_precise.specs.Order.{IsOrderOf}

@@ -3,19 +3,19 @@
 use Rattle.std.specs.List.{AllByRecursion, slice_get}
 use Rattle.std.proofs.Common.{◌≡◌, ℕ, zero, suc, ◌+◌, Some, List, [], ◌∷◌, refl, sym, subst, arith}
 use Rattle.std.proofs.lemmas.Option.{none-some, same_Some}
-use Rattle.sf_calls.specs.Laws.{ChangesAreAssigned, FirstBreachIsBroken}
+use Rattle.sf_calls.specs.Checked.Laws.{ChangesAreAssigned, FirstBreachIsBroken}
 use Rattle.sf_core.specs.Assertions.Determined.{Determined}
 use Rattle.sf_core.specs.Program.Syntax.{Assertion, Procedure}
-use Rattle.sf_precise.specs.Laws.{DeterminedHasOrder, OrderKeepsForm, OrderKeepsMeaning, OrderedIsDetermined}
+use Rattle.sf_precise.specs.Checked.Laws.{DeterminedHasOrder, OrderKeepsForm, OrderKeepsMeaning, OrderedIsDetermined}
 use Rattle.sf_precise.specs.Order.{IsOrderOf, IsOrdering}
 use Rattle.sf_rules.specs.Setting.{Setting}
-use Rattle.sf_safe.specs.LocalSafe.{LocallySafeProgramsAreSound}
+use Rattle.sf_safe.specs.Checked.LocalSafe.{LocallySafeProgramsAreSound}
 use Rattle.sf_sound.proofs.Beginnings.{body-safe}
 use Rattle.sf_sound.proofs.Bodies.{IsSane}
 use Rattle.sf_sound.proofs.Table.{RowLaws, row-claims}
 use Rattle.sf_rules.specs.First.{first_goal}
 use Rattle.sf_rules.specs.Proving.{Proof, Proofs, ProvesFrom, and, by, no_more}
-use Rattle.sf_sound.specs.Internal.Suits.{Claim}
+use Rattle.sf_sound.specs.Checked.Suits.{Claim}
 use Rattle.sf_sound.specs.Proofs.{ProofsAreSound}
 use Rattle.sf_sym.specs.declared.tag.Tag.{Tag}
 use Rattle.sf_sym.specs.Goal.{Goal}

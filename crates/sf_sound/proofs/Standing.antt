@@ -16,18 +16,18 @@ use Rattle.sf_core.specs.declared.command.Expr.TheVariants.{Var as Variable, Nil
 use Rattle.sf_core.specs.declared.fields.Links.{Links}
 use Rattle.sf_core.specs.Machine.Config.{command, items}
 use Rattle.sf_core.specs.Program.Syntax.{Block, done, then, Command, Program}
-use Rattle.sf_rules.specs.LawsOfCommands.{IsTestKnown, before_command}
+use Rattle.sf_rules.specs.Checked.LawsOfCommands.{IsTestKnown, before_command}
 use Rattle.sf_rules.specs.Setting.{Setting}
-use Rattle.sf_safe.specs.Local.{HasIn, HasInTest, HasVar, Local, put_variable}
-use Rattle.sf_safe.specs.LocalSafe.{LocalSafe}
+use Rattle.sf_safe.specs.Checked.Local.{HasIn, HasInTest, HasVar, Local, put_variable}
+use Rattle.sf_safe.specs.Checked.LocalSafe.{LocalSafe}
 use Rattle.sf_sound.proofs.Keeping.{Kept, nothing_gone, nothing_lost, some-has}
-use Rattle.sf_sound.specs.Internal.Claims.{Does, Owed, steps}
+use Rattle.sf_sound.specs.Checked.Claims.{Does, Owed, steps}
 use Rattle.sf_sym.specs.Formed.{ItemFormed}
-use Rattle.sf_sound.specs.Internal.Suits.{BlockSuits, Domain, HasDomain, HasForm, IsAssuming, IsBody, Reads, ReadsTest, Suits, TodoSuits}
+use Rattle.sf_sound.specs.Checked.Suits.{BlockSuits, Domain, HasDomain, HasForm, IsAssuming, IsBody, Reads, ReadsTest, Suits, TodoSuits}
 use Rattle.sf_sym.specs.declared.atom.Numbered.{Numbered}
 use Rattle.sf_sym.specs.declared.term.Term.{Term}
 use Rattle.sf_sym.specs.Goal.{Item, run, add, take, gave, head, again, exit, return, end, to_run}
-use Rattle.sf_sym.specs.Laws.{Follows}
+use Rattle.sf_sym.specs.Checked.Laws.{Follows}
 use Rattle.sf_sym.specs.Ready.{AreInOrder, BeginsWithNoAdd, HasOrder, IsKnown, IsReady, is_listed}
 use Rattle.sf_sym.specs.State.{State}
 

@@ -29,8 +29,8 @@ use Rattle.sf_sym.specs.Equalities.{assumed_apart, assumed_equal, atom_with, num
 use Rattle.sf_sym.specs.Fields.{AreAfter, AreOrdered, put_term}
 use Rattle.sf_sym.specs.Goal.{Item, Goal}
 use Rattle.sf_sym.specs.Known.{ends, is_forced, is_nothing}
-use Rattle.sf_sym.specs.Lemmas.{put-order}
-use Rattle.sf_sym.specs.Lemmas.AtomLists.{without-all}
+use Rattle.sf_sym.specs.Checked.Lemmas.{put-order}
+use Rattle.sf_sym.specs.Checked.Lemmas.AtomLists.{without-all}
 use Rattle.sf_sym.specs.Pending.{Pending}
 use Rattle.sf_sym.specs.Ready.{AreInOrder, HasOrder, is_listed}
 use Rattle.sf_sym.specs.State.{State, with_symbols}

@@ -15,24 +15,24 @@ use Rattle.sf_core.specs.Program.Syntax.{Assertion, Block, done, then}
 use Rattle.sf_rules.specs.Setting.{Setting}
 use Rattle.sf_rules.specs.First.{links_of}
 use Rattle.sf_rules.specs.Words.{pending_assertion, to_add, to_take}
-use Rattle.sf_safe.specs.Local.{Local, value_in}
+use Rattle.sf_safe.specs.Checked.Local.{Local, value_in}
 use Rattle.sf_sound.proofs.Annotated.{HaveValues, pending-all}
 use Rattle.sf_sound.proofs.FreshTerms.{agrees-fewer, fresh-below, fresh-listed, fresh-same, fresh-values, fresh_values, put-agrees, put-here, put-other, set_all-all}
 use Rattle.sf_sound.proofs.VariableTerms.{all-listed, all-listed_here, all-order}
 use Rattle.sf_sound.proofs.Words.{adding-suits, taking-suits, unless-all}
-use Rattle.sf_sound.specs.Internal.Claims.{put_values}
+use Rattle.sf_sound.specs.Checked.Claims.{put_values}
 use Rattle.sf_sym.specs.Formed.{ItemFormed}
-use Rattle.sf_sound.specs.Internal.Suits.{BlockSuits, Domain, HasDomain, HasForm, IsPlain, Suits, TodoSuits}
+use Rattle.sf_sound.specs.Checked.Suits.{BlockSuits, Domain, HasDomain, HasForm, IsPlain, Suits, TodoSuits}
 use Rattle.sf_sym.specs.Below.{AllInItem, AllInState, AreBelow, IsBelow}
 use Rattle.sf_sym.specs.declared.atom.Numbered.{Numbered}
 use Rattle.sf_sym.specs.declared.term.Term.{Term}
 use Rattle.sf_sym.specs.Goal.{Item, add, take, Goal, to_run}
 use Rattle.sf_sym.specs.Holds.{Agrees, AtomsHold, Differ}
 use Rattle.sf_sym.specs.HoldsIn.{HoldsIn}
-use Rattle.sf_sym.specs.Lemmas.Below.{atoms-weaker, below-more, paired-weaker, pairs-weaker}
-use Rattle.sf_sym.specs.Lemmas.FreshGoals.{agree, atoms-stay, vars-stay}
-use Rattle.sf_sym.specs.Lemmas.KnownValues.{known-value, term-all}
-use Rattle.sf_sym.specs.Lemmas.OtherValues.{Same, pairs-other_values}
+use Rattle.sf_sym.specs.Checked.Lemmas.Below.{atoms-weaker, below-more, paired-weaker, pairs-weaker}
+use Rattle.sf_sym.specs.Checked.Lemmas.FreshGoals.{agree, atoms-stay, vars-stay}
+use Rattle.sf_sym.specs.Checked.Lemmas.KnownValues.{known-value, term-all}
+use Rattle.sf_sym.specs.Checked.Lemmas.OtherValues.{Same, pairs-other_values}
 use Rattle.sf_sym.specs.Mapped.{conjuncts_with}
 use Rattle.sf_sym.specs.Pending.{conjuncts_of}
 use Rattle.sf_sym.specs.Ready.{AreInOrder, HasOrder, is_listed}

@@ -13,7 +13,7 @@ use Rattle.sf_sym.specs.declared.atom.Numbered.{Numbered}
 use Rattle.sf_sym.specs.declared.tag.Tag.{Tag}
 use Rattle.sf_sym.specs.declared.tag.Tag.TheVariants as tags
 use Rattle.sf_sym.specs.declared.term.Term.{Term}
-use Rattle.sf_sym.specs.Lemmas.AtomLists.{without-all}
+use Rattle.sf_sym.specs.Checked.Lemmas.AtomLists.{without-all}
 use Rattle.sf_sym.specs.Ready.{HasOrder}
 use Rattle.sf_sym.specs.State.{State}
 use Rattle.sf_sym.specs.Tests.{differs, same_term}

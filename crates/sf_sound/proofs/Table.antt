@@ -11,12 +11,12 @@ use Rattle.sf_core.specs.declared.assertion.Test.{Test}
 use Rattle.sf_core.specs.declared.command.Expr.{Expr}
 use Rattle.sf_core.specs.Program.Syntax.{Block, if}
 use Rattle.sf_normal.specs.Knowledge.{absurd_row, drop_row, force_row, split_row, unroll_row}
-use Rattle.sf_normal.specs.Laws.{AbsurdKeepsGoals, DropKeepsGoals, ForceKeepsGoals, SplitKeepsGoals, UnrollKeepsGoals}
+use Rattle.sf_normal.specs.Checked.Laws.{AbsurdKeepsGoals, DropKeepsGoals, ForceKeepsGoals, SplitKeepsGoals, UnrollKeepsGoals}
 use Rattle.sf_produce.specs.Add.{operands}
-use Rattle.sf_rules.specs.Lemmas.{few-left}
-use Rattle.sf_rules.specs.LawsOfCommands.{AssignFollowsEvent, LookFollowsEvent, MutateFollowsEvent, NewFollowsEvent, DisposeFollowsEvent, ThenFollowsTest, ElseFollowsTest}
-use Rattle.sf_rules.specs.LawsOfConjuncts.{AssumeKeepsGoals, AssumedBranchKeepsGoals, SubtractionLeavesRest, ShownBranchLeavesRest}
-use Rattle.sf_rules.specs.RowCases.{Rows, RowsHaveCases, by_absurd, by_add, by_again, by_around, by_assign, by_call, by_choice, by_choice_assumed, by_choice_shown, by_dispose, by_drop, by_end, by_enter, by_exit, by_force, by_fork, by_give, by_look, by_loop, by_mutate, by_new, by_return, by_split, by_step, by_unroll}
+use Rattle.sf_rules.specs.Checked.Lemmas.{few-left}
+use Rattle.sf_rules.specs.Checked.LawsOfCommands.{AssignFollowsEvent, LookFollowsEvent, MutateFollowsEvent, NewFollowsEvent, DisposeFollowsEvent, ThenFollowsTest, ElseFollowsTest}
+use Rattle.sf_rules.specs.Checked.LawsOfConjuncts.{AssumeKeepsGoals, AssumedBranchKeepsGoals, SubtractionLeavesRest, ShownBranchLeavesRest}
+use Rattle.sf_rules.specs.Checked.RowCases.{Rows, RowsHaveCases, by_absurd, by_add, by_again, by_around, by_assign, by_call, by_choice, by_choice_assumed, by_choice_shown, by_dispose, by_drop, by_end, by_enter, by_exit, by_force, by_fork, by_give, by_look, by_loop, by_mutate, by_new, by_return, by_split, by_step, by_unroll}
 use Rattle.sf_rules.specs.Rows.Add.{assume_row}
 use Rattle.sf_rules.specs.Rows.Branches.{branch_row, chosen}
 use Rattle.sf_rules.specs.Rows.Take.{subtract_row}
@@ -35,7 +35,7 @@ use Rattle.sf_sound.proofs.Regions.{enter-claims}
 use Rattle.sf_sound.proofs.Restating.{assumed-claims, restated-claims, shown-claims}
 use Rattle.sf_sound.proofs.StateChildren.{AllStay, absurd-stays, add-stays, drop-stays, force-stays, split-stays, unroll-stays}
 use Rattle.sf_sound.proofs.Subtracting.{Lists, lists-same, option-is, subtracted-lists}
-use Rattle.sf_sound.specs.Internal.Suits.{Claim}
+use Rattle.sf_sound.specs.Checked.Suits.{Claim}
 use Rattle.sf_sym.specs.declared.tag.Tag.{Tag}
 use Rattle.sf_sym.specs.declared.term.Term.{Term}
 use Rattle.sf_sym.specs.Goal.{Item, run, add, take, Goal}

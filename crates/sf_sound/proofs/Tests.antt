@@ -28,7 +28,7 @@ use Rattle.sf_sound.proofs.Annotated.{HaveValues}
 use Rattle.sf_sound.proofs.States.{ItemsSuit}
 use Rattle.sf_sound.proofs.Words.{adding-suits, unless-all}
 use Rattle.sf_sym.specs.Formed.{IsScoped, ItemFormed, PendingFormed}
-use Rattle.sf_sound.specs.Internal.Suits.{Domain, Reads, ReadsTest}
+use Rattle.sf_sound.specs.Checked.Suits.{Domain, Reads, ReadsTest}
 use Rattle.sf_sym.specs.Below.{AllInItem, AllInPending, IsBelow}
 use Rattle.sf_sym.specs.declared.term.Term.{Term}
 use Rattle.sf_sym.specs.Goal.{Item, add}

@@ -10,7 +10,7 @@ use Rattle.sf_base.specs.declared.ids.Var.{Var}
 use Rattle.sf_base.specs.declared.ids.Var.TheVariants.{Own, Shared}
 use Rattle.sf_base.specs.Variables.{same_var}
 use Rattle.sf_sym.specs.declared.term.Term.{Term}
-use Rattle.sf_sym.specs.Lemmas.KnownValues.{before-trans}
+use Rattle.sf_sym.specs.Checked.Lemmas.KnownValues.{before-trans}
 use Rattle.sf_sym.specs.Ready.{AreInOrder, is_listed}
 use Rattle.sf_sym.specs.Variables.{comes_before, remove_var, remove_vars, set_var, set_vars}
 

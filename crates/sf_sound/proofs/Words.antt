@@ -12,9 +12,9 @@ use Rattle.sf_base.specs.HeapStore.{Heap, IsEmpty, ◌⋆◌}
 use Rattle.sf_core.specs.Assertions.Sat.{SatAll}
 use Rattle.sf_core.specs.Program.Syntax.{Conjuncts, none, also, Program}
 use Rattle.sf_rules.specs.Setting.{Setting}
-use Rattle.sf_safe.specs.Local.{Local}
-use Rattle.sf_sound.specs.Internal.Claims.{Does, with_cells}
-use Rattle.sf_sound.specs.Internal.Suits.{Domain, IsAssuming, IsBody, IsShowing, TodoSuits}
+use Rattle.sf_safe.specs.Checked.Local.{Local}
+use Rattle.sf_sound.specs.Checked.Claims.{Does, with_cells}
+use Rattle.sf_sound.specs.Checked.Suits.{Domain, IsAssuming, IsBody, IsShowing, TodoSuits}
 use Rattle.sf_sym.specs.declared.term.Term.{Term}
 use Rattle.sf_sym.specs.Goal.{Item, run, add, take, gave, head, again, exit, return, end, adding, taking, unless_none}
 use Rattle.sf_sym.specs.Holds.{term_value, AddsHold, IsBound, PendingHolds}

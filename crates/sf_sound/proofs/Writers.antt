@@ -14,20 +14,20 @@ use Rattle.sf_base.specs.HeapStore.{Cell}
 use Rattle.sf_calls.specs.Around.{Shares}
 use Rattle.sf_calls.specs.Assigned.{MayChange}
 use Rattle.sf_calls.specs.FirstBreach.{Conditions}
-use Rattle.sf_calls.specs.Laws.{SetsExist}
+use Rattle.sf_calls.specs.Checked.Laws.{SetsExist}
 use Rattle.sf_core.specs.Assertions.Determined.{Determined}
 use Rattle.sf_core.specs.Assertions.Occurs.{VarOccursIn}
 use Rattle.sf_core.specs.Machine.Enabled.{cell}
-use Rattle.sf_core.specs.Machine.Examples.{emp, one_at, one_cell, one_in, own_one}
+use Rattle.sf_core.specs.Checked.Machine.Examples.{emp, one_at, one_cell, one_in, own_one}
 use Rattle.sf_core.specs.Machine.HeldBy.{HeldBy}
 use Rattle.sf_core.specs.Machine.Start.{Start, initial_config}
 use Rattle.sf_core.specs.Program.Formed.{CallWithin, ExprWithin, IsFormed, IsInBody, ProcedureWithin}
 use Rattle.sf_core.specs.Program.Syntax.{Assertion, Procedure}
 use Rattle.sf_precise.specs.Annotations.{annotations_in}
-use Rattle.sf_precise.specs.Laws.{OrderingExists}
+use Rattle.sf_precise.specs.Checked.Laws.{OrderingExists}
 use Rattle.sf_sound.proofs.SmallPrograms.{cell-determined, cell-no_shared, cell-within, emp-determined, emp-within, of-two}
 use Rattle.sf_sound.proofs.Races.{forks-deep, none-there, one-kept, one-no_more, race-of, race-unsound, sound-by}
-use Rattle.sf_sound.specs.ExamplesOfRaces.{RacesAtFork, WritersHaveNoProof, write_x, writers, writes, writes_twice}
+use Rattle.sf_sound.specs.Checked.ExamplesOfRaces.{RacesAtFork, WritersHaveNoProof, write_x, writers, writes, writes_twice}
 use Rattle.sf_safe.specs.Law.{IsSound}
 use Rattle.sf_sound.specs.Proofs.{ProofsAreSound}
 

@@ -1,5 +1,2 @@
 pub mod Proofs
-pub mod Internal
-pub mod Examples
-pub mod ExamplesOfRaces
-pub mod ExamplesOfRegions
+pub mod Checked

@@ -1,8 +1,8 @@
 //! Examples. Each function does nothing; its contract is the result.
 
-ghost use Rattle.sf_sound.specs.Examples.{PairIsSound};
-ghost use Rattle.sf_sound.specs.ExamplesOfRaces.{SharedWritersRace, WritersHaveNoProof};
-ghost use Rattle.sf_sound.specs.ExamplesOfRegions.{BufferIsSound};
+ghost use Rattle.sf_sound.specs.Checked.Examples.{PairIsSound};
+ghost use Rattle.sf_sound.specs.Checked.ExamplesOfRaces.{SharedWritersRace, WritersHaveNoProof};
+ghost use Rattle.sf_sound.specs.Checked.ExamplesOfRegions.{BufferIsSound};
 
 use crate::laws::proofs_are_sound;
 use sf_calls::laws::sets_exist;

@@ -11,7 +11,7 @@ use Rattle.sf_state.specs.declared.line.Entry.{Entry}
 use Rattle.sf_state.specs.declared.fault.StartFault.{StartFault}
 use Rattle.sf_state.specs.declared.fault.StartFault.TheVariants.{OutOfMemory, TooLong}
 use Rattle.sf_state.specs.declared.given.Given.{Given}
-use Rattle.sf_state.specs.Internal.Keeping.{Keeps}
+use Rattle.sf_state.specs.Checked.Keeping.{Keeps}
 use Rattle.sf_lines.specs.Lines.{Text}
 use Rattle.sf_state.specs.Refused.{first_refusal, value_given}
 use Rattle.sf_state.specs.Stated.{Gives, lines_refusal, missing_from, text_refusal, values_given}

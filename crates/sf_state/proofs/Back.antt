@@ -14,7 +14,7 @@ use Rattle.sf_base.proofs.Elements.{contains-cons, contains-nil}
 use Rattle.sf_base.proofs.Numbers.{eqb-less}
 use Rattle.sf_base.proofs.Options.{option_or-assoc}
 use Rattle.sf_lex.specs.Whole.{is_name}
-use Rattle.sf_lines.specs.Lemmas.Written.{lines-before}
+use Rattle.sf_lines.specs.Checked.Lemmas.Written.{lines-before}
 use Rattle.sf_lines.specs.Lines.{Text, lines}
 use Rattle.sf_state.specs.declared.fault.StartFault.TheVariants.{TooLong, Twice}
 use Rattle.sf_state.specs.declared.fields.Setting.{Setting}

@@ -30,8 +30,8 @@ use Rattle.sf_foot.specs.Starting.{StartsWith, store_of}
 use Rattle.sf_foot.specs.Variables.{value_of, values_or_none}
 use Rattle.sf_state.specs.declared.finding.Found.{Found}
 use Rattle.sf_state.specs.Entering.{HoldsNone}
-use Rattle.sf_state.specs.Internal.Beginning.{Fits}
-use Rattle.sf_state.specs.Internal.Found.{AreFound, IsLeast}
+use Rattle.sf_state.specs.Checked.Beginning.{Fits}
+use Rattle.sf_state.specs.Checked.Found.{AreFound, IsLeast}
 use Rattle.sf_state.specs.Starts.{HaveFootprints, IsLeftOver, assertions_of, without}
 use Rattle.sf_state.proofs.Turns.{turns-from_parts}
 use Rattle.sf_state.proofs.Without.{foot-splits, without-append, without-other, without-taken}

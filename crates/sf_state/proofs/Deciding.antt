@@ -11,7 +11,7 @@ use Rattle.sf_base.specs.declared.value.Value.{Value}
 use Rattle.sf_base.specs.HeapStore.{Heap}
 use Rattle.sf_base.proofs.Elements.{contains-cons, contains-nil}
 use Rattle.sf_base.proofs.Members.{contains-flat_map}
-use Rattle.sf_core.specs.Assertions.Laws.{DeterminedHasOneFootprint}
+use Rattle.sf_core.specs.Checked.Assertions.Laws.{DeterminedHasOneFootprint}
 use Rattle.sf_core.specs.Program.Syntax.{Assertion, Procedure, Program, Resource}
 use Rattle.sf_heap.specs.Cells.{Cells, heap_of}
 use Rattle.sf_foot.specs.declared.start.Start.{Start}
@@ -19,11 +19,11 @@ use Rattle.sf_foot.specs.declared.vars.Vars.{Vars}
 use Rattle.sf_foot.specs.Starting.{IsFirstUnit, StartsWith}
 use Rattle.sf_foot.specs.Variables.{value_of}
 use Rattle.sf_precise.specs.Annotations.{AreOrdersOf, annotations_in, notes_of}
-use Rattle.sf_precise.specs.Laws.{OrderedIsDetermined}
+use Rattle.sf_precise.specs.Checked.Laws.{OrderedIsDetermined}
 use Rattle.sf_precise.specs.Order.{IsOrderOf}
 use Rattle.sf_state.specs.declared.fault.StartFault.{StartFault}
 use Rattle.sf_state.specs.declared.fault.StartFault.TheVariants as fault
-use Rattle.sf_state.specs.Internal.Beginning.{Begins}
+use Rattle.sf_state.specs.Checked.Beginning.{Begins}
 use Rattle.sf_lines.specs.Lines.{Text}
 use Rattle.sf_state.specs.Names.{names_of}
 use Rattle.sf_state.specs.Stated.{text_refusal}

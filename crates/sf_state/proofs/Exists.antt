@@ -17,7 +17,7 @@ use Rattle.sf_core.specs.Program.Formed.{IsFormed}
 use Rattle.sf_core.specs.Program.Syntax.{Assertion, Procedure, Program}
 use Rattle.sf_heap.specs.Cells.{Cells, cell_of, heap_of}
 use Rattle.sf_foot.specs.declared.vars.Vars.{Vars}
-use Rattle.sf_foot.specs.Laws.{FootprintIsDecided, HasFootprintOrNone}
+use Rattle.sf_foot.specs.Checked.Laws.{FootprintIsDecided, HasFootprintOrNone}
 use Rattle.sf_foot.specs.Starting.{StartsWith}
 use Rattle.sf_foot.specs.Variables.{value_of}
 use Rattle.sf_lines.specs.Lines.{Text}
@@ -25,7 +25,7 @@ use Rattle.sf_precise.specs.Annotations.{annotations_in}
 use Rattle.sf_state.specs.declared.fault.StartFault.{StartFault}
 use Rattle.sf_state.specs.declared.fault.StartFault.TheVariants as fault
 use Rattle.sf_state.specs.Entering.{HoldsNone}
-use Rattle.sf_state.specs.Laws.{StartExists}
+use Rattle.sf_state.specs.Checked.Laws.{StartExists}
 use Rattle.sf_state.specs.Names.{names_of}
 use Rattle.sf_state.specs.Stated.{text_refusal}
 use Rattle.sf_state.specs.Starts.{GivesState, HaveFootprints, IsStartFault, IsStartText, IsUnmet, assertion_name, assertions_of, left_over, refused, unmet, without}

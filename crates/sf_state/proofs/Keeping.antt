@@ -17,7 +17,7 @@ use Rattle.sf_state.specs.declared.line.Entry.TheVariants.{Nothing, Variable, Ce
 use Rattle.sf_state.specs.declared.fault.StartFault.TheVariants.{Twice, TooLong}
 use Rattle.sf_state.specs.declared.fields.Setting.{Setting}
 use Rattle.sf_state.specs.declared.given.Given.{Given}
-use Rattle.sf_state.specs.Internal.Keeping.{Keeps}
+use Rattle.sf_state.specs.Checked.Keeping.{Keeps}
 use Rattle.sf_lines.specs.Lines.{Text}
 use Rattle.sf_state.specs.Refused.{cell_count, cell_given, cell_in, cell_name, cell_refusal, cell_values, is_cell, name_at, refusal, set_again, value_given, value_in}
 

@@ -11,7 +11,7 @@ use Rattle.std.proofs.lemmas.List.{get_or-take}
 use Rattle.sf_base.proofs.Numbers.{at-self, at-other}
 use Rattle.std.proofs.lemmas.List.{length-take}
 use Rattle.std.proofs.lemmas.Option.{get_or_from_slice_get, slice_get-get_or}
-use Rattle.sf_state.specs.Internal.Found.{IsLeast}
+use Rattle.sf_state.specs.Checked.Found.{IsLeast}
 use Rattle.sf_state.proofs.Raising.{read-at}
 
 -- one more that is added is one fewer that is left

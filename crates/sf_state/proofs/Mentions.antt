@@ -13,7 +13,7 @@ use Rattle.sf_heap.specs.Cells.{AreAt, Cells}
 use Rattle.sf_foot.specs.declared.vars.Vars.{Vars}
 use Rattle.sf_foot.specs.Starting.{IsFirstUnit, IsMentioned}
 use Rattle.sf_foot.specs.Variables.{value_of, values_or_none}
-use Rattle.sf_state.specs.Internal.FirstUnit.{AreInBounds, IsInCell, IsOfOne, IsValueIn, Raises}
+use Rattle.sf_state.specs.Checked.FirstUnit.{AreInBounds, IsInCell, IsOfOne, IsValueIn, Raises}
 use Rattle.sf_state.proofs.Raising.{raises-then}
 
 -- what a list has at a place

@@ -15,8 +15,8 @@ use Rattle.sf_base.proofs.Members.{contains-flat_map_from, contains-map, contain
 use Rattle.sf_base.proofs.Prefixes.{prefix-more, prefix-none}
 use Rattle.sf_lex.specs.Lexeme.{is_word_byte}
 use Rattle.sf_lex.specs.Whole.{is_name}
-use Rattle.sf_lines.specs.Lemmas.Tokens.{name-bytes, name-plain}
-use Rattle.sf_lines.specs.Lemmas.Written.{IsPlain, all-append, all-more, plain-append, split-sign}
+use Rattle.sf_lines.specs.Checked.Lemmas.Tokens.{name-bytes, name-plain}
+use Rattle.sf_lines.specs.Checked.Lemmas.Written.{IsPlain, all-append, all-more, plain-append, split-sign}
 use Rattle.sf_lines.specs.Lines.{Text, split_once}
 use Rattle.sf_core.specs.Program.Syntax.{Procedure, Program, Resource}
 use Rattle.sf_state.specs.Names.{are_names, is_target, names_of, names_of_resource, parameters, place_of, qualified}

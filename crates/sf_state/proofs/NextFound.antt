@@ -20,16 +20,16 @@ use Rattle.sf_base.specs.declared.value.Value.TheVariants.{Nil as nil}
 use Rattle.sf_base.specs.HeapStore.{Heap}
 use Rattle.sf_base.proofs.Elements.{all_by-append, contains-cons}
 use Rattle.sf_base.proofs.Numbers.{at-is}
-use Rattle.sf_core.specs.Assertions.Laws.{DeterminedHasOneFootprint}
+use Rattle.sf_core.specs.Checked.Assertions.Laws.{DeterminedHasOneFootprint}
 use Rattle.sf_core.specs.Assertions.Precise.{IsPrecise}
 use Rattle.sf_core.specs.Assertions.Sat.{Sat, value}
 use Rattle.sf_core.specs.Program.Syntax.{Assertion, Procedure, Program, Resource}
 use Rattle.sf_heap.specs.Cells.{Cells, HasCell, heap_of}
 use Rattle.sf_foot.specs.Footprint.{HasNoFootprint, IsFootprint}
-use Rattle.sf_precise.specs.Laws.{OrderedIsDetermined, OrderKeepsMeaning}
+use Rattle.sf_precise.specs.Checked.Laws.{OrderedIsDetermined, OrderKeepsMeaning}
 use Rattle.sf_precise.specs.Order.{IsOrderOf}
 use Rattle.sf_state.specs.declared.finding.Found.{Found}
-use Rattle.sf_state.specs.Internal.Found.{AreFound}
+use Rattle.sf_state.specs.Checked.Found.{AreFound}
 use Rattle.sf_state.specs.Starts.{IsUnmet, assertions_of, without}
 use Rattle.sf_state.proofs.Turns.{turns-from_parts}
 use Rattle.sf_state.proofs.Without.{member-decides, no_foot-left, no_foot-overlap}

@@ -18,12 +18,12 @@ use Rattle.sf_base.specs.HeapStore.{Heap}
 use Rattle.sf_base.proofs.Equality.{bytes_eq-other, bytes_eq-same}
 use Rattle.sf_base.proofs.Elements.{contains-cons, contains-rest}
 use Rattle.sf_base.proofs.Numbers.{at-is}
-use Rattle.sf_calls.specs.Laws.{SetsExist}
+use Rattle.sf_calls.specs.Checked.Laws.{SetsExist}
 use Rattle.sf_calls.specs.Sets.{IsResSet}
 use Rattle.sf_core.specs.Assertions.Precise.{IsPrecise}
 use Rattle.sf_core.specs.Machine.HeldBy.{HeldBy}
 use Rattle.sf_core.specs.Assertions.Determined.{Determined}
-use Rattle.sf_core.specs.Assertions.Laws.{DeterminedHasOneFootprint}
+use Rattle.sf_core.specs.Checked.Assertions.Laws.{DeterminedHasOneFootprint}
 use Rattle.sf_core.specs.Assertions.Sat.{Sat, value}
 use Rattle.sf_core.specs.Program.Named.{IsFirstNamed}
 use Rattle.sf_core.specs.Program.Syntax.{Assertion, Procedure, Program}
@@ -38,7 +38,7 @@ use Rattle.sf_state.specs.declared.fault.StartFault.{StartFault}
 use Rattle.sf_state.specs.declared.fault.StartFault.TheVariants as fault
 use Rattle.sf_state.specs.Entering.{IsEntry, IsEntryFault, procedure_names}
 use Rattle.sf_state.specs.Finishing.{values_of}
-use Rattle.sf_state.specs.Laws.{AreDetermined, EntryExists, EntryIsUnique, FinishTextExists, FinishTextIsUnique, SameLocations, SameVars, StartIsUnique}
+use Rattle.sf_state.specs.Checked.Laws.{AreDetermined, EntryExists, EntryIsUnique, FinishTextExists, FinishTextIsUnique, SameLocations, SameVars, StartIsUnique}
 use Rattle.sf_state.specs.Names.{names_of}
 use Rattle.sf_state.specs.Starts.{IsStartText, assertions_of}
 use Rattle.sf_state.specs.StateText.{state_text}

@@ -17,7 +17,7 @@ use Rattle.sf_base.proofs.Numbers.{at-self, at-other}
 use Rattle.sf_core.specs.declared.program.Resource.{Resource as CodeResource}
 use Rattle.sf_core.specs.Program.View.{resource_of}
 use Rattle.sf_heap.specs.Cells.{Cells, FieldValues}
-use Rattle.sf_state.specs.Internal.Placing.{Placing}
+use Rattle.sf_state.specs.Checked.Placing.{Placing}
 use Rattle.sf_state.specs.Refused.{name_at}
 use Rattle.sf_state.specs.Starts.{by_resource}
 

@@ -5,7 +5,7 @@ use Rattle.std.proofs.lemmas.List.{take_more}
 use Rattle.std.proofs.lemmas.List.Elements.{Contains-append_cases, Contains-append_left, Contains-append_right}
 use Rattle.std.proofs.lemmas.Option.{get_or_from_slice_get, slice_get-get_or}
 use Rattle.sf_base.proofs.Elements.{contains-single, contains-single_of}
-use Rattle.sf_state.specs.Internal.FirstUnit.{AreInBounds, IsOfOne, Raises}
+use Rattle.sf_state.specs.Checked.FirstUnit.{AreInBounds, IsOfOne, Raises}
 
 -- above nothing
 pub raises-none : (M : ℕ → Type 0) (a : ℕ) → ((l : ℕ) → M l → ⊥) → Raises M a a

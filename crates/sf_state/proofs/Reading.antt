@@ -5,7 +5,7 @@ use Rattle.std.specs.Option.{option_or}
 use Rattle.sf_state.specs.declared.line.Entry.{Entry}
 use Rattle.sf_state.specs.declared.fault.StartFault.{StartFault}
 use Rattle.sf_state.specs.declared.given.Given.{Given}
-use Rattle.sf_state.specs.Internal.Keeping.{Keeps, Reading}
+use Rattle.sf_state.specs.Checked.Keeping.{Keeps, Reading}
 use Rattle.sf_lines.specs.Lines.{Text, lines}
 use Rattle.sf_state.specs.Refused.{first_refusal, refusal}
 use Rattle.sf_state.specs.Says.{entries_from, entries_of, says}

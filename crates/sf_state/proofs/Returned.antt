@@ -21,7 +21,7 @@ use Rattle.sf_heap.specs.Cells.{AreAt, Cells, FieldValues}
 use Rattle.sf_foot.specs.declared.vars.Vars.{Vars}
 use Rattle.sf_lines.specs.Lines.{Text}
 use Rattle.sf_state.specs.Finishing.{values_of}
-use Rattle.sf_state.specs.Laws.{ReadsBack, WrittenStatesReadBack}
+use Rattle.sf_state.specs.Checked.Laws.{ReadsBack, WrittenStatesReadBack}
 use Rattle.sf_state.specs.Names.{names_of, names_of_resource, parameters, qualified}
 use Rattle.sf_state.specs.Stated.{Gives, text_refusal}
 use Rattle.sf_state.specs.Starts.{GivesState, by_resource}

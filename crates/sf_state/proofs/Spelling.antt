@@ -4,8 +4,8 @@ use Rattle.std.proofs.lemmas.Bool.Decides.{nat_tests}
 use Rattle.std.specs.Fmt.{signed_decimal}
 use Rattle.sf_base.specs.declared.value.Value.{Value}
 use Rattle.sf_base.specs.declared.value.Value.TheVariants.{Nil as nil, Int as int, Loc as loc}
-use Rattle.sf_lines.specs.Lemmas.Tokens.{BeginsOtherwise, decimal-back, decimal-plain, otherwise-apart, signed-back, signed-other, signed-plain}
-use Rattle.sf_lines.specs.Lemmas.Written.{IsPlain}
+use Rattle.sf_lines.specs.Checked.Lemmas.Tokens.{BeginsOtherwise, decimal-back, decimal-plain, otherwise-apart, signed-back, signed-other, signed-plain}
+use Rattle.sf_lines.specs.Checked.Lemmas.Written.{IsPlain}
 use Rattle.sf_lines.specs.Lines.{Text}
 use Rattle.sf_state.specs.Written.{IsWritable}
 use Rattle.sf_state.specs.Refused.{cell_name}

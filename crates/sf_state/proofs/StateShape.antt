@@ -22,8 +22,8 @@ use Rattle.sf_foot.specs.Starting.{IsMentioned}
 use Rattle.sf_foot.specs.Variables.{value_of, values_or_none}
 use Rattle.sf_state.specs.declared.fields.Setting.{Setting}
 use Rattle.sf_state.specs.declared.line.Entry.{Entry}
-use Rattle.sf_state.specs.Internal.Beginning.{Fits}
-use Rattle.sf_state.specs.Internal.FirstUnit.{AreInBounds, IsValueIn}
+use Rattle.sf_state.specs.Checked.Beginning.{Fits}
+use Rattle.sf_state.specs.Checked.FirstUnit.{AreInBounds, IsValueIn}
 use Rattle.sf_lines.specs.Lines.{Text, lines}
 use Rattle.sf_state.specs.Names.{names_of, names_of_resource, parameters, qualified}
 use Rattle.sf_state.specs.Refused.{cell_given, cell_values, value_given, values_after}

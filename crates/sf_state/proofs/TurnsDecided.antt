@@ -19,7 +19,7 @@ use Rattle.sf_base.proofs.Options.{is_some-map, some-or_none}
 use Rattle.sf_core.specs.Program.Syntax.{Assertion}
 use Rattle.sf_heap.specs.Cells.{Cells, FieldValues, cell_of, heap_of}
 use Rattle.sf_foot.specs.Footprint.{HasNoFootprint, IsFootprint}
-use Rattle.sf_foot.specs.Laws.{HasFootprintOrNone}
+use Rattle.sf_foot.specs.Checked.Laws.{HasFootprintOrNone}
 use Rattle.sf_state.specs.Starts.{HaveFootprints, IsUnmet, without}
 use Rattle.sf_state.proofs.NextFound.{distinct-append}
 use Rattle.sf_state.proofs.Once.{finish-keys}

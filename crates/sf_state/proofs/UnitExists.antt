@@ -10,7 +10,7 @@ use Rattle.sf_base.proofs.Elements.{contains-cons, contains-nil, contains-rest}
 use Rattle.sf_heap.specs.Cells.{Cells, FieldValues}
 use Rattle.sf_foot.specs.declared.vars.Vars.{Vars}
 use Rattle.sf_foot.specs.Starting.{IsFirstUnit, IsMentioned}
-use Rattle.sf_state.specs.Internal.FirstUnit.{AreInBounds, IsInCell, IsLocation, IsOfOne, IsValueIn, Raises}
+use Rattle.sf_state.specs.Checked.FirstUnit.{AreInBounds, IsInCell, IsLocation, IsOfOne, IsValueIn, Raises}
 use Rattle.sf_state.proofs.Mentions.{unit-first}
 use Rattle.sf_state.proofs.Once.{finish-keys}
 use Rattle.sf_state.proofs.Raising.{raises-none, raises-same, raises-then}

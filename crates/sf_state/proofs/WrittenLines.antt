@@ -6,7 +6,7 @@ use Rattle.std.specs.Option.{option_map}
 use Rattle.sf_base.specs.declared.value.Value.{Value}
 use Rattle.sf_base.specs.declared.value.Value.TheVariants.{Nil as nil}
 use Rattle.sf_lex.specs.Whole.{is_name}
-use Rattle.sf_lines.specs.Lemmas.Written.{IsPlain, all-append, is_inline, is_visible, lines-before, plain-append, plain-inline, split-sign, words-before, words-plain}
+use Rattle.sf_lines.specs.Checked.Lemmas.Written.{IsPlain, all-append, is_inline, is_visible, lines-before, plain-append, plain-inline, split-sign, words-before, words-plain}
 use Rattle.sf_lines.specs.Lines.{Text, lines, only, split_once, words}
 use Rattle.sf_state.specs.declared.fields.Fields.TheVariants.{Are}
 use Rattle.sf_state.specs.declared.fields.Setting.{Setting}

@@ -9,5 +9,4 @@ pub mod Entering
 pub mod Starts
 pub mod Finishing
 pub mod Written
-pub mod Laws
-pub mod Internal
+pub mod Checked

@@ -11,7 +11,7 @@ ghost use Rattle.sf_core.specs.Program.Syntax.{Assertion as A};
 ghost use Rattle.sf_core.specs.Program.View.{assertion_of};
 ghost use Rattle.sf_foot.specs.Variables.{value_of};
 ghost use Rattle.sf_precise.specs.Order.{IsOrderOf};
-ghost use Rattle.sf_state.specs.Internal.Found.{AllFound, AlsoFound, AreFound, IsLeast};
+ghost use Rattle.sf_state.specs.Checked.Found.{AllFound, AlsoFound, AreFound, IsLeast};
 ghost use Rattle.sf_state.specs.Starts.{assertion_name};
 
 use crate::fault::StartFault;

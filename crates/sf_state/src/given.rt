@@ -8,7 +8,7 @@ ghost use Rattle.sf_core.specs.Program.ProgramView.{program_of};
 ghost use Rattle.sf_state.specs.declared.line.Entry.{Entry as E};
 ghost use Rattle.sf_state.specs.declared.line.Entry.TheVariants as e;
 ghost use Rattle.sf_lines.specs.Lines.{Text};
-ghost use Rattle.sf_state.specs.Internal.Keeping.{AllTaken, IsPlaced, Keeps, Taken};
+ghost use Rattle.sf_state.specs.Checked.Keeping.{AllTaken, IsPlaced, Keeps, Taken};
 ghost use Rattle.sf_state.specs.Says.{entries_of, says};
 ghost use Rattle.sf_state.specs.Refused.{cell_name, cell_values, name_at, is_set, set_again, values_after};
 

@@ -1,6 +1,6 @@
 //! Laws of entries, starts and texts. Each function only cites other laws; its contract is the law.
 
-ghost use Rattle.sf_state.specs.Laws.{EntryExists, EntryIsUnique, FinishTextExists, FinishTextIsUnique, StartExists, StartIsUnique, WrittenStatesReadBack};
+ghost use Rattle.sf_state.specs.Checked.Laws.{EntryExists, EntryIsUnique, FinishTextExists, FinishTextIsUnique, StartExists, StartIsUnique, WrittenStatesReadBack};
 
 use sf_calls::laws::sets_exist;
 use sf_core::laws::assertions::determined_has_one_footprint;

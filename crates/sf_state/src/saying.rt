@@ -1,7 +1,7 @@
 //! What the lines of a text say.
 
 ghost use Rattle.std.specs.Prelude.{◌≡◌, ℕ, IfOk, length};
-ghost use Rattle.sf_state.specs.Internal.Keeping.{IsPlaced};
+ghost use Rattle.sf_state.specs.Checked.Keeping.{IsPlaced};
 ghost use Rattle.sf_core.specs.Program.ProgramView.{program_of};
 ghost use Rattle.sf_lines.specs.Lines.{only, split_once, words};
 ghost use Rattle.sf_state.specs.Says.{cell_said, cell_with, is_finished, said, says, variable_said};

@@ -5,8 +5,8 @@ ghost use Rattle.sf_core.specs.Program.ProgramView.{program_of};
 ghost use Rattle.sf_foot.specs.Starting.{IsMentioned};
 ghost use Rattle.sf_heap.specs.Cells.{AreAt};
 ghost use Rattle.sf_state.specs.Entering.{HoldsNone};
-ghost use Rattle.sf_state.specs.Internal.Beginning.{Begins, Fits};
-ghost use Rattle.sf_state.specs.Internal.FirstUnit.{AreInBounds};
+ghost use Rattle.sf_state.specs.Checked.Beginning.{Begins, Fits};
+ghost use Rattle.sf_state.specs.Checked.FirstUnit.{AreInBounds};
 ghost use Rattle.sf_state.specs.Starts.{DecidesStart};
 
 use crate::fault::StartFault;

@@ -3,7 +3,7 @@
 ghost use Rattle.std.specs.Prelude.{◌≡◌, ◌≤◌, ◌<◌, length, IfSome, slice_get};
 ghost use Rattle.sf_base.specs.declared.limits.TheConstants.{STATE_BYTES};
 ghost use Rattle.sf_core.specs.Program.ProgramView.{program_of};
-ghost use Rattle.sf_state.specs.Internal.Keeping.{AllGiven};
+ghost use Rattle.sf_state.specs.Checked.Keeping.{AllGiven};
 ghost use Rattle.sf_state.specs.Names.{names_of};
 ghost use Rattle.sf_state.specs.Stated.{IsStated};
 

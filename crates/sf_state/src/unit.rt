@@ -3,7 +3,7 @@
 ghost use Rattle.std.specs.Prelude.{◌≡◌, ◌<◌, ◌^◌};
 ghost use Rattle.sf_foot.specs.Starting.{IsFirstUnit, IsMentioned};
 ghost use Rattle.sf_heap.specs.Cells.{AreAt};
-ghost use Rattle.sf_state.specs.Internal.FirstUnit.{AreInBounds, IsInCell, IsLocation, IsOfOne, IsValueIn, Raises};
+ghost use Rattle.sf_state.specs.Checked.FirstUnit.{AreInBounds, IsInCell, IsLocation, IsOfOne, IsValueIn, Raises};
 
 use sf_base::Value;
 use sf_foot::Vars;

@@ -12,8 +12,8 @@ use Rattle.sf_sym.specs.declared.atom.Numbered.{Numbered}
 use Rattle.sf_sym.specs.declared.term.Term.{Term}
 use Rattle.sf_sym.specs.Cells.{atom_at, cell_at, fields_at, state_after_write, with_fields, without}
 use Rattle.sf_sym.specs.Fields.{put_term}
-use Rattle.sf_sym.specs.Internal.Indices.{index_from}
-use Rattle.sf_sym.specs.Lemmas.{points_at, same_term_is}
+use Rattle.sf_sym.specs.Checked.Indices.{index_from}
+use Rattle.sf_sym.specs.Checked.Lemmas.{points_at, same_term_is}
 use Rattle.sf_sym.specs.Tests.{same_term}
 use Rattle.sf_sym.specs.State.{State}
 

@@ -7,7 +7,7 @@ use Rattle.sf_sym.specs.declared.goal.Item.{Item as CodeItem}
 use Rattle.sf_sym.specs.declared.goal.Item.TheVariants.{Run, Add, Take, Gave, Head, Again, Exit, Return, End}
 use Rattle.sf_sym.specs.declared.term.Term.{Term}
 use Rattle.sf_sym.specs.Goal.{Item, items_of, run, unless_none}
-use Rattle.sf_sym.specs.Internal.Items.{is_nothing}
+use Rattle.sf_sym.specs.Checked.Items.{is_nothing}
 
 no_commands : (cs : List CodeCommand) → (length cs == 0) ≡ true → map (λ c. run (command_of c)) cs ≡ []
 no_commands [] e = refl

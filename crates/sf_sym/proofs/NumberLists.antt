@@ -15,7 +15,7 @@ use Rattle.sf_sym.specs.declared.term.Term.{Term}
 use Rattle.sf_sym.specs.Cells.{atom_at, cell_at, fields_at, with_fields, without}
 use Rattle.sf_sym.specs.Equalities.{numbered_with}
 use Rattle.sf_sym.specs.Fields.{put_term}
-use Rattle.sf_sym.specs.Internal.Indices.{index_from}
+use Rattle.sf_sym.specs.Checked.Indices.{index_from}
 use Rattle.sf_sym.proofs.Indices.{cell_of_atom, is_at, no_atom, nothing_without}
 use Rattle.sf_sym.specs.Numbers.{AreDifferent, AreNumbered, AreRising, numbers}
 

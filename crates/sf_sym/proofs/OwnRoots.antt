@@ -13,7 +13,7 @@ use Rattle.sf_sym.specs.declared.atom.Atom.TheVariants.{Points, Ls, Tree}
 use Rattle.sf_sym.specs.declared.atom.Numbered.{Numbered}
 use Rattle.sf_sym.specs.declared.term.Term.{Term}
 use Rattle.sf_sym.specs.declared.term.Term.TheVariants.{Nil, Int, Sym}
-use Rattle.sf_sym.specs.Internal.OwnRoots.{AreApart, HaveOwnCells, HaveOwnRoots, cell_place, cell_symbols, ends_at_constant, first_at_constant, first_unsettled, has_symbol, is_settled, root_place, symbols_at, unsettled_ends, with_symbol}
+use Rattle.sf_sym.specs.Checked.OwnRoots.{AreApart, HaveOwnCells, HaveOwnRoots, cell_place, cell_symbols, ends_at_constant, first_at_constant, first_unsettled, has_symbol, is_settled, root_place, symbols_at, unsettled_ends, with_symbol}
 use Rattle.sf_sym.specs.Known.{first_forced, forced_ends, or_else}
 use Rattle.sf_sym.specs.State.{State}
 use Rattle.sf_sym.specs.Tests.{allocated, allocates, has_cell, has_repeat, is_constant, is_impossible, is_left_out, parts, root, same_term}

@@ -7,7 +7,7 @@ use Rattle.std.proofs.lemmas.List.{get_or_default}
 use Rattle.std.proofs.lemmas.Bool.Decides.{Decides-eqb, Decides-ltb, nat_tests}
 use Rattle.sf_base.proofs.Numbers.{eqb-greater, eqb-less}
 use Rattle.sf_sym.specs.declared.atom.Numbered.{Numbered}
-use Rattle.sf_sym.specs.Internal.Indices.{index_from}
+use Rattle.sf_sym.specs.Checked.Indices.{index_from}
 use Rattle.sf_sym.specs.Numbers.{AreRising, numbers}
 
 -- a number is below all of a list, so below that of each atom

@@ -8,10 +8,10 @@ use Rattle.sf_base.specs.declared.value.Value.TheVariants.{Nil as nil, Loc as lo
 use Rattle.sf_base.proofs.HeapSplits.{at-other, one-same_place, one-single, one-splits, remove_cell, star-drop_left, star-drop_right, star-empty_left, star-empty_right, star-of}
 use Rattle.sf_core.proofs.Assertions.Segments.{nil-not_loc, seg-one}
 use Rattle.sf_base.specs.HeapStore.{Cell, IsOne}
-use Rattle.sf_core.specs.Assertions.Examples.{tail, two_cells}
+use Rattle.sf_core.specs.Checked.Assertions.Examples.{tail, two_cells}
 use Rattle.sf_sym.specs.declared.term.Term.TheVariants.{Nil}
 use Rattle.sf_sym.specs.Holds.{term_value, IsBound}
-use Rattle.sf_sym.specs.Examples.{TwoCellsAreTheGoals, NilIsNotTheGoals, BoundExistentialIsItsTerm, UnboundExistentialIsAnything}
+use Rattle.sf_sym.specs.Checked.Examples.{TwoCellsAreTheGoals, NilIsNotTheGoals, BoundExistentialIsItsTerm, UnboundExistentialIsAnything}
 
 loc-not_nil : (location : ℕ) → loc location ≢ nil
 loc-not_nil a e = nil-not_loc a (sym e)

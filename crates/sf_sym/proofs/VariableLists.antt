@@ -10,7 +10,7 @@ use Rattle.sf_base.specs.declared.ids.Var.TheVariants.{Own, Shared}
 use Rattle.sf_base.specs.Variables.{same_var}
 use Rattle.sf_base.proofs.Variables.{same_var-decides}
 use Rattle.sf_sym.specs.declared.term.Term.{Term}
-use Rattle.sf_sym.specs.Internal.VariablePlaces.{is_var, place_of}
+use Rattle.sf_sym.specs.Checked.VariablePlaces.{is_var, place_of}
 use Rattle.sf_sym.specs.Variables.{AreInOrder, IsBeforeAll, comes_before, remove_var, set_var, set_vars}
 
 lex-trans : (q r s i j k : ℕ) → (nat_lt q r || ((q == r) && nat_lt i j)) ≡ true

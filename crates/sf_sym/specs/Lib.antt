@@ -10,12 +10,9 @@ pub mod Holds
 pub mod HoldsIn
 pub mod Below
 pub mod Formed
-pub mod Laws
-pub mod Lemmas
-pub mod Examples
-pub mod Internal
 pub mod Variables
 pub mod Decided
 pub mod Ready
 pub mod Known
 pub mod Numbers
+pub mod Checked

@@ -4,7 +4,7 @@ ghost use Rattle.std.specs.Prelude.{◌≡◌};
 ghost use Rattle.std.specs.BTreeSet.{contains};
 ghost use Rattle.std.specs.Option.{option_and_then};
 ghost use Rattle.std.specs.Ordering.{nat_cmp};
-ghost use Rattle.sf_sym.specs.Internal.OwnRoots.{first_unsettled, unsettled_ends};
+ghost use Rattle.sf_sym.specs.Checked.OwnRoots.{first_unsettled, unsettled_ends};
 ghost use Rattle.sf_sym.specs.Cells.{atom_at};
 ghost use Rattle.sf_sym.specs.Known.{ends, first_forced, first_nothing, forced_ends, is_nothing};
 

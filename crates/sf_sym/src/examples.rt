@@ -1,6 +1,6 @@
 //! Examples of small goals. Each function does nothing; its contract is the result.
 
-ghost use Rattle.sf_sym.specs.Examples.{BoundExistentialIsItsTerm, NilIsNotTheGoals, TwoCellsAreTheGoals, UnboundExistentialIsAnything};
+ghost use Rattle.sf_sym.specs.Checked.Examples.{BoundExistentialIsItsTerm, NilIsNotTheGoals, TwoCellsAreTheGoals, UnboundExistentialIsAnything};
 
 /// A cell and a list after it, still to be assumed, hold of two cells in a row.
 #[tactic(auto, using(crate::proofs::SmallGoals::two_cells_are_the_goals))]

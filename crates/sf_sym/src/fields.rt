@@ -3,7 +3,7 @@
 ghost use Rattle.std.specs.Prelude.{◌≡◌, ◌≤◌, [], length, map, slice_get, IfOk, OnErr, OnOk};
 ghost use Rattle.sf_sym.specs.Equalities.{put_for};
 ghost use Rattle.sf_sym.specs.Fields.{field_term, put_term};
-ghost use Rattle.sf_sym.specs.Internal.Places.{is_field, place_of};
+ghost use Rattle.sf_sym.specs.Checked.Places.{is_field, place_of};
 
 use crate::replace::Replacement;
 use crate::term::Term;

@@ -5,7 +5,7 @@ ghost use Rattle.std.specs.BTreeSet.{contains};
 ghost use Rattle.std.specs.Bool.{OnTrue};
 ghost use Rattle.std.specs.List.{list_any};
 ghost use Rattle.std.specs.Ordering.{nat_cmp};
-ghost use Rattle.sf_sym.specs.Internal.OwnRoots.{HaveOwnCells, HaveOwnRoots, cell_symbols};
+ghost use Rattle.sf_sym.specs.Checked.OwnRoots.{HaveOwnCells, HaveOwnRoots, cell_symbols};
 ghost use Rattle.sf_sym.specs.Tests.{allocated, allocates, are_both_allocated, differs, differs_at_once, has_cell, has_repeat, is_absurd, is_constant, is_impossible, is_integer_tree, is_left_out, is_pair, parts, root, same_term};
 
 use crate::atom::{Atom, Numbered};

@@ -1,7 +1,7 @@
 //! What the tests of a state tell of each store and heap of which a goal with that state holds.
 //! Each function is a law: calling it gives its fact to the caller's proof, and does nothing.
 
-ghost use Rattle.sf_sym.specs.Laws.{AllocatedTermsAreLocations, AssumedTermsAreBelow, DifferingTermsDiffer, DifferingTermsMayBeAssumed, EqualTermsMayBeAssumed, HeldStatesAreNotAbsurd, HoldsOnTwoHeaps, OtherSymbolsAreFree, RestatedTermsAreSet};
+ghost use Rattle.sf_sym.specs.Checked.Laws.{AllocatedTermsAreLocations, AssumedTermsAreBelow, DifferingTermsDiffer, DifferingTermsMayBeAssumed, EqualTermsMayBeAssumed, HeldStatesAreNotAbsurd, HoldsOnTwoHeaps, OtherSymbolsAreFree, RestatedTermsAreSet};
 
 /// Terms for which `State::differs` is true have different values.
 #[tactic(auto, using(crate::specs::Lemmas::States::differing_terms_differ))]

@@ -8,7 +8,7 @@ ghost use Rattle.sf_base.specs.declared.ids.FieldId.{FieldId as FieldNumber};
 ghost use Rattle.sf_sym.specs.Cells.{atom_at, cell_at, with_fields, without};
 ghost use Rattle.sf_sym.specs.Equalities.{numbered_with, put_for};
 ghost use Rattle.sf_sym.specs.Fields.{put_term};
-ghost use Rattle.sf_sym.specs.Internal.Indices.{index_from};
+ghost use Rattle.sf_sym.specs.Checked.Indices.{index_from};
 ghost use Rattle.sf_sym.specs.Numbers.{AreRising, numbers};
 ghost use Rattle.sf_sym.specs.declared.atom.Numbered.{Numbered as NumberedOf};
 ghost use Rattle.sf_sym.specs.declared.term.Term.{Term as TermOf};

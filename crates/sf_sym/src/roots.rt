@@ -5,7 +5,7 @@ ghost use Rattle.std.specs.BTreeSet.{contains};
 ghost use Rattle.std.specs.Bool.{OnTrue};
 ghost use Rattle.std.specs.Ordering.{nat_cmp};
 ghost use Rattle.std.specs.Prelude.{◌≡◌, ◌++◌, ℕ, IfSome, List, false};
-ghost use Rattle.sf_sym.specs.Internal.OwnRoots.{AreApart, HaveOwnCells, HaveOwnRoots, cell_place, cell_symbols, ends_at_constant, first_at_constant, has_symbol, is_settled, root_place, symbols_at, with_symbol};
+ghost use Rattle.sf_sym.specs.Checked.OwnRoots.{AreApart, HaveOwnCells, HaveOwnRoots, cell_place, cell_symbols, ends_at_constant, first_at_constant, has_symbol, is_settled, root_place, symbols_at, with_symbol};
 ghost use Rattle.sf_sym.specs.declared.atom.Numbered.{Numbered as NumberedOf};
 
 use crate::atom::{Atom, Numbered};

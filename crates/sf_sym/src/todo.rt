@@ -3,7 +3,7 @@
 ghost use Rattle.std.specs.Prelude.{◌≡◌, ◌++◌, [], false, IfOk, IfSome, IfNone, List};
 ghost use Rattle.sf_sym.specs.Goal.{Item as Thing, add, items_of, take, todo_of, unless_none};
 ghost use Rattle.sf_sym.specs.Pending.{pending_of};
-ghost use Rattle.sf_sym.specs.Internal.Items.{is_nothing};
+ghost use Rattle.sf_sym.specs.Checked.Items.{is_nothing};
 
 use crate::goal::Item;
 use crate::pending::Pending;

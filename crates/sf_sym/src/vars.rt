@@ -3,7 +3,7 @@
 ghost use Rattle.std.specs.Prelude.{◌≡◌, ◌+◌, ◌<◌, ◌≤◌, ◌^◌, length, map, position, slice_get, IfOk, IfSome, OnErr, OnOk, vec_capacity, vec_len};
 ghost use Rattle.sf_base.specs.Variables.{same_var};
 ghost use Rattle.sf_sym.specs.Equalities.{put_for};
-ghost use Rattle.sf_sym.specs.Internal.VariablePlaces.{is_var, place_of};
+ghost use Rattle.sf_sym.specs.Checked.VariablePlaces.{is_var, place_of};
 ghost use Rattle.sf_sym.specs.State.{term_at};
 ghost use Rattle.sf_sym.specs.Variables.{AreInOrder, comes_before, fresh_for, remove_var, remove_vars, set_var, set_vars};
 

@@ -19,15 +19,15 @@ use Rattle.sf_calls.specs.Assigned.{MayChange}
 use Rattle.sf_calls.specs.Breaks.{BreaksAt, Breaks, IsAgain}
 use Rattle.sf_calls.specs.FirstBreach.{Conditions, FirstBreach}
 use Rattle.sf_calls.specs.Sets.{Sets, AreSetsOf}
-use Rattle.sf_calls.specs.Lemmas.Broken.{first_broken}
-use Rattle.sf_calls.specs.Lemmas.Least.{takes_within}
-use Rattle.sf_calls.specs.Lemmas.SetsThere.{sets_there}
+use Rattle.sf_calls.specs.Checked.Lemmas.Broken.{first_broken}
+use Rattle.sf_calls.specs.Checked.Lemmas.Least.{takes_within}
+use Rattle.sf_calls.specs.Checked.Lemmas.SetsThere.{sets_there}
 use Rattle.sf_vars.specs.declared.fault.VarFault.{VarFault}
 use Rattle.sf_vars.specs.Faults.{IsVariableName, IsBreachName, IsFirstFault, told_by}
-use Rattle.sf_vars.specs.Laws.{EachProgramHasAnAnswer}
-use Rattle.sf_vars.specs.Internal.Search.{in_procedures, IsVariableIn, IsBreachIn}
+use Rattle.sf_vars.specs.Checked.Laws.{EachProgramHasAnAnswer}
+use Rattle.sf_vars.specs.Checked.Search.{in_procedures, IsVariableIn, IsBreachIn}
 use Rattle.sf_vars.proofs.Fits.{free_in_body}
-use Rattle.sf_calls.specs.Lemmas.Sites.{among_at}
+use Rattle.sf_calls.specs.Checked.Lemmas.Sites.{among_at}
 use Rattle.sf_vars.proofs.Meets.{meets_program}
 
 -- what a call may change may be named where it is made

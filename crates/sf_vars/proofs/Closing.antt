@@ -2,7 +2,7 @@
 use Rattle.sf_vars.proofs.Answered.{program_answered}
 use Rattle.sf_vars.proofs.Exactly.{conditions-apart, fault-once}
 use Rattle.sf_vars.proofs.NothingEarlier.{nothing_earlier}
-use Rattle.sf_vars.specs.Laws.{EachProgramHasAnAnswer, EachProgramHasOneAnswer, NothingComesEarlier}
+use Rattle.sf_vars.specs.Checked.Laws.{EachProgramHasAnAnswer, EachProgramHasOneAnswer, NothingComesEarlier}
 
 pub each_program_has_an_answer : EachProgramHasAnAnswer
 each_program_has_an_answer = program_answered

@@ -8,7 +8,7 @@ use Rattle.sf_core.specs.Program.Syntax.{Procedure, Program, Resource}
 use Rattle.sf_calls.specs.declared.breach.Breach.{Breach}
 use Rattle.sf_calls.specs.declared.breach.Breach.TheVariants.{NotHeld, Reentered, SameReference, ReferenceIsFree, ParallelShares}
 use Rattle.sf_calls.specs.FirstBreach.{Conditions}
-use Rattle.sf_calls.specs.Lemmas.OneBreach.{one_breach}
+use Rattle.sf_calls.specs.Checked.Lemmas.OneBreach.{one_breach}
 use Rattle.sf_vars.specs.declared.fault.VarFault.{VarFault}
 use Rattle.sf_vars.specs.Faults.{IsVariableName, IsBreachName, IsFirstFault, told_by}
 

@@ -8,8 +8,8 @@ use Rattle.std.specs.Option.{option_or}
 use Rattle.std.proofs.lemmas.List.Elements.{Contains-append_cases, Contains-append_left, Contains-append_right}
 use Rattle.sf_base.proofs.Elements.{contains-nil, contains-single, contains-single_of, contains-cons}
 use Rattle.sf_calls.specs.First.{IsFirst}
-use Rattle.sf_calls.specs.Lemmas.InOrder.{Ordered}
-use Rattle.sf_vars.specs.Internal.Search.{found, search_in}
+use Rattle.sf_calls.specs.Checked.Lemmas.InOrder.{Ordered}
+use Rattle.sf_vars.specs.Checked.Search.{found, search_in}
 
 -- what comes first in two lists, the second of which is asked only where the first one has nothing
 pub first-append : {A X : Type 0} (P : X → Type 0) (f : X → A) (xs ys : List X) (o q : Option A)

@@ -11,10 +11,10 @@ use Rattle.sf_core.specs.Machine.HeldBy.{HeldBy}
 use Rattle.sf_core.specs.Program.Syntax.{Command, assign, look_up, mutate, new, dispose, if, while, call, fork, with, Block, done, then, Procedure, Program}
 use Rattle.sf_calls.specs.Conditions.{Takes, Free}
 use Rattle.sf_calls.specs.Sets.{Sets, AreSetsOf, IsResSet, IsVarSet}
-use Rattle.sf_calls.specs.Lemmas.InFile.{free_within}
-use Rattle.sf_calls.specs.Lemmas.Least.{holds_within}
-use Rattle.sf_calls.specs.Lemmas.Within.{callee_within}
-use Rattle.sf_vars.specs.Internal.Search.{HasSets, BlockFits, CommandFits, free_of, takes_of, holds_of}
+use Rattle.sf_calls.specs.Checked.Lemmas.InFile.{free_within}
+use Rattle.sf_calls.specs.Checked.Lemmas.Least.{holds_within}
+use Rattle.sf_calls.specs.Checked.Lemmas.Within.{callee_within}
+use Rattle.sf_vars.specs.Checked.Search.{HasSets, BlockFits, CommandFits, free_of, takes_of, holds_of}
 
 pub free_set : (p : Program) (sets : Sets) (g : ProcId) → AreSetsOf p sets → g.0 < length p.procedures
     → IsVarSet (Free p g) (free_of sets g)

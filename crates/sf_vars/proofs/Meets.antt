@@ -38,18 +38,18 @@ use Rattle.sf_calls.specs.Around.{IsHeld, IsUnheld, Uses, Shares}
 use Rattle.sf_calls.specs.FirstBreach.{resources_from, variables_from, Question, occurs, frees, enters, takes, repeats as again, passes, shares as share, breach_of, IsBroken, call_uses, call_takes, repeats_after, fork_shares, uses_questions, enters_questions, repeats_questions, passes_questions, head_questions, site_questions, questions_from, IsNo, told, FirstBreach}
 use Rattle.sf_calls.specs.Outside.{IsAmong, OccursInValues}
 use Rattle.sf_calls.specs.Sets.{Sets, AreSetsOf, IsResSet, IsEarlier, IsEarlierResource}
-use Rattle.sf_calls.specs.Internal.Tests.{in_references, in_values}
-use Rattle.sf_calls.specs.Lemmas.Decided.{resource, in_references_is, in_values_is}
-use Rattle.sf_calls.specs.Lemmas.Firsts.{none-of}
-use Rattle.sf_calls.specs.Lemmas.Gathered.{earlier_trans, not_earlier}
-use Rattle.sf_calls.specs.Lemmas.InFile.{resource_apart, resources_ordered, resources_there, variables_ordered, free_there}
-use Rattle.sf_calls.specs.Lemmas.InOrder.{ordered_pairs}
-use Rattle.sf_calls.specs.Lemmas.Least.{takes_within}
-use Rattle.sf_calls.specs.Lemmas.Searches.{proc}
-use Rattle.sf_calls.specs.Lemmas.Sites.{among_at}
-use Rattle.sf_vars.specs.Internal.Search.{found, has, with_one, with_all, none_held, lacks, is_in, takes_of, holds_of, free_of, unheld, free_unheld, unheld_in_call, reenters_by_call, repeats, passes_free, may_change, uses, shares, shared_among, free_in_both, shares_in_fork, entered_held, in_head, in_block, in_inner, in_procedure, in_procedures}
+use Rattle.sf_calls.specs.Checked.Tests.{in_references, in_values}
+use Rattle.sf_calls.specs.Checked.Lemmas.Decided.{resource, in_references_is, in_values_is}
+use Rattle.sf_calls.specs.Checked.Lemmas.Firsts.{none-of}
+use Rattle.sf_calls.specs.Checked.Lemmas.Gathered.{earlier_trans, not_earlier}
+use Rattle.sf_calls.specs.Checked.Lemmas.InFile.{resource_apart, resources_ordered, resources_there, variables_ordered, free_there}
+use Rattle.sf_calls.specs.Checked.Lemmas.InOrder.{ordered_pairs}
+use Rattle.sf_calls.specs.Checked.Lemmas.Least.{takes_within}
+use Rattle.sf_calls.specs.Checked.Lemmas.Searches.{proc}
+use Rattle.sf_calls.specs.Checked.Lemmas.Sites.{among_at}
+use Rattle.sf_vars.specs.Checked.Search.{found, has, with_one, with_all, none_held, lacks, is_in, takes_of, holds_of, free_of, unheld, free_unheld, unheld_in_call, reenters_by_call, repeats, passes_free, may_change, uses, shares, shared_among, free_in_both, shares_in_fork, entered_held, in_head, in_block, in_inner, in_procedure, in_procedures}
 use Rattle.sf_vars.proofs.Firsts.{first-append, first-flat_map, first-map, first-search, first-same, first-set}
-use Rattle.sf_calls.specs.Lemmas.Within.{callee_within}
+use Rattle.sf_calls.specs.Checked.Lemmas.Within.{callee_within}
 use Rattle.sf_vars.proofs.Fits.{free_set, takes_set, holds_set, held_fit}
 
 -- where one is in a program, and the visited tell what is held there

@@ -17,12 +17,12 @@ use Rattle.sf_calls.specs.declared.breach.Breach.{Breach}
 use Rattle.sf_calls.specs.Breaks.{BreaksAt}
 use Rattle.sf_calls.specs.First.{IsFirst}
 use Rattle.sf_calls.specs.FirstBreach.{Question, occurs, frees, enters, takes, repeats, passes, shares, breach_of, IsBroken, IsNo, told, resources_from, variables_from, call_uses, call_takes, repeats_after, fork_shares, uses_questions, enters_questions, repeats_questions, passes_questions, shares_questions, head_questions, site_questions, questions_from}
-use Rattle.sf_calls.specs.Lemmas.Broken.{asked_break, break_asked}
-use Rattle.sf_calls.specs.Lemmas.Firsts.{first-found, none-of}
-use Rattle.sf_calls.specs.Lemmas.InOrder.{Ordered, ordered_append}
-use Rattle.sf_calls.specs.Lemmas.Searches.{proc}
+use Rattle.sf_calls.specs.Checked.Lemmas.Broken.{asked_break, break_asked}
+use Rattle.sf_calls.specs.Checked.Lemmas.Firsts.{first-found, none-of}
+use Rattle.sf_calls.specs.Checked.Lemmas.InOrder.{Ordered, ordered_append}
+use Rattle.sf_calls.specs.Checked.Lemmas.Searches.{proc}
 use Rattle.sf_vars.specs.Earlier.{kind_of, IsEarlierBreach, IsLocated, Located}
-use Rattle.sf_vars.specs.Laws.{NothingComesEarlier}
+use Rattle.sf_vars.specs.Checked.Laws.{NothingComesEarlier}
 use Rattle.sf_vars.proofs.Meets.{FirstOf}
 
 append-from : {A X : Type 0} (P : X → Type 0) (f : X → A) (xs ys : List X) (a : A)

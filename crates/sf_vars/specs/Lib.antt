@@ -1,4 +1,3 @@
 pub mod Faults
 pub mod Earlier
-pub mod Laws
-pub mod Internal
+pub mod Checked

@@ -4,7 +4,7 @@ ghost use Rattle.std.specs.Prelude.{◌≡◌, []};
 ghost use Rattle.std.specs.Result.{result_err};
 ghost use Rattle.sf_core.specs.Program.Heads.{call_occurrences};
 ghost use Rattle.sf_core.specs.Program.View.{call_of};
-ghost use Rattle.sf_vars.specs.Internal.Search.{HasSets, free_of, is_in, passes_free, reenters_by_call, repeats, taken_held, unheld_in_call};
+ghost use Rattle.sf_vars.specs.Checked.Search.{HasSets, free_of, is_in, passes_free, reenters_by_call, repeats, taken_held, unheld_in_call};
 
 use crate::held::Held;
 use crate::unheld::{free_unheld, unheld};

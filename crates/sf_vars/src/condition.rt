@@ -5,7 +5,7 @@ ghost use Rattle.sf_calls.specs.FirstBreach.{Conditions};
 ghost use Rattle.sf_calls.specs.Sets.{AreSetsOf};
 ghost use Rattle.sf_core.specs.Program.ProgramView.{program_of};
 ghost use Rattle.sf_vars.specs.Faults.{IsFirstFault};
-ghost use Rattle.sf_vars.specs.Internal.Search.{in_procedures};
+ghost use Rattle.sf_vars.specs.Checked.Search.{in_procedures};
 ghost use Rattle.sf_vars.specs.declared.fault.VarFault.{VarFault};
 ghost use Rattle.sf_vars.specs.declared.fault.VarFault.TheVariants.{OutOfMemory};
 

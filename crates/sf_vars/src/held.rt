@@ -1,7 +1,7 @@
 //! Which resources are held at a place.
 
 ghost use Rattle.std.specs.Prelude.{◌≡◌, ◌<◌, All};
-ghost use Rattle.sf_vars.specs.Internal.Search.{has, lacks, none_held, with_all, with_one};
+ghost use Rattle.sf_vars.specs.Checked.Search.{has, lacks, none_held, with_all, with_one};
 
 use sf_base::limits::RESOURCES;
 use sf_base::{ResId, Var};

@@ -1,7 +1,7 @@
 //! That each program has one answer, and that nothing comes earlier than what is first. Each
 //! function does nothing; its contract is the law.
 
-ghost use Rattle.sf_vars.specs.Laws.{EachProgramHasAnAnswer, EachProgramHasOneAnswer, NothingComesEarlier};
+ghost use Rattle.sf_vars.specs.Checked.Laws.{EachProgramHasAnAnswer, EachProgramHasOneAnswer, NothingComesEarlier};
 
 /// No condition on variables is broken, or a fault comes first.
 #[tactic(auto, using(crate::proofs::Closing::each_program_has_an_answer))]

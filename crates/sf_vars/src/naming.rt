@@ -3,7 +3,7 @@
 ghost use Rattle.std.specs.Prelude.{◌≡◌, ◌<◌, ℕ, List, length, IfOk};
 ghost use Rattle.sf_core.specs.Program.ProgramView.{program_of};
 ghost use Rattle.sf_vars.specs.Faults.{IsBreachName, IsResourceName, IsVariableName, told_by};
-ghost use Rattle.sf_vars.specs.Internal.Search.{IsBreachIn, IsVariableIn};
+ghost use Rattle.sf_vars.specs.Checked.Search.{IsBreachIn, IsVariableIn};
 
 use crate::fault::VarFault;
 use sf_base::{Name, ProcId, ResId, Var};

@@ -4,7 +4,7 @@ ghost use Rattle.std.specs.Prelude.{◌≡◌};
 ghost use Rattle.std.specs.Result.{result_err};
 ghost use Rattle.sf_core.specs.Program.Heads.{call_occurrences};
 ghost use Rattle.sf_core.specs.Program.View.{call_of};
-ghost use Rattle.sf_vars.specs.Internal.Search.{HasSets, also_free, free_in_both, may_change, shared_among, shared_at, shares, shares_in_fork, uses};
+ghost use Rattle.sf_vars.specs.Checked.Search.{HasSets, also_free, free_in_both, may_change, shared_among, shared_at, shares, shares_in_fork, uses};
 
 use crate::at_calls::is_free;
 use sf_base::{Place, ProcId, Var};

@@ -2,7 +2,7 @@
 
 ghost use Rattle.std.specs.Prelude.{◌≡◌};
 ghost use Rattle.std.specs.Result.{result_err};
-ghost use Rattle.sf_vars.specs.Internal.Search.{free_unheld, unheld};
+ghost use Rattle.sf_vars.specs.Checked.Search.{free_unheld, unheld};
 
 use crate::held::Held;
 use sf_base::{Place, Var};

@@ -5,7 +5,7 @@ ghost use Rattle.std.specs.Result.{result_err};
 ghost use Rattle.sf_base.specs.declared.limits.TheConstants.{RESOURCES};
 ghost use Rattle.sf_core.specs.Program.Heads.{call_occurrences};
 ghost use Rattle.sf_core.specs.Program.View.{block_of, call_of, command_of, procedure_of};
-ghost use Rattle.sf_vars.specs.Internal.Search.{BlockFits, CommandFits, HasSets, holds_of, in_block, in_calls, in_command, in_head, in_inner, in_procedure};
+ghost use Rattle.sf_vars.specs.Checked.Search.{BlockFits, CommandFits, HasSets, holds_of, in_block, in_calls, in_command, in_head, in_inner, in_procedure};
 
 use crate::at_calls::{passes_free, reenters_by_call, repeats, unheld_in_call};
 use crate::held::Held;

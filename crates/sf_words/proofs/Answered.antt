@@ -5,9 +5,9 @@ use Rattle.std.specs.List.{list_any}
 use Rattle.clap.specs.Words.{fault_of, subcommand_of}
 use Rattle.sf_words.proofs.Program.{agrees}
 use Rattle.sf_words.proofs.Sorts.{Tidy}
-use Rattle.sf_words.specs.Internal.Forms.{program_form}
-use Rattle.sf_words.specs.Internal.Found.{met_order}
-use Rattle.sf_words.specs.Internal.Screen.{has_bundle}
+use Rattle.sf_words.specs.Checked.Forms.{program_form}
+use Rattle.sf_words.specs.Checked.Found.{met_order}
+use Rattle.sf_words.specs.Checked.Screen.{has_bundle}
 use Rattle.sf_words.specs.Words.{Text, is_blank, order_of}
 use Rattle.sf_words.specs.WordsOf.{order_as, order_in}
 use Rattle.sf_words.specs.declared.order.Order.{Order as CodeOrder}

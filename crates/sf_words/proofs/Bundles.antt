@@ -4,7 +4,7 @@ use Rattle.std.specs.List.{list_any}
 use Rattle.std.specs.Prelude.{option_and_then}
 use Rattle.std.specs.Str.{bytes_eq}
 use Rattle.sf_base.proofs.Equality.{bytes_eq-same}
-use Rattle.sf_words.specs.Internal.Screen.{has_bundle, is_bundle}
+use Rattle.sf_words.specs.Checked.Screen.{has_bundle, is_bundle}
 use Rattle.sf_words.specs.Words.{Given, Order, Part, Text, begins_with_hyphen, dashes, demo_given, due_behind, ending, given, given_with, is_among, is_blank, no_options, operand, option_of, order_of, order_of_command, outside, part_of, part_of_option, recheck_given, run_given, run_options, setting, verify_given, verify_options}
 
 module _ (names : List Text) where

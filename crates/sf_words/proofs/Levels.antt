@@ -10,7 +10,7 @@ use Rattle.sf_words.proofs.Rules.{operands_full, option_full, rules}
 use Rattle.sf_words.proofs.Sorts.{Tidy}
 use Rattle.sf_words.proofs.Steps.{at, shape, stands-none}
 use Rattle.sf_words.proofs.Walks.{Claims, both, tail_fault, tail_rows}
-use Rattle.sf_words.specs.Internal.Forms.{operands_id}
+use Rattle.sf_words.specs.Checked.Forms.{operands_id}
 use Rattle.sf_words.specs.Words.{Text, given, is_among}
 
 -- ---- nothing has a default, and nothing is required

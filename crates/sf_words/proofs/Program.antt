@@ -17,8 +17,8 @@ use Rattle.sf_words.proofs.Levels.{level-claims}
 use Rattle.sf_words.proofs.Rules.{level, rules}
 use Rattle.sf_words.proofs.Sorts.{Tidy, plain-dashes, plain-long, plain-short, tidy-rest, tidy-sort}
 use Rattle.sf_words.proofs.Walks.{Claims}
-use Rattle.sf_words.specs.Internal.Forms.{operands_id, program_form, silent, values_at}
-use Rattle.sf_words.specs.Internal.Found.{met_order, order_found}
+use Rattle.sf_words.specs.Checked.Forms.{operands_id, program_form, silent, values_at}
+use Rattle.sf_words.specs.Checked.Found.{met_order, order_found}
 use Rattle.sf_words.specs.Words.{Given, Order, Text, begins_with_hyphen, dashes, demo_given, demo_of, given, is_among, is_blank, no_options, order_of, order_of_command, recheck_given, recheck_of, run_given, run_of, run_options, steps_of, values_of, verify_given, verify_of, verify_options, waits_of, workers_of}
 
 -- the program once it is built

@@ -4,8 +4,8 @@ use Rattle.std.specs.Borrow.{Bor}
 use Rattle.std.specs.Option.{option_map, unwrap_or}
 use Rattle.clap.specs.Walk.{all_of}
 use Rattle.clap.specs.Words.{Row}
-use Rattle.sf_words.specs.Internal.Forms.{values_at}
-use Rattle.sf_words.specs.Internal.Found.{texts_under}
+use Rattle.sf_words.specs.Checked.Forms.{values_at}
+use Rattle.sf_words.specs.Checked.Found.{texts_under}
 use Rattle.sf_words.specs.Words.{Text}
 use Rattle.sf_words.specs.WordsOf.{words_of}
 

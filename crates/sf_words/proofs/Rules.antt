@@ -7,7 +7,7 @@ use Rattle.clap.specs.Simple.{filled, new_shape, with_index}
 use Rattle.clap.specs.Walk.{arg_by_id, arg_by_long, has_long}
 use Rattle.clap.specs.Words.{Rule, Shape}
 use Rattle.sf_base.proofs.Equality.{bytes_eq-same}
-use Rattle.sf_words.specs.Internal.Forms.{operands_id, operands_rule, option_rule}
+use Rattle.sf_words.specs.Checked.Forms.{operands_id, operands_rule, option_rule}
 use Rattle.sf_words.specs.Words.{Text, is_among}
 
 -- the operands, at the first place

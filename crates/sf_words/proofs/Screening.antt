@@ -3,7 +3,7 @@ use Rattle.std.proofs.Common.{◌≡◌, ◌<◌, ◌+◌, ◌∙◌, ◌||◌, 
 use Rattle.std.specs.Borrow.{Bor}
 use Rattle.std.specs.List.{list_any}
 use Rattle.std.specs.Str.{bytes_eq}
-use Rattle.sf_words.specs.Internal.Screen.{has_bundle, is_bundle}
+use Rattle.sf_words.specs.Checked.Screen.{has_bundle, is_bundle}
 use Rattle.sf_words.specs.Words.{Text, dashes, is_blank}
 use Rattle.sf_words.specs.WordsOf.{words_of}
 

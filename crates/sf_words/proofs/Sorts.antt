@@ -5,7 +5,7 @@ use Rattle.std.specs.List.{list_any}
 use Rattle.std.specs.Str.{bytes_eq}
 use Rattle.std.proofs.lemmas.Bool.Decides.{Decides-eqb}
 use Rattle.clap.specs.Lexer.{long_of, short_of}
-use Rattle.sf_words.specs.Internal.Screen.{has_bundle, is_bundle}
+use Rattle.sf_words.specs.Checked.Screen.{has_bundle, is_bundle}
 use Rattle.sf_words.specs.Words.{Text, begins_with_hyphen, dashes, is_blank}
 
 -- one of the three

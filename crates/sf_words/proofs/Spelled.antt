@@ -9,7 +9,7 @@ use Rattle.std.proofs.lemmas.Int.Digits.{digits_value_push}
 use Rattle.std.proofs.lemmas.List.{length-append}
 use Rattle.std.proofs.lemmas.List.Folds.{list_all-append}
 use Rattle.sf_base.specs.declared.limits.TheConstants.{DEMO, STEPS, WAITS, WORKERS}
-use Rattle.sf_words.specs.Laws.{EachOrderIsSpelled}
+use Rattle.sf_words.specs.Checked.Laws.{EachOrderIsSpelled}
 use Rattle.sf_words.specs.Words.{Text, dashes, demo, is_blank, number_of, order_of, recheck, run, run_of, verify}
 
 -- ---- a numeral for each number

@@ -9,7 +9,7 @@ use Rattle.clap.specs.declared.parser.matches.ValueSource.TheVariants.{CommandLi
 use Rattle.sf_base.proofs.Equality.{bytes_eq-self}
 use Rattle.sf_words.proofs.Rules.{level, operands_full, option-by_id, option-by_long, option_full, rules}
 use Rattle.sf_words.proofs.Sorts.{plain-dashes, plain-long, plain-short}
-use Rattle.sf_words.specs.Internal.Forms.{operands_id}
+use Rattle.sf_words.specs.Checked.Forms.{operands_id}
 use Rattle.sf_words.specs.Words.{Text, begins_with_hyphen, dashes, is_among, name_part, value_part}
 
 abbrev pub Pending : Type 0

@@ -8,7 +8,7 @@ use Rattle.clap.specs.Words.{Row}
 use Rattle.clap.specs.declared.builder.value_parser.Reading.{Reading}
 use Rattle.clap.specs.declared.parser.matches.ValueSource.{ValueSource}
 use Rattle.sf_base.proofs.Equality.{bytes_eq-same, bytes_eq-self}
-use Rattle.sf_words.specs.Internal.Forms.{values_at}
+use Rattle.sf_words.specs.Checked.Forms.{values_at}
 use Rattle.sf_words.specs.Words.{Text}
 
 module _ (id other : Text) (how : Reading) (s : ValueSource) (vs : List Text) where

@@ -15,7 +15,7 @@ use Rattle.sf_words.proofs.Sorts.{Tidy, plain-dashes, tidy-rest, tidy-sort}
 use Rattle.sf_words.proofs.Steps as step
 use Rattle.sf_words.proofs.Steps.{Pending, Stands, at, free, held, more, shape}
 use Rattle.sf_words.proofs.Values.{values-added}
-use Rattle.sf_words.specs.Internal.Forms.{operands_id, values_at}
+use Rattle.sf_words.specs.Checked.Forms.{operands_id, values_at}
 use Rattle.sf_words.specs.Words.{Given, Part, Text, begins_with_hyphen, dashes, due, due_behind, given, given_with, is_among, operand, outside, part_of, part_of_option, setting, values_of}
 
 -- ---- the faults and the rows of the walk from a place on, with what is pending at its end

@@ -1,4 +1,3 @@
 pub mod Words
 pub mod WordsOf
-pub mod Laws
-pub mod Internal
+pub mod Checked

@@ -1,6 +1,6 @@
 ghost use Rattle.std.specs.Prelude.{◌≡◌, IfOk};
 ghost use Rattle.clap.specs.Words.{app_of};
-ghost use Rattle.sf_words.specs.Internal.Forms.{IsAddedAs, bare_form, program_form, run_form, verify_form};
+ghost use Rattle.sf_words.specs.Checked.Forms.{IsAddedAs, bare_form, program_form, run_form, verify_form};
 
 use clap::{Arg, ArgAction, Command};
 use std::alloc::{AllocError, Global};

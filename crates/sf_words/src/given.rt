@@ -1,6 +1,6 @@
 ghost use Rattle.std.specs.Prelude.{◌≡◌};
 ghost use Rattle.clap.specs.Words.{found_of, rows_of};
-ghost use Rattle.sf_words.specs.Internal.Found.{order_found, texts_under};
+ghost use Rattle.sf_words.specs.Checked.Found.{order_found, texts_under};
 ghost use Rattle.sf_words.specs.Words.{demo_of, recheck_of, run_of, steps_of, verify_of, waits_of, workers_of};
 ghost use Rattle.sf_words.specs.WordsOf.{order_in};
 

@@ -1,6 +1,6 @@
 //! Laws of reading words. Each function does nothing; its contract is the law.
 
-ghost use Rattle.sf_words.specs.Laws.{EachOrderIsSpelled, WordsAreOneOrder};
+ghost use Rattle.sf_words.specs.Checked.Laws.{EachOrderIsSpelled, WordsAreOneOrder};
 
 /// Words are at most one order.
 pub fn words_are_one_order()

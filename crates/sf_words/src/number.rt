@@ -2,7 +2,7 @@ ghost use Rattle.std.specs.Prelude.{◌≡◌, ◌≤◌, IfSome};
 ghost use Rattle.std.specs.Char.{is_ascii_digit};
 ghost use Rattle.std.specs.List.{list_all};
 ghost use Rattle.sf_words.specs.Words.{chosen_of, is_numeral, number_of};
-ghost use Rattle.sf_words.specs.Internal.Found.{texts_under};
+ghost use Rattle.sf_words.specs.Checked.Found.{texts_under};
 
 // The most digits of a number.
 const DIGITS: usize = 19;

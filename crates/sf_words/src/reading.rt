@@ -1,7 +1,7 @@
 ghost use Rattle.std.specs.Prelude.{◌≡◌, ◌⊎◌, [], IfOk, IfErr, MatchResult, Some, None, option_and_then};
 ghost use Rattle.clap.specs.Words.{fault_of, subcommand_of, subcommand_rows_of};
-ghost use Rattle.sf_words.specs.Internal.Forms.{program_form};
-ghost use Rattle.sf_words.specs.Internal.Found.{fault_as, met_order};
+ghost use Rattle.sf_words.specs.Checked.Forms.{program_form};
+ghost use Rattle.sf_words.specs.Checked.Found.{fault_as, met_order};
 ghost use Rattle.sf_words.specs.Words.{HasNumbersInRange, order_of};
 ghost use Rattle.sf_words.specs.WordsOf.{order_as, order_in, words_of};
 

@@ -2,7 +2,7 @@ ghost use Rattle.std.specs.Prelude.{◌≡◌};
 ghost use Rattle.std.specs.List.{list_any};
 ghost use Rattle.sf_words.specs.Words.{is_blank};
 ghost use Rattle.sf_words.specs.WordsOf.{words_of};
-ghost use Rattle.sf_words.specs.Internal.Screen.{has_bundle, is_bundle};
+ghost use Rattle.sf_words.specs.Checked.Screen.{has_bundle, is_bundle};
 
 /// Whether the word is empty or `-` alone.
 fn is_blank(word: &str) -> bool

@@ -20,7 +20,7 @@ use Rattle.sf_core.proofs.Assertions.Sat.{value-which}
 use Rattle.sf_core.proofs.Assertions.Segments.{loc-same, nil-not_loc, seg-first, seg-one}
 use Rattle.sf_core.specs.Assertions.Determined.{CanBeTaken, Determined, HasOrder, IsReady, Leaves, all_taken, branches, known_after, plain, take}
 use Rattle.sf_base.specs.HeapStore.{Cell, Heap, IsOne, Splits, ◌⋆◌}
-use Rattle.sf_core.specs.Assertions.Examples.{ChoiceGoesByItsTest, CircleIsNoSegment, ExistentialIsFixed, ExistentialIsTheFieldsValue, NoLessIsACellAndAList, OneNodeIsATree, OrderIsFound, SegmentMayEndAtAnAbsentCell, TreeOfAnUnknownIsUndetermined, TwoCellsAreACellAndAList, cell_and_list, cell_of_unknown, l, nothing, one_cell, one_scope, place, r, tail, tl, two_cells, unknown, where_are, x, y, ExistentialDecidesAChoice, ExistentialOfABranchIsMadeThere, no_scope, BranchMakesItsExistentialKnown, ChoiceWaitsForAnExistential, late_choice}
+use Rattle.sf_core.specs.Checked.Assertions.Examples.{ChoiceGoesByItsTest, CircleIsNoSegment, ExistentialIsFixed, ExistentialIsTheFieldsValue, NoLessIsACellAndAList, OneNodeIsATree, OrderIsFound, SegmentMayEndAtAnAbsentCell, TreeOfAnUnknownIsUndetermined, TwoCellsAreACellAndAList, cell_and_list, cell_of_unknown, l, nothing, one_cell, one_scope, place, r, tail, tl, two_cells, unknown, where_are, x, y, ExistentialDecidesAChoice, ExistentialOfABranchIsMadeThere, no_scope, BranchMakesItsExistentialKnown, ChoiceWaitsForAnExistential, late_choice}
 use Rattle.sf_core.specs.Assertions.Occurs.{OccursInAll, OccursInOne}
 use Rattle.sf_core.specs.Assertions.Scopes.{is_made_by}
 use Rattle.sf_core.specs.Assertions.Sat.{SameOutside, SatAll, Seg, end, cell, leaf, node, value, SatOne}

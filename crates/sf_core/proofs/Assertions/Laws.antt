@@ -10,7 +10,7 @@ use Rattle.sf_core.proofs.Assertions.Sat.{sat-finite, sat-same_variables}
 use Rattle.sf_core.proofs.Assertions.Segments.{seg-append, seg-no_end, seg-precise}
 use Rattle.sf_core.proofs.Assertions.Trees.{tree-acyclic, tree-finite, tree-precise, tree-unshared}
 use Rattle.sf_core.specs.Assertions.Sat.{value}
-use Rattle.sf_core.specs.Assertions.Laws.{AnyReadyConjunctMayComeFirst, DeterminedHasOneFootprint, EachExistentialBecomesKnown, OrderedConjunctsArePrecise, PointsToHasExactlyOneCell, SatSpeaksOfOccurringVariables, SatisfyingHeapsAreFinite, SegmentHasNoCellAtItsEnd, SegmentsAndTreesArePrecise, SegmentsCompose, TreeIsFiniteAndAcyclic, TreeSharesNothing, UnionCancels, UnionIsAssociative, UnionIsCommutative}
+use Rattle.sf_core.specs.Checked.Assertions.Laws.{AnyReadyConjunctMayComeFirst, DeterminedHasOneFootprint, EachExistentialBecomesKnown, OrderedConjunctsArePrecise, PointsToHasExactlyOneCell, SatSpeaksOfOccurringVariables, SatisfyingHeapsAreFinite, SegmentHasNoCellAtItsEnd, SegmentsAndTreesArePrecise, SegmentsCompose, TreeIsFiniteAndAcyclic, TreeSharesNothing, UnionCancels, UnionIsAssociative, UnionIsCommutative}
 
 pub union_of_heaps_is_commutative : UnionIsCommutative
 unfolding UnionIsCommutative

@@ -10,7 +10,7 @@ use Rattle.sf_base.specs.HeapStore.{Slot, Store}
 use Rattle.sf_core.specs.Machine.Config.{Fixed, Task, runs, waits, Path, Common, Config, task_at, put_task, adds}
 use Rattle.sf_core.specs.Machine.Next.{Next, does, leaves, returns, joins, nothing, next}
 use Rattle.sf_core.specs.Machine.Enabled.{Thing, variable, cell, IsCellAt, CommandReads, CommandWrites, Reads, Writes}
-use Rattle.sf_core.specs.Machine.Laws.{Makes, ChangesOnlyFootprint, AgreeOn, AgreesOnReads, AgreesAfter, Diverge, AreIndependent}
+use Rattle.sf_core.specs.Checked.Machine.Laws.{Makes, ChangesOnlyFootprint, AgreeOn, AgreesOnReads, AgreesAfter, Diverge, AreIndependent}
 use Rattle.sf_core.specs.Machine.Step.{Event, Goes, TaskStep, Step}
 use Rattle.sf_core.specs.Program.Syntax.{Command, assign, look_up, mutate, new, dispose, if, while, call, fork, with, Program}
 use Rattle.sf_core.proofs.Machine.Decided.{changes-or_not, moves-or_not}

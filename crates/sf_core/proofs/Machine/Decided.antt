@@ -12,7 +12,7 @@ use Rattle.sf_base.specs.HeapStore.{Slot, Store}
 use Rattle.sf_core.specs.Machine.Config.{Room, in_room, Fixed, evaluate}
 use Rattle.sf_core.specs.Machine.Next.{Next, does, leaves, returns, joins, nothing}
 use Rattle.sf_core.specs.Machine.Enabled.{Thing, variable, cell, IsInRoom, IsCellAt, CommandWrites, Writes}
-use Rattle.sf_core.specs.Machine.Laws.{CommandMakes, Makes, Enters, Moves}
+use Rattle.sf_core.specs.Checked.Machine.Laws.{CommandMakes, Makes, Enters, Moves}
 use Rattle.sf_core.specs.Machine.Step.{Event, procedure_at, room_count, room_for}
 use Rattle.sf_core.specs.Program.Syntax.{Command, assign, look_up, mutate, new, dispose, if, while, call, fork, with, Procedure, Program}
 

@@ -16,7 +16,7 @@ use Rattle.sf_core.specs.Machine.Bad.{IsAbsent, TouchesNoCell, IsAtNoCell}
 use Rattle.sf_core.specs.Machine.Config.{Fixed, Frame, Item, Task, Common, evaluate}
 use Rattle.sf_core.specs.Machine.Next.{Next, does, leaves, returns, joins, nothing}
 use Rattle.sf_core.specs.Machine.Enabled.{Thing, variable, cell, ReadsExpr, ReadsTest, ReadsAll, IsCellAt, CommandReads, CommandWrites, Reads, Writes}
-use Rattle.sf_core.specs.Machine.Laws.{Makes, AgreeOn, AgreesOnReads, AgreesAfter, HasPart, IsOfPart, KeepsRest}
+use Rattle.sf_core.specs.Checked.Machine.Laws.{Makes, AgreeOn, AgreesOnReads, AgreesAfter, HasPart, IsOfPart, KeepsRest}
 use Rattle.sf_core.specs.Machine.Step.{Event, Does, Goes}
 use Rattle.sf_core.specs.Program.Syntax.{Command, assign, look_up, mutate, new, dispose, if, while, call, fork, with, Program}
 use Rattle.sf_core.proofs.Machine.Commute.{footprint-leaves, reads-back, writes-back}

@@ -12,7 +12,7 @@ use Rattle.sf_core.specs.Machine.Bad.{Bad}
 use Rattle.sf_core.specs.Machine.Config.{Frame, Task, runs, waits, Path, Config, evaluate, task_at}
 use Rattle.sf_core.specs.Machine.Enabled.{HasEnded}
 use Rattle.sf_core.specs.Machine.Good.{Owner, resource, task, IsOwned, Finished, Good}
-use Rattle.sf_core.specs.Internal.GoodParts.{InvariantPart, InvariantParts, FramePart, TaskParts, RestPart, EndsWell}
+use Rattle.sf_core.specs.Checked.GoodParts.{InvariantPart, InvariantParts, FramePart, TaskParts, RestPart, EndsWell}
 use Rattle.sf_base.specs.HeapStore.{Apart, Splits, Cell, Heap, Store, ◌⋆◌}
 use Rattle.sf_core.specs.Assertions.Sat.{Sat, Foot}
 use Rattle.sf_core.specs.Machine.Start.{entry_slot}

@@ -14,8 +14,8 @@ use Rattle.sf_core.proofs.Machine.Runs.{reach-cut, reach-join, reach-numbers}
 use Rattle.sf_core.proofs.Machine.Steps.{next-footprint}
 use Rattle.sf_core.proofs.Machine.Tasks.{enabled-diverge, ended-no_event, step-enabled, step-frames}
 use Rattle.sf_core.specs.Machine.Next.{next}
-use Rattle.sf_core.specs.Internal.GoodParts.{PartsMakeGood}
-use Rattle.sf_core.specs.Machine.Laws.{ExitsAreOfHeldResources, OrderedTasksStopOnlyThere, RaceFreeStepsCommute, ReachedConfigsAreInOrder, StepsKeepOrder, UsedSlotsAreThere, EnabledTasksDiverge, EnabledTasksProgress, EndedRunsStop, OnlyEnabledTasksStep, RunsCompose, StepsAreDeterministic, StepsAreLocal, StepsAreMonotone, StepsCommute, StepsHaveFrames, StepsFrameOtherTasks, StepsWriteOnlyTheirFootprint, StoppedTasksDoNotStep, UsedNumbersGrow}
+use Rattle.sf_core.specs.Checked.GoodParts.{PartsMakeGood}
+use Rattle.sf_core.specs.Checked.Machine.Laws.{ExitsAreOfHeldResources, OrderedTasksStopOnlyThere, RaceFreeStepsCommute, ReachedConfigsAreInOrder, StepsKeepOrder, UsedSlotsAreThere, EnabledTasksDiverge, EnabledTasksProgress, EndedRunsStop, OnlyEnabledTasksStep, RunsCompose, StepsAreDeterministic, StepsAreLocal, StepsAreMonotone, StepsCommute, StepsHaveFrames, StepsFrameOtherTasks, StepsWriteOnlyTheirFootprint, StoppedTasksDoNotStep, UsedNumbersGrow}
 
 pub steps_write_only_their_footprint : StepsWriteOnlyTheirFootprint
 unfolding StepsWriteOnlyTheirFootprint

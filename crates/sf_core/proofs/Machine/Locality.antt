@@ -21,7 +21,7 @@ use Rattle.sf_core.specs.Machine.Config.{Item, Room, in_room, Fixed, Frame, Task
 use Rattle.sf_core.specs.Machine.Next.{Next, does, leaves, returns, joins, nothing}
 use Rattle.sf_core.specs.Machine.Enabled.{Thing, variable, cell, IsInRoom, ReadsExpr, ReadsTest, ReadsAll, IsCellAt, CommandReads, CommandWrites, Reads, Writes}
 use Rattle.sf_base.specs.HeapStore.{Cell, put_field, Slot, same_slot, Store}
-use Rattle.sf_core.specs.Machine.Laws.{CommandMakes, Makes, Enters, Moves, AgreeOn, AgreesOnReads, AgreesAfter}
+use Rattle.sf_core.specs.Checked.Machine.Laws.{CommandMakes, Makes, Enters, Moves, AgreeOn, AgreesOnReads, AgreesAfter}
 use Rattle.sf_core.specs.Assertions.Occurs.{OccursInTest}
 use Rattle.sf_core.specs.Assertions.Sat.{IsTrueOf}
 use Rattle.sf_core.specs.Machine.Step.{Event, set_slot, set_cell, set_holder, open_room, close_room, room_count, room_for, arguments, Finds, Chooses, Does, Goes}

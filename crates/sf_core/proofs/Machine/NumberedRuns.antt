@@ -6,7 +6,7 @@ use Rattle.sf_core.specs.Machine.Config.{Config}
 use Rattle.sf_core.specs.Machine.Enabled.{HasEnded}
 use Rattle.sf_core.specs.Program.Syntax.{Program}
 use Rattle.sf_core.specs.Machine.Alone.{finished, AloneFrom}
-use Rattle.sf_core.specs.Machine.NumberedExamples.{CountsAnew, CountsDescendants, EndedFinishes, EvenFork, HandedBack, NoEventsAreNumbered, NoOtherNumber, NoUnitIsSpent, NoUnitNoEvent, OddFork, ThreeUnits}
+use Rattle.sf_core.specs.Checked.Machine.NumberedExamples.{CountsAnew, CountsDescendants, EndedFinishes, EvenFork, HandedBack, NoEventsAreNumbered, NoOtherNumber, NoUnitIsSpent, NoUnitNoEvent, OddFork, ThreeUnits}
 use Rattle.sf_core.specs.Machine.Supplies.{has, units}
 
 pub three_units : ThreeUnits

@@ -14,7 +14,7 @@ use Rattle.sf_core.specs.Machine.Config.{Item, Fixed, Frame, Task, Path, Common,
 use Rattle.sf_core.specs.Machine.Next.{Next, does, leaves, returns, joins, nothing, next}
 use Rattle.sf_core.specs.Machine.Enabled.{IsShut, IsBlocked, IsEnabled, Thing, cell}
 use Rattle.sf_base.specs.HeapStore.{Cell, Heap}
-use Rattle.sf_core.specs.Machine.Laws.{CommandMakes, Makes, CommandStops, Stops}
+use Rattle.sf_core.specs.Checked.Machine.Laws.{CommandMakes, Makes, CommandStops, Stops}
 use Rattle.sf_core.specs.Machine.Step.{Event, procedure_at, Finds, Does, Goes, TaskStep, Step}
 use Rattle.sf_core.specs.Program.Syntax.{Command, assign, look_up, mutate, new, dispose, if, while, call, fork, with, Program}
 use Rattle.sf_core.proofs.Assertions.Sat.{test-which}

@@ -5,7 +5,7 @@ use Rattle.std.proofs.Common.{true≢false, sym, ap, ◌∙◌, refl, subst, inl
 use Rattle.std.proofs.lemmas.Bool.{or_cases, or_left, or_right}
 use Rattle.sf_base.proofs.HeapSplits.{at-other, at-same, at-self}
 use Rattle.sf_core.specs.Machine.Config.{Config, adds}
-use Rattle.sf_core.specs.Machine.Laws.{HasNumber, Numbers}
+use Rattle.sf_core.specs.Checked.Machine.Laws.{HasNumber, Numbers}
 use Rattle.sf_core.specs.Machine.Reach.{Reach}
 use Rattle.sf_core.specs.Machine.Step.{Event}
 use Rattle.sf_core.specs.Program.Syntax.{Program}

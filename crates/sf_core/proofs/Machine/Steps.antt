@@ -13,7 +13,7 @@ use Rattle.sf_core.specs.Machine.Config.{Item, Room, in_room, Fixed, Frame, Task
 use Rattle.sf_core.specs.Machine.Next.{Next, does, leaves, returns, joins, nothing}
 use Rattle.sf_core.specs.Machine.Enabled.{variable, cell, IsCellAt, CommandWrites}
 use Rattle.sf_base.specs.HeapStore.{Cell, Slot}
-use Rattle.sf_core.specs.Machine.Laws.{CommandMakes, Makes, IsLeft, Enters, Moves, HolderChanges, ChangesOnlyFootprint}
+use Rattle.sf_core.specs.Checked.Machine.Laws.{CommandMakes, Makes, IsLeft, Enters, Moves, HolderChanges, ChangesOnlyFootprint}
 use Rattle.sf_core.specs.Machine.Step.{Event, set_slot, set_cell, set_holder, open_room, close_room, room_count, room_for, arguments, Does, Goes}
 use Rattle.sf_core.specs.Program.Syntax.{Command, assign, look_up, mutate, new, dispose, if, while, call, fork, with, Program}
 

@@ -7,7 +7,7 @@ use Rattle.sf_base.specs.declared.path.Turn.TheVariants.{Left as left, Right as 
 use Rattle.sf_core.specs.Machine.Config.{Item, command, leave, Fixed, Frame, Task, runs, waits, Path, Common, Config, task_at, put_task, IsCalled, IsOver}
 use Rattle.sf_core.specs.Machine.Enabled.{HasEnded, IsShut, IsBlocked, IsEnabled}
 use Rattle.sf_core.specs.Machine.Next.{Next, does, leaves, returns, joins, nothing, frame_next, next}
-use Rattle.sf_core.specs.Machine.Laws.{Diverge, IsAbove, WaitsWith, KeepsOthers}
+use Rattle.sf_core.specs.Checked.Machine.Laws.{Diverge, IsAbove, WaitsWith, KeepsOthers}
 use Rattle.sf_core.specs.Machine.Step.{Event, Does, Goes, TaskStep, Step}
 use Rattle.sf_core.specs.Program.Syntax.{Command, with, Program}
 

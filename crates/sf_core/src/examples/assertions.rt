@@ -1,6 +1,6 @@
 //! Examples of small heaps and assertions. Each function does nothing; its contract is the result.
 
-ghost use Rattle.sf_core.specs.Assertions.Examples.{TwoCellsAreACellAndAList, NoLessIsACellAndAList, ChoiceGoesByItsTest, ExistentialIsTheFieldsValue, OneNodeIsATree, SegmentMayEndAtAnAbsentCell, CircleIsNoSegment, OrderIsFound, TreeOfAnUnknownIsUndetermined, ExistentialIsFixed, ExistentialDecidesAChoice, ExistentialOfABranchIsMadeThere, ChoiceWaitsForAnExistential, BranchMakesItsExistentialKnown};
+ghost use Rattle.sf_core.specs.Checked.Assertions.Examples.{TwoCellsAreACellAndAList, NoLessIsACellAndAList, ChoiceGoesByItsTest, ExistentialIsTheFieldsValue, OneNodeIsATree, SegmentMayEndAtAnAbsentCell, CircleIsNoSegment, OrderIsFound, TreeOfAnUnknownIsUndetermined, ExistentialIsFixed, ExistentialDecidesAChoice, ExistentialOfABranchIsMadeThere, ChoiceWaitsForAnExistential, BranchMakesItsExistentialKnown};
 
 /// `x|->tl:y * ls(y,nil)` holds of two cells in a row.
 #[tactic(auto, using(crate::proofs::Assertions::Examples::two_cells_are_a_cell_and_a_list))]

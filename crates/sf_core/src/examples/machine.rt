@@ -1,5 +1,5 @@
 //! Examples of the machine's definitions, each the contract of a function that does nothing.
-ghost use Rattle.sf_core.specs.Machine.Examples.{
+ghost use Rattle.sf_core.specs.Checked.Machine.Examples.{
   AssignmentAndConditionRace,
   AssignmentAndReferenceDoNotRace,
   AssignmentAndTestRace,

@@ -1,5 +1,5 @@
 //! Worked examples of numbered runs, each the contract of a function that does nothing.
-ghost use Rattle.sf_core.specs.Machine.NumberedExamples.{
+ghost use Rattle.sf_core.specs.Checked.Machine.NumberedExamples.{
   CountsAnew,
   CountsDescendants,
   EndedFinishes,

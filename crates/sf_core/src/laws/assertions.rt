@@ -1,6 +1,6 @@
 //! Laws of heaps and assertions. Each function does nothing; its contract is the law.
 
-ghost use Rattle.sf_core.specs.Assertions.Laws.{UnionIsCommutative, UnionIsAssociative, UnionCancels, PointsToHasExactlyOneCell, SegmentHasNoCellAtItsEnd, SegmentsCompose, TreeIsFiniteAndAcyclic, SegmentsAndTreesArePrecise, SatSpeaksOfOccurringVariables, DeterminedHasOneFootprint, OrderedConjunctsArePrecise, EachExistentialBecomesKnown, AnyReadyConjunctMayComeFirst, TreeSharesNothing, SatisfyingHeapsAreFinite};
+ghost use Rattle.sf_core.specs.Checked.Assertions.Laws.{UnionIsCommutative, UnionIsAssociative, UnionCancels, PointsToHasExactlyOneCell, SegmentHasNoCellAtItsEnd, SegmentsCompose, TreeIsFiniteAndAcyclic, SegmentsAndTreesArePrecise, SatSpeaksOfOccurringVariables, DeterminedHasOneFootprint, OrderedConjunctsArePrecise, EachExistentialBecomesKnown, AnyReadyConjunctMayComeFirst, TreeSharesNothing, SatisfyingHeapsAreFinite};
 
 /// The two parts of a heap may be exchanged.
 #[tactic(auto, using(crate::proofs::Assertions::Laws::union_of_heaps_is_commutative))]

@@ -1,6 +1,6 @@
 //! Laws of the machine's definitions, each the contract of a function that does nothing.
-ghost use Rattle.sf_core.specs.Internal.GoodParts.{PartsMakeGood};
-ghost use Rattle.sf_core.specs.Machine.Laws.{
+ghost use Rattle.sf_core.specs.Checked.GoodParts.{PartsMakeGood};
+ghost use Rattle.sf_core.specs.Checked.Machine.Laws.{
   EndedRunsStop,
   StepsAreDeterministic,
   EnabledTasksDiverge,

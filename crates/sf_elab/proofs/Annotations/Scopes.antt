@@ -11,7 +11,7 @@ use Rattle.sf_elab.specs.declared.levels.Levels.{Levels}
 use Rattle.sf_elab.specs.Annotations.Existentials.{meet, meet_all, opened, taking, names_after, names_after_all, names_after_level}
 use Rattle.sf_elab.specs.Annotations.Flat.{words_in}
 use Rattle.sf_elab.specs.Annotations.Flat as f
-use Rattle.sf_elab.specs.Laws.{LevelsAreScopes}
+use Rattle.sf_elab.specs.Checked.Laws.{LevelsAreScopes}
 use Rattle.sf_elab.specs.Bodies.Procedures.{is_among}
 use Rattle.sf_elab.specs.Names.Table.{Table, find, has}
 use Rattle.sf_elab.specs.Names.Texts.{text}

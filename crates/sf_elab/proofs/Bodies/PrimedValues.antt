@@ -9,7 +9,7 @@ use Rattle.sf_base.proofs.Sums.{either}
 use Rattle.sf_ast.specs.declared.word.Word.{Word}
 use Rattle.sf_ast.specs.Surface.{Command, assign, look_up, new, mutate, dispose, if_alone, if, while, with, call, fork, block, Commands, done, then}
 use Rattle.sf_elab.specs.Bodies.Commands.{references_in, set_in, set_in_all}
-use Rattle.sf_elab.specs.Laws.{IsPartOf, IsPartOfAll, PrimedValuesAreSet, Sets}
+use Rattle.sf_elab.specs.Checked.Laws.{IsPartOf, IsPartOfAll, PrimedValuesAreSet, Sets}
 use Rattle.sf_elab.specs.Bodies.Procedures.{is_primed}
 use Rattle.sf_elab.specs.Names.Texts.{text}
 

@@ -9,7 +9,7 @@ use Rattle.sf_elab.specs.declared.fault.Fault.{Fault}
 use Rattle.sf_elab.specs.declared.fault.NameFault.{NameFault}
 use Rattle.sf_elab.specs.Files.Elaborated.{elaborated, faults, Elaborates, FirstFault}
 use Rattle.sf_elab.specs.Files.Faults.{place_of, kind_of, is_earlier, named_fault}
-use Rattle.sf_elab.specs.Laws.{EachFileIsOne, FirstIsFirst}
+use Rattle.sf_elab.specs.Checked.Laws.{EachFileIsOne, FirstIsFirst}
 
 -- the order of three numbers
 abbrev by_numbers : (l c k m d j : ℕ) → Bool

@@ -21,7 +21,7 @@ use Rattle.sf_elab.specs.Annotations.Assertions.{maybe_faults}
 use Rattle.sf_elab.specs.Names.Declarations.{field_words, resources_in, procedures_in, references_of, values_of, numbered, beyond, numbered_faults, nth_field, usual_names, usual_fields, field_names, resource_name_faults, shared_by, owner_faults, shared_faults, all_shared_faults, header_of, procedure_name_faults, declared_by, declared_faults}
 use Rattle.sf_elab.specs.Files.Elaborated.{resources_from, invariants_faults, elaborated, faults}
 use Rattle.sf_elab.specs.Files.Faults.{where_}
-use Rattle.sf_elab.specs.Laws.{AreDistinct, NamesAreUnique}
+use Rattle.sf_elab.specs.Checked.Laws.{AreDistinct, NamesAreUnique}
 use Rattle.sf_elab.specs.Bodies.Procedures.{local_words, is_primed, parameters_of, parameter_count, own_names, outside_of, inside_of, procedure_of, parameter_faults, local_faults, procedure_faults}
 use Rattle.sf_elab.specs.Names.Table.{Table, has, declare}
 use Rattle.sf_elab.specs.Names.Texts.{text}

@@ -12,7 +12,7 @@ use Rattle.sf_ast.specs.Surface as s
 use Rattle.sf_parse.specs.Leaf.{Leaf}
 use Rattle.sf_parse.specs.Leaf as k
 use Rattle.sf_parse.specs.Grammar as g
-use Rattle.sf_parse.specs.Internal.Parser.{NotStar, Ends}
+use Rattle.sf_parse.specs.Checked.Parser.{NotStar, Ends}
 use Rattle.sf_parse.specs.Nearest.{NotElse, Follows, ConjunctNearest, AssertionNearest, NoteNearest, MaybeNearest, CommandNearest, CommandsNearest, ItemNearest, IsNearest}
 use Rattle.sf_parse.proofs.Grammar.CommandsLonger.{command_longer, commands_longer, more_names_longer, maybe_names_longer, maybe_annotation_longer, locals_longer, parameters_longer, item_longer}
 use Rattle.sf_parse.proofs.Grammar.Longer.{test_longer, if_test_longer, conjunct_longer, assertion_longer}

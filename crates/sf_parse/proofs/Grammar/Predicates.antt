@@ -7,9 +7,9 @@ use Rattle.sf_ast.specs.Surface as s
 use Rattle.sf_parse.specs.Leaf.{Leaf}
 use Rattle.sf_parse.specs.Leaf as k
 use Rattle.sf_parse.specs.Grammar as g
-use Rattle.sf_parse.specs.Internal.Heads.{IsFlatConjunct}
-use Rattle.sf_parse.specs.Internal.Machine.{Predicted, on_predicate, operands_predicted, more_operands_predicted}
-use Rattle.sf_parse.specs.Internal.Predicates.{Operands, with_operands, Predicate, predicate_of}
+use Rattle.sf_parse.specs.Checked.Heads.{IsFlatConjunct}
+use Rattle.sf_parse.specs.Checked.Machine.{Predicted, on_predicate, operands_predicted, more_operands_predicted}
+use Rattle.sf_parse.specs.Checked.Predicates.{Operands, with_operands, Predicate, predicate_of}
 use Rattle.sf_parse.proofs.Machine.Complete.{a_place, a_word}
 use Rattle.sf_parse.proofs.Machine.Means.{Means, MeansChosen}
 

@@ -9,12 +9,12 @@ use Rattle.sf_ast.specs.Surface as s
 use Rattle.sf_parse.specs.Leaf.{Leaf}
 use Rattle.sf_parse.specs.Leaf as k
 use Rattle.sf_parse.specs.Grammar as g
-use Rattle.sf_parse.specs.Internal.Heads.{IsFlat, IsFlatConjunct}
-use Rattle.sf_parse.specs.Internal.Machine as m
-use Rattle.sf_parse.specs.Internal.Machine.{Predicted, Choice, take, skip, refuse, or_skip, followed, on_expression, on_operand, on_conjunct, on_command}
+use Rattle.sf_parse.specs.Checked.Heads.{IsFlat, IsFlatConjunct}
+use Rattle.sf_parse.specs.Checked.Machine as m
+use Rattle.sf_parse.specs.Checked.Machine.{Predicted, Choice, take, skip, refuse, or_skip, followed, on_expression, on_operand, on_conjunct, on_command}
 use Rattle.sf_parse.specs.Nearest.{NotElse, Follows, ConjunctNearest, CommandNearest}
 use Rattle.sf_parse.specs.Nesting.{has_level, ConjunctWithin, AssertionWithin, MaybeWithin, CommandWithin, CommandsWithin}
-use Rattle.sf_parse.specs.Internal.Parser.{Ends}
+use Rattle.sf_parse.specs.Checked.Parser.{Ends}
 use Rattle.sf_parse.proofs.Grammar.Predicates.{predicate_back}
 use Rattle.sf_parse.proofs.Machine.Decided.{Decided, takes, refuses}
 use Rattle.sf_parse.proofs.Machine.Means.{Spells, Means, MeansChosen}

@@ -8,9 +8,9 @@ use Rattle.sf_ast.specs.declared.word.Word.{Word}
 use Rattle.sf_ast.specs.Surface as s
 use Rattle.sf_parse.specs.Leaf.{Leaf}
 use Rattle.sf_parse.specs.Leaf as k
-use Rattle.sf_parse.specs.Internal.Machine as m
-use Rattle.sf_parse.specs.Internal.Machine.{Predicted, is_optional, terminal_leaf}
-use Rattle.sf_parse.specs.Internal.Parser.{NotStar}
+use Rattle.sf_parse.specs.Checked.Machine as m
+use Rattle.sf_parse.specs.Checked.Machine.{Predicted, is_optional, terminal_leaf}
+use Rattle.sf_parse.specs.Checked.Parser.{NotStar}
 use Rattle.sf_parse.proofs.Machine.HasLevel.{level_in}
 use Rattle.sf_parse.proofs.Machine.Means.{Spells, Means}
 

@@ -5,8 +5,8 @@ use Rattle.sf_ast.specs.declared.word.SurfaceExpr.TheVariants as e
 use Rattle.sf_ast.specs.declared.word.SurfaceOperand.TheVariants as v
 use Rattle.sf_parse.specs.Leaf.{Leaf}
 use Rattle.sf_parse.specs.Leaf as k
-use Rattle.sf_parse.specs.Internal.Heads.{command_next, conjunct_next}
-use Rattle.sf_parse.specs.Internal.Machine.{Predicted, Choice, take, refuse, on_command, on_conjunct}
+use Rattle.sf_parse.specs.Checked.Heads.{command_next, conjunct_next}
+use Rattle.sf_parse.specs.Checked.Machine.{Predicted, Choice, take, refuse, on_command, on_conjunct}
 
 -- it takes where the test is true, and refuses where it is false
 pub data Decided (begins : Bool) (choice : Choice) : Type 0 where

@@ -1,7 +1,7 @@
 -- Where the machine stops, the tokens before can go on, and with the next one they can't.
 use Rattle.std.proofs.Common.{◌≡◌, ◌≤◌, ◌<◌, ℕ, suc, List, [], ◌∷◌, ◌++◌, length, Bool, true, false, ◌⊎◌, inl, inr, sym, ap, ◌∙◌, arith, length-append}
 use Rattle.sf_parse.specs.Leaf.{Leaf}
-use Rattle.sf_parse.specs.Internal.Machine.{Predicted, levels_of, Verdict, accepted, unexpected, too_deep, at_end, may_end, verdict}
+use Rattle.sf_parse.specs.Checked.Machine.{Predicted, levels_of, Verdict, accepted, unexpected, too_deep, at_end, may_end, verdict}
 use Rattle.sf_parse.proofs.Machine.Complete.{completion}
 use Rattle.sf_parse.proofs.Machine.HasLevel.{level_frees, level_over, level_in}
 use Rattle.sf_parse.proofs.Machine.Happens.{Happens, takes, exceeds, refuses, happens, on_takes, on_exceeds, on_refuses}

@@ -9,11 +9,11 @@ use Rattle.sf_ast.specs.Surface.{Item}
 use Rattle.sf_lex.specs.declared.token.Token.{Token}
 use Rattle.sf_parse.specs.declared.fault.ParseFault.{ParseFault}
 use Rattle.sf_parse.specs.declared.fault.ParseFault.TheVariants.{Unexpected, TooDeep, OutOfMemory}
-use Rattle.sf_parse.specs.Internal.Faults.{no_token, token_left, place_left, Says}
+use Rattle.sf_parse.specs.Checked.Faults.{no_token, token_left, place_left, Says}
 use Rattle.sf_parse.specs.Grammar.{items}
-use Rattle.sf_parse.specs.Laws.{verdict_of, Spelled}
-use Rattle.sf_parse.specs.Internal.Machine as m
-use Rattle.sf_parse.specs.Internal.Machine.{Predicted, levels_of, Verdict, accepted, unexpected, too_deep, at_end, may_end, verdict}
+use Rattle.sf_parse.specs.Checked.Laws.{verdict_of, Spelled}
+use Rattle.sf_parse.specs.Checked.Machine as m
+use Rattle.sf_parse.specs.Checked.Machine.{Predicted, levels_of, Verdict, accepted, unexpected, too_deep, at_end, may_end, verdict}
 use Rattle.sf_parse.specs.Nearest.{IsNearest}
 use Rattle.sf_parse.specs.Nesting.{ItemsWithin}
 use Rattle.sf_parse.specs.Leaf.{Leaf, leaf, leaves}

@@ -12,11 +12,11 @@ use Rattle.sf_ast.specs.Surface as s
 use Rattle.sf_parse.specs.Leaf.{Leaf}
 use Rattle.sf_parse.specs.Leaf as k
 use Rattle.sf_parse.specs.Grammar as g
-use Rattle.sf_parse.specs.Internal.Machine as m
-use Rattle.sf_parse.specs.Internal.Machine.{Predicted, verdict}
+use Rattle.sf_parse.specs.Checked.Machine as m
+use Rattle.sf_parse.specs.Checked.Machine.{Predicted, verdict}
 use Rattle.sf_parse.specs.Nearest.{IsClosed, ConjunctNearest, AssertionNearest, NoteNearest, MaybeNearest}
 use Rattle.sf_parse.specs.Nesting.{HasLevel, ConjunctWithin, AssertionWithin, RestWithin, NoteWithin, MaybeWithin}
-use Rattle.sf_parse.specs.Internal.Parser.{NotStar, Ends}
+use Rattle.sf_parse.specs.Checked.Parser.{NotStar, Ends}
 
 pub test_goes : (n : ℕ) (b : SurfaceTest SurfaceExpr) (r : List Leaf) (st : List Predicted) → verdict n (g.test g.expr b r) (m.test ∷ st) ≡ verdict n r st
 test_goes n (t.True p) r st = refl

@@ -8,8 +8,8 @@ use Rattle.sf_ast.specs.Surface as s
 use Rattle.sf_parse.specs.Leaf.{Leaf}
 use Rattle.sf_parse.specs.Leaf as k
 use Rattle.sf_parse.specs.Grammar as g
-use Rattle.sf_parse.specs.Internal.Machine as m
-use Rattle.sf_parse.specs.Internal.Machine.{Predicted, verdict}
+use Rattle.sf_parse.specs.Checked.Machine as m
+use Rattle.sf_parse.specs.Checked.Machine.{Predicted, verdict}
 use Rattle.sf_parse.specs.Nearest.{NotElse, Follows, NoteNearest, CommandNearest, CommandsNearest, ItemNearest, IsNearest}
 use Rattle.sf_parse.specs.Nesting.{NoteWithin, CommandWithin, CommandsWithin, ItemWithin, ItemsWithin}
 use Rattle.sf_parse.proofs.Machine.Back.{follows_else}

@@ -1,7 +1,7 @@
 -- What the machine may do at one token, and the verdict then.
 use Rattle.std.proofs.Common.{◌≡◌, ℕ, suc, List, ◌∷◌, length, Bool, true, false, refl}
 use Rattle.sf_parse.specs.Leaf.{Leaf}
-use Rattle.sf_parse.specs.Internal.Machine.{Predicted, Next, goes, bad, is_free, step, unexpected, too_deep, verdict}
+use Rattle.sf_parse.specs.Checked.Machine.{Predicted, Next, goes, bad, is_free, step, unexpected, too_deep, verdict}
 
 -- the three things that the machine may do at a token with so many left, where n are free
 pub data Happens (n left : ℕ) (st : List Predicted) (t : Leaf) : Type 0 where

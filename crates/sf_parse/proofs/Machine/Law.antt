@@ -4,9 +4,9 @@ use Rattle.std.proofs.lemmas.List.{append-nil}
 use Rattle.sf_ast.specs.Surface.{Item}
 use Rattle.sf_parse.specs.Leaf.{Leaf}
 use Rattle.sf_parse.specs.Grammar.{items}
-use Rattle.sf_parse.specs.Laws.{TheVerdictIsExact}
-use Rattle.sf_parse.specs.Internal.Machine as m
-use Rattle.sf_parse.specs.Internal.Machine.{Predicted, accepted, unexpected, too_deep, at_end, may_end, both, is_optional, verdict}
+use Rattle.sf_parse.specs.Checked.Laws.{TheVerdictIsExact}
+use Rattle.sf_parse.specs.Checked.Machine as m
+use Rattle.sf_parse.specs.Checked.Machine.{Predicted, accepted, unexpected, too_deep, at_end, may_end, both, is_optional, verdict}
 use Rattle.sf_parse.specs.Nearest.{IsNearest}
 use Rattle.sf_parse.specs.Nesting.{ItemsWithin}
 use Rattle.sf_parse.specs.Parsing.{CanBegin}

@@ -10,12 +10,12 @@ use Rattle.sf_ast.specs.Surface as s
 use Rattle.sf_parse.specs.Leaf.{Leaf}
 use Rattle.sf_parse.specs.Leaf as k
 use Rattle.sf_parse.specs.Grammar as g
-use Rattle.sf_parse.specs.Internal.Heads.{IsFlat}
-use Rattle.sf_parse.specs.Internal.Machine as m
-use Rattle.sf_parse.specs.Internal.Machine.{Predicted, terminal_leaf}
+use Rattle.sf_parse.specs.Checked.Heads.{IsFlat}
+use Rattle.sf_parse.specs.Checked.Machine as m
+use Rattle.sf_parse.specs.Checked.Machine.{Predicted, terminal_leaf}
 use Rattle.sf_parse.specs.Nearest.{NotElse, Follows, ConjunctNearest, AssertionNearest, MaybeNearest, CommandNearest, CommandsNearest, ItemNearest, IsNearest}
 use Rattle.sf_parse.specs.Nesting.{ConjunctWithin, AssertionWithin, RestWithin, MaybeWithin, CommandWithin, CommandsWithin, ItemWithin, ItemsWithin}
-use Rattle.sf_parse.specs.Internal.Parser.{NotStar, Ends}
+use Rattle.sf_parse.specs.Checked.Parser.{NotStar, Ends}
 
 -- what one thing owed spells, with the tokens after it
 abbrev pub Spells : ℕ → Predicted → List Leaf → List Leaf → Type 0

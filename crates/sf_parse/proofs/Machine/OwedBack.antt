@@ -14,11 +14,11 @@ use Rattle.sf_ast.specs.Surface as s
 use Rattle.sf_parse.specs.Leaf.{Leaf}
 use Rattle.sf_parse.specs.Leaf as k
 use Rattle.sf_parse.specs.Grammar as g
-use Rattle.sf_parse.specs.Internal.Machine as m
-use Rattle.sf_parse.specs.Internal.Machine.{Predicted, Choice, take, skip, refuse, goes, chosen, choice, is_free, step, or_skip, followed, terminal_leaf, on_exact, on_expression, on_operand, on_operand_test, on_next, on_conjunct, on_command}
+use Rattle.sf_parse.specs.Checked.Machine as m
+use Rattle.sf_parse.specs.Checked.Machine.{Predicted, Choice, take, skip, refuse, goes, chosen, choice, is_free, step, or_skip, followed, terminal_leaf, on_exact, on_expression, on_operand, on_operand_test, on_next, on_conjunct, on_command}
 use Rattle.sf_parse.specs.Nearest.{ConjunctNearest, AssertionNearest, NoteNearest, CommandNearest}
 use Rattle.sf_parse.specs.Nesting.{has_level, ConjunctWithin, AssertionWithin, RestWithin, NoteWithin, MaybeWithin, CommandWithin, CommandsWithin, ItemWithin}
-use Rattle.sf_parse.specs.Internal.Parser.{NotStar, Ends}
+use Rattle.sf_parse.specs.Checked.Parser.{NotStar, Ends}
 use Rattle.sf_parse.proofs.Machine.Complete.{a_word}
 use Rattle.sf_parse.proofs.Machine.Decided.{command_decided, conjunct_decided}
 use Rattle.sf_parse.proofs.Machine.Forth.{closed_before_star}

@@ -9,11 +9,11 @@ use Rattle.sf_parse.specs.Leaf.{Leaf, leaves}
 use Rattle.sf_lex.specs.declared.token.Kind.TheVariants as tk
 use Rattle.sf_parse.specs.Leaf as k
 use Rattle.sf_lex.specs.declared.token.Token.{Token}
-use Rattle.sf_parse.specs.Internal.Given.{NoMore, all_names, is_name, predicted_behind}
+use Rattle.sf_parse.specs.Checked.Given.{NoMore, all_names, is_name, predicted_behind}
 use Rattle.sf_parse.specs.Grammar as g
-use Rattle.sf_parse.specs.Internal.Machine as m
-use Rattle.sf_parse.specs.Internal.Machine.{Predicted, verdict, unexpected}
-use Rattle.sf_parse.specs.Internal.Parser.{NotNext, expression_next}
+use Rattle.sf_parse.specs.Checked.Machine as m
+use Rattle.sf_parse.specs.Checked.Machine.{Predicted, verdict, unexpected}
+use Rattle.sf_parse.specs.Checked.Parser.{NotNext, expression_next}
 use Rattle.sf_parse.proofs.Parser.Fronts.{left_of, fails_at_expression}
 
 -- after a comma in a call

@@ -6,12 +6,12 @@ use Rattle.sf_parse.specs.Leaf.{Leaf, leaves}
 use Rattle.sf_lex.specs.declared.token.Kind.TheVariants as tk
 use Rattle.sf_parse.specs.Leaf as k
 use Rattle.sf_lex.specs.declared.token.Token.{Token}
-use Rattle.sf_parse.specs.Internal.Heads.{conjunct_next}
+use Rattle.sf_parse.specs.Checked.Heads.{conjunct_next}
 use Rattle.sf_parse.specs.declared.stop.Stop.{Stop}
 use Rattle.sf_parse.specs.declared.stop.Stop.TheVariants.{Unexpected, TooDeep, OutOfMemory}
-use Rattle.sf_parse.specs.Internal.Machine as m
-use Rattle.sf_parse.specs.Internal.Machine.{Predicted, verdict, unexpected}
-use Rattle.sf_parse.specs.Internal.Parser.{NotNext, FailsAt}
+use Rattle.sf_parse.specs.Checked.Machine as m
+use Rattle.sf_parse.specs.Checked.Machine.{Predicted, verdict, unexpected}
+use Rattle.sf_parse.specs.Checked.Parser.{NotNext, FailsAt}
 use Rattle.sf_parse.proofs.Machine.Decided.{conjunct_decided, refused}
 use Rattle.sf_parse.proofs.Parser.Fronts.{left_of}
 

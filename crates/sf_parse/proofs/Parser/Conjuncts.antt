@@ -10,12 +10,12 @@ use Rattle.sf_lex.specs.declared.token.Kind.TheVariants as tk
 use Rattle.sf_parse.specs.Leaf as k
 use Rattle.sf_lex.specs.declared.token.Token.{Token}
 use Rattle.sf_parse.specs.Grammar as g
-use Rattle.sf_parse.specs.Internal.Heads.{IsFlatConjunct, conjunct_next}
-use Rattle.sf_parse.specs.Internal.Machine as m
-use Rattle.sf_parse.specs.Internal.Machine.{Predicted, on_conjunct, verdict, unexpected, too_deep}
+use Rattle.sf_parse.specs.Checked.Heads.{IsFlatConjunct, conjunct_next}
+use Rattle.sf_parse.specs.Checked.Machine as m
+use Rattle.sf_parse.specs.Checked.Machine.{Predicted, on_conjunct, verdict, unexpected, too_deep}
 use Rattle.sf_parse.specs.Nearest.{IsClosed, ConjunctNearest, AssertionNearest}
 use Rattle.sf_parse.specs.Nesting.{ConjunctWithin, AssertionWithin, RestWithin}
-use Rattle.sf_parse.specs.Internal.Parser.{NotNext, last_of, NotStar, Ends}
+use Rattle.sf_parse.specs.Checked.Parser.{NotNext, last_of, NotStar, Ends}
 use Rattle.sf_parse.proofs.Machine.Back.{flat_conjunct}
 use Rattle.sf_parse.proofs.Machine.Decided.{Decided, takes, refuses, conjunct_decided, refused, taken}
 use Rattle.sf_parse.proofs.Parser.Fronts.{left_of}

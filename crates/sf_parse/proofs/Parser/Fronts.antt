@@ -12,10 +12,10 @@ use Rattle.sf_lex.specs.declared.token.Kind.TheVariants as tk
 use Rattle.sf_parse.specs.Leaf as k
 use Rattle.sf_lex.specs.declared.token.Token.{Token}
 use Rattle.sf_parse.specs.Grammar as g
-use Rattle.sf_parse.specs.Internal.Machine as m
-use Rattle.sf_parse.specs.Internal.Machine.{Predicted, Terminal, terminal_leaf, verdict, unexpected}
+use Rattle.sf_parse.specs.Checked.Machine as m
+use Rattle.sf_parse.specs.Checked.Machine.{Predicted, Terminal, terminal_leaf, verdict, unexpected}
 use Rattle.sf_parse.specs.Leaf.{Leaf, leaf_of, kind, word_of, leaf, leaves}
-use Rattle.sf_parse.specs.Internal.Parser.{NotNext, IsMark, IsTerminal, mark, terminal_of, expression_next, operand_next}
+use Rattle.sf_parse.specs.Checked.Parser.{NotNext, IsMark, IsTerminal, mark, terminal_of, expression_next, operand_next}
 
 -- a count of leaves is one of tokens
 pub left_of : (ts : List Token) (ss : List Predicted) → verdict 0 (leaves ts) ss ≡ unexpected (length (leaves ts)) → verdict 0 (leaves ts) ss ≡ unexpected (length ts)

@@ -5,9 +5,9 @@ use Rattle.sf_parse.specs.Leaf.{Leaf, leaves}
 use Rattle.sf_lex.specs.declared.token.Kind.TheVariants as tk
 use Rattle.sf_parse.specs.Leaf as k
 use Rattle.sf_lex.specs.declared.token.Token.{Token}
-use Rattle.sf_parse.specs.Internal.Machine as m
-use Rattle.sf_parse.specs.Internal.Machine.{Predicted, verdict, unexpected}
-use Rattle.sf_parse.specs.Internal.Parser.{NotNext}
+use Rattle.sf_parse.specs.Checked.Machine as m
+use Rattle.sf_parse.specs.Checked.Machine.{Predicted, verdict, unexpected}
+use Rattle.sf_parse.specs.Checked.Parser.{NotNext}
 use Rattle.sf_parse.proofs.Parser.Fronts.{left_of}
 
 look_up_fails : (ts : List Leaf) (st : List Predicted) → NotNext tk.Semicolon ts → NotNext tk.Arrow ts → verdict 0 ts (m.look_up_or_end ∷ st) ≡ unexpected (length ts)

@@ -7,9 +7,9 @@ use Rattle.sf_parse.specs.Leaf.{Leaf, leaf, leaves}
 use Rattle.sf_lex.specs.declared.token.Kind.TheVariants as tk
 use Rattle.sf_parse.specs.Leaf as k
 use Rattle.sf_lex.specs.declared.token.Token.{Token}
-use Rattle.sf_parse.specs.Internal.Machine as m
-use Rattle.sf_parse.specs.Internal.Machine.{Predicted, verdict, unexpected}
-use Rattle.sf_parse.specs.Internal.Parser.{NotNext}
+use Rattle.sf_parse.specs.Checked.Machine as m
+use Rattle.sf_parse.specs.Checked.Machine.{Predicted, verdict, unexpected}
+use Rattle.sf_parse.specs.Checked.Parser.{NotNext}
 use Rattle.sf_parse.proofs.Parser.Fronts.{left_of}
 
 pub no_locals : (ts : List Leaf) (st : List Predicted) → NotNext tk.Local ts → verdict 0 ts (m.locals ∷ st) ≡ verdict 0 ts st

@@ -11,12 +11,12 @@ use Rattle.sf_lex.specs.declared.token.Kind.TheVariants as tk
 use Rattle.sf_parse.specs.Leaf as k
 use Rattle.sf_lex.specs.declared.token.Token.{Token}
 use Rattle.sf_parse.specs.Grammar as g
-use Rattle.sf_parse.specs.Internal.Heads.{command_next}
-use Rattle.sf_parse.specs.Internal.Machine as m
-use Rattle.sf_parse.specs.Internal.Machine.{Predicted, Choice, take, skip, refuse, takes, on_command, step, chosen, after, leveled, verdict, unexpected, too_deep}
+use Rattle.sf_parse.specs.Checked.Heads.{command_next}
+use Rattle.sf_parse.specs.Checked.Machine as m
+use Rattle.sf_parse.specs.Checked.Machine.{Predicted, Choice, take, skip, refuse, takes, on_command, step, chosen, after, leveled, verdict, unexpected, too_deep}
 use Rattle.sf_parse.specs.Nearest.{Follows, CommandNearest, CommandsNearest}
 use Rattle.sf_parse.specs.Nesting.{has_level, CommandWithin, CommandsWithin}
-use Rattle.sf_parse.specs.Internal.Parser.{NotNext}
+use Rattle.sf_parse.specs.Checked.Parser.{NotNext}
 use Rattle.sf_parse.proofs.Machine.Decided.{command_decided, refused, taken}
 use Rattle.sf_parse.proofs.Machine.Back.{flat_nearest, follows_else}
 use Rattle.sf_parse.proofs.Parser.Fronts.{left_of}

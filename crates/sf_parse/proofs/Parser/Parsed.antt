@@ -5,11 +5,11 @@ use Rattle.sf_base.specs.declared.place.Place.{Place}
 use Rattle.sf_lex.specs.declared.token.Token.{Token}
 use Rattle.sf_parse.specs.declared.fault.ParseFault.TheVariants as p
 use Rattle.sf_parse.specs.declared.stop.Stop.TheVariants as t
-use Rattle.sf_parse.specs.Internal.Faults.{no_token, token_left, place_left}
-use Rattle.sf_parse.specs.Internal.Machine as m
+use Rattle.sf_parse.specs.Checked.Faults.{no_token, token_left, place_left}
+use Rattle.sf_parse.specs.Checked.Machine as m
 use Rattle.sf_parse.specs.Leaf.{leaf, leaves}
 use Rattle.sf_parse.specs.Parsing.{IsFault}
-use Rattle.sf_parse.specs.Internal.Parser.{FailsAt}
+use Rattle.sf_parse.specs.Checked.Parser.{FailsAt}
 use Rattle.sf_parse.proofs.Machine.Exactly.{fault_le}
 use Rattle.sf_parse.proofs.Machine.Faults.{says_fault}
 

@@ -4,8 +4,8 @@
 ghost use Rattle.std.specs.Prelude.{◌≡◌, MatchResult, None, Some, is_some};
 ghost use Rattle.std.specs.Option.{option_map};
 ghost use Rattle.sf_consume.specs.Subtract.{is_same_shape};
-ghost use Rattle.sf_search.specs.Internal.Choosing.{choice_of, kind_of};
-ghost use Rattle.sf_search.specs.Internal.Settled.{IsSettled};
+ghost use Rattle.sf_search.specs.Checked.Choosing.{choice_of, kind_of};
+ghost use Rattle.sf_search.specs.Checked.Settled.{IsSettled};
 ghost use Rattle.sf_search.specs.Strategy.{lower, lowest, opened, opened_by, or_else, segment_at, split_or, tree_at, undecided_ends, which};
 ghost use Rattle.sf_sym.specs.Cells.{fields_at};
 ghost use Rattle.sf_sym.specs.Tests.{parts};

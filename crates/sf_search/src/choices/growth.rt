@@ -6,8 +6,8 @@
 ghost use Rattle.std.specs.Prelude.{◌≡◌, ◌≤◌, length};
 ghost use Rattle.std.specs.List.{list_all, list_any};
 ghost use Rattle.std.specs.Option.{option_map};
-ghost use Rattle.sf_rules.specs.Internal.Children.{children_of};
-ghost use Rattle.sf_search.specs.Internal.Growth.{are_alone, came_bare, end_of, grown_bare, grown_roots, grows_settled, has_no_cells, has_points, has_settled_growth, is_alone, is_bare, is_clear, is_free_before, is_free_pair, is_opened, is_points, is_settled_growth, is_uncovered, is_unused, known_end, next_end, roots_came, staying};
+ghost use Rattle.sf_rules.specs.Checked.Children.{children_of};
+ghost use Rattle.sf_search.specs.Checked.Growth.{are_alone, came_bare, end_of, grown_bare, grown_roots, grows_settled, has_no_cells, has_points, has_settled_growth, is_alone, is_bare, is_clear, is_free_before, is_free_pair, is_opened, is_points, is_settled_growth, is_uncovered, is_unused, known_end, next_end, roots_came, staying};
 ghost use Rattle.sf_sym.specs.Cells.{atom_at};
 ghost use Rattle.sf_sym.specs.Tests.{root, same_term};
 

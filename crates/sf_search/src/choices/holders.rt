@@ -3,8 +3,8 @@
 //! last, or what came before it is gone.
 
 ghost use Rattle.std.specs.Prelude.{◌≡◌, IfSome};
-ghost use Rattle.sf_search.specs.Internal.Holding.{HoldsAt, IsOpened, IsSoleCell};
-ghost use Rattle.sf_search.specs.Internal.Settled.{IsSettled};
+ghost use Rattle.sf_search.specs.Checked.Holding.{HoldsAt, IsOpened, IsSoleCell};
+ghost use Rattle.sf_search.specs.Checked.Settled.{IsSettled};
 
 use sf_sym::{Atom, Numbered, State, Term};
 

@@ -1,7 +1,7 @@
 //! What a search knows of the next goal's state without looking at it.
 
 ghost use Rattle.std.specs.Prelude.{◌≡◌};
-ghost use Rattle.sf_search.specs.Internal.Settled.{keeps_settled, leaves_possible};
+ghost use Rattle.sf_search.specs.Checked.Settled.{keeps_settled, leaves_possible};
 
 use sf_sym::Tag;
 

@@ -1,7 +1,7 @@
 use Rattle.std.proofs.Common.{take, refl, ◌∙◌}
 use Rattle.std.proofs.lemmas.List.{take_more, take_all}
 use Rattle.sf_calls.proofs.CallGraph.{callers_more, callers_first}
-use Rattle.sf_calls.specs.Lemmas.Searches.{proc}
+use Rattle.sf_calls.specs.Checked.Lemmas.Searches.{proc}
 use Rattle.sf_calls.proofs.callers.add_caller.Goals as goal
 
 pub loop-g-init : goal.loop-g-init

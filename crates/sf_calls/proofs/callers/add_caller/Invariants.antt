@@ -1,6 +1,6 @@
 use Rattle.std.proofs.Common.{◌≡◌, ◌↔◌, ◌⊎◌, length, take, Contains}
 use Rattle.sf_base.specs.declared.ids.ProcId.{ProcId}
-use Rattle.sf_calls.specs.Internal.Visited.{IsCaller}
+use Rattle.sf_calls.specs.Checked.Visited.{IsCaller}
 use Rattle.sf_calls.proofs.callers.add_caller.Given as goal
 
 -- the calls of those so far

@@ -1,5 +1,5 @@
 use Rattle.std.proofs.Common.{◌≡◌, drop}
-use Rattle.sf_calls.specs.Internal.Summaries.{has_calls_inside}
+use Rattle.sf_calls.specs.Checked.Summaries.{has_calls_inside}
 use Rattle.sf_calls.proofs.callers.any_has_calls_inside.Given as goal
 
 -- what was passed has none

@@ -5,7 +5,7 @@ use Rattle.sf_core.specs.Program.Heads.{sites}
 use Rattle.sf_core.specs.Program.Sites.{site_of}
 use Rattle.sf_core.specs.Program.View.{procedure_of, block_of}
 use Rattle.sf_core.specs.Program.ProgramView.{program_of}
-use Rattle.sf_calls.specs.Internal.Tests.{callees_in}
+use Rattle.sf_calls.specs.Checked.Tests.{callees_in}
 use Rattle.sf_calls.proofs.CallGraph.{calls_none, calls_more, calls_all, callees_there}
 use Rattle.sf_calls.proofs.callers.callers_of.Goals as goal
 

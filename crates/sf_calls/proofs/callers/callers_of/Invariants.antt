@@ -2,7 +2,7 @@ use Rattle.std.proofs.Common.{◌≡◌, ◌↔◌, ◌<◌, length}
 use Rattle.sf_base.specs.declared.ids.ProcId.{ProcId}
 use Rattle.sf_core.specs.Program.ProgramView.{program_of}
 use Rattle.sf_calls.specs.Conditions.{Calls}
-use Rattle.sf_calls.specs.Internal.Visited.{IsCaller}
+use Rattle.sf_calls.specs.Checked.Visited.{IsCaller}
 use Rattle.sf_calls.proofs.callers.callers_of.Given as goal
 
 -- the calls of the procedures so far

@@ -1,7 +1,7 @@
 use Rattle.std.proofs.Common.{◌≡◌, ℕ, subst, arith}
-use Rattle.sf_calls.specs.Internal.Gathers.{IsUpTo}
+use Rattle.sf_calls.specs.Checked.Gathers.{IsUpTo}
 use Rattle.sf_calls.specs.Sets.{IsSetOf, IsEarlier}
-use Rattle.sf_calls.specs.Lemmas.InOrder.{next_variable}
+use Rattle.sf_calls.specs.Checked.Lemmas.InOrder.{next_variable}
 use Rattle.sf_calls.proofs.keys.add_variables.Goals as goal
 
 pub loop-i-preserved : goal.loop-i-preserved

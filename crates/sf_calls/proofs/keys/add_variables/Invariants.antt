@@ -1,5 +1,5 @@
 use Rattle.std.proofs.Common.{ℕ}
-use Rattle.sf_calls.specs.Internal.Gathers.{IsUpTo}
+use Rattle.sf_calls.specs.Checked.Gathers.{IsUpTo}
 use Rattle.sf_calls.specs.Sets.{IsSetOf, IsEarlier}
 use Rattle.sf_calls.proofs.keys.add_variables.Given as goal
 

@@ -1,7 +1,7 @@
 use Rattle.std.proofs.Common.{◌≡◌, ◌<◌, ℕ, length, subst, arith}
 use Rattle.sf_base.specs.declared.ids.ResId.{ResId}
 use Rattle.sf_calls.specs.Sets.{IsSetOf, IsEarlierResource}
-use Rattle.sf_calls.specs.Lemmas.InOrder.{next_resource}
+use Rattle.sf_calls.specs.Checked.Lemmas.InOrder.{next_resource}
 use Rattle.sf_calls.proofs.keys.resources_of.Goals as goal
 
 pub loop-i-preserved : goal.loop-i-preserved

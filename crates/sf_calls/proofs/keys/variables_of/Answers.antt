@@ -3,9 +3,9 @@ use Rattle.sf_base.proofs.Lookup.{get-read_map}
 use Rattle.sf_core.specs.Program.Formed.{variable_count}
 use Rattle.sf_core.specs.Program.View.{resource_of}
 use Rattle.sf_core.specs.Program.ProgramView.{program_of}
-use Rattle.sf_calls.specs.Internal.Gathers.{IsUpTo}
+use Rattle.sf_calls.specs.Checked.Gathers.{IsUpTo}
 use Rattle.sf_calls.specs.Sets.{IsSetOf, IsEarlier}
-use Rattle.sf_calls.specs.Lemmas.InOrder.{next_variables, no_variables, variables_bound}
+use Rattle.sf_calls.specs.Checked.Lemmas.InOrder.{next_variables, no_variables, variables_bound}
 use Rattle.sf_calls.proofs.keys.variables_of.Goals as goal
 
 pub loop-i-init : goal.loop-i-init

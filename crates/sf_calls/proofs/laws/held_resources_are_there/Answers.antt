@@ -1,4 +1,4 @@
-use Rattle.sf_calls.specs.Lemmas.Least.{holds_within}
+use Rattle.sf_calls.specs.Checked.Lemmas.Least.{holds_within}
 use Rattle.sf_calls.proofs.laws.held_resources_are_there.Goals as goal
 
 pub returns : goal.returns

@@ -1,4 +1,4 @@
-use Rattle.sf_calls.specs.Lemmas.Gathered.{visited_once, queued_once}
+use Rattle.sf_calls.specs.Checked.Lemmas.Gathered.{visited_once, queued_once}
 use Rattle.sf_calls.proofs.leading.distinct.Goals as goal
 
 pub returns-clause-members : goal.returns-clause-members

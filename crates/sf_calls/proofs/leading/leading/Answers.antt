@@ -1,6 +1,6 @@
 use Rattle.std.proofs.Common.{length, arith, refl}
 use Rattle.std.proofs.lemmas.Option.{slice_get_read}
-use Rattle.sf_calls.specs.Lemmas.Searches.{search_starts, search_goes_on, search_ends, queued_within, callers_within}
+use Rattle.sf_calls.specs.Checked.Lemmas.Searches.{search_starts, search_goes_on, search_ends, queued_within, callers_within}
 use Rattle.sf_calls.proofs.leading.leading.Goals as goal
 
 pub loop-g-init : goal.loop-g-init

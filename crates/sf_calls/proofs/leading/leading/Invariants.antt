@@ -1,6 +1,6 @@
 use Rattle.std.proofs.Common.{◌+◌, length}
-use Rattle.sf_calls.specs.Internal.Visited.{unvisited}
-use Rattle.sf_calls.specs.Lemmas.Searches.{IsSearch}
+use Rattle.sf_calls.specs.Checked.Visited.{unvisited}
+use Rattle.sf_calls.specs.Checked.Lemmas.Searches.{IsSearch}
 use Rattle.sf_calls.proofs.leading.leading.Given as goal
 
 abbrev pub invariant-loop-g : goal.invariant-loop-g

@@ -1,6 +1,6 @@
 use Rattle.std.proofs.Common.{take}
 use Rattle.std.proofs.lemmas.List.{take_more}
-use Rattle.sf_calls.specs.Lemmas.Searches.{visited_both, proc}
+use Rattle.sf_calls.specs.Checked.Lemmas.Searches.{visited_both, proc}
 use Rattle.sf_calls.proofs.leading.visit_all.Goals as goal
 
 pub loop-f-preserved : goal.loop-f-preserved

@@ -1,5 +1,5 @@
 use Rattle.std.proofs.Common.{take}
-use Rattle.sf_calls.specs.Internal.Visited.{VisitsMore}
+use Rattle.sf_calls.specs.Checked.Visited.{VisitsMore}
 use Rattle.sf_calls.proofs.leading.visit_all.Given as goal
 
 -- those so far are visited

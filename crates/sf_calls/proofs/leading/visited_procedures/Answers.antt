@@ -1,4 +1,4 @@
-use Rattle.sf_calls.specs.Lemmas.Searches.{found_one, found_none, found_all}
+use Rattle.sf_calls.specs.Checked.Lemmas.Searches.{found_one, found_none, found_all}
 use Rattle.sf_calls.proofs.leading.visited_procedures.Goals as goal
 use Rattle.sf_calls.proofs.leading.visited_procedures.Goals.{then-visit+in_ok-push, else-visit}
 

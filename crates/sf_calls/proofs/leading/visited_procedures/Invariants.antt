@@ -1,6 +1,6 @@
 use Rattle.std.proofs.Common.{◌↔◌, ◌<◌, Contains}
 use Rattle.sf_base.specs.declared.ids.ProcId.{ProcId}
-use Rattle.sf_calls.specs.Internal.Visited.{IsVisited}
+use Rattle.sf_calls.specs.Checked.Visited.{IsVisited}
 use Rattle.sf_calls.proofs.leading.visited_procedures.Given as goal
 
 -- the visited ones so far

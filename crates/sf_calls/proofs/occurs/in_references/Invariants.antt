@@ -1,5 +1,5 @@
 use Rattle.std.proofs.Common.{◌≡◌, drop}
-use Rattle.sf_calls.specs.Internal.Tests.{in_references}
+use Rattle.sf_calls.specs.Checked.Tests.{in_references}
 use Rattle.sf_calls.proofs.occurs.in_references.Given as goal
 
 -- what was passed has it not

@@ -1,6 +1,6 @@
 use Rattle.std.proofs.Common.{◌≡◌, drop, map, ◌++◌}
 use Rattle.sf_core.specs.Program.Sites.{site_of}
-use Rattle.sf_calls.specs.Internal.Tests.{callees_in}
+use Rattle.sf_calls.specs.Checked.Tests.{callees_in}
 use Rattle.sf_calls.proofs.outside.callees_in.Given as goal
 
 -- those so far and those of what is left are all

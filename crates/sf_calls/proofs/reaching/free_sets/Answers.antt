@@ -5,12 +5,12 @@ use Rattle.sf_core.specs.Program.Formed.{variable_count}
 use Rattle.sf_core.specs.Program.View.{procedure_of, resource_of}
 use Rattle.sf_core.specs.Program.ProgramView.{program_of}
 use Rattle.sf_calls.specs.Conditions.{Free, FreeIn}
-use Rattle.sf_calls.specs.Internal.Visited.{AreRows}
-use Rattle.sf_calls.specs.Internal.Gathers.{IsUpTo}
+use Rattle.sf_calls.specs.Checked.Visited.{AreRows}
+use Rattle.sf_calls.specs.Checked.Gathers.{IsUpTo}
 use Rattle.sf_calls.specs.Sets.{IsEarlier}
-use Rattle.sf_calls.specs.Lemmas.Least.{free_apart, free_both}
-use Rattle.sf_calls.specs.Lemmas.Rows.{family_of, rows_read}
-use Rattle.sf_calls.specs.Lemmas.InOrder.{all_shared}
+use Rattle.sf_calls.specs.Checked.Lemmas.Least.{free_apart, free_both}
+use Rattle.sf_calls.specs.Checked.Lemmas.Rows.{family_of, rows_read}
+use Rattle.sf_calls.specs.Checked.Lemmas.InOrder.{all_shared}
 use Rattle.sf_calls.proofs.reaching.free_sets.Goals as goal
 
 pub sets-requires : goal.sets-requires

@@ -2,8 +2,8 @@ use Rattle.std.proofs.Common.{rules}
 use Rattle.sf_base.proofs.Results.{ok-both}
 use Rattle.sf_core.specs.Program.ProgramView.{program_of}
 use Rattle.sf_core.specs.Machine.HeldBy.{HeldBy}
-use Rattle.sf_calls.specs.Lemmas.Least.{holds_within}
-use Rattle.sf_calls.specs.Lemmas.Rows.{resource_sets, rows_read}
+use Rattle.sf_calls.specs.Checked.Lemmas.Least.{holds_within}
+use Rattle.sf_calls.specs.Checked.Lemmas.Rows.{resource_sets, rows_read}
 use Rattle.sf_calls.proofs.reaching.holds_sets.Goals as goal
 
 pub sets-requires : goal.sets-requires

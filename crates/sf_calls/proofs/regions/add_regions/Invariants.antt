@@ -1,6 +1,6 @@
 use Rattle.std.proofs.Common.{◌≡◌, drop, map, ◌++◌}
 use Rattle.sf_core.specs.Program.Sites.{site_of}
-use Rattle.sf_calls.specs.Internal.Listed.{entered_in}
+use Rattle.sf_calls.specs.Checked.Listed.{entered_in}
 use Rattle.sf_calls.proofs.regions.add_regions.Given as goal
 
 -- those so far and those of what is left are all

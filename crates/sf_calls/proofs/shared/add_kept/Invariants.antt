@@ -1,5 +1,5 @@
 use Rattle.std.proofs.Common.{◌≡◌, drop, ◌++◌}
-use Rattle.sf_calls.specs.Internal.Listed.{kept_of}
+use Rattle.sf_calls.specs.Checked.Listed.{kept_of}
 use Rattle.sf_calls.proofs.shared.add_kept.Given as goal
 
 -- those so far and those of what is left are all

@@ -1,6 +1,6 @@
 use Rattle.std.proofs.Common.{◌≡◌, drop, map, ◌++◌}
 use Rattle.sf_core.specs.Program.Sites.{site_of}
-use Rattle.sf_calls.specs.Internal.Listed.{shared_in}
+use Rattle.sf_calls.specs.Checked.Listed.{shared_in}
 use Rattle.sf_calls.proofs.shared.add_shared.Given as goal
 
 -- those so far and those of what is left are all

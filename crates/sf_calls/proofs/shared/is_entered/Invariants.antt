@@ -1,5 +1,5 @@
 use Rattle.std.proofs.Common.{◌≡◌, drop}
-use Rattle.sf_calls.specs.Internal.Listed.{is_entered}
+use Rattle.sf_calls.specs.Checked.Listed.{is_entered}
 use Rattle.sf_calls.proofs.shared.is_entered.Given as goal
 
 -- what was passed is another

@@ -1,4 +1,4 @@
-use Rattle.sf_calls.specs.Lemmas.Gathered.{gathered_set}
+use Rattle.sf_calls.specs.Checked.Lemmas.Gathered.{gathered_set}
 use Rattle.sf_calls.proofs.summary.ordered.Goals as goal
 
 pub returns : goal.returns

@@ -1,6 +1,6 @@
 use Rattle.std.proofs.Common.{◌≤◌, length, ap, arith}
 use Rattle.std.proofs.lemmas.List.{take_all}
-use Rattle.sf_calls.specs.Lemmas.Rows.{summaries_more}
+use Rattle.sf_calls.specs.Checked.Lemmas.Rows.{summaries_more}
 use Rattle.sf_calls.proofs.summary.summaries_of.Goals as goal
 
 pub loop-h-preserved : goal.loop-h-preserved

@@ -1,7 +1,7 @@
 use Rattle.std.proofs.Common.{map, take}
 use Rattle.std.specs.List.{AllZip}
 use Rattle.sf_core.specs.Program.View.{procedure_of}
-use Rattle.sf_calls.specs.Internal.Summaries.{IsSummaryOf}
+use Rattle.sf_calls.specs.Checked.Summaries.{IsSummaryOf}
 use Rattle.sf_calls.proofs.summary.summaries_of.Given as goal
 
 -- the summaries so far

@@ -4,8 +4,8 @@ use Rattle.sf_core.specs.declared.command.Occurrence.{Occurrence}
 use Rattle.sf_core.specs.Program.Heads.{level_occurrences, sites}
 use Rattle.sf_core.specs.Program.Sites.{site_of}
 use Rattle.sf_core.specs.Program.View.{procedure_of, block_of, level_of}
-use Rattle.sf_calls.specs.Internal.Listed.{kept_of, shared_in, shared_in_levels, entered_in, with_calls_in}
-use Rattle.sf_calls.specs.Lemmas.Listing.{summary_is}
+use Rattle.sf_calls.specs.Checked.Listed.{kept_of, shared_in, shared_in_levels, entered_in, with_calls_in}
+use Rattle.sf_calls.specs.Checked.Lemmas.Listing.{summary_is}
 use Rattle.sf_calls.proofs.summary.summary_of.Goals as goal
 
 pub returns : goal.returns

@@ -1,5 +1,5 @@
 use Rattle.std.proofs.Common.{◌≡◌, ◌++◌, drop}
-use Rattle.sf_calls.specs.Internal.Visited.{chosen}
+use Rattle.sf_calls.specs.Checked.Visited.{chosen}
 use Rattle.sf_calls.proofs.tables.chosen.Given as goal
 
 -- those so far and those of what is left are all

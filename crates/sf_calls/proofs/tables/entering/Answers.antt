@@ -1,8 +1,8 @@
 use Rattle.std.proofs.Common.{◌∙◌, refl, ap}
 use Rattle.sf_base.proofs.Lists.{map-more}
-use Rattle.sf_calls.specs.Internal.Listed.{is_entered}
+use Rattle.sf_calls.specs.Checked.Listed.{is_entered}
 use Rattle.sf_core.specs.Program.ProgramView.{program_of}
-use Rattle.sf_calls.specs.Lemmas.Rows.{entering_row}
+use Rattle.sf_calls.specs.Checked.Lemmas.Rows.{entering_row}
 use Rattle.sf_calls.proofs.tables.entering.Goals as goal
 
 pub loop-t-preserved : goal.loop-t-preserved

@@ -1,5 +1,5 @@
 use Rattle.std.proofs.Common.{◌≡◌, map, take}
-use Rattle.sf_calls.specs.Internal.Listed.{is_entered}
+use Rattle.sf_calls.specs.Checked.Listed.{is_entered}
 use Rattle.sf_calls.proofs.tables.entering.Given as goal
 
 -- the visited so far

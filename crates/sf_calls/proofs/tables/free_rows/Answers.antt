@@ -5,7 +5,7 @@ use Rattle.sf_core.specs.Program.View.{procedure_of}
 use Rattle.sf_core.specs.Program.ProgramView.{program_of}
 use Rattle.sf_calls.specs.Conditions.{FreeIn, Mentions}
 use Rattle.sf_calls.specs.Outside.{owner}
-use Rattle.sf_calls.specs.Lemmas.Rows.{leading_row, callers_there, rows_more}
+use Rattle.sf_calls.specs.Checked.Lemmas.Rows.{leading_row, callers_there, rows_more}
 use Rattle.sf_calls.proofs.tables.free_rows.Goals as goal
 
 pub leading-requires-clause-within : goal.leading-requires-clause-within

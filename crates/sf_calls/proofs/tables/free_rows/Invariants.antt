@@ -1,7 +1,7 @@
 use Rattle.std.proofs.Common.{length, take}
 use Rattle.sf_core.specs.Program.ProgramView.{program_of}
 use Rattle.sf_calls.specs.Conditions.{FreeIn}
-use Rattle.sf_calls.specs.Internal.Visited.{AreRows, AreCallers}
+use Rattle.sf_calls.specs.Checked.Visited.{AreRows, AreCallers}
 use Rattle.sf_calls.proofs.tables.free_rows.Given as goal
 
 -- the rows so far, and the callers for the resource that came last

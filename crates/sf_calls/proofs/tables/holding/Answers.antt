@@ -1,8 +1,8 @@
 use Rattle.std.proofs.Common.{◌∙◌, refl, ap}
 use Rattle.sf_base.proofs.Lists.{map-more}
 use Rattle.sf_core.specs.Program.ProgramView.{program_of}
-use Rattle.sf_calls.specs.Internal.Summaries.{speaks_of}
-use Rattle.sf_calls.specs.Lemmas.Rows.{holding_row}
+use Rattle.sf_calls.specs.Checked.Summaries.{speaks_of}
+use Rattle.sf_calls.specs.Checked.Lemmas.Rows.{holding_row}
 use Rattle.sf_calls.proofs.tables.holding.Goals as goal
 
 pub loop-t-preserved : goal.loop-t-preserved

@@ -1,5 +1,5 @@
 use Rattle.std.proofs.Common.{◌≡◌, map, take}
-use Rattle.sf_calls.specs.Internal.Summaries.{speaks_of}
+use Rattle.sf_calls.specs.Checked.Summaries.{speaks_of}
 use Rattle.sf_calls.proofs.tables.holding.Given as goal
 
 -- the visited so far

@@ -1,8 +1,8 @@
 use Rattle.std.proofs.Common.{length}
 use Rattle.sf_core.specs.Machine.HeldBy.{HeldBy}
 use Rattle.sf_core.specs.Program.ProgramView.{program_of}
-use Rattle.sf_calls.specs.Lemmas.Decided.{resource}
-use Rattle.sf_calls.specs.Lemmas.Rows.{rows_more}
+use Rattle.sf_calls.specs.Checked.Lemmas.Decided.{resource}
+use Rattle.sf_calls.specs.Checked.Lemmas.Rows.{rows_more}
 use Rattle.sf_calls.proofs.tables.holds_rows.Goals as goal
 
 pub loop-r-preserved : goal.loop-r-preserved

@@ -1,7 +1,7 @@
 use Rattle.std.proofs.Common.{length, take}
 use Rattle.sf_core.specs.Machine.HeldBy.{HeldBy}
 use Rattle.sf_core.specs.Program.ProgramView.{program_of}
-use Rattle.sf_calls.specs.Internal.Visited.{AreRows}
+use Rattle.sf_calls.specs.Checked.Visited.{AreRows}
 use Rattle.sf_calls.proofs.tables.holds_rows.Given as goal
 
 -- the rows so far

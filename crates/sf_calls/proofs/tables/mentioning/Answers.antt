@@ -1,8 +1,8 @@
 use Rattle.std.proofs.Common.{◌∙◌, refl}
 use Rattle.sf_base.proofs.Lists.{map-more}
 use Rattle.sf_core.specs.Program.ProgramView.{program_of}
-use Rattle.sf_calls.specs.Internal.Summaries.{has}
-use Rattle.sf_calls.specs.Lemmas.Rows.{has_same, mentioning_row, summary_ordered}
+use Rattle.sf_calls.specs.Checked.Summaries.{has}
+use Rattle.sf_calls.specs.Checked.Lemmas.Rows.{has_same, mentioning_row, summary_ordered}
 use Rattle.sf_calls.proofs.tables.mentioning.Goals as goal
 
 pub contains-requires : goal.contains-requires

@@ -1,5 +1,5 @@
 use Rattle.std.proofs.Common.{◌≡◌, map, take}
-use Rattle.sf_calls.specs.Internal.Summaries.{has}
+use Rattle.sf_calls.specs.Checked.Summaries.{has}
 use Rattle.sf_calls.proofs.tables.mentioning.Given as goal
 
 -- the visited so far

@@ -1,5 +1,5 @@
 use Rattle.std.proofs.Common.{◌≡◌, ◌<◌, ℕ, length, get_or}
-use Rattle.sf_calls.specs.Internal.Visited.{chosen}
+use Rattle.sf_calls.specs.Checked.Visited.{chosen}
 use Rattle.sf_calls.proofs.tables.sets.Given as goal
 
 -- the sets so far

@@ -1,5 +1,5 @@
 use Rattle.std.proofs.Common.{◌≡◌, drop}
-use Rattle.sf_calls.specs.Internal.Summaries.{speaks_of}
+use Rattle.sf_calls.specs.Checked.Summaries.{speaks_of}
 use Rattle.sf_calls.proofs.tables.speaks_of.Given as goal
 
 -- what was passed is of others

@@ -3,8 +3,8 @@ use Rattle.std.proofs.lemmas.List.{length-map}
 use Rattle.sf_core.specs.Program.View.{procedure_of}
 use Rattle.sf_core.specs.Program.ProgramView.{program_of}
 use Rattle.sf_calls.specs.Conditions.{Takes, Enters}
-use Rattle.sf_calls.specs.Lemmas.Decided.{resource}
-use Rattle.sf_calls.specs.Lemmas.Rows.{leading_row, callers_there, rows_more}
+use Rattle.sf_calls.specs.Checked.Lemmas.Decided.{resource}
+use Rattle.sf_calls.specs.Checked.Lemmas.Rows.{leading_row, callers_there, rows_more}
 use Rattle.sf_calls.proofs.tables.takes_rows.Goals as goal
 
 pub leading-requires-clause-within : goal.leading-requires-clause-within

@@ -1,4 +1,4 @@
-use Rattle.sf_check.specs.Laws.{ProvenFromTruncation}
+use Rattle.sf_check.specs.Checked.Laws.{ProvenFromTruncation}
 use Rattle.sf_check.proofs.ProvenHad.{proven-had}
 use Rattle.sf_check.proofs.laws.proven_from_truncation.Goals as goal
 

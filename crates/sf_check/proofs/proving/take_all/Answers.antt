@@ -1,6 +1,6 @@
 use Rattle.std.proofs.Common.{◌≡◌, ◌∙◌, true, false, ap, None, Some, cond}
 use Rattle.sf_sym.specs.declared.tag.Tag.TheVariants.{Absurd}
-use Rattle.sf_check.specs.Internal.Stands.{stand_of}
+use Rattle.sf_check.specs.Checked.Stands.{stand_of}
 use Rattle.sf_check.specs.Stand.{is_finished}
 use Rattle.sf_check.proofs.Walking.{end-open, end-proves, finished-none, tag-leads, tag-stops}
 use Rattle.sf_check.proofs.proving.take_all.Goals as goal

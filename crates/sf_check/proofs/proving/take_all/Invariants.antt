@@ -1,5 +1,5 @@
 use Rattle.std.proofs.Common.{◌≡◌, Some, take}
-use Rattle.sf_check.specs.Internal.Stands.{stand_of}
+use Rattle.sf_check.specs.Checked.Stands.{stand_of}
 use Rattle.sf_check.specs.Stand.{after, start}
 use Rattle.sf_check.proofs.proving.take_all.Given as goal
 

@@ -4,7 +4,7 @@ use Rattle.sf_check.specs.Refusal.{IfRefused, Refused}
 use Rattle.sf_rules.specs.Proving.{Proves}
 use Rattle.sf_sym.specs.declared.tag.Tag.{Tag}
 use Rattle.sf_core.specs.Program.ProgramView.{program_of}
-use Rattle.sf_rules.specs.LawsOfSettings.{ArrangedHasSetting}
+use Rattle.sf_rules.specs.Checked.LawsOfSettings.{ArrangedHasSetting}
 use Rattle.sf_rules.specs.Setting.{setting_of}
 use Rattle.sf_cli.proofs.Ordering.{is_ordering, ordered}
 use Rattle.sf_cli.proofs.Refused.{refused-by, refused-text}

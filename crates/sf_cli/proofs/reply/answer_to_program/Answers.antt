@@ -2,7 +2,7 @@ use Rattle.std.proofs.Common.{refl, subst}
 use Rattle.std.proofs.lemmas.Result.{IfOk-weaker}
 use Rattle.sf_check.specs.Accepted.{tags_in}
 use Rattle.sf_core.specs.Program.ProgramView.{program_of}
-use Rattle.sf_rules.specs.LawsOfSettings.{ArrangedHasSetting}
+use Rattle.sf_rules.specs.Checked.LawsOfSettings.{ArrangedHasSetting}
 use Rattle.sf_rules.specs.Setting.{setting_of}
 use Rattle.sf_search.specs.declared.verdicts.VerifyFault.{VerifyFault}
 use Rattle.sf_search.specs.Ends.{cause_of, FailsAs}

@@ -4,7 +4,7 @@ use Rattle.std.specs.declared.result.Result.TheVariants.{Err}
 use Rattle.sf_base.specs.declared.limits.TheConstants.{FILE_BYTES}
 use Rattle.sf_cli.proofs.Replies.{ok-reply, reaches-proof, reply-unread}
 use Rattle.sf_cli.specs.Answer.{read_fault_text}
-use Rattle.sf_cli.specs.Internal.Fetched.{Fetched}
+use Rattle.sf_cli.specs.Checked.Fetched.{Fetched}
 use Rattle.sf_words.specs.Words.{Text, recheck}
 use Rattle.sf_cli.proofs.reply.recheck_file.Goals as goal
 

@@ -3,7 +3,7 @@ use Rattle.std.proofs.lemmas.Result.{IfOk-weaker}
 use Rattle.sf_base.specs.declared.limits.TheConstants.{PROOF_BYTES}
 use Rattle.sf_core.specs.Program.ProgramView.{program_of}
 use Rattle.sf_cli.proofs.Replies.{fetched-proof_file, proof-status}
-use Rattle.sf_cli.specs.Internal.Fetched.{Fetched}
+use Rattle.sf_cli.specs.Checked.Fetched.{Fetched}
 use Rattle.sf_words.specs.Words.{Text}
 use Rattle.sf_cli.proofs.reply.recheck_program.Goals as goal
 

@@ -4,7 +4,7 @@ use Rattle.std.specs.declared.result.Result.TheVariants.{Err}
 use Rattle.sf_base.specs.declared.limits.TheConstants.{FILE_BYTES}
 use Rattle.sf_cli.proofs.Replies.{file-status, reply-unread, reply-verify}
 use Rattle.sf_cli.specs.Answer.{read_fault_text}
-use Rattle.sf_cli.specs.Internal.Fetched.{Fetched}
+use Rattle.sf_cli.specs.Checked.Fetched.{Fetched}
 use Rattle.sf_words.specs.Words.{Text, verify}
 use Rattle.std.proofs.Common.{Some, ap, ◌<◌}
 use Rattle.sf_cli.proofs.reply.verify_file.Goals as goal

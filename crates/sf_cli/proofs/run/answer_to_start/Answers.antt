@@ -7,7 +7,7 @@ use Rattle.sf_core.specs.Program.ProgramView.{program_of}
 use Rattle.sf_precise.specs.declared.arranged.Arranged.{Arranged}
 use Rattle.sf_run.specs.Running.{program_in}
 use Rattle.sf_cli.proofs.RunReplies.{ran-finished, ran-stopped}
-use Rattle.sf_cli.specs.Internal.Printed.{SaysFinish, stop_text}
+use Rattle.sf_cli.specs.Checked.Printed.{SaysFinish, stop_text}
 use Rattle.sf_cli.proofs.run.answer_to_start.Goals as goal
 
 pub say_finish-requires : goal.say_finish-requires

@@ -5,7 +5,7 @@ use Rattle.sf_base.specs.declared.limits.TheConstants.{FILE_BYTES}
 use Rattle.sf_cli.proofs.Replies.{reply-unread}
 use Rattle.sf_cli.proofs.RunReplies.{reply-ok, reply-reaches}
 use Rattle.sf_cli.specs.Answer.{read_fault_text}
-use Rattle.sf_cli.specs.Internal.Fetched.{Fetched}
+use Rattle.sf_cli.specs.Checked.Fetched.{Fetched}
 use Rattle.sf_words.specs.Words.{Text, run}
 use Rattle.sf_cli.proofs.run.run_file.Goals as goal
 

@@ -4,7 +4,7 @@ use Rattle.std.specs.Prelude.{IfOk}
 use Rattle.sf_check.specs.Accepted.{tags_in}
 use Rattle.sf_core.specs.Program.ProgramView.{program_of}
 use Rattle.sf_precise.specs.declared.arranged.Arranged.{Arranged}
-use Rattle.sf_rules.specs.LawsOfSettings.{ArrangedHasSetting}
+use Rattle.sf_rules.specs.Checked.LawsOfSettings.{ArrangedHasSetting}
 use Rattle.sf_rules.specs.Setting.{setting_of}
 use Rattle.sf_search.specs.declared.verdicts.VerifyFault.{VerifyFault}
 use Rattle.sf_search.specs.Ends.{cause_of, FailsAs}

@@ -3,7 +3,7 @@ use Rattle.std.proofs.lemmas.Result.{IfOk-weaker}
 use Rattle.sf_base.specs.declared.limits.TheConstants.{STATE_BYTES}
 use Rattle.sf_run.specs.Running.{program_in}
 use Rattle.sf_cli.proofs.RunReplies.{fetched-state_file, ran-status}
-use Rattle.sf_cli.specs.Internal.Fetched.{Fetched}
+use Rattle.sf_cli.specs.Checked.Fetched.{Fetched}
 use Rattle.sf_words.specs.Words.{Text}
 use Rattle.sf_cli.proofs.run.run_state_file.Goals as goal
 

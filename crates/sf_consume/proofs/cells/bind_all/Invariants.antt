@@ -1,5 +1,5 @@
 use Rattle.std.proofs.Common.{◌≡◌, length}
-use Rattle.sf_consume.specs.Internal.Fits.{after_changes}
+use Rattle.sf_consume.specs.Checked.Fits.{after_changes}
 use Rattle.sf_consume.proofs.cells.bind_all.Given as goal
 
 abbrev pub invariant-loop-first : goal.invariant-loop-first

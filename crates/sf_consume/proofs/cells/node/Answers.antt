@@ -1,5 +1,5 @@
 use Rattle.std.proofs.Common.{◌≡◌, [], ap, rules, sym, ◌∙◌}
-use Rattle.sf_consume.specs.Internal.Fits.{after_changes, fit_of, link_of}
+use Rattle.sf_consume.specs.Checked.Fits.{after_changes, fit_of, link_of}
 use Rattle.sf_consume.specs.Subtract.{first_fit, link}
 use Rattle.sf_consume.proofs.Nodes.{node_is}
 use Rattle.sf_consume.proofs.cells.node.Goals as goal

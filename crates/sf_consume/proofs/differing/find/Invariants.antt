@@ -1,5 +1,5 @@
 use Rattle.std.proofs.Common.{◌≡◌, length}
-use Rattle.sf_consume.specs.Internal.Meeting.{first_fit_of, fit_of}
+use Rattle.sf_consume.specs.Checked.Meeting.{first_fit_of, fit_of}
 use Rattle.sf_consume.specs.Misfit.{first_misfit}
 use Rattle.sf_consume.proofs.differing.find.Given as goal
 

@@ -1,5 +1,5 @@
 use Rattle.std.proofs.Common.{◌≡◌, ◌+◌, ◌≤◌, length}
-use Rattle.sf_consume.specs.Internal.Fits.{fit_of}
+use Rattle.sf_consume.specs.Checked.Fits.{fit_of}
 use Rattle.sf_sym.specs.Pending.{existentials_in}
 use Rattle.sf_consume.specs.Subtract.{fit_fields}
 use Rattle.sf_consume.proofs.fit.fit_fields.Given as goal

@@ -1,5 +1,5 @@
 use Rattle.std.proofs.Common.{◌≡◌, length}
-use Rattle.sf_consume.specs.Internal.Fits.{latest}
+use Rattle.sf_consume.specs.Checked.Fits.{latest}
 use Rattle.sf_consume.proofs.fit.latest.Given as goal
 
 abbrev pub invariant-loop-change : goal.invariant-loop-change

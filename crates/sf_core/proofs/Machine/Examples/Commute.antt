@@ -9,8 +9,8 @@ use Rattle.sf_base.specs.HeapStore.{shared, own}
 use Rattle.sf_core.specs.Machine.Config.{Task, Config, task_at}
 use Rattle.sf_core.specs.Machine.Next.{next}
 use Rattle.sf_core.specs.Machine.Enabled.{Thing, variable, cell, IsInRoom}
-use Rattle.sf_core.specs.Machine.Examples.{skip, event, forking, forking_start, side_by_side, at_one_cell, mutates, enters, ReturnsCommute, MutationAndEntryCommute}
-use Rattle.sf_core.specs.Machine.Laws.{Diverge, AreIndependent}
+use Rattle.sf_core.specs.Checked.Machine.Examples.{skip, event, forking, forking_start, side_by_side, at_one_cell, mutates, enters, ReturnsCommute, MutationAndEntryCommute}
+use Rattle.sf_core.specs.Checked.Machine.Laws.{Diverge, AreIndependent}
 use Rattle.sf_core.specs.Machine.Reach.{Reach}
 use Rattle.sf_core.specs.Machine.Step.{Event, Step}
 use Rattle.sf_core.specs.Program.Syntax.{Program}

@@ -8,7 +8,7 @@ use Rattle.sf_core.specs.Program.Syntax.{Program}
 use Rattle.std.proofs.lemmas.Bool.{cond-true}
 use Rattle.sf_base.proofs.HeapSplits.{at-other, at-self}
 use Rattle.sf_core.specs.Machine.Step.{Event, TaskStep, Step}
-use Rattle.sf_core.specs.Machine.Examples.{set, skip, event, forking, setting_twice, twice_start, UsedNumbersStayUsed, DeepForksDoNotStep, LessDeepForksStep, HasNewRoom, RoomsAreNotGivenTwice}
+use Rattle.sf_core.specs.Checked.Machine.Examples.{set, skip, event, forking, setting_twice, twice_start, UsedNumbersStayUsed, DeepForksDoNotStep, LessDeepForksStep, HasNewRoom, RoomsAreNotGivenTwice}
 use Rattle.sf_core.proofs.Machine.Determinism.{step-unique}
 use Rattle.sf_core.proofs.Machine.Examples.Runs.{to}
 use Rattle.sf_core.proofs.Machine.Progress.{step-stopped}

@@ -9,7 +9,7 @@ use Rattle.sf_core.specs.Machine.Next.{Next, frame_next, next}
 use Rattle.sf_core.specs.Machine.Config.{Item, Task, runs, Path, Common, task_at}
 use Rattle.sf_core.specs.Machine.Enabled.{IsBlocked, IsEnabled, Thing, variable, cell, Reads, Writes}
 use Rattle.sf_base.specs.HeapStore.{shared, own}
-use Rattle.sf_core.specs.Machine.Examples.{lock, child, side_by_side, at_one_cell, mutates, looks_up, enters, TwoMutationsRace, MutationAndLookUpRace, TwoLookUpsDoNotRace, TwoEntriesDoNotRace, HeldRegionsWait, sets_shared, enters_by_shared, passes_shared, makes_one, AssignmentAndTestRace, AssignmentAndConditionRace, AssignmentAndReferenceDoNotRace, NewAndLookUpDoNotRace}
+use Rattle.sf_core.specs.Checked.Machine.Examples.{lock, child, side_by_side, at_one_cell, mutates, looks_up, enters, TwoMutationsRace, MutationAndLookUpRace, TwoLookUpsDoNotRace, TwoEntriesDoNotRace, HeldRegionsWait, sets_shared, enters_by_shared, passes_shared, makes_one, AssignmentAndTestRace, AssignmentAndConditionRace, AssignmentAndReferenceDoNotRace, NewAndLookUpDoNotRace}
 use Rattle.sf_core.proofs.Machine.Tasks.{MayGo, enabled-may_go}
 
 -- the tasks of such a configuration that may go on

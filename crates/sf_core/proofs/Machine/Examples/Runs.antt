@@ -25,7 +25,7 @@ use Rattle.sf_core.specs.Machine.Enabled.{HasEnded}
 use Rattle.sf_core.specs.Machine.Good.{Owner, resource, task, Returns, Good}
 use Rattle.sf_base.specs.HeapStore.{Apart, Splits, Cell, put_field, Heap, IsOne, Slot, shared, own}
 use Rattle.sf_core.specs.Machine.HeldBy.{HeldBy}
-use Rattle.sf_core.specs.Machine.Examples.{at_own, own_one, one_cell, one_cell_at, main, main_done, set, setting, one_at, one_in, event, setting_start, SettingStarts, CallMutateReturn, alone, DisposeAtNilIsBad, makes, makes_twice, FreedLocationsComeAgain, skip, forking, forking_start, ChildrenEndInAnyOrder, fill, filling, filling_start, ChildrenFillReferences, hands_on, passing, passing_start, ReferencesArePassedOn, locks_and_loops, RegionThenLoop}
+use Rattle.sf_core.specs.Checked.Machine.Examples.{at_own, own_one, one_cell, one_cell_at, main, main_done, set, setting, one_at, one_in, event, setting_start, SettingStarts, CallMutateReturn, alone, DisposeAtNilIsBad, makes, makes_twice, FreedLocationsComeAgain, skip, forking, forking_start, ChildrenEndInAnyOrder, fill, filling, filling_start, ChildrenFillReferences, hands_on, passing, passing_start, ReferencesArePassedOn, locks_and_loops, RegionThenLoop}
 use Rattle.sf_core.specs.Assertions.Occurs.{VarOccursIn}
 use Rattle.sf_core.specs.Assertions.Sat.{Sat}
 use Rattle.sf_core.specs.Machine.Start.{IsKept, entry_slot}

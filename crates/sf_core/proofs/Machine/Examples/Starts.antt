@@ -18,7 +18,7 @@ use Rattle.sf_base.proofs.Options.{cond-some}
 use Rattle.sf_core.specs.Machine.Config.{evaluate}
 use Rattle.sf_base.specs.HeapStore.{Slot, shared, own, ◌⋆◌}
 use Rattle.sf_core.specs.Machine.HeldBy.{HeldBy}
-use Rattle.sf_core.specs.Machine.Examples.{lock, at_shared, shared_one, emp, guarding, skip, takes, guarded, one_at, one_cell_at, shared_in, SkipStartsWithTheInvariant, SkipStartsWithNothingElse, SkipDoesNotStartWithNothing, HoldersDoNotStart}
+use Rattle.sf_core.specs.Checked.Machine.Examples.{lock, at_shared, shared_one, emp, guarding, skip, takes, guarded, one_at, one_cell_at, shared_in, SkipStartsWithTheInvariant, SkipStartsWithNothingElse, SkipDoesNotStartWithNothing, HoldersDoNotStart}
 use Rattle.sf_core.specs.Assertions.Occurs.{VarOccursIn}
 use Rattle.sf_core.specs.Assertions.Sat.{Sat}
 use Rattle.sf_core.specs.Machine.Start.{IsKept, Invariants, entry_slot}

@@ -1,7 +1,7 @@
 use Rattle.std.proofs.Common.{drop, map}
 use Rattle.sf_core.specs.Assertions.Sat.{value}
 use Rattle.sf_core.specs.Program.View.{conjunct_of, conjuncts}
-use Rattle.sf_foot.specs.Internal.Taking.{ConjunctsLeft}
+use Rattle.sf_foot.specs.Checked.Taking.{ConjunctsLeft}
 use Rattle.sf_foot.specs.Variables.{value_of}
 use Rattle.sf_foot.proofs.taking.+taking.Given as goal
 

@@ -1,6 +1,6 @@
 use Rattle.std.proofs.Common.{◌-◌, length}
 use Rattle.std.specs.FinMap.{len}
-use Rattle.sf_foot.specs.Internal.Walks.{SegmentWalk, Walking}
+use Rattle.sf_foot.specs.Checked.Walks.{SegmentWalk, Walking}
 use Rattle.sf_foot.proofs.walks.walk_segment.Given as goal
 
 -- what was walked so far

@@ -1,7 +1,7 @@
 use Rattle.std.proofs.Common.{◌≡◌, ◌∙◌, ◌++◌, ◌∷◌, [], Some, reverse, ap, sym, subst}
 use Rattle.std.proofs.lemmas.List.{nil_from_length, reverse-append}
 use Rattle.std.specs.FinMap.{get}
-use Rattle.sf_foot.specs.Internal.Walks.{TreesWalk, Walking}
+use Rattle.sf_foot.specs.Checked.Walks.{TreesWalk, Walking}
 use Rattle.sf_foot.proofs.Walking.{walking-leaf, walking-node, walking-trees_end}
 use Rattle.sf_foot.proofs.walks.walk_tree.Goals as goal
 

@@ -1,6 +1,6 @@
 use Rattle.std.proofs.Common.{◌+◌, ◌*◌, ◌-◌, [], ◌∷◌, length, reverse}
 use Rattle.std.specs.FinMap.{len}
-use Rattle.sf_foot.specs.Internal.Walks.{TreesWalk, Walking}
+use Rattle.sf_foot.specs.Checked.Walks.{TreesWalk, Walking}
 use Rattle.sf_foot.proofs.walks.walk_tree.Given as goal
 
 -- what was walked so far; the next root is the last

@@ -1,6 +1,6 @@
 use Rattle.std.proofs.Common.{◌∙◌, ◌∷◌, [], reverse, ap, sym, subst, arith}
 use Rattle.std.proofs.lemmas.List.{reverse-append}
-use Rattle.sf_heap.specs.Internal.Moves.{Merging}
+use Rattle.sf_heap.specs.Checked.Moves.{Merging}
 use Rattle.sf_heap.proofs.Merges.{Merging-more, Rises-front}
 use Rattle.sf_heap.proofs.moves.merged.Goals as goal
 

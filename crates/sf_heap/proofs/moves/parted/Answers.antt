@@ -1,7 +1,7 @@
 use Rattle.std.proofs.Common.{◌≡◌, ◌≢◌, ◌∙◌, ◌-◌, ◌+◌, ◌<◌, ◌≤◌, ℕ, List, ◌++◌, ◌∷◌, [], Contains, length, reverse, take, get_or, ap, sym, subst, arith, length-append}
 use Rattle.std.proofs.lemmas.List.{nil_from_length, reverse-append, take_more}
 use Rattle.sf_base.proofs.Elements.{contains-nil}
-use Rattle.sf_heap.specs.Internal.Moves.{Parting}
+use Rattle.sf_heap.specs.Checked.Moves.{Parting}
 use Rattle.sf_heap.proofs.Merges.{Parting-part, Parting-rest, Parting-end, before_lower, others_wanted}
 use Rattle.sf_heap.proofs.moves.parted.Goals as goal
 use Rattle.sf_heap.proofs.moves.parted.Goals.{else-wanted-gt0-via-then-wanted-gt0+else-at-wanted, else-wanted-gt0-via-else-wanted-gt0}

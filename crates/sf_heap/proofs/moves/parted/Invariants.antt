@@ -1,6 +1,6 @@
 use Rattle.std.proofs.Common.{◌+◌, ◌≤◌, length, reverse, take, vec_len}
 use Rattle.std.specs.Vec.{vec_capacity}
-use Rattle.sf_heap.specs.Internal.Moves.{Parting}
+use Rattle.sf_heap.specs.Checked.Moves.{Parting}
 use Rattle.sf_heap.proofs.moves.parted.Given as goal
 
 -- what is left and what was moved, the last one moved in front

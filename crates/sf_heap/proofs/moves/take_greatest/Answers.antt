@@ -1,5 +1,5 @@
 use Rattle.std.proofs.Common.{◌<◌, arith, subst}
-use Rattle.sf_heap.specs.Internal.Moves.{EndsAt}
+use Rattle.sf_heap.specs.Checked.Moves.{EndsAt}
 use Rattle.sf_heap.proofs.Merges.{takes-left, takes-right, ends_apart}
 use Rattle.sf_heap.proofs.moves.take_greatest.Goals as goal
 

@@ -1,6 +1,6 @@
 use Rattle.std.proofs.Common.{◌≡◌, ◌+◌, drop}
 use Rattle.std.specs.Option.{option_map}
-use Rattle.sf_lex.specs.Internal.Lexing.{close_length}
+use Rattle.sf_lex.specs.Checked.Lexing.{close_length}
 use Rattle.sf_lex.proofs.lexeme.close_length.Given as goal
 
 -- what the bytes that are left tell, with the bytes before them, is what all tell

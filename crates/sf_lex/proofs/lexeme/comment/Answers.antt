@@ -1,5 +1,5 @@
 use Rattle.std.proofs.Common.{◌≡◌, ◌≤◌, ◌-◌, drop, length, sym, ap, ◌∙◌, refl, length-drop, rules}
-use Rattle.sf_lex.specs.Internal.Lexing.{close_length}
+use Rattle.sf_lex.specs.Checked.Lexing.{close_length}
 use Rattle.sf_lex.proofs.CommentLexemes.{comment_stands, comment_open, close_within}
 use Rattle.sf_lex.proofs.lexeme.comment.Goals as goal
 

@@ -12,9 +12,9 @@ use Rattle.sf_core.specs.Program.Syntax.{Procedure}
 use Rattle.sf_core.specs.Program.View.{procedure_of, resource_of}
 use Rattle.sf_foot.specs.Starting.{store_of}
 use Rattle.sf_heap.specs.Cells.{heap_of}
-use Rattle.sf_machine.specs.Internal.Resources.{counts_of}
-use Rattle.sf_machine.specs.Internal.Stores.{store_of as code_store}
-use Rattle.sf_machine.specs.Internal.Tasks.{first_slots}
+use Rattle.sf_machine.specs.Checked.Resources.{counts_of}
+use Rattle.sf_machine.specs.Checked.Stores.{store_of as code_store}
+use Rattle.sf_machine.specs.Checked.Tasks.{first_slots}
 use Rattle.sf_machine.specs.declared.task.Task.TheVariants.{Runs}
 use Rattle.sf_machine.proofs.Reaching.{reached_begin}
 use Rattle.sf_machine.proofs.Tables.{begins_as, counts_same, held_none, store_all, tasks_first, used_first}

@@ -1,4 +1,4 @@
-use Rattle.sf_machine.specs.Internal.Entries.{AreEntrySpots}
+use Rattle.sf_machine.specs.Checked.Entries.{AreEntrySpots}
 use Rattle.sf_machine.proofs.entry.entry_spots.Given as goal
 
 -- so many are there

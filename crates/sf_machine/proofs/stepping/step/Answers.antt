@@ -4,7 +4,7 @@ use Rattle.sf_core.specs.Machine.Step.{Step}
 use Rattle.sf_core.specs.Program.ProgramView.{program_of}
 use Rattle.sf_machine.specs.Configs.{config_of}
 use Rattle.sf_machine.specs.Events.{event_of}
-use Rattle.sf_machine.specs.Internal.Performing.{performed}
+use Rattle.sf_machine.specs.Checked.Performing.{performed}
 use Rattle.sf_machine.proofs.Reaching.{reached_step}
 use Rattle.sf_machine.proofs.Steps.{planned_steps}
 use Rattle.sf_machine.proofs.stepping.step.Goals as goal

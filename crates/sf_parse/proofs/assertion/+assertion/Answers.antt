@@ -4,10 +4,10 @@ use Rattle.sf_ast.specs.View.{conjuncts, conjunct_of}
 use Rattle.sf_parse.specs.Leaf.{Leaf, leaves}
 use Rattle.sf_parse.specs.Leaf as k
 use Rattle.sf_parse.specs.Grammar.{assertion, conjunct}
-use Rattle.sf_parse.specs.Internal.Machine as m
-use Rattle.sf_parse.specs.Internal.Machine.{verdict}
+use Rattle.sf_parse.specs.Checked.Machine as m
+use Rattle.sf_parse.specs.Checked.Machine.{verdict}
 use Rattle.sf_parse.specs.Nesting.{AssertionWithin}
-use Rattle.sf_parse.specs.Internal.Parser.{last_of, Ends}
+use Rattle.sf_parse.specs.Checked.Parser.{last_of, Ends}
 use Rattle.sf_parse.proofs.Parser.Conjuncts.{assertion_push, within_push, nearest_push, last_push}
 use Rattle.sf_parse.proofs.Machine.Forth.{closed_before_star}
 use Rattle.sf_parse.proofs.Machine.HasLevel.{some_level}

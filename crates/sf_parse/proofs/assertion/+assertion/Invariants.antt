@@ -2,12 +2,12 @@ use Rattle.std.proofs.Common.{◌≡◌, ◌+◌, ◌*◌, ◌-◌, ◌∷◌, L
 use Rattle.sf_ast.specs.Surface.{Conjunct}
 use Rattle.sf_ast.specs.View.{conjuncts, conjunct_of}
 use Rattle.sf_parse.specs.Grammar.{conjunct, assertion}
-use Rattle.sf_parse.specs.Internal.Machine as m
-use Rattle.sf_parse.specs.Internal.Machine.{Predicted, verdict}
+use Rattle.sf_parse.specs.Checked.Machine as m
+use Rattle.sf_parse.specs.Checked.Machine.{Predicted, verdict}
 use Rattle.sf_parse.specs.Nearest.{ConjunctNearest, AssertionNearest}
 use Rattle.sf_parse.specs.Nesting.{ConjunctWithin, AssertionWithin}
 use Rattle.sf_parse.specs.Leaf.{leaves}
-use Rattle.sf_parse.specs.Internal.Parser.{last_of, Ends}
+use Rattle.sf_parse.specs.Checked.Parser.{last_of, Ends}
 use Rattle.sf_parse.proofs.assertion.+assertion.Given as goal
 
 abbrev pub decreases-assertion : goal.decreases-assertion

@@ -1,6 +1,6 @@
 use Rattle.std.proofs.Common.{arith}
 use Rattle.std.proofs.lemmas.Grind.{common_steps}
-use Rattle.sf_parse.specs.Internal.Given.{is_name}
+use Rattle.sf_parse.specs.Checked.Given.{is_name}
 use Rattle.sf_parse.proofs.Parser.Arguments.{accepts_first}
 use Rattle.sf_parse.proofs.call.maybe_expressions.Goals as goal
 

@@ -1,10 +1,10 @@
 use Rattle.std.proofs.Common.{◌≡◌, List, ◌∷◌, ◌∙◌, ap, sym}
 use Rattle.sf_parse.specs.Leaf.{Leaf, leaves}
 use Rattle.sf_parse.specs.Leaf as k
-use Rattle.sf_parse.specs.Internal.Given.{all_names}
+use Rattle.sf_parse.specs.Checked.Given.{all_names}
 use Rattle.sf_parse.specs.Grammar.{expr, more_exprs}
-use Rattle.sf_parse.specs.Internal.Machine as m
-use Rattle.sf_parse.specs.Internal.Machine.{verdict}
+use Rattle.sf_parse.specs.Checked.Machine as m
+use Rattle.sf_parse.specs.Checked.Machine.{verdict}
 use Rattle.sf_parse.proofs.Parser.Arguments.{accepts_next, accepts_more, all_names_push, more_exprs_push}
 use Rattle.sf_parse.proofs.call.more_expressions.Goals as goal
 

@@ -1,8 +1,8 @@
 use Rattle.std.proofs.Common.{◌≡◌, ◌∷◌, Bool, List, length}
-use Rattle.sf_parse.specs.Internal.Given.{all_names}
+use Rattle.sf_parse.specs.Checked.Given.{all_names}
 use Rattle.sf_parse.specs.Grammar.{more_exprs}
-use Rattle.sf_parse.specs.Internal.Machine as m
-use Rattle.sf_parse.specs.Internal.Machine.{Predicted, verdict}
+use Rattle.sf_parse.specs.Checked.Machine as m
+use Rattle.sf_parse.specs.Checked.Machine.{Predicted, verdict}
 use Rattle.sf_parse.specs.Leaf.{leaves}
 use Rattle.sf_parse.proofs.call.more_expressions.Given as goal
 

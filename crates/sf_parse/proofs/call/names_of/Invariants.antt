@@ -1,6 +1,6 @@
 use Rattle.std.proofs.Common.{◌≡◌, map, true, ◌++◌, drop}
 use Rattle.sf_ast.specs.declared.word.SurfaceExpr.TheVariants as e
-use Rattle.sf_parse.specs.Internal.Given.{all_names}
+use Rattle.sf_parse.specs.Checked.Given.{all_names}
 use Rattle.sf_parse.proofs.call.names_of.Given as goal
 
 abbrev pub invariant-loop-value : goal.invariant-loop-value

@@ -4,7 +4,7 @@ use Rattle.sf_ast.specs.View.{command_of, commands}
 use Rattle.sf_parse.specs.Leaf.{Leaf, leaves}
 use Rattle.sf_parse.specs.Grammar as g
 use Rattle.sf_parse.specs.Grammar.{expr}
-use Rattle.sf_parse.specs.Internal.Machine as m
+use Rattle.sf_parse.specs.Checked.Machine as m
 use Rattle.sf_parse.specs.Nesting.{CommandsWithin}
 use Rattle.sf_parse.proofs.Grammar.CommandsLonger.{fewer_behind_command}
 use Rattle.sf_parse.proofs.Parser.Levels.{if_within, if_nearest, another_command, commands_push, within_push, nearest_push}

@@ -1,8 +1,8 @@
 use Rattle.std.proofs.Common.{◌≡◌, List, ◌∷◌, ◌+◌, map, length}
 use Rattle.sf_ast.specs.View.{command_of, commands}
 use Rattle.sf_parse.specs.Grammar as g
-use Rattle.sf_parse.specs.Internal.Machine as m
-use Rattle.sf_parse.specs.Internal.Machine.{Predicted, verdict}
+use Rattle.sf_parse.specs.Checked.Machine as m
+use Rattle.sf_parse.specs.Checked.Machine.{Predicted, verdict}
 use Rattle.sf_parse.specs.Nearest.{CommandsNearest}
 use Rattle.sf_parse.specs.Nesting.{CommandsWithin}
 use Rattle.sf_parse.specs.Leaf.{leaves}

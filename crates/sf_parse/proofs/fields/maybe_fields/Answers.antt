@@ -1,6 +1,6 @@
 use Rattle.std.proofs.Common.{[], ◌∷◌, refl}
 use Rattle.std.proofs.lemmas.Result.{err_from_is_err_and}
-use Rattle.sf_parse.specs.Internal.Machine as m
+use Rattle.sf_parse.specs.Checked.Machine as m
 use Rattle.sf_parse.proofs.Parser.Choices.{fails_as}
 use Rattle.sf_parse.proofs.fields.maybe_fields.Goals as goal
 

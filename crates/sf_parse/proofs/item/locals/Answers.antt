@@ -4,8 +4,8 @@ use Rattle.sf_ast.specs.View.{names_of}
 use Rattle.sf_parse.specs.Leaf.{Leaf, leaves}
 use Rattle.sf_parse.specs.Leaf as k
 use Rattle.sf_parse.specs.Grammar as g
-use Rattle.sf_parse.specs.Internal.Machine as m
-use Rattle.sf_parse.specs.Internal.Machine.{verdict}
+use Rattle.sf_parse.specs.Checked.Machine as m
+use Rattle.sf_parse.specs.Checked.Machine.{verdict}
 use Rattle.sf_parse.proofs.Parser.ItemLists.{locals_push, fewer_behind_local}
 use Rattle.sf_parse.proofs.item.locals.Goals as goal
 

@@ -2,7 +2,7 @@ use Rattle.std.proofs.Common.{◌≡◌, ◌∷◌, ◌∙◌, sym, ap, refl}
 use Rattle.sf_parse.specs.Leaf.{Leaf, leaves}
 use Rattle.sf_parse.specs.Leaf as k
 use Rattle.sf_parse.specs.Grammar.{more_names}
-use Rattle.sf_parse.specs.Internal.Machine as m
+use Rattle.sf_parse.specs.Checked.Machine as m
 use Rattle.sf_parse.proofs.Parser.Lists.{more_names_push}
 use Rattle.sf_parse.proofs.names.more_names.Goals as goal
 

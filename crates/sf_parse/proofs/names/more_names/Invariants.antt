@@ -1,7 +1,7 @@
 use Rattle.std.proofs.Common.{◌≡◌, List, ◌∷◌, length}
 use Rattle.sf_parse.specs.Grammar.{more_names}
-use Rattle.sf_parse.specs.Internal.Machine as m
-use Rattle.sf_parse.specs.Internal.Machine.{Predicted, verdict}
+use Rattle.sf_parse.specs.Checked.Machine as m
+use Rattle.sf_parse.specs.Checked.Machine.{Predicted, verdict}
 use Rattle.sf_parse.specs.Leaf.{leaves}
 use Rattle.sf_parse.proofs.names.more_names.Given as goal
 

@@ -2,7 +2,7 @@ use Rattle.std.proofs.Common.{◌≡◌, ◌++◌, drop, length, map}
 use Rattle.std.specs.List.{flat_map}
 use Rattle.sf_core.specs.Program.View.{assertion_of, procedure_of}
 use Rattle.sf_precise.specs.Annotations.{notes_of}
-use Rattle.sf_precise.specs.Internal.Starts.{ends_from}
+use Rattle.sf_precise.specs.Checked.Starts.{ends_from}
 use Rattle.sf_precise.proofs.annotations.add_annotations.Given as goal
 
 -- those so far and those of what is left are all

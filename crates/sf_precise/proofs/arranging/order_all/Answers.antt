@@ -1,7 +1,7 @@
 use Rattle.std.proofs.Common.{Global, Vec, ap, ◌∙◌}
 use Rattle.sf_core.specs.Program.View.{assertion_of}
 use Rattle.sf_core.specs.declared.ordered.Ordered.{Ordered}
-use Rattle.sf_precise.specs.Lemmas.Annotated.{noted-all, read-fault, read-ordered}
+use Rattle.sf_precise.specs.Checked.Lemmas.Annotated.{noted-all, read-fault, read-ordered}
 use Rattle.sf_precise.proofs.arranging.order_all.Goals.{in-Ok+in_ok-push-in-Ok, in-Err-Undetermined}
 use Rattle.sf_precise.proofs.arranging.order_all.Goals as goal
 

@@ -1,6 +1,6 @@
 use Rattle.std.proofs.Common.{map, take}
 use Rattle.sf_core.specs.Program.View.{assertion_of}
-use Rattle.sf_precise.specs.Lemmas.Annotated.{IsNoted}
+use Rattle.sf_precise.specs.Checked.Lemmas.Annotated.{IsNoted}
 use Rattle.sf_precise.proofs.arranging.order_all.Given as goal
 
 -- the first place so far, and the orders so far where there is none

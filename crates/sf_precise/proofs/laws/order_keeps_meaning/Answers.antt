@@ -1,6 +1,6 @@
 use Rattle.std.specs.Prelude.{false}
 use Rattle.sf_core.specs.Assertions.Sat.{value}
-use Rattle.sf_precise.specs.Lemmas.OrderMeaning.{level-sat, sat-level}
+use Rattle.sf_precise.specs.Checked.Lemmas.OrderMeaning.{level-sat, sat-level}
 use Rattle.sf_precise.proofs.laws.order_keeps_meaning.Goals as goal
 
 pub returns : goal.returns

@@ -2,7 +2,7 @@ use Rattle.std.proofs.Common.{◌∙◌, ◌++◌, ap}
 use Rattle.sf_base.proofs.Lists.{append-two, append-three}
 use Rattle.sf_base.proofs.Zips.{zip-more}
 use Rattle.sf_core.specs.Program.View.{level_of}
-use Rattle.sf_precise.specs.Lemmas.Branches.{branch-ordered, branch-stuck, choice-prepared, made_of}
+use Rattle.sf_precise.specs.Checked.Lemmas.Branches.{branch-ordered, branch-stuck, choice-prepared, made_of}
 use Rattle.sf_precise.proofs.Outers.{level-outer}
 use Rattle.sf_precise.proofs.Views.{view-if, view-level, view-points, view-segment}
 use Rattle.sf_precise.proofs.ordering.+levels.Goals as goal

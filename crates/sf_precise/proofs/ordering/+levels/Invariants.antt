@@ -1,8 +1,8 @@
 use Rattle.std.proofs.Common.{◌≡◌, take, option_map}
 use Rattle.std.specs.List.{AllZip}
 use Rattle.sf_core.specs.Program.View.{conjunct_of}
-use Rattle.sf_precise.specs.Internal.Outer.{outer_of}
-use Rattle.sf_precise.specs.Internal.Prepared.{IsPrepared}
+use Rattle.sf_precise.specs.Checked.Outer.{outer_of}
+use Rattle.sf_precise.specs.Checked.Prepared.{IsPrepared}
 use Rattle.sf_precise.proofs.ordering.+levels.Given as goal
 
 -- those so far are prepared, and their existentials are listed

@@ -1,6 +1,6 @@
 use Rattle.std.proofs.Common.{rules}
 use Rattle.sf_core.specs.Program.View.{level_of}
-use Rattle.sf_precise.specs.Lemmas.Branches.{error-not, ordered-determined, ordered-stands}
+use Rattle.sf_precise.specs.Checked.Lemmas.Branches.{error-not, ordered-determined, ordered-stands}
 use Rattle.sf_precise.proofs.ordering.find_order.Goals as goal
 
 pub returns-in_err-level-clause-undetermined : goal.returns-in_err-level-clause-undetermined

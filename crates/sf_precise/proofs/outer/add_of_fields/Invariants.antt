@@ -1,5 +1,5 @@
 use Rattle.std.proofs.Common.{◌≡◌, ◌++◌, drop}
-use Rattle.sf_precise.specs.Internal.Outer.{field_existentials}
+use Rattle.sf_precise.specs.Checked.Outer.{field_existentials}
 use Rattle.sf_precise.proofs.outer.add_of_fields.Given as goal
 
 -- those so far and those of what is left are all

@@ -2,7 +2,7 @@ use Rattle.std.proofs.Common.{◌∙◌, arith}
 use Rattle.std.proofs.lemmas.Slice.Zip.{AllZip-long}
 use Rattle.sf_base.proofs.Zips.{zip-read}
 use Rattle.sf_core.specs.Program.View.{conjunct_of}
-use Rattle.sf_precise.specs.Internal.Waits.{known_outside}
+use Rattle.sf_precise.specs.Checked.Waits.{known_outside}
 use Rattle.sf_precise.proofs.Adding.{begin-more_read}
 use Rattle.sf_precise.proofs.sequence.begin.Goals as goal
 

@@ -1,7 +1,7 @@
 use Rattle.std.proofs.Common.{is_some, map, take}
 use Rattle.sf_core.specs.Program.View.{conjunct_of}
-use Rattle.sf_precise.specs.Internal.Waits.{jobs_of, known_outside}
-use Rattle.sf_precise.specs.Internal.Work.{IsWork, none_taken}
+use Rattle.sf_precise.specs.Checked.Waits.{jobs_of, known_outside}
+use Rattle.sf_precise.specs.Checked.Work.{IsWork, none_taken}
 use Rattle.sf_precise.proofs.sequence.begin.Given as goal
 
 -- the work of those so far

@@ -2,7 +2,7 @@ use Rattle.std.proofs.Common.{◌∙◌, length, sym, refl, arith}
 use Rattle.std.proofs.lemmas.Option.{slice_get_read}
 use Rattle.std.proofs.lemmas.Slice.Zip.{AllZip-long}
 use Rattle.sf_core.specs.Program.View.{conjunct_of}
-use Rattle.sf_precise.specs.Internal.Waits.{known_outside}
+use Rattle.sf_precise.specs.Checked.Waits.{known_outside}
 use Rattle.sf_precise.proofs.Sequences.{empty-has_none, end-order, end-stuck, lacking-within, none-read, popped-within, progress-starts, progress-within, step-read}
 use Rattle.sf_precise.proofs.sequence.sequence.Goals as goal
 

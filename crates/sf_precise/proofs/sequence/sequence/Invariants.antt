@@ -1,6 +1,6 @@
 use Rattle.sf_core.specs.Program.View.{conjunct_of}
-use Rattle.sf_precise.specs.Internal.Waits.{known_outside}
-use Rattle.sf_precise.specs.Internal.Work.{work_left}
+use Rattle.sf_precise.specs.Checked.Waits.{known_outside}
+use Rattle.sf_precise.specs.Checked.Work.{work_left}
 use Rattle.sf_precise.proofs.Sequences.{Progress}
 use Rattle.sf_precise.proofs.sequence.sequence.Given as goal
 

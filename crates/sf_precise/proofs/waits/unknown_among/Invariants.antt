@@ -1,5 +1,5 @@
 use Rattle.std.proofs.Common.{◌≡◌, ◌++◌, drop}
-use Rattle.sf_precise.specs.Internal.Waits.{known_outside, unknown_among}
+use Rattle.sf_precise.specs.Checked.Waits.{known_outside, unknown_among}
 use Rattle.sf_precise.proofs.waits.unknown_among.Given as goal
 
 -- those so far and those of what is left are all

@@ -1,5 +1,5 @@
 use Rattle.std.proofs.Common.{take}
-use Rattle.sf_precise.specs.Internal.Work.{AddsWaits}
+use Rattle.sf_precise.specs.Checked.Work.{AddsWaits}
 use Rattle.sf_precise.proofs.work.add_waits.Given as goal
 
 -- for those so far

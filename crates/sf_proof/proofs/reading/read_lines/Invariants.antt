@@ -1,7 +1,7 @@
 use Rattle.std.proofs.Common.{◌≡◌, ◌≤◌, ◌+◌, length}
 use Rattle.sf_lines.specs.Lines.{bytes_left, lines, lines_left}
 use Rattle.sf_core.specs.Program.ProgramView.{program_of}
-use Rattle.sf_proof.specs.Internal.Walk.{read_after, reading}
+use Rattle.sf_proof.specs.Checked.Walk.{read_after, reading}
 use Rattle.sf_proof.proofs.reading.read_lines.Given as goal
 
 abbrev pub invariant-loop-left : goal.invariant-loop-left

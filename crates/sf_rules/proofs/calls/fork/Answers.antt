@@ -5,7 +5,7 @@ use Rattle.sf_base.proofs.Options.{some-holds}
 use Rattle.sf_core.specs.Program.Syntax.{Command}
 use Rattle.sf_core.specs.Program.View.{assertion_of, call_of, command_of}
 use Rattle.sf_sym.specs.Goal.{run, todo_of}
-use Rattle.sf_rules.specs.Internal.Children.{children_of}
+use Rattle.sf_rules.specs.Checked.Children.{children_of}
 use Rattle.sf_rules.specs.Setting.{Setting}
 use Rattle.sf_rules.proofs.CallRows.{fork_at, fork_view}
 use Rattle.sf_rules.proofs.calls.fork.Goals as goal

@@ -6,7 +6,7 @@ use Rattle.sf_core.specs.declared.command.Command.{Command as CodeCommand}
 use Rattle.sf_core.specs.Program.Syntax.{Command}
 use Rattle.sf_core.specs.Program.View.{assertion_of, block, command_of}
 use Rattle.sf_sym.specs.Goal.{exit, run, to_run, todo_of}
-use Rattle.sf_rules.specs.Internal.Children.{children_of}
+use Rattle.sf_rules.specs.Checked.Children.{children_of}
 use Rattle.sf_rules.proofs.RegionRows.{enter_at, region_view}
 use Rattle.sf_rules.proofs.regions.enter.Goals as goal
 

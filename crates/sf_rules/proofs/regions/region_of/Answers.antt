@@ -3,7 +3,7 @@ use Rattle.std.proofs.lemmas.Bool.Decides.{nat_tests}
 use Rattle.sf_base.proofs.Lookup.{get-read_map}
 use Rattle.sf_core.specs.Program.ProgramView.{program_of}
 use Rattle.sf_core.specs.Program.View.{assertion_of, resource_of}
-use Rattle.sf_calls.specs.Lemmas.InOrder.{variables_bound}
+use Rattle.sf_calls.specs.Checked.Lemmas.InOrder.{variables_bound}
 use Rattle.sf_rules.proofs.RegionRows.{region_is}
 use Rattle.sf_rules.proofs.regions.region_of.Goals as goal
 

@@ -2,9 +2,9 @@ use Rattle.std.proofs.Common.{sym, ap, ◌∙◌, map}
 use Rattle.std.proofs.lemmas.List.{take_all}
 use Rattle.sf_core.specs.Program.Syntax.{level}
 use Rattle.sf_core.specs.Program.View.{conjunct_of, conjuncts}
-use Rattle.sf_rules.specs.Lemmas.{level_of-out}
+use Rattle.sf_rules.specs.Checked.Lemmas.{level_of-out}
 use Rattle.sf_sym.specs.Mapped.{conjuncts_with, conjunct_with, level_with, operand_with}
-use Rattle.sf_rules.specs.Internal.Terms.{terms_of}
+use Rattle.sf_rules.specs.Checked.Terms.{terms_of}
 use Rattle.sf_rules.proofs.Worded.{conjuncts_with-of, level_of-roll, points_with}
 use Rattle.sf_rules.proofs.terms.+terms.Goals as goal
 

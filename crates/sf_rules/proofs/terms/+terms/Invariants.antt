@@ -1,7 +1,7 @@
 use Rattle.std.proofs.Common.{◌≡◌, map, take}
 use Rattle.sf_core.specs.Program.View.{conjunct_of}
 use Rattle.sf_sym.specs.Mapped.{conjunct_with}
-use Rattle.sf_rules.specs.Internal.Terms.{terms_of}
+use Rattle.sf_rules.specs.Checked.Terms.{terms_of}
 use Rattle.sf_rules.proofs.terms.+terms.Given as goal
 
 abbrev pub invariant-with_terms-loop-c : goal.invariant-with_terms-loop-c

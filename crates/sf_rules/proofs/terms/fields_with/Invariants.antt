@@ -1,6 +1,6 @@
 use Rattle.std.proofs.Common.{◌≡◌, map, take}
 use Rattle.sf_sym.specs.Mapped.{operand_with}
-use Rattle.sf_rules.specs.Internal.Terms.{terms_of}
+use Rattle.sf_rules.specs.Checked.Terms.{terms_of}
 use Rattle.sf_rules.proofs.terms.fields_with.Given as goal
 
 abbrev pub invariant-loop-f : goal.invariant-loop-f

@@ -2,7 +2,7 @@ use Rattle.std.proofs.Common.{◌+◌, ◌<◌, ◌≤◌, arith}
 use Rattle.sf_base.proofs.Options.{some-holds}
 use Rattle.sf_core.specs.Program.ProgramView.{program_of}
 use Rattle.sf_machine.specs.Configs.{config_of}
-use Rattle.sf_run.specs.Internal.Turns.{Halts}
+use Rattle.sf_run.specs.Checked.Turns.{Halts}
 use Rattle.sf_run.proofs.Turns.{halt-turn, last-turn, next-turn, none-turn}
 use Rattle.sf_run.proofs.running.run_alone.Goals as goal
 

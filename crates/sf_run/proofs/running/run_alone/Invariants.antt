@@ -1,7 +1,7 @@
 use Rattle.std.proofs.Common.{length}
 use Rattle.sf_core.specs.Program.ProgramView.{program_of}
 use Rattle.sf_machine.specs.Configs.{config_of}
-use Rattle.sf_run.specs.Internal.Turns.{IsBlank, IsTurn}
+use Rattle.sf_run.specs.Checked.Turns.{IsBlank, IsTurn}
 use Rattle.sf_run.proofs.running.run_alone.Given as goal
 
 -- the unit's turn has come, and the event is still blank

@@ -1,13 +1,13 @@
 use Rattle.std.proofs.Common.{◌≡◌, ◌∙◌, ◌<◌, List, [], Bool, Contains, None, length, map, false, true≢false, ap, refl, sym, subst, arith}
 use Rattle.std.proofs.lemmas.Grind.{common_steps}
 use Rattle.std.proofs.lemmas.List.{length-map}
-use Rattle.sf_calls.specs.Internal.Tests.{callees_in}
-use Rattle.sf_calls.specs.Internal.Visited.{IsVisited}
+use Rattle.sf_calls.specs.Checked.Tests.{callees_in}
+use Rattle.sf_calls.specs.Checked.Visited.{IsVisited}
 use Rattle.sf_core.specs.Program.Heads.{Site, sites}
 use Rattle.sf_core.specs.Program.ProgramView.{program_of}
 use Rattle.sf_core.specs.Program.Sites.{site_of}
 use Rattle.sf_core.specs.Program.View.{block_of, procedure_of}
-use Rattle.sf_run.specs.Internal.Searches.{HasFork, VisitsOrForks}
+use Rattle.sf_run.specs.Checked.Searches.{HasFork, VisitsOrForks}
 use Rattle.sf_run.proofs.Searching.{none_visited, search_ends, search_forks, search_goes_on, search_starts, search_within, sites_within}
 use Rattle.sf_run.proofs.sequential.is_sequential.Goals as goal
 

@@ -1,5 +1,5 @@
 use Rattle.std.proofs.Common.{◌+◌, length}
-use Rattle.sf_calls.specs.Internal.Visited.{unvisited}
+use Rattle.sf_calls.specs.Checked.Visited.{unvisited}
 use Rattle.sf_core.specs.Program.ProgramView.{program_of}
 use Rattle.sf_run.proofs.Searching.{IsSearch}
 use Rattle.sf_run.proofs.sequential.is_sequential.Given as goal

@@ -1,4 +1,4 @@
-use Rattle.sf_calls.specs.Lemmas.Searches.{visit_new, visit_old}
+use Rattle.sf_calls.specs.Checked.Lemmas.Searches.{visit_new, visit_old}
 use Rattle.sf_run.proofs.sequential.visit.Goals as goal
 
 pub returns-in_ok-push : goal.returns-in_ok-push

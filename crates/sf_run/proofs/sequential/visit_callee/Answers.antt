@@ -1,7 +1,7 @@
 use Rattle.std.proofs.Common.{◌∙◌, List, [], Contains, ap, inl, refl, subst, sym}
 use Rattle.sf_base.proofs.Elements.{contains-cons}
 use Rattle.sf_base.specs.declared.ids.ProcId.{ProcId}
-use Rattle.sf_run.specs.Internal.Searches.{listed}
+use Rattle.sf_run.specs.Checked.Searches.{listed}
 use Rattle.sf_run.proofs.sequential.visit_callee.Goals as goal
 
 pub visit-requires : goal.visit-requires

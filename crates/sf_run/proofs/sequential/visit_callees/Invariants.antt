@@ -1,7 +1,7 @@
 use Rattle.std.proofs.Common.{◌≡◌, drop, length, map, Bool, List}
 use Rattle.sf_base.specs.declared.ids.ProcId.{ProcId}
 use Rattle.sf_core.specs.Program.Sites.{site_of}
-use Rattle.sf_run.specs.Internal.Searches.{VisitsOrForks}
+use Rattle.sf_run.specs.Checked.Searches.{VisitsOrForks}
 use Rattle.sf_run.proofs.sequential.visit_callees.Given as goal
 
 -- what comes of the sites that are left comes of all

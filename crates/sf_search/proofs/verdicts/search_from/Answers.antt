@@ -1,10 +1,10 @@
 use Rattle.std.proofs.Common.{◌≡◌, ◌+◌, ◌<◌, ◌∙◌, ap, sym, subst, [], ◌∷◌, ◌++◌, length, arith, refl, rules, length-append}
 use Rattle.sf_base.specs.declared.limits.TheConstants.{PROCEDURE_TAGS}
-use Rattle.sf_rules.specs.Internal.Children.{stack_of}
+use Rattle.sf_rules.specs.Checked.Children.{stack_of}
 use Rattle.sf_search.proofs.Leading.{Leads, leads_on, leads_end, leads_fault, no_goals, stack_push}
 use Rattle.sf_search.proofs.KnownNext.{known_of_first}
-use Rattle.sf_search.specs.Internal.Choosing.{choice_of, kind_of}
-use Rattle.sf_search.specs.Internal.Knowing.{IsKnownOfFirst}
+use Rattle.sf_search.specs.Checked.Choosing.{choice_of, kind_of}
+use Rattle.sf_search.specs.Checked.Knowing.{IsKnownOfFirst}
 use Rattle.sf_search.specs.Judge.{large, proved, stuck}
 use Rattle.sf_sym.specs.Goal.{goal_of}
 use Rattle.sf_search.proofs.verdicts.search_from.Goals as goal

@@ -1,8 +1,8 @@
 use Rattle.std.proofs.Common.{◌≤◌, ◌-◌, [], ◌∷◌, length}
 use Rattle.sf_base.specs.declared.limits.TheConstants.{PROCEDURE_TAGS}
-use Rattle.sf_rules.specs.Internal.Children.{stack_of}
+use Rattle.sf_rules.specs.Checked.Children.{stack_of}
 use Rattle.sf_search.proofs.Leading.{Leads}
-use Rattle.sf_search.specs.Internal.Knowing.{IsKnownOfFirst}
+use Rattle.sf_search.specs.Checked.Knowing.{IsKnownOfFirst}
 use Rattle.sf_sym.specs.Goal.{goal_of}
 use Rattle.sf_search.proofs.verdicts.search_from.Given as goal
 

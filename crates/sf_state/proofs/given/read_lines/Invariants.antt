@@ -1,6 +1,6 @@
 use Rattle.std.proofs.Common.{◌≤◌, ◌+◌, length}
 use Rattle.sf_core.specs.Program.ProgramView.{program_of}
-use Rattle.sf_state.specs.Internal.Keeping.{Reading}
+use Rattle.sf_state.specs.Checked.Keeping.{Reading}
 use Rattle.sf_lines.specs.Lines.{bytes_left, lines_left}
 use Rattle.sf_state.proofs.given.read_lines.Given as goal
 

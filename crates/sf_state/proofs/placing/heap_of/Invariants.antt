@@ -1,5 +1,5 @@
 use Rattle.std.specs.BTreeMap.{btree_map_len}
-use Rattle.sf_state.specs.Internal.Placing.{Placing}
+use Rattle.sf_state.specs.Checked.Placing.{Placing}
 use Rattle.sf_state.proofs.placing.heap_of.Given as goal
 
 -- the cells are in the heap or are left

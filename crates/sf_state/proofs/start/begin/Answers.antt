@@ -7,8 +7,8 @@ use Rattle.sf_core.specs.Program.View.{procedure_of}
 use Rattle.sf_foot.specs.Starting.{IsFirstUnit, StartsWith}
 use Rattle.sf_foot.specs.Variables.{value_of}
 use Rattle.sf_heap.specs.declared.locations.Locations.{Locations}
-use Rattle.sf_state.specs.Internal.Beginning.{Fits}
-use Rattle.sf_state.specs.Internal.Found.{AreFound}
+use Rattle.sf_state.specs.Checked.Beginning.{Fits}
+use Rattle.sf_state.specs.Checked.Found.{AreFound}
 use Rattle.sf_state.specs.Starts.{assertions_of}
 use Rattle.sf_state.proofs.Beginning.{begin-all, begin-left_over, begin-starts}
 use Rattle.sf_state.proofs.NextFound.{some-then, there-at}

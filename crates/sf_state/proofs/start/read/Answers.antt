@@ -4,7 +4,7 @@ use Rattle.sf_base.proofs.Options.{some-holds}
 use Rattle.sf_core.specs.Program.ProgramView.{program_of}
 use Rattle.sf_core.specs.Program.Syntax.{Procedure}
 use Rattle.sf_core.specs.Program.View.{assertion_of, procedure_of}
-use Rattle.sf_state.specs.Internal.Beginning.{Begins, Fits}
+use Rattle.sf_state.specs.Checked.Beginning.{Begins, Fits}
 use Rattle.sf_state.specs.Names.{names_of}
 use Rattle.sf_state.specs.Starts.{DecidesStart}
 use Rattle.sf_state.specs.Stated.{Gives, text_refusal}

@@ -1,6 +1,6 @@
 use Rattle.std.proofs.Common.{◌≡◌, ◌⊎◌, ◌∙◌, ℕ, inl, inr, refl, subst, sym}
 use Rattle.std.proofs.lemmas.Option.{same_Some}
-use Rattle.sf_state.specs.Internal.FirstUnit.{IsInCell, IsValueIn}
+use Rattle.sf_state.specs.Checked.FirstUnit.{IsInCell, IsValueIn}
 use Rattle.sf_state.proofs.Raising.{raises-same, raises-then}
 use Rattle.sf_state.proofs.unit.above_cell.Goals as goal
 

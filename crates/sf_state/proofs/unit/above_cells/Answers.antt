@@ -1,4 +1,4 @@
-use Rattle.sf_state.specs.Internal.FirstUnit.{IsInCell}
+use Rattle.sf_state.specs.Checked.FirstUnit.{IsInCell}
 use Rattle.sf_state.proofs.Raising.{bounds-one, raises-more, read-at}
 use Rattle.sf_state.proofs.unit.above_cells.Goals as goal
 

@@ -1,5 +1,5 @@
 use Rattle.std.proofs.Common.{take}
-use Rattle.sf_state.specs.Internal.FirstUnit.{IsInCell, IsOfOne, Raises}
+use Rattle.sf_state.specs.Checked.FirstUnit.{IsInCell, IsOfOne, Raises}
 use Rattle.sf_state.proofs.unit.above_cells.Given as goal
 
 -- it is raised above those so far

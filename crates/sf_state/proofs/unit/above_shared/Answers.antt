@@ -1,6 +1,6 @@
 use Rattle.std.proofs.Common.{subst, sym, Global, Vec}
 use Rattle.sf_base.specs.declared.value.Value.{Value}
-use Rattle.sf_state.specs.Internal.FirstUnit.{AreInBounds, IsValueIn, Raises}
+use Rattle.sf_state.specs.Checked.FirstUnit.{AreInBounds, IsValueIn, Raises}
 use Rattle.sf_state.proofs.Raising.{bounds-one, raises-more}
 use Rattle.sf_state.proofs.unit.above_shared.Goals as goal
 

@@ -1,5 +1,5 @@
 use Rattle.sf_base.specs.declared.value.Value.TheVariants.{Nil as nil}
-use Rattle.sf_state.specs.Internal.FirstUnit.{IsLocation}
+use Rattle.sf_state.specs.Checked.FirstUnit.{IsLocation}
 use Rattle.sf_state.proofs.Raising.{bounds-one, raises-more, read-at}
 use Rattle.sf_state.proofs.unit.above_values.Goals as goal
 

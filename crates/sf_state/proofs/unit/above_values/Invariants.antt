@@ -1,5 +1,5 @@
 use Rattle.std.proofs.Common.{take}
-use Rattle.sf_state.specs.Internal.FirstUnit.{IsLocation, IsOfOne, Raises}
+use Rattle.sf_state.specs.Checked.FirstUnit.{IsLocation, IsOfOne, Raises}
 use Rattle.sf_state.proofs.unit.above_values.Given as goal
 
 -- it is raised above those so far

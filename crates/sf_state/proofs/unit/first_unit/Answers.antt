@@ -1,6 +1,6 @@
 use Rattle.std.proofs.Common.{subst, sym, Global, Vec}
 use Rattle.sf_base.specs.declared.value.Value.{Value}
-use Rattle.sf_state.specs.Internal.FirstUnit.{AreInBounds, IsInCell, IsOfOne, IsValueIn, Raises}
+use Rattle.sf_state.specs.Checked.FirstUnit.{AreInBounds, IsInCell, IsOfOne, IsValueIn, Raises}
 use Rattle.sf_state.proofs.Mentions.{mentioned-cells, mentioned-own, mentioned-shared, unit-first}
 use Rattle.sf_state.proofs.unit.first_unit.Goals as goal
 

@@ -1,5 +1,5 @@
 use Rattle.std.proofs.Common.{◌≡◌, ◌+◌, length}
-use Rattle.sf_sym.specs.Internal.Places.{place_of}
+use Rattle.sf_sym.specs.Checked.Places.{place_of}
 use Rattle.sf_sym.proofs.fields.place_of.Given as goal
 
 abbrev pub invariant-loop-first : goal.invariant-loop-first

@@ -1,5 +1,5 @@
 use Rattle.std.proofs.Common.{◌≡◌, length}
-use Rattle.sf_sym.specs.Internal.OwnRoots.{first_at_constant}
+use Rattle.sf_sym.specs.Checked.OwnRoots.{first_at_constant}
 use Rattle.sf_sym.proofs.roots.first_at_constant.Given as goal
 
 abbrev pub invariant-loop-first : goal.invariant-loop-first

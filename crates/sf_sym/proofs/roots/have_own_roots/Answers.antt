@@ -3,7 +3,7 @@ use Rattle.std.proofs.lemmas.Bool.{OnTrue_at, OnTrue_from}
 use Rattle.std.specs.BTreeSet.{contains}
 use Rattle.std.specs.Ordering.{nat_cmp}
 use Rattle.sf_sym.specs.declared.atom.Numbered.{Numbered}
-use Rattle.sf_sym.specs.Internal.OwnRoots.{AreApart, root_place}
+use Rattle.sf_sym.specs.Checked.OwnRoots.{AreApart, root_place}
 use Rattle.sf_sym.proofs.OwnRoots.{begin-all, none-there}
 use Rattle.sf_sym.proofs.roots.have_own_roots.Goals as goal
 

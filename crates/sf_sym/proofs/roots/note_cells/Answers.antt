@@ -1,7 +1,7 @@
 use Rattle.std.proofs.Common.{◌++◌, sym, ap, ◌∙◌, subst}
 use Rattle.std.specs.BTreeSet.{contains}
 use Rattle.std.specs.Ordering.{nat_cmp}
-use Rattle.sf_sym.specs.Internal.OwnRoots.{AreApart, cell_place, symbols_at}
+use Rattle.sf_sym.specs.Checked.OwnRoots.{AreApart, cell_place, symbols_at}
 use Rattle.sf_sym.proofs.OwnRoots.{begin-next, symbols-next}
 use Rattle.sf_sym.proofs.roots.note_cells.Goals as goal
 

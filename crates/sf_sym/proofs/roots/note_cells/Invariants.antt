@@ -2,7 +2,7 @@ use Rattle.std.proofs.Common.{◌≡◌, ℕ, List, ◌++◌, length}
 use Rattle.std.specs.BTreeSet.{contains}
 use Rattle.std.specs.Ordering.{nat_cmp}
 use Rattle.sf_sym.specs.declared.atom.Numbered.{Numbered}
-use Rattle.sf_sym.specs.Internal.OwnRoots.{AreApart, cell_place, symbols_at}
+use Rattle.sf_sym.specs.Checked.OwnRoots.{AreApart, cell_place, symbols_at}
 use Rattle.sf_sym.proofs.roots.note_cells.Given as goal
 
 abbrev pub invariant-loop-first : goal.invariant-loop-first

@@ -1,7 +1,7 @@
 use Rattle.std.proofs.Common.{◌++◌, sym, subst}
 use Rattle.std.specs.BTreeSet.{contains}
 use Rattle.std.specs.Ordering.{nat_cmp}
-use Rattle.sf_sym.specs.Internal.OwnRoots.{AreApart, root_place}
+use Rattle.sf_sym.specs.Checked.OwnRoots.{AreApart, root_place}
 use Rattle.sf_sym.proofs.OwnRoots.{begin-next}
 use Rattle.sf_sym.proofs.roots.note_roots.Goals as goal
 

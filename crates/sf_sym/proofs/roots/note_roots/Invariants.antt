@@ -2,7 +2,7 @@ use Rattle.std.proofs.Common.{List, ◌++◌, length}
 use Rattle.std.specs.BTreeSet.{contains}
 use Rattle.std.specs.Ordering.{nat_cmp}
 use Rattle.sf_sym.specs.declared.atom.Numbered.{Numbered}
-use Rattle.sf_sym.specs.Internal.OwnRoots.{AreApart, root_place}
+use Rattle.sf_sym.specs.Checked.OwnRoots.{AreApart, root_place}
 use Rattle.sf_sym.proofs.roots.note_roots.Given as goal
 
 abbrev pub invariant-loop-first : goal.invariant-loop-first

@@ -1,7 +1,7 @@
 use Rattle.std.proofs.Common.{[], ◌∙◌}
 use Rattle.std.specs.BTreeSet.{contains}
 use Rattle.std.specs.Ordering.{nat_cmp}
-use Rattle.sf_sym.specs.Internal.OwnRoots.{cell_place}
+use Rattle.sf_sym.specs.Checked.OwnRoots.{cell_place}
 use Rattle.sf_sym.proofs.OwnRoots.{begin-all, none-there, symbols-all}
 use Rattle.sf_sym.proofs.roots.own_cells.Goals as goal
 

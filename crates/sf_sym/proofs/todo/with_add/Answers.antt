@@ -1,7 +1,7 @@
 use Rattle.std.proofs.Common.{rules, ap, ◌∙◌}
 use Rattle.sf_sym.specs.Goal.{add, todo_of}
 use Rattle.sf_sym.specs.Pending.{pending_of}
-use Rattle.sf_sym.specs.Lemmas.{todo_of_push}
+use Rattle.sf_sym.specs.Checked.Lemmas.{todo_of_push}
 use Rattle.sf_sym.proofs.Items.{unless_empty_before, unless_some_before}
 use Rattle.sf_sym.proofs.todo.with_add.Goals as goal
 

@@ -1,5 +1,5 @@
 use Rattle.std.proofs.Common.{◌≡◌, ◌+◌, length}
-use Rattle.sf_sym.specs.Internal.VariablePlaces.{place_of}
+use Rattle.sf_sym.specs.Checked.VariablePlaces.{place_of}
 use Rattle.sf_sym.proofs.vars.place_of.Given as goal
 
 abbrev pub invariant-loop-first : goal.invariant-loop-first

@@ -1,6 +1,6 @@
 use Rattle.std.proofs.Common.{◌≡◌, true, false, slice_get, slice_set, rules, ap, ◌∙◌, subst}
 use Rattle.std.specs.List.{insert}
-use Rattle.sf_sym.specs.Internal.VariablePlaces.{is_var, place_of}
+use Rattle.sf_sym.specs.Checked.VariablePlaces.{is_var, place_of}
 use Rattle.sf_sym.proofs.VariableLists.{set-new, set-there}
 use Rattle.sf_sym.proofs.vars.set_in_room.Goals as goal
 

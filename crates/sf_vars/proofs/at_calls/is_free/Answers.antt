@@ -1,7 +1,7 @@
 use Rattle.std.proofs.Common.{◌≡◌, []}
 use Rattle.std.specs.Bool.{one_answer}
 use Rattle.std.proofs.lemmas.Option.{get_or_from_slice_get}
-use Rattle.sf_vars.specs.Internal.Search.{is_in, free_of}
+use Rattle.sf_vars.specs.Checked.Search.{is_in, free_of}
 use Rattle.sf_vars.proofs.Meets.{is_in_is}
 use Rattle.sf_vars.proofs.at_calls.is_free.Goals as goal
 

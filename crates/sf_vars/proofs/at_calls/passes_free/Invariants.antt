@@ -1,6 +1,6 @@
 use Rattle.std.proofs.Common.{◌≡◌, drop}
 use Rattle.sf_calls.specs.declared.breach.Breach.TheVariants.{ReferenceIsFree}
-use Rattle.sf_vars.specs.Internal.Search.{found, free_of, is_in, search_in}
+use Rattle.sf_vars.specs.Checked.Search.{found, free_of, is_in, search_in}
 use Rattle.sf_vars.proofs.at_calls.passes_free.Given as goal
 
 -- what was passed breaks nothing

@@ -1,5 +1,5 @@
 use Rattle.std.proofs.Common.{◌≡◌, [], drop, take}
-use Rattle.sf_vars.specs.Internal.Search.{repeats}
+use Rattle.sf_vars.specs.Checked.Search.{repeats}
 use Rattle.sf_vars.proofs.at_calls.repeats.Given as goal
 
 -- what was passed repeats nothing, and is what comes before the rest

@@ -1,5 +1,5 @@
 use Rattle.std.proofs.Common.{◌≡◌, drop}
-use Rattle.sf_vars.specs.Internal.Search.{taken_held}
+use Rattle.sf_vars.specs.Checked.Search.{taken_held}
 use Rattle.sf_vars.proofs.at_calls.taken_held.Given as goal
 
 -- what was passed breaks nothing

@@ -1,6 +1,6 @@
 use Rattle.std.proofs.Common.{◌≡◌, drop, map}
 use Rattle.sf_core.specs.Program.View.{procedure_of}
-use Rattle.sf_vars.specs.Internal.Search.{in_procedures}
+use Rattle.sf_vars.specs.Checked.Search.{in_procedures}
 use Rattle.sf_vars.proofs.condition.first_breach.Given as goal
 
 -- what was passed breaks nothing

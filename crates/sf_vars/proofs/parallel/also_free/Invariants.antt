@@ -1,5 +1,5 @@
 use Rattle.std.proofs.Common.{◌≡◌, drop}
-use Rattle.sf_vars.specs.Internal.Search.{also_free}
+use Rattle.sf_vars.specs.Checked.Search.{also_free}
 use Rattle.sf_vars.proofs.parallel.also_free.Given as goal
 
 -- what was passed breaks nothing

@@ -1,6 +1,6 @@
 use Rattle.std.proofs.Common.{◌≡◌, drop}
 use Rattle.sf_core.specs.Program.View.{call_of}
-use Rattle.sf_vars.specs.Internal.Search.{shared_among}
+use Rattle.sf_vars.specs.Checked.Search.{shared_among}
 use Rattle.sf_vars.proofs.parallel.shared_among.Given as goal
 
 -- what was passed breaks nothing

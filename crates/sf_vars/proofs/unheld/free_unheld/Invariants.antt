@@ -1,5 +1,5 @@
 use Rattle.std.proofs.Common.{◌≡◌, drop}
-use Rattle.sf_vars.specs.Internal.Search.{free_unheld}
+use Rattle.sf_vars.specs.Checked.Search.{free_unheld}
 use Rattle.sf_vars.proofs.unheld.free_unheld.Given as goal
 
 -- what was passed breaks nothing

@@ -1,5 +1,5 @@
 use Rattle.std.proofs.Common.{◌≡◌, drop}
-use Rattle.sf_vars.specs.Internal.Search.{unheld}
+use Rattle.sf_vars.specs.Checked.Search.{unheld}
 use Rattle.sf_vars.proofs.unheld.unheld.Given as goal
 
 -- what was passed breaks nothing

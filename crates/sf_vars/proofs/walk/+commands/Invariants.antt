@@ -1,6 +1,6 @@
 use Rattle.std.proofs.Common.{◌≡◌, drop}
 use Rattle.sf_core.specs.Program.View.{block_of}
-use Rattle.sf_vars.specs.Internal.Search.{BlockFits, in_block}
+use Rattle.sf_vars.specs.Checked.Search.{BlockFits, in_block}
 use Rattle.sf_vars.proofs.walk.+commands.Given as goal
 
 -- what was passed breaks nothing, and what is left fits

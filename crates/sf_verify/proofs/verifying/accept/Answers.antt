@@ -1,4 +1,4 @@
-use Rattle.sf_search.specs.Laws.{TakenTagsProve}
+use Rattle.sf_search.specs.Checked.Laws.{TakenTagsProve}
 use Rattle.sf_verify.proofs.verifying.accept.Goals as goal
 
 -- the tags of a verdict prove the program, so the checker accepts them

@@ -1,6 +1,6 @@
 use Rattle.std.proofs.Common.{rules, ap, ap₂, ◌≡◌, ◌∙◌}
 use Rattle.clap.specs.Words.{App, app_of, rule_of, with_rule, with_subcommand}
-use Rattle.sf_words.specs.Internal.Forms.{bare_form, operands_rule}
+use Rattle.sf_words.specs.Checked.Forms.{bare_form, operands_rule}
 use Rattle.sf_words.proofs.forms.bare.Goals as goal
 
 pub returns : goal.returns

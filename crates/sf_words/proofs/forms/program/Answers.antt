@@ -1,7 +1,7 @@
 use Rattle.std.proofs.Common.{ap, codes, true, ◌≡◌, ◌∙◌}
 use Rattle.clap.specs.Simple.{app_of_fields, on_top}
 use Rattle.clap.specs.Words.{App, Shape, app_of, new_app, with_subcommand}
-use Rattle.sf_words.specs.Internal.Forms.{bare_form, run_form, silent, verify_form}
+use Rattle.sf_words.specs.Checked.Forms.{bare_form, run_form, silent, verify_form}
 use Rattle.sf_words.proofs.forms.program.Goals as goal
 
 pub returns : goal.returns

@@ -2,8 +2,8 @@ use Rattle.std.proofs.Common.{◌∙◌, List, ap, ap₂, codes, sym}
 use Rattle.clap.proofs.WalkLemmas.{raw_values-rows}
 use Rattle.clap.specs.Words.{found_of, rows_of}
 use Rattle.sf_words.proofs.Rows.{texts-rows}
-use Rattle.sf_words.specs.Internal.Forms.{operands_id, values_at}
-use Rattle.sf_words.specs.Internal.Found.{order_found, texts_under}
+use Rattle.sf_words.specs.Checked.Forms.{operands_id, values_at}
+use Rattle.sf_words.specs.Checked.Found.{order_found, texts_under}
 use Rattle.sf_words.specs.Words.{Text, demo_of, recheck_of, run_of, steps_of, verify_of, waits_of, workers_of}
 use Rattle.sf_words.proofs.given.order.Goals as goal
 

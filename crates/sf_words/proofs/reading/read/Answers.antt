@@ -2,7 +2,7 @@ use Rattle.std.proofs.Common.{◌∙◌, ap, inr, refl, rules, sym}
 use Rattle.sf_words.proofs.Answered.{answer-met, answer-refused}
 use Rattle.sf_words.proofs.Bundles.{bundle-none}
 use Rattle.sf_words.proofs.Ranges.{range-read}
-use Rattle.sf_words.specs.Internal.Found.{met_order}
+use Rattle.sf_words.specs.Checked.Found.{met_order}
 use Rattle.sf_words.specs.WordsOf.{words_of}
 use Rattle.sf_words.proofs.reading.read.Goals as goal
 

@@ -4,7 +4,7 @@ use Rattle.std.proofs.lemmas.List.Sorted.{IsPartitionPoint-from_clause}
 use Rattle.std.proofs.lemmas.Bool.Decides.{Decides-ltb}
 use Rattle.sf_calls.specs.Sets.{is_earlier}
 use Rattle.sf_base.proofs.Variables.{same_var-decides}
-use Rattle.sf_calls.specs.Lemmas.Gathered.{earlier_first, at_point}
+use Rattle.sf_calls.specs.Checked.Lemmas.Gathered.{earlier_first, at_point}
 use Rattle.sf_calls.proofs.set.VarSet.contains.Goals as goal
 
 pub returns-then-at-len : goal.returns-then-at-len

@@ -1,5 +1,5 @@
 use Rattle.sf_check.specs.Accepted.{arranged_in, tags_in}
-use Rattle.sf_check.specs.Laws.{ProvenFromTruncation}
+use Rattle.sf_check.specs.Checked.Laws.{ProvenFromTruncation}
 use Rattle.sf_check.proofs.proof.Proof.proves.Goals as goal
 
 pub returns : goal.returns

@@ -1,5 +1,5 @@
 use Rattle.std.proofs.Common.{◌≡◌, length, reverse}
-use Rattle.sf_foot.specs.Internal.Known.{found_within}
+use Rattle.sf_foot.specs.Checked.Known.{found_within}
 use Rattle.sf_foot.proofs.known.Known.get.Given as goal
 
 -- what the layers say that are left is what all outer layers say

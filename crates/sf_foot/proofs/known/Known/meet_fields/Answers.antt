@@ -1,7 +1,7 @@
 use Rattle.sf_core.specs.Assertions.Sat.{value}
 use Rattle.sf_heap.specs.Cells.{cell_of}
 use Rattle.sf_foot.specs.Variables.{value_of}
-use Rattle.sf_foot.specs.Internal.Known.{FieldsLeft}
+use Rattle.sf_foot.specs.Checked.Known.{FieldsLeft}
 use Rattle.sf_foot.proofs.Drops.{drop-next, drop-none}
 use Rattle.sf_foot.proofs.Knowing.{fields-end, fields-more, fields-stop, fields-within}
 use Rattle.sf_foot.proofs.known.Known.meet_fields.Goals as goal

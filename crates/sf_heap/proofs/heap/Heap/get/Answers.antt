@@ -1,6 +1,6 @@
 use Rattle.std.proofs.Common.{◌∙◌, Some, sym, ap, subst}
 use Rattle.std.specs.FinMap.{get}
-use Rattle.sf_heap.specs.Internal.Entries.{IsAt, IsGap}
+use Rattle.sf_heap.specs.Checked.Entries.{IsAt, IsGap}
 use Rattle.sf_heap.proofs.Edits.{get-at, get-gap}
 use Rattle.sf_heap.proofs.heap.Heap.get.Goals as goal
 

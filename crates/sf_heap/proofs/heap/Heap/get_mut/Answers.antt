@@ -2,7 +2,7 @@ use Rattle.std.proofs.Common.{◌∙◌, Some, sym, ap, subst, inl, inr}
 use Rattle.std.specs.Box.{with_value}
 use Rattle.std.specs.FinMap.{get, insert}
 use Rattle.sf_heap.specs.Cells.{FieldValues}
-use Rattle.sf_heap.specs.Internal.Entries.{IsAt, IsGap}
+use Rattle.sf_heap.specs.Checked.Entries.{IsAt, IsGap}
 use Rattle.sf_heap.proofs.Edits.{get-at, get-gap, location-at, Rises-set, map-set}
 use Rattle.sf_heap.proofs.heap.Heap.get_mut.Goals as goal
 

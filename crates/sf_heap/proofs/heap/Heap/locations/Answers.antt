@@ -1,7 +1,7 @@
 use Rattle.std.proofs.Common.{◌∙◌, Contains, is_some, sym, ap, subst, arith}
 use Rattle.std.proofs.lemmas.List.{take_all}
 use Rattle.std.specs.FinMap.{contains_key, get}
-use Rattle.sf_heap.specs.Internal.Moves.{places}
+use Rattle.sf_heap.specs.Checked.Moves.{places}
 use Rattle.sf_heap.proofs.Entries.{get-map_of}
 use Rattle.sf_heap.proofs.Merges.{found-places, places-found}
 use Rattle.sf_heap.proofs.heap.Heap.locations.Goals as goal

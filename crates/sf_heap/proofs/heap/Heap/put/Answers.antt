@@ -1,6 +1,6 @@
 use Rattle.std.proofs.Common.{◌∙◌, refl, sym, ap, subst}
 use Rattle.std.specs.FinMap.{insert}
-use Rattle.sf_heap.specs.Internal.Entries.{Rises, IsAt, IsGap}
+use Rattle.sf_heap.specs.Checked.Entries.{Rises, IsAt, IsGap}
 use Rattle.sf_heap.proofs.Entries.{map_of}
 use Rattle.sf_heap.proofs.Edits.{has-at, has-gap, Rises-insert, map-insert}
 use Rattle.sf_heap.proofs.heap.Heap.put.Goals as goal

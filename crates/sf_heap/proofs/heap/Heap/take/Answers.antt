@@ -1,6 +1,6 @@
 use Rattle.std.proofs.Common.{◌∙◌, sym, ap, subst}
 use Rattle.std.specs.FinMap.{get, remove}
-use Rattle.sf_heap.specs.Internal.Entries.{Rises, IsAt, IsGap}
+use Rattle.sf_heap.specs.Checked.Entries.{Rises, IsAt, IsGap}
 use Rattle.sf_heap.proofs.Entries.{map_of}
 use Rattle.sf_heap.proofs.Keys.{remove-absent}
 use Rattle.sf_heap.proofs.Edits.{get-at, get-gap, Rises-remove, map-remove}

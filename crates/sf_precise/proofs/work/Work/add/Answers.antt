@@ -1,6 +1,6 @@
 use Rattle.std.proofs.Common.{◌∙◌, refl}
 use Rattle.sf_precise.proofs.Adding.{adds-job_at, ready-as_was, ready-insert}
-use Rattle.sf_precise.specs.Internal.Work.{is_ready}
+use Rattle.sf_precise.specs.Checked.Work.{is_ready}
 use Rattle.sf_precise.proofs.work.Work.add.Goals as goal
 
 pub returns-in_ok-insert : goal.returns-in_ok-insert

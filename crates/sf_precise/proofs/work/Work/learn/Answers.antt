@@ -1,5 +1,5 @@
 use Rattle.std.proofs.Common.{sym, ap, ◌∙◌}
-use Rattle.sf_precise.specs.Internal.Work.{items_or_none}
+use Rattle.sf_precise.specs.Checked.Work.{items_or_none}
 use Rattle.sf_precise.proofs.Learning.{learns-one, learns-unwaited, row-within}
 use Rattle.sf_precise.proofs.work.Work.learn.Goals as goal
 

@@ -1,6 +1,6 @@
 use Rattle.std.proofs.Common.{take}
-use Rattle.sf_precise.specs.Internal.Outer.{field_existentials}
-use Rattle.sf_precise.specs.Internal.Work.{Learns}
+use Rattle.sf_precise.specs.Checked.Outer.{field_existentials}
+use Rattle.sf_precise.specs.Checked.Work.{Learns}
 use Rattle.sf_precise.proofs.work.Work.learn_fields.Given as goal
 
 -- those so far became known

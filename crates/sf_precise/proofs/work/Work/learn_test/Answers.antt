@@ -1,4 +1,4 @@
-use Rattle.sf_precise.specs.Internal.Outer.{existential}
+use Rattle.sf_precise.specs.Checked.Outer.{existential}
 use Rattle.sf_precise.proofs.Learning.{learns-both, learns-none}
 use Rattle.sf_precise.proofs.work.Work.learn_test.Goals as goal
 

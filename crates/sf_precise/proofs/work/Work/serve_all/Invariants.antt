@@ -1,5 +1,5 @@
 use Rattle.std.proofs.Common.{take}
-use Rattle.sf_precise.specs.Internal.Work.{Serves}
+use Rattle.sf_precise.specs.Checked.Work.{Serves}
 use Rattle.sf_precise.proofs.work.Work.serve_all.Given as goal
 
 -- for those so far

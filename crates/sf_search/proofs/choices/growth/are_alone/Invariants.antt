@@ -1,5 +1,5 @@
 use Rattle.std.proofs.Common.{◌≡◌, length}
-use Rattle.sf_search.specs.Internal.Growth.{are_alone, is_free_before}
+use Rattle.sf_search.specs.Checked.Growth.{are_alone, is_free_before}
 use Rattle.sf_search.proofs.choices.growth.are_alone.Given as goal
 
 abbrev pub invariant-loop-first : goal.invariant-loop-first

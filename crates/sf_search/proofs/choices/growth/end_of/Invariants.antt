@@ -1,5 +1,5 @@
 use Rattle.std.proofs.Common.{◌≡◌, length}
-use Rattle.sf_search.specs.Internal.Growth.{end_of}
+use Rattle.sf_search.specs.Checked.Growth.{end_of}
 use Rattle.sf_search.proofs.choices.growth.end_of.Given as goal
 
 abbrev pub invariant-loop-first : goal.invariant-loop-first

@@ -2,8 +2,8 @@ use Rattle.std.proofs.Common.{◌≡◌, IfNone, None, ap, sym, subst, ◌∙◌
 use Rattle.std.specs.Option.{option_map}
 use Rattle.sf_search.proofs.Fewer.{map-none}
 use Rattle.sf_search.proofs.Lowest.{forced_is_lowest, nothing_is_lowest, state_forced, state_none}
-use Rattle.sf_search.specs.Internal.Choosing.{choice_of}
-use Rattle.sf_search.specs.Internal.Settled.{IsSettled}
+use Rattle.sf_search.specs.Checked.Choosing.{choice_of}
+use Rattle.sf_search.specs.Checked.Settled.{IsSettled}
 use Rattle.sf_search.specs.Strategy.{lowest, lowest_forced, or_else, which}
 use Rattle.sf_sym.specs.Known.{first_nothing, is_nothing}
 use Rattle.sf_sym.specs.Tests.{is_absurd}

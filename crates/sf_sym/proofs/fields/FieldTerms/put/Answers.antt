@@ -1,7 +1,7 @@
 use Rattle.std.proofs.Common.{rules, sym, subst, ap, ◌∙◌}
 use Rattle.sf_sym.specs.Fields.{AreOrdered, put_term}
 use Rattle.sf_sym.proofs.PutTerms.{put-lent, put-in}
-use Rattle.sf_sym.specs.Lemmas.{put-order}
+use Rattle.sf_sym.specs.Checked.Lemmas.{put-order}
 use Rattle.sf_sym.proofs.fields.FieldTerms.put.Goals as goal
 
 pub invariant_of-self : goal.invariant_of-self

@@ -1,5 +1,5 @@
 use Rattle.std.proofs.Common.{◌≡◌, ◌∙◌, None, Some, sym, ap, rules}
-use Rattle.sf_sym.specs.Internal.Indices.{index_from}
+use Rattle.sf_sym.specs.Checked.Indices.{index_from}
 use Rattle.sf_sym.specs.declared.atom.Numbered.{Numbered}
 use Rattle.sf_sym.proofs.Indices.{atom_found, no_atom}
 use Rattle.sf_sym.proofs.parts.Parts.atom.Goals as goal

@@ -1,5 +1,5 @@
 use Rattle.std.proofs.Common.{◌≡◌, None, Some, rules, sym}
-use Rattle.sf_sym.specs.Internal.Indices.{index_from}
+use Rattle.sf_sym.specs.Checked.Indices.{index_from}
 use Rattle.sf_sym.proofs.Indices.{atom_found, is_at, no_atom, nothing_without}
 use Rattle.sf_sym.proofs.parts.Parts.take_out.Goals as goal
 

@@ -1,7 +1,7 @@
 use Rattle.std.proofs.Common.{◌≡◌, length}
 use Rattle.std.specs.BTreeSet.{contains}
 use Rattle.std.specs.Ordering.{nat_cmp}
-use Rattle.sf_sym.specs.Internal.OwnRoots.{first_unsettled}
+use Rattle.sf_sym.specs.Checked.OwnRoots.{first_unsettled}
 use Rattle.sf_sym.proofs.state.State.first_unsettled.Given as goal
 
 abbrev pub invariant-loop-first : goal.invariant-loop-first

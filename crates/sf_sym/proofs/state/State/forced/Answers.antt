@@ -1,7 +1,7 @@
 use Rattle.std.proofs.Common.{sym, ap, ◌∙◌}
 use Rattle.std.specs.BTreeSet.{contains}
 use Rattle.std.specs.Ordering.{nat_cmp}
-use Rattle.sf_sym.specs.Internal.OwnRoots.{first_at_constant}
+use Rattle.sf_sym.specs.Checked.OwnRoots.{first_at_constant}
 use Rattle.sf_sym.proofs.OwnRoots.{own_cells_forced, own_forced}
 use Rattle.sf_sym.proofs.state.State.forced.Goals as goal
 

@@ -1,5 +1,5 @@
 use Rattle.std.proofs.Common.{◌≡◌, drop}
-use Rattle.sf_vars.specs.Internal.Search.{none_held, with_all}
+use Rattle.sf_vars.specs.Checked.Search.{none_held, with_all}
 use Rattle.sf_vars.proofs.held.Held.of.Given as goal
 
 -- those that are left are missing

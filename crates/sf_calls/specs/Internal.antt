@@ -1,5 +1,0 @@
-pub mod Gathers
-pub mod Listed
-pub mod Visited
-pub mod Tests
-pub mod Summaries

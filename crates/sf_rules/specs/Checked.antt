@@ -1,0 +1,11 @@
+-- What is checked and need not be believed: laws, worked examples, lemmas, and definitions that only proofs use.
+-- One module for each.
+pub mod Children
+pub mod Examples
+pub mod Front
+pub mod LawsOfCommands
+pub mod LawsOfConjuncts
+pub mod LawsOfSettings
+pub mod Lemmas
+pub mod RowCases
+pub mod Terms

@@ -1,3 +1,0 @@
-pub mod Front
-pub mod Children
-pub mod Terms

@@ -1,0 +1,11 @@
+-- What is checked and need not be believed: laws, worked examples, lemmas, and definitions that only proofs use.
+-- One module for each.
+pub mod Contract
+pub mod Examples
+pub mod Invariant
+pub mod Lemmas
+pub mod Local
+pub mod LocalSafe
+pub mod Own
+pub mod Safe
+pub mod Unbroken

@@ -1,0 +1,10 @@
+-- What is checked and need not be believed: laws, worked examples, lemmas, and definitions that only proofs use.
+-- One module for each.
+pub mod Examples
+pub mod Indices
+pub mod Items
+pub mod Laws
+pub mod Lemmas
+pub mod OwnRoots
+pub mod Places
+pub mod VariablePlaces
