@@ -8,7 +8,7 @@ use Rattle.sf_base.proofs.Elements.{contains-decides}
 use Rattle.sf_base.specs.declared.ids.ProcId.{ProcId}
 use Rattle.sf_base.specs.declared.ids.ResId.{ResId}
 use Rattle.sf_base.specs.declared.ids.Var.{Var}
-use Rattle.sf_core.specs.Machine.HeldBy.{HeldBy}
+use Rattle.sf_core.specs.Machine.HasThroughout.{HasThroughout}
 use Rattle.sf_calls.specs.Conditions.{Free, Takes}
 use Rattle.sf_calls.specs.Checked.Laws.{SetsFromTruncation}
 use Rattle.sf_calls.specs.Sets.{IsEarlier, IsEarlierResource, IsFamily, IsSetOf}
@@ -55,9 +55,9 @@ sets_had p sets h = record {
       (λ f. set_had (λ r q. r.0 == q.0) resource-decides IsEarlierResource earlier_resource_had (Takes p f)
       (takes_decidable p f)) _ sets.takes (∥∥₁_map h (λ s. s.takes));
   holds =
-      family_had _ (HeldBy p)
+      family_had _ (HasThroughout p)
       (λ f. set_had (λ r q. r.0 == q.0) resource-decides IsEarlierResource earlier_resource_had
-      (HeldBy p f) (holds_decidable p f)) _ sets.holds (∥∥₁_map h (λ s. s.holds));
+      (HasThroughout p f) (holds_decidable p f)) _ sets.holds (∥∥₁_map h (λ s. s.holds));
   free =
       family_had _ (Free p)
       (λ f. set_had same_var same_var-decides IsEarlier earlier_had (Free p f) (free_decidable p f)) _ sets.free

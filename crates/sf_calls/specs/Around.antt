@@ -5,7 +5,7 @@ use Rattle.sf_base.specs.declared.ids.ProcId.{ProcId}
 use Rattle.sf_base.specs.declared.ids.ResId.{ResId}
 use Rattle.sf_base.specs.declared.ids.Var.{Var}
 use Rattle.sf_base.specs.declared.ids.Var.TheVariants.{Own, Shared}
-use Rattle.sf_core.specs.Machine.HeldBy.{HeldBy}
+use Rattle.sf_core.specs.Machine.HasThroughout.{HasThroughout}
 use Rattle.sf_core.specs.Program.Syntax.{Call, Program}
 use Rattle.sf_calls.specs.Assigned.{MayChange}
 use Rattle.sf_calls.specs.Outside.{OccursInValues}
@@ -13,7 +13,7 @@ use Rattle.sf_calls.specs.Outside.{OccursInValues}
 -- in the body of f, inside regions of those resources: the resource is held through the whole body, or
 -- entered around
 abbrev pub IsHeld : Program → ProcId → (entered : List ResId) → ResId → Type 0
-IsHeld p f entered r = HeldBy p f r ⊎ Contains entered r
+IsHeld p f entered r = HasThroughout p f r ⊎ Contains entered r
 
 -- it is a variable of a resource that is not held
 abbrev pub IsUnheld : Program → ProcId → (entered : List ResId) → Var → Type 0

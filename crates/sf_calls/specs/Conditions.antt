@@ -1,5 +1,5 @@
 -- What a call of a procedure may enter and use: the least sets on which the conditions on variables
--- rest. The resources that it holds are HeldBy's.
+-- rest. The resources that it holds are HasThroughout's.
 -- After the variable conditions of Berdine, Calcagno and O'Hearn, "Smallfoot" (2005), carried along calls.
 use Rattle.std.specs.Prelude.{◌≡◌, ◌⊎◌, Option, Some, None, slice_get}
 use Rattle.sf_base.specs.declared.ids.ProcId.{ProcId}

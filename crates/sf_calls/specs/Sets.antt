@@ -5,7 +5,7 @@ use Rattle.sf_base.specs.declared.ids.ProcId.{ProcId}
 use Rattle.sf_base.specs.declared.ids.ResId.{ResId}
 use Rattle.sf_base.specs.declared.ids.Var.{Var}
 use Rattle.sf_base.specs.declared.ids.Var.TheVariants.{Own, Shared}
-use Rattle.sf_core.specs.Machine.HeldBy.{HeldBy}
+use Rattle.sf_core.specs.Machine.HasThroughout.{HasThroughout}
 use Rattle.sf_core.specs.Program.Syntax.{Program}
 use Rattle.sf_calls.specs.Conditions.{Takes, Free}
 
@@ -56,5 +56,5 @@ pub record IsFamily {A : Type 0} (Is : (A → Type 0) → List A → Type 0) (P 
 -- the sets are the program's
 pub record AreSetsOf (p : Program) (sets : Sets) : Type 0 where
   pub takes : IsFamily IsResSet (Takes p) (length p.procedures) sets.takes
-  pub holds : IsFamily IsResSet (HeldBy p) (length p.procedures) sets.holds
+  pub holds : IsFamily IsResSet (HasThroughout p) (length p.procedures) sets.holds
   pub free : IsFamily IsVarSet (Free p) (length p.procedures) sets.free

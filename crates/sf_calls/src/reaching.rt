@@ -2,7 +2,7 @@
 
 ghost use Rattle.std.specs.Prelude.{◌≡◌, ◌<◌, length, IfOk, slice_get};
 ghost use Rattle.sf_core.specs.Program.Formed.{variable_count};
-ghost use Rattle.sf_core.specs.Machine.HeldBy.{HeldBy};
+ghost use Rattle.sf_core.specs.Machine.HasThroughout.{HasThroughout};
 ghost use Rattle.sf_core.specs.Program.ProgramView.{program_of};
 ghost use Rattle.sf_calls.specs.Conditions.{Takes, Free};
 ghost use Rattle.sf_calls.specs.Checked.Summaries.{AreSummaries};
@@ -61,7 +61,7 @@ fn holds_sets(
     requires keys { IsSetOf IsEarlierResource (λ r. r.0 < length p.now.resources.items)
         resources.now }
     ensures { IfOk result (λ sets.
-        IsFamily IsResSet (HeldBy (program_of p.now))
+        IsFamily IsResSet (HasThroughout (program_of p.now))
         (length (program_of p.now).procedures) sets.items) }
 {
     let rows = holds_rows(alloc, p, summaries, resources)?;

@@ -1,7 +1,7 @@
 //! For each resource, and for each variable of one, which procedures have it.
 
 ghost use Rattle.std.specs.Prelude.{◌≡◌, ◌<◌, ◌≤◌, ℕ, List, length, All, IfOk, Some, slice_get};
-ghost use Rattle.sf_core.specs.Machine.HeldBy.{HeldBy};
+ghost use Rattle.sf_core.specs.Machine.HasThroughout.{HasThroughout};
 ghost use Rattle.sf_core.specs.Program.ProgramView.{program_of};
 ghost use Rattle.sf_calls.specs.Conditions.{Enters, Mentions, Takes, FreeIn, IsShared};
 ghost use Rattle.sf_calls.specs.Checked.Visited.{AreRows, IsRow, chosen};
@@ -48,7 +48,7 @@ pub fn holds_rows(
     requires { AreSummaries (program_of p.now) summaries.now }
     ensures { IfOk result (λ rows.
         AreRows (length p.now.procedures.items)
-        (HeldBy (program_of p.now)) resources.now rows.items) }
+        (HasThroughout (program_of p.now)) resources.now rows.items) }
 {
     let mut rows = Vec::with_capacity(alloc, resources.len())?;
     for r in resources {
@@ -128,7 +128,7 @@ fn holding(
 ) -> Result<Vec<bool>, AllocError>
     requires { AreSummaries (program_of p.now) summaries.now }
     ensures { IfOk result (λ row.
-        IsRow (length p.now.procedures.items) (λ f. HeldBy (program_of p.now) f r) row.items) }
+        IsRow (length p.now.procedures.items) (λ f. HasThroughout (program_of p.now) f r) row.items) }
 {
     let mut visited = Vec::with_capacity(alloc, p.procedures.len())?;
     for t in summaries {

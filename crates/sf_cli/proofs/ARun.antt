@@ -22,10 +22,10 @@ use Rattle.sf_io.specs.Shelf.{Files}
 use Rattle.sf_lex.specs.Reading.{first_place}
 use Rattle.sf_parse.specs.Checked.Laws.{EachFileIsShallow}
 use Rattle.sf_run.specs.Checked.Laws.{BasesAreFree, BeginningsAreStarts, SequentialIsDecided, StartsHaveOneOutcome, UnitsStayFree}
-use Rattle.sf_run.specs.Lone.{IsBase, IsFreeFrom}
+use Rattle.sf_run.specs.Checked.Lone.{IsBase, IsFreeFrom}
 use Rattle.sf_run.specs.Running.{ComesTo}
 use Rattle.sf_run.specs.Sequential.{IsSequential}
-use Rattle.sf_safe.specs.Law.{IsSound}
+use Rattle.sf_core.specs.Machine.Sound.{IsSound}
 use Rattle.sf_search.specs.Judge.{Judge, Verdict, fails, proof}
 use Rattle.sf_search.specs.Checked.Laws.{TakenTagsProve}
 use Rattle.sf_sound.specs.Proofs.{ProofsAreSound}

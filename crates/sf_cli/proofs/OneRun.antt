@@ -89,9 +89,9 @@ run-comes law p f v w h k t u count one other s c e a b =
     stores = λ i slot. run-slot a.begins.procedure v w s slot i
 
     starts : a.start ≡ b.start
-    starts = a.begins.is ∙ ap (λ store. initial_config f a.begins.procedure store (heap_of h)) stores
-        ∙ ap (λ (cells : Cells). initial_config f a.begins.procedure (store_of a.begins.procedure w) (heap_of cells)) c
-        ∙ ap (λ (g : Procedure). initial_config f g (store_of g w) (heap_of k)) procedures ∙ sym b.begins.is
+    starts = a.begins.is ∙ ap (λ store. initial_config p f a.begins.procedure store (heap_of h)) stores
+        ∙ ap (λ (cells : Cells). initial_config p f a.begins.procedure (store_of a.begins.procedure w) (heap_of cells)) c
+        ∙ ap (λ (g : Procedure). initial_config p f g (store_of g w) (heap_of k)) procedures ∙ sym b.begins.is
 
 -- what comes of a run is printed in one way
 run-printed : (p : Program) (g : Procedure) (steps waits : ℕ) (one : Outcome) (text other : Text) (status code : ℕ)

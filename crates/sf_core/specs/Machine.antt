@@ -7,10 +7,10 @@ pub mod Step
 pub mod Reach
 pub mod Enabled
 pub mod Bad
-pub mod HeldBy
+pub mod HasThroughout
 pub mod Start
 pub mod Good
-pub mod InOrder
+pub mod Sound
 pub mod Supplies
 pub mod Numbered
 pub mod SpentSteps

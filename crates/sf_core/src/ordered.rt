@@ -1,6 +1,7 @@
 //! Assertions that are in order, by their type.
 
-ghost use Rattle.sf_core.specs.Assertions.InOrder.{IsInOrder, IsInOrder-prop};
+ghost use Rattle.sf_core.specs.Assertions.InOrder.{IsInOrder};
+ghost use Rattle.sf_core.specs.Checked.Assertions.InOrderIsProp.{IsInOrder-prop};
 ghost use Rattle.sf_core.specs.Program.View.{assertion_of};
 
 use crate::assertion::Assertion;

@@ -1,4 +1,4 @@
--- Whether a determined assertion has a footprint in a heap with finitely many cells.
+-- Whether an assertion in order has a footprint in a heap with finitely many cells.
 -- Names: `foot-LAW` of what a level takes; `decided-CASE`.
 use Rattle.std.proofs.Common.{◌≡◌, ◌⊎◌, ◌==◌, ℕ, Bool, true, false, not, List, [], ◌∷◌, refl, sym, ap, ◌∙◌, subst, inl, inr}
 use Rattle.std.specs.List.{list_any}
@@ -6,15 +6,11 @@ use Rattle.std.proofs.lemmas.Bool.{false≢true}
 use Rattle.sf_base.specs.declared.ids.Var.{Var}
 use Rattle.sf_base.specs.declared.value.Value.{Value}
 use Rattle.sf_base.specs.declared.value.Value.TheVariants.{Nil as nil}
-use Rattle.sf_base.specs.HeapStore.{Heap}
 use Rattle.sf_core.specs.declared.command.Expr.{Expr}
 use Rattle.sf_core.specs.Assertions.Determined.{known_inside}
-use Rattle.sf_core.specs.Assertions.InOrder.{IsInOrder}
 use Rattle.sf_core.specs.Assertions.Sat.{value}
 use Rattle.sf_core.specs.Assertions.Scopes.{is_made_by}
 use Rattle.sf_core.specs.Program.Syntax.{Level, level}
-use Rattle.sf_precise.specs.Checked.Laws.{DeterminedHasOrder, OrderKeepsMeaning, OrderedIsDetermined}
-use Rattle.sf_precise.specs.Order.{IsOrderOfLevel}
 use Rattle.sf_heap.specs.Cells.{Cells, heap_of}
 use Rattle.sf_foot.specs.Footprint.{HasNoFootprint}
 use Rattle.sf_foot.specs.Checked.Taking.{LevelTakes}
@@ -53,9 +49,9 @@ module _ (heap : Cells) (vars : Var → Value) (a : Level Expr) where
       h w.locations w.walked w.distinct
 
 -- an assertion in order has a footprint or has none
-decided-in_order : (a : Level Expr) (vars : Var → Value) (heap : Cells) → IsInOrder a
-    → HasFootprintOrNone a vars (heap_of heap)
-decided-in_order (level made cs) vars heap o =
+pub footprint_is_decided : FootprintIsDecided
+unfolding FootprintIsDecided
+footprint_is_decided (level made cs) vars heap o =
     go (take-inside heap (value vars) made cs (λ n. not (is_made_by made n)) (λ n. nil) (λ n s. ap not s.1)
     (take-all heap (value vars) cs (known_inside made (λ n. not (is_made_by made n))) (λ n. nil)
     (order-more (λ n. false) (known_inside made (λ n. not (is_made_by made n))) (λ n e. absurd (false≢true e)) cs o)))
@@ -72,32 +68,3 @@ decided-in_order (level made cs) vars heap o =
       | inr repeats ↦ inr (foot-longer heap vars (level made cs) (λ ls t d.
           repeats (subst Distinct (g.only (λ n. nil) ls (λ n e. refl) t).0 d)))
     ]
-
--- and so has one that has an order, which means the same
-decided-by_order : OrderKeepsMeaning → (a o : Level Expr) (vars : Var → Value) (heap : Heap) → IsOrderOfLevel a o
-    → HasFootprintOrNone o vars heap → HasFootprintOrNone a vars heap
-decided-by_order keeps a o vars heap ord (inl f) = inl (
-  f.0,
-  record {
-    part = f.1.part;
-    foot = record {
-      rest = f.1.foot.rest;
-      splits = f.1.foot.splits;
-      sat = (keeps a o vars (λ n. nil) f.1.part ord).1 f.1.foot.sat;
-    };
-    at = f.1.at;
-  },
-  f.2,
-)
-decided-by_order keeps a o vars heap ord (inr out) = inr (λ part f. out part (record {
-  rest = f.rest;
-  splits = f.splits;
-  sat = (keeps a o vars (λ n. nil) part ord).0 f.sat;
-}))
-
--- a determined assertion has an order
-pub footprint_is_decided : DeterminedHasOrder → OrderedIsDetermined → OrderKeepsMeaning → FootprintIsDecided
-unfolding FootprintIsDecided
-footprint_is_decided orders ordered keeps a vars heap d =
-    let o = orders a d in
-    decided-by_order keeps a o.0 vars (heap_of heap) o.1 (decided-in_order o.0 vars heap (ordered a o.0 o.1).1)

@@ -3,5 +3,6 @@
 pub mod Known
 pub mod Laws
 pub mod Places
+pub mod StartIsProp
 pub mod Taking
 pub mod Walks

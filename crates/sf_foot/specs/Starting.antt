@@ -1,9 +1,8 @@
 -- Starts: the variables and cells with which a procedure starts, and which of the cells each assertion has.
 -- O'Hearn (2007); Brookes (2007): the state at the start of a program with resources.
 use Rattle.std.specs.Prelude.{◌≡◌, ◌⊎◌, ℕ, ◌+◌, ◌<◌, ◌≤◌, ◌^◌, ◌==◌, ◌&&◌, cond, true, nat_lt, nat_eq, List, ◌∷◌, Some, None, length, map, slice_get, slice_index_or}
-use Rattle.std.specs.Coded.{×_prop, Π_prop, →_prop, le_prop, Coded-set, coded_bool}
 use Rattle.std.specs.FinMap.{contains_key, get}
-use Rattle.std.specs.List.{AllZip, IsDistinct, IsDistinct-prop, concat}
+use Rattle.std.specs.List.{AllZip, IsDistinct, concat}
 use Rattle.std.specs.Set.{is_member}
 use Rattle.sf_base.specs.declared.ids.ProcId.{ProcId}
 use Rattle.sf_base.specs.declared.ids.Var.{Var}
@@ -24,6 +23,11 @@ store_of g vars (own event i) =
     cond ((event == 0) && nat_lt i (length g.names)) (Some (slice_index_or vars.own.items i nil)) None
 store_of g vars (shared r i) = slice_get (values_or_none (slice_get vars.shared.items r.0)) i
 
+-- each cell has a value for each of so many fields
+abbrev pub HasWidth : ℕ → Cells → Type 0
+HasWidth count heap = (location : ℕ) (values : FieldValues) → get heap location ≡ Some values
+    → length values ≡ count
+
 -- each cell is at a location of exactly one of the parts, and each location of a part has a cell
 abbrev pub IsDisjointUnion : Cells → List (List ℕ) → Type 0
 IsDisjointUnion heap parts = IsDistinct nat_eq (concat parts)
@@ -41,6 +45,8 @@ pub record StartsWith (p : Program) (f : ProcId) (vars : Vars) (heap : Cells) (p
   pub there : slice_get p.procedures f.0 ≡ Some procedure
   pub parameters : length vars.own.items ≡ procedure.references + procedure.values
   pub starts : Start p f (store_of procedure vars) (heap_of heap) config
+  -- each cell has a value for each field of the program
+  pub width : HasWidth (length p.fields) heap
   pub footprints : AreFootprints p procedure vars heap parts
   pub union : IsDisjointUnion heap parts
 
@@ -60,12 +66,3 @@ IsFreshFrom vars heap unit = ((0 < unit) × (unit ≤ 2 ^ 62))
 abbrev pub IsFirstUnit : Vars → Cells → ℕ → Type 0
 IsFirstUnit vars heap unit = IsFreshFrom vars heap unit
     × ((unit ≡ 1) ⊎ ((location : ℕ) × IsMentioned vars heap location × (unit ≡ location + 1)))
-
--- that parts are disjoint and make up the heap holds in one way
-pub IsDisjointUnion-prop : (heap : Cells) (parts : List (List ℕ)) → IsProp (IsDisjointUnion heap parts)
-IsDisjointUnion-prop heap parts =
-    ×_prop (IsDistinct-prop nat_eq (concat parts)) (Π_prop (λ l. Coded-set coded_bool _ _))
-
--- and so does that a unit is fresh
-pub IsFreshFrom-prop : (vars : Vars) (heap : Cells) (unit : ℕ) → IsProp (IsFreshFrom vars heap unit)
-IsFreshFrom-prop vars heap unit = ×_prop (×_prop le_prop le_prop) (Π_prop (λ l. →_prop le_prop))

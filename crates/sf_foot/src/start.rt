@@ -2,7 +2,8 @@
 
 ghost use Rattle.std.specs.Prelude.{◌≡◌};
 ghost use Rattle.sf_core.specs.Program.ProgramView.{program_of};
-ghost use Rattle.sf_foot.specs.Starting.{IsDisjointUnion, IsDisjointUnion-prop, IsFirstUnit, IsFreshFrom, IsFreshFrom-prop, StartsWith};
+ghost use Rattle.sf_foot.specs.Checked.StartIsProp.{IsDisjointUnion-prop, IsFreshFrom-prop};
+ghost use Rattle.sf_foot.specs.Starting.{IsDisjointUnion, IsFirstUnit, IsFreshFrom, StartsWith};
 
 use crate::vars::Vars;
 use sf_base::ProcId;

@@ -21,8 +21,8 @@ use Rattle.sf_machine.specs.declared.spot.Spot.{Spot}
 use Rattle.sf_machine.specs.declared.spot.Spot.TheVariants.{Own}
 use Rattle.sf_machine.specs.Checked.Entries.{AreEntrySpots}
 use Rattle.sf_machine.specs.Checked.Resources.{in_resource, in_resources}
-use Rattle.sf_machine.specs.Checked.Spots.{slot_of}
-use Rattle.sf_machine.specs.Checked.Tasks.{block_items, frame_of, own_slot_in, slots_in, todo_of}
+use Rattle.sf_machine.specs.Spots.{slot_of}
+use Rattle.sf_machine.specs.Tasks.{block_items, frame_of, own_slot_in, slots_in, todo_of}
 use Rattle.sf_machine.proofs.Stacks.{own_slot_none}
 
 -- no slots

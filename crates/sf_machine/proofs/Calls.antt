@@ -14,8 +14,8 @@ use Rattle.sf_machine.specs.declared.frame.Frame.{Frame as CodeFrame}
 use Rattle.sf_machine.specs.declared.frame.Room.{Room as CodeRoom}
 use Rattle.sf_machine.specs.declared.spot.Spot.{Spot}
 use Rattle.sf_machine.specs.Checked.Calls.{AreReferences}
-use Rattle.sf_machine.specs.Checked.Spots.{slot_of}
-use Rattle.sf_machine.specs.Checked.Tasks.{block_items, frame_of, own_slot_in, room_of, slots_in, todo_of}
+use Rattle.sf_machine.specs.Spots.{slot_of}
+use Rattle.sf_machine.specs.Tasks.{block_items, frame_of, own_slot_in, room_of, slots_in, todo_of}
 use Rattle.sf_machine.proofs.Beginnings.{items_block}
 
 -- the slots of the callee's own variables

@@ -10,7 +10,7 @@ use Rattle.sf_base.specs.declared.value.Value.{Value}
 use Rattle.sf_base.specs.HeapStore.{Slot, shared, own}
 use Rattle.sf_core.specs.Machine.Config.{Item, command, leave, Room, Fixed, Frame, Task, runs, waits, Path, Config, task_at, IsOver}
 use Rattle.sf_core.specs.Machine.Enabled.{Thing, variable, CommandReads, CommandWrites, HasEnded, IsShut, IsInRoom, IsEnabled, Reads, Writes}
-use Rattle.sf_core.specs.Machine.InOrder.{IsInOrder}
+use Rattle.sf_core.specs.Checked.Machine.InOrder.{IsInOrder}
 use Rattle.sf_core.specs.Checked.Machine.Laws.{ReachedConfigsAreInOrder, UsedSlotsAreThere}
 use Rattle.sf_core.specs.Machine.Next.{next}
 use Rattle.sf_core.specs.Machine.Step.{task_with}
@@ -23,7 +23,7 @@ use Rattle.sf_machine.specs.Checked.Nexts.{IsIdle}
 use Rattle.sf_machine.specs.Checked.Noting.{Notes}
 use Rattle.sf_machine.specs.Checked.Spots.{SlotFits}
 use Rattle.sf_machine.specs.declared.store.Store.{Store as CodeStore}
-use Rattle.sf_machine.specs.Checked.Stores.{store_of}
+use Rattle.sf_machine.specs.Stores.{store_of}
 
 -- a configuration that is reached is in order
 pub in_order : (p : Program) (c : Config) → IsFormed p → (r : IsReached p c) → IsInOrder p r.starts.procedure c

@@ -29,6 +29,7 @@ use Rattle.sf_core.specs.Program.ProgramView.{program_of}
 use Rattle.sf_core.specs.Program.Syntax.{Procedure, Resource}
 use Rattle.sf_core.specs.Program.View.{resource_of}
 use Rattle.sf_foot.specs.declared.vars.Vars.{Vars}
+use Rattle.sf_foot.specs.Starting.{HasWidth}
 use Rattle.sf_foot.specs.Variables.{value_of, values_or_none}
 use Rattle.sf_heap.specs.Cells.{Cells, heap_of}
 use Rattle.sf_machine.specs.declared.frame.Frame.{Frame as CodeFrame}
@@ -38,7 +39,7 @@ use Rattle.sf_machine.proofs.NextTodo.{frames_alone}
 use Rattle.sf_machine.proofs.Tables.{counts_same}
 use Rattle.sf_machine.specs.declared.frame.Todo.{Todo}
 use Rattle.sf_machine.specs.declared.frame.Todo.TheVariants.{Commands, Leave}
-use Rattle.sf_machine.specs.Checked.Tasks.{frame_of, frames_of, items_of, todo_of}
+use Rattle.sf_machine.specs.Tasks.{frame_of, frames_of, items_of, todo_of}
 use Rattle.sf_machine.specs.Checked.Endings.{AreRows, AreValues}
 
 -- no values
@@ -166,7 +167,7 @@ module _ (p : CodeProgram) (f : ProcId) (g : Procedure) (there : procedure_at (p
     (c : Config) (vars : Vars) (heap : Cells)
     (own_are : AreValues c.common.store (λ k. own 0 k) (g.references + g.values) vars.own.items)
     (rows_are : AreRows c.common.store (counts_of p.resources.items) (length p.resources.items) vars.shared.items)
-    (cells : heap_of heap ≡ c.common.heap) where
+    (cells : heap_of heap ≡ c.common.heap) (width : HasWidth (length (program_of p).fields) heap) where
   -- the row of a resource
   row_of : (r : ResId) (of : Resource) → slice_get (program_of p).resources r.0 ≡ Some of
       → AreValues c.common.store (shared r) (length of.variables) (values_or_none (slice_get vars.shared.items r.0))
@@ -200,4 +201,5 @@ module _ (p : CodeProgram) (f : ProcId) (g : Procedure) (there : procedure_at (p
     variables = λ r of e. (row_of r of e).length;
     values = values_ended;
     cells = cells;
+    width = width;
   }

@@ -16,4 +16,3 @@ pub mod Stacks
 pub mod Steps
 pub mod Tables
 pub mod Views
-pub mod Wide

@@ -7,7 +7,7 @@ use Rattle.sf_core.specs.Machine.Config.{Item, Frame, runs}
 use Rattle.sf_core.specs.Machine.Step.{task_with}
 use Rattle.sf_machine.specs.declared.frame.Frame.{Frame as CodeFrame}
 use Rattle.sf_machine.specs.declared.frame.Todo.{Todo}
-use Rattle.sf_machine.specs.Checked.Tasks.{items_of, todo_of, fixed_of, frame_of, frames_of}
+use Rattle.sf_machine.specs.Tasks.{items_of, todo_of, fixed_of, frame_of, frames_of}
 use Rattle.sf_machine.proofs.Stacks.{todo_snoc}
 
 -- a list of no length is empty

@@ -40,8 +40,9 @@ use Rattle.sf_machine.specs.declared.task.Task.{Task as CodeTask}
 use Rattle.sf_machine.specs.Answers.{FindsNone}
 use Rattle.sf_machine.specs.Checked.Effects.{opened, opened_store, IsClearStore}
 use Rattle.sf_machine.specs.Checked.Plans.{IsCellAt, IsCellOf, PlansAssign, PlansCall, PlansDispose, PlansFork, PlansIf, PlansLookUp, PlansMutate, PlansNew, PlansWhile, PlansWith}
-use Rattle.sf_machine.specs.Checked.Spots.{slot_of}
-use Rattle.sf_machine.specs.Checked.Tasks.{block_items, frame_of, goes_on, rest_of, room_of, task_of}
+use Rattle.sf_machine.specs.Spots.{slot_of}
+use Rattle.sf_machine.specs.Tasks.{block_items, frame_of, room_of, task_of}
+use Rattle.sf_machine.specs.Checked.Tasks.{goes_on, rest_of}
 use Rattle.sf_machine.proofs.Beginnings.{items_block}
 
 -- what holds of a value that is there, and makes something else hold of it
@@ -63,6 +64,7 @@ plan_assign s f x e spot v on there same is after = λ p ev place below rest. (
     λ i. task_with f (after (command (assign place x e) ∷ rest) i) below,
   ),
   ap (λ (z : Slot). is_some (s.store z)) same ∙ there,
+  tt,
 )
 
 -- `x = E->f`
@@ -79,6 +81,7 @@ plan_look_up s f x e field spot root v values on there same is k at after = λ p
     λ i. task_with f (after (command (look_up place x e field) ∷ rest) i) below,
   ),
   ap (λ (z : Slot). is_some (s.store z)) same ∙ there,
+  tt,
 )
 
 -- no cell is where the expression says
@@ -100,7 +103,7 @@ cell_there (Some x) h = (x, refl)
 pub plan_mutate : (s : Common) (f : Fixed) (e : Expr) (field : FieldId) (v : Expr) (root value : Value) (at : ℕ)
     (on : GoOn) → root ≡ evaluate f.slots s.store e → IsCellAt s.heap root at → value ≡ evaluate f.slots s.store v
     → GoesOn on rest_of → PlansMutate s f e field v (Acts (Put at field value) (go_on on))
-plan_mutate s f e field v root value at on is k same after = λ p ev place below rest.
+plan_mutate s f e field v root value at on is k same after = λ p ev place within below rest.
     let here = cell_there (s.heap at) k.there in (
       (
         at,
@@ -110,12 +113,13 @@ plan_mutate s f e field v root value at on is k same after = λ p ev place below
         λ i. task_with f (after (command (mutate place e field v) ∷ rest) i) below,
       ),
       k.there,
+      within,
     )
 
 -- a mutation that finds no cell
 pub refuse_mutate : (s : Common) (f : Fixed) (e : Expr) (field : FieldId) (v : Expr) (root : Value)
     → root ≡ evaluate f.slots s.store e → IsAbsent s.heap root → PlansMutate s f e field v (Refused (Absent root))
-refuse_mutate s f e field v root is none = λ p ev place below rest. refuse_at (evaluate f.slots s.store) s.heap e root is none
+refuse_mutate s f e field v root is none = λ p ev place within below rest. refuse_at (evaluate f.slots s.store) s.heap e root is none
 
 -- no cell is where none was found
 pub none_found : (cells : Cells) (at : ℕ) (r : Option (Bor FieldValues)) → option_copied r ≡ get cells at
@@ -134,6 +138,7 @@ plan_new ev s f x spot on there same above none after = λ p place below rest. (
     λ i. task_with f (after (command (new place x) ∷ rest) i) below,
   ),
   (ap (λ (z : Slot). is_some (s.store z)) same ∙ there, none),
+  tt,
 )
 
 -- a `new` at 0, or at a location that is there
@@ -154,6 +159,7 @@ plan_dispose s f e root at on is k after = λ p ev place below rest.
         refl,
         λ i. task_with f (after (command (dispose place e) ∷ rest) i) below,
       ),
+      tt,
       tt,
     )
 
@@ -176,6 +182,7 @@ plan_if s f test this that on h goes = λ p ev place below rest. (
     ),
   ),
   tt,
+  tt,
 )
 
 -- and where it isn't
@@ -191,6 +198,7 @@ plan_else s f test this that on h goes = λ p ev place below rest. (
           ∙ ap (λ (z : List Item). z ++ rest) (items_block that)) i) below,
     ),
   ),
+  tt,
   tt,
 )
 
@@ -209,6 +217,7 @@ plan_while s f test body on h goes = λ kept p ev place below rest. (
     ),
   ),
   tt,
+  tt,
 )
 
 -- and where it isn't
@@ -220,6 +229,7 @@ plan_leave s f test body on h goes = λ kept p ev place below rest. (
     refl,
     inr (h, λ i. task_with f (goes (command (while place test kept (block_of body)) ∷ rest) i) below),
   ),
+  tt,
   tt,
 )
 
@@ -236,6 +246,7 @@ plan_with s f r test body on free h goes = λ p ev place below rest. (
     λ i. task_with f ((goes (command (with place r test (block_of body)) ∷ rest)
         ∙ ap (λ (z : List Item). z ++ (leave r ∷ rest)) (items_block body)) i) below,
   ),
+  tt,
   tt,
 )
 
@@ -324,6 +335,7 @@ plan_call p ev s f c g o room callee there is few same opens frame none = λ pla
   ),
   room_clear o room ev.number 0 s.store same (ap (λ (z : Room). z.event) is) (ap (λ (z : Room). z.first) is) few
       (omega arith) none,
+  tt,
 )
 
 -- a fork below 63 turns
@@ -371,4 +383,5 @@ plan_fork p ev s f c d g h o q left right one two deep there here is at few less
             ) (room_clear q right ev.number left.count s.store also (ap (λ (z : Room). z.event) at)
             (ap (λ (z : Room). z.first) at) less few none),
       ),
+      tt,
     )

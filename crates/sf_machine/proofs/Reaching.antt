@@ -31,8 +31,8 @@ reached_begin p f vars heap parts c s b =
       starts = s.starts;
       events = [];
       reached =
-          b.is ∙ ap (λ (g : Procedure). initial_config f g (store_of g vars) (heap_of heap)) procedure
-          ∙ ap (λ (g : Procedure). initial_config f g (store_of s.procedure vars) (heap_of heap)) starting
+          b.is ∙ ap (λ (g : Procedure). initial_config p f g (store_of g vars) (heap_of heap)) procedure
+          ∙ ap (λ (g : Procedure). initial_config p f g (store_of s.procedure vars) (heap_of heap)) starting
           ∙ sym s.starts.is;
     }
 

@@ -8,7 +8,7 @@ use Rattle.std.proofs.lemmas.Option.{slice_get_cases}
 use Rattle.sf_base.proofs.Options.{is_some-false}
 use Rattle.sf_base.specs.HeapStore.{own}
 use Rattle.sf_core.specs.Machine.Config.{Item, command, in_room, Room, Fixed, Frame, Config, task_at}
-use Rattle.sf_core.specs.Machine.InOrder.{FrameIsFormed, IsInOrder, times_there}
+use Rattle.sf_core.specs.Checked.Machine.InOrder.{FrameIsFormed, IsInOrder, times_there}
 use Rattle.sf_core.specs.Checked.Machine.Laws.{UsedSlotsAreThere}
 use Rattle.sf_core.specs.Machine.Step.{Event, task_with}
 use Rattle.sf_core.specs.Program.Formed.{HasCounts, CommandWithin}
@@ -17,7 +17,7 @@ use Rattle.sf_core.proofs.Machine.InOrder.Names.{in_room-own}
 use Rattle.sf_core.proofs.Machine.InOrder.Slots.{fresh-slot}
 use Rattle.sf_core.proofs.Machine.InOrder.Trees.{each-at}
 use Rattle.sf_core.proofs.Machine.Laws.{used_slots_are_there}
-use Rattle.sf_machine.specs.Checked.Plans.{HasCallees, IsReady}
+use Rattle.sf_machine.specs.Checked.Plans.{HasCallees, IsReady, SetsField}
 
 -- a slot that is there
 slot_there : {X : Type 0} (o : Option X) (v : X) → o ≡ Some v → is_some o ≡ true
@@ -43,6 +43,19 @@ ready_callees p g (while place test kept body) h = tt
 ready_callees p g (call place c) h = callee_there p c h.callee
 ready_callees p g (fork place c d) h = (callee_there p c (h.0).callee, callee_there p d (h.1).callee)
 ready_callees p g (with place r test body) h = tt
+
+-- the field that a well-formed command sets is there
+ready_field : (p : Program) (g : Procedure) (c : Command) → CommandWithin p g c → SetsField p c
+ready_field p g (assign place x e) h = tt
+ready_field p g (look_up place x e field) h = tt
+ready_field p g (mutate place e field v) h = h.1
+ready_field p g (new place x) h = tt
+ready_field p g (dispose place e) h = tt
+ready_field p g (if place test this that) h = tt
+ready_field p g (while place test kept body) h = tt
+ready_field p g (call place c) h = tt
+ready_field p g (fork place c d) h = tt
+ready_field p g (with place r test body) h = tt
 
 -- no variable is that has a new number
 ready_fresh : (p : Program) (g : Procedure) (c : Config) (n i : ℕ) → IsInOrder p g c → c.used n ≡ false
@@ -70,5 +83,9 @@ ready p g c ev f below one rest o fresh there = record {
       let formed = each-at (AllByRecursion (FrameIsFormed p)) ev.task c.tasks
       (task_with f (command one ∷ rest) below) there o.formed in
       ready_callees p (formed.0).procedure one ((formed.0).todo.0);
+  field =
+      let formed = each-at (AllByRecursion (FrameIsFormed p)) ev.task c.tasks
+      (task_with f (command one ∷ rest) below) there o.formed in
+      ready_field p (formed.0).procedure one ((formed.0).todo.0);
   fresh = λ i. ready_fresh p g c ev.number i o fresh;
 }

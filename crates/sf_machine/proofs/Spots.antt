@@ -10,7 +10,7 @@ use Rattle.std.proofs.lemmas.Bool.Decides.{nat_tests}
 use Rattle.sf_base.specs.HeapStore.{Slot, shared, own, same_slot}
 use Rattle.sf_machine.specs.declared.spot.Spot.{Spot}
 use Rattle.sf_machine.specs.declared.spot.Spot.TheVariants.{Shared, Own}
-use Rattle.sf_machine.specs.Checked.Spots.{slot_of, spot_of, spots}
+use Rattle.sf_machine.specs.Spots.{slot_of, spot_of, spots}
 
 -- a slot read as one of the definitions and back is that slot
 pub spot_slot : (s : Spot) → spot_of (slot_of s) ≡ s

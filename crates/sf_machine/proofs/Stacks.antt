@@ -10,8 +10,9 @@ use Rattle.sf_machine.specs.declared.frame.Frame.{Frame as CodeFrame}
 use Rattle.sf_machine.specs.declared.frame.Room.{Room as CodeRoom}
 use Rattle.sf_machine.specs.declared.frame.Todo.{Todo}
 use Rattle.sf_machine.specs.declared.spot.Spot.{Spot}
-use Rattle.sf_machine.specs.Checked.Spots.{slot_of}
-use Rattle.sf_machine.specs.Checked.Tasks.{own_slot_in, items_of, todo_of, frame_of, frames_of, after, fixed_of, rest_of}
+use Rattle.sf_machine.specs.Spots.{slot_of}
+use Rattle.sf_machine.specs.Tasks.{own_slot_in, items_of, todo_of, frame_of, frames_of, fixed_of}
+use Rattle.sf_machine.specs.Checked.Tasks.{after, rest_of}
 
 -- what is pushed is to be done first
 pub todo_snoc : (xs : List Todo) (x : Todo) → todo_of (xs ++ x ∷ []) ≡ items_of x ++ todo_of xs

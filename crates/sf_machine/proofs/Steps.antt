@@ -10,7 +10,7 @@ use Rattle.sf_base.specs.declared.ids.ResId.{ResId}
 use Rattle.sf_base.specs.declared.path.Turn.TheVariants.{Left as left, Right as right}
 use Rattle.sf_core.specs.Machine.Config.{Item, command, leave, Room, Fixed, Frame, Task, runs, waits, Path, Common, Config, task_at, put_task, IsCalled, IsOver}
 use Rattle.sf_core.specs.Machine.Enabled.{HasEnded}
-use Rattle.sf_core.specs.Machine.InOrder.{IsInOrder}
+use Rattle.sf_core.specs.Checked.Machine.InOrder.{IsInOrder}
 use Rattle.sf_core.specs.Checked.Machine.Laws.{ExitsAreOfHeldResources}
 use Rattle.sf_core.specs.Machine.Next.{Next, does, leaves, returns, joins, nothing, next}
 use Rattle.sf_core.specs.Machine.Step.{Event, Step, close_room, task_with}
@@ -33,7 +33,8 @@ use Rattle.sf_machine.specs.declared.task.Change.TheVariants.{GoOn as go_on, Ret
 use Rattle.sf_machine.specs.Checked.Nexts.{IsIdle, IsNext}
 use Rattle.sf_machine.specs.Checked.Performing.{performed}
 use Rattle.sf_machine.specs.Checked.Plans.{IsPlanned, Plans, PlansEvent}
-use Rattle.sf_machine.specs.Checked.Tasks.{at_path, goes_on, moved, rest_of, room_of}
+use Rattle.sf_machine.specs.Tasks.{room_of}
+use Rattle.sf_machine.specs.Checked.Tasks.{at_path, goes_on, moved, rest_of}
 use Rattle.sf_machine.proofs.Enabling.{busy_goes, done_goes}
 
 -- the task that is there changed is the changed task put there
@@ -182,6 +183,7 @@ plan_does p ev c f below one rest (Acts effect change) fresh there h = record {
   there = there;
   steps = (h below rest).0;
   suits = (h below rest).1;
+  within = (h below rest).2;
 }
 plan_does p ev c f below one rest (Refused why) fresh there h = refused_answers p ev c why (record {
   task = task_with f (command one ∷ rest) below;
@@ -205,6 +207,7 @@ plan_leaves p g ev c f below r rest on o fresh there after = record {
     λ i. task_with f (after (leave r ∷ rest) i) below,
   );
   suits = tt;
+  within = tt;
 }
 
 -- a frame that is returned from was called
@@ -224,6 +227,7 @@ plan_returns p ev c f below room n fresh there is e k = record {
   there = there;
   steps = (called ev.task below n e k, ap (λ (z : Room). close_room z c.common) (sym is), refl);
   suits = tt;
+  within = tt;
 }
 
 -- a join
@@ -236,4 +240,5 @@ plan_joins p ev c frames one two fresh there a b = record {
   there = there;
   steps = (a, b, refl, refl);
   suits = tt;
+  within = tt;
 }

@@ -34,8 +34,9 @@ use Rattle.sf_machine.specs.declared.config.Config.{Config as CodeConfig}
 use Rattle.sf_machine.specs.declared.frame.Frame.{Frame as CodeFrame}
 use Rattle.sf_machine.specs.Configs.{config_of, held_of}
 use Rattle.sf_machine.specs.Checked.Resources.{counts_of, in_resources, var_at}
-use Rattle.sf_machine.specs.Checked.Stores.{store_of as code_store}
-use Rattle.sf_machine.specs.Checked.Tasks.{first_slots, frame_of, frames_of}
+use Rattle.sf_machine.specs.Stores.{store_of as code_store}
+use Rattle.sf_machine.specs.Tasks.{frame_of, frames_of}
+use Rattle.sf_machine.specs.Checked.Tasks.{first_slots}
 use Rattle.sf_machine.proofs.Spots.{number_test}
 
 -- a resource has few variables
@@ -179,14 +180,14 @@ pub tasks_first : (f : CodeFrame) (g : Frame) (below : List CodeFrame) → frame
 tasks_first f g below e h = λ i. runs (e i ∷ frames_of (h i))
 
 -- a configuration of these parts is the one in which a procedure starts
-pub begins_as : (f : ProcId) (g : Procedure) (vars : Vars) (heap : Cells) (c : CodeConfig)
+pub begins_as : (p : Program) (f : ProcId) (g : Procedure) (vars : Vars) (heap : Cells) (c : CodeConfig)
     → heap_of c.common.heap ≡ heap_of heap
     → ((slot : Slot) → code_store c.common.store slot ≡ store_of g vars slot)
     → ((r : ResId) → held_of c.common.held r ≡ None)
     → ((n : ℕ) → contains nat_cmp c.used n ≡ (n == 0))
     → (config_of c).tasks ≡ runs (entry_frame f g ∷ [])
-    → config_of c ≡ initial_config f g (store_of g vars) (heap_of heap)
-begins_as f g vars heap c a s h u t = λ i. record {
+    → config_of c ≡ initial_config p f g (store_of g vars) (heap_of heap)
+begins_as p f g vars heap c a s h u t = λ i. record {
   common = record { heap = a i; store = λ slot. s slot i; held = λ r. h r i };
   used = λ n. u n i;
   tasks = t i;

@@ -14,4 +14,4 @@ use Rattle.sf_heap.specs.Cells.{Cells, heap_of}
 pub record Begins (p : Program) (f : ProcId) (vars : Vars) (heap : Cells) (c : Config) : Type 0 where
   pub procedure : Procedure
   pub there : procedure_at p f ≡ Some procedure
-  pub is : c ≡ initial_config f procedure (store_of procedure vars) (heap_of heap)
+  pub is : c ≡ initial_config p f procedure (store_of procedure vars) (heap_of heap)

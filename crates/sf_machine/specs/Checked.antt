@@ -10,5 +10,4 @@ pub mod Performing
 pub mod Plans
 pub mod Resources
 pub mod Spots
-pub mod Stores
 pub mod Tasks

@@ -12,6 +12,7 @@ use Rattle.sf_core.specs.Machine.Step.{procedure_at}
 use Rattle.sf_core.specs.Program.Formed.{IsParameter}
 use Rattle.sf_core.specs.Program.Syntax.{Procedure, Program, Resource}
 use Rattle.sf_foot.specs.declared.vars.Vars.{Vars}
+use Rattle.sf_foot.specs.Starting.{HasWidth}
 use Rattle.sf_foot.specs.Variables.{value_of, values_or_none}
 use Rattle.sf_heap.specs.Cells.{Cells, heap_of}
 
@@ -27,3 +28,5 @@ pub record Ends (p : Program) (f : ProcId) (c : Config) (vars : Vars) (heap : Ce
   pub values : (x : Var) → IsParameter p procedure x
       → value_of vars x ≡ unwrap_or (c.common.store (entry_slot x)) nil
   pub cells : heap_of heap ≡ c.common.heap
+  -- each cell has a value for each field of the program
+  pub width : HasWidth (length p.fields) heap

@@ -5,4 +5,7 @@ pub mod Configs
 pub mod Ending
 pub mod Events
 pub mod Reached
+pub mod Spots
+pub mod Stores
+pub mod Tasks
 pub mod Checked

@@ -1,13 +1,14 @@
 //! What an event makes of what all tasks share.
 
-ghost use Rattle.std.specs.Prelude.{◌≡◌, ◌==◌, true, cond, Some, None, is_some, OnOk, OnErr};
+ghost use Rattle.std.specs.Prelude.{◌≡◌, ◌==◌, ℕ, true, cond, Some, None, is_some, length, OnOk, OnErr};
 ghost use Rattle.sf_base.specs.declared.ids.ResId.{ResId as R};
 ghost use Rattle.sf_base.specs.HeapStore.{Slot, same_slot};
+ghost use Rattle.sf_foot.specs.Starting.{HasWidth};
 ghost use Rattle.sf_machine.specs.Configs.{common_of, held_of};
 ghost use Rattle.sf_machine.specs.Events.{event_of};
-ghost use Rattle.sf_machine.specs.Checked.Effects.{applied, opened_store, IsClearStore, IsSameCommon, Suits};
-ghost use Rattle.sf_machine.specs.Checked.Spots.{slot_of};
-ghost use Rattle.sf_machine.specs.Checked.Stores.{store_of};
+ghost use Rattle.sf_machine.specs.Checked.Effects.{applied, opened_store, HasField, IsClearStore, IsSameCommon, Suits};
+ghost use Rattle.sf_machine.specs.Spots.{slot_of};
+ghost use Rattle.sf_machine.specs.Stores.{store_of};
 
 use crate::cells::{make_cell, put_field, remove_cell};
 use crate::config::Common;
@@ -21,12 +22,15 @@ use std::alloc::AllocError;
 use std::collections::BTreeMap;
 
 /// Makes of what is shared what an event does. An `Err` says that memory ran out, and nothing is
-/// changed.
+/// changed. Cells have as many fields as before.
 pub(crate) fn apply(common: &mut Common, event: &Event, effect: Effect) -> Result<(), AllocError>
-    requires { Suits (event_of event.now) effect (common_of common.old) }
+    requires suits { Suits (event_of event.now) effect (common_of common.old) }
+    requires field { HasField effect common.old.heap }
     ensures ok { OnOk result (IsSameCommon (common_of common.new)
         (applied (event_of event.now) effect (common_of common.old))) }
     ensures err { OnErr result (IsSameCommon (common_of common.new) (common_of common.old)) }
+    ensures width { (count : ℕ) → length event.now.fields ≡ count → HasWidth count common.old.heap
+        → HasWidth count common.new.heap }
 {
     match effect {
         Effect::Nothing => Ok(()),
@@ -35,7 +39,8 @@ pub(crate) fn apply(common: &mut Common, event: &Event, effect: Effect) -> Resul
             Ok(())
         }
         Effect::Put(at, field, value) => {
-            put_field(common.alloc, &mut common.heap, at, field, value)
+            put_field(&mut common.heap, at, field, value);
+            Ok(())
         }
         Effect::Make(spot) => make(common, event, spot),
         Effect::Remove(at) => {
@@ -62,6 +67,8 @@ fn make(common: &mut Common, event: &Event, spot: Spot) -> Result<(), AllocError
     ensures ok { OnOk result (IsSameCommon (common_of common.new)
         (applied (event_of event.now) (Effect.Make spot) (common_of common.old))) }
     ensures err { OnErr result (IsSameCommon (common_of common.new) (common_of common.old)) }
+    ensures width { (count : ℕ) → length event.now.fields ≡ count → HasWidth count common.old.heap
+        → HasWidth count common.new.heap }
 {
     make_cell(common.alloc, &mut common.heap, event.at, &event.fields)?;
     set(&mut common.store, spot, Value::Loc(event.at));

@@ -4,7 +4,7 @@ ghost use Rattle.std.specs.Prelude.{IfOk};
 ghost use Rattle.sf_core.specs.Program.ProgramView.{program_of};
 ghost use Rattle.sf_foot.specs.Starting.{StartsWith};
 ghost use Rattle.sf_machine.specs.Beginning.{Begins};
-ghost use Rattle.sf_machine.specs.Configs.{config_of};
+ghost use Rattle.sf_machine.specs.Configs.{config_of, IsWide};
 ghost use Rattle.sf_machine.specs.Reached.{IsReached};
 
 use crate::config::{Common, Config};
@@ -32,6 +32,7 @@ pub fn begin<'p>(
     ensures begins { IfOk result
         (λ c. Begins (program_of p.now) f start.vars start.heap (config_of c)) }
     ensures reached { IfOk result (λ c. IsReached (program_of p.now) (config_of c)) }
+    ensures wide { IfOk result (IsWide (program_of p.now)) }
 {
     let procedure = p.proc(f);
     let frame = entry_frame(alloc, f, procedure)?;

@@ -9,8 +9,8 @@ ghost use Rattle.sf_core.specs.Program.Syntax.{Procedure};
 ghost use Rattle.sf_core.specs.Program.View.{call_of};
 ghost use Rattle.sf_machine.specs.Checked.Calls.{AreReferences};
 ghost use Rattle.sf_machine.specs.Checked.Effects.{opened};
-ghost use Rattle.sf_machine.specs.Checked.Stores.{store_of};
-ghost use Rattle.sf_machine.specs.Checked.Tasks.{fixed_of, frame_of, room_of};
+ghost use Rattle.sf_machine.specs.Stores.{store_of};
+ghost use Rattle.sf_machine.specs.Tasks.{fixed_of, frame_of, room_of};
 
 use crate::effect::Opening;
 use crate::entry::room_count;

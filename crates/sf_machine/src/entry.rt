@@ -4,7 +4,7 @@ ghost use Rattle.std.specs.Prelude.{◌≡◌, ◌-◌, ◌<◌, ◌≤◌, ◌^
 ghost use Rattle.sf_core.specs.Machine.Start.{entry_frame};
 ghost use Rattle.sf_core.specs.Program.View.{procedure_of};
 ghost use Rattle.sf_machine.specs.Checked.Entries.{AreEntrySpots};
-ghost use Rattle.sf_machine.specs.Checked.Tasks.{frame_of};
+ghost use Rattle.sf_machine.specs.Tasks.{frame_of};
 
 use crate::frame::{Frame, Room, first_todo};
 use crate::spot::Spot;

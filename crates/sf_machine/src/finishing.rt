@@ -6,11 +6,11 @@ ghost use Rattle.sf_core.specs.Machine.Enabled.{HasEnded};
 ghost use Rattle.sf_core.specs.Machine.Step.{procedure_at};
 ghost use Rattle.sf_core.specs.Program.Syntax.{Procedure};
 ghost use Rattle.sf_core.specs.Program.ProgramView.{program_of};
-ghost use Rattle.sf_machine.specs.Configs.{config_of};
+ghost use Rattle.sf_machine.specs.Configs.{config_of, IsWide};
 ghost use Rattle.sf_machine.specs.Ending.{Ends};
 ghost use Rattle.sf_machine.specs.Checked.Endings.{AreRows, AreValues};
 ghost use Rattle.sf_machine.specs.Checked.Resources.{counts_of};
-ghost use Rattle.sf_machine.specs.Checked.Stores.{store_of};
+ghost use Rattle.sf_machine.specs.Stores.{store_of};
 
 use crate::config::{Common, Config};
 use crate::resources::variable_count;
@@ -40,7 +40,8 @@ impl<'p> Config<'p> {
     /// variables of the resources, and the cells, which move and aren't copied. An `Err` says that
     /// memory ran out.
     pub fn finish(self, alloc: Global, p: &Program, f: ProcId) -> Result<Finish, AllocError>
-        requires { f.0 < length p.now.procedures.items }
+        requires procedure { f.0 < length p.now.procedures.items }
+        requires wide { IsWide (program_of p.now) self }
         ensures { IfOk result (λ finish. Ends (program_of p.now) f (config_of self.entry)
             finish.vars finish.heap) }
     {

@@ -3,7 +3,7 @@
 ghost use Rattle.std.specs.Prelude.{◌≡◌, ◌↔◌, List, [], ◌∷◌, IsTrue};
 ghost use Rattle.sf_core.specs.Machine.Config.{Frame as F, runs};
 ghost use Rattle.sf_machine.specs.Checked.Nexts.{IsNext};
-ghost use Rattle.sf_machine.specs.Checked.Tasks.{task_of, frame_of};
+ghost use Rattle.sf_machine.specs.Tasks.{task_of, frame_of};
 
 use crate::frame::{Frame, Room, Todo};
 use crate::task::Task;

@@ -2,8 +2,9 @@
 
 ghost use Rattle.std.specs.Prelude.{◌≡◌, ◌+◌, ◌≤◌, ◌++◌, List, vec_len, vec_capacity, IfOk, OnOk};
 ghost use Rattle.sf_core.specs.Machine.Config.{Item};
-ghost use Rattle.sf_machine.specs.Checked.Spots.{slot_of};
-ghost use Rattle.sf_machine.specs.Checked.Tasks.{slots_in, own_slot_in, todo_of, rest_of, block_items, fixed_of, frame_of, goes_on, HasTodoRoom};
+ghost use Rattle.sf_machine.specs.Spots.{slot_of};
+ghost use Rattle.sf_machine.specs.Tasks.{slots_in, own_slot_in, todo_of, block_items, fixed_of, frame_of};
+ghost use Rattle.sf_machine.specs.Checked.Tasks.{rest_of, goes_on, HasTodoRoom};
 
 use crate::spot::Spot;
 use sf_base::{ProcId, ResId, Var};

@@ -5,9 +5,10 @@ ghost use Rattle.sf_core.specs.Machine.Config.{evaluate};
 ghost use Rattle.sf_core.specs.Machine.Enabled.{variable, cell, IsCellAt, IsInRoom, ReadsExpr, ReadsTest, ReadsAll, CommandReads, CommandWrites};
 ghost use Rattle.sf_core.specs.Program.View.{command_of};
 ghost use Rattle.sf_machine.specs.Checked.Noting.{AreFit, Notes};
-ghost use Rattle.sf_machine.specs.Checked.Spots.{slot_of, SlotFits};
-ghost use Rattle.sf_machine.specs.Checked.Stores.{store_of};
-ghost use Rattle.sf_machine.specs.Checked.Tasks.{fixed_of, room_of, slots_in};
+ghost use Rattle.sf_machine.specs.Spots.{slot_of};
+ghost use Rattle.sf_machine.specs.Checked.Spots.{SlotFits};
+ghost use Rattle.sf_machine.specs.Stores.{store_of};
+ghost use Rattle.sf_machine.specs.Tasks.{fixed_of, room_of, slots_in};
 
 use crate::frame::{Frame, Room};
 use crate::spot::Spot;

@@ -12,8 +12,8 @@ ghost use Rattle.sf_heap.specs.Cells.{heap_of};
 ghost use Rattle.sf_machine.specs.Configs.{common_of};
 ghost use Rattle.sf_machine.specs.Events.{event_of};
 ghost use Rattle.sf_machine.specs.Checked.Plans.{IsCellAt, IsCellOf, IsReady, Plans, PlansAssign, PlansCall, PlansDispose, PlansFork, PlansIf, PlansLookUp, PlansMutate, PlansNew, PlansWhile, PlansWith};
-ghost use Rattle.sf_machine.specs.Checked.Stores.{store_of};
-ghost use Rattle.sf_machine.specs.Checked.Tasks.{fixed_of, room_of, task_of};
+ghost use Rattle.sf_machine.specs.Stores.{store_of};
+ghost use Rattle.sf_machine.specs.Tasks.{fixed_of, room_of, task_of};
 
 use crate::calling::{callee_frame, opening, room_for};
 use crate::config::Common;

@@ -4,7 +4,7 @@ ghost use Rattle.std.specs.Prelude.{◌≡◌, ◌<◌, ◌≤◌, ◌^◌, cond
 ghost use Rattle.sf_base.specs.HeapStore.{Slot};
 ghost use Rattle.sf_foot.specs.Variables.{value_of};
 ghost use Rattle.sf_machine.specs.Checked.Resources.{counts_of, in_resource, in_resources, var_at};
-ghost use Rattle.sf_machine.specs.Checked.Stores.{store_of};
+ghost use Rattle.sf_machine.specs.Stores.{store_of};
 
 use crate::spot::Spot;
 use crate::store::Store;

@@ -5,8 +5,9 @@ ghost use Rattle.sf_base.specs.declared.value.Value.TheVariants.{Nil as nil};
 ghost use Rattle.sf_base.specs.HeapStore.{Slot};
 ghost use Rattle.sf_core.specs.Machine.Config.{in_room};
 ghost use Rattle.sf_core.specs.Machine.Step.{index_of};
-ghost use Rattle.sf_machine.specs.Checked.Stores.{store_of};
-ghost use Rattle.sf_machine.specs.Checked.Tasks.{room_of, first_slots};
+ghost use Rattle.sf_machine.specs.Stores.{store_of};
+ghost use Rattle.sf_machine.specs.Tasks.{room_of};
+ghost use Rattle.sf_machine.specs.Checked.Tasks.{first_slots};
 
 use crate::frame::Room;
 use crate::store::Store;

@@ -4,7 +4,7 @@ ghost use Rattle.std.specs.Prelude.{◌≡◌, length, IfOk, OnErr};
 ghost use Rattle.sf_core.specs.Machine.Step.{Step};
 ghost use Rattle.sf_core.specs.Program.ProgramView.{program_of};
 ghost use Rattle.sf_machine.specs.Answers.{Answers};
-ghost use Rattle.sf_machine.specs.Configs.{config_of};
+ghost use Rattle.sf_machine.specs.Configs.{config_of, IsWide};
 ghost use Rattle.sf_machine.specs.Events.{event_of};
 ghost use Rattle.sf_machine.specs.Reached.{IsReached};
 ghost use Rattle.sf_machine.specs.Checked.Plans.{PlansEvent};
@@ -22,15 +22,18 @@ use std::alloc::AllocError;
 
 /// Makes the step of an event. `Moved` comes exactly where there is a next configuration for the
 /// event, and then it is that one; every other answer says why there is none, and leaves the
-/// configuration as it was. So does an `Err`, which says that memory ran out.
+/// configuration as it was. So does an `Err`, which says that memory ran out. Each cell has a value
+/// for each field of the program, before and after.
 pub fn step<'p>(p: &'p Program, c: &mut Config<'p>, e: &Event) -> Result<Stepped, AllocError>
     requires reached { IsReached (program_of p.now) (config_of c.old) }
     requires fields { length e.now.fields ≡ length p.now.fields.items }
+    requires wide { IsWide (program_of p.now) c.old }
     ensures answers { IfOk result
         (Answers (program_of p.now) (event_of e.now) (config_of c.old)) }
     ensures moved { IfOk result (λ s. s ≡ Stepped.Moved
         → Step (program_of p.now) (event_of e.now) (config_of c.old) (config_of c.new)) }
     ensures reached { IsReached (program_of p.now) (config_of c.new) }
+    ensures wide { IsWide (program_of p.now) c.new }
     ensures unchanged { IfOk result
         (λ s. (s ≡ Stepped.Moved → ⊥) → config_of c.new ≡ config_of c.old) }
     ensures err { OnErr result (config_of c.new ≡ config_of c.old) }

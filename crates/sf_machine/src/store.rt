@@ -18,8 +18,9 @@ impl Store {
     ghost use Rattle.std.specs.Prelude.{◌≡◌, None, Some, true, cond, is_some, unwrap_or, OnOk, OnErr};
     ghost use Rattle.sf_base.specs.declared.value.Value.TheVariants.{Nil as nil};
     ghost use Rattle.sf_base.specs.HeapStore.{Slot, same_slot};
-    ghost use Rattle.sf_machine.specs.Checked.Spots.{slot_of, SlotFits};
-    ghost use Rattle.sf_machine.specs.Checked.Stores.{store_of};
+    ghost use Rattle.sf_machine.specs.Checked.Spots.{SlotFits};
+    ghost use Rattle.sf_machine.specs.Spots.{slot_of};
+    ghost use Rattle.sf_machine.specs.Stores.{store_of};
 
     /// No variables.
     pub(crate) fn new(alloc: Global) -> Store

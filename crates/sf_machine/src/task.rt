@@ -3,7 +3,8 @@
 ghost use Rattle.std.specs.Prelude.{◌≡◌, ◌↔◌, ◌+◌, ◌≤◌, [], ◌∷◌, Some, None, IsTrue, OnOk, vec_len, vec_capacity};
 ghost use Rattle.std.specs.Option.{option_map};
 ghost use Rattle.sf_core.specs.Machine.Config.{task_at, runs, IsOver};
-ghost use Rattle.sf_machine.specs.Checked.Tasks.{task_of, frame_of, frames_of, after, moved, at_path, HasTodoRoom, HasRoom};
+ghost use Rattle.sf_machine.specs.Tasks.{task_of, frame_of, frames_of};
+ghost use Rattle.sf_machine.specs.Checked.Tasks.{after, moved, at_path, HasTodoRoom, HasRoom};
 
 use crate::frame::{Frame, GoOn};
 use sf_base::Turn;

@@ -3,8 +3,8 @@
 ghost use Rattle.std.specs.Prelude.{◌≡◌, ◌↔◌, IsTrue, IfOk, map};
 ghost use Rattle.sf_core.specs.Assertions.Sat.{IsTrueOf};
 ghost use Rattle.sf_core.specs.Machine.Config.{evaluate};
-ghost use Rattle.sf_machine.specs.Checked.Stores.{store_of};
-ghost use Rattle.sf_machine.specs.Checked.Tasks.{fixed_of};
+ghost use Rattle.sf_machine.specs.Stores.{store_of};
+ghost use Rattle.sf_machine.specs.Tasks.{fixed_of};
 
 use crate::frame::Frame;
 use crate::store::Store;

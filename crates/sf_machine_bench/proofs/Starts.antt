@@ -20,12 +20,12 @@ use Rattle.sf_core.specs.declared.command.Expr.{Expr}
 use Rattle.sf_core.specs.Assertions.Occurs.{VarOccursIn}
 use Rattle.sf_core.specs.Assertions.Sat.{Sat, value}
 use Rattle.sf_core.specs.Machine.Config.{evaluate}
-use Rattle.sf_core.specs.Machine.HeldBy.{HeldBy}
+use Rattle.sf_core.specs.Machine.HasThroughout.{HasThroughout}
 use Rattle.sf_core.specs.Machine.Start.{entry_slot, initial_config, Invariants, IsKept}
 use Rattle.sf_core.specs.Program.Syntax.{Assertion, Level, level, none, also, Procedure, Program, Resource}
 use Rattle.sf_foot.specs.declared.vars.Vars.{Vars}
 use Rattle.sf_foot.specs.Footprint.{IsFootprint}
-use Rattle.sf_foot.specs.Starting.{IsDisjointUnion, IsFirstUnit, IsMentioned, StartsWith, store_of}
+use Rattle.sf_foot.specs.Starting.{HasWidth, IsDisjointUnion, IsFirstUnit, IsMentioned, StartsWith, store_of}
 use Rattle.sf_foot.specs.Variables.{value_of, values_or_none}
 use Rattle.sf_heap.specs.Cells.{Cells, cell_of, heap_of}
 use Rattle.sf_machine_bench.specs.Plain.{HasNone, IsPlain}
@@ -69,7 +69,7 @@ plain_occurs (level made (also c cs)) x h o = h
 
 -- no resource counts as held
 plain_holds : (p : Program) (f : ProcId) (g : Procedure) → slice_get p.procedures f.0 ≡ Some g → IsPlain p g
-    → (r : ResId) → HeldBy p f r → ⊥
+    → (r : ResId) → HasThroughout p f r → ⊥
 plain_holds p f g there plain r held =
     let same : held.procedure ≡ g = some-once (slice_get p.procedures f.0) held.procedure g held.there there in
     let x = shared_variable r held.variable in
@@ -167,13 +167,18 @@ plain_none [] ms h n = refl
 plain_none (x ∷ xs) ms h n =
     absurd (contains-nil x (subst (λ z. Contains z x) n ((h x).0 (0, omega arith, refl))))
 
+-- no cell lacks a field
+plain_width : (heap : Cells) (count : ℕ) → heap ≡ empty → HasWidth count heap
+plain_width heap count no_cells location values h =
+    absurd (no_some values (sym h ∙ ap (λ (z : Cells). get z location) no_cells ∙ get-empty nat_cmp location))
+
 -- it starts with nothing, and one part without locations
 plain_part : (p : Program) (f : ProcId) (g : Procedure) (vars : Vars) (heap : Cells) (ls : List ℕ)
     → slice_get p.procedures f.0 ≡ Some g → IsPlain p g → vars.own.items ≡ [] → vars.shared.items ≡ []
     → heap ≡ empty → ls ≡ [] → StartsWith p f vars heap (ls ∷ [])
 plain_part p f g vars heap ls there plain no_own no_shared no_cells no_locations = record {
   procedure = g;
-  config = initial_config f g (store_of g vars) (heap_of heap);
+  config = initial_config p f g (store_of g vars) (heap_of heap);
   there = there;
   parameters = ap (λ (z : List Value). length z) no_own ∙ sym (λ i. plain.references i + plain.values i);
   starts = record {
@@ -192,6 +197,7 @@ plain_part p f g vars heap ls there plain no_own no_shared no_cells no_locations
       second = plain_invariants p.resources (store_of g vars) (heap_of heap) plain.resources nothing;
     };
   };
+  width = plain_width heap (length p.fields) no_cells;
   footprints = subst (λ (rs : List Resource). AllZip
       (λ (a : Assertion) (at : List ℕ). IsFootprint a.level (value_of vars) (heap_of heap) at)
       (g.pre ∷ map (λ (r : Resource). r.invariant) rs) (ls ∷ [])) (sym plain.resources)

@@ -2,7 +2,7 @@
 
 ghost use Rattle.std.specs.Prelude.{◌≡◌, length};
 ghost use Rattle.sf_core.specs.Program.ProgramView.{program_of};
-ghost use Rattle.sf_machine.specs.Configs.{config_of};
+ghost use Rattle.sf_machine.specs.Configs.{config_of, IsWide};
 ghost use Rattle.sf_machine.specs.Reached.{IsReached};
 
 use sf_base::{TaskPath, Turn};
@@ -18,7 +18,8 @@ pub fn run<'p>(
     mut c: Config<'p>,
     count: u64,
 ) -> Result<u64, AllocError>
-    requires { IsReached (program_of p.now) (config_of c) }
+    requires reached { IsReached (program_of p.now) (config_of c) }
+    requires wide { IsWide (program_of p.now) c }
 {
     let mut event = Event {
         task: TaskPath::entry(),
@@ -39,8 +40,10 @@ pub fn run<'p>(
 /// Makes an event of the entry's task, or of one of its children.
 fn goes_on<'p>(p: &'p Program, c: &mut Config<'p>, event: &mut Event) -> Result<bool, AllocError>
     requires reached { IsReached (program_of p.now) (config_of c.old) }
+    requires wide { IsWide (program_of p.now) c.old }
     requires fields { length event.old.fields ≡ length p.now.fields.items }
     ensures reached { IsReached (program_of p.now) (config_of c.new) }
+    ensures wide { IsWide (program_of p.now) c.new }
     ensures fields { event.new.fields ≡ event.old.fields }
 {
     event.task = TaskPath::entry();
@@ -58,8 +61,10 @@ fn goes_on<'p>(p: &'p Program, c: &mut Config<'p>, event: &mut Event) -> Result<
 /// Whether the event is made.
 fn moves<'p>(p: &'p Program, c: &mut Config<'p>, event: &Event) -> Result<bool, AllocError>
     requires reached { IsReached (program_of p.now) (config_of c.old) }
+    requires wide { IsWide (program_of p.now) c.old }
     requires fields { length event.now.fields ≡ length p.now.fields.items }
-    ensures { IsReached (program_of p.now) (config_of c.new) }
+    ensures reached { IsReached (program_of p.now) (config_of c.new) }
+    ensures wide { IsWide (program_of p.now) c.new }
 {
     match step(p, c, event)? {
         Stepped::Moved => Ok(true),

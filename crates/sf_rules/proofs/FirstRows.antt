@@ -18,7 +18,7 @@ use Rattle.sf_sym.specs.declared.term.Term.{Term}
 use Rattle.sf_sym.specs.Goal.{Goal, Item, return, to_run}
 use Rattle.sf_sym.specs.State.{State, term}
 use Rattle.sf_calls.specs.Sets.{AreSetsOf, IsEarlierResource, Sets}
-use Rattle.sf_core.specs.Machine.HeldBy.{HeldBy}
+use Rattle.sf_core.specs.Machine.HasThroughout.{HasThroughout}
 use Rattle.sf_rules.specs.First.{first_goal, first_state_of, state_by, variables_of}
 use Rattle.sf_rules.specs.Setting.{Setting, setting_of}
 use Rattle.sf_rules.specs.Words.{to_add}
@@ -100,7 +100,7 @@ module _ (p : Program) (r : ResId) (rest left : List ResId) (all found : List Va
 
 -- what a procedure holds is there
 pub held_there : (p : Program) (sets : Sets) (f : ProcId) (rs : List ResId) → IsFormed p → AreSetsOf p sets
-    → ((q : Program) → IsFormed q → (g : ProcId) (r : ResId) → HeldBy q g r → r.0 < length q.resources)
+    → ((q : Program) → IsFormed q → (g : ProcId) (r : ResId) → HasThroughout q g r → r.0 < length q.resources)
     → slice_get sets.holds f.0 ≡ Some rs → All (λ r. r.0 < length p.resources) rs
 held_there p sets f rs formed own law at k d below =
     law p formed f (get_or rs k d)

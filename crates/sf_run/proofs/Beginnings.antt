@@ -14,7 +14,7 @@ use Rattle.sf_foot.specs.declared.vars.Vars.{Vars}
 use Rattle.sf_foot.specs.Starting.{IsFreshFrom, StartsWith, store_of}
 use Rattle.sf_heap.specs.Cells.{Cells, cell_of, heap_of}
 use Rattle.sf_machine.specs.Beginning.{Begins}
-use Rattle.sf_run.specs.Lone.{IsBase}
+use Rattle.sf_run.specs.Checked.Lone.{IsBase}
 
 -- no cell is where no location is mentioned
 fresh-none : (vars : Vars) (heap : Cells) (unit : ℕ) → IsFreshFrom vars heap unit → (k : ℕ) → unit ≤ k
@@ -34,9 +34,9 @@ module _ (p : Program) (f : ProcId) (vars : Vars) (heap : Cells) (parts : List (
   starting = some-once (procedure_at p f) s.procedure (s.starts).procedure s.there (s.starts).there
 
   -- its configuration is where the procedure begins
-  config-is : s.config ≡ initial_config f s.procedure (store_of s.procedure vars) (heap_of heap)
+  config-is : s.config ≡ initial_config p f s.procedure (store_of s.procedure vars) (heap_of heap)
   config-is = (s.starts).is
-      ∙ ap (λ (g : Procedure). initial_config f g (store_of s.procedure vars) (heap_of heap)) (sym starting)
+      ∙ ap (λ (g : Procedure). initial_config p f g (store_of s.procedure vars) (heap_of heap)) (sym starting)
 
   pub begin-start : Begins p f vars heap s.config
   begin-start = record { procedure = s.procedure; there = s.there; is = config-is }
@@ -46,7 +46,7 @@ module _ (p : Program) (f : ProcId) (vars : Vars) (heap : Cells) (parts : List (
   begin-one c b =
       let same : b.procedure ≡ s.procedure =
       some-once (procedure_at p f) b.procedure s.procedure b.there s.there in
-      b.is ∙ ap (λ (g : Procedure). initial_config f g (store_of g vars) (heap_of heap)) same ∙ sym config-is
+      b.is ∙ ap (λ (g : Procedure). initial_config p f g (store_of g vars) (heap_of heap)) same ∙ sym config-is
 
   -- so where it begins is a start
   pub begin-starts : (c : Config) → Begins p f vars heap c → Start p f (store_of s.procedure vars) (heap_of heap) c

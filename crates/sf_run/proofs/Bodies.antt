@@ -9,7 +9,7 @@ use Rattle.sf_base.specs.declared.ids.ResId.{ResId}
 use Rattle.sf_core.specs.Machine.Config.{Item, items}
 use Rattle.sf_core.specs.Program.Heads.{Site, sites, inner_sites}
 use Rattle.sf_core.specs.Program.Syntax.{Command, Block, done, then}
-use Rattle.sf_run.specs.Lone.{inside, IsOfBody}
+use Rattle.sf_run.specs.Checked.Lone.{inside, IsOfBody}
 
 -- a command is at its site, and so is what is inside it
 pub site-here : (around : List ResId) (c : Command)

@@ -18,7 +18,7 @@ use Rattle.sf_core.specs.Program.Heads.{sites}
 use Rattle.sf_core.specs.Program.Syntax.{Call, Command, assign, look_up, mutate, new, dispose, if, while, call, fork, with, Block, Procedure, Program}
 use Rattle.sf_calls.specs.Conditions.{Calls}
 use Rattle.sf_calls.specs.Reaches.{directly, through}
-use Rattle.sf_run.specs.Lone.{inside, IsOfBody, IsLoneFrame, IsLone}
+use Rattle.sf_run.specs.Checked.Lone.{inside, IsOfBody, IsLoneFrame, IsLone}
 use Rattle.sf_run.specs.Sequential.{IsSequential}
 use Rattle.sf_run.proofs.Bodies.{site-here, site-inner, block-of_body, whole-of_body}
 

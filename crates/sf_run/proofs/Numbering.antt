@@ -20,7 +20,7 @@ use Rattle.sf_core.specs.Machine.Supplies.{Supply, has, units, CommandTakes, Nex
 use Rattle.sf_core.specs.Program.Syntax.{Command, assign, look_up, mutate, new, dispose, if, while, call, fork, with, Procedure, Program}
 use Rattle.sf_run.specs.Checked.Searches.{IsFork}
 use Rattle.sf_run.specs.Checked.Laws.{IsNumberedEnd}
-use Rattle.sf_run.specs.Lone.{inside, IsOfBody, IsLoneFrame, IsLone}
+use Rattle.sf_run.specs.Checked.Lone.{inside, IsOfBody, IsLoneFrame, IsLone}
 use Rattle.sf_run.specs.Sequential.{IsSequential}
 use Rattle.sf_run.proofs.Bodies.{site-here}
 use Rattle.sf_run.proofs.Lone.{step-lone, step-of_lone}

@@ -9,7 +9,7 @@ use Rattle.sf_core.specs.Machine.Bad.{TouchesNoCell, IsAtNoCell}
 use Rattle.sf_core.specs.Machine.Config.{Item, command, leave, Fixed, Frame, runs, Config, evaluate}
 use Rattle.sf_core.specs.Machine.Enabled.{cell, HasEnded, IsShut, IsBlocked, IsEnabled}
 use Rattle.sf_core.specs.Machine.Good.{Good}
-use Rattle.sf_core.specs.Machine.InOrder.{IsInOrder}
+use Rattle.sf_core.specs.Checked.Machine.InOrder.{IsInOrder}
 use Rattle.sf_core.specs.Checked.Machine.Laws.{CommandMakes, Makes, CommandMayStop, MayStop}
 use Rattle.sf_core.specs.Machine.Next.{Next, does, leaves, returns, joins, nothing, frame_next, next}
 use Rattle.sf_core.specs.Machine.SpentWaits.{IsAtRegion}
@@ -21,7 +21,7 @@ use Rattle.sf_core.proofs.Machine.InOrder.Kept.{step-keeps}
 use Rattle.sf_core.proofs.Machine.InOrder.Met.{task-may_stop}
 use Rattle.sf_core.proofs.Machine.Progress.{enabled-or_stop}
 use Rattle.sf_run.specs.Checked.Laws.{GoesAlone, StaysGood}
-use Rattle.sf_run.specs.Lone.{IsLone, IsFreeFrom}
+use Rattle.sf_run.specs.Checked.Lone.{IsLone, IsFreeFrom}
 use Rattle.sf_run.proofs.Regions.{NeverReenters, IsApart, step-apart, region-free}
 use Rattle.sf_run.proofs.Units.{step-free}
 

@@ -13,7 +13,7 @@ use Rattle.sf_precise.specs.Annotations.{AreOrdersOf, annotations_in}
 use Rattle.sf_precise.specs.declared.arranged.Arranged.{Arranged}
 use Rattle.sf_precise.specs.Checked.Laws.{OrderedIsDetermined, OrdersFromTruncation}
 use Rattle.sf_rules.specs.Setting.{setting_of}
-use Rattle.sf_safe.specs.Law.{IsSound}
+use Rattle.sf_core.specs.Machine.Sound.{IsSound}
 use Rattle.sf_sound.specs.Proofs.{ProofsAreSound}
 use Rattle.sf_sym.specs.declared.tag.Tag.{Tag}
 

@@ -13,7 +13,7 @@ use Rattle.sf_base.specs.HeapStore.{Heap, Store}
 use Rattle.sf_core.specs.declared.assertion.Test.{Test}
 use Rattle.sf_core.specs.declared.command.Expr.{Expr}
 use Rattle.sf_core.specs.Machine.Config.{Item, command, leave, Fixed, Frame, Task, runs, Path, Config, task_at}
-use Rattle.sf_core.specs.Machine.InOrder.{stack_of, exits, regions, IsInOrder}
+use Rattle.sf_core.specs.Checked.Machine.InOrder.{stack_of, exits, regions, IsInOrder}
 use Rattle.sf_core.specs.Machine.Reach.{Reach}
 use Rattle.sf_core.specs.Machine.SpentWaits.{IsAtRegion}
 use Rattle.sf_core.specs.Machine.Start.{Start}
@@ -24,7 +24,7 @@ use Rattle.sf_calls.specs.declared.breach.Breach.TheVariants.{Reentered}
 use Rattle.sf_calls.specs.Breaks.{Breaks}
 use Rattle.sf_calls.specs.Conditions.{Takes}
 use Rattle.sf_calls.specs.Reaches.{directly, through}
-use Rattle.sf_run.specs.Lone.{inside, IsLoneFrame, IsLone}
+use Rattle.sf_run.specs.Checked.Lone.{inside, IsLoneFrame, IsLone}
 use Rattle.sf_run.proofs.Bodies.{site-here}
 use Rattle.sf_run.proofs.Lone.{Shape, at-calls, frames_of, lone-step, after-lone, start-lone}
 use Rattle.sf_run.specs.Sequential.{IsSequential}

@@ -31,12 +31,12 @@ use Rattle.sf_run.specs.Checked.Turns.{GoesOn, Halts, HaltsAtLast, IsAlone, IsBl
 use Rattle.sf_run.specs.declared.running.Halt.{Halt}
 use Rattle.sf_run.specs.declared.running.Halt.TheVariants.{Ended, Waiting as Waits}
 use Rattle.sf_run.specs.Checked.Laws.{LoneTasksProgress}
-use Rattle.sf_run.specs.Lone.{IsFreeFrom}
+use Rattle.sf_run.specs.Checked.Lone.{IsFreeFrom}
 use Rattle.sf_run.specs.Sequential.{IsSequential}
 use Rattle.sf_run.proofs.Beginnings.{begin-base, begin-one}
 use Rattle.sf_run.proofs.Closing.{lone_tasks_progress}
 use Rattle.sf_run.proofs.Units.{start-free, step-free}
-use Rattle.sf_safe.specs.Law.{IsSound}
+use Rattle.sf_core.specs.Machine.Sound.{IsSound}
 
 -- a blank event with a unit as its number and as its location is the one of the lone task
 pub event-turn : (fields : ℕ) (e : CodeEvent) → IsBlank fields e.task e.fields → e.at ≡ e.number

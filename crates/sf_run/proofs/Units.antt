@@ -13,7 +13,7 @@ use Rattle.sf_core.specs.Machine.Start.{Start}
 use Rattle.sf_core.specs.Machine.Step.{Event, set_cell, Does, Goes, Step}
 use Rattle.sf_core.specs.Program.Syntax.{Command, assign, look_up, mutate, new, dispose, if, while, call, fork, with, Program}
 use Rattle.sf_core.proofs.Machine.Runs.{adds-other}
-use Rattle.sf_run.specs.Lone.{IsFreeFrom, IsBase}
+use Rattle.sf_run.specs.Checked.Lone.{IsFreeFrom, IsBase}
 
 -- a cell that is written elsewhere leaves a location absent
 cell-free : (location k : ℕ) (o : _) (s : Common) → k ≢ location → s.heap k ≡ None

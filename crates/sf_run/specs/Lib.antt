@@ -1,4 +1,3 @@
 pub mod Sequential
-pub mod Lone
 pub mod Running
 pub mod Checked

@@ -7,11 +7,11 @@ ghost use Rattle.sf_core.specs.Machine.Alone.{AloneFrom};
 ghost use Rattle.sf_core.specs.Machine.Supplies.{units};
 ghost use Rattle.sf_core.specs.Program.ProgramView.{program_of};
 ghost use Rattle.sf_foot.specs.Starting.{StartsWith};
-ghost use Rattle.sf_machine.specs.Configs.{config_of};
+ghost use Rattle.sf_machine.specs.Configs.{config_of, IsWide};
 ghost use Rattle.sf_run.specs.Checked.Turns.{GoesOn, Halts, HaltsAtLast, IsAlone, IsBlank, outcome_of};
 ghost use Rattle.sf_run.specs.Running.{EndsWith, Stops, program_in};
 ghost use Rattle.sf_run.specs.Sequential.{IsSequential};
-ghost use Rattle.sf_safe.specs.Law.{IsSound};
+ghost use Rattle.sf_core.specs.Machine.Sound.{IsSound};
 
 use crate::stop::{Budget, Stop};
 use sf_base::{ProcId, ResId, TaskPath};
@@ -125,8 +125,10 @@ fn run_alone<'p>(
     count: u64,
 ) -> Result<Halt, AllocError>
     requires alone { IsAlone (program_of p.now) first (config_of c.old) }
+    requires wide { IsWide (program_of p.now) c.old }
     requires room { first + count < 2 ^ 64 }
-    ensures { IfOk result (λ halt.
+    ensures wide { IsWide (program_of p.now) c.new }
+    ensures comes { IfOk result (λ halt.
         AloneFrom (program_of p.now) (config_of c.old) (units first count)
         (outcome_of halt (config_of c.new))) }
 {
@@ -170,6 +172,8 @@ fn turn<'p>(p: &'p Program, c: &mut Config<'p>, e: &Event) -> Result<Option<Halt
     requires alone { IsAlone (program_of p.now) e.now.number (config_of c.old) }
     requires blank { IsBlank (length p.now.fields.items) e.now.task e.now.fields }
     requires cell { e.now.at ≡ e.now.number }
+    requires wide { IsWide (program_of p.now) c.old }
+    ensures wide { IsWide (program_of p.now) c.new }
     ensures halts { IfOk result (λ halt. IfSome halt
         (Halts (program_of p.now) e.now.number (config_of c.old) (config_of c.new))) }
     ensures moves { IfOk result (λ halt. halt ≡ None

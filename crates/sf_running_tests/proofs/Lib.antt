@@ -5,3 +5,4 @@ pub mod NamesBehind
 pub mod NamesInTrees
 pub mod NamesOfPrograms
 pub mod NamesOfTokens
+pub mod Finishes

@@ -1,7 +1,7 @@
 //! Laws that join reading files with writing states. Each function only cites other laws; its
 //! contract is the law.
 
-ghost use Rattle.sf_running_tests.specs.Checked.Laws.{ProgramsThatAreReadHaveNames, WrittenStatesOfFilesReadBack};
+ghost use Rattle.sf_running_tests.specs.Checked.Laws.{FinishesOfFilesReadBack, ProgramsThatAreReadHaveNames, WrittenStatesOfFilesReadBack};
 
 use sf_elab::laws::{elaborated_is_formed, names_are_unique};
 use sf_lex::laws::each_token_is_its_text;
@@ -24,4 +24,12 @@ pub fn written_states_of_files_read_back()
     programs_that_are_read_have_names();
     elaborated_is_formed();
     written_states_read_back();
+}
+
+/// So what a run of such a program ends with is read back from its text, where values, locations,
+/// the number of cells and the text are within the limits.
+pub fn finishes_of_files_read_back()
+    ensures { FinishesOfFilesReadBack }
+{
+    written_states_of_files_read_back();
 }

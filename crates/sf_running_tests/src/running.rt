@@ -2,7 +2,7 @@
 
 ghost use Rattle.std.specs.Prelude.{IfSome};
 ghost use Rattle.sf_core.specs.Program.ProgramView.{program_of};
-ghost use Rattle.sf_machine.specs.Configs.{config_of};
+ghost use Rattle.sf_machine.specs.Configs.{config_of, IsWide};
 ghost use Rattle.sf_machine.specs.Reached.{IsReached};
 
 use crate::files::{fitted, start_of};
@@ -18,7 +18,8 @@ use std::test::Fail;
 
 /// The configuration in which the procedure of that name starts with what the text gives.
 fn start<'p>(alloc: Global, p: &'p Arranged, name: &str, text: &[u8]) -> Option<Config<'p>>
-    ensures { IfSome result (λ c. IsReached (program_of p.now.program) (config_of c)) }
+    ensures reached { IfSome result (λ c. IsReached (program_of p.now.program) (config_of c)) }
+    ensures wide { IfSome result (IsWide (program_of p.now.program)) }
 {
     match start_of(alloc, p, name, text) {
         Some(entered) => begin(alloc, &p.program, entered.f, entered.start).ok(),
@@ -35,8 +36,10 @@ fn step_at<'p>(
     task: TaskPath,
     number: u64,
 ) -> Result<Stepped, AllocError>
-    requires { IsReached (program_of p.now) (config_of c.old) }
-    ensures { IsReached (program_of p.now) (config_of c.new) }
+    requires reached { IsReached (program_of p.now) (config_of c.old) }
+    requires wide { IsWide (program_of p.now) c.old }
+    ensures reached { IsReached (program_of p.now) (config_of c.new) }
+    ensures wide { IsWide (program_of p.now) c.new }
 {
     let fields = Cell::new(alloc, p.fields.len())?;
     let event = Event {
@@ -58,8 +61,10 @@ fn goes<'p>(
     c: &mut Config<'p>,
     row: Row<'_>,
 ) -> Result<bool, AllocError>
-    requires { IsReached (program_of p.now) (config_of c.old) }
-    ensures { IsReached (program_of p.now) (config_of c.new) }
+    requires reached { IsReached (program_of p.now) (config_of c.old) }
+    requires wide { IsWide (program_of p.now) c.old }
+    ensures reached { IsReached (program_of p.now) (config_of c.new) }
+    ensures wide { IsWide (program_of p.now) c.new }
 {
     let (number, reads, writes) = row;
     let found = accesses(p, c, TaskPath::entry())?;
@@ -75,8 +80,10 @@ fn first_other<'p>(
     c: &mut Config<'p>,
     rows: &[Row<'_>],
 ) -> Result<Option<u64>, AllocError>
-    requires { IsReached (program_of p.now) (config_of c.old) }
-    ensures { IsReached (program_of p.now) (config_of c.new) }
+    requires reached { IsReached (program_of p.now) (config_of c.old) }
+    requires wide { IsWide (program_of p.now) c.old }
+    ensures reached { IsReached (program_of p.now) (config_of c.new) }
+    ensures wide { IsWide (program_of p.now) c.new }
 {
     for row in rows {
         if !goes(alloc, p, c, *row)? {
@@ -96,8 +103,10 @@ fn first_refused<'p>(
     c: &mut Config<'p>,
     events: &[Move],
 ) -> Result<Option<u64>, AllocError>
-    requires { IsReached (program_of p.now) (config_of c.old) }
-    ensures { IsReached (program_of p.now) (config_of c.new) }
+    requires reached { IsReached (program_of p.now) (config_of c.old) }
+    requires wide { IsWide (program_of p.now) c.old }
+    ensures reached { IsReached (program_of p.now) (config_of c.new) }
+    ensures wide { IsWide (program_of p.now) c.new }
 {
     for event in events {
         let (task, number) = *event;
@@ -114,8 +123,10 @@ fn forked<'p>(
     p: &'p Program,
     c: &mut Config<'p>,
 ) -> Result<Option<TaskPath>, AllocError>
-    requires { IsReached (program_of p.now) (config_of c.old) }
-    ensures { IsReached (program_of p.now) (config_of c.new) }
+    requires reached { IsReached (program_of p.now) (config_of c.old) }
+    requires wide { IsWide (program_of p.now) c.old }
+    ensures reached { IsReached (program_of p.now) (config_of c.new) }
+    ensures wide { IsWide (program_of p.now) c.new }
 {
     let mut task = TaskPath::entry();
     for number in 1..64 {

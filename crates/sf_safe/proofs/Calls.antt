@@ -14,7 +14,7 @@ use Rattle.sf_safe.specs.Checked.Own.{Own, Parts, HasSlot, everything, new_slots
 use Rattle.sf_safe.specs.Checked.Contract.{Known, Ended, OwnsVariables, Returned}
 use Rattle.sf_safe.specs.Checked.Safe.{Safe, callee}
 use Rattle.sf_safe.specs.Checked.Invariant.{known, Callers, Running, Tree, Resources}
-use Rattle.sf_safe.specs.Law.{BodiesAreSafe}
+use Rattle.sf_safe.specs.Checked.Law.{BodiesAreSafe}
 use Rattle.sf_safe.proofs.Events.{After}
 use Rattle.sf_safe.proofs.Owns.{Sums, front, group, opened, order, parts-comm, parts-of_nothing, parts-open_room, parts-without_room, two}
 use Rattle.sf_safe.proofs.Seen.{seen-arguments}

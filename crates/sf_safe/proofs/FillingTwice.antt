@@ -34,7 +34,7 @@ use Rattle.sf_core.specs.declared.command.Occurrence.{Occurrence}
 use Rattle.sf_core.proofs.Assertions.Scopes.{below-single, disjoint-single}
 use Rattle.sf_core.specs.Machine.Config.{command, evaluate, in_room, items, leave}
 use Rattle.sf_core.specs.Checked.Machine.Examples.{at_shared, calls, emp, guarding, hd, here, lock, shared_one}
-use Rattle.sf_core.specs.Machine.HeldBy.{HeldBy}
+use Rattle.sf_core.specs.Machine.HasThroughout.{HasThroughout}
 use Rattle.sf_core.specs.Machine.Start.{entry_slot}
 use Rattle.sf_core.specs.Machine.Step.{arguments, index_of, room_for}
 use Rattle.sf_core.specs.Program.Heads.{Site, call_occurrences, sites}
@@ -43,7 +43,7 @@ use Rattle.sf_core.specs.Program.Syntax.{Call, Command, done, fork, mutate, then
 use Rattle.sf_safe.specs.Checked.Own.{Own, Parts, new_slots, nothing, put_cell, without_room}
 use Rattle.sf_safe.specs.Checked.Contract.{Ended, Entered, FreeShare, IsVariableOf, Known, OwnsVariables, Returned, see}
 use Rattle.sf_safe.specs.Checked.Examples.{FillingTwiceIsSound, fills, filling_twice, twice}
-use Rattle.sf_safe.specs.Law.{BodiesAreSafe, SafeProgramsAreSound}
+use Rattle.sf_safe.specs.Checked.Law.{BodiesAreSafe, SafeProgramsAreSound}
 use Rattle.sf_safe.specs.Checked.Safe.{Enters, Forks, Safe, callee}
 use Rattle.sf_safe.proofs.Owns.{own-same, parts-comm, parts-nothing, parts-of_nothing, parts-put_cell}
 use Rattle.sf_safe.proofs.Sound.{safe_programs_are_sound}
@@ -185,7 +185,7 @@ free-none f (Shared r i) (shared_, m) = go f m
     go f (through g c m) = go g m
 
 -- no contract holds a resource
-held-none : (f : ProcId) (r : ResId) → HeldBy filling_twice f r → ⊥
+held-none : (f : ProcId) (r : ResId) → HasThroughout filling_twice f r → ⊥
 held-none f r h = elim (which f.0 h.procedure h.there) [
   | inl e ↦ go twice (λ x o. emp-none x o) (λ x o. emp-none x o) e
   | inr e ↦ go fills (λ x o. emp-none x o) (λ x o. emp-none x o) e
@@ -333,7 +333,7 @@ entered-nothing k w e =
 ended-nothing : (k : Known) (w : Own) → Ended filling_twice k w → w ≡ nothing
 ended-nothing k w e =
     let c = contract k.fixed.procedure.0 e.procedure e.owns.frame.there in
-    let post = subst (λ z. Sat z.level (see k w) (λ n. nil) w.cells) c.2 e.post in
+    let post = subst (λ z. Sat z.level (see k w) (λ n. nil) w.cells) c.2 (star-drop_right e.posts) in
     owns-nothing k e.procedure w c.0 e.owns post.2
 
 -- what a frame may begin with it may end with
@@ -343,7 +343,7 @@ entered-ended k w e =
     record {
       procedure = e.procedure;
       owns = e.owns;
-      post = subst (λ z. Sat z.level (see k w) (λ n. nil) w.cells) (c.1 ∙ sym c.2) e.pre;
+      posts = star-empty_right (subst (λ z. Sat z.level (see k w) (λ n. nil) w.cells) (c.1 ∙ sym c.2) e.pre);
     }
 
 cond-none : (b : Bool) → cond {A = Option Value} b None None ≡ None

@@ -11,7 +11,7 @@ use Rattle.sf_safe.specs.Checked.Own.{Own, Parts, everything, new_slots, nothing
 use Rattle.sf_safe.specs.Checked.Safe.{Safe, callee}
 use Rattle.sf_safe.specs.Checked.Contract.{Known}
 use Rattle.sf_safe.specs.Checked.Invariant.{known, Running, Tree, Resources}
-use Rattle.sf_safe.specs.Law.{BodiesAreSafe}
+use Rattle.sf_safe.specs.Checked.Law.{BodiesAreSafe}
 use Rattle.sf_safe.proofs.Events.{After}
 use Rattle.sf_safe.proofs.Owns.{Sums, front, opened, order, parts-comm, parts-nothing, parts-open_room, two}
 use Rattle.sf_safe.proofs.Seen.{seen-arguments}

@@ -14,6 +14,7 @@ use Rattle.sf_base.specs.declared.value.Value.TheVariants.{Nil as nil}
 use Rattle.sf_base.specs.HeapStore as heaps
 use Rattle.sf_base.specs.HeapStore.{Heap, IsEmpty, Slot, Splits}
 use Rattle.sf_base.proofs.MapSplits.{empty-holds, splits-assoc_right, splits-comm, splits-cross, splits-empty_right, splits-has_left}
+use Rattle.sf_base.proofs.HeapSplits.{star-map_left}
 use Rattle.sf_base.proofs.StoreSplits.{resource-same}
 use Rattle.sf_calls.specs.Reaches.{directly}
 use Rattle.sf_calls.specs.Checked.Lemmas.Within.{level_within}
@@ -58,17 +59,16 @@ post-variable p formed f g there (OwnVar i) o =
     let m : g.references + g.values + g.locals ≤ length g.names = within.declared in
     omega (arith, l, m)
 
--- the postcondition of a frame that ends holds of its share
-sat-ended : (p : Program) → IsFormed p → (k : Known) (all w r : Own) (g : Procedure) → Parts all w r
-    → Ended p k w
-    → procedure_at p k.fixed.procedure ≡ Some g
-    → Sat g.post.level (evaluate k.fixed.slots all.slots) (λ n. nil) w.cells
-sat-ended p formed k all w r g q e there =
-    let same : e.procedure ≡ g = same_Some e.procedure g (sym e.owns.frame.there ∙ there) in
-    subst (λ z. Sat z.post.level (evaluate k.fixed.slots all.slots) (λ n. nil) w.cells) same
-    (sat-everywhere e.procedure.post.level k.fixed.slots all w r w.cells q
-    (λ x o. e.owns.variables.each x
-    (post-variable p formed k.fixed.procedure e.procedure e.owns.frame.there x o)) e.post)
+-- what the return of a frame that ends owes holds of its share
+sat-ended : (p : Program) → IsFormed p → (k : Known) (all w r : Own) → Parts all w r → Ended p k w
+    → FramePart p all.slots k.fixed [] w.cells
+sat-ended p formed k all w r q e = (
+  e.procedure,
+  e.owns.frame.there,
+  star-map_left (λ part s. sat-everywhere e.procedure.post.level k.fixed.slots all w r part q
+      (λ x o. e.owns.variables.each x
+      (post-variable p formed k.fixed.procedure e.procedure e.owns.frame.there x o)) s) e.posts,
+)
 
 -- the invariant of a free resource holds of its share
 sat-free : (p : Program) → IsFormed p → (r : ResId) (all w rest : Own) (q : Resource) → Parts all w rest
@@ -136,7 +136,7 @@ module _ (p : Program) (formed : IsFormed p) where
     left = w.cells;
     right = u;
     splits = j;
-    first = λ g there. sat-ended p formed k (everything p s) w r g q a there;
+    first = sat-ended p formed k (everything p s) w r q a;
     second = tt;
   }
   frame-part n k (i ∷ rest) s w r q a h u j = nowhere (FramePart p s.store k.fixed (i ∷ rest)) h empty-holds
@@ -250,7 +250,7 @@ module _ (p : Program) (formed : IsFormed p) where
   parts-end n c w r q a =
       subst (λ z. TaskParts p c.common.store z w.cells) (sym a.is)
       (subst (λ z. FramePart p c.common.store a.frame.fixed z w.cells) (sym a.done)
-      (λ g there. sat-ended p formed (known a.frame a.values) (everything p c.common) w r g q a.ended there))
+      (sat-ended p formed (known a.frame a.values) (everything p c.common) w r q a.ended))
 
   parts-rest : (n : ℕ) (o : Known) (c : Config) (s : IsOwned p (suc n) o c)
       → (heaps.◌⋆◌ (TaskParts p c.common.store c.tasks) (RestPart c)) s.tasks.cells

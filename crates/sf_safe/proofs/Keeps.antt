@@ -16,7 +16,7 @@ use Rattle.sf_safe.specs.Checked.Own.{Own, Parts, everything}
 use Rattle.sf_safe.specs.Checked.Contract.{Known}
 use Rattle.sf_safe.specs.Checked.Safe.{Safe}
 use Rattle.sf_safe.specs.Checked.Invariant.{known, Tree, Resources, HasFrame, IsMadeBefore, IsOwned}
-use Rattle.sf_safe.specs.Law.{BodiesAreSafe}
+use Rattle.sf_safe.specs.Checked.Law.{BodiesAreSafe}
 use Rattle.sf_safe.proofs.Calls.{called, returned}
 use Rattle.sf_safe.proofs.Commands.{assigned, disposed, looked_up, made, mutated, tested, Moved}
 use Rattle.sf_safe.proofs.Events.{After, alone}

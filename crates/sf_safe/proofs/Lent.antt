@@ -13,6 +13,7 @@ use Rattle.sf_base.specs.declared.ids.Var.{Var}
 use Rattle.sf_base.specs.declared.ids.Var.TheVariants.{Own as OwnVar, Shared}
 use Rattle.sf_base.specs.declared.value.Value.{Value}
 use Rattle.sf_base.specs.declared.value.Value.TheVariants.{Nil as nil}
+use Rattle.sf_base.proofs.HeapSplits.{star-drop_right}
 use Rattle.sf_base.specs.HeapStore.{Slot, own, shared}
 use Rattle.sf_base.proofs.MapSplits.{empty-holds, splits-lacks_whole, splits-of_empty_right, splits-has_left, splits-has_right, splits-lacks_right, splits-which}
 use Rattle.sf_calls.specs.Assigned.{MayChange}
@@ -545,5 +546,5 @@ module _ (p : Program) (formed : IsFormed p) (k : Known) (w : Own)
             (sat-same_variables g.post.level (λ x. unwrap_or (full.slots (mine_slots x)) nil)
             (callee_value (value_in back_view) c args) (λ n. nil) full.cells back-value
             (subst (λ (z : Procedure). Sat z.post.level (see begins full) (λ n. nil) full.cells) same-procedure
-            ended.post));
+            (star-drop_right ended.posts)));
       }

@@ -10,12 +10,15 @@ use Rattle.sf_base.specs.declared.ids.Var.{Var}
 use Rattle.sf_base.specs.declared.ids.Var.TheVariants.{Own as OwnVar, Shared}
 use Rattle.sf_base.specs.declared.value.Value.{Value}
 use Rattle.sf_base.specs.declared.value.Value.TheVariants.{Nil as nil, Loc as loc}
+use Rattle.sf_base.proofs.HeapSplits.{star-map_left}
 use Rattle.sf_base.specs.HeapStore.{Slot, put_field, shared}
 use Rattle.sf_base.proofs.MapSplits.{splits-has_left, splits-has_right}
 use Rattle.sf_calls.specs.Checked.Lemmas.Within.{level_within}
 use Rattle.sf_core.specs.declared.command.Expr.{Expr}
 use Rattle.sf_core.specs.Assertions.Sat.{Sat}
 use Rattle.sf_core.specs.Machine.Config.{Item, command, evaluate, items, leave}
+use Rattle.sf_core.specs.Checked.GoodParts.{SatEach}
+use Rattle.sf_core.specs.Machine.Good.{owed_by}
 use Rattle.sf_core.specs.Machine.Start.{entry_slot}
 use Rattle.sf_core.specs.Machine.Step.{procedure_at, room_count}
 use Rattle.sf_core.specs.Program.Formed.{IsFormed, IsOfResource}
@@ -25,7 +28,7 @@ use Rattle.sf_safe.specs.Checked.Own.{HasSlot, Own, put_cell, put_slot}
 use Rattle.sf_safe.specs.Checked.Contract.{Ended, FreeShare, IsFrameOf, IsVariableOf, Known, OwnsVariables, see, value_of}
 use Rattle.sf_safe.specs.Checked.Local.{Begins, ComesBack, Ends, HasVar, IsShare, Lends, Local, LocalParts, look, put_local, put_variable, value_in}
 use Rattle.sf_safe.specs.Checked.LocalSafe.{BodiesAreLocallySafe, HasCell, LocalSafe, LocallySafeProgramsAreSound}
-use Rattle.sf_safe.specs.Law.{BodiesAreSafe, SafeProgramsAreSound}
+use Rattle.sf_safe.specs.Checked.Law.{BodiesAreSafe, SafeProgramsAreSound}
 use Rattle.sf_safe.specs.Checked.Safe.{OwnsCell, Safe}
 use Rattle.sf_safe.proofs.GoodOwned.{post-variable}
 use Rattle.sf_safe.proofs.Lent.{back-seen, back_view, begun-entered, comes-back, pre-variable}
@@ -59,10 +62,10 @@ module _ (p : Program) (formed : IsFormed p) (k : Known) (g : Procedure) (frame 
               (e.owns.variables.each (OwnVar (e.procedure.references + i)) (small e.procedure e.there i a))
               ∙ e.owns.parameters i a;
         };
-        post = subst (Sat e.procedure.post.level (see k w) (λ n. nil)) (sym s.cells)
-            (sat-same_variables e.procedure.post.level (value_in l) (λ x. value_of k w x) (λ n. nil) l.cells
-            (λ x o. sym (value-seen l w s x (e.owns.variables.each x
-            (post-variable p formed k.fixed.procedure e.procedure e.there x o)))) e.post);
+        posts = subst (SatEach (owed_by p e.procedure) (see k w)) (sym s.cells)
+            (star-map_left (λ part t. sat-same_variables e.procedure.post.level (value_in l) (λ x. value_of k w x)
+            (λ n. nil) part (λ x o. sym (value-seen l w s x (e.owns.variables.each x
+            (post-variable p formed k.fixed.procedure e.procedure e.there x o)))) t) e.posts);
       }
     where
       small : (h : Procedure) → procedure_at p k.fixed.procedure ≡ Some h → (i : ℕ) → i < h.values

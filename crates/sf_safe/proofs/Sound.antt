@@ -1,6 +1,6 @@
 -- The law: a start is owned, each event keeps what is owned, and what is owned is good.
 -- Names: the law's.
-use Rattle.sf_safe.specs.Law.{SafeProgramsAreSound}
+use Rattle.sf_safe.specs.Checked.Law.{SafeProgramsAreSound}
 use Rattle.sf_safe.proofs.GoodOwned.{good-owned}
 use Rattle.sf_safe.proofs.Keeps.{reach-owned}
 use Rattle.sf_safe.proofs.Starts.{entry, start-owned}

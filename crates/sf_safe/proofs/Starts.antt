@@ -27,7 +27,7 @@ use Rattle.sf_core.proofs.Assertions.Sat.{sat-same_variables}
 use Rattle.sf_safe.specs.Checked.Own.{Own, Parts, everything, nothing}
 use Rattle.sf_safe.specs.Checked.Contract.{Known, Entered, FreeShare, IsFrameOf, IsVariableOf}
 use Rattle.sf_safe.specs.Checked.Invariant.{IsMadeBefore, IsOwned, Resources}
-use Rattle.sf_safe.specs.Law.{BodiesAreSafe}
+use Rattle.sf_safe.specs.Checked.Law.{BodiesAreSafe}
 use Rattle.sf_safe.proofs.Owns.{own-same, parts-nothing}
 use Rattle.sf_safe.proofs.Unheld.{unheld-is_not_free}
 
@@ -325,7 +325,7 @@ module _ (p : Program) (formed : IsFormed p) (conditions : Conditions p) (f : Pr
       go (Some x) = refl
   start-or (shared r i) = sym (ap (λ b. cond b (store (shared r i)) None) (from-zero r.0))
 
-  start-parts : Parts (everything p (initial_config f g store heap).common) entry_share free_share
+  start-parts : Parts (everything p (initial_config p f g store heap).common) entry_share free_share
   start-parts = record {
     cells = s.pre.splits;
     slots = record { apart = start-slots; is = start-or };
@@ -338,18 +338,18 @@ module _ (p : Program) (formed : IsFormed p) (conditions : Conditions p) (f : Pr
   zero-used : (e : ℕ) → e ≡ 0 → e == 0 ≡ true
   zero-used e i = grind (arith, nat_tests, i)
 
-  start-made : (slot : Slot) → store slot ≢ None → IsMadeBefore (initial_config f g store heap) slot
+  start-made : (slot : Slot) → store slot ≢ None → IsMadeBefore (initial_config p f g store heap) slot
   start-made (shared r i) n = tt
   start-made (own e i) n = go (store (own e i)) refl
     where
-      go : (v : Option Value) → store (own e i) ≡ v → IsMadeBefore (initial_config f g store heap) (own e i)
+      go : (v : Option Value) → store (own e i) ≡ v → IsMadeBefore (initial_config p f g store heap) (own e i)
       go None j = absurd (n j)
       go (Some v) j = zero-used e (s.no_more (own e i) v j).0
 
   zero-plus : (n : ℕ) → n ≡ 0 + n
   zero-plus n = omega arith
 
-  initial-owned : BodiesAreSafe p → (n : ℕ) → IsOwned p n entry (initial_config f g store heap)
+  initial-owned : BodiesAreSafe p → (n : ℕ) → IsOwned p n entry (initial_config p f g store heap)
   initial-owned bodies n = record {
     tasks = entry_share;
     free = free_share;

@@ -11,7 +11,7 @@ use Rattle.sf_base.specs.declared.place.Place.{Place}
 use Rattle.sf_base.proofs.Elements.{contains-nil}
 use Rattle.sf_base.proofs.Members.{contains-flat_map_from}
 use Rattle.sf_core.specs.declared.command.Occurrence.{Occurrence}
-use Rattle.sf_core.specs.Machine.HeldBy.{HeldBy}
+use Rattle.sf_core.specs.Machine.HasThroughout.{HasThroughout}
 use Rattle.sf_core.specs.Program.Formed.{IsFormed}
 use Rattle.sf_core.specs.Program.Heads.{Somewhere, call_occurrences, head_calls, head_occurrences, head_regions, occurrences_at}
 use Rattle.sf_core.specs.Program.Syntax.{Block, Call, Command, with, Procedure, Program}
@@ -54,11 +54,11 @@ module _ (p : Program) (f : ProcId) (r : ResId) (i : ℕ) where
   Broken b = (place : Place) × Somewhere (BreaksAt p f (NotHeld place x)) b
 
   -- what the contract doesn't hold, and no region around enters, isn't held
-  unheld : (HeldBy p f r → ⊥) → (entered : List ResId) → (Contains entered r → ⊥) → IsHeld p f entered r → ⊥
+  unheld : (HasThroughout p f r → ⊥) → (entered : List ResId) → (Contains entered r → ⊥) → IsHeld p f entered r → ⊥
   unheld n entered out (inl h) = n h
   unheld n entered out (inr c) = out c
 
-  block-occurs : (HeldBy p f r → ⊥) → (b : Block) → OccursOutside x b → Broken b
+  block-occurs : (HasThroughout p f r → ⊥) → (b : Block) → OccursOutside x b → Broken b
   block-occurs n b (s, m, (out, a)) =
       let y = among_at x (occurrences_at s.command) a in (
         y.0.place,
@@ -72,7 +72,7 @@ module _ (p : Program) (f : ProcId) (r : ResId) (i : ℕ) where
         ),
       )
 
-  block-calls : (HeldBy p f r → ⊥) → (g : ProcId) → Free p g x → (b : Block) → CallsIn (Some r) g b → Broken b
+  block-calls : (HasThroughout p f r → ⊥) → (g : ProcId) → Free p g x → (b : Block) → CallsIn (Some r) g b → Broken b
   block-calls n g free b (s, m, (out, (d, k, e))) = (
     d.place,
     (
@@ -91,7 +91,7 @@ module _ (p : Program) (f : ProcId) (r : ResId) (i : ℕ) where
 
   -- the condition that a variable is only where its resource is held: then none of a resource that the contract
   -- doesn't mention is free
-  pub unheld-is_not_free : IsFormed p → Conditions p → (HeldBy p f r → ⊥) → Free p f x → ⊥
+  pub unheld-is_not_free : IsFormed p → Conditions p → (HasThroughout p f r → ⊥) → Free p f x → ⊥
   unheld-is_not_free formed conditions n (shared_, m) = go m
     where
       broken : (h : Procedure) → slice_get p.procedures f.0 ≡ Some h → Broken h.body → ⊥

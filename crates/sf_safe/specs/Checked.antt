@@ -3,6 +3,7 @@
 pub mod Contract
 pub mod Examples
 pub mod Invariant
+pub mod Law
 pub mod Lemmas
 pub mod Local
 pub mod LocalSafe

@@ -2,7 +2,7 @@
 //! themselves. Each function is a law: calling it gives its fact to the caller's proof, and does
 //! nothing.
 
-ghost use Rattle.sf_safe.specs.Law.{SafeProgramsAreSound};
+ghost use Rattle.sf_safe.specs.Checked.Law.{SafeProgramsAreSound};
 ghost use Rattle.sf_safe.specs.Checked.LocalSafe.{LocallySafeProgramsAreSound};
 
 /// A program that is formed, meets the conditions on variables, and whose bodies are safe for every

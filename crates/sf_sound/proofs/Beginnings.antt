@@ -10,7 +10,7 @@ use Rattle.std.proofs.lemmas.Bool.{or_left, or_right}
 use Rattle.std.proofs.lemmas.List.Elements.{All-contains, Contains-append_cases}
 use Rattle.std.proofs.lemmas.Option.{slice_get-get_or, slice_get_within}
 use Rattle.sf_base.proofs.Elements.{all_by-append, contains-cons, contains-nil}
-use Rattle.sf_base.proofs.HeapSplits.{star-of}
+use Rattle.sf_base.proofs.HeapSplits.{star-empty_right, star-of}
 use Rattle.sf_base.proofs.Options.{is_some-false}
 use Rattle.sf_base.proofs.MapSplits.{empty-holds, empty_map, splits-empty_left, splits-empty_right}
 use Rattle.sf_base.proofs.Members.{contains-flat_map, contains-flat_map_from}
@@ -34,7 +34,7 @@ use Rattle.sf_core.specs.declared.command.Expr.{Expr}
 use Rattle.sf_core.specs.declared.command.Expr.TheVariants.{Var as Variable, Nil as ENil, Int as EInt}
 use Rattle.sf_core.specs.declared.command.Occurrence.{Occurrence}
 use Rattle.sf_core.specs.Machine.Config.{items}
-use Rattle.sf_core.specs.Machine.HeldBy.{HeldBy}
+use Rattle.sf_core.specs.Machine.HasThroughout.{HasThroughout}
 use Rattle.sf_core.specs.Machine.Step.{procedure_at}
 use Rattle.sf_core.specs.Program.Formed.{BlockWithin, CommandWithin, ExprWithin, IsSettable, variable_count}
 use Rattle.sf_core.specs.Program.Heads.{call_occurrences, head_calls, head_occurrences, head_regions, occurrences_at}
@@ -193,7 +193,7 @@ occurs-at c y k = elim (Contains-append_cases (head_occurrences c) _ y k) [
   | inr h ↦ inr (contains-flat_map_from call_occurrences (head_calls c) y h)
 ]
 
-module _ (d : Setting) (sane : IsSane d) (f : ProcId) (r : ResId) (i : ℕ) (n : HeldBy d.program f r → ⊥) where
+module _ (d : Setting) (sane : IsSane d) (f : ProcId) (r : ResId) (i : ℕ) (n : HasThroughout d.program f r → ⊥) where
   -- what the contract doesn't hold, and no region around enters, isn't held
   unheld : (entered : List ResId) → (Contains entered r → ⊥) → IsHeld d.program f entered r → ⊥
   unheld entered out (inl h) = n h
@@ -427,7 +427,7 @@ module _ (d : Setting) (sane : IsSane d) (f : ProcId) (g : Procedure)
             (kept.same (Own (g.references + i)) (ap (λ z. z (Own (g.references + i))) none) (λ t. unset i h t))
             ∙ b.owns.parameters i h;
       };
-      post = ((annotation-post d sane f g there).means (value_in m) m.cells).1 holds;
+      posts = star-empty_right (((annotation-post d sane f g there).means (value_in m) m.cells).1 holds);
     }
       where
         none : left_variables p (items g.body) ≡ nothing_gone

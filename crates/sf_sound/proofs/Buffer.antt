@@ -27,7 +27,7 @@ use Rattle.sf_core.specs.declared.assertion.Test.TheVariants.{Equal}
 use Rattle.sf_core.specs.declared.command.Expr.TheVariants.{Var as Variable, Int}
 use Rattle.sf_core.specs.declared.command.Occurrence.{Occurrence}
 use Rattle.sf_core.specs.Checked.Machine.Examples.{at_own, emp, here, lock, one_cell, own_one}
-use Rattle.sf_core.specs.Machine.HeldBy.{HeldBy}
+use Rattle.sf_core.specs.Machine.HasThroughout.{HasThroughout}
 use Rattle.sf_core.specs.Program.Formed.{AssertionWithin, CallWithin, ExprWithin, IsFormed, IsInBody, IsOfResource, IsSettable, ProcedureWithin}
 use Rattle.sf_core.specs.Program.Heads.{Site, head_regions, occurrences_at, sites}
 use Rattle.sf_core.specs.Program.Syntax.{also, choose, level, none, points, Assertion, Procedure, Resource}
@@ -332,7 +332,7 @@ module _ (r : ResId) (i : ℕ) where
       put get passes_on (in-all _ _ _ put-contract put-outside) (in-all _ _ _ get-contract get-outside)
       (in-all _ _ _ main-contract main-outside) f.0 h e m
 
-holds-none : (f : ProcId) (r : ResId) → HeldBy buffer f r → ⊥
+holds-none : (f : ProcId) (r : ResId) → HasThroughout buffer f r → ⊥
 holds-none f r h =
     of-three (λ (g : Procedure). VarOccursIn g.pre.level (Shared r h.variable)
     ⊎ VarOccursIn g.post.level (Shared r h.variable) → ⊥)
@@ -354,8 +354,8 @@ are-sets : AreSetsOf buffer own_sets
 are-sets = record {
   takes = set-of_each IsEarlierResource (Takes buffer) 3 (lock ∷ [])
       (λ f l. set-single IsEarlierResource (Takes buffer f) lock (all-take f l) (takes-lock f));
-  holds = set-of_each IsEarlierResource (HeldBy buffer) 3 []
-      (λ f l. set-nothing IsEarlierResource (HeldBy buffer f) (holds-none f));
+  holds = set-of_each IsEarlierResource (HasThroughout buffer) 3 []
+      (λ f l. set-nothing IsEarlierResource (HasThroughout buffer f) (holds-none f));
   free = set-of_each IsEarlier (Free buffer) 3 [] (λ f l. set-nothing IsEarlier (Free buffer f) (free-none f));
 }
 

@@ -24,7 +24,7 @@ use Rattle.sf_core.specs.declared.assertion.Operand.TheVariants.{Known}
 use Rattle.sf_core.specs.declared.command.Expr.{Expr}
 use Rattle.sf_core.specs.declared.command.Expr.TheVariants.{Nil, Var as Variable}
 use Rattle.sf_core.specs.declared.command.Occurrence.{Occurrence}
-use Rattle.sf_core.specs.Machine.HeldBy.{HeldBy}
+use Rattle.sf_core.specs.Machine.HasThroughout.{HasThroughout}
 use Rattle.sf_core.specs.Program.Formed.{AssertionWithin, CallWithin, ExprWithin, FieldsWithin, IsFormed, IsInBody, IsParameter, OperandWithin, ProcedureWithin}
 use Rattle.sf_core.specs.Program.Heads.{Site, head_regions, occurrences_at, sites}
 use Rattle.sf_core.specs.Program.Syntax.{Assertion, Procedure}
@@ -124,7 +124,7 @@ module _ (r : ResId) (i : ℕ) where
       (λ w. elim w [ inl a ↦ both-none a | inr (inl a) ↦ nil_both-none a | inr (inr a) ↦ both-outside a ])
       f.0 h e m
 
-holds-none : (f : ProcId) (r : ResId) → HeldBy pair f r → ⊥
+holds-none : (f : ProcId) (r : ResId) → HasThroughout pair f r → ⊥
 holds-none f r h =
     of-two (λ (g : Procedure). VarOccursIn g.pre.level (Shared r h.variable)
     ⊎ VarOccursIn g.post.level (Shared r h.variable) → ⊥) clears clears_both
@@ -144,8 +144,8 @@ are-sets : AreSetsOf pair empty_sets
 are-sets = record {
   takes = set-of_each IsEarlierResource (Takes pair) 2 []
       (λ f l. set-nothing IsEarlierResource (Takes pair f) (takes-none f));
-  holds = set-of_each IsEarlierResource (HeldBy pair) 2 []
-      (λ f l. set-nothing IsEarlierResource (HeldBy pair f) (holds-none f));
+  holds = set-of_each IsEarlierResource (HasThroughout pair) 2 []
+      (λ f l. set-nothing IsEarlierResource (HasThroughout pair f) (holds-none f));
   free = set-of_each IsEarlier (Free pair) 2 [] (λ f l. set-nothing IsEarlier (Free pair f) (free-none f));
 }
 

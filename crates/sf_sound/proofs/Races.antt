@@ -27,7 +27,7 @@ use Rattle.sf_core.specs.Program.Syntax.{Assertion, Procedure, Program}
 use Rattle.sf_precise.specs.Annotations.{annotations_in}
 use Rattle.sf_rules.specs.Proving.{Proves}
 use Rattle.sf_rules.specs.Setting.{IsSettingOf, Setting}
-use Rattle.sf_safe.specs.Law.{IsSound}
+use Rattle.sf_core.specs.Machine.Sound.{IsSound}
 use Rattle.sf_sound.specs.Checked.ExamplesOfRaces.{RacesAtFork}
 use Rattle.sf_sound.specs.Proofs.{ProofsAreSound}
 use Rattle.sf_sym.specs.declared.tag.Tag.{Tag}

@@ -25,7 +25,7 @@ use Rattle.sf_core.specs.Assertions.Occurs.{VarOccursIn}
 use Rattle.sf_core.specs.declared.command.Occurrence.{Occurrence}
 use Rattle.sf_core.specs.Machine.Enabled.{variable}
 use Rattle.sf_core.specs.Checked.Machine.Examples.{at_own, emp, here, one_in}
-use Rattle.sf_core.specs.Machine.HeldBy.{HeldBy}
+use Rattle.sf_core.specs.Machine.HasThroughout.{HasThroughout}
 use Rattle.sf_core.specs.Machine.Start.{Start, initial_config}
 use Rattle.sf_core.specs.Program.Formed.{CallWithin, ExprWithin, HasCounts, IsFormed, IsInBody, IsSettable, ProcedureWithin}
 use Rattle.sf_core.specs.Program.Heads.{Site, head_regions, occurrences_at, sites}
@@ -128,7 +128,7 @@ enters-none r f (h, e, w) =
     P : Site → Type 0
     P s = Contains (head_regions s.command) r
 
-no-resource : (f : ProcId) (r : ResId) → HeldBy shared_writers f r → ⊥
+no-resource : (f : ProcId) (r : ResId) → HasThroughout shared_writers f r → ⊥
 no-resource f r h =
     of-three (λ (g : Procedure). VarOccursIn g.pre.level (Shared r h.variable)
     ⊎ VarOccursIn g.post.level (Shared r h.variable) → ⊥)
@@ -183,8 +183,8 @@ are-sets : AreSetsOf shared_writers no_sets
 are-sets = record {
   takes = set-of_each IsEarlierResource (Takes shared_writers) 3 []
       (λ f l. set-nothing IsEarlierResource (Takes shared_writers f) (takes-none f));
-  holds = set-of_each IsEarlierResource (HeldBy shared_writers) 3 []
-      (λ f l. set-nothing IsEarlierResource (HeldBy shared_writers f) (no-resource f));
+  holds = set-of_each IsEarlierResource (HasThroughout shared_writers) 3 []
+      (λ f l. set-nothing IsEarlierResource (HasThroughout shared_writers f) (no-resource f));
   free = set-of_each IsEarlier (Free shared_writers) 3 []
       (λ f l. set-nothing IsEarlier (Free shared_writers f) (free-none f));
 }
@@ -218,7 +218,7 @@ module _ (in_order : Assertion → Assertion) (ordering : IsOrdering in_order) w
 
 -- p starts with any value of x and no cell
 p-starts : (v : Value) → Start shared_writers (record { 0 = 2 }) (one_in v) (λ location. None)
-    (initial_config (record { 0 = 2 }) sets_twice (one_in v) (λ location. None))
+    (initial_config shared_writers (record { 0 = 2 }) sets_twice (one_in v) (λ location. None))
 p-starts v = record {
   procedure = sets_twice;
   there = refl;

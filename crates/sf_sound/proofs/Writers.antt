@@ -19,7 +19,7 @@ use Rattle.sf_core.specs.Assertions.Determined.{Determined}
 use Rattle.sf_core.specs.Assertions.Occurs.{VarOccursIn}
 use Rattle.sf_core.specs.Machine.Enabled.{cell}
 use Rattle.sf_core.specs.Checked.Machine.Examples.{emp, one_at, one_cell, one_in, own_one}
-use Rattle.sf_core.specs.Machine.HeldBy.{HeldBy}
+use Rattle.sf_core.specs.Machine.HasThroughout.{HasThroughout}
 use Rattle.sf_core.specs.Machine.Start.{Start, initial_config}
 use Rattle.sf_core.specs.Program.Formed.{CallWithin, ExprWithin, IsFormed, IsInBody, ProcedureWithin}
 use Rattle.sf_core.specs.Program.Syntax.{Assertion, Procedure}
@@ -28,7 +28,7 @@ use Rattle.sf_precise.specs.Checked.Laws.{OrderingExists}
 use Rattle.sf_sound.proofs.SmallPrograms.{cell-determined, cell-no_shared, cell-within, emp-determined, emp-within, of-two}
 use Rattle.sf_sound.proofs.Races.{forks-deep, none-there, one-kept, one-no_more, race-of, race-unsound, sound-by}
 use Rattle.sf_sound.specs.Checked.ExamplesOfRaces.{RacesAtFork, WritersHaveNoProof, write_x, writers, writes, writes_twice}
-use Rattle.sf_safe.specs.Law.{IsSound}
+use Rattle.sf_core.specs.Machine.Sound.{IsSound}
 use Rattle.sf_sound.specs.Proofs.{ProofsAreSound}
 
 -- it is formed
@@ -105,7 +105,7 @@ determined =
     D a = Determined a.level
 
 -- m starts with a cell
-m-holds_none : (r : ResId) → HeldBy writers (record { 0 = 1 }) r → ⊥
+m-holds_none : (r : ResId) → HasThroughout writers (record { 0 = 1 }) r → ⊥
 m-holds_none r h =
     let same : writes_twice ≡ h.procedure = cc (h.there) in
     elim h.occurs [
@@ -116,7 +116,7 @@ m-holds_none r h =
     ]
 
 m-starts : (k : Cell) → Start writers (record { 0 = 1 }) (one_in (loc 1)) (one_at k)
-    (initial_config (record { 0 = 1 }) writes_twice (one_in (loc 1)) (one_at k))
+    (initial_config writers (record { 0 = 1 }) writes_twice (one_in (loc 1)) (one_at k))
 m-starts k = record {
   procedure = writes_twice;
   there = refl;

@@ -10,7 +10,7 @@ use Rattle.sf_core.specs.Program.Syntax.{Assertion}
 use Rattle.sf_precise.specs.Annotations.{annotations_in}
 use Rattle.sf_precise.specs.Order.{IsOrdering}
 use Rattle.sf_rules.specs.Setting.{Setting}
-use Rattle.sf_safe.specs.Law.{IsSound}
+use Rattle.sf_core.specs.Machine.Sound.{IsSound}
 use Rattle.sf_rules.specs.Proving.{Proves}
 use Rattle.sf_sym.specs.declared.tag.Tag.{Tag}
 

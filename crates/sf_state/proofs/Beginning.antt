@@ -26,7 +26,7 @@ use Rattle.sf_core.specs.Program.Syntax.{Assertion, Procedure, Program, Resource
 use Rattle.sf_heap.specs.Cells.{AreAt, Cells, cell_of, heap_of}
 use Rattle.sf_foot.specs.declared.vars.Vars.{Vars}
 use Rattle.sf_foot.specs.Footprint.{IsFootprint}
-use Rattle.sf_foot.specs.Starting.{StartsWith, store_of}
+use Rattle.sf_foot.specs.Starting.{HasWidth, StartsWith, store_of}
 use Rattle.sf_foot.specs.Variables.{value_of, values_or_none}
 use Rattle.sf_state.specs.declared.finding.Found.{Found}
 use Rattle.sf_state.specs.Entering.{HoldsNone}
@@ -146,14 +146,15 @@ begin-all as_found vars heap found at are all taken l =
 -- the procedure starts
 pub begin-starts : (p : Program) (f : ProcId) (g : Procedure) (vars : Vars) (heap : Cells) (parts : List (List ℕ))
     → slice_get p.procedures f.0 ≡ Some g → g.references + g.values ≤ length g.names → HoldsNone p f → Fits p g vars
+    → HasWidth (length p.fields) heap
     → AllZip (λ a ls. IsFootprint a.level (value_of vars) (heap_of heap) ls) (assertions_of p g) parts
     → IsDistinct nat_eq (concat parts) → ((l : ℕ) → contains_key heap l ≡ is_member nat_eq (concat parts) l)
     → StartsWith p f vars heap parts
-begin-starts p f g vars heap parts there enough free fits footprints distinct all =
+begin-starts p f g vars heap parts there enough free fits width footprints distinct all =
     let turns = turns-from_parts (value_of vars) (heap_of heap) (assertions_of p g) parts footprints distinct in
     record {
       procedure = g;
-      config = initial_config f g (store_of g vars) (heap_of heap);
+      config = initial_config p f g (store_of g vars) (heap_of heap);
       there = there;
       parameters = fits.own;
       starts = record {
@@ -166,6 +167,7 @@ begin-starts p f g vars heap parts there enough free fits footprints distinct al
         locals = store-locals p g vars fits;
         pre = begin-pre parts turns (begin-empty heap parts all);
       };
+      width = width;
       footprints = footprints;
       union = (distinct, all);
     }

@@ -22,6 +22,7 @@ use Rattle.sf_foot.specs.Starting.{StartsWith}
 use Rattle.sf_foot.specs.Variables.{value_of}
 use Rattle.sf_lines.specs.Lines.{Text}
 use Rattle.sf_precise.specs.Annotations.{annotations_in}
+use Rattle.sf_precise.specs.Checked.Laws.{DeterminedHasOrder, OrderKeepsMeaning, OrderedIsDetermined}
 use Rattle.sf_state.specs.declared.fault.StartFault.{StartFault}
 use Rattle.sf_state.specs.declared.fault.StartFault.TheVariants as fault
 use Rattle.sf_state.specs.Entering.{HoldsNone}
@@ -30,8 +31,9 @@ use Rattle.sf_state.specs.Names.{names_of}
 use Rattle.sf_state.specs.Stated.{text_refusal}
 use Rattle.sf_state.specs.Starts.{GivesState, HaveFootprints, IsStartFault, IsStartText, IsUnmet, assertion_name, assertions_of, left_over, refused, unmet, without}
 use Rattle.sf_state.proofs.Beginning.{begin-starts}
+use Rattle.sf_state.proofs.FootDecided.{footprint-decided}
 use Rattle.sf_state.proofs.Deciding.{precise-notes}
-use Rattle.sf_state.proofs.StateShape.{state-bounds, state-fits}
+use Rattle.sf_state.proofs.StateShape.{state-bounds, state-fits, state-width}
 use Rattle.sf_state.proofs.Without.{member-decides, without-other}
 use Rattle.sf_state.proofs.StateExists.{state-exists}
 use Rattle.sf_state.proofs.TurnsDecided.{AllDistinct, turns-decided, turns-distinct, turns-left, turns-parts, turns-there}
@@ -46,7 +48,7 @@ module _ (p : Program) (f : ProcId) (g : Procedure) (text : Text) (vars : Vars) 
   start-made ps turns d empty =
       let enough = (formed.procedures f.0 g there).declared in
       begin-starts p f g vars heap ps there (omega (arith, enough)) free
-      (state-fits p g text vars heap (omega (arith, enough)) state)
+      (state-fits p g text vars heap (omega (arith, enough)) state) (state-width p g text vars heap state)
       (turns-parts (value_of vars) (heap_of heap) (assertions_of p g) ps turns)
       (turns-distinct (value_of vars) (heap_of heap) (assertions_of p g) ps turns d)
       (λ l. bool-same (contains_key heap l) (is_member nat_eq (concat ps) l) (to l (is_member nat_eq (concat ps) l) refl)
@@ -93,14 +95,14 @@ module _ (p : Program) (f : ProcId) (g : Procedure) (text : Text) (vars : Vars) 
             inl (t.0, unit.0, record { state = state; starts = start-made t.0 t.1 t.2 empty; first_unit = unit.1 })
       ]
 
-pub start_exists : FootprintIsDecided → StartExists
-unfolding StartExists FootprintIsDecided
-start_exists decided p f g text formed determined there free =
+pub start_exists : DeterminedHasOrder → OrderedIsDetermined → OrderKeepsMeaning → FootprintIsDecided → StartExists
+unfolding StartExists
+start_exists orders ordered keeps decided p f g text formed determined there free =
     go (text_refusal p.fields (names_of p g) text) refl
   where
     tell : (vars : Var → Value) (a : Assertion) → Contains (assertions_of p g) a → (h : Cells)
         → HasFootprintOrNone a.level vars (heap_of h)
-    tell vars a c h = decided a.level vars h
+    tell vars a c h = footprint-decided orders ordered keeps decided a.level vars h
         (All-contains (λ (b : Assertion). Determined b.level) (annotations_in p) a determined (precise-notes p f g a there c))
 
     go : (o : Option StartFault) → text_refusal p.fields (names_of p g) text ≡ o

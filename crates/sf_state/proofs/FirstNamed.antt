@@ -10,7 +10,7 @@ use Rattle.sf_base.specs.declared.ids.ResId.{ResId}
 use Rattle.sf_base.proofs.Decisions.{decides}
 use Rattle.sf_base.proofs.Elements.{contains-cons, contains-nil}
 use Rattle.sf_calls.specs.Sets.{IsResSet}
-use Rattle.sf_core.specs.Machine.HeldBy.{HeldBy}
+use Rattle.sf_core.specs.Machine.HasThroughout.{HasThroughout}
 use Rattle.sf_core.specs.declared.program.Proc.{Proc}
 use Rattle.sf_core.specs.Program.Named.{IsFirstNamed}
 use Rattle.sf_core.specs.Program.Syntax.{Procedure, Program}
@@ -41,14 +41,14 @@ named-once names name j k a b = go (cases_lt j k)
         and (inr g) = omega arith
 
 -- nothing in the set is held
-pub holds-none : (p : Program) (f : ProcId) (xs : List ResId) → IsResSet (HeldBy p f) xs → (length xs == 0) ≡ true
+pub holds-none : (p : Program) (f : ProcId) (xs : List ResId) → IsResSet (HasThroughout p f) xs → (length xs == 0) ≡ true
     → HoldsNone p f
 holds-none p f [] s e = λ r h. contains-nil r ((s.members r).1 h)
 holds-none p f (x ∷ xs) s e = let z : length (x ∷ xs) ≡ 0 = eqb-true (length (x ∷ xs)) 0 e in absurd (omega arith)
 
 -- or something is
-pub holds-one : (p : Program) (f : ProcId) (xs : List ResId) → IsResSet (HeldBy p f) xs → (length xs == 0) ≡ false
-    → (r : ResId) × HeldBy p f r
+pub holds-one : (p : Program) (f : ProcId) (xs : List ResId) → IsResSet (HasThroughout p f) xs → (length xs == 0) ≡ false
+    → (r : ResId) × HasThroughout p f r
 holds-one p f [] s e = absurd cc
 holds-one p f (x ∷ xs) s e = (x, (s.members x).0 ((contains-cons x xs x).1 (inl refl)))
 
@@ -83,7 +83,7 @@ never-both p name f (fault.FreeEntry n) a b =
     let e : b.1.procedure.0 ≡ f.0 =
     named-once (procedure_names p) name b.1.procedure.0 f.0 b.1.named a.named in
     let same : b.1.procedure ≡ f = λ i. record { 0 = e i } in
-    a.free b.1.resource (subst (λ g. HeldBy p g b.1.resource) same b.1.held)
+    a.free b.1.resource (subst (λ g. HasThroughout p g b.1.resource) same b.1.held)
 never-both p name f (fault.BadLine n) a b = b
 never-both p name f (fault.Twice n) a b = b
 never-both p name f (fault.Missing n) a b = b

@@ -13,6 +13,7 @@ pub mod Marks
 pub mod Mentions
 pub mod Placed
 pub mod NextFound
+pub mod FootDecided
 pub mod Beginning
 pub mod Deciding
 pub mod StateShape

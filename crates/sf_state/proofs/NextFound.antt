@@ -21,7 +21,7 @@ use Rattle.sf_base.specs.HeapStore.{Heap}
 use Rattle.sf_base.proofs.Elements.{all_by-append, contains-cons}
 use Rattle.sf_base.proofs.Numbers.{at-is}
 use Rattle.sf_core.specs.Checked.Assertions.Laws.{DeterminedHasOneFootprint}
-use Rattle.sf_core.specs.Assertions.Precise.{IsPrecise}
+use Rattle.sf_core.specs.Checked.Assertions.Precise.{IsPrecise}
 use Rattle.sf_core.specs.Assertions.Sat.{Sat, value}
 use Rattle.sf_core.specs.Program.Syntax.{Assertion, Procedure, Program, Resource}
 use Rattle.sf_heap.specs.Cells.{Cells, HasCell, heap_of}

@@ -20,8 +20,8 @@ use Rattle.sf_base.proofs.Elements.{contains-cons, contains-rest}
 use Rattle.sf_base.proofs.Numbers.{at-is}
 use Rattle.sf_calls.specs.Checked.Laws.{SetsExist}
 use Rattle.sf_calls.specs.Sets.{IsResSet}
-use Rattle.sf_core.specs.Assertions.Precise.{IsPrecise}
-use Rattle.sf_core.specs.Machine.HeldBy.{HeldBy}
+use Rattle.sf_core.specs.Checked.Assertions.Precise.{IsPrecise}
+use Rattle.sf_core.specs.Machine.HasThroughout.{HasThroughout}
 use Rattle.sf_core.specs.Assertions.Determined.{Determined}
 use Rattle.sf_core.specs.Checked.Assertions.Laws.{DeterminedHasOneFootprint}
 use Rattle.sf_core.specs.Assertions.Sat.{Sat, value}
@@ -90,7 +90,7 @@ entry_exists sets p name formed = go (first-named (procedure_names p) name)
         let size = length-map p.procedures (λ (g : Procedure). g.name) in
         omega (arith, within, size)
 
-    held : (k : ℕ) → k < length p.procedures → (xs : List ResId) × IsResSet (HeldBy p (record { 0 = k })) xs
+    held : (k : ℕ) → k < length p.procedures → (xs : List ResId) × IsResSet (HasThroughout p (record { 0 = k })) xs
     held k h =
         let s = sets p formed in
         let size = s.1.holds.each in
@@ -102,11 +102,11 @@ entry_exists sets p name formed = go (first-named (procedure_names p) name)
     go (inr out) = inr (fault.Unknown name, (refl, out))
     go (inl f) = and (held f.0 (there f.0 f.1.0))
       where
-        and : (xs : List ResId) × IsResSet (HeldBy p (record { 0 = f.0 })) xs
+        and : (xs : List ResId) × IsResSet (HasThroughout p (record { 0 = f.0 })) xs
             → ((g : ProcId) × IsEntry p name g) ⊎ ((e : StartFault) × IsEntryFault p name e)
         and s = step s.0 s.1 (length s.0 == 0) refl
           where
-            step : (xs : List ResId) → IsResSet (HeldBy p (record { 0 = f.0 })) xs → (b : Bool) → (length xs == 0) ≡ b
+            step : (xs : List ResId) → IsResSet (HasThroughout p (record { 0 = f.0 })) xs → (b : Bool) → (length xs == 0) ≡ b
                 → ((g : ProcId) × IsEntry p name g) ⊎ ((e : StartFault) × IsEntryFault p name e)
             step xs set true e = inl (
               record { 0 = f.0 },

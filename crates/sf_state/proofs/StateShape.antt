@@ -5,7 +5,7 @@ use Rattle.std.specs.BTreeMap as tree
 use Rattle.std.specs.FinMap.{get}
 use Rattle.std.specs.List.{flat_map}
 use Rattle.std.specs.Option.{IfSome, option_map}
-use Rattle.std.proofs.lemmas.List.{length-append, length-map}
+use Rattle.std.proofs.lemmas.List.{length-append, length-map, length-replicate, length-set}
 use Rattle.std.proofs.lemmas.Option.{none-some, same_Some}
 use Rattle.std.proofs.lemmas.Simd.{map-map}
 use Rattle.sf_base.specs.declared.ids.Var.{Var}
@@ -14,11 +14,12 @@ use Rattle.sf_base.specs.declared.value.Value.{Value}
 use Rattle.sf_base.specs.declared.value.Value.TheVariants.{Nil as nil, Loc as loc}
 use Rattle.sf_base.proofs.Elements.{contains-cons, contains-nil, contains-replicate, contains-rest}
 use Rattle.sf_base.proofs.Lists.{cons-parts}
+use Rattle.sf_base.proofs.Options.{option_map-some}
 use Rattle.sf_base.proofs.Members.{contains-map}
 use Rattle.sf_core.specs.Program.Syntax.{Procedure, Program, Resource}
 use Rattle.sf_heap.specs.Cells.{Cells, FieldValues}
 use Rattle.sf_foot.specs.declared.vars.Vars.{Vars}
-use Rattle.sf_foot.specs.Starting.{IsMentioned}
+use Rattle.sf_foot.specs.Starting.{HasWidth, IsMentioned}
 use Rattle.sf_foot.specs.Variables.{value_of, values_or_none}
 use Rattle.sf_state.specs.declared.fields.Setting.{Setting}
 use Rattle.sf_state.specs.declared.line.Entry.{Entry}
@@ -83,6 +84,22 @@ state-fits p g text vars heap enough s =
           ∙ shape-shared p.resources (drop n s.values)
           (shape-drop n (length (flat_map names_of_resource p.resources)) s.values (omega (arith, all, parts, own)));
     }
+
+-- a cell has as many values as there are fields, whichever are set
+values-many : (values : List Value) (settings : List Setting) → length (values_after values settings) ≡ length values
+values-many values [] = refl
+values-many values (s ∷ more) =
+    values-many (set values s.field.0 s.value) more ∙ length-set values s.field.0 s.value
+
+-- each cell has a value for each field
+pub state-width : (p : Program) (g : Procedure) (text : Text) (vars : Vars) (heap : Cells)
+    → GivesState p g text vars heap → HasWidth (length p.fields) heap
+state-width p g text vars heap s location values e =
+    let made = option_map-some (cell_values (length p.fields))
+    (cell_given (entries_of p.fields (names_of p g) text) location) values
+    (sym (s.gives.cells_are location) ∙ e) in
+    ap length made.2 ∙ values-many (replicate (length p.fields) nil) made.0
+    ∙ length-replicate (length p.fields) nil
 
 -- values that lines give are small
 shape-small : (es : List Entry) (k : ℕ) (names : List Text) (vs : List Value) (v : Value) → EntriesSmall es

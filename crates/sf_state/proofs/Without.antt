@@ -16,7 +16,7 @@ use Rattle.sf_base.proofs.Bools.{bool-same}
 use Rattle.sf_base.proofs.MapSplits.{apart-none, map-same, splits-lacks_right}
 use Rattle.sf_base.proofs.Options.{some-none, some-or_none}
 use Rattle.sf_core.specs.declared.command.Expr.{Expr}
-use Rattle.sf_core.specs.Assertions.Precise.{IsPrecise}
+use Rattle.sf_core.specs.Checked.Assertions.Precise.{IsPrecise}
 use Rattle.sf_core.specs.Assertions.Sat.{Foot, Sat, value}
 use Rattle.sf_core.specs.Program.Syntax.{Level}
 use Rattle.sf_foot.specs.Footprint.{HasNoFootprint, IsFootprint}

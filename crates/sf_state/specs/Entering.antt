@@ -3,7 +3,7 @@
 use Rattle.std.specs.Prelude.{◌≡◌, List, Some, None, map}
 use Rattle.sf_base.specs.declared.ids.ProcId.{ProcId}
 use Rattle.sf_base.specs.declared.ids.ResId.{ResId}
-use Rattle.sf_core.specs.Machine.HeldBy.{HeldBy}
+use Rattle.sf_core.specs.Machine.HasThroughout.{HasThroughout}
 use Rattle.sf_core.specs.Program.Named.{IsFirstNamed}
 use Rattle.sf_core.specs.Program.Syntax.{Program}
 use Rattle.sf_state.specs.declared.fault.StartFault.{StartFault}
@@ -16,7 +16,7 @@ procedure_names p = map (λ g. g.name) p.procedures
 
 -- no resource's variable occurs in its pre or post
 abbrev pub HoldsNone : Program → ProcId → Type 0
-HoldsNone p f = (r : ResId) → HeldBy p f r → ⊥
+HoldsNone p f = (r : ResId) → HasThroughout p f r → ⊥
 
 -- it is the first procedure of that name, and holds no resource
 pub record IsEntry (p : Program) (name : Text) (f : ProcId) : Type 0 where
@@ -28,7 +28,7 @@ pub record IsHolding (p : Program) (name : Text) : Type 0 where
   pub procedure : ProcId
   pub named : IsFirstNamed (procedure_names p) name (Some procedure.0)
   pub resource : ResId
-  pub held : HeldBy p procedure resource
+  pub held : HasThroughout p procedure resource
 
 -- why a name is no entry: there is no such procedure, or it holds a resource
 abbrev pub IsEntryFault : Program → Text → StartFault → Type 0

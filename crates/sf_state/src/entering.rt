@@ -3,7 +3,7 @@
 ghost use Rattle.std.specs.Prelude.{◌≡◌, ◌<◌, ◌⊎◌, length, true, false, IfOk, IfErr};
 ghost use Rattle.sf_base.specs.Results.{Decides};
 ghost use Rattle.sf_base.specs.declared.ids.ResId.{ResId as R};
-ghost use Rattle.sf_core.specs.Machine.HeldBy.{HeldBy};
+ghost use Rattle.sf_core.specs.Machine.HasThroughout.{HasThroughout};
 ghost use Rattle.sf_core.specs.Program.ProgramView.{program_of};
 ghost use Rattle.sf_state.specs.Entering.{HoldsNone, IsEntry, IsEntryFault};
 
@@ -17,7 +17,7 @@ use std::alloc::Global;
 fn holds_none(p: &Arranged, f: ProcId) -> bool
     requires { f.0 < length p.now.program.procedures.items }
     ensures free { result ≡ true → HoldsNone (program_of p.now.program) f }
-    ensures held { result ≡ false → (r : R) × HeldBy (program_of p.now.program) f r }
+    ensures held { result ≡ false → (r : R) × HasThroughout (program_of p.now.program) f r }
 {
     sets_from_truncation();
     p.calls.holds(f).as_slice().is_empty()

@@ -5,6 +5,7 @@ ghost use Rattle.sf_state.specs.Checked.Laws.{EntryExists, EntryIsUnique, Finish
 use sf_calls::laws::sets_exist;
 use sf_core::laws::assertions::determined_has_one_footprint;
 use sf_foot::laws::footprint_is_decided;
+use sf_precise::laws::{determined_has_order, order_keeps_meaning, ordered_is_determined};
 
 /// A name is that of one entry at most, or is refused for one reason at most, and not both.
 #[tactic(auto, using(crate::proofs::Once::entry_is_unique))]
@@ -49,5 +50,8 @@ pub fn written_states_read_back()
 pub fn start_exists()
     ensures { StartExists }
 {
+    determined_has_order();
+    ordered_is_determined();
+    order_keeps_meaning();
     footprint_is_decided();
 }

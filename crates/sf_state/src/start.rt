@@ -2,7 +2,7 @@
 
 ghost use Rattle.std.specs.Prelude.{◌≡◌, ◌<◌, length, IfSome, slice_get};
 ghost use Rattle.sf_core.specs.Program.ProgramView.{program_of};
-ghost use Rattle.sf_foot.specs.Starting.{IsMentioned};
+ghost use Rattle.sf_foot.specs.Starting.{HasWidth, IsMentioned};
 ghost use Rattle.sf_heap.specs.Cells.{AreAt};
 ghost use Rattle.sf_state.specs.Entering.{HoldsNone};
 ghost use Rattle.sf_state.specs.Checked.Beginning.{Begins, Fits};
@@ -36,6 +36,7 @@ fn begin(
     requires free { HoldsNone (program_of p.now.program) f }
     requires fits { IfSome (slice_get (program_of p.now.program).procedures f.0)
         (λ g. Fits (program_of p.now.program) g vars) }
+    requires width { HasWidth (length (program_of p.now.program).fields) heap }
     requires in_bounds { AreInBounds (IsMentioned vars heap) }
     requires all { AreAt at.now heap }
     ensures { IfSome (slice_get (program_of p.now.program).procedures f.0)

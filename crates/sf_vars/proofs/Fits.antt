@@ -7,7 +7,7 @@ use Rattle.sf_base.specs.declared.ids.Var.{Var}
 use Rattle.sf_base.specs.declared.ids.Var.TheVariants.{Own, Shared}
 use Rattle.sf_base.specs.declared.limits.TheConstants.{RESOURCES}
 use Rattle.sf_core.specs.Program.Formed.{IsFormed, IsInBody, CommandWithin, BlockWithin}
-use Rattle.sf_core.specs.Machine.HeldBy.{HeldBy}
+use Rattle.sf_core.specs.Machine.HasThroughout.{HasThroughout}
 use Rattle.sf_core.specs.Program.Syntax.{Command, assign, look_up, mutate, new, dispose, if, while, call, fork, with, Block, done, then, Procedure, Program}
 use Rattle.sf_calls.specs.Conditions.{Takes, Free}
 use Rattle.sf_calls.specs.Sets.{Sets, AreSetsOf, IsResSet, IsVarSet}
@@ -28,7 +28,7 @@ takes_set p sets g are below =
     (slice_get-get_or sets.takes g.0 [] (omega (arith, below, are.takes.each)))
 
 pub holds_set : (p : Program) (sets : Sets) (g : ProcId) → AreSetsOf p sets → g.0 < length p.procedures
-    → IsResSet (HeldBy p g) (holds_of sets g)
+    → IsResSet (HasThroughout p g) (holds_of sets g)
 holds_set p sets g are below =
     are.holds.is g (holds_of sets g)
     (slice_get-get_or sets.holds g.0 [] (omega (arith, below, are.holds.each)))
@@ -75,7 +75,7 @@ mutual
 pub held_fit : (p : Program) (sets : Sets) (g : ProcId) → IsFormed p → AreSetsOf p sets
     → g.0 < length p.procedures → All (λ r. r.0 < RESOURCES) (holds_of sets g)
 held_fit p sets g formed are there k d below =
-    let held : HeldBy p g
+    let held : HasThroughout p g
     (get_or (holds_of sets g) k d) = ((holds_set p sets g are there).members
     (get_or (holds_of sets g) k d)).0 (Contains-get_or (holds_of sets g) k d below) in
     let inside : (get_or (holds_of sets g) k d).0 < length p.resources = holds_within p formed g

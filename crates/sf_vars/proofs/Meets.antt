@@ -26,7 +26,7 @@ use Rattle.sf_core.specs.declared.command.Occurrence.{Occurrence}
 use Rattle.sf_core.specs.Program.Formed.{IsFormed, CommandWithin, BlockWithin}
 use Rattle.sf_core.specs.Program.Heads.{Site, sites, inner_sites, head_calls, head_forks, head_occurrences, head_regions, call_occurrences, expr_occurrences}
 use Rattle.sf_core.specs.Program.Places.{place_of}
-use Rattle.sf_core.specs.Machine.HeldBy.{HeldBy}
+use Rattle.sf_core.specs.Machine.HasThroughout.{HasThroughout}
 use Rattle.sf_core.specs.Program.Syntax.{Call, Command, assign, look_up, mutate, new, dispose, if, while, call, fork, with, Block, done, then, Procedure, Program}
 use Rattle.sf_core.proofs.HeadsWithin.{calls-within, forks-calls, regions-within}
 use Rattle.sf_calls.specs.declared.breach.Breach.{Breach}
@@ -430,7 +430,7 @@ stands_first p sets k formed are below = record {
       (has_all none_held (holds_of sets (proc k)) r fit);
 }
   where
-    set : IsResSet (HeldBy p (proc k)) (holds_of sets (proc k))
+    set : IsResSet (HasThroughout p (proc k)) (holds_of sets (proc k))
     set = holds_set p sets (proc k) are below
 
     fit : All (λ q. q.0 < length none_held) (holds_of sets (proc k))

@@ -6,7 +6,7 @@ use Rattle.std.specs.Prelude.{◌≡◌, ◌<◌, Bool, IsTrue, Option, Some, No
 use Rattle.sf_base.specs.declared.ids.ProcId.{ProcId}
 use Rattle.sf_base.specs.declared.ids.ResId.{ResId}
 use Rattle.sf_base.specs.declared.ids.Var.{Var}
-use Rattle.sf_core.specs.Machine.HeldBy.{HeldBy}
+use Rattle.sf_core.specs.Machine.HasThroughout.{HasThroughout}
 use Rattle.sf_core.specs.Program.Formed.{IsFormed}
 use Rattle.sf_core.specs.Program.Syntax.{Block, Program}
 use Rattle.sf_calls.specs.Assigned.{AreInOrderIn, Assigned}
@@ -74,5 +74,5 @@ ChangesAreAssigned = (p : Program) (sets : Sets) (b : Block) → AreSetsOf p set
 
 -- what a procedure of a program that is in order holds is a resource of the program
 abbrev pub HeldResourcesAreThere : Type 0
-HeldResourcesAreThere = (p : Program) → IsFormed p → (f : ProcId) (r : ResId) → HeldBy p f r
+HeldResourcesAreThere = (p : Program) → IsFormed p → (f : ProcId) (r : ResId) → HasThroughout p f r
     → r.0 < length p.resources

@@ -24,7 +24,7 @@ use Rattle.sf_core.specs.Assertions.Determined.{CanBeTaken, Determined, HasOrder
 use Rattle.sf_base.specs.HeapStore.{Cell, Heap, IsOne, Splits, ◌⋆◌}
 use Rattle.sf_core.specs.Assertions.Occurs.{OccursInAll, OccursInFields, OccursInOne, OccursInTest}
 use Rattle.sf_core.specs.Assertions.Scopes.{is_made_by}
-use Rattle.sf_core.specs.Assertions.Precise.{IsPrecise}
+use Rattle.sf_core.specs.Checked.Assertions.Precise.{IsPrecise}
 use Rattle.sf_core.specs.Assertions.Sat.{Foot, HasFields, IsTrueOf, SameOutside, Sat, SatAll, SatOne, Seg, operand}
 use Rattle.sf_core.specs.Program.Syntax.{Conjunct, holds, points, segment, tree, choose, Level, level, Conjuncts, none, also}
 

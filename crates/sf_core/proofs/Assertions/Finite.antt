@@ -7,7 +7,7 @@ use Rattle.std.proofs.lemmas.Option.{none-some}
 use Rattle.std.proofs.lemmas.Bool.{cases_eq}
 use Rattle.sf_base.proofs.MapSplits.{splits-which, IsPart, part-has}
 use Rattle.sf_base.specs.HeapStore.{Cell, Heap, IsEmpty, IsOne, Splits}
-use Rattle.sf_core.specs.Assertions.Shape.{IsFinite}
+use Rattle.sf_core.specs.Checked.Assertions.Shape.{IsFinite}
 
 -- an empty heap is finite
 pub finite-empty : {heap : Heap} → IsEmpty heap → IsFinite heap

@@ -23,7 +23,7 @@ use Rattle.sf_base.specs.HeapStore.{Cell, Heap}
 use Rattle.sf_core.specs.Assertions.Occurs.{IsFromOutside, OccursIn, OccursInAll, OccursInFields, OccursInOne, OccursInTest, VarOccursIn}
 use Rattle.sf_core.specs.Assertions.Scopes.{is_made_by}
 use Rattle.sf_core.specs.Assertions.Sat.{HasFields, IsTrueOf, SameOutside, Sat, SatAll, SatOne, Seg, Tree, operand, value}
-use Rattle.sf_core.specs.Assertions.Shape.{IsFinite}
+use Rattle.sf_core.specs.Checked.Assertions.Shape.{IsFinite}
 use Rattle.sf_core.specs.Program.Syntax.{Conjunct, holds, points, segment, tree, choose, Level, level, Conjuncts, none, also}
 
 -- two values are the same or differ

@@ -10,9 +10,9 @@ use Rattle.sf_core.proofs.Assertions.Finite.{finite-empty, finite-one, finite-sp
 use Rattle.sf_base.proofs.HeapSplits.{one-in, one-same}
 use Rattle.sf_base.proofs.MapSplits.{splits-comm, splits-assoc_right, splits-empty_right, splits-lacks_both, splits-lacks_whole, splits-lacks_right, splits-of_empty_left, splits-same_whole, splits-has_left, empty-same}
 use Rattle.sf_base.specs.HeapStore.{Cell, Heap, IsEmpty, IsOne, Splits}
-use Rattle.sf_core.specs.Assertions.Precise.{IsPrecise}
+use Rattle.sf_core.specs.Checked.Assertions.Precise.{IsPrecise}
 use Rattle.sf_core.specs.Assertions.Sat.{Seg, end, cell}
-use Rattle.sf_core.specs.Assertions.Shape.{IsFinite}
+use Rattle.sf_core.specs.Checked.Assertions.Shape.{IsFinite}
 
 -- one location, one number
 pub loc-same : (one two : ℕ) → loc one ≡ loc two → one ≡ two

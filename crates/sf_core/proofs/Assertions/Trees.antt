@@ -12,9 +12,9 @@ use Rattle.sf_base.proofs.HeapSplits.{one-in, one-same}
 use Rattle.sf_base.proofs.MapSplits.{splits-comm, splits-assoc_right, splits-lacks_both, splits-lacks_right, splits-same_whole, splits-which, splits-has_left, empty-same, IsPart, part-has, part-left, part-right, part-trans}
 use Rattle.sf_core.proofs.Assertions.Segments.{loc-same, nil-not_loc}
 use Rattle.sf_base.specs.HeapStore.{Cell, Heap, IsEmpty, IsOne, Splits}
-use Rattle.sf_core.specs.Assertions.Precise.{IsPrecise}
+use Rattle.sf_core.specs.Checked.Assertions.Precise.{IsPrecise}
 use Rattle.sf_core.specs.Assertions.Sat.{Tree, leaf, node}
-use Rattle.sf_core.specs.Assertions.Shape.{IsAcyclic, IsFinite, IsUnshared, Reaches, step, further, Points}
+use Rattle.sf_core.specs.Checked.Assertions.Shape.{IsAcyclic, IsFinite, IsUnshared, Reaches, step, further, Points}
 
 -- trees from one value in one heap are the same
 pub tree-same : {left right : FieldId} {root also : Value} {heap one two other another : Heap}

@@ -2,6 +2,7 @@
 pub mod Runs
 pub mod Races
 pub mod Good
+pub mod Returns
 pub mod Starts
 pub mod Numbers
 pub mod Commute

@@ -11,7 +11,7 @@ use Rattle.sf_base.specs.HeapStore.{Slot, shared, own}
 use Rattle.sf_core.specs.Machine.Bad.{Bad}
 use Rattle.sf_core.specs.Machine.Config.{Room, in_room, Task, Path, Config, task_at}
 use Rattle.sf_core.specs.Machine.Enabled.{IsBlocked, IsEnabled, Thing, variable, cell, Reads, Writes}
-use Rattle.sf_core.specs.Machine.InOrder.{times_there, IsInOrder}
+use Rattle.sf_core.specs.Checked.Machine.InOrder.{times_there, IsInOrder}
 use Rattle.sf_core.specs.Checked.Machine.Laws.{CommandMakes, Makes, Moves, Diverge, AreIndependent, DoNotCompete}
 use Rattle.sf_core.specs.Machine.Next.{Next, does, leaves, returns, joins, nothing, next}
 use Rattle.sf_core.specs.Machine.Step.{Event, TaskStep, Step}

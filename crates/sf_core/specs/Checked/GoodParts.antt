@@ -3,16 +3,18 @@
 use Rattle.std.specs.Prelude.{◌≡◌, ℕ, suc, List, [], ◌∷◌, Option, Some, None}
 use Rattle.std.specs.List.{slice_get}
 use Rattle.sf_base.specs.declared.ids.ResId.{ResId}
+use Rattle.sf_base.specs.declared.value.Value.{Value}
 use Rattle.sf_base.specs.declared.value.Value.TheVariants.{Nil as nil}
+use Rattle.sf_core.specs.declared.command.Expr.{Expr}
 use Rattle.sf_core.specs.Machine.Bad.{Bad}
 use Rattle.sf_core.specs.Machine.Config.{Item, Fixed, Frame, Task, runs, waits, Path, Config, evaluate}
 use Rattle.sf_core.specs.Machine.Enabled.{HasEnded}
-use Rattle.sf_core.specs.Machine.Good.{Good}
+use Rattle.sf_core.specs.Machine.Good.{owed_by, Good}
 use Rattle.sf_base.specs.HeapStore.{Heap, IsEmpty, Store, ◌⋆◌}
 use Rattle.sf_core.specs.Assertions.Sat.{Sat}
 use Rattle.sf_core.specs.Machine.Start.{entry_slot}
 use Rattle.sf_core.specs.Machine.Step.{procedure_at}
-use Rattle.sf_core.specs.Program.Syntax.{Procedure, Program, Resource}
+use Rattle.sf_core.specs.Program.Syntax.{Level, Procedure, Program, Resource}
 
 -- the part of a resource: it satisfies the invariant while the resource is free, and is empty while it is
 -- held
@@ -26,10 +28,16 @@ InvariantParts store held number [] h = IsEmpty h
 InvariantParts store held number (r ∷ rs) h = (InvariantPart store (held (record { 0 = number })) r
     ⋆ InvariantParts store held (suc number) rs) h
 
--- the part of a frame: it satisfies the postcondition where nothing is left to do, and else is empty
+-- one part for each assertion of a list, which satisfies it
+abbrev pub SatEach : List (Level Expr) → (Expr → Value) → Heap → Type 0
+SatEach [] see h = IsEmpty h
+SatEach (a ∷ rest) see h = (Sat a see (λ n. nil) ⋆ SatEach rest see) h
+
+-- the part of a frame: where nothing is left to do its procedure is there and the part satisfies what its return
+-- owes, and else it is empty
 abbrev pub FramePart : Program → Store → Fixed → (todo : List Item) → Heap → Type 0
-FramePart p store f [] h = (g : Procedure) → procedure_at p f.procedure ≡ Some g
-    → Sat g.post.level (evaluate f.slots store) (λ n. nil) h
+FramePart p store f [] h = (g : Procedure) × (procedure_at p f.procedure ≡ Some g)
+    × SatEach (owed_by p g) (evaluate f.slots store) h
 FramePart p store f (i ∷ rest) h = IsEmpty h
 
 -- one part for each task of a tree, which is that of its innermost frame

@@ -1,5 +1,6 @@
--- What is checked of the definitions in Machine: laws and worked examples.
+-- What is checked of the definitions in Machine: laws, worked examples, and what each configuration keeps.
 -- One module for each.
 pub mod Examples
+pub mod InOrder
 pub mod Laws
 pub mod NumberedExamples

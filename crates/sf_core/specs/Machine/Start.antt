@@ -1,6 +1,6 @@
 -- Start: where a procedure may start, with its precondition and all invariants on disjoint cells.
 -- O'Hearn (2007); Brookes (2007): the state at the start of a program with resources.
-use Rattle.std.specs.Prelude.{◌≡◌, ℕ, List, [], ◌∷◌, Some, None, length, ◌==◌, ◌+◌, ◌<◌, ◌≤◌}
+use Rattle.std.specs.Prelude.{◌≡◌, ℕ, List, [], ◌∷◌, Option, Some, None, length, ◌==◌, ◌+◌, ◌<◌, ◌≤◌}
 use Rattle.std.specs.List.{slice_get}
 use Rattle.sf_base.specs.declared.ids.ProcId.{ProcId}
 use Rattle.sf_base.specs.declared.ids.ResId.{ResId}
@@ -8,14 +8,14 @@ use Rattle.sf_base.specs.declared.ids.Var.{Var}
 use Rattle.sf_base.specs.declared.ids.Var.TheVariants.{Own, Shared}
 use Rattle.sf_base.specs.declared.value.Value.{Value}
 use Rattle.sf_base.specs.declared.value.Value.TheVariants.{Nil as nil}
-use Rattle.sf_core.specs.Machine.Config.{items, Frame, runs, Config, evaluate}
+use Rattle.sf_core.specs.Machine.Config.{items, Frame, runs, Path, Config, evaluate}
 use Rattle.sf_base.specs.HeapStore.{Heap, IsEmpty, Slot, shared, own, Store, ◌⋆◌}
-use Rattle.sf_core.specs.Machine.HeldBy.{HeldBy}
+use Rattle.sf_core.specs.Machine.HasThroughout.{HasThroughout}
 use Rattle.sf_core.specs.Assertions.Sat.{Sat}
 use Rattle.sf_core.specs.Machine.Step.{procedure_at, room_for}
 use Rattle.sf_core.specs.Program.Syntax.{Procedure, Program, Resource}
 
--- where the entry's own variables and those of the resources are kept: the entry's frame has number 0
+-- where the entry's own variables and those of the resources are kept: its frame has number 0
 abbrev pub entry_slot : Var → Slot
 entry_slot (Own i) = own 0 i
 entry_slot (Shared r i) = shared r i
@@ -31,33 +31,42 @@ entry_frame f g = record {
   todo = items g.body;
 }
 
--- the configuration in which procedure f starts: its one frame, all resources free, and no number used but
--- that of the start
-abbrev pub initial_config : ProcId → Procedure → Store → Heap → Config
-initial_config f g store heap = record {
-  common = record { heap = heap; store = store; held = λ r. None };
+-- the frames with which procedure f starts, the innermost first: its own alone
+abbrev pub first_frames : Program → ProcId → Procedure → List Frame
+first_frames p f g = entry_frame f g ∷ []
+
+-- who holds each resource then: all are free
+abbrev pub first_holders : Program → ResId → Option Path
+first_holders p r = None
+
+-- the configuration in which procedure f starts: one task with its first frames, the first holders,
+-- and no number used but that of the start
+abbrev pub initial_config : Program → ProcId → Procedure → Store → Heap → Config
+initial_config p f g store heap = record {
+  common = record { heap = heap; store = store; held = first_holders p };
   used = λ number. number == 0;
-  tasks = runs (entry_frame f g ∷ []);
+  tasks = runs (first_frames p f g);
 }
 
 -- the slot is one of the entry's own variables, or of the resources of the program
 abbrev pub IsKept : Program → Procedure → Slot → Type 0
 IsKept p g (own e i) = (e ≡ 0) × (i < length g.names)
-IsKept p g (shared r i) = (of : Resource) × (slice_get p.resources r.0 ≡ Some of) × (i < length of.variables)
+IsKept p g (shared r i) = (of : Resource) × (slice_get p.resources r.0 ≡ Some of)
+    × (i < length of.variables)
 
 -- one heap for each of the resources, which satisfies its invariant, and all these disjoint
 abbrev pub Invariants : List Resource → Store → Heap → Type 0
 Invariants [] store heap = IsEmpty heap
-Invariants (r ∷ rs) store heap = (Sat r.invariant.level (evaluate entry_slot store) (λ n. nil)
-    ⋆ Invariants rs store) heap
+Invariants (r ∷ rs) store heap =
+    (Sat r.invariant.level (evaluate entry_slot store) (λ n. nil) ⋆ Invariants rs store) heap
 
 -- Start: procedure f starts with this store and this heap
 pub record Start (p : Program) (f : ProcId) (store : Store) (heap : Heap) (c : Config) : Type 0 where
   pub procedure : Procedure
   pub there : procedure_at p f ≡ Some procedure
-  pub is : c ≡ initial_config f procedure store heap
+  pub is : c ≡ initial_config p f procedure store heap
   -- no resource counts as held through its body
-  pub holds_none : (r : ResId) → HeldBy p f r → ⊥
+  pub holds_none : (r : ResId) → HasThroughout p f r → ⊥
   -- the store has its own variables and those of the resources, and no others
   pub kept : (slot : Slot) → IsKept p procedure slot → (v : Value) × (store slot ≡ Some v)
   pub no_more : (slot : Slot) (v : Value) → store slot ≡ Some v → IsKept p procedure slot

@@ -21,7 +21,11 @@ ghost use Rattle.sf_core.specs.Checked.Machine.Examples.{
   NewAndLookUpDoNotRace,
   ReferencesArePassedOn,
   RegionThenLoop,
+  ReturningBesideAResourceIsGoodWithTwoCells,
   ReturningIsGoodWithItsCell,
+  ReturningOverAResourceIsNotGood,
+  ReturningTogetherIsGoodWithTwoCells,
+  ReturningTogetherOverOneCellIsNotGood,
   ReturnsCommute,
   RoomsAreNotGivenTwice,
   SettingStarts,
@@ -125,6 +129,31 @@ pub fn ended_is_good_with_its_cell_alone()
 #[tactic(auto, using(crate::proofs::Machine::Examples::Good::returning_is_good_with_its_cell))]
 pub fn returning_is_good_with_its_cell()
     ensures { ReturningIsGoodWithItsCell }
+{}
+
+/// Two children at their returns are good exactly where each has its own cell.
+#[tactic(auto, using(crate::proofs::Machine::Examples::Returns::returning_together_is_good_with_two_cells))]
+pub fn returning_together_is_good_with_two_cells()
+    ensures { ReturningTogetherIsGoodWithTwoCells }
+{}
+
+/// So two children at their returns over one cell aren't good.
+#[tactic(auto, using(crate::proofs::Machine::Examples::Returns::returning_together_over_one_cell_is_not_good))]
+pub fn returning_together_over_one_cell_is_not_good()
+    ensures { ReturningTogetherOverOneCellIsNotGood }
+{}
+
+/// A callee at its return beside a free resource is good exactly where it has its cell and the
+/// resource another.
+#[tactic(auto, using(crate::proofs::Machine::Examples::Returns::returning_beside_a_resource_is_good_with_two_cells))]
+pub fn returning_beside_a_resource_is_good_with_two_cells()
+    ensures { ReturningBesideAResourceIsGoodWithTwoCells }
+{}
+
+/// So a callee at its return over the cell of a free resource isn't good.
+#[tactic(auto, using(crate::proofs::Machine::Examples::Returns::returning_over_a_resource_is_not_good))]
+pub fn returning_over_a_resource_is_not_good()
+    ensures { ReturningOverAResourceIsNotGood }
 {}
 
 /// An ended entry of a program with a resource is good exactly where its heap is the one cell of

@@ -5,7 +5,7 @@ use Rattle.sf_base.specs.declared.ids.Var.{Var}
 use Rattle.sf_base.specs.HeapStore.{Slot}
 use Rattle.sf_core.specs.declared.command.Occurrence.{Occurrence}
 use Rattle.sf_machine.specs.declared.spot.Spot.{Spot}
-use Rattle.sf_machine.specs.Checked.Spots.{slot_of}
+use Rattle.sf_machine.specs.Spots.{slot_of}
 
 -- the slots are those that the caller's variables name
 abbrev pub AreReferences : (caller : Var → Slot) → List Occurrence → List Spot → Type 0

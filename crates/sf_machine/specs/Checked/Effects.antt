@@ -1,6 +1,7 @@
 -- What an event makes of what all tasks share, as the code keeps it.
 -- Ordinary: updates of partial maps.
-use Rattle.std.specs.Prelude.{◌≡◌, ℕ, ◌+◌, ◌-◌, ◌≤◌, ◌^◌, true, cond, get_or, Some, None, is_some}
+use Rattle.std.specs.Prelude.{◌≡◌, ℕ, ◌+◌, ◌-◌, ◌≤◌, ◌<◌, ◌^◌, true, cond, get_or, length, Some, None, is_some}
+use Rattle.std.specs.FinMap.{get}
 use Rattle.std.specs.Option.{option_map}
 use Rattle.sf_base.specs.declared.ids.ResId.{ResId}
 use Rattle.sf_base.specs.declared.value.Value.TheVariants.{Nil as nil, Loc as loc}
@@ -10,8 +11,10 @@ use Rattle.sf_core.specs.Machine.Step.{Event, set_slot, set_cell, set_holder, op
 use Rattle.sf_machine.specs.declared.effect.Effect.{Effect}
 use Rattle.sf_machine.specs.declared.effect.Effect.TheVariants.{Nothing, Set, Put, Make, Remove, Hold, Free, Open, OpenBoth, Close}
 use Rattle.sf_machine.specs.declared.effect.Opening.{Opening}
-use Rattle.sf_machine.specs.Checked.Spots.{slot_of}
-use Rattle.sf_machine.specs.Checked.Tasks.{room_of}
+use Rattle.sf_core.specs.Program.Syntax.{Program}
+use Rattle.sf_heap.specs.Cells.{Cells, FieldValues}
+use Rattle.sf_machine.specs.Spots.{slot_of}
+use Rattle.sf_machine.specs.Tasks.{room_of}
 
 -- a room comes up in a store
 abbrev pub opened_store : Opening → Store → Store
@@ -52,6 +55,16 @@ Suits ev (Free r) s = Unit {0}
 Suits ev (Open o) s = IsClearStore o s.store
 Suits ev (OpenBoth o q) s = IsClearStore o s.store × IsClearStore q (opened_store o s.store)
 Suits ev (Close room) s = Unit {0}
+
+-- a field that the effect sets is one of the program's
+abbrev pub EffectWithin : Program → Effect → Type 0
+EffectWithin p (Put at f v) = f.0 < length p.fields
+EffectWithin p _ = Unit {0}
+
+-- a cell in which the effect sets a field has that field
+abbrev pub HasField : Effect → Cells → Type 0
+HasField (Put at f v) cells = (values : FieldValues) → get cells at ≡ Some values → f.0 < length values
+HasField _ cells = Unit {0}
 
 -- the two are the same at each location, slot and resource
 pub record IsSameCommon (s t : Common) : Type 0 where

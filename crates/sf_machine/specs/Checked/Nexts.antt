@@ -6,7 +6,7 @@ use Rattle.sf_core.specs.Machine.Step.{task_with}
 use Rattle.sf_core.specs.Program.View.{command_of}
 use Rattle.sf_machine.specs.declared.following.Next.{Next}
 use Rattle.sf_machine.specs.declared.following.Next.TheVariants.{Does, Leaves, Returns, Joins, Nothing}
-use Rattle.sf_machine.specs.Checked.Tasks.{fixed_of, room_of}
+use Rattle.sf_machine.specs.Tasks.{fixed_of, room_of}
 
 -- the task has ended, where it is the entry's if so, or waits for a child
 abbrev pub IsIdle : Bool → Task → Type 0

@@ -21,7 +21,7 @@ use Rattle.sf_machine.specs.declared.plan.Plan.{Plan}
 use Rattle.sf_machine.specs.declared.plan.Plan.TheVariants.{Acts, Refused}
 use Rattle.sf_machine.specs.declared.task.Change.{Change}
 use Rattle.sf_machine.specs.Answers.{Answers, CommandRefuses}
-use Rattle.sf_machine.specs.Checked.Effects.{applied, Suits}
+use Rattle.sf_machine.specs.Checked.Effects.{applied, EffectWithin, Suits}
 use Rattle.sf_machine.specs.Checked.Tasks.{moved}
 
 -- the procedures are there that the command calls
@@ -30,12 +30,18 @@ HasCallees p (call place c) = c.callee.0 < length p.procedures
 HasCallees p (fork place c d) = (c.callee.0 < length p.procedures) × (d.callee.0 < length p.procedures)
 HasCallees p _ = Unit {0}
 
+-- the field that the command sets is one of the program's
+abbrev pub SetsField : Program → Command → Type 0
+SetsField p (mutate place e field v) = field.0 < length p.fields
+SetsField p _ = Unit {0}
+
 -- what the event of a command rests on: the variables that it writes are there, and so are the
--- procedures that it calls, and no variable is that has the event's number
+-- procedures that it calls and the field that it sets, and no variable is that has the event's number
 pub record IsReady (p : Program) (ev : Event) (s : Common) (f : Fixed) (one : Command) : Type 0 where
   pub written : (slot : Slot) → CommandWrites f.slots s.store one (variable slot)
       → is_some (s.store slot) ≡ true
   pub callees : HasCallees p one
+  pub field : SetsField p one
   pub fresh : (i : ℕ) → s.store (own ev.number i) ≡ None
 
 -- the plan is that of a command's event
@@ -43,7 +49,7 @@ abbrev pub PlansCommand : Program → Event → Common → Fixed → (below : Li
     → (rest : List Item) → Plan → Type 0
 PlansCommand p ev s f below one rest (Acts effect change) =
     Does p ev s f below one rest (applied ev effect s) (moved change (task_with f (command one ∷ rest) below))
-    × Suits ev effect s
+    × Suits ev effect s × EffectWithin p effect
 PlansCommand p ev s f below one rest (Refused why) = CommandRefuses ev s f one why
 
 -- whatever else the task has to do
@@ -62,9 +68,10 @@ PlansAssign s f x e = PlansOf s f (λ place. assign place x e)
 abbrev pub PlansLookUp : Common → Fixed → Occurrence → Expr → FieldId → Plan → Type 0
 PlansLookUp s f x e field = PlansOf s f (λ place. look_up place x e field)
 
--- of `E->f = F`
+-- of `E->f = F`, in a program that has the field
 abbrev pub PlansMutate : Common → Fixed → Expr → FieldId → Expr → Plan → Type 0
-PlansMutate s f e field v = PlansOf s f (λ place. mutate place e field v)
+PlansMutate s f e field v plan = (p : Program) (ev : Event) (place : Place) → field.0 < length p.fields
+    → Plans p ev s f (mutate place e field v) plan
 
 -- of `x = new()`
 abbrev pub PlansNew : Event → Common → Fixed → Occurrence → Plan → Type 0
@@ -113,6 +120,7 @@ pub record IsPlanned (p : Program) (ev : Event) (c : Config) (effect : Effect) (
   pub there : task_at ev.task c.tasks ≡ Some task
   pub steps : TaskStep p ev c.common task (applied ev effect c.common) (moved change task)
   pub suits : Suits ev effect c.common
+  pub within : EffectWithin p effect
 
 -- the plan is that of an event
 abbrev pub PlansEvent : Program → Event → Config → Plan → Type 0

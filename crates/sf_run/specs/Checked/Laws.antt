@@ -25,10 +25,10 @@ use Rattle.sf_foot.specs.Starting.{IsFreshFrom, StartsWith, store_of}
 use Rattle.sf_heap.specs.Cells.{Cells, heap_of}
 use Rattle.sf_machine.specs.Beginning.{Begins}
 use Rattle.sf_machine.specs.Ending.{Ends}
-use Rattle.sf_run.specs.Lone.{IsLone, IsFreeFrom, IsBase}
+use Rattle.sf_run.specs.Checked.Lone.{IsLone, IsFreeFrom, IsBase}
 use Rattle.sf_run.specs.Running.{ComesTo}
 use Rattle.sf_run.specs.Sequential.{IsSequential}
-use Rattle.sf_safe.specs.Law.{IsSound}
+use Rattle.sf_core.specs.Machine.Sound.{IsSound}
 
 -- from each start and each supply of units comes at most one outcome
 unfoldable pub OutcomesAreUnique : Type 0

@@ -16,9 +16,9 @@ use Rattle.sf_core.specs.Program.Syntax.{Program}
 use Rattle.sf_heap.specs.Cells.{FieldValues, cell_of}
 use Rattle.sf_run.specs.declared.running.Halt.{Halt}
 use Rattle.sf_run.specs.declared.running.Halt.TheVariants.{Ended, Spent, Waiting}
-use Rattle.sf_run.specs.Lone.{IsFreeFrom}
+use Rattle.sf_run.specs.Checked.Lone.{IsFreeFrom}
 use Rattle.sf_run.specs.Sequential.{IsSequential}
-use Rattle.sf_safe.specs.Law.{IsSound}
+use Rattle.sf_core.specs.Machine.Sound.{IsSound}
 
 -- the configuration is reached from a start of which no parallel call can be reached, and units are
 -- free

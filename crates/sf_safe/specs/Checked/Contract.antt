@@ -12,8 +12,10 @@ use Rattle.sf_base.specs.declared.value.Value.TheVariants.{Nil as nil}
 use Rattle.sf_base.specs.HeapStore.{Slot, shared, own}
 use Rattle.sf_calls.specs.Conditions.{Free}
 use Rattle.sf_core.specs.Assertions.Sat.{Sat}
+use Rattle.sf_core.specs.Checked.GoodParts.{SatEach}
 use Rattle.sf_core.specs.declared.command.Expr.{Expr}
 use Rattle.sf_core.specs.Machine.Config.{Fixed, evaluate}
+use Rattle.sf_core.specs.Machine.Good.{owed_by}
 use Rattle.sf_core.specs.Machine.Start.{entry_slot}
 use Rattle.sf_core.specs.Machine.Step.{procedure_at, room_count}
 use Rattle.sf_core.specs.Program.Formed.{IsOfResource}
@@ -76,11 +78,11 @@ pub record Entered (p : Program) (k : Known) (w : Own) : Type 0 where
       → value_of k w (OwnVar i) ≡ nil
   pub pre : Sat procedure.pre.level (see k w) (λ n. nil) w.cells
 
--- Ended: a frame ends, with just the cells that satisfy its postcondition
+-- Ended: a frame ends, with just the cells that satisfy what its return owes
 pub record Ended (p : Program) (k : Known) (w : Own) : Type 0 where
   pub procedure : Procedure
   pub owns : OwnsVariables p k procedure w
-  pub post : Sat procedure.post.level (see k w) (λ n. nil) w.cells
+  pub posts : SatEach (owed_by p procedure) (see k w) w.cells
 
 -- Returned: what a frame that has ended gives back: all that it owned but the slots that vanish with it
 pub record Returned (p : Program) (k : Known) (w : Own) : Type 0 where

@@ -9,7 +9,7 @@ use Rattle.sf_core.specs.Program.Syntax.{done, fork, mutate, then, with, Procedu
 use Rattle.sf_safe.specs.Checked.Own.{Own}
 use Rattle.sf_safe.specs.Checked.Contract.{Entered, Known}
 use Rattle.sf_safe.specs.Checked.Safe.{Safe}
-use Rattle.sf_safe.specs.Law.{IsSound}
+use Rattle.sf_core.specs.Machine.Sound.{IsSound}
 
 -- writes(x;) [] { x->hd = 7; } []
 abbrev pub writes : Procedure

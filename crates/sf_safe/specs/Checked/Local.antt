@@ -20,6 +20,8 @@ use Rattle.sf_core.specs.declared.command.Expr.{Expr}
 use Rattle.sf_core.specs.declared.command.Expr.TheVariants.{Var as Variable, Nil, Int}
 use Rattle.sf_core.specs.declared.command.Occurrence.{Occurrence}
 use Rattle.sf_core.specs.Assertions.Sat.{Sat, value}
+use Rattle.sf_core.specs.Checked.GoodParts.{SatEach}
+use Rattle.sf_core.specs.Machine.Good.{owed_by}
 use Rattle.sf_core.specs.Machine.Step.{procedure_at}
 use Rattle.sf_core.specs.Program.Formed.{IsOfResource}
 use Rattle.sf_core.specs.Program.Syntax.{Call, Procedure, Program, Resource}
@@ -96,12 +98,12 @@ pub record Begins (p : Program) (f : ProcId) (g : Procedure) (values : ℕ → V
   pub locals : (i : ℕ) → g.references + g.values ≤ i → i < length g.names → value_in l (OwnVar i) ≡ nil
   pub pre : Sat g.pre.level (look l) (λ n. nil) l.cells
 
--- Ends: just the cells that satisfy the postcondition
+-- Ends: just the cells that satisfy what the return owes
 pub record Ends (p : Program) (f : ProcId) (values : ℕ → Value) (l : Local) : Type 0 where
   pub procedure : Procedure
   pub there : procedure_at p f ≡ Some procedure
   pub owns : OwnsLocally p f procedure values l
-  pub post : Sat procedure.post.level (look l) (λ n. nil) l.cells
+  pub posts : SatEach (owed_by p procedure) (look l) l.cells
 
 -- IsShare: what a free resource has: its variables, its token, and cells that satisfy its invariant
 pub record IsShare (p : Program) (r : ResId) (l : Local) : Type 0 where

@@ -14,7 +14,7 @@ use Rattle.sf_core.specs.Machine.Config.{Item, command, leave, items}
 use Rattle.sf_core.specs.Machine.Step.{Finds, procedure_at}
 use Rattle.sf_core.specs.Program.Formed.{IsFormed}
 use Rattle.sf_core.specs.Program.Syntax.{Call, assign, look_up, mutate, new, dispose, if, while, call, fork, with, Procedure, Program}
-use Rattle.sf_safe.specs.Law.{IsSound}
+use Rattle.sf_core.specs.Machine.Sound.{IsSound}
 use Rattle.sf_safe.specs.Checked.Local.{Begins, ComesBack, Ends, Fits, HasIn, HasInAll, HasInTest, HasVar, IsShare, Lends, Local, LocalParts, arguments_in, look, put_local, put_variable}
 
 -- the frame has the variable and the cell that a command needs

@@ -25,7 +25,7 @@ use Rattle.sf_core.specs.Program.Syntax.{assign, done, fork, mutate, then, Call,
 use Rattle.sf_precise.specs.Annotations.{annotations_in}
 use Rattle.sf_rules.specs.Proving.{Proves}
 use Rattle.sf_rules.specs.Setting.{IsSettingOf, Setting}
-use Rattle.sf_safe.specs.Law.{IsSound}
+use Rattle.sf_core.specs.Machine.Sound.{IsSound}
 use Rattle.sf_sym.specs.declared.tag.Tag.{Tag}
 use Rattle.sf_sym.specs.declared.tag.Tag.TheVariants as t
 

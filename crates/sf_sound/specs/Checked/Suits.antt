@@ -14,7 +14,7 @@ use Rattle.sf_calls.specs.Assigned.{Assigned, MayChange}
 use Rattle.sf_calls.specs.Changes.{changed, changes_in}
 use Rattle.sf_calls.specs.Conditions.{Free}
 use Rattle.sf_core.specs.Assertions.Occurs.{OccursIn, VarOccursIn}
-use Rattle.sf_core.specs.Assertions.Precise.{IsPrecise}
+use Rattle.sf_core.specs.Checked.Assertions.Precise.{IsPrecise}
 use Rattle.sf_core.specs.Assertions.Sat.{Sat, value}
 use Rattle.sf_core.specs.declared.assertion.Operand.TheVariants.{Exists}
 use Rattle.sf_core.specs.declared.assertion.Test.{Test}

@@ -6,7 +6,7 @@ use Rattle.sf_base.specs.declared.ids.ResId.{ResId}
 use Rattle.sf_base.specs.declared.ids.Var.{Var}
 use Rattle.sf_base.specs.declared.ids.Var.TheVariants.{Own, Shared}
 use Rattle.sf_core.specs.Program.Formed.{IsFormed, IsParameter, variable_count}
-use Rattle.sf_core.specs.Machine.HeldBy.{HeldBy}
+use Rattle.sf_core.specs.Machine.HasThroughout.{HasThroughout}
 use Rattle.sf_core.specs.Program.Syntax.{Program, Resource}
 use Rattle.sf_calls.specs.Conditions.{Calls, Mentions, Enters, Takes, FreeIn, Free}
 use Rattle.sf_calls.specs.Checked.Laws.{TakesIsLeast, FreeIsLeast}
@@ -32,7 +32,7 @@ there rs k i h = go (slice_get rs k) refl h
     go (Some r) e h = slice_get_within rs k r e
 
 -- what is held is there
-pub holds_within : (p : Program) → IsFormed p → (f : ProcId) (r : ResId) → HeldBy p f r
+pub holds_within : (p : Program) → IsFormed p → (f : ProcId) (r : ResId) → HasThroughout p f r
     → r.0 < length p.resources
 holds_within p formed f r b =
     let w = formed.procedures f.0 b.procedure b.there in

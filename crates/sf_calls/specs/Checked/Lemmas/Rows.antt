@@ -19,7 +19,7 @@ use Rattle.sf_base.specs.declared.ids.Var.{Var}
 use Rattle.sf_base.specs.declared.ids.Var.TheVariants.{Own, Shared}
 use Rattle.sf_core.specs.declared.program.Proc.{Proc}
 use Rattle.sf_core.specs.declared.program.Program.{Program as CodeProgram}
-use Rattle.sf_core.specs.Machine.HeldBy.{HeldBy}
+use Rattle.sf_core.specs.Machine.HasThroughout.{HasThroughout}
 use Rattle.sf_core.specs.Assertions.Occurs.{VarOccursIn}
 use Rattle.sf_core.specs.Program.Syntax.{Procedure, Program}
 use Rattle.sf_core.specs.Program.ProgramView.{program_of}
@@ -143,10 +143,10 @@ pub holding_row : (p : Program) (r : ResId) (hs : List Proc) (summaries : List S
     (visited : List Bool)
     → map procedure_of hs ≡ p.procedures → AreSummaries p summaries
     → length summaries ≤ i → visited ≡ map (λ t. speaks_of r t.in_contract) (take i summaries)
-    → IsRow (length hs) (λ f. HeldBy p f r) visited
+    → IsRow (length hs) (λ f. HasThroughout p f r) visited
 unfolding Speaks
 holding_row p r hs summaries i visited same z past e =
-    row_same (length hs) _ (λ f. HeldBy p f r) visited
+    row_same (length hs) _ (λ f. HasThroughout p f r) visited
     (λ f s. record {
       procedure = s.0;
       there = ap (λ (k : List Procedure). slice_get k f.0) (sym same)

@@ -4,7 +4,7 @@ use Rattle.std.proofs.Common.{◌≡◌, ◌<◌, ◌+◌, ℕ, zero, suc, List,
 use Rattle.std.proofs.lemmas.Option.{none-some, same_Some}
 use Rattle.sf_base.specs.declared.ids.ProcId.{ProcId}
 use Rattle.sf_base.specs.declared.ids.ResId.{ResId}
-use Rattle.sf_core.specs.Machine.HeldBy.{HeldBy}
+use Rattle.sf_core.specs.Machine.HasThroughout.{HasThroughout}
 use Rattle.sf_core.specs.Program.Syntax.{Program}
 use Rattle.sf_calls.specs.Conditions.{Free, Takes}
 use Rattle.sf_calls.specs.Checked.Laws.{SetsExist}
@@ -72,10 +72,10 @@ sets_there p formed = (
         (λ f. resources_set p (Takes p f) (takes_decidable p f) (takes_within p formed f))
         (length p.procedures)
 
-    holds : (sets : List (List ResId)) × IsFamily IsResSet (HeldBy p) (length p.procedures) sets
+    holds : (sets : List (List ResId)) × IsFamily IsResSet (HasThroughout p) (length p.procedures) sets
     holds =
-        family_there IsResSet (HeldBy p)
-        (λ f. resources_set p (HeldBy p f) (holds_decidable p f) (holds_within p formed f))
+        family_there IsResSet (HasThroughout p)
+        (λ f. resources_set p (HasThroughout p f) (holds_decidable p f) (holds_within p formed f))
         (length p.procedures)
 
     free : (sets : List (List _)) × IsFamily IsVarSet (Free p) (length p.procedures) sets

@@ -12,7 +12,7 @@ use Rattle.sf_base.specs.declared.value.Value.{Value}
 use Rattle.sf_base.specs.declared.value.Value.TheVariants.{Nil as nil, Loc as loc}
 use Rattle.sf_core.specs.declared.command.Expr.{Expr}
 use Rattle.sf_base.proofs.HeapSplits.{one-in, one-single, one-splits, single}
-use Rattle.sf_core.proofs.Machine.Examples.Runs.{one-sat, sat-one, entry_part, entry_part-apart, ended-not_bad, set-good}
+use Rattle.sf_core.proofs.Machine.Examples.Runs.{one-sat, owes-first, sat-one, entry_part, entry_part-apart, ended-not_bad, set-good}
 use Rattle.sf_core.proofs.Machine.Tasks.{task_at-running}
 use Rattle.sf_base.proofs.MapSplits.{empty_map, empty-holds, splits-empty_left, splits-empty_right, apart-none}
 use Rattle.sf_core.proofs.Assertions.Segments.{loc-same, nil-not_loc}
@@ -20,7 +20,7 @@ use Rattle.sf_base.proofs.StoreSplits.{resource-is, resource-same}
 use Rattle.sf_core.specs.Machine.Bad.{Bad, IsAtNoCell}
 use Rattle.sf_core.specs.Machine.Next.{frame_next, next}
 use Rattle.sf_core.specs.Machine.Config.{Frame, runs, Path, Config, evaluate, task_at, IsCalled}
-use Rattle.sf_core.specs.Machine.Good.{Owner, resource, task, IsOwned, Returns, Good}
+use Rattle.sf_core.specs.Machine.Good.{HasOwed, Owner, resource, owed, IsOwned, Returns, Good}
 use Rattle.sf_base.specs.HeapStore.{Apart, Cell, Heap, IsEmpty, IsOne, shared}
 use Rattle.sf_core.specs.Checked.Machine.Examples.{lock, own_one, emp, one_cell, one_cell_at, main, main_done, set, set_done, setting, one_in, ended_with, EndedIsGoodWithItsCellAlone, returning_with, ReturningIsGoodWithItsCell, shared_one, skip, skip_done, guarding, guarded, shared_in, skip_ended_with, EndedIsGoodWithTheInvariantAlone, FreeResourcesHaveTheirCell, EndedWhileHeldIsNotGood}
 use Rattle.sf_core.specs.Assertions.Sat.{Foot}
@@ -29,7 +29,7 @@ use Rattle.sf_core.specs.Machine.Step.{procedure_at}
 use Rattle.sf_core.specs.Program.Syntax.{Procedure, Resource}
 
 -- a footprint of one cell has it where the expression says, and so the heap has it there
-foot-one : (x : Expr) (see : Expr → Value) (heap part : Heap) (a : ℕ) → see x ≡ loc a
+pub foot-one : (x : Expr) (see : Expr → Value) (heap part : Heap) (a : ℕ) → see x ≡ loc a
     → Foot (one_cell_at x).level see heap part → (k : Cell) × IsOne a k part × (heap a ≡ Some k)
 foot-one x see heap part a e f =
     let d = sat-one x see part f.sat in
@@ -38,8 +38,10 @@ foot-one x see heap part a e f =
     (d.1, one, one-in one f.splits)
 
 -- of a program without resources each cell is the entry's
-owned-entry : (part : Owner → Heap) (a : ℕ) (k : Cell) → IsOwned setting part a k → part (task []) a ≡ Some k
-owned-entry part a k (inl e) = e
+owned-entry : (part : Owner → Heap) (a : ℕ) (k : Cell) → IsOwned setting main part a k
+    → part (owed [] 0) a ≡ Some k
+owned-entry part a k (inl e) =
+    subst (λ z. part (owed [] z) a ≡ Some k) (get-single main.post.level e.1 e.0 e.2).0 e.3
 owned-entry part a k (inr e) = absurd (none-some e.1 e.2)
 
 -- a heap all of whose cells are in a part of one cell that it has is that cell
@@ -59,17 +61,18 @@ ended-one heap g =
     subst (λ (z : Frame). procedure_at setting z.fixed.procedure ≡ Some end.procedure) (sym frame)
     end.there in
     let procedure : end.procedure ≡ main = cc in
-    let post : Foot one_cell.level (evaluate end.frame.fixed.slots (one_in (loc 1))) heap (g.part (task [])) =
+    let post : Foot one_cell.level (evaluate end.frame.fixed.slots (one_in (loc 1))) heap (g.part (owed [] 0)) =
     subst (λ (z : Procedure). Foot z.post.level (evaluate end.frame.fixed.slots (one_in (loc 1))) heap
-    (g.part (task []))) procedure end.post in
-    let mine : Foot one_cell.level (evaluate entry_slot (one_in (loc 1))) heap (g.part (task [])) =
+    (g.part (owed [] 0))) procedure (end.posts 0 end.procedure.post.level refl) in
+    let mine : Foot one_cell.level (evaluate entry_slot (one_in (loc 1))) heap (g.part (owed [] 0)) =
     subst (λ (z : Frame). Foot one_cell.level (evaluate z.fixed.slots (one_in (loc 1))) heap
-    (g.part (task []))) (sym frame) post in
-    let one = foot-one (own_one 0) (evaluate entry_slot (one_in (loc 1))) heap (g.part (task [])) 1 refl
+    (g.part (owed [] 0))) (sym frame) post in
+    let one = foot-one (own_one 0) (evaluate entry_slot (one_in (loc 1))) heap (g.part (owed [] 0)) 1 refl
     mine in (
       one.0,
-      one-whole heap (g.part (task [])) 1 one.0 one.1 one.2
-          (λ b l e. owned-entry g.part b l (end.all b l e)),
+      one-whole heap (g.part (owed [] 0)) 1 one.0 one.1 one.2
+          (λ b l e. owned-entry g.part b l
+          (subst (λ (z : Procedure). IsOwned setting z g.part b l) procedure (end.all b l e))),
     )
 
 -- an ended entry is good exactly with its cell alone
@@ -79,7 +82,7 @@ ended_is_good_with_its_cell_alone heap = (ended-one heap, λ o. set-good (ended_
 
 -- A task alone, about to return
 -- nothing bad is next
-returning-not_bad : (c : Config) (frame : Frame) (below : List Frame) → c.tasks ≡ runs (frame ∷ below)
+pub returning-not_bad : (c : Config) (frame : Frame) (below : List Frame) → c.tasks ≡ runs (frame ∷ below)
     → frame.todo ≡ [] → Bad c → ⊥
 returning-not_bad c frame below only done (inl b) =
     let there : task_at b.path (runs (frame ∷ below)) ≡ Some b.task =
@@ -118,8 +121,7 @@ returning-good heap k e = record {
 
     post : (path : Path) (frame : Frame) (g : Procedure) → Returns (returning_with heap) path frame
         → procedure_at setting frame.fixed.procedure ≡ Some g
-        → Foot g.post.level (evaluate frame.fixed.slots (returning_with heap).common.store) heap
-        (entry_part (single 1 k) (task path))
+        → HasOwed setting g frame (returning_with heap).common (λ i. entry_part (single 1 k) (owed path i))
     post path frame g r h =
         let top : path ≡ [] = task_at-running path (set_done ∷ main_done ∷ []) (runs (frame ∷ r.below))
         r.there in
@@ -129,20 +131,21 @@ returning-good heap k e = record {
         let there : procedure_at setting set_done.fixed.procedure ≡ Some g =
         subst (λ (z : Frame). procedure_at setting z.fixed.procedure ≡ Some g) (sym same) h in
         let procedure : set ≡ g = cc in
-        subst (λ z. Foot g.post.level (evaluate frame.fixed.slots (returning_with heap).common.store) heap
-        (entry_part (single 1 k) (task z))) (sym top)
-        (subst (λ (z : Frame). Foot g.post.level (evaluate z.fixed.slots (returning_with heap).common.store)
-        heap (single 1 k)) same
-        (subst (λ (z : Procedure). Foot z.post.level
-        (evaluate set_done.fixed.slots (returning_with heap).common.store) heap (single 1 k)) procedure
-        foot))
+        subst (λ z. HasOwed setting g frame (returning_with heap).common
+        (λ i. entry_part (single 1 k) (owed z i))) (sym top)
+        (subst (λ (z : Frame). HasOwed setting g z (returning_with heap).common
+        (λ i. entry_part (single 1 k) (owed [] i))) same
+        (subst (λ (z : Procedure). HasOwed setting z set_done (returning_with heap).common
+        (λ i. entry_part (single 1 k) (owed [] i))) procedure
+        (owes-first setting set set_done (returning_with heap).common
+        (λ i. entry_part (single 1 k) (owed [] i)) foot)))
 
 returning-one : (heap : Heap) → Good setting (returning_with heap) → (k : Cell) × (heap 1 ≡ Some k)
 returning-one heap g =
     let foot = g.posts [] set_done set
-    (record { below = main_done ∷ []; there = refl; done = refl; called = tt }) refl in
+    (record { below = main_done ∷ []; there = refl; done = refl; called = tt }) refl 0 one_cell.level refl in
     let one = foot-one (own_one 0) (evaluate set_done.fixed.slots (returning_with heap).common.store) heap
-    (g.part (task [])) 1 refl foot in
+    (g.part (owed [] 0)) 1 refl foot in
     (one.0, one.2)
 
 -- a callee at its return is good exactly with its cell
@@ -178,7 +181,7 @@ ended_while_held_is_not_good c path end held g =
 -- the whole heap is the resource's
 abbrev shared_part : Heap → Owner → Heap
 shared_part h (resource r) = λ a. cond (r.0 == 0) (h a) None
-shared_part h (task path) = λ a. None
+shared_part h (owed path i) = λ a. None
 
 shared_part-apart : (h : Heap) (owner other : Owner) → owner ≢ other → (a : ℕ)
     → Apart (shared_part h owner a) (shared_part h other a)
@@ -188,8 +191,8 @@ shared_part-apart h (resource r) (resource s) n a = go (r.0 == 0) (s.0 == 0) ref
     go true true e f = absurd (n (ap resource (resource-same r lock e ∙ sym (resource-same s lock f))))
     go true false e f = apart-none (h a)
     go false c e f = tt
-shared_part-apart h (resource r) (task path) n a = apart-none (cond (r.0 == 0) (h a) None)
-shared_part-apart h (task path) other n a = tt
+shared_part-apart h (resource r) (owed path i) n a = apart-none (cond (r.0 == 0) (h a) None)
+shared_part-apart h (owed path i) other n a = tt
 
 skip_ended-good : (heap : Heap) (k : Cell) → IsOne 1 k heap → Good guarded (skip_ended_with heap)
 skip_ended-good heap k o = record {
@@ -204,11 +207,11 @@ skip_ended-good heap k o = record {
     procedure = skip;
     there = refl;
     free = λ r of e. refl;
-    post = record {
+    posts = owes-first guarded skip skip_done (skip_ended_with heap).common (λ i a. None) (record {
       rest = heap;
       splits = splits-empty_left empty-holds;
       sat = (λ n. nil, λ n i. refl, empty-holds);
-    };
+    });
     all = λ a l e. inr (lock, guarding, refl, e);
   };
 }
@@ -246,19 +249,23 @@ skip_ended-one heap g =
     subst (λ (z : Frame). procedure_at guarded z.fixed.procedure ≡ Some end.procedure) (sym frame)
     end.there in
     let procedure : end.procedure ≡ skip = cc in
-    let post : Foot emp.level (evaluate end.frame.fixed.slots (shared_in (loc 1))) heap (g.part (task [])) =
+    let post : Foot emp.level (evaluate end.frame.fixed.slots (shared_in (loc 1))) heap (g.part (owed [] 0)) =
     subst (λ (z : Procedure). Foot z.post.level (evaluate end.frame.fixed.slots (shared_in (loc 1))) heap
-    (g.part (task []))) procedure end.post in
+    (g.part (owed [] 0))) procedure (end.posts 0 end.procedure.post.level refl) in
     let one = foot-one shared_one (evaluate entry_slot (shared_in (loc 1))) heap (g.part (resource lock)) 1
     refl (g.invariants lock guarding refl refl) in (
       one.0,
       one-whole heap (g.part (resource lock)) 1 one.0 one.1 one.2
-          (λ b l e. owned b l post.sat.2 (end.all b l e)),
+          (λ b l e. owned b l post.sat.2
+          (subst (λ (z : Procedure). IsOwned guarded z g.part b l) procedure (end.all b l e))),
     )
   where
-    owned : (b : ℕ) (l : Cell) → IsEmpty (g.part (task [])) → IsOwned guarded g.part b l
+    owned : (b : ℕ) (l : Cell) → IsEmpty (g.part (owed [] 0)) → IsOwned guarded skip g.part b l
         → g.part (resource lock) b ≡ Some l
-    owned b l n (inl e) = absurd (none-some l (sym (n.none b) ∙ e))
+    owned b l n (inl e) =
+        let here : g.part (owed [] 0) b ≡ Some l = subst (λ z. g.part (owed [] z) b ≡ Some l)
+        (get-single skip.post.level e.1 e.0 e.2).0 e.3 in
+        absurd (none-some l (sym (n.none b) ∙ here))
     owned b l n (inr e) = let at : e.0 ≡ lock =
         resource-is e.0 lock (get-single guarding e.1 e.0.0 e.2).0 in
         subst (λ z. g.part (resource z) b ≡ Some l) at e.3

@@ -37,21 +37,21 @@ side-enabled this that s path one e =
     side-tasks this that s path one e.there (enabled-may_go (side_by_side this that s) path one e)
 
 -- what a child with that to do does next, its slots from that index on
-abbrev child_next : ℕ → List Item → Next
+abbrev pub child_next : ℕ → List Item → Next
 child_next first todo = frame_next (child first) [] todo
 
 -- a child with that to do doesn't touch an absent cell
-abbrev Finds : ℕ → List Item → Common → Type 0
+abbrev pub Finds : ℕ → List Item → Common → Type 0
 Finds first todo s = IsAtNoCell s (child_next first todo) → ⊥
 
 -- what the one writes the other neither reads nor writes
-abbrev Minds : (first : ℕ) (todo : List Item) (other : ℕ) (others : List Item) → Common → Type 0
+abbrev pub Minds : (first : ℕ) (todo : List Item) (other : ℕ) (others : List Item) → Common → Type 0
 Minds first todo other others s =
     (thing : Thing) → Writes s.store (child_next first todo) thing
     → Reads s.store (child_next other others) thing ⊎ Writes s.store (child_next other others) thing → ⊥
 
 -- two tasks side by side aren't bad where both find their cells and neither minds the other
-side-good : (this that : List Item) (s : Common) → Finds 0 this s → Finds 2 that s → Minds 0 this 2 that s
+pub side-good : (this that : List Item) (s : Common) → Finds 0 this s → Finds 2 that s → Minds 0 this 2 that s
     → Minds 2 that 0 this s → Bad (side_by_side this that s) → ⊥
 side-good this that s f g m n (inl b) =
     elim (side-enabled this that s b.path b.task b.enabled) [

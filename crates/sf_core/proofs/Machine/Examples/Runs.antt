@@ -1,11 +1,11 @@
 -- The examples of runs, and of a start without resources.
 -- Names: each example has the name of its function; `ended-WHAT` speaks of an ended entry, `one-WHAT` of a cell.
-use Rattle.std.specs.Prelude.{◌≡◌, ◌≢◌, ℕ, ◌==◌, ◌&&◌, pos, false, cond, [], ◌∷◌, Some, None, ◌⊎◌, ◌<◌}
+use Rattle.std.specs.Prelude.{◌≡◌, ◌≢◌, ℕ, zero, suc, ◌==◌, ◌&&◌, pos, false, cond, [], ◌∷◌, Some, None, ◌⊎◌, ◌<◌}
 use Rattle.std.specs.List.{slice_get}
 use Rattle.std.specs.Option.{unwrap_or}
 use Rattle.std.proofs.Common.{sym, ap, ap₂, ◌∙◌, refl, subst, inl, inr, arith}
 use Rattle.std.proofs.lemmas.Bool.{and_parts}
-use Rattle.std.proofs.lemmas.Option.{none-some}
+use Rattle.std.proofs.lemmas.Option.{none-some, same_Some}
 use Rattle.sf_base.proofs.Options.{cond-some}
 use Rattle.sf_base.specs.declared.ids.ResId.{ResId}
 use Rattle.sf_base.specs.declared.ids.Var.{Var}
@@ -22,12 +22,12 @@ use Rattle.sf_base.proofs.MapSplits.{apart-none, splits-empty_right}
 use Rattle.sf_core.specs.Machine.Bad.{Bad}
 use Rattle.sf_core.specs.Machine.Config.{Frame, Task, runs, Path, Common, Config, evaluate, task_at, put_task, adds, IsCalled}
 use Rattle.sf_core.specs.Machine.Enabled.{HasEnded}
-use Rattle.sf_core.specs.Machine.Good.{Owner, resource, task, Returns, Good}
+use Rattle.sf_core.specs.Machine.Good.{HasOwed, Owner, resource, owed, Returns, Good}
 use Rattle.sf_base.specs.HeapStore.{Apart, Splits, Cell, put_field, Heap, IsOne, Slot, shared, own}
-use Rattle.sf_core.specs.Machine.HeldBy.{HeldBy}
+use Rattle.sf_core.specs.Machine.HasThroughout.{HasThroughout}
 use Rattle.sf_core.specs.Checked.Machine.Examples.{at_own, own_one, one_cell, one_cell_at, main, main_done, set, setting, one_at, one_in, event, setting_start, SettingStarts, CallMutateReturn, alone, DisposeAtNilIsBad, makes, makes_twice, FreedLocationsComeAgain, skip, forking, forking_start, ChildrenEndInAnyOrder, fill, filling, filling_start, ChildrenFillReferences, hands_on, passing, passing_start, ReferencesArePassedOn, locks_and_loops, RegionThenLoop}
 use Rattle.sf_core.specs.Assertions.Occurs.{VarOccursIn}
-use Rattle.sf_core.specs.Assertions.Sat.{Sat}
+use Rattle.sf_core.specs.Assertions.Sat.{Foot, Sat}
 use Rattle.sf_core.specs.Machine.Start.{IsKept, entry_slot}
 use Rattle.sf_core.specs.Machine.Step.{Event, procedure_at, TaskStep, Step}
 use Rattle.sf_core.specs.Program.Syntax.{Procedure, Program, Resource}
@@ -179,7 +179,7 @@ setting_starts k = record {
     in_contract : (x : Var) → VarOccursIn one_cell.level x → Own 0 ≡ x
     in_contract x o = elim (o.2).0 [ inl f ↦ is_first x o.0 o.1 f | inr z ↦ absurd z ]
 
-    held : (r : ResId) → HeldBy setting (record { 0 = 0 }) r → ⊥
+    held : (r : ResId) → HasThroughout setting (record { 0 = 0 }) r → ⊥
     held r h =
         let same : main ≡ h.procedure = cc (h.there) in
         elim h.occurs [
@@ -206,20 +206,30 @@ setting_starts k = record {
         (at-same 0 f b.0, below)
 
 -- An ended entry
--- the whole heap is the entry's
+-- what a return owes is its procedure's postcondition
+pub owes-first : (p : Program) (g : Procedure) (frame : Frame) (s : Common) (parts : ℕ → Heap)
+    → Foot g.post.level (evaluate frame.fixed.slots s.store) s.heap (parts 0) → HasOwed p g frame s parts
+owes-first p g frame s parts f zero a e =
+    subst (λ z. Foot z (evaluate frame.fixed.slots s.store) s.heap (parts 0)) (same_Some g.post.level a e) f
+owes-first p g frame s parts f (suc i) a e = absurd (none-some a e)
+
+-- the whole heap is what the entry owes first
 abbrev pub entry_part : Heap → Owner → Heap
 entry_part h (resource r) = λ a. None
-entry_part h (task []) = h
-entry_part h (task (turn ∷ path)) = λ a. None
+entry_part h (owed [] zero) = h
+entry_part h (owed [] (suc i)) = λ a. None
+entry_part h (owed (turn ∷ path) i) = λ a. None
 
 -- these parts are disjoint
 pub entry_part-apart : (h : Heap) (owner other : Owner) → owner ≢ other → (a : ℕ)
     → Apart (entry_part h owner a) (entry_part h other a)
 entry_part-apart h (resource r) other n a = tt
-entry_part-apart h (task []) (resource r) n a = apart-none (h a)
-entry_part-apart h (task []) (task []) n a = absurd (n refl)
-entry_part-apart h (task []) (task (turn ∷ path)) n a = apart-none (h a)
-entry_part-apart h (task (turn ∷ path)) other n a = tt
+entry_part-apart h (owed [] zero) (resource r) n a = apart-none (h a)
+entry_part-apart h (owed [] zero) (owed [] zero) n a = absurd (n refl)
+entry_part-apart h (owed [] zero) (owed [] (suc i)) n a = apart-none (h a)
+entry_part-apart h (owed [] zero) (owed (turn ∷ path) i) n a = apart-none (h a)
+entry_part-apart h (owed [] (suc i)) other n a = tt
+entry_part-apart h (owed (turn ∷ path) i) other n a = tt
 
 -- nothing bad comes after the end
 pub ended-not_bad : (c : Config) → HasEnded [] c.tasks → Bad c → ⊥
@@ -249,8 +259,8 @@ ended-good p c frame g none_there only done is sat = record {
     procedure = g;
     there = is;
     free = λ r of e. absurd (no_resource r of e);
-    post = record { rest = λ a. None; splits = all-nothing c.common.heap; sat = sat };
-    all = λ a k e. inl e;
+    posts = owes-first p g frame c.common (λ i. entry_part c.common.heap (owed [] i)) whole;
+    all = λ a k e. inl (0, g.post.level, refl, e);
   };
 }
   where
@@ -259,6 +269,9 @@ ended-good p c frame g none_there only done is sat = record {
 
     no_resource : (r : ResId) (of : Resource) → slice_get p.resources r.0 ≡ Some of → ⊥
     no_resource r of e = none-some of (subst (λ z. slice_get z r.0 ≡ Some of) none_there e)
+
+    whole : Foot g.post.level (evaluate frame.fixed.slots c.common.store) c.common.heap c.common.heap
+    whole = record { rest = λ a. None; splits = all-nothing c.common.heap; sat = sat }
 
     no_return : (path : Path) (other : Frame) → Returns c path other → ⊥
     no_return path other r =

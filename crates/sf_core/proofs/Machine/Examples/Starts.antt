@@ -17,7 +17,7 @@ use Rattle.sf_core.proofs.Machine.Examples.Runs.{one-sat, sat-one}
 use Rattle.sf_base.proofs.Options.{cond-some}
 use Rattle.sf_core.specs.Machine.Config.{evaluate}
 use Rattle.sf_base.specs.HeapStore.{Slot, shared, own, ◌⋆◌}
-use Rattle.sf_core.specs.Machine.HeldBy.{HeldBy}
+use Rattle.sf_core.specs.Machine.HasThroughout.{HasThroughout}
 use Rattle.sf_core.specs.Checked.Machine.Examples.{lock, at_shared, shared_one, emp, guarding, skip, takes, guarded, one_at, one_cell_at, shared_in, SkipStartsWithTheInvariant, SkipStartsWithNothingElse, SkipDoesNotStartWithNothing, HoldersDoNotStart}
 use Rattle.sf_core.specs.Assertions.Occurs.{VarOccursIn}
 use Rattle.sf_core.specs.Assertions.Sat.{Sat}
@@ -47,7 +47,7 @@ skip_starts_with_the_invariant k = record {
     nothing-occurs : (x : Var) → VarOccursIn emp.level x → ⊥
     nothing-occurs x o = o.2.0
 
-    held : (r : ResId) → HeldBy guarded (record { 0 = 0 }) r → ⊥
+    held : (r : ResId) → HasThroughout guarded (record { 0 = 0 }) r → ⊥
     held r h =
         let same : skip ≡ h.procedure = cc (h.there) in
         elim h.occurs [

@@ -11,7 +11,7 @@ use Rattle.sf_base.specs.declared.limits.TheConstants.{TURNS}
 use Rattle.sf_base.specs.declared.path.Turn.TheVariants.{Left as left, Right as right}
 use Rattle.sf_base.specs.HeapStore.{Slot, shared, own}
 use Rattle.sf_core.specs.Machine.Config.{Item, command, leave, items, Room, in_room, Fixed, Frame, Task, runs, waits, Path, Common, Config, task_at, put_task, adds, IsCalled, IsOver}
-use Rattle.sf_core.specs.Machine.InOrder.{EachStack, stack_of, ItemWithin, FrameIsFormed, exits, regions, is_outer, rooms_with, times_there, with_rooms, NamesInTree, EndsInEntry, WaitersHaveFrames, HasTurns, IsInOrder}
+use Rattle.sf_core.specs.Checked.Machine.InOrder.{EachStack, stack_of, ItemWithin, FrameIsFormed, exits, regions, is_outer, rooms_with, times_there, with_rooms, NamesInTree, EndsInEntry, WaitersHaveFrames, HasTurns, IsInOrder}
 use Rattle.sf_core.specs.Machine.Next.{frame_next}
 use Rattle.sf_core.specs.Machine.Step.{Event, index_of, close_room, arguments, room_for, room_count, callee_frame, fork_task, task_with, procedure_at, Goes, TaskStep, Step}
 use Rattle.sf_core.specs.Program.Formed.{IsFormed}

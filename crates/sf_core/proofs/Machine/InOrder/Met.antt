@@ -16,7 +16,7 @@ use Rattle.sf_core.specs.declared.command.Expr.TheVariants.{Var as Variable, Nil
 use Rattle.sf_base.specs.HeapStore.{Slot, Store}
 use Rattle.sf_core.specs.Machine.Config.{Item, command, leave, in_room, Fixed, Frame, Task, runs, waits, Path, Config, task_at}
 use Rattle.sf_core.specs.Machine.Enabled.{variable, ReadsExpr, ReadsTest, ReadsAll, IsCellAt, CommandReads, CommandWrites, Reads, Writes}
-use Rattle.sf_core.specs.Machine.InOrder.{exits, regions, stack_of, IsInOrder}
+use Rattle.sf_core.specs.Checked.Machine.InOrder.{exits, regions, stack_of, IsInOrder}
 use Rattle.sf_core.specs.Checked.Machine.Laws.{CommandStops, Stops, CommandMayStop, MayStop}
 use Rattle.sf_core.specs.Machine.Next.{frame_next, next}
 use Rattle.sf_core.specs.Machine.Step.{procedure_at, task_with}

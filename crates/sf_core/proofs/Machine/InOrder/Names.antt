@@ -12,7 +12,7 @@ use Rattle.sf_base.specs.declared.ids.Var.TheVariants.{Own, Shared}
 use Rattle.sf_base.specs.HeapStore.{Slot, own}
 use Rattle.sf_core.specs.declared.command.Occurrence.{Occurrence}
 use Rattle.sf_core.specs.Machine.Config.{Room, in_room, Fixed}
-use Rattle.sf_core.specs.Machine.InOrder.{NamesOf}
+use Rattle.sf_core.specs.Checked.Machine.InOrder.{NamesOf}
 use Rattle.sf_core.specs.Machine.Step.{own_slot, slots_of, room_for, callee_frame, procedure_at}
 use Rattle.sf_core.specs.Program.Formed.{IsInBody, IsSettable, HasCounts, CallWithin}
 use Rattle.sf_core.specs.Program.Syntax.{Call, Procedure, Program}

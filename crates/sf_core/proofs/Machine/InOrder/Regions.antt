@@ -7,7 +7,7 @@ use Rattle.sf_base.proofs.StoreSplits.{resource-same}
 use Rattle.sf_base.proofs.Options.{some-none}
 use Rattle.sf_base.specs.declared.ids.ResId.{ResId}
 use Rattle.sf_core.specs.Machine.Config.{Item, Fixed, Frame, Task, runs, Path, Common, task_at, put_task}
-use Rattle.sf_core.specs.Machine.InOrder.{stack_of, exits, regions}
+use Rattle.sf_core.specs.Checked.Machine.InOrder.{stack_of, exits, regions}
 use Rattle.sf_core.specs.Machine.Step.{set_holder}
 use Rattle.sf_core.proofs.Machine.Decided.{resource-or_not}
 use Rattle.sf_core.proofs.Machine.InOrder.Shapes.{Hands, same, enters, exits_one}

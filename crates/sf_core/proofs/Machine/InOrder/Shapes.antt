@@ -10,7 +10,7 @@ use Rattle.sf_base.specs.declared.ids.Var.TheVariants.{Own, Shared}
 use Rattle.sf_base.specs.declared.limits.TheConstants.{TURNS}
 use Rattle.sf_base.specs.declared.value.Value.{Value}
 use Rattle.sf_core.specs.Machine.Config.{Item, command, leave, items, Fixed, Frame, Task, runs, Path, Common}
-use Rattle.sf_core.specs.Machine.InOrder.{ItemWithin, exits}
+use Rattle.sf_core.specs.Checked.Machine.InOrder.{ItemWithin, exits}
 use Rattle.sf_core.specs.Machine.Step.{Event, set_slot, set_holder, open_room, room_count, room_for, arguments, callee_frame, fork_task, task_with, procedure_at, Does}
 use Rattle.sf_core.specs.Program.Formed.{IsInBody, IsSettable, CommandWithin, BlockWithin, CallWithin}
 use Rattle.sf_core.specs.Program.Syntax.{Block, done, then, Call, Command, assign, look_up, mutate, new, dispose, if, while, call, fork, with, Procedure, Program}

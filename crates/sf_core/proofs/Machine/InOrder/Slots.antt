@@ -12,7 +12,7 @@ use Rattle.sf_base.specs.declared.path.Turn.TheVariants.{Left as left, Right as 
 use Rattle.sf_base.specs.declared.value.Value.{Value}
 use Rattle.sf_base.specs.HeapStore.{Slot, shared, own, same_slot, Store}
 use Rattle.sf_core.specs.Machine.Config.{Room, in_room, Fixed, Frame, Item, Task, runs, waits, Path, Common, task_at, put_task}
-use Rattle.sf_core.specs.Machine.InOrder.{EachStack, is_outer, rooms_in, rooms_with, times_there, with_rooms, NamesInTree}
+use Rattle.sf_core.specs.Checked.Machine.InOrder.{EachStack, is_outer, rooms_in, rooms_with, times_there, with_rooms, NamesInTree}
 use Rattle.sf_core.specs.Machine.Step.{set_slot}
 use Rattle.sf_core.specs.Program.Syntax.{Procedure, Program}
 use Rattle.sf_core.proofs.Machine.InOrder.Trees.{rooms-put}

@@ -15,7 +15,7 @@ use Rattle.sf_base.specs.declared.ids.Var.TheVariants.{Own, Shared}
 use Rattle.sf_base.specs.declared.path.Turn.TheVariants.{Left as left, Right as right}
 use Rattle.sf_base.specs.HeapStore.{Heap, Slot, shared, own, Store}
 use Rattle.sf_core.specs.Machine.Config.{items, in_room, runs, Path, Config, task_at}
-use Rattle.sf_core.specs.Machine.InOrder.{stack_of, exits, regions, is_outer, times_there, with_rooms, NamesOf, IsInOrder}
+use Rattle.sf_core.specs.Checked.Machine.InOrder.{stack_of, exits, regions, is_outer, times_there, with_rooms, NamesOf, IsInOrder}
 use Rattle.sf_core.specs.Machine.Reach.{Reach}
 use Rattle.sf_core.specs.Machine.Start.{entry_slot, entry_frame, Start}
 use Rattle.sf_core.specs.Machine.Step.{Event, procedure_at, room_for}

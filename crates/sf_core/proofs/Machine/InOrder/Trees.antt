@@ -8,7 +8,7 @@ use Rattle.sf_base.specs.declared.path.Turn.{Turn}
 use Rattle.sf_base.specs.declared.path.Turn.TheVariants.{Left as left, Right as right}
 use Rattle.sf_base.specs.HeapStore.{Slot}
 use Rattle.sf_core.specs.Machine.Config.{Fixed, IsCalled, Item, Frame, Task, runs, waits, Path, task_at, put_task}
-use Rattle.sf_core.specs.Machine.InOrder.{EndsInEntry, EachStack, stack_of, regions, rooms_with, with_rooms, NamesInTree, WaitersHaveFrames, HasTurns}
+use Rattle.sf_core.specs.Checked.Machine.InOrder.{EndsInEntry, EachStack, stack_of, regions, rooms_with, with_rooms, NamesInTree, WaitersHaveFrames, HasTurns}
 use Rattle.sf_core.specs.Program.Syntax.{Procedure, Program}
 use Rattle.sf_core.proofs.Machine.Progress.{path-or_not}
 

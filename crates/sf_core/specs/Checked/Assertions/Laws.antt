@@ -13,9 +13,9 @@ use Rattle.sf_core.specs.declared.command.Expr.{Expr}
 use Rattle.sf_core.specs.Assertions.Determined.{CanBeTaken, Determined, HasOrder, Leaves, is_learned_in, known_after}
 use Rattle.sf_base.specs.HeapStore.{Heap, Splits}
 use Rattle.sf_core.specs.Assertions.Occurs.{OccursInAll, VarOccursIn}
-use Rattle.sf_core.specs.Assertions.Precise.{IsPrecise}
+use Rattle.sf_core.specs.Checked.Assertions.Precise.{IsPrecise}
 use Rattle.sf_core.specs.Assertions.Sat.{Sat, SatAll, SatOne, Seg, Tree, operand, value}
-use Rattle.sf_core.specs.Assertions.Shape.{IsAcyclic, IsFinite, IsUnshared}
+use Rattle.sf_core.specs.Checked.Assertions.Shape.{IsAcyclic, IsFinite, IsUnshared}
 use Rattle.sf_core.specs.Program.Syntax.{Conjunct, Conjuncts, Level, level, points, segment, tree}
 
 -- the two parts of a heap may be exchanged

@@ -105,7 +105,7 @@ event path number = record { task = path; number = number; at = 0; fields = λ f
 
 -- `main` starts at the one cell
 abbrev pub setting_start : Cell → Config
-setting_start k = initial_config (record { 0 = 0 }) main (one_in (loc 1)) (one_at k)
+setting_start k = initial_config setting (record { 0 = 0 }) main (one_in (loc 1)) (one_at k)
 
 -- that is a start
 unfoldable pub SettingStarts : Type 0
@@ -245,7 +245,7 @@ forking = record { fields = codes "hd" ∷ []; resources = []; procedures = fork
 
 -- `forks` starts with no variables and no cells
 abbrev pub forking_start : Config
-forking_start = initial_config (record { 0 = 0 }) forks (λ slot. None) (λ a. None)
+forking_start = initial_config forking (record { 0 = 0 }) forks (λ slot. None) (λ a. None)
 
 -- the children of a fork may end in either order, and then the parent joins them and the entry has ended
 unfoldable pub ChildrenEndInAnyOrder : Type 0
@@ -279,7 +279,7 @@ filling = record { fields = codes "hd" ∷ []; resources = []; procedures = pair
 
 -- `pair` starts with its two variables at nil
 abbrev pub filling_start : Config
-filling_start = initial_config (record { 0 = 0 }) pair
+filling_start = initial_config filling (record { 0 = 0 }) pair
     (λ slot. cond (same_slot slot (own 0 0)) (Some nil) (cond (same_slot slot (own 0 1)) (Some nil) None))
     (λ a. None)
 
@@ -322,7 +322,7 @@ passing = record { fields = codes "hd" ∷ []; resources = []; procedures = pass
 
 -- `passes` starts with its variable at nil
 abbrev pub passing_start : Config
-passing_start = initial_config (record { 0 = 0 }) passes (one_in nil) (λ a. None)
+passing_start = initial_config passing (record { 0 = 0 }) passes (one_in nil) (λ a. None)
 
 -- a reference that is passed on as a reference is still the first caller's variable: two calls, an assignment
 -- and two returns set it
@@ -391,6 +391,34 @@ unfoldable pub ReturningIsGoodWithItsCell : Type 0
 ReturningIsGoodWithItsCell = (heap : Heap) → Good setting (returning_with heap)
     ↔ ((k : Cell) × (heap 1 ≡ Some k))
 
+-- two children of `set` are at their returns, the value of the one at that location and that of the other at the
+-- other
+abbrev pub returning_together : (location other : ℕ) → Heap → Config
+returning_together location other heap = side_by_side [] [] (record {
+  heap = heap;
+  store = λ slot. cond (same_slot slot (own 1 0)) (Some (loc location))
+      (cond (same_slot slot (own 1 2)) (Some (loc other)) None);
+  held = λ r. None;
+})
+
+-- the heap has a cell at each of two locations, which differ
+pub record HasTwoCells (location other : ℕ) (heap : Heap) : Type 0 where
+  pub different : location ≢ other
+  pub cell : Cell
+  pub there : heap location ≡ Some cell
+  pub other_cell : Cell
+  pub other_there : heap other ≡ Some other_cell
+
+-- that is good exactly where each has its own cell
+unfoldable pub ReturningTogetherIsGoodWithTwoCells : Type 0
+ReturningTogetherIsGoodWithTwoCells = (location other : ℕ) (heap : Heap)
+    → Good setting (returning_together location other heap) ↔ HasTwoCells location other heap
+
+-- so two children at their returns over one cell aren't good
+unfoldable pub ReturningTogetherOverOneCellIsNotGood : Type 0
+ReturningTogetherOverOneCellIsNotGood = (location : ℕ) (heap : Heap)
+    → Good setting (returning_together location location heap) → ⊥
+
 -- the only variable of the only resource, with its place in the text
 abbrev pub at_shared : Occurrence
 at_shared = record { var = Shared lock 0; place = here }
@@ -433,6 +461,33 @@ unfoldable pub EndedIsGoodWithTheInvariantAlone : Type 0
 EndedIsGoodWithTheInvariantAlone = (heap : Heap) → Good guarded (skip_ended_with heap)
     ↔ ((k : Cell) × IsOne 1 k heap)
 
+-- `main` and `set`, with that resource
+abbrev pub guarded_setting : Program
+guarded_setting = record { fields = codes "hd" ∷ []; resources = guarding ∷ []; procedures = main ∷ set ∷ [] }
+
+-- `set` is at its return, its value at that location, and the resource is free, its variable at the other
+abbrev pub returning_beside : (location other : ℕ) → Heap → Config
+returning_beside location other heap = record {
+  common = record {
+    heap = heap;
+    store = λ slot. cond (same_slot slot (own 1 0)) (Some (loc location))
+        (shared_in (loc other) slot);
+    held = λ r. None;
+  };
+  used = adds 1 (λ number. number == 0);
+  tasks = runs (set_done ∷ main_done ∷ []);
+}
+
+-- that is good exactly where the callee has its cell and the resource another
+unfoldable pub ReturningBesideAResourceIsGoodWithTwoCells : Type 0
+ReturningBesideAResourceIsGoodWithTwoCells = (location other : ℕ) (heap : Heap)
+    → Good guarded_setting (returning_beside location other heap) ↔ HasTwoCells location other heap
+
+-- so a callee at its return over the cell of a free resource isn't good
+unfoldable pub ReturningOverAResourceIsNotGood : Type 0
+ReturningOverAResourceIsNotGood = (location : ℕ) (heap : Heap)
+    → Good guarded_setting (returning_beside location location heap) → ⊥
+
 -- the heap has a cell where the variable of the resource says
 pub record HasSharedCell (store : Store) (heap : Heap) : Type 0 where
   pub location : ℕ
@@ -454,7 +509,7 @@ EndedWhileHeldIsNotGood = (c : Config) (path : Path) → HasEnded [] c.tasks →
 -- `skip` starts at the one cell of the invariant
 unfoldable pub SkipStartsWithTheInvariant : Type 0
 SkipStartsWithTheInvariant = (k : Cell) → Start guarded (record { 0 = 0 }) (shared_in (loc 1)) (one_at k)
-    (initial_config (record { 0 = 0 }) skip (shared_in (loc 1)) (one_at k))
+    (initial_config guarded (record { 0 = 0 }) skip (shared_in (loc 1)) (one_at k))
 
 -- it starts with no other heap than one cell where the variable of the resource says
 unfoldable pub SkipStartsWithNothingElse : Type 0
@@ -546,7 +601,7 @@ setting_twice = record { fields = codes "hd" ∷ []; resources = []; procedures 
 
 -- `twice` starts at the one cell
 abbrev pub twice_start : Cell → Config
-twice_start k = initial_config (record { 0 = 0 }) twice (one_in (loc 1)) (one_at k)
+twice_start k = initial_config setting_twice (record { 0 = 0 }) twice (one_in (loc 1)) (one_at k)
 
 -- the slot of the first call, which has returned, is gone, and the second call has another
 pub record HasNewRoom (number : ℕ) (d : Config) : Type 0 where

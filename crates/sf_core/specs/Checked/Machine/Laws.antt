@@ -7,7 +7,7 @@ use Rattle.sf_base.specs.declared.path.Turn.TheVariants.{Left as left, Right as 
 use Rattle.sf_base.specs.declared.ids.ProcId.{ProcId}
 use Rattle.sf_base.specs.declared.value.Value.{Value}
 use Rattle.sf_core.specs.Machine.Bad.{Bad, IsAbsent, TouchesNoCell, IsAtNoCell}
-use Rattle.sf_core.specs.Machine.InOrder.{IsInOrder}
+use Rattle.sf_core.specs.Checked.Machine.InOrder.{IsInOrder}
 use Rattle.sf_core.specs.Machine.Start.{Start}
 use Rattle.sf_core.specs.Program.Formed.{IsFormed}
 use Rattle.sf_core.specs.Machine.Config.{Item, leave, Fixed, Frame, Task, waits, Path, Common, Config, evaluate, task_at}

@@ -13,7 +13,7 @@ use Rattle.sf_core.specs.Program.View.{procedure_of, resource_of}
 use Rattle.sf_foot.specs.Starting.{store_of}
 use Rattle.sf_heap.specs.Cells.{heap_of}
 use Rattle.sf_machine.specs.Checked.Resources.{counts_of}
-use Rattle.sf_machine.specs.Checked.Stores.{store_of as code_store}
+use Rattle.sf_machine.specs.Stores.{store_of as code_store}
 use Rattle.sf_machine.specs.Checked.Tasks.{first_slots}
 use Rattle.sf_machine.specs.declared.task.Task.TheVariants.{Runs}
 use Rattle.sf_machine.proofs.Reaching.{reached_begin}
@@ -33,7 +33,7 @@ returns-clause-begins c =
     record {
       procedure = g;
       there = c.proc-procedure.ensures.meaning;
-      is = begins_as c.args.f g c.args.start.vars c.args.start.heap (record {
+      is = begins_as p c.args.f g c.args.start.vars c.args.start.heap (record {
         common = record {
           heap = c.args.start.heap;
           store = c.add_resources.new.store;

@@ -5,7 +5,7 @@ use Rattle.sf_core.specs.Machine.Step.{callee_frame}
 use Rattle.sf_core.specs.Program.Syntax.{Procedure}
 use Rattle.sf_core.specs.Program.View.{call_of, procedure_of}
 use Rattle.sf_machine.specs.Checked.Calls.{AreReferences}
-use Rattle.sf_machine.specs.Checked.Tasks.{block_items, fixed_of, room_of}
+use Rattle.sf_machine.specs.Tasks.{block_items, fixed_of, room_of}
 use Rattle.sf_machine.proofs.Calls.{call_frame}
 use Rattle.sf_machine.proofs.calling.callee_frame.Goals as goal
 

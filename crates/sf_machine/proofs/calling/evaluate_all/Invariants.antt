@@ -1,7 +1,7 @@
 use Rattle.std.proofs.Common.{◌≡◌, map, take}
 use Rattle.sf_core.specs.Machine.Config.{evaluate}
-use Rattle.sf_machine.specs.Checked.Stores.{store_of}
-use Rattle.sf_machine.specs.Checked.Tasks.{fixed_of}
+use Rattle.sf_machine.specs.Stores.{store_of}
+use Rattle.sf_machine.specs.Tasks.{fixed_of}
 use Rattle.sf_machine.proofs.calling.evaluate_all.Given as goal
 
 -- so many have their values

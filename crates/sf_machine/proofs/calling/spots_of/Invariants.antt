@@ -1,6 +1,6 @@
 use Rattle.std.proofs.Common.{take}
 use Rattle.sf_machine.specs.Checked.Calls.{AreReferences}
-use Rattle.sf_machine.specs.Checked.Tasks.{fixed_of}
+use Rattle.sf_machine.specs.Tasks.{fixed_of}
 use Rattle.sf_machine.proofs.calling.spots_of.Given as goal
 
 -- so many have their slots

@@ -1,6 +1,7 @@
-use Rattle.std.proofs.Common.{◌∙◌, Some, ap, sym}
+use Rattle.std.proofs.Common.{◌∙◌, Some, ap, length, subst, sym}
+use Rattle.sf_foot.specs.Starting.{HasWidth}
 use Rattle.sf_heap.specs.Cells.{Cells, FieldValues, cell_of, heap_of}
-use Rattle.sf_machine.proofs.HeapChanges.{insert_at}
+use Rattle.sf_machine.proofs.HeapChanges.{insert_at, width_insert}
 use Rattle.sf_machine.proofs.cells.make_cell.Goals.{in-Ok, in-Err}
 use Rattle.sf_machine.proofs.cells.make_cell.Goals as goal
 
@@ -13,3 +14,13 @@ returns-clause-ok c = elim c.match-put.branch [
       (ap (λ (ks : FieldValues). Some (cell_of ks)) (sym same)) l)
   | in-Err w ↦ rw w.result-is tt
 ]
+
+pub returns-clause-width : goal.returns-clause-width
+returns-clause-width c = λ count e w.
+    let same = c.in_ok-cell.ensures.ok ∙ c.from_values.ensures ∙ c.in_ok-values.ensures.items ∙ c.values.ensures in
+    elim c.match-put.branch [
+      | in-Ok k ↦ subst (HasWidth count) (sym k.in-Ok.ensures.ok)
+          (width_insert c.args.heap.now c.args.at c.in_ok-cell.cell.value count
+          (ap (λ (xs : FieldValues). length xs) same ∙ e) w)
+      | in-Err k ↦ subst (HasWidth count) (sym k.in-Err.ensures.err) w
+    ]

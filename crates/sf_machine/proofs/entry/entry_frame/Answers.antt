@@ -1,5 +1,5 @@
 use Rattle.std.proofs.Common.{◌∙◌, ap, refl}
-use Rattle.sf_machine.specs.Checked.Tasks.{block_items}
+use Rattle.sf_machine.specs.Tasks.{block_items}
 use Rattle.sf_machine.proofs.Beginnings.{entry_is}
 use Rattle.sf_machine.proofs.entry.entry_frame.Goals as goal
 

@@ -1,5 +1,5 @@
 use Rattle.std.proofs.Common.{refl, inl, inr, ap}
-use Rattle.sf_machine.specs.Checked.Tasks.{items_of}
+use Rattle.sf_machine.specs.Tasks.{items_of}
 use Rattle.sf_machine.proofs.NextTodo.{frame_does, frame_done, not_alone}
 use Rattle.sf_machine.proofs.following.frame_next.Goals as goal
 use Rattle.sf_machine.proofs.following.frame_next.Goals.{else-is_entry-via-then-is_entry+else-is_alone, else-is_entry-via-else-is_entry}

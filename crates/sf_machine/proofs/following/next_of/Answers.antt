@@ -1,6 +1,6 @@
 use Rattle.std.proofs.Common.{ap, subst}
 use Rattle.sf_core.specs.Machine.Config.{IsOver}
-use Rattle.sf_machine.specs.Checked.Tasks.{task_of, frames_of}
+use Rattle.sf_machine.specs.Tasks.{task_of, frames_of}
 use Rattle.sf_machine.proofs.NextTodo.{frames_alone}
 use Rattle.sf_machine.proofs.following.next_of.Goals as goal
 

@@ -1,6 +1,6 @@
 use Rattle.std.proofs.Common.{ap, ◌∙◌, ◌<◌, length, sym, arith}
 use Rattle.std.proofs.lemmas.Bool.Decides.{nat_tests}
-use Rattle.sf_machine.specs.Checked.Spots.{slot_of}
+use Rattle.sf_machine.specs.Spots.{slot_of}
 use Rattle.sf_machine.proofs.Stacks.{own_slot_none, own_slot_some}
 use Rattle.sf_machine.proofs.frame.own_spot.Goals as goal
 

@@ -1,6 +1,6 @@
 use Rattle.std.proofs.Common.{◌∙◌, ◌∷◌, ap}
 use Rattle.sf_core.specs.Machine.Config.{runs}
-use Rattle.sf_machine.specs.Checked.Tasks.{frames_of, task_of}
+use Rattle.sf_machine.specs.Tasks.{frames_of, task_of}
 use Rattle.sf_machine.proofs.plan.child.Goals as goal
 
 pub returns : goal.returns

@@ -2,7 +2,7 @@ use Rattle.sf_core.specs.Program.ProgramView.{program_of}
 use Rattle.sf_core.specs.Program.View.{call_of, procedure_of}
 use Rattle.sf_machine.specs.Configs.{common_of}
 use Rattle.sf_machine.specs.Events.{event_of}
-use Rattle.sf_machine.specs.Checked.Tasks.{fixed_of}
+use Rattle.sf_machine.specs.Tasks.{fixed_of}
 use Rattle.sf_machine.proofs.Plans.{plan_call, procedure_there}
 use Rattle.sf_machine.proofs.plan.plan_call.Goals as goal
 

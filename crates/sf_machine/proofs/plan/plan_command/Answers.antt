@@ -1,6 +1,7 @@
-use Rattle.std.proofs.Common.{ap, ◌∙◌}
+use Rattle.std.proofs.Common.{ap, ◌∙◌, subst}
 use Rattle.sf_core.specs.Program.ProgramView.{program_of}
 use Rattle.sf_core.specs.Program.View.{assertion_of, command_of}
+use Rattle.sf_machine.specs.Checked.Plans.{SetsField}
 use Rattle.sf_machine.specs.Events.{event_of}
 use Rattle.sf_machine.proofs.Plans.{ok_map}
 use Rattle.sf_machine.proofs.Views.{view_assign, view_call, view_dispose, view_fork, view_if, view_look_up, view_mutate, view_new, view_while, view_with}
@@ -19,7 +20,9 @@ returns-in-LookUp c =
 pub returns-in-Mutate : goal.returns-in-Mutate
 returns-in-Mutate c =
     rw (ap command_of c.in-Mutate.is ∙ view_mutate c.in-Mutate.field-0 c.in-Mutate.e c.in-Mutate.field c.in-Mutate.v)
-    (c.plan_mutate.ensures (program_of c.args.p.now) (event_of c.args.event.now) c.in-Mutate.field-0)
+    (c.plan_mutate.ensures (program_of c.args.p.now) (event_of c.args.event.now) c.in-Mutate.field-0
+    (subst (SetsField (program_of c.args.p.now)) (ap command_of c.in-Mutate.is
+    ∙ view_mutate c.in-Mutate.field-0 c.in-Mutate.e c.in-Mutate.field c.in-Mutate.v) c.requires.field))
 
 pub returns-in-Dispose : goal.returns-in-Dispose
 returns-in-Dispose c =

@@ -1,6 +1,6 @@
 use Rattle.std.proofs.Common.{◌∙◌, None, false, sym, refl, true≢false}
 use Rattle.sf_machine.specs.Configs.{common_of}
-use Rattle.sf_machine.specs.Checked.Tasks.{fixed_of}
+use Rattle.sf_machine.specs.Tasks.{fixed_of}
 use Rattle.sf_machine.proofs.Plans.{plan_else, plan_if}
 use Rattle.sf_machine.proofs.plan.plan_if.Goals as goal
 use Rattle.sf_machine.proofs.plan.plan_if.Goals.{then-is_true, else-is_true}

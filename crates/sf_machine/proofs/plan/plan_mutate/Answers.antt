@@ -1,5 +1,5 @@
 use Rattle.sf_machine.specs.Configs.{common_of}
-use Rattle.sf_machine.specs.Checked.Tasks.{fixed_of}
+use Rattle.sf_machine.specs.Tasks.{fixed_of}
 use Rattle.sf_machine.proofs.Plans.{plan_mutate}
 use Rattle.sf_machine.proofs.plan.plan_mutate.Goals as goal
 

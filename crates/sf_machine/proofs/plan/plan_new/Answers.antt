@@ -1,7 +1,7 @@
 use Rattle.std.proofs.Common.{◌∙◌, sym}
 use Rattle.sf_machine.specs.Configs.{common_of}
 use Rattle.sf_machine.specs.Events.{event_of}
-use Rattle.sf_machine.specs.Checked.Tasks.{fixed_of}
+use Rattle.sf_machine.specs.Tasks.{fixed_of}
 use Rattle.sf_machine.proofs.Plans.{none_found, plan_new}
 use Rattle.sf_machine.proofs.plan.plan_new.Goals as goal
 

@@ -1,6 +1,6 @@
 use Rattle.std.proofs.Common.{◌∙◌, None, true, sym, refl, true≢false}
 use Rattle.sf_machine.specs.Configs.{common_of}
-use Rattle.sf_machine.specs.Checked.Tasks.{fixed_of}
+use Rattle.sf_machine.specs.Tasks.{fixed_of}
 use Rattle.sf_machine.proofs.Plans.{plan_leave, plan_while}
 use Rattle.sf_machine.proofs.plan.plan_while.Goals as goal
 

@@ -1,7 +1,7 @@
 use Rattle.std.proofs.Common.{◌∙◌, Some, false, sym, refl}
 use Rattle.sf_base.proofs.Options.{is_some-false}
 use Rattle.sf_machine.specs.Configs.{common_of, held_of}
-use Rattle.sf_machine.specs.Checked.Tasks.{fixed_of}
+use Rattle.sf_machine.specs.Tasks.{fixed_of}
 use Rattle.sf_machine.proofs.Plans.{plan_with}
 use Rattle.sf_machine.proofs.plan.plan_with.Goals as goal
 

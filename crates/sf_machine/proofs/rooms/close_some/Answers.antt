@@ -1,8 +1,8 @@
 use Rattle.std.proofs.Common.{◌∙◌, sym, ap, cond, None}
 use Rattle.sf_base.specs.HeapStore.{same_slot}
 use Rattle.sf_machine.specs.declared.spot.Spot.{Spot}
-use Rattle.sf_machine.specs.Checked.Spots.{slot_of}
-use Rattle.sf_machine.specs.Checked.Stores.{store_of}
+use Rattle.sf_machine.specs.Spots.{slot_of}
+use Rattle.sf_machine.specs.Stores.{store_of}
 use Rattle.sf_machine.proofs.Opened.{closed_next, room_empty, room_next}
 use Rattle.sf_machine.proofs.rooms.close_some.Goals as goal
 

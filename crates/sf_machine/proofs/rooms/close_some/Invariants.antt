@@ -1,7 +1,7 @@
 use Rattle.std.proofs.Common.{◌≡◌, cond, None}
 use Rattle.sf_base.specs.HeapStore.{Slot}
 use Rattle.sf_core.specs.Machine.Config.{in_room}
-use Rattle.sf_machine.specs.Checked.Stores.{store_of}
+use Rattle.sf_machine.specs.Stores.{store_of}
 use Rattle.sf_machine.specs.Checked.Tasks.{first_slots}
 use Rattle.sf_machine.proofs.rooms.close_some.Given as goal
 

@@ -3,7 +3,7 @@ use Rattle.sf_base.specs.declared.value.Value.TheVariants.{Nil as nil}
 use Rattle.sf_base.specs.HeapStore.{Slot}
 use Rattle.sf_core.specs.Machine.Config.{in_room}
 use Rattle.sf_core.specs.Machine.Step.{index_of}
-use Rattle.sf_machine.specs.Checked.Stores.{store_of}
+use Rattle.sf_machine.specs.Stores.{store_of}
 use Rattle.sf_machine.specs.Checked.Tasks.{first_slots}
 use Rattle.sf_machine.proofs.rooms.open.Given as goal
 

@@ -3,7 +3,7 @@ use Rattle.sf_core.specs.Program.ProgramView.{program_of}
 use Rattle.sf_core.specs.Program.View.{command_of}
 use Rattle.sf_machine.specs.Configs.{config_of}
 use Rattle.sf_machine.specs.Events.{event_of}
-use Rattle.sf_machine.specs.Checked.Tasks.{fixed_of}
+use Rattle.sf_machine.specs.Tasks.{fixed_of}
 use Rattle.sf_machine.proofs.Enabling.{in_order, there_is}
 use Rattle.sf_machine.proofs.Plans.{ok_map}
 use Rattle.sf_machine.proofs.Ready.{ready}

@@ -13,8 +13,8 @@ run_alone-requires-clause-alone c = begin-turn (program_of c.args.p.now) c.args.
     c.args.p.now.formed c.requires.conditions c.requires.sound c.requires.sequential c.requires.starts
     c.args.start.fresh c.in_ok-config.ensures.begins
 
-pub finish-requires : goal.finish-requires
-finish-requires c =
+pub finish-requires-clause-procedure : goal.finish-requires-clause-procedure
+finish-requires-clause-procedure c =
     let below = slice_get_within (program_of c.args.p.now).procedures c.args.f.0 c.requires.starts.procedure
     c.requires.starts.there in
     omega (arith, below, length-map c.args.p.now.procedures.items procedure_of)

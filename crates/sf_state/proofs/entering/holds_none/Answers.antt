@@ -1,7 +1,7 @@
 use Rattle.std.proofs.Common.{◌≡◌, ◌==◌, arith, ap, sym, ◌∙◌, length, map, List}
 use Rattle.std.proofs.lemmas.List.{length-map}
 use Rattle.sf_base.specs.declared.ids.ResId.{ResId}
-use Rattle.sf_core.specs.Machine.HeldBy.{HeldBy}
+use Rattle.sf_core.specs.Machine.HasThroughout.{HasThroughout}
 use Rattle.sf_core.specs.Program.ProgramView.{program_of}
 use Rattle.sf_core.specs.Program.View.{procedure_of}
 use Rattle.sf_calls.specs.Sets.{IsResSet}
@@ -21,7 +21,7 @@ pub returns : goal.returns
 returns c =
     let sets = c.sets_from_truncation.ensures (program_of c.args.p.now.program) c.args.p.now.calls c.args.p.now.sets in
     let xs : List ResId = c.holds.result.now in
-    let held : IsResSet (HeldBy (program_of c.args.p.now.program) c.args.f) xs =
+    let held : IsResSet (HasThroughout (program_of c.args.p.now.program) c.args.f) xs =
     sets.holds.is c.args.f xs c.holds.ensures in
     let empty : c.is_empty.result ≡ (length xs == 0) =
     c.is_empty.ensures ∙ ap (λ (rs : List ResId). length rs == 0) c.as_slice.ensures in

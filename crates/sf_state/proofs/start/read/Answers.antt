@@ -9,7 +9,7 @@ use Rattle.sf_state.specs.Names.{names_of}
 use Rattle.sf_state.specs.Starts.{DecidesStart}
 use Rattle.sf_state.specs.Stated.{Gives, text_refusal}
 use Rattle.sf_state.proofs.Deciding.{decides-state, precise-all}
-use Rattle.sf_state.proofs.StateShape.{some-of, state-bounds, state-fits, state-from}
+use Rattle.sf_state.proofs.StateShape.{some-of, state-bounds, state-fits, state-from, state-width}
 use Rattle.sf_state.proofs.start.read.Goals as goal
 
 pub begin-requires-clause-fits : goal.begin-requires-clause-fits
@@ -25,6 +25,18 @@ begin-requires-clause-fits c =
     (state-from p g c.args.text.now c.in_ok-vars.vars c.in_ok-heap.heap c.in_ok-state.state.values.items c.deref.result.now
     c.in_ok-state.state.cells said c.in_ok-heap.ensures.cells c.deref.ensures.value c.in_ok-vars.ensures.own
     c.in_ok-vars.ensures.shared))
+
+pub begin-requires-clause-width : goal.begin-requires-clause-width
+begin-requires-clause-width c =
+    let p = program_of c.args.p.now.program in
+    let g = procedure_of c.proc.result.now in
+    let said = some-holds (λ (h : Procedure). (text_refusal p.fields (names_of p h) c.args.text.now ≡ None)
+    × Gives p.fields (names_of p h) c.args.text.now c.in_ok-state.state.values.items (get nat_cmp c.in_ok-state.state.cells))
+    (slice_get p.procedures c.args.f.0) g c.proc.ensures.meaning c.in_ok-state.ensures in
+    state-width p g c.args.text.now c.in_ok-vars.vars c.in_ok-heap.heap
+    (state-from p g c.args.text.now c.in_ok-vars.vars c.in_ok-heap.heap c.in_ok-state.state.values.items c.deref.result.now
+    c.in_ok-state.state.cells said c.in_ok-heap.ensures.cells c.deref.ensures.value c.in_ok-vars.ensures.own
+    c.in_ok-vars.ensures.shared)
 
 pub begin-requires-clause-in_bounds : goal.begin-requires-clause-in_bounds
 begin-requires-clause-in_bounds c =

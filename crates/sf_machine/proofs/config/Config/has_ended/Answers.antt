@@ -1,7 +1,7 @@
 use Rattle.std.proofs.Common.{◌↔◌, IsTrue, [], subst, sym}
 use Rattle.sf_core.specs.Machine.Enabled.{HasEnded}
 use Rattle.sf_machine.specs.declared.task.Task.{Task as CodeTask}
-use Rattle.sf_machine.specs.Checked.Tasks.{task_of}
+use Rattle.sf_machine.specs.Tasks.{task_of}
 use Rattle.sf_machine.proofs.Endings.{ended_else, ended_then}
 use Rattle.sf_machine.proofs.config.Config.has_ended.Goals as goal
 

@@ -1,6 +1,6 @@
 use Rattle.std.proofs.Common.{◌<◌, ◌∙◌, [], ap, sym, drop, length, length-drop, arith}
 use Rattle.sf_core.specs.Machine.Config.{task_at}
-use Rattle.sf_machine.specs.Checked.Tasks.{task_of}
+use Rattle.sf_machine.specs.Tasks.{task_of}
 use Rattle.sf_machine.specs.declared.task.Task.{Task}
 use Rattle.sf_machine.proofs.Stacks.{at_leaf}
 use Rattle.sf_machine.proofs.task.Task.at.Goals as goal

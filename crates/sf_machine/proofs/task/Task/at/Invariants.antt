@@ -1,6 +1,6 @@
 use Rattle.std.proofs.Common.{◌≡◌, drop}
 use Rattle.sf_core.specs.Machine.Config.{task_at}
-use Rattle.sf_machine.specs.Checked.Tasks.{task_of}
+use Rattle.sf_machine.specs.Tasks.{task_of}
 use Rattle.sf_machine.proofs.task.Task.at.Given as goal
 
 -- the task at the end of what is left of the path is the one that is looked for

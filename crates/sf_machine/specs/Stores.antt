@@ -2,7 +2,7 @@
 -- Ordinary: the map that it keeps.
 use Rattle.sf_base.specs.HeapStore.{Store}
 use Rattle.sf_machine.specs.declared.store.Store.{Store as CodeStore}
-use Rattle.sf_machine.specs.Checked.Spots.{store_by}
+use Rattle.sf_machine.specs.Spots.{store_by}
 
 -- the store
 abbrev pub store_of : CodeStore → Store

@@ -1,5 +1,5 @@
--- HeldBy: the resources that a procedure's contract mentions, which count as held through its whole body.
--- After the variable conditions of Berdine, Calcagno, O'Hearn, "Smallfoot" (2005).
+-- HasThroughout: the resources that a procedure has through its whole body, since its contract
+-- mentions them. After the variable conditions of Berdine, Calcagno, O'Hearn, "Smallfoot" (2005).
 use Rattle.std.specs.Prelude.{◌≡◌, ℕ, Some, ◌⊎◌}
 use Rattle.std.specs.List.{slice_get}
 use Rattle.sf_base.specs.declared.ids.ProcId.{ProcId}
@@ -8,8 +8,8 @@ use Rattle.sf_base.specs.declared.ids.Var.TheVariants.{Shared}
 use Rattle.sf_core.specs.Assertions.Occurs.{VarOccursIn}
 use Rattle.sf_core.specs.Program.Syntax.{Procedure, Program}
 
--- HeldBy: a variable of the resource occurs in the procedure's precondition or in its postcondition
-pub record HeldBy (p : Program) (f : ProcId) (r : ResId) : Type 0 where
+-- HasThroughout: a variable of the resource occurs in the procedure's precondition or postcondition
+pub record HasThroughout (p : Program) (f : ProcId) (r : ResId) : Type 0 where
   pub procedure : Procedure
   pub there : slice_get p.procedures f.0 ≡ Some procedure
   pub variable : ℕ
