@@ -20,7 +20,7 @@ mod std_sink;
 
 pub use file_shelf::FileShelf;
 pub use gate::{Gate, OpenGate, Point};
-pub use mem_shelf::MemShelf;
+pub use mem_shelf::{MemShelf, Request};
 pub use mem_sink::MemSink;
 pub use shelf::{FetchFault, Shelf};
 pub use sink::{Sink, SinkFault, put_all};

@@ -10,28 +10,41 @@ use sf_base::Name;
 use std::alloc::{AllocError, Global};
 use std::collections::BTreeMap;
 
-/// A shelf in memory, which fails at the calls that it is told to.
+/// What a fetch asked for.
+#[derive(Debug, Drop)]
+pub struct Request {
+    /// The file's name.
+    pub name: Name,
+    /// The most bytes that were to be handed out.
+    pub most: usize,
+}
+
+/// A shelf in memory, which fails at the calls that it is told to, and keeps what each fetch asked
+/// for.
 #[derive(Debug, Drop)]
 pub struct MemShelf {
     files: BTreeMap<String, Vec<u8>>,
     plan: FaultPlan,
     failed: Vec<Name>,
+    requests: Vec<Request>,
     alloc: Global,
 }
 
 impl MemShelf {
-    ghost use Rattle.sf_io.specs.MemShelf.{files_of, failed_of, plan_of, with_file, SameFailures};
+    ghost use Rattle.sf_io.specs.MemShelf.{files_of, failed_of, plan_of, requests_of, with_file, SameCalls};
 
     /// A shelf without files.
     pub fn new(alloc: Global) -> MemShelf
         ensures files { (name : List ℕ) → files_of result name ≡ None }
         ensures failed { failed_of result ≡ [] }
         ensures plan { plan_of result ≡ record { made = 0; failing = [] } }
+        ensures requests { requests_of result ≡ [] }
     {
         MemShelf {
             files: BTreeMap::new(alloc),
             plan: FaultPlan::new(alloc),
             failed: Vec::new(alloc),
+            requests: Vec::new(alloc),
             alloc,
         }
     }
@@ -43,7 +56,7 @@ impl MemShelf {
             → files_of self.new other ≡ with_file (files_of self.old) name.now bytes.now other) }
         ensures err { OnErr result ((other : List ℕ)
             → files_of self.new other ≡ files_of self.old other) }
-        ensures failures { SameFailures self.old self.new }
+        ensures calls { SameCalls self.old self.new }
     {
         let name = String::from_str(self.alloc, name)?;
         let bytes = Vec::from_slice(self.alloc, bytes)?;
@@ -56,6 +69,7 @@ impl MemShelf {
     pub fn fail_at(&mut self, call: u64) -> Result<(), AllocError>
         ensures files { files_of self.new ≡ files_of self.old }
         ensures failed { failed_of self.new ≡ failed_of self.old }
+        ensures requests { requests_of self.new ≡ requests_of self.old }
         ensures ok { OnOk result (plan_of self.new ≡ record (plan_of self.old)
             { failing = (plan_of self.old).failing ++ call ∷ [] }) }
         ensures err { OnErr result (plan_of self.new ≡ plan_of self.old) }
@@ -63,9 +77,17 @@ impl MemShelf {
         self.plan.fail_at(call)
     }
 
+    /// What each fetch asked for, in order; one for which memory ran out may not be there.
+    pub fn requests(&self) -> &[Request]
+        ensures { result.now ≡ requests_of self.now }
+    {
+        self.requests.as_slice()
+    }
+
     // Counts a call where there is room for a fault, and hands out what that call does.
     fn give(&mut self, name: &str, most: usize, out: &mut Vec<u8>) -> Result<(), FetchFault>
         ensures files { files_of self.new ≡ files_of self.old }
+        ensures requests { requests_of self.new ≡ requests_of self.old }
         ensures counted { IsOk result ⊎ IsErrOf result FetchFault.Failed
             → plan_of self.new ≡ after_call (plan_of self.old) }
         ensures due { IsDue (plan_of self.old) → IsErr result }
@@ -94,15 +116,15 @@ impl MemShelf {
 impl Shelf for MemShelf {
     ghost use Rattle.std.specs.Prelude.{Some};
     ghost use Rattle.sf_io.specs.Shelf.{failures_of};
-    ghost use Rattle.sf_io.specs.MemShelf.{files_of, failed_of, plan_of};
+    ghost use Rattle.sf_io.specs.MemShelf.{files_of, failed_of, plan_of, requests_of};
 
     ghost files = { λ shelf. Some (files_of shelf) };
 
     ghost faults = { λ shelf. failures_of (failed_of shelf) };
 
     /// Hands out the bytes under the name. `Failed` comes where the call is to fail or there are
-    /// none, and exactly then the name is one more that failed. Each call counts, but one for which
-    /// memory runs out may not count.
+    /// none, and exactly then the name is one more that failed. Each call counts, and what it asks
+    /// for is kept; but one for which memory runs out may not count, nor be kept.
     fn fetch(&mut self, name: &str, most: usize, out: &mut Vec<u8>) -> Result<(), FetchFault>
         ensures files_stay { files_of self.new ≡ files_of self.old }
         ensures told { OnOk result (IsSomeAnd (files_of self.old name.now)
@@ -129,7 +151,16 @@ impl Shelf for MemShelf {
             → IsDue (plan_of self.old) ⊎ files_of self.old name.now ≡ None }
         ensures counted { IsOk result ⊎ IsErrOf result FetchFault.Failed
             → plan_of self.new ≡ after_call (plan_of self.old) }
+        ensures kept { IsOk result ⊎ IsErrOf result FetchFault.Failed
+            → requests_of self.new
+            ≡ requests_of self.old ++ record { name = name.now; most = most } ∷ [] }
     {
+        self.requests.reserve(1)?;
+        let name_asked = Name::new(self.alloc, name.as_bytes())?;
+        self.requests.push_reserved(Request {
+            name: name_asked,
+            most,
+        });
         self.give(name, most, out)
     }
 }
