@@ -5,8 +5,8 @@
 //! - `sequential`: whether a parallel call can be reached.
 //! - `stop`: what a run may use, and why it stops. `running`: the run.
 //!
-//! `specs/` says from which procedures no parallel call can be reached (Sequential), what is kept
-//! of a configuration with one task (Lone), and what a run answers (Running).
+//! `specs/` says from which procedures no parallel call can be reached (Sequential), and what a run
+//! answers (Running).
 #![tactic(auto)]
 
 mod laws;

@@ -21,7 +21,7 @@ use Rattle.sf_lines.specs.Lines.{Text, split_once}
 use Rattle.sf_core.specs.Program.Syntax.{Procedure, Program, Resource}
 use Rattle.sf_state.specs.Names.{are_names, is_target, names_of, names_of_resource, parameters, place_of, qualified}
 use Rattle.sf_state.specs.Words.{begins}
-use Rattle.sf_state.specs.Written.{AreNames, HasNames}
+use Rattle.sf_state.specs.Checked.Written.{AreNames, HasNames}
 use Rattle.sf_state.proofs.WrittenLines.{ArePlaced, IsSpelled}
 
 word-other : (b : ℕ) → is_word_byte b ≡ true → ((b == 35) ≡ false) × ((b == 64) ≡ false)

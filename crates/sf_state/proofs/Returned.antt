@@ -26,7 +26,7 @@ use Rattle.sf_state.specs.Names.{names_of, names_of_resource, parameters, qualif
 use Rattle.sf_state.specs.Stated.{Gives, text_refusal}
 use Rattle.sf_state.specs.Starts.{GivesState, by_resource}
 use Rattle.sf_state.specs.StateText.{state_text, values_or_none}
-use Rattle.sf_state.specs.Written.{AreWritable, HasNames, IsWritable}
+use Rattle.sf_state.specs.Checked.Written.{AreWritable, HasNames, IsWritable}
 use Rattle.sf_state.proofs.Back.{AreWritten, finished-back, text-back}
 use Rattle.sf_state.proofs.WrittenLines.{AreCells, EachWritable, IsCell}
 use Rattle.sf_state.proofs.Naming.{placed-fields, placed-names}

@@ -7,7 +7,7 @@ use Rattle.sf_base.specs.declared.value.Value.TheVariants.{Nil as nil, Int as in
 use Rattle.sf_lines.specs.Checked.Lemmas.Tokens.{BeginsOtherwise, decimal-back, decimal-plain, otherwise-apart, signed-back, signed-other, signed-plain}
 use Rattle.sf_lines.specs.Checked.Lemmas.Written.{IsPlain}
 use Rattle.sf_lines.specs.Lines.{Text}
-use Rattle.sf_state.specs.Written.{IsWritable}
+use Rattle.sf_state.specs.Checked.Written.{IsWritable}
 use Rattle.sf_state.specs.Refused.{cell_name}
 use Rattle.sf_state.specs.StateText.{value_text}
 use Rattle.sf_state.specs.Values.{is_location, location_from, value_from}

@@ -12,7 +12,7 @@ use Rattle.sf_state.specs.declared.fields.Fields.TheVariants.{Are}
 use Rattle.sf_state.specs.declared.fields.Setting.{Setting}
 use Rattle.sf_state.specs.declared.line.Entry.{Entry}
 use Rattle.sf_state.specs.declared.line.Entry.TheVariants.{Nothing, Bad, Variable, Cell}
-use Rattle.sf_state.specs.Written.{IsWritable}
+use Rattle.sf_state.specs.Checked.Written.{IsWritable}
 use Rattle.sf_state.specs.Names.{field_at, is_target, place_of}
 use Rattle.sf_state.specs.Refused.{cell_name}
 use Rattle.sf_state.specs.Says.{assigned, both, cell_said, cell_with, entries_from, field_said, fields_said, is_finished, named_value, named_value_in, said, says, set_field, set_variable, setting_of, variable_said, variable_with}

@@ -6,3 +6,4 @@ pub mod Found
 pub mod Keeping
 pub mod Laws
 pub mod Placing
+pub mod Written

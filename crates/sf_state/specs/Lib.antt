@@ -8,5 +8,4 @@ pub mod StateText
 pub mod Entering
 pub mod Starts
 pub mod Finishing
-pub mod Written
 pub mod Checked

@@ -16,7 +16,7 @@ use Rattle.sf_state.specs.declared.fault.StartFault.{StartFault}
 use Rattle.sf_state.specs.Entering.{HoldsNone, IsEntry, IsEntryFault}
 use Rattle.sf_state.specs.Finishing.{IsFinishText}
 use Rattle.sf_state.specs.Starts.{GivesState, IsStartFault, IsStartText}
-use Rattle.sf_state.specs.Written.{AreWritable, HasNames}
+use Rattle.sf_state.specs.Checked.Written.{AreWritable, HasNames}
 
 -- the name is that of one entry at most, or has one fault at most, and not both
 pub record EntersOnce (p : Program) (name : Text) : Type 0 where
