@@ -1,5 +1,6 @@
 pub mod Changes
 pub mod Meetings
+pub mod Misfits
 pub mod Nodes
 pub mod WantedFirst
 pub mod Handing

@@ -57,6 +57,8 @@ fn fitting(
         ≡ fitting a state.now bindings.now (root, wanted.now)) }
     ensures there { IfOk result (λ r.
         IfSome r (λ x. is_some (cell_at state.now.atoms a x.0) ≡ true)) }
+    ensures rising { IfOk result (λ r.
+        IfSome r (λ x. state.now.next_sym ≤ x.1.next_sym)) }
 {
     let Some(t) = term_of(bindings, &root) else {
         return Ok(None);

@@ -1,9 +1,10 @@
 //! Where a wanted cell doesn't fit a cell.
 
-ghost use Rattle.std.specs.Prelude.{◌≡◌, IfOk};
+ghost use Rattle.std.specs.Prelude.{◌≡◌, IfOk, is_none, is_some};
 ghost use Rattle.std.specs.Option.{option_map};
 ghost use Rattle.sf_consume.specs.Checked.Meeting.{first_fit_of, fit_of};
 ghost use Rattle.sf_consume.specs.Misfit.{first_misfit, meeting_at, misfit_of};
+ghost use Rattle.sf_consume.specs.Subtract.{fit_fields};
 
 use crate::meeting::{Meeting, Met, Seen, field_now, fit_field, term_at};
 use sf_base::FieldId;
@@ -74,8 +75,10 @@ pub fn first_misfit(
     bindings: &[Option<Term>],
     wanted: &[(FieldId, Operand<Term>)],
 ) -> Result<Option<Misfit>, AllocError>
-    ensures { IfOk result (λ m. option_map (misfit_of next_sym) m ≡ first_misfit
+    ensures meets { IfOk result (λ m. option_map (misfit_of next_sym) m ≡ first_misfit
         (record { next_sym = next_sym; fields = fields.now; bindings = bindings.now }) wanted.now) }
+    ensures all { IfOk result (λ m. is_none m ≡ is_some (fit_fields
+        (record { next_sym = next_sym; fields = fields.now; bindings = bindings.now }) wanted.now)) }
 {
     let seen = Seen {
         next: next_sym,

@@ -33,8 +33,10 @@ pub(crate) fn fit_fields(
     wanted: &[(FieldId, Operand<Term>)],
 ) -> Result<Option<Fitting>, AllocError>
     requires { fit.next_sym + existentials_in wanted.now < 2 ^ 32 }
-    ensures { IfOk result (λ after. option_map (fit_of bindings.now) after
+    ensures fits { IfOk result (λ after. option_map (fit_of bindings.now) after
         ≡ fit_fields (fit_of bindings.now fit) wanted.now) }
+    ensures rising { IfOk result (λ after.
+        IfSome after (λ f. fit.next_sym ≤ f.next_sym)) }
 {
     let mut left = wanted;
     while let Some((first, rest)) = left.split_first() {
@@ -58,6 +60,8 @@ fn fit_field(
         ≡ fit_field (fit_of bindings.now fit) wanted.now) }
     ensures symbols { IfOk result (λ after. IfSome after
         (λ f. f.next_sym ≤ fit.next_sym + one_if_existential wanted.now.1)) }
+    ensures rising { IfOk result (λ after.
+        IfSome after (λ f. fit.next_sym ≤ f.next_sym)) }
 {
     let field = wanted.0;
     match wanted.1 {
@@ -90,6 +94,7 @@ fn fit_new(fit: Fitting, field: FieldId, n: u32) -> Result<Fitting, AllocError>
     ensures fits { IfOk result (λ after. (bindings : List (Option TermOf))
         → fit_of bindings after ≡ fit_new (fit_of bindings fit) field n) }
     ensures symbols { IfOk result (λ f. f.next_sym ≤ fit.next_sym + 1) }
+    ensures rising { IfOk result (λ f. fit.next_sym ≤ f.next_sym) }
 {
     let (mut fit, t) = link(fit, field)?;
     fit.changes.push((n, t))?;
@@ -103,6 +108,7 @@ pub(crate) fn link(mut fit: Fitting, field: FieldId) -> Result<(Fitting, Term), 
     ensures linked { IfOk result (λ r. (bindings : List (Option TermOf))
         → link_of bindings r ≡ link (fit_of bindings fit) field) }
     ensures symbols { IfOk result (λ r. r.0.next_sym ≤ fit.next_sym + 1) }
+    ensures rising { IfOk result (λ r. fit.next_sym ≤ r.0.next_sym) }
 {
     if let Some(t) = fit.fields.get(field) {
         return Ok((fit, t));

@@ -10,7 +10,7 @@ use Rattle.sf_sym.specs.Tests.{is_absurd}
 
 pub absurd_keeps_goals : AbsurdKeepsGoals
 unfolding AbsurdKeepsGoals HeldStatesAreNotAbsurd
-absurd_keeps_goals goal left below row = go (is_absurd goal.state) refl row
+absurd_keeps_goals goal left shape row = go (is_absurd goal.state) refl row
   where
     go : (b : Bool) → is_absurd goal.state ≡ b → cond b (Some []) None ≡ Some left → KeptWith goal left HoldsAsBefore
     go true i e = subst (λ gs. KeptWith goal gs HoldsAsBefore) (same_Some [] left e) (record {

@@ -45,7 +45,7 @@ nothing-empty w links (Tree t) heap i s =
 
 pub drop_keeps_goals : DropKeepsGoals
 unfolding DropKeepsGoals
-drop_keeps_goals a goal left below row =
+drop_keeps_goals a goal left shape row =
     option_and_then_some
     (λ x. cond (is_nothing x)
     (Some (at_state goal (record goal.state { atoms = without goal.state.atoms a }) ∷ [])) None)
@@ -61,12 +61,12 @@ drop_keeps_goals a goal left below row =
         left e (record {
           below = record {
             state = record {
-              vars = below.state.vars;
-              apart = below.state.apart;
-              atoms = without-all (AllInAtom (IsBelow goal.state.next_sym)) goal.state.atoms a below.state.atoms;
-              taken = below.state.taken;
+              vars = shape.below.state.vars;
+              apart = shape.below.state.apart;
+              atoms = without-all (AllInAtom (IsBelow goal.state.next_sym)) goal.state.atoms a shape.below.state.atoms;
+              taken = shape.below.state.taken;
             };
-            todo = below.todo;
+            todo = shape.below.todo;
           };
           symbols = omega arith;
           links = refl;

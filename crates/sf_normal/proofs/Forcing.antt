@@ -115,7 +115,7 @@ forced-same w goal e free taken a x both h at is_ends forced =
 
 pub force_keeps_goals : ForceKeepsGoals
 unfolding ForceKeepsGoals
-force_keeps_goals a goal left below row =
+force_keeps_goals a goal left shape row =
     option_and_then_some
     (λ (e : Term × Term).
     cond (not (same_term e.0 e.1) && (is_constant e.0 || allocated goal.state e.0 (Some a)))
@@ -131,9 +131,9 @@ force_keeps_goals a goal left below row =
         → cond b (Some (assumed_equal both.0 both.1 goal ∷ [])) None ≡ Some left → KeptWith goal left HoldsAsBefore
     go both x at is_ends true i e =
         let b = ends-below goal.state.next_sym x both is_ends
-        (at-all (AllInAtom (IsBelow goal.state.next_sym)) goal.state.atoms a x at below.state.atoms) in
+        (at-all (AllInAtom (IsBelow goal.state.next_sym)) goal.state.atoms a x at shape.below.state.atoms) in
         kept-one HoldsAsBefore goal (assumed_equal both.0 both.1 goal) left e
-        (follows-equal both.0 both.1 goal below b.0 b.1)
+        (follows-equal both.0 both.1 goal shape.below b.0 b.1)
         (λ w f free taken h. before-equal w both.0 both.1 goal f free taken
         (forced-same w goal f free taken a x both h at is_ends
         (and-right (not (same_term both.0 both.1))

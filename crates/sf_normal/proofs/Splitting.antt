@@ -19,7 +19,7 @@ use Rattle.sf_sym.specs.Tests.{same_term}
 
 pub split_keeps_goals : SplitKeepsGoals
 unfolding SplitKeepsGoals AssumedTermsAreBelow DifferingTermsMayBeAssumed
-split_keeps_goals t u goal left below row =
+split_keeps_goals t u goal left shape row =
     go (not (same_term t u) && (is_below goal.state.next_sym t && is_below goal.state.next_sym u)) refl row
   where
     holds : (w : ℕ → Value) (e : Var → Option Value) (free taken : Heap) → HoldsIn w goal e free taken
@@ -40,10 +40,10 @@ split_keeps_goals t u goal left below row =
         (is_below goal.state.next_sym t && is_below goal.state.next_sym u) i in
         let one = and-left (is_below goal.state.next_sym t) (is_below goal.state.next_sym u) both in
         let two = and-right (is_below goal.state.next_sym t) (is_below goal.state.next_sym u) both in
-        let after = assumed_terms_are_below t u goal below one two in
+        let after = assumed_terms_are_below t u goal shape.below one two in
         subst (λ gs. KeptWith goal gs HoldsAsBefore) (same_Some (assumed_equal t u goal ∷ assumed_apart t u goal ∷ []) left e) (record {
           follow = (
-            follows-equal t u goal below one two,
+            follows-equal t u goal shape.below one two,
             (record { below = after.1; symbols = omega arith; links = refl; formed = λ f. f }, tt),
           );
           hold = λ w e free taken h.

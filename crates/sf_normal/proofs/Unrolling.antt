@@ -241,13 +241,13 @@ tree_kept goal a t left below at true d (Some l) (Some r) is_l is_r e =
 
 pub unroll_keeps_goals : UnrollKeepsGoals
 unfolding UnrollKeepsGoals
-unroll_keeps_goals a goal left below row =
+unroll_keeps_goals a goal left shape row =
     option_and_then_some (unroll_one goal a) (atom_at goal.state.atoms a) left row go
   where
     go : (x : Atom) → atom_at goal.state.atoms a ≡ Some x → unroll_one goal a x ≡ Some left → KeptWith goal left HoldsAsBefore
     go (Points t fields) at e = absurd (cc)
     go (Ls t u) at e =
-        segment_kept goal a t u left below at (differs goal.state t u) refl goal.state.links.tl refl e
+        segment_kept goal a t u left shape.below at (differs goal.state t u) refl goal.state.links.tl refl e
     go (Tree t) at e =
-        tree_kept goal a t left below at (differs goal.state t Nil) refl goal.state.links.l
+        tree_kept goal a t left shape.below at (differs goal.state t Nil) refl goal.state.links.l
         goal.state.links.r refl refl e

@@ -1,6 +1,5 @@
-//! What the rules keep: of a goal that speaks of symbols below its next one only, each goal that is
-//! left does so too, and wherever the goal holds, one of them holds on the same heaps, with the
-//! same values of the goal's symbols. Each function is a law: calling it gives its fact to the
+//! What the rules keep: of a goal that has the shape of a program's goals, wherever it holds, one of
+//! the goals that are left holds on the same heaps, with the same values of the goal's symbols. Each function is a law: calling it gives its fact to the
 //! caller's proof, and does nothing.
 
 ghost use Rattle.sf_normal.specs.Checked.Laws.{AbsurdKeepsGoals, DropKeepsGoals, ForceKeepsGoals, SplitKeepsGoals, UnrollKeepsGoals};

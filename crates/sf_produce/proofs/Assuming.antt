@@ -422,7 +422,7 @@ module _ (s : State) (p : Place) (cs : Conjuncts Term) (bindings : List (Option 
 -- add: wherever the goal holds, it holds with its first conjunct assumed
 pub add_keeps_goals : AddKeepsGoals
 unfolding AddKeepsGoals
-add_keeps_goals s p given rest left below formed row = go given.conjuncts below formed row
+add_keeps_goals s p given rest left shape row = go given.conjuncts shape.below shape.formed row
   where
     go : (cs : Conjuncts Term)
         → AreBelow (with_bindings p cs rest s given.bindings) → AreFormed (with_bindings p cs rest s given.bindings)

@@ -104,6 +104,7 @@ module _ (p : Place) (cs : Conjuncts Term) (rest : List Item) where
             | inr old ↦ f.0.1.bound m t old
           ];
         },
+        f.0.2,
       ),
       f.1,
     )

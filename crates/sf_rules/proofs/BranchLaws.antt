@@ -13,7 +13,7 @@ use Rattle.sf_core.specs.declared.assertion.Test.{Test}
 use Rattle.sf_core.specs.declared.assertion.Test.TheVariants.{True, Equal, Differ}
 use Rattle.sf_core.specs.declared.command.Expr.{Expr}
 use Rattle.sf_core.specs.Program.Syntax.{Block, done, then, if}
-use Rattle.sf_rules.proofs.CommandLaws.{beside-none, executed-one}
+use Rattle.sf_rules.proofs.CommandLaws.{beside-none, command-form, executed-one}
 use Rattle.sf_rules.specs.Checked.LawsOfCommands.{before_command, Executed, IsTestKnown, ThenFollowsTest, ElseFollowsTest}
 use Rattle.sf_sym.specs.Formed.{ItemFormed}
 use Rattle.sf_sym.specs.Checked.Lemmas.Decided.{decided-false, decided-true}
@@ -26,13 +26,14 @@ use Rattle.sf_sym.specs.Goal.{Item, Goal, one_goal, to_run}
 use Rattle.sf_sym.specs.Holds.{term_value}
 use Rattle.sf_sym.specs.HoldsIn.{HoldsIn}
 use Rattle.sf_sym.specs.Checked.Laws.{Follows, HoldsStill}
-use Rattle.sf_sym.specs.Ready.{BeginsWithNoAdd, IsKnown, IsReady, value_at}
+use Rattle.sf_sym.specs.Ready.{IsKnown, value_at}
+use Rattle.sf_sym.specs.Shape.{HasShape, IsBody}
 use Rattle.sf_sym.specs.State.{State, term}
 
--- a block's commands assume nothing
-run-no_add : (c : Block) (rest : List Item) → BeginsWithNoAdd rest → BeginsWithNoAdd (to_run c ++ rest)
-run-no_add done rest b = b
-run-no_add (then c cs) rest b = tt
+-- a block's commands come before commands
+run-body : (c : Block) (rest : List Item) → IsBody rest → IsBody (to_run c ++ rest)
+run-body done rest b = b
+run-body (then c cs) rest b = run-body cs rest b
 
 -- and have no terms
 run-all : (P : Term → Type 0) (c : Block) (rest : List Item) → AllByRecursion (AllInItem P) rest
@@ -69,13 +70,13 @@ module _ (w : ℕ → Value) (goal : Goal) (e : Var → Option Value) (free take
 
 -- the goal that is left with the commands of a block
 module _ (s : State) (rest : List Item) (p : Place) (test : Test Expr) (this that c : Block)
-    (ready : IsReady (before_command s (if p test this that) rest) rest) where
+    (shape : HasShape (before_command s (if p test this that) rest)) where
   branch-follows : Follows (before_command s (if p test this that) rest)
       (record { state = s; todo = to_run c ++ rest })
   branch-follows = record {
     below = record {
-      state = ready.below.state;
-      todo = run-all (IsBelow s.next_sym) c rest ready.below.todo.1;
+      state = shape.below.state;
+      todo = run-all (IsBelow s.next_sym) c rest shape.below.todo.1;
     };
     symbols = omega arith;
     links = refl;
@@ -93,7 +94,7 @@ module _ (s : State) (rest : List Item) (p : Place) (test : Test Expr) (this tha
       vars = h.vars;
       apart = h.apart;
       disjoint = h.disjoint;
-      there = beside-none w (to_run c ++ rest) free (run-no_add c rest ready.after) (star-drop_right h.there);
+      there = beside-none w (to_run c ++ rest) free (run-body c rest (command-form s (if p test this that) rest shape).0) (star-drop_right h.there);
       gone = h.gone;
     };
   }
@@ -115,14 +116,14 @@ module _ (s : State) (rest : List Item) (p : Place) (test : Test Expr) (this tha
 
 pub then_follows_test : ThenFollowsTest
 unfolding ThenFollowsTest
-then_follows_test s rest left p test this that ready row =
-    branch-executed s rest p test this that this ready left (is_true s (command_test (term s.vars) test))
+then_follows_test s rest left p test this that shape row =
+    branch-executed s rest p test this that this shape left (is_true s (command_test (term s.vars) test))
     (λ e. IsTrueOf (value_at e) test)
     (λ w e free taken h k d. test-true w (before_command s (if p test this that) rest) e free taken h test k d) row
 
 pub else_follows_test : ElseFollowsTest
 unfolding ElseFollowsTest
-else_follows_test s rest left p test this that ready row =
-    branch-executed s rest p test this that that ready left (is_false s (command_test (term s.vars) test))
+else_follows_test s rest left p test this that shape row =
+    branch-executed s rest p test this that that shape left (is_false s (command_test (term s.vars) test))
     (λ e. IsTrueOf (value_at e) test → ⊥)
     (λ w e free taken h k d. test-false w (before_command s (if p test this that) rest) e free taken h test k d) row

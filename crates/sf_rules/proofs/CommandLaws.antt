@@ -2,10 +2,10 @@
 -- Names: `COMMAND_follows_event` is the law of that command's row.
 use Rattle.std.specs.List.{AllByRecursion}
 use Rattle.std.specs.Option.{option_map, option_and_then}
-use Rattle.std.proofs.Common.{◌≡◌, ℕ, ◌+◌, ◌==◌, Bool, true, false, cond, Option, Some, None, List, [], ◌∷◌, refl, sym, ◌∙◌, subst, inl, arith}
+use Rattle.std.proofs.Common.{◌≡◌, ℕ, ◌+◌, ◌==◌, Bool, true, false, cond, Option, Some, None, List, [], ◌∷◌, refl, sym, ap, ◌∙◌, subst, inl, inr, arith}
 use Rattle.std.proofs.lemmas.Option.{same_Some}
 use Rattle.sf_base.proofs.HeapSplits.{cell-change_left, cell-new_left, one-in, one-put, one-put_cell, one-remove_cell, one-single, star-drop_right, star-empty_right, star-map_right, star-of}
-use Rattle.sf_base.proofs.MapSplits.{splits-lacks_whole, splits-of_empty_left, splits-union}
+use Rattle.sf_base.proofs.MapSplits.{empty-is, splits-lacks_whole, splits-of_empty_left, splits-union}
 use Rattle.sf_base.specs.declared.ids.FieldId.{FieldId}
 use Rattle.sf_base.specs.declared.ids.Var.{Var}
 use Rattle.sf_base.specs.declared.place.Place.{Place}
@@ -37,27 +37,32 @@ use Rattle.sf_sym.specs.Goal.{Item, run, add, take, gave, head, again, exit, ret
 use Rattle.sf_sym.specs.Holds.{term_value, AtomsHold, AddsHold}
 use Rattle.sf_sym.specs.HoldsIn.{HoldsIn}
 use Rattle.sf_sym.specs.Checked.Laws.{Follows, HoldsStill}
-use Rattle.sf_sym.specs.Ready.{AreInOrder, BeginsWithNoAdd, HasOrder, IsKnown, IsReady, value_at, with_variable}
+use Rattle.sf_sym.specs.Ready.{AreInOrder, HasOrder, IsKnown, value_at, with_variable}
+use Rattle.sf_sym.specs.Shape.{HasShape, IsBody}
 use Rattle.sf_sym.specs.State.{State, term, with_symbols}
 use Rattle.sf_sym.specs.Variables.{set_var}
 
--- nothing is assumed at once, so no heap is needed for it
-no-add : (w : ℕ → Value) (items : List Item) (heap : Heap) → BeginsWithNoAdd items → IsEmpty heap
-    → AddsHold w items heap
-no-add w [] heap b e = e
-no-add w (run c ∷ items) heap b e = e
-no-add w (add p given ∷ items) heap b e = absurd b
-no-add w (take p want names ∷ items) heap b e = e
-no-add w (gave p set removed ∷ items) heap b e = e
-no-add w (head p test invariant body ∷ items) heap b e = e
-no-add w (again p invariant ∷ items) heap b e = e
-no-add w (exit p r ∷ items) heap b e = e
-no-add w (return p post ∷ items) heap b e = e
-no-add w (end p ∷ items) heap b e = e
+-- commands assume nothing, so no heap is needed for it
+body-empty : (w : ℕ → Value) (items : List Item) (heap : Heap) → IsBody items → IsEmpty heap → AddsHold w items heap
+body-empty w [] heap b e = absurd b
+body-empty w (run c ∷ items) heap b e = e
+body-empty w (add p given ∷ items) heap b e = absurd b
+body-empty w (take p want names ∷ items) heap b e = absurd b
+body-empty w (gave p set removed ∷ items) heap b e = absurd b
+body-empty w (head p test invariant body ∷ items) heap b e = absurd b
+body-empty w (again p invariant ∷ items) heap b e = e
+body-empty w (exit p r ∷ items) heap b e = e
+body-empty w (return p post ∷ items) heap b e = e
+body-empty w (end p ∷ items) heap b e = absurd b
 
-pub beside-none : {P : Heap → Type 0} (w : ℕ → Value) (items : List Item) (heap : Heap) → BeginsWithNoAdd items
+pub beside-none : {P : Heap → Type 0} (w : ℕ → Value) (items : List Item) (heap : Heap) → IsBody items
     → P heap → (P ⋆ AddsHold w items) heap
-beside-none w items heap b p = star-map_right (λ part d. no-add w items part b d) (star-empty_right p)
+beside-none w items heap b p = star-map_right (λ part d. body-empty w items part b d) (star-empty_right p)
+
+-- a command is followed by commands up to an end, and nothing is handed over
+pub command-form : (s : State) (c : Command) (rest : List Item) → HasShape (before_command s c rest)
+    → IsBody rest × (s.taken ≡ [])
+command-form s c rest shape = elim shape.form [ inl f ↦ f | inr f ↦ absurd f ]
 
 pub executed-one : (goal child : Goal) (left : List Goal)
     (After : (w : ℕ → Value) (e : Var → Option Value) (free taken : Heap) → Goal → Type 0)
@@ -136,7 +141,7 @@ module _ (s : State) (c : Command) (rest : List Item) where
     formed = λ f. f.1;
   }
 
-  module _ (w : ℕ → Value) (e : Var → Option Value) (free taken : Heap) (after : BeginsWithNoAdd rest)
+  module _ (w : ℕ → Value) (e : Var → Option Value) (free taken : Heap) (after : IsBody rest)
       (h : HoldsIn w (before_command s c rest) e free taken) where
     -- once a variable is set
     set-holds : (x : Var) (v : Value) (t : Term) → AreInOrder s.vars → v ≡ term_value w t
@@ -192,23 +197,23 @@ cell-order (x ∷ xs) a t fields o e = go (x.number == a) e (λ i. cell-order xs
 
 pub assign_follows_event : AssignFollowsEvent
 unfolding AssignFollowsEvent
-assign_follows_event s rest left p x value ready row =
+assign_follows_event s rest left p x value shape row =
     let c = assign p x value in
-    let b = ready.below in
+    let b = shape.below in
     let t = term s.vars value in
     executed-one (before_command s c rest) (record { state = with_var x.var t s; todo = rest }) left _ row
     (command-follows s c rest (set_var x.var t s.vars) s.atoms b
     (set-all (IsBelow s.next_sym) x.var t s.vars (term-below s.next_sym s.vars b.state.vars value) b.state.vars)
     b.state.atoms)
     (λ w e free taken h known.
-    set-holds s c rest w e free taken ready.after h x.var (value_at e value) t ready.vars
+    set-holds s c rest w e free taken (command-form s c rest shape).0 h x.var (value_at e value) t shape.vars
     (sym (known-value w e s.vars h.vars value known)))
 
 -- DISPOSE
 
 pub dispose_follows_event : DisposeFollowsEvent
 unfolding DisposeFollowsEvent
-dispose_follows_event s rest left p root a ready row = go (cell_at s.atoms a (term s.vars root)) refl row
+dispose_follows_event s rest left p root a shape row = go (cell_at s.atoms a (term s.vars root)) refl row
   where
     go : (o : Option (List (FieldId × Term))) → cell_at s.atoms a (term s.vars root) ≡ o
         → option_and_then (λ fields. one_goal (record s { atoms = without s.atoms a }) rest) o ≡ Some left
@@ -219,7 +224,7 @@ dispose_follows_event s rest left p root a ready row = go (cell_at s.atoms a (te
     go None found e = absurd (cc)
     go (Some fields) found e =
         let c = dispose p root in
-        let b = ready.below in
+        let b = shape.below in
         let atoms = without s.atoms a in
         executed-one (before_command s c rest) (record { state = record s { atoms = atoms }; todo = rest }) left _ e
         (command-follows s c rest s.vars atoms b b.state.vars
@@ -229,14 +234,14 @@ dispose_follows_event s rest left p root a ready row = go (cell_at s.atoms a (te
         let after = cell-change_left o.location o.here None o.splits o.one.here in
         let gone = splits-of_empty_left (one-remove_cell o.one) after in
         found-cell o known
-        (change-holds s c rest w e free taken ready.after h o.location o.here None atoms o.there
+        (change-holds s c rest w e free taken (command-form s c rest shape).0 h o.location o.here None atoms o.there
         (subst (AtomsHold w s.links atoms) (sym gone) o.beside)))
 
 -- MUTATE
 
 pub mutate_follows_event : MutateFollowsEvent
 unfolding MutateFollowsEvent
-mutate_follows_event s rest left p root field value a ready row =
+mutate_follows_event s rest left p root field value a shape row =
     go (cell_at s.atoms a (term s.vars root)) refl row
   where
     go : (o : Option (List (FieldId × Term))) → cell_at s.atoms a (term s.vars root) ≡ o
@@ -253,7 +258,7 @@ mutate_follows_event s rest left p root field value a ready row =
     go None found e = absurd (cc)
     go (Some fields) found e =
         let c = mutate p root field value in
-        let b = ready.below in
+        let b = shape.below in
         let t = term s.vars root in
         let u = term s.vars value in
         let at = at-cell s.atoms a t fields found in
@@ -270,9 +275,9 @@ mutate_follows_event s rest left p root field value a ready row =
         let is = known-value w e s.vars h.vars value also_known in
         let cell : Cell = put_field o.here field.0 (value_at e value) in
         let fits = subst (λ z. HasFields (term_value w) (put_term field u fields) (put_field o.here field.0 z)) is
-        (put-written (term_value w) field u fields o.here (cell-order s.atoms a t fields ready.fields at) o.has) in
+        (put-written (term_value w) field u fields o.here (cell-order s.atoms a t fields shape.fields at) o.has) in
         found-cell o known
-        (change-holds s c rest w e free taken ready.after h o.location o.here (Some cell) atoms o.there
+        (change-holds s c rest w e free taken (command-form s c rest shape).0 h o.location o.here (Some cell) atoms o.there
         (atoms-in_place w s.links s.atoms a (Points t fields) t (put_term field u fields)
         (heap_with o.location (Some cell) free) at
         (star-of (cell-change_left o.location o.here (Some cell) o.splits o.one.here)
@@ -282,9 +287,9 @@ mutate_follows_event s rest left p root field value a ready row =
 
 pub new_follows_event : NewFollowsEvent
 unfolding NewFollowsEvent
-new_follows_event s rest left p x ready row =
+new_follows_event s rest left p x shape row =
     let goal = before_command s (new p x) rest in
-    let b = ready.below in
+    let b = shape.below in
     let n = s.next_sym in
     let fresh = below-symbol (n + 1) n (omega arith) in
     executed-one goal
@@ -303,7 +308,10 @@ new_follows_event s rest left p x ready row =
       links = refl;
       formed = λ f. f.1;
     })
-    (λ w e free taken h location cell free_lacks taken_lacks.
+    (λ w e free taken h location cell free_lacks.
+    let none : IsEmpty taken = subst (λ atoms. AtomsHold w s.links atoms taken)
+    (command-form s (new p x) rest shape).1 h.gone in
+    let taken_lacks : taken location ≡ None = ap (λ m. m location) (empty-is none) in
     let v = with_value n (loc location) w in
     let same : SameBelow n v w = λ m i. value-below n (loc location) w m i in
     let is : v n ≡ loc location = value-here n (loc location) w in
@@ -311,12 +319,12 @@ new_follows_event s rest left p x ready row =
       values = v;
       same = same;
       holds = record {
-        vars = set-agrees v e x.var (loc location) s.vars (Sym n) ready.vars (sym is)
+        vars = set-agrees v e x.var (loc location) s.vars (Sym n) shape.vars (sym is)
             (vars-stay w v goal b same e free taken h);
         apart = apart-stays w v goal b same e free taken h (Sym n) location is;
         disjoint = (cell-new_left location (Some cell) (splits-union h.disjoint)
             (splits-lacks_whole location (splits-union h.disjoint) free_lacks taken_lacks)).apart;
-        there = beside-none v rest (heap_with location (Some cell) free) ready.after
+        there = beside-none v rest (heap_with location (Some cell) free) (command-form s (new p x) rest shape).0
             (atoms-one_more v s.links s.atoms _ (heap_with location (Some cell) free)
             (star-of (one-put location cell free free_lacks)
             (location, cell, is, one-single location cell, tt)
@@ -337,13 +345,13 @@ Looks s rest p x root field left = Executed (before_command s (look_up p x root 
 -- a field that is known
 look-known : (s : State) (rest : List Item) (left : List Goal) (p : Place) (x : Occurrence) (root : Expr)
     (field : FieldId) (a : ℕ)
-    → IsReady (before_command s (look_up p x root field) rest) rest
+    → HasShape (before_command s (look_up p x root field) rest)
     → (fields : List (FieldId × Term)) → cell_at s.atoms a (term s.vars root) ≡ Some fields
     → (u : Term) → field_term fields field ≡ Some u
     → one_goal (with_var x.var u s) rest ≡ Some left → Looks s rest p x root field left
-look-known s rest left p x root field a ready fields found u is e =
+look-known s rest left p x root field a shape fields found u is e =
     let c = look_up p x root field in
-    let b = ready.below in
+    let b = shape.below in
     let t = term s.vars root in
     let old = at-all (AllInAtom (IsBelow s.next_sym)) s.atoms a (Points t fields) (at-cell s.atoms a t fields found)
     b.state.atoms in
@@ -355,20 +363,20 @@ look-known s rest left p x root field a ready fields found u is e =
     (λ w e free taken h known.
     let o = cell-out w s c rest e free taken a root fields h found in
     found-cell o known
-    (set-holds s c rest w e free taken ready.after h x.var (o.here field.0) u ready.vars
+    (set-holds s c rest w e free taken (command-form s c rest shape).0 h x.var (o.here field.0) u shape.vars
     (field-value (term_value w) fields field u o.here is o.has)))
 
 -- a field that isn't known gets a fresh symbol first
 look-fresh : (s : State) (rest : List Item) (left : List Goal) (p : Place) (x : Occurrence) (root : Expr)
     (field : FieldId) (a : ℕ)
-    → IsReady (before_command s (look_up p x root field) rest) rest
+    → HasShape (before_command s (look_up p x root field) rest)
     → (fields : List (FieldId × Term)) → cell_at s.atoms a (term s.vars root) ≡ Some fields
     → one_goal (with_var x.var (Sym s.next_sym) (with_symbols 1 (record s {
       atoms = with_fields s.atoms a (term s.vars root) (put_term field (Sym s.next_sym) fields);
     }))) rest ≡ Some left → Looks s rest p x root field left
-look-fresh s rest left p x root field a ready fields found e =
+look-fresh s rest left p x root field a shape fields found e =
     let goal = before_command s (look_up p x root field) rest in
-    let b = ready.below in
+    let b = shape.below in
     let n = s.next_sym in
     let t = term s.vars root in
     let put = put_term field (Sym n) fields in
@@ -410,12 +418,12 @@ look-fresh s rest left p x root field a ready fields found e =
       values = v;
       same = same;
       holds = record {
-        vars = set-agrees v e x.var y s.vars (Sym n) ready.vars (sym is)
+        vars = set-agrees v e x.var y s.vars (Sym n) shape.vars (sym is)
             (vars-stay w v goal b same e free taken h);
         apart = pairs-other_values w v s.apart
             (pairs-weaker (IsBelow n) (Same w v) stays s.apart b.state.apart) h.apart;
         disjoint = h.disjoint;
-        there = beside-none v rest free ready.after
+        there = beside-none v rest free (command-form s (look_up p x root field) rest shape).0
             (atoms-in_place v s.links s.atoms a (Points t fields) t put free at
             (star-of o.splits (
               o.location,
@@ -433,7 +441,7 @@ look-fresh s rest left p x root field a ready fields found e =
 
 pub look_follows_event : LookFollowsEvent
 unfolding LookFollowsEvent
-look_follows_event s rest left p x root field a ready row = go (cell_at s.atoms a (term s.vars root)) refl row
+look_follows_event s rest left p x root field a shape row = go (cell_at s.atoms a (term s.vars root)) refl row
   where
     step : (fields : List (FieldId × Term)) → cell_at s.atoms a (term s.vars root) ≡ Some fields
         → (o : Option Term) → field_term fields field ≡ o
@@ -441,9 +449,9 @@ look_follows_event s rest left p x root field a ready row = go (cell_at s.atoms 
         option_and_then (λ after. one_goal after rest) (looked s (term s.vars root) field a x.var o)
         ≡ Some left
         → Looks s rest p x root field left
-    step fields found (Some u) is e = look-known s rest left p x root field a ready fields found u is e
+    step fields found (Some u) is e = look-known s rest left p x root field a shape fields found u is e
     step fields found None is e =
-        look-fresh s rest left p x root field a ready fields found
+        look-fresh s rest left p x root field a shape fields found
         (subst (λ (o : Option (List (FieldId × Term))).
         option_and_then (λ after. one_goal after rest)
         (option_map (with_var x.var (Sym s.next_sym)) (option_map (λ fs. record (with_symbols 1 s) {

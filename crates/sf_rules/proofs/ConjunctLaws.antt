@@ -6,11 +6,11 @@ use Rattle.std.specs.Option.{option_and_then}
 use Rattle.std.proofs.Common.{◌≡◌, ℕ, Bool, true, false, cond, Option, Some, None, List, [], ◌∷◌, ◌++◌, length, refl, sym, subst, inl, inr, arith}
 use Rattle.std.proofs.lemmas.Option.{option_and_then_some, same_Some}
 use Rattle.sf_base.proofs.Elements.{all_by-append}
-use Rattle.sf_base.proofs.HeapSplits.{star-map_left, star-of}
+use Rattle.sf_base.proofs.HeapSplits.{star-drop_right, star-empty_right, star-map_left, star-map_right, star-of}
 use Rattle.sf_base.specs.declared.ids.Var.{Var}
 use Rattle.sf_base.specs.declared.place.Place.{Place}
 use Rattle.sf_base.specs.declared.value.Value.{Value}
-use Rattle.sf_base.specs.HeapStore.{Heap}
+use Rattle.sf_base.specs.HeapStore.{Heap, IsEmpty}
 use Rattle.sf_consume.specs.Checked.Laws.{BranchKeepsWants, Subtracts, SubtractionKeepsWants}
 use Rattle.sf_consume.specs.Subtract.{Want, new_symbols, removed, subtracted}
 use Rattle.sf_consume.specs.Wants.{IsFormed, still_wanted, wanting}
@@ -22,14 +22,14 @@ use Rattle.sf_core.specs.Program.Syntax.{holds, points, segment, tree, choose, L
 use Rattle.sf_produce.specs.Add.{add_row, operands}
 use Rattle.sf_produce.specs.Checked.Laws.{AddKeepsGoals, HoldsAssumed, assuming}
 use Rattle.sf_rules.specs.Checked.Lemmas.{few-left}
-use Rattle.sf_rules.specs.Checked.LawsOfConjuncts.{AssumeKeepsGoals, AssumedBranchKeepsGoals, LeftToShow, ShownBranchLeavesRest, SubtractionLeavesRest, showing}
+use Rattle.sf_rules.specs.Checked.LawsOfConjuncts.{AssumeKeepsGoals, AssumedBranchKeepsGoals, HandsOn, LeftToShow, ShownBranchLeavesRest, SubtractionLeavesRest, showing, still_showing}
 use Rattle.sf_rules.specs.Rows.Branches.{chosen}
 use Rattle.sf_sym.specs.Below.{AllInPending, AreBelow, IsBelow}
 use Rattle.sf_sym.specs.Decided.{is_decided, test_of_terms}
 use Rattle.sf_sym.specs.declared.term.Term.{Term}
 use Rattle.sf_sym.specs.Formed.{AreFormed, ItemFormed}
-use Rattle.sf_sym.specs.Goal.{Item, Goal, adding, one_goal, taking}
-use Rattle.sf_sym.specs.Holds.{term_value, IsBound, PendingHolds}
+use Rattle.sf_sym.specs.Goal.{Item, run, add, take, gave, head, again, exit, return, end, Goal, adding, one_goal, taking, unless_none}
+use Rattle.sf_sym.specs.Holds.{term_value, AddsHold, IsBound, PendingHolds}
 use Rattle.sf_sym.specs.HoldsIn.{HoldsIn}
 use Rattle.sf_sym.specs.Checked.Laws.{Follows, KeptWith}
 use Rattle.sf_sym.specs.Checked.Lemmas.Adding.{adding-all, adding-holds, taking-all}
@@ -41,13 +41,14 @@ use Rattle.sf_sym.specs.Checked.Lemmas.Formed.{formed-adding, formed-taking}
 use Rattle.sf_sym.specs.Checked.Lemmas.Keeping.{kept-one}
 use Rattle.sf_sym.specs.Checked.Lemmas.Restated.{restated-same}
 use Rattle.sf_sym.specs.Pending.{Pending, before, conjuncts_of}
+use Rattle.sf_sym.specs.Shape.{HasShape, IsShowing}
 use Rattle.sf_sym.specs.State.{State}
 
 -- add, where few symbols are new
 pub assume_keeps_goals : AddKeepsGoals → AssumeKeepsGoals
 unfolding AddKeepsGoals AssumeKeepsGoals
-assume_keeps_goals law s p given rest left below formed row =
-    law s p given rest left below formed
+assume_keeps_goals law s p given rest left shape row =
+    law s p given rest left shape
     (few-left (operands given.conjuncts) (add_row s p given rest) left row)
 
 -- A choice among what is assumed
@@ -136,7 +137,7 @@ module _ (so : Bool) (s : State) (p : Place) (place : Place) (test : Test (Opera
 
 pub assumed_branch_keeps_goals : AssumedBranchKeepsGoals
 unfolding AssumedBranchKeepsGoals
-assumed_branch_keeps_goals so s p given rest left below formed row = go given.conjuncts below formed row
+assumed_branch_keeps_goals so s p given rest left shape row = go given.conjuncts shape.below shape.formed row
   where
     go : (cs : Conjuncts Term)
         → AreBelow (assuming s p (record { conjuncts = cs; bindings = given.bindings }) rest)
@@ -178,32 +179,78 @@ assumed_branch_keeps_goals so s p given rest left below formed row = go given.co
             decide false d e = absurd (cc)
 
 -- What is to be shown
-module _ (s : State) (p : Place) (want : Pending) (names : List (List ℕ)) (rest : List Item) where
+-- nothing is assumed at once where something is shown first
+showing-empty : (w : ℕ → Value) (todo : List Item) (heap : Heap) → IsShowing todo → IsEmpty heap
+    → AddsHold w todo heap
+showing-empty w [] heap i e = absurd i
+showing-empty w (take q want names ∷ rest) heap i e = e
+showing-empty w (gave q set removed ∷ rest) heap i e = e
+showing-empty w (head q test invariant body ∷ rest) heap i e = e
+showing-empty w (end q ∷ rest) heap i e = e
+showing-empty w (run c ∷ rest) heap i e = absurd i
+showing-empty w (add q given ∷ rest) heap i e = absurd i
+showing-empty w (exit q r ∷ rest) heap i e = absurd i
+showing-empty w (again q invariant ∷ rest) heap i e = absurd i
+showing-empty w (return q post ∷ rest) heap i e = absurd i
+
+-- what is to be shown may come before it
+taking-showing : (q : Place) (want : Pending) (names : List (List ℕ)) (rest : List Item) → IsShowing rest
+    → IsShowing (taking q want names ++ rest)
+taking-showing q want names rest i = go want.conjuncts
+  where
+    go : (cs : Conjuncts Term) → IsShowing (unless_none cs (take q want names) ++ rest)
+    go none = i
+    go (also c cs) = i
+
+module _ (s : State) (p : Place) (want : Pending) (names : List (List ℕ)) (rest : List Item)
+    (shape : HasShape (showing s p want names rest)) where
   -- a subtraction that is formed
-  shown-formed : AreBelow (showing s p want names rest) → AreFormed (showing s p want names rest)
-      → IsFormed (wanting s want)
-  shown-formed below formed = record {
-    state = below.state;
-    terms = below.todo.0;
-    conjuncts = formed.0;
+  shown-formed : IsFormed (wanting s want)
+  shown-formed = record {
+    state = shape.below.state;
+    terms = shape.below.todo.0;
+    conjuncts = shape.formed.0;
   }
 
+  -- the goal that is left holds on what was handed over and on the rest
+  shown-hands : (after : Want) → Subtracts (wanting s want) after → (w : ℕ → Value) (e : Var → Option Value)
+      (free taken : Heap) → HoldsIn w (showing s p want names rest) e free taken
+      → HandsOn w (wanting s want) after (still_showing after p names rest) e free taken
+  shown-hands after d w e free taken h =
+      let m = d.hands w e free taken (record {
+        vars = h.vars;
+        apart = h.apart;
+        disjoint = h.disjoint;
+        there = star-empty_right (star-drop_right h.there);
+        gone = h.gone;
+      }) in
+      let form : IsShowing rest = elim shape.form [ inl f ↦ absurd f.0 | inr f ↦ f ] in
+      record {
+        hands = m;
+        holds = record {
+          vars = m.holds.vars;
+          apart = m.holds.apart;
+          disjoint = m.holds.disjoint;
+          there = star-map_right (λ part i. showing-empty m.values (still_showing after p names rest).todo part
+              (taking-showing p (still_wanted after) names rest form) i)
+              (star-empty_right (star-drop_right m.holds.there));
+          gone = m.holds.gone;
+        };
+      }
+
   -- the goal that is left where it comes to be another
-  shown-left : (after : Want) (left : List Goal) → AreBelow (showing s p want names rest)
-      → Subtracts (wanting s want) after
-      → Some ((record { state = after.state; todo = taking p (still_wanted after) names ++ rest }) ∷ []) ≡ Some left
-      → LeftToShow s p want names rest left
-  shown-left after left below d e = record {
+  shown-left : (after : Want) (left : List Goal) → Subtracts (wanting s want) after
+      → Some (still_showing after p names rest ∷ []) ≡ Some left → LeftToShow s p want names rest left
+  shown-left after left d e = record {
     after = after;
-    is = sym (same_Some ((record { state = after.state; todo = taking p (still_wanted after) names ++ rest }) ∷ [])
-        left e);
+    is = sym (same_Some (still_showing after p names rest ∷ []) left e);
     subtracts = d;
     follow = record {
       below = record {
         state = d.formed.state;
         todo = taking-all (IsBelow after.state.next_sym) p (still_wanted after) names rest d.formed.terms
             (items-weaker (IsBelow s.next_sym) (IsBelow after.state.next_sym)
-            (below-more s.next_sym after.state.next_sym d.symbols) rest below.todo.1);
+            (below-more s.next_sym after.state.next_sym d.symbols) rest shape.below.todo.1);
       };
       symbols = d.symbols;
       links = d.links;
@@ -211,37 +258,37 @@ module _ (s : State) (p : Place) (want : Pending) (names : List (List ℕ)) (res
           (formed-taking after.state.links p (still_wanted after) names d.formed.conjuncts)
           (subst (λ l. AllByRecursion (ItemFormed l) rest) (sym d.links) f.1);
     };
+    hands = shown-hands after d;
   }
 
 -- a step of subtraction
 pub subtraction_leaves_rest : SubtractionKeepsWants → SubtractionLeavesRest
 unfolding SubtractionKeepsWants SubtractionLeavesRest
-subtraction_leaves_rest law tag s p want names rest left below formed row =
+subtraction_leaves_rest law tag s p want names rest left shape row =
     option_and_then_some
     (λ (after : Want). one_goal after.state (taking p (still_wanted after) names ++ rest))
     (subtracted tag (wanting s want)) left
     (few-left (new_symbols want.conjuncts)
     (option_and_then (λ (after : Want). one_goal after.state (taking p (still_wanted after) names ++ rest))
     (subtracted tag (wanting s want))) left row)
-    (λ after is e. shown-left s p want names rest after left below
-    (law tag (wanting s want) after (shown-formed s p want names rest below formed) is) e)
+    (λ after is e. shown-left s p want names rest shape after left
+    (law tag (wanting s want) after (shown-formed s p want names rest shape) is) e)
 
 -- a choice among what is to be shown
 pub shown_branch_leaves_rest : BranchKeepsWants → ShownBranchLeavesRest
 unfolding BranchKeepsWants ShownBranchLeavesRest
-shown_branch_leaves_rest law so s p want names rest left below formed row = go want.conjuncts below formed row
+shown_branch_leaves_rest law so s p want names rest left shape row = go want.conjuncts shape row
   where
     go : (cs : Conjuncts Term)
-        → AreBelow (showing s p (record { conjuncts = cs; bindings = want.bindings }) names rest)
-        → AreFormed (showing s p (record { conjuncts = cs; bindings = want.bindings }) names rest)
+        → HasShape (showing s p (record { conjuncts = cs; bindings = want.bindings }) names rest)
         → option_and_then (λ after. one_goal s (taking p after names ++ rest)) (chosen so s want cs) ≡ Some left
         → LeftToShow s p (record { conjuncts = cs; bindings = want.bindings }) names rest left
-    go none below formed e = absurd (cc)
-    go (also (holds q t) cs) below formed e = absurd (cc)
-    go (also (points q x fs) cs) below formed e = absurd (cc)
-    go (also (segment q next x y) cs) below formed e = absurd (cc)
-    go (also (tree q l r x) cs) below formed e = absurd (cc)
-    go (also (choose q t this that) cs) below formed e = by_test (test_of_terms want.bindings t) refl e
+    go none shape e = absurd (cc)
+    go (also (holds q t) cs) shape e = absurd (cc)
+    go (also (points q x fs) cs) shape e = absurd (cc)
+    go (also (segment q next x y) cs) shape e = absurd (cc)
+    go (also (tree q l r x) cs) shape e = absurd (cc)
+    go (also (choose q t this that) cs) shape e = by_test (test_of_terms want.bindings t) refl e
       where
         by_test : (o : Option (Test Term)) → test_of_terms want.bindings t ≡ o
             → option_and_then (λ after. one_goal s (taking p after names ++ rest))
@@ -266,11 +313,10 @@ shown_branch_leaves_rest law so s p want names rest left below formed row = go w
                   bindings = want.bindings;
                 }) names rest left
             decide true d e =
-                shown-left s p (record { conjuncts = also (choose q t this that) cs; bindings = want.bindings }) names
-                rest (removed s want.bindings (before (conjuncts_of (cond so this that)) cs)) left below
-                (law so s want.bindings q t this that cs terms
-                (shown-formed s p (record {
+                shown-left s p (record { conjuncts = also (choose q t this that) cs; bindings = want.bindings }) names rest shape
+                (removed s want.bindings (before (conjuncts_of (cond so this that)) cs)) left
+                (law so s want.bindings q t this that cs terms (shown-formed s p (record {
                   conjuncts = also (choose q t this that) cs;
                   bindings = want.bindings;
-                }) names rest below formed) i d) e
+                }) names rest shape) i d) e
             decide false d e = absurd (cc)

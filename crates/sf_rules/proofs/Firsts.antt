@@ -10,6 +10,8 @@ use Rattle.sf_core.specs.Program.Named.{IsFirstNamed}
 use Rattle.sf_sym.specs.declared.term.Term.{Term}
 use Rattle.sf_sym.specs.declared.term.Term.TheVariants.{Nil, Sym}
 use Rattle.std.proofs.lemmas.Bool.Decides.{nat_tests}
+use Rattle.sf_sym.specs.Below.{AllPaired, IsBelow}
+use Rattle.sf_sym.specs.Checked.Lemmas.Below.{below-symbol}
 use Rattle.sf_sym.specs.Variables.{AreInOrder, IsBeforeAll}
 use Rattle.sf_rules.specs.First.{nils, number_of, symbols}
 
@@ -93,3 +95,21 @@ firsts-order from (suc count) m n le = (
 pub own_firsts-order : (vs : List (Var × Term)) (n count : ℕ) → vs ≡ symbols 0 n ++ nils n (count - n)
     → AreInOrder vs
 own_firsts-order vs n count e = subst AreInOrder (sym e) (firsts-order 0 n n (count - n) (omega arith))
+
+nils-below : (most from count : ℕ) → AllPaired (IsBelow most) (nils from count)
+nils-below most from zero = tt
+nils-below most from (suc count) = (refl, nils-below most (suc from) count)
+
+firsts-below : (most from n m count : ℕ) → from + n ≤ most
+    → AllPaired (IsBelow most) (symbols from n ++ nils m count)
+firsts-below most from zero m count l = nils-below most m count
+firsts-below most from (suc n) m count l = (
+  below-symbol most from (omega (arith, l)),
+  firsts-below most (suc from) n m count (omega (arith, l)),
+)
+
+-- and have symbols below the first one that is new
+pub own_firsts-below : (vs : List (Var × Term)) (n count : ℕ) → vs ≡ symbols 0 n ++ nils n (count - n)
+    → AllPaired (IsBelow n) vs
+own_firsts-below vs n count e =
+    subst (AllPaired (IsBelow n)) (sym e) (firsts-below n 0 n n (count - n) (omega arith))

@@ -1,26 +1,76 @@
 -- The examples of rows: each computes.
 use Rattle.std.proofs.Common.{refl}
-use Rattle.sf_rules.specs.Checked.Examples.{SplitReplacesTheGreater, UnrolledListHasACell, JoinGoesOn, JoinNeedsItsEnd, GivenIsGone, LoopsGiveNoTerms, LoopsGoOnceAround, ForksLeaveFiveItems}
+use Rattle.sf_rules.specs.Checked.Examples.{NoCellIsAtNil, EmptyListsGo, ListsFromNilAreEmpty, SplitReplacesTheGreater, UnrolledPartsHaveACell, AssignedVariablesHaveTheTerm, LookedUpFieldsAreKnown, MutatedFieldsHaveTheTerm, NewCellsAreFresh, DisposedCellsGo, DecidedBranchesAreLeft}
+use Rattle.sf_rules.specs.Checked.ExamplesOfBodies.{CallsLeaveThreeItems, ForksLeaveFiveItems, GivenIsGone, RegionsBeginWithTheInvariant, RegionsEndWithTheInvariant, LoopsBeginWithTheInvariant, LoopsGoOnceAround, LoopsGiveNoTerms, BodiesEndWithTheInvariant, ReturnsShowThePostcondition, NothingIsLeftAtTheEnd}
+use Rattle.sf_rules.specs.Checked.ExamplesOfConjuncts.{AddedCellsNameTheirFields, AddedTestsAreKnown, ChosenBranchesTakeTheirPlace, BoundExistentialsHaveTheTerm, OneTermIsTheSame, KnownTermsAreApart, WantedCellsAreHandedOver, EmptyPartsNeedNothing, ExactPartsAreHandedOver, HeadGoesOn, JoinGoesOn, NodeGoesOn}
+
+pub no_cell_is_at_nil : NoCellIsAtNil
+unfolding NoCellIsAtNil
+no_cell_is_at_nil d = (refl, refl)
+
+pub empty_lists_go : EmptyListsGo
+unfolding EmptyListsGo
+empty_lists_go d = (refl, refl)
+
+pub lists_from_nil_are_empty : ListsFromNilAreEmpty
+unfolding ListsFromNilAreEmpty
+lists_from_nil_are_empty d = (refl, refl)
 
 pub split_replaces_the_greater : SplitReplacesTheGreater
 unfolding SplitReplacesTheGreater
 split_replaces_the_greater d = refl
 
-pub unrolled_list_has_a_cell : UnrolledListHasACell
-unfolding UnrolledListHasACell
-unrolled_list_has_a_cell d = refl
+pub unrolled_parts_have_a_cell : UnrolledPartsHaveACell
+unfolding UnrolledPartsHaveACell
+unrolled_parts_have_a_cell d = (refl, refl)
 
-pub join_goes_on : JoinGoesOn
-unfolding JoinGoesOn
-join_goes_on d = refl
+pub assigned_variables_have_the_term : AssignedVariablesHaveTheTerm
+unfolding AssignedVariablesHaveTheTerm
+assigned_variables_have_the_term d = refl
 
-pub join_needs_its_end : JoinNeedsItsEnd
-unfolding JoinNeedsItsEnd
-join_needs_its_end d = refl
+pub looked_up_fields_are_known : LookedUpFieldsAreKnown
+unfolding LookedUpFieldsAreKnown
+looked_up_fields_are_known d = (refl, refl, refl)
+
+pub mutated_fields_have_the_term : MutatedFieldsHaveTheTerm
+unfolding MutatedFieldsHaveTheTerm
+mutated_fields_have_the_term d = refl
+
+pub new_cells_are_fresh : NewCellsAreFresh
+unfolding NewCellsAreFresh
+new_cells_are_fresh d = refl
+
+pub disposed_cells_go : DisposedCellsGo
+unfolding DisposedCellsGo
+disposed_cells_go d = (refl, refl)
+
+pub decided_branches_are_left : DecidedBranchesAreLeft
+unfolding DecidedBranchesAreLeft
+decided_branches_are_left d = ((refl, refl), (refl, refl), refl, refl)
+
+pub calls_leave_three_items : CallsLeaveThreeItems
+unfolding CallsLeaveThreeItems
+calls_leave_three_items = (refl, refl)
+
+pub forks_leave_five_items : ForksLeaveFiveItems
+unfolding ForksLeaveFiveItems
+forks_leave_five_items = refl
 
 pub given_is_gone : GivenIsGone
 unfolding GivenIsGone
 given_is_gone d = refl
+
+pub regions_begin_with_the_invariant : RegionsBeginWithTheInvariant
+unfolding RegionsBeginWithTheInvariant
+regions_begin_with_the_invariant = refl
+
+pub regions_end_with_the_invariant : RegionsEndWithTheInvariant
+unfolding RegionsEndWithTheInvariant
+regions_end_with_the_invariant = refl
+
+pub loops_begin_with_the_invariant : LoopsBeginWithTheInvariant
+unfolding LoopsBeginWithTheInvariant
+loops_begin_with_the_invariant = refl
 
 pub loops_go_once_around : LoopsGoOnceAround
 unfolding LoopsGoOnceAround
@@ -30,6 +80,62 @@ pub loops_give_no_terms : LoopsGiveNoTerms
 unfolding LoopsGiveNoTerms
 loops_give_no_terms = refl
 
-pub forks_leave_five_items : ForksLeaveFiveItems
-unfolding ForksLeaveFiveItems
-forks_leave_five_items = refl
+pub bodies_end_with_the_invariant : BodiesEndWithTheInvariant
+unfolding BodiesEndWithTheInvariant
+bodies_end_with_the_invariant = refl
+
+pub returns_show_the_postcondition : ReturnsShowThePostcondition
+unfolding ReturnsShowThePostcondition
+returns_show_the_postcondition = refl
+
+pub nothing_is_left_at_the_end : NothingIsLeftAtTheEnd
+unfolding NothingIsLeftAtTheEnd
+nothing_is_left_at_the_end d = (refl, refl)
+
+pub added_cells_name_their_fields : AddedCellsNameTheirFields
+unfolding AddedCellsNameTheirFields
+added_cells_name_their_fields d = (refl, refl)
+
+pub added_tests_are_known : AddedTestsAreKnown
+unfolding AddedTestsAreKnown
+added_tests_are_known d = (refl, refl, refl)
+
+pub chosen_branches_take_their_place : ChosenBranchesTakeTheirPlace
+unfolding ChosenBranchesTakeTheirPlace
+chosen_branches_take_their_place d = (refl, refl, refl, refl, refl)
+
+pub bound_existentials_have_the_term : BoundExistentialsHaveTheTerm
+unfolding BoundExistentialsHaveTheTerm
+bound_existentials_have_the_term d = refl
+
+pub one_term_is_the_same : OneTermIsTheSame
+unfolding OneTermIsTheSame
+one_term_is_the_same d = (refl, refl)
+
+pub known_terms_are_apart : KnownTermsAreApart
+unfolding KnownTermsAreApart
+known_terms_are_apart d = (refl, refl)
+
+pub wanted_cells_are_handed_over : WantedCellsAreHandedOver
+unfolding WantedCellsAreHandedOver
+wanted_cells_are_handed_over d = (refl, refl)
+
+pub empty_parts_need_nothing : EmptyPartsNeedNothing
+unfolding EmptyPartsNeedNothing
+empty_parts_need_nothing d = (refl, refl, refl)
+
+pub exact_parts_are_handed_over : ExactPartsAreHandedOver
+unfolding ExactPartsAreHandedOver
+exact_parts_are_handed_over d = (refl, refl, refl)
+
+pub head_goes_on : HeadGoesOn
+unfolding HeadGoesOn
+head_goes_on d = (refl, refl)
+
+pub join_goes_on : JoinGoesOn
+unfolding JoinGoesOn
+join_goes_on d = (refl, refl)
+
+pub node_goes_on : NodeGoesOn
+unfolding NodeGoesOn
+node_goes_on d = refl

@@ -2,6 +2,8 @@
 -- One module for each.
 pub mod Children
 pub mod Examples
+pub mod ExamplesOfBodies
+pub mod ExamplesOfConjuncts
 pub mod Front
 pub mod LawsOfCommands
 pub mod LawsOfConjuncts

@@ -1,9 +1,9 @@
 //! What a tag leaves of a goal: the whole table.
 
-ghost use Rattle.std.specs.Prelude.{◌≡◌, ◌∷◌, [], IfErr, IfOk, IsTrue, None, Some, cond};
+ghost use Rattle.std.specs.Prelude.{◌≡◌, ◌++◌, ◌∷◌, [], IfErr, IfOk, IsTrue, None, OnOk, Some, cond};
 ghost use Rattle.std.specs.Option.{option_map};
 ghost use Rattle.sf_precise.specs.Order.{IsOrdering};
-ghost use Rattle.sf_rules.specs.Checked.Children.{children_of};
+ghost use Rattle.sf_rules.specs.Checked.Children.{children_of, stack_of};
 ghost use Rattle.sf_rules.specs.Rows.Whole.{row, row_of};
 ghost use Rattle.sf_rules.specs.Setting.{Setting, setting_of};
 ghost use Rattle.sf_rules.specs.Few.{has_numbers};
@@ -53,25 +53,8 @@ impl From<AllocError> for RuleFault {
     }
 }
 
-/// What a tag leaves of a goal, which stays as it is. `NotARule` comes exactly where the tag has no
-/// row there.
-pub fn children_by<'a>(
-    alloc: Global,
-    arranged: &'a Arranged,
-    goal: &Goal<'a>,
-    tag: Tag,
-) -> Result<Children<'a>, RuleFault>
-    ghost d: { Setting }
-    requires ordered { IsOrdering d.ordered }
-    requires setting { d ≡ setting_of d.ordered arranged.now }
-    ensures ok { IfOk result (λ left. row d (goal_of goal.now) tag ≡ Some (children_of left)) }
-    ensures err { IfErr result (λ e. e ≡ NotARule → row d (goal_of goal.now) tag ≡ None) }
-{
-    let goal = goal.copy(alloc)?;
-    apply_row(alloc, arranged, goal, tag)
-}
-
-/// The same, of a goal that is given up: nothing is copied where one goal is left.
+/// What a tag leaves of a goal, which is given up: nothing is copied where one goal is left.
+/// `NotARule` comes exactly where the tag has no row there.
 pub fn apply_row<'a>(
     alloc: Global,
     arranged: &'a Arranged,
@@ -91,6 +74,23 @@ pub fn apply_row<'a>(
         Some(left) => Ok(left),
         None => Err(RuleFault::NotARule),
     }
+}
+
+/// Puts the goals that a row leaves on a stack of open goals, the first last, so that it comes
+/// next. An `Err` means out of memory.
+pub fn push_children<'a>(stack: &mut Vec<Goal<'a>>, left: Children<'a>) -> Result<(), AllocError>
+    ensures { OnOk result
+        (stack_of stack.new.items ≡ children_of left.entry ++ stack_of stack.old.items) }
+{
+    match left {
+        Children::None => {}
+        Children::One(goal) => stack.push(goal)?,
+        Children::Two(first, second) => {
+            stack.push(second)?;
+            stack.push(first)?;
+        }
+    }
+    Ok(())
 }
 
 /// Whether new numbers can't run out.

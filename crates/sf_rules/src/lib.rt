@@ -35,7 +35,7 @@ mod subtracting;
 mod terms;
 mod words;
 
-pub use children::{Children, RuleFault, apply_row, children_by};
+pub use children::{Children, RuleFault, apply_row, push_children};
 pub use decided::{command_test, is_decided, test_of_terms};
 pub use start::first_goal;
 pub use terms::term_of;

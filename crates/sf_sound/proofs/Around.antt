@@ -36,7 +36,7 @@ use Rattle.sf_sound.proofs.Tests.{items-test, negation-true, pending_test, test-
 use Rattle.sf_sound.proofs.Words.{adding-assuming, adding-does, body-holds}
 use Rattle.sf_sym.specs.Checked.Lemmas.Adding.{adding-holds}
 use Rattle.sf_sound.specs.Checked.Claims.{Owed, Satisfies, steps, with_cells}
-use Rattle.sf_sound.specs.Checked.Suits.{Claim, Domain, HasDomain, IsBody, ReadsTest, Suits}
+use Rattle.sf_sound.specs.Checked.Suits.{Claim, Domain, HasDomain, ReadsTest, Suits}
 use Rattle.sf_sym.specs.Below.{AllInItem, IsBelow}
 use Rattle.sf_sym.specs.declared.term.Term.{Term}
 use Rattle.sf_sym.specs.Goal.{Item, head, again, Goal, to_run}
@@ -46,6 +46,7 @@ use Rattle.sf_sym.specs.Checked.Lemmas.Below.{below-more, items-weaker}
 use Rattle.sf_sym.specs.Ready.{is_listed}
 use Rattle.sf_sym.specs.State.{State, term}
 use Rattle.sf_sym.specs.Variables.{with_fresh}
+use Rattle.sf_sym.specs.Shape.{IsBody}
 
 -- what passes a test is among those that do
 filter-contains : {X : Type 0} (p : X → Bool) (xs : List X) (x : X) → Contains xs x → p x ≡ true
@@ -93,7 +94,7 @@ module _ (d : Setting) (s : State) (q : Place) (t : Test Expr) (invariant : Asse
       fresh = state-fresh d D D s unknown (state-of d D goal u) (λ x e. inl e)
 
       form : IsBody rest
-      form = elim u.form [ inl f ↦ absurd f.0 | inr f ↦ f ]
+      form = elim u.shape.form [ inl f ↦ absurd f.0 | inr f ↦ f ]
 
       -- the goals that are left suit the frame
       once-suits : Suits d D (body_once d now q t invariant body)
@@ -153,13 +154,13 @@ module _ (d : Setting) (s : State) (q : Place) (t : Test Expr) (invariant : Asse
                 ∙ sym (is_some-false (l.values x) (has.variables x ∙ e))
 
         abbrev v : ℕ → Value
-        v = renewed s goal.todo u.below u.order unknown w l m l.cells taken h stays
+        v = renewed s goal.todo u.shape.below u.shape.vars unknown w l m l.cells taken h stays
 
         vars : AllByRecursion (Agrees v m.values) now.vars
-        vars = renewed-vars s goal.todo u.below u.order unknown w l m l.cells taken h stays
+        vars = renewed-vars s goal.todo u.shape.below u.shape.vars unknown w l m l.cells taken h stays
 
         apart : AllByRecursion (Differ v) s.apart
-        apart = renewed-apart s goal.todo u.below u.order unknown w l m l.cells taken h stays
+        apart = renewed-apart s goal.todo u.shape.below u.shape.vars unknown w l m l.cells taken h stays
 
         values : HaveValues V v to (value_in m)
         values = terms-values d D now fresh v m at.domain vars
@@ -210,7 +211,7 @@ module _ (d : Setting) (s : State) (q : Place) (t : Test Expr) (invariant : Asse
               apart = apart;
               disjoint = (splits-empty_right {map = m.cells} empty-holds).apart;
               there = star-of (splits-comm at.splits)
-                  (renewed-atoms s goal.todo u.below u.order unknown w l m l.cells taken h stays l.cells
+                  (renewed-atoms s goal.todo u.shape.below u.shape.vars unknown w l m l.cells taken h stays l.cells
                   (star-drop_right h.there))
                   (assumed (negation ENil t) rest (negated t u.todo.0.0) true_ form);
               gone = empty-holds;

@@ -34,7 +34,7 @@ use Rattle.sf_sound.proofs.States.{StateSuits, items-add, items-of, items-take, 
 use Rattle.sf_sound.proofs.Words.{adding-assuming, adding-does, body-holds, showing-holds, taking-does, taking-showing}
 use Rattle.sf_sym.specs.Checked.Lemmas.Adding.{adding-holds}
 use Rattle.sf_sound.specs.Checked.Claims.{Does, Owed, put_values, steps, with_cells}
-use Rattle.sf_sound.specs.Checked.Suits.{CallSuits, Claim, Domain, HasDomain, IsBody, IsPassed, IsShowing, ReadsAll, Suits}
+use Rattle.sf_sound.specs.Checked.Suits.{CallSuits, Claim, Domain, HasDomain, IsPassed, ReadsAll, Suits}
 use Rattle.sf_sym.specs.Below.{AllPaired, AreBelow, IsBelow, SameBelow}
 use Rattle.sf_sym.specs.declared.term.Term.{Term}
 use Rattle.sf_sym.specs.Goal.{Item, gave, Goal}
@@ -47,6 +47,7 @@ use Rattle.sf_sym.specs.Pending.{Pending}
 use Rattle.sf_sym.specs.Ready.{is_listed}
 use Rattle.sf_sym.specs.State.{State, term, term_at, with_symbols}
 use Rattle.sf_sym.specs.Variables.{fresh_for, set_vars}
+use Rattle.sf_sym.specs.Shape.{IsBody, IsShowing}
 
 -- values that are read
 pub domain-all : (D : Domain) (l : Local) → HasDomain D l → (es : List Expr) → ReadsAll D es → HasInAll l es
@@ -128,7 +129,7 @@ module _ (d : Setting) (s : State) (q : Place) (c : Call) (rest : List Item) whe
     names = (d.ordered u.callee.pre).names
 
     form : IsBody rest
-    form = (form-command s (call q c) rest gs.form).0
+    form = (form-command s (call q c) rest gs.shape.form).0
 
     later : (x : Term) → IsBelow s.next_sym x → IsBelow next x
     later x b = below-more s.next_sym next (omega arith) x b
@@ -196,7 +197,7 @@ module _ (d : Setting) (s : State) (q : Place) (c : Call) (rest : List Item) whe
             → LocalParts after back kept → LocalSafe d.program n (Owed rest) (steps rest) after
         goes_on back after b parts =
             let v = fresh_values s.next_sym xs (value_in back) w in
-            let hv = holds-with w v (before_command s (call q c) rest) l.values l.cells taken gs.below
+            let hv = holds-with w v (before_command s (call q c) rest) l.values l.cells taken gs.shape.below
             (fresh-same s.next_sym xs (value_in back) w) h in
             let second = shown v hv in
             let same_part : second.left ≡ first.left =
@@ -208,7 +209,7 @@ module _ (d : Setting) (s : State) (q : Place) (c : Call) (rest : List Item) whe
             let values : HaveValues (IsPassed d c.callee u.callee) v (term_after s set c)
             (callee_value (value_in back) c (arguments_in l c)) =
             callee-values d v (term s.vars) l (term_at (set_vars set s.vars)) (value_in back) c u.callee
-            (λ x m. set-value v (value_in back) set s.vars l x gs.order hv.vars
+            (λ x m. set-value v (value_in back) set s.vars l x gs.shape.vars hv.vars
             (fresh-values s.next_sym xs (value_in back) w) (fresh-listed s.next_sym xs x ((u.lends x).1 m)))
             (values-known d D s t v l has hv.vars c.values u.reads) in
             let does = second.second back.cells after.cells

@@ -1,8 +1,7 @@
 -- What goals with a command in front claim: the event finds what it needs, and the goal that is left claims the rest.
 -- Names: `COMMAND-claims` of that command's row.
 use Rattle.std.specs.List.{AllByRecursion}
-use Rattle.std.proofs.Common.{◌≡◌, ℕ, zero, suc, Bool, true, false, cond, Option, Some, None, List, [], ◌∷◌, ◌++◌, sym, ap, subst, subst₂, inl, inr}
-use Rattle.sf_base.proofs.MapSplits.{empty-is}
+use Rattle.std.proofs.Common.{◌≡◌, ℕ, zero, suc, Bool, true, false, cond, Option, Some, None, List, [], ◌∷◌, ◌++◌, sym, subst, subst₂, inl, inr}
 use Rattle.sf_base.specs.declared.ids.FieldId.{FieldId}
 use Rattle.sf_base.specs.declared.ids.Var.{Var}
 use Rattle.sf_base.specs.declared.place.Place.{Place}
@@ -22,16 +21,16 @@ use Rattle.sf_rules.specs.Setting.{Setting}
 use Rattle.sf_safe.specs.Checked.Local.{Local, look, put_local, put_variable}
 use Rattle.sf_safe.specs.Checked.LocalSafe.{LocalSafe}
 use Rattle.sf_sound.proofs.CommandChildren.{IsOrdered, Stays, assign-stays, branch-stays, dispose-stays, look-stays, mutate-stays, new-stays}
-use Rattle.sf_sound.proofs.Standing.{body-does, body-run, domain-has, domain-in, domain-put, domain-test, form-command, items-formed_run, known-expr, known-test, next-suits, owed-run, ready, steps-run, suits-run}
+use Rattle.sf_sound.proofs.Standing.{body-does, body-run, domain-has, domain-in, domain-put, domain-test, form-command, items-formed_run, known-expr, known-test, next-suits, owed-run, steps-run, suits-run}
 use Rattle.sf_sound.specs.Checked.Claims.{Does, Owed, steps}
 use Rattle.sf_sym.specs.Formed.{ItemFormed}
-use Rattle.sf_sound.specs.Checked.Suits.{Claim, Domain, HasDomain, IsBody, Suits, TodoSuits}
+use Rattle.sf_sound.specs.Checked.Suits.{Claim, Domain, HasDomain, Suits, TodoSuits}
 use Rattle.sf_sym.specs.Goal.{Item, run, Goal, to_run}
-use Rattle.sf_sym.specs.Holds.{AtomsHold}
 use Rattle.sf_sym.specs.HoldsIn.{HoldsIn}
 use Rattle.sf_sym.specs.Checked.Laws.{Follows, HoldsStill, SomeOf}
-use Rattle.sf_sym.specs.Ready.{IsReady, value_at}
+use Rattle.sf_sym.specs.Ready.{value_at}
 use Rattle.sf_sym.specs.State.{State}
+use Rattle.sf_sym.specs.Shape.{HasShape, IsBody}
 
 -- one of the goals has the property that one of them has, and those that all have
 pub record Picked (P Q R S : Goal → Type 0) : Type 0 where
@@ -68,7 +67,7 @@ module _ (d : Setting) (D : Domain) (s : State) (c : Command) (rest todo : List 
 module _ (d : Setting) (s : State) (rest : List Item) (left : List Goal) (claims : AllByRecursion
     (Claim d) left) where
   ordered : (D : Domain) (c : Command) → Suits d D (before_command s c rest) → IsOrdered s
-  ordered D c u = record { vars = u.order; fields = u.fields }
+  ordered D c u = record { vars = u.shape.vars; fields = u.shape.fields }
 
   pub assign-claims : AssignFollowsEvent → (p : Place) (x : Occurrence) (e : Expr)
       → assign_row s (assign p x e) rest ≡ Some left → Claim d (before_command s (assign p x e) rest)
@@ -76,13 +75,13 @@ module _ (d : Setting) (s : State) (rest : List Item) (left : List Goal) (claims
   assign-claims law p x e row zero w D l taken u has holds = tt
   assign-claims law p x e row (suc n) w D l taken u has holds =
       let c = assign p x e in
-      let r = law s rest left p x e (ready d D s c rest u) row in
+      let r = law s rest left p x e u.shape row in
       let m = pick _ _ _ _ left (r.after w l.values l.cells taken holds) r.follow
       (assign-stays s rest left p x e (ordered D c u) row) claims in
       let after = m.one (known-expr D l has s.vars u.listed e u.todo.0.1) in (
         domain-has D l has x.var u.todo.0.0,
         domain-in D l has e u.todo.0.1,
-        goes-on d D s c rest rest m.goal u m.first m.second u.formed.1 (form-command s c rest u.form).0 u.todo.1 n
+        goes-on d D s c rest rest m.goal u m.first m.second u.shape.formed.1 (form-command s c rest u.shape.form).0 u.todo.1 n
             after.values (put_variable x.var (look l e) l) taken m.third
             (domain-put D l x.var (look l e) u.todo.0.0 has) after.holds,
       )
@@ -93,7 +92,7 @@ module _ (d : Setting) (s : State) (rest : List Item) (left : List Goal) (claims
   look-claims law p x e f a row zero w D l taken u has holds = tt
   look-claims law p x e f a row (suc n) w D l taken u has holds =
       let c = look_up p x e f in
-      let r = law s rest left p x e f a (ready d D s c rest u) row in
+      let r = law s rest left p x e f a u.shape row in
       let m = pick _ _ _ _ left (r.after w l.values l.cells taken holds) r.follow
       (look-stays s rest left p x e f a (ordered D c u) row) claims in
       let found = m.one (known-expr D l has s.vars u.listed e u.todo.0.1) in
@@ -105,7 +104,7 @@ module _ (d : Setting) (s : State) (rest : List Item) (left : List Goal) (claims
           reads = domain-in D l has e u.todo.0.1;
           finds = found.finds;
         },
-        goes-on d D s c rest rest m.goal u m.first m.second u.formed.1 (form-command s c rest u.form).0 u.todo.1 n
+        goes-on d D s c rest rest m.goal u m.first m.second u.shape.formed.1 (form-command s c rest u.shape.form).0 u.todo.1 n
             after.values (put_variable x.var (found.cell f.0) l) taken m.third
             (domain-put D l x.var (found.cell f.0) u.todo.0.0 has) after.holds,
       )
@@ -116,7 +115,7 @@ module _ (d : Setting) (s : State) (rest : List Item) (left : List Goal) (claims
   mutate-claims law p e f v a row zero w D l taken u has holds = tt
   mutate-claims law p e f v a row (suc n) w D l taken u has holds =
       let c = mutate p e f v in
-      let r = law s rest left p e f v a (ready d D s c rest u) row in
+      let r = law s rest left p e f v a u.shape row in
       let m = pick _ _ _ _ left (r.after w l.values l.cells taken holds) r.follow
       (mutate-stays s rest left p e f v a (ordered D c u) row) claims in
       let found = m.one (known-expr D l has s.vars u.listed e u.todo.0.0)
@@ -129,7 +128,7 @@ module _ (d : Setting) (s : State) (rest : List Item) (left : List Goal) (claims
           reads = domain-in D l has e u.todo.0.0;
           finds = found.finds;
         },
-        goes-on d D s c rest rest m.goal u m.first m.second u.formed.1 (form-command s c rest u.form).0 u.todo.1 n
+        goes-on d D s c rest rest m.goal u m.first m.second u.shape.formed.1 (form-command s c rest u.shape.form).0 u.todo.1 n
             after.values (put_local found.location (Some (put_field found.cell f.0 (look l v))) l) taken m.third
             (record { variables = has.variables; tokens = has.tokens }) after.holds,
       )
@@ -140,7 +139,7 @@ module _ (d : Setting) (s : State) (rest : List Item) (left : List Goal) (claims
   dispose-claims law p e a row zero w D l taken u has holds = tt
   dispose-claims law p e a row (suc n) w D l taken u has holds =
       let c = dispose p e in
-      let r = law s rest left p e a (ready d D s c rest u) row in
+      let r = law s rest left p e a u.shape row in
       let m = pick _ _ _ _ left (r.after w l.values l.cells taken holds) r.follow
       (dispose-stays s rest left p e a (ordered D c u) row) claims in
       let found = m.one (known-expr D l has s.vars u.listed e u.todo.0) in
@@ -151,17 +150,10 @@ module _ (d : Setting) (s : State) (rest : List Item) (left : List Goal) (claims
           reads = domain-in D l has e u.todo.0;
           finds = found.finds;
         },
-        goes-on d D s c rest rest m.goal u m.first m.second u.formed.1 (form-command s c rest u.form).0 u.todo.1 n
+        goes-on d D s c rest rest m.goal u m.first m.second u.shape.formed.1 (form-command s c rest u.shape.form).0 u.todo.1 n
             after.values (put_local found.location None l) taken m.third
             (record { variables = has.variables; tokens = has.tokens }) after.holds,
       )
-
-  -- nothing was handed over, so it lacks the new cell
-  lacks : (w : ℕ → Value) (l : Local) (taken : Heap) (c : Command)
-      → HoldsIn w (before_command s c rest) l.values l.cells taken → s.taken ≡ [] → (location : ℕ)
-      → taken location ≡ None
-  lacks w l taken c holds e location =
-      ap (λ m. m location) (empty-is (subst (λ z. AtomsHold w s.links z taken) e holds.gone))
 
   pub new-claims : NewFollowsEvent → (p : Place) (x : Occurrence) → new_row s (new p x) rest ≡ Some left
       → Claim d (before_command s (new p x) rest)
@@ -169,14 +161,14 @@ module _ (d : Setting) (s : State) (rest : List Item) (left : List Goal) (claims
   new-claims law p x row zero w D l taken u has holds = tt
   new-claims law p x row (suc n) w D l taken u has holds =
       let c = new p x in
-      let form = form-command s c rest u.form in
-      let r = law s rest left p x (ready d D s c rest u) row in
+      let form = form-command s c rest u.shape.form in
+      let r = law s rest left p x u.shape row in
       let m = pick _ _ _ _ left (r.after w l.values l.cells taken holds) r.follow
       (new-stays s rest left p x (ordered D c u) row) claims in (
         domain-has D l has x.var u.todo.0,
         λ location cell i free.
-            let after = m.one location cell free (lacks w l taken c holds form.1 location) in
-            goes-on d D s c rest rest m.goal u m.first m.second u.formed.1 form.0 u.todo.1 n after.values
+            let after = m.one location cell free in
+            goes-on d D s c rest rest m.goal u m.first m.second u.shape.formed.1 form.0 u.todo.1 n after.values
             (put_variable x.var (loc location) (put_local location (Some cell) l)) taken m.third
             (domain-put D (put_local location (Some cell) l) x.var (loc location) u.todo.0
             (record { variables = has.variables; tokens = has.tokens })) after.holds,
@@ -190,12 +182,12 @@ module _ (d : Setting) (s : State) (rest : List Item) (left : List Goal) (claims
       → LocalSafe d.program n (Owed rest) (items b ++ steps rest) l
   branch-on D n w l taken c b child u follows stays suits claim has holds =
       subst₂ (λ e ss. LocalSafe d.program n e ss l) (owed-run b rest) (steps-run b rest)
-      (goes-on d D s c rest (to_run b ++ rest) child u follows stays (items-formed_run s.links b rest u.formed.1)
-      (body-run b rest (form-command s c rest u.form).0) suits n w l taken claim has holds)
+      (goes-on d D s c rest (to_run b ++ rest) child u follows stays (items-formed_run s.links b rest u.shape.formed.1)
+      (body-run b rest (form-command s c rest u.shape.form).0) suits n w l taken claim has holds)
 
   -- a row that leaves the branch of the test's value: what it says of the test holds, and the branch goes on
   branch-goes : (so : Bool) (Says : (Var → Option Value) → Type 0) (p : Place) (t : Test Expr) (this that : Block)
-      → (IsReady (before_command s (if p t this that) rest) rest
+      → (HasShape (before_command s (if p t this that) rest)
       → Executed (before_command s (if p t this that) rest) left
       (λ w e free taken child. IsTestKnown s.vars e t
       → Says e × HoldsStill w (before_command s (if p t this that) rest) e free taken child))
@@ -207,7 +199,7 @@ module _ (d : Setting) (s : State) (rest : List Item) (left : List Goal) (claims
       → Says l.values × LocalSafe d.program n (Owed rest) (items (cond so this that) ++ steps rest) l
   branch-goes so Says p t this that law row n w D l taken u has holds suits =
       let c = if p t this that in
-      let r = law (ready d D s c rest u) in
+      let r = law u.shape in
       let m = pick _ _ _ _ left (r.after w l.values l.cells taken holds) r.follow
       (branch-stays so s rest left p t this that (ordered D c u) row) claims in
       let (is, after) = m.one (known-test D l has s.vars u.listed t u.todo.0.0) in (

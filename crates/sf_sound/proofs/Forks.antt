@@ -35,7 +35,7 @@ use Rattle.sf_sound.proofs.States.{StateSuits, items-add, items-of, items-take, 
 use Rattle.sf_sound.proofs.Words.{adding-assuming, adding-does, body-holds, showing-holds, taking-does, taking-showing}
 use Rattle.sf_sym.specs.Checked.Lemmas.Adding.{adding-holds}
 use Rattle.sf_sound.specs.Checked.Claims.{Does, Owed, put_values, steps, with_cells}
-use Rattle.sf_sound.specs.Checked.Suits.{CallSuits, Claim, Domain, HasDomain, IsBody, IsPassed, IsShowing, Suits}
+use Rattle.sf_sound.specs.Checked.Suits.{CallSuits, Claim, Domain, HasDomain, IsPassed, Suits}
 use Rattle.sf_sym.specs.Below.{AllPaired, IsBelow}
 use Rattle.sf_sym.specs.declared.term.Term.{Term}
 use Rattle.sf_sym.specs.Goal.{Item, gave, Goal}
@@ -45,6 +45,7 @@ use Rattle.sf_sym.specs.Checked.Lemmas.Below.{below-more, items-weaker, paired-w
 use Rattle.sf_sym.specs.Pending.{Pending}
 use Rattle.sf_sym.specs.State.{State, term, term_at, with_symbols}
 use Rattle.sf_sym.specs.Variables.{fresh_for, set_vars}
+use Rattle.sf_sym.specs.Shape.{IsBody, IsShowing}
 
 either-apart : {X : Type 0} (a b : Bool) (x : Option X) → (a ≡ true → b ≡ true → ⊥)
     → Apart (cond a x None) (cond b x None)
@@ -149,7 +150,7 @@ module _ (d : Setting) (s : State) (q : Place) (c e : Call) (rest : List Item) w
     other_names = (d.ordered h.pre).names
 
     form : IsBody rest
-    form = (form-command s (fork q c e) rest gs.form).0
+    form = (form-command s (fork q c e) rest gs.shape.form).0
 
     later : (x : Term) → IsBelow s.next_sym x → IsBelow next x
     later x b = below-more s.next_sym next (omega arith) x b
@@ -269,7 +270,7 @@ module _ (d : Setting) (s : State) (q : Place) (c e : Call) (rest : List Item) w
             → LocalParts after back kept → LocalSafe d.program n (Owed rest) (steps rest) after
         goes_on back_one back_two back after b o both parts =
             let v = fresh_values s.next_sym (xs ++ ys) (value_in back) w in
-            let kv = holds-with w v (before_command s (fork q c e) rest) l.values l.cells taken gs.below
+            let kv = holds-with w v (before_command s (fork q c e) rest) l.values l.cells taken gs.shape.below
             (fresh-same s.next_sym (xs ++ ys) (value_in back) w) k in
             let then = shown v kv in
             let same_left : then.left ≡ now.left =
@@ -295,7 +296,7 @@ module _ (d : Setting) (s : State) (q : Place) (c e : Call) (rest : List Item) w
             callee-values d v (term s.vars) l (term_at (set_vars first s.vars)) (value_in back_one) c g
             (λ x m.
             let x_has = b.variables.each x m in
-            set-value v (value_in back) first s.vars l x gs.order kv.vars (all-first P first second values)
+            set-value v (value_in back) first s.vars l x gs.shape.vars kv.vars (all-first P first second values)
             (fresh-listed s.next_sym xs x ((one.lends x).1 m))
             ∙ ap (λ z. unwrap_or z nil) (splits-has_left x x_has.0 both.values x_has.1 ∙ sym x_has.1))
             (known c.values one.reads) in
@@ -304,7 +305,7 @@ module _ (d : Setting) (s : State) (q : Place) (c e : Call) (rest : List Item) w
             callee-values d v (term s.vars) l (term_at (set_vars second s.vars)) (value_in back_two) e h
             (λ x m.
             let x_has = o.variables.each x m in
-            set-value v (value_in back) second s.vars l x gs.order kv.vars (all-second P first second values)
+            set-value v (value_in back) second s.vars l x gs.shape.vars kv.vars (all-second P first second values)
             (fresh-listed (s.next_sym + length first) ys x ((two.lends x).1 m))
             ∙ ap (λ z. unwrap_or z nil) (splits-has_right x x_has.0 both.values x_has.1 ∙ sym x_has.1))
             (known e.values two.reads) in

@@ -16,13 +16,14 @@ use Rattle.sf_sound.proofs.Standing.{domain-put}
 use Rattle.sf_sound.proofs.States.{StateSuits, items-of, state-of, suits-of}
 use Rattle.sf_sound.proofs.VariableTerms.{all-listed, all-order, remove_all-all, remove_all-listed, remove_all-order}
 use Rattle.sf_sound.specs.Checked.Claims.{put_values, with_cells}
-use Rattle.sf_sound.specs.Checked.Suits.{Claim, Domain, HasDomain, IsAssuming}
+use Rattle.sf_sound.specs.Checked.Suits.{Claim, Domain, HasDomain}
 use Rattle.sf_sym.specs.Below.{IsBelow}
 use Rattle.sf_sym.specs.declared.term.Term.{Term}
 use Rattle.sf_sym.specs.Goal.{Item, gave, Goal}
 use Rattle.sf_sym.specs.Holds.{term_value, Agrees}
 use Rattle.sf_sym.specs.State.{State}
 use Rattle.sf_sym.specs.Variables.{remove_vars, set_vars}
+use Rattle.sf_sym.specs.Shape.{IsAssuming}
 
 -- variables that a frame has get values
 pub domain-put_values : (D : Domain) (w : ℕ → Value) (set : List (Var × Term)) (l : Local)
@@ -71,7 +72,7 @@ pub give-claims : (d : Setting) (s : State) (q : Place) (set : List (Var × Term
 give-claims d s q set removed rest claim n w D l taken u has holds = λ more whole adds splits.
     let goal : Goal = record { state = s; todo = gave q set removed ∷ rest } in
     let is = items-of d D goal u in
-    let form : IsAssuming rest = elim u.form [ inl f ↦ absurd f.0 | inr f ↦ f ] in
+    let form : IsAssuming rest = elim u.shape.form [ inl f ↦ absurd f.0 | inr f ↦ f ] in
     let domain = domain-put_values D w set l u.todo.0 has in
     claim n w D (with_cells whole (put_values w set l)) empty_map
     (suits-of d D (record s { taken = []; vars = remove_vars removed (set_vars set s.vars) }) rest
@@ -80,7 +81,7 @@ give-claims d s q set removed rest claim n w D l taken u has holds = λ more who
     (record { variables = domain.variables; tokens = domain.tokens })
     (record {
       vars = remove_all-all (Agrees w (put_values w set l).values) removed (set_vars set s.vars)
-          (put-agrees w set s.vars l u.order holds.vars);
+          (put-agrees w set s.vars l u.shape.vars holds.vars);
       apart = holds.apart;
       disjoint = (splits-empty_right {map = whole} empty-holds).apart;
       there = star-of (splits-comm splits) (star-drop_right holds.there) adds;

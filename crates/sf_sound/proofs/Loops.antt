@@ -35,7 +35,7 @@ loop-claims d s q t invariant body rest claim n w D l taken u has holds =
     let ts = state-of d D goal u in
     let is = items-of d D goal u in
     let usable = u.todo.0.1 in
-    let showing = taking-showing q p a.names after (form-command s (while q t invariant body) rest u.form).0 in
+    let showing = taking-showing q p a.names after (form-command s (while q t invariant body) rest u.shape.form).0 in
     let shown = taking-does d.program n w q p a.names after l
     (claim n w D l taken
     (suits-of d D s (to_take q to a ++ after) ts

@@ -1,21 +1,23 @@
 -- Well-formed assertions may stand in goals: their existentials are their own and counted, their segments and trees
 -- go along the program's links, and no existential is made twice.
 -- Names: `PART-exists` of which existentials occur, `PART-formed` of conjuncts, `plain-of`.
-use Rattle.std.specs.List.{AllByRecursion, IsDistinct}
-use Rattle.std.specs.Prelude.{◌⊎◌, ◌<◌, ◌≤◌, ◌||◌, ◌&&◌, Contains, length, nat_le, nat_lt, replicate}
+use Rattle.std.specs.List.{AllByRecursion, IsDistinct, list_any}
+use Rattle.std.specs.Prelude.{All, ◌≢◌, ◌==◌, ◌⊎◌, ◌<◌, ◌≤◌, ◌||◌, ◌&&◌, Contains, length, nat_le, nat_lt, replicate}
 use Rattle.std.specs.Str.{bytes_eq}
 use Rattle.std.proofs.Common.{◌≡◌, ℕ, zero, suc, ◌+◌, Bool, true, false, cond, get_or, map, Option, Some, None, List, [], ◌∷◌, refl, sym, ap, ap₂, ◌∙◌, subst, inl, inr, arith}
 use Rattle.std.proofs.lemmas.Bool.{or_cases}
-use Rattle.std.proofs.lemmas.Bool.Decides.{nat_tests}
-use Rattle.std.proofs.lemmas.List.{length-replicate}
-use Rattle.std.proofs.lemmas.List.Elements.{All-contains}
+use Rattle.std.proofs.lemmas.Bool.Decides.{Decides-eqb, nat_tests}
+use Rattle.std.proofs.lemmas.List.{length-map, length-replicate}
+use Rattle.std.proofs.lemmas.List.Elements.{All-contains, All-head, All-tail}
 use Rattle.std.proofs.lemmas.Map.Keys.{IsDistinct-head, IsDistinct-tail}
+use Rattle.std.proofs.lemmas.Map.Steps.{length-le_from_distinct_below}
 use Rattle.std.proofs.lemmas.Option.{none-some, same_Some}
 use Rattle.sf_base.proofs.Elements.{contains-cons}
 use Rattle.sf_base.proofs.Equality.{bytes_eq-same, bytes_eq-self}
 use Rattle.sf_base.proofs.Lists.{replicate-default}
 use Rattle.sf_base.specs.declared.ids.FieldId.{FieldId}
 use Rattle.sf_base.specs.declared.ids.Var.{Var}
+use Rattle.sf_base.specs.declared.limits.TheConstants.{FIELDS}
 use Rattle.sf_core.specs.Assertions.Occurs.{OccursIn, OccursInAll, OccursInFields, OccursInOne, OccursInTest, VarOccursIn}
 use Rattle.sf_core.specs.Assertions.Scopes.{is_made_by, overlap}
 use Rattle.sf_core.specs.declared.assertion.Operand.{Operand}
@@ -34,6 +36,7 @@ use Rattle.sf_rules.specs.First.{links_of, number_of}
 use Rattle.sf_sym.specs.Formed.{AllFormed, IsCounted, IsScoped, LevelFormed, OneFormed}
 use Rattle.sf_sound.specs.Checked.Suits.{IsPlain}
 use Rattle.sf_sym.specs.declared.term.Term.{Term}
+use Rattle.sf_sym.specs.Checked.Lemmas.Formed.{exists-with_all, scopes-with_all}
 use Rattle.sf_sym.specs.Mapped.{conjunct_with, conjuncts_with, level_with, operand_with, test_with}
 use Rattle.sf_sym.specs.Pending.{conjuncts_of}
 
@@ -108,6 +111,44 @@ module _ (fields : List (List ℕ)) (V : Var → Type 0) (n : ℕ) where
     conjunct-exists made (choose q t this that) w (inr (inl o)) = level-exists made this w.1 o
     conjunct-exists made (choose q t this that) w (inr (inr o)) = level-exists made that w.2 o
 
+-- FIELDS OF A CELL, each at most once, are no more than there are
+fields-distinct : (fields : List (List ℕ)) (P : Operand Expr → Type 0) (fs : List (FieldId × Operand Expr))
+    → FieldsWithin fields P fs → IsDistinct ◌==◌ (map (λ (f : FieldId × Operand Expr). f.0.0) fs)
+unfolding IsDistinct
+fields-distinct fields P [] w = tt
+fields-distinct fields P (f ∷ fs) w = (others fs w.2, fields-distinct fields P fs w.3)
+  where
+    others : (gs : List (FieldId × Operand Expr)) → All (λ (g : FieldId × Operand Expr). g.0.0 ≢ f.0.0) gs
+        → AllByRecursion (λ k. f.0.0 == k ≡ false) (map (λ (f : FieldId × Operand Expr). f.0.0) gs)
+    others [] a = tt
+    others (g ∷ gs) a = (
+      go (f.0.0 == g.0.0) refl,
+      others gs (All-tail (λ (g : FieldId × Operand Expr). g.0.0 ≢ f.0.0) g gs a),
+    )
+      where
+        go : (b : Bool) → f.0.0 == g.0.0 ≡ b → f.0.0 == g.0.0 ≡ false
+        go true e = absurd (All-head (λ (g : FieldId × Operand Expr). g.0.0 ≢ f.0.0) g gs a
+            (sym ((Decides-eqb f.0.0 g.0.0).0 e)))
+        go false e = e
+
+fields-within : (fields : List (List ℕ)) (P : Operand Expr → Type 0) (fs : List (FieldId × Operand Expr)) (k : ℕ)
+    → FieldsWithin fields P fs
+    → list_any (◌==◌ k) (map (λ (f : FieldId × Operand Expr). f.0.0) fs) ≡ true
+    → k < length fields
+fields-within fields P [] k w e = absurd (cc)
+fields-within fields P (f ∷ fs) k w e =
+    elim (or_cases (k == f.0.0) (list_any (◌==◌ k) (map (λ (f : FieldId × Operand Expr). f.0.0) fs)) e) [
+      | inl here ↦ subst (λ i. i < length fields) (sym ((Decides-eqb k f.0.0).0 here)) w.0
+      | inr there ↦ fields-within fields P fs k w.3 there
+    ]
+
+fields-few : (fields : List (List ℕ)) (P : Operand Expr → Type 0) (fs : List (FieldId × Operand Expr))
+    → FieldsWithin fields P fs → length fs ≤ length fields
+fields-few fields P fs w =
+    subst (λ k. k ≤ length fields) (length-map fs (λ (f : FieldId × Operand Expr). f.0.0))
+    (length-le_from_distinct_below (map (λ (f : FieldId × Operand Expr). f.0.0) fs) (length fields)
+    (fields-distinct fields P fs w) (λ k e. fields-within fields P fs k w e))
+
 -- SCOPES that come after others are among all
 mutual
   level-more : {E : Type 0} (a : Level E) (rest : List Scope) (s : Scope) → Contains rest s
@@ -129,76 +170,12 @@ mutual
   conjunct-more (choose q t this that) rest s c =
       level-more this (level_scopes that rest) s (level-more that rest s c)
 
--- they are the same with other things in place of what has a value
-mutual
-  level-scopes_with : {E F : Type 0} (to : E → F) (a : Level E) (rest : List Scope)
-      → level_scopes (level_with to a) rest ≡ level_scopes a rest
-  level-scopes_with to (level here cs) rest = ap (λ ss. here ∷ ss) (conjuncts-scopes_with to cs rest)
-
-  conjuncts-scopes_with : {E F : Type 0} (to : E → F) (cs : Conjuncts E) (rest : List Scope)
-      → conjuncts_scopes (conjuncts_with to cs) rest ≡ conjuncts_scopes cs rest
-  conjuncts-scopes_with to none rest = refl
-  conjuncts-scopes_with to (also c cs) rest =
-      ap (λ ss. conjunct_scopes (conjunct_with to c) ss) (conjuncts-scopes_with to cs rest)
-      ∙ conjunct-scopes_with to c (conjuncts_scopes cs rest)
-
-  conjunct-scopes_with : {E F : Type 0} (to : E → F) (c : Conjunct E) (rest : List Scope)
-      → conjunct_scopes (conjunct_with to c) rest ≡ conjunct_scopes c rest
-  conjunct-scopes_with to (holds q t) rest = refl
-  conjunct-scopes_with to (points q x fs) rest = refl
-  conjunct-scopes_with to (segment q next x y) rest = refl
-  conjunct-scopes_with to (tree q left right x) rest = refl
-  conjunct-scopes_with to (choose q t this that) rest =
-      ap (λ ss. level_scopes (level_with to this) ss) (level-scopes_with to that rest)
-      ∙ level-scopes_with to this (level_scopes that rest)
-
--- an existential that occurs with other things in place did so before
-module _ {E F : Type 0} (to : E → F) (n : ℕ) where
-  operand-was : (x : Operand E) → Exists n ≡ operand_with to x → Exists n ≡ x
-  operand-was (Known e) i = absurd (cc)
-  operand-was (Exists m) i = let same : n ≡ m = cc in ap Exists same
-
-  two-were : (x y : Operand E) → (Exists n ≡ operand_with to x) ⊎ (Exists n ≡ operand_with to y)
-      → (Exists n ≡ x) ⊎ (Exists n ≡ y)
-  two-were x y (inl i) = inl (operand-was x i)
-  two-were x y (inr i) = inr (operand-was y i)
-
-  test-was : (t : Test (Operand E)) → OccursInTest (test_with to t) (Exists n) → OccursInTest t (Exists n)
-  test-was True o = o
-  test-was (Equal x y) o = two-were x y o
-  test-was (Differ x y) o = two-were x y o
-
-  fields-were : (fs : List (FieldId × Operand E)) → OccursInFields (map (λ f. (f.0, operand_with to f.1)) fs)
-      (Exists n)
-      → OccursInFields fs (Exists n)
-  fields-were [] o = o
-  fields-were (f ∷ fs) (inl i) = inl (operand-was f.1 i)
-  fields-were (f ∷ fs) (inr o) = inr (fields-were fs o)
-
-  mutual
-    level-was : (a : Level E) → OccursIn (level_with to a) (Exists n) → OccursIn a (Exists n)
-    level-was (level here cs) o = (conjuncts-were cs o.0, o.1)
-
-    conjuncts-were : (cs : Conjuncts E) → OccursInAll (conjuncts_with to cs) (Exists n) → OccursInAll cs (Exists n)
-    conjuncts-were none o = o
-    conjuncts-were (also c cs) (inl o) = inl (conjunct-was c o)
-    conjuncts-were (also c cs) (inr o) = inr (conjuncts-were cs o)
-
-    conjunct-was : (c : Conjunct E) → OccursInOne (conjunct_with to c) (Exists n) → OccursInOne c (Exists n)
-    conjunct-was (holds q t) o = test-was t o
-    conjunct-was (points q x fs) (inl i) = inl (operand-was x i)
-    conjunct-was (points q x fs) (inr o) = inr (fields-were fs o)
-    conjunct-was (segment q next x y) o = two-were x y o
-    conjunct-was (tree q left right x) o = operand-was x o
-    conjunct-was (choose q t this that) (inl o) = inl (test-was t o)
-    conjunct-was (choose q t this that) (inr (inl o)) = inr (inl (level-was this o))
-    conjunct-was (choose q t this that) (inr (inr o)) = inr (inr (level-was that o))
-
 -- CONJUNCTS THAT MAY STAND IN A GOAL
 module _ (fields : List (List ℕ)) (V : Var → Type 0) (to : Expr → Term) (links : Links) (count : ℕ)
     (next_is : (f : FieldId) → IsFirstNamed fields next_name (Some f.0) → links.tl ≡ Some f)
     (left_is : (f : FieldId) → IsFirstNamed fields left_name (Some f.0) → links.l ≡ Some f)
-    (right_is : (f : FieldId) → IsFirstNamed fields right_name (Some f.0) → links.r ≡ Some f) where
+    (right_is : (f : FieldId) → IsFirstNamed fields right_name (Some f.0) → links.r ≡ Some f)
+    (few : length fields ≤ FIELDS) where
   -- all existentials that these scopes make are counted
   abbrev Counts : List Scope → Type 0
   Counts made = (n : ℕ) → is_made made n ≡ true → n < count
@@ -257,7 +234,12 @@ module _ (fields : List (List ℕ)) (V : Var → Type 0) (to : Expr → Term) (l
         → Within (conjunct_scopes d rest) → ConjunctWithin fields V made d
         → OneFormed links count (conjunct_with to d)
     conjunct-formed made (holds q t) rest c h w = test-counted made t c w
-    conjunct-formed made (points q x fs) rest c h w = (operand-counted made x c w.0, fields-counted made fs c w.1)
+    conjunct-formed made (points q x fs) rest c h w = (
+      operand-counted made x c w.0,
+      fields-counted made fs c w.1,
+      subst (λ n. n ≤ FIELDS) (sym (length-map fs (λ (f : FieldId × Operand Expr). (f.0, operand_with to f.1))))
+          (let most = fields-few fields (OperandWithin V made) fs w.1 in omega (arith, most, few)),
+    )
     conjunct-formed made (segment q next x y) rest c h w =
         (next_is next w.0, operand-counted made x c w.1, operand-counted made y c w.2)
     conjunct-formed made (tree q left right x) rest c h w =
@@ -282,7 +264,8 @@ apart-all s (t ∷ ts) n a i =
 abbrev no_term : Option Term
 no_term = None
 
-module _ (d : Setting) (V W : Var → Type 0) (a : Assertion) (w : AssertionWithin d.program.fields V a) where
+module _ (d : Setting) (few : length d.program.fields ≤ FIELDS) (V W : Var → Type 0) (a : Assertion)
+    (w : AssertionWithin d.program.fields V a) where
   -- none of its existentials has a term
   abbrev unbound : List (Option Term)
   unbound = replicate (length a.names) None
@@ -294,7 +277,7 @@ module _ (d : Setting) (V W : Var → Type 0) (a : Assertion) (w : AssertionWith
     scoped-level : (l : Level Expr) → LevelWithin d.program.fields V [] l → IsDistinct overlap (level_scopes l [])
         → IsScoped (record { conjuncts = conjuncts_with to (conjuncts_of l); bindings = unbound })
     scoped-level (level here cs) within distinct =
-        let same = conjuncts-scopes_with to cs [] in
+        let same = scopes-with_all to cs [] in
         record {
           distinct = subst (IsDistinct overlap) (sym same) (IsDistinct-tail overlap here
               (conjuncts_scopes cs []) distinct);
@@ -303,7 +286,7 @@ module _ (d : Setting) (V W : Var → Type 0) (a : Assertion) (w : AssertionWith
               ∙ apart-all here (conjuncts_scopes cs []) n
               (IsDistinct-head overlap here (conjuncts_scopes cs []) distinct)
               (elim (or_cases (is_made_by here n) (is_made [] n)
-              (conjuncts-exist d.program.fields V n (here ∷ []) cs within (conjuncts-were to n cs o)))
+              (conjuncts-exist d.program.fields V n (here ∷ []) cs within (exists-with_all to n cs o)))
               [ inl i ↦ i | inr i ↦ absurd (cc) ]);
           bound = λ n t e. absurd (bindings-none n t e);
         }
@@ -315,7 +298,7 @@ module _ (d : Setting) (V W : Var → Type 0) (a : Assertion) (w : AssertionWith
     formed-level (level here cs) within named =
         level-formed d.program.fields V to (links_of d.program) (length unbound)
         (λ f i. field-named d.program.fields next_name f i) (λ f i. field-named d.program.fields left_name f i)
-        (λ f i. field-named d.program.fields right_name f i) [] (level here cs) [] (λ n e. absurd (cc))
+        (λ f i. field-named d.program.fields right_name f i) few [] (level here cs) [] (λ n e. absurd (cc))
         (λ s i. subst (λ k. s.first + s.count ≤ k) (sym (length-replicate (length a.names) no_term))
         (named s i)) within
 

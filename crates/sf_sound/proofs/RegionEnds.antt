@@ -33,12 +33,13 @@ use Rattle.sf_sound.proofs.Regions.{of-listed}
 use Rattle.sf_sound.proofs.States.{StateSuits, items-of, items-take, state-of, suits-of, terms-below, terms-values}
 use Rattle.sf_sound.proofs.Words.{body-empty, showing-holds, taking-does, taking-showing}
 use Rattle.sf_sound.specs.Checked.Claims.{Owed, steps, with_cells}
-use Rattle.sf_sound.specs.Checked.Suits.{Claim, Domain, HasDomain, IsBody, IsUsable, ResourceSuits, Suits, is_of, without_resource}
+use Rattle.sf_sound.specs.Checked.Suits.{Claim, Domain, HasDomain, IsUsable, ResourceSuits, Suits, is_of, without_resource}
 use Rattle.sf_sym.specs.declared.term.Term.{Term}
 use Rattle.sf_sym.specs.Goal.{Item, exit, gave, Goal}
 use Rattle.sf_sym.specs.HoldsIn.{HoldsIn}
 use Rattle.sf_sym.specs.Pending.{Pending}
 use Rattle.sf_sym.specs.State.{State, term}
+use Rattle.sf_sym.specs.Shape.{IsBody}
 
 -- the frame without what it has of a resource
 abbrev pub lacking : ResId → ℕ → Local → Local
@@ -129,7 +130,7 @@ module _ (d : Setting) (s : State) (q : Place) (r : ResId) (rest : List Item) (o
         suits.invariant
 
     form : IsBody rest
-    form = elim u.form [ inl f ↦ f.0 | inr f ↦ absurd f ]
+    form = elim u.shape.form [ inl f ↦ f.0 | inr f ↦ absurd f ]
 
     state : StateSuits d E s
     state =

@@ -39,7 +39,7 @@ use Rattle.sf_sound.proofs.Tests.{items-test, pending_test, test-holds, test-wit
 use Rattle.sf_sound.proofs.Words.{adding-assuming, adding-does, body-holds}
 use Rattle.sf_sym.specs.Checked.Lemmas.Adding.{adding-holds}
 use Rattle.sf_sound.specs.Checked.Claims.{Owed, steps}
-use Rattle.sf_sound.specs.Checked.Suits.{BlockSuits, Claim, Domain, HasDomain, IsBody, IsUsable, LacksResource, ReadsTest, ResourceSuits, Suits, TodoSuits, is_of, with_resource, without_resource}
+use Rattle.sf_sound.specs.Checked.Suits.{BlockSuits, Claim, Domain, HasDomain, IsUsable, LacksResource, ReadsTest, ResourceSuits, Suits, TodoSuits, is_of, with_resource, without_resource}
 use Rattle.sf_sym.specs.Below.{AllInItem, IsBelow}
 use Rattle.sf_sym.specs.declared.term.Term.{Term}
 use Rattle.sf_sym.specs.Goal.{Item, exit, Goal, to_run}
@@ -48,6 +48,7 @@ use Rattle.sf_sym.specs.HoldsIn.{HoldsIn}
 use Rattle.sf_sym.specs.Checked.Lemmas.Below.{below-more, items-weaker}
 use Rattle.sf_sym.specs.State.{State, term}
 use Rattle.sf_sym.specs.Variables.{with_fresh}
+use Rattle.sf_sym.specs.Shape.{IsBody}
 
 -- THE VARIABLES OF A RESOURCE those that are listed are the resource's
 pub of-listed : (r : ResId) (count i : ℕ) (names : List (List ℕ)) → i + length names ≤ count
@@ -185,7 +186,7 @@ module _ (d : Setting) (s : State) (q : Place) (r : ResId) (t : Test Expr) (body
     inside share both f parts = u.todo.0.1 (lacks share both f parts)
 
     form : IsBody rest
-    form = (form-command s (with q r t body) rest u.form).0
+    form = (form-command s (with q r t body) rest u.shape.form).0
 
     contains : (x : Var) → is_of r count x ≡ true → Contains xs x
     contains x e = of-contains r of.variables x (ap (λ k. is_of r k x) names_are ∙ e)
@@ -234,8 +235,8 @@ module _ (d : Setting) (s : State) (q : Place) (r : ResId) (t : Test Expr) (body
         λ x m. splits-at_left x parts.values (is_some-false (share.values x)
         (share-some d.program r share f x ∙ ap (λ k. is_of r k x) size_is
         ∙ not-true (is_of r count x) (λ e. m (contains x e)))) in
-        let v = renewed s goal.todo u.below u.order xs w l both l.cells taken holds same in
-        let vars = renewed-vars s goal.todo u.below u.order xs w l both l.cells taken holds same in
+        let v = renewed s goal.todo u.shape.below u.shape.vars xs w l both l.cells taken holds same in
+        let vars = renewed-vars s goal.todo u.shape.below u.shape.vars xs w l both l.cells taken holds same in
         let values : HaveValues (λ x. E.has x ≡ true) v to
         (value_in both) = terms-values d E now fresh v both has_both vars in
         let invariant : Sat of.invariant.level (look both) (λ m. nil) share.cells =
@@ -275,7 +276,7 @@ module _ (d : Setting) (s : State) (q : Place) (r : ResId) (t : Test Expr) (body
           adding-assuming q pa _
               (adding-assuming q pt (to_run body ++ ending)
               (body-assuming (to_run body ++ ending) (body-run body ending form))),
-          (form-command s (with q r t body) rest u.form).1,
+          (form-command s (with q r t body) rest u.shape.form).1,
         )) in
         subst₂ (λ e ss. LocalSafe d.program n e ss both) (owed-run body ending) (steps-run body ending)
         (body-does d.program n v (to_run body ++ ending) both (body-run body ending form)
@@ -283,13 +284,13 @@ module _ (d : Setting) (s : State) (q : Place) (r : ResId) (t : Test Expr) (body
         (adding-does d.program n v q pa (to_add_test q to t ++ (to_run body ++ ending)) both
         (claim n v E both empty_map suiting has_both (record {
           vars = vars;
-          apart = renewed-apart s goal.todo u.below u.order xs w l both l.cells taken holds same;
+          apart = renewed-apart s goal.todo u.shape.below u.shape.vars xs w l both l.cells taken holds same;
           disjoint = (splits-empty_right {map = both.cells} empty-holds).apart;
           there = star-of parts.cells
-              (renewed-atoms s goal.todo u.below u.order xs w l both l.cells taken holds same l.cells
+              (renewed-atoms s goal.todo u.shape.below u.shape.vars xs w l both l.cells taken holds same l.cells
               (star-drop_right holds.there)) adds;
           gone = subst (λ z. AtomsHold v s.links z empty_map)
-              (sym (form-command s (with q r t body) rest u.form).1) empty-holds;
+              (sym (form-command s (with q r t body) rest u.shape.form).1) empty-holds;
         })))))
 
   pub enter-claims : Claim d (before_command s (with q r t body) rest)

@@ -2,34 +2,33 @@
 -- shown.
 -- Names: `PART-with` of what other terms leave as it is, `restated-claims`, `assumed-claims`, `shown-claims`.
 use Rattle.std.specs.List.{AllByRecursion}
-use Rattle.std.proofs.Common.{◌≡◌, ℕ, true, List, [], ◌∷◌, ◌++◌, map, sym, ◌∙◌, subst, inl, inr}
-use Rattle.sf_base.proofs.HeapSplits.{star-drop_right, star-empty_right, star-of}
+use Rattle.std.proofs.Common.{◌≡◌, ℕ, true, List, [], ◌∷◌, map, sym, ◌∙◌, subst, inl, inr}
+use Rattle.sf_base.proofs.HeapSplits.{star-of}
 use Rattle.sf_base.proofs.MapSplits.{splits-assoc_left}
 use Rattle.sf_base.specs.declared.ids.Var.{Var}
 use Rattle.sf_base.specs.declared.place.Place.{Place}
 use Rattle.sf_consume.specs.Wants.{still_wanted}
 use Rattle.sf_produce.specs.Checked.Laws.{HoldsAssumed, assuming}
-use Rattle.sf_rules.specs.Checked.LawsOfConjuncts.{LeftToShow, showing}
+use Rattle.sf_rules.specs.Checked.LawsOfConjuncts.{LeftToShow, showing, still_showing}
 use Rattle.sf_rules.specs.Setting.{Setting}
 use Rattle.sf_sound.proofs.Carried.{does-restated}
 use Rattle.sf_sound.proofs.CommandChildren.{IsOrdered}
 use Rattle.sf_sound.proofs.Commands.{pick}
 use Rattle.sf_sound.proofs.StateChildren.{AllStay, StateStays}
 use Rattle.sf_sound.proofs.Subtracting.{Lists}
-use Rattle.sf_sound.proofs.Words.{adding-assuming, adding-does, adding-suits, showing-holds, taking-does, taking-showing, taking-suits}
+use Rattle.sf_sound.proofs.Words.{adding-assuming, adding-does, adding-suits, taking-does, taking-showing, taking-suits}
 use Rattle.sf_sound.specs.Checked.Claims.{Does, with_cells}
-use Rattle.sf_sound.specs.Checked.Suits.{Claim, Domain, HasForm, IsAssuming, IsBody, IsShowing, Suits, TodoSuits}
-use Rattle.sf_sym.specs.Below.{AreBelow}
+use Rattle.sf_sound.specs.Checked.Suits.{Claim, Domain, Suits, TodoSuits}
 use Rattle.sf_sym.specs.declared.term.Term.{Term}
 use Rattle.sf_sym.specs.Equalities.{item_with}
-use Rattle.sf_sym.specs.Formed.{AreFormed}
-use Rattle.sf_sym.specs.Goal.{Item, run, add, take, gave, head, again, exit, return, end, Goal, taking}
+use Rattle.sf_sym.specs.Goal.{Item, run, add, take, gave, head, again, exit, return, end, Goal}
 use Rattle.sf_sym.specs.Checked.Laws.{Follows, HoldsAsBefore, KeptWith}
 use Rattle.sf_sym.specs.Checked.Lemmas.Below.{below-value}
 use Rattle.sf_sym.specs.Checked.Lemmas.Restated.{same-items}
 use Rattle.sf_sym.specs.Pending.{Pending}
 use Rattle.sf_sym.specs.Ready.{AreInOrder, is_listed}
 use Rattle.sf_sym.specs.State.{State}
+use Rattle.sf_sym.specs.Shape.{HasForm, HasShape, IsAssuming, IsBody, IsShowing}
 
 -- WHAT OTHER TERMS LEAVE AS IT IS
 module _ (to : Term → Term) where
@@ -95,20 +94,22 @@ module _ (d : Setting) (D : Domain) (goal child : Goal) (u : Suits d D goal) (f 
   -- it suits the frame where what is to do does
   pub follows-suits : HasForm child → TodoSuits d D child.todo → Suits d D child
   follows-suits form todo = record {
-    below = f.below;
-    order = o.vars;
-    fields = o.fields;
+    shape = record {
+      below = f.below;
+      vars = o.vars;
+      fields = o.fields;
+      formed = f.formed u.shape.formed;
+      form = form;
+    };
     links = f.links ∙ u.links;
     listed = λ x e. listed x (u.listed x e);
-    formed = f.formed u.formed;
-    form = form;
     todo = todo;
   }
 
   -- so it does with other terms
   restated-suits : (goal.state.taken ≡ [] → child.state.taken ≡ []) → (to : Term → Term)
       → child.todo ≡ map (item_with to) goal.todo → Suits d D child
-  restated-suits taken to is = follows-suits (form u.form)
+  restated-suits taken to is = follows-suits (form u.shape.form)
       (subst (TodoSuits d D) (sym is) (todo-with to d goal.todo D u.todo))
     where
       form : HasForm goal → HasForm child
@@ -117,17 +118,17 @@ module _ (d : Setting) (D : Domain) (goal child : Goal) (u : Suits d D goal) (f 
 
 -- what is known is worked out, and all that is to do is stated again
 pub restated-claims : (d : Setting) (goal : Goal) (left : List Goal)
-    → (AreBelow goal → KeptWith goal left HoldsAsBefore) → (IsOrdered goal.state → AllStay goal.state left)
+    → (HasShape goal → KeptWith goal left HoldsAsBefore) → (IsOrdered goal.state → AllStay goal.state left)
     → AllByRecursion (Claim d) left → Claim d goal
 restated-claims d goal left law stays claims n w D l taken u has h =
-    let k = law u.below in
+    let k = law u.shape in
     let m = pick (HoldsAsBefore w goal l.values l.cells taken) (Follows goal) (λ g. StateStays goal.state g.state)
     (Claim d) left (k.hold w l.values l.cells taken h) k.follow
-    (stays (record { vars = u.order; fields = u.fields })) claims in
+    (stays (record { vars = u.shape.vars; fields = u.shape.fields })) claims in
     let r = m.one.todo in
     does-restated goal.state.next_sym w m.one.still.values r.to
     (λ t b. r.same t ∙ sym (below-value goal.state.next_sym m.one.still.values w m.one.still.same t b)) d.program n
-    goal.todo l u.below.todo
+    goal.todo l u.shape.below.todo
     (subst (λ z. Does d.program n m.one.still.values z l) r.is
     (m.third n m.one.still.values D l taken (restated-suits d D goal m.goal u m.first m.second.ordered
     m.second.listed m.second.taken r.to r.is) has
@@ -135,17 +136,16 @@ restated-claims d goal left law stays claims n w D l taken u has h =
 
 -- a conjunct is assumed
 pub assumed-claims : (d : Setting) (s : State) (q : Place) (given : Pending) (rest : List Item) (left : List Goal)
-    → (AreBelow (assuming s q given rest) → AreFormed (assuming s q given rest)
-    → KeptWith (assuming s q given rest) left (HoldsAssumed q rest))
+    → (HasShape (assuming s q given rest) → KeptWith (assuming s q given rest) left (HoldsAssumed q rest))
     → (IsOrdered s → AllStay s left) → AllByRecursion (Claim d) left → Claim d (assuming s q given rest)
 assumed-claims d s q given rest left law stays claims n w D l taken u has h =
     let goal = assuming s q given rest in
-    let k = law u.below u.formed in
+    let k = law u.shape in
     let m = pick (HoldsAssumed q rest w goal l.values l.cells taken) (Follows goal) (λ g. StateStays s g.state)
     (Claim d) left (k.hold w l.values l.cells taken h) k.follow
-    (stays (record { vars = u.order; fields = u.fields })) claims in
+    (stays (record { vars = u.shape.vars; fields = u.shape.fields })) claims in
     let r = m.one.restated in
-    let form : IsAssuming rest × (s.taken ≡ []) = elim u.form [ inl i ↦ i | inr i ↦ absurd i ] in
+    let form : IsAssuming rest × (s.taken ≡ []) = elim u.shape.form [ inl i ↦ i | inr i ↦ absurd i ] in
     let suits = follows-suits d D goal m.goal u m.first m.second.ordered m.second.listed
     (inl (
       subst IsAssuming (sym m.one.todo) (adding-assuming q m.one.left m.one.others
@@ -156,7 +156,7 @@ assumed-claims d s q given rest left law stays claims n w D l taken u has h =
     (subst (TodoSuits d D) (sym r.is) (todo-with r.to d rest D u.todo)))) in
     does-restated s.next_sym w m.one.still.values r.to
     (λ t b. r.same t ∙ sym (below-value s.next_sym m.one.still.values w m.one.still.same t b)) d.program n rest l
-    u.below.todo.1
+    u.shape.below.todo.1
     (subst (λ z. Does d.program n m.one.still.values z l) r.is
     (adding-does d.program n m.one.still.values q m.one.left m.one.others l
     (subst (λ z. Does d.program n m.one.still.values z l) m.one.todo
@@ -165,45 +165,31 @@ assumed-claims d s q given rest left law stays claims n w D l taken u has h =
 -- a conjunct is shown: a part is handed over, and what is shown of the rest is shown with that part
 pub shown-claims : (d : Setting) (s : State) (q : Place) (want : Pending) (names : List (List ℕ)) (rest : List Item)
     (left : List Goal)
-    → (AreBelow (showing s q want names rest) → AreFormed (showing s q want names rest)
-    → LeftToShow s q want names rest left)
+    → (HasShape (showing s q want names rest) → LeftToShow s q want names rest left)
     → AllByRecursion (λ (g : Goal). Lists s g.state) left → AllByRecursion (Claim d) left
     → Claim d (showing s q want names rest)
 shown-claims d s q want names rest left law lists claims n w D l taken u has h =
     let goal = showing s q want names rest in
-    let k = law u.below u.formed in
-    let child : Goal = record { state = k.after.state; todo = taking q (still_wanted k.after) names ++ rest } in
+    let k = law u.shape in
+    let child = still_showing k.after q names rest in
     let claim = (subst (AllByRecursion (Claim d)) k.is claims).0 in
     let list = (subst (AllByRecursion (λ (g : Goal). Lists s g.state)) k.is lists).0 in
-    let form : IsShowing rest = elim u.form [ inl i ↦ absurd i.0 | inr i ↦ i ] in
+    let form : IsShowing rest = elim u.shape.form [ inl i ↦ absurd i.0 | inr i ↦ i ] in
     let suits = follows-suits d D goal child u k.follow
-    (record { vars = subst AreInOrder (sym list.vars) u.order; fields = list.fields u.fields })
+    (record { vars = subst AreInOrder (sym list.vars) u.shape.vars; fields = list.fields u.shape.fields })
     (λ x e. subst (λ vs. is_listed vs x ≡ true) (sym list.vars) e)
     (inr (taking-showing q (still_wanted k.after) names rest form))
     (taking-suits d D q (still_wanted k.after) names rest u.todo) in
-    let hands = k.subtracts.hands w l.values l.cells taken (record {
-      vars = h.vars;
-      apart = h.apart;
-      disjoint = h.disjoint;
-      there = star-empty_right (star-drop_right h.there);
-      gone = h.gone;
-    }) in
+    let on = k.hands w l.values l.cells taken h in
+    let hands = on.hands in
     let shown = taking-does d.program n hands.values q (still_wanted k.after) names rest (with_cells hands.rest l)
     (claim n hands.values D (with_cells hands.rest l) hands.gone suits
-    (record { variables = has.variables; tokens = has.tokens })
-    (record {
-      vars = hands.holds.vars;
-      apart = hands.holds.apart;
-      disjoint = hands.holds.disjoint;
-      there = showing-holds hands.values child.todo hands.rest
-          (taking-showing q (still_wanted k.after) names rest form) (star-drop_right hands.holds.there);
-      gone = hands.holds.gone;
-    })) in
+    (record { variables = has.variables; tokens = has.tokens }) on.holds) in
     let parts = splits-assoc_left {b = shown.left} {c = shown.right} shown.splits hands.splits in
     let wants = hands.wants shown.first.0 shown.left _ parts.0
     (record { bound = shown.first.1; satisfied = shown.first.2 }) in
     star-of parts.1 (shown.first.0, wants.bound, wants.satisfied)
     (does-restated s.next_sym w hands.values (λ t. t)
     (λ t b. sym (below-value s.next_sym hands.values w hands.same t b)) d.program n rest
-    (with_cells shown.right l) u.below.todo.1
+    (with_cells shown.right l) u.shape.below.todo.1
     (subst (λ z. Does d.program n hands.values z (with_cells shown.right l)) (sym (same-items rest)) shown.second))

@@ -23,13 +23,14 @@ use Rattle.sf_safe.specs.Checked.LocalSafe.{LocalSafe}
 use Rattle.sf_sound.proofs.Keeping.{Kept, nothing_gone, nothing_lost, some-has}
 use Rattle.sf_sound.specs.Checked.Claims.{Does, Owed, steps}
 use Rattle.sf_sym.specs.Formed.{ItemFormed}
-use Rattle.sf_sound.specs.Checked.Suits.{BlockSuits, Domain, HasDomain, HasForm, IsAssuming, IsBody, Reads, ReadsTest, Suits, TodoSuits}
+use Rattle.sf_sound.specs.Checked.Suits.{BlockSuits, Domain, HasDomain, Reads, ReadsTest, Suits, TodoSuits}
 use Rattle.sf_sym.specs.declared.atom.Numbered.{Numbered}
 use Rattle.sf_sym.specs.declared.term.Term.{Term}
 use Rattle.sf_sym.specs.Goal.{Item, run, add, take, gave, head, again, exit, return, end, to_run}
 use Rattle.sf_sym.specs.Checked.Laws.{Follows}
-use Rattle.sf_sym.specs.Ready.{AreInOrder, BeginsWithNoAdd, HasOrder, IsKnown, IsReady, is_listed}
+use Rattle.sf_sym.specs.Ready.{AreInOrder, HasOrder, IsKnown, is_listed}
 use Rattle.sf_sym.specs.State.{State}
+use Rattle.sf_sym.specs.Shape.{HasForm, IsAssuming, IsBody}
 
 -- THE FORM
 pub body-assuming : (todo : List Item) → IsBody todo → IsAssuming todo
@@ -43,18 +44,6 @@ body-assuming (take q want names ∷ rest) b = absurd b
 body-assuming (gave q set removed ∷ rest) b = absurd b
 body-assuming (head q test invariant body ∷ rest) b = absurd b
 body-assuming (end q ∷ rest) b = absurd b
-
-pub body-no_add : (todo : List Item) → IsBody todo → BeginsWithNoAdd todo
-body-no_add [] b = absurd b
-body-no_add (run c ∷ rest) b = tt
-body-no_add (exit q r ∷ rest) b = tt
-body-no_add (again q invariant ∷ rest) b = tt
-body-no_add (return q post ∷ rest) b = tt
-body-no_add (add q given ∷ rest) b = b
-body-no_add (take q want names ∷ rest) b = tt
-body-no_add (gave q set removed ∷ rest) b = tt
-body-no_add (head q test invariant body ∷ rest) b = tt
-body-no_add (end q ∷ rest) b = tt
 
 -- what is done of commands up to an end is what the machine does of it
 pub body-does : (p : Program) (n : ℕ) (w : ℕ → Value) (todo : List Item) (l : Local) → IsBody todo
@@ -143,16 +132,7 @@ module _ (D : Domain) (l : Local) (h : HasDomain D l) (vars : List (Var × Term)
   known-test (Equal x y) r = (known-expr x r.0, known-expr y r.1)
   known-test (Differ x y) r = (known-expr x r.0, known-expr y r.1)
 
--- WHAT IS LEFT a goal with a command in front is ready for it
-pub ready : (d : Setting) (D : Domain) (s : State) (c : Command) (rest : List Item)
-    → Suits d D (before_command s c rest) → IsReady (before_command s c rest) rest
-ready d D s c rest u = record {
-  below = u.below;
-  vars = u.order;
-  fields = u.fields;
-  after = body-no_add rest (form-command s c rest u.form).0;
-}
-
+-- WHAT IS LEFT
 -- what comes after a command suits the frame
 pub next-suits : (d : Setting) (D : Domain) (s s2 : State) (c : Command) (rest todo : List Item)
     → Suits d D (before_command s c rest) → Follows (before_command s c rest) (record { state = s2; todo = todo })
@@ -161,13 +141,15 @@ pub next-suits : (d : Setting) (D : Domain) (s s2 : State) (c : Command) (rest t
     → AllByRecursion (ItemFormed s.links) todo → IsBody todo → TodoSuits d D todo
     → Suits d D (record { state = s2; todo = todo })
 next-suits d D s s2 c rest todo u f order fields listed taken formed body suits = record {
-  below = f.below;
-  order = order;
-  fields = fields;
+  shape = record {
+    below = f.below;
+    vars = order;
+    fields = fields;
+    formed = subst (λ k. AllByRecursion (ItemFormed k) todo) (sym f.links) formed;
+    form = inl (body-assuming todo body, taken ∙ (form-command s c rest u.shape.form).1);
+  };
   links = f.links ∙ u.links;
   listed = λ x e. listed x (u.listed x e);
-  formed = subst (λ k. AllByRecursion (ItemFormed k) todo) (sym f.links) formed;
-  form = inl (body-assuming todo body, taken ∙ (form-command s c rest u.form).1);
   todo = suits;
 }
 

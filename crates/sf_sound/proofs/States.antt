@@ -4,6 +4,7 @@ use Rattle.std.specs.List.{AllByRecursion}
 use Rattle.std.specs.Prelude.{◌⊎◌, ◌+◌, false, length, Contains}
 use Rattle.std.specs.Option.{unwrap_or}
 use Rattle.std.proofs.Common.{◌≡◌, ℕ, Bool, true, Some, List, [], ◌++◌, refl, sym, ap, ◌∙◌, subst, inl, inr, arith}
+use Rattle.sf_base.proofs.Elements.{all_by-append}
 use Rattle.sf_base.specs.declared.ids.Var.{Var}
 use Rattle.sf_base.specs.declared.place.Place.{Place}
 use Rattle.sf_base.specs.declared.value.Value.{Value}
@@ -22,14 +23,15 @@ use Rattle.sf_sound.proofs.VariableTerms.{all-listed, all-listed_here, all-order
 use Rattle.sf_sound.proofs.Words.{adding-suits, taking-suits, unless-all}
 use Rattle.sf_sound.specs.Checked.Claims.{put_values}
 use Rattle.sf_sym.specs.Formed.{ItemFormed}
-use Rattle.sf_sound.specs.Checked.Suits.{BlockSuits, Domain, HasDomain, HasForm, IsPlain, Suits, TodoSuits}
+use Rattle.sf_sound.specs.Checked.Suits.{BlockSuits, Domain, HasDomain, IsPlain, Suits, TodoSuits}
 use Rattle.sf_sym.specs.Below.{AllInItem, AllInState, AreBelow, IsBelow}
 use Rattle.sf_sym.specs.declared.atom.Numbered.{Numbered}
 use Rattle.sf_sym.specs.declared.term.Term.{Term}
-use Rattle.sf_sym.specs.Goal.{Item, add, take, Goal, to_run}
+use Rattle.sf_sym.specs.Goal.{Item, add, take, Goal, adding, to_run}
 use Rattle.sf_sym.specs.Holds.{Agrees, AtomsHold, Differ}
 use Rattle.sf_sym.specs.HoldsIn.{HoldsIn}
 use Rattle.sf_sym.specs.Checked.Lemmas.Below.{atoms-weaker, below-more, paired-weaker, pairs-weaker}
+use Rattle.sf_sym.specs.Checked.Lemmas.Formed.{formed-adding}
 use Rattle.sf_sym.specs.Checked.Lemmas.FreshGoals.{agree, atoms-stay, vars-stay}
 use Rattle.sf_sym.specs.Checked.Lemmas.KnownValues.{known-value, term-all}
 use Rattle.sf_sym.specs.Checked.Lemmas.OtherValues.{Same, pairs-other_values}
@@ -38,6 +40,7 @@ use Rattle.sf_sym.specs.Pending.{conjuncts_of}
 use Rattle.sf_sym.specs.Ready.{AreInOrder, HasOrder, is_listed}
 use Rattle.sf_sym.specs.State.{State, term, with_symbols}
 use Rattle.sf_sym.specs.Variables.{fresh_for, with_fresh}
+use Rattle.sf_sym.specs.Shape.{HasForm}
 
 -- a state suits a frame with these variables
 pub record StateSuits (d : Setting) (D : Domain) (s : State) : Type 0 where
@@ -49,9 +52,9 @@ pub record StateSuits (d : Setting) (D : Domain) (s : State) : Type 0 where
 
 pub state-of : (d : Setting) (D : Domain) (goal : Goal) → Suits d D goal → StateSuits d D goal.state
 state-of d D goal u = record {
-  below = u.below.state;
-  order = u.order;
-  fields = u.fields;
+  below = u.shape.below.state;
+  order = u.shape.vars;
+  fields = u.shape.fields;
   links = u.links;
   listed = u.listed;
 }
@@ -66,21 +69,23 @@ pub suits-of : (d : Setting) (D : Domain) (s : State) (todo : List Item) → Sta
     → ItemsSuit d D s.next_sym todo → HasForm (record { state = s; todo = todo })
     → Suits d D (record { state = s; todo = todo })
 suits-of d D s todo t i form = record {
-  below = record { state = t.below; todo = i.below };
-  order = t.order;
-  fields = t.fields;
+  shape = record {
+    below = record { state = t.below; todo = i.below };
+    vars = t.order;
+    fields = t.fields;
+    formed = subst (λ k. AllByRecursion (ItemFormed k) todo) (sym t.links) i.formed;
+    form = form;
+  };
   links = t.links;
   listed = t.listed;
-  formed = subst (λ k. AllByRecursion (ItemFormed k) todo) (sym t.links) i.formed;
-  form = form;
   todo = i.suits;
 }
 
 pub items-of : (d : Setting) (D : Domain) (goal : Goal) → Suits d D goal
     → ItemsSuit d D goal.state.next_sym goal.todo
 items-of d D goal u = record {
-  below = u.below.todo;
-  formed = subst (λ k. AllByRecursion (ItemFormed k) goal.todo) u.links u.formed;
+  below = u.shape.below.todo;
+  formed = subst (λ k. AllByRecursion (ItemFormed k) goal.todo) u.links u.shape.formed;
   suits = u.todo;
 }
 
@@ -105,8 +110,8 @@ items-add d D n V q to a rest u below i = record {
   below = unless-all (AllInItem (IsBelow n)) (conjuncts_with to (conjuncts_of a.level)) (add q
       (pending_assertion to a)) rest
       (pending-all (IsBelow n) to a below) i.below;
-  formed = unless-all (ItemFormed (links_of d.program)) (conjuncts_with to (conjuncts_of a.level)) (add q
-      (pending_assertion to a)) rest (u.formed to) i.formed;
+  formed = all_by-append (ItemFormed (links_of d.program)) (adding q (pending_assertion to a)) rest
+      (formed-adding (links_of d.program) q (pending_assertion to a) (u.formed to).0 (u.formed to).1) i.formed;
   suits = adding-suits d D q (pending_assertion to a) rest i.suits;
 }
 

@@ -134,7 +134,7 @@ module _ (laws : RowLaws) (d : Setting) (goal : Goal) (left : List Goal) (claims
       → Claim d (record { state = s; todo = add q given ∷ rest })
   unfolding AssumeKeepsGoals
   add-claims q given rest e =
-      assumed-claims d s q given rest left (λ b f. laws.assume_law s q given rest left b f e)
+      assumed-claims d s q given rest left (λ b. laws.assume_law s q given rest left b e)
       (λ o. add-stays s q given rest left o (few-left (operands given.conjuncts) _ left e)) claims
 
   step-claims : (tag : Tag) (q : Place) (want : Pending) (names : List (List ℕ)) (rest : List Item)
@@ -142,14 +142,14 @@ module _ (laws : RowLaws) (d : Setting) (goal : Goal) (left : List Goal) (claims
       → Claim d (record { state = s; todo = take q want names ∷ rest })
   unfolding SubtractionLeavesRest
   step-claims tag q want names rest e =
-      shown-claims d s q want names rest left (λ b f. laws.subtraction_law tag s q want names rest left b f e)
+      shown-claims d s q want names rest left (λ b. laws.subtraction_law tag s q want names rest left b e)
       (subtract-lists d s left tag q want names rest e) claims
 
   choice-added : (so : Bool) (q : Place) (given : Pending) (rest : List Item)
       → branch_row so s (add q given ∷ rest) ≡ Some left → Claim d (record { state = s; todo = add q given ∷ rest })
   unfolding AssumedBranchKeepsGoals
   choice-added so q given rest e =
-      assumed-claims d s q given rest left (λ b f. laws.assumed_branch_law so s q given rest left b f e)
+      assumed-claims d s q given rest left (λ b. laws.assumed_branch_law so s q given rest left b e)
       (add-stay d s left so q given rest e) claims
 
   choice-shown : (so : Bool) (q : Place) (want : Pending) (names : List (List ℕ)) (rest : List Item)
@@ -157,7 +157,7 @@ module _ (laws : RowLaws) (d : Setting) (goal : Goal) (left : List Goal) (claims
       → Claim d (record { state = s; todo = take q want names ∷ rest })
   unfolding ShownBranchLeavesRest
   choice-shown so q want names rest e =
-      shown-claims d s q want names rest left (λ b f. laws.shown_branch_law so s q want names rest left b f e)
+      shown-claims d s q want names rest left (λ b. laws.shown_branch_law so s q want names rest left b e)
       (take-lists d s left so q want names rest e) claims
 
   choice-claims : (so : Bool) (q : Place) (test : Test Expr) (this that : Block) (rest : List Item)

@@ -4,6 +4,7 @@
 use Rattle.std.specs.List.{IsDistinct}
 use Rattle.std.specs.Prelude.{◌⊎◌}
 use Rattle.std.proofs.Common.{◌≡◌, ℕ, true, List, [], ◌++◌, refl, sym, ◌∙◌, subst, inl, inr}
+use Rattle.sf_base.proofs.Elements.{all_by-append}
 use Rattle.sf_base.proofs.HeapSplits.{star-of}
 use Rattle.sf_base.proofs.MapSplits.{splits-empty_left}
 use Rattle.sf_base.specs.declared.ids.Var.{Var}
@@ -31,7 +32,8 @@ use Rattle.sf_sym.specs.Formed.{IsScoped, ItemFormed, PendingFormed}
 use Rattle.sf_sound.specs.Checked.Suits.{Domain, Reads, ReadsTest}
 use Rattle.sf_sym.specs.Below.{AllInItem, AllInPending, IsBelow}
 use Rattle.sf_sym.specs.declared.term.Term.{Term}
-use Rattle.sf_sym.specs.Goal.{Item, add}
+use Rattle.sf_sym.specs.Checked.Lemmas.Formed.{formed-adding}
+use Rattle.sf_sym.specs.Goal.{Item, add, adding}
 use Rattle.sf_sym.specs.Holds.{PendingHolds}
 use Rattle.sf_sym.specs.Pending.{Pending}
 
@@ -123,7 +125,8 @@ pub items-test : (d : Setting) (D : Domain) (n : ℕ) (q : Place) (to : Expr →
 items-test d D n q to t rest below i = record {
   below = unless-all (AllInItem (IsBelow n)) (test_conjuncts q to t) (add q (pending_test q to t)) rest (test-below
       (IsBelow n) q to t below) i.below;
-  formed = unless-all (ItemFormed (links_of d.program)) (test_conjuncts q to t) (add q (pending_test q to t)) rest
-      (test-formed (links_of d.program) q to t) i.formed;
+  formed = all_by-append (ItemFormed (links_of d.program)) (adding q (pending_test q to t)) rest
+      (formed-adding (links_of d.program) q (pending_test q to t) (test-formed (links_of d.program) q to t).0
+      (test-formed (links_of d.program) q to t).1) i.formed;
   suits = adding-suits d D q (pending_test q to t) rest i.suits;
 }

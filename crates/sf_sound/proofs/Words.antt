@@ -14,11 +14,12 @@ use Rattle.sf_core.specs.Program.Syntax.{Conjuncts, none, also, Program}
 use Rattle.sf_rules.specs.Setting.{Setting}
 use Rattle.sf_safe.specs.Checked.Local.{Local}
 use Rattle.sf_sound.specs.Checked.Claims.{Does, with_cells}
-use Rattle.sf_sound.specs.Checked.Suits.{Domain, IsAssuming, IsBody, IsShowing, TodoSuits}
+use Rattle.sf_sound.specs.Checked.Suits.{Domain, TodoSuits}
 use Rattle.sf_sym.specs.declared.term.Term.{Term}
 use Rattle.sf_sym.specs.Goal.{Item, run, add, take, gave, head, again, exit, return, end, adding, taking, unless_none}
 use Rattle.sf_sym.specs.Holds.{term_value, AddsHold, IsBound, PendingHolds}
 use Rattle.sf_sym.specs.Pending.{Pending}
+use Rattle.sf_sym.specs.Shape.{IsAssuming, IsBody, IsShowing}
 
 -- what is said of the item and of the others is said of all
 pub unless-all : (P : Item → Type 0) (cs : Conjuncts Term) (item : Item) (rest : List Item) → P item

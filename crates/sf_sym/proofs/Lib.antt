@@ -9,3 +9,4 @@ pub mod Items
 pub mod NumberLists
 pub mod OwnRoots
 pub mod Searched
+pub mod Lowest

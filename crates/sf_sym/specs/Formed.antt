@@ -1,9 +1,10 @@
 -- Which conjuncts may stand in a goal: their existentials are counted, segments and trees go along fields that there are,
--- and no existential is made twice.
+-- cells have no more fields than programs, and no existential is made twice.
 -- Ordinary: formulas that are well formed; the scopes are those of the program's annotations.
-use Rattle.std.specs.Prelude.{◌≡◌, ℕ, ◌<◌, Bool, false, Some, None, [], get_or, length}
+use Rattle.std.specs.Prelude.{◌≡◌, ℕ, ◌<◌, ◌≤◌, Bool, true, false, Some, None, [], get_or, length}
 use Rattle.std.specs.List.{AllByRecursion, IsDistinct}
 use Rattle.sf_base.specs.declared.ids.FieldId.{FieldId}
+use Rattle.sf_base.specs.declared.limits.TheConstants.{FIELDS}
 use Rattle.sf_core.specs.Assertions.Occurs.{OccursInAll}
 use Rattle.sf_core.specs.Assertions.Scopes.{overlap}
 use Rattle.sf_core.specs.declared.assertion.Operand.{Operand}
@@ -20,8 +21,8 @@ abbrev pub IsCounted : ℕ → Operand Term → Type 0
 IsCounted count (Known t) = Unit {0}
 IsCounted count (Exists n) = n < count
 
--- conjuncts mention only that many existentials, in branches too, and their segments and trees go along the
--- fields of these links
+-- conjuncts mention only that many existentials, in branches too, their segments and trees go along the fields of
+-- these links, and their cells have no more fields than a program may have
 abbrev mutual
   -- a level does so
   pub LevelFormed : Links → ℕ → Level Term → Type 0
@@ -37,6 +38,7 @@ abbrev mutual
   OneFormed links count (holds q t) = TestWithin (IsCounted count) t
   OneFormed links count (points q x fs) =
       IsCounted count x × AllByRecursion (λ (f : FieldId × Operand Term). IsCounted count f.1) fs
+      × (length fs ≤ FIELDS)
   OneFormed links count (segment q next x y) =
       (links.tl ≡ Some next) × IsCounted count x × IsCounted count y
   OneFormed links count (tree q left right x) =
@@ -58,10 +60,16 @@ pub record IsScoped (p : Pending) : Type 0 where
   pub occurring : (n : ℕ) → OccursInAll p.conjuncts (Exists n) → is_made_inside p n ≡ false
   pub bound : (n : ℕ) (t : Term) → get_or p.bindings n None ≡ Some t → is_made_inside p n ≡ false
 
--- what is still to do has only such conjuncts
+-- whether there are conjuncts
+abbrev pub are_some : Conjuncts Term → Bool
+are_some none = false
+are_some (also c cs) = true
+
+-- what is still to do has only such conjuncts, and some where conjuncts are to be assumed
 abbrev pub ItemFormed : Links → Item → Type 0
 ItemFormed links (run c) = Unit {0}
-ItemFormed links (add p given) = PendingFormed links given × IsScoped given
+ItemFormed links (add p given) =
+    PendingFormed links given × IsScoped given × (are_some given.conjuncts ≡ true)
 ItemFormed links (take p want names) = PendingFormed links want
 ItemFormed links (gave p set removed) = Unit {0}
 ItemFormed links (head p test invariant body) = Unit {0}

@@ -1,6 +1,6 @@
--- Which atoms of a state can only be empty, and which of them is the first.
+-- Which atoms of a state can only be empty, and which of them is the first, having the lowest number.
 -- Berdine, Calcagno, O'Hearn, "Symbolic Execution with Separation Logic" (2005), section 4: normalization.
-use Rattle.std.specs.Prelude.{ℕ, Bool, false, ◌&&◌, ◌||◌, not, cond, Option, Some, None, List, [], ◌∷◌}
+use Rattle.std.specs.Prelude.{◌≡◌, ◌≤◌, ℕ, Bool, true, false, Contains, ◌&&◌, ◌||◌, not, cond, Option, Some, None, List, [], ◌∷◌}
 use Rattle.std.specs.Option.{option_and_then, option_map}
 use Rattle.sf_sym.specs.declared.atom.Atom.{Atom}
 use Rattle.sf_sym.specs.declared.atom.Atom.TheVariants.{Points, Ls, Tree}
@@ -46,3 +46,10 @@ abbrev pub first_forced : State → List Numbered → Option (ℕ × Term × Ter
 first_forced s [] = None
 first_forced s (a ∷ rest) =
     or_else (option_map (λ e. (a.number, e.0, e.1)) (forced_ends s a.number a.atom)) (first_forced s rest)
+
+-- IsLowest: that is the lowest number of an atom that passes the test, and None exactly where none passes it
+abbrev pub IsLowest : (Numbered → Bool) → List Numbered → Option ℕ → Type 0
+IsLowest test atoms (Some n) =
+    ((a : Numbered) × Contains atoms a × (a.number ≡ n) × (test a ≡ true))
+    × ((a : Numbered) → Contains atoms a → test a ≡ true → n ≤ a.number)
+IsLowest test atoms None = (a : Numbered) → Contains atoms a → test a ≡ false

@@ -13,6 +13,7 @@ pub mod Formed
 pub mod Variables
 pub mod Decided
 pub mod Ready
+pub mod Shape
 pub mod Known
 pub mod Numbers
 pub mod Checked

@@ -10,13 +10,10 @@ use Rattle.sf_base.specs.Variables.{same_var}
 use Rattle.sf_core.specs.Assertions.Sat.{value}
 use Rattle.sf_core.specs.declared.command.Expr.{Expr}
 use Rattle.sf_core.specs.declared.command.Expr.TheVariants.{Var as Variable, Nil as ENil, Int as EInt}
-use Rattle.sf_sym.specs.Below.{AreBelow}
 use Rattle.sf_sym.specs.declared.atom.Atom.{Atom}
 use Rattle.sf_sym.specs.declared.atom.Atom.TheVariants.{Points, Ls, Tree}
-use Rattle.sf_sym.specs.declared.atom.Numbered.{Numbered}
 use Rattle.sf_sym.specs.declared.term.Term.{Term}
 use Rattle.sf_sym.specs.Fields.{AreOrdered}
-use Rattle.sf_sym.specs.Goal.{Item, run, add, take, gave, head, again, exit, return, end, Goal}
 use Rattle.sf_sym.specs.Variables.{comes_before}
 
 -- whether a variable has a term
@@ -48,24 +45,3 @@ abbrev pub HasOrder : Atom → Type 0
 HasOrder (Points root fields) = AreOrdered fields
 HasOrder (Ls u v) = Unit {0}
 HasOrder (Tree u) = Unit {0}
-
--- the first thing to do is none to assume
-abbrev pub BeginsWithNoAdd : List Item → Type 0
-BeginsWithNoAdd [] = Unit {0}
-BeginsWithNoAdd (run c ∷ items) = Unit {0}
-BeginsWithNoAdd (add p given ∷ items) = ⊥
-BeginsWithNoAdd (take p want names ∷ items) = Unit {0}
-BeginsWithNoAdd (gave p set removed ∷ items) = Unit {0}
-BeginsWithNoAdd (head p test invariant body ∷ items) = Unit {0}
-BeginsWithNoAdd (again p invariant ∷ items) = Unit {0}
-BeginsWithNoAdd (exit p r ∷ items) = Unit {0}
-BeginsWithNoAdd (return p post ∷ items) = Unit {0}
-BeginsWithNoAdd (end p ∷ items) = Unit {0}
-
--- a goal is ready for a command, and then for these items: it speaks of symbols below its next one only, its variables
--- and the fields of its cells are in order, and after the command nothing is assumed at once
-pub record IsReady (goal : Goal) (rest : List Item) : Type 0 where
-  pub below : AreBelow goal
-  pub vars : AreInOrder goal.state.vars
-  pub fields : AllByRecursion (λ (a : Numbered). HasOrder a.atom) goal.state.atoms
-  pub after : BeginsWithNoAdd rest

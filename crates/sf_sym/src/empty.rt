@@ -1,12 +1,12 @@
 //! Atoms that can only be empty.
 
-ghost use Rattle.std.specs.Prelude.{◌≡◌};
+ghost use Rattle.std.specs.Prelude.{◌≡◌, is_some};
 ghost use Rattle.std.specs.BTreeSet.{contains};
-ghost use Rattle.std.specs.Option.{option_and_then};
+ghost use Rattle.std.specs.Option.{option_and_then, option_map};
 ghost use Rattle.std.specs.Ordering.{nat_cmp};
 ghost use Rattle.sf_sym.specs.Checked.OwnRoots.{first_unsettled, unsettled_ends};
 ghost use Rattle.sf_sym.specs.Cells.{atom_at};
-ghost use Rattle.sf_sym.specs.Known.{ends, first_forced, first_nothing, forced_ends, is_nothing};
+ghost use Rattle.sf_sym.specs.Known.{IsLowest, ends, first_forced, first_nothing, forced_ends, is_nothing};
 
 use crate::atom::{Atom, Numbered};
 use crate::roots::{first_at_constant, is_settled};
@@ -59,8 +59,18 @@ impl State {
         }
     }
 
-    /// The number of the first atom that is an empty segment or tree.
+    /// The lowest number of an atom that is an empty segment or tree. `None` exactly where there is
+    /// none.
     pub fn droppable(&self) -> Option<u32>
+        ensures first { result ≡ first_nothing self.now.atoms }
+        ensures lowest { IsLowest (λ a. is_nothing a.atom) self.now.atoms result }
+    {
+        self.is_numbered();
+        self.first_nothing()
+    }
+
+    /// The number of the first of them.
+    fn first_nothing(&self) -> Option<u32>
         ensures { result ≡ first_nothing self.now.atoms }
     {
         let mut left = self.atoms();
@@ -73,9 +83,19 @@ impl State {
         None
     }
 
-    /// The first atom that can only be empty though its ends aren't one term yet, with its ends.
-    /// Atoms are compared with each other only where two begin at one symbol.
+    /// The lowest number of an atom that can only be empty though its ends aren't one term yet, with
+    /// its ends. `None` exactly where there is none.
     pub fn forced(&self) -> Option<(u32, Term, Term)>
+        ensures first { result ≡ first_forced self.now self.now.atoms }
+        ensures lowest { IsLowest (λ a. is_some (forced_ends self.now a.number a.atom))
+            self.now.atoms (option_map (λ f. f.0) result) }
+    {
+        self.is_numbered();
+        self.first_forced()
+    }
+
+    /// The first of them. Atoms are compared with each other only where two begin at one symbol.
+    fn first_forced(&self) -> Option<(u32, Term, Term)>
         ensures { result ≡ first_forced self.now self.now.atoms }
     {
         if self.have_own_roots() {

@@ -87,6 +87,7 @@ impl Pending {
     pub fn replace_first(&mut self, c: Conjunct<Term>)
         ensures conjuncts { (first : ConjunctOf TermOf) (rest : List (ConjunctOf TermOf))
             → self.old.conjuncts ≡ first ∷ rest → self.new.conjuncts ≡ c ∷ rest }
+        ensures none { self.old.conjuncts ≡ [] → self.new.conjuncts ≡ [] }
         ensures bindings { self.new.bindings ≡ self.old.bindings }
     {
         if self.conjuncts.pop().is_some() {
@@ -120,20 +121,23 @@ impl Pending {
         Ok(c)
     }
 
-    /// Puts a conjunct in place of the first two, as it was before they came in its place.
+    /// Puts a conjunct in place of the first two, as it was before they came in its place. Where
+    /// fewer are left, none is after it.
     pub fn join_first(&mut self, c: Conjunct<Term>)
         ensures conjuncts { (one two : ConjunctOf TermOf) (rest : List (ConjunctOf TermOf))
             → self.old.conjuncts ≡ one ∷ two ∷ rest → self.new.conjuncts ≡ c ∷ rest }
+        ensures fewer { length self.old.conjuncts < 2 → self.new.conjuncts ≡ [] }
         ensures bindings { self.new.bindings ≡ self.old.bindings }
     {
         self.conjuncts.pop();
         self.replace_first(c);
     }
 
-    /// Takes the first conjunct, if one is left.
+    /// Takes the first conjunct, if one is left; else nothing changes.
     pub fn take_first(&mut self) -> Option<Conjunct<Term>>
         ensures some { IfSome result (λ c. self.old.conjuncts ≡ c ∷ self.new.conjuncts) }
         ensures none { IfNone result (self.old.conjuncts ≡ []) }
+        ensures unchanged { IfNone result (self.new ≡ self.old) }
         ensures bindings { self.new.bindings ≡ self.old.bindings }
     {
         self.conjuncts.pop()

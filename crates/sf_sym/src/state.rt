@@ -3,6 +3,7 @@
 ghost use Rattle.std.specs.Prelude.{◌≡◌, ◌<◌, ◌≤◌, ◌^◌, ◌+◌, ◌++◌, true, [], length, vec_capacity, vec_len, is_some, Some, List, IfSome, IfNone, IfOk, OnErr, OnOk};
 ghost use Rattle.std.specs.Option.{option_map};
 ghost use Rattle.sf_base.specs.declared.ids.FieldId.{FieldId as FieldNumber};
+ghost use Rattle.sf_sym.specs.Below.{AllPaired, IsBelow};
 ghost use Rattle.sf_sym.specs.Cells.{after_hand_over, apart_from_nil, atom_at, cell_at, fields_at, handed, state_after_write, with_atom, with_cell, without};
 ghost use Rattle.sf_sym.specs.Equalities.{put_for, state_with, with_pair};
 ghost use Rattle.sf_sym.specs.Numbers.{AreNumbered, numbers};
@@ -50,10 +51,11 @@ impl Model for State {
 }
 
 impl State {
-    /// The state that knows these terms of the variables, which have the symbols below `next_sym`,
+    /// The state that knows these terms of the variables, which have symbols below `next_sym` only,
     /// and nothing of the heap. The variables are in order, each once.
     pub fn new(alloc: Global, links: Links, vars: Vec<(Var, Term)>, next_sym: u32) -> State
-        requires { AreInOrder vars.items }
+        requires order { AreInOrder vars.items }
+        requires below { AllPaired (IsBelow next_sym) vars.items }
         ensures { result ≡ first_state links vars.items next_sym }
     {
         State {
@@ -349,7 +351,8 @@ impl State {
     }
 
     /// Hands the cell of that number at the root over with these fields, for which new symbols were
-    /// used up to that number. An `Err` means out of memory, and then nothing changes.
+    /// used up to that number, which isn't below the next symbol's. An `Err` means out of memory,
+    /// and then nothing changes.
     pub fn hand_over_cell(
         &mut self,
         a: u32,
@@ -357,7 +360,8 @@ impl State {
         fields: FieldTerms,
         next_sym: u32,
     ) -> Result<(), AllocError>
-        requires { is_some (cell_at self.old.atoms a root) ≡ true }
+        requires there { is_some (cell_at self.old.atoms a root) ≡ true }
+        requires rising { self.old.next_sym ≤ next_sym }
         ensures ok { OnOk result (self.new
             ≡ after_hand_over (record self.old { next_sym = next_sym }) root fields a) }
         ensures err { OnErr result (self.new ≡ self.old) }

@@ -26,6 +26,7 @@ pub fn next_item<'a>(todo: &mut Vec<Item<'a>>) -> Option<Item<'a>>
         (λ i. todo_of todo.old.items ≡ items_of i ++ todo_of todo.new.items) }
     ensures something { IfSome result (λ i. is_nothing i ≡ false) }
     ensures none { IfNone result (todo_of todo.old.items ≡ []) }
+    ensures left { IfNone result (todo.new.items ≡ []) }
 {
     while let Some(item) = todo.pop() {
         if !is_nothing(&item) {

@@ -6,11 +6,10 @@ use Rattle.sf_base.specs.declared.place.Place.{Place}
 use Rattle.sf_base.specs.declared.value.Value.{Value}
 use Rattle.sf_base.specs.HeapStore.{Heap}
 use Rattle.sf_produce.specs.Add.{add_row}
-use Rattle.sf_sym.specs.Below.{AreBelow}
-use Rattle.sf_sym.specs.Formed.{AreFormed}
 use Rattle.sf_sym.specs.Goal.{Item, add, Goal, adding}
 use Rattle.sf_sym.specs.Checked.Laws.{HoldsStill, KeptWith, Restated}
 use Rattle.sf_sym.specs.Pending.{Pending}
+use Rattle.sf_sym.specs.Shape.{HasShape}
 use Rattle.sf_sym.specs.State.{State}
 
 -- the goal with these conjuncts to assume first
@@ -30,6 +29,5 @@ pub record HoldsAssumed (p : Place) (rest : List Item) (w : ℕ → Value) (goal
 unfoldable pub AddKeepsGoals : Type 0
 AddKeepsGoals =
     (s : State) (p : Place) (given : Pending) (rest : List Item) (left : List Goal)
-    → AreBelow (assuming s p given rest) → AreFormed (assuming s p given rest)
-    → add_row s p given rest ≡ Some left
+    → HasShape (assuming s p given rest) → add_row s p given rest ≡ Some left
     → KeptWith (assuming s p given rest) left (HoldsAssumed p rest)

@@ -1,20 +1,25 @@
--- Examples of rows on small goals: what the whole table leaves of each.
+-- Examples of rows on small goals: what the whole table leaves of each, for what is known and for the commands that touch
+-- a variable or a cell. ExamplesOfBodies and ExamplesOfConjuncts have the other rows.
 -- The goals are in the manner of Berdine, Calcagno, O'Hearn, "Symbolic Execution with Separation Logic" (2005).
-use Rattle.std.specs.Prelude.{◌≡◌, List, [], ◌∷◌, Some, None, codes}
-use Rattle.sf_base.specs.declared.ids.Var.TheVariants.{Own, Shared}
-use Rattle.sf_core.specs.declared.assertion.Operand.TheVariants.{Known}
-use Rattle.sf_core.specs.declared.assertion.Test.TheVariants.{True, Differ}
-use Rattle.sf_core.specs.Checked.Assertions.Examples.{place, tl}
-use Rattle.sf_core.specs.Checked.Machine.Examples.{emp, one_cell, own_one, procedure}
+use Rattle.std.specs.Prelude.{◌≡◌, ℕ, List, [], ◌∷◌, Option, Some, None}
+use Rattle.sf_base.specs.declared.ids.FieldId.{FieldId}
+use Rattle.sf_base.specs.declared.ids.Var.TheVariants.{Own}
+use Rattle.sf_core.specs.declared.assertion.Test.{Test}
+use Rattle.sf_core.specs.declared.assertion.Test.TheVariants.{Equal, Differ}
+use Rattle.sf_core.specs.Checked.Assertions.Examples.{place, tl, l, r}
+use Rattle.sf_core.specs.Checked.Machine.Examples.{at_own, own_one}
+use Rattle.sf_core.specs.declared.command.Expr.{Expr}
 use Rattle.sf_core.specs.declared.command.Expr.TheVariants.{Nil as ENil}
-use Rattle.sf_core.specs.Program.Syntax.{Block, Call, Command, Conjuncts, none, also, holds, points, segment, assign, done, then, fork, with, Program}
-use Rattle.sf_sym.specs.declared.atom.Atom.TheVariants.{Points, Ls}
+use Rattle.sf_core.specs.Program.Syntax.{Block, Command, assign, look_up, mutate, new, dispose, if, done, then}
+use Rattle.sf_sym.specs.declared.atom.Atom.{Atom}
+use Rattle.sf_sym.specs.declared.atom.Atom.TheVariants.{Points, Ls, Tree}
 use Rattle.sf_sym.specs.declared.atom.Numbered.{Numbered}
+use Rattle.sf_sym.specs.declared.tag.Tag.{Tag}
 use Rattle.sf_sym.specs.declared.tag.Tag.TheVariants as t
 use Rattle.sf_sym.specs.declared.term.Term.{Term}
 use Rattle.sf_sym.specs.declared.term.Term.TheVariants.{Nil, Sym}
 use Rattle.sf_sym.specs.Checked.Examples.{state_with}
-use Rattle.sf_sym.specs.Goal.{Item, run, add, take, gave, head, again, end, Goal}
+use Rattle.sf_sym.specs.Goal.{Item, run, gave, end, Goal}
 use Rattle.sf_sym.specs.State.{State}
 use Rattle.sf_rules.specs.Rows.Whole.{row}
 use Rattle.sf_rules.specs.Setting.{Setting}
@@ -23,135 +28,152 @@ use Rattle.sf_rules.specs.Setting.{Setting}
 abbrev pub goal_at : State → List Item → Goal
 goal_at s todo = record { state = s; todo = todo }
 
--- 1: ls(s1,nil)
-abbrev pub list_at_one : List Numbered
-list_at_one = record { number = 1; atom = Ls (Sym 1) Nil } ∷ []
+-- nothing but the end
+abbrev pub ends : List Item
+ends = end place ∷ []
 
--- 1: ls(s0,nil)
-abbrev pub list_at_nought : List Numbered
-list_at_nought = record { number = 1; atom = Ls (Sym 0) Nil } ∷ []
+-- that atom, with that number
+abbrev pub numbered : ℕ → Atom → Numbered
+numbered n x = record { number = n; atom = x }
+
+-- that atom alone, with the number 1
+abbrev pub only : Atom → List Numbered
+only x = numbered 1 x ∷ []
+
+-- x = s0 and y = s1, s0 != nil, and these atoms
+abbrev pub two_variables : List Numbered → State
+two_variables atoms = record (state_with atoms) { vars = (Own 0, Sym 0) ∷ (Own 1, Sym 1) ∷ [] }
+
+-- absurd: nothing is left where a cell is at nil, and there is no such row where the cell is at s0
+unfoldable pub NoCellIsAtNil : Type 0
+NoCellIsAtNil = (d : Setting)
+    → (row d (goal_at (state_with (only (Points Nil []))) ends) t.Absurd ≡ Some [])
+    × (row d (goal_at (state_with (only (Points (Sym 0) []))) ends) t.Absurd ≡ None)
+
+-- drop: a list from a term to itself goes, another one doesn't
+unfoldable pub EmptyListsGo : Type 0
+EmptyListsGo = (d : Setting)
+    → (row d (goal_at (state_with (numbered 1 (Ls (Sym 1) (Sym 1)) ∷ numbered 2 (Ls (Sym 0) Nil) ∷ [])) ends)
+    (t.Drop 1)
+    ≡ Some (goal_at (state_with (numbered 2 (Ls (Sym 0) Nil) ∷ [])) ends ∷ []))
+    × (row d (goal_at (state_with (only (Ls (Sym 0) Nil))) ends) (t.Drop 1) ≡ None)
+
+-- force: a list from nil is empty, so s1, where it ends, is nil, in what is to do too; one from s0 needn't be
+unfoldable pub ListsFromNilAreEmpty : Type 0
+ListsFromNilAreEmpty = (d : Setting)
+    → (row d (goal_at (state_with (only (Ls Nil (Sym 1)))) (gave place ((Own 0, Sym 1) ∷ []) [] ∷ ends)) (t.Force 1)
+    ≡ Some (goal_at (state_with (only (Ls Nil Nil))) (gave place ((Own 0, Nil) ∷ []) [] ∷ ends) ∷ []))
+    × (row d (goal_at (state_with (only (Ls (Sym 0) (Sym 1)))) ends) (t.Force 1) ≡ None)
 
 -- split s0 s1: first s1, the greater, is s0, in the atoms too; second the two differ
 unfoldable pub SplitReplacesTheGreater : Type 0
 SplitReplacesTheGreater = (d : Setting)
-    → row d (goal_at (state_with list_at_one) (end place ∷ [])) (t.Split (Sym 0) (Sym 1))
-    ≡ Some (goal_at (state_with list_at_nought) (end place ∷ [])
-    ∷ goal_at (record (state_with list_at_one) { apart = (Sym 0, Nil) ∷ (Sym 0, Sym 1) ∷ [] }) (end place ∷ [])
+    → row d (goal_at (state_with (only (Ls (Sym 1) Nil))) ends) (t.Split (Sym 0) (Sym 1))
+    ≡ Some (goal_at (state_with (only (Ls (Sym 0) Nil))) ends
+    ∷ goal_at (record (state_with (only (Ls (Sym 1) Nil))) { apart = (Sym 0, Nil) ∷ (Sym 0, Sym 1) ∷ [] }) ends
     ∷ [])
 
--- unroll 1: a list that isn't empty is a cell, which differs from nil, and a list from its link on
-unfoldable pub UnrolledListHasACell : Type 0
-UnrolledListHasACell = (d : Setting)
-    → row d (goal_at (state_with list_at_nought) (end place ∷ [])) (t.Unroll 1)
+-- unroll: a list that isn't empty is a cell, which differs from nil, and a list from its link on; a tree is a cell and the
+-- trees of its two links
+unfoldable pub UnrolledPartsHaveACell : Type 0
+UnrolledPartsHaveACell = (d : Setting)
+    → (row d (goal_at (state_with (only (Ls (Sym 0) Nil))) ends) (t.Unroll 1)
     ≡ Some (goal_at (record (state_with []) {
       apart = (Sym 0, Nil) ∷ (Sym 0, Nil) ∷ [];
-      atoms = record { number = 2; atom = Points (Sym 0) ((tl, Sym 2) ∷ []) }
-          ∷ record { number = 3; atom = Ls (Sym 2) Nil } ∷ [];
+      atoms = numbered 2 (Points (Sym 0) ((tl, Sym 2) ∷ [])) ∷ numbered 3 (Ls (Sym 2) Nil) ∷ [];
       next_sym = 3;
       next_atom = 4;
-    }) (end place ∷ []) ∷ [])
+    }) ends ∷ []))
+    × (row d (goal_at (state_with (only (Tree (Sym 0)))) ends) (t.Unroll 1)
+    ≡ Some (goal_at (record (state_with []) {
+      apart = (Sym 0, Nil) ∷ (Sym 0, Nil) ∷ [];
+      atoms = numbered 2 (Points (Sym 0) ((l, Sym 2) ∷ (r, Sym 3) ∷ []))
+          ∷ numbered 3 (Tree (Sym 2)) ∷ numbered 4 (Tree (Sym 3)) ∷ [];
+      next_sym = 4;
+      next_atom = 5;
+    }) ends ∷ []))
 
--- a list from the first term to the second is to be shown
-abbrev pub wants_list : Term → Term → Item
-wants_list v w = take place
-    (record { conjuncts = also (segment place tl (Known v) (Known w)) none; bindings = [] }) []
+-- before a command: it is first, and then the end
+abbrev pub before : State → Command → Goal
+before s c = goal_at s (run c ∷ ends)
 
--- join 1: of a wanted list up to nil the first segment is handed over, and the rest is still wanted
-unfoldable pub JoinGoesOn : Type 0
-JoinGoesOn = (d : Setting)
-    → row d (goal_at (state_with (record { number = 1; atom = Ls (Sym 0) (Sym 1) } ∷ []))
-    (wants_list (Sym 0) Nil ∷ [])) (t.Join 1)
-    ≡ Some (goal_at (record (state_with []) { taken = record { number = 1; atom = Ls (Sym 0) (Sym 1) } ∷ [] })
-    (wants_list (Sym 1) Nil ∷ []) ∷ [])
+-- assign: y = x. Then y has the term of x
+unfoldable pub AssignedVariablesHaveTheTerm : Type 0
+AssignedVariablesHaveTheTerm = (d : Setting)
+    → row d (before (two_variables []) (assign place (at_own 1) (own_one 0))) t.Assign
+    ≡ Some (goal_at (record (two_variables []) { vars = (Own 0, Sym 0) ∷ (Own 1, Sym 0) ∷ [] }) ends ∷ [])
 
--- where the wanted end may lie inside that segment there is no such row
-unfoldable pub JoinNeedsItsEnd : Type 0
-JoinNeedsItsEnd = (d : Setting)
-    → row d (goal_at (state_with list_at_nought) (wants_list (Sym 0) (Sym 1) ∷ [])) (t.Join 1) ≡ None
+-- a cell at s0 with nil in its field tl
+abbrev pub cell_to_nil : List Numbered
+cell_to_nil = only (Points (Sym 0) ((tl, Nil) ∷ []))
 
--- give: what was taken is gone, and x has another term
-unfoldable pub GivenIsGone : Type 0
-GivenIsGone = (d : Setting)
-    → row d (goal_at (record (state_with []) { taken = list_at_one })
-    (gave place ((Own 0, Sym 1) ∷ []) [] ∷ end place ∷ [])) t.Give
-    ≡ Some (goal_at (record (state_with []) { vars = (Own 0, Sym 1) ∷ [] }) (end place ∷ []) ∷ [])
+-- y = x->f
+abbrev pub looks_for : FieldId → Command
+looks_for f = look_up place (at_own 1) (own_one 0) f
 
--- a setting of that program, in which no resource is used, and annotations are in order as they are
-abbrev pub plain : Program → Setting
-plain p = record {
-  program = p;
-  sets = record { takes = []; holds = []; free = [] };
-  ordered = λ a. a;
-}
+-- look: a field that is known gives y its term; one that isn't gets a fresh symbol, in the cell too. By another atom's
+-- number there is no such row
+unfoldable pub LookedUpFieldsAreKnown : Type 0
+LookedUpFieldsAreKnown = (d : Setting)
+    → (row d (before (two_variables cell_to_nil) (looks_for tl)) (t.Look 1)
+    ≡ Some (goal_at (record (two_variables cell_to_nil) { vars = (Own 0, Sym 0) ∷ (Own 1, Nil) ∷ [] }) ends ∷ []))
+    × (row d (before (two_variables cell_to_nil) (looks_for l)) (t.Look 1)
+    ≡ Some (goal_at (record (two_variables (only (Points (Sym 0) ((tl, Nil) ∷ (l, Sym 2) ∷ [])))) {
+      vars = (Own 0, Sym 0) ∷ (Own 1, Sym 2) ∷ [];
+      next_sym = 3;
+    }) ends ∷ []))
+    × (row d (before (two_variables cell_to_nil) (looks_for tl)) (t.Look 2) ≡ None)
 
--- x = nil
+-- mutate: x->tl = y. Then the field has the term of y, and the other fields have theirs
+unfoldable pub MutatedFieldsHaveTheTerm : Type 0
+MutatedFieldsHaveTheTerm = (d : Setting)
+    → row d (before (two_variables (only (Points (Sym 0) ((tl, Nil) ∷ (l, Nil) ∷ []))))
+    (mutate place (own_one 0) tl (own_one 1))) (t.Mutate 1)
+    ≡ Some (goal_at (two_variables (only (Points (Sym 0) ((tl, Sym 1) ∷ (l, Nil) ∷ [])))) ends ∷ [])
+
+-- new: y is a fresh symbol, at which there is a cell, so it differs from nil; nothing is known of the cell's fields
+unfoldable pub NewCellsAreFresh : Type 0
+NewCellsAreFresh = (d : Setting)
+    → row d (before (two_variables cell_to_nil) (new place (at_own 1))) t.New
+    ≡ Some (goal_at (record (two_variables []) {
+      vars = (Own 0, Sym 0) ∷ (Own 1, Sym 2) ∷ [];
+      apart = (Sym 0, Nil) ∷ (Sym 2, Nil) ∷ [];
+      atoms = numbered 1 (Points (Sym 0) ((tl, Nil) ∷ [])) ∷ numbered 2 (Points (Sym 2) []) ∷ [];
+      next_sym = 3;
+      next_atom = 3;
+    }) ends ∷ [])
+
+-- dispose: the cell of x goes, and nothing else; a list at x is no cell
+unfoldable pub DisposedCellsGo : Type 0
+DisposedCellsGo = (d : Setting)
+    → (row d (before (two_variables (numbered 1 (Points (Sym 0) []) ∷ numbered 2 (Ls (Sym 1) Nil) ∷ []))
+    (dispose place (own_one 0))) (t.Dispose 1)
+    ≡ Some (goal_at (two_variables (numbered 2 (Ls (Sym 1) Nil) ∷ [])) ends ∷ []))
+    × (row d (before (two_variables (only (Ls (Sym 0) Nil))) (dispose place (own_one 0))) (t.Dispose 1) ≡ None)
+
+-- x = nil, and y = nil
 abbrev pub changing_x : Block
-changing_x = then (assign place (record { var = Own 0; place = place }) ENil) done
+changing_x = then (assign place (at_own 0) ENil) done
 
--- no procedure
-abbrev pub no_program : Program
-no_program = record { fields = []; resources = []; procedures = [] }
+abbrev pub changing_y : Block
+changing_y = then (assign place (at_own 1) ENil) done
 
--- the state after a loop's invariant was handed over and x became unknown
-abbrev pub around_now : State
-around_now = record (state_with list_at_one) { vars = (Own 0, Sym 2) ∷ []; next_sym = 3 }
+-- if (x TEST nil) x = nil; else y = nil;
+abbrev pub choice_by : Test Expr → Command
+choice_by test = if place test changing_x changing_y
 
--- around: a loop `while (true) [emp] { x = nil; }`. First its body, from nothing at all; second what comes after it, where
--- nil differs from itself, since the test can't be false
-unfoldable pub LoopsGoOnceAround : Type 0
-LoopsGoOnceAround =
-    row (plain no_program)
-    (goal_at (state_with list_at_one) (head place True emp changing_x ∷ end place ∷ [])) t.Around
-    ≡ Some (goal_at (record around_now { atoms = [] })
-    (run (assign place (record { var = Own 0; place = place }) ENil) ∷ again place emp ∷ [])
-    ∷ goal_at around_now
-    (add place (record { conjuncts = also (holds place (Differ (Known Nil) (Known Nil))) none; bindings = [] })
-    ∷ end place ∷ [])
-    ∷ [])
+-- the rows of a choice whose test is so: this one leaves that branch, and the other isn't there
+abbrev pub Goes : Setting → Test Expr → (this other : Tag) → (branch : Item) → Type 0
+Goes d test this other branch =
+    (row d (before (two_variables []) (choice_by test)) this
+    ≡ Some (goal_at (two_variables []) (branch ∷ ends) ∷ []))
+    × (row d (before (two_variables []) (choice_by test)) other ≡ None)
 
--- with r when (true) v = nil, where v is a variable of r
-abbrev pub region_changing_v : Command
-region_changing_v = with place (record { 0 = 0 }) True
-    (then (assign place (record { var = Shared (record { 0 = 0 }) 0; place = place }) ENil) done)
-
--- around: a loop `while (true) [emp] { with r when (true) v = nil; }`. Outside of the region v has no
--- term, and the loop gives it none, so that the next symbol is the one that it was
-unfoldable pub LoopsGiveNoTerms : Type 0
-LoopsGiveNoTerms =
-    row (plain no_program)
-    (goal_at (state_with list_at_one) (head place True emp (then region_changing_v done) ∷ end place ∷ [])) t.Around
-    ≡ Some (goal_at (state_with []) (run region_changing_v ∷ again place emp ∷ [])
-    ∷ goal_at (state_with list_at_one)
-    (add place (record { conjuncts = also (holds place (Differ (Known Nil) (Known Nil))) none; bindings = [] })
-    ∷ end place ∷ [])
-    ∷ [])
-
--- a procedure of one value, with one cell there before and after
-abbrev pub one_procedure : Program
-one_procedure = record {
-  fields = [];
-  resources = [];
-  procedures = procedure (codes "x" ∷ []) 0 1 one_cell done ∷ [];
-}
-
--- a call of it with x
-abbrev pub calls_with : Call
-calls_with = record { callee = record { 0 = 0 }; place = place; references = []; values = own_one 0 ∷ [] }
-
--- a cell at s0, as a conjunct
-abbrev pub cell_at_x : Conjuncts Term
-cell_at_x = also (points place (Known (Sym 0)) []) none
-
--- fork: both preconditions are due, then what was taken is gone, and both postconditions are assumed
-unfoldable pub ForksLeaveFiveItems : Type 0
-ForksLeaveFiveItems =
-    row (plain one_procedure) (goal_at (state_with []) (run (fork place calls_with calls_with) ∷ end place ∷ []))
-    t.Fork
-    ≡ Some (goal_at (state_with [])
-    (take place (record { conjuncts = cell_at_x; bindings = [] }) []
-    ∷ take place (record { conjuncts = cell_at_x; bindings = [] }) []
-    ∷ gave place [] []
-    ∷ add place (record { conjuncts = cell_at_x; bindings = [] })
-    ∷ add place (record { conjuncts = cell_at_x; bindings = [] })
-    ∷ end place ∷ [])
-    ∷ [])
+-- then, else: x differs from nil, so by that test the first branch is left, and by an equality the second one; whether y
+-- is nil isn't decided
+unfoldable pub DecidedBranchesAreLeft : Type 0
+DecidedBranchesAreLeft = (d : Setting)
+    → Goes d (Differ (own_one 0) ENil) t.Then t.Else (run (assign place (at_own 0) ENil))
+    × Goes d (Equal (own_one 0) ENil) t.Else t.Then (run (assign place (at_own 1) ENil))
+    × (row d (before (two_variables []) (choice_by (Equal (own_one 1) ENil))) t.Then ≡ None)
+    × (row d (before (two_variables []) (choice_by (Equal (own_one 1) ENil))) t.Else ≡ None)

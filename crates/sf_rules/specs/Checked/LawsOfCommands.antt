@@ -21,7 +21,8 @@ use Rattle.sf_sym.specs.declared.term.Term.{Term}
 use Rattle.sf_sym.specs.Goal.{Item, run, Goal}
 use Rattle.sf_sym.specs.HoldsIn.{HoldsIn}
 use Rattle.sf_sym.specs.Checked.Laws.{Follows, HoldsStill, SomeOf}
-use Rattle.sf_sym.specs.Ready.{IsKnown, IsReady, value_at, with_variable}
+use Rattle.sf_sym.specs.Ready.{IsKnown, value_at, with_variable}
+use Rattle.sf_sym.specs.Shape.{HasShape}
 use Rattle.sf_sym.specs.State.{State}
 
 -- the goal with that command to do first
@@ -51,7 +52,7 @@ pub record FindsCell (e : Var → Option Value) (free : Heap) (root : Expr) (The
 unfoldable pub AssignFollowsEvent : Type 0
 AssignFollowsEvent =
     (s : State) (rest : List Item) (left : List Goal) (p : Place) (x : Occurrence) (value : Expr)
-    → IsReady (before_command s (assign p x value) rest) rest
+    → HasShape (before_command s (assign p x value) rest)
     → assign_row s (assign p x value) rest ≡ Some left
     → Executed (before_command s (assign p x value) rest) left
     (λ w e free taken child. IsKnown s.vars e value
@@ -63,7 +64,7 @@ unfoldable pub LookFollowsEvent : Type 0
 LookFollowsEvent =
     (s : State) (rest : List Item) (left : List Goal) (p : Place) (x : Occurrence) (root : Expr)
     (field : FieldId) (atom : ℕ)
-    → IsReady (before_command s (look_up p x root field) rest) rest
+    → HasShape (before_command s (look_up p x root field) rest)
     → look_row atom s (look_up p x root field) rest ≡ Some left
     → Executed (before_command s (look_up p x root field) rest) left
     (λ w e free taken child. IsKnown s.vars e root → FindsCell e free root
@@ -75,7 +76,7 @@ unfoldable pub MutateFollowsEvent : Type 0
 MutateFollowsEvent =
     (s : State) (rest : List Item) (left : List Goal) (p : Place) (root : Expr) (field : FieldId)
     (value : Expr) (atom : ℕ)
-    → IsReady (before_command s (mutate p root field value) rest) rest
+    → HasShape (before_command s (mutate p root field value) rest)
     → mutate_row atom s (mutate p root field value) rest ≡ Some left
     → Executed (before_command s (mutate p root field value) rest) left
     (λ w e free taken child. IsKnown s.vars e root → IsKnown s.vars e value → FindsCell e free root
@@ -86,9 +87,9 @@ MutateFollowsEvent =
 unfoldable pub NewFollowsEvent : Type 0
 NewFollowsEvent =
     (s : State) (rest : List Item) (left : List Goal) (p : Place) (x : Occurrence)
-    → IsReady (before_command s (new p x) rest) rest → new_row s (new p x) rest ≡ Some left
+    → HasShape (before_command s (new p x) rest) → new_row s (new p x) rest ≡ Some left
     → Executed (before_command s (new p x) rest) left
-    (λ w e free taken child. (location : ℕ) (cell : Cell) → free location ≡ None → taken location ≡ None
+    (λ w e free taken child. (location : ℕ) (cell : Cell) → free location ≡ None
     → HoldsStill w (before_command s (new p x) rest) (with_variable x.var (loc location) e)
     (heap_with location (Some cell) free) taken child)
 
@@ -96,7 +97,7 @@ NewFollowsEvent =
 unfoldable pub DisposeFollowsEvent : Type 0
 DisposeFollowsEvent =
     (s : State) (rest : List Item) (left : List Goal) (p : Place) (root : Expr) (atom : ℕ)
-    → IsReady (before_command s (dispose p root) rest) rest
+    → HasShape (before_command s (dispose p root) rest)
     → dispose_row atom s (dispose p root) rest ≡ Some left
     → Executed (before_command s (dispose p root) rest) left
     (λ w e free taken child. IsKnown s.vars e root → FindsCell e free root
@@ -113,7 +114,7 @@ IsTestKnown vars e (Differ x y) = IsKnown vars e x × IsKnown vars e y
 unfoldable pub ThenFollowsTest : Type 0
 ThenFollowsTest =
     (s : State) (rest : List Item) (left : List Goal) (p : Place) (test : Test Expr) (this that : Block)
-    → IsReady (before_command s (if p test this that) rest) rest
+    → HasShape (before_command s (if p test this that) rest)
     → then_row s (run (if p test this that) ∷ rest) ≡ Some left
     → Executed (before_command s (if p test this that) rest) left
     (λ w e free taken child. IsTestKnown s.vars e test
@@ -124,7 +125,7 @@ ThenFollowsTest =
 unfoldable pub ElseFollowsTest : Type 0
 ElseFollowsTest =
     (s : State) (rest : List Item) (left : List Goal) (p : Place) (test : Test Expr) (this that : Block)
-    → IsReady (before_command s (if p test this that) rest) rest
+    → HasShape (before_command s (if p test this that) rest)
     → else_row s (run (if p test this that) ∷ rest) ≡ Some left
     → Executed (before_command s (if p test this that) rest) left
     (λ w e free taken child. IsTestKnown s.vars e test

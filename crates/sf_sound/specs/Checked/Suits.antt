@@ -1,7 +1,7 @@
 -- Suits: how a goal and what there is to do suit a frame: it has the variables and tokens that they speak of, and the
--- goal has the form that every row keeps.
+-- goal has the shape that every row keeps.
 -- This project's own profile; the variable conditions are those of Berdine, Calcagno, O'Hearn, "Smallfoot" (2005).
-use Rattle.std.specs.Prelude.{◌≡◌, ◌↔◌, ◌⊎◌, ℕ, ◌+◌, ◌<◌, ◌==◌, nat_lt, Bool, true, false, ◌&&◌, ◌||◌, not, is_some, List, [], ◌∷◌, length, Some, Contains}
+use Rattle.std.specs.Prelude.{◌≡◌, ◌↔◌, ℕ, ◌+◌, ◌<◌, ◌==◌, nat_lt, Bool, true, false, ◌&&◌, ◌||◌, not, is_some, List, [], ◌∷◌, length, Some, Contains}
 use Rattle.std.specs.List.{AllByRecursion, slice_get}
 use Rattle.sf_base.specs.declared.ids.ProcId.{ProcId}
 use Rattle.sf_base.specs.declared.ids.ResId.{ResId}
@@ -28,13 +28,12 @@ use Rattle.sf_rules.specs.First.{links_of}
 use Rattle.sf_rules.specs.Words.{pending_assertion}
 use Rattle.sf_safe.specs.Checked.Local.{Fits, Local}
 use Rattle.sf_sound.specs.Checked.Claims.{Does}
-use Rattle.sf_sym.specs.Below.{AreBelow}
-use Rattle.sf_sym.specs.declared.atom.Numbered.{Numbered}
 use Rattle.sf_sym.specs.declared.term.Term.{Term}
-use Rattle.sf_sym.specs.Formed.{AreFormed, IsScoped, PendingFormed}
+use Rattle.sf_sym.specs.Formed.{IsScoped, PendingFormed}
 use Rattle.sf_sym.specs.Goal.{Item, run, add, take, gave, head, again, exit, return, end, Goal}
 use Rattle.sf_sym.specs.HoldsIn.{HoldsIn}
-use Rattle.sf_sym.specs.Ready.{AreInOrder, HasOrder, is_listed}
+use Rattle.sf_sym.specs.Ready.{is_listed}
+use Rattle.sf_sym.specs.Shape.{HasShape}
 
 -- Domain: the variables and tokens that a frame has
 pub record Domain : Type 0 where
@@ -174,58 +173,11 @@ TodoSuits d D (exit q r ∷ rest) =
 TodoSuits d D (return q post ∷ rest) = IsPlain d (λ x. D.has x ≡ true) post
 TodoSuits d D (end q ∷ rest) = Unit {0}
 
--- commands and the ends of regions, up to the end of a procedure or of a loop's body
-abbrev pub IsBody : List Item → Type 0
-IsBody [] = ⊥
-IsBody (run c ∷ rest) = IsBody rest
-IsBody (exit q r ∷ rest) = IsBody rest
-IsBody (again q invariant ∷ rest) = Unit {0}
-IsBody (return q post ∷ rest) = Unit {0}
-IsBody (add q given ∷ rest) = ⊥
-IsBody (take q want names ∷ rest) = ⊥
-IsBody (gave q set removed ∷ rest) = ⊥
-IsBody (head q test invariant body ∷ rest) = ⊥
-IsBody (end q ∷ rest) = ⊥
-
--- such things, after some that are assumed
-abbrev pub IsAssuming : List Item → Type 0
-IsAssuming [] = ⊥
-IsAssuming (add q given ∷ rest) = IsAssuming rest
-IsAssuming (run c ∷ rest) = IsBody rest
-IsAssuming (exit q r ∷ rest) = IsBody rest
-IsAssuming (again q invariant ∷ rest) = Unit {0}
-IsAssuming (return q post ∷ rest) = Unit {0}
-IsAssuming (take q want names ∷ rest) = ⊥
-IsAssuming (gave q set removed ∷ rest) = ⊥
-IsAssuming (head q test invariant body ∷ rest) = ⊥
-IsAssuming (end q ∷ rest) = ⊥
-
--- conjuncts to show, and then what that was for: a call, the end of a region, a loop, or the end of all
-abbrev pub IsShowing : List Item → Type 0
-IsShowing [] = ⊥
-IsShowing (take q want names ∷ rest) = IsShowing rest
-IsShowing (gave q set removed ∷ rest) = IsAssuming rest
-IsShowing (head q test invariant body ∷ rest) = IsBody rest
-IsShowing (end q ∷ rest) = Unit {0}
-IsShowing (run c ∷ rest) = ⊥
-IsShowing (add q given ∷ rest) = ⊥
-IsShowing (exit q r ∷ rest) = ⊥
-IsShowing (again q invariant ∷ rest) = ⊥
-IsShowing (return q post ∷ rest) = ⊥
-
--- nothing is handed over but while something is being shown
-abbrev pub HasForm : Goal → Type 0
-HasForm goal = (IsAssuming goal.todo × (goal.state.taken ≡ [])) ⊎ IsShowing goal.todo
-
 -- a goal suits a frame with these variables
 pub record Suits (d : Setting) (D : Domain) (goal : Goal) : Type 0 where
-  pub below : AreBelow goal
-  pub order : AreInOrder goal.state.vars
-  pub fields : AllByRecursion (λ (a : Numbered). HasOrder a.atom) goal.state.atoms
+  pub shape : HasShape goal
   pub links : goal.state.links ≡ links_of d.program
   pub listed : (x : Var) → D.has x ≡ true → is_listed goal.state.vars x ≡ true
-  pub formed : AreFormed goal
-  pub form : HasForm goal
   pub todo : TodoSuits d D goal.todo
 
 -- Claim: wherever the goal holds of a frame that it suits, the frame does what there is to do

@@ -13,6 +13,7 @@ use Rattle.sf_sym.specs.Formed.{AreFormed}
 use Rattle.sf_sym.specs.Goal.{Goal, Item}
 use Rattle.sf_sym.specs.Holds.{term_value, HoldsAt, Holds}
 use Rattle.sf_sym.specs.HoldsIn.{HoldsIn}
+use Rattle.sf_sym.specs.Shape.{HasShape}
 use Rattle.sf_sym.specs.Tests.{differs, allocated, is_absurd}
 
 -- the value is the location of a cell of the heap
@@ -124,7 +125,7 @@ Kept goal left = KeptWith goal left HoldsStill
 -- a row keeps what goals stand for, whatever is to do: what is to be assumed, to be shown and to be set, too
 abbrev pub KeepsGoals : (Goal → Option (List Goal)) → Type 0
 KeepsGoals row =
-    (goal : Goal) (left : List Goal) → AreBelow goal → row goal ≡ Some left → KeptWith goal left HoldsAsBefore
+    (goal : Goal) (left : List Goal) → HasShape goal → row goal ≡ Some left → KeptWith goal left HoldsAsBefore
 
 -- the values that variables are to get by their terms
 abbrev pub set_values : (ℕ → Value) → List (Var × Term) → List (Var × Value)

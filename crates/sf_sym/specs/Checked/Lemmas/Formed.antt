@@ -3,10 +3,11 @@
 -- of the scopes that it has.
 use Rattle.std.specs.List.{AllByRecursion, IsDistinct}
 use Rattle.std.specs.Option.{option_map}
-use Rattle.std.specs.Prelude.{◌⊎◌, length}
+use Rattle.std.specs.Prelude.{◌⊎◌, ◌≤◌, length}
 use Rattle.std.proofs.Common.{◌≡◌, ℕ, Bool, true, false, cond, List, [], ◌∷◌, Option, Some, None, map, refl, sym, ap, ◌∙◌, subst, inl, inr}
 use Rattle.std.proofs.lemmas.List.{length-map}
 use Rattle.sf_base.specs.declared.ids.FieldId.{FieldId}
+use Rattle.sf_base.specs.declared.limits.TheConstants.{FIELDS}
 use Rattle.sf_base.specs.declared.place.Place.{Place}
 use Rattle.sf_core.specs.Assertions.Occurs.{OccursIn, OccursInAll, OccursInFields, OccursInOne, OccursInTest}
 use Rattle.sf_core.specs.Assertions.Scopes.{overlap}
@@ -20,7 +21,7 @@ use Rattle.sf_core.specs.Program.Formed.{TestWithin, conjunct_scopes, conjuncts_
 use Rattle.sf_core.specs.Program.Syntax.{Conjunct, holds, points, segment, tree, choose, Level, level, Conjuncts, none, also, Block, done, then}
 use Rattle.sf_sym.specs.declared.term.Term.{Term}
 use Rattle.sf_sym.specs.Equalities.{assumed_equal, item_with, pending_with, put_for, which_goes, with_one}
-use Rattle.sf_sym.specs.Formed.{AllFormed, AreFormed, IsCounted, IsScoped, ItemFormed, LevelFormed, OneFormed, PendingFormed}
+use Rattle.sf_sym.specs.Formed.{AllFormed, AreFormed, IsCounted, IsScoped, ItemFormed, LevelFormed, OneFormed, PendingFormed, are_some}
 use Rattle.sf_sym.specs.Goal.{Item, run, add, take, gave, head, again, exit, return, end, Goal, adding, taking, to_run, unless_none}
 use Rattle.sf_sym.specs.Checked.Lemmas.OtherTerms.{bindings-made}
 use Rattle.sf_sym.specs.Mapped.{operand_with, test_with, level_with, conjuncts_with, conjunct_with}
@@ -126,7 +127,11 @@ module _ (to : Term → Term) (links : Links) where
     formed-with_one : (count : ℕ) (c : Conjunct Term) → OneFormed links count c
         → OneFormed links count (conjunct_with to c)
     formed-with_one count (holds p t) f = formed-with_test count t f
-    formed-with_one count (points p x fs) f = (formed-with_operand count x f.0, formed-with_fields count fs f.1)
+    formed-with_one count (points p x fs) f = (
+      formed-with_operand count x f.0,
+      formed-with_fields count fs f.1,
+      subst (λ n. n ≤ FIELDS) (sym (length-map fs (λ (g : FieldId × Operand Term). (g.0, operand_with to g.1)))) f.2,
+    )
     formed-with_one count (segment p next x y) f =
         (f.0, formed-with_operand count x f.1, formed-with_operand count y f.2)
     formed-with_one count (tree p left right x) f = (f.0, f.1, formed-with_operand count x f.2)
@@ -149,9 +154,13 @@ module _ (to : Term → Term) (links : Links) where
         bound = λ n t e. let (u, i, j) = bindings-made to p.bindings n t e in made n ∙ s.bound n u i;
       }
 
+  some-with : (cs : Conjuncts Term) → are_some cs ≡ true → are_some (conjuncts_with to cs) ≡ true
+  some-with none e = e
+  some-with (also c cs) e = refl
+
   formed-with_item : (item : Item) → ItemFormed links item → ItemFormed links (item_with to item)
   formed-with_item (run c) f = tt
-  formed-with_item (add p given) f = (formed-with_pending given f.0, scoped-with given f.1)
+  formed-with_item (add p given) f = (formed-with_pending given f.0, scoped-with given f.1, some-with given.conjuncts f.2)
   formed-with_item (take p want names) f = formed-with_pending want f
   formed-with_item (gave p set removed) f = tt
   formed-with_item (head p test invariant body) f = tt
@@ -187,11 +196,12 @@ module _ (links : Links) where
   -- to assume conjuncts, if there are any
   pub formed-adding : (p : Place) (given : Pending) → PendingFormed links given → IsScoped given
       → AllByRecursion (ItemFormed links) (adding p given)
-  formed-adding p given f s = go given.conjuncts
+  formed-adding p given f s = go given.conjuncts refl
     where
-      go : (cs : Conjuncts Term) → AllByRecursion (ItemFormed links) (unless_none cs (add p given))
-      go none = tt
-      go (also c cs) = ((f, s), tt)
+      go : (cs : Conjuncts Term) → given.conjuncts ≡ cs
+          → AllByRecursion (ItemFormed links) (unless_none cs (add p given))
+      go none e = tt
+      go (also c cs) e = ((f, s, ap are_some e), tt)
 
   -- to show conjuncts, if there are any
   pub formed-taking : (p : Place) (want : Pending) (names : List (List ℕ)) → PendingFormed links want

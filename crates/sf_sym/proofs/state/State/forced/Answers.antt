@@ -1,17 +1,11 @@
-use Rattle.std.proofs.Common.{sym, ap, ◌∙◌}
-use Rattle.std.specs.BTreeSet.{contains}
-use Rattle.std.specs.Ordering.{nat_cmp}
-use Rattle.sf_sym.specs.Checked.OwnRoots.{first_at_constant}
-use Rattle.sf_sym.proofs.OwnRoots.{own_cells_forced, own_forced}
+use Rattle.std.proofs.Common.{is_some, sym, subst}
+use Rattle.std.specs.Option.{option_map}
+use Rattle.sf_sym.specs.Known.{IsLowest, forced_ends}
+use Rattle.sf_sym.proofs.Lowest.{forced-lowest}
 use Rattle.sf_sym.proofs.state.State.forced.Goals as goal
 
-pub returns-then-have_own_roots : goal.returns-then-have_own_roots
-returns-then-have_own_roots c =
-    c.first_at_constant.ensures ∙ ap first_at_constant c.atoms.ensures
-    ∙ sym (own_forced c.args.self.now c.if-have_own_roots.ensures)
-
-pub returns-in-Some : goal.returns-in-Some
-returns-in-Some c =
-    c.first_unsettled.ensures
-    ∙ sym (own_cells_forced c.args.self.now (contains nat_cmp c.in-Some.cells) c.in-Some.ensures.symbols
-    c.in-Some.ensures.own)
+pub returns-clause-lowest : goal.returns-clause-lowest
+returns-clause-lowest c =
+    let s = c.args.self.now in
+    subst (λ r. IsLowest (λ a. is_some (forced_ends s a.number a.atom)) s.atoms (option_map (λ f. f.0) r))
+    (sym c.first_forced.ensures) (forced-lowest s s.atoms c.is_numbered.ensures.rising)

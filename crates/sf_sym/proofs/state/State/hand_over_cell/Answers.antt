@@ -11,7 +11,7 @@ invariant_of-self-2 c =
     let inside = c.self.inside in
     let there : is_some (atom_at inside.atoms c.args.a) ≡ true =
     cell_is_atom c.args.a inside.atoms c.args.root
-    (subst (λ s. is_some (cell_at s.atoms c.args.a c.args.root) ≡ true) (sym c.self.view_is) c.requires) in
+    (subst (λ s. is_some (cell_at s.atoms c.args.a c.args.root) ≡ true) (sym c.self.view_is) c.requires.there) in
     let x : Numbered = record { number = c.args.a; atom = Points c.args.root c.args.fields } in
     let taken : c.push_reserved.new.self.items ≡ inside.taken.items ++ x ∷ [] = search rules in
     subst (λ ys. AreNumbered (numbers c.take_out.new.self) (numbers ys) inside.next_atom) (sym taken)

@@ -1,0 +1,9 @@
+use Rattle.std.proofs.Common.{sym, subst}
+use Rattle.sf_sym.specs.Known.{IsLowest, is_nothing}
+use Rattle.sf_sym.proofs.Lowest.{nothing-lowest}
+use Rattle.sf_sym.proofs.state.State.droppable.Goals as goal
+
+pub returns-clause-lowest : goal.returns-clause-lowest
+returns-clause-lowest c =
+    subst (IsLowest (λ a. is_nothing a.atom) c.args.self.now.atoms) (sym c.first_nothing.ensures)
+    (nothing-lowest c.args.self.now.atoms c.is_numbered.ensures.rising)
