@@ -4,13 +4,14 @@ ghost use Rattle.std.specs.Prelude.{◌≡◌, ◌∷◌, ◌⊎◌, [], IfErr, 
 ghost use Rattle.std.specs.List.{slice_get};
 ghost use Rattle.sf_rules.specs.Proving.{Proves};
 ghost use Rattle.sf_check.specs.Accepted.{arranged_in, tags_in};
-ghost use Rattle.sf_check.specs.Checked.Stands.{open_goals, stand_of};
+ghost use Rattle.sf_check.specs.Checked.Stands.{stand_of};
 ghost use Rattle.sf_check.specs.declared.refusal.CheckFault.TheVariants.{OutOfMemory, Refused as IsRefused};
 ghost use Rattle.sf_check.specs.declared.refusal.Refusal.{Refusal as RefusalOf};
 ghost use Rattle.sf_check.specs.Proven.{Proven};
 ghost use Rattle.sf_check.specs.Refusal.{IfRefused, Refused};
 ghost use Rattle.sf_check.specs.Stand.{begin, is_finished, taken, taken_at};
 ghost use Rattle.sf_precise.specs.Order.{IsOrdering};
+ghost use Rattle.sf_rules.specs.Checked.Children.{stack_of};
 ghost use Rattle.sf_rules.specs.Setting.{Setting, setting_of};
 ghost use Rattle.sf_sym.specs.Goal.{goal_of};
 
@@ -19,7 +20,7 @@ use crate::proof::Proof;
 use crate::refusal::{CheckFault, Refusal};
 use sf_base::ProcId;
 use sf_precise::Arranged;
-use sf_rules::{Children, RuleFault, apply_row, first_goal};
+use sf_rules::{RuleFault, apply_row, first_goal, push_children};
 use sf_sym::{Goal, Tag};
 use std::alloc::{AllocError, Global};
 
@@ -65,9 +66,9 @@ impl<'a> Stand<'a> {
         Ok(true)
     }
 
-    /// Puts the children of a goal before the other goals. `false` exactly where the tag has no row
-    /// at the goal; an `Err` means out of memory.
-    fn put_children(
+    /// Takes the tag at a goal: its children come before the other goals. `false` exactly where the
+    /// tag has no row there; an `Err` means out of memory.
+    fn take_at(
         &mut self,
         alloc: Global,
         arranged: &'a Arranged,
@@ -78,20 +79,17 @@ impl<'a> Stand<'a> {
         requires ordered { IsOrdering d.ordered }
         requires setting { d ≡ setting_of d.ordered arranged.now }
         ensures { IfOk result (λ is_taken.
-            taken_at d self.old.begun (goal_of goal.entry ∷ open_goals self.old.goals.items) tag
+            taken_at d self.old.begun (goal_of goal.entry ∷ stack_of self.old.goals.items) tag
             ≡ cond is_taken (Some (stand_of self.new)) None) }
     {
         match apply_row(alloc, arranged, goal, tag) {
-            Ok(Children::None) => {}
-            Ok(Children::One(child)) => self.goals.push(child)?,
-            Ok(Children::Two(first, second)) => {
-                self.goals.push(second)?;
-                self.goals.push(first)?;
+            Ok(children) => {
+                push_children(&mut self.goals, children)?;
+                Ok(true)
             }
-            Err(RuleFault::NotARule) => return Ok(false),
-            Err(RuleFault::OutOfMemory) => return Err(AllocError),
+            Err(RuleFault::NotARule) => Ok(false),
+            Err(RuleFault::OutOfMemory) => Err(AllocError),
         }
-        Ok(true)
     }
 
     /// Takes the next tag. `false` exactly where it can't be taken; an `Err` means out of memory.
@@ -103,7 +101,7 @@ impl<'a> Stand<'a> {
             ≡ cond is_taken (Some (stand_of self.new)) None) }
     {
         match self.goals.pop() {
-            Some(goal) => self.put_children(alloc, arranged, goal, tag),
+            Some(goal) => self.take_at(alloc, arranged, goal, tag),
             None => self.begin(alloc, arranged, tag),
         }
     }
@@ -178,6 +176,7 @@ impl<'a> Proof<'a> {
     pub fn proves(&self)
         ensures { Proven (arranged_in self.now) (tags_in self.now) }
     {
+        let _kept = &self.tags;
         proven_from_truncation();
     }
 }

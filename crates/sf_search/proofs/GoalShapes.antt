@@ -1,10 +1,10 @@
 -- Each goal of a program's procedure is shaped, and so has the shape for which the strategy's tags have rows, as long as
--- a search goes; so no search ends at a tag without a row.
+-- a search goes.
 -- Names: `formed-LAW` of a program that is set up; the laws have the names of the functions whose contracts they are.
 use Rattle.std.specs.List.{AllByRecursion, Contains, slice_get}
 use Rattle.std.proofs.Common.{◌≡◌, ℕ, zero, suc, ◌+◌, ◌-◌, ◌^◌, ◌<◌, ◌≤◌, ◌&&◌, true, Some, List, [], ◌∷◌, ◌++◌, length, refl, sym, ap₂, subst, inl, inr, arith}
 use Rattle.std.proofs.lemmas.Bool.{le-leb}
-use Rattle.sf_base.proofs.Elements.{all_by-append, contains-cons, contains-nil}
+use Rattle.sf_base.proofs.Elements.{contains-cons, contains-nil}
 use Rattle.sf_base.specs.declared.ids.ProcId.{ProcId}
 use Rattle.sf_base.specs.declared.limits.TheConstants.{FIELDS}
 use Rattle.sf_calls.specs.Checked.Laws.{ChangesAreAssigned, ConditionsFromTruncation, FirstBreachIsBroken, HeldResourcesAreThere}
@@ -26,19 +26,14 @@ use Rattle.sf_rules.specs.Setting.{Setting, setting_of}
 use Rattle.sf_search.proofs.FirstShapes.{first-shaped, first-symbols}
 use Rattle.sf_search.proofs.FormedAnnotations.{annotation-fits, level-fits_of}
 use Rattle.sf_search.proofs.FormedBodies.{ForksApart, block-fits}
-use Rattle.sf_search.proofs.Rowless.{goals_without_row_lack_shape}
 use Rattle.sf_search.proofs.ShapedAdds.{few-existentials, few-one}
 use Rattle.sf_search.proofs.ShapedGoals.{AllKeep, Keeps}
 use Rattle.sf_search.proofs.ShapedRows.{ProgramFits, rows-keep}
-use Rattle.sf_search.specs.Judge.{Continues, JudgeFrom, Outcome, Search, Verdict, fails, large, no_row, proof, proved, stuck, with_prefix, without_row}
-use Rattle.sf_search.specs.Checked.Laws.{GoalsWithoutRowLackShape, LeadsTo}
 use Rattle.sf_search.specs.Shape.{CommandFits, FrontFits, HasLinks, HasShape}
 use Rattle.sf_search.specs.Shaped.{AnnotationFits, BlockFits, ConjunctsFit, IsGoalAfter, IsShaped, LevelFits, TodoFits, WholeFits}
-use Rattle.sf_search.specs.Checked.ShapeLaws.{ArrangedHasRows, ArrangedIsSetUp, GoalsAreShaped, GoalsHaveShape, IsGrown, IsSetUp, SearchesHaveRows, VerdictsHaveRows}
+use Rattle.sf_search.specs.Checked.ShapeLaws.{ArrangedIsSetUp, GoalsAreShaped, GoalsHaveShape, IsGrown, IsSetUp}
 use Rattle.sf_sym.specs.declared.atom.Numbered.{Numbered}
 use Rattle.sf_sym.specs.Goal.{Item, run, add, take, gave, head, again, exit, return, end, Goal}
-use Rattle.sf_sym.specs.declared.tag.Tag.{Tag}
-use Rattle.sf_sym.specs.declared.tag.Tag.TheVariants as t
 use Rattle.sf_sym.specs.declared.term.Term.{Term}
 use Rattle.sf_sym.specs.State.{State}
 
@@ -185,87 +180,6 @@ goals_have_shape laws d up f g there tags goal after within =
     (ap₂ ◌&&◌ (le-leb goal.state.next_sym (2 ^ 32 - TOO_MANY) (omega (arith, k.symbols, first, within)))
     (le-leb goal.state.next_atom (2 ^ 32 - TOO_MANY) (omega (arith, k.atoms, within))))
 
--- SEARCHES
-module _ (d : Setting) (first : Goal) where
-  -- it comes after so many tags at most
-  abbrev AfterAtMost : ℕ → Goal → Type 0
-  AfterAtMost most goal = (tags : ℕ) × (tags ≤ most) × IsGoalAfter d first tags goal
-
-  more : (m n : ℕ) (gs : List Goal) → m ≤ n → AllByRecursion (AfterAtMost m) gs → AllByRecursion (AfterAtMost n) gs
-  more m n [] l a = tt
-  more m n (g ∷ gs) l a = ((a.0.0, omega (arith, a.0.1, l), a.0.2), more m n gs l a.1)
-
-  -- what a row leaves comes one tag later
-  left-after : (m : ℕ) (g : Goal) (tag : Tag) (left : List Goal) → AfterAtMost m g → row d g tag ≡ Some left
-      → AllByRecursion (AfterAtMost (m + 1)) left
-  left-after m g tag left a r = each left (λ x c. c)
-    where
-      each : (xs : List Goal) → ((x : Goal) → Contains xs x → Contains left x)
-          → AllByRecursion (AfterAtMost (m + 1)) xs
-      each [] among = tt
-      each (x ∷ xs) among = (
-        (suc a.0, omega (arith, a.1), (g, a.2, tag, left, r, among x ((contains-cons x xs x).1 (inl refl)))),
-        each xs (λ y c. among y ((contains-cons x xs y).1 (inr c))),
-      )
-
-  leads-after : (m : ℕ) (gs : List Goal) (tags : List Tag) (hs : List Goal) → AllByRecursion (AfterAtMost m) gs
-      → LeadsTo d gs tags hs → AllByRecursion (AfterAtMost (m + length tags)) hs
-  leads-after m gs [] hs a e = subst (AllByRecursion (AfterAtMost (m + 0))) e (more m (m + 0) gs (omega arith) a)
-  leads-after m [] (tag ∷ tags) hs a e = absurd e
-  leads-after m (g ∷ gs) (tag ∷ tags) hs a (chosen, left, r, rest) =
-      more (m + 1 + length tags) (m + length (tag ∷ tags)) hs (omega arith)
-      (leads-after (m + 1) (left ++ gs) tags hs
-      (all_by-append (AfterAtMost (m + 1)) left gs (left-after m g tag left a.0 r)
-      (more m (m + 1) gs (omega arith) a.1)) rest)
-
-pub searches_have_rows : LawsBelow → SearchesHaveRows
-unfolding SearchesHaveRows GoalsHaveShape GoalsWithoutRowLackShape
-searches_have_rows laws d up f g there tags search =
-    let first = first_goal d f g in
-    let r = goals_without_row_lack_shape d first tags search in
-    let all = leads-after d first 0 (first ∷ []) tags (r.0 ∷ r.1) ((0, omega arith, refl), tt) r.2 in
-    r.3 (goals_have_shape laws d up f g there all.0.0 r.0 all.0.2 (omega (arith, all.0.1, search.within)))
-
--- VERDICTS
-module _ (d : Setting) (searched : (h : ProcId) (g : Procedure) → slice_get d.program.procedures h.0 ≡ Some g
-    → (tags : List Tag) → Search d (first_goal d h g) tags no_row → ⊥) (f : ProcId) where
-  judged : (xs : List Procedure) (spent from : ℕ)
-      → ((i : ℕ) (x : Procedure) → slice_get xs i ≡ Some x → slice_get d.program.procedures (from + i) ≡ Some x)
-      → JudgeFrom d spent from xs (fails f without_row) → ⊥
-  judged [] spent from are e = absurd (cc)
-  judged (x ∷ xs) spent from are (tags, outcome, search, inr over) = absurd (let e = over.1 in cc)
-  judged (x ∷ xs) spent from are (tags, outcome, search, inl within) =
-      ends (λ j. judged xs (spent + length tags) (suc from) later j) outcome search within.1
-    where
-      here : slice_get d.program.procedures from ≡ Some x
-      here = subst (λ k. slice_get d.program.procedures k ≡ Some x) (let e : from + 0 ≡ from = omega arith in e)
-          (are 0 x refl)
-
-      later : (i : ℕ) (y : Procedure) → slice_get xs i ≡ Some y
-          → slice_get d.program.procedures (suc from + i) ≡ Some y
-      later i y e = subst (λ k. slice_get d.program.procedures k ≡ Some y)
-          (let e : from + suc i ≡ suc from + i = omega arith in e) (are (suc i) y e)
-
-      others : (JudgeFrom d (spent + length tags) (suc from) xs (fails f without_row) → ⊥) → (w : Verdict)
-          → JudgeFrom d (spent + length tags) (suc from) xs w
-          → fails f without_row ≡ with_prefix (t.Procedure (record { 0 = from }) ∷ tags) w → ⊥
-      others rest (proof ts) j e = absurd (cc)
-      others rest (fails h why) j e = rest (subst (JudgeFrom d (spent + length tags) (suc from) xs) (sym e) j)
-
-      ends : (JudgeFrom d (spent + length tags) (suc from) xs (fails f without_row) → ⊥) → (outcome : Outcome)
-          → Search d (first_goal d (record { 0 = from }) x) tags outcome
-          → Continues (JudgeFrom d (spent + length tags) (suc from) xs) from tags outcome (fails f without_row) → ⊥
-      ends rest proved s (w, j, e) = others rest w j e
-      ends rest (stuck h kind) s e = absurd (cc)
-      ends rest large s e = absurd (cc)
-      ends rest no_row s e = searched (record { 0 = from }) x here tags s
-
-pub verdicts_have_rows : LawsBelow → VerdictsHaveRows
-unfolding VerdictsHaveRows SearchesHaveRows
-verdicts_have_rows laws d up f j =
-    judged d (λ h g there tags s. searches_have_rows laws d up h g there tags s) f d.program.procedures 0 0
-    (λ i x e. subst (λ k. slice_get d.program.procedures k ≡ Some x) (let z : i ≡ 0 + i = omega arith in z) e) j
-
 -- WHAT THE CODE HAS ARRANGED
 pub arranged_is_set_up : ConditionsFromTruncation → ArrangedHasSetting → ArrangedIsSetUp
 unfolding ArrangedIsSetUp ArrangedHasSetting
@@ -274,13 +188,3 @@ arranged_is_set_up kept has in_order a ordering = record {
   conditions = kept (program_of a.program) a.conditions;
   setting = has in_order a ordering;
 }
-
-pub arranged_has_rows : LawsBelow → ArrangedIsSetUp → ArrangedHasRows
-unfolding ArrangedHasRows ArrangedIsSetUp SearchesHaveRows VerdictsHaveRows
-arranged_has_rows laws is in_order a ordering =
-    let up = is in_order a ordering in
-    record {
-      searches = λ f g before there e.
-          searches_have_rows laws (setting_of in_order a) up f g there e.0 e.2;
-      verdicts = λ f before e. verdicts_have_rows laws (setting_of in_order a) up f e;
-    }

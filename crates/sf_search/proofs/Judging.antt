@@ -9,12 +9,11 @@ use Rattle.sf_core.specs.Program.View.{procedure_of}
 use Rattle.sf_precise.specs.declared.arranged.Arranged.{Arranged}
 use Rattle.sf_rules.specs.Setting.{Setting, setting_of}
 use Rattle.sf_search.specs.declared.verdicts.SearchFault.{SearchFault}
-use Rattle.sf_search.specs.declared.verdicts.SearchFault.TheVariants.{Stuck, TooLarge, NoRow, OutOfMemory}
-use Rattle.sf_search.specs.Checked.Choosing.{kind_of}
+use Rattle.sf_search.specs.declared.verdicts.SearchFault.TheVariants.{Stuck, TooLarge, OutOfMemory}
 use Rattle.sf_search.specs.Strategy.{Kind}
-use Rattle.sf_search.specs.Ends.{EndsAs, FailsAs, FailsFor, cause_of, failure}
+use Rattle.sf_search.specs.Ends.{EndsAs, FailsAs, FailsFor, cause_of, failure, kind_of}
 use Rattle.sf_rules.specs.First.{first_goal}
-use Rattle.sf_search.specs.Judge.{Judge, JudgedAfter, JudgeFrom, Outcome, Search, Verdict, fails, large, no_row, proof, proved, stuck, stuck_at, too_large, with_prefix, without_row}
+use Rattle.sf_search.specs.Judge.{Judge, JudgedAfter, JudgeFrom, Outcome, Search, Verdict, fails, large, proof, proved, stuck, stuck_at, too_large, with_prefix}
 use Rattle.sf_sym.specs.declared.tag.Tag.{Tag}
 use Rattle.sf_sym.specs.declared.tag.Tag.TheVariants as t
 use Rattle.sf_sym.specs.Goal.{Goal, goal_of}
@@ -65,10 +64,6 @@ module _ (d : Setting) (spent k : ℕ) (tags : List Tag) (x : Procedure)
     judged_stuck found g kind s l =
         judged-by found (stuck g kind) (fails (record { 0 = k }) (stuck_at g kind (length found))) s (inl (l, refl))
 
-    pub judged_no_row : (found : List Tag) → Search d (first_goal d (record { 0 = k }) x) found no_row
-        → spent + length found ≤ FILE_TAGS → Judge d (fails (record { 0 = k }) without_row)
-    judged_no_row found s l = judged-by found no_row (fails (record { 0 = k }) without_row) s (inl (l, refl))
-
     -- whatever was spent
     pub judged_large : (found : List Tag) → Search d (first_goal d (record { 0 = k }) x) found large
         → Judge d (fails (record { 0 = k }) too_large)
@@ -92,13 +87,6 @@ module _ (d : Setting) (spent k : ℕ) (tags : List Tag) (x : Procedure)
             (judged_stuck w.0 (goal_of goal) (kind_of kind) w.2
             (omega (arith, ltb-false (FILE_TAGS - spent) before i, w.1, l)))
     judged_fault TooLarge l w = judged_large w.0 w.1
-    judged_fault (NoRow before) l w = go (nat_lt (FILE_TAGS - spent) before) refl
-      where
-        go : (b : Bool) → nat_lt (FILE_TAGS - spent) before ≡ b
-            → FailsFor d (record { 0 = k }) (cause_of (cond b TooLarge (NoRow before)))
-        go true i =
-            judged_over w.0 no_row w.2 (omega (arith, ltb-true (FILE_TAGS - spent) before i, w.1, l))
-        go false i = judged_no_row w.0 w.2 (omega (arith, ltb-false (FILE_TAGS - spent) before i, w.1, l))
     judged_fault OutOfMemory l w = tt
 
 -- with no procedure left

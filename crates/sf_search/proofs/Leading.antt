@@ -8,11 +8,7 @@ use Rattle.sf_rules.specs.Checked.Children.{stack_of}
 use Rattle.sf_rules.specs.Rows.Whole.{row}
 use Rattle.sf_rules.specs.Setting.{Setting}
 use Rattle.sf_search.specs.Strategy.{chooses, takes}
-use Rattle.sf_base.specs.declared.limits.TheConstants.{PROCEDURE_TAGS}
-use Rattle.sf_search.specs.declared.verdicts.SearchFault.{SearchFault}
-use Rattle.sf_search.specs.declared.verdicts.SearchFault.TheVariants.{Stuck, TooLarge, NoRow, OutOfMemory}
-use Rattle.sf_search.specs.Ends.{EndsAs, FollowsAs}
-use Rattle.sf_search.specs.Judge.{Chosen, Outcome, no_row}
+use Rattle.sf_search.specs.Judge.{Chosen, Outcome}
 use Rattle.sf_sym.specs.declared.tag.Tag.{Tag}
 use Rattle.sf_sym.specs.declared.goal.Goal.{Goal as CodeGoal}
 use Rattle.sf_sym.specs.Goal.{Goal, goal_of}
@@ -40,19 +36,6 @@ stack_push xs g = ap (map goal_of) (reverse-append xs (g ∷ []))
 pub no_goals : (xs : List CodeGoal) → length xs ≡ 0 → stack_of xs ≡ []
 no_goals [] e = refl
 no_goals (x ∷ xs) e = absurd (omega (arith, e))
-
--- where a tag leads no further the search ends so
-pub leads_fault : (d : Setting) (first g : Goal) (gs : List Goal) (tags : List Tag) (tag : Tag) (e : SearchFault)
-    → Leads d (first ∷ []) (g ∷ gs) tags → chooses g ≡ takes tag → length tags < PROCEDURE_TAGS
-    → FollowsAs d g tag (length tags) e → EndsAs d first e
-leads_fault d first g gs tags tag (Stuck h kind before) l c w f = absurd f
-leads_fault d first g gs tags tag TooLarge l c w f = absurd f
-leads_fault d first g gs tags tag (NoRow before) l c w f = (
-  tags,
-  sym f.0,
-  record { chosen = leads_end d (first ∷ []) (g ∷ gs) tags no_row l (tag, c, f.1); within = w },
-)
-leads_fault d first g gs tags tag OutOfMemory l c w f = tt
 
 -- what is so of a thing that may be there
 pub some_weaker : {X : Type 0} (P Q : X → Type 0) (o : Option X) → ((x : X) → P x → Q x) → IfSome o P → IfSome o Q

@@ -2,11 +2,11 @@ pub mod Lowest
 pub mod Views
 pub mod Trees
 pub mod Once
-pub mod Ending
 pub mod Found
 pub mod Rows
 pub mod Taken
-pub mod Rowless
+pub mod Reached
+pub mod Ending
 pub mod Settled
 pub mod Fewer
 pub mod Grown

@@ -1,13 +1,13 @@
 -- A search has one end, and a program one verdict.
 -- Names: `chosen-LAW` of tags that are taken, `judge-LAW` of verdicts.
-use Rattle.std.proofs.Common.{◌≡◌, ℕ, suc, ◌+◌, ◌≤◌, ◌<◌, inl, inr, Some, None, List, [], ◌∷◌, ◌++◌, length, refl, sym, ap, ap₂, ◌∙◌, subst, arith}
+use Rattle.std.proofs.Common.{◌≡◌, ℕ, suc, ◌+◌, ◌≤◌, ◌<◌, inl, inr, Some, List, [], ◌∷◌, ◌++◌, length, refl, sym, ap, ap₂, ◌∙◌, subst, arith}
 use Rattle.sf_base.specs.declared.limits.TheConstants.{PROCEDURE_TAGS}
 use Rattle.sf_core.specs.Program.Syntax.{Procedure}
 use Rattle.sf_rules.specs.Rows.Whole.{row}
 use Rattle.sf_rules.specs.Setting.{Setting}
 use Rattle.sf_search.specs.Strategy.{Kind, chooses, stays, takes}
 use Rattle.sf_rules.specs.First.{first_goal}
-use Rattle.sf_search.specs.Judge.{Chosen, Continues, JudgedAfter, JudgeFrom, Outcome, Search, Verdict, WithinLimit, large, no_row, proved, stuck, with_prefix}
+use Rattle.sf_search.specs.Judge.{Chosen, Continues, JudgedAfter, JudgeFrom, Outcome, Search, Verdict, WithinLimit, large, proved, stuck, with_prefix}
 use Rattle.sf_search.specs.Checked.Laws.{SearchIsUnique, VerdictsAreUnique}
 use Rattle.sf_sym.specs.declared.tag.Tag.{Tag}
 use Rattle.sf_sym.specs.declared.tag.Tag.TheVariants.{Procedure as Begin}
@@ -19,33 +19,26 @@ module _ (d : Setting) where
   chosen-nothing [] proved c = (refl, refl)
   chosen-nothing [] (stuck g kind) c = absurd c
   chosen-nothing [] large c = absurd c
-  chosen-nothing [] no_row c = absurd c
   chosen-nothing (t ∷ ts) o c = absurd c
 
-  -- with a goal and no tag the strategy is stuck there, would take one more, or one without a row
+  -- with a goal and no tag the strategy is stuck there, or would take one more
   data Stops (g : Goal) (o : Outcome) : Type 0 where
     stays_there : (kind : Kind) → chooses g ≡ stays kind → o ≡ stuck g kind → Stops g o
     would_take : (tag : Tag) → chooses g ≡ takes tag → o ≡ large → Stops g o
-    has_none : (tag : Tag) → chooses g ≡ takes tag → row d g tag ≡ None → o ≡ no_row → Stops g o
 
   chosen-stops : (g : Goal) (gs : List Goal) (o : Outcome) → Chosen d (g ∷ gs) [] o → Stops g o
   chosen-stops g gs proved c = absurd c
   chosen-stops g gs (stuck h kind) c = stays_there kind c.1 (ap (λ z. stuck z kind) c.0)
   chosen-stops g gs large c = would_take c.0 c.1 refl
-  chosen-stops g gs no_row c = has_none c.0 c.1 c.2 refl
 
-  -- no search has more than the limit, one that is too large has just that, and one without a row fewer
+  -- no search has more than the limit, and one that is too large has just that
   within-limit : (o : Outcome) (n : ℕ) → WithinLimit o n → n ≤ PROCEDURE_TAGS
   within-limit proved n l = l
   within-limit (stuck g kind) n l = l
   within-limit large n l = omega (arith, l)
-  within-limit no_row n l = omega (arith, l)
 
   large-limit : (o : Outcome) (n : ℕ) → o ≡ large → WithinLimit o n → n ≡ PROCEDURE_TAGS
   large-limit o n e l = let m : WithinLimit large n = subst (λ z. WithinLimit z n) e l in m
-
-  row-limit : (o : Outcome) (n : ℕ) → o ≡ no_row → WithinLimit o n → n < PROCEDURE_TAGS
-  row-limit o n e l = let m : WithinLimit no_row n = subst (λ z. WithinLimit z n) e l in m
 
   not-both : (g : Goal) (tag : Tag) (kind : Kind) → chooses g ≡ takes tag → chooses g ≡ stays kind → ⊥
   not-both g tag kind a b = let e : takes tag ≡ stays kind = sym a ∙ b in absurd (cc)
@@ -56,15 +49,8 @@ module _ (d : Setting) where
       let kinds : k ≡ j = cc in
       e ∙ ap (λ z. stuck g z) kinds ∙ sym f
   stops-once n g o q (stays_there k a e) (would_take t b f) l m = absurd (not-both g t k b a)
-  stops-once n g o q (stays_there k a e) (has_none t b r f) l m = absurd (not-both g t k b a)
   stops-once n g o q (would_take t a e) (stays_there k b f) l m = absurd (not-both g t k a b)
   stops-once n g o q (would_take t a e) (would_take u b f) l m = e ∙ sym f
-  stops-once n g o q (would_take t a e) (has_none u b r f) l m =
-      absurd (omega (arith, large-limit o n e l, row-limit q n f m))
-  stops-once n g o q (has_none t a r e) (stays_there k b f) l m = absurd (not-both g t k a b)
-  stops-once n g o q (has_none t a r e) (would_take u b f) l m =
-      absurd (omega (arith, large-limit q n f m, row-limit o n e l))
-  stops-once n g o q (has_none t a r e) (has_none u b s f) l m = e ∙ sym f
 
   same-tag : (g : Goal) (t u : Tag) → chooses g ≡ takes t → chooses g ≡ takes u → t ≡ u
   same-tag g t u a b = let e : takes t ≡ takes u = sym a ∙ b in cc
@@ -76,9 +62,6 @@ module _ (d : Setting) where
   stops-there n g u us left o q (stays_there k a e) c r l m = not-both g u k c a
   stops-there n g u us left o q (would_take t a e) c r l m =
       omega (arith, large-limit o (n + 0) e l, within-limit q (n + suc (length us)) m)
-  stops-there n g u us left o q (has_none t a none e) c r l m =
-      let same : row d g t ≡ row d g u = ap (row d g) (same-tag g t u a c) in
-      let both : None ≡ Some left = sym none ∙ same ∙ r in absurd (cc)
 
   -- tags that the strategy takes from the same goals are the same, where as many were taken before
   chosen-once : (n : ℕ) (gs : List Goal) (ts us : List Tag) (o q : Outcome) → Chosen d gs ts o → Chosen d gs us q
@@ -117,7 +100,6 @@ continues-once others f tags proved v w one a b =
     a.2 ∙ ap (with_prefix (Begin (record { 0 = f }) ∷ tags)) (one a.0 b.0 a.1 b.1) ∙ sym b.2
 continues-once others f tags (stuck g kind) v w one a b = a ∙ sym b
 continues-once others f tags large v w one a b = a ∙ sym b
-continues-once others f tags no_row v w one a b = a ∙ sym b
 
 judged-once : (others : ℕ → Verdict → Type 0) (spent f : ℕ) (tags : List Tag) (o : Outcome) (v w : Verdict)
     → ((x y : Verdict) → others (spent + length tags) x → others (spent + length tags) y → x ≡ y)

@@ -5,7 +5,7 @@ use Rattle.sf_core.specs.Program.Syntax.{Procedure}
 use Rattle.sf_rules.specs.Checked.Lemmas.{proof-one, proofs-split}
 use Rattle.sf_rules.specs.Setting.{Setting}
 use Rattle.sf_rules.specs.First.{first_goal}
-use Rattle.sf_search.specs.Judge.{Continues, Chosen, JudgedAfter, JudgeFrom, Outcome, Search, Verdict, fails, large, no_row, proof, proved, stuck, with_prefix}
+use Rattle.sf_search.specs.Judge.{Continues, Chosen, JudgedAfter, JudgeFrom, Outcome, Search, Verdict, fails, large, proof, proved, stuck, with_prefix}
 use Rattle.sf_search.specs.Checked.Laws.{TakenTagsProve}
 use Rattle.sf_rules.specs.Proving.{Proof, by, Proofs, no_more, and, preorder, preorders, ProvesFrom}
 use Rattle.sf_sym.specs.declared.tag.Tag.{Tag}
@@ -49,7 +49,6 @@ module _ (d : Setting) where
       proved-verdict f x xs tags own k.0 others k.1 k.2 s each
   continues-proves f x xs tags own (stuck g kind) others s k each = absurd (cc)
   continues-proves f x xs tags own large others s k each = absurd (cc)
-  continues-proves f x xs tags own no_row others s k each = absurd (cc)
 
   judged-proves : (spent f : ℕ) (x : Procedure) (xs : List Procedure) (tags own : List Tag) (outcome : Outcome)
       → Search d (first_goal d (record { 0 = f }) x) own outcome

@@ -1,6 +1,6 @@
 -- Judge: what the strategy comes to for a whole program, by the rows of the table.
 -- Berdine, Calcagno, O'Hearn, "Smallfoot" (2005): proof search by symbolic execution, in this project's own profile.
-use Rattle.std.specs.Prelude.{◌≡◌, ℕ, suc, ◌+◌, ◌≤◌, ◌<◌, Some, None, List, [], ◌∷◌, ◌++◌, length, ◌⊎◌}
+use Rattle.std.specs.Prelude.{◌≡◌, ℕ, suc, ◌+◌, ◌≤◌, ◌<◌, Some, List, [], ◌∷◌, ◌++◌, length, ◌⊎◌}
 use Rattle.sf_base.specs.declared.ids.ProcId.{ProcId}
 use Rattle.sf_base.specs.declared.limits.TheConstants.{PROCEDURE_TAGS, FILE_TAGS}
 use Rattle.sf_core.specs.Program.Syntax.{Procedure}
@@ -12,20 +12,17 @@ use Rattle.sf_sym.specs.declared.tag.Tag.{Tag}
 use Rattle.sf_sym.specs.declared.tag.Tag.TheVariants as t
 use Rattle.sf_sym.specs.Goal.{Goal}
 
--- how a search ends: no goal is left; it is stuck at a goal; a goal would take more tags than a procedure may have;
--- or a tag that is taken has no row, which the laws of the strategy rule out for goals as they are in programs
+-- how a search ends: no goal is left; it is stuck at a goal; or a goal would take more tags than a procedure may have
 pub data Outcome : Type 0 where
   proved : Outcome
   stuck : Goal → Kind → Outcome
   large : Outcome
-  no_row : Outcome
 
 -- the tags are those that the strategy takes from these goals on, the first goal first, up to that end
 abbrev pub Chosen : Setting → List Goal → List Tag → Outcome → Type 0
 Chosen d [] [] proved = Unit {0}
 Chosen d (g ∷ gs) [] (stuck h kind) = (h ≡ g) × (chooses g ≡ stays kind)
 Chosen d (g ∷ gs) [] large = (tag : Tag) × (chooses g ≡ takes tag)
-Chosen d (g ∷ gs) [] no_row = (tag : Tag) × (chooses g ≡ takes tag) × (row d g tag ≡ None)
 Chosen d (g ∷ gs) (tag ∷ tags) outcome =
     (chooses g ≡ takes tag) × (left : List Goal) × (row d g tag ≡ Some left) × Chosen d (left ++ gs) tags outcome
 Chosen d _ _ _ = ⊥
@@ -35,19 +32,16 @@ abbrev pub WithinLimit : Outcome → ℕ → Type 0
 WithinLimit proved n = n ≤ PROCEDURE_TAGS
 WithinLimit (stuck g kind) n = n ≤ PROCEDURE_TAGS
 WithinLimit large n = n ≡ PROCEDURE_TAGS
-WithinLimit no_row n = n < PROCEDURE_TAGS
 
 -- what the search from a goal comes to: its tags and its end
 pub record Search (d : Setting) (goal : Goal) (tags : List Tag) (outcome : Outcome) : Type 0 where
   pub chosen : Chosen d (goal ∷ []) tags outcome
   pub within : WithinLimit outcome (length tags)
 
--- why a procedure isn't proved: its search is stuck at a goal, after so many tags; it is too large, or the file is;
--- or a tag has no row
+-- why a procedure isn't proved: its search is stuck at a goal, after so many tags; or it is too large, or the file is
 pub data Cause : Type 0 where
   stuck_at : Goal → Kind → (before : ℕ) → Cause
   too_large : Cause
-  without_row : Cause
 
 -- what is said of a program: a proof of it, or the first procedure that fails, and why
 pub data Verdict : Type 0 where
@@ -65,7 +59,6 @@ Continues others f tags proved v =
     (w : Verdict) × others w × (v ≡ with_prefix (t.Procedure (record { 0 = f }) ∷ tags) w)
 Continues others f tags (stuck g kind) v = v ≡ fails (record { 0 = f }) (stuck_at g kind (length tags))
 Continues others f tags large v = v ≡ fails (record { 0 = f }) too_large
-Continues others f tags no_row v = v ≡ fails (record { 0 = f }) without_row
 
 -- the same where so many tags were used before: with more than a file may have it is too large, whatever its search
 -- comes to

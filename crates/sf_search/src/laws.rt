@@ -1,8 +1,8 @@
 //! Laws of the search. Each function is a law: calling it gives its fact to the caller's proof, and
 //! does nothing.
 
-ghost use Rattle.sf_search.specs.Checked.ShapeLaws.{ArrangedHasRows, ArrangedIsSetUp, GoalsAreShaped, GoalsHaveShape, SearchesHaveRows, VerdictsHaveRows};
-ghost use Rattle.sf_search.specs.Checked.Laws.{GoalsWithoutRowLackShape, ProgramsHaveVerdicts, SearchExists, SearchIsUnique, TakenTagsHaveRows, TakenTagsProve, VerdictsAreUnique};
+ghost use Rattle.sf_search.specs.Checked.ShapeLaws.{ArrangedIsSetUp, GoalsAreShaped, GoalsHaveShape};
+ghost use Rattle.sf_search.specs.Checked.Laws.{ProgramsHaveVerdicts, SearchExists, SearchIsUnique, TakenTagsHaveRows, TakenTagsProve, VerdictsAreUnique};
 
 use sf_calls::laws::{
     changes_are_assigned, conditions_from_truncation, first_breach_is_broken,
@@ -11,7 +11,8 @@ use sf_calls::laws::{
 use sf_precise::laws::{determined_has_order, never_taken_is_undetermined, undetermined_has_place};
 use sf_rules::laws::{arranged_has_setting, rows_have_cases};
 
-/// The search from a goal comes to something.
+/// The search from a goal comes to something, where each goal to which it may come is as goals of
+/// programs are.
 #[tactic(auto, using(crate::proofs::Ending::search_exists))]
 pub fn search_exists()
     ensures { SearchExists }
@@ -24,10 +25,11 @@ pub fn search_is_unique()
 {}
 
 /// Each program has a verdict.
-#[tactic(auto, using(crate::proofs::Ending::programs_have_verdicts))]
 pub fn programs_have_verdicts()
     ensures { ProgramsHaveVerdicts }
-{}
+{
+    goals_have_shape();
+}
 
 /// A program has at most one verdict.
 #[tactic(auto, using(crate::proofs::Once::verdicts_are_unique))]
@@ -47,14 +49,6 @@ pub fn taken_tags_have_rows()
     ensures { TakenTagsHaveRows }
 {}
 
-/// So where a search ends at a tag without a row, its tags have led to a goal that isn't as goals
-/// of programs are: numbers ran out, it needs too many symbols at once, or no program has such a
-/// goal.
-#[tactic(auto, using(crate::proofs::Rowless::goals_without_row_lack_shape))]
-pub fn goals_without_row_lack_shape()
-    ensures { GoalsWithoutRowLackShape }
-{}
-
 /// Each goal of a program's procedure is shaped: it speaks of symbols below its next one only, its
 /// atoms' numbers rise, its segments and trees have their fields, and what it has to do fits, up to
 /// its end. After so many tags it has fewer than `TOO_MANY` symbols and atoms more for each than
@@ -72,35 +66,9 @@ pub fn goals_are_shaped()
 }
 
 /// So up to as many tags as a procedure may have, each goal has the shape for which the strategy
-/// takes no tag without a row.
+/// takes no tag without a row. `search` rests on it.
 pub fn goals_have_shape()
     ensures { GoalsHaveShape }
-{
-    rows_have_cases();
-    changes_are_assigned();
-    first_breach_is_broken();
-    held_resources_are_there();
-    undetermined_has_place();
-    never_taken_is_undetermined();
-    determined_has_order();
-}
-
-/// So no search of a program's procedure ends at a tag without a row.
-pub fn searches_have_rows()
-    ensures { SearchesHaveRows }
-{
-    rows_have_cases();
-    changes_are_assigned();
-    first_breach_is_broken();
-    held_resources_are_there();
-    undetermined_has_place();
-    never_taken_is_undetermined();
-    determined_has_order();
-}
-
-/// And no program fails for want of a row.
-pub fn verdicts_have_rows()
-    ensures { VerdictsHaveRows }
 {
     rows_have_cases();
     changes_are_assigned();
@@ -117,18 +85,4 @@ pub fn arranged_is_set_up()
 {
     conditions_from_truncation();
     arranged_has_setting();
-}
-
-/// So `search` and `verify` never answer `NoRow`.
-pub fn arranged_has_rows()
-    ensures { ArrangedHasRows }
-{
-    arranged_is_set_up();
-    rows_have_cases();
-    changes_are_assigned();
-    first_breach_is_broken();
-    held_resources_are_there();
-    undetermined_has_place();
-    never_taken_is_undetermined();
-    determined_has_order();
 }

@@ -1,6 +1,6 @@
 //! The search for a proof, procedure by procedure.
 
-ghost use Rattle.std.specs.Prelude.{◌≡◌, ◌++◌, ◌<◌, ◌≤◌, ◌∷◌, [], IfErr, IfOk, IfSome, List, OnOk, Some, false, length, true};
+ghost use Rattle.std.specs.Prelude.{◌≡◌, ◌++◌, ◌<◌, ◌≤◌, ◌∷◌, [], IfErr, IfOk, IfSome, List, Some, false, is_some, length, true};
 ghost use Rattle.sf_base.specs.declared.limits.TheConstants.{FILE_TAGS as FILE_LIMIT};
 ghost use Rattle.std.specs.List.{slice_get};
 ghost use Rattle.sf_base.specs.Results.{Appends};
@@ -9,12 +9,12 @@ ghost use Rattle.sf_rules.specs.First.{first_goal as first_of};
 ghost use Rattle.sf_rules.specs.Checked.Children.{children_of, stack_of};
 ghost use Rattle.sf_rules.specs.Rows.Whole.{row};
 ghost use Rattle.sf_rules.specs.Setting.{Setting, setting_of};
-ghost use Rattle.sf_search.specs.Checked.Choosing.{choice_of};
 ghost use Rattle.sf_search.specs.Checked.Growth.{staying};
 ghost use Rattle.sf_search.specs.Checked.Knowing.{IsKnownAfter};
 ghost use Rattle.sf_search.specs.Checked.Settled.{IsSettled};
+ghost use Rattle.sf_search.specs.Checked.ShapeLaws.{KeepsShape};
 ghost use Rattle.sf_search.specs.Strategy.{chooses};
-ghost use Rattle.sf_search.specs.Ends.{EndsAs, FailsAs, FollowsAs, failure};
+ghost use Rattle.sf_search.specs.Ends.{EndsAs, FailsAs, choice_of, failure};
 ghost use Rattle.sf_search.specs.Judge.{Judge, Search, proof, proved};
 ghost use Rattle.sf_sym.specs.Goal.{Goal as AnyGoal, goal_of};
 ghost use Rattle.sf_sym.specs.Tests.{is_absurd};
@@ -24,10 +24,11 @@ use crate::choices::{
     Choice, Kind, Size, choose, choose_in_front, choose_possible, grown_bare, grown_roots,
     grows_settled, keeps_settled, leaves_possible, staying,
 };
+use crate::laws::{arranged_is_set_up, goals_have_shape};
 use sf_base::ProcId;
 use sf_base::limits::{FILE_TAGS, PROCEDURE_TAGS};
 use sf_precise::Arranged;
-use sf_rules::{Children, RuleFault, apply_row, first_goal};
+use sf_rules::{Children, RuleFault, apply_row, first_goal, push_children};
 use sf_sym::{Goal, Tag};
 use std::alloc::{AllocError, AllocFailed, Global};
 
@@ -38,12 +39,6 @@ pub enum SearchFault<'a> {
     Stuck(Goal<'a>, Kind, usize),
     /// The proof would have more tags than a procedure's may have, or the file's would.
     TooLarge,
-    /// The strategy takes a tag that has no row, after so many tags. It never comes of a procedure
-    /// of a program (`arranged_has_rows`), but of a goal that isn't as goals of programs are
-    /// (`goals_without_row_lack_shape`): fewer than `TOO_MANY` numbers are left for symbols or for
-    /// atoms, one row would need as many symbols, or the goal speaks of what no program has, as a
-    /// procedure that isn't there.
-    NoRow(usize),
     /// Out of memory.
     OutOfMemory,
 }
@@ -119,11 +114,14 @@ pub fn search<'a>(
     ensures err { IfErr result (λ e. IfSome (slice_get d.program.procedures f.0)
         (λ g. EndsAs d (first_of d f g) e)) }
 {
+    arranged_is_set_up();
+    goals_have_shape();
     let first = first_goal(alloc, arranged, f)?;
     search_from(alloc, arranged, first)
 }
 
-/// The tags of a proof of the goal.
+/// The tags of a proof of the goal, from which the search comes only to goals that are as goals of
+/// programs are.
 fn search_from<'a>(
     alloc: Global,
     arranged: &'a Arranged,
@@ -132,6 +130,7 @@ fn search_from<'a>(
     ghost d: { Setting }
     requires ordered { IsOrdering d.ordered }
     requires setting { d ≡ setting_of d.ordered arranged.now }
+    requires shape { KeepsShape d (goal_of first) }
     ensures ok { IfOk result (λ tags. Search d (goal_of first.entry) tags.items proved) }
     ensures err { IfErr result (λ e. EndsAs d (goal_of first.entry) e) }
 {
@@ -153,10 +152,7 @@ fn search_from<'a>(
         if tags.len() == PROCEDURE_TAGS {
             return Err(SearchFault::TooLarge);
         }
-        known = match follow(alloc, arranged, &mut stack, &mut tags, goal, tag, known) {
-            Ok(next) => next,
-            Err(fault) => return Err(fault),
-        };
+        known = follow(alloc, arranged, &mut stack, &mut tags, goal, tag, known)?;
     }
     Ok(tags)
 }
@@ -177,9 +173,9 @@ fn choose_knowing(alloc: Global, goal: &Goal, known: Known) -> Result<Choice, Al
     }
 }
 
-/// Takes the tag at a goal: what it leaves goes on the stack, and the tag after the tags. Where
-/// what is known of the goal's state is so, and the strategy takes the tag, the answer says what is
-/// known of the next goal's state.
+/// Takes the tag at a goal, where it has a row: what it leaves goes on the stack, and the tag after
+/// the tags. Where what is known of the goal's state is so, and the strategy takes the tag, the
+/// answer says what is known of the next goal's state. An `Err` means out of memory.
 fn follow<'a>(
     alloc: Global,
     arranged: &'a Arranged,
@@ -188,17 +184,16 @@ fn follow<'a>(
     goal: Goal<'a>,
     tag: Tag,
     known: Known,
-) -> Result<Known, SearchFault<'a>>
+) -> Result<Known, AllocError>
     ghost d: { Setting }
     requires ordered { IsOrdering d.ordered }
     requires setting { d ≡ setting_of d.ordered arranged.now }
+    requires row { is_some (row d (goal_of goal) tag) ≡ true }
     ensures left { IfOk result (λ next. (left : List AnyGoal)
         × (row d (goal_of goal.entry) tag ≡ Some left)
         × (stack_of stack.new.items ≡ left ++ stack_of stack.old.items)
         × IsKnownAfter tag known (staying tag known.roots known.bare goal.entry.state) left next) }
     ensures tags { Appends result tags.old.items tags.new.items (tag ∷ []) }
-    ensures err { IfErr result
-        (λ e. FollowsAs d (goal_of goal.entry) tag (length tags.old.items) e) }
 {
     let staying = staying(tag, known.roots, known.bare, &goal.state);
     match apply_row(alloc, arranged, goal, tag) {
@@ -208,8 +203,8 @@ fn follow<'a>(
             tags.push(tag)?;
             Ok(next)
         }
-        Err(RuleFault::NotARule) => Err(SearchFault::NoRow(tags.len())),
-        Err(RuleFault::OutOfMemory) => Err(SearchFault::OutOfMemory),
+        Err(RuleFault::NotARule) => unreachable!(),
+        Err(RuleFault::OutOfMemory) => Err(AllocError),
     }
 }
 
@@ -233,23 +228,6 @@ fn known_after(tag: Tag, known: Known, staying: Option<Size>, left: &Children) -
         roots: grown_roots(grown, staying, left),
         bare: grown_bare(grown, staying, left),
     }
-}
-
-/// Puts the goals that a row leaves on a stack of open goals, the first last, so that it comes
-/// next. An `Err` means out of memory.
-fn push_children<'a>(stack: &mut Vec<Goal<'a>>, left: Children<'a>) -> Result<(), AllocError>
-    ensures { OnOk result
-        (stack_of stack.new.items ≡ children_of left.entry ++ stack_of stack.old.items) }
-{
-    match left {
-        Children::None => {}
-        Children::One(goal) => stack.push(goal)?,
-        Children::Two(first, second) => {
-            stack.push(second)?;
-            stack.push(first)?;
-        }
-    }
-    Ok(())
 }
 
 /// The tags of a proof of the whole program, each procedure's after its `procedure` tag. An `Err`
@@ -295,13 +273,6 @@ fn failure<'a>(f: ProcId, fault: SearchFault<'a>, spent: usize) -> VerifyFault<'
             }
         }
         SearchFault::TooLarge => VerifyFault::Failed(f, SearchFault::TooLarge),
-        SearchFault::NoRow(before) => {
-            if before > FILE_TAGS - spent {
-                VerifyFault::Failed(f, SearchFault::TooLarge)
-            } else {
-                VerifyFault::Failed(f, SearchFault::NoRow(before))
-            }
-        }
         SearchFault::OutOfMemory => VerifyFault::OutOfMemory,
     }
 }

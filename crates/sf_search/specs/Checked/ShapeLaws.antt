@@ -1,7 +1,7 @@
--- Laws of the goals of a program: each is shaped, and its numbers rise slowly, so the strategy's tags have rows; and no
--- search ends at a tag without one.
+-- Laws of the goals of a program: each is shaped, and its numbers rise slowly, so it has the shape for which the
+-- strategy's tags have rows.
 -- Ordinary: an invariant of the rows, and how often they are taken.
-use Rattle.std.specs.Prelude.{◌≡◌, ℕ, ◌+◌, ◌-◌, ◌*◌, ◌≤◌, Some, List}
+use Rattle.std.specs.Prelude.{◌≡◌, ℕ, ◌+◌, ◌-◌, ◌*◌, ◌≤◌, Some}
 use Rattle.std.specs.List.{slice_get}
 use Rattle.sf_base.specs.declared.ids.ProcId.{ProcId}
 use Rattle.sf_base.specs.declared.limits.TheConstants.{PROCEDURE_TAGS}
@@ -13,13 +13,8 @@ use Rattle.sf_precise.specs.Order.{IsOrdering}
 use Rattle.sf_rules.specs.declared.few.TheConstants.{TOO_MANY}
 use Rattle.sf_rules.specs.First.{first_goal}
 use Rattle.sf_rules.specs.Setting.{IsSettingOf, Setting, setting_of}
-use Rattle.sf_search.specs.declared.verdicts.SearchFault.TheVariants.{NoRow}
-use Rattle.sf_search.specs.declared.verdicts.VerifyFault.TheVariants.{Failed}
-use Rattle.sf_search.specs.Ends.{EndsAs, FailsAs}
-use Rattle.sf_search.specs.Judge.{Judge, Search, fails, no_row, without_row}
 use Rattle.sf_search.specs.Shape.{HasShape}
 use Rattle.sf_search.specs.Shaped.{IsGoalAfter, IsShaped}
-use Rattle.sf_sym.specs.declared.tag.Tag.{Tag}
 use Rattle.sf_sym.specs.Goal.{Goal}
 
 -- a program that is well formed, and breaks no condition on variables, has that setting
@@ -41,34 +36,18 @@ GoalsAreShaped =
     → (tags : ℕ) (goal : Goal) → IsGoalAfter d (first_goal d f g) tags goal
     → IsGrown d (first_goal d f g) tags goal
 
--- as long as a search goes, it has the shape for which the strategy's tags have rows
+-- each goal that comes after at most as many tags as a procedure may have has the shape for which the strategy's tags
+-- have rows
+abbrev pub KeepsShape : Setting → (first : Goal) → Type 0
+KeepsShape d first = (tags : ℕ) (goal : Goal) → IsGoalAfter d first tags goal → tags ≤ PROCEDURE_TAGS → HasShape d goal
+
+-- the goals of a program's procedure do
 unfoldable pub GoalsHaveShape : Type 0
 GoalsHaveShape =
     (d : Setting) → IsSetUp d → (f : ProcId) (g : Procedure) → slice_get d.program.procedures f.0 ≡ Some g
-    → (tags : ℕ) (goal : Goal) → IsGoalAfter d (first_goal d f g) tags goal → tags ≤ PROCEDURE_TAGS
-    → HasShape d goal
-
--- no search of a procedure ends at a tag without a row
-unfoldable pub SearchesHaveRows : Type 0
-SearchesHaveRows =
-    (d : Setting) → IsSetUp d → (f : ProcId) (g : Procedure) → slice_get d.program.procedures f.0 ≡ Some g
-    → (tags : List Tag) → Search d (first_goal d f g) tags no_row → ⊥
-
--- and no program fails for want of a row
-unfoldable pub VerdictsHaveRows : Type 0
-VerdictsHaveRows = (d : Setting) → IsSetUp d → (f : ProcId) → Judge d (fails f without_row) → ⊥
+    → KeepsShape d (first_goal d f g)
 
 -- a program that the code has arranged is set up, by any function that puts annotations in order
 unfoldable pub ArrangedIsSetUp : Type 0
 ArrangedIsSetUp =
     (in_order : Assertion → Assertion) (a : Arranged) → IsOrdering in_order → IsSetUp (setting_of in_order a)
-
--- so what the code says of its search and of it as a whole is never that a tag has no row
-pub record HasRows (d : Setting) : Type 0 where
-  pub searches : (f : ProcId) (g : Procedure) (before : ℕ) → slice_get d.program.procedures f.0 ≡ Some g
-      → EndsAs d (first_goal d f g) (NoRow before) → ⊥
-  pub verdicts : (f : ProcId) (before : ℕ) → FailsAs d (Failed f (NoRow before)) → ⊥
-
-unfoldable pub ArrangedHasRows : Type 0
-ArrangedHasRows =
-    (in_order : Assertion → Assertion) (a : Arranged) → IsOrdering in_order → HasRows (setting_of in_order a)

@@ -1,7 +1,7 @@
 //! Choices, as commands or among conjuncts, by their test.
 
 ghost use Rattle.std.specs.Prelude.{◌≡◌};
-ghost use Rattle.sf_search.specs.Checked.Choosing.{choice_of};
+ghost use Rattle.sf_search.specs.Ends.{choice_of};
 ghost use Rattle.sf_search.specs.Strategy.{at_choice, at_test};
 
 use crate::choices::atoms::split_or;

@@ -1,7 +1,7 @@
 //! What is to be assumed.
 
 ghost use Rattle.std.specs.Prelude.{◌≡◌};
-ghost use Rattle.sf_search.specs.Checked.Choosing.{choice_of};
+ghost use Rattle.sf_search.specs.Ends.{choice_of};
 ghost use Rattle.sf_search.specs.Strategy.{at_given};
 ghost use Rattle.sf_sym.specs.Pending.{pending_of};
 

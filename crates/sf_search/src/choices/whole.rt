@@ -2,7 +2,8 @@
 
 ghost use Rattle.std.specs.Prelude.{◌≡◌, ◌++◌, IfNone, IfOk, List, false};
 ghost use Rattle.std.specs.Option.{option_map};
-ghost use Rattle.sf_search.specs.Checked.Choosing.{at_first, at_state, choice_of};
+ghost use Rattle.sf_search.specs.Checked.Choosing.{at_first, at_state};
+ghost use Rattle.sf_search.specs.Ends.{choice_of};
 ghost use Rattle.sf_search.specs.Checked.Settled.{IsSettled};
 ghost use Rattle.sf_search.specs.Strategy.{Choice as AnyChoice, at_end, at_items, chooses, or_else};
 ghost use Rattle.sf_sym.specs.Goal.{Item as Thing, goal_of, items_of, todo_of};

@@ -1,41 +1,68 @@
-use Rattle.std.proofs.Common.{◌≡◌, ◌+◌, ◌<◌, ◌∙◌, ap, sym, subst, [], ◌∷◌, ◌++◌, length, arith, refl, rules, length-append}
+use Rattle.std.proofs.Common.{◌≡◌, ◌+◌, ◌<◌, ◌∙◌, ap, sym, subst, [], ◌∷◌, ◌++◌, is_some, length, arith, refl, rules, length-append}
+use Rattle.std.specs.List.{AllByRecursion}
 use Rattle.sf_base.specs.declared.limits.TheConstants.{PROCEDURE_TAGS}
 use Rattle.sf_rules.specs.Checked.Children.{stack_of}
-use Rattle.sf_search.proofs.Leading.{Leads, leads_on, leads_end, leads_fault, no_goals, stack_push}
+use Rattle.sf_search.proofs.Leading.{Leads, leads_on, leads_end, no_goals, stack_push}
+use Rattle.sf_search.proofs.Reached.{IsReached, reached_first, reached_next, reached_row}
 use Rattle.sf_search.proofs.KnownNext.{known_of_first}
-use Rattle.sf_search.specs.Checked.Choosing.{choice_of, kind_of}
+use Rattle.sf_search.specs.Ends.{choice_of, kind_of}
 use Rattle.sf_search.specs.Checked.Knowing.{IsKnownOfFirst}
 use Rattle.sf_search.specs.Judge.{large, proved, stuck}
 use Rattle.sf_sym.specs.Goal.{goal_of}
 use Rattle.sf_search.proofs.verdicts.search_from.Goals as goal
 
+pub loop-goal-init : goal.loop-goal-init
+loop-goal-init g c =
+    let items : c.push.new.self.items ≡ c.args.first ∷ [] = search rules in
+    record {
+      leads = search rules;
+      count = search (rules, arith);
+      reached = reached_first g.d (goal_of c.args.first) _ (stack_of c.push.new.self.items) (ap stack_of items);
+      known = search rules;
+    }
+
 pub loop-goal-preserved : goal.loop-goal-preserved
 loop-goal-preserved g c =
+    let first = goal_of c.args.first in
+    let tags = c.loop-goal.tags.items in
+    let tag = c.in-Takes.tag in
+    let others = stack_of c.pop.new.self.items in
     let stack = ap stack_of c.in-Some.ensures.items ∙ stack_push c.pop.new.self.items c.in-Some.goal in
-    let leads = subst (λ gs. Leads g.d (goal_of c.args.first ∷ []) gs c.loop-goal.tags.items) stack
-    c.loop-goal.invariant.leads in
-    let left = c.in-Ok.ensures.left in
+    let leads = subst (λ gs. Leads g.d (first ∷ []) gs tags) stack c.loop-goal.invariant.leads in
+    let reached = subst (AllByRecursion (IsReached g.d first (length tags))) stack c.loop-goal.invariant.reached in
     let known = subst (IsKnownOfFirst c.loop-goal.known) stack c.loop-goal.invariant.known in
+    let left = c.in_ok-known.ensures.left in
     let chosen = sym c.in_ok-tag.ensures ∙ ap choice_of c.in-Takes.is in
     let next = left.3 in
-    let longer : length c.follow.new.tags.items ≡ length c.loop-goal.tags.items + 1 =
-    ap length c.in-Ok.ensures.tags ∙ length-append c.loop-goal.tags.items (c.in-Takes.tag ∷ []) in
-    let below : length c.loop-goal.tags.items < PROCEDURE_TAGS = search (rules, arith) in
+    let longer : length c.follow.new.tags.items ≡ length tags + 1 =
+    ap length c.in_ok-known.ensures.tags ∙ length-append tags (tag ∷ []) in
+    let below : length tags < PROCEDURE_TAGS = search (rules, arith) in
     record {
       leads =
-          subst (Leads g.d (goal_of c.args.first ∷ []) (stack_of c.follow.new.stack.items))
-          (sym c.in-Ok.ensures.tags)
-          (subst (λ gs. Leads g.d (goal_of c.args.first ∷ []) gs (c.loop-goal.tags.items ++ c.in-Takes.tag ∷ []))
-          (sym left.2)
-          (leads_on g.d (goal_of c.args.first ∷ []) (stack_of c.pop.new.self.items) (goal_of c.in-Some.goal)
-          c.loop-goal.tags.items c.in-Takes.tag left.0 leads
-          chosen left.1));
+          subst (Leads g.d (first ∷ []) (stack_of c.follow.new.stack.items)) (sym c.in_ok-known.ensures.tags)
+          (subst (λ gs. Leads g.d (first ∷ []) gs (tags ++ tag ∷ [])) (sym left.2)
+          (leads_on g.d (first ∷ []) others (goal_of c.in-Some.goal) tags tag left.0 leads chosen left.1));
       count = omega (arith, longer, below);
+      reached =
+          subst (λ n. AllByRecursion (IsReached g.d first n) (stack_of c.follow.new.stack.items)) (sym longer)
+          (subst (AllByRecursion (IsReached g.d first (length tags + 1))) (sym left.2)
+          (reached_next g.d first (length tags) (goal_of c.in-Some.goal) others tag left.0 left.1 reached));
       known =
-          subst (IsKnownOfFirst c.in-Ok.next) (sym left.2)
-          (known_of_first g.d (goal_of c.in-Some.goal) (stack_of c.pop.new.self.items) c.in-Takes.tag c.loop-goal.known
-          c.in-Ok.next left.0 known c.is_numbered.ensures chosen left.1 next);
+          subst (IsKnownOfFirst _) (sym left.2)
+          (known_of_first g.d (goal_of c.in-Some.goal) others tag c.loop-goal.known _ left.0 known
+          c.is_numbered.ensures chosen left.1 next);
     }
+
+-- the goal is among those that a search comes to, so the tag has a row
+pub follow-requires : goal.follow-requires
+follow-requires g c =
+    let stack = ap stack_of c.in-Some.ensures.items ∙ stack_push c.pop.new.self.items c.in-Some.goal in
+    let reached = subst (AllByRecursion (IsReached g.d (goal_of c.args.first) (length c.loop-goal.tags.items))) stack
+    c.loop-goal.invariant.reached in
+    let chosen = sym c.in_ok-tag.ensures ∙ ap choice_of c.in-Takes.is in
+    let left = reached_row g.d (goal_of c.args.first) c.requires.1.1 (length c.loop-goal.tags.items)
+    (goal_of c.in-Some.goal) c.in-Takes.tag c.loop-goal.invariant.count reached.0 chosen in
+    (c.requires.0, (c.requires.1.0, ap is_some left.1))
 
 pub choose_knowing-requires-clause-settled : goal.choose_knowing-requires-clause-settled
 choose_knowing-requires-clause-settled g c =
@@ -77,16 +104,6 @@ returns-then-len-eq-PROCEDURE_TAGS-clause-err g c =
         within = search (rules, arith);
       },
     )
-
-pub returns-in-Err-clause-err : goal.returns-in-Err-clause-err
-returns-in-Err-clause-err g c =
-    let stack = ap stack_of c.in-Some.ensures.items ∙ stack_push c.pop.new.self.items c.in-Some.goal in
-    let leads = subst (λ gs. Leads g.d (goal_of c.args.first ∷ []) gs c.loop-goal.tags.items) stack
-    c.loop-goal.invariant.leads in
-    let below : length c.loop-goal.tags.items < PROCEDURE_TAGS = search (rules, arith) in
-    leads_fault g.d (goal_of c.args.first) (goal_of c.in-Some.goal) (stack_of c.pop.new.self.items)
-    c.loop-goal.tags.items c.in-Takes.tag c.in-Err.fault leads (sym c.in_ok-tag.ensures ∙ ap choice_of c.in-Takes.is)
-    below c.in-Err.ensures.err
 
 pub returns-clause-ok : goal.returns-clause-ok
 returns-clause-ok g c =

@@ -2,7 +2,7 @@ use Rattle.std.proofs.Common.{◌≡◌, IfNone, None, ap, sym, subst, ◌∙◌
 use Rattle.std.specs.Option.{option_map}
 use Rattle.sf_search.proofs.Fewer.{map-none}
 use Rattle.sf_search.proofs.Lowest.{forced_is_lowest, nothing_is_lowest, state_forced, state_none}
-use Rattle.sf_search.specs.Checked.Choosing.{choice_of}
+use Rattle.sf_search.specs.Ends.{choice_of}
 use Rattle.sf_search.specs.Checked.Settled.{IsSettled}
 use Rattle.sf_search.specs.Strategy.{lowest, lowest_forced, or_else, which}
 use Rattle.sf_sym.specs.Known.{first_nothing, is_nothing}
@@ -17,7 +17,7 @@ returns-in_err-a-clause-choice c = λ z.
     ∙ sym (state_none (is_absurd s) (lowest (which is_nothing) s.atoms) (lowest_forced s s.atoms) z c.requires
     (nothing_is_lowest s.atoms c.is_numbered.ensures.rising ∙ none)
     (forced_is_lowest s s.atoms c.is_numbered.ensures.rising
-    ∙ ap (option_map (λ f. f.0)) (sym c.forced.ensures ∙ c.in_err-a.was)))
+    ∙ ap (option_map (λ f. f.0)) (sym c.forced.ensures.first ∙ c.in_err-a.was)))
 
 pub returns-in_err-a-clause-settled : goal.returns-in_err-a-clause-settled
 returns-in_err-a-clause-settled c =
@@ -29,7 +29,7 @@ returns-in_err-a-clause-settled c =
           (nothing_is_lowest s.atoms c.is_numbered.ensures.rising ∙ none);
       none_forced = map-none (λ f. f.0) (lowest_forced s s.atoms)
           (forced_is_lowest s s.atoms c.is_numbered.ensures.rising
-          ∙ ap (option_map (λ f. f.0)) (sym c.forced.ensures ∙ c.in_err-a.was));
+          ∙ ap (option_map (λ f. f.0)) (sym c.forced.ensures.first ∙ c.in_err-a.was));
     })
 
 pub returns-clause-choice : goal.returns-clause-choice
@@ -40,4 +40,4 @@ returns-clause-choice c = λ z.
     c.requires
     (nothing_is_lowest s.atoms c.is_numbered.ensures.rising ∙ none)
     (forced_is_lowest s s.atoms c.is_numbered.ensures.rising
-    ∙ ap (option_map (λ f. f.0)) (sym c.forced.ensures ∙ c.in_ok-a.was)))
+    ∙ ap (option_map (λ f. f.0)) (sym c.forced.ensures.first ∙ c.in_ok-a.was)))
