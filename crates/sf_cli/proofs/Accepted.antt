@@ -19,7 +19,8 @@ use Rattle.sf_search.specs.Judge.{Verdict, proof, fails, Judge}
 use Rattle.sf_search.specs.Checked.Laws.{TakenTagsProve}
 use Rattle.sf_sound.specs.Proofs.{ProofsAreSound}
 use Rattle.sf_sym.specs.declared.tag.Tag.{Tag}
-use Rattle.sf_cli.specs.Answer.{Accepted, AcceptedBytes, FileAnswer, IsAccepting, IsProved, OrderAnswer, RecheckAnswer, Reply, RunFileAnswer, VerdictAnswer, admitted, admitted_run, answer, by_proof, by_run, by_search, entered, file_refused, no_entry, not_built, rechecked, refused, refused_run, unproved, unread}
+use Rattle.sf_cli.specs.Answer.{Accepted, AcceptedBytes, FileAnswer, IsProved, OrderAnswer, RecheckAnswer, Reply, RunFileAnswer, VerdictAnswer, admitted, admitted_run, answer, by_proof, by_run, by_search, entered, file_refused, no_entry, not_built, rechecked, refused, refused_run, unproved, unread}
+use Rattle.sf_cli.specs.SoundFile.{IsAccepting, MayHave, NamesProgram, NamesSound}
 use Rattle.sf_cli.specs.FileFault.{Admits}
 use Rattle.sf_cli.specs.Checked.Laws.{AcceptedFilesAreSound, AcceptedProofsAreSound, AcceptedRunsAreSound}
 use Rattle.sf_cli.specs.Reads.{Reads}
@@ -174,3 +175,26 @@ accepted-reply files proofs runs told before after words text status s (unread s
     never (inr (inr z)) = omega (arith, z, seven)
 accepted-reply files proofs runs told before after words text status s (answer l a) =
     accepted-order files proofs runs told words text status s a
+
+-- words name a sound program's file where its bytes are such a program's
+names : (told : Option Files) (words : List Text) (file bytes : Text) → NamesProgram (order_of words) file
+    → MayHave told file bytes → AcceptedBytes bytes → NamesSound told words
+names told words file bytes named may a = record {
+  file = file;
+  named = named;
+  bytes = bytes;
+  may_have = may;
+  program = a.program;
+  reads = a.admits.reads;
+  sound = a.sound;
+}
+
+-- the words of what is accepted name a sound program's file
+pub accepted-names : (told : Option Files) (words : List Text) (text : Text) (status : ℕ)
+    → Accepted told words text status → NamesSound told words
+accepted-names told words text status (by_search file workers e bytes may k a) =
+    names told words file bytes (subst (λ (o : Option Order). NamesProgram o file) (sym e) refl) may a
+accepted-names told words text status (by_proof file name e bytes may k a) =
+    names told words file bytes (subst (λ (o : Option Order). NamesProgram o file) (sym e) refl) may a
+accepted-names told words text status (by_run file entry state steps waits e bytes may k a) =
+    names told words file bytes (subst (λ (o : Option Order). NamesProgram o file) (sym e) refl) may a

@@ -19,6 +19,7 @@ use Rattle.sf_rules.specs.Checked.LawsOfSettings.{SettingExists}
 use Rattle.sf_rules.specs.Setting.{IsSettingOf, Setting}
 use Rattle.sf_search.specs.Judge.{Verdict, proof, fails, Judge}
 use Rattle.sf_search.specs.Checked.Laws.{ProgramsHaveVerdicts}
+use Rattle.sf_search.specs.Checked.ShapeLaws.{IsSetUp}
 use Rattle.sf_vars.specs.Checked.Laws.{EachProgramHasAnAnswer}
 use Rattle.sf_cli.proofs.Accepted.{accepted-formed}
 use Rattle.sf_check.specs.Checked.Laws.{ProvesOrRefused}
@@ -64,12 +65,18 @@ some-verdict p d own (fails f why) j = (
   record { setting = d; own = own; verdict = fails f why; judged = j; said = (refl, refl) },
 )
 
--- the answer to a program in order
-some-program : Answers → (p : Program) → IsFormed p → (text : Text) × (status : ℕ) × ProgramAnswer p text status
+-- the answer to a program with which nothing is wrong
+some-program : Answers → (p : Program) → IsFormed p → Conditions p → (text : Text) × (status : ℕ) × ProgramAnswer p text status
 unfolding SettingExists ProgramsHaveVerdicts
-some-program l p f =
+some-program l p f c =
     let own = l.settings p f in
-    let v = l.verdicts own.0 in
+    let is : p ≡ own.0.program = sym own.1.program in
+    let up : IsSetUp own.0 = record {
+      formed = subst IsFormed is f;
+      conditions = subst Conditions is c;
+      setting = subst (λ (q : Program). IsSettingOf q own.0) is own.1;
+    } in
+    let v = l.verdicts own.0 up in
     some-verdict p own.0 own.1 v.0 v.1
 
 -- the answer to a file that is refused
@@ -79,7 +86,7 @@ some-refusal bytes r f = (refusal_text r, 3, refused r f refl refl)
 -- the answer to a file that reads as a program which keeps the conditions on variables
 some-kept : Answers → (bytes : Text) (p : Program) → Reads bytes p → Conditions p → IsFormed p → (text : Text) × (status : ℕ) × FileAnswer bytes text status
 some-kept l bytes p r c f = elim (l.orders (annotations_in p)) [
-  | inl d ↦ let a = some-program l p f in (a.0, a.1, admitted p (record { reads = r; conditions = c; determined = d }) a.2)
+  | inl d ↦ let a = some-program l p f c in (a.0, a.1, admitted p (record { reads = r; conditions = c; determined = d }) a.2)
   | inr q ↦ some-refusal bytes (At Undetermined q.0) (unfit p r (in_order q.0 c q.1 refl))
 ]
 

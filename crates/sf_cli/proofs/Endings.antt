@@ -12,7 +12,8 @@ use Rattle.sf_run.specs.Checked.Laws.{BeginningsAreStarts, EndsAreNumbered}
 use Rattle.sf_run.specs.Running.{ComesTo}
 use Rattle.sf_core.specs.Machine.Step.{procedure_at}
 use Rattle.sf_state.specs.Starts.{IsStartText}
-use Rattle.sf_cli.specs.Answer.{Ended, EndedRun, IsRun, MayHave, OrderAnswer, Reply, RunFileAnswer, admitted_run, answer, entered, no_entry, not_built, refused_run, unproved, unread}
+use Rattle.sf_cli.specs.Answer.{Ended, EndedRun, IsRun, OrderAnswer, Reply, RunFileAnswer, admitted_run, answer, entered, no_entry, not_built, refused_run, unproved, unread}
+use Rattle.sf_cli.specs.SoundFile.{MayHave}
 use Rattle.sf_cli.specs.FileFault.{Admits}
 use Rattle.sf_cli.specs.Checked.Laws.{FinishedRunsHaveEnded}
 use Rattle.sf_cli.specs.Ran.{OutcomeAnswer, no_start, ran}

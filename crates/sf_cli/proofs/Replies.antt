@@ -15,7 +15,7 @@ use Rattle.sf_lex.specs.declared.fault.LexFault.{LexFault}
 use Rattle.sf_lex.specs.declared.fault.LexFault.TheVariants as l
 use Rattle.sf_lex.specs.declared.token.Token.{Token}
 use Rattle.sf_lex.specs.Reading.{AreTokens, IsFault as IsTokenFault}
-use Rattle.sf_cli.specs.Answer.{AreAdmitted, FileAnswer, NamesProgram, OrderAnswer, ProofFileAnswer, Reaches, RecheckAnswer, Reply, VerdictAnswer, admitted, answer, file_refused, read_fault_text, rechecked, refused}
+use Rattle.sf_cli.specs.Answer.{AreAdmitted, FileAnswer, OrderAnswer, ProofFileAnswer, Reaches, RecheckAnswer, Reply, VerdictAnswer, admitted, answer, file_refused, read_fault_text, rechecked, refused}
 use Rattle.sf_cli.specs.Answer.{unread as unread_file}
 use Rattle.sf_cli.specs.declared.refusal.Refusal.{Refusal}
 use Rattle.sf_cli.specs.FileFault.{FileFault, unread, unfit, in_tokens, in_grammar, in_names}
@@ -128,9 +128,9 @@ file-status bytes text status (refused r h t s) = omega (arith, s)
 file-status bytes text status (admitted p a k) = verdict-status p k.verdict text status k.said
 
 pub proof-status : (p : Program) (given text : Text) (status : ℕ) → ProofAnswer p given text status
-    → (status < 7) × (status ≡ 3 → ⊥)
-proof-status p given text status (accepted i t s) = (omega (arith, s), λ three. omega (arith, s, three))
-proof-status p given text status (rejected r h t s) = (omega (arith, s), λ three. omega (arith, s, three))
+    → status < 7
+proof-status p given text status (accepted i t s) = omega (arith, s)
+proof-status p given text status (rejected r h t s) = omega (arith, s)
 
 -- words that are no command, or one that isn't followed yet, are answered with the usage
 pub reply-usage : (told : Option Files) (before after : Text → ℕ) (order : Option Order) (text : Text) (status : ℕ)
@@ -203,8 +203,3 @@ ok-reply (Err e) told now same before mid after file name out f counts l a u = t
 ok-reply (Ok said) told now same before mid after file name out f counts l a u =
     reply-recheck told before mid after file name out said.text.items said.status f counts l
     (λ less. subst (λ (z : Option Files). RecheckAnswer z out name said.text.items said.status) same (a less)) u
-
--- a name that isn't the program's in an order to check a proof is another one than the program's there
-pub not-program : (order : Option Order) (file name other : Text) → order ≡ Some (recheck file name)
-    → (NamesProgram order other → ⊥) → other ≡ file → ⊥
-not-program order file name other e h same = h (subst (λ (o : Option Order). NamesProgram o other) (sym e) same)

@@ -39,7 +39,8 @@ use Rattle.sf_state.specs.Stated.{lines_refusal, text_refusal}
 use Rattle.sf_state.specs.Says.{entries_of}
 use Rattle.sf_cli.proofs.EndTexts.{end-written}
 use Rattle.sf_cli.proofs.Replies.{increased-later, long-fault, long-reads, reply-unread}
-use Rattle.sf_cli.specs.Answer.{AreRun, MayHave, NamesProgram, Reaches, Reply, RunAnswer, admitted_run, answer, read_fault_text, refused_run}
+use Rattle.sf_cli.specs.Answer.{AreRun, Reaches, Reply, RunAnswer, admitted_run, answer, read_fault_text, refused_run}
+use Rattle.sf_cli.specs.SoundFile.{MayHave}
 use Rattle.sf_cli.specs.declared.reply.Said.{Said}
 use Rattle.sf_cli.specs.Checked.Fetched.{IsUpTo, Fetched}
 use Rattle.sf_cli.specs.Checked.Printed.{IsOutcomeText, SaysFinish, stop_text}
@@ -142,18 +143,17 @@ ran-answer p f g given start steps waits text status there starts outcome =
 
 -- its statuses
 ran-outcome_status : (p : Program) (g : Procedure) (steps waits : ℕ) (out : Outcome) (text : Text) (status : ℕ)
-    → OutcomeAnswer p g steps waits out text status → (status < 7) × (status ≢ 3)
+    → OutcomeAnswer p g steps waits out text status → status < 7
 ran-outcome_status p g steps waits (finished c) text status a =
-    let is = a.1 in (omega (arith, is), λ three. omega (arith, is, three))
+    let is = a.1 in omega (arith, is)
 ran-outcome_status p g steps waits spent text status a =
-    let is = a.1 in (omega (arith, is), λ three. omega (arith, is, three))
+    let is = a.1 in omega (arith, is)
 ran-outcome_status p g steps waits (waiting r) text status a =
-    let is = a.1 in (omega (arith, is), λ three. omega (arith, is, three))
+    let is = a.1 in omega (arith, is)
 
 pub ran-status : (p : Program) (f : ProcId) (given : Text) (steps waits : ℕ) (text : Text) (status : ℕ)
-    → StateAnswer p f given steps waits text status → (status < 7) × (status ≢ 3)
-ran-status p f given steps waits text status (no_start g e there x t s) =
-    (omega (arith, s), λ three. omega (arith, s, three))
+    → StateAnswer p f given steps waits text status → status < 7
+ran-status p f given steps waits text status (no_start g e there x t s) = omega (arith, s)
 ran-status p f given steps waits text status (ran g vars heap parts unit out there x comes a) =
     ran-outcome_status p g steps waits out text status a
 
@@ -254,9 +254,3 @@ reply-ok (Ok said) told now same before mid after file entry state_name out step
     reply-run told before mid after file entry state_name out said.text.items steps waits said.status h counts l
     (λ less. subst (λ (z : Option Files). RunAnswer z out entry state_name steps waits said.text.items said.status) same
     (a less)) u
-
--- a name that isn't the program's in an order to run is another one than the program's there
-pub reply-not_program : (order : Option Order) (file entry state_name other : Text) (steps waits : ℕ)
-    → order ≡ Some (run file entry state_name steps waits) → (NamesProgram order other → ⊥) → other ≡ file → ⊥
-reply-not_program order file entry state_name other steps waits e h same =
-    h (subst (λ (o : Option Order). NamesProgram o other) (sym e) same)

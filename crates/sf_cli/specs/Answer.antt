@@ -25,15 +25,15 @@ use Rattle.sf_report.specs.declared.stuck.Stuck.{Stuck}
 use Rattle.sf_report.specs.declared.stuck.Stuck.TheVariants.{NoCell, NotEqual, NotDifferent, NoAtom, Leak, EndNotAllocated}
 use Rattle.sf_report.specs.Failure.{failure_text, too_large_text}
 use Rattle.sf_search.specs.Strategy.{Kind, no_cell, not_equal, not_different, no_atom, leak, end_not_allocated}
-use Rattle.sf_search.specs.Judge.{Cause, stuck_at, too_large, without_row, Verdict, proof, fails, Judge}
+use Rattle.sf_search.specs.Judge.{Cause, stuck_at, too_large, Verdict, proof, fails, Judge}
 use Rattle.sf_base.specs.declared.ids.ProcId.{ProcId}
-use Rattle.sf_core.specs.Program.Named.{name_of}
 use Rattle.sf_proof.specs.ProofText.{proof_text}
 use Rattle.sf_core.specs.Machine.Sound.{IsSound}
 use Rattle.sf_sym.specs.declared.tag.Tag.{Tag}
 use Rattle.sf_cli.specs.declared.refusal.Refusal.{Refusal}
 use Rattle.sf_cli.specs.declared.refusal.Refusal.TheVariants.{At}
 use Rattle.sf_cli.specs.declared.refusal.RefusalKind.TheVariants.{NotBuilt}
+use Rattle.sf_cli.specs.SoundFile.{MayHave}
 use Rattle.sf_cli.specs.Ran.{IsFinishedText, StateAnswer}
 use Rattle.sf_cli.specs.Rechecked.{ProofAnswer}
 use Rattle.sf_words.specs.Words.{Text, Order, demo, order_of, recheck, run, verify}
@@ -49,12 +49,11 @@ printed no_atom = NoAtom
 printed leak = Leak
 printed end_not_allocated = EndNotAllocated
 
--- why a procedure fails, printed: the goal at which its search is stuck, that its proof would be
--- too large, or, where a tag that the strategy takes has no row, its name alone
+-- why a procedure fails, printed: the goal at which its search is stuck, or that its proof would be
+-- too large
 abbrev pub cause_text : Program → ProcId → Cause → Text
 cause_text p f (stuck_at goal kind before) = failure_text p f goal (printed kind)
 cause_text p f too_large = too_large_text p f
-cause_text p f without_row = codes "failed " ++ name_of p f ++ codes "\n"
 
 -- the verdict on a program, printed
 abbrev pub VerdictAnswer : Program → Verdict → Text → (status : ℕ) → Type 0
@@ -75,12 +74,6 @@ pub data FileAnswer (bytes text : Text) (status : ℕ) : Type 0 where
   refused : (r : Refusal) → FileFault bytes r → text ≡ refusal_text r → status ≡ 3
       → FileAnswer bytes text status
   admitted : (p : Program) → Admits bytes p → ProgramAnswer p text status → FileAnswer bytes text status
-
--- the file of that name may have these bytes: where the shelf tells its files it has just them, and
--- else any
-abbrev pub MayHave : Option Files → (name bytes : Text) → Type 0
-MayHave None name bytes = Unit {0}
-MayHave (Some files) name bytes = files name ≡ Some bytes
 
 -- the answer to the text of a proof that has this name, for a program with which nothing is wrong
 abbrev pub ProofFileAnswer : Option Files → Program → (proof_name : Text) → Text → (status : ℕ) → Type 0
@@ -166,13 +159,6 @@ Names (Some (recheck file proof_name)) name = (name ≡ file) ⊎ (name ≡ proo
 Names (Some (run file entry state steps waits)) name = (name ≡ file) ⊎ (name ≡ state)
 Names _ name = ⊥
 
--- the order names that file as the program's
-abbrev pub NamesProgram : Option Order → Text → Type 0
-NamesProgram (Some (verify file workers)) name = name ≡ file
-NamesProgram (Some (recheck file proof_name)) name = name ≡ file
-NamesProgram (Some (run file entry state steps waits)) name = name ≡ file
-NamesProgram _ name = ⊥
-
 -- these bytes are those of a program with which nothing is wrong
 abbrev pub AreAdmitted : (bytes : Text) → Type 0
 AreAdmitted bytes = (p : Program) × Admits bytes p
@@ -232,10 +218,6 @@ pub record AcceptedBytes (bytes : Text) : Type 0 where
   pub program : Program
   pub admits : Admits bytes program
   pub sound : IsSound program
-
--- what has this status only comes where the program is proved: 0, and of runs 5 and 6
-abbrev pub IsAccepting : (status : ℕ) → Type 0
-IsAccepting status = (status ≡ 0) ⊎ ((status ≡ 5) ⊎ (status ≡ 6))
 
 -- the words are an order whose program's file is there, its answer is that text with that status,
 -- and the program that the file reads as is sound

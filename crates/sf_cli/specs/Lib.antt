@@ -2,6 +2,7 @@ pub mod Usage
 pub mod Refusals
 pub mod Rejections
 pub mod Reads
+pub mod SoundFile
 pub mod FileFault
 pub mod Rechecked
 pub mod StartRefusals

@@ -2,14 +2,16 @@
 //!
 //! - `top`: the call that does all of it
 //! - `usage`: what is said of words that are no command
-//! - `reply`: what the command says, and its status
+//! - `reply`: what is said, with which status; and what is fetched of a file
 //! - `reading`: from a file's bytes to a program with which nothing is wrong
 //! - `refusal`: why a file is refused, and the line that says so
-//! - `recheck`: what is said of the text of a proof
+//! - `verify`: what the command says to `verify`
+//! - `recheck`: what it says to `recheck`
 //! - `rejection`: why such a text is refused, and the line that says so
-//! - `run`: what is said of a run, in the order of its work
+//! - `run`: what it says to `run`, in the order of its work
 //! - `start_refusal`: why there is no start, and the line that says so
 //! - `outcome`: what comes of a run, printed
+//! - `command`: to each order its command
 //! - `writing`: what lines are put together from
 //! - `laws`: laws of answers
 #![tactic(auto)]
@@ -18,6 +20,7 @@ ghost use Rattle.std.specs.Prelude.{◌≡◌, map, IfOk};
 ghost use Rattle.std.specs.String.{string_bytes};
 ghost use Rattle.sf_words.specs.WordsOf.{words_of};
 
+mod command;
 mod laws;
 mod outcome;
 mod reading;
@@ -31,6 +34,7 @@ mod start_refusal;
 mod tests;
 mod top;
 mod usage;
+mod verify;
 mod writing;
 
 use crate::top::{OUT_OF_MEMORY, smallfoot};

@@ -7,7 +7,8 @@ ghost use Rattle.sf_check.specs.Accepted.{arranged_in};
 ghost use Rattle.sf_core.specs.Program.ProgramView.{program_of};
 ghost use Rattle.sf_foot.specs.Starting.{StartsWith};
 ghost use Rattle.sf_io.specs.Increased.{Increased};
-ghost use Rattle.sf_cli.specs.Answer.{AreRun, HasRun, IsProved, MayHave, Reaches, Reply, RunAnswer, RunFileAnswer, read_fault_text};
+ghost use Rattle.sf_cli.specs.Answer.{AreRun, HasRun, IsProved, Reaches, Reply, RunAnswer, RunFileAnswer, read_fault_text};
+ghost use Rattle.sf_cli.specs.SoundFile.{MayHave};
 ghost use Rattle.sf_cli.specs.Checked.Printed.{IsOutcomeText};
 ghost use Rattle.sf_cli.specs.Ran.{StateAnswer};
 ghost use Rattle.sf_cli.specs.StartRefusals.{start_refusal_text};
@@ -135,7 +136,8 @@ fn run_state_file<R: Threads + Sync, S: Shelf, G: Gate>(
         → Increased (S.faults shelf.old words.now.state.now)
         (S.faults shelf.new words.now.state.now)
         × (said.text.items ≡ read_fault_text words.now.state.now)) }
-    ensures refused { IfOk result (λ said. said.status ≢ 3) }
+    ensures quiet { IfOk result (λ said. said.status < 7
+        → (any : Text) → S.faults shelf.new any ≡ S.faults shelf.old any) }
     ensures files { S.files shelf.new ≡ S.files shelf.old }
     ensures others { (other : Text) → other ≢ words.now.state.now
         → S.faults shelf.new other ≡ S.faults shelf.old other }
@@ -179,7 +181,7 @@ fn run_entry<R: Threads + Sync, S: Shelf, G: Gate>(
         → ((other ≡ words.now.state.now)
         × HasRun (program_in proof.now) words.now.procedure.now → ⊥)
         → S.faults shelf.new other ≡ S.faults shelf.old other }
-    ensures refused { IfOk result (λ said. said.status ≡ 3
+    ensures quiet { IfOk result (λ said. said.status < 7
         → (any : Text) → S.faults shelf.new any ≡ S.faults shelf.old any) }
     ensures counts { (any : Text) → S.faults shelf.old any ≤ S.faults shelf.new any }
 {
@@ -219,7 +221,7 @@ fn run_proved<R: Threads + Sync, S: Shelf, G: Gate>(
         → ((other ≡ words.now.state.now)
         × HasRun (program_in proof.now) words.now.procedure.now → ⊥)
         → S.faults shelf.new other ≡ S.faults shelf.old other }
-    ensures refused { IfOk result (λ said. said.status ≡ 3
+    ensures quiet { IfOk result (λ said. said.status < 7
         → (any : Text) → S.faults shelf.new any ≡ S.faults shelf.old any) }
     ensures counts { (any : Text) → S.faults shelf.old any ≤ S.faults shelf.new any }
 {
@@ -257,7 +259,7 @@ fn run_program<R: Threads + Wait + Sync, G: Gate, S: Shelf>(
         → ((other ≡ words.now.state.now)
         × HasRun (program_of arranged.now.program) words.now.procedure.now → ⊥)
         → S.faults shelf.new other ≡ S.faults shelf.old other }
-    ensures refused { IfOk result (λ said. said.status ≡ 3
+    ensures quiet { IfOk result (λ said. said.status < 7
         → (any : Text) → S.faults shelf.new any ≡ S.faults shelf.old any) }
     ensures counts { (any : Text) → S.faults shelf.old any ≤ S.faults shelf.new any }
 {
@@ -294,7 +296,7 @@ fn run_bytes<R: Threads + Wait + Sync, S: Shelf, G: Gate>(
     ensures others { (other : Text)
         → ((other ≡ words.now.state.now) × AreRun bytes.now words.now.procedure.now → ⊥)
         → S.faults shelf.new other ≡ S.faults shelf.old other }
-    ensures refused { IfOk result (λ said. said.status ≡ 3
+    ensures quiet { IfOk result (λ said. said.status < 7
         → (any : Text) → S.faults shelf.new any ≡ S.faults shelf.old any) }
     ensures counts { (any : Text) → S.faults shelf.old any ≤ S.faults shelf.new any }
 {
@@ -325,8 +327,8 @@ pub fn run_file<R: Threads + Wait + Sync, S: Shelf, G: Gate>(
         → (Reaches (S.files shelf.old) (Some (run file.now words.now.procedure.now
         words.now.state.now words.now.budget.steps words.now.budget.waits)) other → ⊥)
         → S.faults shelf.new other ≡ S.faults shelf.old other }
-    ensures refused { IfOk result (λ said. said.status ≡ 3 → (other : Text) → other ≢ file.now
-        → S.faults shelf.new other ≡ S.faults shelf.old other) }
+    ensures quiet { IfOk result (λ said. said.status < 7
+        → (any : Text) → S.faults shelf.new any ≡ S.faults shelf.old any) }
     ensures counts { (any : Text) → S.faults shelf.old any ≤ S.faults shelf.new any }
 {
     match fetch_up_to(alloc, file, FILE_BYTES, shelf) {

@@ -1,7 +1,10 @@
 //! The command as a whole, over a shelf and a sink in memory. The answers were worked out by hand.
 
+mod commands;
 mod compared;
 mod examples;
+mod fetches;
+mod files;
 mod numbers;
 mod orders;
 mod proofs;
@@ -9,12 +12,15 @@ mod runs;
 mod sets;
 mod tables;
 mod verdicts;
+mod wide;
 
 use crate::top::smallfoot;
 use crate::usage::USAGE;
+use commands::{RECHECKS, VERDICTS};
 use compared::{FAILED, PROVED};
 use examples::EXAMPLES;
-use proofs::{ACCEPTED, CALL_PROOFS, LOOP_PROOFS, REFUSED, RESOURCE_PROOFS, TEXTS, TREE_PROOFS};
+use files::{FILES, set};
+use proofs::{ACCEPTED, CALL_PROOFS, REFUSED, TEXTS};
 use sf_io::{MemShelf, MemSink, OpenGate};
 use std::alloc::Global;
 use std::process::Abort;
@@ -22,8 +28,8 @@ use std::sync::Wait;
 use std::test::Fail;
 use std::thread::Threads;
 use tables::{
-    ANSWERS, BAD_GRAMMAR, BAD_NAMES, BAD_WORDS, BROKEN_CONDITIONS, COMMANDS, COUNTS, IN_ORDER,
-    LANGUAGE, NESTS, NO_COMMANDS, SET, SET_PROOF, UNDETERMINED,
+    ANSWERS, BAD_GRAMMAR, BAD_NAMES, BAD_WORDS, BROKEN_CONDITIONS, COUNTS, FORMS, IN_ORDER,
+    LANGUAGE, NESTS, NO_COMMANDS, UNDETERMINED,
 };
 use verdicts::{CALLS, CHOICES, EXISTENTIALS, LISTS, LOOPS, PARALLEL, RECURSION, RESOURCES, TREES};
 
@@ -41,6 +47,48 @@ fn says<R: Threads + Wait + Sync + Abort>(
     assert_eq!(rt; out.as_str(), answer.0);
     assert_eq!(rt; status, answer.1);
     Ok(())
+}
+
+/// A shelf with the files of `files`, and with that text under the name `given`.
+fn shelf_with(alloc: Global, given: &str) -> Result<MemShelf, Fail> {
+    let mut shelf = MemShelf::new(alloc);
+    for (name, text) in FILES {
+        shelf.add(name, text.as_bytes())?;
+    }
+    shelf.add("given", given.as_bytes())?;
+    Ok(shelf)
+}
+
+/// Over such a shelf the words are answered with the text and the status that are beside them.
+fn are_said<R: Threads + Wait + Sync + Abort>(
+    rt: &R,
+    alloc: Global,
+    cases: &[(&[&str], &str, &str, u8)],
+) -> Result<(), Fail> {
+    for (words, given, answer, status) in cases {
+        let mut shelf = shelf_with(alloc, given)?;
+        says(rt, alloc, words, &mut shelf, (answer, *status))?;
+    }
+    Ok(())
+}
+
+/// The words are answered with the usage.
+fn are_no_commands<R: Threads + Wait + Sync + Abort>(
+    rt: &R,
+    alloc: Global,
+    cases: &[&[&str]],
+) -> Result<(), Fail> {
+    let mut shelf = shelf_with(alloc, "")?;
+    for words in cases {
+        says(rt, alloc, words, &mut shelf, (USAGE, 2))?;
+    }
+    Ok(())
+}
+
+#[test]
+fn commands_have_their_answers(rt: HostRuntime) -> Result<(), Fail> {
+    are_said(&rt, rt.alloc(), &VERDICTS)?;
+    are_said(&rt, rt.alloc(), &RECHECKS)
 }
 
 /// The status that goes with such an answer to a file.
@@ -162,9 +210,6 @@ fn are_rechecked<R: Threads + Wait + Sync + Abort>(
 
 #[test]
 fn proofs_have_their_answers(rt: HostRuntime) -> Result<(), Fail> {
-    are_rechecked(&rt, rt.alloc(), &TREE_PROOFS)?;
-    are_rechecked(&rt, rt.alloc(), &LOOP_PROOFS)?;
-    are_rechecked(&rt, rt.alloc(), &RESOURCE_PROOFS)?;
     are_rechecked(&rt, rt.alloc(), &CALL_PROOFS)?;
     are_rechecked(&rt, rt.alloc(), &TEXTS)?;
     are_rechecked(&rt, rt.alloc(), &ACCEPTED)?;
@@ -174,8 +219,7 @@ fn proofs_have_their_answers(rt: HostRuntime) -> Result<(), Fail> {
 #[test]
 fn a_proof_may_be_too_long(rt: HostRuntime) -> Result<(), Fail> {
     let alloc = rt.alloc();
-    let mut shelf = MemShelf::new(alloc);
-    shelf.add("set.sf", SET)?;
+    let mut shelf = shelf_with(alloc, "")?;
     let long = vec![in alloc; b' '; 33_554_433]?;
     shelf.add("long", long.as_slice())?;
     let words = ["recheck", "set.sf", "long"];
@@ -184,47 +228,16 @@ fn a_proof_may_be_too_long(rt: HostRuntime) -> Result<(), Fail> {
 }
 
 #[test]
-fn a_proof_is_fetched_after_its_file(rt: HostRuntime) -> Result<(), Fail> {
-    let alloc = rt.alloc();
-    let mut shelf = MemShelf::new(alloc);
-    shelf.add("set.sf", SET)?;
-    shelf.add("bad.sf", b"f() { @ }")?;
-    let cases = [
-        (["recheck", "set.sf", "none"], ("read fault: none\n", 7)),
-        (["recheck", "none.sf", "none"], ("read fault: none.sf\n", 7)),
-        (
-            ["recheck", "bad.sf", "none"],
-            ("file refused: 1 BadByte at 1:7\n", 3),
-        ),
-        (
-            ["recheck", "set.sf", "set.sf"],
-            ("proof refused: line 1 kind 50\n", 4),
-        ),
-    ];
-    for (words, answer) in cases {
-        says(&rt, alloc, &words, &mut shelf, answer)?;
-    }
-    Ok(())
-}
-
-#[test]
 fn words_that_are_no_command_are_answered_with_the_usage(rt: HostRuntime) -> Result<(), Fail> {
-    let alloc = rt.alloc();
-    let mut shelf = MemShelf::new(alloc);
-    shelf.add("p.sf", SET)?;
-    for words in NO_COMMANDS {
-        says(&rt, alloc, words, &mut shelf, (USAGE, 2))?;
-    }
-    Ok(())
+    are_no_commands(&rt, rt.alloc(), &NO_COMMANDS)
 }
 
 #[test]
 fn words_stand_in_any_order_that_the_usage_allows(rt: HostRuntime) -> Result<(), Fail> {
     let alloc = rt.alloc();
-    let mut shelf = MemShelf::new(alloc);
-    shelf.add("p.sf", SET)?;
-    for words in COMMANDS {
-        says(&rt, alloc, words, &mut shelf, (SET_PROOF, 0))?;
+    let mut shelf = shelf_with(alloc, "")?;
+    for words in FORMS {
+        says(&rt, alloc, words, &mut shelf, (set::PROOF, 0))?;
     }
     Ok(())
 }
@@ -292,8 +305,11 @@ fn nested(alloc: Global, parts: (&str, &str, &str, &str), count: u32) -> Result<
 #[test]
 fn limits_of_nesting(rt: HostRuntime) -> Result<(), Fail> {
     let alloc = rt.alloc();
-    for (parts, (limit, more), answer, fault) in NESTS {
-        is_answered(&rt, alloc, nested(alloc, parts, limit)?.as_bytes(), answer)?;
+    let proof = ("accepted\nprocedure f\n", "then\n", "", "return\nend\n");
+    for (parts, (limit, more), thens, fault) in NESTS {
+        let answer = nested(alloc, proof, thens)?;
+        let within = nested(alloc, parts, limit)?;
+        is_answered(&rt, alloc, within.as_bytes(), answer.as_str())?;
         is_refused(&rt, alloc, nested(alloc, parts, more)?.as_bytes(), fault)?;
     }
     Ok(())
@@ -311,13 +327,12 @@ fn limits_of_files(rt: HostRuntime) -> Result<(), Fail> {
 #[test]
 fn faults_of_the_shelf(rt: HostRuntime) -> Result<(), Fail> {
     let alloc = rt.alloc();
-    let mut shelf = MemShelf::new(alloc);
-    shelf.add("set.sf", SET)?;
+    let mut shelf = shelf_with(alloc, "")?;
     shelf.fail_at(2)?;
     let cases = [
         ("none.sf", ("read fault: none.sf\n", 7)),
         ("set.sf", ("read fault: set.sf\n", 7)),
-        ("set.sf", (SET_PROOF, 0)),
+        ("set.sf", (set::PROOF, 0)),
     ];
     for (name, answer) in cases {
         says(&rt, alloc, &["verify", name], &mut shelf, answer)?;
@@ -334,8 +349,7 @@ fn put_into<R: Threads + Wait + Sync>(
     most: usize,
     failing: u64,
 ) -> Result<(String, u8), Fail> {
-    let mut shelf = MemShelf::new(alloc);
-    shelf.add("set.sf", SET)?;
+    let mut shelf = shelf_with(alloc, "")?;
     let mut sink = MemSink::new(alloc, most);
     sink.fail_at(failing)?;
     let words = ["verify", name];
@@ -346,9 +360,9 @@ fn put_into<R: Threads + Wait + Sync>(
 #[test]
 fn faults_of_the_sink(rt: HostRuntime) -> Result<(), Fail> {
     let cases = [
-        ("set.sf", 16, 2, "accepted\nprocedu", 8),
+        ("tree.sf", 16, 2, "accepted\nprocedu", 8),
         ("set.sf", 16, 1, "", 8),
-        ("set.sf", 1, 1000, SET_PROOF, 0),
+        ("set.sf", 1, 1000, set::PROOF, 0),
         ("none.sf", 5, 3, "read fault", 8),
     ];
     for (name, most, failing, text, status) in cases {

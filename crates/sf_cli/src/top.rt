@@ -1,17 +1,19 @@
 //! The top call.
 
-ghost use Rattle.std.specs.Prelude.{◌≡◌, ◌≢◌, ◌≤◌, ◌<◌, ◌⊎◌, List};
+ghost use Rattle.std.specs.Prelude.{◌≡◌, ◌≢◌, ◌≤◌, ◌<◌, ◌⊎◌};
 ghost use Rattle.sf_io.specs.Increased.{Increased};
 ghost use Rattle.sf_io.specs.Sink.{with_bytes, WrotePrefix};
-ghost use Rattle.sf_cli.specs.Answer.{Accepted, Answers, Ended, IsAccepting, NamesProgram, Reaches, Unread, WroteNothingOrPrefix, WroteReplyPrefix};
+ghost use Rattle.sf_cli.specs.Answer.{Accepted, Answers, Ended, Reaches, Unread, WroteNothingOrPrefix, WroteReplyPrefix};
+ghost use Rattle.sf_cli.specs.SoundFile.{IsAccepting, NamesSound};
 ghost use Rattle.sf_words.specs.Words.{Text, order_of};
 ghost use Rattle.sf_words.specs.WordsOf.{words_of};
 
+use crate::command::respond;
 use crate::laws::{
     accepted_files_are_sound, accepted_proofs_are_sound, accepted_runs_are_sound,
     finished_runs_have_ended,
 };
-use crate::reply::{Said, respond};
+use crate::reply::Said;
 use sf_io::{Gate, Shelf, Sink, SinkFault, put_all};
 use std::alloc::Global;
 use std::sync::Wait;
@@ -61,6 +63,9 @@ pub fn smallfoot<'a, R: Threads + Wait + Sync, S: Shelf, K: Sink, G: Gate>(
     sink: &mut K,
     gate: &G,
 ) -> u8
+    // What is accepted is sound: the words name the program's file, and its bytes are those of a
+    // program of which each configuration, whatever runs there are, is good.
+    ensures sound { IsAccepting result → NamesSound (S.files shelf.old) (words_of words.now) }
     // The answer that is due, whole, over files that the shelf's may be.
     ensures answers { result < 7 → (text : Text)
         × (K.written sink.new ≡ with_bytes (K.written sink.old) text)
@@ -88,8 +93,8 @@ pub fn smallfoot<'a, R: Threads + Wait + Sync, S: Shelf, K: Sink, G: Gate>(
         → Increased (S.faults shelf.old name) (S.faults shelf.new name) → ⊥)
         → (Increased (K.faults sink.old) (K.faults sink.new) → ⊥)
         → (result < 7) ⊎ (result ≡ 9) }
-    // What is accepted is sound: whatever runs of it there are, each configuration is good. Of a
-    // run that is also what has a start refused, or has spent its units or tries.
+    // The same with the answer: what is put is that to these very bytes. Of a run a status is also
+    // accepting where a start is refused, or units or tries are spent.
     ensures accepted { IsAccepting result → (text : Text)
         × (K.written sink.new ≡ with_bytes (K.written sink.old) text)
         × Accepted (S.files shelf.old) (words_of words.now) text result }
@@ -98,15 +103,15 @@ pub fn smallfoot<'a, R: Threads + Wait + Sync, S: Shelf, K: Sink, G: Gate>(
     ensures ended { result ≡ 0 → (text : Text)
         × (K.written sink.new ≡ with_bytes (K.written sink.old) text)
         × Ended (S.files shelf.old) (order_of (words_of words.now)) text }
-    // No file changes, and no count falls; that of a name increases only where the work comes to
-    // it: a proof's only where the program's file isn't refused, a state's only where one task runs
-    // an entry of a program that is proved.
+    // No file changes, and no count falls. Where an answer is given none has increased: no proof's
+    // where the program's file is refused, and no state's where a procedure fails, the entry is
+    // refused, or a parallel call can be reached from it. A count increases only where the work
+    // comes to that file.
     ensures counts { (any : Text) → S.faults shelf.old any ≤ S.faults shelf.new any }
+    ensures quiet { result < 7 → (any : Text)
+        → S.faults shelf.new any ≡ S.faults shelf.old any }
     ensures others { (other : Text)
         → (Reaches (S.files shelf.old) (order_of (words_of words.now)) other → ⊥)
-        → S.faults shelf.new other ≡ S.faults shelf.old other }
-    ensures refused { result ≡ 3 → (other : Text)
-        → (NamesProgram (order_of (words_of words.now)) other → ⊥)
         → S.faults shelf.new other ≡ S.faults shelf.old other }
     ensures sink_counts { K.faults sink.old ≤ K.faults sink.new }
     ensures files { S.files shelf.new ≡ S.files shelf.old }

@@ -1,5 +1,5 @@
 -- What rows would leave without one of their conditions: heaps on which it isn't what was wanted.
--- Names: `NAME_may_..` is the example of specs/Subtraction of that name; `hold-one` of one atom on a heap, `all-handed` of what goes.
+-- Names: `NAME_may_..` is the example of specs/Checked/Subtraction of that name; `hold-one` of one atom on a heap, `all-handed` of what goes.
 use Rattle.std.proofs.Common.{◌≡◌, ◌≢◌, ℕ, zero, suc, [], ◌∷◌, Option, Some, None, refl, sym, ap, ◌∙◌, subst, arith}
 use Rattle.std.proofs.lemmas.Option.{none-some}
 use Rattle.sf_base.proofs.HeapSplits.{one-not_empty, one-put, one-same_place, one-single, put_cell, put-here, put-elsewhere, single, star-drop_right, star-empty_right}
@@ -8,7 +8,7 @@ use Rattle.sf_base.specs.declared.ids.Var.{Var}
 use Rattle.sf_base.specs.declared.value.Value.{Value}
 use Rattle.sf_base.specs.declared.value.Value.TheVariants.{Nil as nil, Loc as loc}
 use Rattle.sf_base.specs.HeapStore.{Cell, Heap, IsEmpty, IsOne, Splits}
-use Rattle.sf_proving_tests.specs.Subtraction.{one, EndMayBeInsideAJoinedList, FieldMayBeAnother, ListMayHaveACell, ListWithACellMayBeEmpty}
+use Rattle.sf_proving_tests.specs.Checked.Subtraction.{one, EndMayBeInsideAJoinedList, FieldMayBeAnother, ListMayHaveACell, ListWithACellMayBeEmpty}
 use Rattle.sf_consume.specs.Checked.Laws.{alone, HandsOver}
 use Rattle.sf_consume.specs.Subtract.{Want}
 use Rattle.sf_core.proofs.Assertions.Segments.{loc-same, nil-not_loc, seg-empty, seg-first, seg-one}

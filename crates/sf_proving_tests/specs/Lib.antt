@@ -1,1 +1,1 @@
-pub mod Subtraction
+pub mod Checked

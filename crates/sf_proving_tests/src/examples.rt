@@ -1,7 +1,7 @@
 //! Examples of subtraction: conditions of rows, and why they are there. Each function does nothing;
 //! its contract is the result.
 
-ghost use Rattle.sf_proving_tests.specs.Subtraction.{EndMayBeInsideAJoinedList, FieldMayBeAnother, ListMayHaveACell, ListWithACellMayBeEmpty};
+ghost use Rattle.sf_proving_tests.specs.Checked.Subtraction.{EndMayBeInsideAJoinedList, FieldMayBeAnother, ListMayHaveACell, ListWithACellMayBeEmpty};
 
 /// A segment begins a longer one only where the end of that one can't be inside the first.
 #[tactic(auto, using(crate::proofs::WrongRows::end_may_be_inside))]

@@ -2,7 +2,7 @@
 -- Names: the law's; `ends-WHAT` of what a run ends with.
 use Rattle.std.specs.Prelude.{◌≡◌, ◌+◌, ℕ, suc, List, [], ◌∷◌, Some, Vec, length, map, slice_get}
 use Rattle.std.specs.declared.alloc.Global.{Global}
-use Rattle.std.proofs.Common.{ap, ap₂, ◌∙◌, refl, arith}
+use Rattle.std.proofs.Common.{ap₂, ◌∙◌, refl, arith}
 use Rattle.sf_base.proofs.Options.{some-once}
 use Rattle.sf_base.specs.declared.ids.ProcId.{ProcId}
 use Rattle.sf_base.specs.declared.value.Value.{Value}
@@ -12,7 +12,7 @@ use Rattle.sf_foot.specs.declared.vars.Vars.{Vars}
 use Rattle.sf_foot.specs.Variables.{values_or_none}
 use Rattle.sf_heap.specs.Cells.{Cells}
 use Rattle.sf_machine.specs.Ending.{Ends}
-use Rattle.sf_state.specs.Written.{AreWritable}
+use Rattle.sf_state.specs.Checked.Written.{AreWritable}
 use Rattle.sf_running_tests.specs.Checked.Laws.{AreWithinLimits, FinishesOfFilesReadBack, WrittenStatesOfFilesReadBack}
 
 -- as many values for each resource as it has variables

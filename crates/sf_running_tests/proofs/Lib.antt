@@ -2,6 +2,7 @@ pub mod Started
 pub mod Ordering
 pub mod Names
 pub mod NamesBehind
+pub mod NamesInProofs
 pub mod NamesInTrees
 pub mod NamesOfPrograms
 pub mod NamesOfTokens

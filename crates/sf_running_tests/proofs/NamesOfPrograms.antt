@@ -15,7 +15,7 @@ use Rattle.sf_elab.specs.Names.Declarations.{declared_by, field_names, field_wor
 use Rattle.sf_elab.specs.Names.Texts.{text}
 use Rattle.sf_lex.specs.Whole.{is_name}
 use Rattle.sf_state.specs.Names.{parameters}
-use Rattle.sf_state.specs.Written.{AreNames, HasNames}
+use Rattle.sf_state.specs.Checked.Written.{AreNames, HasNames}
 use Rattle.sf_running_tests.proofs.NamesInTrees.{AreNamedItems, IsNamed, IsNamedProcedure, IsNamedResource}
 
 -- the text is a name

@@ -1,10 +1,11 @@
-//! Laws that join reading files with writing states. Each function only cites other laws; its
+//! Laws that join reading files with writing states and proofs. Each function only cites other laws; its
 //! contract is the law.
 
-ghost use Rattle.sf_running_tests.specs.Checked.Laws.{FinishesOfFilesReadBack, ProgramsThatAreReadHaveNames, WrittenStatesOfFilesReadBack};
+ghost use Rattle.sf_running_tests.specs.Checked.Laws.{FinishesOfFilesReadBack, ProgramsThatAreReadHaveNames, WrittenProofsOfFilesReadBack, WrittenStatesOfFilesReadBack};
 
 use sf_elab::laws::{elaborated_is_formed, names_are_unique};
 use sf_lex::laws::each_token_is_its_text;
+use sf_proof::laws::written_tags_read_back;
 use sf_state::laws::written_states_read_back;
 
 /// The names of each program that a file is are names that a state's text can have, and those of
@@ -32,4 +33,13 @@ pub fn finishes_of_files_read_back()
     ensures { FinishesOfFilesReadBack }
 {
     written_states_of_files_read_back();
+}
+
+/// What is written of tags of a program that a file is, is read back as these, where it is within
+/// the limit.
+pub fn written_proofs_of_files_read_back()
+    ensures { WrittenProofsOfFilesReadBack }
+{
+    programs_that_are_read_have_names();
+    written_tags_read_back();
 }

@@ -2,7 +2,7 @@
 //! task, by the public calls of their crates, and laws that join these crates. They are in a crate
 //! of their own so that the crates that they test needn't be proved once more with them.
 //!
-//! - `laws`: that what is written of a run of a file's program is read back.
+//! - `laws`: that what is written of a proof or of a run of a file's program is read back.
 //! - `files`: programs from their texts, and starts of their procedures.
 //! - `shelves`: shelves that hand out files and sinks that take bytes, and a caller of any of them.
 //! - `heaps`: cells that are put, taken, joined and parted off.

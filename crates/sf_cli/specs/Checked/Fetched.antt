@@ -4,7 +4,7 @@
 -- be.
 use Rattle.std.specs.Prelude.{◌≡◌, ℕ, ◌<◌, ◌⊎◌, Option, length}
 use Rattle.sf_io.specs.Shelf.{Files}
-use Rattle.sf_cli.specs.Answer.{MayHave}
+use Rattle.sf_cli.specs.SoundFile.{MayHave}
 use Rattle.sf_words.specs.Words.{Text}
 
 -- all of the file, or more than it may have of one that has more

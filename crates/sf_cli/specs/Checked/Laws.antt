@@ -4,7 +4,8 @@
 use Rattle.std.specs.Prelude.{◌≡◌, ℕ, List, Option, Some}
 use Rattle.sf_core.specs.Program.Syntax.{Program}
 use Rattle.sf_io.specs.Shelf.{Files}
-use Rattle.sf_cli.specs.Answer.{AcceptedBytes, Answer, EndedRun, FileAnswer, IsAccepting, Names, OrderAnswer, RunAnswer}
+use Rattle.sf_cli.specs.Answer.{AcceptedBytes, Answer, EndedRun, FileAnswer, Names, OrderAnswer, RunAnswer}
+use Rattle.sf_cli.specs.SoundFile.{IsAccepting}
 use Rattle.sf_cli.specs.FileFault.{Admits, FileFault}
 use Rattle.sf_cli.specs.declared.refusal.Refusal.{Refusal}
 use Rattle.sf_cli.specs.Rechecked.{ProofAnswer}

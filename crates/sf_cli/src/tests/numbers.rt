@@ -8,8 +8,9 @@ use std::test::Fail;
 
 /// Two of f's values are set or passed as references, so its body works on copies of them. In g an
 /// existential is made around a choice, and each branch makes its own.
-const FILE: &str =
-    "q, tl;\nf(x; y, z, u) { local t; u = nil; f(y; z, t, u); }\ng(x) [_a == x * if x == _a then _b == x * _y == x else _y == x] { x->tl = nil; }";
+const FILE: &str = "q, tl;
+f(x; y, z, u) { local t; u = nil; f(y; z, t, u); }
+g(x) [_a == x * if x == _a then _b == x * _y == x else _y == x] { x->tl = nil; }";
 
 /// The names are these, in order.
 fn are_named<R: Abort>(rt: &R, names: &[Name], texts: &[&str]) {

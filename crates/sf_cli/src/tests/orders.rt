@@ -40,8 +40,13 @@ fn are_at<A: Abort>(
 
 #[test]
 fn annotations_are_arranged(rt: HostRuntime) -> Result<(), Fail> {
-    let file =
-        "f(x) [ls(_y,nil) * x|->tl:_y] {\n  while (x != nil)\n[tree(_b) * _a == _b * x|->l:_a] { x = nil; }\n}\n[x|->l:_c * if x == nil then ls(_d,nil) * x|->tl:_d else x == nil]\nresource r (v) [ls(_y,nil) * v|->tl:_y]\n";
+    let file = "f(x) [ls(_y,nil) * x|->tl:_y] {
+  while (x != nil)
+[tree(_b) * _a == _b * x|->l:_a] { x = nil; }
+}
+[x|->l:_c * if x == nil then ls(_d,nil) * x|->tl:_d else x == nil]
+resource r (v) [ls(_y,nil) * v|->tl:_y]
+";
     let orders: [&[(u32, u32)]; 4] = [
         &[(6, 30), (6, 17)],
         &[(1, 20), (1, 7)],

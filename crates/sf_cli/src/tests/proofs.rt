@@ -1,97 +1,40 @@
 //! Texts of proofs, and what is said of them, worked out by hand.
 
-/// Disposal of a tree by two parallel calls.
-pub const TREE_PROOFS: [(&[u8], &str, &str); 6] = [
-    (
-        b"disp_tree(p) [tree(p)] {\n  local i, j;\n  if (p == nil) { } else {\n    i = p->l;\n    j = p->r;\n    disp_tree(i) || disp_tree(j);\n    dispose(p);\n  }\n} [emp]\n",
-        "accepted\nprocedure disp_tree\nadd\nsplit s0 nil\ndrop 1\nthen\nreturn\nend\nelse\nunroll 1\nlook 2\nlook 2\nfork\nexact 3\nexact 4\ngive\ndispose 2\nreturn\nend\n",
-        "accepted\n",
-    ),
-    (
-        b"disp_tree(p) [tree(p)] {\n  local i, j;\n  if (p == nil) { } else {\n    i = p->l;\n    j = p->r;\n    disp_tree(i) || disp_tree(j);\n    dispose(p);\n  }\n} [emp]\n",
-        "accepted\nprocedure disp_tree\nadd\nsplit s0 nil\ndrop 1\nthen\nreturn\nend\nelse\nunroll 1\nlook 2\nlook 2\nfork\nexact 3\nexact 4\ngive\ndispose 2\nreturn\n",
-        "proof refused: line 19 kind 61\n",
-    ),
-    (
-        b"disp_tree(p) [tree(p)] {\n  local i, j;\n  if (p == nil) { } else {\n    i = p->l;\n    j = p->r;\n    disp_tree(i) || disp_tree(j);\n    dispose(p);\n  }\n} [emp]\n",
-        "accepted\nprocedure disp_tree\nadd\nsplit s0 nil\ndrop 1\ndrop 1\nthen\nreturn\nend\nelse\nunroll 1\nlook 2\nlook 2\nfork\nexact 3\nexact 4\ngive\ndispose 2\nreturn\nend\n",
-        "proof refused: line 6 kind 60\n",
-    ),
-    (
-        b"disp_tree(p) [tree(p)] {\n  local i, j;\n  if (p == nil) { } else {\n    i = p->l;\n    j = p->r;\n    disp_tree(i) || disp_tree(j);\n    dispose(p);\n  }\n} [emp]\n",
-        "accepted\nprocedure disp_tree\nadd\nsplit s0 nil\ndrop 1\nthen\nreturn\nend\nelse\nunroll 1\nlook 2\nlook 2\nfork\nexact 3\nexact 4\ngive\ndispose 2\nreturn\nend\nend\n",
-        "proof refused: line 20 kind 62\n",
-    ),
-    (
-        b"disp_tree(p) [tree(p)] {\n  local i, j;\n  if (p == nil) { } else {\n    i = p->l;\n    j = p->r;\n    disp_tree(i) || disp_tree(j);\n    dispose(p);\n  }\n} [emp]\n",
-        "accepted\nprocedure disp_tree\nadd\nspilt s0 nil\ndrop 1\nthen\nreturn\nend\nelse\nunroll 1\nlook 2\nlook 2\nfork\nexact 3\nexact 4\ngive\ndispose 2\nreturn\nend\n",
-        "proof refused: line 4 kind 50\n",
-    ),
-    (
-        b"disp_tree(p) [tree(p)] {\n  local i, j;\n  if (p == nil) { } else {\n    i = p->l;\n    j = p->r;\n    disp_tree(i) || disp_tree(j);\n    dispose(p);\n  }\n} [emp]\n",
-        "",
-        "proof refused: line 1 kind 50\n",
-    ),
-];
-
-/// Reversal of a list by a loop.
-pub const LOOP_PROOFS: [(&[u8], &str, &str); 3] = [
-    (
-        b"rev(o; i) [list(i)] {\n  local t;\n  o = nil;\n  while (i != nil) [list(o) * list(i)] {\n    t = i->tl;\n    i->tl = o;\n    o = i;\n    i = t;\n  }\n} [list(o)]\n",
-        "accepted\nprocedure rev\nadd\nassign\nassign\nloop\nempty\nexact 1\naround\nadd\nadd\nadd\nunroll 3\nlook 4\nmutate 4\nassign\nassign\nagain\nhead 4\nexact 2\nexact 5\nend\nadd\nadd\nadd\ndrop 3\nreturn\nexact 2\nend\n",
-        "accepted\n",
-    ),
-    (
-        b"rev(o; i) [list(i)] {\n  local t;\n  o = nil;\n  while (i != nil) [list(o) * list(i)] {\n    t = i->tl;\n    i->tl = o;\n    o = i;\n    i = t;\n  }\n} [list(o)]\n",
-        "accepted\nprocedure rev\nadd\nassign\nassign\nloop\nempty\nexact 1\naround\nadd\nadd\nadd\nunroll 3\nlook 4\nmutate 4\nassign\nassign\nagain\nhead 4\nexact 2\nexact 5\nend\nadd\nadd\nadd\ndrop 3\nreturn\nexact 2\n",
-        "proof refused: line 29 kind 61\n",
-    ),
-    (
-        b"rev(o; i) [list(i)] {\n  local t;\n  o = nil;\n  while (i != nil) [list(o) * list(i)] {\n    t = i->tl;\n    i->tl = o;\n    o = i;\n    i = t;\n  }\n} [list(o)]\n",
-        "accepted\nprocedure rev\nadd\nassign\nassign\nloop\nempty\nexact 1\naround\nadd\nadd\nadd\nunroll 3\nlook 4\nmutate 4\nassign\nassign\nagain\nhead 4\nexact 2\nexact 5\nend\nadd\nadd\nadd\ndrop 3\nreturn\nexact 2\nend\nend\n",
-        "proof refused: line 30 kind 62\n",
-    ),
-];
-
-/// A memory manager and a one-place buffer.
-pub const RESOURCE_PROOFS: [(&[u8], &str, &str); 5] = [
-    (
-        b"resource mm (f) [list(f)]\nalloc(x;) [emp] {\n  with mm when (true) {\n    if (f == nil) { x = new(); } else { x = f; f = x->tl; }\n  }\n} [x|->]\ndealloc(y) [y|->] {\n  with mm when (true) { y->tl = f; f = y; }\n} [emp]\n",
-        "accepted\nprocedure alloc\nenter\nadd\nsplit s1 nil\ndrop 1\nthen\nnew\nexit\nempty\ngive\nreturn\ncell 2\nend\nelse\nassign\nunroll 1\nlook 2\nexit\nexact 3\ngive\nreturn\ncell 2\nend\nprocedure dealloc\nadd\nenter\nadd\nmutate 1\nassign\nexit\nhead 1\nexact 2\ngive\nreturn\nend\n",
-        "accepted\n",
-    ),
-    (
-        b"resource mm (f) [list(f)]\nalloc(x;) [emp] {\n  with mm when (true) {\n    if (f == nil) { x = new(); } else { x = f; f = x->tl; }\n  }\n} [x|->]\ndealloc(y) [y|->] {\n  with mm when (true) { y->tl = f; f = y; }\n} [emp]\n",
-        "accepted\nprocedure alloc\nenter\nadd\nsplit s1 nil\ndrop 1\nthen\nnew\nexit\nexact 2\ngive\nreturn\ncell 2\nend\nelse\nassign\nunroll 1\nlook 2\nexit\nexact 3\ngive\nreturn\ncell 2\nend\nprocedure dealloc\nadd\nenter\nadd\nmutate 1\nassign\nexit\nhead 1\nexact 2\ngive\nreturn\nend\n",
-        "proof refused: line 10 kind 60\n",
-    ),
-    (
-        b"resource mm (f) [list(f)]\nalloc(x;) [emp] {\n  with mm when (true) {\n    if (f == nil) { x = new(); } else { x = f; f = x->tl; }\n  }\n} [x|->]\ndealloc(y) [y|->] {\n  with mm when (true) { y->tl = f; f = y; }\n} [emp]\n",
-        "accepted\nprocedure alloc\nenter\nadd\nsplit s1 nil\ndrop 1\nthen\nnew\nexit\nempty\ngive\nreturn\ncell 2\nend\nelse\nassign\nunroll 1\nlook 2\nexit\nexact 3\ngive\nreturn\ncell 2\nend\nprocedure dealloc\nadd\nenter\nadd\nmutate 1\nassign\nexit\nhead 1\nexact 2\ngive\nreturn\n",
-        "proof refused: line 36 kind 61\n",
-    ),
-    (
-        b"resource buf (c, full) [if full == 0 then emp else c|->]\nput(x) [x|->] {\n  with buf when (full == 0) { c = x; full = 1; }\n} [emp]\nget(y;) [emp] {\n  with buf when (full != 0) { y = c; full = 0; }\n} [y|->]\nmain() {\n  local x, y;\n  x = new();\n  put(x) || get(y;);\n  dispose(y);\n}\n",
-        "accepted\nprocedure put\nadd\nenter\nsplit s2 0\nthen\nadd\nassign\nassign\nexit\nelse\ncell 1\ngive\nreturn\nend\nelse\nadd\nadd\nabsurd\nprocedure get\nenter\nsplit s2 0\nthen\nadd\nabsurd\nelse\nadd\nadd\nassign\nassign\nexit\nthen\ngive\nreturn\ncell 1\nend\nprocedure main\nnew\nfork\ncell 1\ngive\nadd\ndispose 2\nreturn\nend\n",
-        "accepted\n",
-    ),
-    (
-        b"resource buf (c, full) [if full == 0 then emp else c|->]\nput(x) [x|->] {\n  with buf when (full == 0) { c = x; full = 1; }\n} [emp]\nget(y;) [emp] {\n  with buf when (full != 0) { y = c; full = 0; }\n} [y|->]\nmain() {\n  local x, y;\n  x = new();\n  put(x) || get(y;);\n  dispose(y);\n}\n",
-        "accepted\nprocedure put\nadd\nenter\nsplit s2 0\nthen\nadd\nassign\nassign\nexit\nelse\ncell 1\ngive\nreturn\nend\nelse\nadd\nadd\nabsurd\nprocedure main\nenter\nsplit s2 0\nthen\nadd\nabsurd\nelse\nadd\nadd\nassign\nassign\nexit\nthen\ngive\nreturn\ncell 1\nend\nprocedure main\nnew\nfork\ncell 1\ngive\nadd\ndispose 2\nreturn\nend\n",
-        "proof refused: line 20 kind 60\n",
-    ),
-];
-
 /// A procedure that calls another; the proof of the call, and without the row that takes the cell.
 pub const CALL_PROOFS: [(&[u8], &str, &str); 2] = [
     (
         b"f(x) [x|->] { dispose(x); }\ng(x) [x|->] { f(x); }\n",
-        "accepted\nprocedure f\nadd\ndispose 1\nreturn\nend\nprocedure g\nadd\ncall\ncell 1\ngive\nreturn\nend\n",
+        "accepted
+procedure f
+add
+dispose 1
+return
+end
+procedure g
+add
+call
+cell 1
+give
+return
+end
+",
         "accepted\n",
     ),
     (
         b"f(x) [x|->] { dispose(x); }\ng(x) [x|->] { f(x); }\n",
-        "accepted\nprocedure f\nadd\ndispose 1\nreturn\nend\nprocedure g\nadd\ncall\ngive\nreturn\nend\n",
+        "accepted
+procedure f
+add
+dispose 1
+return
+end
+procedure g
+add
+call
+give
+return
+end
+",
         "proof refused: line 10 kind 60\n",
     ),
 ];
@@ -192,7 +135,21 @@ pub const TEXTS: [(&[u8], &str, &str); 19] = [
 pub const ACCEPTED: [(&[u8], &str, &str); 14] = [
     (
         b"f(x,y) [ls(x,y) * list(y)] { } [list(x)]\n",
-        "accepted\nprocedure f\nadd\nadd\nreturn\nsplit s0 nil\nforce 1\ndrop 1\ndrop 2\nempty\nend\njoin 1\nexact 2\nend\n",
+        "accepted
+procedure f
+add
+add
+return
+split s0 nil
+force 1
+drop 1
+drop 2
+empty
+end
+join 1
+exact 2
+end
+",
         "accepted\n",
     ),
     (
@@ -207,7 +164,20 @@ pub const ACCEPTED: [(&[u8], &str, &str); 14] = [
     ),
     (
         b"f(x) [list(x)] { } [if x == nil then emp else x|->tl:_y * list(_y)]\n",
-        "accepted\nprocedure f\nadd\nreturn\nsplit s0 nil\ndrop 1\nthen\nend\nelse\nunroll 1\ncell 2\nexact 3\nend\n",
+        "accepted
+procedure f
+add
+return
+split s0 nil
+drop 1
+then
+end
+else
+unroll 1
+cell 2
+exact 3
+end
+",
         "accepted\n",
     ),
     (
@@ -246,13 +216,76 @@ pub const ACCEPTED: [(&[u8], &str, &str); 14] = [
         "accepted\n",
     ),
     (
-        b"f(x,y) [x != nil * list(x) * list(y)] { } [list(x) * (if x == y then emp else list(y))]\n",
-        "accepted\nprocedure f\nadd\nadd\nadd\nreturn\nexact 1\nsplit s0 s1\nabsurd\nelse\nexact 2\nend\n",
+        b"f(x,y) [x != nil * list(x) * list(y)] { } [list(x) * (if x == y then emp else list(y))]
+",
+        "accepted
+procedure f
+add
+add
+add
+return
+exact 1
+split s0 s1
+absurd
+else
+exact 2
+end
+",
         "accepted\n",
     ),
     (
-        b"f(x,y) [list(x)] { local t; t = x; while (t != nil) [ls(x,t) * list(t)] { if (x == t) { } else { } t = t->tl; } } [list(x)]\n",
-        "accepted\nprocedure f\nadd\nassign\nloop\nempty\nexact 1\naround\nadd\nadd\nadd\nsplit s0 s2\ndrop 2\nthen\nunroll 3\nlook 4\nagain\nsplit s0 s3\nabsurd\nhead 4\nempty\nexact 5\nend\nelse\nunroll 3\nlook 4\nagain\nsplit s0 s3\nforce 5\nabsurd\nsplit s3 nil\ndrop 5\njoin 2\nhead 4\nempty\nempty\nend\njoin 2\nhead 4\nempty\nexact 5\nend\nadd\nadd\nadd\ndrop 3\nreturn\nexact 2\nend\n",
+        b"f(x,y) [list(x)] { local t; t = x; while (t != nil) [ls(x,t) * list(t)] { if (x == t) { } else { } t = t->tl; } } [list(x)]
+",
+        "accepted
+procedure f
+add
+assign
+loop
+empty
+exact 1
+around
+add
+add
+add
+split s0 s2
+drop 2
+then
+unroll 3
+look 4
+again
+split s0 s3
+absurd
+head 4
+empty
+exact 5
+end
+else
+unroll 3
+look 4
+again
+split s0 s3
+force 5
+absurd
+split s3 nil
+drop 5
+join 2
+head 4
+empty
+empty
+end
+join 2
+head 4
+empty
+exact 5
+end
+add
+add
+add
+drop 3
+return
+exact 2
+end
+",
         "accepted\n",
     ),
     (

@@ -1,8 +1,6 @@
 //! Files and the answers to them, worked out by hand.
 
-pub const SET: &[u8] = b"set(x) [x|->] { x->tl = 3; } [x|->tl:3]";
-
-pub const SET_PROOF: &str = "accepted\nprocedure set\nadd\nmutate 1\nreturn\ncell 1\nend\n";
+use super::files::set;
 
 pub const KEPT: &str = "accepted\nprocedure f\nadd\nreturn\ncell 1\nend\n";
 
@@ -13,7 +11,7 @@ pub const WRITTEN: &str = "accepted\nprocedure f\nadd\nmutate 1\nreturn\ncell 1\
 /// Files with what is said of them.
 pub const ANSWERS: [(&[u8], &str); 36] = [
     (b"", "accepted\n"),
-    (SET, SET_PROOF),
+    (b"set(x) [x|->] { x->tl = 3; } [x|->tl:3]", set::PROOF),
     (
         b"set(x) [] { x->tl = 3; }",
         "failed set at 1:13 NoCell\nvars x = s0\napart\natoms\ntaken\nwant cell s0\n",
@@ -50,11 +48,23 @@ pub const ANSWERS: [(&[u8], &str); 36] = [
     (b"f(x) [nil|->] { }", "accepted\nprocedure f\nadd\nabsurd\n"),
     (
         b"f(x) [x|->hd:1] { } [x|->hd:2]",
-        "failed f at 1:19 NotEqual\nvars x = s0\napart s0 != nil\natoms 1: s0|->hd:1\ntaken\nwant 1 == 2\n",
+        "failed f at 1:19 NotEqual
+vars x = s0
+apart s0 != nil
+atoms 1: s0|->hd:1
+taken
+want 1 == 2
+",
     ),
     (
         b"f(x) [x|->] { } [x|->hd:nil]",
-        "failed f at 1:15 NotEqual\nvars x = s0\napart s0 != nil\natoms 1: s0|->\ntaken\nwant ? == nil\n",
+        "failed f at 1:15 NotEqual
+vars x = s0
+apart s0 != nil
+atoms 1: s0|->
+taken
+want ? == nil
+",
     ),
     (
         b"f(x) [x|->] { }",
@@ -102,7 +112,7 @@ pub const ANSWERS: [(&[u8], &str); 36] = [
 ];
 
 /// Files that are refused for their words, with the kind and the place.
-pub const BAD_WORDS: [(&[u8], &str); 9] = [
+pub const BAD_WORDS: [(&[u8], &str); 11] = [
     (
         b"x\n _a123456789012345678901234567890123456789012345678901234567890123;",
         "2 LongWord at 2:2",
@@ -117,6 +127,11 @@ pub const BAD_WORDS: [(&[u8], &str); 9] = [
         "4 BadNumber at 1:14",
     ),
     (b"f(x) [x|->hd:1a] { }", "4 BadNumber at 1:14"),
+    (
+        b"f() { x->tl = 9223372036854775808; }",
+        "4 BadNumber at 1:15",
+    ),
+    (b"f() { @ }", "1 BadByte at 1:7"),
     (b"f(x) [x | -> ] { }", "1 BadByte at 1:9"),
     (
         b"a1234567890123456789012345678901234567890123456789012345678901234;",
@@ -127,11 +142,12 @@ pub const BAD_WORDS: [(&[u8], &str); 9] = [
 ];
 
 /// Files that are refused by the grammar.
-pub const BAD_GRAMMAR: [(&[u8], &str); 4] = [
+pub const BAD_GRAMMAR: [(&[u8], &str); 5] = [
     (b"f() { } ]", "10 Unexpected at 1:9"),
     (b"f(x)", "10 Unexpected at 1:5"),
     (b"f(nil) { }", "10 Unexpected at 1:3"),
     (b"f(x) { x->hd = x }", "10 Unexpected at 1:18"),
+    (b"f() { x = ; }", "10 Unexpected at 1:11"),
 ];
 
 /// Files that are refused for names, with the name.
@@ -204,7 +220,11 @@ pub const BROKEN_CONDITIONS: [(&[u8], &str); 24] = [
         "30 NotHeld at 3:7 f",
     ),
     (
-        b"resource r (v) []\na() { with r when (true) { } }\nb() { a(); }\nc() { b(); }\nd() { with r when (true) { c(); } }",
+        b"resource r (v) []
+a() { with r when (true) { } }
+b() { a(); }
+c() { b(); }
+d() { with r when (true) { c(); } }",
         "31 Reentered at 5:28 r",
     ),
     (
@@ -348,11 +368,23 @@ pub const IN_ORDER: [(&[u8], &str); 29] = [
     ),
     (
         b"f(x) [if x == nil then x == _y else x|->tl:_y] { }",
-        "failed f at 1:50 Leak\nvars x = s0\napart s0 != nil\natoms 1: s0|->tl:s1\ntaken\nwant emp\n",
+        "failed f at 1:50 Leak
+vars x = s0
+apart s0 != nil
+atoms 1: s0|->tl:s1
+taken
+want emp
+",
     ),
     (
         b"f(x) [ls(_a,_b) * _b|->tl:_a * x|->tl:_b] { }",
-        "failed f at 1:45 Leak\nvars x = s0\napart s0 != nil, s1 != nil\natoms 1: s0|->tl:s1, 2: s1|->tl:s1\ntaken\nwant emp\n",
+        "failed f at 1:45 Leak
+vars x = s0
+apart s0 != nil, s1 != nil
+atoms 1: s0|->tl:s1, 2: s1|->tl:s1
+taken
+want emp
+",
     ),
     (
         b"f(x) [_a == _b * _b == x] { }",
@@ -360,7 +392,20 @@ pub const IN_ORDER: [(&[u8], &str); 29] = [
     ),
     (
         b"f(x) [if x == nil then (if x == nil then _z == x * list(_z) else _z == nil) else emp] { }",
-        "accepted\nprocedure f\nsplit s0 nil\nthen\nthen\nadd\nadd\ndrop 1\nreturn\nend\nelse\nreturn\nend\n",
+        "accepted
+procedure f
+split s0 nil
+then
+then
+add
+add
+drop 1
+return
+end
+else
+return
+end
+",
     ),
     (
         b"resource r (v) [] f() { with r when (v == nil) { v = nil; } }",
@@ -392,7 +437,13 @@ pub const IN_ORDER: [(&[u8], &str); 29] = [
     ),
     (
         b"f(x) [_a != x * x|->tl:_a] { }",
-        "failed f at 1:30 Leak\nvars x = s0\napart s0 != nil, s1 != s0\natoms 1: s0|->tl:s1\ntaken\nwant emp\n",
+        "failed f at 1:30 Leak
+vars x = s0
+apart s0 != nil, s1 != s0
+atoms 1: s0|->tl:s1
+taken
+want emp
+",
     ),
     (
         b"resource r (v) [] f(v;) { v = nil; }",
@@ -412,18 +463,37 @@ pub const IN_ORDER: [(&[u8], &str); 29] = [
     ),
     (
         b"a; tl; f(x) [list(x)] { }",
-        "failed f at 1:25 Leak\nvars x = s0\napart s0 != nil\natoms 1: ls(s0,nil)\ntaken\nwant emp\n",
+        "failed f at 1:25 Leak
+vars x = s0
+apart s0 != nil
+atoms 1: ls(s0,nil)
+taken
+want emp
+",
     ),
     (b"f; resource f (f) [] f(g;) { }", EMPTY),
     (
         b"f(x) [(if x == nil then _y == nil else emp) * (if x == nil then emp else _y == nil)] { }",
-        "accepted\nprocedure f\nsplit s0 nil\nthen\nadd\nthen\nreturn\nend\nelse\nelse\nadd\nreturn\nend\n",
+        "accepted
+procedure f
+split s0 nil
+then
+add
+then
+return
+end
+else
+else
+add
+return
+end
+",
     ),
 ];
 
 /// The examples of docs/LANGUAGE.md, copied.
 pub const LANGUAGE: [(&[u8], &str); 27] = [
-    (b"set(x) [x|->] { x->tl = 3; } [x|->tl:3]", SET_PROOF),
+    (b"set(x) [x|->] { x->tl = 3; } [x|->tl:3]", set::PROOF),
     (
         b"key, next;\nmark(x) [x|->] { x->key = 1; x->next = nil; } [x|->next:nil,key:1]",
         "accepted\nprocedure mark\nadd\nmutate 1\nmutate 1\nreturn\ncell 1\nend\n",
@@ -438,27 +508,139 @@ pub const LANGUAGE: [(&[u8], &str); 27] = [
     ),
     (b"resource r (v) [v|->tl:_x * tree(_x)]", "accepted\n"),
     (
-        b"resource buf (c, full) [if full == 0 then emp else c|->]\nput(x) [x|->] { with buf when (full == 0) { c = x; full = 1; } } [emp]\nget(y;) [emp] { with buf when (full != 0) { y = c; full = 0; } } [y|->]\nmain() { local x, y; x = new(); put(x) || get(y;); dispose(y); }",
-        "accepted\nprocedure put\nadd\nenter\nsplit s2 0\nthen\nadd\nassign\nassign\nexit\nelse\ncell 1\ngive\nreturn\nend\nelse\nadd\nadd\nabsurd\nprocedure get\nenter\nsplit s2 0\nthen\nadd\nabsurd\nelse\nadd\nadd\nassign\nassign\nexit\nthen\ngive\nreturn\ncell 1\nend\nprocedure main\nnew\nfork\ncell 1\ngive\nadd\ndispose 2\nreturn\nend\n",
+        b"resource buf (c, full) [if full == 0 then emp else c|->]
+put(x) [x|->] { with buf when (full == 0) { c = x; full = 1; } } [emp]
+get(y;) [emp] { with buf when (full != 0) { y = c; full = 0; } } [y|->]
+main() { local x, y; x = new(); put(x) || get(y;); dispose(y); }",
+        "accepted
+procedure put
+add
+enter
+split s2 0
+then
+add
+assign
+assign
+exit
+else
+cell 1
+give
+return
+end
+else
+add
+add
+absurd
+procedure get
+enter
+split s2 0
+then
+add
+absurd
+else
+add
+add
+assign
+assign
+exit
+then
+give
+return
+cell 1
+end
+procedure main
+new
+fork
+cell 1
+give
+add
+dispose 2
+return
+end
+",
     ),
     (
         b"f(x) [if x == nil then x == _y else x|->tl:_y] { }",
-        "failed f at 1:50 Leak\nvars x = s0\napart s0 != nil\natoms 1: s0|->tl:s1\ntaken\nwant emp\n",
+        "failed f at 1:50 Leak
+vars x = s0
+apart s0 != nil
+atoms 1: s0|->tl:s1
+taken
+want emp
+",
     ),
     (
-        b"rev(o; i) [list(i)] {\n  local t;\n  o = nil;\n  while (i != nil) [list(o) * list(i)] {\n    t = i->tl;\n    i->tl = o;\n    o = i;\n    i = t;\n  }\n} [list(o)]\n",
-        "accepted\nprocedure rev\nadd\nassign\nassign\nloop\nempty\nexact 1\naround\nadd\nadd\nadd\nunroll 3\nlook 4\nmutate 4\nassign\nassign\nagain\nhead 4\nexact 2\nexact 5\nend\nadd\nadd\nadd\ndrop 3\nreturn\nexact 2\nend\n",
+        b"rev(o; i) [list(i)] {
+  local t;
+  o = nil;
+  while (i != nil) [list(o) * list(i)] {
+    t = i->tl;
+    i->tl = o;
+    o = i;
+    i = t;
+  }
+} [list(o)]
+",
+        "accepted
+procedure rev
+add
+assign
+assign
+loop
+empty
+exact 1
+around
+add
+add
+add
+unroll 3
+look 4
+mutate 4
+assign
+assign
+again
+head 4
+exact 2
+exact 5
+end
+add
+add
+add
+drop 3
+return
+exact 2
+end
+",
     ),
     (
         b"resource mm (f) [list(f)]\npeek(x;) { x = f; }",
         "file refused: 30 NotHeld at 2:16 f\n",
     ),
     (
-        b"resource mm (f) [list(f)]\npeek(x;) { with mm when (true) { x = f; } }\nlook(x;) [f == nil] { x = f; }",
-        "accepted\nprocedure peek\nenter\nadd\nassign\nexit\nexact 1\ngive\nreturn\nend\nprocedure look\nadd\nassign\nreturn\nend\n",
+        b"resource mm (f) [list(f)]
+peek(x;) { with mm when (true) { x = f; } }
+look(x;) [f == nil] { x = f; }",
+        "accepted
+procedure peek
+enter
+add
+assign
+exit
+exact 1
+give
+return
+end
+procedure look
+add
+assign
+return
+end
+",
     ),
     (
-        b"resource r (v) []\na() { with r when (true) { v = nil; } }\nb() { with r when (true) { a(); } }",
+        b"resource r (v) []
+a() { with r when (true) { v = nil; } }
+b() { with r when (true) { a(); } }",
         "file refused: 31 Reentered at 3:28 r\n",
     ),
     (
@@ -470,36 +652,202 @@ pub const LANGUAGE: [(&[u8], &str); 27] = [
         "accepted\nprocedure f\nassign\nreturn\nend\nprocedure p\nfork\ngive\nreturn\nend\n",
     ),
     (
-        b"push(top; value) [list(top)] {\n  local cell;\n  cell = new();\n  cell->hd = value;\n  cell->tl = top;\n  top = cell;\n} [list(top)]\n",
-        "accepted\nprocedure push\nadd\nnew\nmutate 2\nmutate 2\nassign\nreturn\nhead 2\nexact 1\nend\n",
+        b"push(top; value) [list(top)] {
+  local cell;
+  cell = new();
+  cell->hd = value;
+  cell->tl = top;
+  top = cell;
+} [list(top)]
+",
+        "accepted
+procedure push
+add
+new
+mutate 2
+mutate 2
+assign
+return
+head 2
+exact 1
+end
+",
     ),
     (
-        b"push(top; value) [list(top)] {\n  local cell;\n  cell = new();\n  cell->hd = value;\n  cell->tl = nil;\n  top = cell;\n} [list(top)]\n",
-        "failed push at 7:1 Leak\nvars top = s2, value = s1, cell = s2\napart s0 != nil, s2 != nil\natoms 1: ls(s0,nil)\ntaken 2: s2|->hd:s1,tl:nil\nwant emp\n",
+        b"push(top; value) [list(top)] {
+  local cell;
+  cell = new();
+  cell->hd = value;
+  cell->tl = nil;
+  top = cell;
+} [list(top)]
+",
+        "failed push at 7:1 Leak
+vars top = s2, value = s1, cell = s2
+apart s0 != nil, s2 != nil
+atoms 1: ls(s0,nil)
+taken 2: s2|->hd:s1,tl:nil
+want emp
+",
     ),
     (
-        b"clear(top;) [list(top)] {\n  local cell;\n  while (top != nil) [list(top)] {\n    cell = top;\n    top = cell->tl;\n    dispose(cell);\n  }\n} [top == nil]\n",
-        "accepted\nprocedure clear\nadd\nloop\nexact 1\naround\nadd\nadd\nassign\nunroll 2\nlook 3\ndispose 3\nagain\nexact 4\nend\nadd\nadd\ndrop 2\nreturn\nsame\nend\n",
+        b"clear(top;) [list(top)] {
+  local cell;
+  while (top != nil) [list(top)] {
+    cell = top;
+    top = cell->tl;
+    dispose(cell);
+  }
+} [top == nil]
+",
+        "accepted
+procedure clear
+add
+loop
+exact 1
+around
+add
+add
+assign
+unroll 2
+look 3
+dispose 3
+again
+exact 4
+end
+add
+add
+drop 2
+return
+same
+end
+",
     ),
     (
-        b"clear(top;) [list(top)] {\n  local cell;\n  while (top != nil) {\n    cell = top;\n    top = cell->tl;\n    dispose(cell);\n  }\n} [top == nil]\n",
-        "failed clear at 5:5 NoCell\nvars top = s1, cell = s1\napart s1 != nil\natoms\ntaken\nwant cell s1\n",
+        b"clear(top;) [list(top)] {
+  local cell;
+  while (top != nil) {
+    cell = top;
+    top = cell->tl;
+    dispose(cell);
+  }
+} [top == nil]
+",
+        "failed clear at 5:5 NoCell
+vars top = s1, cell = s1
+apart s1 != nil
+atoms
+taken
+want cell s1
+",
     ),
     (
-        b"resource stack (top) [list(top)]\npush(value) {\n  local cell;\n  cell = new();\n  cell->hd = value;\n  with stack when (true) { cell->tl = top; top = cell; }\n}\n",
-        "accepted\nprocedure push\nnew\nmutate 1\nenter\nadd\nmutate 1\nassign\nexit\nhead 1\nexact 2\ngive\nreturn\nend\n",
+        b"resource stack (top) [list(top)]
+push(value) {
+  local cell;
+  cell = new();
+  cell->hd = value;
+  with stack when (true) { cell->tl = top; top = cell; }
+}
+",
+        "accepted
+procedure push
+new
+mutate 1
+enter
+add
+mutate 1
+assign
+exit
+head 1
+exact 2
+give
+return
+end
+",
     ),
     (
-        b"resource stack (top) [list(top)]\npush(value) {\n  local cell;\n  cell = new();\n  with stack when (true) { cell->tl = top; top = cell; }\n  cell->hd = value;\n}\n",
-        "failed push at 6:3 NoCell\nvars value = s0, cell = s1\napart s1 != nil\natoms\ntaken\nwant cell s1\n",
+        b"resource stack (top) [list(top)]
+push(value) {
+  local cell;
+  cell = new();
+  with stack when (true) { cell->tl = top; top = cell; }
+  cell->hd = value;
+}
+",
+        "failed push at 6:3 NoCell
+vars value = s0, cell = s1
+apart s1 != nil
+atoms
+taken
+want cell s1
+",
     ),
     (
-        b"resource stack (top) [list(top)]\npush(value) {\n  local cell;\n  cell = new();\n  cell->hd = value;\n  with stack when (true) { cell->tl = top; top = cell; }\n}\npop(value;) {\n  local cell;\n  with stack when (top != nil) { cell = top; top = cell->tl; }\n  value = cell->hd;\n  dispose(cell);\n}\nmain(value;) { push(1) || pop(value;); }\n",
-        "accepted\nprocedure push\nnew\nmutate 1\nenter\nadd\nmutate 1\nassign\nexit\nhead 1\nexact 2\ngive\nreturn\nend\nprocedure pop\nenter\nadd\nadd\nassign\nunroll 1\nlook 2\nexit\nexact 3\ngive\nlook 2\ndispose 2\nreturn\nend\nprocedure main\nfork\ngive\nreturn\nend\n",
+        b"resource stack (top) [list(top)]
+push(value) {
+  local cell;
+  cell = new();
+  cell->hd = value;
+  with stack when (true) { cell->tl = top; top = cell; }
+}
+pop(value;) {
+  local cell;
+  with stack when (top != nil) { cell = top; top = cell->tl; }
+  value = cell->hd;
+  dispose(cell);
+}
+main(value;) { push(1) || pop(value;); }
+",
+        "accepted
+procedure push
+new
+mutate 1
+enter
+add
+mutate 1
+assign
+exit
+head 1
+exact 2
+give
+return
+end
+procedure pop
+enter
+add
+add
+assign
+unroll 1
+look 2
+exit
+exact 3
+give
+look 2
+dispose 2
+return
+end
+procedure main
+fork
+give
+return
+end
+",
     ),
     (
-        b"walk(x) [list(x)] {\n  local t;\n  t = x;\n  while (t != nil) [ls(x,t) * list(t)] { t = t->tl; }\n} [list(x)]\n",
-        "failed walk at 4:3 Leak\nvars x = s0, t = s0\napart s1 != nil, s1 != s0\natoms 2: ls(s0,s1), 4: s1|->tl:s0\ntaken 5: ls(s0,nil)\nwant emp\n",
+        b"walk(x) [list(x)] {
+  local t;
+  t = x;
+  while (t != nil) [ls(x,t) * list(t)] { t = t->tl; }
+} [list(x)]
+",
+        "failed walk at 4:3 Leak
+vars x = s0, t = s0
+apart s1 != nil, s1 != s0
+atoms 2: ls(s0,s1), 4: s1|->tl:s0
+taken 5: ls(s0,nil)
+want emp
+",
     ),
     (
         b"f(x) [] { x->tl = 3; } []",
@@ -507,7 +855,13 @@ pub const LANGUAGE: [(&[u8], &str); 27] = [
     ),
     (
         b"f(x) [x|->tl:3] { } [x|->tl:4]",
-        "failed f at 1:19 NotEqual\nvars x = s0\napart s0 != nil\natoms 1: s0|->tl:3\ntaken\nwant 3 == 4\n",
+        "failed f at 1:19 NotEqual
+vars x = s0
+apart s0 != nil
+atoms 1: s0|->tl:3
+taken
+want 3 == 4
+",
     ),
     (
         b"f(x,y) [] { } [x != y]",
@@ -523,7 +877,13 @@ pub const LANGUAGE: [(&[u8], &str); 27] = [
     ),
     (
         b"f(x, y, z) [x != y * x != z * ls(x,y)] { } [ls(x,z)]",
-        "failed f at 1:42 EndNotAllocated\nvars x = s0, y = s1, z = s2\napart s1 != s0, s2 != s0\natoms 1: ls(s0,s1)\ntaken\nwant ls(s0,s2)\n",
+        "failed f at 1:42 EndNotAllocated
+vars x = s0, y = s1, z = s2
+apart s1 != s0, s2 != s0
+atoms 1: ls(s0,s1)
+taken
+want ls(s0,s2)
+",
     ),
 ];
 
@@ -582,25 +942,20 @@ pub const COUNTS: [((&str, &str, &str, &str), (u32, u32), &str, &str); 8] = [
 ];
 
 /// Files of things that are nested: a beginning, an opening, a closing, and an end; how many
-/// openings are within the limit and how many are not, the answer within it, and the refusal beyond
-/// it.
-pub const NESTS: [((&str, &str, &str, &str), (u32, u32), &str, &str); 3] = [
+/// openings are within the limit and how many are not, how often `then` is taken in the proof of the
+/// one within it, and the refusal of the one beyond it.
+pub const NESTS: [((&str, &str, &str, &str), (u32, u32), u32, &str); 3] = [
     (
         ("f() [", "if nil == nil then emp else ", "", "emp] { }"),
         (63, 64),
-        "accepted\nprocedure f\nthen\nreturn\nend\n",
+        1,
         "11 TooDeep at 1:1789",
     ),
-    (
-        ("f() {", "{", "}", "}"),
-        (64, 65),
-        EMPTY,
-        "11 TooDeep at 1:70",
-    ),
+    (("f() {", "{", "}", "}"), (64, 65), 0, "11 TooDeep at 1:70"),
     (
         ("f(x) {", "if (x==x) ", "", "{ } }"),
         (63, 64),
-        "accepted\nprocedure f\nthen\nthen\nthen\nthen\nthen\nthen\nthen\nthen\nthen\nthen\nthen\nthen\nthen\nthen\nthen\nthen\nthen\nthen\nthen\nthen\nthen\nthen\nthen\nthen\nthen\nthen\nthen\nthen\nthen\nthen\nthen\nthen\nthen\nthen\nthen\nthen\nthen\nthen\nthen\nthen\nthen\nthen\nthen\nthen\nthen\nthen\nthen\nthen\nthen\nthen\nthen\nthen\nthen\nthen\nthen\nthen\nthen\nthen\nthen\nthen\nthen\nthen\nthen\nreturn\nend\n",
+        63,
         "11 TooDeep at 1:647",
     ),
 ];
@@ -614,24 +969,24 @@ pub const NO_COMMANDS: [&[&str]; 18] = [
     &["verify", "-"],
     &["verify", "--help"],
     &["--help"],
-    &["Verify", "p.sf"],
+    &["Verify", "set.sf"],
     &["recheck", "a"],
     &["recheck", "a", "-b"],
     &["recheck", "a", "b", "c"],
     &["recheck", "a", "b", "--workers", "1"],
-    &["verify", "p.sf", "--workers", "0"],
-    &["verify", "p.sf", "--workers", "+2"],
-    &["verify", "p.sf", "--workers", "1", "--workers", "1"],
-    &["verify", "p.sf", "--workers"],
+    &["verify", "set.sf", "--workers", "0"],
+    &["verify", "set.sf", "--workers", "+2"],
+    &["verify", "set.sf", "--workers", "1", "--workers", "1"],
+    &["verify", "set.sf", "--workers"],
     &["verify", "--", "--workers", "1"],
     &["demo", "2"],
 ];
 
-/// Words that have the field written in p.sf proved.
-pub const COMMANDS: [&[&str]; 5] = [
-    &["verify", "p.sf"],
-    &["verify", "p.sf", "--workers", "4"],
-    &["verify", "--workers=64", "p.sf"],
-    &["verify", "--", "p.sf"],
-    &["verify", "--workers", "01", "--", "p.sf"],
+/// Words that have the file set.sf proved.
+pub const FORMS: [&[&str]; 5] = [
+    &["verify", "set.sf"],
+    &["verify", "set.sf", "--workers", "4"],
+    &["verify", "--workers=64", "set.sf"],
+    &["verify", "--", "set.sf"],
+    &["verify", "--workers", "01", "--", "set.sf"],
 ];

@@ -4,27 +4,92 @@
 pub const LISTS: [(&[u8], &str); 6] = [
     (
         b"push(x; v) [list(x)] { local n; n = new(); n->hd = v; n->tl = x; x = n; } [list(x)]",
-        "accepted\nprocedure push\nadd\nnew\nmutate 2\nmutate 2\nassign\nreturn\nhead 2\nexact 1\nend\n",
+        "accepted
+procedure push
+add
+new
+mutate 2
+mutate 2
+assign
+return
+head 2
+exact 1
+end
+",
     ),
     (
         b"pop(x;) [x != nil * list(x)] { local n; n = x; x = n->tl; dispose n; } [list(x)]",
-        "accepted\nprocedure pop\nadd\nadd\nassign\nunroll 1\nlook 2\ndispose 2\nreturn\nexact 3\nend\n",
+        "accepted
+procedure pop
+add
+add
+assign
+unroll 1
+look 2
+dispose 2
+return
+exact 3
+end
+",
     ),
     (
         b"chain(x, y) [ls(x,y) * list(y)] { } [list(x)]",
-        "accepted\nprocedure chain\nadd\nadd\nreturn\nsplit s0 nil\nforce 1\ndrop 1\ndrop 2\nempty\nend\njoin 1\nexact 2\nend\n",
+        "accepted
+procedure chain
+add
+add
+return
+split s0 nil
+force 1
+drop 1
+drop 2
+empty
+end
+join 1
+exact 2
+end
+",
     ),
     (
         b"chain(x, y, z) [x != z * ls(x,y) * ls(y,z)] { } [ls(x,z)]",
-        "failed chain at 1:47 EndNotAllocated\nvars x = s0, y = s1, z = s2\napart s1 != s0, s2 != s0, s2 != s1\natoms 1: ls(s0,s1), 2: ls(s1,s2)\ntaken\nwant ls(s0,s2)\n",
+        "failed chain at 1:47 EndNotAllocated
+vars x = s0, y = s1, z = s2
+apart s1 != s0, s2 != s0, s2 != s1
+atoms 1: ls(s0,s1), 2: ls(s1,s2)
+taken
+want ls(s0,s2)
+",
     ),
     (
         b"chain(x, y, z) [ls(x,y) * ls(y,z) * z|->] { } [ls(x,z) * z|->]",
-        "accepted\nprocedure chain\nadd\nadd\nadd\nreturn\nsplit s0 s2\nforce 1\ndrop 1\ndrop 2\nempty\ncell 3\nend\njoin 1\nexact 2\ncell 3\nend\n",
+        "accepted
+procedure chain
+add
+add
+add
+return
+split s0 s2
+force 1
+drop 1
+drop 2
+empty
+cell 3
+end
+join 1
+exact 2
+cell 3
+end
+",
     ),
     (
         b"loose(x, y) [ls(x,y)] { } [list(x)]",
-        "failed loose at 1:25 NoAtom\nvars x = s0, y = s0\napart s0 != nil\natoms\ntaken 1: ls(s0,s0)\nwant ls(s0,nil)\n",
+        "failed loose at 1:25 NoAtom
+vars x = s0, y = s0
+apart s0 != nil
+atoms
+taken 1: ls(s0,s0)
+want ls(s0,nil)
+",
     ),
 ];
 
@@ -36,15 +101,55 @@ pub const TREES: [(&[u8], &str); 4] = [
     ),
     (
         b"mirror(p) [tree(p)] { local i, j; if (p != nil) { i = p->l; j = p->r; mirror(i); mirror(j); p->l = j; p->r = i; } } [tree(p)]",
-        "accepted\nprocedure mirror\nadd\nsplit s0 nil\ndrop 1\nelse\nreturn\nempty\nend\nthen\nunroll 1\nlook 2\nlook 2\ncall\nexact 3\ngive\nadd\ncall\nexact 4\ngive\nadd\nmutate 2\nmutate 2\nreturn\nnode 2\nexact 6\nexact 5\nend\n",
+        "accepted
+procedure mirror
+add
+split s0 nil
+drop 1
+else
+return
+empty
+end
+then
+unroll 1
+look 2
+look 2
+call
+exact 3
+give
+add
+call
+exact 4
+give
+add
+mutate 2
+mutate 2
+return
+node 2
+exact 6
+exact 5
+end
+",
     ),
     (
         b"graft(p, q) [tree(p) * tree(q)] { if (p != nil) p->l = q; } [tree(p)]",
-        "failed graft at 1:59 Leak\nvars p = nil, q = s1\napart s1 != nil\natoms 2: tree(s1)\ntaken\nwant emp\n",
+        "failed graft at 1:59 Leak
+vars p = nil, q = s1
+apart s1 != nil
+atoms 2: tree(s1)
+taken
+want emp
+",
     ),
     (
         b"both(p) [p != nil * tree(p)] { local i; i = p->l; p->r = i; } [tree(p)]",
-        "failed both at 1:61 Leak\nvars p = s0, i = nil\napart s0 != nil, s2 != nil\natoms 4: tree(s2)\ntaken 2: s0|->l:nil,r:nil, 3: tree(nil)\nwant emp\n",
+        "failed both at 1:61 Leak
+vars p = s0, i = nil
+apart s0 != nil, s2 != nil
+atoms 4: tree(s2)
+taken 2: s0|->l:nil,r:nil, 3: tree(nil)
+want emp
+",
     ),
 ];
 
@@ -52,19 +157,91 @@ pub const TREES: [(&[u8], &str); 4] = [
 pub const LOOPS: [(&[u8], &str); 5] = [
     (
         b"resource r (v) [list(v)] f() { while (true) { with r when (true) { if (v == nil) v = nil; } } }",
-        "accepted\nprocedure f\nloop\naround\nenter\nadd\nsplit s0 nil\ndrop 1\nthen\nassign\nexit\nempty\ngive\nagain\nend\nelse\nexit\nexact 1\ngive\nagain\nend\nadd\nabsurd\n",
+        "accepted
+procedure f
+loop
+around
+enter
+add
+split s0 nil
+drop 1
+then
+assign
+exit
+empty
+give
+again
+end
+else
+exit
+exact 1
+give
+again
+end
+add
+absurd
+",
     ),
     (
         b"drain(x) [list(x)] { local t; while (x != nil) [list(x)] { t = x; x = t->tl; dispose(t); } }",
-        "accepted\nprocedure drain\nadd\nassign\nloop\nexact 1\naround\nadd\nadd\nassign\nunroll 2\nlook 3\ndispose 3\nagain\nexact 4\nend\nadd\nadd\ndrop 2\nreturn\nend\n",
+        "accepted
+procedure drain
+add
+assign
+loop
+exact 1
+around
+add
+add
+assign
+unroll 2
+look 3
+dispose 3
+again
+exact 4
+end
+add
+add
+drop 2
+return
+end
+",
     ),
     (
         b"forgets(x) [list(x)] { while (x != nil) { x = nil; } } [list(x)]",
-        "accepted\nprocedure forgets\nadd\nassign\nloop\naround\nadd\nassign\nagain\nend\nadd\nreturn\nexact 1\nend\n",
+        "accepted
+procedure forgets
+add
+assign
+loop
+around
+add
+assign
+again
+end
+add
+return
+exact 1
+end
+",
     ),
     (
         b"spins(x) [x|->] { while (true) [x|->] { x->hd = 1; } } [emp]",
-        "accepted\nprocedure spins\nadd\nloop\ncell 1\naround\nadd\nmutate 2\nagain\ncell 2\nend\nadd\nadd\nabsurd\n",
+        "accepted
+procedure spins
+add
+loop
+cell 1
+around
+add
+mutate 2
+again
+cell 2
+end
+add
+add
+absurd
+",
     ),
     (
         b"loses(x) [x|->] { while (true) { x->hd = 1; } } [x|->]",
@@ -76,11 +253,51 @@ pub const LOOPS: [(&[u8], &str); 5] = [
 pub const CALLS: [(&[u8], &str); 4] = [
     (
         b"swap(x, y;) [list(x) * tree(y)] { local t; t = x; x = y; y = t; } [tree(x) * list(y)] p(a, b;) [tree(a) * list(b)] { swap(b, a;); } [list(a) * tree(b)]",
-        "accepted\nprocedure swap\nadd\nadd\nassign\nassign\nassign\nreturn\nexact 2\nexact 1\nend\nprocedure p\nadd\nadd\ncall\nexact 2\nexact 1\ngive\nadd\nadd\nreturn\nexact 4\nexact 3\nend\n",
+        "accepted
+procedure swap
+add
+add
+assign
+assign
+assign
+return
+exact 2
+exact 1
+end
+procedure p
+add
+add
+call
+exact 2
+exact 1
+give
+add
+add
+return
+exact 4
+exact 3
+end
+",
     ),
     (
         b"set(x; v) { x = v; } [x == v] p(a;) { set(a; 3); set(a; a); } [a == 3]",
-        "accepted\nprocedure set\nassign\nreturn\nsame\nend\nprocedure p\ncall\ngive\nadd\ncall\ngive\nadd\nreturn\nsame\nend\n",
+        "accepted
+procedure set
+assign
+return
+same
+end
+procedure p
+call
+give
+add
+call
+give
+add
+return
+same
+end
+",
     ),
     (
         b"set(x; v) { x = v; } p(a;) { set(a; 3); } [a == 3]",
@@ -96,11 +313,81 @@ pub const CALLS: [(&[u8], &str); 4] = [
 pub const RECURSION: [(&[u8], &str); 3] = [
     (
         b"copy(c; x) [list(x)] { local t, d; if (x == nil) c = nil; else { t = x->tl; copy(d; t); c = new(); c->tl = d; } } [list(x) * list(c)]",
-        "accepted\nprocedure copy\nadd\nsplit s1 nil\ndrop 1\nthen\nassign\nreturn\nempty\nempty\nend\nelse\nunroll 1\nlook 2\ncall\nexact 3\ngive\nadd\nadd\nnew\nmutate 6\nreturn\nhead 2\nexact 4\nhead 6\nexact 5\nend\n",
+        "accepted
+procedure copy
+add
+split s1 nil
+drop 1
+then
+assign
+return
+empty
+empty
+end
+else
+unroll 1
+look 2
+call
+exact 3
+give
+add
+add
+new
+mutate 6
+return
+head 2
+exact 4
+head 6
+exact 5
+end
+",
     ),
     (
         b"even(x; y) [list(y)] { if (y == nil) x = 1; else { y = y->tl; odd(x; y); } } [list(y)] odd(x; y) [list(y)] { if (y == nil) x = 0; else { y = y->tl; even(x; y); } } [list(y)]",
-        "accepted\nprocedure even\nadd\nassign\nsplit s1 nil\ndrop 1\nthen\nassign\nreturn\nempty\nend\nelse\nunroll 1\nlook 2\ncall\nexact 3\ngive\nadd\nreturn\nhead 2\nexact 4\nend\nprocedure odd\nadd\nassign\nsplit s1 nil\ndrop 1\nthen\nassign\nreturn\nempty\nend\nelse\nunroll 1\nlook 2\ncall\nexact 3\ngive\nadd\nreturn\nhead 2\nexact 4\nend\n",
+        "accepted
+procedure even
+add
+assign
+split s1 nil
+drop 1
+then
+assign
+return
+empty
+end
+else
+unroll 1
+look 2
+call
+exact 3
+give
+add
+return
+head 2
+exact 4
+end
+procedure odd
+add
+assign
+split s1 nil
+drop 1
+then
+assign
+return
+empty
+end
+else
+unroll 1
+look 2
+call
+exact 3
+give
+add
+return
+head 2
+exact 4
+end
+",
     ),
     (
         b"ever(x) [x|->] { ever(x); } [x != x]",
@@ -116,19 +403,80 @@ pub const RESOURCES: [(&[u8], &str); 5] = [
     ),
     (
         b"resource r (v) [v|->hd:1] f() { with r when (true) { v->hd = 2; } }",
-        "failed f at 1:33 NotEqual\nvars r.v = s0\napart s0 != nil\natoms 1: s0|->hd:2\ntaken\nwant 2 == 1\n",
+        "failed f at 1:33 NotEqual
+vars r.v = s0
+apart s0 != nil
+atoms 1: s0|->hd:2
+taken
+want 2 == 1
+",
     ),
     (
         b"resource r (v) [list(v)] clear() { local t; with r when (v != nil) { while (v != nil) [list(v)] { t = v; v = t->tl; dispose(t); } } }",
-        "accepted\nprocedure clear\nenter\nadd\nadd\nloop\nexact 1\naround\nadd\nadd\nassign\nunroll 2\nlook 3\ndispose 3\nagain\nexact 4\nend\nadd\nadd\ndrop 2\nexit\nempty\ngive\nreturn\nend\n",
+        "accepted
+procedure clear
+enter
+add
+add
+loop
+exact 1
+around
+add
+add
+assign
+unroll 2
+look 3
+dispose 3
+again
+exact 4
+end
+add
+add
+drop 2
+exit
+empty
+give
+return
+end
+",
     ),
     (
         b"resource r (v) [list(v)] f(x) [list(v) * x|->] { x->tl = v; v = x; } [list(v)] g(x) [x|->] { with r when (true) { f(x); } }",
-        "accepted\nprocedure f\nadd\nadd\nmutate 2\nassign\nreturn\nhead 2\nexact 1\nend\nprocedure g\nadd\nenter\nadd\ncall\nexact 2\ncell 1\ngive\nadd\nexit\nexact 3\ngive\nreturn\nend\n",
+        "accepted
+procedure f
+add
+add
+mutate 2
+assign
+return
+head 2
+exact 1
+end
+procedure g
+add
+enter
+add
+call
+exact 2
+cell 1
+give
+add
+exit
+exact 3
+give
+return
+end
+",
     ),
     (
         b"resource r (v) [if v == 0 then emp else v|->] f(x) [x|->] { with r when (v != 0) { dispose(v); } with r when (v == 0) { v = x; } }",
-        "failed f at 1:61 NoAtom\nvars x = s0, r.v = s1\napart s0 != nil, s1 != nil, s1 != 0\natoms 1: s0|->\ntaken\nwant s1|->\n",
+        "failed f at 1:61 NoAtom
+vars x = s0, r.v = s1
+apart s0 != nil, s1 != nil, s1 != 0
+atoms 1: s0|->
+taken
+want s1|->
+",
     ),
 ];
 
@@ -136,23 +484,134 @@ pub const RESOURCES: [(&[u8], &str); 5] = [
 pub const PARALLEL: [(&[u8], &str); 5] = [
     (
         b"mark(x) [x|->] { x->hd = 1; } [x|->hd:1] p(x, y) [x|-> * y|->] { mark(x) || mark(y); } [x|->hd:1 * y|->hd:1]",
-        "accepted\nprocedure mark\nadd\nmutate 1\nreturn\ncell 1\nend\nprocedure p\nadd\nadd\nfork\ncell 1\ncell 2\ngive\nadd\nadd\nreturn\ncell 3\ncell 4\nend\n",
+        "accepted
+procedure mark
+add
+mutate 1
+return
+cell 1
+end
+procedure p
+add
+add
+fork
+cell 1
+cell 2
+give
+add
+add
+return
+cell 3
+cell 4
+end
+",
     ),
     (
         b"resource r (v) [list(v)] clear() [list(v)] { local t; while (v != nil) [list(v)] { t = v; v = t->tl; dispose(t); } } [v == nil] put(x) [x|->] { dispose(x); } p(x) [x|->] { with r when (true) { clear() || put(x); } }",
-        "accepted\nprocedure clear\nadd\nloop\nexact 1\naround\nadd\nadd\nassign\nunroll 2\nlook 3\ndispose 3\nagain\nexact 4\nend\nadd\nadd\ndrop 2\nreturn\nsame\nend\nprocedure put\nadd\ndispose 1\nreturn\nend\nprocedure p\nadd\nenter\nadd\nfork\nexact 2\ncell 1\ngive\nadd\nexit\nempty\ngive\nreturn\nend\n",
+        "accepted
+procedure clear
+add
+loop
+exact 1
+around
+add
+add
+assign
+unroll 2
+look 3
+dispose 3
+again
+exact 4
+end
+add
+add
+drop 2
+return
+same
+end
+procedure put
+add
+dispose 1
+return
+end
+procedure p
+add
+enter
+add
+fork
+exact 2
+cell 1
+give
+add
+exit
+empty
+give
+return
+end
+",
     ),
     (
         b"mark(x) [x|->] { x->hd = 1; } [x|->] p(x, y) [x|-> * y|->] { local z; z = x; mark(x) || mark(z); } [x|-> * y|->]",
-        "failed p at 1:89 NoAtom\nvars x = s0, y = s1, z = s0\napart s0 != nil, s1 != nil\natoms 2: s1|->\ntaken 1: s0|->\nwant s0|->\n",
+        "failed p at 1:89 NoAtom
+vars x = s0, y = s1, z = s0
+apart s0 != nil, s1 != nil
+atoms 2: s1|->
+taken 1: s0|->
+want s0|->
+",
     ),
     (
         b"make(x;) { x = new(); } [x|->] end(x) [x|->] { dispose(x); } p(a;) [a|->] { local b; end(a) || make(b;); a = b; } [a|->]",
-        "accepted\nprocedure make\nnew\nreturn\ncell 1\nend\nprocedure end\nadd\ndispose 1\nreturn\nend\nprocedure p\nadd\nfork\ncell 1\ngive\nadd\nassign\nreturn\ncell 2\nend\n",
+        "accepted
+procedure make
+new
+return
+cell 1
+end
+procedure end
+add
+dispose 1
+return
+end
+procedure p
+add
+fork
+cell 1
+give
+add
+assign
+return
+cell 2
+end
+",
     ),
     (
         b"halves(p) [tree(p)] { local i, j; if (p != nil) { i = p->l; j = p->r; halves(i) || halves(j); } } [tree(p)]",
-        "accepted\nprocedure halves\nadd\nsplit s0 nil\ndrop 1\nelse\nreturn\nempty\nend\nthen\nunroll 1\nlook 2\nlook 2\nfork\nexact 3\nexact 4\ngive\nadd\nadd\nreturn\nnode 2\nexact 5\nexact 6\nend\n",
+        "accepted
+procedure halves
+add
+split s0 nil
+drop 1
+else
+return
+empty
+end
+then
+unroll 1
+look 2
+look 2
+fork
+exact 3
+exact 4
+give
+add
+add
+return
+node 2
+exact 5
+exact 6
+end
+",
     ),
 ];
 
@@ -164,7 +623,26 @@ pub const EXISTENTIALS: [(&[u8], &str); 5] = [
     ),
     (
         b"turn(x;) [x|->tl:_y * ls(_y,x)] { x = x->tl; } [x|->tl:_y * ls(_y,x)]",
-        "accepted\nprocedure turn\nadd\nadd\nlook 1\nreturn\nsplit s1 s0\ndrop 2\ncell 1\nempty\nend\nunroll 2\ncell 3\nsplit s2 s1\nabsurd\njoin 4\nhead 1\nempty\nend\n",
+        "accepted
+procedure turn
+add
+add
+look 1
+return
+split s1 s0
+drop 2
+cell 1
+empty
+end
+unroll 2
+cell 3
+split s2 s1
+absurd
+join 4
+head 1
+empty
+end
+",
     ),
     (
         b"same(x, y) [x|->hd:_v * y|->hd:_v] { } [y|->hd:_w * x|->hd:_w]",
@@ -172,7 +650,13 @@ pub const EXISTENTIALS: [(&[u8], &str); 5] = [
     ),
     (
         b"same(x, y) [x|->hd:_v * y|->hd:_u] { } [y|->hd:_w * x|->hd:_w]",
-        "failed same at 1:38 NotEqual\nvars x = s0, y = s1\napart s0 != nil, s1 != nil\natoms 1: s0|->hd:s2\ntaken 2: s1|->hd:s3\nwant s2 == s3\n",
+        "failed same at 1:38 NotEqual
+vars x = s0, y = s1
+apart s0 != nil, s1 != nil
+atoms 1: s0|->hd:s2
+taken 2: s1|->hd:s3
+want s2 == s3
+",
     ),
     (
         b"named(x, y) [x|->tl:y] { } [_z == y * x|->tl:_z]",
@@ -184,15 +668,49 @@ pub const EXISTENTIALS: [(&[u8], &str); 5] = [
 pub const CHOICES: [(&[u8], &str); 5] = [
     (
         b"either(x, b) [if b == 0 then list(x) else tree(x)] { } [if b != 0 then tree(x) else list(x)]",
-        "accepted\nprocedure either\nsplit s1 0\nthen\nadd\nreturn\nelse\nexact 1\nend\nelse\nadd\nreturn\nthen\nexact 1\nend\n",
+        "accepted
+procedure either
+split s1 0
+then
+add
+return
+else
+exact 1
+end
+else
+add
+return
+then
+exact 1
+end
+",
     ),
     (
         b"pick(x; a, b) { if (a == b) x = a; else x = b; } [x == b]",
-        "accepted\nprocedure pick\nsplit s1 s2\nthen\nassign\nreturn\nsame\nend\nelse\nassign\nreturn\nsame\nend\n",
+        "accepted
+procedure pick
+split s1 s2
+then
+assign
+return
+same
+end
+else
+assign
+return
+same
+end
+",
     ),
     (
         b"pick(x; a, b) { if (a == b) x = a; else x = b; } [x == a]",
-        "failed pick at 1:48 NotEqual\nvars x = s2, a = s1, b = s2\napart s2 != s1\natoms\ntaken\nwant s2 == s1\n",
+        "failed pick at 1:48 NotEqual
+vars x = s2, a = s1, b = s2
+apart s2 != s1
+atoms
+taken
+want s2 == s1
+",
     ),
     (
         b"known(x, y) [x|-> * y|->] { if (x == y) { x->hd = 1; dispose(x); } } [x|-> * y|-> * x != y]",
@@ -200,6 +718,21 @@ pub const CHOICES: [(&[u8], &str); 5] = [
     ),
     (
         b"full(x, b) [if b == 1 then x|->tl:_n * list(_n) else x == nil] { } [list(x)]",
-        "accepted\nprocedure full\nsplit s1 1\nthen\nadd\nadd\nreturn\nhead 1\nexact 2\nend\nelse\nadd\nreturn\nempty\nend\n",
+        "accepted
+procedure full
+split s1 1
+then
+add
+add
+return
+head 1
+exact 2
+end
+else
+add
+return
+empty
+end
+",
     ),
 ];

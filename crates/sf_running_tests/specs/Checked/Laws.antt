@@ -1,10 +1,11 @@
--- Laws that join what files are read as with what is written of their runs.
+-- Laws that join what files are read as with what is written of their runs and of their proofs.
 -- Ordinary: what is printed of what was read is read again, as of any printer and its parser.
-use Rattle.std.specs.Prelude.{◌≡◌, ◌≤◌, ℕ, true, List, Some, Contains, slice_get}
+use Rattle.std.specs.Prelude.{◌≡◌, ◌≤◌, ℕ, true, List, Some, Contains, length, slice_get}
 use Rattle.std.specs.FinMap.{get, len}
+use Rattle.std.specs.List.{AllByRecursion, range_with_len}
 use Rattle.sf_ast.specs.Surface.{Item}
 use Rattle.sf_base.specs.declared.ids.ProcId.{ProcId}
-use Rattle.sf_base.specs.declared.limits.TheConstants.{STATE_CELLS}
+use Rattle.sf_base.specs.declared.limits.TheConstants.{PROOF_BYTES, STATE_CELLS}
 use Rattle.sf_base.specs.declared.value.Value.{Value}
 use Rattle.sf_core.specs.Program.Syntax.{Procedure, Program}
 use Rattle.sf_elab.specs.Files.Elaborated.{Elaborates}
@@ -14,11 +15,16 @@ use Rattle.sf_heap.specs.Cells.{Cells, FieldValues}
 use Rattle.sf_lex.specs.declared.token.Token.{Token}
 use Rattle.sf_lex.specs.Reading.{AreTokens}
 use Rattle.sf_parse.specs.Parsing.{IsFile}
+use Rattle.sf_proof.specs.Checked.Laws.{IsWritable as IsWritableTag}
+use Rattle.sf_proof.specs.ProofText.{proof_text}
+use Rattle.sf_proof.specs.Reading.{IsLined}
 use Rattle.sf_run.specs.Running.{EndsWith}
 use Rattle.sf_state.specs.Finishing.{IsFinishText, values_of}
 use Rattle.sf_state.specs.Values.{is_location}
 use Rattle.sf_state.specs.Checked.Laws.{ReadsBack}
-use Rattle.sf_state.specs.Written.{AreWritable, HasNames, IsWritable}
+use Rattle.sf_state.specs.Checked.Written.{AreWritable, HasNames, IsWritable}
+use Rattle.sf_sym.specs.declared.tag.Tag.{Tag}
+use Rattle.sf_sym.specs.declared.tag.Tag.TheVariants.{Procedure as begin}
 
 -- the names of each program that bytes are read as are names, and those of one kind differ
 unfoldable pub ProgramsThatAreReadHaveNames : Type 0
@@ -51,3 +57,15 @@ FinishesOfFilesReadBack = (bytes : List ℕ) (tokens : List Token) (tree : List 
     → slice_get p.procedures f.0 ≡ Some g → EndsWith p f vars heap base count finish
     → AreWithinLimits finish.vars finish.heap → IsFinishText p g finish.vars finish.heap text
     → ReadsBack p g finish.vars finish.heap text
+
+-- a tag of the code: its numbers have their bits; and its procedure is one of the program's
+abbrev pub IsTagOf : Program → Tag → Type 0
+IsTagOf p (begin f) = (g : Procedure) × (slice_get p.procedures f.0 ≡ Some g)
+IsTagOf p tag = IsWritableTag p tag
+
+-- in each such program what is written of tags reads as these, where it is within the limit
+unfoldable pub WrittenProofsOfFilesReadBack : Type 0
+WrittenProofsOfFilesReadBack = (bytes : List ℕ) (tokens : List Token) (tree : List Item) (p : Program)
+    (tags : List Tag) → AreTokens bytes tokens → IsFile tokens tree → Elaborates bytes tree p
+    → AllByRecursion (IsTagOf p) tags → length (proof_text p tags) ≤ PROOF_BYTES
+    → IsLined p (proof_text p tags) (record { tags = tags; lines = range_with_len 2 (length tags) })

@@ -34,11 +34,6 @@ returns-in-Ok-clause-others g c = λ other h.
     words.budget.steps words.budget.waits fetched k))
     ∙ c.fetch_up_to.ensures.others other (λ e. h (inl e))
 
-pub returns-in-Ok-clause-refused : goal.returns-in-Ok-clause-refused
-returns-in-Ok-clause-refused g c =
-    IfOk-weaker c.run_bytes.result _ _
-    (λ said k three other n. k three other ∙ c.fetch_up_to.ensures.others other n) c.run_bytes.ensures.refused
-
 pub returns-in-Err-Failed-clause-said : goal.returns-in-Err-Failed-clause-said
 returns-in-Err-Failed-clause-said g c =
     let words = c.args.words.now in
@@ -48,3 +43,8 @@ returns-in-Err-Failed-clause-said g c =
     words.budget.steps words.budget.waits)) c.args.file.now said.text.items said.status (inl refl)
     (c.in-Err-Failed.ensures.failed (ap Err c.in-Err-Failed.field-0-is)) (k.0 ∙ ap read_fault_text c.as_bytes.ensures.value)
     k.1) c.say_of.ensures
+
+pub returns-in-Ok-clause-quiet : goal.returns-in-Ok-clause-quiet
+returns-in-Ok-clause-quiet g c =
+    IfOk-weaker c.run_bytes.result _ _ (λ said k less any. k less any ∙ c.in-Ok.ensures.ok any)
+    c.run_bytes.ensures.quiet

@@ -10,8 +10,8 @@ use Rattle.sf_cli.proofs.run.run_state_file.Goals as goal
 pub returns-in-Ok-clause-status : goal.returns-in-Ok-clause-status
 returns-in-Ok-clause-status g c =
     IfOk-weaker c.answer_to_state.result _ _
-    (λ said k. let l : said.status < 7 = (ran-status (program_in c.args.proof.now) c.args.f c.as_slice.result.now
-    c.args.words.now.budget.steps c.args.words.now.budget.waits said.text.items said.status k).0 in omega (arith, l))
+    (λ said k. let l : said.status < 7 = ran-status (program_in c.args.proof.now) c.args.f c.as_slice.result.now
+    c.args.words.now.budget.steps c.args.words.now.budget.waits said.text.items said.status k in omega (arith, l))
     c.answer_to_state.ensures
 
 pub returns-in-Ok-clause-answered : goal.returns-in-Ok-clause-answered
@@ -28,13 +28,6 @@ returns-in-Ok-clause-answered g c =
 pub returns-in-Ok-clause-unread : goal.returns-in-Ok-clause-unread
 returns-in-Ok-clause-unread g c =
     IfOk-weaker c.answer_to_state.result _ _
-    (λ said k seven. let l : said.status < 7 = (ran-status (program_in c.args.proof.now) c.args.f c.as_slice.result.now
-    c.args.words.now.budget.steps c.args.words.now.budget.waits said.text.items said.status k).0 in
+    (λ said k seven. let l : said.status < 7 = ran-status (program_in c.args.proof.now) c.args.f c.as_slice.result.now
+    c.args.words.now.budget.steps c.args.words.now.budget.waits said.text.items said.status k in
     absurd (omega (arith, l, seven))) c.answer_to_state.ensures
-
-pub returns-in-Ok-clause-refused : goal.returns-in-Ok-clause-refused
-returns-in-Ok-clause-refused g c =
-    IfOk-weaker c.answer_to_state.result _ _
-    (λ said k. (ran-status (program_in c.args.proof.now) c.args.f c.as_slice.result.now
-    c.args.words.now.budget.steps c.args.words.now.budget.waits said.text.items said.status k).1)
-    c.answer_to_state.ensures

@@ -1,8 +1,9 @@
 use Rattle.std.proofs.Common.{◌<◌, ◌∙◌, ℕ, arith, subst, sym}
-use Rattle.sf_cli.proofs.Accepted.{accepted-reply, accepting-small}
+use Rattle.sf_cli.proofs.Accepted.{accepted-names, accepted-reply, accepting-small}
 use Rattle.sf_cli.proofs.Complete.{complete-reply, complete-status}
 use Rattle.sf_cli.proofs.Endings.{ended-reply}
-use Rattle.sf_cli.specs.Answer.{Accepted, IsAccepting}
+use Rattle.sf_cli.specs.Answer.{Accepted}
+use Rattle.sf_cli.specs.SoundFile.{IsAccepting}
 use Rattle.sf_words.specs.Words.{order_of}
 use Rattle.sf_words.specs.WordsOf.{words_of}
 use Rattle.sf_cli.proofs.top.smallfoot.Goals as goal
@@ -32,12 +33,6 @@ returns-in-Ok-clause-ended g c = λ zero.
           c.in-Ok.said.text.items c.in-Ok.said.status (sym whole.0 ∙ zero) c.in-Ok.ensures.said,
     )
 
-pub returns-in-Ok-clause-refused : goal.returns-in-Ok-clause-refused
-returns-in-Ok-clause-refused g c = λ three.
-    let small : c.tell.result < 8 = omega (arith, three) in
-    let whole = c.tell.ensures.whole small in
-    c.in-Ok.ensures.refused (sym whole.0 ∙ three)
-
 pub returns-in-Ok-clause-complete : goal.returns-in-Ok-clause-complete
 returns-in-Ok-clause-complete g c = λ shelf sink.
     let small : c.in-Ok.said.status < 7 =
@@ -46,3 +41,20 @@ returns-in-Ok-clause-complete g c = λ shelf sink.
     c.in-Ok.said.status c.in-Ok.ensures.said shelf in
     complete-status c.tell.result c.in-Ok.said.status (λ below. (c.tell.ensures.whole below).0) small
     (λ e. sink (c.tell.ensures.failed e)) c.tell.ensures.last
+
+pub returns-in-Ok-clause-quiet : goal.returns-in-Ok-clause-quiet
+returns-in-Ok-clause-quiet g c = λ less.
+    let small : c.tell.result < 8 = omega (arith, less) in
+    let whole = c.tell.ensures.whole small in
+    c.in-Ok.ensures.quiet (subst (λ (n : ℕ). n < 7) whole.0 less)
+
+pub returns-in-Ok-clause-sound : goal.returns-in-Ok-clause-sound
+returns-in-Ok-clause-sound g c = λ accepting.
+    let small : c.tell.result < 8 = accepting-small c.tell.result accepting in
+    let whole = c.tell.ensures.whole small in
+    accepted-names (g.S.Shelf.files c.args.shelf.now) (words_of c.args.words.now) c.in-Ok.said.text.items
+    c.in-Ok.said.status
+    (accepted-reply c.accepted_files_are_sound.ensures c.accepted_proofs_are_sound.ensures
+    c.accepted_runs_are_sound.ensures (g.S.Shelf.files c.args.shelf.now) (g.S.Shelf.faults c.args.shelf.now)
+    (g.S.Shelf.faults c.respond.new.shelf) (words_of c.args.words.now) c.in-Ok.said.text.items
+    c.in-Ok.said.status (subst IsAccepting whole.0 accepting) c.in-Ok.ensures.said)

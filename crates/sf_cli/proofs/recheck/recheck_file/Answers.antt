@@ -6,7 +6,7 @@ use Rattle.sf_cli.proofs.Replies.{ok-reply, reaches-proof, reply-unread}
 use Rattle.sf_cli.specs.Answer.{read_fault_text}
 use Rattle.sf_cli.specs.Checked.Fetched.{Fetched}
 use Rattle.sf_words.specs.Words.{Text, recheck}
-use Rattle.sf_cli.proofs.reply.recheck_file.Goals as goal
+use Rattle.sf_cli.proofs.recheck.recheck_file.Goals as goal
 
 pub returns-in-Ok-clause-said : goal.returns-in-Ok-clause-said
 returns-in-Ok-clause-said g c =
@@ -30,14 +30,14 @@ returns-in-Ok-clause-others g c = λ other h.
     (λ k. h (reaches-proof told file c.args.proof.now c.as_slice.result.now other fetched k))
     ∙ c.fetch_up_to.ensures.others other (λ e. h (inl e))
 
-pub returns-in-Ok-clause-refused : goal.returns-in-Ok-clause-refused
-returns-in-Ok-clause-refused g c =
-    IfOk-weaker c.recheck_bytes.result _ _
-    (λ said k three other n. k three other ∙ c.fetch_up_to.ensures.others other n) c.recheck_bytes.ensures.refused
-
 pub returns-in-Err-Failed-clause-said : goal.returns-in-Err-Failed-clause-said
 returns-in-Err-Failed-clause-said g c =
     IfOk-weaker c.say_of.result _ _
     (λ said k. reply-unread (g.S.Shelf.files c.args.shelf.now) (g.S.Shelf.faults c.args.shelf.now)
     (g.S.Shelf.faults c.fetch_up_to.new.shelf) (Some (recheck c.args.file.now c.args.proof.now)) c.args.file.now
     said.text.items said.status (inl refl) (c.in-Err-Failed.ensures.failed (ap Err c.in-Err-Failed.field-0-is)) (k.0 ∙ ap read_fault_text c.as_bytes.ensures.value) k.1) c.say_of.ensures
+
+pub returns-in-Ok-clause-quiet : goal.returns-in-Ok-clause-quiet
+returns-in-Ok-clause-quiet g c =
+    IfOk-weaker c.recheck_bytes.result _ _ (λ said k less any. k less any ∙ c.in-Ok.ensures.ok any)
+    c.recheck_bytes.ensures.quiet

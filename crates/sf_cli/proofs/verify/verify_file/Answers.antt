@@ -7,7 +7,7 @@ use Rattle.sf_cli.specs.Answer.{read_fault_text}
 use Rattle.sf_cli.specs.Checked.Fetched.{Fetched}
 use Rattle.sf_words.specs.Words.{Text, verify}
 use Rattle.std.proofs.Common.{Some, ap, ◌<◌}
-use Rattle.sf_cli.proofs.reply.verify_file.Goals as goal
+use Rattle.sf_cli.proofs.verify.verify_file.Goals as goal
 
 pub returns-in-Ok-clause-status : goal.returns-in-Ok-clause-status
 returns-in-Ok-clause-status g c =

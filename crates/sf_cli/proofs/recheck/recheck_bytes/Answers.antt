@@ -1,10 +1,8 @@
-use Rattle.std.proofs.Common.{arith}
 use Rattle.std.proofs.lemmas.Result.{IfOk-weaker}
 use Rattle.sf_base.proofs.Results.{ok-both}
 use Rattle.sf_core.specs.Program.ProgramView.{program_of}
-use Rattle.sf_cli.proofs.Replies.{proof-status}
 use Rattle.sf_cli.specs.Answer.{file_refused, rechecked}
-use Rattle.sf_cli.proofs.reply.recheck_bytes.Goals as goal
+use Rattle.sf_cli.proofs.recheck.recheck_bytes.Goals as goal
 
 pub returns-in-Ok-clause-answered : goal.returns-in-Ok-clause-answered
 returns-in-Ok-clause-answered g c =
@@ -23,13 +21,6 @@ pub returns-in-Ok-clause-others : goal.returns-in-Ok-clause-others
 returns-in-Ok-clause-others g c = λ other h.
     c.recheck_program.ensures.others other
     (λ e. h (e, (program_of c.in-Ok.arranged.program, c.in-Ok.ensures.admitted)))
-
-pub returns-in-Ok-clause-refused : goal.returns-in-Ok-clause-refused
-returns-in-Ok-clause-refused g c =
-    IfOk-weaker c.recheck_program.result _ _
-    (λ said k three. let (given, may, a) = k (omega (arith, three)) in
-    absurd ((proof-status (program_of c.in-Ok.arranged.program) given said.text.items said.status a).1 three))
-    c.recheck_program.ensures.answered
 
 pub returns-in-Err-clause-answered : goal.returns-in-Err-clause-answered
 returns-in-Err-clause-answered g c =

@@ -1,6 +1,6 @@
 use Rattle.sf_cli.proofs.Ordering.{ordered}
 use Rattle.sf_rules.specs.Setting.{setting_of}
-use Rattle.sf_cli.proofs.reply.answer_to_program.Given as goal
+use Rattle.sf_cli.proofs.verify.answer_to_program.Given as goal
 
 abbrev pub ghost-verify : goal.ghost-verify
 ghost-verify g a = setting_of ordered a.arranged.now

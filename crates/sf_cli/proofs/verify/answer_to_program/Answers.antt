@@ -9,7 +9,7 @@ use Rattle.sf_search.specs.Ends.{cause_of, FailsAs}
 use Rattle.sf_search.specs.Judge.{proof}
 use Rattle.sf_cli.proofs.Ordering.{is_ordering, ordered}
 use Rattle.sf_cli.proofs.Verdicts.{failed-answer, judged-answer}
-use Rattle.sf_cli.proofs.reply.answer_to_program.Goals as goal
+use Rattle.sf_cli.proofs.verify.answer_to_program.Goals as goal
 
 pub verify-requires : goal.verify-requires
 verify-requires g c = λ κs b. (b.0, (b.1, (c.type_bounds.sync-R, (c.type_bounds.sync-G, (is_ordering, refl)))))

@@ -2,7 +2,7 @@ use Rattle.sf_core.specs.Program.ProgramView.{program_of}
 use Rattle.std.proofs.lemmas.Result.{IfOk-weaker}
 use Rattle.sf_base.proofs.Results.{ok-both}
 use Rattle.sf_cli.specs.Answer.{refused, admitted}
-use Rattle.sf_cli.proofs.reply.answer_to_bytes.Goals as goal
+use Rattle.sf_cli.proofs.verify.answer_to_bytes.Goals as goal
 
 pub returns-in-Ok : goal.returns-in-Ok
 returns-in-Ok g c =

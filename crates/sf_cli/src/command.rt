@@ -1,0 +1,88 @@
+//! The commands: to each order what is said, and of which files.
+
+ghost use Rattle.std.specs.Prelude.{◌≡◌, ◌<◌, ◌≤◌, Some, IfOk};
+ghost use Rattle.sf_cli.specs.Answer.{Reaches, Reply};
+ghost use Rattle.sf_words.specs.Words.{HasNumbersInRange, Text, order_of};
+ghost use Rattle.sf_words.specs.WordsOf.{order_as, words_of};
+
+use crate::recheck::recheck_file;
+use crate::reply::{Said, say};
+use crate::run::{RunWords, run_file};
+use crate::usage::USAGE;
+use crate::verify::verify_file;
+use sf_io::{Gate, Shelf};
+use sf_run::Budget;
+use sf_words::{Order, WordFault, read};
+use std::alloc::{AllocError, Global};
+use std::sync::Wait;
+use std::thread::Threads;
+
+/// What the command says to an order: `demo` isn't followed yet.
+fn follow<R: Threads + Wait + Sync, S: Shelf, G: Gate>(
+    rt: &R,
+    alloc: Global,
+    order: Order<'_>,
+    shelf: &mut S,
+    gate: &G,
+) -> Result<Said, AllocError>
+    requires { HasNumbersInRange (order_as order) }
+    ensures status { IfOk result (λ said. said.status < 8) }
+    ensures said { IfOk result (λ said.
+        Reply (S.files shelf.old) (S.faults shelf.old) (S.faults shelf.new)
+        (Some (order_as order.entry)) said.text.items said.status) }
+    ensures files { S.files shelf.new ≡ S.files shelf.old }
+    ensures others { (other : Text)
+        → (Reaches (S.files shelf.old) (Some (order_as order.entry)) other → ⊥)
+        → S.faults shelf.new other ≡ S.faults shelf.old other }
+    ensures quiet { IfOk result (λ said. said.status < 7
+        → (any : Text) → S.faults shelf.new any ≡ S.faults shelf.old any) }
+    ensures counts { (any : Text) → S.faults shelf.old any ≤ S.faults shelf.new any }
+{
+    match order {
+        Order::Verify { file, workers } => verify_file(rt, alloc, file, workers, shelf, gate),
+        Order::Recheck { file, proof } => recheck_file(alloc, file, proof, shelf),
+        Order::Run {
+            file,
+            entry,
+            state,
+            steps,
+            waits,
+        } => {
+            let budget = Budget { steps, waits };
+            let words = RunWords {
+                procedure: entry,
+                state,
+                budget,
+            };
+            run_file(rt, alloc, file, &words, shelf, gate)
+        }
+        Order::Demo { .. } => say(alloc, USAGE, 2),
+    }
+}
+
+/// What the command says to its words. An `Err` says that memory ran out.
+pub fn respond<'a, R: Threads + Wait + Sync, S: Shelf, G: Gate>(
+    rt: &R,
+    alloc: Global,
+    words: &'a [&'a str],
+    shelf: &mut S,
+    gate: &G,
+) -> Result<Said, AllocError>
+    ensures status { IfOk result (λ said. said.status < 8) }
+    ensures said { IfOk result (λ said.
+        Reply (S.files shelf.old) (S.faults shelf.old) (S.faults shelf.new)
+        (order_of (words_of words.entry.now)) said.text.items said.status) }
+    ensures files { S.files shelf.new ≡ S.files shelf.old }
+    ensures others { (other : Text)
+        → (Reaches (S.files shelf.old) (order_of (words_of words.entry.now)) other → ⊥)
+        → S.faults shelf.new other ≡ S.faults shelf.old other }
+    ensures quiet { IfOk result (λ said. said.status < 7
+        → (any : Text) → S.faults shelf.new any ≡ S.faults shelf.old any) }
+    ensures counts { (any : Text) → S.faults shelf.old any ≤ S.faults shelf.new any }
+{
+    match read(alloc, words) {
+        Ok(order) => follow(rt, alloc, order, shelf, gate),
+        Err(WordFault::Usage) => say(alloc, USAGE, 2),
+        Err(WordFault::OutOfMemory) => Err(AllocError),
+    }
+}

@@ -1,0 +1,66 @@
+//! What a command asks the shelf for: each file once, in the order of its work, and of each one byte
+//! more than it may have, so that a file that is too long is seen to be.
+
+use super::shelf_with;
+use crate::top::smallfoot;
+use sf_io::{MemSink, OpenGate};
+use std::test::Fail;
+
+/// The most bytes that are asked for of a program's file, of a proof's and of a state's.
+const OF_FILE: usize = 1_048_577;
+
+const OF_PROOF: usize = 33_554_433;
+
+const OF_STATE: usize = 67_108_865;
+
+/// Words, and what they ask for.
+const REQUESTS: [(&[&str], &[(&str, usize)]); 17] = [
+    (&[], &[]),
+    (&["verify"], &[]),
+    (&["demo", "2"], &[]),
+    (&["verify", "set.sf"], &[("set.sf", OF_FILE)]),
+    (&["verify", "mm.sf", "--workers=4"], &[("mm.sf", OF_FILE)]),
+    (&["verify", "none.sf"], &[("none.sf", OF_FILE)]),
+    (
+        &["recheck", "set.sf", "given"],
+        &[("set.sf", OF_FILE), ("given", OF_PROOF)],
+    ),
+    (
+        &["recheck", "set.sf", "none"],
+        &[("set.sf", OF_FILE), ("none", OF_PROOF)],
+    ),
+    (&["recheck", "bad.sf", "given"], &[("bad.sf", OF_FILE)]),
+    (&["recheck", "none.sf", "given"], &[("none.sf", OF_FILE)]),
+    (
+        &["run", "two.sf", "two", "given"],
+        &[("two.sf", OF_FILE), ("given", OF_STATE)],
+    ),
+    (
+        &["run", "two.sf", "two", "none"],
+        &[("two.sf", OF_FILE), ("none", OF_STATE)],
+    ),
+    (&["run", "none.sf", "two", "given"], &[("none.sf", OF_FILE)]),
+    (&["run", "bad.sf", "f", "given"], &[("bad.sf", OF_FILE)]),
+    (
+        &["run", "leak.sf", "disp_tree", "given"],
+        &[("leak.sf", OF_FILE)],
+    ),
+    (&["run", "two.sf", "none", "given"], &[("two.sf", OF_FILE)]),
+    (&["run", "free.sf", "f", "given"], &[("free.sf", OF_FILE)]),
+];
+
+#[test]
+fn each_file_is_fetched_once_when_it_is_due(rt: HostRuntime) -> Result<(), Fail> {
+    let alloc = rt.alloc();
+    for (words, files) in REQUESTS {
+        let mut shelf = shelf_with(alloc, "x = nil")?;
+        let mut sink = MemSink::new(alloc, usize::MAX);
+        smallfoot(&rt, alloc, words, &mut shelf, &mut sink, &OpenGate);
+        assert_eq!(rt; shelf.requests().len(), files.len());
+        for (request, (name, most)) in shelf.requests().iter().zip(files) {
+            assert_eq!(rt; request.name.as_bytes(), name.as_bytes());
+            assert_eq!(rt; request.most, *most);
+        }
+    }
+    Ok(())
+}

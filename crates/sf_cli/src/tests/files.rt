@@ -1,0 +1,36 @@
+//! The files that commands work on. A test can't read files, so each is a text in a module of its
+//! own, with its proof, or why it has none.
+
+pub mod buffer;
+pub mod chain;
+pub mod free;
+pub mod fresh;
+pub mod late;
+pub mod leak;
+pub mod link_first;
+pub mod mm;
+pub mod reverse;
+pub mod set;
+pub mod stay;
+pub mod tree;
+pub mod two;
+pub mod vacuous;
+
+/// What is on the shelf: names and texts.
+pub const FILES: [(&str, &str); 15] = [
+    ("set.sf", set::FILE),
+    ("tree.sf", tree::FILE),
+    ("leak.sf", leak::FILE),
+    ("mm.sf", mm::FILE),
+    ("buf.sf", buffer::FILE),
+    ("late.sf", late::FILE),
+    ("rev.sf", reverse::FILE),
+    ("cat.sf", chain::FILE),
+    ("k.sf", link_first::FILE),
+    ("stay.sf", stay::FILE),
+    ("two.sf", two::FILE),
+    ("vac.sf", vacuous::FILE),
+    ("free.sf", free::FILE),
+    ("calls.sf", fresh::FILE),
+    ("bad.sf", "f() { @ }"),
+];

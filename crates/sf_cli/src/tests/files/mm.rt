@@ -1,0 +1,52 @@
+//! A memory manager: cells that nobody uses are kept in a list.
+
+/// The file.
+pub const FILE: &str = "resource mm (f) [list(f)]
+alloc(x;) [emp] {
+  with mm when (true) {
+    if (f == nil) { x = new(); } else { x = f; f = x->tl; }
+  }
+} [x|->]
+dealloc(y) [y|->] {
+  with mm when (true) { y->tl = f; f = y; }
+} [emp]
+";
+
+/// Its proof.
+pub const PROOF: &str = "accepted
+procedure alloc
+enter
+add
+split s1 nil
+drop 1
+then
+new
+exit
+empty
+give
+return
+cell 2
+end
+else
+assign
+unroll 1
+look 2
+exit
+exact 3
+give
+return
+cell 2
+end
+procedure dealloc
+add
+enter
+add
+mutate 1
+assign
+exit
+head 1
+exact 2
+give
+return
+end
+";

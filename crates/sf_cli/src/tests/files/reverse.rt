@@ -1,0 +1,46 @@
+//! A list is turned round in place.
+
+/// The file.
+pub const FILE: &str = "rev(o; i) [list(i)] {
+  local t;
+  o = nil;
+  while (i != nil) [list(o) * list(i)] {
+    t = i->tl;
+    i->tl = o;
+    o = i;
+    i = t;
+  }
+} [list(o)]
+";
+
+/// Its proof.
+pub const PROOF: &str = "accepted
+procedure rev
+add
+assign
+assign
+loop
+empty
+exact 1
+around
+add
+add
+add
+unroll 3
+look 4
+mutate 4
+assign
+assign
+again
+head 4
+exact 2
+exact 5
+end
+add
+add
+add
+drop 3
+return
+exact 2
+end
+";
