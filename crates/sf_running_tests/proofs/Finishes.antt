@@ -2,7 +2,7 @@
 -- Names: the law's; `ends-WHAT` of what a run ends with.
 use Rattle.std.specs.Prelude.{◌≡◌, ◌+◌, ℕ, suc, List, [], ◌∷◌, Some, Vec, length, map, slice_get}
 use Rattle.std.specs.declared.alloc.Global.{Global}
-use Rattle.std.proofs.Common.{ap₂, ◌∙◌, refl, arith}
+use Rattle.std.proofs.Common.{ap₂, ◌∙◌, refl, ap, arith}
 use Rattle.sf_base.proofs.Options.{some-once}
 use Rattle.sf_base.specs.declared.ids.ProcId.{ProcId}
 use Rattle.sf_base.specs.declared.value.Value.{Value}
