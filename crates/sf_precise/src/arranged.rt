@@ -4,7 +4,7 @@ ghost use Rattle.sf_core.specs.Program.ProgramView.{program_of};
 ghost use Rattle.sf_calls.specs.Changes.{changes_in};
 ghost use Rattle.sf_calls.specs.FirstBreach.{Conditions};
 ghost use Rattle.sf_calls.specs.Sets.{AreSetsOf};
-ghost use Rattle.sf_precise.specs.Annotations.{AreOrdersOf, annotations_in};
+ghost use Rattle.sf_precise.specs.Annotations.{AreOrdersOf, annotations_in, owed};
 ghost use Rattle.sf_precise.specs.Checked.Starts.{starts_from};
 ghost use Rattle.sf_precise.specs.Order.{IsOrderOf};
 
@@ -76,5 +76,22 @@ impl Arranged {
     {
         orders_from_truncation();
         &self.orders[self.starts[f.0 as usize + 1] - 1]
+    }
+
+    /// What the procedure's return owes, in order: its post, or the invariant of each resource where
+    /// it sets the resources up.
+    pub fn owed(&self, f: ProcId) -> &[Ordered]
+        requires { f.0 < length self.now.program.procedures.items }
+        ensures { IfSome (slice_get (program_of self.now.program).procedures f.0)
+            (λ h. AreOrdersOf (owed (program_of self.now.program) h)
+            (map (λ o. assertion_of o.assertion) result.now)) }
+    {
+        orders_from_truncation();
+        let end = self.starts[f.0 as usize + 1];
+        if self.program.is_init(f) {
+            &self.orders[..self.program.resources.len()]
+        } else {
+            &self.orders[end - 1..end]
+        }
     }
 }

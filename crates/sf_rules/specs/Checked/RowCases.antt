@@ -122,9 +122,9 @@ pub data Rows (d : Setting) (g : Goal) (left : List Goal) : Type 0 where
       → left ≡ goal_of g.state (to_take p (term g.state.vars) (d.ordered of.invariant)
       ++ (gave p [] (variables_from r 0 of.variables) ∷ rest)) ∷ []
       → Rows d g left
-  -- the end of the procedure: the postcondition is due
-  by_return : (p : Place) (post : Assertion) (rest : List Item) → g.todo ≡ return p post ∷ rest
-      → left ≡ goal_of g.state (to_take p (term g.state.vars) post ++ (end p ∷ [])) ∷ [] → Rows d g left
+  -- the end of the procedure: what it owes is due, one assertion after the other
+  by_return : (p : Place) (owed : List Assertion) (rest : List Item) → g.todo ≡ return p owed ∷ rest
+      → left ≡ goal_of g.state (to_take_each p (term g.state.vars) owed (end p ∷ [])) ∷ [] → Rows d g left
   -- the end of all: no atom is left
   by_end : (p : Place) (rest : List Item) → g.todo ≡ end p ∷ rest → is_empty g.state.atoms ≡ true → left ≡ []
       → Rows d g left
