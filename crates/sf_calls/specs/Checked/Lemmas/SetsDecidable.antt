@@ -8,7 +8,7 @@ use Rattle.sf_base.specs.declared.ids.ProcId.{ProcId}
 use Rattle.sf_base.specs.declared.ids.ResId.{ResId}
 use Rattle.sf_base.specs.declared.ids.Var.{Var}
 use Rattle.sf_base.specs.declared.ids.Var.TheVariants.{Own, Shared}
-use Rattle.sf_core.specs.Machine.HasThroughout.{HasThroughout, Mentions as MentionsResource}
+use Rattle.sf_core.specs.Machine.HasThroughout.{HasThroughout, ContractMentions}
 use Rattle.sf_core.specs.Assertions.Occurs.{VarOccursIn}
 use Rattle.sf_core.specs.Program.Heads.{sites}
 use Rattle.sf_core.specs.Program.Init.{sets_up}
@@ -136,17 +136,17 @@ speaks_of_is r h = Decides-like _ to from (speaks_is r (in_contract h))
     from m = (m.0, (in_contract_are h.pre.level h.post.level (Shared r m.0)).1 (tt, m.1))
 
 -- whether its contract mentions it
-mentions_decidable : (p : Program) (f : ProcId) (r : ResId) → IsDecidable (MentionsResource p f r)
+mentions_decidable : (p : Program) (f : ProcId) (r : ResId) → IsDecidable (ContractMentions p f r)
 mentions_decidable p f r =
     decidable_by _
     (Decides-like _ to from (has_is p (λ h. speaks_of r (in_contract h)) _ (speaks_of_is r) f))
   where
     to : Has p
         (λ h. (n : ℕ) × (VarOccursIn h.pre.level (Shared r n) ⊎ VarOccursIn h.post.level (Shared r n))) f
-        → MentionsResource p f r
+        → ContractMentions p f r
     to h = record { procedure = h.0; there = h.1; variable = h.2.0; occurs = h.2.1 }
 
-    from : MentionsResource p f r
+    from : ContractMentions p f r
         → Has p
         (λ h. (n : ℕ) × (VarOccursIn h.pre.level (Shared r n) ⊎ VarOccursIn h.post.level (Shared r n))) f
     from b = (b.procedure, b.there, (b.variable, b.occurs))
