@@ -80,6 +80,20 @@ of-contains r names (Shared q j) e =
     subst (λ (z : ResId). Contains (variables_from r 0 names) (Shared z j))
     (λ i. record { 0 = sym m.0 i }) (listed-of r 0 names j (omega arith) (omega (arith, m.1)))
 
+-- and no others
+contained-all : (P : Var → Type 0) (xs : List Var) (x : Var) → AllByRecursion P xs → Contains xs x → P x
+contained-all P [] x a c = absurd (contains-nil x c)
+contained-all P (y ∷ ys) x a c = elim ((contains-cons y ys x).0 c) [
+  | inl e ↦ subst P e a.0
+  | inr i ↦ contained-all P ys x a.1 i
+]
+
+pub contains-of : (r : ResId) (names : List (List ℕ)) (x : Var) → Contains (variables_from r 0 names) x
+    → is_of r (length names) x ≡ true
+contains-of r names x c =
+    contained-all (λ y. is_of r (length names) y ≡ true) (variables_from r 0 names) x
+    (of-listed r (length names) 0 names (omega arith)) c
+
 -- what is true or not
 not-true : (b : Bool) → (b ≡ true → ⊥) → b ≡ false
 not-true true n = absurd (n refl)

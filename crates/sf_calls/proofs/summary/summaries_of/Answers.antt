@@ -3,13 +3,14 @@ use Rattle.std.proofs.lemmas.List.{take_all}
 use Rattle.sf_base.proofs.Lookup.{get-read_map}
 use Rattle.sf_core.specs.Program.ProgramView.{program_of}
 use Rattle.sf_core.specs.Program.View.{procedure_of}
-use Rattle.sf_calls.specs.Checked.Lemmas.Rows.{sets_up-at, summaries_more}
+use Rattle.sf_core.proofs.Inits.{sets_up-is}
+use Rattle.sf_calls.specs.Checked.Lemmas.Rows.{summaries_more}
 use Rattle.sf_calls.proofs.summary.summaries_of.Goals as goal
 
 pub summary_of-requires : goal.summary_of-requires
 summary_of-requires c =
     c.is_init.ensures
-    ∙ sets_up-at (program_of c.args.p.now) _ (procedure_of c.h-item.result)
+    ∙ sets_up-is (program_of c.args.p.now) _ (procedure_of c.h-item.result)
     (get-read_map procedure_of c.args.p.now.procedures.items c.deref-h-items.result.now c.loop-i.i c.h-item.result
     c.deref-h-items.ensures.value c.loop-i-test.true c.h-item.is)
 

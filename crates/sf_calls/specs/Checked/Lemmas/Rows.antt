@@ -18,6 +18,7 @@ use Rattle.sf_base.specs.declared.ids.ProcId.{ProcId}
 use Rattle.sf_base.specs.declared.ids.ResId.{ResId}
 use Rattle.sf_base.specs.declared.ids.Var.{Var}
 use Rattle.sf_base.specs.declared.ids.Var.TheVariants.{Own, Shared}
+use Rattle.sf_core.proofs.Inits.{sets_up-is}
 use Rattle.sf_core.specs.declared.program.Proc.{Proc}
 use Rattle.sf_core.specs.declared.program.Program.{Program as CodeProgram}
 use Rattle.sf_core.specs.Machine.HasThroughout.{HasThroughout}
@@ -113,12 +114,8 @@ speaks_is r (Shared q j ∷ xs) =
           | inr c ↦ inr (s.0, c)
         ]
 
--- a procedure that is there sets the resources up where it is named so, and one that does is there
-pub sets_up-at : (p : Program) (f : ProcId) (h : Procedure) → slice_get p.procedures f.0 ≡ Some h
-    → sets_up p f ≡ is_init h
-sets_up-at p f h e = ap (λ (o : Option Procedure). bytes_eq (name_in o) init_name) e
-
-pub sets_up-there : (p : Program) (f : ProcId) → sets_up p f ≡ true
+-- a procedure that sets the resources up is there
+sets_up-there : (p : Program) (f : ProcId) → sets_up p f ≡ true
     → (h : Procedure) × (slice_get p.procedures f.0 ≡ Some h)
 sets_up-there p f s = go (slice_get p.procedures f.0) refl
   where
@@ -182,7 +179,7 @@ holding_row p r hs summaries i visited same z inside past e =
 
     to : (f : ProcId) → (h : Procedure) × (slice_get (map procedure_of hs) f.0 ≡ Some h) × Holds h
         → HasThroughout p f r
-    to f (h, at, inl s) = inr (sets_up-at p f h (ap (λ (k : List Procedure). slice_get k f.0) (sym same) ∙ at) ∙ s, inside)
+    to f (h, at, inl s) = inr (sets_up-is p f h (ap (λ (k : List Procedure). slice_get k f.0) (sym same) ∙ at) ∙ s, inside)
     to f (h, at, inr m) = inl (record {
       procedure = h;
       there = ap (λ (k : List Procedure). slice_get k f.0) (sym same) ∙ at;
@@ -199,7 +196,7 @@ holding_row p r hs summaries i visited same z inside past e =
     )
     from f (inr s) =
         let h = sets_up-there p f s.0 in
-        (h.0, ap (λ (k : List Procedure). slice_get k f.0) same ∙ h.1, inl (sym (sets_up-at p f h.0 h.1) ∙ s.0))
+        (h.0, ap (λ (k : List Procedure). slice_get k f.0) same ∙ h.1, inl (sym (sets_up-is p f h.0 h.1) ∙ s.0))
 
 -- the least set rests on its two rules alone
 pub reaches_along : {A : Type 0} (D D' : A → Type 0) (E E' : A → A → Type 0) → ((a : A) → D a → D' a)
