@@ -137,7 +137,7 @@ fn holding(
     let mut visited = Vec::with_capacity(alloc, p.procedures.len())?;
     for t in summaries {
         let mentions = speaks_of(r, t.in_contract.as_slice());
-        visited.push(t.sets_up || mentions)?;
+        visited.push(t.sets_up | mentions)?;
     }
     Ok(visited)
 }

@@ -125,21 +125,20 @@ module _ (d : Setting) (formed : IsFormed d.program) (sets : AreSetsOf d.program
           let same = variables-length r 0 of.variables in
           omega (arith, few, same, formed.variables)
 
+  -- variables of resources that are held need a symbol each at most
+  held-next : (b : Bool) (xs : List Var) (s : State) (most : ℕ) → s.next_sym + length xs ≤ most
+      → (with_held b xs s).next_sym ≤ most
+  held-next true xs s most l = omega (arith, l)
+  held-next false xs s most l = l
+
   -- the first goal has few symbols, and one atom's number is next
   pub first-symbols : (f : ProcId) (g : Procedure) → slice_get d.program.procedures f.0 ≡ Some g
       → (first_goal d f g).state.next_sym ≤ 20000
   first-symbols f g there =
-      go (is_init g)
-    where
-      abbrev held : List Var
-      held = flat_map (variables_of d.program) (get_or d.sets.holds f.0 [])
-
-      go : (b : Bool) → (with_held b held (first_state (links_of d.program) (own_vars g)
-          (g.references + g.values))).next_sym ≤ 20000
-      go true = let few = (formed.procedures f.0 g there).declared_count in omega (arith, few)
-      go false =
-          let flat = flat-few (variables_of d.program) RESOURCE_VARIABLES (get_or d.sets.holds f.0 []) variables-few in
-          omega (arith, flat, held-few f, (formed.procedures f.0 g there).declared_count)
+      let flat = flat-few (variables_of d.program) RESOURCE_VARIABLES (get_or d.sets.holds f.0 []) variables-few in
+      held-next (is_init g) (flat_map (variables_of d.program) (get_or d.sets.holds f.0 []))
+      (first_state (links_of d.program) (own_vars g) (g.references + g.values)) 20000
+      (omega (arith, flat, held-few f, (formed.procedures f.0 g there).declared_count))
 
   -- variables of resources that are held are there
   held-shaped : (xs : List Var) (s : State) → StateShaped d s → (b : Bool) → StateShaped d (with_held b xs s)

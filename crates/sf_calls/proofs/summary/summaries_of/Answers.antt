@@ -9,7 +9,7 @@ use Rattle.sf_calls.proofs.summary.summaries_of.Goals as goal
 
 pub summary_of-requires : goal.summary_of-requires
 summary_of-requires c =
-    c.is_init.ensures
+    c.is_init-sets_up.ensures
     ∙ sets_up-is (program_of c.args.p.now) _ (procedure_of c.h-item.result)
     (get-read_map procedure_of c.args.p.now.procedures.items c.deref-h-items.result.now c.loop-i.i c.h-item.result
     c.deref-h-items.ensures.value c.loop-i-test.true c.h-item.is)

@@ -11,10 +11,10 @@ pub loop-t-preserved : goal.loop-t-preserved
 loop-t-preserved c =
     c.in_ok-push.ensures.items
     ∙ map-more (λ t. t.sets_up || speaks_of c.args.r t.in_contract) c.args.summaries.now c.args.summaries.now
-    c.loop-t.t-index c.t-item.result c.loop-t.visited.items (c.t-item.result.sets_up || c.speaks_of.result)
+    c.loop-t.t-index c.t-item.result c.loop-t.visited.items (c.t-item.result.sets_up || c.speaks_of-mentions.result)
     refl c.loop-t-test.true c.t-item.is
     (ap (λ b. c.t-item.result.sets_up || b)
-    (c.speaks_of.ensures ∙ ap (speaks_of c.args.r) c.as_slice.ensures))
+    (c.speaks_of-mentions.ensures ∙ ap (speaks_of c.args.r) c.as_slice.ensures))
     c.loop-t.invariant
 
 pub returns : goal.returns

@@ -1,5 +1,5 @@
 -- Rows of visited: what a procedure's own text tells, and what its calls add.
-use Rattle.std.proofs.Common.{◌≡◌, ◌⊎◌, ◌↔◌, ◌==◌, ◌||◌, ◌<◌, ◌≤◌, ◌+◌, ℕ, zero, suc, Bool, true, false, List, [], ◌∷◌, ◌++◌, length, get_or, map, take, Option, Some, slice_get, Vec, Contains, All, AllPairs, refl, sym, ap, inl, inr, ◌∙◌, subst, arith}
+use Rattle.std.proofs.Common.{◌≡◌, ◌⊎◌, ◌↔◌, ◌==◌, ◌||◌, ◌<◌, ◌≤◌, ◌+◌, ℕ, zero, suc, Bool, true, false, List, [], ◌∷◌, ◌++◌, length, get_or, map, take, Option, None, Some, slice_get, Vec, Contains, All, AllPairs, refl, sym, ap, inl, inr, ◌∙◌, subst, arith}
 use Rattle.std.specs.Bool.{Decides}
 use Rattle.std.specs.List.{AllZip}
 use Rattle.std.specs.Str.{bytes_eq}
@@ -124,6 +124,11 @@ sets_up-there p f s = go (slice_get p.procedures f.0) refl
     go None e = absurd (let no : false ≡ true = sym (ap (λ (o : Option Procedure). bytes_eq (name_in o) init_name) e) ∙ s in cc)
     go (Some h) e = (h, e)
 
+-- the procedure sets the resources up, or its contract mentions this one
+abbrev HoldsIt : ResId → Procedure → Type 0
+HoldsIt r h = (is_init h ≡ true)
+    ⊎ ((i : ℕ) × (VarOccursIn h.pre.level (Shared r i) ⊎ VarOccursIn h.post.level (Shared r i)))
+
 -- who enters a resource, who mentions a variable, and who holds a resource
 pub entering_row : (p : Program) (r : ResId) (hs : List Proc) (summaries : List Summary) (i : ℕ)
     (visited : List Bool)
@@ -160,24 +165,20 @@ pub holding_row : (p : Program) (r : ResId) (hs : List Proc) (summaries : List S
     → IsRow (length hs) (λ f. HasThroughout p f r) visited
 unfolding Speaks
 holding_row p r hs summaries i visited same z inside past e =
-    row_same (length hs) (λ f. (h : Procedure) × (slice_get (map procedure_of hs) f.0 ≡ Some h) × Holds h)
+    row_same (length hs) (λ f. (h : Procedure) × (slice_get (map procedure_of hs) f.0 ≡ Some h) × HoldsIt r h)
     (λ f. HasThroughout p f r) visited to from
-    (zip_row IsSummaryOf (λ t. t.sets_up || speaks_of r t.in_contract) Holds tells hs summaries (rw same z) i visited
+    (zip_row IsSummaryOf (λ t. t.sets_up || speaks_of r t.in_contract) (HoldsIt r) tells hs summaries (rw same z) i visited
     past e)
   where
-    abbrev Holds : Procedure → Type 0
-    Holds h = (is_init h ≡ true)
-        ⊎ ((i : ℕ) × (VarOccursIn h.pre.level (Shared r i) ⊎ VarOccursIn h.post.level (Shared r i)))
-
     tells : (h : Procedure) (t : Summary) → IsSummaryOf h t
-        → Decides (t.sets_up || speaks_of r t.in_contract) (Holds h)
+        → Decides (t.sets_up || speaks_of r t.in_contract) (HoldsIt r h)
     tells h t w =
         Decides-or t.sets_up (speaks_of r t.in_contract) (λ s. sym w.sets_up ∙ s, λ s. w.sets_up ∙ s)
         (Decides-like (speaks_of r t.in_contract)
         (λ s. (s.0, ((w.in_contract.members (Shared r s.0)).0 s.1).1))
         (λ m. (m.0, (w.in_contract.members (Shared r m.0)).1 (tt, m.1))) (speaks_is r t.in_contract))
 
-    to : (f : ProcId) → (h : Procedure) × (slice_get (map procedure_of hs) f.0 ≡ Some h) × Holds h
+    to : (f : ProcId) → (h : Procedure) × (slice_get (map procedure_of hs) f.0 ≡ Some h) × HoldsIt r h
         → HasThroughout p f r
     to f (h, at, inl s) = inr (sets_up-is p f h (ap (λ (k : List Procedure). slice_get k f.0) (sym same) ∙ at) ∙ s, inside)
     to f (h, at, inr m) = inl (record {
@@ -188,7 +189,7 @@ holding_row p r hs summaries i visited same z inside past e =
     })
 
     from : (f : ProcId) → HasThroughout p f r
-        → (h : Procedure) × (slice_get (map procedure_of hs) f.0 ≡ Some h) × Holds h
+        → (h : Procedure) × (slice_get (map procedure_of hs) f.0 ≡ Some h) × HoldsIt r h
     from f (inl b) = (
       b.procedure,
       ap (λ (k : List Procedure). slice_get k f.0) same ∙ b.there,
