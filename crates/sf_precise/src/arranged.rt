@@ -13,6 +13,7 @@ use sf_base::{ProcId, ResId};
 use sf_calls::{Calls, VarSet};
 use sf_core::{Command, Ordered, Program};
 use std::alloc::{AllocError, Global};
+use std::slice;
 
 /// A program, what its calls reach, and its annotations in order. It keeps that the calls are the
 /// program's, that no condition on its variables is broken, and that each order is that of its
@@ -86,12 +87,20 @@ impl Arranged {
             (λ h. AreOrdersOf (owed (program_of self.now.program) h)
             (map (λ o. assertion_of o.assertion) result.now)) }
     {
-        orders_from_truncation();
-        let end = self.starts[f.0 as usize + 1];
         if self.program.is_init(f) {
-            &self.orders[..self.program.resources.len()]
+            self.invariants()
         } else {
-            &self.orders[end - 1..end]
+            slice::from_ref(self.post(f))
         }
+    }
+
+    /// The invariants of all resources, in order.
+    fn invariants(&self) -> &[Ordered]
+        ensures { AreOrdersOf
+            (map (λ r. r.invariant) (program_of self.now.program).resources)
+            (map (λ o. assertion_of o.assertion) result.now) }
+    {
+        orders_from_truncation();
+        &self.orders[..self.program.resources.len()]
     }
 }
