@@ -114,7 +114,7 @@ orders_are ordered is [] [] z = refl
 orders_are ordered is [] (o ∷ os) z = absurd z
 orders_are ordered is (n ∷ ns) [] z = absurd z
 orders_are ordered is (n ∷ ns) (o ∷ os) z =
-    ap₂ (λ a as. a ∷ as) (sym (is.ordered n o z.0)) (orders_are ordered is ns os z.1)
+    ap₂ (λ a others. a ∷ others) (sym (is.ordered n o z.0)) (orders_are ordered is ns os z.1)
 
 -- the first goal by what the code puts there
 pub first_left : (d : Setting) (a : Arranged) (f : ProcId) (g : Procedure) (s : State) (vars : List (Var × Term))

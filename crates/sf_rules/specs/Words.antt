@@ -30,7 +30,7 @@ to_take p to a = taking p (pending_assertion to a) a.names
 -- to show assertions, one after the other, before those things to do
 abbrev pub to_take_each : Place → (Expr → Term) → List Assertion → List Item → List Item
 to_take_each p to [] rest = rest
-to_take_each p to (a ∷ as) rest = to_take p to a ++ to_take_each p to as rest
+to_take_each p to (a ∷ others) rest = to_take p to a ++ to_take_each p to others rest
 
 -- a test as conjuncts: none, if it is always true
 abbrev pub test_conjuncts : Place → (Expr → Term) → Test Expr → Conjuncts Term

@@ -1,6 +1,6 @@
 //! The first goal of a procedure.
 
-ghost use Rattle.std.specs.Prelude.{◌≡◌, ◌++◌, ◌-◌, ◌<◌, ◌≤◌, ◌^◌, ◌+◌, [], All, AllPairs, IfOk, IfSome, get_or, length};
+ghost use Rattle.std.specs.Prelude.{◌≡◌, ◌++◌, ◌-◌, ◌<◌, ◌≤◌, ◌^◌, ◌+◌, [], All, AllPairs, IfOk, IfSome, Some, get_or, length};
 ghost use Rattle.std.specs.List.{flat_map, slice_get};
 ghost use Rattle.sf_precise.specs.Order.{IsOrdering};
 ghost use Rattle.sf_core.specs.Program.Formed.{ProcedureWithin};
@@ -53,6 +53,8 @@ fn first_state(
     procedure: &Proc,
 ) -> Result<State, AllocError>
     requires there { f.0 < length arranged.now.program.procedures.items }
+    requires own { slice_get (program_of arranged.now.program).procedures f.0
+        ≡ Some (procedure_of procedure.now) }
     requires formed { ProcedureWithin (program_of arranged.now.program)
         (procedure_of procedure.now) }
     ensures { IfOk result (λ state. state ≡ state_by (program_of arranged.now.program)
@@ -73,8 +75,8 @@ fn with_held(
     held: &[Var],
     mut state: State,
 ) -> Result<State, AllocError>
-    requires { state.entry.next_sym + length held.now < 2 ^ 32 }
-    ensures { IfOk result (λ after. after ≡ with_held sets_up held.now state.entry) }
+    requires { state.next_sym + length held.now < 2 ^ 32 }
+    ensures { IfOk result (λ after. after ≡ with_held sets_up held.now state) }
 {
     if sets_up {
         state.set_vars(&nil_for(alloc, held)?)?;

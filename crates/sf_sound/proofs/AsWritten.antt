@@ -211,7 +211,7 @@ module _ (d : Setting) (kept : IsAsWritten d) where
       → map d.ordered (map (λ r. r.invariant) rs) ≡ map (λ a. a) (map (λ r. r.invariant) rs)
   invariants-same [] same = refl
   invariants-same (r ∷ rs) same =
-      ap₂ (λ a as. a ∷ as) (same 0 r refl) (invariants-same rs (λ i q e. same (suc i) q e))
+      ap₂ (λ a others. a ∷ others) (same 0 r refl) (invariants-same rs (λ i q e. same (suc i) q e))
 
   owed-same : (sets_up : Bool) (g : Procedure) → d.ordered g.post ≡ g.post
       → map d.ordered (cond sets_up (map (λ r. r.invariant) d.program.resources) (g.post ∷ []))

@@ -9,6 +9,7 @@ pub first_state-requires : goal.first_state-requires
 first_state-requires g c =
     record {
       there = c.requires.1.1;
+      own = c.proc-procedure.ensures.meaning;
       formed = c.args.arranged.now.program.formed.procedures c.args.f.0 _ c.proc-procedure.ensures.meaning;
     }
 
