@@ -22,7 +22,7 @@ use Rattle.sf_rules.specs.Rows.Regions.{variables_from}
 use Rattle.sf_rules.specs.Rows.Take.{subtract_row}
 use Rattle.sf_rules.specs.Rows.Whole.{row}
 use Rattle.sf_rules.specs.Setting.{Setting}
-use Rattle.sf_rules.specs.Words.{to_add, to_add_test, to_take}
+use Rattle.sf_rules.specs.Words.{to_add, to_add_test, to_take, to_take_each}
 use Rattle.sf_sym.specs.declared.tag.Tag.{Tag}
 use Rattle.sf_sym.specs.declared.term.Term.{Term}
 use Rattle.sf_sym.specs.Goal.{Item, run, add, take, gave, head, again, exit, return, end, Goal, to_run}
