@@ -65,7 +65,7 @@ use Rattle.sf_sym.specs.Below.{AreBelow, IsBelow}
 use Rattle.sf_sym.specs.declared.term.Term.{Term}
 use Rattle.sf_sym.specs.declared.term.Term.TheVariants.{Nil, Sym}
 use Rattle.sf_sym.specs.Goal.{Item, return, to_run}
-use Rattle.sf_sym.specs.Holds.{term_value, Agrees}
+use Rattle.sf_sym.specs.Holds.{term_value, Agrees, AtomsHold, Differ}
 use Rattle.sf_sym.specs.HoldsIn.{HoldsIn}
 use Rattle.sf_sym.specs.Checked.Lemmas.Below.{below-symbol}
 use Rattle.sf_sym.specs.Pending.{Pending}
@@ -307,7 +307,7 @@ module _ (d : Setting) (sane : IsSane d) (f : ProcId) (g : Procedure)
       × IsOfResource q.0 (length of.variables) x
   held-of x c =
       let q = contains-flat_map_from (variables_of p) held_list x c in
-      (q.0, go q.0 (slice_get p.resources q.0.0) refl q.2)
+      let r = go q.0 (slice_get p.resources q.0.0) refl q.2 in (q.0, r.0, r.1, r.2)
     where
       go : (q : ResId) (o : Option Resource) → slice_get p.resources q.0 ≡ o
           → Contains (unwrap_or (option_map (λ (of : Resource). variables_from q 0 of.variables)
@@ -447,17 +447,36 @@ module _ (d : Setting) (sane : IsSane d) (f : ProcId) (g : Procedure)
         more ENil i = tt
         more (EInt k) i = tt
 
+    -- nothing else is known
+    known-apart : (sets_up : Bool) → AllByRecursion (Differ w) (with_held sets_up xs s0).apart
+    known-apart true = tt
+    known-apart false = tt
+
+    known-atoms : (sets_up : Bool)
+        → AtomsHold w (with_held sets_up xs s0).links (with_held sets_up xs s0).atoms empty_map
+    known-atoms true = empty-holds
+    known-atoms false = empty-holds
+
+    known-taken : (sets_up : Bool)
+        → AtomsHold w (with_held sets_up xs s0).links (with_held sets_up xs s0).taken empty_map
+    known-taken true = empty-holds
+    known-taken false = empty-holds
+
+    none-taken : (sets_up : Bool) → (with_held sets_up xs s0).taken ≡ []
+    none-taken true = refl
+    none-taken false = refl
+
     first-holds : HoldsIn w (first_goal d f g) l.values l.cells empty_map
     first-holds = record {
       vars = vars;
-      apart = tt;
+      apart = known-apart (is_init g);
       disjoint = (splits-empty_right {map = l.cells} empty-holds).apart;
-      there = star-of (splits-empty_left empty-holds) empty-holds
+      there = star-of (splits-empty_left empty-holds) (known-atoms (is_init g))
           (adding-holds w g.place pre (to_run g.body ++ ending) l.cells
           (body-holds w (to_run g.body ++ ending) l.cells (body-run g.body ending tt)
           (usable-assumed d (IsPassed d f g) g.pre (annotation-pre d sane f g there) w to (value_in l) l.cells seen
           b.pre)));
-      gone = empty-holds;
+      gone = known-taken (is_init g);
     }
 
     -- what is owed speaks of what the frame has
@@ -509,7 +528,7 @@ module _ (d : Setting) (sane : IsSane d) (f : ProcId) (g : Procedure)
         (inl (
           adding-assuming g.place pre (to_run g.body ++ ending)
               (body-assuming (to_run g.body ++ ending) (body-run g.body ending tt)),
-          refl,
+          none-taken (is_init g),
         ))
 
     -- where the first goal claims what is to do, the body is safe

@@ -1,6 +1,8 @@
 -- Variables that get fresh symbols: values of those symbols that are the variables' own, what a frame has once
 -- variables have their terms' values, and that all this is below the next symbol.
 -- Names: `fresh-LAW` of fresh symbols, `put-LAW` of a frame in which variables have their terms' values.
+use Rattle.sf_base.specs.declared.value.Value.TheVariants.{Nil as nil}
+use Rattle.sf_rules.specs.First.{nil_for}
 use Rattle.std.specs.List.{AllByRecursion}
 use Rattle.std.specs.Prelude.{length, Contains}
 use Rattle.std.proofs.Common.{◌≡◌, ℕ, suc, ◌+◌, Bool, true, false, cond, Option, Some, List, [], ◌∷◌, ◌++◌, refl, sym, ap, ◌∙◌, inl, inr, arith}
