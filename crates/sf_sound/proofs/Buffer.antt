@@ -4,9 +4,9 @@ use Rattle.std.specs.Str.{bytes_eq}
 use Rattle.sf_core.proofs.Inits.{sets_up-is}
 use Rattle.sf_core.specs.Program.Named.{name_in}
 use Rattle.sf_core.specs.Program.Init.{is_init, init_name, sets_up}
-use Rattle.std.specs.Prelude.{◌≡◌, ◌≤◌, ◌<◌, ◌+◌, ◌⊎◌, ◌++◌, ℕ, zero, suc, pos, false, Contains, [], ◌∷◌, List, Some, length, slice_get}
+use Rattle.std.specs.Prelude.{◌≡◌, ◌≤◌, ◌<◌, ◌+◌, ◌⊎◌, ◌++◌, ℕ, zero, suc, pos, false, Contains, [], ◌∷◌, List, Some, length, slice_get, Option, None}
 use Rattle.std.specs.List.{All, IsDistinct}
-use Rattle.std.proofs.Common.{arith, inl, inr, refl, subst, sym, ◌∙◌, true≢false}
+use Rattle.std.proofs.Common.{ap, arith, inl, inr, refl, subst, sym, ◌∙◌, true≢false}
 use Rattle.std.proofs.lemmas.List.Elements.{All-cons, All-nil}
 use Rattle.std.proofs.lemmas.Option.{none-some}
 use Rattle.sf_base.proofs.Elements.{contains-cons, contains-nil}

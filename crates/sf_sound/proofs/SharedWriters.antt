@@ -1,7 +1,7 @@
 -- Two tasks that write one variable: the conditions on variables refuse what tags would prove.
 -- Names: `p-LAW` speaks of the procedure that forks.
 use Rattle.sf_core.specs.Program.Init.{is_init, sets_up}
-use Rattle.std.specs.Prelude.{◌≡◌, ◌≤◌, ◌<◌, ◌⊎◌, ◌++◌, ℕ, codes, Contains, [], ◌∷◌, List, None, Some, slice_get}
+use Rattle.std.specs.Prelude.{◌≡◌, ◌≤◌, ◌<◌, ◌⊎◌, ◌++◌, ℕ, codes, Contains, [], ◌∷◌, List, None, Some, slice_get, false}
 use Rattle.std.specs.List.{All}
 use Rattle.std.proofs.Common.{arith, inl, inr, refl}
 use Rattle.std.proofs.lemmas.List.Elements.{All-cons, All-nil}

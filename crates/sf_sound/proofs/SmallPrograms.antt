@@ -2,7 +2,7 @@
 -- order as they stand, and mention no variable of a resource. And sets with no member or one.
 -- Names: `emp-LAW` and `cell-LAW` speak of the two contracts, `set-LAW` of sets.
 use Rattle.sf_core.specs.Program.Init.{IsBare, is_init}
-use Rattle.std.specs.Prelude.{◌≡◌, ◌≤◌, ◌<◌, ◌+◌, ℕ, zero, suc, List, [], ◌∷◌, Some, replicate, slice_get}
+use Rattle.std.specs.Prelude.{◌≡◌, ◌≤◌, ◌<◌, ◌+◌, ℕ, zero, suc, List, [], ◌∷◌, Some, replicate, slice_get, false, true}
 use Rattle.std.specs.List.{All, IsDistinct}
 use Rattle.std.proofs.Common.{ap, arith, inl, inr, refl, subst, sym, ◌∙◌, true≢false}
 use Rattle.std.proofs.lemmas.List.Elements.{All-cons, All-nil}

@@ -1,7 +1,7 @@
 -- Two tasks that write one cell: no tags prove their program.
 -- Names: `w-LAW` speaks of the procedure that writes, `m-LAW` of the one that forks.
 use Rattle.sf_core.specs.Program.Init.{is_init}
-use Rattle.std.specs.Prelude.{◌≡◌, ◌≤◌, ◌<◌, [], ◌∷◌, None}
+use Rattle.std.specs.Prelude.{◌≡◌, ◌≤◌, ◌<◌, [], ◌∷◌, None, ℕ, false, Some, slice_get}
 use Rattle.std.specs.List.{All}
 use Rattle.std.proofs.Common.{arith, inl, inr, refl, subst, sym}
 use Rattle.std.proofs.lemmas.List.Elements.{All-cons, All-nil}
