@@ -131,7 +131,7 @@ module _ (d : Setting) (formed : IsFormed d.program) (sets : AreSetsOf d.program
   held-next true xs s most l = omega (arith, l)
   held-next false xs s most l = l
 
-  -- the first goal has few symbols, and one atom's number is next
+  -- the first goal has few symbols
   pub first-symbols : (f : ProcId) (g : Procedure) → slice_get d.program.procedures f.0 ≡ Some g
       → (first_goal d f g).state.next_sym ≤ 20000
   first-symbols f g there =
@@ -158,6 +158,16 @@ module _ (d : Setting) (formed : IsFormed d.program) (sets : AreSetsOf d.program
       (map d.ordered (cond b (map (λ r. r.invariant) d.program.resources) (g.post ∷ [])))
   owed-fits true g post fits = invariants-fit d.program.resources fits.resources
   owed-fits false g post fits = (post, tt)
+
+  -- the next atom is its first one
+  pub first-atom : (f : ProcId) (g : Procedure) → (first_goal d f g).state.next_atom ≡ 1
+  first-atom f g = go (is_init g)
+    where
+      go : (b : Bool)
+          → (with_held b (flat_map (variables_of d.program) (get_or d.sets.holds f.0 []))
+          (first_state (links_of d.program) (own_vars g) (g.references + g.values))).next_atom ≡ 1
+      go true = refl
+      go false = refl
 
   -- it is shaped
   pub first-shaped : (f : ProcId) (g : Procedure) → slice_get d.program.procedures f.0 ≡ Some g → ProgramFits d
