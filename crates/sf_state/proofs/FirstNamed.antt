@@ -40,6 +40,37 @@ named-once names name j k a b = go (cases_lt j k)
         and (inl g) = absurd (a.1 k g b.0)
         and (inr g) = omega arith
 
+-- a name is one of these, or none of them
+pub first-named : (names : List Text) (name : Text) → ((k : ℕ) × IsFirstNamed names name (Some k))
+    ⊎ IsFirstNamed names name None
+first-named [] name = inr (λ k e. absurd (cc))
+first-named (n ∷ names) name = go (bytes_eq n name) refl (first-named names name)
+  where
+    go : (b : Bool) → bytes_eq n name ≡ b
+        → ((k : ℕ) × IsFirstNamed names name (Some k)) ⊎ IsFirstNamed names name None
+        → ((k : ℕ) × IsFirstNamed (n ∷ names) name (Some k)) ⊎ IsFirstNamed (n ∷ names) name None
+    go true e rest = inl (0, (ap Some (bytes_eq-same n name e), λ j h. absurd (omega (arith, h))))
+    go false e (inl f) = inl (suc f.0, (f.1.0, later))
+      where
+        later : (j : ℕ) → j < suc f.0 → slice_get (n ∷ names) j ≡ Some name → ⊥
+        later zero h s = bytes_eq-other n name e (same_Some n name s)
+        later (suc j) h s = f.1.1 j (omega (arith, h)) s
+    go false e (inr out) = inr none
+      where
+        none : (k : ℕ) → slice_get (n ∷ names) k ≡ Some name → ⊥
+        none zero s = bytes_eq-other n name e (same_Some n name s)
+        none (suc k) s = out k s
+
+-- where a procedure sets the resources up, one has its name
+pub some-named : (gs : List Procedure) → list_any is_init gs ≡ true
+    → IsFirstNamed (map (λ g. g.name) gs) init_name None → ⊥
+some-named [] has none = false≢true has
+some-named (g ∷ gs) has none = go (is_init g) refl
+  where
+    go : (b : Bool) → is_init g ≡ b → ⊥
+    go true e = none 0 (ap Some (bytes_eq-same g.name init_name e))
+    go false e = some-named gs (sym (ap (λ b. b || list_any is_init gs) e) ∙ has) (λ k. none (suc k))
+
 -- nothing in the set is held
 pub holds-none : (p : Program) (f : ProcId) (xs : List ResId) → IsResSet (HasThroughout p f) xs → (length xs == 0) ≡ true
     → HoldsNone p f
@@ -83,7 +114,10 @@ never-both p name f (fault.FreeEntry n) a b =
     let e : b.1.procedure.0 ≡ f.0 =
     named-once (procedure_names p) name b.1.procedure.0 f.0 b.1.named a.named in
     let same : b.1.procedure ≡ f = λ i. record { 0 = e i } in
-    a.free b.1.resource (subst (λ g. HasThroughout p g b.1.resource) same b.1.held)
+    elim b.1.holds [
+      | inl h ↦ a.free h.0 (subst (λ g. HasThroughout p g h.0) same h.1)
+      | inr h ↦ false≢true (sym a.other ∙ ap (sets_up p) (sym same) ∙ h)
+    ]
 never-both p name f (fault.BadLine n) a b = b
 never-both p name f (fault.Twice n) a b = b
 never-both p name f (fault.Missing n) a b = b

@@ -28,9 +28,10 @@ use Rattle.sf_heap.specs.Cells.{Cells, HasCell, heap_of}
 use Rattle.sf_foot.specs.Footprint.{HasNoFootprint, IsFootprint}
 use Rattle.sf_precise.specs.Checked.Laws.{OrderedIsDetermined, OrderKeepsMeaning}
 use Rattle.sf_precise.specs.Order.{IsOrderOf}
+use Rattle.sf_foot.specs.Starting.{assertions_of}
 use Rattle.sf_state.specs.declared.finding.Found.{Found}
 use Rattle.sf_state.specs.Checked.Found.{AreFound}
-use Rattle.sf_state.specs.Starts.{IsUnmet, assertions_of, without}
+use Rattle.sf_state.specs.Starts.{IsUnmet, without}
 use Rattle.sf_state.proofs.Turns.{turns-from_parts}
 use Rattle.sf_state.proofs.Without.{member-decides, no_foot-left, no_foot-overlap}
 

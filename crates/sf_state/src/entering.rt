@@ -32,7 +32,7 @@ fn find_entry(alloc: Global, p: &Arranged, name: &str) -> Result<ProcId, StartFa
 {
     match p.program.find(name) {
         Some(f) => {
-            if holds_none(p, f) {
+            if holds_none(p, f) && !p.program.is_init(f) {
                 return Ok(f);
             }
             let name = Name::new(alloc, name.as_bytes())?;
@@ -46,8 +46,8 @@ fn find_entry(alloc: Global, p: &Arranged, name: &str) -> Result<ProcId, StartFa
 }
 
 /// The procedure of that name, as the entry of a run. `Unknown` comes exactly where there is none,
-/// and `FreeEntry` exactly where the variables of a resource occur in its pre or post; or memory
-/// runs out.
+/// and `FreeEntry` exactly where the variables of a resource occur in its pre or post, or it is
+/// `init`, which sets the resources up; or memory runs out.
 pub fn entry(alloc: Global, p: &Arranged, name: &str) -> Result<ProcId, StartFault>
     ensures decides { Decides result (λ f. f) (IsEntry (program_of p.now.program) name.now)
         (IsEntryFault (program_of p.now.program) name.now) StartFault.OutOfMemory }

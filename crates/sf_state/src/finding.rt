@@ -121,23 +121,28 @@ impl Found {
     }
 }
 
-/// The footprints of the precondition and then of each resource's invariant, in file order, each in
-/// what the earlier ones left; or the first assertion that has none there.
+/// The footprints of the precondition and then, unless the start is fresh, of each resource's
+/// invariant in file order, each in what the earlier ones left; or the first assertion that has
+/// none there.
 pub(crate) fn find_parts(
     alloc: Global,
     p: &Arranged,
     f: ProcId,
+    fresh: bool,
     vars: &Vars,
     heap: &Heap,
 ) -> Result<Found, StartFault>
     requires { f.0 < length p.now.program.procedures.items }
     ensures { IfSome (slice_get (program_of p.now.program).procedures f.0)
-        (λ g. AllFound (program_of p.now.program) g (value_of vars.now) heap.now result) }
+        (λ g. AllFound (program_of p.now.program) g fresh (value_of vars.now) heap.now result) }
 {
     let mut found = Found::new(alloc);
     if !found.take(alloc, p.pre(f), vars, heap)? {
         let name = Name::new(alloc, b"pre")?;
         return Err(StartFault::Unmet(name));
+    }
+    if fresh {
+        return Ok(found);
     }
     for r in 0..p.program.resources.len() {
         if !found.take(alloc, p.invariant(ResId(r as u32)), vars, heap)? {

@@ -6,9 +6,10 @@ use Rattle.sf_core.specs.Program.ProgramView.{program_of}
 use Rattle.sf_core.specs.Program.View.{assertion_of, resource_of}
 use Rattle.sf_foot.specs.Variables.{value_of}
 use Rattle.sf_precise.specs.Order.{IsOrderOf}
+use Rattle.sf_foot.specs.Starting.{assertions_of}
 use Rattle.sf_state.specs.declared.fault.StartFault.TheVariants.{Unmet}
 use Rattle.sf_state.specs.Checked.Found.{AlsoFound, AreFound}
-use Rattle.sf_state.specs.Starts.{assertions_of}
+
 use Rattle.sf_state.proofs.NextFound.{found-all, found-nothing, found-unmet, next-found, next-unmet, some-then, there-at}
 use Rattle.sf_state.proofs.finding.find_parts.Goals as goal
 

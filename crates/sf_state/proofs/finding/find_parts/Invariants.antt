@@ -2,8 +2,9 @@ use Rattle.std.proofs.Common.{◌+◌, slice_get, take}
 use Rattle.std.specs.Option.{IfSome}
 use Rattle.sf_core.specs.Program.ProgramView.{program_of}
 use Rattle.sf_foot.specs.Variables.{value_of}
+use Rattle.sf_foot.specs.Starting.{assertions_of}
 use Rattle.sf_state.specs.Checked.Found.{AreFound}
-use Rattle.sf_state.specs.Starts.{assertions_of}
+
 use Rattle.sf_state.proofs.finding.find_parts.Given as goal
 
 -- the precondition and the invariants so far are found

@@ -4,12 +4,12 @@ use Rattle.sf_base.proofs.Options.{some-holds}
 use Rattle.sf_core.specs.Program.ProgramView.{program_of}
 use Rattle.sf_core.specs.Program.Syntax.{Procedure}
 use Rattle.sf_core.specs.Program.View.{procedure_of}
-use Rattle.sf_foot.specs.Starting.{IsFirstUnit, StartsWith}
+use Rattle.sf_foot.specs.Starting.{IsFirstUnit, StartsWith, assertions_of}
 use Rattle.sf_foot.specs.Variables.{value_of}
 use Rattle.sf_heap.specs.declared.locations.Locations.{Locations}
 use Rattle.sf_state.specs.Checked.Beginning.{Fits}
 use Rattle.sf_state.specs.Checked.Found.{AreFound}
-use Rattle.sf_state.specs.Starts.{assertions_of}
+
 use Rattle.sf_state.proofs.Beginning.{begin-all, begin-left_over, begin-starts}
 use Rattle.sf_state.proofs.NextFound.{some-then, there-at}
 use Rattle.sf_state.proofs.start.begin.Goals as goal
