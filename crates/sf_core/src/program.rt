@@ -100,7 +100,10 @@ impl Program {
     pub fn is_init(&self, f: ProcId) -> bool
         ensures { result ≡ is_init_at (map procedure_of self.now.procedures.items) f }
     {
-        self.init == Some(f)
+        match self.init {
+            Some(init) => init.0 == f.0,
+            None => false,
+        }
     }
 
     /// The procedure of that number.

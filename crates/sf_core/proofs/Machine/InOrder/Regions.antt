@@ -217,9 +217,9 @@ module _ (p : Program) (f : Fixed) (below : List Frame) (path : Path) (t : Task)
       × ((other : Path) → other ≢ path → regions p r (stack_of (task_at other t)) ≡ 0)
   regions-none r false e = (
     (let none : regions p r (stack_of (task_at path t)) ≡ 0 = regions-past p t formed r e path in
-    let mine : regions p r (stack_of (task_at path t)) ≡ (throughout p r f + 0) + regions p r below =
-    regions-mine r in
-    omega arith),
+        let mine : regions p r (stack_of (task_at path t)) ≡ (throughout p r f + 0) + regions p r below =
+        regions-mine r in
+        omega arith),
     λ other n. regions-past p t formed r e other,
   )
   regions-none r true e =
