@@ -7,10 +7,11 @@ use Rattle.std.specs.Ordering.{nat_cmp, is_eq}
 use Rattle.std.specs.BTreeMap.{BTreeMap, get, is_at}
 use Rattle.std.specs.Map.{lookup}
 use Rattle.std.specs.BTreeSet.{BTreeSet, contains}
-use Rattle.std.proofs.Common.{true≢false, sym, ap, ap₂, ◌∙◌, refl, inl, inr, arith}
+use Rattle.std.proofs.Common.{true≢false, sym, ap, ap₂, ◌∙◌, refl, subst, inl, inr, arith}
 use Rattle.std.proofs.lemmas.Bool.{and_parts, cases_lt}
 use Rattle.std.proofs.lemmas.Bool.Decides.{Decides-ltb, nat_tests}
 use Rattle.std.proofs.lemmas.List.{length-map}
+use Rattle.std.proofs.lemmas.Simd.{map-map}
 use Rattle.std.proofs.lemmas.List.Sums.{get_or-le-sum_by}
 use Rattle.std.proofs.lemmas.Option.{unwrap_or-slice_get, slice_get_within}
 use Rattle.sf_base.specs.declared.ids.ProcId.{ProcId}
@@ -27,7 +28,9 @@ use Rattle.sf_core.specs.Program.Init.{IsInitAmong, init_name}
 use Rattle.sf_core.specs.Program.Named.{IsFirstNamed}
 use Rattle.sf_core.specs.Machine.Step.{index_of}
 use Rattle.sf_core.specs.Program.Syntax.{Procedure, Program, Resource}
-use Rattle.sf_core.specs.Program.View.{resource_of}
+use Rattle.sf_core.specs.Program.ProgramView.{program_of}
+use Rattle.sf_core.specs.Program.View.{procedure_of, resource_of}
+use Rattle.sf_core.specs.declared.program.Program.{Program as CodeProgram}
 use Rattle.sf_foot.specs.declared.vars.Vars.{Vars}
 use Rattle.sf_foot.specs.Starting.{IsBeginning, store_of}
 use Rattle.sf_foot.specs.Variables.{value_of, values_or_none}
@@ -150,18 +153,18 @@ module _ (p : Program) (f : ProcId) (b : Beginning) (g : Procedure) (vars : Vars
       ∙ store_shared (length rs) r i (sym (length-map rs resource_of) ∙ ap length same)
 
 -- the variables that come up are those with which a run begins
-pub first_all : (rs : List CodeResource) (vars : Vars) (n : ℕ) (added opened fresh : Store)
-    → ((slot : Slot) → fresh slot ≡ None)
+pub first_all : (rs : List CodeResource) (vars : Vars) (n : ℕ) (added opened empty : Store)
+    → ((slot : Slot) → empty slot ≡ None)
     → ((slot : Slot) → opened slot ≡ cond (in_room (first_slots 0 0 n) slot)
-    (Some (get_or vars.own.items (index_of slot - 0) nil)) (fresh slot))
+    (Some (get_or vars.own.items (index_of slot - 0) nil)) (empty slot))
     → ((slot : Slot) → added slot ≡ cond (in_resources (counts_of rs) (length rs) slot)
     (Some (value_of vars (var_at slot))) (opened slot))
     → (slot : Slot) → added slot ≡ first_store n rs vars slot
-first_all rs vars n added opened fresh none opens add (own d i) = add (own d i) ∙ opens (own d i)
+first_all rs vars n added opened empty none opens add (own d i) = add (own d i) ∙ opens (own d i)
     ∙ ap (λ z. cond (in_room (first_slots 0 0 n) (own d i)) (Some (get_or vars.own.items (i - 0) nil)) z)
     (none (own d i))
     ∙ store_own vars.own.items n d i
-first_all rs vars n added opened fresh none opens add (shared r i) = add (shared r i)
+first_all rs vars n added opened empty none opens add (shared r i) = add (shared r i)
     ∙ ap (λ z. cond (in_resources (counts_of rs) (length rs) (shared r i)) (Some (value_of vars (shared_variable r i))) z)
     (opens (shared r i) ∙ none (shared r i))
 
@@ -248,6 +251,13 @@ beginning_same p (Some m) true (fresh n h) named kind =
         | inr g ↦ omega (arith, h, g)
       ]
     ]
+
+-- the code keeps that procedure
+pub beginning_kept : (p : CodeProgram) (is_fresh : Bool) (b : Beginning) → IsBeginning (program_of p) is_fresh b
+    → beginning_at (program_of p) (cond is_fresh p.init None) ≡ b
+beginning_kept p is_fresh b kind = beginning_same (program_of p) p.init is_fresh b
+    (subst (λ names. IsInitAmong names p.init)
+    (sym (map-map (λ (g : Procedure). g.name) procedure_of p.procedures.items)) p.set_up) kind
 
 -- who holds the resources, by the number of the procedure that sets them up first
 pub holders_same : (p : Program) (rs : List CodeResource) (init : Option ProcId) (b : Beginning) (count : ℕ)

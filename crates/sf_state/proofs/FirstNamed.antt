@@ -71,6 +71,27 @@ some-named (g ∷ gs) has none = go (is_init g) refl
     go true e = none 0 (ap Some (bytes_eq-same g.name init_name e))
     go false e = some-named gs (sym (ap (λ b. b || list_any is_init gs) e) ∙ has) (λ k. none (suc k))
 
+-- where a name is that of one, one sets the resources up
+one-named : (gs : List Procedure) (k : ℕ) → slice_get (map (λ g. g.name) gs) k ≡ Some init_name
+    → list_any is_init gs ≡ true
+one-named [] k e = absurd cc
+one-named (g ∷ gs) zero e =
+    let same : g.name ≡ init_name = same_Some g.name init_name e in
+    ap (λ b. b || list_any is_init gs) (ap (λ n. bytes_eq n init_name) same ∙ bytes_eq-self init_name)
+one-named (g ∷ gs) (suc k) e = or_right (is_init g) (list_any is_init gs) (one-named gs k e)
+
+-- the code knows whether one does
+pub code-has_init : (procedures : List Proc) (init : Option ProcId) → IsInitAmong (map (λ f. f.name) procedures) init
+    → is_some init ≡ list_any is_init (map procedure_of procedures)
+code-has_init procedures (Some n) named =
+    sym (one-named (map procedure_of procedures) n.0 (named-view procedures init_name (Some n.0) named).0)
+code-has_init procedures None named = go (list_any is_init (map procedure_of procedures)) refl
+  where
+    go : (b : Bool) → list_any is_init (map procedure_of procedures) ≡ b
+        → false ≡ list_any is_init (map procedure_of procedures)
+    go false e = sym e
+    go true e = absurd (some-named (map procedure_of procedures) e (named-view procedures init_name None named))
+
 -- nothing in the set is held
 pub holds-none : (p : Program) (f : ProcId) (xs : List ResId) → IsResSet (HasThroughout p f) xs → (length xs == 0) ≡ true
     → HoldsNone p f

@@ -4,6 +4,7 @@ ghost use Rattle.std.specs.Prelude.{◌≡◌, ◌<◌, ◌⊎◌, length, true,
 ghost use Rattle.sf_base.specs.Results.{Decides};
 ghost use Rattle.sf_base.specs.declared.ids.ResId.{ResId as R};
 ghost use Rattle.sf_core.specs.Machine.HasThroughout.{HasThroughout};
+ghost use Rattle.sf_core.specs.Program.Init.{sets_up};
 ghost use Rattle.sf_core.specs.Program.ProgramView.{program_of};
 ghost use Rattle.sf_state.specs.Entering.{HoldsNone, IsEntry, IsEntryFault};
 
@@ -23,6 +24,20 @@ fn holds_none(p: &Arranged, f: ProcId) -> bool
     p.calls.holds(f).as_slice().is_empty()
 }
 
+/// Whether the procedure may be an entry: it holds no resource, and isn't the one that sets them up.
+fn is_free(p: &Arranged, f: ProcId) -> bool
+    requires { f.0 < length p.now.program.procedures.items }
+    ensures yes { result ≡ true → HoldsNone (program_of p.now.program) f
+        × (sets_up (program_of p.now.program) f ≡ false) }
+    ensures no { result ≡ false → ((r : R) × HasThroughout (program_of p.now.program) f r)
+        ⊎ (sets_up (program_of p.now.program) f ≡ true) }
+{
+    if p.program.is_init(f) {
+        return false;
+    }
+    holds_none(p, f)
+}
+
 /// The entry of that name, or why there is none.
 fn find_entry(alloc: Global, p: &Arranged, name: &str) -> Result<ProcId, StartFault>
     ensures found { IfOk result (IsEntry (program_of p.now.program) name.now) }
@@ -32,7 +47,7 @@ fn find_entry(alloc: Global, p: &Arranged, name: &str) -> Result<ProcId, StartFa
 {
     match p.program.find(name) {
         Some(f) => {
-            if holds_none(p, f) && !p.program.is_init(f) {
+            if is_free(p, f) {
                 return Ok(f);
             }
             let name = Name::new(alloc, name.as_bytes())?;

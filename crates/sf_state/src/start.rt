@@ -51,15 +51,7 @@ fn begin(
         return Err(StartFault::LeftOver(location));
     }
     let unit = first_unit(&vars, &heap, at);
-    Ok(Start::new(
-        &p.program,
-        f,
-        vars,
-        heap,
-        found.parts,
-        unit,
-        fresh,
-    ))
+    Ok(Start::new(&p.program, f, vars, heap, found.parts, unit, fresh))
 }
 
 /// The start of procedure `f` that a text gives: its variables and cells, the footprint of each

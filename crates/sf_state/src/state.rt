@@ -34,11 +34,7 @@ pub struct State {
 }
 
 /// Refuses these values of the variables with those names, where one of them is missing.
-fn check_given(
-    alloc: Global,
-    names: &[Name],
-    given: &[Option<Value>],
-) -> Result<(), StartFault>
+fn check_given(alloc: Global, names: &[Name], given: &[Option<Value>]) -> Result<(), StartFault>
     ensures ok { OnOk result (missing_from names.now 0 given.now ≡ None) }
     ensures err { IfErr result (λ f. (f ≡ OutOfMemory)
         ⊎ (missing_from names.now 0 given.now ≡ Some f)) }
@@ -86,7 +82,7 @@ fn state_of(
 ) -> Result<State, StartFault>
     requires { own ≤ length given.values.items }
     ensures { (m : Format) → m.names ≡ names.now → m.own ≡ own → m.init ≡ init
-        → Completes m given.entry result }
+        → Completes m given result }
 {
     let fresh = is_fresh(init, own, &given.values);
     let needed = if fresh { own } else { given.values.len() };
