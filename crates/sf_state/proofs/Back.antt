@@ -1,9 +1,9 @@
 -- Written states are read back: no line is refused, and all of them give what was written.
 -- Names: `refused-LAW` that none is refused, `given-LAW` of what they give, `WHAT-back`.
-use Rattle.std.proofs.Common.{◌≡◌, ◌≤◌, ◌+◌, ◌++◌, ◌==◌, ℕ, suc, Bool, true, false, cond, nat_lt, List, [], ◌∷◌, length, map, replicate, Contains, Option, Some, None, is_some, slice_index_or, slice_set, refl, ap, ap₂, sym, ◌∙◌, arith, append_assoc, append-nil, codes, inl, inr}
+use Rattle.std.proofs.Common.{◌≡◌, ◌≤◌, ◌+◌, ◌++◌, ◌==◌, ℕ, suc, Bool, true, false, cond, nat_lt, List, [], ◌∷◌, length, map, replicate, Contains, Option, Some, None, is_some, slice_index_or, slice_set, refl, ap, ap₂, sym, ◌∙◌, arith, append_assoc, append-nil, codes, inl, inr, take}
 use Rattle.std.proofs.Math.Seq.{set-append_seam}
 use Rattle.std.proofs.lemmas.Bool.{eq-eqb, eqb-true, false≢true, lt-ltb}
-use Rattle.std.proofs.lemmas.List.{length-append}
+use Rattle.std.proofs.lemmas.List.{length-append, take-map}
 use Rattle.std.proofs.lemmas.List.Folds.{list_any-append}
 use Rattle.std.proofs.lemmas.List.Sums.{sum_by-append}
 use Rattle.std.specs.Option.{option_map, option_or}

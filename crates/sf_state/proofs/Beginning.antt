@@ -1,6 +1,6 @@
 -- With which variables and cells a procedure starts, once footprints are found for all its assertions.
 -- Names: `begin-LAW`; `store-LAW` for the store.
-use Rattle.std.proofs.Common.{◌≡◌, ◌≢◌, ◌<◌, ◌≤◌, ◌+◌, ◌==◌, ◌&&◌, ℕ, Bool, true, false, cond, nat_eq, nat_lt, nat_cmp, List, [], ◌∷◌, Option, Some, None, All, Contains, length, map, get_or, slice_get, is_some, refl, sym, ap, ◌∙◌, subst, arith, Vec, Global}
+use Rattle.std.proofs.Common.{◌≡◌, ◌≢◌, ◌<◌, ◌≤◌, ◌+◌, ◌==◌, ◌&&◌, ℕ, Bool, true, false, cond, nat_eq, nat_lt, nat_cmp, List, [], ◌∷◌, Option, Some, None, All, Contains, length, map, get_or, slice_get, is_some, refl, sym, ap, ◌∙◌, subst, arith, Vec, Global, inl, inr, bytes_eq}
 use Rattle.std.specs.BTreeSet.{contains}
 use Rattle.std.specs.FinMap.{contains_key, get}
 use Rattle.std.specs.List.{AllZip, IsDistinct, concat}
@@ -9,7 +9,7 @@ use Rattle.std.specs.Set.{is_member}
 use Rattle.std.proofs.lemmas.Bool.{false≢true, lt-ltb, ltb-false, ltb-true}
 use Rattle.std.proofs.lemmas.Bool.Decides.{Decides-eqb}
 use Rattle.std.proofs.lemmas.List.Elements.{All-contains}
-use Rattle.std.proofs.lemmas.Option.{none-some, slice_get-get_or, slice_get-map, slice_get_past, slice_get_within, unwrap_or-slice_get}
+use Rattle.std.proofs.lemmas.Option.{none-some, slice_get-get_or, slice_get-map, slice_get_past, slice_get_within, unwrap_or-slice_get, get_or_from_slice_get}
 use Rattle.sf_base.specs.declared.ids.ProcId.{ProcId}
 use Rattle.sf_base.specs.declared.ids.Var.{Var}
 use Rattle.sf_base.specs.declared.ids.Var.TheVariants.{Own, Shared}
@@ -39,6 +39,9 @@ use Rattle.sf_state.specs.Starts.{HaveFootprints, IsLeftOver, without}
 use Rattle.sf_state.proofs.FirstNamed.{first-named, some-named}
 use Rattle.sf_state.proofs.Turns.{turns-from_parts}
 use Rattle.sf_state.proofs.Without.{foot-splits, without-append, without-other, without-taken}
+use Rattle.sf_base.specs.declared.ids.ResId.{ResId}
+use Rattle.sf_base.proofs.MapSplits.{splits-of_empty_right}
+use Rattle.sf_base.proofs.Equality.{bytes_eq-self}
 
 -- the invariants hold of footprints in turn that leave nothing
 begin-invariants : (rs : List Resource) (vars : Var → Value) (store : Store) (heap : Heap) (parts : List (List ℕ))

@@ -104,14 +104,14 @@ pub start-no_fault : (p : Program) (f : ProcId) (g : Procedure) (text : Text) (v
 start-no_fault p f g text vars heap parts unit is_fresh e precise there s (refused r) =
     none-some e (sym s.state.accepted ∙ r)
 start-no_fault p f g text vars heap parts unit is_fresh e precise there s (unmet n is out) =
-    let as = assertions_of p g (gives_fresh p g text) in
-    unmet-not_all (value_of vars) (heap_of heap) as n parts (precise (value_of vars))
-    (same-state p g text vars heap (λ v h. IsUnmet v h as n) s.state out)
+    let notes = assertions_of p g (gives_fresh p g text) in
+    unmet-not_all (value_of vars) (heap_of heap) notes n parts (precise (value_of vars))
+    (same-state p g text vars heap (λ v h. IsUnmet v h notes n) s.state out)
     (text-turns p f g text vars heap parts unit is_fresh there s)
 start-no_fault p f g text vars heap parts unit is_fresh e precise there s (left_over l is out) =
-    let as = assertions_of p g (gives_fresh p g text) in
-    left_over-empty (value_of vars) (heap_of heap) as l parts (precise (value_of vars))
-    (same-state p g text vars heap (λ v h. IsLeftOver v h as l) s.state out)
+    let notes = assertions_of p g (gives_fresh p g text) in
+    left_over-empty (value_of vars) (heap_of heap) notes l parts (precise (value_of vars))
+    (same-state p g text vars heap (λ v h. IsLeftOver v h notes l) s.state out)
     (text-turns p f g text vars heap parts unit is_fresh there s)
     (begin-leaves_none p f vars heap parts is_fresh s.starts)
 

@@ -45,19 +45,19 @@ module _ (p : Program) (f : ProcId) (g : Procedure) (text : Text) (vars : Vars) 
     (there : slice_get p.procedures f.0 ≡ Some g) (free : HoldsNone p f) (other : sets_up p f ≡ false)
     (state : GivesState p g text vars heap) where
   -- the assertions of a start by this text
-  abbrev as : List Assertion
-  as = assertions_of p g (gives_fresh p g text)
+  abbrev notes : List Assertion
+  notes = assertions_of p g (gives_fresh p g text)
 
   -- footprints in turn that leave nothing make a start
-  start-made : (ps : List (List ℕ)) → HaveFootprints (value_of vars) (heap_of heap) as ps → AllDistinct ps
+  start-made : (ps : List (List ℕ)) → HaveFootprints (value_of vars) (heap_of heap) notes ps → AllDistinct ps
       → ((l : ℕ) → without (concat ps) (heap_of heap) l ≡ None) → StartsWith p f (gives_fresh p g text) vars heap ps
   start-made ps turns d empty =
       let enough = (formed.procedures f.0 g there).declared in
       begin-starts p f g (gives_fresh p g text) vars heap ps there (omega (arith, enough)) free other
       (state-fresh p g text vars heap (omega (arith, enough)) state)
       (state-fits p g text vars heap (omega (arith, enough)) state) (state-width p g text vars heap state)
-      (turns-parts (value_of vars) (heap_of heap) as ps turns)
-      (turns-distinct (value_of vars) (heap_of heap) as ps turns d)
+      (turns-parts (value_of vars) (heap_of heap) notes ps turns)
+      (turns-distinct (value_of vars) (heap_of heap) notes ps turns d)
       (λ l. bool-same (contains_key heap l) (is_member nat_eq (concat ps) l) (to l (is_member nat_eq (concat ps) l) refl)
       (λ m. from l m (contains_key heap l) refl))
     where
@@ -70,17 +70,17 @@ module _ (p : Program) (f : ProcId) (g : Procedure) (text : Text) (vars : Vars) 
       from : (l : ℕ) → is_member nat_eq (concat ps) l ≡ true → (b : Bool) → contains_key heap l ≡ b
           → contains_key heap l ≡ true
       from l m true h = h
-      from l m false h = absurd (turns-there (value_of vars) (heap_of heap) as ps turns l
+      from l m false h = absurd (turns-there (value_of vars) (heap_of heap) notes ps turns l
           ((member-decides (concat ps) l).0 m) (ap (option_map cell_of) (is_some-false (get heap l) h)))
 
   -- they start, or one of the two reasons holds
-  start-decided : ((a : Assertion) → Contains as a → (h : Cells) → HasFootprintOrNone a.level (value_of vars) (heap_of h))
+  start-decided : ((a : Assertion) → Contains notes a → (h : Cells) → HasFootprintOrNone a.level (value_of vars) (heap_of h))
       → ((parts : List (List ℕ)) × (unit : ℕ) × IsStartText p f g text vars heap parts unit (gives_fresh p g text))
       ⊎ ((e : StartFault) × IsStartFault p g text e)
-  start-decided tell = go (turns-decided (value_of vars) as heap tell)
+  start-decided tell = go (turns-decided (value_of vars) notes heap tell)
     where
-      go : ((ps : List (List ℕ)) × HaveFootprints (value_of vars) (heap_of heap) as ps × AllDistinct ps)
-          ⊎ ((k : ℕ) × IsUnmet (value_of vars) (heap_of heap) as k)
+      go : ((ps : List (List ℕ)) × HaveFootprints (value_of vars) (heap_of heap) notes ps × AllDistinct ps)
+          ⊎ ((k : ℕ) × IsUnmet (value_of vars) (heap_of heap) notes k)
           → ((parts : List (List ℕ)) × (unit : ℕ) × IsStartText p f g text vars heap parts unit (gives_fresh p g text))
           ⊎ ((e : StartFault) × IsStartFault p g text e)
       go (inr u) = inr (

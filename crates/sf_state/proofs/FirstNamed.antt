@@ -1,8 +1,8 @@
 -- Which procedure has a name first, and whether it holds a resource.
 -- Names: `named-LAW`, `holds-LAW`, `entry-LAW`.
-use Rattle.std.proofs.Common.{◌≡◌, ◌<◌, ◌≤◌, ◌⊎◌, ◌==◌, ℕ, true, false, List, [], ◌∷◌, Some, Option, length, map, refl, ap, sym, ◌∙◌, subst, arith, inl, inr, Result}
+use Rattle.std.proofs.Common.{◌≡◌, ◌<◌, ◌≤◌, ◌⊎◌, ◌==◌, ℕ, true, false, List, [], ◌∷◌, Some, Option, length, map, refl, ap, sym, ◌∙◌, subst, arith, inl, inr, Result, None, Bool, zero, suc, slice_get, ◌||◌, is_some}
 use Rattle.std.specs.Prelude.{IfErr, IfOk}
-use Rattle.std.proofs.lemmas.Bool.{cases_lt, eqb-true}
+use Rattle.std.proofs.lemmas.Bool.{cases_lt, eqb-true, false≢true, or_right}
 use Rattle.std.proofs.lemmas.Simd.{map-map}
 use Rattle.sf_base.specs.Results.{Decides}
 use Rattle.sf_base.specs.declared.ids.ProcId.{ProcId}
@@ -19,6 +19,11 @@ use Rattle.sf_state.specs.declared.fault.StartFault.{StartFault}
 use Rattle.sf_state.specs.declared.fault.StartFault.TheVariants as fault
 use Rattle.sf_state.specs.Entering.{HoldsNone, IsEntry, IsEntryFault, procedure_names}
 use Rattle.sf_lines.specs.Lines.{Text}
+use Rattle.std.specs.List.{list_any}
+use Rattle.std.specs.Str.{bytes_eq}
+use Rattle.std.proofs.lemmas.Option.{same_Some}
+use Rattle.sf_base.proofs.Equality.{bytes_eq-other, bytes_eq-same, bytes_eq-self}
+use Rattle.sf_core.specs.Program.Init.{IsInitAmong, init_name, is_init, sets_up}
 
 -- the names of the code's procedures are those of the definitions'
 pub named-view : (procedures : List Proc) (name : Text) (o : Option ℕ)

@@ -184,17 +184,17 @@ module _ (p : Program) (f : ProcId) (g : Procedure) (text : Text) (v w : Vars) (
       → slice_get p.procedures f.0 ≡ Some g → AllZip SameLocations ps qs
   start-same_parts precise there =
       let same = state-once p g text v w h k a.state b.state in
-      let as = assertions_of p g (gives_fresh p g text) in
-      let mine : AllZip (λ x ls. IsFootprint x.level (value_of v) (heap_of h) ls) as ps =
+      let notes = assertions_of p g (gives_fresh p g text) in
+      let mine : AllZip (λ x ls. IsFootprint x.level (value_of v) (heap_of h) ls) notes ps =
       subst₂ (λ (q : Procedure) (z : Bool). AllZip (λ x ls. IsFootprint x.level (value_of v) (heap_of h) ls)
       (assertions_of p q z) ps)
       (same_Some a.starts.procedure g (sym a.starts.there ∙ there)) a.is_fresh a.starts.footprints in
-      let other : AllZip (λ x ls. IsFootprint x.level (value_of w) (heap_of k) ls) as qs =
+      let other : AllZip (λ x ls. IsFootprint x.level (value_of w) (heap_of k) ls) notes qs =
       subst₂ (λ (q : Procedure) (z : Bool). AllZip (λ x ls. IsFootprint x.level (value_of w) (heap_of k) ls)
       (assertions_of p q z) qs)
       (same_Some b.starts.procedure g (sym b.starts.there ∙ there)) b.is_fresh b.starts.footprints in
-      start-parts (value_of w) (heap_of k) as ps qs precise
-      (subst₂ (λ (vs : Var → Value) (c : Cells). AllZip (λ x ls. IsFootprint x.level vs (heap_of c) ls) as ps)
+      start-parts (value_of w) (heap_of k) notes ps qs precise
+      (subst₂ (λ (vs : Var → Value) (c : Cells). AllZip (λ x ls. IsFootprint x.level vs (heap_of c) ls) notes ps)
       same.0 same.1 mine) other
 
 pub start_is_unique : DeterminedHasOneFootprint → StartIsUnique

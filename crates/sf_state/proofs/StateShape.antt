@@ -1,11 +1,11 @@
 -- A state that a text gives has a value for each variable, and its locations are below 2^62.
 -- Names: `shape-LAW` for the values; `state-LAW` for the state.
-use Rattle.std.proofs.Common.{◌≡◌, ◌⊎◌, ◌<◌, ◌≤◌, ◌+◌, ◌^◌, ℕ, zero, suc, true, nat_cmp, List, [], ◌∷◌, Option, Some, None, Contains, length, map, take, drop, get_or, replicate, slice_get, set, is_some, refl, sym, ap, ◌∙◌, subst, inl, inr, arith, Vec, Global}
+use Rattle.std.proofs.Common.{◌≡◌, ◌⊎◌, ◌<◌, ◌≤◌, ◌+◌, ◌^◌, ℕ, zero, suc, true, nat_cmp, List, [], ◌∷◌, Option, Some, None, Contains, length, map, take, drop, get_or, replicate, slice_get, set, is_some, refl, sym, ap, ◌∙◌, subst, inl, inr, arith, Vec, Global, is_none, Bool, true≢false}
 use Rattle.std.specs.BTreeMap as tree
 use Rattle.std.specs.FinMap.{get}
-use Rattle.std.specs.List.{flat_map}
+use Rattle.std.specs.List.{flat_map, list_all}
 use Rattle.std.specs.Option.{IfSome, option_map}
-use Rattle.std.proofs.lemmas.List.{length-append, length-map, length-replicate, length-set}
+use Rattle.std.proofs.lemmas.List.{length-append, length-map, length-replicate, length-set, drop-map}
 use Rattle.std.proofs.lemmas.Option.{none-some, same_Some}
 use Rattle.std.proofs.lemmas.Simd.{map-map}
 use Rattle.sf_base.specs.declared.ids.Var.{Var}
@@ -33,6 +33,8 @@ use Rattle.sf_state.specs.Starts.{GivesState, by_resource, gives_fresh}
 use Rattle.sf_state.specs.Stated.{Gives, given_by, is_fresh, or_nil, text_refusal, values_given}
 use Rattle.sf_state.proofs.Bounds.{AllSmall, EntriesSmall, IfCellSmall, IfSmall, IsSmall, small-cell_given, small-entries, small-given}
 use Rattle.sf_state.proofs.Mentions.{contains-at, value-read}
+use Rattle.std.proofs.lemmas.Bool.{and_parts}
+use Rattle.sf_base.specs.declared.ids.ResId.{ResId}
 
 -- what is there
 pub some-of : {X : Type 0} (R : X → Type 0) (o : Option X) (x : X) → o ≡ Some x → R x → IfSome o R

@@ -68,7 +68,22 @@ fn is_fresh(init: bool, own: usize, given: &[Option<Value>]) -> bool
     requires { own ≤ length given.now }
     ensures { result ≡ (init && list_all is_none (drop own given.now)) }
 {
-    init && given[own..].iter().all(|value| value.is_none())
+    if !init {
+        return false;
+    }
+    none_given(&given[own..])
+}
+
+/// Whether none of these variables is given.
+fn none_given(given: &[Option<Value>]) -> bool
+    ensures { result ≡ list_all is_none given.now }
+{
+    for value in given {
+        if value.is_some() {
+            return false;
+        }
+    }
+    true
 }
 
 /// The state in which the variables with these names are given so, of which so many are the

@@ -1,4 +1,4 @@
-use Rattle.std.proofs.Common.{◌+◌, [], Ok, ap, arith, inr, refl, slice_get, subst, suc, take}
+use Rattle.std.proofs.Common.{◌+◌, [], Ok, ap, arith, inr, refl, slice_get, subst, suc, take, false, true, inl, Err}
 use Rattle.std.proofs.lemmas.List.{length-map}
 use Rattle.sf_base.proofs.Options.{some-holds}
 use Rattle.sf_core.specs.Program.Syntax.{Procedure, Resource}
@@ -8,9 +8,10 @@ use Rattle.sf_foot.specs.Variables.{value_of}
 use Rattle.sf_precise.specs.Order.{IsOrderOf}
 use Rattle.sf_foot.specs.Starting.{assertions_of}
 use Rattle.sf_state.specs.declared.fault.StartFault.TheVariants.{Unmet}
-use Rattle.sf_state.specs.Checked.Found.{AlsoFound, AreFound}
-use Rattle.sf_state.proofs.NextFound.{found-all, found-nothing, found-unmet, next-found, next-unmet, some-then, there-at}
+use Rattle.sf_state.specs.Checked.Found.{AlsoFound, AreFound, AllFound}
+use Rattle.sf_state.proofs.NextFound.{found-all, found-nothing, found-unmet, next-found, next-unmet, some-then, there-at, unmet-more}
 use Rattle.sf_state.proofs.finding.find_all.Goals as goal
+use Rattle.sf_heap.specs.Cells.{heap_of}
 
 -- the precondition is unmet, or memory runs out
 pub returns-in_err-found : goal.returns-in_err-found

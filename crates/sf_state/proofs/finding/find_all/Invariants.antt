@@ -1,4 +1,4 @@
-use Rattle.std.proofs.Common.{◌+◌, slice_get, take}
+use Rattle.std.proofs.Common.{◌+◌, slice_get, take, false}
 use Rattle.std.specs.Option.{IfSome}
 use Rattle.sf_core.specs.Program.ProgramView.{program_of}
 use Rattle.sf_foot.specs.Variables.{value_of}

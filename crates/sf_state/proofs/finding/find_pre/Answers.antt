@@ -1,4 +1,4 @@
-use Rattle.std.proofs.Common.{[], Ok, ap, inr, refl, slice_get, subst}
+use Rattle.std.proofs.Common.{[], Ok, ap, inr, refl, slice_get, subst, true}
 use Rattle.sf_core.specs.Program.Syntax.{Procedure}
 use Rattle.sf_core.specs.Program.ProgramView.{program_of}
 use Rattle.sf_core.specs.Program.View.{assertion_of}

@@ -18,7 +18,7 @@ state_of-requires c =
     let g = procedure_of c.args.g.now in
     let size = c.in_ok-given.ensures.1.size in
     let whole = length-append (parameters g) (flat_map names_of_resource p.resources) in
-    let own : c.len.result ≡ length (parameters g) = c.len.ensures ∙ ap length c.parameters.ensures in
+    let own = ap length c.parameters.ensures in
     let all : length c.args.names.now ≡ length (names_of p g) = ap length c.requires.names in
     omega (arith, size, whole, own, all)
 
@@ -31,5 +31,5 @@ returns c =
     × Keeps p.fields ns c.in_ok-given.given (entries_of p.fields ns c.args.text.now)) c.requires.names
     c.in_ok-given.ensures)
     (c.state_of.ensures (format_of p g) (sym c.requires.names)
-    (sym (c.len.ensures ∙ ap length c.parameters.ensures))
+    (sym (ap length c.parameters.ensures))
     (sym (c.is_some.ensures ∙ code-has_init c.args.p.now.procedures.items c.args.p.now.init c.args.p.now.set_up)))
