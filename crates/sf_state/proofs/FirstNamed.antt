@@ -70,11 +70,12 @@ first-named (n ∷ names) name = go (bytes_eq n name) refl (first-named names na
 pub some-named : (gs : List Procedure) → list_any is_init gs ≡ true
     → IsFirstNamed (map (λ g. g.name) gs) init_name None → ⊥
 some-named [] has none = false≢true has
-some-named (g ∷ gs) has none = go (is_init g) refl
+some-named (g ∷ gs) has none = go (is_init g) refl (λ e later. some-named gs e later)
   where
-    go : (b : Bool) → is_init g ≡ b → ⊥
-    go true e = none 0 (ap Some (bytes_eq-same g.name init_name e))
-    go false e = some-named gs (sym (ap (λ b. b || list_any is_init gs) e) ∙ has) (λ k. none (suc k))
+    go : (b : Bool) → is_init g ≡ b
+        → (list_any is_init gs ≡ true → IsFirstNamed (map (λ g. g.name) gs) init_name None → ⊥) → ⊥
+    go true e rest = none 0 (ap Some (bytes_eq-same g.name init_name e))
+    go false e rest = rest (sym (ap (λ b. b || list_any is_init gs) e) ∙ has) (λ k. none (suc k))
 
 -- where a name is that of one, one sets the resources up
 one-named : (gs : List Procedure) (k : ℕ) → slice_get (map (λ g. g.name) gs) k ≡ Some init_name

@@ -25,6 +25,7 @@ use Rattle.sf_core.specs.Machine.HasThroughout.{HasThroughout}
 use Rattle.sf_core.specs.Assertions.Determined.{Determined}
 use Rattle.sf_core.specs.Checked.Assertions.Laws.{DeterminedHasOneFootprint}
 use Rattle.sf_core.specs.Assertions.Sat.{Sat, value}
+use Rattle.sf_core.specs.Program.Init.{sets_up}
 use Rattle.sf_core.specs.Program.Named.{IsFirstNamed}
 use Rattle.sf_core.specs.Program.Syntax.{Assertion, Procedure, Program}
 use Rattle.sf_heap.specs.Cells.{AreAt, Cells, FieldValues, heap_of}
@@ -43,7 +44,7 @@ use Rattle.sf_state.specs.Names.{names_of}
 use Rattle.sf_state.specs.Starts.{IsStartText, gives_fresh}
 use Rattle.sf_state.specs.StateText.{state_text}
 use Rattle.sf_state.proofs.Deciding.{fault-once, precise-notes, start-no_fault}
-use Rattle.sf_state.proofs.FirstNamed.{entries-one, faults-one, holds-none, holds-one, never-both}
+use Rattle.sf_state.proofs.FirstNamed.{entries-one, faults-one, first-named, holds-none, holds-one, never-both}
 use Rattle.sf_state.proofs.NextFound.{there-at}
 use Rattle.sf_state.proofs.Rising.{rising-keys, rising-same}
 use Rattle.sf_state.proofs.StateOnce.{state-once, state-vars}

@@ -154,7 +154,10 @@ fn find_all(
     ensures { IfSome (slice_get (program_of p.now.program).procedures f.0)
         (λ g. AllFound (program_of p.now.program) g false (value_of vars.now) heap.now result) }
 {
-    let mut found = find_pre(alloc, p, f, vars, heap)?;
+    let mut found = match find_pre(alloc, p, f, vars, heap) {
+        Ok(found) => found,
+        Err(fault) => return Err(fault),
+    };
     for r in 0..p.program.resources.len() {
         if !found.take(alloc, p.invariant(ResId(r as u32)), vars, heap)? {
             let name = resource_name(alloc, p, r)?;

@@ -14,18 +14,18 @@ use Rattle.sf_state.proofs.finding.find_all.Goals as goal
 use Rattle.sf_heap.specs.Cells.{heap_of}
 
 -- the precondition is unmet, or memory runs out
-pub returns-in_err-found : goal.returns-in_err-found
-returns-in_err-found c =
+pub returns-in-Err : goal.returns-in-Err
+returns-in-Err c =
     let p = program_of c.args.p.now.program in
-    some-then (λ (g : Procedure). AllFound p g true (value_of c.args.vars.now) c.args.heap.now (Err c.in_err-found.field-0)) _
-    (slice_get p.procedures c.args.f.0) c.in_err-found.ensures
+    some-then (λ (g : Procedure). AllFound p g true (value_of c.args.vars.now) c.args.heap.now (Err c.in-Err.fault)) _
+    (slice_get p.procedures c.args.f.0) c.in-Err.ensures
     (λ g e h. elim h [
       | inl o ↦ inl o
       | inr u ↦ inr (u.0, u.1, unmet-more (value_of c.args.vars.now) (heap_of c.args.heap.now) g.pre _ u.0 u.2)
     ])
 
 pub loop-r-init : goal.loop-r-init
-loop-r-init c = c.in_ok-found.ensures
+loop-r-init c = c.in-Ok.ensures
 
 -- the invariant of a resource is unmet
 pub returns-then-not-branch : goal.returns-then-not-branch
