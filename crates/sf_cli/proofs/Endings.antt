@@ -23,20 +23,20 @@ use Rattle.sf_words.specs.Words.{Order, Text, demo, recheck, run, verify}
 ended-outcome : BeginningsAreStarts → EndsAreNumbered → (told : Option Files) (file bytes entry state_name text : Text)
     (steps waits : ℕ) → MayHave told file bytes → (p : Program) → Admits bytes p → (f : ProcId) → IsRun p entry f
     → (given : Text) → MayHave told state_name given → (g : Procedure) → procedure_at p f ≡ Some g → (vars : Vars)
-    (heap : Cells) (parts : List (List ℕ)) (unit : ℕ) → IsStartText p f g given vars heap parts unit → (out : Outcome)
-    → ComesTo p f vars heap unit steps out → OutcomeAnswer p g steps waits out text 0
+    (heap : Cells) (parts : List (List ℕ)) (unit : ℕ) (fresh : Bool) → IsStartText p f g given vars heap parts unit fresh
+    → (fresh ≡ true → InitIsSequential p) → (out : Outcome) → ComesTo p f fresh vars heap unit steps out → OutcomeAnswer p g steps waits out text 0
     → EndedRun told file entry state_name steps text
 unfolding BeginningsAreStarts EndsAreNumbered
 ended-outcome law numbered told file bytes entry state_name text steps waits may p a f i given has g there vars heap
-    parts unit starts spent comes said =
+    parts unit fresh starts sequential spent comes said =
     let none = said.1 in absurd (omega (arith, none))
 ended-outcome law numbered told file bytes entry state_name text steps waits may p a f i given has g there vars heap
-    parts unit starts (waiting r) comes said =
+    parts unit fresh starts sequential (waiting r) comes said =
     let none = said.1 in absurd (omega (arith, none))
 ended-outcome law numbered told file bytes entry state_name text steps waits may p a f i given has g there vars heap
-    parts unit starts (finished c) comes said =
-    let (h, at, start) = law p f vars heap parts comes.start starts.starts comes.begins in
-    let end = numbered p f (store_of h vars) (heap_of heap) comes.start c unit steps i.sequential start comes.comes in
+    parts unit fresh starts sequential (finished c) comes said =
+    let end = numbered p f fresh vars heap parts comes.start c unit steps (i.sequential, sequential) starts.starts
+    comes.begins comes.comes in
     record {
       bytes = bytes;
       may_have = may;
@@ -52,6 +52,7 @@ ended-outcome law numbered told file bytes entry state_name text steps waits may
       heap = heap;
       parts = parts;
       unit = unit;
+      fresh = fresh;
       starts = starts;
       start = comes.start;
       begins = comes.begins;

@@ -27,8 +27,8 @@ use Rattle.sf_run.specs.Sequential.{BeginsSequentially, IsSequentialStart}
 -- no cell is where no location is mentioned
 fresh-none : (vars : Vars) (heap : Cells) (unit : ℕ) → IsFreshFrom vars heap unit → (k : ℕ) → unit ≤ k
     → heap_of heap k ≡ None
-fresh-none vars heap unit fresh k l = elim (some-or_none (get heap k)) [
-  | inl (here, e) ↦ absurd (below (fresh.1 k (inl (ap is_some e))))
+fresh-none vars heap unit above k l = elim (some-or_none (get heap k)) [
+  | inl (here, e) ↦ absurd (below (above.1 k (inl (ap is_some e))))
   | inr e ↦ ap (option_map cell_of) e
 ]
   where
