@@ -1,22 +1,22 @@
 -- What a run of status 0 promises: its text is that of an end which a numbered list of events reaches.
 -- Names: ended-*.
-use Rattle.std.proofs.Common.{◌≡◌, ℕ, List, Option, Some, None, arith, refl, subst}
+use Rattle.std.proofs.Common.{◌≡◌, ℕ, Bool, true, List, Option, Some, None, arith, refl, subst}
 use Rattle.sf_base.specs.declared.ids.ProcId.{ProcId}
 use Rattle.sf_core.specs.Machine.Alone.{Outcome, finished, spent, waiting}
 use Rattle.sf_core.specs.Program.Syntax.{Procedure, Program}
 use Rattle.sf_foot.specs.declared.vars.Vars.{Vars}
-use Rattle.sf_foot.specs.Starting.{store_of}
-use Rattle.sf_heap.specs.Cells.{Cells, heap_of}
+use Rattle.sf_heap.specs.Cells.{Cells}
 use Rattle.sf_io.specs.Shelf.{Files}
 use Rattle.sf_run.specs.Checked.Laws.{BeginningsAreStarts, EndsAreNumbered}
 use Rattle.sf_run.specs.Running.{ComesTo}
+use Rattle.sf_run.specs.Sequential.{InitIsSequential}
 use Rattle.sf_core.specs.Machine.Step.{procedure_at}
 use Rattle.sf_state.specs.Starts.{IsStartText}
 use Rattle.sf_cli.specs.Answer.{Ended, EndedRun, IsRun, OrderAnswer, Reply, RunFileAnswer, admitted_run, answer, entered, no_entry, not_built, refused_run, unproved, unread}
 use Rattle.sf_cli.specs.SoundFile.{MayHave}
 use Rattle.sf_cli.specs.FileFault.{Admits}
 use Rattle.sf_cli.specs.Checked.Laws.{FinishedRunsHaveEnded}
-use Rattle.sf_cli.specs.Ran.{OutcomeAnswer, no_start, ran}
+use Rattle.sf_cli.specs.Ran.{OutcomeAnswer, init_not_built, no_start, ran}
 use Rattle.sf_words.specs.Words.{Order, Text, demo, recheck, run, verify}
 
 -- what comes of a start, where it is answered with status 0
@@ -77,9 +77,12 @@ ended-file law numbered told file bytes entry state_name text steps waits status
     (entered f given i has (no_start g e there x t s)) =
     absurd (omega (arith, z, s))
 ended-file law numbered told file bytes entry state_name text steps waits status may p a z
-    (entered f given i has (ran g vars heap parts unit out there starts comes said)) =
+    (entered f given i has (init_not_built g vars heap parts unit there starts forks t s)) =
+    absurd (omega (arith, z, s))
+ended-file law numbered told file bytes entry state_name text steps waits status may p a z
+    (entered f given i has (ran g vars heap parts unit fresh out there starts sequential comes said)) =
     ended-outcome law numbered told file bytes entry state_name text steps waits may p a f i given has g there vars heap
-    parts unit starts out comes (subst (λ (n : ℕ). OutcomeAnswer p g steps waits out text n) z said)
+    parts unit fresh starts sequential out comes (subst (λ (n : ℕ). OutcomeAnswer p g steps waits out text n) z said)
 
 pub ended-run : BeginningsAreStarts → EndsAreNumbered → FinishedRunsHaveEnded
 ended-run law numbered told file entry state_name text steps waits (bytes, may, refused_run r f t s) =

@@ -45,6 +45,14 @@ kind-one p false (fresh n h) c k l = absurd k
 kind-one p false settled settled k l = refl
 kind-one p false settled (fresh n h) k l = absurd l
 
+-- so a procedure begins in one configuration at most
+pub begin-same : (p : Program) (f : ProcId) (is_fresh : Bool) (vars : Vars) (heap : Cells) (c d : Config)
+    → Begins p f is_fresh vars heap c → Begins p f is_fresh vars heap d → c ≡ d
+begin-same p f is_fresh vars heap c d a b =
+    let same : a.procedure ≡ b.procedure = some-once (procedure_at p f) a.procedure b.procedure a.there b.there in
+    a.is ∙ ap₂ (λ (z : Beginning) (g : Procedure). initial_config z p f g (store_of z g vars) (heap_of heap))
+    (kind-one p is_fresh a.beginning b.beginning a.kind b.kind) same ∙ sym b.is
+
 -- a procedure of that name sets the resources up
 pub named-sets_up : (p : Program) (m : ProcId) (h : Procedure) → slice_get p.procedures m.0 ≡ Some h
     → slice_get (map (λ g. g.name) p.procedures) m.0 ≡ Some init_name → sets_up p m ≡ true

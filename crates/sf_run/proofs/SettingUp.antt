@@ -84,7 +84,7 @@ named-up p n named = go (procedure_at p n) refl
 pub init-some : {E : Type 0} (p : Program) → IsFormed p → (n : ProcId) (r : Result Bool E)
     → IsInitAmong (map (λ (g : Procedure). g.name) p.procedures) (Some n)
     → IfOk r (λ yes. IsTrue yes ↔ IsSequential p n) → IfOk r (λ yes. IsTrue yes ↔ InitIsSequential p)
-init-some p formed n (Ok yes) named is =
+init-some p formed n (Ok told) named is =
     (λ e. init-same p formed n (named-up p n named) (is.0 e), λ all. is.1 (all n (named-up p n named)))
 init-some p formed n (Err e) named is = tt
 

@@ -125,6 +125,11 @@ pub record IsNumberedEnd (p : Program) (start : Config) (base count : ℕ) (c : 
   pub numbered : Numbered p start base count events c
   pub ended : HasEnded [] c.tasks
 
+-- a procedure begins in one configuration at most, fresh or not
+unfoldable pub BeginningsAreUnique : Type 0
+BeginningsAreUnique = (p : Program) (f : ProcId) (is_fresh : Bool) (vars : Vars) (heap : Cells) (c d : Config)
+    → Begins p f is_fresh vars heap c → Begins p f is_fresh vars heap d → c ≡ d
+
 -- where no parallel call can be reached, what a run ends in is that
 unfoldable pub EndsAreNumbered : Type 0
 EndsAreNumbered = (p : Program) (f : ProcId) (is_fresh : Bool) (vars : Vars) (heap : Cells) (parts : List (List ℕ))
