@@ -107,7 +107,7 @@ unfolding EndsAreNumbered
 ends_are_numbered p f is_fresh vars heap parts start c base count n s b a =
     let g = s.procedure in
     let one = start-lone p f (store_of s.beginning g vars) (heap_of heap) s.config s.starts
-        (begin-sequential p f is_fresh vars heap parts s n) in
+    (begin-sequential p f is_fresh vars heap parts s n) in
     end-numbered p start c base count
     (alone-numbered p (units base count) start (finished c)
     (subst (IsLone p) (sym (begin-one p f is_fresh vars heap parts s start b)) one) a)

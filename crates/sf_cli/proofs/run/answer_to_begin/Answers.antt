@@ -15,8 +15,10 @@ answer_to_start-requires-clause-sequential g c = λ κs b. (
 
 pub returns-then-branch : goal.returns-then-branch
 returns-then-branch g c = IfOk-weaker c.answer_to_start.result _ _ (λ said k. inl (
-    subst (λ (a : Arranged). c.args.start.fresh ≡ true → InitIsSequential (program_of a.program))
-    c.arranged-arranged.ensures (c.in_ok-can_begin.ensures.yes c.if-branch.true), k)) c.answer_to_start.ensures
+  subst (λ (a : Arranged). c.args.start.fresh ≡ true → InitIsSequential (program_of a.program))
+      c.arranged-arranged.ensures (c.in_ok-can_begin.ensures.yes c.if-branch.true),
+  k,
+)) c.answer_to_start.ensures
 
 pub returns-else-branch : goal.returns-else-branch
 returns-else-branch g c =
