@@ -36,3 +36,4 @@ pub mod Races
 pub mod SharedWriters
 pub mod Writers
 pub mod Buffer
+pub mod SettingUp
