@@ -1,20 +1,21 @@
 -- What goals at an end claim: what is owed there holds of just what the frame has.
 -- Names: `ITEM-claims` of that item's row.
-use Rattle.std.proofs.Common.{◌≡◌, ℕ, zero, suc, true, List, [], ◌∷◌, ◌++◌, sym, subst, inr}
+use Rattle.std.proofs.Common.{◌≡◌, ℕ, zero, suc, true, List, [], ◌∷◌, ◌++◌, sym, subst}
 use Rattle.sf_base.proofs.HeapSplits.{star-drop_right}
 use Rattle.sf_base.proofs.MapSplits.{splits-of_empty_right}
 use Rattle.sf_base.specs.declared.place.Place.{Place}
 use Rattle.sf_base.specs.declared.value.Value.{Value}
 use Rattle.sf_base.specs.HeapStore.{Heap, IsEmpty, ◌⋆◌}
 use Rattle.sf_core.specs.Program.Syntax.{Assertion, Program}
+use Rattle.sf_rules.specs.Checked.Lemmas.Forms.{taking-showing}
 use Rattle.sf_rules.specs.Setting.{Setting}
 use Rattle.sf_rules.specs.Rows.Ends.{is_empty}
 use Rattle.sf_rules.specs.Words.{pending_assertion, to_take}
 use Rattle.sf_safe.specs.Checked.Local.{Local, value_in}
 use Rattle.sf_safe.specs.Checked.LocalSafe.{LocalSafe}
 use Rattle.sf_sound.proofs.Annotated.{plain-shown}
-use Rattle.sf_sound.proofs.States.{items-take, state-of, suits-of, terms-below, terms-values}
-use Rattle.sf_sound.proofs.Words.{showing-holds, taking-does, taking-showing}
+use Rattle.sf_sound.proofs.States.{terms-values}
+use Rattle.sf_sound.proofs.Words.{showing-holds, taking-does, taking-suits}
 use Rattle.sf_sound.specs.Checked.Claims.{Does, Satisfies, with_cells}
 use Rattle.sf_sound.specs.Checked.Suits.{Claim, Domain, HasDomain, IsPlain, Suits}
 use Rattle.sf_sym.specs.declared.atom.Numbered.{Numbered}
@@ -39,20 +40,19 @@ module _ (d : Setting) (s : State) (q : Place) (a : Assertion) where
   showing = record { state = s; todo = to_take q (term s.vars) a ++ (end q ∷ []) }
 
   pub shown-at_end : Claim d showing → (n : ℕ) (w : ℕ → Value) (D : Domain) (l : Local) (taken : Heap)
-      → IsPlain d (λ x. D.has x ≡ true) a → (item : Item) (rest : List Item)
+      → IsPlain (λ x. D.has x ≡ true) a → (item : Item) (rest : List Item)
       → Suits d D (record { state = s; todo = item ∷ rest }) → HasDomain D l
       → HoldsIn w (record { state = s; todo = [] }) l.values l.cells taken → Satisfies a l
   shown-at_end claim n w D l taken plain item rest u has holds =
-      let t = state-of d D (record { state = s; todo = item ∷ rest }) u in
       plain-shown d (λ x. D.has x ≡ true) a plain w (term s.vars) (value_in l) l.cells
-      (terms-values d D s t w l has holds.vars)
+      (terms-values d D s u.listed w l has holds.vars)
       (whole-part d.program n w q l
       (taking-does d.program n w q (pending_assertion (term s.vars) a) a.names (end q ∷ []) l
       (claim n w D l taken
-      (suits-of d D s (to_take q (term s.vars) a ++ (end q ∷ [])) t
-      (items-take d D s.next_sym (λ x. D.has x ≡ true) q (term s.vars) a (end q ∷ []) plain (terms-below d D s t)
-      (record { below = (tt, tt); formed = (tt, tt); suits = tt }))
-      (inr (taking-showing q (pending_assertion (term s.vars) a) a.names (end q ∷ []) tt))) has
+      (record {
+        listed = u.listed;
+        todo = taking-suits d D q (pending_assertion (term s.vars) a) a.names (end q ∷ []) tt;
+      }) has
       (record {
         vars = holds.vars;
         apart = holds.apart;

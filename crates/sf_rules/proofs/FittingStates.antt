@@ -9,8 +9,7 @@ use Rattle.sf_base.specs.declared.ids.Var.{Var}
 use Rattle.sf_core.specs.declared.fields.Links.{Links}
 use Rattle.sf_rules.specs.First.{links_of}
 use Rattle.sf_rules.specs.Setting.{Setting}
-use Rattle.sf_search.specs.Shape.{HasLinks}
-use Rattle.sf_search.specs.Shaped.{StateFits}
+use Rattle.sf_rules.specs.Shape.{HasLinks, StateFits}
 use Rattle.sf_sym.specs.Below.{AllInAtom, AllInPairs, AllInState, AllPaired, IsBelow}
 use Rattle.sf_sym.specs.Cells.{apart_from_nil, handed, with_atom, with_cell, with_fields, without}
 use Rattle.sf_sym.specs.declared.atom.Atom.{Atom}

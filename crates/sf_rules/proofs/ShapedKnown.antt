@@ -10,10 +10,10 @@ use Rattle.sf_core.specs.declared.fields.Links.{Links}
 use Rattle.sf_normal.specs.Knowledge.{absurd_row, drop_row, force_row, split_row, unroll_row, unrolled, unrolled_segment, unrolled_tree}
 use Rattle.sf_rules.specs.First.{links_of}
 use Rattle.sf_rules.specs.Setting.{Setting}
-use Rattle.sf_search.proofs.FittingStates.{StateShaped, atom-shaped, cell-shaped, symbols-shaped, without-shaped}
-use Rattle.sf_search.proofs.ShapedGoals.{AllKeep, Rises, apart-keeps, equal-keeps, keeps-state, none-keep, one-keeps, rises-none, state-shaped, two-keep}
-use Rattle.sf_search.specs.Shape.{HasLinks}
-use Rattle.sf_search.specs.Shaped.{IsShaped}
+use Rattle.sf_rules.proofs.FittingStates.{StateShaped, atom-shaped, cell-shaped, symbols-shaped, without-shaped}
+use Rattle.sf_rules.proofs.ShapedGoals.{AllKeep, Rises, apart-keeps, equal-keeps, keeps-state, none-keep, one-keeps, rises-none, state-shaped, two-keep}
+use Rattle.sf_rules.specs.Shape.{HasLinks}
+use Rattle.sf_rules.proofs.Fits.{IsFitting}
 use Rattle.sf_sym.specs.Below.{AllInAtom, IsBelow, is_below}
 use Rattle.sf_sym.specs.Cells.{atom_at, with_atom, with_cell, without}
 use Rattle.sf_sym.specs.declared.atom.Atom.{Atom}
@@ -87,7 +87,7 @@ ends-below n (Ls t u) e b i = subst (λ (z : Term × Term). IsBelow n z.0 × IsB
 ends-below n (Tree t) e b i =
     subst (λ (z : Term × Term). IsBelow n z.0 × IsBelow n z.1) (same_Some (t, Nil) e i) (b, refl)
 
-module _ (d : Setting) (goal : Goal) (left : List Goal) (h : IsShaped d goal) where
+module _ (d : Setting) (goal : Goal) (left : List Goal) (h : IsFitting d goal) where
   abbrev s : State
   s = goal.state
 

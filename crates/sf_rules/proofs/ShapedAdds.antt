@@ -13,13 +13,14 @@ use Rattle.sf_core.specs.declared.assertion.Operand.TheVariants.{Known, Exists}
 use Rattle.sf_core.specs.declared.assertion.Test.TheVariants.{True, Equal, Differ}
 use Rattle.sf_core.specs.Program.Syntax.{Conjunct, holds, points, segment, tree, choose, Conjuncts, none, also}
 use Rattle.sf_produce.specs.Add.{add_first, add_row, added, goal_after, met, met_both, met_existential, met_fields}
+use Rattle.sf_rules.specs.Checked.Lemmas.FewNew.{few-existentials, few-one}
 use Rattle.sf_rules.specs.First.{links_of}
 use Rattle.sf_rules.specs.Setting.{Setting}
-use Rattle.sf_search.proofs.Fitting.{adding-below, adding-fits}
-use Rattle.sf_search.proofs.FittingStates.{StateShaped, atom-shaped, cell-shaped, symbols-shaped}
-use Rattle.sf_search.proofs.OperandsBelow.{Bound, OperandBelow, OperandsBelow, bound-more, bound-set, operand-one, operands-fields}
-use Rattle.sf_search.proofs.ShapedGoals.{AllKeep, Keeps, Rises, apart-keeps, equal-keeps, goal-shaped, one-keeps, rises-none, state-shaped}
-use Rattle.sf_search.specs.Shaped.{ConjunctFits, ConjunctsFit, IsShaped, TodoFits}
+use Rattle.sf_rules.proofs.Fitting.{adding-below, adding-fits}
+use Rattle.sf_rules.proofs.FittingStates.{StateShaped, atom-shaped, cell-shaped, symbols-shaped}
+use Rattle.sf_rules.proofs.OperandsBelow.{Bound, OperandBelow, OperandsBelow, bound-more, bound-set, operand-one, operands-fields}
+use Rattle.sf_rules.proofs.ShapedGoals.{AllKeep, Keeps, Rises, apart-keeps, equal-keeps, goal-shaped, one-keeps, rises-none, state-shaped}
+use Rattle.sf_rules.proofs.Fits.{ConjunctFits, ConjunctsFit, IsFitting, ItemsFit}
 use Rattle.sf_sym.specs.Below.{AllInItem, AllPaired, IsBelow}
 use Rattle.sf_sym.specs.Cells.{with_atom, with_cell}
 use Rattle.sf_sym.specs.declared.atom.Atom.TheVariants.{Ls, Tree}
@@ -120,16 +121,6 @@ module _ (d : Setting) where
         rest.1,
       )
 
--- an operand is one existential at most, and there are as many as fields at most
-pub few-one : (x : Operand Term) → one_if_existential x ≤ 1
-few-one (Known t) = omega arith
-few-one (Exists n) = omega arith
-
-pub few-existentials : (fs : List (FieldId × Operand Term)) → existentials_in fs ≤ length fs
-few-existentials [] = omega arith
-few-existentials (f ∷ fs) =
-    let rest = few-existentials fs in let one = few-one f.1 in omega (arith, rest, one)
-
 -- WHAT IS ASSUMED
 -- what is to be assumed first, and then
 pub record Assuming (d : Setting) (s : State) (bindings : List (Option Term)) (c : Conjunct Term)
@@ -141,14 +132,14 @@ pub record Assuming (d : Setting) (s : State) (bindings : List (Option Term)) (c
   pub fits : ConjunctFits (links_of d.program) c
   pub others_fit : ConjunctsFit (links_of d.program) cs
   pub rest_below : AllByRecursion (AllInItem (IsBelow s.next_sym)) rest
-  pub rest_fits : TodoFits d rest
+  pub rest_fits : ItemsFit d rest
 
 module _ (d : Setting) (s : State) (p : Place) (bindings : List (Option Term)) (cs : Conjuncts Term)
     (rest : List Item) where
   -- the goal with the others still to be assumed
   after-shaped : (c : Conjunct Term) → Assuming d s bindings c cs rest → (s2 : State)
       (bindings2 : List (Option Term)) → StateShaped d s2 → Bound s2.next_sym bindings2
-      → s.next_sym ≤ s2.next_sym → IsShaped d (goal_after s2 p cs bindings2 rest)
+      → s.next_sym ≤ s2.next_sym → IsFitting d (goal_after s2 p cs bindings2 rest)
   after-shaped c a s2 bindings2 h b l =
       let given : Pending = record { conjuncts = cs; bindings = bindings2 } in
       goal-shaped d s2 (adding p given ++ rest) h
@@ -253,7 +244,7 @@ module _ (d : Setting) (s : State) (p : Place) (bindings : List (Option Term)) (
 
 -- the goal before, by what there is to assume
 assuming : (d : Setting) (s : State) (p : Place) (given : Pending) (c : Conjunct Term) (cs : Conjuncts Term)
-    (rest : List Item) → IsShaped d (record { state = s; todo = add p given ∷ rest }) → given.conjuncts ≡ also c cs
+    (rest : List Item) → IsFitting d (record { state = s; todo = add p given ∷ rest }) → given.conjuncts ≡ also c cs
     → Assuming d s given.bindings c cs rest
 assuming d s p given c cs rest h e =
     let b = h.below.todo.0 in
@@ -270,7 +261,7 @@ assuming d s p given c cs rest h e =
     }
 
 module _ (d : Setting) (s : State) (p : Place) (given : Pending) (rest : List Item) (left : List Goal)
-    (h : IsShaped d (record { state = s; todo = add p given ∷ rest })) where
+    (h : IsFitting d (record { state = s; todo = add p given ∷ rest })) where
   pub add-keeps : add_row s p given rest ≡ Some left → AllKeep d s left
   add-keeps row = first given.conjuncts refl row
     where

@@ -12,11 +12,12 @@ use Rattle.sf_core.specs.Program.Syntax.{Block, Command, assign, look_up, mutate
 use Rattle.sf_rules.specs.Rows.Branches.{branch_row}
 use Rattle.sf_rules.specs.Rows.Commands.{assign_row, look_row, mutate_row, new_row, dispose_row, looked, with_var}
 use Rattle.sf_rules.specs.Setting.{Setting}
-use Rattle.sf_search.proofs.Fitting.{to_run-below, to_run-fits}
-use Rattle.sf_search.proofs.FittingStates.{StateShaped, cell-shaped, fields-shaped, symbols-shaped, vars-shaped, without-shaped}
-use Rattle.sf_search.proofs.FreshVariables.{term-below}
-use Rattle.sf_search.proofs.ShapedGoals.{AllKeep, Keeps, Rises, keeps-goal, one-keeps, rest-below, rises-none, state-shaped}
-use Rattle.sf_search.specs.Shaped.{BlockFits, IsShaped}
+use Rattle.sf_rules.proofs.Fitting.{to_run-below, to_run-fits}
+use Rattle.sf_rules.proofs.FittingStates.{StateShaped, cell-shaped, fields-shaped, symbols-shaped, vars-shaped, without-shaped}
+use Rattle.sf_rules.specs.Checked.Lemmas.FreshVariables.{term-below}
+use Rattle.sf_rules.proofs.ShapedGoals.{AllKeep, Keeps, Rises, keeps-goal, one-keeps, rest-below, rises-none, state-shaped}
+use Rattle.sf_rules.specs.Shape.{BlockFits}
+use Rattle.sf_rules.proofs.Fits.{IsFitting}
 use Rattle.sf_sym.specs.Below.{AllInAtom, IsBelow}
 use Rattle.sf_sym.specs.Cells.{cell_at, with_cell, with_fields, without}
 use Rattle.sf_sym.specs.Decided.{command_test, is_decided}
@@ -39,7 +40,7 @@ cell-below s a root fields d h e =
 
 module _ (d : Setting) (s : State) (rest : List Item) (left : List Goal) where
   abbrev Before : Command → Type 0
-  Before c = IsShaped d (record { state = s; todo = run c ∷ rest })
+  Before c = IsFitting d (record { state = s; todo = run c ∷ rest })
 
   module _ (c : Command) (h : Before c) where
     shaped : StateShaped d s

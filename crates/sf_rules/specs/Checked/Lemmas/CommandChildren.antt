@@ -15,7 +15,7 @@ use Rattle.sf_core.specs.declared.command.Occurrence.{Occurrence}
 use Rattle.sf_core.specs.Program.Syntax.{Block, assign, look_up, mutate, new, dispose, if}
 use Rattle.sf_rules.specs.Rows.Branches.{branch_row}
 use Rattle.sf_rules.specs.Rows.Commands.{assign_row, look_row, mutate_row, new_row, dispose_row, looked, with_var}
-use Rattle.sf_sound.proofs.VariableTerms.{set-listed, set-order}
+use Rattle.sf_rules.specs.Checked.Lemmas.VariableTerms.{set-listed, set-order}
 use Rattle.sf_sym.specs.Cells.{cell_at, with_fields, without}
 use Rattle.sf_sym.specs.Decided.{command_test, is_decided}
 use Rattle.sf_sym.specs.declared.atom.Atom.TheVariants.{Points}

@@ -5,9 +5,10 @@ use Rattle.std.proofs.Common.{◌≡◌, ℕ, ◌+◌, ◌-◌, ◌≤◌, Bool,
 use Rattle.std.proofs.lemmas.Option.{same_Some}
 use Rattle.sf_rules.specs.declared.few.TheConstants.{TOO_MANY}
 use Rattle.sf_rules.specs.Setting.{Setting}
-use Rattle.sf_search.proofs.Fitting.{todo-fits_with}
-use Rattle.sf_search.proofs.FittingStates.{StateShaped, apart-shaped, replaced-fits}
-use Rattle.sf_search.specs.Shaped.{IsShaped, StateFits, TodoFits}
+use Rattle.sf_rules.proofs.Fitting.{todo-fits_with}
+use Rattle.sf_rules.proofs.FittingStates.{StateShaped, apart-shaped, replaced-fits}
+use Rattle.sf_rules.specs.Shape.{StateFits}
+use Rattle.sf_rules.proofs.Fits.{IsFitting, ItemsFit}
 use Rattle.sf_sym.specs.Below.{AllInItem, IsBelow}
 use Rattle.sf_sym.specs.declared.term.Term.{Term}
 use Rattle.sf_sym.specs.Equalities.{assumed_apart, assumed_equal, put_for, which_goes, with_one}
@@ -18,12 +19,12 @@ use Rattle.sf_sym.specs.State.{State}
 use Rattle.sf_sym.specs.Tests.{same_term}
 
 -- THE SHAPE OF A GOAL, by its state and what there is to do
-pub state-shaped : (d : Setting) (goal : Goal) → IsShaped d goal → StateShaped d goal.state
+pub state-shaped : (d : Setting) (goal : Goal) → IsFitting d goal → StateShaped d goal.state
 state-shaped d goal h = record { below = h.below.state; fits = h.state }
 
 pub goal-shaped : (d : Setting) (s : State) (todo : List Item) → StateShaped d s
-    → AllByRecursion (AllInItem (IsBelow s.next_sym)) todo → TodoFits d todo
-    → IsShaped d (record { state = s; todo = todo })
+    → AllByRecursion (AllInItem (IsBelow s.next_sym)) todo → ItemsFit d todo
+    → IsFitting d (record { state = s; todo = todo })
 goal-shaped d s todo h b f = record { below = record { state = h.below; todo = b }; state = h.fits; todo = f }
 
 -- WHAT ROWS KEEP
@@ -38,7 +39,7 @@ rises-none s s2 e f = record { kept = omega arith; symbols = omega arith; atoms 
 
 -- a goal that a row leaves is shaped too, and its numbers aren't much higher
 pub record Keeps (d : Setting) (s : State) (child : Goal) : Type 0 where
-  pub shaped : IsShaped d child
+  pub shaped : IsFitting d child
   pub symbols : child.state.next_sym ≤ s.next_sym + (TOO_MANY - 1)
   pub atoms : child.state.next_atom ≤ s.next_atom + (TOO_MANY - 1)
 
@@ -63,13 +64,13 @@ rest-below s s2 rest r b =
     items-weaker (IsBelow s.next_sym) (IsBelow s2.next_sym) (below-more s.next_sym s2.next_sym r.kept) rest b
 
 pub keeps-goal : (d : Setting) (s s2 : State) (todo : List Item) → StateShaped d s2 → Rises s s2
-    → AllByRecursion (AllInItem (IsBelow s2.next_sym)) todo → TodoFits d todo
+    → AllByRecursion (AllInItem (IsBelow s2.next_sym)) todo → ItemsFit d todo
     → Keeps d s (record { state = s2; todo = todo })
 keeps-goal d s s2 todo h r b f =
     record { shaped = goal-shaped d s2 todo h b f; symbols = r.symbols; atoms = r.atoms }
 
 -- the same to do in another state
-pub keeps-state : (d : Setting) (goal : Goal) (s2 : State) → IsShaped d goal → StateShaped d s2
+pub keeps-state : (d : Setting) (goal : Goal) (s2 : State) → IsFitting d goal → StateShaped d s2
     → Rises goal.state s2 → Keeps d goal.state (at_state goal s2)
 keeps-state d goal s2 h k r =
     keeps-goal d goal.state s2 goal.todo k r (rest-below goal.state s2 goal.todo r h.below.todo) h.todo
@@ -90,7 +91,7 @@ module _ (d : Setting) (t u : Term) (goal : Goal) where
       go true = (refl, refl)
       go false = one (which_goes t u)
 
-  module _ (h : IsShaped d goal) where
+  module _ (h : IsFitting d goal) where
     equal-fits : StateFits d (assumed_equal t u goal).state
     equal-fits = go (same_term t u)
       where
@@ -107,19 +108,19 @@ module _ (d : Setting) (t u : Term) (goal : Goal) where
         go true = h.state
         go false = one (which_goes t u)
 
-    equal-todo : TodoFits d (assumed_equal t u goal).todo
+    equal-todo : ItemsFit d (assumed_equal t u goal).todo
     equal-todo = go (same_term t u)
       where
-        one : (o : Option (ℕ × Term)) → TodoFits d (with_one o goal).todo
+        one : (o : Option (ℕ × Term)) → ItemsFit d (with_one o goal).todo
         one None = h.todo
         one (Some r) = todo-fits_with d (put_for r.0 r.1) goal.todo h.todo
 
-        go : (b : Bool) → TodoFits d (cond b goal (with_one (which_goes t u) goal)).todo
+        go : (b : Bool) → ItemsFit d (cond b goal (with_one (which_goes t u) goal)).todo
         go true = h.todo
         go false = one (which_goes t u)
 
     pub equal-shaped : IsBelow goal.state.next_sym t → IsBelow goal.state.next_sym u
-        → IsShaped d (assumed_equal t u goal)
+        → IsFitting d (assumed_equal t u goal)
     equal-shaped b c = record {
       below = (follows-equal t u goal h.below b c).below;
       state = equal-fits;
@@ -127,7 +128,7 @@ module _ (d : Setting) (t u : Term) (goal : Goal) where
     }
 
     pub apart_goal-shaped : IsBelow goal.state.next_sym t → IsBelow goal.state.next_sym u
-        → IsShaped d (assumed_apart t u goal)
+        → IsFitting d (assumed_apart t u goal)
     apart_goal-shaped b c =
         let m = apart-shaped d goal.state (state-shaped d goal h) ((t, u) ∷ []) ((b, c), tt) in
         record {

@@ -3,9 +3,15 @@
 -- Names: `option-LAW` of what there is in an option, `STEP-lists` of that step.
 use Rattle.std.specs.List.{AllByRecursion}
 use Rattle.std.specs.Option.{option_and_then, option_map}
-use Rattle.std.proofs.Common.{◌≡◌, ℕ, Bool, true, false, cond, Option, Some, None, List, refl, subst}
-use Rattle.sf_consume.specs.Subtract.{Fit, Step, Want, apart_step, bind_step, binding, both, cell_step, empty_step, equality, exact_step, exact_there, fitting, handed_cell, head_step, head_there, inequality, join_step, join_there, joined, node_step, node_there, removed, removed_if, same_step, stepped, subtracted, wanted_cell, wanted_ends, wanted_list, wanted_shape, wanted_tree}
+use Rattle.std.proofs.Common.{◌≡◌, ℕ, Bool, true, false, cond, Option, Some, None, List, ◌∷◌, ◌++◌, refl, subst}
+use Rattle.std.proofs.lemmas.Option.{same_Some}
+use Rattle.sf_base.specs.declared.place.Place.{Place}
+use Rattle.sf_consume.specs.Subtract.{Fit, Step, Want, apart_step, bind_step, binding, both, cell_step, empty_step, equality, exact_step, exact_there, fitting, handed_cell, head_step, head_there, inequality, join_step, join_there, joined, new_symbols, node_step, node_there, removed, removed_if, same_step, stepped, subtracted, wanted_cell, wanted_ends, wanted_list, wanted_shape, wanted_tree}
+use Rattle.sf_consume.specs.Wants.{still_wanted, wanting}
 use Rattle.sf_core.specs.Program.Syntax.{Conjunct, Conjuncts, none, also}
+use Rattle.sf_rules.specs.Checked.Lemmas.{few-left}
+use Rattle.sf_rules.specs.Rows.Branches.{branch_row, chosen}
+use Rattle.sf_rules.specs.Rows.Take.{subtract_row}
 use Rattle.sf_sym.specs.Cells.{atom_at, cell_at, handed}
 use Rattle.sf_sym.specs.Decided.{term_of}
 use Rattle.sf_sym.specs.declared.atom.Atom.{Atom}
@@ -14,6 +20,8 @@ use Rattle.sf_sym.specs.declared.tag.Tag.{Tag}
 use Rattle.sf_sym.specs.declared.tag.Tag.TheVariants as tags
 use Rattle.sf_sym.specs.declared.term.Term.{Term}
 use Rattle.sf_sym.specs.Checked.Lemmas.AtomLists.{without-all}
+use Rattle.sf_sym.specs.Goal.{Item, take, Goal, one_goal, taking}
+use Rattle.sf_sym.specs.Pending.{Pending}
 use Rattle.sf_sym.specs.Ready.{HasOrder}
 use Rattle.sf_sym.specs.State.{State}
 use Rattle.sf_sym.specs.Tests.{differs, same_term}
@@ -138,3 +146,29 @@ subtracted-lists (tags.Join a) w =
 subtracted-lists (tags.Node a) w =
     first-lists (node_step a) w.state w.bindings w.conjuncts (λ c cs. node-lists w.state w.bindings c cs a)
 subtracted-lists _ w = tt
+
+-- THE ROWS
+-- a step of subtraction leaves the lists
+pub subtract-lists : (tag : Tag) (s : State) (p : Place) (want : Pending) (names : List (List ℕ)) (rest : List Item)
+    (left : List Goal) → subtract_row tag s p want names rest ≡ Some left
+    → AllByRecursion (λ (g : Goal). Lists s g.state) left
+subtract-lists tag s p want names rest left row =
+    go (subtracted tag (wanting s want)) (subtracted-lists tag (wanting s want))
+    (few-left (new_symbols want.conjuncts) _ left row)
+  where
+    go : (m : Option Want) → AllIn (WantLists s) m
+        → option_and_then (λ w. one_goal w.state (taking p (still_wanted w) names ++ rest)) m ≡ Some left
+        → AllByRecursion (λ (g : Goal). Lists s g.state) left
+    go None h e = absurd (cc)
+    go (Some w) h e = subst (AllByRecursion (λ (g : Goal). Lists s g.state)) (same_Some _ left e) (h, tt)
+
+-- a choice leaves the state
+pub chosen-lists : (so : Bool) (s : State) (p : Place) (want : Pending) (names : List (List ℕ)) (rest : List Item)
+    (left : List Goal) → branch_row so s (take p want names ∷ rest) ≡ Some left
+    → AllByRecursion (λ (g : Goal). Lists s g.state) left
+chosen-lists so s p want names rest left row = go (chosen so s want want.conjuncts) row
+  where
+    go : (m : Option Pending) → option_and_then (λ z. one_goal s (taking p z names ++ rest)) m ≡ Some left
+        → AllByRecursion (λ (g : Goal). Lists s g.state) left
+    go None e = absurd (cc)
+    go (Some z) e = subst (AllByRecursion (λ (g : Goal). Lists s g.state)) (same_Some _ left e) (lists-same s, tt)

@@ -20,11 +20,12 @@ use Rattle.sf_core.specs.Program.Syntax.{Assertion, Block, done, then, Conjunct,
 use Rattle.sf_rules.specs.First.{links_of}
 use Rattle.sf_rules.specs.Setting.{Setting}
 use Rattle.sf_rules.specs.Words.{pending_assertion, test_conjuncts, to_add, to_add_test, to_take}
-use Rattle.sf_search.specs.Shape.{are_some}
-use Rattle.sf_search.specs.Shaped.{BlockFits, ConjunctFits, ConjunctsFit, LevelFits, TodoFits}
+use Rattle.sf_rules.specs.Shape.{BlockFits, MayStand}
+use Rattle.sf_rules.proofs.Fits.{ConjunctFits, ConjunctsFit, ItemsFit, LevelFits, formed-all}
 use Rattle.sf_sym.specs.Below.{AllInItem, AllInPending}
 use Rattle.sf_sym.specs.declared.term.Term.{Term}
 use Rattle.sf_sym.specs.Equalities.{item_with}
+use Rattle.sf_sym.specs.Formed.{are_some}
 use Rattle.sf_sym.specs.Goal.{Item, run, add, take, gave, head, again, exit, return, end, adding, taking, to_run, unless_none}
 use Rattle.sf_sym.specs.Checked.Lemmas.OtherTerms.{occurs-with}
 use Rattle.sf_sym.specs.Mapped.{conjunct_with, conjuncts_with, level_with, operand_with}
@@ -59,9 +60,10 @@ before-fit links none cs f g = g
 before-fit links (also b bs) cs f g = (f.0, before-fit links bs cs f.1 g)
 
 -- those of an annotation, and of a test
-pub pending-fits : (links : Links) (to : Expr → Term) (a : Assertion) → LevelFits links a.level
+pub pending-fits : (links : Links) (to : Expr → Term) (a : Assertion) → MayStand links a
     → ConjunctsFit links (pending_assertion to a).conjuncts
-pending-fits links to a f = conjuncts-fit_with to links (conjuncts_of a.level) (level-fits links a.level f)
+pending-fits links to a f =
+    formed-all links (length (pending_assertion to a).bindings) (pending_assertion to a).conjuncts (f to).0
 
 test-fits : (links : Links) (p : Place) (to : Expr → Term) (t : Test Expr)
     → ConjunctsFit links (test_conjuncts p to t)
@@ -70,8 +72,8 @@ test-fits links p to (Equal e f) = (tt, tt)
 test-fits links p to (Differ e f) = (tt, tt)
 
 -- THINGS TO DO with other terms
-pub todo-fits_with : (d : Setting) (to : Term → Term) (todo : List Item) → TodoFits d todo
-    → TodoFits d (map (item_with to) todo)
+pub todo-fits_with : (d : Setting) (to : Term → Term) (todo : List Item) → ItemsFit d todo
+    → ItemsFit d (map (item_with to) todo)
 todo-fits_with d to [] f = f
 todo-fits_with d to (run c ∷ rest) f = (f.0, todo-fits_with d to rest f.1)
 todo-fits_with d to (add p given ∷ rest) f = (
@@ -94,39 +96,39 @@ todo-fits_with d to (end p ∷ rest) f = tt
 
 -- to assume and to show conjuncts, if there are any
 pub adding-fits : (d : Setting) (p : Place) (given : Pending) (rest : List Item)
-    → ConjunctsFit (links_of d.program) given.conjuncts → TodoFits d rest → TodoFits d (adding p given ++ rest)
+    → ConjunctsFit (links_of d.program) given.conjuncts → ItemsFit d rest → ItemsFit d (adding p given ++ rest)
 adding-fits d p given rest f g = go given.conjuncts refl
   where
-    go : (cs : Conjuncts Term) → given.conjuncts ≡ cs → TodoFits d (unless_none cs (add p given) ++ rest)
+    go : (cs : Conjuncts Term) → given.conjuncts ≡ cs → ItemsFit d (unless_none cs (add p given) ++ rest)
     go none e = g
     go (also c cs) e = (ap are_some e, f, g)
 
 pub taking-fits : (d : Setting) (p : Place) (want : Pending) (names : List (List ℕ)) (rest : List Item)
-    → ConjunctsFit (links_of d.program) want.conjuncts → TodoFits d rest → TodoFits d (taking p want names ++ rest)
+    → ConjunctsFit (links_of d.program) want.conjuncts → ItemsFit d rest → ItemsFit d (taking p want names ++ rest)
 taking-fits d p want names rest f g = go want.conjuncts
   where
-    go : (cs : Conjuncts Term) → TodoFits d (unless_none cs (take p want names) ++ rest)
+    go : (cs : Conjuncts Term) → ItemsFit d (unless_none cs (take p want names) ++ rest)
     go none = g
     go (also c cs) = (f, g)
 
 -- annotations and tests to assume, and annotations to show
 pub to_add-fits : (d : Setting) (p : Place) (to : Expr → Term) (a : Assertion) (rest : List Item)
-    → LevelFits (links_of d.program) a.level → TodoFits d rest → TodoFits d (to_add p to a ++ rest)
+    → MayStand (links_of d.program) a → ItemsFit d rest → ItemsFit d (to_add p to a ++ rest)
 to_add-fits d p to a rest f g =
     adding-fits d p (pending_assertion to a) rest (pending-fits (links_of d.program) to a f) g
 
 pub to_add_test-fits : (d : Setting) (p : Place) (to : Expr → Term) (t : Test Expr) (rest : List Item)
-    → TodoFits d rest → TodoFits d (to_add_test p to t ++ rest)
+    → ItemsFit d rest → ItemsFit d (to_add_test p to t ++ rest)
 to_add_test-fits d p to t rest g = adding-fits d p _ rest (test-fits (links_of d.program) p to t) g
 
 pub to_take-fits : (d : Setting) (p : Place) (to : Expr → Term) (a : Assertion) (rest : List Item)
-    → LevelFits (links_of d.program) a.level → TodoFits d rest → TodoFits d (to_take p to a ++ rest)
+    → MayStand (links_of d.program) a → ItemsFit d rest → ItemsFit d (to_take p to a ++ rest)
 to_take-fits d p to a rest f g =
     taking-fits d p (pending_assertion to a) a.names rest (pending-fits (links_of d.program) to a f) g
 
 -- commands of a block
-pub to_run-fits : (d : Setting) (b : Block) (rest : List Item) → BlockFits d b → TodoFits d rest
-    → TodoFits d (to_run b ++ rest)
+pub to_run-fits : (d : Setting) (b : Block) (rest : List Item) → BlockFits d b → ItemsFit d rest
+    → ItemsFit d (to_run b ++ rest)
 to_run-fits d done rest f g = g
 to_run-fits d (then c b) rest f g = (f.0, to_run-fits d b rest f.1 g)
 

@@ -13,9 +13,9 @@ use Rattle.sf_core.specs.Program.Syntax.{holds, points, segment, tree, choose, C
 use Rattle.sf_rules.specs.First.{links_of}
 use Rattle.sf_rules.specs.Rows.Branches.{branch_row, chosen}
 use Rattle.sf_rules.specs.Setting.{Setting}
-use Rattle.sf_search.proofs.Fitting.{adding-below, adding-fits, before-fit, level-fits, taking-below, taking-fits}
-use Rattle.sf_search.proofs.ShapedGoals.{AllKeep, keeps-goal, one-keeps, rises-none, state-shaped}
-use Rattle.sf_search.specs.Shaped.{ConjunctsFit, IsShaped, LevelFits}
+use Rattle.sf_rules.proofs.Fitting.{adding-below, adding-fits, before-fit, level-fits, taking-below, taking-fits}
+use Rattle.sf_rules.proofs.ShapedGoals.{AllKeep, keeps-goal, one-keeps, rises-none, state-shaped}
+use Rattle.sf_rules.proofs.Fits.{ConjunctsFit, IsFitting, LevelFits}
 use Rattle.sf_sym.specs.Below.{AllInPending, IsBelow}
 use Rattle.sf_sym.specs.Decided.{is_decided, test_of_terms}
 use Rattle.sf_sym.specs.declared.term.Term.{Term}
@@ -78,7 +78,7 @@ module _ (P : Term → Type 0) (links : Links) (so : Bool) (s : State) (p : Pend
       (branch-shaped place t this that rest i)
 
 module _ (d : Setting) (so : Bool) (s : State) (p : Place) (rest : List Item) (left : List Goal) where
-  pub choice_assumed-keeps : (given : Pending) → IsShaped d (record { state = s; todo = add p given ∷ rest })
+  pub choice_assumed-keeps : (given : Pending) → IsFitting d (record { state = s; todo = add p given ∷ rest })
       → branch_row so s (add p given ∷ rest) ≡ Some left → AllKeep d s left
   choice_assumed-keeps given h row =
       let m = and_then-left (chosen so s given given.conjuncts) (λ z. one_goal s (adding p z ++ rest)) left row in
@@ -90,7 +90,7 @@ module _ (d : Setting) (so : Bool) (s : State) (p : Place) (rest : List Item) (l
       (adding-fits d p m.0 rest k.fits h.todo.2))
 
   pub choice_shown-keeps : (want : Pending) (names : List (List ℕ))
-      → IsShaped d (record { state = s; todo = take p want names ∷ rest })
+      → IsFitting d (record { state = s; todo = take p want names ∷ rest })
       → branch_row so s (take p want names ∷ rest) ≡ Some left → AllKeep d s left
   choice_shown-keeps want names h row =
       let m = and_then-left (chosen so s want want.conjuncts) (λ z. one_goal s (taking p z names ++ rest)) left row in

@@ -20,12 +20,12 @@ use Rattle.sf_rules.specs.First.{links_of}
 use Rattle.sf_rules.specs.Checked.Lemmas.{few-left}
 use Rattle.sf_rules.specs.Rows.Take.{subtract_row}
 use Rattle.sf_rules.specs.Setting.{Setting}
-use Rattle.sf_search.proofs.Fitting.{taking-below, taking-fits}
-use Rattle.sf_search.proofs.FittingStates.{StateShaped, handed-shaped, raised-shaped}
-use Rattle.sf_search.proofs.OperandsBelow.{Bound, OperandBelow, bound-more, bound-set, operand-one}
-use Rattle.sf_search.proofs.ShapedChoices.{and_then-left}
-use Rattle.sf_search.proofs.ShapedGoals.{AllKeep, Rises, keeps-goal, one-keeps, rest-below, rises-none, state-shaped}
-use Rattle.sf_search.specs.Shaped.{ConjunctFits, ConjunctsFit, IsShaped}
+use Rattle.sf_rules.proofs.Fitting.{taking-below, taking-fits}
+use Rattle.sf_rules.proofs.FittingStates.{StateShaped, handed-shaped, raised-shaped}
+use Rattle.sf_rules.proofs.OperandsBelow.{Bound, OperandBelow, bound-more, bound-set, operand-one}
+use Rattle.sf_rules.proofs.ShapedChoices.{and_then-left}
+use Rattle.sf_rules.proofs.ShapedGoals.{AllKeep, Rises, keeps-goal, one-keeps, rest-below, rises-none, state-shaped}
+use Rattle.sf_rules.proofs.Fits.{ConjunctFits, ConjunctsFit, IsFitting}
 use Rattle.sf_sym.specs.Below.{AllInAtom, AllPaired, IsBelow}
 use Rattle.sf_sym.specs.Cells.{atom_at, cell_at, handed}
 use Rattle.sf_sym.specs.Decided.{term_of}
@@ -413,7 +413,7 @@ module _ (d : Setting) (s : State) (bindings : List (Option Term)) (c : Conjunct
 
 -- THE ROWS
 module _ (d : Setting) (s : State) (p : Place) (want : Pending) (names : List (List ℕ)) (rest : List Item)
-    (h : IsShaped d (record { state = s; todo = take p want names ∷ rest })) where
+    (h : IsFitting d (record { state = s; todo = take p want names ∷ rest })) where
   wanting-first : (c : Conjunct Term) (cs : Conjuncts Term) → want.conjuncts ≡ also c cs
       → Wanting d s want.bindings c cs
   wanting-first c cs e =

@@ -1,5 +1,5 @@
 -- Every row keeps the shape of goals, and raises the numbers of symbols and atoms by less than `TOO_MANY`.
--- Names: `ROW-keeps`, `rows-keep`.
+-- Names: `ROW-keeps`, `cases-keep`.
 use Rattle.std.specs.List.{AllByRecursion, slice_get}
 use Rattle.std.proofs.Common.{◌≡◌, ℕ, ◌+◌, ◌<◌, is_some, Some, List, [], ◌∷◌, ◌++◌, length, refl, sym, ap, subst, arith, length-append}
 use Rattle.sf_base.proofs.Elements.{all_by-append}
@@ -15,25 +15,24 @@ use Rattle.sf_core.specs.Program.Syntax.{Assertion, Block, Call, while, call, fo
 use Rattle.sf_produce.specs.Add.{operands}
 use Rattle.sf_rules.specs.declared.few.TheConstants.{TOO_MANY}
 use Rattle.sf_rules.specs.Checked.Lemmas.{few-left}
-use Rattle.sf_rules.specs.Checked.RowCases.{Rows, RowsHaveCases, by_absurd, by_add, by_again, by_around, by_assign, by_call, by_choice, by_choice_assumed, by_choice_shown, by_dispose, by_drop, by_end, by_enter, by_exit, by_force, by_fork, by_give, by_look, by_loop, by_mutate, by_new, by_return, by_split, by_step, by_unroll, goal_of}
+use Rattle.sf_rules.specs.Checked.RowCases.{Rows, by_absurd, by_add, by_again, by_around, by_assign, by_call, by_choice, by_choice_assumed, by_choice_shown, by_dispose, by_drop, by_end, by_enter, by_exit, by_force, by_fork, by_give, by_look, by_loop, by_mutate, by_new, by_return, by_split, by_step, by_unroll, goal_of}
 use Rattle.sf_rules.specs.Rows.Calls.{term_after, term_before}
 use Rattle.sf_rules.specs.Rows.Loops.{after_loop, body_once, unknown_in}
 use Rattle.sf_rules.specs.Rows.Regions.{variables_from}
-use Rattle.sf_rules.specs.Rows.Whole.{row}
 use Rattle.sf_rules.specs.Setting.{Setting}
 use Rattle.sf_rules.specs.Words.{negation, to_add, to_add_test, to_take}
-use Rattle.sf_search.proofs.Fitting.{to_add-below, to_add-fits, to_add_test-below, to_add_test-fits, to_run-below, to_run-fits, to_take-below, to_take-fits}
-use Rattle.sf_search.proofs.FittingStates.{StateShaped, empty-shaped, given-shaped, symbols-shaped, vars-shaped}
-use Rattle.sf_search.proofs.FreshVariables.{after-below, before-below, few-filtered, fresh-below, fresh-length, removed-below, set_all-below, term-below, variables-length}
-use Rattle.sf_search.proofs.ShapedAdds.{add-keeps}
-use Rattle.sf_search.proofs.ShapedChoices.{choice_assumed-keeps, choice_shown-keeps}
-use Rattle.sf_search.proofs.ShapedCommands.{assign-keeps, choice-keeps, dispose-keeps, look-keeps, mutate-keeps, new-keeps}
-use Rattle.sf_search.proofs.ShapedGoals.{AllKeep, Rises, keeps-goal, none-keep, rest-below, rises-none, state-shaped}
-use Rattle.sf_search.proofs.ShapedKnown.{absurd-keeps, drop-keeps, force-keeps, split-keeps, unroll-keeps}
-use Rattle.sf_search.proofs.ShapedTakes.{step-keeps}
-use Rattle.sf_search.specs.Shaped.{AnnotationFits, IsShaped, TodoFits}
+use Rattle.sf_rules.proofs.Fitting.{to_add-below, to_add-fits, to_add_test-below, to_add_test-fits, to_run-below, to_run-fits, to_take-below, to_take-fits}
+use Rattle.sf_rules.proofs.FittingStates.{StateShaped, empty-shaped, given-shaped, symbols-shaped, vars-shaped}
+use Rattle.sf_rules.specs.Checked.Lemmas.FreshVariables.{after-below, before-below, few-filtered, fresh-below, fresh-length, removed-below, set_all-below, term-below, variables-length}
+use Rattle.sf_rules.proofs.ShapedAdds.{add-keeps}
+use Rattle.sf_rules.proofs.ShapedChoices.{choice_assumed-keeps, choice_shown-keeps}
+use Rattle.sf_rules.proofs.ShapedCommands.{assign-keeps, choice-keeps, dispose-keeps, look-keeps, mutate-keeps, new-keeps}
+use Rattle.sf_rules.proofs.ShapedGoals.{AllKeep, Rises, keeps-goal, none-keep, rest-below, rises-none, state-shaped}
+use Rattle.sf_rules.proofs.ShapedKnown.{absurd-keeps, drop-keeps, force-keeps, split-keeps, unroll-keeps}
+use Rattle.sf_rules.proofs.ShapedTakes.{step-keeps}
+use Rattle.sf_rules.specs.Shape.{AnnotationFits}
+use Rattle.sf_rules.proofs.Fits.{IsFitting, ItemsFit}
 use Rattle.sf_sym.specs.Below.{AllInItem, IsBelow}
-use Rattle.sf_sym.specs.declared.tag.Tag.{Tag}
 use Rattle.sf_sym.specs.declared.term.Term.{Term}
 use Rattle.sf_sym.specs.Goal.{Item, run, gave, head, again, exit, return, end, Goal, to_run}
 use Rattle.sf_sym.specs.Ready.{is_listed}
@@ -60,12 +59,12 @@ fresh-shaped d s xs h =
 
 -- THE ROWS
 module _ (d : Setting) (s : State) (item : Item) (rest : List Item) (left : List Goal)
-    (h : IsShaped d (record { state = s; todo = item ∷ rest })) where
+    (h : IsFitting d (record { state = s; todo = item ∷ rest })) where
   shaped : StateShaped d s
   shaped = state-shaped d (record { state = s; todo = item ∷ rest }) h
 
   one-left : (s2 : State) (todo : List Item) → left ≡ goal_of s2 todo ∷ [] → StateShaped d s2 → Rises s s2
-      → AllByRecursion (AllInItem (IsBelow s2.next_sym)) todo → TodoFits d todo → AllKeep d s left
+      → AllByRecursion (AllInItem (IsBelow s2.next_sym)) todo → ItemsFit d todo → AllKeep d s left
   one-left s2 todo e k r b f = subst (AllKeep d s) (sym e) (keeps-goal d s s2 todo k r b f, tt)
 
   to-below : (e : Expr) → IsBelow s.next_sym (term s.vars e)
@@ -80,7 +79,7 @@ module _ (d : Setting) (s : State) (item : Item) (rest : List Item) (left : List
 
 module _ (d : Setting) (s : State) (rest : List Item) (left : List Goal) where
   abbrev Before : Item → Type 0
-  Before item = IsShaped d (record { state = s; todo = item ∷ rest })
+  Before item = IsFitting d (record { state = s; todo = item ∷ rest })
 
   abbrev n : ℕ
   n = s.next_sym
@@ -312,11 +311,11 @@ module _ (d : Setting) (s : State) (rest : List Item) (left : List Goal) where
       )
 
 -- ALL ROWS
-module _ (d : Setting) (fits : ProgramFits d) (goal : Goal) (left : List Goal) (h : IsShaped d goal) where
-  front : (todo : List Item) → goal.todo ≡ todo → IsShaped d (record { state = goal.state; todo = todo })
-  front todo e = subst (λ z. IsShaped d (record { state = goal.state; todo = z })) e h
+module _ (d : Setting) (fits : ProgramFits d) (goal : Goal) (left : List Goal) (h : IsFitting d goal) where
+  front : (todo : List Item) → goal.todo ≡ todo → IsFitting d (record { state = goal.state; todo = todo })
+  front todo e = subst (λ z. IsFitting d (record { state = goal.state; todo = z })) e h
 
-  cases-keep : Rows d goal left → AllKeep d goal.state left
+  pub cases-keep : Rows d goal left → AllKeep d goal.state left
   cases-keep (by_absurd e) = absurd-keeps d goal left h e
   cases-keep (by_drop a e) = drop-keeps d goal left h a e
   cases-keep (by_force a e) = force-keeps d goal left h a e
@@ -352,7 +351,3 @@ module _ (d : Setting) (fits : ProgramFits d) (goal : Goal) (left : List Goal) (
   cases-keep (by_exit p r of rest is there e) = exit-keeps d goal.state rest left fits p r of there (front _ is) e
   cases-keep (by_return p post rest is e) = return-keeps d goal.state rest left p post (front _ is) e
   cases-keep (by_end p rest is none e) = none-keep d goal.state left (ap Some (sym e))
-
-  pub rows-keep : RowsHaveCases → (tag : Tag) → row d goal tag ≡ Some left → AllKeep d goal.state left
-  unfolding RowsHaveCases
-  rows-keep cases tag e = cases-keep (cases d goal tag left e)

@@ -22,13 +22,14 @@ use Rattle.sf_core.specs.Program.Syntax.{Procedure, Resource}
 use Rattle.sf_rules.specs.First.{first_goal, first_state_of, links_of, nils, own_vars, symbols, variables_of}
 use Rattle.sf_rules.specs.Rows.Regions.{variables_from}
 use Rattle.sf_rules.specs.Setting.{Setting}
-use Rattle.sf_search.proofs.Fitting.{to_add-below, to_add-fits, to_run-below, to_run-fits}
-use Rattle.sf_search.proofs.FittingStates.{StateShaped}
-use Rattle.sf_search.proofs.FormedBodies.{resource-few}
-use Rattle.sf_search.proofs.FreshVariables.{term-below, variables-length}
-use Rattle.sf_search.proofs.ShapedGoals.{goal-shaped}
-use Rattle.sf_search.proofs.ShapedRows.{ProgramFits, fresh-shaped}
-use Rattle.sf_search.specs.Shaped.{BlockFits, IsShaped}
+use Rattle.sf_rules.proofs.Fitting.{to_add-below, to_add-fits, to_run-below, to_run-fits}
+use Rattle.sf_rules.proofs.FittingStates.{StateShaped}
+use Rattle.sf_rules.proofs.FormedBodies.{resource-few}
+use Rattle.sf_rules.specs.Checked.Lemmas.FreshVariables.{term-below, variables-length}
+use Rattle.sf_rules.proofs.ShapedGoals.{goal-shaped}
+use Rattle.sf_rules.proofs.ShapedRows.{ProgramFits, fresh-shaped}
+use Rattle.sf_rules.specs.Shape.{BlockFits}
+use Rattle.sf_rules.proofs.Fits.{IsFitting}
 use Rattle.sf_sym.specs.Below.{AllPaired, IsBelow}
 use Rattle.sf_sym.specs.declared.term.Term.{Term}
 use Rattle.sf_sym.specs.Goal.{return, to_run}
@@ -132,7 +133,7 @@ module _ (d : Setting) (formed : IsFormed d.program) (sets : AreSetsOf d.program
 
   -- it is shaped
   pub first-shaped : (f : ProcId) (g : Procedure) → slice_get d.program.procedures f.0 ≡ Some g → ProgramFits d
-      → BlockFits d g.body → IsShaped d (first_goal d f g)
+      → BlockFits d g.body → IsFitting d (first_goal d f g)
   first-shaped f g there fits body =
       let s = first_state_of d f g in
       let own : StateShaped d (first_state (links_of d.program) (own_vars g) (g.references + g.values)) = record {

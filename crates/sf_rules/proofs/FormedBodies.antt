@@ -30,9 +30,8 @@ use Rattle.sf_core.specs.Program.Heads.{Site, head_forks, head_sets, inner_sites
 use Rattle.sf_core.specs.Program.Syntax.{Assertion, Block, done, then, Call, Command, assign, look_up, mutate, new, dispose, if, while, call, fork, with, Procedure, Program, Resource}
 use Rattle.sf_rules.specs.declared.few.TheConstants.{TOO_MANY}
 use Rattle.sf_rules.specs.Setting.{Setting}
-use Rattle.sf_search.proofs.Universe.{IsInReach, distinct-append, distinct-ordered, few-in_reach}
-use Rattle.sf_search.specs.Shape.{CommandFits, IsThere}
-use Rattle.sf_search.specs.Shaped.{AnnotationFits, BlockFits, WholeFits}
+use Rattle.sf_rules.proofs.Universe.{IsInReach, distinct-append, distinct-ordered, few-in_reach}
+use Rattle.sf_rules.specs.Shape.{AnnotationFits, BlockFits, CommandFits, IsThere, WholeFits}
 
 -- the variables of all resources
 abbrev variables_in : List Resource → ℕ
