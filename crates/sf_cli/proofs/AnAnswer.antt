@@ -19,7 +19,7 @@ use Rattle.sf_rules.specs.Checked.LawsOfSettings.{SettingExists}
 use Rattle.sf_rules.specs.Setting.{IsSettingOf, Setting}
 use Rattle.sf_search.specs.Judge.{Verdict, proof, fails, Judge}
 use Rattle.sf_search.specs.Checked.Laws.{ProgramsHaveVerdicts}
-use Rattle.sf_search.specs.Checked.ShapeLaws.{IsSetUp}
+use Rattle.sf_rules.specs.Checked.LawsOfShape.{IsSetUp}
 use Rattle.sf_vars.specs.Checked.Laws.{EachProgramHasAnAnswer}
 use Rattle.sf_cli.proofs.Accepted.{accepted-formed}
 use Rattle.sf_check.specs.Checked.Laws.{ProvesOrRefused}
