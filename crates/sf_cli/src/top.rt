@@ -53,8 +53,8 @@ fn tell<K: Sink>(sink: &mut K, said: &Said) -> u8
 /// that is due, whole, or memory ran out.
 ///
 /// Whatever the number of workers and the gate, the answer is the same. So far no thread is started
-/// and nothing waits; a run from whose entry a parallel call can be reached isn't built yet, and
-/// has its file refused.
+/// and nothing waits; a run from whose entry a parallel call can be reached isn't built yet, nor one
+/// that begins in `init` where that reaches one, and has its file refused.
 pub fn smallfoot<'a, R: Threads + Wait + Sync, S: Shelf, K: Sink, G: Gate>(
     rt: &R,
     alloc: Global,
