@@ -1,0 +1,5 @@
+-- What is checked and need not be believed: laws, worked examples, lemmas, and definitions that only proofs use.
+-- One module for each.
+pub mod Looks
+pub mod Going
+pub mod Taking
