@@ -3,3 +3,4 @@
 pub mod Looks
 pub mod Going
 pub mod Taking
+pub mod Turns

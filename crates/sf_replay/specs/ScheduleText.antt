@@ -26,10 +26,13 @@ use Rattle.sf_state.specs.Words.{begins}
 abbrev pub events_of : List Scheduled → List Event
 events_of schedule = map (λ s. event_of s.event) schedule
 
--- the number that digits write, from 1 on and below the limit
+-- the number is one of an event: from 1 on, and below the limit
+abbrev pub is_number : ℕ → Bool
+is_number n = nat_le 1 n && nat_lt n NUMBERS
+
+-- the number that digits write
 abbrev pub number_from : Text → Option ℕ
-number_from digits = if is_some_of is_digit digits
-    && (nat_le 1 (digits_value 10 digits) && nat_lt (digits_value 10 digits) NUMBERS)
+number_from digits = if is_some_of is_digit digits && is_number (digits_value 10 digits)
     then Some (digits_value 10 digits) else None
 
 -- the location that `@` and digits write
@@ -41,6 +44,10 @@ place_from (b ∷ bs) = if b == 64 then number_from bs else None
 abbrev pub turn_from : ℕ → Option Turn
 turn_from b = if b == 49 then Some left else if b == 50 then Some right else None
 
+-- the turn that a dot and a digit write
+abbrev pub turn_in : (dot digit : ℕ) → Option Turn
+turn_in dot digit = if dot == 46 then turn_from digit else None
+
 -- a turn and those after it
 abbrev pub turns_with : Option Turn → Option Path → Option Path
 turns_with None rest = None
@@ -51,7 +58,7 @@ turns_with (Some turn) (Some rest) = Some (turn ∷ rest)
 abbrev pub turns_from : Text → Option Path
 turns_from [] = Some []
 turns_from (dot ∷ []) = None
-turns_from (dot ∷ digit ∷ rest) = if dot == 46 then turns_with (turn_from digit) (turns_from rest) else None
+turns_from (dot ∷ digit ∷ rest) = turns_with (turn_in dot digit) (turns_from rest)
 
 -- a path that a task may have
 abbrev pub path_within : Option Path → Option Path

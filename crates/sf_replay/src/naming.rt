@@ -1,7 +1,7 @@
 //! The task, the number and the location that a word writes.
 
-ghost use Rattle.std.specs.Prelude.{◌≡◌};
-ghost use Rattle.sf_replay.specs.ScheduleText.{number_from, place_from, task_from, turn_from};
+ghost use Rattle.std.specs.Prelude.{◌≡◌, ◌++◌, ◌∷◌, [], Some};
+ghost use Rattle.sf_replay.specs.ScheduleText.{is_number, number_from, path_within, place_from, task_from, turn_from, turn_in, turns_from};
 
 use crate::limits::NUMBERS;
 use sf_base::limits::TURNS;
@@ -9,7 +9,9 @@ use sf_base::{TaskPath, Turn};
 use sf_lex::number;
 
 /// Whether the number is one of an event.
-fn is_number(n: u64) -> bool {
+fn is_number(n: u64) -> bool
+    ensures { result ≡ is_number n }
+{
     1 <= n && n < NUMBERS
 }
 
@@ -58,18 +60,35 @@ pub(crate) fn task_from(word: &[u8]) -> Option<TaskPath>
     }
 }
 
+/// The turn that a dot and a digit write.
+fn turn_in(dot: u8, digit: u8) -> Option<Turn>
+    ensures { result ≡ turn_in dot digit }
+{
+    if dot == b'.' { turn_from(digit) } else { None }
+}
+
+/// The path with one turn more, if a task may have it.
+fn longer(path: TaskPath, turn: Turn) -> Option<TaskPath>
+    ensures { result ≡ path_within (Some (path ++ turn ∷ [])) }
+{
+    if path.len() < TURNS {
+        Some(path.child(turn))
+    } else {
+        None
+    }
+}
+
 /// The path with the turns that are written, each as a dot and a digit.
 fn path_from(turns: &[u8]) -> Option<TaskPath>
     ensures { result ≡ path_within (turns_from turns.now) }
 {
     let mut path = TaskPath::entry();
     let mut left = turns;
-    'turns: while let [dot, digit, rest @ ..] = left {
-        if *dot != b'.' || path.len() >= TURNS {
-            return None;
-        }
-        path = path.child(turn_from(*digit)?);
+    'turns: while let Some((dot, after)) = left.split_first() {
+        let (digit, rest) = after.split_first()?;
+        let turn = turn_in(*dot, *digit)?;
+        path = longer(path, turn)?;
         left = rest;
     }
-    if left.is_empty() { Some(path) } else { None }
+    Some(path)
 }

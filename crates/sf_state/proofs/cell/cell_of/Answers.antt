@@ -3,4 +3,4 @@ use Rattle.sf_state.proofs.StateShape.{cell-many}
 use Rattle.sf_state.proofs.cell.cell_of.Goals as goal
 
 pub returns-clause-wide : goal.returns-clause-wide
-returns-clause-wide c = ap length c.in_ok-cell_with.ensures ∙ cell-many c.args.count c.in-Are.settings
+returns-clause-wide c = ap length c.in_ok-cell_with.ensures ∙ cell-many c.args.count c.as_slice-2.result.now
