@@ -39,8 +39,8 @@ impl Calls {
         &self.takes[f.0 as usize]
     }
 
-    /// The resources whose variables occur in the procedure's pre or post. There is such a
-    /// procedure.
+    /// The resources whose variables occur in the procedure's pre or post, and all of them where it
+    /// sets the resources up. There is such a procedure.
     pub fn holds(&self, f: ProcId) -> &ResSet
         requires { f.0 < length self.now.holds }
         ensures { slice_get self.now.holds f.0 ≡ Some result.now }

@@ -38,14 +38,16 @@ pub fn takes_rows(
     Ok(rows)
 }
 
-/// For each of those resources, which procedures hold it. An `Err` means that memory ran out.
+/// For each of those resources of the program, which procedures hold it. An `Err` means that memory
+/// ran out.
 pub fn holds_rows(
     alloc: Global,
     p: &Program,
     summaries: &[Summary],
     resources: &[ResId],
 ) -> Result<Vec<Vec<bool>>, AllocError>
-    requires { AreSummaries (program_of p.now) summaries.now }
+    requires summaries { AreSummaries (program_of p.now) summaries.now }
+    requires there { All (λ r. r.0 < length p.now.resources.items) resources.now }
     ensures { IfOk result (λ rows.
         AreRows (length p.now.procedures.items)
         (HasThroughout (program_of p.now)) resources.now rows.items) }
@@ -119,20 +121,23 @@ fn mentioning(
     Ok(visited)
 }
 
-/// The procedures that hold the resource.
+/// The procedures that hold the resource, which is one of the program's: the one that sets the
+/// resources up, and those whose pre or post mentions it.
 fn holding(
     alloc: Global,
     p: &Program,
     summaries: &[Summary],
     r: ResId,
 ) -> Result<Vec<bool>, AllocError>
-    requires { AreSummaries (program_of p.now) summaries.now }
+    requires summaries { AreSummaries (program_of p.now) summaries.now }
+    requires there { r.0 < length p.now.resources.items }
     ensures { IfOk result (λ row.
         IsRow (length p.now.procedures.items) (λ f. HasThroughout (program_of p.now) f r) row.items) }
 {
     let mut visited = Vec::with_capacity(alloc, p.procedures.len())?;
     for t in summaries {
-        visited.push(speaks_of(r, t.in_contract.as_slice()))?;
+        let mentions = speaks_of(r, t.in_contract.as_slice());
+        visited.push(t.sets_up | mentions)?;
     }
     Ok(visited)
 }

@@ -9,6 +9,7 @@ use Rattle.sf_core.specs.Assertions.Determined.{Determined}
 use Rattle.sf_core.specs.Program.Formed.{IsFormed}
 use Rattle.sf_core.specs.Program.Syntax.{Assertion, Program}
 use Rattle.sf_elab.specs.Checked.Laws.{ElaboratedIsFormed}
+use Rattle.sf_gen.specs.Made.{made_text}
 use Rattle.sf_io.specs.Shelf.{Files}
 use Rattle.sf_parse.specs.Checked.Laws.{EachFileIsShallow}
 use Rattle.sf_precise.specs.Annotations.{annotations_in}
@@ -19,8 +20,9 @@ use Rattle.sf_search.specs.Judge.{Verdict, proof, fails, Judge}
 use Rattle.sf_search.specs.Checked.Laws.{TakenTagsProve}
 use Rattle.sf_sound.specs.Proofs.{ProofsAreSound}
 use Rattle.sf_sym.specs.declared.tag.Tag.{Tag}
-use Rattle.sf_cli.specs.Answer.{Accepted, AcceptedBytes, FileAnswer, IsProved, OrderAnswer, RecheckAnswer, Reply, RunFileAnswer, VerdictAnswer, admitted, admitted_run, answer, by_proof, by_run, by_search, entered, file_refused, no_entry, not_built, rechecked, refused, refused_run, unproved, unread}
-use Rattle.sf_cli.specs.SoundFile.{IsAccepting, MayHave, NamesProgram, NamesSound}
+use Rattle.sf_cli.proofs.DemoAnswers.{demo-sound, demo-status}
+use Rattle.sf_cli.specs.Answer.{Accepted, AcceptedBytes, FileAnswer, IsProved, OrderAnswer, RecheckAnswer, Reply, RunFileAnswer, VerdictAnswer, admitted, admitted_run, answer, by_demo, by_proof, by_run, by_search, entered, file_refused, no_entry, not_built, rechecked, refused, refused_run, unproved, unread}
+use Rattle.sf_cli.specs.SoundFile.{AreProgram, IsAccepting, NamesSound}
 use Rattle.sf_cli.specs.FileFault.{Admits}
 use Rattle.sf_cli.specs.Checked.Laws.{AcceptedFilesAreSound, AcceptedProofsAreSound, AcceptedRunsAreSound}
 use Rattle.sf_cli.specs.Reads.{Reads}
@@ -160,8 +162,9 @@ accepted-order files proofs runs told words text status s a = go (order_of words
         (accepted-recheck proofs told bytes name text (subst (λ (n : ℕ). RecheckAnswer told bytes name text n) z k))
     go (Some (run file entry state steps waits)) e (bytes, may, k) =
         by_run file entry state steps waits e bytes may k (runs told bytes entry state text steps waits status s k)
-    go (Some (demo procedures)) e x =
-        let two = x.1 in let z = zero-at (omega (arith, two)) in absurd (omega (arith, two, z))
+    go (Some (demo procedures)) e k =
+        let z = zero-at (demo-status procedures text status k) in
+        by_demo procedures e k (demo-sound files procedures text status z k)
 
 -- what is said with such a status promises it
 pub accepted-reply : AcceptedFilesAreSound → AcceptedProofsAreSound → AcceptedRunsAreSound → (told : Option Files)
@@ -176,25 +179,26 @@ accepted-reply files proofs runs told before after words text status s (unread s
 accepted-reply files proofs runs told before after words text status s (answer l a) =
     accepted-order files proofs runs told words text status s a
 
--- words name a sound program's file where its bytes are such a program's
-names : (told : Option Files) (words : List Text) (file bytes : Text) → NamesProgram (order_of words) file
-    → MayHave told file bytes → AcceptedBytes bytes → NamesSound told words
-names told words file bytes named may a = record {
-  file = file;
-  named = named;
+-- words are about a sound program where these are its bytes
+names : (told : Option Files) (words : List Text) (bytes : Text) → AreProgram told (order_of words) bytes
+    → AcceptedBytes bytes → NamesSound told words
+names told words bytes are a = record {
   bytes = bytes;
-  may_have = may;
+  are = are;
   program = a.program;
   reads = a.admits.reads;
   sound = a.sound;
 }
 
--- the words of what is accepted name a sound program's file
+-- the words of what is accepted are about a sound program
 pub accepted-names : (told : Option Files) (words : List Text) (text : Text) (status : ℕ)
     → Accepted told words text status → NamesSound told words
 accepted-names told words text status (by_search file workers e bytes may k a) =
-    names told words file bytes (subst (λ (o : Option Order). NamesProgram o file) (sym e) refl) may a
+    names told words bytes (subst (λ (o : Option Order). AreProgram told o bytes) (sym e) may) a
 accepted-names told words text status (by_proof file name e bytes may k a) =
-    names told words file bytes (subst (λ (o : Option Order). NamesProgram o file) (sym e) refl) may a
+    names told words bytes (subst (λ (o : Option Order). AreProgram told o bytes) (sym e) may) a
 accepted-names told words text status (by_run file entry state steps waits e bytes may k a) =
-    names told words file bytes (subst (λ (o : Option Order). NamesProgram o file) (sym e) refl) may a
+    names told words bytes (subst (λ (o : Option Order). AreProgram told o bytes) (sym e) may) a
+accepted-names told words text status (by_demo procedures e k a) =
+    names told words (made_text procedures)
+    (subst (λ (o : Option Order). AreProgram told o (made_text procedures)) (sym e) refl) a

@@ -31,7 +31,7 @@ use Rattle.sf_cli.specs.declared.refusal.Refusal.{Refusal}
 use Rattle.sf_cli.specs.declared.refusal.Refusal.TheVariants.{At}
 use Rattle.sf_cli.specs.declared.refusal.RefusalKind.TheVariants.{Undetermined}
 use Rattle.sf_cli.specs.FileFault.{FileFault, in_grammar, in_names, in_order, in_tokens, in_variables, unfit, unread}
-use Rattle.sf_cli.specs.Checked.Laws.{EachCommandHasAnAnswer, EachFileHasAnAnswer, EachProofHasAnAnswer, EachRunHasAnAnswer}
+use Rattle.sf_cli.specs.Checked.Laws.{EachCommandHasAnAnswer, EachDemoHasAnAnswer, EachFileHasAnAnswer, EachProofHasAnAnswer, EachRunHasAnAnswer}
 use Rattle.sf_cli.specs.Reads.{Reads}
 use Rattle.sf_cli.specs.Refusals.{of_grammar, of_names, of_tokens, of_variables, refusal_text}
 use Rattle.sf_cli.specs.Rechecked.{ProofAnswer, accepted, in_tags, in_text, rejected}
@@ -163,8 +163,9 @@ some-recheck each files bytes name given there text status (admitted p a k) =
     let found = each bytes p a given in (found.0, found.1, rechecked p a (given, there, found.2))
 
 -- so has a command, where the files that it names are there
-pub some-command : EachFileHasAnAnswer → EachProofHasAnAnswer → EachRunHasAnAnswer → EachCommandHasAnAnswer
-some-command each proofs runs files words there = go (order_of words) refl
+pub some-command : EachFileHasAnAnswer → EachProofHasAnAnswer → EachRunHasAnAnswer → EachDemoHasAnAnswer
+    → EachCommandHasAnAnswer
+some-command each proofs runs demos files words there = go (order_of words) refl
   where
     said : (o : Option Order) → order_of words ≡ o → OrderAnswer (Some files) o usage_text 2
         → (text : Text) × (status : ℕ) × Answer files words text status
@@ -172,7 +173,12 @@ some-command each proofs runs files words there = go (order_of words) refl
 
     go : (o : Option Order) → order_of words ≡ o → (text : Text) × (status : ℕ) × Answer files words text status
     go None e = said None e (refl, refl)
-    go (Some (demo procedures)) e = said (Some (demo procedures)) e (refl, refl)
+    go (Some (demo procedures)) e =
+        let a = demos procedures in (
+          a.0,
+          a.1,
+          subst (λ (o : Option Order). OrderAnswer (Some files) o a.0 a.1) (sym e) a.2,
+        )
     go (Some (verify file workers)) e =
         let found = there file (subst (λ (o : Option Order). Names o file) (sym e) refl) in
         let a = each found.0 in (

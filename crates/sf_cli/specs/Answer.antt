@@ -1,7 +1,7 @@
 -- Answer: the text and the status that the command gives to its words, over a map of files.
 -- The form of a command's answer is that of The Open Group, "Utility Conventions" (2018); the
 -- statuses are this project's own.
-use Rattle.std.specs.Prelude.{◌≡◌, ℕ, ◌<◌, ◌⊎◌, Option, Some, None, List, [], ◌++◌, codes}
+use Rattle.std.specs.Prelude.{◌≡◌, ◌≢◌, ℕ, ◌<◌, ◌⊎◌, Option, Some, None, List, [], ◌++◌, codes}
 use Rattle.sf_core.specs.Machine.Config.{Config}
 use Rattle.sf_core.specs.Machine.Enabled.{HasEnded}
 use Rattle.sf_core.specs.Machine.Numbered.{Numbered}
@@ -34,6 +34,8 @@ use Rattle.sf_cli.specs.declared.refusal.Refusal.{Refusal}
 use Rattle.sf_cli.specs.declared.refusal.Refusal.TheVariants.{At}
 use Rattle.sf_cli.specs.declared.refusal.RefusalKind.TheVariants.{NotBuilt}
 use Rattle.sf_cli.specs.SoundFile.{MayHave}
+use Rattle.sf_cli.specs.DemoText.{demo_text}
+use Rattle.sf_gen.specs.Made.{made_text}
 use Rattle.sf_cli.specs.Ran.{IsFinishedText, StateAnswer}
 use Rattle.sf_cli.specs.Rechecked.{ProofAnswer}
 use Rattle.sf_words.specs.Words.{Text, Order, demo, order_of, recheck, run, verify}
@@ -128,12 +130,19 @@ pub data RunAnswer (told : Option Files) (bytes entry state_name : Text) (steps 
   admitted_run : (p : Program) → Admits bytes p → RunFileAnswer told p entry state_name steps waits text status
       → RunAnswer told bytes entry state_name steps waits text status
 
+-- the answer to `demo`: where the file that is made has a proof, how large both are, and else what is
+-- answered to that file
+pub data DemoAnswer (procedures : ℕ) (text : Text) (status : ℕ) : Type 0 where
+  demonstrated : (p : Program) → Admits (made_text procedures) p → (proved : IsProved p)
+      → text ≡ demo_text procedures proved.tags → status ≡ 0 → DemoAnswer procedures text status
+  unproved_demo : FileAnswer (made_text procedures) text status → status ≢ 0
+      → DemoAnswer procedures text status
+
 -- the words are answered with the usage
 abbrev pub IsUsage : Text → (status : ℕ) → Type 0
 IsUsage text status = (text ≡ usage_text) × (status ≡ 2)
 
--- the answer to an order, or to words that are none, where the files that it names are there;
--- `demo` isn't followed yet, and is answered as words that are none
+-- the answer to an order, or to words that are none, where the files that it names are there
 abbrev pub OrderAnswer : Option Files → Option Order → Text → (status : ℕ) → Type 0
 OrderAnswer told None text status = IsUsage text status
 OrderAnswer told (Some (verify file workers)) text status =
@@ -142,7 +151,7 @@ OrderAnswer told (Some (recheck file proof_name)) text status =
     (bytes : Text) × MayHave told file bytes × RecheckAnswer told bytes proof_name text status
 OrderAnswer told (Some (run file entry state steps waits)) text status =
     (bytes : Text) × MayHave told file bytes × RunAnswer told bytes entry state steps waits text status
-OrderAnswer told (Some (demo procedures)) text status = IsUsage text status
+OrderAnswer told (Some (demo procedures)) text status = DemoAnswer procedures text status
 
 -- the answer over the files of a shelf
 abbrev pub Answers : Option Files → (words : List Text) → Text → (status : ℕ) → Type 0
@@ -219,8 +228,8 @@ pub record AcceptedBytes (bytes : Text) : Type 0 where
   pub admits : Admits bytes program
   pub sound : IsSound program
 
--- the words are an order whose program's file is there, its answer is that text with that status,
--- and the program that the file reads as is sound
+-- the words are an order whose program's file is there, or is made, its answer is that text with that
+-- status, and the program that the file reads as is sound
 pub data Accepted (told : Option Files) (words : List Text) (text : Text) (status : ℕ) : Type 0 where
   by_search : (file : Text) (workers : ℕ) → order_of words ≡ Some (verify file workers) → (bytes : Text)
       → MayHave told file bytes → FileAnswer bytes text status → AcceptedBytes bytes
@@ -231,6 +240,8 @@ pub data Accepted (told : Option Files) (words : List Text) (text : Text) (statu
   by_run : (file entry state : Text) (steps waits : ℕ) → order_of words ≡ Some (run file entry state steps waits)
       → (bytes : Text) → MayHave told file bytes → RunAnswer told bytes entry state steps waits text status
       → AcceptedBytes bytes → Accepted told words text status
+  by_demo : (procedures : ℕ) → order_of words ≡ Some (demo procedures) → DemoAnswer procedures text status
+      → AcceptedBytes (made_text procedures) → Accepted told words text status
 
 -- a run has ended with that text: it is the text of a configuration in which the entry has ended,
 -- and to which some list of events leads from the start that the state's text gives, each with its

@@ -9,4 +9,5 @@ pub mod StartRefusals
 pub mod EndText
 pub mod Ran
 pub mod Answer
+pub mod DemoText
 pub mod Checked

@@ -1,12 +1,13 @@
--- SoundFile: what an accepting status promises, in few words: the words name a program's file, and
--- its bytes are those of a sound program.
+-- SoundFile: what an accepting status promises, in few words: the words name a program's file, or
+-- have one made, and its bytes are those of a sound program.
 -- Soundness against all runs: Brookes, "A semantics for concurrent separation logic" (2007).
 use Rattle.std.specs.Prelude.{◌≡◌, ℕ, ◌⊎◌, Option, Some, None, List}
 use Rattle.sf_core.specs.Program.Syntax.{Program}
 use Rattle.sf_io.specs.Shelf.{Files}
 use Rattle.sf_core.specs.Machine.Sound.{IsSound}
 use Rattle.sf_cli.specs.Reads.{Reads}
-use Rattle.sf_words.specs.Words.{Text, Order, order_of, recheck, run, verify}
+use Rattle.sf_gen.specs.Made.{made_text}
+use Rattle.sf_words.specs.Words.{Text, Order, demo, order_of, recheck, run, verify}
 
 -- what has this status only comes where the program is proved: 0, and of runs 5 and 6
 abbrev pub IsAccepting : (status : ℕ) → Type 0
@@ -18,20 +19,19 @@ abbrev pub MayHave : Option Files → (name bytes : Text) → Type 0
 MayHave None name bytes = Unit {0}
 MayHave (Some files) name bytes = files name ≡ Some bytes
 
--- the order names that file as the program's
-abbrev pub NamesProgram : Option Order → Text → Type 0
-NamesProgram (Some (verify file workers)) name = name ≡ file
-NamesProgram (Some (recheck file proof_name)) name = name ≡ file
-NamesProgram (Some (run file entry state steps waits)) name = name ≡ file
-NamesProgram _ name = ⊥
+-- these may be the bytes of the program that the order is about: those of the file that it names, or
+-- those that `demo` makes
+abbrev pub AreProgram : Option Files → Option Order → (bytes : Text) → Type 0
+AreProgram told (Some (verify file workers)) bytes = MayHave told file bytes
+AreProgram told (Some (recheck file proof_name)) bytes = MayHave told file bytes
+AreProgram told (Some (run file entry state steps waits)) bytes = MayHave told file bytes
+AreProgram told (Some (demo procedures)) bytes = bytes ≡ made_text procedures
+AreProgram told None bytes = ⊥
 
--- NamesSound: the words are an order that names a program's file, and the bytes that this has read
--- as a program, which is sound
+-- NamesSound: the words are an order about a program, whose bytes read as a program that is sound
 pub record NamesSound (told : Option Files) (words : List Text) : Type 0 where
-  pub file : Text
-  pub named : NamesProgram (order_of words) file
   pub bytes : Text
-  pub may_have : MayHave told file bytes
+  pub are : AreProgram told (order_of words) bytes
   pub program : Program
   pub reads : Reads bytes program
   pub sound : IsSound program

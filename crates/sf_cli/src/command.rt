@@ -5,6 +5,7 @@ ghost use Rattle.sf_cli.specs.Answer.{Reaches, Reply};
 ghost use Rattle.sf_words.specs.Words.{HasNumbersInRange, Text, order_of};
 ghost use Rattle.sf_words.specs.WordsOf.{order_as, words_of};
 
+use crate::demo::demonstrate;
 use crate::recheck::recheck_file;
 use crate::reply::{Said, say};
 use crate::run::{RunWords, run_file};
@@ -17,7 +18,7 @@ use std::alloc::{AllocError, Global};
 use std::sync::Wait;
 use std::thread::Threads;
 
-/// What the command says to an order: `demo` isn't followed yet.
+/// What the command says to an order.
 fn follow<R: Threads + Wait + Sync, S: Shelf, G: Gate>(
     rt: &R,
     alloc: Global,
@@ -56,7 +57,7 @@ fn follow<R: Threads + Wait + Sync, S: Shelf, G: Gate>(
             };
             run_file(rt, alloc, file, &words, shelf, gate)
         }
-        Order::Demo { .. } => say(alloc, USAGE, 2),
+        Order::Demo { procedures } => demonstrate(rt, alloc, procedures, gate),
     }
 }
 

@@ -1,7 +1,7 @@
 //! Laws of answers. Each function is a law: calling it gives its fact to the caller's proof, and
 //! does nothing.
 
-ghost use Rattle.sf_cli.specs.Checked.Laws.{AcceptedFilesAreSound, AcceptedProofsAreSound, AcceptedRunsAreSound, EachCommandHasAnAnswer, EachCommandHasOneAnswer, EachFileHasAnAnswer, EachFileHasOneAnswer, EachFileIsDecided, EachFileIsOneProgram, EachProofHasAnAnswer, EachProofHasOneAnswer, EachRunHasAnAnswer, EachRunHasOneAnswer, FinishedRunsHaveEnded};
+ghost use Rattle.sf_cli.specs.Checked.Laws.{AcceptedFilesAreSound, AcceptedProofsAreSound, AcceptedRunsAreSound, EachCommandHasAnAnswer, EachCommandHasOneAnswer, EachDemoHasAnAnswer, EachDemoHasOneAnswer, EachFileHasAnAnswer, EachFileHasOneAnswer, EachFileIsDecided, EachFileIsOneProgram, EachProofHasAnAnswer, EachProofHasOneAnswer, EachRunHasAnAnswer, EachRunHasOneAnswer, FinishedRunsHaveEnded};
 
 use sf_check::laws::{proves_not_refused, proves_or_refused, refused_once};
 use sf_elab::laws::elaborated_is_formed;
@@ -115,6 +115,24 @@ pub fn each_run_has_an_answer()
     units_stay_free();
 }
 
+/// `demo` has at most one answer.
+pub fn each_demo_has_one_answer()
+    ensures { EachDemoHasOneAnswer }
+{
+    each_file_is_decided();
+    setting_is_unique();
+    verdicts_are_unique();
+    each_file_has_one_answer();
+}
+
+/// `demo` has an answer.
+#[tactic(auto, using(crate::proofs::AnswerLaws::each_demo_has_an_answer))]
+pub fn each_demo_has_an_answer()
+    ensures { EachDemoHasAnAnswer }
+{
+    each_file_has_an_answer();
+}
+
 /// Words have an answer over files, where the files that they name are there.
 #[tactic(auto, using(crate::proofs::AnswerLaws::each_command_has_an_answer))]
 pub fn each_command_has_an_answer()
@@ -123,6 +141,7 @@ pub fn each_command_has_an_answer()
     each_file_has_an_answer();
     each_proof_has_an_answer();
     each_run_has_an_answer();
+    each_demo_has_an_answer();
 }
 
 /// Words have at most one answer over the same files.
@@ -134,6 +153,7 @@ pub fn each_command_has_one_answer()
     each_file_has_one_answer();
     each_proof_has_one_answer();
     each_run_has_one_answer();
+    each_demo_has_one_answer();
 }
 
 /// Whatever bytes are answered with status 0 are those of a sound program.

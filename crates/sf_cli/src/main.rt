@@ -9,6 +9,7 @@
 //! - `recheck`: what it says to `recheck`
 //! - `rejection`: why such a text is refused, and the line that says so
 //! - `run`: what it says to `run`, in the order of its work
+//! - `demo`: what it says to `demo`
 //! - `start_refusal`: why there is no start, and the line that says so
 //! - `outcome`: what comes of a run, printed
 //! - `command`: to each order its command
@@ -21,6 +22,7 @@ ghost use Rattle.std.specs.String.{string_bytes};
 ghost use Rattle.sf_words.specs.WordsOf.{words_of};
 
 mod command;
+mod demo;
 mod laws;
 mod outcome;
 mod reading;

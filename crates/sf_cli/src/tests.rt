@@ -16,7 +16,7 @@ mod wide;
 
 use crate::top::smallfoot;
 use crate::usage::USAGE;
-use commands::{RECHECKS, VERDICTS};
+use commands::{DEMOS, RECHECKS, VERDICTS};
 use compared::{FAILED, PROVED};
 use examples::EXAMPLES;
 use files::{FILES, set};
@@ -89,6 +89,11 @@ fn are_no_commands<R: Threads + Wait + Sync + Abort>(
 fn commands_have_their_answers(rt: HostRuntime) -> Result<(), Fail> {
     are_said(&rt, rt.alloc(), &VERDICTS)?;
     are_said(&rt, rt.alloc(), &RECHECKS)
+}
+
+#[test]
+fn made_files_are_proved(rt: HostRuntime) -> Result<(), Fail> {
+    are_said(&rt, rt.alloc(), &DEMOS)
 }
 
 /// The status that goes with such an answer to a file.

@@ -1,4 +1,5 @@
 pub mod HeadsWithin
 pub mod Occurrences
+pub mod Inits
 pub mod Assertions
 pub mod Machine

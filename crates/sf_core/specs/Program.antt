@@ -8,4 +8,5 @@ pub mod Heads
 pub mod Sites
 pub mod Named
 pub mod Links
+pub mod Init
 pub mod Formed

@@ -3,3 +3,4 @@
 pub mod assertions;
 pub mod machine;
 pub mod numbered;
+pub mod setting_up;

@@ -1,9 +1,11 @@
 //! A whole file as numbered things: procedures, resources, and the program with all that it keeps.
 
-ghost use Rattle.std.specs.Prelude.{◌≡◌, ◌<◌, length, map, slice_get, Some, IfSome};
+ghost use Rattle.std.specs.Prelude.{◌≡◌, ◌<◌, ◌≤◌, length, map, slice_get, Some, IfSome};
 ghost use Rattle.std.specs.Option.{option_map};
+ghost use Rattle.sf_base.specs.declared.limits.TheConstants.{PROCEDURES};
 ghost use Rattle.sf_core.specs.Program.Formed.{IsFormed};
-ghost use Rattle.sf_core.specs.Checked.FormedIsProp.{AreLinks-prop, IsFormed-prop};
+ghost use Rattle.sf_core.specs.Checked.FormedIsProp.{AreLinks-prop, IsFormed-prop, IsInitAmong-prop};
+ghost use Rattle.sf_core.specs.Program.Init.{IsInitAmong, is_init_at};
 ghost use Rattle.sf_core.specs.Program.Links.{AreLinks, IsFieldNamed};
 ghost use Rattle.sf_core.specs.Program.Named.{IsFirstNamed, name_at};
 ghost use Rattle.sf_core.specs.Program.View.{procedure_of, program_with};
@@ -53,7 +55,8 @@ pub struct Resource {
 /// A whole file. Its numbers are those of things that are there, each call has its procedure's
 /// counts, no body sets a value parameter, a pre and a post mention no local and an invariant only
 /// variables of its resource, predicates have the fields that they follow, scopes number
-/// existentials in text order, and limits are met.
+/// existentials in text order, and limits are met. At most one procedure is named `init`; it has
+/// no parameter and no conjunct in its pre and post, and no call names it.
 #[derive(Debug, Drop)]
 pub struct Program {
     /// The names of the fields by number.
@@ -64,9 +67,23 @@ pub struct Program {
     pub procedures: Vec<Proc>,
     /// The fields that segments and trees follow.
     pub links: Links,
+    /// The procedure that sets the resources up, if there is one: the one named `init`.
+    pub init: Option<ProcId>,
     ghost formed: { IsFormed
         (program_with fields.items resources.items procedures.items) } by { IsFormed-prop _ },
     ghost linked: { AreLinks fields.items links } by { AreLinks-prop _ _ },
+    ghost set_up: { IsInitAmong (map (λ f. f.name) procedures.items) init } by { IsInitAmong-prop _ _ },
+}
+
+impl Proc {
+    /// Which of these procedures sets the resources up: the first one named `init`. `None` exactly
+    /// where there is none.
+    pub fn init_among(procedures: &[Proc]) -> Option<ProcId>
+        requires { length procedures.now ≤ PROCEDURES }
+        ensures { IsInitAmong (map (λ f. f.name) procedures.now) result }
+    {
+        procedure_named(procedures, "init")
+    }
 }
 
 impl Program {
@@ -76,12 +93,17 @@ impl Program {
             (option_map (λ f. f.0) result) }
         ensures within { IfSome result (λ f. f.0 < length self.now.procedures.items) }
     {
-        for (i, procedure) in self.procedures.iter().enumerate() {
-            if procedure.name.as_bytes() == name.as_bytes() {
-                return Some(ProcId(i as u32));
-            }
+        procedure_named(&self.procedures, name)
+    }
+
+    /// Whether the procedure of that number sets the resources up.
+    pub fn is_init(&self, f: ProcId) -> bool
+        ensures { result ≡ is_init_at (map procedure_of self.now.procedures.items) f }
+    {
+        match self.init {
+            Some(init) => init.0 == f.0,
+            None => false,
         }
-        None
     }
 
     /// The procedure of that number.
@@ -111,4 +133,19 @@ impl Program {
     {
         field_named(&self.fields, name)
     }
+}
+
+/// The number of the first of these procedures of that name. `None` exactly where there is none.
+fn procedure_named(procedures: &[Proc], name: &str) -> Option<ProcId>
+    requires { length procedures.now ≤ PROCEDURES }
+    ensures first { IsFirstNamed (map (λ f. f.name) procedures.now) name.now
+        (option_map (λ f. f.0) result) }
+    ensures within { IfSome result (λ f. f.0 < length procedures.now) }
+{
+    for (i, procedure) in procedures.iter().enumerate() {
+        if procedure.name.as_bytes() == name.as_bytes() {
+            return Some(ProcId(i as u32));
+        }
+    }
+    None
 }

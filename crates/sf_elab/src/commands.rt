@@ -13,6 +13,7 @@ ghost use Rattle.sf_elab.specs.Names.InEnv.{env_of, occurrence, variable_faults,
 use crate::assertions::maybe;
 use crate::env::{Env, expr_place, report_if};
 use crate::fault::Fault;
+use crate::shape::add_call;
 use crate::texts::text;
 use sf_ast::{
     SurfaceArguments, SurfaceCall, SurfaceCommand, SurfaceExpr, SurfaceNote, SurfaceTest, Word,
@@ -100,7 +101,7 @@ fn callee(env: &Env<'_>, call: &SurfaceCall, found: &mut Vec<Fault>) -> Result<P
     }
 }
 
-/// A call.
+/// A call, with what is wrong where it names `init`.
 fn call(
     alloc: Global,
     env: &Env<'_>,
@@ -113,6 +114,7 @@ fn call(
         (call_faults (env_of env.now) (surface_call call.now)) }
 {
     let callee = callee(env, call, found)?;
+    add_call(env.bytes, call.name, found)?;
     let references = references(alloc, env, references_in(&call.arguments), found)?;
     let values = values(alloc, env, values_in(&call.arguments), found)?;
     Ok(Call {

@@ -81,11 +81,13 @@ fn program(parts: Gathered) -> Program
         ≡ program_with parts.fields.items parts.resources.items parts.procedures.items }
 {
     let links = Links::among(&parts.fields);
+    let init = Proc::init_among(&parts.procedures);
     Program {
         fields: parts.fields,
         resources: parts.resources,
         procedures: parts.procedures,
         links,
+        init,
     }
 }
 

@@ -33,6 +33,10 @@ pub enum Fault {
     Missing(Place, Link),
     /// What begins there exceeds a limit.
     TooMany(Place),
+    /// The procedure named `init` has a parameter, or a conjunct in its pre or post, there.
+    InitShape(Place),
+    /// A call names `init`.
+    InitCalled(Word),
 }
 
 /// Why a file is no program: its first fault, with the name at fault.
@@ -59,6 +63,12 @@ pub enum NameFault {
     /// Kind 26: what begins there exceeds a limit.
     #[error("more than the limit")]
     TooMany(Place),
+    /// Kind 28: `init` has a parameter, or a conjunct in its pre or post, there.
+    #[error("a parameter or a contract of `init`")]
+    InitShape(Place, Name),
+    /// Kind 29: a call names `init`.
+    #[error("a call of `init`")]
+    InitCalled(Place, Name),
     /// A growth was refused.
     #[error("out of memory")]
     OutOfMemory,

@@ -22,6 +22,8 @@ fn place_of(fault: Fault) -> Place
         Fault::Foreign(word) => word.place,
         Fault::Missing(place, _) => place,
         Fault::TooMany(place) => place,
+        Fault::InitShape(place) => place,
+        Fault::InitCalled(word) => word.place,
     }
 }
 
@@ -37,6 +39,8 @@ fn kind_of(fault: Fault) -> u32
         Fault::Foreign(_) => 24,
         Fault::Missing(_, _) => 25,
         Fault::TooMany(_) => 26,
+        Fault::InitShape(_) => 28,
+        Fault::InitCalled(_) => 29,
     }
 }
 
@@ -101,5 +105,7 @@ pub fn named_fault(alloc: Global, bytes: &[u8], fault: Fault) -> Result<NameFaul
             Name::new(alloc, link_name(link))?,
         )),
         Fault::TooMany(place) => Ok(NameFault::TooMany(place)),
+        Fault::InitShape(place) => Ok(NameFault::InitShape(place, Name::new(alloc, "init".as_bytes())?)),
+        Fault::InitCalled(word) => Ok(NameFault::InitCalled(word.place, name(alloc, bytes, word)?)),
     }
 }

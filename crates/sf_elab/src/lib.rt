@@ -17,6 +17,7 @@
 //! - `assertions`: assertions, numbered.
 //! - `commands`: commands, numbered.
 //! - `procedures`: procedures and resources, numbered.
+//! - `shape`: the procedure named `init`.
 //! - `elaboration`: the call `elaborate`.
 //! - `laws`: laws of elaboration.
 #![tactic(auto)]
@@ -33,6 +34,7 @@ mod flat;
 pub mod laws;
 mod levels;
 mod procedures;
+mod shape;
 mod table;
 mod texts;
 

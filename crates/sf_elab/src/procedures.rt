@@ -10,7 +10,7 @@ ghost use Rattle.sf_elab.specs.Bodies.Commands.{all_faults, commands_faults, com
 ghost use Rattle.sf_elab.specs.Annotations.Assertions.{maybe_faults, maybe_of, annotation_faults};
 ghost use Rattle.sf_elab.specs.Names.Declarations.{procedures_in, resources_in, numbered, numbered_faults, references_of, shared_by, values_of};
 ghost use Rattle.sf_elab.specs.Files.Elaborated.{invariants_faults, resources_from};
-ghost use Rattle.sf_elab.specs.Bodies.Procedures.{local_words, is_among, is_primed, parameters_of, declared_count, body_values, body_variables, own_names, first_assignments, outside_of, inside_of, procedure_of, parameter_faults, local_faults, procedure_faults, invariant_of, resource_of};
+ghost use Rattle.sf_elab.specs.Bodies.Procedures.{local_words, is_among, is_primed, parameters_of, declared_count, body_values, body_variables, own_names, first_assignments, outside_of, inside_of, procedure_of, parameter_faults, init_faults, local_faults, procedure_faults, invariant_of, resource_of};
 ghost use Rattle.sf_elab.specs.Names.Table.{has};
 ghost use Rattle.sf_elab.specs.Names.Texts.{text as word_text};
 
@@ -22,6 +22,7 @@ use crate::declarations::{
 use crate::declared::Declared;
 use crate::env::Env;
 use crate::fault::Fault;
+use crate::shape::add_shape;
 use crate::table::Table;
 use crate::texts::{name, text};
 use sf_ast::{Item, SurfaceCommand, SurfaceNames, SurfaceProcedure, SurfaceResource, Word};
@@ -331,6 +332,35 @@ fn add_body(
     add_commands(alloc, &env, &f.body, &mut body.first, found)
 }
 
+/// A procedure's pre and post, which see its parameters, with what is wrong where it is named
+/// `init`.
+fn contract(
+    alloc: Global,
+    bytes: &[u8],
+    declared: &Declared,
+    own: &Table<Var>,
+    f: &SurfaceProcedure,
+    found: &mut Vec<Fault>,
+) -> Result<(Assertion, Assertion), AllocError>
+    requires { own.now ≡ parameters_of bytes.now (surface_procedure f.now) }
+    ensures pre { IfOk result (λ x. core.assertion_of x.0
+        ≡ maybe_of (outside_of bytes.now declared.now (surface_procedure f.now))
+        (surface_procedure f.now).pre) }
+    ensures post { IfOk result (λ x. core.assertion_of x.1
+        ≡ maybe_of (outside_of bytes.now declared.now (surface_procedure f.now))
+        (surface_procedure f.now).post) }
+    ensures faults { Appends result found.old.items found.new.items
+        (maybe_faults (outside_of bytes.now declared.now (surface_procedure f.now))
+        (surface_procedure f.now).pre
+        ++ maybe_faults (outside_of bytes.now declared.now (surface_procedure f.now))
+        (surface_procedure f.now).post
+        ++ init_faults bytes.now declared.now (surface_procedure f.now)) }
+{
+    let (pre, post) = annotations(alloc, bytes, declared, own, f, found)?;
+    add_shape(bytes, f, &pre.level, &post.level, found)?;
+    Ok((pre, post))
+}
+
 /// A procedure's pre and post, which see its parameters.
 fn annotations(
     alloc: Global,
@@ -445,7 +475,7 @@ fn procedure(
     let parameters = parameters(alloc, bytes, f, found)?;
     let references = parameters.references;
     let values = parameters.words.len() - references;
-    let (pre, post) = annotations(alloc, bytes, declared, &parameters.own, f, found)?;
+    let (pre, post) = contract(alloc, bytes, declared, &parameters.own, f, found)?;
     let inside = inside(alloc, bytes, declared, f, parameters, found)?;
     Ok(Proc {
         name,

@@ -1,5 +1,5 @@
--- Where a run begins: the entry's frame, and the variables that come up.
--- Names: `entry_LAW` speaks of the frame, `table_LAW` of the variables of resources, `store_LAW` of all.
+-- Where a run begins: the first frames, and the variables that come up.
+-- Names: `entry_LAW` and `init_LAW` speak of frames, `table_LAW` of the variables of resources, `store_LAW` of all.
 use Rattle.std.specs.Prelude.{◌≡◌, ℕ, zero, suc, ◌+◌, ◌-◌, ◌<◌, ◌≤◌, ◌==◌, Bool, true, false, ◌&&◌, ◌||◌, ltb, List, [], ◌∷◌, ◌++◌, length, get_or, slice_get, Some}
 use Rattle.std.proofs.Common.{sym, ap, ◌∙◌, refl, subst, inl, inr, arith, length-append}
 use Rattle.std.proofs.lemmas.Bool.{cases_lt}
@@ -13,7 +13,7 @@ use Rattle.sf_base.specs.HeapStore.{Slot, shared, own, same_slot}
 use Rattle.sf_core.specs.declared.command.Command.{Command as CodeCommand}
 use Rattle.sf_core.specs.declared.program.Proc.{Proc}
 use Rattle.sf_core.specs.Machine.Config.{Item, Frame, items}
-use Rattle.sf_core.specs.Machine.Start.{entry_slot, entry_frame}
+use Rattle.sf_core.specs.Machine.Start.{entry_slot, entry_frame, init_slot, init_frame}
 use Rattle.sf_core.specs.Program.View.{block_of, command_of, procedure_of}
 use Rattle.sf_machine.specs.declared.frame.Frame.{Frame as CodeFrame}
 use Rattle.sf_machine.specs.declared.frame.Room.{Room as CodeRoom}
@@ -81,6 +81,27 @@ entry_is f g frame e h ev first count todo = λ i. record {
     procedure = e i;
     slots = λ x. entry_slots frame.references.items frame.room g.references h ev first x i;
     room = record { event = ev i; first = first i; count = count i };
+  };
+  todo = (todo ∙ items_block g.body.items) i;
+}
+
+-- the variables of the procedure that sets the resources up name their own slots
+init_slots : (ss : List Spot) (room : CodeRoom) (first : ℕ) → ss ≡ [] → room.event ≡ 0 → room.first ≡ first
+    → (x : Var) → slots_in ss room x ≡ init_slot first x
+init_slots ss room first none e f (shared_variable r i) = refl
+init_slots ss room first none e f (own_variable i) =
+    ap (λ z. own_slot_in z room i) none ∙ (λ k. own (e k) (f k + i))
+
+-- its frame
+pub init_is : (n : ProcId) (g : Proc) (first : ℕ) (frame : CodeFrame) → frame.procedure ≡ n
+    → frame.references.items ≡ [] → frame.room.event ≡ 0 → frame.room.first ≡ first
+    → frame.room.count ≡ length g.names.items - g.references
+    → todo_of frame.todo.items ≡ block_items g.body.items → frame_of frame ≡ init_frame n (procedure_of g) first
+init_is n g first frame e none ev at count todo = λ i. record {
+  fixed = record {
+    procedure = e i;
+    slots = λ x. init_slots frame.references.items frame.room first none ev at x i;
+    room = record { event = ev i; first = at i; count = count i };
   };
   todo = (todo ∙ items_block g.body.items) i;
 }

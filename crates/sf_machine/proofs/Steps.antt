@@ -1,11 +1,12 @@
 -- The step of an event: what was planned is its next configuration, or there is none for that reason.
 -- Names: `put_LAW` of the tree of tasks, `going_LAW` of tasks that may go on, `refuses_LAW` of reasons, `plan_KIND` for
 -- each kind of next step.
-use Rattle.std.specs.Prelude.{◌≡◌, ◌≢◌, ℕ, ◌==◌, true, false, List, [], ◌∷◌, length, Some}
-use Rattle.std.proofs.Common.{sym, ap, refl, subst, inl, inr, arith}
+use Rattle.std.specs.Prelude.{◌≡◌, ◌≢◌, ℕ, ◌==◌, Bool, true, false, List, [], ◌∷◌, length, Some}
+use Rattle.std.proofs.Common.{sym, ap, ◌∙◌, refl, subst, inl, inr, arith}
 use Rattle.std.proofs.lemmas.Bool.Decides.{nat_tests}
 use Rattle.std.proofs.lemmas.Option.{same_Some}
 use Rattle.sf_base.proofs.Options.{some-once}
+use Rattle.sf_base.specs.declared.ids.ProcId.{ProcId}
 use Rattle.sf_base.specs.declared.ids.ResId.{ResId}
 use Rattle.sf_base.specs.declared.path.Turn.TheVariants.{Left as left, Right as right}
 use Rattle.sf_core.specs.Machine.Config.{Item, command, leave, Room, Fixed, Frame, Task, runs, waits, Path, Common, Config, task_at, put_task, IsCalled, IsOver}
@@ -13,7 +14,8 @@ use Rattle.sf_core.specs.Machine.Enabled.{HasEnded}
 use Rattle.sf_core.specs.Checked.Machine.InOrder.{IsInOrder}
 use Rattle.sf_core.specs.Checked.Machine.Laws.{ExitsAreOfHeldResources}
 use Rattle.sf_core.specs.Machine.Next.{Next, does, leaves, returns, joins, nothing, next}
-use Rattle.sf_core.specs.Machine.Step.{Event, Step, close_room, task_with}
+use Rattle.sf_core.specs.Machine.Step.{Event, Step, close_room, free_all_if, task_with}
+use Rattle.sf_core.specs.Program.Init.{sets_up}
 use Rattle.sf_core.specs.Program.Syntax.{Command, assign, look_up, mutate, new, dispose, if, while, call, fork, with, Procedure, Program}
 use Rattle.sf_core.specs.Machine.SpentSteps.{NeedsNoChild}
 use Rattle.sf_core.proofs.Machine.Laws.{exits_are_of_held_resources}
@@ -154,7 +156,7 @@ going_next c path t n (Leaves r) e there k some = record {
   going = subst (λ (z : Task). HasEnded path z → ⊥) (sym k.3) (busy_goes path k.0 _ k.2 k.1);
   alone = subst NeedsNoChild (sym k.3) tt;
 }
-going_next c path t n (Returns room) e there k some = record {
+going_next c path t n (Returns g room) e there k some = record {
   there = there;
   going = subst (λ (z : Task). HasEnded path z → ⊥) (sym k.2) (done_goes path k.0 k.1 n e k.4);
   alone = subst NeedsNoChild (sym k.2) tt;
@@ -218,14 +220,20 @@ called [] (f ∷ below) n e k = tt
 called (turn ∷ path) below n e k = tt
 
 -- a return
-pub plan_returns : (p : Program) (ev : Event) (c : Config) (f : Fixed) (below : List Frame) (room : CodeRoom) (n : ℕ)
-    → c.used ev.number ≡ false → task_at ev.task c.tasks ≡ Some (task_with f [] below) → f.room ≡ room_of room
-    → n ≡ length ev.task → ((n == 0) ≡ true → below ≢ []) → PlansEvent p ev c (Acts (Close room) Return)
-plan_returns p ev c f below room n fresh there is e k = record {
+pub plan_returns : (p : Program) (ev : Event) (c : Config) (f : Fixed) (below : List Frame) (g : ProcId)
+    (room : CodeRoom) (all : Bool) (n : ℕ) → c.used ev.number ≡ false
+    → task_at ev.task c.tasks ≡ Some (task_with f [] below) → f.room ≡ room_of room → n ≡ length ev.task
+    → ((n == 0) ≡ true → below ≢ []) → f.procedure ≡ g → all ≡ sets_up p g
+    → PlansEvent p ev c (Acts (Close room all) Return)
+plan_returns p ev c f below g room all n fresh there is e k who so = record {
   fresh = fresh;
   task = task_with f [] below;
   there = there;
-  steps = (called ev.task below n e k, ap (λ (z : Room). close_room z c.common) (sym is), refl);
+  steps = (
+    called ev.task below n e k,
+    λ i. free_all_if ((so ∙ ap (sets_up p) (sym who)) i) (close_room (sym is i) c.common),
+    refl,
+  );
   suits = tt;
   within = tt;
 }

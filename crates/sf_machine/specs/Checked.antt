@@ -4,6 +4,7 @@ pub mod Calls
 pub mod Effects
 pub mod Endings
 pub mod Entries
+pub mod Firsts
 pub mod Missing
 pub mod Nexts
 pub mod Noting

@@ -34,7 +34,7 @@ pub fn accesses(p: &Program, c: &Config<'_>, task: TaskPath) -> Result<Accesses,
                     note_writes(&mut writes, &c.common.store, frame, command)?;
                 }
             }
-            Next::Returns(room) => note_room(&mut writes, room)?,
+            Next::Returns(_, room) => note_room(&mut writes, room)?,
             Next::Leaves(_) => {}
             Next::Joins => {}
             Next::Nothing => {}

@@ -54,8 +54,9 @@ pub(crate) fn apply(common: &mut Common, event: &Event, effect: Effect) -> Resul
         }
         Effect::Open(opening) => open(&mut common.store, opening.room, &opening.values),
         Effect::OpenBoth(one, two) => open_both(&mut common.store, &one, &two),
-        Effect::Close(room) => {
+        Effect::Close(room, all) => {
             close(&mut common.store, room);
+            free_all_if(&mut common.held, all);
             Ok(())
         }
     }
@@ -120,4 +121,13 @@ fn free(held: &mut BTreeMap<u32, TaskPath>, r: ResId)
     ensures { (q : R) → held_of held.new q ≡ cond (q.0 == r.0) None (held_of held.old q) }
 {
     let _ = held.remove(&r.0);
+}
+
+/// Every resource is free from now on, where it is so.
+fn free_all_if(held: &mut BTreeMap<u32, TaskPath>, so: bool)
+    ensures { (q : R) → held_of held.new q ≡ cond so None (held_of held.old q) }
+{
+    if so {
+        held.clear();
+    }
 }

@@ -12,7 +12,8 @@ pub(crate) struct Opening {
 }
 
 /// What an event makes of what all tasks share: a variable or a field gets a value, a cell comes up
-/// or vanishes, a resource is held or free, rooms come up or vanish.
+/// or vanishes, a resource is held or free, rooms come up or vanish. With a room that vanishes every
+/// resource is free, where it says so.
 #[derive(Drop)]
 pub(crate) enum Effect {
     Nothing,
@@ -24,5 +25,5 @@ pub(crate) enum Effect {
     Free(ResId),
     Open(Opening),
     OpenBoth(Opening, Opening),
-    Close(Room),
+    Close(Room, bool),
 }

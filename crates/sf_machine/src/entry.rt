@@ -1,7 +1,7 @@
-//! The frame of the entry.
+//! The first frames of a run.
 
 ghost use Rattle.std.specs.Prelude.{◌≡◌, ◌-◌, ◌<◌, ◌≤◌, ◌^◌, length, IfOk};
-ghost use Rattle.sf_core.specs.Machine.Start.{entry_frame};
+ghost use Rattle.sf_core.specs.Machine.Start.{entry_frame, init_frame};
 ghost use Rattle.sf_core.specs.Program.View.{procedure_of};
 ghost use Rattle.sf_machine.specs.Checked.Entries.{AreEntrySpots};
 ghost use Rattle.sf_machine.specs.Tasks.{frame_of};
@@ -39,6 +39,32 @@ pub(crate) fn entry_frame<'p>(
         room: Room {
             event: 0,
             first: procedure.references,
+            count: room_count(procedure),
+        },
+        todo,
+    })
+}
+
+/// The frame of the procedure that sets the resources up, with its whole body to do: its slots come
+/// from that index on.
+pub(crate) fn init_frame<'p>(
+    alloc: Global,
+    n: ProcId,
+    procedure: &'p Proc,
+    first: u32,
+) -> Result<Frame<'p>, AllocError>
+    requires few { length procedure.now.names.items < 2 ^ 32 }
+    requires references { procedure.now.references ≤ length procedure.now.names.items }
+    ensures { IfOk result (λ frame. frame_of frame
+        ≡ init_frame n (procedure_of procedure.now) first) }
+{
+    let todo = first_todo(alloc, &procedure.body)?;
+    Ok(Frame {
+        procedure: n,
+        references: Vec::new(alloc),
+        room: Room {
+            event: 0,
+            first,
             count: room_count(procedure),
         },
         todo,

@@ -7,7 +7,7 @@ ghost use Rattle.sf_machine.specs.Tasks.{task_of, frame_of};
 
 use crate::frame::{Frame, Room, Todo};
 use crate::task::Task;
-use sf_base::ResId;
+use sf_base::{ProcId, ResId};
 use sf_core::Command;
 
 /// What a task does next, where it hasn't ended and needn't wait for its children.
@@ -15,7 +15,7 @@ use sf_core::Command;
 pub(crate) enum Next<'a, 'p> {
     Does(&'a Frame<'p>, &'p Command),
     Leaves(ResId),
-    Returns(Room),
+    Returns(ProcId, Room),
     Joins,
     Nothing,
 }
@@ -46,7 +46,7 @@ fn frame_next<'a, 'p>(frame: &'a Frame<'p>, is_alone: bool, is_entry: bool) -> N
         return if is_entry && is_alone {
             Next::Nothing
         } else {
-            Next::Returns(frame.room)
+            Next::Returns(frame.procedure, frame.room)
         };
     };
     match *todo {

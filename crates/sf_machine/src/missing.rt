@@ -32,7 +32,7 @@ pub fn absent(c: &Config<'_>, task: TaskPath) -> Option<Value>
     match next_of(at, task.len() == 0) {
         Next::Does(frame, command) => missed(&c.common, frame, command),
         Next::Leaves(_) => None,
-        Next::Returns(_) => None,
+        Next::Returns(_, _) => None,
         Next::Joins => None,
         Next::Nothing => None,
     }

@@ -65,7 +65,10 @@ fn plan<'p>(p: &'p Program, c: &Config<'p>, e: &Event) -> Result<Plan<'p>, Alloc
     match next {
         Next::Does(frame, command) => plan_command(p, &c.common, e, frame, command),
         Next::Leaves(r) => Ok(Plan::Acts(Effect::Free(r), Change::GoOn(GoOn::after()))),
-        Next::Returns(room) => Ok(Plan::Acts(Effect::Close(room), Change::Return)),
+        Next::Returns(g, room) => {
+            let all = p.is_init(g);
+            Ok(Plan::Acts(Effect::Close(room, all), Change::Return))
+        }
         Next::Joins => Ok(Plan::Acts(Effect::Nothing, Change::Join)),
         Next::Nothing => Ok(Plan::Refused(Stepped::NoTask)),
     }

@@ -112,7 +112,7 @@ some-at [] i below = absurd (omega (arith, below))
 some-at (x ∷ xs) zero below = (x, refl)
 some-at (x ∷ xs) (suc i) below = some-at xs i (omega (arith, below))
 
-if-some : {A : Type 0} (P : A → Type 0) (o : Option A) → ((x : A) → o ≡ Some x → P x) → IfSome o P
+pub if-some : {A : Type 0} (P : A → Type 0) (o : Option A) → ((x : A) → o ≡ Some x → P x) → IfSome o P
 if-some P None h = tt
 if-some P (Some x) h = h x refl
 

@@ -6,6 +6,7 @@ use Rattle.std.specs.List.{AllZip}
 use Rattle.sf_base.specs.declared.place.Place.{Place}
 use Rattle.sf_base.specs.First.{is_before}
 use Rattle.sf_core.specs.Program.Heads.{head_invariants, sites}
+use Rattle.sf_core.specs.Program.Init.{is_init}
 use Rattle.sf_core.specs.Program.Syntax.{Assertion, Block, Procedure, Program}
 use Rattle.sf_precise.specs.Order.{IsOrderOf}
 use Rattle.sf_precise.specs.Taken.{NeverTakenAt}
@@ -17,6 +18,10 @@ loops_in b = flat_map (λ s. head_invariants s.command) (sites [] b)
 -- a procedure's annotations in text order: its pre, the invariants of its loops, its post
 abbrev pub notes_of : Procedure → List Assertion
 notes_of f = f.pre ∷ (loops_in f.body ++ f.post ∷ [])
+
+-- what the return of a procedure owes: its post, or the invariant of each resource where it sets the resources up
+abbrev pub owed : Program → Procedure → List Assertion
+owed p f = cond (is_init f) (map (λ r. r.invariant) p.resources) (f.post ∷ [])
 
 -- the annotations of a program: the resources' invariants, and then those of the procedures, each in
 -- file order

@@ -4,7 +4,7 @@ ghost use Rattle.sf_core.specs.Program.ProgramView.{program_of};
 ghost use Rattle.sf_calls.specs.Changes.{changes_in};
 ghost use Rattle.sf_calls.specs.FirstBreach.{Conditions};
 ghost use Rattle.sf_calls.specs.Sets.{AreSetsOf};
-ghost use Rattle.sf_precise.specs.Annotations.{AreOrdersOf, annotations_in};
+ghost use Rattle.sf_precise.specs.Annotations.{AreOrdersOf, annotations_in, owed};
 ghost use Rattle.sf_precise.specs.Checked.Starts.{starts_from};
 ghost use Rattle.sf_precise.specs.Order.{IsOrderOf};
 
@@ -13,6 +13,7 @@ use sf_base::{ProcId, ResId};
 use sf_calls::{Calls, VarSet};
 use sf_core::{Command, Ordered, Program};
 use std::alloc::{AllocError, Global};
+use std::slice;
 
 /// A program, what its calls reach, and its annotations in order. It keeps that the calls are the
 /// program's, that no condition on its variables is broken, and that each order is that of its
@@ -76,5 +77,30 @@ impl Arranged {
     {
         orders_from_truncation();
         &self.orders[self.starts[f.0 as usize + 1] - 1]
+    }
+
+    /// What the procedure's return owes, in order: its post, or the invariant of each resource where
+    /// it sets the resources up.
+    pub fn owed(&self, f: ProcId) -> &[Ordered]
+        requires { f.0 < length self.now.program.procedures.items }
+        ensures { IfSome (slice_get (program_of self.now.program).procedures f.0)
+            (λ h. AreOrdersOf (owed (program_of self.now.program) h)
+            (map (λ o. assertion_of o.assertion) result.now)) }
+    {
+        if self.program.is_init(f) {
+            self.invariants()
+        } else {
+            slice::from_ref(self.post(f))
+        }
+    }
+
+    /// The invariants of all resources, in order.
+    fn invariants(&self) -> &[Ordered]
+        ensures { AreOrdersOf
+            (map (λ r. r.invariant) (program_of self.now.program).resources)
+            (map (λ o. assertion_of o.assertion) result.now) }
+    {
+        orders_from_truncation();
+        &self.orders[..self.program.resources.len()]
     }
 }

@@ -2,7 +2,7 @@
 //! read from texts.
 
 use sf_calls::reach;
-use sf_core::{Links, Program};
+use sf_core::{Links, Proc, Program};
 use sf_vars::conditions;
 use std::test::Fail;
 
@@ -11,11 +11,14 @@ fn an_empty_program_breaks_nothing(rt: HostRuntime) -> Result<(), Fail> {
     let alloc = rt.alloc();
     let fields = Vec::new(alloc);
     let links = Links::among(&fields);
+    let procedures = Vec::new(alloc);
+    let init = Proc::init_among(&procedures);
     let p = Program {
         fields,
         resources: Vec::new(alloc),
-        procedures: Vec::new(alloc),
+        procedures,
         links,
+        init,
     };
     let calls = reach(alloc, &p)?;
     assert!(rt; conditions(alloc, &p, &calls).is_ok());

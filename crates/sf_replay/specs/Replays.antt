@@ -1,7 +1,7 @@
 -- Replays: what comes of a list of events from a configuration on, where each configuration is looked at before its
 -- next event, and the last one too.
 -- O'Hearn (2007); Brookes (2007): an interleaving is such a list.
-use Rattle.std.specs.Prelude.{◌≡◌, ◌≤◌, ℕ, List, [], ◌∷◌, Some, length, take}
+use Rattle.std.specs.Prelude.{◌≡◌, ◌≤◌, ℕ, Bool, List, [], ◌∷◌, Some, length, take}
 use Rattle.std.specs.List.{slice_get}
 use Rattle.sf_base.specs.declared.ids.ProcId.{ProcId}
 use Rattle.sf_core.specs.Machine.Bad.{Bad}
@@ -65,8 +65,9 @@ abbrev pub Stops : Program → Config → List Event → ReplayFault → Type 0
 Stops p start events (NotAnEvent number why) = LeadsTo p start events number (IsStuckAt p events number why)
 Stops p start events OutOfMemory = ⊥
 
--- it holds of the configuration in which procedure f starts with these variables and cells
-pub record FromStart (p : Program) (f : ProcId) (vars : Vars) (heap : Cells) (What : Config → Type 0) : Type 0 where
+-- it holds of the configuration in which procedure f starts, fresh or not, with these variables and cells
+pub record FromStart (p : Program) (f : ProcId) (is_fresh : Bool) (vars : Vars) (heap : Cells) (What : Config → Type 0)
+    : Type 0 where
   pub start : Config
-  pub begins : Begins p f vars heap start
+  pub begins : Begins p f is_fresh vars heap start
   pub what : What start

@@ -77,14 +77,14 @@ pub fn replay(
     start: Start,
     events: &Schedule,
 ) -> Result<Found, ReplayFault>
-    requires starts { StartsWith (program_of p.now.program) f start.vars start.heap
+    requires starts { StartsWith (program_of p.now.program) f start.fresh start.vars start.heap
         start.parts.items }
     requires fields { All (IsWide (length p.now.program.fields.items)) events.now }
     ensures { MatchResult result
-        (λ found. FromStart (program_of p.now.program) f start.vars start.heap
+        (λ found. FromStart (program_of p.now.program) f start.fresh start.vars start.heap
         (λ c. Finds (program_of p.now.program) c (events_of events.now) found))
         (λ fault. (fault ≡ ReplayFault.OutOfMemory)
-        ⊎ FromStart (program_of p.now.program) f start.vars start.heap
+        ⊎ FromStart (program_of p.now.program) f start.fresh start.vars start.heap
         (λ c. Stops (program_of p.now.program) c (events_of events.now) fault)) }
 {
     let mut c = begin(alloc, &p.program, f, start)?;

@@ -1,5 +1,5 @@
 -- The variables of what a procedure holds are few; the first goal by what the code puts there.
-use Rattle.std.proofs.Common.{append_assoc, ◌≡◌, ℕ, zero, suc, ◌<◌, ◌≤◌, ◌^◌, List, [], ◌∷◌, ◌++◌, All, AllPairs, get_or, length, IfSome, Option, Some, None, refl, sym, ap, ◌∙◌, subst, arith}
+use Rattle.std.proofs.Common.{append_assoc, ◌≡◌, ℕ, zero, suc, ◌<◌, ◌≤◌, ◌^◌, List, [], ◌∷◌, ◌++◌, All, AllPairs, get_or, length, IfSome, map, Option, Some, None, refl, sym, ap, ap₂, ◌∙◌, subst, arith}
 use Rattle.std.specs.List.{flat_map, slice_get}
 use Rattle.std.specs.Option.{option_map, unwrap_or}
 use Rattle.std.proofs.lemmas.List.Concat.{flat_map-cons, length-flat_map}
@@ -13,6 +13,7 @@ use Rattle.sf_core.specs.Program.Formed.{IsFormed}
 use Rattle.sf_core.specs.Program.ProgramView.{program_of}
 use Rattle.sf_core.specs.Program.Syntax.{Assertion, Procedure, Program, Resource}
 use Rattle.sf_precise.specs.declared.arranged.Arranged.{Arranged}
+use Rattle.sf_precise.specs.Annotations.{AreOrdersOf, owed}
 use Rattle.sf_precise.specs.Order.{IsOrderOf, IsOrdering}
 use Rattle.sf_sym.specs.declared.term.Term.{Term}
 use Rattle.sf_sym.specs.Goal.{Goal, Item, return, to_run}
@@ -106,27 +107,39 @@ held_there p sets f rs formed own law at k d below =
     law p formed f (get_or rs k d)
     (((own.holds.is f rs at).members (get_or rs k d)).0 (Contains-get_or rs k d below))
 
+-- assertions in their orders
+orders_are : (ordered : Assertion → Assertion) → IsOrdering ordered → (notes orders : List Assertion)
+    → AreOrdersOf notes orders → orders ≡ map ordered notes
+orders_are ordered is [] [] z = refl
+orders_are ordered is [] (o ∷ os) z = absurd z
+orders_are ordered is (n ∷ ns) [] z = absurd z
+orders_are ordered is (n ∷ ns) (o ∷ os) z =
+    ap₂ (λ a others. a ∷ others) (sym (is.ordered n o z.0)) (orders_are ordered is ns os z.1)
+
 -- the first goal by what the code puts there
 pub first_left : (d : Setting) (a : Arranged) (f : ProcId) (g : Procedure) (s : State) (vars : List (Var × Term))
-    (pre post : Assertion) (last todo : List Item) → IsOrdering d.ordered → d ≡ setting_of d.ordered a
+    (pre : Assertion) (due : List Assertion) (last todo : List Item) → IsOrdering d.ordered → d ≡ setting_of d.ordered a
     → slice_get (program_of a.program).procedures f.0 ≡ Some g
     → s ≡ state_by (program_of a.program) (get_or a.calls.holds f.0 []) g → vars ≡ s.vars
     → IfSome (slice_get (program_of a.program).procedures f.0) (λ h. IsOrderOf h.pre pre)
-    → IfSome (slice_get (program_of a.program).procedures f.0) (λ h. IsOrderOf h.post post)
-    → last ≡ to_run g.body ++ (return g.end post ∷ []) → todo ≡ to_add g.place (term vars) pre ++ last
+    → IfSome (slice_get (program_of a.program).procedures f.0) (λ h. AreOrdersOf (owed (program_of a.program) h) due)
+    → last ≡ to_run g.body ++ (return g.end due ∷ []) → todo ≡ to_add g.place (term vars) pre ++ last
     → IfSome (slice_get d.program.procedures f.0) (λ h. goal_of_parts s todo ≡ first_goal d f h)
-first_left d a f g s vars pre post last todo ordering e at is v first end l t =
+first_left d a f g s vars pre due last todo ordering e at is v first end l t =
     let here : slice_get d.program.procedures f.0 ≡ Some g =
     ap (λ (z : Setting). slice_get z.program.procedures f.0) e ∙ at in
     let state : s ≡ first_state_of d f g = is ∙ ap (λ (z : Setting). first_state_of z f g) (sym e) in
     let asked : pre ≡ d.ordered g.pre = sym (ordering.ordered g.pre pre
     (some-holds (λ h. IsOrderOf h.pre pre) (slice_get (program_of a.program).procedures f.0) g at first)) in
-    let promised : post ≡ d.ordered g.post = sym (ordering.ordered g.post post
-    (some-holds (λ h. IsOrderOf h.post post) (slice_get (program_of a.program).procedures f.0) g at end)) in
+    let promised : due ≡ map d.ordered (owed d.program g) =
+    orders_are d.ordered ordering (owed (program_of a.program) g) due
+    (some-holds (λ h. AreOrdersOf (owed (program_of a.program) h) due)
+    (slice_get (program_of a.program).procedures f.0) g at end)
+    ∙ ap (λ (z : Setting). map d.ordered (owed z.program g)) (sym e) in
     let same : vars ≡ (first_state_of d f g).vars = v ∙ ap (λ (z : State). z.vars) state in
-    let due : todo ≡ to_add g.place (term (first_state_of d f g).vars) (d.ordered g.pre)
-    ++ (to_run g.body ++ (return g.end (d.ordered g.post) ∷ [])) =
+    let all : todo ≡ to_add g.place (term (first_state_of d f g).vars) (d.ordered g.pre)
+    ++ (to_run g.body ++ (return g.end (map d.ordered (owed d.program g)) ∷ [])) =
     t ∙ ap (λ ys. to_add g.place (term vars) pre ++ ys) l
     ∙ (λ i. to_add g.place (term (same i)) (asked i) ++ (to_run g.body ++ (return g.end (promised i) ∷ []))) in
     subst (λ (o : Option Procedure). IfSome o (λ h. goal_of_parts s todo ≡ first_goal d f h)) (sym here)
-    (λ i. goal_of_parts (state i) (due i))
+    (λ i. goal_of_parts (state i) (all i))

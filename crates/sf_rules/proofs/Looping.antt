@@ -31,7 +31,7 @@ use Rattle.sf_rules.specs.Rows.Ends as ends
 use Rattle.sf_rules.specs.Rows.Front.{at_again, at_command, at_head, at_return}
 use Rattle.sf_rules.specs.Rows.Loops as loops
 use Rattle.sf_rules.specs.Setting.{Setting}
-use Rattle.sf_rules.specs.Words.{negation, pending_assertion, to_add, to_add_test, to_take}
+use Rattle.sf_rules.specs.Words.{negation, pending_assertion, to_add, to_add_test, to_take, to_take_each}
 use Rattle.sf_rules.proofs.Items.{to_run_of}
 
 -- the goal with that state and those items
@@ -68,11 +68,11 @@ module _ (s : State) (vars : List (Var × Term)) (v : vars ≡ s.vars) (p : Plac
       → todo ≡ to_take p (term s.vars) a ++ more
   due a todo next more t n = t ∙ (λ i. to_take p (term (v i)) a ++ n i)
 
-  pub return_left : (post : Assertion) (rest items last todo : List Item) → items ≡ return p post ∷ rest
-      → last ≡ end p ∷ [] → todo ≡ to_take p (term vars) post ++ last
+  pub return_left : (owed : List Assertion) (rest items last todo : List Item) → items ≡ return p owed ∷ rest
+      → last ≡ end p ∷ [] → todo ≡ to_take_each p (term vars) owed last
       → Some (goal_of_parts s todo ∷ []) ≡ at_return (ends.return_row s) items
-  return_left post rest items last todo i l t =
-      ap (λ ys. Some (goal_of_parts s ys ∷ [])) (due post todo last (end p ∷ []) t l)
+  return_left owed rest items last todo i l t =
+      ap (λ ys. Some (goal_of_parts s ys ∷ [])) (t ∙ (λ j. to_take_each p (term (v j)) owed (l j)))
       ∙ sym (ap (at_return (ends.return_row s)) i)
 
   module _ (d : Setting) (a : Assertion) where

@@ -88,12 +88,13 @@ module _ (todo : List Item) (left : List Goal) (P : Type 0) where
       go (exit p r ∷ rest) i e = then p r rest i e
       go _ i e = absurd (cc)
 
-  at-return : (row : Place → Assertion → List Item → Option (List Goal)) → at_return row todo ≡ Some left
-      → ((p : Place) (post : Assertion) (rest : List Item) → todo ≡ return p post ∷ rest → row p post rest ≡ Some left → P) → P
+  at-return : (row : Place → List Assertion → List Item → Option (List Goal)) → at_return row todo ≡ Some left
+      → ((p : Place) (owed : List Assertion) (rest : List Item) → todo ≡ return p owed ∷ rest
+      → row p owed rest ≡ Some left → P) → P
   at-return row e then = go todo refl e
     where
       go : (items : List Item) → todo ≡ items → at_return row items ≡ Some left → P
-      go (return p post ∷ rest) i e = then p post rest i e
+      go (return p owed ∷ rest) i e = then p owed rest i e
       go _ i e = absurd (cc)
 
   at-end : (row : Place → List Item → Option (List Goal)) → at_end row todo ≡ Some left
@@ -227,7 +228,7 @@ module _ (d : Setting) (g : Goal) (left : List Goal) where
 
   return-case : at_return (return_row g.state) g.todo ≡ Some left → Rows d g left
   return-case e = at-return g.todo left (Rows d g left) (return_row g.state) e
-      (λ p post rest i k. by_return p post rest i (only _ left k))
+      (λ p owed rest i k. by_return p owed rest i (only _ left k))
 
   end-case : at_end (end_row g.state) g.todo ≡ Some left → Rows d g left
   end-case e = at-end g.todo left (Rows d g left) (end_row g.state) e

@@ -2,6 +2,7 @@
 use Rattle.std.proofs.Common.{refl}
 use Rattle.sf_rules.specs.Checked.Examples.{NoCellIsAtNil, EmptyListsGo, ListsFromNilAreEmpty, SplitReplacesTheGreater, UnrolledPartsHaveACell, AssignedVariablesHaveTheTerm, LookedUpFieldsAreKnown, MutatedFieldsHaveTheTerm, NewCellsAreFresh, DisposedCellsGo, DecidedBranchesAreLeft}
 use Rattle.sf_rules.specs.Checked.ExamplesOfBodies.{CallsLeaveThreeItems, ForksLeaveFiveItems, GivenIsGone, RegionsBeginWithTheInvariant, RegionsEndWithTheInvariant, LoopsBeginWithTheInvariant, LoopsGoOnceAround, LoopsGiveNoTerms, BodiesEndWithTheInvariant, ReturnsShowThePostcondition, NothingIsLeftAtTheEnd}
+use Rattle.sf_rules.specs.Checked.ExamplesOfInit.{HoldersBeginWithThePrecondition, InitBeginsWithNil, InitShowsEachInvariant}
 use Rattle.sf_rules.specs.Checked.ExamplesOfConjuncts.{AddedCellsNameTheirFields, AddedTestsAreKnown, ChosenBranchesTakeTheirPlace, BoundExistentialsHaveTheTerm, OneTermIsTheSame, KnownTermsAreApart, WantedCellsAreHandedOver, EmptyPartsNeedNothing, ExactPartsAreHandedOver, HeadGoesOn, JoinGoesOn, NodeGoesOn}
 
 pub no_cell_is_at_nil : NoCellIsAtNil
@@ -87,6 +88,18 @@ bodies_end_with_the_invariant = refl
 pub returns_show_the_postcondition : ReturnsShowThePostcondition
 unfolding ReturnsShowThePostcondition
 returns_show_the_postcondition = refl
+
+pub init_begins_with_nil : InitBeginsWithNil
+unfolding InitBeginsWithNil
+init_begins_with_nil = refl
+
+pub holders_begin_with_the_precondition : HoldersBeginWithThePrecondition
+unfolding HoldersBeginWithThePrecondition
+holders_begin_with_the_precondition = refl
+
+pub init_shows_each_invariant : InitShowsEachInvariant
+unfolding InitShowsEachInvariant
+init_shows_each_invariant = refl
 
 pub nothing_is_left_at_the_end : NothingIsLeftAtTheEnd
 unfolding NothingIsLeftAtTheEnd

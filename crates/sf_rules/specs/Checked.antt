@@ -4,6 +4,7 @@ pub mod Children
 pub mod Examples
 pub mod ExamplesOfBodies
 pub mod ExamplesOfConjuncts
+pub mod ExamplesOfInit
 pub mod Front
 pub mod LawsOfCommands
 pub mod LawsOfConjuncts

@@ -1,6 +1,7 @@
 -- First: the goal with which the proof of a procedure begins.
 -- Berdine, Calcagno, O'Hearn, "Smallfoot" (2005): the precondition is assumed, the body run, the postcondition due.
-use Rattle.std.specs.Prelude.{ℕ, zero, suc, ◌+◌, ◌-◌, cond, Option, Some, None, List, [], ◌∷◌, ◌++◌, codes, get_or, length}
+-- O'Hearn, "Resources, Concurrency and Local Reasoning" (2007): what sets the resources up shows their invariants.
+use Rattle.std.specs.Prelude.{ℕ, zero, suc, ◌+◌, ◌-◌, Bool, true, false, cond, Option, Some, None, List, [], ◌∷◌, ◌++◌, codes, get_or, length, map}
 use Rattle.std.specs.List.{flat_map, slice_get}
 use Rattle.std.specs.Option.{option_map, unwrap_or}
 use Rattle.std.specs.Str.{bytes_eq}
@@ -10,12 +11,14 @@ use Rattle.sf_base.specs.declared.ids.ResId.{ResId}
 use Rattle.sf_base.specs.declared.ids.Var.{Var}
 use Rattle.sf_base.specs.declared.ids.Var.TheVariants.{Own}
 use Rattle.sf_core.specs.declared.fields.Links.{Links}
+use Rattle.sf_core.specs.Program.Init.{is_init}
 use Rattle.sf_core.specs.Program.Syntax.{Procedure, Program, Resource}
+use Rattle.sf_precise.specs.Annotations.{owed}
 use Rattle.sf_sym.specs.declared.term.Term.{Term}
 use Rattle.sf_sym.specs.declared.term.Term.TheVariants.{Nil, Sym}
 use Rattle.sf_sym.specs.Goal.{Goal, return, to_run}
 use Rattle.sf_sym.specs.State.{State, first_state, term}
-use Rattle.sf_sym.specs.Variables.{with_fresh}
+use Rattle.sf_sym.specs.Variables.{set_vars, with_fresh}
 use Rattle.sf_rules.specs.Rows.Regions.{variables_from}
 use Rattle.sf_rules.specs.Setting.{Setting}
 use Rattle.sf_rules.specs.Words.{to_add}
@@ -56,10 +59,25 @@ own_vars g =
     symbols 0 (g.references + g.values)
     ++ nils (g.references + g.values) (length g.names - (g.references + g.values))
 
--- the first state: a symbol, too, for each variable of the resources that it holds, and no cell
+-- nil for each of the variables, in their order
+abbrev pub nil_for : List Var → List (Var × Term)
+nil_for xs = map (λ x. (x, Nil)) xs
+
+-- the state in which each of the variables is nil
+abbrev pub with_nil : List Var → State → State
+with_nil xs s = record s { vars = set_vars (nil_for xs) s.vars }
+
+-- the variables of the resources that are held are there: each with a fresh symbol, or nil where they are still to be
+-- set up
+abbrev pub with_held : (sets_up : Bool) → List Var → State → State
+with_held false xs s = with_fresh xs s
+with_held true xs s = with_nil xs s
+
+-- the first state: the variables, too, of the resources that it holds, and no cell
 abbrev pub state_by : Program → (held : List ResId) → Procedure → State
 state_by p held g =
-    with_fresh (flat_map (variables_of p) held) (first_state (links_of p) (own_vars g) (g.references + g.values))
+    with_held (is_init g) (flat_map (variables_of p) held)
+    (first_state (links_of p) (own_vars g) (g.references + g.values))
 
 abbrev pub first_state_of : Setting → ProcId → Procedure → State
 first_state_of d f g = state_by d.program (get_or d.sets.holds f.0 []) g
@@ -69,5 +87,5 @@ abbrev pub first_goal : Setting → ProcId → Procedure → Goal
 first_goal d f g = record {
   state = first_state_of d f g;
   todo = to_add g.place (term (first_state_of d f g).vars) (d.ordered g.pre)
-      ++ (to_run g.body ++ (return g.end (d.ordered g.post) ∷ []));
+      ++ (to_run g.body ++ (return g.end (map d.ordered (owed d.program g)) ∷ []));
 }

@@ -1,6 +1,6 @@
 -- Words that many rows use: how assertions and tests become things to do.
 -- Berdine, Calcagno, O'Hearn, "Symbolic Execution with Separation Logic" (2005), section 4.
-use Rattle.std.specs.Prelude.{None, List, [], length, replicate}
+use Rattle.std.specs.Prelude.{None, List, [], ◌∷◌, ◌++◌, length, replicate}
 use Rattle.sf_base.specs.declared.place.Place.{Place}
 use Rattle.sf_core.specs.declared.assertion.Operand.TheVariants.{Known}
 use Rattle.sf_core.specs.declared.assertion.Test.{Test}
@@ -26,6 +26,11 @@ to_add p to a = adding p (pending_assertion to a)
 -- to show an assertion
 abbrev pub to_take : Place → (Expr → Term) → Assertion → List Item
 to_take p to a = taking p (pending_assertion to a) a.names
+
+-- to show assertions, one after the other, before those things to do
+abbrev pub to_take_each : Place → (Expr → Term) → List Assertion → List Item → List Item
+to_take_each p to [] rest = rest
+to_take_each p to (a ∷ others) rest = to_take p to a ++ to_take_each p to others rest
 
 -- a test as conjuncts: none, if it is always true
 abbrev pub test_conjuncts : Place → (Expr → Term) → Test Expr → Conjuncts Term

@@ -3,6 +3,7 @@
 
 ghost use Rattle.sf_rules.specs.Checked.Examples.{AssignedVariablesHaveTheTerm, DecidedBranchesAreLeft, DisposedCellsGo, EmptyListsGo, ListsFromNilAreEmpty, LookedUpFieldsAreKnown, MutatedFieldsHaveTheTerm, NewCellsAreFresh, NoCellIsAtNil, SplitReplacesTheGreater, UnrolledPartsHaveACell};
 ghost use Rattle.sf_rules.specs.Checked.ExamplesOfBodies.{BodiesEndWithTheInvariant, CallsLeaveThreeItems, ForksLeaveFiveItems, GivenIsGone, LoopsBeginWithTheInvariant, LoopsGiveNoTerms, LoopsGoOnceAround, NothingIsLeftAtTheEnd, RegionsBeginWithTheInvariant, RegionsEndWithTheInvariant, ReturnsShowThePostcondition};
+ghost use Rattle.sf_rules.specs.Checked.ExamplesOfInit.{HoldersBeginWithThePrecondition, InitBeginsWithNil, InitShowsEachInvariant};
 ghost use Rattle.sf_rules.specs.Checked.ExamplesOfConjuncts.{AddedCellsNameTheirFields, AddedTestsAreKnown, BoundExistentialsHaveTheTerm, ChosenBranchesTakeTheirPlace, EmptyPartsNeedNothing, ExactPartsAreHandedOver, HeadGoesOn, JoinGoesOn, KnownTermsAreApart, NodeGoesOn, OneTermIsTheSame, WantedCellsAreHandedOver};
 
 /// A state with a cell at nil is absurd.
@@ -129,6 +130,24 @@ pub fn bodies_end_with_the_invariant()
 #[tactic(auto, using(crate::proofs::SmallRows::returns_show_the_postcondition))]
 pub fn returns_show_the_postcondition()
     ensures { ReturnsShowThePostcondition }
+{}
+
+/// The procedure that sets the resources up begins with their variables at nil and nothing assumed.
+#[tactic(auto, using(crate::proofs::SmallRows::init_begins_with_nil))]
+pub fn init_begins_with_nil()
+    ensures { InitBeginsWithNil }
+{}
+
+/// A procedure that holds a resource begins with a symbol for its variable and the precondition.
+#[tactic(auto, using(crate::proofs::SmallRows::holders_begin_with_the_precondition))]
+pub fn holders_begin_with_the_precondition()
+    ensures { HoldersBeginWithThePrecondition }
+{}
+
+/// The procedure that sets the resources up ends by showing the invariant of each, and nothing else.
+#[tactic(auto, using(crate::proofs::SmallRows::init_shows_each_invariant))]
+pub fn init_shows_each_invariant()
+    ensures { InitShowsEachInvariant }
 {}
 
 /// At the end of all no part of the heap is left.

@@ -1,6 +1,6 @@
 //! What is in front of what there is to do.
 
-ghost use Rattle.std.specs.Prelude.{◌≡◌, ◌++◌, ◌∷◌, [], ℕ, IfNone, IfOk, IfSome, List, None, Option, false, true};
+ghost use Rattle.std.specs.Prelude.{◌≡◌, ◌++◌, ◌∷◌, [], ℕ, IfNone, IfOk, IfSome, List, None, Option, false, map, true};
 ghost use Rattle.sf_core.specs.Program.Syntax.{Assertion as AssertionOf, Block, Command as CommandOf};
 ghost use Rattle.sf_core.specs.Program.View.{assertion_of, block_of, command_of};
 ghost use Rattle.sf_core.specs.declared.assertion.Test.{Test as TestOf};
@@ -15,7 +15,7 @@ ghost use Rattle.sf_rules.specs.Checked.Front.{thing_of};
 ghost use Rattle.sf_rules.specs.Rows.Front.{at_add, at_again, at_command, at_end, at_exit, at_gave, at_head, at_return, at_take};
 
 use sf_base::{Name, Place, ResId, Var};
-use sf_core::{Assertion, Command, Expr, Test};
+use sf_core::{Assertion, Command, Expr, Ordered, Test};
 use sf_sym::{Item, Pending, Term, next_item};
 use std::alloc::AllocError;
 
@@ -37,7 +37,7 @@ pub(crate) enum Front<'a> {
     /// The end of a region.
     Exit(Place, ResId),
     /// The end of the procedure.
-    Return(Place, &'a Assertion),
+    Return(Place, &'a [Ordered]),
     /// The end of all.
     End(Place),
 }
@@ -68,7 +68,7 @@ pub(crate) fn take_front<'a>(todo: &mut Vec<Item<'a>>) -> Result<Option<Front<'a
         ))),
         Item::Again(place, invariant) => Ok(Some(Front::Again(place, invariant))),
         Item::Exit(place, r) => Ok(Some(Front::Exit(place, r))),
-        Item::Return(place, post) => Ok(Some(Front::Return(place, post))),
+        Item::Return(place, owed) => Ok(Some(Front::Return(place, owed))),
         Item::End(place) => Ok(Some(Front::End(place))),
     }
 }
@@ -176,18 +176,18 @@ pub(crate) fn take_exit<'a>(todo: &mut Vec<Item<'a>>) -> Result<Option<(Place, R
 /// `Err` means out of memory.
 pub(crate) fn take_return<'a>(
     todo: &mut Vec<Item<'a>>,
-) -> Result<Option<(Place, &'a Assertion)>, AllocError>
+) -> Result<Option<(Place, &'a [Ordered])>, AllocError>
     ensures some { IfOk result (λ r. IfSome r (λ x. todo_of todo.old.items
-        ≡ return x.0 (assertion_of x.1.now) ∷ todo_of todo.new.items)) }
+        ≡ return x.0 (map (λ o. assertion_of o.assertion) x.1.now) ∷ todo_of todo.new.items)) }
     ensures none { IfOk result (λ r. IfNone r
-        ((row : PlaceOf → AssertionOf → List Thing → Option (List GoalOf))
+        ((row : PlaceOf → List AssertionOf → List Thing → Option (List GoalOf))
         → at_return row (todo_of todo.old.items) ≡ None)) }
 {
     let Some(front) = take_front(todo)? else {
         return Ok(None);
     };
     match front {
-        Front::Return(place, post) => Ok(Some((place, post))),
+        Front::Return(place, owed) => Ok(Some((place, owed))),
         Front::Command(_) | Front::Add(..) | Front::Take(..) | Front::Gave(..) => Ok(None),
         Front::Head(..) | Front::Again(..) | Front::Exit(..) | Front::End(_) => Ok(None),
     }

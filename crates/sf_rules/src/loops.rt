@@ -22,7 +22,7 @@ ghost use Rattle.sf_sym.specs.Variables.{with_fresh};
 use crate::children::Children;
 use crate::few::TOO_MANY;
 use crate::front::{Loop, take_again, take_command, take_end, take_head, take_return};
-use crate::words::{Terms, pending, with_test, with_wanted};
+use crate::words::{Terms, pending, with_each_wanted, with_test};
 use sf_base::{Place, Var};
 use sf_calls::Calls;
 use sf_core::{Assertion, Command, Expr, Test};
@@ -262,7 +262,8 @@ pub(crate) fn again<'a>(alloc: Global, goal: Goal<'a>) -> Result<Option<Children
     Ok(Some(Children::One(Goal { state, todo })))
 }
 
-/// return: the postcondition is due, and then nothing may be left.
+/// return: what the procedure owes is due, one assertion after the other, and then nothing may be
+/// left.
 pub(crate) fn return_from<'a>(
     alloc: Global,
     goal: Goal<'a>,
@@ -271,11 +272,11 @@ pub(crate) fn return_from<'a>(
         ≡ at_return (return_row goal.entry.state) (todo_of goal.entry.todo.items)) }
 {
     let Goal { state, mut todo } = goal;
-    let Some((place, post)) = take_return(&mut todo)? else {
+    let Some((place, owed)) = take_return(&mut todo)? else {
         return Ok(None);
     };
     let todo = only_end(alloc, place)?;
-    let todo = with_wanted(alloc, todo, place, Terms::Of(state.vars()), post)?;
+    let todo = with_each_wanted(alloc, todo, place, Terms::Of(state.vars()), owed)?;
     Ok(Some(Children::One(Goal { state, todo })))
 }
 

@@ -1,13 +1,13 @@
 //! The first goal of a procedure.
 
-ghost use Rattle.std.specs.Prelude.{◌≡◌, ◌++◌, ◌-◌, ◌<◌, ◌≤◌, ◌^◌, [], All, AllPairs, IfOk, IfSome, get_or, length};
+ghost use Rattle.std.specs.Prelude.{◌≡◌, ◌++◌, ◌-◌, ◌<◌, ◌≤◌, ◌^◌, ◌+◌, [], All, AllPairs, IfOk, IfSome, Some, get_or, length};
 ghost use Rattle.std.specs.List.{flat_map, slice_get};
 ghost use Rattle.sf_precise.specs.Order.{IsOrdering};
 ghost use Rattle.sf_core.specs.Program.Formed.{ProcedureWithin};
 ghost use Rattle.sf_core.specs.Program.View.{procedure_of};
 ghost use Rattle.sf_core.specs.Program.ProgramView.{program_of};
 ghost use Rattle.sf_sym.specs.Goal.{goal_of};
-ghost use Rattle.sf_rules.specs.First.{first_goal, links_of, nils, state_by, symbols, variables_of};
+ghost use Rattle.sf_rules.specs.First.{first_goal, links_of, nil_for, nils, state_by, symbols, variables_of, with_held};
 ghost use Rattle.sf_calls.specs.Sets.{IsEarlierResource};
 ghost use Rattle.sf_rules.specs.Setting.{Setting, setting_of};
 
@@ -37,7 +37,7 @@ pub fn first_goal<'a>(
     let procedure = arranged.program.proc(f);
     let state = first_state(alloc, arranged, f, procedure)?;
     let mut todo = Vec::with_capacity(alloc, 3)?;
-    todo.push(Item::Return(procedure.end, &arranged.post(f).assertion))?;
+    todo.push(Item::Return(procedure.end, arranged.owed(f)))?;
     todo.push(Item::Run(&procedure.body))?;
     let terms = Terms::Of(state.vars());
     let pre = &arranged.pre(f).assertion;
@@ -53,6 +53,8 @@ fn first_state(
     procedure: &Proc,
 ) -> Result<State, AllocError>
     requires there { f.0 < length arranged.now.program.procedures.items }
+    requires own { slice_get (program_of arranged.now.program).procedures f.0
+        ≡ Some (procedure_of procedure.now) }
     requires formed { ProcedureWithin (program_of arranged.now.program)
         (procedure_of procedure.now) }
     ensures { IfOk result (λ state. state ≡ state_by (program_of arranged.now.program)
@@ -60,9 +62,39 @@ fn first_state(
 {
     let parameters = procedure.references + procedure.values;
     let vars = first_vars(alloc, parameters, procedure.names.len() as u32)?;
-    let mut state = State::new(alloc, links_of(&arranged.program), vars, parameters);
-    state.set_fresh(&held_variables(alloc, arranged, f)?)?;
+    let state = State::new(alloc, links_of(&arranged.program), vars, parameters);
+    let held = held_variables(alloc, arranged, f)?;
+    with_held(alloc, arranged.program.is_init(f), &held, state)
+}
+
+/// The state in which these variables are there: each with a fresh symbol, or nil where they are
+/// still to be set up.
+fn with_held(
+    alloc: Global,
+    sets_up: bool,
+    held: &[Var],
+    mut state: State,
+) -> Result<State, AllocError>
+    requires { state.next_sym + length held.now < 2 ^ 32 }
+    ensures { IfOk result (λ after. after ≡ with_held sets_up held.now state) }
+{
+    if sets_up {
+        state.set_vars(&nil_for(alloc, held)?)?;
+    } else {
+        state.set_fresh(held)?;
+    }
     Ok(state)
+}
+
+/// Nil for each of the variables, in their order.
+fn nil_for(alloc: Global, xs: &[Var]) -> Result<Vec<(Var, Term)>, AllocError>
+    ensures { IfOk result (λ set. set.items ≡ nil_for xs.now) }
+{
+    let mut set = Vec::with_capacity(alloc, xs.len())?;
+    for x in xs {
+        set.push((*x, Term::Nil))?;
+    }
+    Ok(set)
 }
 
 /// The variables of the resources that the procedure holds, in file order: fewer than 2^20.

@@ -1,18 +1,18 @@
 //! Where the terms of an annotation's expressions are from, and annotations as conjuncts to assume
 //! or to show.
 
-ghost use Rattle.std.specs.Prelude.{◌≡◌, ◌++◌, [], IfOk};
+ghost use Rattle.std.specs.Prelude.{◌≡◌, ◌++◌, [], IfOk, map};
 ghost use Rattle.sf_core.specs.Program.View.{assertion_of, call_of};
 ghost use Rattle.sf_rules.specs.Checked.Terms.{terms_of};
 ghost use Rattle.sf_rules.specs.Rows.Calls.{callee_term, own_term};
-ghost use Rattle.sf_rules.specs.Words.{pending_assertion, test_conjuncts, to_add, to_add_test, to_take};
+ghost use Rattle.sf_rules.specs.Words.{pending_assertion, test_conjuncts, to_add, to_add_test, to_take, to_take_each};
 ghost use Rattle.sf_sym.specs.Goal.{todo_of};
 ghost use Rattle.sf_sym.specs.Pending.{pending_of};
 ghost use Rattle.sf_sym.specs.State.{term_at};
 
 use crate::terms::{term_at, term_of, unbound, with_terms};
 use sf_base::{Place, Var};
-use sf_core::{Assertion, Call, Conjunct, Expr, Occurrence, Operand, Test};
+use sf_core::{Assertion, Call, Conjunct, Expr, Occurrence, Operand, Ordered, Test};
 use sf_sym::{Item, Pending, Term, with_add, with_take};
 use std::alloc::{AllocError, Global};
 
@@ -106,6 +106,26 @@ pub(crate) fn with_wanted<'a>(
 {
     let want = pending(alloc, terms, a)?;
     let todo = with_take(todo, place, want, &a.names)?;
+    Ok(todo)
+}
+
+/// Puts assertions to show first, one after the other, with those terms. An `Err` means out of
+/// memory.
+pub(crate) fn with_each_wanted<'a>(
+    alloc: Global,
+    mut todo: Vec<Item<'a>>,
+    place: Place,
+    terms: Terms<'_>,
+    owed: &'a [Ordered],
+) -> Result<Vec<Item<'a>>, AllocError>
+    ensures { IfOk result (λ r. todo_of r.items ≡ to_take_each place (terms_of terms.entry)
+        (map (λ o. assertion_of o.assertion) owed.now) (todo_of todo.entry.items)) }
+{
+    let mut left = owed;
+    while let Some((last, rest)) = left.split_last() {
+        todo = with_wanted(alloc, todo, place, terms, &last.assertion)?;
+        left = rest;
+    }
     Ok(todo)
 }
 

@@ -1,6 +1,6 @@
 -- The laws of runs of one task, under the names of their functions in src/laws.rt.
 use Rattle.std.proofs.Common.{subst}
-use Rattle.sf_run.specs.Checked.Laws.{BasesAreFree, BeginningsAreStarts, EndsAreNumbered, EndsAreUnique, LoneTasksFindRegionsFree, LoneTasksProgress, NumberedRunsReach, OutcomesAreUnique, OutcomesExist, SequentialIsDecided, SequentialRunsAreLone, SpentRunsHaveUsedAll, StartsHaveOneOutcome, UnitsStayFree, WaitingRunsTryInVain}
+use Rattle.sf_run.specs.Checked.Laws.{BasesAreFree, BeginningsAreStarts, EndsAreNumbered, EndsAreUnique, InitSequentialIsDecided, LoneTasksFindRegionsFree, LoneTasksProgress, NumberedRunsReach, OutcomesAreUnique, OutcomesExist, SequentialIsDecided, SequentialRunsAreLone, SpentRunsHaveUsedAll, StartsHaveOneOutcome, UnitsStayFree, WaitingRunsTryInVain}
 use Rattle.sf_core.proofs.Machine.InOrder.Starts.{start-in_order, reach-keeps}
 use Rattle.sf_core.specs.Machine.Alone.{finished, spent, waiting, Alone}
 use Rattle.sf_core.specs.Machine.Config.{Config}
@@ -12,13 +12,14 @@ use Rattle.sf_calls.specs.Checked.Lemmas.Broken.{first_broken}
 use Rattle.sf_calls.specs.declared.breach.Breach.TheVariants.{Reentered}
 use Rattle.sf_foot.specs.Starting.{store_of}
 use Rattle.sf_heap.specs.Cells.{heap_of}
-use Rattle.sf_run.proofs.Beginnings.{begin-base, begin-one, begin-start, begin-starts}
+use Rattle.sf_run.proofs.Beginnings.{begin-base, begin-one, begin-sequential, begin-start, begin-starts}
 use Rattle.sf_run.proofs.Finishes.{ends-same}
 use Rattle.sf_run.proofs.Lone.{reach-lone, start-lone}
 use Rattle.sf_run.proofs.Numbering.{alone-numbered, end-numbered, reach-numbered, spent-spending, waiting-numbered}
 use Rattle.sf_run.proofs.Outcomes.{from-one}
 use Rattle.sf_run.proofs.Progress.{lone-outcome, lone-progress}
 use Rattle.sf_run.proofs.Regions.{NeverReenters, reach-apart, region-free, start-apart}
+use Rattle.sf_run.proofs.SettingUp.{init-told}
 use Rattle.sf_run.proofs.Telling.{tell-sequential}
 use Rattle.sf_run.proofs.Units.{start-free, step-free}
 
@@ -28,8 +29,8 @@ outcomes_are_unique p start base count one other a b = from-one p start (units b
 
 pub sequential_runs_are_lone : SequentialRunsAreLone
 unfolding SequentialRunsAreLone
-sequential_runs_are_lone p f store heap start c events n s r =
-    reach-lone p events start c (start-lone p f store heap start n s) r
+sequential_runs_are_lone p f store heap start c events s n r =
+    reach-lone p events start c (start-lone p f store heap start s n) r
 
 pub bases_are_free : BasesAreFree
 unfolding BasesAreFree
@@ -45,39 +46,41 @@ conditions-never p formed holds f place r b = (first_broken p formed).kept holds
 
 pub lone_tasks_find_regions_free : LoneTasksFindRegionsFree
 unfolding LoneTasksFindRegionsFree
-lone_tasks_find_regions_free p f store heap start c events r formed holds n s reached at =
+lone_tasks_find_regions_free p f store heap start c events r formed holds s n reached at =
     let never = conditions-never p formed holds in
     region-free p s.procedure c r never
     (reach-keeps p s.procedure events start c formed (start-in_order p f store heap start formed s) reached)
-    (reach-apart p events start c never (start-apart p f store heap start n s) reached) at
+    (reach-apart p events start c never (start-apart p f store heap start s n) reached) at
 
 pub lone_tasks_progress : LoneTasksProgress
 unfolding LoneTasksProgress
-lone_tasks_progress p f store heap start c events unit formed holds n s reached good free =
+lone_tasks_progress p f store heap start c events unit formed holds s n reached good free =
     let never = conditions-never p formed holds in
     lone-progress p s.procedure unit c never
     (reach-keeps p s.procedure events start c formed (start-in_order p f store heap start formed s) reached)
-    good free (reach-apart p events start c never (start-apart p f store heap start n s) reached)
+    good free (reach-apart p events start c never (start-apart p f store heap start s n) reached)
 
 pub outcomes_exist : OutcomesExist
 unfolding OutcomesExist
-outcomes_exist p f store heap start base count formed holds n s good b =
+outcomes_exist p f store heap start base count formed holds s n good b =
     lone-outcome p s.procedure count base start formed (conditions-never p formed holds)
-    (start-in_order p f store heap start formed s) (start-apart p f store heap start n s) good
+    (start-in_order p f store heap start formed s) (start-apart p f store heap start s n) good
     (start-free p f store heap start base s b)
 
 pub starts_have_one_outcome : StartsHaveOneOutcome
 unfolding StartsHaveOneOutcome OutcomesExist OutcomesAreUnique
-starts_have_one_outcome p f vars heap parts unit count formed holds sound n s fresh =
-    let found = outcomes_exist p f (store_of s.procedure vars) (heap_of heap) s.config unit count formed holds n
-    s.starts (λ events c r. sound f (store_of s.procedure vars) (heap_of heap) s.config c events s.starts r)
-    (begin-base p f vars heap parts s unit fresh) in
+starts_have_one_outcome p f is_fresh vars heap parts unit count formed holds sound n s above =
+    let store = store_of s.beginning s.procedure vars in
+    let found = outcomes_exist p f store (heap_of heap) s.config unit count formed holds s.starts
+    (begin-sequential p f is_fresh vars heap parts s n)
+    (λ events c r. sound f store (heap_of heap) s.config c events s.starts r)
+    (begin-base p f is_fresh vars heap parts s unit above) in
     record {
       out = found.0;
-      comes = record { start = s.config; begins = begin-start p f vars heap parts s; comes = found.1 };
+      comes = record { start = s.config; begins = begin-start p f is_fresh vars heap parts s; comes = found.1 };
       only = λ other k. outcomes_are_unique p s.config unit count found.0 other found.1
-          (subst (λ (z : Config). Alone p z unit count other) (begin-one p f vars heap parts s k.start k.begins)
-          k.comes);
+          (subst (λ (z : Config). Alone p z unit count other)
+          (begin-one p f is_fresh vars heap parts s k.start k.begins) k.comes);
     }
 
 pub ends_are_unique : EndsAreUnique
@@ -86,8 +89,8 @@ ends_are_unique p f c vars other heap more a b = ends-same p f c vars other heap
 
 pub beginnings_are_starts : BeginningsAreStarts
 unfolding BeginningsAreStarts
-beginnings_are_starts p f vars heap parts c s b =
-    (s.procedure, s.there, begin-starts p f vars heap parts s c b)
+beginnings_are_starts p f is_fresh vars heap parts c s b =
+    (store_of s.beginning s.procedure vars, begin-starts p f is_fresh vars heap parts s c b)
 
 pub numbered_runs_reach : NumberedRunsReach
 unfolding NumberedRunsReach
@@ -96,24 +99,28 @@ numbered_runs_reach p start c base count events n =
 
 pub ends_are_numbered : EndsAreNumbered
 unfolding EndsAreNumbered
-ends_are_numbered p f store heap start c base count n s a =
+ends_are_numbered p f store heap start c base count s n a =
     end-numbered p start c base count
-    (alone-numbered p (units base count) start (finished c) (start-lone p f store heap start n s) a)
+    (alone-numbered p (units base count) start (finished c) (start-lone p f store heap start s n) a)
 
 pub spent_runs_have_used_all : SpentRunsHaveUsedAll
 unfolding SpentRunsHaveUsedAll
-spent_runs_have_used_all p f store heap start base count n s a =
+spent_runs_have_used_all p f store heap start base count s n a =
     spent-spending p start base count
-    (alone-numbered p (units base count) start spent (start-lone p f store heap start n s) a)
+    (alone-numbered p (units base count) start spent (start-lone p f store heap start s n) a)
 
 pub waiting_runs_try_in_vain : WaitingRunsTryInVain
 unfolding WaitingRunsTryInVain LoneTasksFindRegionsFree
-waiting_runs_try_in_vain p f store heap start base count r formed holds n s a tries =
-    let k = alone-numbered p (units base count) start (waiting r) (start-lone p f store heap start n s) a in
+waiting_runs_try_in_vain p f store heap start base count r formed holds s n a tries =
+    let k = alone-numbered p (units base count) start (waiting r) (start-lone p f store heap start s n) a in
     waiting-numbered p start base count r k
-    (λ q w. lone_tasks_find_regions_free p f store heap start k.last k.events q formed holds n s
+    (λ q w. lone_tasks_find_regions_free p f store heap start k.last k.events q formed holds s n
     (reach-numbered p k.events start k.last (has (units base count)) (has k.left) k.run) w.0) tries
 
 pub sequential_is_decided : SequentialIsDecided
 unfolding SequentialIsDecided
 sequential_is_decided p f = tell-sequential p f
+
+pub init_sequential_is_decided : InitSequentialIsDecided
+unfolding InitSequentialIsDecided
+init_sequential_is_decided p formed = init-told p formed

@@ -5,6 +5,7 @@ pub mod Units
 pub mod Regions
 pub mod Progress
 pub mod Searching
+pub mod SettingUp
 pub mod Telling
 pub mod Numbering
 pub mod Beginnings

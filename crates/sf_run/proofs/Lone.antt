@@ -12,14 +12,14 @@ use Rattle.sf_base.specs.HeapStore.{Heap, Store}
 use Rattle.sf_core.specs.Machine.Config.{Item, command, leave, items, Room, Fixed, Frame, Task, runs, Path, Common, Config, task_at, put_task}
 use Rattle.sf_core.specs.Machine.Next.{frame_next}
 use Rattle.sf_core.specs.Machine.Reach.{Reach}
-use Rattle.sf_core.specs.Machine.Start.{entry_frame, Start}
+use Rattle.sf_core.specs.Machine.Start.{Beginning, settled, fresh, BeginsWith, first_frames, Start}
 use Rattle.sf_core.specs.Machine.Step.{Event, callee_frame, task_with, procedure_at, room_for, Does, Goes, TaskStep, Step}
 use Rattle.sf_core.specs.Program.Heads.{sites}
 use Rattle.sf_core.specs.Program.Syntax.{Call, Command, assign, look_up, mutate, new, dispose, if, while, call, fork, with, Block, Procedure, Program}
 use Rattle.sf_calls.specs.Conditions.{Calls}
 use Rattle.sf_calls.specs.Reaches.{directly, through}
 use Rattle.sf_run.specs.Checked.Lone.{inside, IsOfBody, IsLoneFrame, IsLone}
-use Rattle.sf_run.specs.Sequential.{IsSequential}
+use Rattle.sf_run.specs.Sequential.{BeginsSequentially, IsSequential}
 use Rattle.sf_run.proofs.Bodies.{site-here, site-inner, block-of_body, whole-of_body}
 
 -- what an event makes of a frame above others: the frame goes on with that to do
@@ -207,20 +207,23 @@ after-lone p frames d s = record {
 pub step-lone : (p : Program) (ev : Event) (c d : Config) → IsLone p c → Step p ev c d → IsLone p d
 step-lone p ev c d k s = after-lone p k.frames d (lone-step p ev c d k s)
 
-abbrev pub start-lone : (p : Program) (f : ProcId) (store : Store) (heap : Heap) (c : Config) → IsSequential p f
-    → Start p f store heap c → IsLone p c
-start-lone p f store heap c n s = record {
-  frames = entry_frame f s.procedure ∷ [];
+-- the frames with which a procedure starts are
+first-lone : (p : Program) (f : ProcId) (g : Procedure) (b : Beginning) (store : Store) (heap : Heap)
+    → procedure_at p f ≡ Some g → BeginsWith b p g store heap → BeginsSequentially p f b
+    → AllByRecursion (IsLoneFrame p) (first_frames b f g)
+first-lone p f g settled store heap there begins n =
+    (record { procedure = g; there = there; sequential = n; todo = whole-of_body g.body }, tt)
+first-lone p f g (fresh m h) store heap there begins n = (
+  record { procedure = h; there = begins.0; sequential = n.1; todo = whole-of_body h.body },
+  (record { procedure = g; there = there; sequential = n.0; todo = whole-of_body g.body }, tt),
+)
+
+abbrev pub start-lone : (p : Program) (f : ProcId) (store : Store) (heap : Heap) (c : Config)
+    → (s : Start p f store heap c) → BeginsSequentially p f s.beginning → IsLone p c
+start-lone p f store heap c s n = record {
+  frames = first_frames s.beginning f s.procedure;
   alone = ap (λ (z : Config). z.tasks) s.is;
-  each = (
-    record {
-      procedure = s.procedure;
-      there = s.there;
-      sequential = n;
-      todo = whole-of_body (s.procedure).body;
-    },
-    tt,
-  );
+  each = first-lone p f s.procedure s.beginning store heap s.there s.begins n;
 }
 
 pub reach-lone : (p : Program) (events : List Event) (c d : Config) → IsLone p c → Reach p c events d

@@ -1,6 +1,6 @@
 -- That a run of one task goes on from one unit to the next, and what it comes to where it halts.
 -- Names: `WHAT-turn` of the loop's turns, `answer-WHAT` of what a step answers.
-use Rattle.std.specs.Prelude.{◌≡◌, ◌≢◌, ℕ, zero, suc, ◌<◌, ◌≤◌, ◌+◌, List, [], ◌∷◌, ◌++◌, Option, Some, None, length, replicate}
+use Rattle.std.specs.Prelude.{◌≡◌, ◌≢◌, ℕ, zero, suc, Bool, ◌<◌, ◌≤◌, ◌+◌, List, [], ◌∷◌, ◌++◌, Option, Some, None, length, replicate}
 use Rattle.std.proofs.Common.{sym, ap, ◌∙◌, refl, subst, inl, inr, arith}
 use Rattle.sf_base.specs.declared.ids.ProcId.{ProcId}
 use Rattle.sf_base.specs.declared.ids.ResId.{ResId}
@@ -32,8 +32,8 @@ use Rattle.sf_run.specs.declared.running.Halt.{Halt}
 use Rattle.sf_run.specs.declared.running.Halt.TheVariants.{Ended, Waiting as Waits}
 use Rattle.sf_run.specs.Checked.Laws.{LoneTasksProgress}
 use Rattle.sf_run.specs.Checked.Lone.{IsFreeFrom}
-use Rattle.sf_run.specs.Sequential.{IsSequential}
-use Rattle.sf_run.proofs.Beginnings.{begin-base, begin-one}
+use Rattle.sf_run.specs.Sequential.{IsSequentialStart}
+use Rattle.sf_run.proofs.Beginnings.{begin-base, begin-one, begin-sequential}
 use Rattle.sf_run.proofs.Closing.{lone_tasks_progress}
 use Rattle.sf_run.proofs.Units.{start-free, step-free}
 use Rattle.sf_core.specs.Machine.Sound.{IsSound}
@@ -58,26 +58,27 @@ cell-turn fields count task values n entry e = record {
 }
 
 -- where the start begins, the task is alone, and units are free from the first one on
-pub begin-turn : (p : Program) (f : ProcId) (vars : Vars) (heap : Cells) (parts : List (List ℕ)) (unit : ℕ)
-    (c : Config) → IsFormed p → Conditions p → IsSound p → IsSequential p f → StartsWith p f vars heap parts
-    → IsFreshFrom vars heap unit → Begins p f vars heap c → IsAlone p unit c
-begin-turn p f vars heap parts unit c formed conditions sound sequential s fresh b =
-    let same : c ≡ s.config = begin-one p f vars heap parts s c b in
+pub begin-turn : (p : Program) (f : ProcId) (is_fresh : Bool) (vars : Vars) (heap : Cells) (parts : List (List ℕ))
+    (unit : ℕ) (c : Config) → IsFormed p → Conditions p → IsSound p → IsSequentialStart p f is_fresh
+    → StartsWith p f is_fresh vars heap parts → IsFreshFrom vars heap unit → Begins p f is_fresh vars heap c
+    → IsAlone p unit c
+begin-turn p f is_fresh vars heap parts unit c formed conditions sound sequential s above b =
+    let same : c ≡ s.config = begin-one p f is_fresh vars heap parts s c b in
     record {
       procedure = f;
-      store = store_of s.procedure vars;
+      store = store_of s.beginning s.procedure vars;
       heap = heap_of heap;
       start = s.config;
       events = [];
       formed = formed;
       conditions = conditions;
       sound = sound;
-      sequential = sequential;
       starts = s.starts;
+      sequential = begin-sequential p f is_fresh vars heap parts s sequential;
       reached = same;
       free = subst (IsFreeFrom unit) (sym same)
-          (start-free p f (store_of s.procedure vars) (heap_of heap) s.config unit s.starts
-          (begin-base p f vars heap parts s unit fresh));
+          (start-free p f (store_of s.beginning s.procedure vars) (heap_of heap) s.config unit s.starts
+          (begin-base p f is_fresh vars heap parts s unit above));
     }
 
 -- where it waits at a region, that is what the step answers
@@ -100,8 +101,8 @@ pub answer-alone : AnswersAreExclusive → RefusedEventsDoNotStep → (p : Progr
     → (q : ResId) × WaitsAlone c q × (why ≡ Waiting q)
 unfolding AnswersAreExclusive RefusedEventsDoNotStep LoneTasksProgress
 answer-alone exclusive refused p unit c why a going said still =
-    elim (lone_tasks_progress p a.procedure a.store a.heap a.start c a.events unit a.formed a.conditions a.sequential
-    a.starts a.reached (a.sound a.procedure a.store a.heap a.start c a.events a.starts a.reached) a.free) [
+    elim (lone_tasks_progress p a.procedure a.store a.heap a.start c a.events unit a.formed a.conditions a.starts
+    a.sequential a.reached (a.sound a.procedure a.store a.heap a.start c a.events a.starts a.reached) a.free) [
       | inl h ↦ absurd (going h)
       | inr (inl (q, w)) ↦ (
         q,
@@ -152,8 +153,8 @@ moved-turn p unit c d a going s = record {
     formed = a.formed;
     conditions = a.conditions;
     sound = a.sound;
-    sequential = a.sequential;
     starts = a.starts;
+    sequential = a.sequential;
     reached = (runs_compose p a.events (event_alone unit ∷ []) a.start d).1 (c, a.reached, (d, s, refl));
     free = step-free p unit c d a.free s;
   };

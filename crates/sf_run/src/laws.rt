@@ -5,6 +5,7 @@ ghost use Rattle.sf_run.specs.Checked.Laws.{
   BeginningsAreStarts,
   EndsAreNumbered,
   EndsAreUnique,
+  InitSequentialIsDecided,
   LoneTasksFindRegionsFree,
   LoneTasksProgress,
   NumberedRunsReach,
@@ -113,4 +114,11 @@ pub fn waiting_runs_try_in_vain()
 #[tactic(auto, using(crate::proofs::Closing::sequential_is_decided))]
 pub fn sequential_is_decided()
     ensures { SequentialIsDecided }
+{}
+
+/// A parallel call can be reached from the procedure that sets the resources up, or none can, or
+/// there is no such procedure.
+#[tactic(auto, using(crate::proofs::Closing::init_sequential_is_decided))]
+pub fn init_sequential_is_decided()
+    ensures { InitSequentialIsDecided }
 {}

@@ -10,7 +10,7 @@ ghost use Rattle.sf_foot.specs.Starting.{StartsWith};
 ghost use Rattle.sf_machine.specs.Configs.{config_of, IsWide};
 ghost use Rattle.sf_run.specs.Checked.Turns.{GoesOn, Halts, HaltsAtLast, IsAlone, IsBlank, outcome_of};
 ghost use Rattle.sf_run.specs.Running.{EndsWith, Stops, program_in};
-ghost use Rattle.sf_run.specs.Sequential.{IsSequential};
+ghost use Rattle.sf_run.specs.Sequential.{IsSequentialStart};
 ghost use Rattle.sf_core.specs.Machine.Sound.{IsSound};
 
 use crate::stop::{Budget, Stop};
@@ -41,7 +41,8 @@ enum Halt {
 }
 
 /// Runs procedure `f` of a proved program from a start of it, where no parallel call can be reached
-/// from `f`. An `Ok` has what the run ends with. `Steps` says that the task would go on and no unit
+/// from `f`, nor, where the start is fresh, from `init`. The events of `init` come first, and are
+/// numbered by the same units. An `Ok` has what the run ends with. `Steps` says that the task would go on and no unit
 /// is left. `Waits` says that it is at a region whose condition is false: no other task would make
 /// it true, so each try that the budget allows would be in vain. What comes of a start is one
 /// thing, so each of these answers comes only where it is that; an `Err` may also say that memory
@@ -58,14 +59,16 @@ pub fn run<R: Threads + Sync, G: Gate>(
     budget: Budget,
     _gate: &G,
 ) -> Result<Finish, Stop>
-    requires starts { StartsWith (program_in proof.now) f start.vars start.heap start.parts.items }
-    requires sequential { IsSequential (program_in proof.now) f }
+    requires starts { StartsWith (program_in proof.now) f start.fresh start.vars start.heap
+        start.parts.items }
+    requires sequential { IsSequentialStart (program_in proof.now) f start.fresh }
     requires steps { (1 ≤ budget.steps) × (budget.steps ≤ STEPS) }
     requires waits { (1 ≤ budget.waits) × (budget.waits ≤ WAITS) }
     ensures ends { IfOk result
-        (EndsWith (program_in proof.now) f start.vars start.heap start.unit budget.steps) }
+        (EndsWith (program_in proof.now) f start.fresh start.vars start.heap start.unit
+        budget.steps) }
     ensures stops { IfErr result
-        (Stops (program_in proof.now) f start.vars start.heap start.unit budget) }
+        (Stops (program_in proof.now) f start.fresh start.vars start.heap start.unit budget) }
 {
     let p = proved_program(proof);
     run_sound(alloc, p, f, start, budget)
@@ -94,15 +97,16 @@ fn run_sound(
     start: Start,
     budget: Budget,
 ) -> Result<Finish, Stop>
-    requires starts { StartsWith (program_of p.now) f start.vars start.heap start.parts.items }
+    requires starts { StartsWith (program_of p.now) f start.fresh start.vars start.heap
+        start.parts.items }
     requires conditions { Conditions (program_of p.now) }
     requires sound { IsSound (program_of p.now) }
-    requires sequential { IsSequential (program_of p.now) f }
+    requires sequential { IsSequentialStart (program_of p.now) f start.fresh }
     requires steps { budget.steps ≤ STEPS }
     ensures ends { IfOk result
-        (EndsWith (program_of p.now) f start.vars start.heap start.unit budget.steps) }
+        (EndsWith (program_of p.now) f start.fresh start.vars start.heap start.unit budget.steps) }
     ensures stops { IfErr result
-        (Stops (program_of p.now) f start.vars start.heap start.unit budget) }
+        (Stops (program_of p.now) f start.fresh start.vars start.heap start.unit budget) }
 {
     let first = start.unit;
     let mut config = begin(alloc, p, f, start)?;

@@ -8,7 +8,7 @@ ghost use Rattle.sf_core.specs.Program.ProgramView.{program_of};
 ghost use Rattle.sf_core.specs.Program.Sites.{site_of};
 ghost use Rattle.sf_core.specs.Program.View.{command_of};
 ghost use Rattle.sf_run.specs.Checked.Searches.{IsFork, VisitsOrForks, listed};
-ghost use Rattle.sf_run.specs.Sequential.{IsSequential};
+ghost use Rattle.sf_run.specs.Sequential.{InitIsSequential, IsSequential};
 
 use sf_base::ProcId;
 use sf_core::{Command, Program, Site, sites};
@@ -30,6 +30,17 @@ pub fn is_sequential(alloc: Global, p: &Program, f: ProcId) -> Result<bool, Allo
         }
     }
     Ok(true)
+}
+
+/// Whether no parallel call can be reached from the procedure that sets the resources up, if there
+/// is one. An `Err` says that memory ran out.
+pub fn is_init_sequential(alloc: Global, p: &Program) -> Result<bool, AllocError>
+    ensures { IfOk result (λ yes. IsTrue yes ↔ InitIsSequential (program_of p.now)) }
+{
+    match p.init {
+        Some(n) => is_sequential(alloc, p, n),
+        None => Ok(true),
+    }
 }
 
 /// So many procedures, none of them visited.

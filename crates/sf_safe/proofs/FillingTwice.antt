@@ -2,7 +2,8 @@
 -- Names: `formed-WHAT`, `conditions-WHAT`, `safe-WHAT`; the law's.
 use Rattle.std.specs.Prelude.{◌≡◌, ◌⊎◌, ℕ, pos, zero, suc, Bool, slice_get, true, false, cond, [], ◌∷◌, Contains, Option, Some, None, ◌==◌, ◌&&◌, ◌<◌, ◌≤◌, ◌+◌, ◌-◌, length, leb, ltb}
 use Rattle.std.specs.Option.{unwrap_or}
-use Rattle.std.proofs.Common.{sym, ap, ◌∙◌, refl, subst, subst₂, inl, inr, arith}
+use Rattle.std.specs.Str.{bytes_eq}
+use Rattle.std.proofs.Common.{true≢false, sym, ap, ◌∙◌, refl, subst, subst₂, inl, inr, arith}
 use Rattle.std.proofs.lemmas.Bool.Decides.{nat_tests}
 use Rattle.std.proofs.lemmas.Option.{none-some, same_Some}
 use Rattle.sf_base.specs.declared.ids.ProcId.{ProcId}
@@ -39,9 +40,14 @@ use Rattle.sf_core.specs.Machine.Start.{entry_slot}
 use Rattle.sf_core.specs.Machine.Step.{arguments, index_of, room_for}
 use Rattle.sf_core.specs.Program.Heads.{Site, call_occurrences, sites}
 use Rattle.sf_core.specs.Program.Formed.{AssertionWithin, CallWithin, IsFormed, IsOfResource, IsParameter, ProcedureWithin}
+use Rattle.sf_core.specs.Checked.GoodParts.{SatEach}
+use Rattle.sf_core.specs.Machine.Good.{owed_by}
+use Rattle.sf_core.specs.Program.Init.{init_name, is_init, sets_up}
+use Rattle.sf_core.specs.Program.Named.{name_in}
+use Rattle.sf_core.proofs.Inits.{owed_by-post}
 use Rattle.sf_core.specs.Program.Syntax.{Call, Command, done, fork, mutate, then, with, Procedure, Resource}
 use Rattle.sf_safe.specs.Checked.Own.{Own, Parts, new_slots, nothing, put_cell, without_room}
-use Rattle.sf_safe.specs.Checked.Contract.{Ended, Entered, FreeShare, IsVariableOf, Known, OwnsVariables, Returned, see}
+use Rattle.sf_safe.specs.Checked.Contract.{Ended, Entered, FreeShare, IsVariableOf, Known, OwnsVariables, Returned, given_back, see}
 use Rattle.sf_safe.specs.Checked.Examples.{FillingTwiceIsSound, fills, filling_twice, twice}
 use Rattle.sf_safe.specs.Checked.Law.{BodiesAreSafe, SafeProgramsAreSound}
 use Rattle.sf_safe.specs.Checked.Safe.{Enters, Forks, Safe, callee}
@@ -74,6 +80,7 @@ formed-emp g = record {
 formed-call : CallWithin filling_twice twice (calls 1 [])
 formed-call = record {
   callee = (refl, refl);
+  no_init = refl;
   references = λ k g l. let e : ⊥ = omega arith in absurd e;
   values = λ k g l. let e : ⊥ = omega arith in absurd e;
 }
@@ -87,6 +94,7 @@ formed-twice = record {
   post = formed-emp twice;
   body = ((formed-call, formed-call), tt);
   depth = let e : 1 ≤ 64 = omega arith in e;
+  init = λ e. absurd (true≢false (sym e));
 }
 
 formed-fills : ProcedureWithin filling_twice fills
@@ -99,6 +107,7 @@ formed-fills =
       post = formed-emp fills;
       body = ((one, tt, ((one, one, tt), tt)), tt);
       depth = let e : 2 ≤ 64 = omega arith in e;
+      init = λ e. absurd (true≢false (sym e));
     }
 
 formed-procedures : (k : ℕ) (g : Procedure) → slice_get (twice ∷ fills ∷ []) k ≡ Some g
@@ -125,6 +134,14 @@ formed-resources zero r e =
     })
 formed-resources (suc k) r e = absurd (cc)
 
+-- neither sets the resource up
+plain : (k : ℕ) (g : Procedure) → slice_get (twice ∷ fills ∷ []) k ≡ Some g → is_init g ≡ false
+plain k g e = elim (which k g e) [ inl i ↦ ap is_init (sym i) | inr i ↦ ap is_init (sym i) ]
+
+-- so each return owes a postcondition
+owes-post : (g : Procedure) → is_init g ≡ false → owed_by filling_twice g ≡ g.post.level ∷ []
+owes-post g n = owed_by-post filling_twice g n
+
 formed : IsFormed filling_twice
 formed = record {
   procedures = formed-procedures;
@@ -133,6 +150,7 @@ formed = record {
   resource_count = let e : 1 ≤ 64 = omega arith in e;
   field_count = let e : 1 ≤ 16 = omega arith in e;
   variables = let e : 1 ≤ 256 = omega arith in e;
+  one_init = λ j k f g a b i n. absurd (true≢false (sym i ∙ plain j f a));
 }
 
 -- CONDITIONS
@@ -185,8 +203,15 @@ free-none f (Shared r i) (shared_, m) = go f m
     go f (through g c m) = go g m
 
 -- no contract holds a resource
+sets-none : (f : ProcId) (o : Option Procedure) → slice_get filling_twice.procedures f.0 ≡ o
+    → sets_up filling_twice f ≡ true → ⊥
+sets-none f None e i = true≢false (sym i ∙ ap (λ z. bytes_eq (name_in z) init_name) e)
+sets-none f (Some g) e i =
+    true≢false (sym i ∙ ap (λ z. bytes_eq (name_in z) init_name) e ∙ plain f.0 g e)
+
 held-none : (f : ProcId) (r : ResId) → HasThroughout filling_twice f r → ⊥
-held-none f r h = elim (which f.0 h.procedure h.there) [
+held-none f r (inr h) = sets-none f (slice_get filling_twice.procedures f.0) refl h.0
+held-none f r (inl h) = elim (which f.0 h.procedure h.there) [
   | inl e ↦ go twice (λ x o. emp-none x o) (λ x o. emp-none x o) e
   | inr e ↦ go fills (λ x o. emp-none x o) (λ x o. emp-none x o) e
 ]
@@ -301,20 +326,23 @@ conditions = (first_broken filling_twice formed).unbroken (λ f b breaks. go f b
 never : {A : Type 0} (i : ℕ) → i < 0 → A
 never i l = let e : ⊥ = omega (arith, l) in absurd e
 
-variable-none : (f : ProcId) (g : Procedure) → g.names ≡ [] → (x : Var) → IsVariableOf filling_twice f g x → ⊥
-variable-none f g e (OwnVar i) l = never i (subst (λ z. i < length z) e l)
-variable-none f g e (Shared r i) a = free-none f (Shared r i) a
+variable-none : (f : ProcId) (g : Procedure) → g.names ≡ [] → is_init g ≡ false → (x : Var)
+    → IsVariableOf filling_twice f g x → ⊥
+variable-none f g e n (OwnVar i) l = never i (subst (λ z. i < length z) e l)
+variable-none f g e n (Shared r i) (inl a) = free-none f (Shared r i) a
+variable-none f g e n (Shared r i) (inr a) = true≢false (sym a.0 ∙ n)
 
 some-none : (x : Option Value) → ((v : Value) → x ≡ Some v → ⊥) → x ≡ None
 some-none None n = refl
 some-none (Some v) n = absurd (n v refl)
 
-owns-nothing : (k : Known) (g : Procedure) (w : Own) → g.names ≡ [] → OwnsVariables filling_twice k g w
-    → IsEmpty w.cells → w ≡ nothing
-owns-nothing k g w e o empty = own-same w nothing (empty-is empty)
+owns-nothing : (k : Known) (g : Procedure) (w : Own) → g.names ≡ [] → is_init g ≡ false
+    → OwnsVariables filling_twice k g w → IsEmpty w.cells → w ≡ nothing
+owns-nothing k g w e n o empty = own-same w nothing (empty-is empty)
     (map-same w.slots (λ s. None) (λ s. some-none (w.slots s)
-    (λ v i. let m = o.variables.only s v i in variable-none k.fixed.procedure g e m.0 m.1)))
-    (map-same w.tokens (λ r. None) o.tokens)
+    (λ v i. let m = o.variables.only s v i in variable-none k.fixed.procedure g e n m.0 m.1)))
+    (map-same w.tokens (λ r. None) (λ r. o.tokens r
+    ∙ ap (λ b. cond {A = Option (Unit {0})} (b && ltb r.0 1) (Some tt) None) n))
 
 -- the contracts of both procedures want nothing
 contract : (k : ℕ) (g : Procedure) → slice_get (twice ∷ fills ∷ []) k ≡ Some g
@@ -328,13 +356,15 @@ entered-nothing : (k : Known) (w : Own) → Entered filling_twice k w → w ≡ 
 entered-nothing k w e =
     let c = contract k.fixed.procedure.0 e.procedure e.owns.frame.there in
     let pre = subst (λ z. Sat z.level (see k w) (λ n. nil) w.cells) c.1 e.pre in
-    owns-nothing k e.procedure w c.0 e.owns pre.2
+    owns-nothing k e.procedure w c.0 (plain k.fixed.procedure.0 e.procedure e.owns.frame.there) e.owns pre.2
 
 ended-nothing : (k : Known) (w : Own) → Ended filling_twice k w → w ≡ nothing
 ended-nothing k w e =
     let c = contract k.fixed.procedure.0 e.procedure e.owns.frame.there in
-    let post = subst (λ z. Sat z.level (see k w) (λ n. nil) w.cells) c.2 (star-drop_right e.posts) in
-    owns-nothing k e.procedure w c.0 e.owns post.2
+    let n = plain k.fixed.procedure.0 e.procedure e.owns.frame.there in
+    let posts = subst (λ z. SatEach z (see k w) w.cells) (owes-post e.procedure n) e.posts in
+    let post = subst (λ z. Sat z.level (see k w) (λ n. nil) w.cells) c.2 (star-drop_right posts) in
+    owns-nothing k e.procedure w c.0 n e.owns post.2
 
 -- what a frame may begin with it may end with
 entered-ended : (k : Known) (w : Own) → Entered filling_twice k w → Ended filling_twice k w
@@ -343,7 +373,9 @@ entered-ended k w e =
     record {
       procedure = e.procedure;
       owns = e.owns;
-      posts = star-empty_right (subst (λ z. Sat z.level (see k w) (λ n. nil) w.cells) (c.1 ∙ sym c.2) e.pre);
+      posts = subst (λ z. SatEach z (see k w) w.cells)
+          (sym (owes-post e.procedure (plain k.fixed.procedure.0 e.procedure e.owns.frame.there)))
+          (star-empty_right (subst (λ z. Sat z.level (see k w) (λ n. nil) w.cells) (c.1 ∙ sym c.2) e.pre));
     }
 
 cond-none : (b : Bool) → cond {A = Option Value} b None None ≡ None
@@ -352,7 +384,9 @@ cond-none false = refl
 
 returned-nothing : (k : Known) (w : Own) → Returned filling_twice k w → w ≡ nothing
 returned-nothing k w r =
-    r.is ∙ ap (without_room k.fixed.room) (ended-nothing k r.full r.ended)
+    r.is ∙ ap (λ b. given_back b k.fixed.room r.full)
+    (plain k.fixed.procedure.0 r.ended.procedure r.ended.owns.frame.there)
+    ∙ ap (without_room k.fixed.room) (ended-nothing k r.full r.ended)
     ∙ own-same (without_room k.fixed.room nothing) nothing refl
     (map-same (without_room k.fixed.room nothing).slots (λ s. None) (λ s. cond-none (in_room k.fixed.room s))) refl
 
@@ -471,16 +505,17 @@ begins k w event first begun q =
           count = refl;
           own_slots = λ i l m. never i m;
           shared_slots = λ r i. refl;
-          apart = λ x y a b e. absurd (variable-none (record { 0 = 1 }) fills refl x a);
+          apart = λ x y a b e. absurd (variable-none (record { 0 = 1 }) fills refl refl x a);
         };
         variables = record {
-          each = λ x a. absurd (variable-none (record { 0 = 1 }) fills refl x a);
+          each = λ x a. absurd (variable-none (record { 0 = 1 }) fills refl refl x a);
           only = λ s v e. absurd (none-some v e);
         };
         tokens = λ r. refl;
         values = λ i l. never i l;
       };
       locals = λ i l m. never i m;
+      unset = λ r i a. absurd (true≢false (sym a.0));
       pre = ((λ n. nil), (λ n e. refl), empty-holds);
     })
 

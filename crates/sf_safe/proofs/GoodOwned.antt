@@ -1,6 +1,6 @@
 -- What is owned is good.
 -- Names: `sat-WHAT` carries an assertion from a share to the whole; `parts-WHAT` speaks of sf_core's parts.
-use Rattle.std.specs.Prelude.{◌≡◌, ◌≢◌, ℕ, suc, Bool, true, false, cond, List, [], ◌∷◌, Option, Some, None, ◌⊎◌, ◌==◌, ◌<◌, ◌≤◌, ◌+◌, length, ltb}
+use Rattle.std.specs.Prelude.{◌≡◌, ◌≢◌, ℕ, suc, Bool, true, false, cond, List, [], ◌∷◌, Option, Some, None, ◌⊎◌, ◌==◌, ◌&&◌, ◌<◌, ◌≤◌, ◌+◌, length, ltb}
 use Rattle.std.specs.List.{slice_get}
 use Rattle.std.specs.Option.{option_or, unwrap_or}
 use Rattle.std.proofs.Common.{sym, ap, ap₂, ◌∙◌, refl, subst, inl, inr, arith}
@@ -16,7 +16,6 @@ use Rattle.sf_base.specs.HeapStore.{Heap, IsEmpty, Slot, Splits}
 use Rattle.sf_base.proofs.MapSplits.{empty-holds, splits-assoc_right, splits-comm, splits-cross, splits-empty_right, splits-has_left}
 use Rattle.sf_base.proofs.HeapSplits.{star-map_left}
 use Rattle.sf_base.proofs.StoreSplits.{resource-same}
-use Rattle.sf_calls.specs.Reaches.{directly}
 use Rattle.sf_calls.specs.Checked.Lemmas.Within.{level_within}
 use Rattle.sf_core.specs.declared.command.Expr.{Expr}
 use Rattle.sf_core.specs.Assertions.Occurs.{VarOccursIn}
@@ -24,18 +23,21 @@ use Rattle.sf_core.specs.Assertions.Sat.{Sat}
 use Rattle.sf_core.specs.Checked.GoodParts.{EndsWell, FramePart, InvariantPart, InvariantParts, RestPart, TaskParts}
 use Rattle.sf_core.specs.Machine.Config.{Item, Frame, Task, runs, waits, Path, Common, Config, evaluate}
 use Rattle.sf_core.specs.Machine.Enabled.{HasEnded}
-use Rattle.sf_core.specs.Machine.Good.{Good}
+use Rattle.sf_core.specs.Machine.Good.{Good, owed_by}
 use Rattle.sf_core.specs.Machine.Start.{entry_slot}
 use Rattle.sf_core.specs.Machine.Step.{procedure_at}
-use Rattle.sf_core.specs.Program.Formed.{IsFormed, IsOfResource, IsParameter}
+use Rattle.sf_core.specs.Program.Formed.{IsFormed, IsOfResource}
+use Rattle.sf_core.specs.Program.Init.{is_init, sets_up}
 use Rattle.sf_core.specs.Program.Syntax.{Level, Procedure, Program, Resource}
 use Rattle.sf_core.proofs.Assertions.Sat.{sat-same_variables}
+use Rattle.sf_core.proofs.Inits.{sets_up-is}
 use Rattle.sf_core.proofs.Machine.GoodParts.{good-by_parts}
 use Rattle.sf_safe.specs.Checked.Own.{Own, Parts, HasSlot, everything}
 use Rattle.sf_safe.specs.Checked.Contract.{Known, Ended, FreeShare, IsVariableOf}
 use Rattle.sf_safe.specs.Checked.Safe.{Safe}
 use Rattle.sf_safe.specs.Checked.Invariant.{known, HasFrame, IsOwned, Resources, ShareOf, Tree}
 use Rattle.sf_safe.proofs.NeverBad.{never-bad}
+use Rattle.sf_safe.proofs.Owed.{each-map, owed-variable}
 use Rattle.sf_safe.proofs.Owns.{opened, order, parts-comm, parts-of_nothing, parts-right, two}
 
 -- an assertion whose variables are owned means in the share what it means in all that there is
@@ -47,27 +49,16 @@ sat-everywhere a slots all w r heap p h s =
     heap
     (λ x o. let v = h x o in ap (λ z. unwrap_or z nil) (v.1 ∙ sym (splits-has_left (slots x) v.0 p.slots v.1))) s
 
--- what occurs in a postcondition is a variable of the frame
-pub post-variable : (p : Program) → IsFormed p → (f : ProcId) (g : Procedure) → procedure_at p f ≡ Some g
-    → (x : Var)
-    → VarOccursIn g.post.level x → IsVariableOf p f g x
-post-variable p formed f g there (Shared r i) o = (tt, directly (g, there, inr (inl o)))
-post-variable p formed f g there (OwnVar i) o =
-    let within = formed.procedures f.0 g there in
-    let l : i < g.references + g.values =
-    level_within p.fields (IsParameter p g) [] (OwnVar i) g.post.level within.post.annotation.within o in
-    let m : g.references + g.values + g.locals ≤ length g.names = within.declared in
-    omega (arith, l, m)
-
 -- what the return of a frame that ends owes holds of its share
 sat-ended : (p : Program) → IsFormed p → (k : Known) (all w r : Own) → Parts all w r → Ended p k w
     → FramePart p all.slots k.fixed [] w.cells
 sat-ended p formed k all w r q e = (
   e.procedure,
   e.owns.frame.there,
-  star-map_left (λ part s. sat-everywhere e.procedure.post.level k.fixed.slots all w r part q
+  each-map (owed_by p e.procedure) (evaluate k.fixed.slots w.slots) (evaluate k.fixed.slots all.slots)
+      (λ i a h part s. sat-everywhere a k.fixed.slots all w r part q
       (λ x o. e.owns.variables.each x
-      (post-variable p formed k.fixed.procedure e.procedure e.owns.frame.there x o)) s) e.posts,
+      (owed-variable p formed k.fixed.procedure e.procedure e.owns.frame.there i a h x o)) s) w.cells e.posts,
 )
 
 -- the invariant of a free resource holds of its share
@@ -173,16 +164,27 @@ module _ (p : Program) (formed : IsFormed p) where
     pub is : t ≡ runs (frame ∷ [])
     pub done : frame.todo ≡ []
     pub ended : Ended p (known frame values) w
+    -- its procedure doesn't set the resources up
+    pub plain : is_init ended.procedure ≡ false
 
-  at-end : (n : ℕ) (o : Known) (t : Task) (w : Own) → HasEnded [] t → HasFrame t → Tree p (suc n) o t w
-      → AtEnd n t w
-  at-end n o (runs []) w e d a = absurd d
-  at-end n o (runs (f ∷ g ∷ fs)) w e d a = absurd e
-  at-end n o (waits fs x y) w e d a = absurd e
-  at-end n o (runs (f ∷ [])) w e d (v, a) =
+  at-end : (n : ℕ) (o : Known) (t : Task) (w : Own) → sets_up p o.fixed.procedure ≡ false → HasEnded [] t → HasFrame t
+      → Tree p (suc n) o t w → AtEnd n t w
+  at-end n o (runs []) w other e d a = absurd d
+  at-end n o (runs (f ∷ g ∷ fs)) w other e d a = absurd e
+  at-end n o (waits fs x y) w other e d a = absurd e
+  at-end n o (runs (f ∷ [])) w other e d (v, a) =
       let safe : Ended p (known f v) a.left = subst (λ z. Safe p (suc n) (known f v) z a.left) e a.first in
       let same = parts-of_nothing (subst (Parts w a.left) a.second.1 a.parts) in
-      record { frame = f; values = v; is = refl; done = e; ended = subst (Ended p (known f v)) (sym same) safe }
+      let ended : Ended p (known f v) w = subst (Ended p (known f v)) (sym same) safe in
+      record {
+        frame = f;
+        values = v;
+        is = refl;
+        done = e;
+        ended = ended;
+        plain = sym (sets_up-is p f.fixed.procedure ended.procedure ended.owns.frame.there)
+            ∙ ap (λ (z : Known). sets_up p z.fixed.procedure) a.second.0 ∙ other;
+      }
 
   one-token : (r q : ℕ) → cond {A = Option (Unit {0})} (q == r) (Some tt) None ≢ None → q == r ≡ true
   one-token r q n = go (q == r) n
@@ -221,7 +223,7 @@ module _ (p : Program) (formed : IsFormed p) where
 
   ends-well : (n : ℕ) (o : Known) (c : Config) → IsOwned p (suc n) o c → HasEnded [] c.tasks → EndsWell p c
   ends-well n o c s e =
-      let a = at-end n o c.tasks s.tasks e s.stays s.tree in
+      let a = at-end n o c.tasks s.tasks s.plain e s.stays s.tree in
       record {
         frame = a.frame;
         alone = a.is;
@@ -229,7 +231,8 @@ module _ (p : Program) (formed : IsFormed p) where
         there = a.ended.owns.frame.there;
         free = λ r of there. is-free c.common.held 0 p.resources s.free r s.resources (λ z.
             let x : (everything p c.common).tokens r ≡ None =
-            s.parts.tokens.is r ∙ ap₂ option_or (a.ended.owns.tokens r) z in
+            s.parts.tokens.is r ∙ ap₂ option_or (a.ended.owns.tokens r
+            ∙ ap (λ b. cond {A = Option (Unit {0})} (b && ltb r.0 (length p.resources)) (Some tt) None) a.plain) z in
             token (ltb r.0 (length p.resources))
             (below r.0 (length p.resources) (slice_get_within p.resources r.0 of there)) x);
       }
@@ -259,7 +262,7 @@ module _ (p : Program) (formed : IsFormed p) where
       left = s.tasks.cells;
       right = λ a. None;
       splits = splits-empty_right empty-holds;
-      first = parts-end n c s.tasks s.free s.parts (at-end n o c.tasks s.tasks e s.stays s.tree);
+      first = parts-end n c s.tasks s.free s.parts (at-end n o c.tasks s.tasks s.plain e s.stays s.tree);
       second = λ i. empty-holds;
     }
     | inr e ↦ let a = parts-tasks n c.common c.tasks o s.tasks s.free s.parts s.tree in record {

@@ -11,13 +11,14 @@ use Rattle.sf_core.specs.Machine.Config.{Item, command, leave, items, Room, in_r
 use Rattle.sf_core.specs.Machine.Next.{frame_next}
 use Rattle.sf_core.specs.Machine.Reach.{Reach}
 use Rattle.sf_core.specs.Machine.Step.{Event, Goes, TaskStep, Step, arguments, open_room, room_for, room_count, index_of}
+use Rattle.sf_core.specs.Program.Formed.{IsFormed}
 use Rattle.sf_core.specs.Program.Syntax.{assign, look_up, mutate, new, dispose, if, while, call, fork, with, Procedure, Program}
 use Rattle.sf_safe.specs.Checked.Own.{Own, Parts, everything}
 use Rattle.sf_safe.specs.Checked.Contract.{Known}
 use Rattle.sf_safe.specs.Checked.Safe.{Safe}
 use Rattle.sf_safe.specs.Checked.Invariant.{known, Tree, Resources, HasFrame, IsMadeBefore, IsOwned}
 use Rattle.sf_safe.specs.Checked.Law.{BodiesAreSafe}
-use Rattle.sf_safe.proofs.Calls.{called, returned}
+use Rattle.sf_safe.proofs.Calls.{called, frame-returned}
 use Rattle.sf_safe.proofs.Commands.{assigned, disposed, looked_up, made, mutated, tested, Moved}
 use Rattle.sf_safe.proofs.Events.{After, alone}
 use Rattle.sf_safe.proofs.Forks.{forked, joined}
@@ -82,14 +83,14 @@ cond-old false x h e = h e
 module _ (p : Program) where
   -- ONE EVENT of one task
 
-  event : BodiesAreSafe p → (n : ℕ) (owed : Known) (ev : Event) (before after : Task) (s t : Common)
+  event : IsFormed p → BodiesAreSafe p → (n : ℕ) (owed : Known) (ev : Event) (before after : Task) (s t : Common)
       (used : ℕ → Type 0) (u r e : Own) → ((slot : Slot) → s.store slot ≢ None → AllMade used slot)
       → (used ev.number → ⊥) → Sums (everything p s) (u ∷ r ∷ e ∷ []) → Tree p (suc n) owed before u
       → Resources p s.held 0 p.resources e → TaskStep p ev s before t after → After p n owed t after r
-  event bodies n owed ev (runs []) after s t used u r e old unused a tree free d = absurd d
-  event bodies n owed ev (waits frames one other) after s t used u r e old unused a tree free d =
+  event formed bodies n owed ev (runs []) after s t used u r e old unused a tree free d = absurd d
+  event formed bodies n owed ev (waits frames one other) after s t used u r e old unused a tree free d =
       joined p n owed s t after u r e a free frames one other tree d.0 d.1 d.2 d.3
-  event bodies n owed ev (runs (f ∷ below)) after s t used u r e old unused a tree free d = go f.todo refl d
+  event formed bodies n owed ev (runs (f ∷ below)) after s t used u r e old unused a tree free d = go f.todo refl d
     where
       fresh : (g : Procedure) (slot : Slot) → in_room (room_for g ev.number 0) slot ≡ true
           → s.store slot ≡ None
@@ -104,7 +105,7 @@ module _ (p : Program) where
 
       go : (todo : List Item) → f.todo ≡ todo → Goes p ev s (frame_next f.fixed below todo) t after
           → After p n owed t after r
-      go [] i x = returned p n owed f below s t after u r e a tree free i x.1 x.2
+      go [] i x = frame-returned p n owed f below s t after u r e a tree free formed i x.1 x.2
       go (leave q ∷ rest) i x = exited p n owed f below s t after u r e a tree free ev.task q rest i x.0 x.1 x.2
       go (command (with place q test body) ∷ rest) i x =
           entered p n owed f below s t after u r e a tree free ev place q test body rest i x
@@ -252,12 +253,12 @@ entry-stays p n owed ev c d w st tree = subst HasFrame (sym st.tasks) (go ev.tas
     go (right ∷ path) i (waits frames one two) a x = tt
 
 -- one event keeps what is owned, for one event less
-pub step-owned : (p : Program) → BodiesAreSafe p → (n : ℕ) (entry : Known) (ev : Event) (c d : Config)
+pub step-owned : (p : Program) → IsFormed p → BodiesAreSafe p → (n : ℕ) (entry : Known) (ev : Event) (c d : Config)
     → IsOwned p (suc n) entry c → Step p ev c d → IsOwned p n entry d
-step-owned p bodies n entry ev c d s st =
+step-owned p formed bodies n entry ev c d s st =
     let k = focus p n entry ev.task c.tasks st.from s.tasks st.there s.tree in
     let all = opened (k.part ∷ k.rest ∷ []) (s.free ∷ []) (two s.parts) (two k.parts) in
-    let x = event p bodies n k.owes ev st.from st.to c.common d.common (λ e. c.used e ≡ true) k.part k.rest s.free
+    let x = event p formed bodies n k.owes ev st.from st.to c.common d.common (λ e. c.used e ≡ true) k.part k.rest s.free
     (λ slot h. made-same c slot (s.made slot h)) (λ i. true≢false (sym i ∙ st.fresh)) all k.here s.resources st.steps in
     let g = group (x.free ∷ []) x.sums in
     record {
@@ -269,12 +270,13 @@ step-owned p bodies n entry ev c d s st =
       made = made-after p ev c d st s.made
           (grows p n k.owes ev st.from st.to c.common d.common k.part all.0 all.1 k.here st.steps);
       stays = entry-stays p n entry ev c d s.tasks st s.tree;
+      plain = s.plain;
     }
 
 -- a list of events keeps it, where it holds for every number of events
-pub reach-owned : (p : Program) → BodiesAreSafe p
+pub reach-owned : (p : Program) → IsFormed p → BodiesAreSafe p
     → (events : List Event) (n : ℕ) (entry : Known) (c d : Config)
     → ((m : ℕ) → IsOwned p m entry c) → Reach p c events d → IsOwned p n entry d
-reach-owned p bodies [] n entry c d s r = subst (IsOwned p n entry) (sym r) (s n)
-reach-owned p bodies (ev ∷ events) n entry c d s (m, x, y) =
-    reach-owned p bodies events n entry m d (λ k. step-owned p bodies k entry ev c m (s (suc k)) x) y
+reach-owned p formed bodies [] n entry c d s r = subst (IsOwned p n entry) (sym r) (s n)
+reach-owned p formed bodies (ev ∷ events) n entry c d s (m, x, y) =
+    reach-owned p formed bodies events n entry m d (λ k. step-owned p formed bodies k entry ev c m (s (suc k)) x) y

@@ -27,10 +27,13 @@ use Rattle.sf_core.specs.Assertions.Sat.{Sat, value}
 use Rattle.sf_core.specs.Machine.Config.{Room, evaluate, in_room}
 use Rattle.sf_core.specs.Machine.Step.{arguments, own_slot, procedure_at, room_count, room_for, slots_of}
 use Rattle.sf_core.specs.Program.Formed.{IsFormed, IsParameter}
+use Rattle.sf_core.specs.Checked.GoodParts.{SatEach}
+use Rattle.sf_core.specs.Program.Init.{is_init}
 use Rattle.sf_core.specs.Program.Syntax.{Call, Procedure, Program}
+use Rattle.sf_core.proofs.Inits.{owed_by-post}
 use Rattle.sf_core.proofs.Assertions.Sat.{sat-same_variables}
-use Rattle.sf_safe.specs.Checked.Own.{HasSlot, Own, Parts, new_slots}
-use Rattle.sf_safe.specs.Checked.Contract.{Ended, Entered, IsVariableOf, Known, Returned, see, value_of}
+use Rattle.sf_safe.specs.Checked.Own.{HasSlot, Own, Parts, new_slots, without_room}
+use Rattle.sf_safe.specs.Checked.Contract.{Ended, Entered, IsVariableOf, Known, Returned, given_back, see, tokens_of, value_of}
 use Rattle.sf_safe.specs.Checked.Local.{ComesBack, Fits, HasJustVars, Local, callee_value, own_value, value_in}
 use Rattle.sf_safe.specs.Checked.Safe.{callee}
 use Rattle.sf_safe.proofs.Calls.{room-index}
@@ -99,7 +102,7 @@ cond-yes false x v e = absurd (none-some v e)
 
 pub pre-variable : (p : Program) → IsFormed p → (f : ProcId) (g : Procedure) → procedure_at p f ≡ Some g → (x : Var)
     → VarOccursIn g.pre.level x → IsVariableOf p f g x
-pre-variable p formed f g there (Shared r i) o = (tt, directly (g, there, inl o))
+pre-variable p formed f g there (Shared r i) o = inl (tt, directly (g, there, inl o))
 pre-variable p formed f g there (OwnVar i) o =
     let within = formed.procedures f.0 g there in
     let l : i < g.references + g.values =
@@ -138,6 +141,15 @@ module _ (p : Program) (formed : IsFormed p) (k : Known) (w : Own)
   -- a variable of the callee
   abbrev IsMine : Var → Type 0
   IsMine = IsVariableOf p c.callee g
+
+  -- a variable of a resource is one that is free in it, since it doesn't set the resources up
+  mine-free : (r : ResId) (i : ℕ) → IsMine (Shared r i) → Free p c.callee (Shared r i)
+  mine-free r i (inl free) = free
+  mine-free r i (inr a) = absurd (true≢false (sym a.0 ∙ fits.no_init))
+
+  -- nor has it a token
+  no-tokens : (r : ResId) → tokens_of p g r ≡ None
+  no-tokens r = ap (λ b. cond {A = Option (Unit {0})} (b && ltb r.0 (length p.resources)) (Some tt) None) fits.no_init
 
   enough : g.references + g.values + g.locals ≤ length g.names
   enough = (formed.procedures c.callee.0 g there).declared
@@ -187,8 +199,8 @@ module _ (p : Program) (formed : IsFormed p) (k : Known) (w : Own)
       -- each variable of the callee has in its slot the value that the caller gives it
       begun-is : (x : Var) → IsMine x
           → begun.slots (mine_slots x) ≡ Some (callee_value (value_in lent) c args x)
-      begun-is (Shared r i) free =
-          let v = variables.each (Shared r i) (inr free) in
+      begun-is (Shared r i) a =
+          let v = variables.each (Shared r i) (inr (mine-free r i a)) in
           let slot = splits-has_left (slots (Shared r i)) v.0 q.slots (seen.each (Shared r i) v.0 v.1) in
           ap begun.slots (sym (global r i)) ∙ slot ∙ ap Some (sym (ap (λ z. unwrap_or z nil) v.1))
       begun-is (OwnVar i) l = go (own-of slots c.references room (value_in lent) args i)
@@ -214,7 +226,7 @@ module _ (p : Program) (formed : IsFormed p) (k : Known) (w : Own)
             | inl a ↦ reference-one (among-slice c.references x a)
             | inr free ↦
                 let m = lent-shared x free in
-                (Shared m.0 m.1, subst (Free p c.callee) m.2 free, sym (global m.0 m.1) ∙ ap slots (sym m.2) ∙ is)
+                (Shared m.0 m.1, inl (subst (Free p c.callee) m.2 free), sym (global m.0 m.1) ∙ ap slots (sym m.2) ∙ is)
           ]
             where
               reference-one : (i : ℕ) × (y : Occurrence) × (slice_get c.references i ≡ Some y) × (y.var ≡ x)
@@ -265,8 +277,8 @@ module _ (p : Program) (formed : IsFormed p) (k : Known) (w : Own)
 
       begun-apart : (x y : Var) → IsMine x → IsMine y → mine_slots x ≡ mine_slots y → x ≡ y
       begun-apart (Shared r i) (Shared o j) a b e = shared-variable r o i j e
-      begun-apart (OwnVar i) (Shared r j) a b e = absurd (begun-mixed i r j b e)
-      begun-apart (Shared r j) (OwnVar i) a b e = absurd (begun-mixed i r j a (sym e))
+      begun-apart (OwnVar i) (Shared r j) a b e = absurd (begun-mixed i r j (mine-free r j b) e)
+      begun-apart (Shared r j) (OwnVar i) a b e = absurd (begun-mixed i r j (mine-free r j a) (sym e))
       begun-apart (OwnVar i) (OwnVar j) a b e =
           go (own-of slots c.references room (value_in lent) args i) (own-of slots c.references room (value_in lent) args j)
         where
@@ -344,10 +356,12 @@ module _ (p : Program) (formed : IsFormed p) (k : Known) (w : Own)
             each = λ x a. (callee_value (value_in lent) c args x, begun-is x a);
             only = begun-only;
           };
-          tokens = λ r. splits-lacks_whole r q.tokens (ap (λ z. z r) seen.tokens ∙ outside r) refl;
+          tokens = λ r. splits-lacks_whole r q.tokens (ap (λ z. z r) seen.tokens ∙ outside r) refl
+              ∙ sym (no-tokens r);
           values = λ i l. begun-value (OwnVar (g.references + i)) (value-mine i l) ∙ own-argument i;
         };
         locals = λ i l m. begun-value (OwnVar i) m ∙ local-nil i l;
+        unset = λ r i a. absurd (true≢false (sym a.0 ∙ fits.no_init));
         pre = subst (Sat g.pre.level (see begins begun) (λ n. nil)) (sym cells)
             (sat-same_variables g.pre.level (callee_value (value_in lent) c args)
             (λ x. unwrap_or (begun.slots (mine_slots x)) nil) (λ n. nil) lent.cells
@@ -377,6 +391,10 @@ module _ (p : Program) (formed : IsFormed p) (k : Known) (w : Own)
 
       same-procedure : ended.procedure ≡ g
       same-procedure = same_Some ended.procedure g (sym ended.owns.frame.there ∙ there)
+
+      -- the callee gives back what it has but its room
+      back-all : back ≡ without_room room full
+      back-all = returned.is ∙ ap (λ b. given_back b room full) (ap is_init same-procedure ∙ fits.no_init)
 
       mine-then : (x : Var) → IsMine x → IsVariableOf p c.callee ended.procedure x
       mine-then x a = subst (λ z. IsVariableOf p c.callee z x) (sym same-procedure) a
@@ -408,7 +426,7 @@ module _ (p : Program) (formed : IsFormed p) (k : Known) (w : Own)
       view-now x m = let v = variables.each x m in kept-now (lent.values x) (back.slots (slots x)) v.0 v.1
 
       back-is : (s : Slot) → back.slots s ≡ cond (in_room room s) None (full.slots s)
-      back-is s = ap (λ (z : Own). z.slots s) returned.is
+      back-is s = ap (λ (z : Own). z.slots s) back-all
 
       -- no reference is in the callee's room
       not-in_room : (i : ℕ) (y : Occurrence) → slice_get c.references i ≡ Some y → in_room room (slots y.var) ≡ false
@@ -449,7 +467,7 @@ module _ (p : Program) (formed : IsFormed p) (k : Known) (w : Own)
       back-shared : (r : ResId) (i : ℕ) → Free p c.callee (Shared r i)
           → back.slots (slots (Shared r i)) ≡ full.slots (shared r i)
       back-shared r i free =
-          let v = full-has (Shared r i) free in
+          let v = full-has (Shared r i) (inl free) in
           ap back.slots (global r i) ∙ back-from (shared r i) v.0 v.1 refl ∙ sym v.1
 
       back-has : (x : Var) → MayChange p c x → HasSlot back (slots x)
@@ -460,7 +478,7 @@ module _ (p : Program) (formed : IsFormed p) (k : Known) (w : Own)
       back-has x (inr free) =
           let m = lent-shared x free in
           let free2 = subst (Free p c.callee) m.2 free in
-          let v = full-has (Shared m.0 m.1) free2 in
+          let v = full-has (Shared m.0 m.1) (inl free2) in
           (v.0, ap (λ z. back.slots (slots z)) m.2 ∙ back-shared m.0 m.1 free2 ∙ v.1)
 
       back-only : (sl : Slot) (v : Value) → back.slots sl ≡ Some v
@@ -476,7 +494,7 @@ module _ (p : Program) (formed : IsFormed p) (k : Known) (w : Own)
 
           go : (y : Var) → IsMine y → mine_slots y ≡ sl → in_room room sl ≡ false
               → (x : Var) × (back_view.values x ≡ Some v) × (slots x ≡ sl)
-          go (Shared r i) free is n = found (Shared r i) (inr free) (global r i ∙ is)
+          go (Shared r i) a is n = found (Shared r i) (inr (mine-free r i a)) (global r i ∙ is)
           go (OwnVar i) l is n = own-one (own-of slots c.references room (λ x. nil) args i)
             where
               own-one : OwnOf slots c.references room (λ x. nil) args i
@@ -540,11 +558,13 @@ module _ (p : Program) (formed : IsFormed p) (k : Known) (w : Own)
           only = λ x h.
               let a = kept-lent (lent.values x) (back.slots (slots x)) h.0 h.1 in variables.only x (a.0, a.1);
         };
-        outside = λ r. ap (λ (z : Own). z.tokens r) returned.is ∙ ended.owns.tokens r;
+        outside = λ r. ap (λ (z : Own). z.tokens r) back-all ∙ ended.owns.tokens r
+            ∙ ap (λ (z : Procedure). tokens_of p z r) same-procedure ∙ no-tokens r;
         post = subst (Sat g.post.level (value (callee_value (value_in back_view) c args)) (λ n. nil))
-            (sym (ap (λ (z : Own). z.cells) returned.is))
+            (sym (ap (λ (z : Own). z.cells) back-all))
             (sat-same_variables g.post.level (λ x. unwrap_or (full.slots (mine_slots x)) nil)
             (callee_value (value_in back_view) c args) (λ n. nil) full.cells back-value
             (subst (λ (z : Procedure). Sat z.post.level (see begins full) (λ n. nil) full.cells) same-procedure
-            (star-drop_right ended.posts)));
+            (star-drop_right (subst (λ z. SatEach z (see begins full) full.cells)
+            (owed_by-post p ended.procedure (ap is_init same-procedure ∙ fits.no_init)) ended.posts))));
       }

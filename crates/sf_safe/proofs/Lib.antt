@@ -6,6 +6,9 @@ pub mod Trees
 pub mod Events
 pub mod Calls
 pub mod Forks
+pub mod Owed
+pub mod Settled
+pub mod Freed
 pub mod Regions
 pub mod Keeps
 pub mod NeverBad

@@ -2,7 +2,7 @@
 -- Names: the law's, and `local-WHAT`.
 use Rattle.std.specs.Prelude.{◌≡◌, ℕ, zero, suc, Bool, true, false, cond, List, [], ◌∷◌, ◌++◌, Option, Some, None, ◌<◌, ◌≤◌, ◌+◌, length, ltb}
 use Rattle.std.specs.Option.{unwrap_or}
-use Rattle.std.proofs.Common.{sym, ap, ◌∙◌, refl, subst, arith}
+use Rattle.std.proofs.Common.{sym, ap, ◌∙◌, refl, subst, inr, arith}
 use Rattle.std.proofs.lemmas.Bool.Decides.{nat_tests}
 use Rattle.std.proofs.lemmas.Option.{none-some, same_Some}
 use Rattle.sf_base.specs.declared.ids.ResId.{ResId}
@@ -10,7 +10,6 @@ use Rattle.sf_base.specs.declared.ids.Var.{Var}
 use Rattle.sf_base.specs.declared.ids.Var.TheVariants.{Own as OwnVar, Shared}
 use Rattle.sf_base.specs.declared.value.Value.{Value}
 use Rattle.sf_base.specs.declared.value.Value.TheVariants.{Nil as nil, Loc as loc}
-use Rattle.sf_base.proofs.HeapSplits.{star-map_left}
 use Rattle.sf_base.specs.HeapStore.{Slot, put_field, shared}
 use Rattle.sf_base.proofs.MapSplits.{splits-has_left, splits-has_right}
 use Rattle.sf_calls.specs.Checked.Lemmas.Within.{level_within}
@@ -25,12 +24,12 @@ use Rattle.sf_core.specs.Program.Formed.{IsFormed, IsOfResource}
 use Rattle.sf_core.specs.Program.Syntax.{assign, look_up, mutate, new, dispose, if, while, call, fork, with, Procedure, Program}
 use Rattle.sf_core.proofs.Assertions.Sat.{sat-same_variables}
 use Rattle.sf_safe.specs.Checked.Own.{HasSlot, Own, put_cell, put_slot}
-use Rattle.sf_safe.specs.Checked.Contract.{Ended, FreeShare, IsFrameOf, IsVariableOf, Known, OwnsVariables, see, value_of}
+use Rattle.sf_safe.specs.Checked.Contract.{Ended, FreeShare, IsFrameOf, IsVariableOf, Known, OwnsVariables, SetsVariableUp, see, value_of}
 use Rattle.sf_safe.specs.Checked.Local.{Begins, ComesBack, Ends, HasVar, IsShare, Lends, Local, LocalParts, look, put_local, put_variable, value_in}
 use Rattle.sf_safe.specs.Checked.LocalSafe.{BodiesAreLocallySafe, HasCell, LocalSafe, LocallySafeProgramsAreSound}
 use Rattle.sf_safe.specs.Checked.Law.{BodiesAreSafe, SafeProgramsAreSound}
 use Rattle.sf_safe.specs.Checked.Safe.{OwnsCell, Safe}
-use Rattle.sf_safe.proofs.GoodOwned.{post-variable}
+use Rattle.sf_safe.proofs.Owed.{each-map, owed-variable}
 use Rattle.sf_safe.proofs.Lent.{back-seen, back_view, begun-entered, comes-back, pre-variable}
 use Rattle.sf_safe.proofs.Sound.{safe_programs_are_sound}
 use Rattle.sf_safe.proofs.Views.{IsSeen, joined_view, seen-arguments, seen-cell, seen-has, seen-has_all, seen-has_test, seen-is, seen-is_test, seen-part, seen-set, seen-split, share_of, view-parts, view-seen}
@@ -56,16 +55,17 @@ module _ (p : Program) (formed : IsFormed p) (k : Known) (g : Procedure) (frame 
             each = λ x a. let v = e.owns.variables.each x a in (v.0, s.each x v.0 v.1);
             only = λ t v i. let y = s.only t v i in (y.0, e.owns.variables.only y.0 (v, y.1), y.2);
           };
-          tokens = λ r. ap (λ z. z r) s.tokens ∙ e.owns.outside r;
+          tokens = λ r. ap (λ z. z r) s.tokens ∙ e.owns.tokens r;
           values = λ i a.
               value-seen l w s (OwnVar (e.procedure.references + i))
               (e.owns.variables.each (OwnVar (e.procedure.references + i)) (small e.procedure e.there i a))
               ∙ e.owns.parameters i a;
         };
         posts = subst (SatEach (owed_by p e.procedure) (see k w)) (sym s.cells)
-            (star-map_left (λ part t. sat-same_variables e.procedure.post.level (value_in l) (λ x. value_of k w x)
+            (each-map (owed_by p e.procedure) (look l) (see k w)
+            (λ i a h part t. sat-same_variables a (value_in l) (λ x. value_of k w x)
             (λ n. nil) part (λ x o. sym (value-seen l w s x (e.owns.variables.each x
-            (post-variable p formed k.fixed.procedure e.procedure e.there x o)))) t) e.posts);
+            (owed-variable p formed k.fixed.procedure e.procedure e.there i a h x o)))) t) l.cells e.posts);
       }
     where
       small : (h : Procedure) → procedure_at p k.fixed.procedure ≡ Some h → (i : ℕ) → i < h.values
@@ -450,17 +450,19 @@ module _ (p : Program) (formed : IsFormed p) (k : Known) (g : Procedure) (frame 
     entry-value x a = ap (λ z. unwrap_or z nil) (values-are x a)
 
     entry-begins : ((i : ℕ) → g.references + g.values ≤ i → i < length g.names → value_of k w (OwnVar i) ≡ nil)
+        → ((r : ResId) (i : ℕ) → SetsVariableUp p g r i → value_of k w (Shared r i) ≡ nil)
         → Sat g.pre.level (see k w) (λ n. nil) w.cells → Begins p k.fixed.procedure g k.values entry-view
-    entry-begins locals pre = record {
+    entry-begins locals unset pre = record {
       owns = record {
         variables = record {
           each = λ x a. let v = o.variables.each x a in (v.0, values-are x a ∙ v.1);
           only = λ x h. (values-only x h.0 h.1).0;
         };
-        outside = o.tokens;
+        tokens = o.tokens;
         parameters = λ i l. entry-value (OwnVar (g.references + i)) (small i l) ∙ o.values i l;
       };
       locals = λ i l m. entry-value (OwnVar i) m ∙ locals i l m;
+      unset = λ r i a. entry-value (Shared r i) (inr a) ∙ unset r i a;
       pre = sat-same_variables g.pre.level (λ x. value_of k w x) (value_in entry-view) (λ n. nil) w.cells
           (λ x a. sym (entry-value x (pre-variable p formed k.fixed.procedure g frame.there x a))) pre;
     }
@@ -480,7 +482,7 @@ local-bodies p formed a k g there n w e =
     (entry-seen p formed k e.procedure e.owns.frame w e.owns)
     (a k.fixed.procedure e.procedure e.owns.frame.there k.values n
     (entry-view p formed k e.procedure e.owns.frame w e.owns)
-    (entry-begins p formed k e.procedure e.owns.frame w e.owns e.locals e.pre)))
+    (entry-begins p formed k e.procedure e.owns.frame w e.owns e.locals e.unset e.pre)))
 
 pub locally_safe_programs_are_sound : LocallySafeProgramsAreSound
 unfolding LocallySafeProgramsAreSound SafeProgramsAreSound

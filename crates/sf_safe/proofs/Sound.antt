@@ -10,5 +10,5 @@ unfolding SafeProgramsAreSound
 safe_programs_are_sound p formed conditions bodies f store heap start reached events s r =
     let mine = entry p formed conditions f store heap start s in
     good-owned p formed 0 mine reached
-    (reach-owned p bodies events 1 mine start reached
+    (reach-owned p formed bodies events 1 mine start reached
     (λ n. start-owned p formed conditions f store heap start s bodies n) r)

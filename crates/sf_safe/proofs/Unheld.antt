@@ -99,8 +99,8 @@ module _ (p : Program) (f : ProcId) (r : ResId) (i : ℕ) where
 
       go : FreeIn p f x → ⊥
       go (directly (h, there, inl o)) =
-          n (record { procedure = h; there = there; variable = i; occurs = inl o })
+          n (inl (record { procedure = h; there = there; variable = i; occurs = inl o }))
       go (directly (h, there, inr (inl o))) =
-          n (record { procedure = h; there = there; variable = i; occurs = inr o })
+          n (inl (record { procedure = h; there = there; variable = i; occurs = inr o }))
       go (directly (h, there, inr (inr o))) = broken h there (block-occurs n h.body o)
       go (through g (h, there, c) m) = broken h there (block-calls n g (tt, m) h.body c)

@@ -1,7 +1,7 @@
 -- A body that isn't safe for one event.
 -- Names: the law's.
 use Rattle.std.specs.Prelude.{◌≡◌, ◌⊎◌, ℕ, zero, suc, Bool, slice_get, true, false, cond, [], ◌∷◌, Option, Some, None, ◌<◌, ◌≤◌, ◌+◌, ◌-◌}
-use Rattle.std.proofs.Common.{sym, ap, ◌∙◌, refl, subst, inl, inr, arith}
+use Rattle.std.proofs.Common.{true≢false, sym, ap, ◌∙◌, refl, subst, inl, inr, arith}
 use Rattle.std.proofs.lemmas.Option.{none-some, same_Some}
 use Rattle.sf_base.specs.declared.ids.ProcId.{ProcId}
 use Rattle.sf_base.specs.declared.ids.ResId.{ResId}
@@ -86,15 +86,19 @@ none-local i l m = omega (arith, l, m)
 own-slots : (i : ℕ) → 1 ≤ i → i < 1 → own 0 i ≡ own 0 (1 + (i - 1))
 own-slots i l m = absurd (none-local i l m)
 
+shared-none : (r : ResId) (i : ℕ) → IsVariableOf writing first writes (Shared r i) → ⊥
+shared-none r i (inl a) = free-none first r i a
+shared-none r i (inr a) = true≢false (sym a.0)
+
 frame-apart : (x y : Var) → IsVariableOf writing first writes x → IsVariableOf writing first writes y
     → entry_slot x ≡ entry_slot y → x ≡ y
 frame-apart (OwnVar i) (OwnVar j) a b e = cc
-frame-apart (OwnVar i) (Shared q j) a b e = absurd (free-none first q j b)
-frame-apart (Shared r i) y a b e = absurd (free-none first r i a)
+frame-apart (OwnVar i) (Shared q j) a b e = absurd (shared-none q j b)
+frame-apart (Shared r i) y a b e = absurd (shared-none r i a)
 
 slots-each : (x : Var) → IsVariableOf writing first writes x → HasSlot begun_share (entry_slot x)
 slots-each (OwnVar i) l = (nil, ap (λ z. one_in nil (own 0 z)) (below-one i l))
-slots-each (Shared r i) a = absurd (free-none first r i a)
+slots-each (Shared r i) a = absurd (shared-none r i a)
 
 cond-true : (b : Bool) (x : Option Value) (v : Value) → cond b x None ≡ Some v → b ≡ true
 cond-true true x v e = refl
@@ -122,6 +126,7 @@ entered = record {
     values = λ i l. let e : ⊥ = omega (arith, l) in absurd e;
   };
   locals = λ i l m. absurd (none-local i l m);
+  unset = λ r i a. absurd (true≢false (sym a.0));
   pre = ((λ n. nil), (λ n e. refl), empty-holds);
 }
 

@@ -3,7 +3,7 @@
 use Rattle.std.specs.List.{AllByRecursion, AllPairs, Contains, IsDistinct, flat_map, list_any, slice_get}
 use Rattle.std.specs.Option.{option_map, unwrap_or}
 use Rattle.std.specs.Prelude.{All}
-use Rattle.std.proofs.Common.{◌≡◌, ℕ, zero, suc, ◌+◌, ◌-◌, ◌*◌, ◌<◌, ◌≤◌, ◌==◌, true, false, get_or, Option, Some, None, List, [], ◌∷◌, ◌++◌, length, map, refl, sym, ap, ◌∙◌, subst, inl, inr, arith, length-append}
+use Rattle.std.proofs.Common.{◌≡◌, ℕ, zero, suc, ◌+◌, ◌-◌, ◌*◌, ◌<◌, ◌≤◌, ◌==◌, Bool, true, false, cond, get_or, Option, Some, None, List, [], ◌∷◌, ◌++◌, length, map, refl, sym, ap, ◌∙◌, subst, inl, inr, arith, length-append}
 use Rattle.std.proofs.lemmas.Bool.{or_cases}
 use Rattle.std.proofs.lemmas.Bool.Decides.{Decides-eqb, nat_tests}
 use Rattle.std.proofs.lemmas.List.{length-map}
@@ -18,8 +18,10 @@ use Rattle.sf_base.specs.declared.limits.TheConstants.{RESOURCES, RESOURCE_VARIA
 use Rattle.sf_calls.specs.Checked.Laws.{HeldResourcesAreThere}
 use Rattle.sf_calls.specs.Sets.{AreSetsOf, IsEarlierResource}
 use Rattle.sf_core.specs.Program.Formed.{IsFormed}
-use Rattle.sf_core.specs.Program.Syntax.{Procedure, Resource}
-use Rattle.sf_rules.specs.First.{first_goal, first_state_of, links_of, nils, own_vars, symbols, variables_of}
+use Rattle.sf_core.specs.Program.Init.{is_init}
+use Rattle.sf_core.specs.Program.Syntax.{Assertion, Procedure, Resource}
+use Rattle.sf_precise.specs.Annotations.{owed}
+use Rattle.sf_rules.specs.First.{first_goal, first_state_of, links_of, nils, own_vars, symbols, variables_of, with_held}
 use Rattle.sf_rules.specs.Rows.Regions.{variables_from}
 use Rattle.sf_rules.specs.Setting.{Setting}
 use Rattle.sf_search.proofs.Fitting.{to_add-below, to_add-fits, to_run-below, to_run-fits}
@@ -27,13 +29,13 @@ use Rattle.sf_search.proofs.FittingStates.{StateShaped}
 use Rattle.sf_search.proofs.FormedBodies.{resource-few}
 use Rattle.sf_search.proofs.FreshVariables.{term-below, variables-length}
 use Rattle.sf_search.proofs.ShapedGoals.{goal-shaped}
-use Rattle.sf_search.proofs.ShapedRows.{ProgramFits, fresh-shaped}
-use Rattle.sf_search.specs.Shaped.{BlockFits, IsShaped}
+use Rattle.sf_search.proofs.ShapedRows.{ProgramFits, fresh-shaped, nil-shaped}
+use Rattle.sf_search.specs.Shaped.{AnnotationFits, BlockFits, IsShaped, LevelFits}
 use Rattle.sf_sym.specs.Below.{AllPaired, IsBelow}
 use Rattle.sf_sym.specs.declared.term.Term.{Term}
 use Rattle.sf_sym.specs.Goal.{return, to_run}
 use Rattle.sf_sym.specs.Checked.Lemmas.Below.{below-symbol}
-use Rattle.sf_sym.specs.State.{first_state, term}
+use Rattle.sf_sym.specs.State.{State, first_state, term}
 
 -- RESOURCES THAT ARE HELD, by their numbers
 resources-distinct : (rs : List ResId) → AllPairs IsEarlierResource rs
@@ -123,12 +125,49 @@ module _ (d : Setting) (formed : IsFormed d.program) (sets : AreSetsOf d.program
           let same = variables-length r 0 of.variables in
           omega (arith, few, same, formed.variables)
 
-  -- the first goal has few symbols, and one atom's number is next
+  -- variables of resources that are held need a symbol each at most
+  held-next : (b : Bool) (xs : List Var) (s : State) (most : ℕ) → s.next_sym + length xs ≤ most
+      → (with_held b xs s).next_sym ≤ most
+  held-next true xs s most l = omega (arith, l)
+  held-next false xs s most l = l
+
+  -- the first goal has few symbols
   pub first-symbols : (f : ProcId) (g : Procedure) → slice_get d.program.procedures f.0 ≡ Some g
       → (first_goal d f g).state.next_sym ≤ 20000
   first-symbols f g there =
       let flat = flat-few (variables_of d.program) RESOURCE_VARIABLES (get_or d.sets.holds f.0 []) variables-few in
-      omega (arith, flat, held-few f, (formed.procedures f.0 g there).declared_count)
+      held-next (is_init g) (flat_map (variables_of d.program) (get_or d.sets.holds f.0 []))
+      (first_state (links_of d.program) (own_vars g) (g.references + g.values)) 20000
+      (omega (arith, flat, held-few f, (formed.procedures f.0 g there).declared_count))
+
+  -- variables of resources that are held are there
+  held-shaped : (xs : List Var) (s : State) → StateShaped d s → (b : Bool) → StateShaped d (with_held b xs s)
+  held-shaped xs s h true = nil-shaped d s xs h
+  held-shaped xs s h false = fresh-shaped d s xs h
+
+  -- what its return owes fits
+  invariants-fit : (rs : List Resource)
+      → ((k : ℕ) (r : Resource) → slice_get rs k ≡ Some r → AnnotationFits d r.invariant)
+      → AllByRecursion (λ (a : Assertion). LevelFits (links_of d.program) a.level)
+      (map d.ordered (map (λ r. r.invariant) rs))
+  invariants-fit [] fits = tt
+  invariants-fit (r ∷ rs) fits = (fits 0 r refl, invariants-fit rs (λ k q e. fits (suc k) q e))
+
+  owed-fits : (b : Bool) (g : Procedure) → AnnotationFits d g.post → ProgramFits d
+      → AllByRecursion (λ (a : Assertion). LevelFits (links_of d.program) a.level)
+      (map d.ordered (cond b (map (λ r. r.invariant) d.program.resources) (g.post ∷ [])))
+  owed-fits true g post fits = invariants-fit d.program.resources fits.resources
+  owed-fits false g post fits = (post, tt)
+
+  -- the next atom is its first one
+  pub first-atom : (f : ProcId) (g : Procedure) → (first_goal d f g).state.next_atom ≡ 1
+  first-atom f g = go (is_init g)
+    where
+      go : (b : Bool)
+          → (with_held b (flat_map (variables_of d.program) (get_or d.sets.holds f.0 []))
+          (first_state (links_of d.program) (own_vars g) (g.references + g.values))).next_atom ≡ 1
+      go true = refl
+      go false = refl
 
   -- it is shaped
   pub first-shaped : (f : ProcId) (g : Procedure) → slice_get d.program.procedures f.0 ≡ Some g → ProgramFits d
@@ -139,12 +178,12 @@ module _ (d : Setting) (formed : IsFormed d.program) (sets : AreSetsOf d.program
         below = record { vars = own-below g; apart = tt; atoms = tt; taken = tt };
         fits = record { links = refl; atoms = tt; rising = tt; given = tt };
       } in
-      let k = fresh-shaped d (first_state (links_of d.program) (own_vars g) (g.references + g.values))
-      (flat_map (variables_of d.program) (get_or d.sets.holds f.0 [])) own in
+      let k = held-shaped (flat_map (variables_of d.program) (get_or d.sets.holds f.0 []))
+      (first_state (links_of d.program) (own_vars g) (g.references + g.values)) own (is_init g) in
       let f2 = fits.procedures f.0 g there in
-      let last = return g.end (d.ordered g.post) ∷ [] in
+      let last = return g.end (map d.ordered (owed d.program g)) ∷ [] in
       goal-shaped d s _ k
       (to_add-below (IsBelow s.next_sym) g.place (term s.vars) (d.ordered g.pre) (to_run g.body ++ last)
       (term-below s.next_sym s.vars k.below.vars) (to_run-below (IsBelow s.next_sym) g.body last (tt, tt)))
       (to_add-fits d g.place (term s.vars) (d.ordered g.pre) (to_run g.body ++ last) f2.0
-      (to_run-fits d g.body last body f2.1))
+      (to_run-fits d g.body last body (owed-fits (is_init g) g f2.1 fits)))

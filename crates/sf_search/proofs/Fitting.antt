@@ -19,7 +19,7 @@ use Rattle.sf_core.specs.declared.fields.Links.{Links}
 use Rattle.sf_core.specs.Program.Syntax.{Assertion, Block, done, then, Conjunct, holds, points, segment, tree, choose, Conjuncts, none, also, Level, level}
 use Rattle.sf_rules.specs.First.{links_of}
 use Rattle.sf_rules.specs.Setting.{Setting}
-use Rattle.sf_rules.specs.Words.{pending_assertion, test_conjuncts, to_add, to_add_test, to_take}
+use Rattle.sf_rules.specs.Words.{pending_assertion, test_conjuncts, to_add, to_add_test, to_take, to_take_each}
 use Rattle.sf_search.specs.Shape.{are_some}
 use Rattle.sf_search.specs.Shaped.{BlockFits, ConjunctFits, ConjunctsFit, LevelFits, TodoFits}
 use Rattle.sf_sym.specs.Below.{AllInItem, AllInPending}
@@ -124,6 +124,13 @@ pub to_take-fits : (d : Setting) (p : Place) (to : Expr → Term) (a : Assertion
 to_take-fits d p to a rest f g =
     taking-fits d p (pending_assertion to a) a.names rest (pending-fits (links_of d.program) to a f) g
 
+pub to_take_each-fits : (d : Setting) (p : Place) (to : Expr → Term) (owed : List Assertion) (rest : List Item)
+    → AllByRecursion (λ (a : Assertion). LevelFits (links_of d.program) a.level) owed → TodoFits d rest
+    → TodoFits d (to_take_each p to owed rest)
+to_take_each-fits d p to [] rest f g = g
+to_take_each-fits d p to (a ∷ owed) rest f g =
+    to_take-fits d p to a (to_take_each p to owed rest) f.0 (to_take_each-fits d p to owed rest f.1 g)
+
 -- commands of a block
 pub to_run-fits : (d : Setting) (b : Block) (rest : List Item) → BlockFits d b → TodoFits d rest
     → TodoFits d (to_run b ++ rest)
@@ -159,6 +166,13 @@ module _ (P : Term → Type 0) where
   pub to_take-below : (p : Place) (to : Expr → Term) (a : Assertion) (rest : List Item) → ((e : Expr) → P (to e))
       → AllByRecursion (AllInItem P) rest → AllByRecursion (AllInItem P) (to_take p to a ++ rest)
   to_take-below p to a rest all b = taking-below p (pending_assertion to a) a.names rest (pending-below to a all) b
+
+  pub to_take_each-below : (p : Place) (to : Expr → Term) (owed : List Assertion) (rest : List Item)
+      → ((e : Expr) → P (to e)) → AllByRecursion (AllInItem P) rest
+      → AllByRecursion (AllInItem P) (to_take_each p to owed rest)
+  to_take_each-below p to [] rest all b = b
+  to_take_each-below p to (a ∷ owed) rest all b =
+      to_take-below p to a (to_take_each p to owed rest) all (to_take_each-below p to owed rest all b)
 
   test-below : (p : Place) (to : Expr → Term) → ((e : Expr) → P (to e)) → (t : Test Expr) (u : Term)
       → OccursInAll (test_conjuncts p to t) (Known u) → P u

@@ -12,6 +12,7 @@ use Rattle.sf_core.specs.declared.command.Expr.TheVariants.{Var as Variable, Nil
 use Rattle.sf_core.specs.declared.command.Occurrence.{Occurrence}
 use Rattle.sf_core.specs.Program.Syntax.{Call}
 use Rattle.sf_rules.specs.declared.few.TheConstants.{TOO_MANY}
+use Rattle.sf_rules.specs.First.{nil_for}
 use Rattle.sf_rules.specs.Rows.Calls.{callee_term, own_term, term_after, term_before, term_by}
 use Rattle.sf_rules.specs.Rows.Regions.{variables_from}
 use Rattle.sf_sym.specs.Below.{AllPaired, IsBelow}
@@ -39,6 +40,11 @@ pub fresh-below : (n : ℕ) (xs : List Var) (most : ℕ) → n + length xs ≤ m
 fresh-below n [] most l = tt
 fresh-below n (x ∷ xs) most l =
     (below-symbol most n (omega (arith, l)), fresh-below (suc n) xs most (omega (arith, l)))
+
+-- NIL
+pub nil_for-below : (n : ℕ) (xs : List Var) → AllPaired (IsBelow n) (nil_for xs)
+nil_for-below n [] = tt
+nil_for-below n (x ∷ xs) = (refl, nil_for-below n xs)
 
 -- the term of an expression is below
 pub term-below : (n : ℕ) (vars : List (Var × Term)) → AllPaired (IsBelow n) vars → (e : Expr) → IsBelow n (term vars e)

@@ -23,7 +23,7 @@ use Rattle.sf_rules.specs.Checked.RowCases.{RowsHaveCases}
 use Rattle.sf_rules.specs.Rows.Whole.{row}
 use Rattle.sf_rules.specs.Checked.LawsOfSettings.{ArrangedHasSetting}
 use Rattle.sf_rules.specs.Setting.{Setting, setting_of}
-use Rattle.sf_search.proofs.FirstShapes.{first-shaped, first-symbols}
+use Rattle.sf_search.proofs.FirstShapes.{first-atom, first-shaped, first-symbols}
 use Rattle.sf_search.proofs.FormedAnnotations.{annotation-fits, level-fits_of}
 use Rattle.sf_search.proofs.FormedBodies.{ForksApart, block-fits}
 use Rattle.sf_search.proofs.ShapedAdds.{few-existentials, few-one}
@@ -176,9 +176,10 @@ unfolding GoalsHaveShape
 goals_have_shape laws d up f g there tags goal after within =
     let k = grown laws d up f g there tags goal after in
     let first = first-symbols d up.formed up.setting.sets laws.held f g there in
+    let atom = first-atom d up.formed up.setting.sets laws.held f g in
     shaped-shape d goal k.shaped
     (ap₂ ◌&&◌ (le-leb goal.state.next_sym (2 ^ 32 - TOO_MANY) (omega (arith, k.symbols, first, within)))
-    (le-leb goal.state.next_atom (2 ^ 32 - TOO_MANY) (omega (arith, k.atoms, within))))
+    (le-leb goal.state.next_atom (2 ^ 32 - TOO_MANY) (omega (arith, k.atoms, atom, within))))
 
 -- WHAT THE CODE HAS ARRANGED
 pub arranged_is_set_up : ConditionsFromTruncation → ArrangedHasSetting → ArrangedIsSetUp

@@ -16,15 +16,16 @@ use Rattle.sf_produce.specs.Add.{operands}
 use Rattle.sf_rules.specs.declared.few.TheConstants.{TOO_MANY}
 use Rattle.sf_rules.specs.Checked.Lemmas.{few-left}
 use Rattle.sf_rules.specs.Checked.RowCases.{Rows, RowsHaveCases, by_absurd, by_add, by_again, by_around, by_assign, by_call, by_choice, by_choice_assumed, by_choice_shown, by_dispose, by_drop, by_end, by_enter, by_exit, by_force, by_fork, by_give, by_look, by_loop, by_mutate, by_new, by_return, by_split, by_step, by_unroll, goal_of}
+use Rattle.sf_rules.specs.First.{nil_for, with_nil}
 use Rattle.sf_rules.specs.Rows.Calls.{term_after, term_before}
 use Rattle.sf_rules.specs.Rows.Loops.{after_loop, body_once, unknown_in}
 use Rattle.sf_rules.specs.Rows.Regions.{variables_from}
 use Rattle.sf_rules.specs.Rows.Whole.{row}
 use Rattle.sf_rules.specs.Setting.{Setting}
-use Rattle.sf_rules.specs.Words.{negation, to_add, to_add_test, to_take}
-use Rattle.sf_search.proofs.Fitting.{to_add-below, to_add-fits, to_add_test-below, to_add_test-fits, to_run-below, to_run-fits, to_take-below, to_take-fits}
+use Rattle.sf_rules.specs.Words.{negation, to_add, to_add_test, to_take, to_take_each}
+use Rattle.sf_search.proofs.Fitting.{to_add-below, to_add-fits, to_add_test-below, to_add_test-fits, to_run-below, to_run-fits, to_take-below, to_take-fits, to_take_each-below, to_take_each-fits}
 use Rattle.sf_search.proofs.FittingStates.{StateShaped, empty-shaped, given-shaped, symbols-shaped, vars-shaped}
-use Rattle.sf_search.proofs.FreshVariables.{after-below, before-below, few-filtered, fresh-below, fresh-length, removed-below, set_all-below, term-below, variables-length}
+use Rattle.sf_search.proofs.FreshVariables.{after-below, before-below, few-filtered, fresh-below, fresh-length, nil_for-below, removed-below, set_all-below, term-below, variables-length}
 use Rattle.sf_search.proofs.ShapedAdds.{add-keeps}
 use Rattle.sf_search.proofs.ShapedChoices.{choice_assumed-keeps, choice_shown-keeps}
 use Rattle.sf_search.proofs.ShapedCommands.{assign-keeps, choice-keeps, dispose-keeps, look-keeps, mutate-keeps, new-keeps}
@@ -53,6 +54,16 @@ fresh-shaped d s xs h =
     let m = vars-shaped d (with_symbols (length xs) s) r (set_vars (fresh_for s.next_sym xs) s.vars)
     (set_all-below (s.next_sym + length xs) (fresh_for s.next_sym xs) s.vars
     (fresh-below s.next_sym xs (s.next_sym + length xs) (omega arith)) r.below.vars) in
+    record {
+      below = record { vars = m.below.vars; apart = m.below.apart; atoms = m.below.atoms; taken = m.below.taken };
+      fits = record { links = m.fits.links; atoms = m.fits.atoms; rising = m.fits.rising; given = m.fits.given };
+    }
+
+-- a state in which variables are nil
+pub nil-shaped : (d : Setting) (s : State) (xs : List Var) → StateShaped d s → StateShaped d (with_nil xs s)
+nil-shaped d s xs h =
+    let m = vars-shaped d s h (set_vars (nil_for xs) s.vars)
+    (set_all-below s.next_sym (nil_for xs) s.vars (nil_for-below s.next_sym xs) h.below.vars) in
     record {
       below = record { vars = m.below.vars; apart = m.below.apart; atoms = m.below.atoms; taken = m.below.taken };
       fits = record { links = m.fits.links; atoms = m.fits.atoms; rising = m.fits.rising; given = m.fits.given };
@@ -135,14 +146,14 @@ module _ (d : Setting) (s : State) (rest : List Item) (left : List Goal) where
       (tt, tt))
       (to_take-fits d p (term s.vars) (d.ordered invariant) (end p ∷ []) h.todo tt)
 
-  return-keeps : (p : Place) (post : Assertion) → Before (return p post)
-      → left ≡ goal_of s (to_take p (term s.vars) post ++ (end p ∷ [])) ∷ [] → AllKeep d s left
-  return-keeps p post h e =
-      let item = return p post in
-      one-left d s item rest left h s (to_take p (term s.vars) post ++ (end p ∷ [])) e
+  return-keeps : (p : Place) (owed : List Assertion) → Before (return p owed)
+      → left ≡ goal_of s (to_take_each p (term s.vars) owed (end p ∷ [])) ∷ [] → AllKeep d s left
+  return-keeps p owed h e =
+      let item = return p owed in
+      one-left d s item rest left h s (to_take_each p (term s.vars) owed (end p ∷ [])) e
       (shaped d s item rest left h) (self-rises d s item rest left h)
-      (to_take-below (IsBelow n) p (term s.vars) post (end p ∷ []) (to-below d s item rest left h) (tt, tt))
-      (to_take-fits d p (term s.vars) post (end p ∷ []) h.todo tt)
+      (to_take_each-below (IsBelow n) p (term s.vars) owed (end p ∷ []) (to-below d s item rest left h) (tt, tt))
+      (to_take_each-fits d p (term s.vars) owed (end p ∷ []) h.todo tt)
 
   module _ (fits : ProgramFits d) where
     exit-keeps : (p : Place) (r : ResId) (of : Resource) → slice_get d.program.resources r.0 ≡ Some of
@@ -350,7 +361,7 @@ module _ (d : Setting) (fits : ProgramFits d) (goal : Goal) (left : List Goal) (
       around-keeps d goal.state rest left p t invariant body (front _ is) e
   cases-keep (by_again p invariant rest is e) = again-keeps d goal.state rest left p invariant (front _ is) e
   cases-keep (by_exit p r of rest is there e) = exit-keeps d goal.state rest left fits p r of there (front _ is) e
-  cases-keep (by_return p post rest is e) = return-keeps d goal.state rest left p post (front _ is) e
+  cases-keep (by_return p owed rest is e) = return-keeps d goal.state rest left p owed (front _ is) e
   cases-keep (by_end p rest is none e) = none-keep d goal.state left (ap Some (sym e))
 
   pub rows-keep : RowsHaveCases → (tag : Tag) → row d goal tag ≡ Some left → AllKeep d goal.state left

@@ -76,7 +76,8 @@ TodoFits d (head p test invariant body ∷ rest) =
     AnnotationFits d invariant × (length (changes_in d.sets body) < TOO_MANY) × BlockFits d body × TodoFits d rest
 TodoFits d (again p invariant ∷ rest) = AnnotationFits d invariant
 TodoFits d (exit p r ∷ rest) = (is_some (slice_get d.program.resources r.0) ≡ true) × TodoFits d rest
-TodoFits d (return p post ∷ rest) = LevelFits (links_of d.program) post.level
+TodoFits d (return p owed ∷ rest) =
+    AllByRecursion (λ (a : Assertion). LevelFits (links_of d.program) a.level) owed
 TodoFits d (end p ∷ rest) = Unit {0}
 
 -- a state goes by the program's links, which its segments and trees have, and the numbers of its atoms rise up to the

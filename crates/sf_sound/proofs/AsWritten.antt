@@ -1,7 +1,7 @@
 -- Where the annotations of a program are in order as they stand, its rows are those for annotations
 -- as they stand, save those of loops; so what tags leave can be computed.
 -- Names: `WORD-same` says that a row or a run is the same for annotations as they stand.
-use Rattle.std.specs.Prelude.{◌≡◌, ℕ, suc, Bool, true, false, cond, List, [], ◌∷◌, ◌++◌, Option, Some, None}
+use Rattle.std.specs.Prelude.{◌≡◌, ℕ, suc, Bool, true, false, cond, List, [], ◌∷◌, ◌++◌, map, Option, Some, None}
 use Rattle.std.specs.List.{list_all, slice_get}
 use Rattle.std.specs.Option.{option_and_then}
 use Rattle.std.proofs.Common.{ap, ap₂, refl, subst, ◌∙◌}
@@ -9,6 +9,7 @@ use Rattle.std.proofs.lemmas.Bool.{and_parts}
 use Rattle.std.proofs.lemmas.List.{append-nil}
 use Rattle.sf_base.specs.declared.ids.ResId.{ResId}
 use Rattle.sf_base.specs.declared.place.Place.{Place}
+use Rattle.sf_core.specs.Program.Init.{is_init}
 use Rattle.sf_core.specs.Program.Syntax.{assign, look_up, mutate, new, dispose, if, while, call, fork, with, Call, Command, Procedure, Resource}
 use Rattle.sf_rules.specs.First.{first_goal, first_state_of}
 use Rattle.sf_rules.specs.Proving.{ProvesFrom}
@@ -204,6 +205,20 @@ module _ (d : Setting) (kept : IsAsWritten d) where
       ∙ and_then-same (λ l. run d (l ++ goals) tags) (λ l. run (as_written d) (l ++ goals) tags)
       (row (as_written d) goal tag) (λ l e. run-same tags both.1 (l ++ goals))
 
+  -- what its return owes is in order as it stands
+  invariants-same : (rs : List Resource) → ((i : ℕ) (r : Resource) → slice_get rs i ≡ Some r
+      → d.ordered r.invariant ≡ r.invariant)
+      → map d.ordered (map (λ r. r.invariant) rs) ≡ map (λ a. a) (map (λ r. r.invariant) rs)
+  invariants-same [] same = refl
+  invariants-same (r ∷ rs) same =
+      ap₂ (λ a others. a ∷ others) (same 0 r refl) (invariants-same rs (λ i q e. same (suc i) q e))
+
+  owed-same : (sets_up : Bool) (g : Procedure) → d.ordered g.post ≡ g.post
+      → map d.ordered (cond sets_up (map (λ r. r.invariant) d.program.resources) (g.post ∷ []))
+      ≡ map (λ a. a) (cond sets_up (map (λ r. r.invariant) d.program.resources) (g.post ∷ []))
+  owed-same true g e = invariants-same d.program.resources kept.resources
+  owed-same false g e = ap (λ a. a ∷ []) e
+
   first-same : (f : ℕ) (g : Procedure) → slice_get d.program.procedures f ≡ Some g
       → first_goal d (record { 0 = f }) g ≡ first_goal (as_written d) (record { 0 = f }) g
   first-same f g e =
@@ -212,7 +227,7 @@ module _ (d : Setting) (kept : IsAsWritten d) where
         state = first_state_of d (record { 0 = f }) g;
         todo = to_add g.place (term (first_state_of d (record { 0 = f }) g).vars) a
             ++ (to_run g.body ++ (return g.end b ∷ []));
-      }) k.0 k.1
+      }) k.0 (owed-same (is_init g) g k.1)
 
   -- tags that leave nothing of a procedure's first goal, for annotations as they stand, prove it
   pub procedure-proved : (f : ℕ) (g : Procedure) (gs : List Procedure) (tags more : List Tag)

@@ -194,7 +194,7 @@ module _ (d : Setting) (sane : IsSane d) where
                   ))
               by false m =
                   scope (Shared r k)
-                  (inl (
+                  (inl (inl (
                     tt,
                     directly (
                       g,
@@ -205,7 +205,7 @@ module _ (d : Setting) (sane : IsSane d) where
                         (not-entered (head_regions c ++ entered) r m, among_of (Shared r k) (occurrences_at c) y o e),
                       )),
                     ),
-                  ))
+                  )))
 
       -- one that a call may change
       has-changed : (D : Domain) → HasScope entered D → (k : Call) → Contains (head_calls c) k → CallWithin p g k
@@ -244,11 +244,11 @@ module _ (d : Setting) (sane : IsSane d) where
               ))
           by false e =
               scope (Shared r i)
-              (inl (
+              (inl (inl (
                 tt,
                 through k.callee
                     (g, there, (s, here, (not-entered entered r e, (k, m, refl)))) free.1,
-              ))
+              )))
 
       -- what an expression, a test and values read
       reads-expr : (D : Domain) → (e : Expr) → ((y : Occurrence) → Contains (expr_occurrences e) y

@@ -1,8 +1,12 @@
 -- The buffer with one place: it keeps what the theorem asks, and tags prove it.
 -- Names: `put-LAW`, `get-LAW` and `main-LAW` speak of its procedures, `inv-LAW` of its invariant.
-use Rattle.std.specs.Prelude.{◌≡◌, ◌≤◌, ◌<◌, ◌+◌, ◌⊎◌, ◌++◌, ℕ, zero, suc, pos, false, Contains, [], ◌∷◌, List, Some, length, slice_get}
+use Rattle.std.specs.Str.{bytes_eq}
+use Rattle.sf_core.proofs.Inits.{sets_up-is}
+use Rattle.sf_core.specs.Program.Named.{name_in}
+use Rattle.sf_core.specs.Program.Init.{is_init, init_name, sets_up}
+use Rattle.std.specs.Prelude.{◌≡◌, ◌≤◌, ◌<◌, ◌+◌, ◌⊎◌, ◌++◌, ℕ, zero, suc, pos, false, Contains, [], ◌∷◌, List, Some, length, slice_get, Option, None}
 use Rattle.std.specs.List.{All, IsDistinct}
-use Rattle.std.proofs.Common.{arith, inl, inr, refl, subst, sym, ◌∙◌}
+use Rattle.std.proofs.Common.{ap, arith, inl, inr, refl, subst, sym, ◌∙◌, true≢false}
 use Rattle.std.proofs.lemmas.List.Elements.{All-cons, All-nil}
 use Rattle.std.proofs.lemmas.Option.{none-some}
 use Rattle.sf_base.proofs.Elements.{contains-cons, contains-nil}
@@ -35,7 +39,7 @@ use Rattle.sf_precise.specs.Annotations.{annotations_in}
 use Rattle.sf_precise.specs.Checked.Laws.{OrderingExists}
 use Rattle.sf_precise.specs.Order.{IsOrderOf, IsOrdering}
 use Rattle.sf_sound.proofs.AsWritten.{IsAsWritten, procedure-proved}
-use Rattle.sf_sound.proofs.SmallPrograms.{cell-determined, cell-no_shared, cell-ordered, cell-within, emp-determined, emp-no_var, emp-ordered, emp-within, everywhere, of-three, set-nothing, set-of_each, set-single}
+use Rattle.sf_sound.proofs.SmallPrograms.{cell-determined, cell-no_shared, cell-ordered, cell-within, emp-determined, emp-no_var, emp-ordered, emp-within, everywhere, of-three, set-nothing, set-of_each, set-single, bare-unless, none-twice}
 use Rattle.sf_sound.proofs.Races.{sound-by}
 use Rattle.sf_sound.specs.Checked.ExamplesOfRegions.{BufferIsSound, buf, buffer, buffer_tags, buffered, c, full, get, gets_y, no_scope, passes_on, put, puts_x}
 use Rattle.sf_sound.specs.Proofs.{ProofsAreSound}
@@ -88,6 +92,7 @@ put-within =
       post = emp-within _ _;
       body = ((resource, (second, tt), ((first, resource), ((second, tt), tt))), tt);
       depth = nesting;
+      init = bare-unless _ refl;
     }
 
 get-within : ProcedureWithin buffer get
@@ -105,12 +110,14 @@ get-within =
       post = cell-within _ _ (own_one 0) resource;
       body = ((resource, (second, tt), (((resource, λ l. resource), first), ((second, tt), tt))), tt);
       depth = nesting;
+      init = bare-unless _ refl;
     }
 
 puts-within : CallWithin buffer passes_on puts_x
 puts-within =
     let first : 0 < 2 = omega arith in record {
       callee = (refl, refl);
+      no_init = refl;
       references = All-nil _;
       values = All-cons (ExprWithin (IsInBody buffer passes_on)) (own_one 0) [] first (All-nil _);
     }
@@ -119,6 +126,7 @@ gets-within : CallWithin buffer passes_on gets_y
 gets-within =
     let second : 1 < 2 = omega arith in record {
       callee = (refl, refl);
+      no_init = refl;
       references = All-cons (λ (x : Occurrence). IsSettable buffer passes_on x.var) (at_own 1) []
           (second, λ l. absurd (omega (arith, l))) (All-nil _);
       values = All-nil _;
@@ -138,6 +146,7 @@ main-within =
       post = emp-within _ _;
       body = ((first, λ l. absurd (omega (arith, l))), ((puts-within, gets-within), (second, tt)));
       depth = nesting;
+      init = bare-unless _ refl;
     }
 
 resources-within : (k : ℕ) (r : Resource) → slice_get buffer.resources k ≡ Some r
@@ -148,6 +157,9 @@ resources-within zero r e =
     inv-within
 resources-within (suc k) r e = absurd (none-some r e)
 
+others : (k : ℕ) (g : Procedure) → slice_get buffer.procedures k ≡ Some g → is_init g ≡ false
+others = of-three (λ g. is_init g ≡ false) put get passes_on refl refl refl
+
 formed : IsFormed buffer
 formed = record {
   procedures = of-three (ProcedureWithin buffer) put get passes_on put-within get-within main-within;
@@ -156,6 +168,7 @@ formed = record {
   resource_count = let e : 1 ≤ 64 = omega arith in e;
   field_count = let e : 0 ≤ 16 = omega arith in e;
   variables = let e : 2 ≤ 256 = omega arith in e;
+  one_init = none-twice buffer.procedures others;
 }
 
 -- Its annotations
@@ -333,7 +346,12 @@ module _ (r : ResId) (i : ℕ) where
       (in-all _ _ _ main-contract main-outside) f.0 h e m
 
 holds-none : (f : ProcId) (r : ResId) → HasThroughout buffer f r → ⊥
-holds-none f r h =
+holds-none f r (inr s) = absurd (true≢false (sym s.0 ∙ unnamed (slice_get buffer.procedures f.0) refl))
+  where
+    unnamed : (o : Option Procedure) → slice_get buffer.procedures f.0 ≡ o → sets_up buffer f ≡ false
+    unnamed None e = ap (λ z. bytes_eq (name_in z) init_name) e
+    unnamed (Some g) e = sets_up-is buffer f g e ∙ others f.0 g e
+holds-none f r (inl h) =
     of-three (λ (g : Procedure). VarOccursIn g.pre.level (Shared r h.variable)
     ⊎ VarOccursIn g.post.level (Shared r h.variable) → ⊥)
     put get passes_on (put-contract r h.variable) (get-contract r h.variable) (main-contract r h.variable) f.0

@@ -1,26 +1,31 @@
 -- What goals at an end claim: what is owed there holds of just what the frame has.
 -- Names: `ITEM-claims` of that item's row.
-use Rattle.std.proofs.Common.{◌≡◌, ℕ, zero, suc, true, List, [], ◌∷◌, ◌++◌, sym, subst, inr}
-use Rattle.sf_base.proofs.HeapSplits.{star-drop_right}
-use Rattle.sf_base.proofs.MapSplits.{splits-of_empty_right}
+use Rattle.std.specs.List.{AllByRecursion}
+use Rattle.std.proofs.Common.{◌≡◌, ℕ, zero, suc, true, List, [], ◌∷◌, ◌++◌, inr}
+use Rattle.sf_base.proofs.HeapSplits.{star-drop_right, star-map}
 use Rattle.sf_base.specs.declared.place.Place.{Place}
 use Rattle.sf_base.specs.declared.value.Value.{Value}
-use Rattle.sf_base.specs.HeapStore.{Heap, IsEmpty, ◌⋆◌}
+use Rattle.sf_base.specs.declared.ids.Var.{Var}
+use Rattle.sf_base.specs.HeapStore.{Heap, IsEmpty}
+use Rattle.sf_core.specs.declared.command.Expr.{Expr}
 use Rattle.sf_core.specs.Program.Syntax.{Assertion, Program}
 use Rattle.sf_rules.specs.Setting.{Setting}
 use Rattle.sf_rules.specs.Rows.Ends.{is_empty}
-use Rattle.sf_rules.specs.Words.{pending_assertion, to_take}
+use Rattle.sf_rules.specs.Words.{pending_assertion, to_take, to_take_each}
 use Rattle.sf_safe.specs.Checked.Local.{Local, value_in}
 use Rattle.sf_safe.specs.Checked.LocalSafe.{LocalSafe}
-use Rattle.sf_sound.proofs.Annotated.{plain-shown}
-use Rattle.sf_sound.proofs.States.{items-take, state-of, suits-of, terms-below, terms-values}
+use Rattle.sf_sound.proofs.Annotated.{HaveValues, plain-shown}
+use Rattle.sf_sound.proofs.States.{ItemsSuit, items-take, state-of, suits-of, terms-below, terms-values}
 use Rattle.sf_sound.proofs.Words.{showing-holds, taking-does, taking-showing}
-use Rattle.sf_sound.specs.Checked.Claims.{Does, Satisfies, with_cells}
+use Rattle.sf_sound.specs.Checked.Claims.{Does, Satisfies, SatisfiesEach, with_cells}
 use Rattle.sf_sound.specs.Checked.Suits.{Claim, Domain, HasDomain, IsPlain, Suits}
+use Rattle.sf_sym.specs.Below.{IsBelow}
 use Rattle.sf_sym.specs.declared.atom.Numbered.{Numbered}
+use Rattle.sf_sym.specs.declared.term.Term.{Term}
 use Rattle.sf_sym.specs.Goal.{Item, again, return, end, Goal}
 use Rattle.sf_sym.specs.Holds.{AtomsHold}
 use Rattle.sf_sym.specs.HoldsIn.{HoldsIn}
+use Rattle.sf_sym.specs.Shape.{IsShowing}
 use Rattle.sf_sym.specs.State.{State, term}
 
 -- what holds of all that is there holds at the end
@@ -28,46 +33,60 @@ at-end : (p : Program) (n : ℕ) (End : Local → Type 0) (l : Local) → End l 
 at-end p zero End l e = tt
 at-end p (suc n) End l e = e
 
--- where nothing is left beside a part, it is all
-whole-part : {P : Heap → Type 0} (p : Program) (n : ℕ) (w : ℕ → Value) (q : Place) (l : Local)
-    → (P ⋆ (λ kept. Does p n w (end q ∷ []) (with_cells kept l))) l.cells → P l.cells
-whole-part {P} p n w q l h = subst P (sym (splits-of_empty_right h.second h.splits)) h.first
+-- assertions that are shown, one after the other, before the end of all: each has its part, and nothing is left beside
+-- these
+each-shown : (d : Setting) (V : Var → Type 0) (n : ℕ) (w : ℕ → Value) (q : Place) (to : Expr → Term)
+    (owed : List Assertion) (l : Local) → AllByRecursion (IsPlain d V) owed → HaveValues V w to (value_in l)
+    → Does d.program n w (to_take_each q to owed (end q ∷ [])) l → SatisfiesEach owed l
+each-shown d V n w q to [] l plain same does = does
+each-shown d V n w q to (a ∷ owed) l plain same does =
+    star-map (λ part h. plain-shown d V a plain.0 w to (value_in l) part same h)
+    (λ kept h. each-shown d V n w q to owed (with_cells kept l) plain.1 same h)
+    (taking-does d.program n w q (pending_assertion to a) a.names (to_take_each q to owed (end q ∷ [])) l does)
 
--- an assertion that is shown before the end of all is satisfied by all that there is
-module _ (d : Setting) (s : State) (q : Place) (a : Assertion) where
+each-showing : (q : Place) (to : Expr → Term) (owed : List Assertion) → IsShowing (to_take_each q to owed (end q ∷ []))
+each-showing q to [] = tt
+each-showing q to (a ∷ owed) =
+    taking-showing q (pending_assertion to a) a.names (to_take_each q to owed (end q ∷ [])) (each-showing q to owed)
+
+each-suits : (d : Setting) (D : Domain) (k : ℕ) (V : Var → Type 0) (q : Place) (to : Expr → Term)
+    (owed : List Assertion) → AllByRecursion (IsPlain d V) owed → ((e : Expr) → IsBelow k (to e))
+    → ItemsSuit d D k (to_take_each q to owed (end q ∷ []))
+each-suits d D k V q to [] plain below = record { below = (tt, tt); formed = (tt, tt); suits = tt }
+each-suits d D k V q to (a ∷ owed) plain below =
+    items-take d D k V q to a (to_take_each q to owed (end q ∷ [])) plain.0 below
+    (each-suits d D k V q to owed plain.1 below)
+
+-- they are satisfied by just what there is
+module _ (d : Setting) (s : State) (q : Place) (owed : List Assertion) where
   abbrev showing : Goal
-  showing = record { state = s; todo = to_take q (term s.vars) a ++ (end q ∷ []) }
+  showing = record { state = s; todo = to_take_each q (term s.vars) owed (end q ∷ []) }
 
   pub shown-at_end : Claim d showing → (n : ℕ) (w : ℕ → Value) (D : Domain) (l : Local) (taken : Heap)
-      → IsPlain d (λ x. D.has x ≡ true) a → (item : Item) (rest : List Item)
+      → AllByRecursion (IsPlain d (λ x. D.has x ≡ true)) owed → (item : Item) (rest : List Item)
       → Suits d D (record { state = s; todo = item ∷ rest }) → HasDomain D l
-      → HoldsIn w (record { state = s; todo = [] }) l.values l.cells taken → Satisfies a l
+      → HoldsIn w (record { state = s; todo = [] }) l.values l.cells taken → SatisfiesEach owed l
   shown-at_end claim n w D l taken plain item rest u has holds =
       let t = state-of d D (record { state = s; todo = item ∷ rest }) u in
-      plain-shown d (λ x. D.has x ≡ true) a plain w (term s.vars) (value_in l) l.cells
-      (terms-values d D s t w l has holds.vars)
-      (whole-part d.program n w q l
-      (taking-does d.program n w q (pending_assertion (term s.vars) a) a.names (end q ∷ []) l
+      each-shown d (λ x. D.has x ≡ true) n w q (term s.vars) owed l plain (terms-values d D s t w l has holds.vars)
       (claim n w D l taken
-      (suits-of d D s (to_take q (term s.vars) a ++ (end q ∷ [])) t
-      (items-take d D s.next_sym (λ x. D.has x ≡ true) q (term s.vars) a (end q ∷ []) plain (terms-below d D s t)
-      (record { below = (tt, tt); formed = (tt, tt); suits = tt }))
-      (inr (taking-showing q (pending_assertion (term s.vars) a) a.names (end q ∷ []) tt))) has
+      (suits-of d D s (to_take_each q (term s.vars) owed (end q ∷ [])) t
+      (each-suits d D s.next_sym (λ x. D.has x ≡ true) q (term s.vars) owed plain (terms-below d D s t))
+      (inr (each-showing q (term s.vars) owed))) has
       (record {
         vars = holds.vars;
         apart = holds.apart;
         disjoint = holds.disjoint;
-        there = showing-holds w (to_take q (term s.vars) a ++ (end q ∷ [])) l.cells
-            (taking-showing q (pending_assertion (term s.vars) a) a.names (end q ∷ []) tt)
-            (star-drop_right holds.there);
+        there = showing-holds w (to_take_each q (term s.vars) owed (end q ∷ [])) l.cells
+            (each-showing q (term s.vars) owed) (star-drop_right holds.there);
         gone = holds.gone;
-      }))))
+      }))
 
   pub return-claims : (rest : List Item) → Claim d showing
-      → Claim d (record { state = s; todo = return q a ∷ rest })
+      → Claim d (record { state = s; todo = return q owed ∷ rest })
   return-claims rest claim n w D l taken u has holds =
-      at-end d.program n (Satisfies a) l
-      (shown-at_end claim n w D l taken u.todo (return q a) rest u has (record {
+      at-end d.program n (SatisfiesEach owed) l
+      (shown-at_end claim n w D l taken u.todo (return q owed) rest u has (record {
         vars = holds.vars;
         apart = holds.apart;
         disjoint = holds.disjoint;
@@ -82,14 +101,15 @@ pub again-claims : (d : Setting) (s : State) (q : Place) (invariant : Assertion)
 again-claims d s q invariant rest claim n w D l taken u has holds =
     at-end d.program n (Satisfies invariant) l
     ((u.todo.means (value_in l) l.cells).1
-    (shown-at_end d s q (d.ordered invariant) claim n w D l taken u.todo.plain (again q invariant) rest u has
+    (star-drop_right
+    (shown-at_end d s q (d.ordered invariant ∷ []) claim n w D l taken (u.todo.plain, tt) (again q invariant) rest u has
     (record {
       vars = holds.vars;
       apart = holds.apart;
       disjoint = holds.disjoint;
       there = holds.there;
       gone = holds.gone;
-    })))
+    }))))
 
 -- the end of all
 pub end-claims : (d : Setting) (s : State) (q : Place) (rest : List Item) → is_empty s.atoms ≡ true

@@ -1,6 +1,8 @@
 -- Variables that get fresh symbols: values of those symbols that are the variables' own, what a frame has once
 -- variables have their terms' values, and that all this is below the next symbol.
 -- Names: `fresh-LAW` of fresh symbols, `put-LAW` of a frame in which variables have their terms' values.
+use Rattle.sf_base.specs.declared.value.Value.TheVariants.{Nil as nil}
+use Rattle.sf_rules.specs.First.{nil_for}
 use Rattle.std.specs.List.{AllByRecursion}
 use Rattle.std.specs.Prelude.{length, Contains}
 use Rattle.std.proofs.Common.{◌≡◌, ℕ, suc, ◌+◌, Bool, true, false, cond, Option, Some, List, [], ◌∷◌, ◌++◌, refl, sym, ap, ◌∙◌, inl, inr, arith}
@@ -66,6 +68,27 @@ fresh-contains n (y ∷ ys) x e = (contains-cons y ys x).1
       | inr i ↦ inr (fresh-contains (suc n) ys x i)
     ])
 
+-- NIL
+pub nil-below : (n : ℕ) (xs : List Var) → AllPaired (IsBelow n) (nil_for xs)
+nil-below n [] = tt
+nil-below n (x ∷ xs) = (refl, nil-below n xs)
+
+pub nil-listed : (xs : List Var) (x : Var) → Contains xs x → is_listed (nil_for xs) x ≡ true
+nil-listed [] x c = absurd (contains-nil x c)
+nil-listed (y ∷ ys) x c = elim ((contains-cons y ys x).0 c) [
+  | inl e ↦ or_left (same_var y x) (is_listed (nil_for ys) x) ((same_var-decides y x).1 e)
+  | inr i ↦ or_right (same_var y x) (is_listed (nil_for ys) x) (nil-listed ys x i)
+]
+
+pub nil-values : (w : ℕ → Value) (v : Var → Value) (xs : List Var) → ((x : Var) → Contains xs x → v x ≡ nil)
+    → AllByRecursion (λ (x : Var × Term). term_value w x.1 ≡ v x.0) (nil_for xs)
+nil-values w v [] h = tt
+nil-values w v (x ∷ xs) h = (
+  sym (h x ((contains-cons x xs x).1 (inl refl))),
+  nil-values w v xs (λ y c. h y ((contains-cons x xs y).1 (inr c))),
+)
+
+-- SETTING
 -- all terms that are set have a property
 pub set_all-all : (P : Term → Type 0) (set vs : List (Var × Term)) → AllPaired P set → AllPaired P vs
     → AllPaired P (set_vars set vs)

@@ -1,5 +1,6 @@
 -- Two cells that are cleared in parallel: the program keeps what the theorem asks, tags prove it, and it is sound.
-use Rattle.std.specs.Prelude.{◌≡◌, ◌≢◌, ◌≤◌, ◌<◌, ◌+◌, ◌⊎◌, ◌++◌, ℕ, List, [], ◌∷◌, Contains}
+use Rattle.sf_core.specs.Program.Init.{is_init}
+use Rattle.std.specs.Prelude.{◌≡◌, ◌≢◌, ◌≤◌, ◌<◌, ◌+◌, ◌⊎◌, ◌++◌, ℕ, List, [], ◌∷◌, Contains, false, Some, slice_get}
 use Rattle.std.specs.List.{All}
 use Rattle.std.proofs.Common.{refl, sym, ap, arith, inl, inr, ◌∙◌}
 use Rattle.std.proofs.lemmas.Option.{none-some}
@@ -35,7 +36,7 @@ use Rattle.sf_rules.specs.Setting.{IsSettingOf, Setting}
 use Rattle.sf_sym.specs.declared.tag.Tag.TheVariants as t
 use Rattle.sf_sound.proofs.AsWritten.{IsAsWritten, procedure-proved}
 use Rattle.sf_sound.proofs.Races.{sound-by}
-use Rattle.sf_sound.proofs.SmallPrograms.{alone, everywhere, no_scope, none-named, of-two, set-nothing, set-of_each}
+use Rattle.sf_sound.proofs.SmallPrograms.{alone, everywhere, no_scope, none-named, of-two, set-nothing, set-of_each, bare-unless, none-twice}
 use Rattle.sf_sound.specs.Checked.Examples.{PairIsSound, at_both, at_x, clear, clears, clears_both, hd, pair, pair_tags, place, x, y}
 use Rattle.sf_rules.specs.Proving.{Proves}
 use Rattle.sf_sound.specs.Proofs.{ProofsAreSound}
@@ -125,7 +126,8 @@ module _ (r : ResId) (i : ℕ) where
       f.0 h e m
 
 holds-none : (f : ProcId) (r : ResId) → HasThroughout pair f r → ⊥
-holds-none f r h =
+holds-none f r (inr s) = absurd (let less = s.1 in omega (arith, less))
+holds-none f r (inl h) =
     of-two (λ (g : Procedure). VarOccursIn g.pre.level (Shared r h.variable)
     ⊎ VarOccursIn g.post.level (Shared r h.variable) → ⊥) clears clears_both
     (λ w. elim w [ inl a ↦ at_x-none r h.variable a | inr a ↦ nil_x-none r h.variable a ])
@@ -207,11 +209,13 @@ clears-within =
       post = within-x clears ((hd, Known Nil) ∷ []) first (first, tt, none-after, tt);
       body = ((first, first, tt), tt);
       depth = nesting;
+      init = bare-unless _ refl;
     }
 
 call-within : (e : Expr) → ExprWithin (IsInBody pair clears_both) e → CallWithin pair clears_both (clear e)
 call-within e w = record {
   callee = (refl, refl);
+  no_init = refl;
   references = All-nil _;
   values = All-cons (ExprWithin (IsInBody pair clears_both)) e [] w (All-nil _);
 }
@@ -232,7 +236,11 @@ both-within =
       post = within-both clears_both ((hd, Known Nil) ∷ []) second (field, tt, none-after, tt);
       body = ((call-within x first, call-within y second), tt);
       depth = nesting;
+      init = bare-unless _ refl;
     }
+
+others : (k : ℕ) (g : Procedure) → slice_get pair.procedures k ≡ Some g → is_init g ≡ false
+others = of-two (λ g. is_init g ≡ false) clears clears_both refl refl
 
 formed : IsFormed pair
 formed = record {
@@ -242,6 +250,7 @@ formed = record {
   resource_count = let e : 0 ≤ 64 = omega arith in e;
   field_count = let e : 1 ≤ 16 = omega arith in e;
   variables = let e : 0 ≤ 256 = omega arith in e;
+  one_init = none-twice pair.procedures others;
 }
 
 -- its annotations are determined, and are in order as they stand

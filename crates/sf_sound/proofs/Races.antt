@@ -20,7 +20,7 @@ use Rattle.sf_core.specs.Machine.Config.{Config, Task}
 use Rattle.sf_core.specs.Machine.Enabled.{IsEnabled, Thing, Writes}
 use Rattle.sf_core.specs.Checked.Machine.Examples.{event, one_in}
 use Rattle.sf_core.specs.Machine.Next.{next}
-use Rattle.sf_core.specs.Machine.Start.{IsKept, Start}
+use Rattle.sf_core.specs.Machine.Start.{IsKept, Start, settled}
 use Rattle.sf_core.specs.Machine.Step.{Step}
 use Rattle.sf_core.specs.Program.Formed.{IsFormed}
 use Rattle.sf_core.specs.Program.Syntax.{Assertion, Procedure, Program}
@@ -83,14 +83,14 @@ none-there = record { none = λ a. refl }
 -- the variable that is there, at the start of a procedure of one variable in a program without
 -- resources
 pub one-kept : (p : Program) (g : Procedure) (v : Value) → g.names ≡ codes "x" ∷ [] → p.resources ≡ []
-    → (slot : Slot) → IsKept p g slot → (w : Value) × (one_in v slot ≡ Some w)
+    → (slot : Slot) → IsKept settled p g slot → (w : Value) × (one_in v slot ≡ Some w)
 one-kept p g v e n (shared r i) q = absurd (none-some q.0 (subst (λ z. slice_get z r.0 ≡ Some q.0) n q.1))
 one-kept p g v e n (own f i) q =
     let first : i ≡ 0 = omega (arith, subst (λ z. i < length z) e q.1) in
     (v, ap₂ (λ a b. one_in v (own a b)) q.0 first)
 
 pub one-no_more : (p : Program) (g : Procedure) (v : Value) → g.names ≡ codes "x" ∷ [] → (slot : Slot) (w : Value)
-    → one_in v slot ≡ Some w → IsKept p g slot
+    → one_in v slot ≡ Some w → IsKept settled p g slot
 one-no_more p g v n (shared r i) w e = absurd (none-some w e)
 one-no_more p g v n (own f i) w e =
     let b = and_parts (f == 0) (i == 0) (cond-some ((f == 0) && (i == 0)) v w e) in

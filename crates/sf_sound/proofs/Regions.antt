@@ -7,7 +7,7 @@ use Rattle.std.proofs.Common.{◌≡◌, ℕ, zero, suc, ◌+◌, Bool, true, fa
 use Rattle.std.proofs.lemmas.Bool.{or_cases, or_left}
 use Rattle.std.proofs.lemmas.Bool.Decides.{Decides-eqb, nat_tests}
 use Rattle.std.proofs.lemmas.Option.{same_Some, slice_get_within}
-use Rattle.sf_base.proofs.Elements.{contains-cons}
+use Rattle.sf_base.proofs.Elements.{contains-cons, contains-nil}
 use Rattle.sf_base.proofs.HeapSplits.{star-drop_right, star-of}
 use Rattle.sf_base.proofs.Options.{is_some-false}
 use Rattle.sf_base.proofs.MapSplits.{empty-holds, empty_map, splits-at_left, splits-empty_right, splits-has_right}
@@ -79,6 +79,20 @@ of-contains r names (Shared q j) e =
     let m = of-decides r (length names) (Shared q j) e in
     subst (λ (z : ResId). Contains (variables_from r 0 names) (Shared z j))
     (λ i. record { 0 = sym m.0 i }) (listed-of r 0 names j (omega arith) (omega (arith, m.1)))
+
+-- and no others
+contained-all : (P : Var → Type 0) (xs : List Var) (x : Var) → AllByRecursion P xs → Contains xs x → P x
+contained-all P [] x a c = absurd (contains-nil x c)
+contained-all P (y ∷ ys) x a c = elim ((contains-cons y ys x).0 c) [
+  | inl e ↦ subst P e a.0
+  | inr i ↦ contained-all P ys x a.1 i
+]
+
+pub contains-of : (r : ResId) (names : List (List ℕ)) (x : Var) → Contains (variables_from r 0 names) x
+    → is_of r (length names) x ≡ true
+contains-of r names x c =
+    contained-all (λ y. is_of r (length names) y ≡ true) (variables_from r 0 names) x
+    (of-listed r (length names) 0 names (omega arith)) c
 
 -- what is true or not
 not-true : (b : Bool) → (b ≡ true → ⊥) → b ≡ false

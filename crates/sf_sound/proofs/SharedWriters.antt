@@ -1,6 +1,7 @@
 -- Two tasks that write one variable: the conditions on variables refuse what tags would prove.
 -- Names: `p-LAW` speaks of the procedure that forks.
-use Rattle.std.specs.Prelude.{◌≡◌, ◌≤◌, ◌<◌, ◌⊎◌, ◌++◌, ℕ, codes, Contains, [], ◌∷◌, List, None, Some, slice_get}
+use Rattle.sf_core.specs.Program.Init.{is_init, sets_up}
+use Rattle.std.specs.Prelude.{◌≡◌, ◌≤◌, ◌<◌, ◌⊎◌, ◌++◌, ℕ, codes, Contains, [], ◌∷◌, List, None, Some, slice_get, false}
 use Rattle.std.specs.List.{All}
 use Rattle.std.proofs.Common.{arith, inl, inr, refl}
 use Rattle.std.proofs.lemmas.List.Elements.{All-cons, All-nil}
@@ -26,7 +27,7 @@ use Rattle.sf_core.specs.declared.command.Occurrence.{Occurrence}
 use Rattle.sf_core.specs.Machine.Enabled.{variable}
 use Rattle.sf_core.specs.Checked.Machine.Examples.{at_own, emp, here, one_in}
 use Rattle.sf_core.specs.Machine.HasThroughout.{HasThroughout}
-use Rattle.sf_core.specs.Machine.Start.{Start, initial_config}
+use Rattle.sf_core.specs.Machine.Start.{Start, initial_config, settled}
 use Rattle.sf_core.specs.Program.Formed.{CallWithin, ExprWithin, HasCounts, IsFormed, IsInBody, IsSettable, ProcedureWithin}
 use Rattle.sf_core.specs.Program.Heads.{Site, head_regions, occurrences_at, sites}
 use Rattle.sf_core.specs.Program.Syntax.{Assertion, Procedure}
@@ -34,7 +35,7 @@ use Rattle.sf_precise.specs.Annotations.{annotations_in}
 use Rattle.sf_precise.specs.Checked.Laws.{OrderingExists}
 use Rattle.sf_precise.specs.Order.{IsOrdering}
 use Rattle.sf_sound.proofs.AsWritten.{IsAsWritten, procedure-proved}
-use Rattle.sf_sound.proofs.SmallPrograms.{emp-determined, emp-no_var, emp-ordered, emp-within, everywhere, of-three, set-nothing, set-of_each}
+use Rattle.sf_sound.proofs.SmallPrograms.{emp-determined, emp-no_var, emp-ordered, emp-within, everywhere, of-three, set-nothing, set-of_each, bare-unless, none-twice}
 use Rattle.sf_sound.proofs.Races.{forks-deep, none-there, one-kept, one-no_more, race-of, race-unsound}
 use Rattle.sf_sound.specs.Checked.ExamplesOfRaces.{RacesAtFork, SharedWritersRace, passes_x, sets, sets_too, sets_twice, shared_writers, shared_writers_tags}
 use Rattle.sf_rules.specs.Proving.{Proves}
@@ -42,8 +43,9 @@ use Rattle.sf_rules.specs.Setting.{IsSettingOf, Setting}
 use Rattle.sf_sym.specs.declared.tag.Tag.TheVariants as t
 
 -- it is formed
-sets-within : (name : List ℕ) → ProcedureWithin shared_writers (record sets { name = name })
-sets-within name =
+sets-within : (name : List ℕ) → is_init (record sets { name = name }) ≡ false
+    → ProcedureWithin shared_writers (record sets { name = name })
+sets-within name other =
     let few : 1 ≤ 256 = omega arith in
     let named : 1 ≤ 1 = omega arith in
     let first : 0 < 1 = omega arith in
@@ -55,13 +57,15 @@ sets-within name =
       post = emp-within _ _;
       body = (((first, λ l. first), tt), tt);
       depth = nesting;
+      init = bare-unless _ other;
     }
 
 passes-within : (f : ProcId) → HasCounts (slice_get shared_writers.procedures f.0) (passes_x f)
-    → CallWithin shared_writers sets_twice (passes_x f)
-passes-within f counts =
+    → sets_up shared_writers f ≡ false → CallWithin shared_writers sets_twice (passes_x f)
+passes-within f counts other =
     let first : 0 < 1 = omega arith in record {
       callee = counts;
+      no_init = other;
       references = All-cons (λ (x : Occurrence). IsSettable shared_writers sets_twice x.var) (at_own 0) []
           (first, λ l. first) (All-nil (λ (x : Occurrence). IsSettable shared_writers sets_twice x.var));
       values = All-nil (ExprWithin (IsInBody shared_writers sets_twice));
@@ -77,19 +81,24 @@ twice-within =
       primed = named;
       pre = emp-within _ _;
       post = emp-within _ _;
-      body = ((passes-within (record { 0 = 0 }) (refl, refl), passes-within (record { 0 = 1 }) (refl, refl)), tt);
+      body = ((passes-within (record { 0 = 0 }) (refl, refl) refl, passes-within (record { 0 = 1 }) (refl, refl) refl), tt);
       depth = nesting;
+      init = bare-unless _ refl;
     }
+
+others : (k : ℕ) (g : Procedure) → slice_get shared_writers.procedures k ≡ Some g → is_init g ≡ false
+others = of-three (λ g. is_init g ≡ false) sets sets_too sets_twice refl refl refl
 
 formed : IsFormed shared_writers
 formed = record {
   procedures = of-three (ProcedureWithin shared_writers) sets sets_too sets_twice
-      (sets-within (codes "f")) (sets-within (codes "g")) twice-within;
+      (sets-within (codes "f") refl) (sets-within (codes "g") refl) twice-within;
   resources = λ k r e. absurd (none-some r e);
   procedure_count = let e : 3 ≤ 1000 = omega arith in e;
   resource_count = let e : 0 ≤ 64 = omega arith in e;
   field_count = let e : 0 ≤ 16 = omega arith in e;
   variables = let e : 0 ≤ 256 = omega arith in e;
+  one_init = none-twice shared_writers.procedures others;
 }
 
 determined : All (λ (a : Assertion). Determined a.level) (annotations_in shared_writers)
@@ -129,7 +138,8 @@ enters-none r f (h, e, w) =
     P s = Contains (head_regions s.command) r
 
 no-resource : (f : ProcId) (r : ResId) → HasThroughout shared_writers f r → ⊥
-no-resource f r h =
+no-resource f r (inr s) = absurd (let less = s.1 in omega (arith, less))
+no-resource f r (inl h) =
     of-three (λ (g : Procedure). VarOccursIn g.pre.level (Shared r h.variable)
     ⊎ VarOccursIn g.post.level (Shared r h.variable) → ⊥)
     sets sets_too sets_twice none none none f.0 h.procedure h.there h.occurs
@@ -218,16 +228,18 @@ module _ (in_order : Assertion → Assertion) (ordering : IsOrdering in_order) w
 
 -- p starts with any value of x and no cell
 p-starts : (v : Value) → Start shared_writers (record { 0 = 2 }) (one_in v) (λ location. None)
-    (initial_config shared_writers (record { 0 = 2 }) sets_twice (one_in v) (λ location. None))
+    (initial_config settled shared_writers (record { 0 = 2 }) sets_twice (one_in v) (λ location. None))
 p-starts v = record {
   procedure = sets_twice;
   there = refl;
+  beginning = settled;
   is = refl;
   holds_none = no-resource (record { 0 = 2 });
+  no_init = refl;
   kept = one-kept shared_writers sets_twice v refl refl;
   no_more = one-no_more shared_writers sets_twice v refl;
   locals = λ i l m. absurd (omega (arith, l, m));
-  pre = record {
+  begins = record {
     left = λ location. None;
     right = λ location. None;
     splits = splits-empty_right none-there;

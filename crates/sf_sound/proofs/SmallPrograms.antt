@@ -1,9 +1,10 @@
 -- The contracts of small programs: nothing, and one cell. They are well-formed, determined, in
 -- order as they stand, and mention no variable of a resource. And sets with no member or one.
 -- Names: `emp-LAW` and `cell-LAW` speak of the two contracts, `set-LAW` of sets.
-use Rattle.std.specs.Prelude.{◌≡◌, ◌≤◌, ◌<◌, ◌+◌, ℕ, zero, suc, List, [], ◌∷◌, Some, replicate, slice_get}
+use Rattle.sf_core.specs.Program.Init.{IsBare, is_init}
+use Rattle.std.specs.Prelude.{◌≡◌, ◌≤◌, ◌<◌, ◌+◌, ℕ, zero, suc, List, [], ◌∷◌, Some, replicate, slice_get, false, true}
 use Rattle.std.specs.List.{All, IsDistinct}
-use Rattle.std.proofs.Common.{ap, arith, inl, inr, refl, subst, sym, ◌∙◌}
+use Rattle.std.proofs.Common.{ap, arith, inl, inr, refl, subst, sym, ◌∙◌, true≢false}
 use Rattle.std.proofs.lemmas.List.Elements.{All-cons, All-nil}
 use Rattle.std.proofs.lemmas.List.{length-replicate}
 use Rattle.std.proofs.lemmas.Option.{none-some}
@@ -36,6 +37,15 @@ pub of-three : (P : Procedure → Type 0) (a b c : Procedure) → P a → P b �
     → slice_get (a ∷ b ∷ c ∷ []) k ≡ Some h → P h
 of-three P a b c p q r zero h e = let i : a ≡ h = cc in subst P i p
 of-three P a b c p q r (suc k) h e = of-two P b c q r k h e
+
+-- a procedure of another name isn't the one that sets the resources up
+pub bare-unless : (g : Procedure) → is_init g ≡ false → is_init g ≡ true → IsBare g
+bare-unless g n e = absurd (true≢false (sym e ∙ n))
+
+pub none-twice : (gs : List Procedure) → ((k : ℕ) (g : Procedure) → slice_get gs k ≡ Some g → is_init g ≡ false)
+    → (j k : ℕ) (f g : Procedure) → slice_get gs j ≡ Some f → slice_get gs k ≡ Some g → is_init f ≡ true
+    → is_init g ≡ true → j ≡ k
+none-twice gs n j k f g a b e i = absurd (true≢false (sym e ∙ n j f a))
 
 -- the scope that makes no existential, alone
 abbrev pub no_scope : Scope

@@ -14,11 +14,11 @@ use Rattle.sf_core.specs.declared.command.Expr.{Expr}
 use Rattle.sf_core.specs.declared.command.Expr.TheVariants.{Var as Variable, Nil, Int}
 use Rattle.sf_core.specs.Program.Syntax.{Assertion, Block, done, then}
 use Rattle.sf_rules.specs.Setting.{Setting}
-use Rattle.sf_rules.specs.First.{links_of}
+use Rattle.sf_rules.specs.First.{links_of, nil_for, with_nil}
 use Rattle.sf_rules.specs.Words.{pending_assertion, to_add, to_take}
 use Rattle.sf_safe.specs.Checked.Local.{Local, value_in}
 use Rattle.sf_sound.proofs.Annotated.{HaveValues, pending-all}
-use Rattle.sf_sound.proofs.FreshTerms.{agrees-fewer, fresh-below, fresh-listed, fresh-same, fresh-values, fresh_values, put-agrees, put-here, put-other, set_all-all}
+use Rattle.sf_sound.proofs.FreshTerms.{agrees-fewer, fresh-below, fresh-listed, fresh-same, fresh-values, fresh_values, nil-below, nil-listed, nil-values, put-agrees, put-here, put-other, set_all-all}
 use Rattle.sf_sound.proofs.VariableTerms.{all-listed, all-listed_here, all-order}
 use Rattle.sf_sound.proofs.Words.{adding-suits, taking-suits, unless-all}
 use Rattle.sf_sound.specs.Checked.Claims.{put_values}
@@ -180,6 +180,42 @@ state-fresh d D E s xs t within = record {
   where
     later : (u : Term) → IsBelow s.next_sym u → IsBelow (s.next_sym + length xs) u
     later u b = below-more s.next_sym (s.next_sym + length xs) (omega arith) u b
+
+-- variables are nil
+pub state-nil : (d : Setting) (D E : Domain) (s : State) (xs : List Var) → StateSuits d D s
+    → ((x : Var) → E.has x ≡ true → (D.has x ≡ true) ⊎ Contains xs x) → StateSuits d E (with_nil xs s)
+state-nil d D E s xs t within = record {
+  below = record {
+    vars = set_all-all (IsBelow s.next_sym) (nil_for xs) s.vars (nil-below s.next_sym xs) t.below.vars;
+    apart = t.below.apart;
+    atoms = t.below.atoms;
+    taken = t.below.taken;
+  };
+  order = all-order (nil_for xs) s.vars t.order;
+  fields = t.fields;
+  links = t.links;
+  listed = λ x e. elim (within x e) [
+    | inl h ↦ all-listed (nil_for xs) s.vars x (t.listed x h)
+    | inr c ↦ all-listed_here (nil_for xs) s.vars x (nil-listed xs x c)
+  ];
+}
+
+-- of a frame in which they are
+pub nil-vars : (s : State) (xs : List Var) (w : ℕ → Value) (l : Local) → AreInOrder s.vars
+    → AllByRecursion (Agrees w l.values) s.vars → ((x : Var) → Contains xs x → value_in l x ≡ nil)
+    → AllByRecursion (Agrees w l.values) (with_nil xs s).vars
+nil-vars s xs w l order agrees unset =
+    agrees-fewer w (put_values w (nil_for xs) l).values l.values (with_nil xs s).vars fewer
+    (put-agrees w (nil_for xs) s.vars l order agrees)
+  where
+    fewer : (x : Var) (v : Value) → l.values x ≡ Some v → (put_values w (nil_for xs) l).values x ≡ Some v
+    fewer x v e = go (is_listed (nil_for xs) x) refl
+      where
+        go : (b : Bool) → is_listed (nil_for xs) x ≡ b → (put_values w (nil_for xs) l).values x ≡ Some v
+        go true i =
+            put-here w (value_in l) (nil_for xs) l x (nil-values w (value_in l) xs unset) i
+            ∙ ap (λ o. Some (unwrap_or o nil)) e
+        go false i = put-other w (nil_for xs) l x i ∙ e
 
 -- a goal in which variables get fresh symbols, of a frame whose other variables have the values that they had
 module _ (s : State) (todo : List Item) (below : AreBelow (record { state = s; todo = todo }))

@@ -202,7 +202,7 @@ module _ (laws : RowLaws) (d : Setting) (goal : Goal) (left : List Goal) (claims
       in-front _ is (around-claims d s q test invariant body rest both.0 both.1.0)
   cases-claim (by_again q invariant rest is e) = in-front _ is (again-claims d s q invariant rest (one-left _ e))
   cases-claim (by_exit q r of rest is there e) = in-front _ is (exit-claims d s q r rest of there (one-left _ e))
-  cases-claim (by_return q post rest is e) = in-front _ is (return-claims d s q post rest (one-left _ e))
+  cases-claim (by_return q owed rest is e) = in-front _ is (return-claims d s q owed rest (one-left _ e))
   cases-claim (by_end q rest is none e) = in-front _ is (end-claims d s q rest none)
 
   -- every row

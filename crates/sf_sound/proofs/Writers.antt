@@ -1,6 +1,7 @@
 -- Two tasks that write one cell: no tags prove their program.
 -- Names: `w-LAW` speaks of the procedure that writes, `m-LAW` of the one that forks.
-use Rattle.std.specs.Prelude.{◌≡◌, ◌≤◌, ◌<◌, [], ◌∷◌, None}
+use Rattle.sf_core.specs.Program.Init.{is_init}
+use Rattle.std.specs.Prelude.{◌≡◌, ◌≤◌, ◌<◌, [], ◌∷◌, None, ℕ, false, Some, slice_get}
 use Rattle.std.specs.List.{All}
 use Rattle.std.proofs.Common.{arith, inl, inr, refl, subst, sym}
 use Rattle.std.proofs.lemmas.List.Elements.{All-cons, All-nil}
@@ -20,12 +21,12 @@ use Rattle.sf_core.specs.Assertions.Occurs.{VarOccursIn}
 use Rattle.sf_core.specs.Machine.Enabled.{cell}
 use Rattle.sf_core.specs.Checked.Machine.Examples.{emp, one_at, one_cell, one_in, own_one}
 use Rattle.sf_core.specs.Machine.HasThroughout.{HasThroughout}
-use Rattle.sf_core.specs.Machine.Start.{Start, initial_config}
+use Rattle.sf_core.specs.Machine.Start.{Start, initial_config, settled}
 use Rattle.sf_core.specs.Program.Formed.{CallWithin, ExprWithin, IsFormed, IsInBody, ProcedureWithin}
 use Rattle.sf_core.specs.Program.Syntax.{Assertion, Procedure}
 use Rattle.sf_precise.specs.Annotations.{annotations_in}
 use Rattle.sf_precise.specs.Checked.Laws.{OrderingExists}
-use Rattle.sf_sound.proofs.SmallPrograms.{cell-determined, cell-no_shared, cell-within, emp-determined, emp-within, of-two}
+use Rattle.sf_sound.proofs.SmallPrograms.{cell-determined, cell-no_shared, cell-within, emp-determined, emp-within, of-two, bare-unless, none-twice}
 use Rattle.sf_sound.proofs.Races.{forks-deep, none-there, one-kept, one-no_more, race-of, race-unsound, sound-by}
 use Rattle.sf_sound.specs.Checked.ExamplesOfRaces.{RacesAtFork, WritersHaveNoProof, write_x, writers, writes, writes_twice}
 use Rattle.sf_core.specs.Machine.Sound.{IsSound}
@@ -46,12 +47,14 @@ w-within =
       post = emp-within _ _;
       body = ((first, first, tt), tt);
       depth = nesting;
+      init = bare-unless _ refl;
     }
 
 call-within : CallWithin writers writes_twice write_x
 call-within =
     let first : 0 < 1 = omega arith in record {
       callee = (refl, refl);
+      no_init = refl;
       references = All-nil _;
       values = All-cons (ExprWithin (IsInBody writers writes_twice)) (own_one 0) [] first (All-nil _);
     }
@@ -70,7 +73,11 @@ m-within =
       post = cell-within _ _ (own_one 0) first;
       body = ((call-within, call-within), tt);
       depth = nesting;
+      init = bare-unless _ refl;
     }
+
+others : (k : ℕ) (g : Procedure) → slice_get writers.procedures k ≡ Some g → is_init g ≡ false
+others = of-two (λ g. is_init g ≡ false) writes writes_twice refl refl
 
 formed : IsFormed writers
 formed = record {
@@ -80,6 +87,7 @@ formed = record {
   resource_count = let e : 0 ≤ 64 = omega arith in e;
   field_count = let e : 1 ≤ 16 = omega arith in e;
   variables = let e : 0 ≤ 256 = omega arith in e;
+  one_init = none-twice writers.procedures others;
 }
 
 -- the conditions on variables: the calls have no references
@@ -106,7 +114,8 @@ determined =
 
 -- m starts with a cell
 m-holds_none : (r : ResId) → HasThroughout writers (record { 0 = 1 }) r → ⊥
-m-holds_none r h =
+m-holds_none r (inr s) = absurd (let less = s.1 in omega (arith, less))
+m-holds_none r (inl h) =
     let same : writes_twice ≡ h.procedure = cc (h.there) in
     elim h.occurs [
       | inl o ↦ cell-no_shared 0 r h.variable
@@ -116,16 +125,18 @@ m-holds_none r h =
     ]
 
 m-starts : (k : Cell) → Start writers (record { 0 = 1 }) (one_in (loc 1)) (one_at k)
-    (initial_config writers (record { 0 = 1 }) writes_twice (one_in (loc 1)) (one_at k))
+    (initial_config settled writers (record { 0 = 1 }) writes_twice (one_in (loc 1)) (one_at k))
 m-starts k = record {
   procedure = writes_twice;
   there = refl;
+  beginning = settled;
   is = refl;
   holds_none = m-holds_none;
+  no_init = refl;
   kept = one-kept writers writes_twice (loc 1) refl refl;
   no_more = one-no_more writers writes_twice (loc 1) refl;
   locals = λ i l m. absurd (omega (arith, l, m));
-  pre = record {
+  begins = record {
     left = one_at k;
     right = λ location. None;
     splits = splits-empty_right none-there;

@@ -1,6 +1,6 @@
 -- The values that lines give to all variables.
 -- Names: `given-LAW`.
-use Rattle.std.proofs.Common.{◌≡◌, ◌<◌, ◌≤◌, ◌+◌, ◌⊎◌, ℕ, suc, cond, List, [], ◌∷◌, Some, None, Option, length, map, refl, ap, sym, ◌∙◌, arith, slice_get, inl, inr}
+use Rattle.std.proofs.Common.{◌≡◌, ◌<◌, ◌≤◌, ◌+◌, ◌⊎◌, ℕ, suc, cond, List, [], ◌∷◌, Some, None, Option, Ok, Err, Result, length, map, refl, ap, sym, ◌∙◌, arith, slice_get, inl, inr}
 use Rattle.std.specs.BTreeMap.{get}
 use Rattle.std.specs.Option.{option_or}
 use Rattle.std.specs.Ordering.{nat_cmp}
@@ -11,10 +11,12 @@ use Rattle.sf_state.specs.declared.line.Entry.{Entry}
 use Rattle.sf_state.specs.declared.fault.StartFault.{StartFault}
 use Rattle.sf_state.specs.declared.fault.StartFault.TheVariants.{OutOfMemory, TooLong}
 use Rattle.sf_state.specs.declared.given.Given.{Given}
-use Rattle.sf_state.specs.Checked.Keeping.{Keeps}
+use Rattle.sf_state.specs.declared.state.State.{State}
+use Rattle.sf_state.specs.Names.{Format}
+use Rattle.sf_state.specs.Checked.Keeping.{Completes, Keeps}
 use Rattle.sf_lines.specs.Lines.{Text}
 use Rattle.sf_state.specs.Refused.{first_refusal, value_given}
-use Rattle.sf_state.specs.Stated.{Gives, lines_refusal, missing_from, text_refusal, values_given}
+use Rattle.sf_state.specs.Stated.{IsStated, given_by, is_fresh, lines_refusal, missing_from, needed, or_nil, text_refusal, values_given}
 use Rattle.sf_state.specs.Says.{entries_of}
 
 -- a table that has at each number what lines give has just what they give
@@ -47,64 +49,47 @@ given-all fields names given es k = given-table es 0 names given.values.items k.
     first m = omega arith
 
 -- a text that isn't too long is refused where its lines are
-pub text-short : (fields names : List Text) (text : Text) → length text ≤ STATE_BYTES
-    → text_refusal fields names text ≡ lines_refusal fields names (entries_of fields names text)
-text-short fields names text h =
-    ap (λ b. cond b (Some TooLong) (lines_refusal fields names (entries_of fields names text)))
+pub text-short : (m : Format) (text : Text) → length text ≤ STATE_BYTES
+    → text_refusal m text ≡ lines_refusal m (entries_of m.fields m.names text)
+text-short m text h = ap (λ b. cond b (Some TooLong) (lines_refusal m (entries_of m.fields m.names text)))
     (le-ltb STATE_BYTES (length text) h)
 
-pub text-long : (fields names : List Text) (text : Text) → STATE_BYTES < length text
-    → text_refusal fields names text ≡ Some TooLong
-text-long fields names text h =
-    ap (λ b. cond b (Some TooLong) (lines_refusal fields names (entries_of fields names text)))
+pub text-long : (m : Format) (text : Text) → STATE_BYTES < length text → text_refusal m text ≡ Some TooLong
+text-long m text h = ap (λ b. cond b (Some TooLong) (lines_refusal m (entries_of m.fields m.names text)))
     (lt-ltb STATE_BYTES (length text) h)
 
 -- a text whose first line that is refused is refused so is
-pub text-line : (fields names : List Text) (text : Text) (f : StartFault) → length text ≤ STATE_BYTES
-    → first_refusal fields names [] (entries_of fields names text) ≡ Some f
-    → text_refusal fields names text ≡ Some f
-text-line fields names text f h e = text-short fields names text h
-    ∙ ap (λ o. option_or o (missing_from names 0 (values_given (entries_of fields names text) 0 names))) e
+pub text-line : (m : Format) (text : Text) (f : StartFault) → length text ≤ STATE_BYTES
+    → first_refusal m.fields m.names [] (entries_of m.fields m.names text) ≡ Some f → text_refusal m text ≡ Some f
+text-line m text f h e = text-short m text h
+    ∙ ap (λ o. option_or o (missing_from m.names 0 (needed m (given_by m text)))) e
 
 -- else it is refused where a variable is missing
-pub text-missing : (fields names : List Text) (text : Text) (given : Given) (o : Option StartFault)
-    → length text ≤ STATE_BYTES → first_refusal fields names [] (entries_of fields names text) ≡ None
-    → Keeps fields names given (entries_of fields names text) → missing_from names 0 given.values.items ≡ o
-    → text_refusal fields names text ≡ o
-text-missing fields names text given o h e k m = text-short fields names text h
-    ∙ ap (λ o. option_or o (missing_from names 0 (values_given (entries_of fields names text) 0 names))) e
-    ∙ ap (missing_from names 0) (sym (given-all fields names given (entries_of fields names text) k)) ∙ m
+pub text-missing : (m : Format) (text : Text) (given : List (Option Value)) (o : Option StartFault)
+    → length text ≤ STATE_BYTES → first_refusal m.fields m.names [] (entries_of m.fields m.names text) ≡ None
+    → given ≡ given_by m text → missing_from m.names 0 (needed m given) ≡ o → text_refusal m text ≡ o
+text-missing m text given o h e is n = text-short m text h
+    ∙ ap (λ o. option_or o (missing_from m.names 0 (needed m (given_by m text)))) e
+    ∙ ap (λ vs. missing_from m.names 0 (needed m vs)) (sym is) ∙ n
 
--- what is kept is what is given
-pub given-gives : (fields names : List Text) (text : Text) (given : Given) (values : List Value)
-    → Keeps fields names given (entries_of fields names text) → map Some values ≡ given.values.items
-    → Gives fields names text values (get nat_cmp given.cells)
-given-gives fields names text given values k e = record {
-  values_are = e ∙ given-all fields names given (entries_of fields names text) k;
-  cells_are = k.cells;
-}
-
--- a text is said to be refused where a variable is missing in the table that is kept
-pub said-missing : (fields names : List Text) (text : Text) (given : Given) (table : List (Option Value))
-    (f : StartFault) → length text ≤ STATE_BYTES
-    → (first_refusal fields names [] (entries_of fields names text) ≡ None)
-    × Keeps fields names given (entries_of fields names text)
-    → table ≡ given.values.items
-    → (f ≡ OutOfMemory) ⊎ (missing_from names 0 table ≡ Some f)
-    → (f ≡ OutOfMemory) ⊎ (text_refusal fields names text ≡ Some f)
-said-missing fields names text given table f h t e m = elim m [
-  | inl o ↦ inl o
-  | inr n ↦ inr (text-missing fields names text given (Some f) h t.0 t.1 (ap (missing_from names 0) (sym e) ∙ n))
-]
-
--- else what is kept is what is said
-pub said-given : (fields names : List Text) (text : Text) (given : Given) (table : List (Option Value))
-    (values : List Value) → length text ≤ STATE_BYTES
-    → (first_refusal fields names [] (entries_of fields names text) ≡ None)
-    × Keeps fields names given (entries_of fields names text)
-    → table ≡ given.values.items → (missing_from names 0 table ≡ None) × (map Some values ≡ table)
-    → (text_refusal fields names text ≡ None) × Gives fields names text values (get nat_cmp given.cells)
-said-given fields names text given table values h t e m = (
-  text-missing fields names text given None h t.0 t.1 (ap (missing_from names 0) (sym e) ∙ m.0),
-  given-gives fields names text given values t.1 (m.1 ∙ e),
-)
+-- what the lines of a text within the limit give is what it says
+pub said-state : (m : Format) (text : Text) (given : Given) (result : Result State StartFault)
+    → length text ≤ STATE_BYTES
+    → (first_refusal m.fields m.names [] (entries_of m.fields m.names text) ≡ None)
+    × Keeps m.fields m.names given (entries_of m.fields m.names text)
+    → Completes m given result → IsStated m text result
+said-state m text given (Ok state) h t c =
+    let all = given-all m.fields m.names given (entries_of m.fields m.names text) t.1 in (
+      text-missing m text given.values.items None h t.0 all c.0,
+      record {
+        values_are = c.1 ∙ ap (map or_nil) all;
+        cells_are = λ l. ap (λ z. get nat_cmp z l) c.2 ∙ t.1.cells l;
+      },
+      c.3 ∙ ap (is_fresh m) all,
+    )
+said-state m text given (Err f) h t c =
+    let all = given-all m.fields m.names given (entries_of m.fields m.names text) t.1 in
+    elim c [
+      | inl o ↦ inl o
+      | inr n ↦ inr (text-missing m text given.values.items (Some f) h t.0 all n)
+    ]

@@ -1,9 +1,9 @@
 -- Written states are read back: no line is refused, and all of them give what was written.
 -- Names: `refused-LAW` that none is refused, `given-LAW` of what they give, `WHAT-back`.
-use Rattle.std.proofs.Common.{◌≡◌, ◌≤◌, ◌+◌, ◌++◌, ◌==◌, ℕ, suc, Bool, true, false, cond, nat_lt, List, [], ◌∷◌, length, map, replicate, Contains, Option, Some, None, is_some, slice_index_or, slice_set, refl, ap, ap₂, sym, ◌∙◌, arith, append_assoc, append-nil, codes, inl, inr}
+use Rattle.std.proofs.Common.{◌≡◌, ◌≤◌, ◌+◌, ◌++◌, ◌==◌, ℕ, suc, Bool, true, false, cond, nat_lt, List, [], ◌∷◌, length, map, replicate, Contains, Option, Some, None, is_some, slice_index_or, slice_set, refl, ap, ap₂, sym, ◌∙◌, arith, append_assoc, append-nil, codes, inl, inr, take}
 use Rattle.std.proofs.Math.Seq.{set-append_seam}
 use Rattle.std.proofs.lemmas.Bool.{eq-eqb, eqb-true, false≢true, lt-ltb}
-use Rattle.std.proofs.lemmas.List.{length-append}
+use Rattle.std.proofs.lemmas.List.{length-append, take-map}
 use Rattle.std.proofs.lemmas.List.Folds.{list_any-append}
 use Rattle.std.proofs.lemmas.List.Sums.{sum_by-append}
 use Rattle.std.specs.Option.{option_map, option_or}
@@ -23,7 +23,8 @@ use Rattle.sf_state.specs.declared.line.Entry.TheVariants.{Nothing, Variable, Ce
 use Rattle.sf_state.specs.Names.{field_at, is_target}
 use Rattle.sf_state.specs.Refused.{is_cell, cell_count, cell_given, cell_in, cell_name, cell_refusal, cell_values, first_refusal, is_set, name_at, set_again, value_given, value_in, values_after}
 use Rattle.sf_state.specs.Says.{entries_from, entries_of}
-use Rattle.sf_state.specs.Stated.{Gives, missing_from, text_refusal, values_given}
+use Rattle.sf_state.specs.Names.{Format}
+use Rattle.sf_state.specs.Stated.{Gives, is_fresh, missing_from, needed, or_nil, text_refusal, values_given}
 use Rattle.sf_state.specs.StateText.{cell_lines, state_text, values_or_none}
 use Rattle.sf_state.proofs.AllValues.{text-short}
 use Rattle.sf_state.proofs.Keeping.{cell-push, count-push, value-push}
@@ -159,6 +160,32 @@ none_missing : (names : List Text) (number : ℕ) (values : List Value) → miss
 none_missing names number [] = refl
 none_missing names number (v ∷ values) = none_missing names (suc number) values
 
+-- nor is any that is needed
+none_needed : (fields names : List Text) (own : ℕ) (init : Bool) (values : List Value) (given : List (Option Value))
+    → given ≡ map Some values
+    → missing_from names 0 (needed (record { fields = fields; names = names; own = own; init = init }) given) ≡ None
+none_needed fields names own init values given e = ap (λ vs. missing_from names 0 (needed m vs)) e
+    ∙ go (is_fresh m (map Some values))
+  where
+    m : Format
+    m = record { fields = fields; names = names; own = own; init = init }
+
+    go : (b : Bool) → missing_from names 0 (cond b (take own (map Some values)) (map Some values)) ≡ None
+    go true = ap (missing_from names 0) (take-map Some own values) ∙ none_missing names 0 (take own values)
+    go false = none_missing names 0 values
+
+-- given values are the values
+all_given : (values : List Value) → map or_nil (map Some values) ≡ values
+all_given [] = refl
+all_given (v ∷ values) = ap (λ vs. v ∷ vs) (all_given values)
+
+-- the text isn't refused, and gives these values and cells
+abbrev pub IsBack : (fields names : List Text) (own : ℕ) (init : Bool) → Text → List Value
+    → (cells : ℕ → Option (List Value)) → Type 0
+IsBack fields names own init text values cells =
+    (text_refusal (record { fields = fields; names = names; own = own; init = init }) text ≡ None)
+    × Gives (record { fields = fields; names = names; own = own; init = init }) text values cells
+
 -- Cells that are written
 module _ (fields names : List Text) (cells : ℕ → Option (List Value)) where
   abbrev entries_of_cells : List ℕ → List Entry
@@ -230,16 +257,17 @@ module _ (fields names : List Text) (cells : ℕ → Option (List Value)) where
     pub count : cell_count before ≡ 0
     pub fine : (es : List Entry) → first_refusal fields names [] (before ++ es) ≡ first_refusal fields names before es
 
-  -- they are read back
-  pub written-back : (values : List Value) (ls : List ℕ) (text : Text) (before : List Entry) → AreWritten values ls
-      → AreNothing before → length text ≤ STATE_BYTES
+  -- they are read back, however many of the names are the procedure's own
+  pub written-back : (own : ℕ) (init : Bool) (values : List Value) (ls : List ℕ) (text : Text) (before : List Entry)
+      → AreWritten values ls → AreNothing before → length text ≤ STATE_BYTES
       → entries_of fields names text ≡ before ++ (variable_entries names 0 values ++ entries_of_cells ls)
-      → (text_refusal fields names text ≡ None) × Gives fields names text values cells
-  written-back values ls text before w nothing short e = (
-    text-short fields names text short
-        ∙ ap₂ option_or refused (ap (missing_from names 0) given ∙ none_missing names 0 values),
+      → IsBack fields names own init text values cells
+  written-back own init values ls text before w nothing short e = (
+    text-short (record { fields = fields; names = names; own = own; init = init }) text short
+        ∙ ap₂ option_or refused (none_needed fields names own init values
+        (values_given (entries_of fields names text) 0 names) given),
     record {
-      values_are = sym given;
+      values_are = sym (ap (map or_nil) given ∙ all_given values);
       cells_are = λ l. given-cells ls l w.at (w.out l) ∙ ap (option_map (cell_values (length fields))) (sym (found l));
     },
   )
@@ -274,20 +302,18 @@ module _ (fields names : List Text) (cells : ℕ → Option (List Value)) where
   entries-text values ls w k = entries-variables fields names names 0 values (cell_lines fields cells ls)
       (entries_of_cells ls) w.names_placed w.each (entries-cells fields names cells w.fields_placed ls w.at) k
 
-  pub text-back : (values : List Value) (ls : List ℕ) → AreWritten values ls
+  pub text-back : (own : ℕ) (init : Bool) (values : List Value) (ls : List ℕ) → AreWritten values ls
       → length (state_text fields names values cells ls) ≤ STATE_BYTES
-      → (text_refusal fields names (state_text fields names values cells ls) ≡ None)
-      × Gives fields names (state_text fields names values cells ls) values cells
-  text-back values ls w short = written-back values ls (state_text fields names values cells ls) [] w
+      → IsBack fields names own init (state_text fields names values cells ls) values cells
+  text-back own init values ls w short = written-back own init values ls (state_text fields names values cells ls) [] w
       (record { no_values = λ k. refl; no_cell = λ l. refl; count = refl; fine = λ es. refl }) short
       (entries-text values ls w 0)
 
-  pub finished-back : (values : List Value) (ls : List ℕ) → AreWritten values ls
+  pub finished-back : (own : ℕ) (init : Bool) (values : List Value) (ls : List ℕ) → AreWritten values ls
       → length (codes "finished\n" ++ state_text fields names values cells ls) ≤ STATE_BYTES
-      → (text_refusal fields names (codes "finished\n" ++ state_text fields names values cells ls) ≡ None)
-      × Gives fields names (codes "finished\n" ++ state_text fields names values cells ls) values cells
-  finished-back values ls w short =
-      written-back values ls (codes "finished\n" ++ state_text fields names values cells ls) (Nothing ∷ []) w
+      → IsBack fields names own init (codes "finished\n" ++ state_text fields names values cells ls) values cells
+  finished-back own init values ls w short =
+      written-back own init values ls (codes "finished\n" ++ state_text fields names values cells ls) (Nothing ∷ []) w
       (record { no_values = λ k. refl; no_cell = λ l. refl; count = refl; fine = λ es. refl }) short
       (ap (entries_from fields names 0) (lines-before (codes "finished") (state_text fields names values cells ls) refl)
       ∙ ap (λ es. Nothing ∷ es) (entries-text values ls w 1))

@@ -9,7 +9,7 @@ use Rattle.std.specs.Ordering.{eq_by_cmp}
 use Rattle.std.specs.Set.{is_member}
 use Rattle.std.proofs.lemmas.Bool.{false≢true, or_cases}
 use Rattle.std.proofs.lemmas.List.{length-map, take_all, take_more}
-use Rattle.std.proofs.lemmas.Option.{get_or_from_slice_get, slice_get-map, slice_get_within}
+use Rattle.std.proofs.lemmas.Option.{get_or_from_slice_get, slice_get-map, slice_get_within, none-some}
 use Rattle.std.proofs.lemmas.List.Elements.{All-contains}
 use Rattle.std.proofs.lemmas.List.Folds.{concat-append, list_any-append}
 use Rattle.std.proofs.lemmas.Map.Keys.{IsDistinct-from_sorted, sorted_from_strictly_increasing}
@@ -28,9 +28,10 @@ use Rattle.sf_heap.specs.Cells.{Cells, HasCell, heap_of}
 use Rattle.sf_foot.specs.Footprint.{HasNoFootprint, IsFootprint}
 use Rattle.sf_precise.specs.Checked.Laws.{OrderedIsDetermined, OrderKeepsMeaning}
 use Rattle.sf_precise.specs.Order.{IsOrderOf}
+use Rattle.sf_foot.specs.Starting.{assertions_of}
 use Rattle.sf_state.specs.declared.finding.Found.{Found}
 use Rattle.sf_state.specs.Checked.Found.{AreFound}
-use Rattle.sf_state.specs.Starts.{IsUnmet, assertions_of, without}
+use Rattle.sf_state.specs.Starts.{IsUnmet, without}
 use Rattle.sf_state.proofs.Turns.{turns-from_parts}
 use Rattle.sf_state.proofs.Without.{member-decides, no_foot-left, no_foot-overlap}
 
@@ -146,18 +147,31 @@ found-more keeps a o before vars heap old new ls at ord found f has same rises o
             ∙ found.marks l ∙ (member-decides (concat old.parts.items) l).1 c))
 
 -- of the assertions of a start the next one is unmet
-pub found-unmet : (p : Program) (g : Procedure) (vars : Var → Value) (heap : Cells) (found : Found) (k : ℕ)
-    (a : Assertion) → AreFound (take k (assertions_of p g)) vars heap found → slice_get (assertions_of p g) k ≡ Some a
+pub found-unmet : (p : Program) (g : Procedure) (is_fresh : Bool) (vars : Var → Value) (heap : Cells) (found : Found)
+    (k : ℕ) (a : Assertion) → AreFound (take k (assertions_of p g is_fresh)) vars heap found
+    → slice_get (assertions_of p g is_fresh) k ≡ Some a
     → HasNoFootprint a.level vars (without (concat found.parts.items) (heap_of heap))
-    → IsUnmet vars (heap_of heap) (assertions_of p g) k
-found-unmet p g vars heap found k a are there none = record {
+    → IsUnmet vars (heap_of heap) (assertions_of p g is_fresh) k
+found-unmet p g is_fresh vars heap found k a are there none = record {
   parts = found.parts.items;
-  earlier = turns-from_parts vars (heap_of heap) (take k (assertions_of p g)) found.parts.items are.footprints
+  earlier = turns-from_parts vars (heap_of heap) (take k (assertions_of p g is_fresh)) found.parts.items are.footprints
       are.distinct;
   assertion = a;
   there = there;
   none = none;
 }
+
+-- what is unmet alone is the first that is unmet of more
+pub unmet-more : (vars : Var → Value) (heap : Heap) (a : Assertion) (more : List Assertion) (k : ℕ)
+    → IsUnmet vars heap (a ∷ []) k → IsUnmet vars heap (a ∷ more) k
+unmet-more vars heap a more zero u = record {
+  parts = u.parts;
+  earlier = u.earlier;
+  assertion = u.assertion;
+  there = u.there;
+  none = u.none;
+}
+unmet-more vars heap a more (suc k) u = absurd (none-some u.assertion u.there)
 
 -- what holds where something is there follows for it alone
 pub some-then : {X : Type 0} (P R : X → Type 0) (o : Option X) → IfSome o P → ((x : X) → o ≡ Some x → P x → R x)
@@ -184,7 +198,7 @@ found-nothing vars heap found e marks = record {
 
 -- the invariant of the resource of a number is the assertion after that number
 invariant-there : (p : Program) (g : Procedure) (r : ℕ) (h : Resource) → slice_get p.resources r ≡ Some h
-    → slice_get (assertions_of p g) (suc r) ≡ Some h.invariant
+    → slice_get (assertions_of p g false) (suc r) ≡ Some h.invariant
 invariant-there p g r h e = slice_get-map (λ (x : Resource). x.invariant) p.resources r
     ∙ ap (option_map (λ (x : Resource). x.invariant)) e
 
@@ -199,25 +213,25 @@ add-one r = omega arith
 
 -- the invariant of the next resource is unmet
 pub next-unmet : (p : Program) (g : Procedure) (vars : Var → Value) (heap : Cells) (found : Found) (r : ℕ) (h : Resource)
-    → AreFound (take (r + 1) (assertions_of p g)) vars heap found → slice_get p.resources r ≡ Some h
+    → AreFound (take (r + 1) (assertions_of p g false)) vars heap found → slice_get p.resources r ≡ Some h
     → HasNoFootprint h.invariant.level vars (without (concat found.parts.items) (heap_of heap))
-    → IsUnmet vars (heap_of heap) (assertions_of p g) (suc r)
+    → IsUnmet vars (heap_of heap) (assertions_of p g false) (suc r)
 next-unmet p g vars heap found r h are e none =
-    found-unmet p g vars heap found (suc r) h.invariant
-    (subst (λ k. AreFound (take k (assertions_of p g)) vars heap found) (add-one r) are) (invariant-there p g r h e) none
+    found-unmet p g false vars heap found (suc r) h.invariant
+    (subst (λ k. AreFound (take k (assertions_of p g false)) vars heap found) (add-one r) are) (invariant-there p g r h e) none
 
 -- or it is found
 pub next-found : (p : Program) (g : Procedure) (vars : Var → Value) (heap : Cells) (new : Found) (r : ℕ) (h : Resource)
-    → AreFound (take (r + 1) (assertions_of p g) ++ h.invariant ∷ []) vars heap new → slice_get p.resources r ≡ Some h
-    → AreFound (take (r + 1 + 1) (assertions_of p g)) vars heap new
+    → AreFound (take (r + 1) (assertions_of p g false) ++ h.invariant ∷ []) vars heap new → slice_get p.resources r ≡ Some h
+    → AreFound (take (r + 1 + 1) (assertions_of p g false)) vars heap new
 next-found p g vars heap new r h are e =
     subst (λ xs. AreFound xs vars heap new)
-    (sym (take-next (assertions_of p g) (r + 1) h.invariant
-    (ap (slice_get (assertions_of p g)) (add-one r) ∙ invariant-there p g r h e))) are
+    (sym (take-next (assertions_of p g false) (r + 1) h.invariant
+    (ap (slice_get (assertions_of p g false)) (add-one r) ∙ invariant-there p g r h e))) are
 
 -- at the end all are
 pub found-all : (p : Program) (g : Procedure) (vars : Var → Value) (heap : Cells) (found : Found) (r : ℕ)
-    → length p.resources ≤ r → AreFound (take (r + 1) (assertions_of p g)) vars heap found
-    → AreFound (assertions_of p g) vars heap found
+    → length p.resources ≤ r → AreFound (take (r + 1) (assertions_of p g false)) vars heap found
+    → AreFound (assertions_of p g false) vars heap found
 found-all p g vars heap found r h are = subst (λ xs. AreFound xs vars heap found)
-    (take_all (r + 1) (assertions_of p g) (omega (arith, h, length-map p.resources (λ (x : Resource). x.invariant)))) are
+    (take_all (r + 1) (assertions_of p g false) (omega (arith, h, length-map p.resources (λ (x : Resource). x.invariant)))) are

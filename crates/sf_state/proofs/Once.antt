@@ -25,12 +25,13 @@ use Rattle.sf_core.specs.Machine.HasThroughout.{HasThroughout}
 use Rattle.sf_core.specs.Assertions.Determined.{Determined}
 use Rattle.sf_core.specs.Checked.Assertions.Laws.{DeterminedHasOneFootprint}
 use Rattle.sf_core.specs.Assertions.Sat.{Sat, value}
+use Rattle.sf_core.specs.Program.Init.{sets_up}
 use Rattle.sf_core.specs.Program.Named.{IsFirstNamed}
 use Rattle.sf_core.specs.Program.Syntax.{Assertion, Procedure, Program}
 use Rattle.sf_heap.specs.Cells.{AreAt, Cells, FieldValues, heap_of}
 use Rattle.sf_foot.specs.declared.vars.Vars.{Vars}
 use Rattle.sf_foot.specs.Footprint.{IsFootprint}
-use Rattle.sf_foot.specs.Starting.{IsFirstUnit, IsMentioned}
+use Rattle.sf_foot.specs.Starting.{IsFirstUnit, IsMentioned, assertions_of}
 use Rattle.sf_foot.specs.Variables.{value_of}
 use Rattle.sf_lines.specs.Lines.{Text}
 use Rattle.sf_precise.specs.Annotations.{annotations_in}
@@ -40,10 +41,10 @@ use Rattle.sf_state.specs.Entering.{IsEntry, IsEntryFault, procedure_names}
 use Rattle.sf_state.specs.Finishing.{values_of}
 use Rattle.sf_state.specs.Checked.Laws.{AreDetermined, EntryExists, EntryIsUnique, FinishTextExists, FinishTextIsUnique, SameLocations, SameVars, StartIsUnique}
 use Rattle.sf_state.specs.Names.{names_of}
-use Rattle.sf_state.specs.Starts.{IsStartText, assertions_of}
+use Rattle.sf_state.specs.Starts.{IsStartText, gives_fresh}
 use Rattle.sf_state.specs.StateText.{state_text}
 use Rattle.sf_state.proofs.Deciding.{fault-once, precise-notes, start-no_fault}
-use Rattle.sf_state.proofs.FirstNamed.{entries-one, faults-one, holds-none, holds-one, never-both}
+use Rattle.sf_state.proofs.FirstNamed.{entries-one, faults-one, first-named, holds-none, holds-one, never-both}
 use Rattle.sf_state.proofs.NextFound.{there-at}
 use Rattle.sf_state.proofs.Rising.{rising-keys, rising-same}
 use Rattle.sf_state.proofs.StateOnce.{state-once, state-vars}
@@ -57,27 +58,6 @@ entry_is_unique p name = record {
   faults = faults-one p name;
   apart = never-both p name;
 }
-
--- a name is one of these, or none of them
-first-named : (names : List Text) (name : Text) → ((k : ℕ) × IsFirstNamed names name (Some k))
-    ⊎ IsFirstNamed names name None
-first-named [] name = inr (λ k e. absurd (cc))
-first-named (n ∷ names) name = go (bytes_eq n name) refl (first-named names name)
-  where
-    go : (b : Bool) → bytes_eq n name ≡ b
-        → ((k : ℕ) × IsFirstNamed names name (Some k)) ⊎ IsFirstNamed names name None
-        → ((k : ℕ) × IsFirstNamed (n ∷ names) name (Some k)) ⊎ IsFirstNamed (n ∷ names) name None
-    go true e rest = inl (0, (ap Some (bytes_eq-same n name e), λ j h. absurd (omega (arith, h))))
-    go false e (inl f) = inl (suc f.0, (f.1.0, later))
-      where
-        later : (j : ℕ) → j < suc f.0 → slice_get (n ∷ names) j ≡ Some name → ⊥
-        later zero h s = bytes_eq-other n name e (same_Some n name s)
-        later (suc j) h s = f.1.1 j (omega (arith, h)) s
-    go false e (inr out) = inr none
-      where
-        none : (k : ℕ) → slice_get (n ∷ names) k ≡ Some name → ⊥
-        none zero s = bytes_eq-other n name e (same_Some n name s)
-        none (suc k) s = out k s
 
 -- each name is that of an entry, or is refused
 pub entry_exists : SetsExist → EntryExists
@@ -108,23 +88,33 @@ entry_exists sets p name formed = go (first-named (procedure_names p) name)
           where
             step : (xs : List ResId) → IsResSet (HasThroughout p (record { 0 = f.0 })) xs → (b : Bool) → (length xs == 0) ≡ b
                 → ((g : ProcId) × IsEntry p name g) ⊎ ((e : StartFault) × IsEntryFault p name e)
-            step xs set true e = inl (
-              record { 0 = f.0 },
-              record { named = f.1; free = holds-none p (record { 0 = f.0 }) xs set e },
-            )
+            step xs set true e = other (sets_up p (record { 0 = f.0 })) refl
+              where
+                other : (b : Bool) → sets_up p (record { 0 = f.0 }) ≡ b
+                    → ((g : ProcId) × IsEntry p name g) ⊎ ((e : StartFault) × IsEntryFault p name e)
+                other false n = inl (
+                  record { 0 = f.0 },
+                  record { named = f.1; free = holds-none p (record { 0 = f.0 }) xs set e; other = n },
+                )
+                other true n = inr (
+                  fault.FreeEntry name,
+                  (refl, record { procedure = record { 0 = f.0 }; named = f.1; holds = inr n }),
+                )
             step xs set false e =
                 let h = holds-one p (record { 0 = f.0 }) xs set e in
                 inr (
                   fault.FreeEntry name,
-                  (refl, record { procedure = record { 0 = f.0 }; named = f.1; resource = h.0; held = h.1 }),
+                  (refl, record { procedure = record { 0 = f.0 }; named = f.1; holds = inl h }),
                 )
 
 -- determined annotations are precise
-pub start-precise : DeterminedHasOneFootprint → (p : Program) (f : ProcId) (g : Procedure) → AreDetermined p
-    → slice_get p.procedures f.0 ≡ Some g → (vars : Var → Value) → ArePrecise vars (assertions_of p g)
+pub start-precise : DeterminedHasOneFootprint → (p : Program) (f : ProcId) (g : Procedure) (text : Text)
+    → AreDetermined p → slice_get p.procedures f.0 ≡ Some g → (vars : Var → Value)
+    → ArePrecise vars (assertions_of p g (gives_fresh p g text))
 unfolding DeterminedHasOneFootprint
-start-precise one p f g determined there vars a c = one a.level vars (λ n. nil)
-    (All-contains (λ (b : Assertion). Determined b.level) (annotations_in p) a determined (precise-notes p f g a there c))
+start-precise one p f g text determined there vars a c = one a.level vars (λ n. nil)
+    (All-contains (λ (b : Assertion). Determined b.level) (annotations_in p) a determined
+    (precise-notes p f g (gives_fresh p g text) a there c))
 
 -- two footprints of one assertion have the same locations
 start-locations : (vars : Var → Value) (heap : Heap) (a : Assertion) (ls ms : List ℕ)
@@ -168,7 +158,7 @@ unit-most v w h k t u to a b = go a.1
 
 -- A text that is two starts
 module _ (p : Program) (f : ProcId) (g : Procedure) (text : Text) (v w : Vars) (h k : Cells) (ps qs : List (List ℕ))
-    (t u : ℕ) (a : IsStartText p f g text v h ps t) (b : IsStartText p f g text w k qs u) where
+    (t u : ℕ) (m n : Bool) (a : IsStartText p f g text v h ps t m) (b : IsStartText p f g text w k qs u n) where
   start-vars : SameVars v w
   start-vars = let same = state-vars p g text v w h k a.state b.state in record { own = same.0; shared = same.1 }
 
@@ -188,30 +178,37 @@ module _ (p : Program) (f : ProcId) (g : Procedure) (text : Text) (v w : Vars) (
       let two : u ≤ t = unit-most w v k h u t (λ l. (start-mentions l).1) b.first_unit a.first_unit in
       omega (arith, one, two)
 
-  start-same_parts : ArePrecise (value_of w) (assertions_of p g) → slice_get p.procedures f.0 ≡ Some g
-      → AllZip SameLocations ps qs
+  start-fresh : m ≡ n
+  start-fresh = a.is_fresh ∙ sym b.is_fresh
+
+  start-same_parts : ArePrecise (value_of w) (assertions_of p g (gives_fresh p g text))
+      → slice_get p.procedures f.0 ≡ Some g → AllZip SameLocations ps qs
   start-same_parts precise there =
       let same = state-once p g text v w h k a.state b.state in
-      let mine : AllZip (λ x ls. IsFootprint x.level (value_of v) (heap_of h) ls) (assertions_of p g) ps =
-      subst (λ (q : Procedure). AllZip (λ x ls. IsFootprint x.level (value_of v) (heap_of h) ls) (assertions_of p q) ps)
-      (same_Some a.starts.procedure g (sym a.starts.there ∙ there)) a.starts.footprints in
-      let other : AllZip (λ x ls. IsFootprint x.level (value_of w) (heap_of k) ls) (assertions_of p g) qs =
-      subst (λ (q : Procedure). AllZip (λ x ls. IsFootprint x.level (value_of w) (heap_of k) ls) (assertions_of p q) qs)
-      (same_Some b.starts.procedure g (sym b.starts.there ∙ there)) b.starts.footprints in
-      start-parts (value_of w) (heap_of k) (assertions_of p g) ps qs precise
-      (subst₂ (λ (vs : Var → Value) (c : Cells). AllZip (λ x ls. IsFootprint x.level vs (heap_of c) ls) (assertions_of p g) ps)
+      let notes = assertions_of p g (gives_fresh p g text) in
+      let mine : AllZip (λ x ls. IsFootprint x.level (value_of v) (heap_of h) ls) notes ps =
+      subst₂ (λ (q : Procedure) (z : Bool). AllZip (λ x ls. IsFootprint x.level (value_of v) (heap_of h) ls)
+      (assertions_of p q z) ps)
+      (same_Some a.starts.procedure g (sym a.starts.there ∙ there)) a.is_fresh a.starts.footprints in
+      let other : AllZip (λ x ls. IsFootprint x.level (value_of w) (heap_of k) ls) notes qs =
+      subst₂ (λ (q : Procedure) (z : Bool). AllZip (λ x ls. IsFootprint x.level (value_of w) (heap_of k) ls)
+      (assertions_of p q z) qs)
+      (same_Some b.starts.procedure g (sym b.starts.there ∙ there)) b.is_fresh b.starts.footprints in
+      start-parts (value_of w) (heap_of k) notes ps qs precise
+      (subst₂ (λ (vs : Var → Value) (c : Cells). AllZip (λ x ls. IsFootprint x.level vs (heap_of c) ls) notes ps)
       same.0 same.1 mine) other
 
 pub start_is_unique : DeterminedHasOneFootprint → StartIsUnique
 unfolding StartIsUnique
 start_is_unique one p f g text determined there = record {
-  variables = λ v w h k ps qs t u a b. start-vars p f g text v w h k ps qs t u a b;
-  cells = λ v w h k ps qs t u a b. start-cells p f g text v w h k ps qs t u a b;
-  parts = λ v w h k ps qs t u a b. start-same_parts p f g text v w h k ps qs t u a b
-      (start-precise one p f g determined there (value_of w)) there;
-  unit = λ v w h k ps qs t u a b. start-unit p f g text v w h k ps qs t u a b;
-  faults = λ d e. fault-once p g text d e (start-precise one p f g determined there);
-  apart = λ v h ps t e. start-no_fault p f g text v h ps t e (start-precise one p f g determined there) there;
+  variables = λ v w h k ps qs t u m n a b. start-vars p f g text v w h k ps qs t u m n a b;
+  cells = λ v w h k ps qs t u m n a b. start-cells p f g text v w h k ps qs t u m n a b;
+  parts = λ v w h k ps qs t u m n a b. start-same_parts p f g text v w h k ps qs t u m n a b
+      (start-precise one p f g text determined there (value_of w)) there;
+  unit = λ v w h k ps qs t u m n a b. start-unit p f g text v w h k ps qs t u m n a b;
+  fresh = λ v w h k ps qs t u m n a b. start-fresh p f g text v w h k ps qs t u m n a b;
+  faults = λ d e. fault-once p g text d e (start-precise one p f g text determined there);
+  apart = λ v h ps t m e. start-no_fault p f g text v h ps t m e (start-precise one p f g text determined there) there;
 }
 
 pub finish_text_is_unique : FinishTextIsUnique

@@ -22,7 +22,7 @@ use Rattle.sf_foot.specs.declared.vars.Vars.{Vars}
 use Rattle.sf_lines.specs.Lines.{Text}
 use Rattle.sf_state.specs.Finishing.{values_of}
 use Rattle.sf_state.specs.Checked.Laws.{ReadsBack, WrittenStatesReadBack}
-use Rattle.sf_state.specs.Names.{names_of, names_of_resource, parameters, qualified}
+use Rattle.sf_state.specs.Names.{format_of, has_init, names_of, names_of_resource, parameters, qualified}
 use Rattle.sf_state.specs.Stated.{Gives, text_refusal}
 use Rattle.sf_state.specs.Starts.{GivesState, by_resource}
 use Rattle.sf_state.specs.StateText.{state_text, values_or_none}
@@ -124,8 +124,8 @@ module _ (p : Program) (f : ProcId) (g : Procedure) (vars : Vars) (heap : Cells)
       absent l gone false e = e
       absent l gone true e = absurd (gone ((at l).0 e))
 
-  returned-state : (text : Text) → (text_refusal p.fields (names_of p g) text ≡ None)
-      × Gives p.fields (names_of p g) text (values_of vars) (get heap) → GivesState p g text vars heap
+  returned-state : (text : Text) → (text_refusal (format_of p g) text ≡ None)
+      × Gives (format_of p g) text (values_of vars) (get heap) → GivesState p g text vars heap
   returned-state text t = record {
     accepted = t.0;
     values = values_of vars;
@@ -144,8 +144,8 @@ written_states_read_back p f g vars heap text formed names there w finish =
     subst (ReadsBack p g vars heap) (sym finish.is) (record {
       alone = λ short. returned-state p f g vars heap formed names there w
           (state_text p.fields (names_of p g) (values_of vars) (get heap) finish.locations)
-          (text-back p.fields (names_of p g) (get heap) (values_of vars) finish.locations written short);
+          (text-back p.fields (names_of p g) (get heap) (length (parameters g)) (has_init p) (values_of vars) finish.locations written short);
       after_finished = λ short. returned-state p f g vars heap formed names there w
           (codes "finished\n" ++ state_text p.fields (names_of p g) (values_of vars) (get heap) finish.locations)
-          (finished-back p.fields (names_of p g) (get heap) (values_of vars) finish.locations written short);
+          (finished-back p.fields (names_of p g) (get heap) (length (parameters g)) (has_init p) (values_of vars) finish.locations written short);
     })

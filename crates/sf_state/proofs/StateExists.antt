@@ -6,13 +6,12 @@ use Rattle.std.specs.FinMap.{empty, get, get-empty, get-insert, insert}
 use Rattle.std.specs.List.{flat_map, sum_by}
 use Rattle.std.specs.Option.{option_map, option_or}
 use Rattle.std.specs.Ordering.{eq_by_cmp, nat_cmp}
-use Rattle.std.proofs.lemmas.Bool.{cases_lt, eq-eqb, eqb-true}
+use Rattle.std.proofs.lemmas.Bool.{eq-eqb, eqb-true}
 use Rattle.std.proofs.lemmas.Cmp.{nat_cmp_total}
 use Rattle.std.proofs.lemmas.List.{length-append, length-drop, length-map, length-take}
 use Rattle.std.proofs.lemmas.List.Sums.{sum_by-cons}
-use Rattle.std.proofs.lemmas.Option.{none-some}
 use Rattle.sf_base.specs.declared.ids.ProcId.{ProcId}
-use Rattle.sf_base.specs.declared.limits.TheConstants.{OWN_VARIABLES, RESOURCE_VARIABLES, STATE_BYTES}
+use Rattle.sf_base.specs.declared.limits.TheConstants.{OWN_VARIABLES, RESOURCE_VARIABLES}
 use Rattle.sf_base.specs.declared.value.Value.{Value}
 use Rattle.sf_base.proofs.Bools.{bool-same}
 use Rattle.sf_base.proofs.Elements.{contains-cons, contains-nil, contains-rest}
@@ -22,16 +21,13 @@ use Rattle.sf_core.specs.Program.Syntax.{Procedure, Program, Resource}
 use Rattle.sf_heap.specs.Cells.{Cells}
 use Rattle.sf_foot.specs.declared.vars.Vars.{Vars}
 use Rattle.sf_lines.specs.Lines.{Text}
-use Rattle.sf_state.specs.declared.fault.StartFault.{StartFault}
-use Rattle.sf_state.specs.declared.fault.StartFault.TheVariants as fault
 use Rattle.sf_state.specs.declared.line.Entry.{Entry}
 use Rattle.sf_state.specs.declared.line.Entry.TheVariants.{Nothing, Bad, Unknown, Variable, Cell}
-use Rattle.sf_state.specs.Names.{names_of, names_of_resource, parameters, qualified}
-use Rattle.sf_state.specs.Refused.{cell_given, cell_values, first_refusal}
+use Rattle.sf_state.specs.Names.{format_of, names_of, names_of_resource, parameters, qualified}
+use Rattle.sf_state.specs.Refused.{cell_given, cell_values}
 use Rattle.sf_state.specs.Says.{entries_of}
-use Rattle.sf_state.specs.Stated.{lines_refusal, missing_from, text_refusal, values_given}
+use Rattle.sf_state.specs.Stated.{given_by, or_nil, text_refusal, values_given}
 use Rattle.sf_state.specs.Starts.{GivesState, by_resource}
-use Rattle.sf_state.proofs.AllValues.{text-long, text-short}
 
 -- the cells that lines give
 make-cells : (count : ℕ) → List Entry → Cells
@@ -66,14 +62,6 @@ made-cells count (Nothing ∷ es) l = made-cells count es l
 made-cells count (Bad ∷ es) l = made-cells count es l
 made-cells count (Unknown name ∷ es) l = made-cells count es l
 made-cells count (Variable k v ∷ es) l = made-cells count es l
-
--- values of which none is missing
-make-values : (names : List Text) (number : ℕ) (given : List (Option Value)) → missing_from names number given ≡ None
-    → (values : List Value) × (map Some values ≡ given)
-make-values names number [] e = ([], refl)
-make-values names number (None ∷ given) e = absurd cc
-make-values names number (Some v ∷ given) e =
-    let more = make-values names (suc number) given e in (v ∷ more.0, ap (λ os. Some v ∷ os) more.1)
 
 -- a vector of a list that isn't too long
 make-vec : {X : Type 0} (xs : List X) → length xs < 2 ^ 63 → (v : Vec X Global) × (v.items ≡ xs)
@@ -130,21 +118,6 @@ given-count : (es : List Entry) (number : ℕ) (names : List Text) → length (v
 given-count es number [] = refl
 given-count es number (n ∷ names) = ap suc (given-count es (suc number) names)
 
--- the lines of a text that isn't refused aren't
-lines-accepted : (fields names : List Text) (text : Text) → text_refusal fields names text ≡ None
-    → lines_refusal fields names (entries_of fields names text) ≡ None
-lines-accepted fields names text accepted = go (cases_lt STATE_BYTES (length text))
-  where
-    go : (STATE_BYTES < length text) ⊎ (length text ≤ STATE_BYTES)
-        → lines_refusal fields names (entries_of fields names text) ≡ None
-    go (inl h) = absurd (none-some fault.TooLong (sym accepted ∙ text-long fields names text h))
-    go (inr h) = sym (text-short fields names text h) ∙ accepted
-
--- and none of the variables is missing
-none-missing : (o q : Option StartFault) → option_or o q ≡ None → q ≡ None
-none-missing None q e = e
-none-missing (Some f) q e = absurd cc
-
 -- a program's procedure has not too many variables
 names-few : (p : Program) (f : ProcId) (g : Procedure) → IsFormed p → slice_get p.procedures f.0 ≡ Some g
     → length (names_of p g) ≤ OWN_VARIABLES + RESOURCE_VARIABLES
@@ -157,13 +130,14 @@ names-few p f g formed there =
     let variables = formed.variables in
     omega (arith, own, shared, whole, few, variables)
 
--- a text that isn't refused gives a state: with these values
-state-with : (p : Program) (f : ProcId) (g : Procedure) (text : Text) (values : List Value) → IsFormed p
-    → slice_get p.procedures f.0 ≡ Some g → text_refusal p.fields (names_of p g) text ≡ None
-    → map Some values ≡ values_given (entries_of p.fields (names_of p g) text) 0 (names_of p g)
+-- a text that isn't refused gives a state
+pub state-exists : (p : Program) (f : ProcId) (g : Procedure) (text : Text) → IsFormed p
+    → slice_get p.procedures f.0 ≡ Some g → text_refusal (format_of p g) text ≡ None
     → (vars : Vars) × (heap : Cells) × GivesState p g text vars heap
-state-with p f g text values formed there accepted given =
-    let size : length values ≡ length (names_of p g) = sym (length-map values Some) ∙ ap length given
+state-exists p f g text formed there accepted =
+    let given = given_by (format_of p g) text in
+    let values = map or_nil given in
+    let size : length values ≡ length (names_of p g) = length-map given or_nil
     ∙ given-count (entries_of p.fields (names_of p g) text) 0 (names_of p g) in
     let few = names-few p f g formed there in
     let taken = length-take (g.references + g.values) values in
@@ -183,21 +157,10 @@ state-with p f g text values formed there accepted given =
         accepted = accepted;
         values = values;
         gives = record {
-          values_are = given;
+          values_are = refl;
           cells_are = made-cells (length p.fields) (entries_of p.fields (names_of p g) text);
         };
         own = own.1;
         shared = ap (map (λ (v : Vec Value Global). v.items)) shared.1 ∙ lists.1;
       },
     )
-
-pub state-exists : (p : Program) (f : ProcId) (g : Procedure) (text : Text) → IsFormed p → slice_get p.procedures f.0 ≡ Some g
-    → text_refusal p.fields (names_of p g) text ≡ None
-    → (vars : Vars) × (heap : Cells) × GivesState p g text vars heap
-state-exists p f g text formed there accepted =
-    let missing = none-missing (first_refusal p.fields (names_of p g) [] (entries_of p.fields (names_of p g) text))
-    (missing_from (names_of p g) 0 (values_given (entries_of p.fields (names_of p g) text) 0 (names_of p g)))
-    (lines-accepted p.fields (names_of p g) text accepted) in
-    let values = make-values (names_of p g) 0
-    (values_given (entries_of p.fields (names_of p g) text) 0 (names_of p g)) missing in
-    state-with p f g text values.0 formed there accepted values.1

@@ -17,15 +17,6 @@ use Rattle.sf_foot.specs.Variables.{value_of, values_or_none}
 use Rattle.sf_lines.specs.Lines.{Text}
 use Rattle.sf_state.specs.Starts.{GivesState, by_resource}
 
--- values of which all are there are determined
-values-once : (xs ys : List Value) → map Some xs ≡ map Some ys → xs ≡ ys
-values-once [] [] e = refl
-values-once [] (y ∷ ys) e = absurd cc
-values-once (x ∷ xs) [] e = absurd cc
-values-once (x ∷ xs) (y ∷ ys) e =
-    let parts = cons-parts (Some x) (Some y) (map Some xs) (map Some ys) e in
-    cons-same x y xs ys (same_Some x y parts.0) (values-once xs ys parts.1)
-
 -- the values at a place of lists, none where there is none
 abbrev values_listed : Option (List Value) → List Value
 values_listed None = []
@@ -55,7 +46,7 @@ pub state-vars : (p : Program) (g : Procedure) (text : Text) (v w : Vars) (h k :
     → GivesState p g text w k → (v.own.items ≡ w.own.items)
     × (map (λ vs. vs.items) v.shared.items ≡ map (λ vs. vs.items) w.shared.items)
 state-vars p g text v w h k a b =
-    let same = values-once a.values b.values (a.gives.values_are ∙ sym b.gives.values_are) in (
+    let same = a.gives.values_are ∙ sym b.gives.values_are in (
       a.own ∙ ap (take (g.references + g.values)) same ∙ sym b.own,
       a.shared ∙ ap (λ vs. by_resource p.resources (drop (g.references + g.values) vs)) same ∙ sym b.shared,
     )

@@ -1,11 +1,11 @@
 -- A state that a text gives has a value for each variable, and its locations are below 2^62.
 -- Names: `shape-LAW` for the values; `state-LAW` for the state.
-use Rattle.std.proofs.Common.{◌≡◌, ◌⊎◌, ◌<◌, ◌≤◌, ◌+◌, ◌^◌, ℕ, zero, suc, true, nat_cmp, List, [], ◌∷◌, Option, Some, None, Contains, length, map, take, drop, get_or, replicate, slice_get, set, is_some, refl, sym, ap, ◌∙◌, subst, inl, inr, arith, Vec, Global}
+use Rattle.std.proofs.Common.{◌≡◌, ◌⊎◌, ◌<◌, ◌≤◌, ◌+◌, ◌^◌, ℕ, zero, suc, true, nat_cmp, List, [], ◌∷◌, Option, Some, None, Contains, length, map, take, drop, get_or, replicate, slice_get, set, is_some, refl, sym, ap, ◌∙◌, subst, inl, inr, arith, Vec, Global, is_none, Bool, true≢false}
 use Rattle.std.specs.BTreeMap as tree
 use Rattle.std.specs.FinMap.{get}
-use Rattle.std.specs.List.{flat_map}
+use Rattle.std.specs.List.{flat_map, list_all}
 use Rattle.std.specs.Option.{IfSome, option_map}
-use Rattle.std.proofs.lemmas.List.{length-append, length-map, length-replicate, length-set}
+use Rattle.std.proofs.lemmas.List.{length-append, length-map, length-replicate, length-set, drop-map}
 use Rattle.std.proofs.lemmas.Option.{none-some, same_Some}
 use Rattle.std.proofs.lemmas.Simd.{map-map}
 use Rattle.sf_base.specs.declared.ids.Var.{Var}
@@ -23,16 +23,18 @@ use Rattle.sf_foot.specs.Starting.{HasWidth, IsMentioned}
 use Rattle.sf_foot.specs.Variables.{value_of, values_or_none}
 use Rattle.sf_state.specs.declared.fields.Setting.{Setting}
 use Rattle.sf_state.specs.declared.line.Entry.{Entry}
-use Rattle.sf_state.specs.Checked.Beginning.{Fits}
+use Rattle.sf_state.specs.Checked.Beginning.{Fits, SuitsFresh}
 use Rattle.sf_state.specs.Checked.FirstUnit.{AreInBounds, IsValueIn}
 use Rattle.sf_lines.specs.Lines.{Text, lines}
-use Rattle.sf_state.specs.Names.{names_of, names_of_resource, parameters, qualified}
+use Rattle.sf_state.specs.Names.{format_of, has_init, names_of, names_of_resource, parameters, qualified}
 use Rattle.sf_state.specs.Refused.{cell_given, cell_values, value_given, values_after}
 use Rattle.sf_state.specs.Says.{entries_of}
-use Rattle.sf_state.specs.Starts.{GivesState, by_resource}
-use Rattle.sf_state.specs.Stated.{Gives, text_refusal, values_given}
+use Rattle.sf_state.specs.Starts.{GivesState, by_resource, gives_fresh}
+use Rattle.sf_state.specs.Stated.{Gives, given_by, is_fresh, or_nil, text_refusal, values_given}
 use Rattle.sf_state.proofs.Bounds.{AllSmall, EntriesSmall, IfCellSmall, IfSmall, IsSmall, small-cell_given, small-entries, small-given}
 use Rattle.sf_state.proofs.Mentions.{contains-at, value-read}
+use Rattle.std.proofs.lemmas.Bool.{and_parts}
+use Rattle.sf_base.specs.declared.ids.ResId.{ResId}
 
 -- what is there
 pub some-of : {X : Type 0} (R : X → Type 0) (o : Option X) (x : X) → o ≡ Some x → R x → IfSome o R
@@ -73,7 +75,7 @@ pub state-fits : (p : Program) (g : Procedure) (text : Text) (vars : Vars) (heap
 state-fits p g text vars heap enough s =
     let n = g.references + g.values in
     let all : length s.values ≡ length (names_of p g) =
-    sym (length-map s.values (λ (v : Value). Some v)) ∙ ap length s.gives.values_are
+    ap length s.gives.values_are ∙ length-map (given_by (format_of p g) text) or_nil
     ∙ shape-given (entries_of p.fields (names_of p g) text) 0 (names_of p g) in
     let parts = length-append (parameters g) (flat_map names_of_resource p.resources) in
     let own = shape-take n g.names enough in
@@ -104,21 +106,19 @@ state-width p g text vars heap s location values e =
     ap length made.2 ∙ values-many (replicate (length p.fields) nil) made.0
     ∙ length-replicate (length p.fields) nil
 
--- values that lines give are small
-shape-small : (es : List Entry) (k : ℕ) (names : List Text) (vs : List Value) (v : Value) → EntriesSmall es
-    → map Some vs ≡ values_given es k names → Contains vs v → IsSmall v
-shape-small es k names [] v small e c = absurd (contains-nil v c)
-shape-small es k [] (w ∷ vs) v small e c = absurd cc
-shape-small es k (name ∷ names) (w ∷ vs) v small e c =
-    let parts = cons-parts (Some w) (value_given es k) (map Some vs) (values_given es (suc k) names) e in
-    elim ((contains-cons w vs v).0 c) [
-      | inl f ↦ subst IsSmall f (one (value_given es k) (small-given es k small) parts.0)
-      | inr d ↦ shape-small es (suc k) names vs v small parts.1 d
+-- values that lines give are small, and nil is
+shape-small : (es : List Entry) (k : ℕ) (names : List Text) (v : Value) → EntriesSmall es
+    → Contains (map or_nil (values_given es k names)) v → IsSmall v
+shape-small es k [] v small c = absurd (contains-nil v c)
+shape-small es k (name ∷ names) v small c =
+    elim ((contains-cons (or_nil (value_given es k)) (map or_nil (values_given es (suc k) names)) v).0 c) [
+      | inl f ↦ subst IsSmall f (one (value_given es k) (small-given es k small))
+      | inr d ↦ shape-small es (suc k) names v small d
     ]
   where
-    one : (o : Option Value) → IfSmall o → Some w ≡ o → IsSmall w
-    one None h f = absurd cc
-    one (Some u) h f = subst IsSmall (same_Some u w (sym f)) h
+    one : (o : Option Value) → IfSmall o → IsSmall (or_nil o)
+    one None h = tt
+    one (Some u) h = h
 
 -- those among the first, and those after them
 among-take : {X : Type 0} (n : ℕ) (xs : List X) (x : X) → Contains (take n xs) x → Contains xs x
@@ -177,8 +177,8 @@ state-bounds p g text vars heap s = bound
     small = small-entries p.fields (names_of p g) 0 (lines text)
 
     value : (v : Value) → Contains s.values v → IsSmall v
-    value v c = shape-small (entries_of p.fields (names_of p g) text) 0 (names_of p g) s.values v small
-        s.gives.values_are c
+    value v c = shape-small (entries_of p.fields (names_of p g) text) 0 (names_of p g) v small
+        (subst (λ vs. Contains vs v) s.gives.values_are c)
 
     own : (l : ℕ) → IsValueIn vars.own.items l → l < 2 ^ 62
     own l v = subst IsSmall v.2 (value v.0
@@ -228,7 +228,7 @@ state-bounds p g text vars heap s = bound
 -- a state from what a text gives and where that went
 pub state-from : (p : Program) (g : Procedure) (text : Text) (vars : Vars) (heap : Cells) (values list : List Value)
     (cells : tree.BTreeMap ℕ FieldValues)
-    → (text_refusal p.fields (names_of p g) text ≡ None) × Gives p.fields (names_of p g) text values (tree.get nat_cmp cells)
+    → (text_refusal (format_of p g) text ≡ None) × Gives (format_of p g) text values (tree.get nat_cmp cells)
     → ((l : ℕ) → get heap l ≡ tree.get nat_cmp cells l) → list ≡ values
     → vars.own.items ≡ take (g.references + g.values) list
     → map (λ vs. vs.items) vars.shared.items ≡ by_resource p.resources (drop (g.references + g.values) list)
@@ -240,3 +240,53 @@ state-from p g text vars heap values list cells t placed e own shared = record {
   own = own ∙ ap (take (g.references + g.values)) e;
   shared = shared ∙ ap (λ vs. by_resource p.resources (drop (g.references + g.values) vs)) e;
 }
+
+-- values that aren't given are nil
+fresh-nil : (given : List (Option Value)) (v : Value) → list_all is_none given ≡ true
+    → Contains (map or_nil given) v → v ≡ nil
+fresh-nil [] v h c = absurd (contains-nil v c)
+fresh-nil (None ∷ given) v h c = elim ((contains-cons nil (map or_nil given) v).0 c) [
+  | inl e ↦ sym e
+  | inr d ↦ fresh-nil given v h d
+]
+fresh-nil (Some w ∷ given) v h c = absurd (true≢false (sym h))
+
+-- a value at a place is nil where all are
+fresh-at : (vs : List Value) (k : ℕ) → ((v : Value) → Contains vs v → v ≡ nil) → get_or vs k nil ≡ nil
+fresh-at [] k all = refl
+fresh-at (v ∷ vs) zero all = all v ((contains-cons v vs v).1 (inl refl))
+fresh-at (v ∷ vs) (suc k) all = fresh-at vs k (λ w c. all w (contains-rest v vs w c))
+
+-- a fresh state leaves the variables of resources nil
+pub state-fresh : (p : Program) (g : Procedure) (text : Text) (vars : Vars) (heap : Cells)
+    → g.references + g.values ≤ length g.names → GivesState p g text vars heap → gives_fresh p g text ≡ true
+    → SuitsFresh p vars
+state-fresh p g text vars heap enough s fresh = record { init = both.0; values = variable }
+  where
+    given : List (Option Value)
+    given = given_by (format_of p g) text
+
+    both : (has_init p ≡ true) × (list_all is_none (drop (length (parameters g)) given) ≡ true)
+    both = and_parts (has_init p) (list_all is_none (drop (length (parameters g)) given)) fresh
+
+    own : length (parameters g) ≡ g.references + g.values
+    own = shape-take (g.references + g.values) g.names enough
+
+    shared : drop (g.references + g.values) s.values ≡ map or_nil (drop (length (parameters g)) given)
+    shared = ap (drop (g.references + g.values)) s.gives.values_are
+        ∙ ap (λ n. drop n (map or_nil given)) (sym own) ∙ drop-map or_nil (length (parameters g)) given
+
+    row : (ws : Vec Value Global) → Contains vars.shared.items ws → (v : Value) → Contains ws.items v → v ≡ nil
+    row ws c v d = fresh-nil (drop (length (parameters g)) given) v both.1
+        (subst (λ vs. Contains vs v) shared
+        (among-shared p.resources (drop (g.references + g.values) s.values) ws.items v
+        (subst (λ ls. Contains ls ws.items) s.shared
+        (contains-map (λ (vs : Vec Value Global). vs.items) vars.shared.items ws c)) d))
+
+    variable : (r : ResId) (i : ℕ) → value_of vars (Shared r i) ≡ nil
+    variable r i = go (slice_get vars.shared.items r.0) refl
+      where
+        go : (o : Option (Vec Value Global)) → slice_get vars.shared.items r.0 ≡ o
+            → get_or (values_or_none o) i nil ≡ nil
+        go None e = refl
+        go (Some ws) e = fresh-at ws.items i (row ws (contains-at vars.shared.items r.0 ws e))

@@ -121,9 +121,8 @@ impl Found {
     }
 }
 
-/// The footprints of the precondition and then of each resource's invariant, in file order, each in
-/// what the earlier ones left; or the first assertion that has none there.
-pub(crate) fn find_parts(
+/// The footprint of the precondition, or that it has none.
+fn find_pre(
     alloc: Global,
     p: &Arranged,
     f: ProcId,
@@ -132,13 +131,33 @@ pub(crate) fn find_parts(
 ) -> Result<Found, StartFault>
     requires { f.0 < length p.now.program.procedures.items }
     ensures { IfSome (slice_get (program_of p.now.program).procedures f.0)
-        (λ g. AllFound (program_of p.now.program) g (value_of vars.now) heap.now result) }
+        (λ g. AllFound (program_of p.now.program) g true (value_of vars.now) heap.now result) }
 {
     let mut found = Found::new(alloc);
     if !found.take(alloc, p.pre(f), vars, heap)? {
         let name = Name::new(alloc, b"pre")?;
         return Err(StartFault::Unmet(name));
     }
+    Ok(found)
+}
+
+/// The footprints of the precondition and then of each resource's invariant, in file order, each in
+/// what the earlier ones left; or the first assertion that has none there.
+fn find_all(
+    alloc: Global,
+    p: &Arranged,
+    f: ProcId,
+    vars: &Vars,
+    heap: &Heap,
+) -> Result<Found, StartFault>
+    requires { f.0 < length p.now.program.procedures.items }
+    ensures { IfSome (slice_get (program_of p.now.program).procedures f.0)
+        (λ g. AllFound (program_of p.now.program) g false (value_of vars.now) heap.now result) }
+{
+    let mut found = match find_pre(alloc, p, f, vars, heap) {
+        Ok(found) => found,
+        Err(fault) => return Err(fault),
+    };
     for r in 0..p.program.resources.len() {
         if !found.take(alloc, p.invariant(ResId(r as u32)), vars, heap)? {
             let name = resource_name(alloc, p, r)?;
@@ -146,4 +165,25 @@ pub(crate) fn find_parts(
         }
     }
     Ok(found)
+}
+
+/// The footprints of the precondition and then, unless the start is fresh, of each resource's
+/// invariant in file order; or the first assertion that has none in what the earlier ones left.
+pub(crate) fn find_parts(
+    alloc: Global,
+    p: &Arranged,
+    f: ProcId,
+    fresh: bool,
+    vars: &Vars,
+    heap: &Heap,
+) -> Result<Found, StartFault>
+    requires { f.0 < length p.now.program.procedures.items }
+    ensures { IfSome (slice_get (program_of p.now.program).procedures f.0)
+        (λ g. AllFound (program_of p.now.program) g fresh (value_of vars.now) heap.now result) }
+{
+    if fresh {
+        find_pre(alloc, p, f, vars, heap)
+    } else {
+        find_all(alloc, p, f, vars, heap)
+    }
 }

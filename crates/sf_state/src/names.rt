@@ -57,7 +57,7 @@ pub(crate) fn is_target(text: &[u8]) -> bool
 }
 
 /// The names of the entry's references and values.
-fn parameters(g: &Proc) -> &[Name]
+pub(crate) fn parameters(g: &Proc) -> &[Name]
     ensures { result.now ≡ parameters (procedure_of g.now) }
 {
     let count = g.references as usize + g.values as usize;

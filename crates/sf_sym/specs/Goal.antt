@@ -28,7 +28,7 @@ pub data Item : Type 0 where
   head : Place → Test Expr → (invariant : Assertion) → Block → Item
   again : Place → (invariant : Assertion) → Item
   exit : Place → ResId → Item
-  return : Place → Assertion → Item
+  return : Place → (owed : List Assertion) → Item
   end : Place → Item
 
 -- a state, and what is to do from there
@@ -71,7 +71,7 @@ items_of (Gave p set removed) = gave p set.items removed.items ∷ []
 items_of (Head p test invariant body) = head p test.now (assertion_of invariant.now) (block_of body.now) ∷ []
 items_of (Again p invariant) = again p (assertion_of invariant.now) ∷ []
 items_of (Exit p r) = exit p r ∷ []
-items_of (Return p post) = return p (assertion_of post.now) ∷ []
+items_of (Return p owed) = return p (map (λ o. assertion_of o.assertion) owed.now) ∷ []
 items_of (End p) = end p ∷ []
 
 -- what there is to do, by a list of the code's items

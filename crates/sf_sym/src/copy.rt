@@ -50,7 +50,7 @@ fn copy_item<'a>(alloc: Global, item: &Item<'a>) -> Result<Item<'a>, AllocError>
         }
         Item::Again(place, invariant) => Ok(Item::Again(*place, *invariant)),
         Item::Exit(place, r) => Ok(Item::Exit(*place, *r)),
-        Item::Return(place, post) => Ok(Item::Return(*place, *post)),
+        Item::Return(place, owed) => Ok(Item::Return(*place, *owed)),
         Item::End(place) => Ok(Item::End(*place)),
     }
 }

@@ -7,7 +7,7 @@ use crate::replace::Replacement;
 use crate::state::State;
 use crate::term::Term;
 use sf_base::{Name, Place, ResId, Var};
-use sf_core::{Assertion, Command, Expr, Test};
+use sf_core::{Assertion, Command, Expr, Ordered, Test};
 use std::alloc::AllocError;
 
 /// Something to do. Each has a place, for messages. Commands and assertions are the program's own.
@@ -29,8 +29,8 @@ pub enum Item<'a> {
     Again(Place, &'a Assertion),
     /// The end of a region: the resource's invariant is due.
     Exit(Place, ResId),
-    /// The end of the procedure: its postcondition is due.
-    Return(Place, &'a Assertion),
+    /// The end of the procedure: these assertions are due, one after the other.
+    Return(Place, &'a [Ordered]),
     /// Nothing of the heap may be left.
     End(Place),
 }

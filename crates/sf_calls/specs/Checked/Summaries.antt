@@ -1,12 +1,13 @@
 -- Summaries: what occurs in each procedure's text, and what is read off it.
 -- Ordinary: a set as the list of its members; a test of a list by cases on it.
-use Rattle.std.specs.Prelude.{◌⊎◌, ◌↔◌, ◌==◌, Bool, false, ◌||◌, List, [], ◌∷◌, Option, Some, None, Contains}
+use Rattle.std.specs.Prelude.{◌≡◌, ◌⊎◌, ◌↔◌, ◌==◌, Bool, false, ◌||◌, List, [], ◌∷◌, Option, Some, None, Contains}
 use Rattle.std.specs.List.{AllZip}
 use Rattle.sf_base.specs.declared.ids.ProcId.{ProcId}
 use Rattle.sf_base.specs.declared.ids.ResId.{ResId}
 use Rattle.sf_base.specs.declared.ids.Var.{Var}
 use Rattle.sf_base.specs.declared.ids.Var.TheVariants.{Own, Shared}
 use Rattle.sf_core.specs.Assertions.Occurs.{VarOccursIn}
+use Rattle.sf_core.specs.Program.Init.{is_init}
 use Rattle.sf_core.specs.Program.Syntax.{Procedure, Program}
 use Rattle.sf_calls.specs.declared.summary.Summary.{Summary}
 use Rattle.sf_calls.specs.Conditions.{IsShared}
@@ -15,8 +16,10 @@ use Rattle.sf_calls.specs.Outside.{OccursOutside, CallsIn, EntersIn}
 use Rattle.sf_calls.specs.Sets.{IsVarSet}
 use Rattle.sf_base.specs.Variables.{same_var}
 
--- what occurs in the procedure's text. Where no call is inside a region of r, each is outside
+-- what occurs in the procedure's text, and whether it sets the resources up. Where no call is inside a region of r,
+-- each is outside
 pub record IsSummaryOf (h : Procedure) (t : Summary) : Type 0 where
+  pub sets_up : t.sets_up ≡ is_init h
   pub in_contract : IsVarSet (λ x. IsShared x × (VarOccursIn h.pre.level x ⊎ VarOccursIn h.post.level x))
       t.in_contract
   pub mentioned : IsVarSet

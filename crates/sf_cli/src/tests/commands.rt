@@ -31,6 +31,28 @@ pub const VERDICTS: [(&[&str], &str, &str, u8); 15] = [
     (&["verify", "none.sf"], "", "read fault: none.sf\n", 7),
 ];
 
+/// Files that are made and verified, and how large they and their proofs are.
+pub const DEMOS: [(&[&str], &str, &str, u8); 3] = [
+    (
+        &["demo", "1"],
+        "",
+        "demo 1: 1 procedures, 136 bytes, 17 tags\n",
+        0,
+    ),
+    (
+        &["demo", "2"],
+        "",
+        "demo 2: 2 procedures, 198 bytes, 28 tags\n",
+        0,
+    ),
+    (
+        &["demo", "1000"],
+        "",
+        "demo 1000: 1000 procedures, 89809 bytes, 14000 tags\n",
+        0,
+    ),
+];
+
 /// Texts of proofs that are given, whole or with one line other than due, and what is said of them.
 pub const RECHECKS: [(&[&str], &str, &str, u8); 19] = [
     (

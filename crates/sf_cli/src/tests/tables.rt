@@ -961,7 +961,7 @@ pub const NESTS: [((&str, &str, &str, &str), (u32, u32), u32, &str); 3] = [
 ];
 
 /// Words that are no command.
-pub const NO_COMMANDS: [&[&str]; 18] = [
+pub const NO_COMMANDS: [&[&str]; 19] = [
     &[],
     &["verify"],
     &["verify", "a", "b"],
@@ -979,7 +979,8 @@ pub const NO_COMMANDS: [&[&str]; 18] = [
     &["verify", "set.sf", "--workers", "1", "--workers", "1"],
     &["verify", "set.sf", "--workers"],
     &["verify", "--", "--workers", "1"],
-    &["demo", "2"],
+    &["demo", "0"],
+    &["demo", "1001"],
 ];
 
 /// Words that have the file set.sf proved.

@@ -163,7 +163,7 @@ module _ (p : Program) (one two : Event) (s t w : Common) (n k : Next) (u v : Ta
 
   -- and so is the holder of each resource
   end-holder : (r : ResId) → (end.0).held r ≡ w.held r
-  end-holder r = elim (moves-or_not n r) [
+  end-holder r = elim (moves-or_not p n r) [
     | inl m ↦ sym (end.2.holders r (inl m))
         ∙ sym ((next-footprint p two t w k v e).kept r (λ h. i.hands r m h))
     | inr m ↦ (next-footprint p one middle.0 end.0 n u end.1).kept r m

@@ -14,6 +14,7 @@ use Rattle.sf_core.specs.Machine.Next.{Next, does, leaves, returns, joins, nothi
 use Rattle.sf_core.specs.Machine.Enabled.{Thing, variable, cell, IsInRoom, IsCellAt, CommandWrites, Writes}
 use Rattle.sf_core.specs.Checked.Machine.Laws.{CommandMakes, Makes, Enters, Moves}
 use Rattle.sf_core.specs.Machine.Step.{Event, procedure_at, room_count, room_for}
+use Rattle.sf_core.specs.Program.Init.{sets_up}
 use Rattle.sf_core.specs.Program.Syntax.{Command, assign, look_up, mutate, new, dispose, if, while, call, fork, with, Procedure, Program}
 
 -- it is so, or it isn't
@@ -116,10 +117,10 @@ enters-or_not : (c : Command) (r : ResId) → Decided (Enters c r)
 enters-or_not (with place q test body) r = resource-or_not r q
 enters-or_not _ r = inr (λ h. absurd h)
 
--- whether an event enters or leaves a region of the resource
-pub moves-or_not : (n : Next) (r : ResId) → Decided (Moves n r)
-moves-or_not (does f below c rest) r = enters-or_not c r
-moves-or_not (leaves f below q rest) r = resource-or_not r q
-moves-or_not (returns f below) r = inr (λ h. h)
-moves-or_not (joins frames one two) r = inr (λ h. h)
-moves-or_not nothing r = inr (λ h. h)
+-- whether an event enters or leaves a region of the resource, or makes all free
+pub moves-or_not : (p : Program) (n : Next) (r : ResId) → Decided (Moves p n r)
+moves-or_not p (does f below c rest) r = enters-or_not c r
+moves-or_not p (leaves f below q rest) r = resource-or_not r q
+moves-or_not p (returns f below) r = true-or_not (sets_up p f.procedure)
+moves-or_not p (joins frames one two) r = inr (λ h. h)
+moves-or_not p nothing r = inr (λ h. h)

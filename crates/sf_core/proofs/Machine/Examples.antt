@@ -6,3 +6,4 @@ pub mod Returns
 pub mod Starts
 pub mod Numbers
 pub mod Commute
+pub mod SettingUp

@@ -177,7 +177,7 @@ module _ (p : Program) (ev : Event) (whole part : Common) (cells : Heap) (variab
       ]
 
   part-keeps : (t w : Common) (u : Task) → (IsAtNoCell part n → ⊥) → Goes p ev part n t u
-      → Goes p ev whole n w u → AgreesAfter p ev n part whole t w → KeepsRest n whole w t cells variables
+      → Goes p ev whole n w u → AgreesAfter p ev n part whole t w → KeepsRest p n whole w t cells variables
   part-keeps t w u safe d e agrees = record {
     splits = part-splits t w u safe d e agrees;
     moved = λ r m. sym (agrees.holders r (inl m));
@@ -199,7 +199,7 @@ module _ (p : Program) (ev : Event) (whole part : Common) (cells : Heap) (variab
 
   -- a step of the part is one of the whole, and leaves the rest
   pub part-step : (t : Common) (u : Task) → Goes p ev part n t u
-      → (w : Common) × Goes p ev whole n w u × KeepsRest n whole w t cells variables
+      → (w : Common) × Goes p ev whole n w u × KeepsRest p n whole w t cells variables
   part-step t u d =
       let safe : IsAtNoCell part n → ⊥ = goes-not_at_no_cell p ev part t n u d in
       let w = goes-local p ev part t whole n u d (part-agrees safe (absent-by_next p ev part t n u d)) in
@@ -225,12 +225,12 @@ module _ (p : Program) (ev : Event) (whole part : Common) (cells : Heap) (variab
 
   -- a step of the whole is one of the part, and leaves the rest
   pub whole-step : (w : Common) (u : Task) → (IsAtNoCell part n → ⊥) → Goes p ev whole n w u
-      → (t : Common) × Goes p ev part n t u × KeepsRest n whole w t cells variables
+      → (t : Common) × Goes p ev part n t u × KeepsRest p n whole w t cells variables
   whole-step w u safe e =
       let t = goes-local p ev whole w part n u e (whole-agrees w u safe e) in
       let v = part-step t.0 u t.1 in (
         t.0,
         t.1,
-        subst (λ z. KeepsRest n whole z t.0 cells variables)
+        subst (λ z. KeepsRest p n whole z t.0 cells variables)
             (goes-unique p ev whole v.0 w n u u v.1 e).0 v.2,
       )

@@ -1,6 +1,6 @@
 -- That a step rests on what it reads: where another state agrees on that, there is the same step.
 -- Names: `WHAT-agree` for states that agree, `WHAT-same` for what is evaluated, `WHAT-local` for the same step.
-use Rattle.std.specs.Prelude.{◌≡◌, ℕ, cond, List, [], ◌∷◌, map, get_or, Option, Some, None, ◌⊎◌, ◌==◌}
+use Rattle.std.specs.Prelude.{◌≡◌, ℕ, true, cond, List, [], ◌∷◌, map, get_or, Option, Some, None, ◌⊎◌, ◌==◌}
 use Rattle.std.specs.Option.{unwrap_or}
 use Rattle.std.proofs.Common.{sym, ap, ap₂, ◌∙◌, refl, subst, inl, inr}
 use Rattle.std.proofs.lemmas.Option.{same_Some}
@@ -24,7 +24,8 @@ use Rattle.sf_base.specs.HeapStore.{Cell, put_field, Slot, same_slot, Store}
 use Rattle.sf_core.specs.Checked.Machine.Laws.{CommandMakes, Makes, Enters, Moves, AgreeOn, AgreesOnReads, AgreesAfter}
 use Rattle.sf_core.specs.Assertions.Occurs.{OccursInTest}
 use Rattle.sf_core.specs.Assertions.Sat.{IsTrueOf}
-use Rattle.sf_core.specs.Machine.Step.{Event, set_slot, set_cell, set_holder, open_room, close_room, room_count, room_for, arguments, Finds, Chooses, Does, Goes}
+use Rattle.sf_core.specs.Machine.Step.{Event, set_slot, set_cell, set_holder, open_room, close_room, returned, room_count, room_for, arguments, Finds, Chooses, Does, Goes}
+use Rattle.sf_core.specs.Program.Init.{sets_up}
 use Rattle.sf_core.specs.Program.Syntax.{Call, Command, assign, look_up, mutate, new, dispose, if, while, call, fork, with, Procedure, Program}
 
 -- What is evaluated
@@ -90,6 +91,11 @@ module _ (a b : Common) where
   close_room-agree room (variable y) h = cond-agree (in_room room y) None None (a.store y) (b.store y) refl h
   close_room-agree room (cell l) (inl i) = absurd i
   close_room-agree room (cell l) (inr h) = h
+
+  returned-agree : (p : Program) (f : Fixed) (thing : Thing) → IsInRoom f.room thing ⊎ AgreeOn a b thing
+      → AgreeOn (returned p f a) (returned p f b) thing
+  returned-agree p f (variable y) h = close_room-agree f.room (variable y) h
+  returned-agree p f (cell l) h = close_room-agree f.room (cell l) h
 
   holder-agree : (r : ResId) (holder : Option Path) (q : ResId) → (q ≡ r) ⊎ (a.held q ≡ b.held q)
       → (set_holder r holder a).held q ≡ (set_holder r holder b).held q
@@ -335,10 +341,10 @@ module _ (p : Program) (ev : Event) (s o : Common) where
   )
 
   next-local : (n : Next) (t : Common) (u : Task)
-      → Finding (Reads s.store n) (λ thing. Writes s.store n thing ⊎ Makes p ev n thing) (Moves n)
+      → Finding (Reads s.store n) (λ thing. Writes s.store n thing ⊎ Makes p ev n thing) (Moves p n)
       → Goes p ev s n t u
       → (w : Common) × Goes p ev o n w u
-      × Agrees (λ thing. Writes s.store n thing ⊎ Makes p ev n thing) (Moves n) t w
+      × Agrees (λ thing. Writes s.store n thing ⊎ Makes p ev n thing) (Moves p n) t w
   next-local (does f below c rest) t u h d = command-local f below c rest t u h d
   next-local (leaves f below r rest) t u h d = (
     _,
@@ -354,11 +360,12 @@ module _ (p : Program) (ev : Event) (s o : Common) where
   next-local (returns f below) t u h d = (
     _,
     (d.0, refl, d.2),
-    subst (λ z. Agrees (λ thing. IsInRoom f.room thing ⊎ ⊥) (λ r. ⊥) z (close_room f.room o)) (sym d.1) (record {
-      things = λ thing i. close_room-agree s o f.room thing
-          (elim i [ inl j ↦ elim j [ inl k ↦ inl k | inr k ↦ absurd k ] | inr y ↦ inr y ]);
-      holders = none-moved;
-    }),
+    subst (λ z. Agrees (λ thing. IsInRoom f.room thing ⊎ ⊥) (λ r. sets_up p f.procedure ≡ true) z (returned p f o))
+        (sym d.1) (record {
+          things = λ thing i. returned-agree s o p f thing
+              (elim i [ inl j ↦ elim j [ inl k ↦ inl k | inr k ↦ absurd k ] | inr y ↦ inr y ]);
+          holders = λ r i. cond-agree (sets_up p f.procedure) None None (s.held r) (o.held r) refl i;
+        }),
   )
   next-local (joins frames one two) t u h d =
       (o, (d.0, d.1, refl, d.3), same-agrees _ t d.2 (λ thing i. elim i [ inl x ↦ x | inr y ↦ y ]))

@@ -66,22 +66,22 @@ rooms-number one two (own n i) h k =
 
 -- Who has to wait
 -- only the resource that comes next matters
-blocked-back : (held now : ResId → Option Path) (n : Next) → ((r : ResId) → Moves n r → now r ≡ held r)
+blocked-back : (p : Program) (held now : ResId → Option Path) (n : Next) → ((r : ResId) → Moves p n r → now r ≡ held r)
     → IsBlocked held n → IsBlocked now n
-blocked-back held now (does f below (with place q test body) rest) h b = λ e. b (sym (h q refl) ∙ e)
-blocked-back held now (does f below (assign place x e) rest) h b = b
-blocked-back held now (does f below (look_up place x e g) rest) h b = b
-blocked-back held now (does f below (mutate place e g v) rest) h b = b
-blocked-back held now (does f below (new place x) rest) h b = b
-blocked-back held now (does f below (dispose place e) rest) h b = b
-blocked-back held now (does f below (if place test this that) rest) h b = b
-blocked-back held now (does f below (while place test kept body) rest) h b = b
-blocked-back held now (does f below (call place c) rest) h b = b
-blocked-back held now (does f below (fork place c d) rest) h b = b
-blocked-back held now (leaves f below r rest) h b = b
-blocked-back held now (returns f below) h b = b
-blocked-back held now (joins frames one two) h b = b
-blocked-back held now nothing h b = b
+blocked-back p held now (does f below (with place q test body) rest) h b = λ e. b (sym (h q refl) ∙ e)
+blocked-back p held now (does f below (assign place x e) rest) h b = b
+blocked-back p held now (does f below (look_up place x e g) rest) h b = b
+blocked-back p held now (does f below (mutate place e g v) rest) h b = b
+blocked-back p held now (does f below (new place x) rest) h b = b
+blocked-back p held now (does f below (dispose place e) rest) h b = b
+blocked-back p held now (does f below (if place test this that) rest) h b = b
+blocked-back p held now (does f below (while place test kept body) rest) h b = b
+blocked-back p held now (does f below (call place c) rest) h b = b
+blocked-back p held now (does f below (fork place c d) rest) h b = b
+blocked-back p held now (leaves f below r rest) h b = b
+blocked-back p held now (returns f below) h b = b
+blocked-back p held now (joins frames one two) h b = b
+blocked-back p held now nothing h b = b
 
 -- paths that diverge differ
 diverge-differ : (path other : Path) → Diverge path other → path ≢ other
@@ -123,7 +123,7 @@ module _ (p : Program) (entry : Procedure) (one two : Event) (c d e : Config) (t
     there = also;
     going = λ h. ended-no_step p two d.common e.common two.task refl that r.to second-step h;
     free = λ h. goes-not_blocked p two d.common e.common (next that) r.to second-step
-        (blocked-back c.common.held d.common.held (next that)
+        (blocked-back p c.common.held d.common.held (next that)
         (λ q m. (next-footprint p one c.common d.common (next this) s.to first-step).kept q
         (λ k. free.hands q k m)) h);
   }

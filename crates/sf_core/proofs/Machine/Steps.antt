@@ -15,6 +15,7 @@ use Rattle.sf_core.specs.Machine.Enabled.{variable, cell, IsCellAt, CommandWrite
 use Rattle.sf_base.specs.HeapStore.{Cell, Slot}
 use Rattle.sf_core.specs.Checked.Machine.Laws.{CommandMakes, Makes, IsLeft, Enters, Moves, HolderChanges, ChangesOnlyFootprint}
 use Rattle.sf_core.specs.Machine.Step.{Event, set_slot, set_cell, set_holder, open_room, close_room, room_count, room_for, arguments, Does, Goes}
+use Rattle.sf_core.specs.Program.Init.{sets_up}
 use Rattle.sf_core.specs.Program.Syntax.{Command, assign, look_up, mutate, new, dispose, if, while, call, fork, with, Program}
 
 set_slot-other : (x y : Slot) (v : Value) (s : Common) → (variable y ≡ variable x → ⊥)
@@ -153,18 +154,19 @@ holder-set r q holder s t e i =
 
 moved-by_command : (p : Program) (ev : Event) (s t : Common) (f : Fixed) (below : List Frame) (c : Command)
     (rest : List Item) (u : Task) → Does p ev s f below c rest t u → (r : ResId) → Enters c r
-    → HolderChanges ev.task (s.held r) (t.held r)
+    → (s.held r ≡ None) × (t.held r ≡ Some ev.task)
 moved-by_command p ev s t f below (with place q test body) rest u d r m =
-    inl (ap s.held m ∙ d.0, holder-set q r (Some ev.task) s t m d.2)
+    (ap s.held m ∙ d.0, holder-set q r (Some ev.task) s t m d.2)
 moved-by_command p ev s t f below _ rest u d r m = absurd m
 
--- the resource that an event enters was free, and the one that it leaves was the task's own
+-- the resource that an event enters was free, the one that it leaves was the task's own, and where all become free they are
 pub moved-by_next : (p : Program) (ev : Event) (s t : Common) (n : Next) (u : Task) → Goes p ev s n t u
-    → (r : ResId) → Moves n r → HolderChanges ev.task (s.held r) (t.held r)
+    → (r : ResId) → Moves p n r → HolderChanges ev.task n (s.held r) (t.held r)
 moved-by_next p ev s t (does f below c rest) u d r m = moved-by_command p ev s t f below c rest u d r m
 moved-by_next p ev s t (leaves f below q rest) u d r m =
-    inr (ap s.held m ∙ d.0, holder-set q r None s t m d.1)
-moved-by_next p ev s t (returns f below) u d r m = absurd m
+    (ap s.held m ∙ d.0, holder-set q r None s t m d.1)
+moved-by_next p ev s t (returns f below) u d r m =
+    ap (λ (z : Common). z.held r) d.1 ∙ cond-true (sets_up p f.procedure) None (s.held r) m
 moved-by_next p ev s t (joins frames one two) u d r m = absurd m
 moved-by_next p ev s t nothing u d r m = absurd m
 
@@ -186,11 +188,12 @@ held-by_command p ev s t f below (with place q test body) rest u d r n =
 
 -- the other resources stay with their holders
 pub held-by_next : (p : Program) (ev : Event) (s t : Common) (n : Next) (u : Task) → Goes p ev s n t u
-    → (r : ResId) → (Moves n r → ⊥) → t.held r ≡ s.held r
+    → (r : ResId) → (Moves p n r → ⊥) → t.held r ≡ s.held r
 held-by_next p ev s t (does f below c rest) u d r n = held-by_command p ev s t f below c rest u d r n
 held-by_next p ev s t (leaves f below q rest) u d r n =
     ap (λ (z : Common). z.held r) d.1 ∙ holder-other q r None s n
-held-by_next p ev s t (returns f below) u d r n = ap (λ (z : Common). z.held r) d.1
+held-by_next p ev s t (returns f below) u d r n =
+    ap (λ (z : Common). z.held r) d.1 ∙ cond-else (sets_up p f.procedure) None (s.held r) n
 held-by_next p ev s t (joins frames one two) u d r n = ap (λ (z : Common). z.held r) d.2
 held-by_next p ev s t nothing u d r n = absurd d
 

@@ -4,6 +4,7 @@ use Rattle.std.specs.Prelude.{◌≡◌, ◌≢◌, ℕ, ◌+◌, ◌≤◌, len
 use Rattle.std.specs.List.{All, IsDistinct-prop}
 use Rattle.std.specs.Coded.{×_prop, Π_prop, →_prop, Unit-prop, le_prop, Coded-set, coded_ℕ, coded_bool, coded_list, coded_option}
 use Rattle.sf_base.specs.declared.ids.FieldId.{FieldId}
+use Rattle.sf_base.specs.declared.ids.ProcId.{ProcId}
 use Rattle.sf_core.specs.declared.fields.Links.{Links}
 use Rattle.sf_base.specs.declared.ids.Var.{Var}
 use Rattle.sf_base.specs.declared.ids.Var.TheVariants.{Own, Shared}
@@ -15,6 +16,7 @@ use Rattle.sf_core.specs.declared.assertion.Test.TheVariants.{True, Equal, Diffe
 use Rattle.sf_core.specs.declared.command.Expr.{Expr}
 use Rattle.sf_core.specs.declared.command.Expr.TheVariants.{Var as Variable, Nil, Int}
 use Rattle.sf_core.specs.Assertions.Scopes.{overlap}
+use Rattle.sf_core.specs.Program.Init.{HasNoConjunct, IsBare, IsInitAmong, init_name}
 use Rattle.sf_core.specs.Program.Links.{AreLinks, next_name, left_name, right_name}
 use Rattle.sf_core.specs.Program.Formed.{level_scopes, IsInBody, IsSettable, IsParameter, IsOfResource, ExprWithin, TestWithin, OperandWithin, FieldsWithin, LevelWithin, ConjunctsWithin, ConjunctWithin, AnnotationWithin, AssertionWithin, HasCounts, CallWithin, CommandWithin, BlockWithin, ProcedureWithin, IsFormed}
 use Rattle.sf_core.specs.Program.Named.{IsFirstNamed}
@@ -50,6 +52,10 @@ AreLinks-prop fields links s t = λ i. record {
   left = IsFirstNamed-prop fields left_name _ s.left t.left i;
   right = IsFirstNamed-prop fields right_name _ s.right t.right i;
 }
+
+-- that of procedures with these names that one sets the resources up
+pub IsInitAmong-prop : (names : List (List ℕ)) (init : Option ProcId) → IsProp (IsInitAmong names init)
+IsInitAmong-prop names init = IsFirstNamed-prop names init_name _
 
 -- that a variable may occur in a body
 IsInBody-prop : (p : Program) (f : Procedure) (x : Var) → IsProp (IsInBody p f x)
@@ -166,6 +172,7 @@ CallWithin-prop : (p : Program) (f : Procedure) (c : Call) → IsProp (CallWithi
 CallWithin-prop p f c s t = λ i. record {
   callee = HasCounts-prop (slice_get p.procedures c.callee.0) c s.callee t.callee i;
   references = All-prop _ (λ x. IsSettable-prop p f x.var) c.references s.references t.references i;
+  no_init = Coded-set coded_bool _ _ s.no_init t.no_init i;
   values = All-prop _ (ExprWithin-prop _ (IsInBody-prop p f)) c.values s.values t.values i;
 }
 
@@ -209,6 +216,20 @@ mutual
   BlockWithin-prop p f done = Unit-prop
   BlockWithin-prop p f (then c b) = ×_prop (CommandWithin-prop p f c) (BlockWithin-prop p f b)
 
+-- that a level has no conjunct
+HasNoConjunct-prop : {E : Type 0} (a : Level E) → IsProp (HasNoConjunct a)
+HasNoConjunct-prop (level made none) = Unit-prop
+HasNoConjunct-prop (level made (also c cs)) = ⊥-prop
+
+-- that a procedure is bare
+IsBare-prop : (g : Procedure) → IsProp (IsBare g)
+IsBare-prop g s t = λ i. record {
+  references = number-prop _ _ s.references t.references i;
+  values = number-prop _ _ s.values t.values i;
+  pre = HasNoConjunct-prop g.pre.level s.pre t.pre i;
+  post = HasNoConjunct-prop g.post.level s.post t.post i;
+}
+
 -- that a procedure is
 ProcedureWithin-prop : (p : Program) (f : Procedure) → IsProp (ProcedureWithin p f)
 ProcedureWithin-prop p f s t = λ i. record {
@@ -219,6 +240,7 @@ ProcedureWithin-prop p f s t = λ i. record {
   post = AssertionWithin-prop _ _ (IsParameter-prop p f) f.post s.post t.post i;
   body = BlockWithin-prop p f f.body s.body t.body i;
   depth = le_prop s.depth t.depth i;
+  init = →_prop (IsBare-prop f) s.init t.init i;
 }
 
 -- that a program is in order holds in one way
@@ -231,4 +253,6 @@ IsFormed-prop p s t = λ i. record {
   resource_count = le_prop s.resource_count t.resource_count i;
   field_count = le_prop s.field_count t.field_count i;
   variables = le_prop s.variables t.variables i;
+  one_init = Π_prop (λ j. Π_prop (λ k. Π_prop (λ f. Π_prop (λ g. →_prop (→_prop (→_prop (→_prop
+      (number-prop j k)))))))) s.one_init t.one_init i;
 }

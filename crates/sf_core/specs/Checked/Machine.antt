@@ -4,3 +4,4 @@ pub mod Examples
 pub mod InOrder
 pub mod Laws
 pub mod NumberedExamples
+pub mod SettingUp

@@ -1,6 +1,6 @@
 -- Good: nothing bad is next, free resources and returns have disjoint footprints, nothing leaks.
 -- O'Hearn (2007) and Brookes (2007), for the separation that holds at each moment.
-use Rattle.std.specs.Prelude.{◌≡◌, ◌≢◌, ℕ, List, [], ◌∷◌, Some, None, ◌⊎◌}
+use Rattle.std.specs.Prelude.{◌≡◌, ◌≢◌, ℕ, cond, List, [], ◌∷◌, map, Some, None, ◌⊎◌}
 use Rattle.std.specs.List.{slice_get}
 use Rattle.sf_base.specs.declared.ids.ResId.{ResId}
 use Rattle.sf_core.specs.Machine.Bad.{Bad}
@@ -11,6 +11,7 @@ use Rattle.sf_core.specs.Assertions.Sat.{Foot}
 use Rattle.sf_core.specs.Machine.Start.{entry_slot}
 use Rattle.sf_core.specs.Machine.Step.{procedure_at}
 use Rattle.sf_core.specs.declared.command.Expr.{Expr}
+use Rattle.sf_core.specs.Program.Init.{is_init}
 use Rattle.sf_core.specs.Program.Syntax.{Level, Procedure, Program, Resource}
 
 -- whose a footprint is: a resource's, or that of an assertion that the return of the task at a path
@@ -19,9 +20,10 @@ pub data Owner : Type 0 where
   resource : ResId → Owner
   owed : Path → ℕ → Owner
 
--- the list of the assertions that the return of a procedure owes: its postcondition
+-- the list of the assertions that the return of a procedure owes: its postcondition, or the invariant of each resource
+-- where it sets the resources up
 abbrev pub owed_by : Program → Procedure → List (Level Expr)
-owed_by p g = g.post.level ∷ []
+owed_by p g = cond (is_init g) (map (λ r. r.invariant.level) p.resources) (g.post.level ∷ [])
 
 -- each assertion that the frame's return owes has a footprint, which is the part with its number
 abbrev pub HasOwed : Program → Procedure → Frame → Common → (parts : ℕ → Heap) → Type 0

@@ -1,6 +1,6 @@
 -- Step: what one event of one task does to a configuration, for each kind of event.
 -- O'Hearn (2007), Brookes (2007) for regions and forks; Berdine, Calcagno, O'Hearn (2005) for the commands.
-use Rattle.std.specs.Prelude.{◌≡◌, ◌≢◌, ℕ, zero, suc, false, cond, List, [], ◌∷◌, ◌++◌, Option, Some, None, ◌⊎◌, get_or, length, map, ◌==◌, ◌+◌, ◌-◌, ◌<◌}
+use Rattle.std.specs.Prelude.{◌≡◌, ◌≢◌, ℕ, zero, suc, Bool, false, cond, List, [], ◌∷◌, ◌++◌, Option, Some, None, ◌⊎◌, get_or, length, map, ◌==◌, ◌+◌, ◌-◌, ◌<◌}
 use Rattle.std.specs.List.{slice_get}
 use Rattle.sf_base.specs.declared.limits.TheConstants.{TURNS}
 use Rattle.sf_base.specs.declared.ids.ProcId.{ProcId}
@@ -16,6 +16,7 @@ use Rattle.sf_core.specs.Machine.Config.{Item, command, leave, items, Room, in_r
 use Rattle.sf_core.specs.Machine.Next.{Next, does, leaves, returns, joins, nothing, next}
 use Rattle.sf_base.specs.HeapStore.{Cell, put_field, Heap, Slot, shared, own, same_slot, Store}
 use Rattle.sf_core.specs.Assertions.Sat.{IsTrueOf}
+use Rattle.sf_core.specs.Program.Init.{sets_up}
 use Rattle.sf_core.specs.Program.Syntax.{Call, Command, assign, look_up, mutate, new, dispose, if, while, call, fork, with, Procedure, Program}
 
 -- an event: whose it is and its number; a `new` makes the cell with those fields at that location
@@ -52,6 +53,10 @@ open_room room v s = record s {
 -- the slots of a room vanish
 abbrev pub close_room : Room → Common → Common
 close_room room s = record s { store = λ slot. cond (in_room room slot) None (s.store slot) }
+
+-- every resource is free from now on, where it is so
+abbrev pub free_all_if : Bool → Common → Common
+free_all_if so s = record s { held = λ r. cond so None (s.held r) }
 
 -- the slot of a procedure's own variable: a reference names the caller's variable, the others are in the room
 abbrev pub own_slot : (Var → Slot) → List Occurrence → Room → ℕ → Slot
@@ -152,12 +157,16 @@ Does p ev s f below (with place r test body) rest t u =
     (s.held r ≡ None) × IsTrueOf (evaluate f.slots s.store) test
     × (t ≡ set_holder r (Some ev.task) s) × (u ≡ task_with f (items body ++ (leave r ∷ rest)) below)
 
+-- the return of a frame: its room vanishes, and where its procedure sets the resources up, they are free from then on
+abbrev pub returned : Program → Fixed → Common → Common
+returned p f s = free_all_if (sets_up p f.procedure) (close_room f.room s)
+
 -- the event of what comes next: a command's, or an exit, a return or a join
 abbrev pub Goes : Program → Event → Common → Next → Common → Task → Type 0
 Goes p ev s (does f below c rest) t u = Does p ev s f below c rest t u
 Goes p ev s (leaves f below r rest) t u = (s.held r ≡ Some ev.task) × (t ≡ set_holder r None s)
     × (u ≡ task_with f rest below)
-Goes p ev s (returns f below) t u = IsCalled ev.task below × (t ≡ close_room f.room s) × (u ≡ runs below)
+Goes p ev s (returns f below) t u = IsCalled ev.task below × (t ≡ returned p f s) × (u ≡ runs below)
 Goes p ev s (joins frames one two) t u = IsOver one × IsOver two × (t ≡ s) × (u ≡ runs frames)
 Goes p ev s nothing t u = ⊥
 

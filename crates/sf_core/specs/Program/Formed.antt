@@ -1,6 +1,6 @@
 -- What every program keeps by its type: numbers of things that are there, calls that fit, limits that are met.
 -- After the conditions on programs of Berdine, Calcagno, O'Hearn, "Smallfoot" (2005), in this project's own profile.
-use Rattle.std.specs.Prelude.{◌≡◌, ◌≢◌, ℕ, suc, ◌+◌, ◌<◌, ◌≤◌, max, IsTrue, Bool, Option, Some, None, List, [], ◌∷◌, length, slice_get}
+use Rattle.std.specs.Prelude.{◌≡◌, ◌≢◌, ℕ, suc, ◌+◌, ◌<◌, ◌≤◌, max, IsTrue, Bool, true, false, Option, Some, None, List, [], ◌∷◌, length, slice_get}
 use Rattle.std.specs.List.{All, IsDistinct, list_any, sum_by}
 use Rattle.sf_base.specs.declared.ids.FieldId.{FieldId}
 use Rattle.sf_base.specs.declared.ids.Var.{Var}
@@ -14,6 +14,7 @@ use Rattle.sf_core.specs.declared.assertion.Test.TheVariants.{True, Equal, Diffe
 use Rattle.sf_core.specs.declared.command.Expr.{Expr}
 use Rattle.sf_core.specs.declared.command.Expr.TheVariants.{Var as Variable, Nil, Int}
 use Rattle.sf_core.specs.Assertions.Scopes.{is_made_by, overlap}
+use Rattle.sf_core.specs.Program.Init.{IsBare, is_init, sets_up}
 use Rattle.sf_core.specs.Program.Links.{next_name, left_name, right_name}
 use Rattle.sf_core.specs.Program.Named.{IsFirstNamed}
 use Rattle.sf_core.specs.Program.Syntax.{Conjunct, holds, points, segment, tree, choose, Level, level, Conjuncts, none, also, Call, Command, assign, look_up, mutate, new, dispose, if, while, call, fork, with, Block, done, then, Assertion, Procedure, Resource, Program}
@@ -153,9 +154,10 @@ abbrev pub HasCounts : Option Procedure → Call → Type 0
 HasCounts None c = ⊥
 HasCounts (Some g) c = (length c.references ≡ g.references) × (length c.values ≡ g.values)
 
--- a call in f's body is well-formed
+-- a call in f's body is well-formed: it doesn't name the procedure that sets the resources up
 pub record CallWithin (p : Program) (f : Procedure) (c : Call) : Type 0 where
   pub callee : HasCounts (slice_get p.procedures c.callee.0) c
+  pub no_init : sets_up p c.callee ≡ false
   pub references : All (λ x. IsSettable p f x.var) c.references
   pub values : All (ExprWithin (IsInBody p f)) c.values
 
@@ -206,7 +208,7 @@ abbrev mutual
   block_depth (then c b) = max (command_depth c) (block_depth b)
 
 -- a procedure is well-formed: the limit is on its parameters and declared locals, and the names after theirs
--- are those of primed locals, at most one for each value
+-- are those of primed locals, at most one for each value; the one that sets the resources up is bare
 pub record ProcedureWithin (p : Program) (f : Procedure) : Type 0 where
   pub declared_count : f.references + f.values + f.locals ≤ OWN_VARIABLES
   pub declared : f.references + f.values + f.locals ≤ length f.names
@@ -215,6 +217,7 @@ pub record ProcedureWithin (p : Program) (f : Procedure) : Type 0 where
   pub post : AssertionWithin p.fields (IsParameter p f) f.post
   pub body : BlockWithin p f f.body
   pub depth : block_depth f.body ≤ NESTING
+  pub init : is_init f ≡ true → IsBare f
 
 -- what every program keeps
 pub record IsFormed (p : Program) : Type 0 where
@@ -225,3 +228,6 @@ pub record IsFormed (p : Program) : Type 0 where
   pub resource_count : length p.resources ≤ RESOURCES
   pub field_count : length p.fields ≤ FIELDS
   pub variables : sum_by (λ r. length r.variables) p.resources ≤ RESOURCE_VARIABLES
+  -- at most one procedure sets the resources up
+  pub one_init : (j k : ℕ) (f g : Procedure) → slice_get p.procedures j ≡ Some f
+      → slice_get p.procedures k ≡ Some g → is_init f ≡ true → is_init g ≡ true → j ≡ k

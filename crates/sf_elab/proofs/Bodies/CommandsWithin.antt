@@ -1,5 +1,5 @@
 -- What commands without faults elaborate to mentions only what a body may name, sets no value parameter, and calls with the right counts.
-use Rattle.std.proofs.Common.{◌≡◌, ◌≤◌, ◌<◌, ◌==◌, true, false, not, cond, List, [], ◌∷◌, ◌++◌, length, slice_get, Option, Some, None, is_some, unwrap_or, refl, sym, ◌∙◌, ap, subst, arith}
+use Rattle.std.proofs.Common.{◌≡◌, ◌≤◌, ◌<◌, ◌==◌, ℕ, true, false, not, cond, List, [], ◌∷◌, ◌++◌, length, slice_get, Option, Some, None, is_some, unwrap_or, refl, sym, ◌∙◌, ap, subst, arith}
 use Rattle.std.proofs.lemmas.Bool.{and_parts, eqb-true, not-false}
 use Rattle.std.proofs.lemmas.List.{length-map}
 use Rattle.std.proofs.lemmas.List.Elements.{All-from_recursion, All-map}
@@ -16,25 +16,30 @@ use Rattle.sf_base.specs.declared.ids.Var.TheVariants.{Own}
 use Rattle.sf_base.specs.declared.limits.TheConstants.{NESTING}
 use Rattle.sf_core.specs.declared.command.Occurrence.{Occurrence}
 use Rattle.sf_core.specs.Program.Formed.{IsInBody, IsSettable, ExprWithin, TestWithin, HasCounts, CallWithin, BlockWithin}
+use Rattle.std.specs.Str.{bytes_eq}
+use Rattle.sf_core.specs.Program.Init.{init_name, sets_up}
+use Rattle.sf_core.proofs.Inits.{sets_up-is}
 use Rattle.sf_core.specs.Program.Syntax as c
 use Rattle.sf_core.specs.Program.View.{block}
 use Rattle.sf_elab.specs.declared.declared.Header.{Header}
-use Rattle.sf_elab.specs.declared.fault.Fault.TheVariants.{Unknown, Foreign, Arity}
+use Rattle.sf_elab.specs.declared.fault.Fault.TheVariants.{Unknown, Foreign, Arity, InitCalled}
 use Rattle.sf_elab.specs.Annotations.Assertions.{maybe_faults}
 use Rattle.sf_elab.specs.Bodies.Commands.{references_in, values_in, call_of, fits, all_faults, callee_faults, call_faults, command_of, commands_of, command_faults, commands_faults, set_in, set_in_all}
+use Rattle.sf_elab.specs.Bodies.Shape.{name_faults, names_init}
 use Rattle.sf_elab.specs.Files.Faults.{where_}
 use Rattle.sf_elab.specs.Names.InEnv.{Env, variable, occurrence, variable_faults, expr_of, expr_faults, test_of, test_faults, field_faults, resource_named, resource_faults, no_header, header_named}
 use Rattle.sf_elab.specs.Names.Table.{find}
 use Rattle.sf_elab.specs.Names.Texts.{text}
 use Rattle.sf_elab.proofs.Annotations.AssertionsWithin.{maybe_within}
-use Rattle.sf_elab.proofs.Names.NoFaults.{none_both, none_three, none_where, there}
+use Rattle.sf_elab.proofs.Names.NoFaults.{none_both, none_three, none_four, none_where, there}
 use Rattle.sf_elab.proofs.Names.TableLaws.{Finds}
 use Rattle.sf_elab.proofs.Names.VariablesWithin.{Sees, expr_within, test_within, field_within}
 
--- the procedure that a header speaks of is there
-pub record IsHeader (p : c.Program) (h : Header) : Type 0 where
+-- the procedure that a header speaks of is there, and has that name
+pub record IsHeader (p : c.Program) (name : List ℕ) (h : Header) : Type 0 where
   pub procedure : c.Procedure
   pub here : slice_get p.procedures h.id.0 ≡ Some procedure
+  pub named : procedure.name ≡ name
   pub references : procedure.references ≡ h.references
   pub values : procedure.values ≡ h.values
 
@@ -42,7 +47,7 @@ pub record IsHeader (p : c.Program) (h : Header) : Type 0 where
 pub record SeesProgram (p : c.Program) (f : c.Procedure) (i : Env) : Type 0 where
   pub names : Sees p.fields (IsInBody p f) i
   pub resources : Finds (λ name (r : ResId). r.0 < length p.resources) i.declared.resources
-  pub procedures : Finds (λ name (h : Header). IsHeader p h) i.declared.procedures
+  pub procedures : Finds (λ name (h : Header). IsHeader p name h) i.declared.procedures
 
 -- a word that may be set
 abbrev pub MayBeSet : c.Program → c.Procedure → Env → Word → Type 0
@@ -90,13 +95,26 @@ counts_fit {p} {f} {i} see x h = go (find (text i.bytes x.name) i.declared.proce
           length-map (values_in x.arguments) (expr_of i) ∙ values ∙ ap (λ (g : Header). g.values) is ∙ sym head.values,
         )
 
+-- a call that isn't of `init`, to a procedure that is there
+calls_other : {p : c.Program} {f : c.Procedure} {i : Env} → SeesProgram p f i → (x : s.Call) → callee_faults i x ≡ [] → name_faults i.bytes x.name ≡ [] → sets_up p (header_named i x.name).id ≡ false
+calls_other {p} {f} {i} see x h n = go (find (text i.bytes x.name) i.declared.procedures) refl h
+  where
+    go : (o : Option Header) → find (text i.bytes x.name) i.declared.procedures ≡ o → cond (is_some o) (where_ (not (fits i x)) (Arity x.name)) (Unknown x.name ∷ []) ≡ [] → sets_up p (header_named i x.name).id ≡ false
+    go None e k = absurd cc
+    go (Some g) e k =
+        let head = see.procedures (text i.bytes x.name) g e in
+        let is : header_named i x.name ≡ g = unwrap-some (find (text i.bytes x.name) i.declared.procedures) g no_header e in
+        let procedure : slice_get p.procedures (header_named i x.name).id.0 ≡ Some head.procedure = ap (λ (g : Header). slice_get p.procedures g.id.0) is ∙ head.here in
+        sets_up-is p (header_named i x.name).id head.procedure procedure ∙ ap (λ z. bytes_eq z init_name) head.named ∙ none_where (names_init i.bytes x.name) (InitCalled x.name) n
+
 call_within : {p : c.Program} {f : c.Procedure} {i : Env} → SeesProgram p f i → (x : s.Call) → MayAllBeSet p f i (references_in x.arguments) → call_faults i x ≡ [] → CallWithin p f (call_of i x)
 call_within {p} {f} {i} see x m h =
-    let all = none_three (callee_faults i x) (all_faults (variable_faults i) (references_in x.arguments)) (all_faults (expr_faults i) (values_in x.arguments)) h in
+    let all = none_four (callee_faults i x) (name_faults i.bytes x.name) (all_faults (variable_faults i) (references_in x.arguments)) (all_faults (expr_faults i) (values_in x.arguments)) h in
     record {
       callee = counts_fit see x all.0;
-      references = All-map (λ (x : Occurrence). IsSettable p f x.var) (occurrence i) (references_in x.arguments) (All-from_recursion (λ w. IsSettable p f (occurrence i w).var) (references_in x.arguments) (all_set p f i (references_in x.arguments) m all.1));
-      values = All-map (ExprWithin (IsInBody p f)) (expr_of i) (values_in x.arguments) (All-from_recursion (λ x. ExprWithin (IsInBody p f) (expr_of i x)) (values_in x.arguments) (all_read see (values_in x.arguments) all.2));
+      no_init = calls_other see x all.0 all.1;
+      references = All-map (λ (x : Occurrence). IsSettable p f x.var) (occurrence i) (references_in x.arguments) (All-from_recursion (λ w. IsSettable p f (occurrence i w).var) (references_in x.arguments) (all_set p f i (references_in x.arguments) m all.2));
+      values = All-map (ExprWithin (IsInBody p f)) (expr_of i) (values_in x.arguments) (All-from_recursion (λ x. ExprWithin (IsInBody p f) (expr_of i x)) (values_in x.arguments) (all_read see (values_in x.arguments) all.3));
     }
 
 resource_within : {p : c.Program} {f : c.Procedure} {i : Env} → SeesProgram p f i → (w : Word) → resource_faults i w ≡ [] → (resource_named i w).0 < length p.resources

@@ -1,5 +1,5 @@
 -- A file without faults elaborates to a program in order.
-use Rattle.std.proofs.Common.{◌≡◌, ◌≤◌, ◌+◌, ℕ, zero, suc, true, max, List, [], ◌∷◌, length, slice_get, Some, None, refl, sym, subst, arith}
+use Rattle.std.proofs.Common.{◌≡◌, ◌≤◌, ◌+◌, ℕ, zero, suc, true, if◌then◌else◌, max, List, [], ◌∷◌, map, length, slice_get, Some, None, refl, sym, ◌∙◌, ap, subst, arith}
 use Rattle.std.proofs.lemmas.List.{length-map}
 use Rattle.std.proofs.lemmas.List.Sums.{length-filter, count_by-le-length}
 use Rattle.std.specs.List.{AllByRecursion}
@@ -10,13 +10,18 @@ use Rattle.sf_base.specs.declared.ids.Var.{Var}
 use Rattle.sf_base.specs.declared.ids.Var.TheVariants.{Own, Shared}
 use Rattle.sf_base.specs.declared.limits.TheConstants.{NESTING, PROCEDURES, RESOURCES, FIELDS, OWN_VARIABLES}
 use Rattle.sf_core.specs.Program.Formed.{IsInBody, IsSettable, IsParameter, IsOfResource, AssertionWithin, ProcedureWithin, IsFormed}
+use Rattle.sf_base.proofs.Equality.{bytes_eq-same}
+use Rattle.sf_core.specs.declared.command.Expr.{Expr}
+use Rattle.sf_core.specs.Program.Init.{HasNoConjunct, IsBare, init_name, is_init}
 use Rattle.sf_core.specs.Program.Syntax as c
 use Rattle.sf_elab.specs.declared.declared.Declared.{Declared}
-use Rattle.sf_elab.specs.Annotations.Assertions.{annotation_faults, maybe_faults}
+use Rattle.sf_elab.specs.Annotations.Assertions.{annotation_faults, maybe_faults, maybe_of}
+use Rattle.sf_elab.specs.declared.fault.Fault.TheVariants.{InitShape}
+use Rattle.sf_elab.specs.Bodies.Shape.{level_places, shape_faults}
 use Rattle.sf_elab.specs.Bodies.Commands.{all_faults, commands_of, commands_faults, set_in_all}
 use Rattle.sf_elab.specs.Names.Declarations.{field_words, resources_in, procedures_in, references_of, values_of, numbered, numbered_faults, nth_field, shared_by, resource_name_faults, all_shared_faults, procedure_name_faults, declared_by, declared_faults}
 use Rattle.sf_elab.specs.Files.Elaborated.{invariants_faults, elaborated, faults}
-use Rattle.sf_elab.specs.Bodies.Procedures.{is_among, is_primed, parameters_of, declared_count, body_variables, first_assignments, outside_of, inside_of, procedure_of, parameter_faults, local_faults, procedure_faults, invariant_of, resource_of}
+use Rattle.sf_elab.specs.Bodies.Procedures.{is_among, is_primed, parameters_of, declared_count, body_variables, first_assignments, outside_of, inside_of, procedure_of, parameter_faults, init_faults, local_faults, procedure_faults, invariant_of, resource_of}
 use Rattle.sf_elab.specs.Names.Table.{find}
 use Rattle.sf_elab.specs.Names.Texts.{text}
 use Rattle.sf_elab.proofs.Annotations.AssertionsWithin.{annotation_within, maybe_within}
@@ -26,10 +31,27 @@ use Rattle.sf_elab.proofs.Names.DeclaredThings.{IsShared, resources_many, resour
 use Rattle.sf_elab.proofs.Annotations.Depths.{body_no_deeper}
 use Rattle.sf_elab.proofs.Names.Limits.{resources_few, procedures_few, fields_few, all_shared_few, own_few}
 use Rattle.sf_elab.proofs.Names.NamedFields.{fields_named}
-use Rattle.sf_elab.proofs.Names.NoFaults.{none_both, none_three, none_four, none_five, none_at}
+use Rattle.sf_elab.proofs.Names.NoFaults.{none_both, none_three, none_four, none_six, none_at}
 use Rattle.sf_elab.proofs.Names.OwnVariables.{names_many, finds_parameters, finds_body, first_within}
 use Rattle.sf_elab.proofs.Names.TableLaws.{Finds, finds_none, finds_numbered}
+use Rattle.sf_elab.proofs.Names.UniqueNames.{fresh_procedures}
 use Rattle.sf_elab.proofs.Names.VariablesWithin.{Sees, seen_otherwise}
+
+-- the number of a name is that of its procedure
+name_at : (gs : List c.Procedure) (k : ℕ) (g : c.Procedure) → slice_get gs k ≡ Some g → slice_get (map (λ (g : c.Procedure). g.name) gs) k ≡ Some g.name
+name_at [] k g e = absurd cc
+name_at (h ∷ gs) zero g e = let same : h ≡ g = cc in ap (λ (z : c.Procedure). Some z.name) same
+name_at (h ∷ gs) (suc k) g e = name_at gs k g e
+
+-- a level without places has no conjunct
+without_places : (a : c.Level Expr) → map InitShape (level_places a) ≡ [] → HasNoConjunct a
+without_places (c.level made c.none) h = tt
+without_places (c.level made (c.also d ds)) h = absurd cc
+
+-- nor are there words without faults
+without_words : (ws : List Word) → map (λ (w : Word). InitShape w.place) ws ≡ [] → length ws ≡ 0
+without_words [] h = refl
+without_words (w ∷ ws) h = absurd cc
 
 -- no variable of a procedure hides that those of resources may be named anywhere in it
 shared_in_body : (p : c.Program) (g : c.Procedure) (v : Var) → IsShared p v → IsInBody p g v
@@ -134,11 +156,26 @@ module _ (bytes : List ℕ) (is : List s.Item) where
       may_set ws h.1,
     )
 
+    -- one named `init` without faults of shape is bare
+    bare : is_init one ≡ true → init_faults bytes declared f ≡ [] → IsBare one
+    bare e h =
+        let pre = (maybe_of (outside_of bytes declared f) f.pre).level in
+        let post = (maybe_of (outside_of bytes declared f) f.post).level in
+        let shape : shape_faults (references_of f.parameters) (values_of f.parameters) pre post ≡ [] =
+        sym (ap (λ b. if b then shape_faults (references_of f.parameters) (values_of f.parameters) pre post else []) e) ∙ h in
+        let all = none_four (map (λ (w : Word). InitShape w.place) (references_of f.parameters)) (map (λ (w : Word). InitShape w.place) (values_of f.parameters)) (map InitShape (level_places pre)) (map InitShape (level_places post)) shape in
+        record {
+          references = without_words (references_of f.parameters) all.0;
+          values = without_words (values_of f.parameters) all.1;
+          pre = without_places pre all.2;
+          post = without_places post all.3;
+        }
+
     -- a procedure is in order
     pub procedure_within : procedure_faults bytes declared f ≡ [] → d.item_depth (s.procedure f) ≤ NESTING → ProcedureWithin whole one
     procedure_within h k =
-        let all = none_five (parameter_faults bytes f) (maybe_faults (outside_of bytes declared f) f.pre) (maybe_faults (outside_of bytes declared f) f.post) (local_faults bytes f) (commands_faults (inside_of bytes declared f) f.body) h in
-        let few : declared_count f ≤ OWN_VARIABLES = own_few bytes f all.0 all.3 in
+        let all = none_six (parameter_faults bytes f) (maybe_faults (outside_of bytes declared f) f.pre) (maybe_faults (outside_of bytes declared f) f.post) (init_faults bytes declared f) (local_faults bytes f) (commands_faults (inside_of bytes declared f) f.body) h in
+        let few : declared_count f ≤ OWN_VARIABLES = own_few bytes f all.0 all.4 in
         record {
           declared_count = few;
           declared = omega (arith, names_many bytes f);
@@ -148,8 +185,9 @@ module _ (bytes : List ℕ) (is : List s.Item) where
           body = blocks_joined whole one (first_assignments (is_primed bytes f) f.opens (length (references_of f.parameters)) (declared_count f) (values_of f.parameters)) (commands_of (inside_of bytes declared f) f.body)
               (first_within whole one (is_primed bytes f) f.opens (length (references_of f.parameters)) (declared_count f) (values_of f.parameters) (λ i l m. omega (arith, names_many bytes f))
               (λ i l m. (omega (arith, names_many bytes f), λ n. absurd (omega arith))))
-              (commands_within body_sees f.body (may_set (set_in_all f.body) (each_among bytes (set_in_all f.body))) all.4 (omega arith));
+              (commands_within body_sees f.body (may_set (set_in_all f.body) (each_among bytes (set_in_all f.body))) all.5 (omega arith));
           depth = body_no_deeper (inside_of bytes declared f) (is_primed bytes f) f.opens (length (references_of f.parameters)) (declared_count f) (values_of f.parameters) f.body NESTING (omega arith) (omega arith);
+          init = λ e. bare e all.3;
         }
 
   -- a resource is in order
@@ -184,4 +222,8 @@ module _ (bytes : List ℕ) (is : List s.Item) where
         resource_count = omega (arith, few_resources, resources_many bytes declared 0 (resources_in is));
         field_count = fields_few bytes (field_words is) names.0;
         variables = omega (arith, all_shared_few bytes declared 0 0 (resources_in is) [] (omega arith) names.2);
+        one_init = λ j l f g e i a b.
+            (fresh_procedures bytes declared 0 (procedures_in is) [] names.3).apart j l init_name
+            (name_at (c.Program.procedures whole) j f e ∙ ap Some (bytes_eq-same (c.Procedure.name f) init_name a))
+            (name_at (c.Program.procedures whole) l g i ∙ ap Some (bytes_eq-same (c.Procedure.name g) init_name b));
       }

@@ -40,11 +40,11 @@ finds_shared P bytes k (r ∷ rs) t p f =
     (finds_numbered P bytes (shared_by k) 0 r.variables t (λ name i l m. here_number (λ n. P name (shared_by n i)) k (p 0 r refl name i (omega arith))) f)
 
 finds_procedures : (P : List ℕ → Header → Type 0) (bytes : List ℕ) (k : ℕ) (fs : List Procedure) (t : Table Header)
-    → ((j : ℕ) (f : Procedure) → slice_get fs j ≡ Some f → (name : List ℕ) → P name (header_of (k + j) f)) → Finds P t → Finds P (procedure_table bytes k fs t)
+    → ((j : ℕ) (f : Procedure) → slice_get fs j ≡ Some f → P (text bytes f.name) (header_of (k + j) f)) → Finds P t → Finds P (procedure_table bytes k fs t)
 finds_procedures P bytes k [] t p f = f
 finds_procedures P bytes k (g ∷ gs) t p f =
-    finds_procedures P bytes (k + 1) gs (declare (text bytes g.name) (header_of k g) t) (λ j h e name. next_number (λ n. P name (header_of n h)) k j (p (suc j) h e name))
-    (finds_declared P (text bytes g.name) (header_of k g) t (here_number (λ n. P (text bytes g.name) (header_of n g)) k (p 0 g refl (text bytes g.name))) f)
+    finds_procedures P bytes (k + 1) gs (declare (text bytes g.name) (header_of k g) t) (λ j h e. next_number (λ n. P (text bytes h.name) (header_of n h)) k j (p (suc j) h e))
+    (finds_declared P (text bytes g.name) (header_of k g) t (here_number (λ n. P (text bytes g.name) (header_of n g)) k (p 0 g refl)) f)
 
 pub resources_many : (bytes : List ℕ) (d : Declared) (k : ℕ) (rs : List Resource) → length (resources_from bytes d k rs) ≡ length rs
 resources_many bytes d k [] = refl
@@ -99,15 +99,16 @@ module _ (bytes : List ℕ) (is : List Item) where
           sym (length-map r.variables (text bytes)) ∙ sym (ap variable_count (resource_at bytes (declared_by bytes is) 0 (resources_in is) j r e)) in
           subst (λ n. i < variable_count (slice_get (c.Program.resources (elaborated bytes is)) n)) number (subst (λ n. i < n) count l)
 
-  pub procedures_there : Finds (λ name h. IsHeader (elaborated bytes is) h) (Declared.procedures (declared_by bytes is))
-  procedures_there = finds_procedures (λ name h. IsHeader (elaborated bytes is) h) bytes 0 (procedures_in is) [] each (finds_none (λ name h. IsHeader (elaborated bytes is) h))
+  pub procedures_there : Finds (λ name h. IsHeader (elaborated bytes is) name h) (Declared.procedures (declared_by bytes is))
+  procedures_there = finds_procedures (λ name h. IsHeader (elaborated bytes is) name h) bytes 0 (procedures_in is) [] each (finds_none (λ name h. IsHeader (elaborated bytes is) name h))
     where
-      each : (j : ℕ) (f : Procedure) → slice_get (procedures_in is) j ≡ Some f → (name : List ℕ) → IsHeader (elaborated bytes is) (header_of (0 + j) f)
-      each j f e name =
+      each : (j : ℕ) (f : Procedure) → slice_get (procedures_in is) j ≡ Some f → IsHeader (elaborated bytes is) (text bytes f.name) (header_of (0 + j) f)
+      each j f e =
           let number : 0 + j ≡ j = omega arith in
           record {
             procedure = procedure_of bytes (declared_by bytes is) f;
             here = ap (slice_get (c.Program.procedures (elaborated bytes is))) number ∙ slice_get-map (procedure_of bytes (declared_by bytes is)) (procedures_in is) j ∙ ap (option_map (procedure_of bytes (declared_by bytes is))) e;
+            named = refl;
             references = refl;
             values = refl;
           }

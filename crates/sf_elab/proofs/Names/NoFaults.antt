@@ -27,6 +27,12 @@ none_five xs ys zs ws vs h =
     let first = none_four xs ys zs ws last.0 in
     (first.0, first.1, first.2, first.3, last.1)
 
+pub none_six : (xs ys zs ws vs us : List Fault) → xs ++ ys ++ zs ++ ws ++ vs ++ us ≡ [] → (xs ≡ []) × (ys ≡ []) × (zs ≡ []) × (ws ≡ []) × (vs ≡ []) × (us ≡ [])
+none_six xs ys zs ws vs us h =
+    let last = none_both (xs ++ ys ++ zs ++ ws ++ vs) us h in
+    let first = none_five xs ys zs ws vs last.0 in
+    (first.0, first.1, first.2, first.3, first.4, last.1)
+
 pub none_where : (t : Bool) (f : Fault) → where_ t f ≡ [] → t ≡ false
 none_where true f h = absurd cc
 none_where false f h = refl

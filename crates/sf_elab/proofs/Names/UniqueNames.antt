@@ -22,16 +22,16 @@ use Rattle.sf_elab.specs.Names.Declarations.{field_words, resources_in, procedur
 use Rattle.sf_elab.specs.Files.Elaborated.{resources_from, invariants_faults, elaborated, faults}
 use Rattle.sf_elab.specs.Files.Faults.{where_}
 use Rattle.sf_elab.specs.Checked.Laws.{AreDistinct, NamesAreUnique}
-use Rattle.sf_elab.specs.Bodies.Procedures.{local_words, is_primed, parameters_of, parameter_count, own_names, outside_of, inside_of, procedure_of, parameter_faults, local_faults, procedure_faults}
+use Rattle.sf_elab.specs.Bodies.Procedures.{local_words, is_primed, parameters_of, parameter_count, own_names, outside_of, inside_of, procedure_of, parameter_faults, init_faults, local_faults, procedure_faults}
 use Rattle.sf_elab.specs.Names.Table.{Table, has, declare}
 use Rattle.sf_elab.specs.Names.Texts.{text}
 use Rattle.sf_elab.proofs.Names.DeclaredThings.{procedure_from}
-use Rattle.sf_elab.proofs.Names.NoFaults.{none_both, none_three, none_four, none_five, none_where, none_at}
+use Rattle.sf_elab.proofs.Names.NoFaults.{none_both, none_three, none_four, none_six, none_where, none_at}
 use Rattle.sf_elab.proofs.Names.OwnVariables.{declared_many}
 use Rattle.sf_elab.proofs.Names.TableLaws.{kept_declared, there_declared}
 
 -- none of those names is known, and no two of them are the same
-record Fresh (K : List ℕ → Type 0) (ns : List (List ℕ)) : Type 0 where
+pub record Fresh (K : List ℕ → Type 0) (ns : List (List ℕ)) : Type 0 where
   pub new : (i : ℕ) (n : List ℕ) → slice_get ns i ≡ Some n → K n → ⊥
   pub apart : AreDistinct ns
 
@@ -87,7 +87,7 @@ fresh_resources bytes d k j (r ∷ rs) t h =
     (fresh_resources bytes d (k + 1) (j + 1) rs more all.2)
 
 -- the names of procedures
-fresh_procedures : (bytes : List ℕ) (d : Declared) (k : ℕ) (fs : List Procedure) (t : Table Header) → procedure_name_faults bytes k fs t ≡ [] → Fresh (Known t) (map (λ (f : c.Procedure). f.name) (map (procedure_of bytes d) fs))
+pub fresh_procedures : (bytes : List ℕ) (d : Declared) (k : ℕ) (fs : List Procedure) (t : Table Header) → procedure_name_faults bytes k fs t ≡ [] → Fresh (Known t) (map (λ (f : c.Procedure). f.name) (map (procedure_of bytes d) fs))
 fresh_procedures bytes d k [] t h = fresh_none (Known t)
 fresh_procedures bytes d k (f ∷ fs) t h =
     let more : Table Header = declare (text bytes f.name) (header_of k f) t in
@@ -166,8 +166,8 @@ own_unique bytes is k g h e =
     let found = procedure_from bytes d (procedures_in is) k g e in
     let f = found.0 in
     let sound = none_at (procedure_faults bytes d) (procedures_in is) k f found.1 all.2 in
-    let parts = none_five (parameter_faults bytes f) (maybe_faults (outside_of bytes d f) f.pre) (maybe_faults (outside_of bytes d f) f.post) (local_faults bytes f) (commands_faults (inside_of bytes d f) f.body) sound in
-    subst (λ (x : c.Procedure). AreDistinct (take (x.references + x.values + x.locals) x.names)) found.2 (own_distinct bytes f parts.0 parts.3)
+    let parts = none_six (parameter_faults bytes f) (maybe_faults (outside_of bytes d f) f.pre) (maybe_faults (outside_of bytes d f) f.post) (init_faults bytes d f) (local_faults bytes f) (commands_faults (inside_of bytes d f) f.body) sound in
+    subst (λ (x : c.Procedure). AreDistinct (take (x.references + x.values + x.locals) x.names)) found.2 (own_distinct bytes f parts.0 parts.4)
 
 pub names_are_unique : NamesAreUnique
 names_are_unique = record {

@@ -10,6 +10,7 @@ use Rattle.sf_core.specs.Program.View as v
 use Rattle.sf_elab.specs.declared.fault.Fault.{Fault}
 use Rattle.sf_elab.specs.declared.fault.Fault.TheVariants.{Unknown, Arity}
 use Rattle.sf_elab.specs.Annotations.Assertions.{maybe_of, maybe_faults}
+use Rattle.sf_elab.specs.Bodies.Shape.{name_faults}
 use Rattle.sf_elab.specs.Files.Faults.{where_}
 use Rattle.sf_elab.specs.Names.InEnv.{Env, occurrence, variable_faults, expr_of, expr_faults, expr_place, test_of, test_faults, field_of, field_faults, resource_named, resource_faults, header_named}
 use Rattle.sf_elab.specs.Names.Table.{has}
@@ -50,7 +51,7 @@ callee_faults s d =
 
 -- what is wrong with a call
 abbrev pub call_faults : Env → Call → List Fault
-call_faults s d = callee_faults s d ++ all_faults (variable_faults s) (references_in d.arguments) ++ all_faults (expr_faults s) (values_in d.arguments)
+call_faults s d = callee_faults s d ++ name_faults s.bytes d.name ++ all_faults (variable_faults s) (references_in d.arguments) ++ all_faults (expr_faults s) (values_in d.arguments)
 
 -- the commands
 abbrev mutual

@@ -17,6 +17,7 @@ use Rattle.sf_core.specs.Program.View as v
 use Rattle.sf_elab.specs.declared.declared.Declared.{Declared}
 use Rattle.sf_elab.specs.declared.fault.Fault.{Fault}
 use Rattle.sf_elab.specs.Annotations.Assertions.{annotation_of, maybe_of, maybe_faults}
+use Rattle.sf_elab.specs.Bodies.Shape.{names_init, shape_faults}
 use Rattle.sf_elab.specs.Bodies.Commands.{commands_of, commands_faults, set_in_all}
 use Rattle.sf_elab.specs.Names.Declarations.{words_of, references_of, values_of, numbered, numbered_faults, shared_by}
 use Rattle.sf_elab.specs.Names.InEnv.{Env}
@@ -113,11 +114,17 @@ parameter_faults bytes f =
 abbrev pub local_faults : List ℕ → Procedure → List Fault
 local_faults bytes f = numbered_faults bytes OWN_VARIABLES Own (parameter_count f) (local_words f.locals) (parameters_of bytes f)
 
+-- what is wrong with it where it is named `init`: it has a parameter, or a conjunct in its pre or post
+abbrev pub init_faults : List ℕ → Declared → Procedure → List Fault
+init_faults bytes d f =
+    if names_init bytes f.name then shape_faults (references_of f.parameters) (values_of f.parameters) (maybe_of (outside_of bytes d f) f.pre).level (maybe_of (outside_of bytes d f) f.post).level
+    else []
+
 -- what is wrong with a procedure
 abbrev pub procedure_faults : List ℕ → Declared → Procedure → List Fault
 procedure_faults bytes d f =
     parameter_faults bytes f ++ maybe_faults (outside_of bytes d f) f.pre ++ maybe_faults (outside_of bytes d f) f.post
-    ++ local_faults bytes f ++ commands_faults (inside_of bytes d f) f.body
+    ++ init_faults bytes d f ++ local_faults bytes f ++ commands_faults (inside_of bytes d f) f.body
 
 -- what the invariant of the resource of that number sees: its own variables
 abbrev pub invariant_of : List ℕ → Declared → ℕ → Resource → Env

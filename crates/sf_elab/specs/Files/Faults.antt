@@ -3,6 +3,7 @@
 use Rattle.std.specs.Prelude.{ℕ, Bool, ◌&&◌, ◌||◌, ◌==◌, nat_lt, if◌then◌else◌, List, [], ◌∷◌}
 use Rattle.sf_base.specs.declared.place.Place.{Place}
 use Rattle.sf_base.specs.First.{is_before}
+use Rattle.sf_core.specs.Program.Init.{init_name}
 use Rattle.sf_core.specs.Program.Links.{next_name, left_name, right_name}
 use Rattle.sf_elab.specs.declared.fault.Fault.{Fault}
 use Rattle.sf_elab.specs.declared.fault.Fault.TheVariants as f
@@ -27,6 +28,8 @@ place_of (f.OwnedTwice w) = w.place
 place_of (f.Foreign w) = w.place
 place_of (f.Missing p l) = p
 place_of (f.TooMany p) = p
+place_of (f.InitShape p) = p
+place_of (f.InitCalled w) = w.place
 
 -- the number of its kind
 abbrev pub kind_of : Fault → ℕ
@@ -37,6 +40,8 @@ kind_of (f.OwnedTwice w) = 23
 kind_of (f.Foreign w) = 24
 kind_of (f.Missing p l) = 25
 kind_of (f.TooMany p) = 26
+kind_of (f.InitShape p) = 28
+kind_of (f.InitCalled w) = 29
 
 -- whether it is the same place
 abbrev pub is_same_place : Place → Place → Bool
@@ -56,6 +61,8 @@ named_fault bytes (f.OwnedTwice w) = n.OwnedTwice w.place (text bytes w)
 named_fault bytes (f.Foreign w) = n.ForeignVariable w.place (text bytes w)
 named_fault bytes (f.Missing p l) = n.MissingField p (link_name l)
 named_fault bytes (f.TooMany p) = n.TooMany p
+named_fault bytes (f.InitShape p) = n.InitShape p init_name
+named_fault bytes (f.InitCalled w) = n.InitCalled w.place (text bytes w)
 
 -- one fault where the test is true, and else none
 abbrev pub where_ : Bool → Fault → List Fault

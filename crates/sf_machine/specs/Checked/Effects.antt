@@ -7,7 +7,7 @@ use Rattle.sf_base.specs.declared.ids.ResId.{ResId}
 use Rattle.sf_base.specs.declared.value.Value.TheVariants.{Nil as nil, Loc as loc}
 use Rattle.sf_base.specs.HeapStore.{Slot, put_field, Store}
 use Rattle.sf_core.specs.Machine.Config.{Common, in_room}
-use Rattle.sf_core.specs.Machine.Step.{Event, set_slot, set_cell, set_holder, open_room, close_room, index_of}
+use Rattle.sf_core.specs.Machine.Step.{Event, set_slot, set_cell, set_holder, open_room, close_room, free_all_if, index_of}
 use Rattle.sf_machine.specs.declared.effect.Effect.{Effect}
 use Rattle.sf_machine.specs.declared.effect.Effect.TheVariants.{Nothing, Set, Put, Make, Remove, Hold, Free, Open, OpenBoth, Close}
 use Rattle.sf_machine.specs.declared.effect.Opening.{Opening}
@@ -36,7 +36,7 @@ applied ev (Hold r) s = set_holder r (Some ev.task) s
 applied ev (Free r) s = set_holder r None s
 applied ev (Open o) s = opened o s
 applied ev (OpenBoth o q) s = opened q (opened o s)
-applied ev (Close room) s = close_room (room_of room) s
+applied ev (Close room all) s = free_all_if all (close_room (room_of room) s)
 
 -- the slots of a room are absent, and their indices fit
 abbrev pub IsClearStore : Opening → Store → Type 0
@@ -54,7 +54,7 @@ Suits ev (Hold r) s = Unit {0}
 Suits ev (Free r) s = Unit {0}
 Suits ev (Open o) s = IsClearStore o s.store
 Suits ev (OpenBoth o q) s = IsClearStore o s.store × IsClearStore q (opened_store o s.store)
-Suits ev (Close room) s = Unit {0}
+Suits ev (Close room all) s = Unit {0}
 
 -- a field that the effect sets is one of the program's
 abbrev pub EffectWithin : Program → Effect → Type 0

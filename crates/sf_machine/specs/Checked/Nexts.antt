@@ -21,8 +21,8 @@ IsNext t entry (Does f one) = (below : List Frame) × (rest : List Item)
     × (t ≡ task_with (fixed_of f.now) (command (command_of one.now) ∷ rest) below)
 IsNext t entry (Leaves r) = (f : Fixed) × (below : List Frame) × (rest : List Item)
     × (t ≡ task_with f (leave r ∷ rest) below)
-IsNext t entry (Returns room) = (f : Fixed) × (below : List Frame) × (t ≡ task_with f [] below)
-    × (f.room ≡ room_of room) × (entry ≡ true → below ≢ [])
+IsNext t entry (Returns g room) = (f : Fixed) × (below : List Frame) × (t ≡ task_with f [] below)
+    × (f.room ≡ room_of room) × (entry ≡ true → below ≢ []) × (f.procedure ≡ g)
 IsNext t entry Joins = (frames : List Frame) × (one : Task) × (two : Task) × (t ≡ waits frames one two)
     × IsOver one × IsOver two
 IsNext t entry Nothing = IsIdle entry t

@@ -179,10 +179,10 @@ BodiesEndWithTheInvariant =
     row small (goal_at (two_variables []) (again place one_cell ∷ run (assign place (at_own 0) ENil) ∷ ends)) t.Again
     ≡ Some (goal_at (two_variables []) (shows (cell_at (Sym 0)) ∷ end place ∷ []) ∷ [])
 
--- return: the same of the postcondition
+-- return: the same of what the procedure owes, which is its postcondition
 unfoldable pub ReturnsShowThePostcondition : Type 0
 ReturnsShowThePostcondition =
-    row small (goal_at (two_variables []) (return place one_cell ∷ run (assign place (at_own 0) ENil) ∷ ends)) t.Return
+    row small (goal_at (two_variables []) (return place (one_cell ∷ []) ∷ run (assign place (at_own 0) ENil) ∷ ends)) t.Return
     ≡ Some (goal_at (two_variables []) (shows (cell_at (Sym 0)) ∷ end place ∷ []) ∷ [])
 
 -- end: nothing is left to prove where there is no atom, and where there is one, there is no such row

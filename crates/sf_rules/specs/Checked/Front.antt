@@ -1,5 +1,6 @@
 -- How the code's one thing to do is read.
 -- Ordinary: one case a case.
+use Rattle.std.specs.Prelude.{map}
 use Rattle.sf_core.specs.Program.View.{assertion_of, block_of, command_of}
 use Rattle.sf_sym.specs.Goal.{Item, run, add, take, gave, head, again, exit, return, end}
 use Rattle.sf_sym.specs.Pending.{pending_of}
@@ -15,5 +16,5 @@ thing_of (front.Gave p set removed) = gave p set.items removed.items
 thing_of (front.Head p test invariant body) = head p test.now (assertion_of invariant.now) (block_of body.now)
 thing_of (front.Again p invariant) = again p (assertion_of invariant.now)
 thing_of (front.Exit p r) = exit p r
-thing_of (front.Return p post) = return p (assertion_of post.now)
+thing_of (front.Return p owed) = return p (map (λ o. assertion_of o.assertion) owed.now)
 thing_of (front.End p) = end p

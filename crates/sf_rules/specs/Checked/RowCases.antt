@@ -22,7 +22,7 @@ use Rattle.sf_rules.specs.Rows.Regions.{variables_from}
 use Rattle.sf_rules.specs.Rows.Take.{subtract_row}
 use Rattle.sf_rules.specs.Rows.Whole.{row}
 use Rattle.sf_rules.specs.Setting.{Setting}
-use Rattle.sf_rules.specs.Words.{to_add, to_add_test, to_take}
+use Rattle.sf_rules.specs.Words.{to_add, to_add_test, to_take, to_take_each}
 use Rattle.sf_sym.specs.declared.tag.Tag.{Tag}
 use Rattle.sf_sym.specs.declared.term.Term.{Term}
 use Rattle.sf_sym.specs.Goal.{Item, run, add, take, gave, head, again, exit, return, end, Goal, to_run}
@@ -122,9 +122,9 @@ pub data Rows (d : Setting) (g : Goal) (left : List Goal) : Type 0 where
       → left ≡ goal_of g.state (to_take p (term g.state.vars) (d.ordered of.invariant)
       ++ (gave p [] (variables_from r 0 of.variables) ∷ rest)) ∷ []
       → Rows d g left
-  -- the end of the procedure: the postcondition is due
-  by_return : (p : Place) (post : Assertion) (rest : List Item) → g.todo ≡ return p post ∷ rest
-      → left ≡ goal_of g.state (to_take p (term g.state.vars) post ++ (end p ∷ [])) ∷ [] → Rows d g left
+  -- the end of the procedure: what it owes is due, one assertion after the other
+  by_return : (p : Place) (owed : List Assertion) (rest : List Item) → g.todo ≡ return p owed ∷ rest
+      → left ≡ goal_of g.state (to_take_each p (term g.state.vars) owed (end p ∷ [])) ∷ [] → Rows d g left
   -- the end of all: no atom is left
   by_end : (p : Place) (rest : List Item) → g.todo ≡ end p ∷ rest → is_empty g.state.atoms ≡ true → left ≡ []
       → Rows d g left

@@ -1,16 +1,17 @@
 -- The rows of a procedure's end: return, end.
--- Berdine, Calcagno, O'Hearn, "Smallfoot" (2005): the postcondition is handed over, and nothing may be left.
-use Rattle.std.specs.Prelude.{Bool, true, false, cond, Option, Some, None, List, [], ◌∷◌, ◌++◌}
+-- Berdine, Calcagno, O'Hearn, "Smallfoot" (2005): the postcondition is handed over, and nothing may be left. That
+-- `init` hands over the invariants of all resources is this project's own.
+use Rattle.std.specs.Prelude.{Bool, true, false, cond, Option, Some, None, List, [], ◌∷◌}
 use Rattle.sf_base.specs.declared.place.Place.{Place}
 use Rattle.sf_core.specs.Program.Syntax.{Assertion}
 use Rattle.sf_sym.specs.declared.atom.Numbered.{Numbered}
 use Rattle.sf_sym.specs.Goal.{Item, end, Goal, one_goal}
 use Rattle.sf_sym.specs.State.{State, term}
-use Rattle.sf_rules.specs.Words.{to_take}
+use Rattle.sf_rules.specs.Words.{to_take_each}
 
--- return: the postcondition is due, and then nothing may be left
-abbrev pub return_row : State → Place → Assertion → List Item → Option (List Goal)
-return_row s p post rest = one_goal s (to_take p (term s.vars) post ++ (end p ∷ []))
+-- return: what the procedure owes is due, one assertion after the other, and then nothing may be left
+abbrev pub return_row : State → Place → (owed : List Assertion) → List Item → Option (List Goal)
+return_row s p owed rest = one_goal s (to_take_each p (term s.vars) owed (end p ∷ []))
 
 -- no atom is there
 abbrev pub is_empty : List Numbered → Bool

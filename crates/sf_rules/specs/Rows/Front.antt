@@ -51,8 +51,9 @@ at_exit row (exit p r ∷ rest) = row p r rest
 at_exit row _ = None
 
 -- the end of the procedure
-abbrev pub at_return : (Place → Assertion → List Item → Option (List Goal)) → List Item → Option (List Goal)
-at_return row (return p post ∷ rest) = row p post rest
+abbrev pub at_return : (Place → (owed : List Assertion) → List Item → Option (List Goal)) → List Item
+    → Option (List Goal)
+at_return row (return p owed ∷ rest) = row p owed rest
 at_return row _ = None
 
 -- the end of all

@@ -3,7 +3,7 @@
 -- Hoare, "An Axiomatic Basis for Computer Programming" (1969): sequential programs; Wright and
 -- Felleisen, "A Syntactic Approach to Type Soundness" (1994): each configuration has ended, or goes
 -- on.
-use Rattle.std.specs.Prelude.{◌≡◌, ◌⊎◌, ℕ, suc, List, [], Some, None, map}
+use Rattle.std.specs.Prelude.{◌≡◌, ◌⊎◌, ℕ, suc, Bool, List, [], None, map}
 use Rattle.sf_base.specs.declared.ids.ProcId.{ProcId}
 use Rattle.sf_base.specs.declared.ids.ResId.{ResId}
 use Rattle.sf_base.specs.HeapStore.{Heap, Store}
@@ -16,18 +16,18 @@ use Rattle.sf_core.specs.Machine.Reach.{Reach}
 use Rattle.sf_core.specs.Machine.SpentSteps.{SpentSteps}
 use Rattle.sf_core.specs.Machine.SpentWaits.{IsAtRegion, SpentWaits}
 use Rattle.sf_core.specs.Machine.Start.{Start}
-use Rattle.sf_core.specs.Machine.Step.{Event, procedure_at, Step}
+use Rattle.sf_core.specs.Machine.Step.{Event, Step}
 use Rattle.sf_core.specs.Program.Formed.{IsFormed}
-use Rattle.sf_core.specs.Program.Syntax.{Procedure, Program}
+use Rattle.sf_core.specs.Program.Syntax.{Program}
 use Rattle.sf_calls.specs.FirstBreach.{Conditions}
 use Rattle.sf_foot.specs.declared.vars.Vars.{Vars}
-use Rattle.sf_foot.specs.Starting.{IsFreshFrom, StartsWith, store_of}
+use Rattle.sf_foot.specs.Starting.{IsFreshFrom, StartsWith}
 use Rattle.sf_heap.specs.Cells.{Cells, heap_of}
 use Rattle.sf_machine.specs.Beginning.{Begins}
 use Rattle.sf_machine.specs.Ending.{Ends}
 use Rattle.sf_run.specs.Checked.Lone.{IsLone, IsFreeFrom, IsBase}
 use Rattle.sf_run.specs.Running.{ComesTo}
-use Rattle.sf_run.specs.Sequential.{IsSequential}
+use Rattle.sf_run.specs.Sequential.{BeginsSequentially, InitIsSequential, IsSequential, IsSequentialStart}
 use Rattle.sf_core.specs.Machine.Sound.{IsSound}
 
 -- from each start and each supply of units comes at most one outcome
@@ -39,7 +39,8 @@ OutcomesAreUnique = (p : Program) (start : Config) (base count : ℕ) (one other
 -- another
 unfoldable pub SequentialRunsAreLone : Type 0
 SequentialRunsAreLone = (p : Program) (f : ProcId) (store : Store) (heap : Heap) (start c : Config)
-    (events : List Event) → IsSequential p f → Start p f store heap start → Reach p start events c → IsLone p c
+    (events : List Event) → (s : Start p f store heap start) → BeginsSequentially p f s.beginning
+    → Reach p start events c → IsLone p c
 
 -- the units from a base on are never used before, and no cell is at them
 unfoldable pub BasesAreFree : Type 0
@@ -55,8 +56,8 @@ UnitsStayFree = (p : Program) (unit : ℕ) (c d : Config) → IsFreeFrom unit c 
 -- where a lone task is at a region, its resource is free
 unfoldable pub LoneTasksFindRegionsFree : Type 0
 LoneTasksFindRegionsFree = (p : Program) (f : ProcId) (store : Store) (heap : Heap) (start c : Config)
-    (events : List Event) (r : ResId) → IsFormed p → Conditions p → IsSequential p f
-    → Start p f store heap start → Reach p start events c → IsAtRegion c [] r → c.common.held r ≡ None
+    (events : List Event) (r : ResId) → IsFormed p → Conditions p → (s : Start p f store heap start)
+    → BeginsSequentially p f s.beginning → Reach p start events c → IsAtRegion c [] r → c.common.held r ≡ None
 
 -- the entry's task has ended, or waits at a region, or has a step by that unit
 abbrev pub GoesAlone : Program → ℕ → Config → Type 0
@@ -66,8 +67,8 @@ GoesAlone p unit c = HasEnded [] c.tasks ⊎ (((r : ResId) × WaitsAlone c r)
 -- a lone task of a good configuration that hasn't ended waits for a condition only, or goes on
 unfoldable pub LoneTasksProgress : Type 0
 LoneTasksProgress = (p : Program) (f : ProcId) (store : Store) (heap : Heap) (start c : Config)
-    (events : List Event) (unit : ℕ) → IsFormed p → Conditions p → IsSequential p f
-    → Start p f store heap start → Reach p start events c → Good p c → IsFreeFrom unit c → GoesAlone p unit c
+    (events : List Event) (unit : ℕ) → IsFormed p → Conditions p → (s : Start p f store heap start)
+    → BeginsSequentially p f s.beginning → Reach p start events c → Good p c → IsFreeFrom unit c → GoesAlone p unit c
 
 -- all that events lead to from that configuration is good
 abbrev pub StaysGood : Program → Config → Type 0
@@ -77,21 +78,23 @@ StaysGood p start = (events : List Event) (c : Config) → Reach p start events 
 -- units
 unfoldable pub OutcomesExist : Type 0
 OutcomesExist = (p : Program) (f : ProcId) (store : Store) (heap : Heap) (start : Config) (base count : ℕ)
-    → IsFormed p → Conditions p → IsSequential p f → Start p f store heap start → StaysGood p start
-    → IsBase base start → (out : Outcome) × Alone p start base count out
+    → IsFormed p → Conditions p → (s : Start p f store heap start) → BeginsSequentially p f s.beginning
+    → StaysGood p start → IsBase base start → (out : Outcome) × Alone p start base count out
 
 -- what comes of the procedure from these variables and cells is one thing
-pub record HasOneOutcome (p : Program) (f : ProcId) (vars : Vars) (heap : Cells) (base count : ℕ) : Type 0 where
+pub record HasOneOutcome (p : Program) (f : ProcId) (is_fresh : Bool) (vars : Vars) (heap : Cells) (base count : ℕ)
+    : Type 0 where
   pub out : Outcome
-  pub comes : ComesTo p f vars heap base count out
-  pub only : (other : Outcome) → ComesTo p f vars heap base count other → out ≡ other
+  pub comes : ComesTo p f is_fresh vars heap base count out
+  pub only : (other : Outcome) → ComesTo p f is_fresh vars heap base count other → out ≡ other
 
 -- in a sound program that meets the conditions on variables, so it is of each start, for each
 -- number of units
 unfoldable pub StartsHaveOneOutcome : Type 0
-StartsHaveOneOutcome = (p : Program) (f : ProcId) (vars : Vars) (heap : Cells) (parts : List (List ℕ))
-    (unit count : ℕ) → IsFormed p → Conditions p → IsSound p → IsSequential p f → StartsWith p f vars heap parts
-    → IsFreshFrom vars heap unit → HasOneOutcome p f vars heap unit count
+StartsHaveOneOutcome = (p : Program) (f : ProcId) (is_fresh : Bool) (vars : Vars) (heap : Cells)
+    (parts : List (List ℕ)) (unit count : ℕ) → IsFormed p → Conditions p → IsSound p
+    → IsSequentialStart p f is_fresh → StartsWith p f is_fresh vars heap parts → IsFreshFrom vars heap unit
+    → HasOneOutcome p f is_fresh vars heap unit count
 
 -- two ends are the same: in the values of variables and in the cells
 pub record EndsSame (vars other : Vars) (heap more : Cells) : Type 0 where
@@ -107,9 +110,9 @@ EndsAreUnique = (p : Program) (f : ProcId) (c : Config) (vars other : Vars) (hea
 -- the configuration in which a procedure begins with variables and cells that are a start of it, is
 -- a start
 unfoldable pub BeginningsAreStarts : Type 0
-BeginningsAreStarts = (p : Program) (f : ProcId) (vars : Vars) (heap : Cells) (parts : List (List ℕ)) (c : Config)
-    → StartsWith p f vars heap parts → Begins p f vars heap c
-    → (g : Procedure) × (procedure_at p f ≡ Some g) × Start p f (store_of g vars) (heap_of heap) c
+BeginningsAreStarts = (p : Program) (f : ProcId) (is_fresh : Bool) (vars : Vars) (heap : Cells)
+    (parts : List (List ℕ)) (c : Config) → StartsWith p f is_fresh vars heap parts → Begins p f is_fresh vars heap c
+    → (store : Store) × Start p f store (heap_of heap) c
 
 -- what a numbered run reaches, its events lead to
 unfoldable pub NumberedRunsReach : Type 0
@@ -125,21 +128,25 @@ pub record IsNumberedEnd (p : Program) (start : Config) (base count : ℕ) (c : 
 -- where no parallel call can be reached, what a run ends in is that
 unfoldable pub EndsAreNumbered : Type 0
 EndsAreNumbered = (p : Program) (f : ProcId) (store : Store) (heap : Heap) (start c : Config) (base count : ℕ)
-    → IsSequential p f → Start p f store heap start → Alone p start base count (finished c)
+    → (s : Start p f store heap start) → BeginsSequentially p f s.beginning → Alone p start base count (finished c)
     → IsNumberedEnd p start base count c
 
 -- where it has used its units, it was given so many, had as many events, and would go on
 unfoldable pub SpentRunsHaveUsedAll : Type 0
 SpentRunsHaveUsedAll = (p : Program) (f : ProcId) (store : Store) (heap : Heap) (start : Config) (base count : ℕ)
-    → IsSequential p f → Start p f store heap start → Alone p start base count spent
+    → (s : Start p f store heap start) → BeginsSequentially p f s.beginning → Alone p start base count spent
     → SpentSteps p start base count [] count
 
 -- where it waits for a condition, it tries the region in vain as often as one likes
 unfoldable pub WaitingRunsTryInVain : Type 0
 WaitingRunsTryInVain = (p : Program) (f : ProcId) (store : Store) (heap : Heap) (start : Config) (base count : ℕ)
-    (r : ResId) → IsFormed p → Conditions p → IsSequential p f → Start p f store heap start
-    → Alone p start base count (waiting r) → (tries : ℕ) → SpentWaits p start base count [] r tries
+    (r : ResId) → IsFormed p → Conditions p → (s : Start p f store heap start)
+    → BeginsSequentially p f s.beginning → Alone p start base count (waiting r) → (tries : ℕ) → SpentWaits p start base count [] r tries
 
 -- a parallel call can be reached from a procedure, or none can
 unfoldable pub SequentialIsDecided : Type 0
 SequentialIsDecided = (p : Program) (f : ProcId) → IsSequential p f ⊎ (IsSequential p f → ⊥)
+
+-- one can be reached from the procedure that sets the resources up, or none can
+unfoldable pub InitSequentialIsDecided : Type 0
+InitSequentialIsDecided = (p : Program) → IsFormed p → InitIsSequential p ⊎ (InitIsSequential p → ⊥)

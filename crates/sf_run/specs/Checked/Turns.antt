@@ -17,7 +17,7 @@ use Rattle.sf_heap.specs.Cells.{FieldValues, cell_of}
 use Rattle.sf_run.specs.declared.running.Halt.{Halt}
 use Rattle.sf_run.specs.declared.running.Halt.TheVariants.{Ended, Spent, Waiting}
 use Rattle.sf_run.specs.Checked.Lone.{IsFreeFrom}
-use Rattle.sf_run.specs.Sequential.{IsSequential}
+use Rattle.sf_run.specs.Sequential.{BeginsSequentially}
 use Rattle.sf_core.specs.Machine.Sound.{IsSound}
 
 -- the configuration is reached from a start of which no parallel call can be reached, and units are
@@ -31,8 +31,8 @@ pub record IsAlone (p : Program) (unit : ℕ) (c : Config) : Type 0 where
   pub formed : IsFormed p
   pub conditions : Conditions p
   pub sound : IsSound p
-  pub sequential : IsSequential p procedure
   pub starts : Start p procedure store heap start
+  pub sequential : BeginsSequentially p procedure starts.beginning
   pub reached : Reach p start events c
   pub free : IsFreeFrom unit c
 

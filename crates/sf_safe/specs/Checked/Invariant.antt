@@ -1,10 +1,11 @@
 -- Invariant: how a configuration is owned: by a tree of tasks, each a stack of frames, and by free resources.
 -- After Vafeiadis (2011), with procedures and nested parallel calls.
-use Rattle.std.specs.Prelude.{◌≡◌, ◌≢◌, ℕ, suc, List, [], ◌∷◌, Option, Some, None, true}
+use Rattle.std.specs.Prelude.{◌≡◌, ◌≢◌, ℕ, suc, List, [], ◌∷◌, Option, Some, None, true, false}
 use Rattle.sf_base.specs.declared.ids.ResId.{ResId}
 use Rattle.sf_base.specs.declared.value.Value.{Value}
 use Rattle.sf_base.specs.HeapStore.{Slot, shared, own}
 use Rattle.sf_core.specs.Machine.Config.{Item, Frame, Task, runs, waits, Path, Config}
+use Rattle.sf_core.specs.Program.Init.{sets_up}
 use Rattle.sf_core.specs.Program.Syntax.{Program, Resource}
 use Rattle.sf_safe.specs.Checked.Own.{Own, Parts, nothing, everything, ◌⋆◌}
 use Rattle.sf_safe.specs.Checked.Contract.{Known, Returned, FreeShare}
@@ -82,3 +83,5 @@ pub record IsOwned (p : Program) (n : ℕ) (entry : Known) (c : Config) : Type 0
   pub made : (slot : Slot) → c.common.store slot ≢ None → IsMadeBefore c slot
   -- the entry isn't returned from
   pub stays : HasFrame c.tasks
+  -- it doesn't set the resources up
+  pub plain : sets_up p entry.fixed.procedure ≡ false

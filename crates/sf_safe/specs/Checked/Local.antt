@@ -1,6 +1,6 @@
 -- Local: what a frame owns as it sees it itself: the values of its variables, cells and tokens, without slots.
 -- The states of concurrent separation logic: O'Hearn (2007), Brookes (2007).
-use Rattle.std.specs.Prelude.{◌≡◌, ℕ, zero, suc, Option, Some, None, List, [], ◌∷◌, cond, get_or, length, map, ◌==◌, ◌+◌, ◌<◌, ◌≤◌}
+use Rattle.std.specs.Prelude.{◌≡◌, ℕ, false, zero, suc, Option, Some, None, List, [], ◌∷◌, cond, get_or, length, map, ◌==◌, ◌+◌, ◌<◌, ◌≤◌}
 use Rattle.std.specs.List.{slice_get}
 use Rattle.std.specs.Option.{unwrap_or}
 use Rattle.sf_base.specs.declared.ids.ProcId.{ProcId}
@@ -25,7 +25,8 @@ use Rattle.sf_core.specs.Machine.Good.{owed_by}
 use Rattle.sf_core.specs.Machine.Step.{procedure_at}
 use Rattle.sf_core.specs.Program.Formed.{IsOfResource}
 use Rattle.sf_core.specs.Program.Syntax.{Call, Procedure, Program, Resource}
-use Rattle.sf_safe.specs.Checked.Contract.{IsVariableOf}
+use Rattle.sf_core.specs.Program.Init.{is_init}
+use Rattle.sf_safe.specs.Checked.Contract.{IsVariableOf, SetsVariableUp, tokens_of}
 
 -- Local: the values of the variables that a frame has, its cells, and the tokens of the regions that it has entered
 pub record Local : Type 0 where
@@ -85,17 +86,19 @@ pub record HasJustVars (V : Var → Type 0) (l : Local) : Type 0 where
 abbrev pub IsOutside : Local → Type 0
 IsOutside l = (r : ResId) → l.tokens r ≡ None
 
--- what a frame of g has when it begins and when it ends: just its variables, no token, and in its value parameters
--- the values that they had at its start
+-- what a frame of g has when it begins and when it ends: just its variables, all tokens where it sets the resources up and
+-- else none, and in its value parameters the values that they had at its start
 pub record OwnsLocally (p : Program) (f : ProcId) (g : Procedure) (values : ℕ → Value) (l : Local) : Type 0 where
   pub variables : HasJustVars (IsVariableOf p f g) l
-  pub outside : IsOutside l
+  pub tokens : (r : ResId) → l.tokens r ≡ tokens_of p g r
   pub parameters : (i : ℕ) → i < g.values → value_in l (OwnVar (g.references + i)) ≡ values i
 
--- Begins: nil in the locals, and cells that satisfy the precondition
+-- Begins: nil in the locals, and in the variables of resources where it sets them up, and cells that satisfy the
+-- precondition
 pub record Begins (p : Program) (f : ProcId) (g : Procedure) (values : ℕ → Value) (l : Local) : Type 0 where
   pub owns : OwnsLocally p f g values l
   pub locals : (i : ℕ) → g.references + g.values ≤ i → i < length g.names → value_in l (OwnVar i) ≡ nil
+  pub unset : (r : ResId) (i : ℕ) → SetsVariableUp p g r i → value_in l (Shared r i) ≡ nil
   pub pre : Sat g.pre.level (look l) (λ n. nil) l.cells
 
 -- Ends: just the cells that satisfy what the return owes
@@ -130,13 +133,14 @@ callee_value caller c arguments (OwnVar i) = own_value caller c.references argum
 callee_value caller c arguments (Shared r i) = caller (Shared r i)
 
 -- the call fits its callee: as many references and values, and the references are different variables, none of
--- which is free in the callee
+-- which is free in the callee; and the callee doesn't set the resources up
 pub record Fits (p : Program) (c : Call) (g : Procedure) : Type 0 where
   pub references : length c.references ≡ g.references
   pub values : length c.values ≡ g.values
   pub different : (i j : ℕ) (x y : Occurrence) → slice_get c.references i ≡ Some x
       → slice_get c.references j ≡ Some y → x.var ≡ y.var → i ≡ j
   pub not_free : (x : Var) → IsAmong x c.references → Free p c.callee x → ⊥
+  pub no_init : is_init g ≡ false
 
 -- what a call lends its callee: just the references and the variables that are free in it, no token, and cells that
 -- satisfy the precondition

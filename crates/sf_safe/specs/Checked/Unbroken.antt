@@ -14,7 +14,10 @@ use Rattle.sf_core.specs.declared.command.Expr.{Expr}
 use Rattle.sf_core.specs.declared.command.Occurrence.{Occurrence}
 use Rattle.sf_core.specs.Machine.Step.{procedure_at}
 use Rattle.sf_core.specs.Program.Formed.{CallWithin, HasCounts}
+use Rattle.std.specs.Str.{bytes_eq}
 use Rattle.sf_core.specs.Program.Heads.{Site, head_calls}
+use Rattle.sf_core.specs.Program.Init.{init_name}
+use Rattle.sf_core.specs.Program.Named.{name_in}
 use Rattle.sf_core.specs.Program.Syntax.{Block, Call, Procedure, Program, fork, with}
 use Rattle.sf_calls.specs.declared.breach.Breach.{Breach}
 use Rattle.sf_calls.specs.declared.breach.Breach.TheVariants.{ParallelShares, Reentered, ReferenceIsFree, SameReference}
@@ -74,6 +77,7 @@ unbroken-fits p k s f g c n makes within there =
       not_free = λ x among free.
           let m = among-contains c.references x among in
           n (ReferenceIsFree m.0 x) (c, makes, (m.1, free));
+      no_init = sym (ap (λ z. bytes_eq (name_in z) init_name) there) ∙ within.no_init;
     }
   where
     order : (i j : ℕ) → (i < j) ⊎ ((i ≡ j) ⊎ (j < i))

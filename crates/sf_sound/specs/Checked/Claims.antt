@@ -1,11 +1,12 @@
 -- Claims: what a goal claims of a frame that is at it: what is to do goes well, for any number of events.
 -- After Vafeiadis, "Concurrent Separation Logic and Operational Semantics" (2011), for lists of things to do.
-use Rattle.std.specs.Prelude.{ℕ, List, [], ◌∷◌}
+use Rattle.std.specs.Prelude.{ℕ, List, [], ◌∷◌, map}
 use Rattle.sf_base.specs.declared.ids.Var.{Var}
 use Rattle.sf_base.specs.declared.value.Value.{Value}
 use Rattle.sf_base.specs.declared.value.Value.TheVariants.{Nil as nil}
 use Rattle.sf_base.specs.HeapStore.{Heap, IsEmpty, Splits, ◌⋆◌}
 use Rattle.sf_core.specs.Assertions.Sat.{Sat}
+use Rattle.sf_core.specs.Checked.GoodParts.{SatEach}
 use Rattle.sf_core.specs.Machine.Config.{Item as Step, command, leave}
 use Rattle.sf_core.specs.Program.Syntax.{Assertion, Program, while}
 use Rattle.sf_safe.specs.Checked.Local.{Local, look, put_variable}
@@ -31,13 +32,17 @@ steps (end q ∷ rest) = []
 abbrev pub Satisfies : Assertion → Local → Type 0
 Satisfies a l = Sat a.level (look l) (λ n. nil) l.cells
 
--- what is owed at the end of it: the postcondition, or the invariant at the end of a loop's body
+-- it satisfies the assertions, each with cells of its own
+abbrev pub SatisfiesEach : List Assertion → Local → Type 0
+SatisfiesEach owed l = SatEach (map (λ a. a.level) owed) (look l) l.cells
+
+-- what is owed at the end of it: what the procedure owes, or the invariant at the end of a loop's body
 abbrev pub Owed : List Item → Local → Type 0
 Owed [] l = ⊥
 Owed (run c ∷ rest) l = Owed rest l
 Owed (exit q r ∷ rest) l = Owed rest l
 Owed (again q invariant ∷ rest) l = Satisfies invariant l
-Owed (return q post ∷ rest) l = Satisfies post l
+Owed (return q owed ∷ rest) l = SatisfiesEach owed l
 Owed (add q given ∷ rest) l = ⊥
 Owed (take q want names ∷ rest) l = ⊥
 Owed (gave q set removed ∷ rest) l = ⊥
@@ -61,7 +66,7 @@ Does p n w [] l = Unit {0}
 Does p n w (run c ∷ rest) l = LocalSafe p n (Owed rest) (command c ∷ steps rest) l
 Does p n w (exit q r ∷ rest) l = LocalSafe p n (Owed rest) (leave r ∷ steps rest) l
 Does p n w (again q invariant ∷ rest) l = LocalSafe p n (Satisfies invariant) [] l
-Does p n w (return q post ∷ rest) l = LocalSafe p n (Satisfies post) [] l
+Does p n w (return q owed ∷ rest) l = LocalSafe p n (SatisfiesEach owed) [] l
 Does p n w (end q ∷ rest) l = IsEmpty l.cells
 Does p n w (add q given ∷ rest) l = Does p n w rest l
 Does p n w (take q want names ∷ rest) l =

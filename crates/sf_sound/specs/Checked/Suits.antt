@@ -170,7 +170,7 @@ TodoSuits d D (again q invariant ∷ rest) = IsUsable d (λ x. D.has x ≡ true)
 TodoSuits d D (exit q r ∷ rest) =
     (s : ResourceSuits d r) × HasResource r (length s.resource.variables) D
     × TodoSuits d (without_resource r (length s.resource.variables) D) rest
-TodoSuits d D (return q post ∷ rest) = IsPlain d (λ x. D.has x ≡ true) post
+TodoSuits d D (return q owed ∷ rest) = AllByRecursion (IsPlain d (λ x. D.has x ≡ true)) owed
 TodoSuits d D (end q ∷ rest) = Unit {0}
 
 -- a goal suits a frame with these variables

@@ -1,6 +1,6 @@
 -- What is kept of the lines that were read.
 -- Ordinary: tables, and the list of entries that they stand for.
-use Rattle.std.specs.Prelude.{◌≡◌, ◌⊎◌, ℕ, ◌<◌, ◌++◌, List, [], ◌∷◌, Option, Some, None, Result, Ok, Err, length, map, slice_get, Vec}
+use Rattle.std.specs.Prelude.{◌≡◌, ◌⊎◌, ℕ, ◌<◌, ◌++◌, List, [], ◌∷◌, Option, Some, None, Result, Ok, Err, length, map, slice_get}
 use Rattle.std.specs.BTreeMap.{btree_map_len, get}
 use Rattle.std.specs.Option.{option_map}
 use Rattle.std.specs.Ordering.{nat_cmp}
@@ -8,12 +8,12 @@ use Rattle.sf_state.specs.declared.line.Entry.{Entry}
 use Rattle.sf_state.specs.declared.line.Entry.TheVariants.{Nothing, Bad, Unknown, Variable, Cell}
 use Rattle.sf_state.specs.declared.fault.StartFault.{StartFault}
 use Rattle.sf_state.specs.declared.fault.StartFault.TheVariants.{OutOfMemory}
-use Rattle.std.specs.declared.alloc.Global.{Global}
-use Rattle.sf_base.specs.declared.value.Value.{Value}
 use Rattle.sf_state.specs.declared.given.Given.{Given}
+use Rattle.sf_state.specs.declared.state.State.{State}
+use Rattle.sf_state.specs.Names.{Format}
 use Rattle.sf_lines.specs.Lines.{Text}
 use Rattle.sf_state.specs.Refused.{cell_count, cell_given, cell_values, first_refusal, refusal, value_given}
-use Rattle.sf_state.specs.Stated.{missing_from}
+use Rattle.sf_state.specs.Stated.{is_fresh, missing_from, needed, or_nil}
 use Rattle.sf_state.specs.Says.{entries_from, entries_of}
 
 -- a variable that a line names has one of so many numbers
@@ -55,8 +55,11 @@ pub record Reading (fields names : List Text) (text : Text) (before : ℕ) (left
   pub refusals : first_refusal fields names [] (entries_of fields names text)
       ≡ first_refusal fields names done (entries_from fields names before left)
 
--- all these variables have values, or the call says which is the first that has none, or memory
--- runs out
-abbrev pub AllGiven : (names : List Text) → List (Option Value) → Result (Vec Value Global) StartFault → Type 0
-AllGiven names given (Ok values) = (missing_from names 0 given ≡ None) × (map Some values.items ≡ given)
-AllGiven names given (Err f) = (f ≡ OutOfMemory) ⊎ (missing_from names 0 given ≡ Some f)
+-- the call makes the state in which the variables are given so, with those cells, or says which
+-- variable is the first that is missing, or memory runs out
+abbrev pub Completes : Format → Given → Result State StartFault → Type 0
+Completes m given (Ok state) = (missing_from m.names 0 (needed m given.values.items) ≡ None)
+    × (state.values.items ≡ map or_nil given.values.items) × (state.cells ≡ given.cells)
+    × (state.fresh ≡ is_fresh m given.values.items)
+Completes m given (Err f) = (f ≡ OutOfMemory)
+    ⊎ (missing_from m.names 0 (needed m given.values.items) ≡ Some f)

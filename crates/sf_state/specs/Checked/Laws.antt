@@ -1,12 +1,13 @@
 -- Laws of entries, of starts and of a state's text, in words of their own.
 -- Ordinary: a format has one reading, and what is written is read back, as of any printer and its
 -- parser.
-use Rattle.std.specs.Prelude.{◌≡◌, ◌↔◌, ◌⊎◌, ◌≤◌, ℕ, List, ◌++◌, Some, Contains, codes, length, map, slice_get}
+use Rattle.std.specs.Prelude.{◌≡◌, ◌↔◌, ◌⊎◌, ◌≤◌, ℕ, Bool, false, List, ◌++◌, Some, Contains, codes, length, map, slice_get}
 use Rattle.std.specs.List.{All, AllZip}
 use Rattle.sf_base.specs.declared.ids.ProcId.{ProcId}
 use Rattle.sf_base.specs.declared.limits.TheConstants.{STATE_BYTES}
 use Rattle.sf_core.specs.Assertions.Determined.{Determined}
 use Rattle.sf_core.specs.Program.Formed.{IsFormed}
+use Rattle.sf_core.specs.Program.Init.{sets_up}
 use Rattle.sf_core.specs.Program.Syntax.{Procedure, Program}
 use Rattle.sf_heap.specs.Cells.{Cells}
 use Rattle.sf_foot.specs.declared.vars.Vars.{Vars}
@@ -49,29 +50,31 @@ SameLocations ls ms = (l : ℕ) → Contains ls l ↔ Contains ms l
 -- the text is one start at most, its parts taken as sets of locations, or is refused for one reason
 -- at most, and not both
 pub record StartsOnce (p : Program) (f : ProcId) (g : Procedure) (text : Text) : Type 0 where
-  pub variables : (v w : Vars) (h k : Cells) (ps qs : List (List ℕ)) (t u : ℕ) → IsStartText p f g text v h ps t
-      → IsStartText p f g text w k qs u → SameVars v w
-  pub cells : (v w : Vars) (h k : Cells) (ps qs : List (List ℕ)) (t u : ℕ) → IsStartText p f g text v h ps t
-      → IsStartText p f g text w k qs u → h ≡ k
-  pub parts : (v w : Vars) (h k : Cells) (ps qs : List (List ℕ)) (t u : ℕ) → IsStartText p f g text v h ps t
-      → IsStartText p f g text w k qs u → AllZip SameLocations ps qs
-  pub unit : (v w : Vars) (h k : Cells) (ps qs : List (List ℕ)) (t u : ℕ) → IsStartText p f g text v h ps t
-      → IsStartText p f g text w k qs u → t ≡ u
+  pub variables : (v w : Vars) (h k : Cells) (ps qs : List (List ℕ)) (t u : ℕ) (m n : Bool) → IsStartText p f g text v h ps t m
+      → IsStartText p f g text w k qs u n → SameVars v w
+  pub cells : (v w : Vars) (h k : Cells) (ps qs : List (List ℕ)) (t u : ℕ) (m n : Bool) → IsStartText p f g text v h ps t m
+      → IsStartText p f g text w k qs u n → h ≡ k
+  pub parts : (v w : Vars) (h k : Cells) (ps qs : List (List ℕ)) (t u : ℕ) (m n : Bool) → IsStartText p f g text v h ps t m
+      → IsStartText p f g text w k qs u n → AllZip SameLocations ps qs
+  pub unit : (v w : Vars) (h k : Cells) (ps qs : List (List ℕ)) (t u : ℕ) (m n : Bool) → IsStartText p f g text v h ps t m
+      → IsStartText p f g text w k qs u n → t ≡ u
+  pub fresh : (v w : Vars) (h k : Cells) (ps qs : List (List ℕ)) (t u : ℕ) (m n : Bool) → IsStartText p f g text v h ps t m
+      → IsStartText p f g text w k qs u n → m ≡ n
   pub faults : (d e : StartFault) → IsStartFault p g text d → IsStartFault p g text e → d ≡ e
-  pub apart : (v : Vars) (h : Cells) (ps : List (List ℕ)) (t : ℕ) (e : StartFault)
-      → IsStartText p f g text v h ps t → IsStartFault p g text e → ⊥
+  pub apart : (v : Vars) (h : Cells) (ps : List (List ℕ)) (t : ℕ) (m : Bool) (e : StartFault)
+      → IsStartText p f g text v h ps t m → IsStartFault p g text e → ⊥
 
 -- each text is, where annotations are determined
 unfoldable pub StartIsUnique : Type 0
 StartIsUnique = (p : Program) (f : ProcId) (g : Procedure) (text : Text) → AreDetermined p
     → slice_get p.procedures f.0 ≡ Some g → StartsOnce p f g text
 
--- each text is a start of a procedure that holds no resource, or is refused
+-- each text is a start of a procedure that holds no resource and isn't `init`, or is refused
 unfoldable pub StartExists : Type 0
 StartExists = (p : Program) (f : ProcId) (g : Procedure) (text : Text) → IsFormed p → AreDetermined p
-    → slice_get p.procedures f.0 ≡ Some g → HoldsNone p f
-    → ((vars : Vars) × (heap : Cells) × (parts : List (List ℕ)) × (unit : ℕ)
-    × IsStartText p f g text vars heap parts unit) ⊎ ((e : StartFault) × IsStartFault p g text e)
+    → slice_get p.procedures f.0 ≡ Some g → HoldsNone p f → sets_up p f ≡ false
+    → ((vars : Vars) × (heap : Cells) × (parts : List (List ℕ)) × (unit : ℕ) × (fresh : Bool)
+    × IsStartText p f g text vars heap parts unit fresh) ⊎ ((e : StartFault) × IsStartFault p g text e)
 
 -- variables and cells have one text at most
 unfoldable pub FinishTextIsUnique : Type 0

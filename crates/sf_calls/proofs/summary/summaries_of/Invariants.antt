@@ -5,6 +5,6 @@ use Rattle.sf_calls.specs.Checked.Summaries.{IsSummaryOf}
 use Rattle.sf_calls.proofs.summary.summaries_of.Given as goal
 
 -- the summaries so far
-abbrev pub invariant-loop-h : goal.invariant-loop-h
-invariant-loop-h l =
-    AllZip IsSummaryOf (map procedure_of (take l.h-index l.p.procedures.items)) l.summaries.items
+abbrev pub invariant-loop-i : goal.invariant-loop-i
+invariant-loop-i l =
+    AllZip IsSummaryOf (map procedure_of (take l.i l.p.procedures.items)) l.summaries.items

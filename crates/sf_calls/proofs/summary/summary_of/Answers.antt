@@ -30,7 +30,7 @@ returns c =
     ∙ ap (λ ss. c.add_kept.new.named.items ++ shared_in ss) body
     ∙ ap (λ (xs : List Var). xs ++ shared_in (sites [] (block_of c.args.h.now.body.items)))
     (sym c.deref-2.ensures.value) in
-    summary_is (procedure_of c.args.h.now) _ c.deref-2.result.now c.deref-5.result.now in_contract mentioned
+    summary_is (procedure_of c.args.h.now) _ c.deref-2.result.now c.deref-5.result.now c.requires in_contract mentioned
     c.in_ok-in_contract.ensures c.in_ok-mentioned.ensures
     (c.in_ok-add_regions.ensures ∙ ap (λ xs. xs ++ entered_in (map site_of c.deref-6.result.now))
     c.new-entered.ensures.items ∙ ap (λ xs. entered_in (map site_of xs)) c.deref-6.ensures.value

@@ -34,7 +34,8 @@ there rs k i h = go (slice_get rs k) refl h
 -- what is held is there
 pub holds_within : (p : Program) → IsFormed p → (f : ProcId) (r : ResId) → HasThroughout p f r
     → r.0 < length p.resources
-holds_within p formed f r b =
+holds_within p formed f r (inr s) = s.1
+holds_within p formed f r (inl b) =
     let w = formed.procedures f.0 b.procedure b.there in
     there p.resources r.0 b.variable (elim b.occurs [
       | inl x ↦

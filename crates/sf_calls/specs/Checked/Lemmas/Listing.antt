@@ -13,6 +13,7 @@ use Rattle.sf_core.specs.declared.command.Expr.{Expr}
 use Rattle.sf_core.specs.declared.command.Occurrence.{Occurrence}
 use Rattle.sf_core.specs.Assertions.Occurs.{VarOccursIn}
 use Rattle.sf_core.specs.Program.Heads.{Site, head_calls, head_regions, level_occurrences, occurrences_at, sites}
+use Rattle.sf_core.specs.Program.Init.{is_init}
 use Rattle.sf_core.specs.Program.Syntax.{Block, Call, Level, Procedure}
 use Rattle.sf_core.proofs.Occurrences.{level-is}
 use Rattle.sf_calls.specs.Checked.Listed.{is_entered, kept, kept_of, shared_in_levels, shared_at, shared_in, any_call, entered_in, with_calls_in}
@@ -176,13 +177,14 @@ pub calls_anyway : (r : ResId) (g : ProcId) (b : Block) → CallsIn (Some r) g b
 calls_anyway r g b (s, m, h) = (s, m, (tt, h.1))
 
 -- what was listed of a text is what is there
-pub summary_is : (h : Procedure) (t : Summary) (in_contract mentioned : List Var)
+pub summary_is : (h : Procedure) (t : Summary) (in_contract mentioned : List Var) → t.sets_up ≡ is_init h
     → in_contract ≡ shared_in_levels h.pre.level h.post.level
     → mentioned ≡ in_contract ++ shared_in (sites [] h.body)
     → IsVarSet (Contains in_contract) t.in_contract → IsVarSet (Contains mentioned) t.mentioned
     → t.entered.items ≡ entered_in (sites [] h.body) → t.with_calls.items ≡ with_calls_in (sites [] h.body)
     → IsSummaryOf h t
-summary_is h t in_contract mentioned s m are all entered with_calls = record {
+summary_is h t in_contract mentioned sets_up s m are all entered with_calls = record {
+  sets_up = sets_up;
   in_contract =
       of_list s are (in_contract_are h.pre.level h.post.level);
   mentioned =

@@ -1,7 +1,8 @@
 -- Rows of visited: what a procedure's own text tells, and what its calls add.
-use Rattle.std.proofs.Common.{◌≡◌, ◌⊎◌, ◌↔◌, ◌==◌, ◌||◌, ◌<◌, ◌≤◌, ◌+◌, ℕ, zero, suc, Bool, true, false, List, [], ◌∷◌, ◌++◌, length, get_or, map, take, Option, Some, slice_get, Vec, Contains, All, AllPairs, refl, sym, ap, inl, inr, ◌∙◌, subst, arith}
+use Rattle.std.proofs.Common.{◌≡◌, ◌⊎◌, ◌↔◌, ◌==◌, ◌||◌, ◌<◌, ◌≤◌, ◌+◌, ℕ, zero, suc, Bool, true, false, List, [], ◌∷◌, ◌++◌, length, get_or, map, take, Option, None, Some, slice_get, Vec, Contains, All, AllPairs, refl, sym, ap, inl, inr, ◌∙◌, subst, arith}
 use Rattle.std.specs.Bool.{Decides}
 use Rattle.std.specs.List.{AllZip}
+use Rattle.std.specs.Str.{bytes_eq}
 use Rattle.std.proofs.lemmas.Bool.Decides.{Decides-or, Decides-like}
 use Rattle.std.proofs.lemmas.List.{length-map, take_all, take_more}
 use Rattle.std.proofs.lemmas.List.Elements.{Contains-append_left, Contains-append_right, Contains-append_cases, All-nil, All-cons, All-head, All-tail}
@@ -17,9 +18,12 @@ use Rattle.sf_base.specs.declared.ids.ProcId.{ProcId}
 use Rattle.sf_base.specs.declared.ids.ResId.{ResId}
 use Rattle.sf_base.specs.declared.ids.Var.{Var}
 use Rattle.sf_base.specs.declared.ids.Var.TheVariants.{Own, Shared}
+use Rattle.sf_core.proofs.Inits.{sets_up-is}
 use Rattle.sf_core.specs.declared.program.Proc.{Proc}
 use Rattle.sf_core.specs.declared.program.Program.{Program as CodeProgram}
 use Rattle.sf_core.specs.Machine.HasThroughout.{HasThroughout}
+use Rattle.sf_core.specs.Program.Init.{init_name, is_init, sets_up}
+use Rattle.sf_core.specs.Program.Named.{name_in}
 use Rattle.sf_core.specs.Assertions.Occurs.{VarOccursIn}
 use Rattle.sf_core.specs.Program.Syntax.{Procedure, Program}
 use Rattle.sf_core.specs.Program.ProgramView.{program_of}
@@ -110,6 +114,21 @@ speaks_is r (Shared q j ∷ xs) =
           | inr c ↦ inr (s.0, c)
         ]
 
+-- a procedure that sets the resources up is there
+sets_up-there : (p : Program) (f : ProcId) → sets_up p f ≡ true
+    → (h : Procedure) × (slice_get p.procedures f.0 ≡ Some h)
+sets_up-there p f s = go (slice_get p.procedures f.0) refl
+  where
+    go : (o : Option Procedure) → slice_get p.procedures f.0 ≡ o
+        → (h : Procedure) × (slice_get p.procedures f.0 ≡ Some h)
+    go None e = absurd (let no : false ≡ true = sym (ap (λ (o : Option Procedure). bytes_eq (name_in o) init_name) e) ∙ s in cc)
+    go (Some h) e = (h, e)
+
+-- the procedure sets the resources up, or its contract mentions this one
+abbrev HoldsIt : ResId → Procedure → Type 0
+HoldsIt r h = (is_init h ≡ true)
+    ⊎ ((i : ℕ) × (VarOccursIn h.pre.level (Shared r i) ⊎ VarOccursIn h.post.level (Shared r i)))
+
 -- who enters a resource, who mentions a variable, and who holds a resource
 pub entering_row : (p : Program) (r : ResId) (hs : List Proc) (summaries : List Summary) (i : ℕ)
     (visited : List Bool)
@@ -141,31 +160,44 @@ mentioning_row p x hs summaries i visited same z shared past e =
 
 pub holding_row : (p : Program) (r : ResId) (hs : List Proc) (summaries : List Summary) (i : ℕ)
     (visited : List Bool)
-    → map procedure_of hs ≡ p.procedures → AreSummaries p summaries
-    → length summaries ≤ i → visited ≡ map (λ t. speaks_of r t.in_contract) (take i summaries)
+    → map procedure_of hs ≡ p.procedures → AreSummaries p summaries → r.0 < length p.resources
+    → length summaries ≤ i → visited ≡ map (λ t. t.sets_up || speaks_of r t.in_contract) (take i summaries)
     → IsRow (length hs) (λ f. HasThroughout p f r) visited
 unfolding Speaks
-holding_row p r hs summaries i visited same z past e =
-    row_same (length hs) _ (λ f. HasThroughout p f r) visited
-    (λ f s. record {
-      procedure = s.0;
-      there = ap (λ (k : List Procedure). slice_get k f.0) (sym same)
-          ∙ s.1;
-      variable = s.2.0;
-      occurs = s.2.1;
+holding_row p r hs summaries i visited same z inside past e =
+    row_same (length hs) (λ f. (h : Procedure) × (slice_get (map procedure_of hs) f.0 ≡ Some h) × HoldsIt r h)
+    (λ f. HasThroughout p f r) visited to from
+    (zip_row IsSummaryOf (λ t. t.sets_up || speaks_of r t.in_contract) (HoldsIt r) tells hs summaries (rw same z) i visited
+    past e)
+  where
+    tells : (h : Procedure) (t : Summary) → IsSummaryOf h t
+        → Decides (t.sets_up || speaks_of r t.in_contract) (HoldsIt r h)
+    tells h t w =
+        Decides-or t.sets_up (speaks_of r t.in_contract) (λ s. sym w.sets_up ∙ s, λ s. w.sets_up ∙ s)
+        (Decides-like (speaks_of r t.in_contract)
+        (λ s. (s.0, ((w.in_contract.members (Shared r s.0)).0 s.1).1))
+        (λ m. (m.0, (w.in_contract.members (Shared r m.0)).1 (tt, m.1))) (speaks_is r t.in_contract))
+
+    to : (f : ProcId) → (h : Procedure) × (slice_get (map procedure_of hs) f.0 ≡ Some h) × HoldsIt r h
+        → HasThroughout p f r
+    to f (h, at, inl s) = inr (sets_up-is p f h (ap (λ (k : List Procedure). slice_get k f.0) (sym same) ∙ at) ∙ s, inside)
+    to f (h, at, inr m) = inl (record {
+      procedure = h;
+      there = ap (λ (k : List Procedure). slice_get k f.0) (sym same) ∙ at;
+      variable = m.0;
+      occurs = m.1;
     })
-    (λ f b. (
+
+    from : (f : ProcId) → HasThroughout p f r
+        → (h : Procedure) × (slice_get (map procedure_of hs) f.0 ≡ Some h) × HoldsIt r h
+    from f (inl b) = (
       b.procedure,
-      ap (λ (k : List Procedure). slice_get k f.0) same
-          ∙ b.there,
-      (b.variable, b.occurs),
-    ))
-    (zip_row IsSummaryOf (λ t. speaks_of r t.in_contract)
-    (λ h. (i : ℕ) × (VarOccursIn h.pre.level (Shared r i) ⊎ VarOccursIn h.post.level (Shared r i)))
-    (λ h t w. Decides-like (speaks_of r t.in_contract)
-    (λ s. (s.0, ((w.in_contract.members (Shared r s.0)).0 s.1).1))
-    (λ m. (m.0, (w.in_contract.members (Shared r m.0)).1 (tt, m.1))) (speaks_is r t.in_contract)) hs
-    summaries (rw same z) i visited past e)
+      ap (λ (k : List Procedure). slice_get k f.0) same ∙ b.there,
+      inr (b.variable, b.occurs),
+    )
+    from f (inr s) =
+        let h = sets_up-there p f s.0 in
+        (h.0, ap (λ (k : List Procedure). slice_get k f.0) same ∙ h.1, inl (sym (sets_up-is p f h.0 h.1) ∙ s.0))
 
 -- the least set rests on its two rules alone
 pub reaches_along : {A : Type 0} (D D' : A → Type 0) (E E' : A → A → Type 0) → ((a : A) → D a → D' a)

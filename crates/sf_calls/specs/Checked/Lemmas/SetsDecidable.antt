@@ -1,16 +1,17 @@
 -- What a program's procedures take, hold and have free is decidable.
 use Rattle.std.proofs.Common.{◌≡◌, ◌⊎◌, ◌↔◌, ◌<◌, ◌==◌, ℕ, zero, suc, List, [], ◌∷◌, ◌++◌, length, Option, None, slice_get, Contains, Bool, sym, ap, inl, inr, arith}
 use Rattle.std.specs.Bool.{Decides}
-use Rattle.std.proofs.lemmas.Bool.Decides.{Decides-like, Decides-eqb, eqb_tells}
+use Rattle.std.proofs.lemmas.Bool.Decides.{Decides-like, Decides-eqb, Decides-ltb, eqb_tells}
 use Rattle.std.proofs.lemmas.Option.{slice_get_within}
 use Rattle.sf_base.proofs.Elements.{contains-decides, contains-cons}
 use Rattle.sf_base.specs.declared.ids.ProcId.{ProcId}
 use Rattle.sf_base.specs.declared.ids.ResId.{ResId}
 use Rattle.sf_base.specs.declared.ids.Var.{Var}
 use Rattle.sf_base.specs.declared.ids.Var.TheVariants.{Own, Shared}
-use Rattle.sf_core.specs.Machine.HasThroughout.{HasThroughout}
+use Rattle.sf_core.specs.Machine.HasThroughout.{HasThroughout, ContractMentions}
 use Rattle.sf_core.specs.Assertions.Occurs.{VarOccursIn}
 use Rattle.sf_core.specs.Program.Heads.{sites}
+use Rattle.sf_core.specs.Program.Init.{sets_up}
 use Rattle.sf_core.specs.Program.Syntax.{Procedure, Program}
 use Rattle.sf_calls.specs.Conditions.{Calls, Free, Has, Takes}
 use Rattle.sf_calls.specs.Reaches.{Reaches}
@@ -18,7 +19,7 @@ use Rattle.sf_calls.specs.Outside.{CallsIn, EntersIn, OccursOutside, owner}
 use Rattle.sf_calls.specs.Checked.Listed.{entered_in, is_entered, shared_in, shared_in_levels}
 use Rattle.sf_calls.specs.Checked.Tests.{callees_in}
 use Rattle.sf_calls.specs.Checked.Summaries.{has, speaks_of}
-use Rattle.sf_calls.specs.Checked.Lemmas.Decidable.{IsDecidable, decidable_both, decidable_by, listed, listed_is, passes, passes_is}
+use Rattle.sf_calls.specs.Checked.Lemmas.Decidable.{IsDecidable, decidable_both, decidable_by, decidable_one, listed, listed_is, passes, passes_is}
 use Rattle.sf_calls.specs.Checked.Lemmas.Decided.{callees_in_are, entered_is}
 use Rattle.sf_calls.specs.Checked.Lemmas.Listing.{entered_are, mentioned_are, in_contract_are}
 use Rattle.sf_calls.specs.Checked.Lemmas.Paths.{decidable_reaches}
@@ -134,18 +135,25 @@ speaks_of_is r h = Decides-like _ to from (speaks_is r (in_contract h))
         → Speaks r (in_contract h)
     from m = (m.0, (in_contract_are h.pre.level h.post.level (Shared r m.0)).1 (tt, m.1))
 
--- whether a procedure holds a resource
-pub holds_decidable : (p : Program) (f : ProcId) (r : ResId) → IsDecidable (HasThroughout p f r)
-holds_decidable p f r =
+-- whether its contract mentions it
+mentions_decidable : (p : Program) (f : ProcId) (r : ResId) → IsDecidable (ContractMentions p f r)
+mentions_decidable p f r =
     decidable_by _
     (Decides-like _ to from (has_is p (λ h. speaks_of r (in_contract h)) _ (speaks_of_is r) f))
   where
     to : Has p
         (λ h. (n : ℕ) × (VarOccursIn h.pre.level (Shared r n) ⊎ VarOccursIn h.post.level (Shared r n))) f
-        → HasThroughout p f r
+        → ContractMentions p f r
     to h = record { procedure = h.0; there = h.1; variable = h.2.0; occurs = h.2.1 }
 
-    from : HasThroughout p f r
+    from : ContractMentions p f r
         → Has p
         (λ h. (n : ℕ) × (VarOccursIn h.pre.level (Shared r n) ⊎ VarOccursIn h.post.level (Shared r n))) f
     from b = (b.procedure, b.there, (b.variable, b.occurs))
+
+-- whether a procedure holds a resource
+pub holds_decidable : (p : Program) (f : ProcId) (r : ResId) → IsDecidable (HasThroughout p f r)
+holds_decidable p f r =
+    decidable_one (mentions_decidable p f r)
+    (decidable_both (decidable_by (sets_up p f) (λ e. e, λ e. e))
+    (decidable_by _ (Decides-ltb r.0 (length p.resources))))

@@ -46,7 +46,7 @@ returns_commute =
     (record {
       first = λ thing x y. elim x [ inl i ↦ none-in_room 1 0 thing i | inr m ↦ m ];
       second = λ thing x r. r;
-      hands = λ r m q. m;
+      hands = λ r m q. true≢false (sym m);
     })
     (to forking (event (left ∷ []) 2) _ _ _ _ refl refl (tt, refl, refl))
     (to forking (event (right ∷ []) 3) _ _ _ _ refl refl (tt, refl, refl)) in

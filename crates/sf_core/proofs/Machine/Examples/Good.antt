@@ -1,6 +1,6 @@
 -- The examples of good configurations: ended entries, callees at their return, and resources.
 -- Names: each example has the name of its function; `WHAT-one` gives the cell, `WHAT-good` says what is good.
-use Rattle.std.specs.Prelude.{◌≡◌, ◌≢◌, ℕ, ◌==◌, Bool, true, false, cond, List, [], ◌∷◌, Option, Some, None}
+use Rattle.std.specs.Prelude.{◌≡◌, ◌≢◌, ℕ, ◌==◌, Bool, true, false, cond, codes, List, [], ◌∷◌, Option, Some, None}
 use Rattle.std.specs.List.{slice_get}
 use Rattle.std.specs.Option.{unwrap_or}
 use Rattle.std.proofs.Common.{sym, ap, ◌∙◌, refl, subst, inl, inr}
@@ -20,13 +20,14 @@ use Rattle.sf_base.proofs.StoreSplits.{resource-is, resource-same}
 use Rattle.sf_core.specs.Machine.Bad.{Bad, IsAtNoCell}
 use Rattle.sf_core.specs.Machine.Next.{frame_next, next}
 use Rattle.sf_core.specs.Machine.Config.{Frame, runs, Path, Config, evaluate, task_at, IsCalled}
+use Rattle.sf_core.specs.Machine.Enabled.{HasEnded}
 use Rattle.sf_core.specs.Machine.Good.{HasOwed, Owner, resource, owed, IsOwned, Returns, Good}
 use Rattle.sf_base.specs.HeapStore.{Apart, Cell, Heap, IsEmpty, IsOne, shared}
 use Rattle.sf_core.specs.Checked.Machine.Examples.{lock, own_one, emp, one_cell, one_cell_at, main, main_done, set, set_done, setting, one_in, ended_with, EndedIsGoodWithItsCellAlone, returning_with, ReturningIsGoodWithItsCell, shared_one, skip, skip_done, guarding, guarded, shared_in, skip_ended_with, EndedIsGoodWithTheInvariantAlone, FreeResourcesHaveTheirCell, EndedWhileHeldIsNotGood}
 use Rattle.sf_core.specs.Assertions.Sat.{Foot}
 use Rattle.sf_core.specs.Machine.Start.{entry_slot}
 use Rattle.sf_core.specs.Machine.Step.{procedure_at}
-use Rattle.sf_core.specs.Program.Syntax.{Procedure, Resource}
+use Rattle.sf_core.specs.Program.Syntax.{Procedure, Program, Resource}
 
 -- a footprint of one cell has it where the expression says, and so the heap has it there
 pub foot-one : (x : Expr) (see : Expr → Value) (heap part : Heap) (a : ℕ) → see x ≡ loc a
@@ -61,9 +62,11 @@ ended-one heap g =
     subst (λ (z : Frame). procedure_at setting z.fixed.procedure ≡ Some end.procedure) (sym frame)
     end.there in
     let procedure : end.procedure ≡ main = cc in
+    let posts : HasOwed setting main end.frame (ended_with heap).common (λ i. g.part (owed [] i)) =
+    subst (λ (z : Procedure). HasOwed setting z end.frame (ended_with heap).common (λ i. g.part (owed [] i)))
+    procedure end.posts in
     let post : Foot one_cell.level (evaluate end.frame.fixed.slots (one_in (loc 1))) heap (g.part (owed [] 0)) =
-    subst (λ (z : Procedure). Foot z.post.level (evaluate end.frame.fixed.slots (one_in (loc 1))) heap
-    (g.part (owed [] 0))) procedure (end.posts 0 end.procedure.post.level refl) in
+    posts 0 one_cell.level refl in
     let mine : Foot one_cell.level (evaluate entry_slot (one_in (loc 1))) heap (g.part (owed [] 0)) =
     subst (λ (z : Frame). Foot one_cell.level (evaluate z.fixed.slots (one_in (loc 1))) heap
     (g.part (owed [] 0))) (sym frame) post in
@@ -80,25 +83,28 @@ pub ended_is_good_with_its_cell_alone : EndedIsGoodWithItsCellAlone
 unfolding EndedIsGoodWithItsCellAlone
 ended_is_good_with_its_cell_alone heap = (ended-one heap, λ o. set-good (ended_with heap) o.0 refl refl o.1)
 
--- A task alone, about to return
--- nothing bad is next
+-- A task alone
+-- nothing bad is next where it isn't about to touch an absent cell
+pub alone-not_bad : (c : Config) (frames : List Frame) → c.tasks ≡ runs frames
+    → (IsAtNoCell c.common (next (runs frames)) → ⊥) → Bad c → ⊥
+alone-not_bad c frames only safe (inl b) =
+    let there : task_at b.path (runs frames) ≡ Some b.task =
+    subst (λ z. task_at b.path z ≡ Some b.task) only b.enabled.there in
+    let top : b.path ≡ [] = task_at-running b.path frames b.task there in
+    let here : Some (runs frames) ≡ Some b.task =
+    subst (λ z. task_at z (runs frames) ≡ Some b.task) top there in
+    safe (subst (λ z. IsAtNoCell c.common (next z)) (sym (same_Some (runs frames) b.task here)) b.absent)
+alone-not_bad c frames only safe (inr r) =
+    r.different (
+    task_at-running r.path frames r.task (subst (λ z. task_at r.path z ≡ Some r.task) only r.enabled.there)
+    ∙ sym (task_at-running r.other_path frames r.other
+    (subst (λ z. task_at r.other_path z ≡ Some r.other) only r.other_enabled.there)))
+
+-- nor where it is about to return
 pub returning-not_bad : (c : Config) (frame : Frame) (below : List Frame) → c.tasks ≡ runs (frame ∷ below)
     → frame.todo ≡ [] → Bad c → ⊥
-returning-not_bad c frame below only done (inl b) =
-    let there : task_at b.path (runs (frame ∷ below)) ≡ Some b.task =
-    subst (λ z. task_at b.path z ≡ Some b.task) only b.enabled.there in
-    let top : b.path ≡ [] = task_at-running b.path (frame ∷ below) b.task there in
-    let here : Some (runs (frame ∷ below)) ≡ Some b.task =
-    subst (λ z. task_at z (runs (frame ∷ below)) ≡ Some b.task) top there in
-    let mine : IsAtNoCell c.common (next (runs (frame ∷ below))) =
-    subst (λ z. IsAtNoCell c.common (next z)) (sym (same_Some (runs (frame ∷ below)) b.task here)) b.absent in
-    subst (λ z. IsAtNoCell c.common (frame_next frame.fixed below z)) done mine
-returning-not_bad c frame below only done (inr r) =
-    r.different (
-    task_at-running r.path (frame ∷ below) r.task
-    (subst (λ z. task_at r.path z ≡ Some r.task) only r.enabled.there)
-    ∙ sym (task_at-running r.other_path (frame ∷ below) r.other
-    (subst (λ z. task_at r.other_path z ≡ Some r.other) only r.other_enabled.there)))
+returning-not_bad c frame below only done = alone-not_bad c (frame ∷ below) only
+    (λ n. subst (λ z. IsAtNoCell c.common (frame_next frame.fixed below z)) done n)
 
 returning-good : (heap : Heap) (k : Cell) → heap 1 ≡ Some k → Good setting (returning_with heap)
 returning-good heap k e = record {
@@ -138,7 +144,7 @@ returning-good heap k e = record {
         (subst (λ (z : Procedure). HasOwed setting z set_done (returning_with heap).common
         (λ i. entry_part (single 1 k) (owed [] i))) procedure
         (owes-first setting set set_done (returning_with heap).common
-        (λ i. entry_part (single 1 k) (owed [] i)) foot)))
+        (λ i. entry_part (single 1 k) (owed [] i)) refl foot)))
 
 returning-one : (heap : Heap) → Good setting (returning_with heap) → (k : Cell) × (heap 1 ≡ Some k)
 returning-one heap g =
@@ -194,21 +200,26 @@ shared_part-apart h (resource r) (resource s) n a = go (r.0 == 0) (s.0 == 0) ref
 shared_part-apart h (resource r) (owed path i) n a = apart-none (cond (r.0 == 0) (h a) None)
 shared_part-apart h (owed path i) other n a = tt
 
-skip_ended-good : (heap : Heap) (k : Cell) → IsOne 1 k heap → Good guarded (skip_ended_with heap)
-skip_ended-good heap k o = record {
-  never_bad = ended-not_bad (skip_ended_with heap) refl;
-  part = shared_part heap;
-  apart = shared_part-apart heap;
+-- `skip` at its end beside the resource, which is free and has its cell, is good, whatever the program's other procedures
+pub skip_ended-good : (procedures : List Procedure) (c : Config) (a : ℕ) (k : Cell)
+    → slice_get procedures 0 ≡ Some skip → c.tasks ≡ runs (skip_done ∷ [])
+    → ((r : ResId) (of : Resource) → slice_get (guarding ∷ []) r.0 ≡ Some of → c.common.held r ≡ None)
+    → c.common.store (shared lock 0) ≡ Some (loc a) → IsOne a k c.common.heap
+    → Good (record { fields = codes "hd" ∷ []; resources = guarding ∷ []; procedures = procedures }) c
+skip_ended-good procedures c a k is only free variable o = record {
+  never_bad = ended-not_bad c ended;
+  part = shared_part c.common.heap;
+  apart = shared_part-apart c.common.heap;
   invariants = invariant;
   posts = λ path frame g r e. absurd (no_return path frame r);
   finished = λ h. record {
     frame = skip_done;
-    alone = refl;
+    alone = only;
     procedure = skip;
-    there = refl;
-    free = λ r of e. refl;
-    posts = owes-first guarded skip skip_done (skip_ended_with heap).common (λ i a. None) (record {
-      rest = heap;
+    there = is;
+    free = free;
+    posts = owes-first p skip skip_done c.common (λ i a. None) refl (record {
+      rest = c.common.heap;
       splits = splits-empty_left empty-holds;
       sat = (λ n. nil, λ n i. refl, empty-holds);
     });
@@ -216,28 +227,37 @@ skip_ended-good heap k o = record {
   };
 }
   where
-    invariant : (r : ResId) (of : Resource) → slice_get guarded.resources r.0 ≡ Some of
-        → (skip_ended_with heap).common.held r ≡ None
-        → Foot of.invariant.level (evaluate entry_slot (shared_in (loc 1))) heap
-        (shared_part heap (resource r))
+    p : Program
+    p = record { fields = codes "hd" ∷ []; resources = guarding ∷ []; procedures = procedures }
+
+    ended : HasEnded [] c.tasks
+    ended = subst (HasEnded []) (sym only) refl
+
+    invariant : (r : ResId) (of : Resource) → slice_get (guarding ∷ []) r.0 ≡ Some of
+        → c.common.held r ≡ None
+        → Foot of.invariant.level (evaluate entry_slot c.common.store) c.common.heap
+        (shared_part c.common.heap (resource r))
     invariant r of e free =
         let one = get-single guarding of r.0 e in
-        let whole : Foot guarding.invariant.level (evaluate entry_slot (shared_in (loc 1))) heap heap =
+        let whole : Foot guarding.invariant.level (evaluate entry_slot c.common.store) c.common.heap c.common.heap =
         record {
           rest = empty_map;
           splits = splits-empty_right empty-holds;
-          sat = one-sat shared_one (evaluate entry_slot (shared_in (loc 1))) heap 1 k refl o;
+          sat = one-sat shared_one (evaluate entry_slot c.common.store) c.common.heap a k
+              (ap (λ z. unwrap_or z nil) variable) o;
         } in
-        subst (λ (z : Resource). Foot z.invariant.level (evaluate entry_slot (shared_in (loc 1))) heap
-        (shared_part heap (resource r))) one.1
-        (subst (λ (n : ℕ). Foot guarding.invariant.level (evaluate entry_slot (shared_in (loc 1))) heap
-        (λ a. cond (n == 0) (heap a) None)) (sym one.0) whole)
+        subst (λ (z : Resource). Foot z.invariant.level (evaluate entry_slot c.common.store) c.common.heap
+        (shared_part c.common.heap (resource r))) one.1
+        (subst (λ (n : ℕ). Foot guarding.invariant.level (evaluate entry_slot c.common.store) c.common.heap
+        (λ b. cond (n == 0) (c.common.heap b) None)) (sym one.0) whole)
 
-    no_return : (path : Path) (frame : Frame) → Returns (skip_ended_with heap) path frame → ⊥
+    no_return : (path : Path) (frame : Frame) → Returns c path frame → ⊥
     no_return path frame r =
-        let top : path ≡ [] = task_at-running path (skip_done ∷ []) (runs (frame ∷ r.below)) r.there in
+        let there : task_at path (runs (skip_done ∷ [])) ≡ Some (runs (frame ∷ r.below)) =
+        subst (λ z. task_at path z ≡ Some (runs (frame ∷ r.below))) only r.there in
+        let top : path ≡ [] = task_at-running path (skip_done ∷ []) (runs (frame ∷ r.below)) there in
         let here : Some (runs (skip_done ∷ [])) ≡ Some (runs (frame ∷ r.below)) =
-        subst (λ z. task_at z (skip_ended_with heap).tasks ≡ Some (runs (frame ∷ r.below))) top r.there in
+        subst (λ z. task_at z (runs (skip_done ∷ [])) ≡ Some (runs (frame ∷ r.below))) top there in
         let same : [] ≡ r.below = cc in
         subst (λ z. IsCalled [] z) (sym same) (subst (λ z. IsCalled z r.below) top r.called)
 
@@ -249,9 +269,11 @@ skip_ended-one heap g =
     subst (λ (z : Frame). procedure_at guarded z.fixed.procedure ≡ Some end.procedure) (sym frame)
     end.there in
     let procedure : end.procedure ≡ skip = cc in
+    let posts : HasOwed guarded skip end.frame (skip_ended_with heap).common (λ i. g.part (owed [] i)) =
+    subst (λ (z : Procedure). HasOwed guarded z end.frame (skip_ended_with heap).common
+    (λ i. g.part (owed [] i))) procedure end.posts in
     let post : Foot emp.level (evaluate end.frame.fixed.slots (shared_in (loc 1))) heap (g.part (owed [] 0)) =
-    subst (λ (z : Procedure). Foot z.post.level (evaluate end.frame.fixed.slots (shared_in (loc 1))) heap
-    (g.part (owed [] 0))) procedure (end.posts 0 end.procedure.post.level refl) in
+    posts 0 emp.level refl in
     let one = foot-one shared_one (evaluate entry_slot (shared_in (loc 1))) heap (g.part (resource lock)) 1
     refl (g.invariants lock guarding refl refl) in (
       one.0,
@@ -273,4 +295,7 @@ skip_ended-one heap g =
 -- an ended entry beside a resource is good exactly with the invariant's cell alone
 pub ended_is_good_with_the_invariant_alone : EndedIsGoodWithTheInvariantAlone
 unfolding EndedIsGoodWithTheInvariantAlone
-ended_is_good_with_the_invariant_alone heap = (skip_ended-one heap, λ o. skip_ended-good heap o.0 o.1)
+ended_is_good_with_the_invariant_alone heap = (
+  skip_ended-one heap,
+  λ o. skip_ended-good guarded.procedures (skip_ended_with heap) 1 o.0 refl refl (λ r of e. refl) refl o.1,
+)

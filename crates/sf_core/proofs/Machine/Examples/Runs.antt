@@ -24,13 +24,15 @@ use Rattle.sf_core.specs.Machine.Config.{Frame, Task, runs, Path, Common, Config
 use Rattle.sf_core.specs.Machine.Enabled.{HasEnded}
 use Rattle.sf_core.specs.Machine.Good.{HasOwed, Owner, resource, owed, Returns, Good}
 use Rattle.sf_base.specs.HeapStore.{Apart, Splits, Cell, put_field, Heap, IsOne, Slot, shared, own}
-use Rattle.sf_core.specs.Machine.HasThroughout.{HasThroughout}
+use Rattle.sf_core.specs.Machine.HasThroughout.{ContractMentions}
 use Rattle.sf_core.specs.Checked.Machine.Examples.{at_own, own_one, one_cell, one_cell_at, main, main_done, set, setting, one_at, one_in, event, setting_start, SettingStarts, CallMutateReturn, alone, DisposeAtNilIsBad, makes, makes_twice, FreedLocationsComeAgain, skip, forking, forking_start, ChildrenEndInAnyOrder, fill, filling, filling_start, ChildrenFillReferences, hands_on, passing, passing_start, ReferencesArePassedOn, locks_and_loops, RegionThenLoop}
 use Rattle.sf_core.specs.Assertions.Occurs.{VarOccursIn}
 use Rattle.sf_core.specs.Assertions.Sat.{Foot, Sat}
-use Rattle.sf_core.specs.Machine.Start.{IsKept, entry_slot}
+use Rattle.sf_core.specs.Machine.Start.{settled, IsKept, entry_slot}
 use Rattle.sf_core.specs.Machine.Step.{Event, procedure_at, TaskStep, Step}
+use Rattle.sf_core.specs.Program.Init.{is_init}
 use Rattle.sf_core.specs.Program.Syntax.{Procedure, Program, Resource}
+use Rattle.sf_core.proofs.Inits.{has_throughout-mentions, owed_by-post}
 use Rattle.sf_core.proofs.Machine.Tasks.{task_at-ended}
 
 -- Steps of known configurations
@@ -157,12 +159,14 @@ unfolding SettingStarts
 setting_starts k = record {
   procedure = main;
   there = refl;
+  beginning = settled;
   is = refl;
-  holds_none = λ r h. held r h;
+  holds_none = λ r h. held r (has_throughout-mentions setting (record { 0 = 0 }) r refl h);
+  no_init = refl;
   kept = kept;
   no_more = no_more;
   locals = λ i l m. absurd (omega (arith, l, m));
-  pre = record {
+  begins = record {
     left = one_at k;
     right = λ a. None;
     splits = all-nothing (one_at k);
@@ -179,7 +183,7 @@ setting_starts k = record {
     in_contract : (x : Var) → VarOccursIn one_cell.level x → Own 0 ≡ x
     in_contract x o = elim (o.2).0 [ inl f ↦ is_first x o.0 o.1 f | inr z ↦ absurd z ]
 
-    held : (r : ResId) → HasThroughout setting (record { 0 = 0 }) r → ⊥
+    held : (r : ResId) → ContractMentions setting (record { 0 = 0 }) r → ⊥
     held r h =
         let same : main ≡ h.procedure = cc (h.there) in
         elim h.occurs [
@@ -191,13 +195,13 @@ setting_starts k = record {
               (subst (λ (z : Procedure). VarOccursIn z.post.level (Shared r h.variable)) (sym same) o))
         ]
 
-    kept : (slot : Slot) → IsKept setting main slot → (v : Value) × (one_in (loc 1) slot ≡ Some v)
+    kept : (slot : Slot) → IsKept settled setting main slot → (v : Value) × (one_in (loc 1) slot ≡ Some v)
     kept (shared r i) q = absurd (none-some q.0 q.1)
     kept (own e i) q =
         let first : i ≡ 0 = omega (arith, q.1) in
         (loc 1, ap₂ (λ a b. one_in (loc 1) (own a b)) q.0 first)
 
-    no_more : (slot : Slot) (v : Value) → one_in (loc 1) slot ≡ Some v → IsKept setting main slot
+    no_more : (slot : Slot) (v : Value) → one_in (loc 1) slot ≡ Some v → IsKept settled setting main slot
     no_more (shared r i) v e = absurd (none-some v e)
     no_more (own f i) v e =
         let b = and_parts (f == 0) (i == 0) (cond-some ((f == 0) && (i == 0)) (loc 1) v e) in
@@ -206,12 +210,15 @@ setting_starts k = record {
         (at-same 0 f b.0, below)
 
 -- An ended entry
--- what a return owes is its procedure's postcondition
+-- what a return owes is its procedure's postcondition, where that doesn't set the resources up
 pub owes-first : (p : Program) (g : Procedure) (frame : Frame) (s : Common) (parts : ℕ → Heap)
-    → Foot g.post.level (evaluate frame.fixed.slots s.store) s.heap (parts 0) → HasOwed p g frame s parts
-owes-first p g frame s parts f zero a e =
-    subst (λ z. Foot z (evaluate frame.fixed.slots s.store) s.heap (parts 0)) (same_Some g.post.level a e) f
-owes-first p g frame s parts f (suc i) a e = absurd (none-some a e)
+    → is_init g ≡ false → Foot g.post.level (evaluate frame.fixed.slots s.store) s.heap (parts 0)
+    → HasOwed p g frame s parts
+owes-first p g frame s parts n f zero a e =
+    subst (λ z. Foot z (evaluate frame.fixed.slots s.store) s.heap (parts 0))
+    (same_Some g.post.level a (sym (ap (λ z. slice_get z 0) (owed_by-post p g n)) ∙ e)) f
+owes-first p g frame s parts n f (suc i) a e =
+    absurd (none-some a (sym (ap (λ z. slice_get z (suc i)) (owed_by-post p g n)) ∙ e))
 
 -- the whole heap is what the entry owes first
 abbrev pub entry_part : Heap → Owner → Heap
@@ -246,8 +253,8 @@ ended-not_bad c h (inr r) =
 -- an ended entry of a program without resources is good where the heap satisfies its postcondition
 ended-good : (p : Program) (c : Config) (frame : Frame) (g : Procedure) → p.resources ≡ []
     → c.tasks ≡ runs (frame ∷ []) → frame.todo ≡ [] → procedure_at p frame.fixed.procedure ≡ Some g
-    → Sat g.post.level (evaluate frame.fixed.slots c.common.store) (λ n. nil) c.common.heap → Good p c
-ended-good p c frame g none_there only done is sat = record {
+    → is_init g ≡ false → Sat g.post.level (evaluate frame.fixed.slots c.common.store) (λ n. nil) c.common.heap → Good p c
+ended-good p c frame g none_there only done is other sat = record {
   never_bad = ended-not_bad c ended;
   part = entry_part c.common.heap;
   apart = entry_part-apart c.common.heap;
@@ -259,8 +266,8 @@ ended-good p c frame g none_there only done is sat = record {
     procedure = g;
     there = is;
     free = λ r of e. absurd (no_resource r of e);
-    posts = owes-first p g frame c.common (λ i. entry_part c.common.heap (owed [] i)) whole;
-    all = λ a k e. inl (0, g.post.level, refl, e);
+    posts = owes-first p g frame c.common (λ i. entry_part c.common.heap (owed [] i)) other whole;
+    all = λ a k e. inl (0, g.post.level, ap (λ z. slice_get z 0) (owed_by-post p g other), e);
   };
 }
   where
@@ -284,7 +291,7 @@ ended-good p c frame g none_there only done is sat = record {
 -- `main` at its end with its one cell is good
 pub set-good : (c : Config) (k : Cell) → c.tasks ≡ runs (main_done ∷ [])
     → c.common.store (own 0 0) ≡ Some (loc 1) → IsOne 1 k c.common.heap → Good setting c
-set-good c k only e o = ended-good setting c main_done main refl only refl refl
+set-good c k only e o = ended-good setting c main_done main refl only refl refl refl
     (one-sat (own_one 0) (evaluate entry_slot c.common.store) c.common.heap 1 k (ap (λ z. unwrap_or z nil) e)
     o)
 

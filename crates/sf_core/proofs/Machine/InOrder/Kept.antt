@@ -1,9 +1,9 @@
 -- That each kind of event keeps a configuration in order.
 -- Names: `WHAT-keeps`.
-use Rattle.std.specs.Prelude.{◌≡◌, ℕ, zero, suc, ◌+◌, ◌-◌, ◌==◌, ◌≤◌, ◌<◌, Bool, true, false, ◌&&◌, leb, ltb, List, [], ◌∷◌, Some, length, is_some}
+use Rattle.std.specs.Prelude.{◌≡◌, ℕ, zero, suc, ◌+◌, ◌-◌, ◌==◌, ◌≤◌, ◌<◌, Bool, true, false, cond, ◌&&◌, leb, ltb, List, [], ◌∷◌, Some, None, length, is_some}
 use Rattle.std.specs.List.{AllByRecursion}
 use Rattle.std.proofs.Common.{sym, ap, ◌∙◌, refl, subst, inl, inr, arith}
-use Rattle.std.proofs.lemmas.Bool.{and_parts, or_left, or_right}
+use Rattle.std.proofs.lemmas.Bool.{and_parts, cond-true, or_left, or_right}
 use Rattle.std.proofs.lemmas.Bool.Decides.{nat_tests}
 use Rattle.sf_base.proofs.HeapSplits.{at-self}
 use Rattle.sf_base.specs.declared.ids.ResId.{ResId}
@@ -11,13 +11,14 @@ use Rattle.sf_base.specs.declared.limits.TheConstants.{TURNS}
 use Rattle.sf_base.specs.declared.path.Turn.TheVariants.{Left as left, Right as right}
 use Rattle.sf_base.specs.HeapStore.{Slot, shared, own}
 use Rattle.sf_core.specs.Machine.Config.{Item, command, leave, items, Room, in_room, Fixed, Frame, Task, runs, waits, Path, Common, Config, task_at, put_task, adds, IsCalled, IsOver}
-use Rattle.sf_core.specs.Checked.Machine.InOrder.{EachStack, stack_of, ItemWithin, FrameIsFormed, exits, regions, is_outer, rooms_with, times_there, with_rooms, NamesInTree, EndsInEntry, WaitersHaveFrames, HasTurns, IsInOrder}
+use Rattle.sf_core.specs.Checked.Machine.InOrder.{EachStack, stack_of, ItemWithin, FrameIsFormed, exits, throughout, regions, is_outer, rooms_with, times_there, with_rooms, NamesInTree, EndsInEntry, WaitersHaveFrames, HasTurns, IsInOrder}
 use Rattle.sf_core.specs.Machine.Next.{frame_next}
-use Rattle.sf_core.specs.Machine.Step.{Event, index_of, close_room, arguments, room_for, room_count, callee_frame, fork_task, task_with, procedure_at, Goes, TaskStep, Step}
-use Rattle.sf_core.specs.Program.Formed.{IsFormed}
+use Rattle.sf_core.specs.Machine.Step.{Event, index_of, returned, arguments, room_for, room_count, callee_frame, fork_task, task_with, procedure_at, Goes, TaskStep, Step}
+use Rattle.sf_core.specs.Program.Formed.{CallWithin, IsFormed}
+use Rattle.sf_core.specs.Program.Init.{sets_up}
 use Rattle.sf_core.specs.Program.Syntax.{Call, Command, Procedure, Program}
 use Rattle.sf_core.proofs.Machine.InOrder.Names.{callee-names}
-use Rattle.sf_core.proofs.Machine.InOrder.Regions.{HoldsRegions, holds-same, holds-goes_on}
+use Rattle.sf_core.proofs.Machine.InOrder.Regions.{HoldsRegions, holds-same, holds-goes_on, holds-freed}
 use Rattle.sf_core.proofs.Machine.InOrder.Shapes.{SetsVariable, Hands, same, enters, exits_one, GoesOn, CallsOne, CallsTwo, block-within, block-exits, command-shape, exit-shape}
 use Rattle.sf_core.proofs.Machine.InOrder.Slots.{Counts, one_if, counts-of, counts-disjoint, counts-store, counts-there, counts-same, counts-opened, counts-opened_two, counts-closed, fresh-slot, is_some-set, NamesAt, names-at, names-there}
 use Rattle.sf_core.proofs.Machine.InOrder.Trees.{bottom-at, bottom-put, bottom-return, bottom-todo, each-at, each-put, each-map, waiting-put, turns-put, names-put, regions-put}
@@ -46,7 +47,7 @@ module _ (p : Program) (g0 : Procedure) (c : Config) (o : IsInOrder p g0 c) wher
   formed-now path from e = each-at (AllByRecursion (FrameIsFormed p)) path c.tasks from e o.formed
 
   -- the regions of each task
-  pub regions-now : HoldsRegions c.common.held c.tasks
+  pub regions-now : HoldsRegions p c.common.held c.tasks
   regions-now = record { inside = o.inside; outside = o.outside }
 
   module _ (formed : IsFormed p) (ev : Event) (new : c.used ev.number ≡ false) (t : Common) where
@@ -76,7 +77,7 @@ module _ (p : Program) (g0 : Procedure) (c : Config) (o : IsInOrder p g0 c) wher
 
     -- a configuration in order from what is said of the task that is put
     builds : (from u : Task) → task_at ev.task c.tasks ≡ Some from
-        → EachStack (AllByRecursion (FrameIsFormed p)) u → HoldsRegions t.held (put_task ev.task u c.tasks)
+        → EachStack (AllByRecursion (FrameIsFormed p)) u → HoldsRegions p t.held (put_task ev.task u c.tasks)
         → EachStack HasNumbers u → Counts p g0 t.store (put_task ev.task u c.tasks)
         → ((s : Slot → Bool) → NamesInTree p s from → NamesInTree p s u)
         → (ev.task ≡ [] → EndsInEntry g0 (stack_of (Some u))) → WaitersHaveFrames u
@@ -101,6 +102,11 @@ module _ (p : Program) (g0 : Procedure) (c : Config) (o : IsInOrder p g0 c) wher
     bottom-now : (from : Task) → task_at ev.task c.tasks ≡ Some from → ev.task ≡ []
         → EndsInEntry g0 (stack_of (Some from))
     bottom-now from e top = bottom-at g0 ev.task c.tasks from top e o.bottom
+
+    -- a procedure that is called sets no resources up
+    callee-plain : {g : Procedure} (call : Call) → CallWithin p g call → (r : ResId)
+        → cond {A = ℕ} (sets_up p call.callee && ltb r.0 (length p.resources)) 1 0 ≡ 0
+    callee-plain call within r = ap (λ b. cond (b && ltb r.0 (length p.resources)) 1 0) within.no_init
 
     -- the frame of a call is formed
     callee-formed : (call : Call) (h : Procedure) (f : Fixed) (room : Room)
@@ -132,7 +138,7 @@ module _ (p : Program) (g0 : Procedure) (c : Config) (o : IsInOrder p g0 c) wher
         subst (λ z. IsInOrder p g0 (after z)) (sym k.is)
         (builds (runs (record { fixed = f; todo = old } ∷ below)) (task_with f k.todo below) e
         (record { procedure = g; there = i; todo = k.within }, others)
-        (holds-goes_on f below old k.todo ev.task c.tasks e c.common t regions-now k.hands)
+        (holds-goes_on p f below old k.todo ev.task c.tasks e c.common t regions-now k.hands)
         (numbers-now (runs (record { fixed = f; todo = old } ∷ below)) e)
         (counts-same p g0 c.common.store t.store ev.task c.tasks
         (runs (record { fixed = f; todo = old } ∷ below)) (task_with f k.todo below) e counts-now
@@ -151,9 +157,9 @@ module _ (p : Program) (g0 : Procedure) (c : Config) (o : IsInOrder p g0 c) wher
         subst (λ z. IsInOrder p g0 (after z)) (sym k.is)
         (builds from (runs (top ∷ mine ∷ below)) e
         (callee-formed k.c k.h f room k.there, (record { procedure = g; there = i; todo = todo }, others))
-        (holds-same c.common.held t.held c.tasks (put_task ev.task (runs (top ∷ mine ∷ below)) c.tasks)
+        (holds-same p c.common.held t.held c.tasks (put_task ev.task (runs (top ∷ mine ∷ below)) c.tasks)
         regions-now (ap (λ (z : Common). z.held) k.common)
-        (λ r. regions-put r ev.task c.tasks from (runs (top ∷ mine ∷ below)) e (same-regions r)))
+        (λ r. regions-put p r ev.task c.tasks from (runs (top ∷ mine ∷ below)) e (same-regions r)))
         (now-used, numbers-now from e)
         (counts-opened p g0 c.common.store t.store ev.task c.tasks from (runs (top ∷ mine ∷ below)) room
         (λ slot. arguments f.slots c.common.store k.c (index_of slot - room.first)) e counts-now
@@ -174,10 +180,11 @@ module _ (p : Program) (g0 : Procedure) (c : Config) (o : IsInOrder p g0 c) wher
         from : Task
         from = runs (record { fixed = f; todo = command cmd ∷ rest } ∷ below)
 
-        same-regions : (r : ResId) (path : Path) → regions r (stack_of (task_at path (runs (top ∷ mine ∷ below))))
-            ≡ regions r (stack_of (task_at path from))
+        same-regions : (r : ResId) (path : Path) → regions p r (stack_of (task_at path (runs (top ∷ mine ∷ below))))
+            ≡ regions p r (stack_of (task_at path from))
         same-regions r [] =
             let none : exits r (items k.h.body) ≡ 0 = block-exits r k.h.body in
+            let plain : throughout p r top.fixed ≡ 0 = callee-plain k.c k.within r in
             omega arith
         same-regions r (left ∷ path) = refl
         same-regions r (right ∷ path) = refl
@@ -196,9 +203,9 @@ module _ (p : Program) (g0 : Procedure) (c : Config) (o : IsInOrder p g0 c) wher
           (callee-formed k.c k.h f one k.there, tt),
           (callee-formed k.d k.k f two k.there_right, tt),
         )
-        (holds-same c.common.held t.held c.tasks (put_task ev.task both c.tasks)
+        (holds-same p c.common.held t.held c.tasks (put_task ev.task both c.tasks)
         regions-now (ap (λ (z : Common). z.held) k.common)
-        (λ r. regions-put r ev.task c.tasks from both e (same-regions r)))
+        (λ r. regions-put p r ev.task c.tasks from both e (same-regions r)))
         (numbers-now from e, (now-used, tt), (now-used, tt))
         (counts-opened_two p g0 c.common.store t.store ev.task c.tasks from both one two
         (λ slot. arguments f.slots c.common.store k.c (index_of slot - one.first))
@@ -233,19 +240,21 @@ module _ (p : Program) (g0 : Procedure) (c : Config) (o : IsInOrder p g0 c) wher
         both : Task
         both = fork_task f.slots k.c k.h k.d k.k ev.number (mine ∷ below)
 
-        body-regions : (r : ResId) (h : Procedure) →
-            exits r (items h.body) + 0 ≡ 0
-        body-regions r h =
+        body-regions : (r : ResId) (call : Call) (h : Procedure) → CallWithin p g call
+            → (cond (sets_up p call.callee && ltb r.0 (length p.resources)) 1 0 + exits r (items h.body)) + 0 ≡ 0
+        body-regions r call h within =
             let none : exits r (items h.body) ≡ 0 = block-exits r h.body in
+            let plain : cond {A = ℕ} (sets_up p call.callee && ltb r.0 (length p.resources)) 1 0 ≡ 0 =
+            callee-plain call within r in
             omega arith
 
-        same-regions : (r : ResId) (path : Path) → regions r (stack_of (task_at path both))
-            ≡ regions r (stack_of (task_at path from))
+        same-regions : (r : ResId) (path : Path) → regions p r (stack_of (task_at path both))
+            ≡ regions p r (stack_of (task_at path from))
         same-regions r [] = refl
-        same-regions r (left ∷ []) = body-regions r k.h
+        same-regions r (left ∷ []) = body-regions r k.c k.h k.within
         same-regions r (left ∷ left ∷ path) = refl
         same-regions r (left ∷ right ∷ path) = refl
-        same-regions r (right ∷ []) = body-regions r k.k
+        same-regions r (right ∷ []) = body-regions r k.d k.k k.within_right
         same-regions r (right ∷ left ∷ path) = refl
         same-regions r (right ∷ right ∷ path) = refl
 
@@ -275,13 +284,11 @@ module _ (p : Program) (g0 : Procedure) (c : Config) (o : IsInOrder p g0 c) wher
     -- a return
     pub return-keeps : (f : Fixed) (below : List Frame)
         → task_at ev.task c.tasks ≡ Some (runs (record { fixed = f; todo = [] } ∷ below))
-        → AllByRecursion (FrameIsFormed p) below → IsCalled ev.task below → t ≡ close_room f.room c.common
+        → AllByRecursion (FrameIsFormed p) below → IsCalled ev.task below → t ≡ returned p f c.common
         → IsInOrder p g0 (after (runs below))
     return-keeps f below e others called k =
         builds from (runs below) e others
-        (holds-same c.common.held t.held c.tasks (put_task ev.task (runs below) c.tasks) regions-now
-        (ap (λ (z : Common). z.held) k)
-        (λ r. regions-put r ev.task c.tasks from (runs below) e (same-regions r)))
+        (holders (sets_up p f.procedure) refl)
         (numbers-now from e).1
         (counts-closed p g0 c.common.store t.store ev.task c.tasks from (runs below) f.room e counts-now
         (λ slot. refl) (λ slot. ap (λ (z : Common). z.store slot) k)) (λ s n. n.1)
@@ -291,11 +298,21 @@ module _ (p : Program) (g0 : Procedure) (c : Config) (o : IsInOrder p g0 c) wher
         from : Task
         from = runs (record { fixed = f; todo = [] } ∷ below)
 
-        same-regions : (r : ResId) (path : Path) → regions r (stack_of (task_at path (runs below)))
-            ≡ regions r (stack_of (task_at path from))
-        same-regions r [] = omega arith
-        same-regions r (left ∷ path) = refl
-        same-regions r (right ∷ path) = refl
+        same-regions : (r : ResId) → throughout p r f ≡ 0 → (path : Path)
+            → regions p r (stack_of (task_at path (runs below))) ≡ regions p r (stack_of (task_at path from))
+        same-regions r plain [] = omega arith
+        same-regions r plain (left ∷ path) = refl
+        same-regions r plain (right ∷ path) = refl
+
+        holders : (b : Bool) → sets_up p f.procedure ≡ b
+            → HoldsRegions p t.held (put_task ev.task (runs below) c.tasks)
+        holders true sets = holds-freed p f below ev.task c.tasks e sets o.formed c.common.held regions-now t.held
+            (λ r. ap (λ (z : Common). z.held r) k ∙ cond-true (sets_up p f.procedure) None (c.common.held r) sets)
+        holders false sets =
+            holds-same p c.common.held t.held c.tasks (put_task ev.task (runs below) c.tasks) regions-now
+            (ap (λ (z : Common). z.held) k ∙ (λ i r. cond (sets i) None (c.common.held r)))
+            (λ r. regions-put p r ev.task c.tasks from (runs below) e
+            (same-regions r (ap (λ b. cond (b && ltb r.0 (length p.resources)) 1 0) sets)))
 
     -- a join
     pub join-keeps : (frames : List Frame) (one two : Task)
@@ -303,16 +320,16 @@ module _ (p : Program) (g0 : Procedure) (c : Config) (o : IsInOrder p g0 c) wher
         → IsInOrder p g0 (after (runs frames))
     join-keeps frames one two e done also k =
         builds (waits frames one two) (runs frames) e (formed-now ev.task (waits frames one two) e).0
-        (holds-same c.common.held t.held c.tasks (put_task ev.task (runs frames) c.tasks) regions-now
+        (holds-same p c.common.held t.held c.tasks (put_task ev.task (runs frames) c.tasks) regions-now
         (ap (λ (z : Common). z.held) k)
-        (λ r. regions-put r ev.task c.tasks (waits frames one two) (runs frames) e (same-regions r)))
+        (λ r. regions-put p r ev.task c.tasks (waits frames one two) (runs frames) e (same-regions r)))
         (numbers-now (waits frames one two) e).0
         (counts-same p g0 c.common.store t.store ev.task c.tasks (waits frames one two) (runs frames) e counts-now
         rooms (λ slot. ap (λ (z : Common). is_some (z.store slot)) k)) (λ s n. n.0)
         (bottom-now (waits frames one two) e) tt (λ m j. tt)
       where
         over-regions : (r : ResId) (path : Path) (task : Task) → IsOver task
-            → 0 ≡ regions r (stack_of (task_at path task))
+            → 0 ≡ regions p r (stack_of (task_at path task))
         over-regions r [] (runs []) h = refl
         over-regions r (left ∷ path) (runs []) h = refl
         over-regions r (right ∷ path) (runs []) h = refl
@@ -324,8 +341,8 @@ module _ (p : Program) (g0 : Procedure) (c : Config) (o : IsInOrder p g0 c) wher
         over-rooms slot (runs (f ∷ below)) h = absurd h
         over-rooms slot (waits fs a b) h = absurd h
 
-        same-regions : (r : ResId) (path : Path) → regions r (stack_of (task_at path (runs frames)))
-            ≡ regions r (stack_of (task_at path (waits frames one two)))
+        same-regions : (r : ResId) (path : Path) → regions p r (stack_of (task_at path (runs frames)))
+            ≡ regions p r (stack_of (task_at path (waits frames one two)))
         same-regions r [] = refl
         same-regions r (left ∷ path) = over-regions r path one done
         same-regions r (right ∷ path) = over-regions r path two also

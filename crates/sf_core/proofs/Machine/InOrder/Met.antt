@@ -16,7 +16,7 @@ use Rattle.sf_core.specs.declared.command.Expr.TheVariants.{Var as Variable, Nil
 use Rattle.sf_base.specs.HeapStore.{Slot, Store}
 use Rattle.sf_core.specs.Machine.Config.{Item, command, leave, in_room, Fixed, Frame, Task, runs, waits, Path, Config, task_at}
 use Rattle.sf_core.specs.Machine.Enabled.{variable, ReadsExpr, ReadsTest, ReadsAll, IsCellAt, CommandReads, CommandWrites, Reads, Writes}
-use Rattle.sf_core.specs.Checked.Machine.InOrder.{exits, regions, stack_of, IsInOrder}
+use Rattle.sf_core.specs.Checked.Machine.InOrder.{exits, regions, throughout, stack_of, IsInOrder}
 use Rattle.sf_core.specs.Checked.Machine.Laws.{CommandStops, Stops, CommandMayStop, MayStop}
 use Rattle.sf_core.specs.Machine.Next.{frame_next, next}
 use Rattle.sf_core.specs.Machine.Step.{procedure_at, task_with}
@@ -158,9 +158,9 @@ module _ (p : Program) (g0 : Procedure) (c : Config) (path : Path) (o : IsInOrde
   exit-held f below r rest e = elim (holder-or_not (c.common.held r) path) [
     | inl h ↦ h
     | inr n ↦
-        let none : regions r (stack_of (task_at path c.tasks)) ≡ 0 = o.outside r path n in
-        let some : regions r (stack_of (task_at path c.tasks))
-        ≡ (one_if (r.0 == r.0) + exits r rest) + regions r below = ap (λ z. regions r (stack_of z)) e in
+        let none : regions p r (stack_of (task_at path c.tasks)) ≡ 0 = o.outside r path n in
+        let some : regions p r (stack_of (task_at path c.tasks))
+        ≡ (throughout p r f + (one_if (r.0 == r.0) + exits r rest)) + regions p r below = ap (λ z. regions p r (stack_of z)) e in
         let one : one_if (r.0 == r.0) ≡ 1 = ap one_if (at-self r.0) in
         absurd (omega (arith, none, some, one))
   ]

@@ -138,14 +138,14 @@ rooms-put slot (right ∷ path) (waits frames one two) from u e =
     ≡ rooms_with slot two + rooms_with slot u = rooms-put slot path two from u e in
     omega arith
 
-module _ (r : ResId) (u : Task) where
+module _ (p : Program) (r : ResId) (u : Task) where
   regions-other : (other path : Path) (t from : Task) → task_at path t ≡ Some from → other ≢ path
       → ((turn : Turn) (rest : Path)
-      → regions r (stack_of (task_at (turn ∷ rest) u)) ≡ regions r (stack_of (task_at (turn ∷ rest) from)))
-      → regions r (stack_of (task_at other (put_task path u t))) ≡ regions r (stack_of (task_at other t))
+      → regions p r (stack_of (task_at (turn ∷ rest) u)) ≡ regions p r (stack_of (task_at (turn ∷ rest) from)))
+      → regions p r (stack_of (task_at other (put_task path u t))) ≡ regions p r (stack_of (task_at other t))
   regions-other [] [] t from e n f = absurd (n refl)
   regions-other (turn ∷ other) [] t from e n f =
-      f turn other ∙ ap (λ z. regions r (stack_of (task_at (turn ∷ other) z))) (sym (same_Some t from e))
+      f turn other ∙ ap (λ z. regions p r (stack_of (task_at (turn ∷ other) z))) (sym (same_Some t from e))
   regions-other other (left ∷ path) (runs frames) from e n f = absurd (cc)
   regions-other other (right ∷ path) (runs frames) from e n f = absurd (cc)
   regions-other [] (left ∷ path) (waits frames one two) from e n f = refl
@@ -158,24 +158,24 @@ module _ (r : ResId) (u : Task) where
       regions-other other path two from e (λ i. n (ap (λ z. right ∷ z) i)) f
 
 -- where the new task's regions are those of the old one, so are those of the tree
-pub regions-put : (r : ResId) (path : Path) (t from u : Task) → task_at path t ≡ Some from
-    → ((rest : Path) → regions r (stack_of (task_at rest u)) ≡ regions r (stack_of (task_at rest from)))
+pub regions-put : (p : Program) (r : ResId) (path : Path) (t from u : Task) → task_at path t ≡ Some from
+    → ((rest : Path) → regions p r (stack_of (task_at rest u)) ≡ regions p r (stack_of (task_at rest from)))
     → (other : Path)
-    → regions r (stack_of (task_at other (put_task path u t))) ≡ regions r (stack_of (task_at other t))
-regions-put r path t from u e f other = elim (path-or_not other path) [
-  | inr n ↦ regions-other r u other path t from e n (λ turn rest. f (turn ∷ rest))
-  | inl i ↦ ap (λ z. regions r (stack_of (task_at z (put_task path u t)))) i
-      ∙ ap (λ z. regions r (stack_of z)) (task_at-put path t from u e) ∙ f []
-      ∙ ap (λ z. regions r (stack_of z)) (sym e) ∙ ap (λ z. regions r (stack_of (task_at z t))) (sym i)
+    → regions p r (stack_of (task_at other (put_task path u t))) ≡ regions p r (stack_of (task_at other t))
+regions-put p r path t from u e f other = elim (path-or_not other path) [
+  | inr n ↦ regions-other p r u other path t from e n (λ turn rest. f (turn ∷ rest))
+  | inl i ↦ ap (λ z. regions p r (stack_of (task_at z (put_task path u t)))) i
+      ∙ ap (λ z. regions p r (stack_of z)) (task_at-put path t from u e) ∙ f []
+      ∙ ap (λ z. regions p r (stack_of z)) (sym e) ∙ ap (λ z. regions p r (stack_of (task_at z t))) (sym i)
 ]
 
 -- the regions of tasks at other paths, where both tasks run
-pub regions-elsewhere : (r : ResId) (path : Path) (t : Task) (fs gs : List Frame) (other : Path)
+pub regions-elsewhere : (p : Program) (r : ResId) (path : Path) (t : Task) (fs gs : List Frame) (other : Path)
     → task_at path t ≡ Some (runs fs) → other ≢ path
-    → regions r (stack_of (task_at other (put_task path (runs gs) t))) ≡ regions r (stack_of (task_at other t))
-regions-elsewhere r path t fs gs other e n = regions-other r (runs gs) other path t (runs fs) e n none
+    → regions p r (stack_of (task_at other (put_task path (runs gs) t))) ≡ regions p r (stack_of (task_at other t))
+regions-elsewhere p r path t fs gs other e n = regions-other p r (runs gs) other path t (runs fs) e n none
   where
-    none : (turn : Turn) (rest : Path) → regions r (stack_of (task_at (turn ∷ rest) (runs gs)))
-        ≡ regions r (stack_of (task_at (turn ∷ rest) (runs fs)))
+    none : (turn : Turn) (rest : Path) → regions p r (stack_of (task_at (turn ∷ rest) (runs gs)))
+        ≡ regions p r (stack_of (task_at (turn ∷ rest) (runs fs)))
     none left rest = refl
     none right rest = refl

@@ -20,7 +20,7 @@ use Rattle.sf_core.specs.Machine.Enabled.{HasEnded, IsEnabled}
 use Rattle.sf_core.specs.Machine.Good.{Good}
 use Rattle.sf_base.specs.HeapStore.{Cell, put_field, Heap, IsEmpty, IsOne, Slot, shared, own, same_slot, Store}
 use Rattle.sf_core.specs.Machine.Reach.{Reach}
-use Rattle.sf_core.specs.Machine.Start.{Start, initial_config, entry_frame, entry_slot}
+use Rattle.sf_core.specs.Machine.Start.{Start, settled, initial_config, entry_frame, entry_slot}
 use Rattle.sf_core.specs.Machine.Step.{Event, Step, room_for, slots_of, task_with}
 use Rattle.sf_core.specs.Program.Syntax.{points, level, none, also, Call, assign, look_up, mutate, new, dispose, if, while, call, fork, with, Block, done, then, Assertion, Procedure, Program, Resource}
 
@@ -105,7 +105,7 @@ event path number = record { task = path; number = number; at = 0; fields = λ f
 
 -- `main` starts at the one cell
 abbrev pub setting_start : Cell → Config
-setting_start k = initial_config setting (record { 0 = 0 }) main (one_in (loc 1)) (one_at k)
+setting_start k = initial_config settled setting (record { 0 = 0 }) main (one_in (loc 1)) (one_at k)
 
 -- that is a start
 unfoldable pub SettingStarts : Type 0
@@ -245,7 +245,7 @@ forking = record { fields = codes "hd" ∷ []; resources = []; procedures = fork
 
 -- `forks` starts with no variables and no cells
 abbrev pub forking_start : Config
-forking_start = initial_config forking (record { 0 = 0 }) forks (λ slot. None) (λ a. None)
+forking_start = initial_config settled forking (record { 0 = 0 }) forks (λ slot. None) (λ a. None)
 
 -- the children of a fork may end in either order, and then the parent joins them and the entry has ended
 unfoldable pub ChildrenEndInAnyOrder : Type 0
@@ -279,7 +279,7 @@ filling = record { fields = codes "hd" ∷ []; resources = []; procedures = pair
 
 -- `pair` starts with its two variables at nil
 abbrev pub filling_start : Config
-filling_start = initial_config filling (record { 0 = 0 }) pair
+filling_start = initial_config settled filling (record { 0 = 0 }) pair
     (λ slot. cond (same_slot slot (own 0 0)) (Some nil) (cond (same_slot slot (own 0 1)) (Some nil) None))
     (λ a. None)
 
@@ -322,7 +322,7 @@ passing = record { fields = codes "hd" ∷ []; resources = []; procedures = pass
 
 -- `passes` starts with its variable at nil
 abbrev pub passing_start : Config
-passing_start = initial_config passing (record { 0 = 0 }) passes (one_in nil) (λ a. None)
+passing_start = initial_config settled passing (record { 0 = 0 }) passes (one_in nil) (λ a. None)
 
 -- a reference that is passed on as a reference is still the first caller's variable: two calls, an assignment
 -- and two returns set it
@@ -509,7 +509,7 @@ EndedWhileHeldIsNotGood = (c : Config) (path : Path) → HasEnded [] c.tasks →
 -- `skip` starts at the one cell of the invariant
 unfoldable pub SkipStartsWithTheInvariant : Type 0
 SkipStartsWithTheInvariant = (k : Cell) → Start guarded (record { 0 = 0 }) (shared_in (loc 1)) (one_at k)
-    (initial_config guarded (record { 0 = 0 }) skip (shared_in (loc 1)) (one_at k))
+    (initial_config settled guarded (record { 0 = 0 }) skip (shared_in (loc 1)) (one_at k))
 
 -- it starts with no other heap than one cell where the variable of the resource says
 unfoldable pub SkipStartsWithNothingElse : Type 0
@@ -601,7 +601,7 @@ setting_twice = record { fields = codes "hd" ∷ []; resources = []; procedures 
 
 -- `twice` starts at the one cell
 abbrev pub twice_start : Cell → Config
-twice_start k = initial_config setting_twice (record { 0 = 0 }) twice (one_in (loc 1)) (one_at k)
+twice_start k = initial_config settled setting_twice (record { 0 = 0 }) twice (one_in (loc 1)) (one_at k)
 
 -- the slot of the first call, which has returned, is gone, and the second call has another
 pub record HasNewRoom (number : ℕ) (d : Config) : Type 0 where

@@ -12,6 +12,7 @@ use Rattle.sf_core.specs.Machine.Config.{Item, command, leave, in_room, Fixed, F
 use Rattle.sf_core.specs.Machine.Start.{entry_slot}
 use Rattle.sf_core.specs.Machine.Step.{procedure_at, room_for}
 use Rattle.sf_core.specs.Program.Formed.{variable_count, IsInBody, CommandWithin}
+use Rattle.sf_core.specs.Program.Init.{sets_up}
 use Rattle.sf_core.specs.Program.Syntax.{Procedure, Program}
 
 -- Stacks of frames
@@ -45,10 +46,14 @@ exits r [] = 0
 exits r (command c ∷ todo) = exits r todo
 exits r (leave q ∷ todo) = cond (q.0 == r.0) 1 0 + exits r todo
 
--- how many regions of that resource a task with these frames is inside of
-abbrev pub regions : ResId → List Frame → ℕ
-regions r [] = 0
-regions r (f ∷ frames) = exits r f.todo + regions r frames
+-- how often the frame has that resource of the program apart from regions: once where its procedure sets them all up
+abbrev pub throughout : Program → ResId → Fixed → ℕ
+throughout p r f = cond (sets_up p f.procedure && ltb r.0 (length p.resources)) 1 0
+
+-- how often a task with these frames has that resource: by the regions that it is inside of, or since it sets them up
+abbrev pub regions : Program → ResId → List Frame → ℕ
+regions p r [] = 0
+regions p r (f ∷ frames) = (throughout p r f.fixed + exits r f.todo) + regions p r frames
 
 -- Slots
 -- the slot is one of the entry's references, or of a variable of a resource: it is in no frame's room
@@ -115,12 +120,12 @@ EndsInEntry g (f ∷ h ∷ below) = EndsInEntry g (h ∷ below)
 pub record IsInOrder (p : Program) (entry : Procedure) (c : Config) : Type 0 where
   -- each frame's procedure is there, and what is to do is well formed for it
   pub formed : EachStack (AllByRecursion (FrameIsFormed p)) c.tasks
-  -- a task is inside of one region of each resource that it holds
+  -- a task is inside of one region of each resource that it holds, or sets it up
   pub inside : (r : ResId) (path : Path) → c.common.held r ≡ Some path
-      → regions r (stack_of (task_at path c.tasks)) ≡ 1
+      → regions p r (stack_of (task_at path c.tasks)) ≡ 1
   -- and of no others
   pub outside : (r : ResId) (path : Path) → c.common.held r ≢ Some path
-      → regions r (stack_of (task_at path c.tasks)) ≡ 0
+      → regions p r (stack_of (task_at path c.tasks)) ≡ 0
   -- rooms are of used numbers
   pub numbers : EachStack (AllByRecursion (λ f. c.used f.fixed.room.event ≡ true)) c.tasks
   -- the start's number is used

@@ -17,6 +17,7 @@ use Rattle.sf_base.specs.HeapStore.{Heap, Slot, Splits, Store}
 use Rattle.sf_core.specs.Machine.Reach.{Reach}
 use Rattle.sf_core.specs.Assertions.Sat.{IsTrueOf}
 use Rattle.sf_core.specs.Machine.Step.{Event, TaskStep, Step, procedure_at, room_count, room_for, task_with}
+use Rattle.sf_core.specs.Program.Init.{sets_up}
 use Rattle.sf_core.specs.Program.Syntax.{Command, assign, look_up, mutate, new, dispose, if, while, call, fork, with, Procedure, Program}
 
 -- what the event of a command makes: the cell of a `new`, or the rooms of the callee of a call or of those of
@@ -55,18 +56,23 @@ abbrev pub Enters : Command → ResId → Type 0
 Enters (with place q test body) r = r ≡ q
 Enters _ r = ⊥
 
--- what comes next enters a region of that resource, or leaves one: no other resource changes hands
-abbrev pub Moves : Next → ResId → Type 0
-Moves (does f below c rest) r = Enters c r
-Moves (leaves f below q rest) r = r ≡ q
-Moves (returns f below) r = ⊥
-Moves (joins frames one two) r = ⊥
-Moves nothing r = ⊥
+-- what comes next enters a region of that resource, or leaves one, or makes every resource free since all are set up: no
+-- other resource changes hands
+abbrev pub Moves : Program → Next → ResId → Type 0
+Moves p (does f below c rest) r = Enters c r
+Moves p (leaves f below q rest) r = r ≡ q
+Moves p (returns f below) r = sets_up p f.procedure ≡ true
+Moves p (joins frames one two) r = ⊥
+Moves p nothing r = ⊥
 
--- the holder of a resource that changes hands: the task took it when it was free, or gave it back
-abbrev pub HolderChanges : Path → (before after : Option Path) → Type 0
-HolderChanges path before after = ((before ≡ None) × (after ≡ Some path))
-    ⊎ ((before ≡ Some path) × (after ≡ None))
+-- the holder of a resource that changes hands: the task took it when it was free, or gave it back; or all are free from
+-- then on
+abbrev pub HolderChanges : Path → Next → (before after : Option Path) → Type 0
+HolderChanges path (does f below c rest) before after = (before ≡ None) × (after ≡ Some path)
+HolderChanges path (leaves f below q rest) before after = (before ≡ Some path) × (after ≡ None)
+HolderChanges path (returns f below) before after = after ≡ None
+HolderChanges path (joins frames one two) before after = ⊥
+HolderChanges path nothing before after = ⊥
 
 -- all that an event can change of what is shared
 pub record ChangesOnlyFootprint (p : Program) (event : Event) (what : Next) (before after : Common) : Type 0 where
@@ -75,8 +81,8 @@ pub record ChangesOnlyFootprint (p : Program) (event : Event) (what : Next) (bef
   pub cells : (location : ℕ) → IsLeft p event before.store what (cell location)
       → after.heap location ≡ before.heap location
   pub absent : (location : ℕ) → Makes p event what (cell location) → before.heap location ≡ None
-  pub moved : (r : ResId) → Moves what r → HolderChanges event.task (before.held r) (after.held r)
-  pub kept : (r : ResId) → (Moves what r → ⊥) → after.held r ≡ before.held r
+  pub moved : (r : ResId) → Moves p what r → HolderChanges event.task what (before.held r) (after.held r)
+  pub kept : (r : ResId) → (Moves p what r → ⊥) → after.held r ≡ before.held r
 
 -- a task's step changes what it writes and what it makes, and nothing else
 unfoldable pub StepsWriteOnlyTheirFootprint : Type 0
@@ -95,14 +101,14 @@ pub record AgreesOnReads (p : Program) (event : Event) (what : Next) (here other
   pub read : (thing : Thing) → Reads here.store what thing → AgreeOn here other thing
   pub cells : (location : ℕ) → Writes here.store what (cell location) ⊎ Makes p event what (cell location)
       → AgreeOn here other (cell location)
-  pub holders : (r : ResId) → Moves what r → here.held r ≡ other.held r
+  pub holders : (r : ResId) → Moves p what r → here.held r ≡ other.held r
 
 -- what an event writes, makes and moves is the same in both states after it, and so is what was the same
 -- before
 pub record AgreesAfter (p : Program) (event : Event) (what : Next) (here other after also : Common) : Type 0 where
   pub things : (thing : Thing) → (Writes here.store what thing ⊎ Makes p event what thing)
       ⊎ AgreeOn here other thing → AgreeOn after also thing
-  pub holders : (r : ResId) → Moves what r ⊎ (here.held r ≡ other.held r) → after.held r ≡ also.held r
+  pub holders : (r : ResId) → Moves p what r ⊎ (here.held r ≡ other.held r) → after.held r ≡ also.held r
 
 -- a task's step rests on what it reads, on the cells that it writes or makes, and on the holder of the resource
 -- that it enters or leaves: where another state agrees on these, there is the same step, to the same task
@@ -126,7 +132,7 @@ pub record AreIndependent (p : Program) (one two : Event) (store : Store) (this 
   pub first : (thing : Thing) → Writes store this thing ⊎ Makes p one this thing
       → Reads store that thing ⊎ (Writes store that thing ⊎ Makes p two that thing) → ⊥
   pub second : (thing : Thing) → Writes store that thing ⊎ Makes p two that thing → Reads store this thing → ⊥
-  pub hands : (r : ResId) → Moves this r → Moves that r → ⊥
+  pub hands : (r : ResId) → Moves p this r → Moves p that r → ⊥
 
 -- steps of different tasks commute where they are independent: the other order leads to the same configuration
 unfoldable pub StepsCommute : Type 0
@@ -148,15 +154,15 @@ pub record IsOfPart (p : Program) (event : Event) (what : Next) (whole part : Co
   pub changed : (slot : Slot) → Writes part.store what (variable slot) ⊎ Makes p event what (variable slot)
       → variables slot ≡ None
   pub made : (location : ℕ) → Makes p event what (cell location) → cells location ≡ None
-  pub holder : (r : ResId) → Moves what r → part.held r ≡ whole.held r
+  pub holder : (r : ResId) → Moves p what r → part.held r ≡ whole.held r
 
 -- the whole splits after an event as before, with the same rest, and of its resources only the one that the event
 -- moves changes hands, as in the part
-pub record KeepsRest (what : Next) (whole whole_after part_after : Common) (cells : Heap)
+pub record KeepsRest (p : Program) (what : Next) (whole whole_after part_after : Common) (cells : Heap)
     (variables : Store) : Type 0 where
   pub splits : HasPart whole_after part_after cells variables
-  pub moved : (r : ResId) → Moves what r → whole_after.held r ≡ part_after.held r
-  pub kept : (r : ResId) → (Moves what r → ⊥) → whole_after.held r ≡ whole.held r
+  pub moved : (r : ResId) → Moves p what r → whole_after.held r ≡ part_after.held r
+  pub kept : (r : ResId) → (Moves p what r → ⊥) → whole_after.held r ≡ whole.held r
 
 -- safety is monotone: a step of a part is one of the whole, and leaves the rest.
 -- Yang and O'Hearn, "A Semantic Basis for Local Reasoning" (2002)
@@ -164,7 +170,7 @@ unfoldable pub StepsAreMonotone : Type 0
 StepsAreMonotone = (p : Program) (event : Event) (whole part after : Common) (cells : Heap) (variables : Store)
     (task u : Task) → HasPart whole part cells variables
     → IsOfPart p event (next task) whole part cells variables → TaskStep p event part task after u
-    → (w : Common) × TaskStep p event whole task w u × KeepsRest (next task) whole w after cells variables
+    → (w : Common) × TaskStep p event whole task w u × KeepsRest p (next task) whole w after cells variables
 
 -- the frame property: where a part is not about to touch an absent cell, a step of the whole is one of the part,
 -- and leaves the rest.
@@ -174,7 +180,7 @@ StepsHaveFrames = (p : Program) (event : Event) (whole part after : Common) (cel
     (task u : Task) → HasPart whole part cells variables
     → IsOfPart p event (next task) whole part cells variables → (IsAtNoCell part (next task) → ⊥)
     → TaskStep p event whole task after u
-    → (t : Common) × TaskStep p event part task t u × KeepsRest (next task) whole after t cells variables
+    → (t : Common) × TaskStep p event part task t u × KeepsRest p (next task) whole after t cells variables
 
 -- an event leads to at most one configuration
 unfoldable pub StepsAreDeterministic : Type 0
@@ -334,7 +340,7 @@ OrderedTasksStopOnlyThere = (p : Program) (entry : Procedure) (c : Config) (path
 -- two events don't compete for a resource, nor for a cell that the second makes: the first neither makes it nor
 -- writes it
 pub record DoNotCompete (p : Program) (one two : Event) (store : Store) (this that : Next) : Type 0 where
-  pub hands : (r : ResId) → Moves this r → Moves that r → ⊥
+  pub hands : (r : ResId) → Moves p this r → Moves p that r → ⊥
   pub made : (location : ℕ) → Makes p one this (cell location) → Makes p two that (cell location) → ⊥
   pub written : (location : ℕ) → Writes store this (cell location) → Makes p two that (cell location) → ⊥
 

@@ -1,62 +1,56 @@
-use Rattle.std.proofs.Common.{◌≡◌, ◌∙◌, ◌-◌, List, length, arith, cond, get_or, Some, sym, ap, refl, subst}
-use Rattle.std.proofs.lemmas.Grind.{common_steps}
-use Rattle.std.proofs.lemmas.List.{length-map}
-use Rattle.sf_base.specs.declared.value.Value.{Value}
-use Rattle.sf_base.specs.declared.value.Value.TheVariants.{Nil as nil}
-use Rattle.sf_base.proofs.Options.{some-once}
-use Rattle.sf_core.specs.Machine.Config.{in_room}
-use Rattle.sf_core.specs.Machine.Start.{Start, entry_frame}
-use Rattle.sf_core.specs.Machine.Step.{index_of}
+use Rattle.std.proofs.Common.{◌≡◌, ◌∙◌, ◌<◌, Option, ap, length, refl, subst}
+use Rattle.std.specs.Option.{IfSome}
+use Rattle.sf_base.specs.declared.ids.ProcId.{ProcId}
+use Rattle.sf_core.specs.Machine.Config.{runs}
+use Rattle.sf_core.specs.Machine.Start.{Beginning, first_count, first_frames}
 use Rattle.sf_core.specs.Program.ProgramView.{program_of}
-use Rattle.sf_core.specs.Program.Syntax.{Procedure}
-use Rattle.sf_core.specs.Program.View.{procedure_of, resource_of}
-use Rattle.sf_foot.specs.Starting.{store_of}
+use Rattle.sf_core.specs.Program.View.{procedure_of}
 use Rattle.sf_heap.specs.Cells.{heap_of}
-use Rattle.sf_machine.specs.Checked.Resources.{counts_of}
-use Rattle.sf_machine.specs.Stores.{store_of as code_store}
-use Rattle.sf_machine.specs.Checked.Tasks.{first_slots}
-use Rattle.sf_machine.specs.declared.task.Task.TheVariants.{Runs}
+use Rattle.sf_machine.specs.Checked.Firsts.{beginning_at}
+use Rattle.sf_machine.specs.Configs.{held_of}
+use Rattle.sf_machine.proofs.Plans.{procedure_there}
 use Rattle.sf_machine.proofs.Reaching.{reached_begin}
-use Rattle.sf_machine.proofs.Tables.{begins_as, counts_same, held_none, store_all, tasks_first, used_first}
+use Rattle.sf_machine.proofs.Tables.{begins_as, beginning_kept, holders_same, store_all, used_first}
 use Rattle.sf_machine.proofs.beginning.begin.Goals as goal
 
 pub returns-clause-begins : goal.returns-clause-begins
 returns-clause-begins c =
     let p = program_of c.args.p.now in
-    let g = procedure_of c.proc-procedure.result.now in
-    let same : c.requires.procedure ≡ g =
-    some-once _ c.requires.procedure g c.requires.there c.proc-procedure.ensures.meaning in
-    let start : Start p c.args.f (store_of g c.args.start.vars) (heap_of c.args.start.heap) c.requires.config =
-    subst (λ (z : Procedure). Start p c.args.f (store_of z c.args.start.vars) (heap_of c.args.start.heap)
-    c.requires.config) same c.requires.starts in
-    let n : c.len.result ≡ length c.proc-procedure.result.now.names.items = grind (arith, common_steps) in
+    let s = c.requires in
+    let rs = c.args.p.now.resources.items in
+    let init = c.first_init-init.result in
+    let same : beginning_at p init ≡ s.beginning =
+    ap (beginning_at p) c.first_init-init.ensures.init
+    ∙ beginning_kept c.args.p.now c.args.start.fresh s.beginning s.kind in
     record {
-      procedure = g;
-      there = c.proc-procedure.ensures.meaning;
-      is = begins_as p c.args.f g c.args.start.vars c.args.start.heap (record {
+      procedure = s.procedure;
+      there = s.there;
+      beginning = s.beginning;
+      kind = s.kind;
+      is = begins_as p c.args.f s.procedure s.beginning c.args.start.vars c.args.start.heap (record {
         common = record {
           heap = c.args.start.heap;
-          store = c.add_resources.new.store;
-          held = c.new.result;
+          store = c.in_ok-store.store;
+          held = c.in_ok-held.held;
           alloc = c.args.alloc;
         };
         used = c.insert.new.self;
-        tasks = Runs c.in_ok-frame.frame c.new-2.result;
+        tasks = c.in_ok-tasks.tasks;
       }) refl
-          (store_all p c.args.f g c.args.start.vars (heap_of c.args.start.heap) c.requires.config start c.len.result
-          (length c.args.p.now.resources.items) (counts_of c.args.p.now.resources.items)
-          (code_store c.add_resources.new.store) (code_store c.open.new.store) (code_store c.new-store.result) n
-          (sym (length-map c.args.p.now.resources.items resource_of)) (counts_same c.args.p.now.resources.items)
-          c.new-store.ensures (λ slot. c.in_ok-open.ensures.ok slot
-          ∙ ap (λ (vs : List Value). cond (in_room (first_slots 0 0 c.len.result) slot)
-          (Some (get_or vs (index_of slot - 0) nil)) (code_store c.new-store.result slot)) c.deref.ensures.value)
-          c.in_ok-add_resources.ensures)
-          (held_none c.new.result c.new.ensures.empty)
+          (λ slot. c.in_ok-store.ensures slot
+          ∙ store_all p c.args.f s.beginning s.procedure c.args.start.vars (heap_of c.args.start.heap) s.config s.starts
+          c.first_count.result rs (c.first_count.ensures.count s.procedure s.there
+          ∙ ap (λ (b : Beginning). first_count b s.procedure) same) refl slot)
+          (holders_same p rs init s.beginning c.held_count.result (held_of c.in_ok-held.held) refl same
+          (λ n e. procedure_there procedure_of c.args.p.now.procedures.items n.0
+          (subst (λ (o : Option ProcId). IfSome o (λ m. m.0 < length c.args.p.now.procedures.items)) e
+          c.first_init-init.ensures.within)) c.held_count.ensures c.in_ok-held.ensures)
           (used_first c.new-used.result c.insert.new.self c.new-used.ensures.empty c.in_ok-insert.ensures.updates.0)
-          (tasks_first c.in_ok-frame.frame (entry_frame c.args.f g) c.new-2.result.items c.in_ok-frame.ensures
-          c.new-2.ensures.items);
+          (c.in_ok-tasks.ensures s.procedure s.there
+          ∙ ap (λ (b : Beginning). runs (first_frames b c.args.f s.procedure)) same);
     }
 
 pub returns-clause-reached : goal.returns-clause-reached
-returns-clause-reached c = reached_begin (program_of c.args.p.now) c.args.f c.args.start.vars c.args.start.heap
-    c.args.start.parts.items _ c.requires (returns-clause-begins c)
+unfolding returns-clause-begins
+returns-clause-reached c = reached_begin (program_of c.args.p.now) c.args.f c.args.start.fresh c.args.start.vars
+    c.args.start.heap c.args.start.parts.items _ c.requires (returns-clause-begins c) refl

@@ -14,6 +14,7 @@ returns-else-is_entry c = λ below alone. (
     | else-is_entry-via-then-is_entry+else-is_alone w ↦ inr w.if-is_alone.false
     | else-is_entry-via-else-is_entry w ↦ inl w.if-is_entry.false
   ]),
+  refl,
 )
 
 pub returns-in-Commands : goal.returns-in-Commands

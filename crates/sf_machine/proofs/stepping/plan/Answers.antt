@@ -49,10 +49,10 @@ returns-in-Leaves c = plan_leaves (program_of c.args.p.now) c.requires.starts.pr
 
 pub returns-in-Returns : goal.returns-in-Returns
 returns-in-Returns c = plan_returns (program_of c.args.p.now) (event_of c.args.e.now) (config_of c.args.c.now)
-    c.in-Returns.ensures.0 c.in-Returns.ensures.1 c.in-Returns.room c.len.result
+    c.in-Returns.ensures.0 c.in-Returns.ensures.1 c.in-Returns.g c.in-Returns.room c.is_init-all.result c.len.result
     (sym c.contains.ensures ∙ c.if-contains.false)
     (there_is _ _ c.args.e.now.task c.turns.result.now _ c.in-Some.ensures c.turns.ensures c.in-Returns.ensures.2)
-    c.in-Returns.ensures.3 c.len.ensures.count c.in-Returns.ensures.4
+    c.in-Returns.ensures.3 c.len.ensures.count c.in-Returns.ensures.4 c.in-Returns.ensures.5 c.is_init-all.ensures
 
 pub returns-in-Joins : goal.returns-in-Joins
 returns-in-Joins c = plan_joins (program_of c.args.p.now) (event_of c.args.e.now) (config_of c.args.c.now)

@@ -1,86 +1,16 @@
-use Rattle.std.proofs.Common.{◌+◌, [], Ok, ap, arith, inr, refl, slice_get, subst, suc, take}
-use Rattle.std.proofs.lemmas.List.{length-map}
-use Rattle.sf_base.proofs.Options.{some-holds}
-use Rattle.sf_core.specs.Program.Syntax.{Procedure, Resource}
+use Rattle.std.proofs.Common.{slice_get, subst, sym}
+use Rattle.std.specs.Option.{IfSome}
 use Rattle.sf_core.specs.Program.ProgramView.{program_of}
-use Rattle.sf_core.specs.Program.View.{assertion_of, resource_of}
 use Rattle.sf_foot.specs.Variables.{value_of}
-use Rattle.sf_precise.specs.Order.{IsOrderOf}
-use Rattle.sf_state.specs.declared.fault.StartFault.TheVariants.{Unmet}
-use Rattle.sf_state.specs.Checked.Found.{AlsoFound, AreFound}
-use Rattle.sf_state.specs.Starts.{assertions_of}
-use Rattle.sf_state.proofs.NextFound.{found-all, found-nothing, found-unmet, next-found, next-unmet, some-then, there-at}
+use Rattle.sf_state.specs.Checked.Found.{AllFound}
 use Rattle.sf_state.proofs.finding.find_parts.Goals as goal
 
--- the precondition is unmet
-pub returns-then-not-branch : goal.returns-then-not-branch
-returns-then-not-branch c =
-    let p = program_of c.args.p.now.program in
-    let vars = value_of c.args.vars.now in
-    let heap = c.args.heap.now in
-    let nothing = found-nothing vars heap c.new-found.result c.new-found.ensures.parts c.new-found.ensures.taken in
-    some-then (λ (g : Procedure). IsOrderOf g.pre (assertion_of c.pre.result.now.assertion)) _
-    (slice_get p.procedures c.args.f.0) c.pre.ensures
-    (λ g e ord.
-    let none = subst (λ found. AlsoFound [] g.pre vars heap c.new-found.result c.take.new.self (Ok found))
-    c.if-not-branch.true (c.in_ok-take.ensures [] g.pre ord nothing) in
-    inr (0, ap Unmet c.in_ok-name.ensures, found-unmet p g vars heap c.new-found.result 0 g.pre nothing refl none))
+pub returns-then-fresh : goal.returns-then-fresh
+returns-then-fresh c = subst (λ b. IfSome (slice_get (program_of c.args.p.now.program).procedures c.args.f.0)
+    (λ g. AllFound (program_of c.args.p.now.program) g b (value_of c.args.vars.now) c.args.heap.now c.find_pre.result))
+    (sym c.if-fresh.true) c.find_pre.ensures
 
-pub loop-r-init : goal.loop-r-init
-loop-r-init c =
-    let p = program_of c.args.p.now.program in
-    let vars = value_of c.args.vars.now in
-    let heap = c.args.heap.now in
-    let nothing = found-nothing vars heap c.new-found.result c.new-found.ensures.parts c.new-found.ensures.taken in
-    some-then (λ (g : Procedure). IsOrderOf g.pre (assertion_of c.pre.result.now.assertion)) _
-    (slice_get p.procedures c.args.f.0) c.pre.ensures
-    (λ g e ord. subst (λ found. AlsoFound [] g.pre vars heap c.new-found.result c.take.new.self (Ok found))
-    c.if-not-branch.false (c.in_ok-take.ensures [] g.pre ord nothing))
-
--- the invariant of a resource is
-pub returns-then-not-branch-2 : goal.returns-then-not-branch-2
-returns-then-not-branch-2 c =
-    let p = program_of c.args.p.now.program in
-    let vars = value_of c.args.vars.now in
-    let heap = c.args.heap.now in
-    let r = c.loop-r.r in
-    let within = length-map c.args.p.now.program.resources.items resource_of in
-    let here = there-at p.resources r (omega (arith, c.loop-r-test.true, c.len-r-end.ensures, c.args.p.now.program.resources.ok.0, within)) in
-    let ord = some-holds (λ (h : Resource). IsOrderOf h.invariant (assertion_of c.invariant.result.now.assertion))
-    (slice_get p.resources r) here.0 here.1 c.invariant.ensures in
-    some-then (λ (g : Procedure). AreFound (take (r + 1) (assertions_of p g)) vars heap c.loop-r.found) _
-    (slice_get p.procedures c.args.f.0) c.loop-r.invariant
-    (λ g e are.
-    let none = subst (λ found. AlsoFound (take (r + 1) (assertions_of p g)) here.0.invariant vars heap c.loop-r.found
-    c.take-in-loop-r.new.self (Ok found)) c.if-not-branch-2.true
-    (c.in_ok-take-2.ensures (take (r + 1) (assertions_of p g)) here.0.invariant ord are) in
-    inr (suc r, ap Unmet c.in_ok-name-2.ensures, next-unmet p g vars heap c.loop-r.found r here.0 are here.1 none))
-
--- or it is found
-pub loop-r-preserved : goal.loop-r-preserved
-loop-r-preserved c =
-    let p = program_of c.args.p.now.program in
-    let vars = value_of c.args.vars.now in
-    let heap = c.args.heap.now in
-    let r = c.loop-r.r in
-    let within = length-map c.args.p.now.program.resources.items resource_of in
-    let here = there-at p.resources r (omega (arith, c.loop-r-test.true, c.len-r-end.ensures, c.args.p.now.program.resources.ok.0, within)) in
-    let ord = some-holds (λ (h : Resource). IsOrderOf h.invariant (assertion_of c.invariant.result.now.assertion))
-    (slice_get p.resources r) here.0 here.1 c.invariant.ensures in
-    some-then (λ (g : Procedure). AreFound (take (r + 1) (assertions_of p g)) vars heap c.loop-r.found) _
-    (slice_get p.procedures c.args.f.0) c.loop-r.invariant
-    (λ g e are. next-found p g vars heap c.take-in-loop-r.new.self r here.0
-    (subst (λ found. AlsoFound (take (r + 1) (assertions_of p g)) here.0.invariant vars heap c.loop-r.found
-    c.take-in-loop-r.new.self (Ok found)) c.if-not-branch-2.false
-    (c.in_ok-take-2.ensures (take (r + 1) (assertions_of p g)) here.0.invariant ord are)) here.1)
-
-pub returns : goal.returns
-returns c =
-    let p = program_of c.args.p.now.program in
-    let vars = value_of c.args.vars.now in
-    let heap = c.args.heap.now in
-    let within = length-map c.args.p.now.program.resources.items resource_of in
-    some-then (λ (g : Procedure). AreFound (take (c.loop-r.r + 1) (assertions_of p g)) vars heap c.loop-r.found) _
-    (slice_get p.procedures c.args.f.0) c.loop-r.invariant
-    (λ g e are. found-all p g vars heap c.loop-r.found c.loop-r.r
-    (omega (arith, c.loop-r-test.false, c.len-r-end.ensures, c.args.p.now.program.resources.ok.0, within)) are)
+pub returns-else-fresh : goal.returns-else-fresh
+returns-else-fresh c = subst (λ b. IfSome (slice_get (program_of c.args.p.now.program).procedures c.args.f.0)
+    (λ g. AllFound (program_of c.args.p.now.program) g b (value_of c.args.vars.now) c.args.heap.now c.find_all.result))
+    (sym c.if-fresh.false) c.find_all.ensures

@@ -1,0 +1,11 @@
+pub mod Closing
+pub mod Distances
+pub mod Fits
+pub mod Found
+pub mod Places
+pub mod Reached
+pub mod Rising
+pub mod Rows
+pub mod Views
+pub mod Walks
+pub mod Ways
