@@ -1,6 +1,6 @@
 -- A run has an answer, where the state's file is there: each layer has one of its own.
 -- Names: some-*, what is found at each step of the way; bound-*, that an end has finitely many cells.
-use Rattle.std.proofs.Common.{◌≡◌, ◌∙◌, ◌<◌, ◌≤◌, ◌++◌, ℕ, zero, suc, List, Option, Some, None, ap, arith, codes, inl, inr, refl, subst, sym}
+use Rattle.std.proofs.Common.{◌≡◌, ◌∙◌, ◌⊎◌, ◌<◌, ◌≤◌, ◌++◌, ℕ, zero, suc, Bool, true, false, true≢false, List, Option, Some, None, ap, arith, codes, inl, inr, refl, subst, sym}
 use Rattle.std.specs.FinMap.{get}
 use Rattle.std.specs.Option.{option_map}
 use Rattle.std.specs.Prelude.{is_some, slice_get}
@@ -21,10 +21,11 @@ use Rattle.sf_heap.specs.Cells.{Cells, FieldValues, cell_of, heap_of}
 use Rattle.sf_io.specs.Shelf.{Files}
 use Rattle.sf_lex.specs.Reading.{first_place}
 use Rattle.sf_parse.specs.Checked.Laws.{EachFileIsShallow}
-use Rattle.sf_run.specs.Checked.Laws.{BasesAreFree, BeginningsAreStarts, SequentialIsDecided, StartsHaveOneOutcome, UnitsStayFree}
+use Rattle.sf_run.specs.Checked.Laws.{BasesAreFree, BeginningsAreStarts, InitSequentialIsDecided, SequentialIsDecided, StartsHaveOneOutcome, UnitsStayFree}
 use Rattle.sf_run.specs.Checked.Lone.{IsBase, IsFreeFrom}
 use Rattle.sf_run.specs.Running.{ComesTo}
-use Rattle.sf_run.specs.Sequential.{IsSequential}
+use Rattle.sf_run.specs.Sequential.{InitIsSequential, IsSequential}
+use Rattle.sf_state.specs.Starts.{IsStartText}
 use Rattle.sf_core.specs.Machine.Sound.{IsSound}
 use Rattle.sf_search.specs.Judge.{Judge, Verdict, fails, proof}
 use Rattle.sf_search.specs.Checked.Laws.{TakenTagsProve}
@@ -38,7 +39,7 @@ use Rattle.sf_cli.specs.declared.refusal.Refusal.TheVariants.{At}
 use Rattle.sf_cli.specs.declared.refusal.RefusalKind.TheVariants.{NotBuilt}
 use Rattle.sf_cli.specs.FileFault.{Admits}
 use Rattle.sf_cli.specs.Checked.Laws.{EachFileHasAnAnswer, EachRunHasAnAnswer}
-use Rattle.sf_cli.specs.Ran.{OutcomeAnswer, StateAnswer, no_start, ran, spent_steps_text, spent_waits_text}
+use Rattle.sf_cli.specs.Ran.{OutcomeAnswer, StateAnswer, init_not_built, no_start, ran, spent_steps_text, spent_waits_text}
 use Rattle.sf_cli.specs.Refusals.{refusal_text}
 use Rattle.sf_cli.specs.StartRefusals.{start_refusal_text}
 use Rattle.sf_words.specs.Words.{Text}
@@ -52,6 +53,7 @@ pub record RunAnswers : Type 0 where
   pub sound : ProofsAreSound
   pub entries : EntryExists
   pub decided : SequentialIsDecided
+  pub inits : InitSequentialIsDecided
   pub starts : StartExists
   pub outcomes : StartsHaveOneOutcome
   pub beginnings : BeginningsAreStarts
@@ -84,32 +86,33 @@ bound-cells vars heap unit k fresh above = go (get heap k) refl
         let less : k < unit = fresh.1 k (inl (ap is_some e)) in absurd (omega (arith, less, above))
 
 -- the end of a run has finitely many cells
-bound-end : RunAnswers → (p : Program) (f : ProcId) (vars : Vars) (heap : Cells) (parts : List (List ℕ))
-    (unit count : ℕ) (c : Config) → StartsWith p f vars heap parts → IsFreshFrom vars heap unit
-    → ComesTo p f vars heap unit count (finished c) → (n : ℕ) × IsFreeFrom n c
+bound-end : RunAnswers → (p : Program) (f : ProcId) (fresh : Bool) (vars : Vars) (heap : Cells)
+    (parts : List (List ℕ)) (unit count : ℕ) (c : Config) → StartsWith p f fresh vars heap parts
+    → IsFreshFrom vars heap unit → ComesTo p f fresh vars heap unit count (finished c) → (n : ℕ) × IsFreeFrom n c
 unfolding BasesAreFree BeginningsAreStarts
-bound-end l p f vars heap parts unit count c starts fresh comes =
-    let (g, there, start) = l.beginnings p f vars heap parts comes.start starts comes.begins in
+bound-end l p f fresh vars heap parts unit count c starts units comes =
+    let (store, start) = l.beginnings p f fresh vars heap parts comes.start starts comes.begins in
     let base : IsBase unit comes.start = record {
-      above_start = fresh.0.0;
-      above_cells = λ k above. ap (λ (z : Config). z.common.heap k) start.is ∙ bound-cells vars heap unit k fresh above;
+      above_start = units.0.0;
+      above_cells = λ k above. ap (λ (z : Config). z.common.heap k) start.is ∙ bound-cells vars heap unit k units above;
     } in
-    bound-units l.free p count unit comes.start c comes.comes (l.bases p f _ (heap_of heap) comes.start unit start base)
+    bound-units l.free p count unit comes.start c comes.comes
+    (l.bases p f store (heap_of heap) comes.start unit start base)
 
 -- ---- the answer
 
 -- what comes of a run is printed
-some-outcome : RunAnswers → (p : Program) (f : ProcId) (g : Procedure) (vars : Vars) (heap : Cells)
-    (parts : List (List ℕ)) (unit steps waits : ℕ) (out : Outcome) → StartsWith p f vars heap parts
-    → IsFreshFrom vars heap unit → ComesTo p f vars heap unit steps out
+some-outcome : RunAnswers → (p : Program) (f : ProcId) (g : Procedure) (fresh : Bool) (vars : Vars) (heap : Cells)
+    (parts : List (List ℕ)) (unit steps waits : ℕ) (out : Outcome) → StartsWith p f fresh vars heap parts
+    → IsFreshFrom vars heap unit → ComesTo p f fresh vars heap unit steps out
     → (text : Text) × (status : ℕ) × OutcomeAnswer p g steps waits out text status
-some-outcome l p f g vars heap parts unit steps waits (finished c) starts fresh comes =
-    let bound = bound-end l p f vars heap parts unit steps c starts fresh comes in
+some-outcome l p f g fresh vars heap parts unit steps waits (finished c) starts units comes =
+    let bound = bound-end l p f fresh vars heap parts unit steps c starts units comes in
     let end = end-there p g c bound.0 (λ k above. (bound.1 k above).1) in
     (codes "finished\n" ++ end.0, 0, (record { state = end.0; ends = end.1; is = refl }, refl))
-some-outcome l p f g vars heap parts unit steps waits spent starts fresh comes =
+some-outcome l p f g fresh vars heap parts unit steps waits spent starts units comes =
     (spent_steps_text steps, 6, (refl, refl))
-some-outcome l p f g vars heap parts unit steps waits (waiting r) starts fresh comes =
+some-outcome l p f g fresh vars heap parts unit steps waits (waiting r) starts units comes =
     (spent_waits_text p r waits, 6, (refl, refl))
 
 -- a name that a procedure has is one of a procedure
@@ -121,20 +124,40 @@ some-procedure p entry f h = elim (some-or_none (slice_get p.procedures f.0)) [
       ∙ ap (option_map (λ (g : Procedure). g.name)) none))
 ]
 
+-- a start has an answer, once it is known whether a parallel call can be reached from the procedure that sets the
+-- resources up
+some-begin : RunAnswers → (p : Program) (f : ProcId) (g : Procedure) (given : Text) (steps waits : ℕ) (vars : Vars)
+    (heap : Cells) (parts : List (List ℕ)) (unit : ℕ) (fresh : Bool) → IsFormed p → Conditions p → IsSound p
+    → IsSequential p f → slice_get p.procedures f.0 ≡ Some g → IsStartText p f g given vars heap parts unit fresh
+    → InitIsSequential p ⊎ (InitIsSequential p → ⊥)
+    → (text : Text) × (status : ℕ) × StateAnswer p f given steps waits text status
+unfolding StartsHaveOneOutcome
+some-begin l p f g given steps waits vars heap parts unit true formed conditions sound sequential there start (inr forks) =
+    (refusal_text (At NotBuilt first_place), 3, init_not_built g vars heap parts unit there start forks refl refl)
+some-begin l p f g given steps waits vars heap parts unit false formed conditions sound sequential there start (inr forks) =
+    let none = λ (e : false ≡ true). absurd (true≢false (sym e)) in
+    let one = l.outcomes p f false vars heap parts unit steps formed conditions sound (sequential, none) start.starts
+    start.first_unit.0 in
+    let said = some-outcome l p f g false vars heap parts unit steps waits one.out start.starts start.first_unit.0 one.comes in
+    (said.0, said.1, ran g vars heap parts unit false one.out there start none one.comes said.2)
+some-begin l p f g given steps waits vars heap parts unit fresh formed conditions sound sequential there start (inl all) =
+    let one = l.outcomes p f fresh vars heap parts unit steps formed conditions sound (sequential, λ e. all) start.starts
+    start.first_unit.0 in
+    let said = some-outcome l p f g fresh vars heap parts unit steps waits one.out start.starts start.first_unit.0 one.comes in
+    (said.0, said.1, ran g vars heap parts unit fresh one.out there start (λ e. all) one.comes said.2)
+
 -- the text of a state has an answer
 some-state : RunAnswers → (p : Program) (entry : Text) (f : ProcId) (given : Text) (steps waits : ℕ) → IsFormed p
     → Conditions p → AreDetermined p → IsSound p → IsEntry p entry f → IsSequential p f
     → (text : Text) × (status : ℕ) × StateAnswer p f given steps waits text status
-unfolding StartExists StartsHaveOneOutcome
+unfolding StartExists InitSequentialIsDecided
 some-state l p entry f given steps waits formed conditions determined sound is sequential =
     let (g, there) = some-procedure p entry f is in
-    elim (l.starts p f g given formed determined there is.free) [
+    elim (l.starts p f g given formed determined there is.free is.other) [
       | inl found ↦
-          let (vars, heap, parts, unit, start) = found in
-          let one = l.outcomes p f vars heap parts unit steps formed conditions sound sequential start.starts
-          start.first_unit.0 in
-          let said = some-outcome l p f g vars heap parts unit steps waits one.out start.starts start.first_unit.0 one.comes in
-          (said.0, said.1, ran g vars heap parts unit one.out there start one.comes said.2)
+          let (vars, heap, parts, unit, fresh, start) = found in
+          some-begin l p f g given steps waits vars heap parts unit fresh formed conditions sound sequential there start
+          (l.inits p formed)
       | inr fault ↦
           (start_refusal_text fault.0, 5, no_start g fault.0 there fault.1 refl refl)
     ]

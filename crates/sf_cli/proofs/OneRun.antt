@@ -1,7 +1,7 @@
 -- A run has at most one answer over the same files: its verdict, its entry, its start and what comes of that are each
 -- determined, and no two of its refusals meet.
 -- Names: run-*.
-use Rattle.std.proofs.Common.{◌≡◌, ◌∙◌, ◌==◌, ◌&&◌, ◌++◌, ℕ, zero, suc, [], ◌∷◌, List, Option, Some, None, ap, arith, codes, cond, length, map, refl, subst, sym}
+use Rattle.std.proofs.Common.{◌≡◌, ◌∙◌, ◌==◌, ◌&&◌, ◌++◌, ℕ, zero, suc, Bool, true, [], ◌∷◌, List, Option, Some, None, ap, arith, codes, cond, map, refl, subst, sym}
 use Rattle.std.specs.Prelude.{Vec, nat_lt, slice_get, slice_index_or}
 use Rattle.std.specs.declared.alloc.Global.{Global}
 use Rattle.sf_base.proofs.Options.{some-once}
@@ -11,7 +11,7 @@ use Rattle.sf_base.specs.declared.value.Value.{Value}
 use Rattle.sf_base.specs.declared.value.Value.TheVariants.{Nil as nil}
 use Rattle.sf_core.specs.Machine.Alone.{Outcome, finished, spent, waiting, Alone}
 use Rattle.sf_core.specs.Machine.Config.{Config}
-use Rattle.sf_core.specs.Machine.Start.{initial_config}
+use Rattle.sf_core.specs.Machine.Start.{Beginning, first_count, initial_config}
 use Rattle.sf_core.specs.Machine.Step.{procedure_at}
 use Rattle.sf_core.specs.Program.Syntax.{Procedure, Program}
 use Rattle.sf_foot.specs.declared.vars.Vars.{Vars}
@@ -21,18 +21,20 @@ use Rattle.sf_heap.specs.Cells.{Cells, heap_of}
 use Rattle.sf_io.specs.Shelf.{Files}
 use Rattle.sf_rules.specs.Checked.LawsOfSettings.{SettingIsUnique}
 use Rattle.sf_rules.specs.Setting.{Setting}
-use Rattle.sf_run.specs.Checked.Laws.{OutcomesAreUnique}
+use Rattle.sf_machine.specs.Beginning.{Begins}
+use Rattle.sf_run.specs.Checked.Laws.{BeginningsAreUnique, OutcomesAreUnique}
 use Rattle.sf_run.specs.Running.{ComesTo}
 use Rattle.sf_run.specs.Sequential.{IsSequential}
 use Rattle.sf_search.specs.Judge.{Judge, Verdict, proof}
 use Rattle.sf_search.specs.Checked.Laws.{VerdictsAreUnique}
 use Rattle.sf_state.specs.Checked.Laws.{AreDetermined, EntryIsUnique, SameVars, StartIsUnique}
 use Rattle.sf_state.specs.Starts.{IsStartFault, IsStartText}
+use Rattle.sf_state.specs.declared.fault.StartFault.{StartFault}
 use Rattle.sf_cli.proofs.EndTexts.{end-once}
 use Rattle.sf_cli.proofs.OneAnswer.{VerdictLayers, answer-program}
 use Rattle.sf_cli.specs.Answer.{IsProved, ProgramAnswer, RunFileAnswer, VerdictAnswer, admitted_run, entered, no_entry, not_built, refused_run, unproved}
 use Rattle.sf_cli.specs.Checked.Laws.{EachRunHasOneAnswer}
-use Rattle.sf_cli.specs.Ran.{OutcomeAnswer, StateAnswer, no_start, ran}
+use Rattle.sf_cli.specs.Ran.{OutcomeAnswer, StateAnswer, init_not_built, no_start, ran}
 use Rattle.sf_cli.specs.Refusals.{refusal_text}
 use Rattle.sf_cli.specs.StartRefusals.{start_refusal_text}
 use Rattle.sf_words.specs.Words.{Text}
@@ -42,6 +44,7 @@ pub record RunLayers : Type 0 where
   pub verdicts : VerdictLayers
   pub entries : EntryIsUnique
   pub starts : StartIsUnique
+  pub beginnings : BeginningsAreUnique
   pub outcomes : OutcomesAreUnique
 
 -- ---- the configuration in which a run begins
@@ -66,32 +69,43 @@ run-rows one other e k =
     run-mapped one k ∙ ap (λ (rows : List (List Value)). run-found (slice_get rows k)) e ∙ sym (run-mapped other k)
 
 -- the same values of variables are the same store
-run-slot : (g : Procedure) (v w : Vars) → SameVars v w → (slot : Slot) → store_of g v slot ≡ store_of g w slot
-run-slot g v w s (own event i) =
-    ap (λ (vs : List Value). cond ((event == 0) && nat_lt i (length g.names)) (Some (slice_index_or vs i nil)) None) s.own
-run-slot g v w s (shared r i) =
+run-slot : (b : Beginning) (g : Procedure) (v w : Vars) → SameVars v w → (slot : Slot)
+    → store_of b g v slot ≡ store_of b g w slot
+run-slot b g v w s (own event i) =
+    ap (λ (vs : List Value). cond ((event == 0) && nat_lt i (first_count b g)) (Some (slice_index_or vs i nil)) None) s.own
+run-slot b g v w s (shared r i) =
     ap (λ (vs : List Value). slice_get vs i) (run-rows v.shared.items w.shared.items s.shared r.0)
 
+-- so a run begins with them as with the others
+run-begins : (p : Program) (f : ProcId) (fresh : Bool) (v w : Vars) (h : Cells) (c : Config) → SameVars v w
+    → Begins p f fresh v h c → Begins p f fresh w h c
+run-begins p f fresh v w h c s b = record {
+  procedure = b.procedure;
+  there = b.there;
+  beginning = b.beginning;
+  kind = b.kind;
+  is = b.is ∙ ap (λ store. initial_config b.beginning p f b.procedure store (heap_of h)) stores;
+}
+  where
+    stores : store_of b.beginning b.procedure v ≡ store_of b.beginning b.procedure w
+    stores = λ i slot. run-slot b.beginning b.procedure v w s slot i
+
 -- runs from the same variables and cells come to the same
-run-comes : OutcomesAreUnique → (p : Program) (f : ProcId) (v w : Vars) (h k : Cells) (t u count : ℕ)
-    (one other : Outcome) → SameVars v w → h ≡ k → t ≡ u → ComesTo p f v h t count one → ComesTo p f w k u count other
-    → one ≡ other
-unfolding OutcomesAreUnique
-run-comes law p f v w h k t u count one other s c e a b =
+run-comes : BeginningsAreUnique → OutcomesAreUnique → (p : Program) (f : ProcId) (m n : Bool) (v w : Vars)
+    (h k : Cells) (t u count : ℕ) (one other : Outcome) → SameVars v w → h ≡ k → t ≡ u → m ≡ n
+    → ComesTo p f m v h t count one → ComesTo p f n w k u count other → one ≡ other
+unfolding BeginningsAreUnique OutcomesAreUnique
+run-comes begins law p f m n v w h k t u count one other s c e same a b =
     law p a.start t count one other a.comes
     (subst (λ (start : Config). Alone p start t count other) (sym starts)
     (subst (λ (z : ℕ). Alone p b.start z count other) (sym e) b.comes))
   where
-    procedures : a.begins.procedure ≡ b.begins.procedure
-    procedures = some-once (procedure_at p f) a.begins.procedure b.begins.procedure a.begins.there b.begins.there
-
-    stores : store_of a.begins.procedure v ≡ store_of a.begins.procedure w
-    stores = λ i slot. run-slot a.begins.procedure v w s slot i
+    moved : Begins p f n w k a.start
+    moved = subst (λ (z : Bool). Begins p f z w k a.start) same
+        (subst (λ (cells : Cells). Begins p f m w cells a.start) c (run-begins p f m v w h a.start s a.begins))
 
     starts : a.start ≡ b.start
-    starts = a.begins.is ∙ ap (λ store. initial_config p f a.begins.procedure store (heap_of h)) stores
-        ∙ ap (λ (cells : Cells). initial_config p f a.begins.procedure (store_of a.begins.procedure w) (heap_of cells)) c
-        ∙ ap (λ (g : Procedure). initial_config p f g (store_of g w) (heap_of k)) procedures ∙ sym b.begins.is
+    starts = begins p f n w k a.start b.start moved b.begins
 
 -- what comes of a run is printed in one way
 run-printed : (p : Program) (g : Procedure) (steps waits : ℕ) (one : Outcome) (text other : Text) (status code : ℕ)
@@ -107,6 +121,26 @@ run-printed p g steps waits (waiting r) text other status code x y = (x.0 ∙ sy
 
 -- ---- answers
 
+-- a text that is refused is no start
+run-apart : RunLayers → (p : Program) (f : ProcId) (g h : Procedure) (given : Text) (vars : Vars) (heap : Cells)
+    (parts : List (List ℕ)) (unit : ℕ) (fresh : Bool) (e : StartFault) → AreDetermined p → procedure_at p f ≡ Some g
+    → procedure_at p f ≡ Some h → IsStartText p f h given vars heap parts unit fresh → IsStartFault p g given e → ⊥
+unfolding StartIsUnique
+run-apart l p f g h given vars heap parts unit fresh e d there at y x =
+    let same : h ≡ g = some-once (procedure_at p f) h g at there in
+    (l.starts p f g given d there).apart vars heap parts unit fresh e
+    (subst (λ (z : Procedure). IsStartText p f z given vars heap parts unit fresh) same y) x
+
+-- starts of one text are both fresh or neither
+run-fresh : RunLayers → (p : Program) (f : ProcId) (g h : Procedure) (given : Text) (v w : Vars) (a b : Cells)
+    (ps qs : List (List ℕ)) (t u : ℕ) (m n : Bool) → AreDetermined p → procedure_at p f ≡ Some g
+    → procedure_at p f ≡ Some h → IsStartText p f g given v a ps t m → IsStartText p f h given w b qs u n → m ≡ n
+unfolding StartIsUnique
+run-fresh l p f g h given v w a b ps qs t u m n d there at x y =
+    let same : h ≡ g = some-once (procedure_at p f) h g at there in
+    (l.starts p f g given d there).fresh v w a b ps qs t u m n x
+    (subst (λ (z : Procedure). IsStartText p f z given w b qs u n) same y)
+
 -- the text of a state has one answer
 run-state : RunLayers → (p : Program) (f : ProcId) (given : Text) (steps waits : ℕ) (text other : Text)
     (status code : ℕ) → AreDetermined p → StateAnswer p f given steps waits text status
@@ -119,25 +153,42 @@ run-state l p f given steps waits text other status code d (no_start g e there x
       s ∙ sym v,
     )
 run-state l p f given steps waits text other status code d (no_start g e there x t s)
-    (ran h vars heap parts unit out at y comes k) =
-    let same : h ≡ g = some-once (procedure_at p f) h g at there in
-    absurd ((l.starts p f g given d there).apart vars heap parts unit e
-    (subst (λ (z : Procedure). IsStartText p f z given vars heap parts unit) same y) x)
-run-state l p f given steps waits text other status code d (ran g vars heap parts unit out there x comes k)
+    (init_not_built h vars heap parts unit at y n u v) =
+    absurd (run-apart l p f g h given vars heap parts unit true e d there at y x)
+run-state l p f given steps waits text other status code d (no_start g e there x t s)
+    (ran h vars heap parts unit fresh out at y sequential comes k) =
+    absurd (run-apart l p f g h given vars heap parts unit fresh e d there at y x)
+run-state l p f given steps waits text other status code d (init_not_built g vars heap parts unit there x n t s)
     (no_start h e at y u v) =
+    absurd (run-apart l p f h g given vars heap parts unit true e d at there x y)
+run-state l p f given steps waits text other status code d (init_not_built g vars heap parts unit there x n t s)
+    (init_not_built h others more rest first at y m u v) =
+    (t ∙ sym u, s ∙ sym v)
+run-state l p f given steps waits text other status code d (init_not_built g vars heap parts unit there x n t s)
+    (ran h others more rest first fresh end at y sequential leads m) =
+    let told : true ≡ fresh =
+    run-fresh l p f g h given vars others heap more parts rest unit first true fresh d there at x y in
+    absurd (n (sequential (sym told)))
+run-state l p f given steps waits text other status code d
+    (ran g vars heap parts unit fresh out there x sequential comes k) (no_start h e at y u v) =
+    absurd (run-apart l p f h g given vars heap parts unit fresh e d at there x y)
+run-state l p f given steps waits text other status code d
+    (ran g vars heap parts unit fresh out there x sequential comes k)
+    (init_not_built h others more rest first at y n u v) =
+    absurd (n (sequential
+    (run-fresh l p f g h given vars others heap more parts rest unit first fresh true d there at x y)))
+run-state l p f given steps waits text other status code d
+    (ran g vars heap parts unit fresh out there x sequential comes k)
+    (ran h others more rest first anew end at y also leads m) =
     let same : h ≡ g = some-once (procedure_at p f) h g at there in
-    absurd ((l.starts p f g given d there).apart vars heap parts unit e x
-    (subst (λ (z : Procedure). IsStartFault p z given e) same y))
-run-state l p f given steps waits text other status code d (ran g vars heap parts unit out there x comes k)
-    (ran h others more rest first end at y leads m) =
-    let same : h ≡ g = some-once (procedure_at p f) h g at there in
-    let moved : IsStartText p f g given others more rest first =
-    subst (λ (z : Procedure). IsStartText p f z given others more rest first) same y in
+    let moved : IsStartText p f g given others more rest first anew =
+    subst (λ (z : Procedure). IsStartText p f z given others more rest first anew) same y in
     let once = l.starts p f g given d there in
-    let outcome : end ≡ out = sym (run-comes l.outcomes p f vars others heap more unit first steps out end
-    (once.variables vars others heap more parts rest unit first x moved)
-    (once.cells vars others heap more parts rest unit first x moved)
-    (once.unit vars others heap more parts rest unit first x moved) comes leads) in
+    let outcome : end ≡ out = sym (run-comes l.beginnings l.outcomes p f fresh anew vars others heap more unit first
+    steps out end (once.variables vars others heap more parts rest unit first fresh anew x moved)
+    (once.cells vars others heap more parts rest unit first fresh anew x moved)
+    (once.unit vars others heap more parts rest unit first fresh anew x moved)
+    (once.fresh vars others heap more parts rest unit first fresh anew x moved) comes leads) in
     run-printed p g steps waits out text other status code k
     (subst (λ (z : Outcome). OutcomeAnswer p g steps waits z other code) outcome
     (subst (λ (z : Procedure). OutcomeAnswer p z steps waits end other code) same m))

@@ -33,7 +33,7 @@ use Rattle.sf_run.specs.declared.stop.Stop.{Stop}
 use Rattle.sf_run.specs.declared.stop.Stop.TheVariants.{Steps, Waits, OutOfMemory}
 use Rattle.sf_state.specs.declared.fault.StartFault.{StartFault}
 use Rattle.sf_state.specs.declared.fault.StartFault.TheVariants as fault
-use Rattle.sf_state.specs.Names.{names_of}
+use Rattle.sf_state.specs.Names.{Format, format_of}
 use Rattle.sf_state.specs.Starts.{DecidesStart, IsStartFault, IsStartText, left_over, refused, unmet}
 use Rattle.sf_state.specs.Stated.{lines_refusal, text_refusal}
 use Rattle.sf_state.specs.Says.{entries_of}
@@ -43,8 +43,13 @@ use Rattle.sf_cli.specs.Answer.{AreRun, Reaches, Reply, RunAnswer, admitted_run,
 use Rattle.sf_cli.specs.SoundFile.{MayHave}
 use Rattle.sf_cli.specs.declared.reply.Said.{Said}
 use Rattle.sf_cli.specs.Checked.Fetched.{IsUpTo, Fetched}
-use Rattle.sf_cli.specs.Checked.Printed.{IsOutcomeText, SaysFinish, stop_text}
-use Rattle.sf_cli.specs.Ran.{OutcomeAnswer, StateAnswer, no_start, ran, resource_name, spent_steps_text, spent_waits_text}
+use Rattle.sf_cli.specs.Checked.Printed.{BeginAnswer, IsOutcomeText, SaysFinish, stop_text}
+use Rattle.sf_lex.specs.Reading.{first_place}
+use Rattle.sf_run.specs.Sequential.{InitIsSequential}
+use Rattle.sf_cli.specs.Refusals.{refusal_text}
+use Rattle.sf_cli.specs.declared.refusal.Refusal.TheVariants.{At}
+use Rattle.sf_cli.specs.declared.refusal.RefusalKind.TheVariants.{NotBuilt}
+use Rattle.sf_cli.specs.Ran.{OutcomeAnswer, StateAnswer, init_not_built, no_start, ran, resource_name, spent_steps_text, spent_waits_text}
 use Rattle.sf_words.specs.Words.{Text, Order, run}
 
 -- ---- procedures
@@ -86,11 +91,11 @@ name-there p r of there =
 -- ---- outcomes
 
 -- what a run ends with, printed
-pub ran-finished : (p : Program) (f : ProcId) (vars : Vars) (heap : Cells) (unit steps waits : ℕ) (end : Finish)
-    (text : Text) (status : ℕ) → IsFormed p → EndsWith p f vars heap unit steps end
+pub ran-finished : (p : Program) (f : ProcId) (fresh : Bool) (vars : Vars) (heap : Cells) (unit steps waits : ℕ)
+    (end : Finish) (text : Text) (status : ℕ) → IsFormed p → EndsWith p f fresh vars heap unit steps end
     → IfSome (slice_get p.procedures f.0) (λ g. SaysFinish p g end.vars end.heap text status)
-    → IsOutcomeText p f vars heap unit steps waits text status
-ran-finished p f vars heap unit steps waits end text status formed e said = λ g there.
+    → IsOutcomeText p f fresh vars heap unit steps waits text status
+ran-finished p f fresh vars heap unit steps waits end text status formed e said = λ g there.
     let s = some-holds (λ (h : Procedure). SaysFinish p h end.vars end.heap text status) (slice_get p.procedures f.0) g
     there said in (
       finished e.last,
@@ -106,20 +111,21 @@ ran-finished p f vars heap unit steps waits end text status formed e said = λ g
     )
 
 -- why it stops, printed
-pub ran-stopped : (p : Program) (f : ProcId) (vars : Vars) (heap : Cells) (unit : ℕ) (budget : Budget) (stop : Stop)
-    (text : Text) (status : ℕ) → Stops p f vars heap unit budget stop → stop ≢ OutOfMemory → text ≡ stop_text p stop
-    → status ≡ 6 → IsOutcomeText p f vars heap unit budget.steps budget.waits text status
-ran-stopped p f vars heap unit budget (Steps path used) text status (entry, all, comes) n t s =
+pub ran-stopped : (p : Program) (f : ProcId) (fresh : Bool) (vars : Vars) (heap : Cells) (unit : ℕ) (budget : Budget)
+    (stop : Stop) (text : Text) (status : ℕ) → Stops p f fresh vars heap unit budget stop → stop ≢ OutOfMemory
+    → text ≡ stop_text p stop → status ≡ 6
+    → IsOutcomeText p f fresh vars heap unit budget.steps budget.waits text status
+ran-stopped p f fresh vars heap unit budget (Steps path used) text status (entry, all, comes) n t s =
     λ g there. (spent, comes, (t ∙ ap spent_steps_text all, s))
-ran-stopped p f vars heap unit budget (Waits path r tries) text status (entry, all, comes) n t s =
+ran-stopped p f fresh vars heap unit budget (Waits path r tries) text status (entry, all, comes) n t s =
     λ g there. (waiting r, comes, (t ∙ ap (spent_waits_text p r) all, s))
-ran-stopped p f vars heap unit budget OutOfMemory text status h n t s = absurd (n refl)
+ran-stopped p f fresh vars heap unit budget OutOfMemory text status h n t s = absurd (n refl)
 
 -- the start that a text gives
 pub ran-started : (p : Program) (f : ProcId) (text : Text) (start : Start) (g : Procedure)
     → slice_get p.procedures f.0 ≡ Some g
     → IfSome (slice_get p.procedures f.0) (λ g. DecidesStart p f g text (Ok start))
-    → IsStartText p f g text start.vars start.heap start.parts.items start.unit
+    → IsStartText p f g text start.vars start.heap start.parts.items start.unit start.fresh
 ran-started p f text start g there h =
     (some-holds (λ (g : Procedure). DecidesStart p f g text (Ok start)) (slice_get p.procedures f.0) g there h).started
 
@@ -131,15 +137,27 @@ pub ran-refused : (p : Program) (f : ProcId) (text : Text) (e : StartFault) (g :
 ran-refused p f text e g there h n = entry-refused (IsStartFault p g text) e
     (some-holds (λ (g : Procedure). DecidesStart p f g text (Err e)) (slice_get p.procedures f.0) g there h).refused n
 
+-- a run that begins fresh, and from which a parallel call can be reached
+begin-fresh : (p : Program) (f : ProcId) (g : Procedure) (given : Text) (start : Start) (steps waits : ℕ) (text : Text)
+    (status : ℕ) → slice_get p.procedures f.0 ≡ Some g → (InitIsSequential p → ⊥)
+    → text ≡ refusal_text (At NotBuilt first_place) → status ≡ 3 → start.fresh ≡ true
+    → IsStartText p f g given start.vars start.heap start.parts.items start.unit start.fresh
+    → StateAnswer p f given steps waits text status
+begin-fresh p f g given start steps waits text status there forks t s fresh starts =
+    init_not_built g start.vars start.heap start.parts.items start.unit there
+    (subst (λ b. IsStartText p f g given start.vars start.heap start.parts.items start.unit b) fresh starts) forks t s
+
 -- what comes of the start of a text is the answer to it
 pub ran-answer : (p : Program) (f : ProcId) (g : Procedure) (given : Text) (start : Start) (steps waits : ℕ)
     (text : Text) (status : ℕ) → slice_get p.procedures f.0 ≡ Some g
-    → IsStartText p f g given start.vars start.heap start.parts.items start.unit
-    → IsOutcomeText p f start.vars start.heap start.unit steps waits text status
+    → IsStartText p f g given start.vars start.heap start.parts.items start.unit start.fresh
+    → BeginAnswer p f start.fresh start.vars start.heap start.unit steps waits text status
     → StateAnswer p f given steps waits text status
-ran-answer p f g given start steps waits text status there starts outcome =
+ran-answer p f g given start steps waits text status there starts (inl (sequential, outcome)) =
     let (out, comes, said) = outcome g there in
-    ran g start.vars start.heap start.parts.items start.unit out there starts comes said
+    ran g start.vars start.heap start.parts.items start.unit start.fresh out there starts sequential comes said
+ran-answer p f g given start steps waits text status there starts (inr (fresh, forks, t, s)) =
+    begin-fresh p f g given start steps waits text status there forks t s fresh starts
 
 -- its statuses
 ran-outcome_status : (p : Program) (g : Procedure) (steps waits : ℕ) (out : Outcome) (text : Text) (status : ℕ)
@@ -154,17 +172,17 @@ ran-outcome_status p g steps waits (waiting r) text status a =
 pub ran-status : (p : Program) (f : ProcId) (given : Text) (steps waits : ℕ) (text : Text) (status : ℕ)
     → StateAnswer p f given steps waits text status → status < 7
 ran-status p f given steps waits text status (no_start g e there x t s) = omega (arith, s)
-ran-status p f given steps waits text status (ran g vars heap parts unit out there x comes a) =
+ran-status p f given steps waits text status (init_not_built g vars heap parts unit there x forks t s) = omega (arith, s)
+ran-status p f given steps waits text status (ran g vars heap parts unit fresh out there x sequential comes a) =
     ran-outcome_status p g steps waits out text status a
 
 -- ---- what is fetched of a state
 
 -- a text that is too long is refused for that
-fetched-long : (fields names : List Text) (text : Text) → STATE_BYTES < length text
-    → text_refusal fields names text ≡ Some fault.TooLong
-fetched-long fields names text m =
+fetched-long : (m : Format) (text : Text) → STATE_BYTES < length text → text_refusal m text ≡ Some fault.TooLong
+fetched-long m text more =
     let long : nat_lt STATE_BYTES (length text) ≡ true = grind (arith, nat_tests) in
-    ap (λ (b : Bool). if b then Some fault.TooLong else lines_refusal fields names (entries_of fields names text)) long
+    ap (λ (b : Bool). if b then Some fault.TooLong else lines_refusal m (entries_of m.fields m.names text)) long
 
 fetched-none : (o : Option StartFault) (f : StartFault) → o ≡ Some f → o ≡ None → ⊥
 fetched-none o f e n = some-none f (sym e ∙ n)
@@ -176,17 +194,20 @@ fetched-state : (p : Program) (f : ProcId) (out given : Text) (steps waits : ℕ
 fetched-state p f out given steps waits text status (inl e) a =
     subst (λ (z : Text). StateAnswer p f z steps waits text status) e a
 fetched-state p f out given steps waits text status (inr m) (no_start g e there (refused r) t s) =
-    no_start g e there (refused (fetched-long p.fields (names_of p g) given m.1
-    ∙ sym (fetched-long p.fields (names_of p g) out m.0) ∙ r)) t s
+    no_start g e there (refused (fetched-long (format_of p g) given m.1
+    ∙ sym (fetched-long (format_of p g) out m.0) ∙ r)) t s
 fetched-state p f out given steps waits text status (inr m) (no_start g e there (unmet number is n) t s) =
-    absurd (fetched-none (text_refusal p.fields (names_of p g) out) fault.TooLong
-    (fetched-long p.fields (names_of p g) out m.0) n.state.accepted)
+    absurd (fetched-none (text_refusal (format_of p g) out) fault.TooLong
+    (fetched-long (format_of p g) out m.0) n.state.accepted)
 fetched-state p f out given steps waits text status (inr m) (no_start g e there (left_over location is n) t s) =
-    absurd (fetched-none (text_refusal p.fields (names_of p g) out) fault.TooLong
-    (fetched-long p.fields (names_of p g) out m.0) n.state.accepted)
-fetched-state p f out given steps waits text status (inr m) (ran g vars heap parts unit last there x comes a) =
-    absurd (fetched-none (text_refusal p.fields (names_of p g) out) fault.TooLong
-    (fetched-long p.fields (names_of p g) out m.0) x.state.accepted)
+    absurd (fetched-none (text_refusal (format_of p g) out) fault.TooLong
+    (fetched-long (format_of p g) out m.0) n.state.accepted)
+fetched-state p f out given steps waits text status (inr m) (init_not_built g vars heap parts unit there x forks t s) =
+    absurd (fetched-none (text_refusal (format_of p g) out) fault.TooLong
+    (fetched-long (format_of p g) out m.0) x.state.accepted)
+fetched-state p f out given steps waits text status (inr m) (ran g vars heap parts unit fresh last there x n comes a) =
+    absurd (fetched-none (text_refusal (format_of p g) out) fault.TooLong
+    (fetched-long (format_of p g) out m.0) x.state.accepted)
 
 pub fetched-state_file : (told : Option Files) (p : Program) (f : ProcId) (name out : Text) (steps waits : ℕ)
     (text : Text) (status : ℕ) → Fetched STATE_BYTES told name out → StateAnswer p f out steps waits text status

@@ -1,7 +1,7 @@
 -- Answer: the text and the status that the command gives to its words, over a map of files.
 -- The form of a command's answer is that of The Open Group, "Utility Conventions" (2018); the
 -- statuses are this project's own.
-use Rattle.std.specs.Prelude.{◌≡◌, ◌≢◌, ℕ, ◌<◌, ◌⊎◌, Option, Some, None, List, [], ◌++◌, codes}
+use Rattle.std.specs.Prelude.{◌≡◌, ◌≢◌, ℕ, ◌<◌, ◌⊎◌, Bool, Option, Some, None, List, [], ◌++◌, codes}
 use Rattle.sf_core.specs.Machine.Config.{Config}
 use Rattle.sf_core.specs.Machine.Enabled.{HasEnded}
 use Rattle.sf_core.specs.Machine.Numbered.{Numbered}
@@ -96,8 +96,8 @@ pub record IsProved (p : Program) : Type 0 where
   pub tags : List Tag
   pub judged : Judge setting (proof tags)
 
--- a procedure of that name is run: the program is proved, the procedure holds no resource, and no
--- parallel call can be reached from it
+-- a procedure of that name is run: the program is proved, the procedure holds no resource and doesn't
+-- set them up, and no parallel call can be reached from it
 pub record IsRun (p : Program) (entry : Text) (f : ProcId) : Type 0 where
   pub proved : IsProved p
   pub is_entry : IsEntry p entry f
@@ -244,8 +244,9 @@ pub data Accepted (told : Option Files) (words : List Text) (text : Text) (statu
       → AcceptedBytes (made_text procedures) → Accepted told words text status
 
 -- a run has ended with that text: it is the text of a configuration in which the entry has ended,
--- and to which some list of events leads from the start that the state's text gives, each with its
--- task's next unit as its number
+-- and to which some list of events leads from the start that the state's text gives, those of the
+-- procedure that sets the resources up first where it is fresh, each with its task's next unit as its
+-- number
 pub record EndedRun (told : Option Files) (file entry state_name : Text) (steps : ℕ) (text : Text) : Type 0 where
   pub bytes : Text
   pub may_have : MayHave told file bytes
@@ -261,9 +262,10 @@ pub record EndedRun (told : Option Files) (file entry state_name : Text) (steps 
   pub heap : Cells
   pub parts : List (List ℕ)
   pub unit : ℕ
-  pub starts : IsStartText program f procedure given vars heap parts unit
+  pub fresh : Bool
+  pub starts : IsStartText program f procedure given vars heap parts unit fresh
   pub start : Config
-  pub begins : Begins program f vars heap start
+  pub begins : Begins program f fresh vars heap start
   pub events : List Event
   pub last : Config
   pub numbered : Numbered program start unit steps events last

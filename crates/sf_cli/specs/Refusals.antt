@@ -44,6 +44,8 @@ of_names (n.OwnedTwice p x) = Named k.OwnedTwice p x
 of_names (n.ForeignVariable p x) = Named k.ForeignVariable p x
 of_names (n.MissingField p x) = Named k.MissingField p x
 of_names (n.TooMany p) = At k.TooMany p
+of_names (n.InitShape p x) = Named k.InitShape p x
+of_names (n.InitCalled p x) = Named k.InitCalled p x
 of_names n.OutOfMemory = OutOfMemory
 
 -- for a breach of the conditions on variables
@@ -77,6 +79,8 @@ number_and_word k.ForeignVariable = (24, codes "ForeignVariable")
 number_and_word k.MissingField = (25, codes "MissingField")
 number_and_word k.TooMany = (26, codes "TooMany")
 number_and_word k.NotBuilt = (27, codes "NotBuilt")
+number_and_word k.InitShape = (28, codes "InitShape")
+number_and_word k.InitCalled = (29, codes "InitCalled")
 number_and_word k.NotHeld = (30, codes "NotHeld")
 number_and_word k.Reentered = (31, codes "Reentered")
 number_and_word k.SameReference = (32, codes "SameReference")

@@ -11,8 +11,9 @@ use sf_precise::laws::{never_taken_is_undetermined, undetermined_annotations_hav
 use sf_proof::laws::each_text_reads_once;
 use sf_rules::laws::{setting_exists, setting_is_unique};
 use sf_run::{
-    bases_are_free, beginnings_are_starts, ends_are_numbered, outcomes_are_unique,
-    sequential_is_decided, starts_have_one_outcome, units_stay_free,
+    bases_are_free, beginnings_are_starts, beginnings_are_unique, ends_are_numbered,
+    init_sequential_is_decided, outcomes_are_unique, sequential_is_decided,
+    starts_have_one_outcome, units_stay_free,
 };
 use sf_search::{programs_have_verdicts, taken_tags_prove, verdicts_are_unique};
 use sf_sound::proofs_are_sound;
@@ -94,6 +95,7 @@ pub fn each_run_has_one_answer()
     verdicts_are_unique();
     entry_is_unique();
     start_is_unique();
+    beginnings_are_unique();
     outcomes_are_unique();
 }
 
@@ -108,6 +110,7 @@ pub fn each_run_has_an_answer()
     proofs_are_sound();
     entry_exists();
     sequential_is_decided();
+    init_sequential_is_decided();
     start_exists();
     starts_have_one_outcome();
     beginnings_are_starts();

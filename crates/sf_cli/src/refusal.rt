@@ -49,6 +49,10 @@ pub enum RefusalKind {
     TooMany,
     /// A form of which proofs can't be looked for yet.
     NotBuilt,
+    /// A procedure named `init` with a parameter, or with a conjunct in its pre or post.
+    InitShape,
+    /// A call of the procedure named `init`.
+    InitCalled,
     /// A resource's variable where the resource isn't held.
     NotHeld,
     /// A resource is entered that is held.
@@ -141,6 +145,12 @@ impl From<NameFault> for Refusal {
                 Refusal::Named(RefusalKind::MissingField, place, name)
             }
             NameFault::TooMany(place) => Refusal::At(RefusalKind::TooMany, place),
+            NameFault::InitShape(place, name) => {
+                Refusal::Named(RefusalKind::InitShape, place, name)
+            }
+            NameFault::InitCalled(place, name) => {
+                Refusal::Named(RefusalKind::InitCalled, place, name)
+            }
             NameFault::OutOfMemory => Refusal::OutOfMemory,
         }
     }
@@ -207,6 +217,8 @@ fn number_and_word(kind: RefusalKind) -> (u64, &'static str)
         RefusalKind::MissingField => (25, "MissingField"),
         RefusalKind::TooMany => (26, "TooMany"),
         RefusalKind::NotBuilt => (27, "NotBuilt"),
+        RefusalKind::InitShape => (28, "InitShape"),
+        RefusalKind::InitCalled => (29, "InitCalled"),
         RefusalKind::NotHeld => (30, "NotHeld"),
         RefusalKind::Reentered => (31, "Reentered"),
         RefusalKind::SameReference => (32, "SameReference"),

@@ -1,19 +1,20 @@
 //! What the command says to `run`, in the order of its work: the verdict on the program, the entry,
 //! whether one task runs it, the text of the state, and what comes of that start.
 
-ghost use Rattle.std.specs.Prelude.{◌≡◌, ◌≢◌, ◌<◌, ◌≤◌, Some, IfOk, length};
+ghost use Rattle.std.specs.Prelude.{◌≡◌, ◌≢◌, ◌<◌, ◌≤◌, true, false, Some, IfOk, length};
 ghost use Rattle.sf_base.specs.declared.limits.TheConstants.{STEPS, WAITS};
 ghost use Rattle.sf_check.specs.Accepted.{arranged_in};
+ghost use Rattle.sf_core.specs.Program.Init.{sets_up};
 ghost use Rattle.sf_core.specs.Program.ProgramView.{program_of};
 ghost use Rattle.sf_foot.specs.Starting.{StartsWith};
 ghost use Rattle.sf_io.specs.Increased.{Increased};
 ghost use Rattle.sf_cli.specs.Answer.{AreRun, HasRun, IsProved, Reaches, Reply, RunAnswer, RunFileAnswer, read_fault_text};
 ghost use Rattle.sf_cli.specs.SoundFile.{MayHave};
-ghost use Rattle.sf_cli.specs.Checked.Printed.{IsOutcomeText};
+ghost use Rattle.sf_cli.specs.Checked.Printed.{BeginAnswer, IsOutcomeText};
 ghost use Rattle.sf_cli.specs.Ran.{StateAnswer};
 ghost use Rattle.sf_cli.specs.StartRefusals.{start_refusal_text};
 ghost use Rattle.sf_run.specs.Running.{program_in};
-ghost use Rattle.sf_run.specs.Sequential.{IsSequential};
+ghost use Rattle.sf_run.specs.Sequential.{InitIsSequential, IsSequential, IsSequentialStart};
 ghost use Rattle.sf_state.specs.Entering.{HoldsNone, IsEntry};
 ghost use Rattle.sf_state.specs.declared.fault.StartFault.TheVariants.{OutOfMemory};
 ghost use Rattle.sf_words.specs.Words.{Text, run};
@@ -26,11 +27,12 @@ use crate::start_refusal::start_refusal_text;
 use sf_base::ProcId;
 use sf_base::limits::{FILE_BYTES, STATE_BYTES};
 use sf_check::Proof;
+use sf_core::Program;
 use sf_foot::Start;
 use sf_io::{FetchFault, Gate, Shelf};
 use sf_precise::Arranged;
 use sf_rules::laws::arranged_has_setting;
-use sf_run::{Budget, is_sequential, run};
+use sf_run::{Budget, is_init_sequential, is_sequential, run};
 use sf_search::VerifyFault;
 use sf_state::{StartFault, entry, read};
 use sf_verify::verify;
@@ -49,7 +51,8 @@ pub struct RunWords<'a> {
     pub budget: Budget,
 }
 
-/// What comes of a start of procedure `f`, from which no parallel call can be reached.
+/// What comes of a start of procedure `f`, from which no parallel call can be reached, nor, where the
+/// start is fresh, from `init`.
 fn answer_to_start<R: Threads + Sync, G: Gate>(
     rt: &R,
     alloc: Global,
@@ -60,12 +63,13 @@ fn answer_to_start<R: Threads + Sync, G: Gate>(
     gate: &G,
 ) -> Result<Said, AllocError>
     requires there { f.0 < length (arranged_in proof.now).program.procedures.items }
-    requires starts { StartsWith (program_in proof.now) f start.vars start.heap start.parts.items }
-    requires sequential { IsSequential (program_in proof.now) f }
+    requires starts { StartsWith (program_in proof.now) f start.fresh start.vars start.heap
+        start.parts.items }
+    requires sequential { IsSequentialStart (program_in proof.now) f start.fresh }
     requires steps { (1 ≤ budget.steps) × (budget.steps ≤ STEPS) }
     requires waits { (1 ≤ budget.waits) × (budget.waits ≤ WAITS) }
-    ensures { IfOk result (λ said. IsOutcomeText (program_in proof.now) f start.vars start.heap
-        start.unit budget.steps budget.waits said.text.items said.status) }
+    ensures { IfOk result (λ said. IsOutcomeText (program_in proof.now) f start.fresh start.vars
+        start.heap start.unit budget.steps budget.waits said.text.items said.status) }
 {
     let arranged = proof.arranged();
     match run(rt, alloc, proof, f, start, budget, gate) {
@@ -87,6 +91,48 @@ fn say_no_start(alloc: Global, fault: &StartFault) -> Result<Said, AllocError>
     })
 }
 
+/// Whether this start can be run: no parallel call can be reached from `init`, where that runs first.
+fn can_begin(alloc: Global, p: &Program, fresh: bool) -> Result<bool, AllocError>
+    ensures yes { IfOk result (λ yes. yes ≡ true
+        → fresh ≡ true → InitIsSequential (program_of p.now)) }
+    ensures no { IfOk result (λ yes. yes ≡ false
+        → (fresh ≡ true) × (InitIsSequential (program_of p.now) → ⊥)) }
+{
+    if fresh {
+        is_init_sequential(alloc, p)
+    } else {
+        Ok(true)
+    }
+}
+
+/// The answer to a start of procedure `f`. Where a parallel call can be reached from `init`, which
+/// runs first, it isn't run: such a run isn't built yet.
+fn answer_to_begin<R: Threads + Sync, G: Gate>(
+    rt: &R,
+    alloc: Global,
+    proof: &Proof<'_>,
+    f: ProcId,
+    start: Start,
+    budget: Budget,
+    gate: &G,
+) -> Result<Said, AllocError>
+    requires there { f.0 < length (arranged_in proof.now).program.procedures.items }
+    requires starts { StartsWith (program_in proof.now) f start.fresh start.vars start.heap
+        start.parts.items }
+    requires sequential { IsSequential (program_in proof.now) f }
+    requires steps { (1 ≤ budget.steps) × (budget.steps ≤ STEPS) }
+    requires waits { (1 ≤ budget.waits) × (budget.waits ≤ WAITS) }
+    ensures { IfOk result (λ said. BeginAnswer (program_in proof.now) f start.fresh start.vars
+        start.heap start.unit budget.steps budget.waits said.text.items said.status) }
+{
+    let arranged = proof.arranged();
+    if can_begin(alloc, &arranged.program, start.fresh)? {
+        answer_to_start(rt, alloc, proof, f, start, budget, gate)
+    } else {
+        say_refusal(alloc, &Refusal::At(RefusalKind::NotBuilt, FIRST_PLACE))
+    }
+}
+
 /// The answer to a run of procedure `f` from the text of a state.
 fn answer_to_state<R: Threads + Sync, G: Gate>(
     rt: &R,
@@ -99,6 +145,7 @@ fn answer_to_state<R: Threads + Sync, G: Gate>(
 ) -> Result<Said, AllocError>
     requires there { f.0 < length (arranged_in proof.now).program.procedures.items }
     requires free { HoldsNone (program_in proof.now) f }
+    requires other { sets_up (program_in proof.now) f ≡ false }
     requires sequential { IsSequential (program_in proof.now) f }
     requires steps { (1 ≤ budget.steps) × (budget.steps ≤ STEPS) }
     requires waits { (1 ≤ budget.waits) × (budget.waits ≤ WAITS) }
@@ -107,7 +154,7 @@ fn answer_to_state<R: Threads + Sync, G: Gate>(
 {
     let arranged = proof.arranged();
     match read(alloc, arranged, f, state) {
-        Ok(start) => answer_to_start(rt, alloc, proof, f, start, budget, gate),
+        Ok(start) => answer_to_begin(rt, alloc, proof, f, start, budget, gate),
         Err(fault) => say_no_start(alloc, &fault),
     }
 }
@@ -124,6 +171,7 @@ fn run_state_file<R: Threads + Sync, S: Shelf, G: Gate>(
 ) -> Result<Said, AllocError>
     requires there { f.0 < length (arranged_in proof.now).program.procedures.items }
     requires free { HoldsNone (program_in proof.now) f }
+    requires other { sets_up (program_in proof.now) f ≡ false }
     requires sequential { IsSequential (program_in proof.now) f }
     requires steps { (1 ≤ words.now.budget.steps) × (words.now.budget.steps ≤ STEPS) }
     requires waits { (1 ≤ words.now.budget.waits) × (words.now.budget.waits ≤ WAITS) }
@@ -151,7 +199,8 @@ fn run_state_file<R: Threads + Sync, S: Shelf, G: Gate>(
 }
 
 /// The answer to a run of procedure `f`. The state's file is left alone where a parallel call can
-/// be reached from it: such a run isn't built yet.
+/// be reached from it: such a run isn't built yet. Whether one can be reached from `init` counts
+/// only once the state is read, and is fresh.
 fn run_entry<R: Threads + Sync, S: Shelf, G: Gate>(
     rt: &R,
     alloc: Global,

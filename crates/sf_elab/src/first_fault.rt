@@ -105,7 +105,10 @@ pub fn named_fault(alloc: Global, bytes: &[u8], fault: Fault) -> Result<NameFaul
             Name::new(alloc, link_name(link))?,
         )),
         Fault::TooMany(place) => Ok(NameFault::TooMany(place)),
-        Fault::InitShape(place) => Ok(NameFault::InitShape(place, Name::new(alloc, "init".as_bytes())?)),
+        Fault::InitShape(place) => Ok(NameFault::InitShape(
+            place,
+            Name::new(alloc, "init".as_bytes())?,
+        )),
         Fault::InitCalled(word) => Ok(NameFault::InitCalled(word.place, name(alloc, bytes, word)?)),
     }
 }

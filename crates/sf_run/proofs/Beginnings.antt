@@ -27,8 +27,8 @@ use Rattle.sf_run.specs.Sequential.{BeginsSequentially, IsSequentialStart}
 -- no cell is where no location is mentioned
 fresh-none : (vars : Vars) (heap : Cells) (unit : ℕ) → IsFreshFrom vars heap unit → (k : ℕ) → unit ≤ k
     → heap_of heap k ≡ None
-fresh-none vars heap unit fresh k l = elim (some-or_none (get heap k)) [
-  | inl (here, e) ↦ absurd (below (fresh.1 k (inl (ap is_some e))))
+fresh-none vars heap unit above k l = elim (some-or_none (get heap k)) [
+  | inl (here, e) ↦ absurd (below (above.1 k (inl (ap is_some e))))
   | inr e ↦ ap (option_map cell_of) e
 ]
   where
@@ -44,6 +44,14 @@ kind-one p true (fresh n h) c k l =
 kind-one p false (fresh n h) c k l = absurd k
 kind-one p false settled settled k l = refl
 kind-one p false settled (fresh n h) k l = absurd l
+
+-- so a procedure begins in one configuration at most
+pub begin-same : (p : Program) (f : ProcId) (is_fresh : Bool) (vars : Vars) (heap : Cells) (c d : Config)
+    → Begins p f is_fresh vars heap c → Begins p f is_fresh vars heap d → c ≡ d
+begin-same p f is_fresh vars heap c d a b =
+    let same : a.procedure ≡ b.procedure = some-once (procedure_at p f) a.procedure b.procedure a.there b.there in
+    a.is ∙ ap₂ (λ (z : Beginning) (g : Procedure). initial_config z p f g (store_of z g vars) (heap_of heap))
+    (kind-one p is_fresh a.beginning b.beginning a.kind b.kind) same ∙ sym b.is
 
 -- a procedure of that name sets the resources up
 pub named-sets_up : (p : Program) (m : ProcId) (h : Procedure) → slice_get p.procedures m.0 ≡ Some h

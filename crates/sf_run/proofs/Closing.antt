@@ -1,6 +1,6 @@
 -- The laws of runs of one task, under the names of their functions in src/laws.rt.
-use Rattle.std.proofs.Common.{subst}
-use Rattle.sf_run.specs.Checked.Laws.{BasesAreFree, BeginningsAreStarts, EndsAreNumbered, EndsAreUnique, InitSequentialIsDecided, LoneTasksFindRegionsFree, LoneTasksProgress, NumberedRunsReach, OutcomesAreUnique, OutcomesExist, SequentialIsDecided, SequentialRunsAreLone, SpentRunsHaveUsedAll, StartsHaveOneOutcome, UnitsStayFree, WaitingRunsTryInVain}
+use Rattle.std.proofs.Common.{subst, sym}
+use Rattle.sf_run.specs.Checked.Laws.{BasesAreFree, BeginningsAreStarts, BeginningsAreUnique, EndsAreNumbered, EndsAreUnique, InitSequentialIsDecided, LoneTasksFindRegionsFree, LoneTasksProgress, NumberedRunsReach, OutcomesAreUnique, OutcomesExist, SequentialIsDecided, SequentialRunsAreLone, SpentRunsHaveUsedAll, StartsHaveOneOutcome, UnitsStayFree, WaitingRunsTryInVain}
 use Rattle.sf_core.proofs.Machine.InOrder.Starts.{start-in_order, reach-keeps}
 use Rattle.sf_core.specs.Machine.Alone.{finished, spent, waiting, Alone}
 use Rattle.sf_core.specs.Machine.Config.{Config}
@@ -12,7 +12,8 @@ use Rattle.sf_calls.specs.Checked.Lemmas.Broken.{first_broken}
 use Rattle.sf_calls.specs.declared.breach.Breach.TheVariants.{Reentered}
 use Rattle.sf_foot.specs.Starting.{store_of}
 use Rattle.sf_heap.specs.Cells.{heap_of}
-use Rattle.sf_run.proofs.Beginnings.{begin-base, begin-one, begin-sequential, begin-start, begin-starts}
+use Rattle.sf_run.specs.Checked.Lone.{IsLone}
+use Rattle.sf_run.proofs.Beginnings.{begin-base, begin-one, begin-same, begin-sequential, begin-start, begin-starts}
 use Rattle.sf_run.proofs.Finishes.{ends-same}
 use Rattle.sf_run.proofs.Lone.{reach-lone, start-lone}
 use Rattle.sf_run.proofs.Numbering.{alone-numbered, end-numbered, reach-numbered, spent-spending, waiting-numbered}
@@ -92,6 +93,10 @@ unfolding BeginningsAreStarts
 beginnings_are_starts p f is_fresh vars heap parts c s b =
     (store_of s.beginning s.procedure vars, begin-starts p f is_fresh vars heap parts s c b)
 
+pub beginnings_are_unique : BeginningsAreUnique
+unfolding BeginningsAreUnique
+beginnings_are_unique p f is_fresh vars heap c d a b = begin-same p f is_fresh vars heap c d a b
+
 pub numbered_runs_reach : NumberedRunsReach
 unfolding NumberedRunsReach
 numbered_runs_reach p start c base count events n =
@@ -99,9 +104,13 @@ numbered_runs_reach p start c base count events n =
 
 pub ends_are_numbered : EndsAreNumbered
 unfolding EndsAreNumbered
-ends_are_numbered p f store heap start c base count s n a =
+ends_are_numbered p f is_fresh vars heap parts start c base count n s b a =
+    let g = s.procedure in
+    let one = start-lone p f (store_of s.beginning g vars) (heap_of heap) s.config s.starts
+    (begin-sequential p f is_fresh vars heap parts s n) in
     end-numbered p start c base count
-    (alone-numbered p (units base count) start (finished c) (start-lone p f store heap start s n) a)
+    (alone-numbered p (units base count) start (finished c)
+    (subst (IsLone p) (sym (begin-one p f is_fresh vars heap parts s start b)) one) a)
 
 pub spent_runs_have_used_all : SpentRunsHaveUsedAll
 unfolding SpentRunsHaveUsedAll

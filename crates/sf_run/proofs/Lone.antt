@@ -208,7 +208,7 @@ pub step-lone : (p : Program) (ev : Event) (c d : Config) → IsLone p c → Ste
 step-lone p ev c d k s = after-lone p k.frames d (lone-step p ev c d k s)
 
 -- the frames with which a procedure starts are
-first-lone : (p : Program) (f : ProcId) (g : Procedure) (b : Beginning) (store : Store) (heap : Heap)
+pub first-lone : (p : Program) (f : ProcId) (g : Procedure) (b : Beginning) (store : Store) (heap : Heap)
     → procedure_at p f ≡ Some g → BeginsWith b p g store heap → BeginsSequentially p f b
     → AllByRecursion (IsLoneFrame p) (first_frames b f g)
 first-lone p f g settled store heap there begins n =

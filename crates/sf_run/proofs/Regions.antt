@@ -1,6 +1,6 @@
 -- That a lone task holds no resource that its innermost frames may still enter.
 -- Names: `WHAT-apart`.
-use Rattle.std.specs.Prelude.{◌≡◌, ◌+◌, ◌==◌, ◌&&◌, Bool, true, false, cond, length, ltb, List, [], ◌∷◌, Option, Some, None, Contains}
+use Rattle.std.specs.Prelude.{◌≡◌, ℕ, ◌+◌, ◌==◌, ◌&&◌, Bool, true, false, cond, length, ltb, List, [], ◌∷◌, Option, Some, None, Contains}
 use Rattle.std.specs.List.{AllByRecursion}
 use Rattle.std.proofs.Common.{sym, ap, ◌∙◌, refl, subst, inl, inr, arith}
 use Rattle.std.proofs.lemmas.Bool.{ltb-true}
@@ -66,7 +66,7 @@ AreApart p (f ∷ below) =
 throughout-none : (p : Program) (r : ResId) (f : Fixed) → (HasThroughout p f.procedure r → ⊥) → throughout p r f ≡ 0
 throughout-none p r f n = go (sets_up p f.procedure) (ltb r.0 (length p.resources)) refl refl
   where
-    go : (a b : Bool) → sets_up p f.procedure ≡ a → ltb r.0 (length p.resources) ≡ b → cond (a && b) 1 0 ≡ 0
+    go : (a b : Bool) → sets_up p f.procedure ≡ a → ltb r.0 (length p.resources) ≡ b → ◌≡◌ {A = ℕ} (cond (a && b) 1 0) 0
     go true true e h = absurd (n (inr (e, ltb-true r.0 (length p.resources) h)))
     go true false e h = refl
     go false b e h = refl
@@ -147,8 +147,9 @@ first-apart : (p : Program) (f : ProcId) (g : Procedure) (b : Beginning) → set
 first-apart p f g settled other = (λ r takes. refl, tt)
 first-apart p f g (fresh m h) other = (
   λ r takes.
+      let count : Bool → ℕ = λ z. cond (z && ltb r.0 (length p.resources)) 1 0 in
       let whole : throughout p r (entry_frame f g).fixed ≡ 0 =
-      ap (λ z. cond (z && ltb r.0 (length p.resources)) 1 0) other in
+      ap count other in
       let none : exits r (items g.body) ≡ 0 = block-exits r g.body in
       omega arith,
   (λ r takes. refl, tt),

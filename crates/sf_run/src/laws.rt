@@ -3,6 +3,7 @@
 ghost use Rattle.sf_run.specs.Checked.Laws.{
   BasesAreFree,
   BeginningsAreStarts,
+  BeginningsAreUnique,
   EndsAreNumbered,
   EndsAreUnique,
   InitSequentialIsDecided,
@@ -81,6 +82,12 @@ pub fn ends_are_unique()
 #[tactic(auto, using(crate::proofs::Closing::beginnings_are_starts))]
 pub fn beginnings_are_starts()
     ensures { BeginningsAreStarts }
+{}
+
+/// A procedure begins in one configuration at most, fresh or not.
+#[tactic(auto, using(crate::proofs::Closing::beginnings_are_unique))]
+pub fn beginnings_are_unique()
+    ensures { BeginningsAreUnique }
 {}
 
 /// What a numbered run reaches, its events lead to.

@@ -15,10 +15,11 @@ mod sequential;
 mod stop;
 
 pub use laws::{
-    bases_are_free, beginnings_are_starts, ends_are_numbered, ends_are_unique,
-    init_sequential_is_decided, lone_tasks_find_regions_free, lone_tasks_progress, numbered_runs_reach, outcomes_are_unique,
-    outcomes_exist, sequential_is_decided, sequential_runs_are_lone, spent_runs_have_used_all,
-    starts_have_one_outcome, units_stay_free, waiting_runs_try_in_vain,
+    bases_are_free, beginnings_are_starts, beginnings_are_unique, ends_are_numbered,
+    ends_are_unique, init_sequential_is_decided, lone_tasks_find_regions_free, lone_tasks_progress,
+    numbered_runs_reach, outcomes_are_unique, outcomes_exist, sequential_is_decided,
+    sequential_runs_are_lone, spent_runs_have_used_all, starts_have_one_outcome, units_stay_free,
+    waiting_runs_try_in_vain,
 };
 pub use running::run;
 pub use sequential::{is_init_sequential, is_sequential};

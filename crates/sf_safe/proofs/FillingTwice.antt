@@ -117,7 +117,7 @@ formed-procedures k g e = elim (which k g e) [
   | inr i ↦ subst (ProcedureWithin filling_twice) i formed-fills
 ]
 
-formed-resources : (k : ℕ) (r : Resource) → slice_get (guarding ∷ []) k ≡ Some r
+pub formed-resources : (k : ℕ) (r : Resource) → slice_get (guarding ∷ []) k ≡ Some r
     → AssertionWithin filling_twice.fields (IsOfResource k (length r.variables)) r.invariant
 formed-resources zero r e =
     let one : 0 < 1 = omega arith in

@@ -18,6 +18,7 @@ pub mod Starts
 pub mod Sound
 pub mod Writing
 pub mod FillingTwice
+pub mod SettingUp
 pub mod Views
 pub mod Lent
 pub mod Locally

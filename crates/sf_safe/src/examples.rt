@@ -1,6 +1,6 @@
 //! Examples of safety, each the contract of a function that does nothing.
 
-ghost use Rattle.sf_safe.specs.Checked.Examples.{FillingTwiceIsSound, WritingIsNotSafe};
+ghost use Rattle.sf_safe.specs.Checked.Examples.{FillingTwiceIsSound, SettingUpIsSound, UnmetInvariantsAreNotSound, WritingIsNotSafe};
 
 /// A body that writes a cell which its precondition doesn't give it isn't safe for one event.
 #[tactic(auto, using(crate::proofs::Writing::writing_is_not_safe))]
@@ -12,4 +12,17 @@ pub fn writing_is_not_safe()
 #[tactic(auto, using(crate::proofs::FillingTwice::filling_twice_is_sound))]
 pub fn filling_twice_is_sound()
     ensures { FillingTwiceIsSound }
+{}
+
+/// A program whose resource is set up by a procedure that makes the invariant's cell is sound, from
+/// fresh starts too.
+#[tactic(auto, using(crate::proofs::SettingUp::setting_up_is_sound))]
+pub fn setting_up_is_sound()
+    ensures { SettingUpIsSound }
+{}
+
+/// One whose resource is set up by a procedure that leaves the invariant unmet isn't.
+#[tactic(auto, using(crate::proofs::SettingUp::unmet_invariants_are_not_sound))]
+pub fn unmet_invariants_are_not_sound()
+    ensures { UnmetInvariantsAreNotSound }
 {}

@@ -8,5 +8,8 @@
 mod examples;
 mod laws;
 
-pub use examples::{filling_twice_is_sound, writing_is_not_safe};
+pub use examples::{
+    filling_twice_is_sound, setting_up_is_sound, unmet_invariants_are_not_sound,
+    writing_is_not_safe,
+};
 pub use laws::{locally_safe_programs_are_sound, safe_programs_are_sound};

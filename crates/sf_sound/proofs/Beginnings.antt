@@ -385,9 +385,11 @@ module _ (d : Setting) (sane : IsSane d) (f : ProcId) (g : Procedure)
             → IsOfResource q.0 (length of.variables) x → value_in l x ≡ nil
         go (Own n) q of e i = absurd i
         go (Shared r j) q of e i =
-            b.unset r j
-            (init, subst (λ k. j < variable_count (slice_get p.resources k)) (sym i.0)
-            (subst (λ z. j < variable_count z) (sym e) i.1))
+            b.unset r j (
+              init,
+              subst (λ k. j < variable_count (slice_get p.resources k)) (sym i.0)
+                  (subst (λ z. j < variable_count z) (sym e) i.1),
+            )
 
     -- values of the symbols: those of the parameters
     abbrev w0 : ℕ → Value

@@ -1,14 +1,18 @@
 //! Commands over the files of `files`, and what they say, worked out by hand.
 
-use super::files::{buffer, chain, late, leak, link_first, mm, reverse, set, stay, tree, vacuous};
+use super::files::{
+    buffer, chain, late, leak, link_first, mi, mm, reverse, set, stay, tree, vacuous,
+};
 
 /// Files that are verified, by one worker or more, and what is said of them.
-pub const VERDICTS: [(&[&str], &str, &str, u8); 15] = [
+pub const VERDICTS: [(&[&str], &str, &str, u8); 17] = [
     (&["verify", "set.sf"], "", set::PROOF, 0),
     (&["verify", "tree.sf"], "", tree::PROOF, 0),
     (&["verify", "leak.sf"], "", leak::FAILURE, 1),
     (&["verify", "mm.sf"], "", mm::PROOF, 0),
     (&["verify", "mm.sf", "--workers", "4"], "", mm::PROOF, 0),
+    (&["verify", "mi.sf"], "", mi::PROOF, 0),
+    (&["verify", "mi3.sf"], "", mi::FAILURE, 1),
     (&["verify", "buf.sf"], "", buffer::PROOF, 0),
     (&["verify", "late.sf"], "", late::FAILURE, 1),
     (

@@ -3,11 +3,13 @@
 
 pub mod buffer;
 pub mod chain;
+pub mod forking;
 pub mod free;
 pub mod fresh;
 pub mod late;
 pub mod leak;
 pub mod link_first;
+pub mod mi;
 pub mod mm;
 pub mod reverse;
 pub mod set;
@@ -17,11 +19,14 @@ pub mod two;
 pub mod vacuous;
 
 /// What is on the shelf: names and texts.
-pub const FILES: [(&str, &str); 15] = [
+pub const FILES: [(&str, &str); 18] = [
     ("set.sf", set::FILE),
     ("tree.sf", tree::FILE),
     ("leak.sf", leak::FILE),
     ("mm.sf", mm::FILE),
+    ("mi.sf", mi::FILE),
+    ("mi3.sf", mi::WRONG),
+    ("fork.sf", forking::FILE),
     ("buf.sf", buffer::FILE),
     ("late.sf", late::FILE),
     ("rev.sf", reverse::FILE),

@@ -1,11 +1,11 @@
 //! Runs: files, words, states and what is said, worked out by hand.
 
-use super::files::leak;
+use super::files::{leak, mi};
 use super::{are_no_commands, are_said};
 use std::test::Fail;
 
 /// What a run ends with, or why it stops.
-const OUTCOMES: [(&[&str], &str, &str, u8); 14] = [
+const OUTCOMES: [(&[&str], &str, &str, u8); 18] = [
     (
         &["run", "stay.sf", "stay", "given", "--waits", "5"],
         "r.v = nil\n",
@@ -82,6 +82,30 @@ const OUTCOMES: [(&[&str], &str, &str, u8); 14] = [
         0,
     ),
     (
+        &["run", "mi.sf", "alloc", "given"],
+        "x = nil\n",
+        "finished\nx = @5\nmm.f = nil\n@5 hd=nil tl=nil l=nil r=nil\n",
+        0,
+    ),
+    (
+        &["run", "mi.sf", "alloc", "given", "--steps", "1"],
+        "x = nil\n",
+        "spent steps: task 0 used 1\n",
+        6,
+    ),
+    (
+        &["run", "mi.sf", "alloc", "given"],
+        "x = nil\nmm.f = nil\n",
+        "finished\nx = @3\nmm.f = nil\n@3 hd=nil tl=nil l=nil r=nil\n",
+        0,
+    ),
+    (
+        &["run", "fork.sf", "e", "given"],
+        "x = nil\nr.v = 4\n",
+        "finished\nx = 1\nr.v = 4\n",
+        0,
+    ),
+    (
         &["run", "calls.sf", "both", "given"],
         "a = nil\nb = @5\n@5 val=1\n",
         "finished\na = @5\nb = @5\n@5 val=1 next=@7\n@7 val=7 next=nil\n",
@@ -102,7 +126,7 @@ const OUTCOMES: [(&[&str], &str, &str, u8); 14] = [
 ];
 
 /// Why there is no start.
-const NO_STARTS: [(&[&str], &str, &str, u8); 12] = [
+const NO_STARTS: [(&[&str], &str, &str, u8); 19] = [
     (
         &["run", "two.sf", "two", "given"],
         "x = nil\n@7\n",
@@ -170,6 +194,48 @@ const NO_STARTS: [(&[&str], &str, &str, u8); 12] = [
         5,
     ),
     (
+        &["run", "mi.sf", "init", "given"],
+        "x = nil\n",
+        "start refused: 76 FreeEntry init\n",
+        5,
+    ),
+    (
+        &["run", "mi.sf", "alloc", "given"],
+        "",
+        "start refused: 72 Missing x\n",
+        5,
+    ),
+    (
+        &["run", "mi.sf", "alloc", "given"],
+        "mm.f = nil\n",
+        "start refused: 72 Missing x\n",
+        5,
+    ),
+    (
+        &["run", "mi.sf", "dealloc", "given"],
+        "y = @1\n@1\n@2\n",
+        "start refused: 75 LeftOver @2\n",
+        5,
+    ),
+    (
+        &["run", "mi.sf", "alloc", "given"],
+        "x = nil\nmm.f = 3\n",
+        "start refused: 74 Unmet resource mm\n",
+        5,
+    ),
+    (
+        &["run", "fork.sf", "e", "given"],
+        "x = nil\n@1\n",
+        "start refused: 75 LeftOver @1\n",
+        5,
+    ),
+    (
+        &["run", "fork.sf", "e", "given"],
+        "x = nil\n",
+        "file refused: 27 NotBuilt at 1:1\n",
+        3,
+    ),
+    (
         &["run", "free.sf", "f", "given"],
         "x = nil\na.v = nil\n",
         "start refused: 76 FreeEntry f\n",
@@ -178,7 +244,7 @@ const NO_STARTS: [(&[&str], &str, &str, u8); 12] = [
 ];
 
 /// What comes before the state is fetched, which isn't there; and that it is due then.
-const WITHOUT_STATE: [(&[&str], &str, &str, u8); 8] = [
+const WITHOUT_STATE: [(&[&str], &str, &str, u8); 11] = [
     (
         &["run", "leak.sf", "disp_tree", "none"],
         "",
@@ -203,6 +269,19 @@ const WITHOUT_STATE: [(&[&str], &str, &str, u8); 8] = [
         "",
         "start refused: 76 FreeEntry f\n",
         5,
+    ),
+    (
+        &["run", "mi.sf", "init", "none"],
+        "",
+        "start refused: 76 FreeEntry init\n",
+        5,
+    ),
+    (&["run", "mi3.sf", "init", "none"], "", mi::FAILURE, 1),
+    (
+        &["run", "fork.sf", "e", "none"],
+        "",
+        "read fault: none\n",
+        7,
     ),
     (
         &["run", "bad.sf", "f", "none"],

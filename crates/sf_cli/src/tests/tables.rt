@@ -151,7 +151,7 @@ pub const BAD_GRAMMAR: [(&[u8], &str); 5] = [
 ];
 
 /// Files that are refused for names, with the name.
-pub const BAD_NAMES: [(&[u8], &str); 33] = [
+pub const BAD_NAMES: [(&[u8], &str); 38] = [
     (b"f(x) { g(x); }", "20 UnknownName at 1:8 g"),
     (b"f(x,x) { }", "21 Twice at 1:5 x"),
     (b"f(x) { f(x;); }", "22 Arity at 1:8 f"),
@@ -159,6 +159,11 @@ pub const BAD_NAMES: [(&[u8], &str); 33] = [
         b"resource a (v) [] resource b (v) []",
         "23 OwnedTwice at 1:31 v",
     ),
+    (b"init(x) { }", "28 InitShape at 1:6 init"),
+    (b"init() { } f() { init(); }", "29 InitCalled at 1:18 init"),
+    (b"init(x;) { }", "28 InitShape at 1:6 init"),
+    (b"init() [nil == nil] { }", "28 InitShape at 1:9 init"),
+    (b"init() { init(); }", "29 InitCalled at 1:10 init"),
     (b"resource a (v) [w == nil]", "24 ForeignVariable at 1:17 w"),
     (b"q; f(x) [list(x)] { }", "25 MissingField at 1:10 tl"),
     (

@@ -1,7 +1,7 @@
 -- Examples of rows on small goals: what the whole table leaves of each, for what is known and for the commands that touch
 -- a variable or a cell. ExamplesOfBodies and ExamplesOfConjuncts have the other rows.
 -- The goals are in the manner of Berdine, Calcagno, O'Hearn, "Symbolic Execution with Separation Logic" (2005).
-use Rattle.std.specs.Prelude.{◌≡◌, ℕ, List, [], ◌∷◌, Option, Some, None}
+use Rattle.std.specs.Prelude.{◌≡◌, ℕ, List, [], ◌∷◌, Some, None}
 use Rattle.sf_base.specs.declared.ids.FieldId.{FieldId}
 use Rattle.sf_base.specs.declared.ids.Var.TheVariants.{Own}
 use Rattle.sf_core.specs.declared.assertion.Test.{Test}
@@ -16,7 +16,6 @@ use Rattle.sf_sym.specs.declared.atom.Atom.TheVariants.{Points, Ls, Tree}
 use Rattle.sf_sym.specs.declared.atom.Numbered.{Numbered}
 use Rattle.sf_sym.specs.declared.tag.Tag.{Tag}
 use Rattle.sf_sym.specs.declared.tag.Tag.TheVariants as t
-use Rattle.sf_sym.specs.declared.term.Term.{Term}
 use Rattle.sf_sym.specs.declared.term.Term.TheVariants.{Nil, Sym}
 use Rattle.sf_sym.specs.Checked.Examples.{state_with}
 use Rattle.sf_sym.specs.Goal.{Item, run, gave, end, Goal}

@@ -1,6 +1,6 @@
 -- Examples of the rows of loops, calls, regions and ends on small goals.
 -- The goals are in the manner of Berdine, Calcagno, O'Hearn, "Smallfoot" (2005).
-use Rattle.std.specs.Prelude.{◌≡◌, List, [], ◌∷◌, Some, None, codes}
+use Rattle.std.specs.Prelude.{◌≡◌, [], ◌∷◌, Some, None, codes}
 use Rattle.sf_base.specs.declared.ids.Var.{Var}
 use Rattle.sf_base.specs.declared.ids.Var.TheVariants.{Own, Shared}
 use Rattle.sf_core.specs.declared.assertion.Operand.TheVariants.{Known}
@@ -10,13 +10,13 @@ use Rattle.sf_core.specs.Checked.Assertions.Examples.{place}
 use Rattle.sf_core.specs.Checked.Machine.Examples.{at_own, emp, lock, one_cell, one_cell_at, own_one, procedure}
 use Rattle.sf_core.specs.declared.command.Expr.{Expr}
 use Rattle.sf_core.specs.declared.command.Expr.TheVariants.{Var as Variable, Nil as ENil}
-use Rattle.sf_core.specs.Program.Syntax.{Assertion, Call, Command, Conjuncts, none, also, holds, points, level, assign, while, call, fork, with, done, then, Program, Procedure, Resource}
+use Rattle.sf_core.specs.Program.Syntax.{Assertion, Call, Command, Conjuncts, none, also, holds, points, level, assign, while, call, fork, with, done, then, Procedure, Resource}
 use Rattle.sf_sym.specs.declared.atom.Atom.TheVariants.{Points, Ls}
 use Rattle.sf_sym.specs.declared.tag.Tag.TheVariants as t
 use Rattle.sf_sym.specs.declared.term.Term.{Term}
 use Rattle.sf_sym.specs.declared.term.Term.TheVariants.{Nil, Sym}
 use Rattle.sf_sym.specs.Checked.Examples.{state_with}
-use Rattle.sf_sym.specs.Goal.{Item, run, add, take, gave, head, again, exit, return, end, Goal}
+use Rattle.sf_sym.specs.Goal.{Item, run, add, take, gave, head, again, exit, return, end}
 use Rattle.sf_sym.specs.State.{State}
 use Rattle.sf_rules.specs.Checked.Examples.{before, changing_x, ends, goal_at, only, two_variables}
 use Rattle.sf_rules.specs.Rows.Whole.{row}

@@ -1,20 +1,17 @@
 -- Examples of the rows of what is assumed and of what is to be shown on small goals.
 -- The goals are in the manner of Berdine, Calcagno, O'Hearn, "Symbolic Execution with Separation Logic" (2005), section 5.
-use Rattle.std.specs.Prelude.{◌≡◌, List, [], ◌∷◌, Option, Some, None, codes}
-use Rattle.sf_base.specs.declared.ids.Var.TheVariants.{Own}
-use Rattle.sf_core.specs.declared.assertion.Operand.{Operand}
+use Rattle.std.specs.Prelude.{◌≡◌, [], ◌∷◌, Option, Some, None, codes}
 use Rattle.sf_core.specs.declared.assertion.Operand.TheVariants.{Known, Exists}
 use Rattle.sf_core.specs.declared.assertion.Test.TheVariants.{Equal, Differ}
 use Rattle.sf_core.specs.Checked.Assertions.Examples.{place, tl, l, r}
 use Rattle.sf_core.specs.Program.Syntax.{Conjunct, Conjuncts, none, also, holds, points, segment, tree, choose, Level, level}
 use Rattle.sf_sym.specs.declared.atom.Atom.{Atom}
 use Rattle.sf_sym.specs.declared.atom.Atom.TheVariants.{Points, Ls, Tree}
-use Rattle.sf_sym.specs.declared.tag.Tag.{Tag}
 use Rattle.sf_sym.specs.declared.tag.Tag.TheVariants as t
 use Rattle.sf_sym.specs.declared.term.Term.{Term}
 use Rattle.sf_sym.specs.declared.term.Term.TheVariants.{Nil, Sym}
 use Rattle.sf_sym.specs.Checked.Examples.{state_with}
-use Rattle.sf_sym.specs.Goal.{Item, add, take, Goal}
+use Rattle.sf_sym.specs.Goal.{add, take, Goal}
 use Rattle.sf_sym.specs.State.{State}
 use Rattle.sf_rules.specs.Checked.Examples.{ends, goal_at, numbered, only}
 use Rattle.sf_rules.specs.Rows.Whole.{row}

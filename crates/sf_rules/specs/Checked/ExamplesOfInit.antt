@@ -14,7 +14,7 @@ use Rattle.sf_sym.specs.declared.tag.Tag.TheVariants as t
 use Rattle.sf_sym.specs.declared.term.Term.{Term}
 use Rattle.sf_sym.specs.declared.term.Term.TheVariants.{Nil, Sym}
 use Rattle.sf_sym.specs.Checked.Examples.{state_with}
-use Rattle.sf_sym.specs.Goal.{Item, run, return, end}
+use Rattle.sf_sym.specs.Goal.{run, return, end}
 use Rattle.sf_sym.specs.State.{State, first_state}
 use Rattle.sf_rules.specs.Checked.Examples.{goal_at}
 use Rattle.sf_rules.specs.Checked.ExamplesOfBodies.{assumes, cell_at, guarded, nil_at, same, shows, v, v_value}

@@ -125,11 +125,16 @@ pub record IsNumberedEnd (p : Program) (start : Config) (base count : ℕ) (c : 
   pub numbered : Numbered p start base count events c
   pub ended : HasEnded [] c.tasks
 
+-- a procedure begins in one configuration at most, fresh or not
+unfoldable pub BeginningsAreUnique : Type 0
+BeginningsAreUnique = (p : Program) (f : ProcId) (is_fresh : Bool) (vars : Vars) (heap : Cells) (c d : Config)
+    → Begins p f is_fresh vars heap c → Begins p f is_fresh vars heap d → c ≡ d
+
 -- where no parallel call can be reached, what a run ends in is that
 unfoldable pub EndsAreNumbered : Type 0
-EndsAreNumbered = (p : Program) (f : ProcId) (store : Store) (heap : Heap) (start c : Config) (base count : ℕ)
-    → (s : Start p f store heap start) → BeginsSequentially p f s.beginning → Alone p start base count (finished c)
-    → IsNumberedEnd p start base count c
+EndsAreNumbered = (p : Program) (f : ProcId) (is_fresh : Bool) (vars : Vars) (heap : Cells) (parts : List (List ℕ))
+    (start c : Config) (base count : ℕ) → IsSequentialStart p f is_fresh → StartsWith p f is_fresh vars heap parts
+    → Begins p f is_fresh vars heap start → Alone p start base count (finished c) → IsNumberedEnd p start base count c
 
 -- where it has used its units, it was given so many, had as many events, and would go on
 unfoldable pub SpentRunsHaveUsedAll : Type 0

@@ -1,10 +1,12 @@
--- Examples of safety: a body that isn't safe for one event, and a fork of two calls that enter one region.
+-- Examples of safety: a body that isn't safe for one event, a fork of two calls that enter one region, and procedures that
+-- set a resource up.
 -- The fork is that of O'Hearn, "Resources, Concurrency and Local Reasoning" (2007), at its smallest.
 use Rattle.std.specs.Prelude.{pos, [], ◌∷◌, codes}
 use Rattle.sf_core.specs.declared.assertion.Test.TheVariants.{True}
 use Rattle.sf_core.specs.declared.command.Expr.TheVariants.{Int}
 use Rattle.sf_core.specs.Machine.Config.{items}
 use Rattle.sf_core.specs.Checked.Machine.Examples.{calls, emp, guarding, hd, here, lock, own_one, procedure, shared_one}
+use Rattle.sf_core.specs.Checked.Machine.SettingUp.{makes_its_cell, makes_nothing, set_up_by}
 use Rattle.sf_core.specs.Program.Syntax.{done, fork, mutate, then, with, Procedure, Program}
 use Rattle.sf_safe.specs.Checked.Own.{Own}
 use Rattle.sf_safe.specs.Checked.Contract.{Entered, Known}
@@ -47,3 +49,11 @@ filling_twice = record {
 -- two tasks that write one cell, each inside the region of the resource that owns it, are sound
 unfoldable pub FillingTwiceIsSound : Type 0
 FillingTwiceIsSound = IsSound filling_twice
+
+-- `skip` beside a procedure that makes the cell of resource lock (v) [v |->] first is sound, from settled and fresh starts
+unfoldable pub SettingUpIsSound : Type 0
+SettingUpIsSound = IsSound (set_up_by makes_its_cell)
+
+-- beside one that makes nothing it isn't
+unfoldable pub UnmetInvariantsAreNotSound : Type 0
+UnmetInvariantsAreNotSound = IsSound (set_up_by makes_nothing) → ⊥

@@ -10,5 +10,6 @@ returns c = run-once (record {
   };
   entries = c.entry_is_unique.ensures;
   starts = c.start_is_unique.ensures;
+  beginnings = c.beginnings_are_unique.ensures;
   outcomes = c.outcomes_are_unique.ensures;
 })

@@ -21,7 +21,7 @@ returns-in-Ok g c =
     IfSome (slice_get (program_of a.program).procedures c.args.f.0) (λ h. SaysFinish (program_of a.program) h
     c.in-Ok.end.vars c.in-Ok.end.heap said.text.items said.status))) c.arranged-arranged.ensures c.say_finish.ensures in
     IfOk-weaker c.say_finish.result _ _
-    (λ said k. ran-finished (program_in c.args.proof.now) c.args.f c.args.start.vars c.args.start.heap
+    (λ said k. ran-finished (program_in c.args.proof.now) c.args.f c.args.start.fresh c.args.start.vars c.args.start.heap
     c.args.start.unit c.args.budget.steps c.args.budget.waits c.in-Ok.end said.text.items said.status
     (arranged_in c.args.proof.now).program.formed c.in-Ok.ensures.ends k) said
 
@@ -31,6 +31,6 @@ returns-in-Err g c =
     (said.text.items ≡ stop_text (program_of a.program) c.in-Err.stop) × (said.status ≡ 6)))
     c.arranged-arranged.ensures c.say_stop.ensures.said in
     ok-both c.say_stop.result _ _ _
-    (λ said s n. ran-stopped (program_in c.args.proof.now) c.args.f c.args.start.vars c.args.start.heap
+    (λ said s n. ran-stopped (program_in c.args.proof.now) c.args.f c.args.start.fresh c.args.start.vars c.args.start.heap
     c.args.start.unit c.args.budget c.in-Err.stop said.text.items said.status c.in-Err.ensures.stops n s.0 s.1) said
     c.say_stop.ensures.cause

@@ -1,9 +1,10 @@
-use Rattle.std.proofs.Common.{◌<◌, length, subst, sym}
+use Rattle.std.proofs.Common.{◌≡◌, ◌<◌, false, length, subst, sym}
 use Rattle.std.proofs.lemmas.Result.{IfOk-weaker}
 use Rattle.std.specs.declared.result.Result.TheVariants.{Ok, Err}
 use Rattle.std.specs.Prelude.{IfSome, slice_get}
 use Rattle.sf_base.proofs.Results.{ok-both}
 use Rattle.sf_check.specs.Accepted.{arranged_in}
+use Rattle.sf_core.specs.Program.Init.{sets_up}
 use Rattle.sf_core.specs.Program.ProgramView.{program_of}
 use Rattle.sf_precise.specs.declared.arranged.Arranged.{Arranged}
 use Rattle.sf_run.specs.Running.{program_in}
@@ -23,8 +24,13 @@ read-requires-clause-free g c =
     subst (λ (a : Arranged). HoldsNone (program_of a.program) c.args.f) (sym c.arranged-arranged.ensures)
     c.requires.free
 
-pub answer_to_start-requires-clause-starts : goal.answer_to_start-requires-clause-starts
-answer_to_start-requires-clause-starts g c = λ κs b.
+pub read-requires-clause-other : goal.read-requires-clause-other
+read-requires-clause-other g c =
+    subst (λ (a : Arranged). sets_up (program_of a.program) c.args.f ≡ false) (sym c.arranged-arranged.ensures)
+    c.requires.other
+
+pub answer_to_begin-requires-clause-starts : goal.answer_to_begin-requires-clause-starts
+answer_to_begin-requires-clause-starts g c = λ κs b.
     let p = program_in c.args.proof.now in
     let found = entry-there (arranged_in c.args.proof.now) c.args.f c.requires.there in
     let decides = subst (λ (a : Arranged). IfSome (slice_get (program_of a.program).procedures c.args.f.0)
@@ -39,10 +45,10 @@ returns-in-Ok g c =
     let decides = subst (λ (a : Arranged). IfSome (slice_get (program_of a.program).procedures c.args.f.0)
     (λ h. DecidesStart (program_of a.program) c.args.f h c.args.state.now (Ok c.in-Ok.start)))
     c.arranged-arranged.ensures c.in-Ok.ensures in
-    IfOk-weaker c.answer_to_start.result _ _
+    IfOk-weaker c.answer_to_begin.result _ _
     (λ said k. ran-answer p c.args.f found.0 c.args.state.now c.in-Ok.start c.args.budget.steps c.args.budget.waits
     said.text.items said.status found.1
-    (ran-started p c.args.f c.args.state.now c.in-Ok.start found.0 found.1 decides) k) c.answer_to_start.ensures
+    (ran-started p c.args.f c.args.state.now c.in-Ok.start found.0 found.1 decides) k) c.answer_to_begin.ensures
 
 pub returns-in-Err : goal.returns-in-Err
 returns-in-Err g c =

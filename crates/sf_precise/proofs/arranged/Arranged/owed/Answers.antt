@@ -1,7 +1,7 @@
 use Rattle.std.proofs.Common.{map, sym, ◌∙◌}
 use Rattle.sf_core.specs.Program.ProgramView.{program_of}
 use Rattle.sf_core.specs.Program.View.{assertion_of}
-use Rattle.sf_precise.proofs.Stored.{owed-invariants, owed-post}
+use Rattle.sf_precise.proofs.Stored.{owed-invariants}
 use Rattle.sf_precise.proofs.arranged.Arranged.owed.Goals as goal
 
 pub returns-then-is_init : goal.returns-then-is_init
