@@ -1,4 +1,3 @@
-use Rattle.std.proofs.Common.{refl}
 use Rattle.sf_core.specs.Program.View.{command_of}
 use Rattle.sf_machine.specs.Configs.{config_of}
 use Rattle.sf_machine.specs.Tasks.{fixed_of}
