@@ -15,4 +15,5 @@ pub mod Spots
 pub mod Stacks
 pub mod Steps
 pub mod Tables
+pub mod TaskPaths
 pub mod Views

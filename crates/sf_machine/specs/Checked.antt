@@ -5,6 +5,7 @@ pub mod Effects
 pub mod Endings
 pub mod Entries
 pub mod Firsts
+pub mod Missing
 pub mod Nexts
 pub mod Noting
 pub mod Performing

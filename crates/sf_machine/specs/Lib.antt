@@ -1,9 +1,11 @@
+pub mod Absent
 pub mod Accessing
 pub mod Answers
 pub mod Beginning
 pub mod Configs
 pub mod Ending
 pub mod Events
+pub mod Paths
 pub mod Reached
 pub mod Spots
 pub mod Stores

@@ -9,6 +9,7 @@
 //! - `config`: configurations.
 //! - `resources`, `entry`, `beginning`: the configuration in which a procedure starts.
 //! - `accessed`, `noting`, `accessing`: what the next step of a task reads and writes.
+//! - `listing`: the paths of all tasks. `missing`: where the next step of a task finds no cell.
 //! - `event`: events, and what a step answers.
 //! - `effect`, `cells`, `applying`: what an event makes of what all tasks share.
 //! - `calling`: the frames of callees, and their values.
@@ -19,8 +20,8 @@
 //!
 //! `specs/` says which configuration of the definitions a `Config` is (Configs), with which one a
 //! procedure starts (Beginning), which ones a running program has (Reached), what is said of a
-//! step's reads and writes (Accessing), what a step answers (Answers), and what a run ends with
-//! (Ending).
+//! step's reads and writes (Accessing), which tasks there are (Paths), where a step finds no cell
+//! (Absent), what a step answers (Answers), and what a run ends with (Ending).
 #![tactic(auto)]
 
 mod accessed;
@@ -37,6 +38,8 @@ mod finishing;
 mod following;
 mod frame;
 mod laws;
+mod listing;
+mod missing;
 mod noting;
 mod performing;
 mod plan;
@@ -54,4 +57,6 @@ pub use beginning::begin;
 pub use config::Config;
 pub use event::{Event, Stepped};
 pub use laws::{answers_are_exclusive, refused_events_do_not_step};
+pub use listing::paths;
+pub use missing::absent;
 pub use stepping::step;

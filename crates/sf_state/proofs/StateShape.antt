@@ -93,6 +93,9 @@ values-many values [] = refl
 values-many values (s ∷ more) =
     values-many (set values s.field.0 s.value) more ∙ length-set values s.field.0 s.value
 
+pub cell-many : (count : ℕ) (settings : List Setting) → length (cell_values count settings) ≡ count
+cell-many count settings = values-many (replicate count nil) settings ∙ length-replicate count nil
+
 -- each cell has a value for each field
 pub state-width : (p : Program) (g : Procedure) (text : Text) (vars : Vars) (heap : Cells)
     → GivesState p g text vars heap → HasWidth (length p.fields) heap

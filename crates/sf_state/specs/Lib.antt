@@ -5,6 +5,7 @@ pub mod Says
 pub mod Refused
 pub mod Stated
 pub mod StateText
+pub mod CellWords
 pub mod Entering
 pub mod Starts
 pub mod Finishing

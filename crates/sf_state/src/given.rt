@@ -42,7 +42,7 @@ fn is_set(settings: &[Setting], field: FieldId) -> bool
 }
 
 /// The first field that is set again.
-fn set_again(settings: &[Setting]) -> Option<FieldId>
+pub(crate) fn set_again(settings: &[Setting]) -> Option<FieldId>
     ensures { result ≡ set_again [] settings.now }
 {
     for i in 0..settings.len() {
@@ -54,7 +54,11 @@ fn set_again(settings: &[Setting]) -> Option<FieldId>
 }
 
 /// The cell of which these fields are set.
-fn cell_with(alloc: Global, count: usize, settings: &[Setting]) -> Result<Cell, AllocError>
+pub(crate) fn cell_with(
+    alloc: Global,
+    count: usize,
+    settings: &[Setting],
+) -> Result<Cell, AllocError>
     ensures { IfOk result (λ c. c ≡ cell_values count settings.now) }
 {
     let mut cell = Cell::new(alloc, count)?;

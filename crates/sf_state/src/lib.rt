@@ -8,6 +8,7 @@
 //! - `line`: what a line says.
 //! - `saying`: the reading of a line.
 //! - `given`: what the lines have given so far.
+//! - `cell`: the cell that words give.
 //! - `state`: the variables and cells that a text gives.
 //! - `placing`: these cells in a heap, and these values as those of variables.
 //! - `finding`: the footprints of a start's assertions, one after the other.
@@ -19,6 +20,7 @@
 //! - `laws`: entries, starts and texts are one each, and what is written is read back.
 #![tactic(auto)]
 
+mod cell;
 mod entering;
 mod fault;
 mod fields;
@@ -37,6 +39,7 @@ mod unit;
 mod values;
 mod words;
 
+pub use cell::cell_from_words;
 pub use entering::entry;
 pub use fault::StartFault;
 pub use finish::write;

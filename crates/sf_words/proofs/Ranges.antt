@@ -7,7 +7,7 @@ use Rattle.std.specs.Str.{bytes_eq}
 use Rattle.std.specs.Str.Parse.{digits_value}
 use Rattle.std.proofs.lemmas.Bool.Decides.{nat_tests}
 use Rattle.sf_base.specs.declared.limits.TheConstants.{DEFAULT_STEPS, DEFAULT_WAITS, DEMO, STEPS, WAITS, WORKERS}
-use Rattle.sf_words.specs.Words.{Given, HasNumbersInRange, Order, Text, chosen_of, demo, demo_given, demo_of, given, is_blank, is_numeral, no_options, number_of, order_of, order_of_command, recheck_given, recheck_of, run_given, run_of, run_options, steps_of, values_of, verify_given, verify_of, verify_options, waits_of, workers_of}
+use Rattle.sf_words.specs.Words.{Given, HasNumbersInRange, Order, Text, chosen_of, demo, demo_given, demo_of, given, is_blank, is_numeral, no_options, number_of, order_of, order_of_command, ranking_given, ranking_of, recheck_given, recheck_of, run_given, run_of, run_options, steps_of, values_of, verify_given, verify_of, verify_options, waits_of, workers_of}
 use Rattle.sf_words.specs.WordsOf.{order_as}
 use Rattle.sf_words.specs.declared.order.Order.{Order as CodeOrder}
 use Rattle.sf_words.specs.declared.order.WordFault.{WordFault}
@@ -77,6 +77,11 @@ range-demo (number ∷ []) = go (number_of DEMO number) (range-number DEMO numbe
     go (Some n) h = h
 range-demo (number ∷ other ∷ more) = tt
 
+range-ranking : (operands : List Text) → IsRanged (ranking_of operands)
+range-ranking [] = tt
+range-ranking (file ∷ []) = tt
+range-ranking (file ∷ other ∷ more) = tt
+
 range-then : (f : Given → Option Order) (o : Option Given) → ((g : Given) → IsRanged (f g))
     → IsRanged (option_and_then f o)
 range-then f None h = tt
@@ -97,7 +102,9 @@ range-command command words =
     (range-chosen STEPS DEFAULT_STEPS (omega arith) (omega arith) (values_of (codes "steps") g.settings))
     (range-chosen WAITS DEFAULT_WAITS (omega arith) (omega arith) (values_of (codes "waits") g.settings))))
     (range-either IsRanged (bytes_eq (codes "demo") command) _ _
-    (range-then demo_given (given no_options None words) (λ g. range-demo g.operands)) tt)))
+    (range-then demo_given (given no_options None words) (λ g. range-demo g.operands))
+    (range-either IsRanged (bytes_eq (codes "order") command) _ _
+    (range-then ranking_given (given no_options None words) (λ g. range-ranking g.operands)) tt))))
 
 range-order : (words : List Text) → IsRanged (order_of words)
 range-order [] = tt

@@ -10,7 +10,7 @@ use Rattle.std.proofs.lemmas.List.{length-append}
 use Rattle.std.proofs.lemmas.List.Folds.{list_all-append}
 use Rattle.sf_base.specs.declared.limits.TheConstants.{DEMO, STEPS, WAITS, WORKERS}
 use Rattle.sf_words.specs.Checked.Laws.{EachOrderIsSpelled}
-use Rattle.sf_words.specs.Words.{Text, dashes, demo, is_blank, number_of, order_of, recheck, run, run_of, verify}
+use Rattle.sf_words.specs.Words.{Text, dashes, demo, is_blank, number_of, order_of, ranking, recheck, run, run_of, verify}
 
 -- ---- a numeral for each number
 
@@ -78,6 +78,10 @@ spelled-demo : (n : ℕ) (t : Numeral 15 n) → 1 ≤ n → n ≤ DEMO → order
 spelled-demo n t some few =
     ap₂ (λ (b : Bool) (o : Option ℕ). cond (b || false) None (option_map (λ x. demo x) o)) (long-full t.text t.wide) (numeral-number DEMO n t some few)
 
+spelled-ranking : (file : Text) → is_blank file ≡ false
+    → order_of (codes "order" ∷ dashes ∷ file ∷ []) ≡ Some (ranking file)
+spelled-ranking file e = ap (λ (a : Bool). cond (a || false) None (Some (ranking file))) e
+
 pub each_order_is_spelled : EachOrderIsSpelled
 each_order_is_spelled (verify file k) m =
     let t = numeral 15 k (omega (arith, m.1.1)) in
@@ -92,3 +96,4 @@ each_order_is_spelled (run file entry state n k) m =
 each_order_is_spelled (demo n) m =
     let t = numeral 15 n (omega (arith, m.1.1)) in
     (codes "demo" ∷ dashes ∷ t.text ∷ [], spelled-demo n t m.1.0 m.1.1)
+each_order_is_spelled (ranking file) m = (codes "order" ∷ dashes ∷ file ∷ [], spelled-ranking file m.0)

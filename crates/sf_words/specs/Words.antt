@@ -19,6 +19,7 @@ pub data Order : Type 0 where
   recheck : (file proof : Text) → Order
   run : (file entry state : Text) (steps waits : ℕ) → Order
   demo : (procedures : ℕ) → Order
+  ranking : (file : Text) → Order
 
 -- the numbers of an order are from 1 to their limits
 abbrev pub HasNumbersInRange : Order → Type 0
@@ -27,6 +28,7 @@ HasNumbersInRange (recheck file proof) = Unit {0}
 HasNumbersInRange (run file entry state steps waits) =
     (1 ≤ steps) × (steps ≤ STEPS) × (1 ≤ waits) × (waits ≤ WAITS)
 HasNumbersInRange (demo procedures) = (1 ≤ procedures) × (procedures ≤ DEMO)
+HasNumbersInRange (ranking file) = Unit {0}
 
 -- ---- single words
 
@@ -172,6 +174,11 @@ abbrev pub demo_of : (operands : List Text) → Option Order
 demo_of (number ∷ []) = option_map (λ n. demo n) (number_of DEMO number)
 demo_of _ = None
 
+-- `order FILE`
+abbrev pub ranking_of : (operands : List Text) → Option Order
+ranking_of (file ∷ []) = Some (ranking file)
+ranking_of _ = None
+
 -- the options of `verify`, of `run`, and of the others
 abbrev pub verify_options : List Text
 verify_options = codes "workers" ∷ []
@@ -206,6 +213,9 @@ run_given g = run_of g.operands (steps_of (values_of (codes "steps") g.settings)
 abbrev pub demo_given : Given → Option Order
 demo_given g = demo_of g.operands
 
+abbrev pub ranking_given : Given → Option Order
+ranking_given g = ranking_of g.operands
+
 -- the order of a command's word and the words behind it
 abbrev pub order_of_command : Text → List Text → Option Order
 order_of_command command words =
@@ -216,7 +226,9 @@ order_of_command command words =
     else (if bytes_eq (codes "run") command
     then option_and_then run_given (given run_options None words)
     else (if bytes_eq (codes "demo") command
-    then option_and_then demo_given (given no_options None words) else None)))
+    then option_and_then demo_given (given no_options None words)
+    else (if bytes_eq (codes "order") command
+    then option_and_then ranking_given (given no_options None words) else None))))
 
 -- the order that the words are, if they are one: the first is the command's, and no word is blank
 abbrev pub order_of : List Text → Option Order

@@ -3,8 +3,8 @@
 use Rattle.std.specs.Prelude.{Option, Some, None, List, map}
 use Rattle.std.specs.Borrow.{Bor}
 use Rattle.sf_words.specs.declared.order.Order.{Order as CodeOrder}
-use Rattle.sf_words.specs.declared.order.Order.TheVariants.{Verify, Recheck, Run, Demo}
-use Rattle.sf_words.specs.Words.{Text, Order, verify, recheck, run, demo}
+use Rattle.sf_words.specs.declared.order.Order.TheVariants.{Verify, Recheck, Run, Demo, Ranking}
+use Rattle.sf_words.specs.Words.{Text, Order, verify, recheck, run, demo, ranking}
 
 -- the words
 abbrev pub words_of : List (Bor Text) → List Text
@@ -16,6 +16,7 @@ order_as (Verify file workers) = verify file.now workers
 order_as (Recheck file proof) = recheck file.now proof.now
 order_as (Run file entry state steps waits) = run file.now entry.now state.now steps waits
 order_as (Demo procedures) = demo procedures
+order_as (Ranking file) = ranking file.now
 
 -- an order of the code, if there is one
 abbrev pub order_in : Option CodeOrder → Option Order

@@ -63,9 +63,11 @@ pub(crate) fn program<'a>(alloc: Global) -> Result<Command<'a>, AllocError>
     let recheck = bare(alloc, "recheck")?;
     let run = run(alloc)?;
     let demo = bare(alloc, "demo")?;
+    let order = bare(alloc, "order")?;
     let one = program.subcommand(verify)?;
     let two = one.subcommand(recheck)?;
     let three = two.subcommand(run)?;
-    let all = three.subcommand(demo)?;
+    let four = three.subcommand(demo)?;
+    let all = four.subcommand(order)?;
     Ok(all)
 }

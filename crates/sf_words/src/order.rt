@@ -36,6 +36,11 @@ pub enum Order<'a> {
         /// How many procedures: 1 to 1,000.
         procedures: u32,
     },
+    /// Rank the resources of a file.
+    Ranking {
+        /// The file's name.
+        file: &'a str,
+    },
 }
 
 /// Why words were not read.
