@@ -9,8 +9,8 @@ ghost use Rattle.sf_run.specs.Sequential.{IsSequentialStart};
 
 use crate::files::{Entered, fitted, start_of};
 use crate::running::{TURNED, TWO_CELLS};
-use sf_base::limits::{STEPS, WAITS};
 use sf_base::ProcId;
+use sf_base::limits::{STEPS, WAITS};
 use sf_check::{Proof, check};
 use sf_core::Program;
 use sf_io::OpenGate;
