@@ -1,7 +1,7 @@
 //! Words of the command line.
 
 /// Words that are no command.
-pub const NO_COMMANDS: [&[&str]; 19] = [
+pub const NO_COMMANDS: [&[&str]; 23] = [
     &[],
     &["verify"],
     &["verify", "a", "b"],
@@ -21,6 +21,10 @@ pub const NO_COMMANDS: [&[&str]; 19] = [
     &["verify", "--", "--workers", "1"],
     &["demo", "0"],
     &["demo", "1001"],
+    &["order"],
+    &["order", "a", "b"],
+    &["order", "set.sf", "--workers", "1"],
+    &["order", "-"],
 ];
 
 /// Words that have the file set.sf proved.
