@@ -1,6 +1,9 @@
 use Rattle.std.proofs.lemmas.Result.{IfOk-weaker}
 use Rattle.sf_base.proofs.Results.{ok-both}
 use Rattle.sf_cli.proofs.Complete.{answering-small, said-small}
+use Rattle.sf_cli.proofs.DemoAnswers.{demo-answering}
+use Rattle.sf_cli.specs.Answer.{answer}
+use Rattle.std.proofs.Common.{inl}
 use Rattle.sf_cli.proofs.command.follow.Goals as goal
 
 pub returns-in-Verify-clause-status : goal.returns-in-Verify-clause-status
@@ -29,3 +32,13 @@ pub returns-in-Run-clause-quiet : goal.returns-in-Run-clause-quiet
 returns-in-Run-clause-quiet g c =
     ok-both c.run_file.result _ _ _ (λ said l q a. q (answering-small said.status l a)) c.run_file.ensures.status
     c.run_file.ensures.quiet
+
+pub returns-in-Demo-clause-status : goal.returns-in-Demo-clause-status
+returns-in-Demo-clause-status g c =
+    IfOk-weaker c.demonstrate.result _ _
+    (λ said k. inl (demo-answering c.in-Demo.procedures said.text.items said.status k)) c.demonstrate.ensures
+
+pub returns-in-Demo-clause-said : goal.returns-in-Demo-clause-said
+returns-in-Demo-clause-said g c =
+    IfOk-weaker c.demonstrate.result _ _
+    (λ said k. answer (demo-answering c.in-Demo.procedures said.text.items said.status k) k) c.demonstrate.ensures
