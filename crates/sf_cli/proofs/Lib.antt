@@ -12,3 +12,4 @@ pub mod RunReplies
 pub mod AnAnswer
 pub mod Complete
 pub mod AnswerLaws
+pub mod Rankings

@@ -45,7 +45,7 @@ use Rattle.sf_cli.specs.declared.reply.Said.{Said}
 use Rattle.sf_cli.specs.Checked.Fetched.{IsUpTo, Fetched}
 use Rattle.sf_cli.specs.Checked.Printed.{IsOutcomeText, SaysFinish, stop_text}
 use Rattle.sf_cli.specs.Ran.{OutcomeAnswer, StateAnswer, no_start, ran, resource_name, spent_steps_text, spent_waits_text}
-use Rattle.sf_words.specs.Words.{Text, Order, run}
+use Rattle.sf_words.specs.Words.{Text, run}
 
 -- ---- procedures
 
@@ -231,7 +231,7 @@ reply-run told before mid after file entry state_name out text steps waits statu
     go : (b : Bool) → nat_lt status 7 ≡ b → Reply told before after (Some (run file entry state_name steps waits)) text status
     go true e =
         let less : status < 7 = ltb-true status 7 e in
-        answer less (h.bytes, h.may_have, fetched-run told out h.bytes entry state_name text steps waits status h.is (a less))
+        answer (inl less) (h.bytes, h.may_have, fetched-run told out h.bytes entry state_name text steps waits status h.is (a less))
     go false e =
         let more : 7 ≤ status = ltb-false status 7 e in
         let is : status ≡ 7 = omega (arith, l, more) in

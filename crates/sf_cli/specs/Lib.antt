@@ -8,5 +8,6 @@ pub mod Rechecked
 pub mod StartRefusals
 pub mod EndText
 pub mod Ran
+pub mod Ranked
 pub mod Answer
 pub mod Checked

@@ -6,11 +6,16 @@ use Rattle.sf_core.specs.Program.Syntax.{Program}
 use Rattle.sf_io.specs.Shelf.{Files}
 use Rattle.sf_core.specs.Machine.Sound.{IsSound}
 use Rattle.sf_cli.specs.Reads.{Reads}
-use Rattle.sf_words.specs.Words.{Text, Order, order_of, recheck, run, verify}
+use Rattle.sf_words.specs.Words.{Text, Order, order_of, ranking, recheck, run, verify}
 
 -- what has this status only comes where the program is proved: 0, and of runs 5 and 6
 abbrev pub IsAccepting : (status : ℕ) → Type 0
 IsAccepting status = (status ≡ 0) ⊎ ((status ≡ 5) ⊎ (status ≡ 6))
+
+-- the order asks for a proof of its program: all do but `order`
+abbrev pub AsksForProof : Option Order → Type 0
+AsksForProof (Some (ranking file)) = ⊥
+AsksForProof _ = Unit {0}
 
 -- the file of that name may have these bytes: where the shelf tells its files it has just them, and
 -- else any
@@ -23,6 +28,7 @@ abbrev pub NamesProgram : Option Order → Text → Type 0
 NamesProgram (Some (verify file workers)) name = name ≡ file
 NamesProgram (Some (recheck file proof_name)) name = name ≡ file
 NamesProgram (Some (run file entry state steps waits)) name = name ≡ file
+NamesProgram (Some (ranking file)) name = name ≡ file
 NamesProgram _ name = ⊥
 
 -- NamesSound: the words are an order that names a program's file, and the bytes that this has read

@@ -9,6 +9,7 @@
 //! - `recheck`: what it says to `recheck`
 //! - `rejection`: why such a text is refused, and the line that says so
 //! - `run`: what it says to `run`, in the order of its work
+//! - `ranking`: what it says to `order`
 //! - `start_refusal`: why there is no start, and the line that says so
 //! - `outcome`: what comes of a run, printed
 //! - `command`: to each order its command
@@ -23,6 +24,7 @@ ghost use Rattle.sf_words.specs.WordsOf.{words_of};
 mod command;
 mod laws;
 mod outcome;
+mod ranking;
 mod reading;
 mod recheck;
 mod refusal;

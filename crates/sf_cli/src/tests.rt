@@ -8,6 +8,7 @@ mod files;
 mod numbers;
 mod orders;
 mod proofs;
+mod rankings;
 mod runs;
 mod sets;
 mod tables;
@@ -21,6 +22,7 @@ use compared::{FAILED, PROVED};
 use examples::EXAMPLES;
 use files::{FILES, set};
 use proofs::{ACCEPTED, CALL_PROOFS, REFUSED, TEXTS};
+use rankings::{RANKED_FILES, RANKINGS};
 use sf_io::{MemShelf, MemSink, OpenGate};
 use std::alloc::Global;
 use std::process::Abort;
@@ -89,6 +91,22 @@ fn are_no_commands<R: Threads + Wait + Sync + Abort>(
 fn commands_have_their_answers(rt: HostRuntime) -> Result<(), Fail> {
     are_said(&rt, rt.alloc(), &VERDICTS)?;
     are_said(&rt, rt.alloc(), &RECHECKS)
+}
+
+#[test]
+fn resources_are_ranked(rt: HostRuntime) -> Result<(), Fail> {
+    let alloc = rt.alloc();
+    for (file, answer, status) in RANKINGS {
+        let mut shelf = shelf_with(alloc, file)?;
+        says(
+            &rt,
+            alloc,
+            &["order", "given"],
+            &mut shelf,
+            (answer, status),
+        )?;
+    }
+    are_said(&rt, alloc, &RANKED_FILES)
 }
 
 /// The status that goes with such an answer to a file.

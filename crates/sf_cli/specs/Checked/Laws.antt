@@ -4,7 +4,7 @@
 use Rattle.std.specs.Prelude.{◌≡◌, ℕ, List, Option, Some}
 use Rattle.sf_core.specs.Program.Syntax.{Program}
 use Rattle.sf_io.specs.Shelf.{Files}
-use Rattle.sf_cli.specs.Answer.{AcceptedBytes, Answer, EndedRun, FileAnswer, Names, OrderAnswer, RunAnswer}
+use Rattle.sf_cli.specs.Answer.{AcceptedBytes, Answer, EndedRun, FileAnswer, Names, OrderAnswer, RankingFileAnswer, RunAnswer}
 use Rattle.sf_cli.specs.SoundFile.{IsAccepting}
 use Rattle.sf_cli.specs.FileFault.{Admits, FileFault}
 use Rattle.sf_cli.specs.declared.refusal.Refusal.{Refusal}
@@ -59,6 +59,16 @@ abbrev pub EachRunHasAnAnswer : Type 0
 EachRunHasAnAnswer =
     (files : Files) (bytes entry state_name given : Text) (steps waits : ℕ) → files state_name ≡ Some given
     → (text : Text) × (status : ℕ) × RunAnswer (Some files) bytes entry state_name steps waits text status
+
+-- a file whose resources are ranked has at most one answer
+abbrev pub EachRankingHasOneAnswer : Type 0
+EachRankingHasOneAnswer =
+    (bytes text other : Text) (status code : ℕ) → RankingFileAnswer bytes text status
+    → RankingFileAnswer bytes other code → (text ≡ other) × (status ≡ code)
+
+-- it has an answer
+abbrev pub EachRankingHasAnAnswer : Type 0
+EachRankingHasAnAnswer = (bytes : Text) → (text : Text) × (status : ℕ) × RankingFileAnswer bytes text status
 
 -- words have at most one answer over the same files
 abbrev pub EachCommandHasOneAnswer : Type 0

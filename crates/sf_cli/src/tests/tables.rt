@@ -961,7 +961,7 @@ pub const NESTS: [((&str, &str, &str, &str), (u32, u32), u32, &str); 3] = [
 ];
 
 /// Words that are no command.
-pub const NO_COMMANDS: [&[&str]; 18] = [
+pub const NO_COMMANDS: [&[&str]; 22] = [
     &[],
     &["verify"],
     &["verify", "a", "b"],
@@ -980,6 +980,10 @@ pub const NO_COMMANDS: [&[&str]; 18] = [
     &["verify", "set.sf", "--workers"],
     &["verify", "--", "--workers", "1"],
     &["demo", "2"],
+    &["order"],
+    &["order", "a", "b"],
+    &["order", "set.sf", "--workers", "1"],
+    &["order", "-"],
 ];
 
 /// Words that have the file set.sf proved.
