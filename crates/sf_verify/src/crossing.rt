@@ -80,5 +80,6 @@ pub(crate) fn findings_are_sent()
     ensures { (κ : NamedLft) → IsSend (found.the_row κ) }
 {
     commands_are_shared();
+    sets_and_orders_are_shared();
     states_and_tags_are_sent();
 }

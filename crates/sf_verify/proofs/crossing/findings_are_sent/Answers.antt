@@ -13,6 +13,7 @@ use Rattle.sf_core.specs.contracts.assertion.Assertion as assertion
 use Rattle.sf_core.specs.contracts.assertion.Test as test
 use Rattle.sf_core.specs.contracts.command.Command as command
 use Rattle.sf_core.specs.contracts.command.Expr as expr
+use Rattle.sf_core.specs.contracts.ordered.Ordered as ordered
 use Rattle.sf_search.specs.contracts.verdicts.SearchFault as fault
 use Rattle.sf_sym.specs.contracts.goal.Goal as whole
 use Rattle.sf_sym.specs.contracts.goal.Item as item
@@ -31,9 +32,10 @@ name_sync = search (sendable, crosses) depth 30
 test_sync : IsSync (test.the_row expr.the_row)
 test_sync = search sendable depth 30
 
-item_send : (κ : NamedLft) → IsSync command.the_row → IsSync assertion.the_row → IsSend pending.the_row
+item_send : (κ : NamedLft) → IsSync command.the_row → IsSync assertion.the_row → IsSync ordered.the_row
+    → IsSend pending.the_row
     → IsSend (item.the_row κ)
-item_send κ c a p =
+item_send κ c a o p =
     variants_send (item.enum κ) (
       (search (sendable, c) depth 30, tt),
       (
@@ -47,15 +49,15 @@ item_send κ c a p =
                 place_send,
                 (
                   search (sendable, test_sync) depth 30,
-                  (search (sendable, a) depth 30, (search (sendable, c) depth 30, tt)),
+                  (search (sendable, a, o) depth 30, (search (sendable, c) depth 30, tt)),
                 ),
               ),
               (
-                (place_send, (search (sendable, a) depth 30, tt)),
+                (place_send, (search (sendable, a, o) depth 30, tt)),
                 (
                   (place_send, (search sendable depth 30, tt)),
                   (
-                    (place_send, (search (sendable, a) depth 30, tt)),
+                    (place_send, (search (sendable, a, o) depth 30, tt)),
                     (
                       (place_send, tt),
                       tt,
@@ -93,5 +95,6 @@ pub returns : goal.returns
 returns c κ =
     let commands = c.commands_are_shared.ensures in
     let states = c.states_and_tags_are_sent.ensures in
-    let items = item_send κ commands.command commands.assertion states.pending in
+    let orders = c.sets_and_orders_are_shared.ensures in
+    let items = item_send κ commands.command commands.assertion orders.ordered states.pending in
     found_send κ states.tag (fault_send κ (goal_send κ items states.state))
