@@ -2,8 +2,10 @@ use Rattle.std.proofs.lemmas.Result.{IfOk-weaker}
 use Rattle.sf_base.proofs.Results.{ok-both}
 use Rattle.sf_cli.proofs.Complete.{answering-small, said-small}
 use Rattle.sf_cli.proofs.DemoAnswers.{demo-answering}
-use Rattle.sf_cli.specs.Answer.{answer}
-use Rattle.std.proofs.Common.{inl}
+use Rattle.sf_cli.specs.Answer.{OrderAnswer, answer}
+use Rattle.sf_words.specs.WordsOf.{order_as}
+use Rattle.sf_words.specs.declared.order.Order.{Order as CodeOrder}
+use Rattle.std.proofs.Common.{Some, inl, subst, sym}
 use Rattle.sf_cli.proofs.command.follow.Goals as goal
 
 pub returns-in-Verify-clause-status : goal.returns-in-Verify-clause-status
@@ -41,4 +43,6 @@ returns-in-Demo-clause-status g c =
 pub returns-in-Demo-clause-said : goal.returns-in-Demo-clause-said
 returns-in-Demo-clause-said g c =
     IfOk-weaker c.demonstrate.result _ _
-    (λ said k. answer (demo-answering c.in-Demo.procedures said.text.items said.status k) k) c.demonstrate.ensures
+    (λ said k. answer (demo-answering c.in-Demo.procedures said.text.items said.status k)
+    (subst (λ (o : CodeOrder). OrderAnswer (g.S.Shelf.files c.args.shelf.now) (Some (order_as o)) said.text.items
+    said.status) (sym c.in-Demo.is) k)) c.demonstrate.ensures
