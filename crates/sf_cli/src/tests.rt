@@ -13,6 +13,7 @@ mod sets;
 mod tables;
 mod verdicts;
 mod wide;
+mod workers;
 
 use crate::top::smallfoot;
 use crate::usage::USAGE;

@@ -52,9 +52,9 @@ fn tell<K: Sink>(sink: &mut K, said: &Said) -> u8
 /// sink did, and 9 where memory ran out. Where no count of faults increases, the answer is the one
 /// that is due, whole, or memory ran out.
 ///
-/// Whatever the number of workers and the gate, the answer is the same. So far no thread is started
-/// and nothing waits; a run from whose entry a parallel call can be reached isn't built yet, and
-/// has its file refused.
+/// Whatever the number of workers and the gate, the answer is the same. Workers beside the first
+/// one are threads; a run so far starts none, and one from whose entry a parallel call can be
+/// reached isn't built yet, and has its file refused.
 pub fn smallfoot<'a, R: Threads + Wait + Sync, S: Shelf, K: Sink, G: Gate>(
     rt: &R,
     alloc: Global,
