@@ -42,7 +42,7 @@ fn two_workers_search_side_by_side(rt: HostRuntime) -> Result<(), Fail> {
     assert_eq!(rt; out.as_str(), mm::PROOF);
     assert_eq!(rt; status, 0);
     let [one, other] = points_of(1);
-    assert!(rt; gate.passes(&one) + gate.passes(&other) > 0);
+    assert!(rt; gate.passes(&one) > 0 || gate.passes(&other) > 0);
     assert!(rt; gate.turns_left() > 0);
     Ok(())
 }
