@@ -21,13 +21,13 @@ use Rattle.sf_search.specs.Checked.Laws.{TakenTagsProve}
 use Rattle.sf_sound.specs.Proofs.{ProofsAreSound}
 use Rattle.sf_sym.specs.declared.tag.Tag.{Tag}
 use Rattle.sf_cli.proofs.DemoAnswers.{demo-sound, demo-status}
-use Rattle.sf_cli.specs.Answer.{Accepted, AcceptedBytes, FileAnswer, IsProved, OrderAnswer, RecheckAnswer, Reply, RunFileAnswer, VerdictAnswer, admitted, admitted_run, answer, by_demo, by_proof, by_run, by_search, entered, file_refused, no_entry, not_built, rechecked, refused, refused_run, unproved, unread}
-use Rattle.sf_cli.specs.SoundFile.{AreProgram, IsAccepting, NamesSound}
+use Rattle.sf_cli.specs.Answer.{Accepted, AcceptedBytes, FileAnswer, IsProved, IsSaid, OrderAnswer, RecheckAnswer, Reply, RunFileAnswer, VerdictAnswer, admitted, admitted_run, answer, by_demo, by_proof, by_run, by_search, entered, file_refused, no_entry, not_built, rechecked, refused, refused_run, unproved, unread}
+use Rattle.sf_cli.specs.SoundFile.{AreProgram, AsksForProof, IsAccepting, NamesSound}
 use Rattle.sf_cli.specs.FileFault.{Admits}
 use Rattle.sf_cli.specs.Checked.Laws.{AcceptedFilesAreSound, AcceptedProofsAreSound, AcceptedRunsAreSound}
 use Rattle.sf_cli.specs.Reads.{Reads}
 use Rattle.sf_cli.specs.Rechecked.{accepted, rejected}
-use Rattle.sf_words.specs.Words.{Text, Order, demo, order_of, recheck, run, verify}
+use Rattle.sf_words.specs.Words.{Text, Order, demo, order_of, ranking, recheck, run, verify}
 
 -- a program that is read is in order
 pub accepted-formed : EachFileIsShallow → ElaboratedIsFormed → (bytes : Text) (p : Program) → Reads bytes p → IsFormed p
@@ -116,11 +116,11 @@ accepted-run shallow formed prove law told bytes entry state_name text steps wai
           (accepted-run_file told p entry state_name text steps waits status s k);
     }
 
--- such a status is no fault of the sink
-pub accepting-small : (status : ℕ) → IsAccepting status → status < 8
-accepting-small status (inl z) = omega (arith, z)
-accepting-small status (inr (inl z)) = omega (arith, z)
-accepting-small status (inr (inr z)) = omega (arith, z)
+-- such a status is that of an answer
+pub accepting-said : (status : ℕ) → IsAccepting status → IsSaid status
+accepting-said status (inl z) = inl (inl (omega (arith, z)))
+accepting-said status (inr (inl z)) = inl (inl (omega (arith, z)))
+accepting-said status (inr (inr z)) = inl (inl (omega (arith, z)))
 
 -- only a run is answered with 5 or 6
 accepted-zero : (status most : ℕ) → status ≤ most → most < 5 → IsAccepting status → status ≡ 0
@@ -144,40 +144,42 @@ accepted-checked told bytes name text status (rechecked p a (given, may, rejecte
 
 -- what the words' answer of such a status promises
 accepted-order : AcceptedFilesAreSound → AcceptedProofsAreSound → AcceptedRunsAreSound → (told : Option Files)
-    (words : List Text) (text : Text) (status : ℕ) → IsAccepting status → OrderAnswer told (order_of words) text status
-    → Accepted told words text status
-accepted-order files proofs runs told words text status s a = go (order_of words) refl a
+    (words : List Text) (text : Text) (status : ℕ) → AsksForProof (order_of words) → IsAccepting status
+    → OrderAnswer told (order_of words) text status → Accepted told words text status
+accepted-order files proofs runs told words text status asks s a = go (order_of words) refl asks a
   where
     zero-at : status ≤ 4 → status ≡ 0
     zero-at l = accepted-zero status 4 l (omega arith) s
 
-    go : (o : Option Order) → order_of words ≡ o → OrderAnswer told o text status → Accepted told words text status
-    go None e x = let two = x.1 in let z = zero-at (omega (arith, two)) in absurd (omega (arith, two, z))
-    go (Some (verify file workers)) e (bytes, may, k) =
+    go : (o : Option Order) → order_of words ≡ o → AsksForProof o → OrderAnswer told o text status
+        → Accepted told words text status
+    go None e q x = let two = x.1 in let z = zero-at (omega (arith, two)) in absurd (omega (arith, two, z))
+    go (Some (verify file workers)) e q (bytes, may, k) =
         let z = zero-at (accepted-file bytes text status k) in
         by_search file workers e bytes may k (files bytes text (subst (λ (n : ℕ). FileAnswer bytes text n) z k))
-    go (Some (recheck file name)) e (bytes, may, k) =
+    go (Some (recheck file name)) e q (bytes, may, k) =
         let z = zero-at (accepted-checked told bytes name text status k) in
         by_proof file name e bytes may k
         (accepted-recheck proofs told bytes name text (subst (λ (n : ℕ). RecheckAnswer told bytes name text n) z k))
-    go (Some (run file entry state steps waits)) e (bytes, may, k) =
+    go (Some (run file entry state steps waits)) e q (bytes, may, k) =
         by_run file entry state steps waits e bytes may k (runs told bytes entry state text steps waits status s k)
-    go (Some (demo procedures)) e k =
+    go (Some (demo procedures)) e q k =
         let z = zero-at (demo-status procedures text status k) in
         by_demo procedures e k (demo-sound files procedures text status z k)
+    go (Some (ranking file)) e q x = absurd q
 
 -- what is said with such a status promises it
 pub accepted-reply : AcceptedFilesAreSound → AcceptedProofsAreSound → AcceptedRunsAreSound → (told : Option Files)
-    (before after : Text → ℕ) (words : List Text) (text : Text) (status : ℕ) → IsAccepting status
-    → Reply told before after (order_of words) text status → Accepted told words text status
-accepted-reply files proofs runs told before after words text status s (unread seven u) = absurd (never s)
+    (before after : Text → ℕ) (words : List Text) (text : Text) (status : ℕ) → AsksForProof (order_of words)
+    → IsAccepting status → Reply told before after (order_of words) text status → Accepted told words text status
+accepted-reply files proofs runs told before after words text status asks s (unread seven u) = absurd (never s)
   where
     never : IsAccepting status → ⊥
     never (inl z) = omega (arith, z, seven)
     never (inr (inl z)) = omega (arith, z, seven)
     never (inr (inr z)) = omega (arith, z, seven)
-accepted-reply files proofs runs told before after words text status s (answer l a) =
-    accepted-order files proofs runs told words text status s a
+accepted-reply files proofs runs told before after words text status asks s (answer l a) =
+    accepted-order files proofs runs told words text status asks s a
 
 -- words are about a sound program where these are its bytes
 names : (told : Option Files) (words : List Text) (bytes : Text) → AreProgram told (order_of words) bytes

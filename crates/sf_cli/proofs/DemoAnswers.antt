@@ -1,6 +1,6 @@
 -- The answer to `demo`: it is one, there is one, and an accepting one is that of a sound program.
 -- Names: demo-*.
-use Rattle.std.proofs.Common.{◌≡◌, ◌<◌, ◌≤◌, ◌∙◌, ℕ, List, Option, Some, ap, arith, refl, subst, sym}
+use Rattle.std.proofs.Common.{◌≡◌, ◌<◌, ◌≤◌, ◌∙◌, ℕ, List, Option, Some, ap, arith, inl, refl, subst, sym}
 use Rattle.sf_base.specs.declared.ids.ProcId.{ProcId}
 use Rattle.sf_core.specs.Program.Syntax.{Program}
 use Rattle.sf_gen.specs.Made.{made_text}
@@ -12,7 +12,7 @@ use Rattle.sf_search.specs.Ends.{FailsFor}
 use Rattle.sf_search.specs.Judge.{Cause, Judge, Verdict, fails, proof}
 use Rattle.sf_sym.specs.declared.tag.Tag.{Tag}
 use Rattle.sf_cli.proofs.OneAnswer.{VerdictLayers}
-use Rattle.sf_cli.specs.Answer.{AcceptedBytes, DemoAnswer, FileAnswer, IsProved, ProgramAnswer, VerdictAnswer, admitted, cause_text, demonstrated, refused, unproved_demo}
+use Rattle.sf_cli.specs.Answer.{AcceptedBytes, DemoAnswer, FileAnswer, IsAnswering, IsProved, ProgramAnswer, VerdictAnswer, admitted, cause_text, demonstrated, refused, unproved_demo}
 use Rattle.sf_cli.specs.Checked.Laws.{AcceptedFilesAreSound, EachDemoHasAnAnswer, EachDemoHasOneAnswer, EachFileHasAnAnswer, EachFileHasOneAnswer}
 use Rattle.sf_cli.specs.DemoText.{demo_text}
 use Rattle.sf_cli.proofs.Verdicts.{failed-answer, failed-status}
@@ -127,3 +127,9 @@ demo-status n text status (unproved_demo (admitted p a k) m) = go k.verdict k.sa
     go : (v : Verdict) → VerdictAnswer p v text status → status ≤ 4
     go (proof tags) said = let is = said.1 in omega (arith, is)
     go (fails f why) said = let is = said.1 in omega (arith, is)
+
+-- such a status goes with an answer
+pub demo-answering : (n : ℕ) (text : Text) (status : ℕ) → DemoAnswer n text status → IsAnswering status
+demo-answering n text status a =
+    let small : status ≤ 4 = demo-status n text status a in
+    inl (omega (arith, small))

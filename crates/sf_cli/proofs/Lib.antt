@@ -13,3 +13,4 @@ pub mod AnAnswer
 pub mod Complete
 pub mod AnswerLaws
 pub mod DemoAnswers
+pub mod Rankings

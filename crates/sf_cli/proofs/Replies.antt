@@ -135,7 +135,7 @@ proof-status p given text status (rejected r h t s) = omega (arith, s)
 -- words that are no command, or one that isn't followed yet, are answered with the usage
 pub reply-usage : (told : Option Files) (before after : Text → ℕ) (order : Option Order) (text : Text) (status : ℕ)
     → order ≡ None → text ≡ usage_text → status ≡ 2 → Reply told before after order text status
-reply-usage told before after order text status n t s = answer (omega (arith, s)) (usage order n)
+reply-usage told before after order text status n t s = answer (inl (omega (arith, s))) (usage order n)
   where
     usage : (o : Option Order) → o ≡ None → OrderAnswer told o text status
     usage None e = (t, s)
@@ -144,14 +144,14 @@ reply-usage told before after order text status n t s = answer (omega (arith, s)
 pub reply-later : (told : Option Files) (before after : Text → ℕ) (order : Order) (text : Text) (status : ℕ)
     → OrderAnswer told (Some order) text 2 → status ≡ 2 → Reply told before after (Some order) text status
 reply-later told before after order text status a s =
-    answer (omega (arith, s)) (subst (λ (n : ℕ). OrderAnswer told (Some order) text n) (sym s) a)
+    answer (inl (omega (arith, s))) (subst (λ (n : ℕ). OrderAnswer told (Some order) text n) (sym s) a)
 
 -- a file that is verified is answered with what is due to it
 pub reply-verify : (told : Option Files) (before after : Text → ℕ) (file out text : Text) (workers status : ℕ)
     → Fetched FILE_BYTES told file out → FileAnswer out text status
     → Reply told before after (Some (verify file workers)) text status
 reply-verify told before after file out text workers status f a =
-    answer (file-status out text status a) (f.bytes, f.may_have, fetched-answer out f.bytes text status f.is a)
+    answer (inl (file-status out text status a)) (f.bytes, f.may_have, fetched-answer out f.bytes text status f.is a)
 
 -- a file that the work came to can't be read
 pub reply-unread : (told : Option Files) (before after : Text → ℕ) (order : Option Order) (name text : Text)
@@ -176,7 +176,7 @@ reply-recheck told before mid after file name out text status f counts l a u = g
     go : (b : Bool) → nat_lt status 7 ≡ b → Reply told before after (Some (recheck file name)) text status
     go true h =
         let less : status < 7 = ltb-true status 7 h in
-        answer less (f.bytes, f.may_have, fetched-recheck told out f.bytes name text status f.is (a less))
+        answer (inl less) (f.bytes, f.may_have, fetched-recheck told out f.bytes name text status f.is (a less))
     go false h =
         let more : 7 ≤ status = ltb-false status 7 h in
         let is : status ≡ 7 = omega (arith, l, more) in

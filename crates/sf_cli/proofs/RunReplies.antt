@@ -1,6 +1,6 @@
 -- From what the parts of a run answer to what is said of it over the files of a shelf.
 -- Names: entry-*, ran-*, fetched-*, reply-*.
-use Rattle.std.proofs.Common.{◌≡◌, ◌≢◌, ◌∙◌, ◌⊎◌, ◌<◌, ◌≤◌, ℕ, [], Bool, true, false, List, Option, Some, None, ap, arith, get_or, inl, inr, length, map, nat_lt, refl, subst, sym}
+use Rattle.std.proofs.Common.{◌≡◌, ◌≢◌, ◌∙◌, ◌⊎◌, ◌<◌, ◌≤◌, ℕ, [], Bool, true, false, Option, Some, None, ap, arith, get_or, inl, inr, length, map, nat_lt, refl, subst, sym}
 use Rattle.std.proofs.lemmas.Bool.{ltb-true, ltb-false}
 use Rattle.std.proofs.lemmas.Bool.Decides.{nat_tests}
 use Rattle.std.proofs.lemmas.List.{length-map}
@@ -50,7 +50,7 @@ use Rattle.sf_cli.specs.Refusals.{refusal_text}
 use Rattle.sf_cli.specs.declared.refusal.Refusal.TheVariants.{At}
 use Rattle.sf_cli.specs.declared.refusal.RefusalKind.TheVariants.{NotBuilt}
 use Rattle.sf_cli.specs.Ran.{OutcomeAnswer, StateAnswer, init_not_built, no_start, ran, resource_name, spent_steps_text, spent_waits_text}
-use Rattle.sf_words.specs.Words.{Text, Order, run}
+use Rattle.sf_words.specs.Words.{Text, run}
 
 -- ---- procedures
 
@@ -252,7 +252,7 @@ reply-run told before mid after file entry state_name out text steps waits statu
     go : (b : Bool) → nat_lt status 7 ≡ b → Reply told before after (Some (run file entry state_name steps waits)) text status
     go true e =
         let less : status < 7 = ltb-true status 7 e in
-        answer less (h.bytes, h.may_have, fetched-run told out h.bytes entry state_name text steps waits status h.is (a less))
+        answer (inl less) (h.bytes, h.may_have, fetched-run told out h.bytes entry state_name text steps waits status h.is (a less))
     go false e =
         let more : 7 ≤ status = ltb-false status 7 e in
         let is : status ≡ 7 = omega (arith, l, more) in

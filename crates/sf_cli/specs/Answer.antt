@@ -1,7 +1,7 @@
 -- Answer: the text and the status that the command gives to its words, over a map of files.
 -- The form of a command's answer is that of The Open Group, "Utility Conventions" (2018); the
 -- statuses are this project's own.
-use Rattle.std.specs.Prelude.{◌≡◌, ◌≢◌, ℕ, ◌<◌, ◌⊎◌, Bool, Option, Some, None, List, [], ◌++◌, codes}
+use Rattle.std.specs.Prelude.{◌≡◌, ◌≢◌, ℕ, ◌<◌, ◌≤◌, ◌⊎◌, Bool, Option, Some, None, List, [], ◌++◌, codes}
 use Rattle.sf_core.specs.Machine.Config.{Config}
 use Rattle.sf_core.specs.Machine.Enabled.{HasEnded}
 use Rattle.sf_core.specs.Machine.Numbered.{Numbered}
@@ -37,8 +37,9 @@ use Rattle.sf_cli.specs.SoundFile.{MayHave}
 use Rattle.sf_cli.specs.DemoText.{demo_text}
 use Rattle.sf_gen.specs.Made.{made_text}
 use Rattle.sf_cli.specs.Ran.{IsFinishedText, StateAnswer}
+use Rattle.sf_cli.specs.Ranked.{RankingAnswer}
 use Rattle.sf_cli.specs.Rechecked.{ProofAnswer}
-use Rattle.sf_words.specs.Words.{Text, Order, demo, order_of, recheck, run, verify}
+use Rattle.sf_words.specs.Words.{Text, Order, demo, order_of, ranking, recheck, run, verify}
 use Rattle.sf_cli.specs.StartRefusals.{start_refusal_text}
 use Rattle.sf_cli.specs.Usage.{usage_text}
 
@@ -138,6 +139,13 @@ pub data DemoAnswer (procedures : ℕ) (text : Text) (status : ℕ) : Type 0 whe
   unproved_demo : FileAnswer (made_text procedures) text status → status ≢ 0
       → DemoAnswer procedures text status
 
+-- the answer to a file's bytes whose resources are ranked: the file is refused, or it is the answer to the program that
+-- it reads as
+pub data RankingFileAnswer (bytes text : Text) (status : ℕ) : Type 0 where
+  refused_ranking : (r : Refusal) → FileFault bytes r → text ≡ refusal_text r → status ≡ 3
+      → RankingFileAnswer bytes text status
+  admitted_ranking : (p : Program) → Admits bytes p → RankingAnswer p text status → RankingFileAnswer bytes text status
+
 -- the words are answered with the usage
 abbrev pub IsUsage : Text → (status : ℕ) → Type 0
 IsUsage text status = (text ≡ usage_text) × (status ≡ 2)
@@ -152,6 +160,8 @@ OrderAnswer told (Some (recheck file proof_name)) text status =
 OrderAnswer told (Some (run file entry state steps waits)) text status =
     (bytes : Text) × MayHave told file bytes × RunAnswer told bytes entry state steps waits text status
 OrderAnswer told (Some (demo procedures)) text status = DemoAnswer procedures text status
+OrderAnswer told (Some (ranking file)) text status =
+    (bytes : Text) × MayHave told file bytes × RankingFileAnswer bytes text status
 
 -- the answer over the files of a shelf
 abbrev pub Answers : Option Files → (words : List Text) → Text → (status : ℕ) → Type 0
@@ -166,6 +176,7 @@ abbrev pub Names : Option Order → Text → Type 0
 Names (Some (verify file workers)) name = name ≡ file
 Names (Some (recheck file proof_name)) name = (name ≡ file) ⊎ (name ≡ proof_name)
 Names (Some (run file entry state steps waits)) name = (name ≡ file) ⊎ (name ≡ state)
+Names (Some (ranking file)) name = name ≡ file
 Names _ name = ⊥
 
 -- these bytes are those of a program with which nothing is wrong
@@ -191,6 +202,7 @@ abbrev pub Reaches : Option Files → Option Order → Text → Type 0
 Reaches told (Some (verify file workers)) name = name ≡ file
 Reaches told (Some (recheck file proof_name)) name = (name ≡ file) ⊎ ((name ≡ proof_name) × MayBeAdmitted told file)
 Reaches told (Some (run file entry state steps waits)) name = (name ≡ file) ⊎ ((name ≡ state) × MayBeRun told file entry)
+Reaches told (Some (ranking file)) name = name ≡ file
 Reaches told _ name = ⊥
 
 -- what is said of a file that can't be read
@@ -204,10 +216,18 @@ pub record Unread (told : Option Files) (before after : Text → ℕ) (order : O
   pub increased : Increased (before name) (after name)
   pub text_is : text ≡ read_fault_text name
 
+-- the status is one of an answer: 0 to 6, or 10 to 12
+abbrev pub IsAnswering : (status : ℕ) → Type 0
+IsAnswering status = (status < 7) ⊎ ((10 ≤ status) × (status ≤ 12))
+
+-- or it says that a file can't be read
+abbrev pub IsSaid : (status : ℕ) → Type 0
+IsSaid status = IsAnswering status ⊎ (status ≡ 7)
+
 -- what the command may say: an answer with its status, or that a file can't be read
 pub data Reply (told : Option Files) (before after : Text → ℕ) (order : Option Order) (text : Text) (status : ℕ)
     : Type 0 where
-  answer : status < 7 → OrderAnswer told order text status → Reply told before after order text status
+  answer : IsAnswering status → OrderAnswer told order text status → Reply told before after order text status
   unread : status ≡ 7 → Unread told before after order text → Reply told before after order text status
 
 -- a prefix of something that the command may say was written

@@ -8,6 +8,7 @@ pub mod Rechecked
 pub mod StartRefusals
 pub mod EndText
 pub mod Ran
+pub mod Ranked
 pub mod Answer
 pub mod DemoText
 pub mod Checked

@@ -1,11 +1,12 @@
 //! The commands: to each order what is said, and of which files.
 
 ghost use Rattle.std.specs.Prelude.{◌≡◌, ◌<◌, ◌≤◌, Some, IfOk};
-ghost use Rattle.sf_cli.specs.Answer.{Reaches, Reply};
+ghost use Rattle.sf_cli.specs.Answer.{IsAnswering, IsSaid, Reaches, Reply};
 ghost use Rattle.sf_words.specs.Words.{HasNumbersInRange, Text, order_of};
 ghost use Rattle.sf_words.specs.WordsOf.{order_as, words_of};
 
 use crate::demo::demonstrate;
+use crate::ranking::rank_file;
 use crate::recheck::recheck_file;
 use crate::reply::{Said, say};
 use crate::run::{RunWords, run_file};
@@ -27,7 +28,7 @@ fn follow<R: Threads + Wait + Sync, S: Shelf, G: Gate>(
     gate: &G,
 ) -> Result<Said, AllocError>
     requires { HasNumbersInRange (order_as order) }
-    ensures status { IfOk result (λ said. said.status < 8) }
+    ensures status { IfOk result (λ said. IsSaid said.status) }
     ensures said { IfOk result (λ said.
         Reply (S.files shelf.old) (S.faults shelf.old) (S.faults shelf.new)
         (Some (order_as order.entry)) said.text.items said.status) }
@@ -35,7 +36,7 @@ fn follow<R: Threads + Wait + Sync, S: Shelf, G: Gate>(
     ensures others { (other : Text)
         → (Reaches (S.files shelf.old) (Some (order_as order.entry)) other → ⊥)
         → S.faults shelf.new other ≡ S.faults shelf.old other }
-    ensures quiet { IfOk result (λ said. said.status < 7
+    ensures quiet { IfOk result (λ said. IsAnswering said.status
         → (any : Text) → S.faults shelf.new any ≡ S.faults shelf.old any) }
     ensures counts { (any : Text) → S.faults shelf.old any ≤ S.faults shelf.new any }
 {
@@ -58,6 +59,7 @@ fn follow<R: Threads + Wait + Sync, S: Shelf, G: Gate>(
             run_file(rt, alloc, file, &words, shelf, gate)
         }
         Order::Demo { procedures } => demonstrate(rt, alloc, procedures, gate),
+        Order::Ranking { file } => rank_file(alloc, file, shelf),
     }
 }
 
@@ -69,7 +71,7 @@ pub fn respond<'a, R: Threads + Wait + Sync, S: Shelf, G: Gate>(
     shelf: &mut S,
     gate: &G,
 ) -> Result<Said, AllocError>
-    ensures status { IfOk result (λ said. said.status < 8) }
+    ensures status { IfOk result (λ said. IsSaid said.status) }
     ensures said { IfOk result (λ said.
         Reply (S.files shelf.old) (S.faults shelf.old) (S.faults shelf.new)
         (order_of (words_of words.entry.now)) said.text.items said.status) }
@@ -77,7 +79,7 @@ pub fn respond<'a, R: Threads + Wait + Sync, S: Shelf, G: Gate>(
     ensures others { (other : Text)
         → (Reaches (S.files shelf.old) (order_of (words_of words.entry.now)) other → ⊥)
         → S.faults shelf.new other ≡ S.faults shelf.old other }
-    ensures quiet { IfOk result (λ said. said.status < 7
+    ensures quiet { IfOk result (λ said. IsAnswering said.status
         → (any : Text) → S.faults shelf.new any ≡ S.faults shelf.old any) }
     ensures counts { (any : Text) → S.faults shelf.old any ≤ S.faults shelf.new any }
 {

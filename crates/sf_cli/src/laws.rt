@@ -1,11 +1,12 @@
 //! Laws of answers. Each function is a law: calling it gives its fact to the caller's proof, and
 //! does nothing.
 
-ghost use Rattle.sf_cli.specs.Checked.Laws.{AcceptedFilesAreSound, AcceptedProofsAreSound, AcceptedRunsAreSound, EachCommandHasAnAnswer, EachCommandHasOneAnswer, EachDemoHasAnAnswer, EachDemoHasOneAnswer, EachFileHasAnAnswer, EachFileHasOneAnswer, EachFileIsDecided, EachFileIsOneProgram, EachProofHasAnAnswer, EachProofHasOneAnswer, EachRunHasAnAnswer, EachRunHasOneAnswer, FinishedRunsHaveEnded};
+ghost use Rattle.sf_cli.specs.Checked.Laws.{AcceptedFilesAreSound, AcceptedProofsAreSound, AcceptedRunsAreSound, EachCommandHasAnAnswer, EachCommandHasOneAnswer, EachDemoHasAnAnswer, EachDemoHasOneAnswer, EachFileHasAnAnswer, EachFileHasOneAnswer, EachFileIsDecided, EachFileIsOneProgram, EachProofHasAnAnswer, EachProofHasOneAnswer, EachRunHasAnAnswer, EachRunHasOneAnswer, FinishedRunsHaveEnded, EachRankingHasAnAnswer, EachRankingHasOneAnswer};
 
 use sf_check::laws::{proves_not_refused, proves_or_refused, refused_once};
 use sf_elab::laws::elaborated_is_formed;
 use sf_lex::laws::each_file_reads_once;
+use sf_order::laws::{each_program_is_ordered, resources_are_listed_once};
 use sf_parse::laws::each_file_is_shallow;
 use sf_precise::laws::{never_taken_is_undetermined, undetermined_annotations_have_place};
 use sf_proof::laws::each_text_reads_once;
@@ -136,6 +137,28 @@ pub fn each_demo_has_an_answer()
     each_file_has_an_answer();
 }
 
+/// A file whose resources are ranked has at most one answer.
+pub fn each_ranking_has_one_answer()
+    ensures { EachRankingHasOneAnswer }
+{
+    each_file_is_decided();
+    each_file_is_shallow();
+    elaborated_is_formed();
+    each_program_is_ordered();
+    resources_are_listed_once();
+}
+
+/// A file whose resources are ranked has an answer.
+pub fn each_ranking_has_an_answer()
+    ensures { EachRankingHasAnAnswer }
+{
+    each_file_has_an_answer();
+    each_file_is_shallow();
+    elaborated_is_formed();
+    each_program_is_ordered();
+    resources_are_listed_once();
+}
+
 /// Words have an answer over files, where the files that they name are there.
 #[tactic(auto, using(crate::proofs::AnswerLaws::each_command_has_an_answer))]
 pub fn each_command_has_an_answer()
@@ -145,6 +168,7 @@ pub fn each_command_has_an_answer()
     each_proof_has_an_answer();
     each_run_has_an_answer();
     each_demo_has_an_answer();
+    each_ranking_has_an_answer();
 }
 
 /// Words have at most one answer over the same files.
@@ -157,6 +181,7 @@ pub fn each_command_has_one_answer()
     each_proof_has_one_answer();
     each_run_has_one_answer();
     each_demo_has_one_answer();
+    each_ranking_has_one_answer();
 }
 
 /// Whatever bytes are answered with status 0 are those of a sound program.

@@ -10,6 +10,7 @@
 //! - `rejection`: why such a text is refused, and the line that says so
 //! - `run`: what it says to `run`, in the order of its work
 //! - `demo`: what it says to `demo`
+//! - `ranking`: what it says to `order`
 //! - `start_refusal`: why there is no start, and the line that says so
 //! - `outcome`: what comes of a run, printed
 //! - `command`: to each order its command
@@ -25,6 +26,7 @@ mod command;
 mod demo;
 mod laws;
 mod outcome;
+mod ranking;
 mod reading;
 mod recheck;
 mod refusal;

@@ -47,7 +47,7 @@ fn spent_steps_text(alloc: Global, used: u64) -> Result<Vec<u8>, AllocError>
 }
 
 /// The name of a resource, empty where it isn't there.
-fn resource_name(p: &Program, r: ResId) -> &[u8]
+pub fn resource_name(p: &Program, r: ResId) -> &[u8]
     ensures { result.now ≡ resource_name (program_of p.now) r }
 {
     match p.resources.get(r.0 as usize) {

@@ -8,11 +8,13 @@ mod files;
 mod numbers;
 mod orders;
 mod proofs;
+mod rankings;
 mod runs;
 mod sets;
 mod tables;
 mod verdicts;
 mod wide;
+mod workers;
 
 use crate::top::smallfoot;
 use crate::usage::USAGE;
@@ -21,6 +23,7 @@ use compared::{FAILED, PROVED};
 use examples::EXAMPLES;
 use files::{FILES, set};
 use proofs::{ACCEPTED, CALL_PROOFS, REFUSED, TEXTS};
+use rankings::{RANKED_FILES, RANKINGS};
 use sf_io::{MemShelf, MemSink, OpenGate};
 use std::alloc::Global;
 use std::process::Abort;
@@ -94,6 +97,22 @@ fn commands_have_their_answers(rt: HostRuntime) -> Result<(), Fail> {
 #[test]
 fn made_files_are_proved(rt: HostRuntime) -> Result<(), Fail> {
     are_said(&rt, rt.alloc(), &DEMOS)
+}
+
+#[test]
+fn resources_are_ranked(rt: HostRuntime) -> Result<(), Fail> {
+    let alloc = rt.alloc();
+    for (file, answer, status) in RANKINGS {
+        let mut shelf = shelf_with(alloc, file)?;
+        says(
+            &rt,
+            alloc,
+            &["order", "given"],
+            &mut shelf,
+            (answer, status),
+        )?;
+    }
+    are_said(&rt, alloc, &RANKED_FILES)
 }
 
 /// The status that goes with such an answer to a file.

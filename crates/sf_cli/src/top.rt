@@ -1,10 +1,10 @@
 //! The top call.
 
-ghost use Rattle.std.specs.Prelude.{◌≡◌, ◌≢◌, ◌≤◌, ◌<◌, ◌⊎◌};
+ghost use Rattle.std.specs.Prelude.{◌≡◌, ◌≢◌, ◌≤◌, ◌⊎◌};
 ghost use Rattle.sf_io.specs.Increased.{Increased};
 ghost use Rattle.sf_io.specs.Sink.{with_bytes, WrotePrefix};
-ghost use Rattle.sf_cli.specs.Answer.{Accepted, Answers, Ended, Reaches, Unread, WroteNothingOrPrefix, WroteReplyPrefix};
-ghost use Rattle.sf_cli.specs.SoundFile.{IsAccepting, NamesSound};
+ghost use Rattle.sf_cli.specs.Answer.{Accepted, Answers, Ended, IsAnswering, IsSaid, Reaches, Unread, WroteNothingOrPrefix, WroteReplyPrefix};
+ghost use Rattle.sf_cli.specs.SoundFile.{AsksForProof, IsAccepting, NamesSound};
 ghost use Rattle.sf_words.specs.Words.{Text, order_of};
 ghost use Rattle.sf_words.specs.WordsOf.{words_of};
 
@@ -26,13 +26,13 @@ pub const OUT_OF_MEMORY: u8 = 9;
 
 /// Puts what is said, whole, and gives its status; or the status of what kept it from that.
 fn tell<K: Sink>(sink: &mut K, said: &Said) -> u8
-    requires { said.now.status < 8 }
-    ensures whole { result < 8 → (result ≡ said.now.status)
+    requires { IsSaid said.now.status }
+    ensures whole { IsSaid result → (result ≡ said.now.status)
         × (K.written sink.new ≡ with_bytes (K.written sink.old) said.now.text.items) }
-    ensures prefix { 8 ≤ result
+    ensures prefix { (result ≡ 8) ⊎ (result ≡ 9)
         → WrotePrefix (K.written sink.old) (K.written sink.new) said.now.text.items }
     ensures failed { result ≡ 8 → Increased (K.faults sink.old) (K.faults sink.new) }
-    ensures last { result ≤ 9 }
+    ensures last { IsSaid result ⊎ ((result ≡ 8) ⊎ (result ≡ 9)) }
     ensures counts { K.faults sink.old ≤ K.faults sink.new }
 {
     match put_all(sink, said.text.as_slice()) {
@@ -49,12 +49,13 @@ fn tell<K: Sink>(sink: &mut K, said: &Said) -> u8
 /// the program is proved, and a run of it has ended, 1 where a procedure fails, 2 where the words
 /// are no command, 3 where the file is refused, 4 where the text of a proof is, 5 where a run has
 /// no such start, 6 where it has spent its units or tries, 7 where the shelf failed, 8 where the
-/// sink did, and 9 where memory ran out. Where no count of faults increases, the answer is the one
-/// that is due, whole, or memory ran out.
+/// sink did, and 9 where memory ran out. Of `order` it is 0 where the resources have ranks, and 12
+/// where there is a cycle. Where no count of faults increases, the answer is the one that is due,
+/// whole, or memory ran out.
 ///
-/// Whatever the number of workers and the gate, the answer is the same. So far no thread is started
-/// and nothing waits; a run from whose entry a parallel call can be reached isn't built yet, and
-/// has its file refused.
+/// Whatever the number of workers and the gate, the answer is the same. Workers beside the first
+/// one are threads; a run so far starts none: one from whose entry a parallel call can be reached
+/// isn't built yet, nor one that begins in `init` where that reaches one, and has its file refused.
 pub fn smallfoot<'a, R: Threads + Wait + Sync, S: Shelf, K: Sink, G: Gate>(
     rt: &R,
     alloc: Global,
@@ -63,11 +64,13 @@ pub fn smallfoot<'a, R: Threads + Wait + Sync, S: Shelf, K: Sink, G: Gate>(
     sink: &mut K,
     gate: &G,
 ) -> u8
-    // What is accepted is sound: the words name the program's file, and its bytes are those of a
-    // program of which each configuration, whatever runs there are, is good.
-    ensures sound { IsAccepting result → NamesSound (S.files shelf.old) (words_of words.now) }
+    // What is accepted is sound: where the words ask for a proof, they name the program's file, and
+    // its bytes are those of a program of which each configuration, whatever runs there are, is
+    // good.
+    ensures sound { AsksForProof (order_of (words_of words.now)) → IsAccepting result
+        → NamesSound (S.files shelf.old) (words_of words.now) }
     // The answer that is due, whole, over files that the shelf's may be.
-    ensures answers { result < 7 → (text : Text)
+    ensures answers { IsAnswering result → (text : Text)
         × (K.written sink.new ≡ with_bytes (K.written sink.old) text)
         × Answers (S.files shelf.old) (words_of words.now) text result }
     // A file that the work came to couldn't be read: its count of faults increased.
@@ -84,7 +87,7 @@ pub fn smallfoot<'a, R: Threads + Wait + Sync, S: Shelf, K: Sink, G: Gate>(
     ensures out_of_memory { result ≡ 9 → WroteNothingOrPrefix
         (S.files shelf.old) (S.faults shelf.old) (S.faults shelf.new)
         (order_of (words_of words.now)) (K.written sink.old) (K.written sink.new) }
-    ensures statuses { result ≤ 9 }
+    ensures statuses { IsSaid result ⊎ ((result ≡ 8) ⊎ (result ≡ 9)) }
     // Over a shelf or a sink that never counts a fault there is none.
     ensures no_read_fault { ((name : Text) → S.faults shelf.new name ≡ 0) → result ≢ 7 }
     ensures no_write_fault { K.faults sink.new ≡ 0 → result ≢ 8 }
@@ -92,10 +95,11 @@ pub fn smallfoot<'a, R: Threads + Wait + Sync, S: Shelf, K: Sink, G: Gate>(
     ensures complete { ((name : Text)
         → Increased (S.faults shelf.old name) (S.faults shelf.new name) → ⊥)
         → (Increased (K.faults sink.old) (K.faults sink.new) → ⊥)
-        → (result < 7) ⊎ (result ≡ 9) }
+        → IsAnswering result ⊎ (result ≡ 9) }
     // The same with the answer: what is put is that to these very bytes. Of a run a status is also
     // accepting where a start is refused, or units or tries are spent.
-    ensures accepted { IsAccepting result → (text : Text)
+    ensures accepted { AsksForProof (order_of (words_of words.now)) → IsAccepting result
+        → (text : Text)
         × (K.written sink.new ≡ with_bytes (K.written sink.old) text)
         × Accepted (S.files shelf.old) (words_of words.now) text result }
     // A run that is finished has ended: what is put is the state that a numbered list of events
@@ -108,7 +112,7 @@ pub fn smallfoot<'a, R: Threads + Wait + Sync, S: Shelf, K: Sink, G: Gate>(
     // refused, or a parallel call can be reached from it. A count increases only where the work
     // comes to that file.
     ensures counts { (any : Text) → S.faults shelf.old any ≤ S.faults shelf.new any }
-    ensures quiet { result < 7 → (any : Text)
+    ensures quiet { IsAnswering result → (any : Text)
         → S.faults shelf.new any ≡ S.faults shelf.old any }
     ensures others { (other : Text)
         → (Reaches (S.files shelf.old) (order_of (words_of words.now)) other → ⊥)

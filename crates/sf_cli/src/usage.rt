@@ -3,4 +3,5 @@ pub const USAGE: &str = "usage: smallfoot verify FILE [--workers K]
        smallfoot recheck FILE PROOF
        smallfoot run FILE ENTRY STATE [--steps N] [--waits W]
        smallfoot demo N
+       smallfoot order FILE
 ";

@@ -7,7 +7,8 @@ use Rattle.sf_sym.specs.declared.term.Term.TheVariants.{Sym}
 use Rattle.sf_sym.specs.Fields.{field_term, put_term}
 use Rattle.sf_consume.specs.declared.meeting.Met.{Met}
 use Rattle.sf_consume.specs.Checked.Fits.{after_changes}
-use Rattle.sf_consume.specs.Checked.Meeting.{latest_link, met_term, terms_of, with_links}
+use Rattle.sf_consume.specs.Checked.Meeting.{latest_link, terms_of, with_links}
+use Rattle.sf_consume.specs.Misfit.{met_term}
 
 -- one more change at the end
 pub met_more : (xs : List (ℕ × Met)) (n : ℕ) (t : Met) (next : ℕ) (bindings : List (Option Term))

@@ -5,7 +5,8 @@
 ghost use Rattle.std.specs.Prelude.{◌≡◌, IfOk, None, get_or, is_some};
 ghost use Rattle.std.specs.Option.{option_map};
 ghost use Rattle.sf_consume.specs.Checked.Fits.{after_changes, latest};
-ghost use Rattle.sf_consume.specs.Checked.Meeting.{first_fit_of, fit_of, latest_link, link_of, met_term, terms_of, with_links};
+ghost use Rattle.sf_consume.specs.Checked.Meeting.{first_fit_of, fit_of, latest_link, link_of, terms_of, with_links};
+ghost use Rattle.sf_consume.specs.Misfit.{met_term};
 ghost use Rattle.sf_consume.specs.declared.meeting.Met.TheVariants.{Fresh};
 ghost use Rattle.sf_consume.specs.Subtract.{fit_field, fit_fields, fit_known, fit_new, link};
 ghost use Rattle.sf_sym.specs.Fields.{field_term};

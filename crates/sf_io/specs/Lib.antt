@@ -4,3 +4,4 @@ pub mod MemSink
 pub mod Increased
 pub mod Shelf
 pub mod Sink
+pub mod TurnGate

@@ -5,7 +5,7 @@
 //!   stand-in
 //! - `fault_plan`: at which calls a stand-in is to fail
 //! - `failures`: the names of files that couldn't be read
-//! - `gate`: points at which a thread may be held up
+//! - `gate`: points at which a thread may be held up; `turn_gate` a gate for tests, which does so
 #![tactic(auto)]
 
 mod failures;
@@ -17,6 +17,7 @@ mod mem_sink;
 mod shelf;
 mod sink;
 mod std_sink;
+mod turn_gate;
 
 pub use file_shelf::FileShelf;
 pub use gate::{Gate, OpenGate, Point};
@@ -25,3 +26,4 @@ pub use mem_sink::MemSink;
 pub use shelf::{FetchFault, Shelf};
 pub use sink::{Sink, SinkFault, put_all};
 pub use std_sink::StdSink;
+pub use turn_gate::TurnGate;

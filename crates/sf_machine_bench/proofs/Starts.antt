@@ -21,7 +21,9 @@ use Rattle.sf_core.specs.Assertions.Occurs.{VarOccursIn}
 use Rattle.sf_core.specs.Assertions.Sat.{Sat, value}
 use Rattle.sf_core.specs.Machine.Config.{evaluate}
 use Rattle.sf_core.specs.Machine.HasThroughout.{HasThroughout}
-use Rattle.sf_core.specs.Machine.Start.{entry_slot, initial_config, Invariants, IsKept}
+use Rattle.sf_core.specs.Machine.Start.{entry_slot, initial_config, Invariants, IsKept, settled}
+use Rattle.sf_core.specs.Program.Init.{sets_up}
+use Rattle.sf_core.proofs.Inits.{sets_up-is}
 use Rattle.sf_core.specs.Program.Syntax.{Assertion, Level, level, none, also, Procedure, Program, Resource}
 use Rattle.sf_foot.specs.declared.vars.Vars.{Vars}
 use Rattle.sf_foot.specs.Footprint.{IsFootprint}
@@ -68,9 +70,10 @@ plain_occurs (level made none) x h o = (o.2).0
 plain_occurs (level made (also c cs)) x h o = h
 
 -- no resource counts as held
-plain_holds : (p : Program) (f : ProcId) (g : Procedure) → slice_get p.procedures f.0 ≡ Some g → IsPlain p g
-    → (r : ResId) → HasThroughout p f r → ⊥
-plain_holds p f g there plain r held =
+plain_holds : (p : Program) (f : ProcId) (g : Procedure) → slice_get p.procedures f.0 ≡ Some g → sets_up p f ≡ false
+    → IsPlain p g → (r : ResId) → HasThroughout p f r → ⊥
+plain_holds p f g there other plain r (inr up) = absurd (true≢false (sym up.0 ∙ other))
+plain_holds p f g there other plain r (inl held) =
     let same : held.procedure ≡ g = some-once (slice_get p.procedures f.0) held.procedure g held.there there in
     let x = shared_variable r held.variable in
     elim held.occurs [
@@ -100,7 +103,7 @@ plain_invariants rs store heap n e = subst (λ z. Invariants z store heap) (sym 
 
 -- an own variable is nil
 plain_own : (g : Procedure) (vars : Vars) (i : ℕ) → vars.own.items ≡ [] → i < length g.names
-    → store_of g vars (own 0 i) ≡ Some nil
+    → store_of settled g vars (own 0 i) ≡ Some nil
 plain_own g vars i n l =
     let test : nat_lt i (length g.names) ≡ true = grind (arith, nat_tests) in
     ap (λ b. cond ((0 == 0) && b) (Some (slice_index_or vars.own.items i nil)) None) test
@@ -108,9 +111,9 @@ plain_own g vars i n l =
 
 -- the variables that are there are those of the procedure
 plain_kept : (p : Program) (g : Procedure) (vars : Vars) (slot : Slot) → p.resources ≡ [] → vars.own.items ≡ []
-    → IsKept p g slot → (v : Value) × (store_of g vars slot ≡ Some v)
+    → IsKept settled p g slot → (v : Value) × (store_of settled g vars slot ≡ Some v)
 plain_kept p g vars (own e i) rs n k =
-    (nil, ap (λ z. store_of g vars (own z i)) (k.0) ∙ plain_own g vars i n k.1)
+    (nil, ap (λ z. store_of settled g vars (own z i)) (k.0) ∙ plain_own g vars i n k.1)
 plain_kept p g vars (shared r i) rs n k =
     absurd (no_more k.0 (ap (λ (z : List Resource). slice_get z r.0) (sym rs) ∙ k.1))
   where
@@ -119,11 +122,11 @@ plain_kept p g vars (shared r i) rs n k =
 
 -- and no others
 plain_no_more : (p : Program) (g : Procedure) (vars : Vars) (slot : Slot) (v : Value) → vars.shared.items ≡ []
-    → store_of g vars slot ≡ Some v → IsKept p g slot
+    → store_of settled g vars slot ≡ Some v → IsKept settled p g slot
 plain_no_more p g vars (own e i) v n h = go (e == 0) (nat_lt i (length g.names)) refl refl h
   where
     go : (a b : Bool) → (e == 0) ≡ a → nat_lt i (length g.names) ≡ b
-        → cond (a && b) (Some (slice_index_or vars.own.items i nil)) None ≡ Some v → IsKept p g (own e i)
+        → cond (a && b) (Some (slice_index_or vars.own.items i nil)) None ≡ Some v → IsKept settled p g (own e i)
     go true true s t h = (grind (arith, nat_tests), grind (arith, nat_tests))
     go true false s t h = cc
     go false b s t h = cc
@@ -174,29 +177,34 @@ plain_width heap count no_cells location values h =
 
 -- it starts with nothing, and one part without locations
 plain_part : (p : Program) (f : ProcId) (g : Procedure) (vars : Vars) (heap : Cells) (ls : List ℕ)
-    → slice_get p.procedures f.0 ≡ Some g → IsPlain p g → vars.own.items ≡ [] → vars.shared.items ≡ []
-    → heap ≡ empty → ls ≡ [] → StartsWith p f vars heap (ls ∷ [])
-plain_part p f g vars heap ls there plain no_own no_shared no_cells no_locations = record {
+    → slice_get p.procedures f.0 ≡ Some g → sets_up p f ≡ false → IsPlain p g → vars.own.items ≡ []
+    → vars.shared.items ≡ [] → heap ≡ empty → ls ≡ [] → StartsWith p f false vars heap (ls ∷ [])
+plain_part p f g vars heap ls there other plain no_own no_shared no_cells no_locations = record {
   procedure = g;
-  config = initial_config p f g (store_of g vars) (heap_of heap);
+  beginning = settled;
+  config = initial_config settled p f g (store_of settled g vars) (heap_of heap);
   there = there;
   parameters = ap (λ (z : List Value). length z) no_own ∙ sym (λ i. plain.references i + plain.values i);
+  kind = tt;
   starts = record {
     procedure = g;
     there = there;
+    beginning = settled;
     is = refl;
-    holds_none = plain_holds p f g there plain;
+    holds_none = plain_holds p f g there other plain;
+    no_init = sym (sets_up-is p f g there) ∙ other;
     kept = λ slot k. plain_kept p g vars slot plain.resources no_own k;
     no_more = λ slot v e. plain_no_more p g vars slot v no_shared e;
     locals = λ i l m. plain_own g vars i no_own m;
-    pre = record {
+    begins = record {
       left = heap_of heap;
       right = heap_of heap;
       splits = plain_splits (heap_of heap) nothing;
-      first = plain_sat g.pre.level (evaluate entry_slot (store_of g vars)) (λ i. nil) (heap_of heap) plain.pre nothing;
-      second = plain_invariants p.resources (store_of g vars) (heap_of heap) plain.resources nothing;
+      first = plain_sat g.pre.level (evaluate entry_slot (store_of settled g vars)) (λ i. nil) (heap_of heap) plain.pre nothing;
+      second = plain_invariants p.resources (store_of settled g vars) (heap_of heap) plain.resources nothing;
     };
   };
+  begins = refl;
   width = plain_width heap (length p.fields) no_cells;
   footprints = subst (λ (rs : List Resource). AllZip
       (λ (a : Assertion) (at : List ℕ). IsFootprint a.level (value_of vars) (heap_of heap) at)
@@ -210,9 +218,9 @@ plain_part p f g vars heap ls there plain no_own no_shared no_cells no_locations
 
 -- it starts with nothing
 pub plain_starts : (p : Program) (f : ProcId) (g : Procedure) (vars : Vars) (heap : Cells) (ls ms : List ℕ)
-    (parts : List (List ℕ)) → slice_get p.procedures f.0 ≡ Some g → IsPlain p g → vars.own.items ≡ []
-    → vars.shared.items ≡ [] → heap ≡ empty → parts ≡ ls ∷ [] → ((l : ℕ) → Contains ls l ↔ Contains ms l)
-    → ms ≡ [] → StartsWith p f vars heap parts
-plain_starts p f g vars heap ls ms parts there plain no_own no_shared no_cells one same no_more =
-    subst (λ (z : List (List ℕ)). StartsWith p f vars heap z) (sym one)
-    (plain_part p f g vars heap ls there plain no_own no_shared no_cells (plain_none ls ms same no_more))
+    (parts : List (List ℕ)) → slice_get p.procedures f.0 ≡ Some g → sets_up p f ≡ false → IsPlain p g
+    → vars.own.items ≡ [] → vars.shared.items ≡ [] → heap ≡ empty → parts ≡ ls ∷ []
+    → ((l : ℕ) → Contains ls l ↔ Contains ms l) → ms ≡ [] → StartsWith p f false vars heap parts
+plain_starts p f g vars heap ls ms parts there other plain no_own no_shared no_cells one same no_more =
+    subst (λ (z : List (List ℕ)). StartsWith p f false vars heap z) (sym one)
+    (plain_part p f g vars heap ls there other plain no_own no_shared no_cells (plain_none ls ms same no_more))

@@ -13,12 +13,15 @@ use sf_heap::{Heap, Locations};
 use std::alloc::{AllocError, Global};
 
 /// The start of a procedure that needs nothing: it has no variables and no cells. `None` says that
-/// it may need something.
+/// it may need something, or sets resources up.
 pub fn plain_start(alloc: Global, p: &Program, f: ProcId) -> Result<Option<Start>, AllocError>
     requires { f.0 < length p.now.procedures.items }
     ensures { IfOk result (λ found. IfSome found
-        (λ s. StartsWith (program_of p.now) f s.vars s.heap s.parts.items)) }
+        (λ s. StartsWith (program_of p.now) f s.fresh s.vars s.heap s.parts.items)) }
 {
+    if p.is_init(f) {
+        return Ok(None);
+    }
     if !is_plain(p, p.proc(f)) {
         return Ok(None);
     }
@@ -27,7 +30,7 @@ pub fn plain_start(alloc: Global, p: &Program, f: ProcId) -> Result<Option<Start
         shared: Vec::new(alloc),
     };
     let parts = vec![in alloc; Locations::from_vec(Vec::new(alloc))]?;
-    Ok(Some(Start::new(p, f, vars, Heap::new(alloc), parts, 1)))
+    Ok(Some(Start::new(p, f, vars, Heap::new(alloc), parts, 1, false)))
 }
 
 /// Whether there are no resources, and the procedure has no parameters and speaks of no cells.

@@ -1,6 +1,8 @@
 -- The laws of the crate, under the names of their functions in src/laws.rt.
-use Rattle.sf_order.specs.Checked.Laws.{RankedHaveNoCycle, RanksAreUnique, RanksRise}
-use Rattle.sf_order.proofs.Rising.{ranking-no_cycle, ranking-rises, ranking-unique}
+use Rattle.sf_order.specs.Checked.Laws.{EachProgramIsOrdered, RankedHaveNoCycle, RanksRise, ResourcesAreListedOnce}
+use Rattle.sf_order.proofs.Listed.{listed-one, listed-some}
+use Rattle.sf_order.proofs.Rising.{ranking-no_cycle, ranking-rises}
+use Rattle.sf_order.proofs.Uniqueness.{is_ordered}
 
 pub ranked_have_no_cycle : RankedHaveNoCycle
 ranked_have_no_cycle pairs count ranks b k = ranking-no_cycle pairs count ranks b k
@@ -8,5 +10,11 @@ ranked_have_no_cycle pairs count ranks b k = ranking-no_cycle pairs count ranks 
 pub ranks_rise : RanksRise
 ranks_rise pairs count ranks b k = ranking-rises pairs count ranks b k
 
-pub ranks_are_unique : RanksAreUnique
-ranks_are_unique pairs count ranks others b k h = ranking-unique pairs count b ranks others k h
+pub each_program_is_ordered : EachProgramIsOrdered
+each_program_is_ordered p formed = is_ordered p formed
+
+pub resources_are_listed_once : ResourcesAreListedOnce
+resources_are_listed_once count ranks = record {
+  one = listed-one ranks count;
+  some = listed-some ranks count;
+}

@@ -9,13 +9,14 @@ use Rattle.sf_base.specs.declared.ids.ProcId.{ProcId}
 use Rattle.sf_base.specs.declared.ids.ResId.{ResId}
 use Rattle.sf_base.specs.declared.path.Turn.TheVariants.{Left as left, Right as right}
 use Rattle.sf_core.specs.Machine.Config.{Item, command, leave, items, Fixed, Frame, Task, runs, waits, Path, Common, task_at, put_task}
+use Rattle.sf_core.specs.Machine.HasThroughout.{SetsUp}
 use Rattle.sf_core.specs.Machine.Next.{frame_next}
 use Rattle.sf_core.specs.Machine.Step.{Event, procedure_at, task_with, Does, Goes, TaskStep}
 use Rattle.sf_core.specs.Program.Heads.{Site, sites, inner_sites}
 use Rattle.sf_core.specs.Program.Syntax.{Call, Command, assign, look_up, mutate, new, dispose, if, while, call, fork, with, Block, done, then, Procedure, Program}
 use Rattle.sf_calls.specs.Reaches.{directly, through}
 use Rattle.sf_order.specs.Nests.{MayEnter, Nests}
-use Rattle.sf_order.specs.Checked.Fits.{CalleeFits, CommandFits, BlockFits, Leaves, AnyLeaves, TodoFits, FramesFit, TaskFits}
+use Rattle.sf_order.specs.Checked.Fits.{CalleeFits, CommandFits, BlockFits, Leaves, AnyHolds, TodoFits, FramesFit, TaskFits, SetterTakesNone}
 
 -- the second of two becomes something else
 on-right : {A B C : Type 0} → (B → C) → A ⊎ B → A ⊎ C
@@ -23,10 +24,14 @@ on-right f (inl a) = inl a
 on-right f (inr b) = inr (f b)
 
 -- three, taken together in the other way
-pub to-right : {A B C : Type 0} → (A ⊎ B) ⊎ C → A ⊎ (B ⊎ C)
+to-right : {A B C : Type 0} → (A ⊎ B) ⊎ C → A ⊎ (B ⊎ C)
 to-right (inl (inl a)) = inl a
 to-right (inl (inr b)) = inr (inl b)
 to-right (inr c) = inr (inr c)
+
+-- four, taken together in the other way
+pub flat : {A B C D : Type 0} → (A ⊎ (B ⊎ C)) ⊎ D → A ⊎ (B ⊎ (C ⊎ D))
+flat m = on-right to-right (to-right m)
 
 -- nothing, or that
 of-none : {A : Type 0} → ⊥ ⊎ A → A
@@ -38,7 +43,7 @@ block-leaves : (b : Block) (rest : List Item) (r : ResId) → Leaves (items b ++
 block-leaves done rest r h = h
 block-leaves (then c b) rest r h = block-leaves b rest r h
 
-block-leaves_none : (b : Block) (r : ResId) → Leaves (items b) r → ⊥
+pub block-leaves_none : (b : Block) (r : ResId) → Leaves (items b) r → ⊥
 block-leaves_none done r h = h
 block-leaves_none (then c b) r h = block-leaves_none b r h
 
@@ -155,11 +160,24 @@ module _ (p : Program) where
       at s m r q (inr e) (inr (d, c, t)) =
           fits r q e (through d.callee (h, there, (s, m, (tt, (d, c, refl)))) t)
 
+module _ (p : Program) (none : SetterTakesNone p) where
+  -- what fits around a call fits with what its procedure sets up
+  own-fits : (a : ResId → Type 0) (f : ProcId) → CalleeFits p a f → CalleeFits p (λ r. SetsUp p f r ⊎ a r) f
+  own-fits a f h r q (inl up) t = absurd (none f r q up t)
+  own-fits a f h r q (inr m) t = h r q m t
+
+  -- the frame of a procedure fits where a call of it does
+  pub frame-fits : (f : ProcId) (h : Procedure) → procedure_at p f ≡ Some h → (a : ResId → Type 0)
+      → CalleeFits p a f → TodoFits p (λ r. SetsUp p f r ⊎ a r) (items h.body)
+  frame-fits f h there a fits =
+      block-alone p (λ r. SetsUp p f r ⊎ a r) h.body
+      (body-fits p f h there (λ r. SetsUp p f r ⊎ a r) (own-fits a f fits))
+
   module _ (ev : Event) (s t : Common) (a : ResId → Type 0) (f : Fixed) (below : List Frame)
       (u : Task) (others : FramesFit p a below) where
     -- around the frame
     abbrev Around : ResId → Type 0
-    Around r = AnyLeaves below r ⊎ a r
+    Around r = SetsUp p f.procedure r ⊎ (AnyHolds p below r ⊎ a r)
 
     -- it goes on with that to do
     goes-on : (todo : List Item) → TodoFits p Around todo → u ≡ task_with f todo below → TaskFits p a u
@@ -171,23 +189,24 @@ module _ (p : Program) where
     chooses this that h k (inl e) = goes-on this h e.1
     chooses this that h k (inr e) = goes-on that k e.1
 
+    -- the frames from this one on, with that still to do
+    abbrev Frames : List Item → List Frame
+    Frames rest = record { fixed = f; todo = rest } ∷ below
+
     -- the frame of a callee, above this one
     callee : (rest : List Item) (c : Call) (g : Procedure) → procedure_at p c.callee ≡ Some g
-        → CommandFits p (λ r. Leaves rest r ⊎ Around r) (call c.place c)
-        → TodoFits p (λ r. (Leaves rest r ⊎ AnyLeaves below r) ⊎ a r) (items g.body)
+        → CalleeFits p (λ r. Leaves rest r ⊎ Around r) c.callee
+        → TodoFits p (λ r. SetsUp p c.callee r ⊎ (AnyHolds p (Frames rest) r ⊎ a r)) (items g.body)
     callee rest c g there h =
-        block-alone (λ r. (Leaves rest r ⊎ AnyLeaves below r) ⊎ a r) g.body
-        (body-fits c.callee g there (λ r. (Leaves rest r ⊎ AnyLeaves below r) ⊎ a r)
-        (λ r q m takes. h r q (to-right m) takes))
+        frame-fits c.callee g there (λ r. AnyHolds p (Frames rest) r ⊎ a r) (λ r q m takes. h r q (flat m) takes)
 
     -- and alone above it in a child
     child : (rest : List Item) (c : Call) (g : Procedure) → procedure_at p c.callee ≡ Some g
         → CalleeFits p (λ r. Leaves rest r ⊎ Around r) c.callee
-        → TodoFits p (λ r. ⊥ ⊎ ((Leaves rest r ⊎ AnyLeaves below r) ⊎ a r)) (items g.body)
+        → TodoFits p (λ r. SetsUp p c.callee r ⊎ (⊥ ⊎ (AnyHolds p (Frames rest) r ⊎ a r))) (items g.body)
     child rest c g there h =
-        block-alone (λ r. ⊥ ⊎ ((Leaves rest r ⊎ AnyLeaves below r) ⊎ a r)) g.body
-        (body-fits c.callee g there (λ r. ⊥ ⊎ ((Leaves rest r ⊎ AnyLeaves below r) ⊎ a r))
-        (λ r q m takes. h r q (to-right (of-none m)) takes))
+        frame-fits c.callee g there (λ r. ⊥ ⊎ (AnyHolds p (Frames rest) r ⊎ a r))
+        (λ r q m takes. h r q (flat (of-none m)) takes)
 
     command-step : (rest : List Item) (c : Command) → CommandFits p (λ r. Leaves rest r ⊎ Around r) c
         → TodoFits p Around rest → Does p ev s f below c rest t u → TaskFits p a u
@@ -197,11 +216,11 @@ module _ (p : Program) where
     command-step rest (new q x) h k d = goes-on rest k d.3
     command-step rest (dispose q e) h k d = goes-on rest k d.4
     command-step rest (if q test this that) h k d =
-        chooses (items this ++ rest) (items that ++ rest) (block-before Around this rest h.0 k)
-        (block-before Around that rest h.1 k) d.1
+        chooses (items this ++ rest) (items that ++ rest) (block-before p Around this rest h.0 k)
+        (block-before p Around that rest h.1 k) d.1
     command-step rest (while q test i body) h k d =
         chooses (items body ++ (command (while q test i body) ∷ rest)) rest
-        (block-before Around body (command (while q test i body) ∷ rest) h (h, k)) k d.1
+        (block-before p Around body (command (while q test i body) ∷ rest) h (h, k)) k d.1
     command-step rest (call q c) h k (g, there, e, i) =
         subst (TaskFits p a) (sym i) (callee rest c g there h, (k, others))
     command-step rest (fork q c d) h k (turns, g, g', there, there', e, i) =
@@ -212,8 +231,8 @@ module _ (p : Program) where
         )
     command-step rest (with q r test body) h k d =
         goes-on (items body ++ (leave r ∷ rest))
-        (block-before Around body (leave r ∷ rest)
-        (block-fewer (λ z. (r ≡ z) ⊎ (Leaves rest z ⊎ Around z)) (λ z. ((r ≡ z) ⊎ Leaves rest z) ⊎ Around z)
+        (block-before p Around body (leave r ∷ rest)
+        (block-fewer p (λ z. (r ≡ z) ⊎ (Leaves rest z ⊎ Around z)) (λ z. ((r ≡ z) ⊎ Leaves rest z) ⊎ Around z)
         (λ z. to-right) body h.1) k) d.3
 
     frame-step : (todo : List Item) → TodoFits p Around todo → Goes p ev s (frame_next f below todo) t u
@@ -229,6 +248,7 @@ module _ (p : Program) where
   task-step ev s t (runs (f ∷ below)) u d a h = frame-step ev s t a f.fixed below u h.1 f.todo h.0 d
   task-step ev s t (waits frames one two) u d a h = subst (TaskFits p a) (sym d.3) h.0
 
+module _ (p : Program) where
   -- and so a tree that does
   pub fits-put : (path : Path) (t from u : Task) → task_at path t ≡ Some from
       → ((a : ResId → Type 0) → TaskFits p a from → TaskFits p a u) → (a : ResId → Type 0) → TaskFits p a t
@@ -237,6 +257,6 @@ module _ (p : Program) where
   fits-put (left ∷ path) (runs frames) from u e k a h = absurd (cc)
   fits-put (right ∷ path) (runs frames) from u e k a h = absurd (cc)
   fits-put (left ∷ path) (waits frames one two) from u e k a h =
-      (h.0, fits-put path one from u e k (λ r. AnyLeaves frames r ⊎ a r) h.1, h.2)
+      (h.0, fits-put path one from u e k (λ r. AnyHolds p frames r ⊎ a r) h.1, h.2)
   fits-put (right ∷ path) (waits frames one two) from u e k a h =
-      (h.0, h.1, fits-put path two from u e k (λ r. AnyLeaves frames r ⊎ a r) h.2)
+      (h.0, h.1, fits-put path two from u e k (λ r. AnyHolds p frames r ⊎ a r) h.2)

@@ -1,11 +1,15 @@
 pub mod Closing
 pub mod Distances
+pub mod Existence
 pub mod Fits
 pub mod Found
+pub mod Listed
 pub mod Places
 pub mod Reached
 pub mod Rising
 pub mod Rows
+pub mod Uniqueness
 pub mod Views
 pub mod Walks
 pub mod Ways
+pub mod Worked

@@ -4,6 +4,7 @@ use Rattle.std.specs.Prelude.{◌≡◌, ◌≢◌, ◌⊎◌, ℕ, zero, suc, �
 use Rattle.std.specs.List.{sum_by}
 use Rattle.std.proofs.Common.{sym, ap, ◌∙◌, refl, subst, inl, inr, arith}
 use Rattle.std.proofs.lemmas.Bool.Decides.{leb_tells}
+use Rattle.std.proofs.lemmas.Grind.{get_or_default_zero}
 use Rattle.std.proofs.lemmas.List.{ext_get_or, length-replicate}
 use Rattle.std.proofs.lemmas.List.Elements.{All-contains, All-contains_itself}
 use Rattle.std.proofs.lemmas.Option.{get_or_from_slice_get, slice_get_within}
@@ -33,6 +34,13 @@ pub record IsRise (R : ResId → ResId → Type 0) (n : ℕ) (ranks : List ℕ) 
       → (x : ResId) × (ys : List ResId) × (x.0 < n) × (length ys ≡ rank_in ranks s) × Way R x ys s
   pub supported : (s : ResId) → s.0 < n
       → (rank_in ranks s ≡ 0) ⊎ ((r : ResId) × R r s × (rank_in ranks s ≤ suc (rank_in ranks r)))
+
+-- all of them are below n
+pub rise-low : (R : ResId → ResId → Type 0) (n : ℕ) (ranks : List ℕ) → IsRise R n ranks
+    → All (λ rank. rank < n) ranks
+rise-low R n ranks k = λ i d l.
+    let few : rank_in ranks (resource i) < n = k.few (resource i) (omega (arith, l, k.each)) in
+    subst (λ (m : ℕ). m < n) (sym (get_or_default_zero ranks i d l)) few
 
 pub rise-starts : (R : ResId → ResId → Type 0) (n : ℕ) → IsRise R n (replicate n 0)
 rise-starts R n = record {

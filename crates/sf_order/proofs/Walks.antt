@@ -42,7 +42,7 @@ module _ (R S : ResId → ResId → Type 0) (same : (r s : ResId) → R r s ↔ 
   back : (r s : ResId) → S r s → R r s
   back r s = (same r s).1
 
-  first_cycle-same : (xs : List ResId) → IsFirstCycle R xs → IsFirstCycle S xs
+  pub first_cycle-same : (xs : List ResId) → IsFirstCycle R xs → IsFirstCycle S xs
   first_cycle-same [] h = h
   first_cycle-same (x ∷ xs) h = record {
     cycle = cycle-map R S to (x ∷ xs) h.cycle;

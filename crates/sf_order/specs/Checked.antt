@@ -5,3 +5,4 @@ pub mod Rows
 pub mod Ways
 pub mod Fits
 pub mod Laws
+pub mod Examples

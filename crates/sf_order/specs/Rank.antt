@@ -2,6 +2,7 @@
 -- Ordinary: the height of a vertex of an acyclic graph, the length of the longest path that ends there.
 use Rattle.std.specs.Prelude.{◌≡◌, ◌<◌, ◌≤◌, ◌⊎◌, ℕ, suc, List, All, length, get_or, slice_get, take, Some}
 use Rattle.sf_base.specs.declared.ids.ResId.{ResId}
+use Rattle.sf_calls.specs.Sets.{IsSetOf}
 
 -- the rank of a resource in a list that has one for each, in file order
 abbrev pub rank_in : List ℕ → ResId → ℕ
@@ -33,3 +34,11 @@ pub record IsFirstLevel (ranks : List ℕ) (pairs : List (ResId × ResId)) (e : 
   pub there : slice_get pairs place ≡ Some e
   pub level : Rises ranks e → ⊥
   pub before : All (Rises ranks) (take place pairs)
+
+-- r has a lower rank, or the same and comes first in the file
+abbrev pub IsLower : List ℕ → ResId → ResId → Type 0
+IsLower ranks r s = (rank_in ranks r < rank_in ranks s) ⊎ ((rank_in ranks r ≡ rank_in ranks s) × (r.0 < s.0))
+
+-- the list has the first so many resources, by rank and then by file order
+abbrev pub AreByRank : ℕ → List ℕ → List ResId → Type 0
+AreByRank count ranks rs = IsSetOf (IsLower ranks) (λ r. r.0 < count) rs

@@ -1,4 +1,4 @@
-ghost use Rattle.std.specs.Prelude.{◌≡◌, MatchResult, length};
+ghost use Rattle.std.specs.Prelude.{◌≡◌, ◌<◌, All, IfOk, MatchResult, length};
 ghost use Rattle.sf_core.specs.Program.ProgramView.{program_of};
 ghost use Rattle.sf_calls.specs.Sets.{AreSetsOf};
 ghost use Rattle.sf_order.specs.Answers.{AreBelow, IsCause};
@@ -40,9 +40,10 @@ impl From<AllocError> for RankFault {
 /// first cycle, exactly where there is one, or says that memory ran out.
 pub fn ranking(alloc: Global, p: &Program, c: &Calls) -> Result<Ranks, RankFault>
     requires { AreSetsOf (program_of p.now) c.now }
-    ensures { MatchResult result
+    ensures answer { MatchResult result
         (IsRanking (Nests (program_of p.now)) (length p.now.resources.items))
         (IsCause (Nests (program_of p.now))) }
+    ensures low { IfOk result (All (λ rank. rank < length p.now.resources.items)) }
 {
     let pairs = nesting(alloc, p, c)?;
     match rank(alloc, &pairs, p.resources.len() as u32) {
@@ -58,7 +59,9 @@ pub fn ranking(alloc: Global, p: &Program, c: &Calls) -> Result<Ranks, RankFault
 /// first cycle, exactly where there is one, or says that memory ran out.
 pub fn rank(alloc: Global, pairs: &Pairs, n: u32) -> Result<Ranks, RankFault>
     requires { AreBelow n pairs.now }
-    ensures { MatchResult result (IsRanking (IsPair pairs.now) n) (IsCause (IsPair pairs.now)) }
+    ensures answer { MatchResult result (IsRanking (IsPair pairs.now) n)
+        (IsCause (IsPair pairs.now)) }
+    ensures low { IfOk result (All (λ rank. rank < n)) }
 {
     let mut ranks = Ranks::all(alloc, 0, n)?;
     while let Err((r, s)) = check_ranks(pairs, &ranks) {

@@ -12,7 +12,7 @@ fn words_are_their_orders(rt: HostRuntime) {
         file: "a",
         workers: 4,
     };
-    let cases: [(&[&str], Order); 13] = [
+    let cases: [(&[&str], Order); 16] = [
         (&["verify", "a"], verify),
         (&["verify", "--", "a"], verify),
         (&["verify", "a", "--"], verify),
@@ -76,6 +76,9 @@ fn words_are_their_orders(rt: HostRuntime) {
             },
         ),
         (&["demo", "1000"], Order::Demo { procedures: 1000 }),
+        (&["order", "a"], Order::Ranking { file: "a" }),
+        (&["order", "--", "-a"], Order::Ranking { file: "-a" }),
+        (&["order", "order"], Order::Ranking { file: "order" }),
     ];
     for (words, order) in cases {
         assert!(rt; read(rt.alloc(), words) == Ok(order));
@@ -84,7 +87,7 @@ fn words_are_their_orders(rt: HostRuntime) {
 
 #[test]
 fn other_words_are_refused(rt: HostRuntime) {
-    let cases: [&[&str]; 32] = [
+    let cases: [&[&str]; 37] = [
         &[],
         &["--help"],
         &["help"],
@@ -115,6 +118,11 @@ fn other_words_are_refused(rt: HostRuntime) {
         &["run", "a", "b"],
         &["run", "a", "b", "c", "--steps=281474976710657"],
         &["run", "a", "b", "c", "--waits=16777217"],
+        &["order"],
+        &["order", ""],
+        &["order", "a", "b"],
+        &["order", "a", "--workers=1"],
+        &["orders", "a"],
         &["demo", "0"],
         &["demo", "1001"],
     ];

@@ -3,8 +3,7 @@
 ghost use Rattle.std.specs.Prelude.{◌≡◌, [], ◌++◌, codes, false, IfOk, List, Some};
 ghost use Rattle.std.specs.Option.{option_map};
 ghost use Rattle.sf_base.specs.Results.{Appends};
-ghost use Rattle.sf_consume.specs.Checked.Meeting.{met_term};
-ghost use Rattle.sf_consume.specs.Misfit.{misfit_of};
+ghost use Rattle.sf_consume.specs.Misfit.{met_term, misfit_of};
 ghost use Rattle.sf_core.specs.Program.ProgramView.{program_of};
 ghost use Rattle.sf_core.specs.Program.View.{command_of, conjunct_of};
 ghost use Rattle.sf_sym.specs.Goal.{Item as Thing, items_of, todo_of};

@@ -13,3 +13,20 @@ pub mod ConjunctLaws
 pub mod RowInversion
 pub mod Settings
 mod OwnTerms
+pub mod Fits
+pub mod Universe
+pub mod OperandsBelow
+pub mod Fitting
+pub mod FittingStates
+pub mod ShapedGoals
+pub mod ShapedKnown
+pub mod ShapedCommands
+pub mod ShapedAdds
+pub mod ShapedChoices
+pub mod ShapedTakes
+pub mod ShapedRows
+pub mod FormedAnnotations
+pub mod FormedBodies
+pub mod FirstShapes
+pub mod KeptShapes
+pub mod GoalShapes

@@ -9,6 +9,7 @@ pub mod Front
 pub mod LawsOfCommands
 pub mod LawsOfConjuncts
 pub mod LawsOfSettings
+pub mod LawsOfShape
 pub mod Lemmas
 pub mod RowCases
 pub mod Terms

@@ -1,16 +1,24 @@
-//! What is in front of each row of the table, and what the rows of commands and of conjuncts do to
-//! what a goal stands for. Each function is a law: calling it gives its fact to the caller's proof,
-//! and does nothing.
+//! What is in front of each row of the table, what the rows of commands and of conjuncts do to what
+//! a goal stands for, and the shape that all goals of a program have. Each function is a law:
+//! calling it gives its fact to the caller's proof, and does nothing.
 
 ghost use Rattle.sf_rules.specs.Checked.LawsOfSettings.{ArrangedHasSetting, SettingExists, SettingIsUnique};
+ghost use Rattle.sf_rules.specs.Checked.LawsOfShape.{FirstGoalsAreShaped, FirstGoalsAreSmall, GoalsAreShaped, RowsKeepShape};
 ghost use Rattle.sf_rules.specs.Checked.RowCases.{RowsHaveCases};
 ghost use Rattle.sf_rules.specs.Checked.LawsOfConjuncts.{AssumeKeepsGoals, AssumedBranchKeepsGoals, ShownBranchLeavesRest, SubtractionLeavesRest};
 ghost use Rattle.sf_rules.specs.Checked.LawsOfCommands.{AssignFollowsEvent, DisposeFollowsEvent, ElseFollowsTest, LookFollowsEvent, MutateFollowsEvent, NewFollowsEvent, ThenFollowsTest};
 
-use sf_calls::laws::{sets_exist, sets_from_truncation};
+use sf_calls::laws::{
+    changes_are_assigned, first_breach_is_broken, held_resources_are_there, sets_exist,
+    sets_from_truncation,
+};
 use sf_consume::laws::{branch_keeps_wants, subtraction_keeps_wants};
+use sf_normal::laws::{
+    absurd_keeps_goals, drop_keeps_goals, force_keeps_goals, split_keeps_goals, unroll_keeps_goals,
+};
 use sf_precise::laws::{
-    determined_has_order, never_taken_is_undetermined, ordering_exists, undetermined_has_place,
+    determined_has_order, never_taken_is_undetermined, order_keeps_form, ordering_exists,
+    undetermined_has_place,
 };
 use sf_produce::laws::add_keeps_goals;
 
@@ -118,4 +126,66 @@ pub fn arranged_has_setting()
     ensures { ArrangedHasSetting }
 {
     sets_from_truncation();
+}
+
+/// The first goal of each procedure of a program is shaped: it speaks of symbols below its next one
+/// only, its lists are in order, its conjuncts are formed, what it has to do has the form that rows
+/// make, up to its end, and its state and what it has to do fit the program.
+pub fn first_goals_are_shaped()
+    ensures { FirstGoalsAreShaped }
+{
+    changes_are_assigned();
+    first_breach_is_broken();
+    held_resources_are_there();
+    undetermined_has_place();
+    never_taken_is_undetermined();
+    determined_has_order();
+    order_keeps_form();
+}
+
+/// It has few symbols, and no atom has taken a number.
+pub fn first_goals_are_small()
+    ensures { FirstGoalsAreSmall }
+{
+    held_resources_are_there();
+}
+
+/// Every row leaves shaped goals of a shaped goal, with fewer than `TOO_MANY` symbols and atoms
+/// more.
+pub fn rows_keep_shape()
+    ensures { RowsKeepShape }
+{
+    changes_are_assigned();
+    first_breach_is_broken();
+    held_resources_are_there();
+    undetermined_has_place();
+    never_taken_is_undetermined();
+    determined_has_order();
+    order_keeps_form();
+    rows_have_cases();
+    absurd_keeps_goals();
+    drop_keeps_goals();
+    force_keeps_goals();
+    split_keeps_goals();
+    unroll_keeps_goals();
+    assign_follows_event();
+    look_follows_event();
+    mutate_follows_event();
+    new_follows_event();
+    dispose_follows_event();
+    then_follows_test();
+    else_follows_test();
+    assume_keeps_goals();
+    assumed_branch_keeps_goals();
+    subtraction_leaves_rest();
+    shown_branch_leaves_rest();
+}
+
+/// So each goal of a program's procedure is shaped, and after so many tags it has fewer than
+/// `TOO_MANY` symbols and atoms more for each than the first goal.
+pub fn goals_are_shaped()
+    ensures { GoalsAreShaped }
+{
+    first_goals_are_shaped();
+    rows_keep_shape();
 }

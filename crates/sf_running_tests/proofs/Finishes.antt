@@ -48,6 +48,7 @@ ends-writable p f g c vars heap there e limits =
 
 pub finishes_of_files_read_back : WrittenStatesOfFilesReadBack → FinishesOfFilesReadBack
 unfolding WrittenStatesOfFilesReadBack FinishesOfFilesReadBack
-finishes_of_files_read_back back bytes ts tree p f g vars heap base count finish text read file e there ends limits t =
+finishes_of_files_read_back back bytes ts tree p f g fresh vars heap base count finish text read file e there ends
+    limits t =
     back bytes ts tree p f g finish.vars finish.heap text read file e there
     (ends-writable p f g ends.last finish.vars finish.heap there ends.ends limits) t

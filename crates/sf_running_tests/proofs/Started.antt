@@ -16,7 +16,7 @@ element-at (x ∷ xs) (suc k) l = element-at xs k (omega (arith, l))
 
 pub text-starts : (p : Program) (f : ProcId) (text : List ℕ) (s : Start) → f.0 < length p.procedures
     → IfSome (slice_get p.procedures f.0) (λ g. DecidesStart p f g text (Ok s))
-    → StartsWith p f s.vars s.heap s.parts.items
+    → StartsWith p f s.fresh s.vars s.heap s.parts.items
 text-starts p f text s below said =
     let there = element-at p.procedures f.0 below in
     (some-holds (λ (g : Procedure). DecidesStart p f g text (Ok s)) (slice_get p.procedures f.0) there.0 there.1

@@ -36,8 +36,8 @@ pub(crate) struct Entered {
 
 /// The procedure of that name with the start that the text gives, if it is one.
 pub(crate) fn start_of(alloc: Global, p: &Arranged, name: &str, text: &[u8]) -> Option<Entered>
-    ensures starts { IfSome result (λ e. StartsWith (program_of p.now.program) e.f e.start.vars
-        e.start.heap e.start.parts.items) }
+    ensures starts { IfSome result (λ e. StartsWith (program_of p.now.program) e.f e.start.fresh
+        e.start.vars e.start.heap e.start.parts.items) }
     ensures within { IfSome result (λ e. e.f.0 < length p.now.program.procedures.items) }
 {
     let Ok(f) = entry(alloc, p, name) else {

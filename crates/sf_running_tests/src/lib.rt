@@ -5,6 +5,7 @@
 //! - `laws`: that what is written of a proof or of a run of a file's program is read back.
 //! - `files`: programs from their texts, and starts of their procedures.
 //! - `shelves`: shelves that hand out files and sinks that take bytes, and a caller of any of them.
+//! - `gates`: gates that hold callers, or nobody.
 //! - `heaps`: cells that are put, taken, joined and parted off.
 //! - `texts`: what the lines of a state's text give, or why not, and the text of a state.
 //! - `states`: starts, why there is none, and what is written.
@@ -14,6 +15,8 @@
 
 #[cfg(test)]
 mod files;
+#[cfg(test)]
+mod gates;
 #[cfg(test)]
 mod heaps;
 pub mod laws;

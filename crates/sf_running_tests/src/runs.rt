@@ -1,19 +1,21 @@
 //! Runs of one task. What they end with, and how many events they have, is worked out by hand.
 
-ghost use Rattle.std.specs.Prelude.{◌≡◌, ◌≤◌, ◌<◌, IfSome, IsTrue, length};
+ghost use Rattle.std.specs.Prelude.{◌≡◌, ◌≤◌, ◌<◌, IfOk, IfSome, IsTrue, length, true};
 ghost use Rattle.sf_base.specs.declared.limits.TheConstants.{STEPS as MOST_STEPS, WAITS as MOST_WAITS};
 ghost use Rattle.sf_check.specs.Accepted.{arranged_in};
 ghost use Rattle.sf_core.specs.Program.ProgramView.{program_of};
 ghost use Rattle.sf_foot.specs.Starting.{StartsWith};
-ghost use Rattle.sf_run.specs.Sequential.{IsSequential};
+ghost use Rattle.sf_run.specs.Sequential.{IsSequentialStart};
 
 use crate::files::{Entered, fitted, start_of};
 use crate::running::{TURNED, TWO_CELLS};
+use sf_base::ProcId;
 use sf_base::limits::{STEPS, WAITS};
 use sf_check::{Proof, check};
+use sf_core::Program;
 use sf_io::OpenGate;
 use sf_precise::Arranged;
-use sf_run::{Budget, Stop, is_sequential, run};
+use sf_run::{Budget, Stop, is_init_sequential, is_sequential, run};
 use sf_search::verify;
 use sf_state::write;
 use std::alloc::{AllocError, Global};
@@ -62,9 +64,10 @@ fn run_text<R: Threads + Sync>(
 ) -> Result<Vec<u8>, AllocError>
     requires proved { arranged_in proof.now ≡ p.now }
     requires within { entered.f.0 < length p.now.program.procedures.items }
-    requires starts { StartsWith (program_of p.now.program) entered.f entered.start.vars
-        entered.start.heap entered.start.parts.items }
-    requires sequential { IsSequential (program_of p.now.program) entered.f }
+    requires starts { StartsWith (program_of p.now.program) entered.f entered.start.fresh
+        entered.start.vars entered.start.heap entered.start.parts.items }
+    requires sequential { IsSequentialStart (program_of p.now.program) entered.f
+        entered.start.fresh }
     requires steps { (1 ≤ budget.steps) × (budget.steps ≤ MOST_STEPS) }
     requires waits { (1 ≤ budget.waits) × (budget.waits ≤ MOST_WAITS) }
 {
@@ -74,6 +77,20 @@ fn run_text<R: Threads + Sync>(
         Ok(finish) => write(alloc, p, f, &finish),
         Err(stop) => told(alloc, &stop),
     }
+}
+
+/// Whether it is told that no parallel call can be reached where a start of the procedure runs.
+fn is_alone(alloc: Global, p: &Program, f: ProcId, fresh: bool) -> Result<bool, AllocError>
+    requires { f.0 < length p.now.procedures.items }
+    ensures { IfOk result (λ yes. yes ≡ true → IsSequentialStart (program_of p.now) f fresh) }
+{
+    if !is_sequential(alloc, p, f)? {
+        return Ok(false);
+    }
+    if fresh {
+        return is_init_sequential(alloc, p);
+    }
+    Ok(true)
 }
 
 /// A run: its procedure, the text of its start, and its budget.
@@ -97,7 +114,7 @@ fn answer<R: Threads + Sync>(
     if !is_within(budget) {
         return Ok(None);
     }
-    if !is_sequential(alloc, &p.program, entered.f)? {
+    if !is_alone(alloc, &p.program, entered.f, entered.start.fresh)? {
         return Ok(None);
     }
     let text = run_text(rt, alloc, p, &proof, entered, budget)?;
@@ -116,6 +133,14 @@ const FREE_CELLS: &[u8] = b"
       with mm when (true) { if (f == nil) { x = new(); } else { x = f; f = x->tl; } }
     } [x|->]";
 
+/// As these, where the list of free cells is set up first.
+const SET_UP: &[u8] = b"
+    resource mm (f) [list(f)]
+    alloc(x;) [emp] {
+      with mm when (true) { if (f == nil) { x = new(); } else { x = f; f = x->tl; } }
+    } [x|->]
+    init() { local y; y = new(); y->tl = f; f = y; }";
+
 #[test]
 fn runs_answer_what_comes_of_their_starts(rt: HostRuntime) -> Result<(), Fail> {
     let two = b"two(x;) { x = nil; x = 1; }";
@@ -126,7 +151,8 @@ i = @1
 @2 hd=nil tl=@1 l=nil r=nil
 ";
     let made = b"x = @3\nmm.f = nil\n@3 hd=nil tl=nil l=nil r=nil\n";
-    let cases: [(&[u8], Row<'_>, &[u8]); 6] = [
+    let given = b"x = @1\nmm.f = nil\n@1 hd=nil tl=nil l=nil r=nil\n";
+    let cases: [(&[u8], Row<'_>, &[u8]); 9] = [
         (two, ("two", b"x = nil", budget(1, 1)), b"steps 0 1"),
         (two, ("two", b"x = nil", budget(2, 1)), b"x = 1\n"),
         (stay, ("stay", b"r.v = nil", budget(9, 5)), b"waits 0 0 5"),
@@ -137,6 +163,13 @@ i = @1
             ("alloc", b"x = nil\nmm.f = nil", budget(4, 1)),
             made,
         ),
+        (
+            SET_UP,
+            ("alloc", b"x = nil\nmm.f = nil", budget(4, 1)),
+            made,
+        ),
+        (SET_UP, ("alloc", b"x = nil", budget(9, 1)), given),
+        (SET_UP, ("alloc", b"x = nil", budget(8, 1)), b"steps 0 8"),
     ];
     let alloc = rt.alloc();
     for (file, row, text) in cases {

@@ -5,11 +5,7 @@ ghost use Rattle.std.specs.Prelude.{◌≡◌, ◌≢◌, ◌⊎◌, ℕ, List, 
 ghost use Rattle.sf_io.specs.Increased.{Increased};
 ghost use Rattle.sf_io.specs.Sink.{with_bytes, WrotePrefix};
 
-use sf_base::TaskPath;
-use sf_io::{
-    FetchFault, FileShelf, Gate, MemShelf, MemSink, OpenGate, Point, Shelf, Sink, SinkFault,
-    StdSink, put_all,
-};
+use sf_io::{FetchFault, FileShelf, MemShelf, MemSink, Shelf, Sink, SinkFault, StdSink, put_all};
 use std::alloc::{AllocError, Global};
 use std::cell::{Cell, RefCell};
 use std::fmt::Display;
@@ -255,9 +251,4 @@ fn standard_output_gets_each_byte_once(rt: HostRuntime) -> Result<(), Fail> {
         assert_eq!(rt; held.as_slice(), bytes);
     }
     Ok(())
-}
-
-#[test]
-fn an_open_gate_lets_a_point_pass(_rt: HostRuntime) {
-    OpenGate.pass(&Point::Start(TaskPath::entry()));
 }

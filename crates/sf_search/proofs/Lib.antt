@@ -3,6 +3,7 @@ pub mod Views
 pub mod Trees
 pub mod Once
 pub mod Found
+pub mod GoalShapes
 pub mod Rows
 pub mod Taken
 pub mod Reached
@@ -17,19 +18,3 @@ pub mod Kept
 pub mod StillKnown
 pub mod Leading
 pub mod Judging
-pub mod Universe
-pub mod OperandsBelow
-pub mod FreshVariables
-pub mod Fitting
-pub mod FittingStates
-pub mod ShapedGoals
-pub mod ShapedKnown
-pub mod ShapedCommands
-pub mod ShapedAdds
-pub mod ShapedChoices
-pub mod ShapedTakes
-pub mod ShapedRows
-pub mod FormedAnnotations
-pub mod FormedBodies
-pub mod FirstShapes
-pub mod GoalShapes

@@ -1,6 +1,6 @@
 -- A search has one end, and a program one verdict.
 -- Names: `chosen-LAW` of tags that are taken, `judge-LAW` of verdicts.
-use Rattle.std.proofs.Common.{◌≡◌, ℕ, suc, ◌+◌, ◌≤◌, ◌<◌, inl, inr, Some, List, [], ◌∷◌, ◌++◌, length, refl, sym, ap, ap₂, ◌∙◌, subst, arith}
+use Rattle.std.proofs.Common.{◌≡◌, ℕ, suc, ◌+◌, ◌≤◌, inl, inr, Some, List, [], ◌∷◌, ◌++◌, length, refl, sym, ap, ap₂, ◌∙◌, subst, arith}
 use Rattle.sf_base.specs.declared.limits.TheConstants.{PROCEDURE_TAGS}
 use Rattle.sf_core.specs.Program.Syntax.{Procedure}
 use Rattle.sf_rules.specs.Rows.Whole.{row}

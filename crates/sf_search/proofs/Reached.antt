@@ -7,10 +7,10 @@ use Rattle.sf_base.proofs.Elements.{all_by-append, contains-cons}
 use Rattle.sf_base.specs.declared.limits.TheConstants.{PROCEDURE_TAGS}
 use Rattle.sf_rules.specs.Rows.Whole.{row}
 use Rattle.sf_rules.specs.Setting.{Setting}
+use Rattle.sf_rules.specs.Shape.{IsGoalAfter}
 use Rattle.sf_search.proofs.Taken.{taken_tags_have_rows}
 use Rattle.sf_search.specs.Checked.Laws.{TakenTagsHaveRows}
 use Rattle.sf_search.specs.Checked.ShapeLaws.{KeepsShape}
-use Rattle.sf_search.specs.Shaped.{IsGoalAfter}
 use Rattle.sf_search.specs.Strategy.{chooses, takes}
 use Rattle.sf_sym.specs.declared.tag.Tag.{Tag}
 use Rattle.sf_sym.specs.Goal.{Goal}
@@ -54,4 +54,4 @@ module _ (d : Setting) (first : Goal) where
       → chooses g ≡ takes tag → (left : List Goal) × (row d g tag ≡ Some left)
   unfolding TakenTagsHaveRows
   reached_row keeps m g tag l a c =
-      taken_tags_have_rows d g tag (keeps a.0 g a.2 (omega (arith, a.1, l))) c
+      let shape = keeps a.0 g a.2 (omega (arith, a.1, l)) in taken_tags_have_rows d g tag shape.0 shape.1 c

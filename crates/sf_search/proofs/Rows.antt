@@ -12,9 +12,10 @@ use Rattle.sf_core.specs.Program.Formed.{TestWithin}
 use Rattle.sf_normal.specs.Knowledge.{split_row, unroll_one, unrolled_segment, unrolled_tree}
 use Rattle.sf_rules.specs.Rows.Whole.{row_of}
 use Rattle.sf_rules.specs.Setting.{Setting}
+use Rattle.sf_rules.specs.Shape.{HasLinks}
 use Rattle.sf_search.proofs.Found.{all-append, all-at, cell-of_atom, found-among, found-at, found-none}
 use Rattle.sf_search.specs.Strategy.{Choice, Kind, at_cell, at_test, found_or, lowest, opened, opened_by, opened_first, or_else, segment_at, split_by, split_found, split_or, stays, takes, takes_if, tree_at, undecided_ends, which}
-use Rattle.sf_search.specs.Shape.{HasLinks, HasShape}
+use Rattle.sf_search.proofs.GoalShapes.{IsReady}
 use Rattle.sf_sym.specs.Below.{AllInAtom, AllInAtoms, IsBelow, is_below}
 use Rattle.sf_sym.specs.Cells.{atom_at, cell_at, fields_at}
 use Rattle.sf_sym.specs.declared.atom.Atom.{Atom}
@@ -154,7 +155,7 @@ atom-unrolls g a (Tree t) u w e d h =
 abbrev pub NoneIsNothing : Goal → Type 0
 NoneIsNothing g = lowest (which is_nothing) g.state.atoms ≡ None
 
-module _ (d : Setting) (g : Goal) (shape : HasShape d g) where
+module _ (d : Setting) (g : Goal) (shape : IsReady d g) where
   pub good-split : (t u : Term) → same_term t u ≡ false → IsBelow g.state.next_sym t → IsBelow g.state.next_sym u
       → is_some (split_row g t u) ≡ true
   good-split t u e a b =

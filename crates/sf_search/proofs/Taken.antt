@@ -30,11 +30,11 @@ use Rattle.sf_rules.specs.Rows.Take.{subtract_row}
 use Rattle.sf_rules.specs.Rows.Whole.{row, row_of}
 use Rattle.sf_rules.specs.Setting.{Setting}
 use Rattle.sf_search.proofs.Found.{found-at, found-forced}
-use Rattle.sf_search.proofs.FreshVariables.{few-filtered, fresh-length, term-below, variables-length}
+use Rattle.sf_rules.specs.Checked.Lemmas.FreshVariables.{few-filtered, fresh-length, term-below, variables-length}
 use Rattle.sf_search.proofs.Rows.{Good, GoodIf, NoneIsNothing, cell-found, good-at_cell, good-at_test, good-if, good-map, good-or, good-split, good-split_or, segment-is}
 use Rattle.sf_search.specs.Strategy.{at_choice, at_command, at_end, at_equality, at_first_wanted, at_given, at_inequality, at_items, at_known, at_list, at_points, at_tree, at_wanted, begins_with, chooses, end_not_allocated, exact_atom, forced_ends, has_step, joins, leak, lowest, lowest_forced, no_atom, not_different, not_equal, segment_at, split_or, takes, takes_if, which}
 use Rattle.sf_search.specs.Checked.Laws.{TakenTagsHaveRows}
-use Rattle.sf_search.specs.Shape.{HasShape}
+use Rattle.sf_search.proofs.GoalShapes.{IsReady, ready-of}
 use Rattle.sf_sym.specs.Below.{AllInPending, AllPaired, IsBelow}
 use Rattle.sf_sym.specs.Cells.{cell_at, fields_at, handed}
 use Rattle.sf_sym.specs.Decided.{command_test, is_false, is_true, term_of, test_of_terms, two_terms}
@@ -115,7 +115,7 @@ module _ (d : Setting) (s : State) (rest : List Item) where
   abbrev here : Item → Goal
   here i = record { state = s; todo = i ∷ rest }
 
-  good-command : (c : Command) → HasShape d (here (run c)) → NoneIsNothing (here (run c))
+  good-command : (c : Command) → IsReady d (here (run c)) → NoneIsNothing (here (run c))
       → Good (row_of d (here (run c))) (at_command s c)
   good-command (assign p x e) shape nothing = refl
   good-command (look_up p x e f) shape nothing =
@@ -156,7 +156,7 @@ module _ (d : Setting) (s : State) (rest : List Item) where
       (subst (λ n. n < TOO_MANY) (sym (variables-length r 0 shape.front.0.variables)) shape.front.2) refl
 
 -- Choices among conjuncts
-good-choice : (d : Setting) (g : Goal) (shape : HasShape d g) (bindings : List (Option Term))
+good-choice : (d : Setting) (g : Goal) (shape : IsReady d g) (bindings : List (Option Term))
     (test : Test (Operand Term))
     → ((x : Test Term) → test_of_terms bindings test ≡ Some x → TestWithin (IsBelow g.state.next_sym) x)
     → ((x : Test Term) → test_of_terms bindings test ≡ Some x → is_true g.state x ≡ true
@@ -175,7 +175,7 @@ module _ (d : Setting) (s : State) (rest : List Item) (p : Place) (b : List (Opt
   abbrev given : Conjuncts Term → Goal
   given cs = record { state = s; todo = add p (record { conjuncts = cs; bindings = b }) ∷ rest }
 
-  good-given : (cs : Conjuncts Term) → HasShape d (given cs) → Good (row_of d (given cs)) (at_given s b cs)
+  good-given : (cs : Conjuncts Term) → IsReady d (given cs) → Good (row_of d (given cs)) (at_given s b cs)
   good-given none shape = absurd (let e : false ≡ true = shape.front.0 in cc)
   good-given (also (choose q test this that) cs) shape =
       good-choice d (given (also (choose q test this that) cs)) shape b test
@@ -267,12 +267,12 @@ module _ (d : Setting) (s : State) (rest : List Item) (p : Place) (names : List 
   abbrev wanting : Conjunct Term → Goal
   wanting c = record { state = s; todo = take p (record { conjuncts = also c cs; bindings = b }) names ∷ rest }
 
-  by-step : (c : Conjunct Term) (tag : Tag) (step : Step) → step_of tag ≡ Some step → HasShape d (wanting c)
+  by-step : (c : Conjunct Term) (tag : Tag) (step : Step) → step_of tag ≡ Some step → IsReady d (wanting c)
       → is_some (step s b c cs) ≡ true
       → is_some (subtract_row tag s p (record { conjuncts = also c cs; bindings = b }) names rest) ≡ true
   by-step c tag step e shape h = take-some tag step e s p b c cs names rest shape.front h
 
-  good-equality : (c : Conjunct Term) → HasShape d (wanting c) → Good (row_of d (wanting c)) (at_equality s b c)
+  good-equality : (c : Conjunct Term) → IsReady d (wanting c) → Good (row_of d (wanting c)) (at_equality s b c)
   good-equality c shape =
       good-or (row_of d (wanting c)) (takes_if (has_step bind_step s b c) t.Bind) _
       (good-if (row_of d (wanting c)) (has_step bind_step s b c) t.Bind
@@ -282,7 +282,7 @@ module _ (d : Setting) (s : State) (rest : List Item) (p : Place) (names : List 
       (λ h. by-step c t.Same same_step refl shape (same-any s b c cs h)))
       (λ nor. good-split_or d (wanting c) shape not_equal))
 
-  good-inequality : (q : Place) (x y : Operand Term) → HasShape d (wanting (holds q (Differ x y)))
+  good-inequality : (q : Place) (x y : Operand Term) → IsReady d (wanting (holds q (Differ x y)))
       → Good (row_of d (wanting (holds q (Differ x y)))) (at_inequality s b x y)
   good-inequality q x y shape =
       good-or (row_of d (wanting (holds q (Differ x y))))
@@ -300,7 +300,7 @@ module _ (d : Setting) (s : State) (rest : List Item) (p : Place) (names : List 
           ∙ cond-some (differs s e.0 e.1) (removed s b cs) h))
 
   good-points : (q : Place) (x : Operand Term) (fs : List (FieldId × Operand Term))
-      → HasShape d (wanting (points q x fs)) → NoneIsNothing (wanting (points q x fs)) → (o : Option Term)
+      → IsReady d (wanting (points q x fs)) → NoneIsNothing (wanting (points q x fs)) → (o : Option Term)
       → Good (row_of d (wanting (points q x fs))) (at_points s b (points q x fs) o)
   good-points q x fs shape nothing None = good-split_or d (wanting (points q x fs)) shape no_atom
   good-points q x fs shape nothing (Some u) =
@@ -311,7 +311,7 @@ module _ (d : Setting) (s : State) (rest : List Item) (p : Place) (names : List 
       (λ h. by-step (points q x fs) (t.Cell a) (cell_step a) refl shape (cell-any a s b (points q x fs) cs h)))
       (λ none. good-split_or d (wanting (points q x fs)) shape not_equal))
 
-  good-exact : (c : Conjunct Term) → HasShape d (wanting c) → (w : Atom) → wanted_shape b c ≡ Some w
+  good-exact : (c : Conjunct Term) → IsReady d (wanting c) → (w : Atom) → wanted_shape b c ≡ Some w
       → GoodIf (row_of d (wanting c)) (exact_atom s (Some w))
   good-exact c shape w i =
       good-map (row_of d (wanting c)) (λ f. t.Exact f.0) (lowest (which (λ x. is_same_shape x w)) s.atoms)
@@ -339,7 +339,7 @@ module _ (d : Setting) (s : State) (rest : List Item) (p : Place) (names : List 
           ∙ cond-some (same_term e.0 e.1) (removed s b none) j in
           absurd (let both : true ≡ false = sym yes ∙ no in cc)
 
-  both-below : (c : Conjunct Term) → HasShape d (wanting c) → (x y : Operand Term) (e : Term × Term)
+  both-below : (c : Conjunct Term) → IsReady d (wanting c) → (x y : Operand Term) (e : Term × Term)
       → OccursInAll (also c cs) x → OccursInAll (also c cs) y → both b x y ≡ Some e
       → IsBelow s.next_sym e.0 × IsBelow s.next_sym e.1
   both-below c shape x y e ox oy i = go (term_of b x) (term_of b y) refl refl i
@@ -358,7 +358,7 @@ module _ (d : Setting) (s : State) (rest : List Item) (p : Place) (names : List 
           )
 
   good-joins : (q : Place) (next : FieldId) (x y : Operand Term) (e : Term × Term)
-      → HasShape d (wanting (segment q next x y)) → both b x y ≡ Some e
+      → IsReady d (wanting (segment q next x y)) → both b x y ≡ Some e
       → GoodIf (row_of d (wanting (segment q next x y))) (joins s e.0 e.1)
   good-joins q next x y e shape i = go (lowest (segment_at e.0) s.atoms) refl
     where
@@ -384,7 +384,7 @@ module _ (d : Setting) (s : State) (rest : List Item) (p : Place) (names : List 
               ∙ rw (term-self e.0, k) refl)
           step false k = good-split_or d (wanting (segment q next x y)) shape end_not_allocated
 
-  good-list : (q : Place) (next : FieldId) (x y : Operand Term) → HasShape d (wanting (segment q next x y))
+  good-list : (q : Place) (next : FieldId) (x y : Operand Term) → IsReady d (wanting (segment q next x y))
       → (o : Option (Term × Term)) → both b x y ≡ o
       → Good (row_of d (wanting (segment q next x y))) (at_list s b (segment q next x y) o)
   good-list q next x y shape None i = good-split_or d (wanting (segment q next x y)) shape no_atom
@@ -421,7 +421,7 @@ module _ (d : Setting) (s : State) (rest : List Item) (p : Place) (names : List 
       below : IsBelow s.next_sym e.0 × IsBelow s.next_sym e.1
       below = both-below (segment q next x y) shape x y e (inl (inl refl)) (inl (inr refl)) i
 
-  good-tree : (q : Place) (left right : FieldId) (x : Operand Term) → HasShape d (wanting (tree q left right x))
+  good-tree : (q : Place) (left right : FieldId) (x : Operand Term) → IsReady d (wanting (tree q left right x))
       → (o : Option Term) → term_of b x ≡ o
       → Good (row_of d (wanting (tree q left right x))) (at_tree s b (tree q left right x) o)
   good-tree q left right x shape None i = good-split_or d (wanting (tree q left right x)) shape no_atom
@@ -456,7 +456,7 @@ module _ (d : Setting) (s : State) (rest : List Item) (p : Place) (names : List 
           shape.below.todo.0 x u
           (inl refl) i
 
-  good-wanted : (c : Conjunct Term) → HasShape d (wanting c) → NoneIsNothing (wanting c)
+  good-wanted : (c : Conjunct Term) → IsReady d (wanting c) → NoneIsNothing (wanting c)
       → Good (row_of d (wanting c)) (at_wanted s b c)
   good-wanted (holds q True) shape nothing = good-split_or d (wanting (holds q True)) shape not_equal
   good-wanted (holds q (Equal x y)) shape nothing = good-equality (holds q (Equal x y)) shape
@@ -472,7 +472,7 @@ module _ (d : Setting) (s : State) (rest : List Item) (p : Place) (names : List 
 
 -- What is in front
 good-end : (d : Setting) (s : State) (q : Place) (rest : List Item)
-    → HasShape d (record { state = s; todo = end q ∷ rest })
+    → IsReady d (record { state = s; todo = end q ∷ rest })
     → Good (row_of d (record { state = s; todo = end q ∷ rest })) (at_end s s.atoms)
 good-end d s q rest shape = go s.atoms refl
   where
@@ -483,7 +483,7 @@ good-end d s q rest shape = go s.atoms refl
 
 good-want : (d : Setting) (s : State) (rest : List Item) (p : Place) (names : List (List ℕ))
     (b : List (Option Term)) (cs : Conjuncts Term)
-    → HasShape d (record {
+    → IsReady d (record {
       state = s;
       todo = take p (record { conjuncts = cs; bindings = b }) names ∷ rest;
     })
@@ -500,7 +500,7 @@ good-want d s rest p names b none shape nothing =
     shape no_atom
 good-want d s rest p names b (also c cs) shape nothing = good-wanted d s rest p names b cs c shape nothing
 
-good-items : (d : Setting) (s : State) (todo : List Item) → HasShape d (record { state = s; todo = todo })
+good-items : (d : Setting) (s : State) (todo : List Item) → IsReady d (record { state = s; todo = todo })
     → NoneIsNothing (record { state = s; todo = todo })
     → Good (row_of d (record { state = s; todo = todo })) (at_items s todo)
 good-items d s [] shape nothing = absurd shape.front
@@ -535,7 +535,7 @@ forced-row g a x e i = go (ends x) i
     go (Some q) j =
         cond-some (is_forced g.state a q) (assumed_equal q.0 q.1 g ∷ []) (if-so (is_forced g.state a q) q e j)
 
-pub good-chooses : (d : Setting) (g : Goal) → HasShape d g → Good (row_of d g) (chooses g)
+pub good-chooses : (d : Setting) (g : Goal) → IsReady d g → Good (row_of d g) (chooses g)
 good-chooses d g shape =
     good-or (row_of d g) (takes_if (is_absurd g.state) t.Absurd) _
     (good-if (row_of d g) (is_absurd g.state) t.Absurd (λ h. cond-some (is_absurd g.state) [] h))
@@ -558,7 +558,7 @@ some-there (Some x) e = (x, refl)
 
 pub taken_tags_have_rows : TakenTagsHaveRows
 unfolding TakenTagsHaveRows
-taken_tags_have_rows d goal tag shape e =
+taken_tags_have_rows d goal tag shape numbers e =
     some-there (row d goal tag)
-    (ap (λ b. is_some (cond b (row_of d goal tag) None)) shape.numbers
-    ∙ subst (Good (row_of d goal)) e (good-chooses d goal shape))
+    (ap (λ b. is_some (cond b (row_of d goal tag) None)) numbers
+    ∙ subst (Good (row_of d goal)) e (good-chooses d goal (ready-of d goal shape numbers)))

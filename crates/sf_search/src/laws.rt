@@ -1,15 +1,11 @@
 //! Laws of the search. Each function is a law: calling it gives its fact to the caller's proof, and
 //! does nothing.
 
-ghost use Rattle.sf_search.specs.Checked.ShapeLaws.{ArrangedIsSetUp, GoalsAreShaped, GoalsHaveShape};
+ghost use Rattle.sf_search.specs.Checked.ShapeLaws.{ArrangedIsSetUp, GoalsHaveShape};
 ghost use Rattle.sf_search.specs.Checked.Laws.{ProgramsHaveVerdicts, SearchExists, SearchIsUnique, TakenTagsHaveRows, TakenTagsProve, VerdictsAreUnique};
 
-use sf_calls::laws::{
-    changes_are_assigned, conditions_from_truncation, first_breach_is_broken,
-    held_resources_are_there,
-};
-use sf_precise::laws::{determined_has_order, never_taken_is_undetermined, undetermined_has_place};
-use sf_rules::laws::{arranged_has_setting, rows_have_cases};
+use sf_calls::laws::conditions_from_truncation;
+use sf_rules::laws::{arranged_has_setting, first_goals_are_small, goals_are_shaped};
 
 /// The search from a goal comes to something, where each goal to which it may come is as goals of
 /// programs are.
@@ -43,40 +39,20 @@ pub fn taken_tags_prove()
     ensures { TakenTagsProve }
 {}
 
-/// The strategy takes no tag without a row, at goals as programs have them.
+/// The strategy takes no tag without a row, at goals as programs have them where numbers suffice.
 #[tactic(auto, using(crate::proofs::Taken::taken_tags_have_rows))]
 pub fn taken_tags_have_rows()
     ensures { TakenTagsHaveRows }
 {}
 
-/// Each goal of a program's procedure is shaped: it speaks of symbols below its next one only, its
-/// atoms' numbers rise, its segments and trees have their fields, and what it has to do fits, up to
-/// its end. After so many tags it has fewer than `TOO_MANY` symbols and atoms more for each than
-/// the first goal.
-pub fn goals_are_shaped()
-    ensures { GoalsAreShaped }
-{
-    rows_have_cases();
-    changes_are_assigned();
-    first_breach_is_broken();
-    held_resources_are_there();
-    undetermined_has_place();
-    never_taken_is_undetermined();
-    determined_has_order();
-}
-
-/// So up to as many tags as a procedure may have, each goal has the shape for which the strategy
-/// takes no tag without a row. `search` rests on it.
+/// Each goal of a program's procedure has the shape of a program's goals, and up to as many tags as
+/// a procedure may have numbers suffice there: so the strategy takes no tag without a row. `search`
+/// rests on it.
 pub fn goals_have_shape()
     ensures { GoalsHaveShape }
 {
-    rows_have_cases();
-    changes_are_assigned();
-    first_breach_is_broken();
-    held_resources_are_there();
-    undetermined_has_place();
-    never_taken_is_undetermined();
-    determined_has_order();
+    goals_are_shaped();
+    first_goals_are_small();
 }
 
 /// What the code has arranged is such a program.

@@ -22,10 +22,9 @@ use Rattle.sf_core.specs.Program.Syntax.{Assertion, Level, level}
 use Rattle.sf_rules.specs.Setting.{Setting}
 use Rattle.sf_rules.specs.Words.{pending_assertion}
 use Rattle.sf_sound.specs.Checked.Suits.{IsPlain, IsUsable}
-use Rattle.sf_sym.specs.Below.{AllInPending}
 use Rattle.sf_sym.specs.declared.term.Term.{Term}
 use Rattle.sf_sym.specs.Holds.{term_value, IsBound, PendingHolds}
-use Rattle.sf_sym.specs.Checked.Lemmas.OtherTerms.{conjuncts-with, occurs-with}
+use Rattle.sf_sym.specs.Checked.Lemmas.OtherTerms.{conjuncts-with}
 use Rattle.sf_sym.specs.Mapped.{conjuncts_with}
 use Rattle.sf_sym.specs.Pending.{conjuncts_of}
 
@@ -73,7 +72,7 @@ module _ (w : ℕ → Value) (to : Expr → Term) (v : Var → Value) where
       go (Known e) o = sym (same e (o, tt))
       go (Exists n) o = refl
 
-module _ (d : Setting) (V : Var → Type 0) (a : Assertion) (u : IsPlain d V a) where
+module _ (d : Setting) (V : Var → Type 0) (a : Assertion) (u : IsPlain V a) where
   -- what occurs in it mentions only such variables
   plain-within : (e : Expr) → OccursIn a.level (Known e) → ExprWithin V e
   plain-within (Variable x) o = u.variables x.var (x, refl, o)
@@ -111,11 +110,3 @@ module _ (d : Setting) (V : Var → Type 0) (a : Assertion) (u : IsUsable d V a)
   usable-same v z heap same sat =
       (u.means z heap).1 (sat-same_variables (d.ordered a).level v z (λ n. nil) heap
       (λ x o. same x (u.plain.variables x o)) ((u.means v heap).0 sat))
-
--- an annotation's conjuncts speak of symbols that its expressions' terms speak of
-pub pending-all : (P : Term → Type 0) (to : Expr → Term) (a : Assertion) → ((e : Expr) → P (to e))
-    → AllInPending P (pending_assertion to a)
-pending-all P to a all = record {
-  conjuncts = λ t o. let m = occurs-with to t (conjuncts_of a.level) o in subst P (sym m.2) (all m.0);
-  bindings = λ n t e. absurd (none-some t (sym (replicate-default None (length a.names) n) ∙ e));
-}

@@ -3,7 +3,7 @@
 use Rattle.std.specs.List.{AllByRecursion, filter}
 use Rattle.std.specs.Prelude.{◌⊎◌, is_some, not, Contains}
 use Rattle.std.specs.Option.{unwrap_or}
-use Rattle.std.proofs.Common.{◌≡◌, ℕ, zero, suc, Bool, true, false, ◌&&◌, List, [], ◌∷◌, ◌++◌, refl, sym, ap, ◌∙◌, subst, subst₂, inl, inr, arith}
+use Rattle.std.proofs.Common.{◌≡◌, ℕ, zero, suc, Bool, true, false, ◌&&◌, List, [], ◌∷◌, ◌++◌, refl, sym, ap, ◌∙◌, subst, subst₂, inl, inr}
 use Rattle.sf_base.proofs.Elements.{contains-cons, contains-cons_if_first, contains-cons_if_rest, contains-nil}
 use Rattle.sf_base.proofs.HeapSplits.{star-drop_right, star-of}
 use Rattle.sf_base.proofs.MapSplits.{empty-holds, empty_map, splits-comm, splits-empty_left, splits-empty_right, splits-of_empty_right}
@@ -23,6 +23,7 @@ use Rattle.sf_core.specs.Machine.Config.{Item as Step, command, items}
 use Rattle.sf_core.specs.Program.Syntax.{Assertion, Block, while}
 use Rattle.sf_rules.specs.Rows.Loops.{after_loop, body_once, unknown_in}
 use Rattle.sf_rules.specs.Setting.{Setting}
+use Rattle.sf_rules.specs.Checked.Lemmas.Forms.{body-run}
 use Rattle.sf_rules.specs.Words.{negation, pending_assertion, to_add, to_add_test}
 use Rattle.sf_safe.specs.Checked.Lemmas.{Beside, local-append, local-frame}
 use Rattle.sf_safe.specs.Checked.Local.{Local, look, value_in}
@@ -30,23 +31,21 @@ use Rattle.sf_safe.specs.Checked.LocalSafe.{LocalSafe}
 use Rattle.sf_sound.proofs.Annotated.{HaveValues, usable-assumed}
 use Rattle.sf_sound.proofs.Assigned.{block-assigned}
 use Rattle.sf_sound.proofs.Keeping.{BlockTouches, Keeping, Kept, Touches, keep, left-tokens_items, left-variables_items, left_tokens, left_variables, nothing_gone, nothing_lost, touches-items}
-use Rattle.sf_sound.proofs.Standing.{body-assuming, body-does, body-run, domain-test, items-none, owed-run, steps-run}
-use Rattle.sf_sound.proofs.States.{StateSuits, items-add, items-of, items-run, renewed, renewed-apart, renewed-atoms, renewed-vars, state-fresh, state-of, state-without, state-without_taken, suits-of, terms-below, terms-values}
-use Rattle.sf_sound.proofs.Tests.{items-test, negation-true, pending_test, test-holds, test-within}
-use Rattle.sf_sound.proofs.Words.{adding-assuming, adding-does, body-holds}
+use Rattle.sf_sound.proofs.Standing.{body-does, domain-test, items-none, owed-run, steps-run, suits-run}
+use Rattle.sf_sound.proofs.States.{renewed, renewed-apart, renewed-atoms, renewed-vars, state-fresh, terms-values}
+use Rattle.sf_sound.proofs.Tests.{negation-true, pending_test, test-holds, test-within}
+use Rattle.sf_sound.proofs.Words.{adding-does, adding-suits, body-holds}
 use Rattle.sf_sym.specs.Checked.Lemmas.Adding.{adding-holds}
 use Rattle.sf_sound.specs.Checked.Claims.{Owed, Satisfies, steps, with_cells}
-use Rattle.sf_sound.specs.Checked.Suits.{Claim, Domain, HasDomain, ReadsTest, Suits}
-use Rattle.sf_sym.specs.Below.{AllInItem, IsBelow}
+use Rattle.sf_sound.specs.Checked.Suits.{Claim, Domain, HasDomain, IsListed, ReadsTest, Suits}
 use Rattle.sf_sym.specs.declared.term.Term.{Term}
 use Rattle.sf_sym.specs.Goal.{Item, head, again, Goal, to_run}
 use Rattle.sf_sym.specs.Holds.{AddsHold, Agrees, Differ}
 use Rattle.sf_sym.specs.HoldsIn.{HoldsIn}
-use Rattle.sf_sym.specs.Checked.Lemmas.Below.{below-more, items-weaker}
 use Rattle.sf_sym.specs.Ready.{is_listed}
 use Rattle.sf_sym.specs.State.{State, term}
 use Rattle.sf_sym.specs.Variables.{with_fresh}
-use Rattle.sf_sym.specs.Shape.{IsBody}
+use Rattle.sf_sym.specs.Shape.{HasShape, IsBody}
 
 -- what passes a test is among those that do
 filter-contains : {X : Type 0} (p : X → Bool) (xs : List X) (x : X) → Contains xs x → p x ≡ true
@@ -85,52 +84,32 @@ module _ (d : Setting) (s : State) (q : Place) (t : Test Expr) (invariant : Asse
 
     module _ (once : Claim d (body_once d now q t invariant body)) (after : Claim d
         (after_loop d now q t invariant rest))
-        (D : Domain) (u : Suits d D goal) (w : ℕ → Value) (l : Local) (taken : Heap)
+        (shape : HasShape goal) (D : Domain) (u : Suits d D goal) (w : ℕ → Value) (l : Local) (taken : Heap)
         (has : HasDomain D l) (h : HoldsIn w goal l.values l.cells taken) where
       abbrev V : Var → Type 0
       V x = D.has x ≡ true
 
-      fresh : StateSuits d D now
-      fresh = state-fresh d D D s unknown (state-of d D goal u) (λ x e. inl e)
+      fresh : IsListed D now
+      fresh = state-fresh D D s unknown u.listed (λ x e. inl e)
 
       form : IsBody rest
-      form = elim u.shape.form [ inl f ↦ absurd f.0 | inr f ↦ f ]
+      form = elim shape.form [ inl f ↦ absurd f.0 | inr f ↦ f ]
 
       -- the goals that are left suit the frame
       once-suits : Suits d D (body_once d now q t invariant body)
-      once-suits =
-          suits-of d D (record now { atoms = []; taken = [] }) (body_once d now q t invariant body).todo
-          (state-without d D now fresh)
-          (items-add d D now.next_sym V q to (d.ordered invariant) _ u.todo.0.1.plain (terms-below d D now fresh)
-          (items-test d D now.next_sym q to t _ (terms-below d D now fresh)
-          (items-run d D now.next_sym body (again q invariant ∷ []) u.todo.0.3
-          (record { below = (tt, tt); formed = (tt, tt); suits = u.todo.0.1 }))))
-          (inl (
-            adding-assuming q (pending_assertion to (d.ordered invariant)) _
-                (adding-assuming q (pending_test q to t) (to_run body ++ (again q invariant ∷ []))
-                (body-assuming (to_run body ++ (again q invariant ∷ [])) (body-run body
-                (again q invariant ∷ []) tt))),
-            refl,
-          ))
+      once-suits = record {
+        listed = fresh;
+        todo = adding-suits d D q (pending_assertion to (d.ordered invariant)) _
+            (adding-suits d D q (pending_test q to t) (to_run body ++ (again q invariant ∷ []))
+            (suits-run d D body (again q invariant ∷ []) u.todo.0.3 u.todo.0.1));
+      }
 
       after-suits : Suits d D (after_loop d now q t invariant rest)
-      after-suits =
-          let is = items-of d D goal u in
-          suits-of d D (record now { taken = [] }) (after_loop d now q t invariant rest).todo
-          (state-without_taken d D now fresh)
-          (items-add d D now.next_sym V q to (d.ordered invariant) _ u.todo.0.1.plain (terms-below d D now fresh)
-          (items-test d D now.next_sym q to (negation ENil t) rest (terms-below d D now fresh)
-          (record { below = later rest is.below.1; formed = is.formed.1; suits = u.todo.1 })))
-          (inl (
-            adding-assuming q (pending_assertion to (d.ordered invariant)) _
-                (adding-assuming q (pending_test q to (negation ENil t)) rest (body-assuming rest form)),
-            refl,
-          ))
-        where
-          later : (todo : List Item) → AllByRecursion (AllInItem (IsBelow s.next_sym)) todo
-              → AllByRecursion (AllInItem (IsBelow now.next_sym)) todo
-          later todo b = items-weaker (IsBelow s.next_sym) (IsBelow now.next_sym)
-              (λ x i. below-more s.next_sym now.next_sym (omega arith) x i) todo b
+      after-suits = record {
+        listed = fresh;
+        todo = adding-suits d D q (pending_assertion to (d.ordered invariant)) _
+            (adding-suits d D q (pending_test q to (negation ENil t)) rest u.todo.1);
+      }
 
       -- a frame at the head: it has the invariant beside the cells that were kept, and the variables that the body
       -- doesn't change have their values still
@@ -154,13 +133,13 @@ module _ (d : Setting) (s : State) (q : Place) (t : Test Expr) (invariant : Asse
                 ∙ sym (is_some-false (l.values x) (has.variables x ∙ e))
 
         abbrev v : ℕ → Value
-        v = renewed s goal.todo u.shape.below u.shape.vars unknown w l m l.cells taken h stays
+        v = renewed s goal.todo shape.below shape.vars unknown w l m l.cells taken h stays
 
         vars : AllByRecursion (Agrees v m.values) now.vars
-        vars = renewed-vars s goal.todo u.shape.below u.shape.vars unknown w l m l.cells taken h stays
+        vars = renewed-vars s goal.todo shape.below shape.vars unknown w l m l.cells taken h stays
 
         apart : AllByRecursion (Differ v) s.apart
-        apart = renewed-apart s goal.todo u.shape.below u.shape.vars unknown w l m l.cells taken h stays
+        apart = renewed-apart s goal.todo shape.below shape.vars unknown w l m l.cells taken h stays
 
         values : HaveValues V v to (value_in m)
         values = terms-values d D now fresh v m at.domain vars
@@ -211,7 +190,7 @@ module _ (d : Setting) (s : State) (q : Place) (t : Test Expr) (invariant : Asse
               apart = apart;
               disjoint = (splits-empty_right {map = m.cells} empty-holds).apart;
               there = star-of (splits-comm at.splits)
-                  (renewed-atoms s goal.todo u.shape.below u.shape.vars unknown w l m l.cells taken h stays l.cells
+                  (renewed-atoms s goal.todo shape.below shape.vars unknown w l m l.cells taken h stays l.cells
                   (star-drop_right h.there))
                   (assumed (negation ENil t) rest (negated t u.todo.0.0) true_ form);
               gone = empty-holds;
@@ -290,10 +269,11 @@ module _ (d : Setting) (s : State) (q : Place) (t : Test Expr) (invariant : Asse
               within (inl y) = y
               within (inr y) = absurd y
 
-    pub around-claims : Claim d (body_once d now q t invariant body) → Claim d (after_loop d now q t invariant rest)
+    pub around-claims : HasShape goal → Claim d (body_once d now q t invariant body)
+        → Claim d (after_loop d now q t invariant rest)
         → Claim d goal
-    around-claims once after n w D l taken u has h = λ part whole holds splits.
-        runs once after D u w l taken has h n (with_cells whole l) (record {
+    around-claims shape once after n w D l taken u has h = λ part whole holds splits.
+        runs once after shape D u w l taken has h n (with_cells whole l) (record {
           domain = record { variables = has.variables; tokens = has.tokens };
           same = λ x i. refl;
           part = part;

@@ -45,6 +45,7 @@ use Rattle.sf_core.specs.Program.Syntax.{Assertion, Block, done, then, Call, Com
 use Rattle.sf_precise.specs.Annotations.{owed}
 use Rattle.sf_rules.specs.Rows.Regions.{variables_from}
 use Rattle.sf_rules.specs.Setting.{Setting}
+use Rattle.sf_rules.specs.Checked.Lemmas.Forms.{body-run}
 use Rattle.sf_rules.specs.Words.{pending_assertion}
 use Rattle.sf_safe.specs.Checked.Contract.{IsVariableOf, SetsVariableUp, tokens_of}
 use Rattle.sf_safe.specs.Checked.Lemmas.{local-weaken}
@@ -54,13 +55,14 @@ use Rattle.sf_sound.proofs.Annotated.{HaveValues, usable-assumed}
 use Rattle.sf_sound.proofs.Bodies.{HasScope, IsSane, annotation-post, annotation-pre, annotation-resource, block-suits, calls-no_region, entered-decides, free-there, is_entered, not-entered}
 use Rattle.sf_sound.proofs.Keeping.{BlockTouches, CommandTouches, Keeping, Kept, Touches, has-some, keep, left-tokens_items, left-variables_items, left_tokens, left_variables, nothing_gone, nothing_lost, of-decides, of-is, some-has, touches-items}
 use Rattle.sf_sound.proofs.Regions.{contains-of, of-contains}
-use Rattle.sf_sound.proofs.Standing.{body-assuming, body-does, body-run, items-none, owed-run, steps-run}
-use Rattle.sf_sound.proofs.States.{StateSuits, items-add, items-run, nil-vars, renewed, renewed-vars, state-fresh, state-nil, suits-of, terms-below, terms-values}
-use Rattle.sf_sound.proofs.Words.{adding-assuming, adding-does, body-holds}
+use Rattle.sf_sound.proofs.Standing.{body-does, items-none, owed-run, steps-run, suits-run}
+use Rattle.sf_sound.proofs.States.{nil-vars, renewed, renewed-vars, state-fresh, state-nil, terms-values}
+use Rattle.sf_sound.proofs.Words.{adding-does, adding-suits, body-holds}
 use Rattle.sf_sym.specs.Checked.Lemmas.Adding.{adding-holds}
 use Rattle.sf_sound.specs.Checked.Claims.{SatisfiesEach}
+use Rattle.sf_rules.specs.Checked.Lemmas.FirstVariables.{nils-all, symbols-all, symbols-order}
 use Rattle.sf_rules.specs.First.{first_goal, first_state_of, links_of, nils, own_vars, symbols, variables_of, with_held}
-use Rattle.sf_sound.specs.Checked.Suits.{Claim, Domain, HasDomain, IsPassed, IsPlain, Suits, is_of}
+use Rattle.sf_sound.specs.Checked.Suits.{Claim, Domain, HasDomain, IsListed, IsPassed, IsPlain, Suits, is_of}
 use Rattle.sf_sym.specs.Below.{AreBelow, IsBelow}
 use Rattle.sf_sym.specs.declared.term.Term.{Term}
 use Rattle.sf_sym.specs.declared.term.Term.TheVariants.{Nil, Sym}
@@ -71,50 +73,6 @@ use Rattle.sf_sym.specs.Checked.Lemmas.Below.{below-symbol}
 use Rattle.sf_sym.specs.Pending.{Pending}
 use Rattle.sf_sym.specs.Ready.{AreInOrder, is_listed}
 use Rattle.sf_sym.specs.State.{State, first_state, term}
-use Rattle.sf_sym.specs.Variables.{comes_before}
-
--- OWN VARIABLES
-module _ (P : Var × Term → Type 0) where
-  symbols-all : (from count : ℕ) → ((i : ℕ) → from ≤ i → i < from + count → P (Own i, Sym i))
-      → AllByRecursion P (symbols from count)
-  symbols-all from zero h = tt
-  symbols-all from (suc count) h = (
-    h from (omega arith) (omega arith),
-    symbols-all (suc from) count (λ i a b. h i (omega (arith, a)) (omega (arith, b))),
-  )
-
-  nils-all : (from count : ℕ) → ((i : ℕ) → from ≤ i → i < from + count → P (Own i, Nil))
-      → AllByRecursion P (nils from count)
-  nils-all from zero h = tt
-  nils-all from (suc count) h = (
-    h from (omega arith) (omega arith),
-    nils-all (suc from) count (λ i a b. h i (omega (arith, a)) (omega (arith, b))),
-  )
-
--- in order
-own-before : (i j : ℕ) → i < j → comes_before (Own i) (Own j) ≡ true
-own-before i j l = grind (arith, nat_tests, l)
-
-nils-order : (from count : ℕ) → AreInOrder (nils from count)
-nils-order from zero = tt
-nils-order from (suc count) = (
-  nils-all (λ (v : Var × Term). comes_before (Own from) v.0 ≡ true) (suc from) count
-      (λ i a b. own-before from i (omega (arith, a))),
-  nils-order (suc from) count,
-)
-
-symbols-order : (from count rest : ℕ) → AreInOrder (symbols from count ++ nils (from + count) rest)
-symbols-order from zero rest = nils-order (from + 0) rest
-symbols-order from (suc count) rest = (
-  all_by-append (λ (v : Var × Term). comes_before (Own from) v.0 ≡ true) (symbols (suc from) count)
-      (nils (from + suc count) rest)
-      (symbols-all (λ (v : Var × Term). comes_before (Own from) v.0 ≡ true) (suc from) count
-      (λ i a b. own-before from i (omega (arith, a))))
-      (nils-all (λ (v : Var × Term). comes_before (Own from) v.0 ≡ true) (from + suc count) rest
-      (λ i a b. own-before from i (omega (arith, a)))),
-  subst (λ k. AreInOrder (symbols (suc from) count ++ nils k rest))
-      (let e : suc from + count ≡ from + suc count = omega arith in e) (symbols-order (suc from) count rest),
-)
 
 -- listed
 nils-listed : (from count i : ℕ) → from ≤ i → i < from + count → is_listed (nils from count) (Own i) ≡ true
@@ -186,9 +144,8 @@ mutual
   block-settable p g (then c b) x w (inr t) = block-settable p g b x w.1 t
 
 -- an assertion that may stand where fewer variables are there
-plain-more : (d : Setting) (V W : Var → Type 0) (a : Assertion) → ((x : Var) → V x → W x) → IsPlain d V a
-    → IsPlain d W a
-plain-more d V W a h u = record { variables = λ x o. h x (u.variables x o); closed = u.closed; formed = u.formed }
+plain-more : (V W : Var → Type 0) (a : Assertion) → ((x : Var) → V x → W x) → IsPlain V a → IsPlain W a
+plain-more V W a h u = record { variables = λ x o. h x (u.variables x o); closed = u.closed }
 
 -- WHAT IS FREE IS HELD what occurs at a command occurs in it itself, or in one of its calls
 occurs-at : (c : Command) (y : Occurrence) → Contains (occurrences_at c) y → OccursAt y c
@@ -342,9 +299,9 @@ module _ (d : Setting) (sane : IsSane d) (f : ProcId) (g : Procedure)
     abbrev own_domain : Domain
     own_domain = record { has = λ x. is_listed (own_vars g) x; holds = λ r. false }
 
-    before : StateSuits d own_domain s0
-    before = record {
-      below = record {
+    below : AreBelow (record { state = s0; todo = [] })
+    below = record {
+      state = record {
         vars = all_by-append (λ (v : Var × Term). IsBelow n0 v.1) (symbols 0 n0) (nils n0 (length g.names - n0))
             (symbols-all (λ (v : Var × Term). IsBelow n0 v.1) 0 n0
             (λ i a c. below-symbol n0 i (omega (arith, c))))
@@ -353,12 +310,12 @@ module _ (d : Setting) (sane : IsSane d) (f : ProcId) (g : Procedure)
         atoms = tt;
         taken = tt;
       };
-      order = subst (λ k. AreInOrder (symbols 0 n0 ++ nils k (length g.names - n0)))
-          (let e : 0 + n0 ≡ n0 = omega arith in e) (symbols-order 0 n0 (length g.names - n0));
-      fields = tt;
-      links = refl;
-      listed = λ x e. e;
+      todo = tt;
     }
+
+    order : AreInOrder s0.vars
+    order = subst (λ k. AreInOrder (symbols 0 n0 ++ nils k (length g.names - n0)))
+        (let e : 0 + n0 ≡ n0 = omega arith in e) (symbols-order 0 n0 (length g.names - n0))
 
     known : (x : Var) → D.has x ≡ true → (is_listed (own_vars g) x ≡ true) ⊎ Contains xs x
     known x e = go x (b.owns.variables.only x (some-has l x e))
@@ -370,12 +327,12 @@ module _ (d : Setting) (sane : IsSane d) (f : ProcId) (g : Procedure)
         go (Shared r i) (inl free) = inr (free-held r i free)
         go (Shared r i) (inr set) = inr (set_up-held r i set)
 
-    state : StateSuits d D first
+    state : IsListed D first
     state = go (is_init g)
       where
-        go : (sets_up : Bool) → StateSuits d D (with_held sets_up xs s0)
-        go true = state-nil d own_domain D s0 xs before known
-        go false = state-fresh d own_domain D s0 xs before known
+        go : (sets_up : Bool) → IsListed D (with_held sets_up xs s0)
+        go true = state-nil own_domain D s0 xs (λ x e. e) known
+        go false = state-fresh own_domain D s0 xs (λ x e. e) known
 
     -- where it sets the resources up, their variables are nil
     unset : is_init g ≡ true → (x : Var) → Contains xs x → value_in l x ≡ nil
@@ -410,16 +367,13 @@ module _ (d : Setting) (sane : IsSane d) (f : ProcId) (g : Procedure)
       gone = empty-holds;
     }
 
-    below : AreBelow (record { state = s0; todo = [] })
-    below = record { state = before.below; todo = tt }
-
     -- and those of the variables of resources, where they have symbols
     valued : (sets_up : Bool) → is_init g ≡ sets_up
         → (w : ℕ → Value) × AllByRecursion (Agrees w l.values) (with_held sets_up xs s0).vars
-    valued true e = (w0, nil-vars s0 xs w0 l before.order held-before.vars (unset e))
+    valued true e = (w0, nil-vars s0 xs w0 l order held-before.vars (unset e))
     valued false e = (
-      renewed s0 [] below before.order xs w0 l l empty_map empty_map held-before (λ x i. refl),
-      renewed-vars s0 [] below before.order xs w0 l l empty_map empty_map held-before (λ x i. refl),
+      renewed s0 [] below order xs w0 l l empty_map empty_map held-before (λ x i. refl),
+      renewed-vars s0 [] below order xs w0 l l empty_map empty_map held-before (λ x i. refl),
     )
 
     abbrev w : ℕ → Value
@@ -464,10 +418,6 @@ module _ (d : Setting) (sane : IsSane d) (f : ProcId) (g : Procedure)
     known-taken true = empty-holds
     known-taken false = empty-holds
 
-    none-taken : (sets_up : Bool) → (with_held sets_up xs s0).taken ≡ []
-    none-taken true = refl
-    none-taken false = refl
-
     first-holds : HoldsIn w (first_goal d f g) l.values l.cells empty_map
     first-holds = record {
       vars = vars;
@@ -496,42 +446,33 @@ module _ (d : Setting) (sane : IsSane d) (f : ProcId) (g : Procedure)
             )))
 
     invariants-plain : (rs : List Resource)
-        → ((i : ℕ) (of : Resource) → slice_get rs i ≡ Some of → IsPlain d (λ x. D.has x ≡ true) (d.ordered of.invariant))
-        → AllByRecursion (IsPlain d (λ x. D.has x ≡ true)) (map d.ordered (map (λ (r : Resource). r.invariant) rs))
+        → ((i : ℕ) (of : Resource) → slice_get rs i ≡ Some of → IsPlain (λ x. D.has x ≡ true) (d.ordered of.invariant))
+        → AllByRecursion (IsPlain (λ x. D.has x ≡ true)) (map d.ordered (map (λ (r : Resource). r.invariant) rs))
     invariants-plain [] h = tt
     invariants-plain (r ∷ rs) h = (h 0 r refl, invariants-plain rs (λ i of e. h (suc i) of e))
 
     due-plain : (sets_up : Bool) → is_init g ≡ sets_up
-        → AllByRecursion (IsPlain d (λ x. D.has x ≡ true))
+        → AllByRecursion (IsPlain (λ x. D.has x ≡ true))
         (map d.ordered (cond sets_up (map (λ (r : Resource). r.invariant) p.resources) (g.post ∷ [])))
     due-plain true init =
         invariants-plain p.resources (λ i of e.
         let r : ResId = record { 0 = i } in
-        plain-more d (λ x. is_of r (length of.variables) x ≡ true) (λ x. D.has x ≡ true) (d.ordered of.invariant)
+        plain-more (λ x. is_of r (length of.variables) x ≡ true) (λ x. D.has x ≡ true) (d.ordered of.invariant)
         (of-scope init r of e) (annotation-resource d sane r of e).plain)
     due-plain false init = (
-      plain-more d (IsPassed d f g) (λ x. D.has x ≡ true) (d.ordered g.post) in-scope
+      plain-more (IsPassed d f g) (λ x. D.has x ≡ true) (d.ordered g.post) in-scope
           (annotation-post d sane f g there).plain,
       tt,
     )
 
     first-suits : Suits d D (first_goal d f g)
-    first-suits =
-        suits-of d D first (first_goal d f g).todo state
-        (items-add d D first.next_sym (IsPassed d f g) g.place to (d.ordered g.pre) (to_run g.body ++ ending)
-        (annotation-pre d sane f g there).plain (terms-below d D first state)
-        (items-run d D first.next_sym g.body ending
-        (block-suits d sane f g there [] D g.body (λ t i. i) (sane.formed.procedures f.0 g there).body scope)
-        (record {
-          below = (tt, tt);
-          formed = (tt, tt);
-          suits = due-plain (is_init g) refl;
-        })))
-        (inl (
-          adding-assuming g.place pre (to_run g.body ++ ending)
-              (body-assuming (to_run g.body ++ ending) (body-run g.body ending tt)),
-          none-taken (is_init g),
-        ))
+    first-suits = record {
+      listed = state;
+      todo = adding-suits d D g.place pre (to_run g.body ++ ending)
+          (suits-run d D g.body ending
+          (block-suits d sane f g there [] D g.body (λ t i. i) (sane.formed.procedures f.0 g there).body scope)
+          (due-plain (is_init g) refl));
+    }
 
     -- where the first goal claims what is to do, the body is safe
     runs : Claim d (first_goal d f g) → (n : ℕ) → LocalSafe p n (SatisfiesEach due) (items g.body) l

@@ -127,7 +127,7 @@ module _ (d : Setting) (sane : IsSane d) where
   annotation-resource r of there =
       let within = sane.formed.resources r.0 of there in
       let order = sane.ordered of.invariant (resource-notes r of there) in
-      usable-of sane.meaning sane.determined d sane.formed.field_count (λ x. is_of r (length of.variables) x ≡ true)
+      usable-of sane.meaning sane.determined d (λ x. is_of r (length of.variables) x ≡ true)
       (IsOfResource r.0 (length of.variables)) of.invariant order
       (sane.form.resource p r.0 (length of.variables) of.invariant (d.ordered of.invariant) order within)
       (λ x o. of-is r (length of.variables) x
@@ -147,7 +147,7 @@ module _ (d : Setting) (sane : IsSane d) where
     annotation-pre =
         let order = sane.ordered g.pre (procedure-notes f g there g.pre
         ((contains-cons g.pre (loops_in g.body ++ g.post ∷ []) g.pre).1 (inl refl))) in
-        usable-of sane.meaning sane.determined d sane.formed.field_count (IsPassed d f g) (IsParameter p g) g.pre order
+        usable-of sane.meaning sane.determined d (IsPassed d f g) (IsParameter p g) g.pre order
         (sane.form.contract p g g.pre (d.ordered g.pre) order within.pre)
         (passed g.pre within.pre (λ x o. (g, there, inl o)))
 
@@ -157,7 +157,7 @@ module _ (d : Setting) (sane : IsSane d) where
         ((contains-cons g.pre (loops_in g.body ++ g.post ∷ []) g.post).1
         (inr (Contains-append_right (loops_in g.body) (g.post ∷ []) g.post
         (contains-single_of g.post g.post refl))))) in
-        usable-of sane.meaning sane.determined d sane.formed.field_count (IsPassed d f g) (IsParameter p g) g.post order
+        usable-of sane.meaning sane.determined d (IsPassed d f g) (IsParameter p g) g.post order
         (sane.form.contract p g g.post (d.ordered g.post) order within.post)
         (passed g.post within.post (λ x o. (g, there, inr (inl o))))
 
@@ -433,7 +433,7 @@ module _ (d : Setting) (sane : IsSane d) where
             reads-test entered c here w D test (λ y i. has y
                 (Contains-append_left (test_occurrences expr_occurrences test)
                 (level_occurrences invariant.level) y i)),
-            usable-of sane.meaning sane.determined d sane.formed.field_count (λ x. D.has x ≡ true) (IsInBody p g) invariant order
+            usable-of sane.meaning sane.determined d (λ x. D.has x ≡ true) (IsInBody p g) invariant order
                 (sane.form.loop p g invariant (d.ordered invariant) order w.1)
                 (λ x (y, e, o). subst (λ z. D.has z ≡ true) e (has y
                 (Contains-append_right (test_occurrences expr_occurrences test) (level_occurrences invariant.level) y

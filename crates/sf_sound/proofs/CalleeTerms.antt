@@ -4,7 +4,7 @@
 use Rattle.std.specs.List.{AllByRecursion}
 use Rattle.std.specs.Prelude.{is_some}
 use Rattle.std.specs.Option.{unwrap_or}
-use Rattle.std.proofs.Common.{◌≡◌, ℕ, ℤ, zero, suc, Bool, true, false, cond, get_or, map, Some, None, List, [], ◌∷◌, refl, sym, ap, ◌∙◌, inl, inr}
+use Rattle.std.proofs.Common.{◌≡◌, ℕ, zero, suc, Bool, true, false, cond, get_or, map, Some, None, List, [], ◌∷◌, refl, sym, ap, ◌∙◌, inl, inr}
 use Rattle.std.proofs.lemmas.Option.{none-some}
 use Rattle.sf_base.proofs.MapSplits.{empty_map, only}
 use Rattle.sf_base.specs.declared.ids.Var.{Var}
@@ -12,7 +12,6 @@ use Rattle.sf_base.specs.declared.ids.Var.TheVariants.{Own, Shared}
 use Rattle.sf_base.specs.declared.value.Value.{Value}
 use Rattle.sf_base.specs.declared.value.Value.TheVariants.{Nil as nil}
 use Rattle.sf_base.specs.HeapStore.{Heap}
-use Rattle.sf_base.specs.Variables.{same_var}
 use Rattle.sf_calls.specs.Assigned.{MayChange}
 use Rattle.sf_calls.specs.Changes.{changed}
 use Rattle.sf_calls.specs.Outside.{IsAmong}
@@ -21,74 +20,23 @@ use Rattle.sf_core.specs.declared.command.Expr.{Expr}
 use Rattle.sf_core.specs.declared.command.Expr.TheVariants.{Var as Variable, Nil as ENil, Int as EInt}
 use Rattle.sf_core.specs.declared.command.Occurrence.{Occurrence}
 use Rattle.sf_core.specs.Program.Syntax.{Call, Procedure}
-use Rattle.sf_rules.specs.Rows.Calls.{callee_term, own_term, term_after, term_before, term_by}
+use Rattle.sf_rules.specs.Rows.Calls.{callee_term, own_term, term_before, term_by}
 use Rattle.sf_rules.specs.Setting.{Setting}
 use Rattle.sf_rules.specs.Words.{pending_assertion}
 use Rattle.sf_safe.specs.Checked.Local.{Lends, Local, arguments_in, callee_value, look, own_value, value_in}
 use Rattle.sf_sound.proofs.Annotated.{HaveValues, usable-same, usable-shown}
 use Rattle.sf_sound.proofs.FreshTerms.{fresh-contains, fresh-listed, put-agrees, put-here}
 use Rattle.sf_sound.proofs.Keeping.{some-has}
-use Rattle.sf_sound.proofs.States.{StateSuits, terms-values}
-use Rattle.sf_sound.proofs.VariableTerms.{all-listed_here}
+use Rattle.sf_sound.proofs.States.{terms-values}
+use Rattle.sf_rules.specs.Checked.Lemmas.VariableTerms.{all-listed_here}
 use Rattle.sf_sound.specs.Checked.Claims.{put_values}
-use Rattle.sf_sound.specs.Checked.Suits.{CallSuits, Domain, HasDomain, IsPassed, Reads, ReadsAll}
-use Rattle.sf_sym.specs.Below.{AllPaired, IsBelow}
+use Rattle.sf_sound.specs.Checked.Suits.{CallSuits, Domain, HasDomain, IsListed, IsPassed, Reads, ReadsAll}
 use Rattle.sf_sym.specs.declared.term.Term.{Term}
-use Rattle.sf_sym.specs.declared.term.Term.TheVariants.{Nil, Int}
 use Rattle.sf_sym.specs.Holds.{term_value, Agrees, PendingHolds}
 use Rattle.sf_sym.specs.Checked.Lemmas.KnownValues.{listed-value}
 use Rattle.sf_sym.specs.Ready.{AreInOrder, is_listed}
 use Rattle.sf_sym.specs.State.{State, term, term_at}
 use Rattle.sf_sym.specs.Variables.{fresh_for, set_vars}
-
--- OF ALL TERMS
-own-all : (P : Term → Type 0) (T : Var → Term) (refs : List Occurrence) (ts : List Term) (i : ℕ) → P Nil
-    → ((x : Var) → P (T x)) → AllByRecursion P ts → P (own_term T refs ts i)
-own-all P T [] [] i n a b = n
-own-all P T [] (t ∷ ts) zero n a b = b.0
-own-all P T [] (t ∷ ts) (suc i) n a b = own-all P T [] ts i n a b.1
-own-all P T (x ∷ xs) ts zero n a b = a x.var
-own-all P T (x ∷ xs) ts (suc i) n a b = own-all P T xs ts i n a b
-
-callee-all : (P : Term → Type 0) (T : Var → Term) (c : Call) (ts : List Term) → P Nil → ((i : ℤ) → P (Int i))
-    → ((x : Var) → P (T x)) → AllByRecursion P ts → (e : Expr) → P (term_by (callee_term T c ts) e)
-callee-all P T c ts n k a b (Variable x) = go x.var
-  where
-    go : (y : Var) → P (callee_term T c ts y)
-    go (Own i) = own-all P T c.references ts i n a b
-    go (Shared r i) = a (Shared r i)
-callee-all P T c ts n k a b ENil = n
-callee-all P T c ts n k a b (EInt i) = k i
-
--- the term of a variable has what nil and all listed terms have
-pub term_at-all : (P : Term → Type 0) (vars : List (Var × Term)) (x : Var) → P Nil → AllPaired P vars
-    → P (term_at vars x)
-term_at-all P [] x n a = n
-term_at-all P (v ∷ vs) x n a = go (same_var v.0 x) (term_at-all P vs x n a.1)
-  where
-    go : (b : Bool) → P (term_at vs x) → P (cond b v.1 (term_at vs x))
-    go true r = a.0
-    go false r = r
-
-terms-all : (P : Term → Type 0) (f : Expr → Term) (es : List Expr) → ((e : Expr) → P (f e))
-    → AllByRecursion P (map f es)
-terms-all P f [] a = tt
-terms-all P f (e ∷ es) a = (a e, terms-all P f es a)
-
--- the terms before a call, and those after it, are below the next symbol
-pub before-below : (n : ℕ) (s : State) (c : Call) → AllPaired (IsBelow n) s.vars
-    → ((e : Expr) → IsBelow n (term s.vars e)) → (e : Expr) → IsBelow n (term_before s c e)
-before-below n s c vars below =
-    callee-all (IsBelow n) (term_at s.vars) c (map (term s.vars) c.values) refl (λ i. refl)
-    (λ x. term_at-all (IsBelow n) s.vars x refl vars) (terms-all (IsBelow n) (term s.vars) c.values below)
-
-pub after-below : (n : ℕ) (s : State) (set : List (Var × Term)) (c : Call)
-    → AllPaired (IsBelow n) (set_vars set s.vars)
-    → ((e : Expr) → IsBelow n (term s.vars e)) → (e : Expr) → IsBelow n (term_after s set c e)
-after-below n s set c vars below =
-    callee-all (IsBelow n) (term_at (set_vars set s.vars)) c (map (term s.vars) c.values) refl (λ i. refl)
-    (λ x. term_at-all (IsBelow n) (set_vars set s.vars) x refl vars)
-    (terms-all (IsBelow n) (term s.vars) c.values below)
 
 -- VALUES
 own-values : (w : ℕ → Value) (f : Expr → Term) (g : Expr → Value) (T : Var → Term) (V : Var → Value)
@@ -131,7 +79,7 @@ callee-same d V Z c g args a (Own i) h = own-same V Z c.references args i (λ x 
 callee-same d V Z c g args a (Shared r i) h = a (Shared r i) (inr h)
 
 -- values of expressions that a frame reads
-pub values-known : (d : Setting) (D : Domain) (s : State) → StateSuits d D s → (w : ℕ → Value) (l : Local)
+pub values-known : (d : Setting) (D : Domain) (s : State) → IsListed D s → (w : ℕ → Value) (l : Local)
     → HasDomain D l → AllByRecursion (Agrees w l.values) s.vars → (es : List Expr) → ReadsAll D es
     → AllByRecursion (λ (e : Expr). term_value w (term s.vars e) ≡ look l e) es
 values-known d D s t w l h a [] r = tt
@@ -194,7 +142,7 @@ module _ (d : Setting) (D : Domain) (c : Call) (u : CallSuits d D c) where
       inside x false i v e = absurd (none-some v (sym (ap (λ b. cond b (l.values x) None) i) ∙ e))
 
   -- what is shown of the precondition, in the words of the callee
-  pub lent-pre : (s : State) → StateSuits d D s → (w : ℕ → Value) (l : Local) → HasDomain D l
+  pub lent-pre : (s : State) → IsListed D s → (w : ℕ → Value) (l : Local) → HasDomain D l
       → AllByRecursion (Agrees w l.values) s.vars → (heap : Heap)
       → PendingHolds w (pending_assertion (term_before s c) (d.ordered u.callee.pre)) heap
       → Sat u.callee.pre.level (value (callee_value (value_in l) c (arguments_in l c))) (λ n. nil) heap
@@ -204,6 +152,6 @@ module _ (d : Setting) (D : Domain) (c : Call) (u : CallSuits d D c) where
       (callee-values d w (term s.vars) l (term_at s.vars) (value_in l) c u.callee
       (λ x m.
       let v = some-has l x (has.variables x ∙ u.lent x m) in
-      listed-value w l.values s.vars x v.0 agrees v.1 (t.listed x (u.lent x m))
+      listed-value w l.values s.vars x v.0 agrees v.1 (t x (u.lent x m))
       ∙ ap (λ o. unwrap_or o nil) (sym v.1))
       (values-known d D s t w l has agrees c.values u.reads)) h

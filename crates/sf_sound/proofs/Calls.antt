@@ -4,7 +4,7 @@
 -- Names: `call-claims`, `returned` of the frame after the call.
 use Rattle.std.specs.Prelude.{length, Contains}
 use Rattle.std.specs.Option.{unwrap_or}
-use Rattle.std.proofs.Common.{◌≡◌, ℕ, zero, suc, ◌+◌, Bool, true, false, cond, Option, Some, None, List, [], ◌∷◌, ◌++◌, refl, sym, ap, ◌∙◌, subst, inr, arith}
+use Rattle.std.proofs.Common.{◌≡◌, ℕ, zero, suc, Bool, true, false, cond, Option, Some, None, List, [], ◌∷◌, ◌++◌, refl, sym, ap, ◌∙◌, subst}
 use Rattle.std.proofs.lemmas.Option.{same_Some}
 use Rattle.sf_base.proofs.HeapSplits.{star-drop_right}
 use Rattle.sf_base.proofs.MapSplits.{changed, empty-holds, map-same, splits-at_right, splits-by_test, splits-cancel_left, splits-empty_left, splits-has_left}
@@ -20,34 +20,33 @@ use Rattle.sf_core.specs.declared.command.Expr.{Expr}
 use Rattle.sf_core.specs.Machine.Step.{procedure_at}
 use Rattle.sf_core.specs.Program.Syntax.{Call, Procedure, call}
 use Rattle.sf_rules.specs.Checked.LawsOfCommands.{before_command}
+use Rattle.sf_rules.specs.Checked.Lemmas.Forms.{adding-assuming, body-assuming, form-command, taking-showing}
 use Rattle.sf_rules.specs.Rows.Calls.{term_after, term_before}
 use Rattle.sf_rules.specs.Setting.{Setting}
 use Rattle.sf_rules.specs.Words.{pending_assertion, to_add, to_take}
 use Rattle.sf_safe.specs.Checked.Local.{ComesBack, HasInAll, HasVar, Local, LocalParts, arguments_in, callee_value, value_in}
 use Rattle.sf_safe.specs.Checked.LocalSafe.{LocalCalls, LocalSafe}
 use Rattle.sf_sound.proofs.Annotated.{HaveValues, usable-assumed}
-use Rattle.sf_sound.proofs.CalleeTerms.{after-below, before-below, callee-values, is_lent, lent-changes, lent-lends, lent-pre, lent_part, set-value, values-known}
-use Rattle.sf_sound.proofs.FreshTerms.{fresh-below, fresh-contains, fresh-length, fresh-listed, fresh-names, fresh-same, fresh-values, fresh_values, put-here, put-other, put-tokens, set_all-all}
+use Rattle.sf_sound.proofs.CalleeTerms.{callee-values, is_lent, lent-changes, lent-lends, lent-pre, lent_part, set-value, values-known}
+use Rattle.sf_sound.proofs.FreshTerms.{fresh-contains, fresh-listed, fresh-names, fresh-same, fresh-values, fresh_values, put-here, put-other, put-tokens}
 use Rattle.sf_sound.proofs.Keeping.{just-none}
-use Rattle.sf_sound.proofs.Standing.{body-assuming, body-does, domain-in, form-command}
-use Rattle.sf_sound.proofs.States.{StateSuits, items-add, items-of, items-take, state-of, state-symbols, suits-of, terms-below}
-use Rattle.sf_sound.proofs.Words.{adding-assuming, adding-does, body-holds, showing-holds, taking-does, taking-showing}
+use Rattle.sf_sound.proofs.Standing.{body-does, domain-in}
+use Rattle.sf_sound.proofs.Words.{adding-does, adding-suits, body-holds, showing-holds, taking-does, taking-suits}
 use Rattle.sf_sym.specs.Checked.Lemmas.Adding.{adding-holds}
 use Rattle.sf_sound.specs.Checked.Claims.{Does, Owed, put_values, steps, with_cells}
-use Rattle.sf_sound.specs.Checked.Suits.{CallSuits, Claim, Domain, HasDomain, IsPassed, ReadsAll, Suits}
-use Rattle.sf_sym.specs.Below.{AllPaired, AreBelow, IsBelow, SameBelow}
+use Rattle.sf_sound.specs.Checked.Suits.{CallSuits, Claim, Domain, HasDomain, IsListed, IsPassed, ReadsAll, Suits}
+use Rattle.sf_sym.specs.Below.{AreBelow, SameBelow}
 use Rattle.sf_sym.specs.declared.term.Term.{Term}
 use Rattle.sf_sym.specs.Goal.{Item, gave, Goal}
 use Rattle.sf_sym.specs.Holds.{PendingHolds}
 use Rattle.sf_sym.specs.HoldsIn.{HoldsIn}
 use Rattle.sf_sym.specs.Checked.Laws.{OtherSymbolsAreFree}
-use Rattle.sf_sym.specs.Checked.Lemmas.Below.{below-more, items-weaker, paired-weaker}
 use Rattle.sf_sym.specs.Checked.Lemmas.TwoHeaps.{other_symbols_are_free}
 use Rattle.sf_sym.specs.Pending.{Pending}
 use Rattle.sf_sym.specs.Ready.{is_listed}
 use Rattle.sf_sym.specs.State.{State, term, term_at, with_symbols}
 use Rattle.sf_sym.specs.Variables.{fresh_for, set_vars}
-use Rattle.sf_sym.specs.Shape.{IsBody, IsShowing}
+use Rattle.sf_sym.specs.Shape.{HasShape, IsBody, IsShowing}
 
 -- values that are read
 pub domain-all : (D : Domain) (l : Local) → HasDomain D l → (es : List Expr) → ReadsAll D es → HasInAll l es
@@ -109,15 +108,13 @@ module _ (d : Setting) (s : State) (q : Place) (c : Call) (rest : List Item) whe
     todo = to_take c.place (term_before s c) (d.ordered g.pre) ++ (gave q set [] ∷ behind g);
   }
 
-  module _ (D : Domain) (gs : Suits d D (before_command s (call q c) rest)) where
+  module _ (shape : HasShape (before_command s (call q c) rest)) (D : Domain)
+      (gs : Suits d D (before_command s (call q c) rest)) where
     abbrev u : CallSuits d D c
     u = gs.todo.0
 
-    abbrev t : StateSuits d D s
-    t = state-of d D (before_command s (call q c) rest) gs
-
-    abbrev next : ℕ
-    next = s.next_sym + length set
+    abbrev t : IsListed D s
+    t = gs.listed
 
     abbrev pre : Pending
     pre = pending_assertion (term_before s c) (d.ordered u.callee.pre)
@@ -129,46 +126,21 @@ module _ (d : Setting) (s : State) (q : Place) (c : Call) (rest : List Item) whe
     names = (d.ordered u.callee.pre).names
 
     form : IsBody rest
-    form = (form-command s (call q c) rest gs.shape.form).0
-
-    later : (x : Term) → IsBelow s.next_sym x → IsBelow next x
-    later x b = below-more s.next_sym next (omega arith) x b
-
-    set-below : AllPaired (IsBelow next) set
-    set-below = subst (λ k. AllPaired (IsBelow (s.next_sym + k)) set) (sym (fresh-length s.next_sym xs))
-        (fresh-below s.next_sym xs)
+    form = (form-command s (call q c) rest shape.form).0
 
     showing : IsShowing (calling u.callee).todo
     showing = taking-showing c.place pre names (gave q set [] ∷ behind u.callee)
         (adding-assuming q post rest (body-assuming rest form))
 
     calling-suits : Suits d D (calling u.callee)
-    calling-suits =
-        let is = items-of d D (before_command s (call q c) rest) gs in
-        let vars = paired-weaker (IsBelow s.next_sym) (IsBelow next) later s.vars t.below.vars in
-        let terms : (e : Expr) → IsBelow next (term s.vars e) = λ e. later (term s.vars e) (terms-below d D s t e) in
-        let adds = items-add d D next (IsPassed d c.callee u.callee) q (term_after s set c)
-        (d.ordered u.callee.post) rest
-        u.post.plain
-        (after-below next s set c (set_all-all (IsBelow next) set s.vars set-below vars) terms)
-        (record {
-          below = items-weaker (IsBelow s.next_sym) (IsBelow next) later rest is.below.1;
-          formed = is.formed.1;
-          suits = is.suits.1;
-        }) in
-        suits-of d D (with_symbols (length set) s) (calling u.callee).todo (state-symbols d D s (length set) t)
-        (items-take d D next (IsPassed d c.callee u.callee) c.place (term_before s c) (d.ordered u.callee.pre)
-        (gave q set [] ∷ behind u.callee) u.pre.plain (before-below next s c vars terms)
-        (record {
-          below = (set-below, adds.below);
-          formed = (tt, adds.formed);
-          suits = (
-            fresh-names (λ x. D.has x ≡ true) s.next_sym xs (λ x i. u.lent x
-                ((u.lends x).0 i)),
-            tt,
-            adds.suits,
-          );
-        })) (inr showing)
+    calling-suits = record {
+      listed = t;
+      todo = taking-suits d D c.place pre names (gave q set [] ∷ behind u.callee) (
+        fresh-names (λ x. D.has x ≡ true) s.next_sym xs (λ x i. u.lent x ((u.lends x).0 i)),
+        tt,
+        adding-suits d D q post rest gs.todo.1,
+      );
+    }
 
     module _ (claim : Claim d (calling u.callee)) (n : ℕ) (l : Local) (taken : Heap) (has : HasDomain D l) where
       -- with some values of the symbols: a part is shown, and the rest is done without it
@@ -197,7 +169,7 @@ module _ (d : Setting) (s : State) (q : Place) (c : Call) (rest : List Item) whe
             → LocalParts after back kept → LocalSafe d.program n (Owed rest) (steps rest) after
         goes_on back after b parts =
             let v = fresh_values s.next_sym xs (value_in back) w in
-            let hv = holds-with w v (before_command s (call q c) rest) l.values l.cells taken gs.shape.below
+            let hv = holds-with w v (before_command s (call q c) rest) l.values l.cells taken shape.below
             (fresh-same s.next_sym xs (value_in back) w) h in
             let second = shown v hv in
             let same_part : second.left ≡ first.left =
@@ -209,7 +181,7 @@ module _ (d : Setting) (s : State) (q : Place) (c : Call) (rest : List Item) whe
             let values : HaveValues (IsPassed d c.callee u.callee) v (term_after s set c)
             (callee_value (value_in back) c (arguments_in l c)) =
             callee-values d v (term s.vars) l (term_at (set_vars set s.vars)) (value_in back) c u.callee
-            (λ x m. set-value v (value_in back) set s.vars l x gs.shape.vars hv.vars
+            (λ x m. set-value v (value_in back) set s.vars l x shape.vars hv.vars
             (fresh-values s.next_sym xs (value_in back) w) (fresh-listed s.next_sym xs x ((u.lends x).1 m)))
             (values-known d D s t v l has hv.vars c.values u.reads) in
             let does = second.second back.cells after.cells
@@ -248,15 +220,16 @@ module _ (d : Setting) (s : State) (q : Place) (c : Call) (rest : List Item) whe
           goes_on = goes_on;
         }
 
-  pub call-claims : (g : Procedure) → procedure_at d.program c.callee ≡ Some g → Claim d (calling g)
+  pub call-claims : HasShape (before_command s (call q c) rest) → (g : Procedure)
+      → procedure_at d.program c.callee ≡ Some g → Claim d (calling g)
       → Claim d (before_command s (call q c) rest)
-  call-claims g there claim zero w D l taken gs has holds = tt
-  call-claims g there claim (suc n) w D l taken gs has holds =
+  call-claims shape g there claim zero w D l taken gs has holds = tt
+  call-claims shape g there claim (suc n) w D l taken gs has holds =
       let callee = gs.todo.0 in
       let same : g ≡ callee.callee = same_Some g callee.callee (sym there ∙ callee.there) in (
         domain-all D l has c.values callee.reads,
         λ f i.
             subst (λ z. LocalCalls d.program l c z (LocalSafe d.program n (Owed rest) (steps rest)))
             (same_Some callee.callee f (sym callee.there ∙ i))
-            (calls D gs (subst (λ z. Claim d (calling z)) same claim) n l taken has w holds),
+            (calls shape D gs (subst (λ z. Claim d (calling z)) same claim) n l taken has w holds),
       )

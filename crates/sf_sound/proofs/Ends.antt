@@ -1,7 +1,7 @@
 -- What goals at an end claim: what is owed there holds of just what the frame has.
 -- Names: `ITEM-claims` of that item's row.
 use Rattle.std.specs.List.{AllByRecursion}
-use Rattle.std.proofs.Common.{◌≡◌, ℕ, zero, suc, true, List, [], ◌∷◌, ◌++◌, inr}
+use Rattle.std.proofs.Common.{◌≡◌, ℕ, zero, suc, true, List, [], ◌∷◌, ◌++◌}
 use Rattle.sf_base.proofs.HeapSplits.{star-drop_right, star-map}
 use Rattle.sf_base.specs.declared.place.Place.{Place}
 use Rattle.sf_base.specs.declared.value.Value.{Value}
@@ -9,17 +9,17 @@ use Rattle.sf_base.specs.declared.ids.Var.{Var}
 use Rattle.sf_base.specs.HeapStore.{Heap, IsEmpty}
 use Rattle.sf_core.specs.declared.command.Expr.{Expr}
 use Rattle.sf_core.specs.Program.Syntax.{Assertion, Program}
+use Rattle.sf_rules.specs.Checked.Lemmas.Forms.{taking-showing}
 use Rattle.sf_rules.specs.Setting.{Setting}
 use Rattle.sf_rules.specs.Rows.Ends.{is_empty}
 use Rattle.sf_rules.specs.Words.{pending_assertion, to_take, to_take_each}
 use Rattle.sf_safe.specs.Checked.Local.{Local, value_in}
 use Rattle.sf_safe.specs.Checked.LocalSafe.{LocalSafe}
 use Rattle.sf_sound.proofs.Annotated.{HaveValues, plain-shown}
-use Rattle.sf_sound.proofs.States.{ItemsSuit, items-take, state-of, suits-of, terms-below, terms-values}
-use Rattle.sf_sound.proofs.Words.{showing-holds, taking-does, taking-showing}
+use Rattle.sf_sound.proofs.States.{terms-values}
+use Rattle.sf_sound.proofs.Words.{showing-holds, taking-does, taking-suits}
 use Rattle.sf_sound.specs.Checked.Claims.{Does, Satisfies, SatisfiesEach, with_cells}
-use Rattle.sf_sound.specs.Checked.Suits.{Claim, Domain, HasDomain, IsPlain, Suits}
-use Rattle.sf_sym.specs.Below.{IsBelow}
+use Rattle.sf_sound.specs.Checked.Suits.{Claim, Domain, HasDomain, IsPlain, Suits, TodoSuits}
 use Rattle.sf_sym.specs.declared.atom.Numbered.{Numbered}
 use Rattle.sf_sym.specs.declared.term.Term.{Term}
 use Rattle.sf_sym.specs.Goal.{Item, again, return, end, Goal}
@@ -36,7 +36,7 @@ at-end p (suc n) End l e = e
 -- assertions that are shown, one after the other, before the end of all: each has its part, and nothing is left beside
 -- these
 each-shown : (d : Setting) (V : Var → Type 0) (n : ℕ) (w : ℕ → Value) (q : Place) (to : Expr → Term)
-    (owed : List Assertion) (l : Local) → AllByRecursion (IsPlain d V) owed → HaveValues V w to (value_in l)
+    (owed : List Assertion) (l : Local) → AllByRecursion (IsPlain V) owed → HaveValues V w to (value_in l)
     → Does d.program n w (to_take_each q to owed (end q ∷ [])) l → SatisfiesEach owed l
 each-shown d V n w q to [] l plain same does = does
 each-shown d V n w q to (a ∷ owed) l plain same does =
@@ -49,13 +49,12 @@ each-showing q to [] = tt
 each-showing q to (a ∷ owed) =
     taking-showing q (pending_assertion to a) a.names (to_take_each q to owed (end q ∷ [])) (each-showing q to owed)
 
-each-suits : (d : Setting) (D : Domain) (k : ℕ) (V : Var → Type 0) (q : Place) (to : Expr → Term)
-    (owed : List Assertion) → AllByRecursion (IsPlain d V) owed → ((e : Expr) → IsBelow k (to e))
-    → ItemsSuit d D k (to_take_each q to owed (end q ∷ []))
-each-suits d D k V q to [] plain below = record { below = (tt, tt); formed = (tt, tt); suits = tt }
-each-suits d D k V q to (a ∷ owed) plain below =
-    items-take d D k V q to a (to_take_each q to owed (end q ∷ [])) plain.0 below
-    (each-suits d D k V q to owed plain.1 below)
+each-suits : (d : Setting) (D : Domain) (q : Place) (to : Expr → Term) (owed : List Assertion)
+    → TodoSuits d D (to_take_each q to owed (end q ∷ []))
+each-suits d D q to [] = tt
+each-suits d D q to (a ∷ owed) =
+    taking-suits d D q (pending_assertion to a) a.names (to_take_each q to owed (end q ∷ []))
+    (each-suits d D q to owed)
 
 -- they are satisfied by just what there is
 module _ (d : Setting) (s : State) (q : Place) (owed : List Assertion) where
@@ -63,16 +62,16 @@ module _ (d : Setting) (s : State) (q : Place) (owed : List Assertion) where
   showing = record { state = s; todo = to_take_each q (term s.vars) owed (end q ∷ []) }
 
   pub shown-at_end : Claim d showing → (n : ℕ) (w : ℕ → Value) (D : Domain) (l : Local) (taken : Heap)
-      → AllByRecursion (IsPlain d (λ x. D.has x ≡ true)) owed → (item : Item) (rest : List Item)
+      → AllByRecursion (IsPlain (λ x. D.has x ≡ true)) owed → (item : Item) (rest : List Item)
       → Suits d D (record { state = s; todo = item ∷ rest }) → HasDomain D l
       → HoldsIn w (record { state = s; todo = [] }) l.values l.cells taken → SatisfiesEach owed l
   shown-at_end claim n w D l taken plain item rest u has holds =
-      let t = state-of d D (record { state = s; todo = item ∷ rest }) u in
-      each-shown d (λ x. D.has x ≡ true) n w q (term s.vars) owed l plain (terms-values d D s t w l has holds.vars)
+      each-shown d (λ x. D.has x ≡ true) n w q (term s.vars) owed l plain (terms-values d D s u.listed w l has holds.vars)
       (claim n w D l taken
-      (suits-of d D s (to_take_each q (term s.vars) owed (end q ∷ [])) t
-      (each-suits d D s.next_sym (λ x. D.has x ≡ true) q (term s.vars) owed plain (terms-below d D s t))
-      (inr (each-showing q (term s.vars) owed))) has
+      (record {
+        listed = u.listed;
+        todo = each-suits d D q (term s.vars) owed;
+      }) has
       (record {
         vars = holds.vars;
         apart = holds.apart;

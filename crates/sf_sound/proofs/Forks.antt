@@ -4,7 +4,7 @@
 use Rattle.std.specs.List.{AllByRecursion}
 use Rattle.std.specs.Prelude.{◌||◌, length, Contains}
 use Rattle.std.specs.Option.{option_or, unwrap_or}
-use Rattle.std.proofs.Common.{◌≡◌, ℕ, zero, suc, ◌+◌, Bool, true, false, cond, Option, Some, None, List, [], ◌∷◌, ◌++◌, refl, sym, ap, ◌∙◌, subst, subst₂, inl, inr, arith}
+use Rattle.std.proofs.Common.{◌≡◌, ℕ, zero, suc, ◌+◌, Bool, true, false, cond, Option, Some, None, List, [], ◌∷◌, ◌++◌, refl, sym, ap, ◌∙◌, subst, subst₂, inl, inr}
 use Rattle.std.proofs.lemmas.List.Elements.{Contains-append_cases, Contains-append_left, Contains-append_right}
 use Rattle.std.proofs.lemmas.Option.{same_Some}
 use Rattle.sf_base.proofs.HeapSplits.{star-drop_right, star-of}
@@ -16,36 +16,33 @@ use Rattle.sf_base.specs.declared.value.Value.TheVariants.{Nil as nil}
 use Rattle.sf_base.specs.HeapStore.{Apart, Heap, Map, Splits}
 use Rattle.sf_calls.specs.Assigned.{MayChange}
 use Rattle.sf_calls.specs.Changes.{changed as changed_by}
-use Rattle.sf_core.specs.declared.command.Expr.{Expr}
 use Rattle.sf_core.specs.Machine.Step.{procedure_at}
 use Rattle.sf_core.specs.Program.Syntax.{Call, Procedure, fork}
 use Rattle.sf_rules.specs.Checked.LawsOfCommands.{before_command}
+use Rattle.sf_rules.specs.Checked.Lemmas.Forms.{adding-assuming, body-assuming, form-command, taking-showing}
 use Rattle.sf_rules.specs.Rows.Calls.{term_after, term_before}
 use Rattle.sf_rules.specs.Setting.{Setting}
 use Rattle.sf_rules.specs.Words.{pending_assertion, to_add, to_take}
 use Rattle.sf_safe.specs.Checked.Local.{ComesBack, HasVar, Local, LocalParts, arguments_in, callee_value, value_in}
 use Rattle.sf_safe.specs.Checked.LocalSafe.{LocalForks, LocalSafe}
 use Rattle.sf_sound.proofs.Annotated.{HaveValues, usable-assumed}
-use Rattle.sf_sound.proofs.CalleeTerms.{after-below, before-below, callee-values, is_lent, lent-changes, lent-lends, lent-pre, lent_part, set-value, values-known}
+use Rattle.sf_sound.proofs.CalleeTerms.{callee-values, is_lent, lent-changes, lent-lends, lent-pre, lent_part, set-value, values-known}
 use Rattle.sf_sound.proofs.Calls.{domain-all, holds-with, returned}
-use Rattle.sf_sound.proofs.FreshTerms.{fresh-append, fresh-below, fresh-length, fresh-listed, fresh-names, fresh-same, fresh-values, fresh_values, set_all-all}
+use Rattle.sf_sound.proofs.FreshTerms.{fresh-append, fresh-listed, fresh-names, fresh-same, fresh-values, fresh_values}
 use Rattle.sf_sound.proofs.Keeping.{just-none}
-use Rattle.sf_sound.proofs.Standing.{body-assuming, body-does, form-command}
-use Rattle.sf_sound.proofs.States.{StateSuits, items-add, items-of, items-take, state-of, state-symbols, suits-of, terms-below}
-use Rattle.sf_sound.proofs.Words.{adding-assuming, adding-does, body-holds, showing-holds, taking-does, taking-showing}
+use Rattle.sf_sound.proofs.Standing.{body-does}
+use Rattle.sf_sound.proofs.Words.{adding-does, adding-suits, body-holds, showing-holds, taking-does, taking-suits}
 use Rattle.sf_sym.specs.Checked.Lemmas.Adding.{adding-holds}
 use Rattle.sf_sound.specs.Checked.Claims.{Does, Owed, put_values, steps, with_cells}
-use Rattle.sf_sound.specs.Checked.Suits.{CallSuits, Claim, Domain, HasDomain, IsPassed, Suits}
-use Rattle.sf_sym.specs.Below.{AllPaired, IsBelow}
+use Rattle.sf_sound.specs.Checked.Suits.{CallSuits, Claim, Domain, HasDomain, IsListed, IsPassed, Suits}
 use Rattle.sf_sym.specs.declared.term.Term.{Term}
 use Rattle.sf_sym.specs.Goal.{Item, gave, Goal}
 use Rattle.sf_sym.specs.Holds.{term_value, PendingHolds}
 use Rattle.sf_sym.specs.HoldsIn.{HoldsIn}
-use Rattle.sf_sym.specs.Checked.Lemmas.Below.{below-more, items-weaker, paired-weaker}
 use Rattle.sf_sym.specs.Pending.{Pending}
 use Rattle.sf_sym.specs.State.{State, term, term_at, with_symbols}
 use Rattle.sf_sym.specs.Variables.{fresh_for, set_vars}
-use Rattle.sf_sym.specs.Shape.{IsBody, IsShowing}
+use Rattle.sf_sym.specs.Shape.{HasShape, IsBody, IsShowing}
 
 either-apart : {X : Type 0} (a b : Bool) (x : Option X) → (a ≡ true → b ≡ true → ⊥)
     → Apart (cond a x None) (cond b x None)
@@ -112,7 +109,8 @@ module _ (d : Setting) (s : State) (q : Place) (c e : Call) (rest : List Item) w
     todo = to_take c.place (term_before s c) (d.ordered g.pre) ++ between g h;
   }
 
-  module _ (D : Domain) (gs : Suits d D (before_command s (fork q c e) rest)) where
+  module _ (shape : HasShape (before_command s (fork q c e) rest)) (D : Domain)
+      (gs : Suits d D (before_command s (fork q c e) rest)) where
     abbrev one : CallSuits d D c
     one = gs.todo.0.0
 
@@ -125,11 +123,8 @@ module _ (d : Setting) (s : State) (q : Place) (c e : Call) (rest : List Item) w
     abbrev h : Procedure
     h = two.callee
 
-    abbrev t : StateSuits d D s
-    t = state-of d D (before_command s (fork q c e) rest) gs
-
-    abbrev next : ℕ
-    next = s.next_sym + length set
+    abbrev t : IsListed D s
+    t = gs.listed
 
     abbrev pre : Pending
     pre = pending_assertion (term_before s c) (d.ordered g.pre)
@@ -150,16 +145,7 @@ module _ (d : Setting) (s : State) (q : Place) (c e : Call) (rest : List Item) w
     other_names = (d.ordered h.pre).names
 
     form : IsBody rest
-    form = (form-command s (fork q c e) rest gs.shape.form).0
-
-    later : (x : Term) → IsBelow s.next_sym x → IsBelow next x
-    later x b = below-more s.next_sym next (omega arith) x b
-
-    set-below : AllPaired (IsBelow next) set
-    set-below =
-        subst (λ ss. AllPaired (IsBelow (s.next_sym + length ss)) ss) (sym set-is)
-        (subst (λ k. AllPaired (IsBelow (s.next_sym + k)) (fresh_for s.next_sym (xs ++ ys)))
-        (sym (fresh-length s.next_sym (xs ++ ys))) (fresh-below s.next_sym (xs ++ ys)))
+    form = (form-command s (fork q c e) rest shape.form).0
 
     showing : IsShowing (forking g h).todo
     showing = taking-showing c.place pre names (between g h)
@@ -174,41 +160,17 @@ module _ (d : Setting) (s : State) (q : Place) (c e : Call) (rest : List Item) w
     ]
 
     forking-suits : Suits d D (forking g h)
-    forking-suits =
-        let is = items-of d D (before_command s (fork q c e) rest) gs in
-        let vars = paired-weaker (IsBelow s.next_sym) (IsBelow next) later s.vars t.below.vars in
-        let terms : (x : Expr) → IsBelow next (term s.vars x) = λ x. later (term s.vars x) (terms-below d D s t x) in
-        let adds = items-add d D next (IsPassed d c.callee g) q (term_after s first c) (d.ordered g.post)
-        (to_add q (term_after s second e) (d.ordered h.post) ++ rest) one.post.plain
-        (after-below next s first c
-        (set_all-all (IsBelow next) first s.vars (all-first (λ (x : Var
-        × Term). IsBelow next x.1) first second set-below)
-        vars) terms)
-        (items-add d D next (IsPassed d e.callee h) q (term_after s second e) (d.ordered h.post) rest two.post.plain
-        (after-below next s second e
-        (set_all-all (IsBelow next) second s.vars (all-second (λ (x : Var
-        × Term). IsBelow next x.1) first second set-below)
-        vars) terms)
-        (record {
-          below = items-weaker (IsBelow s.next_sym) (IsBelow next) later rest is.below.1;
-          formed = is.formed.1;
-          suits = is.suits.1;
-        })) in
-        suits-of d D (with_symbols (length set) s) (forking g h).todo (state-symbols d D s (length set) t)
-        (items-take d D next (IsPassed d c.callee g) c.place (term_before s c) (d.ordered g.pre) (between g h)
-        one.pre.plain (before-below next s c vars terms)
-        (items-take d D next (IsPassed d e.callee h) e.place (term_before s e) (d.ordered h.pre)
-        (gave q set [] ∷ behind g h) two.pre.plain (before-below next s e vars terms)
-        (record {
-          below = (set-below, adds.below);
-          formed = (tt, adds.formed);
-          suits = (
+    forking-suits = record {
+      listed = t;
+      todo = taking-suits d D c.place pre names (between g h)
+          (taking-suits d D e.place other_pre other_names (gave q set [] ∷ behind g h) (
             subst (λ ss. AllByRecursion (λ (x : Var × Term). D.has x.0 ≡ true) ss) (sym set-is)
                 (fresh-names (λ x. D.has x ≡ true) s.next_sym (xs ++ ys) lent-has),
             tt,
-            adds.suits,
-          );
-        }))) (inr showing)
+            adding-suits d D q post (to_add q (term_after s second e) (d.ordered h.post) ++ rest)
+                (adding-suits d D q other_post rest gs.todo.1),
+          ));
+    }
 
     -- what is left to do when both preconditions are shown
     abbrev Left : ℕ → (ℕ → Value) → Local → Type 0
@@ -270,7 +232,7 @@ module _ (d : Setting) (s : State) (q : Place) (c e : Call) (rest : List Item) w
             → LocalParts after back kept → LocalSafe d.program n (Owed rest) (steps rest) after
         goes_on back_one back_two back after b o both parts =
             let v = fresh_values s.next_sym (xs ++ ys) (value_in back) w in
-            let kv = holds-with w v (before_command s (fork q c e) rest) l.values l.cells taken gs.shape.below
+            let kv = holds-with w v (before_command s (fork q c e) rest) l.values l.cells taken shape.below
             (fresh-same s.next_sym (xs ++ ys) (value_in back) w) k in
             let then = shown v kv in
             let same_left : then.left ≡ now.left =
@@ -296,7 +258,7 @@ module _ (d : Setting) (s : State) (q : Place) (c e : Call) (rest : List Item) w
             callee-values d v (term s.vars) l (term_at (set_vars first s.vars)) (value_in back_one) c g
             (λ x m.
             let x_has = b.variables.each x m in
-            set-value v (value_in back) first s.vars l x gs.shape.vars kv.vars (all-first P first second values)
+            set-value v (value_in back) first s.vars l x shape.vars kv.vars (all-first P first second values)
             (fresh-listed s.next_sym xs x ((one.lends x).1 m))
             ∙ ap (λ z. unwrap_or z nil) (splits-has_left x x_has.0 both.values x_has.1 ∙ sym x_has.1))
             (known c.values one.reads) in
@@ -305,7 +267,7 @@ module _ (d : Setting) (s : State) (q : Place) (c e : Call) (rest : List Item) w
             callee-values d v (term s.vars) l (term_at (set_vars second s.vars)) (value_in back_two) e h
             (λ x m.
             let x_has = o.variables.each x m in
-            set-value v (value_in back) second s.vars l x gs.shape.vars kv.vars (all-second P first second values)
+            set-value v (value_in back) second s.vars l x shape.vars kv.vars (all-second P first second values)
             (fresh-listed (s.next_sym + length first) ys x ((two.lends x).1 m))
             ∙ ap (λ z. unwrap_or z nil) (splits-has_right x x_has.0 both.values x_has.1 ∙ sym x_has.1))
             (known e.values two.reads) in
@@ -389,11 +351,11 @@ module _ (d : Setting) (s : State) (q : Place) (c e : Call) (rest : List Item) w
               goes_on = goes_on;
             }
 
-  pub fork-claims : (g h : Procedure) → procedure_at d.program c.callee ≡ Some g
+  pub fork-claims : HasShape (before_command s (fork q c e) rest) → (g h : Procedure) → procedure_at d.program c.callee ≡ Some g
       → procedure_at d.program e.callee ≡ Some h → Claim d (forking g h)
       → Claim d (before_command s (fork q c e) rest)
-  fork-claims g h there also_there claim zero w D l taken gs has holds = tt
-  fork-claims g h there also_there claim (suc n) w D l taken gs has holds =
+  fork-claims shape g h there also_there claim zero w D l taken gs has holds = tt
+  fork-claims shape g h there also_there claim (suc n) w D l taken gs has holds =
       let one = gs.todo.0.0 in
       let two = gs.todo.0.1 in
       let same : g ≡ one.callee = same_Some g one.callee (sym there ∙ one.there) in
@@ -403,5 +365,5 @@ module _ (d : Setting) (s : State) (q : Place) (c e : Call) (rest : List Item) w
         λ f k i j.
             subst₂ (λ y z. LocalForks d.program l c e y z (LocalSafe d.program n (Owed rest) (steps rest)))
             (same_Some one.callee f (sym one.there ∙ i)) (same_Some two.callee k (sym two.there ∙ j))
-            (forks D gs (subst₂ (λ y z. Claim d (forking y z)) same also_same claim) n l taken has w holds),
+            (forks shape D gs (subst₂ (λ y z. Claim d (forking y z)) same also_same claim) n l taken has w holds),
       )

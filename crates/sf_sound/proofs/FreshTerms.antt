@@ -14,15 +14,14 @@ use Rattle.sf_base.specs.declared.value.Value.{Value}
 use Rattle.sf_base.specs.Variables.{same_var}
 use Rattle.sf_safe.specs.Checked.Local.{Local, put_variable}
 use Rattle.sf_sound.proofs.Keeping.{or-false}
-use Rattle.sf_sound.proofs.VariableTerms.{set-order}
+use Rattle.sf_rules.specs.Checked.Lemmas.VariableTerms.{set-order}
 use Rattle.sf_sound.specs.Checked.Claims.{put_values}
-use Rattle.sf_sym.specs.Below.{AllPaired, IsBelow, SameBelow}
+use Rattle.sf_sym.specs.Below.{SameBelow}
 use Rattle.sf_sym.specs.declared.term.Term.{Term}
 use Rattle.sf_sym.specs.declared.term.Term.TheVariants.{Sym}
 use Rattle.sf_sym.specs.Holds.{term_value, Agrees}
-use Rattle.sf_sym.specs.Checked.Lemmas.Below.{below-more, below-symbol, paired-weaker}
 use Rattle.sf_sym.specs.Checked.Lemmas.FreshValues.{value-below, value-here, with_value}
-use Rattle.sf_sym.specs.Checked.Lemmas.KnownValues.{set-agrees, set-all}
+use Rattle.sf_sym.specs.Checked.Lemmas.KnownValues.{set-agrees}
 use Rattle.sf_sym.specs.Ready.{AreInOrder, is_listed}
 use Rattle.sf_sym.specs.Variables.{fresh_for, set_var, set_vars}
 
@@ -44,15 +43,6 @@ fresh-values n (x ∷ xs) v w = (
   fresh-values (suc n) xs v (with_value n (v x) w),
 )
 
-pub fresh-below : (n : ℕ) (xs : List Var) → AllPaired (IsBelow (n + length xs)) (fresh_for n xs)
-fresh-below n [] = tt
-fresh-below n (x ∷ xs) = (
-  below-symbol (n + length (x ∷ xs)) n (omega arith),
-  paired-weaker (IsBelow (suc n + length xs)) (IsBelow (n + length (x ∷ xs)))
-      (λ t b. below-more (suc n + length xs) (n + length (x ∷ xs)) (omega arith) t b) (fresh_for (suc n) xs)
-      (fresh-below (suc n) xs),
-)
-
 pub fresh-listed : (n : ℕ) (xs : List Var) (x : Var) → Contains xs x → is_listed (fresh_for n xs) x ≡ true
 fresh-listed n [] x c = absurd (contains-nil x c)
 fresh-listed n (y ∷ ys) x c = elim ((contains-cons y ys x).0 c) [
@@ -69,10 +59,6 @@ fresh-contains n (y ∷ ys) x e = (contains-cons y ys x).1
     ])
 
 -- NIL
-pub nil-below : (n : ℕ) (xs : List Var) → AllPaired (IsBelow n) (nil_for xs)
-nil-below n [] = tt
-nil-below n (x ∷ xs) = (refl, nil-below n xs)
-
 pub nil-listed : (xs : List Var) (x : Var) → Contains xs x → is_listed (nil_for xs) x ≡ true
 nil-listed [] x c = absurd (contains-nil x c)
 nil-listed (y ∷ ys) x c = elim ((contains-cons y ys x).0 c) [
@@ -87,13 +73,6 @@ nil-values w v (x ∷ xs) h = (
   sym (h x ((contains-cons x xs x).1 (inl refl))),
   nil-values w v xs (λ y c. h y ((contains-cons x xs y).1 (inr c))),
 )
-
--- SETTING
--- all terms that are set have a property
-pub set_all-all : (P : Term → Type 0) (set vs : List (Var × Term)) → AllPaired P set → AllPaired P vs
-    → AllPaired P (set_vars set vs)
-set_all-all P [] vs s a = a
-set_all-all P (x ∷ xs) vs s a = set_all-all P xs (set_var x.0 x.1 vs) s.1 (set-all P x.0 x.1 vs s.0 a)
 
 -- where variables have their terms' values, they agree
 pub put-agrees : (w : ℕ → Value) (set vs : List (Var × Term)) (l : Local) → AreInOrder vs
@@ -156,10 +135,6 @@ put-cells w (x ∷ xs) l = put-cells w xs (put_variable x.0 (term_value w x.1) l
 pub put-tokens : (w : ℕ → Value) (set : List (Var × Term)) (l : Local) → (put_values w set l).tokens ≡ l.tokens
 put-tokens w [] l = refl
 put-tokens w (x ∷ xs) l = put-tokens w xs (put_variable x.0 (term_value w x.1) l)
-
-pub fresh-length : (n : ℕ) (xs : List Var) → length (fresh_for n xs) ≡ length xs
-fresh-length n [] = refl
-fresh-length n (x ∷ xs) = ap suc (fresh-length (suc n) xs)
 
 -- what is said of the variables is said of those that get symbols
 pub fresh-names : (P : Var → Type 0) (n : ℕ) (xs : List Var) → ((x : Var) → Contains xs x → P x)

@@ -1,7 +1,7 @@
 -- What a goal claims where what was taken is gone for good: variables are set and removed, and the rest is done.
 -- Names: `give-claims`.
 use Rattle.std.specs.List.{AllByRecursion}
-use Rattle.std.proofs.Common.{◌≡◌, ℕ, Bool, true, false, List, [], ◌∷◌, refl, ap, ◌∙◌, inl, inr}
+use Rattle.std.proofs.Common.{◌≡◌, ℕ, Bool, true, false, List, [], ◌∷◌, refl, ap, ◌∙◌}
 use Rattle.sf_base.proofs.HeapSplits.{star-drop_right, star-of}
 use Rattle.sf_base.proofs.MapSplits.{empty-holds, empty_map, splits-comm, splits-empty_right}
 use Rattle.sf_base.proofs.Variables.{same_var-decides}
@@ -11,19 +11,17 @@ use Rattle.sf_base.specs.declared.value.Value.{Value}
 use Rattle.sf_base.specs.Variables.{same_var}
 use Rattle.sf_rules.specs.Setting.{Setting}
 use Rattle.sf_safe.specs.Checked.Local.{Local, put_variable}
-use Rattle.sf_sound.proofs.FreshTerms.{put-agrees, set_all-all}
+use Rattle.sf_sound.proofs.FreshTerms.{put-agrees}
 use Rattle.sf_sound.proofs.Standing.{domain-put}
-use Rattle.sf_sound.proofs.States.{StateSuits, items-of, state-of, suits-of}
-use Rattle.sf_sound.proofs.VariableTerms.{all-listed, all-order, remove_all-all, remove_all-listed, remove_all-order}
+use Rattle.sf_rules.specs.Checked.Lemmas.VariableTerms.{all-listed, remove_all-all, remove_all-listed}
 use Rattle.sf_sound.specs.Checked.Claims.{put_values, with_cells}
-use Rattle.sf_sound.specs.Checked.Suits.{Claim, Domain, HasDomain}
-use Rattle.sf_sym.specs.Below.{IsBelow}
+use Rattle.sf_sound.specs.Checked.Suits.{Claim, Domain, HasDomain, IsListed}
 use Rattle.sf_sym.specs.declared.term.Term.{Term}
-use Rattle.sf_sym.specs.Goal.{Item, gave, Goal}
+use Rattle.sf_sym.specs.Goal.{Item, gave}
 use Rattle.sf_sym.specs.Holds.{term_value, Agrees}
 use Rattle.sf_sym.specs.State.{State}
 use Rattle.sf_sym.specs.Variables.{remove_vars, set_vars}
-use Rattle.sf_sym.specs.Shape.{IsAssuming}
+use Rattle.sf_sym.specs.Shape.{HasShape}
 
 -- variables that a frame has get values
 pub domain-put_values : (D : Domain) (w : ℕ → Value) (set : List (Var × Term)) (l : Local)
@@ -33,25 +31,12 @@ domain-put_values D w (x ∷ xs) l a h =
     domain-put_values D w xs (put_variable x.0 (term_value w x.1) l) a.1
     (domain-put D l x.0 (term_value w x.1) a.0 h)
 
--- the state that is left suits the frame
-given-state : (d : Setting) (D : Domain) (s : State) (set : List (Var × Term)) (removed : List Var)
-    → StateSuits d D s → AllByRecursion (λ (x : Var × Term). IsBelow s.next_sym x.1) set
+-- in the state that is left the variables of the frame have terms
+given-listed : (D : Domain) (s : State) (set : List (Var × Term)) (removed : List Var) → IsListed D s
     → AllByRecursion (λ (x : Var). D.has x ≡ false) removed
-    → StateSuits d D (record s { taken = []; vars = remove_vars removed (set_vars set s.vars) })
-given-state d D s set removed t below lacks = record {
-  below = record {
-    vars = remove_all-all (λ (x : Var × Term). IsBelow s.next_sym x.1) removed (set_vars set s.vars)
-        (set_all-all (IsBelow s.next_sym) set s.vars below t.below.vars);
-    apart = t.below.apart;
-    atoms = t.below.atoms;
-    taken = tt;
-  };
-  order = remove_all-order removed (set_vars set s.vars) (all-order set s.vars t.order);
-  fields = t.fields;
-  links = t.links;
-  listed = λ x e. remove_all-listed removed (set_vars set s.vars) x (others x e removed lacks)
-      (all-listed set s.vars x (t.listed x e));
-}
+    → IsListed D (record s { taken = []; vars = remove_vars removed (set_vars set s.vars) })
+given-listed D s set removed t lacks x e =
+    remove_all-listed removed (set_vars set s.vars) x (others x e removed lacks) (all-listed set s.vars x (t x e))
   where
     others : (x : Var) → D.has x ≡ true → (xs : List Var) → AllByRecursion (λ (x : Var). D.has x ≡ false) xs
         → AllByRecursion (λ (y : Var). same_var y x ≡ false) xs
@@ -63,25 +48,20 @@ given-state d D s set removed t below lacks = record {
         go false i = refl
 
 pub give-claims : (d : Setting) (s : State) (q : Place) (set : List (Var × Term)) (removed : List Var)
-    (rest : List Item)
+    (rest : List Item) → HasShape (record { state = s; todo = gave q set removed ∷ rest })
     → Claim d (record {
       state = record s { taken = []; vars = remove_vars removed (set_vars set s.vars) };
       todo = rest;
     })
     → Claim d (record { state = s; todo = gave q set removed ∷ rest })
-give-claims d s q set removed rest claim n w D l taken u has holds = λ more whole adds splits.
-    let goal : Goal = record { state = s; todo = gave q set removed ∷ rest } in
-    let is = items-of d D goal u in
-    let form : IsAssuming rest = elim u.shape.form [ inl f ↦ absurd f.0 | inr f ↦ f ] in
+give-claims d s q set removed rest shape claim n w D l taken u has holds = λ more whole adds splits.
     let domain = domain-put_values D w set l u.todo.0 has in
     claim n w D (with_cells whole (put_values w set l)) empty_map
-    (suits-of d D (record s { taken = []; vars = remove_vars removed (set_vars set s.vars) }) rest
-    (given-state d D s set removed (state-of d D goal u) is.below.0 u.todo.1)
-    (record { below = is.below.1; formed = is.formed.1; suits = u.todo.2 }) (inl (form, refl)))
+    (record { listed = given-listed D s set removed u.listed u.todo.1; todo = u.todo.2 })
     (record { variables = domain.variables; tokens = domain.tokens })
     (record {
       vars = remove_all-all (Agrees w (put_values w set l).values) removed (set_vars set s.vars)
-          (put-agrees w set s.vars l u.shape.vars holds.vars);
+          (put-agrees w set s.vars l shape.vars holds.vars);
       apart = holds.apart;
       disjoint = (splits-empty_right {map = whole} empty-holds).apart;
       there = star-of (splits-comm splits) (star-drop_right holds.there) adds;

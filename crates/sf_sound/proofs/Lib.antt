@@ -2,13 +2,11 @@ pub mod Carried
 pub mod Soundness
 pub mod Restating
 pub mod Table
-pub mod Subtracting
 pub mod Beginnings
 pub mod Bodies
 pub mod Orders
 pub mod Plain
 pub mod Forks
-pub mod StateChildren
 pub mod Calls
 pub mod CalleeTerms
 pub mod Giving
@@ -24,9 +22,7 @@ pub mod States
 pub mod FreshTerms
 pub mod Words
 pub mod Commands
-pub mod CommandChildren
 pub mod Standing
-pub mod VariableTerms
 pub mod Keeping
 pub mod Pair
 pub mod SmallPrograms
@@ -36,3 +32,4 @@ pub mod Races
 pub mod SharedWriters
 pub mod Writers
 pub mod Buffer
+pub mod SettingUp

@@ -1,10 +1,9 @@
 -- Annotations in order: what occurs in one in order occurs in it, and annotations that are well formed and have an
 -- order may be used.
 -- Names: `PART-occurs` of what occurs, `usable-of`.
-use Rattle.std.specs.Prelude.{◌⊎◌, ◌≤◌, length}
+use Rattle.std.specs.Prelude.{◌⊎◌}
 use Rattle.std.proofs.Common.{ℕ, Bool, false, sym, subst, inl, inr}
 use Rattle.sf_base.specs.declared.ids.Var.{Var}
-use Rattle.sf_base.specs.declared.limits.TheConstants.{FIELDS}
 use Rattle.sf_base.specs.declared.value.Value.TheVariants.{Nil as nil}
 use Rattle.sf_core.proofs.Assertions.Determined.{determined-precise}
 use Rattle.sf_core.specs.Assertions.Determined.{known_after, known_inside}
@@ -67,12 +66,11 @@ pub variable-occurs : (a b : Assertion) → IsOrderOf a b → (x : Var) → VarO
 variable-occurs a b i x (at, is, o) = (at, is, level-occurs _ (λ n. false) a.level b.level i.level o)
 
 -- an annotation that has an order and is well formed in that order may be used
-pub usable-of : OrderKeepsMeaning → OrderedIsDetermined → (d : Setting) → length d.program.fields ≤ FIELDS
-    → (V W : Var → Type 0) (a : Assertion)
+pub usable-of : OrderKeepsMeaning → OrderedIsDetermined → (d : Setting) (V W : Var → Type 0) (a : Assertion)
     → IsOrderOf a (d.ordered a) → AssertionWithin d.program.fields W (d.ordered a)
     → ((x : Var) → VarOccursIn a.level x → V x) → IsUsable d V a
-usable-of meaning determined d few V W a order within occurs = record {
-  plain = plain-of d few W V (d.ordered a) within (λ x o. occurs x (variable-occurs a (d.ordered a) order x o));
+usable-of meaning determined d V W a order within occurs = record {
+  plain = plain-of d.program.fields W V (d.ordered a) within (λ x o. occurs x (variable-occurs a (d.ordered a) order x o));
   means = λ vars heap. meaning a.level (d.ordered a).level vars (λ n. nil) heap order.level;
   precise = λ vars. determined-precise a.level (value vars) (λ n. nil)
       (determined a.level (d.ordered a).level order.level).0;

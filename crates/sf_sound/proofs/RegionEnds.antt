@@ -22,16 +22,17 @@ use Rattle.sf_core.specs.Program.Formed.{ExprWithin}
 use Rattle.sf_core.specs.Program.Syntax.{Resource}
 use Rattle.sf_rules.specs.Rows.Regions.{variables_from}
 use Rattle.sf_rules.specs.Setting.{Setting}
+use Rattle.sf_rules.specs.Checked.Lemmas.Forms.{body-assuming, taking-showing}
 use Rattle.sf_rules.specs.Words.{pending_assertion, to_take}
 use Rattle.sf_safe.specs.Checked.Local.{Local, look, value_in}
 use Rattle.sf_safe.specs.Checked.LocalSafe.{LocalLeaves, LocalSafe}
 use Rattle.sf_sound.proofs.Annotated.{usable-same, usable-shown}
 use Rattle.sf_sound.proofs.FreshTerms.{agrees-fewer}
 use Rattle.sf_sound.proofs.Keeping.{of-decides, of-is, some-has}
-use Rattle.sf_sound.proofs.Standing.{body-assuming, body-does}
+use Rattle.sf_sound.proofs.Standing.{body-does}
 use Rattle.sf_sound.proofs.Regions.{of-listed}
-use Rattle.sf_sound.proofs.States.{StateSuits, items-of, items-take, state-of, suits-of, terms-below, terms-values}
-use Rattle.sf_sound.proofs.Words.{body-empty, showing-holds, taking-does, taking-showing}
+use Rattle.sf_sound.proofs.States.{terms-values}
+use Rattle.sf_sound.proofs.Words.{body-empty, showing-holds, taking-does, taking-suits}
 use Rattle.sf_sound.specs.Checked.Claims.{Owed, steps, with_cells}
 use Rattle.sf_sound.specs.Checked.Suits.{Claim, Domain, HasDomain, IsUsable, ResourceSuits, Suits, is_of, without_resource}
 use Rattle.sf_sym.specs.declared.term.Term.{Term}
@@ -39,7 +40,7 @@ use Rattle.sf_sym.specs.Goal.{Item, exit, gave, Goal}
 use Rattle.sf_sym.specs.HoldsIn.{HoldsIn}
 use Rattle.sf_sym.specs.Pending.{Pending}
 use Rattle.sf_sym.specs.State.{State, term}
-use Rattle.sf_sym.specs.Shape.{IsBody}
+use Rattle.sf_sym.specs.Shape.{HasShape, IsBody}
 
 -- the frame without what it has of a resource
 abbrev pub lacking : ResId → ℕ → Local → Local
@@ -94,7 +95,8 @@ module _ (d : Setting) (s : State) (q : Place) (r : ResId) (rest : List Item) (o
     (claim : Claim d (record {
       state = s;
       todo = to_take q (term s.vars) (d.ordered of.invariant) ++ (gave q [] (variables_from r 0 of.variables) ∷ rest);
-    })) where
+    }))
+    (shape : HasShape (record { state = s; todo = exit q r ∷ rest })) where
   module _ (n : ℕ) (w : ℕ → Value) (D : Domain) (l : Local) (taken : Heap)
       (u : Suits d D (record { state = s; todo = exit q r ∷ rest })) (has : HasDomain D l)
       (holds : HoldsIn w (record { state = s; todo = exit q r ∷ rest }) l.values l.cells taken) where
@@ -130,18 +132,7 @@ module _ (d : Setting) (s : State) (q : Place) (r : ResId) (rest : List Item) (o
         suits.invariant
 
     form : IsBody rest
-    form = elim u.shape.form [ inl f ↦ f.0 | inr f ↦ absurd f ]
-
-    state : StateSuits d E s
-    state =
-        let t = state-of d D goal u in
-        record {
-          below = t.below;
-          order = t.order;
-          fields = t.fields;
-          links = t.links;
-          listed = λ x e. t.listed x (and-right (not (is_of r count x)) (D.has x) e);
-        }
+    form = elim shape.form [ inl f ↦ f.0 | inr f ↦ absurd f ]
 
     removed : AllByRecursion (λ (x : Var). E.has x ≡ false) xs
     removed = go xs (of-listed r count 0 of.variables
@@ -172,14 +163,12 @@ module _ (d : Setting) (s : State) (q : Place) (r : ResId) (rest : List Item) (o
 
     leaves : LocalLeaves d.program l r (LocalSafe d.program n (Owed rest) (steps rest))
     leaves =
-        let is = items-of d D goal u in
         let shown = taking-does d.program n w q pa names (gave q [] xs ∷ rest) (lacking r count l)
         (claim n w E (lacking r count l) taken
-        (suits-of d E s (to_take q to (d.ordered of.invariant) ++ (gave q [] xs ∷ rest)) state
-        (items-take d E s.next_sym (λ x. is_of r count x ≡ true) q to (d.ordered of.invariant) (gave q [] xs ∷ rest)
-        usable.plain (terms-below d D s (state-of d D goal u))
-        (record { below = (tt, is.below.1); formed = (tt, is.formed.1); suits = (tt, removed, u.todo.2) }))
-        (inr (taking-showing q pa names (gave q [] xs ∷ rest) (body-assuming rest form))))
+        (record {
+          listed = λ x e. u.listed x (and-right (not (is_of r count x)) (D.has x) e);
+          todo = taking-suits d E q pa names (gave q [] xs ∷ rest) (tt, removed, u.todo.2);
+        })
         (left-domain r count D l has)
         (record {
           vars = agrees-fewer w l.values (lacking r count l).values s.vars fewer holds.vars;
@@ -216,7 +205,7 @@ module _ (d : Setting) (s : State) (q : Place) (r : ResId) (rest : List Item) (o
                 (λ x e. ap (λ o. unwrap_or o nil) (sym (share-value r count D l has shown.left x e)))
                 (subst (λ (z : Resource). Sat z.invariant.level (look l) (λ m. nil) shown.left) (sym same_resource)
                 (usable-shown d (λ x. is_of r count x ≡ true) of.invariant usable w to (value_in l) shown.left
-                (λ e i. terms-values d D s (state-of d D goal u) w l has holds.vars e (more e i)) shown.first));
+                (λ e i. terms-values d D s u.listed w l has holds.vars e (more e i)) shown.first));
           };
           goes_on = body-does d.program n w rest (with_cells shown.right (lacking r count l)) form
               (shown.second empty_map shown.right (body-empty w rest empty_map form empty-holds)

@@ -28,27 +28,26 @@ use Rattle.sf_core.specs.Program.Syntax.{Block, Resource, with}
 use Rattle.sf_rules.specs.Checked.LawsOfCommands.{before_command}
 use Rattle.sf_rules.specs.Rows.Regions.{variables_from}
 use Rattle.sf_rules.specs.Setting.{Setting}
+use Rattle.sf_rules.specs.Checked.Lemmas.Forms.{body-run, form-command}
 use Rattle.sf_rules.specs.Words.{pending_assertion, to_add, to_add_test}
 use Rattle.sf_safe.specs.Checked.Local.{IsShare, Local, LocalParts, look, value_in}
 use Rattle.sf_safe.specs.Checked.LocalSafe.{LocalSafe}
 use Rattle.sf_sound.proofs.Annotated.{HaveValues, usable-assumed, usable-same}
 use Rattle.sf_sound.proofs.Keeping.{of-decides, of-is, share-some, share-token, size, some-apart, some-has, some-splits}
-use Rattle.sf_sound.proofs.Standing.{body-assuming, body-does, body-run, domain-test, form-command, owed-run, steps-run}
-use Rattle.sf_sound.proofs.States.{StateSuits, items-add, items-of, items-run, renewed, renewed-apart, renewed-atoms, renewed-vars, state-fresh, state-of, suits-of, terms-below, terms-values}
-use Rattle.sf_sound.proofs.Tests.{items-test, pending_test, test-holds, test-within}
-use Rattle.sf_sound.proofs.Words.{adding-assuming, adding-does, body-holds}
+use Rattle.sf_sound.proofs.Standing.{body-does, domain-test, owed-run, steps-run, suits-run}
+use Rattle.sf_sound.proofs.States.{renewed, renewed-apart, renewed-atoms, renewed-vars, state-fresh, terms-values}
+use Rattle.sf_sound.proofs.Tests.{pending_test, test-holds, test-within}
+use Rattle.sf_sound.proofs.Words.{adding-does, adding-suits, body-holds}
 use Rattle.sf_sym.specs.Checked.Lemmas.Adding.{adding-holds}
 use Rattle.sf_sound.specs.Checked.Claims.{Owed, steps}
-use Rattle.sf_sound.specs.Checked.Suits.{BlockSuits, Claim, Domain, HasDomain, IsUsable, LacksResource, ReadsTest, ResourceSuits, Suits, TodoSuits, is_of, with_resource, without_resource}
-use Rattle.sf_sym.specs.Below.{AllInItem, IsBelow}
+use Rattle.sf_sound.specs.Checked.Suits.{BlockSuits, Claim, Domain, HasDomain, IsListed, IsUsable, LacksResource, ReadsTest, ResourceSuits, Suits, TodoSuits, is_of, with_resource, without_resource}
 use Rattle.sf_sym.specs.declared.term.Term.{Term}
 use Rattle.sf_sym.specs.Goal.{Item, exit, Goal, to_run}
 use Rattle.sf_sym.specs.Holds.{AddsHold, AtomsHold}
 use Rattle.sf_sym.specs.HoldsIn.{HoldsIn}
-use Rattle.sf_sym.specs.Checked.Lemmas.Below.{below-more, items-weaker}
 use Rattle.sf_sym.specs.State.{State, term}
 use Rattle.sf_sym.specs.Variables.{with_fresh}
-use Rattle.sf_sym.specs.Shape.{IsBody}
+use Rattle.sf_sym.specs.Shape.{HasShape, IsBody}
 
 -- THE VARIABLES OF A RESOURCE those that are listed are the resource's
 pub of-listed : (r : ResId) (count i : ℕ) (names : List (List ℕ)) → i + length names ≤ count
@@ -155,7 +154,8 @@ module _ (d : Setting) (s : State) (q : Place) (r : ResId) (t : Test Expr) (body
       todo = to_add q (term (with_fresh (variables_from r 0 of.variables) s).vars) (d.ordered of.invariant)
           ++ (to_add_test q (term (with_fresh (variables_from r 0 of.variables) s).vars) t
           ++ (to_run body ++ (exit q r ∷ rest)));
-    })) where
+    }))
+    (shape : HasShape (before_command s (with q r t body) rest)) where
   module _ (n : ℕ) (w : ℕ → Value) (D : Domain) (l : Local) (taken : Heap)
       (u : Suits d D (before_command s (with q r t body) rest)) (has : HasDomain D l)
       (holds : HoldsIn w (before_command s (with q r t body) rest) l.values l.cells taken) where
@@ -200,7 +200,7 @@ module _ (d : Setting) (s : State) (q : Place) (r : ResId) (t : Test Expr) (body
     inside share both f parts = u.todo.0.1 (lacks share both f parts)
 
     form : IsBody rest
-    form = (form-command s (with q r t body) rest u.shape.form).0
+    form = (form-command s (with q r t body) rest shape.form).0
 
     contains : (x : Var) → is_of r count x ≡ true → Contains xs x
     contains x e = of-contains r of.variables x (ap (λ k. is_of r k x) names_are ∙ e)
@@ -210,19 +210,14 @@ module _ (d : Setting) (s : State) (q : Place) (r : ResId) (t : Test Expr) (body
     usable = subst (λ (z : Resource). IsUsable d (λ x. is_of r count x ≡ true) z.invariant) same_resource
         suits.invariant
 
-    fresh : StateSuits d E now
-    fresh = state-fresh d D E s xs (state-of d D goal u) within
+    fresh : IsListed E now
+    fresh = state-fresh D E s xs u.listed within
       where
         within : (x : Var) → is_of r count x || D.has x ≡ true → (D.has x ≡ true) ⊎ Contains xs x
         within x e = elim (or_cases (is_of r count x) (D.has x) e) [
           | inl i ↦ inr (contains x i)
           | inr i ↦ inl i
         ]
-
-    later : (todo : List Item) → AllByRecursion (AllInItem (IsBelow s.next_sym)) todo
-        → AllByRecursion (AllInItem (IsBelow now.next_sym)) todo
-    later todo b = items-weaker (IsBelow s.next_sym) (IsBelow now.next_sym)
-        (λ x i. below-more s.next_sym now.next_sym (omega arith) x i) todo b
 
     more : (e : Expr) → ExprWithin (λ x. is_of r count x ≡ true) e → ExprWithin (λ x. E.has x ≡ true) e
     more (Variable x) i = or_left (is_of r count x.var) (D.has x.var) i
@@ -238,7 +233,6 @@ module _ (d : Setting) (s : State) (q : Place) (r : ResId) (t : Test Expr) (body
     goes_on : (share both : Local) → IsShare d.program r share → LocalParts both l share → IsTrueOf (look both) t
         → LocalSafe d.program n (Owed rest) (items body ++ (leave r ∷ steps rest)) both
     goes_on share both f parts true_ =
-        let is = items-of d D goal u in
         let ending = exit q r ∷ rest in
         let pa = pending_assertion to (d.ordered of.invariant) in
         let pt = pending_test q to t in
@@ -249,8 +243,8 @@ module _ (d : Setting) (s : State) (q : Place) (r : ResId) (t : Test Expr) (body
         λ x m. splits-at_left x parts.values (is_some-false (share.values x)
         (share-some d.program r share f x ∙ ap (λ k. is_of r k x) size_is
         ∙ not-true (is_of r count x) (λ e. m (contains x e)))) in
-        let v = renewed s goal.todo u.shape.below u.shape.vars xs w l both l.cells taken holds same in
-        let vars = renewed-vars s goal.todo u.shape.below u.shape.vars xs w l both l.cells taken holds same in
+        let v = renewed s goal.todo shape.below shape.vars xs w l both l.cells taken holds same in
+        let vars = renewed-vars s goal.todo shape.below shape.vars xs w l both l.cells taken holds same in
         let values : HaveValues (λ x. E.has x ≡ true) v to
         (value_in both) = terms-values d E now fresh v both has_both vars in
         let invariant : Sat of.invariant.level (look both) (λ m. nil) share.cells =
@@ -269,42 +263,31 @@ module _ (d : Setting) (s : State) (q : Place) (r : ResId) (t : Test Expr) (body
         (body-holds v (to_run body ++ ending) empty_map (body-run body ending form)
         (test-holds v (λ x. E.has x ≡ true) q to (value_in both) t empty_map values (test-within E t reads) true_
         empty-holds)))) in
-        let suiting = suits-of d E now _ fresh
-        (items-add d E now.next_sym (λ x. is_of r count x ≡ true) q to (d.ordered of.invariant) _ usable.plain
-        (terms-below d E now fresh)
-        (items-test d E now.next_sym q to t _ (terms-below d E now fresh)
-        (items-run d E now.next_sym body ending (inside share both f parts).1
-        (record {
-          below = (tt, later rest is.below.1);
-          formed = (tt, is.formed.1);
-          suits = (
-            suits,
-            record {
-              variables = λ x e. or_left (is_of r count x) (D.has x) e;
-              token = or_left (r.0 == r.0) (D.holds r) ((Decides-eqb r.0 r.0).1 refl);
-            },
-            subst (λ z. TodoSuits d z rest) (sym (entered-left D r count lacking)) u.todo.1,
-          );
-        }))))
-        (inl (
-          adding-assuming q pa _
-              (adding-assuming q pt (to_run body ++ ending)
-              (body-assuming (to_run body ++ ending) (body-run body ending form))),
-          (form-command s (with q r t body) rest u.shape.form).1,
-        )) in
+        let suiting : Suits d E _ = record {
+          listed = fresh;
+          todo = adding-suits d E q pa _ (adding-suits d E q pt (to_run body ++ ending)
+              (suits-run d E body ending (inside share both f parts).1 (
+                suits,
+                record {
+                  variables = λ x e. or_left (is_of r count x) (D.has x) e;
+                  token = or_left (r.0 == r.0) (D.holds r) ((Decides-eqb r.0 r.0).1 refl);
+                },
+                subst (λ z. TodoSuits d z rest) (sym (entered-left D r count lacking)) u.todo.1,
+              )));
+        } in
         subst₂ (λ e ss. LocalSafe d.program n e ss both) (owed-run body ending) (steps-run body ending)
         (body-does d.program n v (to_run body ++ ending) both (body-run body ending form)
         (adding-does d.program n v q pt (to_run body ++ ending) both
         (adding-does d.program n v q pa (to_add_test q to t ++ (to_run body ++ ending)) both
         (claim n v E both empty_map suiting has_both (record {
           vars = vars;
-          apart = renewed-apart s goal.todo u.shape.below u.shape.vars xs w l both l.cells taken holds same;
+          apart = renewed-apart s goal.todo shape.below shape.vars xs w l both l.cells taken holds same;
           disjoint = (splits-empty_right {map = both.cells} empty-holds).apart;
           there = star-of parts.cells
-              (renewed-atoms s goal.todo u.shape.below u.shape.vars xs w l both l.cells taken holds same l.cells
+              (renewed-atoms s goal.todo shape.below shape.vars xs w l both l.cells taken holds same l.cells
               (star-drop_right holds.there)) adds;
           gone = subst (λ z. AtomsHold v s.links z empty_map)
-              (sym (form-command s (with q r t body) rest u.shape.form).1) empty-holds;
+              (sym (form-command s (with q r t body) rest shape.form).1) empty-holds;
         })))))
 
   pub enter-claims : Claim d (before_command s (with q r t body) rest)

@@ -2,7 +2,7 @@
 -- shown.
 -- Names: `PART-with` of what other terms leave as it is, `restated-claims`, `assumed-claims`, `shown-claims`.
 use Rattle.std.specs.List.{AllByRecursion}
-use Rattle.std.proofs.Common.{◌≡◌, ℕ, true, List, [], ◌∷◌, map, sym, ◌∙◌, subst, inl, inr}
+use Rattle.std.proofs.Common.{◌≡◌, ℕ, true, List, [], ◌∷◌, map, sym, ◌∙◌, subst}
 use Rattle.sf_base.proofs.HeapSplits.{star-of}
 use Rattle.sf_base.proofs.MapSplits.{splits-assoc_left}
 use Rattle.sf_base.specs.declared.ids.Var.{Var}
@@ -12,11 +12,11 @@ use Rattle.sf_produce.specs.Checked.Laws.{HoldsAssumed, assuming}
 use Rattle.sf_rules.specs.Checked.LawsOfConjuncts.{LeftToShow, showing, still_showing}
 use Rattle.sf_rules.specs.Setting.{Setting}
 use Rattle.sf_sound.proofs.Carried.{does-restated}
-use Rattle.sf_sound.proofs.CommandChildren.{IsOrdered}
+use Rattle.sf_rules.specs.Checked.Lemmas.CommandChildren.{IsOrdered}
 use Rattle.sf_sound.proofs.Commands.{pick}
-use Rattle.sf_sound.proofs.StateChildren.{AllStay, StateStays}
-use Rattle.sf_sound.proofs.Subtracting.{Lists}
-use Rattle.sf_sound.proofs.Words.{adding-assuming, adding-does, adding-suits, taking-does, taking-showing, taking-suits}
+use Rattle.sf_rules.specs.Checked.Lemmas.StateChildren.{AllStay, GoalStays}
+use Rattle.sf_rules.specs.Checked.Lemmas.Subtracting.{Lists}
+use Rattle.sf_sound.proofs.Words.{adding-does, adding-suits, taking-does, taking-suits}
 use Rattle.sf_sound.specs.Checked.Claims.{Does, with_cells}
 use Rattle.sf_sound.specs.Checked.Suits.{Claim, Domain, Suits, TodoSuits}
 use Rattle.sf_sym.specs.declared.term.Term.{Term}
@@ -26,48 +26,12 @@ use Rattle.sf_sym.specs.Checked.Laws.{Follows, HoldsAsBefore, KeptWith}
 use Rattle.sf_sym.specs.Checked.Lemmas.Below.{below-value}
 use Rattle.sf_sym.specs.Checked.Lemmas.Restated.{same-items}
 use Rattle.sf_sym.specs.Pending.{Pending}
-use Rattle.sf_sym.specs.Ready.{AreInOrder, is_listed}
+use Rattle.sf_sym.specs.Ready.{is_listed}
 use Rattle.sf_sym.specs.State.{State}
-use Rattle.sf_sym.specs.Shape.{HasForm, HasShape, IsAssuming, IsBody, IsShowing}
+use Rattle.sf_sym.specs.Shape.{HasShape}
 
 -- WHAT OTHER TERMS LEAVE AS IT IS
 module _ (to : Term → Term) where
-  body-with : (todo : List Item) → IsBody todo → IsBody (map (item_with to) todo)
-  body-with [] b = b
-  body-with (run c ∷ rest) b = body-with rest b
-  body-with (exit q r ∷ rest) b = body-with rest b
-  body-with (again q invariant ∷ rest) b = b
-  body-with (return q post ∷ rest) b = b
-  body-with (add q given ∷ rest) b = b
-  body-with (take q want names ∷ rest) b = b
-  body-with (gave q set removed ∷ rest) b = b
-  body-with (head q test invariant body ∷ rest) b = b
-  body-with (end q ∷ rest) b = b
-
-  assuming-with : (todo : List Item) → IsAssuming todo → IsAssuming (map (item_with to) todo)
-  assuming-with [] b = b
-  assuming-with (add q given ∷ rest) b = assuming-with rest b
-  assuming-with (run c ∷ rest) b = body-with rest b
-  assuming-with (exit q r ∷ rest) b = body-with rest b
-  assuming-with (again q invariant ∷ rest) b = b
-  assuming-with (return q post ∷ rest) b = b
-  assuming-with (take q want names ∷ rest) b = b
-  assuming-with (gave q set removed ∷ rest) b = b
-  assuming-with (head q test invariant body ∷ rest) b = b
-  assuming-with (end q ∷ rest) b = b
-
-  showing-with : (todo : List Item) → IsShowing todo → IsShowing (map (item_with to) todo)
-  showing-with [] b = b
-  showing-with (take q want names ∷ rest) b = showing-with rest b
-  showing-with (gave q set removed ∷ rest) b = assuming-with rest b
-  showing-with (head q test invariant body ∷ rest) b = body-with rest b
-  showing-with (end q ∷ rest) b = b
-  showing-with (run c ∷ rest) b = b
-  showing-with (add q given ∷ rest) b = b
-  showing-with (exit q r ∷ rest) b = b
-  showing-with (again q invariant ∷ rest) b = b
-  showing-with (return q post ∷ rest) b = b
-
   names-with : (P : Var → Type 0) (set : List (Var × Term)) → AllByRecursion (λ (x : Var × Term). P x.0) set
       → AllByRecursion (λ (x : Var × Term). P x.0) (map (λ x. (x.0, to x.1)) set)
   names-with P [] a = tt
@@ -87,76 +51,46 @@ module _ (to : Term → Term) where
   todo-with d (return q post ∷ rest) D s = s
   todo-with d (end q ∷ rest) D s = s
 
--- A GOAL THAT FOLLOWS
-module _ (d : Setting) (D : Domain) (goal child : Goal) (u : Suits d D goal) (f : Follows goal child)
-    (o : IsOrdered child.state)
-    (listed : (x : Var) → is_listed goal.state.vars x ≡ true → is_listed child.state.vars x ≡ true) where
-  -- it suits the frame where what is to do does
-  pub follows-suits : HasForm child → TodoSuits d D child.todo → Suits d D child
-  follows-suits form todo = record {
-    shape = record {
-      below = f.below;
-      vars = o.vars;
-      fields = o.fields;
-      formed = f.formed u.shape.formed;
-      form = form;
-    };
-    links = f.links ∙ u.links;
-    listed = λ x e. listed x (u.listed x e);
-    todo = todo;
-  }
-
-  -- so it does with other terms
-  restated-suits : (goal.state.taken ≡ [] → child.state.taken ≡ []) → (to : Term → Term)
-      → child.todo ≡ map (item_with to) goal.todo → Suits d D child
-  restated-suits taken to is = follows-suits (form u.shape.form)
-      (subst (TodoSuits d D) (sym is) (todo-with to d goal.todo D u.todo))
-    where
-      form : HasForm goal → HasForm child
-      form (inl i) = inl (subst IsAssuming (sym is) (assuming-with to goal.todo i.0), taken i.1)
-      form (inr i) = inr (subst IsShowing (sym is) (showing-with to goal.todo i))
-
 -- what is known is worked out, and all that is to do is stated again
-pub restated-claims : (d : Setting) (goal : Goal) (left : List Goal)
-    → (HasShape goal → KeptWith goal left HoldsAsBefore) → (IsOrdered goal.state → AllStay goal.state left)
+pub restated-claims : (d : Setting) (goal : Goal) (left : List Goal) → HasShape goal
+    → (HasShape goal → KeptWith goal left HoldsAsBefore) → (IsOrdered goal.state → AllStay goal left)
     → AllByRecursion (Claim d) left → Claim d goal
-restated-claims d goal left law stays claims n w D l taken u has h =
-    let k = law u.shape in
-    let m = pick (HoldsAsBefore w goal l.values l.cells taken) (Follows goal) (λ g. StateStays goal.state g.state)
+restated-claims d goal left shape law stays claims n w D l taken u has h =
+    let k = law shape in
+    let m = pick (HoldsAsBefore w goal l.values l.cells taken) (Follows goal) (GoalStays goal)
     (Claim d) left (k.hold w l.values l.cells taken h) k.follow
-    (stays (record { vars = u.shape.vars; fields = u.shape.fields })) claims in
+    (stays (record { vars = shape.vars; fields = shape.fields })) claims in
     let r = m.one.todo in
+    let suits : Suits d D m.goal = record {
+      listed = λ x e. m.second.state.listed x (u.listed x e);
+      todo = subst (TodoSuits d D) (sym r.is) (todo-with r.to d goal.todo D u.todo);
+    } in
     does-restated goal.state.next_sym w m.one.still.values r.to
     (λ t b. r.same t ∙ sym (below-value goal.state.next_sym m.one.still.values w m.one.still.same t b)) d.program n
-    goal.todo l u.shape.below.todo
+    goal.todo l shape.below.todo
     (subst (λ z. Does d.program n m.one.still.values z l) r.is
-    (m.third n m.one.still.values D l taken (restated-suits d D goal m.goal u m.first m.second.ordered
-    m.second.listed m.second.taken r.to r.is) has
-    m.one.still.holds))
+    (m.third n m.one.still.values D l taken suits has m.one.still.holds))
 
 -- a conjunct is assumed
 pub assumed-claims : (d : Setting) (s : State) (q : Place) (given : Pending) (rest : List Item) (left : List Goal)
+    → HasShape (assuming s q given rest)
     → (HasShape (assuming s q given rest) → KeptWith (assuming s q given rest) left (HoldsAssumed q rest))
-    → (IsOrdered s → AllStay s left) → AllByRecursion (Claim d) left → Claim d (assuming s q given rest)
-assumed-claims d s q given rest left law stays claims n w D l taken u has h =
+    → (IsOrdered s → AllStay (assuming s q given rest) left) → AllByRecursion (Claim d) left → Claim d (assuming s q given rest)
+assumed-claims d s q given rest left shape law stays claims n w D l taken u has h =
     let goal = assuming s q given rest in
-    let k = law u.shape in
-    let m = pick (HoldsAssumed q rest w goal l.values l.cells taken) (Follows goal) (λ g. StateStays s g.state)
+    let k = law shape in
+    let m = pick (HoldsAssumed q rest w goal l.values l.cells taken) (Follows goal) (GoalStays goal)
     (Claim d) left (k.hold w l.values l.cells taken h) k.follow
-    (stays (record { vars = u.shape.vars; fields = u.shape.fields })) claims in
+    (stays (record { vars = shape.vars; fields = shape.fields })) claims in
     let r = m.one.restated in
-    let form : IsAssuming rest × (s.taken ≡ []) = elim u.shape.form [ inl i ↦ i | inr i ↦ absurd i ] in
-    let suits = follows-suits d D goal m.goal u m.first m.second.ordered m.second.listed
-    (inl (
-      subst IsAssuming (sym m.one.todo) (adding-assuming q m.one.left m.one.others
-          (subst IsAssuming (sym r.is) (assuming-with r.to rest form.0))),
-      m.second.taken form.1,
-    ))
-    (subst (TodoSuits d D) (sym m.one.todo) (adding-suits d D q m.one.left m.one.others
-    (subst (TodoSuits d D) (sym r.is) (todo-with r.to d rest D u.todo)))) in
+    let suits : Suits d D m.goal = record {
+      listed = λ x e. m.second.state.listed x (u.listed x e);
+      todo = subst (TodoSuits d D) (sym m.one.todo) (adding-suits d D q m.one.left m.one.others
+          (subst (TodoSuits d D) (sym r.is) (todo-with r.to d rest D u.todo)));
+    } in
     does-restated s.next_sym w m.one.still.values r.to
     (λ t b. r.same t ∙ sym (below-value s.next_sym m.one.still.values w m.one.still.same t b)) d.program n rest l
-    u.shape.below.todo.1
+    shape.below.todo.1
     (subst (λ z. Does d.program n m.one.still.values z l) r.is
     (adding-does d.program n m.one.still.values q m.one.left m.one.others l
     (subst (λ z. Does d.program n m.one.still.values z l) m.one.todo
@@ -164,22 +98,19 @@ assumed-claims d s q given rest left law stays claims n w D l taken u has h =
 
 -- a conjunct is shown: a part is handed over, and what is shown of the rest is shown with that part
 pub shown-claims : (d : Setting) (s : State) (q : Place) (want : Pending) (names : List (List ℕ)) (rest : List Item)
-    (left : List Goal)
+    (left : List Goal) → HasShape (showing s q want names rest)
     → (HasShape (showing s q want names rest) → LeftToShow s q want names rest left)
     → AllByRecursion (λ (g : Goal). Lists s g.state) left → AllByRecursion (Claim d) left
     → Claim d (showing s q want names rest)
-shown-claims d s q want names rest left law lists claims n w D l taken u has h =
-    let goal = showing s q want names rest in
-    let k = law u.shape in
+shown-claims d s q want names rest left shape law lists claims n w D l taken u has h =
+    let k = law shape in
     let child = still_showing k.after q names rest in
     let claim = (subst (AllByRecursion (Claim d)) k.is claims).0 in
     let list = (subst (AllByRecursion (λ (g : Goal). Lists s g.state)) k.is lists).0 in
-    let form : IsShowing rest = elim u.shape.form [ inl i ↦ absurd i.0 | inr i ↦ i ] in
-    let suits = follows-suits d D goal child u k.follow
-    (record { vars = subst AreInOrder (sym list.vars) u.shape.vars; fields = list.fields u.shape.fields })
-    (λ x e. subst (λ vs. is_listed vs x ≡ true) (sym list.vars) e)
-    (inr (taking-showing q (still_wanted k.after) names rest form))
-    (taking-suits d D q (still_wanted k.after) names rest u.todo) in
+    let suits : Suits d D child = record {
+      listed = λ x e. subst (λ vs. is_listed vs x ≡ true) (sym list.vars) (u.listed x e);
+      todo = taking-suits d D q (still_wanted k.after) names rest u.todo;
+    } in
     let on = k.hands w l.values l.cells taken h in
     let hands = on.hands in
     let shown = taking-does d.program n hands.values q (still_wanted k.after) names rest (with_cells hands.rest l)
@@ -191,5 +122,5 @@ shown-claims d s q want names rest left law lists claims n w D l taken u has h =
     star-of parts.1 (shown.first.0, wants.bound, wants.satisfied)
     (does-restated s.next_sym w hands.values (λ t. t)
     (λ t b. sym (below-value s.next_sym hands.values w hands.same t b)) d.program n rest
-    (with_cells shown.right l) u.shape.below.todo.1
+    (with_cells shown.right l) shape.below.todo.1
     (subst (λ z. Does d.program n hands.values z (with_cells shown.right l)) (sym (same-items rest)) shown.second))

@@ -8,7 +8,10 @@ use Rattle.sf_core.specs.Assertions.Determined.{Determined}
 use Rattle.sf_core.specs.Program.Syntax.{Assertion, Procedure}
 use Rattle.sf_precise.specs.Checked.Laws.{DeterminedHasOrder, OrderKeepsForm, OrderKeepsMeaning, OrderedIsDetermined}
 use Rattle.sf_precise.specs.Order.{IsOrderOf, IsOrdering}
+use Rattle.sf_rules.specs.Checked.LawsOfShape.{FirstGoalsAreShaped, IsLeft, IsSetUp, RowsKeepShape}
+use Rattle.sf_rules.specs.Rows.Whole.{row}
 use Rattle.sf_rules.specs.Setting.{Setting}
+use Rattle.sf_rules.specs.Shape.{IsShaped}
 use Rattle.sf_safe.specs.Checked.LocalSafe.{LocallySafeProgramsAreSound}
 use Rattle.sf_sound.proofs.Beginnings.{body-safe}
 use Rattle.sf_sound.proofs.Bodies.{IsSane}
@@ -19,10 +22,13 @@ use Rattle.sf_sound.specs.Checked.Suits.{Claim}
 use Rattle.sf_sound.specs.Proofs.{ProofsAreSound}
 use Rattle.sf_sym.specs.declared.tag.Tag.{Tag}
 use Rattle.sf_sym.specs.Goal.{Goal}
+use Rattle.sf_sym.specs.State.{State}
 
 -- the laws of the crates below
 pub record Laws : Type 0 where
   pub rows : RowLaws
+  pub first : FirstGoalsAreShaped
+  pub keep : RowsKeepShape
   pub safe : LocallySafeProgramsAreSound
   pub breaches : FirstBreachIsBroken
   pub changes : ChangesAreAssigned
@@ -31,16 +37,27 @@ pub record Laws : Type 0 where
   pub form : OrderKeepsForm
   pub order : DeterminedHasOrder
 
-module _ (laws : RowLaws) (d : Setting) where
-  -- a goal that is proved claims what is to do
-  mutual
-    proof-claims : (goal : Goal) → Proof d goal → Claim d goal
-    proof-claims goal (by tag left row proofs) = row-claims laws d goal left (proofs-claim left proofs) tag row
+module _ (laws : RowLaws) (keep : RowsKeepShape) (d : Setting) (up : IsSetUp d) where
+  -- the goals that a row leaves are shaped
+  left-shaped : (goal : Goal) (tag : Tag) (left : List Goal) → IsShaped d goal → row d goal tag ≡ Some left
+      → AllByRecursion (IsLeft d goal.state) left
+  unfolding RowsKeepShape
+  left-shaped goal tag left shaped row = keep d up goal tag left shaped row
 
-    proofs-claim : (goals : List Goal) → Proofs d goals → AllByRecursion (Claim d) goals
-    proofs-claim goals (no_more e) = subst (AllByRecursion (Claim d)) (sym e) tt
-    proofs-claim goals (and goal others e proof proofs) =
-        subst (AllByRecursion (Claim d)) (sym e) (proof-claims goal proof, proofs-claim others proofs)
+  -- a shaped goal that is proved claims what is to do
+  mutual
+    proof-claims : (goal : Goal) → IsShaped d goal → Proof d goal → Claim d goal
+    proof-claims goal shaped (by tag left row proofs) =
+        row-claims laws d goal left shaped.shape
+        (proofs-claim goal.state left (left-shaped goal tag left shaped row) proofs) tag row
+
+    proofs-claim : (s : State) (goals : List Goal) → AllByRecursion (IsLeft d s) goals → Proofs d goals
+        → AllByRecursion (Claim d) goals
+    proofs-claim s goals shaped (no_more e) = subst (AllByRecursion (Claim d)) (sym e) tt
+    proofs-claim s goals shaped (and goal others e proof proofs) =
+        let each = subst (AllByRecursion (IsLeft d s)) e shaped in
+        subst (AllByRecursion (Claim d)) (sym e)
+        (proof-claims goal each.0.shaped proof, proofs-claim s others each.1 proofs)
 
 -- each procedure's first goal is proved
 proved-at : (d : Setting) (xs : List Procedure) (k i : ℕ) (tags : List Tag) (g : Procedure) → ProvesFrom d k xs tags
@@ -62,14 +79,21 @@ in-order d order ordering a determined =
     subst (IsOrderOf a) (sym (ordering.ordered a (record { names = a.names; level = o.0 }) is)) is
 
 pub proofs_are_sound : Laws → ProofsAreSound
-unfolding ProofsAreSound LocallySafeProgramsAreSound
+unfolding ProofsAreSound LocallySafeProgramsAreSound FirstGoalsAreShaped
 proofs_are_sound laws d tags formed conditions sets determined ordering proves =
     laws.safe d.program formed conditions (λ f g there values n l b.
     body-safe d sane f g there l values b
-    (proof-claims laws.rows d (first_goal d f g)
+    (proof-claims laws.rows laws.keep d up (first_goal d f g) (laws.first d up f g there)
     (subst (λ z. Proof d (first_goal d (record { 0 = z }) g)) (let e : 0 + f.0 ≡ f.0 = omega arith in e)
     (proved-at d d.program.procedures 0 f.0 tags g proves there))) n)
   where
+    up : IsSetUp d
+    up = record {
+      formed = formed;
+      conditions = conditions;
+      setting = record { program = refl; sets = sets; ordering = ordering };
+    }
+
     sane : IsSane d
     sane = record {
       formed = formed;

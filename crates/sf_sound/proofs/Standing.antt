@@ -1,10 +1,7 @@
--- A goal that suits a frame: what its form says of what is to do, which variables are known, and that what is left of
--- it suits the frame too.
--- Names: `body-LAW` of commands up to an end, `domain-LAW` of what a frame has, `known-LAW` of expressions and tests,
--- `next-suits` of what comes after a command.
-use Rattle.std.specs.List.{AllByRecursion}
+-- A goal that suits a frame: what its form says of what is to do, and which variables are known.
+-- Names: `body-LAW` of commands up to an end, `domain-LAW` of what a frame has, `known-LAW` of expressions and tests.
 use Rattle.std.specs.Prelude.{is_some}
-use Rattle.std.proofs.Common.{◌≡◌, ℕ, Bool, true, false, cond, Some, List, [], ◌∷◌, ◌++◌, refl, sym, ap, ◌∙◌, subst, inl, inr}
+use Rattle.std.proofs.Common.{◌≡◌, ℕ, Bool, true, false, cond, Some, List, [], ◌∷◌, ◌++◌, refl, sym, ap, ◌∙◌}
 use Rattle.sf_base.proofs.Variables.{same_var-decides}
 use Rattle.sf_base.specs.declared.ids.Var.{Var}
 use Rattle.sf_base.specs.declared.value.Value.{Value}
@@ -13,38 +10,21 @@ use Rattle.sf_core.specs.declared.assertion.Test.{Test}
 use Rattle.sf_core.specs.declared.assertion.Test.TheVariants.{True, Equal, Differ}
 use Rattle.sf_core.specs.declared.command.Expr.{Expr}
 use Rattle.sf_core.specs.declared.command.Expr.TheVariants.{Var as Variable, Nil, Int}
-use Rattle.sf_core.specs.declared.fields.Links.{Links}
 use Rattle.sf_core.specs.Machine.Config.{command, items}
-use Rattle.sf_core.specs.Program.Syntax.{Block, done, then, Command, Program}
-use Rattle.sf_rules.specs.Checked.LawsOfCommands.{IsTestKnown, before_command}
+use Rattle.sf_core.specs.Program.Syntax.{Block, done, then, Program}
+use Rattle.sf_rules.specs.Checked.LawsOfCommands.{IsTestKnown}
 use Rattle.sf_rules.specs.Setting.{Setting}
 use Rattle.sf_safe.specs.Checked.Local.{HasIn, HasInTest, HasVar, Local, put_variable}
 use Rattle.sf_safe.specs.Checked.LocalSafe.{LocalSafe}
 use Rattle.sf_sound.proofs.Keeping.{Kept, nothing_gone, nothing_lost, some-has}
 use Rattle.sf_sound.specs.Checked.Claims.{Does, Owed, steps}
-use Rattle.sf_sym.specs.Formed.{ItemFormed}
-use Rattle.sf_sound.specs.Checked.Suits.{BlockSuits, Domain, HasDomain, Reads, ReadsTest, Suits, TodoSuits}
-use Rattle.sf_sym.specs.declared.atom.Numbered.{Numbered}
+use Rattle.sf_sound.specs.Checked.Suits.{BlockSuits, Domain, HasDomain, Reads, ReadsTest, TodoSuits}
 use Rattle.sf_sym.specs.declared.term.Term.{Term}
 use Rattle.sf_sym.specs.Goal.{Item, run, add, take, gave, head, again, exit, return, end, to_run}
-use Rattle.sf_sym.specs.Checked.Laws.{Follows}
-use Rattle.sf_sym.specs.Ready.{AreInOrder, HasOrder, IsKnown, is_listed}
-use Rattle.sf_sym.specs.State.{State}
-use Rattle.sf_sym.specs.Shape.{HasForm, IsAssuming, IsBody}
+use Rattle.sf_sym.specs.Ready.{IsKnown, is_listed}
+use Rattle.sf_sym.specs.Shape.{IsBody}
 
 -- THE FORM
-pub body-assuming : (todo : List Item) → IsBody todo → IsAssuming todo
-body-assuming [] b = b
-body-assuming (run c ∷ rest) b = b
-body-assuming (exit q r ∷ rest) b = b
-body-assuming (again q invariant ∷ rest) b = b
-body-assuming (return q post ∷ rest) b = b
-body-assuming (add q given ∷ rest) b = absurd b
-body-assuming (take q want names ∷ rest) b = absurd b
-body-assuming (gave q set removed ∷ rest) b = absurd b
-body-assuming (head q test invariant body ∷ rest) b = absurd b
-body-assuming (end q ∷ rest) b = absurd b
-
 -- what is done of commands up to an end is what the machine does of it
 pub body-does : (p : Program) (n : ℕ) (w : ℕ → Value) (todo : List Item) (l : Local) → IsBody todo
     → Does p n w todo l → LocalSafe p n (Owed todo) (steps todo) l
@@ -58,11 +38,6 @@ body-does p n w (take q want names ∷ rest) l b d = absurd b
 body-does p n w (gave q set removed ∷ rest) l b d = absurd b
 body-does p n w (head q test invariant body ∷ rest) l b d = absurd b
 body-does p n w (end q ∷ rest) l b d = absurd b
-
--- a block comes before it
-pub body-run : (b : Block) (rest : List Item) → IsBody rest → IsBody (to_run b ++ rest)
-body-run done rest i = i
-body-run (then c b) rest i = body-run b rest i
 
 pub steps-run : (b : Block) (rest : List Item) → steps (to_run b ++ rest) ≡ items b ++ steps rest
 steps-run done rest = refl
@@ -80,12 +55,6 @@ pub suits-run : (d : Setting) (D : Domain) (b : Block) (rest : List Item) → Bl
     → TodoSuits d D (to_run b ++ rest)
 suits-run d D done rest s t = t
 suits-run d D (then c b) rest s t = (s.0, suits-run d D b rest s.1 t)
-
--- a command is followed by commands up to an end, and nothing is handed over
-pub form-command : (s : State) (c : Command) (rest : List Item) → HasForm (before_command s c rest)
-    → IsBody rest × (s.taken ≡ [])
-form-command s c rest (inl f) = f
-form-command s c rest (inr f) = absurd f
 
 -- WHAT A FRAME HAS
 pub domain-has : (D : Domain) (l : Local) → HasDomain D l → (x : Var) → D.has x ≡ true → HasVar l x
@@ -131,30 +100,3 @@ module _ (D : Domain) (l : Local) (h : HasDomain D l) (vars : List (Var × Term)
   known-test True r = tt
   known-test (Equal x y) r = (known-expr x r.0, known-expr y r.1)
   known-test (Differ x y) r = (known-expr x r.0, known-expr y r.1)
-
--- WHAT IS LEFT
--- what comes after a command suits the frame
-pub next-suits : (d : Setting) (D : Domain) (s s2 : State) (c : Command) (rest todo : List Item)
-    → Suits d D (before_command s c rest) → Follows (before_command s c rest) (record { state = s2; todo = todo })
-    → AreInOrder s2.vars → AllByRecursion (λ (a : Numbered). HasOrder a.atom) s2.atoms
-    → ((x : Var) → is_listed s.vars x ≡ true → is_listed s2.vars x ≡ true) → s2.taken ≡ s.taken
-    → AllByRecursion (ItemFormed s.links) todo → IsBody todo → TodoSuits d D todo
-    → Suits d D (record { state = s2; todo = todo })
-next-suits d D s s2 c rest todo u f order fields listed taken formed body suits = record {
-  shape = record {
-    below = f.below;
-    vars = order;
-    fields = fields;
-    formed = subst (λ k. AllByRecursion (ItemFormed k) todo) (sym f.links) formed;
-    form = inl (body-assuming todo body, taken ∙ (form-command s c rest u.shape.form).1);
-  };
-  links = f.links ∙ u.links;
-  listed = λ x e. listed x (u.listed x e);
-  todo = suits;
-}
-
--- commands have no conjuncts
-pub items-formed_run : (links : Links) (b : Block) (rest : List Item) → AllByRecursion (ItemFormed links) rest
-    → AllByRecursion (ItemFormed links) (to_run b ++ rest)
-items-formed_run links done rest f = f
-items-formed_run links (then c b) rest f = (tt, items-formed_run links b rest f)

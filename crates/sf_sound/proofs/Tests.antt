@@ -1,10 +1,7 @@
 -- Tests that are assumed: one that is true for a frame holds as conjuncts, and so does the negation of one that
 -- isn't.
 -- Names: `test-LAW`.
-use Rattle.std.specs.List.{IsDistinct}
-use Rattle.std.specs.Prelude.{◌⊎◌}
-use Rattle.std.proofs.Common.{◌≡◌, ℕ, true, List, [], ◌++◌, refl, sym, ◌∙◌, subst, inl, inr}
-use Rattle.sf_base.proofs.Elements.{all_by-append}
+use Rattle.std.proofs.Common.{◌≡◌, ℕ, true, [], sym, ◌∙◌, inl, inr}
 use Rattle.sf_base.proofs.HeapSplits.{star-of}
 use Rattle.sf_base.proofs.MapSplits.{splits-empty_left}
 use Rattle.sf_base.specs.declared.ids.Var.{Var}
@@ -14,26 +11,15 @@ use Rattle.sf_base.specs.declared.value.Value.TheVariants.{Nil as nil}
 use Rattle.sf_base.specs.HeapStore.{Heap, IsEmpty}
 use Rattle.sf_core.proofs.Assertions.Sat.{value-which}
 use Rattle.sf_core.specs.Assertions.Sat.{IsTrueOf, value}
-use Rattle.sf_core.specs.declared.assertion.Operand.{Operand}
-use Rattle.sf_core.specs.declared.assertion.Operand.TheVariants.{Known}
 use Rattle.sf_core.specs.declared.assertion.Test.{Test}
 use Rattle.sf_core.specs.declared.assertion.Test.TheVariants.{True, Equal, Differ}
 use Rattle.sf_core.specs.declared.command.Expr.{Expr}
 use Rattle.sf_core.specs.declared.command.Expr.TheVariants.{Var as Variable, Nil, Int}
-use Rattle.sf_core.specs.declared.fields.Links.{Links}
 use Rattle.sf_core.specs.Program.Formed.{ExprWithin, TestWithin}
-use Rattle.sf_rules.specs.Setting.{Setting}
-use Rattle.sf_rules.specs.First.{links_of}
-use Rattle.sf_rules.specs.Words.{negation, test_conjuncts, to_add_test}
+use Rattle.sf_rules.specs.Words.{negation, test_conjuncts}
 use Rattle.sf_sound.proofs.Annotated.{HaveValues}
-use Rattle.sf_sound.proofs.States.{ItemsSuit}
-use Rattle.sf_sound.proofs.Words.{adding-suits, unless-all}
-use Rattle.sf_sym.specs.Formed.{IsScoped, ItemFormed, PendingFormed}
 use Rattle.sf_sound.specs.Checked.Suits.{Domain, Reads, ReadsTest}
-use Rattle.sf_sym.specs.Below.{AllInItem, AllInPending, IsBelow}
 use Rattle.sf_sym.specs.declared.term.Term.{Term}
-use Rattle.sf_sym.specs.Checked.Lemmas.Formed.{formed-adding}
-use Rattle.sf_sym.specs.Goal.{Item, add, adding}
 use Rattle.sf_sym.specs.Holds.{PendingHolds}
 use Rattle.sf_sym.specs.Pending.{Pending}
 
@@ -59,15 +45,6 @@ test-within D (Differ x y) r = (expr x r.0, expr y r.1)
     expr (Variable x) r = r
     expr Nil r = tt
     expr (Int i) r = tt
-
--- a term as an operand
-abbrev known : Term → Operand Term
-known t = Known t
-
-two : (P : Term → Type 0) (a b u : Term) → P a → P b → (((known u ≡ known a) ⊎ (known u ≡ known b)) ⊎ ⊥) → P u
-two P a b u x y (inl (inl e)) = let i : a ≡ u = cc in subst P i x
-two P a b u x y (inl (inr e)) = let i : b ≡ u = cc in subst P i y
-two P a b u x y (inr e) = absurd e
 
 -- a test that is true holds on the empty heap
 pub test-holds : (w : ℕ → Value) (V : Var → Type 0) (q : Place) (to : Expr → Term) (v : Var → Value) (t : Test Expr)
@@ -96,37 +73,3 @@ pub negation-within : (V : Var → Type 0) (t : Test Expr) → MentionsOnly V t 
 negation-within V True m = (tt, tt)
 negation-within V (Equal x y) m = m
 negation-within V (Differ x y) m = m
-
--- what a test is as something to assume may stand in a goal
-test-below : (P : Term → Type 0) (q : Place) (to : Expr → Term) (t : Test Expr) → ((e : Expr) → P (to e))
-    → AllInPending P (pending_test q to t)
-test-below P q to True all = record { conjuncts = λ u o. absurd o; bindings = λ n u e. absurd (cc) }
-test-below P q to (Equal x y) all = record {
-  conjuncts = λ u o. two P (to x) (to y) u (all x) (all y) o;
-  bindings = λ n u e. absurd (cc);
-}
-test-below P q to (Differ x y) all = record {
-  conjuncts = λ u o. two P (to x) (to y) u (all x) (all y) o;
-  bindings = λ n u e. absurd (cc);
-}
-
-test-formed : (links : Links) (q : Place) (to : Expr → Term) (t : Test Expr)
-    → PendingFormed links (pending_test q to t) × IsScoped (pending_test q to t)
-unfolding IsDistinct
-test-formed links q to True =
-    (tt, record { distinct = tt; occurring = λ n o. absurd o; bound = λ n u e. refl })
-test-formed links q to (Equal x y) =
-    (((tt, tt), tt), record { distinct = tt; occurring = λ n o. refl; bound = λ n u e. refl })
-test-formed links q to (Differ x y) =
-    (((tt, tt), tt), record { distinct = tt; occurring = λ n o. refl; bound = λ n u e. refl })
-
-pub items-test : (d : Setting) (D : Domain) (n : ℕ) (q : Place) (to : Expr → Term) (t : Test Expr) (rest : List Item)
-    → ((e : Expr) → IsBelow n (to e)) → ItemsSuit d D n rest → ItemsSuit d D n (to_add_test q to t ++ rest)
-items-test d D n q to t rest below i = record {
-  below = unless-all (AllInItem (IsBelow n)) (test_conjuncts q to t) (add q (pending_test q to t)) rest (test-below
-      (IsBelow n) q to t below) i.below;
-  formed = all_by-append (ItemFormed (links_of d.program)) (adding q (pending_test q to t)) rest
-      (formed-adding (links_of d.program) q (pending_test q to t) (test-formed (links_of d.program) q to t).0
-      (test-formed (links_of d.program) q to t).1) i.formed;
-  suits = adding-suits d D q (pending_test q to t) rest i.suits;
-}

@@ -1,6 +1,5 @@
 -- Conjuncts to assume or to show, of which there may be none, in front of other things to do.
 -- Names: `adding-LAW`, `taking-LAW`; `unless-LAW` of any item that is there only where there are conjuncts.
-use Rattle.std.specs.List.{AllByRecursion}
 use Rattle.std.specs.Option.{unwrap_or, option_map}
 use Rattle.std.proofs.Common.{◌≡◌, ℕ, Option, None, List, [], ◌∷◌, ◌++◌, get_or, refl, sym, ap, subst}
 use Rattle.sf_base.proofs.HeapSplits.{star-empty_right, star-map_right}
@@ -19,13 +18,7 @@ use Rattle.sf_sym.specs.declared.term.Term.{Term}
 use Rattle.sf_sym.specs.Goal.{Item, run, add, take, gave, head, again, exit, return, end, adding, taking, unless_none}
 use Rattle.sf_sym.specs.Holds.{term_value, AddsHold, IsBound, PendingHolds}
 use Rattle.sf_sym.specs.Pending.{Pending}
-use Rattle.sf_sym.specs.Shape.{IsAssuming, IsBody, IsShowing}
-
--- what is said of the item and of the others is said of all
-pub unless-all : (P : Item → Type 0) (cs : Conjuncts Term) (item : Item) (rest : List Item) → P item
-    → AllByRecursion P rest → AllByRecursion P (unless_none cs item ++ rest)
-unless-all P none item rest p a = a
-unless-all P (also c cs) item rest p a = (p, a)
+use Rattle.sf_sym.specs.Shape.{IsBody, IsShowing}
 
 -- existentials that have terms have their values
 bound : (w : ℕ → Value) (bindings : List (Option Term))
@@ -33,14 +26,6 @@ bound : (w : ℕ → Value) (bindings : List (Option Term))
 bound w bindings n t e = ap (λ o. unwrap_or (option_map (term_value w) o) nil) e
 
 -- TO ASSUME
-pub adding-assuming : (q : Place) (given : Pending) (rest : List Item) → IsAssuming rest
-    → IsAssuming (adding q given ++ rest)
-adding-assuming q given rest i = go given.conjuncts
-  where
-    go : (cs : Conjuncts Term) → IsAssuming (unless_none cs (add q given) ++ rest)
-    go none = i
-    go (also c cs) = i
-
 pub adding-suits : (d : Setting) (D : Domain) (q : Place) (given : Pending) (rest : List Item) → TodoSuits d D rest
     → TodoSuits d D (adding q given ++ rest)
 adding-suits d D q given rest s = go given.conjuncts
@@ -59,14 +44,6 @@ adding-does p n w q given rest l = go given.conjuncts
     go (also c cs) x = x
 
 -- TO SHOW
-pub taking-showing : (q : Place) (want : Pending) (names : List (List ℕ)) (rest : List Item) → IsShowing rest
-    → IsShowing (taking q want names ++ rest)
-taking-showing q want names rest i = go want.conjuncts
-  where
-    go : (cs : Conjuncts Term) → IsShowing (unless_none cs (take q want names) ++ rest)
-    go none = i
-    go (also c cs) = i
-
 pub taking-suits : (d : Setting) (D : Domain) (q : Place) (want : Pending) (names : List (List ℕ)) (rest : List Item)
     → TodoSuits d D rest → TodoSuits d D (taking q want names ++ rest)
 taking-suits d D q want names rest s = go want.conjuncts

@@ -2,6 +2,7 @@
 -- One module for each.
 pub mod Claims
 pub mod Examples
+pub mod ExamplesOfInit
 pub mod ExamplesOfRaces
 pub mod ExamplesOfRegions
 pub mod Suits

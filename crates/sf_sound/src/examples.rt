@@ -1,6 +1,7 @@
 //! Examples. Each function does nothing; its contract is the result.
 
 ghost use Rattle.sf_sound.specs.Checked.Examples.{PairIsSound};
+ghost use Rattle.sf_sound.specs.Checked.ExamplesOfInit.{SetUpIsSound, UnmetInvariantsHaveNoProof};
 ghost use Rattle.sf_sound.specs.Checked.ExamplesOfRaces.{SharedWritersRace, WritersHaveNoProof};
 ghost use Rattle.sf_sound.specs.Checked.ExamplesOfRegions.{BufferIsSound};
 
@@ -45,4 +46,23 @@ pub fn shared_writers_race()
     ensures { SharedWritersRace }
 {
     ordering_exists();
+}
+
+/// A procedure that sets a resource up by the cell that its invariant asks for. Tags prove the
+/// program, so it is sound: where it starts fresh, too.
+pub fn set_up_is_sound()
+    ensures { SetUpIsSound }
+{
+    proofs_are_sound();
+    ordering_exists();
+}
+
+/// One that makes nothing leaves the invariant unmet where it returns: so its program isn't sound,
+/// and by the theorem no tags prove it.
+pub fn unmet_invariants_have_no_proof()
+    ensures { UnmetInvariantsHaveNoProof }
+{
+    proofs_are_sound();
+    ordering_exists();
+    sets_exist();
 }

@@ -12,8 +12,9 @@ use sf_precise::laws::{
 };
 use sf_rules::laws::{
     assign_follows_event, assume_keeps_goals, assumed_branch_keeps_goals, dispose_follows_event,
-    else_follows_test, look_follows_event, mutate_follows_event, new_follows_event,
-    rows_have_cases, shown_branch_leaves_rest, subtraction_leaves_rest, then_follows_test,
+    else_follows_test, first_goals_are_shaped, look_follows_event, mutate_follows_event,
+    new_follows_event, rows_have_cases, rows_keep_shape, shown_branch_leaves_rest,
+    subtraction_leaves_rest, then_follows_test,
 };
 use sf_safe::locally_safe_programs_are_sound;
 
@@ -27,6 +28,8 @@ use sf_safe::locally_safe_programs_are_sound;
 pub fn proofs_are_sound()
     ensures { ProofsAreSound }
 {
+    first_goals_are_shaped();
+    rows_keep_shape();
     rows_have_cases();
     absurd_keeps_goals();
     drop_keeps_goals();

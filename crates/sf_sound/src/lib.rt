@@ -1,12 +1,15 @@
 //! What a proof promises: a program whose tags prove it is sound.
 //!
 //! - `laws`: the theorem.
-//! - `examples`: programs that are proved, and so are sound; one that no tags prove; and one that
+//! - `examples`: programs that are proved, and so are sound; some that no tags prove; and one that
 //!   tags prove and that isn't sound, since it breaks a condition on variables.
 #![tactic(auto)]
 
 mod examples;
 mod laws;
 
-pub use examples::{buffer_is_sound, pair_is_sound, shared_writers_race, writers_have_no_proof};
+pub use examples::{
+    buffer_is_sound, pair_is_sound, set_up_is_sound, shared_writers_race,
+    unmet_invariants_have_no_proof, writers_have_no_proof,
+};
 pub use laws::proofs_are_sound;

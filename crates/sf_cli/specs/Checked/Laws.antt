@@ -4,7 +4,7 @@
 use Rattle.std.specs.Prelude.{◌≡◌, ℕ, List, Option, Some}
 use Rattle.sf_core.specs.Program.Syntax.{Program}
 use Rattle.sf_io.specs.Shelf.{Files}
-use Rattle.sf_cli.specs.Answer.{AcceptedBytes, Answer, DemoAnswer, EndedRun, FileAnswer, Names, OrderAnswer, RunAnswer}
+use Rattle.sf_cli.specs.Answer.{AcceptedBytes, Answer, DemoAnswer, EndedRun, FileAnswer, Names, OrderAnswer, RunAnswer, RankingFileAnswer}
 use Rattle.sf_cli.specs.SoundFile.{IsAccepting}
 use Rattle.sf_cli.specs.FileFault.{Admits, FileFault}
 use Rattle.sf_cli.specs.declared.refusal.Refusal.{Refusal}
@@ -69,6 +69,16 @@ EachDemoHasOneAnswer =
 -- it has an answer
 abbrev pub EachDemoHasAnAnswer : Type 0
 EachDemoHasAnAnswer = (procedures : ℕ) → (text : Text) × (status : ℕ) × DemoAnswer procedures text status
+
+-- a file whose resources are ranked has at most one answer
+abbrev pub EachRankingHasOneAnswer : Type 0
+EachRankingHasOneAnswer =
+    (bytes text other : Text) (status code : ℕ) → RankingFileAnswer bytes text status
+    → RankingFileAnswer bytes other code → (text ≡ other) × (status ≡ code)
+
+-- it has an answer
+abbrev pub EachRankingHasAnAnswer : Type 0
+EachRankingHasAnAnswer = (bytes : Text) → (text : Text) × (status : ℕ) × RankingFileAnswer bytes text status
 
 -- words have at most one answer over the same files
 abbrev pub EachCommandHasOneAnswer : Type 0

@@ -1,7 +1,7 @@
 //! The files of examples/, copied, and the answers to them, worked out by hand.
 
 /// The files of examples/, and their answers.
-pub const EXAMPLES: [(&[u8], &str); 17] = [
+pub const EXAMPLES: [(&[u8], &str); 18] = [
     (
         b"set(x) [x|->] { x->tl = 3; } [x|->tl:3]\n",
         "accepted\nprocedure set\nadd\nmutate 1\nreturn\ncell 1\nend\n",
@@ -585,5 +585,53 @@ look(number;) { number = count; }
 both(number;) { record(1) || look(number;); }
 ",
         "file refused: 30 NotHeld at 4:26 count\n",
+    ),
+    (
+        b"/* Two procedures enter the same two resources in opposite order. All of it is proved; but each may have one and wait for
+   the other, and then neither goes on. `order` shows that circle. */
+resource orders (last) [emp]
+resource stock (pieces) [emp]
+
+sell() [emp] {
+  with orders when (true) {
+    with stock when (true) { pieces = last; }
+  }
+} [emp]
+
+count() [emp] {
+  with stock when (true) {
+    with orders when (true) { last = pieces; }
+  }
+} [emp]
+
+main() { sell() || count(); }
+",
+        "accepted
+procedure sell
+enter
+enter
+assign
+exit
+give
+exit
+give
+return
+end
+procedure count
+enter
+enter
+assign
+exit
+give
+exit
+give
+return
+end
+procedure main
+fork
+give
+return
+end
+",
     ),
 ];

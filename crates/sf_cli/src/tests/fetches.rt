@@ -14,7 +14,7 @@ const OF_PROOF: usize = 33_554_433;
 const OF_STATE: usize = 67_108_865;
 
 /// Words, and what they ask for.
-const REQUESTS: [(&[&str], &[(&str, usize)]); 17] = [
+const REQUESTS: [(&[&str], &[(&str, usize)]); 19] = [
     (&[], &[]),
     (&["verify"], &[]),
     (&["demo", "2"], &[]),
@@ -47,6 +47,8 @@ const REQUESTS: [(&[&str], &[(&str, usize)]); 17] = [
     ),
     (&["run", "two.sf", "none", "given"], &[("two.sf", OF_FILE)]),
     (&["run", "free.sf", "f", "given"], &[("free.sf", OF_FILE)]),
+    (&["order", "mm.sf"], &[("mm.sf", OF_FILE)]),
+    (&["order", "none.sf"], &[("none.sf", OF_FILE)]),
 ];
 
 #[test]

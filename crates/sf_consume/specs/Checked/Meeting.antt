@@ -8,15 +8,10 @@ use Rattle.sf_sym.specs.declared.term.Term.TheVariants.{Sym}
 use Rattle.sf_sym.specs.Fields.{put_term}
 use Rattle.sf_consume.specs.declared.meeting.Meeting.{Meeting}
 use Rattle.sf_consume.specs.declared.meeting.Met.{Met}
-use Rattle.sf_consume.specs.declared.meeting.Met.TheVariants.{Known, Fresh}
 use Rattle.sf_consume.specs.declared.meeting.Seen.{Seen}
 use Rattle.sf_consume.specs.Checked.Fits.{after_changes}
+use Rattle.sf_consume.specs.Misfit.{met_term}
 use Rattle.sf_consume.specs.Subtract.{Fit}
-
--- the term that was met, where new symbols are numbered from `next` on
-abbrev pub met_term : (next : ℕ) → Met → Term
-met_term next (Known t) = t
-met_term next (Fresh n) = Sym (next + n)
 
 -- what existentials are to stand for, as terms
 abbrev pub terms_of : (next : ℕ) → List (ℕ × Met) → List (ℕ × Term)

@@ -1,9 +1,11 @@
--- What the tasks of a reached configuration keep: whatever commands they still have inside regions nests.
+-- What the tasks of a reached configuration keep: whatever commands they still have inside regions nests, and the
+-- procedure that sets the resources up has none.
 -- Ordinary: an invariant of steps, by the structure of commands, frames and tasks.
 use Rattle.std.specs.Prelude.{◌≡◌, ◌⊎◌, List, [], ◌∷◌}
 use Rattle.sf_base.specs.declared.ids.ProcId.{ProcId}
 use Rattle.sf_base.specs.declared.ids.ResId.{ResId}
 use Rattle.sf_core.specs.Machine.Config.{Item, command, leave, Frame, Task, runs, waits}
+use Rattle.sf_core.specs.Machine.HasThroughout.{SetsUp}
 use Rattle.sf_core.specs.Program.Syntax.{Command, assign, look_up, mutate, new, dispose, if, while, call, fork, with, Block, done, then, Program}
 use Rattle.sf_calls.specs.Conditions.{Takes}
 use Rattle.sf_order.specs.Nests.{Nests}
@@ -37,10 +39,10 @@ Leaves [] r = ⊥
 Leaves (command c ∷ todo) r = Leaves todo r
 Leaves (leave q ∷ todo) r = (q ≡ r) ⊎ Leaves todo r
 
--- and in one of these frames
-abbrev pub AnyLeaves : List Frame → ResId → Type 0
-AnyLeaves [] r = ⊥
-AnyLeaves (f ∷ frames) r = Leaves f.todo r ⊎ AnyLeaves frames r
+-- and in one of these frames, or the procedure of one of them sets the resource up
+abbrev pub AnyHolds : Program → List Frame → ResId → Type 0
+AnyHolds p [] r = ⊥
+AnyHolds p (f ∷ frames) r = Leaves f.todo r ⊎ (SetsUp p f.fixed.procedure r ⊎ AnyHolds p frames r)
 
 -- each command fits in the regions that are still to leave after it, and in those around
 abbrev pub TodoFits : Program → (ResId → Type 0) → List Item → Type 0
@@ -48,13 +50,19 @@ TodoFits p around [] = Unit {0}
 TodoFits p around (command c ∷ todo) = CommandFits p (λ r. Leaves todo r ⊎ around r) c × TodoFits p around todo
 TodoFits p around (leave q ∷ todo) = TodoFits p around todo
 
--- so does each frame in those of the frames below it
+-- so does each frame in what its procedure sets up, and in what the frames below it hold
 abbrev pub FramesFit : Program → (ResId → Type 0) → List Frame → Type 0
 FramesFit p around [] = Unit {0}
-FramesFit p around (f ∷ frames) = TodoFits p (λ r. AnyLeaves frames r ⊎ around r) f.todo × FramesFit p around frames
+FramesFit p around (f ∷ frames) =
+    TodoFits p (λ r. SetsUp p f.fixed.procedure r ⊎ (AnyHolds p frames r ⊎ around r)) f.todo
+    × FramesFit p around frames
 
--- and each task in those of the tasks that wait for it
+-- and each task in what the tasks hold that wait for it
 abbrev pub TaskFits : Program → (ResId → Type 0) → Task → Type 0
 TaskFits p around (runs frames) = FramesFit p around frames
 TaskFits p around (waits frames one two) = FramesFit p around frames
-    × TaskFits p (λ r. AnyLeaves frames r ⊎ around r) one × TaskFits p (λ r. AnyLeaves frames r ⊎ around r) two
+    × TaskFits p (λ r. AnyHolds p frames r ⊎ around r) one × TaskFits p (λ r. AnyHolds p frames r ⊎ around r) two
+
+-- a call of the procedure that sets the resources up may enter none
+abbrev pub SetterTakesNone : Program → Type 0
+SetterTakesNone p = (f : ProcId) (r s : ResId) → SetsUp p f r → Takes p f s → ⊥

@@ -1,6 +1,15 @@
 -- Lemmas on proofs, rows and levels that the proofs of the crates above cite. Each states what it says;
 -- none is a definition.
 -- Ordinary: proofs are finite trees, and those of a list of goals are those of its parts.
+pub mod CommandChildren
+pub mod Existentials
+pub mod FewNew
+pub mod FirstVariables
+pub mod Forms
+pub mod FreshVariables
+pub mod StateChildren
+pub mod Subtracting
+pub mod VariableTerms
 use Rattle.std.proofs.Common.{◌≡◌, ℕ, Bool, true, false, cond, nat_lt, Option, Some, None, List, [], ◌∷◌, ◌++◌, map, refl, sym, ap, ◌∙◌, subst, append_assoc}
 use Rattle.sf_core.specs.declared.assertion.Conjunct.TheFolds.{fold_out-Level}
 use Rattle.sf_core.specs.declared.assertion.Level.{Level as CodeLevel, out-Level}

@@ -1,6 +1,6 @@
 -- Laws that join what files are read as with what is written of their runs and of their proofs.
 -- Ordinary: what is printed of what was read is read again, as of any printer and its parser.
-use Rattle.std.specs.Prelude.{◌≡◌, ◌≤◌, ℕ, true, List, Some, Contains, length, slice_get}
+use Rattle.std.specs.Prelude.{◌≡◌, ◌≤◌, ℕ, Bool, true, List, Some, Contains, length, slice_get}
 use Rattle.std.specs.FinMap.{get, len}
 use Rattle.std.specs.List.{AllByRecursion, range_with_len}
 use Rattle.sf_ast.specs.Surface.{Item}
@@ -52,9 +52,9 @@ WrittenStatesOfFilesReadBack = (bytes : List ℕ) (tokens : List Token) (tree : 
 -- it has a value for each variable, and its cells have one for each field
 unfoldable pub FinishesOfFilesReadBack : Type 0
 FinishesOfFilesReadBack = (bytes : List ℕ) (tokens : List Token) (tree : List Item) (p : Program) (f : ProcId)
-    (g : Procedure) (vars : Vars) (heap : Cells) (base count : ℕ) (finish : Finish) (text : List ℕ)
-    → AreTokens bytes tokens → IsFile tokens tree → Elaborates bytes tree p
-    → slice_get p.procedures f.0 ≡ Some g → EndsWith p f vars heap base count finish
+    (g : Procedure) (fresh : Bool) (vars : Vars) (heap : Cells) (base count : ℕ) (finish : Finish)
+    (text : List ℕ) → AreTokens bytes tokens → IsFile tokens tree → Elaborates bytes tree p
+    → slice_get p.procedures f.0 ≡ Some g → EndsWith p f fresh vars heap base count finish
     → AreWithinLimits finish.vars finish.heap → IsFinishText p g finish.vars finish.heap text
     → ReadsBack p g finish.vars finish.heap text
 

@@ -1,5 +1,4 @@
--- Suits: how a goal and what there is to do suit a frame: it has the variables and tokens that they speak of, and the
--- goal has the shape that every row keeps.
+-- Suits: how a goal and what there is to do suit a frame: it has the variables and tokens that they speak of.
 -- This project's own profile; the variable conditions are those of Berdine, Calcagno, O'Hearn, "Smallfoot" (2005).
 use Rattle.std.specs.Prelude.{◌≡◌, ◌↔◌, ℕ, ◌+◌, ◌<◌, ◌==◌, nat_lt, Bool, true, false, ◌&&◌, ◌||◌, not, is_some, List, [], ◌∷◌, length, Some, Contains}
 use Rattle.std.specs.List.{AllByRecursion, slice_get}
@@ -24,16 +23,13 @@ use Rattle.sf_core.specs.declared.command.Expr.TheVariants.{Var as Variable, Nil
 use Rattle.sf_core.specs.Machine.Step.{procedure_at}
 use Rattle.sf_core.specs.Program.Syntax.{Assertion, Block, done, then, Call, Command, assign, look_up, mutate, new, dispose, if, while, call, fork, with, Procedure, Resource}
 use Rattle.sf_rules.specs.Setting.{Setting}
-use Rattle.sf_rules.specs.First.{links_of}
-use Rattle.sf_rules.specs.Words.{pending_assertion}
 use Rattle.sf_safe.specs.Checked.Local.{Fits, Local}
 use Rattle.sf_sound.specs.Checked.Claims.{Does}
 use Rattle.sf_sym.specs.declared.term.Term.{Term}
-use Rattle.sf_sym.specs.Formed.{IsScoped, PendingFormed}
 use Rattle.sf_sym.specs.Goal.{Item, run, add, take, gave, head, again, exit, return, end, Goal}
 use Rattle.sf_sym.specs.HoldsIn.{HoldsIn}
 use Rattle.sf_sym.specs.Ready.{is_listed}
-use Rattle.sf_sym.specs.Shape.{HasShape}
+use Rattle.sf_sym.specs.State.{State}
 
 -- Domain: the variables and tokens that a frame has
 pub record Domain : Type 0 where
@@ -90,18 +86,15 @@ ReadsTest D (Differ x y) = Reads D x × Reads D y
 abbrev pub ReadsAll : Domain → List Expr → Type 0
 ReadsAll D es = AllByRecursion (Reads D) es
 
--- an assertion speaks of these variables alone, and of no existential but its own, and its conjuncts may stand in a
--- goal
-pub record IsPlain (d : Setting) (V : Var → Type 0) (a : Assertion) : Type 0 where
+-- an assertion speaks of these variables alone, and of no existential but its own
+pub record IsPlain (V : Var → Type 0) (a : Assertion) : Type 0 where
   pub variables : (x : Var) → VarOccursIn a.level x → V x
   pub closed : (n : ℕ) → OccursIn a.level (Exists n) → ⊥
-  pub formed : (to : Expr → Term) → PendingFormed (links_of d.program) (pending_assertion to a)
-      × IsScoped (pending_assertion to a)
 
 -- an annotation may be used where one has these variables: in its order it is such an assertion and means the same,
 -- and it picks out one part of each heap
 pub record IsUsable (d : Setting) (V : Var → Type 0) (a : Assertion) : Type 0 where
-  pub plain : IsPlain d V (d.ordered a)
+  pub plain : IsPlain V (d.ordered a)
   pub means : (vars : Var → Value) (heap : Heap) → Sat a.level (value vars) (λ n. nil) heap
       ↔ Sat (d.ordered a).level (value vars) (λ n. nil) heap
   pub precise : (vars : Var → Value) → IsPrecise (Sat a.level (value vars) (λ n. nil))
@@ -170,14 +163,16 @@ TodoSuits d D (again q invariant ∷ rest) = IsUsable d (λ x. D.has x ≡ true)
 TodoSuits d D (exit q r ∷ rest) =
     (s : ResourceSuits d r) × HasResource r (length s.resource.variables) D
     × TodoSuits d (without_resource r (length s.resource.variables) D) rest
-TodoSuits d D (return q owed ∷ rest) = AllByRecursion (IsPlain d (λ x. D.has x ≡ true)) owed
+TodoSuits d D (return q owed ∷ rest) = AllByRecursion (IsPlain (λ x. D.has x ≡ true)) owed
 TodoSuits d D (end q ∷ rest) = Unit {0}
+
+-- each variable of the frame has a term in the state
+abbrev pub IsListed : Domain → State → Type 0
+IsListed D s = (x : Var) → D.has x ≡ true → is_listed s.vars x ≡ true
 
 -- a goal suits a frame with these variables
 pub record Suits (d : Setting) (D : Domain) (goal : Goal) : Type 0 where
-  pub shape : HasShape goal
-  pub links : goal.state.links ≡ links_of d.program
-  pub listed : (x : Var) → D.has x ≡ true → is_listed goal.state.vars x ≡ true
+  pub listed : IsListed D goal.state
   pub todo : TodoSuits d D goal.todo
 
 -- Claim: wherever the goal holds of a frame that it suits, the frame does what there is to do

@@ -10,6 +10,7 @@ returns c = some-run (record {
   sound = c.proofs_are_sound.ensures;
   entries = c.entry_exists.ensures;
   decided = c.sequential_is_decided.ensures;
+  inits = c.init_sequential_is_decided.ensures;
   starts = c.start_exists.ensures;
   outcomes = c.starts_have_one_outcome.ensures;
   beginnings = c.beginnings_are_starts.ensures;

@@ -1,16 +1,16 @@
-use Rattle.std.proofs.Common.{◌<◌, ◌∙◌, ℕ, arith, subst, sym}
-use Rattle.sf_cli.proofs.Accepted.{accepted-names, accepted-reply, accepting-small}
+use Rattle.std.proofs.Common.{◌∙◌, ℕ, arith, inl, subst, sym}
+use Rattle.sf_cli.proofs.Accepted.{accepted-names, accepted-reply, accepting-said}
 use Rattle.sf_cli.proofs.Complete.{complete-reply, complete-status}
 use Rattle.sf_cli.proofs.Endings.{ended-reply}
-use Rattle.sf_cli.specs.Answer.{Accepted}
+use Rattle.sf_cli.specs.Answer.{Accepted, IsAnswering, IsSaid}
 use Rattle.sf_cli.specs.SoundFile.{IsAccepting}
 use Rattle.sf_words.specs.Words.{order_of}
 use Rattle.sf_words.specs.WordsOf.{words_of}
 use Rattle.sf_cli.proofs.top.smallfoot.Goals as goal
 
 pub returns-in-Ok-clause-accepted : goal.returns-in-Ok-clause-accepted
-returns-in-Ok-clause-accepted g c = λ accepting.
-    let small : c.tell.result < 8 = accepting-small c.tell.result accepting in
+returns-in-Ok-clause-accepted g c = λ asks accepting.
+    let small : IsSaid c.tell.result = accepting-said c.tell.result accepting in
     let whole = c.tell.ensures.whole small in (
       c.in-Ok.said.text.items,
       whole.1,
@@ -19,12 +19,12 @@ returns-in-Ok-clause-accepted g c = λ accepting.
           (accepted-reply c.accepted_files_are_sound.ensures c.accepted_proofs_are_sound.ensures
           c.accepted_runs_are_sound.ensures (g.S.Shelf.files c.args.shelf.now) (g.S.Shelf.faults c.args.shelf.now)
           (g.S.Shelf.faults c.respond.new.shelf) (words_of c.args.words.now) c.in-Ok.said.text.items
-          c.in-Ok.said.status (subst IsAccepting whole.0 accepting) c.in-Ok.ensures.said),
+          c.in-Ok.said.status asks (subst IsAccepting whole.0 accepting) c.in-Ok.ensures.said),
     )
 
 pub returns-in-Ok-clause-ended : goal.returns-in-Ok-clause-ended
 returns-in-Ok-clause-ended g c = λ zero.
-    let small : c.tell.result < 8 = omega (arith, zero) in
+    let small : IsSaid c.tell.result = inl (inl (omega (arith, zero))) in
     let whole = c.tell.ensures.whole small in (
       c.in-Ok.said.text.items,
       whole.1,
@@ -35,7 +35,7 @@ returns-in-Ok-clause-ended g c = λ zero.
 
 pub returns-in-Ok-clause-complete : goal.returns-in-Ok-clause-complete
 returns-in-Ok-clause-complete g c = λ shelf sink.
-    let small : c.in-Ok.said.status < 7 =
+    let small : IsAnswering c.in-Ok.said.status =
     complete-reply (g.S.Shelf.files c.args.shelf.now) (g.S.Shelf.faults c.args.shelf.now)
     (g.S.Shelf.faults c.respond.new.shelf) (order_of (words_of c.args.words.now)) c.in-Ok.said.text.items
     c.in-Ok.said.status c.in-Ok.ensures.said shelf in
@@ -44,17 +44,16 @@ returns-in-Ok-clause-complete g c = λ shelf sink.
 
 pub returns-in-Ok-clause-quiet : goal.returns-in-Ok-clause-quiet
 returns-in-Ok-clause-quiet g c = λ less.
-    let small : c.tell.result < 8 = omega (arith, less) in
-    let whole = c.tell.ensures.whole small in
-    c.in-Ok.ensures.quiet (subst (λ (n : ℕ). n < 7) whole.0 less)
+    let whole = c.tell.ensures.whole (inl less) in
+    c.in-Ok.ensures.quiet (subst IsAnswering whole.0 less)
 
 pub returns-in-Ok-clause-sound : goal.returns-in-Ok-clause-sound
-returns-in-Ok-clause-sound g c = λ accepting.
-    let small : c.tell.result < 8 = accepting-small c.tell.result accepting in
+returns-in-Ok-clause-sound g c = λ asks accepting.
+    let small : IsSaid c.tell.result = accepting-said c.tell.result accepting in
     let whole = c.tell.ensures.whole small in
     accepted-names (g.S.Shelf.files c.args.shelf.now) (words_of c.args.words.now) c.in-Ok.said.text.items
     c.in-Ok.said.status
     (accepted-reply c.accepted_files_are_sound.ensures c.accepted_proofs_are_sound.ensures
     c.accepted_runs_are_sound.ensures (g.S.Shelf.files c.args.shelf.now) (g.S.Shelf.faults c.args.shelf.now)
     (g.S.Shelf.faults c.respond.new.shelf) (words_of c.args.words.now) c.in-Ok.said.text.items
-    c.in-Ok.said.status (subst IsAccepting whole.0 accepting) c.in-Ok.ensures.said)
+    c.in-Ok.said.status asks (subst IsAccepting whole.0 accepting) c.in-Ok.ensures.said)

@@ -1,7 +1,8 @@
 use Rattle.std.proofs.Common.{◌≡◌, length}
 use Rattle.std.specs.Option.{option_map}
 use Rattle.sf_consume.specs.Checked.Fits.{latest}
-use Rattle.sf_consume.specs.Checked.Meeting.{met_term, terms_of}
+use Rattle.sf_consume.specs.Checked.Meeting.{terms_of}
+use Rattle.sf_consume.specs.Misfit.{met_term}
 use Rattle.sf_consume.proofs.meeting.latest.Given as goal
 
 abbrev pub invariant-loop-change : goal.invariant-loop-change

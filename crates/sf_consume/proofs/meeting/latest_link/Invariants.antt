@@ -1,6 +1,7 @@
 use Rattle.std.proofs.Common.{◌≡◌, ◌+◌, length}
 use Rattle.std.specs.Option.{option_map}
-use Rattle.sf_consume.specs.Checked.Meeting.{latest_link, met_term}
+use Rattle.sf_consume.specs.Checked.Meeting.{latest_link}
+use Rattle.sf_consume.specs.Misfit.{met_term}
 use Rattle.sf_consume.proofs.meeting.latest_link.Given as goal
 
 abbrev pub invariant-loop-link : goal.invariant-loop-link

@@ -1,7 +1,7 @@
 use Rattle.std.proofs.Common.{◌≢◌, ◌+◌, arith}
 use Rattle.sf_order.specs.Nests.{IsPair}
 use Rattle.sf_order.specs.Rank.{rank_in}
-use Rattle.sf_order.proofs.Rising.{rise-ends, rise-first, rise-goes_on, rise-high, rise-second, rise-smaller, rise-starts}
+use Rattle.sf_order.proofs.Rising.{rise-ends, rise-first, rise-goes_on, rise-high, rise-low, rise-second, rise-smaller, rise-starts}
 use Rattle.sf_order.proofs.ranked.rank.Goals as goal
 
 pub loop-r-init : goal.loop-r-init
@@ -40,6 +40,9 @@ loop-r-preserved c =
     (rise-goes_on c.args.n c.args.pairs.now c.requires c.loop-r.ranks c.loop-r.invariant c.in-Err.r c.in-Err.s
     c.in-Err.ensures low)
 
-pub returns : goal.returns
-returns c =
+pub returns-clause-answer : goal.returns-clause-answer
+returns-clause-answer c =
     rise-ends c.args.n c.args.pairs.now c.requires c.loop-r.ranks c.loop-r.invariant c.in_default.ensures
+
+pub returns-clause-low : goal.returns-clause-low
+returns-clause-low c = rise-low (IsPair c.args.pairs.now) c.args.n c.loop-r.ranks c.loop-r.invariant

@@ -1,4 +1,4 @@
-use Rattle.std.proofs.Common.{◌≡◌, None, is_some, true, ap, sym, ◌∙◌}
+use Rattle.std.proofs.Common.{is_some, ap, sym, ◌∙◌}
 use Rattle.sf_search.proofs.verdicts.follow.Goals as goal
 
 -- the tag has a row

@@ -1,10 +1,11 @@
-use Rattle.std.proofs.Common.{◌≡◌, ◌<◌, Some, length, subst, sym}
+use Rattle.std.proofs.Common.{◌≡◌, ◌<◌, length, subst, sym}
 use Rattle.std.proofs.lemmas.Result.{IfErr-weaker, IfOk-weaker}
 use Rattle.std.specs.List.{slice_get}
 use Rattle.sf_rules.specs.First.{first_goal}
 use Rattle.sf_search.proofs.Judging.{setting_length}
 use Rattle.sf_search.proofs.Leading.{at_index, some_at, some_weaker}
-use Rattle.sf_search.specs.Checked.ShapeLaws.{ArrangedIsSetUp, GoalsHaveShape, IsSetUp, KeepsShape}
+use Rattle.sf_rules.specs.Checked.LawsOfShape.{IsSetUp}
+use Rattle.sf_search.specs.Checked.ShapeLaws.{ArrangedIsSetUp, GoalsHaveShape, KeepsShape}
 use Rattle.sf_search.specs.Ends.{EndsAs}
 use Rattle.sf_search.specs.Judge.{Search, proved}
 use Rattle.sf_sym.specs.Goal.{goal_of}

@@ -22,6 +22,8 @@ returns c = proofs_are_sound (record {
     subtraction_law = c.subtraction_leaves_rest.ensures;
     shown_branch_law = c.shown_branch_leaves_rest.ensures;
   };
+  first = c.first_goals_are_shaped.ensures;
+  keep = c.rows_keep_shape.ensures;
   safe = c.locally_safe_programs_are_sound.ensures;
   breaches = c.first_breach_is_broken.ensures;
   changes = c.changes_are_assigned.ensures;

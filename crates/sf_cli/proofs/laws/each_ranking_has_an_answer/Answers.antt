@@ -1,0 +1,7 @@
+use Rattle.sf_cli.proofs.Rankings.{ranking-some}
+use Rattle.sf_cli.proofs.laws.each_ranking_has_an_answer.Goals as goal
+
+pub returns : goal.returns
+returns c =
+    ranking-some c.each_file_has_an_answer.ensures c.each_file_is_shallow.ensures c.elaborated_is_formed.ensures
+    c.each_program_is_ordered.ensures c.resources_are_listed_once.ensures

@@ -1,0 +1,48 @@
+//! In-place reversal of a list.
+
+/// The file, and the answer to it.
+pub const FILE: (&[u8], &str) = (
+    b"/* expect: accepted */
+/* In-place reversal of a list; the value parameter is assigned, so the body works on a fresh local. */
+reverse(o; i) [list(i)] {
+  local t;
+  o = nil;
+  while (i != nil) [list(o) * list(i)] {
+    t = i->tl;
+    i->tl = o;
+    o = i;
+    i = t;
+  }
+} [list(o)]
+",
+    "accepted
+procedure reverse
+add
+assign
+assign
+loop
+empty
+exact 1
+around
+add
+add
+add
+unroll 3
+look 4
+mutate 4
+assign
+assign
+again
+head 4
+exact 2
+exact 5
+end
+add
+add
+add
+drop 3
+return
+exact 2
+end
+",
+);

@@ -1,0 +1,56 @@
+-- The variables of a first state: symbols for parameters and nils for locals are in order.
+-- Names: `LIST-all` of what is so of each variable, `LIST-order`.
+use Rattle.std.specs.List.{AllByRecursion}
+use Rattle.std.proofs.Common.{◌≡◌, ℕ, zero, suc, ◌+◌, ◌<◌, ◌≤◌, true, ◌++◌, subst, arith}
+use Rattle.std.proofs.lemmas.Bool.Decides.{nat_tests}
+use Rattle.sf_base.proofs.Elements.{all_by-append}
+use Rattle.sf_base.specs.declared.ids.Var.{Var}
+use Rattle.sf_base.specs.declared.ids.Var.TheVariants.{Own}
+use Rattle.sf_rules.specs.First.{nils, symbols}
+use Rattle.sf_sym.specs.declared.term.Term.{Term}
+use Rattle.sf_sym.specs.declared.term.Term.TheVariants.{Nil, Sym}
+use Rattle.sf_sym.specs.Ready.{AreInOrder}
+use Rattle.sf_sym.specs.Variables.{comes_before}
+
+-- OWN VARIABLES
+module _ (P : Var × Term → Type 0) where
+  pub symbols-all : (from count : ℕ) → ((i : ℕ) → from ≤ i → i < from + count → P (Own i, Sym i))
+      → AllByRecursion P (symbols from count)
+  symbols-all from zero h = tt
+  symbols-all from (suc count) h = (
+    h from (omega arith) (omega arith),
+    symbols-all (suc from) count (λ i a b. h i (omega (arith, a)) (omega (arith, b))),
+  )
+
+  pub nils-all : (from count : ℕ) → ((i : ℕ) → from ≤ i → i < from + count → P (Own i, Nil))
+      → AllByRecursion P (nils from count)
+  nils-all from zero h = tt
+  nils-all from (suc count) h = (
+    h from (omega arith) (omega arith),
+    nils-all (suc from) count (λ i a b. h i (omega (arith, a)) (omega (arith, b))),
+  )
+
+-- in order
+own-before : (i j : ℕ) → i < j → comes_before (Own i) (Own j) ≡ true
+own-before i j l = grind (arith, nat_tests, l)
+
+nils-order : (from count : ℕ) → AreInOrder (nils from count)
+nils-order from zero = tt
+nils-order from (suc count) = (
+  nils-all (λ (v : Var × Term). comes_before (Own from) v.0 ≡ true) (suc from) count
+      (λ i a b. own-before from i (omega (arith, a))),
+  nils-order (suc from) count,
+)
+
+pub symbols-order : (from count rest : ℕ) → AreInOrder (symbols from count ++ nils (from + count) rest)
+symbols-order from zero rest = nils-order (from + 0) rest
+symbols-order from (suc count) rest = (
+  all_by-append (λ (v : Var × Term). comes_before (Own from) v.0 ≡ true) (symbols (suc from) count)
+      (nils (from + suc count) rest)
+      (symbols-all (λ (v : Var × Term). comes_before (Own from) v.0 ≡ true) (suc from) count
+      (λ i a b. own-before from i (omega (arith, a))))
+      (nils-all (λ (v : Var × Term). comes_before (Own from) v.0 ≡ true) (from + suc count) rest
+      (λ i a b. own-before from i (omega (arith, a)))),
+  subst (λ k. AreInOrder (symbols (suc from) count ++ nils k rest))
+      (let e : suc from + count ≡ from + suc count = omega arith in e) (symbols-order (suc from) count rest),
+)
