@@ -1,7 +1,8 @@
 -- The order of things, and which of the code's things are one.
 -- Names: `thing-LAW` of the order, `same-LAW` of being one.
-use Rattle.std.specs.Prelude.{◌≡◌, ℕ, ◌==◌, ◌&&◌, ◌||◌, nat_lt, Bool, true, false}
-use Rattle.std.proofs.Common.{true≢false, sym, ap, ap₂, refl, arith}
+use Rattle.std.specs.Prelude.{◌≡◌, ◌⊎◌, ℕ, ◌==◌, ◌&&◌, ◌||◌, nat_lt, Bool, true, false}
+use Rattle.std.proofs.Common.{true≢false, sym, ap, ap₂, refl, inl, inr, arith}
+use Rattle.std.proofs.lemmas.Bool.{cases_lt}
 use Rattle.std.proofs.lemmas.Bool.Decides.{nat_tests}
 use Rattle.sf_base.specs.declared.ids.Thing.{Thing as CodeThing}
 use Rattle.sf_base.specs.declared.ids.Thing.TheVariants.{Shared, Own, At}
@@ -104,3 +105,58 @@ same-false (At l) (Own t) h e = let k : 2 ≡ 1 = ap kind_of e in absurd (omega 
 same-false (At l) (At m) h e =
     let a : l ≡ m = ap slot_event e in
     grind (arith, nat_tests)
+
+-- of two pairs of numbers that aren't one, one comes first
+lex-either : (a i b j : ℕ) → ((a ≡ b) × (i ≡ j)) ⊎ (((nat_lt a b || ((a == b) && nat_lt i j)) ≡ true)
+    ⊎ ((nat_lt b a || ((b == a) && nat_lt j i)) ≡ true))
+lex-either a i b j = elim (cases_lt a b) [
+  | inl h ↦ inr (inl (grind (arith, nat_tests)))
+  | inr k ↦ elim (cases_lt b a) [
+    | inl h ↦ inr (inr (grind (arith, nat_tests)))
+    | inr l ↦
+        let e : a ≡ b = omega (arith, k, l) in
+        elim (cases_lt i j) [
+          | inl h ↦ inr (inl (grind (arith, nat_tests)))
+          | inr m ↦ elim (cases_lt j i) [
+            | inl h ↦ inr (inr (grind (arith, nat_tests)))
+            | inr n ↦ let f : i ≡ j = omega (arith, m, n) in inl (e, f)
+          ]
+        ]
+  ]
+]
+
+-- of two things that aren't one, one comes first
+pub thing-either : (s t : Thing) → (s ≡ t) ⊎ ((thing_before s t ≡ true) ⊎ (thing_before t s ≡ true))
+thing-either (variable (shared r i)) (variable (shared s j)) = elim (lex-either r.0 i s.0 j) [
+  | inl e ↦ inl (ap₂ (λ (a : ℕ) (b : ℕ). variable (shared (record { 0 = a }) b)) e.0 e.1)
+  | inr h ↦ inr h
+]
+thing-either (variable (shared r i)) (variable (own f j)) = inr (inl refl)
+thing-either (variable (own e i)) (variable (shared s j)) = inr (inr refl)
+thing-either (variable (own e i)) (variable (own f j)) = elim (lex-either e i f j) [
+  | inl e ↦ inl (ap₂ (λ (a : ℕ) (b : ℕ). variable (own a b)) e.0 e.1)
+  | inr h ↦ inr h
+]
+thing-either (variable s) (cell m) = inr (inl refl)
+thing-either (cell l) (variable t) = inr (inr refl)
+thing-either (cell l) (cell m) = elim (cases_lt l m) [
+  | inl h ↦ inr (inl (grind (arith, nat_tests)))
+  | inr k ↦ elim (cases_lt m l) [
+    | inl h ↦ inr (inr (grind (arith, nat_tests)))
+    | inr n ↦ let e : l ≡ m = omega (arith, k, n) in inl (ap cell e)
+  ]
+]
+
+-- things of the code that stand for one are one
+pub thing-same : (x y : CodeThing) → thing_of x ≡ thing_of y → x ≡ y
+thing-same (Shared r i) (Shared s j) e =
+    ap₂ (λ (a : ℕ) (b : ℕ). Shared (record { 0 = a }) b) (ap slot_event e) (ap slot_index e)
+thing-same (Shared r i) (Own t) e = let k : 0 ≡ 1 = ap kind_of e in absurd (omega (arith, k))
+thing-same (Shared r i) (At m) e = let k : 0 ≡ 2 = ap kind_of e in absurd (omega (arith, k))
+thing-same (Own s) (Shared r j) e = let k : 1 ≡ 0 = ap kind_of e in absurd (omega (arith, k))
+thing-same (Own s) (Own t) e =
+    ap₂ (λ (a : ℕ) (b : ℕ). Own (record { event = a; index = b })) (ap slot_event e) (ap slot_index e)
+thing-same (Own s) (At m) e = let k : 1 ≡ 2 = ap kind_of e in absurd (omega (arith, k))
+thing-same (At l) (Shared r j) e = let k : 2 ≡ 0 = ap kind_of e in absurd (omega (arith, k))
+thing-same (At l) (Own t) e = let k : 2 ≡ 1 = ap kind_of e in absurd (omega (arith, k))
+thing-same (At l) (At m) e = ap At (ap slot_event e)

@@ -4,3 +4,4 @@ pub mod Looks
 pub mod Going
 pub mod Taking
 pub mod Turns
+pub mod Laws

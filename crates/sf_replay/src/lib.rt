@@ -12,6 +12,7 @@
 //! - `found`: what is found, and why nothing is.
 //! - `badness`: the first task at an absent cell, and the first race.
 //! - `replaying`: what comes of a schedule.
+//! - `laws`: that it is one thing.
 //!
 //! `specs/` says which path and which thing comes first (Order), what is named of a configuration
 //! that is bad (FirstBad), what comes of a list of events (Replays), and what a text gives
@@ -20,6 +21,7 @@
 
 mod badness;
 mod found;
+pub mod laws;
 pub mod limits;
 mod look;
 mod naming;
