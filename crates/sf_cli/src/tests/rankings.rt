@@ -1,7 +1,7 @@
 //! Files whose resources are ranked, and what is said of them, worked out by hand.
 
 /// Files, what `order` says of them, and its status.
-pub const RANKINGS: [(&str, &str, u8); 17] = [
+pub const RANKINGS: [(&str, &str, u8); 19] = [
     // The one inside the other
     (
         "resource a (v) []
@@ -131,6 +131,92 @@ h() { with b when (true) { with a when (true) { } } }",
         "resource a (v) []
 f(x) { dispose(x); }",
         "order\n0 a\n",
+        0,
+    ),
+    // Two of another implementation's
+    (
+        "tl, l, r, pv;
+resource r (v) [emp]
+f(x; y) [emp] {
+  with r when (true) {
+    {
+      v = y;
+    }
+  }
+  x = y;
+} [emp]
+g(x; y) [emp] {
+  f(x; y);
+  f(y; x);
+} [emp]
+",
+        "order\n0 r\n",
+        0,
+    ),
+    (
+        "tl, l, r, pv;
+resource g (k) [k|->tl:_n * ls(_n,nil)]
+resource h (u, v) [(if u == v then emp else u|->tl:v)]
+add(; x) [x|->] {
+  local n;
+  with g when (true) {
+    {
+      n = k->tl;
+      x->tl = n;
+      k->tl = x;
+    }
+  }
+} [emp]
+cut(x; ) [emp] {
+  local n;
+  with g when (true) {
+    {
+      x = k->tl;
+      if (x != nil) {
+        {
+          n = x->tl;
+          k->tl = n;
+        }
+      } else {
+      }
+    }
+  }
+} [(if x == nil then emp else x|->)]
+get(x; ) [emp] {
+  with h when (u != v) {
+    {
+      x = u;
+      u = v;
+    }
+  }
+} [x|->]
+mix(a, b; ) [emp] {
+  local c;
+  c = new();
+  cut(a; ) || cut(b; );
+  add(; c);
+  if (a != nil) {
+    {
+      dispose(a);
+      a = nil;
+    }
+  } else {
+  }
+  if (b != nil) {
+    {
+      dispose(b);
+      b = nil;
+    }
+  } else {
+  }
+} [a == nil * b == nil]
+inner(p; ) [ls(u,nil)] {
+  local t;
+  p = u;
+  u = nil;
+} [ls(p,nil)]
+",
+        "order\n0 g\n0 h\n",
         0,
     ),
     // Nothing to rank
