@@ -1,5 +1,5 @@
--- The machine: its configurations and steps, what is bad, where a procedure starts, what is good, and runs whose
--- events take their numbers from supplies.
+-- The machine: its configurations and steps, what is bad, where a procedure starts, what is good, runs whose events
+-- take their numbers from supplies, and the parts that make a configuration up.
 -- One module for each.
 pub mod Config
 pub mod Next
@@ -16,3 +16,4 @@ pub mod Numbered
 pub mod SpentSteps
 pub mod SpentWaits
 pub mod Alone
+pub mod Whole

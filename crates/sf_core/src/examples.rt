@@ -4,3 +4,4 @@ pub mod assertions;
 pub mod machine;
 pub mod numbered;
 pub mod setting_up;
+pub mod whole;

@@ -7,3 +7,4 @@ pub mod Starts
 pub mod Numbers
 pub mod Commute
 pub mod SettingUp
+pub mod Whole

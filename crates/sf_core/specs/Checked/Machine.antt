@@ -5,3 +5,4 @@ pub mod InOrder
 pub mod Laws
 pub mod NumberedExamples
 pub mod SettingUp
+pub mod WholeExamples
