@@ -1,0 +1,37 @@
+-- The law of parts, case by case.
+-- Names: each lemma has the name of the law's function.
+use Rattle.sf_part.specs.Checked.Laws.{ContentsInAnyOrder, EntriesAreSteps, ExitsAreSteps, ForksAreSteps, JoinsAreSteps, PartsInAnyOrder, PrivateEventsAreSteps}
+use Rattle.sf_part.proofs.Forks.{forks-step, joins-step}
+use Rattle.sf_part.proofs.Private.{privates-reach}
+use Rattle.sf_part.proofs.Regions.{entries-step, exits-step}
+use Rattle.sf_part.proofs.Order.{whole-focus, whole-focus_content, whole-unfocus, whole-unfocus_content}
+
+pub parts_in_any_order : PartsInAnyOrder
+unfolding PartsInAnyOrder
+parts_in_any_order before after a contents c =
+    (λ w. whole-focus before after a contents c w, λ w. whole-unfocus before after a contents c w)
+
+pub contents_in_any_order : ContentsInAnyOrder
+unfolding ContentsInAnyOrder
+contents_in_any_order parts before after k c =
+    (λ w. whole-focus_content parts before after k c w, λ w. whole-unfocus_content parts before after k c w)
+
+pub private_events_are_steps : PrivateEventsAreSteps
+unfolding PrivateEventsAreSteps
+private_events_are_steps = privates-reach
+
+pub entries_are_steps : EntriesAreSteps
+unfolding EntriesAreSteps
+entries_are_steps = entries-step
+
+pub exits_are_steps : ExitsAreSteps
+unfolding ExitsAreSteps
+exits_are_steps = exits-step
+
+pub forks_are_steps : ForksAreSteps
+unfolding ForksAreSteps
+forks_are_steps = forks-step
+
+pub joins_are_steps : JoinsAreSteps
+unfolding JoinsAreSteps
+joins_are_steps = joins-step

@@ -1,0 +1,10 @@
+pub mod Unions
+pub mod Supplies
+pub mod Order
+pub mod Trees
+pub mod Acts
+pub mod Beside
+pub mod Private
+pub mod Regions
+pub mod Forks
+pub mod Law

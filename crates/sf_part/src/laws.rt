@@ -1,0 +1,57 @@
+//! The law of parts: from parts and contents that are a configuration, an event of one part is a
+//! step of the machine, and they are a configuration again, whatever the other parts and contents
+//! are. Each function is a law: calling it gives its fact to the caller's proof, and does nothing.
+
+ghost use Rattle.sf_part.specs.Checked.Laws.{
+  ContentsInAnyOrder,
+  EntriesAreSteps,
+  ExitsAreSteps,
+  ForksAreSteps,
+  JoinsAreSteps,
+  PartsInAnyOrder,
+  PrivateEventsAreSteps,
+};
+
+/// The order of the parts doesn't matter: each may come first.
+#[tactic(auto, using(crate::proofs::Law::parts_in_any_order))]
+pub fn parts_in_any_order()
+    ensures { PartsInAnyOrder }
+{}
+
+/// Nor does that of the contents.
+#[tactic(auto, using(crate::proofs::Law::contents_in_any_order))]
+pub fn contents_in_any_order()
+    ensures { ContentsInAnyOrder }
+{}
+
+/// Private events of a part, which are all but regions, parallel calls, joins and the return of the
+/// procedure that sets the resources up, are steps of every whole that the part belongs to.
+#[tactic(auto, using(crate::proofs::Law::private_events_are_steps))]
+pub fn private_events_are_steps()
+    ensures { PrivateEventsAreSteps }
+{}
+
+/// The entry of a region is a step of every whole that the part and the content belong to: the
+/// part has the content from then on.
+#[tactic(auto, using(crate::proofs::Law::entries_are_steps))]
+pub fn entries_are_steps()
+    ensures { EntriesAreSteps }
+{}
+
+/// The exit from a region is one: the content is left behind, among the others.
+#[tactic(auto, using(crate::proofs::Law::exits_are_steps))]
+pub fn exits_are_steps()
+    ensures { ExitsAreSteps }
+{}
+
+/// A parallel call is one: the two children's parts are there from then on.
+#[tactic(auto, using(crate::proofs::Law::forks_are_steps))]
+pub fn forks_are_steps()
+    ensures { ForksAreSteps }
+{}
+
+/// The join of two children that have ended is one: their parts are no more.
+#[tactic(auto, using(crate::proofs::Law::joins_are_steps))]
+pub fn joins_are_steps()
+    ensures { JoinsAreSteps }
+{}

@@ -1,0 +1,7 @@
+//! One task's part of a run: what its events do to it, and that they are steps of the whole that it
+//! belongs to. So far this is said alone, of parts as the definitions have them.
+//!
+//! - `laws`: the law of parts.
+#![tactic(auto)]
+
+pub mod laws;
