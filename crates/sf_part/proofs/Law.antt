@@ -1,7 +1,9 @@
 -- The law of parts, case by case.
 -- Names: each lemma has the name of the law's function.
-use Rattle.sf_part.specs.Checked.Laws.{ContentsInAnyOrder, EntriesAreSteps, ExitsAreSteps, ForksAreSteps, JoinsAreSteps, PartsInAnyOrder, PrivateEventsAreSteps}
+use Rattle.sf_part.specs.Checked.Laws.{ContentsInAnyOrder, EntriesAreSteps, EventsOfPartsDiffer, ExitsAreSteps, ForksAreSteps, JoinsAreSteps, NewCellsAreAbsent, PartsInAnyOrder, PrivateEventsAreSteps, SettlingIsAStep}
 use Rattle.sf_part.proofs.Forks.{forks-step, joins-step}
+use Rattle.sf_part.proofs.Numbers.{cells-absent, events-differ}
+use Rattle.sf_part.proofs.Settling.{settling-step}
 use Rattle.sf_part.proofs.Private.{privates-reach}
 use Rattle.sf_part.proofs.Regions.{entries-step, exits-step}
 use Rattle.sf_part.proofs.Order.{whole-focus, whole-focus_content, whole-unfocus, whole-unfocus_content}
@@ -35,3 +37,15 @@ forks_are_steps = forks-step
 pub joins_are_steps : JoinsAreSteps
 unfolding JoinsAreSteps
 joins_are_steps = joins-step
+
+pub settling_is_a_step : SettlingIsAStep
+unfolding SettlingIsAStep
+settling_is_a_step = settling-step
+
+pub events_of_parts_differ : EventsOfPartsDiffer
+unfolding EventsOfPartsDiffer
+events_of_parts_differ = events-differ
+
+pub new_cells_are_absent : NewCellsAreAbsent
+unfolding NewCellsAreAbsent
+new_cells_are_absent = cells-absent

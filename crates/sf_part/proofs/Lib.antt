@@ -6,5 +6,7 @@ pub mod Acts
 pub mod Beside
 pub mod Private
 pub mod Regions
+pub mod Settling
 pub mod Forks
+pub mod Numbers
 pub mod Law

@@ -38,7 +38,7 @@ count-other q (k ∷ contents) e =
     is_false false h = refl
 
 -- where all are of free resources, none is of one that is held
-count-held : (q : ResId) (path : Path) (s : Common) (contents : List Content) → s.held q ≡ Some path
+pub count-held : (q : ResId) (path : Path) (s : Common) (contents : List Content) → s.held q ≡ Some path
     → AllByRecursion (λ (k : Content). s.held k.resource ≡ None) contents → of_resource q contents ≡ 0
 count-held q path s [] e free = refl
 count-held q path s (k ∷ contents) e (f, free) =
@@ -81,7 +81,7 @@ exit-changes what q path x y (f, below, rest, is) h =
     let k = subst (λ z. HolderChanges path z x y) is h in (k.0, k.1)
 
 -- a part with a content in hand holds the same resources
-hand-holders : (a : Part) (k : Content) (both : Part) → HasInHand a k both → holders both ≡ holders a
+pub hand-holders : (a : Part) (k : Content) (both : Part) → HasInHand a k both → holders both ≡ holders a
 hand-holders a k both h = λ i. λ r. cond (h.holds i r) (Some (h.task i)) None
 
 -- the entry of a region by the first part, with the first content, is a step

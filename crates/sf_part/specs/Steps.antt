@@ -1,6 +1,7 @@
 -- The events of a part: steps of the machine on what the part has, each with the part's next unit as its number.
 -- O'Hearn (2007), Brookes (2007): a task acts on what it owns, and what is owned crosses at regions, forks and joins.
-use Rattle.std.specs.Prelude.{◌≡◌, ◌⊎◌, max, false, List, [], ◌∷◌, ◌++◌, length, Some}
+use Rattle.std.specs.Prelude.{◌≡◌, ◌⊎◌, ◌<◌, ℕ, suc, max, true, false, List, [], ◌∷◌, ◌++◌, length, Some}
+use Rattle.std.specs.List.{AllByRecursion}
 use Rattle.sf_base.specs.declared.ids.ResId.{ResId}
 use Rattle.sf_base.specs.declared.place.Place.{Place}
 use Rattle.sf_base.specs.declared.path.Turn.{Turn}
@@ -111,6 +112,40 @@ pub record Exits (p : Program) (event : Event) (before : TimedPart) (content : T
   pub spends : Spends event (next (runs frames)) before.part both
   pub notes : Notes before.clock before.log event before after
   pub stamp : content.stamp ≡ after.clock
+
+-- the next step is the return of the procedure that sets the resources up
+abbrev pub IsSettling : Program → Next → Type 0
+IsSettling p (does f below c rest) = ⊥
+IsSettling p (leaves f below r rest) = ⊥
+IsSettling p (returns f below) = sets_up p f.procedure ≡ true
+IsSettling p (joins frames one two) = ⊥
+IsSettling p nothing = ⊥
+
+-- the contents are those of the resources from that number on, in their order
+abbrev pub AreFrom : ℕ → List TimedContent → Type 0
+AreFrom number [] = Unit {0}
+AreFrom number (k ∷ contents) = (k.content.resource.0 ≡ number) × AreFrom (suc number) contents
+
+-- the part hands these contents out, one after the other, and the rest is left
+abbrev pub HandsOut : Part → List TimedContent → Part → Type 0
+HandsOut all [] rest = rest ≡ all
+HandsOut all (k ∷ contents) rest = (less : Part) × HasInHand less k.content all × HandsOut less contents rest
+
+-- Settles: that return, by a task that holds all resources of the program, which leaves the content of each
+pub record Settles (p : Program) (event : Event) (before : TimedPart) (contents : List TimedContent)
+    (after : TimedPart) : Type 0 where
+  pub all : Part
+  pub frames : List Frame
+  pub kept : List Frame
+  pub settling : IsSettling p (next (runs frames))
+  pub holds : (r : ResId) → r.0 < length p.resources → before.part.holds r ≡ true
+  pub acts : Acts p event before.part all (runs frames) (runs kept)
+  pub in_order : AreFrom 0 contents
+  pub each : length contents ≡ length p.resources
+  pub out : HandsOut all contents after.part
+  pub spends : Spends event (next (runs frames)) before.part all
+  pub notes : Notes before.clock before.log event before after
+  pub stamps : AllByRecursion (λ (k : TimedContent). k.stamp ≡ after.clock) contents
 
 -- a part's task is the child of another's at that turn, and holds no resource
 pub record IsChild (parent : Part) (turn : Turn) (child : Part) : Type 0 where

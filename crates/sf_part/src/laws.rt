@@ -5,11 +5,14 @@
 ghost use Rattle.sf_part.specs.Checked.Laws.{
   ContentsInAnyOrder,
   EntriesAreSteps,
+  EventsOfPartsDiffer,
   ExitsAreSteps,
   ForksAreSteps,
   JoinsAreSteps,
+  NewCellsAreAbsent,
   PartsInAnyOrder,
   PrivateEventsAreSteps,
+  SettlingIsAStep,
 };
 
 /// The order of the parts doesn't matter: each may come first.
@@ -54,4 +57,24 @@ pub fn forks_are_steps()
 #[tactic(auto, using(crate::proofs::Law::joins_are_steps))]
 pub fn joins_are_steps()
     ensures { JoinsAreSteps }
+{}
+
+/// The return of the procedure that sets the resources up is one, where nothing but resources of
+/// the program is held: the content of each is left behind.
+#[tactic(auto, using(crate::proofs::Law::settling_is_a_step))]
+pub fn settling_is_a_step()
+    ensures { SettlingIsAStep }
+{}
+
+/// Private events of two parts never have one number, whatever comes between them: no counter is
+/// shared.
+#[tactic(auto, using(crate::proofs::Law::events_of_parts_differ))]
+pub fn events_of_parts_differ()
+    ensures { EventsOfPartsDiffer }
+{}
+
+/// A cell that an event of a part makes is at a location that is absent from the whole heap.
+#[tactic(auto, using(crate::proofs::Law::new_cells_are_absent))]
+pub fn new_cells_are_absent()
+    ensures { NewCellsAreAbsent }
 {}

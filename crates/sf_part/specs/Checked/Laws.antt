@@ -1,13 +1,17 @@
 -- The law of parts: from parts and contents that are a configuration, an event of one of them is a step of the machine,
 -- and they are a configuration again, whatever the other parts and contents are.
 -- Yang and O'Hearn, "A Semantic Basis for Local Reasoning" (2002); Brookes (2007) for regions and parallel calls.
-use Rattle.std.specs.Prelude.{List, ◌∷◌, ◌++◌, ◌↔◌}
-use Rattle.sf_core.specs.Machine.Config.{Config}
+use Rattle.std.specs.Prelude.{◌≡◌, ◌<◌, ℕ, List, ◌∷◌, ◌++◌, ◌↔◌, length, map, Some, None}
+use Rattle.sf_base.specs.declared.ids.ResId.{ResId}
+use Rattle.sf_core.specs.Checked.Machine.Laws.{HasNumber, Makes}
+use Rattle.sf_core.specs.Machine.Config.{runs, Path, Config}
+use Rattle.sf_core.specs.Machine.Enabled.{cell}
+use Rattle.sf_core.specs.Machine.Next.{next}
 use Rattle.sf_core.specs.Machine.Reach.{Reach}
 use Rattle.sf_core.specs.Machine.Step.{Event, Step}
 use Rattle.sf_core.specs.Machine.Whole.{Part, Content, Whole}
 use Rattle.sf_core.specs.Program.Syntax.{Program}
-use Rattle.sf_part.specs.Steps.{Privates, Enters, Exits, Forks, Joins}
+use Rattle.sf_part.specs.Steps.{Private, Privates, Enters, Exits, Settles, Forks, Joins}
 use Rattle.sf_part.specs.Timed.{TimedPart, TimedContent}
 
 -- the order of the parts doesn't matter: each may come first
@@ -53,3 +57,26 @@ JoinsAreSteps = (p : Program) (event : Event) (a one two b : TimedPart) (before 
     (contents : List Content) (c : Config) → Joins p event a one two b
     → Whole (before ++ a.part ∷ one.part ∷ two.part ∷ after) contents c
     → (d : Config) × Step p event c d × Whole (before ++ b.part ∷ after) contents d
+
+-- the return of the procedure that sets the resources up is a step, which puts their contents before the others; nothing
+-- but resources of the program is held
+unfoldable pub SettlingIsAStep : Type 0
+SettlingIsAStep = (p : Program) (event : Event) (a b : TimedPart) (settled : List TimedContent)
+    (before after : List Part) (contents : List Content) (c : Config) → Settles p event a settled b
+    → ((r : ResId) (path : Path) → c.common.held r ≡ Some path → r.0 < length p.resources)
+    → Whole (before ++ a.part ∷ after) contents c
+    → (d : Config) × Step p event c d
+    × Whole (before ++ b.part ∷ after) (map (λ (k : TimedContent). k.content) settled ++ contents) d
+
+-- private events of two parts never have one number, whatever comes between them
+unfoldable pub EventsOfPartsDiffer : Type 0
+EventsOfPartsDiffer = (p : Program) (events others : List Event) (a b f g : TimedPart)
+    (before between after : List Part) (contents : List Content) (c : Config) → Privates p a events b
+    → Privates p f others g → Whole (before ++ a.part ∷ (between ++ f.part ∷ after)) contents c
+    → (number : ℕ) → HasNumber events number → HasNumber others number → ⊥
+
+-- a cell that an event of a part makes is at a location that is absent from the whole heap
+unfoldable pub NewCellsAreAbsent : Type 0
+NewCellsAreAbsent = (p : Program) (event : Event) (a b : TimedPart) (before after : List Part)
+    (contents : List Content) (c : Config) → (e : Private p event a b) → Whole (before ++ a.part ∷ after) contents c
+    → (location : ℕ) → Makes p event (next (runs e.frames)) (cell location) → c.common.heap location ≡ None
